@@ -1,0 +1,11 @@
+use Rattle.std.proofs.Common.{◌≤◌, vec_len}
+use Rattle.dpl_ext.specs.Device.{Gave}
+use Rattle.dpl_ext.proofs.reading.read_all.Given as goal
+
+abbrev pub invariant-loop-turn : goal.invariant-loop-turn
+invariant-loop-turn g l =
+    record {
+      turns : l._turn ≤ vec_len l.bytes;
+      within : vec_len l.bytes ≤ l.limit;
+      gave : Gave (g.S.Source.seen l.initial.source) (g.S.Source.seen l.source) l.bytes.items;
+    }

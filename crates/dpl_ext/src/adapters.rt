@@ -1,0 +1,76 @@
+// Readers of std as sources, and its writers as sinks.
+ghost use Rattle.std.specs.Prelude.{◌≡◌, []};
+
+use crate::devices::{Failed, Sink, Source};
+use std::io::{Read, Write};
+
+/// A reader of std as a source. Each error of the reader is a fault.
+#[derive(Drop)]
+pub struct ReadSource<R: Read> {
+    from: R,
+    faults: u64,
+    given: u64,
+}
+
+impl<R: Read> ReadSource<R> {
+    pub fn new(from: R) -> ReadSource<R>
+        ensures reader { result.from ≡ from }
+        ensures counts { (result.faults ≡ 0) × (result.given ≡ 0) }
+    {
+        ReadSource {
+            from,
+            faults: 0,
+            given: 0,
+        }
+    }
+}
+
+impl<R: Read> Source for ReadSource<R> {
+    ghost seen = { λ s. record { left = R.remaining s.from; faults = s.faults; given = s.given; asked = [] } };
+
+    fn read(&mut self, into: &mut [u8]) -> Result<usize, Failed> {
+        match self.from.read(into) {
+            Ok(count) => {
+                self.given = self.given.saturating_add(count as u64);
+                Ok(count)
+            }
+            Err(_) => {
+                self.faults = self.faults.saturating_add(1);
+                Err(Failed)
+            }
+        }
+    }
+}
+
+/// A writer of std as a sink. Each error of the writer is a fault, and so is a write that takes
+/// nothing of a piece that is not empty.
+#[derive(Drop)]
+pub struct WriteSink<W: Write> {
+    to: W,
+    faults: u64,
+}
+
+impl<W: Write> WriteSink<W> {
+    pub fn new(to: W) -> WriteSink<W>
+        ensures writer { result.to ≡ to }
+        ensures count { result.faults ≡ 0 }
+    {
+        WriteSink { to, faults: 0 }
+    }
+}
+
+impl<W: Write> Sink for WriteSink<W> {
+    ghost taken = { λ s. W.contents s.to };
+
+    ghost faults = { λ s. s.faults };
+
+    fn write(&mut self, piece: &[u8]) -> Result<usize, Failed> {
+        match self.to.write(piece) {
+            Ok(count) if count > 0 || piece.is_empty() => Ok(count),
+            _ => {
+                self.faults = self.faults.saturating_add(1);
+                Err(Failed)
+            }
+        }
+    }
+}

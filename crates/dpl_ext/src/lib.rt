@@ -1,0 +1,22 @@
+//! The outside world as the program sees it: sources that give bytes and sinks that take them.
+//!
+//! Every device counts its faults, so whoever calls it can tell a device that failed from one that
+//! did not. `read_all` gives all bytes that were left or says why not, and `write_all` has all bytes
+//! taken or says that the sink failed, over every device that keeps to its trait.
+#![tactic(auto)]
+
+mod adapters;
+mod devices;
+mod memory;
+mod reading;
+mod writing;
+
+pub use adapters::{ReadSource, WriteSink};
+pub use devices::{Failed, Sink, Source};
+pub use memory::{MemSink, MemSource};
+pub use reading::{ReadEnd, read_all};
+pub use std::alloc::AllocError as NoMemory;
+pub use writing::write_all;
+
+#[cfg(test)]
+mod tests;

@@ -1,0 +1,65 @@
+// Reading all that is left of a source.
+ghost use Rattle.std.specs.Prelude.{◌≡◌, ◌^◌, ◌<◌, ◌≤◌, ◌⊎◌, length, vec_len, IfOk, IfErr, IfSome, Err};
+ghost use Rattle.dpl_ext.specs.Device.{Rose};
+ghost use Rattle.dpl_ext.specs.Reading.{GivesPiece, StopsPiece, IsWhole, Refuses};
+
+use crate::devices::{Failed, Source};
+use std::alloc::Global;
+use thiserror::Error;
+
+/// Why not all that was left is there. The source has given up what was read.
+#[derive(Clone, Copy, Debug, PartialEq, Eq, Error)]
+pub enum ReadEnd {
+    #[error("the source failed")]
+    Fault,
+    #[error("more bytes were left than the limit")]
+    TooLong,
+    #[error("out of memory")]
+    NoMemory,
+}
+
+const PIECE: u64 = 4096;
+
+/// Reads all that is left, if that is at most `limit` bytes. Each turn takes at least one byte, and
+/// never more than one past the limit.
+pub fn read_all<S: Source>(alloc: Global, source: &mut S, limit: u64) -> Result<Vec<u8>, ReadEnd>
+    requires { limit < 2 ^ 32 }
+    ensures whole { IfOk result (λ v. IsWhole (S.seen source.old) (S.seen source.new) v.items limit) }
+    ensures refused { IfErr result (Refuses (S.seen source.old) (S.seen source.new) limit) }
+
+    // Where the source tells its bytes and no call failed, it is too long exactly where more were left.
+    ensures too_long { result ≡ Err ReadEnd.TooLong → IfSome (S.seen source.old).left (λ xs. limit < length xs) }
+    ensures long { IfSome (S.seen source.old).left (λ xs. limit < length xs
+        → ¬ Rose (S.seen source.old).faults (S.seen source.new).faults
+        → (result ≡ Err ReadEnd.TooLong) ⊎ (result ≡ Err ReadEnd.NoMemory)) }
+{
+    let mut bytes = Vec::new(alloc);
+    for _turn in 0..limit + 2 {
+        if read_piece(source, &mut bytes, limit)? {
+            return Ok(bytes);
+        }
+    }
+    unreachable!()
+}
+
+/// Reads a piece of what is left behind the bytes so far, and says whether that was the end.
+fn read_piece<S: Source>(source: &mut S, bytes: &mut Vec<u8>, limit: u64) -> Result<bool, ReadEnd>
+    requires room { vec_len bytes.old ≤ limit }
+    requires small { limit < 2 ^ 32 }
+    ensures ok { IfOk result (GivesPiece (S.seen source.old) (S.seen source.new) bytes.old.items bytes.new.items limit) }
+    ensures err { IfErr result (StopsPiece (S.seen source.old) (S.seen source.new) bytes.old.items limit) }
+{
+    let mut piece = [0u8; 4096];
+    let want = (limit + 1 - bytes.len() as u64).min(PIECE) as usize;
+    let count = match source.read(&mut piece[..want]) {
+        Ok(count) => count,
+        Err(Failed) => return Err(ReadEnd::Fault),
+    };
+    if bytes.len() as u64 + count as u64 > limit {
+        return Err(ReadEnd::TooLong);
+    }
+    match bytes.extend_from_slice(&piece[..count]) {
+        Ok(()) => Ok(count == 0),
+        Err(_) => Err(ReadEnd::NoMemory),
+    }
+}
