@@ -1,0 +1,5 @@
+pub mod Classes
+pub mod Number
+pub mod Name
+pub mod Cutting
+pub mod CuttingLaws

@@ -1,0 +1,18 @@
+//! The commands of a CIF text, and the integers and layer names in them.
+//!
+//! `commands` cuts a text exactly by the rules of `specs/Cutting.antt`; `Numbers` and `Name` read
+//! exactly what `specs/Number.antt` and `specs/Name.antt` define. Only `commands` takes memory.
+#![tactic(auto)]
+
+pub mod classes;
+mod cutting;
+mod name;
+mod number;
+#[cfg(test)]
+mod tests;
+pub mod types;
+
+pub use cutting::{commands, cutting_rules};
+pub use name::Name;
+pub use number::{Num, Numbers};
+pub use types::{Ending, Span};
