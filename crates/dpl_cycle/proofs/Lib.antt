@@ -1,0 +1,12 @@
+pub mod Steps
+pub mod Shorter
+pub mod Least
+pub mod Exchange
+pub mod Classes
+pub mod Added
+pub mod SumLemmas
+pub mod LabelLemmas
+pub mod AddedLabels
+pub mod AmongLemmas
+pub mod Names
+pub mod Constant

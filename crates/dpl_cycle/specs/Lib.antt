@@ -1,0 +1,3 @@
+pub mod Cycles
+pub mod Sums
+pub mod Among

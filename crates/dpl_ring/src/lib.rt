@@ -1,0 +1,8 @@
+//! Cyclic lists over the numbers below `n`, seen as the permutation that leads each number to the
+//! next one of its cycle. A splice exchanges where two numbers lead: it splits their cycle, or
+//! joins their two cycles.
+#![tactic(auto)]
+
+mod ring;
+
+pub use ring::Ring;

@@ -1,0 +1,21 @@
+//! Signed graphs, the ports at which their edges leave the nodes, and walks. What a colouring breaks
+//! and costs, and that a packing of odd walks bounds the cost of every colouring.
+#![tactic(auto)]
+
+mod costs;
+mod edges;
+mod graphs;
+mod laws;
+mod nets;
+mod order;
+mod ports;
+mod walks;
+
+pub use costs::{broken, cost};
+pub use edges::{Edge, Kind};
+pub use graphs::Signed;
+pub use laws::packing_bounds;
+pub use nets::Net;
+pub use order::port_order;
+pub use ports::Port;
+pub use walks::{Claim, Cycle, Walk};
