@@ -1,0 +1,4 @@
+pub mod GapLemmas
+pub mod SeamLemmas
+pub mod LayerLemmas
+pub mod Same

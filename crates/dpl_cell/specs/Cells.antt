@@ -1,0 +1,25 @@
+-- Cells: a cell is a unit square of the grid, named by its lower left corner. A set of cells is given by
+-- what it says of a cell.
+use Rattle.std.specs.Prelude.{ℤ, ◌≤ℤ◌, ◌<ℤ◌}
+use Rattle.dpl_cell.specs.Places.{Corners}
+
+-- x is in the stretch from a to b, b left out
+pub record IsWithin (a b x : ℤ) : Type 0 where
+  pub from : a ≤ℤ x
+  pub to : x <ℤ b
+
+-- the cell (x, y) lies in the rectangle
+pub record IsIn (r : Corners) (x y : ℤ) : Type 0 where
+  pub column : IsWithin r.x1 r.x2 x
+  pub row : IsWithin r.y1 r.y2 y
+
+-- some cell is in both sets
+pub record SharesCell (one other : ℤ → ℤ → Type 0) : Type 0 where
+  pub x : ℤ
+  pub y : ℤ
+  pub first : one x y
+  pub second : other x y
+
+-- no cell is in both rectangles
+abbrev pub AreApart : Corners → Corners → Type 0
+AreApart a b = ¬ SharesCell (IsIn a) (IsIn b)

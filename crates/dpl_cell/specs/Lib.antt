@@ -1,0 +1,10 @@
+pub mod Places
+pub mod Outlines
+pub mod Ranges
+pub mod Cells
+pub mod Gaps
+pub mod Edges
+pub mod Seams
+pub mod Layers
+pub mod Tiles
+pub mod Shapes

@@ -1,0 +1,26 @@
+//! Rectangles, polygons and layers of the grid, and how far apart they are.
+//!
+//! A layer is a set of cells, unit squares of the grid. `gap2`, `are_close`, `touch` and `seam` answer by the
+//! cells of two rectangles, and `is_held` says whether a layer holds a cell.
+#![tactic(auto)]
+
+mod gaps;
+mod held;
+mod layout;
+mod point;
+mod points;
+mod range;
+mod rect;
+mod seams;
+pub mod types;
+
+pub use gaps::{are_close, gap2};
+pub use held::is_held;
+pub use layout::{Layout, Primitive as Prim};
+pub use point::Point;
+pub use points::Points;
+pub use rect::Rect;
+pub use seams::{seam, touch};
+
+#[cfg(test)]
+mod tests;

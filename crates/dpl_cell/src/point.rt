@@ -1,0 +1,32 @@
+ghost use Rattle.std.specs.Prelude.{ℤ, pos, neg_ℤ, ◌≤ℤ◌, ◌^◌};
+
+use crate::range::is_in_range;
+
+/// A corner of a polygon, in grid units.
+#[derive(Clone, Copy, Debug)]
+pub struct Point {
+    pub x: i64,
+    pub y: i64,
+    pub ghost left: { neg_ℤ (pos (2 ^ 30)) ≤ℤ x },
+    pub ghost right: { x ≤ℤ pos (2 ^ 30) },
+    pub ghost below: { neg_ℤ (pos (2 ^ 30)) ≤ℤ y },
+    pub ghost above: { y ≤ℤ pos (2 ^ 30) },
+}
+
+impl Point {
+    ghost use Rattle.std.specs.Prelude.{◌≡◌, ◌↔◌, IsSome, IfSome};
+    ghost use Rattle.dpl_cell.specs.Places.{place_of};
+    ghost use Rattle.dpl_cell.specs.Ranges.{IsInRange};
+
+    /// The point with these coordinates, `None` where they are out of range.
+    pub fn new(x: i64, y: i64) -> Option<Point>
+        ensures some { IsSome result ↔ (IsInRange x × IsInRange y) }
+        ensures place { IfSome result (λ p. place_of p ≡ (x, y)) }
+    {
+        if is_in_range(x) && is_in_range(y) {
+            Some(Point { x, y })
+        } else {
+            None
+        }
+    }
+}
