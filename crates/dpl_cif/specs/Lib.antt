@@ -1,0 +1,5 @@
+pub mod Range
+pub mod Form
+pub mod Command
+pub mod Boxes
+pub mod Reading
