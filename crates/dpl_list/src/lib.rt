@@ -36,6 +36,7 @@ impl<T> Items<T> {
     pub fn into_vec(self) -> Vec<T>
         ensures { result.items ≡ self }
     {
-        self.values
+        let Items { values } = self;
+        values
     }
 }
