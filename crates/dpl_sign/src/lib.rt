@@ -4,10 +4,12 @@
 
 mod costs;
 mod edges;
+mod graph_tests;
 mod graphs;
 mod laws;
 mod nets;
 mod order;
+pub mod plain;
 mod ports;
 mod walks;
 
@@ -19,3 +21,6 @@ pub use nets::Net;
 pub use order::port_order;
 pub use ports::Port;
 pub use walks::{Claim, Cycle, Walk};
+
+#[cfg(test)]
+mod tests;
