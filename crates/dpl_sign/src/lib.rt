@@ -16,7 +16,7 @@ mod walks;
 pub use costs::{broken, cost};
 pub use edges::{Edge, Kind};
 pub use graphs::Signed;
-pub use laws::packing_bounds;
+pub use laws::{packing_bounds, ports_are_in_order};
 pub use nets::Net;
 pub use order::port_order;
 pub use ports::Port;
