@@ -6,22 +6,22 @@ use Rattle.dpl_cycle.specs.Among.{cycles_among, members, others_count}
 use Rattle.dpl_cycle.proofs.Steps.{without_miss, cycles_alone, cycles_more}
 use Rattle.dpl_cycle.proofs.Shorter.{shorter, without_same}
 
-among_alone : (f : ℕ → ℕ) (d : ℕ) (ds : List ℕ) → f d ≡ d → cycles_among f (d ∷ ds) ≡ suc (cycles_among (without d f) ds)
+pub among_alone : (f : ℕ → ℕ) (d : ℕ) (ds : List ℕ) → f d ≡ d → cycles_among f (d ∷ ds) ≡ suc (cycles_among (without d f) ds)
 among_alone f d ds h = rw (eq-eqb (f d) d h, cycles_among)
 
-among_more : (f : ℕ → ℕ) (d : ℕ) (ds : List ℕ) → f d ≢ d → cycles_among f (d ∷ ds) ≡ cycles_among (without d f) ds
+pub among_more : (f : ℕ → ℕ) (d : ℕ) (ds : List ℕ) → f d ≢ d → cycles_among f (d ∷ ds) ≡ cycles_among (without d f) ds
 among_more f d ds h = rw (ne_eqb (f d) d h, cycles_among)
 
-members_in : (p : ℕ → Bool) (n : ℕ) → p n ≡ true → members p (suc n) ≡ n ∷ members p n
+pub members_in : (p : ℕ → Bool) (n : ℕ) → p n ≡ true → members p (suc n) ≡ n ∷ members p n
 members_in p n h = rw (h, members)
 
-members_out : (p : ℕ → Bool) (n : ℕ) → p n ≡ false → members p (suc n) ≡ members p n
+pub members_out : (p : ℕ → Bool) (n : ℕ) → p n ≡ false → members p (suc n) ≡ members p n
 members_out p n h = rw (h, members)
 
-others_in : (p : ℕ → Bool) (n : ℕ) → p n ≡ true → others_count p (suc n) ≡ others_count p n
+pub others_in : (p : ℕ → Bool) (n : ℕ) → p n ≡ true → others_count p (suc n) ≡ others_count p n
 others_in p n h = rw (h, others_count)
 
-others_out : (p : ℕ → Bool) (n : ℕ) → p n ≡ false → others_count p (suc n) ≡ suc (others_count p n)
+pub others_out : (p : ℕ → Bool) (n : ℕ) → p n ≡ false → others_count p (suc n) ≡ suc (others_count p n)
 others_out p n h = rw (h, others_count)
 
 pub among_same : (n : ℕ) (p : ℕ → Bool) (f f' : ℕ → ℕ) → ((x : ℕ) → x < n → f x ≡ f' x) → cycles_among f (members p n) ≡ cycles_among f' (members p n)
@@ -56,4 +56,13 @@ cycles_members (suc n) p f g q fixed =
           let same : cycles_among f (members p n) ≡ cycles_among (without n f) (members p n) = among_same n p f (without n f) (λ x h.
           sym (without_miss n f x (λ k. omega (arith, sym (q.back x (omega arith)) ∙ ap g (k ∙ sym alone) ∙ q.back n (omega arith))))) in
           omega (arith, more, same, cycles_alone f n alone, ap (cycles_among f) (members_out p n t), others_out p n t)
+    ]
+
+pub members_same : (n : ℕ) (p q : ℕ → Bool) → ((d : ℕ) → d < n → p d ≡ q d) → members p n ≡ members q n
+members_same zero p q e = refl
+members_same (suc n) p q e =
+    let rest : members p n ≡ members q n = members_same n p q (λ d h. e d (omega arith)) in
+    elim (cases_Bool (p n)) [
+      | inl t ↦ members_in p n t ∙ ap (λ ds. n ∷ ds) rest ∙ sym (members_in q n (sym (e n (omega arith)) ∙ t))
+      | inr t ↦ members_out p n t ∙ rest ∙ sym (members_out q n (sym (e n (omega arith)) ∙ t))
     ]

@@ -6,6 +6,7 @@ use Rattle.dpl_cycle.specs.Sums.{sum_on, IsEvenAround, HasLabels}
 use Rattle.dpl_cycle.proofs.Steps.{without_hit, without_miss, least_alone, least_top, least_under}
 use Rattle.dpl_cycle.proofs.Shorter.{shorter}
 use Rattle.dpl_cycle.proofs.Least.{least_step, least_le}
+use Rattle.dpl_cycle.proofs.SumLemmas.{sum_same}
 
 -- w with v more at m
 bump : ℕ → ℕ → (ℕ → ℕ) → ℕ → ℕ
@@ -18,12 +19,6 @@ bump_same m v w d h = rw (eq-eqb d m h, bump)
 bump_other : (m v : ℕ) (w : ℕ → ℕ) (d : ℕ) → d ≢ m → bump m v w d ≡ w d
 unfolding bump
 bump_other m v w d h = rw (ne_eqb d m h, bump)
-
-sum_same : (n : ℕ) (p p' : ℕ → Bool) (w w' : ℕ → ℕ) → ((d : ℕ) → d < n → p d ≡ p' d) → ((d : ℕ) → d < n → w d ≡ w' d) → sum_on p w n ≡ sum_on p' w' n
-sum_same zero p p' w w' e k = refl
-sum_same (suc n) p p' w w' e k =
-    let more : sum_on p w n ≡ sum_on p' w' n = sum_same n p p' w w' (λ d h. e d (omega arith)) (λ d h. k d (omega arith)) in
-    rw (e n (omega arith), k n (omega arith), more) refl
 
 sum_bump : (n : ℕ) (p : ℕ → Bool) (m v : ℕ) (w : ℕ → ℕ) → m < n → sum_on p (bump m v w) n ≡ sum_on p w n + cond (p m) v 0
 sum_bump zero p m v w h = absurd (omega arith)

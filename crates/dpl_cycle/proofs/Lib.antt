@@ -8,5 +8,5 @@ pub mod SumLemmas
 pub mod LabelLemmas
 pub mod AddedLabels
 pub mod AmongLemmas
-pub mod Names
+pub mod NameLemmas
 pub mod Constant

@@ -1,10 +1,17 @@
 -- Sums over numbers that a permutation moves.
-use Rattle.std.proofs.Common.{arith, ◌≡◌, ◌≢◌, ℕ, zero, suc, ◌+◌, ◌*◌, ◌%◌, ◌<◌, refl, sym, ap, ◌∙◌, Bool, cond, inl, inr}
-use Rattle.std.proofs.lemmas.Bool.{cases_eq}
+use Rattle.std.proofs.Common.{◌≤◌, arith, ◌≡◌, ◌≢◌, ℕ, zero, suc, ◌+◌, ◌*◌, ◌%◌, ◌<◌, refl, sym, ap, ◌∙◌, Bool, cond, inl, inr}
+use Rattle.std.proofs.lemmas.Bool.{cases_Bool, cond-true, cond-false, cases_eq}
 use Rattle.dpl_cycle.specs.Cycles.{without, Permutes}
-use Rattle.dpl_cycle.specs.Sums.{sum_on}
+use Rattle.dpl_cycle.specs.Sums.{sum_on, count_on}
 use Rattle.dpl_cycle.proofs.Steps.{without_hit, without_miss}
 use Rattle.dpl_cycle.proofs.Shorter.{shorter}
+
+-- tests and weights that agree
+pub sum_same : (n : ℕ) (p p' : ℕ → Bool) (w w' : ℕ → ℕ) → ((d : ℕ) → d < n → p d ≡ p' d) → ((d : ℕ) → d < n → w d ≡ w' d) → sum_on p w n ≡ sum_on p' w' n
+sum_same zero p p' w w' e k = refl
+sum_same (suc n) p p' w w' e k =
+    let more : sum_on p w n ≡ sum_on p' w' n = sum_same n p p' w w' (λ d h. e d (omega arith)) (λ d h. k d (omega arith)) in
+    rw (e n (omega arith), k n (omega arith), more) refl
 
 sum_alike : (n : ℕ) (p : ℕ → Bool) (a b : ℕ → ℕ) → ((d : ℕ) → d < n → a d ≡ b d) → sum_on p a n ≡ sum_on p b n
 sum_alike zero p a b e = refl
@@ -57,3 +64,13 @@ sum_pairs (suc e) p w a b =
     let size : 2 * suc e ≡ suc (suc n) = omega arith in
     let rest : sum_on p w n % 2 ≡ 0 = sum_pairs e p w (λ k h. a k (omega arith)) (λ k h. b k (omega arith)) in
     omega (arith, ap (sum_on p w) size, rest, ap (λ t. cond t (w (suc n)) 0) (a e (omega arith)), ap (λ z. cond (p n) z 0) (b e (omega arith)))
+
+pub count_on_same : (n : ℕ) (p q : ℕ → Bool) → ((d : ℕ) → d < n → p d ≡ q d) → count_on p n ≡ count_on q n
+count_on_same n p q e = sum_same n p q (λ x. 1) (λ x. 1) e (λ d h. refl)
+
+pub count_on_le : (p : ℕ → Bool) (n : ℕ) → count_on p n ≤ n
+count_on_le p zero = omega arith
+count_on_le p (suc n) = elim (cases_Bool (p n)) [
+  | inl t ↦ omega (arith, cond-true {A = ℕ} (p n) 1 0 t, count_on_le p n)
+  | inr t ↦ omega (arith, cond-false {A = ℕ} (p n) 1 0 t, count_on_le p n)
+]

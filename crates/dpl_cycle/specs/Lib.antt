@@ -1,3 +1,4 @@
 pub mod Cycles
 pub mod Sums
 pub mod Among
+pub mod Names

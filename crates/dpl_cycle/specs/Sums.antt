@@ -14,3 +14,7 @@ IsEvenAround f w n = (x : ℕ) → x < n → sum_on (λ d. least f n d == least 
 -- there are numbers of which those at x and at f x differ by the weight of x, up to parity
 abbrev pub HasLabels : (ℕ → ℕ) → (ℕ → ℕ) → ℕ → Type 0
 HasLabels f w n = (h : ℕ → ℕ) × ((d : ℕ) → d < n → h (f d) % 2 ≡ (h d + w d) % 2)
+
+-- how many numbers below n pass the test
+abbrev pub count_on : (ℕ → Bool) → ℕ → ℕ
+count_on p n = sum_on p (λ x. 1) n

@@ -5,3 +5,8 @@ pub mod PortOrder
 pub mod Colourings
 pub mod Walks
 pub mod Packings
+pub mod Drawings
+pub mod Components
+pub mod Excess
+pub mod Parity
+pub mod Pieces

@@ -4,18 +4,23 @@
 
 mod costs;
 mod edges;
+mod graph_tests;
 mod graphs;
 mod laws;
 mod nets;
 mod order;
+pub mod plain;
 mod ports;
 mod walks;
 
 pub use costs::{broken, cost};
 pub use edges::{Edge, Kind};
 pub use graphs::Signed;
-pub use laws::packing_bounds;
+pub use laws::{packing_bounds, ports_are_in_order};
 pub use nets::Net;
 pub use order::port_order;
 pub use ports::Port;
 pub use walks::{Claim, Cycle, Walk};
+
+#[cfg(test)]
+mod tests;

@@ -16,3 +16,38 @@ pub struct Net {
     pub ghost piece_per_node: { length pieces ≡ graph.nodes },
     pub ghost piece_numbers: { All (λ p. p < piece_count) pieces },
 }
+
+impl Net {
+    ghost use Rattle.std.specs.Prelude.{◌↔◌, IsSome, IfSome};
+    ghost use Rattle.dpl_sign.specs.Pieces.{FitGraph};
+
+    /// The drawing of a graph at these ports, if there is one pair for each edge, and one of the
+    /// pieces for each node.
+    pub fn new(
+        graph: Signed,
+        ports: Vec<(Port, Port)>,
+        pieces: Vec<u32>,
+        piece_count: u32,
+    ) -> Option<Net>
+        ensures net { IsSome result ↔ FitGraph graph.nodes (length graph.edges) (length ports.items) pieces.items piece_count }
+        ensures graph { IfSome result (λ n. n.graph ≡ graph) }
+        ensures ports { IfSome result (λ n. n.ports ≡ ports.items) }
+        ensures pieces { IfSome result (λ n. (n.pieces ≡ pieces.items) × (n.piece_count ≡ piece_count)) }
+    {
+        let per_edge = ports.len() == graph.edges.as_slice().len();
+        let per_node = pieces.len() == graph.nodes as usize;
+        let numbers = pieces.iter().all(|piece| *piece < piece_count);
+        if per_edge && per_node && numbers {
+            let ports = Items::new(ports);
+            let pieces = Items::new(pieces);
+            Some(Net {
+                graph,
+                ports,
+                pieces,
+                piece_count,
+            })
+        } else {
+            None
+        }
+    }
+}

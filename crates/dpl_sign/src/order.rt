@@ -1,20 +1,30 @@
 ghost use Rattle.std.specs.Prelude.{◌≡◌};
-ghost use Rattle.dpl_sign.specs.PortOrder.{slope_cmp, port_cmp};
+ghost use Rattle.dpl_sign.specs.PortOrder.{rise as rise_of, run as run_of, slope_cmp, port_cmp};
 
 use crate::ports::Port;
 use std::cmp::Ordering;
+
+/// The side of a direction that grows as one turns counterclockwise.
+fn rise(port: &Port) -> u64
+    ensures { result ≡ rise_of port.now }
+{
+    if port.side % 4 == 0 { port.dy } else { port.dx }
+}
+
+/// The side of a direction that shrinks as one turns counterclockwise.
+fn run(port: &Port) -> u64
+    ensures { result ≡ run_of port.now }
+{
+    if port.side % 4 == 0 { port.dx } else { port.dy }
+}
 
 /// The order of the directions of two corners of one side.
 fn slope_order(a: &Port, b: &Port) -> Ordering
     ensures { result ≡ slope_cmp a.now b.now }
 {
-    let up = u128::from(a.dy) * u128::from(b.dx);
-    let down = u128::from(b.dy) * u128::from(a.dx);
-    if a.side % 4 == 0 {
-        up.cmp(&down)
-    } else {
-        down.cmp(&up)
-    }
+    let first = u128::from(rise(a)) * u128::from(run(b));
+    let second = u128::from(rise(b)) * u128::from(run(a));
+    first.cmp(&second)
 }
 
 /// The order of the ports of one node, counterclockwise from its south-west corner. `ea` and `eb`

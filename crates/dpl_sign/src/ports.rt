@@ -17,3 +17,31 @@ pub struct Port {
     pub ghost direction: { is_corner side ≡ true → 0 < dx + dy },
     pub ghost no_direction: { is_corner side ≡ false → dx + dy ≡ 0 },
 }
+
+impl Port {
+    /// A place on the south, east, north or west side.
+    pub fn on_side(side: u8, key: i64) -> Port
+        requires eight { side ≤ 7 }
+        requires side { is_corner side ≡ false }
+        ensures side { result.side ≡ side }
+        ensures key { result.key ≡ key }
+        ensures no_direction { result.dx + result.dy ≡ 0 }
+    {
+        let (dx, dy) = (0, 0);
+        Port { side, key, dx, dy }
+    }
+
+    /// A direction at a corner.
+    pub fn at_corner(side: u8, dx: u64, dy: u64) -> Port
+        requires eight { side ≤ 7 }
+        requires corner { is_corner side ≡ true }
+        requires direction { 0 < dx + dy }
+        ensures side { result.side ≡ side }
+        ensures no_key { result.key ≡ pos 0 }
+        ensures dx { result.dx ≡ dx }
+        ensures dy { result.dy ≡ dy }
+    {
+        let key = 0;
+        Port { side, key, dx, dy }
+    }
+}

@@ -1,27 +1,12 @@
 -- Classes of numbers by a name for each, and the class that two of them become.
-use Rattle.std.proofs.Common.{arith, ◌≡◌, ◌≢◌, ℕ, zero, suc, ◌+◌, ◌<◌, ◌==◌, refl, sym, ap, ◌∙◌, true, false, inl, inr, eq-eqb}
+use Rattle.std.proofs.Common.{◌≤◌, arith, ◌≡◌, ◌≢◌, ℕ, zero, suc, ◌+◌, ◌<◌, refl, sym, ap, ◌∙◌, inl, inr, eq-eqb}
 use Rattle.std.proofs.lemmas.Bool.{ne_eqb, cases_eq}
-
--- each number's class, named by one of its numbers
-pub record AreNames (n : ℕ) (names : ℕ → ℕ) : Type 0 where
-  pub inside : (v : ℕ) → v < n → names v < n
-  pub twice : (v : ℕ) → v < n → names (names v) ≡ names v
-
--- the numbers that name themselves
-abbrev pub name_count : (ℕ → ℕ) → ℕ → ℕ
-name_count names zero = 0
-name_count names (suc n) = elim (names n == n) [ true ↦ suc (name_count names n) | false ↦ name_count names n ]
-
--- the class of b gets the name of that of a
-pub join : (ℕ → ℕ) → ℕ → ℕ → ℕ → ℕ
-join names a b v = elim (names v == names b) [ true ↦ names a | false ↦ names v ]
+use Rattle.dpl_cycle.specs.Names.{AreNames, name_count, join}
 
 pub join_hit : (names : ℕ → ℕ) (a b v : ℕ) → names v ≡ names b → join names a b v ≡ names a
-unfolding join
 join_hit names a b v h = rw (eq-eqb (names v) (names b) h, join)
 
 pub join_miss : (names : ℕ → ℕ) (a b v : ℕ) → names v ≢ names b → join names a b v ≡ names v
-unfolding join
 join_miss names a b v h = rw (ne_eqb (names v) (names b) h, join)
 
 count_in : (names : ℕ → ℕ) (n : ℕ) → names n ≡ n → name_count names (suc n) ≡ suc (name_count names n)
@@ -79,3 +64,20 @@ join_names n names p a b ha hb = record {
         ap (join names a b) here ∙ join_miss names a b (names v) (λ r. q (sym (p.twice v h) ∙ r)) ∙ p.twice v h ∙ sym here
   ];
 }
+
+pub name_count_same : (n : ℕ) (s t : ℕ → ℕ) → ((v : ℕ) → v < n → s v ≡ t v) → name_count s n ≡ name_count t n
+name_count_same n s t e = count_same n s t (λ v h q. sym (e v h) ∙ q) (λ v h q. e v h ∙ q)
+
+pub name_count_le : (names : ℕ → ℕ) (n : ℕ) → name_count names n ≤ n
+name_count_le names zero = omega arith
+name_count_le names (suc n) = elim (cases_eq (names n) n) [
+  | inl q ↦ omega (arith, count_in names n q, name_count_le names n)
+  | inr q ↦ omega (arith, count_out names n q, name_count_le names n)
+]
+
+-- joining looks at three numbers only
+pub join_same : (s t : ℕ → ℕ) (a b v : ℕ) → s a ≡ t a → s b ≡ t b → s v ≡ t v → join s a b v ≡ join t a b v
+join_same s t a b v ea eb ev = elim (cases_eq (s v) (s b)) [
+  | inl q ↦ join_hit s a b v q ∙ ea ∙ sym (join_hit t a b v (sym ev ∙ q ∙ eb))
+  | inr q ↦ join_miss s a b v q ∙ ev ∙ sym (join_miss t a b v (λ r. q (ev ∙ r ∙ sym eb)))
+]

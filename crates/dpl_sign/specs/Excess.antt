@@ -1,0 +1,33 @@
+-- How far a drawing is from plane, by Euler's formula, and which edges are set aside for it. With V nodes, E edges,
+-- F faces and C components a plane drawing has V - E + F = 2C.
+use Rattle.std.specs.Prelude.{ℕ, ◌+◌, ◌-◌, ◌*◌, zero, suc, nat_lt, Bool, true, not, List, [], ◌∷◌, ◌++◌, length}
+use Rattle.dpl_sign.specs.declared.nets.Net.{Net}
+use Rattle.dpl_sign.specs.Drawings.{is_in, face_count}
+use Rattle.dpl_sign.specs.Components.{component_count}
+use Rattle.dpl_cycle.specs.Sums.{count_on}
+
+abbrev pub edge_count : Net → (ℕ → Bool) → ℕ
+edge_count net set = count_on set (length net.graph.edges)
+
+-- 2C - (V - E + F), which is never negative
+abbrev pub excess : Net → (ℕ → Bool) → ℕ
+excess net set = (2 * component_count net.graph set + edge_count net set) - (net.graph.nodes + face_count net set)
+
+-- the whole drawing
+abbrev pub all_edges : ℕ → Bool
+all_edges e = true
+
+-- with the edge whose place comes next the excess is higher
+abbrev pub raises_excess : Net → List Bool → Bool
+raises_excess net kept = nat_lt (excess net (is_in kept)) (excess net (is_in (kept ++ true ∷ [])))
+
+-- Which of the first edges are kept. Each next edge is set aside where it raises the excess of those kept so far.
+abbrev pub kept_before : Net → ℕ → List Bool
+kept_before net zero = []
+kept_before net (suc e) = kept_before net e ++ not (raises_excess net (kept_before net e)) ∷ []
+
+abbrev pub kept_edges : Net → List Bool
+kept_edges net = kept_before net (length net.graph.edges)
+
+abbrev pub is_aside : Net → ℕ → Bool
+is_aside net e = not (is_in (kept_edges net) e)

@@ -1,0 +1,42 @@
+ghost use Rattle.std.specs.Prelude.{◌≡◌, ℕ, ◌/◌, ◌<◌, ◌≤◌, ◌==◌, ◌^◌, length, slice_index, EachIndex};
+ghost use Rattle.dpl_cycle.specs.Cycles.{without};
+ghost use Rattle.dpl_cycle.specs.Among.{cycles_among, members};
+ghost use Rattle.dpl_sign.specs.Drawings.{is_in as in_set};
+
+use crate::plain::darts::is_in;
+use crate::plain::replace::replace;
+
+/// Takes a number out of its cycle: what led to it leads where it led.
+fn take_out(nexts: &mut [u32], number: u32)
+    requires { number < length nexts.old }
+    ensures { EachIndex nexts.new (λ x. slice_index nexts.new x ≡ without number (slice_index nexts.old) x) }
+{
+    let after = nexts[number as usize];
+    replace(nexts, number, after);
+}
+
+/// Takes a number out of its cycle, and says whether it was the last one there.
+fn take_last(nexts: &mut [u32], number: u32) -> bool
+    requires { number < length nexts.old }
+    ensures alone { result ≡ (slice_index nexts.old number == number) }
+    ensures without { EachIndex nexts.new (λ x. slice_index nexts.new x ≡ without number (slice_index nexts.old) x) }
+{
+    let alone = nexts[number as usize] == number;
+    take_out(nexts, number);
+    alone
+}
+
+/// How many cycles go through the darts of a set of edges. The numbers are taken out of their cycles.
+pub fn count_cycles(nexts: &mut [u32], set: &[bool]) -> u32
+    requires { length nexts.old < 2 ^ 31 }
+    ensures value { result ≡ cycles_among (slice_index nexts.old) (members (λ d. in_set set.now (d / 2)) (length nexts.old)) }
+    ensures range { result ≤ length nexts.old }
+{
+    let mut count = 0;
+    for dart in (0..nexts.len() as u32).rev() {
+        if is_in(set, dart / 2) && take_last(nexts, dart) {
+            count += 1;
+        }
+    }
+    count
+}

@@ -1,0 +1,215 @@
+use crate::edges::Edge;
+use crate::graphs::Signed;
+use crate::nets::Net;
+use crate::order::port_order;
+use crate::plain::{component_count, excess, face_count, kept_edges, total_excess};
+use crate::ports::Port;
+use crate::{broken, cost};
+use std::alloc::{AllocError, Global};
+use std::cmp::Ordering;
+use std::test::Fail;
+
+/// A drawing of these edges, each node a piece of its own.
+fn drawing(alloc: Global, nodes: u32, links: &[(Edge, Port, Port)]) -> Result<Net, Fail> {
+    let mut edges = Vec::new(alloc);
+    let mut ports = Vec::new(alloc);
+    for (edge, at_a, at_b) in links {
+        edges.push(*edge)?;
+        ports.push((*at_a, *at_b))?;
+    }
+    let mut pieces = Vec::new(alloc);
+    for node in 0..nodes {
+        pieces.push(node)?;
+    }
+    let graph = Signed::new(nodes, edges).ok_or("no graph")?;
+    Ok(Net::new(graph, ports, pieces, nodes).ok_or("no net")?)
+}
+
+/// The faces, the components and the excess of the whole drawing.
+#[derive(Drop)]
+struct Measures {
+    faces: u32,
+    components: u32,
+    excess: u64,
+}
+
+fn measured(alloc: Global, net: &Net) -> Result<Measures, AllocError> {
+    let mut all = Vec::new(alloc);
+    for _edge in 0..net.graph.edges.as_slice().len() {
+        all.push(true)?;
+    }
+    let faces = face_count(alloc, net, &all)?;
+    let components = component_count(alloc, &net.graph, &all)?;
+    let excess = total_excess(alloc, net)?;
+    Ok(Measures {
+        faces,
+        components,
+        excess,
+    })
+}
+
+fn odd_triangle(alloc: Global) -> Result<Net, Fail> {
+    let links = [
+        (
+            Edge::clash(0, 1, 10),
+            Port::on_side(3, 200),
+            Port::on_side(7, -200),
+        ),
+        (
+            Edge::clash(0, 2, 10),
+            Port::on_side(5, -350),
+            Port::on_side(1, 350),
+        ),
+        (
+            Edge::clash(1, 2, 10),
+            Port::on_side(5, -650),
+            Port::on_side(1, 650),
+        ),
+    ];
+    drawing(alloc, 3, &links)
+}
+
+#[test]
+fn odd_triangle_has_two_faces(rt: HostRuntime) -> Result<(), Fail> {
+    let net = odd_triangle(rt.alloc())?;
+    let drawn = measured(rt.alloc(), &net)?;
+    assert_eq!(rt; (drawn.faces, drawn.components, drawn.excess), (2, 1, 0));
+    let kept = kept_edges(rt.alloc(), &net)?;
+    assert_eq!(rt; kept.as_slice(), [true, true, true].as_slice());
+    Ok(())
+}
+
+#[test]
+fn odd_triangle_costs_ten(rt: HostRuntime) -> Result<(), Fail> {
+    let net = odd_triangle(rt.alloc())?;
+    assert_eq!(rt; net.graph.nodes, 3);
+    assert_eq!(rt; cost(&net.graph, &[false, false, false]), 30);
+    assert_eq!(rt; cost(&net.graph, &[false, true, true]), 10);
+    Ok(())
+}
+
+#[test]
+fn kinds_break(rt: HostRuntime) {
+    let (bond, stitch) = (Edge::bond(0, 1), Edge::stitch(0, 1, 1));
+    assert!(rt; !broken(&bond, true, false) && !broken(&bond, true, true));
+    assert!(rt; broken(&stitch, true, false) && !broken(&stitch, true, true));
+}
+
+#[test]
+fn square_with_both_diagonals(rt: HostRuntime) -> Result<(), Fail> {
+    let links = [
+        (
+            Edge::clash(0, 1, 10),
+            Port::on_side(3, 200),
+            Port::on_side(7, -200),
+        ),
+        (
+            Edge::clash(0, 2, 10),
+            Port::on_side(5, -200),
+            Port::on_side(1, 200),
+        ),
+        (
+            Edge::clash(0, 3, 10),
+            Port::at_corner(4, 100, 100),
+            Port::at_corner(0, 100, 100),
+        ),
+        (
+            Edge::clash(1, 2, 10),
+            Port::at_corner(6, 100, 100),
+            Port::at_corner(2, 100, 100),
+        ),
+        (
+            Edge::clash(1, 3, 10),
+            Port::on_side(5, -800),
+            Port::on_side(1, 800),
+        ),
+        (
+            Edge::clash(2, 3, 10),
+            Port::on_side(3, 800),
+            Port::on_side(7, -800),
+        ),
+    ];
+    let net = drawing(rt.alloc(), 4, &links)?;
+    let drawn = measured(rt.alloc(), &net)?;
+    assert_eq!(rt; (drawn.faces, drawn.components, drawn.excess), (2, 1, 2));
+    let kept = kept_edges(rt.alloc(), &net)?;
+    assert_eq!(rt;
+        kept.as_slice(),
+        [true, true, true, true, false, false].as_slice()
+    );
+    Ok(())
+}
+
+#[test]
+fn three_parallel_edges(rt: HostRuntime) -> Result<(), Fail> {
+    let edge = Edge::clash(0, 1, 10);
+    let links = [
+        (edge, Port::on_side(3, 0), Port::on_side(7, 0)),
+        (edge, Port::on_side(3, 2), Port::on_side(7, 2)),
+        (edge, Port::on_side(3, 4), Port::on_side(7, 4)),
+    ];
+    let net = drawing(rt.alloc(), 2, &links)?;
+    let drawn = measured(rt.alloc(), &net)?;
+    assert_eq!(rt; (drawn.faces, drawn.components, drawn.excess), (1, 1, 2));
+    let kept = kept_edges(rt.alloc(), &net)?;
+    assert_eq!(rt; kept.as_slice(), [true, true, false].as_slice());
+    Ok(())
+}
+
+/// A ring of four nodes, and the path that is left without its last edge.
+#[test]
+fn ring_and_tree(rt: HostRuntime) -> Result<(), Fail> {
+    let (east, west) = (Port::on_side(3, 0), Port::on_side(7, 0));
+    let links = [
+        (Edge::bond(0, 1), east, west),
+        (Edge::stitch(1, 2, 1), east, west),
+        (Edge::clash(2, 3, 10), east, west),
+        (Edge::clash(0, 3, 10), west, east),
+    ];
+    let ring = drawing(rt.alloc(), 4, &links)?;
+    let round = measured(rt.alloc(), &ring)?;
+    assert_eq!(rt; (round.faces, round.components, round.excess), (2, 1, 0));
+    let tree = [true, true, true, false];
+    assert_eq!(rt; face_count(rt.alloc(), &ring, &tree)?, 1);
+    assert_eq!(rt; excess(rt.alloc(), &ring, &tree)?, 0);
+    Ok(())
+}
+
+/// A single node, and a node apart from two pairs.
+#[test]
+fn single_node_and_two_components(rt: HostRuntime) -> Result<(), Fail> {
+    let single = measured(rt.alloc(), &drawing(rt.alloc(), 1, &[])?)?;
+    assert_eq!(rt; (single.faces, single.components, single.excess), (1, 1, 0));
+    let (east, west) = (Port::on_side(3, 0), Port::on_side(7, 0));
+    let links = [
+        (Edge::bond(0, 1), east, west),
+        (Edge::clash(2, 3, 10), east, west),
+    ];
+    let pairs = measured(rt.alloc(), &drawing(rt.alloc(), 5, &links)?)?;
+    assert_eq!(rt; (pairs.faces, pairs.components, pairs.excess), (3, 3, 0));
+    Ok(())
+}
+
+#[test]
+fn ports_turn_counterclockwise(rt: HostRuntime) {
+    let (south, north) = (Port::on_side(1, 8), Port::on_side(5, -8));
+    assert_eq!(rt; port_order(&south, 9, &north, 0), Ordering::Less);
+    assert_eq!(rt;
+        port_order(&Port::on_side(5, -9), 9, &north, 0),
+        Ordering::Less
+    );
+    let (flat, steep) = (Port::at_corner(4, 2, 1), Port::at_corner(4, 1, 2));
+    assert_eq!(rt; port_order(&flat, 9, &steep, 0), Ordering::Less);
+    let (flat, steep) = (Port::at_corner(6, 2, 1), Port::at_corner(6, 1, 2));
+    assert_eq!(rt; port_order(&flat, 0, &steep, 9), Ordering::Greater);
+    assert_eq!(rt; port_order(&north, 3, &north, 4), Ordering::Less);
+}
+
+#[test]
+fn bonds_stand_first(rt: HostRuntime) -> Result<(), Fail> {
+    let mut edges = Vec::new(rt.alloc());
+    edges.push(Edge::clash(0, 1, 1))?;
+    edges.push(Edge::bond(0, 1))?;
+    assert!(rt; Signed::new(2, edges).is_none());
+    Ok(())
+}
