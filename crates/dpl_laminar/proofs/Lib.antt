@@ -1,0 +1,11 @@
+mod Duality
+mod Expanding
+mod Gathered
+mod Keeping
+mod Lifting
+mod Numbers
+mod Released
+mod Shrinking
+mod Singles
+mod Sums
+mod Walks

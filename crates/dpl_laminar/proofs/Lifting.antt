@@ -1,0 +1,58 @@
+-- Children that become the tops of their members, one after another.
+use Rattle.std.proofs.Common.{arith, ◌≡◌, ◌≢◌, ℕ, ◌+◌, ◌<◌, refl, sym, ap, ◌∙◌, Bool, true, false, cond, inl, inr, eqb, List, [], take, length, get_or, set, get_or-set_same, get_or-set_other, Option, None}
+use Rattle.std.proofs.lemmas.Bool.{cases_eq, cases_Bool, cond-true, cond-false}
+use Rattle.std.proofs.lemmas.List.Folds.{list_any_kept}
+use Rattle.dpl_laminar.specs.Families.{has}
+use Rattle.dpl_laminar.proofs.Numbers.{has_at, has_taken, taken_has, taken_of, not_taken, true_false}
+
+pub record AreLifted (size : ℕ) (table : ℕ → ℕ → Bool) (some : List ℕ) (old tops : List ℕ) : Type 0 where
+  pub inside : (c m : ℕ) → m < size → has some c ≡ true → table c m ≡ true → get_or tops m 0 ≡ c
+  pub outside : (m : ℕ) → m < size → ((c : ℕ) → has some c ≡ true → table c m ≡ false) → get_or tops m 0 ≡ get_or old m 0
+
+pub lifted_more : (size : ℕ) (table : ℕ → ℕ → Bool) (xs : List ℕ) (i : ℕ) (old tops new : List ℕ) → i < length xs →
+    ((c d m : ℕ) → m < size → has xs c ≡ true → has xs d ≡ true → table c m ≡ true → table d m ≡ true → c ≡ d) →
+    AreLifted size table (take i xs) old tops → ((m : ℕ) → m < size → get_or new m 0 ≡ cond (table (get_or xs i 0) m) (get_or xs i 0) (get_or tops m 0)) → AreLifted size table (take (i + 1) xs) old new
+lifted_more size table xs i old tops new h apart r e =
+    let x : ℕ = get_or xs i 0 in
+    record {
+      inside = λ c m hm k t. elim (has_taken xs i c h k) [
+        | inl before ↦ elim (cases_Bool (table x m)) [
+          | inl tx ↦ e m hm ∙ cond-true (table x m) _ _ tx ∙ apart x c m hm (has_at xs i h) (taken_of xs i c before) tx t
+          | inr fx ↦ e m hm ∙ cond-false (table x m) _ _ fx ∙ r.inside c m hm before t
+        ]
+        | inr here ↦ e m hm ∙ cond-true (table x m) _ _ (ap (λ z. table z m) here ∙ t) ∙ here
+      ];
+      outside = λ m hm none.
+          let fx : table x m ≡ false = none x (taken_has xs i h) in
+          e m hm ∙ cond-false (table x m) _ _ fx ∙ r.outside m hm (λ c k. none c (list_any_kept (λ y. eqb y c) xs i k));
+    }
+
+-- ---- children that lose their parent, one after another
+
+pub orphaned_more : (xs : List ℕ) (j : ℕ) (old parents : List (Option ℕ)) → j < length xs → get_or xs j 0 < length parents → ((i : ℕ) → get_or parents i None ≡ cond (has (take j xs) i) None (get_or old i None)) →
+    (i : ℕ) → get_or (set parents (get_or xs j 0) None) i None ≡ cond (has (take (j + 1) xs) i) None (get_or old i None)
+orphaned_more xs j old parents h below p i = elim (cases_eq i (get_or xs j 0)) [
+  | inl e ↦
+      ap (λ z. get_or (set parents (get_or xs j 0) None) z None) e ∙ get_or-set_same parents (get_or xs j 0) None None below ∙
+      sym (cond-true (has (take (j + 1) xs) i) None (get_or old i None) (ap (has (take (j + 1) xs)) e ∙ taken_has xs j h))
+  | inr ne ↦
+      get_or-set_other parents (get_or xs j 0) i None None ne ∙ p i ∙ ap (λ z. cond z None (get_or old i None)) (sym (not_taken xs j i h (λ e. ne (sym e))))
+]
+
+-- ---- joins that are written, one after another
+
+pub joined_more : (all : List (ℕ × ℕ)) (cs : List ℕ) (j : ℕ) (pair : ℕ × ℕ) (joins : List (ℕ × ℕ)) → j < length cs → get_or cs j 0 < length all → ((a b : ℕ) → a < b → b < length cs → get_or cs a 0 ≢ get_or cs b 0) → pair ≡ get_or joins j (0, 0) →
+    ((k : ℕ) → k < j → get_or all (get_or cs k 0) (0, 0) ≡ get_or joins k (0, 0)) → (k : ℕ) → k < j + 1 → get_or (set all (get_or cs j 0) pair) (get_or cs k 0) (0, 0) ≡ get_or joins k (0, 0)
+joined_more all cs j pair joins h below d e done k hk = elim (cases_eq k j) [
+  | inl s ↦ ap (λ z. get_or (set all (get_or cs j 0) pair) (get_or cs z 0) (0, 0)) s ∙ get_or-set_same all (get_or cs j 0) pair (0, 0) below ∙ e ∙ ap (λ z. get_or joins z (0, 0)) (sym s)
+  | inr ne ↦ get_or-set_other all (get_or cs j 0) (get_or cs k 0) pair (0, 0) (d k j (omega arith) h) ∙ done k (omega arith)
+]
+
+pub joined_others : (all : List (ℕ × ℕ)) (cs : List ℕ) (j : ℕ) (pair : ℕ × ℕ) (c : ℕ) → j < length cs → has cs c ≡ false → get_or (set all (get_or cs j 0) pair) c (0, 0) ≡ get_or all c (0, 0)
+joined_others all cs j pair c h none = get_or-set_other all (get_or cs j 0) c pair (0, 0) (λ e. true_false (has cs c) (ap (has cs) e ∙ has_at cs j h) none)
+
+pub lifted_none : (size : ℕ) (table : ℕ → ℕ → Bool) (old : List ℕ) → AreLifted size table [] old old
+lifted_none size table old = record {
+  inside = λ c m h k. let no : false ≡ true = k in cc;
+  outside = λ m h k. refl;
+}

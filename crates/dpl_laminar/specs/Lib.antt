@@ -1,0 +1,5 @@
+pub mod Changes
+pub mod Families
+pub mod Loads
+pub mod Pairings
+pub mod Storing

@@ -1,0 +1,244 @@
+//! A family and its calls.
+
+ghost use Rattle.std.specs.Prelude.{◌≡◌, ◌≢◌, ℕ, ◌+◌, ◌*◌, ◌<◌, ◌≤◌, ◌^◌, ◌⊎◌, OnErr, true, false, None, [], length, pos, ◌+ℤ◌, ◌≤ℤ◌, IfOk, slice_index, slice_index_or};
+ghost use Rattle.dpl_laminar.specs.Loads.{load_in};
+ghost use Rattle.dpl_laminar.specs.Families.{IsFamily, load_of, members_of};
+ghost use Rattle.dpl_laminar.specs.Changes.{IsSingles, AreJoined, IsShrunk, IsExpanded, IsNext};
+ghost use Rattle.dpl_laminar.specs.Storing.{Stored, sets_of, IsNameOf};
+
+use super::members::Members;
+use super::{Steps, releasing, rings, starting};
+use dpl_ring::Ring;
+use std::alloc::{AllocError, Global};
+use std::marker::Model;
+use std::sync::ledger::Ledger;
+
+/// Nested odd sets of the members below a number, each set with a value.
+#[derive(Drop)]
+pub struct Family {
+    size: usize,
+    live: Vec<bool>,
+    rows: Vec<Members>,
+    values: Vec<u64>,
+    parents: Vec<Option<u32>>,
+    firsts: Vec<u32>,
+    counts: Vec<usize>,
+    ring: Ring,
+    joins: Vec<(u32, u32)>,
+    tops: Vec<u32>,
+}
+
+impl Model for Family {
+    ghost use Rattle.dpl_laminar.specs.Storing.{Stored, IsKept};
+
+    ghost Value = { Stored };
+
+    ghost view = { λ f. record { size = f.size; live = f.live.items; rows = f.rows.items; values = f.values.items; parents = f.parents.items; firsts = f.firsts.items; counts = f.counts.items; ring = f.ring; joins = f.joins.items; tops = f.tops.items } };
+
+    ghost invariant = { λ f. IsKept (record { size = f.size; live = f.live.items; rows = f.rows.items; values = f.values.items; parents = f.parents.items; firsts = f.firsts.items; counts = f.counts.items; ring = f.ring; joins = f.joins.items; tops = f.tops.items }) };
+}
+
+/// A value with something added.
+fn shifted(value: u64, by: i64) -> u64
+    requires small { value ≤ 2 ^ 50 }
+    requires least { pos 0 ≤ℤ (pos value +ℤ by) }
+    requires most { (pos value +ℤ by) ≤ℤ pos (2 ^ 50) }
+    ensures value { pos result ≡ pos value +ℤ by }
+    ensures small { result ≤ 2 ^ 50 }
+{
+    let sum = value as i64 + by;
+    sum as u64
+}
+
+/// The sum of the values of the sets that hold exactly one of s and t.
+fn load_between(values: &[u64], rows: &[Members], s: usize, t: usize) -> u64
+    requires few { length values.now ≤ 4096 }
+    requires lengths { length rows.now ≡ length values.now }
+    requires small { (i : ℕ) → slice_index values.now i ≤ 2 ^ 50 }
+    ensures { result ≡ load_in (length values.now) (slice_index values.now) (λ i m. slice_index_or (slice_index_or rows.now i []) m false) s t }
+{
+    let mut sum: u64 = 0;
+    for i in 0..values.len() {
+        if rows[i].holds(s) != rows[i].holds(t) {
+            sum += values[i];
+        }
+    }
+    sum
+}
+
+/// The greater one of the least members of two sets that are apart.
+fn name_of(rows: &[Members], size: usize, x: usize, y: usize) -> usize
+    requires first { x < length rows.now }
+    requires second { y < length rows.now }
+    requires any_first { (m : ℕ) × (m < size) × (slice_index_or (slice_index_or rows.now x []) m false ≡ true) }
+    requires any_second { (m : ℕ) × (m < size) × (slice_index_or (slice_index_or rows.now y []) m false ≡ true) }
+    requires apart { (m : ℕ) → m < size → slice_index_or (slice_index_or rows.now x []) m false ≡ true → slice_index_or (slice_index_or rows.now y []) m false ≡ false }
+    ensures below { result < size }
+    ensures name { (IsNameOf size (λ i m. slice_index_or (slice_index_or rows.now i []) m false) result x y) ⊎ (IsNameOf size (λ i m. slice_index_or (slice_index_or rows.now i []) m false) result y x) }
+{
+    let first = rows[x].least(size);
+    let second = rows[y].least(size);
+    if first < second { second } else { first }
+}
+
+impl Family {
+    /// Each of the members below n alone, with value 0.
+    pub fn new(alloc: Global, n: u32) -> Result<Family, AllocError>
+        requires { n ≤ 2048 }
+        ensures singles { IfOk result (λ f. IsSingles n (sets_of f)) }
+        ensures family { IfOk result (λ f. IsFamily (sets_of f)) }
+    {
+        let size = n as usize;
+        let live = starting::first_half(alloc, size)?;
+        let rows = starting::single_rows(alloc, size)?;
+        let values = starting::filled(alloc, 0, 2 * size)?;
+        let parents = starting::filled(alloc, None, 2 * size)?;
+        let firsts = starting::filled(alloc, 0, 2 * size)?;
+        let counts = starting::filled(alloc, 0, 2 * size)?;
+        let ring = Ring::new(alloc, 2 * n)?;
+        let joins = starting::filled(alloc, (0, 0), 2 * size)?;
+        let tops = starting::ascending(alloc, size)?;
+        Ok(Family {
+            size,
+            live,
+            rows,
+            values,
+            parents,
+            firsts,
+            counts,
+            ring,
+            joins,
+            tops,
+        })
+    }
+
+    /// Makes a new top of these tops, with value 0, and gives its number. `joins[i]` is a member of child `i` and one of
+    /// the next child around. A call costs a step.
+    pub fn shrink<L: Ledger>(
+        &mut self,
+        alloc: Global,
+        children: &[u32],
+        joins: &[(u32, u32)],
+        steps: &mut Steps<L>,
+    ) -> Result<u32, AllocError>
+        requires { AreJoined (sets_of self.old) children.now joins.now }
+        ensures ok { IfOk result (λ set. IsShrunk (sets_of self.old) children.now joins.now set (sets_of self.new)) }
+        ensures err { OnErr result (self.new ≡ self.old) }
+        ensures family { IsFamily (sets_of self.new) }
+        ensures steps { steps.new ≡ steps.old + 1 }
+    {
+        steps.tick();
+        let members = Members::under(alloc, &self.tops, children)?;
+        let name = name_of(
+            &self.rows,
+            self.size,
+            children[0] as usize,
+            children[1] as usize,
+        );
+        let set = self.size + name;
+        releasing::gather(&mut self.tops, children, set as u32);
+        releasing::adopt(&mut self.parents, children, set as u32);
+        releasing::join(&mut self.joins, children, joins);
+        rings::tie(&mut self.ring, children);
+        self.rows[set] = members;
+        self.firsts[set] = children[0];
+        self.counts[set] = children.len();
+        self.live[set] = true;
+        Ok(set as u32)
+    }
+
+    /// Takes a top of value 0 away. Its children become tops. A call costs a step.
+    pub fn expand<L: Ledger>(&mut self, set: u32, steps: &mut Steps<L>)
+        requires above { (sets_of self.old).size ≤ set }
+        requires live { (sets_of self.old).live set ≡ true }
+        requires top { (sets_of self.old).parent set ≡ None }
+        requires value { (sets_of self.old).value set ≡ 0 }
+        ensures value { IsExpanded (sets_of self.old) set (sets_of self.new) }
+        ensures family { IsFamily (sets_of self.new) }
+        ensures steps { steps.new ≡ steps.old + 1 }
+    {
+        steps.tick();
+        let at = set as usize;
+        let first = self.firsts[at];
+        let count = self.counts[at];
+        releasing::lift_all(&mut self.tops, &self.rows, &self.ring, first, count);
+        releasing::orphan(&mut self.parents, &self.ring, first, count);
+        rings::untie(&mut self.ring, first, count);
+        let row = &mut self.rows[at];
+        row.clear();
+        self.counts[at] = 0;
+        self.live[at] = false;
+    }
+
+    /// Adds to the value of a live set. A call costs a step.
+    pub fn raise<L: Ledger>(&mut self, set: u32, by: i64, steps: &mut Steps<L>)
+        requires live { (sets_of self.old).live set ≡ true }
+        requires least { pos 0 ≤ℤ (pos ((sets_of self.old).value set) +ℤ by) }
+        requires most { (pos ((sets_of self.old).value set) +ℤ by) ≤ℤ pos (2 ^ 50) }
+        ensures value { pos ((sets_of self.new).value set) ≡ pos ((sets_of self.old).value set) +ℤ by }
+        ensures others { (i : ℕ) → i ≢ set → (sets_of self.new).value i ≡ (sets_of self.old).value i }
+        ensures rest { sets_of self.new ≡ record (sets_of self.old) { value = (sets_of self.new).value } }
+        ensures family { IsFamily (sets_of self.new) }
+        ensures steps { steps.new ≡ steps.old + 1 }
+    {
+        steps.tick();
+        let raised = shifted(self.values[set as usize], by);
+        self.values[set as usize] = raised;
+    }
+
+    /// The top that holds a member.
+    pub fn tops(&self, member: u32) -> u32
+        requires { member < (sets_of self.now).size }
+        ensures value { result ≡ (sets_of self.now).top member }
+        ensures family { IsFamily (sets_of self.now) }
+    {
+        self.tops[member as usize]
+    }
+
+    /// The set whose child a live set is: none exactly where it is a top.
+    pub fn parent(&self, set: u32) -> Option<u32>
+        requires { (sets_of self.now).live set ≡ true }
+        ensures value { result ≡ (sets_of self.now).parent set }
+        ensures family { IsFamily (sets_of self.now) }
+    {
+        self.parents[set as usize]
+    }
+
+    /// The value of a live set.
+    pub fn value(&self, set: u32) -> u64
+        requires { (sets_of self.now).live set ≡ true }
+        ensures value { result ≡ (sets_of self.now).value set }
+        ensures family { IsFamily (sets_of self.now) }
+    {
+        self.values[set as usize]
+    }
+
+    /// The next child around in the ring of the parent, and the members that join the two: one of the child, then one of
+    /// the next.
+    pub fn child_after(&self, child: u32) -> (u32, u32, u32)
+        requires live { (sets_of self.now).live child ≡ true }
+        requires inner { (sets_of self.now).parent child ≢ None }
+        ensures next { IsNext (sets_of self.now) child result.0 (result.1, result.2) }
+        ensures family { IsFamily (sets_of self.now) }
+    {
+        let (from, to) = self.joins[child as usize];
+        (self.ring.next(child), from, to)
+    }
+
+    /// The members of a live set, ascending.
+    pub fn members(&self, alloc: Global, set: u32) -> Result<Vec<u32>, AllocError>
+        requires { (sets_of self.now).live set ≡ true }
+        ensures { IfOk result (λ list. list.items ≡ members_of (sets_of self.now) set) }
+    {
+        self.rows[set as usize].list(alloc, self.size)
+    }
+
+    /// The load of two members: the sum of the values of the sets that hold exactly one of them.
+    pub fn load(&self, s: u32, t: u32) -> u64
+        requires first { s < (sets_of self.now).size }
+        requires second { t < (sets_of self.now).size }
+        ensures { result ≡ load_of (sets_of self.now) s t }
+    {
+        load_between(&self.values, &self.rows, s as usize, t as usize)
+    }
+}

@@ -1,0 +1,106 @@
+//! Which members a set holds.
+
+ghost use Rattle.std.specs.Prelude.{◌≡◌, ◌≢◌, ℕ, ◌+◌, ◌<◌, ◌≤◌, ◌⊎◌, ◌==◌, true, false, [], length, slice_index, slice_index_or, map, IfOk};
+ghost use Rattle.dpl_laminar.specs.Families.{has, members_below};
+ghost use Rattle.dpl_laminar.specs.Storing.{IsNameOf};
+
+use std::alloc::{AllocError, Global};
+use std::marker::Model;
+
+/// A set of members. Contracts see it as the list that tells of each member whether it is held.
+#[derive(Drop)]
+pub struct Members {
+    held: Vec<bool>,
+}
+
+impl Model for Members {
+    ghost use Rattle.std.specs.Prelude.{List, Bool};
+
+    ghost Value = { List Bool };
+
+    ghost view = { λ s. s.held.items };
+}
+
+impl Members {
+    pub fn none(alloc: Global) -> Members
+        ensures { result ≡ [] }
+    {
+        Members {
+            held: Vec::new(alloc),
+        }
+    }
+
+    /// One member alone, of so many.
+    pub fn single(alloc: Global, member: usize, size: usize) -> Result<Members, AllocError>
+        requires { member < size }
+        ensures { IfOk result (λ row. (m : ℕ) → m < size → slice_index_or row m false ≡ (member == m)) }
+    {
+        let mut held = Vec::new(alloc);
+        for m in 0..size {
+            held.push(m == member)?;
+        }
+        Ok(Members { held })
+    }
+
+    /// The members whose tops are among these.
+    pub fn under(alloc: Global, tops: &[u32], children: &[u32]) -> Result<Members, AllocError>
+        ensures { IfOk result (λ row. row ≡ map (has children.now) tops.now) }
+    {
+        let mut held = Vec::new(alloc);
+        for top in tops {
+            held.push(is_in(children, *top))?;
+        }
+        Ok(Members { held })
+    }
+
+    pub fn holds(&self, member: usize) -> bool
+        ensures { result ≡ slice_index_or self.now member false }
+    {
+        match self.held.get(member) {
+            Some(held) => *held,
+            None => false,
+        }
+    }
+
+    /// The held members below a number, ascending.
+    pub fn list(&self, alloc: Global, size: usize) -> Result<Vec<u32>, AllocError>
+        requires { size ≤ 2048 }
+        ensures { IfOk result (λ list. list.items ≡ members_below size (λ m. slice_index_or self.now m false)) }
+    {
+        let mut list = Vec::new(alloc);
+        for m in 0..size {
+            if self.holds(m) {
+                list.push(m as u32)?;
+            }
+        }
+        Ok(list)
+    }
+
+    /// The least member of a set that has one below a number.
+    pub fn least(&self, size: usize) -> usize
+        requires { (m : ℕ) × (m < size) × (slice_index_or self.now m false ≡ true) }
+        ensures below { result < size }
+        ensures held { slice_index_or self.now result false ≡ true }
+        ensures least { (m : ℕ) → m < result → slice_index_or self.now m false ≡ false }
+    {
+        for m in 0..size {
+            if self.holds(m) {
+                return m;
+            }
+        }
+        unreachable!()
+    }
+
+    pub fn clear(&mut self)
+        ensures { self.new ≡ [] }
+    {
+        self.held.clear();
+    }
+}
+
+/// Whether a number stands in a list.
+pub fn is_in(list: &[u32], x: u32) -> bool
+    ensures { result ≡ has list.now x }
+{
+    list.iter().any(|y| *y == x)
+}
