@@ -1,0 +1,10 @@
+pub mod TreeLemmas
+pub mod SettlingLemmas
+pub mod LoopLemmas
+pub mod PairLemmas
+pub mod MaskLemmas
+pub mod OrderLemmas
+pub mod CornerLemmas
+pub mod NumberLemmas
+pub mod EvenLemmas
+pub mod ReadingLemmas

@@ -1,0 +1,11 @@
+use Rattle.std.proofs.Common.{arith, rules, below_more}
+use Rattle.dpl_core.proofs.forest.cover_all.Goals as goal
+
+pub loop-root-preserved : goal.loop-root-preserved
+loop-root-preserved c =
+    record {
+      settled = c.cover.ensures.settled;
+      whole = c.cover.ensures.whole;
+      size = omega (arith, c.loop-root.invariant.size);
+      all = below_more _ _ (λ v h. c.cover.ensures.kept v (c.loop-root.invariant.all v h)) c.cover.ensures.found;
+    }

@@ -1,0 +1,13 @@
+pub mod Graphs
+pub mod Forests
+pub mod Colouring
+pub mod Order
+pub mod Boxes
+pub mod Pairs
+pub mod Masks
+pub mod Words
+pub mod Lines
+pub mod Even
+pub mod Reading
+pub mod Apart
+pub mod Answer

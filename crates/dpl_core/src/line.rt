@@ -1,0 +1,98 @@
+// The line on the error output.
+ghost use Rattle.std.specs.Prelude.{◌≡◌, ◌+◌, ◌≤◌, ℕ, List, [], ◌++◌, length, decimal};
+ghost use Rattle.dpl_core.specs.Lines.{line_of};
+
+use crate::status::Status;
+use itoa::Buffer;
+use std::marker::Model;
+
+/// A short text in a fixed array.
+#[derive(Drop)]
+pub struct Line {
+    bytes: [u8; 128],
+    count: usize,
+}
+
+impl Model for Line {
+    ghost use Rattle.std.specs.Prelude.{List, ℕ, take, ◌≤◌};
+
+    ghost Value = { List ℕ };
+
+    ghost view = { λ s. take s.count s.bytes };
+
+    ghost invariant = { λ s. s.count ≤ 128 };
+}
+
+impl Line {
+    pub fn new() -> Line
+        ensures { result ≡ [] }
+    {
+        Line {
+            bytes: [0; 128],
+            count: 0,
+        }
+    }
+
+    pub fn push(&mut self, piece: &[u8])
+        requires { length self.old + length piece.now ≤ 128 }
+        ensures { self.new ≡ self.old ++ piece.now }
+    {
+        let end = self.count + piece.len();
+        self.bytes[self.count..end].copy_from_slice(piece);
+        self.count = end;
+    }
+
+    pub fn bytes(&self) -> &[u8]
+        ensures { result.now ≡ self.now }
+    {
+        &self.bytes[..self.count]
+    }
+}
+
+/// The line that tells a status, empty where all is done. Takes no memory.
+pub fn status_line(status: Status) -> Line
+    ensures { result ≡ line_of status }
+{
+    let mut line = Line::new();
+    match status {
+        Status::Done => {}
+        Status::Usage(kind) => {
+            line.push(b"dpl: usage ");
+            push_number(&mut line, u64::from(kind));
+            line.push(b"\n");
+        }
+        Status::Limit { kind, count } => {
+            line.push(b"dpl: limit ");
+            push_number(&mut line, u64::from(kind));
+            line.push(b" count ");
+            push_number(&mut line, count);
+            line.push(b"\n");
+        }
+        Status::Form { at } => {
+            line.push(b"dpl: form ");
+            push_number(&mut line, u64::from(at));
+            line.push(b"\n");
+        }
+        Status::Touching { i, j } => {
+            line.push(b"dpl: touching ");
+            push_number(&mut line, u64::from(i));
+            line.push(b" ");
+            push_number(&mut line, u64::from(j));
+            line.push(b"\n");
+        }
+        Status::Odd => line.push(b"dpl: odd\n"),
+        Status::ReadFault => line.push(b"dpl: read fault\n"),
+        Status::WriteFault => line.push(b"dpl: write fault\n"),
+        Status::NoMemory => line.push(b"dpl: no memory\n"),
+    }
+    line
+}
+
+fn push_number(line: &mut Line, number: u64)
+    requires { length line.old + 40 ≤ 128 }
+    ensures text { line.new ≡ line.old ++ decimal number }
+    ensures short { length line.new ≤ length line.old + 40 }
+{
+    let mut buffer = Buffer::new();
+    line.push(buffer.format(number).as_bytes());
+}

@@ -1,0 +1,39 @@
+// How a run of the program ends.
+ghost use Rattle.std.specs.Prelude.{◌≡◌};
+
+/// How a run of the program ends.
+#[derive(Clone, Copy, Debug, PartialEq, Eq)]
+pub enum Status {
+    Done,
+    Usage(u8),
+    Limit { kind: u8, count: u64 },
+    /// The number of the first command that has no known form, from 1.
+    Form { at: u32 },
+    /// The numbers of the first two boxes that touch.
+    Touching { i: u32, j: u32 },
+    Odd,
+    ReadFault,
+    WriteFault,
+    NoMemory,
+}
+
+impl Status {
+    ghost use Rattle.dpl_core.specs.Lines.{code_of};
+
+    /// The exit status of the process.
+    pub fn code(&self) -> u8
+        ensures { result ≡ code_of self.now }
+    {
+        match self {
+            Status::Done => 0,
+            Status::Usage(_) => 2,
+            Status::Limit { .. } => 4,
+            Status::ReadFault => 5,
+            Status::WriteFault => 6,
+            Status::NoMemory => 7,
+            Status::Form { .. } => 21,
+            Status::Touching { .. } => 22,
+            Status::Odd => 23,
+        }
+    }
+}
