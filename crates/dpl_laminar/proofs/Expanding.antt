@@ -24,7 +24,7 @@ parent_below s d c p k = elim (cases_lt d (2 * s.size)) [
 
 -- the children of a top that is no single
 pub kids_below : (s : Stored) (r c : ℕ) → IsKept s → has ((sets_of s).children r) c ≡ true → c < 2 * s.size
-kids_below s r c p k = (p.family.laminar.child r c (parent_below s r c p k) k).0
+kids_below s r c p k = (p.family.laminar.children.child r c (parent_below s r c p k) k).0
 
 pub kids_some : (s : Stored) (r : ℕ) → IsKept s → s.size ≤ r → get_or s.live r false ≡ true → 3 ≤ get_or s.counts r 0
 kids_some s r p least live =
@@ -32,7 +32,7 @@ kids_some s r p least live =
     let i = r - s.size in
     let e : s.size + i ≡ r = omega arith in
     let below : r < 2 * s.size = live_below s r p live in
-    let w = p.family.laminar.children_odd i (omega arith) (ap f.live e ∙ live) in
+    let w = p.family.laminar.children.children_odd i (omega arith) (ap f.live e ∙ live) in
     omega (arith, w.1, ap (λ z. length (f.children z)) e, length_walk f.after (get_or s.firsts r 0) (get_or s.counts r 0))
 
 pub kids_circle : (s : Stored) (r : ℕ) → IsKept s → get_or s.live r false ≡ true → IsCircle s.ring (get_or s.firsts r 0) (get_or s.counts r 0)
@@ -42,7 +42,7 @@ kids_circle s r p live =
     let l : length cs ≡ get_or s.counts r 0 = length_walk f.after (get_or s.firsts r 0) (get_or s.counts r 0) in
     record {
       below = λ i h. omega (arith, kids_below s r (get_or cs i 0) p (has_at cs i (omega arith)), p.ring_length);
-      distinct = λ i j ij hj. p.family.laminar.distinct r i j (live_below s r p live) ij (omega arith);
+      distinct = λ i j ij hj. p.family.laminar.children.distinct r i j (live_below s r p live) ij (omega arith);
       around = λ i h. p.family.around r i (omega arith) ∙ ap (λ z. get_or cs ((i + 1) % z) 0) l;
     }
 
@@ -62,7 +62,7 @@ without_set s r ps rg ts = record s { live = set s.live r false; rows = set s.ro
 -- a child of another set is no child of this one
 not_kid : (s : Stored) (r d c : ℕ) → IsKept s → r < 2 * s.size → d < 2 * s.size → d ≢ r → has ((sets_of s).children d) c ≡ true → has ((sets_of s).children r) c ≡ false
 not_kid s r d c p hr hd ne k = elim (cases_Bool (has ((sets_of s).children r) c)) [
-  | inl t ↦ absurd (ne (some_is (sym (p.family.laminar.child d c hd k).2 ∙ (p.family.laminar.child r c hr t).2)))
+  | inl t ↦ absurd (ne (some_is (sym (p.family.laminar.children.child d c hd k).2 ∙ (p.family.laminar.children.child r c hr t).2)))
   | inr t ↦ t
 ]
 
@@ -99,7 +99,7 @@ expanded s r ps rg ts p least live top w =
         children_others = children_left s r ps rg ts p below w;
         top_inside = λ c m h k l. w.tops.inside c m (here m h) k l;
         top_others = λ m h ne. w.tops.outside m (here m h) (λ c k. elim (cases_Bool (f.holds c m)) [
-          | inl t ↦ absurd (ne (lam.top_alone r m below h top (lam.child_holds r c m below h k t)))
+          | inl t ↦ absurd (ne (lam.tops.top_alone r m below h top (lam.children.child_holds r c m below h k t)))
           | inr t ↦ t
         ]);
       };
@@ -118,12 +118,12 @@ after_parent s c d p e =
     ] in
     let live : f.live c ≡ true = elim (cases_Bool (f.live c)) [
       | inl z ↦ z
-      | inr dead ↦ some_none (f.parent c) d e (p.family.laminar.dead_parent c hc dead)
+      | inr dead ↦ some_none (f.parent c) d e (p.family.laminar.children.dead_parent c hc dead)
     ] in
-    let up = p.family.laminar.parent_range c d hc live e in
+    let up = p.family.laminar.children.parent_range c d hc live e in
     let v = place_in (f.children d) c up.3 in
     let next : f.after c ≡ get_or (f.children d) ((v.0 + 1) % length (f.children d)) 0 = ap f.after (sym v.2) ∙ p.family.around d v.0 v.1 in
-    ap f.parent next ∙ (p.family.laminar.child d _ up.1 (has_at (f.children d) ((v.0 + 1) % length (f.children d)) (omega (arith, v.1)))).2
+    ap f.parent next ∙ (p.family.laminar.children.child d _ up.1 (has_at (f.children d) ((v.0 + 1) % length (f.children d)) (omega (arith, v.1)))).2
 
 pub expanded_kept : (s : Stored) (r : ℕ) (ps : List (Option ℕ)) (rg : List ℕ) (ts : List ℕ) → IsKept s → s.size ≤ r → get_or s.live r false ≡ true → get_or s.parents r None ≡ None → get_or s.values r 0 ≡ 0 →
     AreCleared s r ps rg ts → IsExpanded (sets_of s) r (sets_of (without_set s r ps rg ts)) → IsKept (without_set s r ps rg ts)

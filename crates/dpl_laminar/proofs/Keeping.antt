@@ -79,29 +79,35 @@ start_kept s p small = record {
 -- values are not part of how sets nest
 laminar_revalued : (n : ℕ) (f : Sets) (v : ℕ → ℕ) → IsLaminar n f → IsLaminar n (record f { value = v })
 laminar_revalued n f v p = record {
-  single_live = p.single_live;
-  single = p.single;
-  dead = p.dead;
-  dead_parent = p.dead_parent;
-  odd = p.odd;
-  nested = p.nested;
-  named = p.named;
-  top_range = p.top_range;
-  top_live = p.top_live;
-  top_holds = p.top_holds;
-  top_parent = p.top_parent;
-  top_alone = p.top_alone;
-  top_shared = p.top_shared;
-  parent_range = p.parent_range;
-  child = p.child;
-  child_holds = p.child_holds;
-  covered = p.covered;
-  apart = p.apart;
-  distinct = p.distinct;
-  between = p.between;
-  childless = p.childless;
-  children_odd = p.children_odd;
-  children_dead = p.children_dead;
+  sets = record {
+    single_live = p.sets.single_live;
+    single = p.sets.single;
+    dead = p.sets.dead;
+    odd = p.sets.odd;
+    nested = p.sets.nested;
+    named = p.sets.named;
+  };
+  tops = record {
+    top_range = p.tops.top_range;
+    top_live = p.tops.top_live;
+    top_holds = p.tops.top_holds;
+    top_parent = p.tops.top_parent;
+    top_alone = p.tops.top_alone;
+    top_shared = p.tops.top_shared;
+  };
+  children = record {
+    dead_parent = p.children.dead_parent;
+    parent_range = p.children.parent_range;
+    child = p.children.child;
+    child_holds = p.children.child_holds;
+    covered = p.children.covered;
+    apart = p.children.apart;
+    distinct = p.children.distinct;
+    between = p.children.between;
+    childless = p.children.childless;
+    children_odd = p.children.children_odd;
+    children_dead = p.children.children_dead;
+  };
 }
 
 pub raised_kept : (s : Stored) (i v : ℕ) → IsKept s → get_or s.live i false ≡ true → v ≤ 2 ^ 50 → IsKept (record s { values = set s.values i v })

@@ -14,12 +14,12 @@ use Rattle.dpl_laminar.proofs.Keeping.{live_below}
 
 -- a live set has a member
 pub live_member : (s : Stored) (i : ℕ) → IsKept s → get_or s.live i false ≡ true → (m : ℕ) × (m < s.size) × (get_or (get_or s.rows i []) m false ≡ true)
-live_member s i p l = some_member s.size ((sets_of s).holds i) (p.family.laminar.odd i (live_below s i p l) l)
+live_member s i p l = some_member s.size ((sets_of s).holds i) (p.family.laminar.sets.odd i (live_below s i p l) l)
 
 -- two tops have no common member
 pub tops_apart : (s : Stored) (x y m : ℕ) → IsKept s → x < 2 * s.size → y < 2 * s.size → get_or s.parents x None ≡ None → get_or s.parents y None ≡ None → x ≢ y → m < s.size → get_or (get_or s.rows x []) m false ≡ true → get_or (get_or s.rows y []) m false ≡ false
 tops_apart s x y m p hx hy tx ty ne hm h = elim (cases_Bool (get_or (get_or s.rows y []) m false)) [
-  | inl k ↦ absurd (ne (sym (p.family.laminar.top_alone x m hx hm tx h) ∙ p.family.laminar.top_alone y m hy hm ty k))
+  | inl k ↦ absurd (ne (sym (p.family.laminar.tops.top_alone x m hx hm tx h) ∙ p.family.laminar.tops.top_alone y m hy hm ty k))
   | inr k ↦ k
 ]
 
@@ -31,11 +31,11 @@ name_free s q x y p w hx tx =
     elim (cases_Bool (f.live (s.size + q))) [
       | inr k ↦ k
       | inl k ↦
-          let v = lam.named q w.below k in
+          let v = lam.sets.named q w.below k in
           let an : v.1.0 < s.size = omega (arith, v.1.1, w.below) in
-          let ta : f.top v.1.0 ≡ f.top q = lam.top_shared (s.size + q) v.1.0 q (let z : s.size + q < 2 * s.size = omega (arith, w.below) in z) an w.below v.1.2 v.0 in
-          let tx' : f.top q ≡ x = lam.top_alone x q hx w.below tx w.held in
-          true_false (f.holds x v.1.0) (ap (λ z. f.holds z v.1.0) (sym (ta ∙ tx')) ∙ lam.top_holds v.1.0 an) (w.least v.1.0 v.1.1)
+          let ta : f.top v.1.0 ≡ f.top q = lam.tops.top_shared (s.size + q) v.1.0 q (let z : s.size + q < 2 * s.size = omega (arith, w.below) in z) an w.below v.1.2 v.0 in
+          let tx' : f.top q ≡ x = lam.tops.top_alone x q hx w.below tx w.held in
+          true_false (f.holds x v.1.0) (ap (λ z. f.holds z v.1.0) (sym (ta ∙ tx')) ∙ lam.tops.top_holds v.1.0 an) (w.least v.1.0 v.1.1)
     ]
 
 abbrev pub IsName : Stored → List ℕ → ℕ → Type 0
@@ -65,7 +65,7 @@ with_set s cs r row ps rg jn ts = record s { live = set s.live r true; rows = se
 -- a child of a set is none of these tops
 no_top : (s : Stored) (cs : List ℕ) (js : List (ℕ × ℕ)) (d c : ℕ) → IsKept s → AreJoined (sets_of s) cs js → d < 2 * s.size → has ((sets_of s).children d) c ≡ true → has cs c ≡ false
 no_top s cs js d c p j hd k = elim (cases_Bool (has cs c)) [
-  | inl t ↦ some_none (get_or s.parents c None) d (p.family.laminar.child d c hd k).2 (j.tops.parentless c t)
+  | inl t ↦ some_none (get_or s.parents c None) d (p.family.laminar.children.child d c hd k).2 (j.tops.parentless c t)
   | inr t ↦ t
 ]
 

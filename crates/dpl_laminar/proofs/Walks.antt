@@ -6,7 +6,7 @@ use Rattle.std.proofs.lemmas.List.{take_all}
 use Rattle.std.proofs.lemmas.List.Edits.{swap_is}
 use Rattle.std.proofs.Math.Nat.{mod-eq_of_lt, mod_self}
 use Rattle.dpl_laminar.specs.Families.{has}
-use Rattle.dpl_laminar.specs.Storing.{walk, IsCircle}
+use Rattle.dpl_laminar.specs.Storing.{circle_of, walk, IsCircle}
 use Rattle.dpl_laminar.proofs.Numbers.{has_head, has_tail, has_at, place_in, true_false}
 
 pub length_walk : (f : ℕ → ℕ) (x k : ℕ) → length (walk f x k) ≡ k
@@ -165,21 +165,18 @@ untied_all cs old new j some t e c h =
 
 -- ---- the same of a walk
 
-abbrev pub ring_of : List ℕ → ℕ → ℕ → List ℕ
-ring_of ring first count = walk (λ c. get_or ring c 0) first count
-
-pub length_ring : (ring : List ℕ) (first count : ℕ) → length (ring_of ring first count) ≡ count
+pub length_ring : (ring : List ℕ) (first count : ℕ) → length (circle_of ring first count) ≡ count
 length_ring ring first count = length_walk _ first count
 
-pub ring_first : (ring : List ℕ) (first count : ℕ) → 0 < count → get_or (ring_of ring first count) 0 0 ≡ first
+pub ring_first : (ring : List ℕ) (first count : ℕ) → 0 < count → get_or (circle_of ring first count) 0 0 ≡ first
 ring_first ring first count h = at_walk _ first count 0 h
 
 pub circle_first : (ring : List ℕ) (first count : ℕ) → IsCircle ring first count → 0 < count → first < length ring
 circle_first ring first count p some = omega (arith, p.below 0 some, ring_first ring first count some)
 
-pub circle_start : (ring : List ℕ) (first count : ℕ) → IsCircle ring first count → 0 < count → AreUntied (ring_of ring first count) ring ring 1
+pub circle_start : (ring : List ℕ) (first count : ℕ) → IsCircle ring first count → 0 < count → AreUntied (circle_of ring first count) ring ring 1
 circle_start ring first count p some =
-    let cs = ring_of ring first count in
+    let cs = circle_of ring first count in
     let l : length cs ≡ count = length_ring ring first count in
     record {
       same_length = refl;
@@ -189,23 +186,23 @@ circle_start ring first count p some =
       others = λ c h. refl;
     }
 
-pub circle_more : (ring : List ℕ) (first count : ℕ) (new : List ℕ) (j : ℕ) → IsCircle ring first count → 1 ≤ j → j < count → AreUntied (ring_of ring first count) ring new j → AreUntied (ring_of ring first count) ring (swap new first (get_or new first 0)) (j + 1)
+pub circle_more : (ring : List ℕ) (first count : ℕ) (new : List ℕ) (j : ℕ) → IsCircle ring first count → 1 ≤ j → j < count → AreUntied (circle_of ring first count) ring new j → AreUntied (circle_of ring first count) ring (swap new first (get_or new first 0)) (j + 1)
 circle_more ring first count new j p least h t =
-    let cs = ring_of ring first count in
+    let cs = circle_of ring first count in
     let l : length cs ≡ count = length_ring ring first count in
     let is : get_or cs 0 0 ≡ first = ring_first ring first count (omega arith) in
     let next : AreUntied cs ring (swap new (get_or cs 0 0) (get_or new (get_or cs 0 0) 0)) (j + 1) = untied_more cs ring new j least (omega arith) (λ a b ab hb. p.distinct a b ab (omega arith)) (λ i hi. p.below i (omega arith)) t in
     subst (λ z. AreUntied cs ring (swap new z (get_or new z 0)) (j + 1)) is next
 
-pub circle_end : (ring : List ℕ) (first count : ℕ) (new : List ℕ) (j : ℕ) → 0 < count → j ≡ count → AreUntied (ring_of ring first count) ring new j → (c : ℕ) → has (ring_of ring first count) c ≡ true → get_or new c 0 ≡ c
-circle_end ring first count new j some e t = untied_all (ring_of ring first count) ring new j (omega (arith, length_ring ring first count)) t (e ∙ sym (length_ring ring first count))
+pub circle_end : (ring : List ℕ) (first count : ℕ) (new : List ℕ) (j : ℕ) → 0 < count → j ≡ count → AreUntied (circle_of ring first count) ring new j → (c : ℕ) → has (circle_of ring first count) c ≡ true → get_or new c 0 ≡ c
+circle_end ring first count new j some e t = untied_all (circle_of ring first count) ring new j (omega (arith, length_ring ring first count)) t (e ∙ sym (length_ring ring first count))
 
 -- the place of a walk that so many steps lead to
-pub ring_at : (ring : List ℕ) (first count j child : ℕ) → j < count → child ≡ step (λ c. get_or ring c 0) first j → get_or (ring_of ring first count) j 0 ≡ child
+pub ring_at : (ring : List ℕ) (first count j child : ℕ) → j < count → child ≡ step (λ c. get_or ring c 0) first j → get_or (circle_of ring first count) j 0 ≡ child
 ring_at ring first count j child h e = at_walk _ first count j h ∙ sym e
 
-pub ring_whole : (ring : List ℕ) (first count j : ℕ) → count ≤ j → take j (ring_of ring first count) ≡ ring_of ring first count
-ring_whole ring first count j h = take_all j (ring_of ring first count) (omega (arith, length_ring ring first count))
+pub ring_whole : (ring : List ℕ) (first count j : ℕ) → count ≤ j → take j (circle_of ring first count) ≡ circle_of ring first count
+ring_whole ring first count j h = take_all j (circle_of ring first count) (omega (arith, length_ring ring first count))
 
 pub ring_next : (ring : List ℕ) (first j child next : ℕ) → child ≡ step (λ c. get_or ring c 0) first j → next ≡ get_or ring child 0 → next ≡ step (λ c. get_or ring c 0) first (j + 1)
 ring_next ring first j child next e h =

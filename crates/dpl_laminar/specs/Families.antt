@@ -48,40 +48,52 @@ pub record IsTie (f : Sets) (c d : ℕ) (pair : ℕ × ℕ) : Type 0 where
   pub to_range : pair.1 < f.size
   pub to : f.holds d pair.1 ≡ true
 
--- odd sets of the members below n, any two nested or without a common member
-pub record IsLaminar (n : ℕ) (f : Sets) : Type 0 where
+-- odd sets of the members below n, each two nested or without a common member
+pub record AreOddSets (n : ℕ) (f : Sets) : Type 0 where
   -- the single members
   pub single_live : (i : ℕ) → i < n → f.live i ≡ true
   pub single : (i m : ℕ) → i < n → m < n → f.holds i m ≡ (i == m)
   -- a number without a set holds nothing
   pub dead : (i m : ℕ) → i < 2 * n → m < n → f.live i ≡ false → f.holds i m ≡ false
-  pub dead_parent : (i : ℕ) → i < 2 * n → f.live i ≡ false → f.parent i ≡ None
   pub odd : (i : ℕ) → i < 2 * n → f.live i ≡ true → size_of n (f.holds i) % 2 ≡ 1
   -- of two sets with a common member one holds all members of the other
   pub nested : (i j m a b : ℕ) → i < 2 * n → j < 2 * n → m < n → a < n → b < n → f.holds i m ≡ true → f.holds j m ≡ true → f.holds i a ≡ true → f.holds j a ≡ false → f.holds j b ≡ true → f.holds i b ≡ true
-  -- a set's number leads to a member of it that is not its least
+  -- how numbers are given out: the number of a set leads to a member of it that is not its least
   pub named : (i : ℕ) → i < n → f.live (n + i) ≡ true → (f.holds (n + i) i ≡ true) × ((a : ℕ) × (a < i) × (f.holds (n + i) a ≡ true))
-  -- each member has one top, which is live and holds it
+
+-- each member has one top: the live set without a parent that holds it
+pub record HaveTops (n : ℕ) (f : Sets) : Type 0 where
   pub top_range : (m : ℕ) → m < n → f.top m < 2 * n
   pub top_live : (m : ℕ) → m < n → f.live (f.top m) ≡ true
   pub top_holds : (m : ℕ) → m < n → f.holds (f.top m) m ≡ true
   pub top_parent : (m : ℕ) → m < n → f.parent (f.top m) ≡ None
   pub top_alone : (i m : ℕ) → i < 2 * n → m < n → f.parent i ≡ None → f.holds i m ≡ true → f.top m ≡ i
+  -- the members of a set have one top
   pub top_shared : (i m a : ℕ) → i < 2 * n → m < n → a < n → f.holds i m ≡ true → f.holds i a ≡ true → f.top m ≡ f.top a
+
+-- each set that is no single is the union of its children, which are an odd number and have no common members
+pub record HaveChildren (n : ℕ) (f : Sets) : Type 0 where
   -- the children of a set are those whose parent it is
+  pub dead_parent : (i : ℕ) → i < 2 * n → f.live i ≡ false → f.parent i ≡ None
   pub parent_range : (i p : ℕ) → i < 2 * n → f.live i ≡ true → f.parent i ≡ Some p → (n ≤ p) × (p < 2 * n) × (f.live p ≡ true) × (has (f.children p) i ≡ true)
   pub child : (p c : ℕ) → p < 2 * n → has (f.children p) c ≡ true → (c < 2 * n) × (f.live c ≡ true) × (f.parent c ≡ Some p)
-  -- each member of a set that is no single lies in exactly one child, and the children hold nothing else
+  -- the union
   pub child_holds : (p c m : ℕ) → p < 2 * n → m < n → has (f.children p) c ≡ true → f.holds c m ≡ true → f.holds p m ≡ true
   pub covered : (p m : ℕ) → n ≤ p → p < 2 * n → m < n → f.holds p m ≡ true → (c : ℕ) × (has (f.children p) c ≡ true) × (f.holds c m ≡ true)
   pub apart : (p c d m : ℕ) → p < 2 * n → m < n → has (f.children p) c ≡ true → has (f.children p) d ≡ true → f.holds c m ≡ true → f.holds d m ≡ true → c ≡ d
-  pub distinct : (p i j : ℕ) → p < 2 * n → i < j → j < length (f.children p) → slice_index (f.children p) i ≢ slice_index (f.children p) j
   -- a set that meets a child and does not hold the whole parent lies in the child
   pub between : (p c i m a b : ℕ) → p < 2 * n → i < 2 * n → m < n → a < n → b < n → has (f.children p) c ≡ true → f.holds c m ≡ true → f.holds i m ≡ true → f.holds p a ≡ true → f.holds i a ≡ false → f.holds i b ≡ true → f.holds c b ≡ true
-  -- a set that is no single has an odd number of children, and the others have none
+  -- each child stands once, and singles and numbers without a set have none
+  pub distinct : (p i j : ℕ) → p < 2 * n → i < j → j < length (f.children p) → slice_index (f.children p) i ≢ slice_index (f.children p) j
   pub childless : (i : ℕ) → i < n → length (f.children i) ≡ 0
   pub children_odd : (i : ℕ) → i < n → f.live (n + i) ≡ true → (length (f.children (n + i)) % 2 ≡ 1) × (3 ≤ length (f.children (n + i)))
   pub children_dead : (i : ℕ) → i < n → f.live (n + i) ≡ false → length (f.children (n + i)) ≡ 0
+
+-- a laminar family with its tops and children
+pub record IsLaminar (n : ℕ) (f : Sets) : Type 0 where
+  pub sets : AreOddSets n f
+  pub tops : HaveTops n f
+  pub children : HaveChildren n f
 
 -- what every family keeps
 pub record IsFamily (f : Sets) : Type 0 where

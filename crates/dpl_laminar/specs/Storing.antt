@@ -1,6 +1,6 @@
 -- How a family is kept: lists by the numbers of the sets, and one permutation for the rings of all sets.
 use Rattle.std.specs.Prelude.{◌≡◌, ◌≢◌, ℕ, ◌+◌, ◌*◌, ◌%◌, ◌<◌, zero, suc, Bool, true, false, Option, None, List, [], ◌∷◌, length, slice_index, slice_index_or}
-use Rattle.dpl_laminar.specs.Families.{Sets, IsFamily}
+use Rattle.dpl_laminar.specs.Families.{Sets, IsFamily, has}
 
 pub record Stored : Type 0 where
   pub size : ℕ
@@ -23,20 +23,29 @@ abbrev pub walk : (ℕ → ℕ) → ℕ → ℕ → List ℕ
 walk after first zero = []
 walk after first (suc count) = first ∷ walk after (after first) count
 
+-- the same along a permutation that is kept as a list
+abbrev pub circle_of : List ℕ → ℕ → ℕ → List ℕ
+circle_of ring first count = walk (slice_index ring) first count
+
+-- a set holds a member, where each set has a row that tells of each member
+abbrev pub row_holds : List (List Bool) → ℕ → ℕ → Bool
+row_holds rows i m = slice_index_or (slice_index_or rows i []) m false
+
 -- the family that is kept so
 abbrev pub sets_of : Stored → Sets
 sets_of s = record {
   size = s.size;
   live = λ i. slice_index_or s.live i false;
-  holds = λ i m. slice_index_or (slice_index_or s.rows i []) m false;
+  holds = row_holds s.rows;
   value = slice_index s.values;
   parent = λ i. slice_index_or s.parents i None;
-  children = λ i. walk (slice_index s.ring) (slice_index s.firsts i) (slice_index s.counts i);
+  children = λ i. circle_of s.ring (slice_index s.firsts i) (slice_index s.counts i);
   after = slice_index s.ring;
   join = λ i. slice_index_or s.joins i (0, 0);
   top = slice_index s.tops;
 }
 
+-- what the lists of every family keep
 pub record IsKept (s : Stored) : Type 0 where
   pub live_length : length s.live ≡ 2 * s.size
   pub rows_length : length s.rows ≡ 2 * s.size
@@ -50,15 +59,27 @@ pub record IsKept (s : Stored) : Type 0 where
   pub row_dead : (i : ℕ) → slice_index_or s.live i false ≡ false → slice_index_or s.rows i [] ≡ []
   pub family : IsFamily (sets_of s)
 
+-- so many numbers from the first on are places of the list, all different, and the last one leads to the first
+pub record IsCircle (ring : List ℕ) (first count : ℕ) : Type 0 where
+  pub below : (i : ℕ) → i < count → slice_index (circle_of ring first count) i < length ring
+  pub distinct : (i j : ℕ) → i < j → j < count → slice_index (circle_of ring first count) i ≢ slice_index (circle_of ring first count) j
+  pub around : (i : ℕ) → i < count → slice_index ring (slice_index (circle_of ring first count) i) ≡ slice_index (circle_of ring first count) ((i + 1) % count)
+
+-- numbers below a bound
+abbrev pub AreBelow : List ℕ → ℕ → Type 0
+AreBelow numbers bound = (i : ℕ) → i < length numbers → slice_index numbers i < bound
+
+-- numbers that stand once
+abbrev pub AreOnce : List ℕ → Type 0
+AreOnce numbers = (i j : ℕ) → i < j → j < length numbers → slice_index numbers i ≢ slice_index numbers j
+
+-- no two of these sets have a common member below n
+abbrev pub AreApart : ℕ → List (List Bool) → List ℕ → Type 0
+AreApart n rows sets = (c d m : ℕ) → m < n → has sets c ≡ true → has sets d ≡ true → row_holds rows c m ≡ true → row_holds rows d m ≡ true → c ≡ d
+
 -- q is the least member of the set x and more than a member of the set y
 pub record IsNameOf (n : ℕ) (holds : ℕ → ℕ → Bool) (q x y : ℕ) : Type 0 where
   pub below : q < n
   pub held : holds x q ≡ true
   pub least : (m : ℕ) → m < q → holds x m ≡ false
   pub less : (a : ℕ) × (a < q) × (holds y a ≡ true)
-
--- so many numbers from the first on are places of the list, all different, and the last one leads to the first
-pub record IsCircle (ring : List ℕ) (first count : ℕ) : Type 0 where
-  pub below : (i : ℕ) → i < count → slice_index (walk (slice_index ring) first count) i < length ring
-  pub distinct : (i j : ℕ) → i < j → j < count → slice_index (walk (slice_index ring) first count) i ≢ slice_index (walk (slice_index ring) first count) j
-  pub around : (i : ℕ) → i < count → slice_index ring (slice_index (walk (slice_index ring) first count) i) ≡ slice_index (walk (slice_index ring) first count) ((i + 1) % count)

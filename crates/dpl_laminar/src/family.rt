@@ -1,13 +1,12 @@
 //! A family and its calls.
 
-ghost use Rattle.std.specs.Prelude.{◌≡◌, ◌≢◌, ℕ, ◌+◌, ◌*◌, ◌<◌, ◌≤◌, ◌^◌, ◌⊎◌, OnErr, true, false, None, [], length, pos, ◌+ℤ◌, ◌≤ℤ◌, IfOk, slice_index, slice_index_or};
-ghost use Rattle.dpl_laminar.specs.Loads.{load_in};
+ghost use Rattle.std.specs.Prelude.{◌≡◌, ◌≢◌, ℕ, ◌+◌, ◌<◌, ◌≤◌, ◌^◌, OnErr, true, None, pos, ◌+ℤ◌, ◌≤ℤ◌, IfOk};
 ghost use Rattle.dpl_laminar.specs.Families.{IsFamily, load_of, members_of};
 ghost use Rattle.dpl_laminar.specs.Changes.{IsSingles, AreJoined, IsShrunk, IsExpanded, IsNext};
-ghost use Rattle.dpl_laminar.specs.Storing.{Stored, sets_of, IsNameOf};
+ghost use Rattle.dpl_laminar.specs.Storing.{sets_of};
 
-use super::members::Members;
-use super::{Steps, releasing, rings, starting};
+use super::members::{Members, name_of};
+use super::{Steps, releasing, rings, starting, values};
 use dpl_ring::Ring;
 use std::alloc::{AllocError, Global};
 use std::marker::Model;
@@ -33,52 +32,31 @@ impl Model for Family {
 
     ghost Value = { Stored };
 
-    ghost view = { λ f. record { size = f.size; live = f.live.items; rows = f.rows.items; values = f.values.items; parents = f.parents.items; firsts = f.firsts.items; counts = f.counts.items; ring = f.ring; joins = f.joins.items; tops = f.tops.items } };
+    ghost view = { λ f. record {
+      size = f.size;
+      live = f.live.items;
+      rows = f.rows.items;
+      values = f.values.items;
+      parents = f.parents.items;
+      firsts = f.firsts.items;
+      counts = f.counts.items;
+      ring = f.ring;
+      joins = f.joins.items;
+      tops = f.tops.items;
+    } };
 
-    ghost invariant = { λ f. IsKept (record { size = f.size; live = f.live.items; rows = f.rows.items; values = f.values.items; parents = f.parents.items; firsts = f.firsts.items; counts = f.counts.items; ring = f.ring; joins = f.joins.items; tops = f.tops.items }) };
-}
-
-/// A value with something added.
-fn shifted(value: u64, by: i64) -> u64
-    requires small { value ≤ 2 ^ 50 }
-    requires least { pos 0 ≤ℤ (pos value +ℤ by) }
-    requires most { (pos value +ℤ by) ≤ℤ pos (2 ^ 50) }
-    ensures value { pos result ≡ pos value +ℤ by }
-    ensures small { result ≤ 2 ^ 50 }
-{
-    let sum = value as i64 + by;
-    sum as u64
-}
-
-/// The sum of the values of the sets that hold exactly one of s and t.
-fn load_between(values: &[u64], rows: &[Members], s: usize, t: usize) -> u64
-    requires few { length values.now ≤ 4096 }
-    requires lengths { length rows.now ≡ length values.now }
-    requires small { (i : ℕ) → slice_index values.now i ≤ 2 ^ 50 }
-    ensures { result ≡ load_in (length values.now) (slice_index values.now) (λ i m. slice_index_or (slice_index_or rows.now i []) m false) s t }
-{
-    let mut sum: u64 = 0;
-    for i in 0..values.len() {
-        if rows[i].holds(s) != rows[i].holds(t) {
-            sum += values[i];
-        }
-    }
-    sum
-}
-
-/// The greater one of the least members of two sets that are apart.
-fn name_of(rows: &[Members], size: usize, x: usize, y: usize) -> usize
-    requires first { x < length rows.now }
-    requires second { y < length rows.now }
-    requires any_first { (m : ℕ) × (m < size) × (slice_index_or (slice_index_or rows.now x []) m false ≡ true) }
-    requires any_second { (m : ℕ) × (m < size) × (slice_index_or (slice_index_or rows.now y []) m false ≡ true) }
-    requires apart { (m : ℕ) → m < size → slice_index_or (slice_index_or rows.now x []) m false ≡ true → slice_index_or (slice_index_or rows.now y []) m false ≡ false }
-    ensures below { result < size }
-    ensures name { (IsNameOf size (λ i m. slice_index_or (slice_index_or rows.now i []) m false) result x y) ⊎ (IsNameOf size (λ i m. slice_index_or (slice_index_or rows.now i []) m false) result y x) }
-{
-    let first = rows[x].least(size);
-    let second = rows[y].least(size);
-    if first < second { second } else { first }
+    ghost invariant = { λ f. IsKept (record {
+      size = f.size;
+      live = f.live.items;
+      rows = f.rows.items;
+      values = f.values.items;
+      parents = f.parents.items;
+      firsts = f.firsts.items;
+      counts = f.counts.items;
+      ring = f.ring;
+      joins = f.joins.items;
+      tops = f.tops.items;
+    }) };
 }
 
 impl Family {
@@ -122,7 +100,8 @@ impl Family {
         steps: &mut Steps<L>,
     ) -> Result<u32, AllocError>
         requires { AreJoined (sets_of self.old) children.now joins.now }
-        ensures ok { IfOk result (λ set. IsShrunk (sets_of self.old) children.now joins.now set (sets_of self.new)) }
+        ensures ok { IfOk result (λ set.
+            IsShrunk (sets_of self.old) children.now joins.now set (sets_of self.new)) }
         ensures err { OnErr result (self.new ≡ self.old) }
         ensures family { IsFamily (sets_of self.new) }
         ensures steps { steps.new ≡ steps.old + 1 }
@@ -182,7 +161,7 @@ impl Family {
         ensures steps { steps.new ≡ steps.old + 1 }
     {
         steps.tick();
-        let raised = shifted(self.values[set as usize], by);
+        let raised = values::shifted(self.values[set as usize], by);
         self.values[set as usize] = raised;
     }
 
@@ -239,6 +218,6 @@ impl Family {
         requires second { t < (sets_of self.now).size }
         ensures { result ≡ load_of (sets_of self.now) s t }
     {
-        load_between(&self.values, &self.rows, s as usize, t as usize)
+        values::load_between(&self.values, &self.rows, s as usize, t as usize)
     }
 }

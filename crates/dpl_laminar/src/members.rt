@@ -1,8 +1,8 @@
 //! Which members a set holds.
 
-ghost use Rattle.std.specs.Prelude.{◌≡◌, ◌≢◌, ℕ, ◌+◌, ◌<◌, ◌≤◌, ◌⊎◌, ◌==◌, true, false, [], length, slice_index, slice_index_or, map, IfOk};
+ghost use Rattle.std.specs.Prelude.{◌≡◌, ℕ, ◌<◌, ◌≤◌, ◌⊎◌, ◌==◌, true, false, [], length, slice_index_or, map, IfOk};
 ghost use Rattle.dpl_laminar.specs.Families.{has, members_below};
-ghost use Rattle.dpl_laminar.specs.Storing.{IsNameOf};
+ghost use Rattle.dpl_laminar.specs.Storing.{row_holds, IsNameOf};
 
 use std::alloc::{AllocError, Global};
 use std::marker::Model;
@@ -103,4 +103,19 @@ pub fn is_in(list: &[u32], x: u32) -> bool
     ensures { result ≡ has list.now x }
 {
     list.iter().any(|y| *y == x)
+}
+
+/// The number that a set made of two sets that are apart is known by: the greater one of their least members.
+pub fn name_of(rows: &[Members], size: usize, x: usize, y: usize) -> usize
+    requires first { x < length rows.now }
+    requires second { y < length rows.now }
+    requires any_first { (m : ℕ) × (m < size) × (row_holds rows.now x m ≡ true) }
+    requires any_second { (m : ℕ) × (m < size) × (row_holds rows.now y m ≡ true) }
+    requires apart { (m : ℕ) → m < size → row_holds rows.now x m ≡ true → row_holds rows.now y m ≡ false }
+    ensures below { result < size }
+    ensures name { IsNameOf size (row_holds rows.now) result x y ⊎ IsNameOf size (row_holds rows.now) result y x }
+{
+    let first = rows[x].least(size);
+    let second = rows[y].least(size);
+    if first < second { second } else { first }
 }

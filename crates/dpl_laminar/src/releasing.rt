@@ -1,15 +1,16 @@
-//! Writing tops and parents, where a set is made or taken away.
+//! Writing tops, parents and joins, where a set is made or taken away.
 
-ghost use Rattle.std.specs.Prelude.{◌≡◌, ◌≢◌, ℕ, ◌+◌, ◌*◌, ◌<◌, ◌≤◌, if◌then◌else◌, true, false, None, Some, [], length, slice_index, slice_index_or};
+ghost use Rattle.std.specs.Prelude.{◌≡◌, ℕ, ◌<◌, if◌then◌else◌, true, false, None, Some, length, slice_index, slice_index_or};
 ghost use Rattle.dpl_laminar.specs.Families.{has};
-ghost use Rattle.dpl_laminar.specs.Storing.{walk};
+ghost use Rattle.dpl_laminar.specs.Storing.{circle_of, row_holds, AreBelow, AreOnce, AreApart};
 
 use super::members::{Members, is_in};
 use dpl_ring::Ring;
 
 /// Makes one set the top of all members whose top is among these.
 pub fn gather(tops: &mut [u32], children: &[u32], set: u32)
-    ensures { (m : ℕ) → m < length tops.old → slice_index tops.new m ≡ (if has children.now (slice_index tops.old m) then set else slice_index tops.old m) }
+    ensures { (m : ℕ) → m < length tops.old → slice_index tops.new m ≡
+        (if has children.now (slice_index tops.old m) then set else slice_index tops.old m) }
 {
     for m in 0..tops.len() {
         if is_in(children, tops[m]) {
@@ -20,8 +21,9 @@ pub fn gather(tops: &mut [u32], children: &[u32], set: u32)
 
 /// Writes the parent of these sets.
 pub fn adopt(parents: &mut [Option<u32>], children: &[u32], parent: u32)
-    requires { (i : ℕ) → i < length children.now → slice_index children.now i < length parents.old }
-    ensures { (i : ℕ) → slice_index_or parents.new i None ≡ (if has children.now i then Some parent else slice_index_or parents.old i None) }
+    requires { AreBelow children.now (length parents.old) }
+    ensures { (i : ℕ) → slice_index_or parents.new i None ≡
+        (if has children.now i then Some parent else slice_index_or parents.old i None) }
 {
     for child in children {
         parents[*child as usize] = Some(parent);
@@ -31,10 +33,12 @@ pub fn adopt(parents: &mut [Option<u32>], children: &[u32], parent: u32)
 /// Writes the joins of these sets.
 pub fn join(all: &mut [(u32, u32)], children: &[u32], joins: &[(u32, u32)])
     requires count { length joins.now ≡ length children.now }
-    requires below { (i : ℕ) → i < length children.now → slice_index children.now i < length all.old }
-    requires distinct { (i j : ℕ) → i < j → j < length children.now → slice_index children.now i ≢ slice_index children.now j }
-    ensures each { (i : ℕ) → i < length children.now → slice_index_or all.new (slice_index children.now i) (0, 0) ≡ slice_index_or joins.now i (0, 0) }
-    ensures others { (c : ℕ) → has children.now c ≡ false → slice_index_or all.new c (0, 0) ≡ slice_index_or all.old c (0, 0) }
+    requires below { AreBelow children.now (length all.old) }
+    requires distinct { AreOnce children.now }
+    ensures each { (i : ℕ) → i < length children.now →
+        slice_index_or all.new (slice_index children.now i) (0, 0) ≡ slice_index_or joins.now i (0, 0) }
+    ensures others { (c : ℕ) → has children.now c ≡ false →
+        slice_index_or all.new c (0, 0) ≡ slice_index_or all.old c (0, 0) }
 {
     for (i, child) in children.iter().enumerate() {
         all[*child as usize] = joins[i];
@@ -43,7 +47,8 @@ pub fn join(all: &mut [(u32, u32)], children: &[u32], joins: &[(u32, u32)])
 
 /// Makes a set the top of its members.
 pub fn lift(tops: &mut [u32], row: &Members, set: u32)
-    ensures { (m : ℕ) → m < length tops.old → slice_index tops.new m ≡ (if slice_index_or row.now m false then set else slice_index tops.old m) }
+    ensures { (m : ℕ) → m < length tops.old → slice_index tops.new m ≡
+        (if slice_index_or row.now m false then set else slice_index tops.old m) }
 {
     for m in 0..tops.len() {
         if row.holds(m) {
@@ -52,13 +57,16 @@ pub fn lift(tops: &mut [u32], row: &Members, set: u32)
     }
 }
 
-/// Makes each child of a ring the top of its members. No two of them have a common member.
+/// Makes each child of a ring the top of its members.
 pub fn lift_all(tops: &mut [u32], rows: &[Members], ring: &Ring, first: u32, count: usize)
-    requires below { (i : ℕ) → i < count → slice_index (walk (slice_index ring.now) first count) i < length rows.now }
     requires ring { length ring.now ≡ length rows.now }
-    requires apart { (c d m : ℕ) → m < length tops.old → has (walk (slice_index ring.now) first count) c ≡ true → has (walk (slice_index ring.now) first count) d ≡ true → slice_index_or (slice_index_or rows.now c []) m false ≡ true → slice_index_or (slice_index_or rows.now d []) m false ≡ true → c ≡ d }
-    ensures inside { (c m : ℕ) → m < length tops.old → has (walk (slice_index ring.now) first count) c ≡ true → slice_index_or (slice_index_or rows.now c []) m false ≡ true → slice_index tops.new m ≡ c }
-    ensures outside { (m : ℕ) → m < length tops.old → ((c : ℕ) → has (walk (slice_index ring.now) first count) c ≡ true → slice_index_or (slice_index_or rows.now c []) m false ≡ false) → slice_index tops.new m ≡ slice_index tops.old m }
+    requires below { (i : ℕ) → i < count → slice_index (circle_of ring.now first count) i < length rows.now }
+    requires apart { AreApart (length tops.old) rows.now (circle_of ring.now first count) }
+    ensures inside { (c m : ℕ) → m < length tops.old → has (circle_of ring.now first count) c ≡ true →
+        row_holds rows.now c m ≡ true → slice_index tops.new m ≡ c }
+    ensures outside { (m : ℕ) → m < length tops.old →
+        ((c : ℕ) → has (circle_of ring.now first count) c ≡ true → row_holds rows.now c m ≡ false) →
+        slice_index tops.new m ≡ slice_index tops.old m }
 {
     let mut child = first;
     for _ in 0..count {
@@ -69,9 +77,10 @@ pub fn lift_all(tops: &mut [u32], rows: &[Members], ring: &Ring, first: u32, cou
 
 /// Takes the parent from each child of a ring.
 pub fn orphan(parents: &mut [Option<u32>], ring: &Ring, first: u32, count: usize)
-    requires below { (i : ℕ) → i < count → slice_index (walk (slice_index ring.now) first count) i < length parents.old }
     requires ring { length ring.now ≡ length parents.old }
-    ensures { (i : ℕ) → slice_index_or parents.new i None ≡ (if has (walk (slice_index ring.now) first count) i then None else slice_index_or parents.old i None) }
+    requires below { (i : ℕ) → i < count → slice_index (circle_of ring.now first count) i < length parents.old }
+    ensures { (i : ℕ) → slice_index_or parents.new i None ≡
+        (if has (circle_of ring.now first count) i then None else slice_index_or parents.old i None) }
 {
     let mut child = first;
     for _ in 0..count {

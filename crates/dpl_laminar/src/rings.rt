@@ -1,18 +1,20 @@
 //! Rings of children in one permutation of all set numbers.
 
-ghost use Rattle.std.specs.Prelude.{◌≡◌, ◌≢◌, ℕ, ◌+◌, ◌*◌, ◌%◌, ◌<◌, ◌≤◌, true, false, length, slice_index};
+ghost use Rattle.std.specs.Prelude.{◌≡◌, ℕ, ◌+◌, ◌%◌, ◌<◌, true, false, length, slice_index};
 ghost use Rattle.dpl_laminar.specs.Families.{has};
-ghost use Rattle.dpl_laminar.specs.Storing.{walk, IsCircle};
+ghost use Rattle.dpl_laminar.specs.Storing.{circle_of, IsCircle, AreBelow, AreOnce};
 
 use dpl_ring::Ring;
 
 /// Puts numbers that stand alone into one ring, in their order.
 pub fn tie(ring: &mut Ring, children: &[u32])
-    requires below { (i : ℕ) → i < length children.now → slice_index children.now i < length ring.old }
-    requires alone { (i : ℕ) → i < length children.now → slice_index ring.old (slice_index children.now i) ≡ slice_index children.now i }
-    requires distinct { (i j : ℕ) → i < j → j < length children.now → slice_index children.now i ≢ slice_index children.now j }
+    requires below { AreBelow children.now (length ring.old) }
+    requires alone { (i : ℕ) → i < length children.now →
+        slice_index ring.old (slice_index children.now i) ≡ slice_index children.now i }
+    requires distinct { AreOnce children.now }
     ensures length { length ring.new ≡ length ring.old }
-    ensures circle { (i : ℕ) → i < length children.now → slice_index ring.new (slice_index children.now i) ≡ slice_index children.now ((i + 1) % length children.now) }
+    ensures circle { (i : ℕ) → i < length children.now →
+        slice_index ring.new (slice_index children.now i) ≡ slice_index children.now ((i + 1) % length children.now) }
     ensures others { (c : ℕ) → has children.now c ≡ false → slice_index ring.new c ≡ slice_index ring.old c }
 {
     for i in 1..children.len() {
@@ -25,8 +27,9 @@ pub fn untie(ring: &mut Ring, first: u32, count: usize)
     requires some { 0 < count }
     requires circle { IsCircle ring.old first count }
     ensures length { length ring.new ≡ length ring.old }
-    ensures alone { (c : ℕ) → has (walk (slice_index ring.old) first count) c ≡ true → slice_index ring.new c ≡ c }
-    ensures others { (c : ℕ) → has (walk (slice_index ring.old) first count) c ≡ false → slice_index ring.new c ≡ slice_index ring.old c }
+    ensures alone { (c : ℕ) → has (circle_of ring.old first count) c ≡ true → slice_index ring.new c ≡ c }
+    ensures others { (c : ℕ) → has (circle_of ring.old first count) c ≡ false →
+        slice_index ring.new c ≡ slice_index ring.old c }
 {
     for _ in 1..count {
         let next = ring.next(first);

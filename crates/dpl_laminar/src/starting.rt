@@ -1,6 +1,7 @@
 //! What a family of single members is made of.
 
 ghost use Rattle.std.specs.Prelude.{◌≡◌, ℕ, ◌*◌, ◌<◌, ◌≤◌, ◌==◌, nat_lt, false, [], length, slice_index, slice_index_or, replicate, IfOk};
+ghost use Rattle.dpl_laminar.specs.Storing.{row_holds};
 
 use super::members::Members;
 use std::alloc::{AllocError, Global};
@@ -33,7 +34,8 @@ pub fn ascending(alloc: Global, count: usize) -> Result<Vec<u32>, AllocError>
 pub fn first_half(alloc: Global, count: usize) -> Result<Vec<bool>, AllocError>
     requires { count ≤ 2048 }
     ensures length { IfOk result (λ list. length list.items ≡ 2 * count) }
-    ensures each { IfOk result (λ list. (k : ℕ) → k < 2 * count → slice_index_or list.items k false ≡ nat_lt k count) }
+    ensures each { IfOk result (λ list. (k : ℕ) → k < 2 * count →
+        slice_index_or list.items k false ≡ nat_lt k count) }
 {
     let mut list = Vec::new(alloc);
     for i in 0..2 * count {
@@ -46,7 +48,7 @@ pub fn first_half(alloc: Global, count: usize) -> Result<Vec<bool>, AllocError>
 pub fn single_rows(alloc: Global, size: usize) -> Result<Vec<Members>, AllocError>
     requires { size ≤ 2048 }
     ensures length { IfOk result (λ rows. length rows.items ≡ 2 * size) }
-    ensures singles { IfOk result (λ rows. (i m : ℕ) → i < size → m < size → slice_index_or (slice_index_or rows.items i []) m false ≡ (i == m)) }
+    ensures singles { IfOk result (λ rows. (i m : ℕ) → i < size → m < size → row_holds rows.items i m ≡ (i == m)) }
     ensures others { IfOk result (λ rows. (i : ℕ) → size ≤ i → slice_index_or rows.items i [] ≡ []) }
 {
     let mut rows = Vec::new(alloc);
@@ -58,7 +60,8 @@ pub fn single_rows(alloc: Global, size: usize) -> Result<Vec<Members>, AllocErro
 
 /// What the set with this number holds at first.
 fn first_row(alloc: Global, set: usize, size: usize) -> Result<Members, AllocError>
-    ensures single { IfOk result (λ row. set < size → (m : ℕ) → m < size → slice_index_or row m false ≡ (set == m)) }
+    ensures single { IfOk result (λ row. set < size →
+        (m : ℕ) → m < size → slice_index_or row m false ≡ (set == m)) }
     ensures none { IfOk result (λ row. size ≤ set → row ≡ []) }
 {
     if set < size {

@@ -1,6 +1,7 @@
 use Rattle.std.proofs.Common.{arith, ◌≡◌, ℕ, ◌<◌, Bool, ap, sym, ◌∙◌, refl, cond, get_or, length, false, []}
 use Rattle.std.proofs.lemmas.List.{get_or_read}
-use Rattle.dpl_laminar.proofs.Walks.{length_ring, ring_at, ring_next, ring_whole, ring_of}
+use Rattle.dpl_laminar.specs.Storing.{circle_of}
+use Rattle.dpl_laminar.proofs.Walks.{length_ring, ring_at, ring_next, ring_whole}
 use Rattle.dpl_laminar.proofs.Lifting.{lifted_none, lifted_more}
 use Rattle.dpl_laminar.proofs.releasing.lift_all.Goals as goal
 
@@ -15,7 +16,7 @@ next-child-requires c = omega (arith, ring_at _ _ _ _ c.loop.child c.loop-test.t
 
 pub loop-preserved : goal.loop-preserved
 loop-preserved c =
-    let cs = ring_of c.args.ring.now c.args.first c.args.count in
+    let cs = circle_of c.args.ring.now c.args.first c.args.count in
     let table : ℕ → ℕ → Bool = λ i m. get_or (get_or c.args.rows.now i []) m false in
     let here : get_or cs c.loop.counter 0 ≡ c.loop.child = ring_at _ _ _ _ c.loop.child c.loop-test.true c.loop.invariant.at in
     let short : c.loop.child < length c.args.rows.now = omega (arith, here, c.requires.below c.loop.counter c.loop-test.true) in

@@ -1,5 +1,6 @@
 use Rattle.std.proofs.Common.{arith, ◌≡◌, get_or}
-use Rattle.dpl_laminar.proofs.Walks.{length_ring, ring_at, ring_next, ring_whole, ring_of}
+use Rattle.dpl_laminar.specs.Storing.{circle_of}
+use Rattle.dpl_laminar.proofs.Walks.{length_ring, ring_at, ring_next, ring_whole}
 use Rattle.dpl_laminar.proofs.Lifting.{orphaned_more}
 use Rattle.dpl_laminar.proofs.releasing.orphan.Goals as goal
 
@@ -11,7 +12,7 @@ next-child-requires c = omega (arith, ring_at _ _ _ _ c.loop.child c.loop-test.t
 
 pub loop-preserved : goal.loop-preserved
 loop-preserved c =
-    let cs = ring_of c.args.ring.now c.args.first c.args.count in
+    let cs = circle_of c.args.ring.now c.args.first c.args.count in
     let here : get_or cs c.loop.counter 0 ≡ c.loop.child = ring_at _ _ _ _ c.loop.child c.loop-test.true c.loop.invariant.at in
     record {
       at = ring_next c.args.ring.now c.args.first c.loop.counter c.loop.child c.next-child.result c.loop.invariant.at c.next-child.ensures.value;

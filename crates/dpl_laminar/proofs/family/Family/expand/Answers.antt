@@ -22,7 +22,7 @@ lift_all-requires-clause-apart g c =
     let below = live_below _ c.args.set c.self.invariant live in
     let first = get_or_read c.self.inside.firsts.items c.args.set _ (let z : c.args.set < length c.self.inside.firsts.items = omega (arith, below, c.self.invariant.firsts_length) in z) c.index-first.ensures 0 in
     let count = get_or_read c.self.inside.counts.items c.args.set _ (let z : c.args.set < length c.self.inside.counts.items = omega (arith, below, c.self.invariant.counts_length) in z) c.index-count.ensures 0 in
-    rw (first, count) (λ a b m h ka kb ta tb. c.self.invariant.family.laminar.apart c.args.set a b m below (omega (arith, h, c.deref_mut.ensures.len, c.self.invariant.tops_length)) ka kb (rw c.deref.ensures.value at ta) (rw c.deref.ensures.value at tb))
+    rw (first, count) (λ a b m h ka kb ta tb. c.self.invariant.family.laminar.children.apart c.args.set a b m below (omega (arith, h, c.deref_mut.ensures.len, c.self.invariant.tops_length)) ka kb (rw c.deref.ensures.value at ta) (rw c.deref.ensures.value at tb))
 
 pub orphan-requires-clause-below : goal.orphan-requires-clause-below
 orphan-requires-clause-below g c =
