@@ -24,7 +24,7 @@ not_form (Ok parts) P at p e = absurd (cc)
 not_form (Err k) P at p e = p
 
 -- there is one first pair
-one_first : (boxes : List Corners) (i j k l : ℕ) → IsFirstTouch boxes i j → IsFirstTouch boxes k l → (k ≡ i) × (l ≡ j)
+pub one_first : (boxes : List Corners) (i j k l : ℕ) → IsFirstTouch boxes i j → IsFirstTouch boxes k l → (k ≡ i) × (l ≡ j)
 one_first boxes i j k l p q =
     elim (p.first k l q.touch) [
       | inl h ↦ elim (q.first i j p.touch) [ inl g ↦ absurd (omega arith) | inr (e, g) ↦ absurd (omega (arith, e)) ]

@@ -8,3 +8,4 @@ pub mod CornerLemmas
 pub mod NumberLemmas
 pub mod EvenLemmas
 pub mod ReadingLemmas
+pub mod AnswerLemmas

@@ -1,14 +1,16 @@
--- What the program answers.
-use Rattle.std.specs.Prelude.{◌≡◌, ◌⊎◌, ℕ, ◌+◌, ◌<◌, ◌≤◌, List, length, Option, None, Some, Err, Result}
+-- What the program answers, in the order in which its answers are tried.
+use Rattle.std.specs.Prelude.{◌≡◌, ◌⊎◌, ℕ, ◌<◌, nat_lt, Bool, MatchBool, List, [], length, Option, None, Some, Ok, Err, Result}
 use Rattle.std.specs.Io.KnownBytes.{Appends, Keeps}
 use Rattle.dpl_ext.specs.Device.{AppendsFront}
+use Rattle.dpl_cell.specs.Places.{Corners}
 use Rattle.dpl_cell.specs.Outlines.{Outline}
 use Rattle.dpl_cif.specs.Boxes.{boxes_of}
 use Rattle.dpl_core.specs.declared.words.Asked.{Asked}
 use Rattle.dpl_core.specs.declared.status.Status.{Status}
 use Rattle.dpl_core.specs.declared.status.Status.TheVariants.{Done, Usage, Limit, Form, Touching, Odd, ReadFault, WriteFault, NoMemory}
-use Rattle.dpl_core.specs.Boxes.{IsFirstTouch}
-use Rattle.dpl_core.specs.Even.{OnBoxes, IsSplit, IsOddAround}
+use Rattle.dpl_core.specs.Order.{in_order}
+use Rattle.dpl_core.specs.Boxes.{boxes_among, IsFirstTouch}
+use Rattle.dpl_core.specs.Even.{IsSplit, IsOddAround}
 use Rattle.dpl_core.specs.Lines.{odd_line}
 use Rattle.dpl_core.specs.Words.{words_of}
 
@@ -16,37 +18,83 @@ use Rattle.dpl_core.specs.Words.{words_of}
 abbrev pub most_bytes : ℕ
 most_bytes = 16384
 
--- the words ask for a split
-pub record Asks (words : List (List ℕ)) (P : Asked → Type 0) : Type 0 where
-  pub asked : Asked
-  pub words_are : words_of words ≡ Some asked
-  pub holds : P asked
-
--- the words ask for a split of a layout that is not too long, and what is read of it has the property
-abbrev pub Reads : List (List ℕ) → List ℕ → (Asked → Result (List Outline) ℕ → Type 0) → Type 0
-Reads words text P = Asks words (λ asked. (length text ≤ most_bytes) × P asked (boxes_of asked.layer text))
-
--- the output is the text of two masks
-abbrev pub IsMasks : List (List ℕ) → List ℕ → List ℕ → Type 0
-IsMasks words text output = Reads words text (λ asked read. OnBoxes read (λ boxes. IsSplit asked.layer asked.space boxes output))
-
--- the output is the line that tells an odd loop
-pub record IsOddOutput (words : List (List ℕ)) (text output : List ℕ) : Type 0 where
+-- the output is the line that tells an odd loop of boxes
+pub record IsOddOutput (space : ℕ) (boxes : List Corners) (output : List ℕ) : Type 0 where
   pub around : List ℕ
-  pub odd : Reads words text (λ asked read. OnBoxes read (IsOddAround asked.space around))
+  pub odd : IsOddAround space around boxes
   pub line : output ≡ odd_line around
 
--- each status by its cause and by what was written; a failed read and want of memory say nothing here
+-- what is due for boxes in their order: two that touch, an odd loop, or the text of two masks
+abbrev pub IsDueOfBoxes : Asked → List Corners → Status → List ℕ → Type 0
+IsDueOfBoxes asked boxes (Touching i j) output = IsFirstTouch boxes i j × (output ≡ [])
+IsDueOfBoxes asked boxes Odd output = IsOddOutput asked.space boxes output
+IsDueOfBoxes asked boxes Done output = IsSplit asked.layer asked.space boxes output
+IsDueOfBoxes asked boxes (Usage kind) output = ⊥
+IsDueOfBoxes asked boxes (Limit kind count) output = ⊥
+IsDueOfBoxes asked boxes (Form at) output = ⊥
+IsDueOfBoxes asked boxes ReadFault output = ⊥
+IsDueOfBoxes asked boxes WriteFault output = ⊥
+IsDueOfBoxes asked boxes NoMemory output = ⊥
+
+-- what is due for what is read of a text: a command of another form comes first
+abbrev pub IsDueOfRead : Asked → Result (List Outline) ℕ → Status → List ℕ → Type 0
+IsDueOfRead asked (Err at) status output = (status ≡ Form at) × (output ≡ [])
+IsDueOfRead asked (Ok parts) status output = IsDueOfBoxes asked (in_order (boxes_among parts)) status output
+
+-- what is due for a layout: too many bytes come first
+abbrev pub IsDueOfText : Asked → List ℕ → Status → List ℕ → Type 0
+IsDueOfText asked text status output =
+    MatchBool (nat_lt most_bytes (length text)) ((status ≡ Limit 1 16385) × (output ≡ [])) (IsDueOfRead asked (boxes_of asked.layer text) status output)
+
+-- what is due for words and a layout, a status and what is written: words that are no `split NAME SPACE` come first
+abbrev pub IsDueOf : Option Asked → List ℕ → Status → List ℕ → Type 0
+IsDueOf None text status output = (status ≡ Usage 1) × (output ≡ [])
+IsDueOf (Some asked) text status output = IsDueOfText asked text status output
+
+abbrev pub IsDue : List (List ℕ) → List ℕ → Status → List ℕ → Type 0
+IsDue words text status output = IsDueOf (words_of words) text status output
+
+-- the statuses before which something is written
+abbrev pub Writes : Status → Type 0
+Writes Done = Unit {0}
+Writes Odd = Unit {0}
+Writes (Usage kind) = ⊥
+Writes (Limit kind count) = ⊥
+Writes (Form at) = ⊥
+Writes (Touching i j) = ⊥
+Writes ReadFault = ⊥
+Writes WriteFault = ⊥
+Writes NoMemory = ⊥
+
+-- the status is due, and its output was written
+pub record IsWritten (words : List (List ℕ)) (text : List ℕ) (before now : Option (List ℕ)) (status : Status) : Type 0 where
+  pub output : List ℕ
+  pub due : IsDue words text status output
+  pub taken : Appends before now output
+
+-- a front of an output was written whose status would be due
+pub record IsCut (words : List (List ℕ)) (text : List ℕ) (before now : Option (List ℕ)) : Type 0 where
+  pub status : Status
+  pub output : List ℕ
+  pub writes : Writes status
+  pub due : IsDue words text status output
+  pub taken : AppendsFront before now output
+
+-- what a run answers and writes; a failed read and want of memory may take the place of any answer
 abbrev pub Answers : List (List ℕ) → List ℕ → Option (List ℕ) → Option (List ℕ) → Status → Type 0
-Answers words text before now Done = (output : List ℕ) × IsMasks words text output × Appends before now output
-Answers words text before now Odd = (output : List ℕ) × IsOddOutput words text output × Appends before now output
-Answers words text before now WriteFault = (output : List ℕ) × (IsMasks words text output ⊎ IsOddOutput words text output) × AppendsFront before now output
+Answers words text before now Done = IsWritten words text before now Done
+Answers words text before now Odd = IsWritten words text before now Odd
+Answers words text before now (Usage kind) = IsWritten words text before now (Usage kind)
+Answers words text before now (Limit kind count) = IsWritten words text before now (Limit kind count)
+Answers words text before now (Form at) = IsWritten words text before now (Form at)
+Answers words text before now (Touching i j) = IsWritten words text before now (Touching i j)
+Answers words text before now WriteFault = IsCut words text before now
 Answers words text before now ReadFault = Unit {0}
 Answers words text before now NoMemory = Unit {0}
-Answers words text before now (Usage kind) = (kind ≡ 1) × (words_of words ≡ None)
-Answers words text before now (Limit kind count) = (kind ≡ 1) × (count ≡ most_bytes + 1) × Asks words (λ asked. most_bytes < length text)
-Answers words text before now (Form at) = Reads words text (λ asked read. read ≡ Err at)
-Answers words text before now (Touching i j) = Reads words text (λ asked read. OnBoxes read (λ boxes. IsFirstTouch boxes i j))
+
+-- the status that is due is answered, or memory ran out, or a write failed where something was to be written
+abbrev pub IsAnswered : Status → Status → Type 0
+IsAnswered due result = (result ≡ due) ⊎ (result ≡ NoMemory) ⊎ ((result ≡ WriteFault) × Writes due)
 
 -- nothing was written, but for a whole output and for a front of one
 abbrev pub IsQuiet : Option (List ℕ) → Option (List ℕ) → Status → Type 0

@@ -11,3 +11,4 @@ pub mod Even
 pub mod Reading
 pub mod Apart
 pub mod Answer
+pub mod Telling

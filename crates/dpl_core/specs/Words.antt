@@ -1,5 +1,5 @@
 -- The words of a command line.
-use Rattle.std.specs.Prelude.{ℕ, Bool, ◌&&◌, nat_le, List, [], ◌∷◌, length, Option, None, Some, if◌then◌else◌, codes}
+use Rattle.std.specs.Prelude.{ℕ, ◌≤◌, Bool, ◌&&◌, nat_le, List, [], ◌∷◌, length, Option, None, Some, if◌then◌else◌, codes}
 use Rattle.std.specs.List.{list_all}
 use Rattle.std.specs.Str.{bytes_eq}
 use Rattle.dpl_lex.specs.Classes.{is_digit, is_name_byte}
@@ -25,3 +25,9 @@ words_of (a ∷ []) = None
 words_of (a ∷ b ∷ []) = None
 words_of (command ∷ name ∷ space ∷ []) = if bytes_eq command (codes "split") && is_layer name && is_space space then Some (record { layer = name; space = digits_value 0 space }) else None
 words_of (a ∷ b ∷ c ∷ d ∷ more) = None
+
+-- what words may ask for: a name of at most 31 bytes, and a spacing from 1 to 100,000
+pub record IsAsked (asked : Asked) : Type 0 where
+  pub layer : length asked.layer ≤ 31
+  pub least : 1 ≤ asked.space
+  pub most : asked.space ≤ 100000

@@ -1,5 +1,5 @@
 // The words of a command line.
-ghost use Rattle.std.specs.Prelude.{◌≡◌, ℕ, map, string_bytes, length, nat_le, ◌&&◌, Some, None, if◌then◌else◌};
+ghost use Rattle.std.specs.Prelude.{◌≡◌, ℕ, map, string_bytes, length, nat_le, ◌&&◌, IfSome, Some, None, if◌then◌else◌};
 ghost use Rattle.std.specs.List.{list_all};
 ghost use Rattle.dpl_lex.specs.Classes.{is_digit, is_name_byte};
 ghost use Rattle.dpl_lex.specs.Number.{digits_value, of_magnitude};
@@ -17,7 +17,8 @@ pub struct Asked {
 
 /// What `split NAME SPACE` asks for, `None` where the words are not of that form.
 pub fn parse_words(words: &[String]) -> Option<Asked>
-    ensures { result ≡ spec.words_of (map string_bytes words.now) }
+    ensures asked { result ≡ spec.words_of (map string_bytes words.now) }
+    ensures ranges { IfSome result spec.IsAsked }
 {
     match words {
         [command, name, space] if command.as_str() == "split" => {

@@ -1,0 +1,127 @@
+-- What is due is one status, and what a run answers is due.
+use Rattle.std.proofs.Common.{arith, rules, ◌≡◌, ◌≢◌, ◌⊎◌, ◌∙◌, ℕ, ◌<◌, ◌≤◌, Bool, true, false, nat_lt, List, [], ◌++◌, append-nil, length, Option, Some, None, Result, Ok, Err, refl, sym, ap, inl, inr}
+use Rattle.std.specs.Prelude.{MatchBool, IfSome}
+use Rattle.std.specs.Io.KnownBytes.{Appends, Consumes, IsAtEnd}
+use Rattle.std.proofs.lemmas.Bool.Decides.{nat_tests}
+use Rattle.dpl_ext.specs.Device.{AppendsFront, Rose}
+use Rattle.dpl_cell.specs.Places.{Corners}
+use Rattle.dpl_cell.specs.Outlines.{Outline}
+use Rattle.dpl_cif.specs.Boxes.{boxes_of}
+use Rattle.dpl_core.specs.declared.words.Asked.{Asked}
+use Rattle.dpl_core.specs.declared.status.Status.{Status}
+use Rattle.dpl_core.specs.declared.status.Status.TheVariants.{Done, Usage, Limit, Form, Touching, Odd, ReadFault, WriteFault, NoMemory}
+use Rattle.dpl_core.specs.Order.{in_order}
+use Rattle.dpl_core.specs.Boxes.{boxes_among, IsFirstTouch}
+use Rattle.dpl_core.specs.Answer.{IsDueOfBoxes, IsDueOfRead, IsDueOfText, IsDueOf, IsDue, Writes, IsWritten, IsCut, Answers, IsAnswered, most_bytes}
+use Rattle.dpl_core.specs.Telling.{IsWhole, IsFault, IsTold}
+use Rattle.dpl_core.specs.Words.{words_of}
+use Rattle.dpl_core.proofs.EvenLemmas.{one_first}
+
+-- ---- one status is due
+
+one_of_boxes : (asked : Asked) (boxes : List Corners) (a b : Status) (x y : List ℕ) → IsDueOfBoxes asked boxes a x → IsDueOfBoxes asked boxes b y → a ≡ b
+one_of_boxes asked boxes (Touching i j) (Touching k l) x y (p, e) (q, f) = let (g, h) = one_first boxes i j k l p q in rw (g, h) refl
+one_of_boxes asked boxes (Touching i j) Odd x y (p, e) q = absurd (q.odd.none.0 i j p.touch)
+one_of_boxes asked boxes (Touching i j) Done x y (p, e) q = absurd (q.apart.0 i j p.touch)
+one_of_boxes asked boxes (Touching i j) b x y p q = absurd q
+one_of_boxes asked boxes Odd (Touching k l) x y p (q, f) = absurd (p.odd.none.0 k l q.touch)
+one_of_boxes asked boxes Odd Odd x y p q = refl
+one_of_boxes asked boxes Odd Done x y p q = absurd (p.odd.none.1 q.colour q.apart.1)
+one_of_boxes asked boxes Odd b x y p q = absurd q
+one_of_boxes asked boxes Done (Touching k l) x y p (q, f) = absurd (p.apart.0 k l q.touch)
+one_of_boxes asked boxes Done Odd x y p q = absurd (q.odd.none.1 p.colour p.apart.1)
+one_of_boxes asked boxes Done Done x y p q = refl
+one_of_boxes asked boxes Done b x y p q = absurd q
+one_of_boxes asked boxes a b x y p q = absurd p
+
+one_of_read : (asked : Asked) (read : Result (List Outline) ℕ) (a b : Status) (x y : List ℕ) → IsDueOfRead asked read a x → IsDueOfRead asked read b y → a ≡ b
+one_of_read asked (Err at) a b x y (p, e) (q, f) = p ∙ sym q
+one_of_read asked (Ok parts) a b x y p q = one_of_boxes asked (in_order (boxes_among parts)) a b x y p q
+
+one_of_limit : (asked : Asked) (text : List ℕ) (t : Bool) (a b : Status) (x y : List ℕ) → MatchBool t ((a ≡ Limit 1 16385) × (x ≡ [])) (IsDueOfRead asked (boxes_of asked.layer text) a x) → MatchBool t ((b ≡ Limit 1 16385) × (y ≡ [])) (IsDueOfRead asked (boxes_of asked.layer text) b y) → a ≡ b
+one_of_limit asked text true a b x y (p, e) (q, f) = p ∙ sym q
+one_of_limit asked text false a b x y p q = one_of_read asked (boxes_of asked.layer text) a b x y p q
+
+one_of_words : (asked : Option Asked) (text : List ℕ) (a b : Status) (x y : List ℕ) → IsDueOf asked text a x → IsDueOf asked text b y → a ≡ b
+one_of_words None text a b x y (p, e) (q, f) = p ∙ sym q
+one_of_words (Some asked) text a b x y p q = one_of_limit asked text (nat_lt most_bytes (length text)) a b x y p q
+
+one_due : (words : List (List ℕ)) (text : List ℕ) (a b : Status) (x y : List ℕ) → IsDue words text a x → IsDue words text b y → a ≡ b
+one_due words text a b x y p q = one_of_words (words_of words) text a b x y p q
+
+-- ---- where something is written, it is the masks or an odd loop
+
+some_of_boxes : (asked : Asked) (boxes : List Corners) (a : Status) (x : List ℕ) → IsDueOfBoxes asked boxes a x → x ≢ [] → Writes a
+some_of_boxes asked boxes Odd x p n = tt
+some_of_boxes asked boxes Done x p n = tt
+some_of_boxes asked boxes (Touching i j) x (p, e) n = absurd (n e)
+some_of_boxes asked boxes a x p n = absurd p
+
+some_of_read : (asked : Asked) (read : Result (List Outline) ℕ) (a : Status) (x : List ℕ) → IsDueOfRead asked read a x → x ≢ [] → Writes a
+some_of_read asked (Err at) a x (p, e) n = absurd (n e)
+some_of_read asked (Ok parts) a x p n = some_of_boxes asked (in_order (boxes_among parts)) a x p n
+
+-- ---- what is answered is due
+
+due_read : (words : List (List ℕ)) (asked : Asked) (text : List ℕ) (a : Status) (x : List ℕ) → words_of words ≡ Some asked → length text ≤ 16384 → IsDueOfRead asked (boxes_of asked.layer text) a x → IsDue words text a x
+due_read words asked text a x e short p =
+    let t : nat_lt most_bytes (length text) ≡ false = grind (arith, nat_tests) in
+    rw (e, t) p
+
+due_not : (asked : Asked) (read : Result (List Outline) ℕ) (x : List ℕ) → IsDueOfRead asked read WriteFault x → ⊥
+due_not asked (Err at) x (p, e) = cc
+due_not asked (Ok parts) x p = p
+
+whole_answers : (words : List (List ℕ)) (text : List ℕ) (before now : Option (List ℕ)) (a : Status) (x : List ℕ) → IsDue words text a x → (a ≢ WriteFault) → Appends before now x → Answers words text before now a
+whole_answers words text before now WriteFault x p n t = absurd (n refl)
+whole_answers words text before now ReadFault x p n t = tt
+whole_answers words text before now NoMemory x p n t = tt
+whole_answers words text before now Done x p n t = record { output = x; due = p; taken = t }
+whole_answers words text before now Odd x p n t = record { output = x; due = p; taken = t }
+whole_answers words text before now (Usage kind) x p n t = record { output = x; due = p; taken = t }
+whole_answers words text before now (Limit kind count) x p n t = record { output = x; due = p; taken = t }
+whole_answers words text before now (Form at) x p n t = record { output = x; due = p; taken = t }
+whole_answers words text before now (Touching i j) x p n t = record { output = x; due = p; taken = t }
+
+told_answers : (words : List (List ℕ)) (asked : Asked) (text : List ℕ) (before now : Option (List ℕ)) (f g : ℕ) (a : Status) (x : List ℕ) (result : Status) → words_of words ≡ Some asked → length text ≤ 16384 → IsDueOfRead asked (boxes_of asked.layer text) a x → IsTold a x before now f g result → Answers words text before now result
+told_answers words asked text before now f g a x result e short p (inl w) =
+    rw w.status_is (whole_answers words text before now a x (due_read words asked text a x e short p) (λ h. due_not asked (boxes_of asked.layer text) x (rw h at p)) w.taken)
+told_answers words asked text before now f g a x result e short p (inr w) =
+    rw w.fault (record { status = a; output = x; writes = some_of_read asked (boxes_of asked.layer text) a x p w.some; due = due_read words asked text a x e short p; taken = w.taken })
+
+-- all that was left was read, so what was read is the layout
+pub answers_read : (words : List (List ℕ)) (asked : Asked) (left rest : Option (List ℕ)) (text : List ℕ) (before now : Option (List ℕ)) (f g : ℕ) (a : Status) (x : List ℕ) (result : Status) → Consumes left rest text → IsAtEnd rest → words_of words ≡ Some asked → length text ≤ 16384 → IsDueOfRead asked (boxes_of asked.layer text) a x → IsTold a x before now f g result
+    → IfSome left (λ layout. Answers words layout before now result)
+answers_read words asked None rest text before now f g a x result c end e short p t = tt
+answers_read words asked (Some layout) None text before now f g a x result c end e short p t = absurd c
+answers_read words asked (Some layout) (Some rest) text before now f g a x result c end e short p t =
+    let same : layout ≡ text = rw (end, append-nil) at c in
+    rw same (told_answers words asked text before now f g a x result e short p t)
+
+-- ---- what is due is answered
+
+comes : (words : List (List ℕ)) (text : List ℕ) (before now : Option (List ℕ)) (due result : Status) (x : List ℕ) → Answers words text before now result → IsDue words text due x → result ≢ ReadFault → IsAnswered due result
+comes words text before now due ReadFault x w p n = absurd (n refl)
+comes words text before now due NoMemory x w p n = inr (inl refl)
+comes words text before now due WriteFault x w p n = inr (inr (refl, rw (one_due words text due w.status x w.output p w.due) w.writes))
+comes words text before now due Done x w p n = inl (one_due words text _ due w.output x w.due p)
+comes words text before now due Odd x w p n = inl (one_due words text _ due w.output x w.due p)
+comes words text before now due (Usage kind) x w p n = inl (one_due words text _ due w.output x w.due p)
+comes words text before now due (Limit kind count) x w p n = inl (one_due words text _ due w.output x w.due p)
+comes words text before now due (Form at) x w p n = inl (one_due words text _ due w.output x w.due p)
+comes words text before now due (Touching i j) x w p n = inl (one_due words text _ due w.output x w.due p)
+
+pub all_comes : (words : List (List ℕ)) (left before now : Option (List ℕ)) (rose : Type 0) (result : Status) → IfSome left (λ text. Answers words text before now result) → (result ≡ ReadFault → rose)
+    → IfSome left (λ text. (due : Status) (output : List ℕ) → IsDue words text due output → ¬ rose → IsAnswered due result)
+all_comes words None before now rose result w r = tt
+all_comes words (Some text) before now rose result w r = λ due output p n. comes words text before now due result output w p (λ e. n (r e))
+
+done : (result : Status) (rose : Type 0) → IsAnswered Done result → (result ≡ WriteFault → rose) → ¬ rose → (result ≡ Done) ⊎ (result ≡ NoMemory)
+done result rose (inl e) w n = inl e
+done result rose (inr (inl e)) w n = inr e
+done result rose (inr (inr (e, writes))) w n = absurd (n (w e))
+
+pub all_complete : (words : List (List ℕ)) (left before now : Option (List ℕ)) (rose rose' : Type 0) (result : Status) → IfSome left (λ text. Answers words text before now result) → (result ≡ ReadFault → rose) → (result ≡ WriteFault → rose')
+    → IfSome left (λ text. (output : List ℕ) → IsDue words text Done output → ¬ rose → ¬ rose' → (result ≡ Done) ⊎ (result ≡ NoMemory))
+all_complete words None before now rose rose' result w r r' = tt
+all_complete words (Some text) before now rose rose' result w r r' = λ output p n n'. done result rose' (comes words text before now Done result output w p (λ e. n (r e))) r' n'
