@@ -1,0 +1,35 @@
+// Splits a layout on standard input onto two masks, which it writes to standard output.
+#![tactic(auto)]
+
+use dpl_core::{Status, run};
+use dpl_ext::{ReadSource, WriteSink};
+use std::env;
+use std::io::ErrorKind;
+use std::process::ExitCode;
+
+fn main(rt: HostRuntime) -> ExitCode {
+    let mut words = Vec::new(rt.alloc());
+    match env::args(&rt) {
+        Ok(given) => {
+            for word in given.skip(1) {
+                if words.push(word).is_err() {
+                    return ExitCode::from(Status::NoMemory.code());
+                }
+            }
+        }
+        // A word that is not UTF-8 is a wrong word, and no words at all are wrong words too.
+        Err(error) if error.kind() == ErrorKind::InvalidData => {}
+        Err(_) => return ExitCode::from(Status::NoMemory.code()),
+    }
+    let mut layout = ReadSource::new(rt.stdin());
+    let mut out = WriteSink::new(rt.stdout());
+    let mut err = WriteSink::new(rt.stderr());
+    let status = run(
+        rt.alloc(),
+        words.as_slice(),
+        &mut layout,
+        &mut out,
+        &mut err,
+    );
+    ExitCode::from(status.code())
+}
