@@ -10,3 +10,9 @@ pub mod AddedLabels
 pub mod AmongLemmas
 pub mod NameLemmas
 pub mod Constant
+pub mod Turns
+pub mod TurnLemmas
+pub mod Ranks
+pub mod MemberLemmas
+pub mod Fixed
+pub mod NameCounts

@@ -9,10 +9,10 @@ join_hit names a b v h = rw (eq-eqb (names v) (names b) h, join)
 pub join_miss : (names : ℕ → ℕ) (a b v : ℕ) → names v ≢ names b → join names a b v ≡ names v
 join_miss names a b v h = rw (ne_eqb (names v) (names b) h, join)
 
-count_in : (names : ℕ → ℕ) (n : ℕ) → names n ≡ n → name_count names (suc n) ≡ suc (name_count names n)
+pub count_in : (names : ℕ → ℕ) (n : ℕ) → names n ≡ n → name_count names (suc n) ≡ suc (name_count names n)
 count_in names n h = rw (eq-eqb (names n) n h, name_count)
 
-count_out : (names : ℕ → ℕ) (n : ℕ) → names n ≢ n → name_count names (suc n) ≡ name_count names n
+pub count_out : (names : ℕ → ℕ) (n : ℕ) → names n ≢ n → name_count names (suc n) ≡ name_count names n
 count_out names n h = rw (ne_eqb (names n) n h, name_count)
 
 -- names that differ at no number's naming itself

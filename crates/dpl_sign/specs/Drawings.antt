@@ -81,3 +81,7 @@ face_count net set = cycles_among (next_in_face net set) (members (λ d. set (d 
 -- the face of a dart, named by its least dart
 abbrev pub face_of : Net → (ℕ → Bool) → ℕ → ℕ
 face_of net set d = least (next_in_face net set) (dart_count net) d
+
+-- the face at the corner where a dart leaves its node: that of the next dart of the set there
+abbrev pub corner_face : Net → (ℕ → Bool) → ℕ → ℕ
+corner_face net set d = face_of net set (next_around net set d)

@@ -1,9 +1,10 @@
 -- How far a drawing is from plane, by Euler's formula, and which edges are set aside for it. With V nodes, E edges,
 -- F faces and C components a plane drawing has V - E + F = 2C.
-use Rattle.std.specs.Prelude.{ℕ, ◌+◌, ◌-◌, ◌*◌, zero, suc, nat_lt, Bool, true, not, List, [], ◌∷◌, ◌++◌, length}
+use Rattle.std.specs.Prelude.{◌≡◌, ℕ, ◌+◌, ◌-◌, ◌*◌, ◌==◌, ◌||◌, zero, suc, nat_lt, Bool, true, not, List, [], ◌∷◌, ◌++◌, length}
 use Rattle.dpl_sign.specs.declared.nets.Net.{Net}
-use Rattle.dpl_sign.specs.Drawings.{is_in, face_count}
-use Rattle.dpl_sign.specs.Components.{component_count}
+use Rattle.dpl_sign.specs.Walks.{edge_at}
+use Rattle.dpl_sign.specs.Drawings.{is_in, face_count, corner_face}
+use Rattle.dpl_sign.specs.Components.{component_of, component_count}
 use Rattle.dpl_cycle.specs.Sums.{count_on}
 
 abbrev pub edge_count : Net → (ℕ → Bool) → ℕ
@@ -12,6 +13,18 @@ edge_count net set = count_on set (length net.graph.edges)
 -- 2C - (V - E + F), which is never negative
 abbrev pub excess : Net → (ℕ → Bool) → ℕ
 excess net set = (2 * component_count net.graph set + edge_count net set) - (net.graph.nodes + face_count net set)
+
+-- a set with one edge more
+abbrev pub with_edge : (ℕ → Bool) → ℕ → ℕ → Bool
+with_edge set e x = (x == e) || set x
+
+-- edges of the set join the two ends of an edge
+abbrev pub AreEndsJoined : Net → (ℕ → Bool) → ℕ → Type 0
+AreEndsJoined net set e = component_of net.graph set (edge_at net.graph e).a ≡ component_of net.graph set (edge_at net.graph e).b
+
+-- the two corners at which an edge leaves its ends are on one face
+abbrev pub LiesInFace : Net → (ℕ → Bool) → ℕ → Type 0
+LiesInFace net set e = corner_face net set (2 * e) ≡ corner_face net set (2 * e + 1)
 
 -- the whole drawing
 abbrev pub all_edges : ℕ → Bool

@@ -1,9 +1,13 @@
-ghost use Rattle.std.specs.Prelude.{◌≢◌, ◌≤◌, ◌*◌, ◌⊎◌};
+ghost use Rattle.std.specs.Prelude.{◌≡◌, ◌≢◌, ℕ, ◌+◌, ◌*◌, ◌%◌, ◌<◌, ◌≤◌, ◌⊎◌, ◌↔◌, true, false, length};
+ghost use Rattle.dpl_sign.specs.Drawings.{is_in, face_count};
+ghost use Rattle.dpl_sign.specs.Components.{component_count};
+ghost use Rattle.dpl_sign.specs.Excess.{edge_count, excess, with_edge, kept_edges, raises_excess, AreEndsJoined, LiesInFace};
 ghost use Rattle.dpl_sign.specs.PortOrder.{StandsBefore};
 ghost use Rattle.dpl_sign.specs.Colourings.{cost_of, IsColouring};
 ghost use Rattle.dpl_sign.specs.Packings.{IsPacking, bound_of};
 
 use crate::graphs::Signed;
+use crate::nets::Net;
 use crate::ports::Port;
 use crate::walks::Cycle;
 
@@ -19,4 +23,38 @@ pub fn packing_bounds(graph: &Signed, cycles: &[Cycle], colours: &[bool])
     requires packing { IsPacking graph.now cycles.now }
     requires colouring { IsColouring graph.now colours.now }
     ensures { bound_of cycles.now ≤ 2 * cost_of graph.now colours.now }
+{}
+
+/// The excess is even and never negative: it is what Euler's formula lacks.
+pub fn excess_is_even(net: &Net, set: &[bool])
+    ensures even { excess net.now (is_in set.now) % 2 ≡ 0 }
+    ensures euler { net.now.graph.nodes + face_count net.now (is_in set.now) + excess net.now (is_in set.now) ≡
+        2 * component_count net.now.graph (is_in set.now) + edge_count net.now (is_in set.now) }
+{}
+
+/// An edge more never lowers the excess. It stays where the edge joins two components, also where
+/// one of its ends or both were bare, and where it splits a face. It rises by 2 where the edge
+/// leads from one face of a component to another.
+pub fn edges_never_lower_the_excess(net: &Net, set: &[bool], edge: u32)
+    requires edge { edge < length net.now.graph.edges }
+    requires new { is_in set.now edge ≡ false }
+    ensures joins { ¬ AreEndsJoined net.now (is_in set.now) edge → excess net.now (with_edge (is_in set.now) edge) ≡ excess net.now (is_in set.now) }
+    ensures splits { AreEndsJoined net.now (is_in set.now) edge → LiesInFace net.now (is_in set.now) edge →
+        excess net.now (with_edge (is_in set.now) edge) ≡ excess net.now (is_in set.now) }
+    ensures crosses { AreEndsJoined net.now (is_in set.now) edge → (¬ LiesInFace net.now (is_in set.now) edge) →
+        excess net.now (with_edge (is_in set.now) edge) ≡ excess net.now (is_in set.now) + 2 }
+{}
+
+/// The next edge is set aside exactly where it leads from one face of a component to another.
+pub fn edges_aside_cross(net: &Net, kept: &[bool])
+    requires { length kept.now < length net.now.graph.edges }
+    ensures joined { raises_excess net.now kept.now ≡ true → AreEndsJoined net.now (is_in kept.now) (length kept.now) }
+    ensures faces { raises_excess net.now kept.now ≡ true → ¬ LiesInFace net.now (is_in kept.now) (length kept.now) }
+    ensures only { AreEndsJoined net.now (is_in kept.now) (length kept.now) → (¬ LiesInFace net.now (is_in kept.now) (length kept.now)) →
+        raises_excess net.now kept.now ≡ true }
+{}
+
+/// The kept edges are drawn plane.
+pub fn kept_edges_are_plane(net: &Net)
+    ensures { excess net.now (is_in (kept_edges net.now)) ≡ 0 }
 {}

@@ -16,7 +16,10 @@ mod walks;
 pub use costs::{broken, cost};
 pub use edges::{Edge, Kind};
 pub use graphs::Signed;
-pub use laws::{packing_bounds, ports_are_in_order};
+pub use laws::{
+    edges_aside_cross, edges_never_lower_the_excess, excess_is_even, kept_edges_are_plane,
+    packing_bounds, ports_are_in_order,
+};
 pub use nets::Net;
 pub use order::port_order;
 pub use ports::Port;
