@@ -2,7 +2,7 @@
 use Rattle.std.proofs.Common.{arith, ◌≡◌, ◌≢◌, ℕ, zero, suc, ◌+◌, ◌*◌, ◌%◌, ◌<◌, ◌≤◌, refl, sym, ap, ◌∙◌, Bool, true, false, cond, inl, inr, ltb, eqb, eq-eqb}
 use Rattle.std.proofs.lemmas.Bool.{cases_eq, cases_lt, cases_Bool, cond-true, cond-false, lt-ltb, le-ltb, ne_eqb}
 use Rattle.dpl_laminar.specs.Loads.{sum_below, differ, load_in, size_of}
-use Rattle.dpl_laminar.specs.Pairings.{IsPairing, pairs_sum, ValuesBoundPairings}
+use Rattle.dpl_laminar.specs.Pairings.{IsPairing, pairs_sum, ValuesBoundPairings, FamiliesBoundPairings}
 use Rattle.dpl_laminar.proofs.Sums.{sum_same, sum_most, sum_zero, sum_added, sum_times, sum_at, sum_turned, sum_parity}
 
 -- how many pairs have exactly one member in the set
@@ -103,3 +103,9 @@ values_bound n k value holds distanceance mate odd within p =
       | inr o ↦ at_least_once (leaving n mate (holds i)) (value i) (omega (arith, leaving_parity n mate p (holds i)))
     ]) in
     omega (arith, less, loads_of_pairs n k value holds mate, pairs_most n mate (load_in k value holds) distanceance p within)
+
+pub families_bound : FamiliesBoundPairings
+families_bound f distance mate p within pairing = values_bound f.size (2 * f.size) f.value f.holds distance mate (λ i h. elim (cases_Bool (f.live i)) [
+  | inl live ↦ inr (p.laminar.sets.odd i h live)
+  | inr dead ↦ inl (p.value_dead i dead)
+]) within pairing

@@ -144,6 +144,13 @@ raised_kept s i v p live small =
 
 -- ---- the next child around
 
+-- a child stands at a place of the lists
+pub child_below : (s : Stored) (i : ℕ) → IsKept s → get_or s.parents i None ≢ None → i < 2 * s.size
+child_below s i p inner = elim (cases_lt i (length s.parents)) [
+  | inl lt ↦ omega (arith, lt, p.parents_length)
+  | inr past ↦ absurd (inner (get_or_past s.parents i None past))
+]
+
 pub next_is : (s : Stored) (child next : ℕ) (pair : ℕ × ℕ) → IsKept s → get_or s.parents child None ≢ None → next ≡ get_or s.ring child 0 → pair ≡ get_or s.joins child (0, 0) → IsNext (sets_of s) child next pair
 next_is s child next pair p inner en ep = record {
   next = λ d i e hi k. en ∙ ap (λ z. get_or s.ring z 0) (sym k) ∙ p.family.around d i hi;

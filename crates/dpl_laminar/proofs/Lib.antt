@@ -4,6 +4,7 @@ mod Gathered
 mod Keeping
 mod Lifting
 mod Numbers
+mod Reached
 mod Released
 mod Shrinking
 mod Singles

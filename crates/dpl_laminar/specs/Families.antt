@@ -1,8 +1,8 @@
 -- Families of nested odd sets with values: laminar families with the structure of blossoms, after Edmonds 1965, "Paths,
 -- trees, and flowers".
-use Rattle.std.specs.Prelude.{◌≡◌, ◌≢◌, ℕ, ◌+◌, ◌*◌, ◌%◌, ◌<◌, ◌≤◌, ◌==◌, ◌^◌, ◌++◌, zero, suc, Bool, true, false, if◌then◌else◌, Option, Some, None, List, [], ◌∷◌, length, slice_index}
+use Rattle.std.specs.Prelude.{◌≡◌, ◌≢◌, ℕ, ◌+◌, ◌*◌, ◌%◌, ◌<◌, ◌≤◌, ◌==◌, ◌^◌, ◌++◌, zero, suc, Bool, true, false, if◌then◌else◌, Option, Some, None, option_and_then, List, [], ◌∷◌, length, slice_index}
 use Rattle.std.specs.List.{list_any}
-use Rattle.dpl_laminar.specs.Loads.{size_of, load_in}
+use Rattle.dpl_laminar.specs.Loads.{sum_below, size_of, load_in}
 
 -- A family over the members below its size. Its sets have numbers below twice the size, and the numbers below the size
 -- are those of the single members. What stands at a number without a set means nothing.
@@ -106,3 +106,16 @@ pub record IsFamily (f : Sets) : Type 0 where
   pub tied : (c p : ℕ) → f.parent c ≡ Some p → IsTie f c (f.after c) (f.join c)
   pub value_small : (i : ℕ) → f.value i ≤ 2 ^ 50
   pub value_dead : (i : ℕ) → f.live i ≡ false → f.value i ≡ 0
+
+-- the sum of all values
+abbrev pub total_of : Sets → ℕ
+total_of f = sum_below (2 * f.size) f.value
+
+-- where so many parents lead to from the single member m
+abbrev pub climb : Sets → ℕ → ℕ → Option ℕ
+climb f m zero = Some m
+climb f m (suc count) = option_and_then f.parent (climb f m count)
+
+-- each set is reached by parents from each of its members, in fewer steps than it has members
+abbrev pub AreReached : Sets → Type 0
+AreReached f = (i m : ℕ) → i < 2 * f.size → m < f.size → f.live i ≡ true → f.holds i m ≡ true → (count : ℕ) × (count < size_of f.size (f.holds i)) × (climb f m count ≡ Some i)

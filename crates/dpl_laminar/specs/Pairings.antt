@@ -1,6 +1,7 @@
 -- Perfect pairings of members and the law of weak duality for odd sets: the dual of the matching problem, after
 -- Edmonds 1965, "Maximum matching and a polyhedron with 0,1-vertices".
 use Rattle.std.specs.Prelude.{◌≡◌, ◌≢◌, ℕ, ◌%◌, ◌<◌, ◌≤◌, ◌⊎◌, Bool, nat_lt, if◌then◌else◌}
+use Rattle.dpl_laminar.specs.Families.{Sets, IsFamily, load_of, total_of}
 use Rattle.dpl_laminar.specs.Loads.{sum_below, size_of, load_in}
 
 -- each of the sets below k that has a value has an odd number of the n members
@@ -25,3 +26,8 @@ pairs_sum n mate w = sum_below n (λ m. if nat_lt m (mate m) then w m (mate m) e
 abbrev pub ValuesBoundPairings : Type 0
 ValuesBoundPairings = (n k : ℕ) (value : ℕ → ℕ) (holds : ℕ → ℕ → Bool) (distance : ℕ → ℕ → ℕ) (mate : ℕ → ℕ) →
     AreOdd n k value holds → AreWithin n k value holds distance → IsPairing n mate → sum_below k value ≤ pairs_sum n mate distance
+
+-- The same of a family: where no load is more than the distance, no perfect pairing has a sum below the total.
+abbrev pub FamiliesBoundPairings : Type 0
+FamiliesBoundPairings = (f : Sets) (distance : ℕ → ℕ → ℕ) (mate : ℕ → ℕ) →
+    IsFamily f → ((s t : ℕ) → s < f.size → t < f.size → s ≢ t → load_of f s t ≤ distance s t) → IsPairing f.size mate → total_of f ≤ pairs_sum f.size mate distance

@@ -1,7 +1,7 @@
 //! A family and its calls.
 
-ghost use Rattle.std.specs.Prelude.{◌≡◌, ◌≢◌, ℕ, ◌+◌, ◌<◌, ◌≤◌, ◌^◌, OnErr, true, None, pos, ◌+ℤ◌, ◌≤ℤ◌, IfOk};
-ghost use Rattle.dpl_laminar.specs.Families.{IsFamily, load_of, members_of};
+ghost use Rattle.std.specs.Prelude.{◌≡◌, ◌≢◌, ◌↔◌, ℕ, ◌+◌, ◌<◌, ◌≤◌, ◌^◌, OnErr, true, None, pos, ◌+ℤ◌, ◌≤ℤ◌, IfOk};
+ghost use Rattle.dpl_laminar.specs.Families.{IsFamily, AreReached, load_of, members_of};
 ghost use Rattle.dpl_laminar.specs.Changes.{IsSingles, AreJoined, IsShrunk, IsExpanded, IsNext};
 ghost use Rattle.dpl_laminar.specs.Storing.{sets_of};
 
@@ -16,14 +16,18 @@ use std::sync::ledger::Ledger;
 #[derive(Drop)]
 pub struct Family {
     size: usize,
+    // By the numbers of the sets. A number without a set has an empty row.
     live: Vec<bool>,
     rows: Vec<Members>,
     values: Vec<u64>,
     parents: Vec<Option<u32>>,
+    // One child of each set, and how many there are around.
     firsts: Vec<u32>,
     counts: Vec<usize>,
+    // From each child to the next one around, with the join of the two.
     ring: Ring,
     joins: Vec<(u32, u32)>,
+    // By the members.
     tops: Vec<u32>,
 }
 
@@ -106,7 +110,7 @@ impl Family {
         ensures family { IsFamily (sets_of self.new) }
         ensures steps { steps.new ≡ steps.old + 1 }
     {
-        steps.tick();
+        steps.tick(); // A refused call counts too.
         let members = Members::under(alloc, &self.tops, children)?;
         let name = name_of(
             &self.rows,
@@ -174,10 +178,13 @@ impl Family {
         self.tops[member as usize]
     }
 
-    /// The set whose child a live set is: none exactly where it is a top.
+    /// The set whose child a live set is: none exactly where it is a top. From each member of a set parents lead to it.
     pub fn parent(&self, set: u32) -> Option<u32>
         requires { (sets_of self.now).live set ≡ true }
         ensures value { result ≡ (sets_of self.now).parent set }
+        ensures top { (m : ℕ) → m < (sets_of self.now).size → (sets_of self.now).holds set m ≡ true →
+            ((result ≡ None) ↔ ((sets_of self.now).top m ≡ set)) }
+        ensures reached { AreReached (sets_of self.now) }
         ensures family { IsFamily (sets_of self.now) }
     {
         self.parents[set as usize]
@@ -195,8 +202,7 @@ impl Family {
     /// The next child around in the ring of the parent, and the members that join the two: one of the child, then one of
     /// the next.
     pub fn child_after(&self, child: u32) -> (u32, u32, u32)
-        requires live { (sets_of self.now).live child ≡ true }
-        requires inner { (sets_of self.now).parent child ≢ None }
+        requires { (sets_of self.now).parent child ≢ None }
         ensures next { IsNext (sets_of self.now) child result.0 (result.1, result.2) }
         ensures family { IsFamily (sets_of self.now) }
     {

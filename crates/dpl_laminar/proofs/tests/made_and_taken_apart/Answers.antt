@@ -76,23 +76,14 @@ no_parent f g set s p = elim (cases_Bool (has three set)) [
 pub shrink-requires : goal.shrink-requires
 shrink-requires g c = joined _ (singles _ _ c.in_ok-family.ensures.singles c.raise.ensures.rest)
 
-pub child_after-requires-clause-live : goal.child_after-requires-clause-live
-child_after-requires-clause-live g c = live_still _ _ c.in-Ok.set (singles _ _ c.in_ok-family.ensures.singles c.raise.ensures.rest) c.in-Ok.ensures.ok 0 (omega arith)
+pub child_after-requires : goal.child_after-requires
+child_after-requires g c = inner _ _ c.in-Ok.set c.in-Ok.ensures.ok 0 refl
 
-pub child_after-requires-clause-inner : goal.child_after-requires-clause-inner
-child_after-requires-clause-inner g c = inner _ _ c.in-Ok.set c.in-Ok.ensures.ok 0 refl
+pub child_after-requires-in-Ok : goal.child_after-requires-in-Ok
+child_after-requires-in-Ok g c = inner _ _ c.in-Ok.set c.in-Ok.ensures.ok 1 refl
 
-pub child_after-requires-in-Ok-clause-live : goal.child_after-requires-in-Ok-clause-live
-child_after-requires-in-Ok-clause-live g c = live_still _ _ c.in-Ok.set (singles _ _ c.in_ok-family.ensures.singles c.raise.ensures.rest) c.in-Ok.ensures.ok 1 (omega arith)
-
-pub child_after-requires-in-Ok-clause-inner : goal.child_after-requires-in-Ok-clause-inner
-child_after-requires-in-Ok-clause-inner g c = inner _ _ c.in-Ok.set c.in-Ok.ensures.ok 1 refl
-
-pub child_after-requires-in-Ok-2-clause-live : goal.child_after-requires-in-Ok-2-clause-live
-child_after-requires-in-Ok-2-clause-live g c = live_still _ _ c.in-Ok.set (singles _ _ c.in_ok-family.ensures.singles c.raise.ensures.rest) c.in-Ok.ensures.ok 2 (omega arith)
-
-pub child_after-requires-in-Ok-2-clause-inner : goal.child_after-requires-in-Ok-2-clause-inner
-child_after-requires-in-Ok-2-clause-inner g c = inner _ _ c.in-Ok.set c.in-Ok.ensures.ok 2 refl
+pub child_after-requires-in-Ok-2 : goal.child_after-requires-in-Ok-2
+child_after-requires-in-Ok-2 g c = inner _ _ c.in-Ok.set c.in-Ok.ensures.ok 2 refl
 
 pub parent-requires : goal.parent-requires
 parent-requires g c = live_still _ _ c.in-Ok.set (singles _ _ c.in_ok-family.ensures.singles c.raise.ensures.rest) c.in-Ok.ensures.ok 1 (omega arith)
