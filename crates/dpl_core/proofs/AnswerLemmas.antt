@@ -1,9 +1,8 @@
 -- What is due is one status, and what a run answers is due.
-use Rattle.std.proofs.Common.{arith, rules, ◌≡◌, ◌≢◌, ◌⊎◌, ◌∙◌, ℕ, ◌<◌, ◌≤◌, Bool, true, false, nat_lt, List, [], ◌++◌, append-nil, length, Option, Some, None, Result, Ok, Err, refl, sym, ap, inl, inr}
+use Rattle.std.proofs.Common.{arith, ◌≡◌, ◌≢◌, ◌⊎◌, ◌∙◌, ℕ, ◌≤◌, Bool, true, false, nat_lt, List, [], append-nil, length, Option, Some, None, Result, Ok, Err, refl, sym, inl, inr}
 use Rattle.std.specs.Prelude.{MatchBool, IfSome}
 use Rattle.std.specs.Io.KnownBytes.{Appends, Consumes, IsAtEnd}
 use Rattle.std.proofs.lemmas.Bool.Decides.{nat_tests}
-use Rattle.dpl_ext.specs.Device.{AppendsFront, Rose}
 use Rattle.dpl_cell.specs.Places.{Corners}
 use Rattle.dpl_cell.specs.Outlines.{Outline}
 use Rattle.dpl_cif.specs.Boxes.{boxes_of}
@@ -11,9 +10,9 @@ use Rattle.dpl_core.specs.declared.words.Asked.{Asked}
 use Rattle.dpl_core.specs.declared.status.Status.{Status}
 use Rattle.dpl_core.specs.declared.status.Status.TheVariants.{Done, Usage, Limit, Form, Touching, Odd, ReadFault, WriteFault, NoMemory}
 use Rattle.dpl_core.specs.Order.{in_order}
-use Rattle.dpl_core.specs.Boxes.{boxes_among, IsFirstTouch}
-use Rattle.dpl_core.specs.Answer.{IsDueOfBoxes, IsDueOfRead, IsDueOfText, IsDueOf, IsDue, Writes, IsWritten, IsCut, Answers, IsAnswered, most_bytes}
-use Rattle.dpl_core.specs.Telling.{IsWhole, IsFault, IsTold}
+use Rattle.dpl_core.specs.Boxes.{boxes_among}
+use Rattle.dpl_core.specs.Answer.{IsDueOfBoxes, IsDueOfRead, IsDueOf, IsDue, Writes, Answers, IsAnswered, most_bytes}
+use Rattle.dpl_core.specs.Telling.{IsTold}
 use Rattle.dpl_core.specs.Words.{words_of}
 use Rattle.dpl_core.proofs.EvenLemmas.{one_first}
 

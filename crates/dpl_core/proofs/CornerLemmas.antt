@@ -1,5 +1,5 @@
 -- Boxes in the order of their lower left corners.
-use Rattle.std.proofs.Common.{arith, ◌≡◌, ◌∙◌, ℤ, Bool, true, false, not, ◌&&◌, ◌||◌, List, [], ◌∷◌, map, refl, sym, ap}
+use Rattle.std.proofs.Common.{arith, ◌≡◌, ◌∙◌, ℤ, Bool, true, false, ◌&&◌, ◌||◌, List, [], ◌∷◌, map, refl, sym, ap}
 use Rattle.std.specs.Prelude.{int_lt}
 use Rattle.std.specs.Ordering.{int_eq, int_cmp, ordering_then, is_lt}
 use Rattle.std.specs.declared.cmp.Ordering.{Ordering}
@@ -8,8 +8,8 @@ use Rattle.std.specs.List.Sorted.{IsSortedBy, IsStableBy, IsSortedByKey, IsStabl
 use Rattle.std.specs.Cmp.{IsStrictWeakOrder}
 use Rattle.std.proofs.lemmas.Int.{ints}
 use Rattle.dpl_cell.specs.declared.rect.Rect.{Rect}
-use Rattle.dpl_cell.specs.Places.{Corners, corners_of}
-use Rattle.dpl_core.specs.Order.{sorted, in_order, stands_before}
+use Rattle.dpl_cell.specs.Places.{corners_of}
+use Rattle.dpl_core.specs.Order.{in_order, stands_before}
 use Rattle.dpl_core.proofs.OrderLemmas.{sorted_is, sorted-map}
 
 -- a row and a column before another, by the rows and then by the columns

@@ -1,9 +1,9 @@
 -- When each answer of a split comes, from what each answer says.
-use Rattle.std.proofs.Common.{arith, rules, ◌≡◌, ◌⊎◌, ◌↔◌, ℕ, ◌<◌, ◌≤◌, Bool, List, Result, Ok, Err, refl, sym, ap, inl, inr, Vec, Global}
-use Rattle.std.specs.Prelude.{IsOkAnd, IsOk, IfOk, IfErr, MatchResult}
+use Rattle.std.proofs.Common.{arith, rules, ◌≡◌, ◌↔◌, ℕ, Bool, List, Result, Ok, Err, refl, sym, inl, inr, Vec, Global}
+use Rattle.std.specs.Prelude.{IsOk, IfOk, IfErr, MatchResult}
 use Rattle.dpl_cell.specs.Places.{Corners}
 use Rattle.dpl_cell.specs.Outlines.{Outline}
-use Rattle.dpl_core.specs.Graphs.{IsColouring, HasNoColouring, IsLinked, IsOddLoop, colour_at}
+use Rattle.dpl_core.specs.Graphs.{IsColouring, colour_at}
 use Rattle.dpl_core.specs.Colouring.{Excludes}
 use Rattle.dpl_core.specs.Order.{in_order}
 use Rattle.dpl_core.specs.Boxes.{boxes_among, IsFirstTouch}

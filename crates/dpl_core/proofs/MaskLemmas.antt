@@ -1,5 +1,5 @@
 -- Lines of boxes, and the boxes of a mask.
-use Rattle.std.proofs.Common.{arith, ◌≡◌, ℕ, suc, ◌+◌, ◌<◌, ◌≤◌, ◌∙◌, get_or, take, add-zero, zero-add, Bool, true, false, List, [], ◌∷◌, ◌++◌, length, map, refl, sym, ap, append_assoc, if◌then◌else◌}
+use Rattle.std.proofs.Common.{arith, ◌≡◌, ℕ, suc, ◌+◌, ◌<◌, ◌∙◌, get_or, take, add-zero, zero-add, Bool, true, false, List, [], ◌∷◌, ◌++◌, length, map, refl, ap, if◌then◌else◌}
 use Rattle.std.specs.List.{flat_map}
 use Rattle.std.proofs.lemmas.List.{take_more, length-map, length-take-le, map-append}
 use Rattle.dpl_cell.specs.declared.rect.Rect.{Rect}

@@ -1,9 +1,9 @@
 -- The number that a word of digits gives.
-use Rattle.std.proofs.Common.{arith, ◌≡◌, ℕ, ◌∙◌, Bool, true, false, ◌&&◌, ◌||◌, not, List, [], ◌∷◌, length, refl, ap}
+use Rattle.std.proofs.Common.{arith, ◌≡◌, ℕ, Bool, true, false, ◌&&◌, List, [], ◌∷◌, length, refl}
 use Rattle.std.specs.Prelude.{nat_le}
 use Rattle.std.specs.List.{list_all}
 use Rattle.std.proofs.lemmas.Bool.Decides.{nat_tests}
-use Rattle.dpl_lex.specs.Classes.{is_digit, is_separator, drop_while}
+use Rattle.dpl_lex.specs.Classes.{is_digit, is_separator}
 use Rattle.dpl_lex.specs.Number.{unsigned_at, of_magnitude, digits_value}
 use Rattle.dpl_core.specs.Words.{is_number}
 

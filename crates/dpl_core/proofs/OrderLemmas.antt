@@ -1,5 +1,5 @@
 -- A list in order is fixed by what it holds of each class of elements that tie.
-use Rattle.std.proofs.Common.{arith, ◌≡◌, ◌≢◌, ◌⊎◌, ℕ, zero, suc, ◌+◌, ◌-◌, ◌<◌, ◌≤◌, ◌∙◌, Bool, true, false, not, ◌&&◌, List, [], ◌∷◌, length, get_or, map, refl, sym, ap, inl, inr, if◌then◌else◌, add-one}
+use Rattle.std.proofs.Common.{arith, ◌≡◌, suc, ◌+◌, ◌∙◌, Bool, true, false, not, ◌&&◌, List, [], ◌∷◌, map, refl, sym, ap, if◌then◌else◌}
 use Rattle.std.specs.List.{filter}
 use Rattle.std.specs.List.Sorted.{IsSortedBy, IsStableBy, ties}
 use Rattle.std.specs.Cmp.{IsStrictWeakOrder}

@@ -1,15 +1,13 @@
 -- Pairs of boxes that touch or are close.
-use Rattle.std.proofs.Common.{arith, ◌≡◌, ◌≢◌, ◌↔◌, ◌⊎◌, ℕ, zero, suc, ◌+◌, ◌*◌, ◌<◌, ◌≤◌, ℤ, ◌-ℤ◌, List, [], ◌∷◌, ◌++◌, length, All, Contains, refl, sym, inl, inr, get_or}
-use Rattle.std.specs.Int.RustNames.{unsigned_abs}
+use Rattle.std.proofs.Common.{arith, ◌≡◌, ◌↔◌, ℕ, ◌+◌, ◌<◌, ◌≤◌, ℤ, List, [], ◌∷◌, ◌++◌, length, sym, inl, inr}
 use Rattle.std.proofs.lemmas.Int.{ints}
 use Rattle.std.proofs.lemmas.Bool.{cases_lt, cases_eq}
-use Rattle.std.proofs.lemmas.List.{get_or_default}
 use Rattle.std.proofs.lemmas.List.Elements.{All-push, Contains-append_left, Contains-push}
 use Rattle.dpl_cell.specs.Places.{Corners}
-use Rattle.dpl_cell.specs.Gaps.{between, cell_gap2, AreClose}
-use Rattle.dpl_core.specs.Graphs.{ArePairs, IsPair, Joined}
-use Rattle.dpl_core.specs.Boxes.{cells_at, TouchAt, IsFirstTouch, CloseAt}
-use Rattle.dpl_core.specs.Pairs.{IsClosePair, IsEarlier, AreCloseBefore}
+use Rattle.dpl_cell.specs.Gaps.{between, AreClose}
+use Rattle.dpl_core.specs.Graphs.{ArePairs, Joined}
+use Rattle.dpl_core.specs.Boxes.{TouchAt, IsFirstTouch, CloseAt}
+use Rattle.dpl_core.specs.Pairs.{IsClosePair, AreCloseBefore}
 
 -- the first partner of the first box that has one
 pub first_touch_is : (boxes : List Corners) (i j : ℕ) → TouchAt boxes i j → ((l : ℕ) → TouchAt boxes i l → j ≤ l) → ((k : ℕ) → k < i → (l : ℕ) → ¬ TouchAt boxes k l) → IsFirstTouch boxes i j

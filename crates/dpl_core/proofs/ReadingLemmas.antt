@@ -1,12 +1,12 @@
 -- Boxes among the parts of a layer, and how many there are.
-use Rattle.std.proofs.Common.{arith, ◌≡◌, ◌∙◌, ℕ, zero, suc, ◌+◌, ◌==◌, ◌≤◌, ◌<◌, Bool, true, false, not, ◌&&◌, List, [], ◌∷◌, ◌++◌, length, length-append, map, refl, sym, ap, ◌^◌, Result, Ok, Err, Option, Some, None, if◌then◌else◌}
-use Rattle.std.specs.Prelude.{IfOk, int_lt}
+use Rattle.std.proofs.Common.{arith, ◌≡◌, ◌∙◌, ℕ, suc, ◌+◌, ◌==◌, ◌≤◌, ◌<◌, Bool, true, false, List, [], ◌∷◌, length, length-append, map, refl, sym, ap, ◌^◌, Result, Ok, Err, Option, Some, None, if◌then◌else◌}
+use Rattle.std.specs.Prelude.{IfOk}
 use Rattle.std.specs.List.{filter_map}
 use Rattle.std.proofs.lemmas.List.{length-map}
 use Rattle.dpl_cell.specs.declared.rect.Rect.{Rect}
 use Rattle.dpl_cell.specs.declared.layout.Primitive.{Primitive}
 use Rattle.dpl_cell.specs.declared.layout.Primitive.TheVariants as prim
-use Rattle.dpl_cell.specs.Places.{Corners, corners_of}
+use Rattle.dpl_cell.specs.Places.{corners_of}
 use Rattle.dpl_cell.specs.Outlines.{Outline, Box, Polygon, outline_of}
 use Rattle.dpl_lex.specs.Classes.{is_blank, drop_while}
 use Rattle.dpl_cif.specs.Form as form

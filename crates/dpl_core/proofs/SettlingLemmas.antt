@@ -1,12 +1,11 @@
 -- What hanging one more node keeps.
-use Rattle.std.proofs.Common.{◌≡◌, ◌≢◌, ℕ, ◌+◌, ◌-◌, ◌<◌, ◌≤◌, ◌⊎◌, Bool, true, false, not, cond, List, length, length-set, get_or, set, refl, sym, ap, ◌∙◌, subst, inl, inr, arith, get_or-set_other, get_or-set_same}
-use Rattle.std.specs.Prelude.{count_by}
+use Rattle.std.proofs.Common.{◌≡◌, ◌≢◌, ℕ, ◌+◌, ◌<◌, ◌≤◌, ◌⊎◌, true, false, cond, List, length, length-set, get_or, set, refl, sym, ap, ◌∙◌, subst, inl, inr, arith, get_or-set_other, get_or-set_same}
 use Rattle.std.proofs.lemmas.List.{get_or_read}
 use Rattle.std.proofs.lemmas.List.Sums.{sum_by-set, count_by-le-length}
-use Rattle.std.proofs.lemmas.Bool.{cases_eq, cases_Bool, false≢true}
+use Rattle.std.proofs.lemmas.Bool.{cases_eq, false≢true}
 use Rattle.dpl_core.specs.declared.forest.Node.{Node}
 use Rattle.dpl_core.specs.Graphs.{Joined}
-use Rattle.dpl_core.specs.Forests.{IsForest, IsPlaced, IsSettled, IsBalanced, IsWhole, KeepsFound, node_at, blank, unfound, is_unfound}
+use Rattle.dpl_core.specs.Forests.{IsPlaced, IsSettled, IsBalanced, IsWhole, KeepsFound, node_at, blank, unfound, is_unfound}
 use Rattle.dpl_core.proofs.TreeLemmas.{hung, still}
 
 pub turned : (pairs : List (ℕ × ℕ)) (a b : ℕ) → Joined pairs a b → Joined pairs b a

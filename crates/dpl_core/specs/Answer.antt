@@ -1,5 +1,5 @@
 -- What the program answers, in the order in which its answers are tried.
-use Rattle.std.specs.Prelude.{◌≡◌, ◌⊎◌, ℕ, ◌<◌, nat_lt, Bool, MatchBool, List, [], length, Option, None, Some, Ok, Err, Result}
+use Rattle.std.specs.Prelude.{◌≡◌, ◌⊎◌, ℕ, nat_lt, MatchBool, List, [], length, Option, None, Some, Ok, Err, Result}
 use Rattle.std.specs.Io.KnownBytes.{Appends, Keeps}
 use Rattle.dpl_ext.specs.Device.{AppendsFront}
 use Rattle.dpl_cell.specs.Places.{Corners}

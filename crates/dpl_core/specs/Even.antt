@@ -1,6 +1,6 @@
 -- Boxes that do not touch, on two masks. What is read of a text is the list of the layer's parts, or the number
 -- of the first command that has none of the forms.
-use Rattle.std.specs.Prelude.{◌≡◌, ◌⊎◌, ℕ, ◌*◌, Bool, List, Result, Ok, Err, IsOkAnd, IsErrOf}
+use Rattle.std.specs.Prelude.{◌≡◌, ◌⊎◌, ℕ, ◌*◌, Bool, List, Result, Err, IsOkAnd}
 use Rattle.dpl_cell.specs.Places.{Corners}
 use Rattle.dpl_cell.specs.Outlines.{Outline}
 use Rattle.dpl_core.specs.Graphs.{IsColouring, HasNoColouring, IsOddLoop}

@@ -1,5 +1,5 @@
 -- The order of boxes.
-use Rattle.std.specs.Prelude.{Bool, ◌&&◌, ◌||◌, int_lt, List, [], ◌∷◌, if◌then◌else◌, ℤ}
+use Rattle.std.specs.Prelude.{Bool, ◌&&◌, ◌||◌, int_lt, List, [], ◌∷◌, if◌then◌else◌}
 use Rattle.std.specs.Ordering.{int_eq}
 use Rattle.dpl_cell.specs.Places.{Corners}
 

@@ -1,4 +1,4 @@
-use crate::{Status, run, split_even};
+use crate::{Status, colour, run, split_even};
 use dpl_ext::{MemSink, MemSource};
 use dpl_lex::Name;
 use std::alloc::Global;
@@ -129,5 +129,13 @@ fn wrong_words(rt: HostRuntime) -> Result<(), Fail> {
     );
     assert_eq!(rt; status, Status::Usage(1));
     assert_eq!(rt; err.bytes(), b"dpl: usage 1\n".as_slice());
+    Ok(())
+}
+
+#[test]
+fn a_square(rt: HostRuntime) -> Result<(), Fail> {
+    let pairs = [(0, 1), (1, 2), (2, 3), (0, 3)];
+    let colours = colour(rt.alloc(), pairs.as_slice(), 4)?;
+    assert_eq!(rt; colours.as_slice(), [false, true, false, true].as_slice());
     Ok(())
 }

@@ -1,4 +1,3 @@
-use Rattle.std.proofs.Common.{◌≡◌, ◌∙◌, ap, rules, arith, length}
 use Rattle.std.proofs.lemmas.List.{length-map}
 use Rattle.dpl_core.proofs.LoopLemmas.{excludes, parities_differ}
 use Rattle.dpl_core.proofs.colouring.colour.Goals as goal

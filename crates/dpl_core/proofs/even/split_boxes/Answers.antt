@@ -1,4 +1,3 @@
-use Rattle.std.proofs.Common.{rules, ◌≡◌}
 use Rattle.dpl_core.specs.Graphs.{colour_at}
 use Rattle.dpl_core.proofs.even.split_boxes.Goals as goal
 

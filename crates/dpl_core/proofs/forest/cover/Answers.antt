@@ -1,4 +1,3 @@
-use Rattle.std.proofs.Common.{arith, rules}
 use Rattle.dpl_core.proofs.SettlingLemmas.{regrow}
 use Rattle.dpl_core.proofs.forest.cover.Goals as goal
 

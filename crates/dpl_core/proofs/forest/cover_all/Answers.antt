@@ -1,4 +1,4 @@
-use Rattle.std.proofs.Common.{arith, rules, below_more}
+use Rattle.std.proofs.Common.{arith, below_more}
 use Rattle.dpl_core.proofs.forest.cover_all.Goals as goal
 
 pub loop-root-preserved : goal.loop-root-preserved

@@ -1,4 +1,4 @@
-use Rattle.std.proofs.Common.{arith, refl, rules}
+use Rattle.std.proofs.Common.{refl}
 use Rattle.dpl_core.proofs.SettlingLemmas.{plant_settles, set_keeps}
 use Rattle.dpl_core.proofs.forest.plant.Goals as goal
 

@@ -1,4 +1,4 @@
-use Rattle.std.proofs.Common.{arith, rules}
+use Rattle.std.proofs.Common.{arith}
 use Rattle.dpl_core.proofs.SettlingLemmas.{whole}
 use Rattle.dpl_core.proofs.forest.round.Goals as goal
 

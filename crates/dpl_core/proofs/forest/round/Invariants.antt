@@ -1,4 +1,4 @@
-use Rattle.std.proofs.Common.{◌≡◌, ℕ, ◌≤◌, ◌<◌, length, get_or, true, false}
+use Rattle.std.proofs.Common.{◌≡◌, ℕ, ◌<◌, get_or, true, false}
 use Rattle.dpl_core.specs.Forests.{IsSettled, IsBalanced, KeepsFound, unfound}
 use Rattle.dpl_core.proofs.forest.round.Given as goal
 

@@ -1,5 +1,5 @@
-use Rattle.std.proofs.Common.{true, ◌≡◌, ◌+◌, arith, refl, rules, slice_set}
-use Rattle.dpl_core.specs.Forests.{unfound, node_at, IsSettled}
+use Rattle.std.proofs.Common.{true, ◌+◌, refl, rules}
+use Rattle.dpl_core.specs.Forests.{node_at}
 use Rattle.dpl_core.specs.declared.forest.Node.{Node}
 use Rattle.dpl_core.proofs.SettlingLemmas.{hang_settles, hang_fewer, Hangs}
 use Rattle.dpl_core.proofs.forest.spread.Goals as goal

@@ -1,6 +1,5 @@
-use Rattle.std.proofs.Common.{rules, arith, ◌≡◌, ◌++◌, ◌∷◌, [], true, false, ap, ◌∙◌, sym, append-nil, map}
+use Rattle.std.proofs.Common.{rules, arith, ◌≡◌, ◌++◌, ◌∷◌, [], true, false, sym, append-nil}
 use Rattle.std.proofs.lemmas.List.{map-append}
-use Rattle.dpl_cell.specs.Places.{corners_of}
 use Rattle.dpl_core.specs.Graphs.{colour_at}
 use Rattle.dpl_core.specs.Masks.{is_colour}
 use Rattle.dpl_core.proofs.MaskLemmas.{chosen_more}

@@ -1,7 +1,6 @@
-use Rattle.std.proofs.Common.{◌≡◌, ◌<◌, ◌+◌, ◌-◌, ◌++◌, ◌∷◌, [], ℕ, length, length-append, vec_len, get_or, arith, refl, sym, ◌∙◌, ap, rules}
+use Rattle.std.proofs.Common.{◌≡◌, ◌+◌, ◌-◌, ◌++◌, ◌∷◌, [], ℕ, length, length-append, get_or, arith, ◌∙◌, rules}
 use Rattle.std.proofs.lemmas.List.{get_or_push, get_or_append_left, get_or_read}
 use Rattle.dpl_core.specs.Graphs.{Joined}
-use Rattle.dpl_core.specs.Forests.{node_at}
 use Rattle.dpl_core.proofs.TreeLemmas.{linked_push}
 use Rattle.dpl_core.proofs.SettlingLemmas.{turned}
 use Rattle.dpl_core.proofs.LoopLemmas.{odd_loop_of}

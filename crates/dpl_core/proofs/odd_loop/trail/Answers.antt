@@ -1,4 +1,4 @@
-use Rattle.std.proofs.Common.{◌≡◌, ◌<◌, ◌+◌, ◌-◌, ◌++◌, ◌∷◌, [], ℕ, length, length-append, vec_len, get_or, arith, refl, sym, ◌∙◌, ap, rules}
+use Rattle.std.proofs.Common.{◌≡◌, ◌+◌, ◌-◌, ◌++◌, ◌∷◌, [], ℕ, length, length-append, vec_len, get_or, arith, ◌∙◌, ap, rules}
 use Rattle.std.proofs.lemmas.List.{get_or_push, get_or_append_left}
 use Rattle.dpl_core.specs.Graphs.{Joined}
 use Rattle.dpl_core.specs.Forests.{node_at}

@@ -1,5 +1,5 @@
-use Rattle.std.proofs.Common.{rules, arith, ◌≡◌, ◌∙◌, true, ap, sym}
-use Rattle.dpl_lex.specs.Number.{unsigned_at, of_magnitude, digits_value}
+use Rattle.std.proofs.Common.{rules, ◌≡◌, ◌∙◌, true, ap}
+use Rattle.dpl_lex.specs.Number.{of_magnitude, digits_value}
 use Rattle.dpl_core.specs.Words.{is_number}
 use Rattle.dpl_core.proofs.NumberLemmas.{unsigned_number}
 use Rattle.dpl_core.proofs.words.parse_space.Goals as goal
