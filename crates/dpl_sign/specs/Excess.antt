@@ -1,6 +1,6 @@
 -- How far a drawing is from plane, by Euler's formula, and which edges are set aside for it. With V nodes, E edges,
 -- F faces and C components a plane drawing has V - E + F = 2C.
-use Rattle.std.specs.Prelude.{◌≡◌, ℕ, ◌+◌, ◌-◌, ◌*◌, ◌==◌, ◌||◌, zero, suc, nat_lt, Bool, true, not, List, [], ◌∷◌, ◌++◌, length}
+use Rattle.std.specs.Prelude.{◌≡◌, ℕ, ◌+◌, ◌-◌, ◌*◌, ◌==◌, ◌||◌, zero, suc, nat_lt, Bool, true, not, List, [], ◌∷◌, ◌++◌, length, if◌then◌else◌}
 use Rattle.dpl_sign.specs.declared.nets.Net.{Net}
 use Rattle.dpl_sign.specs.Walks.{edge_at}
 use Rattle.dpl_sign.specs.Drawings.{is_in, face_count, corner_face}
@@ -44,3 +44,11 @@ kept_edges net = kept_before net (length net.graph.edges)
 
 abbrev pub is_aside : Net → ℕ → Bool
 is_aside net e = not (is_in (kept_edges net) e)
+
+-- the numbers of the edges that are set aside among the first, in order
+abbrev pub aside_before : Net → ℕ → List ℕ
+aside_before net zero = []
+aside_before net (suc e) = if is_aside net e then aside_before net e ++ e ∷ [] else aside_before net e
+
+abbrev pub aside_edges : Net → List ℕ
+aside_edges net = aside_before net (length net.graph.edges)

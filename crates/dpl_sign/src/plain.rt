@@ -7,10 +7,12 @@ mod cycles;
 mod darts;
 mod euler;
 mod faces;
+mod parity;
 mod replace;
 mod rotation;
 
-pub use aside::kept_edges;
+pub use aside::{aside_edges, kept_edges};
 pub use components::component_count;
 pub use euler::{excess, total_excess};
 pub use faces::face_count;
+pub use parity::{face_name, is_odd_face, passages_on_face};

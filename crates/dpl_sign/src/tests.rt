@@ -2,7 +2,10 @@ use crate::edges::Edge;
 use crate::graphs::Signed;
 use crate::nets::Net;
 use crate::order::port_order;
-use crate::plain::{component_count, excess, face_count, kept_edges, total_excess};
+use crate::plain::{
+    aside_edges, component_count, excess, face_count, face_name, is_odd_face, kept_edges,
+    passages_on_face, total_excess,
+};
 use crate::ports::Port;
 use crate::{broken, cost};
 use std::alloc::{AllocError, Global};
@@ -76,6 +79,21 @@ fn odd_triangle_has_two_faces(rt: HostRuntime) -> Result<(), Fail> {
     assert_eq!(rt; (drawn.faces, drawn.components, drawn.excess), (2, 1, 0));
     let kept = kept_edges(rt.alloc(), &net)?;
     assert_eq!(rt; kept.as_slice(), [true, true, true].as_slice());
+    Ok(())
+}
+
+/// Its faces are those of darts 0 and 1, and both pass three clashes. Breaking one meets them.
+#[test]
+fn odd_triangle_has_odd_faces(rt: HostRuntime) -> Result<(), Fail> {
+    let net = odd_triangle(rt.alloc())?;
+    assert_eq!(rt; net.graph.edges.as_slice().len(), 3);
+    let all = [true, true, true];
+    assert_eq!(rt; face_name(rt.alloc(), &net, &all, 4)?, 0);
+    assert_eq!(rt; face_name(rt.alloc(), &net, &all, 2)?, 1);
+    assert!(rt; is_odd_face(rt.alloc(), &net, &all, 0)?);
+    assert!(rt; is_odd_face(rt.alloc(), &net, &all, 1)?);
+    let broken = [true, false, false];
+    assert_eq!(rt; passages_on_face(rt.alloc(), &net, &all, &broken, 0)?, 1);
     Ok(())
 }
 
@@ -169,6 +187,7 @@ fn ring_and_tree(rt: HostRuntime) -> Result<(), Fail> {
     let ring = drawing(rt.alloc(), 4, &links)?;
     let round = measured(rt.alloc(), &ring)?;
     assert_eq!(rt; (round.faces, round.components, round.excess), (2, 1, 0));
+    assert!(rt; !is_odd_face(rt.alloc(), &ring, &[true, true, true, true], 0)?);
     let tree = [true, true, true, false];
     assert_eq!(rt; face_count(rt.alloc(), &ring, &tree)?, 1);
     assert_eq!(rt; excess(rt.alloc(), &ring, &tree)?, 0);

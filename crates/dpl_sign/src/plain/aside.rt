@@ -1,7 +1,8 @@
 ghost use Rattle.std.specs.Prelude.{◌≡◌, IfOk};
-ghost use Rattle.dpl_sign.specs.Excess.{kept_edges as kept_of};
+ghost use Rattle.dpl_sign.specs.Excess.{kept_edges as kept_of, aside_edges as aside_of};
 
 use crate::nets::Net;
+use crate::plain::darts::is_in;
 use crate::plain::euler::excess;
 use dpl_list::Items;
 use std::alloc::{AllocError, Global};
@@ -22,4 +23,18 @@ pub fn kept_edges(alloc: Global, net: &Net) -> Result<Items<bool>, AllocError>
         }
     }
     Ok(Items::new(kept))
+}
+
+/// The numbers of the edges that are set aside, in order.
+pub fn aside_edges(alloc: Global, net: &Net) -> Result<Items<u32>, AllocError>
+    ensures { IfOk result (λ aside. aside ≡ aside_of net.now) }
+{
+    let kept = kept_edges(alloc, net)?;
+    let mut aside = Vec::new(alloc);
+    for edge in 0..net.graph.edges.as_slice().len() as u32 {
+        if !is_in(kept.as_slice(), edge) {
+            aside.push(edge)?;
+        }
+    }
+    Ok(Items::new(aside))
 }

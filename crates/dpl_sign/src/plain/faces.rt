@@ -9,7 +9,7 @@ use crate::plain::rotation::next_in_face;
 use std::alloc::{AllocError, Global};
 
 /// What each dart leads to in its face.
-fn successors(alloc: Global, net: &Net, set: &[bool]) -> Result<Vec<u32>, AllocError>
+pub fn successors(alloc: Global, net: &Net, set: &[bool]) -> Result<Vec<u32>, AllocError>
     ensures length { IfOk result (λ v. length v.items ≡ dart_count net.now) }
     ensures each { IfOk result (λ v. EachIndex v.items (λ d. slice_index v.items d ≡ next_of_face net.now (in_set set.now) d)) }
 {

@@ -1,0 +1,69 @@
+ghost use Rattle.std.specs.Prelude.{◌≡◌, ℕ, ◌<◌, length, IfOk};
+ghost use Rattle.dpl_sign.specs.Drawings.{dart_count, is_in as in_set, face_of};
+ghost use Rattle.dpl_sign.specs.Kinds.{is_clash as clash_test};
+ghost use Rattle.dpl_sign.specs.Parity.{passages_on_face as passages_of, is_odd_face as odd_face, is_clash_edge};
+
+use crate::edges::{Edge, Kind};
+use crate::nets::Net;
+use crate::plain::cycles::least;
+use crate::plain::darts::is_in;
+use crate::plain::faces::successors;
+use std::alloc::{AllocError, Global};
+
+/// The face of a dart, named by its least dart.
+pub fn face_name(alloc: Global, net: &Net, set: &[bool], dart: u32) -> Result<u32, AllocError>
+    requires { dart < dart_count net.now }
+    ensures { IfOk result (λ f. f ≡ face_of net.now (in_set set.now) dart) }
+{
+    let mut nexts = successors(alloc, net, set)?;
+    Ok(least(&mut nexts, dart))
+}
+
+/// How often a face of a set of edges passes edges of another, each dart counted.
+pub fn passages_on_face(
+    alloc: Global,
+    net: &Net,
+    set: &[bool],
+    test: &[bool],
+    face: u32,
+) -> Result<u32, AllocError>
+    ensures { IfOk result (λ n. n ≡ passages_of net.now (in_set set.now) (in_set test.now) face) }
+{
+    let mut count = 0;
+    for dart in 0..2 * net.graph.edges.as_slice().len() as u32 {
+        let here = face_name(alloc, net, set, dart)? == face;
+        if is_in(set, dart / 2) & here & is_in(test, dart / 2) {
+            count += 1;
+        }
+    }
+    Ok(count)
+}
+
+fn is_clash(edge: &Edge) -> bool
+    ensures { result ≡ clash_test edge.now.kind }
+{
+    match edge.kind {
+        Kind::Clash => true,
+        _ => false,
+    }
+}
+
+/// The clashes as a set of edges.
+fn clashes(alloc: Global, net: &Net) -> Result<Vec<bool>, AllocError>
+    ensures { IfOk result (λ v. (e : ℕ) → e < length net.now.graph.edges → in_set v.items e ≡ is_clash_edge net.now e) }
+{
+    let mut test = Vec::new(alloc);
+    for edge in 0..net.graph.edges.as_slice().len() as u32 {
+        test.push(is_clash(&net.graph.edges.as_slice()[edge as usize]))?;
+    }
+    Ok(test)
+}
+
+/// Whether a face passes clashes an odd number of times.
+pub fn is_odd_face(alloc: Global, net: &Net, set: &[bool], face: u32) -> Result<bool, AllocError>
+    ensures { IfOk result (λ odd. odd ≡ odd_face net.now (in_set set.now) face) }
+{
+    let test = clashes(alloc, net)?;
+    let passages = passages_on_face(alloc, net, set, &test, face)?;
+    Ok(passages % 2 == 1)
+}
