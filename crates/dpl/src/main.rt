@@ -1,8 +1,8 @@
 // Splits a layout on standard input onto two masks, which it writes to standard output.
 #![tactic(auto)]
 
-use dpl_core::{Status, run};
 use dpl_ext::{ReadSource, WriteSink};
+use dpl_run::{Status, run};
 use std::env;
 use std::io::ErrorKind;
 use std::process::ExitCode;

@@ -5,7 +5,5 @@ pub mod PairLemmas
 pub mod MaskLemmas
 pub mod OrderLemmas
 pub mod CornerLemmas
-pub mod NumberLemmas
 pub mod EvenLemmas
 pub mod ReadingLemmas
-pub mod AnswerLemmas

@@ -5,10 +5,6 @@ pub mod Order
 pub mod Boxes
 pub mod Pairs
 pub mod Masks
-pub mod Words
-pub mod Lines
 pub mod Even
 pub mod Reading
 pub mod Apart
-pub mod Answer
-pub mod Telling

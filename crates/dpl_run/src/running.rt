@@ -3,16 +3,16 @@ ghost use Rattle.std.specs.Prelude.{◌≡◌, ◌↔◌, ◌⊎◌, ◌≤◌, 
 ghost use Rattle.std.specs.Io.KnownBytes.{Appends};
 ghost use Rattle.dpl_ext.specs.Device.{Rose, RoseBy, AppendsFront};
 ghost use Rattle.dpl_cif.specs.Boxes.{boxes_of};
-ghost use Rattle.dpl_core.specs.Answer.{Answers, IsAnswered, IsDue, IsDueOfRead, IsQuiet};
-ghost use Rattle.dpl_core.specs.Lines.{line_of};
-ghost use Rattle.dpl_core.specs.Telling.{IsTold};
-ghost use Rattle.dpl_core.specs.Words.{words_of, IsAsked};
+ghost use Rattle.dpl_run.specs.Answer.{Answers, IsAnswered, IsDue, IsDueOfRead, IsQuiet};
+ghost use Rattle.dpl_run.specs.Lines.{line_of};
+ghost use Rattle.dpl_run.specs.Telling.{IsTold};
+ghost use Rattle.dpl_run.specs.Words.{words_of, IsAsked};
 
-use crate::even::{EvenError, split_even};
 use crate::line::status_line;
 use crate::odd_text::odd_line;
 use crate::status::Status;
 use crate::words::{Asked, parse_words};
+use dpl_core::{EvenError, split_even};
 use dpl_ext::{ReadEnd, Sink, Source, read_all, write_all};
 use std::alloc::{AllocError, Global};
 

@@ -5,7 +5,7 @@ use Rattle.std.specs.List.{list_all}
 use Rattle.std.proofs.lemmas.Bool.Decides.{nat_tests}
 use Rattle.dpl_lex.specs.Classes.{is_digit, is_separator}
 use Rattle.dpl_lex.specs.Number.{unsigned_at, of_magnitude, digits_value}
-use Rattle.dpl_core.specs.Words.{is_number}
+use Rattle.dpl_run.specs.Words.{is_number}
 
 no_separator : (b : ℕ) → is_digit b ≡ true → is_separator b ≡ false
 no_separator b e = grind (arith, nat_tests)

@@ -1,6 +1,6 @@
 use Rattle.std.proofs.Common.{sym}
-use Rattle.dpl_core.proofs.AnswerLemmas.{answers_read}
-use Rattle.dpl_core.proofs.running.attempt.Goals as goal
+use Rattle.dpl_run.proofs.AnswerLemmas.{answers_read}
+use Rattle.dpl_run.proofs.running.attempt.Goals as goal
 
 pub returns-in-Ok-answer_for-clause-answer : goal.returns-in-Ok-answer_for-clause-answer
 returns-in-Ok-answer_for-clause-answer g c =

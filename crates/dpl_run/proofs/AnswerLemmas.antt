@@ -6,14 +6,14 @@ use Rattle.std.proofs.lemmas.Bool.Decides.{nat_tests}
 use Rattle.dpl_cell.specs.Places.{Corners}
 use Rattle.dpl_cell.specs.Outlines.{Outline}
 use Rattle.dpl_cif.specs.Boxes.{boxes_of}
-use Rattle.dpl_core.specs.declared.words.Asked.{Asked}
-use Rattle.dpl_core.specs.declared.status.Status.{Status}
-use Rattle.dpl_core.specs.declared.status.Status.TheVariants.{Done, Usage, Limit, Form, Touching, Odd, ReadFault, WriteFault, NoMemory}
+use Rattle.dpl_run.specs.declared.words.Asked.{Asked}
+use Rattle.dpl_run.specs.declared.status.Status.{Status}
+use Rattle.dpl_run.specs.declared.status.Status.TheVariants.{Done, Usage, Limit, Form, Touching, Odd, ReadFault, WriteFault, NoMemory}
 use Rattle.dpl_core.specs.Order.{in_order}
 use Rattle.dpl_core.specs.Boxes.{boxes_among}
-use Rattle.dpl_core.specs.Answer.{IsDueOfBoxes, IsDueOfRead, IsDueOf, IsDue, Writes, Answers, IsAnswered, most_bytes}
-use Rattle.dpl_core.specs.Telling.{IsTold}
-use Rattle.dpl_core.specs.Words.{words_of}
+use Rattle.dpl_run.specs.Answer.{IsDueOfBoxes, IsDueOfRead, IsDueOf, IsDue, Writes, Answers, IsAnswered, most_bytes}
+use Rattle.dpl_run.specs.Telling.{IsTold}
+use Rattle.dpl_run.specs.Words.{words_of}
 use Rattle.dpl_core.proofs.EvenLemmas.{one_first}
 
 -- ---- one status is due

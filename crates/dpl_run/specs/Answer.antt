@@ -5,14 +5,14 @@ use Rattle.dpl_ext.specs.Device.{AppendsFront}
 use Rattle.dpl_cell.specs.Places.{Corners}
 use Rattle.dpl_cell.specs.Outlines.{Outline}
 use Rattle.dpl_cif.specs.Boxes.{boxes_of}
-use Rattle.dpl_core.specs.declared.words.Asked.{Asked}
-use Rattle.dpl_core.specs.declared.status.Status.{Status}
-use Rattle.dpl_core.specs.declared.status.Status.TheVariants.{Done, Usage, Limit, Form, Touching, Odd, ReadFault, WriteFault, NoMemory}
+use Rattle.dpl_run.specs.declared.words.Asked.{Asked}
+use Rattle.dpl_run.specs.declared.status.Status.{Status}
+use Rattle.dpl_run.specs.declared.status.Status.TheVariants.{Done, Usage, Limit, Form, Touching, Odd, ReadFault, WriteFault, NoMemory}
 use Rattle.dpl_core.specs.Order.{in_order}
 use Rattle.dpl_core.specs.Boxes.{boxes_among, IsFirstTouch}
 use Rattle.dpl_core.specs.Even.{IsSplit, IsOddAround}
-use Rattle.dpl_core.specs.Lines.{odd_line}
-use Rattle.dpl_core.specs.Words.{words_of}
+use Rattle.dpl_run.specs.Lines.{odd_line}
+use Rattle.dpl_run.specs.Words.{words_of}
 
 -- the most bytes of a layout
 abbrev pub most_bytes : ℕ

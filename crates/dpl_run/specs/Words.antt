@@ -4,7 +4,7 @@ use Rattle.std.specs.List.{list_all}
 use Rattle.std.specs.Str.{bytes_eq}
 use Rattle.dpl_lex.specs.Classes.{is_digit, is_name_byte}
 use Rattle.dpl_lex.specs.Number.{digits_value}
-use Rattle.dpl_core.specs.declared.words.Asked.{Asked}
+use Rattle.dpl_run.specs.declared.words.Asked.{Asked}
 
 -- 1 to 31 digits and upper-case letters
 abbrev pub is_layer : List ℕ → Bool

@@ -1,6 +1,6 @@
 // The line on the standard output that tells an odd loop.
 ghost use Rattle.std.specs.Prelude.{◌≡◌, ◌++◌, OnOk, IfOk, flat_map, codes, decimal};
-ghost use Rattle.dpl_core.specs.Lines as lines;
+ghost use Rattle.dpl_run.specs.Lines as lines;
 
 use itoa::Buffer;
 use std::alloc::{AllocError, Global};

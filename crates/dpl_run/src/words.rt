@@ -3,7 +3,7 @@ ghost use Rattle.std.specs.Prelude.{◌≡◌, ℕ, map, string_bytes, length, n
 ghost use Rattle.std.specs.List.{list_all};
 ghost use Rattle.dpl_lex.specs.Classes.{is_digit, is_name_byte};
 ghost use Rattle.dpl_lex.specs.Number.{digits_value, of_magnitude};
-ghost use Rattle.dpl_core.specs.Words as spec;
+ghost use Rattle.dpl_run.specs.Words as spec;
 
 use dpl_lex::{Name, Num, Numbers, classes};
 

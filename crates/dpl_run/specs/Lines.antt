@@ -1,7 +1,7 @@
 -- How a run of the program ends: its exit status and its lines.
 use Rattle.std.specs.Prelude.{ℕ, List, [], ◌++◌, flat_map, codes, decimal}
-use Rattle.dpl_core.specs.declared.status.Status.{Status}
-use Rattle.dpl_core.specs.declared.status.Status.TheVariants.{Done, Usage, Limit, Form, Touching, Odd, ReadFault, WriteFault, NoMemory}
+use Rattle.dpl_run.specs.declared.status.Status.{Status}
+use Rattle.dpl_run.specs.declared.status.Status.TheVariants.{Done, Usage, Limit, Form, Touching, Odd, ReadFault, WriteFault, NoMemory}
 
 -- the exit status
 abbrev pub code_of : Status → ℕ

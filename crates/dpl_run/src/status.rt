@@ -18,7 +18,7 @@ pub enum Status {
 }
 
 impl Status {
-    ghost use Rattle.dpl_core.specs.Lines.{code_of};
+    ghost use Rattle.dpl_run.specs.Lines.{code_of};
 
     /// The exit status of the process.
     pub fn code(&self) -> u8

@@ -1,8 +1,8 @@
 use Rattle.std.proofs.Common.{rules, ◌≡◌, ◌∙◌, true, ap}
 use Rattle.dpl_lex.specs.Number.{of_magnitude, digits_value}
-use Rattle.dpl_core.specs.Words.{is_number}
-use Rattle.dpl_core.proofs.NumberLemmas.{unsigned_number}
-use Rattle.dpl_core.proofs.words.parse_space.Goals as goal
+use Rattle.dpl_run.specs.Words.{is_number}
+use Rattle.dpl_run.proofs.NumberLemmas.{unsigned_number}
+use Rattle.dpl_run.proofs.words.parse_space.Goals as goal
 
 pub returns : goal.returns
 returns c =

@@ -1,6 +1,6 @@
 // The line on the error output.
 ghost use Rattle.std.specs.Prelude.{◌≡◌, ◌+◌, ◌≤◌, ℕ, List, [], ◌++◌, length, decimal};
-ghost use Rattle.dpl_core.specs.Lines.{line_of};
+ghost use Rattle.dpl_run.specs.Lines.{line_of};
 
 use crate::status::Status;
 use itoa::Buffer;

@@ -2,8 +2,8 @@
 use Rattle.std.specs.Prelude.{◌≡◌, ◌≢◌, ◌⊎◌, ℕ, List, [], Option}
 use Rattle.std.specs.Io.KnownBytes.{Appends}
 use Rattle.dpl_ext.specs.Device.{AppendsFront, Rose}
-use Rattle.dpl_core.specs.declared.status.Status.{Status}
-use Rattle.dpl_core.specs.declared.status.Status.TheVariants.{WriteFault}
+use Rattle.dpl_run.specs.declared.status.Status.{Status}
+use Rattle.dpl_run.specs.declared.status.Status.TheVariants.{WriteFault}
 
 -- the whole output was taken and the status is given
 pub record IsWhole (status : Status) (output : List ℕ) (before now : Option (List ℕ)) (result : Status) : Type 0 where
