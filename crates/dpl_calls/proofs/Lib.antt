@@ -1,0 +1,9 @@
+pub mod Absent
+pub mod Scaling
+pub mod Turns
+pub mod Nearness
+pub mod Legs
+pub mod ScansNext
+pub mod Few
+pub mod Pending
+pub mod Goes

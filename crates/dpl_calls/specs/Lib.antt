@@ -1,0 +1,11 @@
+pub mod Parts
+pub mod Unfolding
+pub mod Totals
+pub mod Loops
+pub mod Placement
+pub mod Entries
+pub mod Table
+pub mod Put
+pub mod Scanned
+pub mod Stack
+pub mod Kept

@@ -1,0 +1,11 @@
+//! The definitions of a CIF layout and its calls.
+#![tactic(auto)]
+
+pub mod body;
+pub mod entry;
+pub mod figure;
+pub mod placement;
+mod putting;
+pub mod scan;
+pub mod table;
+pub mod unfolding;

@@ -1,0 +1,116 @@
+// What a command puts into its definition.
+ghost use Rattle.std.specs.Prelude.{◌≡◌, ◌++◌, true, map, IfOk, OnOk};
+ghost use Rattle.dpl_rules.specs.Figures.{IsScale, IsExtentNear, legs};
+ghost use Rattle.dpl_rules.specs.Bounds.{is_command_in_bounds};
+ghost use Rattle.dpl_calls.specs.Parts as parts;
+ghost use Rattle.dpl_calls.specs.Table.{part_of};
+ghost use Rattle.dpl_calls.specs.Entries.{IsEntryNear};
+ghost use Rattle.dpl_calls.specs.Put.{IsFew};
+
+use crate::body::Body;
+use crate::entry::Entry;
+use crate::figure::{Corner, Figure};
+use crate::placement::placement_of;
+use dpl_list::Items;
+use dpl_rules::command::{Command, Scale, Spot};
+use dpl_rules::figures::{Extent, box_extent, double, leg, scaled};
+use dpl_rules::scope::Scope;
+use std::alloc::{AllocError, Global};
+
+fn scaled_extent(scale: Scale, e: Extent) -> Extent
+    requires scale { IsScale scale }
+    requires near { IsExtentNear e }
+    ensures { result ≡ parts.scaled_extent scale e }
+{
+    Extent {
+        x1: scaled(scale, e.x1),
+        y1: scaled(scale, e.y1),
+        x2: scaled(scale, e.x2),
+        y2: scaled(scale, e.y2),
+    }
+}
+
+fn scaled_corner(scale: Scale, spot: &Spot) -> Corner
+    requires { IsScale scale }
+    ensures { result ≡ parts.scaled_corner scale spot.now }
+{
+    Corner {
+        x: scaled(scale, double(spot.x)),
+        y: scaled(scale, double(spot.y)),
+    }
+}
+
+fn scaled_path(alloc: Global, scale: Scale, path: &[Spot]) -> Result<Items<Corner>, AllocError>
+    requires { IsScale scale }
+    ensures { IfOk result (λ r. r ≡ map (parts.scaled_corner scale) path.now) }
+{
+    let mut corners = Vec::new(alloc);
+    for spot in path {
+        corners.push(scaled_corner(scale, spot))?;
+    }
+    Ok(Items::new(corners))
+}
+
+fn rectangle(scale: Scale, e: Extent) -> Entry
+    requires scale { IsScale scale }
+    requires near { IsExtentNear e }
+    ensures value { part_of result ≡ parts.rectangle scale e }
+    ensures near { IsEntryNear result }
+{
+    Entry::Drawn(Figure::Rectangle(scaled_extent(scale, e)))
+}
+
+fn put_legs(
+    body: &mut Body,
+    scale: Scale,
+    width: u64,
+    path: &[Spot],
+) -> Result<(), AllocError>
+    requires { IsScale scale }
+    ensures { OnOk result (map part_of body.new ≡ map part_of body.old ++ map (parts.rectangle scale) (legs width path.now)) }
+{
+    let Some((first, rest)) = path.split_first() else {
+        return Ok(());
+    };
+    if rest.is_empty() {
+        return body.put(rectangle(scale, leg(width, first, first)));
+    }
+    let mut before = first;
+    for spot in rest {
+        body.put(rectangle(scale, leg(width, before, spot)))?;
+        before = spot;
+    }
+    Ok(())
+}
+
+/// Adds what a command puts in where it stands.
+pub fn put_entries(
+    alloc: Global,
+    body: &mut Body,
+    scope: &Scope,
+    command: &Command,
+) -> Result<(), AllocError>
+    requires scale { IsScale scope.now.scale }
+    requires bounds { is_command_in_bounds command.now ≡ true }
+    requires few { IsFew command.now }
+    ensures { OnOk result (map part_of body.new ≡ map part_of body.old ++ parts.parts_of scope.now command.now) }
+{
+    let chosen = scope.layer == Some(true);
+    match command {
+        Command::Polygon(path) if chosen => {
+            let corners = scaled_path(alloc, scope.scale, path.as_slice())?;
+            body.put(Entry::Drawn(Figure::Polygon(corners)))
+        }
+        Command::Box(b) if chosen && !(b.length == 0 || b.width == 0) => {
+            body.put(rectangle(scope.scale, box_extent(b)))
+        }
+        Command::Wire(width, path) if chosen && *width != 0 => {
+            put_legs(body, scope.scale, *width, path.as_slice())
+        }
+        Command::Call(number, transformations) => {
+            let placement = placement_of(scope.scale, transformations.as_slice());
+            body.put(Entry::Called(*number, placement))
+        }
+        _ => Ok(()),
+    }
+}

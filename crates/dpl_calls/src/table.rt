@@ -1,0 +1,37 @@
+// The definitions of a layout.
+ghost use Rattle.std.specs.Prelude.{◌≡◌, All, Some};
+ghost use Rattle.dpl_calls.specs.Entries.{IsEntryNear};
+ghost use Rattle.dpl_calls.specs.Table.{entries_of};
+
+use crate::body::Body;
+use crate::entry::Entry;
+use indexmap::IndexMap;
+
+/// What stands outside definitions, and each definition by its number, in the order of the file.
+#[derive(Drop)]
+pub struct Table {
+    pub top: Body,
+    pub definitions: IndexMap<u64, Body>,
+}
+
+/// A call command: its number among the commands, the definition that it stands in, and the one that
+/// it names.
+#[derive(Clone, Copy, Debug, PartialEq, Eq)]
+pub struct CallSite {
+    pub at: u32,
+    pub definition: Option<u64>,
+    pub called: u64,
+}
+
+impl Table {
+    /// The entries of a definition; none where no definition has the number.
+    pub fn body(&self, number: u64) -> &[Entry]
+        ensures value { result.now ≡ entries_of self.now (Some number) }
+        ensures near { All IsEntryNear result.now }
+    {
+        match self.definitions.get(&number) {
+            Some(body) => body.as_slice(),
+            None => &[],
+        }
+    }
+}
