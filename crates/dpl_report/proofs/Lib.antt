@@ -4,3 +4,6 @@ pub mod LineLemmas
 pub mod ReadingLemmas
 pub mod BoxLemmas
 pub mod TextLemmas
+pub mod QuarterLemmas
+pub mod CleanLemmas
+pub mod DrawingLemmas

@@ -47,11 +47,21 @@ call_line = record { bytes = codes "C 1"; command = Call 1 [] }
 abbrev pub lines_of_mask : List ℕ → List Corners → List Line
 lines_of_mask name boxes = layer_line name ∷ map box_line boxes
 
--- both masks
-abbrev pub lines_of_masks : List ℕ → List Corners → List Corners → List Line
-lines_of_masks layer on_a on_b =
-    comment_line (codes "dpl 0") ∷ start_line ∷
-    lines_of_mask (layer ++ codes "A") on_a ++ lines_of_mask (layer ++ codes "B") on_b ++ finish_line ∷ call_line ∷ []
+-- the definition ends, and is called once
+abbrev pub last_lines : List Line
+last_lines = finish_line ∷ call_line ∷ []
+
+-- both masks in one definition, and its call
+abbrev pub lines_of_definition : List ℕ → List Corners → List Corners → List Line
+lines_of_definition layer on_a on_b = start_line ∷ (lines_of_mask (layer ++ codes "A") on_a ++ (lines_of_mask (layer ++ codes "B") on_b ++ last_lines))
+
+-- the same behind comments
+abbrev pub lines_of_masks : List (List ℕ) → List ℕ → List Corners → List Corners → List Line
+lines_of_masks comments layer on_a on_b = map comment_line comments ++ lines_of_definition layer on_a on_b
+
+-- the one comment of a text of masks
+abbrev pub mask_comments : List (List ℕ)
+mask_comments = codes "dpl 0" ∷ []
 
 abbrev pub LayersAreRead : Type 0
 LayersAreRead = (name : List ℕ) → is_name name ≡ true → IsRead (layer_line name)

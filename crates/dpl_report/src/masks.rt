@@ -3,12 +3,13 @@ ghost use Rattle.std.specs.Prelude.{◌≡◌, ◌≤◌, ℤ, pos, ◌+ℤ◌, 
 ghost use Rattle.dpl_cell.specs.Places.{corners_of};
 ghost use Rattle.dpl_report.specs.Masks as masks;
 ghost use Rattle.dpl_report.specs.Lines.{Says};
-ghost use Rattle.dpl_report.specs.MaskLines.{lines_of_masks};
+ghost use Rattle.dpl_report.specs.Drawings.{DrawsMasks};
+ghost use Rattle.dpl_report.specs.MaskLines.{lines_of_masks, mask_comments};
 
 use dpl_cell::Rect;
 use dpl_lex::Name;
 use itoa::Buffer;
-use std::alloc::{AllocError, Global};
+use std::alloc::{AllocError as NoMemory, Global};
 
 /// The text with these rectangles on mask A and those on mask B, as a CIF text with two layers: the given
 /// name with the letter of the mask behind it. Rectangles are in grid units of half a hundredth of a micron.
@@ -17,10 +18,11 @@ pub fn mask_text(
     layer: &Name,
     on_a: &[Rect],
     on_b: &[Rect],
-) -> Result<Vec<u8>, AllocError>
+) -> Result<Vec<u8>, NoMemory>
     requires { length layer.now ≤ 31 }
     ensures text { IfOk result (λ v. v.items ≡ masks.mask_text layer.now (map corners_of on_a.now) (map corners_of on_b.now)) }
-    ensures lines { IfOk result (λ v. Says v.items (lines_of_masks layer.now (map corners_of on_a.now) (map corners_of on_b.now))) }
+    ensures lines { IfOk result (λ v. Says v.items (lines_of_masks mask_comments layer.now (map corners_of on_a.now) (map corners_of on_b.now))) }
+    ensures draws { IfOk result (λ v. DrawsMasks layer.now (map corners_of on_a.now) (map corners_of on_b.now) v.items) }
 {
     write_masks(alloc, layer.bytes(), on_a, on_b)
 }
@@ -30,7 +32,7 @@ fn write_masks(
     layer: &[u8],
     on_a: &[Rect],
     on_b: &[Rect],
-) -> Result<Vec<u8>, AllocError>
+) -> Result<Vec<u8>, NoMemory>
     ensures { IfOk result (λ v. v.items ≡ masks.mask_text layer.now (map corners_of on_a.now) (map corners_of on_b.now)) }
 {
     let mut out = Vec::from_slice(alloc, b"(dpl 0);\nDS 1 1 4;\n")?;
@@ -40,12 +42,7 @@ fn write_masks(
     Ok(out)
 }
 
-fn push_mask(
-    out: &mut Vec<u8>,
-    layer: &[u8],
-    letter: &[u8],
-    boxes: &[Rect],
-) -> Result<(), AllocError>
+fn push_mask(out: &mut Vec<u8>, layer: &[u8], letter: &[u8], boxes: &[Rect]) -> Result<(), NoMemory>
     ensures { OnOk result (out.new.items ≡ out.old.items ++ masks.mask_lines layer.now letter.now (map corners_of boxes.now)) }
 {
     out.extend_from_slice(b"L ")?;
@@ -55,13 +52,13 @@ fn push_mask(
     push_boxes(out, boxes)
 }
 
-fn push_boxes(out: &mut Vec<u8>, boxes: &[Rect]) -> Result<(), AllocError>
+fn push_boxes(out: &mut Vec<u8>, boxes: &[Rect]) -> Result<(), NoMemory>
     ensures { OnOk result (out.new.items ≡ out.old.items ++ flat_map masks.box_line (map corners_of boxes.now)) }
 {
     push_rects(out, boxes)
 }
 
-fn push_rects(out: &mut Vec<u8>, boxes: &[Rect]) -> Result<(), AllocError>
+fn push_rects(out: &mut Vec<u8>, boxes: &[Rect]) -> Result<(), NoMemory>
     ensures { OnOk result (out.new.items ≡ out.old.items ++ flat_map (λ r. masks.box_line (corners_of r)) boxes.now) }
 {
     for r in boxes {
@@ -70,7 +67,7 @@ fn push_rects(out: &mut Vec<u8>, boxes: &[Rect]) -> Result<(), AllocError>
     Ok(())
 }
 
-fn push_box(out: &mut Vec<u8>, r: &Rect) -> Result<(), AllocError>
+fn push_box(out: &mut Vec<u8>, r: &Rect) -> Result<(), NoMemory>
     ensures { OnOk result (out.new.items ≡ out.old.items ++ masks.box_line (corners_of r.now)) }
 {
     let numbers = numbers_of(r);
@@ -106,7 +103,7 @@ fn numbers_of(r: &Rect) -> Drawn
     }
 }
 
-fn push_spaced(out: &mut Vec<u8>, number: i64) -> Result<(), AllocError>
+fn push_spaced(out: &mut Vec<u8>, number: i64) -> Result<(), NoMemory>
     ensures { OnOk result (out.new.items ≡ out.old.items ++ masks.spaced number) }
 {
     let mut buffer = Buffer::new();

@@ -1,7 +1,7 @@
-use super::mask_text;
+use super::{NoMemory, mask_text};
 use dpl_cell::Rect;
 use dpl_lex::Name;
-use std::alloc::{AllocError, Global};
+use std::alloc::Global;
 use std::test::Fail;
 
 fn in_hundredths(x1: i64, y1: i64, x2: i64, y2: i64) -> Option<Rect> {
@@ -13,7 +13,7 @@ fn in_hundredths(x1: i64, y1: i64, x2: i64, y2: i64) -> Option<Rect> {
     )
 }
 
-fn is_text(alloc: Global, on_a: &[Rect], on_b: &[Rect], text: &[u8]) -> Result<bool, AllocError> {
+fn is_text(alloc: Global, on_a: &[Rect], on_b: &[Rect], text: &[u8]) -> Result<bool, NoMemory> {
     match Name::new(b"M1") {
         Some(layer) if layer.bytes().len() <= 31 => {
             let written = mask_text(alloc, &layer, on_a, on_b)?;
