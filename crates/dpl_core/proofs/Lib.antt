@@ -7,3 +7,5 @@ pub mod OrderLemmas
 pub mod CornerLemmas
 pub mod EvenLemmas
 pub mod ReadingLemmas
+pub mod MaskingLemmas
+pub mod EdgeLemmas
