@@ -1,0 +1,16 @@
+pub mod Signed
+pub mod StretchLemmas
+pub mod RunLemmas
+pub mod SideLemmas
+pub mod PairLemmas
+pub mod OrdinateLemmas
+pub mod Zip
+pub mod FindLemmas
+pub mod Lists
+pub mod PieceLemmas
+pub mod OutlineLemmas
+pub mod StackLemmas
+pub mod BandLemmas
+pub mod BoundLemmas
+pub mod UnionLemmas
+pub mod TileLemmas

@@ -1,0 +1,108 @@
+-- Stretches of one row that are gathered, sorted and merged.
+use Rattle.std.proofs.Common.{arith, ◌≡◌, ℕ, suc, ◌+◌, ◌<◌, ◌≤◌, ℤ, ◌<ℤ◌, ◌≤ℤ◌, List, length, get_or, take, ◌∙◌, All, sym, ap, ◌∷◌, [], ◌++◌, ◌⊎◌, false, ◌||◌, Ordering, map}
+use Rattle.std.proofs.Common.{Less, Equal, Greater}
+use Rattle.std.specs.Ordering.{int_cmp, is_lt, MatchOrdering}
+use Rattle.std.specs.Int.{int_max}
+use Rattle.std.specs.Cmp.{int_ranks}
+use Rattle.std.specs.List.{list_any}
+use Rattle.std.specs.List.Sorted.{IsSortedByKey}
+use Rattle.std.proofs.lemmas.Cmp.{int_cmp_total}
+use Rattle.std.proofs.lemmas.Int.{ints, clamps}
+use Rattle.std.proofs.lemmas.List.{get_or_default, take_all}
+use Rattle.std.proofs.lemmas.List.Elements.{All-push, All-weaker}
+use Rattle.std.proofs.lemmas.List.Folds.{list_any-append, list_any_more}
+use Rattle.std.proofs.lemmas.List.Quantifiers.{all_pairs_push}
+use Rattle.std.proofs.lemmas.List.Sorted.{sorted_far, ranks_by}
+use Rattle.dpl_cell.specs.declared.layout.Primitive.{Primitive}
+use Rattle.dpl_cell.specs.Places.{Corners}
+use Rattle.dpl_cell.specs.Outlines.{outline_of}
+use Rattle.dpl_cell.proofs.LayerLemmas.{list_any-map}
+use Rattle.dpl_cell.specs.Layers.{is_within, is_in_box, is_in_outline, is_cell}
+use Rattle.dpl_tiles.specs.declared.stretch.Stretch.{Stretch}
+use Rattle.dpl_tiles.specs.Stretches.{is_in_stretches, AreSeparate, Ascends, AddsPlaces}
+use Rattle.dpl_tiles.proofs.Signed.{signed, or_false, or_assoc}
+
+pub joined_places : (a b c d x : ℤ) → a ≤ℤ c → c ≤ℤ b → is_within a (int_max b d) x ≡ (is_within a b x || is_within c d x)
+joined_places a b c d x h g = grind (arith, ints, clamps)
+
+pub in_pushed : (parts : List Stretch) (s : Stretch) (x : ℤ) → is_in_stretches (parts ++ s ∷ []) x ≡ (is_in_stretches parts x || is_within s.from s.to x)
+in_pushed parts s x = list_any-append (λ s. is_within s.from s.to x) parts (s ∷ []) ∙ ap (λ b. is_in_stretches parts x || b) (or_false (is_within s.from s.to x))
+
+pub box_in_row : (r : Corners) (x y : ℤ) → r.y1 ≤ℤ y → y <ℤ r.y2 → is_in_box r x y ≡ is_within r.x1 r.x2 x
+box_in_row r x y h g = grind (arith, ints)
+
+pub box_past_row : (r : Corners) (x y : ℤ) → ¬ (r.y1 ≤ℤ y) ⊎ ¬ (y <ℤ r.y2) → is_in_box r x y ≡ false
+box_past_row r x y h = grind (arith, ints)
+
+ranked_low : (x y : ℤ) (r : Ordering) → MatchOrdering r (x <ℤ y) (x ≡ y) (y <ℤ x) → is_lt r ≡ false → y ≤ℤ x
+ranked_low x y Less m e = cc
+ranked_low x y Equal m e = omega signed
+ranked_low x y Greater m e = omega signed
+
+pub ascends_from_sorted : {X : Type 0} (key : X → ℤ) (xs : List X) → IsSortedByKey key int_cmp xs → Ascends key xs
+ascends_from_sorted {X} key xs s i j d h l =
+    ranked_low (key (get_or xs j d)) (key (get_or xs i d)) _ (int_ranks (key (get_or xs j d)) (key (get_or xs i d))) (sorted_far (λ x y. is_lt (int_cmp (key x) (key y))) (ranks_by int_cmp_total key) xs s i j d h l)
+
+-- the places of the first i stretches behind the first: what is finished, and what is open
+pub record Merging (first : Stretch) (rest : List Stretch) (i : ℕ) (merged : List Stretch) (last : Stretch) : Type 0 where
+  pub ahead : (k : ℕ) (d : Stretch) → i ≤ k → k < length rest → last.from ≤ℤ (get_or rest k d).from
+  pub separate : AreSeparate merged
+  pub behind : All (λ t. t.to <ℤ last.from) merged
+  pub same : (x : ℤ) → (is_in_stretches merged x || is_within last.from last.to x) ≡ (is_within first.from first.to x || is_in_stretches (take i rest) x)
+
+pub merging_none : (first : Stretch) (rest : List Stretch) → All (λ s. first.from ≤ℤ s.from) rest → Merging first rest 0 [] first
+merging_none first rest h = record {
+  ahead = λ k d l m. h k d m;
+  separate = λ i j d l m. absurd (omega arith);
+  behind = λ k d l. absurd (omega arith);
+  same = λ x. sym (or_false _);
+}
+
+pub merging_join : (first : Stretch) (rest : List Stretch) (i : ℕ) (merged : List Stretch) (last part next : Stretch) → Merging first rest i merged last → i < length rest → part ≡ get_or rest i part
+    → next.from ≡ last.from → ((x : ℤ) → is_within next.from next.to x ≡ (is_within last.from last.to x || is_within part.from part.to x)) → Merging first rest (i + 1) merged next
+merging_join first rest i merged last part next m within is e same = record {
+  ahead = λ k d l n. rw e (m.ahead k d (omega arith) n);
+  separate = m.separate;
+  behind = All-weaker (λ t. t.to <ℤ last.from) (λ t. t.to <ℤ next.from) (λ t h. rw e h) merged m.behind;
+  same = λ x. ap (λ b. is_in_stretches merged x || b) (same x) ∙ sym (or_assoc (is_in_stretches merged x) _ _) ∙ ap (λ b. b || is_within part.from part.to x) (m.same x)
+      ∙ or_assoc (is_within first.from first.to x) _ _ ∙ ap (λ b. is_within first.from first.to x || b) (sym (more_places rest i part x within is));
+} where
+  more_places : (rest : List Stretch) (i : ℕ) (part : Stretch) (x : ℤ) → i < length rest → part ≡ get_or rest i part → is_in_stretches (take (i + 1) rest) x ≡ (is_in_stretches (take i rest) x || is_within part.from part.to x)
+  more_places rest i part x within is = list_any_more (λ s. is_within s.from s.to x) rest i part within ∙ ap (λ (s : Stretch). is_in_stretches (take i rest) x || is_within s.from s.to x) (sym is)
+
+pub merging_push : (first : Stretch) (rest : List Stretch) (i : ℕ) (merged : List Stretch) (last part : Stretch) → Ascends (λ s. s.from) rest → Merging first rest i merged last → i < length rest → part ≡ get_or rest i part
+    → last.to <ℤ part.from → Merging first rest (i + 1) (merged ++ last ∷ []) part
+merging_push first rest i merged last part sorted m within is h = record {
+  ahead = λ k d l n. let s : (get_or rest i d).from ≤ℤ (get_or rest k d).from = sorted i k d (omega arith) n in rw (is ∙ get_or_default rest i part d within) s;
+  separate = all_pairs_push (λ s t. s.to <ℤ t.from) merged last m.separate m.behind;
+  behind = All-push (λ t. t.to <ℤ part.from) merged last (All-weaker (λ t. t.to <ℤ last.from) (λ t. t.to <ℤ part.from) (λ t g. let w = last.wide in omega signed) merged m.behind) h;
+  same = λ x. ap (λ b. b || is_within part.from part.to x) (in_pushed merged last x ∙ m.same x)
+      ∙ or_assoc (is_within first.from first.to x) _ _ ∙ ap (λ b. is_within first.from first.to x || b) (sym (list_any_more (λ s. is_within s.from s.to x) rest i part within ∙ ap (λ (s : Stretch). is_in_stretches (take i rest) x || is_within s.from s.to x) (sym is)));
+}
+
+pub pushed_box : (parts new : List Stretch) (s : Stretch) (r : Corners) (y : ℤ) → new ≡ parts ++ s ∷ [] → s.from ≡ r.x1 → s.to ≡ r.x2 → r.y1 ≤ℤ y → y <ℤ r.y2 → AddsPlaces (λ x. is_in_box r x y) parts new
+pushed_box parts new s r y e f g low high = λ x.
+    let h : is_within s.from s.to x ≡ is_in_box r x y = rw (f, g) (sym (box_in_row r x y low high)) in
+    rw e (in_pushed parts s x ∙ ap (λ b. is_in_stretches parts x || b) h)
+
+pub ascends_tail : (s : Stretch) (rest parts : List Stretch) → parts ≡ s ∷ rest → Ascends (λ s. s.from) parts → Ascends (λ s. s.from) rest
+ascends_tail s rest parts e a i j d h l = let a' : Ascends (λ s. s.from) (s ∷ rest) = rw e at a in a' (suc i) (suc j) d (omega arith) (omega arith)
+
+pub ascends_head : (s : Stretch) (rest parts : List Stretch) → parts ≡ s ∷ rest → Ascends (λ s. s.from) parts → All (λ t. s.from ≤ℤ t.from) rest
+ascends_head s rest parts e a k d l = let a' : Ascends (λ s. s.from) (s ∷ rest) = rw e at a in a' 0 (suc k) d (omega arith) (omega arith)
+
+pub merging_end : (first : Stretch) (rest : List Stretch) (i : ℕ) (merged new : List Stretch) (last : Stretch) → length rest ≤ i → Merging first rest i merged last → new ≡ merged ++ last ∷ []
+    → (x : ℤ) → is_in_stretches new x ≡ (is_within first.from first.to x || is_in_stretches rest x)
+merging_end first rest i merged new last whole m e x = rw (e, in_pushed merged last x) (m.same x ∙ ap (λ (l : List Stretch). is_within first.from first.to x || is_in_stretches l x) (take_all i rest whole))
+
+pub merging_separate : (first : Stretch) (rest : List Stretch) (i : ℕ) (merged new : List Stretch) (last : Stretch) → Merging first rest i merged last → new ≡ merged ++ last ∷ [] → AreSeparate new
+merging_separate first rest i merged new last m e = rw e (all_pairs_push (λ s t. s.to <ℤ t.from) merged last m.separate m.behind)
+
+in_parts : (prims : List Primitive) (x y : ℤ) → is_cell (map outline_of prims) x y ≡ list_any (λ p. is_in_outline x y (outline_of p)) prims
+in_parts prims x y = list_any-map (is_in_outline x y) outline_of prims
+
+pub row_more : (prims : List Primitive) (i : ℕ) (part : Primitive) (x y : ℤ) (old new : List Stretch) → i < length prims → part ≡ get_or prims i part → is_in_stretches old x ≡ is_cell (map outline_of (take i prims)) x y
+    → is_in_stretches new x ≡ (is_in_stretches old x || is_in_outline x y (outline_of part)) → is_in_stretches new x ≡ is_cell (map outline_of (take (i + 1) prims)) x y
+row_more prims i part x y old new within is e f =
+    f ∙ ap (λ b. b || is_in_outline x y (outline_of part)) (e ∙ in_parts (take i prims) x y) ∙ ap (λ (p : Primitive). list_any (λ p. is_in_outline x y (outline_of p)) (take i prims) || is_in_outline x y (outline_of p)) is
+    ∙ sym (list_any_more (λ p. is_in_outline x y (outline_of p)) prims i part within) ∙ sym (in_parts (take (i + 1) prims) x y)

@@ -1,0 +1,50 @@
+-- Bands: the rows between neighbouring ordinates of corners. All rows of a band have the same cells.
+use Rattle.std.specs.Prelude.{◌≡◌, ℤ, ◌<ℤ◌, List, Bool, All, Any, AllPairs, Contains}
+use Rattle.dpl_cell.specs.declared.rect.Rect.{Rect}
+use Rattle.dpl_cell.specs.declared.layout.Primitive.{Primitive}
+use Rattle.dpl_cell.specs.declared.layout.Primitive.TheVariants as prim
+use Rattle.dpl_cell.specs.Ranges.{IsInRange}
+use Rattle.dpl_cell.specs.Tiles.{IsRun}
+use Rattle.dpl_tiles.specs.declared.stretch.Stretch.{Stretch}
+
+-- the list has the ordinates of a primitive's corners
+abbrev pub HasCorners : List ℤ → Primitive → Type 0
+HasCorners rows (prim.Box r) = Contains rows r.y1 × Contains rows r.y2
+HasCorners rows (prim.Poly points) = All (λ p. Contains rows p.y) points
+
+abbrev pub HasOrdinates : List ℤ → List Primitive → Type 0
+HasOrdinates rows prims = All (HasCorners rows) prims
+
+-- the list grew, and has those of this primitive
+pub record AddsOrdinates (part : Primitive) (old new : List ℤ) : Type 0 where
+  pub kept : (z : ℤ) → Contains old z → Contains new z
+  pub has : HasCorners new part
+  pub range : All IsInRange old → All IsInRange new
+
+-- the rectangle holds these columns
+pub record HasColumns (x1 x2 : ℤ) (r : Rect) : Type 0 where
+  pub left : r.x1 ≡ x1
+  pub right : r.x2 ≡ x2
+
+-- the rectangle is the stretch in these rows
+pub record IsOver (low high : ℤ) (s : Stretch) (r : Rect) : Type 0 where
+  pub left : r.x1 ≡ s.from
+  pub right : r.x2 ≡ s.to
+  pub bottom : r.y1 ≡ low
+  pub top : r.y2 ≡ high
+
+-- the first lies left of the second, with a column between
+abbrev pub IsLeftOf : Rect → Rect → Type 0
+IsLeftOf p q = p.x2 <ℤ q.x1
+
+-- a run of the lowest row, in all rows of the band
+pub record IsPiece (cells : ℤ → ℤ → Bool) (low high : ℤ) (p : Rect) : Type 0 where
+  pub bottom : p.y1 ≡ low
+  pub top : p.y2 ≡ high
+  pub run : IsRun cells p.x1 p.x2 low
+
+-- the runs of a band from the left
+pub record ArePieces (cells : ℤ → ℤ → Bool) (low high : ℤ) (pieces : List Rect) : Type 0 where
+  pub each : All (IsPiece cells low high) pieces
+  pub all : (x1 x2 : ℤ) → IsRun cells x1 x2 low → Any (HasColumns x1 x2) pieces
+  pub ordered : AllPairs IsLeftOf pieces

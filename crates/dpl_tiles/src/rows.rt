@@ -1,0 +1,93 @@
+ghost use Rattle.std.specs.Prelude.{◌≡◌, ℤ, ◌≤ℤ◌, IfOk, OnOk, ◌||◌, All, map};
+ghost use Rattle.dpl_cell.specs.Places.{corners_of};
+ghost use Rattle.dpl_cell.specs.Outlines.{outline_of};
+ghost use Rattle.dpl_cell.specs.Layers.{is_cell, is_in_outline, is_in_box, is_within};
+ghost use Rattle.dpl_tiles.specs.Stretches.{IsRow, AreSeparate, is_in_stretches, Ascends, AddsPlaces};
+
+use crate::crossing::push_polygon;
+use crate::stretch::Stretch;
+use dpl_cell::{Prim, Rect};
+use std::alloc::{AllocError, Global};
+
+/// The cells of one row of a layer.
+pub fn row(alloc: Global, prims: &[Prim], y: i64) -> Result<Vec<Stretch>, AllocError>
+    ensures { IfOk result (λ v. IsRow (is_cell (map outline_of prims.now)) y v.items) }
+{
+    let mut parts = Vec::new(alloc);
+    for prim in prims {
+        push_prim(alloc, &mut parts, prim, y)?;
+    }
+    sort(&mut parts);
+    merged(alloc, parts.as_slice())
+}
+
+/// Adds the cells of a primitive in one row.
+fn push_prim(alloc: Global, parts: &mut Vec<Stretch>, prim: &Prim, y: i64) -> Result<(), AllocError>
+    ensures { OnOk result (AddsPlaces (λ x. is_in_outline x y (outline_of prim.now)) parts.old.items parts.new.items) }
+{
+    match prim {
+        Prim::Box(r) => push_box(parts, r, y),
+        Prim::Poly(points) => push_polygon(alloc, parts, points.as_slice(), y),
+    }
+}
+
+fn push_box(parts: &mut Vec<Stretch>, r: &Rect, y: i64) -> Result<(), AllocError>
+    ensures { OnOk result (AddsPlaces (λ x. is_in_box (corners_of r.now) x y) parts.old.items parts.new.items) }
+{
+    if r.y1 <= y && y < r.y2 {
+        parts.push(Stretch::new(r.x1, r.x2))?;
+    }
+    Ok(())
+}
+
+fn sort(parts: &mut Vec<Stretch>)
+    ensures same { (x : ℤ) → is_in_stretches parts.new.items x ≡ is_in_stretches parts.old.items x }
+    ensures sorted { Ascends (λ s. s.from) parts.new.items }
+{
+    parts.sort_unstable_by_key(|s| s.from);
+}
+
+/// The same places with a place between neighbours.
+fn merged(alloc: Global, parts: &[Stretch]) -> Result<Vec<Stretch>, AllocError>
+    requires { Ascends (λ s. s.from) parts.now }
+    ensures separate { IfOk result (λ v. AreSeparate v.items) }
+    ensures same { IfOk result (λ v. (x : ℤ) → is_in_stretches v.items x ≡ is_in_stretches parts.now x) }
+{
+    match parts.split_first() {
+        None => Ok(Vec::new(alloc)),
+        Some((first, rest)) => merged_with(alloc, *first, rest),
+    }
+}
+
+fn merged_with(alloc: Global, first: Stretch, rest: &[Stretch]) -> Result<Vec<Stretch>, AllocError>
+    requires first { All (λ s. first.from ≤ℤ s.from) rest.now }
+    requires sorted { Ascends (λ s. s.from) rest.now }
+    ensures separate { IfOk result (λ v. AreSeparate v.items) }
+    ensures same { IfOk result (λ v. (x : ℤ) → is_in_stretches v.items x ≡ (is_within first.from first.to x || is_in_stretches rest.now x)) }
+{
+    let mut merged = Vec::new(alloc);
+    let mut last = first;
+    for part in rest {
+        if part.from <= last.to {
+            last = joined(&last, part);
+        } else {
+            merged.push(last)?;
+            last = *part;
+        }
+    }
+    merged.push(last)?;
+    Ok(merged)
+}
+
+/// The places of two stretches, of which the second begins in the first or right behind it.
+fn joined(a: &Stretch, b: &Stretch) -> Stretch
+    requires above { a.now.from ≤ℤ b.now.from }
+    requires touching { b.now.from ≤ℤ a.now.to }
+    ensures from { result.from ≡ a.now.from }
+    ensures same { (x : ℤ) → is_within result.from result.to x ≡ (is_within a.now.from a.now.to x || is_within b.now.from b.now.to x) }
+{
+    Stretch {
+        from: a.from,
+        to: a.to.max(b.to),
+    }
+}

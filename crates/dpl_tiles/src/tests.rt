@@ -1,0 +1,111 @@
+use crate::{TileError, tiles};
+use dpl_cell::{Layout, Point, Points, Prim, Rect};
+use dpl_list::Items;
+use std::test::Fail;
+
+type Corners = (i64, i64, i64, i64);
+
+fn rect_of(corners: &Corners) -> Result<Rect, Fail> {
+    let (x1, y1, x2, y2) = *corners;
+    Ok(Rect::new(x1, y1, x2, y2).ok_or("out of range")?)
+}
+
+fn corners_of(tile: &Rect) -> Corners {
+    (tile.x1, tile.y1, tile.x2, tile.y2)
+}
+
+/// Whether these are the tiles of a layout.
+fn are_tiles(rt: &HostRuntime, prims: Vec<Prim>, want: &[Corners]) -> Result<bool, Fail> {
+    let layout = Layout {
+        prims: Items::new(prims),
+    };
+    let found = tiles(rt.alloc(), &layout).map_err(|_| "refused")?;
+    let corners: Vec<Corners> = found.iter().map(corners_of).collect(rt.alloc())?;
+    Ok(corners.as_slice() == want)
+}
+
+fn boxes(rt: &HostRuntime, all: &[Corners]) -> Result<Vec<Prim>, Fail> {
+    let mut prims = Vec::new(rt.alloc());
+    for corners in all {
+        prims.push(Prim::Box(rect_of(corners)?))?;
+    }
+    Ok(prims)
+}
+
+#[test]
+fn a_t(rt: HostRuntime) -> Result<(), Fail> {
+    let prims = boxes(&rt, &[(200, 100, 400, 600), (0, 0, 600, 200)])?;
+    let want = [(0, 0, 600, 200), (200, 200, 400, 600)];
+    assert!(rt; are_tiles(&rt, prims, want.as_slice())?);
+    Ok(())
+}
+
+#[test]
+fn corner_contact(rt: HostRuntime) -> Result<(), Fail> {
+    let prims = boxes(&rt, &[(2, 2, 4, 4), (0, 0, 2, 2)])?;
+    let want = [(0, 0, 2, 2), (2, 2, 4, 4)];
+    assert!(rt; are_tiles(&rt, prims, want.as_slice())?);
+    Ok(())
+}
+
+#[test]
+fn boxes_that_touch_are_one_tile(rt: HostRuntime) -> Result<(), Fail> {
+    let prims = boxes(
+        &rt,
+        &[(0, 5, 9, 9), (0, 0, 4, 5), (4, 0, 9, 5), (3, 2, 7, 6)],
+    )?;
+    assert!(rt; are_tiles(&rt, prims, [(0, 0, 9, 9)].as_slice())?);
+    Ok(())
+}
+
+#[test]
+fn nothing_has_no_tiles(rt: HostRuntime) -> Result<(), Fail> {
+    let prims = boxes(&rt, &[])?;
+    assert!(rt; are_tiles(&rt, prims, &[])?);
+    Ok(())
+}
+
+#[test]
+fn a_ring_with_a_box_inside(rt: HostRuntime) -> Result<(), Fail> {
+    let mut corners = Vec::new(rt.alloc());
+    for (x, y) in [
+        (0, 0),
+        (10, 0),
+        (10, 10),
+        (0, 10),
+        (0, 3),
+        (3, 3),
+        (3, 7),
+        (7, 7),
+        (7, 3),
+        (0, 3),
+    ] {
+        corners.push(Point::new(x, y).ok_or("out of range")?)?;
+    }
+    let mut prims = boxes(&rt, &[(4, 4, 6, 6)])?;
+    prims.push(Prim::Poly(Points::new(corners).ok_or("slanted")?))?;
+    let want = [
+        (0, 0, 10, 3),
+        (0, 3, 3, 7),
+        (7, 3, 10, 7),
+        (4, 4, 6, 6),
+        (0, 7, 10, 10),
+    ];
+    assert!(rt; are_tiles(&rt, prims, want.as_slice())?);
+    Ok(())
+}
+
+#[test]
+fn a_grid_with_too_many_tiles(rt: HostRuntime) -> Result<(), Fail> {
+    let mut prims = Vec::new(rt.alloc());
+    for i in 0..512u16 {
+        let at = i64::from(i) * 4;
+        prims.push(Prim::Box(rect_of(&(at, -2, at + 2, 2048))?))?;
+        prims.push(Prim::Box(rect_of(&(-2, at, 2048, at + 2))?))?;
+    }
+    let layout = Layout {
+        prims: Items::new(prims),
+    };
+    assert!(rt; tiles(rt.alloc(), &layout).err() == Some(TileError::TooMany));
+    Ok(())
+}
