@@ -4,6 +4,8 @@ use Rattle.std.specs.Prelude.{slice_index, slice_index_or}
 use Rattle.std.proofs.lemmas.Int.{ints}
 use Rattle.std.proofs.lemmas.Bool.{cases_lt, cases_eq}
 use Rattle.std.proofs.lemmas.List.{get_or_default}
+use Rattle.std.proofs.lemmas.Grind.{same_number_lists}
+use Rattle.dpl_core.proofs.MaskingLemmas.{corner_in}
 use Rattle.dpl_cell.specs.Places.{Corners}
 use Rattle.dpl_cell.specs.Tiles.{IsTile, IsBefore, AreTiles}
 use Rattle.dpl_core.specs.Boxes.{no_box, cells_at}
@@ -79,3 +81,60 @@ ordered_same {X} R one (x ∷ xs) (y ∷ ys) a b f g =
     let f' : (z : X) → Contains (x ∷ xs) z → Contains (x ∷ ys) z = λ z c. rw (← e) at (f z c) in
     let g' : (z : X) → Contains (x ∷ ys) z → Contains (x ∷ xs) z = λ z c. g z (rw e at c) in
     rw (← e) (ap (λ zs. x ∷ zs) (ordered_same R one xs ys (tail_pairs R x xs a) (tail_pairs R y ys b) (others R one x xs ys a f') (others R one x ys xs b' g')))
+
+-- a layer has one list of tiles
+same_tiles : (cells : ℤ → ℤ → Bool) (tiles others : List Corners) → AreTiles cells tiles → AreTiles cells others → tiles ≡ others
+same_tiles cells tiles others a b = ordered_same IsBefore before_once tiles others a.ordered b.ordered (λ z c. b.all z (is_one tiles a z c)) (λ z c. a.all z (is_one others b z c)) where
+  is_one : (ts : List Corners) → AreTiles cells ts → (z : Corners) → Contains ts z → IsTile cells z
+  is_one ts t z (k, l, e) = rw e at (t.each k z l)
+
+-- ---- numbers of shapes
+
+-- the numbers of two tiles are equal in the one list where they are in the other
+carries : (cells : ℤ → ℤ → Bool) (tiles : List Corners) (ns ms : List ℕ) → All (IsTile cells) tiles → AreNumbers cells tiles ns → AreNumbers cells tiles ms → (i j : ℕ) → i < length tiles → j < length tiles → slice_index ns i ≡ slice_index ns j → slice_index ms i ≡ slice_index ms j
+carries cells tiles ns ms each n m i j k l e =
+    let p = corner_in cells (slice_index_or tiles i no_box) (each i no_box k) in
+    let q = corner_in cells (slice_index_or tiles j no_box) (each j no_box l) in
+    (m.same i j k l _ _ _ _ p q).1 ((n.same i j k l _ _ _ _ p q).0 e)
+
+-- where the numbers before are the same, no number is less than its other one
+not_less : (cells : ℤ → ℤ → Bool) (tiles : List Corners) (ns ms : List ℕ) → All (IsTile cells) tiles → AreNumbers cells tiles ns → AreNumbers cells tiles ms → (i : ℕ) → i < length tiles → ((j : ℕ) → j < i → slice_index ns j ≡ slice_index ms j) → slice_index ns i < slice_index ms i → ⊥
+not_less cells tiles ns ms each n m i l same h =
+    let (j, k, e) = m.rising i (slice_index ns i) l h in
+    let f : slice_index ns j ≡ slice_index ns i = same j k ∙ e in
+    let g : slice_index ms j ≡ slice_index ms i = carries cells tiles ns ms each n m j i (omega arith) l f in
+    omega (arith, e, g)
+
+same_below : (cells : ℤ → ℤ → Bool) (tiles : List Corners) (ns ms : List ℕ) → All (IsTile cells) tiles → AreNumbers cells tiles ns → AreNumbers cells tiles ms → (i : ℕ) → i ≤ length tiles → (j : ℕ) → j < i → slice_index ns j ≡ slice_index ms j
+same_below cells tiles ns ms each n m zero l j h = absurd (omega arith)
+same_below cells tiles ns ms each n m (suc i) l j h =
+    let ih = same_below cells tiles ns ms each n m i (omega arith) in
+    elim (cases_lt j i) [
+      | inl g ↦ ih j g
+      | inr g ↦
+          let e : j ≡ i = omega arith in
+          let k : i < length tiles = omega arith in
+          rw e (elim (cases_lt (slice_index ns i) (slice_index ms i)) [
+            | inl f ↦ absurd (not_less cells tiles ns ms each n m i k ih f)
+            | inr f ↦ elim (cases_lt (slice_index ms i) (slice_index ns i)) [
+              | inl u ↦ absurd (not_less cells tiles ms ns each m n i k (λ j h. sym (ih j h)) u)
+              | inr u ↦ let r : slice_index ns i ≡ slice_index ms i = omega (arith, f, u) in r
+            ]
+          ])
+    ]
+
+same_numbers : (cells : ℤ → ℤ → Bool) (tiles : List Corners) (ns ms : List ℕ) → All (IsTile cells) tiles → AreNumbers cells tiles ns → AreNumbers cells tiles ms → ns ≡ ms
+same_numbers cells tiles ns ms each n m = let e = n.long in let f = m.long in same_number_lists ns ms (omega arith) (λ k l. same_below cells tiles ns ms each n m (length tiles) (omega arith) k (omega arith))
+
+-- where all pairs are at most n, no more than n are there
+pub not_more_edges : (cells : ℤ → ℤ → Bool) (reach n : ℕ) (tiles : List Corners) (numbers : List ℕ) (joins clashes : List (ℕ × ℕ)) → AreNumbered cells tiles numbers → ((pair : ℕ × ℕ) → IsJoin tiles pair → Contains joins pair) → AllPairs IsEarlier joins → AreClashes tiles numbers reach clashes → length joins + length clashes ≤ n → ¬ HasMoreEdges cells reach n
+not_more_edges cells reach n tiles numbers joins clashes a all once c few more =
+    let e : more.tiles ≡ tiles = same_tiles cells more.tiles tiles more.numbered.of_layer a.of_layer in
+    let m : AreNumbers cells tiles more.numbers = rw e at more.numbered.of_shapes in
+    let f : more.numbers ≡ numbers = same_numbers cells tiles more.numbers numbers a.of_layer.each m a.of_shapes in
+    let j : All (IsJoin tiles) more.joins = rw e at more.each_join in
+    let k : All (IsClash tiles numbers reach) more.clashes = rw (e, f) at more.each_clash in
+    let u = no_longer IsEarlier earlier_once more.joins joins more.joins_once once (λ i d l. all _ (j i d l)) in
+    let v = no_longer IsEarlier earlier_once more.clashes clashes more.clashes_once c.once (λ i d l. c.all _ (k i d l)) in
+    let w = more.many in
+    omega arith

@@ -9,3 +9,4 @@ pub mod EvenLemmas
 pub mod ReadingLemmas
 pub mod MaskingLemmas
 pub mod EdgeLemmas
+pub mod ClashLemmas

@@ -196,7 +196,7 @@ first_of mask (r ∷ rects) (n ∷ numbers) s (suc k) e l h = go (n == s) refl (
   go true f p = (0, omega arith, eqb-true n s f, refl)
   go false f (j, m, g, q) = (suc j, omega arith, g, q)
 
-corner_in : (cells : ℤ → ℤ → Bool) (r : Corners) → IsTile cells r → IsIn r r.x1 r.y1
+pub corner_in : (cells : ℤ → ℤ → Bool) (r : Corners) → IsTile cells r → IsIn r r.x1 r.y1
 corner_in cells r t =
     let h = t.high in
     let w = (t.rows r.y1 (record { from = omega (arith, ints); to = h })).long in

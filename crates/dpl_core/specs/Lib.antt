@@ -11,3 +11,4 @@ pub mod Apart
 pub mod Masking
 pub mod Numbering
 pub mod Edges
+pub mod Clashes
