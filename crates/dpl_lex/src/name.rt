@@ -1,5 +1,5 @@
 // The names of layers.
-ghost use Rattle.std.specs.Prelude.{◌≡◌, Some, None, if◌then◌else◌};
+ghost use Rattle.std.specs.Prelude.{◌≡◌, true, Some, None, if◌then◌else◌};
 ghost use Rattle.std.specs.List.{list_all};
 ghost use Rattle.dpl_lex.specs.Classes as classes;
 ghost use Rattle.dpl_lex.specs.Name.{is_name};
@@ -42,7 +42,8 @@ impl Name {
     }
 
     pub fn bytes(&self) -> &[u8]
-        ensures { result.now ≡ self.now }
+        ensures value { result.now ≡ self.now }
+        ensures name { is_name self.now ≡ true }
     {
         &self.bytes[..self.count]
     }

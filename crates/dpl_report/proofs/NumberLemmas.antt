@@ -1,0 +1,149 @@
+-- A printed number is read back.
+use Rattle.std.proofs.Common.{arith, ◌≡◌, ◌==◌, ℕ, suc, ◌+◌, ◌-◌, ◌*◌, ◌/◌, ◌%◌, ◌<◌, ◌≤◌, ◌^◌, Bool, true, false, not, ◌&&◌, List, [], ◌∷◌, ◌++◌, refl, Some}
+use Rattle.std.specs.Prelude.{ℤ, pos, negsuc, ◌-ℤ◌, unsigned_abs, nat_lt}
+use Rattle.std.specs.List.{list_all}
+use Rattle.std.specs.Fmt.{decimal, signed_decimal}
+use Rattle.std.proofs.lemmas.Fmt.{decimal_by_steps}
+use Rattle.std.proofs.lemmas.List.Folds.{list_all-append}
+use Rattle.std.proofs.lemmas.Bool.Decides.{nat_tests}
+use Rattle.std.proofs.lemmas.Int.{ints}
+use Rattle.dpl_lex.specs.Classes.{is_digit, is_separator, drop_while}
+use Rattle.dpl_lex.specs.Number.{greatest, digits_value, of_magnitude, of_negated, unsigned_at, signed_at}
+use Rattle.dpl_lex.specs.CuttingLaws.{is_inside}
+use Rattle.dpl_rules.specs.Readers.{unsigned_of, signed_of}
+
+-- no digit stands at the front
+abbrev pub has_no_digit : List ℕ → Bool
+has_no_digit [] = true
+has_no_digit (b ∷ bs) = not (is_digit b)
+
+-- a digit stands at the front
+abbrev begins_with_digit : List ℕ → Bool
+begins_with_digit [] = false
+begins_with_digit (b ∷ bs) = is_digit b
+
+-- the digits of a number
+record AreDigitsOf (n : ℕ) (ds : List ℕ) : Type 0 where
+  some : begins_with_digit ds ≡ true
+  all : list_all is_digit ds ≡ true
+  value : digits_value 0 ds ≡ n
+
+digit : (n : ℕ) → n < 10 → is_digit (48 + n) ≡ true
+digit n l = grind (arith, nat_tests)
+
+begins-append : (ds es : List ℕ) → begins_with_digit ds ≡ true → begins_with_digit (ds ++ es) ≡ true
+begins-append [] es h = absurd (cc)
+begins-append (d ∷ ds) es h = h
+
+pub both : (a b : Bool) → a && b ≡ true → (a ≡ true) × (b ≡ true)
+both true b e = (refl, e)
+both false b e = absurd (cc)
+
+-- what passes one test passes another
+pub list_all-weaker : (p q : ℕ → Bool) → ((b : ℕ) → p b ≡ true → q b ≡ true) → (bs : List ℕ) → list_all p bs ≡ true → list_all q bs ≡ true
+list_all-weaker p q w [] h = refl
+list_all-weaker p q w (b ∷ bs) h =
+    let s = both (p b) (list_all p bs) h in
+    rw (w b s.0) (list_all-weaker p q w bs s.1)
+
+digits_value-append : (m : ℕ) (ds : List ℕ) (d : ℕ) → list_all is_digit ds ≡ true → is_digit d ≡ true → digits_value m (ds ++ d ∷ []) ≡ 10 * digits_value m ds + (d - 48)
+digits_value-append m [] d h e = rw e refl
+digits_value-append m (x ∷ ds) d h e =
+    let p = both (is_digit x) (list_all is_digit ds) h in
+    rw (p.0) (digits_value-append (10 * m + (x - 48)) ds d p.1 e)
+
+one_digit : (n : ℕ) → n < 10 → AreDigitsOf n ((48 + n) ∷ [])
+one_digit n l = record {
+  some = digit n l;
+  all = rw (digit n l) refl;
+  value = rw (digit n l) (omega arith);
+}
+
+more_digits : (n : ℕ) (ds : List ℕ) → 10 ≤ n → AreDigitsOf (n / 10) ds → AreDigitsOf n (ds ++ (48 + n % 10) ∷ [])
+more_digits n ds l h =
+    let small : n % 10 < 10 = omega arith in
+    record {
+      some = begins-append ds ((48 + n % 10) ∷ []) h.some;
+      all = rw (list_all-append is_digit ds ((48 + n % 10) ∷ []), h.all, digit (n % 10) small) refl;
+      value = rw (digits_value-append 0 ds (48 + n % 10) h.all (digit (n % 10) small), h.value) (omega arith);
+    }
+
+digits_of-decimal : (n : ℕ) → n < 2 ^ 64 → AreDigitsOf n (decimal n)
+digits_of-decimal n l = decimal_by_steps AreDigitsOf one_digit more_digits n l
+
+-- what follows the digits adds nothing
+digits_value-behind : (m : ℕ) (ds rest : List ℕ) → list_all is_digit ds ≡ true → has_no_digit rest ≡ true → digits_value m (ds ++ rest) ≡ digits_value m ds
+digits_value-behind m [] [] h e = refl
+digits_value-behind m [] (b ∷ rest) h e = grind arith
+digits_value-behind m (d ∷ ds) rest h e =
+    let p = both (is_digit d) (list_all is_digit ds) h in
+    rw (p.0) (digits_value-behind (10 * m + (d - 48)) ds rest p.1 e)
+
+drop_while-digits : (ds rest : List ℕ) → list_all is_digit ds ≡ true → has_no_digit rest ≡ true → drop_while is_digit (ds ++ rest) ≡ rest
+drop_while-digits [] [] h e = refl
+drop_while-digits [] (b ∷ rest) h e = grind arith
+drop_while-digits (d ∷ ds) rest h e =
+    let p = both (is_digit d) (list_all is_digit ds) h in
+    rw (p.0) (drop_while-digits ds rest p.1 e)
+
+digit_is_no_separator : (b : ℕ) → is_digit b ≡ true → is_separator b ≡ false
+digit_is_no_separator b e = grind (arith, nat_tests)
+
+digit_is_no_minus : (b : ℕ) → is_digit b ≡ true → (b == 45) ≡ false
+digit_is_no_minus b e = grind (arith, nat_tests)
+
+-- digits behind a space
+unsigned_at-digits : (bs : List ℕ) → begins_with_digit bs ≡ true → unsigned_at (32 ∷ bs) ≡ (of_magnitude (digits_value 0 bs), drop_while is_digit bs)
+unsigned_at-digits [] h = absurd (cc)
+unsigned_at-digits (b ∷ bs) h = rw (digit_is_no_separator b h, h) refl
+
+signed_at-digits : (bs : List ℕ) → begins_with_digit bs ≡ true → signed_at (32 ∷ bs) ≡ (of_magnitude (digits_value 0 bs), drop_while is_digit bs)
+signed_at-digits [] h = absurd (cc)
+signed_at-digits (b ∷ bs) h = rw (digit_is_no_separator b h, digit_is_no_minus b h, h) refl
+
+signed_at-minus : (bs : List ℕ) → begins_with_digit bs ≡ true → signed_at (32 ∷ 45 ∷ bs) ≡ (of_negated (digits_value 0 bs), drop_while is_digit bs)
+signed_at-minus [] h = absurd (cc)
+signed_at-minus (b ∷ bs) h = rw h refl
+
+in_bounds : (n : ℕ) → n ≤ greatest → nat_lt greatest n ≡ false
+in_bounds n l = grind (arith, nat_tests)
+
+negated : (n : ℕ) → pos 0 -ℤ pos (suc n) ≡ negsuc n
+negated n = omega (arith, ints)
+
+-- an integer without a sign, and what follows it
+pub unsigned_of-decimal : (n : ℕ) (rest : List ℕ) → n ≤ greatest → has_no_digit rest ≡ true → unsigned_of (32 ∷ (decimal n ++ rest)) ≡ Some (n, rest)
+unsigned_of-decimal n rest l e =
+    let small : n < 2 ^ 64 = omega arith in
+    let d = digits_of-decimal n small in
+    rw (unsigned_at-digits (decimal n ++ rest) (begins-append (decimal n) rest d.some), digits_value-behind 0 (decimal n) rest d.all e, d.value, drop_while-digits (decimal n) rest d.all e, in_bounds n l) refl
+
+signed_of-decimal : (n : ℕ) (rest : List ℕ) → n ≤ greatest → has_no_digit rest ≡ true → signed_of (32 ∷ (decimal n ++ rest)) ≡ Some (pos n, rest)
+signed_of-decimal n rest l e =
+    let small : n < 2 ^ 64 = omega arith in
+    let d = digits_of-decimal n small in
+    rw (signed_at-digits (decimal n ++ rest) (begins-append (decimal n) rest d.some), digits_value-behind 0 (decimal n) rest d.all e, d.value, drop_while-digits (decimal n) rest d.all e, in_bounds n l) refl
+
+signed_of-minus : (n : ℕ) (rest : List ℕ) → suc n ≤ greatest → has_no_digit rest ≡ true → signed_of (32 ∷ 45 ∷ (decimal (suc n) ++ rest)) ≡ Some (negsuc n, rest)
+signed_of-minus n rest l e =
+    let small : suc n < 2 ^ 64 = omega arith in
+    let d = digits_of-decimal (suc n) small in
+    rw (signed_at-minus (decimal (suc n) ++ rest) (begins-append (decimal (suc n)) rest d.some), digits_value-behind 0 (decimal (suc n)) rest d.all e, d.value, drop_while-digits (decimal (suc n)) rest d.all e, in_bounds (suc n) l, negated n) refl
+
+-- an integer with a sign or without, and what follows it
+pub signed_of-signed_decimal : (z : ℤ) (rest : List ℕ) → unsigned_abs z ≤ greatest → has_no_digit rest ≡ true → signed_of (32 ∷ (signed_decimal z ++ rest)) ≡ Some (z, rest)
+signed_of-signed_decimal (pos n) rest l e = signed_of-decimal n rest l e
+signed_of-signed_decimal (negsuc n) rest l e = signed_of-minus n rest l e
+
+digit_is_inside : (b : ℕ) → is_digit b ≡ true → is_inside b ≡ true
+digit_is_inside b e = grind (arith, nat_tests)
+
+inside_digits : (n : ℕ) → n ≤ greatest → list_all is_inside (decimal n) ≡ true
+inside_digits n l =
+    let small : n < 2 ^ 64 = omega arith in
+    list_all-weaker is_digit is_inside digit_is_inside (decimal n) (digits_of-decimal n small).all
+
+-- no semicolon stands in a number
+pub is_inside-signed_decimal : (z : ℤ) → unsigned_abs z ≤ greatest → list_all is_inside (signed_decimal z) ≡ true
+is_inside-signed_decimal (pos n) l = inside_digits n l
+is_inside-signed_decimal (negsuc n) l = inside_digits (suc n) l
