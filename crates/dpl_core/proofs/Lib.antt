@@ -7,3 +7,6 @@ pub mod OrderLemmas
 pub mod CornerLemmas
 pub mod EvenLemmas
 pub mod ReadingLemmas
+pub mod MaskingLemmas
+pub mod EdgeLemmas
+pub mod ClashLemmas

@@ -8,3 +8,7 @@ pub mod Masks
 pub mod Even
 pub mod Reading
 pub mod Apart
+pub mod Masking
+pub mod Numbering
+pub mod Edges
+pub mod Clashes

@@ -5,6 +5,7 @@
 //! `colour` does the work over numbered nodes and pairs of them.
 #![tactic(auto)]
 
+mod clashes;
 mod colouring;
 mod even;
 mod forest;
