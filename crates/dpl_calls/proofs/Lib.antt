@@ -17,3 +17,4 @@ pub mod Stable
 pub mod FarParts
 pub mod Rigid
 pub mod CleanParts
+pub mod Scans

@@ -7,7 +7,7 @@ use Rattle.dpl_lex.proofs.Within.{commands_within, commands_few}
 use Rattle.dpl_rules.specs.Bounds.{read_commands}
 use Rattle.dpl_calls.proofs.Few.{AllFit, all_fit}
 use Rattle.dpl_calls.proofs.ScansNext.{read_next, scans_next, scans_first}
-use Rattle.dpl_calls.proofs.scan.scan.Goals as goal
+use Rattle.dpl_calls.proofs.scanning.scan.Goals as goal
 
 pub commands-preserved-in-Ok-step : goal.commands-preserved-in-Ok-step
 commands-preserved-in-Ok-step c =

@@ -5,7 +5,7 @@ use Rattle.dpl_rules.specs.Bounds.{read_commands}
 use Rattle.dpl_calls.specs.Put.{IsKnown}
 use Rattle.dpl_calls.specs.Scanned.{Scans}
 use Rattle.dpl_calls.proofs.Few.{AllFit}
-use Rattle.dpl_calls.proofs.scan.scan.Given as goal
+use Rattle.dpl_calls.proofs.scanning.scan.Given as goal
 
 abbrev pub invariant-commands : goal.invariant-commands
 invariant-commands l =
