@@ -7,7 +7,9 @@ mod cycles;
 mod darts;
 mod euler;
 mod faces;
+mod neighbours;
 mod parity;
+mod parts;
 mod replace;
 mod rotation;
 
@@ -15,4 +17,6 @@ pub use aside::{aside_edges, kept_edges};
 pub use components::component_count;
 pub use euler::{excess, total_excess};
 pub use faces::face_count;
-pub use parity::{face_name, is_odd_face, passages_on_face};
+pub use neighbours::{are_neighbours, leads};
+pub use parity::{face_name, is_odd_face, meets_faces, passages_on_face};
+pub use parts::are_of_one_part;

@@ -3,8 +3,8 @@ use crate::graphs::Signed;
 use crate::nets::Net;
 use crate::order::port_order;
 use crate::plain::{
-    aside_edges, component_count, excess, face_count, face_name, is_odd_face, kept_edges,
-    passages_on_face, total_excess,
+    are_neighbours, are_of_one_part, aside_edges, component_count, excess, face_count, face_name,
+    is_odd_face, kept_edges, leads, meets_faces, passages_on_face, total_excess,
 };
 use crate::ports::Port;
 use crate::{broken, cost};
@@ -72,6 +72,21 @@ fn odd_triangle(alloc: Global) -> Result<Net, Fail> {
     drawing(alloc, 3, &links)
 }
 
+/// Two of them, one above the other.
+fn two_triangles(alloc: Global) -> Result<Net, Fail> {
+    let (east, west) = (Port::on_side(3, 200), Port::on_side(7, -200));
+    let (up, down) = (Port::on_side(5, -350), Port::on_side(1, 350));
+    let links = [
+        (Edge::clash(0, 1, 10), east, west),
+        (Edge::clash(0, 2, 10), up, down),
+        (Edge::clash(1, 2, 10), up, Port::on_side(1, 650)),
+        (Edge::clash(3, 4, 10), east, west),
+        (Edge::clash(3, 5, 10), up, down),
+        (Edge::clash(4, 5, 10), up, Port::on_side(1, 650)),
+    ];
+    drawing(alloc, 6, &links)
+}
+
 #[test]
 fn odd_triangle_has_two_faces(rt: HostRuntime) -> Result<(), Fail> {
     let net = odd_triangle(rt.alloc())?;
@@ -94,6 +109,73 @@ fn odd_triangle_has_odd_faces(rt: HostRuntime) -> Result<(), Fail> {
     assert!(rt; is_odd_face(rt.alloc(), &net, &all, 1)?);
     let broken = [true, false, false];
     assert_eq!(rt; passages_on_face(rt.alloc(), &net, &all, &broken, 0)?, 1);
+    Ok(())
+}
+
+/// Both faces are odd, and each edge has one on each side: one edge or all three meet them.
+#[test]
+fn one_edge_meets_the_odd_triangle(rt: HostRuntime) -> Result<(), Fail> {
+    let net = odd_triangle(rt.alloc())?;
+    let all = [true, true, true];
+    let (one, two) = ([false, false, true], [false, true, true]);
+    assert!(rt; meets_faces(rt.alloc(), &net, &all, &one)?);
+    assert!(rt; meets_faces(rt.alloc(), &net, &all, &all)?);
+    assert!(rt; !meets_faces(rt.alloc(), &net, &all, &two)?);
+    assert!(rt; !meets_faces(rt.alloc(), &net, &all, &[])?);
+    assert!(rt; !meets_faces(rt.alloc(), &net, &[true, true], &one)?);
+    Ok(())
+}
+
+#[test]
+fn odd_triangle_has_neighbours(rt: HostRuntime) -> Result<(), Fail> {
+    let net = odd_triangle(rt.alloc())?;
+    let all = [true, true, true];
+    assert!(rt; are_neighbours(rt.alloc(), &net, &all, 0, 1)?);
+    assert!(rt; are_neighbours(rt.alloc(), &net, &all, 1, 0)?);
+    assert!(rt; !are_neighbours(rt.alloc(), &net, &all, 0, 0)?);
+    assert!(rt; leads(rt.alloc(), &net, &all, 0, &[1, 0, 1], 1)?);
+    assert!(rt; !leads(rt.alloc(), &net, &all, 0, &[1, 0], 1)?);
+    assert!(rt; !leads(rt.alloc(), &net, &all, 0, &[0, 1], 1)?);
+    Ok(())
+}
+
+/// The faces of the first are those of darts 0 and 1, and of the second those of darts 6 and 7.
+#[test]
+fn triangles_apart_are_not_neighbours(rt: HostRuntime) -> Result<(), Fail> {
+    let net = two_triangles(rt.alloc())?;
+    let all = [true, true, true, true, true, true];
+    assert!(rt; are_neighbours(rt.alloc(), &net, &all, 6, 7)?);
+    assert!(rt; !are_neighbours(rt.alloc(), &net, &all, 1, 6)?);
+    assert!(rt; !are_neighbours(rt.alloc(), &net, &all, 1, 7)?);
+    assert!(rt; leads(rt.alloc(), &net, &all, 7, &[6, 7, 6], 6)?);
+    assert!(rt; !leads(rt.alloc(), &net, &all, 0, &[1, 6, 7], 7)?);
+    Ok(())
+}
+
+#[test]
+fn each_triangle_is_one_part(rt: HostRuntime) -> Result<(), Fail> {
+    let net = two_triangles(rt.alloc())?;
+    let all = [true, true, true, true, true, true];
+    assert!(rt; are_of_one_part(rt.alloc(), &net, &all, 1, 0)?);
+    assert!(rt; are_of_one_part(rt.alloc(), &net, &all, 6, 7)?);
+    assert!(rt; !are_of_one_part(rt.alloc(), &net, &all, 0, 6)?);
+    assert!(rt; !are_of_one_part(rt.alloc(), &net, &all, 7, 1)?);
+    assert!(rt; are_of_one_part(rt.alloc(), &net, &all, 12, 12)?);
+    assert!(rt; !are_of_one_part(rt.alloc(), &net, &all, 12, 13)?);
+    Ok(())
+}
+
+/// Both sides of a single edge are one face. A stitch is crossed, and a bond is not.
+#[test]
+fn bonds_are_not_crossed(rt: HostRuntime) -> Result<(), Fail> {
+    let (east, west) = (Port::on_side(3, 0), Port::on_side(7, 0));
+    let bond = drawing(rt.alloc(), 2, &[(Edge::bond(0, 1), east, west)])?;
+    assert!(rt; !are_neighbours(rt.alloc(), &bond, &[true], 0, 0)?);
+    assert!(rt; meets_faces(rt.alloc(), &bond, &[true], &[false])?);
+    assert!(rt; !meets_faces(rt.alloc(), &bond, &[true], &[true])?);
+    let stitch = drawing(rt.alloc(), 2, &[(Edge::stitch(0, 1, 1), east, west)])?;
+    assert!(rt; are_neighbours(rt.alloc(), &stitch, &[true], 0, 0)?);
+    assert!(rt; meets_faces(rt.alloc(), &stitch, &[true], &[true])?);
     Ok(())
 }
 

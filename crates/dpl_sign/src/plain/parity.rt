@@ -1,7 +1,7 @@
-ghost use Rattle.std.specs.Prelude.{◌≡◌, ℕ, ◌<◌, length, IfOk};
+ghost use Rattle.std.specs.Prelude.{◌≡◌, ℕ, ◌%◌, ◌==◌, ◌<◌, ◌↔◌, true, length, IfOk, IsTrue};
 ghost use Rattle.dpl_sign.specs.Drawings.{dart_count, is_in as in_set, face_of};
 ghost use Rattle.dpl_sign.specs.Kinds.{is_clash as clash_test};
-ghost use Rattle.dpl_sign.specs.Parity.{passages_on_face as passages_of, is_odd_face as odd_face, is_clash_edge};
+ghost use Rattle.dpl_sign.specs.Parity.{passages_on_face as passages_of, is_odd_face as odd_face, is_clash_edge, is_crossable as crossable, MeetsFaces};
 
 use crate::edges::{Edge, Kind};
 use crate::nets::Net;
@@ -66,4 +66,72 @@ pub fn is_odd_face(alloc: Global, net: &Net, set: &[bool], face: u32) -> Result<
     let test = clashes(alloc, net)?;
     let passages = passages_on_face(alloc, net, set, &test, face)?;
     Ok(passages % 2 == 1)
+}
+
+/// Whether an edge is a stitch or a clash of a set.
+pub fn is_crossable(net: &Net, set: &[bool], edge: u32) -> bool
+    requires { edge < length net.now.graph.edges }
+    ensures { result ≡ crossable net.now (in_set set.now) edge }
+{
+    let inside = is_in(set, edge);
+    match net.graph.edges.as_slice()[edge as usize].kind {
+        Kind::Bond => false,
+        _ => inside,
+    }
+}
+
+/// Whether all edges chosen are stitches and clashes of the set.
+fn are_crossable(net: &Net, set: &[bool], chosen: &[bool]) -> bool
+    ensures { IsTrue result ↔ ((e : ℕ) → e < length net.now.graph.edges → in_set chosen.now e ≡ true → crossable net.now (in_set set.now) e ≡ true) }
+{
+    for edge in 0..net.graph.edges.as_slice().len() as u32 {
+        let crossed = is_crossable(net, set, edge);
+        if is_in(chosen, edge) & !crossed {
+            return false;
+        }
+    }
+    true
+}
+
+/// Whether a face passes as many chosen edges as clashes, up to parity.
+fn is_met(
+    alloc: Global,
+    net: &Net,
+    set: &[bool],
+    chosen: &[bool],
+    face: u32,
+) -> Result<bool, AllocError>
+    ensures { IfOk result (λ met. met ≡ (passages_of net.now (in_set set.now) (in_set chosen.now) face % 2 == passages_of net.now (in_set set.now) (is_clash_edge net.now) face % 2)) }
+{
+    let test = clashes(alloc, net)?;
+    let clashed = passages_on_face(alloc, net, set, &test, face)?;
+    let passed = passages_on_face(alloc, net, set, chosen, face)?;
+    Ok(passed % 2 == clashed % 2)
+}
+
+/// Whether each face passes as many chosen edges as clashes, up to parity.
+fn are_met(alloc: Global, net: &Net, set: &[bool], chosen: &[bool]) -> Result<bool, AllocError>
+    ensures { IfOk result (λ met. IsTrue met ↔ ((f : ℕ) → f < dart_count net.now → passages_of net.now (in_set set.now) (in_set chosen.now) f % 2 ≡ passages_of net.now (in_set set.now) (is_clash_edge net.now) f % 2)) }
+{
+    for face in 0..2 * net.graph.edges.as_slice().len() as u32 {
+        if !is_met(alloc, net, set, chosen, face)? {
+            return Ok(false);
+        }
+    }
+    Ok(true)
+}
+
+/// Whether the edges chosen are stitches and clashes of the set, of which each face passes as many
+/// as it passes clashes, up to parity.
+pub fn meets_faces(
+    alloc: Global,
+    net: &Net,
+    set: &[bool],
+    chosen: &[bool],
+) -> Result<bool, AllocError>
+    ensures { IfOk result (λ meets. IsTrue meets ↔ MeetsFaces net.now (in_set set.now) (in_set chosen.now)) }
+{
+    let crossed = are_crossable(net, set, chosen);
+    let met = are_met(alloc, net, set, chosen)?;
+    Ok(crossed & met)
 }
