@@ -1,5 +1,5 @@
 -- Parts of the faces, named while edge after edge joins the faces on its two sides.
-use Rattle.std.proofs.Common.{arith, ◌≡◌, ◌≢◌, ℕ, suc, ◌<◌, ◌≤◌, ◌+◌, ◌*◌, refl, sym, ap, ◌∙◌, Bool, true, false, inl, inr, List, [], ◌∷◌, ◌++◌, length}
+use Rattle.std.proofs.Common.{arith, ◌≡◌, ℕ, suc, ◌<◌, ◌≤◌, ◌+◌, ◌*◌, refl, sym, ap, ◌∙◌, Bool, true, false, inl, inr, List, [], ◌∷◌, ◌++◌, length}
 use Rattle.std.specs.Prelude.{if◌then◌else◌, ◌⊎◌, ◌↔◌, IsTrue, slice_index}
 use Rattle.std.proofs.lemmas.Bool.{cases_eq, cases_Bool, both_ways, cond-true, cond-false}
 use Rattle.dpl_cycle.specs.Names.{join}
@@ -7,7 +7,7 @@ use Rattle.dpl_cycle.proofs.NameLemmas.{join_hit, join_miss}
 use Rattle.dpl_cycle.proofs.Least.{least_le}
 use Rattle.dpl_sign.specs.declared.nets.Net.{Net}
 use Rattle.dpl_sign.specs.Drawings.{dart_count, face_of}
-use Rattle.dpl_sign.specs.Parity.{is_crossable, Separates, AreNeighbours, IsFacePath, AreOfOnePart}
+use Rattle.dpl_sign.specs.Parity.{is_crossable, AreNeighbours, IsFacePath, AreOfOnePart}
 use Rattle.dpl_sign.proofs.Rotation.{face_permutes}
 
 pub face_below : (net : Net) (set : ℕ → Bool) (d : ℕ) → d < dart_count net → face_of net set d < dart_count net
