@@ -10,3 +10,4 @@ pub mod ReadingLemmas
 pub mod MaskingLemmas
 pub mod EdgeLemmas
 pub mod ClashLemmas
+pub mod NumberingLemmas
