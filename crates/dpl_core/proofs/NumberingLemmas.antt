@@ -4,6 +4,7 @@ use Rattle.std.specs.Prelude.{IsTrue, slice_index, slice_index_or}
 use Rattle.std.proofs.lemmas.Bool.{cases_lt, cases_eq}
 use Rattle.std.proofs.lemmas.List.{get_or_default, length_push, get_or_append_left, get_or_push, take_all, take-append-le}
 use Rattle.std.proofs.lemmas.List.Sums.{fold-append}
+use Rattle.std.proofs.Math.Seq.{take-suc}
 use Rattle.dpl_cell.specs.Places.{Corners}
 use Rattle.dpl_cell.specs.Cells.{IsIn}
 use Rattle.dpl_cell.specs.Outlines.{Box}
@@ -29,8 +30,8 @@ shape_same cells others e x y x' y' (cs, w) = (cs, walk_same cells others e x y 
 -- ---- labels are numbered
 
 -- the greatest label of one more
-next_take : (labels : List ℕ) (i : ℕ) → i < length labels → next_label (take (i + 1) labels) ≡ max (next_label (take i labels)) (slice_index labels i + 1)
-next_take labels i l = ?
+next_take : (labels : List ℕ) (i : ℕ) → i < length labels → next_label (take (suc i) labels) ≡ max (next_label (take i labels)) (slice_index labels i + 1)
+next_take labels i l = ap next_label (take-suc labels i 0 l) ∙ fold-append _ 0 (take i labels) (slice_index labels i ∷ [])
 
 -- each number below the next label stands before
 stands_before : (labels : List ℕ) → ((i : ℕ) → i < length labels → slice_index labels i ≤ next_label (take i labels)) → (i : ℕ) → i ≤ length labels → (n : ℕ) → n < next_label (take i labels) → (j : ℕ) × (j < i) × (slice_index labels j ≡ n)

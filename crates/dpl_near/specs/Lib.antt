@@ -1,0 +1,4 @@
+pub mod Near
+pub mod Joins
+pub mod Shapes
+pub mod Roots

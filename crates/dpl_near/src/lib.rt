@@ -1,0 +1,22 @@
+//! Shapes and close pairs of rectangles.
+//!
+//! `shapes` gives the pairs of rectangles that share an edge, and for each rectangle the number of its shape: the
+//! class of its cells under walks over shared edges. A `Finder` gives the rectangles that are closer to one of
+//! them than a reach. `are_apart` tells whether no two rectangles share a cell, which `shapes` asks for.
+#![tactic(auto)]
+
+mod apart;
+mod finder;
+mod joining;
+mod numbering;
+mod rooting;
+mod shaping;
+pub mod types;
+
+pub use apart::are_apart;
+pub use finder::Finder;
+pub use shaping::shapes;
+pub use std::alloc::AllocError as NoMemory;
+
+#[cfg(test)]
+mod tests;
