@@ -1,22 +1,19 @@
 -- From labels of rectangles to the numbers of a layer's shapes.
-use Rattle.std.proofs.Common.{arith, ◌≡◌, ◌↔◌, ◌∙◌, ℕ, zero, suc, ◌+◌, ◌<◌, ◌≤◌, ℤ, Bool, true, List, [], ◌∷◌, ◌++◌, length, get_or, take, map, max, All, AllPairs, Contains, refl, sym, ap, inl, inr, ◌⊎◌}
-use Rattle.std.specs.Prelude.{IsTrue, slice_index, slice_index_or}
+use Rattle.std.proofs.Common.{arith, ◌≡◌, ◌∙◌, ℕ, zero, suc, ◌+◌, ◌<◌, ◌≤◌, ℤ, Bool, List, [], ◌∷◌, length, get_or, take, map, max, All, Contains, sym, ap, inl, inr}
+use Rattle.std.specs.Prelude.{slice_index}
 use Rattle.std.proofs.lemmas.Bool.{cases_lt, cases_eq}
-use Rattle.std.proofs.lemmas.List.{get_or_default, length_push, get_or_append_left, get_or_push, take_all, take-append-le}
+use Rattle.std.proofs.lemmas.List.{get_or_default, take_all}
 use Rattle.std.proofs.lemmas.List.Sums.{fold-append}
 use Rattle.std.proofs.Math.Seq.{take-suc}
 use Rattle.dpl_cell.specs.Places.{Corners}
-use Rattle.dpl_cell.specs.Cells.{IsIn}
 use Rattle.dpl_cell.specs.Outlines.{Box}
 use Rattle.dpl_cell.specs.Layers.{is_cell}
 use Rattle.dpl_cell.specs.Shapes.{IsWalk, AreOneShape}
-use Rattle.dpl_cell.specs.Tiles.{AreTiles}
-use Rattle.dpl_near.specs.Joins as near
 use Rattle.dpl_near.specs.Joins.{AreJoins}
-use Rattle.dpl_near.specs.Shapes.{AreShapes, IsNumbered, next_label}
-use Rattle.dpl_core.specs.Boxes.{no_box, cells_at}
-use Rattle.dpl_core.specs.Numbering.{AreNumbers, AreNumbered}
-use Rattle.dpl_core.specs.Edges.{IsJoin, IsEarlier}
+use Rattle.dpl_near.specs.Shapes.{AreShapes, next_label}
+use Rattle.dpl_core.specs.Tiles.{no_box}
+use Rattle.dpl_core.specs.Numbering.{AreNumbers}
+use Rattle.dpl_core.specs.Edges.{IsJoin}
 
 -- ---- walks of cells in sets with the same cells
 

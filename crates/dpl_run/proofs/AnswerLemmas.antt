@@ -1,41 +1,49 @@
 -- What is due is one status, and what a run answers is due.
-use Rattle.std.proofs.Common.{arith, ◌≡◌, ◌≢◌, ◌⊎◌, ◌∙◌, ℕ, ◌≤◌, Bool, true, false, nat_lt, List, [], append-nil, length, Option, Some, None, Result, Ok, Err, refl, sym, inl, inr}
+use Rattle.std.proofs.Common.{arith, ◌≡◌, ◌≢◌, ◌⊎◌, ◌∙◌, ℕ, ℤ, ◌≤◌, Bool, true, false, nat_lt, List, [], append-nil, length, Option, Some, None, Result, Ok, Err, refl, sym, inl, inr}
 use Rattle.std.specs.Prelude.{MatchBool, IfSome}
 use Rattle.std.specs.Io.KnownBytes.{Appends, Consumes, IsAtEnd}
 use Rattle.std.proofs.lemmas.Bool.Decides.{nat_tests}
-use Rattle.dpl_cell.specs.Places.{Corners}
 use Rattle.dpl_cell.specs.Outlines.{Outline}
+use Rattle.dpl_cell.specs.Layers.{is_cell}
 use Rattle.dpl_cif.specs.Boxes.{boxes_of}
 use Rattle.dpl_run.specs.declared.words.Asked.{Asked}
 use Rattle.dpl_run.specs.declared.status.Status.{Status}
-use Rattle.dpl_run.specs.declared.status.Status.TheVariants.{Done, Usage, Limit, Form, Touching, Odd, ReadFault, WriteFault, NoMemory}
-use Rattle.dpl_core.specs.Order.{in_order}
-use Rattle.dpl_core.specs.Boxes.{boxes_among}
-use Rattle.dpl_run.specs.Answer.{IsDueOfBoxes, IsDueOfRead, IsDueOf, IsDue, Writes, Answers, IsAnswered, most_bytes}
+use Rattle.dpl_run.specs.declared.status.Status.TheVariants.{Done, Usage, Limit, Form, Odd, ReadFault, WriteFault, NoMemory}
+use Rattle.dpl_core.specs.Split.{IsOverLimit, IsWithinLimits}
+use Rattle.dpl_run.specs.Answer.{IsDueOfCells, IsDueOfRead, IsDueOf, IsDue, Writes, Answers, IsAnswered, most_bytes}
 use Rattle.dpl_run.specs.Telling.{IsTold}
 use Rattle.dpl_run.specs.Words.{words_of}
-use Rattle.dpl_core.proofs.EvenLemmas.{one_first}
 
 -- ---- one status is due
 
-one_of_boxes : (asked : Asked) (boxes : List Corners) (a b : Status) (x y : List ℕ) → IsDueOfBoxes asked boxes a x → IsDueOfBoxes asked boxes b y → a ≡ b
-one_of_boxes asked boxes (Touching i j) (Touching k l) x y (p, e) (q, f) = let (g, h) = one_first boxes i j k l p q in rw (g, h) refl
-one_of_boxes asked boxes (Touching i j) Odd x y (p, e) q = absurd (q.odd.none.0 i j p.touch)
-one_of_boxes asked boxes (Touching i j) Done x y (p, e) q = absurd (q.apart.0 i j p.touch)
-one_of_boxes asked boxes (Touching i j) b x y p q = absurd q
-one_of_boxes asked boxes Odd (Touching k l) x y p (q, f) = absurd (p.odd.none.0 k l q.touch)
-one_of_boxes asked boxes Odd Odd x y p q = refl
-one_of_boxes asked boxes Odd Done x y p q = absurd (p.odd.none.1 q.colour q.apart.1)
-one_of_boxes asked boxes Odd b x y p q = absurd q
-one_of_boxes asked boxes Done (Touching k l) x y p (q, f) = absurd (p.apart.0 k l q.touch)
-one_of_boxes asked boxes Done Odd x y p q = absurd (q.odd.none.1 p.colour p.apart.1)
-one_of_boxes asked boxes Done Done x y p q = refl
-one_of_boxes asked boxes Done b x y p q = absurd q
-one_of_boxes asked boxes a b x y p q = absurd p
+one_limit : (reach : ℕ) (cells : ℤ → ℤ → Bool) (k n l m : ℕ) → IsOverLimit reach cells k n → IsOverLimit reach cells l m → Limit k n ≡ Limit l m
+one_limit reach cells k n l m (inl (a, b, p)) (inl (c, d, q)) = rw (a, b, c, d) refl
+one_limit reach cells k n l m (inl (a, b, p)) (inr (c, d, q)) = absurd (q.0 p)
+one_limit reach cells k n l m (inr (a, b, p)) (inl (c, d, q)) = absurd (p.0 q)
+one_limit reach cells k n l m (inr (a, b, p)) (inr (c, d, q)) = rw (a, b, c, d) refl
+
+not_over : (reach : ℕ) (cells : ℤ → ℤ → Bool) (kind count : ℕ) → IsWithinLimits cells reach → IsOverLimit reach cells kind count → ⊥
+not_over reach cells kind count w (inl (e, f, m)) = w.tiles m
+not_over reach cells kind count w (inr (e, f, m)) = w.edges m.1
+
+one_of_cells : (asked : Asked) (cells : ℤ → ℤ → Bool) (a b : Status) (x y : List ℕ) → IsDueOfCells asked cells a x → IsDueOfCells asked cells b y → a ≡ b
+one_of_cells asked cells (Limit k n) (Limit l m) x y (p, e) (q, f) = one_limit _ _ k n l m p q
+one_of_cells asked cells (Limit k n) Odd x y (p, e) q = absurd (not_over _ _ k n q.odd.within p)
+one_of_cells asked cells (Limit k n) Done x y (p, e) q = absurd (not_over _ _ k n q.within p)
+one_of_cells asked cells (Limit k n) b x y p q = absurd q
+one_of_cells asked cells Odd (Limit l m) x y p (q, f) = absurd (not_over _ _ l m p.odd.within q)
+one_of_cells asked cells Odd Odd x y p q = refl
+one_of_cells asked cells Odd Done x y p q = absurd (p.odd.none q.mask q.masking)
+one_of_cells asked cells Odd b x y p q = absurd q
+one_of_cells asked cells Done (Limit l m) x y p (q, f) = absurd (not_over _ _ l m p.within q)
+one_of_cells asked cells Done Odd x y p q = absurd (q.odd.none p.mask p.masking)
+one_of_cells asked cells Done Done x y p q = refl
+one_of_cells asked cells Done b x y p q = absurd q
+one_of_cells asked cells a b x y p q = absurd p
 
 one_of_read : (asked : Asked) (read : Result (List Outline) ℕ) (a b : Status) (x y : List ℕ) → IsDueOfRead asked read a x → IsDueOfRead asked read b y → a ≡ b
 one_of_read asked (Err at) a b x y (p, e) (q, f) = p ∙ sym q
-one_of_read asked (Ok parts) a b x y p q = one_of_boxes asked (in_order (boxes_among parts)) a b x y p q
+one_of_read asked (Ok parts) a b x y p q = one_of_cells asked (is_cell parts) a b x y p q
 
 one_of_limit : (asked : Asked) (text : List ℕ) (t : Bool) (a b : Status) (x y : List ℕ) → MatchBool t ((a ≡ Limit 1 16385) × (x ≡ [])) (IsDueOfRead asked (boxes_of asked.layer text) a x) → MatchBool t ((b ≡ Limit 1 16385) × (y ≡ [])) (IsDueOfRead asked (boxes_of asked.layer text) b y) → a ≡ b
 one_of_limit asked text true a b x y (p, e) (q, f) = p ∙ sym q
@@ -50,15 +58,15 @@ one_due words text a b x y p q = one_of_words (words_of words) text a b x y p q
 
 -- ---- where something is written, it is the masks or an odd loop
 
-some_of_boxes : (asked : Asked) (boxes : List Corners) (a : Status) (x : List ℕ) → IsDueOfBoxes asked boxes a x → x ≢ [] → Writes a
-some_of_boxes asked boxes Odd x p n = tt
-some_of_boxes asked boxes Done x p n = tt
-some_of_boxes asked boxes (Touching i j) x (p, e) n = absurd (n e)
-some_of_boxes asked boxes a x p n = absurd p
+some_of_cells : (asked : Asked) (cells : ℤ → ℤ → Bool) (a : Status) (x : List ℕ) → IsDueOfCells asked cells a x → x ≢ [] → Writes a
+some_of_cells asked cells Odd x p n = tt
+some_of_cells asked cells Done x p n = tt
+some_of_cells asked cells (Limit kind count) x (p, e) n = absurd (n e)
+some_of_cells asked cells a x p n = absurd p
 
 some_of_read : (asked : Asked) (read : Result (List Outline) ℕ) (a : Status) (x : List ℕ) → IsDueOfRead asked read a x → x ≢ [] → Writes a
 some_of_read asked (Err at) a x (p, e) n = absurd (n e)
-some_of_read asked (Ok parts) a x p n = some_of_boxes asked (in_order (boxes_among parts)) a x p n
+some_of_read asked (Ok parts) a x p n = some_of_cells asked (is_cell parts) a x p n
 
 -- ---- what is answered is due
 
@@ -80,7 +88,6 @@ whole_answers words text before now Odd x p n t = record { output = x; due = p; 
 whole_answers words text before now (Usage kind) x p n t = record { output = x; due = p; taken = t }
 whole_answers words text before now (Limit kind count) x p n t = record { output = x; due = p; taken = t }
 whole_answers words text before now (Form at) x p n t = record { output = x; due = p; taken = t }
-whole_answers words text before now (Touching i j) x p n t = record { output = x; due = p; taken = t }
 
 told_answers : (words : List (List ℕ)) (asked : Asked) (text : List ℕ) (before now : Option (List ℕ)) (f g : ℕ) (a : Status) (x : List ℕ) (result : Status) → words_of words ≡ Some asked → length text ≤ 16384 → IsDueOfRead asked (boxes_of asked.layer text) a x → IsTold a x before now f g result → Answers words text before now result
 told_answers words asked text before now f g a x result e short p (inl w) =
@@ -108,7 +115,6 @@ comes words text before now due Odd x w p n = inl (one_due words text _ due w.ou
 comes words text before now due (Usage kind) x w p n = inl (one_due words text _ due w.output x w.due p)
 comes words text before now due (Limit kind count) x w p n = inl (one_due words text _ due w.output x w.due p)
 comes words text before now due (Form at) x w p n = inl (one_due words text _ due w.output x w.due p)
-comes words text before now due (Touching i j) x w p n = inl (one_due words text _ due w.output x w.due p)
 
 pub all_comes : (words : List (List ℕ)) (left before now : Option (List ℕ)) (rose : Type 0) (result : Status) → IfSome left (λ text. Answers words text before now result) → (result ≡ ReadFault → rose)
     → IfSome left (λ text. (due : Status) (output : List ℕ) → IsDue words text due output → ¬ rose → IsAnswered due result)

@@ -1,16 +1,14 @@
 -- What the program answers, in the order in which its answers are tried.
-use Rattle.std.specs.Prelude.{◌≡◌, ◌⊎◌, ℕ, nat_lt, MatchBool, List, [], length, Option, None, Some, Ok, Err, Result}
+use Rattle.std.specs.Prelude.{◌≡◌, ◌⊎◌, ℕ, ◌*◌, ℤ, nat_lt, MatchBool, Bool, List, [], length, Option, None, Some, Ok, Err, Result}
 use Rattle.std.specs.Io.KnownBytes.{Appends, Keeps}
 use Rattle.dpl_ext.specs.Device.{AppendsFront}
-use Rattle.dpl_cell.specs.Places.{Corners}
 use Rattle.dpl_cell.specs.Outlines.{Outline}
+use Rattle.dpl_cell.specs.Layers.{is_cell}
 use Rattle.dpl_cif.specs.Boxes.{boxes_of}
 use Rattle.dpl_run.specs.declared.words.Asked.{Asked}
 use Rattle.dpl_run.specs.declared.status.Status.{Status}
-use Rattle.dpl_run.specs.declared.status.Status.TheVariants.{Done, Usage, Limit, Form, Touching, Odd, ReadFault, WriteFault, NoMemory}
-use Rattle.dpl_core.specs.Order.{in_order}
-use Rattle.dpl_core.specs.Boxes.{boxes_among, IsFirstTouch}
-use Rattle.dpl_core.specs.Even.{IsSplit, IsOddAround}
+use Rattle.dpl_run.specs.declared.status.Status.TheVariants.{Done, Usage, Limit, Form, Odd, ReadFault, WriteFault, NoMemory}
+use Rattle.dpl_core.specs.Split.{IsSplit, IsOddAround, IsOverLimit}
 use Rattle.dpl_run.specs.Lines.{odd_line}
 use Rattle.dpl_run.specs.Words.{words_of}
 
@@ -18,28 +16,31 @@ use Rattle.dpl_run.specs.Words.{words_of}
 abbrev pub most_bytes : ℕ
 most_bytes = 16384
 
--- the output is the line that tells an odd loop of boxes
-pub record IsOddOutput (space : ℕ) (boxes : List Corners) (output : List ℕ) : Type 0 where
+-- the spacing in grid units, of which a hundredth has two
+abbrev pub reach_of : Asked → ℕ
+reach_of asked = 2 * asked.space
+
+-- the output is the line that tells an odd loop of shapes
+pub record IsOddOutput (reach : ℕ) (cells : ℤ → ℤ → Bool) (output : List ℕ) : Type 0 where
   pub around : List ℕ
-  pub odd : IsOddAround space around boxes
+  pub odd : IsOddAround reach around cells
   pub line : output ≡ odd_line around
 
--- what is due for boxes in their order: two that touch, an odd loop, or the text of two masks
-abbrev pub IsDueOfBoxes : Asked → List Corners → Status → List ℕ → Type 0
-IsDueOfBoxes asked boxes (Touching i j) output = IsFirstTouch boxes i j × (output ≡ [])
-IsDueOfBoxes asked boxes Odd output = IsOddOutput asked.space boxes output
-IsDueOfBoxes asked boxes Done output = IsSplit asked.layer asked.space boxes output
-IsDueOfBoxes asked boxes (Usage kind) output = ⊥
-IsDueOfBoxes asked boxes (Limit kind count) output = ⊥
-IsDueOfBoxes asked boxes (Form at) output = ⊥
-IsDueOfBoxes asked boxes ReadFault output = ⊥
-IsDueOfBoxes asked boxes WriteFault output = ⊥
-IsDueOfBoxes asked boxes NoMemory output = ⊥
+-- what is due for the cells of a layer: a limit that is passed, an odd loop, or the text of two masks
+abbrev pub IsDueOfCells : Asked → (ℤ → ℤ → Bool) → Status → List ℕ → Type 0
+IsDueOfCells asked cells (Limit kind count) output = IsOverLimit (reach_of asked) cells kind count × (output ≡ [])
+IsDueOfCells asked cells Odd output = IsOddOutput (reach_of asked) cells output
+IsDueOfCells asked cells Done output = IsSplit asked.layer (reach_of asked) cells output
+IsDueOfCells asked cells (Usage kind) output = ⊥
+IsDueOfCells asked cells (Form at) output = ⊥
+IsDueOfCells asked cells ReadFault output = ⊥
+IsDueOfCells asked cells WriteFault output = ⊥
+IsDueOfCells asked cells NoMemory output = ⊥
 
 -- what is due for what is read of a text: a command of another form comes first
 abbrev pub IsDueOfRead : Asked → Result (List Outline) ℕ → Status → List ℕ → Type 0
 IsDueOfRead asked (Err at) status output = (status ≡ Form at) × (output ≡ [])
-IsDueOfRead asked (Ok parts) status output = IsDueOfBoxes asked (in_order (boxes_among parts)) status output
+IsDueOfRead asked (Ok parts) status output = IsDueOfCells asked (is_cell parts) status output
 
 -- what is due for a layout: too many bytes come first
 abbrev pub IsDueOfText : Asked → List ℕ → Status → List ℕ → Type 0
@@ -61,7 +62,6 @@ Writes Odd = Unit {0}
 Writes (Usage kind) = ⊥
 Writes (Limit kind count) = ⊥
 Writes (Form at) = ⊥
-Writes (Touching i j) = ⊥
 Writes ReadFault = ⊥
 Writes WriteFault = ⊥
 Writes NoMemory = ⊥
@@ -87,7 +87,6 @@ Answers words text before now Odd = IsWritten words text before now Odd
 Answers words text before now (Usage kind) = IsWritten words text before now (Usage kind)
 Answers words text before now (Limit kind count) = IsWritten words text before now (Limit kind count)
 Answers words text before now (Form at) = IsWritten words text before now (Form at)
-Answers words text before now (Touching i j) = IsWritten words text before now (Touching i j)
 Answers words text before now WriteFault = IsCut words text before now
 Answers words text before now ReadFault = Unit {0}
 Answers words text before now NoMemory = Unit {0}
@@ -106,4 +105,3 @@ IsQuiet before now NoMemory = Keeps before now
 IsQuiet before now (Usage kind) = Keeps before now
 IsQuiet before now (Limit kind count) = Keeps before now
 IsQuiet before now (Form at) = Keeps before now
-IsQuiet before now (Touching i j) = Keeps before now

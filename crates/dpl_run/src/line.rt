@@ -73,13 +73,6 @@ pub fn status_line(status: Status) -> Line
             push_number(&mut line, u64::from(at));
             line.push(b"\n");
         }
-        Status::Touching { i, j } => {
-            line.push(b"dpl: touching ");
-            push_number(&mut line, u64::from(i));
-            line.push(b" ");
-            push_number(&mut line, u64::from(j));
-            line.push(b"\n");
-        }
         Status::Odd => line.push(b"dpl: odd\n"),
         Status::ReadFault => line.push(b"dpl: read fault\n"),
         Status::WriteFault => line.push(b"dpl: write fault\n"),

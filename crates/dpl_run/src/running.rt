@@ -42,7 +42,7 @@ pub fn run<S: Source, O: Sink, E: Sink>(
     // When a device is to blame, and how much was read.
     ensures read { result ≡ Status.ReadFault → Rose (S.seen layout.old).faults (S.seen layout.new).faults }
     ensures write { result ≡ Status.WriteFault → Rose (O.faults out.old) (O.faults out.new) }
-    ensures limit { (kind count : ℕ) → result ≡ Status.Limit kind count → (kind ≡ 1) × (count ≡ 16385) × RoseBy 16385 (S.seen layout.old).given (S.seen layout.new).given }
+    ensures limit { (count : ℕ) → result ≡ Status.Limit 1 count → (count ≡ 16385) × RoseBy 16385 (S.seen layout.old).given (S.seen layout.new).given }
     ensures untouched { words_of (map string_bytes words.now) ≡ None → S.seen layout.new ≡ S.seen layout.old }
     ensures asked { (S.seen layout.new).asked ≡ (S.seen layout.old).asked }
 
@@ -66,7 +66,7 @@ fn attempt<S: Source, O: Sink>(
     ensures usage { (result ≡ Status.Usage 1) ↔ (words_of (map string_bytes words.now) ≡ None) }
     ensures read { result ≡ Status.ReadFault → Rose (S.seen layout.old).faults (S.seen layout.new).faults }
     ensures write { result ≡ Status.WriteFault → Rose (O.faults out.old) (O.faults out.new) }
-    ensures limit { (kind count : ℕ) → result ≡ Status.Limit kind count → (kind ≡ 1) × (count ≡ 16385) × RoseBy 16385 (S.seen layout.old).given (S.seen layout.new).given }
+    ensures limit { (count : ℕ) → result ≡ Status.Limit 1 count → (count ≡ 16385) × RoseBy 16385 (S.seen layout.old).given (S.seen layout.new).given }
     ensures untouched { words_of (map string_bytes words.now) ≡ None → S.seen layout.new ≡ S.seen layout.old }
     ensures asked { (S.seen layout.new).asked ≡ (S.seen layout.old).asked }
 {
@@ -116,8 +116,8 @@ fn answer_for(alloc: Global, asked: &Asked, text: &[u8]) -> Result<Due, AllocErr
             status: Status::Form { at },
             output: Vec::new(alloc),
         }),
-        Err(EvenError::Touching { i, j }) => Ok(Due {
-            status: Status::Touching { i, j },
+        Err(EvenError::Limit { kind, count }) => Ok(Due {
+            status: Status::Limit { kind, count },
             output: Vec::new(alloc),
         }),
         Err(EvenError::NoMemory) => Err(AllocError),

@@ -9,8 +9,6 @@ pub enum Status {
     Limit { kind: u8, count: u64 },
     /// The number of the first command that has no known form, from 1.
     Form { at: u32 },
-    /// The numbers of the first two boxes that touch.
-    Touching { i: u32, j: u32 },
     Odd,
     ReadFault,
     WriteFault,
@@ -32,7 +30,6 @@ impl Status {
             Status::WriteFault => 6,
             Status::NoMemory => 7,
             Status::Form { .. } => 21,
-            Status::Touching { .. } => 22,
             Status::Odd => 23,
         }
     }
