@@ -7,3 +7,10 @@ pub mod ScansNext
 pub mod Few
 pub mod Pending
 pub mod Goes
+pub mod Cases
+pub mod LoopPaths
+pub mod Edges
+pub mod Sites
+pub mod Groups
+pub mod LoopLaw
+pub mod Stable

@@ -9,3 +9,6 @@ pub mod Put
 pub mod Scanned
 pub mod Stack
 pub mod Kept
+pub mod Places
+pub mod Found
+pub mod Counted

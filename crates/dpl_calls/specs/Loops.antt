@@ -1,5 +1,5 @@
 -- Calls of what is not there, and calls that lead back to where they stand.
-use Rattle.std.specs.Prelude.{ℕ, zero, suc, ◌+◌, ◌==◌, ◌≡◌, ◌||◌, not, Bool, true, false, List, [], ◌∷◌, ◌++◌, length, Option, None, Some, Result, Ok, Err, if◌then◌else◌}
+use Rattle.std.specs.Prelude.{ℕ, zero, suc, ◌+◌, ◌==◌, ◌≡◌, ◌⊎◌, ◌↔◌, ◌||◌, not, MatchOption, Bool, true, false, List, [], ◌∷◌, ◌++◌, length, Option, None, Some, Result, Ok, Err, if◌then◌else◌}
 use Rattle.std.specs.List.{list_any}
 use Rattle.dpl_lex.specs.declared.types.Ending.{Ending}
 use Rattle.dpl_rules.specs.declared.command.Command.{Command}
@@ -50,6 +50,30 @@ leads_to (suc steps) bodies to parts = list_any (part_leads bodies (leads_to ste
 -- The call stands in a definition that it names, or that is reached from the one that it names. As many calls as there are definitions are enough.
 unfoldable pub is_looped : ℕ → Bodies → CallSite → Bool
 is_looped steps bodies s = elim s.definition [ None ↦ false | Some d ↦ s.called == d || leads_to steps bodies d (bodies (Some s.called)) ]
+
+-- the part calls this definition
+abbrev pub names : ℕ → Part → Bool
+names m (Drawn figure) = false
+names m (Called n moves) = n == m
+
+-- definition n has a call of definition m
+abbrev pub calls : Bodies → ℕ → ℕ → Bool
+calls b n m = list_any (names m) (b (Some n))
+
+-- a path of one or more calls from definition to definition
+pub data Path (b : Bodies) : ℕ → ℕ → Type 0 where
+  once : (n m : ℕ) → calls b n m ≡ true → Path b n m
+  more : (n m k : ℕ) → calls b n m ≡ true → Path b m k → Path b n k
+
+-- the call names the definition that it stands in, or one from which a path of calls leads back there
+abbrev pub LeadsBack : Bodies → CallSite → Type 0
+LeadsBack b s = MatchOption s.definition ⊥ (λ d. (s.called ≡ d) ⊎ Path b s.called d)
+
+-- a law: a Loop is a call from which a path of calls leads back to its definition
+abbrev pub LoopsLeadBack : Type 0
+LoopsLeadBack = (chosen : List ℕ) (commands : List (Result Command What)) (s : CallSite)
+    → (is_looped (length (numbers_from [] commands)) (parts_from chosen at_first commands) s ≡ true)
+    ↔ LeadsBack (parts_from chosen at_first commands) s
 
 abbrev pub or_fault : Option Fault → Option Fault → Option Fault
 or_fault None later = later

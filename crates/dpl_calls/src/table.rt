@@ -1,5 +1,8 @@
 // The definitions of a layout.
-ghost use Rattle.std.specs.Prelude.{◌≡◌, All, Some};
+ghost use Rattle.std.specs.Prelude.{◌≡◌, ◌<◌, [], All, IfSome, Some, length};
+ghost use Rattle.std.proofs.Math.ListN.{get_or};
+ghost use Rattle.indexmap.specs.IndexMap.{keys, values};
+ghost use Rattle.dpl_calls.specs.Places.{place_of};
 ghost use Rattle.dpl_calls.specs.Entries.{IsEntryNear};
 ghost use Rattle.dpl_calls.specs.Table.{entries_of};
 
@@ -31,6 +34,25 @@ impl Table {
     {
         match self.definitions.get(&number) {
             Some(body) => body.as_slice(),
+            None => &[],
+        }
+    }
+
+    /// The place of a definition among the others, in the order of the file.
+    #[tactic(auto, using(crate::proofs::Edges::position_is))]
+    pub fn place(&self, number: u64) -> Option<usize>
+        ensures value { result ≡ place_of number (keys self.now.definitions) }
+        ensures within { IfSome result (λ i. i < length self.now.definitions.entries) }
+    {
+        self.definitions.get_index_of(&number)
+    }
+
+    /// The entries of the definition at a place.
+    pub fn body_at(&self, place: usize) -> &[Entry]
+        ensures { result.now ≡ get_or (values self.now.definitions) place [] }
+    {
+        match self.definitions.get_index(place) {
+            Some((_, body)) => body.as_slice(),
             None => &[],
         }
     }

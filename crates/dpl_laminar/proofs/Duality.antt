@@ -6,7 +6,7 @@ use Rattle.dpl_laminar.specs.Pairings.{IsPairing, pairs_sum, ValuesBoundPairings
 use Rattle.dpl_laminar.proofs.Sums.{sum_same, sum_most, sum_zero, sum_added, sum_times, sum_at, sum_turned, sum_parity}
 
 -- how many pairs have exactly one member in the set
-abbrev leaving : ℕ → (ℕ → ℕ) → (ℕ → Bool) → ℕ
+abbrev pub leaving : ℕ → (ℕ → ℕ) → (ℕ → Bool) → ℕ
 leaving n mate set = pairs_sum n mate (λ s t. cond (differ (set s) (set t)) 1 0)
 
 -- ---- a sum over the mates of all members

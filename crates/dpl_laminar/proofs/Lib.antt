@@ -1,12 +1,12 @@
-mod Duality
+pub mod Duality
 mod Expanding
 mod Gathered
 mod Keeping
 mod Lifting
-mod Numbers
+pub mod Numbers
 mod Reached
-mod Released
+pub mod Released
 mod Shrinking
 mod Singles
-mod Sums
+pub mod Sums
 mod Walks

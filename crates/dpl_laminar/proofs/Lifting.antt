@@ -1,9 +1,9 @@
 -- Children that become the tops of their members, one after another.
-use Rattle.std.proofs.Common.{arith, ◌≡◌, ◌≢◌, ℕ, ◌+◌, ◌<◌, refl, sym, ap, ◌∙◌, Bool, true, false, cond, inl, inr, eqb, List, [], take, length, get_or, set, get_or-set_same, get_or-set_other, Option, None}
+use Rattle.std.proofs.Common.{◌≡◌, ℕ, ◌+◌, ◌<◌, refl, sym, ap, ◌∙◌, Bool, true, false, cond, inl, inr, eqb, List, [], take, length, get_or, set, get_or-set_same, get_or-set_other, Option, None}
 use Rattle.std.proofs.lemmas.Bool.{cases_eq, cases_Bool, cond-true, cond-false}
 use Rattle.std.proofs.lemmas.List.Folds.{list_any_kept}
 use Rattle.dpl_laminar.specs.Families.{has}
-use Rattle.dpl_laminar.proofs.Numbers.{has_at, has_taken, taken_has, taken_of, not_taken, true_false}
+use Rattle.dpl_laminar.proofs.Numbers.{has_at, has_taken, taken_has, taken_of, not_taken}
 
 pub record AreLifted (size : ℕ) (table : ℕ → ℕ → Bool) (some : List ℕ) (old tops : List ℕ) : Type 0 where
   pub inside : (c m : ℕ) → m < size → has some c ≡ true → table c m ≡ true → get_or tops m 0 ≡ c
@@ -27,6 +27,12 @@ lifted_more size table xs i old tops new h apart r e =
           e m hm ∙ cond-false (table x m) _ _ fx ∙ r.outside m hm (λ c k. none c (list_any_kept (λ y. eqb y c) xs i k));
     }
 
+pub lifted_none : (size : ℕ) (table : ℕ → ℕ → Bool) (old : List ℕ) → AreLifted size table [] old old
+lifted_none size table old = record {
+  inside = λ c m h k. let no : false ≡ true = k in cc;
+  outside = λ m h k. refl;
+}
+
 -- ---- children that lose their parent, one after another
 
 pub orphaned_more : (xs : List ℕ) (j : ℕ) (old parents : List (Option ℕ)) → j < length xs → get_or xs j 0 < length parents → ((i : ℕ) → get_or parents i None ≡ cond (has (take j xs) i) None (get_or old i None)) →
@@ -38,21 +44,3 @@ orphaned_more xs j old parents h below p i = elim (cases_eq i (get_or xs j 0)) [
   | inr ne ↦
       get_or-set_other parents (get_or xs j 0) i None None ne ∙ p i ∙ ap (λ z. cond z None (get_or old i None)) (sym (not_taken xs j i h (λ e. ne (sym e))))
 ]
-
--- ---- joins that are written, one after another
-
-pub joined_more : (all : List (ℕ × ℕ)) (cs : List ℕ) (j : ℕ) (pair : ℕ × ℕ) (joins : List (ℕ × ℕ)) → j < length cs → get_or cs j 0 < length all → ((a b : ℕ) → a < b → b < length cs → get_or cs a 0 ≢ get_or cs b 0) → pair ≡ get_or joins j (0, 0) →
-    ((k : ℕ) → k < j → get_or all (get_or cs k 0) (0, 0) ≡ get_or joins k (0, 0)) → (k : ℕ) → k < j + 1 → get_or (set all (get_or cs j 0) pair) (get_or cs k 0) (0, 0) ≡ get_or joins k (0, 0)
-joined_more all cs j pair joins h below d e done k hk = elim (cases_eq k j) [
-  | inl s ↦ ap (λ z. get_or (set all (get_or cs j 0) pair) (get_or cs z 0) (0, 0)) s ∙ get_or-set_same all (get_or cs j 0) pair (0, 0) below ∙ e ∙ ap (λ z. get_or joins z (0, 0)) (sym s)
-  | inr ne ↦ get_or-set_other all (get_or cs j 0) (get_or cs k 0) pair (0, 0) (d k j (omega arith) h) ∙ done k (omega arith)
-]
-
-pub joined_others : (all : List (ℕ × ℕ)) (cs : List ℕ) (j : ℕ) (pair : ℕ × ℕ) (c : ℕ) → j < length cs → has cs c ≡ false → get_or (set all (get_or cs j 0) pair) c (0, 0) ≡ get_or all c (0, 0)
-joined_others all cs j pair c h none = get_or-set_other all (get_or cs j 0) c pair (0, 0) (λ e. true_false (has cs c) (ap (has cs) e ∙ has_at cs j h) none)
-
-pub lifted_none : (size : ℕ) (table : ℕ → ℕ → Bool) (old : List ℕ) → AreLifted size table [] old old
-lifted_none size table old = record {
-  inside = λ c m h k. let no : false ≡ true = k in cc;
-  outside = λ m h k. refl;
-}

@@ -9,12 +9,6 @@ use Rattle.dpl_laminar.specs.Storing.{Stored, sets_of, walk, IsKept, IsNameOf}
 use Rattle.dpl_laminar.proofs.Numbers.{has_at, place_in, true_false, some_none}
 use Rattle.dpl_laminar.proofs.Walks.{walk_is, walk_same, length_walk, around_next}
 use Rattle.dpl_laminar.proofs.Gathered.{gathered}
-use Rattle.dpl_laminar.proofs.Released.{some_member}
-use Rattle.dpl_laminar.proofs.Keeping.{live_below}
-
--- a live set has a member
-pub live_member : (s : Stored) (i : ℕ) → IsKept s → get_or s.live i false ≡ true → (m : ℕ) × (m < s.size) × (get_or (get_or s.rows i []) m false ≡ true)
-live_member s i p l = some_member s.size ((sets_of s).holds i) (p.family.laminar.sets.odd i (live_below s i p l) l)
 
 -- two tops have no common member
 pub tops_apart : (s : Stored) (x y m : ℕ) → IsKept s → x < 2 * s.size → y < 2 * s.size → get_or s.parents x None ≡ None → get_or s.parents y None ≡ None → x ≢ y → m < s.size → get_or (get_or s.rows x []) m false ≡ true → get_or (get_or s.rows y []) m false ≡ false

@@ -1,6 +1,6 @@
 -- What the calls on a family change, and what they leave.
-use Rattle.std.specs.Prelude.{◌≡◌, ◌≢◌, ℕ, ◌+◌, ◌*◌, ◌%◌, ◌<◌, ◌≤◌, ◌==◌, nat_lt, true, false, Some, None, List, [], length, slice_index, slice_index_or}
-use Rattle.dpl_laminar.specs.Families.{Sets, IsTie, has}
+use Rattle.std.specs.Prelude.{◌≡◌, ◌≢◌, ℕ, ◌*◌, ◌%◌, ◌<◌, ◌≤◌, ◌==◌, nat_lt, true, false, Some, None, List, [], length, slice_index, slice_index_or}
+use Rattle.dpl_laminar.specs.Families.{Sets, IsTie, has, next_in}
 
 -- each member below n alone, and no set with a value
 pub record IsSingles (n : ℕ) (f : Sets) : Type 0 where
@@ -26,7 +26,7 @@ pub record AreTops (n : ℕ) (f : Sets) (children : List ℕ) : Type 0 where
 pub record AreJoined (f : Sets) (children : List ℕ) (joins : List (ℕ × ℕ)) : Type 0 where
   pub tops : AreTops f.size f children
   pub count : length joins ≡ length children
-  pub tied : (i : ℕ) → i < length children → IsTie f (slice_index children i) (slice_index children ((i + 1) % length children)) (slice_index_or joins i (0, 0))
+  pub tied : (i : ℕ) → i < length children → IsTie f (slice_index children i) (next_in children i) (slice_index_or joins i (0, 0))
 
 -- a new top holds what these tops held
 pub record Gathers (n : ℕ) (old : Sets) (children : List ℕ) (set : ℕ) (new : Sets) : Type 0 where
@@ -51,7 +51,7 @@ pub record IsShrunk (old : Sets) (children : List ℕ) (joins : List (ℕ × ℕ
   pub value_set : new.value set ≡ 0
   pub sets : Gathers old.size old children set new
   -- the children stand in a ring in their order with these joins
-  pub after_child : (i : ℕ) → i < length children → new.after (slice_index children i) ≡ slice_index children ((i + 1) % length children)
+  pub after_child : (i : ℕ) → i < length children → new.after (slice_index children i) ≡ next_in children i
   pub after_others : (c : ℕ) → has children c ≡ false → new.after c ≡ old.after c
   pub join_child : (i : ℕ) → i < length children → new.join (slice_index children i) ≡ slice_index_or joins i (0, 0)
   pub join_others : (c : ℕ) → has children c ≡ false → new.join c ≡ old.join c
@@ -80,6 +80,7 @@ pub record IsExpanded (old : Sets) (set : ℕ) (new : Sets) : Type 0 where
 
 -- the next child around in the ring of the parent, and the pair of members that joins the two
 pub record IsNext (f : Sets) (child other : ℕ) (pair : ℕ × ℕ) : Type 0 where
-  pub next : (p i : ℕ) → f.parent child ≡ Some p → i < length (f.children p) → slice_index (f.children p) i ≡ child → other ≡ slice_index (f.children p) ((i + 1) % length (f.children p))
+  pub next : (p i : ℕ) → f.parent child ≡ Some p → i < length (f.children p) → slice_index (f.children p) i ≡ child →
+      other ≡ next_in (f.children p) i
   pub join : pair ≡ f.join child
   pub tie : IsTie f child other pair

@@ -57,9 +57,11 @@ pub record AreOddSets (n : ℕ) (f : Sets) : Type 0 where
   pub dead : (i m : ℕ) → i < 2 * n → m < n → f.live i ≡ false → f.holds i m ≡ false
   pub odd : (i : ℕ) → i < 2 * n → f.live i ≡ true → size_of n (f.holds i) % 2 ≡ 1
   -- of two sets with a common member one holds all members of the other
-  pub nested : (i j m a b : ℕ) → i < 2 * n → j < 2 * n → m < n → a < n → b < n → f.holds i m ≡ true → f.holds j m ≡ true → f.holds i a ≡ true → f.holds j a ≡ false → f.holds j b ≡ true → f.holds i b ≡ true
+  pub nested : (i j m a b : ℕ) → i < 2 * n → j < 2 * n → m < n → a < n → b < n → f.holds i m ≡ true → f.holds j m ≡ true →
+      f.holds i a ≡ true → f.holds j a ≡ false → f.holds j b ≡ true → f.holds i b ≡ true
   -- how numbers are given out: the number of a set leads to a member of it that is not its least
-  pub named : (i : ℕ) → i < n → f.live (n + i) ≡ true → (f.holds (n + i) i ≡ true) × ((a : ℕ) × (a < i) × (f.holds (n + i) a ≡ true))
+  pub named : (i : ℕ) → i < n → f.live (n + i) ≡ true →
+      (f.holds (n + i) i ≡ true) × ((a : ℕ) × (a < i) × (f.holds (n + i) a ≡ true))
 
 -- each member has one top: the live set without a parent that holds it
 pub record HaveTops (n : ℕ) (f : Sets) : Type 0 where
@@ -75,18 +77,24 @@ pub record HaveTops (n : ℕ) (f : Sets) : Type 0 where
 pub record HaveChildren (n : ℕ) (f : Sets) : Type 0 where
   -- the children of a set are those whose parent it is
   pub dead_parent : (i : ℕ) → i < 2 * n → f.live i ≡ false → f.parent i ≡ None
-  pub parent_range : (i p : ℕ) → i < 2 * n → f.live i ≡ true → f.parent i ≡ Some p → (n ≤ p) × (p < 2 * n) × (f.live p ≡ true) × (has (f.children p) i ≡ true)
+  pub parent_range : (i p : ℕ) → i < 2 * n → f.live i ≡ true → f.parent i ≡ Some p →
+      (n ≤ p) × (p < 2 * n) × (f.live p ≡ true) × (has (f.children p) i ≡ true)
   pub child : (p c : ℕ) → p < 2 * n → has (f.children p) c ≡ true → (c < 2 * n) × (f.live c ≡ true) × (f.parent c ≡ Some p)
   -- the union
   pub child_holds : (p c m : ℕ) → p < 2 * n → m < n → has (f.children p) c ≡ true → f.holds c m ≡ true → f.holds p m ≡ true
-  pub covered : (p m : ℕ) → n ≤ p → p < 2 * n → m < n → f.holds p m ≡ true → (c : ℕ) × (has (f.children p) c ≡ true) × (f.holds c m ≡ true)
-  pub apart : (p c d m : ℕ) → p < 2 * n → m < n → has (f.children p) c ≡ true → has (f.children p) d ≡ true → f.holds c m ≡ true → f.holds d m ≡ true → c ≡ d
+  pub covered : (p m : ℕ) → n ≤ p → p < 2 * n → m < n → f.holds p m ≡ true →
+      (c : ℕ) × (has (f.children p) c ≡ true) × (f.holds c m ≡ true)
+  pub apart : (p c d m : ℕ) → p < 2 * n → m < n → has (f.children p) c ≡ true → has (f.children p) d ≡ true →
+      f.holds c m ≡ true → f.holds d m ≡ true → c ≡ d
   -- a set that meets a child and does not hold the whole parent lies in the child
-  pub between : (p c i m a b : ℕ) → p < 2 * n → i < 2 * n → m < n → a < n → b < n → has (f.children p) c ≡ true → f.holds c m ≡ true → f.holds i m ≡ true → f.holds p a ≡ true → f.holds i a ≡ false → f.holds i b ≡ true → f.holds c b ≡ true
+  pub between : (p c i m a b : ℕ) → p < 2 * n → i < 2 * n → m < n → a < n → b < n → has (f.children p) c ≡ true →
+      f.holds c m ≡ true → f.holds i m ≡ true → f.holds p a ≡ true → f.holds i a ≡ false → f.holds i b ≡ true → f.holds c b ≡ true
   -- each child stands once, and singles and numbers without a set have none
-  pub distinct : (p i j : ℕ) → p < 2 * n → i < j → j < length (f.children p) → slice_index (f.children p) i ≢ slice_index (f.children p) j
+  pub distinct : (p i j : ℕ) → p < 2 * n → i < j → j < length (f.children p) →
+      slice_index (f.children p) i ≢ slice_index (f.children p) j
   pub childless : (i : ℕ) → i < n → length (f.children i) ≡ 0
-  pub children_odd : (i : ℕ) → i < n → f.live (n + i) ≡ true → (length (f.children (n + i)) % 2 ≡ 1) × (3 ≤ length (f.children (n + i)))
+  pub children_odd : (i : ℕ) → i < n → f.live (n + i) ≡ true →
+      (length (f.children (n + i)) % 2 ≡ 1) × (3 ≤ length (f.children (n + i)))
   pub children_dead : (i : ℕ) → i < n → f.live (n + i) ≡ false → length (f.children (n + i)) ≡ 0
 
 -- a laminar family with its tops and children
@@ -95,12 +103,16 @@ pub record IsLaminar (n : ℕ) (f : Sets) : Type 0 where
   pub tops : HaveTops n f
   pub children : HaveChildren n f
 
+-- the number that follows place i of a list around: after the last one comes the first
+abbrev pub next_in : List ℕ → ℕ → ℕ
+next_in numbers i = slice_index numbers ((i + 1) % length numbers)
+
 -- what every family keeps
 pub record IsFamily (f : Sets) : Type 0 where
   pub small : f.size ≤ 2048
   pub laminar : IsLaminar f.size f
   -- the children of a set stand in a ring in their order, and each other number alone
-  pub around : (p i : ℕ) → i < length (f.children p) → f.after (slice_index (f.children p) i) ≡ slice_index (f.children p) ((i + 1) % length (f.children p))
+  pub around : (p i : ℕ) → i < length (f.children p) → f.after (slice_index (f.children p) i) ≡ next_in (f.children p) i
   pub alone : (i : ℕ) → i < 2 * f.size → f.parent i ≡ None → f.after i ≡ i
   -- the join of a child leads from a member of it to one of the next child around
   pub tied : (c p : ℕ) → f.parent c ≡ Some p → IsTie f c (f.after c) (f.join c)
@@ -118,4 +130,5 @@ climb f m (suc count) = option_and_then f.parent (climb f m count)
 
 -- each set is reached by parents from each of its members, in fewer steps than it has members
 abbrev pub AreReached : Sets → Type 0
-AreReached f = (i m : ℕ) → i < 2 * f.size → m < f.size → f.live i ≡ true → f.holds i m ≡ true → (count : ℕ) × (count < size_of f.size (f.holds i)) × (climb f m count ≡ Some i)
+AreReached f = (i m : ℕ) → i < 2 * f.size → m < f.size → f.live i ≡ true → f.holds i m ≡ true →
+    (count : ℕ) × (count < size_of f.size (f.holds i)) × (climb f m count ≡ Some i)

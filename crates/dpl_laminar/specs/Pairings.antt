@@ -30,4 +30,6 @@ ValuesBoundPairings = (n k : ℕ) (value : ℕ → ℕ) (holds : ℕ → ℕ →
 -- The same of a family: where no load is more than the distance, no perfect pairing has a sum below the total.
 abbrev pub FamiliesBoundPairings : Type 0
 FamiliesBoundPairings = (f : Sets) (distance : ℕ → ℕ → ℕ) (mate : ℕ → ℕ) →
-    IsFamily f → ((s t : ℕ) → s < f.size → t < f.size → s ≢ t → load_of f s t ≤ distance s t) → IsPairing f.size mate → total_of f ≤ pairs_sum f.size mate distance
+    IsFamily f →
+    ((s t : ℕ) → s < f.size → t < f.size → s ≢ t → load_of f s t ≤ distance s t) →
+    IsPairing f.size mate → total_of f ≤ pairs_sum f.size mate distance

@@ -2,6 +2,7 @@
 use Rattle.std.specs.Prelude.{◌≡◌, ◌≢◌, ℕ, ◌+◌, ◌*◌, ◌%◌, ◌<◌, zero, suc, Bool, true, false, Option, None, List, [], ◌∷◌, length, slice_index, slice_index_or}
 use Rattle.dpl_laminar.specs.Families.{Sets, IsFamily, has}
 
+-- the lists
 pub record Stored : Type 0 where
   pub size : ℕ
   pub live : List Bool
@@ -62,8 +63,10 @@ pub record IsKept (s : Stored) : Type 0 where
 -- so many numbers from the first on are places of the list, all different, and the last one leads to the first
 pub record IsCircle (ring : List ℕ) (first count : ℕ) : Type 0 where
   pub below : (i : ℕ) → i < count → slice_index (circle_of ring first count) i < length ring
-  pub distinct : (i j : ℕ) → i < j → j < count → slice_index (circle_of ring first count) i ≢ slice_index (circle_of ring first count) j
-  pub around : (i : ℕ) → i < count → slice_index ring (slice_index (circle_of ring first count) i) ≡ slice_index (circle_of ring first count) ((i + 1) % count)
+  pub distinct : (i j : ℕ) → i < j → j < count →
+      slice_index (circle_of ring first count) i ≢ slice_index (circle_of ring first count) j
+  pub around : (i : ℕ) → i < count →
+      slice_index ring (slice_index (circle_of ring first count) i) ≡ slice_index (circle_of ring first count) ((i + 1) % count)
 
 -- numbers below a bound
 abbrev pub AreBelow : List ℕ → ℕ → Type 0
@@ -75,7 +78,8 @@ AreOnce numbers = (i j : ℕ) → i < j → j < length numbers → slice_index n
 
 -- no two of these sets have a common member below n
 abbrev pub AreApart : ℕ → List (List Bool) → List ℕ → Type 0
-AreApart n rows sets = (c d m : ℕ) → m < n → has sets c ≡ true → has sets d ≡ true → row_holds rows c m ≡ true → row_holds rows d m ≡ true → c ≡ d
+AreApart n rows sets = (c d m : ℕ) → m < n → has sets c ≡ true → has sets d ≡ true →
+    row_holds rows c m ≡ true → row_holds rows d m ≡ true → c ≡ d
 
 -- q is the least member of the set x and more than a member of the set y
 pub record IsNameOf (n : ℕ) (holds : ℕ → ℕ → Bool) (q x y : ℕ) : Type 0 where

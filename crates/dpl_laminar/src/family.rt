@@ -94,8 +94,8 @@ impl Family {
         })
     }
 
-    /// Makes a new top of these tops, with value 0, and gives its number. `joins[i]` is a member of child `i` and one of
-    /// the next child around. A call costs a step.
+    /// Makes a new top of these tops, with value 0, and gives its number. `joins[i]` is a member of
+    /// child `i` and one of the next child around. A call costs a step.
     pub fn shrink<L: Ledger>(
         &mut self,
         alloc: Global,
@@ -159,7 +159,8 @@ impl Family {
         requires least { pos 0 ≤ℤ (pos ((sets_of self.old).value set) +ℤ by) }
         requires most { (pos ((sets_of self.old).value set) +ℤ by) ≤ℤ pos (2 ^ 50) }
         ensures value { pos ((sets_of self.new).value set) ≡ pos ((sets_of self.old).value set) +ℤ by }
-        ensures others { (i : ℕ) → i ≢ set → (sets_of self.new).value i ≡ (sets_of self.old).value i }
+        ensures others { (i : ℕ) → i ≢ set →
+            (sets_of self.new).value i ≡ (sets_of self.old).value i }
         ensures rest { sets_of self.new ≡ record (sets_of self.old) { value = (sets_of self.new).value } }
         ensures family { IsFamily (sets_of self.new) }
         ensures steps { steps.new ≡ steps.old + 1 }
@@ -178,11 +179,13 @@ impl Family {
         self.tops[member as usize]
     }
 
-    /// The set whose child a live set is: none exactly where it is a top. From each member of a set parents lead to it.
+    /// The set whose child a live set is: none exactly where it is a top. From each member of a set
+    /// parents lead to it.
     pub fn parent(&self, set: u32) -> Option<u32>
         requires { (sets_of self.now).live set ≡ true }
         ensures value { result ≡ (sets_of self.now).parent set }
-        ensures top { (m : ℕ) → m < (sets_of self.now).size → (sets_of self.now).holds set m ≡ true →
+        ensures top { (m : ℕ) → m < (sets_of self.now).size →
+            (sets_of self.now).holds set m ≡ true →
             ((result ≡ None) ↔ ((sets_of self.now).top m ≡ set)) }
         ensures reached { AreReached (sets_of self.now) }
         ensures family { IsFamily (sets_of self.now) }
@@ -199,8 +202,8 @@ impl Family {
         self.values[set as usize]
     }
 
-    /// The next child around in the ring of the parent, and the members that join the two: one of the child, then one of
-    /// the next.
+    /// The next child around in the ring of the parent, and the members that join the two: one of
+    /// the child, then one of the next.
     pub fn child_after(&self, child: u32) -> (u32, u32, u32)
         requires { (sets_of self.now).parent child ≢ None }
         ensures next { IsNext (sets_of self.now) child result.0 (result.1, result.2) }

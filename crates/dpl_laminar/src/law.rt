@@ -2,8 +2,9 @@
 
 ghost use Rattle.dpl_laminar.specs.Pairings.{ValuesBoundPairings, FamiliesBoundPairings};
 
-/// Weak duality. A perfect pairing has a pair that leaves each odd set, so each value is counted in some load, and where
-/// no load is more than the distance, the distances add up to the sum of the values at least. The call does nothing.
+/// Weak duality. In a perfect pairing some pair leaves each odd set, so its load counts the value
+/// of the set. Where no load is more than the distance, the distances of the pairs add up to at
+/// least the sum of the values. The call does nothing.
 pub fn values_bound_pairings()
     ensures sets { ValuesBoundPairings }
     ensures families { FamiliesBoundPairings }

@@ -33,7 +33,8 @@ impl Members {
     /// One member alone, of so many.
     pub fn single(alloc: Global, member: usize, size: usize) -> Result<Members, AllocError>
         requires { member < size }
-        ensures { IfOk result (λ row. (m : ℕ) → m < size → slice_index_or row m false ≡ (member == m)) }
+        ensures { IfOk result (λ row.
+            (m : ℕ) → m < size → slice_index_or row m false ≡ (member == m)) }
     {
         let mut held = Vec::new(alloc);
         for m in 0..size {
@@ -65,7 +66,8 @@ impl Members {
     /// The held members below a number, ascending.
     pub fn list(&self, alloc: Global, size: usize) -> Result<Vec<u32>, AllocError>
         requires { size ≤ 2048 }
-        ensures { IfOk result (λ list. list.items ≡ members_below size (λ m. slice_index_or self.now m false)) }
+        ensures { IfOk result (λ list.
+            list.items ≡ members_below size (λ m. slice_index_or self.now m false)) }
     {
         let mut list = Vec::new(alloc);
         for m in 0..size {
@@ -105,15 +107,18 @@ pub fn is_in(list: &[u32], x: u32) -> bool
     list.iter().any(|y| *y == x)
 }
 
-/// The number that a set made of two sets that are apart is known by: the greater one of their least members.
+/// What a set made of these and others is numbered by: the greater one of the least members of two
+/// sets that are apart. No set that lives beside them is numbered by it.
 pub fn name_of(rows: &[Members], size: usize, x: usize, y: usize) -> usize
     requires first { x < length rows.now }
     requires second { y < length rows.now }
     requires any_first { (m : ℕ) × (m < size) × (row_holds rows.now x m ≡ true) }
     requires any_second { (m : ℕ) × (m < size) × (row_holds rows.now y m ≡ true) }
-    requires apart { (m : ℕ) → m < size → row_holds rows.now x m ≡ true → row_holds rows.now y m ≡ false }
+    requires apart { (m : ℕ) → m < size →
+        row_holds rows.now x m ≡ true → row_holds rows.now y m ≡ false }
     ensures below { result < size }
-    ensures name { IsNameOf size (row_holds rows.now) result x y ⊎ IsNameOf size (row_holds rows.now) result y x }
+    ensures name { IsNameOf size (row_holds rows.now) result x y ⊎
+        IsNameOf size (row_holds rows.now) result y x }
 {
     let first = rows[x].least(size);
     let second = rows[y].least(size);

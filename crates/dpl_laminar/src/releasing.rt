@@ -60,10 +60,12 @@ pub fn lift(tops: &mut [u32], row: &Members, set: u32)
 /// Makes each child of a ring the top of its members.
 pub fn lift_all(tops: &mut [u32], rows: &[Members], ring: &Ring, first: u32, count: usize)
     requires ring { length ring.now ≡ length rows.now }
-    requires below { (i : ℕ) → i < count → slice_index (circle_of ring.now first count) i < length rows.now }
+    requires below { (i : ℕ) → i < count →
+        slice_index (circle_of ring.now first count) i < length rows.now }
     requires apart { AreApart (length tops.old) rows.now (circle_of ring.now first count) }
-    ensures inside { (c m : ℕ) → m < length tops.old → has (circle_of ring.now first count) c ≡ true →
-        row_holds rows.now c m ≡ true → slice_index tops.new m ≡ c }
+    ensures inside { (c m : ℕ) → m < length tops.old →
+        has (circle_of ring.now first count) c ≡ true → row_holds rows.now c m ≡ true →
+        slice_index tops.new m ≡ c }
     ensures outside { (m : ℕ) → m < length tops.old →
         ((c : ℕ) → has (circle_of ring.now first count) c ≡ true → row_holds rows.now c m ≡ false) →
         slice_index tops.new m ≡ slice_index tops.old m }
@@ -78,7 +80,8 @@ pub fn lift_all(tops: &mut [u32], rows: &[Members], ring: &Ring, first: u32, cou
 /// Takes the parent from each child of a ring.
 pub fn orphan(parents: &mut [Option<u32>], ring: &Ring, first: u32, count: usize)
     requires ring { length ring.now ≡ length parents.old }
-    requires below { (i : ℕ) → i < count → slice_index (circle_of ring.now first count) i < length parents.old }
+    requires below { (i : ℕ) → i < count →
+        slice_index (circle_of ring.now first count) i < length parents.old }
     ensures { (i : ℕ) → slice_index_or parents.new i None ≡
         (if has (circle_of ring.now first count) i then None else slice_index_or parents.old i None) }
 {

@@ -48,8 +48,10 @@ pub fn first_half(alloc: Global, count: usize) -> Result<Vec<bool>, AllocError>
 pub fn single_rows(alloc: Global, size: usize) -> Result<Vec<Members>, AllocError>
     requires { size ≤ 2048 }
     ensures length { IfOk result (λ rows. length rows.items ≡ 2 * size) }
-    ensures singles { IfOk result (λ rows. (i m : ℕ) → i < size → m < size → row_holds rows.items i m ≡ (i == m)) }
-    ensures others { IfOk result (λ rows. (i : ℕ) → size ≤ i → slice_index_or rows.items i [] ≡ []) }
+    ensures singles { IfOk result (λ rows.
+        (i m : ℕ) → i < size → m < size → row_holds rows.items i m ≡ (i == m)) }
+    ensures others { IfOk result (λ rows.
+        (i : ℕ) → size ≤ i → slice_index_or rows.items i [] ≡ []) }
 {
     let mut rows = Vec::new(alloc);
     for i in 0..2 * size {

@@ -11,8 +11,8 @@ fn three_members(rt: HostRuntime) -> Result<(), NoMemory> {
     made_and_taken_apart::<Brand, _>(&rt, rt.alloc(), Blank::new(1))
 }
 
-/// Three members, of which the first has value 4, are made one set and taken apart again. Where memory is
-/// wanting for the set, the family answers as before.
+/// Three members, of which the first has value 4, are made one set and taken apart again. Where
+/// memory is wanting for the set, the family answers as before.
 fn made_and_taken_apart<L: Ledger, R: Abort>(
     rt: &R,
     alloc: Global,

@@ -1,8 +1,8 @@
-use Rattle.std.proofs.Common.{arith, ◌≡◌, ◌≢◌, ℕ, zero, suc, ◌+◌, ◌*◌, ◌%◌, ◌<◌, refl, sym, ap, ◌∙◌, subst, true, false, get_or, List, [], ◌∷◌, length, None, inl, inr, eq-eqb}
+use Rattle.std.proofs.Common.{arith, ◌≡◌, ◌≢◌, ℕ, zero, suc, ◌+◌, ◌%◌, ◌<◌, refl, ap, ◌∙◌, true, false, get_or, List, [], ◌∷◌, None, inl, inr, eq-eqb}
 use Rattle.std.proofs.lemmas.Bool.{cases_Bool, lt-ltb}
-use Rattle.dpl_laminar.specs.Families.{Sets, IsFamily, IsTie, has}
-use Rattle.dpl_laminar.specs.Changes.{IsSingles, AreTops, AreJoined, IsShrunk}
-use Rattle.dpl_laminar.specs.Storing.{Stored, sets_of}
+use Rattle.dpl_laminar.specs.Families.{Sets, IsTie, has}
+use Rattle.dpl_laminar.specs.Changes.{IsSingles, AreJoined, IsShrunk}
+use Rattle.dpl_laminar.specs.Storing.{Stored}
 use Rattle.dpl_laminar.proofs.Numbers.{place_in, some_none}
 use Rattle.dpl_laminar.proofs.tests.made_and_taken_apart.Goals as goal
 
