@@ -14,3 +14,7 @@ pub mod Sites
 pub mod Groups
 pub mod LoopLaw
 pub mod Stable
+pub mod FarParts
+pub mod Rigid
+pub mod CleanParts
+pub mod Scans

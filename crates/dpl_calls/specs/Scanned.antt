@@ -5,12 +5,12 @@ use Rattle.dpl_lex.specs.declared.types.Ending.{Ending}
 use Rattle.dpl_rules.specs.declared.command.Command.{Command}
 use Rattle.dpl_rules.specs.declared.what.What.{What}
 use Rattle.dpl_rules.specs.declared.scope.Scope.{Scope}
-use Rattle.dpl_calls.specs.declared.scan.ScanError.{ScanError}
-use Rattle.dpl_calls.specs.declared.scan.ScanError.TheVariants.{Breaks, NoMemory}
+use Rattle.dpl_calls.specs.declared.scanning.ScanError.{ScanError}
+use Rattle.dpl_calls.specs.declared.scanning.ScanError.TheVariants.{Breaks, NoMemory}
 use Rattle.dpl_rules.specs.Rules.{fault, rule_fault, at_first}
 use Rattle.dpl_calls.specs.declared.table.CallSite.{CallSite}
 use Rattle.dpl_calls.specs.declared.table.Table.{Table}
-use Rattle.dpl_calls.specs.declared.scan.Scanned.{Scanned}
+use Rattle.dpl_calls.specs.declared.scanning.Scanned.{Scanned}
 use Rattle.dpl_calls.specs.Parts.{parts_from}
 use Rattle.dpl_calls.specs.Loops.{sites_from, numbers_from}
 use Rattle.dpl_calls.specs.Table.{bodies_of}

@@ -1,12 +1,14 @@
 // The graph of the calls among definitions.
 ghost use Rattle.std.specs.Prelude.{◌≡◌, ◌++◌, [], ◌∷◌, map, IfOk, OnOk};
 ghost use Rattle.indexmap.specs.IndexMap.{keys};
+ghost use Rattle.dpl_groups.specs.Groups.{AreGroups};
 ghost use Rattle.dpl_calls.specs.Places as lists;
 ghost use Rattle.dpl_calls.specs.Places.{graph_of};
 ghost use Rattle.dpl_calls.specs.Table.{part_of};
 
 use crate::entry::Entry;
 use crate::table::Table;
+use dpl_groups::{Groups, find_groups};
 use dpl_list::Items;
 use std::alloc::{AllocError, Global};
 
@@ -38,7 +40,7 @@ fn called_places(alloc: Global, table: &Table, entries: &[Entry]) -> Result<Item
 }
 
 /// For each definition the definitions that it calls, by their places.
-pub fn calls_of(alloc: Global, table: &Table) -> Result<Vec<Items<usize>>, AllocError>
+fn calls_of(alloc: Global, table: &Table) -> Result<Vec<Items<usize>>, AllocError>
     ensures { IfOk result (λ v. v.items ≡ graph_of table.now) }
 {
     let mut lists = Vec::new(alloc);
@@ -46,4 +48,15 @@ pub fn calls_of(alloc: Global, table: &Table) -> Result<Vec<Items<usize>>, Alloc
         lists.push(called_places(alloc, table, body.as_slice())?)?;
     }
     Ok(lists)
+}
+
+/// The groups of definitions that call one another.
+///
+/// The time grows with the number of entries.
+#[tactic(auto, using(crate::proofs::Edges::is_graph))]
+pub fn groups_of(alloc: Global, table: &Table) -> Result<Groups, AllocError>
+    ensures { IfOk result (λ r. AreGroups (graph_of table.now) r.labels r.heads) }
+{
+    let calls = calls_of(alloc, table)?;
+    find_groups(alloc, calls.as_slice())
 }

@@ -1,14 +1,24 @@
 //! The definitions of a CIF layout and its calls.
+//!
+//! `scan` keeps the parts of each definition, or gives the first broken rule of one command. `missing` and
+//! `looped` find the calls that no layout may have, `total` counts calls and primitives without carrying the
+//! calls out, and `unfold_table` carries them out. Nothing here recurses on the nesting of definitions.
 #![tactic(auto)]
 
-pub mod body;
-pub mod entry;
+mod body;
+mod entry;
 pub mod figure;
-pub mod placement;
 mod graph;
-pub mod loops;
+mod loops;
+mod placement;
 mod putting;
-pub mod scan;
+mod scanning;
 pub mod table;
-pub mod totals;
-pub mod unfolding;
+mod totals;
+mod unfolding;
+
+pub use graph::groups_of;
+pub use loops::{calling_rules, looped, missing};
+pub use scanning::{ScanError, Scanned, scan};
+pub use totals::{Count, total};
+pub use unfolding::unfold_table;

@@ -1,5 +1,6 @@
 // The definitions of a layout.
-ghost use Rattle.std.specs.Prelude.{◌≡◌, ◌<◌, [], All, IfSome, Some, length};
+ghost use Rattle.std.specs.Prelude.{◌≡◌, ◌<◌, [], All, IfSome, Some, length, nat_eq};
+ghost use Rattle.std.specs.List.{IsDistinct};
 ghost use Rattle.std.proofs.Math.ListN.{get_or};
 ghost use Rattle.indexmap.specs.IndexMap.{keys, values};
 ghost use Rattle.dpl_calls.specs.Places.{place_of};
@@ -45,6 +46,14 @@ impl Table {
         ensures within { IfSome result (λ i. i < length self.now.definitions.entries) }
     {
         self.definitions.get_index_of(&number)
+    }
+
+    /// How many definitions there are. No two have the same number.
+    pub fn count(&self) -> usize
+        ensures value { result ≡ length self.now.definitions.entries }
+        ensures distinct { IsDistinct nat_eq (keys self.now.definitions) }
+    {
+        self.definitions.len()
     }
 
     /// The entries of the definition at a place.

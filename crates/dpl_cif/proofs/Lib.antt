@@ -1,2 +1,3 @@
-mod PartLemmas
-mod PlacingLemmas
+pub mod Fits
+pub mod InOrder
+pub mod Rounds

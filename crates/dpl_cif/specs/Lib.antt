@@ -1,5 +1,4 @@
-pub mod Range
-pub mod Form
-pub mod Command
-pub mod Boxes
+pub mod Drawn
 pub mod Reading
+pub mod Gives
+pub mod Laws

@@ -1,15 +1,16 @@
-//! The boxes of one layer of a CIF text.
+//! The primitives of one layer of a CIF 2.0 text.
 //!
-//! A text is cut into commands at its semicolons. Layer and box commands and empty ones are known
-//! here; the first command of another form is named.
+//! `read` gives exactly the boxes and polygons of the layer after all calls, or the first of the layout's
+//! faults with its command, or the first limit that is passed with its count, each exactly where
+//! `specs/Reading.antt` says so. Want of memory alone is free. No call recurses on the nesting of
+//! definitions, and the limits on primitives and calls are found before any call is carried out.
 #![tactic(auto)]
 
-mod commands;
-mod forms;
-mod placing;
+mod error;
+mod prims;
+mod reach;
 mod reading;
 
-pub use reading::{BoxesError, read_boxes};
-
-#[cfg(test)]
-mod tests;
+pub use dpl_rules::What;
+pub use error::{CifError, CifLimit};
+pub use reading::{drawing_rules, read};

@@ -1,117 +1,157 @@
-// The boxes of one layer of a text.
-ghost use Rattle.std.specs.Prelude.{◌≡◌, ◌≤◌, ◌++◌, ℕ, length, map, OnOk};
-ghost use Rattle.std.specs.List.{prefix_len};
-ghost use Rattle.std.specs.Option.{option_map};
+// A text is read in rounds, and then its calls are carried out.
+ghost use Rattle.std.specs.Prelude.{◌≡◌, ◌≤◌, ◌+◌, ℕ, map, IfOk, None, Some, length, if◌then◌else◌};
+ghost use Rattle.dpl_lex.specs.Cutting.{commands_of};
+ghost use Rattle.dpl_rules.specs.Rules as rules;
+ghost use Rattle.dpl_rules.specs.Rules.{fault};
+ghost use Rattle.dpl_rules.specs.declared.what.What.TheVariants.{NoEnd};
 ghost use Rattle.dpl_cell.specs.Outlines.{outline_of};
-ghost use Rattle.dpl_cif.specs.Boxes as boxes;
-ghost use Rattle.dpl_cif.specs.Boxes.{boxes_of, is_inside, box_outlines};
-ghost use Rattle.dpl_cif.specs.Command.{form_of_box};
-ghost use Rattle.dpl_cif.specs.Reading.{Gives, IsNext};
+ghost use Rattle.dpl_groups.specs.Groups.{AreGroups};
+ghost use Rattle.dpl_calls.specs.Table.{bodies_of};
+ghost use Rattle.dpl_calls.specs.Places.{graph_of};
+ghost use Rattle.dpl_calls.specs.Counted.{HasNoLoop};
+ghost use Rattle.dpl_calls.specs.Scanned.{IsScanned};
+ghost use Rattle.dpl_calls.specs.Kept.{AreKept};
+ghost use Rattle.dpl_calls.specs.Unfolding.{figures_of, unmoved};
+ghost use Rattle.dpl_calls.specs.Totals.{total_of, own_calls, own_weight};
+ghost use Rattle.dpl_cif.specs.Drawn.{drawn};
+ghost use Rattle.dpl_cif.specs.Reading.{forms_of, ending_of, within_limits, reading, primitives_of};
+ghost use Rattle.dpl_cif.specs.Gives.{Gives};
+ghost use Rattle.dpl_cif.specs.Laws.{DrawnInOrder};
 
-use crate::commands::{BoxCommand, Command};
-use crate::forms::command_of;
-use crate::placing::rect_of;
-use dpl_cell::{Layout, Prim};
-use dpl_lex::Name;
-use dpl_lex::classes::skip_blanks;
-use dpl_list::Items;
-use std::alloc::{AllocError as NoMemory, Global};
-use thiserror::Error;
+use crate::error::{CifError, CifLimit};
+use crate::prims::layout_of;
+use crate::reach::reach;
+use dpl_calls::table::Table;
+use dpl_calls::{Count, ScanError, Scanned, groups_of, looped, missing, scan, total, unfold_table};
+use dpl_cell::Layout;
+use dpl_groups::Groups;
+use dpl_lex::types::{Commands, Ending};
+use dpl_lex::{Name, commands};
+use dpl_rules::What;
+use std::alloc::Global;
 
-/// Why there are no boxes.
-#[derive(Clone, Copy, Debug, PartialEq, Eq, Error)]
-pub enum BoxesError {
-    /// The number of the first command that has none of the forms, from 1.
-    #[error("command {at} has no known form")]
-    Form { at: u32 },
-    #[error("out of memory")]
-    NoMemory,
-}
+const MOST_PRIMITIVES: u64 = 50_000;
 
-/// The boxes of the layer in the order of the text, in grid units of half a hundredth of a micron.
-pub fn read_boxes(alloc: Global, text: &[u8], layer: &Name) -> Result<Layout, BoxesError>
-    requires { length text.now ≤ 16384 }
-    ensures { Gives result (boxes_of layer.now text.now) }
+const MOST_CALLS: u64 = 1_000_000;
+
+const FARTHEST: u128 = 1_073_741_824;
+
+const MOST_SHOWN: u128 = 1_000_000_000_000;
+
+/// The layout, where it is within the limits.
+fn limited(alloc: Global, table: &Table, groups: &Groups, depth: usize) -> Result<Layout, CifError>
+    requires kept { AreKept (bodies_of table.now) }
+    requires groups { AreGroups (graph_of table.now) groups.now.labels groups.now.heads }
+    requires loops { HasNoLoop (graph_of table.now) groups.now.labels }
+    requires depth { depth ≡ length table.now.definitions.entries + 1 }
+    ensures { Gives result (within_limits (total_of own_weight depth (bodies_of table.now) (bodies_of table.now None)) (total_of own_calls depth (bodies_of table.now) (bodies_of table.now None)) (map drawn (figures_of depth (bodies_of table.now) unmoved (bodies_of table.now None)))) }
 {
-    let mut prims = Vec::new(alloc);
-    let mut chosen: Option<bool> = None;
-    let mut at: u32 = 1;
-    let mut rest = text;
-    'commands: loop {
-        let (command, others) = match next_command(rest) {
-            Next::End => {
-                return Ok(Layout {
-                    prims: Items::new(prims),
-                });
-            }
-            Next::NoForm => return Err(BoxesError::Form { at }),
-            Next::Finished(command, others) => (command, others),
-        };
-        match command {
-            Command::Empty => {}
-            Command::Layer(name) => chosen = Some(name.bytes() == layer.bytes()),
-            Command::Box(written) => match chosen {
-                None => return Err(BoxesError::Form { at }),
-                Some(true) => {
-                    if push_box(&mut prims, &written).is_err() {
-                        return Err(BoxesError::NoMemory);
-                    }
-                }
-                Some(false) => {}
-            },
-        }
-        rest = others;
-        at += 1;
+    let Ok(count) = total(alloc, Count::Weight, table, groups) else {
+        return Err(CifError::NoMemory);
+    };
+    if count > MOST_PRIMITIVES {
+        return Err(CifError::Limit {
+            kind: CifLimit::Primitives,
+            count,
+        });
+    }
+    let Ok(count) = total(alloc, Count::Calls, table, groups) else {
+        return Err(CifError::NoMemory);
+    };
+    if count > MOST_CALLS {
+        return Err(CifError::Limit {
+            kind: CifLimit::Calls,
+            count,
+        });
+    }
+    let Ok(figures) = unfold_table(alloc, table, depth) else {
+        return Err(CifError::NoMemory);
+    };
+    let most = reach(&figures);
+    if most > FARTHEST {
+        let count = most.min(MOST_SHOWN) as u64;
+        return Err(CifError::Limit {
+            kind: CifLimit::Coordinate,
+            count,
+        });
+    }
+    match layout_of(alloc, &figures) {
+        Ok(layout) => Ok(layout),
+        Err(_) => Err(CifError::NoMemory),
     }
 }
 
-/// Puts the box behind the others, if it covers anything.
-fn push_box(prims: &mut Vec<Prim>, written: &BoxCommand) -> Result<(), NoMemory>
-    ensures { OnOk result (map outline_of prims.new.items ≡ map outline_of prims.old.items ++ box_outlines (form_of_box written.now)) }
+fn has_no_end(ending: Ending) -> bool
+    ensures { (n : ℕ) → rules.end_fault n ending ≡ (if result then Some (fault n NoEnd) else None) }
 {
-    if let Some(rect) = rect_of(written) {
-        prims.push(Prim::Box(rect))?;
-    }
-    Ok(())
-}
-
-/// What stands next in a text.
-enum Next<'a> {
-    End,
-    NoForm,
-    Finished(Command, &'a [u8]),
-}
-
-fn next_command(bytes: &[u8]) -> Next<'_>
-    ensures { IsNext result bytes.now }
-{
-    let cut = part_length(bytes);
-    let part = skip_blanks(&bytes[..cut]);
-    if begins_with_end(part) {
-        Next::End
-    } else if cut == bytes.len() {
-        Next::NoForm
-    } else {
-        match command_of(part) {
-            Some(command) => Next::Finished(command, &bytes[cut + 1..]),
-            None => Next::NoForm,
-        }
+    match ending {
+        Ending::NoEnd => true,
+        Ending::End | Ending::Paren => false,
     }
 }
 
-fn begins_with_end(bytes: &[u8]) -> bool
-    ensures { result ≡ boxes.begins_with_end bytes.now }
+/// The rounds after the first.
+fn rounds(
+    alloc: Global,
+    text: &[u8],
+    commands: &Commands,
+    layer: &Name,
+    scanned: &Scanned,
+) -> Result<Layout, CifError>
+    requires short { length text.now ≤ 16777216 }
+    requires commands { commands.now ≡ commands_of text.now }
+    requires scanned { IsScanned layer.now (forms_of text.now) (ending_of text.now) scanned.now }
+    ensures { Gives result (reading layer.now text.now) }
 {
-    match bytes.first() {
-        Some(first) => *first == b'E',
-        None => false,
+    if has_no_end(commands.ending) {
+        let command = commands.spans.as_slice().len() as u32 + 1;
+        return Err(CifError::Fault {
+            command,
+            what: What::NoEnd,
+        });
+    }
+    let table = &scanned.table;
+    let sites = scanned.sites.as_slice();
+    if let Some(command) = missing(table, sites) {
+        return Err(CifError::Fault {
+            command,
+            what: What::Missing,
+        });
+    }
+    let count = table.count();
+    let Ok(groups) = groups_of(alloc, table) else {
+        return Err(CifError::NoMemory);
+    };
+    match looped(table, &groups, sites) {
+        Some(command) => Err(CifError::Fault {
+            command,
+            what: What::Loop,
+        }),
+        None => limited(alloc, table, &groups, count + 1),
     }
 }
 
-/// How many bytes stand before the first semicolon.
-fn part_length(bytes: &[u8]) -> usize
-    ensures value { result ≡ prefix_len is_inside bytes.now }
-    ensures within { result ≤ length bytes.now }
+/// The primitives of a layer after all calls, in the order in which the calls are carried out.
+///
+/// The text has at most 16 MiB. Coordinates are in grid units of half a hundredth of a micron. The time
+/// grows with the length of the text and with the calls that are carried out, of which there are at most a
+/// million.
+pub fn read(alloc: Global, text: &[u8], layer: &Name) -> Result<Layout, CifError>
+    requires { length text.now ≤ 16777216 }
+    ensures exact { Gives result (reading layer.now text.now) }
+    ensures primitives { IfOk result (λ layout. map outline_of layout.prims ≡ primitives_of layer.now text.now) }
 {
-    bytes.iter().take_while(|b| **b != b';').count()
+    let Ok(commands) = commands(alloc, text) else {
+        return Err(CifError::NoMemory);
+    };
+    match scan(alloc, text, &commands, layer) {
+        Ok(scanned) => rounds(alloc, text, &commands, layer, &scanned),
+        Err(ScanError::Breaks(command, what)) => Err(CifError::Fault { command, what }),
+        Err(ScanError::NoMemory) => Err(CifError::NoMemory),
+    }
 }
+
+/// The primitives of a text without calls. It is a fact about `primitives_of`; nothing runs.
+pub fn drawing_rules()
+    ensures { DrawnInOrder }
+{}
