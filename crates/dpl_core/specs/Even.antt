@@ -1,16 +1,29 @@
--- What a split of a layout answers. What is read of a text is the list of the layer's parts, or the number of the
--- first command that has none of the forms.
-use Rattle.std.specs.Prelude.{◌≡◌, ◌⊎◌, ℕ, ℤ, Bool, List, Result, Err, IsOkAnd}
-use Rattle.dpl_cell.specs.Outlines.{Outline}
+-- What a split of a layout answers.
+use Rattle.std.specs.Prelude.{◌≡◌, ◌⊎◌, ℕ, ℤ, Bool, List, Result, Err}
 use Rattle.dpl_cell.specs.Layers.{is_cell}
+use Rattle.dpl_rules.specs.Rules.{fault}
+use Rattle.dpl_cif.specs.Reading.{Reading}
+use Rattle.dpl_cif.specs.Reading.Reading.{Faulty, TooMany, TooManyCalls, TooFar, Good}
 use Rattle.dpl_core.specs.Masking.{IsMasking, HasNoMasking}
-use Rattle.dpl_core.specs.Split.{IsWithinLimits, RefusesCells}
+use Rattle.dpl_core.specs.Split.{IsWithinLimits, IsOddAround, IsOverLimit}
 use Rattle.dpl_core.specs.declared.even.EvenError.{EvenError}
-use Rattle.dpl_core.specs.declared.even.EvenError.TheVariants.{Form, Odd, Limit, NoMemory}
+use Rattle.dpl_core.specs.declared.even.EvenError.TheVariants.{Odd, Layout, Limit, NoMemory}
 
 -- a layer was read, and its cells have the property
-abbrev pub OnCells : Result (List Outline) ℕ → ((ℤ → ℤ → Bool) → Type 0) → Type 0
-OnCells read P = IsOkAnd read (λ parts. P (is_cell parts))
+abbrev pub OnCells : Reading → ((ℤ → ℤ → Bool) → Type 0) → Type 0
+OnCells (Good parts) P = P (is_cell parts)
+OnCells (Faulty f) P = ⊥
+OnCells (TooMany n) P = ⊥
+OnCells (TooManyCalls n) P = ⊥
+OnCells (TooFar n) P = ⊥
+
+-- the limit with this number stopped the reading, with this count: of primitives, of calls, of the greatest coordinate
+abbrev pub IsReadLimit : Reading → ℕ → ℕ → Type 0
+IsReadLimit (TooMany n) kind count = (kind ≡ 2) × (count ≡ n)
+IsReadLimit (TooManyCalls n) kind count = (kind ≡ 3) × (count ≡ n)
+IsReadLimit (TooFar n) kind count = (kind ≡ 4) × (count ≡ n)
+IsReadLimit (Faulty f) kind count = ⊥
+IsReadLimit (Good parts) kind count = ⊥
 
 -- within the limits no choice of two masks keeps close shapes apart
 abbrev pub HasNoSplit : ℕ → (ℤ → ℤ → Bool) → Type 0
@@ -21,10 +34,10 @@ abbrev pub HasSplit : ℕ → (ℤ → ℤ → Bool) → (ℤ → ℤ → Bool) 
 HasSplit reach mask cells = IsWithinLimits cells reach × IsMasking cells reach mask
 
 -- what a refusal says of what was read; want of memory says nothing
-abbrev pub RefusesSplit : ℕ → Result (List Outline) ℕ → EvenError → Type 0
-RefusesSplit reach read (Form at) = read ≡ Err at
-RefusesSplit reach read (Odd around) = OnCells read (λ cells. RefusesCells reach cells (Odd around))
-RefusesSplit reach read (Limit kind count) = OnCells read (λ cells. RefusesCells reach cells (Limit kind count))
+abbrev pub RefusesSplit : ℕ → Reading → EvenError → Type 0
+RefusesSplit reach read (Odd around) = OnCells read (IsOddAround reach around)
+RefusesSplit reach read (Layout command what) = read ≡ Faulty (fault command what)
+RefusesSplit reach read (Limit kind count) = IsReadLimit read kind count ⊎ OnCells read (λ cells. IsOverLimit reach cells kind count)
 RefusesSplit reach read NoMemory = Unit {0}
 
 -- the answer has the property, or it is want of memory

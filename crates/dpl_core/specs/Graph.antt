@@ -5,7 +5,7 @@ use Rattle.dpl_core.specs.Graphs.{IsOddLoop, HasNoColouring}
 use Rattle.dpl_core.specs.Numbering.{Clash}
 use Rattle.dpl_core.specs.Edges.{IsClash, IsEarlier, AreClashes}
 use Rattle.dpl_core.specs.declared.even.EvenError.{EvenError}
-use Rattle.dpl_core.specs.declared.even.EvenError.TheVariants.{Form, Odd, Limit, NoMemory}
+use Rattle.dpl_core.specs.declared.even.EvenError.TheVariants.{Odd, Layout, Limit, NoMemory}
 
 -- with so many pairs of tiles that share an edge there are at most n pairs
 pub record HasFewPairs (tiles : List Corners) (numbers : List ℕ) (reach joins n : ℕ) : Type 0 where
@@ -27,7 +27,7 @@ pub record IsOddGraph (tiles : List Corners) (numbers : List ℕ) (reach joins :
   pub few : HasFewPairs tiles numbers reach joins 400000
 
 abbrev pub RefusesShapes : List Corners → List ℕ → ℕ → ℕ → EvenError → Type 0
-RefusesShapes tiles numbers reach joins (Form at) = ⊥
+RefusesShapes tiles numbers reach joins (Layout command what) = ⊥
 RefusesShapes tiles numbers reach joins (Odd around) = IsOddGraph tiles numbers reach joins around
 RefusesShapes tiles numbers reach joins (Limit kind count) = (kind ≡ 7) × (count ≡ 400001) × HasMorePairs tiles numbers reach joins 400000
 RefusesShapes tiles numbers reach joins NoMemory = Unit {0}

@@ -10,4 +10,5 @@ pub mod Graph
 pub mod Masks
 pub mod Written
 pub mod Split
+pub mod Limits
 pub mod Even

@@ -5,13 +5,13 @@ use Rattle.dpl_cell.specs.Layers.{is_cell}
 use Rattle.dpl_cell.specs.Tiles.{IsTile}
 use Rattle.dpl_tiles.specs.Counts.{HasMoreTiles}
 use Rattle.dpl_report.specs.Masks.{mask_text}
-use Rattle.dpl_report.specs.Drawings.{first_fault, primitives_of}
+use Rattle.dpl_cif.specs.Reading.{first_fault, primitives_of}
 use Rattle.dpl_core.specs.Graphs.{IsOddLoop}
 use Rattle.dpl_core.specs.Masking.{IsMasking, HasNoMasking}
 use Rattle.dpl_core.specs.Numbering.{AreNumbered, Clash}
 use Rattle.dpl_core.specs.Edges.{HasMoreEdges}
 use Rattle.dpl_core.specs.declared.even.EvenError.{EvenError}
-use Rattle.dpl_core.specs.declared.even.EvenError.TheVariants.{Form, Odd, Limit, NoMemory}
+use Rattle.dpl_core.specs.declared.even.EvenError.TheVariants.{Odd, Layout, Limit, NoMemory}
 
 -- no more tiles and pairs than the limits allow
 pub record IsWithinLimits (cells : ℤ → ℤ → Bool) (reach : ℕ) : Type 0 where
@@ -63,7 +63,7 @@ IsOverLimit reach cells kind count = ((kind ≡ 5) × (count ≡ 100001) × HasT
 
 -- a refusal to split the cells of a layer; want of memory says nothing
 abbrev pub RefusesCells : ℕ → (ℤ → ℤ → Bool) → EvenError → Type 0
-RefusesCells reach cells (Form at) = ⊥
+RefusesCells reach cells (Layout command what) = ⊥
 RefusesCells reach cells (Odd around) = IsOddAround reach around cells
 RefusesCells reach cells (Limit kind count) = IsOverLimit reach cells kind count
 RefusesCells reach cells NoMemory = Unit {0}

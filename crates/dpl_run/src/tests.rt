@@ -1,4 +1,5 @@
 use crate::{Status, run};
+use dpl_cif::What;
 use dpl_ext::{MemSink, MemSource};
 use std::alloc::Global;
 use std::test::Fail;
@@ -51,8 +52,21 @@ fn worked_layouts(rt: HostRuntime) -> Result<(), Fail> {
             Status::Odd,
         ),
         ("L M; B 10 10 5 5; B 10 10 15 5; E", Status::Done),
-        ("L M; P 0 0 5 0 5 5; E", Status::Form { at: 2 }),
-        ("L M; B 10 10 0 0", Status::Form { at: 2 }),
+        ("L M; P 0 0 10 0 10 10 0 10; E", Status::Done),
+        (
+            "L M; P 0 0 5 0 5 5; E",
+            Status::Layout {
+                command: 2,
+                what: What::Slant,
+            },
+        ),
+        (
+            "L M; B 10 10 0 0",
+            Status::Layout {
+                command: 3,
+                what: What::NoEnd,
+            },
+        ),
     ] {
         let none = Vec::new(rt.alloc());
         let ended = split_m_100(rt.alloc(), layout.as_bytes(), none, Vec::new(rt.alloc()))?;
