@@ -1,18 +1,16 @@
 -- Pairs of shapes that are too close, gathered shape by shape.
-use Rattle.std.proofs.Common.{arith, ◌≡◌, ◌≢◌, ◌↔◌, ◌⊎◌, ◌∙◌, ℕ, ◌+◌, ◌<◌, ◌≤◌, Bool, true, false, List, [], ◌∷◌, ◌++◌, length, get_or, length-append, All, AllPairs, Contains, refl, sym, inl, inr}
-use Rattle.std.specs.Prelude.{ℤ, slice_index, slice_index_or}
+use Rattle.std.proofs.Common.{arith, ◌≡◌, ◌≢◌, ◌↔◌, ◌⊎◌, ◌∙◌, ℕ, ◌+◌, ◌<◌, ◌≤◌, Bool, false, List, [], ◌∷◌, ◌++◌, length, get_or, length-append, All, AllPairs, refl, sym, inl, inr}
+use Rattle.std.specs.Prelude.{ℤ, slice_index}
 use Rattle.std.proofs.lemmas.Bool.{cases_lt, cases_eq}
 use Rattle.std.proofs.lemmas.List.{get_or_default, get_or_append_left, get_or_push}
 use Rattle.std.proofs.lemmas.List.Elements.{All-push, Contains-append_left, Contains-push}
 use Rattle.dpl_cell.specs.Places.{Corners}
-use Rattle.dpl_cell.specs.Cells.{IsIn}
 use Rattle.dpl_cell.specs.Gaps.{AreClose}
-use Rattle.dpl_near.specs.Near.{Search, IsNear, AreNear}
-use Rattle.dpl_core.specs.Boxes.{no_box, cells_at}
-use Rattle.dpl_core.specs.Graphs.{Joined, ArePairs, IsPair}
-use Rattle.dpl_core.specs.Numbering.{IsInShape, Clash}
-use Rattle.dpl_core.specs.Edges.{IsClash, IsEarlier, AreClashes}
-use Rattle.dpl_core.specs.Clashes.{IsMarked, IsFoundLater, IsReached, MarksReached, MarksClashes, AreClashesBefore, AreFewClashes, HasMoreClashes}
+use Rattle.dpl_near.specs.Near.{IsNear, AreNear}
+use Rattle.dpl_core.specs.Tiles.{no_box, cells_at}
+use Rattle.dpl_core.specs.Numbering.{IsInShape}
+use Rattle.dpl_core.specs.Edges.{IsClash, IsEarlier}
+use Rattle.dpl_core.specs.Clashes.{IsMarked, IsFoundLater, MarksReached, MarksClashes, AreClashesBefore, AreFewClashes, HasMoreClashes}
 
 -- ---- marks of one shape
 
@@ -175,7 +173,7 @@ skip_clash tiles numbers reach a b clashes n so = record {
 }
 
 -- no shape has a number from `count` on
-shape_below : (tiles : List Corners) (numbers : List ℕ) (count a : ℕ) (x y : ℤ) → All (λ l. l < count) numbers → length numbers ≡ length tiles → IsInShape tiles numbers a x y → a < count
+pub shape_below : (tiles : List Corners) (numbers : List ℕ) (count a : ℕ) (x y : ℤ) → All (λ l. l < count) numbers → length numbers ≡ length tiles → IsInShape tiles numbers a x y → a < count
 shape_below tiles numbers count a x y each long s = let h = each s.tile 0 (let g = s.within in omega arith) in let e = s.number in omega arith
 
 pub row_ends : (tiles : List Corners) (numbers : List ℕ) (reach count a n : ℕ) (clashes : List (ℕ × ℕ)) → All (λ l. l < count) numbers → length numbers ≡ length tiles → count ≤ n → AreClashesBefore tiles numbers reach a n clashes → AreClashesBefore tiles numbers reach (a + 1) 0 clashes

@@ -1,5 +1,5 @@
 -- Ordered lists with the same items are the same, and so are the numbers of shapes.
-use Rattle.std.proofs.Common.{arith, ◌≡◌, ◌≢◌, ◌↔◌, ◌∙◌, ℕ, zero, suc, ◌+◌, ◌<◌, ◌≤◌, ℤ, ◌<ℤ◌, Bool, List, [], ◌∷◌, length, get_or, AllPairs, All, Any, Contains, refl, sym, ap, inl, inr, ◌⊎◌}
+use Rattle.std.proofs.Common.{arith, ◌≡◌, ◌∙◌, ℕ, zero, suc, ◌+◌, ◌<◌, ◌≤◌, ℤ, Bool, List, [], ◌∷◌, length, get_or, AllPairs, All, Contains, refl, sym, ap, inl, inr}
 use Rattle.std.specs.Prelude.{slice_index, slice_index_or}
 use Rattle.std.proofs.lemmas.Int.{ints}
 use Rattle.std.proofs.lemmas.Bool.{cases_lt, cases_eq}
@@ -8,7 +8,7 @@ use Rattle.std.proofs.lemmas.Grind.{same_number_lists}
 use Rattle.dpl_core.proofs.MaskingLemmas.{corner_in}
 use Rattle.dpl_cell.specs.Places.{Corners}
 use Rattle.dpl_cell.specs.Tiles.{IsTile, IsBefore, AreTiles}
-use Rattle.dpl_core.specs.Boxes.{no_box, cells_at}
+use Rattle.dpl_core.specs.Tiles.{no_box}
 use Rattle.dpl_core.specs.Numbering.{AreNumbers, AreNumbered}
 use Rattle.dpl_core.specs.Edges.{IsJoin, IsClash, IsEarlier, HasMoreEdges, AreClashes}
 

@@ -1,69 +1,124 @@
 -- When each answer of a split comes, from what each answer says.
-use Rattle.std.proofs.Common.{arith, rules, ◌≡◌, ◌↔◌, ℕ, Bool, List, Result, Ok, Err, refl, sym, inl, inr, Vec, Global}
-use Rattle.std.specs.Prelude.{IsOk, IfOk, IfErr, MatchResult}
-use Rattle.dpl_cell.specs.Places.{Corners}
+use Rattle.std.proofs.Common.{arith, rules, ◌≡◌, ◌⊎◌, ℕ, ℤ, Bool, List, Result, Ok, Err, refl, inl, inr, Vec, Global, ap}
+use Rattle.std.specs.Prelude.{IsOk, IfOk, IfErr}
 use Rattle.dpl_cell.specs.Outlines.{Outline}
-use Rattle.dpl_core.specs.Graphs.{IsColouring, colour_at}
-use Rattle.dpl_core.specs.Colouring.{Excludes}
-use Rattle.dpl_core.specs.Order.{in_order}
-use Rattle.dpl_core.specs.Boxes.{boxes_among, IsFirstTouch}
-use Rattle.dpl_core.specs.Even.{OnBoxes, HasNoSplit, KeepsApart, IsSplit, IsOddAround, RefusesSplit, OrNoMemory, IsOdd}
-use Rattle.dpl_core.specs.declared.colouring.ColourError.{ColourError}
-use Rattle.dpl_core.specs.declared.colouring.ColourError.TheVariants as colouring
+use Rattle.dpl_cell.specs.Layers.{is_cell}
+use Rattle.dpl_rules.specs.declared.what.What.{What}
+use Rattle.dpl_rules.specs.Rules.{fault}
+use Rattle.dpl_cif.specs.Reading.{Reading}
+use Rattle.dpl_cif.specs.Reading.Reading.{Faulty, TooMany, TooManyCalls, TooFar, Good}
+use Rattle.dpl_core.specs.Split.{IsSplit, IsWithinLimits, IsOverLimit, HasTooManyTiles, HasTooManyEdges, RefusesCells}
+use Rattle.dpl_core.specs.Even.{OnCells, IsReadLimit, HasNoSplit, HasSplit, RefusesSplit, OrNoMemory, IsOdd}
 use Rattle.dpl_core.specs.declared.even.EvenError.{EvenError}
-use Rattle.dpl_core.specs.declared.even.EvenError.TheVariants.{Form, Touching, Odd, NoMemory}
+use Rattle.dpl_core.specs.declared.even.EvenError.TheVariants.{Odd, Layout, Limit, NoMemory}
 
--- two properties of the boxes that were read hold of the same boxes
-both_on : (read : Result (List Outline) ℕ) (P Q : List Corners → Type 0) → OnBoxes read P → OnBoxes read Q → (boxes : List Corners) × P boxes × Q boxes
-both_on (Ok parts) P Q p q = (in_order (boxes_among parts), p, q)
-both_on (Err at) P Q p q = absurd p
+-- what is answered for the cells of a layer
+abbrev pub SaysOfCells : List ℕ → ℕ → (ℤ → ℤ → Bool) → Result (Vec ℕ Global) EvenError → Type 0
+SaysOfCells layer reach cells (Ok v) = IsSplit layer reach cells v.items
+SaysOfCells layer reach cells (Err e) = RefusesCells reach cells e
 
--- where boxes were read there is no refusal to read
-not_form : (read : Result (List Outline) ℕ) (P : List Corners → Type 0) (at : ℕ) → OnBoxes read P → read ≡ Err at → ⊥
-not_form (Ok parts) P at p e = absurd (cc)
-not_form (Err k) P at p e = p
+-- an answer for what was read is one for its cells, or want of memory
+says_of : (layer : List ℕ) (reach : ℕ) (parts : List Outline) (r : Result (Vec ℕ Global) EvenError) → IfOk r (λ v. OnCells (Good parts) (λ cells. IsSplit layer reach cells v.items)) → IfErr r (RefusesSplit reach (Good parts)) → SaysOfCells layer reach (is_cell parts) r
+says_of layer reach parts (Ok v) s f = s
+says_of layer reach parts (Err (Layout command what)) s f = absurd (cc)
+says_of layer reach parts (Err (Odd around)) s f = f
+says_of layer reach parts (Err (Limit kind count)) s (inl f) = absurd f
+says_of layer reach parts (Err (Limit kind count)) s (inr f) = f
+says_of layer reach parts (Err NoMemory) s f = f
 
--- there is one first pair
-pub one_first : (boxes : List Corners) (i j k l : ℕ) → IsFirstTouch boxes i j → IsFirstTouch boxes k l → (k ≡ i) × (l ≡ j)
-one_first boxes i j k l p q =
-    elim (p.first k l q.touch) [
-      | inl h ↦ elim (q.first i j p.touch) [ inl g ↦ absurd (omega arith) | inr (e, g) ↦ absurd (omega (arith, e)) ]
-      | inr (e, h) ↦ elim (q.first i j p.touch) [ inl g ↦ absurd (omega (arith, e)) | inr (f, g) ↦ (sym e, omega (arith, g, h)) ]
-    ]
+-- ---- one answer excludes the others
 
-pub touching_comes : (layer : List ℕ) (space : ℕ) (read : Result (List Outline) ℕ) (i j : ℕ) → OnBoxes read (λ boxes. IsFirstTouch boxes i j) → (r : Result (Vec ℕ Global) EvenError) → IfOk r (λ v. OnBoxes read (λ boxes. IsSplit layer space boxes v.items)) → IfErr r (RefusesSplit space read) → OrNoMemory r (r ≡ Err (Touching i j))
-touching_comes layer space read i j on (Ok v) split refused = let (boxes, p, q) = both_on read (λ boxes. IsFirstTouch boxes i j) (λ boxes. IsSplit layer space boxes v.items) on split in absurd (q.apart.0 i j p.touch)
-touching_comes layer space read i j on (Err (Form at)) split refused = absurd (not_form read (λ boxes. IsFirstTouch boxes i j) at on refused)
-touching_comes layer space read i j on (Err (Touching k l)) split refused =
-    let (boxes, p, q) = both_on read (λ boxes. IsFirstTouch boxes i j) (λ boxes. IsFirstTouch boxes k l) on refused in
-    let (e, f) = one_first boxes i j k l p q in
-    inl (rw (e, f) refl)
-touching_comes layer space read i j on (Err (Odd around)) split refused = let (boxes, p, q) = both_on read (λ boxes. IsFirstTouch boxes i j) (IsOddAround space around) on refused in absurd (q.none.0 i j p.touch)
-touching_comes layer space read i j on (Err NoMemory) split refused = inr refl
+not_both : (reach : ℕ) (cells : ℤ → ℤ → Bool) (kind count : ℕ) → IsWithinLimits cells reach → IsOverLimit reach cells kind count → ⊥
+not_both reach cells kind count w (inl (e, f, m)) = w.tiles m
+not_both reach cells kind count w (inr (e, f, m)) = w.edges m.1
 
-pub odd_comes : (layer : List ℕ) (space : ℕ) (read : Result (List Outline) ℕ) → OnBoxes read (HasNoSplit space) → (r : Result (Vec ℕ Global) EvenError) → IfOk r (λ v. OnBoxes read (λ boxes. IsSplit layer space boxes v.items)) → IfErr r (RefusesSplit space read) → OrNoMemory r (IsOdd r)
-odd_comes layer space read on (Ok v) split refused = let (boxes, p, q) = both_on read (HasNoSplit space) (λ boxes. IsSplit layer space boxes v.items) on split in absurd (p.1 q.colour q.apart.1)
-odd_comes layer space read on (Err (Form at)) split refused = absurd (not_form read (HasNoSplit space) at on refused)
-odd_comes layer space read on (Err (Touching k l)) split refused = let (boxes, p, q) = both_on read (HasNoSplit space) (λ boxes. IsFirstTouch boxes k l) on refused in absurd (p.0 k l q.touch)
-odd_comes layer space read on (Err (Odd around)) split refused = inl (around, refl)
-odd_comes layer space read on (Err NoMemory) split refused = inr refl
+tiles_of : (layer : List ℕ) (reach : ℕ) (cells : ℤ → ℤ → Bool) (r : Result (Vec ℕ Global) EvenError) → HasTooManyTiles cells → SaysOfCells layer reach cells r → OrNoMemory r (r ≡ Err (Limit 5 100001))
+tiles_of layer reach cells (Ok v) m s = absurd (s.within.tiles m)
+tiles_of layer reach cells (Err (Layout command what)) m s = absurd s
+tiles_of layer reach cells (Err (Odd around)) m s = absurd (s.within.tiles m)
+tiles_of layer reach cells (Err (Limit kind count)) m (inl (e, f, t)) = inl (rw (e, f) refl)
+tiles_of layer reach cells (Err (Limit kind count)) m (inr (e, f, t)) = absurd (t.0 m)
+tiles_of layer reach cells (Err NoMemory) m s = inr refl
 
-pub even_comes : (layer : List ℕ) (space : ℕ) (read : Result (List Outline) ℕ) (colour : ℕ → Bool) → OnBoxes read (KeepsApart space colour) → (r : Result (Vec ℕ Global) EvenError) → IfOk r (λ v. OnBoxes read (λ boxes. IsSplit layer space boxes v.items)) → IfErr r (RefusesSplit space read) → OrNoMemory r (IsOk r)
-even_comes layer space read colour on (Ok v) split refused = inl (search rules)
-even_comes layer space read colour on (Err (Form at)) split refused = absurd (not_form read (KeepsApart space colour) at on refused)
-even_comes layer space read colour on (Err (Touching k l)) split refused = let (boxes, p, q) = both_on read (KeepsApart space colour) (λ boxes. IsFirstTouch boxes k l) on refused in absurd (p.0 k l q.touch)
-even_comes layer space read colour on (Err (Odd around)) split refused = let (boxes, p, q) = both_on read (KeepsApart space colour) (IsOddAround space around) on refused in absurd (q.none.1 colour p.1)
-even_comes layer space read colour on (Err NoMemory) split refused = inr refl
+edges_of : (layer : List ℕ) (reach : ℕ) (cells : ℤ → ℤ → Bool) (r : Result (Vec ℕ Global) EvenError) → HasTooManyEdges reach cells → SaysOfCells layer reach cells r → OrNoMemory r (r ≡ Err (Limit 7 400001))
+edges_of layer reach cells (Ok v) m s = absurd (s.within.edges m.1)
+edges_of layer reach cells (Err (Layout command what)) m s = absurd s
+edges_of layer reach cells (Err (Odd around)) m s = absurd (s.within.edges m.1)
+edges_of layer reach cells (Err (Limit kind count)) m (inl (e, f, t)) = absurd (m.0 t)
+edges_of layer reach cells (Err (Limit kind count)) m (inr (e, f, t)) = inl (rw (e, f) refl)
+edges_of layer reach cells (Err NoMemory) m s = inr refl
 
--- what holds of the pairs holds of the boxes that they stand for
-pub colours_boxes : (near joins : ℕ → ℕ → Type 0) → ((i j : ℕ) → near i j ↔ joins i j) → (A : Vec Bool Global → Type 0) (r : Result (Vec Bool Global) ColourError) → MatchResult r (λ v. A v × IsColouring joins (colour_at v.items)) (Excludes joins) → IfOk r (λ v. IsColouring near (colour_at v.items))
-colours_boxes near joins same A (Ok v) (a, c) = λ i j h. c i j ((same i j).0 h)
-colours_boxes near joins same A (Err e) m = tt
+odd_of : (layer : List ℕ) (reach : ℕ) (cells : ℤ → ℤ → Bool) (r : Result (Vec ℕ Global) EvenError) → HasNoSplit reach cells → SaysOfCells layer reach cells r → OrNoMemory r (IsOdd r)
+odd_of layer reach cells (Ok v) (w, none) s = absurd (none s.mask s.masking)
+odd_of layer reach cells (Err (Layout command what)) m s = absurd s
+odd_of layer reach cells (Err (Odd around)) m s = inl (around, refl)
+odd_of layer reach cells (Err (Limit kind count)) (w, none) s = absurd (not_both reach cells kind count w s)
+odd_of layer reach cells (Err NoMemory) m s = inr refl
 
-pub excludes_boxes : (near joins : ℕ → ℕ → Type 0) → ((i j : ℕ) → near i j ↔ joins i j) → (A : Vec Bool Global → Type 0) (r : Result (Vec Bool Global) ColourError) → MatchResult r (λ v. A v × IsColouring joins (colour_at v.items)) (Excludes joins) → IfErr r (Excludes near)
-excludes_boxes near joins same A (Ok v) m = tt
-excludes_boxes near joins same A (Err (colouring.Odd around)) (o, n) = (
-  record { linked = λ k h. (same _ _).1 (o.linked k h); closes = (same _ _).1 o.closes; odd = o.odd; long = o.long },
-  (λ colour c. n colour (λ i j h. c i j ((same i j).1 h))),
-)
-excludes_boxes near joins same A (Err colouring.NoMemory) m = tt
+even_of : (layer : List ℕ) (reach : ℕ) (cells mask : ℤ → ℤ → Bool) (r : Result (Vec ℕ Global) EvenError) → HasSplit reach mask cells → SaysOfCells layer reach cells r → OrNoMemory r (IsOk r)
+even_of layer reach cells mask (Ok v) m s = inl (search rules)
+even_of layer reach cells mask (Err (Layout command what)) m s = absurd s
+even_of layer reach cells mask (Err (Odd around)) (w, m) s = absurd (s.none mask m)
+even_of layer reach cells mask (Err (Limit kind count)) (w, m) s = absurd (not_both reach cells kind count w s)
+even_of layer reach cells mask (Err NoMemory) m s = inr refl
+
+-- ---- for what was read
+
+pub layout_comes : (layer : List ℕ) (reach : ℕ) (read : Reading) (command : ℕ) (what : What) → read ≡ Faulty (fault command what) → (r : Result (Vec ℕ Global) EvenError) → IfOk r (λ v. OnCells read (λ cells. IsSplit layer reach cells v.items)) → IfErr r (RefusesSplit reach read) → OrNoMemory r (r ≡ Err (Layout command what))
+layout_comes layer reach read command what e (Ok v) s f = absurd (rw e at s)
+layout_comes layer reach read command what e (Err (Odd around)) s f = absurd (rw e at f)
+layout_comes layer reach read command what e (Err (Layout k w)) s f = let g : fault k w ≡ fault command what = cc in let h : k ≡ command = ap (λ x. x.command) g in let i : w ≡ what = ap (λ x. x.what) g in inl (rw (h, i) refl)
+layout_comes layer reach read command what e (Err (Limit kind count)) s f = absurd (elim f [ inl h ↦ rw e at h | inr h ↦ rw e at h ])
+layout_comes layer reach read command what e (Err NoMemory) s f = inr refl
+
+-- a limit that stopped the reading is the only one
+same_limit : (read : Reading) (k n l m : ℕ) → IsReadLimit read k n → IsReadLimit read l m → Limit k n ≡ Limit l m
+same_limit (TooMany i) k n l m (a, b) (c, d) = rw (a, b, c, d) refl
+same_limit (TooManyCalls i) k n l m (a, b) (c, d) = rw (a, b, c, d) refl
+same_limit (TooFar i) k n l m (a, b) (c, d) = rw (a, b, c, d) refl
+same_limit (Faulty g) k n l m p q = absurd p
+same_limit (Good parts) k n l m p q = absurd p
+
+-- where a limit stopped the reading there are no cells and no fault
+no_cells : (read : Reading) (P : (ℤ → ℤ → Bool) → Type 0) (kind count : ℕ) → IsReadLimit read kind count → OnCells read P → ⊥
+no_cells (TooMany i) P kind count p q = q
+no_cells (TooManyCalls i) P kind count p q = q
+no_cells (TooFar i) P kind count p q = q
+no_cells (Faulty g) P kind count p q = p
+no_cells (Good parts) P kind count p q = p
+
+pub read_limit_comes : (layer : List ℕ) (reach : ℕ) (read : Reading) (kind count : ℕ) → IsReadLimit read kind count → (r : Result (Vec ℕ Global) EvenError) → IfOk r (λ v. OnCells read (λ cells. IsSplit layer reach cells v.items)) → IfErr r (RefusesSplit reach read) → OrNoMemory r (r ≡ Err (Limit kind count))
+read_limit_comes layer reach read kind count p (Ok v) s f = absurd (no_cells read (λ cells. IsSplit layer reach cells v.items) kind count p s)
+read_limit_comes layer reach read kind count p (Err (Odd around)) s f = absurd (no_cells read (λ cells. RefusesCells reach cells (Odd around)) kind count p f)
+read_limit_comes layer reach read kind count p (Err (Layout k w)) s f = absurd (rw f at p)
+read_limit_comes layer reach read kind count p (Err (Limit l m)) s (inl h) = inl (ap Err (same_limit read l m kind count h p))
+read_limit_comes layer reach read kind count p (Err (Limit l m)) s (inr h) = absurd (no_cells read (λ cells. IsOverLimit reach cells l m) kind count p h)
+read_limit_comes layer reach read kind count p (Err NoMemory) s f = inr refl
+
+pub tiles_come : (layer : List ℕ) (reach : ℕ) (read : Reading) → OnCells read HasTooManyTiles → (r : Result (Vec ℕ Global) EvenError) → IfOk r (λ v. OnCells read (λ cells. IsSplit layer reach cells v.items)) → IfErr r (RefusesSplit reach read) → OrNoMemory r (r ≡ Err (Limit 5 100001))
+tiles_come layer reach (Good parts) m r s f = tiles_of layer reach (is_cell parts) r m (says_of layer reach parts r s f)
+tiles_come layer reach (Faulty g) m r s f = absurd m
+tiles_come layer reach (TooMany n) m r s f = absurd m
+tiles_come layer reach (TooManyCalls n) m r s f = absurd m
+tiles_come layer reach (TooFar n) m r s f = absurd m
+
+pub edges_come : (layer : List ℕ) (reach : ℕ) (read : Reading) → OnCells read (HasTooManyEdges reach) → (r : Result (Vec ℕ Global) EvenError) → IfOk r (λ v. OnCells read (λ cells. IsSplit layer reach cells v.items)) → IfErr r (RefusesSplit reach read) → OrNoMemory r (r ≡ Err (Limit 7 400001))
+edges_come layer reach (Good parts) m r s f = edges_of layer reach (is_cell parts) r m (says_of layer reach parts r s f)
+edges_come layer reach (Faulty g) m r s f = absurd m
+edges_come layer reach (TooMany n) m r s f = absurd m
+edges_come layer reach (TooManyCalls n) m r s f = absurd m
+edges_come layer reach (TooFar n) m r s f = absurd m
+
+pub odd_comes : (layer : List ℕ) (reach : ℕ) (read : Reading) → OnCells read (HasNoSplit reach) → (r : Result (Vec ℕ Global) EvenError) → IfOk r (λ v. OnCells read (λ cells. IsSplit layer reach cells v.items)) → IfErr r (RefusesSplit reach read) → OrNoMemory r (IsOdd r)
+odd_comes layer reach (Good parts) m r s f = odd_of layer reach (is_cell parts) r m (says_of layer reach parts r s f)
+odd_comes layer reach (Faulty g) m r s f = absurd m
+odd_comes layer reach (TooMany n) m r s f = absurd m
+odd_comes layer reach (TooManyCalls n) m r s f = absurd m
+odd_comes layer reach (TooFar n) m r s f = absurd m
+
+pub even_comes : (layer : List ℕ) (reach : ℕ) (read : Reading) (mask : ℤ → ℤ → Bool) → OnCells read (HasSplit reach mask) → (r : Result (Vec ℕ Global) EvenError) → IfOk r (λ v. OnCells read (λ cells. IsSplit layer reach cells v.items)) → IfErr r (RefusesSplit reach read) → OrNoMemory r (IsOk r)
+even_comes layer reach (Good parts) mask m r s f = even_of layer reach (is_cell parts) mask r m (says_of layer reach parts r s f)
+even_comes layer reach (Faulty g) mask m r s f = absurd m
+even_comes layer reach (TooMany n) mask m r s f = absurd m
+even_comes layer reach (TooManyCalls n) mask m r s f = absurd m
+even_comes layer reach (TooFar n) mask m r s f = absurd m

@@ -1,12 +1,11 @@
 pub mod TreeLemmas
 pub mod SettlingLemmas
 pub mod LoopLemmas
-pub mod PairLemmas
 pub mod MaskLemmas
-pub mod OrderLemmas
-pub mod CornerLemmas
-pub mod EvenLemmas
-pub mod ReadingLemmas
 pub mod MaskingLemmas
 pub mod EdgeLemmas
 pub mod ClashLemmas
+pub mod GraphLemmas
+pub mod NumberingLemmas
+pub mod SplitLemmas
+pub mod EvenLemmas

@@ -1,20 +1,19 @@
 -- Masks of cells and colours of shapes.
-use Rattle.std.proofs.Common.{arith, rules, ◌≡◌, ◌≢◌, ◌↔◌, ◌∙◌, ℕ, zero, suc, ◌+◌, ◌<◌, ◌==◌, Bool, true, false, ◌&&◌, ◌||◌, not, List, [], ◌∷◌, length, get_or, map, AllPairs, All, Any, refl, sym, ap, eq-eqb, eqb-true}
-use Rattle.std.specs.Prelude.{ℤ, ◌<ℤ◌, ◌≤ℤ◌, IsTrue, int_lt, int_le, if◌then◌else◌, slice_index, slice_index_or}
+use Rattle.std.proofs.Common.{arith, rules, ◌≡◌, ◌↔◌, ◌∙◌, ℕ, zero, suc, ◌+◌, ◌<◌, ◌==◌, Bool, true, false, ◌&&◌, ◌||◌, not, List, [], ◌∷◌, length, get_or, map, AllPairs, All, Any, refl, sym, ap, eq-eqb, eqb-true}
+use Rattle.std.specs.Prelude.{ℤ, IsTrue, if◌then◌else◌, slice_index, slice_index_or}
 use Rattle.std.proofs.lemmas.Int.{ints}
-use Rattle.std.proofs.lemmas.Bool.{cases_eq}
 use Rattle.std.proofs.lemmas.List.{get_or_default}
 use Rattle.dpl_cell.specs.Places.{Corners}
 use Rattle.dpl_cell.specs.Cells.{IsWithin, IsIn, AreApart}
 use Rattle.dpl_cell.specs.Outlines.{Box}
 use Rattle.dpl_cell.specs.Layers.{is_cell, is_in_box, is_within}
-use Rattle.dpl_cell.specs.Shapes.{IsWalk, AreOneShape}
-use Rattle.dpl_cell.specs.Tiles.{IsTile, AreTiles}
+use Rattle.dpl_cell.specs.Shapes.{IsWalk}
+use Rattle.dpl_cell.specs.Tiles.{IsTile}
 use Rattle.dpl_core.specs.Graphs.{IsColouring, HasNoColouring}
-use Rattle.dpl_core.specs.Boxes.{no_box, cells_at}
+use Rattle.dpl_core.specs.Tiles.{no_box, cells_at}
 use Rattle.dpl_core.specs.Masks.{chosen, is_colour}
-use Rattle.dpl_core.specs.Masking.{AreTooClose, IsMasking, HasNoMasking}
-use Rattle.dpl_core.specs.Numbering.{AreNumbers, IsInShape, Clash}
+use Rattle.dpl_core.specs.Masking.{IsMasking, HasNoMasking}
+use Rattle.dpl_core.specs.Numbering.{AreNumbers, Clash}
 
 -- ---- a cell of a rectangle
 
@@ -124,35 +123,33 @@ held cells tiles k x y c l i = (c x y).1 (k, get_or tiles k no_box, l, get_or_de
 abbrev pub mask_by : (ℕ → Bool) → List Corners → ℤ → ℤ → Bool
 mask_by is tiles x y = is_cell (map Box (chosen (is_colour true is) 0 tiles)) x y
 
-pub colours_mask : (cells : ℤ → ℤ → Bool) (reach : ℕ) (tiles : List Corners) (numbers : List ℕ) (colour : ℕ → Bool) → Covers cells tiles → AllPairs AreApart tiles → AreNumbers cells tiles numbers → IsColouring (Clash tiles numbers reach) colour → IsMasking cells reach (mask_by (λ k. colour (slice_index numbers k)) tiles)
-colours_mask cells reach tiles numbers colour c a n colours = record {
+pub colours_mask : (cells : ℤ → ℤ → Bool) (reach : ℕ) (tiles : List Corners) (numbers : List ℕ) (colour of_tile : ℕ → Bool) → ((k : ℕ) → k < length tiles → of_tile k ≡ colour (slice_index numbers k)) → Covers cells tiles → AllPairs AreApart tiles → AreNumbers cells tiles numbers → IsColouring (Clash tiles numbers reach) colour → IsMasking cells reach (mask_by of_tile tiles)
+colours_mask cells reach tiles numbers colour of_tile same c a n colours = record {
   whole = λ x y x' y' (walk, w).
-    let (i, l, p) = holder cells tiles x y c (walk_start cells x y walk x' y' w) in
-    let (j, m, q) = holder cells tiles x' y' c (walk_end cells x y walk x' y' w) in
-    let e : slice_index numbers i ≡ slice_index numbers j = (n.same i j l m x y x' y' p q).1 (walk, w) in
-    chosen_at is tiles i x y a l p ∙ (ap colour e ∙ sym (chosen_at is tiles j x' y' a m q));
+      let (i, l, p) = holder cells tiles x y c (walk_start cells x y walk x' y' w) in
+      let (j, m, q) = holder cells tiles x' y' c (walk_end cells x y walk x' y' w) in
+      let e : slice_index numbers i ≡ slice_index numbers j = (n.same i j l m x y x' y' p q).1 (walk, w) in
+      chosen_at (is_colour true of_tile) tiles i x y a l p ∙ (same i l ∙ (ap colour e ∙ (sym (same j m) ∙ sym (chosen_at (is_colour true of_tile) tiles j x' y' a m q))));
   apart = λ x y x' y' t e.
-    let (i, l, p) = holder cells tiles x y c t.first in
-    let (j, m, q) = holder cells tiles x' y' c t.second in
-    colours (slice_index numbers i) (slice_index numbers j)
-    (record {
-      different = λ f. t.different ((n.same i j l m x y x' y' p q).0 f);
-      close = record {
-        x = x;
-        y = y;
-        x' = x';
-        y' = y';
-        cells = record {
-          first = record { tile = i; within = l; number = refl; cell = p };
-          second = record { tile = j; within = m; number = refl; cell = q };
+      let (i, l, p) = holder cells tiles x y c t.first in
+      let (j, m, q) = holder cells tiles x' y' c t.second in
+      colours (slice_index numbers i) (slice_index numbers j)
+      (record {
+        different = λ f. t.different ((n.same i j l m x y x' y' p q).0 f);
+        close = record {
+          x = x;
+          y = y;
+          x' = x';
+          y' = y';
+          cells = record {
+            first = record { tile = i; within = l; number = refl; cell = p };
+            second = record { tile = j; within = m; number = refl; cell = q };
+          };
+          near = t.near;
         };
-        near = t.near;
-      };
-    })
-    (sym (chosen_at is tiles i x y a l p) ∙ (e ∙ chosen_at is tiles j x' y' a m q));
-} where
-  is : ℕ → Bool
-  is k = is_colour true (λ k. colour (slice_index numbers k)) k
+      })
+      (sym (same i l) ∙ (sym (chosen_at (is_colour true of_tile) tiles i x y a l p) ∙ (e ∙ (chosen_at (is_colour true of_tile) tiles j x' y' a m q ∙ same j m))));
+}
 
 -- ---- the cells of the two masks
 
@@ -170,8 +167,8 @@ pub on_first : (cells : ℤ → ℤ → Bool) (tiles : List Corners) (is : ℕ �
 on_first cells tiles is c a x y = go (cells x y) refl where
   go : (t : Bool) → cells x y ≡ t → is_cell (map Box (chosen (is_colour false is) 0 tiles)) x y ≡ t && not (mask_by is tiles x y)
   go true e =
-    let (k, l, i) = holder cells tiles x y c (is_true e) in
-    chosen_at (is_colour false is) tiles k x y a l i ∙ ap not (sym (chosen_at (is_colour true is) tiles k x y a l i))
+      let (k, l, i) = holder cells tiles x y c (is_true e) in
+      chosen_at (is_colour false is) tiles k x y a l i ∙ ap not (sym (chosen_at (is_colour true is) tiles k x y a l i))
   go false e = chosen_none (is_colour false is) tiles x y (cell_or_none cells tiles x y c e)
 
 -- ---- from masks of cells to colours of shapes

@@ -1,8 +1,8 @@
 -- Pairs of shapes that are too close, as they are gathered shape by shape.
-use Rattle.std.specs.Prelude.{◌≡◌, ◌↔◌, ◌⊎◌, ℕ, ◌+◌, ◌<◌, ◌≤◌, Bool, true, false, List, All, AllPairs, Contains, length, slice_index, slice_index_or}
+use Rattle.std.specs.Prelude.{◌≡◌, ◌↔◌, ℕ, ◌<◌, ◌≤◌, Bool, true, false, List, All, AllPairs, Contains, length, slice_index, slice_index_or}
 use Rattle.dpl_cell.specs.Places.{Corners}
 use Rattle.dpl_cell.specs.Gaps.{AreClose}
-use Rattle.dpl_core.specs.Boxes.{cells_at}
+use Rattle.dpl_core.specs.Tiles.{cells_at}
 use Rattle.dpl_core.specs.Edges.{IsClash, IsEarlier, AreClashes}
 
 -- the row has a mark at b

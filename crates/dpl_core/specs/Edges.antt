@@ -2,7 +2,7 @@
 use Rattle.std.specs.Prelude.{◌≡◌, ◌⊎◌, ℕ, ◌+◌, ◌<◌, ℤ, Bool, List, All, AllPairs, Contains, length}
 use Rattle.dpl_cell.specs.Places.{Corners}
 use Rattle.dpl_cell.specs.Edges.{SharesEdge}
-use Rattle.dpl_core.specs.Boxes.{cells_at}
+use Rattle.dpl_core.specs.Tiles.{cells_at}
 use Rattle.dpl_core.specs.Numbering.{AreNumbered, Clash}
 
 -- two tiles that share an edge, the smaller number first

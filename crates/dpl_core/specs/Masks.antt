@@ -1,33 +1,12 @@
--- The text of two masks: one definition in quarters of a hundredth of a micron, with a layer for each mask.
-use Rattle.std.specs.Prelude.{ℕ, ◌+◌, ℤ, pos, ◌+ℤ◌, ◌-ℤ◌, ◌*ℤ◌, Bool, true, false, not, List, [], ◌∷◌, ◌++◌, flat_map, codes, if◌then◌else◌}
-use Rattle.std.specs.Fmt.{signed_decimal}
+-- The tiles of one mask.
+use Rattle.std.specs.Prelude.{ℕ, ◌+◌, Bool, not, List, [], ◌∷◌, if◌then◌else◌}
 use Rattle.dpl_cell.specs.Places.{Corners}
 
--- the boxes whose number passes the test, in order; the first has the number n
+-- the tiles whose number passes the test, in order; the first has the number n
 abbrev pub chosen : (ℕ → Bool) → ℕ → List Corners → List Corners
 chosen is n [] = []
-chosen is n (b ∷ boxes) = if is n then b ∷ chosen is (n + 1) boxes else chosen is (n + 1) boxes
-
--- a number behind a space
-abbrev pub spaced : ℤ → List ℕ
-spaced z = codes " " ++ signed_decimal z
-
--- a box by its length, its width and its middle: a grid unit is two quarters of a hundredth
-abbrev pub box_line : Corners → List ℕ
-box_line b = codes "B" ++ spaced ((b.x2 -ℤ b.x1) *ℤ pos 2) ++ spaced ((b.y2 -ℤ b.y1) *ℤ pos 2) ++ spaced (b.x1 +ℤ b.x2) ++ spaced (b.y1 +ℤ b.y2) ++ codes ";\n"
-
--- the boxes of one mask, on the layer whose name has the mask's letter behind it
-abbrev pub mask_lines : List ℕ → List ℕ → List Corners → List ℕ
-mask_lines layer letter boxes = codes "L " ++ layer ++ letter ++ codes ";\n" ++ flat_map box_line boxes
-
-abbrev pub mask_text : List ℕ → List Corners → List Corners → List ℕ
-mask_text layer on_a on_b =
-    codes "(dpl 0);\nDS 1 1 4;\n" ++ mask_lines layer (codes "A") on_a ++ mask_lines layer (codes "B") on_b ++ codes "DF;\nC 1;\nE\n"
+chosen is n (r ∷ tiles) = if is n then r ∷ chosen is (n + 1) tiles else chosen is (n + 1) tiles
 
 -- the number has the colour of the mask: false is mask A, and true is mask B
 abbrev pub is_colour : Bool → (ℕ → Bool) → ℕ → Bool
 is_colour mask colour n = if mask then colour n else not (colour n)
-
--- the boxes on the masks of their colours
-abbrev pub coloured_text : List ℕ → (ℕ → Bool) → List Corners → List ℕ
-coloured_text layer colour boxes = mask_text layer (chosen (is_colour false colour) 0 boxes) (chosen (is_colour true colour) 0 boxes)

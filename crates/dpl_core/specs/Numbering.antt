@@ -1,11 +1,10 @@
 -- The shapes of a layer by number: tiles of one shape have one number, and numbers begin with the lowest tiles.
-use Rattle.std.specs.Prelude.{◌≡◌, ◌≢◌, ◌↔◌, ℕ, ◌<◌, ℤ, Bool, List, length, slice_index, slice_index_or}
+use Rattle.std.specs.Prelude.{◌≡◌, ◌≢◌, ◌↔◌, ℕ, ◌<◌, ℤ, Bool, List, length, slice_index}
 use Rattle.dpl_cell.specs.Places.{Corners}
-use Rattle.dpl_cell.specs.Cells.{IsIn}
 use Rattle.dpl_cell.specs.Gaps.{AreClose}
 use Rattle.dpl_cell.specs.Shapes.{AreOneShape}
 use Rattle.dpl_cell.specs.Tiles.{AreTiles}
-use Rattle.dpl_core.specs.Boxes.{cells_at}
+use Rattle.dpl_core.specs.Tiles.{cells_at}
 
 -- each tile's number: the same for tiles of one shape, and each smaller number stands before it
 pub record AreNumbers (cells : ℤ → ℤ → Bool) (tiles : List Corners) (numbers : List ℕ) : Type 0 where

@@ -1,50 +1,54 @@
 -- What the program answers, in the order in which its answers are tried.
-use Rattle.std.specs.Prelude.{◌≡◌, ◌⊎◌, ℕ, nat_lt, MatchBool, List, [], length, Option, None, Some, Ok, Err, Result}
+use Rattle.std.specs.Prelude.{◌≡◌, ◌⊎◌, ℕ, ◌*◌, ℤ, nat_lt, MatchBool, Bool, List, [], length, Option, None, Some}
 use Rattle.std.specs.Io.KnownBytes.{Appends, Keeps}
 use Rattle.dpl_ext.specs.Device.{AppendsFront}
-use Rattle.dpl_cell.specs.Places.{Corners}
-use Rattle.dpl_cell.specs.Outlines.{Outline}
-use Rattle.dpl_cif.specs.Boxes.{boxes_of}
+use Rattle.dpl_cell.specs.Layers.{is_cell}
+use Rattle.dpl_cif.specs.Reading.{Reading, reading}
+use Rattle.dpl_cif.specs.Reading.Reading.{Faulty, TooMany, TooManyCalls, TooFar, Good}
 use Rattle.dpl_run.specs.declared.words.Asked.{Asked}
 use Rattle.dpl_run.specs.declared.status.Status.{Status}
-use Rattle.dpl_run.specs.declared.status.Status.TheVariants.{Done, Usage, Limit, Form, Touching, Odd, ReadFault, WriteFault, NoMemory}
-use Rattle.dpl_core.specs.Order.{in_order}
-use Rattle.dpl_core.specs.Boxes.{boxes_among, IsFirstTouch}
-use Rattle.dpl_core.specs.Even.{IsSplit, IsOddAround}
+use Rattle.dpl_run.specs.declared.status.Status.TheVariants.{Done, Usage, Layout, Limit, Odd, ReadFault, WriteFault, NoMemory}
+use Rattle.dpl_core.specs.Split.{IsSplit, IsOddAround, IsOverLimit}
 use Rattle.dpl_run.specs.Lines.{odd_line}
 use Rattle.dpl_run.specs.Words.{words_of}
 
 -- the most bytes of a layout
 abbrev pub most_bytes : ℕ
-most_bytes = 16384
+most_bytes = 16777216
 
--- the output is the line that tells an odd loop of boxes
-pub record IsOddOutput (space : ℕ) (boxes : List Corners) (output : List ℕ) : Type 0 where
+-- the spacing in grid units, of which a hundredth has two
+abbrev pub reach_of : Asked → ℕ
+reach_of asked = 2 * asked.space
+
+-- the output is the line that tells an odd loop of shapes
+pub record IsOddOutput (reach : ℕ) (cells : ℤ → ℤ → Bool) (output : List ℕ) : Type 0 where
   pub around : List ℕ
-  pub odd : IsOddAround space around boxes
+  pub odd : IsOddAround reach around cells
   pub line : output ≡ odd_line around
 
--- what is due for boxes in their order: two that touch, an odd loop, or the text of two masks
-abbrev pub IsDueOfBoxes : Asked → List Corners → Status → List ℕ → Type 0
-IsDueOfBoxes asked boxes (Touching i j) output = IsFirstTouch boxes i j × (output ≡ [])
-IsDueOfBoxes asked boxes Odd output = IsOddOutput asked.space boxes output
-IsDueOfBoxes asked boxes Done output = IsSplit asked.layer asked.space boxes output
-IsDueOfBoxes asked boxes (Usage kind) output = ⊥
-IsDueOfBoxes asked boxes (Limit kind count) output = ⊥
-IsDueOfBoxes asked boxes (Form at) output = ⊥
-IsDueOfBoxes asked boxes ReadFault output = ⊥
-IsDueOfBoxes asked boxes WriteFault output = ⊥
-IsDueOfBoxes asked boxes NoMemory output = ⊥
+-- what is due for the cells of a layer: a limit that is passed, an odd loop, or the text of two masks
+abbrev pub IsDueOfCells : Asked → (ℤ → ℤ → Bool) → Status → List ℕ → Type 0
+IsDueOfCells asked cells (Limit kind count) output = IsOverLimit (reach_of asked) cells kind count × (output ≡ [])
+IsDueOfCells asked cells Odd output = IsOddOutput (reach_of asked) cells output
+IsDueOfCells asked cells Done output = IsSplit asked.layer (reach_of asked) cells output
+IsDueOfCells asked cells (Usage kind) output = ⊥
+IsDueOfCells asked cells (Layout command what) output = ⊥
+IsDueOfCells asked cells ReadFault output = ⊥
+IsDueOfCells asked cells WriteFault output = ⊥
+IsDueOfCells asked cells NoMemory output = ⊥
 
--- what is due for what is read of a text: a command of another form comes first
-abbrev pub IsDueOfRead : Asked → Result (List Outline) ℕ → Status → List ℕ → Type 0
-IsDueOfRead asked (Err at) status output = (status ≡ Form at) × (output ≡ [])
-IsDueOfRead asked (Ok parts) status output = IsDueOfBoxes asked (in_order (boxes_among parts)) status output
+-- what is due for what is read of a text: a broken rule, or a limit of the reader, or what is due for its cells
+abbrev pub IsDueOfRead : Asked → Reading → Status → List ℕ → Type 0
+IsDueOfRead asked (Faulty f) status output = (status ≡ Layout f.command f.what) × (output ≡ [])
+IsDueOfRead asked (TooMany n) status output = (status ≡ Limit 2 n) × (output ≡ [])
+IsDueOfRead asked (TooManyCalls n) status output = (status ≡ Limit 3 n) × (output ≡ [])
+IsDueOfRead asked (TooFar n) status output = (status ≡ Limit 4 n) × (output ≡ [])
+IsDueOfRead asked (Good parts) status output = IsDueOfCells asked (is_cell parts) status output
 
 -- what is due for a layout: too many bytes come first
 abbrev pub IsDueOfText : Asked → List ℕ → Status → List ℕ → Type 0
 IsDueOfText asked text status output =
-    MatchBool (nat_lt most_bytes (length text)) ((status ≡ Limit 1 16385) × (output ≡ [])) (IsDueOfRead asked (boxes_of asked.layer text) status output)
+    MatchBool (nat_lt most_bytes (length text)) ((status ≡ Limit 1 16777217) × (output ≡ [])) (IsDueOfRead asked (reading asked.layer text) status output)
 
 -- what is due for words and a layout, a status and what is written: words that are no `split NAME SPACE` come first
 abbrev pub IsDueOf : Option Asked → List ℕ → Status → List ℕ → Type 0
@@ -60,8 +64,7 @@ Writes Done = Unit {0}
 Writes Odd = Unit {0}
 Writes (Usage kind) = ⊥
 Writes (Limit kind count) = ⊥
-Writes (Form at) = ⊥
-Writes (Touching i j) = ⊥
+Writes (Layout command what) = ⊥
 Writes ReadFault = ⊥
 Writes WriteFault = ⊥
 Writes NoMemory = ⊥
@@ -86,8 +89,7 @@ Answers words text before now Done = IsWritten words text before now Done
 Answers words text before now Odd = IsWritten words text before now Odd
 Answers words text before now (Usage kind) = IsWritten words text before now (Usage kind)
 Answers words text before now (Limit kind count) = IsWritten words text before now (Limit kind count)
-Answers words text before now (Form at) = IsWritten words text before now (Form at)
-Answers words text before now (Touching i j) = IsWritten words text before now (Touching i j)
+Answers words text before now (Layout command what) = IsWritten words text before now (Layout command what)
 Answers words text before now WriteFault = IsCut words text before now
 Answers words text before now ReadFault = Unit {0}
 Answers words text before now NoMemory = Unit {0}
@@ -105,5 +107,4 @@ IsQuiet before now ReadFault = Keeps before now
 IsQuiet before now NoMemory = Keeps before now
 IsQuiet before now (Usage kind) = Keeps before now
 IsQuiet before now (Limit kind count) = Keeps before now
-IsQuiet before now (Form at) = Keeps before now
-IsQuiet before now (Touching i j) = Keeps before now
+IsQuiet before now (Layout command what) = Keeps before now

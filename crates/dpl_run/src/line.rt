@@ -1,8 +1,9 @@
 // The line on the error output.
 ghost use Rattle.std.specs.Prelude.{◌≡◌, ◌+◌, ◌≤◌, ℕ, List, [], ◌++◌, length, decimal};
-ghost use Rattle.dpl_run.specs.Lines.{line_of};
+ghost use Rattle.dpl_run.specs.Lines.{line_of, what_number};
 
 use crate::status::Status;
+use dpl_cif::What;
 use itoa::Buffer;
 use std::marker::Model;
 
@@ -61,23 +62,18 @@ pub fn status_line(status: Status) -> Line
             push_number(&mut line, u64::from(kind));
             line.push(b"\n");
         }
+        Status::Layout { command, what } => {
+            line.push(b"dpl: layout ");
+            push_number(&mut line, u64::from(number_of(what)));
+            line.push(b" at command ");
+            push_number(&mut line, u64::from(command));
+            line.push(b"\n");
+        }
         Status::Limit { kind, count } => {
             line.push(b"dpl: limit ");
             push_number(&mut line, u64::from(kind));
             line.push(b" count ");
             push_number(&mut line, count);
-            line.push(b"\n");
-        }
-        Status::Form { at } => {
-            line.push(b"dpl: form ");
-            push_number(&mut line, u64::from(at));
-            line.push(b"\n");
-        }
-        Status::Touching { i, j } => {
-            line.push(b"dpl: touching ");
-            push_number(&mut line, u64::from(i));
-            line.push(b" ");
-            push_number(&mut line, u64::from(j));
             line.push(b"\n");
         }
         Status::Odd => line.push(b"dpl: odd\n"),
@@ -95,4 +91,26 @@ fn push_number(line: &mut Line, number: u64)
 {
     let mut buffer = Buffer::new();
     line.push(buffer.format(number).as_bytes());
+}
+
+/// The number of a rule of the layout.
+fn number_of(what: What) -> u8
+    ensures value { result ≡ what_number what }
+{
+    match what {
+        What::Syntax => 1,
+        What::Number => 2,
+        What::Nest => 3,
+        What::Twice => 4,
+        What::Angle => 5,
+        What::Layerless => 6,
+        What::Slant => 7,
+        What::OffGrid => 8,
+        What::Round => 9,
+        What::Delete => 10,
+        What::Scale => 11,
+        What::Missing => 12,
+        What::Loop => 13,
+        What::NoEnd => 14,
+    }
 }

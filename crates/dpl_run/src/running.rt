@@ -2,7 +2,7 @@
 ghost use Rattle.std.specs.Prelude.{◌≡◌, ◌↔◌, ◌⊎◌, ◌≤◌, ℕ, List, None, map, string_bytes, IfSome, IfOk, length};
 ghost use Rattle.std.specs.Io.KnownBytes.{Appends};
 ghost use Rattle.dpl_ext.specs.Device.{Rose, RoseBy, AppendsFront};
-ghost use Rattle.dpl_cif.specs.Boxes.{boxes_of};
+ghost use Rattle.dpl_cif.specs.Reading.{reading};
 ghost use Rattle.dpl_run.specs.Answer.{Answers, IsAnswered, IsDue, IsDueOfRead, IsQuiet};
 ghost use Rattle.dpl_run.specs.Lines.{line_of};
 ghost use Rattle.dpl_run.specs.Telling.{IsTold};
@@ -17,7 +17,7 @@ use dpl_ext::{ReadEnd, Sink, Source, read_all, write_all};
 use std::alloc::{AllocError, Global};
 
 /// The most bytes of a layout.
-const LIMIT: u64 = 16_384;
+const LIMIT: u64 = 16_777_216;
 
 /// Splits the layout as the words ask: `split NAME SPACE`, with the layer's name and the spacing in hundredths of
 /// a micron. Writes the masks or an odd loop to `out`, and a line to `err` where the status is not `Done`.
@@ -42,7 +42,7 @@ pub fn run<S: Source, O: Sink, E: Sink>(
     // When a device is to blame, and how much was read.
     ensures read { result ≡ Status.ReadFault → Rose (S.seen layout.old).faults (S.seen layout.new).faults }
     ensures write { result ≡ Status.WriteFault → Rose (O.faults out.old) (O.faults out.new) }
-    ensures limit { (kind count : ℕ) → result ≡ Status.Limit kind count → (kind ≡ 1) × (count ≡ 16385) × RoseBy 16385 (S.seen layout.old).given (S.seen layout.new).given }
+    ensures limit { (count : ℕ) → result ≡ Status.Limit 1 count → (count ≡ 16777217) × RoseBy 16777217 (S.seen layout.old).given (S.seen layout.new).given }
     ensures untouched { words_of (map string_bytes words.now) ≡ None → S.seen layout.new ≡ S.seen layout.old }
     ensures asked { (S.seen layout.new).asked ≡ (S.seen layout.old).asked }
 
@@ -66,7 +66,7 @@ fn attempt<S: Source, O: Sink>(
     ensures usage { (result ≡ Status.Usage 1) ↔ (words_of (map string_bytes words.now) ≡ None) }
     ensures read { result ≡ Status.ReadFault → Rose (S.seen layout.old).faults (S.seen layout.new).faults }
     ensures write { result ≡ Status.WriteFault → Rose (O.faults out.old) (O.faults out.new) }
-    ensures limit { (kind count : ℕ) → result ≡ Status.Limit kind count → (kind ≡ 1) × (count ≡ 16385) × RoseBy 16385 (S.seen layout.old).given (S.seen layout.new).given }
+    ensures limit { (count : ℕ) → result ≡ Status.Limit 1 count → (count ≡ 16777217) × RoseBy 16777217 (S.seen layout.old).given (S.seen layout.new).given }
     ensures untouched { words_of (map string_bytes words.now) ≡ None → S.seen layout.new ≡ S.seen layout.old }
     ensures asked { (S.seen layout.new).asked ≡ (S.seen layout.old).asked }
 {
@@ -100,8 +100,8 @@ struct Due {
 /// What is due for a layout.
 fn answer_for(alloc: Global, asked: &Asked, text: &[u8]) -> Result<Due, AllocError>
     requires asked { IsAsked asked.now }
-    requires text { length text.now ≤ 16384 }
-    ensures { IfOk result (λ due. IsDueOfRead asked.now (boxes_of asked.now.layer text.now) due.status due.output.items) }
+    requires text { length text.now ≤ 16777216 }
+    ensures { IfOk result (λ due. IsDueOfRead asked.now (reading asked.now.layer text.now) due.status due.output.items) }
 {
     match split_even(alloc, text, &asked.layer, asked.space) {
         Ok(output) => Ok(Due {
@@ -112,12 +112,12 @@ fn answer_for(alloc: Global, asked: &Asked, text: &[u8]) -> Result<Due, AllocErr
             status: Status::Odd,
             output: odd_line(alloc, around.as_slice())?,
         }),
-        Err(EvenError::Form { at }) => Ok(Due {
-            status: Status::Form { at },
+        Err(EvenError::Layout { command, what }) => Ok(Due {
+            status: Status::Layout { command, what },
             output: Vec::new(alloc),
         }),
-        Err(EvenError::Touching { i, j }) => Ok(Due {
-            status: Status::Touching { i, j },
+        Err(EvenError::Limit { kind, count }) => Ok(Due {
+            status: Status::Limit { kind, count },
             output: Vec::new(alloc),
         }),
         Err(EvenError::NoMemory) => Err(AllocError),

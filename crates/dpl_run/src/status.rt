@@ -1,16 +1,16 @@
 // How a run of the program ends.
 ghost use Rattle.std.specs.Prelude.{◌≡◌};
 
+use dpl_cif::What;
+
 /// How a run of the program ends.
 #[derive(Clone, Copy, Debug, PartialEq, Eq)]
 pub enum Status {
     Done,
     Usage(u8),
+    /// The first rule of the layout that is broken, and the number of the command that breaks it, from 1.
+    Layout { command: u32, what: What },
     Limit { kind: u8, count: u64 },
-    /// The number of the first command that has no known form, from 1.
-    Form { at: u32 },
-    /// The numbers of the first two boxes that touch.
-    Touching { i: u32, j: u32 },
     Odd,
     ReadFault,
     WriteFault,
@@ -27,12 +27,11 @@ impl Status {
         match self {
             Status::Done => 0,
             Status::Usage(_) => 2,
+            Status::Layout { .. } => 3,
             Status::Limit { .. } => 4,
             Status::ReadFault => 5,
             Status::WriteFault => 6,
             Status::NoMemory => 7,
-            Status::Form { .. } => 21,
-            Status::Touching { .. } => 22,
             Status::Odd => 23,
         }
     }

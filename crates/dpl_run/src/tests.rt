@@ -1,4 +1,5 @@
 use crate::{Status, run};
+use dpl_cif::What;
 use dpl_ext::{MemSink, MemSource};
 use std::alloc::Global;
 use std::test::Fail;
@@ -50,17 +51,51 @@ fn worked_layouts(rt: HostRuntime) -> Result<(), Fail> {
             "L M; B 100 100 50 50; B 100 100 200 50; B 100 100 125 200; E",
             Status::Odd,
         ),
+        ("L M; B 10 10 5 5; B 10 10 15 5; E", Status::Done),
+        ("L M; P 0 0 10 0 10 10 0 10; E", Status::Done),
         (
-            "L M; B 10 10 5 5; B 10 10 15 5; E",
-            Status::Touching { i: 0, j: 1 },
+            "L M; P 0 0 5 0 5 5; E",
+            Status::Layout {
+                command: 2,
+                what: What::Slant,
+            },
         ),
-        ("L M; P 0 0 5 0 5 5; E", Status::Form { at: 2 }),
-        ("L M; B 10 10 0 0", Status::Form { at: 2 }),
+        (
+            "L M; B 10 10 0 0",
+            Status::Layout {
+                command: 3,
+                what: What::NoEnd,
+            },
+        ),
     ] {
         let none = Vec::new(rt.alloc());
         let ended = split_m_100(rt.alloc(), layout.as_bytes(), none, Vec::new(rt.alloc()))?;
         assert_eq!(rt; ended.status, want, "{layout}");
     }
+    Ok(())
+}
+
+#[test]
+fn corner_contact(rt: HostRuntime) -> Result<(), Fail> {
+    let layout = b"L M; B 100 100 50 50; B 100 100 150 150; E";
+    let want =
+        b"(dpl 0);\nDS 1 1 4;\nL MA;\nB 400 400 200 200;\nL MB;\nB 400 400 600 600;\nDF;\nC 1;\nE\n";
+    let none = Vec::new(rt.alloc());
+    let ended = split_m_100(rt.alloc(), layout, none, Vec::new(rt.alloc()))?;
+    assert_eq!(rt; ended.status, Status::Done);
+    assert_eq!(rt; ended.out.bytes(), want.as_slice());
+    Ok(())
+}
+
+#[test]
+fn a_t(rt: HostRuntime) -> Result<(), Fail> {
+    let layout = b"L M; B 300 100 150 50; B 100 200 150 200; E";
+    let want =
+        b"(dpl 0);\nDS 1 1 4;\nL MA;\nB 1200 400 600 200;\nB 400 800 600 800;\nL MB;\nDF;\nC 1;\nE\n";
+    let none = Vec::new(rt.alloc());
+    let ended = split_m_100(rt.alloc(), layout, none, Vec::new(rt.alloc()))?;
+    assert_eq!(rt; ended.status, Status::Done);
+    assert_eq!(rt; ended.out.bytes(), want.as_slice());
     Ok(())
 }
 

@@ -1,4 +1,4 @@
-use Rattle.std.proofs.Common.{arith, length}
+use Rattle.std.proofs.Common.{arith}
 use Rattle.dpl_near.specs.Near.{AreNear}
 use Rattle.dpl_core.proofs.ClashLemmas.{reach_none, reach_step, reach_skip, reach_all}
 use Rattle.dpl_core.proofs.clashes.mark_close.Goals as goal

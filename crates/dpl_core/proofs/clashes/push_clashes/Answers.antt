@@ -1,4 +1,4 @@
-use Rattle.std.proofs.Common.{arith, rules, ◌≡◌, ◌∙◌, false, get_or, length, ◌<◌}
+use Rattle.std.proofs.Common.{arith, ◌≡◌, ◌∙◌, false, get_or, length, ◌<◌}
 use Rattle.dpl_core.proofs.ClashLemmas.{push_clash, skip_clash, row_ends, mark_at}
 use Rattle.dpl_core.proofs.clashes.push_clashes.Goals as goal
 use Rattle.dpl_core.proofs.clashes.push_clashes.Goals.{then-index+in_ok-push, else-index}

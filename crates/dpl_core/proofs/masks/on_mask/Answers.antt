@@ -8,11 +8,11 @@ use Rattle.dpl_core.proofs.masks.on_mask.Goals.{then-has_colour+in_ok-push, else
 
 pub loop-i-preserved : goal.loop-i-preserved
 loop-i-preserved c =
-    let step = chosen_more (is_colour c.args.mask (colour_at c.args.colours.now)) c.args.boxes.now c.loop-i.i c.index-boxes-i.result (omega arith) c.index-boxes-i.is in
+    let step = chosen_more (is_colour c.args.mask (colour_at c.args.colours.now)) c.args.tiles.now c.loop-i.i c.index-tiles-i.result (omega arith) c.index-tiles-i.is in
     elim c.if-has_colour.branch [
       | then-has_colour+in_ok-push w ↦
           let t : is_colour c.args.mask (colour_at c.args.colours.now) c.loop-i.i ≡ true = search rules in
-          let pushed : w.push.new.self.items ≡ c.loop-i.chosen.items ++ c.index-boxes-i.result ∷ [] = search rules in
+          let pushed : w.push.new.self.items ≡ c.loop-i.chosen.items ++ c.index-tiles-i.result ∷ [] = search rules in
           rw (w.chosen-is, pushed, map-append, c.loop-i.invariant) (sym (rw t at step))
       | else-has_colour w ↦
           let f : is_colour c.args.mask (colour_at c.args.colours.now) c.loop-i.i ≡ false = search rules in

@@ -5,4 +5,4 @@ use Rattle.dpl_core.specs.Masks.{chosen, is_colour}
 use Rattle.dpl_core.proofs.masks.on_mask.Given as goal
 
 abbrev pub invariant-loop-i : goal.invariant-loop-i
-invariant-loop-i l = map corners_of l.chosen.items ≡ chosen (is_colour l.mask (colour_at l.colours)) 0 (map corners_of (take l.i l.boxes))
+invariant-loop-i l = map corners_of l.chosen.items ≡ chosen (is_colour l.mask (colour_at l.colours)) 0 (map corners_of (take l.i l.tiles))
