@@ -10,6 +10,8 @@ mod error;
 mod prims;
 mod reach;
 mod reading;
+#[cfg(test)]
+mod tests;
 
 pub use dpl_rules::What;
 pub use error::{CifError, CifLimit};

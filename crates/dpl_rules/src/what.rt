@@ -4,7 +4,7 @@ use thiserror::Error;
 /// What is wrong with a layout. The last three are no matter of one command.
 #[derive(Clone, Copy, Debug, PartialEq, Eq)]
 pub enum What {
-    Syntax,
+    Syntax = 1,
     Number,
     Nest,
     Twice,

@@ -1,0 +1,84 @@
+use crate::{CifError, CifLimit, What, read};
+use dpl_cell::Prim;
+use dpl_lex::Name;
+use std::test::Fail;
+
+#[test]
+fn faults_are_named_with_their_commands(rt: HostRuntime) -> Result<(), Fail> {
+    let layer = Name::new(b"M").ok_or("a name")?;
+    for (text, command, what) in [
+        ("L M; Q 1; E", 2, What::Syntax),
+        ("L M; B 10 10 0 1000000000001; E", 2, What::Number),
+        ("L M; DF; E", 2, What::Nest),
+        ("DS 1; DF; DS 1; DF; E", 3, What::Twice),
+        ("L M; B 10 10 0 0 1 1; E", 2, What::Angle),
+        ("B 10 10 0 0; E", 1, What::Layerless),
+        ("L M; P 0 0 10 0 5 5; E", 2, What::Slant),
+        ("L M; R 10 0 0; E", 2, What::Round),
+        ("DD 1; E", 1, What::Delete),
+        ("DS 1 0 4; DF; E", 1, What::Scale),
+        ("L M; C 7; E", 2, What::Missing),
+        ("DS 1; L M; B 10 10 0 0; C 1; DF; C 1; E", 4, What::Loop),
+        ("L M; B 10 10 0 0;", 3, What::NoEnd),
+        ("L M; (open; E", 2, What::Syntax),
+        ("DS 1 1 3; L M; B 100 99 0 0; DF; C 1; E", 3, What::OffGrid),
+        ("C 7; L M; B 10 10 0 0;", 4, What::NoEnd),
+    ] {
+        let fault = read(rt.alloc(), text.as_bytes(), &layer).err();
+        assert_eq!(rt; fault, Some(CifError::Fault { command, what }), "{text}");
+    }
+    Ok(())
+}
+
+#[test]
+fn calls_move_and_scale(rt: HostRuntime) -> Result<(), Fail> {
+    let layer = Name::new(b"M").ok_or("a name")?;
+    let layout = read(rt.alloc(), b"C 2; DS 1 2 1; L M; B 10 10 0 0; DF; DS 2 3 1; C 1 T 5 0; DF; E", &layer)?;
+    let [Prim::Box(r)] = layout.prims.as_slice() else {
+        return Err("no box")?;
+    };
+    assert_eq!(rt; (r.x1, r.y1, r.x2, r.y2), (10, -20, 50, 20));
+    let layout = read(rt.alloc(), b"DS 1; L M; P 0 0 30 0 30 10 10 10 10 40 0 40; DF; C 1 M X R 0 1 T 10 20; L X; R 10 0 0; E", &layer)?;
+    let [Prim::Poly(points)] = layout.prims.as_slice() else {
+        return Err("no polygon")?;
+    };
+    let mut places = Vec::new(rt.alloc());
+    for p in points.as_slice() {
+        places.push((p.x, p.y))?;
+    }
+    let moved = [(20, 40), (20, -20), (0, -20), (0, 20), (-60, 20), (-60, 40)];
+    assert_eq!(rt; places.as_slice(), moved.as_slice());
+    Ok(())
+}
+
+#[test]
+fn limits_are_passed_with_their_counts(rt: HostRuntime) -> Result<(), Fail> {
+    let layer = Name::new(b"M").ok_or("a name")?;
+    for (first, limit) in [
+        (
+            "",
+            CifError::Limit { kind: CifLimit::Calls, count: 2147483647 },
+        ),
+        (
+            "L M; B 2 2 0 0;",
+            CifError::Limit { kind: CifLimit::Primitives, count: 1073741824 },
+        ),
+    ] {
+        let mut text = String::new(rt.alloc());
+        text.push_str("DS 1;")?;
+        text.push_str(first)?;
+        text.push_str("DF;")?;
+        for k in 1..31 {
+            text.push_str(format!(in rt.alloc(); "DS {}; C {k}; C {k}; DF;", k + 1)?.as_str())?;
+        }
+        text.push_str("C 31; E")?;
+        assert!(rt; text.len() <= 16777216);
+        assert_eq!(rt; read(rt.alloc(), text.as_bytes(), &layer).err(), Some(limit));
+    }
+    let layout = read(rt.alloc(), b"L M; B 2 2 536870911 0; E", &layer)?;
+    assert_eq!(rt; layout.prims.as_slice().len(), 1);
+    let far = read(rt.alloc(), b"L M; B 2 2 536870912 0; E", &layer);
+    let count = 1073741826;
+    assert_eq!(rt; far.err(), Some(CifError::Limit { kind: CifLimit::Coordinate, count }));
+    Ok(())
+}
