@@ -14,6 +14,8 @@ mod placement;
 mod putting;
 mod scanning;
 pub mod table;
+#[cfg(test)]
+mod tests;
 mod totals;
 mod unfolding;
 

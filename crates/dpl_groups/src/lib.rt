@@ -5,6 +5,8 @@
 #![tactic(auto)]
 
 mod finding;
+#[cfg(test)]
+mod tests;
 mod walk;
 
 pub use finding::{Groups, find_groups};
