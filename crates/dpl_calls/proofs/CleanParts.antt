@@ -108,8 +108,9 @@ and_false false false h = cc
 
 level : (s : Scale) (p q : Spot) → is_slanted p q ≡ false → IsLevel (scaled_corner s p) (scaled_corner s q)
 level s p q h = elim (and_false (eq_z p.x q.x) (eq_z p.y q.y) h) [
-    inl e ↦ inl (ap (λ (z : ℤ). scaled s (double z)) (eq_of p.x q.x e)) |
-    inr e ↦ inr (ap (λ (z : ℤ). scaled s (double z)) (eq_of p.y q.y e)) ]
+  | inl e ↦ inl (ap (λ (z : ℤ). scaled s (double z)) (eq_of p.x q.x e))
+  | inr e ↦ inr (ap (λ (z : ℤ). scaled s (double z)) (eq_of p.y q.y e))
+]
 
 levels : (s : Scale) (p : Spot) (ps : List Spot) (last : Spot) → slants_from p ps ≡ false → is_slanted (last_of p ps) last ≡ false → AreLevel (scaled_corner s p) (map (scaled_corner s) ps) (scaled_corner s last)
 levels s p [] last h k = level s p last k

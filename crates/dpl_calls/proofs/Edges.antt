@@ -72,8 +72,9 @@ module _ (t : Table) where
   edge_in m y h [] c = cc
   edge_in m y h (Drawn f ∷ ps) c = edge_in m y h ps c
   edge_in m y h (Called n moves ∷ ps) c = elim (or_true (n == m) (list_any (names m) ps) c) [
-      inl e ↦ subst (λ (o : Option ℕ). At y (with_place o (called_places numbers ps))) (sym (ap (λ (k : ℕ). place_of k numbers) (of_eq n m e) ∙ h)) (record { k = 0; within = omega arith; there = refl }) |
-      inr later ↦ at_later y (place_of n numbers) (called_places numbers ps) (edge_in m y h ps later) ]
+    | inl e ↦ subst (λ (o : Option ℕ). At y (with_place o (called_places numbers ps))) (sym (ap (λ (k : ℕ). place_of k numbers) (of_eq n m e) ∙ h)) (record { k = 0; within = omega arith; there = refl })
+    | inr later ↦ at_later y (place_of n numbers) (called_places numbers ps) (edge_in m y h ps later)
+  ]
 
   pub record Named (y : ℕ) (parts : List Part) : Type 0 where
     pub m : ℕ

@@ -30,9 +30,9 @@ path_near s (p ∷ ps) sc h =
 
 around_near : (s : Scale) (x : ℤ) (across : ℕ) (y : ℤ) (along : ℕ) → IsScale s → unsigned_abs x ≤ 10 ^ 12 → unsigned_abs y ≤ 10 ^ 12 → across ≤ 10 ^ 12 → along ≤ 10 ^ 12 → IsFigureNear (Rectangle (scaled_extent s (around x across y along)))
 around_near s x across y along sc hx hy ha hl = (
-    record { x = scaled_near s (less x across) sc (less_near x across hx ha); y = scaled_near s (less y along) sc (less_near y along hy hl) },
-    record { x = scaled_near s (more x across) sc (more_near x across hx ha); y = scaled_near s (more y along) sc (more_near y along hy hl) },
-  )
+  record { x = scaled_near s (less x across) sc (less_near x across hx ha); y = scaled_near s (less y along) sc (less_near y along hy hl) },
+  record { x = scaled_near s (more x across) sc (more_near x across hx ha); y = scaled_near s (more y along) sc (more_near y along hy hl) },
+)
 
 pub leg_near : (s : Scale) (w : ℕ) (p q : Spot) → IsScale s → w ≤ 10 ^ 12 → is_spot_in_bounds p ≡ true → is_spot_in_bounds q ≡ true → IsFigureNear (Rectangle (scaled_extent s (leg w p q)))
 leg_near s w p q sc hw hp hq =

@@ -128,9 +128,11 @@ on_box bytes = by (unsigned_of bytes)
     last : (l w : ℕ × List ℕ) (c : Option (Spot × List ℕ)) → OnSome (c >>= λ centre. complete (Box (record { length = l.0; width = w.0; centre = centre.0; direction = (f.direction_of (spot_of centre.1) centre.1).0 })) (f.direction_of (spot_of centre.1) centre.1).1)
     last l w None = tt
     last l w (Some centre) = on_complete (Box (record { length = l.0; width = w.0; centre = centre.0; direction = (f.direction_of (spot_of centre.1) centre.1).0 })) (f.direction_of (spot_of centre.1) centre.1).1 tt
+
     second : (l : ℕ × List ℕ) (w : Option (ℕ × List ℕ)) → OnSome (w >>= λ width. spot_of width.1 >>= λ centre. complete (Box (record { length = l.0; width = width.0; centre = centre.0; direction = (f.direction_of (spot_of centre.1) centre.1).0 })) (f.direction_of (spot_of centre.1) centre.1).1)
     second l None = tt
     second l (Some w) = last l w (spot_of w.1)
+
     by : (l : Option (ℕ × List ℕ)) → OnSome (l >>= λ length. unsigned_of length.1 >>= λ width. spot_of width.1 >>= λ centre. complete (Box (record { length = length.0; width = width.0; centre = centre.0; direction = (f.direction_of (spot_of centre.1) centre.1).0 })) (f.direction_of (spot_of centre.1) centre.1).1)
     by None = tt
     by (Some l) = second l (unsigned_of l.1)

@@ -116,9 +116,9 @@ module _ (b : Bodies) (f g : Frame) (e : Entry) (split : f.rest.now ≡ e ∷ g.
         let figures : frame_figures b f ≡ [] ++ pending b gs = front_figures ∙ rw ee (ap (λ (x : List Figure). x ++ frame_figures b g) inside) in
         let calls : frame_calls b f ≡ part_total own_calls b (total_of own_calls f.below b) (Called m (apply p)) + frame_calls b g = front_calls ∙ rw ee refl in
         let r : Goes b all t (s ++ []) (fs ++ gs) (n + 1) = goes_on b all t s fs f n [] gs 1 figures
-            (omega (arith, calls, counted))
-            (all_push (IsFrameNear (n + 1)) (g ∷ []) c (one_near (n + 1) g (rest_after (n + 1) (omega arith))) near)
-            h in
+        (omega (arith, calls, counted))
+        (all_push (IsFrameNear (n + 1)) (g ∷ []) c (one_near (n + 1) g (rest_after (n + 1) (omega arith))) near)
+        h in
         rw (append-nil s, ← append_assoc fs (g ∷ []) (c ∷ [])) at r
 
   deep_turns : (fs : List Frame) (c : Frame) (m : ℕ) (p : Placement) → e ≡ entry.Called m p → f.below ≡ suc c.below → left c ≡ b (Some m) → turns_left b ((fs ++ g ∷ []) ++ c ∷ []) < turns_left b (fs ++ f ∷ [])

@@ -43,17 +43,19 @@ module _ (t : Table) (labels heads : List ℕ) (G : AreGroups (graph_of t) label
     forth : get_or labels x 0 ≡ get_or labels y 0 → LeadsBack (bodies_of t) s
     forth e = subst (λ (o : Option ℕ). MatchOption o ⊥ (λ d. (s.called ≡ d) ⊎ Path (bodies_of t) s.called d)) (sym ed)
         (elim (G.joined y x (within t labels heads G s.called y hy) (within t labels heads G d x hx) (sym e)) [
-          inl q ↦ inl (sym (placed_key s.called y (keys t.definitions) hy).1 ∙ (ap (λ (n : ℕ). get_or (keys t.definitions) n 0) q ∙ (placed_key d x (keys t.definitions) hx).1)) |
-          inr l ↦ inr (leads_path t s.called d y x hy hx l) ])
+          | inl q ↦ inl (sym (placed_key s.called y (keys t.definitions) hy).1 ∙ (ap (λ (n : ℕ). get_or (keys t.definitions) n 0) q ∙ (placed_key d x (keys t.definitions) hx).1))
+          | inr l ↦ inr (leads_path t s.called d y x hy hx l)
+        ])
 
     back : LeadsBack (bodies_of t) s → get_or labels x 0 ≡ get_or labels y 0
     back h =
         let here : (s.called ≡ d) ⊎ Path (bodies_of t) s.called d = subst (λ (o : Option ℕ). MatchOption o ⊥ (λ d. (s.called ≡ d) ⊎ Path (bodies_of t) s.called d)) ed h in
         elim here [
-          inl q ↦ let same : Some y ≡ Some x = (sym hy ∙ ap (λ (n : ℕ). place_of n (keys t.definitions)) q) ∙ hx in let e : y ≡ x = cc in ap (λ (n : ℕ). get_or labels n 0) (sym e) |
-          inr p ↦
-            let low : get_or labels x 0 ≤ get_or labels y 0 = leads_low y x (within t labels heads G s.called y hy) (path_leads t s.called d y x hy hx p) in
-            let down : get_or labels y 0 ≤ get_or labels x 0 = G.downward x y (within t labels heads G d x hx) (call_edge t d s.called x y hx hy site) in omega arith ]
+          | inl q ↦ let same : Some y ≡ Some x = (sym hy ∙ ap (λ (n : ℕ). place_of n (keys t.definitions)) q) ∙ hx in let e : y ≡ x = cc in ap (λ (n : ℕ). get_or labels n 0) (sym e)
+          | inr p ↦
+              let low : get_or labels x 0 ≤ get_or labels y 0 = leads_low y x (within t labels heads G s.called y hy) (path_leads t s.called d y x hy hx p) in
+              let down : get_or labels y 0 ≤ get_or labels x 0 = G.downward x y (within t labels heads G d x hx) (call_edge t d s.called x y hx hy site) in omega arith
+        ]
 
     pub same_group : (get_or labels x 0 == get_or labels y 0) ≡ is_looped (length (keys t.definitions)) (bodies_of t) s
     same_group = same_if (get_or labels x 0 == get_or labels y 0) (is_looped (length (keys t.definitions)) (bodies_of t) s)
@@ -79,5 +81,6 @@ pub called_nowhere : (t : Table) (s : CallSite) (d x : ℕ) → s.definition ≡
 called_nowhere t s d x e hx hn = not_true (is_looped (length (keys t.definitions)) (bodies_of t) s) (λ h.
     let here : (s.called ≡ d) ⊎ Path (bodies_of t) s.called d = subst (λ (o : Option ℕ). MatchOption o ⊥ (λ d. (s.called ≡ d) ⊎ Path (bodies_of t) s.called d)) e (looped_back (bodies_of t) (keys t.definitions) (body_absent t) s h) in
     elim here [
-      inl q ↦ let bad : None ≡ Some x = (sym hn ∙ ap (λ (n : ℕ). place_of n (keys t.definitions)) q) ∙ hx in cc |
-      inr p ↦ let at : HasPlace t s.called = path_place t s.called d p in let bad : None ≡ Some at.place = sym hn ∙ at.there in cc ])
+      | inl q ↦ let bad : None ≡ Some x = (sym hn ∙ ap (λ (n : ℕ). place_of n (keys t.definitions)) q) ∙ hx in cc
+      | inr p ↦ let at : HasPlace t s.called = path_place t s.called d p in let bad : None ≡ Some at.place = sym hn ∙ at.there in cc
+    ])

@@ -65,6 +65,6 @@ none_there chosen n s seen (Ok c ∷ rest) out h =
 
 pub loops_lead_back : LoopsLeadBack
 loops_lead_back chosen commands s = (
-    looped_back (parts_from chosen at_first commands) (numbers_from [] commands) (λ n h. none_there chosen n at_first [] commands refl h) s,
-    back_looped (parts_from chosen at_first commands) (numbers_from [] commands) (λ n h. none_there chosen n at_first [] commands refl h) s,
-  )
+  looped_back (parts_from chosen at_first commands) (numbers_from [] commands) (λ n h. none_there chosen n at_first [] commands refl h) s,
+  back_looped (parts_from chosen at_first commands) (numbers_from [] commands) (λ n h. none_there chosen n at_first [] commands refl h) s,
+)

@@ -29,12 +29,19 @@ out_parts b to inner ih [] h = cc
 out_parts b to inner ih (Drawn f ∷ ps) h = out_later b to (Drawn f) ps (out_parts b to inner ih ps h)
 out_parts b to inner ih (Called n moves ∷ ps) h =
     elim (or_true (n == to || inner (b (Some n))) (list_any (part_leads b inner to) ps) h) [
-      inl here ↦ record { n = n; named = or_left (n == n) (list_any (names n) ps) (to_eq n n refl); on = elim (or_true (n == to) (inner (b (Some n))) here) [
-          inl e ↦ inl (of_eq n to e) |
-          inr l ↦ inr (let o : Out b to (b (Some n)) = ih n l in elim o.on [
-              inl e ↦ once n to (subst (λ (k : ℕ). calls b n k ≡ true) e o.named) |
-              inr p ↦ more n o.n to o.named p ]) ] } |
-      inr later ↦ out_later b to (Called n moves) ps (out_parts b to inner ih ps later) ]
+      | inl here ↦ record {
+        n = n;
+        named = or_left (n == n) (list_any (names n) ps) (to_eq n n refl);
+        on = elim (or_true (n == to) (inner (b (Some n))) here) [
+          | inl e ↦ inl (of_eq n to e)
+          | inr l ↦ inr (let o : Out b to (b (Some n)) = ih n l in elim o.on [
+            | inl e ↦ once n to (subst (λ (k : ℕ). calls b n k ≡ true) e o.named)
+            | inr p ↦ more n o.n to o.named p
+          ])
+        ];
+      }
+      | inr later ↦ out_later b to (Called n moves) ps (out_parts b to inner ih ps later)
+    ]
 
 pub leads_out : (k : ℕ) (b : Bodies) (to : ℕ) (parts : List Part) → leads_to k b to parts ≡ true → Out b to parts
 leads_out zero b to parts h = cc
@@ -45,8 +52,9 @@ in_parts b to n inner h [] named = cc
 in_parts b to n inner h (Drawn f ∷ ps) named = in_parts b to n inner h ps named
 in_parts b to n inner h (Called m moves ∷ ps) named =
     elim (or_true (m == n) (list_any (names n) ps) named) [
-      inl e ↦ or_left (m == to || inner (b (Some m))) (list_any (part_leads b inner to) ps) (subst (λ (k : ℕ). (k == to || inner (b (Some k))) ≡ true) (sym (of_eq m n e)) h) |
-      inr later ↦ or_right (m == to || inner (b (Some m))) (list_any (part_leads b inner to) ps) (in_parts b to n inner h ps later) ]
+      | inl e ↦ or_left (m == to || inner (b (Some m))) (list_any (part_leads b inner to) ps) (subst (λ (k : ℕ). (k == to || inner (b (Some k))) ≡ true) (sym (of_eq m n e)) h)
+      | inr later ↦ or_right (m == to || inner (b (Some m))) (list_any (part_leads b inner to) ps) (in_parts b to n inner h ps later)
+    ]
 
 -- a path is found over as many calls as it has
 pub record Found (b : Bodies) (to : ℕ) (parts : List Part) : Type 0 where
@@ -80,10 +88,12 @@ parts_more b to t u h [] l = l
 parts_more b to t u h (Drawn f ∷ ps) l = parts_more b to t u h ps l
 parts_more b to t u h (Called n moves ∷ ps) l =
     elim (or_true (n == to || t (b (Some n))) (list_any (part_leads b t to) ps) l) [
-      inl here ↦ or_left (n == to || u (b (Some n))) (list_any (part_leads b u to) ps) (elim (or_true (n == to) (t (b (Some n))) here) [
-          inl e ↦ or_left (n == to) (u (b (Some n))) e |
-          inr e ↦ or_right (n == to) (u (b (Some n))) (h n e) ]) |
-      inr later ↦ or_right (n == to || u (b (Some n))) (list_any (part_leads b u to) ps) (parts_more b to t u h ps later) ]
+      | inl here ↦ or_left (n == to || u (b (Some n))) (list_any (part_leads b u to) ps) (elim (or_true (n == to) (t (b (Some n))) here) [
+        | inl e ↦ or_left (n == to) (u (b (Some n))) e
+        | inr e ↦ or_right (n == to) (u (b (Some n))) (h n e)
+      ])
+      | inr later ↦ or_right (n == to || u (b (Some n))) (list_any (part_leads b u to) ps) (parts_more b to t u h ps later)
+    ]
 
 leads_more : (k : ℕ) (b : Bodies) (to : ℕ) (parts : List Part) → leads_to k b to parts ≡ true → leads_to (suc k) b to parts ≡ true
 leads_more zero b to parts h = cc
@@ -123,9 +133,10 @@ grows f h m (k ∷ ks) = by (f k) (h k) (m k) (grows f h m ks)
 pub placed_key : (n i : ℕ) (ks : List ℕ) → place_of n ks ≡ Some i → (i < length ks) × (get_or ks i 0 ≡ n)
 placed_key n i [] h = cc
 placed_key n i (k ∷ ks) h = elim (bool_cases (n == k)) [
-    inl e ↦ let z : Some 0 ≡ Some i = subst (λ (b : Bool). cond b (Some 0) (one_further (place_of n ks)) ≡ Some i) e h in let q : 0 ≡ i = cc in
-        subst (λ (j : ℕ). (j < length (k ∷ ks)) × (get_or (k ∷ ks) j 0 ≡ n)) q (omega arith, sym (of_eq n k e)) |
-    inr e ↦ later i (λ j q. placed_key n j ks q) (place_of n ks) refl (subst (λ (b : Bool). cond b (Some 0) (one_further (place_of n ks)) ≡ Some i) e h) ]
+  | inl e ↦ let z : Some 0 ≡ Some i = subst (λ (b : Bool). cond b (Some 0) (one_further (place_of n ks)) ≡ Some i) e h in let q : 0 ≡ i = cc in
+      subst (λ (j : ℕ). (j < length (k ∷ ks)) × (get_or (k ∷ ks) j 0 ≡ n)) q (omega arith, sym (of_eq n k e))
+  | inr e ↦ later i (λ j q. placed_key n j ks q) (place_of n ks) refl (subst (λ (b : Bool). cond b (Some 0) (one_further (place_of n ks)) ≡ Some i) e h)
+]
   where
     later : (i : ℕ) → ((j : ℕ) → place_of n ks ≡ Some j → (j < length ks) × (get_or ks j 0 ≡ n)) → (o : Option ℕ) → place_of n ks ≡ o → one_further o ≡ Some i → (i < length (k ∷ ks)) × (get_or (k ∷ ks) i 0 ≡ n)
     later i ih None e f = cc
@@ -179,16 +190,19 @@ module _ (b : Bodies) (to : ℕ) (ks : List ℕ) (only : (n : ℕ) → place_of 
   rises : (k : ℕ) → Settled k ⊎ (k ≤ trues (map (led k) ks))
   rises zero = inr (omega arith)
   rises (suc k) = elim (rises k) [
-      inl s ↦ inl (let l : s.j < k = s.low in record { j = s.j; low = omega arith; still = s.still }) |
-      inr h ↦ let g : Grows (map (led k) ks) (map (led (suc k)) ks) = grows (led k) (led (suc k)) (λ n l. leads_more k b to (b (Some n)) l) ks in elim g.same [
-          inl e ↦ inl (record { j = k; low = omega arith; still = e }) |
-          inr l ↦ inr (omega arith) ] ]
+    | inl s ↦ inl (let l : s.j < k = s.low in record { j = s.j; low = omega arith; still = s.still })
+    | inr h ↦ let g : Grows (map (led k) ks) (map (led (suc k)) ks) = grows (led k) (led (suc k)) (λ n l. leads_more k b to (b (Some n)) l) ks in elim g.same [
+      | inl e ↦ inl (record { j = k; low = omega arith; still = e })
+      | inr l ↦ inr (omega arith)
+    ]
+  ]
 
   settled : Settled (suc (length ks))
   settled = elim (rises (suc (length ks))) [
-      inl s ↦ s |
-      inr h ↦ let l : trues (map (led (suc (length ks))) ks) ≤ length (map (led (suc (length ks))) ks) = trues_le (map (led (suc (length ks))) ks) in
-          let e : length (map (led (suc (length ks))) ks) ≡ length ks = length_images (led (suc (length ks))) ks in absurd (omega arith) ]
+    | inl s ↦ s
+    | inr h ↦ let l : trues (map (led (suc (length ks))) ks) ≤ length (map (led (suc (length ks))) ks) = trues_le (map (led (suc (length ks))) ks) in
+        let e : length (map (led (suc (length ks))) ks) ≡ length ks = length_images (led (suc (length ks))) ks in absurd (omega arith)
+  ]
 
   -- as many calls as there are definitions find what any number finds
   enough : (k n : ℕ) → led k n ≡ true → led (length ks) n ≡ true
@@ -210,8 +224,9 @@ module _ (b : Bodies) (to : ℕ) (ks : List ℕ) (only : (n : ℕ) → place_of 
   leads_to_path n h =
       let o : Out b to (b (Some n)) = leads_out (length ks) b to (b (Some n)) h in
       elim o.on [
-        inl e ↦ once n to (subst (λ (k : ℕ). calls b n k ≡ true) e o.named) |
-        inr p ↦ more n o.n to o.named p ]
+        | inl e ↦ once n to (subst (λ (k : ℕ). calls b n k ≡ true) e o.named)
+        | inr p ↦ more n o.n to o.named p
+      ]
 
 -- a call is looped exactly where it leads back
 module _ (b : Bodies) (ks : List ℕ) (only : (n : ℕ) → place_of n ks ≡ None → b (Some n) ≡ []) where
@@ -222,8 +237,9 @@ module _ (b : Bodies) (ks : List ℕ) (only : (n : ℕ) → place_of n ks ≡ No
       by : (d : Option ℕ) → (elim d as (λ o. Bool) [ None ↦ false | Some d ↦ s.called == d || leads_to (length ks) b d (b (Some s.called)) ]) ≡ true → MatchOption d ⊥ (λ d. (s.called ≡ d) ⊎ Path b s.called d)
       by None e = cc
       by (Some d) e = elim (or_true (s.called == d) (leads_to (length ks) b d (b (Some s.called))) e) [
-          inl q ↦ inl (of_eq s.called d q) |
-          inr l ↦ inr (leads_to_path b d ks only s.called l) ]
+        | inl q ↦ inl (of_eq s.called d q)
+        | inr l ↦ inr (leads_to_path b d ks only s.called l)
+      ]
 
   pub back_looped : (s : CallSite) → LeadsBack b s → is_looped (length ks) b s ≡ true
   unfolding is_looped
@@ -232,5 +248,6 @@ module _ (b : Bodies) (ks : List ℕ) (only : (n : ℕ) → place_of n ks ≡ No
       by : (d : Option ℕ) → MatchOption d ⊥ (λ d. (s.called ≡ d) ⊎ Path b s.called d) → (elim d as (λ o. Bool) [ None ↦ false | Some d ↦ s.called == d || leads_to (length ks) b d (b (Some s.called)) ]) ≡ true
       by None e = absurd e
       by (Some d) e = elim e [
-          inl q ↦ or_left (s.called == d) (leads_to (length ks) b d (b (Some s.called))) (to_eq s.called d q) |
-          inr p ↦ or_right (s.called == d) (leads_to (length ks) b d (b (Some s.called))) (path_leads_to b d ks only s.called p) ]
+        | inl q ↦ or_left (s.called == d) (leads_to (length ks) b d (b (Some s.called))) (to_eq s.called d q)
+        | inr p ↦ or_right (s.called == d) (leads_to (length ks) b d (b (Some s.called))) (path_leads_to b d ks only s.called p)
+      ]

@@ -30,20 +30,23 @@ unmoved_rigid = record { level = λ a b h. h; apart = λ a b x y. (x, y) }
 
 pub composed_rigid : (f h : Corner → Corner) → IsRigid f → IsRigid h → IsRigid (λ c. f (h c))
 composed_rigid f h F H = record {
-    level = λ a b l. F.level (h a) (h b) (H.level a b l);
-    apart = λ a b x y. let q = H.apart a b x y in F.apart (h a) (h b) q.0 q.1 }
+  level = λ a b l. F.level (h a) (h b) (H.level a b l);
+  apart = λ a b x y. let q = H.apart a b x y in F.apart (h a) (h b) q.0 q.1;
+}
 
 -- a map of each coordinate alone
 each : (f h : ℤ → ℤ) → ((a b : ℤ) → f a ≡ f b → a ≡ b) → ((a b : ℤ) → h a ≡ h b → a ≡ b) → IsRigid (λ c. corner (f c.x) (h c.y))
 each f h F H = record {
-    level = λ a b l. elim l [ inl e ↦ inl (ap f e) | inr e ↦ inr (ap h e) ];
-    apart = λ a b x y. (λ e. x (F a.x b.x e), λ e. y (H a.y b.y e)) }
+  level = λ a b l. elim l [ inl e ↦ inl (ap f e) | inr e ↦ inr (ap h e) ];
+  apart = λ a b x y. (λ e. x (F a.x b.x e), λ e. y (H a.y b.y e));
+}
 
 -- the same with the coordinates exchanged
 crossed : (f h : ℤ → ℤ) → ((a b : ℤ) → f a ≡ f b → a ≡ b) → ((a b : ℤ) → h a ≡ h b → a ≡ b) → IsRigid (λ c. corner (f c.y) (h c.x))
 crossed f h F H = record {
-    level = λ a b l. elim l [ inl e ↦ inr (ap h e) | inr e ↦ inl (ap f e) ];
-    apart = λ a b x y. (λ e. y (F a.y b.y e), λ e. x (H a.x b.x e)) }
+  level = λ a b l. elim l [ inl e ↦ inr (ap h e) | inr e ↦ inl (ap f e) ];
+  apart = λ a b x y. (λ e. y (F a.y b.y e), λ e. x (H a.x b.x e));
+}
 
 same_back : (a b : ℤ) → a ≡ b → a ≡ b
 same_back a b e = e

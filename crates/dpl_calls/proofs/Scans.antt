@@ -55,8 +55,9 @@ none_first test what d e (s ∷ ss) h f = by (test s) refl h (λ q g. none_first
     by : (b : Bool) → test s ≡ b → cond b (Some (fault s.at what)) (first_site test what ss) ≡ None → (first_site test what ss ≡ None → list_any (is_from d e) ss ≡ true → FromSites d e ss test) → FromSites d e (s ∷ ss) test
     by true t g ih = cc
     by false t g ih = elim (or_true (is_from d e s) (list_any (is_from d e) ss) f) [
-        inl here ↦ let p = and_true (is_same (Some d) s.definition) (s.called == e) here in record { site = s; stands = some_same d s.definition p.0; named = of_eq s.called e p.1; passes = t } |
-        inr later ↦ let r : FromSites d e ss test = ih g later in record { site = r.site; stands = r.stands; named = r.named; passes = r.passes } ]
+      | inl here ↦ let p = and_true (is_same (Some d) s.definition) (s.called == e) here in record { site = s; stands = some_same d s.definition p.0; named = of_eq s.called e p.1; passes = t }
+      | inr later ↦ let r : FromSites d e ss test = ih g later in record { site = r.site; stands = r.stands; named = r.named; passes = r.passes }
+    ]
 
 cases_le : (m n : ℕ) → (m ≤ n) ⊎ (n < m)
 cases_le zero n = inl (omega arith)
@@ -79,6 +80,7 @@ place_of_key (k ∷ ks) (suc x) d h =
     differs P [] x a h = absurd (omega arith)
     differs P (k ∷ ks) zero a h = a.0
     differs P (k ∷ ks) (suc x) a h = differs P ks x a.1 (omega arith)
+
     flip : (n k : ℕ) → (k == n) ≡ false → (n == k) ≡ false
     flip n k h = elim (bool_cases (n == k)) [ inl e ↦ let bad : true ≡ false = sym (to_eq k n (sym (of_eq n k e))) ∙ h in cc | inr e ↦ e ]
 
@@ -105,8 +107,10 @@ module _ (chosen : List ℕ) (all : List (Result Command What)) (ending : Ending
     where
       inside : x < length (graph_of r.table)
       inside = elim (cases_le (length (graph_of r.table)) x) [
-          inl le ↦ let z : next_of (graph_of r.table) x ≡ [] = get_or_past (graph_of r.table) x [] le in let w : e.k < length (next_of (graph_of r.table) x) = e.within in let bad : e.k < 0 = subst (λ (ps : List ℕ). e.k < length ps) z w in absurd (omega arith) |
-          inr lt ↦ lt ]
+        | inl le ↦ let z : next_of (graph_of r.table) x ≡ [] = get_or_past (graph_of r.table) x [] le in let w : e.k < length (next_of (graph_of r.table) x) = e.within in let bad : e.k < 0 = subst (λ (ps : List ℕ). e.k < length ps) z w in absurd (omega arith)
+        | inr lt ↦ lt
+      ]
+
       looped : get_or labels y 0 ≡ get_or labels x 0 → ⊥
       looped same =
           let size : length (graph_of r.table) ≡ length r.table.definitions.entries = graph_size r.table in

@@ -38,11 +38,11 @@ scans_next chosen all before rest ending t t' sites sites' s s' at c eb clean es
 
 pub scans_first : (chosen : List ℕ) (all rest : List (Result Command What)) (ending : Ending) (t : Table) (sites : List CallSite) → rest ≡ all → t.top ≡ [] → t.definitions.entries ≡ [] → sites ≡ [] → Scans chosen all rest ending t sites at_first 1
 scans_first chosen all rest ending t sites er et ed es = record {
-    rule = rw (er, ed) refl;
-    bodies = λ place. rw (er, empty t place et ed) refl;
-    numbers = rw (er, ed) refl;
-    calls = rw (er, es) refl;
-  }
+  rule = rw (er, ed) refl;
+  bodies = λ place. rw (er, empty t place et ed) refl;
+  numbers = rw (er, ed) refl;
+  calls = rw (er, es) refl;
+}
   where
     empty : (t : Table) (place : Option ℕ) → t.top ≡ [] → t.definitions.entries ≡ [] → entries_of t place ≡ []
     empty t None et ed = et

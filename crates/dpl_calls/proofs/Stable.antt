@@ -87,8 +87,9 @@ module _ (own : Part → ℕ) (t : Table) (labels heads : List ℕ) (G : AreGrou
       let h : ℕ = get_or heads l 0 in
       let own_label : get_or labels h 0 ≡ l = G.own l hl in
       elim (G.joined x h hx (G.headed l hl) (e ∙ sym own_label)) [
-        inl s ↦ s |
-        inr p ↦ let less : get_or labels h 0 < get_or labels x 0 = leads_less x h p in absurd (omega arith) ]
+        | inl s ↦ s
+        | inr p ↦ let less : get_or labels h 0 < get_or labels x 0 = leads_less x h p in absurd (omega arith)
+      ]
 
   -- there are no more groups than definitions
   few : length heads ≤ count
@@ -120,10 +121,10 @@ module _ (own : Part → ℕ) (t : Table) (labels heads : List ℕ) (G : AreGrou
           let a : At t y _ = edge_in t m y q (body_at t x) c in
           let size : length (graph_of t) ≡ count = graph_size t in
           let inside : y < length (graph_of t) = is_graph t x y (record {
-              k = a.k;
-              within = subst (λ (ps : List ℕ). a.k < length ps) (sym (next_is t x)) a.within;
-              there = subst (λ (ps : List ℕ). get_or ps a.k 0 ≡ y) (sym (next_is t x)) a.there;
-            }) in
+            k = a.k;
+            within = subst (λ (ps : List ℕ). a.k < length ps) (sym (next_is t x)) a.within;
+            there = subst (λ (ps : List ℕ). get_or ps a.k 0 ≡ y) (sym (next_is t x)) a.there;
+          }) in
           rw (q, body_placed t m y q, right y (omega arith) (omega arith)) (shown_twice (total_of own count b (body_at t y)))
 
   -- what stands outside definitions
@@ -146,11 +147,13 @@ module _ (own : Part → ℕ) (t : Table) (labels heads : List ℕ) (G : AreGrou
       let there : h < length (graph_of t) = G.headed k hk in
       let le : get_or labels x 0 ≤ k = omega arith in
       rw es (elim (cases_eq x h) [
-          inl e ↦
+        | inl e ↦
             ap (λ (n : ℕ). get_or (set totals h v) n 0) e
             ∙ (get_or-set_same totals h v 0 (omega arith)
             ∙ (ev ∙ (next_right k h totals right (omega arith) (G.own k hk)
-            ∙ ap (λ (n : ℕ). shown (total_of own count b (body_at t n))) (sym e)))) |
-          inr e ↦ get_or-set_other totals h x v 0 e ∙ right x hx (elim (eq-or-lt_of_le le) [
-              inl q ↦ absurd (e (alone x k (omega arith) hk q)) |
-              inr l ↦ l ]) ])
+            ∙ ap (λ (n : ℕ). shown (total_of own count b (body_at t n))) (sym e))))
+        | inr e ↦ get_or-set_other totals h x v 0 e ∙ right x hx (elim (eq-or-lt_of_le le) [
+          | inl q ↦ absurd (e (alone x k (omega arith) hk q))
+          | inr l ↦ l
+        ])
+      ])

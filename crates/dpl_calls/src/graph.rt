@@ -29,7 +29,11 @@ fn put_place(places: &mut Vec<usize>, table: &Table, entry: &Entry) -> Result<()
 }
 
 /// The places of the definitions that these entries call.
-fn called_places(alloc: Global, table: &Table, entries: &[Entry]) -> Result<Items<usize>, AllocError>
+fn called_places(
+    alloc: Global,
+    table: &Table,
+    entries: &[Entry],
+) -> Result<Items<usize>, AllocError>
     ensures { IfOk result (λ r. r ≡ lists.called_places (keys table.now.definitions) (map part_of entries.now)) }
 {
     let mut places = Vec::new(alloc);

@@ -60,12 +60,7 @@ fn rectangle(scale: Scale, e: Extent) -> Entry
     Entry::Drawn(Figure::Rectangle(scaled_extent(scale, e)))
 }
 
-fn put_legs(
-    body: &mut Body,
-    scale: Scale,
-    width: u64,
-    path: &[Spot],
-) -> Result<(), AllocError>
+fn put_legs(body: &mut Body, scale: Scale, width: u64, path: &[Spot]) -> Result<(), AllocError>
     requires { IsScale scale }
     ensures { OnOk result (map part_of body.new ≡ map part_of body.old ++ map (parts.rectangle scale) (legs width path.now)) }
 {

@@ -96,12 +96,7 @@ fn totals(
 /// What the whole layout counts, at most the greatest count that is shown.
 ///
 /// The time grows with the number of entries.
-pub fn total(
-    alloc: Global,
-    count: Count,
-    table: &Table,
-    groups: &Groups,
-) -> Result<u64, AllocError>
+pub fn total(alloc: Global, count: Count, table: &Table, groups: &Groups) -> Result<u64, AllocError>
     requires groups { AreGroups (graph_of table.now) groups.now.labels groups.now.heads }
     requires loops { HasNoLoop (graph_of table.now) groups.now.labels }
     ensures { IfOk result (λ n. n ≡ shown (total_of (own_of count) (length table.now.definitions.entries + 1) (bodies_of table.now) (bodies_of table.now None))) }

@@ -35,7 +35,11 @@ fn between(a: Corner, b: Corner) -> Extent
     }
 }
 
-fn place_corners(alloc: Global, p: Placement, corners: &[Corner]) -> Result<Items<Corner>, AllocError>
+fn place_corners(
+    alloc: Global,
+    p: Placement,
+    corners: &[Corner],
+) -> Result<Items<Corner>, AllocError>
     requires p { IsNear (2 ^ 126) p }
     requires near { All IsCornerNear corners.now }
     ensures { IfOk result (λ r. r ≡ map (apply p) corners.now) }

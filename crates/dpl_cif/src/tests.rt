@@ -33,12 +33,20 @@ fn faults_are_named_with_their_commands(rt: HostRuntime) -> Result<(), Fail> {
 #[test]
 fn calls_move_and_scale(rt: HostRuntime) -> Result<(), Fail> {
     let layer = Name::new(b"M").ok_or("a name")?;
-    let layout = read(rt.alloc(), b"C 2; DS 1 2 1; L M; B 10 10 0 0; DF; DS 2 3 1; C 1 T 5 0; DF; E", &layer)?;
+    let layout = read(
+        rt.alloc(),
+        b"C 2; DS 1 2 1; L M; B 10 10 0 0; DF; DS 2 3 1; C 1 T 5 0; DF; E",
+        &layer,
+    )?;
     let [Prim::Box(r)] = layout.prims.as_slice() else {
         return Err("no box")?;
     };
     assert_eq!(rt; (r.x1, r.y1, r.x2, r.y2), (10, -20, 50, 20));
-    let layout = read(rt.alloc(), b"DS 1; L M; P 0 0 30 0 30 10 10 10 10 40 0 40; DF; C 1 M X R 0 1 T 10 20; L X; R 10 0 0; E", &layer)?;
+    let layout = read(
+        rt.alloc(),
+        b"DS 1; L M; P 0 0 30 0 30 10 10 10 10 40 0 40; DF; C 1 M X R 0 1 T 10 20; L X; R 10 0 0; E",
+        &layer,
+    )?;
     let [Prim::Poly(points)] = layout.prims.as_slice() else {
         return Err("no polygon")?;
     };
@@ -57,11 +65,17 @@ fn limits_are_passed_with_their_counts(rt: HostRuntime) -> Result<(), Fail> {
     for (first, limit) in [
         (
             "",
-            CifError::Limit { kind: CifLimit::Calls, count: 2147483647 },
+            CifError::Limit {
+                kind: CifLimit::Calls,
+                count: 2147483647,
+            },
         ),
         (
             "L M; B 2 2 0 0;",
-            CifError::Limit { kind: CifLimit::Primitives, count: 1073741824 },
+            CifError::Limit {
+                kind: CifLimit::Primitives,
+                count: 1073741824,
+            },
         ),
     ] {
         let mut text = String::new(rt.alloc());
@@ -73,12 +87,21 @@ fn limits_are_passed_with_their_counts(rt: HostRuntime) -> Result<(), Fail> {
         }
         text.push_str("C 31; E")?;
         assert!(rt; text.len() <= 16777216);
-        assert_eq!(rt; read(rt.alloc(), text.as_bytes(), &layer).err(), Some(limit));
+        assert_eq!(rt;
+            read(rt.alloc(), text.as_bytes(), &layer).err(),
+            Some(limit)
+        );
     }
     let layout = read(rt.alloc(), b"L M; B 2 2 536870911 0; E", &layer)?;
     assert_eq!(rt; layout.prims.as_slice().len(), 1);
     let far = read(rt.alloc(), b"L M; B 2 2 536870912 0; E", &layer);
     let count = 1073741826;
-    assert_eq!(rt; far.err(), Some(CifError::Limit { kind: CifLimit::Coordinate, count }));
+    assert_eq!(rt;
+        far.err(),
+        Some(CifError::Limit {
+            kind: CifLimit::Coordinate,
+            count
+        })
+    );
     Ok(())
 }

@@ -17,10 +17,10 @@ none = Shift (spot (pos 0) (pos 0))
 
 pub loop-transformation-init : goal.loop-transformation-init
 loop-transformation-init c = record {
-    value = λ d. ap (λ (e : Corner). transformed_by c.args.scale c.args.transformations.now e) (unmoved_stays d);
-    bounds = c.requires.bounds;
-    near = record { x = omega arith; y = omega arith };
-  }
+  value = λ d. ap (λ (e : Corner). transformed_by c.args.scale c.args.transformations.now e) (unmoved_stays d);
+  bounds = c.requires.bounds;
+  near = record { x = omega arith; y = omega arith };
+}
 
 pub loop-transformation-preserved : goal.loop-transformation-preserved
 loop-transformation-preserved c =

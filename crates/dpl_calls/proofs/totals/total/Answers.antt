@@ -15,9 +15,9 @@ returns c =
     let count : ℕ = length c.args.table.now.definitions.entries in
     let top : map part_of c.as_slice.result.now ≡ bodies_of c.args.table.now None = ap (λ (es : List Entry). map part_of es) c.as_slice.ensures.value in
     let value : c.entries_total.result ≡ shown (sum_by (kept_total own (kept_of numbers c.in_ok-totals.totals.items)) (bodies_of c.args.table.now None)) =
-        c.entries_total.ensures.value
-        ∙ (ap (λ (ts : List ℕ). shown (sum_by (kept_total own (kept_of numbers ts)) (map part_of c.as_slice.result.now))) c.deref.ensures.value
-        ∙ ap (λ (ps : List Part). shown (sum_by (kept_total own (kept_of numbers c.in_ok-totals.totals.items)) ps)) top) in
+    c.entries_total.ensures.value
+    ∙ (ap (λ (ts : List ℕ). shown (sum_by (kept_total own (kept_of numbers ts)) (map part_of c.as_slice.result.now))) c.deref.ensures.value
+    ∙ ap (λ (ps : List Part). shown (sum_by (kept_total own (kept_of numbers c.in_ok-totals.totals.items)) ps)) top) in
     let deep : suc count ≡ count + 1 = omega arith in
     (value
     ∙ top_right own c.args.table.now c.args.groups.now.labels c.args.groups.now.heads c.requires.groups c.requires.loops c.in_ok-totals.totals.items (bodies_of c.args.table.now None) (λ x h low. c.in_ok-totals.ensures.value x h))

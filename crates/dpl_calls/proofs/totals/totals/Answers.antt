@@ -19,11 +19,11 @@ loop-head-preserved c =
     let head : ℕ = get_or c.args.groups.now.heads c.loop-head.head-index 0 in
     let same : get_or c.as_slice-head-items.result.now c.loop-head.head-index 0 ≡ head = ap (λ (xs : List ℕ). get_or xs c.loop-head.head-index 0) heads in
     let body : map part_of c.body_at.result.now ≡ body_at c.args.table.now head =
-        ap (λ (es : List Entry). map part_of es) (c.body_at.ensures ∙ ap (λ (n : ℕ). get_or (values c.args.table.now.definitions) n []) same) in
+    ap (λ (es : List Entry). map part_of es) (c.body_at.ensures ∙ ap (λ (n : ℕ). get_or (values c.args.table.now.definitions) n []) same) in
     let value : c.entries_total.result ≡ shown (sum_by (kept_total own (kept_of numbers c.loop-head.totals.items)) (body_at c.args.table.now head)) =
-        c.entries_total.ensures.value
-        ∙ (ap (λ (ts : List ℕ). shown (sum_by (kept_total own (kept_of numbers ts)) (map part_of c.body_at.result.now))) c.deref.ensures.value
-        ∙ ap (λ (ps : List Part). shown (sum_by (kept_total own (kept_of numbers c.loop-head.totals.items)) ps)) body) in record {
+    c.entries_total.ensures.value
+    ∙ (ap (λ (ts : List ℕ). shown (sum_by (kept_total own (kept_of numbers ts)) (map part_of c.body_at.result.now))) c.deref.ensures.value
+    ∙ ap (λ (ps : List Part). shown (sum_by (kept_total own (kept_of numbers c.loop-head.totals.items)) ps)) body) in record {
       right = step_right own c.args.table.now c.args.groups.now.labels c.args.groups.now.heads c.requires.groups c.requires.loops c.loop-head.head-index c.entries_total.result c.loop-head.totals.items _ (omega (arith, long, c.loop-head-test.true)) c.loop-head.invariant.len
           (ap (λ (n : ℕ). set c.loop-head.totals.items n c.entries_total.result) same) value c.loop-head.invariant.right;
       len = length-set c.loop-head.totals.items (get_or c.as_slice-head-items.result.now c.loop-head.head-index 0) c.entries_total.result ∙ c.loop-head.invariant.len;
