@@ -1,5 +1,5 @@
 -- When each answer of a split comes, from what each answer says.
-use Rattle.std.proofs.Common.{arith, rules, ◌≡◌, ◌⊎◌, ℕ, ℤ, Bool, List, Result, Ok, Err, refl, inl, inr, Vec, Global, ap}
+use Rattle.std.proofs.Common.{rules, ◌≡◌, ℕ, ℤ, Bool, List, Result, Ok, Err, refl, inl, inr, Vec, Global, ap}
 use Rattle.std.specs.Prelude.{IsOk, IfOk, IfErr}
 use Rattle.dpl_cell.specs.Outlines.{Outline}
 use Rattle.dpl_cell.specs.Layers.{is_cell}

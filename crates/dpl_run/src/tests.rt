@@ -63,7 +63,7 @@ fn worked_layouts(rt: HostRuntime) -> Result<(), Fail> {
         (
             "L M; B 10 10 0 0",
             Status::Layout {
-                command: 3,
+                command: 2,
                 what: What::NoEnd,
             },
         ),
@@ -75,26 +75,46 @@ fn worked_layouts(rt: HostRuntime) -> Result<(), Fail> {
     Ok(())
 }
 
+/// Runs `split M 100` on a layout with no fault of a device.
+fn masks_of(alloc: Global, layout: &[u8]) -> Result<Ended, Fail> {
+    split_m_100(alloc, layout, Vec::new(alloc), Vec::new(alloc))
+}
+
 #[test]
 fn corner_contact(rt: HostRuntime) -> Result<(), Fail> {
-    let layout = b"L M; B 100 100 50 50; B 100 100 150 150; E";
+    let ended = masks_of(rt.alloc(), b"L M; B 100 100 50 50; B 100 100 150 150; E")?;
     let want =
         b"(dpl 0);\nDS 1 1 4;\nL MA;\nB 400 400 200 200;\nL MB;\nB 400 400 600 600;\nDF;\nC 1;\nE\n";
-    let none = Vec::new(rt.alloc());
-    let ended = split_m_100(rt.alloc(), layout, none, Vec::new(rt.alloc()))?;
-    assert_eq!(rt; ended.status, Status::Done);
     assert_eq!(rt; ended.out.bytes(), want.as_slice());
     Ok(())
 }
 
 #[test]
 fn a_t(rt: HostRuntime) -> Result<(), Fail> {
-    let layout = b"L M; B 300 100 150 50; B 100 200 150 200; E";
+    let ended = masks_of(rt.alloc(), b"L M; B 300 100 150 50; B 100 300 150 150; E")?;
     let want =
         b"(dpl 0);\nDS 1 1 4;\nL MA;\nB 1200 400 600 200;\nB 400 800 600 800;\nL MB;\nDF;\nC 1;\nE\n";
-    let none = Vec::new(rt.alloc());
-    let ended = split_m_100(rt.alloc(), layout, none, Vec::new(rt.alloc()))?;
-    assert_eq!(rt; ended.status, Status::Done);
+    assert_eq!(rt; ended.out.bytes(), want.as_slice());
+    Ok(())
+}
+
+#[test]
+fn a_ring_around_a_box(rt: HostRuntime) -> Result<(), Fail> {
+    let layout =
+        b"L M; P 0 0 1000 0 1000 1000 0 1000 0 300 300 300 300 700 700 700 700 300 0 300; B 300 300 500 500; E";
+    let ended = masks_of(rt.alloc(), layout.as_slice())?;
+    let want =
+        b"(dpl 0);\nDS 1 1 4;\nL MA;\nB 4000 1200 2000 600;\nB 1200 1600 600 2000;\nB 1200 1600 3400 2000;\nB 4000 1200 2000 3400;\nL MB;\nB 1200 1200 2000 2000;\nDF;\nC 1;\nE\n";
+    assert_eq!(rt; ended.out.bytes(), want.as_slice());
+    Ok(())
+}
+
+#[test]
+fn the_order_of_transformations(rt: HostRuntime) -> Result<(), Fail> {
+    let layout = b"DS 1; L M; P 0 0 30 0 30 10 10 10 10 40 0 40; DF; C 1 M X R 0 1 T 10 20; E";
+    let ended = masks_of(rt.alloc(), layout.as_slice())?;
+    let want =
+        b"(dpl 0);\nDS 1 1 4;\nL MA;\nB 40 80 20 0;\nB 160 40 -40 60;\nL MB;\nDF;\nC 1;\nE\n";
     assert_eq!(rt; ended.out.bytes(), want.as_slice());
     Ok(())
 }
