@@ -7,6 +7,7 @@ Prints one line a case: seconds, megabytes of text a second, peak memory, exit s
 import os
 import subprocess
 import sys
+import threading
 import time
 
 MOST = 16_777_216
@@ -60,20 +61,39 @@ def cases():
     yield "10,000 contacts", contacts(100)
 
 
+def watch(process, peak):
+    """Keeps the greatest memory of the process in megabytes while it runs."""
+    while process.poll() is None:
+        try:
+            with open("/proc/%d/status" % process.pid) as status:
+                for line in status:
+                    if line.startswith("VmHWM:"):
+                        peak[0] = max(peak[0], int(line.split()[1]) / 1024)
+        except OSError:
+            return
+        time.sleep(0.002)
+
+
 def main():
     top = os.path.dirname(os.path.dirname(os.path.abspath(__file__)))
     binary = sys.argv[1] if len(sys.argv) > 1 else os.path.join(top, "crates", "dpl", "out", "dpl")
     print("%-36s %9s %9s %9s %6s" % ("case", "seconds", "MB/s", "peak MB", "status"))
     for name, text in cases():
+        peak = [0.0]
         start = time.perf_counter()
-        run = subprocess.Popen([binary, "split", "M", "100"], stdin=subprocess.PIPE,
-                               stdout=subprocess.DEVNULL, stderr=subprocess.DEVNULL)
-        run.stdin.write(text)
-        run.stdin.close()
-        _, status, usage = os.wait4(run.pid, 0)
+        process = subprocess.Popen([binary, "split", "M", "100"], stdin=subprocess.PIPE,
+                                   stdout=subprocess.DEVNULL, stderr=subprocess.DEVNULL)
+        watcher = threading.Thread(target=watch, args=(process, peak))
+        watcher.start()
+        try:
+            process.stdin.write(text)
+            process.stdin.close()
+        except BrokenPipeError:
+            pass
+        code = process.wait()
         seconds = time.perf_counter() - start
-        print("%-36s %9.3f %9.1f %9.1f %6d" % (name, seconds, len(text) / 1e6 / seconds,
-                                               usage.ru_maxrss / 1024, os.waitstatus_to_exitcode(status)))
+        watcher.join()
+        print("%-36s %9.3f %9.1f %9.1f %6d" % (name, seconds, len(text) / 1e6 / seconds, peak[0], code))
 
 
 if __name__ == "__main__":
