@@ -58,7 +58,7 @@ def cases():
     yield "100,000 nested definitions", nested_definitions(100_000)
     yield "2^31 calls, refused", doubling(31)
     yield "512 by 512 crossing wires, refused", crossing_wires()
-    yield "16 MB of calls, refused", b"DS 1;L M;B 2 2 0 0;DF;" + filled(b"C1;")[21:]
+    yield "16 MB of calls, refused", b"DS 1;L M;B 2 2 0 0;DF;" + filled(b"C1;")[24:]
     yield "10,000 contacts", contacts(100)
 
 
