@@ -1,4 +1,5 @@
 pub mod GapLemmas
 pub mod SeamLemmas
+pub mod FacingLemmas
 pub mod LayerLemmas
 pub mod Same

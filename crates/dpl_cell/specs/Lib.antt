@@ -5,6 +5,7 @@ pub mod Cells
 pub mod Gaps
 pub mod Edges
 pub mod Seams
+pub mod Facing
 pub mod Layers
 pub mod Tiles
 pub mod Shapes

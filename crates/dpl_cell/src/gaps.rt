@@ -6,7 +6,7 @@ ghost use Rattle.dpl_cell.specs.Gaps.{between, IsBetween, IsGap2, AreClose};
 use crate::rect::Rect;
 
 /// How many columns or rows lie between two stretches of them, 0 where they meet or overlap.
-fn apart(a1: i64, a2: i64, b1: i64, b2: i64) -> u64
+pub fn apart(a1: i64, a2: i64, b1: i64, b2: i64) -> u64
     requires a { a1 <ℤ a2 }
     requires b { b1 <ℤ b2 }
     requires low_a { neg_ℤ (pos (2 ^ 30)) ≤ℤ a1 }

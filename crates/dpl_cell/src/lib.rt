@@ -1,9 +1,10 @@
 //! Rectangles, polygons and layers of the grid, and how far apart they are.
 //!
-//! A layer is a set of cells, unit squares of the grid. `gap2`, `are_close`, `touch` and `seam` answer by the
-//! cells of two rectangles, and `is_held` says whether a layer holds a cell.
+//! A layer is a set of cells, unit squares of the grid. `gap2`, `are_close`, `touch`, `seam` and `facing`
+//! answer by the cells of two rectangles, and `is_held` says whether a layer holds a cell.
 #![tactic(auto)]
 
+mod facings;
 mod gaps;
 mod held;
 mod layout;
@@ -14,7 +15,8 @@ mod rect;
 mod seams;
 pub mod types;
 
-pub use gaps::{are_close, gap2};
+pub use facings::facing;
+pub use gaps::{apart, are_close, gap2};
 pub use held::is_held;
 pub use layout::{Layout, Primitive as Prim};
 pub use point::Point;

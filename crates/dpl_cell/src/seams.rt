@@ -10,14 +10,14 @@ use crate::types::Seam;
 
 /// The columns and the rows that two rectangles have in common; none where an end is not above its start.
 #[derive(Clone, Copy, Debug)]
-struct Common {
-    left: i64,
-    right: i64,
-    low: i64,
-    high: i64,
+pub struct Common {
+    pub left: i64,
+    pub right: i64,
+    pub low: i64,
+    pub high: i64,
 }
 
-fn common_part(a: &Rect, b: &Rect) -> Common
+pub fn common_part(a: &Rect, b: &Rect) -> Common
     ensures left { result.left ≡ int_max a.now.x1 b.now.x1 }
     ensures right { result.right ≡ int_min a.now.x2 b.now.x2 }
     ensures low { result.low ≡ int_max a.now.y1 b.now.y1 }

@@ -105,3 +105,99 @@ fn limits_are_passed_with_their_counts(rt: HostRuntime) -> Result<(), Fail> {
     );
     Ok(())
 }
+
+#[test]
+fn boxes_and_wires_lie_where_they_should(rt: HostRuntime) -> Result<(), Fail> {
+    let layer = Name::new(b"M").ok_or("a name")?;
+    for (text, want) in [
+        ("L M; W 10 0 0; E", (-10, -10, 10, 10)),
+        ("L M; W 10 5 5 5 30; E", (0, 0, 20, 70)),
+        ("L M; B 30 10 0 0 0 1; E", (-10, -30, 10, 30)),
+        ("L M; B 30 10 0 0 -2 0; E", (-30, -10, 30, 10)),
+        (
+            "DS 1; L M; B 30 10 100 50; DF; C 1 M X; E",
+            (-230, 90, -170, 110),
+        ),
+        (
+            "DS 1; L M; B 30 10 100 50; DF; C 1 M Y; E",
+            (170, -110, 230, -90),
+        ),
+        (
+            "DS 1; L M; B 30 10 100 50; DF; C 1 R 0 1; E",
+            (-110, 170, -90, 230),
+        ),
+        (
+            "DS 1; L M; B 30 10 100 50; DF; C 1 R -1 0; E",
+            (-230, -110, -170, -90),
+        ),
+        (
+            "DS 1; L M; B 30 10 100 50; DF; C 1 R 0 -1; E",
+            (90, -230, 110, -170),
+        ),
+        (
+            "DS 1; L M; B 30 10 100 50; DF; C 1 M X R -1 0; E",
+            (170, -110, 230, -90),
+        ),
+        ("L M; DS 1; L X; DF; B 30 10 100 50; E", (170, 90, 230, 110)),
+        (
+            "DS 1; L M; B 30 10 0 0; DF; DS 2 1 2; C 1 T 1 0; DF; C 2; E",
+            (-29, -10, 31, 10),
+        ),
+    ] {
+        let layout = read(rt.alloc(), text.as_bytes(), &layer)?;
+        let [Prim::Box(r)] = layout.prims.as_slice() else {
+            return Err("no box")?;
+        };
+        assert_eq!(rt; (r.x1, r.y1, r.x2, r.y2), want, "{text}");
+    }
+    Ok(())
+}
+
+#[test]
+fn a_polygon_counts_as_many_as_it_has_points(rt: HostRuntime) -> Result<(), Fail> {
+    let layer = Name::new(b"M").ok_or("a name")?;
+    let mut text = String::new(rt.alloc());
+    text.push_str("L M; P")?;
+    for _ in 0..50_000u32 {
+        text.push_str(" 0 0")?;
+    }
+    let mut longer = String::from_str(rt.alloc(), text.as_str())?;
+    text.push_str("; E")?;
+    longer.push_str(" 0 0; E")?;
+    assert!(rt; text.len() <= 16777216);
+    assert!(rt; longer.len() <= 16777216);
+    assert_eq!(rt;
+        read(rt.alloc(), text.as_bytes(), &layer)?
+            .prims
+            .as_slice()
+            .len(),
+        1
+    );
+    let limit = CifError::Limit {
+        kind: CifLimit::Primitives,
+        count: 50001,
+    };
+    assert_eq!(rt;
+        read(rt.alloc(), longer.as_bytes(), &layer).err(),
+        Some(limit)
+    );
+    Ok(())
+}
+
+#[test]
+fn the_first_rule_is_named(rt: HostRuntime) -> Result<(), Fail> {
+    let layer = Name::new(b"M").ok_or("a name")?;
+    for (text, command, what) in [
+        ("DS 1; DF; DS 2 1 4; C 1 T 1 0; DF; E", 4, What::OffGrid),
+        ("DS 1 1 4; L M; P 0 0 1 1 2 0; DF; E", 3, What::Slant),
+        ("DS 1; DS 1; E", 2, What::Nest),
+        ("L M; DS 1; B 1 1 0 0; DF; E", 3, What::Layerless),
+        ("DS 1; L M; DF; B 1 1 0 0; E", 4, What::Layerless),
+        ("L X; R 1000000000001 0 0; E", 2, What::Number),
+        ("DS 1; E", 2, What::Nest),
+    ] {
+        let fault = read(rt.alloc(), text.as_bytes(), &layer).err();
+        assert_eq!(rt; fault, Some(CifError::Fault { command, what }), "{text}");
+    }
+    Ok(())
+}

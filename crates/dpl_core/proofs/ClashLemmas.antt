@@ -1,207 +1,147 @@
--- Pairs of shapes that are too close, gathered shape by shape.
-use Rattle.std.proofs.Common.{arith, ◌≡◌, ◌≢◌, ◌↔◌, ◌⊎◌, ◌∙◌, ℕ, ◌+◌, ◌<◌, ◌≤◌, Bool, false, List, [], ◌∷◌, ◌++◌, length, get_or, length-append, All, AllPairs, refl, sym, inl, inr}
+-- Pairs of shapes that are too close, gathered tile by tile.
+use Rattle.std.proofs.Common.{arith, ◌≡◌, ◌≢◌, ◌↔◌, ◌⊎◌, ◌∙◌, ℕ, ◌+◌, ◌<◌, ◌≤◌, List, [], ◌∷◌, ◌++◌, length, get_or, All, AllPairs, Contains, refl, sym, ap, subst, inl, inr}
 use Rattle.std.specs.Prelude.{ℤ, slice_index}
-use Rattle.std.proofs.lemmas.Bool.{cases_lt, cases_eq}
-use Rattle.std.proofs.lemmas.List.{get_or_default, get_or_append_left, get_or_push}
-use Rattle.std.proofs.lemmas.List.Elements.{All-push, Contains-append_left, Contains-push}
+use Rattle.std.proofs.lemmas.Bool.{cases_lt}
+use Rattle.std.proofs.lemmas.List.{get_or_default, get_or_append_left, get_or_push, length_push}
+use Rattle.std.proofs.lemmas.List.Elements.{Contains-append_left, Contains-push}
 use Rattle.dpl_cell.specs.Places.{Corners}
 use Rattle.dpl_cell.specs.Gaps.{AreClose}
-use Rattle.dpl_near.specs.Near.{IsNear, AreNear}
+use Rattle.dpl_near.specs.Near.{Search, IsNear, AreNear}
 use Rattle.dpl_core.specs.Tiles.{no_box, cells_at}
 use Rattle.dpl_core.specs.Numbering.{IsInShape}
 use Rattle.dpl_core.specs.Edges.{IsClash, IsEarlier}
-use Rattle.dpl_core.specs.Clashes.{IsMarked, IsFoundLater, MarksReached, MarksClashes, AreClashesBefore, AreFewClashes, HasMoreClashes}
+use Rattle.dpl_core.specs.Clashes.{IsFoundLater, AddsLater, AreFewClashes, HasMoreClashes}
 
--- ---- marks of one shape
+-- ---- the pairs of one tile
 
--- the step over one tile found
-pub found_step : (row first next : List Bool) (numbers found : List ℕ) (k a : ℕ) → ((b : ℕ) → IsMarked row b ↔ (IsMarked first b ⊎ IsFoundLater numbers found k a b)) → ((b : ℕ) → IsMarked next b ↔ (IsMarked row b ⊎ ((a < b) × (slice_index numbers (slice_index found k) ≡ b))))
-    → (b : ℕ) → IsMarked next b ↔ (IsMarked first b ⊎ IsFoundLater numbers found (k + 1) a b)
-found_step row first next numbers found k a so step b = (
-  (λ h. elim ((step b).0 h) [
-    | inl g ↦ elim ((so b).0 g) [
-      | inl f ↦ inl f
-      | inr f ↦ inr (record { later = f.later; place = f.place; below = let u = f.below in omega arith; number = f.number })
-    ]
-    | inr g ↦ inr (record { later = g.0; place = k; below = omega arith; number = g.1 })
-  ]),
-  (λ h. elim h [
-    | inl f ↦ (step b).1 (inl ((so b).1 (inl f)))
-    | inr f ↦ elim (cases_eq f.place k) [
-      | inl e ↦ (step b).1 (inr (f.later, rw e at f.number))
-      | inr n ↦ (step b).1 (inl ((so b).1 (inr (record { later = f.later; place = f.place; below = let u = f.below in omega (arith, n); number = f.number }))))
-    ]
-  ]),
-)
+pub adds_none : (numbers : List ℕ) (i : ℕ) (found : List ℕ) (pairs : List (ℕ × ℕ)) → AddsLater numbers i found 0 pairs pairs
+adds_none numbers i found pairs = record { kept = λ p h. h; each = λ p h. inl h; all = λ k l. absurd (omega arith) }
 
--- nothing is found at first
-pub found_none : (row : List Bool) (numbers found : List ℕ) (a b : ℕ) → IsMarked row b ↔ (IsMarked row b ⊎ IsFoundLater numbers found 0 a b)
-found_none row numbers found a b = ((λ h. inl h), (λ h. elim h [ inl f ↦ f | inr f ↦ absurd (let u = f.below in omega arith) ]))
+further : (numbers : List ℕ) (i : ℕ) (found : List ℕ) (n : ℕ) (p : ℕ × ℕ) → IsFoundLater numbers i found n p → IsFoundLater numbers i found (n + 1) p
+further numbers i found n p f = record { place = f.place; below = let b = f.below in omega arith; later = f.later; is = f.is }
 
--- no tile reaches a shape at first
-pub reach_none : (tiles : List Corners) (numbers : List ℕ) (reach a : ℕ) (row : List Bool) → ((b : ℕ) → ¬ IsMarked row b) → MarksReached tiles numbers reach 0 a row
-reach_none tiles numbers reach a row blank b = ((λ h. absurd (blank b h)), (λ r. absurd (let u = r.one_below in omega arith)))
-
--- the step over a tile of the shape
-pub reach_step : (tiles : List Corners) (numbers : List ℕ) (reach i a : ℕ) (row next : List Bool) (found : List ℕ) → length numbers ≡ length tiles → i < length tiles → slice_index numbers i ≡ a → MarksReached tiles numbers reach i a row → AreNear (record { rects = tiles; reach = reach }) i found → ((b : ℕ) → IsMarked next b ↔ (IsMarked row b ⊎ IsFoundLater numbers found (length found) a b)) → MarksReached tiles numbers reach (i + 1) a next
-reach_step tiles numbers reach i a row next found long l e so near step b = (
-  (λ h. elim ((step b).0 h) [
-    | inl g ↦ let r = (so b).0 g in record { later = r.later; one = r.one; one_below = let u = r.one_below in omega arith; one_within = r.one_within; one_number = r.one_number; other = r.other; other_within = r.other_within; other_number = r.other_number; close = r.close }
-    | inr f ↦ let n = near.each f.place 0 f.below in record { later = f.later; one = i; one_below = omega arith; one_within = l; one_number = e; other = slice_index found f.place; other_within = n.within; other_number = f.number; close = n.close no_box }
-  ]),
-  (λ r. elim (cases_eq r.one i) [
-    | inl same ↦
-        let other = r.other in
-        let w : AreClose (cells_at tiles i) (cells_at tiles other) reach = rw same at r.close in
-        let differ : other ≢ i = λ h. let u : slice_index numbers other ≡ a = rw (h, e) refl in let v = r.other_number in let z = r.later in omega (arith, u, v) in
-        let is_near : IsNear (record { rects = tiles; reach = reach }) i other = record {
-          within = r.other_within;
-          other = differ;
-          close = λ d. rw (get_or_default tiles i d no_box l, get_or_default tiles other d no_box r.other_within) w;
-        } in
-        let (k, m, f) = near.all other is_near in
-        let g : slice_index found k ≡ other = get_or_default found k 0 other m ∙ f in
-        (step b).1 (inr (record { later = r.later; place = k; below = m; number = rw g r.other_number }))
-    | inr n ↦ (step b).1 (inl ((so b).1 (record { later = r.later; one = r.one; one_below = let u = r.one_below in omega (arith, n); one_within = r.one_within; one_number = r.one_number; other = r.other; other_within = r.other_within; other_number = r.other_number; close = r.close })))
-  ]),
-)
-
--- the step over a tile of another shape
-pub reach_skip : (tiles : List Corners) (numbers : List ℕ) (reach i a : ℕ) (row : List Bool) → slice_index numbers i ≢ a → MarksReached tiles numbers reach i a row → MarksReached tiles numbers reach (i + 1) a row
-reach_skip tiles numbers reach i a row n so b = (
-  (λ h. let r = (so b).0 h in record { later = r.later; one = r.one; one_below = let u = r.one_below in omega arith; one_within = r.one_within; one_number = r.one_number; other = r.other; other_within = r.other_within; other_number = r.other_number; close = r.close }),
-  (λ r. elim (cases_eq r.one i) [
-    | inl same ↦ absurd (n (rw same at r.one_number))
-    | inr f ↦ (so b).1 (record { later = r.later; one = r.one; one_below = let u = r.one_below in omega (arith, f); one_within = r.one_within; one_number = r.one_number; other = r.other; other_within = r.other_within; other_number = r.other_number; close = r.close })
-  ]),
-)
-
--- all tiles of the shape
-pub reach_all : (tiles : List Corners) (numbers : List ℕ) (reach n a : ℕ) (row : List Bool) → length tiles ≤ n → MarksReached tiles numbers reach n a row → MarksClashes tiles numbers reach a row
-reach_all tiles numbers reach n a row l so b = (
-  (λ h. let r = (so b).0 h in let c = r.close in record {
-    rising = r.later;
-    clash = record {
-      different = λ e. let u = r.later in omega (arith, e);
-      close = record {
-        x = c.x;
-        y = c.y;
-        x' = c.x';
-        y' = c.y';
-        cells = record {
-          first = record { tile = r.one; within = r.one_within; number = r.one_number; cell = c.cells.first };
-          second = record { tile = r.other; within = r.other_within; number = r.other_number; cell = c.cells.second };
-        };
-        near = c.near;
-      };
-    };
-  }),
-  (λ p. let c = p.clash.close in let f = c.cells.first in let g = c.cells.second in (so b).1 (record {
-    later = p.rising;
-    one = f.tile;
-    one_below = let u = f.within in omega arith;
-    one_within = f.within;
-    one_number = f.number;
-    other = g.tile;
-    other_within = g.within;
-    other_number = g.number;
-    close = record { x = c.x; y = c.y; x' = c.x'; y' = c.y'; cells = record { first = f.cell; second = g.cell }; near = c.near };
-  })),
-)
-
--- ---- all pairs in order
-
-pub begins_empty : (tiles : List Corners) (numbers : List ℕ) (reach : ℕ) → AreClashesBefore tiles numbers reach 0 0 []
-begins_empty tiles numbers reach = record {
-  each = λ k d l. absurd (omega arith);
-  before = λ k d l. absurd (omega arith);
-  all = λ pair c e. absurd (elim e [ inl h ↦ omega arith | inr h ↦ omega arith ]);
-  once = λ i j d h l. absurd (omega arith);
+pub adds_skip : (numbers : List ℕ) (i : ℕ) (found : List ℕ) (n : ℕ) (pairs new : List (ℕ × ℕ)) → ¬ (slice_index numbers i < slice_index numbers (slice_index found n)) → AddsLater numbers i found n pairs new → AddsLater numbers i found (n + 1) pairs new
+adds_skip numbers i found n pairs new none s = record {
+  kept = s.kept;
+  each = λ p h. elim (s.each p h) [ inl a ↦ inl a | inr f ↦ inr (further numbers i found n p f) ];
+  all = λ k l h. elim (cases_lt k n) [
+    | inl m ↦ s.all k m h
+    | inr m ↦ let e : k ≡ n = omega arith in absurd (none (rw e at h))
+  ];
 }
 
-later_pair : (pair : ℕ × ℕ) (a b c d : ℕ) → IsEarlier pair (a, b) → IsEarlier (a, b) (c, d) → IsEarlier pair (c, d)
-later_pair pair a b c d h g = elim h [
-  | inl p ↦ elim g [ inl q ↦ inl (omega arith) | inr q ↦ inl (omega arith) ]
-  | inr p ↦ elim g [ inl q ↦ inl (omega arith) | inr q ↦ inr (p.0 ∙ q.0, omega arith) ]
+-- what a list with one more item contains
+pushed : (xs : List (ℕ × ℕ)) (x p : ℕ × ℕ) → Contains (xs ++ x ∷ []) p → Contains xs p ⊎ (p ≡ x)
+pushed xs x p (k, l, e) = let n : k < length xs + 1 = rw length_push at l in elim (cases_lt k (length xs)) [
+  | inl h ↦ inl (k, h, sym (get_or_append_left xs (x ∷ []) p k h) ∙ e)
+  | inr h ↦ inr (sym e ∙ get_or_push xs x p k (omega arith))
 ]
 
-pair_is : (pair : ℕ × ℕ) (a b : ℕ) → pair.0 ≡ a → pair.1 ≡ b → (a, b) ≡ pair
-pair_is pair a b e f = rw (← e, ← f) refl
-
--- a pair before (a, b + 1) stands before (a, b), or is (a, b)
-before_next : (pair : ℕ × ℕ) (a b : ℕ) → IsEarlier pair (a, b + 1) → IsEarlier pair (a, b) ⊎ ((a, b) ≡ pair)
-before_next pair a b h = elim h [
-  | inl p ↦ inl (inl p)
-  | inr p ↦ elim (cases_eq pair.1 b) [
-    | inl e ↦ inr (pair_is pair a b p.0 e)
-    | inr n ↦ inl (inr (p.0, omega (arith, n)))
-  ]
-]
-
-ordered_push : (xs : List (ℕ × ℕ)) (x : ℕ × ℕ) → AllPairs IsEarlier xs → All (λ p. IsEarlier p x) xs → AllPairs IsEarlier (xs ++ x ∷ [])
-ordered_push xs x a b i j d h l = go (cases_lt j (length xs)) where
-  n : length (xs ++ x ∷ []) ≡ length xs + 1
-  n = length-append xs (x ∷ [])
-
-  go : (j < length xs) ⊎ (length xs ≤ j) → IsEarlier (get_or (xs ++ x ∷ []) i d) (get_or (xs ++ x ∷ []) j d)
-  go (inl g) = rw (get_or_append_left xs (x ∷ []) d i (omega arith), get_or_append_left xs (x ∷ []) d j g) (a i j d h g)
-  go (inr g) =
-      let e : j ≡ length xs = let m = n in omega arith in
-      let f : get_or (xs ++ x ∷ []) j d ≡ x = get_or_push xs x d j (sym e) in
-      rw (f, get_or_append_left xs (x ∷ []) d i (omega arith)) (b i d (omega arith))
-
-pub push_clash : (tiles : List Corners) (numbers : List ℕ) (reach a b : ℕ) (clashes more : List (ℕ × ℕ)) → more ≡ clashes ++ (a, b) ∷ [] → IsClash tiles numbers reach (a, b) → AreClashesBefore tiles numbers reach a b clashes → AreClashesBefore tiles numbers reach a (b + 1) more
-push_clash tiles numbers reach a b clashes more e c so = rw e (record {
-  each = All-push (IsClash tiles numbers reach) clashes (a, b) so.each c;
-  before = All-push (λ p. IsEarlier p (a, b + 1)) clashes (a, b) (λ k d l. later_pair _ a b a (b + 1) (so.before k d l) (inr (refl, omega arith))) (inr (refl, omega arith));
-  all = λ pair d h. elim (before_next pair a b h) [
-    | inl g ↦ Contains-append_left clashes _ _ (so.all pair d g)
-    | inr f ↦ rw (← f) (Contains-push clashes (a, b))
+pub adds_more : (numbers : List ℕ) (i : ℕ) (found : List ℕ) (n : ℕ) (pairs new more : List (ℕ × ℕ)) (p : ℕ × ℕ) → p ≡ (slice_index numbers i, slice_index numbers (slice_index found n)) → more ≡ new ++ p ∷ [] → slice_index numbers i < slice_index numbers (slice_index found n) → AddsLater numbers i found n pairs new → AddsLater numbers i found (n + 1) pairs more
+adds_more numbers i found n pairs new more p is e later s = rw e (record {
+  kept = λ q h. Contains-append_left new (p ∷ []) q (s.kept q h);
+  each = λ q h. elim (pushed new p q h) [
+    | inl a ↦ elim (s.each q a) [ inl b ↦ inl b | inr f ↦ inr (further numbers i found n q f) ]
+    | inr f ↦ inr (record { place = n; below = omega arith; later = later; is = f ∙ is })
   ];
-  once = ordered_push clashes (a, b) so.once so.before;
+  all = λ k l h. elim (cases_lt k n) [
+    | inl m ↦ Contains-append_left new (p ∷ []) _ (s.all k m h)
+    | inr m ↦ let f : k ≡ n = omega arith in rw (f, ← is) (Contains-push new p)
+  ];
 })
 
-pub skip_clash : (tiles : List Corners) (numbers : List ℕ) (reach a b : ℕ) (clashes : List (ℕ × ℕ)) → ¬ IsClash tiles numbers reach (a, b) → AreClashesBefore tiles numbers reach a b clashes → AreClashesBefore tiles numbers reach a (b + 1) clashes
-skip_clash tiles numbers reach a b clashes n so = record {
-  each = so.each;
-  before = λ k d l. later_pair _ a b a (b + 1) (so.before k d l) (inr (refl, omega arith));
-  all = λ pair c h. elim (before_next pair a b h) [
-    | inl g ↦ so.all pair c g
-    | inr f ↦ absurd (n (rw f c))
-  ];
-  once = so.once;
+-- ---- tile by tile
+
+-- the pairs are clashes, and those of the first n tiles are there
+pub record HasClashes (s : Search) (numbers : List ℕ) (n : ℕ) (pairs : List (ℕ × ℕ)) : Type 0 where
+  pub each : (p : ℕ × ℕ) → Contains pairs p → IsClash s.rects numbers s.reach p
+  pub all : (i j : ℕ) → i < n → IsNear s i j → slice_index numbers i < slice_index numbers j → Contains pairs (slice_index numbers i, slice_index numbers j)
+
+pub clashes_none : (s : Search) (numbers : List ℕ) → HasClashes s numbers 0 []
+clashes_none s numbers = record { each = λ p (k, l, e). absurd (omega arith); all = λ i j l. absurd (omega arith) }
+
+-- two tiles that are near show that their shapes clash
+clash_of : (s : Search) (numbers : List ℕ) (i j : ℕ) → i < length s.rects → IsNear s i j → slice_index numbers i < slice_index numbers j → IsClash s.rects numbers s.reach (slice_index numbers i, slice_index numbers j)
+clash_of s numbers i j within near later = let c = near.close no_box in record {
+  rising = later;
+  clash = record {
+    different = λ e. omega (arith, e);
+    close = record {
+      x = c.x;
+      y = c.y;
+      x' = c.x';
+      y' = c.y';
+      cells = record {
+        first = record { tile = i; within = within; number = refl; cell = c.cells.first };
+        second = record { tile = j; within = near.within; number = refl; cell = c.cells.second };
+      };
+      near = c.near;
+    };
+  };
 }
+
+pub clashes_more : (s : Search) (numbers : List ℕ) (i : ℕ) (found : List ℕ) (pairs new : List (ℕ × ℕ)) → i < length s.rects → AreNear s i found → AddsLater numbers i found (length found) pairs new → HasClashes s numbers i pairs → HasClashes s numbers (i + 1) new
+clashes_more s numbers i found pairs new within near adds h = record {
+  each = λ p c. elim (adds.each p c) [
+    | inl a ↦ h.each p a
+    | inr f ↦ let P : ℕ × ℕ → Type 0 = IsClash s.rects numbers s.reach in subst P (sym f.is) (clash_of s numbers i (slice_index found f.place) within (near.each f.place 0 f.below) f.later)
+  ];
+  all = λ k j l n later. elim (cases_lt k i) [
+    | inl m ↦ adds.kept _ (h.all k j m n later)
+    | inr m ↦ let e : k ≡ i = omega arith in rw e (here j (rw e at n) (rw e at later))
+  ];
+} where
+  here : (j : ℕ) → IsNear s i j → slice_index numbers i < slice_index numbers j → Contains new (slice_index numbers i, slice_index numbers j)
+  here j n later = go (near.all j n) where
+    go : Contains found j → Contains new (slice_index numbers i, slice_index numbers j)
+    go (k, l, e) =
+        let f : slice_index found k ≡ j = get_or_default found k 0 j l ∙ e in
+        let P : ℕ → Type 0 = λ m. slice_index numbers i < slice_index numbers m in
+        let Q : ℕ → Type 0 = λ m. Contains new (slice_index numbers i, slice_index numbers m) in
+        subst Q f (adds.all k l (subst P (sym f) later))
+
+-- the same pairs in another order
+pub clashes_same : (s : Search) (numbers : List ℕ) (n : ℕ) (pairs new : List (ℕ × ℕ)) → ((p : ℕ × ℕ) → Contains new p ↔ Contains pairs p) → HasClashes s numbers n pairs → HasClashes s numbers n new
+clashes_same s numbers n pairs new same h = record {
+  each = λ p c. h.each p ((same p).0 c);
+  all = λ i j l m later. (same _).1 (h.all i j l m later);
+}
+
+-- ---- all pairs
 
 -- no shape has a number from `count` on
 pub shape_below : (tiles : List Corners) (numbers : List ℕ) (count a : ℕ) (x y : ℤ) → All (λ l. l < count) numbers → length numbers ≡ length tiles → IsInShape tiles numbers a x y → a < count
 shape_below tiles numbers count a x y each long s = let h = each s.tile 0 (let g = s.within in omega arith) in let e = s.number in omega arith
 
-pub row_ends : (tiles : List Corners) (numbers : List ℕ) (reach count a n : ℕ) (clashes : List (ℕ × ℕ)) → All (λ l. l < count) numbers → length numbers ≡ length tiles → count ≤ n → AreClashesBefore tiles numbers reach a n clashes → AreClashesBefore tiles numbers reach (a + 1) 0 clashes
-row_ends tiles numbers reach count a n clashes each long l so = record {
-  each = so.each;
-  before = λ k d m. later_pair _ a n (a + 1) 0 (so.before k d m) (inl (omega arith));
-  all = λ pair c h. so.all pair c (elim h [
-    | inl g ↦ elim (cases_lt pair.0 a) [
-      | inl f ↦ inl f
-      | inr f ↦ inr (omega arith, let u = shape_below tiles numbers count pair.1 c.clash.close.x' c.clash.close.y' each long c.clash.close.cells.second in omega arith)
-    ]
-    | inr g ↦ absurd (omega arith)
-  ]);
-  once = so.once;
-}
+-- a clash is seen from some tile of the first shape
+seen : (s : Search) (numbers : List ℕ) (n : ℕ) (pairs : List (ℕ × ℕ)) → length s.rects ≤ n → HasClashes s numbers n pairs → (p : ℕ × ℕ) → IsClash s.rects numbers s.reach p → Contains pairs p
+seen s numbers n pairs whole h p c =
+    let t = c.clash.close in
+    let a = t.cells.first in
+    let b = t.cells.second in
+    let close : AreClose (cells_at s.rects a.tile) (cells_at s.rects b.tile) s.reach = record { x = t.x; y = t.y; x' = t.x'; y' = t.y'; cells = record { first = a.cell; second = b.cell }; near = t.near } in
+    let rising : slice_index numbers a.tile < slice_index numbers b.tile = let r = c.rising in let e = a.number in let f = b.number in omega arith in
+    let differ : b.tile ≢ a.tile = λ e. let f : slice_index numbers b.tile ≡ slice_index numbers a.tile = ap (λ k. slice_index numbers k) e in omega arith in
+    let near : IsNear s a.tile b.tile = record {
+      within = b.within;
+      other = differ;
+      close = λ d. rw (get_or_default s.rects a.tile d no_box a.within, get_or_default s.rects b.tile d no_box b.within) close;
+    } in
+    let w = a.within in
+    let found : Contains pairs (slice_index numbers a.tile, slice_index numbers b.tile) = h.all a.tile b.tile (omega arith) near rising in
+    let P : ℕ × ℕ → Type 0 = Contains pairs in
+    subst P (pair_is p _ _ a.number b.number) found where
+      pair_is : (p : ℕ × ℕ) (a b : ℕ) → a ≡ p.0 → b ≡ p.1 → (a, b) ≡ p
+      pair_is p a b e f = rw (e, f) refl
 
-pub all_clashes : (tiles : List Corners) (numbers : List ℕ) (reach count n most : ℕ) (clashes : List (ℕ × ℕ)) → All (λ l. l < count) numbers → length numbers ≡ length tiles → count ≤ n → AreClashesBefore tiles numbers reach n 0 clashes → length clashes ≤ most → AreFewClashes tiles numbers reach most clashes
-all_clashes tiles numbers reach count n most clashes each long l so few = record {
-  clashes_are = record {
-    each = so.each;
-    all = λ pair c. so.all pair c (inl (let u = shape_below tiles numbers count pair.0 c.clash.close.x c.clash.close.y each long c.clash.close.cells.first in omega arith));
-    once = so.once;
-  };
+all_of : (s : Search) (numbers : List ℕ) (n : ℕ) (pairs : List (ℕ × ℕ)) → HasClashes s numbers n pairs → All (IsClash s.rects numbers s.reach) pairs
+all_of s numbers n pairs h k d l = h.each (get_or pairs k d) (k, l, get_or_default pairs k (get_or pairs k d) d l)
+
+pub all_clashes : (s : Search) (numbers : List ℕ) (n most : ℕ) (pairs : List (ℕ × ℕ)) → length s.rects ≤ n → AllPairs IsEarlier pairs → length pairs ≤ most → HasClashes s numbers n pairs → AreFewClashes s.rects numbers s.reach most pairs
+all_clashes s numbers n most pairs whole once few h = record {
+  clashes_are = record { each = all_of s numbers n pairs h; all = λ p c. seen s numbers n pairs whole h p c; once = once };
   few = few;
 }
 
-pub more_clashes : (tiles : List Corners) (numbers : List ℕ) (reach a b most : ℕ) (clashes : List (ℕ × ℕ)) → AreClashesBefore tiles numbers reach a b clashes → most < length clashes → HasMoreClashes tiles numbers reach most
-more_clashes tiles numbers reach a b most clashes so many = record { clashes = clashes; each = so.each; once = so.once; many = many }
-
-pub mark_at : (row : List Bool) (b : ℕ) (v : Bool) → b < length row → v ≡ get_or row b v → get_or row b false ≡ v
-mark_at row b v l e = get_or_default row b false v l ∙ sym e
+pub more_clashes : (s : Search) (numbers : List ℕ) (n most : ℕ) (pairs : List (ℕ × ℕ)) → AllPairs IsEarlier pairs → most < length pairs → HasClashes s numbers n pairs → HasMoreClashes s.rects numbers s.reach most
+more_clashes s numbers n most pairs once many h = record { clashes = pairs; each = all_of s numbers n pairs h; once = once; many = many }

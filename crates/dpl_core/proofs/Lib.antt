@@ -5,7 +5,10 @@ pub mod MaskLemmas
 pub mod MaskingLemmas
 pub mod EdgeLemmas
 pub mod ClashLemmas
+pub mod PairLemmas
 pub mod GraphLemmas
 pub mod NumberingLemmas
 pub mod SplitLemmas
 pub mod EvenLemmas
+pub mod ArcLemmas
+pub mod QueueLemmas

@@ -1,11 +1,10 @@
 -- What hanging one more node keeps.
-use Rattle.std.proofs.Common.{◌≡◌, ◌≢◌, ℕ, ◌+◌, ◌<◌, ◌≤◌, ◌⊎◌, true, false, cond, List, length, length-set, get_or, set, refl, sym, ap, ◌∙◌, subst, inl, inr, arith, get_or-set_other, get_or-set_same}
-use Rattle.std.proofs.lemmas.List.{get_or_read}
+use Rattle.std.proofs.Common.{◌≡◌, ◌≢◌, ℕ, ◌+◌, ◌<◌, ◌≤◌, ◌⊎◌, true, false, cond, List, length, length-set, set, refl, sym, ap, ◌∙◌, subst, inl, inr, arith, get_or-set_other, get_or-set_same}
 use Rattle.std.proofs.lemmas.List.Sums.{sum_by-set, count_by-le-length}
 use Rattle.std.proofs.lemmas.Bool.{cases_eq, false≢true}
 use Rattle.dpl_core.specs.declared.forest.Node.{Node}
 use Rattle.dpl_core.specs.Graphs.{Joined}
-use Rattle.dpl_core.specs.Forests.{IsPlaced, IsSettled, IsBalanced, IsWhole, KeepsFound, node_at, blank, unfound, is_unfound}
+use Rattle.dpl_core.specs.Forests.{IsPlaced, IsSettled, IsWhole, KeepsFound, node_at, blank, unfound, is_unfound}
 use Rattle.dpl_core.proofs.TreeLemmas.{hung, still}
 
 pub turned : (pairs : List (ℕ × ℕ)) (a b : ℕ) → Joined pairs a b → Joined pairs b a
@@ -98,15 +97,6 @@ hang_settles pairs nodes child parent root new h = record {
         let depth : (node_at (set nodes child new) v).depth ≡ (node_at nodes parent).depth + 1 = ap (λ u. (node_at (set nodes child new) u).depth) e ∙ ap (λ (x : Node). x.depth) (at_child pairs nodes child parent root new h ∙ h.new_is) in
         rw (depth, length-set) (omega (arith, fewer, h.settled.bounded parent h.found))
     go (inr w) = rw (w.same, length-set) (omega (arith, fewer, h.settled.bounded v (rw w.same at f)))
-
--- where each pair is balanced, the trees are whole
-pub whole : (pairs : List (ℕ × ℕ)) (nodes : List Node) → ((k : ℕ) → k < length pairs → IsBalanced nodes (get_or pairs k (0, 0))) → IsWhole pairs nodes
-whole pairs nodes balanced a b (inl p) found =
-    let e : get_or pairs p.0 (0, 0) ≡ (a, b) = sym (get_or_read pairs p.0 _ p.1 (sym p.2) (0, 0)) in
-    (rw e at (balanced p.0 p.1)).0 found
-whole pairs nodes balanced a b (inr p) found =
-    let e : get_or pairs p.0 (0, 0) ≡ (b, a) = sym (get_or_read pairs p.0 _ p.1 (sym p.2) (0, 0)) in
-    (rw e at (balanced p.0 p.1)).1 found
 
 -- once the trees are whole, any of them may be the one that grows
 pub regrow : (pairs : List (ℕ × ℕ)) (nodes : List Node) (r s : ℕ) → IsWhole pairs nodes → IsSettled pairs nodes r → IsSettled pairs nodes s

@@ -1,9 +1,9 @@
 -- A layer's cells on two masks, from its tiles, its shapes and their colours.
-use Rattle.std.proofs.Common.{arith, ◌∙◌, ℕ, ◌+◌, ℤ, Bool, true, false, List, [], ◌∷◌, ◌++◌, None, length, All, ap, inr, zero, suc, map, ◌≡◌, refl}
+use Rattle.std.proofs.Common.{arith, ◌∙◌, ℕ, ◌+◌, ℤ, Bool, true, false, List, [], ◌∷◌, ◌++◌, None, length, All, AllPairs, ap, inr, zero, suc, map, ◌≡◌, refl}
 use Rattle.std.specs.Prelude.{if◌then◌else◌, codes}
 use Rattle.dpl_cell.specs.Places.{Corners}
 use Rattle.dpl_cell.specs.Layers.{is_cell}
-use Rattle.dpl_cell.specs.Tiles.{IsTile, AreTiles}
+use Rattle.dpl_cell.specs.Tiles.{IsTile, IsBefore, AreTiles}
 use Rattle.dpl_tiles.specs.Counts.{HasMoreTiles}
 use Rattle.dpl_tiles.specs.Union.{SharesOut}
 use Rattle.dpl_near.specs.Joins.{AreJoins}
@@ -68,6 +68,18 @@ all_chosen P is n (r ∷ rects) a = go (is n) (all_chosen P is (n + 1) rects (λ
   go true b = with_first b
   go false b = b
 
+chosen_pairs : (R : Corners → Corners → Type 0) (is : ℕ → Bool) (n : ℕ) (tiles : List Corners) → AllPairs R tiles → AllPairs R (chosen is n tiles)
+chosen_pairs R is n [] a = a
+chosen_pairs R is n (r ∷ rects) a = go (is n) (chosen_pairs R is (n + 1) rects (λ i j d l k. a (suc i) (suc j) d (omega arith) (omega arith))) (all_chosen (R r) is (n + 1) rects (λ k d l. a 0 (suc k) d (omega arith) (omega arith))) where
+  with_first : AllPairs R (chosen is (n + 1) rects) → All (R r) (chosen is (n + 1) rects) → AllPairs R (r ∷ chosen is (n + 1) rects)
+  with_first p f i zero d l k = absurd (omega arith)
+  with_first p f zero (suc j) d l k = f j d (omega arith)
+  with_first p f (suc i) (suc j) d l k = p i j d (omega arith) (omega arith)
+
+  go : (t : Bool) → AllPairs R (chosen is (n + 1) rects) → All (R r) (chosen is (n + 1) rects) → AllPairs R (if t then r ∷ chosen is (n + 1) rects else chosen is (n + 1) rects)
+  go true p f = with_first p f
+  go false p f = p
+
 pub split_is : (layer : List ℕ) (reach : ℕ) (cells : ℤ → ℤ → Bool) (tiles : List Corners) (labels : List ℕ) (count : ℕ) (joins : List (ℕ × ℕ)) (colour : ℕ → Bool) (output : List ℕ) → IsDivided cells tiles labels count joins → HasFewPairs tiles labels reach (length joins) 400000 → IsColouring (Clash tiles labels reach) colour → IsWritten layer tiles labels colour output → IsSplit layer reach cells output
 split_is layer reach cells tiles labels count joins colour output d few colours w = record {
   mask = mask_by w.of_tile tiles;
@@ -82,6 +94,8 @@ split_is layer reach cells tiles labels count joins colour output d few colours 
     on_b = chosen (is_colour true w.of_tile) 0 tiles;
     each_a = all_chosen (IsTile cells) (is_colour false w.of_tile) 0 tiles d.of_layer.each;
     each_b = all_chosen (IsTile cells) (is_colour true w.of_tile) 0 tiles d.of_layer.each;
+    ordered_a = chosen_pairs IsBefore (is_colour false w.of_tile) 0 tiles d.of_layer.ordered;
+    ordered_b = chosen_pairs IsBefore (is_colour true w.of_tile) 0 tiles d.of_layer.ordered;
     text = w.text;
   };
   within = within cells reach tiles labels count joins d few;

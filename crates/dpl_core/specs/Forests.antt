@@ -37,10 +37,6 @@ pub record IsSettled (pairs : List (ℕ × ℕ)) (nodes : List Node) (root : ℕ
   pub closed : (a b : ℕ) → Joined pairs a b → (node_at nodes a).found ≡ true → ((node_at nodes b).found ≡ true) ⊎ ((node_at nodes a).root ≡ root)
   pub bounded : (v : ℕ) → (node_at nodes v).found ≡ true → (node_at nodes v).depth + unfound nodes ≤ length nodes
 
--- both ends of the pair are found, or neither is
-abbrev pub IsBalanced : List Node → ℕ × ℕ → Type 0
-IsBalanced nodes pair = ((node_at nodes pair.0).found ≡ true → (node_at nodes pair.1).found ≡ true) × ((node_at nodes pair.1).found ≡ true → (node_at nodes pair.0).found ≡ true)
-
 -- no pair leads from a found node to one that is not found
 abbrev pub IsWhole : List (ℕ × ℕ) → List Node → Type 0
 IsWhole pairs nodes = (a b : ℕ) → Joined pairs a b → (node_at nodes a).found ≡ true → (node_at nodes b).found ≡ true

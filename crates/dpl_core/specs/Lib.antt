@@ -1,11 +1,13 @@
 pub mod Graphs
 pub mod Forests
+pub mod Arcs
 pub mod Colouring
 pub mod Tiles
 pub mod Masking
 pub mod Numbering
 pub mod Edges
 pub mod Clashes
+pub mod Pairs
 pub mod Graph
 pub mod Masks
 pub mod Written

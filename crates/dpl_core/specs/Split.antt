@@ -1,8 +1,8 @@
 -- The shapes of a layer on two masks.
-use Rattle.std.specs.Prelude.{◌≡◌, ◌⊎◌, ℕ, ℤ, Bool, not, ◌&&◌, List, ◌++◌, codes, None, All}
+use Rattle.std.specs.Prelude.{◌≡◌, ◌⊎◌, ℕ, ℤ, Bool, not, ◌&&◌, List, ◌++◌, codes, None, All, AllPairs}
 use Rattle.dpl_cell.specs.Places.{Corners}
 use Rattle.dpl_cell.specs.Layers.{is_cell}
-use Rattle.dpl_cell.specs.Tiles.{IsTile}
+use Rattle.dpl_cell.specs.Tiles.{IsTile, IsBefore}
 use Rattle.dpl_tiles.specs.Counts.{HasMoreTiles}
 use Rattle.dpl_report.specs.Masks.{mask_text}
 use Rattle.dpl_cif.specs.Reading.{first_fault, primitives_of}
@@ -24,12 +24,14 @@ pub record IsMasked (layer : List ℕ) (cells mask : ℤ → ℤ → Bool) (outp
   pub on_a : (x y : ℤ) → is_cell (primitives_of (layer ++ codes "A") output) x y ≡ (cells x y && not (mask x y))
   pub on_b : (x y : ℤ) → is_cell (primitives_of (layer ++ codes "B") output) x y ≡ (cells x y && mask x y)
 
--- the text has a line for each of some tiles on mask A, and of some on mask B
+-- the text has a line for each of some tiles on mask A, and of some on mask B, each once and in order
 pub record IsOfTiles (layer : List ℕ) (cells : ℤ → ℤ → Bool) (output : List ℕ) : Type 0 where
   pub on_a : List Corners
   pub on_b : List Corners
   pub each_a : All (IsTile cells) on_a
   pub each_b : All (IsTile cells) on_b
+  pub ordered_a : AllPairs IsBefore on_a
+  pub ordered_b : AllPairs IsBefore on_b
   pub text : output ≡ mask_text layer on_a on_b
 
 -- the output has the cells of the layer on two masks, each shape on one, and close shapes on different ones

@@ -72,5 +72,5 @@ fn close_shapes(
     ensures many { result ≡ Err ClashError.TooMany → HasMoreClashes (map corners_of tiles.now) shapes.now.label reach most }
 {
     let finder = Finder::new(alloc, tiles, reach)?;
-    clashes(alloc, &finder, shapes.label.as_slice(), shapes.count, most)
+    clashes(alloc, &finder, shapes.label.as_slice(), most)
 }

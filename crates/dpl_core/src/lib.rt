@@ -5,6 +5,7 @@
 //! `colour` does the work over numbered nodes and pairs of them.
 #![tactic(auto)]
 
+mod arcs;
 mod clashes;
 mod colouring;
 mod even;
@@ -13,6 +14,7 @@ mod graph;
 mod masking;
 mod masks;
 mod odd_loop;
+mod pairs;
 
 pub use colouring::{ColourError, Loop, colour};
 pub use even::{EvenError, split_even};

@@ -1,5 +1,8 @@
 // Readers of std as sources, and its writers as sinks.
-ghost use Rattle.std.specs.Prelude.{◌≡◌, []};
+ghost use Rattle.std.specs.Prelude.{◌≡◌, ◌<◌, [], length, IfOk};
+ghost use Rattle.std.specs.Io.{ReadsAtMost, WritesAtMost};
+ghost use Rattle.std.specs.Io.KnownBytes.{ReadConsumes, WriteAppends};
+ghost use Rattle.dpl_ext.specs.Device.{HasCause, CountsGiven, CountsFaults};
 
 use crate::devices::{Failed, Sink, Source};
 use std::io::{Read, Write};
@@ -28,7 +31,13 @@ impl<R: Read> ReadSource<R> {
 impl<R: Read> Source for ReadSource<R> {
     ghost seen = { λ s. record { left = R.remaining s.from; faults = s.faults; given = s.given; asked = [] } };
 
-    fn read(&mut self, into: &mut [u8]) -> Result<usize, Failed> {
+    fn read(&mut self, into: &mut [u8]) -> Result<usize, Failed>
+        ensures bound { ReadsAtMost result into.new }
+        ensures bytes { ReadConsumes (R.remaining self.old.from) (R.remaining self.new.from) result into.new }
+        ensures counted { CountsGiven self.old.given self.new.given result }
+        ensures cause { HasCause self.old.faults self.new.faults result }
+        ensures faults { CountsFaults self.old.faults self.new.faults result }
+    {
         match self.from.read(into) {
             Ok(count) => {
                 self.given = self.given.saturating_add(count as u64);
@@ -64,7 +73,13 @@ impl<W: Write> Sink for WriteSink<W> {
 
     ghost faults = { λ s. s.faults };
 
-    fn write(&mut self, piece: &[u8]) -> Result<usize, Failed> {
+    fn write(&mut self, piece: &[u8]) -> Result<usize, Failed>
+        ensures bound { WritesAtMost result piece.now }
+        ensures some { IfOk result (λ n. 0 < length piece.now → 0 < n) }
+        ensures bytes { WriteAppends (W.contents self.old.to) (W.contents self.new.to) result piece.now }
+        ensures cause { HasCause self.old.faults self.new.faults result }
+        ensures faults { CountsFaults self.old.faults self.new.faults result }
+    {
         match self.to.write(piece) {
             Ok(count) if count > 0 || piece.is_empty() => Ok(count),
             _ => {

@@ -3,8 +3,9 @@ ghost use Rattle.std.specs.Prelude.{◌≡◌, ℕ, ◌<◌, List, length, IfOk}
 ghost use Rattle.std.specs.declared.option.Option.{Option};
 ghost use Rattle.std.specs.Io.{ReadsAtMost, WritesAtMost};
 ghost use Rattle.std.specs.Io.KnownBytes.{ReadConsumes, WriteAppends};
-ghost use Rattle.dpl_ext.specs.Device.{HasCause, CountsGiven, Seen};
+ghost use Rattle.dpl_ext.specs.Device.{HasCause, CountsGiven, Seen, Texts, AnswersOpen};
 
+use crate::opening::OpenEnd;
 use thiserror::Error;
 
 /// The answer of a device that failed. Why it failed is not told; its count of faults rose.
@@ -24,6 +25,17 @@ pub trait Source {
         ensures counted { CountsGiven (seen self.old).given (seen self.new).given result }
         ensures cause { HasCause (seen self.old).faults (seen self.new).faults result }
         ensures same { (seen self.new).asked ≡ (seen self.old).asked };
+}
+
+/// A source of several texts, each under a name.
+pub trait Shelf: Source {
+    // The names with their texts, where the shelf tells them. The first text of a name counts.
+    ghost texts: { Self → Option Texts };
+
+    /// The reads after Ok give the text of this name from its front.
+    fn open(&mut self, name: &str) -> Result<(), OpenEnd>
+        ensures answer { AnswersOpen (Self.seen self.old) (Self.seen self.new) (texts self.old) name.now result }
+        ensures texts { texts self.new ≡ texts self.old };
 }
 
 /// Where bytes go.

@@ -7,16 +7,24 @@
 
 mod adapters;
 mod devices;
+mod file_shelf;
+mod mem_shelf;
 mod memory;
+mod opening;
 mod reading;
 mod writing;
 
 pub use adapters::{ReadSource, WriteSink};
-pub use devices::{Failed, Sink, Source};
+pub use devices::{Failed, Shelf, Sink, Source};
+pub use file_shelf::FileShelf;
+pub use mem_shelf::MemShelf;
 pub use memory::{MemSink, MemSource};
+pub use opening::OpenEnd;
 pub use reading::{ReadEnd, read_all};
 pub use std::alloc::AllocError as NoMemory;
 pub use writing::write_all;
 
+#[cfg(test)]
+mod shelf_tests;
 #[cfg(test)]
 mod tests;

@@ -3,7 +3,7 @@ ghost use Rattle.std.specs.Prelude.{◌≡◌, ◌≢◌, ℕ, ◌+◌, ◌-◌,
 ghost use Rattle.std.specs.Io.{ReadsAtMost, WritesAtMost};
 ghost use Rattle.std.specs.Io.KnownBytes.{ReadConsumes, WriteAppends};
 ghost use Rattle.std.specs.Vec.{vec_capacity};
-ghost use Rattle.dpl_ext.specs.Device.{HasCause, CountsGiven, Seen};
+ghost use Rattle.dpl_ext.specs.Device.{HasCause, CountsGiven, CountsFaults, Seen};
 ghost use Rattle.dpl_ext.specs.Memory.{HeldSource, HeldSink};
 
 use crate::devices::{Failed, Sink, Source};
@@ -66,6 +66,7 @@ impl Source for MemSource {
         ensures fails { IsErr result ↔ Contains self.old.fails self.old.calls }
         ensures count { IfOk result (λ n. n ≡ min self.old.piece (min (length into.old) (length self.old.left))) }
         ensures calls { self.new.calls ≡ min (self.old.calls + 1) (2 ^ 64 - 1) }
+        ensures faults { CountsFaults self.old.faults self.new.faults result }
         ensures kept { (self.new.piece ≡ self.old.piece) × (self.new.fails ≡ self.old.fails) }
     {
         let call = self.calls;
@@ -154,6 +155,7 @@ impl Sink for MemSink {
             ⊎ ((length self.old.taken ≡ self.old.room) × (0 < length piece.now))) }
         ensures count { IfOk result (λ n. n ≡ min self.old.piece (min (length piece.now) (self.old.room - length self.old.taken))) }
         ensures calls { self.new.calls ≡ min (self.old.calls + 1) (2 ^ 64 - 1) }
+        ensures faults { CountsFaults self.old.faults self.new.faults result }
         ensures kept { (self.new.piece ≡ self.old.piece) × (self.new.fails ≡ self.old.fails) × (self.new.room ≡ self.old.room) }
     {
         let call = self.calls;

@@ -1,13 +1,13 @@
 -- Rectangles that share no cell.
-use Rattle.std.proofs.Common.{arith, ◌≡◌, ℕ, ◌+◌, ◌<◌, ◌≤◌, ℤ, ◌<ℤ◌, ◌≤ℤ◌, List, length, get_or, ◌∙◌, AllPairs, sym, ap, inl, inr, ◌⊎◌, map, [], ◌∷◌, Bool, true, IsTrue, rules}
+use Rattle.std.proofs.Common.{arith, ◌≡◌, ℕ, ◌+◌, ◌<◌, ◌≤◌, ℤ, ◌≤ℤ◌, List, length, get_or, AllPairs, inl, inr, map, [], ◌∷◌, Bool, true, IsTrue, rules}
 use Rattle.std.specs.Int.{int_max, int_min}
 use Rattle.std.specs.Int.Signed.{le_z}
-use Rattle.std.proofs.lemmas.Int.{ints, clamps}
+use Rattle.std.proofs.lemmas.Int.{ints}
 use Rattle.std.proofs.lemmas.Bool.{cases_lt}
 use Rattle.std.proofs.lemmas.List.{get_or_default, get_or-map, length-map}
 use Rattle.dpl_cell.specs.declared.rect.Rect.{Rect}
 use Rattle.dpl_cell.specs.Places.{Corners, corners_of}
-use Rattle.dpl_cell.specs.Cells.{IsIn, AreApart, SharesCell}
+use Rattle.dpl_cell.specs.Cells.{AreApart}
 use Rattle.dpl_near.proofs.WalkLemmas.{signed}
 
 pub apart_by_columns : (a b : Corners) → int_min a.x2 b.x2 ≤ℤ int_max a.x1 b.x1 → AreApart a b

@@ -8,17 +8,29 @@ use Rattle.dpl_cell.specs.declared.rect.Rect.{Rect}
 use Rattle.dpl_cell.specs.Places.{Corners, corners_of}
 use Rattle.dpl_cell.specs.Cells.{IsIn, AreApart}
 use Rattle.dpl_cell.specs.Edges.{SharesEdge, Touch}
+use Rattle.std.proofs.Common.{◌*◌, ℤ, ◌-ℤ◌, max, Contains}
+use Rattle.std.specs.Int.RustNames.{unsigned_abs}
+use Rattle.dpl_cell.specs.Gaps.{between, cell_gap2}
+use Rattle.dpl_cell.specs.Edges.{AreNeighbours}
+use Rattle.dpl_near.specs.Near.{Search, IsNear, AreNear}
 use Rattle.dpl_near.specs.Joins.{IsJoin, AreJoins, IsEarlier, AreJoinsBefore}
 
 pub joins_none : (rects : List Corners) → AreJoinsBefore rects 0 0 []
 joins_none rects = record { each = λ k d l. absurd (omega arith); all = λ k l h j. absurd (elim h [ inl a ↦ omega arith | inr a ↦ omega arith ]); ordered = λ i j d h l. absurd (omega arith); earlier = λ k d l. absurd (omega arith) }
 
-pub joins_begin : (rects : List Corners) (i : ℕ) (joins : List (ℕ × ℕ)) → AreJoinsBefore rects i 0 joins → AreJoinsBefore rects i (i + 1) joins
-joins_begin rects i joins s = record {
+-- no pair of i and one of these is left out
+pub joins_jump : (rects : List Corners) (i j l : ℕ) (joins : List (ℕ × ℕ)) → j ≤ l → ((k : ℕ) → j ≤ k → k < l → ¬ IsJoin rects i k) → AreJoinsBefore rects i j joins → AreJoinsBefore rects i l joins
+joins_jump rects i j l joins up none s = record {
   each = s.each;
-  all = λ k l h j. elim h [ inl a ↦ s.all k l (inl a) j | inr a ↦ let r = j.rising in absurd (omega arith) ];
+  all = λ k m h join. elim h [
+    | inl a ↦ s.all k m (inl a) join
+    | inr a ↦ elim (cases_lt m j) [
+      | inl b ↦ s.all k m (inr (a.0, b)) join
+      | inr b ↦ let g : IsJoin rects i m = rw a.0 at join in absurd (none m b a.1 g)
+    ]
+  ];
   ordered = s.ordered;
-  earlier = All-weaker (IsEarlier i 0) (IsEarlier i (i + 1)) (λ p h. elim h [ inl a ↦ inl a | inr a ↦ absurd (omega arith) ]) joins s.earlier;
+  earlier = All-weaker (IsEarlier i j) (IsEarlier i l) (λ p h. elim h [ inl a ↦ inl a | inr a ↦ inr (a.0, omega arith) ]) joins s.earlier;
 }
 
 pub joins_end : (rects : List Corners) (i j : ℕ) (joins : List (ℕ × ℕ)) → length rects ≤ j → AreJoinsBefore rects i j joins → AreJoinsBefore rects (i + 1) 0 joins
@@ -92,3 +104,64 @@ corners_at rects i r l e = ap corners_of e ∙ sym (get_or-map corners_of rects 
 -- what a test would answer does not hold where it answers no
 pub not_by_test : {A : Type 0} (b : Bool) → b ≡ false → (A → IsTrue b) → ¬ A
 not_by_test b e f a = let t : IsTrue false = rw e at (f a) in search rules
+
+-- rectangles that share an edge are at no distance
+pub join_is_near : (rects : List Corners) (i j : ℕ) → IsJoin rects i j → IsNear (record { rects = rects; reach = 1 }) i j
+join_is_near rects i j m = record {
+  within = m.within;
+  other = λ e. let r = m.rising in absurd (omega arith);
+  close = λ d. let t = m.edge d in record { x = t.x; y = t.y; x' = t.x'; y' = t.y'; cells = t.cells; near = let n = t.neighbours in touching t.x t.y t.x' t.y' n };
+} where
+  none_between : (x x' : ℤ) → unsigned_abs (x -ℤ x') ≤ 1 → between x x' ≡ 0
+  none_between x x' h = omega arith
+
+  touching : (x y x' y' : ℤ) → AreNeighbours x y x' y' → cell_gap2 x y x' y' < 1 * 1
+  touching x y x' y' n = let a = none_between x x' (omega arith) in let b = none_between y y' (omega arith) in rw (a, b) (omega arith)
+
+-- ---- the pairs of i and those that are at no distance, as they are looked at in order
+
+pub record JoinsAmong (rects : List Corners) (i : ℕ) (found : List ℕ) (t : ℕ) (joins : List (ℕ × ℕ)) : Type 0 where
+  pub from : ℕ
+  pub done : AreJoinsBefore rects i from joins
+  pub passed : (k : ℕ) → k < t → get_or found k 0 < from
+  pub left : (k : ℕ) → t ≤ k → k < length found → from ≤ get_or found k 0
+
+pub among_begin : (rects : List Corners) (i : ℕ) (found : List ℕ) (joins : List (ℕ × ℕ)) → AreJoinsBefore rects i 0 joins → JoinsAmong rects i found 0 joins
+among_begin rects i found joins s = record { from = 0; done = s; passed = λ k l. absurd (omega arith); left = λ k l h. omega arith }
+
+-- none of those between is at no distance
+among_none : (rects : List Corners) (i : ℕ) (found : List ℕ) (t : ℕ) (joins : List (ℕ × ℕ)) (l : ℕ) → AreNear (record { rects = rects; reach = 1 }) i found → (s : JoinsAmong rects i found t joins) → ((k : ℕ) → t ≤ k → k < length found → l ≤ get_or found k 0) → (m : ℕ) → s.from ≤ m → m < l → ¬ IsJoin rects i m
+among_none rects i found t joins l near s up m low high join = go (near.all m (join_is_near rects i m join)) where
+  go : Contains found m → ⊥
+  go (k, h, e) =
+      let f : get_or found k 0 ≡ m = get_or_default found k 0 m h ∙ e in
+      elim (cases_lt k t) [
+        | inl g ↦ absurd (let p = s.passed k g in omega arith)
+        | inr g ↦ absurd (let p = up k g h in omega arith)
+      ]
+
+rising : (s : Search) (i : ℕ) (found : List ℕ) (t k : ℕ) → AreNear s i found → t ≤ k → k < length found → get_or found t 0 ≤ get_or found k 0
+rising s i found t k near low high = elim (cases_lt t k) [
+  | inl h ↦ let r = near.ordered t k 0 h high in omega arith
+  | inr h ↦ let e : k ≡ t = omega arith in rw e (omega arith)
+]
+
+-- before the next one
+pub among_at : (rects : List Corners) (i : ℕ) (found : List ℕ) (t : ℕ) (joins : List (ℕ × ℕ)) → t < length found → AreNear (record { rects = rects; reach = 1 }) i found → JoinsAmong rects i found t joins → AreJoinsBefore rects i (get_or found t 0) joins
+among_at rects i found t joins l near s = joins_jump rects i s.from (get_or found t 0) joins (s.left t (omega arith) l)
+    (among_none rects i found t joins (get_or found t 0) near s (λ k h m. rising _ i found t k near h m)) s.done
+
+-- behind it
+pub among_more : (rects : List Corners) (i : ℕ) (found : List ℕ) (t : ℕ) (joins new : List (ℕ × ℕ)) → t < length found → AreNear (record { rects = rects; reach = 1 }) i found → AreJoinsBefore rects i (get_or found t 0 + 1) new → JoinsAmong rects i found (t + 1) new
+among_more rects i found t joins new l near s = record {
+  from = get_or found t 0 + 1;
+  done = s;
+  passed = λ k h. let r = rising _ i found k t near (omega arith) l in omega arith;
+  left = λ k h m. let r = near.ordered t k 0 (omega arith) m in omega arith;
+}
+
+pub among_end : (rects : List Corners) (i : ℕ) (found : List ℕ) (t : ℕ) (joins : List (ℕ × ℕ)) → length found ≤ t → AreNear (record { rects = rects; reach = 1 }) i found → JoinsAmong rects i found t joins → AreJoinsBefore rects (i + 1) 0 joins
+among_end rects i found t joins whole near s =
+    joins_end rects i (max s.from (length rects)) joins (omega arith)
+    (joins_jump rects i s.from (max s.from (length rects)) joins (omega arith) (λ m low high join.
+        let w = join.within in among_none rects i found t joins (length rects) near s (λ k h l. absurd (omega arith)) m low w join) s.done)

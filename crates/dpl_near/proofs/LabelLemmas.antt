@@ -4,7 +4,7 @@ use Rattle.std.proofs.lemmas.Bool.{cases_lt}
 use Rattle.std.proofs.lemmas.List.{get_or_default, length_push, get_or_append_left, get_or_push, take_all, take-append-le}
 use Rattle.std.proofs.lemmas.List.Sums.{fold-append}
 use Rattle.dpl_near.specs.Shapes.{IsNumbered, next_label}
-use Rattle.dpl_near.specs.Roots.{AreNumbers}
+use Rattle.dpl_near.specs.Roots.{AreNumbers, AreRoots, AreClasses}
 
 -- the labels of the first i members
 pub record Numbered (roots : List ℕ) (i : ℕ) (label : List ℕ) (count' : ℕ) : Type 0 where
@@ -101,5 +101,14 @@ numbered_all roots i label n whole low fixed s = record {
     (λ e. let a = low k p in let b = low l q in s.one _ _ (omega arith) (omega arith) (fixed k p) (fixed l q) (sym (s.root k (omega arith)) ∙ e ∙ s.root l (omega arith))),
     (λ e. s.root k (omega arith) ∙ ap (λ r. get_or label r 0) e ∙ sym (s.root l (omega arith))),
   );
+  numbered = s.numbered;
+}
+
+pub classes_are : (joins : List (ℕ × ℕ)) (n : ℕ) (roots label : List ℕ) (count' : ℕ) → AreRoots joins n roots → AreNumbers roots label count' → AreClasses joins n label count'
+classes_are joins n roots label count' r s = record {
+  long = s.long ∙ r.long;
+  same = λ i j l m.
+      let f = s.same i j (rw r.long l) (rw r.long m) in
+      let g = r.same i j l m in ((λ e. g.0 (f.0 e)), (λ t. f.1 (g.1 t)));
   numbered = s.numbered;
 }

@@ -1,7 +1,10 @@
 pub mod NearLemmas
+pub mod IndexLemmas
+pub mod OrderLemmas
 pub mod JoinLemmas
 pub mod LinkLemmas
 pub mod RootLemmas
+pub mod TopLemmas
 pub mod LabelLemmas
 pub mod WalkLemmas
 pub mod ShapeLemmas

@@ -1,5 +1,5 @@
 -- Close pairs of rectangles (conflict edges: Kahng, Park, Xu and Yao 2008).
-use Rattle.std.specs.Prelude.{◌≢◌, ℕ, ◌<◌, List, All, AllPairs, Contains, length, slice_index_or}
+use Rattle.std.specs.Prelude.{◌≡◌, ◌≢◌, ◌⊎◌, [], ◌∷◌, ◌++◌, ℕ, ◌<◌, List, All, AllPairs, Contains, length, slice_index_or}
 use Rattle.dpl_cell.specs.Places.{Corners}
 use Rattle.dpl_cell.specs.Cells.{IsIn}
 use Rattle.dpl_cell.specs.Gaps.{AreClose}
@@ -20,3 +20,12 @@ pub record AreNear (s : Search) (i : ℕ) (found : List ℕ) : Type 0 where
   pub each : All (IsNear s i) found
   pub all : (j : ℕ) → IsNear s i j → Contains found j
   pub ordered : AllPairs (λ j k. j < k) found
+
+-- the same in any order, perhaps more than once
+pub record HasNear (s : Search) (i : ℕ) (found : List ℕ) : Type 0 where
+  pub each : All (IsNear s i) found
+  pub all : (j : ℕ) → IsNear s i j → Contains found j
+
+-- the second list is the first, and j behind it where j is near
+abbrev pub AddsNear : Search → ℕ → ℕ → List ℕ → List ℕ → Type 0
+AddsNear s i j found new = (IsNear s i j × (new ≡ found ++ j ∷ [])) ⊎ ((¬ IsNear s i j) × (new ≡ found))

@@ -24,3 +24,9 @@ pub record AreNumbers (roots label : List ℕ) (count : ℕ) : Type 0 where
   pub long : length label ≡ length roots
   pub same : (i j : ℕ) → i < length roots → j < length roots → (slice_index_or label i 0 ≡ slice_index_or label j 0) ↔ (slice_index_or roots i 0 ≡ slice_index_or roots j 0)
   pub numbered : IsNumbered label count
+
+-- the classes of the numbers below n under pairs, numbered in the order of their least members
+pub record AreClasses (joins : List (ℕ × ℕ)) (n : ℕ) (label : List ℕ) (count : ℕ) : Type 0 where
+  pub long : length label ≡ n
+  pub same : (i j : ℕ) → i < n → j < n → (slice_index_or label i 0 ≡ slice_index_or label j 0) ↔ AreLinked joins i j
+  pub numbered : IsNumbered label count

@@ -1,7 +1,10 @@
-ghost use Rattle.std.specs.Prelude.{ℕ, ◌≤◌, ◌<◌, length, IfOk, map};
+ghost use Rattle.std.specs.Prelude.{ℕ, ◌≤◌, ◌<◌, length, IfOk, OnOk, map};
 ghost use Rattle.dpl_cell.specs.Places.{corners_of};
-ghost use Rattle.dpl_near.specs.Near.{AreNear};
+ghost use Rattle.dpl_near.specs.Index.{IsIndex};
+ghost use Rattle.dpl_near.specs.Near.{AddsNear, AreNear, HasNear};
 
+use crate::index::{Stop, stops_of};
+use crate::order::in_order;
 use dpl_cell::{Rect, are_close};
 use std::alloc::{AllocError as NoMemory, Global};
 use std::marker::Model;
@@ -11,18 +14,21 @@ use std::marker::Model;
 pub struct Finder<'a> {
     rects: &'a [Rect],
     reach: u64,
+    stops: Vec<Stop>,
 }
 
 impl<'a> Model for Finder<'a> {
     ghost use Rattle.std.specs.Prelude.{ℕ, ◌≤◌, length, map};
     ghost use Rattle.dpl_cell.specs.Places.{corners_of};
     ghost use Rattle.dpl_near.specs.Near.{Search};
+    ghost use Rattle.dpl_near.specs.Index.{IsIndex};
+    ghost use Rattle.dpl_near.specs.declared.index.Stop.{Stop};
 
     ghost Value = { Search };
 
     ghost view = { λ f. record { rects = map corners_of f.rects.now; reach = f.reach } };
 
-    ghost invariant = { λ f. record { few : length f.rects.now ≤ 100000; near : f.reach ≤ 200000 } };
+    ghost invariant = { λ f. record { few : length f.rects.now ≤ 100000; near : f.reach ≤ 200000; index : IsIndex (map corners_of f.rects.now) f.stops.items } };
 }
 
 impl<'a> Finder<'a> {
@@ -36,8 +42,12 @@ impl<'a> Finder<'a> {
         requires near { reach ≤ 200000 }
         ensures { IfOk result (λ f. f ≡ record { rects = map corners_of rects.now; reach = reach }) }
     {
-        let _room = alloc;
-        Ok(Finder { rects, reach })
+        let stops = stops_of(alloc, rects)?;
+        Ok(Finder {
+            rects,
+            reach,
+            stops,
+        })
     }
 
     /// The numbers of the other rectangles whose gap to this one is less than the reach, ascending.
@@ -45,21 +55,60 @@ impl<'a> Finder<'a> {
         requires { i < length self.now.rects }
         ensures { IfOk result (λ v. AreNear self.now i v.items) }
     {
-        near_in(alloc, self.rects, self.reach, i as usize)
+        let found = gather_near(
+            alloc,
+            self.rects,
+            self.stops.as_slice(),
+            self.reach,
+            i as usize,
+        )?;
+        let ordered = in_order(alloc, found)?;
+        Ok(ordered)
     }
 }
 
-fn near_in(alloc: Global, rects: &[Rect], reach: u64, i: usize) -> Result<Vec<u32>, NoMemory>
-    requires few { length rects.now ≤ 100000 }
+/// The numbers of the rectangles near one, in any order.
+fn gather_near(
+    alloc: Global,
+    rects: &[Rect],
+    stops: &[Stop],
+    reach: u64,
+    i: usize,
+) -> Result<Vec<u32>, NoMemory>
     requires near { reach ≤ 200000 }
     requires within { i < length rects.now }
-    ensures { IfOk result (λ v. AreNear (record { rects = map corners_of rects.now; reach = reach }) i v.items) }
+    requires index { IsIndex (map corners_of rects.now) stops.now }
+    ensures { IfOk result (λ v. HasNear (record { rects = map corners_of rects.now; reach = reach }) i v.items) }
 {
     let mut found = Vec::new(alloc);
-    for j in 0..rects.len() {
-        if j != i && are_close(&rects[i], &rects[j], reach) {
-            found.push(j as u32)?;
+    let mut at = 0;
+    'stops: while at < stops.len() {
+        let stop = stops[at];
+        if are_close(&rects[i], &stop.bounds, reach) {
+            push_near(&mut found, rects, reach, i, stop.number)?;
+            at += 1;
+        } else {
+            at += stop.rest as usize + 1;
         }
     }
     Ok(found)
+}
+
+/// Adds a rectangle if it is near another.
+fn push_near(
+    found: &mut Vec<u32>,
+    rects: &[Rect],
+    reach: u64,
+    i: usize,
+    j: u32,
+) -> Result<(), NoMemory>
+    requires near { reach ≤ 200000 }
+    requires within { i < length rects.now }
+    requires other { j < length rects.now }
+    ensures { OnOk result (AddsNear (record { rects = map corners_of rects.now; reach = reach }) i j found.old.items found.new.items) }
+{
+    if j as usize != i && are_close(&rects[i], &rects[j as usize], reach) {
+        found.push(j)?;
+    }
+    Ok(())
 }

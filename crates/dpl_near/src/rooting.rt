@@ -1,5 +1,6 @@
-ghost use Rattle.std.specs.Prelude.{◌≡◌, ℕ, ◌≤◌, ◌<◌, length, All, IfOk, if◌then◌else◌, ◌==◌, slice_index_or};
+ghost use Rattle.std.specs.Prelude.{◌≡◌, ℕ, List, ◌≤◌, ◌<◌, length, All, IfOk, slice_index_or};
 ghost use Rattle.dpl_near.specs.Roots.{AreRoots};
+ghost use Rattle.dpl_near.specs.Ways.{AreTops, Falls, IsUnited};
 
 use std::alloc::{AllocError as NoMemory, Global};
 
@@ -9,9 +10,10 @@ pub fn roots(alloc: Global, n: usize, joins: &[(u32, u32)]) -> Result<Vec<u32>, 
     requires within { All (λ p. (p.0 < n) × (p.1 < n)) joins.now }
     ensures { IfOk result (λ v. AreRoots joins.now n v.items) }
 {
-    let mut roots = singles(alloc, n)?;
-    unite(roots.as_mut_slice(), joins);
-    Ok(roots)
+    let mut ups = singles(alloc, n)?;
+    unite(ups.as_mut_slice(), joins);
+    flatten(ups.as_mut_slice());
+    Ok(ups)
 }
 
 fn singles(alloc: Global, n: usize) -> Result<Vec<u32>, NoMemory>
@@ -19,32 +21,52 @@ fn singles(alloc: Global, n: usize) -> Result<Vec<u32>, NoMemory>
     ensures long { IfOk result (λ v. length v.items ≡ n) }
     ensures each { IfOk result (λ v. (k : ℕ) → k < n → slice_index_or v.items k 0 ≡ k) }
 {
-    let mut roots = Vec::new(alloc);
+    let mut ups = Vec::new(alloc);
     for i in 0..n {
-        roots.push(i as u32)?;
+        ups.push(i as u32)?;
     }
-    Ok(roots)
+    Ok(ups)
 }
 
-/// Goes over the pairs, and gives the two classes of each pair the smaller root of the two.
-fn unite(roots: &mut [u32], joins: &[(u32, u32)])
-    requires start { (k : ℕ) → k < length roots.old → slice_index_or roots.old k 0 ≡ k }
-    requires within { All (λ p. (p.0 < length roots.old) × (p.1 < length roots.old)) joins.now }
-    ensures { AreRoots joins.now (length roots.old) roots.new }
+/// Goes over the pairs, and lets the ways of the two classes of each pair end at the smaller end of the two.
+fn unite(ups: &mut [u32], joins: &[(u32, u32)])
+    requires start { (k : ℕ) → k < length ups.old → slice_index_or ups.old k 0 ≡ k }
+    requires within { All (λ p. (p.0 < length ups.old) × (p.1 < length ups.old)) joins.now }
+    ensures { IsUnited joins.now (length ups.old) ups.new }
 {
     for join in joins {
-        let a = roots[join.0 as usize];
-        let b = roots[join.1 as usize];
-        redirect(roots, a.max(b), a.min(b));
+        let a = top(ups, join.0);
+        let b = top(ups, join.1);
+        ups[a.max(b) as usize] = a.min(b);
     }
 }
 
-fn redirect(roots: &mut [u32], from: u32, to: u32)
-    ensures { (k : ℕ) → k < length roots.old → slice_index_or roots.new k 0 ≡ (if slice_index_or roots.old k 0 == from then to else slice_index_or roots.old k 0) }
+/// The end of the way up from a member. The way becomes shorter.
+fn top(ups: &mut [u32], of: u32) -> u32
+    requires falls { Falls ups.old }
+    requires inside { of < length ups.old }
+    ensures falls { Falls ups.new }
+    ensures inside { result < length ups.old }
+    ensures end { slice_index_or ups.new result 0 ≡ result }
+    ensures ends { (k : ℕ) → slice_index_or ups.old k 0 ≡ k → slice_index_or ups.new k 0 ≡ k }
+    ensures same { (tops : List ℕ) → AreTops ups.old tops → AreTops ups.new tops }
+    ensures top { (tops : List ℕ) → AreTops ups.old tops → result ≡ slice_index_or tops of 0 }
 {
-    for k in 0..roots.len() {
-        if roots[k] == from {
-            roots[k] = to;
-        }
+    let mut at = of;
+    'up: while ups[at as usize] != at {
+        let next = ups[ups[at as usize] as usize];
+        ups[at as usize] = next;
+        at = next;
+    }
+    at
+}
+
+/// Makes each way one step long.
+fn flatten(ups: &mut [u32])
+    requires falls { Falls ups.old }
+    ensures { (tops : List ℕ) → AreTops ups.old tops → ups.new ≡ tops }
+{
+    for i in 0..ups.len() {
+        ups[i] = ups[ups[i] as usize];
     }
 }

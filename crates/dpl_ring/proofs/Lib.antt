@@ -1,1 +1,4 @@
 pub mod RingLemmas
+pub mod PairLemmas
+pub mod Steps
+pub mod Values

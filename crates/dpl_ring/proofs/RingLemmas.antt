@@ -75,7 +75,7 @@ spliced xs ys i j a b p hi hj ea eb =
 
 -- ---- the list of an exchange is the exchange
 
-swap_value : (xs : List ℕ) (i j : ℕ) → i < length xs → j < length xs → i ≢ j → (x : ℕ) → get_or (swap xs i j) x 0 ≡ exchange (slice_index xs) i j x
+pub swap_value : (xs : List ℕ) (i j : ℕ) → i < length xs → j < length xs → i ≢ j → (x : ℕ) → get_or (swap xs i j) x 0 ≡ exchange (slice_index xs) i j x
 swap_value xs i j hi hj ne x =
     let f = slice_index xs in
     let written = ap (λ (l : List ℕ). get_or l x 0) (sym (swap_is xs i j 0 hi hj)) in
@@ -87,7 +87,7 @@ swap_value xs i j hi hj ne x =
       ]
     ]
 
-length_swap : (xs : List ℕ) (i j : ℕ) → i < length xs → j < length xs → length (swap xs i j) ≡ length xs
+pub length_swap : (xs : List ℕ) (i j : ℕ) → i < length xs → j < length xs → length (swap xs i j) ≡ length xs
 length_swap xs i j hi hj = ap length (sym (swap_is xs i j 0 hi hj)) ∙ length-set (set xs i (get_or xs j 0)) j _ ∙ length-set xs i _
 
 pub cycle_count_swap : (xs ys zs : List ℕ) (i j : ℕ) → IsKept xs ys → i < length xs → j < length xs → i ≢ j → zs ≡ swap xs i j → cycle_count zs ≡ cycles (exchange (slice_index xs) i j) (length xs)

@@ -1,1 +1,4 @@
 pub mod Rings
+pub mod Places
+pub mod Pairs
+pub mod Blocks

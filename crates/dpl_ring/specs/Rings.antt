@@ -1,5 +1,5 @@
 -- A permutation of the numbers below n as the list of what each leads to.
-use Rattle.std.specs.Prelude.{◌≡◌, ℕ, ◌<◌, ◌^◌, List, length, slice_index}
+use Rattle.std.specs.Prelude.{◌≡◌, ℕ, ◌<◌, ◌^◌, List, [], length, slice_index, Option, Some, None}
 use Rattle.dpl_cycle.specs.Cycles.{cycles, least, Permutes}
 
 -- the second list leads back where the first leads
@@ -22,3 +22,12 @@ pub record IsKept (nexts prevs : List ℕ) : Type 0 where
   pub lengths : length prevs ≡ length nexts
   pub small : length nexts < 2 ^ 31
   pub inverse : AreInverse nexts prevs
+
+-- where each number leads, and what leads to it; with no number there are no pairs
+abbrev pub nexts_in : Option (List ℕ × List ℕ) → List ℕ
+nexts_in None = []
+nexts_in (Some p) = p.0
+
+abbrev pub prevs_in : Option (List ℕ × List ℕ) → List ℕ
+prevs_in None = []
+prevs_in (Some p) = p.1

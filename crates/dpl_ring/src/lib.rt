@@ -3,6 +3,9 @@
 //! joins their two cycles.
 #![tactic(auto)]
 
+mod block;
+mod pair;
+mod pairs;
 mod ring;
 
 pub use ring::Ring;

@@ -1,37 +1,40 @@
 ghost use Rattle.std.specs.Prelude.{◌≡◌, ◌≢◌, ◌+◌, ◌<◌, ◌^◌, length, slice_index, swap, IfOk, EachIndex};
-ghost use Rattle.dpl_ring.specs.Rings.{IsRing, cycle_count, least_of};
+ghost use Rattle.dpl_ring.specs.Rings.{IsRing, IsKept, cycle_count, least_of};
 
+use crate::pairs::Pairs;
 use std::alloc::{AllocError, Global};
 use std::marker::Model;
 
 /// A permutation of the numbers below `n`. Contracts see the list of what each number leads to.
 #[derive(Drop)]
 pub struct Ring {
-    nexts: Vec<u32>,
-    prevs: Vec<u32>,
+    pairs: Option<Pairs>,
 }
 
 impl Model for Ring {
     ghost use Rattle.std.specs.Prelude.{List, ℕ};
-    ghost use Rattle.dpl_ring.specs.Rings.{IsKept};
+    ghost use Rattle.dpl_ring.specs.Rings.{IsKept, nexts_in, prevs_in};
 
     ghost Value = { List ℕ };
 
-    ghost view = { λ r. r.nexts.items };
+    ghost view = { λ r. nexts_in r.pairs };
 
-    ghost invariant = { λ r. IsKept r.nexts.items r.prevs.items };
+    ghost invariant = { λ r. IsKept (nexts_in r.pairs) (prevs_in r.pairs) };
 }
 
-/// The numbers below `n` in order.
-fn ascending(alloc: Global, n: u32) -> Result<Vec<u32>, AllocError>
-    ensures length { IfOk result (λ v. length v.items ≡ n) }
-    ensures each { IfOk result (λ v. EachIndex v.items (λ k. slice_index v.items k ≡ k)) }
+/// The four writes of a splice.
+fn exchange(pairs: &mut Pairs, i: u32, j: u32)
+    requires kept { IsKept pairs.old.0 pairs.old.1 }
+    requires places { (i < length pairs.old.0) × (j < length pairs.old.0) }
+    ensures kept { IsKept pairs.new.0 pairs.new.1 }
+    ensures value { pairs.new.0 ≡ swap pairs.old.0 i j }
 {
-    let mut numbers = Vec::new(alloc);
-    for i in 0..n {
-        numbers.push(i)?;
-    }
-    Ok(numbers)
+    let after_i = pairs.next(i);
+    let after_j = pairs.next(j);
+    pairs.set_next(i, after_j);
+    pairs.set_next(j, after_i);
+    pairs.set_prev(after_j, i);
+    pairs.set_prev(after_i, j);
 }
 
 impl Ring {
@@ -41,9 +44,11 @@ impl Ring {
         ensures length { IfOk result (λ r. length r ≡ n) }
         ensures alone { IfOk result (λ r. EachIndex r (λ k. slice_index r k ≡ k)) }
     {
-        let nexts = ascending(alloc, n)?;
-        let prevs = ascending(alloc, n)?;
-        Ok(Ring { nexts, prevs })
+        if n == 0 {
+            return Ok(Ring { pairs: None });
+        }
+        let pairs = Pairs::new(alloc, n)?;
+        Ok(Ring { pairs: Some(pairs) })
     }
 
     /// The number that `i` leads to.
@@ -53,7 +58,10 @@ impl Ring {
         ensures range { result < length self.now }
         ensures ring { IsRing self.now }
     {
-        self.nexts[i as usize]
+        match &self.pairs {
+            Some(pairs) => pairs.next(i),
+            None => unreachable!(),
+        }
     }
 
     /// The number that leads to `i`; there is no other.
@@ -63,7 +71,10 @@ impl Ring {
         ensures range { result < length self.now }
         ensures only { EachIndex self.now (λ k. slice_index self.now k ≡ i → k ≡ result) }
     {
-        self.prevs[i as usize]
+        match &self.pairs {
+            Some(pairs) => pairs.prev(i),
+            None => unreachable!(),
+        }
     }
 
     /// Exchanges what `i` and `j` lead to. With `i = j` nothing changes.
@@ -76,12 +87,10 @@ impl Ring {
         ensures splits { i ≢ j → least_of self.old i ≡ least_of self.old j → cycle_count self.new ≡ cycle_count self.old + 1 }
         ensures merges { i ≢ j → least_of self.old i ≢ least_of self.old j → cycle_count self.new + 1 ≡ cycle_count self.old }
     {
-        let after_i = self.nexts[i as usize];
-        let after_j = self.nexts[j as usize];
-        self.nexts[i as usize] = after_j;
-        self.nexts[j as usize] = after_i;
-        self.prevs[after_j as usize] = i;
-        self.prevs[after_i as usize] = j;
+        match &mut self.pairs {
+            Some(pairs) => exchange(pairs, i, j),
+            None => unreachable!(),
+        }
     }
 }
 

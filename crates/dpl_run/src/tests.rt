@@ -172,3 +172,37 @@ fn wrong_words(rt: HostRuntime) -> Result<(), Fail> {
     assert_eq!(rt; err.bytes(), b"dpl: usage 1\n".as_slice());
     Ok(())
 }
+
+#[test]
+fn statuses_and_lines(rt: HostRuntime) -> Result<(), Fail> {
+    for (layout, code, line) in [
+        ("E", 0u8, ""),
+        ("L M; Q 1; E", 3, "dpl: layout 1 at command 2\n"),
+        ("L M; B 10 10 0 0", 3, "dpl: layout 14 at command 2\n"),
+        (
+            "L M; B 2 2 536870912 0; E",
+            4,
+            "dpl: limit 4 count 1073741826\n",
+        ),
+        (
+            "L M; B 100 100 50 50; B 100 100 200 50; B 100 100 125 200; E",
+            23,
+            "dpl: odd\n",
+        ),
+    ] {
+        let ended = masks_of(rt.alloc(), layout.as_bytes())?;
+        assert_eq!(rt; ended.status.code(), code, "{layout}");
+        assert_eq!(rt; ended.err.bytes(), line.as_bytes(), "{layout}");
+    }
+    Ok(())
+}
+
+/// At a gap of exactly the spacing both boxes stand on mask A.
+#[test]
+fn the_boundary_of_the_spacing(rt: HostRuntime) -> Result<(), Fail> {
+    let ended = masks_of(rt.alloc(), b"L M; B 100 100 50 50; B 100 100 250 50; E")?;
+    let want =
+        b"(dpl 0);\nDS 1 1 4;\nL MA;\nB 400 400 200 200;\nB 400 400 1000 200;\nL MB;\nDF;\nC 1;\nE\n";
+    assert_eq!(rt; ended.out.bytes(), want.as_slice());
+    Ok(())
+}

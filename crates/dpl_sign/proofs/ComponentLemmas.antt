@@ -101,7 +101,7 @@ component_label g p label h v = names_label g p label (length g.edges) h v
 with_more : (net : Net) (p q : ℕ → Bool) (e : ℕ) → IsOneMore net p q e → (j : ℕ) → j < length net.graph.edges → p j ≡ true → q j ≡ true
 with_more net p q e k j h t = elim (cases_eq j e) [ inl r ↦ absurd (both_ways _ k.out (ap p (sym r) ∙ t)) | inr r ↦ sym (k.same j h r) ∙ t ]
 
-more_alike : (net : Net) (p q : ℕ → Bool) (e : ℕ) → IsOneMore net p q e → AreAlike net.graph.nodes (component_of net.graph q) (join (component_of net.graph p) (edge_at net.graph e).a (edge_at net.graph e).b)
+pub more_alike : (net : Net) (p q : ℕ → Bool) (e : ℕ) → IsOneMore net p q e → AreAlike net.graph.nodes (component_of net.graph q) (join (component_of net.graph p) (edge_at net.graph e).a (edge_at net.graph e).b)
 more_alike net p q e k =
     let g = net.graph in
     let s = component_of g q in

@@ -19,7 +19,7 @@ use Rattle.dpl_sign.proofs.BareLemmas.{has_dart, bare_edges, bare_darts, bare_no
 
 -- ---- the darts of the new edge
 
-news : (net : Net) (p q : ℕ → Bool) (e : ℕ) → IsOneMore net p q e → AreNew net p q e (2 * e) (2 * e + 1)
+pub news : (net : Net) (p q : ℕ → Bool) (e : ℕ) → IsOneMore net p q e → AreNew net p q e (2 * e) (2 * e + 1)
 news net p q e k = record {
   first = record { more = k; inside = omega (arith, k.inside); half = first_half e };
   second = record { more = k; inside = omega (arith, k.inside); half = second_half e };
@@ -91,18 +91,18 @@ second_apart net p e bare h =
     bare_component net.graph p _ _ (λ x l t. (λ r. bare_edges net.graph p _ bare x l t (inl r), λ r. bare_edges net.graph p _ bare x l t (inr r))) h in
     omega (arith, same, (edge_at net.graph e).ordered)
 
-none_first : (net : Net) (p : ℕ → Bool) (e : ℕ) → is_bare net.graph p (edge_at net.graph e).a ≡ true → NoneAt net p (2 * e)
+pub none_first : (net : Net) (p : ℕ → Bool) (e : ℕ) → is_bare net.graph p (edge_at net.graph e).a ≡ true → NoneAt net p (2 * e)
 none_first net p e bare = λ y h t. bare_darts net p _ bare y h (t ∙ first_tail net.graph e)
 
-none_second : (net : Net) (p : ℕ → Bool) (e : ℕ) → is_bare net.graph p (edge_at net.graph e).b ≡ true → NoneAt net p (2 * e + 1)
+pub none_second : (net : Net) (p : ℕ → Bool) (e : ℕ) → is_bare net.graph p (edge_at net.graph e).b ≡ true → NoneAt net p (2 * e + 1)
 none_second net p e bare = λ y h t. bare_darts net p _ bare y h (t ∙ second_tail net.graph e)
 
-between_first : (net : Net) (p q : ℕ → Bool) (e : ℕ) → IsOneMore net p q e → is_bare net.graph p (edge_at net.graph e).a ≡ false → IsBetween net p q (2 * e)
+pub between_first : (net : Net) (p q : ℕ → Bool) (e : ℕ) → IsOneMore net p q e → is_bare net.graph p (edge_at net.graph e).a ≡ false → IsBetween net p q (2 * e)
 between_first net p q e k h =
     let d = has_dart net p _ h in
     between net p q e (2 * e) d.dart (news net p q e k).first d.set (d.tail ∙ sym (first_tail net.graph e))
 
-between_second : (net : Net) (p q : ℕ → Bool) (e : ℕ) → IsOneMore net p q e → is_bare net.graph p (edge_at net.graph e).b ≡ false → IsBetween net p q (2 * e + 1)
+pub between_second : (net : Net) (p q : ℕ → Bool) (e : ℕ) → IsOneMore net p q e → is_bare net.graph p (edge_at net.graph e).b ≡ false → IsBetween net p q (2 * e + 1)
 between_second net p q e k h =
     let d = has_dart net p _ h in
     between net p q e (2 * e + 1) d.dart (news net p q e k).second d.set (d.tail ∙ sym (second_tail net.graph e))
@@ -112,7 +112,7 @@ pub record AtCorner (net : Net) (p : ℕ → Bool) (c : ℕ) : Type 0 where
   pub inside : next_around net p c < dart_count net
   pub tail : tail_of net.graph (next_around net p c) ≡ tail_of net.graph c
 
-at_corner : (net : Net) (p q : ℕ → Bool) (c : ℕ) → IsBetween net p q c → AtCorner net p c
+pub at_corner : (net : Net) (p q : ℕ → Bool) (c : ℕ) → IsBetween net p q c → AtCorner net p c
 at_corner net p q c b =
     let m = next_member net p _ _ b.prev_in b.prev_tail in
     record { inside = omega (arith, b.corner, (around_set net p _ _ m).inside); tail = ap (tail_of net.graph) b.corner ∙ around_tail net p _ _ m }

@@ -182,21 +182,21 @@ excess_effect net p q e k =
 
 -- ---- which edges are set aside
 
-in_front : (xs : List Bool) (b : Bool) (x : ℕ) → x ≢ length xs → is_in (xs ++ b ∷ []) x ≡ is_in xs x
+pub in_front : (xs : List Bool) (b : Bool) (x : ℕ) → x ≢ length xs → is_in (xs ++ b ∷ []) x ≡ is_in xs x
 in_front [] b zero ne = absurd (ne refl)
 in_front [] b (suc x) ne = refl
 in_front (y ∷ ys) b zero ne = refl
 in_front (y ∷ ys) b (suc x) ne = in_front ys b x (λ r. ne (ap suc r))
 
-at_end : (xs : List Bool) (b : Bool) → is_in (xs ++ b ∷ []) (length xs) ≡ b
+pub at_end : (xs : List Bool) (b : Bool) → is_in (xs ++ b ∷ []) (length xs) ≡ b
 at_end [] b = refl
 at_end (y ∷ ys) b = at_end ys b
 
-past_end : (xs : List Bool) → is_in xs (length xs) ≡ false
+pub past_end : (xs : List Bool) → is_in xs (length xs) ≡ false
 past_end [] = refl
 past_end (y ∷ ys) = past_end ys
 
-kept_more : (net : Net) (kept : List Bool) → length kept < length net.graph.edges → IsOneMore net (is_in kept) (is_in (kept ++ true ∷ [])) (length kept)
+pub kept_more : (net : Net) (kept : List Bool) → length kept < length net.graph.edges → IsOneMore net (is_in kept) (is_in (kept ++ true ∷ [])) (length kept)
 kept_more net kept h = record {
   inside = h;
   out = past_end kept;

@@ -36,11 +36,11 @@ pub record AreNew (net : Net) (p q : ℕ → Bool) (e c d : ℕ) : Type 0 where
   pub twin : d ≡ twin_of c
   pub back : c ≡ twin_of d
 
-not_new : (net : Net) (p q : ℕ → Bool) (e c z : ℕ) → IsNewDart net p q e c → InSet net p z → z ≢ c
+pub not_new : (net : Net) (p q : ℕ → Bool) (e c z : ℕ) → IsNewDart net p q e c → InSet net p z → z ≢ c
 not_new net p q e c z k h t = both_ways _ k.more.out (ap p (sym k.half ∙ ap (λ x. x / 2) (sym t)) ∙ h.chosen)
 
 -- a dart whose face step does not meet the new edge
-next_stays : (net : Net) (p q : ℕ → Bool) (e c d y : ℕ) → AreNew net p q e c d → InSet net p y → (tail_of net.graph y ≡ tail_of net.graph c → next_around net q y ≡ next_around net p y) →
+pub next_stays : (net : Net) (p q : ℕ → Bool) (e c d y : ℕ) → AreNew net p q e c d → InSet net p y → (tail_of net.graph y ≡ tail_of net.graph c → next_around net q y ≡ next_around net p y) →
     (tail_of net.graph y ≡ tail_of net.graph d → next_around net q y ≡ next_around net p y) → next_around net q y ≡ next_around net p y
 next_stays net p q e c d y n h at_c at_d = elim (cases_eq (tail_of net.graph y) (tail_of net.graph c)) [
   | inl a ↦ at_c a
@@ -53,7 +53,7 @@ next_stays net p q e c d y n h at_c at_d = elim (cases_eq (tail_of net.graph y) 
   ]
 ]
 
-face_stays : (net : Net) (p q : ℕ → Bool) (e c d z : ℕ) → AreNew net p q e c d → z < dart_count net → z ≢ c → z ≢ d →
+pub face_stays : (net : Net) (p q : ℕ → Bool) (e c d z : ℕ) → AreNew net p q e c d → z < dart_count net → z ≢ c → z ≢ d →
     (InSet net p (twin_of z) → next_around net q (twin_of z) ≡ next_around net p (twin_of z)) → next_in_face net q z ≡ next_in_face net p z
 face_stays net p q e c d z n hz zc zd stays =
     let other : z / 2 ≢ e = λ t. elim (pair_cases z c (t ∙ sym n.first.half)) [ inl k ↦ zc k | inr k ↦ zd (k ∙ sym n.twin) ] in
@@ -65,16 +65,16 @@ face_stays net p q e c d z n hz zc zd stays =
 
 -- ---- the new edge as a face of its own
 
-fixed : (net : Net) (p q : ℕ → Bool) (e c : ℕ) → IsNewDart net p q e c → next_in_face net p c ≡ c
+pub fixed : (net : Net) (p q : ℕ → Bool) (e c : ℕ) → IsNewDart net p q e c → next_in_face net p c ≡ c
 fixed net p q e c n = face_out net p c (ap p n.half ∙ n.more.out)
 
-abbrev paired : Net → (ℕ → Bool) → ℕ → ℕ → ℕ → ℕ
+abbrev pub paired : Net → (ℕ → Bool) → ℕ → ℕ → ℕ → ℕ
 paired net p c d = exchange (next_in_face net p) c d
 
 abbrev paired_back : Net → (ℕ → Bool) → ℕ → ℕ → ℕ → ℕ
 paired_back net p c d = exchange_back (next_in_face net p) (face_back net p) c d
 
-apart : (net : Net) (p q : ℕ → Bool) (e c d : ℕ) → AreNew net p q e c d → c ≢ d
+pub apart : (net : Net) (p q : ℕ → Bool) (e c d : ℕ) → AreNew net p q e c d → c ≢ d
 apart net p q e c d n h = twin_apart c (h ∙ n.twin)
 
 paired_permutes : (net : Net) (p q : ℕ → Bool) (e c d : ℕ) → AreNew net p q e c d → Permutes (dart_count net) (paired net p c d) (paired_back net p c d)
@@ -86,17 +86,17 @@ paired_count net p q e c d n =
     (exchange_law (dart_count net) _ _ (face_permutes net p) c d n.first.inside n.second.inside ne).merges
     (fixed_apart (dart_count net) _ _ (face_permutes net p) d c n.second.inside n.first.inside (fixed net p q e d n.second) ne)
 
-paired_first : (net : Net) (p q : ℕ → Bool) (e c d : ℕ) → AreNew net p q e c d → paired net p c d c ≡ d
+pub paired_first : (net : Net) (p q : ℕ → Bool) (e c d : ℕ) → AreNew net p q e c d → paired net p c d c ≡ d
 paired_first net p q e c d n = exchange_first (next_in_face net p) c d ∙ fixed net p q e d n.second
 
-paired_second : (net : Net) (p q : ℕ → Bool) (e c d : ℕ) → AreNew net p q e c d → paired net p c d d ≡ c
+pub paired_second : (net : Net) (p q : ℕ → Bool) (e c d : ℕ) → AreNew net p q e c d → paired net p c d d ≡ c
 paired_second net p q e c d n = exchange_second (next_in_face net p) c d (λ k. apart net p q e c d n (sym k)) ∙ fixed net p q e c n.first
 
-turned_new : (net : Net) (p q : ℕ → Bool) (e c d : ℕ) → AreNew net p q e c d → AreNew net p q e d c
+pub turned_new : (net : Net) (p q : ℕ → Bool) (e c d : ℕ) → AreNew net p q e c d → AreNew net p q e d c
 turned_new net p q e c d n = record { first = n.second; second = n.first; twin = n.back; back = n.twin }
 
 -- where a new dart leads
-new_face : (net : Net) (p q : ℕ → Bool) (e c d : ℕ) → AreNew net p q e c d → next_in_face net q c ≡ next_around net q d
+pub new_face : (net : Net) (p q : ℕ → Bool) (e c d : ℕ) → AreNew net p q e c d → next_in_face net q c ≡ next_around net q d
 new_face net p q e c d n = face_in net q c (new_dart_set net p q e c n.first).chosen ∙ ap (next_around net q) (sym n.twin)
 
 -- both nodes were bare
@@ -113,7 +113,7 @@ both_bare net p q e c d n none_c none_d =
     omega (arith, same, paired_count net p q e c d n)
 
 -- the dart of which the face step leads to the corner of c
-abbrev into : Net → (ℕ → Bool) → ℕ → ℕ
+abbrev pub into : Net → (ℕ → Bool) → ℕ → ℕ
 into net p c = twin_of (prev_around net p c)
 
 pub record Corner (net : Net) (p q : ℕ → Bool) (c i : ℕ) : Type 0 where
@@ -122,7 +122,7 @@ pub record Corner (net : Net) (p q : ℕ → Bool) (c i : ℕ) : Type 0 where
   pub from_new : next_around net q c ≡ next_in_face net p i
   pub face : next_around net p c ≡ next_in_face net p i
 
-corner : (net : Net) (p q : ℕ → Bool) (e c : ℕ) → IsNewDart net p q e c → IsBetween net p q c → Corner net p q c (into net p c)
+pub corner : (net : Net) (p q : ℕ → Bool) (e c : ℕ) → IsNewDart net p q e c → IsBetween net p q c → Corner net p q c (into net p c)
 corner net p q e c n b =
     let x = prev_around net p c in
     let i = twin_of x in
@@ -136,7 +136,7 @@ corner net p q e c n b =
       face = b.corner ∙ sym here;
     }
 
-stays_between : (net : Net) (p q : ℕ → Bool) (c z : ℕ) → IsBetween net p q c → z ≢ into net p c → InSet net p (twin_of z) → tail_of net.graph (twin_of z) ≡ tail_of net.graph c → next_around net q (twin_of z) ≡ next_around net p (twin_of z)
+pub stays_between : (net : Net) (p q : ℕ → Bool) (c z : ℕ) → IsBetween net p q c → z ≢ into net p c → InSet net p (twin_of z) → tail_of net.graph (twin_of z) ≡ tail_of net.graph c → next_around net q (twin_of z) ≡ next_around net p (twin_of z)
 stays_between net p q c z b ne h t = b.others (twin_of z) h t (λ k. ne (sym (twin_twin z) ∙ ap twin_of k))
 
 -- one node was bare: that of d
@@ -167,7 +167,7 @@ one_bare net p q e c d n b none =
     (pair_apart m f0 _ p0 c d n.first.inside n.second.inside (paired_first net p q e c d n) (paired_second net p q e c d n) i k.set.inside ic id) in
     omega (arith, same, merged, paired_count net p q e c d n)
 
-corner_least : (net : Net) (p q : ℕ → Bool) (c i : ℕ) → Corner net p q c i → corner_face net p c ≡ least (next_in_face net p) (dart_count net) i
+pub corner_least : (net : Net) (p q : ℕ → Bool) (c i : ℕ) → Corner net p q c i → corner_face net p c ≡ least (next_in_face net p) (dart_count net) i
 corner_least net p q c i k = ap (face_of net p) k.face ∙ least_step (dart_count net) _ _ (face_permutes net p) i k.set.inside
 
 -- neither was bare

@@ -72,6 +72,14 @@ fn odd_triangle(alloc: Global) -> Result<Net, Fail> {
     drawing(alloc, 3, &links)
 }
 
+/// The face of a dart, `None` where there is no such dart.
+fn face_of_dart(alloc: Global, net: &Net, set: &[bool], dart: u32) -> Result<u32, Fail> {
+    if (dart / 2) as usize >= net.graph.edges.as_slice().len() {
+        return Err("no dart")?;
+    }
+    Ok(face_name(alloc, net, set, dart)?)
+}
+
 /// Two of them, one above the other.
 fn two_triangles(alloc: Global) -> Result<Net, Fail> {
     let (east, west) = (Port::on_side(3, 200), Port::on_side(7, -200));
@@ -237,6 +245,12 @@ fn square_with_both_diagonals(rt: HostRuntime) -> Result<(), Fail> {
         kept.as_slice(),
         [true, true, true, true, false, false].as_slice()
     );
+    // Its faces turn counterclockwise: darts 6, 3, 0 and darts 1, 4, 5, 2, 7.
+    let some = [true, true, true, true, false, false];
+    for (dart, name) in [(6, 0), (3, 0), (4, 1), (5, 1), (2, 1), (7, 1)] {
+        let found = face_of_dart(rt.alloc(), &net, &some, dart)?;
+        assert_eq!(rt; found, name, "{dart}");
+    }
     Ok(())
 }
 

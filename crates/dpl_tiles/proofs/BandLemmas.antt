@@ -1,5 +1,5 @@
 -- The bands between ordinates in order.
-use Rattle.std.proofs.Common.{arith, ◌≡◌, ℕ, ◌+◌, ◌-◌, ◌<◌, ◌≤◌, ℤ, pos, ◌+ℤ◌, ◌<ℤ◌, ◌≤ℤ◌, List, length, get_or, All, subst, refl, sym, ◌∙◌, inl, inr, [], ◌++◌, Bool, true, false, not, map, IsTrue, rules}
+use Rattle.std.proofs.Common.{arith, ◌≡◌, ℕ, ◌+◌, ◌-◌, ◌<◌, ◌≤◌, ℤ, pos, ◌+ℤ◌, ◌<ℤ◌, ◌≤ℤ◌, List, length, get_or, All, subst, ap, refl, sym, ◌∷◌, ◌∙◌, inl, inr, [], ◌++◌, Bool, true, false, not, map, IsTrue, rules}
 use Rattle.std.proofs.lemmas.Int.{by_lt_z}
 use Rattle.std.proofs.lemmas.Bool.{cases_lt}
 use Rattle.std.proofs.lemmas.List.{get_or_default}
@@ -14,11 +14,11 @@ use Rattle.dpl_cell.specs.Layers.{is_cell}
 use Rattle.dpl_cell.specs.Tiles.{IsRun}
 use Rattle.dpl_tiles.specs.Stretches.{Ascends}
 use Rattle.dpl_tiles.specs.Bands.{HasCorners, HasOrdinates}
-use Rattle.dpl_tiles.specs.Stacks.{AreStacked, AreAllTiles, IsPieceAt, AreEnded, ending, goes_on}
+use Rattle.dpl_tiles.specs.Sweeps.{AreSwept}
 use Rattle.dpl_tiles.proofs.Signed.{signed, equal_z}
-use Rattle.dpl_tiles.proofs.Lists.{any_left, any_right, any_contains, kept_by}
 use Rattle.dpl_tiles.proofs.OutlineLemmas.{AllRows, Agrees, Lies, layer_same, no_row, at_most, above}
-use Rattle.dpl_tiles.proofs.StackLemmas.{ended_more}
+use Rattle.dpl_tiles.proofs.BoundLemmas.{bounded}
+use Rattle.dpl_tiles.proofs.EndLemmas.{IsTop, no_run}
 
 -- what holds of all ordinates holds of all corners
 corners_hold : (P : ℤ → Type 0) (rows : List ℤ) (part : Primitive) → All P rows → HasCorners rows part → AllRows P (outline_of part)
@@ -71,62 +71,38 @@ above_all rows k y sorted whole upto h m d l =
 
 -- ---- the first row and the last
 
--- no row of the half below z, or from z up, has a cell
-no_run : (cells : ℤ → ℤ → Bool) (x1 x2 y : ℤ) → ((x : ℤ) → cells x y ≡ false) → ¬ IsRun cells x1 x2 y
-no_run cells x1 x2 y none run =
-    let t : IsTrue (cells x1 y) = run.full x1 (record { from = let l = run.long in omega signed; to = run.long }) in
-    let f : IsTrue false = rw (none x1) at t in search (rules, f)
-
-stacked_none : (cells : ℤ → ℤ → Bool) (z : ℤ) → ((y : ℤ) → y <ℤ z → (x : ℤ) → cells x y ≡ false) → AreStacked cells z [] []
-stacked_none cells z none = record {
+swept_none : (cells : ℤ → ℤ → Bool) (z : ℤ) → ((y : ℤ) → y <ℤ z → (x : ℤ) → cells x y ≡ false) → AreSwept cells z [] []
+swept_none cells z none = record {
   done = record { each = λ k d l. absurd (omega arith); below = λ k d l. absurd (omega arith); ordered = λ i j d h l. absurd (omega arith) };
   going = record { each = λ k d l. absurd (omega arith); all = λ x1 x2 run. absurd (no_run cells x1 x2 _ (none _ (omega signed)) run); ordered = λ i j d h l. absurd (omega arith) };
   whole = λ x1 x2 y h run. absurd (no_run cells x1 x2 y (none y h) run);
 }
 
-pub stacked_first : (prims : List Primitive) (rows : List ℤ) (ended growing : List Rect) → ended ≡ [] → growing ≡ [] → Ascends (λ z. z) rows → HasOrdinates rows prims → AreStacked (is_cell (map outline_of prims)) (get_or rows 0 (pos 0)) ended growing
-stacked_first prims rows ended growing e f sorted all = rw (e, f) (stacked_none (is_cell (map outline_of prims)) _ (λ y h x. no_row false x y (map outline_of prims) (all_hold _ rows prims (below_all rows y sorted h) all)))
+pub swept_first : (prims : List Primitive) (rows : List ℤ) (ended held : List Rect) → ended ≡ [] → held ≡ [] → Ascends (λ z. z) rows → HasOrdinates rows prims → AreSwept (is_cell (map outline_of prims)) (get_or rows 0 (pos 0)) ended held
+swept_first prims rows ended held e f sorted all = rw (e, f) (swept_none (is_cell (map outline_of prims)) _ (λ y h x. no_row false x y (map outline_of prims) (all_hold _ rows prims (below_all rows y sorted h) all)))
 
-stacked_last : (cells : ℤ → ℤ → Bool) (z : ℤ) (ended growing : List Rect) → ((y : ℤ) → z ≤ℤ y → (x : ℤ) → cells x y ≡ false) → AreStacked cells z ended growing → AreEnded cells (z +ℤ pos 1) (ended ++ ending [] growing)
-stacked_last cells z ended growing none s = ended_more cells z (z +ℤ pos 1) ended growing [] (omega signed) s.done s.going (record {
-  each = λ k d l. absurd (omega arith);
-  all = λ x1 x2 run. absurd (no_run cells x1 x2 z (none z (omega signed)) run);
-  ordered = λ i j d h l. absurd (omega arith);
-})
+-- the last row is the top
+pub rows_top : (prims : List Primitive) (rows : List ℤ) (k : ℕ) → Ascends (λ z. z) rows → HasOrdinates rows prims → length rows ≤ k → (1 ≤ length rows → k ≤ length rows) → IsTop (is_cell (map outline_of prims)) (get_or rows (k - 1) (pos 0))
+rows_top prims rows k sorted all whole upto = record {
+  bound = bounded prims;
+  none = λ x y h. no_row true x y (map outline_of prims) (all_hold _ rows prims (above_all rows k y sorted whole upto h) all);
+}
 
-all_ended : (cells : ℤ → ℤ → Bool) (z : ℤ) (ended growing : List Rect) → ((y : ℤ) → z ≤ℤ y → (x : ℤ) → cells x y ≡ false) → AreStacked cells z ended growing → AreAllTiles cells (ended ++ ending [] growing)
-all_ended cells z ended growing none s =
-    let a = stacked_last cells z ended growing none s in
-    record {
-      each = a.each;
-      whole = λ x1 x2 y run. by_lt_z y z
-          (λ h. elim (s.whole x1 x2 y h run) [
-            | inl e ↦ any_left (IsPieceAt x1 x2 y) ended (ending [] growing) e
-            | inr (k, o, l, e, at) ↦ any_right (IsPieceAt x1 x2 y) ended (ending [] growing) (any_contains (IsPieceAt x1 x2 y) (ending [] growing) o (kept_by (λ o. not (goes_on [] o)) growing k o l e refl) at)
-          ])
-          (λ h. absurd (no_run cells x1 x2 y (none y h) run));
-      ordered = a.ordered;
-    }
-
--- what is stacked when the last row is reached
-pub last_ended : (prims : List Primitive) (rows : List ℤ) (k : ℕ) (ended growing : List Rect) → Ascends (λ z. z) rows → HasOrdinates rows prims → length rows ≤ k → (1 ≤ length rows → k ≤ length rows)
-    → AreStacked (is_cell (map outline_of prims)) (get_or rows (k - 1) (pos 0)) ended growing → AreEnded (is_cell (map outline_of prims)) (get_or rows (k - 1) (pos 0) +ℤ pos 1) (ended ++ ending [] growing)
-last_ended prims rows k ended growing sorted all whole upto s = stacked_last _ _ ended growing (λ y h x. no_row true x y (map outline_of prims) (all_hold _ rows prims (above_all rows k y sorted whole upto h) all)) s
-
-pub all_tiles : (prims : List Primitive) (rows : List ℤ) (k : ℕ) (ended growing : List Rect) → Ascends (λ z. z) rows → HasOrdinates rows prims → length rows ≤ k → (1 ≤ length rows → k ≤ length rows)
-    → AreStacked (is_cell (map outline_of prims)) (get_or rows (k - 1) (pos 0)) ended growing → AreAllTiles (is_cell (map outline_of prims)) (ended ++ ending [] growing)
-all_tiles prims rows k ended growing sorted all whole upto s = all_ended _ _ ended growing (λ y h x. no_row true x y (map outline_of prims) (all_hold _ rows prims (above_all rows k y sorted whole upto h) all)) s
-
-pub stacked_next : (cells : ℤ → ℤ → Bool) (rows : List ℤ) (k : ℕ) (ended growing : List Rect) → AreStacked cells (get_or rows k (pos 0)) ended growing → AreStacked cells (get_or rows (k + 1 - 1) (pos 0)) ended growing
-stacked_next cells rows k ended growing s =
+pub swept_next : (cells : ℤ → ℤ → Bool) (rows : List ℤ) (k : ℕ) (ended held : List Rect) → AreSwept cells (get_or rows k (pos 0)) ended held → AreSwept cells (get_or rows (k + 1 - 1) (pos 0)) ended held
+swept_next cells rows k ended held s =
     let e : k ≡ k + 1 - 1 = omega arith in
-    let P : ℕ → Type 0 = λ n. AreStacked cells (get_or rows n (pos 0)) ended growing in
+    let P : ℕ → Type 0 = λ n. AreSwept cells (get_or rows n (pos 0)) ended held in
     subst P e s
 
 -- a band without rows adds nothing
-pub stacked_still : (cells : ℤ → ℤ → Bool) (rows : List ℤ) (k : ℕ) (ended growing : List Rect) → Ascends (λ z. z) rows → 0 < k → k < length rows → get_or rows k (pos 0) ≤ℤ get_or rows (k - 1) (pos 0) → AreStacked cells (get_or rows (k - 1) (pos 0)) ended growing
-    → AreStacked cells (get_or rows (k + 1 - 1) (pos 0)) ended growing
-stacked_still cells rows k ended growing sorted some within h s =
+pub swept_still : (cells : ℤ → ℤ → Bool) (rows : List ℤ) (k : ℕ) (ended held : List Rect) → Ascends (λ z. z) rows → 0 < k → k < length rows → get_or rows k (pos 0) ≤ℤ get_or rows (k - 1) (pos 0) → AreSwept cells (get_or rows (k - 1) (pos 0)) ended held
+    → AreSwept cells (get_or rows (k + 1 - 1) (pos 0)) ended held
+swept_still cells rows k ended held sorted some within h s =
     let e : get_or rows (k - 1) (pos 0) ≡ get_or rows k (pos 0) = equal_z _ _ (sorted (k - 1) k (pos 0) (omega arith) within) h in
-    let P : ℤ → Type 0 = λ z. AreStacked cells z ended growing in
-    stacked_next cells rows k ended growing (subst P e s)
+    let P : ℤ → Type 0 = λ z. AreSwept cells z ended held in
+    swept_next cells rows k ended held (subst P e s)
+
+-- the row that is reached at the end is the last
+pub last_row_is : (rows : List ℤ) (k : ℕ) → length rows ≤ k → (1 ≤ length rows → k ≤ length rows) → get_or rows (length rows - 1) (pos 0) ≡ get_or rows (k - 1) (pos 0)
+last_row_is [] k whole upto = refl
+last_row_is (z ∷ rows) k whole upto = let e : length (z ∷ rows) ≡ k = omega arith in ap (λ n. get_or (z ∷ rows) (n - 1) (pos 0)) e

@@ -46,7 +46,7 @@ sides_same x y y' p (q ∷ qs) last e a f =
     let i = sides_same x y y' q qs last g (All-tail (λ q. Agrees y y' q.1) q qs a) f in
     ap (λ n. n + left_sides x y q qs last) h ∙ ap (λ n. bit (is_left_side x y' p q) + n) i
 
-outline_same : (x y y' : ℤ) (o : Outline) → AllRows (Agrees y y') o → is_in_outline x y o ≡ is_in_outline x y' o
+pub outline_same : (x y y' : ℤ) (o : Outline) → AllRows (Agrees y y') o → is_in_outline x y o ≡ is_in_outline x y' o
 outline_same x y y' (Box r) (e, f) =
     ap (λ b. is_within r.x1 r.x2 x && b) (within_by_ends r.y1 r.y2 y ∙ ap (λ b. b && not (int_le r.y2 y)) e ∙ ap (λ b. int_le r.y1 y' && not b) f ∙ sym (within_by_ends r.y1 r.y2 y'))
 outline_same x y y' (Polygon []) a = refl
@@ -78,7 +78,7 @@ sides_none b x y p (q ∷ qs) last e a f =
     let i = sides_none b x y q qs last g (All-tail (λ q. Lies b y q.1) q qs a) f in
     omega arith
 
-outline_none : (b : Bool) (x y : ℤ) (o : Outline) → AllRows (Lies b y) o → is_in_outline x y o ≡ false
+pub outline_none : (b : Bool) (x y : ℤ) (o : Outline) → AllRows (Lies b y) o → is_in_outline x y o ≡ false
 outline_none b x y (Box r) (e, f) =
     ap (λ c. is_within r.x1 r.x2 x && c) (within_by_ends r.y1 r.y2 y ∙ ap (λ c. c && not (int_le r.y2 y)) e ∙ ap (λ c. b && not c) f ∙ same b) ∙ and_false (is_within r.x1 r.x2 x) where
       same : (b : Bool) → (b && not b) ≡ false
@@ -113,7 +113,7 @@ box_past b x y r e f = ap (λ c. c && is_within r.y1 r.y2 y) (within_by_ends r.x
   same true = refl
   same false = refl
 
-outline_past : (b : Bool) (x y : ℤ) (o : Outline) → AllColumns (Lies b x) o → is_in_outline x y o ≡ false
+pub outline_past : (b : Bool) (x y : ℤ) (o : Outline) → AllColumns (Lies b x) o → is_in_outline x y o ≡ false
 outline_past b x y (Box r) (e, f) = box_past b x y r e f
 outline_past b x y (Polygon []) a = refl
 outline_past false x y (Polygon (p ∷ ps)) a = ap (λ n. n % 2 == 1) (left_none x y p ps p (All-head (λ q. Lies false x q.0) p ps a) (All-tail (λ q. Lies false x q.0) p ps a))

@@ -37,10 +37,10 @@ goes_on_none pieces r none = decide (goes_on pieces r) (λ t. let (k, p, l, e, s
   decide true f = absurd (f refl)
   decide false f = refl
 
-some_goes_on : (pieces : List Rect) (r : Rect) → goes_on pieces r ≡ true → Any (HasColumns r.x1 r.x2) pieces
+pub some_goes_on : (pieces : List Rect) (r : Rect) → goes_on pieces r ≡ true → Any (HasColumns r.x1 r.x2) pieces
 some_goes_on pieces r t = let (k, p, l, e, s) = Any-from_list_any (same_columns r) pieces t in (k, p, l, e, test_columns r p s)
 
-none_goes_on : (pieces : List Rect) (r : Rect) → not (goes_on pieces r) ≡ true → ¬ Any (HasColumns r.x1 r.x2) pieces
+pub none_goes_on : (pieces : List Rect) (r : Rect) → not (goes_on pieces r) ≡ true → ¬ Any (HasColumns r.x1 r.x2) pieces
 none_goes_on pieces r t a = let h : not true ≡ true = rw (goes_on_some pieces r a) at t in cc
 
 -- ---- rows of one band
@@ -58,10 +58,10 @@ pub record AreAlike (cells : ℤ → ℤ → Bool) (low high : ℤ) : Type 0 whe
   pub some : low <ℤ high
   pub same : (x y : ℤ) → IsWithin low high y → cells x low ≡ cells x y
 
-up : (cells : ℤ → ℤ → Bool) (low high y x1 x2 : ℤ) → AreAlike cells low high → IsWithin low high y → IsRun cells x1 x2 low → IsRun cells x1 x2 y
+pub up : (cells : ℤ → ℤ → Bool) (low high y x1 x2 : ℤ) → AreAlike cells low high → IsWithin low high y → IsRun cells x1 x2 low → IsRun cells x1 x2 y
 up cells low high y x1 x2 a w run = run_same cells low y x1 x2 (λ x. a.same x y w) run
 
-down : (cells : ℤ → ℤ → Bool) (low high y x1 x2 : ℤ) → AreAlike cells low high → IsWithin low high y → IsRun cells x1 x2 y → IsRun cells x1 x2 low
+pub down : (cells : ℤ → ℤ → Bool) (low high y x1 x2 : ℤ) → AreAlike cells low high → IsWithin low high y → IsRun cells x1 x2 y → IsRun cells x1 x2 low
 down cells low high y x1 x2 a w run = run_same cells y low x1 x2 (λ x. sym (a.same x y w)) run
 
 -- ---- the stacks that go on
@@ -104,7 +104,7 @@ grown_with growing pieces stacks z x1 x2 (k, p, l, e, c) =
     let g : IsGrown growing p (get_or stacks k p) = rw e at (grown_at growing pieces stacks z k p l) in
     (k, get_or stacks k p, omega arith, get_or_default stacks k (get_or stacks k p) p (omega arith), record { left = g.columns.left ∙ c.left; right = g.columns.right ∙ c.right })
 
-last_row : (low high : ℤ) → low <ℤ high → IsWithin low high (high -ℤ pos 1)
+pub last_row : (low high : ℤ) → low <ℤ high → IsWithin low high (high -ℤ pos 1)
 last_row low high h = record { from = omega signed; to = omega signed }
 
 pub grown_open : (cells : ℤ → ℤ → Bool) (low high : ℤ) (growing pieces stacks : List Rect) → AreAlike cells low high → AreOpen cells low growing → ArePieces cells low high pieces → AllZip (IsGrown growing) pieces stacks → AreOpen cells high stacks
@@ -157,7 +157,7 @@ ended_more cells low high ended growing pieces h done open' ps =
 -- ---- all runs are held
 
 -- there is one stack with these columns at most
-one_place : (rects : List Rect) (i j : ℕ) (a b : Rect) (x : ℤ) → AllPairs IsLeftOf rects → i < length rects → j < length rects → get_or rects i a ≡ a → get_or rects j b ≡ b → a.x1 ≡ x → b.x1 ≡ x → a ≡ b
+pub one_place : (rects : List Rect) (i j : ℕ) (a b : Rect) (x : ℤ) → AllPairs IsLeftOf rects → i < length rects → j < length rects → get_or rects i a ≡ a → get_or rects j b ≡ b → a.x1 ≡ x → b.x1 ≡ x → a ≡ b
 one_place rects i j a b x up l m e f g h = three i j
     (λ n. absurd (let p : IsLeftOf (get_or rects i a) (get_or rects j a) = up i j a n m in let p' : IsLeftOf a b = rw (e, get_or_default rects j a b m ∙ f) at p in beside a b x g h p'))
     (λ n. sym e ∙ ap (λ k. get_or rects k a) n ∙ get_or_default rects j a b m ∙ f)

@@ -98,7 +98,7 @@ merging_end first rest i merged new last whole m e x = rw (e, in_pushed merged l
 pub merging_separate : (first : Stretch) (rest : List Stretch) (i : ℕ) (merged new : List Stretch) (last : Stretch) → Merging first rest i merged last → new ≡ merged ++ last ∷ [] → AreSeparate new
 merging_separate first rest i merged new last m e = rw e (all_pairs_push (λ s t. s.to <ℤ t.from) merged last m.separate m.behind)
 
-in_parts : (prims : List Primitive) (x y : ℤ) → is_cell (map outline_of prims) x y ≡ list_any (λ p. is_in_outline x y (outline_of p)) prims
+pub in_parts : (prims : List Primitive) (x y : ℤ) → is_cell (map outline_of prims) x y ≡ list_any (λ p. is_in_outline x y (outline_of p)) prims
 in_parts prims x y = list_any-map (is_in_outline x y) outline_of prims
 
 pub row_more : (prims : List Primitive) (i : ℕ) (part : Primitive) (x y : ℤ) (old new : List Stretch) → i < length prims → part ≡ get_or prims i part → is_in_stretches old x ≡ is_cell (map outline_of (take i prims)) x y

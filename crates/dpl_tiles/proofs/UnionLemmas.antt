@@ -23,7 +23,7 @@ cell_or_not : (b : Bool) → IsTrue b ⊎ ¬ IsTrue b
 cell_or_not true = inl (is_true refl)
 cell_or_not false = inr (λ t. false_is t)
 
-no_cell : {b : Bool} → b ≡ false → ¬ IsTrue b
+pub no_cell : {b : Bool} → b ≡ false → ¬ IsTrue b
 no_cell e t = false_is (rw e at t)
 
 all_or_not : (p : ℤ → Bool) (a : ℤ) (n : ℕ) → ((x : ℤ) → IsWithin a (a +ℤ pos n) x → IsTrue (p x)) ⊎ ¬ ((x : ℤ) → IsWithin a (a +ℤ pos n) x → IsTrue (p x))
@@ -44,7 +44,7 @@ all_or_not p a (suc n) = elim (all_or_not p a n) [
   at_last : (a : ℤ) (n : ℕ) (x : ℤ) → IsWithin a (a +ℤ pos (suc n)) x → (a +ℤ pos n) ≤ℤ x → x ≡ a +ℤ pos n
   at_last a n x w g = let h = w.to in omega signed
 
-run_or_not : (cells : ℤ → ℤ → Bool) (x1 x2 y : ℤ) → x1 <ℤ x2 → IsRun cells x1 x2 y ⊎ ¬ IsRun cells x1 x2 y
+pub run_or_not : (cells : ℤ → ℤ → Bool) (x1 x2 y : ℤ) → x1 <ℤ x2 → IsRun cells x1 x2 y ⊎ ¬ IsRun cells x1 x2 y
 run_or_not cells x1 x2 y long =
     let n = unsigned_abs (x2 -ℤ x1) in
     let e : x1 +ℤ pos n ≡ x2 = omega signed in
@@ -59,7 +59,7 @@ run_or_not cells x1 x2 y long =
       ]
     ]
 
-cell_run : (cells : ℤ → ℤ → Bool) (x y : ℤ) → IsBounded cells → IsTrue (cells x y) → (x1 : ℤ) × (x2 : ℤ) × IsRun cells x1 x2 y × IsWithin x1 x2 x
+pub cell_run : (cells : ℤ → ℤ → Bool) (x y : ℤ) → IsBounded cells → IsTrue (cells x y) → (x1 : ℤ) × (x2 : ℤ) × IsRun cells x1 x2 y × IsWithin x1 x2 x
 cell_run cells x y b t =
     let (x1, x2, a) = around (λ x. IsTrue (cells x y)) (λ x. cell_or_not (cells x y)) (neg_ℤ (pos (2 ^ 30))) (pos (2 ^ 30)) (λ z h. no_cell (b.left z y h)) (λ z h. no_cell (b.right z y h)) x t in
     let f = a.inside.from in let g = a.inside.to in

@@ -1,9 +1,10 @@
 -- Two lists that are related item by item.
-use Rattle.std.proofs.Common.{arith, ◌≡◌, ℕ, zero, suc, ◌+◌, ◌<◌, ◌≤◌, List, length, get_or, take, ◌∷◌, [], ◌++◌}
+use Rattle.std.proofs.Common.{arith, ◌≡◌, ◌∙◌, refl, ℕ, zero, suc, ◌+◌, ◌<◌, ◌≤◌, Bool, true, false, List, length, get_or, take, filter, ◌∷◌, [], ◌++◌, append-nil}
 use Rattle.std.specs.List.{AllZip}
 use Rattle.std.proofs.lemmas.List.{take_more, take_all}
+use Rattle.std.proofs.lemmas.List.Elements.{filter_more}
 
-zip_push : {A B : Type 0} (R : A → B → Type 0) (xs : List A) (ys : List B) (x : A) (y : B) → AllZip R xs ys → R x y → AllZip R (xs ++ x ∷ []) (ys ++ y ∷ [])
+pub zip_push : {A B : Type 0} (R : A → B → Type 0) (xs : List A) (ys : List B) (x : A) (y : B) → AllZip R xs ys → R x y → AllZip R (xs ++ x ∷ []) (ys ++ y ∷ [])
 zip_push R [] [] x y a r = (r, tt)
 zip_push R [] (y' ∷ ys) x y a r = elim a [ ]
 zip_push R (x' ∷ xs) [] x y a r = elim a [ ]
@@ -14,6 +15,20 @@ zip_more R xs i ys new x y within is a e r = rw (take_more xs i x within, ← is
 
 pub zip_all : {A B : Type 0} (R : A → B → Type 0) (xs : List A) (i : ℕ) (ys : List B) → length xs ≤ i → AllZip R (take i xs) ys → AllZip R xs ys
 zip_all R xs i ys whole a = rw (take_all i xs whole) at a
+
+-- the items that pass a test, one after the other
+pub zip_kept : {A B : Type 0} (R : A → B → Type 0) (p : A → Bool) (xs : List A) (i : ℕ) (ys new : List B) (x : A) (y : B) → i < length xs → x ≡ get_or xs i x → AllZip R (filter p (take i xs)) ys → p x ≡ true → new ≡ ys ++ y ∷ [] → R x y → AllZip R (filter p (take (i + 1) xs)) new
+zip_kept R p xs i ys new x y within is a t e r =
+    let g : filter p (take (i + 1) xs) ≡ filter p (take i xs) ++ x ∷ [] = filter_more p xs i x within ∙ rw (← is, t) refl in
+    rw (g, e) (zip_push R (filter p (take i xs)) ys x y a r)
+
+pub zip_left_out : {A B : Type 0} (R : A → B → Type 0) (p : A → Bool) (xs : List A) (i : ℕ) (ys : List B) (x : A) → i < length xs → x ≡ get_or xs i x → AllZip R (filter p (take i xs)) ys → p x ≡ false → AllZip R (filter p (take (i + 1) xs)) ys
+zip_left_out R p xs i ys x within is a t =
+    let g : filter p (take (i + 1) xs) ≡ filter p (take i xs) ++ [] = filter_more p xs i x within ∙ rw (← is, t) refl in
+    rw (g, append-nil) a
+
+pub zip_all_kept : {A B : Type 0} (R : A → B → Type 0) (p : A → Bool) (xs : List A) (i : ℕ) (ys : List B) → length xs ≤ i → AllZip R (filter p (take i xs)) ys → AllZip R (filter p xs) ys
+zip_all_kept R p xs i ys whole a = rw (take_all i xs whole) at a
 
 pub zip_length : {A B : Type 0} (R : A → B → Type 0) (xs : List A) (ys : List B) → AllZip R xs ys → length xs ≡ length ys
 zip_length R [] [] a = omega arith

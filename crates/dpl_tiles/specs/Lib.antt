@@ -3,4 +3,8 @@ pub mod Union
 pub mod Stretches
 pub mod Sides
 pub mod Bands
+pub mod Reaches
 pub mod Stacks
+pub mod Windows
+pub mod Sweeps
+pub mod Corners

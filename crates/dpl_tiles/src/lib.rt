@@ -5,14 +5,16 @@
 //! `tiles_share_out` is the law that each cell of a layout lies in exactly one of its tiles.
 #![tactic(auto)]
 
-mod band;
+mod corners;
 mod crossing;
 mod error;
 mod laws;
 mod ordinates;
+mod reaches;
 mod rows;
 mod stacking;
 mod stretch;
+mod sweeping;
 mod tiling;
 
 pub use error::TileError;

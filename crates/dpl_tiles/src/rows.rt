@@ -1,28 +1,21 @@
-ghost use Rattle.std.specs.Prelude.{◌≡◌, ℤ, ◌≤ℤ◌, IfOk, OnOk, ◌||◌, All, map};
+ghost use Rattle.std.specs.Prelude.{◌≡◌, ℤ, ◌≤ℤ◌, IfOk, OnOk, ◌||◌, All};
 ghost use Rattle.dpl_cell.specs.Places.{corners_of};
 ghost use Rattle.dpl_cell.specs.Outlines.{outline_of};
-ghost use Rattle.dpl_cell.specs.Layers.{is_cell, is_in_outline, is_in_box, is_within};
-ghost use Rattle.dpl_tiles.specs.Stretches.{IsRow, AreSeparate, is_in_stretches, Ascends, AddsPlaces};
+ghost use Rattle.dpl_cell.specs.Layers.{is_in_outline, is_in_box, is_within};
+ghost use Rattle.dpl_tiles.specs.Stretches.{AreSeparate, is_in_stretches, Ascends, AddsPlaces};
 
 use crate::crossing::push_polygon;
 use crate::stretch::Stretch;
 use dpl_cell::{Prim, Rect};
 use std::alloc::{AllocError, Global};
 
-/// The cells of one row of a layer.
-pub fn row(alloc: Global, prims: &[Prim], y: i64) -> Result<Vec<Stretch>, AllocError>
-    ensures { IfOk result (λ v. IsRow (is_cell (map outline_of prims.now)) y v.items) }
-{
-    let mut parts = Vec::new(alloc);
-    for prim in prims {
-        push_prim(alloc, &mut parts, prim, y)?;
-    }
-    sort(&mut parts);
-    merged(alloc, parts.as_slice())
-}
-
 /// Adds the cells of a primitive in one row.
-fn push_prim(alloc: Global, parts: &mut Vec<Stretch>, prim: &Prim, y: i64) -> Result<(), AllocError>
+pub fn push_prim(
+    alloc: Global,
+    parts: &mut Vec<Stretch>,
+    prim: &Prim,
+    y: i64,
+) -> Result<(), AllocError>
     ensures { OnOk result (AddsPlaces (λ x. is_in_outline x y (outline_of prim.now)) parts.old.items parts.new.items) }
 {
     match prim {
@@ -40,7 +33,7 @@ fn push_box(parts: &mut Vec<Stretch>, r: &Rect, y: i64) -> Result<(), AllocError
     Ok(())
 }
 
-fn sort(parts: &mut Vec<Stretch>)
+pub fn sort(parts: &mut Vec<Stretch>)
     ensures same { (x : ℤ) → is_in_stretches parts.new.items x ≡ is_in_stretches parts.old.items x }
     ensures sorted { Ascends (λ s. s.from) parts.new.items }
 {
@@ -48,7 +41,7 @@ fn sort(parts: &mut Vec<Stretch>)
 }
 
 /// The same places with a place between neighbours.
-fn merged(alloc: Global, parts: &[Stretch]) -> Result<Vec<Stretch>, AllocError>
+pub fn merged(alloc: Global, parts: &[Stretch]) -> Result<Vec<Stretch>, AllocError>
     requires { Ascends (λ s. s.from) parts.now }
     ensures separate { IfOk result (λ v. AreSeparate v.items) }
     ensures same { IfOk result (λ v. (x : ℤ) → is_in_stretches v.items x ≡ is_in_stretches parts.now x) }

@@ -1,4 +1,4 @@
-ghost use Rattle.std.specs.Prelude.{◌≡◌, ◌⊎◌, ◌≤◌, All, AllPairs, IsPermutation, IfOk, length, map};
+ghost use Rattle.std.specs.Prelude.{◌≡◌, ◌⊎◌, ◌≤◌, ◌-◌, ◌^◌, ◌≤ℤ◌, pos, slice_index_or, All, AllPairs, IsPermutation, IfOk, length, map};
 ghost use Rattle.dpl_cell.specs.Places.{corners_of};
 ghost use Rattle.dpl_cell.specs.Ranges.{IsInRange};
 ghost use Rattle.dpl_cell.specs.Outlines.{outline_of};
@@ -8,10 +8,14 @@ ghost use Rattle.dpl_tiles.specs.Counts.{HasMoreTiles};
 ghost use Rattle.dpl_tiles.specs.Stretches.{Ascends};
 ghost use Rattle.dpl_tiles.specs.Bands.{HasOrdinates};
 ghost use Rattle.dpl_tiles.specs.Stacks.{AreAllTiles, IsNotAfter};
+ghost use Rattle.dpl_tiles.specs.Corners.{AreCorners};
+ghost use Rattle.dpl_tiles.specs.Reaches.{IsReached};
 
+use crate::corners::{Corner, corners_of};
 use crate::error::TileError;
 use crate::ordinates::ordinates;
-use crate::stacking::{push_ended, stack_band};
+use crate::reaches::{Reach, reaches_of};
+use crate::sweeping::{close_all, step};
 use dpl_cell::{Layout, Prim, Rect};
 use std::alloc::Global;
 
@@ -31,13 +35,29 @@ pub fn tiles(alloc: Global, layout: &Layout) -> Result<Vec<Rect>, TileError>
 {
     let prims = layout.prims.as_slice();
     let rows = ordinates(alloc, prims)?;
-    let mut tiles = unsorted(alloc, prims, rows.as_slice())?;
+    let reaches = reaches_of(alloc, prims)?;
+    let corners = corners_of(alloc, prims)?;
+    let mut tiles = unsorted(
+        alloc,
+        prims,
+        reaches.as_slice(),
+        corners.as_slice(),
+        rows.as_slice(),
+    )?;
     sort(&mut tiles);
     Ok(tiles)
 }
 
 /// The tiles in the order in which they end, band by band.
-fn unsorted(alloc: Global, prims: &[Prim], rows: &[i64]) -> Result<Vec<Rect>, TileError>
+fn unsorted(
+    alloc: Global,
+    prims: &[Prim],
+    reaches: &[Reach],
+    corners: &[Corner],
+    rows: &[i64],
+) -> Result<Vec<Rect>, TileError>
+    requires reached { IsReached prims.now reaches.now }
+    requires cornered { AreCorners prims.now corners.now }
     requires sorted { Ascends (λ z. z) rows.now }
     requires range { All IsInRange rows.now }
     requires all { HasOrdinates rows.now prims.now }
@@ -46,20 +66,42 @@ fn unsorted(alloc: Global, prims: &[Prim], rows: &[i64]) -> Result<Vec<Rect>, Ti
     ensures many { result ≡ Err TileError.TooMany → HasMoreTiles (is_cell (map outline_of prims.now)) 100000 }
 {
     let mut ended = Vec::new(alloc);
-    let mut growing = Vec::new(alloc);
+    let mut held = Vec::new(alloc);
     for k in 1..rows.len() {
         if rows[k - 1] < rows[k] {
-            stack_band(alloc, &mut ended, &mut growing, prims, rows[k - 1], rows[k])?;
+            step(
+                alloc,
+                &mut ended,
+                &mut held,
+                prims,
+                reaches,
+                corners,
+                rows[k - 1],
+                rows[k],
+            )?;
             if ended.len() > MOST_TILES {
                 return Err(TileError::TooMany);
             }
         }
     }
-    push_ended(&mut ended, growing.as_slice(), &[])?;
+    let top = top_of(rows);
+    close_all(&mut ended, held.as_slice(), top)?;
     if ended.len() > MOST_TILES {
         return Err(TileError::TooMany);
     }
     Ok(ended)
+}
+
+/// The last of the rows; where there is none, any row.
+fn top_of(rows: &[i64]) -> i64
+    requires { All IsInRange rows.now }
+    ensures value { result ≡ slice_index_or rows.now (length rows.now - 1) (pos 0) }
+    ensures range { result ≤ℤ pos (2 ^ 30) }
+{
+    match rows.last() {
+        None => 0,
+        Some(top) => *top,
+    }
 }
 
 fn sort(tiles: &mut Vec<Rect>)

@@ -1,18 +1,22 @@
-use Rattle.std.proofs.Common.{rules, arith, ◌<◌, length, map}
+use Rattle.std.proofs.Common.{sym}
 use Rattle.std.proofs.lemmas.List.{length-map}
 use Rattle.dpl_cell.specs.Places.{corners_of}
-use Rattle.dpl_near.proofs.JoinLemmas.{joins_skip, joins_more, join_touch, join_apart, corners_at, not_by_test}
+use Rattle.dpl_near.proofs.JoinLemmas.{among_begin, among_at, among_more, among_end}
 use Rattle.dpl_near.proofs.joining.push_joins.Goals as goal
-use Rattle.dpl_near.proofs.joining.push_joins.Goals.{then-touch+in_ok-push, else-touch}
+
+pub loop-j-init : goal.loop-j-init
+loop-j-init c = among_begin _ _ _ _ c.requires.before
+
+pub push_join-requires-clause-other : goal.push_join-requires-clause-other
+push_join-requires-clause-other c =
+    let n = c.requires.found.each c.loop-j.j-index 0 c.loop-j-test.true in let w = n.within in
+    rw (sym (length-map c.args.rects.now corners_of)) w
+
+pub push_join-requires-clause-before : goal.push_join-requires-clause-before
+push_join-requires-clause-before c = among_at _ _ _ _ _ c.loop-j-test.true c.requires.found c.loop-j.invariant
 
 pub loop-j-preserved : goal.loop-j-preserved
-loop-j-preserved c =
-    let first = corners_at c.args.rects.now c.args.i c.index-rects-i.result c.requires.within c.index-rects-i.is in
-    let second = corners_at c.args.rects.now c.loop-j.j c.index-rects-j.result c.loop-j-test.true c.index-rects-j.is in
-    let within : c.loop-j.j < length (map corners_of c.args.rects.now) = rw (length-map c.args.rects.now corners_of) c.loop-j-test.true in
-    elim c.if-touch.branch [
-      | then-touch+in_ok-push w ↦ rw w.joins-is (joins_more _ _ _ _ _ w.in_ok-push.ensures.items
-          (join_touch _ c.args.i c.loop-j.j _ _ c.requires.apart (omega arith) within first second (c.touch.ensures.0 (search rules))) c.loop-j.invariant)
-      | else-touch w ↦ rw w.joins-is (joins_skip _ _ _ _
-          (join_apart _ c.args.i c.loop-j.j _ _ (omega arith) within first second (not_by_test _ w.if-touch.false c.touch.ensures.1)) c.loop-j.invariant)
-    ]
+loop-j-preserved c = among_more _ _ _ _ c.loop-j.joins.items _ c.loop-j-test.true c.requires.found c.in_ok-push_join.ensures
+
+pub returns : goal.returns
+returns c = among_end _ _ _ c.loop-j.j-index _ c.loop-j-test.false c.requires.found c.loop-j.invariant

@@ -1,14 +1,18 @@
-use Rattle.std.proofs.Common.{rules, get_or, ℕ, ◌≡◌}
+use Rattle.std.proofs.Common.{arith, get_or, ℕ, ◌≡◌}
 use Rattle.std.proofs.lemmas.List.{get_or_default}
-use Rattle.dpl_near.proofs.RootLemmas.{rooted_more, rooted_all, move_at}
+use Rattle.dpl_near.proofs.TopLemmas.{united_more, united_all}
 use Rattle.dpl_near.proofs.rooting.unite.Goals as goal
 
 pub loop-join-preserved : goal.loop-join-preserved
 loop-join-preserved c =
     let p : ℕ × ℕ = get_or c.args.joins.now c.loop-join.join-index (0, 0) in
     let is : p ≡ get_or c.args.joins.now c.loop-join.join-index p = get_or_default c.args.joins.now c.loop-join.join-index (0, 0) p c.loop-join-test.true in
-    rooted_more _ _ _ _ _ p c.max.result c.min.result c.requires.within c.loop-join-test.true is c.loop-join.invariant
-    (move_at _ _ c.loop-join.join-index _ _ p _ _ c.requires.within c.loop-join-test.true is c.loop-join.auto.roots (search rules) c.max.ensures c.min.ensures c.redirect.ensures)
+    let la = c.top-a.ensures.inside in let lb = c.top-b.ensures.inside in
+    let na = c.top-a.auto.ups in let nb = c.top-b.auto.ups in
+    united_more _ _ _ c.loop-join.ups c.top-b.new.ups p c.top-a.result c.top-b.result _ _ c.requires.within c.loop-join-test.true is c.max.ensures c.min.ensures
+    (omega arith) (omega arith) (c.top-b.ensures.ends c.top-a.result c.top-a.ensures.end) c.top-b.ensures.end
+    (λ tops t. let u = c.top-a.ensures.same tops t in (c.top-b.ensures.same tops u, c.top-a.ensures.top tops t, c.top-b.ensures.top tops u))
+    c.loop-join.invariant
 
 pub returns : goal.returns
-returns c = rooted_all _ _ c.loop-join.join-index _ c.loop-join-test.false c.loop-join.invariant
+returns c = united_all _ _ c.loop-join.join-index _ c.loop-join-test.false c.loop-join.invariant

@@ -1,24 +1,20 @@
-use Rattle.std.proofs.Common.{sym, rules, length, ◌<◌}
-use Rattle.std.proofs.lemmas.List.{get_or_read}
-use Rattle.dpl_ring.proofs.RingLemmas.{spliced, swap_splits, swap_merges, written_swap}
+use Rattle.std.proofs.Common.{◌≡◌, ◌<◌, arith, length, sym, ap, subst, ◌∙◌}
+use Rattle.dpl_ring.specs.Rings.{IsKept, nexts_in, prevs_in}
+use Rattle.dpl_ring.proofs.RingLemmas.{swap_splits, swap_merges}
 use Rattle.dpl_ring.proofs.ring.Ring.splice.Goals as goal
-
-pub invariant_of-self : goal.invariant_of-self
-invariant_of-self c =
-    let hi : c.args.i < length c.self.inside.nexts.items = search rules in
-    let hj : c.args.j < length c.self.inside.nexts.items = search rules in
-    spliced _ _ _ _ _ _ c.self.invariant hi hj (sym (get_or_read _ _ _ hi c.index-after_i.ensures 0)) (sym (get_or_read _ _ _ hj c.index-after_j.ensures 0))
 
 pub returns-clause-splits : goal.returns-clause-splits
 returns-clause-splits c =
-    let hi : c.args.i < length c.self.inside.nexts.items = search rules in
-    let hj : c.args.j < length c.self.inside.nexts.items = search rules in
-    let e = written_swap _ _ _ _ _ hi hj (sym (get_or_read _ _ _ hi c.index-after_i.ensures 0)) (sym (get_or_read _ _ _ hj c.index-after_j.ensures 0)) in
-    rw (← c.self.view_is) (swap_splits _ _ _ _ _ c.self.invariant hi hj e)
+    let kept : IsKept c.in-Some.pairs.0 c.in-Some.pairs.1 = subst (λ o. IsKept (nexts_in o) (prevs_in o)) c.in-Some.is c.self.invariant in
+    let e : c.in-Some.pairs.0 ≡ c.args.self.now = sym (ap nexts_in c.in-Some.is) ∙ c.self.view_is in
+    let hi : c.args.i < length c.in-Some.pairs.0 = omega (arith, ap length e, c.requires.first) in
+    let hj : c.args.j < length c.in-Some.pairs.0 = omega (arith, ap length e, c.requires.second) in
+    rw (← e) (swap_splits _ _ _ _ _ kept hi hj c.exchange.ensures.value)
 
 pub returns-clause-merges : goal.returns-clause-merges
 returns-clause-merges c =
-    let hi : c.args.i < length c.self.inside.nexts.items = search rules in
-    let hj : c.args.j < length c.self.inside.nexts.items = search rules in
-    let e = written_swap _ _ _ _ _ hi hj (sym (get_or_read _ _ _ hi c.index-after_i.ensures 0)) (sym (get_or_read _ _ _ hj c.index-after_j.ensures 0)) in
-    rw (← c.self.view_is) (swap_merges _ _ _ _ _ c.self.invariant hi hj e)
+    let kept : IsKept c.in-Some.pairs.0 c.in-Some.pairs.1 = subst (λ o. IsKept (nexts_in o) (prevs_in o)) c.in-Some.is c.self.invariant in
+    let e : c.in-Some.pairs.0 ≡ c.args.self.now = sym (ap nexts_in c.in-Some.is) ∙ c.self.view_is in
+    let hi : c.args.i < length c.in-Some.pairs.0 = omega (arith, ap length e, c.requires.first) in
+    let hj : c.args.j < length c.in-Some.pairs.0 = omega (arith, ap length e, c.requires.second) in
+    rw (← e) (swap_merges _ _ _ _ _ kept hi hj c.exchange.ensures.value)

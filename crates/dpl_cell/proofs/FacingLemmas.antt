@@ -1,0 +1,32 @@
+-- How two rectangles lie to each other, by the parts that they have in common.
+use Rattle.std.proofs.Common.{arith, ◌≡◌, ◌⊎◌, inl, inr, ℕ, ◌≤◌, ℤ, ◌<ℤ◌, ◌≤ℤ◌, true, false}
+use Rattle.std.proofs.lemmas.Int.{ints}
+use Rattle.std.specs.Int.{int_max, int_min}
+use Rattle.std.specs.Int.Signed.{lt_z}
+use Rattle.dpl_cell.specs.Cells.{IsWithin}
+use Rattle.dpl_cell.specs.Gaps.{between, IsBetween}
+use Rattle.dpl_cell.specs.Facing.{IsCommon, IsAhead, IsDistance}
+use Rattle.dpl_cell.proofs.SeamLemmas.{signed}
+
+pub common : (a1 a2 b1 b2 from to : ℤ) → from ≡ int_max a1 b1 → to ≡ int_min a2 b2 → from <ℤ to → IsCommon from to a1 a2 b1 b2
+common a1 a2 b1 b2 from to e f h = record { some = h; each = λ k. ((λ w. (search signed, search signed)), (λ w. let u = w.0 in let v = w.1 in search signed)) }
+
+pub ahead : (a1 a2 b1 b2 : ℤ) → int_min a2 b2 ≤ℤ int_max a1 b1 → a1 <ℤ a2 → b1 <ℤ b2 → a1 ≤ℤ b1 → IsAhead a1 a2 b1 b2
+ahead a1 a2 b1 b2 h s t l x y w v = let p = w.to in let q = v.from in let r = w.from in omega signed
+
+pub behind : (a1 a2 b1 b2 : ℤ) → int_min a2 b2 ≤ℤ int_max a1 b1 → a1 <ℤ a2 → b1 <ℤ b2 → b1 <ℤ a1 → IsAhead b1 b2 a1 a2
+behind a1 a2 b1 b2 h s t l x y w v = let p = w.to in let q = v.from in let r = w.from in omega signed
+
+pub distance : (a1 a2 b1 b2 : ℤ) (n : ℕ) → int_min a2 b2 ≤ℤ int_max a1 b1 → ((x y : ℤ) → IsWithin a1 a2 x → IsWithin b1 b2 y → n ≤ between x y) → IsBetween a1 a2 b1 b2 n → IsDistance a1 a2 b1 b2 n
+distance a1 a2 b1 b2 n h l t = record { none = λ k w v. omega signed; least = l; attained = t }
+
+pub other_side : (l r l' r' : ℤ) → (r ≤ℤ l) ⊎ (r' ≤ℤ l') → l <ℤ r → r' ≤ℤ l'
+other_side l r l' r' (inl h) g = absurd (omega signed)
+other_side l r l' r' (inr h) g = h
+
+-- what the test of two numbers says
+pub test_lt : (x y : ℤ) → lt_z x y ≡ true → x <ℤ y
+test_lt x y e = grind (arith, ints)
+
+pub test_le : (x y : ℤ) → lt_z x y ≡ false → y ≤ℤ x
+test_le x y e = grind (arith, ints)

@@ -1,0 +1,10 @@
+use Rattle.std.proofs.Common.{rules, w64, SFits}
+use Rattle.std.proofs.lemmas.Int.{to_z-of_z}
+use Rattle.dpl_tiles.proofs.CornerLemmas.{sides_added}
+use Rattle.dpl_tiles.proofs.corners.push_sides.Goals as goal
+
+pub returns : goal.returns
+returns c =
+    let f : SFits w64 c.args.r.now.y1 = search rules in
+    let g : SFits w64 c.args.r.now.y2 = search rules in
+    sides_added c.args.r.now c.args.columns.now.left c.args.columns.now.right _ c.push.new.self.items _ c.corner_at.result c.corner_at-2.result c.requires c.in_ok-push.ensures.items c.in_ok-push-2.ensures.items (simp to_z-of_z at c.corner_at.ensures) (simp to_z-of_z at c.corner_at-2.ensures)

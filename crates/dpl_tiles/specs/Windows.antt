@@ -1,0 +1,70 @@
+-- A row that differs from the row below it in some columns alone.
+use Rattle.std.specs.Prelude.{◌≡◌, ◌⊎◌, ℕ, ◌<◌, ◌≤◌, ℤ, pos, ◌-ℤ◌, ◌<ℤ◌, ◌≤ℤ◌, ◌&&◌, ◌++◌, List, Bool, All, Any, AllPairs, int_le, length, slice_index_or}
+use Rattle.std.specs.List.{AllZip}
+use Rattle.dpl_cell.specs.declared.rect.Rect.{Rect}
+use Rattle.dpl_cell.specs.declared.layout.Primitive.{Primitive}
+use Rattle.dpl_cell.specs.declared.layout.Primitive.TheVariants as prim
+use Rattle.dpl_cell.specs.Tiles.{IsRun}
+use Rattle.dpl_tiles.specs.declared.stretch.Stretch.{Stretch}
+use Rattle.dpl_tiles.specs.Bands.{HasColumns, IsLeftOf}
+
+-- the column lies outside the columns from d1 to d2, d2 left out
+abbrev pub IsOutside : ℤ → ℤ → ℤ → Type 0
+IsOutside d1 d2 x = (x <ℤ d1) ⊎ (d2 ≤ℤ x)
+
+-- row z has the cells of the row below it outside these columns
+abbrev pub IsChange : (ℤ → ℤ → Bool) → ℤ → ℤ → ℤ → Type 0
+IsChange cells z d1 d2 = (x : ℤ) → IsOutside d1 d2 x → cells x (z -ℤ pos 1) ≡ cells x z
+
+-- columns from x1 to x2 neither meet the columns from d1 to d2 nor end or begin right beside them
+abbrev pub IsFar : ℤ → ℤ → ℤ → ℤ → Type 0
+IsFar d1 d2 x1 x2 = (x2 <ℤ d1) ⊎ (d2 <ℤ x1)
+
+-- the columns from a to b hold those from d1 to d2 and those of all stacks that are not far from them
+pub record IsWindow (growing : List Rect) (d1 d2 a b : ℤ) : Type 0 where
+  pub left : a ≤ℤ d1
+  pub right : d2 ≤ℤ b
+  pub holds : All (λ r. IsFar d1 d2 r.x1 r.x2 ⊎ ((a ≤ℤ r.x1) × (r.x2 ≤ℤ b))) growing
+
+-- the runs of row z that are not far from the columns that change, from the left
+pub record AreNearRuns (cells : ℤ → ℤ → Bool) (z d1 d2 : ℤ) (runs : List Rect) : Type 0 where
+  pub each : All (λ p. IsRun cells p.x1 p.x2 z × (¬ IsFar d1 d2 p.x1 p.x2)) runs
+  pub all : (x1 x2 : ℤ) → IsRun cells x1 x2 z → ¬ IsFar d1 d2 x1 x2 → Any (HasColumns x1 x2) runs
+  pub ordered : AllPairs IsLeftOf runs
+
+-- the stack of a run: the one that goes on with it, or a new one that begins at row z
+pub record IsContinued (near : List Rect) (z : ℤ) (run r : Rect) : Type 0 where
+  pub columns : HasColumns run.x1 run.x2 r
+  pub bottom : Any (λ o. HasColumns run.x1 run.x2 o × (r.y1 ≡ o.y1)) near ⊎ ((¬ Any (HasColumns run.x1 run.x2) near) × (r.y1 ≡ z))
+
+-- the first stacks lie left of the columns, those from place `to` on right of them, and the others are near
+pub record IsParted (held : List Rect) (d1 d2 : ℤ) (from to : ℕ) : Type 0 where
+  pub some : d1 ≤ℤ d2
+  pub order : from ≤ to
+  pub from_within : from ≤ length held
+  pub to_within : to ≤ length held
+  pub left : (k : ℕ) (d : Rect) → k < from → (slice_index_or held k d).x2 <ℤ d1
+  pub not_left : (k : ℕ) (d : Rect) → from ≤ k → k < length held → d1 ≤ℤ (slice_index_or held k d).x2
+  pub not_right : (k : ℕ) (d : Rect) → k < to → (slice_index_or held k d).x1 ≤ℤ d2
+  pub right : (k : ℕ) (d : Rect) → to ≤ k → k < length held → d2 <ℤ (slice_index_or held k d).x1
+
+-- the stack, closed at row z
+pub record IsClosed (z : ℤ) (o r : Rect) : Type 0 where
+  pub columns : HasColumns o.x1 o.x2 r
+  pub bottom : r.y1 ≡ o.y1
+  pub top : r.y2 ≡ z
+
+-- the list grew by these stacks, closed at row z
+pub record AddsClosed (z : ℤ) (ending old new : List Rect) : Type 0 where
+  pub closed : List Rect
+  pub each : AllZip (IsClosed z) ending closed
+  pub added : new ≡ old ++ closed
+
+-- the stretch is not far from the columns from d1 to d2
+abbrev pub is_near : ℤ → ℤ → Stretch → Bool
+is_near d1 d2 s = int_le d1 s.to && int_le s.from d2
+
+-- some corner lies at the ordinate
+abbrev pub HasCornerAt : ℤ → Primitive → Type 0
+HasCornerAt z (prim.Box r) = (r.y1 ≡ z) ⊎ (r.y2 ≡ z)
+HasCornerAt z (prim.Poly points) = Any (λ p. p.y ≡ z) points

@@ -1,0 +1,161 @@
+// The corners of primitives from the lowest to the highest, each with the columns of its primitive.
+ghost use Rattle.std.specs.Prelude.{◌≡◌, ℤ, ◌≤ℤ◌, ◌<ℤ◌, ℕ, ◌<◌, ◌≤◌, length, slice_index_or, All, IfOk, OnOk};
+ghost use Rattle.dpl_cell.specs.declared.layout.Primitive.TheVariants as prim;
+ghost use Rattle.dpl_tiles.specs.Reaches.{SpansColumns};
+ghost use Rattle.dpl_tiles.specs.Stretches.{Ascends};
+ghost use Rattle.dpl_tiles.specs.Corners.{AddsCorners, AreBetween, AreCorners, HasCornersOf, IsCornerOf};
+
+use crate::reaches::{Columns, Places, greater, lesser, reach_of};
+use dpl_cell::{Point, Prim, Rect};
+use std::alloc::{AllocError, Global};
+
+/// The ordinate of a corner, and the columns of its primitive.
+#[derive(Clone, Copy, Debug)]
+pub struct Corner {
+    pub y: i64,
+    pub left: i64,
+    pub right: i64,
+}
+
+/// The corners of all primitives, the lowest first.
+pub fn corners_of(alloc: Global, prims: &[Prim]) -> Result<Vec<Corner>, AllocError>
+    ensures { IfOk result (λ v. AreCorners prims.now v.items) }
+{
+    let mut corners = unsorted(alloc, prims)?;
+    corners.sort_unstable_by_key(|c| c.y);
+    Ok(corners)
+}
+
+fn unsorted(alloc: Global, prims: &[Prim]) -> Result<Vec<Corner>, AllocError>
+    ensures { IfOk result (λ v. All (HasCornersOf v.items) prims.now) }
+{
+    let mut corners = Vec::new(alloc);
+    for prim in prims {
+        push_corners(&mut corners, prim)?;
+    }
+    Ok(corners)
+}
+
+fn push_corners(corners: &mut Vec<Corner>, prim: &Prim) -> Result<(), AllocError>
+    ensures { OnOk result (AddsCorners prim.now corners.old.items corners.new.items) }
+{
+    let reach = reach_of(prim, 0);
+    let columns = Columns {
+        left: reach.left,
+        right: reach.right,
+    };
+    match prim {
+        Prim::Box(r) => push_sides(corners, r, &columns),
+        Prim::Poly(points) => push_points(corners, points.as_slice(), &columns),
+    }
+}
+
+fn push_sides(corners: &mut Vec<Corner>, r: &Rect, columns: &Columns) -> Result<(), AllocError>
+    requires { SpansColumns columns.now.left columns.now.right (prim.Box r.now) }
+    ensures { OnOk result (AddsCorners (prim.Box r.now) corners.old.items corners.new.items) }
+{
+    corners.push(corner_at(r.y1, columns))?;
+    corners.push(corner_at(r.y2, columns))?;
+    Ok(())
+}
+
+fn push_points(
+    corners: &mut Vec<Corner>,
+    points: &[Point],
+    columns: &Columns,
+) -> Result<(), AllocError>
+    requires { SpansColumns columns.now.left columns.now.right (prim.Poly points.now) }
+    ensures { OnOk result (AddsCorners (prim.Poly points.now) corners.old.items corners.new.items) }
+{
+    for p in points {
+        corners.push(corner_at(p.y, columns))?;
+    }
+    Ok(())
+}
+
+fn corner_at(y: i64, columns: &Columns) -> Corner
+    ensures { IsCornerOf y columns.now.left columns.now.right result }
+{
+    Corner {
+        y,
+        left: columns.left,
+        right: columns.right,
+    }
+}
+
+/// Columns that hold those of all corners at a row.
+pub fn change_at(corners: &[Corner], y: i64) -> Columns
+    requires { Ascends (λ c. c.y) corners.now }
+    ensures spans { All (λ c. c.y ≡ y → (result.left ≤ℤ c.left) × (c.right ≤ℤ result.right)) corners.now }
+    ensures some { result.left ≤ℤ result.right }
+{
+    let places = places_at(corners, y);
+    let columns = columns_of(&corners[places.from..places.to]);
+    not_empty(&columns)
+}
+
+/// The places of the corners at a row.
+fn places_at(corners: &[Corner], y: i64) -> Places
+    requires { Ascends (λ c. c.y) corners.now }
+    ensures { AreBetween corners.now y result.from result.to }
+{
+    let from = first_from(corners, y);
+    let to = first_past(corners, y);
+    Places { from, to }
+}
+
+/// The place of the first corner that is not below a row.
+fn first_from(corners: &[Corner], y: i64) -> usize
+    requires { Ascends (λ c. c.y) corners.now }
+    ensures within { result ≤ length corners.now }
+    ensures below { (k : ℕ) (d : Corner) → k < result → (slice_index_or corners.now k d).y <ℤ y }
+{
+    corners.partition_point(|c| c.y < y)
+}
+
+/// The place of the first corner above a row.
+fn first_past(corners: &[Corner], y: i64) -> usize
+    requires { Ascends (λ c. c.y) corners.now }
+    ensures within { result ≤ length corners.now }
+    ensures above { (k : ℕ) (d : Corner) → result ≤ k → k < length corners.now → y <ℤ (slice_index_or corners.now k d).y }
+{
+    corners.partition_point(|c| c.y <= y)
+}
+
+/// Columns that hold those of all corners.
+fn columns_of(corners: &[Corner]) -> Columns
+    ensures { All (λ c. (result.left ≤ℤ c.left) × (c.right ≤ℤ result.right)) corners.now }
+{
+    let mut columns = Columns {
+        left: i64::MAX,
+        right: i64::MIN,
+    };
+    for corner in corners {
+        columns = with_corner(&columns, corner);
+    }
+    columns
+}
+
+fn with_corner(columns: &Columns, c: &Corner) -> Columns
+    ensures left { result.left ≤ℤ columns.now.left }
+    ensures right { columns.now.right ≤ℤ result.right }
+    ensures own_left { result.left ≤ℤ c.now.left }
+    ensures own_right { c.now.right ≤ℤ result.right }
+{
+    let left = lesser(columns.left, c.left);
+    let right = greater(columns.right, c.right);
+    Columns { left, right }
+}
+
+/// The columns, the greater end not left of the smaller one.
+fn not_empty(columns: &Columns) -> Columns
+    ensures left { result.left ≡ columns.now.left }
+    ensures right { columns.now.right ≤ℤ result.right }
+    ensures some { result.left ≤ℤ result.right }
+{
+    let right = greater(columns.left, columns.right);
+    Columns {
+        left: columns.left,
+        right,
+    }
+}

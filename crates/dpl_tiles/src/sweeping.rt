@@ -1,0 +1,331 @@
+// A sweep that touches only the stacks near the columns that change.
+ghost use Rattle.std.specs.Prelude.{◌≡◌, ◌⊎◌, true, false, ℕ, ℤ, ◌-ℤ◌, ◌<ℤ◌, ◌≤ℤ◌, ◌<◌, ◌≤◌, ◌++◌, ◌^◌, neg_ℤ, pos, length, slice_index_or, All, AllPairs, IfOk, OnOk, IsTrue, map, filter, take, drop, []};
+ghost use Rattle.std.specs.List.{AllZip};
+ghost use Rattle.dpl_cell.specs.declared.rect.Rect.{Rect};
+ghost use Rattle.dpl_cell.specs.Cells.{IsWithin};
+ghost use Rattle.dpl_cell.specs.Outlines.{outline_of};
+ghost use Rattle.dpl_cell.specs.Layers.{is_cell};
+ghost use Rattle.dpl_cell.specs.Tiles.{IsRun};
+ghost use Rattle.dpl_tiles.specs.Bands.{IsLeftOf, IsOver};
+ghost use Rattle.dpl_tiles.specs.Reaches.{IsReached, Misses};
+ghost use Rattle.dpl_tiles.specs.Corners.{AreCorners};
+ghost use Rattle.dpl_tiles.specs.Stacks.{ending};
+ghost use Rattle.dpl_tiles.specs.Stretches.{AreSeparate, is_in_stretches};
+ghost use Rattle.dpl_tiles.specs.Sweeps.{AreSwept};
+ghost use Rattle.dpl_tiles.specs.Windows.{AddsClosed, AreNearRuns, IsClosed, IsContinued, IsFar, IsParted, is_near};
+
+use crate::reaches::{Columns, Places, Reach, greater, lesser};
+use crate::corners::{Corner, change_at};
+use crate::rows::{merged, push_prim, sort};
+use crate::stacking::find;
+use crate::stretch::Stretch;
+use dpl_cell::{Prim, Rect};
+use std::alloc::{AllocError, Global};
+
+/// Goes on by one band: closes the stacks that end at row `low`, and begins those that are new there.
+pub fn step(
+    alloc: Global,
+    ended: &mut Vec<Rect>,
+    held: &mut Vec<Rect>,
+    prims: &[Prim],
+    reaches: &[Reach],
+    corners: &[Corner],
+    low: i64,
+    high: i64,
+) -> Result<(), AllocError>
+    requires reached { IsReached prims.now reaches.now }
+    requires cornered { AreCorners prims.now corners.now }
+    requires high { low <ℤ high }
+    requires below { neg_ℤ (pos (2 ^ 30)) ≤ℤ low }
+    requires above { high ≤ℤ pos (2 ^ 30) }
+    requires swept { AreSwept (is_cell (map outline_of prims.now)) low ended.old.items held.old.items }
+    requires alike { (x y : ℤ) → IsWithin low high y → is_cell (map outline_of prims.now) x low ≡ is_cell (map outline_of prims.now) x y }
+    ensures { OnOk result (AreSwept (is_cell (map outline_of prims.now)) high ended.new.items held.new.items) }
+{
+    *held = stepped(alloc, ended, held.as_slice(), prims, reaches, corners, low, high)?;
+    Ok(())
+}
+
+/// The stacks that reach row `high`; those that end at row `low` are closed.
+fn stepped(
+    alloc: Global,
+    ended: &mut Vec<Rect>,
+    held: &[Rect],
+    prims: &[Prim],
+    reaches: &[Reach],
+    corners: &[Corner],
+    low: i64,
+    high: i64,
+) -> Result<Vec<Rect>, AllocError>
+    requires reached { IsReached prims.now reaches.now }
+    requires cornered { AreCorners prims.now corners.now }
+    requires high { low <ℤ high }
+    requires below { neg_ℤ (pos (2 ^ 30)) ≤ℤ low }
+    requires above { high ≤ℤ pos (2 ^ 30) }
+    requires swept { AreSwept (is_cell (map outline_of prims.now)) low ended.old.items held.now }
+    requires alike { (x y : ℤ) → IsWithin low high y → is_cell (map outline_of prims.now) x low ≡ is_cell (map outline_of prims.now) x y }
+    ensures { IfOk result (λ v. AreSwept (is_cell (map outline_of prims.now)) high ended.new.items v.items) }
+{
+    let change = change_at(corners, low);
+    let places = places_of(held, &change);
+    let near = &held[places.from..places.to];
+    let window = window_of(near, &change);
+    let runs = near_runs(alloc, prims, reaches, &change, &window, low, high)?;
+    push_closed(ended, near, runs.as_slice(), low)?;
+    let stacks = all_continued(alloc, near, runs.as_slice())?;
+    let next = put_between(alloc, held, &places, stacks.as_slice())?;
+    Ok(next)
+}
+
+/// The places of the stacks near the columns that change.
+fn places_of(held: &[Rect], change: &Columns) -> Places
+    requires ordered { AllPairs IsLeftOf held.now }
+    requires some { change.now.left ≤ℤ change.now.right }
+    ensures { IsParted held.now change.now.left change.now.right result.from result.to }
+{
+    let from = first_not_left(held, change.left);
+    let to = first_right(held, change.right);
+    Places { from, to }
+}
+
+/// The stacks of all runs.
+fn all_continued(alloc: Global, near: &[Rect], runs: &[Rect]) -> Result<Vec<Rect>, AllocError>
+    requires { AllPairs IsLeftOf near.now }
+    ensures { IfOk result (λ v. AllZip (λ run r. IsContinued near.now run.y1 run r) runs.now v.items) }
+{
+    let mut stacks = Vec::new(alloc);
+    for run in runs {
+        stacks.push(continued(near, run))?;
+    }
+    Ok(stacks)
+}
+
+/// The list with the rectangles of some places replaced.
+fn put_between(
+    alloc: Global,
+    held: &[Rect],
+    places: &Places,
+    stacks: &[Rect],
+) -> Result<Vec<Rect>, AllocError>
+    requires from { places.now.from ≤ length held.now }
+    requires to { places.now.to ≤ length held.now }
+    ensures { IfOk result (λ v. v.items ≡ take places.now.from held.now ++ (stacks.now ++ drop places.now.to held.now)) }
+{
+    let mut next = Vec::new(alloc);
+    next.extend_from_slice(&held[..places.from])?;
+    next.extend_from_slice(stacks)?;
+    next.extend_from_slice(&held[places.to..])?;
+    Ok(next)
+}
+
+/// The place of the first stack that does not end left of a column.
+fn first_not_left(held: &[Rect], column: i64) -> usize
+    requires { AllPairs IsLeftOf held.now }
+    ensures within { result ≤ length held.now }
+    ensures left { (k : ℕ) (d : Rect) → k < result → (slice_index_or held.now k d).x2 <ℤ column }
+    ensures others { (k : ℕ) (d : Rect) → result ≤ k → k < length held.now → column ≤ℤ (slice_index_or held.now k d).x2 }
+{
+    held.partition_point(|r| r.x2 < column)
+}
+
+/// The place of the first stack that begins right of a column.
+fn first_right(held: &[Rect], column: i64) -> usize
+    requires { AllPairs IsLeftOf held.now }
+    ensures within { result ≤ length held.now }
+    ensures others { (k : ℕ) (d : Rect) → k < result → (slice_index_or held.now k d).x1 ≤ℤ column }
+    ensures right { (k : ℕ) (d : Rect) → result ≤ k → k < length held.now → column <ℤ (slice_index_or held.now k d).x1 }
+{
+    held.partition_point(|r| r.x1 <= column)
+}
+
+/// Columns that hold those that change and those of the stacks near them.
+fn window_of(near: &[Rect], change: &Columns) -> Columns
+    ensures left { result.left ≤ℤ change.now.left }
+    ensures right { change.now.right ≤ℤ result.right }
+    ensures holds { All (λ r. (result.left ≤ℤ r.x1) × (r.x2 ≤ℤ result.right)) near.now }
+{
+    let mut columns = *change;
+    for r in near {
+        columns = with_stack(&columns, r);
+    }
+    columns
+}
+
+fn with_stack(columns: &Columns, r: &Rect) -> Columns
+    ensures left { result.left ≤ℤ columns.now.left }
+    ensures right { columns.now.right ≤ℤ result.right }
+    ensures own_left { result.left ≤ℤ r.now.x1 }
+    ensures own_right { r.now.x2 ≤ℤ result.right }
+{
+    let left = lesser(columns.left, r.x1);
+    let right = greater(columns.right, r.x2);
+    Columns { left, right }
+}
+
+/// The runs of row `low` that are not far from the columns that change, each in all rows up to `high`.
+fn near_runs(
+    alloc: Global,
+    prims: &[Prim],
+    reaches: &[Reach],
+    change: &Columns,
+    window: &Columns,
+    low: i64,
+    high: i64,
+) -> Result<Vec<Rect>, AllocError>
+    requires reached { IsReached prims.now reaches.now }
+    requires high { low <ℤ high }
+    requires below { neg_ℤ (pos (2 ^ 30)) ≤ℤ low }
+    requires above { high ≤ℤ pos (2 ^ 30) }
+    requires inside { (x1 x2 : ℤ) → IsRun (is_cell (map outline_of prims.now)) x1 x2 low → ¬ IsFar change.now.left change.now.right x1 x2 → (window.now.left ≤ℤ x1) × (x2 ≤ℤ window.now.right) }
+    ensures runs { IfOk result (λ v. AreNearRuns (is_cell (map outline_of prims.now)) low change.now.left change.now.right v.items) }
+    ensures bottom { IfOk result (λ v. All (λ r. r.y1 ≡ low) v.items) }
+{
+    let mut parts = parts_within(alloc, prims, reaches, window, low)?;
+    sort(&mut parts);
+    let stretches = merged(alloc, parts.as_slice())?;
+    let runs = raised_near(alloc, stretches.as_slice(), change, low, high)?;
+    Ok(runs)
+}
+
+/// The stretches that are not far from some columns, each in all rows from `low` to `high`.
+fn raised_near(
+    alloc: Global,
+    stretches: &[Stretch],
+    change: &Columns,
+    low: i64,
+    high: i64,
+) -> Result<Vec<Rect>, AllocError>
+    requires high { low <ℤ high }
+    requires below { neg_ℤ (pos (2 ^ 30)) ≤ℤ low }
+    requires above { high ≤ℤ pos (2 ^ 30) }
+    ensures { IfOk result (λ v. AllZip (IsOver low high) (filter (is_near change.now.left change.now.right) stretches.now) v.items) }
+{
+    let mut runs = Vec::new(alloc);
+    for s in stretches {
+        if is_near_to(s, change) {
+            runs.push(piece_over(s, low, high))?;
+        }
+    }
+    Ok(runs)
+}
+
+/// A stretch in all rows from `low` to `high`.
+fn piece_over(s: &Stretch, low: i64, high: i64) -> Rect
+    requires high { low <ℤ high }
+    requires below { neg_ℤ (pos (2 ^ 30)) ≤ℤ low }
+    requires above { high ≤ℤ pos (2 ^ 30) }
+    ensures { IsOver low high s.now result }
+{
+    Rect {
+        x1: s.from,
+        y1: low,
+        x2: s.to,
+        y2: high,
+    }
+}
+
+/// Whether a stretch is not far from some columns.
+fn is_near_to(s: &Stretch, change: &Columns) -> bool
+    ensures { result ≡ is_near change.now.left change.now.right s.now }
+{
+    change.left <= s.to && s.from <= change.right
+}
+
+/// Cells of one row in parts: all of those in the window and right beside it, and perhaps others.
+fn parts_within(
+    alloc: Global,
+    prims: &[Prim],
+    reaches: &[Reach],
+    window: &Columns,
+    y: i64,
+) -> Result<Vec<Stretch>, AllocError>
+    requires { IsReached prims.now reaches.now }
+    ensures sound { IfOk result (λ v. (x : ℤ) → is_in_stretches v.items x ≡ true → is_cell (map outline_of prims.now) x y ≡ true) }
+    ensures full { IfOk result (λ v. (x : ℤ) → (window.now.left -ℤ pos 1) ≤ℤ x → x ≤ℤ window.now.right → is_cell (map outline_of prims.now) x y ≡ true → is_in_stretches v.items x ≡ true) }
+{
+    let mut parts = Vec::new(alloc);
+    let mut at = 0;
+    'reaches: while at < reaches.len() {
+        let reach = reaches[at];
+        if may_hold(&reach, window, y) {
+            push_prim(alloc, &mut parts, &prims[reach.number], y)?;
+            at += 1;
+        } else {
+            at += reach.rest + 1;
+        }
+    }
+    Ok(parts)
+}
+
+/// Whether the primitives of a reach may have cells of a row in a window or right beside it.
+fn may_hold(reach: &Reach, window: &Columns, y: i64) -> bool
+    ensures { result ≡ false → Misses reach.now.low reach.now.high y ⊎ ((reach.now.right <ℤ window.now.left) ⊎ (window.now.right <ℤ reach.now.left)) }
+{
+    is_row_of(reach, y) && is_beside(reach, window)
+}
+
+fn is_row_of(reach: &Reach, y: i64) -> bool
+    ensures { result ≡ false → Misses reach.now.low reach.now.high y }
+{
+    reach.low <= y && y < reach.high
+}
+
+fn is_beside(reach: &Reach, window: &Columns) -> bool
+    ensures { result ≡ false → (reach.now.right <ℤ window.now.left) ⊎ (window.now.right <ℤ reach.now.left) }
+{
+    window.left <= reach.right && reach.left <= window.right
+}
+
+/// Adds the stacks that do not go on in the runs, closed at row `top`.
+fn push_closed(
+    ended: &mut Vec<Rect>,
+    near: &[Rect],
+    runs: &[Rect],
+    top: i64,
+) -> Result<(), AllocError>
+    requires ordered { AllPairs IsLeftOf runs.now }
+    requires below { All (λ r. r.y1 <ℤ top) near.now }
+    requires range { top ≤ℤ pos (2 ^ 30) }
+    ensures { OnOk result (AddsClosed top (ending runs.now near.now) ended.old.items ended.new.items) }
+{
+    for stack in near {
+        if find(runs, stack).is_none() {
+            ended.push(closed(stack, top))?;
+        }
+    }
+    Ok(())
+}
+
+/// A stack, closed at row `top`.
+fn closed(stack: &Rect, top: i64) -> Rect
+    requires below { stack.now.y1 <ℤ top }
+    requires range { top ≤ℤ pos (2 ^ 30) }
+    ensures { IsClosed top stack.now result }
+{
+    Rect {
+        x1: stack.x1,
+        y1: stack.y1,
+        x2: stack.x2,
+        y2: top,
+    }
+}
+
+/// The stack of a run: the one near that goes on with it, or a new one.
+fn continued(near: &[Rect], run: &Rect) -> Rect
+    requires { AllPairs IsLeftOf near.now }
+    ensures { IsContinued near.now run.now.y1 run.now result }
+{
+    match find(near, run) {
+        None => *run,
+        Some(k) => near[k],
+    }
+}
+
+/// Adds all stacks, closed at row `top`.
+pub fn close_all(ended: &mut Vec<Rect>, held: &[Rect], top: i64) -> Result<(), AllocError>
+    requires below { All (λ r. r.y1 <ℤ top) held.now }
+    requires range { top ≤ℤ pos (2 ^ 30) }
+    ensures { OnOk result (AddsClosed top (ending [] held.now) ended.old.items ended.new.items) }
+{
+    push_closed(ended, held, &[], top)
+}
