@@ -10,7 +10,8 @@ use Rattle.dpl_cell.specs.Outlines.{Box}
 use Rattle.dpl_cell.specs.Layers.{is_cell}
 use Rattle.dpl_cell.specs.Shapes.{IsWalk, AreOneShape}
 use Rattle.dpl_near.specs.Joins.{AreJoins}
-use Rattle.dpl_near.specs.Shapes.{AreShapes, next_label}
+use Rattle.dpl_classes.specs.Classes.{next_label}
+use Rattle.dpl_near.specs.Shapes.{AreShapes}
 use Rattle.dpl_core.specs.Tiles.{no_box}
 use Rattle.dpl_core.specs.Numbering.{AreNumbers}
 use Rattle.dpl_core.specs.Edges.{IsJoin}
