@@ -51,17 +51,17 @@ bond_shape tiles s i j h t b =
 pair_bond : (s : Scene) (bonds : List (ℕ × ℕ)) (i j : ℕ) → ArePairs (IsBond s) bonds → Contains bonds (i, j) → IsBond s i j
 pair_bond s bonds i j a (k, l, e) = let P : ℕ × ℕ → Type 0 = λ p. IsBond s p.0 p.1 in subst P e (a.each k (i, j) l)
 
-trail_shape : (tiles : List Corners) (s : Scene) (bonds : List (ℕ × ℕ)) → HoldLayer tiles s.rects → TellShapes tiles s.rects s.shape → ArePairs (IsBond s) bonds → (i : ℕ) (js : List ℕ) (k : ℕ) → IsChain bonds i js k → get_or s.shape i 0 ≡ get_or s.shape k 0
-trail_shape tiles s bonds h t a i [] k e = ap (λ z. get_or s.shape z 0) e
-trail_shape tiles s bonds h t a i (j ∷ js) k (c, r) =
+chain_shape : (tiles : List Corners) (s : Scene) (bonds : List (ℕ × ℕ)) → HoldLayer tiles s.rects → TellShapes tiles s.rects s.shape → ArePairs (IsBond s) bonds → (i : ℕ) (js : List ℕ) (k : ℕ) → IsChain bonds i js k → get_or s.shape i 0 ≡ get_or s.shape k 0
+chain_shape tiles s bonds h t a i [] k e = ap (λ z. get_or s.shape z 0) e
+chain_shape tiles s bonds h t a i (j ∷ js) k (c, r) =
     let e : get_or s.shape i 0 ≡ get_or s.shape j 0 = elim c [ inl d ↦ bond_shape tiles s i j h t (pair_bond s bonds i j a d) | inr d ↦ sym (bond_shape tiles s j i h t (pair_bond s bonds j i a d)) ] in
-    e ∙ trail_shape tiles s bonds h t a j js k r
+    e ∙ chain_shape tiles s bonds h t a j js k r
 
 pub within_shapes : (tiles : List Corners) (f : Fragments) (weights : Weights) (space : ℕ) (net : Net) → HoldLayer tiles (map corners_of f.rects) → TellShapes tiles (map corners_of f.rects) f.shape → IsNet f weights space net → AreWithinShapes net.pieces f.shape
 within_shapes tiles f weights space net h t n i j l m e =
     let w = n.are_pieces.long in
     let r = (n.are_pieces.same i j (omega arith) (omega arith)).0 e in
-    trail_shape tiles (scene f space) n.bonds h t n.are_bonds i r.chain j r.is
+    chain_shape tiles (scene f space) n.bonds h t n.are_bonds i r.chain j r.is
 
 -- ---- the two fragments of a clash
 
