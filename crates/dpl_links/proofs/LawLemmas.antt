@@ -1,20 +1,16 @@
 -- Pieces lie within shapes, and clashes stand for the cells that are too close.
-use Rattle.std.proofs.Common.{arith, ◌≡◌, ◌≢◌, ◌<◌, ◌≤◌, ◌+◌, ◌-◌, ◌*◌, ◌⊎◌, inl, inr, ℕ, ℤ, Bool, true, false, List, [], ◌∷◌, ◌++◌, length, map, min, max, refl, sym, ap, ◌∙◌, subst, All, AllPairs, Any, Contains, get_or, length-append, IsTrue}
+use Rattle.std.proofs.Common.{arith, ◌≡◌, ◌<◌, ◌≤◌, ◌+◌, ◌-◌, ◌*◌, ◌⊎◌, inl, inr, ℕ, ℤ, Bool, List, [], ◌∷◌, ◌++◌, length, map, min, max, refl, sym, ap, ◌∙◌, subst, All, AllPairs, Any, Contains, get_or, length-append, IsTrue}
 use Rattle.std.proofs.lemmas.Bool.{cases_lt}
 use Rattle.std.proofs.lemmas.Int.{ints}
 use Rattle.std.proofs.lemmas.List.{get_or_default, get_or-map, length-map, get_or_append_left, get_or-append_right, get_or-append-add}
 use Rattle.std.proofs.lemmas.List.Elements.{All-append, All-map, All-weaker}
-use Rattle.dpl_cell.specs.declared.rect.Rect.{Rect}
 use Rattle.dpl_cell.specs.Places.{Corners, corners_of}
 use Rattle.dpl_cell.specs.Cells.{IsIn}
-use Rattle.dpl_cell.specs.Gaps.{between, cell_gap2, AreClose}
+use Rattle.dpl_cell.specs.Gaps.{between, cell_gap2}
 use Rattle.dpl_cell.specs.Edges.{SharesEdge}
-use Rattle.dpl_cell.specs.Shapes.{IsWalk, AreOneShape}
+use Rattle.dpl_cell.specs.Shapes.{AreOneShape}
 use Rattle.dpl_near.specs.Shapes.{AreShapes}
 use Rattle.dpl_classes.specs.Chains.{IsChain}
-use Rattle.dpl_classes.specs.Classes.{AreClasses}
-use Rattle.dpl_near.proofs.ShapeLemmas.{held}
-use Rattle.dpl_sign.specs.declared.edges.Kind.{Kind}
 use Rattle.dpl_sign.specs.declared.edges.Kind.TheVariants.{Bond, Stitch, Clash}
 use Rattle.dpl_sign.specs.declared.edges.Edge.{Edge}
 use Rattle.dpl_sign.specs.declared.nets.Net.{Net}
@@ -51,17 +47,17 @@ bond_shape tiles s i j h t b =
 pair_bond : (s : Scene) (bonds : List (ℕ × ℕ)) (i j : ℕ) → ArePairs (IsBond s) bonds → Contains bonds (i, j) → IsBond s i j
 pair_bond s bonds i j a (k, l, e) = let P : ℕ × ℕ → Type 0 = λ p. IsBond s p.0 p.1 in subst P e (a.each k (i, j) l)
 
-chain_shape : (tiles : List Corners) (s : Scene) (bonds : List (ℕ × ℕ)) → HoldLayer tiles s.rects → TellShapes tiles s.rects s.shape → ArePairs (IsBond s) bonds → (i : ℕ) (js : List ℕ) (k : ℕ) → IsChain bonds i js k → get_or s.shape i 0 ≡ get_or s.shape k 0
-chain_shape tiles s bonds h t a i [] k e = ap (λ z. get_or s.shape z 0) e
-chain_shape tiles s bonds h t a i (j ∷ js) k (c, r) =
+trail_shape : (tiles : List Corners) (s : Scene) (bonds : List (ℕ × ℕ)) → HoldLayer tiles s.rects → TellShapes tiles s.rects s.shape → ArePairs (IsBond s) bonds → (i : ℕ) (js : List ℕ) (k : ℕ) → IsChain bonds i js k → get_or s.shape i 0 ≡ get_or s.shape k 0
+trail_shape tiles s bonds h t a i [] k e = ap (λ z. get_or s.shape z 0) e
+trail_shape tiles s bonds h t a i (j ∷ js) k (c, r) =
     let e : get_or s.shape i 0 ≡ get_or s.shape j 0 = elim c [ inl d ↦ bond_shape tiles s i j h t (pair_bond s bonds i j a d) | inr d ↦ sym (bond_shape tiles s j i h t (pair_bond s bonds j i a d)) ] in
-    e ∙ chain_shape tiles s bonds h t a j js k r
+    e ∙ trail_shape tiles s bonds h t a j js k r
 
 pub within_shapes : (tiles : List Corners) (f : Fragments) (weights : Weights) (space : ℕ) (net : Net) → HoldLayer tiles (map corners_of f.rects) → TellShapes tiles (map corners_of f.rects) f.shape → IsNet f weights space net → AreWithinShapes net.pieces f.shape
 within_shapes tiles f weights space net h t n i j l m e =
     let w = n.are_pieces.long in
     let r = (n.are_pieces.same i j (omega arith) (omega arith)).0 e in
-    chain_shape tiles (scene f space) n.bonds h t n.are_bonds i r.chain j r.is
+    trail_shape tiles (scene f space) n.bonds h t n.are_bonds i r.chain j r.is
 
 -- ---- the two fragments of a clash
 
