@@ -13,7 +13,7 @@ use Rattle.dpl_cell.specs.Shapes.{IsWalk, AreOneShape}
 use Rattle.dpl_near.specs.Shapes.{AreShapes}
 use Rattle.dpl_classes.specs.Chains.{IsChain}
 use Rattle.dpl_classes.specs.Classes.{AreClasses}
-use Rattle.dpl_near.proofs.ShapeLemmas.{held}
+use Rattle.dpl_cell.proofs.BoxLemmas.{held}
 use Rattle.dpl_sign.specs.declared.edges.Kind.{Kind}
 use Rattle.dpl_sign.specs.declared.edges.Kind.TheVariants.{Bond, Stitch, Clash}
 use Rattle.dpl_sign.specs.declared.edges.Edge.{Edge}
