@@ -3,4 +3,5 @@ pub mod SeamLemmas
 pub mod FacingLemmas
 pub mod LayerLemmas
 pub mod BoxLemmas
+pub mod OrderLemmas
 pub mod Same
