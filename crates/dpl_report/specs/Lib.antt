@@ -1,4 +1,13 @@
-pub mod Masks
-pub mod Lines
-pub mod MaskLines
-pub mod Drawings
+pub mod Plain
+pub mod ReportLines
+pub mod Valid
+pub mod Reading
+pub mod Gives
+pub mod Tells
+pub mod Laws
+pub mod MaskRects
+pub mod Misses
+pub mod Conditions
+pub mod Verdicts
+pub mod FirstDifferences
+pub mod Truths

@@ -12,7 +12,7 @@ use Rattle.dpl_run.specs.declared.status.Status.TheVariants.{Done, Usage, Layout
 use Rattle.dpl_core.specs.Split.{IsOverLimit, IsWithinLimits, IsOddAround}
 use Rattle.dpl_run.specs.Answer.{IsDueOfCells, IsDueOfRead, IsDueOf, IsDue, Writes, Answers, IsAnswered, most_bytes, reach_of}
 use Rattle.dpl_run.specs.Lines.{odd_line}
-use Rattle.dpl_core.specs.Even.{OnCells}
+use Rattle.dpl_cif.specs.OnCells.{OnCells}
 use Rattle.dpl_run.specs.Telling.{IsTold}
 use Rattle.dpl_run.specs.Words.{words_of}
 

@@ -1,0 +1,27 @@
+// What holds of reports that say the truth.
+ghost use Rattle.std.specs.Prelude.{◌≡◌, ◌≤◌, length, None};
+ghost use Rattle.dpl_report.specs.Plain.{plain_report};
+ghost use Rattle.dpl_report.specs.Valid.{IsReport};
+ghost use Rattle.dpl_report.specs.Truths.{SaysTrue};
+ghost use Rattle.dpl_report.specs.Verdicts.{refusal_of};
+
+use crate::options::Options;
+use crate::reports::Report;
+use dpl_cuts::types::Fragments;
+use dpl_sign::Net;
+
+/// A report that says the truth is good. It is a fact about the definitions; nothing runs.
+pub fn true_reports_are_good(options: &Options, fragments: &Fragments, net: &Net, report: &Report)
+    requires { SaysTrue options.now fragments.now net.now (plain_report report.now) }
+    ensures { refusal_of options.now fragments.now net.now (plain_report report.now) ≡ None }
+{}
+
+/// A report that says the truth of a net within the limits is valid, so it has a text.
+pub fn true_reports_are_valid(options: &Options, fragments: &Fragments, net: &Net, report: &Report)
+    requires truth { SaysTrue options.now fragments.now net.now (plain_report report.now) }
+    requires few { length net.now.graph.edges ≤ 400000 }
+    ensures { IsReport (plain_report report.now) }
+{
+    let _name = options.layer.bytes();
+    let _count = u64::from(net.piece_count);
+}
