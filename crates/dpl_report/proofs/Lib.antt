@@ -15,3 +15,6 @@ pub mod WalkLaws
 pub mod ZoneLemmas
 pub mod GoodLemmas
 pub mod ValidLemmas
+pub mod TrueLemmas
+pub mod BrokenLemmas
+pub mod MaskCellLemmas

@@ -11,3 +11,4 @@ pub mod Conditions
 pub mod Verdicts
 pub mod FirstDifferences
 pub mod Truths
+pub mod MaskCells

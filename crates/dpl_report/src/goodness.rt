@@ -1,9 +1,12 @@
 // What holds of reports that say the truth.
-ghost use Rattle.std.specs.Prelude.{◌≡◌, ◌≤◌, length, None};
+ghost use Rattle.std.specs.Prelude.{◌≡◌, ◌≤◌, ◌*◌, ℤ, Bool, List, length, None};
+ghost use Rattle.dpl_cell.specs.Places.{Corners};
+ghost use Rattle.dpl_links.specs.Nets.{IsNet};
 ghost use Rattle.dpl_report.specs.Plain.{plain_report};
 ghost use Rattle.dpl_report.specs.Valid.{IsReport};
 ghost use Rattle.dpl_report.specs.Truths.{SaysTrue};
 ghost use Rattle.dpl_report.specs.Verdicts.{refusal_of};
+ghost use Rattle.dpl_report.specs.MaskCells.{AreCutFrom, AreMasksOf};
 
 use crate::options::Options;
 use crate::reports::Report;
@@ -24,4 +27,23 @@ pub fn true_reports_are_valid(options: &Options, fragments: &Fragments, net: &Ne
 {
     let _name = options.layer.bytes();
     let _count = u64::from(net.piece_count);
+}
+
+/// A good report says the truth, so it says what a colouring breaks and costs, and what a packing bounds.
+pub fn good_reports_are_true(options: &Options, fragments: &Fragments, net: &Net, report: &Report)
+    requires valid { IsReport (plain_report report.now) }
+    requires good { refusal_of options.now fragments.now net.now (plain_report report.now) ≡ None }
+    ensures { SaysTrue options.now fragments.now net.now (plain_report report.now) }
+{
+    let _name = options.layer.bytes();
+}
+
+/// What the masks of a good report are of the cells of its layer.
+pub fn masks_are_of_the_layer(options: &Options, fragments: &Fragments, net: &Net, report: &Report)
+    requires valid { IsReport (plain_report report.now) }
+    requires good { refusal_of options.now fragments.now net.now (plain_report report.now) ≡ None }
+    requires net { IsNet fragments.now options.now.weights (2 * options.now.space) net.now }
+    ensures { (cells : ℤ → ℤ → Bool) (tiles : List Corners) → AreCutFrom options.now cells tiles fragments.now → AreMasksOf options.now cells tiles fragments.now net.now (plain_report report.now) }
+{
+    let _name = options.layer.bytes();
 }

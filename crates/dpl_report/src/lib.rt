@@ -30,7 +30,9 @@ pub mod types;
 mod writing;
 
 pub use clashes::broken_clashes;
-pub use goodness::{true_reports_are_good, true_reports_are_valid};
+pub use goodness::{
+    good_reports_are_true, masks_are_of_the_layer, true_reports_are_good, true_reports_are_valid,
+};
 pub use marks::{Broken, Zone};
 pub use masking::{colour_at, masks};
 pub use options::Options;
