@@ -1,6 +1,6 @@
 -- Cells have one list of fragments and one net.
-use Rattle.std.proofs.Common.{arith, ◌≡◌, ◌<◌, ◌≤◌, ◌*◌, ◌+◌, ℕ, zero, suc, Bool, true, false, List, [], ◌∷◌, length, map, refl, sym, ap, ◌∙◌, subst, All, AllPairs, Contains, get_or}
-use Rattle.std.specs.Prelude.{ℤ, ◌<ℤ◌, ◌≤ℤ◌, if◌then◌else◌}
+use Rattle.std.proofs.Common.{arith, ◌≡◌, ◌<◌, ◌≤◌, ◌*◌, ◌+◌, ℕ, zero, suc, Bool, true, false, List, length, sym, ◌∙◌, subst, All, get_or}
+use Rattle.std.specs.Prelude.{ℤ, if◌then◌else◌}
 use Rattle.std.specs.List.{range_with_len}
 use Rattle.std.proofs.lemmas.Int.{ints}
 use Rattle.std.proofs.lemmas.List.{length-map, get_or_default}
@@ -11,7 +11,7 @@ use Rattle.dpl_cell.specs.Tiles.{IsTile, AreTiles}
 use Rattle.dpl_near.specs.Shapes.{AreShapes}
 use Rattle.dpl_cuts.specs.declared.types.Fragments.{Fragments}
 use Rattle.dpl_cuts.specs.Positions.{nowhere, rect_at, lies_along_x, first_of, last_of}
-use Rattle.dpl_cuts.specs.Fragments.{AreFragments, AreParts, HasMoreFragments}
+use Rattle.dpl_cuts.specs.Fragments.{AreFragments, HasMoreFragments}
 use Rattle.dpl_cuts.proofs.OrderedLemmas.{no_more}
 use Rattle.dpl_cuts.proofs.SameLemmas.{HasCell, tiles_same, labels_same, fragments_same, no_more_fragments}
 use Rattle.dpl_sign.specs.declared.nets.Net.{Net}

@@ -1,8 +1,7 @@
 -- A text has at most one refusal, and none where it has a layer within the limits.
-use Rattle.std.proofs.Common.{arith, ◌≡◌, ◌⊎◌, inl, inr, ◌<◌, ◌≤◌, ◌*◌, ◌+◌, ℕ, Bool, List, Result, Ok, Err, length, refl, sym, ap, ◌∙◌, subst}
+use Rattle.std.proofs.Common.{arith, ◌≡◌, ◌⊎◌, inl, inr, ◌≤◌, ◌*◌, ℕ, Bool, List, Result, Ok, Err, length, refl, ap, subst}
 use Rattle.std.specs.Prelude.{ℤ, IfOk, IfErr}
 use Rattle.dpl_cell.specs.Layers.{is_cell}
-use Rattle.dpl_cell.specs.Outlines.{Outline}
 use Rattle.dpl_tiles.proofs.TileLemmas.{not_more}
 use Rattle.dpl_rules.specs.declared.what.What.{What}
 use Rattle.dpl_rules.specs.Rules.{Fault, fault}
@@ -16,8 +15,8 @@ use Rattle.dpl_report.specs.declared.options.Options.{Options}
 use Rattle.dpl_layer.specs.declared.error.LayerError.{LayerError}
 use Rattle.dpl_layer.specs.declared.error.LayerError.TheVariants.{Layout, Limit, NoMemory}
 use Rattle.dpl_layer.specs.declared.reading.Layer.{Layer}
-use Rattle.dpl_layer.specs.Layers.{AreFragmentsOf, IsLayerOf}
-use Rattle.dpl_layer.specs.Refusals.{HasTooManyFragments, HasTooManyEdges, IsOverLimit, RefusesCells, RefusesLayer}
+use Rattle.dpl_layer.specs.Layers.{IsLayerOf}
+use Rattle.dpl_layer.specs.Refusals.{HasTooManyEdges, IsOverLimit, RefusesLayer}
 use Rattle.dpl_layer.proofs.LayerLemmas.{few_tiles, fragments_same_of, within_fragments, within_edges}
 
 -- a limit on the cells excludes a layer within the limits

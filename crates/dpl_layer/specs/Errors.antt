@@ -1,5 +1,5 @@
 -- What the errors of the steps are as errors of the whole.
-use Rattle.std.specs.Prelude.{ℕ, ◌+◌}
+use Rattle.std.specs.Prelude.{◌+◌}
 use Rattle.dpl_cif.specs.declared.error.CifError.{CifError}
 use Rattle.dpl_cif.specs.declared.error.CifError.TheVariants as cif
 use Rattle.dpl_cif.specs.OnCells.{limit_number}
