@@ -1,0 +1,69 @@
+-- The list of the kept edges while it grows.
+use Rattle.std.proofs.Common.{arith, ◌≡◌, ℕ, zero, suc, ◌+◌, ◌<◌, ◌≤◌, refl, sym, ap, ◌∙◌, Bool, true, false, not, inl, inr, List, [], ◌∷◌, ◌++◌, length, subst, length-append}
+use Rattle.std.proofs.lemmas.Bool.{cases_eq, cases_lt, cases_Bool, both_ways, cond-true, cond-false, true≢false}
+use Rattle.dpl_cycle.specs.Sums.{count_on}
+use Rattle.dpl_sign.specs.declared.nets.Net.{Net}
+use Rattle.dpl_sign.specs.Drawings.{is_in}
+use Rattle.dpl_sign.specs.Excess.{kept_before, kept_edges, raises_excess, aside_before, aside_edges, is_aside}
+use Rattle.dpl_sign.proofs.ExcessLemmas.{kept_length, in_front, at_end}
+use Rattle.dpl_drawing.specs.Drawn.{IsDrawn}
+
+pub kept_step : (net : Net) (kept slice new : List Bool) (n : ℕ) (drawn : Bool) → kept ≡ kept_before net n → slice ≡ kept → drawn ≡ not (raises_excess net slice) → new ≡ kept ++ drawn ∷ [] → new ≡ kept_before net (suc n)
+kept_step net kept slice new n drawn same es h e =
+    e ∙ ap (λ (xs : List Bool). xs ++ drawn ∷ []) same ∙ ap (λ b. kept_before net n ++ b ∷ []) (h ∙ ap (λ (xs : List Bool). not (raises_excess net xs)) (es ∙ same))
+
+pub drawn_at : (net : Net) (xs ys : List Bool) (faces parts : List ℕ) (components : ℕ) → xs ≡ ys → IsDrawn net (is_in ys) faces parts components → IsDrawn net (is_in xs) faces parts components
+drawn_at net xs ys faces parts components e k = let P : List Bool → Type 0 = λ zs. IsDrawn net (is_in zs) faces parts components in subst P (sym e) k
+
+pub kept_size : (net : Net) (xs ys : List Bool) (n : ℕ) → xs ≡ ys → ys ≡ kept_before net n → length xs ≡ n
+kept_size net xs ys n e k = ap length (e ∙ k) ∙ kept_length net n
+
+-- the edges set aside and those that are kept are all edges
+pub aside_count : (net : Net) (n : ℕ) → length (aside_before net n) + count_on (is_in (kept_edges net)) n ≡ n
+aside_count net zero = refl
+aside_count net (suc n) =
+    let rest = aside_count net n in
+    let p = is_in (kept_edges net) in
+    elim (cases_Bool (p n)) [
+      | inl t ↦
+          let same : aside_before net (suc n) ≡ aside_before net n = cond-false (is_aside net n) _ _ (ap not t) in
+          omega (arith, rest, ap length same, cond-true {A = ℕ} (p n) 1 0 t)
+      | inr t ↦
+          let more : aside_before net (suc n) ≡ aside_before net n ++ n ∷ [] = cond-true (is_aside net n) _ _ (ap not t) in
+          omega (arith, rest, ap length more, length-append (aside_before net n) (n ∷ []), cond-false {A = ℕ} (p n) 1 0 t)
+    ]
+
+pub aside_few : (net : Net) → length (aside_edges net) ≤ length net.graph.edges
+aside_few net = omega (arith, aside_count net (length net.graph.edges))
+
+-- ---- which edges are kept
+
+pub kept_at : (net : Net) (n e : ℕ) → e < n → is_in (kept_before net n) e ≡ not (raises_excess net (kept_before net e))
+kept_at net zero e h = absurd (omega arith)
+kept_at net (suc n) e h =
+    let kept = kept_before net n in
+    let size = kept_length net n in
+    elim (cases_eq e n) [
+      | inl r ↦ ap (is_in (kept_before net (suc n))) (r ∙ sym size) ∙ at_end kept (not (raises_excess net kept)) ∙ ap (λ x. not (raises_excess net (kept_before net x))) (sym r)
+      | inr r ↦ in_front kept (not (raises_excess net kept)) e (λ q. r (q ∙ size)) ∙ kept_at net n e (omega arith)
+    ]
+
+-- the first edges are kept or not whatever comes later
+pub kept_early : (net : Net) (m n e : ℕ) → e < m → e < n → is_in (kept_before net m) e ≡ is_in (kept_before net n) e
+kept_early net m n e h k = kept_at net m e h ∙ sym (kept_at net n e k)
+
+none_past : (xs : List Bool) (x : ℕ) → length xs ≤ x → is_in xs x ≡ false
+none_past [] x h = refl
+none_past (y ∷ ys) zero h = absurd (omega arith)
+none_past (y ∷ ys) (suc x) h = none_past ys x (omega arith)
+
+-- an edge that is kept before another has a smaller number
+pub kept_inside : (net : Net) (m e : ℕ) → is_in (kept_before net m) e ≡ true → e < m
+kept_inside net m e t = elim (cases_lt e m) [
+  | inl h ↦ h
+  | inr h ↦ absurd (both_ways _ (none_past (kept_before net m) e (omega (arith, kept_length net m, h))) t)
+]
+
+pub not_false : (b : Bool) → not b ≡ false → b ≡ true
+not_false true h = refl
+not_false false h = absurd (true≢false h)

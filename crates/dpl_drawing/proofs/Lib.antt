@@ -1,0 +1,13 @@
+pub mod MarkLemmas
+pub mod ExchangeNames
+pub mod CycleLemmas
+pub mod FaceSteps
+pub mod InsertLemmas
+pub mod PartSteps
+pub mod DrawnLemmas
+pub mod NumberLemmas
+pub mod FaceLists
+pub mod KeptLemmas
+pub mod TurnSteps
+pub mod LastLemmas
+pub mod ExcessTotal

@@ -1,0 +1,5 @@
+use Rattle.std.proofs.Common.{◌≡◌, ℕ, ◌<◌, length, get_or}
+use Rattle.dpl_drawing.proofs.cycles.ascending.Given as goal
+
+abbrev pub invariant-loop-i : goal.invariant-loop-i
+invariant-loop-i l = (length l.numbers.items ≡ l.i) × ((k : ℕ) → k < l.i → get_or l.numbers.items k 0 ≡ k)

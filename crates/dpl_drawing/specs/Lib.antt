@@ -1,0 +1,4 @@
+pub mod Named
+pub mod Faces
+pub mod Marks
+pub mod Drawn
