@@ -33,7 +33,7 @@ data CheckDue (plain : PlainOptions) (text report : List ℕ) : Status → Type 
   long_report : length text ≤ most_bytes → most_report < length report → CheckDue plain text report (Limit 9 268435457)
   faulty : (o : Options) → plain_options o ≡ plain → length text ≤ most_bytes → length report ≤ most_report → (e : LayerError) → RefusesLayer o text e → CheckDue plain text report (status_of e)
   failed : (o : Options) → plain_options o ≡ plain → length text ≤ most_bytes → length report ≤ most_report → (reason place : ℕ) (found wanted : ℤ)
-    → IsVerdictOf o text report (No reason place found wanted) → CheckDue plain text report (Rejected reason place found wanted)
+      → IsVerdictOf o text report (No reason place found wanted) → CheckDue plain text report (Rejected reason place found wanted)
   good : (o : Options) → plain_options o ≡ plain → length text ≤ most_bytes → length report ≤ most_report → (cost bound : ℕ) → IsVerdictOf o text report (Yes cost bound) → CheckDue plain text report Done
 
 data LoadDue (text : List ℕ) : Status → Type 0 where

@@ -35,27 +35,24 @@ loaded_line r = load_line r.head.counts.fragments (r.head.counts.bonds + r.head.
 -- The status and the output that are due for a command, a layout and a report. The first line that applies decides.
 pub data IsDueOf (command : Result PlainCommand ℕ) (text report : List ℕ) : Status → List ℕ → Type 0 where
   misused : (kind : ℕ) → command ≡ Err kind → IsDueOf command text report (Usage kind) []
-
   split_long : (plain : PlainOptions) → command ≡ Ok (split plain) → most_bytes < length text → IsDueOf command text report (Limit 1 16777217) []
   split_refused : (o : Options) → command ≡ Ok (split (plain_options o)) → length text ≤ most_bytes
-    → (e : LayerError) → RefusesSplit o text e → IsDueOf command text report (status_of e) []
+      → (e : LayerError) → RefusesSplit o text e → IsDueOf command text report (status_of e) []
   split_done : (o : Options) → command ≡ Ok (split (plain_options o)) → length text ≤ most_bytes
-    → (output : List ℕ) → IsSplit o text output → IsDueOf command text report Done output
-
+      → (output : List ℕ) → IsSplit o text output → IsDueOf command text report Done output
   check_long : (plain : PlainOptions) (name : List ℕ) → command ≡ Ok (check plain name) → most_bytes < length text → IsDueOf command text report (Limit 1 16777217) []
   report_long : (plain : PlainOptions) (name : List ℕ) → command ≡ Ok (check plain name) → length text ≤ most_bytes → most_report < length report
-    → IsDueOf command text report (Limit 9 268435457) []
+      → IsDueOf command text report (Limit 9 268435457) []
   check_refused : (o : Options) (name : List ℕ) → command ≡ Ok (check (plain_options o) name) → length text ≤ most_bytes → length report ≤ most_report
-    → (e : LayerError) → RefusesLayer o text e → IsDueOf command text report (status_of e) []
+      → (e : LayerError) → RefusesLayer o text e → IsDueOf command text report (status_of e) []
   rejected : (o : Options) (name : List ℕ) → command ≡ Ok (check (plain_options o) name) → length text ≤ most_bytes → length report ≤ most_report
-    → (reason place : ℕ) (found wanted : ℤ) → IsVerdictOf o text report (No reason place found wanted) → IsDueOf command text report (Rejected reason place found wanted) []
+      → (reason place : ℕ) (found wanted : ℤ) → IsVerdictOf o text report (No reason place found wanted) → IsDueOf command text report (Rejected reason place found wanted) []
   accepted : (o : Options) (name : List ℕ) → command ≡ Ok (check (plain_options o) name) → length text ≤ most_bytes → length report ≤ most_report
-    → (cost bound : ℕ) → IsVerdictOf o text report (Yes cost bound) → IsDueOf command text report Done (yes_line cost bound)
-
+      → (cost bound : ℕ) → IsVerdictOf o text report (Yes cost bound) → IsDueOf command text report Done (yes_line cost bound)
   load_refused : (o : Options) (start rows columns : ℕ) → command ≡ Ok (load start rows columns) → plain_options o ≡ load_options
-    → (e : LayerError) → RefusesSplit o (layout start rows columns) e → IsDueOf command text report (status_of e) []
+      → (e : LayerError) → RefusesSplit o (layout start rows columns) e → IsDueOf command text report (status_of e) []
   load_done : (o : Options) (start rows columns : ℕ) → command ≡ Ok (load start rows columns) → plain_options o ≡ load_options
-    → (r : PlainReport) → IsReportOf o (layout start rows columns) r → IsDueOf command text report Done (loaded_line r)
+      → (r : PlainReport) → IsReportOf o (layout start rows columns) r → IsDueOf command text report Done (loaded_line r)
 
 abbrev pub IsDue : List (List ℕ) → List ℕ → List ℕ → Status → List ℕ → Type 0
 IsDue words = IsDueOf (command_of words)

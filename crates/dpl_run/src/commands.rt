@@ -143,12 +143,14 @@ fn check_bytes(alloc: Global, options: &Options, text: &[u8], report: &[u8]) -> 
             },
             Err(_) => bare(alloc, Status::NoMemory),
         },
-        Ok(Verdict::No {
-            reason,
-            place,
-            found,
-            wanted,
-        }) => bare(
+        Ok(
+            Verdict::No {
+                reason,
+                place,
+                found,
+                wanted,
+            },
+        ) => bare(
             alloc,
             Status::Rejected {
                 reason,

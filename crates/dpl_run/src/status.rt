@@ -17,9 +17,15 @@ pub enum Status {
     /// The words are not a command with its options (1), an option is missing (2), a value is out of its range (3).
     Usage(u8),
     /// The first rule of the layout that is broken, and the number of the command that breaks it, from 1.
-    Layout { command: u32, what: What },
+    Layout {
+        command: u32,
+        what: What,
+    },
     /// The number of the limit that is passed, from 1 to 9, and the count that passes it.
-    Limit { kind: u8, count: u64 },
+    Limit {
+        kind: u8,
+        count: u64,
+    },
     ReadFault,
     WriteFault,
     NoMemory,
