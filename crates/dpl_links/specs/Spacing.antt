@@ -20,7 +20,8 @@ pub record AreTooClose (cells : ℤ → ℤ → Bool) (space : ℕ) (x y x' y' :
 -- the edge is a clash of the pieces of the fragments i and j
 pub record IsClashOf (pieces : List ℕ) (i j : ℕ) (e : Edge) : Type 0 where
   pub kind : e.kind ≡ Clash
-  pub ends : ((piece_of pieces e.a ≡ piece_of pieces i) × (piece_of pieces e.b ≡ piece_of pieces j)) ⊎ ((piece_of pieces e.a ≡ piece_of pieces j) × (piece_of pieces e.b ≡ piece_of pieces i))
+  pub ends : ((piece_of pieces e.a ≡ piece_of pieces i) × (piece_of pieces e.b ≡ piece_of pieces j))
+      ⊎ ((piece_of pieces e.a ≡ piece_of pieces j) × (piece_of pieces e.b ≡ piece_of pieces i))
 
 -- the fragments a and b hold two cells that are too close
 pub record HoldTooClose (tiles rects : List Corners) (space a b : ℕ) : Type 0 where
@@ -36,10 +37,11 @@ pub record HoldTooClose (tiles rects : List Corners) (space a b : ℕ) : Type 0 
 -- such cells lie in fragments whose pieces a clash joins; no two clashes join the same two pieces.
 pub record AreAllClashes (tiles rects : List Corners) (space : ℕ) (pieces : List ℕ) (edges : List Edge) : Type 0 where
   pub each : All (λ e. e.kind ≡ Clash → HoldTooClose tiles rects space e.a e.b) edges
-  pub all : (i j : ℕ) (x y x' y' : ℤ) → i < length rects → j < length rects → IsIn (rect_at rects i) x y → IsIn (rect_at rects j) x' y'
-      → AreTooClose (layer_of tiles) space x y x' y' → Any (IsClashOf pieces i j) edges
+  pub all : (i j : ℕ) (x y x' y' : ℤ) → i < length rects → j < length rects
+      → IsIn (rect_at rects i) x y → IsIn (rect_at rects j) x' y' → AreTooClose (layer_of tiles) space x y x' y' → Any (IsClashOf pieces i j) edges
   pub one : AllPairs (λ d e. e.kind ≡ Clash → ¬ IsClashOf pieces e.a e.b d) edges
 
 -- all fragments of a piece are of one shape
 abbrev pub AreWithinShapes : List ℕ → List ℕ → Type 0
-AreWithinShapes pieces shape = (i j : ℕ) → i < length pieces → j < length pieces → piece_of pieces i ≡ piece_of pieces j → slice_index_or shape i 0 ≡ slice_index_or shape j 0
+AreWithinShapes pieces shape = (i j : ℕ) → i < length pieces → j < length pieces → piece_of pieces i ≡ piece_of pieces j
+    → slice_index_or shape i 0 ≡ slice_index_or shape j 0

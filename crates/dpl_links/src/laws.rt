@@ -1,3 +1,4 @@
+// What holds of the net of fragments, said without the steps that find it.
 ghost use Rattle.std.specs.Prelude.{◌≡◌, ℕ, ◌≤◌, List, length, map};
 ghost use Rattle.dpl_cell.specs.Places.{Corners, corners_of};
 ghost use Rattle.dpl_near.specs.Shapes.{AreShapes};
@@ -9,24 +10,12 @@ ghost use Rattle.dpl_links.specs.Spacing.{AreWithinShapes, AreAllClashes};
 
 use dpl_cuts::types::Fragments;
 
-/// Fragments have one net at a spacing and with weights.
-pub fn nets_are_the_same(fragments: &Fragments)
-    ensures { (weights : Weights) (space : ℕ) (one other : Net) → IsNet fragments.now weights space one → IsNet fragments.now weights space other → one ≡ other }
-{
-    let _fragments = fragments;
-}
-
-/// Fragments whose net has no more edges than a number have no more edges than that.
-pub fn edges_are_all(fragments: &Fragments)
-    ensures { (weights : Weights) (space n : ℕ) (net : Net) → IsNet fragments.now weights space net → length net.graph.edges ≤ n → ¬ HasMoreEdges fragments.now space n }
-{
-    let _fragments = fragments;
-}
-
 /// All fragments of a piece are of one shape.
 pub fn pieces_are_within_shapes(fragments: &Fragments, space: u64, overlap: u64)
     requires { 2 ≤ overlap }
-    ensures { (tiles : List Corners) (label : List ℕ) (count : ℕ) (weights : Weights) (net : Net) → AreShapes tiles label count → AreFragments space overlap tiles label fragments.now → IsNet fragments.now weights space net → AreWithinShapes net.pieces fragments.now.shape }
+    ensures { (tiles : List Corners) (label : List ℕ) (count : ℕ) (weights : Weights) (net : Net) →
+        AreShapes tiles label count → AreFragments space overlap tiles label fragments.now →
+        IsNet fragments.now weights space net → AreWithinShapes net.pieces fragments.now.shape }
 {
     let _lengths = (space, overlap);
 }
@@ -35,7 +24,28 @@ pub fn pieces_are_within_shapes(fragments: &Fragments, space: u64, overlap: u64)
 /// fragments whose pieces a clash joins, and no two clashes join the same two pieces.
 pub fn clashes_are_all(fragments: &Fragments, space: u64, overlap: u64)
     requires { 2 ≤ overlap }
-    ensures { (tiles : List Corners) (label : List ℕ) (count : ℕ) (weights : Weights) (net : Net) → AreShapes tiles label count → AreFragments space overlap tiles label fragments.now → IsNet fragments.now weights space net → AreAllClashes tiles (map corners_of fragments.now.rects) space net.pieces net.graph.edges }
+    ensures { (tiles : List Corners) (label : List ℕ) (count : ℕ) (weights : Weights) (net : Net) →
+        AreShapes tiles label count → AreFragments space overlap tiles label fragments.now →
+        IsNet fragments.now weights space net →
+        AreAllClashes tiles (map corners_of fragments.now.rects) space net.pieces net.graph.edges }
 {
     let _lengths = (space, overlap);
+}
+
+/// Fragments have one net at a spacing and with weights.
+pub fn nets_are_the_same(fragments: &Fragments)
+    ensures { (weights : Weights) (space : ℕ) (one other : Net) →
+        IsNet fragments.now weights space one → IsNet fragments.now weights space other →
+        one ≡ other }
+{
+    let _fragments = fragments;
+}
+
+/// Fragments whose net has no more edges than a number have no more edges than that.
+pub fn edges_are_all(fragments: &Fragments)
+    ensures { (weights : Weights) (space n : ℕ) (net : Net) →
+        IsNet fragments.now weights space net → length net.graph.edges ≤ n →
+        ¬ HasMoreEdges fragments.now space n }
+{
+    let _fragments = fragments;
 }
