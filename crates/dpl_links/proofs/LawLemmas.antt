@@ -11,7 +11,8 @@ use Rattle.dpl_cell.specs.Gaps.{between, cell_gap2, AreClose}
 use Rattle.dpl_cell.specs.Edges.{SharesEdge}
 use Rattle.dpl_cell.specs.Shapes.{IsWalk, AreOneShape}
 use Rattle.dpl_near.specs.Shapes.{AreShapes}
-use Rattle.dpl_near.specs.Roots.{AreClasses, IsTrail}
+use Rattle.dpl_classes.specs.Chains.{IsChain}
+use Rattle.dpl_classes.specs.Classes.{AreClasses}
 use Rattle.dpl_near.proofs.ShapeLemmas.{held}
 use Rattle.dpl_sign.specs.declared.edges.Kind.{Kind}
 use Rattle.dpl_sign.specs.declared.edges.Kind.TheVariants.{Bond, Stitch, Clash}
@@ -50,7 +51,7 @@ bond_shape tiles s i j h t b =
 pair_bond : (s : Scene) (bonds : List (ℕ × ℕ)) (i j : ℕ) → ArePairs (IsBond s) bonds → Contains bonds (i, j) → IsBond s i j
 pair_bond s bonds i j a (k, l, e) = let P : ℕ × ℕ → Type 0 = λ p. IsBond s p.0 p.1 in subst P e (a.each k (i, j) l)
 
-trail_shape : (tiles : List Corners) (s : Scene) (bonds : List (ℕ × ℕ)) → HoldLayer tiles s.rects → TellShapes tiles s.rects s.shape → ArePairs (IsBond s) bonds → (i : ℕ) (js : List ℕ) (k : ℕ) → IsTrail bonds i js k → get_or s.shape i 0 ≡ get_or s.shape k 0
+trail_shape : (tiles : List Corners) (s : Scene) (bonds : List (ℕ × ℕ)) → HoldLayer tiles s.rects → TellShapes tiles s.rects s.shape → ArePairs (IsBond s) bonds → (i : ℕ) (js : List ℕ) (k : ℕ) → IsChain bonds i js k → get_or s.shape i 0 ≡ get_or s.shape k 0
 trail_shape tiles s bonds h t a i [] k e = ap (λ z. get_or s.shape z 0) e
 trail_shape tiles s bonds h t a i (j ∷ js) k (c, r) =
     let e : get_or s.shape i 0 ≡ get_or s.shape j 0 = elim c [ inl d ↦ bond_shape tiles s i j h t (pair_bond s bonds i j a d) | inr d ↦ sym (bond_shape tiles s j i h t (pair_bond s bonds j i a d)) ] in
@@ -60,7 +61,7 @@ pub within_shapes : (tiles : List Corners) (f : Fragments) (weights : Weights) (
 within_shapes tiles f weights space net h t n i j l m e =
     let w = n.are_pieces.long in
     let r = (n.are_pieces.same i j (omega arith) (omega arith)).0 e in
-    trail_shape tiles (scene f space) n.bonds h t n.are_bonds i r.trail j r.is
+    trail_shape tiles (scene f space) n.bonds h t n.are_bonds i r.chain j r.is
 
 -- ---- the two fragments of a clash
 

@@ -15,7 +15,7 @@ use Rattle.dpl_cell.specs.Places.{Corners, corners_of}
 use Rattle.dpl_cell.specs.Cells.{IsWithin}
 use Rattle.dpl_cell.specs.Gaps.{between}
 use Rattle.dpl_cell.specs.Facing.{IsCommon, IsAhead, IsDistance, IsLeft, IsBelow, FacesLevel, FacesUpright, IsOffCorner, IsFacing}
-use Rattle.dpl_near.specs.Roots.{AreClasses}
+use Rattle.dpl_classes.specs.Classes.{AreClasses}
 use Rattle.dpl_sign.specs.declared.edges.Kind.{Kind}
 use Rattle.dpl_sign.specs.declared.edges.Edge.{Edge}
 use Rattle.dpl_sign.specs.declared.graphs.Signed.{Signed}

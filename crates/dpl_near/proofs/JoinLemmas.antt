@@ -164,4 +164,4 @@ pub among_end : (rects : List Corners) (i : ℕ) (found : List ℕ) (t : ℕ) (j
 among_end rects i found t joins whole near s =
     joins_end rects i (max s.from (length rects)) joins (omega arith)
     (joins_jump rects i s.from (max s.from (length rects)) joins (omega arith) (λ m low high join.
-        let w = join.within in among_none rects i found t joins (length rects) near s (λ k h l. absurd (omega arith)) m low w join) s.done)
+    let w = join.within in among_none rects i found t joins (length rects) near s (λ k h l. absurd (omega arith)) m low w join) s.done)

@@ -14,8 +14,9 @@ use Rattle.dpl_cell.specs.Edges.{AreNeighbours, SharesEdge}
 use Rattle.dpl_cell.specs.Shapes.{IsWalk, AreOneShape}
 use Rattle.dpl_near.specs.Joins.{IsJoin, AreJoins}
 use Rattle.dpl_near.specs.Shapes.{AreShapes}
-use Rattle.dpl_near.specs.Roots.{IsTrail, AreLinked, AreRoots, AreNumbers}
-use Rattle.dpl_near.proofs.LinkLemmas.{link_here, link_on, link_pair, link_back}
+use Rattle.dpl_classes.specs.Chains.{IsChain, AreLinked}
+use Rattle.dpl_classes.specs.Classes.{AreClasses}
+use Rattle.dpl_classes.proofs.ChainLemmas.{link_here, link_on, link_pair, link_back}
 use Rattle.dpl_near.proofs.WalkLemmas.{signed, walk_start, joined_on, joined_step, joined_back, neighbours_back, along_row, along_column, steps}
 
 -- ---- cells of the layer of all rectangles
@@ -85,7 +86,7 @@ joined_across rects i j d x y x' y' l m t p q =
 join_of : (rects : List Corners) (joins : List (ℕ × ℕ)) (i j : ℕ) → AreJoins rects joins → Contains joins (i, j) → IsJoin rects i j
 join_of rects joins i j a (k, l, e) = let d : ℕ × ℕ = (i, j) in let h = a.each k d l in rw e at h
 
-joined_along : (rects : List Corners) (joins : List (ℕ × ℕ)) → AreJoins rects joins → (i : ℕ) (js : List ℕ) (k : ℕ) (d : Corners) (x y x' y' : ℤ) → IsTrail joins i js k → i < length rects → IsIn (get_or rects i d) x y → IsIn (get_or rects k d) x' y' → AreOneShape (is_cell (map Box rects)) x y x' y'
+joined_along : (rects : List Corners) (joins : List (ℕ × ℕ)) → AreJoins rects joins → (i : ℕ) (js : List ℕ) (k : ℕ) (d : Corners) (x y x' y' : ℤ) → IsChain joins i js k → i < length rects → IsIn (get_or rects i d) x y → IsIn (get_or rects k d) x' y' → AreOneShape (is_cell (map Box rects)) x y x' y'
 joined_along rects joins a i [] k d x y x' y' e l p q = joined_within rects i d x y x' y' l p (rw e q)
 joined_along rects joins a i (m ∷ js) k d x y x' y' (h, s) l p q =
     let cells : ℤ → ℤ → Bool = is_cell (map Box rects) in
@@ -128,14 +129,13 @@ linked_along rects joins apart a i j d x y (c ∷ cs) x' y' l m p q (h, n, w) =
 
 -- ---- the shapes
 
-pub are_shapes : (rects : List Corners) (joins : List (ℕ × ℕ)) (roots label : List ℕ) (count' : ℕ) → AllPairs AreApart rects → AreJoins rects joins → AreRoots joins (length rects) roots → AreNumbers roots label count' → AreShapes rects label count'
-are_shapes rects joins roots label count' apart a r s = record {
-  long = s.long ∙ r.long;
+pub are_shapes : (rects : List Corners) (joins : List (ℕ × ℕ)) (label : List ℕ) (count' : ℕ) → AllPairs AreApart rects → AreJoins rects joins → AreClasses joins (length rects) label count' → AreShapes rects label count'
+are_shapes rects joins label count' apart a r = record {
+  long = r.long;
   same = λ i j d x y x' y' l m p q.
-      let f = s.same i j (rw r.long l) (rw r.long m) in
-      let g = r.same i j l m in (
-        (λ e. let t = g.0 (f.0 e) in joined_along rects joins a i t.trail j d x y x' y' t.is l p q),
-        (λ (cs, w). f.1 (g.1 (linked_along rects joins apart a i j d x y cs x' y' l m p q w))),
+      let f = r.same i j l m in (
+        (λ e. let t = f.0 e in joined_along rects joins a i t.chain j d x y x' y' t.is l p q),
+        (λ (cs, w). f.1 (linked_along rects joins apart a i j d x y cs x' y' l m p q w)),
       );
-  numbered = s.numbered;
+  numbered = r.numbered;
 }

@@ -1,0 +1,4 @@
+pub mod ChainLemmas
+pub mod RootLemmas
+pub mod WayLemmas
+pub mod LabelLemmas
