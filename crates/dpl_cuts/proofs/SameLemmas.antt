@@ -1,23 +1,24 @@
 -- Cells have one list of tiles, tiles one list of shapes, and tiles with their shapes one list of fragments.
-use Rattle.std.proofs.Common.{arith, ◌≡◌, ◌<◌, ◌≤◌, ◌+◌, ◌↔◌, ◌⊎◌, inl, inr, ℕ, zero, suc, Bool, List, [], ◌∷◌, ◌++◌, length, map, max, take, refl, sym, ap, ◌∙◌, subst, All, AllPairs, Any, Contains, get_or}
+use Rattle.std.proofs.Common.{arith, ◌≡◌, ◌<◌, ◌≤◌, ◌+◌, ◌↔◌, inl, inr, ℕ, zero, suc, Bool, List, [], ◌∷◌, ◌++◌, length, map, max, take, sym, ap, ◌∙◌, subst, All, AllPairs, Contains, get_or}
 use Rattle.std.proofs.Math.Seq.{take-suc}
 use Rattle.std.proofs.lemmas.List.Sums.{fold-append}
 use Rattle.std.specs.Prelude.{ℤ, ◌<ℤ◌, ◌≤ℤ◌}
 use Rattle.std.proofs.lemmas.Bool.{cases_lt}
 use Rattle.std.proofs.lemmas.Int.{ints}
 use Rattle.std.proofs.lemmas.List.Elements.{All-map}
-use Rattle.std.proofs.lemmas.List.{get_or_default, get_or-take, length-map, length-take-le, take_more, take_all, get_or-map}
+use Rattle.std.proofs.lemmas.List.{get_or_default, get_or-take, length-map, length-take-le, take_all}
 use Rattle.dpl_cell.specs.declared.rect.Rect.{Rect}
 use Rattle.dpl_cell.specs.Places.{Corners, corners_of}
-use Rattle.dpl_cell.specs.Cells.{IsWithin, IsIn}
+use Rattle.dpl_cell.specs.Cells.{IsIn}
 use Rattle.dpl_cell.specs.Tiles.{IsTile, IsBefore, AreTiles}
 use Rattle.dpl_cell.proofs.Same.{same_corners}
-use Rattle.dpl_near.specs.Shapes.{AreShapes, IsNumbered, next_label}
+use Rattle.dpl_near.specs.Shapes.{AreShapes}
+use Rattle.dpl_classes.specs.Classes.{IsNumbered, next_label}
 use Rattle.dpl_cuts.specs.declared.types.Cut.{Cut}
 use Rattle.dpl_cuts.specs.declared.types.Fragments.{Fragments}
 use Rattle.dpl_cuts.specs.Positions.{nowhere, rect_at, end_of}
 use Rattle.dpl_cuts.specs.Cuts.{zone_at}
-use Rattle.dpl_cuts.specs.Fragments.{IsFragmentOf, AreParts, IsNumber, IsCut, AreCuts, AreFragments, HasMoreFragments}
+use Rattle.dpl_cuts.specs.Fragments.{IsFragmentOf, AreParts, IsCut, AreCuts, AreFragments, HasMoreFragments}
 use Rattle.dpl_cuts.proofs.OrderedLemmas.{ordered_same, has_all, lists_same, maps_same, no_more}
 
 -- ---- tiles

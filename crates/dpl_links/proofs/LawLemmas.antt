@@ -1,20 +1,16 @@
 -- Pieces lie within shapes, and clashes stand for the cells that are too close.
-use Rattle.std.proofs.Common.{arith, ◌≡◌, ◌≢◌, ◌<◌, ◌≤◌, ◌+◌, ◌-◌, ◌*◌, ◌⊎◌, inl, inr, ℕ, ℤ, Bool, true, false, List, [], ◌∷◌, ◌++◌, length, map, min, max, refl, sym, ap, ◌∙◌, subst, All, AllPairs, Any, Contains, get_or, length-append, IsTrue}
+use Rattle.std.proofs.Common.{arith, ◌≡◌, ◌<◌, ◌≤◌, ◌+◌, ◌-◌, ◌*◌, ◌⊎◌, inl, inr, ℕ, ℤ, Bool, List, [], ◌∷◌, ◌++◌, length, map, min, max, refl, sym, ap, ◌∙◌, subst, All, AllPairs, Any, Contains, get_or, length-append, IsTrue}
 use Rattle.std.proofs.lemmas.Bool.{cases_lt}
 use Rattle.std.proofs.lemmas.Int.{ints}
 use Rattle.std.proofs.lemmas.List.{get_or_default, get_or-map, length-map, get_or_append_left, get_or-append_right, get_or-append-add}
 use Rattle.std.proofs.lemmas.List.Elements.{All-append, All-map, All-weaker}
-use Rattle.dpl_cell.specs.declared.rect.Rect.{Rect}
 use Rattle.dpl_cell.specs.Places.{Corners, corners_of}
 use Rattle.dpl_cell.specs.Cells.{IsIn}
-use Rattle.dpl_cell.specs.Gaps.{between, cell_gap2, AreClose}
+use Rattle.dpl_cell.specs.Gaps.{between, cell_gap2}
 use Rattle.dpl_cell.specs.Edges.{SharesEdge}
-use Rattle.dpl_cell.specs.Shapes.{IsWalk, AreOneShape}
+use Rattle.dpl_cell.specs.Shapes.{AreOneShape}
 use Rattle.dpl_near.specs.Shapes.{AreShapes}
 use Rattle.dpl_classes.specs.Chains.{IsChain}
-use Rattle.dpl_classes.specs.Classes.{AreClasses}
-use Rattle.dpl_near.proofs.ShapeLemmas.{held}
-use Rattle.dpl_sign.specs.declared.edges.Kind.{Kind}
 use Rattle.dpl_sign.specs.declared.edges.Kind.TheVariants.{Bond, Stitch, Clash}
 use Rattle.dpl_sign.specs.declared.edges.Edge.{Edge}
 use Rattle.dpl_sign.specs.declared.nets.Net.{Net}

@@ -1,14 +1,12 @@
 -- Fragments have one net.
-use Rattle.std.proofs.Common.{arith, ◌≡◌, ◌≢◌, ◌<◌, ◌≤◌, ◌+◌, ◌^◌, ◌⊎◌, inl, inr, ℕ, suc, ◌==◌, Bool, true, false, List, [], ◌∷◌, length, map, refl, sym, ap, ◌∙◌, subst, All, AllPairs, Any, Contains, get_or, if◌then◌else◌}
+use Rattle.std.proofs.Common.{arith, ◌≡◌, ◌<◌, ◌≤◌, ◌+◌, ◌^◌, ◌⊎◌, inl, inr, ℕ, suc, ◌==◌, Bool, true, false, List, [], ◌∷◌, length, map, refl, sym, ap, ◌∙◌, subst, All, Contains, if◌then◌else◌}
 use Rattle.std.proofs.Common.{Ordering, Less, Equal, Greater}
 use Rattle.std.proofs.Props.{props}
 use Rattle.std.specs.Prelude.{ℤ, pos, ◌-ℤ◌, ◌<ℤ◌, ◌≤ℤ◌}
 use Rattle.std.specs.List.{AllZip}
 use Rattle.std.specs.Ordering.{nat_cmp, ordering_then}
 use Rattle.std.proofs.lemmas.Cmp.{ranked}
-use Rattle.std.proofs.lemmas.Bool.{cases_lt}
 use Rattle.std.proofs.lemmas.List.{get_or_default, length-map}
-use Rattle.dpl_cell.specs.declared.rect.Rect.{Rect}
 use Rattle.dpl_cell.specs.declared.types.Facing.{Facing}
 use Rattle.dpl_cell.specs.declared.types.Facing.TheVariants.{Side, Corner}
 use Rattle.dpl_cell.specs.Places.{Corners, corners_of}
@@ -16,15 +14,12 @@ use Rattle.dpl_cell.specs.Cells.{IsWithin}
 use Rattle.dpl_cell.specs.Gaps.{between}
 use Rattle.dpl_cell.specs.Facing.{IsCommon, IsAhead, IsDistance, IsLeft, IsBelow, FacesLevel, FacesUpright, IsOffCorner, IsFacing}
 use Rattle.dpl_classes.specs.Classes.{AreClasses}
-use Rattle.dpl_sign.specs.declared.edges.Kind.{Kind}
 use Rattle.dpl_sign.specs.declared.edges.Edge.{Edge}
-use Rattle.dpl_sign.specs.declared.graphs.Signed.{Signed}
 use Rattle.dpl_sign.specs.declared.nets.Net.{Net}
 use Rattle.dpl_sign.specs.declared.ports.Port.{Port}
 use Rattle.dpl_sign.specs.Kinds.{EndsBelow, BondsFirst}
 use Rattle.dpl_sign.specs.Sides.{is_corner}
 use Rattle.dpl_sign.proofs.Equal.{same_edge, same_port}
-use Rattle.dpl_cuts.specs.declared.types.Cut.{Cut}
 use Rattle.dpl_cuts.specs.declared.types.Fragments.{Fragments}
 use Rattle.dpl_cuts.specs.Positions.{nowhere, rect_at}
 use Rattle.dpl_cuts.proofs.OrderedLemmas.{ordered_same, has_all, maps_same}
@@ -32,7 +27,7 @@ use Rattle.dpl_cuts.proofs.SameLemmas.{HasCell, rects_have, numbers_same, count_
 use Rattle.dpl_links.specs.declared.types.Weights.{Weights}
 use Rattle.dpl_links.specs.declared.linking.Link.{Link}
 use Rattle.dpl_links.specs.Pairs.{Scene, IsBond, IsFirst, ArePairs}
-use Rattle.dpl_links.specs.Links.{IsUpTo, AreAlike, IsLink, IsLeast, AreClashes}
+use Rattle.dpl_links.specs.Links.{IsUpTo, IsLeast, AreClashes}
 use Rattle.dpl_links.specs.Ports.{side_key, IsPort, IsPortTo}
 use Rattle.dpl_links.specs.Nets.{scene, Tie, tie_of, ties_of, HasPorts, IsNet, HasMoreEdges}
 use Rattle.dpl_links.proofs.HeadLemmas.{rank_equal}

@@ -1,10 +1,9 @@
 -- The spacing between shapes, cell by cell, and the clashes of a net (conflict graph: Kahng, Park, Xu and Yao 2008).
-use Rattle.std.specs.Prelude.{◌≡◌, ◌≢◌, ◌⊎◌, ◌<◌, ◌*◌, ℕ, ℤ, Bool, IsTrue, List, length, All, Any, AllPairs, slice_index_or, map}
-use Rattle.dpl_cell.specs.Places.{Corners, corners_of}
+use Rattle.std.specs.Prelude.{◌≡◌, ◌⊎◌, ◌<◌, ◌*◌, ℕ, ℤ, Bool, IsTrue, List, length, All, Any, AllPairs, slice_index_or}
+use Rattle.dpl_cell.specs.Places.{Corners}
 use Rattle.dpl_cell.specs.Cells.{IsIn}
 use Rattle.dpl_cell.specs.Gaps.{cell_gap2}
 use Rattle.dpl_cell.specs.Shapes.{AreOneShape}
-use Rattle.dpl_sign.specs.declared.edges.Kind.{Kind}
 use Rattle.dpl_sign.specs.declared.edges.Kind.TheVariants.{Clash}
 use Rattle.dpl_sign.specs.declared.edges.Edge.{Edge}
 use Rattle.dpl_cuts.specs.Positions.{layer_of, rect_at}
@@ -38,7 +37,8 @@ pub record HoldTooClose (tiles rects : List Corners) (space a b : ℕ) : Type 0 
 pub record AreAllClashes (tiles rects : List Corners) (space : ℕ) (pieces : List ℕ) (edges : List Edge) : Type 0 where
   pub each : All (λ e. e.kind ≡ Clash → HoldTooClose tiles rects space e.a e.b) edges
   pub all : (i j : ℕ) (x y x' y' : ℤ) → i < length rects → j < length rects
-      → IsIn (rect_at rects i) x y → IsIn (rect_at rects j) x' y' → AreTooClose (layer_of tiles) space x y x' y' → Any (IsClashOf pieces i j) edges
+      → IsIn (rect_at rects i) x y → IsIn (rect_at rects j) x' y'
+      → AreTooClose (layer_of tiles) space x y x' y' → Any (IsClashOf pieces i j) edges
   pub one : AllPairs (λ d e. e.kind ≡ Clash → ¬ IsClashOf pieces e.a e.b d) edges
 
 -- all fragments of a piece are of one shape
