@@ -6,12 +6,14 @@ use Rattle.dpl_report.specs.declared.options.Options.{Options}
 use Rattle.dpl_report.specs.Plain.{PlainReport}
 use Rattle.dpl_layer.specs.declared.error.LayerError.{LayerError}
 use Rattle.dpl_layer.specs.Refusals.{RefusesLayer}
-use Rattle.dpl_core.specs.Splits.{IsReportOf, IsSplit, RefusesSplit}
+use Rattle.dpl_core.specs.Reports.{IsReportOf, IsSplit}
+use Rattle.dpl_core.specs.Refusals.{RefusesSplit}
 use Rattle.dpl_core.proofs.OnceLemmas.{one_refusal, split_not_refused, report_not_refused}
 use Rattle.dpl_check.specs.declared.verdicts.Verdict.{Verdict}
 use Rattle.dpl_check.specs.declared.verdicts.Verdict.TheVariants.{Yes, No}
 use Rattle.dpl_check.specs.Checked.{IsVerdictOf}
-use Rattle.dpl_check.proofs.OnceLemmas.{one_layer_refusal, verdict_not_refused, one_verdict}
+use Rattle.dpl_layer.proofs.RefusalLemmas.{one_text_refusal}
+use Rattle.dpl_check.proofs.OnceLemmas.{verdict_not_refused, one_verdict}
 use Rattle.dpl_words.specs.Commands.{PlainOptions, PlainCommand, split, check, load}
 use Rattle.dpl_words.specs.Views.{plain_options}
 use Rattle.dpl_words.proofs.ViewLemmas.{same_options}
@@ -126,7 +128,7 @@ data Judged (plain : PlainOptions) (text report : List ℕ) : Status → Type 0 
   ends : (o : Options) → plain_options o ≡ plain → (v : Verdict) → IsVerdictOf o text report v → Judged plain text report (status_of_verdict v)
 
 one_judged : (plain : PlainOptions) (text report : List ℕ) (a b : Status) → Judged plain text report a → Judged plain text report b → a ≡ b
-one_judged plain text report _ _ (stops o e error r) (stops p f error' q) = ap status_of (one_layer_refusal o text error error' r (subst (λ z. RefusesLayer z text error') (same_of o p plain e f) q))
+one_judged plain text report _ _ (stops o e error r) (stops p f error' q) = ap status_of (one_text_refusal o text error error' r (subst (λ z. RefusesLayer z text error') (same_of o p plain e f) q))
 one_judged plain text report _ _ (stops o e error r) (ends p f v q) = absurd (verdict_not_refused o text report error v r (subst (λ z. IsVerdictOf z text report v) (same_of o p plain e f) q))
 one_judged plain text report _ _ (ends o e v p) (stops q f error r) = absurd (verdict_not_refused o text report error v (subst (λ z. RefusesLayer z text error) (same_of o q plain e f) r) p)
 one_judged plain text report _ _ (ends o e v p) (ends q f w r) = ap status_of_verdict (one_verdict o text report v w p (subst (λ z. IsVerdictOf z text report w) (same_of o q plain e f) r))

@@ -5,7 +5,7 @@ use Rattle.dpl_report.specs.declared.options.Options.{Options}
 use Rattle.dpl_layer.specs.declared.error.LayerError.{LayerError}
 use Rattle.dpl_layer.specs.declared.error.LayerError.TheVariants as refusal
 use Rattle.dpl_layer.specs.Refusals.{RefusesLayer}
-use Rattle.dpl_core.specs.Splits.{RefusesSplit}
+use Rattle.dpl_core.specs.Refusals.{RefusesSplit}
 use Rattle.dpl_words.specs.Commands.{PlainCommand}
 use Rattle.dpl_run.specs.declared.status.Status.{Status}
 use Rattle.dpl_run.specs.declared.status.Status.TheVariants.{Done, ReadFault, WriteFault, NoMemory}

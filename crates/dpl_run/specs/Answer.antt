@@ -7,7 +7,8 @@ use Rattle.dpl_report.specs.declared.options.Options.{Options}
 use Rattle.dpl_report.specs.Plain.{PlainReport}
 use Rattle.dpl_layer.specs.declared.error.LayerError.{LayerError}
 use Rattle.dpl_layer.specs.Refusals.{RefusesLayer}
-use Rattle.dpl_core.specs.Splits.{IsReportOf, IsSplit, RefusesSplit}
+use Rattle.dpl_core.specs.Reports.{IsReportOf, IsSplit}
+use Rattle.dpl_core.specs.Refusals.{RefusesSplit}
 use Rattle.dpl_check.specs.declared.verdicts.Verdict.TheVariants.{Yes, No}
 use Rattle.dpl_check.specs.Checked.{IsVerdictOf}
 use Rattle.dpl_words.specs.Commands.{PlainOptions, PlainCommand, split, check, load, command_of}
