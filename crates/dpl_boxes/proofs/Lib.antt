@@ -1,4 +1,3 @@
-pub mod MaskLemmas
 pub mod NumberLemmas
 pub mod LineLemmas
 pub mod ReadingLemmas

@@ -1,20 +1,17 @@
--- The text of two masks is the text of its lines.
+-- What lines of masks draw.
 use Rattle.std.proofs.Common.{◌≢◌, Bool, false, sym, arith, ◌≡◌, ◌≤◌, ℕ, ◌+◌, true, List, [], ◌∷◌, ◌++◌, length, map, refl, sym, ap, ◌∙◌, append_assoc, length-append, None, All}
 use Rattle.std.specs.Prelude.{ℤ, ◌||◌, codes, nat_le}
-use Rattle.std.specs.List.{flat_map}
 use Rattle.std.proofs.lemmas.Bool.Decides.{nat_tests}
-use Rattle.std.proofs.lemmas.Grind.{flat_map-append}
 use Rattle.std.proofs.lemmas.List.Folds.{list_all-append}
 use Rattle.std.proofs.lemmas.List.Elements.{All-nil, All-cons, All-append, All-map, All-weaker}
-use Rattle.dpl_cell.specs.declared.rect.Rect.{Rect}
-use Rattle.dpl_cell.specs.Places.{Corners, corners_of}
+use Rattle.dpl_cell.specs.Places.{Corners}
 use Rattle.dpl_cell.specs.Ranges.{IsRectangle}
 use Rattle.dpl_lex.specs.Classes.{is_name_byte}
 use Rattle.dpl_lex.specs.Name.{is_name}
-use Rattle.dpl_boxes.specs.Masks.{mask_text, mask_lines}
-use Rattle.dpl_boxes.specs.Lines.{Line, line_text, lines_text, IsRead, Says, comment_line}
-use Rattle.dpl_boxes.specs.MaskLines.{box_line, start_line, finish_line, call_line, last_lines, lines_of_mask, lines_of_definition, lines_of_masks, mask_comments}
-use Rattle.dpl_boxes.specs.Drawings.{IsFlat, HasBoxes, is_in_boxes, DrawsMasks, MasksAreDrawn, AllMasksAreDrawn, first_fault, primitives_of}
+use Rattle.dpl_boxes.specs.Lines.{lines_text, IsRead, Says, comment_line}
+use Rattle.dpl_boxes.specs.MaskLines.{box_line, start_line, finish_line, call_line, last_lines, lines_of_mask, lines_of_definition, lines_of_masks}
+use Rattle.dpl_boxes.specs.Drawings.{IsFlat, HasBoxes, is_in_boxes, DrawsMasks, AllMasksAreDrawn}
+use Rattle.dpl_cif.specs.Reading.{first_fault, primitives_of, bodies_in, depth_of}
 use Rattle.dpl_cell.specs.Outlines.{Box}
 use Rattle.dpl_cell.specs.Layers.{is_in_box, is_cell}
 use Rattle.std.specs.Str.{bytes_eq}
@@ -23,26 +20,9 @@ use Rattle.std.proofs.lemmas.Slice.Eq.{bytes_eq-Decides}
 use Rattle.std.proofs.lemmas.List.{append_cancel_left, append-nil}
 use Rattle.dpl_boxes.proofs.CleanLemmas.{masks_are_clean, numbers_of_masks}
 use Rattle.dpl_boxes.proofs.DrawingLemmas.{boxes_where, outlines_of_masks}
-use Rattle.dpl_boxes.proofs.MaskLemmas.{flat_map-map}
 use Rattle.dpl_boxes.proofs.LineLemmas.{lines_are_read}
 use Rattle.dpl_boxes.proofs.ReadingLemmas.{comment_is_read, start_is_read, layer_is_read, finish_is_read, call_is_read, name_bytes}
 use Rattle.dpl_boxes.proofs.BoxLemmas.{box_is_read}
-
-text_of_mask : (layer letter : List ℕ) (boxes : List Corners) → mask_lines layer letter boxes ≡ flat_map line_text (lines_of_mask (layer ++ letter) boxes)
-text_of_mask layer letter boxes = ap (λ xs. 76 ∷ 32 ∷ (((layer ++ letter) ++ codes ";\n") ++ xs)) (sym (flat_map-map line_text box_line boxes))
-
-end_of_text : (xs : List Line) → flat_map line_text xs ++ codes "DF;\nC 1;\nE\n" ≡ lines_text (xs ++ last_lines)
-end_of_text xs = sym (append_assoc (flat_map line_text xs) (codes "DF;\nC 1;\n") (codes "E\n")) ∙ ap (λ t. t ++ codes "E\n") (sym (flat_map-append line_text xs last_lines))
-
-text_of_masks : (layer : List ℕ) (on_a on_b : List Corners) → mask_text layer on_a on_b ≡ lines_text (lines_of_masks mask_comments layer on_a on_b)
-text_of_masks layer on_a on_b =
-    let a = lines_of_mask (layer ++ codes "A") on_a in
-    let b = lines_of_mask (layer ++ codes "B") on_b in
-    let first = ap (λ t. codes "(dpl 0);\nDS 1 1 4;\n" ++ t ++ mask_lines layer (codes "B") on_b ++ codes "DF;\nC 1;\nE\n") (text_of_mask layer (codes "A") on_a) in
-    let second = ap (λ t. codes "(dpl 0);\nDS 1 1 4;\n" ++ flat_map line_text a ++ t ++ codes "DF;\nC 1;\nE\n") (text_of_mask layer (codes "B") on_b) in
-    let joined = ap (λ t. codes "(dpl 0);\nDS 1 1 4;\n" ++ (t ++ codes "DF;\nC 1;\nE\n")) (sym (flat_map-append line_text a b)) in
-    let ended = ap (λ t. codes "(dpl 0);\nDS 1 1 4;\n" ++ t) (end_of_text (a ++ b)) in
-    first ∙ second ∙ joined ∙ ended ∙ ap (λ ls. codes "(dpl 0);\nDS 1 1 4;\n" ++ lines_text ls) (append_assoc a b last_lines)
 
 name_with : (layer : List ℕ) (letter : ℕ) → is_name layer ≡ true → length layer ≤ 31 → is_name_byte letter ≡ true → is_name (layer ++ letter ∷ []) ≡ true
 name_with layer letter h l b =
@@ -93,7 +73,7 @@ masks_are_drawn comments layer on_a on_b text a b s =
     let on_second = layer ++ codes "B" in
     let clean : (chosen : List ℕ) → first_fault chosen text ≡ None = λ chosen. rw (first_fault, s.commands, s.ending) (masks_are_clean chosen comments layer on_a on_b a b) in
     let drawn : (chosen : List ℕ) → primitives_of chosen text ≡ boxes_where (bytes_eq on_first chosen) on_a ++ boxes_where (bytes_eq on_second chosen) on_b
-    = λ chosen. rw (primitives_of, s.commands, numbers_of_masks comments layer on_a on_b) (outlines_of_masks chosen comments layer on_a on_b 0 a b) in
+    = λ chosen. rw (primitives_of, bodies_in, depth_of, s.commands, numbers_of_masks comments layer on_a on_b) (outlines_of_masks chosen comments layer on_a on_b 0 a b) in
     record {
       clean = clean;
       on_first = has_boxes on_first on_a text (drawn on_first ∙ rw (same_name on_first, other_name on_second on_first (λ e. two_letters layer (sym e)), append-nil (map Box on_a)) refl);
@@ -107,18 +87,3 @@ all_masks_are_drawn comments layer on_a on_b c h l a b =
     let lines = lines_of_masks comments layer on_a on_b in
     let s = lines_are_read lines (masks_are_read comments layer on_a on_b c h l a b) in
     record { says = s; draws = masks_are_drawn comments layer on_a on_b (lines_text lines) a b s }
-
-rectangles : (rs : List Rect) → All IsRectangle (map corners_of rs)
-rectangles [] = All-nil IsRectangle
-rectangles (r ∷ rs) = All-cons IsRectangle (corners_of r) (map corners_of rs) (rectangle r) (rectangles rs) where
-  rectangle : (r : Rect) → IsRectangle (corners_of r)
-  rectangle r = record { columns = record { some = r.wide; low = r.left; high = r.right }; rows = record { some = r.high; low = r.below; high = r.above } }
-
--- the text of two masks is such a text
-pub mask_text_is_drawn : (layer : List ℕ) (on_a on_b : List Rect) → is_name layer ≡ true → length layer ≤ 31
-    → (mask_text layer (map corners_of on_a) (map corners_of on_b) ≡ lines_text (lines_of_masks mask_comments layer (map corners_of on_a) (map corners_of on_b)))
-    × MasksAreDrawn mask_comments layer (map corners_of on_a) (map corners_of on_b)
-mask_text_is_drawn layer on_a on_b h l = (
-  text_of_masks layer (map corners_of on_a) (map corners_of on_b),
-  all_masks_are_drawn mask_comments layer (map corners_of on_a) (map corners_of on_b) (All-cons IsFlat (codes "dpl 0") [] refl (All-nil IsFlat)) h l (rectangles on_a) (rectangles on_b),
-)

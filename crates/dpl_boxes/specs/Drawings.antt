@@ -1,39 +1,14 @@
--- What a text draws, by the definitions of `dpl_rules` and `dpl_calls` (Mead and Conway 1980, section 4.5).
-use Rattle.std.specs.Prelude.{◌≡◌, ◌≢◌, ◌≤◌, ℕ, suc, ℤ, Bool, true, List, [], ◌++◌, length, map, codes, Option, None, All}
+-- What a text of masks draws, by the definitions of `dpl_cif` (Mead and Conway 1980, section 4.5).
+use Rattle.std.specs.Prelude.{◌≡◌, ◌≢◌, ◌≤◌, ℕ, ℤ, Bool, true, List, [], ◌++◌, length, map, codes, None, All}
 use Rattle.std.specs.List.{list_all, list_any}
-use Rattle.dpl_lex.specs.Cutting.{commands_of}
 use Rattle.dpl_lex.specs.Name.{is_name}
-use Rattle.dpl_rules.specs.declared.figures.Extent.{Extent}
-use Rattle.dpl_rules.specs.Rules.{Fault, at_first}
-use Rattle.dpl_calls.specs.declared.figure.Figure.{Figure}
-use Rattle.dpl_calls.specs.declared.figure.Figure.TheVariants as figure
-use Rattle.dpl_calls.specs.Parts.{parts_from}
-use Rattle.dpl_calls.specs.Loops.{fault_of, numbers_from}
-use Rattle.dpl_calls.specs.Unfolding.{figures_of, unmoved}
+use Rattle.dpl_cif.specs.Reading.{first_fault, primitives_of}
 use Rattle.dpl_cell.specs.Places.{Corners}
-use Rattle.dpl_cell.specs.Outlines.{Outline, Box, Polygon}
+use Rattle.dpl_cell.specs.Outlines.{Box}
 use Rattle.dpl_cell.specs.Layers.{is_in_box, is_cell}
 use Rattle.dpl_cell.specs.Ranges.{IsRectangle}
-use Rattle.dpl_boxes.specs.Lines.{commands_in, lines_text, Says, is_flat}
+use Rattle.dpl_boxes.specs.Lines.{lines_text, Says, is_flat}
 use Rattle.dpl_boxes.specs.MaskLines.{lines_of_masks}
-
--- the first broken rule of a text, with its command, where this layer is chosen
-abbrev pub first_fault : List ℕ → List ℕ → Option Fault
-first_fault chosen text = fault_of chosen (commands_in text) (commands_of text).ending
-
-abbrev pub corners_of_extent : Extent → Corners
-corners_of_extent e = record { x1 = e.x1; y1 = e.y1; x2 = e.x2; y2 = e.y2 }
-
-abbrev pub outline_of_figure : Figure → Outline
-outline_of_figure (figure.Rectangle e) = Box (corners_of_extent e)
-outline_of_figure (figure.Polygon corners) = Polygon (map (λ c. (c.x, c.y)) corners)
-
--- the boxes and polygons of the chosen layer after all calls; none is deeper than there are definitions
-abbrev pub primitives_of : List ℕ → List ℕ → List Outline
-primitives_of chosen text =
-    let commands = commands_in text in
-    let bodies = parts_from chosen at_first commands in
-    map outline_of_figure (figures_of (suc (length (numbers_from [] commands))) bodies unmoved (bodies None))
 
 -- the cell lies in one of the boxes
 abbrev pub is_in_boxes : List Corners → ℤ → ℤ → Bool

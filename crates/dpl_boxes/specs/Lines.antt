@@ -1,13 +1,14 @@
 -- Texts that have one command in each line, and how they are read again.
 use Rattle.std.specs.Prelude.{◌≡◌, ℕ, ◌+◌, Bool, true, not, ◌||◌, ◌==◌, List, ◌∷◌, ◌++◌, length, map, flat_map, codes, All, Some, Result, Ok}
 use Rattle.std.specs.List.{list_all}
-use Rattle.dpl_lex.specs.Cutting.{commands_of, cut, with_span, span}
+use Rattle.dpl_lex.specs.Cutting.{cut, with_span, span}
 use Rattle.dpl_lex.specs.declared.cutting.Place.TheVariants.{Between}
 use Rattle.dpl_lex.specs.declared.types.Ending.TheVariants.{End}
 use Rattle.dpl_rules.specs.declared.command.Command.{Command}
 use Rattle.dpl_rules.specs.declared.command.Command.TheVariants.{Idle}
 use Rattle.dpl_rules.specs.declared.what.What.{What}
-use Rattle.dpl_rules.specs.Bounds.{command_of, read_commands}
+use Rattle.dpl_rules.specs.Bounds.{command_of}
+use Rattle.dpl_cif.specs.Reading.{forms_of, ending_of}
 
 -- a line without its semicolon, and the command that it says
 pub record Line : Type 0 where
@@ -27,18 +28,14 @@ pub record IsRead (l : Line) : Type 0 where
   pub cut_out : (rest : List ℕ) (at : ℕ) → cut Between at (l.bytes ++ 59 ∷ rest) ≡ with_span (Some (span at (at + length l.bytes))) (cut Between (at + length l.bytes + 1) rest)
   pub read : command_of l.bytes ≡ Ok l.command
 
--- the commands of a text, each with what it says
-abbrev pub commands_in : List ℕ → List (Result Command What)
-commands_in text = read_commands text (commands_of text).spans
-
 -- what a line says
 abbrev pub said : Line → Result Command What
 said l = Ok l.command
 
 -- The commands of a text are what these lines say, and it ends with its end command.
 pub record Says (text : List ℕ) (lines : List Line) : Type 0 where
-  pub commands : commands_in text ≡ map said lines
-  pub ending : (commands_of text).ending ≡ End
+  pub commands : forms_of text ≡ map said lines
+  pub ending : ending_of text ≡ End
 
 -- such a text says what its lines say
 abbrev pub LinesAreRead : Type 0

@@ -7,7 +7,7 @@ use Rattle.dpl_rules.specs.declared.command.Scale.{Scale}
 use Rattle.dpl_rules.specs.declared.command.BoxForm.{BoxForm}
 use Rattle.dpl_rules.specs.declared.command.Command.TheVariants.{Box, Layer, Start, Finish, Call}
 use Rattle.dpl_rules.specs.Readers.{spot}
-use Rattle.dpl_boxes.specs.Masks.{spaced}
+use Rattle.dpl_boxes.specs.Masks.{box_bytes}
 use Rattle.dpl_boxes.specs.Lines.{Line, IsRead, comment_line}
 
 -- quarters of a hundredth of a micron
@@ -32,7 +32,7 @@ box_form b = record {
 
 abbrev pub box_line : Corners → Line
 box_line b = record {
-  bytes = codes "B" ++ spaced ((b.x2 -ℤ b.x1) *ℤ pos 2) ++ spaced ((b.y2 -ℤ b.y1) *ℤ pos 2) ++ spaced (b.x1 +ℤ b.x2) ++ spaced (b.y1 +ℤ b.y2);
+  bytes = box_bytes b;
   command = Box (box_form b);
 }
 
@@ -58,10 +58,6 @@ lines_of_definition layer on_a on_b = start_line ∷ (lines_of_mask (layer ++ co
 -- the same behind comments
 abbrev pub lines_of_masks : List (List ℕ) → List ℕ → List Corners → List Corners → List Line
 lines_of_masks comments layer on_a on_b = map comment_line comments ++ lines_of_definition layer on_a on_b
-
--- the one comment of a text of masks
-abbrev pub mask_comments : List (List ℕ)
-mask_comments = codes "dpl 0" ∷ []
 
 abbrev pub LayersAreRead : Type 0
 LayersAreRead = (name : List ℕ) → is_name name ≡ true → IsRead (layer_line name)

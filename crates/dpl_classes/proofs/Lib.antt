@@ -2,3 +2,4 @@ pub mod ChainLemmas
 pub mod RootLemmas
 pub mod WayLemmas
 pub mod LabelLemmas
+pub mod NumberLemmas

@@ -24,10 +24,10 @@ rooted_none pairs roots h = record {
   done = λ k d l. absurd (omega arith);
 }
 
-moved_yes : (from to r : ℕ) → r ≡ from → cond (r == from) to r ≡ to
+pub moved_yes : (from to r : ℕ) → r ≡ from → cond (r == from) to r ≡ to
 moved_yes from to r e = grind (arith, nat_tests)
 
-moved_no : (from to r : ℕ) → r ≢ from → cond (r == from) to r ≡ r
+pub moved_no : (from to r : ℕ) → r ≢ from → cond (r == from) to r ≡ r
 moved_no from to r e = grind (arith, nat_tests)
 
 -- the root `from` gives way to the smaller root `to`: they are those of the two ends of a pair

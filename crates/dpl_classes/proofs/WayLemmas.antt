@@ -1,11 +1,10 @@
 -- Where ways up end, as they are made shorter and joined.
 use Rattle.std.proofs.Common.{arith, ◌≡◌, ◌≢◌, ℕ, ◌+◌, ◌<◌, ◌≤◌, ◌==◌, List, length, get_or, set, length-set, ◌∙◌, All, refl, sym, ap, subst, inl, inr, cond, max, min, map, get_or-set_other, get_or-set_same}
 use Rattle.std.proofs.lemmas.Bool.{cases_lt, cases_eq}
-use Rattle.std.proofs.lemmas.Bool.Decides.{nat_tests}
 use Rattle.std.proofs.lemmas.List.{get_or-map, length-map, ext_get_or}
 use Rattle.dpl_classes.specs.Ways.{AreTops, IsUnited}
 use Rattle.dpl_classes.specs.Roots.{Falls}
-use Rattle.dpl_classes.proofs.RootLemmas.{Rooted, rooted_none, rooted_more, rooted_all, move_at}
+use Rattle.dpl_classes.proofs.RootLemmas.{moved_yes, moved_no, Rooted, rooted_none, rooted_more, rooted_all, move_at}
 
 -- each number is its own end at first
 pub tops_none : (ups : List ℕ) → ((k : ℕ) → k < length ups → get_or ups k 0 ≡ k) → AreTops ups ups
@@ -51,12 +50,6 @@ top_step ups tops at next of within e t h = let a = t.falls at within in rw e (t
 
 abbrev pub led : ℕ → ℕ → List ℕ → List ℕ
 led from to tops = map (λ r. cond (r == from) to r) tops
-
-moved_yes : (from to r : ℕ) → r ≡ from → cond (r == from) to r ≡ to
-moved_yes from to r e = grind (arith, nat_tests)
-
-moved_no : (from to r : ℕ) → r ≢ from → cond (r == from) to r ≡ r
-moved_no from to r e = grind (arith, nat_tests)
 
 led_at : (from to : ℕ) (tops : List ℕ) (k : ℕ) → k < length tops → get_or (led from to tops) k 0 ≡ cond (get_or tops k 0 == from) to (get_or tops k 0)
 led_at from to tops k l = get_or-map (λ r. cond (r == from) to r) tops k 0 0 l

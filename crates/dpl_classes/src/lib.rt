@@ -5,6 +5,7 @@
 #![tactic(auto)]
 
 mod classing;
+pub mod laws;
 mod numbering;
 mod rooting;
 

@@ -12,8 +12,8 @@ use Rattle.dpl_cell.specs.Places.{Corners, corners_of}
 use Rattle.dpl_cell.specs.Cells.{IsIn}
 use Rattle.dpl_cell.specs.Tiles.{IsTile, IsBefore, AreTiles}
 use Rattle.dpl_cell.proofs.Same.{same_corners}
-use Rattle.dpl_near.specs.Shapes.{AreShapes}
 use Rattle.dpl_classes.specs.Classes.{IsNumbered, next_label}
+use Rattle.dpl_near.specs.Shapes.{AreShapes}
 use Rattle.dpl_cuts.specs.declared.types.Cut.{Cut}
 use Rattle.dpl_cuts.specs.declared.types.Fragments.{Fragments}
 use Rattle.dpl_cuts.specs.Positions.{nowhere, rect_at, end_of}

@@ -5,3 +5,4 @@ pub mod JoinLemmas
 pub mod WalkLemmas
 pub mod ShapeLemmas
 pub mod ApartLemmas
+pub mod LawLemmas

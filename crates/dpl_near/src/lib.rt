@@ -9,6 +9,7 @@ mod apart;
 mod finder;
 mod index;
 mod joining;
+pub mod laws;
 mod order;
 mod shaping;
 pub mod types;

@@ -64,7 +64,7 @@ bonds_none : (colours : List Bool) (e : ℕ) (edges : List Edge) → All (λ (d 
 bonds_none colours e [] a = refl
 bonds_none colours e (edge ∷ edges) a = both_none _ _ (bond_none colours e edge (a 0 edge (omega arith))) (bonds_none colours (e + 1) edges (λ k d l. a (suc k) d (omega arith)))
 
-edges_told : AreTold {X = ℕ} (λ e. e) (λ e w. None)
+pub edges_told : AreTold {X = ℕ} (λ e. e) (λ e w. None)
 edges_told = record { told = λ x w e f. e; same = λ x. refl }
 
 walks_none : (g : Signed) (cycle : ℕ) (cs : List Cycle) → All (λ (c : Cycle). IsOddWalk g c.walk) cs → walks_miss g cycle cs ≡ None

@@ -11,11 +11,11 @@ use Rattle.dpl_report.specs.declared.refusals.Miss.{Miss}
 use Rattle.dpl_report.specs.Misses.{pair_miss, numbers_miss}
 use Rattle.dpl_report.specs.Conditions.{edge_miss, lists_miss, ends_numbers, corner_numbers, ends_miss, zone_miss, clash_lines_miss, cut_lines_miss}
 
-or_none : (a b : Option Miss) → or_else a b ≡ None → (a ≡ None) × (b ≡ None)
+pub or_none : (a b : Option Miss) → or_else a b ≡ None → (a ≡ None) × (b ≡ None)
 or_none None b e = (refl, e)
 or_none (Some x) b e = absurd (cc)
 
-pair_none : (place : ℕ) (x y : ℤ) → pair_miss place x y ≡ None → x ≡ y
+pub pair_none : (place : ℕ) (x y : ℤ) → pair_miss place x y ≡ None → x ≡ y
 pair_none place x y e = by_test (int_eq x y) refl e where
   by_test : (t : Bool) → int_eq x y ≡ t → pair_miss place x y ≡ None → x ≡ y
   by_test true f g = (Decides-int_eq x y).0 f
@@ -24,7 +24,7 @@ pair_none place x y e = by_test (int_eq x y) refl e where
 pub pair_same : (place : ℕ) (x : ℤ) → pair_miss place x x ≡ None
 pair_same place x = rw ((Decides-int_eq x x).1 refl) refl
 
-numbers_none : (place : ℕ) (xs ys : List ℤ) → length xs ≡ length ys → numbers_miss place xs ys ≡ None → xs ≡ ys
+pub numbers_none : (place : ℕ) (xs ys : List ℤ) → length xs ≡ length ys → numbers_miss place xs ys ≡ None → xs ≡ ys
 numbers_none place [] [] l e = refl
 numbers_none place [] (y ∷ ys) l e = absurd (omega arith)
 numbers_none place (x ∷ xs) [] l e = absurd (omega arith)
@@ -79,7 +79,7 @@ corners_with : List ℤ → Corners
 corners_with (a ∷ b ∷ c ∷ d ∷ zs) = record { x1 = a; y1 = b; x2 = c; y2 = d }
 corners_with _ = record { x1 = pos 0; y1 = pos 0; x2 = pos 0; y2 = pos 0 }
 
-same_corners : (c d : Corners) → corner_numbers c ≡ corner_numbers d → c ≡ d
+pub same_corners : (c d : Corners) → corner_numbers c ≡ corner_numbers d → c ≡ d
 unfolding corners_with
 same_corners c d e = ap corners_with e
 

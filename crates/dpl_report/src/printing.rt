@@ -13,9 +13,9 @@ use crate::marks::{Broken, Zone};
 use crate::params::{Counts, Params};
 use crate::reports::Report;
 use crate::writing::{
-    push_aside, push_box, push_clash, push_count, push_cut, push_cycle, push_layer, push_mask,
-    push_masks,
+    push_aside, push_clash, push_count, push_cut, push_cycle, push_layer, push_mask, push_masks,
 };
+use dpl_boxes::push_box;
 use dpl_cell::Rect;
 use dpl_sign::Cycle;
 use std::alloc::{AllocError as NoMemory, Global};

@@ -1,6 +1,4 @@
 use Rattle.std.proofs.lemmas.Result.{IfOk-weaker}
-use Rattle.dpl_classes.specs.Classes.{AreClasses}
-use Rattle.dpl_classes.specs.Roots.{AreRoots, AreNumbers}
 use Rattle.dpl_classes.proofs.LabelLemmas.{classes_are}
 use Rattle.dpl_classes.proofs.classing.classes.Goals as goal
 
