@@ -13,7 +13,7 @@ use Rattle.dpl_layer.specs.declared.error.LayerError.{LayerError}
 use Rattle.dpl_layer.specs.declared.error.LayerError.TheVariants.{NoMemory}
 use Rattle.dpl_layer.specs.Layers.{IsLayerOf}
 use Rattle.dpl_layer.specs.Refusals.{RefusesLayer}
-use Rattle.dpl_layer.proofs.LayerLemmas.{one_layer}
+use Rattle.dpl_layer.proofs.LayerLemmas.{same_layer}
 use Rattle.dpl_layer.proofs.RefusalLemmas.{not_refused_text, one_text_refusal}
 use Rattle.dpl_check.specs.declared.verdicts.Verdict.{Verdict}
 use Rattle.dpl_check.specs.declared.verdicts.Verdict.TheVariants.{Yes, No}
@@ -22,7 +22,7 @@ use Rattle.dpl_check.specs.Checked.{BoundsAll, IsVerdictOf}
 use Rattle.dpl_check.proofs.GoodLemmas.{good_only, good_bounds}
 
 one_read : (o : Options) (read : Reading) (f g : Fragments) (n m : Net) → OnCells read (λ cells. IsLayerOf o cells f n) → OnCells read (λ cells. IsLayerOf o cells g m) → (f ≡ g) × (n ≡ m)
-one_read o (Good parts) f g n m a b = one_layer o (is_cell parts) f g n m a b
+one_read o (Good parts) f g n m a b = same_layer o (is_cell parts) f g n m a b
 one_read o (Faulty x) f g n m a b = absurd a
 one_read o (TooMany x) f g n m a b = absurd a
 one_read o (TooManyCalls x) f g n m a b = absurd a

@@ -7,8 +7,7 @@ use Rattle.dpl_sign.specs.declared.nets.Net.{Net}
 use Rattle.dpl_sign.specs.Colourings.{IsColouring, cost_of}
 use Rattle.dpl_report.specs.declared.options.Options.{Options}
 use Rattle.dpl_layer.specs.Layers.{IsLayerOf}
-use Rattle.dpl_layer.specs.Limits.{most_of}
-use Rattle.dpl_layer.specs.Limits.Counted as counted
+use Rattle.dpl_layer.specs.Limits.{Counted, most_of}
 use Rattle.dpl_check.specs.declared.verdicts.Verdict.{Verdict}
 use Rattle.dpl_check.specs.Judged.{IsVerdict}
 
@@ -17,8 +16,8 @@ pub record IsVerdictOf (o : Options) (text report : List ℕ) (v : Verdict) : Ty
   pub fragments : Fragments
   pub net : Net
   pub layer : OnCells (reading o.layer text) (λ cells. IsLayerOf o cells fragments net)
-  pub few_fragments : length fragments.rects ≤ most_of counted.Fragments
-  pub few_edges : length net.graph.edges ≤ most_of counted.Edges
+  pub few_fragments : length fragments.rects ≤ most_of Counted.Fragments
+  pub few_edges : length net.graph.edges ≤ most_of Counted.Edges
   pub verdict : IsVerdict o fragments net report v
 
 -- each colouring of the net of the layer costs at least half of this
