@@ -1,6 +1,6 @@
 -- The alternating tree of one stage over the top sets of a family, and what each single step makes of it, after Edmonds
 -- 1965, "Paths, trees, and flowers".
-use Rattle.std.specs.Prelude.{◌≡◌, ◌≢◌, ℕ, ◌+◌, ◌*◌, ◌<◌, ◌≤◌, true, false, Option, Some, None, List}
+use Rattle.std.specs.Prelude.{◌≡◌, ◌≢◌, ℕ, ◌+◌, ◌*◌, ◌<◌, ◌≤◌, true, false, Option, None, List}
 use Rattle.dpl_laminar.specs.Families.{Sets, has}
 use Rattle.dpl_tree.specs.Mates.{IsExit, ArePairs}
 
