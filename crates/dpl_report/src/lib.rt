@@ -26,6 +26,8 @@ mod refusals;
 mod reports;
 mod stitches;
 mod stops;
+#[cfg(test)]
+mod tests;
 pub mod types;
 mod writing;
 
