@@ -18,3 +18,4 @@ pub mod ValidLemmas
 pub mod TrueLemmas
 pub mod BrokenLemmas
 pub mod MaskCellLemmas
+pub mod FactLemmas

@@ -191,7 +191,7 @@ drawing_true on_a on_b on_c on_d n =
     let c = or_none (boxes_miss 0 on_a on_c) (boxes_miss (length on_a) on_b on_d) b.1 in
     (boxes_true 0 on_a on_c (number_none 4294967296 _ _ a.0) c.0, boxes_true (length on_a) on_b on_d (number_none 4294967297 _ _ b.0) c.1)
 
-halves_some : (cs : List Cycle) → AllByRecursion IsCycle cs → All (λ (c : Cycle). 1 ≤ c.half) cs
+pub halves_some : (cs : List Cycle) → AllByRecursion IsCycle cs → All (λ (c : Cycle). 1 ≤ c.half) cs
 halves_some cs h = All-weaker IsCycle (λ (c : Cycle). 1 ≤ c.half) (λ c i. i.some) cs (All-from_recursion IsCycle cs h)
 
 pub good_is_true : (o : Options) (f : Fragments) (net : Net) (r : PlainReport) → is_name o.layer ≡ true → IsReport r → refusal_of o f net r ≡ None → SaysTrue o f net r

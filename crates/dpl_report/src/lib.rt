@@ -33,7 +33,8 @@ mod writing;
 
 pub use clashes::broken_clashes;
 pub use goodness::{
-    good_reports_are_true, masks_are_of_the_layer, true_reports_are_good, true_reports_are_valid,
+    good_reports_are_true, masks_are_of_the_layer, nine_facts_make_good, true_reports_are_good,
+    true_reports_are_valid,
 };
 pub use marks::{Broken, Zone};
 pub use masking::{colour_at, masks};
