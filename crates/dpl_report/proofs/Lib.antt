@@ -19,3 +19,4 @@ pub mod TrueLemmas
 pub mod BrokenLemmas
 pub mod MaskCellLemmas
 pub mod FactLemmas
+pub mod ConditionLaws
