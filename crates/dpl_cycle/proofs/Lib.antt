@@ -16,3 +16,4 @@ pub mod Ranks
 pub mod MemberLemmas
 pub mod Fixed
 pub mod NameCounts
+pub mod JoinLemmas

@@ -1,6 +1,6 @@
 -- The excess over all edges, from the faces of all edges and those of the kept ones.
-use Rattle.std.proofs.Common.{arith, ◌≡◌, ◌≢◌, ℕ, zero, suc, ◌+◌, ◌/◌, ◌<◌, ◌==◌, ◌&&◌, refl, sym, ap, ◌∙◌, Bool, true, false, not, inl, inr, length}
-use Rattle.std.proofs.lemmas.Bool.{cases_Bool, cond-true, true≢false}
+use Rattle.std.proofs.Common.{arith, ◌≡◌, ◌≢◌, ℕ, zero, suc, ◌+◌, ◌/◌, ◌<◌, ◌==◌, ◌&&◌, refl, sym, ap, ◌∙◌, Bool, true, not, inl, inr, length}
+use Rattle.std.proofs.lemmas.Bool.{cases_Bool, cond-true}
 use Rattle.std.specs.Cmp.{both_ways}
 use Rattle.dpl_cycle.specs.Cycles.{least}
 use Rattle.dpl_cycle.specs.Sums.{count_on}
@@ -17,7 +17,8 @@ use Rattle.dpl_sign.proofs.ComponentLemmas.{component_joined, components_are, co
 use Rattle.dpl_sign.proofs.BareLemmas.{EndsAt, met_from, met_is, bare_edges}
 use Rattle.dpl_sign.proofs.ExcessLemmas.{excess_euler, kept_plane, kept_length, raises_joined}
 use Rattle.dpl_drawing.specs.Faces.{is_first, drawn_faces}
-use Rattle.dpl_drawing.proofs.KeptLemmas.{aside_count, not_false, kept_at, kept_early, kept_inside}
+use Rattle.dpl_sign.proofs.KeptLemmas.{not_false, kept_at, kept_early, kept_inside}
+use Rattle.dpl_drawing.proofs.KeptLemmas.{aside_count}
 use Rattle.dpl_drawing.proofs.FaceLists.{face_count_is}
 
 -- kept edges join the ends of every edge

@@ -1,5 +1,5 @@
 -- How many faces with darts there are, and lists that tell them.
-use Rattle.std.proofs.Common.{arith, ◌≡◌, ℕ, zero, suc, ◌+◌, ◌-◌, ◌*◌, ◌/◌, ◌^◌, ◌<◌, ◌≤◌, ◌==◌, ◌&&◌, refl, sym, ap, ◌∙◌, Bool, true, false, inl, inr, List, length, get_or, eq-eqb, subst}
+use Rattle.std.proofs.Common.{arith, ◌≡◌, ℕ, zero, suc, ◌+◌, ◌/◌, ◌<◌, ◌==◌, ◌&&◌, refl, sym, ap, ◌∙◌, Bool, false, inl, inr, List, length, get_or, eq-eqb}
 use Rattle.std.specs.Prelude.{slice_index}
 use Rattle.std.proofs.lemmas.Bool.{cases_eq, cases_Bool, cond-true, cond-false, and_from, and_left, and_right, ne_eqb}
 use Rattle.dpl_cycle.specs.Cycles.{cycles, least, without, Permutes}
@@ -10,15 +10,12 @@ use Rattle.dpl_cycle.proofs.Steps.{cycles_alone, cycles_more, least_alone, least
 use Rattle.dpl_cycle.proofs.Shorter.{shorter, least_same}
 use Rattle.dpl_cycle.proofs.Least.{least_le}
 use Rattle.dpl_cycle.proofs.Fixed.{least_fixed}
-use Rattle.dpl_cycle.proofs.NameLemmas.{count_in, count_out, name_count_same, name_count_le}
+use Rattle.dpl_cycle.proofs.NameLemmas.{count_in, count_out, name_count_same}
 use Rattle.dpl_cycle.proofs.AmongLemmas.{cycles_members, others_in, others_out}
 use Rattle.dpl_cycle.proofs.SumLemmas.{count_on_same}
 use Rattle.dpl_sign.specs.declared.nets.Net.{Net}
 use Rattle.dpl_sign.specs.Drawings.{is_in, dart_count, next_in_face, face_count, bare_count}
-use Rattle.dpl_sign.specs.Components.{component_of, component_count}
-use Rattle.dpl_sign.specs.Excess.{aside_edges, kept_edges}
-use Rattle.dpl_sign.proofs.Rotation.{InSet, face_permutes, face_back, face_out, face_set}
-use Rattle.dpl_sign.proofs.ExcessLemmas.{excess_euler, kept_plane}
+use Rattle.dpl_sign.proofs.Rotation.{face_permutes, face_back, face_out, face_set}
 use Rattle.dpl_drawing.specs.Marks.{LeadsBack}
 use Rattle.dpl_drawing.specs.Faces.{is_first, cycle_number, drawn_faces}
 

@@ -12,11 +12,11 @@ use Rattle.dpl_sign.specs.Drawings.{tail_of, dart_count, next_around, next_in_fa
 use Rattle.dpl_sign.proofs.Turning.{rank_of, rank_end}
 use Rattle.dpl_sign.proofs.Rotation.{around, around_set, around_tail, next_is, next_member}
 use Rattle.dpl_sign.proofs.Insert.{IsOneMore, IsNewDart, IsBetween}
-use Rattle.dpl_sign.proofs.FaceCounts.{NoneAt, not_new, paired, apart, turned_new, into, corner}
+use Rattle.dpl_sign.proofs.FaceSteps.{NoneAt, not_new, paired, apart, turned_new, into, corner}
 use Rattle.dpl_sign.proofs.EdgeEffect.{news, between_first, between_second, none_first, none_second}
 use Rattle.dpl_drawing.specs.Faces.{AreFaces}
 use Rattle.dpl_drawing.specs.Drawn.{IsAttached, IsInserted}
-use Rattle.dpl_drawing.proofs.FaceSteps.{lone_is, hung_is, new_at, added_is}
+use Rattle.dpl_sign.proofs.FaceSteps.{lone_is, hung_is, new_at, added_is}
 
 -- ---- lists that tell where a permutation leads
 

@@ -1,11 +1,11 @@
 -- The list of the kept edges while it grows.
-use Rattle.std.proofs.Common.{arith, ◌≡◌, ℕ, zero, suc, ◌+◌, ◌<◌, ◌≤◌, refl, sym, ap, ◌∙◌, Bool, true, false, not, inl, inr, List, [], ◌∷◌, ◌++◌, length, subst, length-append}
-use Rattle.std.proofs.lemmas.Bool.{cases_eq, cases_lt, cases_Bool, both_ways, cond-true, cond-false, true≢false}
+use Rattle.std.proofs.Common.{arith, ◌≡◌, ℕ, zero, suc, ◌+◌, ◌≤◌, refl, sym, ap, ◌∙◌, Bool, not, inl, inr, List, [], ◌∷◌, ◌++◌, length, subst, length-append}
+use Rattle.std.proofs.lemmas.Bool.{cases_Bool, cond-true, cond-false}
 use Rattle.dpl_cycle.specs.Sums.{count_on}
 use Rattle.dpl_sign.specs.declared.nets.Net.{Net}
 use Rattle.dpl_sign.specs.Drawings.{is_in}
 use Rattle.dpl_sign.specs.Excess.{kept_before, kept_edges, raises_excess, aside_before, aside_edges, is_aside}
-use Rattle.dpl_sign.proofs.ExcessLemmas.{kept_length, in_front, at_end}
+use Rattle.dpl_sign.proofs.ExcessLemmas.{kept_length}
 use Rattle.dpl_drawing.specs.Drawn.{IsDrawn}
 
 pub kept_step : (net : Net) (kept slice new : List Bool) (n : ℕ) (drawn : Bool) → kept ≡ kept_before net n → slice ≡ kept → drawn ≡ not (raises_excess net slice) → new ≡ kept ++ drawn ∷ [] → new ≡ kept_before net (suc n)
@@ -35,35 +35,3 @@ aside_count net (suc n) =
 
 pub aside_few : (net : Net) → length (aside_edges net) ≤ length net.graph.edges
 aside_few net = omega (arith, aside_count net (length net.graph.edges))
-
--- ---- which edges are kept
-
-pub kept_at : (net : Net) (n e : ℕ) → e < n → is_in (kept_before net n) e ≡ not (raises_excess net (kept_before net e))
-kept_at net zero e h = absurd (omega arith)
-kept_at net (suc n) e h =
-    let kept = kept_before net n in
-    let size = kept_length net n in
-    elim (cases_eq e n) [
-      | inl r ↦ ap (is_in (kept_before net (suc n))) (r ∙ sym size) ∙ at_end kept (not (raises_excess net kept)) ∙ ap (λ x. not (raises_excess net (kept_before net x))) (sym r)
-      | inr r ↦ in_front kept (not (raises_excess net kept)) e (λ q. r (q ∙ size)) ∙ kept_at net n e (omega arith)
-    ]
-
--- the first edges are kept or not whatever comes later
-pub kept_early : (net : Net) (m n e : ℕ) → e < m → e < n → is_in (kept_before net m) e ≡ is_in (kept_before net n) e
-kept_early net m n e h k = kept_at net m e h ∙ sym (kept_at net n e k)
-
-none_past : (xs : List Bool) (x : ℕ) → length xs ≤ x → is_in xs x ≡ false
-none_past [] x h = refl
-none_past (y ∷ ys) zero h = absurd (omega arith)
-none_past (y ∷ ys) (suc x) h = none_past ys x (omega arith)
-
--- an edge that is kept before another has a smaller number
-pub kept_inside : (net : Net) (m e : ℕ) → is_in (kept_before net m) e ≡ true → e < m
-kept_inside net m e t = elim (cases_lt e m) [
-  | inl h ↦ h
-  | inr h ↦ absurd (both_ways _ (none_past (kept_before net m) e (omega (arith, kept_length net m, h))) t)
-]
-
-pub not_false : (b : Bool) → not b ≡ false → b ≡ true
-not_false true h = refl
-not_false false h = absurd (true≢false h)

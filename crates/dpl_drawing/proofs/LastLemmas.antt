@@ -9,7 +9,8 @@ use Rattle.dpl_sign.proofs.DartLemmas.{first_half, second_half, first_tail, seco
 use Rattle.dpl_sign.proofs.Insert.{IsOneMore}
 use Rattle.dpl_sign.proofs.ComponentLemmas.{start_below, end_below}
 use Rattle.dpl_sign.proofs.ExcessLemmas.{kept_more, past_end}
-use Rattle.dpl_drawing.specs.Drawn.{Leaves, IsLast, AreLasts}
+use Rattle.dpl_sign.specs.Rotations.{Leaves}
+use Rattle.dpl_drawing.specs.Drawn.{IsLast, AreLasts}
 
 pub lasts_none : (net : Net) (lasts : List ℕ) → length lasts ≡ net.graph.nodes → ((k : ℕ) → k < length lasts → get_or lasts k 0 ≡ 4294967295) → AreLasts net (is_in []) lasts
 lasts_none net lasts l h = record {

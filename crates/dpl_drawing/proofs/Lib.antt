@@ -1,7 +1,6 @@
 pub mod MarkLemmas
 pub mod ExchangeNames
 pub mod CycleLemmas
-pub mod FaceSteps
 pub mod InsertLemmas
 pub mod PartSteps
 pub mod DrawnLemmas

@@ -1,9 +1,8 @@
 -- Components of a drawing with one edge more.
-use Rattle.std.proofs.Common.{arith, ◌≡◌, ◌≢◌, ℕ, ◌<◌, sym, ap, ◌∙◌, Bool, inl, inr, ◌⊎◌, List, length}
+use Rattle.std.proofs.Common.{arith, ◌≡◌, ◌≢◌, ℕ, ◌<◌, sym, ap, ◌∙◌, Bool, inl, inr, List, length}
 use Rattle.std.specs.Prelude.{◌↔◌, swap, slice_index}
-use Rattle.std.proofs.lemmas.Bool.{cases_eq}
 use Rattle.dpl_cycle.specs.Names.{join}
-use Rattle.dpl_cycle.proofs.NameLemmas.{join_hit, join_miss}
+use Rattle.dpl_cycle.proofs.JoinLemmas.{OnEither, AreMerged, joined_merged}
 use Rattle.dpl_cycle.proofs.Classes.{merge_keeps, merged_together}
 use Rattle.dpl_ring.specs.Rings.{IsRing, least_of}
 use Rattle.dpl_ring.proofs.RingLemmas.{length_swap}
@@ -14,40 +13,8 @@ use Rattle.dpl_sign.specs.Excess.{AreEndsJoined}
 use Rattle.dpl_sign.proofs.Insert.{IsOneMore}
 use Rattle.dpl_sign.proofs.ComponentLemmas.{start_below, end_below, more_alike}
 use Rattle.dpl_drawing.specs.Drawn.{AreParts}
-use Rattle.dpl_drawing.proofs.ExchangeNames.{OnEither, merge_cases}
+use Rattle.dpl_drawing.proofs.ExchangeNames.{merge_cases}
 use Rattle.dpl_drawing.proofs.CycleLemmas.{least_swap}
-
--- of one class once the classes of a and b are one
-abbrev pub AreMerged : (ℕ → ℕ) → ℕ → ℕ → ℕ → ℕ → Type 0
-AreMerged label a b u v = (label u ≡ label v) ⊎ (OnEither label a b u × OnEither label a b v)
-
-joined_either : (r : ℕ → ℕ) (a b u : ℕ) → OnEither r a b u → join r a b u ≡ r a
-joined_either r a b u h = elim (cases_eq (r u) (r b)) [
-  | inl q ↦ join_hit r a b u q
-  | inr q ↦ elim h [ inl k ↦ join_miss r a b u q ∙ k | inr k ↦ absurd (q k) ]
-]
-
--- joined names are the same exactly for what is merged
-pub joined_merged : (r : ℕ → ℕ) (a b u v : ℕ) → (join r a b u ≡ join r a b v ↔ AreMerged r a b u v)
-joined_merged r a b u v = (
-  λ e. elim (cases_eq (r u) (r b)) [
-    | inl k ↦ elim (cases_eq (r v) (r b)) [
-      | inl l ↦ inl (k ∙ sym l)
-      | inr l ↦ inr (inr k, inl (sym (join_miss r a b v l) ∙ sym e ∙ join_hit r a b u k))
-    ]
-    | inr k ↦ elim (cases_eq (r v) (r b)) [
-      | inl l ↦ inr (inl (sym (join_miss r a b u k) ∙ e ∙ join_hit r a b v l), inr l)
-      | inr l ↦ inl (sym (join_miss r a b u k) ∙ e ∙ join_miss r a b v l)
-    ]
-  ],
-  λ h. elim h [
-    | inl e ↦ elim (cases_eq (r u) (r b)) [
-      | inl k ↦ join_hit r a b u k ∙ sym (join_hit r a b v (sym e ∙ k))
-      | inr k ↦ join_miss r a b u k ∙ e ∙ sym (join_miss r a b v (λ l. k (e ∙ l)))
-    ]
-    | inr k ↦ joined_either r a b u k.0 ∙ sym (joined_either r a b v k.1)
-  ],
-)
 
 -- the components with one edge more
 pub component_merged : (net : Net) (p q : ℕ → Bool) (e : ℕ) → IsOneMore net p q e → (u v : ℕ) → u < net.graph.nodes → v < net.graph.nodes →

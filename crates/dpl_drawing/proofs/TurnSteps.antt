@@ -9,7 +9,8 @@ use Rattle.dpl_sign.proofs.DartLemmas.{twin_half, twin_below, twin_twin}
 use Rattle.dpl_sign.proofs.Turning.{rank_of, rank_end, ranked, met_turn}
 use Rattle.dpl_sign.proofs.Rotation.{InSet, around, around_from, around_set, around_tail, on_circle_more, next_is, next_member, mem_at, face_in, face_tail}
 use Rattle.dpl_drawing.specs.Faces.{AreFaces}
-use Rattle.dpl_drawing.specs.Drawn.{Leaves, IsLast}
+use Rattle.dpl_sign.specs.Rotations.{Leaves}
+use Rattle.dpl_drawing.specs.Drawn.{IsLast}
 use Rattle.dpl_drawing.proofs.InsertLemmas.{bare_next}
 use Rattle.dpl_drawing.proofs.FaceLists.{face_stays}
 

@@ -1,8 +1,8 @@
 -- What stands between two edges while the edges of a net are drawn one by one. Only the steps of `draw` say this.
-use Rattle.std.specs.Prelude.{◌≡◌, ◌≢◌, ℕ, ◌+◌, ◌*◌, ◌/◌, ◌<◌, ◌↔◌, Bool, true, List, length, slice_index, swap}
+use Rattle.std.specs.Prelude.{◌≡◌, ◌≢◌, ℕ, ◌+◌, ◌*◌, ◌<◌, ◌↔◌, Bool, List, length, slice_index, swap}
 use Rattle.dpl_ring.specs.Rings.{least_of}
 use Rattle.dpl_sign.specs.declared.nets.Net.{Net}
-use Rattle.dpl_sign.specs.Drawings.{dart_count, tail_of}
+use Rattle.dpl_sign.specs.Rotations.{Leaves}
 use Rattle.dpl_sign.specs.Components.{component_of, component_count}
 use Rattle.dpl_drawing.specs.Faces.{AreFaces}
 
@@ -41,13 +41,7 @@ IsInserted old edge next next_twin new = (mid : List ℕ) × IsAttached (swap ol
 abbrev pub no_dart : ℕ
 no_dart = 4294967295
 
--- a dart of the set that leaves a node
-pub record Leaves (net : Net) (set : ℕ → Bool) (v d : ℕ) : Type 0 where
-  pub inside : d < dart_count net
-  pub chosen : set (d / 2) ≡ true
-  pub tail : tail_of net.graph d ≡ v
-
--- one of them, or a number that stands for none where there is none
+-- a dart of the set that leaves a node, or a number that stands for none where there is none
 pub record IsLast (net : Net) (set : ℕ → Bool) (v last : ℕ) : Type 0 where
   pub bare : last ≡ no_dart → (d : ℕ) → Leaves net set v d → ⊥
   pub used : last ≢ no_dart → Leaves net set v last

@@ -14,5 +14,5 @@ mod whole;
 
 pub use cycles::Cycles;
 pub use drawn::{Drawing, draw};
-pub use numbering::{Numbered, is_in, number};
+pub use numbering::{Numbered, number};
 pub use walking::{mark, shorter_first};

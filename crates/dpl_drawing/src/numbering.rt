@@ -9,6 +9,7 @@ ghost use Rattle.dpl_drawing.specs.Marks.{MarksCycle, LeadsBack};
 ghost use Rattle.dpl_drawing.specs.Faces.{is_first, cycle_number};
 
 use dpl_ring::Ring;
+use dpl_sign::is_in;
 use std::alloc::{AllocError, Global};
 
 /// The number of the cycle of each dart of a set of edges, and how many cycles there are.
@@ -60,13 +61,6 @@ pub fn listed(alloc: Global, ring: &Ring, count: u32) -> Result<Vec<u32>, AllocE
         nexts.push(ring.next(number))?;
     }
     Ok(nexts)
-}
-
-/// Whether an edge is in a set.
-pub fn is_in(set: &[bool], edge: u32) -> bool
-    ensures { result ≡ in_set set.now edge }
-{
-    set.get(edge as usize).copied().unwrap_or(false)
 }
 
 const NONE: u32 = u32::MAX;

@@ -1,54 +1,12 @@
 //! Turning around the nodes of a drawing.
 
-ghost use Rattle.std.specs.Prelude.{◌≡◌, ◌≢◌, ℕ, ◌+◌, ◌*◌, ◌/◌, ◌^◌, ◌<◌, false, true, length};
-ghost use Rattle.dpl_sign.specs.Drawings.{dart_count, is_in, tail_of, twin_of, port_of, is_before as stands_before, is_met_before as met_before, next_around as next_of};
+ghost use Rattle.std.specs.Prelude.{◌≡◌, ◌<◌, ◌/◌, false};
+ghost use Rattle.dpl_sign.specs.Drawings.{dart_count, is_in, tail_of, next_around as next_of};
 ghost use Rattle.dpl_drawing.specs.Faces.{AreFaces};
 ghost use Rattle.dpl_drawing.specs.Drawn.{IsLast};
 
 use dpl_ring::Ring;
-use dpl_sign::plain::next_around;
-use dpl_sign::{Net, Port, port_order};
-
-/// The other dart of the same edge.
-fn twin(dart: u32) -> u32
-    requires { dart + 1 < 2 ^ 32 }
-    ensures { result ≡ twin_of dart }
-{
-    if dart % 2 == 0 { dart + 1 } else { dart - 1 }
-}
-
-/// The port at which a dart leaves its node.
-fn port(net: &Net, dart: u32) -> Port
-    requires { dart < dart_count net.now }
-    ensures { result ≡ port_of net.now dart }
-{
-    let ports = net.ports.as_slice()[dart as usize / 2];
-    if dart % 2 == 0 { ports.0 } else { ports.1 }
-}
-
-fn is_before(net: &Net, dart: u32, other: u32) -> bool
-    requires first { dart < dart_count net.now }
-    requires second { other < dart_count net.now }
-    ensures { result ≡ stands_before net.now dart other }
-{
-    port_order(&port(net, dart), dart / 2, &port(net, other), other / 2).is_lt()
-}
-
-/// Whether one dart is met before another, turning counterclockwise.
-fn is_met_before(net: &Net, from: u32, dart: u32, other: u32) -> bool
-    requires from { from < dart_count net.now }
-    requires first { dart < dart_count net.now }
-    requires second { other < dart_count net.now }
-    ensures { result ≡ met_before net.now from dart other }
-{
-    let reached = is_before(net, from, dart);
-    let nearer = is_before(net, dart, other);
-    if is_before(net, from, other) {
-        reached && nearer
-    } else {
-        reached || nearer
-    }
-}
+use dpl_sign::{Net, is_met_before, next_around, twin};
 
 /// What stands for no dart.
 pub const NO_DART: u32 = u32::MAX;

@@ -13,7 +13,8 @@ use Rattle.dpl_sign.specs.Excess.{edge_count, AreEndsJoined, LiesInFace}
 use Rattle.dpl_sign.proofs.DartLemmas.{first_half, second_half, first_tail, second_tail, twin_first, twin_twin}
 use Rattle.dpl_sign.proofs.Rotation.{face_permutes, face_out, next_member, around_set, around_tail}
 use Rattle.dpl_sign.proofs.Insert.{IsOneMore, IsBetween, between}
-use Rattle.dpl_sign.proofs.FaceCounts.{AreNew, NoneAt, both_bare, one_bare, none_bare}
+use Rattle.dpl_sign.proofs.FaceSteps.{AreNew, NoneAt}
+use Rattle.dpl_sign.proofs.FaceCounts.{both_bare, one_bare, none_bare}
 use Rattle.dpl_sign.proofs.ComponentLemmas.{components_join, components_stay, bare_component, face_component}
 use Rattle.dpl_sign.proofs.BareLemmas.{has_dart, bare_edges, bare_darts, bare_none, bare_first, bare_second, bare_both}
 

@@ -1,7 +1,7 @@
 -- The components of the edges of a set.
-use Rattle.std.specs.Prelude.{ℕ, zero, suc, Bool, true, false, length}
+use Rattle.std.specs.Prelude.{◌≡◌, ℕ, zero, suc, Bool, true, false, List, length, All}
 use Rattle.dpl_sign.specs.declared.graphs.Signed.{Signed}
-use Rattle.dpl_sign.specs.Walks.{edge_at}
+use Rattle.dpl_sign.specs.Walks.{edge_at, IsPath}
 use Rattle.dpl_cycle.specs.Names.{name_count, join}
 
 -- each node's component over the edges of the set below k, named by one of its nodes: an edge joins the components of its ends
@@ -15,3 +15,7 @@ component_of g set v = names_below g set (length g.edges) v
 
 abbrev pub component_count : Signed → (ℕ → Bool) → ℕ
 component_count g set = name_count (component_of g set) g.nodes
+
+-- edges of the set lead from one node to the other
+abbrev pub AreJoined : Signed → (ℕ → Bool) → ℕ → ℕ → Type 0
+AreJoined g set u v = (es : List ℕ) × IsPath g u es v × All (λ e. set e ≡ true) es

@@ -6,6 +6,7 @@ pub mod Colourings
 pub mod Walks
 pub mod Packings
 pub mod Drawings
+pub mod Rotations
 pub mod Components
 pub mod Excess
 pub mod Parity

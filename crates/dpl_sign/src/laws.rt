@@ -1,7 +1,8 @@
-ghost use Rattle.std.specs.Prelude.{◌≡◌, ◌≢◌, ℕ, ◌+◌, ◌*◌, ◌%◌, ◌<◌, ◌≤◌, ◌⊎◌, ◌↔◌, true, false, length};
-ghost use Rattle.dpl_sign.specs.Drawings.{is_in, face_count};
-ghost use Rattle.dpl_sign.specs.Components.{component_count};
-ghost use Rattle.dpl_sign.specs.Excess.{edge_count, excess, with_edge, kept_edges, raises_excess, AreEndsJoined, LiesInFace};
+ghost use Rattle.std.specs.Prelude.{◌≡◌, ◌≢◌, ℕ, ◌+◌, ◌*◌, ◌%◌, ◌<◌, ◌≤◌, ◌⊎◌, ◌↔◌, true, false, [], length};
+ghost use Rattle.dpl_sign.specs.Drawings.{is_in, face_count, next_around};
+ghost use Rattle.dpl_sign.specs.Rotations.{Leaves, ComesNext};
+ghost use Rattle.dpl_sign.specs.Components.{component_count, component_of, AreJoined};
+ghost use Rattle.dpl_sign.specs.Excess.{edge_count, excess, all_edges, with_edge, kept_edges, aside_edges, raises_excess, AreEndsJoined, LiesInFace};
 ghost use Rattle.dpl_sign.specs.PortOrder.{StandsBefore};
 ghost use Rattle.dpl_sign.specs.Colourings.{cost_of, IsColouring};
 ghost use Rattle.dpl_sign.specs.Packings.{IsPacking, bound_of};
@@ -23,6 +24,19 @@ pub fn packing_bounds(graph: &Signed, cycles: &[Cycle], colours: &[bool])
     requires packing { IsPacking graph.now cycles.now }
     requires colouring { IsColouring graph.now colours.now }
     ensures { bound_of cycles.now ≤ 2 * cost_of graph.now colours.now }
+{}
+
+/// Around a node each dart of a set leads to the one whose port comes next, and the last to the first:
+/// a turn passes each of them once, counterclockwise.
+pub fn rotation_follows_ports(net: &Net, set: &[bool])
+    ensures { (v d : ℕ) → Leaves net.now (is_in set.now) v d →
+        ComesNext net.now (is_in set.now) v d (next_around net.now (is_in set.now) d) }
+{}
+
+/// Two nodes are of one component exactly where edges of the set lead from one to the other.
+pub fn components_are_joined(graph: &Signed, set: &[bool], u: u32, v: u32)
+    ensures { component_of graph.now (is_in set.now) u ≡ component_of graph.now (is_in set.now) v ↔
+        AreJoined graph.now (is_in set.now) u v }
 {}
 
 /// The excess is even and never negative: it is what Euler's formula lacks.
@@ -57,4 +71,15 @@ pub fn edges_aside_cross(net: &Net, kept: &[bool])
 /// The kept edges are drawn plane.
 pub fn kept_edges_are_plane(net: &Net)
     ensures { excess net.now (is_in (kept_edges net.now)) ≡ 0 }
+{}
+
+/// The excess of a set never falls when edges are added.
+pub fn excess_never_falls(net: &Net, set: &[bool], more: &[bool])
+    requires { (e : ℕ) → e < length net.now.graph.edges → is_in set.now e ≡ true → is_in more.now e ≡ true }
+    ensures { excess net.now (is_in set.now) ≤ excess net.now (is_in more.now) }
+{}
+
+/// Nothing is set aside exactly where the whole drawing is plane.
+pub fn nothing_is_aside_where_plane(net: &Net)
+    ensures { aside_edges net.now ≡ [] ↔ excess net.now all_edges ≡ 0 }
 {}

@@ -1,5 +1,5 @@
 use Rattle.dpl_sign.specs.Drawings.{is_in, tail_of}
-use Rattle.dpl_drawing.specs.Drawn.{Leaves}
+use Rattle.dpl_sign.specs.Rotations.{Leaves}
 use Rattle.dpl_drawing.proofs.turning.next_from.Given as goal
 
 abbrev pub invariant-loop-step : goal.invariant-loop-step
