@@ -26,7 +26,7 @@ use Rattle.dpl_report.specs.MaskCells.{IsBrokenEdge, NamesBroken, NameAllBroken}
 
 -- ---- lists
 
-any_here : {X : Type 0} (P : X → Type 0) (x : X) (xs : List X) → P x → Any P (x ∷ xs)
+pub any_here : {X : Type 0} (P : X → Type 0) (x : X) (xs : List X) → P x → Any P (x ∷ xs)
 any_here P x xs p = (0, x, omega arith, refl, p)
 
 any_behind : {X : Type 0} (P : X → Type 0) (y : X) (xs : List X) → Any P xs → Any P (y ∷ xs)
@@ -113,6 +113,19 @@ clashes_all colours e (edge ∷ edges) zero l f g =
     any_first (λ b. b.edge ≡ e + 0) (is_broken_clash colours edge) (record { edge = e; a = edge.a; b = edge.b }) (clashes_from colours (e + 1) edges) t (omega arith)
 clashes_all colours e (edge ∷ edges) (suc k) l f g =
     any_where (λ b. b.edge ≡ e + suc k) (is_broken_clash colours edge) (record { edge = e; a = edge.a; b = edge.b }) (clashes_from colours (e + 1) edges) (moved e k (clashes_from colours (e + 1) edges) (clashes_all colours (e + 1) edges k (omega (arith, l)) f g))
+
+rises_where : {X : Type 0} (number : X → ℕ) (t : Bool) (x : X) (xs : List X) → All (λ y. number x + 1 ≤ number y) xs → AllPairs (λ y z. number y < number z) xs → AllPairs (λ y z. number y < number z) (if t then x ∷ xs else xs)
+rises_where number true x xs a o = AllPairs-cons (λ y z. number y < number z) x xs (All-weaker (λ y. number x + 1 ≤ number y) (λ y. number x < number y) (λ y h. omega (arith, h)) xs a) o
+rises_where number false x xs a o = o
+
+from_number : (colours : List Bool) (kind : Kind) (e : ℕ) (edges : List Edge) (b : Broken) → NamesHere colours kind e edges b → e ≤ b.edge
+from_number colours kind e edges b n = let m = n.number in omega (arith, m)
+
+pub clashes_rise : (colours : List Bool) (e : ℕ) (edges : List Edge) → AllPairs (λ (b c : Broken). b.edge < c.edge) (clashes_from colours e edges)
+clashes_rise colours e [] = λ i j d h l. absurd (omega (arith, l))
+clashes_rise colours e (edge ∷ edges) =
+    rises_where (λ (b : Broken). b.edge) (is_broken_clash colours edge) (record { edge = e; a = edge.a; b = edge.b }) (clashes_from colours (e + 1) edges)
+    (All-weaker (NamesHere colours Clash (e + 1) edges) (λ (b : Broken). e + 1 ≤ b.edge) (from_number colours Clash (e + 1) edges) (clashes_from colours (e + 1) edges) (clashes_name colours (e + 1) edges)) (clashes_rise colours (e + 1) edges)
 
 names_broken : (g : Signed) (colours : List Bool) (kind : Kind) (b : Broken) → NamesHere colours kind 0 g.edges b → NamesBroken g colours kind b
 names_broken g colours kind b n =
@@ -250,6 +263,14 @@ stitches_name colours e (edge ∷ edges) (c ∷ cs) =
     let left = cuts_after edge (c ∷ cs) in
     all_where (λ (z : PlainZone). NamesHere colours Stitch e (edge ∷ edges) z.at) (is_broken_stitch colours edge) (record { at = record { edge = e; a = edge.a; b = edge.b }; corners = corners_of c.zone }) (cuts_from colours (e + 1) edges left) (stitch_here colours e edge edges)
     (All-weaker (λ (z : PlainZone). NamesHere colours Stitch (e + 1) edges z.at) (λ (z : PlainZone). NamesHere colours Stitch e (edge ∷ edges) z.at) (λ z. one_before colours Stitch e edge edges z.at) (cuts_from colours (e + 1) edges left) (stitches_name colours (e + 1) edges left))
+
+pub stitches_rise : (colours : List Bool) (e : ℕ) (edges : List Edge) (cuts : List Cut) → AllPairs (λ (y z : PlainZone). y.at.edge < z.at.edge) (cuts_from colours e edges cuts)
+stitches_rise colours e [] cuts = λ i j d h l. absurd (omega (arith, l))
+stitches_rise colours e (edge ∷ edges) [] = stitches_rise colours (e + 1) edges []
+stitches_rise colours e (edge ∷ edges) (c ∷ cs) =
+    let left = cuts_after edge (c ∷ cs) in
+    rises_where (λ (z : PlainZone). z.at.edge) (is_broken_stitch colours edge) (record { at = record { edge = e; a = edge.a; b = edge.b }; corners = corners_of c.zone }) (cuts_from colours (e + 1) edges left)
+    (All-weaker (λ (z : PlainZone). NamesHere colours Stitch (e + 1) edges z.at) (λ (z : PlainZone). e + 1 ≤ z.at.edge) (λ z. from_number colours Stitch (e + 1) edges z.at) (cuts_from colours (e + 1) edges left) (stitches_name colours (e + 1) edges left)) (stitches_rise colours (e + 1) edges left)
 
 moved_zones : (e k : ℕ) (zs : List PlainZone) → Any (λ z. z.at.edge ≡ e + 1 + k) zs → Any (λ z. z.at.edge ≡ e + suc k) zs
 moved_zones e k zs (i, z, l, m, p) = (i, z, l, m, omega (arith, p))

@@ -31,23 +31,23 @@ use Rattle.dpl_sign.proofs.Loads.{load_append}
 use Rattle.dpl_report.proofs.ListLaws.{pair_same, numbers_same, AreTold, lists_same, edge_none, clash_lines_are, cut_lines_are}
 use Rattle.dpl_report.proofs.WalkLaws.{walk_is_odd}
 
-both_none : {X : Type 0} (a b : Option X) → a ≡ None → b ≡ None → or_else a b ≡ None
+pub both_none : {X : Type 0} (a b : Option X) → a ≡ None → b ≡ None → or_else a b ≡ None
 both_none a b e f = rw (e, f) refl
 
 number_same : (place n : ℕ) → number_miss place n n ≡ None
 number_same place n = rw ((Decides-eqb n n).1 refl) refl
 
-numbers_are : (place m n : ℕ) → m ≡ n → number_miss place m n ≡ None
+pub numbers_are : (place m n : ℕ) → m ≡ n → number_miss place m n ≡ None
 numbers_are place m n e = rw e (number_same place n)
 
 name_same : (place : ℕ) (xs : List ℕ) → name_miss place xs xs ≡ None
 name_same place [] = refl
 name_same place (x ∷ xs) = rw (pair_same place (pos x)) (name_same place xs)
 
-params_none : (p : Params) (o : Options) → p ≡ params_of_options o → params_miss p o ≡ None
+pub params_none : (p : Params) (o : Options) → p ≡ params_of_options o → params_miss p o ≡ None
 params_none p o e = rw e (both_none _ _ (name_same 2 o.layer) (both_none _ _ (number_same 3 o.space) (both_none _ _ (number_same 4 o.overlap) (both_none _ _ (number_same 5 o.weights.stitch) (number_same 6 o.weights.conflict)))))
 
-counts_none : (k w : Counts) → k ≡ w → counts_miss k w ≡ None
+pub counts_none : (k w : Counts) → k ≡ w → counts_miss k w ≡ None
 counts_none k w e = rw e (both_none _ _ (number_same 7 w.pieces) (both_none _ _ (number_same 8 w.fragments) (both_none _ _ (number_same 9 w.bonds) (both_none _ _ (number_same 10 w.stitches) (both_none _ _ (number_same 11 w.clashes) (number_same 12 w.excess))))))
 
 agree_same : (b : Bool) → agree b b ≡ true
@@ -60,14 +60,14 @@ bond_none colours e edge h = by_kind (is_bond edge.kind) refl where
   by_kind true f = rw (f, h f, agree_same (colour_of colours edge.b)) refl
   by_kind false f = rw f refl
 
-bonds_none : (colours : List Bool) (e : ℕ) (edges : List Edge) → All (λ (d : Edge). is_bond d.kind ≡ true → colour_of colours d.a ≡ colour_of colours d.b) edges → bonds_miss colours e edges ≡ None
+pub bonds_none : (colours : List Bool) (e : ℕ) (edges : List Edge) → All (λ (d : Edge). is_bond d.kind ≡ true → colour_of colours d.a ≡ colour_of colours d.b) edges → bonds_miss colours e edges ≡ None
 bonds_none colours e [] a = refl
 bonds_none colours e (edge ∷ edges) a = both_none _ _ (bond_none colours e edge (a 0 edge (omega arith))) (bonds_none colours (e + 1) edges (λ k d l. a (suc k) d (omega arith)))
 
 pub edges_told : AreTold {X = ℕ} (λ e. e) (λ e w. None)
 edges_told = record { told = λ x w e f. e; same = λ x. refl }
 
-walks_none : (g : Signed) (cycle : ℕ) (cs : List Cycle) → All (λ (c : Cycle). IsOddWalk g c.walk) cs → walks_miss g cycle cs ≡ None
+pub walks_none : (g : Signed) (cycle : ℕ) (cs : List Cycle) → All (λ (c : Cycle). IsOddWalk g c.walk) cs → walks_miss g cycle cs ≡ None
 walks_none g cycle [] a = refl
 walks_none g cycle (c ∷ cs) a = both_none _ _ ((walk_is_odd g cycle c.walk).1 (a 0 c (omega arith))) (walks_none g (cycle + 1) cs (λ k d l. a (suc k) d (omega arith)))
 
@@ -98,7 +98,7 @@ one_load_none g before ps p w = by_kind (is_bond (edge_at g p.0).kind) refl wher
       let small : nat_lt (2 * (edge_at g p.0).weight) (load_of before p.0 + p.1) ≡ false = low (load_of before p.0 + p.1) (2 * (edge_at g p.0).weight) (omega (arith, more, most)) in
       rw (f, small) refl
 
-loads_none : (g : Signed) (before ps : List (ℕ × ℕ)) → IsWithin g (before ++ ps) → loads_miss g before ps ≡ None
+pub loads_none : (g : Signed) (before ps : List (ℕ × ℕ)) → IsWithin g (before ++ ps) → loads_miss g before ps ≡ None
 loads_none g before [] w = refl
 loads_none g before (p ∷ ps) w = both_none _ _ (one_load_none g before ps p w) (loads_none g (before ++ p ∷ []) ps (rw (append_assoc before (p ∷ []) ps) w))
 
@@ -106,7 +106,7 @@ boxes_none : (place : ℕ) (xs : List Corners) → boxes_miss place xs xs ≡ No
 boxes_none place [] = refl
 boxes_none place (x ∷ xs) = both_none _ _ (numbers_same place (corner_numbers x)) (boxes_none (place + 1) xs)
 
-drawing_none : (on_a on_b on_c on_d : List Corners) → on_a ≡ on_c → on_b ≡ on_d → drawing_miss on_a on_b on_c on_d ≡ None
+pub drawing_none : (on_a on_b on_c on_d : List Corners) → on_a ≡ on_c → on_b ≡ on_d → drawing_miss on_a on_b on_c on_d ≡ None
 drawing_none on_a on_b on_c on_d e f = rw (e, f) (both_none _ _ (number_same 4294967296 (length on_c)) (both_none _ _ (number_same 4294967297 (length on_d)) (both_none _ _ (boxes_none 0 on_c) (boxes_none (length on_c) on_d))))
 
 none_refused : (reason : ℕ) (m : Option Miss) → m ≡ None → refused reason m ≡ None

@@ -18,3 +18,5 @@ pub mod ValidLemmas
 pub mod TrueLemmas
 pub mod BrokenLemmas
 pub mod MaskCellLemmas
+pub mod FactLemmas
+pub mod ConditionLaws

@@ -71,7 +71,7 @@ two_numbers a b c d e = (cc, cc)
 broken_with : ℕ → ℕ → ℕ → Broken
 broken_with e a b = record { edge = e; a = a; b = b }
 
-same_broken : (b w : Broken) → b.edge ≡ w.edge → b.a ≡ w.a → b.b ≡ w.b → b ≡ w
+pub same_broken : (b w : Broken) → b.edge ≡ w.edge → b.a ≡ w.a → b.b ≡ w.b → b ≡ w
 unfolding broken_with
 same_broken b w e f g = let h : broken_with b.edge b.a b.b ≡ broken_with w.edge w.a w.b = rw (e, f, g) refl in h
 
@@ -86,7 +86,7 @@ same_corners c d e = ap corners_with e
 zone_with : Broken → Corners → PlainZone
 zone_with b c = record { at = b; corners = c }
 
-same_zone : (z w : PlainZone) → z.at ≡ w.at → z.corners ≡ w.corners → z ≡ w
+pub same_zone : (z w : PlainZone) → z.at ≡ w.at → z.corners ≡ w.corners → z ≡ w
 unfolding zone_with
 same_zone z w e f = let h : zone_with z.at z.corners ≡ zone_with w.at w.corners = rw (e, f) refl in h
 

@@ -46,7 +46,7 @@ not_refused : (reason : ℕ) (m : Option Miss) → refused reason m ≡ None →
 not_refused reason None e = refl
 not_refused reason (Some m) e = absurd (cc)
 
-number_none : (place m n : ℕ) → number_miss place m n ≡ None → m ≡ n
+pub number_none : (place m n : ℕ) → number_miss place m n ≡ None → m ≡ n
 number_none place m n e = elim (cases_Bool (m == n)) [
   | inl t ↦ eqb-true m n t
   | inr t ↦ let bad = rw t at e in absurd (cc)
@@ -82,7 +82,7 @@ name_bytes_each (x ∷ xs) e = let d = both_true (is_name_byte x) (list_all is_n
 params_with : List ℕ → ℕ → ℕ → ℕ → ℕ → Params
 params_with l s v a b = record { layer = l; space = s; overlap = v; stitch = a; conflict = b }
 
-params_true : (p : Params) (o : Options) → is_name p.layer ≡ true → is_name o.layer ≡ true → params_miss p o ≡ None → p ≡ params_of_options o
+pub params_true : (p : Params) (o : Options) → is_name p.layer ≡ true → is_name o.layer ≡ true → params_miss p o ≡ None → p ≡ params_of_options o
 unfolding params_with
 params_true p o m n e =
     let a = or_none (name_miss 2 p.layer o.layer) _ e in
@@ -97,7 +97,7 @@ params_true p o m n e =
 counts_with : ℕ → ℕ → ℕ → ℕ → ℕ → ℕ → Counts
 counts_with p f b s c x = record { pieces = p; fragments = f; bonds = b; stitches = s; clashes = c; excess = x }
 
-counts_true : (k w : Counts) → counts_miss k w ≡ None → k ≡ w
+pub counts_true : (k w : Counts) → counts_miss k w ≡ None → k ≡ w
 unfolding counts_with
 counts_true k w e =
     let a = or_none (number_miss 7 k.pieces w.pieces) _ e in
@@ -125,7 +125,7 @@ bond_true colours e edge n f = elim (cases_Bool (agree (colour_of colours edge.a
   | inr t ↦ let bad = rw (f, t) at n in absurd (cc)
 ]
 
-bonds_true : (colours : List Bool) (e : ℕ) (edges : List Edge) → bonds_miss colours e edges ≡ None → All (AgreesAt colours) edges
+pub bonds_true : (colours : List Bool) (e : ℕ) (edges : List Edge) → bonds_miss colours e edges ≡ None → All (AgreesAt colours) edges
 bonds_true colours e [] n = All-nil (AgreesAt colours)
 bonds_true colours e (edge ∷ edges) n =
     let d = or_none (bond_miss colours e edge) (bonds_miss colours (e + 1) edges) n in
@@ -134,7 +134,7 @@ bonds_true colours e (edge ∷ edges) n =
 abbrev pub IsOddIn : Signed → Cycle → Type 0
 IsOddIn g c = IsOddWalk g c.walk
 
-walks_true : (g : Signed) (cycle : ℕ) (cs : List Cycle) → walks_miss g cycle cs ≡ None → All (IsOddIn g) cs
+pub walks_true : (g : Signed) (cycle : ℕ) (cs : List Cycle) → walks_miss g cycle cs ≡ None → All (IsOddIn g) cs
 walks_true g cycle [] n = All-nil (IsOddIn g)
 walks_true g cycle (c ∷ cs) n =
     let d = or_none _ (walks_miss g (cycle + 1) cs) n in
@@ -156,7 +156,7 @@ fits bond e limit carried n f = by_test (nat_lt limit carried) refl where
   by_test true g = let bad = rw (f, g) at n in absurd (cc)
   by_test false g = high carried limit g
 
-loads_true : (g : Signed) (before ps : List (ℕ × ℕ)) → IsWithin g before → loads_miss g before ps ≡ None → IsWithin g (before ++ ps)
+pub loads_true : (g : Signed) (before ps : List (ℕ × ℕ)) → IsWithin g before → loads_miss g before ps ≡ None → IsWithin g (before ++ ps)
 unfolding here
 loads_true g before [] w n = subst (IsWithin g) (sym (append-nil before)) w
 loads_true g before (p ∷ ps) w n =
@@ -169,7 +169,7 @@ loads_true g before (p ∷ ps) w n =
     ] in
     subst (IsWithin g) (append_assoc before (p ∷ []) ps) (loads_true g (before ++ p ∷ []) ps one d.1)
 
-nothing_within : (g : Signed) → IsWithin g []
+pub nothing_within : (g : Signed) → IsWithin g []
 nothing_within g e l b = omega arith
 
 -- ---- boxes
@@ -184,14 +184,14 @@ boxes_true place (x ∷ xs) (w ∷ ws) l n =
     let b = boxes_true (place + 1) xs ws (omega arith) d.1 in
     cc
 
-drawing_true : (on_a on_b on_c on_d : List Corners) → drawing_miss on_a on_b on_c on_d ≡ None → (on_a ≡ on_c) × (on_b ≡ on_d)
+pub drawing_true : (on_a on_b on_c on_d : List Corners) → drawing_miss on_a on_b on_c on_d ≡ None → (on_a ≡ on_c) × (on_b ≡ on_d)
 drawing_true on_a on_b on_c on_d n =
     let a = or_none (number_miss 4294967296 (length on_a) (length on_c)) _ n in
     let b = or_none (number_miss 4294967297 (length on_b) (length on_d)) _ a.1 in
     let c = or_none (boxes_miss 0 on_a on_c) (boxes_miss (length on_a) on_b on_d) b.1 in
     (boxes_true 0 on_a on_c (number_none 4294967296 _ _ a.0) c.0, boxes_true (length on_a) on_b on_d (number_none 4294967297 _ _ b.0) c.1)
 
-halves_some : (cs : List Cycle) → AllByRecursion IsCycle cs → All (λ (c : Cycle). 1 ≤ c.half) cs
+pub halves_some : (cs : List Cycle) → AllByRecursion IsCycle cs → All (λ (c : Cycle). 1 ≤ c.half) cs
 halves_some cs h = All-weaker IsCycle (λ (c : Cycle). 1 ≤ c.half) (λ c i. i.some) cs (All-from_recursion IsCycle cs h)
 
 pub good_is_true : (o : Options) (f : Fragments) (net : Net) (r : PlainReport) → is_name o.layer ≡ true → IsReport r → refusal_of o f net r ≡ None → SaysTrue o f net r

@@ -122,7 +122,7 @@ unfolding AreBelow AreRising
 aside_fits net zero m = (tt, tt)
 aside_fits net (suc n) m = aside_next (is_aside net n) n (aside_before net n) (omega arith) (aside_fits net n (omega arith))
 
-aside_rises : (net : Net) (n : ℕ) → n ≤ 4294967295 → FitFrom AsideFits (λ (x : ℕ). x + 1) 0 (aside_before net n)
+pub aside_rises : (net : Net) (n : ℕ) → n ≤ 4294967295 → FitFrom AsideFits (λ (x : ℕ). x + 1) 0 (aside_before net n)
 unfolding AreRising
 aside_rises net n m = (aside_fits net n m).0
 

@@ -12,3 +12,4 @@ pub mod Verdicts
 pub mod FirstDifferences
 pub mod Truths
 pub mod MaskCells
+pub mod Facts

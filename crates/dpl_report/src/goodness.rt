@@ -1,12 +1,14 @@
 // What holds of reports that say the truth.
-ghost use Rattle.std.specs.Prelude.{◌≡◌, ◌≤◌, ◌*◌, ℤ, Bool, List, length, None};
+ghost use Rattle.std.specs.Prelude.{◌≡◌, ◌↔◌, ◌≤◌, ◌*◌, ℕ, ℤ, Bool, List, length, None};
 ghost use Rattle.dpl_cell.specs.Places.{Corners};
 ghost use Rattle.dpl_links.specs.Nets.{IsNet};
-ghost use Rattle.dpl_report.specs.Plain.{plain_report};
+ghost use Rattle.dpl_report.specs.Plain.{PlainReport, plain_report};
 ghost use Rattle.dpl_report.specs.Valid.{IsReport};
 ghost use Rattle.dpl_report.specs.Truths.{SaysTrue};
-ghost use Rattle.dpl_report.specs.Verdicts.{refusal_of};
+ghost use Rattle.dpl_report.specs.Verdicts.{refusal_of, IsGood};
 ghost use Rattle.dpl_report.specs.MaskCells.{AreCutFrom, AreMasksOf};
+ghost use Rattle.dpl_report.specs.Facts.{AreNineFacts};
+ghost use Rattle.dpl_cuts.specs.Fragments.{AreFragments};
 
 use crate::options::Options;
 use crate::reports::Report;
@@ -46,4 +48,14 @@ pub fn masks_are_of_the_layer(options: &Options, fragments: &Fragments, net: &Ne
     ensures { (cells : ℤ → ℤ → Bool) (tiles : List Corners) → AreCutFrom options.now cells tiles fragments.now → AreMasksOf options.now cells tiles fragments.now net.now (plain_report report.now) }
 {
     let _name = options.layer.bytes();
+}
+
+/// A text is good exactly where the nine facts hold of the report that it is the text of.
+pub fn nine_facts_make_good(options: &Options, fragments: &Fragments, net: &Net)
+    requires { IsNet fragments.now options.now.weights (2 * options.now.space) net.now }
+    ensures { (tiles : List Corners) (label text : List ℕ) → AreFragments (2 * options.now.space) (2 * options.now.overlap) tiles label fragments.now → IsGood options.now fragments.now net.now text ↔ ((r : PlainReport) × AreNineFacts options.now fragments.now net.now text r) }
+{
+    let _name = options.layer.bytes();
+    let _net = net;
+    let _fragments = fragments;
 }
