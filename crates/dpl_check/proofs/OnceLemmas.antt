@@ -1,6 +1,6 @@
 -- A layout and a report have one verdict, and a layout that is refused has none.
 use Rattle.std.proofs.Common.{◌≡◌, ◌∙◌, ◌⊎◌, ℕ, List, ap, sym, subst, inl, inr}
-use Rattle.std.specs.Prelude.{Result, Ok, Err, IfOk, IfErr}
+use Rattle.std.specs.Prelude.{Option, None, Some, Result, Ok, Err, IfOk, IfErr}
 use Rattle.dpl_cell.specs.Layers.{is_cell}
 use Rattle.dpl_cif.specs.Reading.{Reading, reading}
 use Rattle.dpl_cif.specs.Reading.Reading.{Faulty, TooMany, TooManyCalls, TooFar, Good}
@@ -8,7 +8,7 @@ use Rattle.dpl_cif.specs.OnCells.{OnCells}
 use Rattle.dpl_cuts.specs.declared.types.Fragments.{Fragments}
 use Rattle.dpl_sign.specs.declared.nets.Net.{Net}
 use Rattle.dpl_report.specs.declared.options.Options.{Options}
-use Rattle.dpl_report.specs.Verdicts.{refusal}
+use Rattle.dpl_report.specs.declared.refusals.Refusal.{Refusal}
 use Rattle.dpl_layer.specs.declared.error.LayerError.{LayerError}
 use Rattle.dpl_layer.specs.declared.error.LayerError.TheVariants.{NoMemory}
 use Rattle.dpl_layer.specs.Layers.{IsLayerOf}
@@ -28,10 +28,15 @@ one_read o (TooMany x) f g n m a b = absurd a
 one_read o (TooManyCalls x) f g n m a b = absurd a
 one_read o (TooFar x) f g n m a b = absurd a
 
+-- the verdict that a refusal is, and any where there is none
+abbrev verdict_from : Option Refusal → Verdict
+verdict_from None = Yes 0 0
+verdict_from (Some r) = No r.reason r.at.place r.at.found r.at.wanted
+
 same_verdict : (o : Options) (f : Fragments) (n : Net) (text : List ℕ) (v w : Verdict) → IsVerdict o f n text v → IsVerdict o f n text w → v ≡ w
 same_verdict o f n text (Yes cost bound) w a b = sym (good_only o f n text cost bound w a b)
 same_verdict o f n text (No k p x y) (Yes cost bound) a b = good_only o f n text cost bound (No k p x y) b a
-same_verdict o f n text (No k p x y) (No l q u z) a b = let e = sym a ∙ b in cc
+same_verdict o f n text (No k p x y) (No l q u z) a b = ap verdict_from (sym a ∙ b)
 
 pub one_verdict : (o : Options) (text report : List ℕ) (v w : Verdict) → IsVerdictOf o text report v → IsVerdictOf o text report w → v ≡ w
 one_verdict o text report v w a b =

@@ -42,6 +42,7 @@ fn check_parts(
     ensures verdict { IfOk result (λ v. IsVerdictOf options.now text.now report.now v) }
     ensures refused { IfErr result (λ e. (e ≡ LayerError.NoMemory) ⊎ RefusesLayer options.now text.now e) }
 {
+    let _name = options.layer.bytes();
     let layer = read_layer(alloc, text, options)?;
     let verdict = judge(alloc, options, &layer.fragments, &layer.net, report)?;
     Ok(verdict)

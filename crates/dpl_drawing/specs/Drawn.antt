@@ -9,7 +9,8 @@ use Rattle.dpl_drawing.specs.Faces.{AreFaces}
 -- two nodes are on one cycle exactly where edges of the set join them
 pub record AreParts (net : Net) (set : ℕ → Bool) (nexts : List ℕ) : Type 0 where
   pub nodes : length nexts ≡ net.graph.nodes
-  pub joined : (u v : ℕ) → u < net.graph.nodes → v < net.graph.nodes → (least_of nexts u ≡ least_of nexts v ↔ component_of net.graph set u ≡ component_of net.graph set v)
+  pub joined : (u v : ℕ) → u < net.graph.nodes → v < net.graph.nodes →
+      (least_of nexts u ≡ least_of nexts v ↔ component_of net.graph set u ≡ component_of net.graph set v)
 
 -- the drawing of the edges of a set
 pub record IsDrawn (net : Net) (set : ℕ → Bool) (faces parts : List ℕ) (components : ℕ) : Type 0 where
@@ -33,7 +34,9 @@ pub record IsAttached (old : List ℕ) (dart next twin : ℕ) (new : List ℕ) :
 
 -- the two darts of an edge, each before the dart that is next around its node
 abbrev pub IsInserted : List ℕ → ℕ → ℕ → ℕ → List ℕ → Type 0
-IsInserted old edge next next_twin new = (mid : List ℕ) × IsAttached (swap old (2 * edge) (2 * edge + 1)) (2 * edge) next (2 * edge + 1) mid × IsAttached mid (2 * edge + 1) next_twin (2 * edge) new
+IsInserted old edge next next_twin new = (mid : List ℕ) ×
+    IsAttached (swap old (2 * edge) (2 * edge + 1)) (2 * edge) next (2 * edge + 1) mid ×
+    IsAttached mid (2 * edge + 1) next_twin (2 * edge) new
 
 -- ---- a dart of each node from which the others are near
 

@@ -24,7 +24,8 @@ fn mark(nexts: &[u32], start: u32, label: u32, labels: &mut [u32])
     requires ring { LeadsBack nexts.now }
     requires start { start < length nexts.now }
     requires lengths { length labels.old ≡ length nexts.now }
-    requires fresh { EachIndex labels.old (λ z. least_of nexts.now z ≡ least_of nexts.now start → slice_index labels.old z ≢ label) }
+    requires fresh { EachIndex labels.old (λ z.
+        least_of nexts.now z ≡ least_of nexts.now start → slice_index labels.old z ≢ label) }
     ensures { MarksCycle nexts.now start label labels.old labels.new }
 {
     let mut place = start;
@@ -70,11 +71,14 @@ const NONE: u32 = u32::MAX;
 pub fn number(alloc: Global, nexts: &[u32], set: &[bool]) -> Result<Numbered, AllocError>
     requires ring { LeadsBack nexts.now }
     requires small { length nexts.now < 2 ^ 31 }
-    requires stays { EachIndex nexts.now (λ d. in_set set.now (slice_index nexts.now d / 2) ≡ in_set set.now (d / 2)) }
+    requires stays { EachIndex nexts.now (λ d.
+        in_set set.now (slice_index nexts.now d / 2) ≡ in_set set.now (d / 2)) }
     ensures length { IfOk result (λ r. length r.numbers.items ≡ length nexts.now) }
     ensures numbers { IfOk result (λ r. EachIndex r.numbers.items (λ d. in_set set.now (d / 2) ≡ true →
-        slice_index r.numbers.items d ≡ cycle_number (slice_index nexts.now) (in_set set.now) (length nexts.now) d)) }
-    ensures count { IfOk result (λ r. r.count ≡ count_on (is_first (slice_index nexts.now) (in_set set.now) (length nexts.now)) (length nexts.now)) }
+        slice_index r.numbers.items d ≡
+        cycle_number (slice_index nexts.now) (in_set set.now) (length nexts.now) d)) }
+    ensures count { IfOk result (λ r. r.count ≡
+        count_on (is_first (slice_index nexts.now) (in_set set.now) (length nexts.now)) (length nexts.now)) }
 {
     let mut numbers = filled(alloc, nexts.len(), NONE)?;
     let mut count = 0;

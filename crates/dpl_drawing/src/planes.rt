@@ -64,7 +64,8 @@ fn insert(faces: &mut Cycles, edge: u32, next: u32, next_twin: u32)
 impl Plane {
     /// No edge is drawn.
     pub fn new(alloc: Global, net: &Net) -> Result<Plane, AllocError>
-        ensures drawn { IfOk result (λ d. IsDrawn net.now (is_in []) d.faces.nexts d.parts.nexts d.components) }
+        ensures drawn { IfOk result (λ d.
+            IsDrawn net.now (is_in []) d.faces.nexts d.parts.nexts d.components) }
         ensures lasts { IfOk result (λ d. AreLasts net.now (is_in []) d.lasts.items) }
         ensures room { IfOk result (λ d. d.faces.fresh ≡ dart_count net.now) }
         ensures part_room { IfOk result (λ d. d.parts.fresh ≡ net.now.graph.nodes) }
@@ -85,12 +86,14 @@ impl Plane {
     /// another. `kept` says which of the earlier ones were.
     pub fn add_next(&mut self, net: &Net, kept: &[bool]) -> bool
         requires edge { length kept.now < length net.now.graph.edges }
-        requires drawn { IsDrawn net.now (is_in kept.now) self.old.faces.nexts self.old.parts.nexts self.old.components }
+        requires drawn { IsDrawn net.now (is_in kept.now)
+            self.old.faces.nexts self.old.parts.nexts self.old.components }
         requires lasts { AreLasts net.now (is_in kept.now) self.old.lasts.items }
         requires room { self.old.faces.fresh + 3 < 2 ^ 64 }
         requires part_room { self.old.parts.fresh + 1 < 2 ^ 64 }
         ensures kept { result ≡ not (raises_excess net.now kept.now) }
-        ensures drawn { IsDrawn net.now (is_in (kept.now ++ result ∷ [])) self.new.faces.nexts self.new.parts.nexts self.new.components }
+        ensures drawn { IsDrawn net.now (is_in (kept.now ++ result ∷ []))
+            self.new.faces.nexts self.new.parts.nexts self.new.components }
         ensures lasts { AreLasts net.now (is_in (kept.now ++ result ∷ [])) self.new.lasts.items }
         ensures room { self.new.faces.fresh ≤ self.old.faces.fresh + 3 }
         ensures part_room { self.new.parts.fresh ≤ self.old.parts.fresh + 1 }

@@ -10,7 +10,8 @@ use dpl_ring::Ring;
 pub fn mark(ring: &Ring, start: u32, label: u64, labels: &mut [u64])
     requires start { start < length ring.now }
     requires lengths { length labels.old ≡ length ring.now }
-    requires fresh { EachIndex labels.old (λ z. least_of ring.now z ≡ least_of ring.now start → slice_index labels.old z ≢ label) }
+    requires fresh { EachIndex labels.old (λ z.
+        least_of ring.now z ≡ least_of ring.now start → slice_index labels.old z ≢ label) }
     ensures { MarksCycle ring.now start label labels.old labels.new }
 {
     let mut place = start;

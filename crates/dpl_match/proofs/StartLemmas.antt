@@ -1,13 +1,12 @@
 -- The first values and pairs.
-use Rattle.std.proofs.Common.{arith, ◌≡◌, ◌≢◌, ℕ, ◌+◌, ◌*◌, ◌%◌, ◌<◌, ◌≤◌, ◌^◌, refl, sym, ap, ◌∙◌, subst, true, false, cond, inl, inr, Option, Some, None, List, length, get_or, set, length-set, get_or-set_same, get_or-set_other}
+use Rattle.std.proofs.Common.{arith, ◌≡◌, ◌≢◌, ℕ, ◌+◌, ◌*◌, ◌%◌, ◌<◌, ◌≤◌, ◌^◌, refl, sym, ap, ◌∙◌, inl, inr, Option, Some, None, List, length, get_or, set, length-set, get_or-set_same, get_or-set_other}
 use Rattle.std.specs.Prelude.{replicate}
 use Rattle.std.proofs.lemmas.Bool.{cases_eq}
-use Rattle.std.proofs.lemmas.List.{length-replicate}
 use Rattle.dpl_laminar.specs.Families.{Sets, IsFamily, IsLaminar}
 use Rattle.dpl_laminar.specs.Changes.{IsSingles}
 use Rattle.dpl_laminar.proofs.Numbers.{some_none}
 use Rattle.dpl_match.specs.Starting.{AreRaised, AreAlone}
-use Rattle.dpl_match.proofs.StageLemmas.{same_items, singles_rest}
+use Rattle.dpl_match.proofs.StageLemmas.{same_items}
 use Rattle.dpl_tree.specs.Mates.{IsExit, loads, totals}
 use Rattle.dpl_tree.specs.Metrics.{IsMetric}
 use Rattle.dpl_tree.specs.Stages.{IsRest}

@@ -174,7 +174,7 @@ weight_small colours edge = by_test (breaks colours edge) where
 cost_small : (g : Signed) (colours : List Bool) → length g.edges ≤ 400000 → cost_of g colours ≤ 400000000000
 cost_small g colours l = omega (arith, sum_by-le (broken_weight colours) 1000000 g.edges (λ k d m. weight_small colours (get_or g.edges k d)), l)
 
-params_fit : (o : Options) → is_name o.layer ≡ true → IsParams (params_of_options o)
+pub params_fit : (o : Options) → is_name o.layer ≡ true → IsParams (params_of_options o)
 params_fit o n = record {
   layer = (n, o.short_layer);
   space = omega (arith, o.most_space);

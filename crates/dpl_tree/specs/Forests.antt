@@ -1,6 +1,6 @@
 -- The alternating tree of one stage over the top sets of a family, and what each single step makes of it, after Edmonds
 -- 1965, "Paths, trees, and flowers".
-use Rattle.std.specs.Prelude.{◌≡◌, ◌≢◌, ℕ, ◌+◌, ◌*◌, ◌<◌, ◌≤◌, true, false, Option, Some, None, List}
+use Rattle.std.specs.Prelude.{◌≡◌, ◌≢◌, ℕ, ◌+◌, ◌*◌, ◌<◌, ◌≤◌, true, false, Option, None, List}
 use Rattle.dpl_laminar.specs.Families.{Sets, has}
 use Rattle.dpl_tree.specs.Mates.{IsExit, ArePairs}
 
@@ -41,7 +41,8 @@ pub record IsTree (n : ℕ) (f : Sets) (load dist : ℕ → ℕ → ℕ) (x : Fo
   pub root_outer : x.place x.root ≡ outer
   pub root_free : (m t : ℕ) → IsExit n f x.mate x.root m t → ⊥
   pub outer_pair : (i : ℕ) → x.place i ≡ outer → i ≢ x.root → (m : ℕ) × (t : ℕ) × IsExit n f x.mate i m t
-  pub outer_mate : (i m t : ℕ) → x.place i ≡ outer → IsExit n f x.mate i m t → (x.place (f.top t) ≡ inner) × (x.rank (f.top t) < x.rank i)
+  pub outer_mate : (i m t : ℕ) → x.place i ≡ outer → IsExit n f x.mate i m t → (x.place (f.top t) ≡ inner) ×
+      (x.rank (f.top t) < x.rank i)
   pub inner_pair : (i : ℕ) → x.place i ≡ inner → (m : ℕ) × (t : ℕ) × IsExit n f x.mate i m t
   pub inner_mate : (i m t : ℕ) → x.place i ≡ inner → IsExit n f x.mate i m t → x.place (f.top t) ≡ outer
   pub link_range : (i : ℕ) → x.place i ≡ inner → (x.above i < n) × (x.entry i < n)
@@ -66,7 +67,8 @@ pub record Grows (n : ℕ) (f : Sets) (x : Forest) (s t m o : ℕ) (y : Forest) 
 
 -- On the way from a free set to the root: s, in an outer set of the tree x, is to become the mate of t, in a set with no
 -- pair. The sets of the tree up to the rank of s's set have their pairs, and each set but t's has one that had one.
-pub record IsClimb (n : ℕ) (f : Sets) (load dist : ℕ → ℕ → ℕ) (x : Forest) (mate : ℕ → Option ℕ) (s t : ℕ) : Type 0 where
+pub record IsClimb (n : ℕ) (f : Sets) (load dist : ℕ → ℕ → ℕ) (x : Forest) (mate : ℕ → Option ℕ)
+    (s t : ℕ) : Type 0 where
   pub s_range : s < n
   pub t_range : t < n
   pub s_outer : x.place (f.top s) ≡ outer
@@ -106,7 +108,8 @@ pub record IsBroken (n : ℕ) (f : Sets) (load dist : ℕ → ℕ → ℕ) (x : 
   pub root_outer : x.place x.root ≡ outer
   pub root_free : (m t : ℕ) → IsExit n f x.mate x.root m t → ⊥
   pub outer_pair : (i : ℕ) → x.place i ≡ outer → i ≢ x.root → (m : ℕ) × (t : ℕ) × IsExit n f x.mate i m t
-  pub outer_mate : (i m t : ℕ) → x.place i ≡ outer → i ≢ out → IsExit n f x.mate i m t → (x.place (f.top t) ≡ inner) × (x.rank (f.top t) < x.rank i)
+  pub outer_mate : (i m t : ℕ) → x.place i ≡ outer → i ≢ out → IsExit n f x.mate i m t →
+      (x.place (f.top t) ≡ inner) × (x.rank (f.top t) < x.rank i)
   pub inner_pair : (i : ℕ) → x.place i ≡ inner → (m : ℕ) × (t : ℕ) × IsExit n f x.mate i m t
   pub inner_mate : (i m t : ℕ) → x.place i ≡ inner → i ≢ cur → IsExit n f x.mate i m t → x.place (f.top t) ≡ outer
   pub link_range : (i : ℕ) → x.place i ≡ inner → (x.above i < n) × (x.entry i < n)

@@ -9,18 +9,24 @@ use Rattle.dpl_tree.specs.Mates.{IsExit, loads}
 use Rattle.dpl_tree.specs.Views.{place_in}
 
 -- all children of a set around, each once, with tight joins from each to the next one
-pub record IsAround (n : ℕ) (f : Sets) (dist : ℕ → ℕ → ℕ) (set : ℕ) (sets : List ℕ) (joins : List (ℕ × ℕ)) : Type 0 where
+pub record IsAround (n : ℕ) (f : Sets) (dist : ℕ → ℕ → ℕ) (set : ℕ) (sets : List ℕ)
+    (joins : List (ℕ × ℕ)) : Type 0 where
   pub count : length joins ≡ length sets
   pub odd : length sets % 2 ≡ 1
   pub kids : (i : ℕ) → i < length sets → has (f.children set) (slice_index sets i) ≡ true
   pub all : (c : ℕ) → has (f.children set) c ≡ true → (i : ℕ) × (i < length sets) × (slice_index sets i ≡ c)
   pub distinct : (i j : ℕ) → i < j → j < length sets → slice_index sets i ≢ slice_index sets j
-  pub from : (i : ℕ) → i < length sets → ((slice_index_or joins i (0, 0)).0 < n) × (f.holds (slice_index sets i) (slice_index_or joins i (0, 0)).0 ≡ true)
-  pub to : (i : ℕ) → i < length sets → ((slice_index_or joins i (0, 0)).1 < n) × (f.holds (next_in sets i) (slice_index_or joins i (0, 0)).1 ≡ true)
-  pub tight : (i : ℕ) → i < length sets → loads n f (slice_index_or joins i (0, 0)).0 (slice_index_or joins i (0, 0)).1 ≡ dist (slice_index_or joins i (0, 0)).0 (slice_index_or joins i (0, 0)).1
+  pub from : (i : ℕ) → i < length sets → ((slice_index_or joins i (0, 0)).0 < n) ×
+      (f.holds (slice_index sets i) (slice_index_or joins i (0, 0)).0 ≡ true)
+  pub to : (i : ℕ) → i < length sets → ((slice_index_or joins i (0, 0)).1 < n) ×
+      (f.holds (next_in sets i) (slice_index_or joins i (0, 0)).1 ≡ true)
+  pub tight : (i : ℕ) → i < length sets →
+      loads n f (slice_index_or joins i (0, 0)).0 (slice_index_or joins i (0, 0)).1 ≡
+      dist (slice_index_or joins i (0, 0)).0 (slice_index_or joins i (0, 0)).1
 
 -- an inner set, its round, and the place of the child that keeps the pair
-pub record IsOpening (n : ℕ) (f : Sets) (dist : ℕ → ℕ → ℕ) (x : Forest) (set : ℕ) (sets : List ℕ) (joins : List (ℕ × ℕ)) (p m0 t0 : ℕ) : Type 0 where
+pub record IsOpening (n : ℕ) (f : Sets) (dist : ℕ → ℕ → ℕ) (x : Forest) (set : ℕ) (sets : List ℕ)
+    (joins : List (ℕ × ℕ)) (p m0 t0 : ℕ) : Type 0 where
   pub above : n ≤ set
   pub is_inner : x.place set ≡ inner
   pub empty : f.value set ≡ 0
@@ -42,7 +48,8 @@ join_at place r = if nat_lt (2 * r) place then 2 * r else 2 * r + 1
 -- so many pairs along these joins
 abbrev pub paired_times : List (Option ℕ) → List (ℕ × ℕ) → ℕ → ℕ → List (Option ℕ)
 paired_times mates joins place zero = mates
-paired_times mates joins place (suc r) = pair_up (paired_times mates joins place r) (slice_index_or joins (join_at place r) (0, 0))
+paired_times mates joins place (suc r) = pair_up (paired_times mates joins place r)
+    (slice_index_or joins (join_at place r) (0, 0))
 
 -- the lists of a tree
 pub record Lists : Type 0 where
@@ -74,4 +81,5 @@ step_in l cur out next link = record {
 -- so many steps along a ring
 abbrev pub walked_times : Lists → List ℕ → List (ℕ × ℕ) → ℕ → Lists
 walked_times l sets joins zero = l
-walked_times l sets joins (suc r) = step_in (walked_times l sets joins r) (slice_index sets (2 * r)) (slice_index sets (2 * r + 1)) (slice_index sets (2 * r + 2)) (slice_index_or joins (2 * r + 1) (0, 0))
+walked_times l sets joins (suc r) = step_in (walked_times l sets joins r) (slice_index sets (2 * r))
+    (slice_index sets (2 * r + 1)) (slice_index sets (2 * r + 2)) (slice_index_or joins (2 * r + 1) (0, 0))

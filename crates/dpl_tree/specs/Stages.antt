@@ -24,8 +24,10 @@ potential n f place = sum_below n (λ m. weight (place (f.top m)) (1 + as_number
 
 -- totals of members of one top, and of tops of the tree, have one parity
 pub record HasParity (n : ℕ) (f : Sets) (place : ℕ → Place) (v : ℕ → ℕ) : Type 0 where
-  pub in_top : (s t : ℕ) → s < n → t < n → f.top s ≡ f.top t → total_in (2 * n) v f.holds s % 2 ≡ total_in (2 * n) v f.holds t % 2
-  pub in_tree : (s t : ℕ) → s < n → t < n → place (f.top s) ≢ free → place (f.top t) ≢ free → total_in (2 * n) v f.holds s % 2 ≡ total_in (2 * n) v f.holds t % 2
+  pub in_top : (s t : ℕ) → s < n → t < n → f.top s ≡ f.top t →
+      total_in (2 * n) v f.holds s % 2 ≡ total_in (2 * n) v f.holds t % 2
+  pub in_tree : (s t : ℕ) → s < n → t < n → place (f.top s) ≢ free → place (f.top t) ≢ free →
+      total_in (2 * n) v f.holds s % 2 ≡ total_in (2 * n) v f.holds t % 2
 
 -- What holds between two stages: a family that overloads no pair, tight pairs between its tops, and tight joins.
 pub record IsRest (n : ℕ) (f : Sets) (dist : ℕ → ℕ → ℕ) (mate : ℕ → Option ℕ) : Type 0 where
@@ -34,14 +36,16 @@ pub record IsRest (n : ℕ) (f : Sets) (dist : ℕ → ℕ → ℕ) (mate : ℕ 
   pub laminar : IsLaminar n f
   pub within : AreWithin n (2 * n) f.value f.holds dist
   pub pairs : ArePairs n f (loads n f) dist mate
-  pub joins : (c p : ℕ) → c < 2 * n → f.parent c ≡ Some p → loads n f (f.join c).0 (f.join c).1 ≡ dist (f.join c).0 (f.join c).1
+  pub joins : (c p : ℕ) → c < 2 * n → f.parent c ≡ Some p →
+      loads n f (f.join c).0 (f.join c).1 ≡ dist (f.join c).0 (f.join c).1
   pub parity : (s t : ℕ) → s < n → t < n → f.top s ≡ f.top t → totals n f s % 2 ≡ totals n f t % 2
 
 -- What holds between two turns of a stage: a tree as well.
 pub record IsStage (n : ℕ) (f : Sets) (dist : ℕ → ℕ → ℕ) (x : Forest) : Type 0 where
   pub rest : IsRest n f dist x.mate
   pub tree : IsTree n f (loads n f) dist x
-  pub even : (s t : ℕ) → s < n → t < n → x.place (f.top s) ≢ free → x.place (f.top t) ≢ free → totals n f s % 2 ≡ totals n f t % 2
+  pub even : (s t : ℕ) → s < n → t < n → x.place (f.top s) ≢ free → x.place (f.top t) ≢ free →
+      totals n f s % 2 ≡ totals n f t % 2
 
 -- the top of a member has a pair
 abbrev pub IsCovered : ℕ → Sets → (ℕ → Option ℕ) → ℕ → Type 0
@@ -73,5 +77,8 @@ pub record Widens (n : ℕ) (f : Sets) (place : ℕ → Place) (g : Sets) (place
 
 -- An amount that no candidate forbids: what the scan over the pairs and over the inner sets gives.
 pub record IsChange (n : ℕ) (f : Sets) (x : Forest) (v : ℕ → ℕ) (dist : ℕ → ℕ → ℕ) (by : ℕ) : Type 0 where
-  pub both_outer : (s t : ℕ) → s < n → t < n → f.top s ≢ f.top t → x.place (f.top s) ≡ outer → x.place (f.top t) ≡ outer → total_in (2 * n) v f.holds s + total_in (2 * n) v f.holds t + 2 * by ≤ dist s t
-  pub to_free : (s t : ℕ) → s < n → t < n → x.place (f.top s) ≡ outer → x.place (f.top t) ≡ free → total_in (2 * n) v f.holds s + total_in (2 * n) v f.holds t + by ≤ dist s t
+  pub both_outer : (s t : ℕ) → s < n → t < n → f.top s ≢ f.top t → x.place (f.top s) ≡ outer →
+      x.place (f.top t) ≡ outer → total_in (2 * n) v f.holds s + total_in (2 * n) v f.holds t + 2 * by ≤
+      dist s t
+  pub to_free : (s t : ℕ) → s < n → t < n → x.place (f.top s) ≡ outer → x.place (f.top t) ≡ free →
+      total_in (2 * n) v f.holds s + total_in (2 * n) v f.holds t + by ≤ dist s t

@@ -46,7 +46,8 @@ fn lower<L: Ledger>(family: &mut Family, labels: &[Label], by: u64, steps: &mut 
     ensures rest { sets_of family.new ≡ record (sets_of family.old)
         { value = (sets_of family.new).value } }
     ensures values { (i : ℕ) → i < 2 * (sets_of family.old).size →
-        (sets_of family.new).value i + drop_of (place_in labels.now i) * by ≡ (sets_of family.old).value i }
+        (sets_of family.new).value i + drop_of (place_in labels.now i) * by ≡
+        (sets_of family.old).value i }
     ensures family { IsFamily (sets_of family.new) }
     ensures steps { steps.new ≡ steps.old + sum_below (2 * (sets_of family.old).size)
         (λ i. drop_of (place_in labels.now i)) }
@@ -91,7 +92,8 @@ fn lift<L: Ledger>(family: &mut Family, labels: &[Label], by: u64, steps: &mut S
     ensures rest { sets_of family.new ≡ record (sets_of family.old)
         { value = (sets_of family.new).value } }
     ensures values { (i : ℕ) → i < 2 * (sets_of family.old).size →
-        (sets_of family.new).value i ≡ (sets_of family.old).value i + gain (place_in labels.now i) * by }
+        (sets_of family.new).value i ≡
+        (sets_of family.old).value i + gain (place_in labels.now i) * by }
     ensures family { IsFamily (sets_of family.new) }
     ensures steps { steps.new ≡ steps.old + sum_below (2 * (sets_of family.old).size)
         (λ i. gain (place_in labels.now i)) }
@@ -152,7 +154,8 @@ pub fn shift<L: Ledger>(
     ensures rest { sets_of family.new ≡ record (sets_of family.old)
         { value = (sets_of family.new).value } }
     ensures values { (i : ℕ) → i < 2 * (sets_of family.old).size →
-        (sets_of family.new).value i + drop_of (place_in labels.now i) * by ≡ (sets_of family.old).value i + gain (place_in labels.now i) * by }
+        (sets_of family.new).value i + drop_of (place_in labels.now i) * by ≡
+        (sets_of family.old).value i + gain (place_in labels.now i) * by }
     ensures family { IsFamily (sets_of family.new) }
     ensures totals { (m : ℕ) → m < length totals.old →
         slice_index totals.new m + drop_of (place_in labels.now ((sets_of family.old).top m)) * by ≡

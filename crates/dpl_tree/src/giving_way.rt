@@ -38,7 +38,8 @@ pub fn make_room(ranks: &mut [u64], rank: u64, room: u64)
     requires small { (i : ℕ) → slice_index ranks.old i ≤ 2 ^ 60 }
     requires room { room ≤ 4096 }
     ensures { (i : ℕ) → slice_index ranks.new i ≡
-        (if nat_lt rank (slice_index ranks.old i) then slice_index ranks.old i + room else slice_index ranks.old i) }
+        (if nat_lt rank (slice_index ranks.old i) then slice_index ranks.old i + room
+        else slice_index ranks.old i) }
 {
     for i in 0..ranks.len() {
         if rank < ranks[i] {

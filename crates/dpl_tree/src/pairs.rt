@@ -32,8 +32,10 @@ pub fn exit_of(family: &Family, mates: &[Option<u32>], top: u32) -> Option<(u32,
     requires count { length mates.now ≡ (sets_of family.now).size }
     requires small { length mates.now ≤ 2048 }
     ensures { MatchOption result
-        ((m : ℕ) → m < (sets_of family.now).size → (sets_of family.now).top m ≡ top → mate_in mates.now m ≡ None)
-        (λ p. (p.0 < (sets_of family.now).size) × ((sets_of family.now).top p.0 ≡ top) × (mate_in mates.now p.0 ≡ Some p.1)) }
+        ((m : ℕ) → m < (sets_of family.now).size → (sets_of family.now).top m ≡ top →
+        mate_in mates.now m ≡ None)
+        (λ p. (p.0 < (sets_of family.now).size) × ((sets_of family.now).top p.0 ≡ top) ×
+        (mate_in mates.now p.0 ≡ Some p.1)) }
 {
     for m in 0..mates.len() {
         if let Some(mate) = mates[m] {

@@ -1,4 +1,4 @@
-use Rattle.std.proofs.Common.{arith, ◌≡◌, ℕ, None}
+use Rattle.std.proofs.Common.{arith, ◌≡◌, None}
 use Rattle.dpl_tree.specs.Metrics.{dist_of}
 use Rattle.dpl_tree.specs.Views.{mate_in}
 use Rattle.dpl_match.proofs.StartLemmas.{tight_rest}
