@@ -1,86 +1,74 @@
 // From a text to its report.
-ghost use Rattle.std.specs.Prelude.{◌≡◌, ◌≤◌, length, IfOk, IfErr};
-ghost use Rattle.dpl_cell.specs.Layers.{cells_of};
-ghost use Rattle.dpl_cif.specs.Reading.{reading};
+ghost use Rattle.std.specs.Prelude.{◌≡◌, ◌⊎◌, ◌≤◌, ℕ, length, IfOk, IfErr, Err};
 ghost use Rattle.dpl_report.specs.Plain.{plain_report};
-ghost use Rattle.dpl_report.specs.Valid.{IsReport};
-ghost use Rattle.dpl_cif.specs.OnCells.{OnCells};
-ghost use Rattle.dpl_cif.specs.OnCells.{limit_number};
-ghost use Rattle.dpl_core.specs.Solutions.{IsSolved, RefusesSolution};
-ghost use Rattle.dpl_core.specs.Reports.{IsGoodFor, IsSplit};
+ghost use Rattle.dpl_solve.specs.Solved.{IsSolution, IsRefused};
+ghost use Rattle.dpl_core.specs.Reports.{IsReportOf, IsSplit};
+ghost use Rattle.dpl_core.specs.Refusals.{IsOddNet, RefusesSplit};
 
-use crate::drawing::{fragments_of, net_of};
-use crate::error::MakeError;
 use crate::reporting::report_of;
-use dpl_cell::Layout;
-use dpl_cif::{CifError, CifLimit, read};
+use dpl_layer::{LayerError, read_layer};
 use dpl_report::{Options, Report, print, true_reports_are_good, true_reports_are_valid};
 use dpl_sign::Net;
 use dpl_solve::{Solution, SolveError, solve};
 use std::alloc::Global;
 
-/// The report of a layer of a text.
-pub fn make(alloc: Global, text: &[u8], options: &Options) -> Result<Report, MakeError>
+/// The report of a layer of a text, which has at most 16 MiB.
+pub fn make(alloc: Global, text: &[u8], options: &Options) -> Result<Report, LayerError>
     requires { length text.now ≤ 16777216 }
-    ensures good { IfOk result (λ r. OnCells (reading options.now.layer text.now) (λ cells. IsGoodFor options.now cells (plain_report r))) }
-    ensures valid { IfOk result (λ r. IsReport (plain_report r)) }
+    ensures made { IfOk result (λ r. IsReportOf options.now text.now (plain_report r)) }
+    ensures refused { (e : LayerError) → result ≡ Err e →
+        (e ≡ LayerError.NoMemory) ⊎ RefusesSplit options.now text.now e }
+    ensures exact { (e : LayerError) → RefusesSplit options.now text.now e →
+        (result ≡ Err e) ⊎ (result ≡ Err LayerError.NoMemory) }
 {
-    match read(alloc, text, &options.layer) {
-        Ok(layout) => report_of_layout(alloc, &layout, options),
-        Err(CifError::Fault { command, what }) => Err(MakeError::Layout { command, what }),
-        Err(CifError::Limit { kind, count }) => Err(MakeError::Limit {
-            kind: number_of(kind),
-            count,
-        }),
-        Err(CifError::NoMemory) => Err(MakeError::NoMemory),
-    }
+    make_report(alloc, text, options)
 }
 
-/// The text of the report of a layer of a text.
-pub fn split(alloc: Global, text: &[u8], options: &Options) -> Result<Vec<u8>, MakeError>
+/// The text of the report of a layer of a text, which has at most 16 MiB.
+pub fn split(alloc: Global, text: &[u8], options: &Options) -> Result<Vec<u8>, LayerError>
     requires { length text.now ≤ 16777216 }
-    ensures { IfOk result (λ v. OnCells (reading options.now.layer text.now) (λ cells. IsSplit options.now cells v.items)) }
+    ensures split { IfOk result (λ v. IsSplit options.now text.now v.items) }
+    ensures refused { (e : LayerError) → result ≡ Err e →
+        (e ≡ LayerError.NoMemory) ⊎ RefusesSplit options.now text.now e }
+    ensures exact { (e : LayerError) → RefusesSplit options.now text.now e →
+        (result ≡ Err e) ⊎ (result ≡ Err LayerError.NoMemory) }
 {
     let report = make(alloc, text, options)?;
     let written = print(alloc, &report)?;
     Ok(written)
 }
 
-fn number_of(limit: CifLimit) -> u8
-    ensures { result ≡ limit_number limit }
+/// The same; of refusals it is said that one comes where it applies, and none to a text with a
+/// report.
+fn make_report(alloc: Global, text: &[u8], options: &Options) -> Result<Report, LayerError>
+    requires { length text.now ≤ 16777216 }
+    ensures made { IfOk result (λ r. IsReportOf options.now text.now (plain_report r)) }
+    ensures free { IfOk result (λ r. (e : LayerError) → ¬ RefusesSplit options.now text.now e) }
+    ensures refused { IfErr result (λ e.
+        (e ≡ LayerError.NoMemory) ⊎ RefusesSplit options.now text.now e) }
 {
-    match limit {
-        CifLimit::Primitives => 2,
-        CifLimit::Calls => 3,
-        CifLimit::Coordinate => 4,
-    }
-}
-
-fn report_of_layout(alloc: Global, layout: &Layout, options: &Options) -> Result<Report, MakeError>
-    ensures good { IfOk result (λ r. IsGoodFor options.now (cells_of layout.now) (plain_report r)) }
-    ensures valid { IfOk result (λ r. IsReport (plain_report r)) }
-{
-    let fragments = fragments_of(alloc, layout, options)?;
-    let net = net_of(alloc, &fragments, options)?;
-    let solution = solved(alloc, &net)?;
-    let report = report_of(alloc, options, &fragments, &net, solution)?;
-    true_reports_are_good(options, &fragments, &net, &report);
-    true_reports_are_valid(options, &fragments, &net, &report);
+    let layer = read_layer(alloc, text, options)?;
+    let solution = solve_net(alloc, &layer.net)?;
+    let report = report_of(alloc, options, &layer.fragments, &layer.net, solution)?;
+    true_reports_are_good(options, &layer.fragments, &layer.net, &report);
+    true_reports_are_valid(options, &layer.fragments, &layer.net, &report);
     Ok(report)
 }
 
-/// The solution of a net.
-fn solved(alloc: Global, net: &Net) -> Result<Solution, MakeError>
-    requires { length net.now.graph.edges ≤ 400000 }
-    ensures solution { IfOk result (λ s. IsSolved net.now s) }
-    ensures refused { IfErr result (RefusesSolution net.now) }
+/// The optimum of a net.
+fn solve_net(alloc: Global, net: &Net) -> Result<Solution, LayerError>
+    requires few { length net.now.graph.edges ≤ 400000 }
+    ensures solution { IfOk result (λ s.
+        IsSolution net.now s.colours.items s.cost s.aside s.excess s.cycles s.bound) }
+    ensures free { IfOk result (λ s. (n : ℕ) → ¬ IsRefused net.now n) }
+    ensures refused { IfErr result (λ e. (e ≡ LayerError.NoMemory) ⊎ IsOddNet net.now e) }
 {
     match solve(alloc, net) {
         Ok(solution) => Ok(solution),
-        Err(SolveError::OddFaces(count)) => Err(MakeError::Limit {
+        Err(SolveError::OddFaces(count)) => Err(LayerError::Limit {
             kind: 8,
             count: u64::from(count),
         }),
-        Err(SolveError::NoMemory) => Err(MakeError::NoMemory),
+        Err(SolveError::NoMemory) => Err(LayerError::NoMemory),
     }
 }

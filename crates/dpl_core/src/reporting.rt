@@ -1,22 +1,21 @@
 // What a report of a solution says.
-ghost use Rattle.std.specs.Prelude.{◌≡◌, ◌*◌, ◌<◌, ◌^◌, length, count_by, IfOk};
+ghost use Rattle.std.specs.Prelude.{◌≡◌, ◌<◌, ◌^◌, length, count_by, IfOk};
 ghost use Rattle.dpl_sign.specs.Kinds.{is_bond, is_clash};
 ghost use Rattle.dpl_report.specs.Plain.{plain_report};
 ghost use Rattle.dpl_report.specs.Conditions.{params_of_options, is_stitch as is_stitch_edge};
 ghost use Rattle.dpl_report.specs.Verdicts.{counts_of_net};
 ghost use Rattle.dpl_report.specs.Truths.{SaysTrue};
 ghost use Rattle.dpl_sign.specs.Excess.{excess as excess_of, all_edges};
-ghost use Rattle.dpl_solve.specs.Solved.{kept_cost, KeepToKept};
-ghost use Rattle.dpl_core.specs.Solutions.{IsSolved};
+ghost use Rattle.dpl_solve.specs.Solved.{IsSolution};
+ghost use Rattle.dpl_core.specs.Reports.{IsTight, IsLeast};
 
-use crate::error::MakeError;
 use dpl_cuts::types::Fragments;
 use dpl_lex::Name;
 use dpl_list::Items;
 use dpl_report::{Counts, Options, Params, Report, broken_clashes, broken_cuts, masks};
 use dpl_sign::{Edge, Kind, Net};
 use dpl_solve::Solution;
-use std::alloc::Global;
+use std::alloc::{AllocError as NoMemory, Global};
 
 /// The report of a solution.
 pub fn report_of(
@@ -25,12 +24,13 @@ pub fn report_of(
     fragments: &Fragments,
     net: &Net,
     solution: Solution,
-) -> Result<Report, MakeError>
-    requires solution { IsSolved net.now solution }
+) -> Result<Report, NoMemory>
+    requires solution { IsSolution net.now solution.colours.items solution.cost solution.aside
+        solution.excess solution.cycles solution.bound }
     requires one { length solution.colours.items ≡ length fragments.now.rects }
     ensures truth { IfOk result (λ r. SaysTrue options.now fragments.now net.now (plain_report r)) }
-    ensures kept { IfOk result (λ r. KeepToKept net.now (plain_report r).lists.cycles) }
-    ensures tight { IfOk result (λ r. (plain_report r).head.bound ≡ 2 * kept_cost net.now (plain_report r).head.colours) }
+    ensures tight { IfOk result (λ r. IsTight net.now (plain_report r)) }
+    ensures least { IfOk result (λ r. IsLeast net.now (plain_report r)) }
 {
     let params = params_of(options);
     let counts = counts_of(net, solution.excess);

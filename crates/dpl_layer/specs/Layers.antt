@@ -10,7 +10,8 @@ use Rattle.dpl_sign.specs.declared.nets.Net.{Net}
 use Rattle.dpl_links.specs.Nets.{IsNet}
 use Rattle.dpl_report.specs.declared.options.Options.{Options}
 
--- the fragments of the tiles of these cells, each with the number of its shape; lengths are in grid units
+-- the fragments of the tiles of these cells, each with the number of its shape; lengths are in
+-- grid units
 pub record AreFragmentsOf (space over : ℕ) (cells : ℤ → ℤ → Bool) (f : Fragments) : Type 0 where
   pub tiles : List Corners
   pub label : List ℕ
@@ -19,7 +20,8 @@ pub record AreFragmentsOf (space over : ℕ) (cells : ℤ → ℤ → Bool) (f :
   pub are_shapes : AreShapes tiles label count
   pub are_fragments : AreFragments space over tiles label f
 
--- the fragments of these cells and their net, for the lengths and weights of the options; a hundredth is two grid units
+-- the fragments of these cells and their net, for the lengths and weights of the options; a
+-- hundredth is two grid units
 pub record IsLayerOf (o : Options) (cells : ℤ → ℤ → Bool) (f : Fragments) (n : Net) : Type 0 where
   pub fragments : AreFragmentsOf (2 * o.space) (2 * o.overlap) cells f
   pub net : IsNet f o.weights (2 * o.space) n

@@ -23,14 +23,16 @@ pub record HasTooManyFragments (o : Options) (cells : ℤ → ℤ → Bool) : Ty
   pub few_tiles : length tiles ≤ most_of Counted.Tiles
   pub many : HasMoreFragments (2 * o.space) (2 * o.overlap) tiles (most_of Counted.Fragments)
 
--- no more tiles and fragments than are taken (each tile has a fragment), and these have too many edges
+-- no more tiles and fragments than are taken (each tile has a fragment), and these have too many
+-- edges
 pub record HasTooManyEdges (o : Options) (cells : ℤ → ℤ → Bool) : Type 0 where
   pub fragments : Fragments
   pub are_fragments : AreFragmentsOf (2 * o.space) (2 * o.overlap) cells fragments
   pub few_fragments : length fragments.rects ≤ most_of Counted.Fragments
   pub many : HasMoreEdges fragments (2 * o.space) (most_of Counted.Edges)
 
--- of the limits on the tiles of these cells, their fragments and edges, this one is the first that is passed
+-- of the limits on the tiles of these cells, their fragments and edges, this one is the first
+-- that is passed
 abbrev pub IsOverLimit : Options → (ℤ → ℤ → Bool) → ℕ → ℕ → Type 0
 IsOverLimit o cells kind count =
     Passes Counted.Tiles (HasMoreTiles cells (most_of Counted.Tiles)) kind count
@@ -47,5 +49,6 @@ RefusesCells o cells NoMemory = ⊥
 abbrev pub RefusesLayer : Options → List ℕ → LayerError → Type 0
 RefusesLayer o text (Layout command what) = reading o.layer text ≡ Faulty (fault command what)
 RefusesLayer o text (Limit kind count) =
-    IsReadLimit (reading o.layer text) kind count ⊎ OnCells (reading o.layer text) (λ cells. IsOverLimit o cells kind count)
+    IsReadLimit (reading o.layer text) kind count
+    ⊎ OnCells (reading o.layer text) (λ cells. IsOverLimit o cells kind count)
 RefusesLayer o text NoMemory = ⊥

@@ -11,8 +11,9 @@ pub enum LayerError {
     /// The first broken rule of the layout and the command that breaks it.
     #[error("command {command} breaks the rule {what:?}")]
     Layout { command: u32, what: What },
-    /// The first limit that is passed and the count that passes it: primitives (2), calls (3), the greatest coordinate
-    /// in grid units (4), tiles (5), fragments (6), edges (7), odd faces of one part of the net (8).
+    /// The first limit that is passed and the count that passes it: primitives (2), calls
+    /// (3), the greatest coordinate in grid units (4), tiles (5), fragments (6), edges (7),
+    /// odd faces of one part of the net (8).
     #[error("limit {kind} is passed by {count}")]
     Limit { kind: u8, count: u64 },
     #[error("out of memory")]

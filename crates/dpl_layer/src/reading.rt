@@ -18,7 +18,8 @@ use dpl_sign::Net;
 use dpl_tiles::tiles_share_out;
 use std::alloc::Global;
 
-/// A layer as fragments in the order of their lower left corners, and the net that joins them by number.
+/// A layer as fragments in the order of their lower left corners, and the net that joins them
+/// by number.
 #[derive(Drop)]
 pub struct Layer {
     pub fragments: Fragments,
@@ -63,7 +64,8 @@ fn read_parts(alloc: Global, text: &[u8], options: &Options) -> Result<Layer, La
 
 /// The fragments and the net of a layout.
 fn draw(alloc: Global, layout: &Layout, options: &Options) -> Result<Layer, LayerError>
-    ensures layer { IfOk result (λ l. IsLayerOf options.now (cells_of layout.now) l.fragments l.net) }
+    ensures layer { IfOk result (λ l.
+        IsLayerOf options.now (cells_of layout.now) l.fragments l.net) }
     ensures shared { TilesShareOut (cells_of layout.now) }
     ensures cut { IfOk result (λ l. CameFromCut (2 * options.now.space) l.fragments) }
     ensures few_fragments { IfOk result (λ l. length l.fragments.rects ≤ 100000) }
