@@ -53,7 +53,7 @@ within o text (TooMany n) e f is h r = h
 within o text (TooManyCalls n) e f is h r = h
 within o text (TooFar n) e f is h r = h
 
-one_split_refusal : (o : Options) (text : List ℕ) (e f : LayerError) → RefusesSplit o text e → RefusesSplit o text f → e ≡ f
+pub one_split_refusal : (o : Options) (text : List ℕ) (e f : LayerError) → RefusesSplit o text e → RefusesSplit o text f → e ≡ f
 one_split_refusal o text e f (inl a) (inl b) = one_text_refusal o text e f a b
 one_split_refusal o text e f (inl a) (inr b) = absurd (within o text (reading o.layer text) f e refl b a)
 one_split_refusal o text e f (inr a) (inl b) = absurd (within o text (reading o.layer text) e f refl a b)

@@ -1,5 +1,7 @@
 -- The report of a layer of a text, and what its bound proves.
-use Rattle.std.specs.Prelude.{◌≡◌, ◌↔◌, ◌+◌, ◌*◌, ◌≤◌, ℕ, Bool, List, [], None}
+use Rattle.std.specs.Prelude.{◌≡◌, ◌↔◌, ◌+◌, ◌*◌, ◌≤◌, ℕ, ℤ, Bool, List, [], None}
+use Rattle.dpl_cell.specs.Places.{Corners}
+use Rattle.dpl_cell.specs.Tiles.{AreTiles}
 use Rattle.dpl_cif.specs.Reading.{reading}
 use Rattle.dpl_cif.specs.OnCells.{OnCells}
 use Rattle.dpl_sign.specs.declared.nets.Net.{Net}
@@ -12,6 +14,7 @@ use Rattle.dpl_report.specs.ReportLines.{report_text}
 use Rattle.dpl_report.specs.Valid.{IsReport}
 use Rattle.dpl_report.specs.Truths.{SaysTrue}
 use Rattle.dpl_report.specs.Verdicts.{refusal_of}
+use Rattle.dpl_report.specs.MaskCells.{AreMasksOf}
 use Rattle.dpl_solve.specs.Solved.{kept_cost, aside_cost, KeepToKept}
 use Rattle.dpl_layer.specs.Layers.{IsLayerOf}
 
@@ -47,8 +50,19 @@ pub record IsReportOf (o : Options) (text : List ℕ) (r : PlainReport) : Type 0
   pub tight : IsTight net r
   pub least : IsLeast net r
 
--- the output is the text of such a report
+-- The masks of the report are those of the layer with these cells: together they are the layer, they overlap exactly at the
+-- listed stitches, they break the spacing only at the listed clashes, and the text read as CIF draws them.
+pub record HasMasks (o : Options) (r : PlainReport) (cells : ℤ → ℤ → Bool) : Type 0 where
+  pub fragments : Fragments
+  pub net : Net
+  pub layer : IsLayerOf o cells fragments net
+  pub tiles : List Corners
+  pub are_tiles : AreTiles cells tiles
+  pub masks : AreMasksOf o cells tiles fragments net r
+
+-- the output is the text of such a report, with its masks
 pub record IsSplit (o : Options) (text output : List ℕ) : Type 0 where
   pub report : PlainReport
   pub of_layer : IsReportOf o text report
+  pub masks : OnCells (reading o.layer text) (HasMasks o report)
   pub is : output ≡ report_text report

@@ -1,13 +1,17 @@
 // From a text to its report.
 ghost use Rattle.std.specs.Prelude.{◌≡◌, ◌⊎◌, ◌≤◌, ℕ, length, IfOk, IfErr, Err};
+ghost use Rattle.dpl_cif.specs.Reading.{reading};
+ghost use Rattle.dpl_cif.specs.OnCells.{OnCells};
 ghost use Rattle.dpl_report.specs.Plain.{plain_report};
 ghost use Rattle.dpl_solve.specs.Solved.{IsSolution, IsRefused};
-ghost use Rattle.dpl_core.specs.Reports.{IsReportOf, IsSplit};
+ghost use Rattle.dpl_core.specs.Reports.{HasMasks, IsReportOf, IsSplit};
 ghost use Rattle.dpl_core.specs.Refusals.{IsOddNet, RefusesSplit};
 
 use crate::reporting::report_of;
 use dpl_layer::{LayerError, read_layer};
-use dpl_report::{Options, Report, print, true_reports_are_good, true_reports_are_valid};
+use dpl_report::{
+    Options, Report, masks_are_of_the_layer, print, true_reports_are_good, true_reports_are_valid,
+};
 use dpl_sign::Net;
 use dpl_solve::{Solution, SolveError, solve};
 use std::alloc::Global;
@@ -16,6 +20,8 @@ use std::alloc::Global;
 pub fn make(alloc: Global, text: &[u8], options: &Options) -> Result<Report, LayerError>
     requires { length text.now ≤ 16777216 }
     ensures made { IfOk result (λ r. IsReportOf options.now text.now (plain_report r)) }
+    ensures masks { IfOk result (λ r.
+        OnCells (reading options.now.layer text.now) (HasMasks options.now (plain_report r))) }
     ensures refused { (e : LayerError) → result ≡ Err e →
         (e ≡ LayerError.NoMemory) ⊎ RefusesSplit options.now text.now e }
     ensures exact { (e : LayerError) → RefusesSplit options.now text.now e →
@@ -43,6 +49,8 @@ pub fn split(alloc: Global, text: &[u8], options: &Options) -> Result<Vec<u8>, L
 fn make_report(alloc: Global, text: &[u8], options: &Options) -> Result<Report, LayerError>
     requires { length text.now ≤ 16777216 }
     ensures made { IfOk result (λ r. IsReportOf options.now text.now (plain_report r)) }
+    ensures masks { IfOk result (λ r.
+        OnCells (reading options.now.layer text.now) (HasMasks options.now (plain_report r))) }
     ensures free { IfOk result (λ r. (e : LayerError) → ¬ RefusesSplit options.now text.now e) }
     ensures refused { IfErr result (λ e.
         (e ≡ LayerError.NoMemory) ⊎ RefusesSplit options.now text.now e) }
@@ -52,6 +60,7 @@ fn make_report(alloc: Global, text: &[u8], options: &Options) -> Result<Report, 
     let report = report_of(alloc, options, &layer.fragments, &layer.net, solution)?;
     true_reports_are_good(options, &layer.fragments, &layer.net, &report);
     true_reports_are_valid(options, &layer.fragments, &layer.net, &report);
+    masks_are_of_the_layer(options, &layer.fragments, &layer.net, &report);
     Ok(report)
 }
 

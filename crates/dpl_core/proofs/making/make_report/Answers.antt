@@ -1,5 +1,6 @@
 use Rattle.std.proofs.lemmas.Result.{err_from_is_err_and}
 use Rattle.dpl_core.proofs.RefusalLemmas.{odd_refuses, none_refuses}
+use Rattle.dpl_core.proofs.MaskLemmas.{net_of_layer, masks_of_layer}
 use Rattle.dpl_core.proofs.making.make_report.Goals as goal
 
 pub returns-in_err-solution-clause-refused : goal.returns-in_err-solution-clause-refused
@@ -12,3 +13,9 @@ pub returns-clause-free : goal.returns-clause-free
 returns-clause-free c =
     let layer = c.in_ok-layer.ensures in
     none_refuses c.args.options.now c.args.text.now c.in_ok-layer.layer.fragments c.in_ok-layer.layer.net layer.layer layer.few_fragments layer.few_edges c.in_ok-solution.ensures.free
+
+pub masks_are_of_the_layer-requires-clause-net : goal.masks_are_of_the_layer-requires-clause-net
+masks_are_of_the_layer-requires-clause-net c = net_of_layer c.args.options.now _ c.in_ok-layer.layer.fragments c.in_ok-layer.layer.net c.in_ok-layer.ensures.layer
+
+pub returns-clause-masks : goal.returns-clause-masks
+returns-clause-masks c = masks_of_layer c.args.options.now _ c.in_ok-layer.layer.fragments c.in_ok-layer.layer.net _ c.in_ok-layer.ensures.layer c.in_ok-layer.ensures.shared c.masks_are_of_the_layer.ensures
