@@ -1,4 +1,4 @@
-use Rattle.std.proofs.Common.{arith, ap, sym, ◌∙◌, ◌≡◌, ◌≢◌, inl, inr, length, get_or, []}
+use Rattle.std.proofs.Common.{arith, ap, sym, ◌∙◌, ◌≢◌, inl, inr, length, []}
 use Rattle.std.proofs.lemmas.List.{get_or_default}
 use Rattle.dpl_map.specs.Views.{view_of}
 use Rattle.dpl_sign.specs.declared.edges.Edge.{Edge}
