@@ -53,7 +53,7 @@ written_cleared places old now new c s t w d x = elim (cases_lt x (length now)) 
 
 -- ---- the odd faces of a list
 
-count_odd : (P Q : ℕ → Bool) (n : ℕ) → count_by P (filter Q (range_with_len 0 n)) ≡ sum_on (λ f. P f && Q f) (λ f. 1) n
+pub count_odd : (P Q : ℕ → Bool) (n : ℕ) → count_by P (filter Q (range_with_len 0 n)) ≡ sum_on (λ f. P f && Q f) (λ f. 1) n
 count_odd P Q zero = refl
 count_odd P Q (suc n) =
     let e : n + 1 ≡ suc n = omega arith in
@@ -73,7 +73,7 @@ count_odd P Q (suc n) =
     none true = refl
     none false = refl
 
-sum_alike : (n : ℕ) (p q : ℕ → Bool) → ((f : ℕ) → f < n → p f ≡ q f) → sum_on p (λ f. 1) n ≡ sum_on q (λ f. 1) n
+pub sum_alike : (n : ℕ) (p q : ℕ → Bool) → ((f : ℕ) → f < n → p f ≡ q f) → sum_on p (λ f. 1) n ≡ sum_on q (λ f. 1) n
 sum_alike zero p q h = refl
 sum_alike (suc n) p q h = omega (arith, sum_alike n p q (λ f l. h f (omega arith)), ap (λ b. cond {A = ℕ} b 1 0) (h n (omega arith)))
 

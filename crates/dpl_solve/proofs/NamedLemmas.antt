@@ -15,7 +15,8 @@ use Rattle.dpl_cycle.specs.Sums.{sum_on, count_on}
 use Rattle.dpl_sign.specs.declared.nets.Net.{Net}
 use Rattle.dpl_sign.specs.Drawings.{dart_count, face_of}
 use Rattle.dpl_sign.specs.Parity.{is_clash_edge, is_odd_face as is_odd_named, AreOfOnePart}
-use Rattle.dpl_sign.proofs.PartLemmas.{face_below}
+use Rattle.dpl_cycle.proofs.Least.{least_le}
+use Rattle.dpl_sign.proofs.Rotation.{face_permutes}
 use Rattle.dpl_map.specs.Maps.{face_at}
 use Rattle.dpl_map.specs.Views.{view_of}
 use Rattle.dpl_map.specs.Sides.{clash_bit, is_odd_face}
@@ -275,7 +276,9 @@ most_named net d k n o =
 
 name_below : (net : Net) (x : ℕ) → is_odd_face net.graph (view_of net) x ≡ true → name net x < dart_count net
 unfolding name
-name_below net x h = face_below net (keeps net) (numbered_dart net x) (dart_of_number net x h).0.below
+name_below net x h =
+    let below = (dart_of_number net x h).0.below in
+    omega (arith, least_le _ _ _ (face_permutes net (keeps net)) (numbered_dart net x) below, below)
 
 -- all odd faces have names
 pub odd_named_most : (net : Net) (d : Dual) → IsDual net.graph (view_of net) d → length d.odd ≤ length (odd_faces net)
