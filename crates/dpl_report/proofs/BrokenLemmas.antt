@@ -1,7 +1,6 @@
 -- The cut lines and the clash lines of a colouring name exactly what it breaks.
 use Rattle.std.proofs.Common.{arith, ◌≡◌, ◌≤◌, ◌<◌, ℕ, ◌+◌, zero, suc, Bool, true, false, not, List, [], ◌∷◌, ◌++◌, length, map, refl, sym, ap, subst, ◌∙◌, All, Any, AllPairs, get_or, append_assoc}
 use Rattle.std.specs.Prelude.{◌&&◌, ◌||◌, if◌then◌else◌}
-use Rattle.std.proofs.lemmas.Bool.{cases_Bool}
 use Rattle.std.proofs.lemmas.List.Elements.{All-nil, All-cons, All-head, All-tail, All-weaker}
 use Rattle.std.proofs.lemmas.List.Kept.{AllPairs-cons}
 use Rattle.dpl_cell.specs.Places.{Corners, corners_of}
@@ -12,7 +11,7 @@ use Rattle.dpl_sign.specs.declared.edges.Edge.{Edge}
 use Rattle.dpl_sign.specs.declared.graphs.Signed.{Signed}
 use Rattle.dpl_sign.specs.Kinds.{is_bond, is_clash}
 use Rattle.dpl_sign.specs.Walks.{edge_at, no_edge}
-use Rattle.dpl_sign.specs.Colourings.{breaks, colour_of, is_broken}
+use Rattle.dpl_sign.specs.Colourings.{breaks}
 use Rattle.dpl_cuts.specs.declared.types.Cut.{Cut}
 use Rattle.dpl_links.specs.declared.types.Weights.{Weights}
 use Rattle.dpl_links.specs.declared.linking.Link.{Link}
@@ -20,9 +19,9 @@ use Rattle.dpl_links.specs.Nets.{Tie, tie_of, bond_tie, stitch_tie, clash_tie, t
 use Rattle.dpl_form.specs.Readers.{FitFrom}
 use Rattle.dpl_report.specs.declared.marks.Broken.{Broken}
 use Rattle.dpl_report.specs.Plain.{PlainZone}
-use Rattle.dpl_report.specs.Conditions.{is_stitch, is_broken_stitch, is_broken_clash, where_zone, where_broken, cuts_after, cuts_from, clashes_from}
+use Rattle.dpl_report.specs.Conditions.{is_stitch, is_broken_stitch, is_broken_clash, where_zone, cuts_after, cuts_from, clashes_from}
 use Rattle.dpl_report.specs.MaskRects.{where_same, is_zone, zones_of}
-use Rattle.dpl_report.specs.MaskCells.{IsBrokenEdge, NamesBroken, NameAllBroken}
+use Rattle.dpl_report.specs.MaskCells.{NamesBroken, NameAllBroken}
 
 -- ---- lists
 

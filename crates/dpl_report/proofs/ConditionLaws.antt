@@ -1,13 +1,11 @@
 -- Each condition fails nowhere exactly where its fact holds.
 use Rattle.std.proofs.Common.{◌≡◌, ℕ, List, length, [], sym, None}
-use Rattle.std.specs.Prelude.{◌↔◌}
 use Rattle.dpl_sign.specs.declared.graphs.Signed.{Signed}
 use Rattle.dpl_sign.specs.declared.walks.Cycle.{Cycle}
 use Rattle.dpl_sign.specs.Colourings.{cost_of}
 use Rattle.dpl_sign.specs.Packings.{IsWithin, passages, bound_of}
-use Rattle.dpl_sign.specs.declared.nets.Net.{Net}
 use Rattle.dpl_report.specs.Misses.{number_miss}
-use Rattle.dpl_report.specs.Conditions.{loads_miss, packing_miss, aside_miss}
+use Rattle.dpl_report.specs.Conditions.{loads_miss, packing_miss}
 use Rattle.dpl_report.specs.Laws.{OptionsAreTold, CountsAreTold, BondsAreTold, CutsAreTold, ClashesAreTold, CostIsTold, AsideIsTold, WalksAreTold, PackingIsTold, MasksAreTold}
 use Rattle.dpl_report.proofs.ListLaws.{or_none, lists_none, lists_same, clash_lines_are, cut_lines_are}
 use Rattle.dpl_report.proofs.GoodLemmas.{both_none, numbers_are, params_none, counts_none, bonds_none, walks_none, loads_none, drawing_none, edges_told}

@@ -1,10 +1,9 @@
 -- A text is good exactly where the nine facts hold of its report.
-use Rattle.std.proofs.Common.{arith, ◌≡◌, ◌≤◌, ◌<◌, ◌^◌, ◌*◌, ◌↔◌, ◌⊎◌, inl, inr, ℕ, ◌+◌, zero, suc, Bool, true, false, List, [], ◌∷◌, ◌++◌, length, map, refl, sym, ap, subst, ◌∙◌, All, Any, AllPairs, Contains, get_or, None, Some, Result, Ok, Err}
+use Rattle.std.proofs.Common.{arith, ◌≡◌, ◌≤◌, ◌<◌, ◌*◌, ◌↔◌, inl, inr, ℕ, zero, suc, Bool, true, false, List, [], ◌∷◌, ◌++◌, length, refl, sym, ap, subst, ◌∙◌, All, Any, AllPairs, Contains, get_or, None, Result, Ok, Err}
 use Rattle.std.specs.Prelude.{if◌then◌else◌}
-use Rattle.std.proofs.lemmas.Bool.{cases_lt, cases_Bool}
-use Rattle.std.proofs.lemmas.List.{get_or_default, get_or_append_left, get_or-append-add}
+use Rattle.std.proofs.lemmas.Bool.{cases_lt}
+use Rattle.std.proofs.lemmas.List.{get_or_default}
 use Rattle.std.proofs.lemmas.List.Elements.{All-nil, All-head, All-tail, All-weaker, All-push}
-use Rattle.std.proofs.lemmas.List.Kept.{AllPairs-cons}
 use Rattle.dpl_cell.specs.Places.{Corners, corners_of}
 use Rattle.dpl_lex.specs.Name.{is_name}
 use Rattle.dpl_sign.specs.declared.edges.Kind.{Kind}
@@ -12,7 +11,6 @@ use Rattle.dpl_sign.specs.declared.edges.Kind.TheVariants.{Stitch, Clash}
 use Rattle.dpl_sign.specs.declared.edges.Edge.{Edge}
 use Rattle.dpl_sign.specs.declared.graphs.Signed.{Signed}
 use Rattle.dpl_sign.specs.declared.nets.Net.{Net}
-use Rattle.dpl_sign.specs.declared.walks.Cycle.{Cycle}
 use Rattle.dpl_sign.specs.Walks.{edge_at}
 use Rattle.dpl_sign.specs.Excess.{is_aside, aside_before, aside_edges}
 use Rattle.dpl_cuts.specs.declared.types.Cut.{Cut}
@@ -27,9 +25,9 @@ use Rattle.dpl_report.specs.declared.params.Counts.{Counts}
 use Rattle.dpl_report.specs.Plain.{PlainZone, PlainReport}
 use Rattle.dpl_report.specs.ReportLines.{report_text}
 use Rattle.dpl_report.specs.Reading.{read_report}
-use Rattle.dpl_report.specs.Valid.{IsReport, IsCycle, AsideFits}
+use Rattle.dpl_report.specs.Valid.{IsReport, AsideFits}
 use Rattle.dpl_report.specs.Conditions.{cuts_from, clashes_from}
-use Rattle.dpl_report.specs.Verdicts.{IsGood, refusal, refusal_of, refusal_from}
+use Rattle.dpl_report.specs.Verdicts.{IsGood, refusal_of, refusal_from}
 use Rattle.dpl_report.specs.Truths.{SaysTrue}
 use Rattle.dpl_report.specs.MaskCells.{IsBrokenEdge, NamesBroken, NameAllBroken}
 use Rattle.dpl_report.specs.Facts.{ShowsCut, NameAllAside, AreNineFacts}

@@ -1,11 +1,11 @@
 -- A report that says the truth is good: none of the conditions fails.
-use Rattle.std.proofs.Common.{arith, ◌≡◌, ◌≤◌, ◌<◌, ◌==◌, ℕ, ◌+◌, ◌*◌, ◌⊎◌, inl, inr, suc, cond, Bool, true, false, not, List, [], ◌∷◌, ◌++◌, length, map, refl, sym, ◌∙◌, ap, Option, None, Some, All, sum_by, append_assoc}
-use Rattle.std.specs.Prelude.{ℤ, pos, nat_lt, ◌&&◌, if◌then◌else◌}
-use Rattle.std.proofs.lemmas.Bool.Decides.{nat_tests, Decides-eqb, not_from_Decides}
+use Rattle.std.proofs.Common.{arith, ◌≡◌, ◌≤◌, ◌<◌, ◌==◌, ℕ, ◌+◌, ◌*◌, ◌⊎◌, inl, inr, suc, cond, Bool, true, false, not, List, [], ◌∷◌, ◌++◌, length, refl, sym, Option, None, Some, All, append_assoc}
+use Rattle.std.specs.Prelude.{pos, nat_lt, ◌&&◌, if◌then◌else◌}
+use Rattle.std.proofs.lemmas.Bool.Decides.{nat_tests, Decides-eqb}
 use Rattle.std.proofs.lemmas.Bool.{cases_lt, cond-true}
 use Rattle.std.proofs.lemmas.List.{get_or_past}
-use Rattle.std.proofs.lemmas.List.Sums.{sum_by-append, sum_by-cons}
-use Rattle.dpl_cell.specs.Places.{Corners, corners_of}
+use Rattle.std.proofs.lemmas.List.Sums.{sum_by-cons}
+use Rattle.dpl_cell.specs.Places.{Corners}
 use Rattle.dpl_rules.specs.Readers.{or_else}
 use Rattle.dpl_sign.specs.declared.edges.Edge.{Edge}
 use Rattle.dpl_sign.specs.declared.graphs.Signed.{Signed}
@@ -13,8 +13,8 @@ use Rattle.dpl_sign.specs.declared.nets.Net.{Net}
 use Rattle.dpl_sign.specs.declared.walks.Cycle.{Cycle}
 use Rattle.dpl_sign.specs.Kinds.{is_bond}
 use Rattle.dpl_sign.specs.Walks.{edge_at, no_edge, IsOddWalk}
-use Rattle.dpl_sign.specs.Colourings.{agree, colour_of, cost_of}
-use Rattle.dpl_sign.specs.Packings.{load, IsWithin, passages, bound_of}
+use Rattle.dpl_sign.specs.Colourings.{agree, colour_of}
+use Rattle.dpl_sign.specs.Packings.{load, IsWithin, passages}
 use Rattle.dpl_sign.specs.Excess.{aside_edges}
 use Rattle.dpl_cuts.specs.declared.types.Fragments.{Fragments}
 use Rattle.dpl_report.specs.declared.options.Options.{Options}
@@ -22,13 +22,12 @@ use Rattle.dpl_report.specs.declared.params.Params.{Params}
 use Rattle.dpl_report.specs.declared.params.Counts.{Counts}
 use Rattle.dpl_report.specs.Plain.{PlainReport}
 use Rattle.dpl_report.specs.declared.refusals.Miss.{Miss}
-use Rattle.dpl_report.specs.Misses.{miss, number_miss, name_miss, pair_miss, numbers_miss}
+use Rattle.dpl_report.specs.Misses.{miss, number_miss, name_miss}
 use Rattle.dpl_report.specs.Conditions.{params_miss, params_of_options, counts_miss, bond_miss, bonds_miss, broken_miss, aside_miss, walks_miss, load_of, loads_miss, packing_miss, boxes_miss, drawing_miss, corner_numbers}
-use Rattle.dpl_report.specs.declared.refusals.Refusal.{Refusal}
-use Rattle.dpl_report.specs.Verdicts.{refused, refusal_of, rects_of, counts_of_net}
+use Rattle.dpl_report.specs.Verdicts.{refused, refusal_of, rects_of}
 use Rattle.dpl_report.specs.Truths.{SaysTrue}
 use Rattle.dpl_sign.proofs.Loads.{load_append}
-use Rattle.dpl_report.proofs.ListLaws.{pair_same, numbers_same, AreTold, lists_same, edge_none, clash_lines_are, cut_lines_are}
+use Rattle.dpl_report.proofs.ListLaws.{pair_same, numbers_same, AreTold, lists_same, clash_lines_are, cut_lines_are}
 use Rattle.dpl_report.proofs.WalkLaws.{walk_is_odd}
 
 pub both_none : {X : Type 0} (a b : Option X) → a ≡ None → b ≡ None → or_else a b ≡ None

@@ -1,7 +1,7 @@
 -- The masks of a good report are the layer, overlap in the zones of its cut lines, and tell what is too close.
-use Rattle.std.proofs.Common.{arith, rules, ◌≡◌, ◌≤◌, ◌<◌, ◌*◌, ◌%◌, ◌⊎◌, inl, inr, ℕ, ◌+◌, zero, suc, ℤ, Bool, true, false, List, [], ◌∷◌, ◌++◌, length, map, refl, sym, ap, subst, ◌∙◌, All, Any, AllPairs, Contains, get_or, append_assoc, IsTrue, None}
+use Rattle.std.proofs.Common.{arith, rules, ◌≡◌, ◌≤◌, ◌<◌, ◌*◌, ◌%◌, ◌⊎◌, inl, inr, ℕ, zero, suc, ℤ, Bool, true, false, List, [], ◌∷◌, ◌++◌, length, map, refl, sym, ap, subst, ◌∙◌, All, Any, AllPairs, Contains, append_assoc, IsTrue, None}
 use Rattle.std.specs.Prelude.{◌<ℤ◌, ◌≤ℤ◌, ◌&&◌, ◌||◌, if◌then◌else◌}
-use Rattle.std.proofs.lemmas.Bool.{cases_Bool, cases_lt, cases_eq}
+use Rattle.std.proofs.lemmas.Bool.{cases_lt}
 use Rattle.std.proofs.lemmas.Int.{ints}
 use Rattle.std.proofs.lemmas.List.{map-append, get_or_default}
 use Rattle.std.proofs.lemmas.List.Folds.{list_any-append}
@@ -11,12 +11,10 @@ use Rattle.dpl_cell.specs.Places.{Corners, corners_of}
 use Rattle.dpl_cell.specs.Cells.{IsWithin, IsIn, AreApart}
 use Rattle.dpl_cell.specs.Gaps.{between, cell_gap2}
 use Rattle.dpl_cell.specs.Layers.{is_within, is_in_box}
-use Rattle.dpl_cell.specs.Shapes.{AreOneShape}
 use Rattle.dpl_classes.specs.Chains.{IsChain}
-use Rattle.dpl_classes.specs.Classes.{AreClasses}
 use Rattle.dpl_near.proofs.WalkLemmas.{joined_back}
 use Rattle.dpl_sign.specs.declared.edges.Kind.{Kind}
-use Rattle.dpl_sign.specs.declared.edges.Kind.TheVariants.{Bond, Stitch, Clash}
+use Rattle.dpl_sign.specs.declared.edges.Kind.TheVariants.{Bond, Clash}
 use Rattle.dpl_sign.specs.declared.edges.Edge.{Edge}
 use Rattle.dpl_sign.specs.declared.nets.Net.{Net}
 use Rattle.dpl_sign.specs.Walks.{edge_at, no_edge}
@@ -30,7 +28,7 @@ use Rattle.dpl_cuts.proofs.AssembleLemmas.{parts_apart}
 use Rattle.dpl_cuts.proofs.ZoneLemmas.{good_zones, hold_layer}
 use Rattle.dpl_links.specs.Links.{piece_of}
 use Rattle.dpl_links.specs.Nets.{Tie, tie_of, bond_tie, stitch_tie, clash_tie, IsNet}
-use Rattle.dpl_links.specs.Spacing.{AreTooClose, IsClashOf, HoldTooClose, AreAllClashes}
+use Rattle.dpl_links.specs.Spacing.{AreTooClose, IsClashOf, AreAllClashes}
 use Rattle.dpl_links.proofs.LawLemmas.{net_clashes}
 use Rattle.dpl_lex.specs.Name.{is_name}
 use Rattle.dpl_boxes.specs.Drawings.{is_in_boxes, DrawsMasks}

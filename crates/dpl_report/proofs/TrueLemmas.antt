@@ -1,6 +1,6 @@
 -- A good report says the truth: each condition that does not fail is a fact.
-use Rattle.std.proofs.Common.{arith, ◌≡◌, ◌≤◌, ◌<◌, ◌==◌, ℕ, ◌+◌, ◌*◌, inl, inr, suc, Bool, true, false, not, List, [], ◌∷◌, ◌++◌, length, length-append, map, refl, sym, ap, subst, ◌∙◌, Option, None, Some, All, append_assoc, append-nil}
-use Rattle.std.specs.Prelude.{ℤ, pos, nat_lt, ◌&&◌, if◌then◌else◌}
+use Rattle.std.proofs.Common.{arith, ◌≡◌, ◌≤◌, ◌==◌, ℕ, ◌+◌, ◌*◌, inl, inr, Bool, true, false, not, List, [], ◌∷◌, ◌++◌, length, map, refl, sym, ap, subst, ◌∙◌, Option, None, Some, All, append_assoc, append-nil}
+use Rattle.std.specs.Prelude.{pos, nat_lt, ◌&&◌, if◌then◌else◌}
 use Rattle.std.specs.List.{AllByRecursion, list_all}
 use Rattle.std.proofs.lemmas.Bool.{cases_Bool, cases_eq, eqb-true}
 use Rattle.std.proofs.lemmas.Bool.Decides.{nat_tests}
@@ -28,7 +28,7 @@ use Rattle.dpl_report.specs.declared.refusals.Miss.{Miss}
 use Rattle.dpl_report.specs.declared.refusals.Refusal.{Refusal}
 use Rattle.dpl_report.specs.Plain.{PlainReport}
 use Rattle.dpl_report.specs.Misses.{miss, number_miss, name_miss, pair_miss, numbers_miss}
-use Rattle.dpl_report.specs.Conditions.{params_miss, params_of_options, counts_miss, bond_miss, bonds_miss, aside_miss, walks_miss, load_of, loads_miss, boxes_miss, drawing_miss, corner_numbers, mask_number, cuts_from, clashes_from, cut_lines_miss, clash_lines_miss, cost_miss, broken_miss, packing_miss}
+use Rattle.dpl_report.specs.Conditions.{params_miss, params_of_options, counts_miss, bond_miss, bonds_miss, aside_miss, walks_miss, load_of, loads_miss, boxes_miss, drawing_miss, corner_numbers, cuts_from, clashes_from, cut_lines_miss, clash_lines_miss, cost_miss, broken_miss, packing_miss}
 use Rattle.dpl_report.specs.MaskRects.{mask_of}
 use Rattle.dpl_report.specs.Verdicts.{refused, refusal_of, rects_of, counts_of_net, rects_refusal, packing_refusal, walks_refusal, aside_refusal, broken_refusal, bonds_refusal, counts_refusal}
 use Rattle.dpl_report.specs.Truths.{SaysTrue}

@@ -1,6 +1,6 @@
 -- A report that says the truth of a net within the limits has a text.
-use Rattle.std.proofs.Common.{arith, ◌≡◌, ◌≤◌, ◌<◌, ◌^◌, ℕ, ◌+◌, ◌*◌, ◌⊎◌, inl, inr, zero, suc, Bool, true, false, List, [], ◌∷◌, ◌++◌, length, map, refl, sym, ◌∙◌, All, get_or}
-use Rattle.std.specs.Prelude.{if◌then◌else◌, sum_by, count_by}
+use Rattle.std.proofs.Common.{arith, ◌≡◌, ◌≤◌, ◌<◌, ◌^◌, ℕ, ◌+◌, inl, inr, zero, suc, Bool, true, false, List, [], ◌∷◌, ◌++◌, length, map, refl, sym, ◌∙◌, All, get_or}
+use Rattle.std.specs.Prelude.{if◌then◌else◌}
 use Rattle.std.specs.List.{AllByRecursion}
 use Rattle.std.proofs.lemmas.List.Elements.{All-head, All-tail, All-get_or}
 use Rattle.std.proofs.lemmas.List.Sums.{sum_by-cons, sum_by-le, count_by-le-length}
@@ -18,7 +18,7 @@ use Rattle.dpl_sign.specs.declared.graphs.Signed.{Signed}
 use Rattle.dpl_sign.specs.declared.nets.Net.{Net}
 use Rattle.dpl_sign.specs.declared.walks.Cycle.{Cycle}
 use Rattle.dpl_sign.specs.Kinds.{is_bond, is_clash}
-use Rattle.dpl_sign.specs.Walks.{edge_at, no_edge, across, leaves, IsPath, IsOddWalk}
+use Rattle.dpl_sign.specs.Walks.{edge_at, no_edge, across, IsPath, IsOddWalk}
 use Rattle.dpl_sign.specs.Colourings.{breaks, broken_weight, cost_of}
 use Rattle.dpl_sign.specs.Packings.{bound_of}
 use Rattle.dpl_sign.specs.Components.{component_of}
@@ -28,8 +28,6 @@ use Rattle.dpl_form.specs.Readers.{FitFrom}
 use Rattle.dpl_cuts.specs.declared.types.Cut.{Cut}
 use Rattle.dpl_cuts.specs.declared.types.Fragments.{Fragments}
 use Rattle.dpl_report.specs.declared.marks.Broken.{Broken}
-use Rattle.dpl_report.specs.declared.params.Params.{Params}
-use Rattle.dpl_report.specs.declared.params.Counts.{Counts}
 use Rattle.dpl_report.specs.declared.options.Options.{Options}
 use Rattle.dpl_report.specs.Plain.{PlainZone, PlainReport}
 use Rattle.dpl_report.specs.Valid.{IsNumber, IsParams, IsCounts, IsZone, IsCycle, IsReport, CutFits, ClashFits, AsideFits}

@@ -37,7 +37,8 @@ pub record AreNineFacts (o : Options) (f : Fragments) (net : Net) (text : List �
   -- 3: its numbers are those of the layout
   pub counts : r.head.counts ≡ counts_of_net net
   -- 4: the two fragments of each bond are on one mask
-  pub bonds : All (λ e. is_bond e.kind ≡ true → colour_of r.head.colours e.a ≡ colour_of r.head.colours e.b) net.graph.edges
+  pub bonds : All (λ e. is_bond e.kind ≡ true →
+      colour_of r.head.colours e.a ≡ colour_of r.head.colours e.b) net.graph.edges
   -- 5: the cut lines are the broken stitches with their ends and zones, the clash lines the broken clashes with their
   -- ends, and the cost is that of the masks
   pub stitches : NameAllBroken net.graph r.head.colours Stitch (λ z. z.at) r.lists.cuts

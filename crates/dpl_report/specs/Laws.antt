@@ -36,14 +36,16 @@ PlainIsExact = (r s : Report) → plain_report r ≡ plain_report s → r ≡ s
 -- ---- each condition fails nowhere exactly where its fact holds
 
 abbrev pub OptionsAreTold : Type 0
-OptionsAreTold = (p : Params) (o : Options) → is_name p.layer ≡ true → is_name o.layer ≡ true → (params_miss p o ≡ None) ↔ (p ≡ params_of_options o)
+OptionsAreTold = (p : Params) (o : Options) → is_name p.layer ≡ true → is_name o.layer ≡ true →
+    (params_miss p o ≡ None) ↔ (p ≡ params_of_options o)
 
 abbrev pub CountsAreTold : Type 0
 CountsAreTold = (shown wanted : Counts) → (counts_miss shown wanted ≡ None) ↔ (shown ≡ wanted)
 
 -- the ends of each bond are on one mask
 abbrev pub BondsAreTold : Type 0
-BondsAreTold = (colours : List Bool) (edges : List Edge) → (bonds_miss colours 0 edges ≡ None) ↔ All (λ e. is_bond e.kind ≡ true → colour_of colours e.a ≡ colour_of colours e.b) edges
+BondsAreTold = (colours : List Bool) (edges : List Edge) → (bonds_miss colours 0 edges ≡ None)
+    ↔ All (λ e. is_bond e.kind ≡ true → colour_of colours e.a ≡ colour_of colours e.b) edges
 
 abbrev pub CutsAreTold : Type 0
 CutsAreTold = (listed wanted : List PlainZone) → (cut_lines_miss listed wanted ≡ None) ↔ (listed ≡ wanted)
@@ -52,17 +54,21 @@ abbrev pub ClashesAreTold : Type 0
 ClashesAreTold = (listed wanted : List Broken) → (clash_lines_miss listed wanted ≡ None) ↔ (listed ≡ wanted)
 
 abbrev pub CostIsTold : Type 0
-CostIsTold = (net : Net) (cost : ℕ) (colours : List Bool) → (cost_miss net cost colours ≡ None) ↔ (cost ≡ cost_of net.graph colours)
+CostIsTold = (net : Net) (cost : ℕ) (colours : List Bool) →
+    (cost_miss net cost colours ≡ None) ↔ (cost ≡ cost_of net.graph colours)
 
 abbrev pub AsideIsTold : Type 0
 AsideIsTold = (listed wanted : List ℕ) → (aside_miss listed wanted ≡ None) ↔ (listed ≡ wanted)
 
 abbrev pub WalksAreTold : Type 0
-WalksAreTold = (g : Signed) (cycles : List Cycle) → (walks_miss g 0 cycles ≡ None) ↔ All (λ c. IsOddWalk g c.walk) cycles
+WalksAreTold = (g : Signed) (cycles : List Cycle) →
+    (walks_miss g 0 cycles ≡ None) ↔ All (λ c. IsOddWalk g c.walk) cycles
 
 -- nothing is loaded beyond twice its weight, and the half weights sum to the bound
 abbrev pub PackingIsTold : Type 0
-PackingIsTold = (g : Signed) (bound : ℕ) (cycles : List Cycle) → (packing_miss g bound cycles ≡ None) ↔ (IsWithin g (passages cycles) × (bound ≡ bound_of cycles))
+PackingIsTold = (g : Signed) (bound : ℕ) (cycles : List Cycle) →
+    (packing_miss g bound cycles ≡ None) ↔ (IsWithin g (passages cycles) × (bound ≡ bound_of cycles))
 
 abbrev pub MasksAreTold : Type 0
-MasksAreTold = (on_a on_b wanted_a wanted_b : List Corners) → (drawing_miss on_a on_b wanted_a wanted_b ≡ None) ↔ ((on_a ≡ wanted_a) × (on_b ≡ wanted_b))
+MasksAreTold = (on_a on_b wanted_a wanted_b : List Corners) →
+    (drawing_miss on_a on_b wanted_a wanted_b ≡ None) ↔ ((on_a ≡ wanted_a) × (on_b ≡ wanted_b))

@@ -1,6 +1,6 @@
--- The masks of a good report, cell by cell (double patterning with stitches: Kahng, Park, Xu and Yao 2008). Together they
--- are the layer, both hold the zones of the broken stitches and nothing else, and where shapes are too close on one mask
--- a clash line says so.
+-- The masks of a good report, cell by cell (double patterning with stitches: Kahng, Park, Xu and Yao 2008). Together
+-- they are the layer, both hold the zones of the broken stitches and nothing else, and where shapes are too close on
+-- one mask a clash line says so.
 use Rattle.std.specs.Prelude.{◌≡◌, ◌⊎◌, ◌<◌, ◌*◌, ◌&&◌, ◌||◌, ℕ, ℤ, pos, ◌+ℤ◌, Bool, true, List, length, slice_index_or, map, All, AllPairs, Any, IsTrue}
 use Rattle.dpl_cell.specs.Places.{Corners, corners_of}
 use Rattle.dpl_cell.specs.Cells.{IsIn, AreApart}
@@ -38,7 +38,8 @@ HoldTogether cells r = (x y : ℤ) → (is_in_boxes r.on_a x y || is_in_boxes r.
 
 -- a cell is on both masks exactly where it lies in the zone of a cut line
 abbrev pub OverlapInZones : PlainReport → Type 0
-OverlapInZones r = (x y : ℤ) → (is_in_boxes r.on_a x y && is_in_boxes r.on_b x y) ≡ is_in_boxes (map (λ z. z.corners) r.lists.cuts) x y
+OverlapInZones r = (x y : ℤ) →
+    (is_in_boxes r.on_a x y && is_in_boxes r.on_b x y) ≡ is_in_boxes (map (λ z. z.corners) r.lists.cuts) x y
 
 -- The cut line shows the zone of the cut between its two fragments: a part of their tile that is as long as the overlap
 -- and as wide as the tile.
@@ -60,7 +61,8 @@ pub record NamesBroken (g : Signed) (colours : List Bool) (kind : Kind) (b : Bro
   pub second : b.b ≡ (edge_at g b.edge).b
 
 -- the lines, each of which is at an edge, name all broken edges of this kind, each once, in order
-pub record NameAllBroken {X : Type 0} (g : Signed) (colours : List Bool) (kind : Kind) (at : X → Broken) (lines : List X) : Type 0 where
+pub record NameAllBroken {X : Type 0} (g : Signed) (colours : List Bool) (kind : Kind) (at : X → Broken) (lines : List X)
+    : Type 0 where
   pub each : All (λ x. NamesBroken g colours kind (at x)) lines
   pub all : (e : ℕ) → IsBrokenEdge g colours kind e → Any (λ x. (at x).edge ≡ e) lines
   pub ordered : AllPairs (λ x y. (at x).edge < (at y).edge) lines
@@ -68,7 +70,8 @@ pub record NameAllBroken {X : Type 0} (g : Signed) (colours : List Bool) (kind :
 -- one mask holds both cells
 abbrev pub AreOnOneMask : PlainReport → ℤ → ℤ → ℤ → ℤ → Type 0
 AreOnOneMask r x y x' y' =
-    (IsTrue (is_in_boxes r.on_a x y) × IsTrue (is_in_boxes r.on_a x' y')) ⊎ (IsTrue (is_in_boxes r.on_b x y) × IsTrue (is_in_boxes r.on_b x' y'))
+    (IsTrue (is_in_boxes r.on_a x y) × IsTrue (is_in_boxes r.on_a x' y'))
+    ⊎ (IsTrue (is_in_boxes r.on_b x y) × IsTrue (is_in_boxes r.on_b x' y'))
 
 -- the fragment with this number holds the cell
 pub record HoldsCell (f : Fragments) (i : ℕ) (x y : ℤ) : Type 0 where
@@ -78,7 +81,8 @@ pub record HoldsCell (f : Fragments) (i : ℕ) (x y : ℤ) : Type 0 where
 -- the ends of the line are fragments of the pieces of the fragments i and j
 abbrev pub JoinsPieces : List ℕ → ℕ → ℕ → Broken → Type 0
 JoinsPieces pieces i j b =
-    ((piece_of pieces b.a ≡ piece_of pieces i) × (piece_of pieces b.b ≡ piece_of pieces j)) ⊎ ((piece_of pieces b.a ≡ piece_of pieces j) × (piece_of pieces b.b ≡ piece_of pieces i))
+    ((piece_of pieces b.a ≡ piece_of pieces i) × (piece_of pieces b.b ≡ piece_of pieces j))
+    ⊎ ((piece_of pieces b.a ≡ piece_of pieces j) × (piece_of pieces b.b ≡ piece_of pieces i))
 
 -- the cells lie in two fragments whose pieces are those of a clash line
 pub record AreToldClose (f : Fragments) (net : Net) (r : PlainReport) (x y x' y' : ℤ) : Type 0 where
@@ -99,14 +103,16 @@ pub record TellsClose (cells : ℤ → ℤ → Bool) (space : ℕ) (f : Fragment
   pub close : AreTooClose cells space x y x' y'
   pub mask : AreOnOneMask r x y x' y'
 
--- What the masks of a report are of the cells of a layer, of its fragments and of their net. The text of the report, read
--- again as CIF, breaks no rule, and its two layers have exactly the boxes and the cells of the two masks.
-pub record AreMasksOf (o : Options) (cells : ℤ → ℤ → Bool) (tiles : List Corners) (f : Fragments) (net : Net) (r : PlainReport) : Type 0 where
+-- What the masks of a report are of the cells of a layer, of its fragments and of their net. The text of the report,
+-- read again as CIF, breaks no rule, and its two layers have exactly the boxes and the cells of the two masks.
+pub record AreMasksOf (o : Options) (cells : ℤ → ℤ → Bool) (tiles : List Corners) (f : Fragments) (net : Net)
+    (r : PlainReport) : Type 0 where
   pub together : HoldTogether cells r
   pub overlap : OverlapInZones r
   pub zones : All (ShowsZone (2 * o.overlap) tiles f) r.lists.cuts
   pub stitches : NameAllBroken net.graph r.head.colours Stitch (λ z. z.at) r.lists.cuts
   pub clashes : NameAllBroken net.graph r.head.colours Clash (λ b. b) r.lists.clashes
-  pub told : (x y x' y' : ℤ) → AreTooClose cells (2 * o.space) x y x' y' → AreOnOneMask r x y x' y' → AreToldClose f net r x y x' y'
+  pub told : (x y x' y' : ℤ) →
+      AreTooClose cells (2 * o.space) x y x' y' → AreOnOneMask r x y x' y' → AreToldClose f net r x y x' y'
   pub close : All (TellsClose cells (2 * o.space) f r) r.lists.clashes
   pub drawn : DrawsMasks o.layer r.on_a r.on_b (report_text r)

@@ -45,7 +45,8 @@ pub fn masks_are_of_the_layer(options: &Options, fragments: &Fragments, net: &Ne
     requires valid { IsReport (plain_report report.now) }
     requires good { refusal_of options.now fragments.now net.now (plain_report report.now) ≡ None }
     requires net { IsNet fragments.now options.now.weights (2 * options.now.space) net.now }
-    ensures { (cells : ℤ → ℤ → Bool) (tiles : List Corners) → AreCutFrom options.now cells tiles fragments.now → AreMasksOf options.now cells tiles fragments.now net.now (plain_report report.now) }
+    ensures { (cells : ℤ → ℤ → Bool) (tiles : List Corners) → AreCutFrom options.now cells tiles fragments.now →
+        AreMasksOf options.now cells tiles fragments.now net.now (plain_report report.now) }
 {
     let _name = options.layer.bytes();
 }
@@ -53,7 +54,10 @@ pub fn masks_are_of_the_layer(options: &Options, fragments: &Fragments, net: &Ne
 /// A text is good exactly where the nine facts hold of the report that it is the text of.
 pub fn nine_facts_make_good(options: &Options, fragments: &Fragments, net: &Net)
     requires { IsNet fragments.now options.now.weights (2 * options.now.space) net.now }
-    ensures { (tiles : List Corners) (label text : List ℕ) → AreFragments (2 * options.now.space) (2 * options.now.overlap) tiles label fragments.now → IsGood options.now fragments.now net.now text ↔ ((r : PlainReport) × AreNineFacts options.now fragments.now net.now text r) }
+    ensures { (tiles : List Corners) (label text : List ℕ) →
+        AreFragments (2 * options.now.space) (2 * options.now.overlap) tiles label fragments.now →
+        IsGood options.now fragments.now net.now text
+        ↔ ((r : PlainReport) × AreNineFacts options.now fragments.now net.now text r) }
 {
     let _name = options.layer.bytes();
     let _net = net;
