@@ -15,7 +15,8 @@ use Rattle.dpl_cycle.specs.Sums.{sum_on, count_on}
 use Rattle.dpl_sign.specs.declared.nets.Net.{Net}
 use Rattle.dpl_sign.specs.Drawings.{dart_count, face_of}
 use Rattle.dpl_sign.specs.Parity.{is_clash_edge, is_odd_face as is_odd_named, AreOfOnePart}
-use Rattle.dpl_sign.proofs.PartLemmas.{face_below}
+use Rattle.dpl_sign.proofs.Rotation.{face_permutes}
+use Rattle.dpl_cycle.proofs.Least.{least_le}
 use Rattle.dpl_map.specs.Maps.{face_at}
 use Rattle.dpl_map.specs.Views.{view_of}
 use Rattle.dpl_map.specs.Sides.{clash_bit, is_odd_face}
@@ -28,6 +29,9 @@ use Rattle.dpl_dual.proofs.NameLemmas.{odd_by_name, parts_by_name}
 use Rattle.dpl_solve.specs.Parts.{odd_of}
 use Rattle.dpl_solve.specs.Named.{keeps, odd_faces, AreOddTogether, IsMostOddFaces}
 use Rattle.dpl_solve.specs.Optimum.{IsMostOdd}
+
+face_below : (net : Net) (set : ℕ → Bool) (d : ℕ) → d < dart_count net → face_of net set d < dart_count net
+face_below net set d h = omega (arith, least_le _ _ _ (face_permutes net set) d h, h)
 
 -- ---- lists
 
