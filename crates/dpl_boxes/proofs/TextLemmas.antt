@@ -1,5 +1,5 @@
 -- What lines of masks draw.
-use Rattle.std.proofs.Common.{◌≢◌, Bool, false, sym, arith, ◌≡◌, ◌≤◌, ℕ, ◌+◌, true, List, [], ◌∷◌, ◌++◌, length, map, refl, sym, ap, ◌∙◌, append_assoc, length-append, None, All}
+use Rattle.std.proofs.Common.{◌≢◌, Bool, false, sym, arith, ◌≡◌, ◌≤◌, ℕ, ◌+◌, true, List, [], ◌∷◌, ◌++◌, length, map, refl, sym, ap, ◌∙◌, length-append, None, All}
 use Rattle.std.specs.Prelude.{ℤ, ◌||◌, codes, nat_le}
 use Rattle.std.proofs.lemmas.Bool.Decides.{nat_tests}
 use Rattle.std.proofs.lemmas.List.Folds.{list_all-append}

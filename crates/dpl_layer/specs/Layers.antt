@@ -2,6 +2,7 @@
 use Rattle.std.specs.Prelude.{ℕ, ◌*◌, ℤ, Bool, List}
 use Rattle.dpl_cell.specs.Places.{Corners}
 use Rattle.dpl_cell.specs.Tiles.{AreTiles}
+use Rattle.dpl_tiles.specs.Union.{SharesOut}
 use Rattle.dpl_near.specs.Shapes.{AreShapes}
 use Rattle.dpl_cuts.specs.declared.types.Fragments.{Fragments}
 use Rattle.dpl_cuts.specs.Fragments.{AreFragments}
@@ -24,3 +25,7 @@ pub record AreFragmentsOf (space over : ℕ) (cells : ℤ → ℤ → Bool) (f :
 pub record IsLayerOf (o : Options) (cells : ℤ → ℤ → Bool) (f : Fragments) (n : Net) : Type 0 where
   pub fragments : AreFragmentsOf (2 * o.space) (2 * o.overlap) cells f
   pub net : IsNet f o.weights (2 * o.space) n
+
+-- each of these cells lies in exactly one tile, and no other cell lies in any
+abbrev pub TilesShareOut : (ℤ → ℤ → Bool) → Type 0
+TilesShareOut cells = (tiles : List Corners) → AreTiles cells tiles → SharesOut cells tiles

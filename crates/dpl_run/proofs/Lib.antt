@@ -1,3 +1,4 @@
 pub mod SoundLemmas
 pub mod OnceLemmas
 pub mod ToldLemmas
+pub mod FreeLemmas

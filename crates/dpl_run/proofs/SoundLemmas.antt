@@ -35,11 +35,11 @@ pub fits : (command : Result PlainCommand ℕ) (text report : List ℕ) (a : Sta
 fits command text report _ _ (misused kind e) = refl
 fits command text report _ _ (split_long plain e l) = refl
 fits command text report _ _ (split_refused o e s error r) = split_fits o text error r
-fits command text report _ _ (split_done o e s output p) = tt
+fits command text report _ _ (split_done o e s output p free) = tt
 fits command text report _ _ (check_long plain name e l) = refl
 fits command text report _ _ (report_long plain name e s l) = refl
 fits command text report _ _ (check_refused o name e s t error r) = layer_fits o text error r
 fits command text report _ _ (rejected o name e s t reason place found wanted v) = refl
 fits command text report _ _ (accepted o name e s t cost bound v) = tt
 fits command text report _ _ (load_refused o start rows columns e same error r) = split_fits o _ error r
-fits command text report _ _ (load_done o start rows columns e same r good) = tt
+fits command text report _ _ (load_done o start rows columns e same r good free) = tt

@@ -33,6 +33,10 @@ load_options = record { layer = codes "M"; space = 100; overlap = 20; stitch = 1
 abbrev pub loaded_line : PlainReport → List ℕ
 loaded_line r = load_line r.head.counts.fragments (r.head.counts.bonds + r.head.counts.stitches + r.head.counts.clashes) r.head.cost r.head.bound (length r.lists.aside)
 
+-- no refusal of a split applies
+abbrev pub IsFree : Options → List ℕ → Type 0
+IsFree o text = (e : LayerError) → ¬ RefusesSplit o text e
+
 -- The status and the output that are due for a command, a layout and a report. The first line that applies decides.
 pub data IsDueOf (command : Result PlainCommand ℕ) (text report : List ℕ) : Status → List ℕ → Type 0 where
   misused : (kind : ℕ) → command ≡ Err kind → IsDueOf command text report (Usage kind) []
@@ -40,7 +44,7 @@ pub data IsDueOf (command : Result PlainCommand ℕ) (text report : List ℕ) : 
   split_refused : (o : Options) → command ≡ Ok (split (plain_options o)) → length text ≤ most_bytes
       → (e : LayerError) → RefusesSplit o text e → IsDueOf command text report (status_of e) []
   split_done : (o : Options) → command ≡ Ok (split (plain_options o)) → length text ≤ most_bytes
-      → (output : List ℕ) → IsSplit o text output → IsDueOf command text report Done output
+      → (output : List ℕ) → IsSplit o text output → IsFree o text → IsDueOf command text report Done output
   check_long : (plain : PlainOptions) (name : List ℕ) → command ≡ Ok (check plain name) → most_bytes < length text → IsDueOf command text report (Limit 1 16777217) []
   report_long : (plain : PlainOptions) (name : List ℕ) → command ≡ Ok (check plain name) → length text ≤ most_bytes → most_report < length report
       → IsDueOf command text report (Limit 9 268435457) []
@@ -53,7 +57,7 @@ pub data IsDueOf (command : Result PlainCommand ℕ) (text report : List ℕ) : 
   load_refused : (o : Options) (start rows columns : ℕ) → command ≡ Ok (load start rows columns) → plain_options o ≡ load_options
       → (e : LayerError) → RefusesSplit o (layout start rows columns) e → IsDueOf command text report (status_of e) []
   load_done : (o : Options) (start rows columns : ℕ) → command ≡ Ok (load start rows columns) → plain_options o ≡ load_options
-      → (r : PlainReport) → IsReportOf o (layout start rows columns) r → IsDueOf command text report Done (loaded_line r)
+      → (r : PlainReport) → IsReportOf o (layout start rows columns) r → IsFree o (layout start rows columns) → IsDueOf command text report Done (loaded_line r)
 
 abbrev pub IsDue : List (List ℕ) → List ℕ → List ℕ → Status → List ℕ → Type 0
 IsDue words = IsDueOf (command_of words)
