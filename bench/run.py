@@ -1,21 +1,28 @@
 #!/usr/bin/env python3
-"""Times the built program on large texts and layouts: bench/run.py [BINARY].
+"""Times the built program on large texts and layouts: bench/run.py [BINARY] [--only WORD] [--seconds N].
 
-Prints one line a case: seconds, megabytes of text a second, peak memory, exit status. No part of the gate.
+First the texts, then layouts at n and at 2n: seconds, megabytes of text a second, peak memory, exit status, and for
+the second of a pair how many times as long it took as the first. A run is stopped after N seconds (120), and its
+status is then `late`. With --only, cases whose names hold WORD. No part of the gate.
 """
 
+import argparse
 import os
+import random
 import subprocess
-import sys
 import threading
 import time
 
-MOST = 16_777_216
+MOST_BYTES = 16_777_216
+WORDS = ["split", "--layer", "M", "--space", "100", "--overlap", "20"]
 
 
-def filled(block):
+# ---- texts
+
+
+def filled(block, before=b""):
     """As many blocks as fit into the greatest text, and the end command."""
-    return block * ((MOST - 1) // len(block)) + b"E"
+    return before + block * ((MOST_BYTES - 1 - len(before)) // len(block)) + b"E"
 
 
 def nested_definitions(count):
@@ -31,35 +38,132 @@ def doubling(count):
     return ("".join(lines) + "C %d;E" % count).encode()
 
 
-def box(x1, y1, x2, y2):
-    """A box by its corners in hundredths."""
-    return "B %d %d %d %d;" % (x2 - x1, y2 - y1, (x1 + x2) // 2, (y1 + y2) // 2)
-
-
-def crossing_wires():
-    """512 upright and 512 level wires: 263,168 tiles."""
-    parts = [box(40 * i, 0, 40 * i + 10, 20480) for i in range(512)]
-    parts += [box(0, 40 * j + 20, 20480, 40 * j + 30) for j in range(512)]
-    return ("L M;" + "".join(parts) + "E").encode()
-
-
-def contacts(side):
-    """A grid of contacts of 100 at pitch 180: neighbours are close at a spacing of 100."""
-    parts = [box(180 * i, 180 * j, 180 * i + 100, 180 * j + 100) for i in range(side) for j in range(side)]
-    return ("L M;" + "".join(parts) + "E").encode()
-
-
-def cases():
+def texts():
     yield "16 MB of spaces", filled(b" ")
     yield "16 MB of nested comments", filled(b"(a(b(c)d)e);")
     yield "one comment 4 million deep", b"(" * 4_000_000 + b")" * 4_000_000 + b";E"
-    yield "16 MB of boxes on another layer", b"L P;" + filled(b"B 100 100 50 50;")[4:]
+    yield "16 MB of boxes on another layer", filled(b"B 100 100 50 50;", b"L P;")
     yield "16 MB of user extensions", filled(b"9 a remark;")
     yield "100,000 nested definitions", nested_definitions(100_000)
     yield "2^31 calls, refused", doubling(31)
-    yield "512 by 512 crossing wires, refused", crossing_wires()
-    yield "16 MB of calls, refused", b"DS 1;L M;B 2 2 0 0;DF;" + filled(b"C1;")[24:]
-    yield "10,000 contacts", contacts(100)
+    yield "16 MB of calls, refused", filled(b"C1;", b"DS 1;L M;B 2 2 0 0;DF;")
+    yield "263,168 tiles, refused", layout(crossing(512))
+    yield "105,000 fragments, refused", layout(many_cuts())
+
+
+# ---- layouts, as boxes by their corners in hundredths
+
+
+def layout(boxes):
+    """The text of boxes on layer M."""
+    parts = ["B %d %d %d %d;" % (x2 - x1, y2 - y1, (x1 + x2) // 2, (y1 + y2) // 2) for x1, y1, x2, y2 in boxes]
+    return ("L M;" + "".join(parts) + "E").encode()
+
+
+def crossing(side):
+    """As many upright wires as level ones, one shape of 2 * side * side + side tiles."""
+    yield from ((40 * i, 0, 40 * i + 10, 40 * side) for i in range(side))
+    yield from ((0, 40 * j + 20, 40 * side, 40 * j + 30) for j in range(side))
+
+
+def many_cuts():
+    """141 long wires with 250 boxes between neighbours, each of which leaves places for cuts."""
+    yield from ((0, 120 * w, 149_710, 120 * w + 10) for w in range(141))
+    for w in range(140):
+        for i in range(250):
+            x, y = 600 * i + 300 * (w % 2), 120 * w + 60
+            yield (x, y, x + 10, y + 10)
+
+
+def contacts(n, pitch):
+    """About n contacts of 100 in a square grid."""
+    side = int(n**0.5)
+    for k in range(side * side):
+        x, y = pitch * (k % side), pitch * (k // side)
+        yield (x, y, x + 100, y + 100)
+
+
+def pairs_far_apart(n):
+    """n contacts, two and two close."""
+    for x1, y1, x2, y2 in contacts(n // 2, 1000):
+        yield (x1, y1, x2, y2)
+        yield (x1 + 150, y1, x2 + 150, y2)
+
+
+def wire_across(n):
+    """A grid of contacts with one wire that ends right below all of its lowest row."""
+    boxes = list(contacts(n, 300))
+    yield (0, -150, max(x2 for _, _, x2, _ in boxes), -50)
+    yield from boxes
+
+
+def comb(n):
+    """One shape of 2 n + 1 tiles: a spine with n teeth through it, ten others in reach of each."""
+    yield (0, 0, 20 * n, 20)
+    yield from ((20 * i, -400, 20 * i + 10, 400) for i in range(n))
+
+
+def hanging_comb(n):
+    """One shape: n teeth of n lengths below a spine."""
+    yield (0, 0, 20 * n, 20)
+    yield from ((20 * i, -2 * (i * 7919 % n) - 20, 20 * i + 10, 0) for i in range(n))
+
+
+def stairs(n):
+    """One shape: n steps upward."""
+    yield from ((10 * i, 10 * i, 10 * i + 20, 10 * i + 12) for i in range(n))
+
+
+def row(n):
+    """n boxes far apart in one row, each with two ordinates of its own."""
+    yield from ((200 * i, 2 * i, 200 * i + 50, 4 * n + 2 * i) for i in range(n))
+
+
+def wires_beside_boxes(n):
+    """n / 2 long upright wires, and beside them n / 2 boxes one above the other."""
+    half = n // 2
+    yield from ((150 * i, 0, 150 * i + 10, 200 * half) for i in range(half))
+    yield from ((-500, 200 * i, -400, 200 * i + 50) for i in range(half))
+
+
+def level_wires(n):
+    """n long level wires, none close to another."""
+    yield from ((0, 150 * i, 100_000, 150 * i + 40) for i in range(n))
+
+
+def close_wires(n):
+    """n long level wires, six of them close to each."""
+    yield from ((0, 30 * i, 100_000, 30 * i + 10) for i in range(n))
+
+
+def random_boxes(n):
+    """n boxes of up to 60 by 60, spread so that few are close."""
+    source = random.Random(7)
+    size = int(300 * n**0.5)
+    for _ in range(n):
+        x, y = source.randrange(size), source.randrange(size)
+        yield (2 * x, 2 * y, 2 * x + 2 * source.randrange(1, 30), 2 * y + 2 * source.randrange(1, 30))
+
+
+def layouts():
+    """Each with the smaller of its two sizes."""
+    yield "contacts, none close", 24_500, lambda n: contacts(n, 300)
+    yield "contacts, four close to each", 24_500, lambda n: contacts(n, 180)
+    yield "contacts, eight close to each", 1_250, lambda n: contacts(n, 160)
+    yield "contacts, two and two", 24_500, pairs_far_apart
+    yield "a wire across contacts", 24_500, wire_across
+    yield "comb", 24_500, comb
+    yield "hanging comb", 24_500, hanging_comb
+    yield "stairs", 24_500, stairs
+    yield "boxes in one row", 24_500, row
+    yield "upright wires beside boxes", 24_500, wires_beside_boxes
+    yield "level wires", 24_500, level_wires
+    yield "random boxes", 20_000, random_boxes
+    yield "level wires, six close to each", 250, close_wires
+    yield "crossing wires of n tiles", 49_000, lambda n: crossing(int((n / 2) ** 0.5))
+
+
+# ---- running
 
 
 def watch(process, peak):
@@ -75,26 +179,54 @@ def watch(process, peak):
         time.sleep(0.002)
 
 
+def timed(binary, text, limit):
+    """Seconds, peak megabytes and exit status of one run."""
+    peak = [0.0]
+    start = time.perf_counter()
+    process = subprocess.Popen([binary] + WORDS, stdin=subprocess.PIPE, stdout=subprocess.DEVNULL,
+                               stderr=subprocess.DEVNULL)
+    watcher = threading.Thread(target=watch, args=(process, peak))
+    watcher.start()
+    try:
+        process.communicate(text, timeout=limit)
+        code = "%d" % process.returncode
+    except subprocess.TimeoutExpired:
+        process.kill()
+        process.wait()
+        code = "late"
+    seconds = time.perf_counter() - start
+    watcher.join()
+    return seconds, peak[0], code
+
+
+def report(name, text, run, times=""):
+    seconds, peak, code = run
+    print("%-42s %9.3f %7.1f %8.1f %6s %6s" % (name, seconds, len(text) / 1e6 / seconds, peak, code, times),
+          flush=True)
+
+
 def main():
     top = os.path.dirname(os.path.dirname(os.path.abspath(__file__)))
-    binary = sys.argv[1] if len(sys.argv) > 1 else os.path.join(top, "crates", "dpl", "out", "dpl")
-    print("%-36s %9s %9s %9s %6s" % ("case", "seconds", "MB/s", "peak MB", "status"))
-    for name, text in cases():
-        peak = [0.0]
-        start = time.perf_counter()
-        process = subprocess.Popen([binary, "split", "M", "100"], stdin=subprocess.PIPE,
-                                   stdout=subprocess.DEVNULL, stderr=subprocess.DEVNULL)
-        watcher = threading.Thread(target=watch, args=(process, peak))
-        watcher.start()
-        try:
-            process.stdin.write(text)
-            process.stdin.close()
-        except BrokenPipeError:
-            pass
-        code = process.wait()
-        seconds = time.perf_counter() - start
-        watcher.join()
-        print("%-36s %9.3f %9.1f %9.1f %6d" % (name, seconds, len(text) / 1e6 / seconds, peak[0], code))
+    words = argparse.ArgumentParser(description="Times the built program on large texts and layouts.")
+    words.add_argument("binary", nargs="?", default=os.path.join(top, "crates", "dpl", "out", "dpl"))
+    words.add_argument("--only", default="")
+    words.add_argument("--seconds", type=float, default=120)
+    asked = words.parse_args()
+    print("%-42s %9s %7s %8s %6s %6s" % ("case", "seconds", "MB/s", "peak MB", "status", "times"))
+    for name, text in texts():
+        if asked.only in name:
+            report(name, text, timed(asked.binary, text, asked.seconds))
+    for name, size, boxes in layouts():
+        if asked.only not in name:
+            continue
+        before = None
+        for n in (size, 2 * size):
+            text = layout(boxes(n))
+            run = timed(asked.binary, text, asked.seconds)
+            report("%s, n = %d" % (name, n), text, run, "" if before is None else "%.1f" % (run[0] / before))
+            before = run[0]
+            if run[2] == "late":
+                break
 
 
 if __name__ == "__main__":

@@ -1,7 +1,7 @@
-// Splits a layout on standard input onto two masks, which it writes to standard output.
+// Splits, checks and loads over standard input, files and standard output.
 #![tactic(auto)]
 
-use dpl_ext::{ReadSource, WriteSink};
+use dpl_ext::{FileShelf, ReadSource, WriteSink};
 use dpl_run::{Status, run};
 use std::env;
 use std::io::ErrorKind;
@@ -22,12 +22,14 @@ fn main(rt: HostRuntime) -> ExitCode {
         Err(_) => return ExitCode::from(Status::NoMemory.code()),
     }
     let mut layout = ReadSource::new(rt.stdin());
+    let mut second = FileShelf::new(&rt, rt.alloc());
     let mut out = WriteSink::new(rt.stdout());
     let mut err = WriteSink::new(rt.stderr());
     let status = run(
         rt.alloc(),
         words.as_slice(),
         &mut layout,
+        &mut second,
         &mut out,
         &mut err,
     );

@@ -2,4 +2,6 @@ pub mod GapLemmas
 pub mod SeamLemmas
 pub mod FacingLemmas
 pub mod LayerLemmas
+pub mod BoxLemmas
+pub mod OrderLemmas
 pub mod Same

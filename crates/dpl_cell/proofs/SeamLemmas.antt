@@ -1,5 +1,7 @@
 -- Cells and edges that rectangles share, by the part that they have in common.
 use Rattle.std.proofs.Common.{arith, ◌≡◌, ℤ, pos, ◌+ℤ◌, ◌-ℤ◌, ◌<ℤ◌, ◌≤ℤ◌, true, false, Bool, ◌&&◌, ◌||◌, inl, inr, ◌⊎◌, refl}
+use Rattle.std.proofs.Math.Bool.{or-true}
+use Rattle.std.proofs.lemmas.Bool.{and_parts, or_cases}
 use Rattle.std.proofs.lemmas.Int.{ints, clamps, by_lt_z}
 use Rattle.std.specs.Int.Signed.{le_z, lt_z}
 use Rattle.std.specs.Int.{int_max, int_min}
@@ -99,32 +101,21 @@ no_edge a b apart p q s =
 abbrev pub is_contact : ℤ → ℤ → ℤ → ℤ → Bool
 is_contact left right low high = le_z left right && le_z low high && (lt_z left right || lt_z low high)
 
-both : (a b : Bool) → a && b ≡ true → (a ≡ true) × (b ≡ true)
-both true b e = (refl, e)
-both false b e = absurd (cc)
-
-either : (a b : Bool) → a || b ≡ true → (a ≡ true) ⊎ (b ≡ true)
-either true b e = inl refl
-either false b e = inr e
-
 pub contact_by_test : (left right low high : ℤ) → is_contact left right low high ≡ true → HasContact left right low high
 contact_by_test left right low high t =
-    let (p, q) = both (le_z left right && le_z low high) (lt_z left right || lt_z low high) t in
-    let (h, k) = both (le_z left right) (le_z low high) p in
+    let (p, q) = and_parts (le_z left right && le_z low high) (lt_z left right || lt_z low high) t in
+    let (h, k) = and_parts (le_z left right) (le_z low high) p in
     record {
       columns = grind (arith, ints, h);
       rows = grind (arith, ints, k);
-      more = elim (either (lt_z left right) (lt_z low high) q) [ inl e ↦ inl (grind (arith, ints, e)) | inr e ↦ inr (grind (arith, ints, e)) ];
+      more = elim (or_cases (lt_z left right) (lt_z low high) q) [ inl e ↦ inl (grind (arith, ints, e)) | inr e ↦ inr (grind (arith, ints, e)) ];
     }
 
 pub test_by_contact : (left right low high : ℤ) → HasContact left right low high → is_contact left right low high ≡ true
 test_by_contact left right low high c =
     let h : le_z left right ≡ true = let g = c.columns in grind (arith, ints) in
     let k : le_z low high ≡ true = let g = c.rows in grind (arith, ints) in
-    rw (h, k) (elim c.more [ inl g ↦ (let e : lt_z left right ≡ true = grind (arith, ints) in rw e refl) | inr g ↦ (let e : lt_z low high ≡ true = grind (arith, ints) in rw e (or_true _)) ]) where
-      or_true : (b : Bool) → (b || true) ≡ true
-      or_true true = refl
-      or_true false = refl
+    rw (h, k) (elim c.more [ inl g ↦ (let e : lt_z left right ≡ true = grind (arith, ints) in rw e refl) | inr g ↦ (let e : lt_z low high ≡ true = grind (arith, ints) in rw e (or-true _)) ])
 
 -- the test answers whether two rectangles touch
 pub touch_test : (a b : Corners) (left right low high : ℤ) → IsSolid a → IsSolid b → left ≡ int_max a.x1 b.x1 → right ≡ int_min a.x2 b.x2 → low ≡ int_max a.y1 b.y1 → high ≡ int_min a.y2 b.y2

@@ -7,6 +7,7 @@
 mod facings;
 mod gaps;
 mod held;
+pub mod laws;
 mod layout;
 mod point;
 mod points;

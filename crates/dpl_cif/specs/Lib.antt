@@ -2,3 +2,4 @@ pub mod Drawn
 pub mod Reading
 pub mod Gives
 pub mod Laws
+pub mod OnCells

@@ -1,24 +1,116 @@
-use crate::{colour, split_even};
+ghost use Rattle.std.specs.Prelude.{◌≤◌, length};
+
+use crate::{LayerError, make, split};
 use dpl_lex::Name;
+use dpl_links::types::Weights;
+use dpl_report::{Options, Report};
+use std::alloc::Global;
 use std::test::Fail;
 
-#[test]
-fn a_plain_pair(rt: HostRuntime) -> Result<(), Fail> {
-    let layer = Name::new(b"M").ok_or("no name")?;
-    let layout = b"L M; B 100 100 50 50; B 100 100 200 50; E";
-    let want =
-        b"(dpl 0);\nDS 1 1 4;\nL MA;\nB 400 400 200 200;\nL MB;\nB 400 400 800 200;\nDF;\nC 1;\nE\n";
-    match split_even(rt.alloc(), layout.as_slice(), &layer, 100) {
-        Ok(output) => assert_eq!(rt; output.as_slice(), want.as_slice()),
-        Err(_) => assert!(rt; false),
+/// Layer M, a spacing of one micron, an overlap of 0.2, a stitch of weight 1 and a clash of
+/// weight 10.
+fn options() -> Option<Options> {
+    let layer = Name::new(b"M")?;
+    if layer.bytes().len() > 31 {
+        return None;
     }
+    let weights = Weights {
+        stitch: 1,
+        conflict: 10,
+    };
+    Some(Options {
+        layer,
+        space: 100,
+        overlap: 20,
+        weights,
+    })
+}
+
+fn report(alloc: Global, text: &[u8]) -> Option<Report>
+    requires { length text.now ≤ 16777216 }
+{
+    let options = options()?;
+    make(alloc, text, &options).ok()
+}
+
+#[test]
+fn nothing(rt: HostRuntime) -> Result<(), Fail> {
+    let options = options().ok_or("no options")?;
+    let wanted = b"(dpl 1);\n(layer M);\n(space 100);\n(overlap 20);\n(stitch 1);\n(conflict 10);\n\
+      (pieces 0);\n(fragments 0);\n(bonds 0);\n(stitches 0);\n(clashes 0);\n(excess 0);\n\
+      (cost 0);\n(bound 0);\n(masks );\nDS 1 1 4;\nL MA;\nL MB;\nDF;\nC 1;\nE\n";
+    let text = split(rt.alloc(), b"E".as_slice(), &options)
+        .ok()
+        .ok_or("refused")?;
+    assert_eq!(rt; text.as_slice(), wanted.as_slice());
     Ok(())
 }
 
 #[test]
-fn a_square(rt: HostRuntime) -> Result<(), Fail> {
-    let pairs = [(0, 1), (1, 2), (2, 3), (0, 3)];
-    let colours = colour(rt.alloc(), pairs.as_slice(), 4)?;
-    assert_eq!(rt; colours.as_slice(), [false, true, false, true].as_slice());
+fn the_odd_triangle(rt: HostRuntime) -> Result<(), Fail> {
+    let layout = b"L M; B 100 100 50 50; B 100 100 200 50; B 100 100 125 200; E";
+    let report = report(rt.alloc(), layout.as_slice()).ok_or("refused")?;
+    assert_eq!(rt; report.counts.clashes, 3);
+    assert_eq!(rt; report.cost, 10);
+    assert_eq!(rt; report.bound, 20);
+    assert_eq!(rt; report.clashes.as_slice().len(), 1);
+    Ok(())
+}
+
+#[test]
+fn a_stitch_is_cheaper(rt: HostRuntime) -> Result<(), Fail> {
+    let layout = b"L M; B 1000 100 500 50; B 100 100 50 200; B 100 100 950 200; \
+      B 450 100 225 350; B 500 100 750 350; E";
+    let report = report(rt.alloc(), layout.as_slice()).ok_or("refused")?;
+    assert_eq!(rt; report.counts.stitches, 3);
+    assert_eq!(rt; report.cost, 1);
+    assert_eq!(rt; report.bound, 2);
+    assert_eq!(rt; report.cuts.as_slice().len(), 1);
+    Ok(())
+}
+
+/// Four boxes in a square, each too close to the others: two clashes cross.
+#[test]
+fn two_crossing_clashes(rt: HostRuntime) -> Result<(), Fail> {
+    let layout = b"L M; B 100 100 50 50; B 100 100 200 50; B 100 100 50 200; B 100 100 200 200; E";
+    let report = report(rt.alloc(), layout.as_slice()).ok_or("refused")?;
+    assert_eq!(rt; report.counts.excess, 2);
+    assert_eq!(rt; report.aside.as_slice().len(), 2);
+    assert_eq!(rt; report.bound, 20);
+    Ok(())
+}
+
+/// A zigzag of 516 boxes between which 514 triangles stand.
+#[test]
+fn too_many_odd_faces(rt: HostRuntime) -> Result<(), Fail> {
+    let options = options().ok_or("no options")?;
+    let layout =
+        b"DS 1; L M; B 100 100 50 50; B 100 100 125 200; DF; DS 2; C 1; C 1 T 150 0; DF; DS 3; C 2; C \
+      2 T 300 0; DF; DS 4; C 3; C 3 T 600 0; DF; DS 5; C 4; C 4 T 1200 0; DF; DS 6; C 5; C 5 T \
+      2400 0; DF; DS 7; C 6; C 6 T 4800 0; DF; DS 8; C 7; C 7 T 9600 0; DF; DS 9; C 8; C 8 T 19200 \
+      0; DF; C 9; C 2 T 38400 0; E";
+    let error = make(rt.alloc(), layout.as_slice(), &options)
+        .err()
+        .ok_or("made")?;
+    let wanted = LayerError::Limit {
+        kind: 8,
+        count: 514,
+    };
+    assert_eq!(rt; error, wanted);
+    Ok(())
+}
+
+/// The same of 514 boxes and 512 triangles.
+#[test]
+fn most_odd_faces(rt: HostRuntime) -> Result<(), Fail> {
+    let layout =
+        b"DS 1; L M; B 100 100 50 50; B 100 100 125 200; DF; DS 2; C 1; C 1 T 150 0; DF; DS 3; C 2; C \
+      2 T 300 0; DF; DS 4; C 3; C 3 T 600 0; DF; DS 5; C 4; C 4 T 1200 0; DF; DS 6; C 5; C 5 T \
+      2400 0; DF; DS 7; C 6; C 6 T 4800 0; DF; DS 8; C 7; C 7 T 9600 0; DF; DS 9; C 8; C 8 T 19200 \
+      0; DF; C 9; C 1 T 38400 0; E";
+    let report = report(rt.alloc(), layout.as_slice()).ok_or("refused")?;
+    assert_eq!(rt; report.counts.clashes, 1025);
+    assert_eq!(rt; report.cost, 2560);
+    assert_eq!(rt; report.bound, 5120);
     Ok(())
 }

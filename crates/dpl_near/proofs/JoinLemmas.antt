@@ -1,5 +1,5 @@
 -- The pairs among the rectangles looked at so far.
-use Rattle.std.proofs.Common.{arith, rules, ◌≡◌, ℕ, ◌+◌, ◌<◌, ◌≤◌, List, length, get_or, ◌∙◌, AllPairs, All, refl, sym, ap, inl, inr, ◌∷◌, [], ◌++◌, map, Bool, false, IsTrue}
+use Rattle.std.proofs.Common.{arith, ◌≡◌, ℕ, ◌+◌, ◌<◌, ◌≤◌, List, length, get_or, ◌∙◌, AllPairs, All, refl, sym, ap, inl, inr, ◌∷◌, [], ◌++◌, map}
 use Rattle.std.proofs.lemmas.Bool.{cases_lt}
 use Rattle.std.proofs.lemmas.List.{get_or_default, get_or-map}
 use Rattle.std.proofs.lemmas.List.Elements.{All-push, All-weaker, Contains-push, Contains-append_left}
@@ -101,10 +101,6 @@ joins_within rects joins a k d l = let j = a.each k d l in let r = j.rising in l
 pub corners_at : (rects : List Rect) (i : ℕ) (r : Rect) → i < length rects → r ≡ get_or rects i r → corners_of r ≡ get_or (map corners_of rects) i (corners_of r)
 corners_at rects i r l e = ap corners_of e ∙ sym (get_or-map corners_of rects i r (corners_of r) l)
 
--- what a test would answer does not hold where it answers no
-pub not_by_test : {A : Type 0} (b : Bool) → b ≡ false → (A → IsTrue b) → ¬ A
-not_by_test b e f a = let t : IsTrue false = rw e at (f a) in search rules
-
 -- rectangles that share an edge are at no distance
 pub join_is_near : (rects : List Corners) (i j : ℕ) → IsJoin rects i j → IsNear (record { rects = rects; reach = 1 }) i j
 join_is_near rects i j m = record {
@@ -164,4 +160,4 @@ pub among_end : (rects : List Corners) (i : ℕ) (found : List ℕ) (t : ℕ) (j
 among_end rects i found t joins whole near s =
     joins_end rects i (max s.from (length rects)) joins (omega arith)
     (joins_jump rects i s.from (max s.from (length rects)) joins (omega arith) (λ m low high join.
-        let w = join.within in among_none rects i found t joins (length rects) near s (λ k h l. absurd (omega arith)) m low w join) s.done)
+    let w = join.within in among_none rects i found t joins (length rects) near s (λ k h l. absurd (omega arith)) m low w join) s.done)

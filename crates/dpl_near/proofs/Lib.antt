@@ -2,10 +2,7 @@ pub mod NearLemmas
 pub mod IndexLemmas
 pub mod OrderLemmas
 pub mod JoinLemmas
-pub mod LinkLemmas
-pub mod RootLemmas
-pub mod TopLemmas
-pub mod LabelLemmas
 pub mod WalkLemmas
 pub mod ShapeLemmas
 pub mod ApartLemmas
+pub mod LawLemmas

@@ -1,49 +1,21 @@
 -- Classes of rectangles and classes of their cells.
-use Rattle.std.proofs.Common.{arith, rules, ◌≡◌, ℕ, ◌<◌, ℤ, ◌<ℤ◌, ◌≤ℤ◌, List, length, get_or, ◌∙◌, AllPairs, Any, Contains, refl, sym, inl, inr, ◌∷◌, [], Bool, true, false, ◌&&◌, IsTrue, map}
-use Rattle.std.specs.List.{list_any}
-use Rattle.std.proofs.lemmas.Int.{ints, by_lt_z}
+use Rattle.std.proofs.Common.{arith, ◌≡◌, ℕ, ◌<◌, ℤ, ◌<ℤ◌, ◌≤ℤ◌, List, length, get_or, AllPairs, Contains, inl, inr, ◌∷◌, [], Bool, map}
+use Rattle.std.proofs.lemmas.Int.{by_lt_z}
 use Rattle.std.proofs.lemmas.Bool.{cases_lt, cases_eq}
 use Rattle.std.proofs.lemmas.List.{get_or_default}
-use Rattle.std.proofs.lemmas.List.Folds.{list_any_at, Any-from_list_any}
-use Rattle.dpl_cell.proofs.LayerLemmas.{list_any-map}
 use Rattle.dpl_cell.specs.Places.{Corners}
 use Rattle.dpl_cell.specs.Cells.{IsWithin, IsIn, AreApart}
 use Rattle.dpl_cell.specs.Outlines.{Box}
-use Rattle.dpl_cell.specs.Layers.{is_in_box, is_within, is_in_outline, is_cell}
+use Rattle.dpl_cell.specs.Layers.{is_cell}
 use Rattle.dpl_cell.specs.Edges.{AreNeighbours, SharesEdge}
 use Rattle.dpl_cell.specs.Shapes.{IsWalk, AreOneShape}
+use Rattle.dpl_cell.proofs.BoxLemmas.{held, holder}
 use Rattle.dpl_near.specs.Joins.{IsJoin, AreJoins}
 use Rattle.dpl_near.specs.Shapes.{AreShapes}
-use Rattle.dpl_near.specs.Roots.{IsTrail, AreLinked, AreRoots, AreNumbers}
-use Rattle.dpl_near.proofs.LinkLemmas.{link_here, link_on, link_pair, link_back}
+use Rattle.dpl_classes.specs.Chains.{IsChain, AreLinked}
+use Rattle.dpl_classes.specs.Classes.{AreClasses}
+use Rattle.dpl_classes.proofs.ChainLemmas.{link_here, link_on, link_pair, link_back}
 use Rattle.dpl_near.proofs.WalkLemmas.{signed, walk_start, joined_on, joined_step, joined_back, neighbours_back, along_row, along_column, steps}
-
--- ---- cells of the layer of all rectangles
-
-in_test : (r : Corners) (x y : ℤ) → IsIn r x y → is_in_box r x y ≡ true
-in_test r x y h = let a : r.x1 ≤ℤ x = h.column.from in let b : x <ℤ r.x2 = h.column.to in let c : r.y1 ≤ℤ y = h.row.from in let d : y <ℤ r.y2 = h.row.to in grind (arith, ints)
-
-from_stretch : (a b x : ℤ) → is_within a b x ≡ true → IsWithin a b x
-from_stretch a b x e = record { from = grind (arith, ints); to = grind (arith, ints) }
-
-both_true : (a b : Bool) → (a && b) ≡ true → (a ≡ true) × (b ≡ true)
-both_true true b e = (refl, e)
-both_true false b e = absurd (cc)
-
-from_test : (r : Corners) (x y : ℤ) → is_in_box r x y ≡ true → IsIn r x y
-from_test r x y e = let (a, b) = both_true _ _ e in record { column = from_stretch _ _ x a; row = from_stretch _ _ y b }
-
-in_layer : (rects : List Corners) (x y : ℤ) → is_cell (map Box rects) x y ≡ list_any (λ r. is_in_box r x y) rects
-in_layer rects x y = list_any-map (is_in_outline x y) Box rects
-
-pub held : (rects : List Corners) (i : ℕ) (d : Corners) (x y : ℤ) → i < length rects → IsIn (get_or rects i d) x y → IsTrue (is_cell (map Box rects) x y)
-held rects i d x y l h = let e = in_layer rects x y ∙ list_any_at (λ r. is_in_box r x y) rects i d l (in_test _ x y h) in search (rules, e)
-
-true_is : (b : Bool) → IsTrue b → b ≡ true
-true_is b h = search rules
-
-pub holder : (rects : List Corners) (x y : ℤ) → IsTrue (is_cell (map Box rects) x y) → Any (λ r. IsIn r x y) rects
-holder rects x y h = let (k, r, l, e, t) = Any-from_list_any (λ r. is_in_box r x y) rects (sym (in_layer rects x y) ∙ true_is _ h) in (k, r, l, e, from_test r x y t)
 
 -- ---- walks within rectangles
 
@@ -85,7 +57,7 @@ joined_across rects i j d x y x' y' l m t p q =
 join_of : (rects : List Corners) (joins : List (ℕ × ℕ)) (i j : ℕ) → AreJoins rects joins → Contains joins (i, j) → IsJoin rects i j
 join_of rects joins i j a (k, l, e) = let d : ℕ × ℕ = (i, j) in let h = a.each k d l in rw e at h
 
-joined_along : (rects : List Corners) (joins : List (ℕ × ℕ)) → AreJoins rects joins → (i : ℕ) (js : List ℕ) (k : ℕ) (d : Corners) (x y x' y' : ℤ) → IsTrail joins i js k → i < length rects → IsIn (get_or rects i d) x y → IsIn (get_or rects k d) x' y' → AreOneShape (is_cell (map Box rects)) x y x' y'
+joined_along : (rects : List Corners) (joins : List (ℕ × ℕ)) → AreJoins rects joins → (i : ℕ) (js : List ℕ) (k : ℕ) (d : Corners) (x y x' y' : ℤ) → IsChain joins i js k → i < length rects → IsIn (get_or rects i d) x y → IsIn (get_or rects k d) x' y' → AreOneShape (is_cell (map Box rects)) x y x' y'
 joined_along rects joins a i [] k d x y x' y' e l p q = joined_within rects i d x y x' y' l p (rw e q)
 joined_along rects joins a i (m ∷ js) k d x y x' y' (h, s) l p q =
     let cells : ℤ → ℤ → Bool = is_cell (map Box rects) in
@@ -128,14 +100,13 @@ linked_along rects joins apart a i j d x y (c ∷ cs) x' y' l m p q (h, n, w) =
 
 -- ---- the shapes
 
-pub are_shapes : (rects : List Corners) (joins : List (ℕ × ℕ)) (roots label : List ℕ) (count' : ℕ) → AllPairs AreApart rects → AreJoins rects joins → AreRoots joins (length rects) roots → AreNumbers roots label count' → AreShapes rects label count'
-are_shapes rects joins roots label count' apart a r s = record {
-  long = s.long ∙ r.long;
+pub are_shapes : (rects : List Corners) (joins : List (ℕ × ℕ)) (label : List ℕ) (count' : ℕ) → AllPairs AreApart rects → AreJoins rects joins → AreClasses joins (length rects) label count' → AreShapes rects label count'
+are_shapes rects joins label count' apart a r = record {
+  long = r.long;
   same = λ i j d x y x' y' l m p q.
-      let f = s.same i j (rw r.long l) (rw r.long m) in
-      let g = r.same i j l m in (
-        (λ e. let t = g.0 (f.0 e) in joined_along rects joins a i t.trail j d x y x' y' t.is l p q),
-        (λ (cs, w). f.1 (g.1 (linked_along rects joins apart a i j d x y cs x' y' l m p q w))),
+      let f = r.same i j l m in (
+        (λ e. let t = f.0 e in joined_along rects joins a i t.chain j d x y x' y' t.is l p q),
+        (λ (cs, w). f.1 (linked_along rects joins apart a i j d x y cs x' y' l m p q w)),
       );
-  numbered = s.numbered;
+  numbered = r.numbered;
 }

@@ -2,5 +2,3 @@ pub mod Near
 pub mod Index
 pub mod Joins
 pub mod Shapes
-pub mod Roots
-pub mod Ways

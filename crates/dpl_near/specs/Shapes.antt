@@ -1,23 +1,17 @@
 -- Shapes: the classes of the cells of rectangles under sharing an edge.
-use Rattle.std.specs.Prelude.{◌≡◌, ◌↔◌, ℕ, ℤ, ◌<◌, ◌≤◌, ◌+◌, List, length, slice_index_or, take, map, max, fold}
+use Rattle.std.specs.Prelude.{◌≡◌, ◌↔◌, ℕ, ℤ, ◌<◌, List, length, slice_index_or, map}
 use Rattle.dpl_cell.specs.Places.{Corners}
 use Rattle.dpl_cell.specs.Cells.{IsIn}
 use Rattle.dpl_cell.specs.Outlines.{Box}
 use Rattle.dpl_cell.specs.Layers.{is_cell}
 use Rattle.dpl_cell.specs.Shapes.{AreOneShape}
+use Rattle.dpl_classes.specs.Classes.{IsNumbered}
 
--- one more than the greatest label of a list, 0 where it is empty
-abbrev pub next_label : List ℕ → ℕ
-next_label label = fold (λ m l. max m (l + 1)) 0 label
-
--- classes are numbered from 0 in the order of their least members: no label is more than the next one
-pub record IsNumbered (label : List ℕ) (n : ℕ) : Type 0 where
-  pub grows : (i : ℕ) → i < length label → slice_index_or label i 0 ≤ next_label (take i label)
-  pub count : n ≡ next_label label
-
--- rectangles have one label where their cells are of one shape in the layer of all the rectangles
+-- rectangles have one label where their cells are of one shape in the layer of all the rectangles, and shapes are
+-- numbered by their least rectangles
 pub record AreShapes (rects : List Corners) (label : List ℕ) (count : ℕ) : Type 0 where
   pub long : length label ≡ length rects
-  pub same : (i j : ℕ) (d : Corners) (x y x' y' : ℤ) → i < length rects → j < length rects → IsIn (slice_index_or rects i d) x y → IsIn (slice_index_or rects j d) x' y'
-      → (slice_index_or label i 0 ≡ slice_index_or label j 0) ↔ AreOneShape (is_cell (map Box rects)) x y x' y'
+  pub same : (i j : ℕ) (d : Corners) (x y x' y' : ℤ) → i < length rects → j < length rects →
+      IsIn (slice_index_or rects i d) x y → IsIn (slice_index_or rects j d) x' y' →
+      (slice_index_or label i 0 ≡ slice_index_or label j 0) ↔ AreOneShape (is_cell (map Box rects)) x y x' y'
   pub numbered : IsNumbered label count

@@ -44,12 +44,7 @@ fn push_joins(
 }
 
 /// Adds the pair of two rectangles if the second is a later one and they share an edge.
-fn push_join(
-    joins: &mut Vec<(u32, u32)>,
-    rects: &[Rect],
-    i: usize,
-    j: u32,
-) -> Result<(), NoMemory>
+fn push_join(joins: &mut Vec<(u32, u32)>, rects: &[Rect], i: usize, j: u32) -> Result<(), NoMemory>
     requires apart { AllPairs AreApart (map corners_of rects.now) }
     requires few { length rects.now ≤ 100000 }
     requires within { i < length rects.now }

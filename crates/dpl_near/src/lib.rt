@@ -6,18 +6,15 @@
 #![tactic(auto)]
 
 mod apart;
-mod classing;
 mod finder;
 mod index;
 mod joining;
-mod numbering;
+pub mod laws;
 mod order;
-mod rooting;
 mod shaping;
 pub mod types;
 
 pub use apart::are_apart;
-pub use classing::classes;
 pub use finder::Finder;
 pub use shaping::shapes;
 pub use std::alloc::AllocError as NoMemory;

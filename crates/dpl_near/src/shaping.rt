@@ -5,10 +5,9 @@ ghost use Rattle.dpl_near.specs.Joins.{AreJoins};
 ghost use Rattle.dpl_near.specs.Shapes.{AreShapes};
 
 use crate::joining::joins;
-use crate::numbering::labels;
-use crate::rooting::roots;
 use crate::types::Shapes;
 use dpl_cell::Rect;
+use dpl_classes::classes;
 use dpl_list::Items;
 use std::alloc::{AllocError as NoMemory, Global};
 
@@ -20,8 +19,7 @@ pub fn shapes(alloc: Global, rects: &[Rect]) -> Result<Shapes, NoMemory>
     ensures shapes { IfOk result (λ s. AreShapes (map corners_of rects.now) s.label s.count) }
 {
     let joins = joins(alloc, rects)?;
-    let roots = roots(alloc, rects.len(), joins.as_slice())?;
-    let (label, count) = labels(alloc, roots.as_slice())?;
+    let (label, count) = classes(alloc, rects.len(), joins.as_slice())?;
     Ok(Shapes {
         joins: Items::new(joins),
         label: Items::new(label),

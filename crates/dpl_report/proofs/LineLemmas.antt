@@ -1,48 +1,139 @@
--- Lines are cut and read one by one.
-use Rattle.std.proofs.Common.{arith, ◌≡◌, ℕ, ◌+◌, ◌-◌, List, [], ◌∷◌, ◌++◌, length, map, refl, append_assoc, length-append, Some, All}
-use Rattle.std.specs.Prelude.{slice_range}
-use Rattle.std.proofs.lemmas.List.Elements.{All-head, All-tail}
-use Rattle.std.proofs.Math.Seq.{drop-append_seam, take-append_seam}
-use Rattle.dpl_lex.specs.Cutting.{cut, with_span, span}
-use Rattle.dpl_lex.specs.declared.cutting.Place.TheVariants.{Between}
-use Rattle.dpl_lex.specs.declared.types.Ending.TheVariants.{End}
-use Rattle.dpl_rules.specs.Bounds.{read_commands}
-use Rattle.dpl_report.specs.Lines as lines
-use Rattle.dpl_report.specs.Lines.{Line, line_text, lines_text, IsRead, said}
+-- The numbers of a line are read back, and a line has one line end.
+use Rattle.std.proofs.Common.{arith, ◌≡◌, ℕ, zero, suc, ◌+◌, ◌%◌, ◌<◌, ◌≤◌, ◌^◌, Bool, true, false, ◌==◌, cond, List, [], ◌∷◌, ◌++◌, length, refl, ap, ◌∙◌, append_assoc, length-append, Option, None}
+use Rattle.std.specs.Prelude.{ℤ, pos, negsuc, ◌+ℤ◌, ◌-ℤ◌, ◌*ℤ◌, not, unsigned_abs, codes}
+use Rattle.std.specs.List.{list_all, AllByRecursion}
+use Rattle.std.specs.Fmt.{decimal, signed_decimal}
+use Rattle.std.proofs.lemmas.Fmt.{decimal_by_steps}
+use Rattle.std.proofs.lemmas.List.Folds.{list_all-append}
+use Rattle.std.proofs.lemmas.Bool.Decides.{nat_tests}
+use Rattle.dpl_cell.specs.Places.{Corners}
+use Rattle.dpl_lex.specs.Classes.{is_digit, is_separator, drop_while}
+use Rattle.dpl_lex.specs.Number.{greatest, signed_digits_at, digits_at, of_magnitude, of_negated, digits_value}
+use Rattle.dpl_lex.specs.declared.number.Num.{Num}
+use Rattle.dpl_lex.specs.declared.number.Num.TheVariants.{Nothing}
+use Rattle.dpl_rules.specs.Readers.{number_of, signed_of, repeated}
+use Rattle.dpl_boxes.specs.Masks.{box_line}
+use Rattle.dpl_boxes.proofs.NumberLemmas.{both, has_no_digit, signed_of-signed_decimal}
+use Rattle.dpl_form.specs.Lines.{is_line, is_nothing}
+use Rattle.dpl_report.specs.ReportLines.{numbered, bracketed}
+use Rattle.dpl_report.specs.Reading.{numbers_in}
 
--- the part between two others
-between_parts : (front part behind : List ℕ) → slice_range (front ++ (part ++ behind)) (length front) (length front + length part) ≡ part
-between_parts front part behind =
-    let n : length front + length part - length front ≡ length part = omega arith in
-    rw (drop-append_seam front (part ++ behind), n) (take-append_seam part behind)
+-- ---- what stands before a number
 
--- a text of lines begins with its first line
-lines_text-cons : (l : Line) (ls : List Line) → lines_text (l ∷ ls) ≡ l.bytes ++ (59 ∷ 10 ∷ lines_text ls)
-lines_text-cons l ls = simp append_assoc
+abbrev number_with : Num × List ℕ → Option (ℤ × List ℕ)
+number_with p = number_of p.0 p.1
 
--- the lines at the end of a text are cut and read; what stands before them is any text
-record Goes (text front : List ℕ) (ls : List Line) : Type 0 where
-  commands : read_commands text (cut Between (length front) (lines_text ls)).spans ≡ map said ls
-  ending : (cut Between (length front) (lines_text ls)).ending ≡ End
+abbrev digits_or : Bool → Num → List ℕ → List ℕ → Num × List ℕ
+digits_or t n rest whole = cond t (n, rest) (Nothing, whole)
 
--- with one more line before
-goes_on : (text front : List ℕ) (l : Line) (ls : List Line) → IsRead l → text ≡ front ++ lines_text (l ∷ ls) → Goes text (front ++ (l.bytes ++ (59 ∷ 10 ∷ []))) ls → Goes text front (l ∷ ls)
-goes_on text front l ls r e g =
-    let size : length (front ++ (l.bytes ++ (59 ∷ 10 ∷ []))) ≡ length front + length l.bytes + 1 + 1 = simp length-append (omega arith) in
-    let cut_first : cut Between (length front) (lines_text (l ∷ ls)) ≡ with_span (Some (span (length front) (length front + length l.bytes))) (cut Between (length (front ++ (l.bytes ++ (59 ∷ 10 ∷ [])))) (lines_text ls))
-    = rw (lines_text-cons l ls, size) (r.cut_out (10 ∷ lines_text ls) (length front)) in
-    let part : slice_range text (length front) (length front + length l.bytes) ≡ l.bytes = rw (e, lines_text-cons l ls) (between_parts front l.bytes (59 ∷ 10 ∷ lines_text ls)) in
-    record {
-      commands = rw (cut_first, part, r.read, g.commands) refl;
-      ending = rw cut_first g.ending;
-    }
+-- where no number stands it does not matter what was passed
+any_whole : (t : Bool) (n : Num) (rest v w : List ℕ) → number_with (digits_or t n rest v) ≡ number_with (digits_or t n rest w)
+any_whole true n rest v w = refl
+any_whole false n rest v w = refl
 
-go : (text front : List ℕ) (ls : List Line) → All IsRead ls → text ≡ front ++ lines_text ls → Goes text front ls
-go text front [] h e = record { commands = refl; ending = refl }
-go text front (l ∷ ls) h e =
-    let longer : text ≡ (front ++ (l.bytes ++ (59 ∷ 10 ∷ []))) ++ lines_text ls = rw (e, lines_text-cons l ls) (simp append_assoc) in
-    goes_on text front l ls (All-head IsRead l ls h) e (go text (front ++ (l.bytes ++ (59 ∷ 10 ∷ []))) ls (All-tail IsRead l ls h) longer)
+digits_any : (of : ℕ → Num) (v w bs : List ℕ) → number_with (digits_at of v bs) ≡ number_with (digits_at of w bs)
+digits_any of v w [] = refl
+digits_any of v w (b ∷ bs) = any_whole (is_digit b) (of (digits_value 0 (b ∷ bs))) (drop_while is_digit (b ∷ bs)) v w
 
--- what is written line by line is read line by line
-pub lines_are_read : lines.LinesAreRead
-lines_are_read ls h = let g = go (lines_text ls) [] ls h refl in record { commands = g.commands; ending = g.ending }
+signed_by_test : (t : Bool) (v w : List ℕ) (b : ℕ) (bs : List ℕ) → number_with (cond t (digits_at of_negated v bs) (digits_at of_magnitude v (b ∷ bs))) ≡ number_with (cond t (digits_at of_negated w bs) (digits_at of_magnitude w (b ∷ bs)))
+signed_by_test true v w b bs = digits_any of_negated v w bs
+signed_by_test false v w b bs = digits_any of_magnitude v w (b ∷ bs)
+
+signed_any : (v w bs : List ℕ) → number_with (signed_digits_at v bs) ≡ number_with (signed_digits_at w bs)
+signed_any v w [] = refl
+signed_any v w (b ∷ bs) = signed_by_test (b == 45) v w b bs
+
+drop_while-append : (front rest : List ℕ) → list_all is_separator front ≡ true → drop_while is_separator (front ++ rest) ≡ drop_while is_separator rest
+drop_while-append [] rest h = refl
+drop_while-append (b ∷ bs) rest h = let s = both (is_separator b) (list_all is_separator bs) h in rw s.0 (drop_while-append bs rest s.1)
+
+-- separators before a number are passed
+signed_of-word : (word rest : List ℕ) → list_all is_separator word ≡ true → signed_of (word ++ rest) ≡ signed_of rest
+signed_of-word word rest h = rw (drop_while-append word rest h) (signed_any (word ++ rest) rest (drop_while is_separator rest))
+
+-- ---- the numbers of a line
+
+abbrev pub IsNear : ℤ → Type 0
+IsNear z = unsigned_abs z ≤ greatest
+
+-- what may follow the numbers
+pub record IsEnd (end : List ℕ) : Type 0 where
+  pub no_digit : has_no_digit end ≡ true
+  pub no_number : signed_of end ≡ None
+
+has_no_digit-numbered : (zs : List ℤ) (end : List ℕ) → IsEnd end → has_no_digit (numbered zs end) ≡ true
+has_no_digit-numbered [] end e = e.no_digit
+has_no_digit-numbered (z ∷ zs) end e = refl
+
+numbers_again : (n : ℕ) (word : List ℕ) (zs : List ℤ) (end : List ℕ) → IsEnd end → length zs ≤ n → list_all is_separator word ≡ true → AllByRecursion IsNear zs → (repeated signed_of n (word ++ numbered zs end)).0 ≡ zs
+numbers_again zero word [] end e l h a = refl
+numbers_again (suc n) word [] end e l h a = rw (signed_of-word word end h, e.no_number) refl
+numbers_again zero word (z ∷ zs) end e l h a = absurd (omega arith)
+numbers_again (suc n) word (z ∷ zs) end e l h a =
+    let k : length zs ≤ n = omega arith in
+    rw (signed_of-word word (numbered (z ∷ zs) end) h, signed_of-signed_decimal z (numbered zs end) a.0 (has_no_digit-numbered zs end e)) (ap (λ ys. z ∷ ys) (numbers_again n [] zs end e k refl a.1))
+
+length-numbered : (zs : List ℤ) (end : List ℕ) → length zs ≤ length (numbered zs end)
+length-numbered [] end = omega arith
+length-numbered (z ∷ zs) end = omega (arith, length-numbered zs end, length-append (signed_decimal z) (numbered zs end))
+
+pub numbers_in-numbered : (first : ℕ) (word : List ℕ) (zs : List ℤ) (end : List ℕ) → IsEnd end → list_all is_separator word ≡ true → AllByRecursion IsNear zs → numbers_in (first ∷ (word ++ numbered zs end)) ≡ zs
+numbers_in-numbered first word zs end e h a =
+    numbers_again (suc (length (word ++ numbered zs end))) word zs end e (omega (arith, length-append word (numbered zs end), length-numbered zs end)) h a
+
+pub closing_is_end : IsEnd (codes ");\n")
+closing_is_end = record { no_digit = refl; no_number = refl }
+
+pub box_closing_is_end : IsEnd (codes ";\n")
+box_closing_is_end = record { no_digit = refl; no_number = refl }
+
+-- the numbers of a comment
+pub numbers_in-bracketed : (word : List ℕ) (zs : List ℤ) → list_all is_separator word ≡ true → AllByRecursion IsNear zs → numbers_in (bracketed word zs) ≡ zs
+numbers_in-bracketed word zs h a = numbers_in-numbered 40 word zs (codes ");\n") closing_is_end h a
+
+abbrev pub box_numbers : Corners → List ℤ
+box_numbers b = ((b.x2 -ℤ b.x1) *ℤ pos 2) ∷ ((b.y2 -ℤ b.y1) *ℤ pos 2) ∷ (b.x1 +ℤ b.x2) ∷ (b.y1 +ℤ b.y2) ∷ []
+
+four_parts : (a b c d : List ℕ) → ((((66 ∷ 32 ∷ a) ++ (32 ∷ b)) ++ (32 ∷ c)) ++ (32 ∷ d)) ++ (59 ∷ 10 ∷ []) ≡ 66 ∷ 32 ∷ (a ++ (32 ∷ (b ++ (32 ∷ (c ++ (32 ∷ (d ++ (59 ∷ 10 ∷ []))))))))
+four_parts a b c d = simp append_assoc
+
+pub box_line-numbered : (b : Corners) → box_line b ≡ 66 ∷ numbered (box_numbers b) (codes ";\n")
+box_line-numbered b = four_parts (signed_decimal ((b.x2 -ℤ b.x1) *ℤ pos 2)) (signed_decimal ((b.y2 -ℤ b.y1) *ℤ pos 2)) (signed_decimal (b.x1 +ℤ b.x2)) (signed_decimal (b.y1 +ℤ b.y2))
+
+pub numbers_in-box : (b : Corners) → AllByRecursion IsNear (box_numbers b) → numbers_in (box_line b) ≡ box_numbers b
+numbers_in-box b a = rw (box_line-numbered b) (numbers_in-numbered 66 [] (box_numbers b) (codes ";\n") box_closing_is_end refl a)
+
+-- ---- line ends
+
+abbrev pub is_no_end : ℕ → Bool
+is_no_end b = not (b == 10)
+
+line_by_test : (t : Bool) (bs rest : List ℕ) → not t ≡ true → is_line (bs ++ rest) ≡ is_line rest → cond t (is_nothing (bs ++ rest)) (is_line (bs ++ rest)) ≡ is_line rest
+line_by_test true bs rest n h = absurd (cc)
+line_by_test false bs rest n h = h
+
+pub is_line-append : (front rest : List ℕ) → list_all is_no_end front ≡ true → is_line (front ++ rest) ≡ is_line rest
+is_line-append [] rest h = refl
+is_line-append (b ∷ bs) rest h = let s = both (is_no_end b) (list_all is_no_end bs) h in line_by_test (b == 10) bs rest s.0 (is_line-append bs rest s.1)
+
+digit_is_no_end : (n : ℕ) → n < 10 → is_no_end (48 + n) ≡ true
+digit_is_no_end n l = grind (arith, nat_tests)
+
+no_end-decimal : (n : ℕ) → n < 2 ^ 64 → list_all is_no_end (decimal n) ≡ true
+no_end-decimal = decimal_by_steps (λ n ds. list_all is_no_end ds ≡ true)
+    (λ n l. rw (digit_is_no_end n l) refl)
+    (λ n ds l h. let small : n % 10 < 10 = omega arith in rw (list_all-append is_no_end ds ((48 + n % 10) ∷ []), h, digit_is_no_end (n % 10) small) refl)
+
+no_end-signed : (z : ℤ) → IsNear z → list_all is_no_end (signed_decimal z) ≡ true
+no_end-signed (pos n) h = no_end-decimal n (omega arith)
+no_end-signed (negsuc n) h = no_end-decimal (suc n) (omega arith)
+
+pub is_line-numbered : (zs : List ℤ) (end : List ℕ) → AllByRecursion IsNear zs → is_line (numbered zs end) ≡ is_line end
+is_line-numbered [] end a = refl
+is_line-numbered (z ∷ zs) end a = is_line-append (signed_decimal z) (numbered zs end) (no_end-signed z a.0) ∙ is_line-numbered zs end a.1
+
+pub is_line-bracketed : (word : List ℕ) (zs : List ℤ) → list_all is_no_end word ≡ true → AllByRecursion IsNear zs → is_line (bracketed word zs) ≡ true
+is_line-bracketed word zs h a = is_line-append word (numbered zs (codes ");\n")) h ∙ is_line-numbered zs (codes ");\n") a
+
+pub is_line-box : (b : Corners) → AllByRecursion IsNear (box_numbers b) → is_line (box_line b) ≡ true
+is_line-box b a = ap is_line (box_line-numbered b) ∙ is_line-numbered (box_numbers b) (codes ";\n") a

@@ -1,8 +1,11 @@
--- Lines of boxes.
-use Rattle.std.proofs.Common.{◌≡◌, List, [], ◌∷◌, ◌++◌, map, refl, ap}
-use Rattle.std.specs.List.{flat_map}
+-- One rectangle more on a mask.
+use Rattle.std.proofs.Common.{◌≡◌, Bool, true, false, List, [], ◌++◌, refl, ap, ◌∙◌, append_assoc}
+use Rattle.dpl_cell.specs.declared.rect.Rect.{Rect}
+use Rattle.dpl_report.specs.MaskRects.{where_same}
 
--- the pieces of images are the pieces of the elements by way of their images
-pub flat_map-map : {X Y A : Type 0} (f : Y → List A) (g : X → Y) (xs : List X) → flat_map f (map g xs) ≡ flat_map (λ x. f (g x)) xs
-flat_map-map f g [] = refl
-flat_map-map f g (x ∷ xs) = ap (λ ys. f (g x) ++ ys) (flat_map-map f g xs)
+pub where_same-append : (t : Bool) (r : Rect) (rs : List Rect) → where_same t r [] ++ rs ≡ where_same t r rs
+where_same-append true r rs = refl
+where_same-append false r rs = refl
+
+pub one_rect : (front : List Rect) (t : Bool) (r : Rect) (rs : List Rect) → (front ++ where_same t r []) ++ rs ≡ front ++ where_same t r rs
+one_rect front t r rs = append_assoc front (where_same t r []) rs ∙ ap (λ xs. front ++ xs) (where_same-append t r rs)

@@ -1,43 +1,89 @@
-use super::{NoMemory, mask_text};
-use dpl_cell::Rect;
-use dpl_lex::Name;
+use crate::{NoMemory, ReportError, parse, print};
+use dpl_form::first_line;
 use std::alloc::Global;
 use std::test::Fail;
 
-fn in_hundredths(x1: i64, y1: i64, x2: i64, y2: i64) -> Option<Rect> {
-    Rect::new(
-        x1.checked_mul(2)?,
-        y1.checked_mul(2)?,
-        x2.checked_mul(2)?,
-        y2.checked_mul(2)?,
-    )
-}
+const NOTHING: &[u8] =
+    b"(dpl 1);\n(layer M);\n(space 100);\n(overlap 20);\n(stitch 1);\n(conflict 10);\n(pieces 0);\n(fragments 0);\n(bonds 0);\n(stitches 0);\n(clashes 0);\n(excess 0);\n(cost 0);\n(bound 0);\n(masks );\nDS 1 1 4;\nL MA;\nL MB;\nDF;\nC 1;\nE\n";
 
-fn is_text(alloc: Global, on_a: &[Rect], on_b: &[Rect], text: &[u8]) -> Result<bool, NoMemory> {
-    match Name::new(b"M1") {
-        Some(layer) if layer.bytes().len() <= 31 => {
-            let written = mask_text(alloc, &layer, on_a, on_b)?;
-            Ok(written.as_slice() == text)
-        }
-        _ => Ok(false),
+/// Three squares, each too close to the other two.
+const TRIANGLE: &[u8] =
+    b"(dpl 1);\n(layer M);\n(space 100);\n(overlap 20);\n(stitch 1);\n(conflict 10);\n(pieces 3);\n(fragments 3);\n(bonds 0);\n(stitches 0);\n(clashes 3);\n(excess 0);\n(cost 10);\n(bound 20);\n(masks AAB);\n(clash 0 0 1);\n(cycle 20 0 0 2 1);\nDS 1 1 4;\nL MA;\nB 400 400 200 200;\nB 400 400 800 200;\nL MB;\nB 400 400 500 800;\nDF;\nC 1;\nE\n";
+
+/// What is read is written again so.
+fn is_written_again(alloc: Global, text: &[u8]) -> Result<bool, ReportError> {
+    if text.len() > 1000 {
+        return Ok(false);
+    }
+    let report = parse(alloc, text)?;
+    match print(alloc, &report) {
+        Ok(again) => Ok(again.as_slice() == text),
+        Err(_) => Err(ReportError::NoMemory),
     }
 }
 
+/// The first wrong line, 0 where there is none.
+fn wrong_line(alloc: Global, text: &[u8]) -> Result<u64, NoMemory> {
+    if text.len() > 1000 {
+        return Ok(0);
+    }
+    match parse(alloc, text) {
+        Ok(_) => Ok(0),
+        Err(ReportError::NotReport(line)) => Ok(line),
+        Err(ReportError::NoMemory) => Err(NoMemory),
+    }
+}
+
+/// The triangle's report with other text in place of one line.
+fn with_line(alloc: Global, number: usize, new: &[u8]) -> Result<Vec<u8>, NoMemory> {
+    let mut out = Vec::new(alloc);
+    let mut rest = TRIANGLE;
+    let mut at: usize = 1;
+    'lines: while let Some((line, others)) = first_line(rest) {
+        out.extend_from_slice(if at == number { new } else { line })?;
+        at = at.wrapping_add(1);
+        rest = others;
+    }
+    Ok(out)
+}
+
 #[test]
-fn two_boxes_go_on_two_masks(rt: HostRuntime) -> Result<(), Fail> {
-    let a = in_hundredths(0, 0, 50, 100).ok_or("a box")?;
-    let b = in_hundredths(200, 0, 250, 100).ok_or("a box")?;
-    let text =
-        b"(dpl 0);\nDS 1 1 4;\nL M1A;\nB 200 400 100 200;\nL M1B;\nB 200 400 900 200;\nDF;\nC 1;\nE\n";
-    assert!(rt; is_text(rt.alloc(), &[a], &[b], text)?);
+fn reports_are_read_and_written_again(rt: HostRuntime) -> Result<(), Fail> {
+    assert!(rt; matches!(is_written_again(rt.alloc(), NOTHING), Ok(true)));
+    assert!(rt; matches!(is_written_again(rt.alloc(), TRIANGLE), Ok(true)));
     Ok(())
 }
 
 #[test]
-fn a_box_with_its_middle_at_the_origin(rt: HostRuntime) -> Result<(), Fail> {
-    let a = Rect::new(-25, -100, 25, 100).ok_or("a box")?;
-    let b = Rect::new(-3, -2, 0, 3).ok_or("a box")?;
-    let text = b"(dpl 0);\nDS 1 1 4;\nL M1A;\nB 100 400 0 0;\nB 6 10 -3 1;\nL M1B;\nDF;\nC 1;\nE\n";
-    assert!(rt; is_text(rt.alloc(), &[a, b], &[], text)?);
+fn a_front_of_a_report_ends_too_early(rt: HostRuntime) -> Result<(), Fail> {
+    let mut line: u64 = 1;
+    for (end, byte) in TRIANGLE.iter().enumerate() {
+        assert_eq!(rt; wrong_line(rt.alloc(), &TRIANGLE[..end])?, line);
+        if *byte == b'\n' {
+            line = line.wrapping_add(1);
+        }
+    }
+    Ok(())
+}
+
+#[test]
+fn the_first_wrong_line_is_named(rt: HostRuntime) -> Result<(), Fail> {
+    for (number, new, line) in [
+        (3, b"(overlap 20);\n(space 100);\n".as_slice(), 3),
+        (3, b"(space 0100);\n", 3),
+        (3, b"(space 1000000000001);\n", 3),
+        (15, b"(masks AABB);\n", 15),
+        (15, b"(masks AAb);\n", 15),
+        (16, b"(clash 1 0 2);\n(clash 0 0 1);\n", 17),
+        (16, b"(clash 0 0 1);\n(clash 0 0 1);\n", 17),
+        (17, b"(cycle 0 0 0 2 1);\n", 17),
+        (17, b"(cycle 20 0);\n", 17),
+        (20, b"B 0 400 200 200;\n", 20),
+        (26, b"E", 26),
+        (26, b"E\nE\n", 27),
+    ] {
+        let text = with_line(rt.alloc(), number, new)?;
+        assert_eq!(rt; wrong_line(rt.alloc(), text.as_slice())?, line);
+    }
     Ok(())
 }

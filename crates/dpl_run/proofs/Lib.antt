@@ -1,2 +1,4 @@
-pub mod NumberLemmas
-pub mod AnswerLemmas
+pub mod SoundLemmas
+pub mod OnceLemmas
+pub mod ToldLemmas
+pub mod FreeLemmas

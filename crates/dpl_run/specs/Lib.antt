@@ -1,4 +1,4 @@
-pub mod Words
 pub mod Lines
 pub mod Answer
 pub mod Telling
+pub mod Errors

@@ -1,20 +1,21 @@
 -- How a run of the program ends: its exit status and its lines.
-use Rattle.std.specs.Prelude.{ℕ, List, [], ◌++◌, flat_map, codes, decimal}
+use Rattle.std.specs.Prelude.{ℕ, List, [], ◌++◌, codes, decimal}
+use Rattle.std.specs.Fmt.{signed_decimal}
 use Rattle.dpl_rules.specs.declared.what.What.{What}
 use Rattle.dpl_rules.specs.declared.what.What.TheVariants as what
 use Rattle.dpl_run.specs.declared.status.Status.{Status}
-use Rattle.dpl_run.specs.declared.status.Status.TheVariants.{Done, Usage, Limit, Layout, Odd, ReadFault, WriteFault, NoMemory}
+use Rattle.dpl_run.specs.declared.status.Status.TheVariants.{Done, Rejected, Usage, Limit, Layout, ReadFault, WriteFault, NoMemory}
 
 -- the exit status
 abbrev pub code_of : Status → ℕ
 code_of Done = 0
+code_of (Rejected reason place found wanted) = 1
 code_of (Usage kind) = 2
+code_of (Layout command what) = 3
 code_of (Limit kind count) = 4
 code_of ReadFault = 5
 code_of WriteFault = 6
 code_of NoMemory = 7
-code_of (Layout command what) = 3
-code_of Odd = 23
 
 -- the number of a rule of the layout
 abbrev pub what_number : What → ℕ
@@ -36,14 +37,18 @@ what_number what.NoEnd = 14
 -- the line on the error output
 abbrev pub line_of : Status → List ℕ
 line_of Done = []
+line_of (Rejected reason place found wanted) = codes "dpl: rejected " ++ decimal reason ++ codes " place " ++ decimal place ++ codes " found " ++ signed_decimal found ++ codes " wanted " ++ signed_decimal wanted ++ codes "\n"
 line_of (Usage kind) = codes "dpl: usage " ++ decimal kind ++ codes "\n"
-line_of (Limit kind count) = codes "dpl: limit " ++ decimal kind ++ codes " count " ++ decimal count ++ codes "\n"
 line_of (Layout command rule) = codes "dpl: layout " ++ decimal (what_number rule) ++ codes " at command " ++ decimal command ++ codes "\n"
-line_of Odd = codes "dpl: odd\n"
+line_of (Limit kind count) = codes "dpl: limit " ++ decimal kind ++ codes " count " ++ decimal count ++ codes "\n"
 line_of ReadFault = codes "dpl: read fault\n"
 line_of WriteFault = codes "dpl: write fault\n"
 line_of NoMemory = codes "dpl: no memory\n"
 
--- the line on the standard output that tells an odd loop
-abbrev pub odd_line : List ℕ → List ℕ
-odd_line boxes = codes "odd" ++ flat_map (λ n. codes " " ++ decimal n) boxes ++ codes "\n"
+-- what `check` writes of a good report
+abbrev pub yes_line : ℕ → ℕ → List ℕ
+yes_line cost bound = codes "yes cost " ++ decimal cost ++ codes " bound " ++ decimal bound ++ codes "\n"
+
+-- what `load` writes of a made layout
+abbrev pub load_line : ℕ → ℕ → ℕ → ℕ → ℕ → List ℕ
+load_line fragments edges cost bound aside = codes "fragments " ++ decimal fragments ++ codes " edges " ++ decimal edges ++ codes " cost " ++ decimal cost ++ codes " bound " ++ decimal bound ++ codes " aside " ++ decimal aside ++ codes "\n"

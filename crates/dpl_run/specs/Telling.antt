@@ -1,9 +1,22 @@
--- What writing an output and giving its status answers.
-use Rattle.std.specs.Prelude.{◌≡◌, ◌≢◌, ◌⊎◌, ℕ, List, [], Option}
+-- What is due or free, and what writing it answers.
+use Rattle.std.specs.Prelude.{◌≡◌, ◌≢◌, ◌⊎◌, ◌+◌, ◌<◌, ⊤, ℕ, List, [], length, Option, Some, IfSome}
 use Rattle.std.specs.Io.KnownBytes.{Appends}
-use Rattle.dpl_ext.specs.Device.{AppendsFront, Rose}
+use Rattle.dpl_ext.specs.Device.{AppendsFront, Rose, RoseBy, Seen, Texts, first_text}
 use Rattle.dpl_run.specs.declared.status.Status.{Status}
-use Rattle.dpl_run.specs.declared.status.Status.TheVariants.{WriteFault}
+use Rattle.dpl_run.specs.declared.status.Status.TheVariants.{Done, Rejected, Usage, Layout, Limit, ReadFault, WriteFault, NoMemory}
+
+-- a failed read and want of memory come before anything is written; all else is due
+abbrev pub IsDueOrFree : (Status → List ℕ → Type 0) → Status → List ℕ → Type 0
+IsDueOrFree Due ReadFault output = output ≡ []
+IsDueOrFree Due NoMemory output = output ≡ []
+IsDueOrFree Due status output = Due status output
+
+-- why a text was not read whole: the source failed, or gave one byte more than the limit, or memory was wanting
+abbrev pub StopsReading : Seen → Seen → ℕ → ℕ → Status → Type 0
+StopsReading before now kind most (Limit k count) = (k ≡ kind) × (count ≡ most + 1) × RoseBy (most + 1) before.given now.given × IfSome before.left (λ xs. most < length xs)
+StopsReading before now kind most ReadFault = Rose before.faults now.faults
+StopsReading before now kind most NoMemory = ⊤
+StopsReading before now kind most status = ⊥
 
 -- the whole output was taken and the status is given
 pub record IsWhole (status : Status) (output : List ℕ) (before now : Option (List ℕ)) (result : Status) : Type 0 where
@@ -19,3 +32,16 @@ pub record IsFault (output : List ℕ) (before now : Option (List ℕ)) (faults 
 
 abbrev pub IsTold : Status → List ℕ → Option (List ℕ) → Option (List ℕ) → ℕ → ℕ → Status → Type 0
 IsTold status output before now faults faults_now result = IsWhole status output before now result ⊎ IsFault output before now faults faults_now result
+
+-- no text was read here, so no read failed and no text is too long
+abbrev pub IsNoText : Status → Type 0
+IsNoText ReadFault = ⊥
+IsNoText (Limit kind count) = (kind ≢ 1) × (kind ≢ 9)
+IsNoText status = ⊤
+
+-- why the report of a name was not read whole: it could not be opened, or its reading stopped
+abbrev pub StopsReport : Seen → Seen → List ℕ → Option Texts → Status → Type 0
+StopsReport before now name texts (Limit k count) = (k ≡ 9) × (count ≡ 268435457) × RoseBy 268435457 before.given now.given × ((ts : Texts) → texts ≡ Some ts → (report : List ℕ) → first_text name ts ≡ Some report → 268435456 < length report)
+StopsReport before now name texts ReadFault = Rose before.faults now.faults
+StopsReport before now name texts NoMemory = ⊤
+StopsReport before now name texts status = ⊥

@@ -1,19 +1,22 @@
 //! The program over words and devices.
 //!
-//! `run` splits the layout that its words and its source give, and says what was answered and written for each
-//! list of words and each layout. `parse_words` reads the words, and `Status` is how a run ends: its exit status
-//! and its line on the error output.
+//! `run` splits a layout, checks a report against one, or splits a made layout, as its words ask, and says for all
+//! words and devices what was answered, written, read and asked. A split that is done writes the text of a report
+//! whose masks together are the layer, overlap exactly at the listed stitches and break the spacing only at the listed
+//! clashes; its cost exceeds half its bound by exactly what is broken of the edges set aside.
+//! `Status` is how a run ends: its exit status and its line on the error output.
 #![tactic(auto)]
 
+mod commands;
+mod due;
 mod line;
-mod odd_text;
+mod lines;
 mod running;
 mod status;
-mod words;
+mod texts;
 
 pub use running::run;
 pub use status::Status;
-pub use words::{Asked, parse_words};
 
 #[cfg(test)]
 mod tests;

@@ -1,5 +1,6 @@
 // The line on the error output.
 ghost use Rattle.std.specs.Prelude.{◌≡◌, ◌+◌, ◌≤◌, ℕ, List, [], ◌++◌, length, decimal};
+ghost use Rattle.std.specs.Fmt.{signed_decimal};
 ghost use Rattle.dpl_run.specs.Lines.{line_of, what_number};
 
 use crate::status::Status;
@@ -10,7 +11,7 @@ use std::marker::Model;
 /// A short text in a fixed array.
 #[derive(Drop)]
 pub struct Line {
-    bytes: [u8; 128],
+    bytes: [u8; 256],
     count: usize,
 }
 
@@ -21,7 +22,7 @@ impl Model for Line {
 
     ghost view = { λ s. take s.count s.bytes };
 
-    ghost invariant = { λ s. s.count ≤ 128 };
+    ghost invariant = { λ s. s.count ≤ 256 };
 }
 
 impl Line {
@@ -29,13 +30,13 @@ impl Line {
         ensures { result ≡ [] }
     {
         Line {
-            bytes: [0; 128],
+            bytes: [0; 256],
             count: 0,
         }
     }
 
     pub fn push(&mut self, piece: &[u8])
-        requires { length self.old + length piece.now ≤ 128 }
+        requires { length self.old + length piece.now ≤ 256 }
         ensures { self.new ≡ self.old ++ piece.now }
     {
         let end = self.count + piece.len();
@@ -57,6 +58,22 @@ pub fn status_line(status: Status) -> Line
     let mut line = Line::new();
     match status {
         Status::Done => {}
+        Status::Rejected {
+            reason,
+            place,
+            found,
+            wanted,
+        } => {
+            line.push(b"dpl: rejected ");
+            push_number(&mut line, u64::from(reason));
+            line.push(b" place ");
+            push_number(&mut line, place);
+            line.push(b" found ");
+            push_signed(&mut line, found);
+            line.push(b" wanted ");
+            push_signed(&mut line, wanted);
+            line.push(b"\n");
+        }
         Status::Usage(kind) => {
             line.push(b"dpl: usage ");
             push_number(&mut line, u64::from(kind));
@@ -76,7 +93,6 @@ pub fn status_line(status: Status) -> Line
             push_number(&mut line, count);
             line.push(b"\n");
         }
-        Status::Odd => line.push(b"dpl: odd\n"),
         Status::ReadFault => line.push(b"dpl: read fault\n"),
         Status::WriteFault => line.push(b"dpl: write fault\n"),
         Status::NoMemory => line.push(b"dpl: no memory\n"),
@@ -85,8 +101,17 @@ pub fn status_line(status: Status) -> Line
 }
 
 fn push_number(line: &mut Line, number: u64)
-    requires { length line.old + 40 ≤ 128 }
+    requires { length line.old + 40 ≤ 256 }
     ensures text { line.new ≡ line.old ++ decimal number }
+    ensures short { length line.new ≤ length line.old + 40 }
+{
+    let mut buffer = Buffer::new();
+    line.push(buffer.format(number).as_bytes());
+}
+
+fn push_signed(line: &mut Line, number: i64)
+    requires { length line.old + 40 ≤ 256 }
+    ensures text { line.new ≡ line.old ++ signed_decimal number }
     ensures short { length line.new ≤ length line.old + 40 }
 {
     let mut buffer = Buffer::new();

@@ -1,6 +1,5 @@
 use crate::{Status, run};
-use dpl_cif::What;
-use dpl_ext::{MemSink, MemSource};
+use dpl_ext::{MemShelf, MemSink, MemSource};
 use std::alloc::Global;
 use std::test::Fail;
 
@@ -11,30 +10,61 @@ struct Ended {
     err: MemSink,
 }
 
-/// Runs `split M 100` on a layout, with the numbers of the reads and of the writes that fail.
-fn split_m_100(
-    alloc: Global,
-    layout: &[u8],
-    read_fails: Vec<u64>,
-    write_fails: Vec<u64>,
-) -> Result<Ended, Fail> {
+/// Devices in memory: the layout, the report under the name `r`, and the numbers of the calls that fail.
+#[derive(Drop)]
+struct World {
+    layout: Vec<u8>,
+    report: Vec<u8>,
+    reads: Vec<u64>,
+    opens: Vec<u64>,
+    writes: Vec<u64>,
+}
+
+fn world(alloc: Global, layout: &[u8], report: &[u8]) -> Result<World, Fail> {
+    Ok(World {
+        layout: Vec::from_slice(alloc, layout)?,
+        report: Vec::from_slice(alloc, report)?,
+        reads: Vec::new(alloc),
+        opens: Vec::new(alloc),
+        writes: Vec::new(alloc),
+    })
+}
+
+/// Runs a command line over devices in memory.
+fn ended(alloc: Global, line: &str, world: World) -> Result<Ended, Fail> {
     let mut words = Vec::new(alloc);
-    for word in ["split", "M", "100"] {
+    for word in line.split_whitespace() {
         words.push(String::from_str(alloc, word)?)?;
     }
-    let mut source = MemSource::new(Vec::from_slice(alloc, layout)?, 10, read_fails);
-    let mut out = MemSink::new(alloc, 1000, 40, write_fails)?;
+    let mut files = Vec::new(alloc);
+    files.push((String::from_str(alloc, "r")?, world.report))?;
+    let mut layout = MemSource::new(world.layout, 10, world.reads);
+    let mut second = MemShelf::new(alloc, files, 100, world.opens);
+    let mut out = MemSink::new(alloc, 10_000, 40, world.writes)?;
     let mut err = MemSink::new(alloc, 1000, 40, Vec::new(alloc))?;
-    let status = run(alloc, words.as_slice(), &mut source, &mut out, &mut err);
+    let status = run(
+        alloc,
+        words.as_slice(),
+        &mut layout,
+        &mut second,
+        &mut out,
+        &mut err,
+    );
     Ok(Ended { status, out, err })
 }
 
-const NOTHING: &[u8] = b"(dpl 0);\nDS 1 1 4;\nL MA;\nL MB;\nDF;\nC 1;\nE\n";
+const SPLIT: &str = "split --layer M --space 100 --overlap 20";
+
+const CHECK: &str = "check --layer M --space 100 --overlap 20 --report r";
+
+const TRIANGLE: &[u8] = b"L M; B 100 100 50 50; B 100 100 200 50; B 100 100 125 200; E";
+
+const NOTHING: &[u8] =
+    b"(dpl 1);\n(layer M);\n(space 100);\n(overlap 20);\n(stitch 1);\n(conflict 10);\n(pieces 0);\n(fragments 0);\n(bonds 0);\n(stitches 0);\n(clashes 0);\n(excess 0);\n(cost 0);\n(bound 0);\n(masks );\nDS 1 1 4;\nL MA;\nL MB;\nDF;\nC 1;\nE\n";
 
 #[test]
 fn nothing_on_two_masks(rt: HostRuntime) -> Result<(), Fail> {
-    let none = Vec::new(rt.alloc());
-    let ended = split_m_100(rt.alloc(), b"E", none, Vec::new(rt.alloc()))?;
+    let ended = ended(rt.alloc(), SPLIT, world(rt.alloc(), b"E", b"")?)?;
     assert_eq!(rt; ended.status, Status::Done);
     assert_eq!(rt; ended.out.bytes(), NOTHING);
     assert_eq!(rt; ended.err.bytes().len(), 0);
@@ -42,167 +72,84 @@ fn nothing_on_two_masks(rt: HostRuntime) -> Result<(), Fail> {
 }
 
 #[test]
-fn worked_layouts(rt: HostRuntime) -> Result<(), Fail> {
-    for (layout, want) in [
-        ("L M; B 100 100 50 50; B 100 100 250 50; E", Status::Done),
-        ("L M; B 100 100 50 50; B 100 100 210 230; E", Status::Done),
-        ("L M; B 100 100 50 50; B 100 100 150 150; E", Status::Done),
-        (
-            "L M; B 100 100 50 50; B 100 100 200 50; B 100 100 125 200; E",
-            Status::Odd,
-        ),
-        ("L M; B 10 10 5 5; B 10 10 15 5; E", Status::Done),
-        ("L M; P 0 0 10 0 10 10 0 10; E", Status::Done),
-        (
-            "L M; P 0 0 5 0 5 5; E",
-            Status::Layout {
-                command: 2,
-                what: What::Slant,
-            },
-        ),
-        (
-            "L M; B 10 10 0 0",
-            Status::Layout {
-                command: 2,
-                what: What::NoEnd,
-            },
-        ),
-    ] {
-        let none = Vec::new(rt.alloc());
-        let ended = split_m_100(rt.alloc(), layout.as_bytes(), none, Vec::new(rt.alloc()))?;
-        assert_eq!(rt; ended.status, want, "{layout}");
-    }
-    Ok(())
-}
-
-/// Runs `split M 100` on a layout with no fault of a device.
-fn masks_of(alloc: Global, layout: &[u8]) -> Result<Ended, Fail> {
-    split_m_100(alloc, layout, Vec::new(alloc), Vec::new(alloc))
-}
-
-#[test]
-fn corner_contact(rt: HostRuntime) -> Result<(), Fail> {
-    let ended = masks_of(rt.alloc(), b"L M; B 100 100 50 50; B 100 100 150 150; E")?;
-    let want =
-        b"(dpl 0);\nDS 1 1 4;\nL MA;\nB 400 400 200 200;\nL MB;\nB 400 400 600 600;\nDF;\nC 1;\nE\n";
-    assert_eq!(rt; ended.out.bytes(), want.as_slice());
-    Ok(())
-}
-
-#[test]
-fn a_t(rt: HostRuntime) -> Result<(), Fail> {
-    let ended = masks_of(rt.alloc(), b"L M; B 300 100 150 50; B 100 300 150 150; E")?;
-    let want =
-        b"(dpl 0);\nDS 1 1 4;\nL MA;\nB 1200 400 600 200;\nB 400 800 600 800;\nL MB;\nDF;\nC 1;\nE\n";
-    assert_eq!(rt; ended.out.bytes(), want.as_slice());
-    Ok(())
-}
-
-#[test]
-fn a_ring_around_a_box(rt: HostRuntime) -> Result<(), Fail> {
-    let layout =
-        b"L M; P 0 0 1000 0 1000 1000 0 1000 0 300 300 300 300 700 700 700 700 300 0 300; B 300 300 500 500; E";
-    let ended = masks_of(rt.alloc(), layout.as_slice())?;
-    let want =
-        b"(dpl 0);\nDS 1 1 4;\nL MA;\nB 4000 1200 2000 600;\nB 1200 1600 600 2000;\nB 1200 1600 3400 2000;\nB 4000 1200 2000 3400;\nL MB;\nB 1200 1200 2000 2000;\nDF;\nC 1;\nE\n";
-    assert_eq!(rt; ended.out.bytes(), want.as_slice());
-    Ok(())
-}
-
-#[test]
-fn the_order_of_transformations(rt: HostRuntime) -> Result<(), Fail> {
-    let layout = b"DS 1; L M; P 0 0 30 0 30 10 10 10 10 40 0 40; DF; C 1 M X R 0 1 T 10 20; E";
-    let ended = masks_of(rt.alloc(), layout.as_slice())?;
-    let want =
-        b"(dpl 0);\nDS 1 1 4;\nL MA;\nB 40 80 20 0;\nB 160 40 -40 60;\nL MB;\nDF;\nC 1;\nE\n";
-    assert_eq!(rt; ended.out.bytes(), want.as_slice());
-    Ok(())
-}
-
-#[test]
-fn the_odd_triangle(rt: HostRuntime) -> Result<(), Fail> {
-    let layout = b"L M; B 100 100 50 50; B 100 100 200 50; B 100 100 125 200; E";
-    let none = Vec::new(rt.alloc());
-    let ended = split_m_100(rt.alloc(), layout, none, Vec::new(rt.alloc()))?;
-    assert_eq!(rt; ended.status, Status::Odd);
-    assert_eq!(rt; ended.err.bytes(), b"dpl: odd\n".as_slice());
-    let told = ended.out.bytes();
-    assert_eq!(rt; told.len(), 10);
-    for box_number in [b'0', b'1', b'2'] {
-        assert!(rt; told.contains(&box_number));
-    }
-    Ok(())
-}
-
-#[test]
-fn a_failing_read(rt: HostRuntime) -> Result<(), Fail> {
-    let fails = vec![in rt.alloc(); 1u64]?;
-    let layout = b"L M; B 100 100 50 50; B 100 100 200 50; E";
-    let ended = split_m_100(rt.alloc(), layout, fails, Vec::new(rt.alloc()))?;
-    assert_eq!(rt; ended.status, Status::ReadFault);
-    assert_eq!(rt; ended.out.bytes().len(), 0);
-    assert_eq!(rt; ended.err.bytes(), b"dpl: read fault\n".as_slice());
-    Ok(())
-}
-
-#[test]
-fn a_failing_write(rt: HostRuntime) -> Result<(), Fail> {
-    let fails = vec![in rt.alloc(); 1u64]?;
-    let ended = split_m_100(rt.alloc(), b"E", Vec::new(rt.alloc()), fails)?;
-    assert_eq!(rt; ended.status, Status::WriteFault);
-    assert_eq!(rt; ended.out.bytes(), &NOTHING[..40]);
-    assert_eq!(rt; ended.err.bytes(), b"dpl: write fault\n".as_slice());
-    Ok(())
-}
-
-#[test]
-fn wrong_words(rt: HostRuntime) -> Result<(), Fail> {
-    let mut source = MemSource::new(Vec::from_slice(rt.alloc(), b"E")?, 10, Vec::new(rt.alloc()));
-    let mut out = MemSink::new(rt.alloc(), 100, 40, Vec::new(rt.alloc()))?;
-    let mut err = MemSink::new(rt.alloc(), 100, 40, Vec::new(rt.alloc()))?;
-    let words = Vec::new(rt.alloc());
-    let status = run(
-        rt.alloc(),
-        words.as_slice(),
-        &mut source,
-        &mut out,
-        &mut err,
-    );
-    assert_eq!(rt; status, Status::Usage(1));
-    assert_eq!(rt; err.bytes(), b"dpl: usage 1\n".as_slice());
-    Ok(())
-}
-
-#[test]
 fn statuses_and_lines(rt: HostRuntime) -> Result<(), Fail> {
-    for (layout, code, line) in [
-        ("E", 0u8, ""),
-        ("L M; Q 1; E", 3, "dpl: layout 1 at command 2\n"),
-        ("L M; B 10 10 0 0", 3, "dpl: layout 14 at command 2\n"),
+    for (line, layout, code, told) in [
+        ("", "E", 2u8, "dpl: usage 1\n"),
+        ("split --space 0 --overlap 20", "E", 2, "dpl: usage 2\n"),
         (
+            "split --layer m --space 1 --overlap 20",
+            "E",
+            2,
+            "dpl: usage 3\n",
+        ),
+        (SPLIT, "L M; Q 1; E", 3, "dpl: layout 1 at command 2\n"),
+        (CHECK, "L M; B 1 1 0 0", 3, "dpl: layout 14 at command 3\n"),
+        (
+            SPLIT,
             "L M; B 2 2 536870912 0; E",
             4,
             "dpl: limit 4 count 1073741826\n",
         ),
-        (
-            "L M; B 100 100 50 50; B 100 100 200 50; B 100 100 125 200; E",
-            23,
-            "dpl: odd\n",
-        ),
+        (CHECK, "E", 1, "dpl: rejected 1 place 1 found 0 wanted 0\n"),
     ] {
-        let ended = masks_of(rt.alloc(), layout.as_bytes())?;
+        let ended = ended(rt.alloc(), line, world(rt.alloc(), layout.as_bytes(), b"")?)?;
         assert_eq!(rt; ended.status.code(), code, "{layout}");
-        assert_eq!(rt; ended.err.bytes(), line.as_bytes(), "{layout}");
+        assert_eq!(rt; ended.err.bytes(), told.as_bytes(), "{layout}");
+        assert_eq!(rt; ended.out.bytes().len(), 0);
     }
     Ok(())
 }
 
-/// At a gap of exactly the spacing both boxes stand on mask A.
+/// The split of the odd triangle is read again, costs one conflict, and shows twice that by its cycles.
 #[test]
-fn the_boundary_of_the_spacing(rt: HostRuntime) -> Result<(), Fail> {
-    let ended = masks_of(rt.alloc(), b"L M; B 100 100 50 50; B 100 100 250 50; E")?;
-    let want =
-        b"(dpl 0);\nDS 1 1 4;\nL MA;\nB 400 400 200 200;\nB 400 400 1000 200;\nL MB;\nDF;\nC 1;\nE\n";
+fn the_odd_triangle_and_its_check(rt: HostRuntime) -> Result<(), Fail> {
+    let made = ended(rt.alloc(), SPLIT, world(rt.alloc(), TRIANGLE, b"")?)?;
+    assert_eq!(rt; made.status, Status::Done);
+    let read = ended(
+        rt.alloc(),
+        CHECK,
+        world(rt.alloc(), TRIANGLE, made.out.bytes())?,
+    )?;
+    assert_eq!(rt; read.status, Status::Done);
+    assert_eq!(rt; read.out.bytes(), b"yes cost 10 bound 20\n".as_slice());
+    let other = ended(rt.alloc(), CHECK, world(rt.alloc(), TRIANGLE, NOTHING)?)?;
+    assert_eq!(rt; other.status.code(), 1u8);
+    assert_eq!(rt;
+        other.err.bytes(),
+        b"dpl: rejected 3 place 7 found 0 wanted 3\n".as_slice()
+    );
+    Ok(())
+}
+
+#[test]
+fn a_made_layout(rt: HostRuntime) -> Result<(), Fail> {
+    let ended = ended(
+        rt.alloc(),
+        "load --start 7 --rows 1 --columns 1",
+        world(rt.alloc(), b"", b"")?,
+    )?;
+    assert_eq!(rt; ended.status, Status::Done);
+    let want = b"fragments 1 edges 0 cost 0 bound 0 aside 0\n";
     assert_eq!(rt; ended.out.bytes(), want.as_slice());
+    Ok(())
+}
+
+#[test]
+fn failing_devices(rt: HostRuntime) -> Result<(), Fail> {
+    let mut given = world(rt.alloc(), b"L M; B 1 1 0 0; E", b"")?;
+    given.reads.push(1)?;
+    let read = ended(rt.alloc(), SPLIT, given)?;
+    assert_eq!(rt; read.status, Status::ReadFault);
+    assert_eq!(rt; read.out.bytes().len(), 0);
+    let mut given = world(rt.alloc(), b"E", b"")?;
+    given.opens.push(0)?;
+    let opened = ended(rt.alloc(), CHECK, given)?;
+    assert_eq!(rt; opened.status, Status::ReadFault);
+    let mut given = world(rt.alloc(), b"E", b"")?;
+    given.writes.push(1)?;
+    let written = ended(rt.alloc(), SPLIT, given)?;
+    assert_eq!(rt; written.status, Status::WriteFault);
+    assert_eq!(rt; written.out.bytes(), &NOTHING[..40]);
+    assert_eq!(rt; written.err.bytes(), b"dpl: write fault\n".as_slice());
     Ok(())
 }

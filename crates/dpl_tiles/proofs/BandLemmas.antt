@@ -15,7 +15,8 @@ use Rattle.dpl_cell.specs.Tiles.{IsRun}
 use Rattle.dpl_tiles.specs.Stretches.{Ascends}
 use Rattle.dpl_tiles.specs.Bands.{HasCorners, HasOrdinates}
 use Rattle.dpl_tiles.specs.Sweeps.{AreSwept}
-use Rattle.dpl_tiles.proofs.Signed.{signed, equal_z}
+use Rattle.dpl_cell.proofs.BoxLemmas.{equal_z}
+use Rattle.dpl_tiles.proofs.Signed.{signed}
 use Rattle.dpl_tiles.proofs.OutlineLemmas.{AllRows, Agrees, Lies, layer_same, no_row, at_most, above}
 use Rattle.dpl_tiles.proofs.BoundLemmas.{bounded}
 use Rattle.dpl_tiles.proofs.EndLemmas.{IsTop, no_run}

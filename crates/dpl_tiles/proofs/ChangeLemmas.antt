@@ -14,7 +14,8 @@ use Rattle.dpl_cell.specs.Layers.{is_cell, is_in_outline}
 use Rattle.dpl_tiles.specs.Windows.{IsOutside, IsChange, HasCornerAt}
 use Rattle.dpl_tiles.specs.declared.reaches.Reach.{Reach}
 use Rattle.dpl_tiles.specs.Reaches.{SpansColumns, LiesIn, IsReached}
-use Rattle.dpl_tiles.proofs.Signed.{signed, equal_z}
+use Rattle.dpl_cell.proofs.BoxLemmas.{equal_z}
+use Rattle.dpl_tiles.proofs.Signed.{signed}
 use Rattle.dpl_tiles.proofs.OutlineLemmas.{AllRows, AllColumns, Agrees, Lies, outline_same, outline_past, at_most, above}
 
 -- an ordinate that is not z lies on one side of row z and of the row below it

@@ -13,7 +13,7 @@ use Rattle.dpl_tiles.specs.Stacks.{goes_on, ending, AreAllTiles, IsPieceAt, IsPl
 use Rattle.dpl_tiles.specs.Sweeps.{AreSwept, IsStep, HoldsRun}
 use Rattle.dpl_tiles.specs.Windows.{AddsClosed, IsClosed, IsFar}
 use Rattle.dpl_tiles.proofs.Signed.{signed}
-use Rattle.dpl_tiles.proofs.Zip.{zip_kept, zip_left_out, zip_all_kept}
+use Rattle.dpl_list.proofs.Zips.{zip_kept, zip_left_out, zip_all_kept}
 use Rattle.dpl_tiles.proofs.StackLemmas.{goes_on_none, goes_on_some}
 use Rattle.dpl_tiles.proofs.BoundLemmas.{IsBounded}
 use Rattle.dpl_tiles.proofs.SweepLemmas.{swept_more}

@@ -4,9 +4,7 @@ pub mod RunLemmas
 pub mod SideLemmas
 pub mod PairLemmas
 pub mod OrdinateLemmas
-pub mod Zip
 pub mod FindLemmas
-pub mod Lists
 pub mod OutlineLemmas
 pub mod ReachLemmas
 pub mod StackLemmas

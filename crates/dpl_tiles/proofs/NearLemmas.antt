@@ -12,9 +12,10 @@ use Rattle.dpl_tiles.specs.declared.stretch.Stretch.{Stretch}
 use Rattle.dpl_tiles.specs.Stretches.{is_in_stretches, AreSeparate, IsRow}
 use Rattle.dpl_tiles.specs.Bands.{HasColumns, IsLeftOf, IsOver}
 use Rattle.dpl_tiles.specs.Windows.{IsFar, AreNearRuns, is_near}
-use Rattle.dpl_tiles.proofs.Signed.{signed, is_true, true_is}
-use Rattle.dpl_tiles.proofs.Zip.{zip_at, zip_length}
-use Rattle.dpl_tiles.proofs.Lists.{kept_by}
+use Rattle.dpl_cell.proofs.BoxLemmas.{is_true, true_is}
+use Rattle.dpl_tiles.proofs.Signed.{signed}
+use Rattle.dpl_list.proofs.Zips.{zip_at, zip_length}
+use Rattle.dpl_list.proofs.Lists.{kept_by}
 use Rattle.dpl_tiles.proofs.BoundLemmas.{IsBounded}
 use Rattle.dpl_tiles.proofs.UnionLemmas.{cell_run}
 use Rattle.dpl_tiles.proofs.RunLemmas.{run_from_row, row_has_run}

@@ -8,7 +8,8 @@ use Rattle.dpl_cell.specs.Layers.{is_within}
 use Rattle.dpl_tiles.specs.declared.stretch.Stretch.{Stretch}
 use Rattle.dpl_tiles.specs.Stretches.{is_in_stretches, Ascends, AddsPlaces}
 use Rattle.dpl_tiles.specs.Sides.{at_or_left}
-use Rattle.dpl_tiles.proofs.Signed.{signed, or_false, or_assoc, within_none}
+use Rattle.std.proofs.Math.Bool.{or-false}
+use Rattle.dpl_tiles.proofs.Signed.{signed, or_assoc, within_none}
 use Rattle.dpl_tiles.proofs.StretchLemmas.{in_pushed}
 use Rattle.dpl_tiles.proofs.SideLemmas.{bit, left_cons}
 
@@ -78,7 +79,7 @@ pairing_skip old sides parts rest others a b p e f =
 pub pairing_end : (old : List Stretch) (sides : List ℤ) (parts : List Stretch) (rest : List ℤ) → Pairing old sides parts rest → rest ≡ [] → AddsPlaces (λ x. at_or_left x sides % 2 == 1) old parts
 pairing_end old sides parts rest p e = λ x.
     let q : (is_in_stretches parts x || (at_or_left x [] % 2 == 1)) ≡ (is_in_stretches old x || (at_or_left x sides % 2 == 1)) = rw e at (p.same x) in
-    sym (or_false _) ∙ q
+    sym (or-false _) ∙ q
 
 pub pair_front : (rest : List ℤ) → 2 ≤ length rest → rest ≡ get_or rest 0 (pos 0) ∷ get_or rest 1 (pos 0) ∷ take (length rest - 2) (drop 2 rest)
 pair_front [] h = absurd (omega arith)

@@ -3,6 +3,7 @@ use Rattle.std.proofs.Common.{arith, ◌≡◌, ◌⊎◌, ℕ, ◌+◌, ◌<◌
 use Rattle.std.proofs.lemmas.Bool.{cases_lt}
 use Rattle.std.proofs.lemmas.List.{get_or_default}
 use Rattle.std.proofs.lemmas.List.Folds.{Any-from_list_any}
+use Rattle.std.proofs.lemmas.Bool.{or_cases, or_right}
 use Rattle.dpl_cell.specs.declared.layout.Primitive.{Primitive}
 use Rattle.dpl_cell.specs.Outlines.{outline_of}
 use Rattle.dpl_cell.specs.Layers.{is_cell, is_in_outline}
@@ -15,7 +16,7 @@ use Rattle.dpl_tiles.proofs.Signed.{signed}
 use Rattle.dpl_tiles.proofs.OutlineLemmas.{outline_past}
 use Rattle.dpl_tiles.proofs.StretchLemmas.{in_parts}
 use Rattle.dpl_tiles.proofs.ChangeLemmas.{columns_past}
-use Rattle.dpl_tiles.proofs.ReachLemmas.{no_cell_there, either_true, second_true, held}
+use Rattle.dpl_tiles.proofs.ReachLemmas.{no_cell_there, held}
 
 -- the parts hold cells of the row alone, and those of the primitives of the first reaches in the columns of the window and right beside it
 pub record WalkedWithin (prims : List Primitive) (y a b : ℤ) (reaches : List Reach) (at : ℕ) (parts : List Stretch) : Type 0 where
@@ -28,10 +29,10 @@ within_begins prims y a b reaches = record { sound = λ x h. absurd (cc); full =
 pub within_on : (prims : List Primitive) (y a b : ℤ) (reaches : List Reach) (at : ℕ) (old new : List Stretch) (reach : Reach) (p : Primitive) → ((d : Reach) → get_or reaches at d ≡ reach) → reach.number < length prims → p ≡ get_or prims reach.number p
     → ((x : ℤ) → is_in_stretches new x ≡ (is_in_stretches old x || is_in_outline x y (outline_of p))) → WalkedWithin prims y a b reaches at old → WalkedWithin prims y a b reaches (at + 1) new
 within_on prims y a b reaches at old new reach p is inside part adds w = record {
-  sound = λ x h. elim (either_true _ _ (sym (adds x) ∙ h)) [ inl f ↦ w.sound x f | inr f ↦ held prims reach.number p x y inside part f ];
+  sound = λ x h. elim (or_cases _ _ (sym (adds x) ∙ h)) [ inl f ↦ w.sound x f | inr f ↦ held prims reach.number p x y inside part f ];
   full = λ x m d e low high l h t. elim (cases_lt m at) [
     | inl g ↦ adds x ∙ ap (λ b. b || is_in_outline x y (outline_of p)) (w.full x m d e low high g h t)
-    | inr g ↦ adds x ∙ second_true _ _ (here x m d e (omega arith) t)
+    | inr g ↦ adds x ∙ or_right _ _ (here x m d e (omega arith) t)
   ];
 } where
   here : (x : ℤ) (m : ℕ) (d : Reach) (e : Primitive) → m ≡ at → is_in_outline x y (outline_of (get_or prims (get_or reaches m d).number e)) ≡ true → is_in_outline x y (outline_of p) ≡ true

@@ -15,7 +15,7 @@ use Rattle.dpl_tiles.specs.Stacks.{ending}
 use Rattle.dpl_tiles.specs.Sweeps.{AreHeld, AreSwept}
 use Rattle.dpl_tiles.specs.Windows.{IsParted, IsChange, IsFar, IsWindow, AreNearRuns, IsContinued, AddsClosed}
 use Rattle.dpl_tiles.proofs.Signed.{signed}
-use Rattle.dpl_tiles.proofs.Lists.{some_of}
+use Rattle.dpl_list.proofs.Lists.{some_of}
 use Rattle.dpl_tiles.proofs.BoundLemmas.{bounded}
 use Rattle.dpl_tiles.proofs.StackLemmas.{AreAlike}
 use Rattle.dpl_tiles.proofs.WindowLemmas.{run_starts_inside, run_ends_inside}

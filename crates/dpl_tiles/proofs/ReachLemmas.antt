@@ -162,14 +162,6 @@ short_at prims reaches k reach x l is = let h = x.short k reach l in let e = ap 
 
 -- ---- a row walks over the reaches
 
-pub either_true : (a b : Bool) → (a || b) ≡ true → (a ≡ true) ⊎ (b ≡ true)
-either_true true b h = inl refl
-either_true false b h = inr h
-
-pub second_true : (a b : Bool) → b ≡ true → (a || b) ≡ true
-second_true true b h = refl
-second_true false b h = h
-
 pub held : (prims : List Primitive) (n : ℕ) (p : Primitive) (x y : ℤ) → n < length prims → p ≡ get_or prims n p → is_in_outline x y (outline_of p) ≡ true → is_cell (map outline_of prims) x y ≡ true
 held prims n p x y l is t = in_parts prims x y ∙ list_any_at (λ p. is_in_outline x y (outline_of p)) prims n p l (ap (λ (q : Primitive). is_in_outline x y (outline_of q)) (sym is) ∙ t)
 

@@ -13,8 +13,8 @@ use Rattle.dpl_tiles.specs.Stacks.{goes_on, ending}
 use Rattle.dpl_tiles.specs.Sweeps.{IsHeld, AreHeld, IsSameStack, IsNew, IsStep}
 use Rattle.dpl_tiles.specs.Windows.{IsChange, IsFar, AreNearRuns, IsContinued, IsClosed}
 use Rattle.dpl_tiles.proofs.Signed.{signed}
-use Rattle.dpl_tiles.proofs.Zip.{zip_at, zip_length}
-use Rattle.dpl_tiles.proofs.Lists.{any_left, any_right, all_pairs_append, kept_by}
+use Rattle.dpl_list.proofs.Zips.{zip_at, zip_length}
+use Rattle.dpl_list.proofs.Lists.{any_left, any_right, all_pairs_append, kept_by}
 use Rattle.dpl_tiles.proofs.StackLemmas.{goes_on_none, none_goes_on, one_place}
 use Rattle.dpl_tiles.proofs.WindowLemmas.{run_up, run_down}
 

@@ -20,13 +20,14 @@ use Rattle.dpl_cell.proofs.LayerLemmas.{list_any-map}
 use Rattle.dpl_cell.specs.Layers.{is_within, is_in_box, is_in_outline, is_cell}
 use Rattle.dpl_tiles.specs.declared.stretch.Stretch.{Stretch}
 use Rattle.dpl_tiles.specs.Stretches.{is_in_stretches, AreSeparate, Ascends, AddsPlaces}
-use Rattle.dpl_tiles.proofs.Signed.{signed, or_false, or_assoc}
+use Rattle.std.proofs.Math.Bool.{or-false}
+use Rattle.dpl_tiles.proofs.Signed.{signed, or_assoc}
 
 pub joined_places : (a b c d x : ℤ) → a ≤ℤ c → c ≤ℤ b → is_within a (int_max b d) x ≡ (is_within a b x || is_within c d x)
 joined_places a b c d x h g = grind (arith, ints, clamps)
 
 pub in_pushed : (parts : List Stretch) (s : Stretch) (x : ℤ) → is_in_stretches (parts ++ s ∷ []) x ≡ (is_in_stretches parts x || is_within s.from s.to x)
-in_pushed parts s x = list_any-append (λ s. is_within s.from s.to x) parts (s ∷ []) ∙ ap (λ b. is_in_stretches parts x || b) (or_false (is_within s.from s.to x))
+in_pushed parts s x = list_any-append (λ s. is_within s.from s.to x) parts (s ∷ []) ∙ ap (λ b. is_in_stretches parts x || b) (or-false (is_within s.from s.to x))
 
 pub box_in_row : (r : Corners) (x y : ℤ) → r.y1 ≤ℤ y → y <ℤ r.y2 → is_in_box r x y ≡ is_within r.x1 r.x2 x
 box_in_row r x y h g = grind (arith, ints)
@@ -55,7 +56,7 @@ merging_none first rest h = record {
   ahead = λ k d l m. h k d m;
   separate = λ i j d l m. absurd (omega arith);
   behind = λ k d l. absurd (omega arith);
-  same = λ x. sym (or_false _);
+  same = λ x. sym (or-false _);
 }
 
 pub merging_join : (first : Stretch) (rest : List Stretch) (i : ℕ) (merged : List Stretch) (last part next : Stretch) → Merging first rest i merged last → i < length rest → part ≡ get_or rest i part

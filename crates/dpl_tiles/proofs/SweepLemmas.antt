@@ -10,7 +10,7 @@ use Rattle.dpl_tiles.specs.Bands.{HasColumns}
 use Rattle.dpl_tiles.specs.Stacks.{IsPieceAt, EndsBefore, AreEnded}
 use Rattle.dpl_tiles.specs.Sweeps.{IsHeld, AreHeld, HoldsRun, AreSwept, IsSameStack, IsNew, IsStep}
 use Rattle.dpl_tiles.proofs.Signed.{signed}
-use Rattle.dpl_tiles.proofs.Lists.{any_left, any_right, all_pairs_append}
+use Rattle.dpl_list.proofs.Lists.{any_left, any_right, all_pairs_append}
 use Rattle.dpl_tiles.proofs.StackLemmas.{AreAlike, up, down, last_row}
 use Rattle.dpl_tiles.proofs.UnionLemmas.{run_or_not}
 

@@ -17,8 +17,9 @@ use Rattle.dpl_cell.specs.Cells.{IsWithin}
 use Rattle.dpl_cell.specs.Tiles.{IsRun, IsTile, IsBefore, AreTiles}
 use Rattle.dpl_tiles.specs.Stacks.{EndsBefore, AreEnded, AreAllTiles, IsNotAfter}
 use Rattle.dpl_tiles.specs.Counts.{HasMoreTiles}
-use Rattle.dpl_tiles.proofs.Signed.{signed, equal_z}
-use Rattle.dpl_tiles.proofs.Lists.{all_pairs_map, contains_map}
+use Rattle.dpl_cell.proofs.BoxLemmas.{equal_z}
+use Rattle.dpl_tiles.proofs.Signed.{signed}
+use Rattle.dpl_list.proofs.Lists.{all_pairs_map, contains_map, no_more}
 
 -- ---- when two tiles are the same
 
@@ -160,21 +161,6 @@ more_tiles cells z ended n a many = record {
 } where
   differ : (b c : Rect) → EndsBefore b c → ¬ (corners_of b ≡ corners_of c)
   differ b c h e = never_ends_before b c (ap (λ (r : Corners). r.x1) e) (ap (λ (r : Corners). r.y2) e) h
-
--- different items that are all in a list are no more than its items
-no_more : {X : Type 0} (xs ys : List X) → AllPairs (λ a b. ¬ (a ≡ b)) xs → All (Contains ys) xs → length xs ≤ length ys
-no_more [] ys up among = omega arith
-no_more {X} (x ∷ xs) ys up among =
-    let (k, l, e) = among 0 x (omega arith) in
-    let p : IsPermutation ys (x ∷ remove ys k) = IsPermutation-remove ys k x l (sym e) in
-    let n : length (x ∷ remove ys k) ≡ length ys = length_permutation ys (x ∷ remove ys k) p in
-    let h : length xs ≤ length (remove ys k) = no_more xs (remove ys k)
-    (λ i j d h m. up (suc i) (suc j) d (omega arith) (omega arith))
-    (λ i d m. rest (remove ys k) (get_or xs i d) (λ f. up 0 (suc i) d (omega arith) (omega arith) (sym f)) (Contains-permutation ys (x ∷ remove ys k) (get_or xs i d) p (among (suc i) d (omega arith)))) in
-    omega arith where
-      rest : (zs : List X) (y : X) → ¬ (y ≡ x) → Contains (x ∷ zs) y → Contains zs y
-      rest zs y n (zero, m, f) = absurd (n (sym f))
-      rest zs y n (suc k, m, f) = (k, omega arith, f)
 
 pub not_more : (cells : ℤ → ℤ → Bool) (tiles : List Corners) (n : ℕ) → AreTiles cells tiles → length tiles ≤ n → ¬ HasMoreTiles cells n
 not_more cells tiles n a few more =

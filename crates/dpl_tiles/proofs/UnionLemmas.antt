@@ -10,7 +10,9 @@ use Rattle.dpl_cell.specs.Outlines.{Box}
 use Rattle.dpl_cell.specs.Layers.{is_within, is_in_box, is_in_outline, is_cell}
 use Rattle.dpl_cell.specs.Tiles.{IsRun, IsTile, IsBefore, AreTiles}
 use Rattle.dpl_tiles.specs.Union.{SharesOut}
-use Rattle.dpl_tiles.proofs.Signed.{signed, is_true, true_is, within_test, test_within}
+use Rattle.std.specs.Cmp.{both_ways}
+use Rattle.dpl_cell.proofs.BoxLemmas.{is_true, true_is, drawn_any, any_drawn, never_before}
+use Rattle.dpl_tiles.proofs.Signed.{signed}
 use Rattle.dpl_tiles.proofs.TileLemmas.{one_tile, one_run}
 use Rattle.dpl_tiles.proofs.BoundLemmas.{IsBounded, around}
 
@@ -95,36 +97,9 @@ shared cells a b s t c =
     let (e, f) = one_run cells a.x1 a.x2 b.x1 b.x2 c.x c.y (s.rows c.y c.first.row) (t.rows c.y c.second.row) c.first.column c.second.column in
     one_tile cells a b c.y s t e f c.first.row c.second.row
 
-never_before : (a b : Corners) → a ≡ b → IsBefore a b → ⊥
-never_before a b e h = let h' : IsBefore b b = rw e at h in elim h' [ inl g ↦ omega signed | inr g ↦ omega signed ]
-
--- ---- drawn as boxes
-
-box_in : (r : Corners) (x y : ℤ) → IsIn r x y → is_in_box r x y ≡ true
-box_in r x y i = let e = within_test r.x1 r.x2 x i.column in let f = within_test r.y1 r.y2 y i.row in rw (e, f) refl
-
-both : (a b : Bool) → a && b ≡ true → (a ≡ true) × (b ≡ true)
-both true b e = (refl, e)
-both false b e = absurd (cc)
-
-in_box : (r : Corners) (x y : ℤ) → is_in_box r x y ≡ true → IsIn r x y
-in_box r x y e = let (f, g) = both (is_within r.x1 r.x2 x) (is_within r.y1 r.y2 y) e in record { column = test_within _ _ x f; row = test_within _ _ y g }
-
-pub drawn_any : (rects : List Corners) (x y : ℤ) → is_cell (map Box rects) x y ≡ true → Any (λ r. IsIn r x y) rects
-drawn_any rects x y t =
-    let (k, r, l, e, i) = Any-from_list_any (λ r. is_in_box r x y) rects (sym (list_any-map (is_in_outline x y) Box rects) ∙ t) in (k, r, l, e, in_box r x y i)
-
-pub any_drawn : (rects : List Corners) (x y : ℤ) → Any (λ r. IsIn r x y) rects → is_cell (map Box rects) x y ≡ true
-any_drawn rects x y (k, r, l, e, i) = list_any-map (is_in_outline x y) Box rects ∙ list_any-from_Any (λ r. is_in_box r x y) rects (k, r, l, e, box_in r x y i)
-
-same_tests : (a b : Bool) → (a ≡ true → b ≡ true) → (b ≡ true → a ≡ true) → a ≡ b
-same_tests true b f g = sym (f refl)
-same_tests false true f g = g refl
-same_tests false false f g = refl
-
 pub shares_out : (cells : ℤ → ℤ → Bool) (tiles : List Corners) → IsBounded cells → AreTiles cells tiles → SharesOut cells tiles
 shares_out cells tiles b a = record {
   union = λ x y. ((λ t. cell_held cells tiles b a x y t), (λ h. held_cell cells tiles a x y h));
   apart = λ i j d h l. λ c. never_before _ _ (shared cells _ _ (a.each i d (omega arith)) (a.each j d l) c) (a.ordered i j d h l);
-  drawn = λ x y. same_tests _ _ (λ t. true_is _ (held_cell cells tiles a x y (drawn_any tiles x y t))) (λ t. any_drawn tiles x y (cell_held cells tiles b a x y (is_true t)));
+  drawn = λ x y. both_ways _ _ (λ t. true_is _ (held_cell cells tiles a x y (drawn_any tiles x y t))) (λ t. any_drawn tiles x y (cell_held cells tiles b a x y (is_true t)));
 }

@@ -80,9 +80,6 @@ run_ends_inside cells z d1 d2 a b growing x1 x2 bound same o w run high some = b
 
 -- ---- the places of the stacks near the columns that change
 
-test_less : (a b : ℤ) → int_lt a b ≡ true → a <ℤ b
-test_less a b e = grind (arith, ints)
-
 less_test : (a b : ℤ) → a <ℤ b → int_lt a b ≡ true
 less_test a b h = grind (arith, ints)
 
@@ -90,7 +87,7 @@ pub not_less : (a b : ℤ) → int_lt a b ≡ false → b ≤ℤ a
 not_less a b e = grind (arith, ints)
 
 pub is_less : (a b : ℤ) → int_lt a b ≡ true → a <ℤ b
-is_less a b e = test_less a b e
+is_less a b e = grind (arith, ints)
 
 pub is_at_most : (a b : ℤ) → int_le a b ≡ true → a ≤ℤ b
 is_at_most a b e = grind (arith, ints)
@@ -107,7 +104,7 @@ parted_left held c up i j d le l e = elim (cases_lt i j) [
   | inr h ↦ let f : i ≡ j = omega arith in rw f e
 ] where
   step : (a b : Rect) → IsLeftOf a b → int_lt b.x2 c ≡ true → int_lt a.x2 c ≡ true
-  step a b h e = let w = b.wide in let g = test_less b.x2 c e in less_test a.x2 c (omega signed)
+  step a b h e = let w = b.wide in let g = is_less b.x2 c e in less_test a.x2 c (omega signed)
 
 pub parted_right : (held : List Rect) (c : ℤ) → AllPairs IsLeftOf held → IsPartitionedBy (λ r. int_le r.x1 c) held
 parted_right held c up i j d le l e = elim (cases_lt i j) [

@@ -36,15 +36,3 @@ pub record IsOver (low high : ℤ) (s : Stretch) (r : Rect) : Type 0 where
 -- the first lies left of the second, with a column between
 abbrev pub IsLeftOf : Rect → Rect → Type 0
 IsLeftOf p q = p.x2 <ℤ q.x1
-
--- a run of the lowest row, in all rows of the band
-pub record IsPiece (cells : ℤ → ℤ → Bool) (low high : ℤ) (p : Rect) : Type 0 where
-  pub bottom : p.y1 ≡ low
-  pub top : p.y2 ≡ high
-  pub run : IsRun cells p.x1 p.x2 low
-
--- the runs of a band from the left
-pub record ArePieces (cells : ℤ → ℤ → Bool) (low high : ℤ) (pieces : List Rect) : Type 0 where
-  pub each : All (IsPiece cells low high) pieces
-  pub all : (x1 x2 : ℤ) → IsRun cells x1 x2 low → Any (HasColumns x1 x2) pieces
-  pub ordered : AllPairs IsLeftOf pieces

@@ -13,18 +13,6 @@ pub record IsPieceAt (x1 x2 y : ℤ) (r : Rect) : Type 0 where
   pub columns : HasColumns x1 x2 r
   pub row : IsWithin r.y1 r.y2 y
 
--- a stack of runs that reaches row z, which is left out, and may go on
-pub record IsOpen (cells : ℤ → ℤ → Bool) (z : ℤ) (r : Rect) : Type 0 where
-  pub top : r.y2 ≡ z
-  pub rows : (y : ℤ) → IsWithin r.y1 r.y2 y → IsRun cells r.x1 r.x2 y
-  pub below : ¬ IsRun cells r.x1 r.x2 (r.y1 -ℤ pos 1)
-
--- the stacks that reach row z, from the left
-pub record AreOpen (cells : ℤ → ℤ → Bool) (z : ℤ) (rects : List Rect) : Type 0 where
-  pub each : All (IsOpen cells z) rects
-  pub all : (x1 x2 : ℤ) → IsRun cells x1 x2 (z -ℤ pos 1) → Any (HasColumns x1 x2) rects
-  pub ordered : AllPairs IsLeftOf rects
-
 -- the first ends below the second, or in the same row and further left
 abbrev pub EndsBefore : Rect → Rect → Type 0
 EndsBefore a b = (a.y2 <ℤ b.y2) ⊎ ((a.y2 ≡ b.y2) × (a.x1 <ℤ b.x1))
@@ -35,12 +23,6 @@ pub record AreEnded (cells : ℤ → ℤ → Bool) (z : ℤ) (rects : List Rect)
   pub below : All (λ r. r.y2 <ℤ z) rects
   pub ordered : AllPairs EndsBefore rects
 
--- all runs below row z lie in tiles that ended and stacks that reach it
-pub record AreStacked (cells : ℤ → ℤ → Bool) (z : ℤ) (ended growing : List Rect) : Type 0 where
-  pub done : AreEnded cells z ended
-  pub going : AreOpen cells z growing
-  pub whole : (x1 x2 y : ℤ) → y <ℤ z → IsRun cells x1 x2 y → Any (IsPieceAt x1 x2 y) ended ⊎ Any (IsPieceAt x1 x2 y) growing
-
 -- all tiles: they hold all runs, and each ends before the next
 pub record AreAllTiles (cells : ℤ → ℤ → Bool) (rects : List Rect) : Type 0 where
   pub each : All (λ r. IsTile cells (corners_of r)) rects
@@ -50,12 +32,6 @@ pub record AreAllTiles (cells : ℤ → ℤ → Bool) (rects : List Rect) : Type
 -- the second does not stand before the first: it is higher, or at one height and not further left
 abbrev pub IsNotAfter : Rect → Rect → Type 0
 IsNotAfter a b = (a.y1 <ℤ b.y1) ⊎ ((a.y1 ≡ b.y1) × (a.x1 ≤ℤ b.x1))
-
--- the rectangle is the piece, with the stack below it where there is one
-pub record IsGrown (growing : List Rect) (piece r : Rect) : Type 0 where
-  pub columns : HasColumns piece.x1 piece.x2 r
-  pub top : r.y2 ≡ piece.y2
-  pub bottom : Any (λ o. HasColumns piece.x1 piece.x2 o × (r.y1 ≡ o.y1)) growing ⊎ ((¬ Any (HasColumns piece.x1 piece.x2) growing) × (r.y1 ≡ piece.y1))
 
 -- a rectangle at the place of the list has these columns
 abbrev pub IsPlaceOf : List Rect → Rect → ℕ → Type 0

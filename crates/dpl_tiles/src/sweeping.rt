@@ -14,8 +14,8 @@ ghost use Rattle.dpl_tiles.specs.Stretches.{AreSeparate, is_in_stretches};
 ghost use Rattle.dpl_tiles.specs.Sweeps.{AreSwept};
 ghost use Rattle.dpl_tiles.specs.Windows.{AddsClosed, AreNearRuns, IsClosed, IsContinued, IsFar, IsParted, is_near};
 
-use crate::reaches::{Columns, Places, Reach, greater, lesser};
 use crate::corners::{Corner, change_at};
+use crate::reaches::{Columns, Places, Reach, greater, lesser};
 use crate::rows::{merged, push_prim, sort};
 use crate::stacking::find;
 use crate::stretch::Stretch;
@@ -42,7 +42,16 @@ pub fn step(
     requires alike { (x y : ℤ) → IsWithin low high y → is_cell (map outline_of prims.now) x low ≡ is_cell (map outline_of prims.now) x y }
     ensures { OnOk result (AreSwept (is_cell (map outline_of prims.now)) high ended.new.items held.new.items) }
 {
-    *held = stepped(alloc, ended, held.as_slice(), prims, reaches, corners, low, high)?;
+    *held = stepped(
+        alloc,
+        ended,
+        held.as_slice(),
+        prims,
+        reaches,
+        corners,
+        low,
+        high,
+    )?;
     Ok(())
 }
 

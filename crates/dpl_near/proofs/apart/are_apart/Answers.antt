@@ -1,6 +1,6 @@
 use Rattle.std.proofs.Common.{rules, IsTrue, false, refl}
 use Rattle.dpl_near.proofs.ApartLemmas.{below_more, all_apart, apart_at}
-use Rattle.dpl_near.proofs.JoinLemmas.{not_by_test}
+use Rattle.dpl_cell.proofs.BoxLemmas.{not_by_test}
 use Rattle.dpl_near.proofs.apart.are_apart.Goals as goal
 
 never : {A : Type 0} → IsTrue false → A

@@ -4,7 +4,7 @@ use Rattle.std.proofs.lemmas.Int.{to_z-of_z}
 use Rattle.dpl_cell.specs.Places.{corners_of}
 use Rattle.dpl_cell.proofs.SeamLemmas.{apart_sides}
 use Rattle.dpl_near.proofs.ApartLemmas.{apart_by_columns, apart_by_rows}
-use Rattle.dpl_near.proofs.JoinLemmas.{not_by_test}
+use Rattle.dpl_cell.proofs.BoxLemmas.{not_by_test}
 use Rattle.dpl_near.proofs.apart.is_apart.Goals as goal
 
 pub returns-then-misses : goal.returns-then-misses

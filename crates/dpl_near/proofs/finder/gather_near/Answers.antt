@@ -1,7 +1,8 @@
 use Rattle.std.proofs.Common.{arith, ◌≡◌, ◌<◌, ◌+◌, length, map, sym, ◌∙◌}
 use Rattle.std.proofs.lemmas.List.{length-map, get_or_default}
 use Rattle.dpl_cell.specs.Places.{corners_of}
-use Rattle.dpl_near.proofs.JoinLemmas.{corners_at, not_by_test}
+use Rattle.dpl_cell.proofs.BoxLemmas.{not_by_test}
+use Rattle.dpl_near.proofs.JoinLemmas.{corners_at}
 use Rattle.dpl_near.proofs.IndexLemmas.{walk_on, walk_past, walk_ends}
 use Rattle.dpl_near.proofs.finder.gather_near.Goals as goal
 

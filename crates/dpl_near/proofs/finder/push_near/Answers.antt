@@ -1,7 +1,8 @@
 use Rattle.std.proofs.Common.{rules, inl, inr, ◌<◌, length, map, refl}
 use Rattle.std.proofs.lemmas.List.{length-map}
 use Rattle.dpl_cell.specs.Places.{corners_of}
-use Rattle.dpl_near.proofs.JoinLemmas.{corners_at, not_by_test}
+use Rattle.dpl_cell.proofs.BoxLemmas.{not_by_test}
+use Rattle.dpl_near.proofs.JoinLemmas.{corners_at}
 use Rattle.dpl_near.proofs.NearLemmas.{near_no, near_yes, near_itself}
 use Rattle.dpl_near.proofs.finder.push_near.Goals as goal
 use Rattle.dpl_near.proofs.finder.push_near.Goals.{else-j-i-via-then-j-i+else-are_close, else-j-i-via-else-j-i}

@@ -1,7 +1,8 @@
 use Rattle.std.proofs.Common.{rules, arith, ◌<◌, length, map}
 use Rattle.std.proofs.lemmas.List.{length-map}
 use Rattle.dpl_cell.specs.Places.{corners_of}
-use Rattle.dpl_near.proofs.JoinLemmas.{joins_skip, joins_more, join_touch, join_apart, corners_at, not_by_test}
+use Rattle.dpl_cell.proofs.BoxLemmas.{not_by_test}
+use Rattle.dpl_near.proofs.JoinLemmas.{joins_skip, joins_more, join_touch, join_apart, corners_at}
 use Rattle.dpl_near.proofs.joining.push_join.Goals as goal
 use Rattle.dpl_near.proofs.joining.push_join.Goals.{else-i-j-via-then-i-j+else-touch, else-i-j-via-else-i-j}
 

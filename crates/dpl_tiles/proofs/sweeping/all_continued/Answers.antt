@@ -1,5 +1,5 @@
 use Rattle.dpl_tiles.specs.Windows.{IsContinued}
-use Rattle.dpl_tiles.proofs.Zip.{zip_more, zip_all}
+use Rattle.dpl_list.proofs.Zips.{zip_more, zip_all}
 use Rattle.dpl_tiles.proofs.sweeping.all_continued.Goals as goal
 
 pub loop-run-preserved : goal.loop-run-preserved

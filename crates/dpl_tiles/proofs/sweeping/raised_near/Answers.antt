@@ -2,7 +2,7 @@ use Rattle.std.proofs.Common.{SFits, w64, sym, ◌∙◌}
 use Rattle.std.proofs.lemmas.Int.{to_z-of_z}
 use Rattle.dpl_tiles.specs.Bands.{IsOver}
 use Rattle.dpl_tiles.specs.Windows.{is_near}
-use Rattle.dpl_tiles.proofs.Zip.{zip_kept, zip_left_out, zip_all_kept}
+use Rattle.dpl_list.proofs.Zips.{zip_kept, zip_left_out, zip_all_kept}
 use Rattle.dpl_tiles.proofs.sweeping.raised_near.Goals as goal
 use Rattle.dpl_tiles.proofs.sweeping.raised_near.Goals.{then-is_near_to+in_ok-push, else-is_near_to}
 

@@ -1,0 +1,4 @@
+pub mod Masks
+pub mod Lines
+pub mod MaskLines
+pub mod Drawings

@@ -1,0 +1,16 @@
+//! Masks as lines of a CIF text, and what such a text draws.
+//!
+//! `push_box` writes a rectangle as the line of a box. `line_rules` says how a text of one command a line is read
+//! again by the definitions of `dpl_cif`: comments, and two masks in one definition that is called once. Whatever
+//! layer is chosen, such a text breaks no rule, and its two layers have exactly the rectangles of the two masks in
+//! their order (`specs/Drawings.antt`).
+#![tactic(auto)]
+
+mod lines;
+#[cfg(test)]
+mod tests;
+mod writing;
+
+pub use lines::line_rules;
+pub use std::alloc::AllocError as NoMemory;
+pub use writing::{push_box, push_spaced};

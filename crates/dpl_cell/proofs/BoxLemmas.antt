@@ -1,0 +1,63 @@
+-- Cells of boxes, as a fact and as a test.
+use Rattle.std.proofs.Common.{arith, rules, ◌≡◌, ◌<ℤ◌, ◌≤ℤ◌, ℕ, ◌<◌, ℤ, List, length, get_or, ◌∙◌, sym, refl, Any, Bool, true, false, IsTrue, map, inl, inr}
+use Rattle.std.specs.List.{list_any}
+use Rattle.std.proofs.lemmas.Bool.{and_parts}
+use Rattle.std.proofs.lemmas.Int.{ints, clamps}
+use Rattle.std.proofs.lemmas.List.Folds.{list_any_at, list_any-from_Any, Any-from_list_any}
+use Rattle.dpl_cell.specs.Places.{Corners}
+use Rattle.dpl_cell.specs.Cells.{IsWithin, IsIn}
+use Rattle.dpl_cell.specs.Outlines.{Box}
+use Rattle.dpl_cell.specs.Layers.{is_within, is_in_box, is_in_outline, is_cell}
+use Rattle.dpl_cell.specs.Tiles.{IsBefore}
+use Rattle.dpl_cell.proofs.LayerLemmas.{list_any-map}
+
+-- ---- a test and the fact that it tells
+
+pub is_true : {b : Bool} → b ≡ true → IsTrue b
+is_true e = search (rules, e)
+
+pub true_is : (b : Bool) → IsTrue b → b ≡ true
+true_is b h = search rules
+
+-- what a test would answer does not hold where it answers no
+pub not_by_test : {A : Type 0} (b : Bool) → b ≡ false → (A → IsTrue b) → ¬ A
+not_by_test b e f a = let t : IsTrue false = rw e at (f a) in search rules
+
+pub equal_z : (a b : ℤ) → a ≤ℤ b → b ≤ℤ a → a ≡ b
+equal_z a b h g = omega (arith, ints, clamps)
+
+-- ---- cells of one box
+
+pub within_test : (a b x : ℤ) → IsWithin a b x → is_within a b x ≡ true
+within_test a b x w = let f : a ≤ℤ x = w.from in let g : x <ℤ b = w.to in grind (arith, ints)
+
+pub test_within : (a b x : ℤ) → is_within a b x ≡ true → IsWithin a b x
+test_within a b x e = record { from = grind (arith, ints); to = grind (arith, ints) }
+
+pub box_in : (r : Corners) (x y : ℤ) → IsIn r x y → is_in_box r x y ≡ true
+box_in r x y i = let e = within_test r.x1 r.x2 x i.column in let f = within_test r.y1 r.y2 y i.row in rw (e, f) refl
+
+pub in_box : (r : Corners) (x y : ℤ) → is_in_box r x y ≡ true → IsIn r x y
+in_box r x y e = let (f, g) = and_parts (is_within r.x1 r.x2 x) (is_within r.y1 r.y2 y) e in record { column = test_within _ _ x f; row = test_within _ _ y g }
+
+-- ---- cells of the layer of boxes
+
+-- a cell of the layer lies in one of the boxes
+pub drawn_any : (rects : List Corners) (x y : ℤ) → is_cell (map Box rects) x y ≡ true → Any (λ r. IsIn r x y) rects
+drawn_any rects x y t =
+    let (k, r, l, e, i) = Any-from_list_any (λ r. is_in_box r x y) rects (sym (list_any-map (is_in_outline x y) Box rects) ∙ t) in (k, r, l, e, in_box r x y i)
+
+pub any_drawn : (rects : List Corners) (x y : ℤ) → Any (λ r. IsIn r x y) rects → is_cell (map Box rects) x y ≡ true
+any_drawn rects x y (k, r, l, e, i) = list_any-map (is_in_outline x y) Box rects ∙ list_any-from_Any (λ r. is_in_box r x y) rects (k, r, l, e, box_in r x y i)
+
+-- a cell of a box is one of the layer
+pub held : (rects : List Corners) (i : ℕ) (d : Corners) (x y : ℤ) → i < length rects → IsIn (get_or rects i d) x y → IsTrue (is_cell (map Box rects) x y)
+held rects i d x y l h = is_true (list_any-map (is_in_outline x y) Box rects ∙ list_any_at (λ r. is_in_box r x y) rects i d l (box_in _ x y h))
+
+pub holder : (rects : List Corners) (x y : ℤ) → IsTrue (is_cell (map Box rects) x y) → Any (λ r. IsIn r x y) rects
+holder rects x y h = drawn_any rects x y (true_is _ h)
+
+-- ---- order
+
+pub never_before : (a b : Corners) → a ≡ b → IsBefore a b → ⊥
+never_before a b e h = let h' : IsBefore b b = rw e at h in elim h' [ inl g ↦ omega (arith, ints, clamps) | inr g ↦ omega (arith, ints, clamps) ]

@@ -1,0 +1,49 @@
+// A report text against the text of a layout.
+ghost use Rattle.std.specs.Prelude.{◌≡◌, ◌⊎◌, ◌≤◌, ℕ, length, IfOk, IfErr, Ok, Err};
+ghost use Rattle.dpl_layer.specs.Refusals.{RefusesLayer};
+ghost use Rattle.dpl_check.specs.Checked.{BoundsAll, IsVerdictOf};
+
+use crate::judging::judge;
+use crate::verdicts::Verdict;
+use dpl_layer::{LayerError, read_layer};
+use dpl_report::Options;
+use std::alloc::Global;
+
+/// Whether a report is good for a layer of a layout, and otherwise the first condition that fails. Nothing is believed
+/// but the two texts and the options.
+pub fn check(
+    alloc: Global,
+    text: &[u8],
+    options: &Options,
+    report: &[u8],
+) -> Result<Verdict, LayerError>
+    requires text { length text.now ≤ 16777216 }
+    requires report { length report.now ≤ 268435456 }
+    ensures verdict { IfOk result (λ v. IsVerdictOf options.now text.now report.now v) }
+    ensures refused { (e : LayerError) → result ≡ Err e → (e ≡ LayerError.NoMemory) ⊎ RefusesLayer options.now text.now e }
+    ensures exact { (e : LayerError) → RefusesLayer options.now text.now e → (result ≡ Err e) ⊎ (result ≡ Err LayerError.NoMemory) }
+    // A good report is accepted, unless memory runs out, and no other is.
+    ensures once { (v : Verdict) → IsVerdictOf options.now text.now report.now v → (result ≡ Ok v) ⊎ (result ≡ Err LayerError.NoMemory) }
+    // Every colouring costs at least half the bound of an accepted report.
+    ensures bounds { (cost bound : ℕ) → result ≡ Ok (Verdict.Yes cost bound) → BoundsAll options.now text.now bound }
+{
+    check_parts(alloc, text, options, report)
+}
+
+/// The same; of refusals it is said that one comes where it applies.
+fn check_parts(
+    alloc: Global,
+    text: &[u8],
+    options: &Options,
+    report: &[u8],
+) -> Result<Verdict, LayerError>
+    requires text { length text.now ≤ 16777216 }
+    requires report { length report.now ≤ 268435456 }
+    ensures verdict { IfOk result (λ v. IsVerdictOf options.now text.now report.now v) }
+    ensures refused { IfErr result (λ e. (e ≡ LayerError.NoMemory) ⊎ RefusesLayer options.now text.now e) }
+{
+    let _name = options.layer.bytes();
+    let layer = read_layer(alloc, text, options)?;
+    let verdict = judge(alloc, options, &layer.fragments, &layer.net, report)?;
+    Ok(verdict)
+}

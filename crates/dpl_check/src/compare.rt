@@ -1,0 +1,233 @@
+// The first place at which a condition fails.
+ghost use Rattle.std.specs.Prelude.{◌≡◌, ◌≤◌, ◌<◌, ◌^◌, length, map, pos};
+ghost use Rattle.dpl_cell.specs.Places.{corners_of};
+ghost use Rattle.dpl_report.specs.Plain.{plain_zone};
+ghost use Rattle.dpl_report.specs.Valid.{IsCounts, IsParams};
+ghost use Rattle.dpl_report.specs.declared.refusals.Miss.{Miss};
+ghost use Rattle.dpl_report.specs.FirstDifferences.{FirstDifference};
+ghost use Rattle.dpl_report.specs.Misses as misses;
+ghost use Rattle.dpl_report.specs.Conditions as conditions;
+
+use dpl_cell::Rect;
+use dpl_report::{Broken, Counts, Miss, Options, Params, Zone};
+
+/// Two numbers of a line that have to be the same.
+pub fn number_miss(place: u64, found: u64, wanted: u64) -> Option<Miss>
+    requires found { found < 2 ^ 63 }
+    requires wanted { wanted < 2 ^ 63 }
+    ensures { result ≡ misses.number_miss place found wanted }
+{
+    if found == wanted {
+        None
+    } else {
+        let found = found as i64;
+        let wanted = wanted as i64;
+        Some(Miss {
+            place,
+            found,
+            wanted,
+        })
+    }
+}
+
+fn pair_miss(place: u64, found: i64, wanted: i64) -> Option<Miss>
+    ensures { result ≡ misses.pair_miss place found wanted }
+{
+    if found == wanted {
+        None
+    } else {
+        Some(Miss {
+            place,
+            found,
+            wanted,
+        })
+    }
+}
+
+/// The first numbers that differ.
+fn numbers_miss(place: u64, found: &[i64], wanted: &[i64]) -> Option<Miss>
+    ensures { result ≡ misses.numbers_miss place found.now wanted.now }
+{
+    let mut left = wanted;
+    for x in found {
+        let Some((y, others)) = left.split_first() else {
+            return None;
+        };
+        if let Some(miss) = pair_miss(place, *x, *y) {
+            return Some(miss);
+        }
+        left = others;
+    }
+    None
+}
+
+fn ends_miss(found: &Broken, wanted: &Broken) -> Option<Miss>
+    ensures { result ≡ conditions.ends_miss found.now wanted.now }
+{
+    let a = [i64::from(found.a), i64::from(found.b)];
+    let b = [i64::from(wanted.a), i64::from(wanted.b)];
+    numbers_miss(u64::from(found.edge), &a, &b)
+}
+
+fn listed(edge: u32) -> Miss
+    ensures { result ≡ misses.miss edge (pos 1) (pos 0) }
+{
+    Miss {
+        place: u64::from(edge),
+        found: 1,
+        wanted: 0,
+    }
+}
+
+fn not_listed(edge: u32) -> Miss
+    ensures { result ≡ misses.miss edge (pos 0) (pos 1) }
+{
+    Miss {
+        place: u64::from(edge),
+        found: 0,
+        wanted: 1,
+    }
+}
+
+/// Lines of one list against the edges that have to stand there.
+fn entry_miss(edge: u32, wanted: u32) -> Option<Miss>
+    ensures { result ≡ conditions.edge_miss edge wanted }
+{
+    if edge < wanted {
+        Some(listed(edge))
+    } else if wanted < edge {
+        Some(not_listed(wanted))
+    } else {
+        None
+    }
+}
+
+/// Aside lines against the edges set aside.
+pub fn aside_lines_miss(found: &[u32], wanted: &[u32]) -> Option<Miss>
+    ensures { result ≡ conditions.aside_miss found.now wanted.now }
+{
+    let mut left = wanted;
+    for x in found {
+        let Some((y, others)) = left.split_first() else {
+            return Some(listed(*x));
+        };
+        if let Some(miss) = entry_miss(*x, *y) {
+            return Some(miss);
+        }
+        left = others;
+    }
+    left.first().map(|y| not_listed(*y))
+}
+
+fn name_miss(found: &[u8], wanted: &[u8]) -> Option<Miss>
+    ensures { result ≡ misses.name_miss 2 found.now wanted.now }
+{
+    let mut left = wanted;
+    for x in found {
+        let Some((y, others)) = left.split_first() else {
+            return pair_miss(2, i64::from(*x), 256);
+        };
+        if let Some(miss) = pair_miss(2, i64::from(*x), i64::from(*y)) {
+            return Some(miss);
+        }
+        left = others;
+    }
+    match left.first() {
+        Some(y) => pair_miss(2, 256, i64::from(*y)),
+        None => None,
+    }
+}
+
+/// Lines 7 to 12 against the counts of the layout.
+pub fn counts_miss(found: &Counts, wanted: &Counts) -> Option<Miss>
+    requires found { IsCounts found.now }
+    requires wanted { IsCounts wanted.now }
+    ensures { result ≡ conditions.counts_miss found.now wanted.now }
+{
+    let first = number_miss(7, found.pieces, wanted.pieces)
+        .or(number_miss(8, found.fragments, wanted.fragments))
+        .or(number_miss(9, found.bonds, wanted.bonds));
+    first
+        .or(number_miss(10, found.stitches, wanted.stitches))
+        .or(number_miss(11, found.clashes, wanted.clashes))
+        .or(number_miss(12, found.excess, wanted.excess))
+}
+
+/// Clash lines against the broken clashes: the least edge that differs.
+pub fn clash_lines_miss(found: &[Broken], wanted: &[Broken]) -> Option<Miss>
+    ensures miss { result ≡ conditions.clash_lines_miss found.now wanted.now }
+    ensures none { (result ≡ None → found.now ≡ wanted.now) × (found.now ≡ wanted.now → result ≡ None) }
+    ensures first { (m : Miss) → result ≡ Some m → FirstDifference (λ b. b.edge) conditions.ends_miss found.now wanted.now m }
+{
+    first_clash_miss(found, wanted)
+}
+
+fn first_clash_miss(found: &[Broken], wanted: &[Broken]) -> Option<Miss>
+    ensures { result ≡ conditions.clash_lines_miss found.now wanted.now }
+{
+    let mut left = wanted;
+    for x in found {
+        let Some((y, others)) = left.split_first() else {
+            return Some(listed(x.edge));
+        };
+        if let Some(miss) = entry_miss(x.edge, y.edge) {
+            return Some(miss);
+        }
+        if let Some(miss) = ends_miss(x, y) {
+            return Some(miss);
+        }
+        left = others;
+    }
+    left.first().map(|y| not_listed(y.edge))
+}
+
+pub fn corners_miss(place: u64, found: &Rect, wanted: &Rect) -> Option<Miss>
+    ensures { result ≡ misses.numbers_miss place (conditions.corner_numbers (corners_of found.now)) (conditions.corner_numbers (corners_of wanted.now)) }
+{
+    let a = [found.x1, found.y1, found.x2, found.y2];
+    let b = [wanted.x1, wanted.y1, wanted.x2, wanted.y2];
+    numbers_miss(place, &a, &b)
+}
+
+fn zone_miss(found: &Zone, wanted: &Zone) -> Option<Miss>
+    ensures { result ≡ conditions.zone_miss (plain_zone found.now) (plain_zone wanted.now) }
+{
+    ends_miss(&found.at, &wanted.at).or(corners_miss(
+        u64::from(found.at.edge),
+        &found.rect,
+        &wanted.rect,
+    ))
+}
+
+/// Cut lines against the broken stitches: the least edge that differs.
+pub fn cut_lines_miss(found: &[Zone], wanted: &[Zone]) -> Option<Miss>
+    ensures { result ≡ conditions.cut_lines_miss (map plain_zone found.now) (map plain_zone wanted.now) }
+{
+    let mut left = wanted;
+    for x in found {
+        let Some((y, others)) = left.split_first() else {
+            return Some(listed(x.at.edge));
+        };
+        if let Some(miss) = entry_miss(x.at.edge, y.at.edge) {
+            return Some(miss);
+        }
+        if let Some(miss) = zone_miss(x, y) {
+            return Some(miss);
+        }
+        left = others;
+    }
+    left.first().map(|y| not_listed(y.at.edge))
+}
+
+/// Lines 2 to 6 against the options.
+pub fn params_miss(found: &Params, wanted: &Options) -> Option<Miss>
+    requires found { IsParams found.now }
+    ensures { result ≡ conditions.params_miss found.now wanted.now }
+{
+    let first = name_miss(found.layer.bytes(), wanted.layer.bytes())
+        .or(number_miss(3, found.space, wanted.space))
+        .or(number_miss(4, found.overlap, wanted.overlap));
+    first
+        .or(number_miss(5, found.stitch, wanted.weights.stitch))
+        .or(number_miss(6, found.conflict, wanted.weights.conflict))
+}

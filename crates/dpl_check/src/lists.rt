@@ -1,0 +1,199 @@
+// What the lists of a report have to be, and the conditions on bonds, walks and boxes.
+ghost use Rattle.std.specs.Prelude.{◌≡◌, ◌<◌, ◌≤◌, ◌+◌, ◌*◌, ◌^◌, [], ◌∷◌, ◌++◌, map, length, true, false, IfOk, OnOk, MatchOption, All};
+ghost use Rattle.dpl_cell.specs.Places.{corners_of};
+ghost use Rattle.dpl_rules.specs.Readers.{Reads};
+ghost use Rattle.dpl_sign.specs.Colourings.{colour_of, breaks};
+ghost use Rattle.dpl_sign.specs.Kinds.{is_bond, is_clash};
+ghost use Rattle.dpl_sign.specs.Walks.{across, leaves, edge_at, IsOddWalk};
+ghost use Rattle.dpl_report.specs.Misses as misses;
+ghost use Rattle.dpl_report.specs.Conditions as conditions;
+
+use crate::compare::{corners_miss, number_miss};
+use dpl_cell::Rect;
+use dpl_report::types::Masks;
+use dpl_report::{Miss, colour_at};
+use dpl_sign::{Cycle, Edge, Kind, Signed, Walk};
+
+fn bond_miss(colours: &[bool], e: u64, edge: &Edge) -> Option<Miss>
+    ensures { result ≡ conditions.bond_miss colours.now e edge.now }
+{
+    let a = colour_at(colours, edge.a);
+    let b = colour_at(colours, edge.b);
+    match edge.kind {
+        Kind::Bond if a != b => Some(Miss {
+            place: e,
+            found: i64::from(b),
+            wanted: i64::from(a),
+        }),
+        _ => None,
+    }
+}
+
+/// The ends of each bond have the same mask.
+pub fn bonds_miss(colours: &[bool], edges: &[Edge]) -> Option<Miss>
+    requires { length edges.now < 2 ^ 30 }
+    ensures { result ≡ conditions.bonds_miss colours.now 0 edges.now }
+{
+    let mut e = 0;
+    for edge in edges {
+        if let Some(miss) = bond_miss(colours, e, edge) {
+            return Some(miss);
+        }
+        e += 1;
+    }
+    None
+}
+
+/// Boxes against rectangles, from a place on.
+pub fn boxes_miss(place: u64, found: &[Rect], wanted: &[Rect]) -> Option<Miss>
+    requires { place + length found.now < 2 ^ 63 }
+    ensures { result ≡ conditions.boxes_miss place (map corners_of found.now) (map corners_of wanted.now) }
+{
+    let mut left = wanted;
+    let mut at = place;
+    for x in found {
+        let Some((y, others)) = left.split_first() else {
+            return None;
+        };
+        if let Some(miss) = corners_miss(at, x, y) {
+            return Some(miss);
+        }
+        left = others;
+        at += 1;
+    }
+    None
+}
+
+/// The place, node and parity that a walk has reached.
+#[derive(Clone, Copy, Debug)]
+struct Reached {
+    place: u64,
+    node: u32,
+    odd: bool,
+}
+
+fn end_miss(cycle: u64, start: u32, at: Reached) -> Option<Miss>
+    requires { at.place < 2 ^ 32 }
+    ensures { result ≡ conditions.end_miss cycle start at.place at.node at.odd }
+{
+    if at.place == 1 || at.node != start {
+        return Some(Miss {
+            place: cycle,
+            found: at.place as i64,
+            wanted: 0,
+        });
+    }
+    if at.odd {
+        None
+    } else {
+        Some(Miss {
+            place: cycle,
+            found: 0,
+            wanted: 1,
+        })
+    }
+}
+
+fn is_clash_kind(kind: Kind) -> bool
+    ensures { result ≡ is_clash kind }
+{
+    match kind {
+        Kind::Clash => true,
+        Kind::Bond | Kind::Stitch => false,
+    }
+}
+
+fn along(edge: &Edge, at: Reached) -> Option<Reached>
+    requires { at.place < 2 ^ 32 }
+    ensures { MatchOption result (conditions.meets edge.now at.node ≡ false) (λ r. (conditions.meets edge.now at.node ≡ true) × (r.place ≡ at.place + 1) × (r.node ≡ across edge.now at.node) × (r.odd ≡ conditions.parity_after edge.now.kind at.odd)) }
+{
+    let node = if edge.a == at.node {
+        edge.b
+    } else if edge.b == at.node {
+        edge.a
+    } else {
+        return None;
+    };
+    Some(Reached {
+        place: at.place + 1,
+        node,
+        odd: is_clash_kind(edge.kind) != at.odd,
+    })
+}
+
+fn passed(graph: &Signed, e: u32, at: Reached) -> Option<Reached>
+    requires { at.place < 2 ^ 32 }
+    ensures { MatchOption result (leaves graph.now e at.node ≡ false) (λ r. (leaves graph.now e at.node ≡ true) × (r.place ≡ at.place + 1) × (r.node ≡ across (edge_at graph.now e) at.node) × (r.odd ≡ conditions.parity_after (edge_at graph.now e).kind at.odd)) }
+{
+    let edges = graph.edges.as_slice();
+    let e = e as usize;
+    if e < edges.len() {
+        along(&edges[e], at)
+    } else {
+        None
+    }
+}
+
+/// A cycle line is an odd walk from its start.
+pub fn walk_miss(graph: &Signed, cycle: u64, walk: &Walk) -> Option<Miss>
+    requires { length walk.now.edges < 2 ^ 31 }
+    ensures miss { result ≡ conditions.walk_miss graph.now cycle walk.now.start walk.now.edges 1 walk.now.start false }
+    ensures odd { (result ≡ None → IsOddWalk graph.now walk.now) × (IsOddWalk graph.now walk.now → result ≡ None) }
+{
+    first_walk_miss(graph, cycle, walk.start, walk.edges.as_slice())
+}
+
+fn first_walk_miss(graph: &Signed, cycle: u64, start: u32, edges: &[u32]) -> Option<Miss>
+    requires { length edges.now < 2 ^ 31 }
+    ensures { result ≡ conditions.walk_miss graph.now cycle start edges.now 1 start false }
+{
+    let mut at = Reached {
+        place: 1,
+        node: start,
+        odd: false,
+    };
+    for e in edges {
+        let Some(next) = passed(graph, *e, at) else {
+            return Some(Miss {
+                place: cycle,
+                found: at.place as i64,
+                wanted: 0,
+            });
+        };
+        at = next;
+    }
+    end_miss(cycle, start, at)
+}
+
+/// Each cycle line is an odd walk from its start.
+pub fn walks_miss(graph: &Signed, cycles: &[Cycle]) -> Option<Miss>
+    requires few { length cycles.now < 2 ^ 31 }
+    requires short { All (λ c. length c.walk.edges < 2 ^ 31) cycles.now }
+    ensures { result ≡ conditions.walks_miss graph.now 0 cycles.now }
+{
+    let mut number = 0;
+    for cycle in cycles {
+        if let Some(miss) = walk_miss(graph, number, &cycle.walk) {
+            return Some(miss);
+        }
+        number += 1;
+    }
+    None
+}
+
+/// The counts of the boxes, A first, and then the boxes of both masks in order.
+pub fn drawing_miss(on_a: &[Rect], on_b: &[Rect], wanted: &Masks) -> Option<Miss>
+    requires { length on_a.now + length on_b.now < 2 ^ 32 }
+    ensures { result ≡ conditions.drawing_miss (map corners_of on_a.now) (map corners_of on_b.now) (map corners_of wanted.now.on_a.items) (map corners_of wanted.now.on_b.items) }
+{
+    let counts = number_miss(4_294_967_296, on_a.len() as u64, wanted.on_a.len() as u64).or(
+        number_miss(4_294_967_297, on_b.len() as u64, wanted.on_b.len() as u64),
+    );
+    if let Some(miss) = counts {
+        return Some(miss);
+    }
+    if let Some(miss) = boxes_miss(0, on_a, &wanted.on_a) {
+        return Some(miss);
+    }
+    boxes_miss(on_a.len() as u64, on_b, &wanted.on_b)
+}

@@ -1,0 +1,5 @@
+pub mod ChainLemmas
+pub mod RootLemmas
+pub mod WayLemmas
+pub mod LabelLemmas
+pub mod NumberLemmas

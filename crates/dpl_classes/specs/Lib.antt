@@ -1,0 +1,4 @@
+pub mod Chains
+pub mod Classes
+pub mod Roots
+pub mod Ways

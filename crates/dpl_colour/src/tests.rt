@@ -1,0 +1,212 @@
+use crate::{colour, meets_by_number};
+use dpl_map::build;
+use dpl_sign::plain::{kept_edges, meets_faces};
+use dpl_sign::{Edge, Net, Port, Signed, broken};
+use std::alloc::{AllocError, Global};
+use std::test::Fail;
+
+/// A drawing of these edges, each node a piece of its own.
+fn drawing(alloc: Global, nodes: u32, links: &[(Edge, Port, Port)]) -> Result<Net, Fail> {
+    let mut edges = Vec::new(alloc);
+    let mut ports = Vec::new(alloc);
+    for (edge, at_a, at_b) in links {
+        edges.push(*edge)?;
+        ports.push((*at_a, *at_b))?;
+    }
+    let mut pieces = Vec::new(alloc);
+    for node in 0..nodes {
+        pieces.push(node)?;
+    }
+    let graph = Signed::new(nodes, edges).ok_or("no graph")?;
+    Ok(Net::new(graph, ports, pieces, nodes).ok_or("no net")?)
+}
+
+fn colour_at(colours: &[bool], node: u32) -> bool {
+    match colours.get(node as usize) {
+        Some(colour) => *colour,
+        None => false,
+    }
+}
+
+/// The numbers of the edges that a colouring breaks.
+fn broken_edges(alloc: Global, net: &Net, colours: &[bool]) -> Result<Vec<u32>, AllocError> {
+    let edges = net.graph.edges.as_slice();
+    let mut list = Vec::new(alloc);
+    for i in 0..edges.len() as u32 {
+        let edge = &edges[i as usize];
+        if broken(edge, colour_at(colours, edge.a), colour_at(colours, edge.b)) {
+            list.push(i)?;
+        }
+    }
+    Ok(list)
+}
+
+/// A colouring and the numbers of the edges that it breaks.
+#[derive(Drop)]
+struct Outcome {
+    colours: Vec<bool>,
+    broken: Vec<u32>,
+}
+
+/// The colouring that is to break a set of edges, which meets the faces by the plain program.
+fn coloured(alloc: Global, net: &Net, joined: &[bool]) -> Result<Outcome, Fail> {
+    if joined.len() != net.graph.edges.as_slice().len() {
+        return Err("not one place for each edge")?;
+    }
+    let map = build(alloc, net)?;
+    let kept = kept_edges(alloc, net)?;
+    if !meets_faces(alloc, net, kept.as_slice(), joined)? {
+        return Err("the set does not meet the faces")?;
+    }
+    meets_by_number(&map, joined);
+    let colours = colour(alloc, &map, &net.graph, joined)?;
+    let broken = broken_edges(alloc, net, &colours)?;
+    Ok(Outcome { colours, broken })
+}
+
+/// Three clashes around a triangle, of which the last is to be broken.
+#[test]
+fn odd_triangle(rt: HostRuntime) -> Result<(), Fail> {
+    let links = [
+        (
+            Edge::clash(0, 1, 10),
+            Port::on_side(3, 0),
+            Port::on_side(7, 0),
+        ),
+        (
+            Edge::clash(0, 2, 10),
+            Port::on_side(5, 0),
+            Port::on_side(7, 0),
+        ),
+        (
+            Edge::clash(1, 2, 10),
+            Port::on_side(5, 0),
+            Port::on_side(3, 0),
+        ),
+    ];
+    let net = drawing(rt.alloc(), 3, &links)?;
+    let done = coloured(rt.alloc(), &net, &[false, false, true])?;
+    assert_eq!(rt; done.colours.len(), 3);
+    assert!(rt; colour_at(&done.colours, 0) != colour_at(&done.colours, 1));
+    assert_eq!(rt; colour_at(&done.colours, 1), colour_at(&done.colours, 2));
+    assert_eq!(rt; done.broken.as_slice(), [2].as_slice());
+    Ok(())
+}
+
+/// Clashes and stitches around a square, in turn, of which none is to be broken, and two nodes
+/// apart.
+#[test]
+fn ring(rt: HostRuntime) -> Result<(), Fail> {
+    let links = [
+        (
+            Edge::clash(0, 1, 4),
+            Port::on_side(3, 0),
+            Port::on_side(7, 0),
+        ),
+        (
+            Edge::stitch(0, 3, 1),
+            Port::on_side(5, 0),
+            Port::on_side(1, 0),
+        ),
+        (
+            Edge::stitch(1, 2, 2),
+            Port::on_side(5, 0),
+            Port::on_side(1, 0),
+        ),
+        (
+            Edge::clash(2, 3, 4),
+            Port::on_side(7, 0),
+            Port::on_side(3, 0),
+        ),
+    ];
+    let net = drawing(rt.alloc(), 6, &links)?;
+    let done = coloured(rt.alloc(), &net, &[false; 4])?;
+    assert_eq!(rt; done.colours.len(), 6);
+    assert_eq!(rt; done.broken.as_slice().len(), 0);
+    let done = coloured(rt.alloc(), &net, &[true, true, false, false])?;
+    assert_eq!(rt; done.broken.as_slice(), [0, 1].as_slice());
+    Ok(())
+}
+
+/// A triangle of bonds, with a node inside and one outside, each joined to two of its corners by a
+/// clash and a stitch, of which one is to be broken.
+#[test]
+fn bonds_between_parts(rt: HostRuntime) -> Result<(), Fail> {
+    let links = [
+        (Edge::bond(0, 1), Port::on_side(3, 0), Port::on_side(7, 2)),
+        (Edge::bond(0, 2), Port::on_side(3, 2), Port::on_side(1, 0)),
+        (Edge::bond(1, 2), Port::on_side(7, 0), Port::on_side(1, 1)),
+        (
+            Edge::clash(0, 3, 6),
+            Port::on_side(3, 1),
+            Port::on_side(7, 0),
+        ),
+        (
+            Edge::stitch(1, 3, 1),
+            Port::on_side(7, 1),
+            Port::on_side(3, 0),
+        ),
+        (
+            Edge::clash(0, 4, 3),
+            Port::on_side(3, -1),
+            Port::on_side(7, 0),
+        ),
+        (
+            Edge::stitch(1, 4, 2),
+            Port::on_side(7, 3),
+            Port::on_side(3, 0),
+        ),
+    ];
+    let net = drawing(rt.alloc(), 5, &links)?;
+    let joined = [false, false, false, false, true, true, false];
+    let done = coloured(rt.alloc(), &net, &joined)?;
+    assert_eq!(rt; done.broken.as_slice(), [4, 5].as_slice());
+    assert_eq!(rt; colour_at(&done.colours, 0), colour_at(&done.colours, 1));
+    assert_eq!(rt; colour_at(&done.colours, 0), colour_at(&done.colours, 2));
+    Ok(())
+}
+
+/// A square with both diagonals. The second is set aside, and is broken or not as it comes.
+#[test]
+fn square_with_both_diagonals(rt: HostRuntime) -> Result<(), Fail> {
+    let links = [
+        (
+            Edge::clash(0, 1, 1),
+            Port::on_side(3, 0),
+            Port::on_side(7, 1),
+        ),
+        (
+            Edge::clash(1, 2, 1),
+            Port::on_side(5, 0),
+            Port::on_side(1, 1),
+        ),
+        (
+            Edge::clash(2, 3, 1),
+            Port::on_side(7, 0),
+            Port::on_side(3, 1),
+        ),
+        (
+            Edge::clash(0, 3, 1),
+            Port::on_side(5, 0),
+            Port::on_side(1, 0),
+        ),
+        (
+            Edge::clash(0, 2, 3),
+            Port::on_side(3, 1),
+            Port::on_side(1, 0),
+        ),
+        (
+            Edge::clash(1, 3, 3),
+            Port::on_side(7, 0),
+            Port::on_side(3, 0),
+        ),
+    ];
+    let net = drawing(rt.alloc(), 4, &links)?;
+    let around = [true, false, true, false, false, false];
+    let done = coloured(rt.alloc(), &net, &around)?;
+    assert_eq!(rt; done.broken.as_slice(), [0, 2].as_slice());
+    let across = [false, false, false, false, true, false];
+    let done = coloured(rt.alloc(), &net, &across)?;
+    assert_eq!(rt; done.broken.as_slice(), [4, 5].as_slice());
+    Ok(())
+}

@@ -1,0 +1,74 @@
+// From a text to its report.
+ghost use Rattle.std.specs.Prelude.{◌≡◌, ◌⊎◌, ◌≤◌, ℕ, length, IfOk, IfErr, Err};
+ghost use Rattle.dpl_report.specs.Plain.{plain_report};
+ghost use Rattle.dpl_solve.specs.Solved.{IsSolution, IsRefused};
+ghost use Rattle.dpl_core.specs.Reports.{IsReportOf, IsSplit};
+ghost use Rattle.dpl_core.specs.Refusals.{IsOddNet, RefusesSplit};
+
+use crate::reporting::report_of;
+use dpl_layer::{LayerError, read_layer};
+use dpl_report::{Options, Report, print, true_reports_are_good, true_reports_are_valid};
+use dpl_sign::Net;
+use dpl_solve::{Solution, SolveError, solve};
+use std::alloc::Global;
+
+/// The report of a layer of a text, which has at most 16 MiB.
+pub fn make(alloc: Global, text: &[u8], options: &Options) -> Result<Report, LayerError>
+    requires { length text.now ≤ 16777216 }
+    ensures made { IfOk result (λ r. IsReportOf options.now text.now (plain_report r)) }
+    ensures refused { (e : LayerError) → result ≡ Err e →
+        (e ≡ LayerError.NoMemory) ⊎ RefusesSplit options.now text.now e }
+    ensures exact { (e : LayerError) → RefusesSplit options.now text.now e →
+        (result ≡ Err e) ⊎ (result ≡ Err LayerError.NoMemory) }
+{
+    make_report(alloc, text, options)
+}
+
+/// The text of the report of a layer of a text, which has at most 16 MiB.
+pub fn split(alloc: Global, text: &[u8], options: &Options) -> Result<Vec<u8>, LayerError>
+    requires { length text.now ≤ 16777216 }
+    ensures split { IfOk result (λ v. IsSplit options.now text.now v.items) }
+    ensures refused { (e : LayerError) → result ≡ Err e →
+        (e ≡ LayerError.NoMemory) ⊎ RefusesSplit options.now text.now e }
+    ensures exact { (e : LayerError) → RefusesSplit options.now text.now e →
+        (result ≡ Err e) ⊎ (result ≡ Err LayerError.NoMemory) }
+{
+    let report = make(alloc, text, options)?;
+    let written = print(alloc, &report)?;
+    Ok(written)
+}
+
+/// The same; of refusals it is said that one comes where it applies, and none to a text with a
+/// report.
+fn make_report(alloc: Global, text: &[u8], options: &Options) -> Result<Report, LayerError>
+    requires { length text.now ≤ 16777216 }
+    ensures made { IfOk result (λ r. IsReportOf options.now text.now (plain_report r)) }
+    ensures free { IfOk result (λ r. (e : LayerError) → ¬ RefusesSplit options.now text.now e) }
+    ensures refused { IfErr result (λ e.
+        (e ≡ LayerError.NoMemory) ⊎ RefusesSplit options.now text.now e) }
+{
+    let layer = read_layer(alloc, text, options)?;
+    let solution = solve_net(alloc, &layer.net)?;
+    let report = report_of(alloc, options, &layer.fragments, &layer.net, solution)?;
+    true_reports_are_good(options, &layer.fragments, &layer.net, &report);
+    true_reports_are_valid(options, &layer.fragments, &layer.net, &report);
+    Ok(report)
+}
+
+/// The optimum of a net.
+fn solve_net(alloc: Global, net: &Net) -> Result<Solution, LayerError>
+    requires few { length net.now.graph.edges ≤ 400000 }
+    ensures solution { IfOk result (λ s.
+        IsSolution net.now s.colours.items s.cost s.aside s.excess s.cycles s.bound) }
+    ensures free { IfOk result (λ s. (n : ℕ) → ¬ IsRefused net.now n) }
+    ensures refused { IfErr result (λ e. (e ≡ LayerError.NoMemory) ⊎ IsOddNet net.now e) }
+{
+    match solve(alloc, net) {
+        Ok(solution) => Ok(solution),
+        Err(SolveError::OddFaces(count)) => Err(LayerError::Limit {
+            kind: 8,
+            count: u64::from(count),
+        }),
+        Err(SolveError::NoMemory) => Err(LayerError::NoMemory),
+    }
+}

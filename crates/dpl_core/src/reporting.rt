@@ -1,0 +1,152 @@
+// What a report of a solution says.
+ghost use Rattle.std.specs.Prelude.{◌≡◌, ◌<◌, ◌^◌, length, count_by, IfOk};
+ghost use Rattle.dpl_sign.specs.Kinds.{is_bond, is_clash};
+ghost use Rattle.dpl_report.specs.Plain.{plain_report};
+ghost use Rattle.dpl_report.specs.Conditions.{params_of_options, is_stitch as is_stitch_edge};
+ghost use Rattle.dpl_report.specs.Verdicts.{counts_of_net};
+ghost use Rattle.dpl_report.specs.Truths.{SaysTrue};
+ghost use Rattle.dpl_sign.specs.Excess.{excess as excess_of, all_edges};
+ghost use Rattle.dpl_solve.specs.Solved.{IsSolution};
+ghost use Rattle.dpl_core.specs.Reports.{IsTight, IsLeast};
+
+use dpl_cuts::types::Fragments;
+use dpl_lex::Name;
+use dpl_list::Items;
+use dpl_report::{Counts, Options, Params, Report, broken_clashes, broken_cuts, masks};
+use dpl_sign::{Edge, Kind, Net};
+use dpl_solve::Solution;
+use std::alloc::{AllocError as NoMemory, Global};
+
+/// The report of a solution.
+pub fn report_of(
+    alloc: Global,
+    options: &Options,
+    fragments: &Fragments,
+    net: &Net,
+    solution: Solution,
+) -> Result<Report, NoMemory>
+    requires solution { IsSolution net.now solution.colours.items solution.cost solution.aside
+        solution.excess solution.cycles solution.bound }
+    requires one { length solution.colours.items ≡ length fragments.now.rects }
+    ensures truth { IfOk result (λ r. SaysTrue options.now fragments.now net.now (plain_report r)) }
+    ensures tight { IfOk result (λ r. IsTight net.now (plain_report r)) }
+    ensures least { IfOk result (λ r. IsLeast net.now (plain_report r)) }
+{
+    let params = params_of(options);
+    let counts = counts_of(net, solution.excess);
+    let edges = net.graph.edges.as_slice();
+    let colours = solution.colours.as_slice();
+    let cuts = broken_cuts(alloc, colours, edges, fragments.cuts.as_slice())?;
+    let clashes = broken_clashes(alloc, colours, edges)?;
+    let masks = masks(alloc, fragments, colours)?;
+    Ok(Report {
+        params,
+        counts,
+        cost: solution.cost,
+        bound: solution.bound,
+        colours: Items::new(solution.colours),
+        cuts: Items::new(cuts),
+        clashes: Items::new(clashes),
+        aside: solution.aside,
+        cycles: solution.cycles,
+        on_a: Items::new(masks.on_a),
+        on_b: Items::new(masks.on_b),
+    })
+}
+
+fn params_of(options: &Options) -> Params
+    ensures { result ≡ params_of_options options.now }
+{
+    let layer = match Name::new(options.layer.bytes()) {
+        Some(layer) => layer,
+        None => unreachable!(),
+    };
+    Params {
+        layer,
+        space: options.space,
+        overlap: options.overlap,
+        stitch: options.weights.stitch,
+        conflict: options.weights.conflict,
+    }
+}
+
+fn counts_of(net: &Net, excess: u64) -> Counts
+    requires { excess ≡ excess_of net.now all_edges }
+    ensures { result ≡ counts_of_net net.now }
+{
+    let edges = net.graph.edges.as_slice();
+    Counts {
+        pieces: u64::from(net.piece_count),
+        fragments: u64::from(net.graph.nodes),
+        bonds: bonds_in(edges),
+        stitches: stitches_in(edges),
+        clashes: clashes_in(edges),
+        excess,
+    }
+}
+
+fn is_bond_kind(kind: Kind) -> bool
+    ensures { result ≡ is_bond kind }
+{
+    match kind {
+        Kind::Bond => true,
+        Kind::Stitch | Kind::Clash => false,
+    }
+}
+
+fn is_clash_kind(kind: Kind) -> bool
+    ensures { result ≡ is_clash kind }
+{
+    match kind {
+        Kind::Clash => true,
+        Kind::Bond | Kind::Stitch => false,
+    }
+}
+
+fn is_stitch(edge: &Edge) -> bool
+    ensures { result ≡ is_stitch_edge edge.now }
+{
+    match edge.kind {
+        Kind::Stitch => true,
+        Kind::Bond | Kind::Clash => false,
+    }
+}
+
+fn bonds_in(edges: &[Edge]) -> u64
+    requires { length edges.now < 2 ^ 30 }
+    ensures { result ≡ count_by (λ e. is_bond e.kind) edges.now }
+{
+    let mut found = 0;
+    for edge in edges {
+        if is_bond_kind(edge.kind) {
+            found += 1;
+        }
+    }
+    found
+}
+
+fn stitches_in(edges: &[Edge]) -> u64
+    requires { length edges.now < 2 ^ 30 }
+    ensures { result ≡ count_by is_stitch_edge edges.now }
+{
+    let mut found = 0;
+    for edge in edges {
+        if is_stitch(edge) {
+            found += 1;
+        }
+    }
+    found
+}
+
+fn clashes_in(edges: &[Edge]) -> u64
+    requires { length edges.now < 2 ^ 30 }
+    ensures { result ≡ count_by (λ e. is_clash e.kind) edges.now }
+{
+    let mut found = 0;
+    for edge in edges {
+        if is_clash_kind(edge.kind) {
+            found += 1;
+        }
+    }
+    found
+}

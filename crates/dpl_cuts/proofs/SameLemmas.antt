@@ -1,0 +1,263 @@
+-- Cells have one list of tiles, tiles one list of shapes, and tiles with their shapes one list of fragments.
+use Rattle.std.proofs.Common.{arith, ◌≡◌, ◌<◌, ◌≤◌, ◌+◌, ◌↔◌, inl, inr, ℕ, zero, suc, Bool, List, [], ◌∷◌, ◌++◌, length, map, max, take, sym, ap, ◌∙◌, subst, All, AllPairs, Contains, get_or}
+use Rattle.std.proofs.Math.Seq.{take-suc}
+use Rattle.std.proofs.lemmas.List.Sums.{fold-append}
+use Rattle.std.specs.Prelude.{ℤ, ◌<ℤ◌, ◌≤ℤ◌}
+use Rattle.std.proofs.lemmas.Bool.{cases_lt}
+use Rattle.std.proofs.lemmas.Int.{ints}
+use Rattle.std.proofs.lemmas.List.Elements.{All-map}
+use Rattle.std.proofs.lemmas.List.{get_or_default, get_or-take, length-map, length-take-le, take_all}
+use Rattle.dpl_cell.specs.declared.rect.Rect.{Rect}
+use Rattle.dpl_cell.specs.Places.{Corners, corners_of}
+use Rattle.dpl_cell.specs.Cells.{IsIn}
+use Rattle.dpl_cell.specs.Tiles.{IsTile, IsBefore, AreTiles}
+use Rattle.dpl_cell.proofs.Same.{same_corners}
+use Rattle.dpl_classes.specs.Classes.{IsNumbered, next_label}
+use Rattle.dpl_near.specs.Shapes.{AreShapes}
+use Rattle.dpl_cuts.specs.declared.types.Cut.{Cut}
+use Rattle.dpl_cuts.specs.declared.types.Fragments.{Fragments}
+use Rattle.dpl_cuts.specs.Positions.{nowhere, rect_at, end_of}
+use Rattle.dpl_cuts.specs.Cuts.{zone_at}
+use Rattle.dpl_cuts.specs.Fragments.{IsFragmentOf, AreParts, IsCut, AreCuts, AreFragments, HasMoreFragments}
+use Rattle.dpl_cuts.proofs.OrderedLemmas.{ordered_same, has_all, lists_same, maps_same, no_more}
+
+-- ---- tiles
+
+before_once : (a b : Corners) → IsBefore a b → IsBefore b a → ⊥
+before_once a b (inl h) (inl k) = absurd (omega (arith, ints, h, k))
+before_once a b (inl h) (inr k) = absurd (omega (arith, ints, h, k.0))
+before_once a b (inr h) (inl k) = absurd (omega (arith, ints, h.0, k))
+before_once a b (inr h) (inr k) = absurd (omega (arith, ints, h.1, k.1))
+
+-- cells have one list of tiles
+pub tiles_same : (cells : ℤ → ℤ → Bool) (a b : List Corners) → AreTiles cells a → AreTiles cells b → a ≡ b
+tiles_same cells a b s t = ordered_same IsBefore before_once a b s.ordered t.ordered
+    (λ z c. t.all z (has_all (IsTile cells) a z s.each c))
+    (λ z c. s.all z (has_all (IsTile cells) b z t.each c))
+
+-- ---- numbers of classes
+
+-- a number before place i is this one
+record IsUsed (label : List ℕ) (i v : ℕ) : Type 0 where
+  place : ℕ
+  before : place < i
+  within : place < length label
+  is : get_or label place 0 ≡ v
+
+next_take : (label : List ℕ) (i : ℕ) → i < length label → next_label (take (suc i) label) ≡ max (next_label (take i label)) (get_or label i 0 + 1)
+next_take label i l =
+    let e : take (suc i) label ≡ take i label ++ get_or label i 0 ∷ [] = take-suc label i 0 l in
+    ap next_label e ∙ fold-append _ 0 (take i label) (get_or label i 0 ∷ [])
+
+later : (label : List ℕ) (i v : ℕ) → IsUsed label i v → IsUsed label (suc i) v
+later label i v u = let b = u.before in record { place = u.place; before = omega arith; within = u.within; is = u.is }
+
+-- all numbers below the next one are used
+used : (label : List ℕ) (n : ℕ) → IsNumbered label n → (i v : ℕ) → v < next_label (take i label) → IsUsed label i v
+used label n h zero v l = absurd (omega arith)
+used label n h (suc i) v l = elim (cases_lt i (length label)) [
+  | inl w ↦
+      let e = next_take label i w in
+      let g = h.grows i w in
+      elim (cases_lt v (next_label (take i label))) [
+        | inl m ↦ later label i v (used label n h i v m)
+        | inr m ↦ record { place = i; before = omega arith; within = w; is = omega arith }
+      ]
+  | inr w ↦
+      let a : take (suc i) label ≡ label = take_all (suc i) label (omega arith) in
+      let b : take i label ≡ label = take_all i label w in
+      let m : v < next_label (take i label) = rw b (rw a at l) in
+      later label i v (used label n h i v m)
+]
+
+-- two lists of numbers are equal at the same places
+abbrev AreTied : List ℕ → List ℕ → Type 0
+AreTied a b = (i j : ℕ) → i < length a → j < length a → (get_or a i 0 ≡ get_or a j 0) ↔ (get_or b i 0 ≡ get_or b j 0)
+
+takes_same : (a b : List ℕ) (i : ℕ) → length a ≡ length b → i ≤ length a → ((k : ℕ) → k < i → get_or a k 0 ≡ get_or b k 0) → take i a ≡ take i b
+takes_same a b i n l f =
+    let p : length (take i a) ≡ i = length-take-le i a l in
+    let q : length (take i b) ≡ i = length-take-le i b (omega arith) in
+    lists_same (take i a) (take i b) 0 (p ∙ sym q) (λ k m. let c : k < i = omega arith in get_or-take i a k 0 c ∙ f k c ∙ sym (get_or-take i b k 0 c))
+
+number_same : (a b : List ℕ) (m n i : ℕ) → length a ≡ length b → i < length a → AreTied a b → IsNumbered a m → IsNumbered b n → ((k : ℕ) → k < i → get_or a k 0 ≡ get_or b k 0) → get_or a i 0 ≡ get_or b i 0
+number_same a b m n i long l tied g h f =
+    let e : next_label (take i a) ≡ next_label (take i b) = ap next_label (takes_same a b i long (omega arith) f) in
+    let u = g.grows i l in
+    let v = h.grows i (omega arith) in
+    elim (cases_lt (get_or a i 0) (next_label (take i a))) [
+      | inl c ↦
+          let w = used a m g i (get_or a i 0) c in
+          let s : get_or b w.place 0 ≡ get_or b i 0 = (tied w.place i w.within l).0 w.is in
+          sym w.is ∙ f w.place w.before ∙ s
+      | inr c ↦ elim (cases_lt (get_or b i 0) (next_label (take i b))) [
+        | inl d ↦
+            let w = used b n h i (get_or b i 0) d in
+            let k = w.within in
+            let s : get_or a w.place 0 ≡ get_or a i 0 = (tied w.place i (omega arith) l).1 w.is in
+            sym s ∙ f w.place w.before ∙ w.is
+        | inr d ↦ omega arith
+      ]
+    ]
+
+numbers_before : (a b : List ℕ) (m n : ℕ) → length a ≡ length b → AreTied a b → IsNumbered a m → IsNumbered b n → (i : ℕ) → i ≤ length a → (k : ℕ) → k < i → get_or a k 0 ≡ get_or b k 0
+numbers_before a b m n long tied g h zero l k c = absurd (omega arith)
+numbers_before a b m n long tied g h (suc i) l k c =
+    let f = numbers_before a b m n long tied g h i (omega arith) in
+    elim (cases_lt k i) [
+      | inl d ↦ f k d
+      | inr d ↦ let e : k ≡ i = omega arith in rw e (number_same a b m n i long (omega arith) tied g h f)
+    ]
+
+-- classes have one numbering in order
+pub numbers_same : (a b : List ℕ) (m n : ℕ) → length a ≡ length b → AreTied a b → IsNumbered a m → IsNumbered b n → a ≡ b
+numbers_same a b m n long tied g h = lists_same a b 0 long (numbers_before a b m n long tied g h (length a) (omega arith))
+
+pub count_same : (a b : List ℕ) (m n : ℕ) → a ≡ b → IsNumbered a m → IsNumbered b n → m ≡ n
+count_same a b m n e g h = g.count ∙ ap next_label e ∙ sym h.count
+
+-- ---- shapes
+
+-- a rectangle with a cell
+abbrev pub HasCell : Corners → Type 0
+HasCell r = (r.x1 <ℤ r.x2) × (r.y1 <ℤ r.y2)
+
+pub rects_have : (rects : List Rect) → All HasCell (map corners_of rects)
+rects_have rects = All-map HasCell corners_of rects (λ k d l. ((get_or rects k d).wide, (get_or rects k d).high))
+
+low_cell : (r : Corners) → HasCell r → IsIn r r.x1 r.y1
+low_cell r (w, h) = record { column = record { from = same_z r.x1; to = w }; row = record { from = same_z r.y1; to = h } } where
+  same_z : (x : ℤ) → x ≤ℤ x
+  same_z x = omega (arith, ints)
+
+-- rectangles have one list of shapes
+pub labels_same : (rects : List Corners) (a b : List ℕ) (m n : ℕ) → All HasCell rects → AreShapes rects a m → AreShapes rects b n → a ≡ b
+labels_same rects a b m n full s t = numbers_same a b m n (s.long ∙ sym t.long)
+    (λ i j h l.
+    let p : i < length rects = let e = s.long in omega arith in
+    let q : j < length rects = let e = s.long in omega arith in
+    let x = rect_at rects i in let y = rect_at rects j in
+    let c : IsIn x x.x1 x.y1 = low_cell x (full i nowhere p) in
+    let d : IsIn y y.x1 y.y1 = low_cell y (full j nowhere q) in
+    let f = s.same i j nowhere x.x1 x.y1 y.x1 y.y1 p q c d in
+    let g = t.same i j nowhere x.x1 x.y1 y.x1 y.y1 p q c d in
+    ((λ e. g.1 (f.0 e)), (λ e. f.1 (g.0 e))))
+    s.numbered t.numbered
+
+pub counts_same : (rects : List Corners) (a b : List ℕ) (m n : ℕ) → All HasCell rects → AreShapes rects a m → AreShapes rects b n → m ≡ n
+counts_same rects a b m n full s t = count_same a b m n (labels_same rects a b m n full s t) s.numbered t.numbered
+
+-- ---- fragments
+
+-- the first list of fragments has each of the second
+found : (space over : ℕ) (tiles : List Corners) (label l : List ℕ) (a b : List Corners) (tile shape t s : List ℕ) → AreParts space over tiles label a tile shape → AreParts space over tiles l b t s → (z : Corners) → Contains a z → Contains b z
+found space over tiles label l a b tile shape t s p q z c =
+    let i = get_or tile c.0 0 in
+    let own : rect_at a c.0 ≡ z = get_or_default a c.0 _ z c.1 ∙ c.2 in
+    let part : IsFragmentOf space over tiles i z = subst (λ w. IsFragmentOf space over tiles i w) own (p.each c.0 c.1) in
+    let k = q.all i z part in
+    (k.0, k.1.within, get_or_default b k.0 z _ k.1.within ∙ k.1.is)
+
+-- tiles have one list of fragments
+pub parts_same : (space over : ℕ) (tiles : List Corners) (label l : List ℕ) (a b : List Corners) (tile shape t s : List ℕ) → AreParts space over tiles label a tile shape → AreParts space over tiles l b t s → a ≡ b
+parts_same space over tiles label l a b tile shape t s p q = ordered_same IsBefore before_once a b p.ordered q.ordered
+    (λ z c. found space over tiles label l a b tile shape t s p q z c)
+    (λ z c. found space over tiles l label b a t s tile shape q p z c)
+
+-- no two places of an ordered list hold one rectangle
+one_place : (rects : List Corners) (i j : ℕ) → AllPairs IsBefore rects → i < length rects → j < length rects → rect_at rects i ≡ rect_at rects j → i ≡ j
+one_place rects i j up h l e = elim (cases_lt i j) [
+  | inl a ↦ absurd (never (rect_at rects i) (rect_at rects j) e (up i j nowhere a l))
+  | inr a ↦ elim (cases_lt j i) [
+    | inl b ↦ absurd (never (rect_at rects j) (rect_at rects i) (sym e) (up j i nowhere b h))
+    | inr b ↦ omega arith
+  ]
+] where
+  never : (r s : Corners) → r ≡ s → IsBefore r s → ⊥
+  never r s f b = let P : Corners → Type 0 = λ c. IsBefore r c in let Q : Corners → Type 0 = λ c. IsBefore c r in before_once r r (subst P (sym f) b) (subst P (sym f) b)
+
+pub tile_same : (space over : ℕ) (tiles : List Corners) (label l : List ℕ) (rects : List Corners) (tile shape t s : List ℕ) → AreParts space over tiles label rects tile shape → AreParts space over tiles l rects t s → tile ≡ t
+tile_same space over tiles label l rects tile shape t s p q = lists_same tile t 0 (p.tile_long ∙ sym q.tile_long)
+    (λ k h.
+    let w : k < length rects = let e = p.tile_long in omega arith in
+    let (m, n) = q.all (get_or tile k 0) (rect_at rects k) (p.each k w) in
+    let e : m ≡ k = one_place rects m k p.ordered n.within w n.is in
+    sym n.own ∙ ap (λ i. get_or t i 0) e)
+
+pub shape_same : (space over : ℕ) (tiles : List Corners) (label : List ℕ) (rects : List Corners) (tile shape s : List ℕ) → AreParts space over tiles label rects tile shape → AreParts space over tiles label rects tile s → shape ≡ s
+shape_same space over tiles label rects tile shape s p q = lists_same shape s 0 (p.shape_long ∙ sym q.shape_long)
+    (λ k h. let w : k < length rects = let e = p.shape_long in omega arith in p.shapes k w ∙ sym (q.shapes k w))
+
+-- cuts with the same fragments and the same zone are the same
+pub cut_same : (c d : Cut) → c.a ≡ d.a → c.b ≡ d.b → corners_of c.zone ≡ corners_of d.zone → c ≡ d
+cut_same c d e f g =
+    let h : c.zone ≡ d.zone = same_corners c.zone d.zone g in
+    let r : ◌≡◌ {A = Cut} (record { a = c.a; b = c.b; zone = c.zone }) (record { a = d.a; b = d.b; zone = d.zone }) = cc in r
+
+cut_found : (over : ℕ) (tiles rects : List Corners) (tile : List ℕ) (a b : List Cut) → AreCuts over tiles rects tile a → AreCuts over tiles rects tile b → (c : Cut) → Contains a c → Contains b c
+cut_found over tiles rects tile a b s t c m =
+    let x = has_all (λ (c : Cut). IsCut over tiles rects tile c.a c.b (corners_of c.zone)) a c s.each m in
+    let (k, d, l, e, (f, g)) = t.all c.a c.b (corners_of c.zone) x in
+    let y : IsCut over tiles rects tile d.a d.b (corners_of d.zone) = let P : Cut → Type 0 = λ c. IsCut over tiles rects tile c.a c.b (corners_of c.zone) in subst P e (t.each k d l) in
+    let h : corners_of d.zone ≡ corners_of c.zone = y.overlap ∙ ap (zone_of over tiles rects tile) f ∙ sym x.overlap in
+    let r : d ≡ c = cut_same d c f g h in
+    (k, l, get_or_default b k c d l ∙ e ∙ r) where
+      zone_of : ℕ → List Corners → List Corners → List ℕ → ℕ → Corners
+      zone_of over tiles rects tile i = zone_at over (rect_at tiles (get_or tile i 0)) (end_of (rect_at tiles (get_or tile i 0)) (rect_at rects i))
+
+pub cuts_same : (over : ℕ) (tiles rects : List Corners) (tile : List ℕ) (a b : List Cut) → AreCuts over tiles rects tile a → AreCuts over tiles rects tile b → a ≡ b
+cuts_same over tiles rects tile a b s t = ordered_same (λ (c : Cut) d. c.a < d.a) (λ x y h l. omega (arith, h, l)) a b s.ordered t.ordered
+    (cut_found over tiles rects tile a b s t) (cut_found over tiles rects tile b a t s)
+
+lists_joined : (f g : Fragments) → f.rects ≡ g.rects → f.tile ≡ g.tile → f.shape ≡ g.shape → f.cuts ≡ g.cuts → f ≡ g
+lists_joined f g d e h i = let r : ◌≡◌ {A = Fragments} (record { rects = f.rects; tile = f.tile; shape = f.shape; cuts = f.cuts }) (record { rects = g.rects; tile = g.tile; shape = g.shape; cuts = g.cuts }) = cc in r
+
+-- tiles with their shapes have one list of fragments with their cuts
+pub fragments_same : (space over : ℕ) (tiles : List Corners) (label : List ℕ) (f g : Fragments) → AreFragments space over tiles label f → AreFragments space over tiles label g → f ≡ g
+fragments_same space over tiles label f g a b =
+    let c : map corners_of f.rects ≡ map corners_of g.rects = parts_same space over tiles label label (map corners_of f.rects) (map corners_of g.rects) f.tile f.shape g.tile g.shape a.parts b.parts in
+    let r : f.rects ≡ g.rects = maps_same corners_of same_corners f.rects g.rects c in
+    let P : List Corners → Type 0 = λ z. AreParts space over tiles label z g.tile g.shape in
+    let p : AreParts space over tiles label (map corners_of f.rects) g.tile g.shape = subst P (sym c) b.parts in
+    let t : f.tile ≡ g.tile = tile_same space over tiles label label (map corners_of f.rects) f.tile f.shape g.tile g.shape a.parts p in
+    let Q : List ℕ → Type 0 = λ z. AreParts space over tiles label (map corners_of f.rects) z g.shape in
+    let q : AreParts space over tiles label (map corners_of f.rects) f.tile g.shape = subst Q (sym t) p in
+    let s : f.shape ≡ g.shape = shape_same space over tiles label (map corners_of f.rects) f.tile f.shape g.shape a.parts q in
+    let R : List Corners → Type 0 = λ z. AreCuts over tiles z g.tile g.cuts in
+    let S : List ℕ → Type 0 = λ z. AreCuts over tiles (map corners_of f.rects) z g.cuts in
+    let d : f.cuts ≡ g.cuts = cuts_same over tiles (map corners_of f.rects) f.tile f.cuts g.cuts a.cuts (subst S (sym t) (subst R (sym c) b.cuts)) in
+    lists_joined f g r t s d
+
+-- ---- how many
+
+-- the tiles of fragments, each with its rectangle
+abbrev zipped : List ℕ → List Corners → List (ℕ × Corners)
+zipped [] rects = []
+zipped (i ∷ is) [] = []
+zipped (i ∷ is) (r ∷ rs) = (i, r) ∷ zipped is rs
+
+zipped_long : (is : List ℕ) (rs : List Corners) → length (zipped is rs) ≤ length rs
+zipped_long [] rs = omega arith
+zipped_long (i ∷ is) [] = omega arith
+zipped_long (i ∷ is) (r ∷ rs) = let h = zipped_long is rs in omega arith
+
+in_zipped : (is : List ℕ) (rs : List Corners) (k : ℕ) (p : ℕ × Corners) → k < length is → k < length rs → get_or is k 0 ≡ p.0 → rect_at rs k ≡ p.1 → Contains (zipped is rs) p
+in_zipped [] rs k p l m e f = absurd (omega arith)
+in_zipped (i ∷ is) [] k p l m e f = absurd (omega arith)
+in_zipped (i ∷ is) (r ∷ rs) zero p l m e f = let g : ◌≡◌ {A = ℕ × Corners} (i, r) (p.0, p.1) = cc in (0, omega arith, g)
+in_zipped (i ∷ is) (r ∷ rs) (suc k) p l m e f = let c = in_zipped is rs k p (omega arith) (omega arith) e f in let h = c.1 in (suc c.0, omega (arith, h), c.2)
+
+-- where there are no more than n fragments, no list of different ones is longer
+pub no_more_fragments : (space over : ℕ) (tiles : List Corners) (label : List ℕ) (f : Fragments) (n : ℕ) → AreFragments space over tiles label f → length f.rects ≤ n → ¬ HasMoreFragments space over tiles n
+no_more_fragments space over tiles label f n a few more =
+    let rects = map corners_of f.rects in
+    let long : length rects ≡ length f.rects = length-map f.rects corners_of in
+    let m = more.many in
+    let h : length more.list ≤ length (zipped f.tile rects) = no_more more.list (zipped f.tile rects) more.different
+    (λ k d l.
+    let p = get_or more.list k d in
+    let (i, x) = a.parts.all p.0 p.1 (more.each k d l) in
+    let t = a.parts.tile_long in let w = x.within in
+    in_zipped f.tile rects i p (omega arith) w x.own x.is) in
+    let o = zipped_long f.tile rects in
+    omega arith

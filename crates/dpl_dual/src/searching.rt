@@ -1,0 +1,74 @@
+//! What a search for distances keeps.
+
+ghost use Rattle.std.specs.Prelude.{◌≡◌, ℕ, ◌<◌, is_some, option_map, false, OnOk, IfOk, MatchBool, List};
+ghost use Rattle.dpl_dual.specs.declared.crosses.Cross.{Cross};
+ghost use Rattle.dpl_dual.specs.Searches.{IsLabelled};
+ghost use Rattle.dpl_dual.specs.Labels.{labels, IsFar, IsUnderWay, AreReachedAlso, WaitsAlso};
+
+use crate::reach::Reach;
+use std::alloc::{AllocError, Global};
+use std::collections::{BTreeMap, BinaryHeap};
+
+/// The labels so far, the faces that have one, and a queue of labels whose ways are to be tried. A
+/// label waits by how near it is, so that the nearest is the first that the queue gives.
+#[derive(Drop)]
+pub struct Search {
+    pub map: BTreeMap<u32, Reach>,
+    pub reached: Vec<u32>,
+    pub queue: BinaryHeap<(u64, u32)>,
+}
+
+/// The length of a face's label.
+pub fn length_of(search: &Search, face: u32) -> Option<u64>
+    ensures { result ≡ option_map (λ r. r.length) (labels search.now face) }
+{
+    match search.map.get(&face) {
+        Some(reach) => Some(reach.length),
+        None => None,
+    }
+}
+
+/// Whether a face has a label of this length.
+pub fn has_length(search: &Search, face: u32, length: u64) -> bool
+    ensures { MatchBool result (IsFar search.now face length) (IsFar search.now face length → ⊥) }
+{
+    match search.map.get(&face) {
+        Some(reach) => reach.length == length,
+        None => false,
+    }
+}
+
+/// Gives a face another label.
+pub fn label(search: &mut Search, face: u32, reach: Reach, known: bool) -> Result<(), AllocError>
+    requires { known ≡ is_some (labels search.old face) }
+    ensures label { OnOk result (IsLabelled (labels search.old) (labels search.new) face reach) }
+    ensures reached { OnOk result (AreReachedAlso (labels search.old face) face
+        search.old.reached.items search.new.reached.items) }
+    ensures queue { OnOk result (WaitsAlso reach.length face search.old search.new) }
+{
+    search.queue.push((u64::MAX - reach.length, face))?;
+    search.map.insert(face, reach)?;
+    if !known {
+        search.reached.push(face)?;
+    }
+    Ok(())
+}
+
+/// A search that has reached the first face alone.
+pub fn begin(alloc: Global, from: u32, faces: u32) -> Result<Search, AllocError>
+    requires { from < faces }
+    ensures { IfOk result (λ s. (ways : List Cross) → IsUnderWay ways faces from (λ f. false) s) }
+{
+    let mut search = Search {
+        map: BTreeMap::new(alloc),
+        reached: Vec::new(alloc),
+        queue: BinaryHeap::new(alloc),
+    };
+    let _faces = faces;
+    let reach = Reach {
+        length: 0,
+        last: None,
+    };
+    label(&mut search, from, reach, false)?;
+    Ok(search)
+}

@@ -1,0 +1,98 @@
+-- Cells have one list of fragments and one net.
+use Rattle.std.proofs.Common.{arith, ◌≡◌, ◌<◌, ◌≤◌, ◌*◌, ◌+◌, ℕ, zero, suc, Bool, true, false, List, length, sym, ◌∙◌, subst, All, get_or}
+use Rattle.std.specs.Prelude.{ℤ, if◌then◌else◌}
+use Rattle.std.specs.List.{range_with_len}
+use Rattle.std.proofs.lemmas.Int.{ints}
+use Rattle.std.proofs.lemmas.List.{length-map, get_or_default}
+use Rattle.std.proofs.lemmas.List.FromFn.{length-range_with_len}
+use Rattle.dpl_cell.specs.Places.{Corners, corners_of}
+use Rattle.dpl_cell.specs.Cells.{IsWithin}
+use Rattle.dpl_cell.specs.Tiles.{IsTile, AreTiles}
+use Rattle.dpl_near.specs.Shapes.{AreShapes}
+use Rattle.dpl_cuts.specs.declared.types.Fragments.{Fragments}
+use Rattle.dpl_cuts.specs.Positions.{nowhere, rect_at, lies_along_x, first_of, last_of}
+use Rattle.dpl_cuts.specs.Fragments.{AreFragments, HasMoreFragments}
+use Rattle.dpl_cuts.proofs.OrderedLemmas.{no_more}
+use Rattle.dpl_cuts.proofs.SameLemmas.{HasCell, tiles_same, labels_same, fragments_same, no_more_fragments}
+use Rattle.dpl_sign.specs.declared.nets.Net.{Net}
+use Rattle.dpl_links.specs.declared.types.Weights.{Weights}
+use Rattle.dpl_links.specs.Nets.{IsNet, HasMoreEdges}
+use Rattle.dpl_links.proofs.NetLemmas.{edges_length, not_more_edges}
+use Rattle.dpl_report.specs.declared.options.Options.{Options}
+use Rattle.dpl_layer.specs.Layers.{AreFragmentsOf, IsLayerOf}
+use Rattle.dpl_links.proofs.SameLemmas.{net_same}
+
+-- ---- tiles
+
+has_cell : (cells : ℤ → ℤ → Bool) (r : Corners) → IsTile cells r → HasCell r
+has_cell cells r t =
+    let h = t.high in
+    let w : IsWithin r.y1 r.y2 r.y1 = record { from = omega (arith, ints); to = h } in
+    ((t.rows r.y1 w).long, h)
+
+have_cells : (cells : ℤ → ℤ → Bool) (tiles : List Corners) → AreTiles cells tiles → All HasCell tiles
+have_cells cells tiles a k d l = has_cell cells (get_or tiles k d) (a.each k d l)
+
+-- the first position of a rectangle with a cell is one of its positions
+within_first : (r : Corners) → HasCell r → IsWithin (first_of r) (last_of r) (first_of r)
+within_first r (w, h) = elim (lies_along_x r) as (λ b. IsWithin (if b then r.x1 else r.y1) (if b then r.x2 else r.y2) (if b then r.x1 else r.y1)) [
+  | true ↦ record { from = omega (arith, ints); to = w }
+  | false ↦ record { from = omega (arith, ints); to = h }
+]
+
+-- ---- the numbers below n
+
+range_at : (a n k d : ℕ) → k < n → get_or (range_with_len a n) k d ≡ a + k
+range_at a zero k d l = absurd (omega arith)
+range_at a (suc n) zero d l = omega arith
+range_at a (suc n) (suc k) d l = let e = range_at (a + 1) n k d (omega arith) in omega arith
+
+-- each tile has a fragment, so there are no more tiles than fragments
+pub few_tiles : (space over : ℕ) (cells : ℤ → ℤ → Bool) (tiles : List Corners) (label : List ℕ) (f : Fragments) → AreTiles cells tiles → AreFragments space over tiles label f → length tiles ≤ length f.rects
+few_tiles space over cells tiles label f t a =
+    let n = length tiles in
+    let numbers = range_with_len 0 n in
+    let long : length numbers ≡ n = length-range_with_len 0 n in
+    let h : length numbers ≤ length f.tile = no_more numbers f.tile
+    (λ i j d k l e. let p = range_at 0 n i d (omega arith) in let q = range_at 0 n j d (omega arith) in absurd (omega arith))
+    (λ i d l.
+    let m : i < n = omega arith in
+    let e : get_or numbers i d ≡ i = let r = range_at 0 n i d m in omega arith in
+    let full = have_cells cells tiles t i nowhere m in
+    let (k, held) = a.parts.cover i (first_of (rect_at tiles i)) m (within_first (rect_at tiles i) full) in
+    let w = held.within in let o = held.own in let z = a.parts.tile_long in
+    let u : k < length f.tile = omega arith in
+    (k, u, get_or_default f.tile k (get_or numbers i d) 0 u ∙ o ∙ sym e)) in
+    let p = a.parts.tile_long in
+    let q = length-map f.rects corners_of in
+    omega arith
+
+-- ---- fragments and nets
+
+pub fragments_same_of : (space over : ℕ) (cells : ℤ → ℤ → Bool) (f g : Fragments) → AreFragmentsOf space over cells f → AreFragmentsOf space over cells g → f ≡ g
+fragments_same_of space over cells f g a b =
+    let t : b.tiles ≡ a.tiles = tiles_same cells b.tiles a.tiles b.are_tiles a.are_tiles in
+    let s = subst (λ z. AreShapes z b.label b.count) t b.are_shapes in
+    let l : b.label ≡ a.label = labels_same a.tiles b.label a.label b.count a.count (have_cells cells a.tiles a.are_tiles) s a.are_shapes in
+    let p = subst (λ z. AreFragments space over z b.label g) t b.are_fragments in
+    let q = subst (λ z. AreFragments space over a.tiles z g) l p in
+    fragments_same space over a.tiles a.label f g a.are_fragments q
+
+pub same_layer : (o : Options) (cells : ℤ → ℤ → Bool) (f g : Fragments) (n m : Net) → IsLayerOf o cells f n → IsLayerOf o cells g m → (f ≡ g) × (n ≡ m)
+same_layer o cells f g n m a b =
+    let e : g ≡ f = fragments_same_of (2 * o.space) (2 * o.overlap) cells g f b.fragments a.fragments in
+    let p = subst (λ z. IsNet z o.weights (2 * o.space) m) e b.net in
+    (sym e, net_same f o.weights (2 * o.space) n m a.net p)
+
+-- ---- how many
+
+-- the tiles of cells with no more than n fragments have no more
+pub within_fragments : (space over : ℕ) (cells : ℤ → ℤ → Bool) (f : Fragments) (tiles : List Corners) (n : ℕ) → AreFragmentsOf space over cells f → length f.rects ≤ n → AreTiles cells tiles → ¬ HasMoreFragments space over tiles n
+within_fragments space over cells f tiles n a few t more =
+    let e : tiles ≡ a.tiles = tiles_same cells tiles a.tiles t a.are_tiles in
+    no_more_fragments space over a.tiles a.label f n a.are_fragments few (subst (λ z. HasMoreFragments space over z n) e more)
+
+pub within_edges : (f : Fragments) (w : Weights) (space : ℕ) (m : Net) (n : ℕ) → IsNet f w space m → length m.graph.edges ≤ n → ¬ HasMoreEdges f space n
+within_edges f w space m n a few =
+    let e = edges_length w a.bonds f.cuts a.links m.graph.edges a.edges in
+    not_more_edges f space a.bonds m.pieces m.piece_count a.links n a.are_bonds a.are_pieces a.are_clashes (omega arith)

@@ -1,0 +1,31 @@
+-- The fragments of a layer and their net.
+use Rattle.std.specs.Prelude.{ℕ, ◌*◌, ℤ, Bool, List}
+use Rattle.dpl_cell.specs.Places.{Corners}
+use Rattle.dpl_cell.specs.Tiles.{AreTiles}
+use Rattle.dpl_tiles.specs.Union.{SharesOut}
+use Rattle.dpl_near.specs.Shapes.{AreShapes}
+use Rattle.dpl_cuts.specs.declared.types.Fragments.{Fragments}
+use Rattle.dpl_cuts.specs.Fragments.{AreFragments}
+use Rattle.dpl_sign.specs.declared.nets.Net.{Net}
+use Rattle.dpl_links.specs.Nets.{IsNet}
+use Rattle.dpl_report.specs.declared.options.Options.{Options}
+
+-- the fragments of the tiles of these cells, each with the number of its shape; lengths are in
+-- grid units
+pub record AreFragmentsOf (space over : ℕ) (cells : ℤ → ℤ → Bool) (f : Fragments) : Type 0 where
+  pub tiles : List Corners
+  pub label : List ℕ
+  pub count : ℕ
+  pub are_tiles : AreTiles cells tiles
+  pub are_shapes : AreShapes tiles label count
+  pub are_fragments : AreFragments space over tiles label f
+
+-- the fragments of these cells and their net, for the lengths and weights of the options; a
+-- hundredth is two grid units
+pub record IsLayerOf (o : Options) (cells : ℤ → ℤ → Bool) (f : Fragments) (n : Net) : Type 0 where
+  pub fragments : AreFragmentsOf (2 * o.space) (2 * o.overlap) cells f
+  pub net : IsNet f o.weights (2 * o.space) n
+
+-- each of these cells lies in exactly one tile, and no other cell lies in any
+abbrev pub TilesShareOut : (ℤ → ℤ → Bool) → Type 0
+TilesShareOut cells = (tiles : List Corners) → AreTiles cells tiles → SharesOut cells tiles

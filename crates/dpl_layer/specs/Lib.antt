@@ -1,0 +1,4 @@
+pub mod Limits
+pub mod Layers
+pub mod Refusals
+pub mod Errors

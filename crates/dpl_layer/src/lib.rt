@@ -1,0 +1,19 @@
+//! From the text of a layout to the fragments and the net of one layer.
+//!
+//! `read_layer` reads the text, cuts the tiles of the layer into fragments and links them. What
+//! it gives is the one list of fragments and the one net that the layer has (`one_layer`), and
+//! it answers each refusal exactly where the text breaks that rule or passes that limit first.
+#![tactic(auto)]
+
+mod drawing;
+mod error;
+mod laws;
+pub mod limits;
+mod reading;
+
+pub use error::LayerError;
+pub use laws::one_layer;
+pub use reading::{Layer, read_layer};
+
+#[cfg(test)]
+mod tests;

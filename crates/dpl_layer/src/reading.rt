@@ -1,0 +1,80 @@
+// From a text to a layer.
+ghost use Rattle.std.specs.Prelude.{◌≡◌, ◌⊎◌, ◌≤◌, ◌*◌, length, IfOk, IfErr, Err};
+ghost use Rattle.dpl_cell.specs.Layers.{cells_of};
+ghost use Rattle.dpl_cif.specs.Reading.{reading};
+ghost use Rattle.dpl_cif.specs.OnCells.{OnCells};
+ghost use Rattle.dpl_cuts.specs.Fragments.{CameFromCut};
+ghost use Rattle.dpl_layer.specs.Layers.{IsLayerOf, TilesShareOut};
+ghost use Rattle.dpl_layer.specs.Refusals.{RefusesCells, RefusesLayer};
+
+use crate::drawing::cut_layout;
+use crate::error::LayerError;
+use dpl_cell::Layout;
+use dpl_cif::read;
+use dpl_cuts::types::Fragments;
+use dpl_links::net;
+use dpl_report::Options;
+use dpl_sign::Net;
+use dpl_tiles::tiles_share_out;
+use std::alloc::Global;
+
+/// A layer as fragments in the order of their lower left corners, and the net that joins them
+/// by number.
+#[derive(Drop)]
+pub struct Layer {
+    pub fragments: Fragments,
+    pub net: Net,
+}
+
+/// The fragments and the net of a layer of a text.
+///
+/// The text has at most 16 MiB.
+pub fn read_layer(alloc: Global, text: &[u8], options: &Options) -> Result<Layer, LayerError>
+    requires { length text.now ≤ 16777216 }
+    ensures layer { IfOk result (λ l. OnCells (reading options.now.layer text.now) (λ cells.
+        IsLayerOf options.now cells l.fragments l.net)) }
+    ensures shared { IfOk result (λ _. OnCells (reading options.now.layer text.now) TilesShareOut) }
+    ensures cut { IfOk result (λ l. CameFromCut (2 * options.now.space) l.fragments) }
+    ensures few_fragments { IfOk result (λ l. length l.fragments.rects ≤ 100000) }
+    ensures few_edges { IfOk result (λ l. length l.net.graph.edges ≤ 400000) }
+    ensures refused { (e : LayerError) → result ≡ Err e →
+        (e ≡ LayerError.NoMemory) ⊎ RefusesLayer options.now text.now e }
+    ensures exact { (e : LayerError) → RefusesLayer options.now text.now e →
+        (result ≡ Err e) ⊎ (result ≡ Err LayerError.NoMemory) }
+{
+    read_parts(alloc, text, options)
+}
+
+/// The same; only what refuses the text is said, and not when each refusal comes.
+fn read_parts(alloc: Global, text: &[u8], options: &Options) -> Result<Layer, LayerError>
+    requires { length text.now ≤ 16777216 }
+    ensures layer { IfOk result (λ l. OnCells (reading options.now.layer text.now) (λ cells.
+        IsLayerOf options.now cells l.fragments l.net)) }
+    ensures shared { IfOk result (λ _. OnCells (reading options.now.layer text.now) TilesShareOut) }
+    ensures cut { IfOk result (λ l. CameFromCut (2 * options.now.space) l.fragments) }
+    ensures few_fragments { IfOk result (λ l. length l.fragments.rects ≤ 100000) }
+    ensures few_edges { IfOk result (λ l. length l.net.graph.edges ≤ 400000) }
+    ensures refused { IfErr result (λ e.
+        (e ≡ LayerError.NoMemory) ⊎ RefusesLayer options.now text.now e) }
+{
+    let layout = read(alloc, text, &options.layer)?;
+    let layer = draw(alloc, &layout, options)?;
+    Ok(layer)
+}
+
+/// The fragments and the net of a layout.
+fn draw(alloc: Global, layout: &Layout, options: &Options) -> Result<Layer, LayerError>
+    ensures layer { IfOk result (λ l.
+        IsLayerOf options.now (cells_of layout.now) l.fragments l.net) }
+    ensures shared { TilesShareOut (cells_of layout.now) }
+    ensures cut { IfOk result (λ l. CameFromCut (2 * options.now.space) l.fragments) }
+    ensures few_fragments { IfOk result (λ l. length l.fragments.rects ≤ 100000) }
+    ensures few_edges { IfOk result (λ l. length l.net.graph.edges ≤ 400000) }
+    ensures refused { IfErr result (λ e.
+        (e ≡ LayerError.NoMemory) ⊎ RefusesCells options.now (cells_of layout.now) e) }
+{
+    tiles_share_out(layout);
+    let fragments = cut_layout(alloc, layout, options)?;
+    let net = net(alloc, &fragments, &options.weights, 2 * options.space)?;
+    Ok(Layer { fragments, net })
+}

@@ -1,0 +1,131 @@
+ghost use Rattle.std.specs.Prelude.{◌≤◌, length};
+
+use crate::{LayerError, read_layer};
+use dpl_cif::What;
+use dpl_lex::Name;
+use dpl_links::types::Weights;
+use dpl_report::Options;
+use std::alloc::Global;
+use std::test::Fail;
+
+/// Layer M, a spacing of one micron, an overlap of 0.2.
+fn options() -> Option<Options> {
+    let layer = Name::new(b"M")?;
+    if layer.bytes().len() > 31 {
+        return None;
+    }
+    let weights = Weights {
+        stitch: 1,
+        conflict: 10,
+    };
+    Some(Options {
+        layer,
+        space: 100,
+        overlap: 20,
+        weights,
+    })
+}
+
+fn refusal(alloc: Global, text: &[u8]) -> Option<LayerError>
+    requires { length text.now ≤ 16777216 }
+{
+    let options = options()?;
+    read_layer(alloc, text, &options).err()
+}
+
+/// A wire with a box near each end is cut in its middle.
+#[test]
+fn a_wire_is_cut(rt: HostRuntime) -> Result<(), Fail> {
+    let options = options().ok_or("no options")?;
+    let text = b"L M; B 1000 100 500 50; B 100 100 50 200; B 100 100 950 200; E";
+    let layer = read_layer(rt.alloc(), text.as_slice(), &options)
+        .ok()
+        .ok_or("refused")?;
+    assert_eq!(rt; layer.fragments.rects.as_slice().len(), 4);
+    assert_eq!(rt; layer.fragments.cuts.as_slice().len(), 1);
+    assert_eq!(rt; layer.net.graph.edges.as_slice().len(), 3);
+    Ok(())
+}
+
+#[test]
+fn a_broken_rule(rt: HostRuntime) -> Result<(), Fail> {
+    let error = refusal(rt.alloc(), b"L M; B 0 1 2; E".as_slice()).ok_or("read")?;
+    let wanted = LayerError::Layout {
+        command: 2,
+        what: What::Syntax,
+    };
+    assert_eq!(rt; error, wanted);
+    Ok(())
+}
+
+#[test]
+fn too_far(rt: HostRuntime) -> Result<(), Fail> {
+    let error = refusal(rt.alloc(), b"L M; B 2 2 536870912 0; E".as_slice()).ok_or("read")?;
+    let wanted = LayerError::Limit {
+        kind: 4,
+        count: 1_073_741_826,
+    };
+    assert_eq!(rt; error, wanted);
+    Ok(())
+}
+
+/// 512 upright bars and 512 level ones make 263,168 tiles.
+#[test]
+fn too_many_tiles(rt: HostRuntime) -> Result<(), Fail> {
+    let text =
+        b"DS 1; L M; B 10 20480 5 10240; DF; DS 2; C 1; C 1 T 40 0; DF; DS 3; C 2; C 2 T 80 0; DF; DS \
+      4; C 3; C 3 T 160 0; DF; DS 5; C 4; C 4 T 320 0; DF; DS 6; C 5; C 5 T 640 0; DF; DS 7; C 6; \
+      C 6 T 1280 0; DF; DS 8; C 7; C 7 T 2560 0; DF; DS 9; C 8; C 8 T 5120 0; DF; DS 10; C 9; C 9 \
+      T 10240 0; DF; DS 11; L M; B 20480 10 10240 25; DF; DS 12; C 11; C 11 T 0 40; DF; DS 13; C \
+      12; C 12 T 0 80; DF; DS 14; C 13; C 13 T 0 160; DF; DS 15; C 14; C 14 T 0 320; DF; DS 16; C \
+      15; C 15 T 0 640; DF; DS 17; C 16; C 16 T 0 1280; DF; DS 18; C 17; C 17 T 0 2560; DF; DS 19; \
+      C 18; C 18 T 0 5120; DF; DS 20; C 19; C 19 T 0 10240; DF; C 10; C 20; E";
+    let wanted = LayerError::Limit {
+        kind: 5,
+        count: 100_001,
+    };
+    let error = refusal(rt.alloc(), text.as_slice()).ok_or("read")?;
+    assert_eq!(rt; error, wanted);
+    Ok(())
+}
+
+/// 141 wires with 250 boxes between each two make 105,000 fragments.
+#[test]
+fn too_many_fragments(rt: HostRuntime) -> Result<(), Fail> {
+    let text =
+        b"DS 1; L M; B 149710 10 74855 5; DF; DS 2; C 1; C 1 T 0 120; DF; DS 3; C 2; C 2 T 0 240; DF; \
+      DS 4; C 3; C 3 T 0 480; DF; DS 5; C 4; C 4 T 0 960; DF; DS 6; C 5; C 5 T 0 1920; DF; DS 7; C \
+      6; C 6 T 0 3840; DF; DS 8; C 7; C 7 T 0 7680; DF; DS 9; C 8; C 8 T 0 15360; DF; DS 11; L M; \
+      B 10 10 5 65; DF; DS 12; C 11; C 11 T 600 0; DF; DS 13; C 12; C 12 T 1200 0; DF; DS 14; C \
+      13; C 13 T 2400 0; DF; DS 15; C 14; C 14 T 4800 0; DF; DS 16; C 15; C 15 T 9600 0; DF; DS \
+      17; C 16; C 16 T 19200 0; DF; DS 18; C 17; C 17 T 38400 0; DF; DS 19; C 18; C 18 T 76800 0; \
+      DF; DS 20; C 18; C 17 T 76800 0; C 16 T 115200 0; C 15 T 134400 0; C 14 T 144000 0; C 12 T \
+      148800 0; DF; DS 21; C 20; C 20 T 300 120; DF; DS 22; C 21; C 21 T 0 240; DF; DS 23; C 22; C \
+      22 T 0 480; DF; DS 24; C 23; C 23 T 0 960; DF; DS 25; C 24; C 24 T 0 1920; DF; DS 26; C 25; \
+      C 25 T 0 3840; DF; DS 27; C 26; C 26 T 0 7680; DF; C 8; C 4 T 0 15360; C 3 T 0 16320; C 1 T \
+      0 16800; C 27; C 23 T 0 15360; C 22 T 0 16320; E";
+    let wanted = LayerError::Limit {
+        kind: 6,
+        count: 100_001,
+    };
+    let error = refusal(rt.alloc(), text.as_slice()).ok_or("read")?;
+    assert_eq!(rt; error, wanted);
+    Ok(())
+}
+
+/// 1,024 boxes that are all close to one another make 523,776 clashes.
+#[test]
+fn too_many_edges(rt: HostRuntime) -> Result<(), Fail> {
+    let text =
+        b"DS 1 1 2; L M; B 2 2 1 1; DF; DS 2; C 1; C 1 T 2 0; DF; DS 3; C 2; C 2 T 4 0; DF; DS 4; C 3; \
+      C 3 T 8 0; DF; DS 5; C 4; C 4 T 16 0; DF; DS 6; C 5; C 5 T 32 0; DF; DS 7; C 6; C 6 T 0 2; \
+      DF; DS 8; C 7; C 7 T 0 4; DF; DS 9; C 8; C 8 T 0 8; DF; DS 10; C 9; C 9 T 0 16; DF; DS 11; C \
+      10; C 10 T 0 32; DF; C 11; E";
+    let wanted = LayerError::Limit {
+        kind: 7,
+        count: 400_001,
+    };
+    let error = refusal(rt.alloc(), text.as_slice()).ok_or("read")?;
+    assert_eq!(rt; error, wanted);
+    Ok(())
+}

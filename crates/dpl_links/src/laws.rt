@@ -1,0 +1,51 @@
+// What holds of the net of fragments, said without the steps that find it.
+ghost use Rattle.std.specs.Prelude.{◌≡◌, ℕ, ◌≤◌, List, length, map};
+ghost use Rattle.dpl_cell.specs.Places.{Corners, corners_of};
+ghost use Rattle.dpl_near.specs.Shapes.{AreShapes};
+ghost use Rattle.dpl_sign.specs.declared.nets.Net.{Net};
+ghost use Rattle.dpl_cuts.specs.Fragments.{AreFragments};
+ghost use Rattle.dpl_links.specs.declared.types.Weights.{Weights};
+ghost use Rattle.dpl_links.specs.Nets.{IsNet, HasMoreEdges};
+ghost use Rattle.dpl_links.specs.Spacing.{AreWithinShapes, AreAllClashes};
+
+use dpl_cuts::types::Fragments;
+
+/// All fragments of a piece are of one shape.
+pub fn pieces_are_within_shapes(fragments: &Fragments, space: u64, overlap: u64)
+    requires { 2 ≤ overlap }
+    ensures { (tiles : List Corners) (label : List ℕ) (count : ℕ) (weights : Weights) (net : Net) →
+        AreShapes tiles label count → AreFragments space overlap tiles label fragments.now →
+        IsNet fragments.now weights space net → AreWithinShapes net.pieces fragments.now.shape }
+{
+    let _lengths = (space, overlap);
+}
+
+/// The two fragments of each clash hold cells of different shapes that are too close, each two such cells lie in
+/// fragments whose pieces a clash joins, and no two clashes join the same two pieces.
+pub fn clashes_are_all(fragments: &Fragments, space: u64, overlap: u64)
+    requires { 2 ≤ overlap }
+    ensures { (tiles : List Corners) (label : List ℕ) (count : ℕ) (weights : Weights) (net : Net) →
+        AreShapes tiles label count → AreFragments space overlap tiles label fragments.now →
+        IsNet fragments.now weights space net →
+        AreAllClashes tiles (map corners_of fragments.now.rects) space net.pieces net.graph.edges }
+{
+    let _lengths = (space, overlap);
+}
+
+/// Fragments have one net at a spacing and with weights.
+pub fn nets_are_the_same(fragments: &Fragments)
+    ensures { (weights : Weights) (space : ℕ) (one other : Net) →
+        IsNet fragments.now weights space one → IsNet fragments.now weights space other →
+        one ≡ other }
+{
+    let _fragments = fragments;
+}
+
+/// Fragments whose net has no more edges than a number have no more edges than that.
+pub fn edges_are_all(fragments: &Fragments)
+    ensures { (weights : Weights) (space n : ℕ) (net : Net) →
+        IsNet fragments.now weights space net → length net.graph.edges ≤ n →
+        ¬ HasMoreEdges fragments.now space n }
+{
+    let _fragments = fragments;
+}

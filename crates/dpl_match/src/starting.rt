@@ -1,0 +1,173 @@
+//! The first values and pairs: each single member gets half the distance to its nearest one, and
+//! what is tight then is paired.
+
+ghost use Rattle.std.specs.Prelude.{◌≡◌, ◌≢◌, ℕ, ◌+◌, ◌*◌, ◌<◌, ◌≤◌, ◌^◌, None, true, false, replicate, length, slice_index};
+ghost use Rattle.dpl_laminar.specs.Changes.{IsSingles};
+ghost use Rattle.dpl_laminar.specs.Families.{Sets, IsFamily};
+ghost use Rattle.dpl_laminar.specs.Storing.{sets_of};
+ghost use Rattle.dpl_match.specs.Starting.{AreRaised, AreAlone, first_steps};
+ghost use Rattle.dpl_tree.specs.Mates.{totals};
+ghost use Rattle.dpl_tree.specs.Metrics.{dist_of};
+ghost use Rattle.dpl_tree.specs.Stages.{IsRest};
+ghost use Rattle.dpl_tree.specs.Views.{mate_in};
+
+use dpl_laminar::{Family, Steps};
+use dpl_tree::{Metric, pair};
+use std::sync::ledger::Ledger;
+
+/// The lesser of an amount and the distance from s to t, if that is another member.
+fn least_to(metric: &Metric, s: u32, t: u32, least: u64) -> u64
+    requires s { s < metric.now.size }
+    requires t { t < metric.now.size }
+    ensures least { result ≤ least }
+    ensures near { t ≢ s → result ≤ dist_of metric.now s t }
+{
+    if t == s {
+        return least;
+    }
+    least.min(metric.dist(s, t))
+}
+
+/// Half the distance from a member to its nearest one, and no more than a value may be.
+fn half_nearest(metric: &Metric, s: u32) -> u64
+    requires s { s < metric.now.size }
+    ensures half { (t : ℕ) → t < metric.now.size → t ≢ s → 2 * result ≤ dist_of metric.now s t }
+    ensures small { result ≤ 2 ^ 50 }
+{
+    let n = metric.size() as u32;
+    let mut least: u64 = 1125899906842624;
+    for t in 0..n {
+        least = least_to(metric, s, t, least);
+    }
+    least / 2
+}
+
+/// Gives a value to a single member that has none.
+fn raise_one<L: Ledger>(family: &mut Family, member: u32, by: u64, steps: &mut Steps<L>)
+    requires live { (sets_of family.old).live member ≡ true }
+    requires family { IsFamily (sets_of family.old) }
+    requires nothing { (sets_of family.old).value member ≡ 0 }
+    requires by { by ≤ 2 ^ 50 }
+    ensures value { (sets_of family.new).value member ≡ by }
+    ensures others { (i : ℕ) → i ≢ member → (sets_of family.new).value i ≡
+        (sets_of family.old).value i }
+    ensures rest { sets_of family.new ≡ record (sets_of family.old)
+        { value = (sets_of family.new).value } }
+    ensures family { IsFamily (sets_of family.new) }
+    ensures steps { steps.new ≡ steps.old + 1 }
+{
+    family.raise(member, by as i64, steps);
+}
+
+/// Gives each single member half the distance to its nearest one.
+fn raise_all<L: Ledger>(
+    metric: &Metric,
+    family: &mut Family,
+    sums: &mut [u64],
+    steps: &mut Steps<L>,
+)
+    requires count { length sums.old ≡ metric.now.size }
+    requires singles { IsSingles metric.now.size (sets_of family.old) }
+    requires family { IsFamily (sets_of family.old) }
+    ensures raised { AreRaised metric.now.size (dist_of metric.now) (sets_of family.old)
+        (sets_of family.new)
+        sums.new metric.now.size }
+    ensures steps { steps.new ≡ steps.old + metric.now.size }
+{
+    let n = metric.size();
+    for m in 0..n {
+        let by = half_nearest(metric, m as u32);
+        raise_one(family, m as u32, by, steps);
+        sums[m] = by;
+    }
+}
+
+/// Whether a member has a mate.
+fn has_mate(mates: &[Option<u32>], member: u32) -> bool
+    requires { member < length mates.now }
+    ensures { result ≡ false → mate_in mates.now member ≡ None }
+{
+    match mates[member as usize] {
+        Some(_) => true,
+        None => false,
+    }
+}
+
+/// Pairs two members without mates where their pair is tight.
+fn pair_tight(metric: &Metric, mates: &mut [Option<u32>], sums: &[u64], s: u32, t: u32)
+    requires mates { length mates.old ≡ metric.now.size }
+    requires count { length sums.now ≡ metric.now.size }
+    requires small { (m : ℕ) → m < metric.now.size → slice_index sums.now m ≤ 2 ^ 50 }
+    requires s { s < metric.now.size }
+    requires t { t < s }
+    ensures rest { (f : Sets) → AreAlone metric.now.size f sums.now →
+        IsRest metric.now.size f (dist_of metric.now) (mate_in mates.old) →
+        IsRest metric.now.size f (dist_of metric.now) (mate_in mates.new) }
+{
+    let _size = metric.size();
+    if has_mate(mates, s) {
+        return;
+    }
+    if has_mate(mates, t) {
+        return;
+    }
+    if sums[s as usize] + sums[t as usize] < metric.dist(s, t) {
+        return;
+    }
+    pair(mates, s, t);
+}
+
+/// Pairs a member with one before it where that pair is tight.
+fn pair_before(metric: &Metric, mates: &mut [Option<u32>], sums: &[u64], s: u32)
+    requires mates { length mates.old ≡ metric.now.size }
+    requires count { length sums.now ≡ metric.now.size }
+    requires small { (m : ℕ) → m < metric.now.size → slice_index sums.now m ≤ 2 ^ 50 }
+    requires s { s < metric.now.size }
+    ensures rest { (f : Sets) → AreAlone metric.now.size f sums.now →
+        IsRest metric.now.size f (dist_of metric.now) (mate_in mates.old) →
+        IsRest metric.now.size f (dist_of metric.now) (mate_in mates.new) }
+{
+    for t in 0..s {
+        pair_tight(metric, mates, sums, s, t);
+    }
+}
+
+/// Pairs members whose pair is tight, each with one other at most.
+fn pair_all_tight(metric: &Metric, mates: &mut [Option<u32>], sums: &[u64])
+    requires mates { length mates.old ≡ metric.now.size }
+    requires count { length sums.now ≡ metric.now.size }
+    requires small { (m : ℕ) → m < metric.now.size → slice_index sums.now m ≤ 2 ^ 50 }
+    ensures rest { (f : Sets) → AreAlone metric.now.size f sums.now →
+        IsRest metric.now.size f (dist_of metric.now) (mate_in mates.old) →
+        IsRest metric.now.size f (dist_of metric.now) (mate_in mates.new) }
+{
+    let n = metric.size() as u32;
+    for s in 0..n {
+        pair_before(metric, mates, sums, s);
+    }
+}
+
+/// The first values and pairs. Two members are left to their stage.
+pub fn begin<L: Ledger>(
+    metric: &Metric,
+    family: &mut Family,
+    mates: &mut [Option<u32>],
+    sums: &mut [u64],
+    steps: &mut Steps<L>,
+)
+    requires mates { mates.old ≡ replicate metric.now.size None }
+    requires sums { sums.old ≡ replicate metric.now.size 0 }
+    requires singles { IsSingles metric.now.size (sets_of family.old) }
+    requires family { IsFamily (sets_of family.old) }
+    ensures rest { IsRest metric.now.size (sets_of family.new) (dist_of metric.now)
+        (mate_in mates.new) }
+    ensures sums { (m : ℕ) → m < metric.now.size →
+        slice_index sums.new m ≡ totals metric.now.size (sets_of family.new) m }
+    ensures steps { steps.new ≤ steps.old + first_steps metric.now.size }
+{
+    if metric.size() <= 2 {
+        return;
+    }
+    raise_all(metric, family, sums, steps);
+    pair_all_tight(metric, mates, sums);
+}

@@ -1,5 +1,0 @@
-use Rattle.dpl_near.proofs.LabelLemmas.{Numbered}
-use Rattle.dpl_near.proofs.numbering.labels.Given as goal
-
-abbrev pub invariant-loop-i : goal.invariant-loop-i
-invariant-loop-i l = Numbered l.roots l.i l.label.items l.count

@@ -1,0 +1,13 @@
+ghost use Rattle.std.specs.Prelude.{◌≡◌, ℕ, List, map};
+ghost use Rattle.dpl_cell.specs.Places.{corners_of};
+ghost use Rattle.dpl_near.specs.Shapes.{AreShapes};
+
+use dpl_cell::Rect;
+
+/// Rectangles have one list of shapes.
+pub fn shapes_are_one(rects: &[Rect])
+    ensures { (one other : List ℕ) (count other_count : ℕ) →
+        AreShapes (map corners_of rects.now) one count →
+        AreShapes (map corners_of rects.now) other other_count →
+        (one ≡ other) × (count ≡ other_count) }
+{}

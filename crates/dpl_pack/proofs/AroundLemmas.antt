@@ -1,0 +1,183 @@
+-- Walks around a list of faces, whose marks are cleared again.
+use Rattle.std.proofs.Common.{arith, ◌≡◌, ◌≢◌, ℕ, zero, suc, ◌+◌, ◌*◌, ◌/◌, ◌%◌, ◌<◌, ◌≤◌, ◌==◌, ◌&&◌, refl, sym, ap, ◌∙◌, Bool, true, false, cond, inl, inr, List, [], ◌∷◌, ◌++◌, length, get_or, take, set, length-set, get_or-set_same, get_or-set_other, subst, eq-eqb}
+use Rattle.std.specs.Prelude.{All, not, count_by, filter, ◌||◌}
+use Rattle.std.specs.List.{range_with_len}
+use Rattle.std.proofs.lemmas.Bool.{ne_eqb, cases_eq, cases_lt, cases_Bool, cond-true, cond-false, and_parts, and_left, and_right, and_from, not-true, true≢false, false≢true, false_from_ne_true}
+use Rattle.std.proofs.lemmas.List.{get_or_past, get_or_default, take_all}
+use Rattle.std.proofs.lemmas.List.Elements.{All-nil, All-push, All-weaker}
+use Rattle.std.proofs.lemmas.List.Sums.{sum_by-cons, sum_by-append}
+use Rattle.dpl_sign.specs.declared.graphs.Signed.{Signed}
+use Rattle.dpl_sign.specs.declared.walks.Walk.{Walk}
+use Rattle.dpl_sign.specs.Drawings.{is_in}
+use Rattle.dpl_cycle.specs.Sums.{sum_on}
+use Rattle.dpl_laminar.specs.Families.{has}
+use Rattle.dpl_laminar.proofs.Numbers.{has_at, place_in, taken_has, not_taken}
+use Rattle.dpl_map.specs.Views.{MapView}
+use Rattle.dpl_map.specs.Sides.{IsMap, is_kept, face, is_odd_face, odd_faces_in, row}
+use Rattle.dpl_dual.proofs.DualLemmas.{chosen_split}
+use Rattle.dpl_pack.specs.Moats.{IsWritten}
+use Rattle.dpl_pack.specs.Marks.{AreClear, AreCleared, IsListed}
+use Rattle.dpl_pack.proofs.CodeLemmas.{has_push, pushed_same}
+use Rattle.dpl_pack.specs.Traces.{is_active, is_seen, AreWhole, IsRoundWalk, IsAround, odd_list}
+
+-- ---- marks
+
+pub cleared_none : (places : List ℕ) (marks : List Bool) → AreCleared (take 0 places) marks marks
+cleared_none places marks x = both (get_or marks x false)
+  where
+    both : (b : Bool) → b ≡ (b && not false)
+    both true = refl
+    both false = refl
+
+pub cleared_more : (places : List ℕ) (old now : List Bool) (i x : ℕ) → i < length places → x ≡ get_or places i 0 → x < length now → AreCleared (take i places) old now → AreCleared (take (i + 1) places) old (set now x false)
+cleared_more places old now i x h e l c z = elim (cases_eq x z) [
+  | inl t ↦
+      let here : has (take (i + 1) places) z ≡ true = ap (has (take (i + 1) places)) (sym t ∙ e) ∙ taken_has places i h in
+      ap (λ y. get_or (set now x false) y false) (sym t) ∙ get_or-set_same now x false false l ∙ sym (and_right (get_or old z false) (not (has (take (i + 1) places) z)) (ap not here))
+  | inr t ↦ get_or-set_other now x z false false (λ q. t (sym q)) ∙ c z ∙ ap (λ b. get_or old z false && not b) (sym (not_taken places i z h (λ q. t (e ∙ q))))
+]
+
+pub cleared_all : (places : List ℕ) (old now : List Bool) (i : ℕ) → length places ≤ i → AreCleared (take i places) old now → AreCleared places old now
+cleared_all places old now i h c x = c x ∙ ap (λ z. get_or old x false && not (has z x)) (take_all i places h)
+
+-- what was written is cleared
+pub written_cleared : (places : List ℕ) (old now new : List Bool) → AreClear old → length now ≡ length old → length new ≡ length now → IsWritten places now → AreCleared places now new → AreClear new
+written_cleared places old now new c s t w d x = elim (cases_lt x (length now)) [
+  | inl l ↦ d x ∙ ap (λ b. b && not (has places x)) (w x l) ∙ none (has places x)
+  | inr l ↦ get_or_past new x false (omega (arith, l, t))
+]
+  where
+    none : (b : Bool) → (b && not b) ≡ false
+    none true = refl
+    none false = refl
+
+-- ---- the odd faces of a list
+
+count_odd : (P Q : ℕ → Bool) (n : ℕ) → count_by P (filter Q (range_with_len 0 n)) ≡ sum_on (λ f. P f && Q f) (λ f. 1) n
+count_odd P Q zero = refl
+count_odd P Q (suc n) =
+    let e : n + 1 ≡ suc n = omega arith in
+    let split = ap (λ z. filter Q (range_with_len 0 z)) (sym e) ∙ chosen_split Q n in
+    let more = count_odd P Q n in
+    let two = ap (count_by P) split ∙ sum_by-append (λ z. cond {A = ℕ} (P z) 1 0) (filter Q (range_with_len 0 n)) (cond (Q n) (n ∷ []) []) in
+    elim (cases_Bool (Q n)) [
+      | inl t ↦ omega (arith, more, two, ap (count_by P) (cond-true (Q n) (n ∷ []) [] t), sum_by-cons (λ z. cond {A = ℕ} (P z) 1 0) n [], ap (λ b. cond {A = ℕ} (P n && b) 1 0) t, last (P n))
+      | inr t ↦ omega (arith, more, two, ap (count_by P) (cond-false (Q n) (n ∷ []) [] t), ap (λ b. cond {A = ℕ} (P n && b) 1 0) t, none (P n))
+    ]
+  where
+    last : (b : Bool) → cond {A = ℕ} (b && true) 1 0 ≡ cond b 1 0
+    last true = refl
+    last false = refl
+
+    none : (b : Bool) → cond {A = ℕ} (b && false) 1 0 ≡ 0
+    none true = refl
+    none false = refl
+
+sum_alike : (n : ℕ) (p q : ℕ → Bool) → ((f : ℕ) → f < n → p f ≡ q f) → sum_on p (λ f. 1) n ≡ sum_on q (λ f. 1) n
+sum_alike zero p q h = refl
+sum_alike (suc n) p q h = omega (arith, sum_alike n p q (λ f l. h f (omega arith)), ap (λ b. cond {A = ℕ} b 1 0) (h n (omega arith)))
+
+pub odd_inside : (g : Signed) (m : MapView) (faces : List ℕ) (inside : List Bool) → length inside ≡ m.faces → IsWritten faces inside → count_by (has faces) (odd_list g m) % 2 ≡ 1 → odd_faces_in g m inside % 2 ≡ 1
+odd_inside g m faces inside size w h =
+    omega (arith, h, count_odd (has faces) (is_odd_face g m) m.faces, sum_alike m.faces (λ f. is_in inside f && is_odd_face g m f) (λ f. has faces f && is_odd_face g m f) (λ f l. ap (λ b. b && is_odd_face g m f) (w f (omega (arith, l, size)))))
+
+-- ---- a walk around what was written
+
+pub around_of : (g : Signed) (m : MapView) → IsMap g m → (faces : List ℕ) (inside : List Bool) (w : Walk) → length inside ≡ m.faces → IsWritten faces inside → IsRoundWalk g m inside w → IsAround g m faces w
+around_of g m k faces inside w size written r = record {
+  odd = r.odd;
+  leaves = λ i d l.
+      let b = r.border i d l in
+      let e = get_or w.edges i d in
+      let inside_at : (f : ℕ) → f < m.faces → is_in inside f ≡ has faces f = λ f hf. written f (omega (arith, hf, size)) in
+      let small : e < length g.edges = kept_small e b.0 in
+      let first = inside_at (face m (2 * e)) (k.inside (2 * e) (omega (arith, small)) b.0) in
+      let second = inside_at (face m (2 * e + 1)) (k.inside (2 * e + 1) (omega (arith, small)) (kept_second e ∙ b.0)) in
+      (b.0, λ q. b.1 (first ∙ q ∙ sym second));
+  once = r.once;
+}
+  where
+    kept_second : (e : ℕ) → is_kept m (2 * e + 1) ≡ is_kept m (2 * e)
+    kept_second e =
+        let h : (2 * e + 1) / 2 ≡ 2 * e / 2 = omega arith in
+        ap (λ z. get_or m.kept z false) h
+
+    kept_small : (e : ℕ) → is_kept m (2 * e) ≡ true → e < length g.edges
+    kept_small e h = elim (cases_lt e (length g.edges)) [
+      | inl a ↦ a
+      | inr a ↦
+          let half : 2 * e / 2 ≡ e = omega arith in
+          absurd (true≢false (sym h ∙ ap (λ z. get_or m.kept z false) half ∙ get_or_past m.kept e false (omega (arith, a, k.edges))))
+    ]
+
+-- ---- the darts that were seen are those of the faces
+
+pub darts_cleared : (g : Signed) (m : MapView) → IsMap g m → (faces : List ℕ) (inside seen new : List Bool) → length inside ≡ m.faces → IsWritten faces inside → AreWhole g m inside seen →
+    ((d : ℕ) → is_seen new d ≡ true → (is_seen seen d ≡ true) × ((f : ℕ) → has faces f ≡ true → has (row m f) d ≡ false)) → AreClear new
+darts_cleared g m k faces inside seen new size w whole left d = false_from_ne_true (is_seen new d) (λ t.
+    let was = left d t in
+    let below : d < 2 * length g.edges = elim (cases_lt d (2 * length g.edges)) [
+      | inl l ↦ l
+      | inr l ↦ absurd (true≢false (sym was.0 ∙ get_or_past seen d false (omega (arith, l, whole.sizes))))
+    ] in
+    let active = and_parts (is_kept m d) (is_in inside (face m d)) (whole.active d below was.0) in
+    let listed : has faces (face m d) ≡ true = sym (w (face m d) (omega (arith, size, k.inside d below active.0))) ∙ active.1 in
+    true≢false (sym (k.all d below active.0) ∙ was.1 (face m d) listed))
+
+-- the darts of one face more are cleared
+pub darts_none : (m : MapView) (faces : List ℕ) (seen : List Bool) → (d : ℕ) → is_seen seen d ≡ true → (is_seen seen d ≡ true) × ((f : ℕ) → has (take 0 faces) f ≡ true → has (row m f) d ≡ false)
+darts_none m faces seen d t = (t, λ f q. absurd (false≢true q))
+
+pub darts_more : (m : MapView) (faces : List ℕ) (old now new : List Bool) (places : List ℕ) (i : ℕ) → i < length faces → places ≡ m.rows (get_or faces i 0) → AreCleared places now new →
+    ((d : ℕ) → is_seen now d ≡ true → (is_seen old d ≡ true) × ((f : ℕ) → has (take i faces) f ≡ true → has (row m f) d ≡ false)) →
+    (d : ℕ) → is_seen new d ≡ true → (is_seen old d ≡ true) × ((f : ℕ) → has (take (i + 1) faces) f ≡ true → has (row m f) d ≡ false)
+darts_more m faces old now new places i hi e c before d t =
+    let parts = and_parts (is_seen now d) (not (has places d)) (sym (c d) ∙ t) in
+    let was = before d parts.0 in (
+      was.0,
+      λ f q. elim (cases_eq (get_or faces i 0) f) [
+        | inl same ↦ ap (λ z. has z d) (ap (λ z. m.rows z) (sym same) ∙ sym e) ∙ not-true (has places d) parts.1
+        | inr other ↦ was.1 f (sym (not_taken faces i f hi other) ∙ q)
+      ],
+    )
+
+pub darts_done : (m : MapView) (faces : List ℕ) (old now : List Bool) (i : ℕ) → length faces ≤ i → ((d : ℕ) → is_seen now d ≡ true → (is_seen old d ≡ true) × ((f : ℕ) → has (take i faces) f ≡ true → has (row m f) d ≡ false)) →
+    (d : ℕ) → is_seen now d ≡ true → (is_seen old d ≡ true) × ((f : ℕ) → has faces f ≡ true → has (row m f) d ≡ false)
+darts_done m faces old now i h before d t =
+    let was = before d t in
+    (was.0, λ f q. was.1 f (ap (λ z. has z f) (take_all i faces h) ∙ q))
+
+-- ---- the faces of a set in a list
+
+pub listed_none : (marks : List Bool) → IsListed marks 0 []
+listed_none marks = record { below = All-nil (λ x. x < 0); each = λ x l. absurd (omega (arith, l)) }
+
+pub listed_in : (marks : List Bool) (n : ℕ) (places : List ℕ) → get_or marks n false ≡ true → IsListed marks n places → IsListed marks (n + 1) (places ++ n ∷ [])
+listed_in marks n places h k = record {
+  below = All-push (λ x. x < n + 1) places n (All-weaker (λ x. x < n) (λ x. x < n + 1) (λ x l. omega (arith, l)) places k.below) (omega arith);
+  each = λ x l. elim (cases_eq n x) [
+    | inl t ↦ pushed_same places n x t ∙ sym (ap (λ z. get_or marks z false) (sym t) ∙ h)
+    | inr t ↦ has_push places n x ∙ ap (λ b. has places x || b) (ne_eqb n x t) ∙ or_false (has places x) ∙ k.each x (omega (arith, l, t))
+  ];
+}
+  where
+    or_false : (b : Bool) → (b || false) ≡ b
+    or_false true = refl
+    or_false false = refl
+
+pub listed_out : (marks : List Bool) (n : ℕ) (places : List ℕ) → get_or marks n false ≡ false → IsListed marks n places → IsListed marks (n + 1) places
+listed_out marks n places h k = record {
+  below = All-weaker (λ x. x < n) (λ x. x < n + 1) (λ x l. omega (arith, l)) places k.below;
+  each = λ x l. elim (cases_eq n x) [
+    | inl t ↦ false_from_ne_true (has places x) (λ q. absurd (omega (arith, t, above places x k.below q))) ∙ sym (ap (λ z. get_or marks z false) (sym t) ∙ h)
+    | inr t ↦ k.each x (omega (arith, l, t))
+  ];
+}
+  where
+    above : (xs : List ℕ) (x : ℕ) → All (λ z. z < n) xs → has xs x ≡ true → x < n
+    above xs x a q =
+        let p = place_in xs x q in
+        omega (arith, a p.0 0 p.1, p.2)
+
+pub listed_written : (marks : List Bool) (n : ℕ) (places : List ℕ) → length marks ≤ n → IsListed marks n places → IsWritten places marks
+listed_written marks n places h k x l = sym (k.each x (omega (arith, l, h)))

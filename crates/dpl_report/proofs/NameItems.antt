@@ -1,0 +1,69 @@
+-- The lines of a name, of the masks, and lines that are always the same.
+use Rattle.std.proofs.Common.{arith, ◌≡◌, ℕ, ◌-◌, Bool, true, false, ◌&&◌, ◌==◌, nat_le, List, [], ◌∷◌, ◌++◌, length, map, take, replicate, refl, sym, ap, length-append, Some, codes}
+use Rattle.std.specs.Str.{bytes_eq}
+use Rattle.std.proofs.lemmas.Option.{cond_some}
+use Rattle.std.proofs.lemmas.Slice.Eq.{bytes_eq-Decides}
+use Rattle.std.proofs.lemmas.Bool.Decides.{Decides-eqb}
+use Rattle.std.proofs.lemmas.Bool.{leb-true, le-leb, eqb-true}
+use Rattle.std.proofs.lemmas.List.{take_at, length-replicate}
+use Rattle.dpl_lex.specs.Name.{is_name}
+use Rattle.dpl_boxes.proofs.NumberLemmas.{both}
+use Rattle.dpl_form.proofs.Formats.{IsItem}
+use Rattle.dpl_report.specs.ReportLines.{letter, layer_line, masks_line}
+use Rattle.dpl_report.specs.Valid.{IsLayer}
+use Rattle.dpl_report.specs.Reading.{if_written, between, layer_from, item_layer, colours_from, of_length, item_masks, item_line}
+use Rattle.dpl_report.proofs.ItemLemmas.{bind_some, if_written_some, if_written_same}
+
+between_seam : (middle end : List ℕ) (n : ℕ) → n ≡ length middle → take n (middle ++ end) ≡ middle
+between_seam middle end n e = take_at middle end n (sym e)
+
+between-layer : (name : List ℕ) → between 7 (layer_line name) ≡ name
+between-layer name = between_seam name (codes ");\n") (length (layer_line name) - 10) (omega (arith, length-append name (codes ");\n")))
+
+between-masks : (colours : List Bool) → between 7 (masks_line colours) ≡ map letter colours
+between-masks colours = between_seam (map letter colours) (codes ");\n") (length (masks_line colours) - 10) (omega (arith, length-append (map letter colours) (codes ");\n")))
+
+layer_fits : (name found : List ℕ) → layer_from name ≡ Some found → IsLayer found
+layer_fits name found e =
+    let c = cond_some (is_name name && nat_le (length name) 31) name found e in
+    let d = both (is_name name) (nat_le (length name) 31) c.0 in
+    rw (← c.1) (d.0, leb-true (length name) 31 d.1)
+
+layer_again : (name : List ℕ) → IsLayer name → layer_from name ≡ Some name
+layer_again name f = rw (f.0, le-leb (length name) 31 f.1) refl
+
+pub layer_item : IsItem item_layer layer_line IsLayer
+layer_item = record {
+  some = codes "M";
+  some_fits = (refl, omega arith);
+  takes = λ l x e.
+      let a = bind_some (layer_from (between 7 l)) (if_written layer_line l) x e in
+      let b = if_written_some layer_line l a.0 x a.2 in
+      (rw (← b.0) (layer_fits (between 7 l) a.0 a.1), b.1);
+  again = λ x f. rw (between-layer x, layer_again x f) (if_written_same layer_line x);
+}
+
+colours_again : (colours : List Bool) → colours_from (map letter colours) ≡ colours
+colours_again [] = refl
+colours_again (true ∷ cs) = ap (λ xs. true ∷ xs) (colours_again cs)
+colours_again (false ∷ cs) = ap (λ xs. false ∷ xs) (colours_again cs)
+
+pub masks_item : (n : ℕ) → IsItem (item_masks n) masks_line (λ colours. length colours ≡ n)
+masks_item n = record {
+  some = replicate n false;
+  some_fits = length-replicate n false;
+  takes = λ l x e.
+      let a = bind_some (of_length n (colours_from (between 7 l))) (if_written masks_line l) x e in
+      let b = if_written_some masks_line l a.0 x a.2 in
+      let c = cond_some (length (colours_from (between 7 l)) == n) (colours_from (between 7 l)) a.0 a.1 in
+      (rw (← b.0, ← c.1) (eqb-true (length (colours_from (between 7 l))) n c.0), b.1);
+  again = λ x f. rw (between-masks x, colours_again x, f, (Decides-eqb n n).1 refl) (if_written_same masks_line x);
+}
+
+pub line_item : (wanted : List ℕ) → IsItem (item_line wanted) (λ _. wanted) (λ _. Unit {0})
+line_item wanted = record {
+  some = tt;
+  some_fits = tt;
+  takes = λ l x e. let c = cond_some (bytes_eq wanted l) tt x e in (tt, sym ((bytes_eq-Decides wanted l).0 c.0));
+  again = λ x f. rw ((bytes_eq-Decides wanted wanted).1 refl) refl;
+}

@@ -1,8 +1,0 @@
-use Rattle.dpl_report.proofs.LineLemmas.{lines_are_read}
-use Rattle.dpl_report.proofs.ReadingLemmas.{comment_is_read, layer_is_read}
-use Rattle.dpl_report.proofs.BoxLemmas.{box_is_read}
-use Rattle.dpl_report.proofs.TextLemmas.{all_masks_are_drawn}
-use Rattle.dpl_report.proofs.lines.line_rules.Goals as goal
-
-pub returns : goal.returns
-returns c = record { lines = lines_are_read; comments = comment_is_read; layers = layer_is_read; boxes = box_is_read; masks = all_masks_are_drawn }

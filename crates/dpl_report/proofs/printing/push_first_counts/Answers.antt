@@ -1,0 +1,14 @@
+use Rattle.std.proofs.Common.{[], ◌∷◌, codes}
+use Rattle.dpl_report.specs.ReportLines.{count_line}
+use Rattle.dpl_form.proofs.TextLemmas.{begun, added}
+use Rattle.dpl_report.proofs.printing.push_first_counts.Goals as goal
+
+pub returns : goal.returns
+returns c =
+    let a = count_line (codes "pieces") c.args.k.now.pieces in
+    let b = count_line (codes "fragments") c.args.k.now.fragments in
+    let d = count_line (codes "bonds") c.args.k.now.bonds in
+    let o = c.args.out.now.items in
+    let p = c.push_count.new.out.items in
+    let q = c.push_count-2.new.out.items in
+    added o q c.push_count-3.new.out.items (a ∷ b ∷ []) d (added o p q (a ∷ []) b (begun o p a c.in_ok-push_count.ensures) c.in_ok-push_count-2.ensures) c.in_ok-push_count-3.ensures

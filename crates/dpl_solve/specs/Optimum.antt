@@ -1,0 +1,44 @@
+-- All parts of the dual, and the optimum.
+use Rattle.std.specs.Prelude.{◌≡◌, ℕ, ◌+◌, ◌*◌, ◌%◌, ◌<◌, ◌≤◌, ◌⊎◌, Bool, List, [], length, map, take, slice_index_or, All}
+use Rattle.dpl_sign.specs.declared.graphs.Signed.{Signed}
+use Rattle.dpl_sign.specs.declared.walks.Cycle.{Cycle}
+use Rattle.dpl_sign.specs.Packings.{IsPacking, bound_of}
+use Rattle.dpl_map.specs.Views.{MapView}
+use Rattle.dpl_map.specs.Planes.{joined_bit}
+use Rattle.dpl_colour.specs.Meets.{MeetsFaces}
+use Rattle.dpl_dual.specs.declared.crosses.Dual.{Dual}
+use Rattle.dpl_solve.specs.Joins.{all_ways, times}
+use Rattle.dpl_solve.specs.Parts.{Part, IsPart, IsPaired, all_cycles, all_chains, odd_of}
+use Rattle.dpl_solve.specs.Groups.{numbers_of}
+use Rattle.dpl_solve.specs.Tight.{PassKept, joined_weight}
+use Rattle.dpl_solve.specs.Solved.{PassOnce}
+
+-- the parts of the first n groups are solved
+pub record AreSolved (g : Signed) (m : MapView) (d : Dual) (groups : List (List ℕ)) (n : ℕ) (joined : List Bool) (cycles : List Cycle) : Type 0 where
+  pub parts : List Part
+  pub numbers : map (λ p. p.part) parts ≡ numbers_of d (take n groups)
+  pub are : All (IsPart g m d) parts
+  pub paired : All (IsPaired d) parts
+  pub cycles_are : cycles ≡ all_cycles parts
+  pub places : length joined ≡ length g.edges
+  pub joins : (e : ℕ) → e < length g.edges → joined_bit joined e % 2 ≡ times (all_ways (all_chains parts)) e % 2
+
+-- joined edges that meet the faces, and a packing of no smaller weight
+pub record IsOptimum (g : Signed) (m : MapView) (d : Dual) (joined : List Bool) (cycles : List Cycle) : Type 0 where
+  pub places : length joined ≡ length g.edges
+  pub meets : MeetsFaces g m joined
+  pub packing : IsPacking g cycles
+  pub kept : PassKept m cycles
+  pub once : PassOnce cycles
+  pub light : 2 * joined_weight g joined ≤ bound_of cycles
+  pub few : length cycles ≤ d.faces + 2 * length d.odd
+
+-- no part has more odd faces, and some part has as many
+pub record IsMostOdd (d : Dual) (n : ℕ) : Type 0 where
+  pub most : (q : ℕ) → length (odd_of d q) ≤ n
+  pub some : (q : ℕ) × (length (odd_of d q) ≡ n)
+
+-- the greatest length of the first n groups
+pub record IsGreatest (groups : List (List ℕ)) (n most : ℕ) : Type 0 where
+  pub each : (j : ℕ) → j < n → length (slice_index_or groups j []) ≤ most
+  pub some : (most ≡ 0) ⊎ ((j : ℕ) × (j < n) × (length (slice_index_or groups j []) ≡ most))

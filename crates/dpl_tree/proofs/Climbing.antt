@@ -1,0 +1,187 @@
+use Rattle.std.proofs.Common.{arith, ◌≡◌, ◌≢◌, ℕ, ◌<◌, ◌⊎◌, refl, sym, ap, ◌∙◌, inl, inr, Option, Some, None}
+use Rattle.std.proofs.lemmas.Bool.{cases_eq}
+use Rattle.dpl_laminar.proofs.Numbers.{some_is, some_none}
+use Rattle.dpl_laminar.specs.Families.{Sets}
+use Rattle.dpl_tree.specs.Forests.{free, outer, Forest, IsTree, IsClimb}
+use Rattle.dpl_tree.specs.Mates.{IsExit, ArePairs, Joins}
+use Rattle.dpl_tree.proofs.Growing.{outer_in, outer_inner_no}
+
+-- s and t, whose sets have no pair else, become mates
+pub joined_pairs : (n : ℕ) (f : Sets) (load dist : ℕ → ℕ → ℕ) (mate new : ℕ → Option ℕ) (s t : ℕ) → ArePairs n f load dist mate → s < n → t < n → f.top s ≢ f.top t → load s t ≡ dist s t → load t s ≡ dist t s →
+    ((m u : ℕ) → IsExit n f mate (f.top s) m u → ⊥) → ((m u : ℕ) → IsExit n f mate (f.top t) m u → ⊥) → Joins mate s t new → ArePairs n f load dist new
+joined_pairs n f load dist mate new s t p hs ht apart tight tight' sfree tfree j =
+    -- a member with an old mate is neither of the two, nor is its mate
+    let ns = λ (m u : ℕ) (hm : m < n) (k : mate m ≡ Some u) (e : m ≡ s). sfree m u (record { below = hm; top = ap f.top e; paired = k }) in
+    let nt = λ (m u : ℕ) (hm : m < n) (k : mate m ≡ Some u) (e : m ≡ t). tfree m u (record { below = hm; top = ap f.top e; paired = k }) in
+    let cases = λ (m u : ℕ) (k : new m ≡ Some u). (elim (cases_eq m s) as (λ _. ((m ≡ s) × (u ≡ t)) ⊎ (((m ≡ t) × (u ≡ s)) ⊎ ((m ≢ s) × (m ≢ t) × (mate m ≡ Some u)))) [
+      | inl e ↦ inl (e, some_is (sym k ∙ ap new e ∙ j.first))
+      | inr a ↦ elim (cases_eq m t) [
+        | inl e ↦ inr (inl (e, some_is (sym k ∙ ap new e ∙ j.second)))
+        | inr b ↦ inr (inr (a, b, sym (j.others m a b) ∙ k))
+      ]
+    ]) in
+    let keep = λ (m u : ℕ) (hm : m < n) (k : mate m ≡ Some u). j.others m (ns m u hm k) (nt m u hm k) ∙ k in
+    record {
+      range = λ m u hm k. elim (cases m u k) [
+        | inl w ↦ omega (arith, w.1, ht)
+        | inr (inl w) ↦ omega (arith, w.1, hs)
+        | inr (inr w) ↦ p.range m u hm w.2
+      ];
+      back = λ m u hm k. elim (cases m u k) [
+        | inl w ↦ ap new w.1 ∙ j.second ∙ ap Some (sym w.0)
+        | inr (inl w) ↦ ap new w.1 ∙ j.first ∙ ap Some (sym w.0)
+        | inr (inr w) ↦ keep u m (p.range m u hm w.2) (p.back m u hm w.2)
+      ];
+      leaves = λ m u hm k. elim (cases m u k) [
+        | inl w ↦ λ e. apart (ap f.top (sym w.0) ∙ e ∙ ap f.top w.1)
+        | inr (inl w) ↦ λ e. apart (sym (ap f.top (sym w.0) ∙ e ∙ ap f.top w.1))
+        | inr (inr w) ↦ p.leaves m u hm w.2
+      ];
+      tight = λ m u hm k. elim (cases m u k) [
+        | inl w ↦ ap (λ z. load z u) w.0 ∙ ap (load s) w.1 ∙ tight ∙ sym (ap (λ z. dist z u) w.0 ∙ ap (dist s) w.1)
+        | inr (inl w) ↦ ap (λ z. load z u) w.0 ∙ ap (load t) w.1 ∙ tight' ∙ sym (ap (λ z. dist z u) w.0 ∙ ap (dist t) w.1)
+        | inr (inr w) ↦ p.tight m u hm w.2
+      ];
+      alone = λ m a u c hm ha e k l. elim (cases m u k) [
+        | inl w ↦ elim (cases a c l) [
+          | inl v ↦ w.0 ∙ sym v.0
+          | inr (inl v) ↦ absurd (apart (ap f.top (sym w.0) ∙ e ∙ ap f.top v.0))
+          | inr (inr v) ↦ absurd (sfree a c (record { below = ha; top = sym e ∙ ap f.top w.0; paired = v.2 }))
+        ]
+        | inr (inl w) ↦ elim (cases a c l) [
+          | inl v ↦ absurd (apart (ap f.top (sym v.0) ∙ sym e ∙ ap f.top w.0))
+          | inr (inl v) ↦ w.0 ∙ sym v.0
+          | inr (inr v) ↦ absurd (tfree a c (record { below = ha; top = sym e ∙ ap f.top w.0; paired = v.2 }))
+        ]
+        | inr (inr w) ↦ elim (cases a c l) [
+          | inl v ↦ absurd (sfree m u (record { below = hm; top = e ∙ ap f.top v.0; paired = w.2 }))
+          | inr (inl v) ↦ absurd (tfree m u (record { below = hm; top = e ∙ ap f.top v.0; paired = w.2 }))
+          | inr (inr v) ↦ p.alone m a u c hm ha e w.2 v.2
+        ]
+      ];
+    }
+
+-- a pair is given up
+pub record Drops (mate : ℕ → Option ℕ) (ex b : ℕ) (new : ℕ → Option ℕ) : Type 0 where
+  pub first : new ex ≡ None
+  pub second : new b ≡ None
+  pub others : (i : ℕ) → i ≢ ex → i ≢ b → new i ≡ mate i
+
+pub dropped_pairs : (n : ℕ) (f : Sets) (load dist : ℕ → ℕ → ℕ) (mate new : ℕ → Option ℕ) (ex b : ℕ) → ArePairs n f load dist mate → ex < n → mate ex ≡ Some b → Drops mate ex b new → ArePairs n f load dist new
+dropped_pairs n f load dist mate new ex b p hx xb d =
+    let old = λ (m u : ℕ) (k : new m ≡ Some u). (elim (cases_eq m ex) as (λ _. (m ≢ ex) × (m ≢ b) × (mate m ≡ Some u)) [
+      | inl e ↦ some_none (new m) u k (ap new e ∙ d.first)
+      | inr a ↦ elim (cases_eq m b) [
+        | inl e ↦ some_none (new m) u k (ap new e ∙ d.second)
+        | inr c ↦ (a, c, sym (d.others m a c) ∙ k)
+      ]
+    ]) in
+    record {
+      range = λ m u hm k. p.range m u hm (old m u k).2;
+      back = λ m u hm k.
+          let w = old m u k in
+          let q = p.back m u hm w.2 in
+          d.others u (λ e. w.1 (some_is (sym q ∙ ap mate e ∙ xb))) (λ e. w.0 (some_is (sym q ∙ ap mate e ∙ p.back ex b hx xb))) ∙ q;
+      leaves = λ m u hm k. p.leaves m u hm (old m u k).2;
+      tight = λ m u hm k. p.tight m u hm (old m u k).2;
+      alone = λ m a u c hm ha e k l. p.alone m a u c hm ha e (old m u k).2 (old a c l).2;
+    }
+
+-- one step of the climb
+pub climbed : (n : ℕ) (f : Sets) (load dist : ℕ → ℕ → ℕ) (x : Forest) (mate less new : ℕ → Option ℕ) (s t ex b : ℕ) → IsTree n f load dist x → ArePairs n f load dist x.mate → ((s t : ℕ) → load s t ≡ load t s) → ((s t : ℕ) → s < n → t < n → dist s t ≡ dist t s) →
+    IsClimb n f load dist x mate s t → IsExit n f mate (f.top s) ex b → Drops mate ex b less → Joins less s t new → IsClimb n f load dist x new (x.above (f.top b)) (x.entry (f.top b))
+climbed n f load dist x mate less new s t ex b tree px ls ds c w d j =
+    let i : ℕ = f.top b in
+    let ps = outer_in c.s_outer in
+    let xb : x.mate ex ≡ Some b = sym (c.kept ex w.below (λ z. ps (ap x.place (sym w.top) ∙ z)) (omega (arith, ap x.rank w.top))) ∙ w.paired in
+    let up = tree.outer_mate (f.top s) ex b c.s_outer (record { below = w.below; top = w.top; paired = xb }) in
+    let hb : b < n = c.pairs.range ex b w.below w.paired in
+    let bx : mate b ≡ Some ex = c.pairs.back ex b w.below w.paired in
+    let link = tree.link_range i up.0 in
+    let entry = tree.link_entry i up.0 in
+    let above_rank = tree.link_rank i up.0 in
+    let not_t : f.top t ≢ i = λ e. c.t_free b ex (record { below = hb; top = sym e; paired = bx }) in
+    let not_s : f.top s ≢ i = λ e. outer_inner_no c.s_outer (ap x.place e ∙ up.0) in
+    let lp = dropped_pairs n f load dist mate less ex b c.pairs w.below w.paired d in
+    let under = λ (m u : ℕ) (k : less m ≡ Some u). (elim (cases_eq m ex) as (λ _. mate m ≡ Some u) [
+      | inl e ↦ some_none (less m) u k (ap less e ∙ d.first)
+      | inr a ↦ elim (cases_eq m b) [
+        | inl e ↦ some_none (less m) u k (ap less e ∙ d.second)
+        | inr q ↦ sym (d.others m a q) ∙ k
+      ]
+    ]) in
+    let s_free = λ (m u : ℕ) (k : IsExit n f less (f.top s) m u). (
+    let e : m ≡ ex = c.pairs.alone m ex u b k.below w.below (k.top ∙ sym w.top) (under m u k.paired) w.paired in
+    let r : ⊥ = some_none (less m) u k.paired (ap less e ∙ d.first) in r) in
+    let t_free = λ (m u : ℕ) (k : IsExit n f less (f.top t) m u). c.t_free m u (record { below = k.below; top = k.top; paired = under m u k.paired }) in
+    let np = joined_pairs n f load dist less new s t lp c.s_range c.t_range c.apart c.tight c.tight_back s_free t_free j in
+    -- what a member outside of the four has
+    let same = λ (m : ℕ) (a : m ≢ s) (q : m ≢ t) (h : m ≢ ex) (k : m ≢ b). j.others m a q ∙ d.others m h k in
+    let tight : load (x.above i) (x.entry i) ≡ dist (x.above i) (x.entry i) = tree.link_tight i up.0 in
+    record {
+      s_range = link.0;
+      t_range = link.1;
+      s_outer = tree.link_outer i up.0;
+      apart = λ e. outer_inner_no (tree.link_outer i up.0) (ap x.place (e ∙ entry) ∙ up.0);
+      tight = tight;
+      tight_back = ls _ _ ∙ tight ∙ ds _ _ link.0 link.1;
+      pairs = np;
+      t_free = λ m u k.
+          let tm : f.top m ≡ i = k.top ∙ entry in
+          let a : m ≢ s = λ e. not_s (ap f.top (sym e) ∙ tm) in
+          let q : m ≢ t = λ e. not_t (ap f.top (sym e) ∙ tm) in
+          let l : less m ≡ Some u = sym (j.others m a q) ∙ k.paired in
+          let e : m ≡ b = c.pairs.alone m b u ex k.below hb tm (under m u l) bx in
+          some_none (less m) u l (ap less e ∙ d.second);
+      t_rank = λ z. omega (arith, above_rank, ap x.rank entry);
+      kept = λ m hm z le.
+          let lo : x.rank (f.top m) < x.rank i = omega (arith, le, above_rank) in
+          let a : f.top m ≢ f.top s = λ e. omega (arith, lo, ap x.rank e, up.1) in
+          let h : f.top m ≢ i = λ e. omega (arith, lo, ap x.rank e) in
+          let q : m ≢ t = λ e. omega (arith, lo, up.1, c.t_rank (λ y. z (ap (λ y'. x.place (f.top y')) e ∙ y)), ap (λ y'. x.rank (f.top y')) e) in
+          same m (λ e. a (ap f.top e)) q (λ e. a (ap f.top e ∙ w.top)) (λ e. h (ap f.top e)) ∙ c.kept m hm z (omega (arith, lo, up.1));
+      has_pair = λ o m u ne k. elim (cases_eq o (f.top t)) [
+        | inl e ↦ (t, s, record { below = c.t_range; top = sym e; paired = j.second })
+        | inr ot ↦ elim (cases_eq o (f.top s)) [
+          | inl e ↦ (s, t, record { below = c.s_range; top = sym e; paired = j.first })
+          | inr os ↦
+              let v = c.has_pair o m u ot k in
+              let oi : o ≢ i = λ e. ne (e ∙ sym entry) in
+              (v.0, v.1, record { below = v.2.below; top = v.2.top; paired = same v.0 (λ e. os (sym v.2.top ∙ ap f.top e)) (λ e. ot (sym v.2.top ∙ ap f.top e)) (λ e. os (sym v.2.top ∙ ap f.top e ∙ w.top)) (λ e. oi (sym v.2.top ∙ ap f.top e)) ∙ v.2.paired })
+        ]
+      ];
+    }
+
+-- the end of the climb, at the root
+pub climb_ended : (n : ℕ) (f : Sets) (load dist : ℕ → ℕ → ℕ) (x : Forest) (mate new : ℕ → Option ℕ) (s t : ℕ) → IsClimb n f load dist x mate s t → ((m u : ℕ) → IsExit n f mate (f.top s) m u → ⊥) → Joins mate s t new →
+    ArePairs n f load dist new × ((i m u : ℕ) → IsExit n f x.mate i m u → (a : ℕ) × (c : ℕ) × IsExit n f new i a c) × IsExit n f new (f.top s) s t
+climb_ended n f load dist x mate new s t c none j = (
+  joined_pairs n f load dist mate new s t c.pairs c.s_range c.t_range c.apart c.tight c.tight_back none c.t_free j,
+  (λ i m u k. elim (cases_eq i (f.top t)) [
+    | inl e ↦ (t, s, record { below = c.t_range; top = sym e; paired = j.second })
+    | inr it ↦ elim (cases_eq i (f.top s)) [
+      | inl e ↦ (s, t, record { below = c.s_range; top = sym e; paired = j.first })
+      | inr is ↦
+          let v = c.has_pair i m u it k in
+          (v.0, v.1, record { below = v.2.below; top = v.2.top; paired = j.others v.0 (λ e. is (sym v.2.top ∙ ap f.top e)) (λ e. it (sym v.2.top ∙ ap f.top e)) ∙ v.2.paired })
+    ]
+  ]),
+  record { below = c.s_range; top = refl; paired = j.first },
+)
+
+-- the climb begins at a tight pair from an outer set to one with no pair outside of the tree
+pub climb_begun : (n : ℕ) (f : Sets) (load dist : ℕ → ℕ → ℕ) (x : Forest) (s t : ℕ) → ArePairs n f load dist x.mate → s < n → t < n → x.place (f.top s) ≡ outer → x.place (f.top t) ≡ free → load s t ≡ dist s t → load t s ≡ dist t s →
+    ((m u : ℕ) → IsExit n f x.mate (f.top t) m u → ⊥) → IsClimb n f load dist x x.mate s t
+climb_begun n f load dist x s t p hs ht ps pt tight tight' none = record {
+  s_range = hs;
+  t_range = ht;
+  s_outer = ps;
+  apart = λ e. outer_in (sym (ap x.place e) ∙ ps) pt;
+  tight = tight;
+  tight_back = tight';
+  pairs = p;
+  t_free = none;
+  t_rank = λ z. absurd (z pt);
+  kept = λ m hm z le. refl;
+  has_pair = λ i m u ne k. (m, u, k);
+}

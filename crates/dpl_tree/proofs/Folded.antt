@@ -1,0 +1,61 @@
+-- Two ways have become a set.
+use Rattle.std.proofs.Common.{arith, ◌≡◌, ◌≢◌, ℕ, ◌<◌, sym, ap, ◌∙◌, subst, false, inl, inr, List, length, reverse, ◌++◌, ◌∷◌}
+use Rattle.std.proofs.lemmas.List.{length-map}
+use Rattle.std.proofs.lemmas.Bool.{cases_eq, cases_Bool}
+use Rattle.dpl_laminar.specs.Families.{Sets, IsFamily, has}
+use Rattle.dpl_laminar.specs.Changes.{AreTops, AreJoined, IsShrunk, Gathers}
+use Rattle.dpl_laminar.proofs.Numbers.{true_false}
+use Rattle.dpl_tree.specs.Forests.{Forest, Folds}
+use Rattle.dpl_tree.specs.Mates.{DropsInside, loads}
+use Rattle.dpl_tree.specs.Stages.{IsStage, Advances, AreRanked}
+use Rattle.dpl_tree.specs.Joins.{tops_from, AreClimbing}
+use Rattle.dpl_tree.proofs.Events.{folded_stage, folded_ready}
+use Rattle.dpl_tree.proofs.Meetings.{IsFolding, climbing_whole, folding_tops, folding_joined, way_step}
+
+pub folding_asked : (n : ℕ) (f : Sets) (dist : ℕ → ℕ → ℕ) (x : Forest) (joins : List (ℕ × ℕ)) (meet : ℕ) → IsStage n f dist x → IsFolding n f dist x joins meet → AreJoined f (tops_from f joins) joins
+folding_asked n f dist x joins meet st w =
+    let len : length (tops_from f joins) ≡ length joins = length-map joins (λ j. f.top j.0) in
+    record {
+      tops = subst (λ (z : ℕ). AreTops z f (tops_from f joins)) (sym st.rest.size) (folding_tops n f dist x joins meet st w);
+      count = sym len;
+      tied = λ i h. folding_joined n f dist x joins meet i st w (omega (arith, h, len));
+    }
+
+pub folded_all : (n : ℕ) (f g : Sets) (dist : ℕ → ℕ → ℕ) (x y : Forest) (joins : List (ℕ × ℕ)) (meet set : ℕ) → IsStage n f dist x → IsFolding n f dist x joins meet → IsShrunk f (tops_from f joins) joins set g → IsFamily g → DropsInside n g x.mate y.mate → Folds x (tops_from f joins) meet set y → Advances n dist f x g y
+folded_all n f g dist x y joins meet set st w sh fam d o =
+    let cs : List ℕ = tops_from f joins in
+    let len : length cs ≡ length joins = length-map joins (λ j. f.top j.0) in
+    let q : Gathers n f cs set g = subst (λ (z : ℕ). Gathers z f cs set g) st.rest.size sh.sets in
+    let r = folded_stage n f g dist x y cs joins set meet w.some_inner.0 st (folding_tops n f dist x joins meet st w) sh fam w.cycle d o
+    (λ i h. subst (λ (z : ℕ × ℕ). loads n f z.0 z.1 ≡ dist z.0 z.1) (sym (sh.join_child i h)) (way_step n f (loads n f) dist meet meet i joins w.way (omega (arith, h, len))).tight)
+    w.some_inner.1 w.some_inner.2 in
+    record {
+      stage = r.0;
+      falls = r.1;
+      ready = λ k hk e. folded_ready n f g dist x y cs set meet k st r.0.tree q w.cycle d o hk e;
+    }
+
+pub folded_ranked : (x y : Forest) (cs : List ℕ) (meet set bound : ℕ) → Folds x cs meet set y → AreRanked x bound → AreRanked y bound
+folded_ranked x y cs meet set bound o r = λ i. elim (cases_eq i set) [
+  | inl e ↦ omega (arith, ap y.rank e, o.rank_set, r meet)
+  | inr ne ↦ omega (arith, o.rank_others i ne, r i)
+]
+
+-- a set that was free is none of the tree's
+pub free_outside : (n : ℕ) (f g : Sets) (dist : ℕ → ℕ → ℕ) (x : Forest) (joins : List (ℕ × ℕ)) (meet set : ℕ) → IsStage n f dist x → IsFolding n f dist x joins meet → IsShrunk f (tops_from f joins) joins set g → has (tops_from f joins) set ≡ false
+free_outside n f g dist x joins meet set st w sh = elim (cases_Bool (has (tops_from f joins) set)) [
+  | inr k ↦ k
+  | inl k ↦ true_false (f.live set) (st.tree.tops set (w.cycle.in_tree set k)).1 sh.sets.was_free
+]
+
+-- the joins as they were put together
+pub folding_of : (n : ℕ) (f : Sets) (dist : ℕ → ℕ → ℕ) (x : Forest) (s t meet : ℕ) (left right js : List (ℕ × ℕ)) → IsStage n f dist x → s < n → t < n → loads n f s t ≡ dist s t → f.top s ≢ f.top t → AreClimbing n f dist x s t left right meet meet →
+    js ≡ reverse left ++ (s, t) ∷ right → IsFolding n f dist x js meet
+folding_of n f dist x s t meet left right js st hs ht tight apart c e = subst (λ (z : List (ℕ × ℕ)). IsFolding n f dist x z meet) (sym e) (climbing_whole n f dist x s t meet left right st hs ht tight apart c)
+
+pub folded_done : (n : ℕ) (f g : Sets) (dist : ℕ → ℕ → ℕ) (x y : Forest) (joins : List (ℕ × ℕ)) (cs ds : List ℕ) (meet set : ℕ) → IsStage n f dist x → IsFolding n f dist x joins meet → cs ≡ tops_from f joins → ds ≡ tops_from f joins → IsShrunk f cs joins set g → IsFamily g → DropsInside n g x.mate y.mate → Folds x ds meet set y → Advances n dist f x g y
+folded_done n f g dist x y joins cs ds meet set st w e e' sh fam d o =
+    folded_all n f g dist x y joins meet set st w (subst (λ (z : List ℕ). IsShrunk f z joins set g) e sh) fam d (subst (λ (z : List ℕ). Folds x z meet set y) e' o)
+
+pub free_outside_of : (n : ℕ) (f g : Sets) (dist : ℕ → ℕ → ℕ) (x : Forest) (joins : List (ℕ × ℕ)) (cs ds : List ℕ) (meet set : ℕ) → IsStage n f dist x → IsFolding n f dist x joins meet → cs ≡ tops_from f joins → ds ≡ tops_from f joins → IsShrunk f cs joins set g → has ds set ≡ false
+free_outside_of n f g dist x joins cs ds meet set st w e e' sh = ap (λ z. has z set) e' ∙ free_outside n f g dist x joins meet set st w (subst (λ (z : List ℕ). IsShrunk f z joins set g) e sh)

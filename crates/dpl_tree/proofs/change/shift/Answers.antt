@@ -1,0 +1,32 @@
+use Rattle.std.proofs.Common.{arith, ◌≡◌, ◌+◌, ◌*◌, ℕ, sym, ap, subst, ◌∙◌, get_or}
+use Rattle.dpl_laminar.specs.Loads.{sum_below}
+use Rattle.dpl_laminar.specs.Families.{Sets}
+use Rattle.dpl_laminar.specs.Storing.{sets_of}
+use Rattle.dpl_laminar.proofs.Sums.{sum_added}
+use Rattle.dpl_tree.specs.Forests.{gain, drop_of}
+use Rattle.dpl_tree.specs.Views.{place_in}
+use Rattle.dpl_tree.proofs.Growing.{outer_in}
+use Rattle.dpl_tree.proofs.Raising.{values_kept}
+use Rattle.dpl_tree.proofs.change.shift.Goals as goal
+
+pub lift-requires-clause-live : goal.lift-requires-clause-live
+lift-requires-clause-live g c =
+    let e = c.lower.ensures.rest in
+    λ i h p. ap (λ (z : Sets). z.live i) e ∙ c.requires.live i (omega (arith, h, ap (λ (z : Sets). z.size) e)) (outer_in p)
+
+pub retotal-requires-clause-enough : goal.retotal-requires-clause-enough
+retotal-requires-clause-enough g c =
+    let e = values_kept (sets_of c.args.family.now) (sets_of c.lower.new.family) (sets_of c.lift.new.family) c.lower.ensures.rest c.lift.ensures.rest in
+    λ m h p. c.requires.inner_totals m h (ap (λ (z : Sets). place_in c.args.labels.now (z.top m)) (sym e) ∙ p)
+
+pub returns-clause-totals : goal.returns-clause-totals
+returns-clause-totals g c =
+    let e = values_kept (sets_of c.args.family.now) (sets_of c.lower.new.family) (sets_of c.lift.new.family) c.lower.ensures.rest c.lift.ensures.rest in
+    λ m h. subst (λ (z : ℕ). get_or c.retotal.new.totals m 0 + drop_of (place_in c.args.labels.now z) * c.args.by ≡ get_or c.args.totals.now m 0 + gain (place_in c.args.labels.now z) * c.args.by) (ap (λ (z : Sets). z.top m) e) (c.retotal.ensures m h)
+
+pub returns-clause-steps : goal.returns-clause-steps
+returns-clause-steps g c =
+    let e = ap (λ (z : Sets). z.size) c.lower.ensures.rest in
+    let up : ℕ → ℕ = λ i. gain (place_in c.args.labels.now i) in
+    let down : ℕ → ℕ = λ i. drop_of (place_in c.args.labels.now i) in
+    omega (arith, c.lift.ensures.steps, c.lower.ensures.steps, sum_added (2 * (sets_of c.args.family.now).size) down up, ap (λ (z : ℕ). sum_below (2 * z) up) e)

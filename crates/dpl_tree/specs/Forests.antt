@@ -1,0 +1,149 @@
+-- The alternating tree of one stage over the top sets of a family, and what each single step makes of it, after Edmonds
+-- 1965, "Paths, trees, and flowers".
+use Rattle.std.specs.Prelude.{◌≡◌, ◌≢◌, ℕ, ◌+◌, ◌*◌, ◌<◌, ◌≤◌, true, false, Option, None, List}
+use Rattle.dpl_laminar.specs.Families.{Sets, has}
+use Rattle.dpl_tree.specs.Mates.{IsExit, ArePairs}
+
+-- how a top set stands in the tree
+pub data Place : Type 0 where
+  free : Place
+  outer : Place
+  inner : Place
+
+-- what the shifts add to a load and take from it
+abbrev pub gain : Place → ℕ
+gain free = 0
+gain outer = 1
+gain inner = 0
+
+abbrev pub drop_of : Place → ℕ
+drop_of free = 0
+drop_of outer = 0
+drop_of inner = 1
+
+-- the same amount is added to each outer top and taken from each inner one
+pub record Shifts (k : ℕ) (f : Sets) (place : ℕ → Place) (by : ℕ) (old new : ℕ → ℕ) : Type 0 where
+  pub tops : (i : ℕ) → i < k → place i ≢ free → f.parent i ≡ None
+  pub each : (i : ℕ) → i < k → new i + drop_of (place i) * by ≡ old i + gain (place i) * by
+
+-- the pairs between tops, and the tree: by the numbers of the sets how they stand in it, a rank that rises away from the
+-- root, and for an inner set the outer member and its own member that lead to it
+pub record Forest : Type 0 where
+  pub mate : ℕ → Option ℕ
+  pub place : ℕ → Place
+  pub rank : ℕ → ℕ
+  pub above : ℕ → ℕ
+  pub entry : ℕ → ℕ
+  pub root : ℕ
+
+pub record IsTree (n : ℕ) (f : Sets) (load dist : ℕ → ℕ → ℕ) (x : Forest) : Type 0 where
+  pub tops : (i : ℕ) → x.place i ≢ free → (i < 2 * n) × (f.live i ≡ true) × (f.parent i ≡ None)
+  pub root_outer : x.place x.root ≡ outer
+  pub root_free : (m t : ℕ) → IsExit n f x.mate x.root m t → ⊥
+  pub outer_pair : (i : ℕ) → x.place i ≡ outer → i ≢ x.root → (m : ℕ) × (t : ℕ) × IsExit n f x.mate i m t
+  pub outer_mate : (i m t : ℕ) → x.place i ≡ outer → IsExit n f x.mate i m t → (x.place (f.top t) ≡ inner) ×
+      (x.rank (f.top t) < x.rank i)
+  pub inner_pair : (i : ℕ) → x.place i ≡ inner → (m : ℕ) × (t : ℕ) × IsExit n f x.mate i m t
+  pub inner_mate : (i m t : ℕ) → x.place i ≡ inner → IsExit n f x.mate i m t → x.place (f.top t) ≡ outer
+  pub link_range : (i : ℕ) → x.place i ≡ inner → (x.above i < n) × (x.entry i < n)
+  pub link_entry : (i : ℕ) → x.place i ≡ inner → f.top (x.entry i) ≡ i
+  pub link_outer : (i : ℕ) → x.place i ≡ inner → x.place (f.top (x.above i)) ≡ outer
+  pub link_rank : (i : ℕ) → x.place i ≡ inner → x.rank (f.top (x.above i)) < x.rank i
+  pub link_tight : (i : ℕ) → x.place i ≡ inner → load (x.above i) (x.entry i) ≡ dist (x.above i) (x.entry i)
+
+-- what the place, the rank and the link of a set are after a pair of sets is taken into the tree
+pub record Grows (n : ℕ) (f : Sets) (x : Forest) (s t m o : ℕ) (y : Forest) : Type 0 where
+  pub mates : (i : ℕ) → y.mate i ≡ x.mate i
+  pub root : y.root ≡ x.root
+  pub place_inner : y.place (f.top t) ≡ inner
+  pub place_outer : y.place (f.top o) ≡ outer
+  pub place_others : (i : ℕ) → i ≢ f.top t → i ≢ f.top o → y.place i ≡ x.place i
+  pub rank_inner : y.rank (f.top t) ≡ x.rank (f.top s) + 1
+  pub rank_outer : y.rank (f.top o) ≡ x.rank (f.top s) + 2
+  pub rank_others : (i : ℕ) → i ≢ f.top t → i ≢ f.top o → y.rank i ≡ x.rank i
+  pub above : y.above (f.top t) ≡ s
+  pub entry : y.entry (f.top t) ≡ t
+  pub link_others : (i : ℕ) → i ≢ f.top t → (y.above i ≡ x.above i) × (y.entry i ≡ x.entry i)
+
+-- On the way from a free set to the root: s, in an outer set of the tree x, is to become the mate of t, in a set with no
+-- pair. The sets of the tree up to the rank of s's set have their pairs, and each set but t's has one that had one.
+pub record IsClimb (n : ℕ) (f : Sets) (load dist : ℕ → ℕ → ℕ) (x : Forest) (mate : ℕ → Option ℕ)
+    (s t : ℕ) : Type 0 where
+  pub s_range : s < n
+  pub t_range : t < n
+  pub s_outer : x.place (f.top s) ≡ outer
+  pub apart : f.top s ≢ f.top t
+  pub tight : load s t ≡ dist s t
+  pub tight_back : load t s ≡ dist t s
+  pub pairs : ArePairs n f load dist mate
+  pub t_free : (m u : ℕ) → IsExit n f mate (f.top t) m u → ⊥
+  pub t_rank : x.place (f.top t) ≢ free → x.rank (f.top s) < x.rank (f.top t)
+  pub kept : (m : ℕ) → m < n → x.place (f.top m) ≢ free → x.rank (f.top m) ≤ x.rank (f.top s) → mate m ≡ x.mate m
+  pub has_pair : (i m u : ℕ) → i ≢ f.top t → IsExit n f x.mate i m u → (a : ℕ) × (c : ℕ) × IsExit n f mate i a c
+
+-- sets of the tree on two ways up to where they meet
+pub record IsCycle (n : ℕ) (f : Sets) (x : Forest) (children : List ℕ) (meet : ℕ) : Type 0 where
+  pub meet_in : has children meet ≡ true
+  pub meet_outer : x.place meet ≡ outer
+  pub ranks : (c : ℕ) → has children c ≡ true → x.rank meet ≤ x.rank c
+  pub in_tree : (c : ℕ) → has children c ≡ true → x.place c ≢ free
+  pub closed : (c m t : ℕ) → has children c ≡ true → c ≢ meet → IsExit n f x.mate c m t → has children (f.top t) ≡ true
+  pub root_meets : has children x.root ≡ true → meet ≡ x.root
+
+-- a set takes the place of these in the tree
+pub record Folds (x : Forest) (children : List ℕ) (meet set : ℕ) (y : Forest) : Type 0 where
+  pub place_set : y.place set ≡ outer
+  pub place_child : (i : ℕ) → has children i ≡ true → y.place i ≡ free
+  pub place_others : (i : ℕ) → i ≢ set → has children i ≡ false → y.place i ≡ x.place i
+  pub rank_set : y.rank set ≡ x.rank meet
+  pub rank_others : (i : ℕ) → i ≢ set → y.rank i ≡ x.rank i
+  pub above : (i : ℕ) → i ≢ set → y.above i ≡ x.above i
+  pub entry : (i : ℕ) → i ≢ set → y.entry i ≡ x.entry i
+  pub root_in : has children x.root ≡ true → y.root ≡ set
+  pub root_out : has children x.root ≡ false → y.root ≡ x.root
+
+-- a tree in which the mate of one inner set, and of one outer set, need not stand in it
+pub record IsBroken (n : ℕ) (f : Sets) (load dist : ℕ → ℕ → ℕ) (x : Forest) (cur out room : ℕ) : Type 0 where
+  pub tops : (i : ℕ) → x.place i ≢ free → (i < 2 * n) × (f.live i ≡ true) × (f.parent i ≡ None)
+  pub root_outer : x.place x.root ≡ outer
+  pub root_free : (m t : ℕ) → IsExit n f x.mate x.root m t → ⊥
+  pub outer_pair : (i : ℕ) → x.place i ≡ outer → i ≢ x.root → (m : ℕ) × (t : ℕ) × IsExit n f x.mate i m t
+  pub outer_mate : (i m t : ℕ) → x.place i ≡ outer → i ≢ out → IsExit n f x.mate i m t →
+      (x.place (f.top t) ≡ inner) × (x.rank (f.top t) < x.rank i)
+  pub inner_pair : (i : ℕ) → x.place i ≡ inner → (m : ℕ) × (t : ℕ) × IsExit n f x.mate i m t
+  pub inner_mate : (i m t : ℕ) → x.place i ≡ inner → i ≢ cur → IsExit n f x.mate i m t → x.place (f.top t) ≡ outer
+  pub link_range : (i : ℕ) → x.place i ≡ inner → (x.above i < n) × (x.entry i < n)
+  pub link_entry : (i : ℕ) → x.place i ≡ inner → f.top (x.entry i) ≡ i
+  pub link_outer : (i : ℕ) → x.place i ≡ inner → x.place (f.top (x.above i)) ≡ outer
+  pub link_rank : (i : ℕ) → x.place i ≡ inner → x.rank (f.top (x.above i)) < x.rank i
+  pub link_tight : (i : ℕ) → x.place i ≡ inner → load (x.above i) (x.entry i) ≡ dist (x.above i) (x.entry i)
+  pub cur_inner : x.place cur ≡ inner
+  pub out_outer : x.place out ≡ outer
+  pub room_left : x.rank cur + room < x.rank out
+
+-- an inner set has given way to its child that the tree enters, and the ranks above it have made room
+pub record Opens (n : ℕ) (f : Sets) (x : Forest) (set first room : ℕ) (y : Forest) : Type 0 where
+  pub root : y.root ≡ x.root
+  pub place_set : y.place set ≡ free
+  pub place_first : y.place first ≡ inner
+  pub place_others : (i : ℕ) → i ≢ set → i ≢ first → y.place i ≡ x.place i
+  pub rank_first : y.rank first ≡ x.rank set
+  pub rank_low : (i : ℕ) → i ≢ first → x.rank i ≤ x.rank set → y.rank i ≡ x.rank i
+  pub rank_high : (i : ℕ) → i ≢ first → x.rank set < x.rank i → y.rank i ≡ x.rank i + room
+  pub above_first : y.above first ≡ x.above set
+  pub entry_first : y.entry first ≡ x.entry set
+  pub link_others : (i : ℕ) → i ≢ first → (y.above i ≡ x.above i) × (y.entry i ≡ x.entry i)
+
+-- two children more stand in the tree: one that is paired with the last inner one, and the next around
+pub record Walks (n : ℕ) (f : Sets) (x : Forest) (cur o next a b : ℕ) (y : Forest) : Type 0 where
+  pub mates : (i : ℕ) → y.mate i ≡ x.mate i
+  pub root : y.root ≡ x.root
+  pub place_outer : y.place o ≡ outer
+  pub place_inner : y.place next ≡ inner
+  pub place_others : (i : ℕ) → i ≢ o → i ≢ next → y.place i ≡ x.place i
+  pub rank_outer : y.rank o ≡ x.rank cur + 1
+  pub rank_inner : y.rank next ≡ x.rank cur + 2
+  pub rank_others : (i : ℕ) → i ≢ o → i ≢ next → y.rank i ≡ x.rank i
+  pub above : y.above next ≡ a
+  pub entry : y.entry next ≡ b
+  pub link_others : (i : ℕ) → i ≢ next → (y.above i ≡ x.above i) × (y.entry i ≡ x.entry i)

@@ -1,0 +1,84 @@
+-- What holds between two stages, and between two turns of a stage: the family overloads no pair, and pairs, joins and the
+-- edges of the tree are tight.
+use Rattle.std.specs.Prelude.{◌≡◌, ◌≢◌, ℕ, ◌+◌, ◌*◌, ◌%◌, ◌<◌, ◌≤◌, ◌⊎◌, Bool, true, false, Option, Some}
+use Rattle.dpl_laminar.specs.Families.{Sets, IsFamily, IsLaminar}
+use Rattle.dpl_laminar.specs.Loads.{sum_below}
+use Rattle.dpl_laminar.specs.Pairings.{AreWithin}
+use Rattle.dpl_tree.specs.Mates.{total_in, loads, totals, IsExit, ArePairs}
+use Rattle.dpl_tree.specs.Forests.{Place, free, outer, inner, Forest, IsTree}
+
+-- 0 for an outer set
+abbrev pub weight : Place → ℕ → ℕ
+weight free k = k
+weight outer k = 0
+weight inner k = k
+
+abbrev pub as_number : Bool → ℕ
+as_number true = 1
+as_number false = 0
+
+-- What falls with each turn of a stage: each member counts once while its top set is not outer, and once more if it is
+-- the one that gives a set its number.
+abbrev pub potential : ℕ → Sets → (ℕ → Place) → ℕ
+potential n f place = sum_below n (λ m. weight (place (f.top m)) (1 + as_number (f.live (n + m))))
+
+-- totals of members of one top, and of tops of the tree, have one parity
+pub record HasParity (n : ℕ) (f : Sets) (place : ℕ → Place) (v : ℕ → ℕ) : Type 0 where
+  pub in_top : (s t : ℕ) → s < n → t < n → f.top s ≡ f.top t →
+      total_in (2 * n) v f.holds s % 2 ≡ total_in (2 * n) v f.holds t % 2
+  pub in_tree : (s t : ℕ) → s < n → t < n → place (f.top s) ≢ free → place (f.top t) ≢ free →
+      total_in (2 * n) v f.holds s % 2 ≡ total_in (2 * n) v f.holds t % 2
+
+-- What holds between two stages: a family that overloads no pair, tight pairs between its tops, and tight joins.
+pub record IsRest (n : ℕ) (f : Sets) (dist : ℕ → ℕ → ℕ) (mate : ℕ → Option ℕ) : Type 0 where
+  pub size : f.size ≡ n
+  pub family : IsFamily f
+  pub laminar : IsLaminar n f
+  pub within : AreWithin n (2 * n) f.value f.holds dist
+  pub pairs : ArePairs n f (loads n f) dist mate
+  pub joins : (c p : ℕ) → c < 2 * n → f.parent c ≡ Some p →
+      loads n f (f.join c).0 (f.join c).1 ≡ dist (f.join c).0 (f.join c).1
+  pub parity : (s t : ℕ) → s < n → t < n → f.top s ≡ f.top t → totals n f s % 2 ≡ totals n f t % 2
+
+-- What holds between two turns of a stage: a tree as well.
+pub record IsStage (n : ℕ) (f : Sets) (dist : ℕ → ℕ → ℕ) (x : Forest) : Type 0 where
+  pub rest : IsRest n f dist x.mate
+  pub tree : IsTree n f (loads n f) dist x
+  pub even : (s t : ℕ) → s < n → t < n → x.place (f.top s) ≢ free → x.place (f.top t) ≢ free →
+      totals n f s % 2 ≡ totals n f t % 2
+
+-- the top of a member has a pair
+abbrev pub IsCovered : ℕ → Sets → (ℕ → Option ℕ) → ℕ → Type 0
+IsCovered n f mate k = (m : ℕ) × (t : ℕ) × IsExit n f mate (f.top k) m t
+
+-- the top of a member has a pair, or is the root
+abbrev pub IsReady : ℕ → Sets → Forest → ℕ → Type 0
+IsReady n f x k = IsCovered n f x.mate k ⊎ (f.top k ≡ x.root)
+
+-- no rank of a tree is above a bound
+abbrev pub AreRanked : Forest → ℕ → Type 0
+AreRanked x bound = (i : ℕ) → x.rank i ≤ bound
+
+-- what an event between two turns keeps, and that it comes nearer to the end
+pub record Advances (n : ℕ) (dist : ℕ → ℕ → ℕ) (f : Sets) (x : Forest) (g : Sets) (y : Forest) : Type 0 where
+  pub stage : IsStage n g dist y
+  pub falls : potential n g y.place < potential n f x.place
+  pub ready : (k : ℕ) → k < n → IsReady n f x k → IsReady n g y k
+
+-- the end of a stage: all that was ready has a pair
+pub record Ends (n : ℕ) (dist : ℕ → ℕ → ℕ) (f : Sets) (x : Forest) (g : Sets) (mate : ℕ → Option ℕ) : Type 0 where
+  pub rest : IsRest n g dist mate
+  pub covered : (k : ℕ) → k < n → IsReady n f x k → IsCovered n g mate k
+
+-- Outer members stay outer, and who has an outer member's top keeps it.
+pub record Widens (n : ℕ) (f : Sets) (place : ℕ → Place) (g : Sets) (place' : ℕ → Place) : Type 0 where
+  pub outer_stays : (s : ℕ) → s < n → place (f.top s) ≡ outer → place' (g.top s) ≡ outer
+  pub together : (s t : ℕ) → s < n → t < n → place (f.top s) ≡ outer → f.top s ≡ f.top t → g.top s ≡ g.top t
+
+-- An amount that no candidate forbids: what the scan over the pairs and over the inner sets gives.
+pub record IsChange (n : ℕ) (f : Sets) (x : Forest) (v : ℕ → ℕ) (dist : ℕ → ℕ → ℕ) (by : ℕ) : Type 0 where
+  pub both_outer : (s t : ℕ) → s < n → t < n → f.top s ≢ f.top t → x.place (f.top s) ≡ outer →
+      x.place (f.top t) ≡ outer → total_in (2 * n) v f.holds s + total_in (2 * n) v f.holds t + 2 * by ≤
+      dist s t
+  pub to_free : (s t : ℕ) → s < n → t < n → x.place (f.top s) ≡ outer → x.place (f.top t) ≡ free →
+      total_in (2 * n) v f.holds s + total_in (2 * n) v f.holds t + by ≤ dist s t

@@ -1,0 +1,104 @@
+//! An inner set of value 0 gives way to its children.
+
+ghost use Rattle.std.specs.Prelude.{◌≡◌, ◌≢◌, ℕ, ◌+◌, ◌*◌, ◌/◌, ◌%◌, ◌<◌, ◌≤◌, ◌^◌, List, Option, nat_lt, if◌then◌else◌, length, slice_index, slice_index_or, slice_set, IfOk};
+ghost use Rattle.dpl_laminar.specs.Families.{Sets};
+ghost use Rattle.dpl_tree.specs.Forests.{Opens};
+ghost use Rattle.dpl_tree.specs.Opened.{join_at, paired_times, lists_of, walked_times};
+ghost use Rattle.dpl_tree.specs.Views.{forest_of};
+
+use super::pairs::pair;
+use super::tree::{Label, Tree};
+
+/// Pairs the sets of a round two by two, but for the one at an even place.
+pub fn pair_round(mates: &mut [Option<u32>], joins: &[(u32, u32)], place: usize)
+    requires small { length joins.now ≤ 4096 }
+    requires odd { length joins.now % 2 ≡ 1 }
+    requires from { (i : ℕ) → i < length joins.now → (slice_index_or joins.now i (0, 0)).0 <
+        length mates.old }
+    requires to { (i : ℕ) → i < length joins.now → (slice_index_or joins.now i (0, 0)).1 <
+        length mates.old }
+    ensures { mates.new ≡ paired_times mates.old joins.now place (length joins.now / 2) }
+{
+    for r in 0..joins.len() / 2 {
+        let (s, t) = joins[join_place(place, r)];
+        pair(mates, s, t);
+    }
+}
+
+/// Which join pairs two sets.
+fn join_place(place: usize, r: usize) -> usize
+    requires { r ≤ 4096 }
+    ensures { result ≡ join_at place r }
+{
+    if 2 * r < place { 2 * r } else { 2 * r + 1 }
+}
+
+/// Makes room above a rank.
+pub fn make_room(ranks: &mut [u64], rank: u64, room: u64)
+    requires small { (i : ℕ) → slice_index ranks.old i ≤ 2 ^ 60 }
+    requires room { room ≤ 4096 }
+    ensures { (i : ℕ) → slice_index ranks.new i ≡
+        (if nat_lt rank (slice_index ranks.old i) then slice_index ranks.old i + room
+        else slice_index ranks.old i) }
+{
+    for i in 0..ranks.len() {
+        if rank < ranks[i] {
+            ranks[i] += room;
+        }
+    }
+}
+
+/// Puts the first child into the tree in place of the set.
+pub fn enter(tree: &mut Tree, set: u32, first: u32, room: u64)
+    requires set { set < length tree.old.labels.items }
+    requires first { first < length tree.old.labels.items }
+    requires apart { set ≢ first }
+    requires ranks { length tree.old.ranks.items ≡ length tree.old.labels.items }
+    requires links { length tree.old.links.items ≡ length tree.old.labels.items }
+    requires small { (i : ℕ) → slice_index tree.old.ranks.items i ≤ 2 ^ 60 }
+    requires room { room ≤ 4096 }
+    ensures opens { (n : ℕ) (f : Sets) (mates new : List (Option ℕ)) →
+        Opens n f (forest_of tree.old mates) set first room (forest_of tree.new new) }
+    ensures labels { length tree.new.labels.items ≡ length tree.old.labels.items }
+    ensures ranks { length tree.new.ranks.items ≡ length tree.old.labels.items }
+    ensures links { length tree.new.links.items ≡ length tree.old.labels.items }
+    ensures root { tree.new.root ≡ tree.old.root }
+    ensures small { (i : ℕ) → slice_index tree.new.ranks.items i ≤ 2 ^ 60 + 4096 }
+{
+    let rank = tree.rank(set);
+    let link = tree.link(set);
+    make_room(&mut tree.ranks, rank, room);
+    tree.labels[set as usize] = Label::Free;
+    tree.labels[first as usize] = Label::Inner;
+    tree.ranks[first as usize] = rank;
+    tree.links[first as usize] = link;
+}
+
+/// Takes the sets up to an even place into the tree.
+pub fn walk(tree: &mut Tree, sets: &[u32], joins: &[(u32, u32)], place: usize)
+    requires place { place < length sets.now }
+    requires few { length sets.now ≤ 4096 }
+    requires joins { length joins.now ≡ length sets.now }
+    requires below { (i : ℕ) → i < length sets.now → slice_index sets.now i <
+        length tree.old.labels.items }
+    requires ranks { length tree.old.ranks.items ≡ length tree.old.labels.items }
+    requires links { length tree.old.links.items ≡ length tree.old.labels.items }
+    requires small { (i : ℕ) → slice_index tree.old.ranks.items i ≤ 2 ^ 60 + 4096 }
+    ensures labels { length tree.new.labels.items ≡ length tree.old.labels.items }
+    ensures ranks { length tree.new.ranks.items ≡ length tree.old.labels.items }
+    ensures links { length tree.new.links.items ≡ length tree.old.labels.items }
+    ensures walked { lists_of tree.new ≡ walked_times (lists_of tree.old) sets.now joins.now
+        (place / 2) }
+    ensures root { tree.new.root ≡ tree.old.root }
+{
+    for r in 0..place / 2 {
+        let out = sets[2 * r + 1] as usize;
+        let next = sets[2 * r + 2] as usize;
+        let rank = tree.rank(sets[2 * r]);
+        tree.labels[out] = Label::Outer;
+        tree.labels[next] = Label::Inner;
+        tree.ranks[out] = rank + 1;
+        tree.ranks[next] = rank + 2;
+        tree.links[next] = joins[2 * r + 1];
+    }
+}

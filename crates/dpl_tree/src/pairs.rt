@@ -1,0 +1,66 @@
+//! Pairs of members.
+
+ghost use Rattle.std.specs.Prelude.{◌≡◌, ℕ, ◌<◌, ◌≤◌, slice_set, length, MatchOption};
+ghost use Rattle.dpl_laminar.specs.Storing.{sets_of};
+ghost use Rattle.dpl_tree.specs.Mates.{DropsInside};
+ghost use Rattle.dpl_tree.specs.Views.{mate_in};
+
+use dpl_laminar::Family;
+
+/// Makes two members each other's mates.
+pub fn pair(mates: &mut [Option<u32>], s: u32, t: u32)
+    requires first { s < length mates.old }
+    requires second { t < length mates.old }
+    ensures { mates.new ≡ slice_set (slice_set mates.old s (Some t)) t (Some s) }
+{
+    mates[s as usize] = Some(t);
+    mates[t as usize] = Some(s);
+}
+
+/// Gives up a pair.
+pub fn part(mates: &mut [Option<u32>], s: u32, t: u32)
+    requires first { s < length mates.old }
+    requires second { t < length mates.old }
+    ensures { mates.new ≡ slice_set (slice_set mates.old s None) t None }
+{
+    mates[s as usize] = None;
+    mates[t as usize] = None;
+}
+
+/// The member of a top set that has a mate, and its mate.
+pub fn exit_of(family: &Family, mates: &[Option<u32>], top: u32) -> Option<(u32, u32)>
+    requires count { length mates.now ≡ (sets_of family.now).size }
+    requires small { length mates.now ≤ 2048 }
+    ensures { MatchOption result
+        ((m : ℕ) → m < (sets_of family.now).size → (sets_of family.now).top m ≡ top →
+        mate_in mates.now m ≡ None)
+        (λ p. (p.0 < (sets_of family.now).size) × ((sets_of family.now).top p.0 ≡ top) ×
+        (mate_in mates.now p.0 ≡ Some p.1)) }
+{
+    for m in 0..mates.len() {
+        if let Some(mate) = mates[m] {
+            if family.tops(m as u32) == top {
+                return Some((m as u32, mate));
+            }
+        }
+    }
+    None
+}
+
+/// Gives up the pairs that lie inside one top set.
+pub fn drop_inside(family: &Family, mates: &mut [Option<u32>])
+    requires count { length mates.old ≡ (sets_of family.now).size }
+    requires small { length mates.old ≤ 2048 }
+    requires range { (m t : ℕ) → m < length mates.old → mate_in mates.old m ≡ Some t → t <
+        length mates.old }
+    ensures { DropsInside (length mates.old) (sets_of family.now) (mate_in mates.old)
+        (mate_in mates.new) }
+{
+    for m in 0..mates.len() {
+        if let Some(mate) = mates[m] {
+            if family.tops(m as u32) == family.tops(mate) {
+                mates[m] = None;
+            }
+        }
+    }
+}

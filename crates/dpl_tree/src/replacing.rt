@@ -1,0 +1,48 @@
+//! A new set takes the place of its children in the tree.
+
+ghost use Rattle.std.specs.Prelude.{◌≡◌, ◌≢◌, ℕ, ◌+◌, ◌*◌, ◌<◌, ◌≤◌, List, Option, true, false, length, slice_index, if◌then◌else◌};
+ghost use Rattle.dpl_laminar.specs.Families.{has};
+ghost use Rattle.dpl_tree.specs.Forests.{Folds, free};
+ghost use Rattle.dpl_tree.specs.Views.{forest_of, place_in, IsSized};
+
+use super::tree::{Label, Tree};
+
+/// Whether a number stands in a list.
+pub fn is_in(list: &[u32], x: u32) -> bool
+    ensures { result ≡ has list.now x }
+{
+    list.iter().any(|y| *y == x)
+}
+
+/// Takes sets out of the tree.
+pub fn free_all(labels: &mut [Label], sets: &[u32])
+    requires { (c : ℕ) → has sets.now c ≡ true → c < length labels.old }
+    ensures { (i : ℕ) → place_in labels.new i ≡
+        (if has sets.now i then free else place_in labels.old i) }
+{
+    for i in 0..sets.len() {
+        labels[sets[i] as usize] = Label::Free;
+    }
+}
+
+/// Puts a new set into the tree in place of its children.
+pub fn replace(tree: &mut Tree, children: &[u32], meet: u32, set: u32)
+    requires children { (c : ℕ) → has children.now c ≡ true → c < length tree.old.labels.items }
+    requires set { set < length tree.old.labels.items }
+    requires ranks { length tree.old.ranks.items ≡ length tree.old.labels.items }
+    requires meet { meet < length tree.old.labels.items }
+    requires outside { has children.now set ≡ false }
+    ensures folds { (mates new : List (Option ℕ)) →
+        Folds (forest_of tree.old mates) children.now meet set (forest_of tree.new new) }
+    ensures labels { length tree.new.labels.items ≡ length tree.old.labels.items }
+    ensures ranks { length tree.new.ranks.items ≡ length tree.old.ranks.items }
+    ensures links { tree.new.links.items ≡ tree.old.links.items }
+{
+    let rank = tree.rank(meet);
+    free_all(&mut tree.labels, children);
+    if is_in(children, tree.root) {
+        tree.root = set;
+    }
+    tree.labels[set as usize] = Label::Outer;
+    tree.ranks[set as usize] = rank;
+}
