@@ -1,6 +1,6 @@
 use crate::{colour, meets_by_number};
 use dpl_map::build;
-use dpl_sign::plain::{kept_edges, meets_faces};
+use dpl_plain::{kept_edges, meets_faces};
 use dpl_sign::{Edge, Net, Port, Signed, broken};
 use std::alloc::{AllocError, Global};
 use std::test::Fail;
