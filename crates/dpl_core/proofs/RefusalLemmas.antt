@@ -1,5 +1,5 @@
 -- A text has at most one refusal.
-use Rattle.std.proofs.Common.{arith, ◌≡◌, ◌⊎◌, inl, inr, ◌≤◌, ℕ, Bool, List, Result, Ok, Err, length, refl, sym, ap, ◌∙◌, subst}
+use Rattle.std.proofs.Common.{arith, ◌≡◌, ◌⊎◌, inl, inr, ◌≤◌, ℕ, Bool, List, Result, Ok, Err, length, refl, sym, ap, subst}
 use Rattle.std.specs.Prelude.{ℤ, IfOk, IfErr}
 use Rattle.dpl_cell.specs.Layers.{is_cell}
 use Rattle.dpl_sign.specs.declared.nets.Net.{Net}

@@ -1,8 +1,7 @@
 -- What a report of a solution says.
-use Rattle.std.proofs.Common.{arith, ◌≡◌, ℕ, ◌≤◌, ◌*◌, ◌↔◌, sym, ◌∙◌, subst, Bool, List, []}
+use Rattle.std.proofs.Common.{arith, ◌≡◌, ℕ, ◌≤◌, ◌↔◌, sym, ◌∙◌, subst, Bool, List, []}
 use Rattle.dpl_sign.specs.declared.nets.Net.{Net}
 use Rattle.dpl_sign.specs.declared.walks.Cycle.{Cycle}
-use Rattle.dpl_sign.specs.Colourings.{IsColouring, cost_of}
 use Rattle.dpl_sign.specs.Excess.{excess, all_edges}
 use Rattle.dpl_report.specs.Plain.{PlainReport}
 use Rattle.dpl_solve.specs.Solved.{IsSolution, kept_cost}
