@@ -215,7 +215,7 @@ fn told(alloc: Global, report: &Report) -> Due
             edges: counts.bonds + counts.stitches + counts.clashes,
             cost: report.cost,
             bound: report.bound,
-            aside: report.aside.len() as u64,
+            aside: report.aside.as_slice().len() as u64,
         },
     );
     match line {
