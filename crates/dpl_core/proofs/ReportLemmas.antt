@@ -6,7 +6,7 @@ use Rattle.dpl_sign.specs.Excess.{excess, all_edges}
 use Rattle.dpl_report.specs.Plain.{PlainReport}
 use Rattle.dpl_solve.specs.Solved.{IsSolution, kept_cost}
 use Rattle.dpl_solve.proofs.FinishLemmas.{half_least, kept_least, least}
-use Rattle.dpl_solve.proofs.PlaneLemmas.{aside_plane}
+use Rattle.dpl_sign.proofs.AsideLaw.{none_aside}
 use Rattle.dpl_core.specs.Reports.{IsLeast}
 
 -- the report has the colours, the cost, the edges set aside and the bound of a solution
@@ -15,6 +15,6 @@ pub least_of : (net : Net) (colours : List Bool) (cost : ℕ) (aside : List ℕ)
 least_of net colours cost aside excess' cs bound s r ec et eb ea = record {
   half = λ others k. let h = half_least net colours others cost aside excess' cs bound s k in omega arith;
   kept = λ others k. subst (λ z. kept_cost net z ≤ kept_cost net others) (sym ec) (kept_least net colours others cost aside excess' cs bound s k);
-  plane = subst (λ z. (z ≡ []) ↔ (excess net all_edges ≡ 0)) (sym (ea ∙ s.aside_is)) (aside_plane net);
-  all = λ plane others k. let h = least net colours others cost aside excess' cs bound s (s.aside_is ∙ (aside_plane net).1 plane) k in omega arith;
+  plane = subst (λ z. (z ≡ []) ↔ (excess net all_edges ≡ 0)) (sym (ea ∙ s.aside_is)) (none_aside net);
+  all = λ plane others k. let h = least net colours others cost aside excess' cs bound s (s.aside_is ∙ (none_aside net).1 plane) k in omega arith;
 }

@@ -1,4 +1,5 @@
 pub mod SoundLemmas
 pub mod OnceLemmas
 pub mod ToldLemmas
-pub mod FreeLemmas
+pub mod DueLemmas
+pub mod KindLemmas

@@ -1,5 +1,5 @@
 -- At most one status is due.
-use Rattle.std.proofs.Common.{arith, ◌≡◌, ◌∙◌, ℕ, ℤ, ◌≤◌, ◌<◌, List, [], length, refl, sym}
+use Rattle.std.proofs.Common.{arith, ◌≡◌, ◌∙◌, ℕ, ℤ, ◌≤◌, ◌<◌, List, [], length, refl, sym, ap, subst}
 use Rattle.std.specs.Prelude.{Result, Ok, Err}
 use Rattle.dpl_gen.specs.Layout.{layout}
 use Rattle.dpl_report.specs.declared.options.Options.{Options}
@@ -53,20 +53,20 @@ wrong_due kind text report _ _ (check_refused o name e s t error r) = absurd cc
 wrong_due kind text report _ _ (rejected o name e s t reason place found wanted v) = absurd cc
 wrong_due kind text report _ _ (accepted o name e s t cost bound v) = absurd cc
 wrong_due kind text report _ _ (load_refused o start rows columns e same error r) = absurd cc
-wrong_due kind text report _ _ (load_done o start rows columns e same r good free) = absurd cc
+wrong_due kind text report _ _ (load_done o start rows columns e same r fine free) = absurd cc
 
 split_due : (plain : PlainOptions) (text report : List ℕ) (a : Status) (x : List ℕ) → IsDueOf (Ok (split plain)) text report a x → SplitDue plain text a
 split_due plain text report _ _ (misused k e) = absurd cc
 split_due plain text report _ _ (split_long p e l) = long l
-split_due plain text report _ _ (split_refused o e s error r) = refused o cc s error r
-split_due plain text report _ _ (split_done o e s output p free) = done o cc s output p free
+split_due plain text report _ _ (split_refused o e s error r) = refused o (cc) s error r
+split_due plain text report _ _ (split_done o e s output p free) = done o (cc) s output p free
 split_due plain text report _ _ (check_long p name e l) = absurd cc
 split_due plain text report _ _ (report_long p name e s l) = absurd cc
 split_due plain text report _ _ (check_refused o name e s t error r) = absurd cc
 split_due plain text report _ _ (rejected o name e s t reason place found wanted v) = absurd cc
 split_due plain text report _ _ (accepted o name e s t cost bound v) = absurd cc
 split_due plain text report _ _ (load_refused o start rows columns e same error r) = absurd cc
-split_due plain text report _ _ (load_done o start rows columns e same r good free) = absurd cc
+split_due plain text report _ _ (load_done o start rows columns e same r fine free) = absurd cc
 
 check_due : (plain : PlainOptions) (name text report : List ℕ) (a : Status) (x : List ℕ) → IsDueOf (Ok (check plain name)) text report a x → CheckDue plain text report a
 check_due plain name text report _ _ (misused k e) = absurd cc
@@ -75,11 +75,18 @@ check_due plain name text report _ _ (split_refused o e s error r) = absurd cc
 check_due plain name text report _ _ (split_done o e s output p free) = absurd cc
 check_due plain name text report _ _ (check_long p n e l) = too_long l
 check_due plain name text report _ _ (report_long p n e s l) = long_report s l
-check_due plain name text report _ _ (check_refused o n e s t error r) = faulty o cc s t error r
-check_due plain name text report _ _ (rejected o n e s t reason place found wanted v) = failed o cc s t reason place found wanted v
-check_due plain name text report _ _ (accepted o n e s t cost bound v) = good o cc s t cost bound v
+check_due plain name text report _ _ (check_refused o n e s t error r) = faulty o (cc) s t error r
+check_due plain name text report _ _ (rejected o n e s t reason place found wanted v) = failed o (cc) s t reason place found wanted v
+check_due plain name text report _ _ (accepted o n e s t cost bound v) = good o (cc) s t cost bound v
 check_due plain name text report _ _ (load_refused o start rows columns e same error r) = absurd cc
-check_due plain name text report _ _ (load_done o start rows columns e same r good free) = absurd cc
+check_due plain name text report _ _ (load_done o start rows columns e same r fine free) = absurd cc
+
+same_made : (s r c start rows columns : ℕ) → ◌≡◌ {A = Result PlainCommand ℕ} (Ok (load start rows columns)) (Ok (load s r c)) → layout s r c ≡ layout start rows columns
+same_made s r c start rows columns e =
+    let a : s ≡ start = cc in
+    let b : r ≡ rows = cc in
+    let d : c ≡ columns = cc in
+    rw (a, b, d) refl
 
 load_due : (start rows columns : ℕ) (text report : List ℕ) (a : Status) (x : List ℕ) → IsDueOf (Ok (load start rows columns)) text report a x → LoadDue (layout start rows columns) a
 load_due start rows columns text report _ _ (misused k e) = absurd cc
@@ -92,15 +99,10 @@ load_due start rows columns text report _ _ (check_refused o n e s t error r) = 
 load_due start rows columns text report _ _ (rejected o n e s t reason place found wanted v) = absurd cc
 load_due start rows columns text report _ _ (accepted o n e s t cost bound v) = absurd cc
 load_due start rows columns text report _ _ (load_refused o s r c e same error p) =
-    let a : s ≡ start = cc in
-    let b : r ≡ rows = cc in
-    let d : c ≡ columns = cc in
-    stopped o same error (rw (a, b, d) at p)
-load_due start rows columns text report _ _ (load_done o s r c e same report' good free) =
-    let a : s ≡ start = cc in
-    let b : r ≡ rows = cc in
-    let d : c ≡ columns = cc in
-    made o same report' (rw (a, b, d) at good) (rw (a, b, d) at free)
+    stopped o same error (subst (λ t. RefusesSplit o t error) (same_made s r c start rows columns e) p)
+load_due start rows columns text report _ _ (load_done o s r c e same report' fine free) =
+    let h = same_made s r c start rows columns e in
+    made o same report' (subst (λ t. IsReportOf o t report') h fine) (subst (IsFree o) h free)
 
 -- ---- one status for each command
 
@@ -118,7 +120,7 @@ one_split plain text _ _ (done o e s output p free) (long m) = absurd (omega ari
 one_split plain text _ _ (done o e s output p free) (refused q f t error r) = absurd (free error (subst (λ z. RefusesSplit z text error) (same_of o q plain e f) r))
 one_split plain text _ _ (done o e s output p free) (done q f t output' r free') = refl
 
-status_of_verdict : Verdict → Status
+abbrev status_of_verdict : Verdict → Status
 status_of_verdict (Yes cost bound) = Done
 status_of_verdict (No reason place found wanted) = Rejected reason place found wanted
 

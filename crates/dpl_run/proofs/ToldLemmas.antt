@@ -1,11 +1,16 @@
 -- What is written is due, and what is due is answered.
-use Rattle.std.proofs.Common.{◌≡◌, ◌≢◌, ◌⊎◌, ◌∙◌, ℕ, List, [], Option, refl, sym, inl, inr}
-use Rattle.std.specs.Io.KnownBytes.{Appends}
+use Rattle.std.proofs.Common.{◌≡◌, ◌≢◌, ◌⊎◌, ◌∙◌, ℕ, List, [], append-nil, Option, None, Some, refl, sym, subst, inl, inr}
+use Rattle.std.specs.Prelude.{Result, Err}
+use Rattle.std.specs.Io.KnownBytes.{Appends, Keeps}
+use Rattle.dpl_ext.specs.Device.{Texts, Rose}
+use Rattle.dpl_words.specs.Commands.{PlainCommand, command_of}
 use Rattle.dpl_run.specs.declared.status.Status.{Status}
 use Rattle.dpl_run.specs.declared.status.Status.TheVariants.{Done, Rejected, Usage, Layout, Limit, ReadFault, WriteFault, NoMemory}
-use Rattle.dpl_run.specs.Answer.{Answers, IsAnswered}
-use Rattle.dpl_run.specs.Telling.{IsDueOrFree, IsTold}
-use Rattle.dpl_run.proofs.SoundLemmas.{IsFit}
+use Rattle.dpl_run.specs.Answer.{Answers, AreTold, IsAnswered, IsDue, IsDueOf, IsQuiet}
+use Rattle.dpl_run.specs.Answer.IsDueOf.{misused}
+use Rattle.dpl_run.specs.Telling.{IsBare, IsDueOrFree, IsTold}
+use Rattle.dpl_run.proofs.SoundLemmas.{IsFit, fits}
+use Rattle.dpl_run.proofs.OnceLemmas.{one_due}
 
 -- a relation of what is due, in which all that is due fits
 abbrev pub IsSound : (Status → List ℕ → Type 0) → Type 0
@@ -50,3 +55,48 @@ comes Due once before now due (Rejected reason place found wanted) x w p n = inl
 comes Due once before now due (Usage kind) x w p n = inl (once _ due w.output x w.due p)
 comes Due once before now due (Limit kind count) x w p n = inl (once _ due w.output x w.due p)
 comes Due once before now due (Layout command what) x w p n = inl (once _ due w.output x w.due p)
+
+-- ---- for a command
+
+pub attempt_answers : (words : List (List ℕ)) (command : Result PlainCommand ℕ) (left : Option (List ℕ)) (texts : Option Texts) (before now : Option (List ℕ)) (f g : ℕ) (a : Status) (x : List ℕ) (result : Status)
+    → command_of words ≡ command → ((text report : List ℕ) → AreTold command left texts text report → IsDueOrFree (IsDueOf command text report) a x) → IsTold a x before now f g result
+    → (text report : List ℕ) → AreTold (command_of words) left texts text report → Answers (IsDue words text report) before now result
+attempt_answers words command left texts before now f g a x result e due told text report t =
+    let due' = due text report (subst (λ z. AreTold z left texts text report) e t) in
+    subst (λ z. Answers (IsDueOf z text report) before now result) (sym e) (told_answers (IsDueOf command text report) (fits command text report) before now f g a x result due' told)
+
+appends_none : (x : Option (List ℕ)) → Appends x x []
+appends_none None = tt
+appends_none (Some xs) = sym (append-nil xs)
+
+pub usage_answers : (words : List (List ℕ)) (kind : ℕ) (now : Option (List ℕ)) (text report : List ℕ) → command_of words ≡ Err kind → Answers (IsDue words text report) now now (Usage kind)
+usage_answers words kind now text report e = record { output = []; due = misused kind e; taken = appends_none now }
+
+keeps_none : (before now : Option (List ℕ)) → Appends before now [] → Keeps before now
+keeps_none None now a = tt
+keeps_none (Some xs) None a = a
+keeps_none (Some xs) (Some ys) a = a ∙ append-nil xs
+
+quiet_of : (s : Status) (x : List ℕ) (before now : Option (List ℕ)) → IsBare s x → Appends before now x → IsQuiet before now s
+quiet_of Done x before now b a = tt
+quiet_of WriteFault x before now b a = tt
+quiet_of ReadFault x before now b a = keeps_none before now (subst (Appends before now) b a)
+quiet_of NoMemory x before now b a = keeps_none before now (subst (Appends before now) b a)
+quiet_of (Rejected reason place found wanted) x before now b a = keeps_none before now (subst (Appends before now) b a)
+quiet_of (Usage kind) x before now b a = keeps_none before now (subst (Appends before now) b a)
+quiet_of (Limit kind count) x before now b a = keeps_none before now (subst (Appends before now) b a)
+quiet_of (Layout command what) x before now b a = keeps_none before now (subst (Appends before now) b a)
+
+pub told_quiet : (a : Status) (x : List ℕ) (before now : Option (List ℕ)) (f g : ℕ) (result : Status) → IsBare a x → IsTold a x before now f g result → IsQuiet before now result
+told_quiet a x before now f g result b (inl w) = subst (IsQuiet before now) (sym w.status_is) (quiet_of a x before now b w.taken)
+told_quiet a x before now f g result b (inr w) = subst (IsQuiet before now) (sym w.fault) tt
+
+pub told_write : (a : Status) (x : List ℕ) (before now : Option (List ℕ)) (f g : ℕ) (result : Status) → IsBare a x → IsTold a x before now f g result → result ≡ WriteFault → Rose f g
+told_write a x before now f g result b (inl w) e = absurd (subst (λ z. IsBare z x) (sym w.status_is ∙ e) b)
+told_write a x before now f g result b (inr w) e = w.rose
+
+pub all_comes : (words : List (List ℕ)) (left : Option (List ℕ)) (texts : Option Texts) (before now : Option (List ℕ)) (result : Status)
+    → ((text report : List ℕ) → AreTold (command_of words) left texts text report → Answers (IsDue words text report) before now result)
+    → (text report : List ℕ) → AreTold (command_of words) left texts text report → (due : Status) (output : List ℕ) → IsDue words text report due output → result ≢ ReadFault → IsAnswered due result
+all_comes words left texts before now result answer text report t due output d n =
+    comes (IsDue words text report) (one_due (command_of words) text report) before now due result output (answer text report t) d n

@@ -11,6 +11,12 @@ IsDueOrFree Due ReadFault output = output ≡ []
 IsDueOrFree Due NoMemory output = output ≡ []
 IsDueOrFree Due status output = Due status output
 
+-- something is written before Done alone, and no write has failed yet
+abbrev pub IsBare : Status → List ℕ → Type 0
+IsBare Done output = ⊤
+IsBare WriteFault output = ⊥
+IsBare status output = output ≡ []
+
 -- why a text was not read whole: the source failed, or gave one byte more than the limit, or memory was wanting
 abbrev pub StopsReading : Seen → Seen → ℕ → ℕ → Status → Type 0
 StopsReading before now kind most (Limit k count) = (k ≡ kind) × (count ≡ most + 1) × RoseBy (most + 1) before.given now.given × IfSome before.left (λ xs. most < length xs)

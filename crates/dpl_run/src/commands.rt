@@ -6,7 +6,7 @@ ghost use Rattle.dpl_report.specs.Valid.{IsReport};
 ghost use Rattle.dpl_words.specs.Commands.{split as plain_split, check as plain_check, load as plain_load};
 ghost use Rattle.dpl_words.specs.Views.{plain_command, plain_options, IsInRange};
 ghost use Rattle.dpl_run.specs.Answer.{AreTold, AsksFor, IsDueOf, IsReadFault, IsTouched, PassesBytes, load_options, loaded_line};
-ghost use Rattle.dpl_run.specs.Telling.{IsDueOrFree, IsNoText, StopsReport};
+ghost use Rattle.dpl_run.specs.Telling.{IsBare, IsDueOrFree, IsNoText, StopsReport};
 ghost use Rattle.dpl_run.specs.Errors as errors;
 
 use crate::due::{Due, bare};
@@ -45,6 +45,7 @@ pub fn carry_out<S: Source, F: Shelf>(
     ensures limit { (count : ℕ) → result.status ≡ Status.Limit 1 count → PassesBytes 16777217 count (S.seen layout.old) (S.seen layout.new) }
     ensures report_limit { (count : ℕ) → result.status ≡ Status.Limit 9 count → PassesBytes 268435457 count (F.seen second.old) (F.seen second.new) }
     ensures touched { IsTouched (Ok (plain_command command.now)) (S.seen layout.old) (S.seen layout.new) (F.seen second.old) (F.seen second.new) }
+    ensures bare { IsBare result.status result.output.items }
 {
     match command {
         Command::Split(options) => split_text(alloc, options, layout),
@@ -67,6 +68,7 @@ fn split_text<S: Source>(alloc: Global, options: &Options, layout: &mut S) -> Du
     ensures limit { (count : ℕ) → result.status ≡ Status.Limit 1 count → PassesBytes 16777217 count (S.seen layout.old) (S.seen layout.new) }
     ensures other { (count : ℕ) → result.status ≢ Status.Limit 9 count }
     ensures asked { (S.seen layout.new).asked ≡ (S.seen layout.old).asked }
+    ensures bare { IsBare result.status result.output.items }
 {
     match text_of(alloc, layout, 1, MOST_BYTES) {
         Ok(text) => split_bytes(alloc, options, text.as_slice()),
@@ -79,6 +81,7 @@ fn split_bytes(alloc: Global, options: &Options, text: &[u8]) -> Due
     requires { length text.now ≤ 16777216 }
     ensures due { (report : List ℕ) → IsDueOrFree (IsDueOf (Ok (plain_split (plain_options options.now))) text.now report) result.status result.output.items }
     ensures read { IsNoText result.status }
+    ensures bare { IsBare result.status result.output.items }
 {
     match split(alloc, text, options) {
         Ok(output) => Due {
@@ -104,6 +107,7 @@ fn check_text<S: Source, F: Shelf>(
     ensures report_limit { (count : ℕ) → result.status ≡ Status.Limit 9 count → PassesBytes 268435457 count (F.seen second.old) (F.seen second.new) }
     ensures asked { (S.seen layout.new).asked ≡ (S.seen layout.old).asked }
     ensures opened { AsksFor name.now (F.seen second.old) (F.seen second.new) }
+    ensures bare { IsBare result.status result.output.items }
 {
     let text = match text_of(alloc, layout, 1, MOST_BYTES) {
         Ok(text) => text,
@@ -117,7 +121,8 @@ fn check_text<S: Source, F: Shelf>(
 
 /// The report that a shelf has under a name.
 fn report_of<F: Shelf>(alloc: Global, name: &str, second: &mut F) -> Result<Vec<u8>, Status>
-    ensures whole { IfOk result (λ v. (ts : Texts) → F.texts second.old ≡ Some ts → (length v.items ≤ 268435456) × (first_text name.now ts ≡ Some v.items)) }
+    ensures whole { IfOk result (λ v. (ts : Texts) → F.texts second.old ≡ Some ts → first_text name.now ts ≡ Some v.items) }
+    ensures within { IfOk result (λ v. length v.items ≤ 268435456) }
     ensures stops { IfErr result (StopsReport (F.seen second.old) (F.seen second.new) name.now (F.texts second.old)) }
     ensures opened { AsksFor name.now (F.seen second.old) (F.seen second.new) }
 {
@@ -134,6 +139,7 @@ fn check_bytes(alloc: Global, options: &Options, text: &[u8], report: &[u8]) -> 
     requires report { length report.now ≤ 268435456 }
     ensures due { (name : List ℕ) → IsDueOrFree (IsDueOf (Ok (plain_check (plain_options options.now) name)) text.now report.now) result.status result.output.items }
     ensures read { IsNoText result.status }
+    ensures bare { IsBare result.status result.output.items }
 {
     match check(alloc, text, options, report) {
         Ok(Verdict::Yes { cost, bound }) => match yes_line(alloc, cost, bound) {
@@ -170,6 +176,7 @@ fn load_made(alloc: Global, start: u64, rows: u32, columns: u32) -> Due
     requires columns { (1 ≤ columns) × (columns ≤ 200) }
     ensures due { (text report : List ℕ) → IsDueOrFree (IsDueOf (Ok (plain_load start rows columns)) text report) result.status result.output.items }
     ensures read { IsNoText result.status }
+    ensures bare { IsBare result.status result.output.items }
 {
     let text = match made_layout(alloc, start, rows, columns) {
         Ok(text) => text,
@@ -206,6 +213,7 @@ fn told(alloc: Global, report: &Report) -> Due
     requires { IsReport (plain_report report.now) }
     ensures done { result.status ≡ Status.Done → result.output.items ≡ loaded_line (plain_report report.now) }
     ensures only { (result.status ≡ Status.Done) ⊎ ((result.status ≡ Status.NoMemory) × (result.output.items ≡ [])) }
+    ensures bare { IsBare result.status result.output.items }
 {
     let counts = &report.counts;
     let line = load_line(
@@ -215,7 +223,7 @@ fn told(alloc: Global, report: &Report) -> Due
             edges: counts.bonds + counts.stitches + counts.clashes,
             cost: report.cost,
             bound: report.bound,
-            aside: report.aside.len() as u64,
+            aside: report.aside.as_slice().len() as u64,
         },
     );
     match line {

@@ -1,0 +1,25 @@
+use Rattle.std.proofs.Common.{map, sym, subst}
+use Rattle.std.specs.Prelude.{string_bytes, Ok}
+use Rattle.dpl_words.specs.Views.{plain_command}
+use Rattle.dpl_run.specs.Answer.{Answers, IsDue}
+use Rattle.dpl_run.specs.declared.status.Status.TheVariants.{Usage}
+use Rattle.dpl_run.proofs.ToldLemmas.{attempt_answers, usage_answers, told_quiet, told_write}
+use Rattle.dpl_run.proofs.running.attempt.Goals as goal
+
+pub returns-in-Err-Usage-clause-answer : goal.returns-in-Err-Usage-clause-answer
+returns-in-Err-Usage-clause-answer g c = λ text report told.
+    subst (λ z. Answers (IsDue (map string_bytes c.args.words.now) text report) (g.O.Sink.taken c.args.out.now) (g.O.Sink.taken c.args.out.now) (Usage z)) (sym c.in-Err-Usage.kind-is)
+        (usage_answers (map string_bytes c.args.words.now) c.in-Err-Usage.kind (g.O.Sink.taken c.args.out.now) text report (rw c.in-Err-Usage.field-0-is at c.in-Err-Usage.ensures.answer))
+
+pub returns-clause-answer : goal.returns-clause-answer
+returns-clause-answer g c =
+    attempt_answers (map string_bytes c.args.words.now) (Ok (plain_command c.in-Ok.command)) (g.S.Source.seen c.args.layout.now).left (g.F.Shelf.texts c.args.second.now) (g.O.Sink.taken c.args.out.now) (g.O.Sink.taken c.tell.new.out) (g.O.Sink.faults c.args.out.now) (g.O.Sink.faults c.tell.new.out)
+        c.carry_out-due.result.status c.carry_out-due.result.output.items c.tell.result c.in-Ok.ensures.answer c.carry_out-due.ensures.due c.tell.ensures
+
+pub returns-clause-quiet : goal.returns-clause-quiet
+returns-clause-quiet g c =
+    told_quiet c.carry_out-due.result.status c.carry_out-due.result.output.items (g.O.Sink.taken c.args.out.now) (g.O.Sink.taken c.tell.new.out) (g.O.Sink.faults c.args.out.now) (g.O.Sink.faults c.tell.new.out) c.tell.result c.carry_out-due.ensures.bare c.tell.ensures
+
+pub returns-clause-write : goal.returns-clause-write
+returns-clause-write g c =
+    told_write c.carry_out-due.result.status c.carry_out-due.result.output.items (g.O.Sink.taken c.args.out.now) (g.O.Sink.taken c.tell.new.out) (g.O.Sink.faults c.args.out.now) (g.O.Sink.faults c.tell.new.out) c.tell.result c.carry_out-due.ensures.bare c.tell.ensures
