@@ -20,7 +20,7 @@ struct World {
     writes: Vec<u64>,
 }
 
-fn world(alloc: Global, layout: &[u8], report: &[u8]) -> Result<World, Fail> {
+fn devices(alloc: Global, layout: &[u8], report: &[u8]) -> Result<World, Fail> {
     Ok(World {
         layout: Vec::from_slice(alloc, layout)?,
         report: Vec::from_slice(alloc, report)?,
@@ -31,7 +31,7 @@ fn world(alloc: Global, layout: &[u8], report: &[u8]) -> Result<World, Fail> {
 }
 
 /// Runs a command line over devices in memory.
-fn ended(alloc: Global, line: &str, world: World) -> Result<Ended, Fail> {
+fn run_over(alloc: Global, line: &str, world: World) -> Result<Ended, Fail> {
     let mut words = Vec::new(alloc);
     for word in line.split_whitespace() {
         words.push(String::from_str(alloc, word)?)?;
@@ -64,7 +64,7 @@ const NOTHING: &[u8] =
 
 #[test]
 fn nothing_on_two_masks(rt: HostRuntime) -> Result<(), Fail> {
-    let ended = ended(rt.alloc(), SPLIT, world(rt.alloc(), b"E", b"")?)?;
+    let ended = run_over(rt.alloc(), SPLIT, devices(rt.alloc(), b"E", b"")?)?;
     assert_eq!(rt; ended.status, Status::Done);
     assert_eq!(rt; ended.out.bytes(), NOTHING);
     assert_eq!(rt; ended.err.bytes().len(), 0);
@@ -83,7 +83,7 @@ fn statuses_and_lines(rt: HostRuntime) -> Result<(), Fail> {
             "dpl: usage 3\n",
         ),
         (SPLIT, "L M; Q 1; E", 3, "dpl: layout 1 at command 2\n"),
-        (CHECK, "L M; B 1 1 0 0", 3, "dpl: layout 14 at command 3\n"),
+        (CHECK, "L M; B 1 1 0 0", 3, "dpl: layout 14 at command 2\n"),
         (
             SPLIT,
             "L M; B 2 2 536870912 0; E",
@@ -92,7 +92,11 @@ fn statuses_and_lines(rt: HostRuntime) -> Result<(), Fail> {
         ),
         (CHECK, "E", 1, "dpl: rejected 1 place 1 found 0 wanted 0\n"),
     ] {
-        let ended = ended(rt.alloc(), line, world(rt.alloc(), layout.as_bytes(), b"")?)?;
+        let ended = run_over(
+            rt.alloc(),
+            line,
+            devices(rt.alloc(), layout.as_bytes(), b"")?,
+        )?;
         assert_eq!(rt; ended.status.code(), code, "{layout}");
         assert_eq!(rt; ended.err.bytes(), told.as_bytes(), "{layout}");
         assert_eq!(rt; ended.out.bytes().len(), 0);
@@ -103,16 +107,16 @@ fn statuses_and_lines(rt: HostRuntime) -> Result<(), Fail> {
 /// The split of the odd triangle is read again, costs one conflict, and shows twice that by its cycles.
 #[test]
 fn the_odd_triangle_and_its_check(rt: HostRuntime) -> Result<(), Fail> {
-    let made = ended(rt.alloc(), SPLIT, world(rt.alloc(), TRIANGLE, b"")?)?;
+    let made = run_over(rt.alloc(), SPLIT, devices(rt.alloc(), TRIANGLE, b"")?)?;
     assert_eq!(rt; made.status, Status::Done);
-    let read = ended(
+    let read = run_over(
         rt.alloc(),
         CHECK,
-        world(rt.alloc(), TRIANGLE, made.out.bytes())?,
+        devices(rt.alloc(), TRIANGLE, made.out.bytes())?,
     )?;
     assert_eq!(rt; read.status, Status::Done);
     assert_eq!(rt; read.out.bytes(), b"yes cost 10 bound 20\n".as_slice());
-    let other = ended(rt.alloc(), CHECK, world(rt.alloc(), TRIANGLE, NOTHING)?)?;
+    let other = run_over(rt.alloc(), CHECK, devices(rt.alloc(), TRIANGLE, NOTHING)?)?;
     assert_eq!(rt; other.status.code(), 1u8);
     assert_eq!(rt;
         other.err.bytes(),
@@ -123,10 +127,10 @@ fn the_odd_triangle_and_its_check(rt: HostRuntime) -> Result<(), Fail> {
 
 #[test]
 fn a_made_layout(rt: HostRuntime) -> Result<(), Fail> {
-    let ended = ended(
+    let ended = run_over(
         rt.alloc(),
         "load --start 7 --rows 1 --columns 1",
-        world(rt.alloc(), b"", b"")?,
+        devices(rt.alloc(), b"", b"")?,
     )?;
     assert_eq!(rt; ended.status, Status::Done);
     let want = b"fragments 1 edges 0 cost 0 bound 0 aside 0\n";
@@ -136,18 +140,18 @@ fn a_made_layout(rt: HostRuntime) -> Result<(), Fail> {
 
 #[test]
 fn failing_devices(rt: HostRuntime) -> Result<(), Fail> {
-    let mut given = world(rt.alloc(), b"L M; B 1 1 0 0; E", b"")?;
+    let mut given = devices(rt.alloc(), b"L M; B 1 1 0 0; E", b"")?;
     given.reads.push(1)?;
-    let read = ended(rt.alloc(), SPLIT, given)?;
+    let read = run_over(rt.alloc(), SPLIT, given)?;
     assert_eq!(rt; read.status, Status::ReadFault);
     assert_eq!(rt; read.out.bytes().len(), 0);
-    let mut given = world(rt.alloc(), b"E", b"")?;
+    let mut given = devices(rt.alloc(), b"E", b"")?;
     given.opens.push(0)?;
-    let opened = ended(rt.alloc(), CHECK, given)?;
+    let opened = run_over(rt.alloc(), CHECK, given)?;
     assert_eq!(rt; opened.status, Status::ReadFault);
-    let mut given = world(rt.alloc(), b"E", b"")?;
+    let mut given = devices(rt.alloc(), b"E", b"")?;
     given.writes.push(1)?;
-    let written = ended(rt.alloc(), SPLIT, given)?;
+    let written = run_over(rt.alloc(), SPLIT, given)?;
     assert_eq!(rt; written.status, Status::WriteFault);
     assert_eq!(rt; written.out.bytes(), &NOTHING[..40]);
     assert_eq!(rt; written.err.bytes(), b"dpl: write fault\n".as_slice());

@@ -10,7 +10,7 @@ use Rattle.dpl_run.proofs.commands.split_text.Goals as goal
 pub returns-in-Err-clause-due : goal.returns-in-Err-clause-due
 returns-in-Err-clause-due g c = λ text told report.
     stops_due (IsDueOf (Ok (split (plain_options c.args.options.now))) text report) (g.S.Source.seen c.args.layout.now) (g.S.Source.seen c.text_of.new.source) text 1 16777216 c.in-Err.status c.bare.result.status c.bare.result.output.items
-        c.in-Err.ensures.stops c.bare.ensures.status told c.bare.ensures.output (λ long. split_long (plain_options c.args.options.now) refl long)
+    c.in-Err.ensures.stops c.bare.ensures.status told c.bare.ensures.output (λ long. split_long (plain_options c.args.options.now) refl long)
 
 pub returns-in-Err-clause-bare : goal.returns-in-Err-clause-bare
 returns-in-Err-clause-bare g c =

@@ -9,12 +9,12 @@ use Rattle.dpl_run.proofs.running.attempt.Goals as goal
 pub returns-in-Err-Usage-clause-answer : goal.returns-in-Err-Usage-clause-answer
 returns-in-Err-Usage-clause-answer g c = λ text report told.
     subst (λ z. Answers (IsDue (map string_bytes c.args.words.now) text report) (g.O.Sink.taken c.args.out.now) (g.O.Sink.taken c.args.out.now) (Usage z)) (sym c.in-Err-Usage.kind-is)
-        (usage_answers (map string_bytes c.args.words.now) c.in-Err-Usage.kind (g.O.Sink.taken c.args.out.now) text report (rw c.in-Err-Usage.field-0-is at c.in-Err-Usage.ensures.answer))
+    (usage_answers (map string_bytes c.args.words.now) c.in-Err-Usage.kind (g.O.Sink.taken c.args.out.now) text report (rw c.in-Err-Usage.field-0-is at c.in-Err-Usage.ensures.answer))
 
 pub returns-clause-answer : goal.returns-clause-answer
 returns-clause-answer g c =
     attempt_answers (map string_bytes c.args.words.now) (Ok (plain_command c.in-Ok.command)) (g.S.Source.seen c.args.layout.now).left (g.F.Shelf.texts c.args.second.now) (g.O.Sink.taken c.args.out.now) (g.O.Sink.taken c.tell.new.out) (g.O.Sink.faults c.args.out.now) (g.O.Sink.faults c.tell.new.out)
-        c.carry_out-due.result.status c.carry_out-due.result.output.items c.tell.result c.in-Ok.ensures.answer c.carry_out-due.ensures.due c.tell.ensures
+    c.carry_out-due.result.status c.carry_out-due.result.output.items c.tell.result c.in-Ok.ensures.answer c.carry_out-due.ensures.due c.tell.ensures
 
 pub returns-clause-quiet : goal.returns-clause-quiet
 returns-clause-quiet g c =
