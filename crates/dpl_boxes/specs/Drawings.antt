@@ -24,11 +24,14 @@ pub record DrawsMasks (layer : List ℕ) (on_a on_b : List Corners) (text : List
   pub clean : (chosen : List ℕ) → first_fault chosen text ≡ None
   pub on_first : HasBoxes (layer ++ codes "A") on_a text
   pub on_second : HasBoxes (layer ++ codes "B") on_b text
-  pub elsewhere : (chosen : List ℕ) → chosen ≢ layer ++ codes "A" → chosen ≢ layer ++ codes "B" → primitives_of chosen text ≡ []
+  pub elsewhere : (chosen : List ℕ) → chosen ≢ layer ++ codes "A" → chosen ≢ layer ++ codes "B" →
+      primitives_of chosen text ≡ []
 
 -- Lines of masks behind comments are read as they are written, and so drawn.
-pub record MasksAreDrawn (comments : List (List ℕ)) (layer : List ℕ) (on_a on_b : List Corners) : Type 0 where
-  pub says : Says (lines_text (lines_of_masks comments layer on_a on_b)) (lines_of_masks comments layer on_a on_b)
+pub record MasksAreDrawn (comments : List (List ℕ)) (layer : List ℕ)
+    (on_a on_b : List Corners) : Type 0 where
+  pub says : Says (lines_text (lines_of_masks comments layer on_a on_b))
+      (lines_of_masks comments layer on_a on_b)
   pub draws : DrawsMasks layer on_a on_b (lines_text (lines_of_masks comments layer on_a on_b))
 
 -- a comment without parentheses
@@ -36,4 +39,6 @@ abbrev pub IsFlat : List ℕ → Type 0
 IsFlat inner = list_all is_flat inner ≡ true
 
 abbrev pub AllMasksAreDrawn : Type 0
-AllMasksAreDrawn = (comments : List (List ℕ)) (layer : List ℕ) (on_a on_b : List Corners) → All IsFlat comments → is_name layer ≡ true → length layer ≤ 31 → All IsRectangle on_a → All IsRectangle on_b → MasksAreDrawn comments layer on_a on_b
+AllMasksAreDrawn = (comments : List (List ℕ)) (layer : List ℕ) (on_a on_b : List Corners) →
+    All IsFlat comments → is_name layer ≡ true → length layer ≤ 31 → All IsRectangle on_a →
+    All IsRectangle on_b → MasksAreDrawn comments layer on_a on_b

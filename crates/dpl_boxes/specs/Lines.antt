@@ -25,7 +25,9 @@ lines_text lines = flat_map line_text lines ++ codes "E\n"
 
 -- Wherever the line stands it is cut as one command, and that reads as the line's command.
 pub record IsRead (l : Line) : Type 0 where
-  pub cut_out : (rest : List ℕ) (at : ℕ) → cut Between at (l.bytes ++ 59 ∷ rest) ≡ with_span (Some (span at (at + length l.bytes))) (cut Between (at + length l.bytes + 1) rest)
+  pub cut_out : (rest : List ℕ) (at : ℕ) → cut Between at (l.bytes ++ 59 ∷ rest)
+      ≡ with_span (Some (span at (at + length l.bytes))) (cut Between (at + length l.bytes
+      + 1) rest)
   pub read : command_of l.bytes ≡ Ok l.command
 
 -- what a line says

@@ -53,11 +53,14 @@ last_lines = finish_line ∷ call_line ∷ []
 
 -- both masks in one definition, and its call
 abbrev pub lines_of_definition : List ℕ → List Corners → List Corners → List Line
-lines_of_definition layer on_a on_b = start_line ∷ (lines_of_mask (layer ++ codes "A") on_a ++ (lines_of_mask (layer ++ codes "B") on_b ++ last_lines))
+lines_of_definition layer on_a on_b = start_line
+    ∷ (lines_of_mask (layer ++ codes "A") on_a
+    ++ (lines_of_mask (layer ++ codes "B") on_b ++ last_lines))
 
 -- the same behind comments
 abbrev pub lines_of_masks : List (List ℕ) → List ℕ → List Corners → List Corners → List Line
-lines_of_masks comments layer on_a on_b = map comment_line comments ++ lines_of_definition layer on_a on_b
+lines_of_masks comments layer on_a on_b =
+    map comment_line comments ++ lines_of_definition layer on_a on_b
 
 abbrev pub LayersAreRead : Type 0
 LayersAreRead = (name : List ℕ) → is_name name ≡ true → IsRead (layer_line name)

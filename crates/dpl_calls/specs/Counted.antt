@@ -35,9 +35,11 @@ HasNoLoop g labels = (x y : ℕ) → IsEdge g x y → get_or labels y 0 < get_or
 -- the totals of all definitions, with calls carried out at most as deep as there are definitions
 abbrev pub AreTotals : Count → Table → List ℕ → Type 0
 AreTotals count t totals = (x : ℕ) → x < length t.definitions.entries
-    → get_or totals x 0 ≡ shown (total_of (own_of count) (length t.definitions.entries) (bodies_of t) (body_at t x))
+    → get_or totals x 0 ≡ shown (total_of (own_of count) (length t.definitions.entries)
+    (bodies_of t) (body_at t x))
 
 -- the totals of the groups with a smaller number
 abbrev pub AreRight : (Part → ℕ) → Table → List ℕ → ℕ → List ℕ → Type 0
 AreRight own t labels k totals = (x : ℕ) → x < length t.definitions.entries → get_or labels x 0 < k
-    → get_or totals x 0 ≡ shown (total_of own (length t.definitions.entries) (bodies_of t) (body_at t x))
+    → get_or totals x 0 ≡ shown (total_of own (length t.definitions.entries) (bodies_of t)
+    (body_at t x))

@@ -14,14 +14,16 @@ use Rattle.dpl_calls.specs.Parts.Part.{Drawn, Called}
 
 -- the call that a command is: its number, the definition that it stands in, and the one that it names
 abbrev pub sites_of : Scope → ℕ → Command → List CallSite
-sites_of s at (Call n transformations) = record { at = at; definition = s.definition; called = n } ∷ []
+sites_of s at (Call n transformations) =
+    record { at = at; definition = s.definition; called = n } ∷ []
 sites_of s at c = []
 
 -- the calls among the commands from this number on
 abbrev pub sites_from : List ℕ → Scope → ℕ → List (Result Command What) → List CallSite
 sites_from chosen s at [] = []
 sites_from chosen s at (Err what ∷ rest) = sites_from chosen s (at + 1) rest
-sites_from chosen s at (Ok c ∷ rest) = sites_of s at c ++ sites_from chosen (after chosen s c) (at + 1) rest
+sites_from chosen s at (Ok c ∷ rest) =
+    sites_of s at c ++ sites_from chosen (after chosen s c) (at + 1) rest
 
 -- the numbers of the definitions, behind those seen
 abbrev pub numbers_from : List ℕ → List (Result Command What) → List ℕ
@@ -32,7 +34,8 @@ numbers_from seen (Ok c ∷ rest) = numbers_from (with_start c seen) rest
 -- the first call that passes the test
 abbrev pub first_site : (CallSite → Bool) → What → List CallSite → Option Fault
 first_site test what [] = None
-first_site test what (s ∷ sites) = if test s then Some (fault s.at what) else first_site test what sites
+first_site test what (s ∷ sites) =
+    if test s then Some (fault s.at what) else first_site test what sites
 
 -- the call names a number that no definition has
 abbrev pub is_missing : List ℕ → CallSite → Bool
@@ -45,11 +48,14 @@ part_leads bodies inner to (Called n moves) = n == to || inner (bodies (Some n))
 -- definition `to` is reached from these parts by at most so many calls
 abbrev pub leads_to : ℕ → Bodies → ℕ → List Part → Bool
 leads_to zero bodies to parts = false
-leads_to (suc steps) bodies to parts = list_any (part_leads bodies (leads_to steps bodies to) to) parts
+leads_to (suc steps) bodies to parts =
+    list_any (part_leads bodies (leads_to steps bodies to) to) parts
 
 -- The call stands in a definition that it names, or that is reached from the one that it names. As many calls as there are definitions are enough.
 unfoldable pub is_looped : ℕ → Bodies → CallSite → Bool
-is_looped steps bodies s = elim s.definition [ None ↦ false | Some d ↦ s.called == d || leads_to steps bodies d (bodies (Some s.called)) ]
+is_looped steps bodies s =
+    elim s.definition [ None ↦ false | Some d ↦ s.called == d
+    || leads_to steps bodies d (bodies (Some s.called)) ]
 
 -- the part calls this definition
 abbrev pub names : ℕ → Part → Bool

@@ -26,7 +26,8 @@ pub data Part : Type 0 where
 
 -- a rectangle in its scale
 abbrev pub scaled_extent : Scale → Extent → Extent
-scaled_extent scale e = record { x1 = scaled scale e.x1; y1 = scaled scale e.y1; x2 = scaled scale e.x2; y2 = scaled scale e.y2 }
+scaled_extent scale e = record { x1 = scaled scale e.x1; y1 = scaled scale e.y1; x2 =
+    scaled scale e.x2; y2 = scaled scale e.y2 }
 
 -- a point in its scale
 abbrev pub scaled_corner : Scale → Spot → Corner
@@ -39,12 +40,14 @@ rectangle scale e = Drawn (figure.Rectangle (scaled_extent scale e))
 -- the x axis turns to a direction on an axis
 abbrev pub turned : Spot → Corner → Corner
 turned to c =
-    if unsigned_abs to.y == 0 then (if int_lt to.x (pos 0) then corner (neg_ℤ c.x) (neg_ℤ c.y) else c)
+    if unsigned_abs to.y == 0 then (if int_lt to.x (pos 0) then corner (neg_ℤ c.x) (neg_ℤ c.y)
+    else c)
     else (if int_lt to.y (pos 0) then corner c.y (neg_ℤ c.x) else corner (neg_ℤ c.y) c.x)
 
 -- one transformation: `T` adds a point, `M X` negates x, `M Y` negates y, `R` turns
 abbrev pub transformed : Scale → Transformation → Corner → Corner
-transformed scale (Shift by) c = corner (c.x +ℤ scaled scale (double by.x)) (c.y +ℤ scaled scale (double by.y))
+transformed scale (Shift by) c =
+    corner (c.x +ℤ scaled scale (double by.x)) (c.y +ℤ scaled scale (double by.y))
 transformed scale MirrorX c = corner (neg_ℤ c.x) c.y
 transformed scale MirrorY c = corner c.x (neg_ℤ c.y)
 transformed scale (Rotate to) c = turned to c
@@ -59,9 +62,12 @@ where_true b parts = if b then parts else []
 
 -- What one command puts in. A figure on another layer puts in nothing; a box or wire that covers nothing is no primitive.
 abbrev pub parts_of : Scope → Command → List Part
-parts_of s (Polygon path) = where_true (is_chosen s.layer) (Drawn (figure.Polygon (map (scaled_corner s.scale) path)) ∷ [])
-parts_of s (Box b) = where_true (is_chosen s.layer && not (b.length == 0 || b.width == 0)) (rectangle s.scale (box_extent b) ∷ [])
-parts_of s (Wire width path) = where_true (is_chosen s.layer && not (width == 0)) (map (rectangle s.scale) (legs width path))
+parts_of s (Polygon path) =
+    where_true (is_chosen s.layer) (Drawn (figure.Polygon (map (scaled_corner s.scale) path)) ∷ [])
+parts_of s (Box b) = where_true (is_chosen s.layer
+    && not (b.length == 0 || b.width == 0)) (rectangle s.scale (box_extent b) ∷ [])
+parts_of s (Wire width path) =
+    where_true (is_chosen s.layer && not (width == 0)) (map (rectangle s.scale) (legs width path))
 parts_of s (Call n transformations) = Called n (transformed_by s.scale transformations) ∷ []
 parts_of s c = []
 
@@ -79,4 +85,5 @@ Bodies = Option ℕ → List Part
 abbrev pub parts_from : List ℕ → Scope → List (Result Command What) → Bodies
 parts_from chosen s [] place = []
 parts_from chosen s (Err what ∷ rest) place = parts_from chosen s rest place
-parts_from chosen s (Ok c ∷ rest) place = where_true (is_same place s.definition) (parts_of s c) ++ parts_from chosen (after chosen s c) rest place
+parts_from chosen s (Ok c ∷ rest) place = where_true (is_same place s.definition) (parts_of s c)
+    ++ parts_from chosen (after chosen s c) rest place

@@ -14,7 +14,8 @@ other false b = b
 
 -- where a placement puts a point: the coordinates are exchanged, then negated, then shifted
 abbrev pub apply : Placement → Corner → Corner
-apply p c = corner (signed p.negate_x (if p.swap then c.y else c.x) +ℤ p.x) (signed p.negate_y (if p.swap then c.x else c.y) +ℤ p.y)
+apply p c = corner (signed p.negate_x (if p.swap then c.y
+    else c.x) +ℤ p.x) (signed p.negate_y (if p.swap then c.x else c.y) +ℤ p.y)
 
 -- the shift goes no farther
 pub record IsNear (n : ℕ) (p : Placement) : Type 0 where

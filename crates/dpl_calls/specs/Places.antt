@@ -25,7 +25,8 @@ with_place (Some i) places = i ∷ places
 abbrev pub called_places : List ℕ → List Part → List ℕ
 called_places numbers [] = []
 called_places numbers (Drawn figure ∷ parts) = called_places numbers parts
-called_places numbers (Called n moves ∷ parts) = with_place (place_of n numbers) (called_places numbers parts)
+called_places numbers (Called n moves ∷ parts) =
+    with_place (place_of n numbers) (called_places numbers parts)
 
 -- the parts of the definition at a place
 abbrev pub body_at : Table → ℕ → List Part
@@ -33,4 +34,5 @@ body_at t i = map part_of (get_or (values t.definitions) i [])
 
 -- for each definition the definitions that it calls, by their places
 abbrev pub graph_of : Table → Graph
-graph_of t = map (λ entries. called_places (keys t.definitions) (map part_of entries)) (values t.definitions)
+graph_of t = map (λ entries.
+    called_places (keys t.definitions) (map part_of entries)) (values t.definitions)

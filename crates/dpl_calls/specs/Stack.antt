@@ -18,7 +18,8 @@ left f = map part_of f.rest.now
 
 -- the figures that they give
 abbrev pub frame_figures : Bodies → Frame → List Figure
-frame_figures bodies f = flat_map (part_figures bodies (figures_of f.below bodies) (apply f.place)) (left f)
+frame_figures bodies f =
+    flat_map (part_figures bodies (figures_of f.below bodies) (apply f.place)) (left f)
 
 -- the last frame comes first
 abbrev pub pending : Bodies → List Frame → List Figure
@@ -42,7 +43,8 @@ turns_left bodies fs = sum_by (frame_turns bodies) fs
 
 -- the calls that a frame still carries out
 abbrev pub frame_calls : Bodies → Frame → ℕ
-frame_calls bodies f = sum_by (part_total own_calls bodies (total_of own_calls f.below bodies)) (left f)
+frame_calls bodies f = sum_by (part_total own_calls bodies (total_of own_calls f.below bodies))
+    (left f)
 
 abbrev pub calls_left : Bodies → List Frame → ℕ
 calls_left bodies fs = sum_by (frame_calls bodies) fs
@@ -54,7 +56,8 @@ pub record IsFrameNear (done : ℕ) (f : Frame) : Type 0 where
   pub parts : All IsPartKept (left f)
 
 -- these figures and calls are done, and the frames give the others
-pub record Goes (bodies : Bodies) (all : List Figure) (total : ℕ) (figures : List Figure) (frames : List Frame) (done : ℕ) : Type 0 where
+pub record Goes (bodies : Bodies) (all : List Figure) (total : ℕ) (figures : List Figure)
+    (frames : List Frame) (done : ℕ) : Type 0 where
   pub figures_come : figures ++ pending bodies frames ≡ all
   pub calls_come : done + calls_left bodies frames ≡ total
   pub near : All (IsFrameNear done) frames

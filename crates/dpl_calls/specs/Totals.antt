@@ -12,7 +12,8 @@ part_total own bodies inner (Called n moves) = own (Called n moves) + inner (bod
 -- what all these parts count, with calls carried out at most so deep
 abbrev pub total_of : (Part → ℕ) → ℕ → Bodies → List Part → ℕ
 total_of own zero bodies parts = 0
-total_of own (suc depth) bodies parts = sum_by (part_total own bodies (total_of own depth bodies)) parts
+total_of own (suc depth) bodies parts =
+    sum_by (part_total own bodies (total_of own depth bodies)) parts
 
 -- a call counts one
 abbrev pub own_calls : Part → ℕ

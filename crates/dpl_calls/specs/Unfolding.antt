@@ -11,22 +11,26 @@ use Rattle.dpl_calls.specs.Parts.Part.{Drawn, Called}
 
 -- the rectangle between two opposite corners
 abbrev pub between : Corner → Corner → Extent
-between a b = record { x1 = int_min a.x b.x; y1 = int_min a.y b.y; x2 = int_max a.x b.x; y2 = int_max a.y b.y }
+between a b = record { x1 = int_min a.x b.x; y1 = int_min a.y b.y; x2 = int_max a.x b.x; y2 =
+    int_max a.y b.y }
 
 -- a figure where its points go
 abbrev pub placed : (Corner → Corner) → Figure → Figure
-placed place (Rectangle e) = Rectangle (between (place (corner e.x1 e.y1)) (place (corner e.x2 e.y2)))
+placed place (Rectangle e) =
+    Rectangle (between (place (corner e.x1 e.y1)) (place (corner e.x2 e.y2)))
 placed place (Polygon corners) = Polygon (map place corners)
 
 abbrev pub unmoved : Corner → Corner
 unmoved c = c
 
 -- what a part gives: a call gives the figures of the definition that it names, its own transformations before those around it
-abbrev pub part_figures : Bodies → ((Corner → Corner) → List Part → List Figure) → (Corner → Corner) → Part → List Figure
+abbrev pub part_figures : Bodies → ((Corner → Corner) → List Part → List Figure) →
+    (Corner → Corner) → Part → List Figure
 part_figures bodies inner place (Drawn figure) = placed place figure ∷ []
 part_figures bodies inner place (Called n moves) = inner (λ c. place (moves c)) (bodies (Some n))
 
 -- The figures of these parts, with calls carried out in their places, at most so deep. Where there is no loop no call is deeper than there are definitions.
 abbrev pub figures_of : ℕ → Bodies → (Corner → Corner) → List Part → List Figure
 figures_of zero bodies place parts = []
-figures_of (suc depth) bodies place parts = flat_map (part_figures bodies (figures_of depth bodies) place) parts
+figures_of (suc depth) bodies place parts =
+    flat_map (part_figures bodies (figures_of depth bodies) place) parts

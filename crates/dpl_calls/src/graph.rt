@@ -14,7 +14,8 @@ use std::alloc::{AllocError, Global};
 
 /// Adds the place of the definition that an entry calls.
 fn put_place(places: &mut Vec<usize>, table: &Table, entry: &Entry) -> Result<(), AllocError>
-    ensures { OnOk result (places.new.items ≡ places.old.items ++ lists.called_places (keys table.now.definitions) (part_of entry.now ∷ [])) }
+    ensures { OnOk result (places.new.items ≡ places.old.items
+        ++ lists.called_places (keys table.now.definitions) (part_of entry.now ∷ [])) }
 {
     let Entry::Called(number, _) = entry else {
         return Ok(());
@@ -34,7 +35,8 @@ fn called_places(
     table: &Table,
     entries: &[Entry],
 ) -> Result<Items<usize>, AllocError>
-    ensures { IfOk result (λ r. r ≡ lists.called_places (keys table.now.definitions) (map part_of entries.now)) }
+    ensures { IfOk result (λ r.
+        r ≡ lists.called_places (keys table.now.definitions) (map part_of entries.now)) }
 {
     let mut places = Vec::new(alloc);
     for entry in entries {

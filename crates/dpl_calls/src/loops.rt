@@ -21,7 +21,8 @@ fn is_missing(table: &Table, site: &CallSite) -> bool
 
 /// The number of the first call that names no definition.
 pub fn missing(table: &Table, sites: &[CallSite]) -> Option<u32>
-    ensures { FindsAt Missing result (first_site (loops.is_missing (keys table.now.definitions)) Missing sites.now) }
+    ensures { FindsAt Missing result (first_site (loops.is_missing (keys table.now.definitions))
+        Missing sites.now) }
 {
     for site in sites {
         if is_missing(table, site) {
@@ -35,7 +36,8 @@ pub fn missing(table: &Table, sites: &[CallSite]) -> Option<u32>
 fn is_looped(table: &Table, groups: &Groups, site: &CallSite) -> bool
     requires groups { AreGroups (graph_of table.now) groups.now.labels groups.now.heads }
     requires site { IsSite (bodies_of table.now) site.now }
-    ensures { result ≡ loops.is_looped (length (keys table.now.definitions)) (bodies_of table.now) site.now }
+    ensures { result ≡ loops.is_looped (length (keys table.now.definitions)) (bodies_of table.now)
+        site.now }
 {
     let Some(definition) = site.definition else {
         return false;
@@ -54,7 +56,9 @@ fn is_looped(table: &Table, groups: &Groups, site: &CallSite) -> bool
 pub fn looped(table: &Table, groups: &Groups, sites: &[CallSite]) -> Option<u32>
     requires groups { AreGroups (graph_of table.now) groups.now.labels groups.now.heads }
     requires sites { All (IsSite (bodies_of table.now)) sites.now }
-    ensures { FindsAt Loop result (first_site (loops.is_looped (length (keys table.now.definitions)) (bodies_of table.now)) Loop sites.now) }
+    ensures { FindsAt Loop result
+        (first_site (loops.is_looped (length (keys table.now.definitions)) (bodies_of table.now))
+        Loop sites.now) }
 {
     for site in sites {
         if is_looped(table, groups, site) {

@@ -31,7 +31,8 @@ pub const UNMOVED: Placement = Placement {
 };
 
 fn make(swap: bool, negate_x: bool, negate_y: bool, x: i128, y: i128) -> Placement
-    ensures { result ≡ record { swap = swap; negate_x = negate_x; negate_y = negate_y; x = x; y = y } }
+    ensures { result ≡ record { swap = swap; negate_x = negate_x; negate_y = negate_y; x = x; y =
+        y } }
 {
     Placement {
         swap,
@@ -83,7 +84,8 @@ fn turn(to: &Spot) -> Placement
 fn shift(scale: Scale, by: &Spot) -> Placement
     requires scale { IsScale scale }
     requires bounds { is_spot_in_bounds by.now ≡ true }
-    ensures value { (c : Corner) → apply result c ≡ parts.transformed scale (Transformation.Shift by.now) c }
+    ensures value { (c : Corner) → apply result c
+        ≡ parts.transformed scale (Transformation.Shift by.now) c }
     ensures near { IsNear (2 ^ 82) result }
 {
     let x = scaled(scale, double(by.x));
@@ -140,7 +142,8 @@ pub fn placement_of(scale: Scale, transformations: &[Transformation]) -> Placeme
     requires scale { IsScale scale }
     requires bounds { list_all is_transformation_in_bounds transformations.now ≡ true }
     requires few { length transformations.now ≤ 2 ^ 24 }
-    ensures value { (c : Corner) → apply result c ≡ parts.transformed_by scale transformations.now c }
+    ensures value { (c : Corner) → apply result c
+        ≡ parts.transformed_by scale transformations.now c }
     ensures near { IsNear (2 ^ 106) result }
 {
     let mut placed = UNMOVED;

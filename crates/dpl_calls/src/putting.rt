@@ -62,7 +62,8 @@ fn rectangle(scale: Scale, e: Extent) -> Entry
 
 fn put_legs(body: &mut Body, scale: Scale, width: u64, path: &[Spot]) -> Result<(), AllocError>
     requires { IsScale scale }
-    ensures { OnOk result (map part_of body.new ≡ map part_of body.old ++ map (parts.rectangle scale) (legs width path.now)) }
+    ensures { OnOk result (map part_of body.new ≡ map part_of body.old
+        ++ map (parts.rectangle scale) (legs width path.now)) }
 {
     let Some((first, rest)) = path.split_first() else {
         return Ok(());
@@ -88,7 +89,8 @@ pub fn put_entries(
     requires scale { IsScale scope.now.scale }
     requires bounds { is_command_in_bounds command.now ≡ true }
     requires few { IsFew command.now }
-    ensures { OnOk result (map part_of body.new ≡ map part_of body.old ++ parts.parts_of scope.now command.now) }
+    ensures { OnOk result (map part_of body.new ≡ map part_of body.old
+        ++ parts.parts_of scope.now command.now) }
 {
     let chosen = scope.layer == Some(true);
     match command {

@@ -52,7 +52,10 @@ fn place(
     requires bounds { is_command_in_bounds command.now ≡ true }
     requires few { IsFew command.now }
     requires known { IsKnown table.old scope.now.definition }
-    ensures bodies { OnOk result ((place : Option ℕ) → bodies_of table.new place ≡ put_at scope.now.definition (bodies_of table.old) (parts_of scope.now command.now) place) }
+    ensures bodies { OnOk result ((place : Option ℕ) →
+        bodies_of table.new place
+        ≡ put_at scope.now.definition (bodies_of table.old) (parts_of scope.now command.now)
+        place) }
     ensures keys { OnOk result (keys table.new.definitions ≡ keys table.old.definitions) }
     ensures known { OnOk result (IsKnown table.new scope.now.definition) }
 {
@@ -69,8 +72,10 @@ fn place(
 #[tactic(auto, using(crate::proofs::Absent::absent, crate::proofs::Absent::keys_put))]
 fn begin(alloc: Global, table: &mut Table, number: u64) -> Result<(), AllocError>
     requires { list_any (λ m. m == number) (keys table.old.definitions) ≡ false }
-    ensures bodies { OnOk result ((place : Option ℕ) → bodies_of table.new place ≡ bodies_of table.old place) }
-    ensures keys { OnOk result (keys table.new.definitions ≡ keys table.old.definitions ++ number ∷ []) }
+    ensures bodies { OnOk result ((place : Option ℕ) →
+        bodies_of table.new place ≡ bodies_of table.old place) }
+    ensures keys { OnOk result (keys table.new.definitions ≡ keys table.old.definitions
+        ++ number ∷ []) }
     ensures known { OnOk result (IsSome (get nat_eq table.new.definitions number)) }
 {
     table.definitions.insert(number, Body::new(alloc))?;
@@ -91,11 +96,16 @@ fn step(
     requires known { IsKnown table.old scope.definition }
     requires bounds { is_command_in_bounds command.now ≡ true }
     requires few { IsFew command.now }
-    requires clean { rules.broken_rule scope (rules.breaks_twice (keys table.old.definitions) command.now) command.now ≡ None }
+    requires clean { rules.broken_rule scope (rules.breaks_twice (keys table.old.definitions)
+        command.now) command.now ≡ None }
     ensures scope { IfOk result (λ s. s ≡ rules.after layer.now scope command.now) }
-    ensures bodies { OnOk result ((place : Option ℕ) → bodies_of table.new place ≡ put_at scope.definition (bodies_of table.old) (parts_of scope command.now) place) }
-    ensures keys { OnOk result (keys table.new.definitions ≡ rules.with_start command.now (keys table.old.definitions)) }
-    ensures sites { OnOk result (sites.new.items ≡ sites.old.items ++ sites_of scope at command.now) }
+    ensures bodies { OnOk result ((place : Option ℕ) →
+        bodies_of table.new place
+        ≡ put_at scope.definition (bodies_of table.old) (parts_of scope command.now) place) }
+    ensures keys { OnOk result (keys table.new.definitions
+        ≡ rules.with_start command.now (keys table.old.definitions)) }
+    ensures sites { OnOk result (sites.new.items ≡ sites.old.items
+        ++ sites_of scope at command.now) }
     ensures scale { IfOk result (λ s. IsScale s.scale) }
     ensures known { IfOk result (λ s. IsKnown table.new s.definition) }
 {
@@ -168,7 +178,8 @@ pub fn scan(
 ) -> Result<Scanned, ScanError>
     requires short { length text.now ≤ 16777216 }
     requires commands { commands.now ≡ commands_of text.now }
-    ensures { ScanGives layer.now (read_commands text.now commands.now.spans) commands.now.ending result }
+    ensures { ScanGives layer.now (read_commands text.now commands.now.spans) commands.now.ending
+        result }
 {
     let mut table = Table {
         top: Body::new(alloc),

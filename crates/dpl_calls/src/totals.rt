@@ -51,7 +51,9 @@ fn kept(table: &Table, totals: &[u64], number: u64) -> u64
 /// What an entry counts; it may be more than is shown.
 fn entry_total(count: Count, table: &Table, totals: &[u64], entry: &Entry) -> u64
     requires { length totals.now ≡ length table.now.definitions.entries }
-    ensures value { shown result ≡ shown (kept_total (own_of count) (kept_of (keys table.now.definitions) totals.now) (part_of entry.now)) }
+    ensures value { shown result
+        ≡ shown (kept_total (own_of count) (kept_of (keys table.now.definitions) totals.now)
+        (part_of entry.now)) }
     ensures small { result < 2 ^ 63 + 2 ^ 40 }
 {
     let alone = own(count, entry);
@@ -64,7 +66,9 @@ fn entry_total(count: Count, table: &Table, totals: &[u64], entry: &Entry) -> u6
 /// What entries count together.
 fn entries_total(count: Count, table: &Table, totals: &[u64], entries: &[Entry]) -> u64
     requires { length totals.now ≡ length table.now.definitions.entries }
-    ensures value { result ≡ shown (sum_by (kept_total (own_of count) (kept_of (keys table.now.definitions) totals.now)) (map part_of entries.now)) }
+    ensures value { result ≡ shown
+        (sum_by (kept_total (own_of count) (kept_of (keys table.now.definitions) totals.now))
+        (map part_of entries.now)) }
     ensures small { result ≤ 10 ^ 12 }
 {
     let mut sum = 0u64;
@@ -99,7 +103,9 @@ fn totals(
 pub fn total(alloc: Global, count: Count, table: &Table, groups: &Groups) -> Result<u64, AllocError>
     requires groups { AreGroups (graph_of table.now) groups.now.labels groups.now.heads }
     requires loops { HasNoLoop (graph_of table.now) groups.now.labels }
-    ensures { IfOk result (λ n. n ≡ shown (total_of (own_of count) (length table.now.definitions.entries + 1) (bodies_of table.now) (bodies_of table.now None))) }
+    ensures { IfOk result (λ n.
+        n ≡ shown (total_of (own_of count) (length table.now.definitions.entries
+        + 1) (bodies_of table.now) (bodies_of table.now None))) }
 {
     let totals = totals(alloc, count, table, groups)?;
     Ok(entries_total(count, table, &totals, table.top.as_slice()))

@@ -72,9 +72,11 @@ fn place_figure(alloc: Global, p: Placement, figure: &Figure) -> Result<Figure, 
 /// The figures of a layout, with its calls carried out at most so deep.
 pub fn unfold_table(alloc: Global, table: &Table, depth: usize) -> Result<Vec<Figure>, AllocError>
     requires kept { AreKept (bodies_of table.now) }
-    requires calls { total_of own_calls depth (bodies_of table.now) (bodies_of table.now None) ≤ 1000000 }
+    requires calls { total_of own_calls depth (bodies_of table.now) (bodies_of table.now None)
+        ≤ 1000000 }
     requires deep { 0 < depth }
-    ensures { IfOk result (λ v. v.items ≡ figures_of depth (bodies_of table.now) unmoved (bodies_of table.now None)) }
+    ensures { IfOk result (λ v.
+        v.items ≡ figures_of depth (bodies_of table.now) unmoved (bodies_of table.now None)) }
 {
     let mut figures = Vec::new(alloc);
     let mut stack = Vec::new(alloc);

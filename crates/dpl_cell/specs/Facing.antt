@@ -42,7 +42,9 @@ pub record FacesUpright (a b : Corners) (port : ℕ) (from to : ℤ) : Type 0 wh
 pub record IsOffCorner (a b : Corners) (port dx dy : ℕ) : Type 0 where
   pub columns : IsDistance a.x1 a.x2 b.x1 b.x2 dx
   pub rows : IsDistance a.y1 a.y2 b.y1 b.y2 dy
-  pub corner : ((port ≡ 0) × IsLeft b a × IsBelow b a) ⊎ (((port ≡ 2) × IsLeft a b × IsBelow b a) ⊎ (((port ≡ 4) × IsLeft a b × IsBelow a b) ⊎ ((port ≡ 6) × IsLeft b a × IsBelow a b)))
+  pub corner : ((port ≡ 0) × IsLeft b a × IsBelow b a) ⊎
+      (((port ≡ 2) × IsLeft a b × IsBelow b a) ⊎
+      (((port ≡ 4) × IsLeft a b × IsBelow a b) ⊎ ((port ≡ 6) × IsLeft b a × IsBelow a b)))
 
 -- b lies so at a
 abbrev pub IsFacing : Corners → Corners → Facing → Type 0

@@ -19,7 +19,8 @@ pub record CellPair (one other : ℤ → ℤ → Type 0) (x y x' y' : ℤ) : Typ
 -- n is the squared gap of two sets of cells: the least of a cell of one and a cell of the other
 pub record IsGap2 (one other : ℤ → ℤ → Type 0) (n : ℕ) : Type 0 where
   pub least : (x y x' y' : ℤ) → CellPair one other x y x' y' → n ≤ cell_gap2 x y x' y'
-  pub attained : (x : ℤ) × (y : ℤ) × (x' : ℤ) × (y' : ℤ) × CellPair one other x y x' y' × (cell_gap2 x y x' y' ≡ n)
+  pub attained : (x : ℤ) × (y : ℤ) × (x' : ℤ) × (y' : ℤ) × CellPair one other x y x' y' ×
+      (cell_gap2 x y x' y' ≡ n)
 
 -- a cell of one set and a cell of the other are closer than the reach
 pub record AreClose (one other : ℤ → ℤ → Type 0) (reach : ℕ) : Type 0 where
@@ -32,4 +33,5 @@ pub record AreClose (one other : ℤ → ℤ → Type 0) (reach : ℕ) : Type 0 
 
 -- a place of one stretch and a place of the other have n between them
 abbrev pub IsBetween : ℤ → ℤ → ℤ → ℤ → ℕ → Type 0
-IsBetween a1 a2 b1 b2 n = (x : ℤ) × (y : ℤ) × IsWithin a1 a2 x × IsWithin b1 b2 y × (between x y ≡ n)
+IsBetween a1 a2 b1 b2 n =
+    (x : ℤ) × (y : ℤ) × IsWithin a1 a2 x × IsWithin b1 b2 y × (between x y ≡ n)

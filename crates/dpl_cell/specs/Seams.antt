@@ -14,10 +14,13 @@ pub record Meet (a b : Corners) (x y x' y' : ℤ) : Type 0 where
 -- the two cells stand at the place k of the line, one on each side of it
 abbrev pub AreAcross : Seam → ℤ → ℤ → ℤ → ℤ → ℤ → Type 0
 AreAcross s k x y x' y' =
-    MatchBool s.upright ((y ≡ k) × (y' ≡ k) × (x +ℤ x' +ℤ pos 1 ≡ s.at +ℤ s.at)) ((x ≡ k) × (x' ≡ k) × (y +ℤ y' +ℤ pos 1 ≡ s.at +ℤ s.at))
+    MatchBool s.upright ((y ≡ k) × (y' ≡ k) × (x +ℤ x' +ℤ pos 1 ≡ s.at +ℤ s.at)) ((x ≡ k) ×
+    (x' ≡ k) × (y +ℤ y' +ℤ pos 1 ≡ s.at +ℤ s.at))
 
 -- the edges that the rectangles share are those of this line, and there is at least one
 pub record IsSeam (a b : Corners) (s : Seam) : Type 0 where
   pub long : s.from <ℤ s.to
-  pub each : (k : ℤ) → IsWithin s.from s.to k → (x : ℤ) × (y : ℤ) × (x' : ℤ) × (y' : ℤ) × Meet a b x y x' y' × AreAcross s k x y x' y'
-  pub all : (x y x' y' : ℤ) → Meet a b x y x' y' → (k : ℤ) × IsWithin s.from s.to k × AreAcross s k x y x' y'
+  pub each : (k : ℤ) → IsWithin s.from s.to k →
+      (x : ℤ) × (y : ℤ) × (x' : ℤ) × (y' : ℤ) × Meet a b x y x' y' × AreAcross s k x y x' y'
+  pub all : (x y x' y' : ℤ) → Meet a b x y x' y' →
+      (k : ℤ) × IsWithin s.from s.to k × AreAcross s k x y x' y'

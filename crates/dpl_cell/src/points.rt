@@ -29,7 +29,8 @@ impl Points {
 
     /// The polygon with these corners, `None` where a side is neither level nor upright.
     pub fn new(corners: Vec<Point>) -> Option<Points>
-        ensures { result ≡ (if ranges.has_straight_sides (map place_of corners.items) then Some corners.items else None) }
+        ensures { result ≡ (if ranges.has_straight_sides (map place_of corners.items)
+            then Some corners.items else None) }
     {
         if has_straight_sides(corners.as_slice()) {
             Some(Points { corners })

@@ -25,7 +25,8 @@ impl Rect {
     /// The rectangle with these corners, `None` where they hold no cell or are out of range.
     pub fn new(x1: i64, y1: i64, x2: i64, y2: i64) -> Option<Rect>
         ensures some { IsSome result ↔ IsRectangle (record { x1 = x1; y1 = y1; x2 = x2; y2 = y2 }) }
-        ensures corners { IfSome result (λ r. corners_of r ≡ record { x1 = x1; y1 = y1; x2 = x2; y2 = y2 }) }
+        ensures corners { IfSome result (λ r. corners_of r
+            ≡ record { x1 = x1; y1 = y1; x2 = x2; y2 = y2 }) }
     {
         if is_stretch(x1, x2) && is_stretch(y1, y2) {
             Some(Rect { x1, y1, x2, y2 })

@@ -46,7 +46,8 @@ pub fn touch(a: &Rect, b: &Rect) -> bool
 /// The line along which two rectangles with no common cell share edges, `None` where they share none.
 pub fn seam(a: &Rect, b: &Rect) -> Option<Seam>
     requires { AreApart (corners_of a.now) (corners_of b.now) }
-    ensures { MatchOption result (¬ SharesEdge (IsIn (corners_of a.now)) (IsIn (corners_of b.now))) (IsSeam (corners_of a.now) (corners_of b.now)) }
+    ensures { MatchOption result (¬ SharesEdge (IsIn (corners_of a.now)) (IsIn (corners_of b.now)))
+        (IsSeam (corners_of a.now) (corners_of b.now)) }
 {
     let c = common_part(a, b);
     if c.left == c.right {

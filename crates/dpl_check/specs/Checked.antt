@@ -25,4 +25,5 @@ pub record BoundsAll (o : Options) (text : List ℕ) (bound : ℕ) : Type 0 wher
   pub fragments : Fragments
   pub net : Net
   pub layer : OnCells (reading o.layer text) (λ cells. IsLayerOf o cells fragments net)
-  pub bounds : (colours : List Bool) → IsColouring net.graph colours → bound ≤ 2 * cost_of net.graph colours
+  pub bounds : (colours : List Bool) → IsColouring net.graph colours →
+      bound ≤ 2 * cost_of net.graph colours

@@ -20,12 +20,16 @@ pub fn check(
     requires text { length text.now ≤ 16777216 }
     requires report { length report.now ≤ 268435456 }
     ensures verdict { IfOk result (λ v. IsVerdictOf options.now text.now report.now v) }
-    ensures refused { (e : LayerError) → result ≡ Err e → (e ≡ LayerError.NoMemory) ⊎ RefusesLayer options.now text.now e }
-    ensures exact { (e : LayerError) → RefusesLayer options.now text.now e → (result ≡ Err e) ⊎ (result ≡ Err LayerError.NoMemory) }
+    ensures refused { (e : LayerError) → result ≡ Err e →
+        (e ≡ LayerError.NoMemory) ⊎ RefusesLayer options.now text.now e }
+    ensures exact { (e : LayerError) → RefusesLayer options.now text.now e →
+        (result ≡ Err e) ⊎ (result ≡ Err LayerError.NoMemory) }
     // A good report is accepted, unless memory runs out, and no other is.
-    ensures once { (v : Verdict) → IsVerdictOf options.now text.now report.now v → (result ≡ Ok v) ⊎ (result ≡ Err LayerError.NoMemory) }
+    ensures once { (v : Verdict) → IsVerdictOf options.now text.now report.now v →
+        (result ≡ Ok v) ⊎ (result ≡ Err LayerError.NoMemory) }
     // Every colouring costs at least half the bound of an accepted report.
-    ensures bounds { (cost bound : ℕ) → result ≡ Ok (Verdict.Yes cost bound) → BoundsAll options.now text.now bound }
+    ensures bounds { (cost bound : ℕ) → result ≡ Ok (Verdict.Yes cost bound) →
+        BoundsAll options.now text.now bound }
 {
     check_parts(alloc, text, options, report)
 }
@@ -40,7 +44,8 @@ fn check_parts(
     requires text { length text.now ≤ 16777216 }
     requires report { length report.now ≤ 268435456 }
     ensures verdict { IfOk result (λ v. IsVerdictOf options.now text.now report.now v) }
-    ensures refused { IfErr result (λ e. (e ≡ LayerError.NoMemory) ⊎ RefusesLayer options.now text.now e) }
+    ensures refused { IfErr result (λ e. (e ≡ LayerError.NoMemory) ⊎
+        RefusesLayer options.now text.now e) }
 {
     let _name = options.layer.bytes();
     let layer = read_layer(alloc, text, options)?;

@@ -156,8 +156,10 @@ pub fn counts_miss(found: &Counts, wanted: &Counts) -> Option<Miss>
 /// Clash lines against the broken clashes: the least edge that differs.
 pub fn clash_lines_miss(found: &[Broken], wanted: &[Broken]) -> Option<Miss>
     ensures miss { result ≡ conditions.clash_lines_miss found.now wanted.now }
-    ensures none { (result ≡ None → found.now ≡ wanted.now) × (found.now ≡ wanted.now → result ≡ None) }
-    ensures first { (m : Miss) → result ≡ Some m → FirstDifference (λ b. b.edge) conditions.ends_miss found.now wanted.now m }
+    ensures none { (result ≡ None → found.now ≡ wanted.now) ×
+        (found.now ≡ wanted.now → result ≡ None) }
+    ensures first { (m : Miss) → result ≡ Some m →
+        FirstDifference (λ b. b.edge) conditions.ends_miss found.now wanted.now m }
 {
     first_clash_miss(found, wanted)
 }
@@ -182,7 +184,8 @@ fn first_clash_miss(found: &[Broken], wanted: &[Broken]) -> Option<Miss>
 }
 
 pub fn corners_miss(place: u64, found: &Rect, wanted: &Rect) -> Option<Miss>
-    ensures { result ≡ misses.numbers_miss place (conditions.corner_numbers (corners_of found.now)) (conditions.corner_numbers (corners_of wanted.now)) }
+    ensures { result ≡ misses.numbers_miss place (conditions.corner_numbers (corners_of found.now))
+        (conditions.corner_numbers (corners_of wanted.now)) }
 {
     let a = [found.x1, found.y1, found.x2, found.y2];
     let b = [wanted.x1, wanted.y1, wanted.x2, wanted.y2];
@@ -201,7 +204,8 @@ fn zone_miss(found: &Zone, wanted: &Zone) -> Option<Miss>
 
 /// Cut lines against the broken stitches: the least edge that differs.
 pub fn cut_lines_miss(found: &[Zone], wanted: &[Zone]) -> Option<Miss>
-    ensures { result ≡ conditions.cut_lines_miss (map plain_zone found.now) (map plain_zone wanted.now) }
+    ensures { result ≡ conditions.cut_lines_miss (map plain_zone found.now)
+        (map plain_zone wanted.now) }
 {
     let mut left = wanted;
     for x in found {

@@ -47,7 +47,8 @@ pub fn bonds_miss(colours: &[bool], edges: &[Edge]) -> Option<Miss>
 /// Boxes against rectangles, from a place on.
 pub fn boxes_miss(place: u64, found: &[Rect], wanted: &[Rect]) -> Option<Miss>
     requires { place + length found.now < 2 ^ 63 }
-    ensures { result ≡ conditions.boxes_miss place (map corners_of found.now) (map corners_of wanted.now) }
+    ensures { result ≡ conditions.boxes_miss place (map corners_of found.now)
+        (map corners_of wanted.now) }
 {
     let mut left = wanted;
     let mut at = place;
@@ -105,7 +106,10 @@ fn is_clash_kind(kind: Kind) -> bool
 
 fn along(edge: &Edge, at: Reached) -> Option<Reached>
     requires { at.place < 2 ^ 32 }
-    ensures { MatchOption result (conditions.meets edge.now at.node ≡ false) (λ r. (conditions.meets edge.now at.node ≡ true) × (r.place ≡ at.place + 1) × (r.node ≡ across edge.now at.node) × (r.odd ≡ conditions.parity_after edge.now.kind at.odd)) }
+    ensures { MatchOption result (conditions.meets edge.now at.node ≡ false) (λ r.
+        (conditions.meets edge.now at.node ≡ true) × (r.place ≡ at.place + 1) ×
+        (r.node ≡ across edge.now at.node) ×
+        (r.odd ≡ conditions.parity_after edge.now.kind at.odd)) }
 {
     let node = if edge.a == at.node {
         edge.b
@@ -123,7 +127,10 @@ fn along(edge: &Edge, at: Reached) -> Option<Reached>
 
 fn passed(graph: &Signed, e: u32, at: Reached) -> Option<Reached>
     requires { at.place < 2 ^ 32 }
-    ensures { MatchOption result (leaves graph.now e at.node ≡ false) (λ r. (leaves graph.now e at.node ≡ true) × (r.place ≡ at.place + 1) × (r.node ≡ across (edge_at graph.now e) at.node) × (r.odd ≡ conditions.parity_after (edge_at graph.now e).kind at.odd)) }
+    ensures { MatchOption result (leaves graph.now e at.node ≡ false) (λ r.
+        (leaves graph.now e at.node ≡ true) × (r.place ≡ at.place + 1) ×
+        (r.node ≡ across (edge_at graph.now e) at.node) ×
+        (r.odd ≡ conditions.parity_after (edge_at graph.now e).kind at.odd)) }
 {
     let edges = graph.edges.as_slice();
     let e = e as usize;
@@ -137,8 +144,10 @@ fn passed(graph: &Signed, e: u32, at: Reached) -> Option<Reached>
 /// A cycle line is an odd walk from its start.
 pub fn walk_miss(graph: &Signed, cycle: u64, walk: &Walk) -> Option<Miss>
     requires { length walk.now.edges < 2 ^ 31 }
-    ensures miss { result ≡ conditions.walk_miss graph.now cycle walk.now.start walk.now.edges 1 walk.now.start false }
-    ensures odd { (result ≡ None → IsOddWalk graph.now walk.now) × (IsOddWalk graph.now walk.now → result ≡ None) }
+    ensures miss { result ≡ conditions.walk_miss graph.now cycle walk.now.start walk.now.edges 1
+        walk.now.start false }
+    ensures odd { (result ≡ None → IsOddWalk graph.now walk.now) ×
+        (IsOddWalk graph.now walk.now → result ≡ None) }
 {
     first_walk_miss(graph, cycle, walk.start, walk.edges.as_slice())
 }
@@ -184,7 +193,8 @@ pub fn walks_miss(graph: &Signed, cycles: &[Cycle]) -> Option<Miss>
 /// The counts of the boxes, A first, and then the boxes of both masks in order.
 pub fn drawing_miss(on_a: &[Rect], on_b: &[Rect], wanted: &Masks) -> Option<Miss>
     requires { length on_a.now + length on_b.now < 2 ^ 32 }
-    ensures { result ≡ conditions.drawing_miss (map corners_of on_a.now) (map corners_of on_b.now) (map corners_of wanted.now.on_a.items) (map corners_of wanted.now.on_b.items) }
+    ensures { result ≡ conditions.drawing_miss (map corners_of on_a.now) (map corners_of on_b.now)
+        (map corners_of wanted.now.on_a.items) (map corners_of wanted.now.on_b.items) }
 {
     let counts = number_miss(4_294_967_296, on_a.len() as u64, wanted.on_a.len() as u64).or(
         number_miss(4_294_967_297, on_b.len() as u64, wanted.on_b.len() as u64),

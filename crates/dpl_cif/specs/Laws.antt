@@ -30,9 +30,11 @@ outside s outlines = if is_some s.definition then [] else outlines
 abbrev pub drawn_in_order : List ℕ → Scope → List (Result Command What) → List Outline
 drawn_in_order layer s [] = []
 drawn_in_order layer s (Err what ∷ rest) = drawn_in_order layer s rest
-drawn_in_order layer s (Ok c ∷ rest) = outside s (own_outlines (parts_of s c)) ++ drawn_in_order layer (after layer s c) rest
+drawn_in_order layer s (Ok c ∷ rest) =
+    outside s (own_outlines (parts_of s c)) ++ drawn_in_order layer (after layer s c) rest
 
 -- a law: the primitives of a text without a fault and without calls are those of its commands outside definitions, in order
 abbrev pub DrawnInOrder : Type 0
-DrawnInOrder = (layer text : List ℕ) → length text ≤ 16777216 → first_fault layer text ≡ None → list_all is_no_call (forms_of text) ≡ true
+DrawnInOrder = (layer text : List ℕ) → length text ≤ 16777216 → first_fault layer text ≡ None →
+    list_all is_no_call (forms_of text) ≡ true
     → primitives_of layer text ≡ drawn_in_order layer at_first (forms_of text)

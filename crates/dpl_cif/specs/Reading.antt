@@ -35,15 +35,19 @@ depth_of text = length (numbers_from [] (forms_of text)) + 1
 
 -- the boxes and polygons of the layer after all calls, in the order in which the calls are carried out
 abbrev pub primitives_of : List ℕ → List ℕ → List Outline
-primitives_of layer text = map drawn (figures_of (depth_of text) (bodies_in layer text) unmoved (bodies_in layer text None))
+primitives_of layer text =
+    map drawn (figures_of (depth_of text) (bodies_in layer text) unmoved
+    (bodies_in layer text None))
 
 -- how many primitives these are, a polygon counted as many times as it has points
 abbrev pub primitive_count : List ℕ → List ℕ → ℕ
-primitive_count layer text = total_of own_weight (depth_of text) (bodies_in layer text) (bodies_in layer text None)
+primitive_count layer text =
+    total_of own_weight (depth_of text) (bodies_in layer text) (bodies_in layer text None)
 
 -- how many calls are carried out
 abbrev pub call_count : List ℕ → List ℕ → ℕ
-call_count layer text = total_of own_calls (depth_of text) (bodies_in layer text) (bodies_in layer text None)
+call_count layer text = total_of own_calls (depth_of text) (bodies_in layer text)
+    (bodies_in layer text None)
 
 -- what a text gives: a fault, a limit with its count, or primitives
 pub data Reading : Type 0 where
@@ -67,4 +71,5 @@ or_within None r = r
 
 -- the first fault, or the first limit that is passed, or the primitives
 abbrev pub reading : List ℕ → List ℕ → Reading
-reading layer text = or_within (first_fault layer text) (within_limits (primitive_count layer text) (call_count layer text) (primitives_of layer text))
+reading layer text = or_within (first_fault layer text)
+    (within_limits (primitive_count layer text) (call_count layer text) (primitives_of layer text))

@@ -44,7 +44,10 @@ fn limited(alloc: Global, table: &Table, groups: &Groups, depth: usize) -> Resul
     requires groups { AreGroups (graph_of table.now) groups.now.labels groups.now.heads }
     requires loops { HasNoLoop (graph_of table.now) groups.now.labels }
     requires depth { depth ≡ length table.now.definitions.entries + 1 }
-    ensures { Gives result (within_limits (total_of own_weight depth (bodies_of table.now) (bodies_of table.now None)) (total_of own_calls depth (bodies_of table.now) (bodies_of table.now None)) (map drawn (figures_of depth (bodies_of table.now) unmoved (bodies_of table.now None)))) }
+    ensures { Gives result (within_limits (total_of own_weight depth (bodies_of table.now)
+        (bodies_of table.now None)) (total_of own_calls depth (bodies_of table.now)
+        (bodies_of table.now None)) (map drawn
+        (figures_of depth (bodies_of table.now) unmoved (bodies_of table.now None)))) }
 {
     let Ok(count) = total(alloc, Count::Weight, table, groups) else {
         return Err(CifError::NoMemory);
@@ -139,7 +142,8 @@ fn rounds(
 pub fn read(alloc: Global, text: &[u8], layer: &Name) -> Result<Layout, CifError>
     requires { length text.now ≤ 16777216 }
     ensures exact { Gives result (reading layer.now text.now) }
-    ensures primitives { IfOk result (λ layout. map outline_of layout.prims ≡ primitives_of layer.now text.now) }
+    ensures primitives { IfOk result (λ layout.
+        map outline_of layout.prims ≡ primitives_of layer.now text.now) }
 {
     let Ok(commands) = commands(alloc, text) else {
         return Err(CifError::NoMemory);

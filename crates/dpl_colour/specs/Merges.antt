@@ -24,7 +24,8 @@ abbrev pub shade : List Bool → (ℕ → ℕ) → ℕ → ℕ
 shade colours labels v = (if colour_of colours v then 1 else 0) + labels v
 
 -- there are labels from which the colours of one name differ all or none, and the ends of the first k edges have one name
-pub record IsColoured (g : Signed) (m : MapView) (joined : List Bool) (k : ℕ) (names : List ℕ) (colours : List Bool) :
+pub record IsColoured (g : Signed) (m : MapView) (joined : List Bool) (k : ℕ) (names : List ℕ)
+    (colours : List Bool) :
     Type 0 where
   pub lengths : length names ≡ g.nodes
   pub sizes : length colours ≡ g.nodes
@@ -41,7 +42,8 @@ IsSame names colours names' colours' v = (slice_index names' v ≡ slice_index n
     (slice_index_or colours' v false ≡ slice_index_or colours v false)
 
 -- of the first k nodes those of one name have another now, and their colours are exchanged where that is asked
-pub record IsMerged (names : List ℕ) (colours : List Bool) (from to : ℕ) (flip : Bool) (k : ℕ) (names' : List ℕ)
+pub record IsMerged (names : List ℕ) (colours : List Bool) (from to : ℕ) (flip : Bool) (k : ℕ)
+    (names' : List ℕ)
     (colours' : List Bool) : Type 0 where
   pub lengths : length names' ≡ length names
   pub sizes : length colours' ≡ length colours
@@ -51,14 +53,16 @@ pub record IsMerged (names : List ℕ) (colours : List Bool) (from to : ℕ) (fl
   pub later : (v : ℕ) → k ≤ v → IsSame names colours names' colours' v
 
 -- the node has the other name now
-pub record IsMoved (names : List ℕ) (colours : List Bool) (from to : ℕ) (flip : Bool) (names' : List ℕ)
+pub record IsMoved (names : List ℕ) (colours : List Bool) (from to : ℕ) (flip : Bool)
+    (names' : List ℕ)
     (colours' : List Bool) (v : ℕ) : Type 0 where
   pub was : slice_index names v ≡ from
   pub now : slice_index names' v ≡ to
   pub colour : slice_index_or colours' v false ≡ differ flip (slice_index_or colours v false)
 
 -- the first nodes of a row that have one name have the other now
-pub record IsMerging (names : List ℕ) (colours : List Bool) (from to : ℕ) (flip : Bool) (row : List ℕ) (i : ℕ)
+pub record IsMerging (names : List ℕ) (colours : List Bool) (from to : ℕ) (flip : Bool)
+    (row : List ℕ) (i : ℕ)
     (names' : List ℕ) (colours' : List Bool) : Type 0 where
   pub lengths : length names' ≡ length names
   pub sizes : length colours' ≡ length colours

@@ -15,4 +15,6 @@ others_count p (suc n) = elim (p n) [ true ↦ others_count p n | false ↦ suc 
 -- The number of cycles that go through these, which are taken out one after another: one that leads to itself is the last of its cycle.
 abbrev pub cycles_among : (ℕ → ℕ) → List ℕ → ℕ
 cycles_among f [] = 0
-cycles_among f (d ∷ ds) = elim (f d == d) [ true ↦ suc (cycles_among (without d f) ds) | false ↦ cycles_among (without d f) ds ]
+cycles_among f (d ∷ ds) =
+    elim (f d == d) [ true ↦ suc (cycles_among (without d f) ds)
+    | false ↦ cycles_among (without d f) ds ]

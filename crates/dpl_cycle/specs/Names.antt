@@ -9,7 +9,8 @@ pub record AreNames (n : ℕ) (names : ℕ → ℕ) : Type 0 where
 -- how many classes there are: the numbers that name themselves
 abbrev pub name_count : (ℕ → ℕ) → ℕ → ℕ
 name_count names zero = 0
-name_count names (suc n) = elim (names n == n) [ true ↦ suc (name_count names n) | false ↦ name_count names n ]
+name_count names (suc n) =
+    elim (names n == n) [ true ↦ suc (name_count names n) | false ↦ name_count names n ]
 
 -- the classes of a and b become one, with the name of a
 abbrev pub join : (ℕ → ℕ) → ℕ → ℕ → ℕ → ℕ

@@ -13,7 +13,8 @@ pub fn exchange_splits_or_merges(n: u64, i: u64, j: u64)
 
 /// Weights that are even around each cycle are the differences of labels along the cycles.
 pub fn even_sums_have_labels(n: u64)
-    ensures { (next back weight : ℕ → ℕ) → Permutes n next back → IsEvenAround next weight n → HasLabels next weight n }
+    ensures { (next back weight : ℕ → ℕ) → Permutes n next back → IsEvenAround next weight n →
+        HasLabels next weight n }
 {}
 
 /// Where each number outside a set leads to itself, the other cycles are those through the set.

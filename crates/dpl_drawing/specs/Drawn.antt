@@ -10,10 +10,12 @@ use Rattle.dpl_drawing.specs.Faces.{AreFaces}
 pub record AreParts (net : Net) (set : ℕ → Bool) (nexts : List ℕ) : Type 0 where
   pub nodes : length nexts ≡ net.graph.nodes
   pub joined : (u v : ℕ) → u < net.graph.nodes → v < net.graph.nodes →
-      (least_of nexts u ≡ least_of nexts v ↔ component_of net.graph set u ≡ component_of net.graph set v)
+      (least_of nexts u ≡ least_of nexts v ↔ component_of net.graph set u
+      ≡ component_of net.graph set v)
 
 -- the drawing of the edges of a set
-pub record IsDrawn (net : Net) (set : ℕ → Bool) (faces parts : List ℕ) (components : ℕ) : Type 0 where
+pub record IsDrawn (net : Net) (set : ℕ → Bool) (faces parts : List ℕ)
+    (components : ℕ) : Type 0 where
   pub are_faces : AreFaces net set faces
   pub are_parts : AreParts net set parts
   pub counted : components ≡ component_count net.graph set

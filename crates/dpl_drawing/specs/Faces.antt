@@ -20,4 +20,5 @@ cycle_number f set n d = count_on (is_first f set n) (least f n d)
 
 -- how many faces have darts
 abbrev pub drawn_faces : Net → (ℕ → Bool) → ℕ
-drawn_faces net set = count_on (is_first (next_in_face net set) set (dart_count net)) (dart_count net)
+drawn_faces net set = count_on (is_first (next_in_face net set) set (dart_count net))
+    (dart_count net)

@@ -5,7 +5,8 @@ use Rattle.dpl_ring.specs.Rings.{least_of}
 
 pub record MarksCycle (ring : List ℕ) (start label : ℕ) (old new : List ℕ) : Type 0 where
   pub lengths : length new ≡ length old
-  pub marked : (z : ℕ) → z < length ring → least_of ring z ≡ least_of ring start → slice_index new z ≡ label
+  pub marked : (z : ℕ) → z < length ring → least_of ring z ≡ least_of ring start →
+      slice_index new z ≡ label
   pub others : (z : ℕ) → z < length ring → least_of ring z ≢ least_of ring start →
       slice_index new z ≡ slice_index old z
 

@@ -73,7 +73,8 @@ impl Cycles {
         requires { i < length self.now.nexts }
         ensures value { slice_index self.now.nexts result ≡ i }
         ensures range { result < length self.now.nexts }
-        ensures only { EachIndex self.now.nexts (λ k. slice_index self.now.nexts k ≡ i → k ≡ result) }
+        ensures only { EachIndex self.now.nexts (λ k. slice_index self.now.nexts k ≡ i →
+            k ≡ result) }
     {
         self.ring.prev(i)
     }

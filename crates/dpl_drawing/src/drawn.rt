@@ -77,7 +77,8 @@ fn excess_from(net: &Net, aside: &[u32], drawn: u32, whole: u32) -> u64
 pub fn draw(alloc: Global, net: &Net) -> Result<Drawing, AllocError>
     ensures kept { IfOk result (λ d. d.kept.items ≡ kept_edges net.now) }
     ensures aside { IfOk result (λ d. d.aside.items ≡ aside_edges net.now) }
-    ensures corners { IfOk result (λ d. AreFaces net.now (is_in (kept_edges net.now)) d.corners.items) }
+    ensures corners { IfOk result (λ d.
+        AreFaces net.now (is_in (kept_edges net.now)) d.corners.items) }
     ensures components { IfOk result (λ d.
         d.components ≡ component_count net.now.graph (is_in (kept_edges net.now))) }
     ensures excess { IfOk result (λ d. d.excess ≡ excess_of net.now all_edges) }

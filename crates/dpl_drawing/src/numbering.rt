@@ -74,11 +74,13 @@ pub fn number(alloc: Global, nexts: &[u32], set: &[bool]) -> Result<Numbered, Al
     requires stays { EachIndex nexts.now (λ d.
         in_set set.now (slice_index nexts.now d / 2) ≡ in_set set.now (d / 2)) }
     ensures length { IfOk result (λ r. length r.numbers.items ≡ length nexts.now) }
-    ensures numbers { IfOk result (λ r. EachIndex r.numbers.items (λ d. in_set set.now (d / 2) ≡ true →
+    ensures numbers { IfOk result (λ r. EachIndex r.numbers.items (λ d.
+        in_set set.now (d / 2) ≡ true →
         slice_index r.numbers.items d ≡
         cycle_number (slice_index nexts.now) (in_set set.now) (length nexts.now) d)) }
     ensures count { IfOk result (λ r. r.count ≡
-        count_on (is_first (slice_index nexts.now) (in_set set.now) (length nexts.now)) (length nexts.now)) }
+        count_on (is_first (slice_index nexts.now) (in_set set.now) (length nexts.now))
+        (length nexts.now)) }
 {
     let mut numbers = filled(alloc, nexts.len(), NONE)?;
     let mut count = 0;

@@ -34,11 +34,13 @@ pub record HasCause {T E : Type 0} (before now : ℕ) (result : Result T E) : Ty
 
 -- a read raises the count of given bytes by those that it gave
 abbrev pub CountsGiven : {E : Type 0} → ℕ → ℕ → Result ℕ E → Type 0
-CountsGiven before now result = MatchResult result (λ n. now ≡ min (before + n) last_count) (λ _. now ≡ before)
+CountsGiven before now result =
+    MatchResult result (λ n. now ≡ min (before + n) last_count) (λ _. now ≡ before)
 
 -- a call raises the count of faults by one where it fails, and leaves it otherwise
 abbrev pub CountsFaults : {T E : Type 0} → ℕ → ℕ → Result T E → Type 0
-CountsFaults before now result = MatchResult result (λ _. now ≡ before) (λ _. now ≡ min (before + 1) last_count)
+CountsFaults before now result =
+    MatchResult result (λ _. now ≡ before) (λ _. now ≡ min (before + 1) last_count)
 
 -- reads gave these bytes: they were the front of what was left, and the count of given bytes rose by them
 pub record Gave (before now : Seen) (bytes : List ℕ) : Type 0 where
@@ -67,8 +69,10 @@ pub record OpensText (now : Seen) (name : List ℕ) (texts : Texts) : Type 0 whe
 
 -- what each refusal of an open means; nothing is open after it
 abbrev pub MeansClosed : Seen → Seen → List ℕ → OpenEnd → Type 0
-MeansClosed before now name Failed = (now.asked ≡ before.asked ++ name ∷ []) × (Rose before.faults now.faults) × (now.left ≡ Some [])
-MeansClosed before now name NoMemory = (now.asked ≡ before.asked) × (now.faults ≡ before.faults) × (now.left ≡ Some [])
+MeansClosed before now name Failed =
+    (now.asked ≡ before.asked ++ name ∷ []) × (Rose before.faults now.faults) × (now.left ≡ Some [])
+MeansClosed before now name NoMemory =
+    (now.asked ≡ before.asked) × (now.faults ≡ before.faults) × (now.left ≡ Some [])
 
 -- the name was asked for, and where the texts are told its first text is what is left
 pub record MeansOpened (before now : Seen) (texts : Option Texts) (name : List ℕ) : Type 0 where
@@ -76,7 +80,9 @@ pub record MeansOpened (before now : Seen) (texts : Option Texts) (name : List �
   pub text : IfSome texts (OpensText now name)
 
 -- what an open answers
-pub record AnswersOpen (before now : Seen) (texts : Option Texts) (name : List ℕ) (result : Result (Unit {0}) OpenEnd) : Type 0 where
+pub record AnswersOpen (before now : Seen) (texts : Option Texts) (name : List ℕ)
+    (result : Result (Unit {0}) OpenEnd) : Type 0 where
   pub same : now.given ≡ before.given
   pub later : before.faults ≤ now.faults
-  pub means : MatchResult result (λ _. MeansOpened before now texts name) (MeansClosed before now name)
+  pub means : MatchResult result (λ _.
+      MeansOpened before now texts name) (MeansClosed before now name)

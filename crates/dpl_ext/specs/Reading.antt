@@ -24,7 +24,8 @@ pub record Refuses (before now : Seen) (limit : ℕ) (error : ReadEnd) : Type 0 
   pub means : MeansEnd before now limit (length taken) error
 
 -- a piece of what was left stands behind the bytes so far, and it is empty only at the end
-pub record GivesPiece (before now : Seen) (old new : List ℕ) (limit : ℕ) (ended : Bool) : Type 0 where
+pub record GivesPiece (before now : Seen) (old new : List ℕ) (limit : ℕ)
+    (ended : Bool) : Type 0 where
   pub piece : List ℕ
   pub gave : Gave before now piece
   pub added : new ≡ old ++ piece
@@ -33,7 +34,8 @@ pub record GivesPiece (before now : Seen) (old new : List ℕ) (limit : ℕ) (en
   pub not_end : ended ≡ false → 0 < length piece
 
 -- the piece that was read is not kept
-pub record StopsPiece (before now : Seen) (old : List ℕ) (limit : ℕ) (error : ReadEnd) : Type 0 where
+pub record StopsPiece (before now : Seen) (old : List ℕ) (limit : ℕ)
+    (error : ReadEnd) : Type 0 where
   pub piece : List ℕ
   pub gave : Gave before now piece
   pub means : MeansEnd before now limit (length old + length piece) error

@@ -29,11 +29,13 @@ impl<R: Read> ReadSource<R> {
 }
 
 impl<R: Read> Source for ReadSource<R> {
-    ghost seen = { λ s. record { left = R.remaining s.from; faults = s.faults; given = s.given; asked = [] } };
+    ghost seen = { λ s. record { left = R.remaining s.from; faults = s.faults; given =
+        s.given; asked = [] } };
 
     fn read(&mut self, into: &mut [u8]) -> Result<usize, Failed>
         ensures bound { ReadsAtMost result into.new }
-        ensures bytes { ReadConsumes (R.remaining self.old.from) (R.remaining self.new.from) result into.new }
+        ensures bytes { ReadConsumes (R.remaining self.old.from) (R.remaining self.new.from) result
+            into.new }
         ensures counted { CountsGiven self.old.given self.new.given result }
         ensures cause { HasCause self.old.faults self.new.faults result }
         ensures faults { CountsFaults self.old.faults self.new.faults result }
@@ -76,7 +78,8 @@ impl<W: Write> Sink for WriteSink<W> {
     fn write(&mut self, piece: &[u8]) -> Result<usize, Failed>
         ensures bound { WritesAtMost result piece.now }
         ensures some { IfOk result (λ n. 0 < length piece.now → 0 < n) }
-        ensures bytes { WriteAppends (W.contents self.old.to) (W.contents self.new.to) result piece.now }
+        ensures bytes { WriteAppends (W.contents self.old.to) (W.contents self.new.to) result
+            piece.now }
         ensures cause { HasCause self.old.faults self.new.faults result }
         ensures faults { CountsFaults self.old.faults self.new.faults result }
     {

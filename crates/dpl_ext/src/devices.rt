@@ -34,7 +34,8 @@ pub trait Shelf: Source {
 
     /// The reads after Ok give the text of this name from its front.
     fn open(&mut self, name: &str) -> Result<(), OpenEnd>
-        ensures answer { AnswersOpen (Self.seen self.old) (Self.seen self.new) (texts self.old) name.now result }
+        ensures answer { AnswersOpen (Self.seen self.old) (Self.seen self.new) (texts self.old)
+            name.now result }
         ensures texts { texts self.new ≡ texts self.old };
 }
 

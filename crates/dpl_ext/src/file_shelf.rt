@@ -41,11 +41,13 @@ impl<'a, R: Files> FileShelf<'a, R> {
 }
 
 impl<'a, R: Files> Source for FileShelf<'a, R> {
-    ghost seen = { λ s. record { left = left_of_file s.file; faults = s.faults; given = s.given; asked = map string_bytes s.asked.items } };
+    ghost seen = { λ s. record { left = left_of_file s.file; faults = s.faults; given =
+        s.given; asked = map string_bytes s.asked.items } };
 
     fn read(&mut self, into: &mut [u8]) -> Result<usize, Failed>
         ensures bound { ReadsAtMost result into.new }
-        ensures bytes { ReadConsumes (left_of_file self.old.file) (left_of_file self.new.file) result into.new }
+        ensures bytes { ReadConsumes (left_of_file self.old.file) (left_of_file self.new.file)
+            result into.new }
         ensures counted { CountsGiven self.old.given self.new.given result }
         ensures cause { HasCause self.old.faults self.new.faults result }
         ensures same { self.new.asked.items ≡ self.old.asked.items }

@@ -41,7 +41,8 @@ impl Model for MemShelf {
       asked = map string_bytes s.asked.items;
     } };
 
-    ghost invariant = { λ s. (s.at ≤ vec_len s.text) × (0 < s.piece) × (s.is_open ≡ false → s.text.items ≡ []) };
+    ghost invariant = { λ s. (s.at ≤ vec_len s.text) × (0 < s.piece) ×
+        (s.is_open ≡ false → s.text.items ≡ []) };
 }
 
 impl MemShelf {
@@ -54,7 +55,9 @@ impl MemShelf {
         fails: Vec<u64>,
     ) -> MemShelf
         requires { 0 < piece }
-        ensures { result ≡ record { texts = texts_of files.items; left = []; is_open = false; piece = piece; fails = fails.items; calls = 0; faults = 0; given = 0; asked = [] } }
+        ensures { result ≡ record { texts = texts_of files.items; left = []; is_open =
+            false; piece = piece; fails = fails.items; calls =
+            0; faults = 0; given = 0; asked = [] } }
     {
         MemShelf {
             alloc,
@@ -73,7 +76,8 @@ impl MemShelf {
 }
 
 impl Source for MemShelf {
-    ghost seen = { λ s. record { left = Some s.left; faults = s.faults; given = s.given; asked = s.asked } };
+    ghost seen = { λ s. record { left = Some s.left; faults = s.faults; given = s.given; asked =
+        s.asked } };
 
     fn read(&mut self, into: &mut [u8]) -> Result<usize, Failed>
         ensures bound { ReadsAtMost result into.new }
@@ -82,10 +86,14 @@ impl Source for MemShelf {
         ensures cause { HasCause self.old.faults self.new.faults result }
         ensures same { self.new.asked ≡ self.old.asked }
         ensures closed { self.old.is_open ≡ false → (result ≡ Ok 0) × (self.new ≡ self.old) }
-        ensures fails { self.old.is_open ≡ true → IsErr result ↔ Contains self.old.fails self.old.calls }
-        ensures count { IfOk result (λ n. n ≡ min self.old.piece (min (length into.old) (length self.old.left))) }
-        ensures calls { self.old.is_open ≡ true → self.new.calls ≡ min (self.old.calls + 1) (2 ^ 64 - 1) }
-        ensures kept { (self.new.piece ≡ self.old.piece) × (self.new.fails ≡ self.old.fails) × (self.new.texts ≡ self.old.texts) × (self.new.is_open ≡ self.old.is_open) }
+        ensures fails { self.old.is_open ≡ true →
+            IsErr result ↔ Contains self.old.fails self.old.calls }
+        ensures count { IfOk result (λ n.
+            n ≡ min self.old.piece (min (length into.old) (length self.old.left))) }
+        ensures calls { self.old.is_open ≡ true →
+            self.new.calls ≡ min (self.old.calls + 1) (2 ^ 64 - 1) }
+        ensures kept { (self.new.piece ≡ self.old.piece) × (self.new.fails ≡ self.old.fails) ×
+            (self.new.texts ≡ self.old.texts) × (self.new.is_open ≡ self.old.is_open) }
     {
         let given = self.given;
         if !self.is_open {
@@ -112,7 +120,8 @@ fn copy_of(
     files: &[(String, Vec<u8>)],
     name: &str,
 ) -> Result<Option<Vec<u8>>, AllocError>
-    ensures { IfOk result (λ r. option_map (λ v. v.items) r ≡ first_text name.now (texts_of files.now)) }
+    ensures { IfOk result (λ r. option_map (λ v. v.items) r
+        ≡ first_text name.now (texts_of files.now)) }
 {
     for (key, text) in files {
         if key.as_str() == name {
@@ -126,13 +135,20 @@ impl Shelf for MemShelf {
     ghost texts = { λ s. Some s.texts };
 
     fn open(&mut self, name: &str) -> Result<(), OpenEnd>
-        ensures answer { AnswersOpen (record { left = Some self.old.left; faults = self.old.faults; given = self.old.given; asked = self.old.asked })
-            (record { left = Some self.new.left; faults = self.new.faults; given = self.new.given; asked = self.new.asked }) (Some self.old.texts) name.now result }
+        ensures answer { AnswersOpen (record { left = Some self.old.left; faults =
+            self.old.faults; given = self.old.given; asked = self.old.asked })
+            (record { left = Some self.new.left; faults = self.new.faults; given =
+            self.new.given; asked = self.new.asked }) (Some self.old.texts) name.now result }
         ensures texts { Some self.new.texts ≡ Some self.old.texts }
-        ensures fails { (result ≡ Err OpenEnd.NoMemory) ⊎ (IsErr result ↔ (Contains self.old.fails self.old.calls ⊎ (first_text name.now self.old.texts ≡ None))) }
-        ensures calls { (result ≡ Err OpenEnd.NoMemory → self.new.calls ≡ self.old.calls) × ((result ≡ Err OpenEnd.NoMemory → ⊥) → self.new.calls ≡ min (self.old.calls + 1) (2 ^ 64 - 1)) }
+        ensures fails { (result ≡ Err OpenEnd.NoMemory) ⊎
+            (IsErr result ↔ (Contains self.old.fails self.old.calls ⊎
+            (first_text name.now self.old.texts ≡ None))) }
+        ensures calls { (result ≡ Err OpenEnd.NoMemory → self.new.calls ≡ self.old.calls) ×
+            ((result ≡ Err OpenEnd.NoMemory → ⊥) →
+            self.new.calls ≡ min (self.old.calls + 1) (2 ^ 64 - 1)) }
         ensures kept { (self.new.piece ≡ self.old.piece) × (self.new.fails ≡ self.old.fails) }
-        ensures state { (OnOk result (self.new.is_open ≡ true)) × (OnErr result (self.new.is_open ≡ false)) }
+        ensures state { (OnOk result (self.new.is_open ≡ true)) ×
+            (OnErr result (self.new.is_open ≡ false)) }
     {
         self.is_open = false;
         self.text = Vec::new(self.alloc);

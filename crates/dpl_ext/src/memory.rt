@@ -41,7 +41,8 @@ impl MemSource {
     /// Each read gives at most `piece` bytes. The reads whose numbers from 0 are in `fails` fail.
     pub fn new(bytes: Vec<u8>, piece: usize, fails: Vec<u64>) -> MemSource
         requires { 0 < piece }
-        ensures { result ≡ record { left = bytes.items; piece = piece; fails = fails.items; calls = 0; faults = 0; given = 0 } }
+        ensures { result ≡ record { left = bytes.items; piece = piece; fails = fails.items; calls =
+            0; faults = 0; given = 0 } }
     {
         MemSource {
             bytes,
@@ -56,7 +57,8 @@ impl MemSource {
 }
 
 impl Source for MemSource {
-    ghost seen = { λ s. record { left = Some s.left; faults = s.faults; given = s.given; asked = [] } };
+    ghost seen = { λ s. record { left = Some s.left; faults = s.faults; given = s.given; asked =
+        [] } };
 
     fn read(&mut self, into: &mut [u8]) -> Result<usize, Failed>
         ensures bound { ReadsAtMost result into.new }
@@ -64,7 +66,8 @@ impl Source for MemSource {
         ensures counted { CountsGiven self.old.given self.new.given result }
         ensures cause { HasCause self.old.faults self.new.faults result }
         ensures fails { IsErr result ↔ Contains self.old.fails self.old.calls }
-        ensures count { IfOk result (λ n. n ≡ min self.old.piece (min (length into.old) (length self.old.left))) }
+        ensures count { IfOk result (λ n.
+            n ≡ min self.old.piece (min (length into.old) (length self.old.left))) }
         ensures calls { self.new.calls ≡ min (self.old.calls + 1) (2 ^ 64 - 1) }
         ensures faults { CountsFaults self.old.faults self.new.faults result }
         ensures kept { (self.new.piece ≡ self.old.piece) × (self.new.fails ≡ self.old.fails) }
@@ -107,7 +110,8 @@ impl Model for MemSink {
       faults = s.faults;
     } };
 
-    ghost invariant = { λ s. (vec_len s.bytes ≤ s.room) × (s.room ≤ vec_capacity s.bytes) × (0 < s.piece) };
+    ghost invariant = { λ s. (vec_len s.bytes ≤ s.room) × (s.room ≤ vec_capacity s.bytes) ×
+        (0 < s.piece) };
 }
 
 impl MemSink {
@@ -120,7 +124,8 @@ impl MemSink {
         fails: Vec<u64>,
     ) -> Result<MemSink, NoMemory>
         requires { 0 < piece }
-        ensures { IfOk result (λ s. s ≡ record { taken = []; room = room; piece = piece; fails = fails.items; calls = 0; faults = 0 }) }
+        ensures { IfOk result (λ s. s ≡ record { taken = []; room = room; piece = piece; fails =
+            fails.items; calls = 0; faults = 0 }) }
     {
         let bytes = Vec::with_capacity(alloc, room)?;
         Ok(MemSink {
@@ -153,10 +158,13 @@ impl Sink for MemSink {
         ensures cause { HasCause self.old.faults self.new.faults result }
         ensures fails { IsErr result ↔ (Contains self.old.fails self.old.calls
             ⊎ ((length self.old.taken ≡ self.old.room) × (0 < length piece.now))) }
-        ensures count { IfOk result (λ n. n ≡ min self.old.piece (min (length piece.now) (self.old.room - length self.old.taken))) }
+        ensures count { IfOk result (λ n.
+            n ≡ min self.old.piece (min (length piece.now) (self.old.room
+            - length self.old.taken))) }
         ensures calls { self.new.calls ≡ min (self.old.calls + 1) (2 ^ 64 - 1) }
         ensures faults { CountsFaults self.old.faults self.new.faults result }
-        ensures kept { (self.new.piece ≡ self.old.piece) × (self.new.fails ≡ self.old.fails) × (self.new.room ≡ self.old.room) }
+        ensures kept { (self.new.piece ≡ self.old.piece) × (self.new.fails ≡ self.old.fails) ×
+            (self.new.room ≡ self.old.room) }
     {
         let call = self.calls;
         self.calls = call.saturating_add(1);

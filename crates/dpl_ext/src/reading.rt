@@ -24,11 +24,13 @@ const PIECE: u64 = 4096;
 /// never more than one past the limit.
 pub fn read_all<S: Source>(alloc: Global, source: &mut S, limit: u64) -> Result<Vec<u8>, ReadEnd>
     requires { limit < 2 ^ 32 }
-    ensures whole { IfOk result (λ v. IsWhole (S.seen source.old) (S.seen source.new) v.items limit) }
+    ensures whole { IfOk result (λ v.
+        IsWhole (S.seen source.old) (S.seen source.new) v.items limit) }
     ensures refused { IfErr result (Refuses (S.seen source.old) (S.seen source.new) limit) }
 
     // Where the source tells its bytes and no call failed, it is too long exactly where more were left.
-    ensures too_long { result ≡ Err ReadEnd.TooLong → IfSome (S.seen source.old).left (λ xs. limit < length xs) }
+    ensures too_long { result ≡ Err ReadEnd.TooLong →
+        IfSome (S.seen source.old).left (λ xs. limit < length xs) }
     ensures long { IfSome (S.seen source.old).left (λ xs. limit < length xs
         → ¬ Rose (S.seen source.old).faults (S.seen source.new).faults
         → (result ≡ Err ReadEnd.TooLong) ⊎ (result ≡ Err ReadEnd.NoMemory)) }
@@ -46,8 +48,10 @@ pub fn read_all<S: Source>(alloc: Global, source: &mut S, limit: u64) -> Result<
 fn read_piece<S: Source>(source: &mut S, bytes: &mut Vec<u8>, limit: u64) -> Result<bool, ReadEnd>
     requires room { vec_len bytes.old ≤ limit }
     requires small { limit < 2 ^ 32 }
-    ensures ok { IfOk result (GivesPiece (S.seen source.old) (S.seen source.new) bytes.old.items bytes.new.items limit) }
-    ensures err { IfErr result (StopsPiece (S.seen source.old) (S.seen source.new) bytes.old.items limit) }
+    ensures ok { IfOk result (GivesPiece (S.seen source.old) (S.seen source.new) bytes.old.items
+        bytes.new.items limit) }
+    ensures err { IfErr result (StopsPiece (S.seen source.old) (S.seen source.new) bytes.old.items
+        limit) }
 {
     let mut piece = [0u8; 4096];
     let want = (limit + 1 - bytes.len() as u64).min(PIECE) as usize;

@@ -10,7 +10,8 @@ pub record AreGroups (g : Graph) (labels heads : List ℕ) : Type 0 where
   -- no edge leads to a greater number
   pub downward : (x y : ℕ) → x < length g → IsEdge g x y → get_or labels y 0 ≤ get_or labels x 0
   -- nodes of one group lead to one another
-  pub joined : (x y : ℕ) → x < length g → y < length g → get_or labels x 0 ≡ get_or labels y 0 → Reaches g x y
+  pub joined : (x y : ℕ) → x < length g → y < length g → get_or labels x 0 ≡ get_or labels y 0 →
+      Reaches g x y
   -- each number has a group, and each group a node
   pub numbered : (x : ℕ) → x < length g → get_or labels x 0 < length heads
   pub headed : (l : ℕ) → l < length heads → get_or heads l 0 < length g

@@ -81,8 +81,10 @@ pub record IsWalk (g : Graph) (v : View) : Type 0 where
   pub climbing : (t u : ℕ) → t < u → u < v.height → v.stack t < v.stack u
   pub placed : (t : ℕ) → t < v.height → v.stack t < v.depth
   pub busy : (i : ℕ) → i < v.depth → IsOnStack v i ⊎ (v.left (v.path i) ≡ 0)
-  pub settled : (x i k : ℕ) → v.mark x ≡ Open i → k + v.left x < length (next_of g x) → IsSettled v i (get_or (next_of g x) k 0)
-  pub downward : (x l k : ℕ) → v.mark x ≡ Done l → k < length (next_of g x) → IsDone v (get_or (next_of g x) k 0) l
+  pub settled : (x i k : ℕ) → v.mark x ≡ Open i → k + v.left x < length (next_of g x) →
+      IsSettled v i (get_or (next_of g x) k 0)
+  pub downward : (x l k : ℕ) → v.mark x ≡ Done l → k < length (next_of g x) →
+      IsDone v (get_or (next_of g x) k 0) l
   pub joined : (x y l : ℕ) → v.mark x ≡ Done l → v.mark y ≡ Done l → Reaches g x y
   pub numbered : (x l : ℕ) → v.mark x ≡ Done l → l < v.count
   pub headed : (l : ℕ) → l < v.count → v.head l < length g

@@ -59,7 +59,8 @@ fn drop_above(items: &mut Vec<usize>, most: usize)
 fn shut(marks: &mut Vec<Mark>, path: &[usize], place: usize, label: usize)
     requires path { AreOnPath marks.old.items path.now }
     requires place { place ≤ length path.now }
-    ensures value { (x : ℕ) → get_or marks.new.items x mark.New ≡ walks.shut place label (get_or marks.old.items x mark.New) }
+    ensures value { (x : ℕ) → get_or marks.new.items x mark.New
+        ≡ walks.shut place label (get_or marks.old.items x mark.New) }
     ensures len { length marks.new.items ≡ length marks.old.items }
 {
     for k in place..path.len() {
@@ -112,7 +113,8 @@ impl Walk {
         requires top { IsTopNode (view self.old) node }
         requires next { next < length edges.now }
         requires edge { IsEdge edges.now node next }
-        ensures settled { OnOk result (Settles edges.now (view self.old) (view self.new) node next) }
+        ensures settled { OnOk result (Settles edges.now (view self.old) (view self.new) node
+            next) }
         ensures left { OnOk result (self.new.left.items ≡ self.old.left.items) }
     {
         match self.marks[next] {

@@ -20,13 +20,15 @@ pub record AreTops (n : ℕ) (f : Sets) (children : List ℕ) : Type 0 where
   pub below : (c : ℕ) → has children c ≡ true → c < 2 * n
   pub are_live : (c : ℕ) → has children c ≡ true → f.live c ≡ true
   pub parentless : (c : ℕ) → has children c ≡ true → f.parent c ≡ None
-  pub distinct : (i j : ℕ) → i < j → j < length children → slice_index children i ≢ slice_index children j
+  pub distinct : (i j : ℕ) → i < j → j < length children →
+      slice_index children i ≢ slice_index children j
 
 -- tops that a new set can be made of, with a join from each to the next one around
 pub record AreJoined (f : Sets) (children : List ℕ) (joins : List (ℕ × ℕ)) : Type 0 where
   pub tops : AreTops f.size f children
   pub count : length joins ≡ length children
-  pub tied : (i : ℕ) → i < length children → IsTie f (slice_index children i) (next_in children i) (slice_index_or joins i (0, 0))
+  pub tied : (i : ℕ) → i < length children →
+      IsTie f (slice_index children i) (next_in children i) (slice_index_or joins i (0, 0))
 
 -- a new top holds what these tops held
 pub record Gathers (n : ℕ) (old : Sets) (children : List ℕ) (set : ℕ) (new : Sets) : Type 0 where
@@ -45,15 +47,18 @@ pub record Gathers (n : ℕ) (old : Sets) (children : List ℕ) (set : ℕ) (new
   pub top_others : (m : ℕ) → m < n → has children (old.top m) ≡ false → new.top m ≡ old.top m
 
 -- these tops became the children of a new top, which has a number that was free and value 0
-pub record IsShrunk (old : Sets) (children : List ℕ) (joins : List (ℕ × ℕ)) (set : ℕ) (new : Sets) : Type 0 where
+pub record IsShrunk (old : Sets) (children : List ℕ) (joins : List (ℕ × ℕ)) (set : ℕ)
+    (new : Sets) : Type 0 where
   pub size : new.size ≡ old.size
   pub value : (i : ℕ) → new.value i ≡ old.value i
   pub value_set : new.value set ≡ 0
   pub sets : Gathers old.size old children set new
   -- the children stand in a ring in their order with these joins
-  pub after_child : (i : ℕ) → i < length children → new.after (slice_index children i) ≡ next_in children i
+  pub after_child : (i : ℕ) → i < length children →
+      new.after (slice_index children i) ≡ next_in children i
   pub after_others : (c : ℕ) → has children c ≡ false → new.after c ≡ old.after c
-  pub join_child : (i : ℕ) → i < length children → new.join (slice_index children i) ≡ slice_index_or joins i (0, 0)
+  pub join_child : (i : ℕ) → i < length children →
+      new.join (slice_index children i) ≡ slice_index_or joins i (0, 0)
   pub join_others : (c : ℕ) → has children c ≡ false → new.join c ≡ old.join c
 
 -- the children of a top are tops in its place
@@ -66,7 +71,8 @@ pub record Releases (n : ℕ) (old : Sets) (set : ℕ) (new : Sets) : Type 0 whe
   pub parent_others : (i : ℕ) → has (old.children set) i ≡ false → new.parent i ≡ old.parent i
   pub children_set : new.children set ≡ []
   pub children_others : (i : ℕ) → i ≢ set → new.children i ≡ old.children i
-  pub top_inside : (c m : ℕ) → m < n → has (old.children set) c ≡ true → old.holds c m ≡ true → new.top m ≡ c
+  pub top_inside : (c m : ℕ) → m < n → has (old.children set) c ≡ true → old.holds c m ≡ true →
+      new.top m ≡ c
   pub top_others : (m : ℕ) → m < n → old.top m ≢ set → new.top m ≡ old.top m
 
 -- a top was taken away, and its children became tops
@@ -80,7 +86,8 @@ pub record IsExpanded (old : Sets) (set : ℕ) (new : Sets) : Type 0 where
 
 -- the next child around in the ring of the parent, and the pair of members that joins the two
 pub record IsNext (f : Sets) (child other : ℕ) (pair : ℕ × ℕ) : Type 0 where
-  pub next : (p i : ℕ) → f.parent child ≡ Some p → i < length (f.children p) → slice_index (f.children p) i ≡ child →
+  pub next : (p i : ℕ) → f.parent child ≡ Some p → i < length (f.children p) →
+      slice_index (f.children p) i ≡ child →
       other ≡ next_in (f.children p) i
   pub join : pair ≡ f.join child
   pub tie : IsTie f child other pair

@@ -57,7 +57,8 @@ pub record AreOddSets (n : ℕ) (f : Sets) : Type 0 where
   pub dead : (i m : ℕ) → i < 2 * n → m < n → f.live i ≡ false → f.holds i m ≡ false
   pub odd : (i : ℕ) → i < 2 * n → f.live i ≡ true → size_of n (f.holds i) % 2 ≡ 1
   -- of two sets with a common member one holds all members of the other
-  pub nested : (i j m a b : ℕ) → i < 2 * n → j < 2 * n → m < n → a < n → b < n → f.holds i m ≡ true → f.holds j m ≡ true →
+  pub nested : (i j m a b : ℕ) → i < 2 * n → j < 2 * n → m < n → a < n → b < n →
+      f.holds i m ≡ true → f.holds j m ≡ true →
       f.holds i a ≡ true → f.holds j a ≡ false → f.holds j b ≡ true → f.holds i b ≡ true
   -- how numbers are given out: the number of a set leads to a member of it that is not its least
   pub named : (i : ℕ) → i < n → f.live (n + i) ≡ true →
@@ -69,9 +70,11 @@ pub record HaveTops (n : ℕ) (f : Sets) : Type 0 where
   pub top_live : (m : ℕ) → m < n → f.live (f.top m) ≡ true
   pub top_holds : (m : ℕ) → m < n → f.holds (f.top m) m ≡ true
   pub top_parent : (m : ℕ) → m < n → f.parent (f.top m) ≡ None
-  pub top_alone : (i m : ℕ) → i < 2 * n → m < n → f.parent i ≡ None → f.holds i m ≡ true → f.top m ≡ i
+  pub top_alone : (i m : ℕ) → i < 2 * n → m < n → f.parent i ≡ None → f.holds i m ≡ true →
+      f.top m ≡ i
   -- the members of a set have one top
-  pub top_shared : (i m a : ℕ) → i < 2 * n → m < n → a < n → f.holds i m ≡ true → f.holds i a ≡ true → f.top m ≡ f.top a
+  pub top_shared : (i m a : ℕ) → i < 2 * n → m < n → a < n → f.holds i m ≡ true →
+      f.holds i a ≡ true → f.top m ≡ f.top a
 
 -- each set that is no single is the union of its children, which are an odd number and have no common members
 pub record HaveChildren (n : ℕ) (f : Sets) : Type 0 where
@@ -79,16 +82,21 @@ pub record HaveChildren (n : ℕ) (f : Sets) : Type 0 where
   pub dead_parent : (i : ℕ) → i < 2 * n → f.live i ≡ false → f.parent i ≡ None
   pub parent_range : (i p : ℕ) → i < 2 * n → f.live i ≡ true → f.parent i ≡ Some p →
       (n ≤ p) × (p < 2 * n) × (f.live p ≡ true) × (has (f.children p) i ≡ true)
-  pub child : (p c : ℕ) → p < 2 * n → has (f.children p) c ≡ true → (c < 2 * n) × (f.live c ≡ true) × (f.parent c ≡ Some p)
+  pub child : (p c : ℕ) → p < 2 * n → has (f.children p) c ≡ true →
+      (c < 2 * n) × (f.live c ≡ true) × (f.parent c ≡ Some p)
   -- the union
-  pub child_holds : (p c m : ℕ) → p < 2 * n → m < n → has (f.children p) c ≡ true → f.holds c m ≡ true → f.holds p m ≡ true
+  pub child_holds : (p c m : ℕ) → p < 2 * n → m < n → has (f.children p) c ≡ true →
+      f.holds c m ≡ true → f.holds p m ≡ true
   pub covered : (p m : ℕ) → n ≤ p → p < 2 * n → m < n → f.holds p m ≡ true →
       (c : ℕ) × (has (f.children p) c ≡ true) × (f.holds c m ≡ true)
-  pub apart : (p c d m : ℕ) → p < 2 * n → m < n → has (f.children p) c ≡ true → has (f.children p) d ≡ true →
+  pub apart : (p c d m : ℕ) → p < 2 * n → m < n → has (f.children p) c ≡ true →
+      has (f.children p) d ≡ true →
       f.holds c m ≡ true → f.holds d m ≡ true → c ≡ d
   -- a set that meets a child and does not hold the whole parent lies in the child
-  pub between : (p c i m a b : ℕ) → p < 2 * n → i < 2 * n → m < n → a < n → b < n → has (f.children p) c ≡ true →
-      f.holds c m ≡ true → f.holds i m ≡ true → f.holds p a ≡ true → f.holds i a ≡ false → f.holds i b ≡ true → f.holds c b ≡ true
+  pub between : (p c i m a b : ℕ) → p < 2 * n → i < 2 * n → m < n → a < n → b < n →
+      has (f.children p) c ≡ true →
+      f.holds c m ≡ true → f.holds i m ≡ true → f.holds p a ≡ true → f.holds i a ≡ false →
+      f.holds i b ≡ true → f.holds c b ≡ true
   -- each child stands once, and singles and numbers without a set have none
   pub distinct : (p i j : ℕ) → p < 2 * n → i < j → j < length (f.children p) →
       slice_index (f.children p) i ≢ slice_index (f.children p) j
@@ -112,7 +120,8 @@ pub record IsFamily (f : Sets) : Type 0 where
   pub small : f.size ≤ 2048
   pub laminar : IsLaminar f.size f
   -- the children of a set stand in a ring in their order, and each other number alone
-  pub around : (p i : ℕ) → i < length (f.children p) → f.after (slice_index (f.children p) i) ≡ next_in (f.children p) i
+  pub around : (p i : ℕ) → i < length (f.children p) →
+      f.after (slice_index (f.children p) i) ≡ next_in (f.children p) i
   pub alone : (i : ℕ) → i < 2 * f.size → f.parent i ≡ None → f.after i ≡ i
   -- the join of a child leads from a member of it to one of the next child around
   pub tied : (c p : ℕ) → f.parent c ≡ Some p → IsTie f c (f.after c) (f.join c)

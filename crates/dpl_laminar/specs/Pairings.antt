@@ -10,7 +10,8 @@ AreOdd n k value holds = (i : ℕ) → i < k → (value i ≡ 0) ⊎ (size_of n 
 
 -- no load of two members is more than their distance
 abbrev pub AreWithin : ℕ → ℕ → (ℕ → ℕ) → (ℕ → ℕ → Bool) → (ℕ → ℕ → ℕ) → Type 0
-AreWithin n k value holds distance = (s t : ℕ) → s < n → t < n → s ≢ t → load_in k value holds s t ≤ distance s t
+AreWithin n k value holds distance = (s t : ℕ) → s < n → t < n → s ≢ t →
+    load_in k value holds s t ≤ distance s t
 
 -- each of the n members has another one as its mate, and is the mate of that one
 pub record IsPairing (n : ℕ) (mate : ℕ → ℕ) : Type 0 where
@@ -24,8 +25,10 @@ pairs_sum n mate w = sum_below n (λ m. if nat_lt m (mate m) then w m (mate m) e
 
 -- The law: where no load is more than the distance, no perfect pairing has a sum below the sum of the values.
 abbrev pub ValuesBoundPairings : Type 0
-ValuesBoundPairings = (n k : ℕ) (value : ℕ → ℕ) (holds : ℕ → ℕ → Bool) (distance : ℕ → ℕ → ℕ) (mate : ℕ → ℕ) →
-    AreOdd n k value holds → AreWithin n k value holds distance → IsPairing n mate → sum_below k value ≤ pairs_sum n mate distance
+ValuesBoundPairings = (n k : ℕ) (value : ℕ → ℕ) (holds : ℕ → ℕ → Bool) (distance : ℕ → ℕ →
+    ℕ) (mate : ℕ → ℕ) →
+    AreOdd n k value holds → AreWithin n k value holds distance → IsPairing n mate →
+    sum_below k value ≤ pairs_sum n mate distance
 
 -- The same of a family: where no load is more than the distance, no perfect pairing has a sum below the total.
 abbrev pub FamiliesBoundPairings : Type 0

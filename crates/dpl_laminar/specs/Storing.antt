@@ -66,7 +66,8 @@ pub record IsCircle (ring : List ℕ) (first count : ℕ) : Type 0 where
   pub distinct : (i j : ℕ) → i < j → j < count →
       slice_index (circle_of ring first count) i ≢ slice_index (circle_of ring first count) j
   pub around : (i : ℕ) → i < count →
-      slice_index ring (slice_index (circle_of ring first count) i) ≡ slice_index (circle_of ring first count) ((i + 1) % count)
+      slice_index ring (slice_index (circle_of ring first count) i)
+      ≡ slice_index (circle_of ring first count) ((i + 1) % count)
 
 -- numbers below a bound
 abbrev pub AreBelow : List ℕ → ℕ → Type 0
@@ -74,7 +75,8 @@ AreBelow numbers bound = (i : ℕ) → i < length numbers → slice_index number
 
 -- numbers that stand once
 abbrev pub AreOnce : List ℕ → Type 0
-AreOnce numbers = (i j : ℕ) → i < j → j < length numbers → slice_index numbers i ≢ slice_index numbers j
+AreOnce numbers = (i j : ℕ) → i < j → j < length numbers →
+    slice_index numbers i ≢ slice_index numbers j
 
 -- no two of these sets have a common member below n
 abbrev pub AreApart : ℕ → List (List Bool) → List ℕ → Type 0

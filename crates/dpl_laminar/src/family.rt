@@ -158,10 +158,12 @@ impl Family {
         requires live { (sets_of self.old).live set ≡ true }
         requires least { pos 0 ≤ℤ (pos ((sets_of self.old).value set) +ℤ by) }
         requires most { (pos ((sets_of self.old).value set) +ℤ by) ≤ℤ pos (2 ^ 50) }
-        ensures value { pos ((sets_of self.new).value set) ≡ pos ((sets_of self.old).value set) +ℤ by }
+        ensures value { pos ((sets_of self.new).value set)
+            ≡ pos ((sets_of self.old).value set) +ℤ by }
         ensures others { (i : ℕ) → i ≢ set →
             (sets_of self.new).value i ≡ (sets_of self.old).value i }
-        ensures rest { sets_of self.new ≡ record (sets_of self.old) { value = (sets_of self.new).value } }
+        ensures rest { sets_of self.new ≡ record (sets_of self.old) { value =
+            (sets_of self.new).value } }
         ensures family { IsFamily (sets_of self.new) }
         ensures steps { steps.new ≡ steps.old + 1 }
     {

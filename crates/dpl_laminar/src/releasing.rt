@@ -36,7 +36,8 @@ pub fn join(all: &mut [(u32, u32)], children: &[u32], joins: &[(u32, u32)])
     requires below { AreBelow children.now (length all.old) }
     requires distinct { AreOnce children.now }
     ensures each { (i : ℕ) → i < length children.now →
-        slice_index_or all.new (slice_index children.now i) (0, 0) ≡ slice_index_or joins.now i (0, 0) }
+        slice_index_or all.new (slice_index children.now i) (0, 0)
+        ≡ slice_index_or joins.now i (0, 0) }
     ensures others { (c : ℕ) → has children.now c ≡ false →
         slice_index_or all.new c (0, 0) ≡ slice_index_or all.old c (0, 0) }
 {
@@ -83,7 +84,8 @@ pub fn orphan(parents: &mut [Option<u32>], ring: &Ring, first: u32, count: usize
     requires below { (i : ℕ) → i < count →
         slice_index (circle_of ring.now first count) i < length parents.old }
     ensures { (i : ℕ) → slice_index_or parents.new i None ≡
-        (if has (circle_of ring.now first count) i then None else slice_index_or parents.old i None) }
+        (if has (circle_of ring.now first count) i then None
+        else slice_index_or parents.old i None) }
 {
     let mut child = first;
     for _ in 0..count {

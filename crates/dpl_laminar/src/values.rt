@@ -23,7 +23,8 @@ pub fn load_between(values: &[u64], rows: &[Members], s: usize, t: usize) -> u64
     requires few { length values.now ≤ 4096 }
     requires lengths { length rows.now ≡ length values.now }
     requires small { (i : ℕ) → slice_index values.now i ≤ 2 ^ 50 }
-    ensures { result ≡ load_in (length values.now) (slice_index values.now) (row_holds rows.now) s t }
+    ensures { result ≡ load_in (length values.now) (slice_index values.now) (row_holds rows.now) s
+        t }
 {
     let mut sum: u64 = 0;
     for i in 0..values.len() {

@@ -37,26 +37,33 @@ EndEnds = (rest : List ℕ) (at : ℕ) → cut Between at (69 ∷ rest) ≡ none
 
 -- a semicolon at once is an empty command
 abbrev pub EmptyIsCut : Type 0
-EmptyIsCut = (rest : List ℕ) (at : ℕ) → cut Between at (59 ∷ rest) ≡ with_span (Some (span at at)) (cut Between (at + 1) rest)
+EmptyIsCut = (rest : List ℕ) (at : ℕ) → cut Between at (59 ∷ rest)
+    ≡ with_span (Some (span at at)) (cut Between (at + 1) rest)
 
 -- any command but a comment, a user extension too, goes to the next semicolon
 abbrev pub PlainIsCut : Type 0
-PlainIsCut = (first : ℕ) (body rest : List ℕ) (at : ℕ) → begins_plain first ≡ true → list_all is_inside body ≡ true
-    → cut Between at (first ∷ body ++ 59 ∷ rest) ≡ with_span (Some (span at (at + 1 + length body))) (cut Between (at + 1 + length body + 1) rest)
+PlainIsCut = (first : ℕ) (body rest : List ℕ) (at : ℕ) → begins_plain first ≡ true →
+    list_all is_inside body ≡ true
+    → cut Between at (first ∷ body ++ 59 ∷ rest)
+    ≡ with_span (Some (span at (at + 1 + length body))) (cut Between (at + 1 + length body
+    + 1) rest)
 
 -- a comment goes to the parenthesis that closes it, and from there to the next semicolon
 abbrev pub CommentIsCut : Type 0
 CommentIsCut = (inner body rest : List ℕ) (at : ℕ) → IsNested inner → list_all is_inside body ≡ true
     → cut Between at (40 ∷ inner ++ 41 ∷ body ++ 59 ∷ rest)
-    ≡ with_span (Some (span at (at + 1 + length inner + 1 + length body))) (cut Between (at + 1 + length inner + 1 + length body + 1) rest)
+    ≡ with_span (Some (span at (at + 1 + length inner + 1 + length body))) (cut Between (at + 1
+    + length inner + 1 + length body + 1) rest)
 
 -- a text that ends between two commands has no end
 abbrev pub BlanksEnd : Type 0
-BlanksEnd = (blanks : List ℕ) (at : ℕ) → list_all is_blank blanks ≡ true → cut Between at blanks ≡ none_left NoEnd
+BlanksEnd = (blanks : List ℕ) (at : ℕ) → list_all is_blank blanks ≡ true →
+    cut Between at blanks ≡ none_left NoEnd
 
 -- what has no semicolon is no command
 abbrev pub PlainRests : Type 0
-PlainRests = (first : ℕ) (body : List ℕ) (at : ℕ) → begins_plain first ≡ true → list_all is_inside body ≡ true
+PlainRests = (first : ℕ) (body : List ℕ) (at : ℕ) → begins_plain first ≡ true →
+    list_all is_inside body ≡ true
     → cut Between at (first ∷ body) ≡ none_left NoEnd
 
 -- a closed comment without a semicolon is none either
@@ -66,7 +73,8 @@ CommentRests = (inner body : List ℕ) (at : ℕ) → IsNested inner → list_al
 
 -- a comment that is never closed
 abbrev pub OpenCommentRests : Type 0
-OpenCommentRests = (inside : List ℕ) (at : ℕ) → IsOpen inside → cut Between at (40 ∷ inside) ≡ none_left Paren
+OpenCommentRests = (inside : List ℕ) (at : ℕ) → IsOpen inside →
+    cut Between at (40 ∷ inside) ≡ none_left Paren
 
 -- each command stands within a text of this length
 abbrev pub AreWithin : ℕ → List Span → Type 0

@@ -24,12 +24,15 @@ of_negated n = if nat_lt greatest n then Big else Value (pos 0 -ℤ pos n)
 -- the integer whose digits stand here, and what follows them; where there are none, nothing of the whole is passed
 abbrev pub digits_at : (ℕ → Num) → List ℕ → List ℕ → Num × List ℕ
 digits_at of whole [] = (Nothing, whole)
-digits_at of whole (b ∷ bs) = if is_digit b then (of (digits_value 0 (b ∷ bs)), drop_while is_digit (b ∷ bs)) else (Nothing, whole)
+digits_at of whole (b ∷ bs) =
+    if is_digit b then (of (digits_value 0 (b ∷ bs)), drop_while is_digit (b ∷ bs))
+    else (Nothing, whole)
 
 -- the same behind a minus that may stand there
 abbrev pub signed_digits_at : List ℕ → List ℕ → Num × List ℕ
 signed_digits_at whole [] = (Nothing, whole)
-signed_digits_at whole (b ∷ bs) = if b == 45 then digits_at of_negated whole bs else digits_at of_magnitude whole (b ∷ bs)
+signed_digits_at whole (b ∷ bs) =
+    if b == 45 then digits_at of_negated whole bs else digits_at of_magnitude whole (b ∷ bs)
 
 -- the integer without a sign behind the separators, and what follows it
 abbrev pub unsigned_at : List ℕ → Num × List ℕ

@@ -97,7 +97,8 @@ fn ending(place: Place) -> Ending
 /// Goes over a text, and gives the place behind it.
 fn pass(spans: &mut Vec<Span>, text: &[u8]) -> Result<Place, AllocError>
     requires { length text.now ≤ 16777216 }
-    ensures { IfOk result (λ p. after spans.new.items (cut p (length text.now) []) ≡ after spans.old.items (commands_of text.now)) }
+    ensures { IfOk result (λ p. after spans.new.items (cut p (length text.now) [])
+        ≡ after spans.old.items (commands_of text.now)) }
 {
     let mut place = Place::Between;
     let mut at = 0;

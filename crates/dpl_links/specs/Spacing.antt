@@ -34,7 +34,8 @@ pub record HoldTooClose (tiles rects : List Corners) (space a b : ℕ) : Type 0 
 
 -- Clashes stand for the cells that are too close: the two fragments of each clash hold two such cells, and each two
 -- such cells lie in fragments whose pieces a clash joins; no two clashes join the same two pieces.
-pub record AreAllClashes (tiles rects : List Corners) (space : ℕ) (pieces : List ℕ) (edges : List Edge) : Type 0 where
+pub record AreAllClashes (tiles rects : List Corners) (space : ℕ) (pieces : List ℕ)
+    (edges : List Edge) : Type 0 where
   pub each : All (λ e. e.kind ≡ Clash → HoldTooClose tiles rects space e.a e.b) edges
   pub all : (i j : ℕ) (x y x' y' : ℤ) → i < length rects → j < length rects
       → IsIn (rect_at rects i) x y → IsIn (rect_at rects j) x' y'
@@ -43,5 +44,6 @@ pub record AreAllClashes (tiles rects : List Corners) (space : ℕ) (pieces : Li
 
 -- all fragments of a piece are of one shape
 abbrev pub AreWithinShapes : List ℕ → List ℕ → Type 0
-AreWithinShapes pieces shape = (i j : ℕ) → i < length pieces → j < length pieces → piece_of pieces i ≡ piece_of pieces j
+AreWithinShapes pieces shape = (i j : ℕ) → i < length pieces → j < length pieces →
+    piece_of pieces i ≡ piece_of pieces j
     → slice_index_or shape i 0 ≡ slice_index_or shape j 0

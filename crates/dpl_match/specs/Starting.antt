@@ -15,7 +15,8 @@ pub record AreRaised (n : ℕ) (dist : ℕ → ℕ → ℕ) (f g : Sets) (sums :
 -- single members alone carry values
 pub record AreAlone (n : ℕ) (f : Sets) (sums : List ℕ) : Type 0 where
   pub top : (k : ℕ) → k < n → f.top k ≡ k
-  pub load : (s t : ℕ) → s < n → t < n → s ≢ t → loads n f s t ≡ slice_index sums s + slice_index sums t
+  pub load : (s t : ℕ) → s < n → t < n → s ≢ t →
+      loads n f s t ≡ slice_index sums s + slice_index sums t
 
 -- how many steps the first values take: two members need none
 abbrev pub first_steps : ℕ → ℕ

@@ -19,7 +19,13 @@ pub record NamesAll (n : ℕ) (places : List (ℕ × ℕ)) : Type 0 where
 -- the bounds of a stop hold the rectangles of the stop itself and of as many behind it as it says
 pub record IsIndex (rects : List Corners) (stops : List Stop) : Type 0 where
   pub few : length stops ≤ 100000
-  pub inside : (k : ℕ) (d : Stop) → k < length stops → (slice_index_or stops k d).number < length rects
-  pub all : (i : ℕ) → i < length rects → (k : ℕ) × (k < length stops) × ((d : Stop) → (slice_index_or stops k d).number ≡ i)
-  pub short : (k : ℕ) (d : Stop) → k < length stops → k + (slice_index_or stops k d).rest < length stops
-  pub covers : (k m : ℕ) (d : Stop) (c : Corners) → k < length stops → k ≤ m → m ≤ k + (slice_index_or stops k d).rest → Holds (corners_of (slice_index_or stops k d).bounds) (slice_index_or rects (slice_index_or stops m d).number c)
+  pub inside : (k : ℕ) (d : Stop) → k < length stops →
+      (slice_index_or stops k d).number < length rects
+  pub all : (i : ℕ) → i < length rects → (k : ℕ) × (k < length stops) ×
+      ((d : Stop) → (slice_index_or stops k d).number ≡ i)
+  pub short : (k : ℕ) (d : Stop) → k < length stops →
+      k + (slice_index_or stops k d).rest < length stops
+  pub covers : (k m : ℕ) (d : Stop) (c : Corners) → k < length stops → k ≤ m →
+      m ≤ k + (slice_index_or stops k d).rest →
+      Holds (corners_of (slice_index_or stops k d).bounds)
+      (slice_index_or rects (slice_index_or stops m d).number c)

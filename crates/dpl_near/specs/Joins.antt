@@ -8,7 +8,8 @@ use Rattle.dpl_cell.specs.Edges.{SharesEdge}
 pub record IsJoin (rects : List Corners) (i j : ℕ) : Type 0 where
   pub rising : i < j
   pub within : j < length rects
-  pub edge : (d : Corners) → SharesEdge (IsIn (slice_index_or rects i d)) (IsIn (slice_index_or rects j d))
+  pub edge : (d : Corners) →
+      SharesEdge (IsIn (slice_index_or rects i d)) (IsIn (slice_index_or rects j d))
 
 -- the pair stands before (i, j), in the order of the first number and then of the second
 abbrev pub IsEarlier : ℕ → ℕ → ℕ × ℕ → Type 0

@@ -13,7 +13,8 @@ pub record Search : Type 0 where
 pub record IsNear (s : Search) (i j : ℕ) : Type 0 where
   pub within : j < length s.rects
   pub other : j ≢ i
-  pub close : (d : Corners) → AreClose (IsIn (slice_index_or s.rects i d)) (IsIn (slice_index_or s.rects j d)) s.reach
+  pub close : (d : Corners) →
+      AreClose (IsIn (slice_index_or s.rects i d)) (IsIn (slice_index_or s.rects j d)) s.reach
 
 -- the numbers of all rectangles near the one at i, ascending
 pub record AreNear (s : Search) (i : ℕ) (found : List ℕ) : Type 0 where
@@ -28,4 +29,5 @@ pub record HasNear (s : Search) (i : ℕ) (found : List ℕ) : Type 0 where
 
 -- the second list is the first, and j behind it where j is near
 abbrev pub AddsNear : Search → ℕ → ℕ → List ℕ → List ℕ → Type 0
-AddsNear s i j found new = (IsNear s i j × (new ≡ found ++ j ∷ [])) ⊎ ((¬ IsNear s i j) × (new ≡ found))
+AddsNear s i j found new =
+    (IsNear s i j × (new ≡ found ++ j ∷ [])) ⊎ ((¬ IsNear s i j) × (new ≡ found))

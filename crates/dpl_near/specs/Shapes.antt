@@ -13,5 +13,6 @@ pub record AreShapes (rects : List Corners) (label : List ℕ) (count : ℕ) : T
   pub long : length label ≡ length rects
   pub same : (i j : ℕ) (d : Corners) (x y x' y' : ℤ) → i < length rects → j < length rects →
       IsIn (slice_index_or rects i d) x y → IsIn (slice_index_or rects j d) x' y' →
-      (slice_index_or label i 0 ≡ slice_index_or label j 0) ↔ AreOneShape (is_cell (map Box rects)) x y x' y'
+      (slice_index_or label i 0 ≡ slice_index_or label j 0) ↔
+      AreOneShape (is_cell (map Box rects)) x y x' y'
   pub numbered : IsNumbered label count

@@ -28,7 +28,8 @@ impl<'a> Model for Finder<'a> {
 
     ghost view = { λ f. record { rects = map corners_of f.rects.now; reach = f.reach } };
 
-    ghost invariant = { λ f. record { few : length f.rects.now ≤ 100000; near : f.reach ≤ 200000; index : IsIndex (map corners_of f.rects.now) f.stops.items } };
+    ghost invariant = { λ f. record { few : length f.rects.now ≤ 100000; near : f.reach ≤ 200000;
+        index : IsIndex (map corners_of f.rects.now) f.stops.items } };
 }
 
 impl<'a> Finder<'a> {
@@ -40,7 +41,8 @@ impl<'a> Finder<'a> {
     pub fn new(alloc: Global, rects: &'a [Rect], reach: u64) -> Result<Finder<'a>, NoMemory>
         requires few { length rects.now ≤ 100000 }
         requires near { reach ≤ 200000 }
-        ensures { IfOk result (λ f. f ≡ record { rects = map corners_of rects.now; reach = reach }) }
+        ensures { IfOk result (λ f. f ≡ record { rects = map corners_of rects.now; reach =
+            reach }) }
     {
         let stops = stops_of(alloc, rects)?;
         Ok(Finder {
@@ -78,7 +80,8 @@ fn gather_near(
     requires near { reach ≤ 200000 }
     requires within { i < length rects.now }
     requires index { IsIndex (map corners_of rects.now) stops.now }
-    ensures { IfOk result (λ v. HasNear (record { rects = map corners_of rects.now; reach = reach }) i v.items) }
+    ensures { IfOk result (λ v.
+        HasNear (record { rects = map corners_of rects.now; reach = reach }) i v.items) }
 {
     let mut found = Vec::new(alloc);
     let mut at = 0;
@@ -105,7 +108,8 @@ fn push_near(
     requires near { reach ≤ 200000 }
     requires within { i < length rects.now }
     requires other { j < length rects.now }
-    ensures { OnOk result (AddsNear (record { rects = map corners_of rects.now; reach = reach }) i j found.old.items found.new.items) }
+    ensures { OnOk result (AddsNear (record { rects = map corners_of rects.now; reach =
+        reach }) i j found.old.items found.new.items) }
 {
     if j as usize != i && are_close(&rects[i], &rects[j as usize], reach) {
         found.push(j)?;

@@ -39,8 +39,10 @@ fn each_once(alloc: Global, sorted: &[u32]) -> Result<Vec<u32>, NoMemory>
 fn is_first(sorted: &[u32], k: usize) -> bool
     requires sorted { IsNonDecreasing sorted.now }
     requires within { k < length sorted.now }
-    ensures first { result ≡ true → (j : ℕ) → j < k → slice_index_or sorted.now j 0 < slice_index_or sorted.now k 0 }
-    ensures again { result ≡ false → (0 < k) × (slice_index_or sorted.now (k - 1) 0 ≡ slice_index_or sorted.now k 0) }
+    ensures first { result ≡ true → (j : ℕ) → j < k →
+        slice_index_or sorted.now j 0 < slice_index_or sorted.now k 0 }
+    ensures again { result ≡ false → (0 < k) ×
+        (slice_index_or sorted.now (k - 1) 0 ≡ slice_index_or sorted.now k 0) }
 {
     k == 0 || sorted[k - 1] < sorted[k]
 }

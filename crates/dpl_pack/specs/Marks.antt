@@ -8,7 +8,8 @@ AreClear marks = (x : ℕ) → slice_index_or marks x false ≡ false
 
 -- the marks of these places are gone, and the others are as before
 abbrev pub AreCleared : List ℕ → List Bool → List Bool → Type 0
-AreCleared places old new = (x : ℕ) → slice_index_or new x false ≡ (slice_index_or old x false && not (has places x))
+AreCleared places old new =
+    (x : ℕ) → slice_index_or new x false ≡ (slice_index_or old x false && not (has places x))
 
 -- the marked places below a number are listed
 pub record IsListed (marks : List Bool) (n : ℕ) (places : List ℕ) : Type 0 where

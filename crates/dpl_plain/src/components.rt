@@ -12,7 +12,8 @@ use std::alloc::{AllocError, Global};
 fn join(names: &mut [u32], a: u32, b: u32)
     requires first { a < length names.old }
     requires second { b < length names.old }
-    ensures { EachIndex names.new (λ v. slice_index names.new v ≡ joined (slice_index names.old) a b v) }
+    ensures { EachIndex names.new (λ v. slice_index names.new v
+        ≡ joined (slice_index names.old) a b v) }
 {
     let (name, other) = (names[a as usize], names[b as usize]);
     replace(names, other, name);
@@ -23,7 +24,9 @@ fn add_edge(names: &mut [u32], graph: &Signed, set: &[bool], number: u32)
     requires nodes { length names.old ≡ graph.now.nodes }
     requires edge { number < length graph.now.edges }
     ensures { EachIndex names.new (λ v. slice_index names.new v ≡
-        (if in_set set.now number then joined (slice_index names.old) (edge_at graph.now number).a (edge_at graph.now number).b v else slice_index names.old v)) }
+        (if in_set set.now number
+        then joined (slice_index names.old) (edge_at graph.now number).a
+        (edge_at graph.now number).b v else slice_index names.old v)) }
 {
     let edge = graph.edges.as_slice()[number as usize];
     if is_in(set, number) {
@@ -35,7 +38,8 @@ fn add_edge(names: &mut [u32], graph: &Signed, set: &[bool], number: u32)
 fn add_edges(names: &mut [u32], graph: &Signed, set: &[bool])
     requires nodes { length names.old ≡ graph.now.nodes }
     requires alone { EachIndex names.old (λ v. slice_index names.old v ≡ v) }
-    ensures { EachIndex names.new (λ v. slice_index names.new v ≡ component_of graph.now (in_set set.now) v) }
+    ensures { EachIndex names.new (λ v. slice_index names.new v
+        ≡ component_of graph.now (in_set set.now) v) }
 {
     for number in 0..graph.edges.as_slice().len() as u32 {
         add_edge(names, graph, set, number);
@@ -45,7 +49,8 @@ fn add_edges(names: &mut [u32], graph: &Signed, set: &[bool])
 /// A name for the component of each node.
 fn component_names(alloc: Global, graph: &Signed, set: &[bool]) -> Result<Vec<u32>, AllocError>
     ensures length { IfOk result (λ v. length v.items ≡ graph.now.nodes) }
-    ensures each { IfOk result (λ v. EachIndex v.items (λ k. slice_index v.items k ≡ component_of graph.now (in_set set.now) k)) }
+    ensures each { IfOk result (λ v. EachIndex v.items (λ k.
+        slice_index v.items k ≡ component_of graph.now (in_set set.now) k)) }
 {
     let mut names = Vec::new(alloc);
     for node in 0..graph.nodes {

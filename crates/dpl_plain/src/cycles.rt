@@ -9,7 +9,8 @@ use dpl_sign::is_in;
 /// Takes a number out of its cycle: what led to it leads where it led.
 fn take_out(nexts: &mut [u32], number: u32)
     requires { number < length nexts.old }
-    ensures { EachIndex nexts.new (λ x. slice_index nexts.new x ≡ without number (slice_index nexts.old) x) }
+    ensures { EachIndex nexts.new (λ x. slice_index nexts.new x
+        ≡ without number (slice_index nexts.old) x) }
 {
     let after = nexts[number as usize];
     replace(nexts, number, after);
@@ -19,7 +20,8 @@ fn take_out(nexts: &mut [u32], number: u32)
 fn take_last(nexts: &mut [u32], number: u32) -> bool
     requires { number < length nexts.old }
     ensures alone { result ≡ (slice_index nexts.old number == number) }
-    ensures without { EachIndex nexts.new (λ x. slice_index nexts.new x ≡ without number (slice_index nexts.old) x) }
+    ensures without { EachIndex nexts.new (λ x.
+        slice_index nexts.new x ≡ without number (slice_index nexts.old) x) }
 {
     let alone = nexts[number as usize] == number;
     take_out(nexts, number);
@@ -29,7 +31,8 @@ fn take_last(nexts: &mut [u32], number: u32) -> bool
 /// How many cycles go through the darts of a set of edges. The numbers are taken out of their cycles.
 pub fn count_cycles(nexts: &mut [u32], set: &[bool]) -> u32
     requires { length nexts.old < 2 ^ 31 }
-    ensures value { result ≡ cycles_among (slice_index nexts.old) (members (λ d. in_set set.now (d / 2)) (length nexts.old)) }
+    ensures value { result ≡ cycles_among (slice_index nexts.old) (members (λ d.
+        in_set set.now (d / 2)) (length nexts.old)) }
     ensures range { result ≤ length nexts.old }
 {
     let mut count = 0;
@@ -45,7 +48,8 @@ pub fn count_cycles(nexts: &mut [u32], set: &[bool]) -> u32
 fn step_down(nexts: &mut [u32], top: u32, here: u32) -> u32
     requires { top < length nexts.old }
     ensures place { result ≡ (if here == top then slice_index nexts.old top else here) }
-    ensures without { EachIndex nexts.new (λ x. slice_index nexts.new x ≡ without top (slice_index nexts.old) x) }
+    ensures without { EachIndex nexts.new (λ x.
+        slice_index nexts.new x ≡ without top (slice_index nexts.old) x) }
 {
     let after = nexts[top as usize];
     take_out(nexts, top);

@@ -21,7 +21,8 @@ pub fn next_in_face(net: &Net, set: &[bool], dart: u32) -> u32
 /// What each dart leads to in its face.
 pub fn successors(alloc: Global, net: &Net, set: &[bool]) -> Result<Vec<u32>, AllocError>
     ensures length { IfOk result (λ v. length v.items ≡ dart_count net.now) }
-    ensures each { IfOk result (λ v. EachIndex v.items (λ d. slice_index v.items d ≡ next_of_face net.now (in_set set.now) d)) }
+    ensures each { IfOk result (λ v. EachIndex v.items (λ d.
+        slice_index v.items d ≡ next_of_face net.now (in_set set.now) d)) }
 {
     let mut nexts = Vec::new(alloc);
     for dart in 0..2 * net.graph.edges.as_slice().len() as u32 {

@@ -48,7 +48,8 @@ fn is_clash(edge: &Edge) -> bool
 
 /// The clashes as a set of edges.
 fn clashes(alloc: Global, net: &Net) -> Result<Vec<bool>, AllocError>
-    ensures { IfOk result (λ v. (e : ℕ) → e < length net.now.graph.edges → in_set v.items e ≡ is_clash_edge net.now e) }
+    ensures { IfOk result (λ v. (e : ℕ) → e < length net.now.graph.edges →
+        in_set v.items e ≡ is_clash_edge net.now e) }
 {
     let mut test = Vec::new(alloc);
     for edge in 0..net.graph.edges.as_slice().len() as u32 {
@@ -80,7 +81,8 @@ pub fn is_crossable(net: &Net, set: &[bool], edge: u32) -> bool
 
 /// Whether all edges chosen are stitches and clashes of the set.
 fn are_crossable(net: &Net, set: &[bool], chosen: &[bool]) -> bool
-    ensures { IsTrue result ↔ ((e : ℕ) → e < length net.now.graph.edges → in_set chosen.now e ≡ true → crossable net.now (in_set set.now) e ≡ true) }
+    ensures { IsTrue result ↔ ((e : ℕ) → e < length net.now.graph.edges →
+        in_set chosen.now e ≡ true → crossable net.now (in_set set.now) e ≡ true) }
 {
     for edge in 0..net.graph.edges.as_slice().len() as u32 {
         let crossed = is_crossable(net, set, edge);
@@ -99,7 +101,9 @@ fn is_met(
     chosen: &[bool],
     face: u32,
 ) -> Result<bool, AllocError>
-    ensures { IfOk result (λ met. met ≡ (passages_of net.now (in_set set.now) (in_set chosen.now) face % 2 == passages_of net.now (in_set set.now) (is_clash_edge net.now) face % 2)) }
+    ensures { IfOk result (λ met.
+        met ≡ (passages_of net.now (in_set set.now) (in_set chosen.now) face % 2
+        == passages_of net.now (in_set set.now) (is_clash_edge net.now) face % 2)) }
 {
     let test = clashes(alloc, net)?;
     let clashed = passages_on_face(alloc, net, set, &test, face)?;
@@ -109,7 +113,10 @@ fn is_met(
 
 /// Whether each face passes as many chosen edges as clashes, up to parity.
 fn are_met(alloc: Global, net: &Net, set: &[bool], chosen: &[bool]) -> Result<bool, AllocError>
-    ensures { IfOk result (λ met. IsTrue met ↔ ((f : ℕ) → f < dart_count net.now → passages_of net.now (in_set set.now) (in_set chosen.now) f % 2 ≡ passages_of net.now (in_set set.now) (is_clash_edge net.now) f % 2)) }
+    ensures { IfOk result (λ met. IsTrue met ↔
+        ((f : ℕ) → f < dart_count net.now →
+        passages_of net.now (in_set set.now) (in_set chosen.now) f % 2
+        ≡ passages_of net.now (in_set set.now) (is_clash_edge net.now) f % 2)) }
 {
     for face in 0..2 * net.graph.edges.as_slice().len() as u32 {
         if !is_met(alloc, net, set, chosen, face)? {
@@ -127,7 +134,8 @@ pub fn meets_faces(
     set: &[bool],
     chosen: &[bool],
 ) -> Result<bool, AllocError>
-    ensures { IfOk result (λ meets. IsTrue meets ↔ MeetsFaces net.now (in_set set.now) (in_set chosen.now)) }
+    ensures { IfOk result (λ meets. IsTrue meets ↔
+        MeetsFaces net.now (in_set set.now) (in_set chosen.now)) }
 {
     let crossed = are_crossable(net, set, chosen);
     let met = are_met(alloc, net, set, chosen)?;

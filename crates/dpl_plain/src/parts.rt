@@ -19,7 +19,10 @@ fn cross(
     requires faces { length names.old ≡ dart_count net.now }
     requires edge { edge < length net.now.graph.edges }
     ensures { IfOk result (λ _. EachIndex names.new (λ v. slice_index names.new v ≡
-        (if crossable net.now (in_set set.now) edge then joined (slice_index names.old) (face_of net.now (in_set set.now) (2 * edge)) (face_of net.now (in_set set.now) (2 * edge + 1)) v else slice_index names.old v))) }
+        (if crossable net.now (in_set set.now) edge
+        then joined (slice_index names.old) (face_of net.now (in_set set.now) (2
+        * edge)) (face_of net.now (in_set set.now) (2 * edge + 1)) v
+        else slice_index names.old v))) }
 {
     let there = face_name(alloc, net, set, 2 * edge)?;
     let back = face_name(alloc, net, set, 2 * edge + 1)?;
@@ -35,7 +38,8 @@ fn cross_all(alloc: Global, net: &Net, set: &[bool], names: &mut [u32]) -> Resul
     requires faces { length names.old ≡ dart_count net.now }
     requires alone { EachIndex names.old (λ v. slice_index names.old v ≡ v) }
     ensures { IfOk result (λ _. (x y : ℕ) → x < dart_count net.now → y < dart_count net.now →
-        (slice_index names.new x ≡ slice_index names.new y ↔ AreOfOnePart net.now (in_set set.now) x y)) }
+        (slice_index names.new x ≡ slice_index names.new y ↔
+        AreOfOnePart net.now (in_set set.now) x y)) }
 {
     for edge in 0..net.graph.edges.as_slice().len() as u32 {
         cross(alloc, net, set, names, edge)?;
@@ -47,7 +51,8 @@ fn cross_all(alloc: Global, net: &Net, set: &[bool], names: &mut [u32]) -> Resul
 fn part_names(alloc: Global, net: &Net, set: &[bool]) -> Result<Vec<u32>, AllocError>
     ensures length { IfOk result (λ v. length v.items ≡ dart_count net.now) }
     ensures each { IfOk result (λ v. (x y : ℕ) → x < dart_count net.now → y < dart_count net.now →
-        (slice_index v.items x ≡ slice_index v.items y ↔ AreOfOnePart net.now (in_set set.now) x y)) }
+        (slice_index v.items x ≡ slice_index v.items y ↔
+        AreOfOnePart net.now (in_set set.now) x y)) }
 {
     let mut names = Vec::new(alloc);
     for face in 0..2 * net.graph.edges.as_slice().len() as u32 {
@@ -59,7 +64,9 @@ fn part_names(alloc: Global, net: &Net, set: &[bool]) -> Result<Vec<u32>, AllocE
 
 /// Whether two numbers are the same, or have one name.
 fn have_one_name(names: &[u32], f: u32, g: u32) -> bool
-    ensures { IsTrue result ↔ ((f ≡ g) ⊎ ((f < length names.now) × ((g < length names.now) × (slice_index names.now f ≡ slice_index names.now g)))) }
+    ensures { IsTrue result ↔
+        ((f ≡ g) ⊎ ((f < length names.now) × ((g < length names.now) ×
+        (slice_index names.now f ≡ slice_index names.now g)))) }
 {
     let (first, second) = (f as usize, g as usize);
     if first < names.len() && second < names.len() {

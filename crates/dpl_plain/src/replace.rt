@@ -2,7 +2,8 @@ ghost use Rattle.std.specs.Prelude.{◌≡◌, ◌==◌, slice_index, EachIndex,
 
 /// Puts one number in the place of another, wherever it stands.
 pub fn replace(list: &mut [u32], old: u32, new: u32)
-    ensures { EachIndex list.new (λ k. slice_index list.new k ≡ (if slice_index list.old k == old then new else slice_index list.old k)) }
+    ensures { EachIndex list.new (λ k. slice_index list.new k
+        ≡ (if slice_index list.old k == old then new else slice_index list.old k)) }
 {
     for place in 0..list.len() {
         if list[place] == old {

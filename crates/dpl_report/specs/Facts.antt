@@ -28,7 +28,8 @@ pub record NameAllAside (net : Net) (lines : List ℕ) : Type 0 where
   pub all : (e : ℕ) → e < length net.graph.edges → is_aside net e ≡ true → Contains lines e
   pub ordered : AllPairs (λ d e. d < e) lines
 
-pub record AreNineFacts (o : Options) (f : Fragments) (net : Net) (text : List ℕ) (r : PlainReport) : Type 0 where
+pub record AreNineFacts (o : Options) (f : Fragments) (net : Net) (text : List ℕ)
+    (r : PlainReport) : Type 0 where
   -- 1: the text is the text of a report
   pub valid : IsReport r
   pub text_is : text ≡ report_text r

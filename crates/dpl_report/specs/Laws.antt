@@ -27,7 +27,8 @@ TextsDiffer = (r s : PlainReport) → IsReport r → IsReport s → report_text 
 
 -- the text of a report, read again as CIF, draws its two masks and breaks no rule
 abbrev pub ReportsAreDrawn : Type 0
-ReportsAreDrawn = (r : PlainReport) → IsReport r → DrawsMasks r.head.params.layer r.on_a r.on_b (report_text r)
+ReportsAreDrawn = (r : PlainReport) → IsReport r →
+    DrawsMasks r.head.params.layer r.on_a r.on_b (report_text r)
 
 -- reports that say the same are the same
 abbrev pub PlainIsExact : Type 0
@@ -48,10 +49,12 @@ BondsAreTold = (colours : List Bool) (edges : List Edge) → (bonds_miss colours
     ↔ All (λ e. is_bond e.kind ≡ true → colour_of colours e.a ≡ colour_of colours e.b) edges
 
 abbrev pub CutsAreTold : Type 0
-CutsAreTold = (listed wanted : List PlainZone) → (cut_lines_miss listed wanted ≡ None) ↔ (listed ≡ wanted)
+CutsAreTold = (listed wanted : List PlainZone) →
+    (cut_lines_miss listed wanted ≡ None) ↔ (listed ≡ wanted)
 
 abbrev pub ClashesAreTold : Type 0
-ClashesAreTold = (listed wanted : List Broken) → (clash_lines_miss listed wanted ≡ None) ↔ (listed ≡ wanted)
+ClashesAreTold = (listed wanted : List Broken) →
+    (clash_lines_miss listed wanted ≡ None) ↔ (listed ≡ wanted)
 
 abbrev pub CostIsTold : Type 0
 CostIsTold = (net : Net) (cost : ℕ) (colours : List Bool) →
@@ -67,7 +70,8 @@ WalksAreTold = (g : Signed) (cycles : List Cycle) →
 -- nothing is loaded beyond twice its weight, and the half weights sum to the bound
 abbrev pub PackingIsTold : Type 0
 PackingIsTold = (g : Signed) (bound : ℕ) (cycles : List Cycle) →
-    (packing_miss g bound cycles ≡ None) ↔ (IsWithin g (passages cycles) × (bound ≡ bound_of cycles))
+    (packing_miss g bound cycles ≡ None) ↔
+    (IsWithin g (passages cycles) × (bound ≡ bound_of cycles))
 
 abbrev pub MasksAreTold : Type 0
 MasksAreTold = (on_a on_b wanted_a wanted_b : List Corners) →

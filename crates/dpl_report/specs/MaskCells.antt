@@ -24,7 +24,8 @@ use Rattle.dpl_report.specs.ReportLines.{report_text}
 
 -- Tiles that share out these cells, their shapes, and their fragments at the lengths of the options. A hundredth of a
 -- micron is two grid units.
-pub record AreCutFrom (o : Options) (cells : ℤ → ℤ → Bool) (tiles : List Corners) (f : Fragments) : Type 0 where
+pub record AreCutFrom (o : Options) (cells : ℤ → ℤ → Bool) (tiles : List Corners)
+    (f : Fragments) : Type 0 where
   pub label : List ℕ
   pub count : ℕ
   pub drawn : (x y : ℤ) → layer_of tiles x y ≡ cells x y
@@ -39,14 +40,17 @@ HoldTogether cells r = (x y : ℤ) → (is_in_boxes r.on_a x y || is_in_boxes r.
 -- a cell is on both masks exactly where it lies in the zone of a cut line
 abbrev pub OverlapInZones : PlainReport → Type 0
 OverlapInZones r = (x y : ℤ) →
-    (is_in_boxes r.on_a x y && is_in_boxes r.on_b x y) ≡ is_in_boxes (map (λ z. z.corners) r.lists.cuts) x y
+    (is_in_boxes r.on_a x y && is_in_boxes r.on_b x y)
+    ≡ is_in_boxes (map (λ z. z.corners) r.lists.cuts) x y
 
 -- The cut line shows the zone of the cut between its two fragments: a part of their tile that is as long as the overlap
 -- and as wide as the tile.
-pub record ShowsZone (over : ℕ) (tiles : List Corners) (f : Fragments) (z : PlainZone) : Type 0 where
+pub record ShowsZone (over : ℕ) (tiles : List Corners) (f : Fragments)
+    (z : PlainZone) : Type 0 where
   pub cut : IsCut over tiles (map corners_of f.rects) f.tile z.at.a z.at.b z.corners
   pub from : ℤ
-  pub part : z.corners ≡ part_of (rect_at tiles (slice_index_or f.tile z.at.a 0)) from (from +ℤ pos over)
+  pub part : z.corners ≡ part_of (rect_at tiles (slice_index_or f.tile z.at.a 0)) from
+      (from +ℤ pos over)
 
 -- there is an edge with this number, of this kind, and the colouring breaks it
 pub record IsBrokenEdge (g : Signed) (colours : List Bool) (kind : Kind) (e : ℕ) : Type 0 where
@@ -61,7 +65,8 @@ pub record NamesBroken (g : Signed) (colours : List Bool) (kind : Kind) (b : Bro
   pub second : b.b ≡ (edge_at g b.edge).b
 
 -- the lines, each of which is at an edge, name all broken edges of this kind, each once, in order
-pub record NameAllBroken {X : Type 0} (g : Signed) (colours : List Bool) (kind : Kind) (at : X → Broken) (lines : List X)
+pub record NameAllBroken {X : Type 0} (g : Signed) (colours : List Bool) (kind : Kind)
+    (at : X → Broken) (lines : List X)
     : Type 0 where
   pub each : All (λ x. NamesBroken g colours kind (at x)) lines
   pub all : (e : ℕ) → IsBrokenEdge g colours kind e → Any (λ x. (at x).edge ≡ e) lines
@@ -93,7 +98,8 @@ pub record AreToldClose (f : Fragments) (net : Net) (r : PlainReport) (x y x' y'
   pub told : Any (JoinsPieces net.pieces i j) r.lists.clashes
 
 -- the two fragments of the line hold cells of two shapes that are too close and on one mask
-pub record TellsClose (cells : ℤ → ℤ → Bool) (space : ℕ) (f : Fragments) (r : PlainReport) (b : Broken) : Type 0 where
+pub record TellsClose (cells : ℤ → ℤ → Bool) (space : ℕ) (f : Fragments) (r : PlainReport)
+    (b : Broken) : Type 0 where
   pub x : ℤ
   pub y : ℤ
   pub x' : ℤ
@@ -105,7 +111,8 @@ pub record TellsClose (cells : ℤ → ℤ → Bool) (space : ℕ) (f : Fragment
 
 -- What the masks of a report are of the cells of a layer, of its fragments and of their net. The text of the report,
 -- read again as CIF, breaks no rule, and its two layers have exactly the boxes and the cells of the two masks.
-pub record AreMasksOf (o : Options) (cells : ℤ → ℤ → Bool) (tiles : List Corners) (f : Fragments) (net : Net)
+pub record AreMasksOf (o : Options) (cells : ℤ → ℤ → Bool) (tiles : List Corners) (f : Fragments)
+    (net : Net)
     (r : PlainReport) : Type 0 where
   pub together : HoldTogether cells r
   pub overlap : OverlapInZones r
@@ -113,6 +120,7 @@ pub record AreMasksOf (o : Options) (cells : ℤ → ℤ → Bool) (tiles : List
   pub stitches : NameAllBroken net.graph r.head.colours Stitch (λ z. z.at) r.lists.cuts
   pub clashes : NameAllBroken net.graph r.head.colours Clash (λ b. b) r.lists.clashes
   pub told : (x y x' y' : ℤ) →
-      AreTooClose cells (2 * o.space) x y x' y' → AreOnOneMask r x y x' y' → AreToldClose f net r x y x' y'
+      AreTooClose cells (2 * o.space) x y x' y' → AreOnOneMask r x y x' y' →
+      AreToldClose f net r x y x' y'
   pub close : All (TellsClose cells (2 * o.space) f r) r.lists.clashes
   pub drawn : DrawsMasks o.layer r.on_a r.on_b (report_text r)

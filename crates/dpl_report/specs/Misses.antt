@@ -8,7 +8,8 @@ abbrev pub miss : ℕ → ℤ → ℤ → Miss
 miss place found wanted = record { place = place; found = found; wanted = wanted }
 
 abbrev pub number_miss : ℕ → ℕ → ℕ → Option Miss
-number_miss place found wanted = if found == wanted then None else Some (miss place (pos found) (pos wanted))
+number_miss place found wanted =
+    if found == wanted then None else Some (miss place (pos found) (pos wanted))
 
 -- two numbers of any sign
 abbrev pub pair_miss : ℕ → ℤ → ℤ → Option Miss
@@ -19,7 +20,8 @@ abbrev pub name_miss : ℕ → List ℕ → List ℕ → Option Miss
 name_miss place [] [] = None
 name_miss place [] (b ∷ bs) = pair_miss place (pos 256) (pos b)
 name_miss place (a ∷ others) [] = pair_miss place (pos a) (pos 256)
-name_miss place (a ∷ others) (b ∷ bs) = or_else (pair_miss place (pos a) (pos b)) (name_miss place others bs)
+name_miss place (a ∷ others) (b ∷ bs) =
+    or_else (pair_miss place (pos a) (pos b)) (name_miss place others bs)
 
 -- the first numbers that differ
 abbrev pub numbers_miss : ℕ → List ℤ → List ℤ → Option Miss

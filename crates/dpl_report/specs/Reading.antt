@@ -59,7 +59,8 @@ abbrev pub from_edge : {X : Type 0} → ℕ → ℕ → X → Option X
 from_edge least edge x = if nat_le least edge then Some x else None
 
 abbrev pub item_clash : ℕ → List ℕ → Option Broken
-item_clash least line = broken_from (numbers_in line) >>= λ b. from_edge least b.edge b >>= if_written lines.clash_line line
+item_clash least line = broken_from (numbers_in line) >>= λ b.
+    from_edge least b.edge b >>= if_written lines.clash_line line
 
 abbrev pub is_stretch : ℤ → ℤ → Bool
 is_stretch a b = int_lt a b && int_le (neg_ℤ (pos (2 ^ 30))) a && int_le b (pos (2 ^ 30))
@@ -79,14 +80,16 @@ zone_from (e ∷ a ∷ b ∷ zs) = ends_from e a b >>= λ at. zone_with at zs
 zone_from _ = None
 
 abbrev pub item_cut : ℕ → List ℕ → Option PlainZone
-item_cut least line = zone_from (numbers_in line) >>= λ z. from_edge least z.at.edge z >>= if_written lines.cut_line line
+item_cut least line = zone_from (numbers_in line) >>= λ z.
+    from_edge least z.at.edge z >>= if_written lines.cut_line line
 
 abbrev pub aside_from : List ℤ → Option ℕ
 aside_from (e ∷ []) = number_of e
 aside_from _ = None
 
 abbrev pub item_aside : ℕ → List ℕ → Option ℕ
-item_aside least line = aside_from (numbers_in line) >>= λ e. from_edge least e e >>= if_written lines.aside_line line
+item_aside least line = aside_from (numbers_in line) >>= λ e.
+    from_edge least e e >>= if_written lines.aside_line line
 
 abbrev pub edges_of : List ℤ → Option (List ℕ)
 edges_of [] = Some []
@@ -94,7 +97,8 @@ edges_of (z ∷ zs) = number_of z >>= λ e. edges_of zs >>= λ es. Some (e ∷ e
 
 abbrev pub cycle_with : ℕ → ℕ → List ℕ → Option Cycle
 cycle_with half start [] = None
-cycle_with half start (e ∷ es) = if half == 0 then None else Some (record { half = half; walk = record { start = start; edges = e ∷ es } })
+cycle_with half start (e ∷ es) = if half == 0 then None
+    else Some (record { half = half; walk = record { start = start; edges = e ∷ es } })
 
 abbrev pub cycle_from : List ℤ → Option Cycle
 cycle_from (h ∷ s ∷ zs) = do
@@ -115,7 +119,8 @@ abbrev pub high_corner : ℤ → ℤ → ℤ
 high_corner middle length = int_div ((middle *ℤ pos 2) +ℤ length) (pos 4)
 
 abbrev pub box_by : ℤ → ℤ → ℤ → ℤ → Option Corners
-box_by l w x y = rectangle_of (record { x1 = low_corner x l; y1 = low_corner y w; x2 = high_corner x l; y2 = high_corner y w })
+box_by l w x y = rectangle_of (record { x1 = low_corner x l; y1 = low_corner y w; x2 =
+    high_corner x l; y2 = high_corner y w })
 
 abbrev pub box_from : List ℤ → Option Corners
 box_from (l ∷ w ∷ x ∷ y ∷ []) = box_by l w x y
@@ -141,7 +146,8 @@ abbrev pub of_length : ℕ → List Bool → Option (List Bool)
 of_length n colours = if length colours == n then Some colours else None
 
 abbrev pub item_masks : ℕ → List ℕ → Option (List Bool)
-item_masks fragments line = of_length fragments (colours_from (between 7 line)) >>= if_written lines.masks_line line
+item_masks fragments line =
+    of_length fragments (colours_from (between 7 line)) >>= if_written lines.masks_line line
 
 -- exactly this line
 abbrev pub item_line : List ℕ → List ℕ → Option (Unit {0})
@@ -165,22 +171,30 @@ abbrev pub then_ : {X Y : Type 0} → Reader X → Reader Y → Reader (X × Y)
 then_ f g = both f (λ _. g)
 
 abbrev pub params_of : Unit {0} × (List ℕ × (ℕ × (ℕ × (ℕ × ℕ)))) → Params
-params_of v = record { layer = v.1.0; space = v.1.1.0; overlap = v.1.1.1.0; stitch = v.1.1.1.1.0; conflict = v.1.1.1.1.1 }
+params_of v = record { layer = v.1.0; space = v.1.1.0; overlap = v.1.1.1.0; stitch =
+    v.1.1.1.1.0; conflict = v.1.1.1.1.1 }
 
 unfoldable pub read_params : Reader Params
-read_params = seen params_of (then_ (exactly lines.version_line) (then_ read_layer (then_ (count (codes "space")) (then_ (count (codes "overlap")) (then_ (count (codes "stitch")) (count (codes "conflict")))))))
+read_params = seen params_of (then_ (exactly lines.version_line)
+    (then_ read_layer (then_ (count (codes "space"))
+    (then_ (count (codes "overlap")) (then_ (count (codes "stitch")) (count (codes "conflict")))))))
 
 abbrev pub counts_of : ℕ × (ℕ × (ℕ × (ℕ × (ℕ × ℕ)))) → Counts
-counts_of v = record { pieces = v.0; fragments = v.1.0; bonds = v.1.1.0; stitches = v.1.1.1.0; clashes = v.1.1.1.1.0; excess = v.1.1.1.1.1 }
+counts_of v = record { pieces = v.0; fragments = v.1.0; bonds = v.1.1.0; stitches =
+    v.1.1.1.0; clashes = v.1.1.1.1.0; excess = v.1.1.1.1.1 }
 
 unfoldable pub read_counts : Reader Counts
-read_counts = seen counts_of (then_ (count (codes "pieces")) (then_ (count (codes "fragments")) (then_ (count (codes "bonds")) (then_ (count (codes "stitches")) (then_ (count (codes "clashes")) (count (codes "excess")))))))
+read_counts = seen counts_of (then_ (count (codes "pieces"))
+    (then_ (count (codes "fragments")) (then_ (count (codes "bonds"))
+    (then_ (count (codes "stitches")) (then_ (count (codes "clashes")) (count (codes "excess")))))))
 
 abbrev pub head_of : Params × (Counts × (ℕ × (ℕ × List Bool))) → PlainHead
-head_of v = record { params = v.0; counts = v.1.0; cost = v.1.1.0; bound = v.1.1.1.0; colours = v.1.1.1.1 }
+head_of v = record { params = v.0; counts = v.1.0; cost = v.1.1.0; bound = v.1.1.1.0; colours =
+    v.1.1.1.1 }
 
 unfoldable pub read_head : Reader PlainHead
-read_head = seen head_of (then_ read_params (both read_counts (λ k. then_ (count (codes "cost")) (then_ (count (codes "bound")) (read_masks k.fragments)))))
+read_head = seen head_of (then_ read_params (both read_counts (λ k.
+    then_ (count (codes "cost")) (then_ (count (codes "bound")) (read_masks k.fragments)))))
 
 -- as many lines as read as items, with a state
 abbrev pub block : {S X : Type 0} → (S → List ℕ → Option X) → (X → S) → S → Reader (List X)
@@ -212,10 +226,13 @@ unfoldable pub read_mask : List ℕ → ℕ → Reader (List Corners)
 read_mask name mask = seen (λ v. v.1) (then_ (exactly (lines.mask_line name mask)) read_boxes)
 
 unfoldable pub read_last : Reader (Unit {0})
-read_last = seen (λ _. tt) (then_ (exactly (codes "DF;\n")) (then_ (exactly (codes "C 1;\n")) (exactly (codes "E\n"))))
+read_last = seen (λ _. tt) (then_ (exactly (codes "DF;\n"))
+    (then_ (exactly (codes "C 1;\n")) (exactly (codes "E\n"))))
 
 unfoldable pub read_drawing : List ℕ → Reader (List Corners × List Corners)
-read_drawing name = seen (λ v. (v.1.0, v.1.1.0)) (then_ (exactly lines.start_line) (then_ (read_mask name 65) (then_ (read_mask name 66) read_last)))
+read_drawing name = seen (λ v.
+    (v.1.0, v.1.1.0)) (then_ (exactly lines.start_line)
+    (then_ (read_mask name 65) (then_ (read_mask name 66) read_last)))
 
 abbrev pub report_of : PlainHead × (PlainLists × (List Corners × List Corners)) → PlainReport
 report_of v = record { head = v.0; lists = v.1.0; on_a = v.1.1.0; on_b = v.1.1.1 }

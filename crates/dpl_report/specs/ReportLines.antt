@@ -39,7 +39,8 @@ abbrev pub broken_numbers : Broken → List ℤ
 broken_numbers b = pos b.edge ∷ pos b.a ∷ pos b.b ∷ []
 
 abbrev pub zone_numbers : PlainZone → List ℤ
-zone_numbers z = pos z.at.edge ∷ pos z.at.a ∷ pos z.at.b ∷ z.corners.x1 ∷ z.corners.y1 ∷ z.corners.x2 ∷ z.corners.y2 ∷ []
+zone_numbers z = pos z.at.edge ∷ pos z.at.a ∷ pos z.at.b ∷ z.corners.x1 ∷ z.corners.y1
+    ∷ z.corners.x2 ∷ z.corners.y2 ∷ []
 
 abbrev pub cycle_numbers : Cycle → List ℤ
 cycle_numbers c = pos c.half ∷ pos c.walk.start ∷ map pos c.walk.edges
@@ -67,25 +68,32 @@ abbrev pub last_lines : List (List ℕ)
 last_lines = codes "DF;\n" ∷ codes "C 1;\n" ∷ codes "E\n" ∷ []
 
 abbrev pub params_lines : Params → List (List ℕ)
-params_lines p = version_line ∷ layer_line p.layer ∷ count_line (codes "space") p.space ∷ count_line (codes "overlap") p.overlap ∷ count_line (codes "stitch") p.stitch ∷ count_line (codes "conflict") p.conflict ∷ []
+params_lines p = version_line ∷ layer_line p.layer ∷ count_line (codes "space") p.space
+    ∷ count_line (codes "overlap") p.overlap ∷ count_line (codes "stitch") p.stitch
+    ∷ count_line (codes "conflict") p.conflict ∷ []
 
 abbrev pub first_counts : Counts → List (List ℕ)
-first_counts k = count_line (codes "pieces") k.pieces ∷ count_line (codes "fragments") k.fragments ∷ count_line (codes "bonds") k.bonds ∷ []
+first_counts k = count_line (codes "pieces") k.pieces ∷ count_line (codes "fragments") k.fragments
+    ∷ count_line (codes "bonds") k.bonds ∷ []
 
 abbrev pub other_counts : Counts → List (List ℕ)
-other_counts k = count_line (codes "stitches") k.stitches ∷ count_line (codes "clashes") k.clashes ∷ count_line (codes "excess") k.excess ∷ []
+other_counts k = count_line (codes "stitches") k.stitches ∷ count_line (codes "clashes") k.clashes
+    ∷ count_line (codes "excess") k.excess ∷ []
 
 abbrev pub counts_lines : Counts → List (List ℕ)
 counts_lines k = first_counts k ++ other_counts k
 
 abbrev pub costs_lines : ℕ → ℕ → List Bool → List (List ℕ)
-costs_lines cost bound colours = count_line (codes "cost") cost ∷ count_line (codes "bound") bound ∷ masks_line colours ∷ []
+costs_lines cost bound colours =
+    count_line (codes "cost") cost ∷ count_line (codes "bound") bound ∷ masks_line colours ∷ []
 
 abbrev pub head_lines : PlainHead → List (List ℕ)
-head_lines h = params_lines h.params ++ (counts_lines h.counts ++ costs_lines h.cost h.bound h.colours)
+head_lines h = params_lines h.params ++ (counts_lines h.counts
+    ++ costs_lines h.cost h.bound h.colours)
 
 abbrev pub lists_lines : PlainLists → List (List ℕ)
-lists_lines l = map cut_line l.cuts ++ (map clash_line l.clashes ++ (map aside_line l.aside ++ map cycle_line l.cycles))
+lists_lines l = map cut_line l.cuts ++ (map clash_line l.clashes
+    ++ (map aside_line l.aside ++ map cycle_line l.cycles))
 
 -- the layer of a mask, and its boxes
 abbrev pub mask_lines : List ℕ → ℕ → List Corners → List (List ℕ)
@@ -93,10 +101,12 @@ mask_lines name mask boxes = mask_line name mask ∷ map box_line boxes
 
 -- one definition in quarters of a hundredth of a micron, with a layer for each mask
 abbrev pub drawing_lines : List ℕ → List Corners → List Corners → List (List ℕ)
-drawing_lines name on_a on_b = start_line ∷ (mask_lines name 65 on_a ++ (mask_lines name 66 on_b ++ last_lines))
+drawing_lines name on_a on_b =
+    start_line ∷ (mask_lines name 65 on_a ++ (mask_lines name 66 on_b ++ last_lines))
 
 abbrev pub report_lines : PlainReport → List (List ℕ)
-report_lines r = head_lines r.head ++ (lists_lines r.lists ++ drawing_lines r.head.params.layer r.on_a r.on_b)
+report_lines r = head_lines r.head ++ (lists_lines r.lists
+    ++ drawing_lines r.head.params.layer r.on_a r.on_b)
 
 abbrev pub report_text : PlainReport → List ℕ
 report_text r = text_of (report_lines r)

@@ -34,29 +34,35 @@ counts_of_net net = record {
 }
 
 abbrev pub rects_of : Fragments → PlainReport → Option Miss
-rects_of f r = drawing_miss r.on_a r.on_b (map corners_of (mask_of false f r.head.colours)) (map corners_of (mask_of true f r.head.colours))
+rects_of f r = drawing_miss r.on_a r.on_b (map corners_of (mask_of false f r.head.colours))
+    (map corners_of (mask_of true f r.head.colours))
 
 -- Each condition, and behind it those that come later.
 abbrev pub rects_refusal : Fragments → PlainReport → Option Refusal
 rects_refusal f r = refused 9 (rects_of f r)
 
 abbrev pub packing_refusal : Fragments → Net → PlainReport → Option Refusal
-packing_refusal f net r = or_else (refused 8 (packing_miss net.graph r.head.bound r.lists.cycles)) (rects_refusal f r)
+packing_refusal f net r =
+    or_else (refused 8 (packing_miss net.graph r.head.bound r.lists.cycles)) (rects_refusal f r)
 
 abbrev pub walks_refusal : Fragments → Net → PlainReport → Option Refusal
-walks_refusal f net r = or_else (refused 7 (walks_miss net.graph 0 r.lists.cycles)) (packing_refusal f net r)
+walks_refusal f net r = or_else (refused 7 (walks_miss net.graph 0 r.lists.cycles))
+    (packing_refusal f net r)
 
 abbrev pub aside_refusal : Fragments → Net → PlainReport → Option Refusal
-aside_refusal f net r = or_else (refused 6 (aside_miss r.lists.aside (aside_edges net))) (walks_refusal f net r)
+aside_refusal f net r = or_else (refused 6 (aside_miss r.lists.aside (aside_edges net)))
+    (walks_refusal f net r)
 
 abbrev pub broken_refusal : Fragments → Net → PlainReport → Option Refusal
 broken_refusal f net r = or_else (refused 5 (broken_miss f net r)) (aside_refusal f net r)
 
 abbrev pub bonds_refusal : Fragments → Net → PlainReport → Option Refusal
-bonds_refusal f net r = or_else (refused 4 (bonds_miss r.head.colours 0 net.graph.edges)) (broken_refusal f net r)
+bonds_refusal f net r = or_else (refused 4 (bonds_miss r.head.colours 0 net.graph.edges))
+    (broken_refusal f net r)
 
 abbrev pub counts_refusal : Fragments → Net → PlainReport → Option Refusal
-counts_refusal f net r = or_else (refused 3 (counts_miss r.head.counts (counts_of_net net))) (bonds_refusal f net r)
+counts_refusal f net r =
+    or_else (refused 3 (counts_miss r.head.counts (counts_of_net net))) (bonds_refusal f net r)
 
 -- conditions 2 to 9 of a report, in order
 abbrev pub refusal_of : Options → Fragments → Net → PlainReport → Option Refusal
@@ -64,7 +70,8 @@ refusal_of o f net r = or_else (refused 2 (params_miss r.head.params o)) (counts
 
 -- condition 1, and then the others
 abbrev pub refusal_from : Options → Fragments → Net → List ℕ → Result PlainReport ℕ → Option Refusal
-refusal_from o f net text (Err left) = refused 1 (Some (miss (length (lines_in text) - left + 1) (pos 0) (pos 0)))
+refusal_from o f net text (Err left) =
+    refused 1 (Some (miss (length (lines_in text) - left + 1) (pos 0) (pos 0)))
 refusal_from o f net text (Ok r) = refusal_of o f net r
 
 abbrev pub refusal : Options → Fragments → Net → List ℕ → Option Refusal

@@ -16,7 +16,8 @@ use std::alloc::Global;
 
 #[tactic(auto, unfolding(crate::specs::Reading::read_cuts))]
 pub fn cuts(alloc: Global, text: &[u8]) -> Result<(Vec<Zone>, &[u8]), Stop>
-    ensures { Gives (λ x. (map plain_zone x.0.items, lines_in x.1.now)) result (reading.read_cuts (lines_in text.now)) }
+    ensures { Gives (λ x. (map plain_zone x.0.items,
+        lines_in x.1.now)) result (reading.read_cuts (lines_in text.now)) }
 {
     let mut found = Vec::new(alloc);
     let mut rest = text;
@@ -34,7 +35,8 @@ pub fn cuts(alloc: Global, text: &[u8]) -> Result<(Vec<Zone>, &[u8]), Stop>
 
 #[tactic(auto, unfolding(crate::specs::Reading::read_clashes))]
 pub fn clashes(alloc: Global, text: &[u8]) -> Result<(Vec<Broken>, &[u8]), Stop>
-    ensures { Gives (λ x. (x.0.items, lines_in x.1.now)) result (reading.read_clashes (lines_in text.now)) }
+    ensures { Gives (λ x. (x.0.items, lines_in x.1.now)) result
+        (reading.read_clashes (lines_in text.now)) }
 {
     let mut found = Vec::new(alloc);
     let mut rest = text;
@@ -52,7 +54,8 @@ pub fn clashes(alloc: Global, text: &[u8]) -> Result<(Vec<Broken>, &[u8]), Stop>
 
 #[tactic(auto, unfolding(crate::specs::Reading::read_aside))]
 pub fn aside(alloc: Global, text: &[u8]) -> Result<(Vec<u32>, &[u8]), Stop>
-    ensures { Gives (λ x. (x.0.items, lines_in x.1.now)) result (reading.read_aside (lines_in text.now)) }
+    ensures { Gives (λ x. (x.0.items, lines_in x.1.now)) result
+        (reading.read_aside (lines_in text.now)) }
 {
     let mut found = Vec::new(alloc);
     let mut rest = text;
@@ -70,7 +73,8 @@ pub fn aside(alloc: Global, text: &[u8]) -> Result<(Vec<u32>, &[u8]), Stop>
 
 #[tactic(auto, unfolding(crate::specs::Reading::read_cycles))]
 pub fn cycles(alloc: Global, text: &[u8]) -> Result<(Vec<Cycle>, &[u8]), Stop>
-    ensures { Gives (λ x. (x.0.items, lines_in x.1.now)) result (reading.read_cycles (lines_in text.now)) }
+    ensures { Gives (λ x. (x.0.items, lines_in x.1.now)) result
+        (reading.read_cycles (lines_in text.now)) }
 {
     let mut found = Vec::new(alloc);
     let mut rest = text;
@@ -86,7 +90,8 @@ pub fn cycles(alloc: Global, text: &[u8]) -> Result<(Vec<Cycle>, &[u8]), Stop>
 
 #[tactic(auto, unfolding(crate::specs::Reading::read_boxes))]
 pub fn boxes(alloc: Global, text: &[u8]) -> Result<(Vec<Rect>, &[u8]), Stop>
-    ensures { Gives (λ x. (map corners_of x.0.items, lines_in x.1.now)) result (reading.read_boxes (lines_in text.now)) }
+    ensures { Gives (λ x. (map corners_of x.0.items,
+        lines_in x.1.now)) result (reading.read_boxes (lines_in text.now)) }
 {
     let mut found = Vec::new(alloc);
     let mut rest = text;

@@ -28,7 +28,8 @@ pub struct Lists {
 
 #[tactic(auto, unfolding(crate::specs::Reading::read_lists))]
 pub fn lists_of(alloc: Global, text: &[u8]) -> Result<(Lists, &[u8]), Stop>
-    ensures { Gives (λ x. (plain_lists x.0, lines_in x.1.now)) result (reading.read_lists (lines_in text.now)) }
+    ensures { Gives (λ x. (plain_lists x.0, lines_in x.1.now)) result
+        (reading.read_lists (lines_in text.now)) }
 {
     let (cuts, rest) = cuts(alloc, text)?;
     let (clashes, rest) = clashes(alloc, rest)?;
@@ -51,7 +52,8 @@ fn mask<'a>(
     letter: u8,
     text: &'a [u8],
 ) -> Result<(Vec<Rect>, &'a [u8]), Stop>
-    ensures { Gives (λ x. (map corners_of x.0.items, lines_in x.1.now)) result (reading.read_mask name.now letter (lines_in text.now)) }
+    ensures { Gives (λ x. (map corners_of x.0.items,
+        lines_in x.1.now)) result (reading.read_mask name.now letter (lines_in text.now)) }
 {
     let mut wanted = Vec::new(alloc);
     push_mask(&mut wanted, name, letter)?;
@@ -81,7 +83,8 @@ pub fn drawing_of<'a>(
     name: &[u8],
     text: &'a [u8],
 ) -> Result<(Drawing, &'a [u8]), Stop>
-    ensures { Gives (λ x. ((map corners_of x.0.on_a.items, map corners_of x.0.on_b.items), lines_in x.1.now)) result (reading.read_drawing name.now (lines_in text.now)) }
+    ensures { Gives (λ x. ((map corners_of x.0.on_a.items, map corners_of x.0.on_b.items),
+        lines_in x.1.now)) result (reading.read_drawing name.now (lines_in text.now)) }
 {
     let rest = exactly(b"DS 1 1 4;\n", text)?;
     let (on_a, rest) = mask(alloc, name, b'A', rest)?;

@@ -18,7 +18,8 @@ fn is_broken_clash(colours: &[bool], edge: &Edge) -> bool
 }
 
 fn push_where(found: &mut Vec<Broken>, holds: bool, broken: Broken) -> Result<(), NoMemory>
-    ensures { OnOk result (found.new.items ≡ found.old.items ++ conditions.where_broken holds broken []) }
+    ensures { OnOk result (found.new.items ≡ found.old.items
+        ++ conditions.where_broken holds broken []) }
 {
     if holds {
         found.push(broken)?;

@@ -45,7 +45,8 @@ pub fn masks_are_of_the_layer(options: &Options, fragments: &Fragments, net: &Ne
     requires valid { IsReport (plain_report report.now) }
     requires good { refusal_of options.now fragments.now net.now (plain_report report.now) ≡ None }
     requires net { IsNet fragments.now options.now.weights (2 * options.now.space) net.now }
-    ensures { (cells : ℤ → ℤ → Bool) (tiles : List Corners) → AreCutFrom options.now cells tiles fragments.now →
+    ensures { (cells : ℤ → ℤ → Bool) (tiles : List Corners) →
+        AreCutFrom options.now cells tiles fragments.now →
         AreMasksOf options.now cells tiles fragments.now net.now (plain_report report.now) }
 {
     let _name = options.layer.bytes();

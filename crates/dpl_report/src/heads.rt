@@ -23,7 +23,8 @@ pub struct Head {
 
 #[tactic(auto, unfolding(crate::specs::Reading::read_params))]
 fn params(alloc: Global, text: &[u8]) -> Result<(Params, &[u8]), Stop>
-    ensures { Gives (λ x. (x.0, lines_in x.1.now)) result (reading.read_params (lines_in text.now)) }
+    ensures { Gives (λ x. (x.0, lines_in x.1.now)) result
+        (reading.read_params (lines_in text.now)) }
 {
     let rest = exactly(b"(dpl 1);\n", text)?;
     let (layer, rest) = layer(alloc, rest)?;
@@ -43,7 +44,8 @@ fn params(alloc: Global, text: &[u8]) -> Result<(Params, &[u8]), Stop>
 
 #[tactic(auto, unfolding(crate::specs::Reading::read_counts))]
 fn counts(alloc: Global, text: &[u8]) -> Result<(Counts, &[u8]), Stop>
-    ensures { Gives (λ x. (x.0, lines_in x.1.now)) result (reading.read_counts (lines_in text.now)) }
+    ensures { Gives (λ x. (x.0, lines_in x.1.now)) result
+        (reading.read_counts (lines_in text.now)) }
 {
     let (pieces, rest) = count(alloc, b"pieces", text)?;
     let (fragments, rest) = count(alloc, b"fragments", rest)?;
@@ -64,7 +66,8 @@ fn counts(alloc: Global, text: &[u8]) -> Result<(Counts, &[u8]), Stop>
 
 #[tactic(auto, unfolding(crate::specs::Reading::read_head))]
 pub fn head_of(alloc: Global, text: &[u8]) -> Result<(Head, &[u8]), Stop>
-    ensures { Gives (λ x. (plain_head x.0, lines_in x.1.now)) result (reading.read_head (lines_in text.now)) }
+    ensures { Gives (λ x. (plain_head x.0, lines_in x.1.now)) result
+        (reading.read_head (lines_in text.now)) }
 {
     let (params, rest) = params(alloc, text)?;
     let (counts, rest) = counts(alloc, rest)?;

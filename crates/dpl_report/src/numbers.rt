@@ -25,7 +25,8 @@ pub fn numbers_in(alloc: Global, line: &[u8]) -> Result<Vec<i64>, NoMemory>
 }
 
 fn next_number(numbers: &mut Numbers<'_>) -> Option<i64>
-    ensures { MatchOption result (signed_of numbers.old ≡ None) (λ z. signed_of numbers.old ≡ Some (z, numbers.new)) }
+    ensures { MatchOption result (signed_of numbers.old ≡ None) (λ z.
+        signed_of numbers.old ≡ Some (z, numbers.new)) }
 {
     match numbers.signed() {
         Num::Value(number) => Some(number),

@@ -14,7 +14,8 @@ use std::alloc::Global;
 /// The number behind this word.
 #[tactic(auto, unfolding(crate::specs::Reading::count))]
 pub fn count<'a>(alloc: Global, word: &[u8], text: &'a [u8]) -> Result<(u64, &'a [u8]), Stop>
-    ensures { Gives (λ x. (x.0, lines_in x.1.now)) result (reading.count word.now (lines_in text.now)) }
+    ensures { Gives (λ x. (x.0, lines_in x.1.now)) result
+        (reading.count word.now (lines_in text.now)) }
 {
     match first_line(text) {
         None => Err(stop_at(text)),
@@ -28,7 +29,8 @@ pub fn count<'a>(alloc: Global, word: &[u8], text: &'a [u8]) -> Result<(u64, &'a
 /// What follows exactly this line.
 #[tactic(auto, unfolding(crate::specs::Reading::exactly))]
 pub fn exactly<'a>(wanted: &[u8], text: &'a [u8]) -> Result<&'a [u8], Stop>
-    ensures { Gives (λ x. (tt, lines_in x.now)) result (reading.exactly wanted.now (lines_in text.now)) }
+    ensures { Gives (λ x. (tt, lines_in x.now)) result
+        (reading.exactly wanted.now (lines_in text.now)) }
 {
     match first_line(text) {
         Some((line, rest)) if wanted == line => Ok(rest),
@@ -51,7 +53,8 @@ pub fn layer(alloc: Global, text: &[u8]) -> Result<(Name, &[u8]), Stop>
 
 #[tactic(auto, unfolding(crate::specs::Reading::read_masks))]
 pub fn masks(alloc: Global, fragments: u64, text: &[u8]) -> Result<(Vec<bool>, &[u8]), Stop>
-    ensures { Gives (λ x. (x.0.items, lines_in x.1.now)) result (reading.read_masks fragments (lines_in text.now)) }
+    ensures { Gives (λ x. (x.0.items, lines_in x.1.now)) result
+        (reading.read_masks fragments (lines_in text.now)) }
 {
     match first_line(text) {
         None => Err(stop_at(text)),

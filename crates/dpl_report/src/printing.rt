@@ -58,7 +58,8 @@ fn push_counts(out: &mut Vec<u8>, k: &Counts) -> Result<(), NoMemory>
 }
 
 fn push_cuts(out: &mut Vec<u8>, cuts: &[Zone]) -> Result<(), NoMemory>
-    ensures { OnOk result (out.new.items ≡ out.old.items ++ text_of (map cut_line (map plain_zone cuts.now))) }
+    ensures { OnOk result (out.new.items ≡ out.old.items
+        ++ text_of (map cut_line (map plain_zone cuts.now))) }
 {
     for zone in cuts {
         push_cut(out, zone)?;
@@ -94,7 +95,8 @@ fn push_cycles(out: &mut Vec<u8>, cycles: &[Cycle]) -> Result<(), NoMemory>
 }
 
 fn push_boxes(out: &mut Vec<u8>, boxes: &[Rect]) -> Result<(), NoMemory>
-    ensures { OnOk result (out.new.items ≡ out.old.items ++ text_of (map box_line (map corners_of boxes.now))) }
+    ensures { OnOk result (out.new.items ≡ out.old.items
+        ++ text_of (map box_line (map corners_of boxes.now))) }
 {
     for r in boxes {
         push_box(out, r)?;
@@ -103,7 +105,8 @@ fn push_boxes(out: &mut Vec<u8>, boxes: &[Rect]) -> Result<(), NoMemory>
 }
 
 fn push_costs(out: &mut Vec<u8>, r: &Report) -> Result<(), NoMemory>
-    ensures { OnOk result (out.new.items ≡ out.old.items ++ text_of (lines.costs_lines r.now.cost r.now.bound r.now.colours)) }
+    ensures { OnOk result (out.new.items ≡ out.old.items
+        ++ text_of (lines.costs_lines r.now.cost r.now.bound r.now.colours)) }
 {
     push_count(out, b"cost", r.cost)?;
     push_count(out, b"bound", r.bound)?;
@@ -112,7 +115,8 @@ fn push_costs(out: &mut Vec<u8>, r: &Report) -> Result<(), NoMemory>
 }
 
 fn push_head(out: &mut Vec<u8>, r: &Report) -> Result<(), NoMemory>
-    ensures { OnOk result (out.new.items ≡ out.old.items ++ text_of (lines.head_lines (plain_report r.now).head)) }
+    ensures { OnOk result (out.new.items ≡ out.old.items
+        ++ text_of (lines.head_lines (plain_report r.now).head)) }
 {
     push_params(out, &r.params)?;
     push_counts(out, &r.counts)?;
@@ -121,7 +125,8 @@ fn push_head(out: &mut Vec<u8>, r: &Report) -> Result<(), NoMemory>
 }
 
 fn push_lists(out: &mut Vec<u8>, r: &Report) -> Result<(), NoMemory>
-    ensures { OnOk result (out.new.items ≡ out.old.items ++ text_of (lines.lists_lines (plain_report r.now).lists)) }
+    ensures { OnOk result (out.new.items ≡ out.old.items
+        ++ text_of (lines.lists_lines (plain_report r.now).lists)) }
 {
     push_cuts(out, r.cuts.as_slice())?;
     push_clashes(out, r.clashes.as_slice())?;
@@ -130,7 +135,8 @@ fn push_lists(out: &mut Vec<u8>, r: &Report) -> Result<(), NoMemory>
 }
 
 fn push_masked(out: &mut Vec<u8>, name: &[u8], letter: u8, boxes: &[Rect]) -> Result<(), NoMemory>
-    ensures { OnOk result (out.new.items ≡ out.old.items ++ text_of (lines.mask_lines name.now letter (map corners_of boxes.now))) }
+    ensures { OnOk result (out.new.items ≡ out.old.items
+        ++ text_of (lines.mask_lines name.now letter (map corners_of boxes.now))) }
 {
     push_mask(out, name, letter)?;
     push_boxes(out, boxes)
@@ -149,7 +155,9 @@ fn push_last(out: &mut Vec<u8>) -> Result<(), NoMemory>
 }
 
 fn push_drawing(out: &mut Vec<u8>, r: &Report) -> Result<(), NoMemory>
-    ensures { OnOk result (out.new.items ≡ out.old.items ++ text_of (lines.drawing_lines r.now.params.layer (map corners_of r.now.on_a) (map corners_of r.now.on_b))) }
+    ensures { OnOk result (out.new.items ≡ out.old.items
+        ++ text_of (lines.drawing_lines r.now.params.layer (map corners_of r.now.on_a)
+        (map corners_of r.now.on_b))) }
 {
     let name = r.params.layer.bytes();
     push_start(out)?;
@@ -173,7 +181,9 @@ fn write(alloc: Global, r: &Report) -> Result<Vec<u8>, NoMemory>
 pub fn print(alloc: Global, report: &Report) -> Result<Vec<u8>, NoMemory>
     requires { IsReport (plain_report report.now) }
     ensures text { IfOk result (λ v. v.items ≡ report_text (plain_report report.now)) }
-    ensures draws { IfOk result (λ v. DrawsMasks report.now.params.layer (map corners_of report.now.on_a) (map corners_of report.now.on_b) v.items) }
+    ensures draws { IfOk result (λ v.
+        DrawsMasks report.now.params.layer (map corners_of report.now.on_a)
+        (map corners_of report.now.on_b) v.items) }
 {
     write(alloc, report)
 }

@@ -27,7 +27,8 @@ pub enum ReportError {
 
 #[tactic(auto, unfolding(crate::specs::Reading::read_report))]
 fn report_of(alloc: Global, text: &[u8]) -> Result<(Report, &[u8]), Stop>
-    ensures { Gives (λ x. (plain_report x.0, lines_in x.1.now)) result (reading.read_report (lines_in text.now)) }
+    ensures { Gives (λ x. (plain_report x.0, lines_in x.1.now)) result
+        (reading.read_report (lines_in text.now)) }
 {
     let (head, rest) = head_of(alloc, text)?;
     let (lists, rest) = lists_of(alloc, rest)?;
@@ -79,11 +80,13 @@ pub fn parse(alloc: Global, text: &[u8]) -> Result<Report, ReportError>
     // What reading gives.
     ensures told { Tells text.now result }
     // What is read is written so.
-    ensures found { IfOk result (λ r. IsReport (plain_report r) × (text.now ≡ report_text (plain_report r))) }
+    ensures found { IfOk result (λ r. IsReport (plain_report r) ×
+        (text.now ≡ report_text (plain_report r))) }
     // What is written so is read, unless memory runs out.
     ensures only { (r : PlainReport) → IsReport r → text.now ≡ report_text r → Answers r result }
     // Which line cannot stand.
-    ensures wrong { (n : ℕ) → result ≡ Err (ReportError.NotReport n) → IsFirstWrong report_lines IsReport (lines_in text.now) n }
+    ensures wrong { (n : ℕ) → result ≡ Err (ReportError.NotReport n) →
+        IsFirstWrong report_lines IsReport (lines_in text.now) n }
 {
     numbered(alloc, text)
 }

@@ -40,7 +40,8 @@ fn push_here(
     edge: &Edge,
     cuts: &[Cut],
 ) -> Result<(), NoMemory>
-    ensures { OnOk result (map plain_zone found.new.items ≡ map plain_zone found.old.items ++ conditions.zone_here colours.now e edge.now cuts.now []) }
+    ensures { OnOk result (map plain_zone found.new.items ≡ map plain_zone found.old.items
+        ++ conditions.zone_here colours.now e edge.now cuts.now []) }
 {
     if let Some(cut) = cuts.first()
         && is_broken_stitch(colours, edge)
@@ -63,7 +64,8 @@ pub fn broken_cuts(
     cuts: &[Cut],
 ) -> Result<Vec<Zone>, NoMemory>
     requires { length edges.now < 2 ^ 30 }
-    ensures { IfOk result (λ v. map plain_zone v.items ≡ conditions.cuts_from colours.now 0 edges.now cuts.now) }
+    ensures { IfOk result (λ v. map plain_zone v.items
+        ≡ conditions.cuts_from colours.now 0 edges.now cuts.now) }
 {
     let mut found = Vec::new(alloc);
     let mut left = cuts;

@@ -71,14 +71,16 @@ pub fn push_masks(out: &mut Vec<u8>, colours: &[bool]) -> Result<(), NoMemory>
 }
 
 fn push_ends(out: &mut Vec<u8>, b: &Broken, end: &[u8]) -> Result<(), NoMemory>
-    ensures { OnOk result (out.new.items ≡ out.old.items ++ numbered (broken_numbers b.now) end.now) }
+    ensures { OnOk result (out.new.items ≡ out.old.items
+        ++ numbered (broken_numbers b.now) end.now) }
 {
     let numbers = [i64::from(b.edge), i64::from(b.a), i64::from(b.b)];
     push_numbers(out, &numbers, end)
 }
 
 fn push_corners(out: &mut Vec<u8>, r: &Rect, end: &[u8]) -> Result<(), NoMemory>
-    ensures { OnOk result (out.new.items ≡ out.old.items ++ numbered (r.now.x1 ∷ r.now.y1 ∷ r.now.x2 ∷ r.now.y2 ∷ []) end.now) }
+    ensures { OnOk result (out.new.items ≡ out.old.items
+        ++ numbered (r.now.x1 ∷ r.now.y1 ∷ r.now.x2 ∷ r.now.y2 ∷ []) end.now) }
 {
     push_numbers(out, &[r.x1, r.y1, r.x2, r.y2], end)
 }

@@ -45,7 +45,8 @@ impl Block {
     /// A block of `count` places, of which none is written.
     pub(crate) fn take<A: Allocator>(alloc: &A, count: usize) -> Option<(Block, Lease<A>)>
         requires { count < 2 ^ 31 }
-        ensures { IfSome result (λ m. (length m.0.items ≡ count) × (m.1.alloc ≡ alloc.now) × (m.1.at ≡ m.0.at) × (m.1.count ≡ m.0.count)) }
+        ensures { IfSome result (λ m. (length m.0.items ≡ count) × (m.1.alloc ≡ alloc.now) ×
+            (m.1.at ≡ m.0.at) × (m.1.count ≡ m.0.count)) }
     {
         match alloc.allocate(count * size_of::<Pair>(), align_of::<Pair>()) {
             Ok(block) => {
@@ -79,7 +80,9 @@ impl Block {
     /// Writes place `i`.
     pub(crate) fn put(&mut self, i: usize, pair: Pair)
         requires { i < length self.old.items }
-        ensures { (self.new.items ≡ slice_set self.old.items i pair) × (self.new.filled ≡ slice_set self.old.filled i true) × (self.new.at ≡ self.old.at) × (self.new.count ≡ self.old.count) }
+        ensures { (self.new.items ≡ slice_set self.old.items i pair) ×
+            (self.new.filled ≡ slice_set self.old.filled i true) × (self.new.at ≡ self.old.at) ×
+            (self.new.count ≡ self.old.count) }
     {
         unsafe { *self.at.add(i) = pair }
     }

@@ -50,8 +50,10 @@ impl Pairs {
     /// Each of the `n` numbers leads to itself.
     pub(crate) fn new(alloc: Global, n: u32) -> Result<Pairs, AllocError>
         requires { n < 2 ^ 31 }
-        ensures nexts { IfOk result (λ p. (length p.0 ≡ n) × EachIndex p.0 (λ k. slice_index p.0 k ≡ k)) }
-        ensures prevs { IfOk result (λ p. (length p.1 ≡ n) × EachIndex p.1 (λ k. slice_index p.1 k ≡ k)) }
+        ensures nexts { IfOk result (λ p. (length p.0 ≡ n) ×
+            EachIndex p.0 (λ k. slice_index p.0 k ≡ k)) }
+        ensures prevs { IfOk result (λ p. (length p.1 ≡ n) ×
+            EachIndex p.1 (λ k. slice_index p.1 k ≡ k)) }
     {
         match Block::take(&alloc, n as usize) {
             Some((block, lease)) => {

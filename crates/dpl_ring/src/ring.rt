@@ -84,8 +84,10 @@ impl Ring {
         ensures value { self.new ≡ swap self.old i j }
 
         // Where i and j are on one cycle it falls into two, and otherwise their two cycles become one.
-        ensures splits { i ≢ j → least_of self.old i ≡ least_of self.old j → cycle_count self.new ≡ cycle_count self.old + 1 }
-        ensures merges { i ≢ j → least_of self.old i ≢ least_of self.old j → cycle_count self.new + 1 ≡ cycle_count self.old }
+        ensures splits { i ≢ j → least_of self.old i ≡ least_of self.old j →
+            cycle_count self.new ≡ cycle_count self.old + 1 }
+        ensures merges { i ≢ j → least_of self.old i ≢ least_of self.old j →
+            cycle_count self.new + 1 ≡ cycle_count self.old }
     {
         match &mut self.pairs {
             Some(pairs) => exchange(pairs, i, j),

@@ -27,14 +27,17 @@ is_transformation_in_bounds (Rotate to) = is_spot_in_bounds to
 abbrev pub is_command_in_bounds : Command → Bool
 is_command_in_bounds Idle = true
 is_command_in_bounds (Polygon path) = list_all is_spot_in_bounds path
-is_command_in_bounds (Box b) = is_in_bounds b.length && is_in_bounds b.width && is_spot_in_bounds b.centre && is_spot_in_bounds b.direction
+is_command_in_bounds (Box b) = is_in_bounds b.length && is_in_bounds b.width
+    && is_spot_in_bounds b.centre && is_spot_in_bounds b.direction
 is_command_in_bounds (Wire width path) = is_in_bounds width && list_all is_spot_in_bounds path
 is_command_in_bounds (Flash diameter centre) = is_in_bounds diameter && is_spot_in_bounds centre
 is_command_in_bounds (Layer name) = true
-is_command_in_bounds (Start n scale) = is_in_bounds n && is_in_bounds scale.times && is_in_bounds scale.over
+is_command_in_bounds (Start n scale) =
+    is_in_bounds n && is_in_bounds scale.times && is_in_bounds scale.over
 is_command_in_bounds Finish = true
 is_command_in_bounds (Delete n) = is_in_bounds n
-is_command_in_bounds (Call n transformations) = is_in_bounds n && list_all is_transformation_in_bounds transformations
+is_command_in_bounds (Call n transformations) =
+    is_in_bounds n && list_all is_transformation_in_bounds transformations
 
 abbrev pub bounded : Command → Result Command What
 bounded c = if is_command_in_bounds c then Ok c else Err Number

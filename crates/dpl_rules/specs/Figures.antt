@@ -20,11 +20,13 @@ more z by = double z +ℤ pos by
 
 -- the rectangle of this width and height around a centre
 abbrev pub around : ℤ → ℕ → ℤ → ℕ → Extent
-around x across y along = record { x1 = less x across; y1 = less y along; x2 = more x across; y2 = more y along }
+around x across y along =
+    record { x1 = less x across; y1 = less y along; x2 = more x across; y2 = more y along }
 
 -- a direction on the x axis puts the length along x, one on the y axis along y
 abbrev pub box_extent : BoxForm → Extent
-box_extent b = if unsigned_abs b.direction.y == 0 then around b.centre.x b.length b.centre.y b.width else around b.centre.x b.width b.centre.y b.length
+box_extent b = if unsigned_abs b.direction.y == 0 then around b.centre.x b.length b.centre.y b.width
+    else around b.centre.x b.width b.centre.y b.length
 
 -- the least rectangle of two points, wider by half the width on all four sides
 abbrev pub leg : ℕ → Spot → Spot → Extent
@@ -57,7 +59,8 @@ abbrev pub is_spot_on_grid : Scale → Spot → Bool
 is_spot_on_grid scale s = is_on_grid scale (double s.x) && is_on_grid scale (double s.y)
 
 abbrev pub is_extent_on_grid : Scale → Extent → Bool
-is_extent_on_grid scale e = is_on_grid scale e.x1 && is_on_grid scale e.y1 && is_on_grid scale e.x2 && is_on_grid scale e.y2
+is_extent_on_grid scale e =
+    is_on_grid scale e.x1 && is_on_grid scale e.y1 && is_on_grid scale e.x2 && is_on_grid scale e.y2
 
 abbrev pub eq_z : ℤ → ℤ → Bool
 eq_z (pos a) (pos b) = a == b
@@ -89,7 +92,8 @@ slants_round (p ∷ ps) = slants_from p ps || is_slanted (last_of p ps) p
 
 -- a direction lies on an axis and is not (0, 0)
 abbrev pub is_straight : Spot → Bool
-is_straight d = not ((unsigned_abs d.x == 0) && (unsigned_abs d.y == 0)) && ((unsigned_abs d.x == 0) || (unsigned_abs d.y == 0))
+is_straight d = not ((unsigned_abs d.x == 0) && (unsigned_abs d.y == 0))
+    && ((unsigned_abs d.x == 0) || (unsigned_abs d.y == 0))
 
 -- how far the corners of a command in bounds may lie
 pub record IsExtentNear (e : Extent) : Type 0 where

@@ -39,7 +39,8 @@ box_of bytes = do
   width ← unsigned_of length.1
   centre ← spot_of width.1
   let direction = direction_of (spot_of centre.1) centre.1
-  complete (Box (record { length = length.0; width = width.0; centre = centre.0; direction = direction.0 })) direction.1
+  complete (Box (record { length = length.0; width = width.0; centre = centre.0; direction =
+  direction.0 })) direction.1
 
 -- behind `R`
 abbrev pub flash_of : List ℕ → Option Command
@@ -84,7 +85,9 @@ rotate_of bytes = do
   Some (Rotate to.0, to.1)
 
 abbrev pub transformation_of : List ℕ → Option (Transformation × List ℕ)
-transformation_of bytes = or_else (shift_of bytes) (or_else (mirror_x_of bytes) (or_else (mirror_y_of bytes) (rotate_of bytes)))
+transformation_of bytes =
+    or_else (shift_of bytes) (or_else (mirror_x_of bytes)
+    (or_else (mirror_y_of bytes) (rotate_of bytes)))
 
 -- behind `C`: a number and any number of transformations
 abbrev pub call_of : List ℕ → Option Command
@@ -123,7 +126,8 @@ where_there (Some x) f otherwise = f x
 
 -- behind `D`: a start, an end or a deletion
 abbrev pub definition_of : List ℕ → Option Command
-definition_of bytes = where_there (letter 83 bytes) start_of (where_there (letter 70 bytes) (complete Finish) (letter 68 bytes >>= delete_of))
+definition_of bytes = where_there (letter 83 bytes) start_of
+    (where_there (letter 70 bytes) (complete Finish) (letter 68 bytes >>= delete_of))
 
 -- behind `(`, in depth more parentheses: to the one that closes the comment
 abbrev pub comment_of : ℕ → List ℕ → Option Command

@@ -38,7 +38,8 @@ signed_of bytes = number_of (signed_at bytes).0 (signed_at bytes).1
 
 -- an integer without a sign
 abbrev pub unsigned_of : List ℕ → Option (ℕ × List ℕ)
-unsigned_of bytes = number_of (unsigned_at bytes).0 (unsigned_at bytes).1 >>= λ n. Some (unsigned_abs n.0, n.1)
+unsigned_of bytes = number_of (unsigned_at bytes).0 (unsigned_at bytes).1 >>= λ n.
+    Some (unsigned_abs n.0, n.1)
 
 abbrev pub spot : ℤ → ℤ → Spot
 spot x y = record { x = x; y = y }
@@ -50,7 +51,8 @@ spot_of bytes = do
   y ← signed_of x.1
   Some (spot x.0 y.0, y.1)
 
-abbrev pub and_repeated : {X : Type 0} → Option (X × List ℕ) → List ℕ → (List ℕ → List X × List ℕ) → List X × List ℕ
+abbrev pub and_repeated : {X : Type 0} → Option (X × List ℕ) → List ℕ → (List ℕ → List X × List ℕ) →
+    List X × List ℕ
 and_repeated None bytes more = ([], bytes)
 and_repeated (Some x) bytes more = (x.0 ∷ (more x.1).0, (more x.1).1)
 

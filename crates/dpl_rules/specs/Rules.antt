@@ -24,8 +24,10 @@ at_first = record { definition = None; layer = None; outer = None; scale = one_t
 -- What is in force behind a command. Each definition begins with no layer set; after its end the layer set outside is in force again.
 abbrev pub after : List ℕ → Scope → Command → Scope
 after chosen s (Layer name) = record s { layer = Some (bytes_eq name chosen) }
-after chosen s (Start n scale) = record { definition = Some n; layer = None; outer = s.layer; scale = scale }
-after chosen s Finish = record { definition = None; layer = s.outer; outer = None; scale = one_to_one }
+after chosen s (Start n scale) =
+    record { definition = Some n; layer = None; outer = s.layer; scale = scale }
+after chosen s Finish = record { definition = None; layer = s.outer; outer = None; scale =
+    one_to_one }
 after chosen s c = s
 
 abbrev pub is_chosen : Option Bool → Bool
@@ -76,9 +78,11 @@ shifts_off scale t = false
 
 -- a corner of a figure on the chosen layer, or a `T` of any call, is no whole number of grid units
 abbrev pub breaks_off_grid : Scope → Command → Bool
-breaks_off_grid s (Polygon path) = is_chosen s.layer && not (list_all (is_spot_on_grid s.scale) path)
+breaks_off_grid s (Polygon path) =
+    is_chosen s.layer && not (list_all (is_spot_on_grid s.scale) path)
 breaks_off_grid s (Box b) = is_chosen s.layer && not (is_extent_on_grid s.scale (box_extent b))
-breaks_off_grid s (Wire width path) = is_chosen s.layer && not (list_all (is_extent_on_grid s.scale) (legs width path))
+breaks_off_grid s (Wire width path) =
+    is_chosen s.layer && not (list_all (is_extent_on_grid s.scale) (legs width path))
 breaks_off_grid s (Call n transformations) = list_any (shifts_off s.scale) transformations
 breaks_off_grid s c = false
 
@@ -138,11 +142,13 @@ or_later at (Some what) later = Some (fault at what)
 or_later at None later = later
 
 -- The first round: the first command, from this number on, that breaks a rule.
-abbrev pub rule_fault : List ℕ → Scope → List ℕ → ℕ → List (Result Command What) → Ending → Option Fault
+abbrev pub rule_fault : List ℕ → Scope → List ℕ → ℕ → List (Result Command What) → Ending →
+    Option Fault
 rule_fault chosen s seen at [] ending = fault_at_end s at ending
 rule_fault chosen s seen at (Err what ∷ rest) ending = Some (fault at what)
 rule_fault chosen s seen at (Ok c ∷ rest) ending =
-    or_later at (broken_rule s (breaks_twice seen c) c) (rule_fault chosen (after chosen s c) (with_start c seen) (at + 1) rest ending)
+    or_later at (broken_rule s (breaks_twice seen c) c)
+    (rule_fault chosen (after chosen s c) (with_start c seen) (at + 1) rest ending)
 
 -- The second round: the text has no end.
 abbrev pub end_fault : ℕ → Ending → Option Fault

@@ -128,7 +128,8 @@ fn transformation(bytes: &[u8]) -> Option<(Transformation, &[u8])>
 /// As many transformations as stand one after another.
 #[tactic(auto, using(crate::proofs::Repeated::repeated_step, crate::proofs::Repeated::repeated_stop, crate::proofs::Repeated::repeated_none))]
 fn transformations(alloc: Global, bytes: &[u8]) -> Result<(Vec<Transformation>, &[u8]), AllocError>
-    ensures { IfOk result (λ r. (r.0.items, r.1.now) ≡ repeated forms.transformation_of (length bytes.now) bytes.now) }
+    ensures { IfOk result (λ r. (r.0.items, r.1.now)
+        ≡ repeated forms.transformation_of (length bytes.now) bytes.now) }
 {
     let mut found = Vec::new(alloc);
     let mut rest = bytes;

@@ -46,7 +46,8 @@ pub fn spot(bytes: &[u8]) -> Option<(Spot, &[u8])>
 /// As many points as stand one after another.
 #[tactic(auto, using(crate::proofs::Repeated::repeated_step, crate::proofs::Repeated::repeated_stop, crate::proofs::Repeated::repeated_none))]
 pub fn spots(alloc: Global, bytes: &[u8]) -> Result<(Vec<Spot>, &[u8]), AllocError>
-    ensures { IfOk result (λ r. (r.0.items, r.1.now) ≡ repeated spot_of (length bytes.now) bytes.now) }
+    ensures { IfOk result (λ r. (r.0.items, r.1.now)
+        ≡ repeated spot_of (length bytes.now) bytes.now) }
 {
     let mut spots = Vec::new(alloc);
     let mut rest = bytes;

@@ -31,46 +31,65 @@ load_options = record { layer = codes "M"; space = 100; overlap = 20; stitch = 1
 
 -- the line that tells the numbers of a report: its edges are bonds, stitches and clashes
 abbrev pub loaded_line : PlainReport → List ℕ
-loaded_line r = load_line r.head.counts.fragments (r.head.counts.bonds + r.head.counts.stitches + r.head.counts.clashes) r.head.cost r.head.bound (length r.lists.aside)
+loaded_line r = load_line r.head.counts.fragments (r.head.counts.bonds + r.head.counts.stitches
+    + r.head.counts.clashes) r.head.cost r.head.bound (length r.lists.aside)
 
 -- no refusal of a split applies
 abbrev pub IsFree : Options → List ℕ → Type 0
 IsFree o text = (e : LayerError) → ¬ RefusesSplit o text e
 
 -- The status and the output that are due for a command, a layout and a report. The first line that applies decides.
-pub data IsDueOf (command : Result PlainCommand ℕ) (text report : List ℕ) : Status → List ℕ → Type 0 where
+pub data IsDueOf (command : Result PlainCommand ℕ)
+    (text report : List ℕ) : Status → List ℕ → Type 0 where
   misused : (kind : ℕ) → command ≡ Err kind → IsDueOf command text report (Usage kind) []
-  split_long : (plain : PlainOptions) → command ≡ Ok (split plain) → most_bytes < length text → IsDueOf command text report (Limit 1 16777217) []
+  split_long : (plain : PlainOptions) → command ≡ Ok (split plain) → most_bytes < length text →
+      IsDueOf command text report (Limit 1 16777217) []
   split_refused : (o : Options) → command ≡ Ok (split (plain_options o)) → length text ≤ most_bytes
       → (e : LayerError) → RefusesSplit o text e → IsDueOf command text report (status_of e) []
   split_done : (o : Options) → command ≡ Ok (split (plain_options o)) → length text ≤ most_bytes
-      → (output : List ℕ) → IsSplit o text output → IsFree o text → IsDueOf command text report Done output
-  check_long : (plain : PlainOptions) (name : List ℕ) → command ≡ Ok (check plain name) → most_bytes < length text → IsDueOf command text report (Limit 1 16777217) []
-  report_long : (plain : PlainOptions) (name : List ℕ) → command ≡ Ok (check plain name) → length text ≤ most_bytes → most_report < length report
+      → (output : List ℕ) → IsSplit o text output → IsFree o text →
+      IsDueOf command text report Done output
+  check_long : (plain : PlainOptions) (name : List ℕ) → command ≡ Ok (check plain name) →
+      most_bytes < length text → IsDueOf command text report (Limit 1 16777217) []
+  report_long : (plain : PlainOptions) (name : List ℕ) → command ≡ Ok (check plain name) →
+      length text ≤ most_bytes → most_report < length report
       → IsDueOf command text report (Limit 9 268435457) []
-  check_refused : (o : Options) (name : List ℕ) → command ≡ Ok (check (plain_options o) name) → length text ≤ most_bytes → length report ≤ most_report
+  check_refused : (o : Options) (name : List ℕ) → command ≡ Ok (check (plain_options o) name) →
+      length text ≤ most_bytes → length report ≤ most_report
       → (e : LayerError) → RefusesLayer o text e → IsDueOf command text report (status_of e) []
-  rejected : (o : Options) (name : List ℕ) → command ≡ Ok (check (plain_options o) name) → length text ≤ most_bytes → length report ≤ most_report
-      → (reason place : ℕ) (found wanted : ℤ) → IsVerdictOf o text report (No reason place found wanted) → IsDueOf command text report (Rejected reason place found wanted) []
-  accepted : (o : Options) (name : List ℕ) → command ≡ Ok (check (plain_options o) name) → length text ≤ most_bytes → length report ≤ most_report
-      → (cost bound : ℕ) → IsVerdictOf o text report (Yes cost bound) → IsDueOf command text report Done (yes_line cost bound)
-  load_refused : (o : Options) (start rows columns : ℕ) → command ≡ Ok (load start rows columns) → plain_options o ≡ load_options
-      → (e : LayerError) → RefusesSplit o (layout start rows columns) e → IsDueOf command text report (status_of e) []
-  load_done : (o : Options) (start rows columns : ℕ) → command ≡ Ok (load start rows columns) → plain_options o ≡ load_options
-      → (r : PlainReport) → IsReportOf o (layout start rows columns) r → IsFree o (layout start rows columns) → IsDueOf command text report Done (loaded_line r)
+  rejected : (o : Options) (name : List ℕ) → command ≡ Ok (check (plain_options o) name) →
+      length text ≤ most_bytes → length report ≤ most_report
+      → (reason place : ℕ) (found wanted : ℤ) →
+      IsVerdictOf o text report (No reason place found wanted) →
+      IsDueOf command text report (Rejected reason place found wanted) []
+  accepted : (o : Options) (name : List ℕ) → command ≡ Ok (check (plain_options o) name) →
+      length text ≤ most_bytes → length report ≤ most_report
+      → (cost bound : ℕ) → IsVerdictOf o text report (Yes cost bound) →
+      IsDueOf command text report Done (yes_line cost bound)
+  load_refused : (o : Options) (start rows columns : ℕ) → command ≡ Ok (load start rows columns) →
+      plain_options o ≡ load_options
+      → (e : LayerError) → RefusesSplit o (layout start rows columns) e →
+      IsDueOf command text report (status_of e) []
+  load_done : (o : Options) (start rows columns : ℕ) → command ≡ Ok (load start rows columns) →
+      plain_options o ≡ load_options
+      → (r : PlainReport) → IsReportOf o (layout start rows columns) r →
+      IsFree o (layout start rows columns) → IsDueOf command text report Done (loaded_line r)
 
 abbrev pub IsDue : List (List ℕ) → List ℕ → List ℕ → Status → List ℕ → Type 0
 IsDue words = IsDueOf (command_of words)
 
 -- the devices tell this layout and this report, as far as the command reads them
-abbrev pub AreTold : Result PlainCommand ℕ → Option (List ℕ) → Option Texts → List ℕ → List ℕ → Type 0
+abbrev pub AreTold : Result PlainCommand ℕ → Option (List ℕ) → Option Texts → List ℕ → List ℕ →
+    Type 0
 AreTold (Err kind) left texts text report = ⊤
 AreTold (Ok (split plain)) left texts text report = left ≡ Some text
-AreTold (Ok (check plain name)) left texts text report = (left ≡ Some text) × ((ts : Texts) × (texts ≡ Some ts) × (first_text name ts ≡ Some report))
+AreTold (Ok (check plain name)) left texts text report =
+    (left ≡ Some text) × ((ts : Texts) × (texts ≡ Some ts) × (first_text name ts ≡ Some report))
 AreTold (Ok (load start rows columns)) left texts text report = ⊤
 
 -- the status is due, and its output was written
-pub record IsWritten (Due : Status → List ℕ → Type 0) (before now : Option (List ℕ)) (status : Status) : Type 0 where
+pub record IsWritten (Due : Status → List ℕ → Type 0) (before now : Option (List ℕ))
+    (status : Status) : Type 0 where
   pub output : List ℕ
   pub due : Due status output
   pub taken : Appends before now output
@@ -82,7 +101,8 @@ pub record IsCut (Due : Status → List ℕ → Type 0) (before now : Option (Li
   pub taken : AppendsFront before now output
 
 -- what a run answers and writes; a failed read and want of memory may take the place of any answer
-abbrev pub Answers : (Status → List ℕ → Type 0) → Option (List ℕ) → Option (List ℕ) → Status → Type 0
+abbrev pub Answers : (Status → List ℕ → Type 0) → Option (List ℕ) → Option (List ℕ) → Status →
+    Type 0
 Answers Due before now WriteFault = IsCut Due before now
 Answers Due before now ReadFault = ⊤
 Answers Due before now NoMemory = ⊤
@@ -90,7 +110,8 @@ Answers Due before now status = IsWritten Due before now status
 
 -- the status that is due is answered, or memory ran out, or a write failed where something was to be written
 abbrev pub IsAnswered : Status → Status → Type 0
-IsAnswered due result = (result ≡ due) ⊎ (result ≡ NoMemory) ⊎ ((result ≡ WriteFault) × (due ≡ Done))
+IsAnswered due result = (result ≡ due) ⊎ (result ≡ NoMemory) ⊎
+    ((result ≡ WriteFault) × (due ≡ Done))
 
 -- nothing was written, but for a whole output and for a front of one
 abbrev pub IsQuiet : Option (List ℕ) → Option (List ℕ) → Status → Type 0
@@ -107,8 +128,10 @@ PassesBytes most count before now = (count ≡ most) × RoseBy most before.given
 -- `split` and `check` read the layout, and `check` reads the report of its name: a read that fails is one of these
 abbrev pub IsReadFault : Result PlainCommand ℕ → Seen → Seen → Seen → Seen → Type 0
 IsReadFault (Err kind) layout layout_now second second_now = ⊥
-IsReadFault (Ok (split plain)) layout layout_now second second_now = Rose layout.faults layout_now.faults
-IsReadFault (Ok (check plain name)) layout layout_now second second_now = Rose layout.faults layout_now.faults ⊎ Rose second.faults second_now.faults
+IsReadFault (Ok (split plain)) layout layout_now second second_now =
+    Rose layout.faults layout_now.faults
+IsReadFault (Ok (check plain name)) layout layout_now second second_now =
+    Rose layout.faults layout_now.faults ⊎ Rose second.faults second_now.faults
 IsReadFault (Ok (load start rows columns)) layout layout_now second second_now = ⊥
 
 -- no name is asked for but that of the report, and that once at most
@@ -117,7 +140,11 @@ AsksFor name before now = (now.asked ≡ before.asked) ⊎ (now.asked ≡ before
 
 -- the other devices stay as they were
 abbrev pub IsTouched : Result PlainCommand ℕ → Seen → Seen → Seen → Seen → Type 0
-IsTouched (Err kind) layout layout_now second second_now = (layout_now ≡ layout) × (second_now ≡ second)
-IsTouched (Ok (split plain)) layout layout_now second second_now = (layout_now.asked ≡ layout.asked) × (second_now ≡ second)
-IsTouched (Ok (check plain name)) layout layout_now second second_now = (layout_now.asked ≡ layout.asked) × AsksFor name second second_now
-IsTouched (Ok (load start rows columns)) layout layout_now second second_now = (layout_now ≡ layout) × (second_now ≡ second)
+IsTouched (Err kind) layout layout_now second second_now =
+    (layout_now ≡ layout) × (second_now ≡ second)
+IsTouched (Ok (split plain)) layout layout_now second second_now =
+    (layout_now.asked ≡ layout.asked) × (second_now ≡ second)
+IsTouched (Ok (check plain name)) layout layout_now second second_now =
+    (layout_now.asked ≡ layout.asked) × AsksFor name second second_now
+IsTouched (Ok (load start rows columns)) layout layout_now second second_now =
+    (layout_now ≡ layout) × (second_now ≡ second)

@@ -37,18 +37,25 @@ what_number what.NoEnd = 14
 -- the line on the error output
 abbrev pub line_of : Status → List ℕ
 line_of Done = []
-line_of (Rejected reason place found wanted) = codes "dpl: rejected " ++ decimal reason ++ codes " place " ++ decimal place ++ codes " found " ++ signed_decimal found ++ codes " wanted " ++ signed_decimal wanted ++ codes "\n"
+line_of (Rejected reason place found wanted) =
+    codes "dpl: rejected " ++ decimal reason ++ codes " place " ++ decimal place ++ codes " found "
+    ++ signed_decimal found ++ codes " wanted " ++ signed_decimal wanted ++ codes "\n"
 line_of (Usage kind) = codes "dpl: usage " ++ decimal kind ++ codes "\n"
-line_of (Layout command rule) = codes "dpl: layout " ++ decimal (what_number rule) ++ codes " at command " ++ decimal command ++ codes "\n"
-line_of (Limit kind count) = codes "dpl: limit " ++ decimal kind ++ codes " count " ++ decimal count ++ codes "\n"
+line_of (Layout command rule) = codes "dpl: layout " ++ decimal (what_number rule)
+    ++ codes " at command " ++ decimal command ++ codes "\n"
+line_of (Limit kind count) =
+    codes "dpl: limit " ++ decimal kind ++ codes " count " ++ decimal count ++ codes "\n"
 line_of ReadFault = codes "dpl: read fault\n"
 line_of WriteFault = codes "dpl: write fault\n"
 line_of NoMemory = codes "dpl: no memory\n"
 
 -- what `check` writes of a good report
 abbrev pub yes_line : ℕ → ℕ → List ℕ
-yes_line cost bound = codes "yes cost " ++ decimal cost ++ codes " bound " ++ decimal bound ++ codes "\n"
+yes_line cost bound = codes "yes cost " ++ decimal cost ++ codes " bound " ++ decimal bound
+    ++ codes "\n"
 
 -- what `load` writes of a made layout
 abbrev pub load_line : ℕ → ℕ → ℕ → ℕ → ℕ → List ℕ
-load_line fragments edges cost bound aside = codes "fragments " ++ decimal fragments ++ codes " edges " ++ decimal edges ++ codes " cost " ++ decimal cost ++ codes " bound " ++ decimal bound ++ codes " aside " ++ decimal aside ++ codes "\n"
+load_line fragments edges cost bound aside = codes "fragments " ++ decimal fragments
+    ++ codes " edges " ++ decimal edges ++ codes " cost " ++ decimal cost ++ codes " bound "
+    ++ decimal bound ++ codes " aside " ++ decimal aside ++ codes "\n"

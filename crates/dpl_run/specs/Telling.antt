@@ -19,25 +19,30 @@ IsBare status output = output ≡ []
 
 -- why a text was not read whole: the source failed, or gave one byte more than the limit, or memory was wanting
 abbrev pub StopsReading : Seen → Seen → ℕ → ℕ → Status → Type 0
-StopsReading before now kind most (Limit k count) = (k ≡ kind) × (count ≡ most + 1) × RoseBy (most + 1) before.given now.given × IfSome before.left (λ xs. most < length xs)
+StopsReading before now kind most (Limit k count) =
+    (k ≡ kind) × (count ≡ most + 1) × RoseBy (most + 1) before.given now.given ×
+    IfSome before.left (λ xs. most < length xs)
 StopsReading before now kind most ReadFault = Rose before.faults now.faults
 StopsReading before now kind most NoMemory = ⊤
 StopsReading before now kind most status = ⊥
 
 -- the whole output was taken and the status is given
-pub record IsWhole (status : Status) (output : List ℕ) (before now : Option (List ℕ)) (result : Status) : Type 0 where
+pub record IsWhole (status : Status) (output : List ℕ) (before now : Option (List ℕ))
+    (result : Status) : Type 0 where
   pub status_is : result ≡ status
   pub taken : Appends before now output
 
 -- the sink failed, and a front of the output was taken, which is not empty
-pub record IsFault (output : List ℕ) (before now : Option (List ℕ)) (faults faults_now : ℕ) (result : Status) : Type 0 where
+pub record IsFault (output : List ℕ) (before now : Option (List ℕ)) (faults faults_now : ℕ)
+    (result : Status) : Type 0 where
   pub fault : result ≡ WriteFault
   pub some : output ≢ []
   pub taken : AppendsFront before now output
   pub rose : Rose faults faults_now
 
 abbrev pub IsTold : Status → List ℕ → Option (List ℕ) → Option (List ℕ) → ℕ → ℕ → Status → Type 0
-IsTold status output before now faults faults_now result = IsWhole status output before now result ⊎ IsFault output before now faults faults_now result
+IsTold status output before now faults faults_now result =
+    IsWhole status output before now result ⊎ IsFault output before now faults faults_now result
 
 -- no text was read here, so no read failed and no text is too long
 abbrev pub IsNoText : Status → Type 0
@@ -47,7 +52,10 @@ IsNoText status = ⊤
 
 -- why the report of a name was not read whole: it could not be opened, or its reading stopped
 abbrev pub StopsReport : Seen → Seen → List ℕ → Option Texts → Status → Type 0
-StopsReport before now name texts (Limit k count) = (k ≡ 9) × (count ≡ 268435457) × RoseBy 268435457 before.given now.given × ((ts : Texts) → texts ≡ Some ts → (report : List ℕ) → first_text name ts ≡ Some report → 268435456 < length report)
+StopsReport before now name texts (Limit k count) =
+    (k ≡ 9) × (count ≡ 268435457) × RoseBy 268435457 before.given now.given ×
+    ((ts : Texts) → texts ≡ Some ts → (report : List ℕ) → first_text name ts ≡ Some report →
+    268435456 < length report)
 StopsReport before now name texts ReadFault = Rose before.faults now.faults
 StopsReport before now name texts NoMemory = ⊤
 StopsReport before now name texts status = ⊥

@@ -39,12 +39,19 @@ pub fn carry_out<S: Source, F: Shelf>(
 ) -> Due
     requires { IsInRange command.now }
     ensures due { (text report : List ℕ)
-        → AreTold (Ok (plain_command command.now)) (S.seen layout.old).left (F.texts second.old) text report
-        → IsDueOrFree (IsDueOf (Ok (plain_command command.now)) text report) result.status result.output.items }
-    ensures read { result.status ≡ Status.ReadFault → IsReadFault (Ok (plain_command command.now)) (S.seen layout.old) (S.seen layout.new) (F.seen second.old) (F.seen second.new) }
-    ensures limit { (count : ℕ) → result.status ≡ Status.Limit 1 count → PassesBytes 16777217 count (S.seen layout.old) (S.seen layout.new) }
-    ensures report_limit { (count : ℕ) → result.status ≡ Status.Limit 9 count → PassesBytes 268435457 count (F.seen second.old) (F.seen second.new) }
-    ensures touched { IsTouched (Ok (plain_command command.now)) (S.seen layout.old) (S.seen layout.new) (F.seen second.old) (F.seen second.new) }
+        → AreTold (Ok (plain_command command.now)) (S.seen layout.old).left (F.texts second.old)
+        text report
+        → IsDueOrFree (IsDueOf (Ok (plain_command command.now)) text report) result.status
+        result.output.items }
+    ensures read { result.status ≡ Status.ReadFault →
+        IsReadFault (Ok (plain_command command.now)) (S.seen layout.old) (S.seen layout.new)
+        (F.seen second.old) (F.seen second.new) }
+    ensures limit { (count : ℕ) → result.status ≡ Status.Limit 1 count →
+        PassesBytes 16777217 count (S.seen layout.old) (S.seen layout.new) }
+    ensures report_limit { (count : ℕ) → result.status ≡ Status.Limit 9 count →
+        PassesBytes 268435457 count (F.seen second.old) (F.seen second.new) }
+    ensures touched { IsTouched (Ok (plain_command command.now)) (S.seen layout.old)
+        (S.seen layout.new) (F.seen second.old) (F.seen second.new) }
     ensures bare { IsBare result.status result.output.items }
 {
     match command {
@@ -63,9 +70,12 @@ pub fn carry_out<S: Source, F: Shelf>(
 /// What is due for the layout that a source gives.
 fn split_text<S: Source>(alloc: Global, options: &Options, layout: &mut S) -> Due
     ensures due { (text : List ℕ) → (S.seen layout.old).left ≡ Some text
-        → (report : List ℕ) → IsDueOrFree (IsDueOf (Ok (plain_split (plain_options options.now))) text report) result.status result.output.items }
-    ensures read { result.status ≡ Status.ReadFault → Rose (S.seen layout.old).faults (S.seen layout.new).faults }
-    ensures limit { (count : ℕ) → result.status ≡ Status.Limit 1 count → PassesBytes 16777217 count (S.seen layout.old) (S.seen layout.new) }
+        → (report : List ℕ) → IsDueOrFree (IsDueOf (Ok (plain_split (plain_options options.now)))
+        text report) result.status result.output.items }
+    ensures read { result.status ≡ Status.ReadFault →
+        Rose (S.seen layout.old).faults (S.seen layout.new).faults }
+    ensures limit { (count : ℕ) → result.status ≡ Status.Limit 1 count →
+        PassesBytes 16777217 count (S.seen layout.old) (S.seen layout.new) }
     ensures other { (count : ℕ) → result.status ≢ Status.Limit 9 count }
     ensures asked { (S.seen layout.new).asked ≡ (S.seen layout.old).asked }
     ensures bare { IsBare result.status result.output.items }
@@ -79,7 +89,9 @@ fn split_text<S: Source>(alloc: Global, options: &Options, layout: &mut S) -> Du
 /// What is due for the bytes of a layout.
 fn split_bytes(alloc: Global, options: &Options, text: &[u8]) -> Due
     requires { length text.now ≤ 16777216 }
-    ensures due { (report : List ℕ) → IsDueOrFree (IsDueOf (Ok (plain_split (plain_options options.now))) text.now report) result.status result.output.items }
+    ensures due { (report : List ℕ) →
+        IsDueOrFree (IsDueOf (Ok (plain_split (plain_options options.now))) text.now report)
+        result.status result.output.items }
     ensures read { IsNoText result.status }
     ensures bare { IsBare result.status result.output.items }
 {
@@ -100,11 +112,18 @@ fn check_text<S: Source, F: Shelf>(
     layout: &mut S,
     second: &mut F,
 ) -> Due
-    ensures due { (text report : List ℕ) → AreTold (Ok (plain_check (plain_options options.now) name.now)) (S.seen layout.old).left (F.texts second.old) text report
-        → IsDueOrFree (IsDueOf (Ok (plain_check (plain_options options.now) name.now)) text report) result.status result.output.items }
-    ensures read { result.status ≡ Status.ReadFault → Rose (S.seen layout.old).faults (S.seen layout.new).faults ⊎ Rose (F.seen second.old).faults (F.seen second.new).faults }
-    ensures limit { (count : ℕ) → result.status ≡ Status.Limit 1 count → PassesBytes 16777217 count (S.seen layout.old) (S.seen layout.new) }
-    ensures report_limit { (count : ℕ) → result.status ≡ Status.Limit 9 count → PassesBytes 268435457 count (F.seen second.old) (F.seen second.new) }
+    ensures due { (text report : List ℕ) →
+        AreTold (Ok (plain_check (plain_options options.now) name.now)) (S.seen layout.old).left
+        (F.texts second.old) text report
+        → IsDueOrFree (IsDueOf (Ok (plain_check (plain_options options.now) name.now)) text report)
+        result.status result.output.items }
+    ensures read { result.status ≡ Status.ReadFault →
+        Rose (S.seen layout.old).faults (S.seen layout.new).faults ⊎
+        Rose (F.seen second.old).faults (F.seen second.new).faults }
+    ensures limit { (count : ℕ) → result.status ≡ Status.Limit 1 count →
+        PassesBytes 16777217 count (S.seen layout.old) (S.seen layout.new) }
+    ensures report_limit { (count : ℕ) → result.status ≡ Status.Limit 9 count →
+        PassesBytes 268435457 count (F.seen second.old) (F.seen second.new) }
     ensures asked { (S.seen layout.new).asked ≡ (S.seen layout.old).asked }
     ensures opened { AsksFor name.now (F.seen second.old) (F.seen second.new) }
     ensures bare { IsBare result.status result.output.items }
@@ -121,9 +140,11 @@ fn check_text<S: Source, F: Shelf>(
 
 /// The report that a shelf has under a name.
 fn report_of<F: Shelf>(alloc: Global, name: &str, second: &mut F) -> Result<Vec<u8>, Status>
-    ensures whole { IfOk result (λ v. (ts : Texts) → F.texts second.old ≡ Some ts → first_text name.now ts ≡ Some v.items) }
+    ensures whole { IfOk result (λ v. (ts : Texts) → F.texts second.old ≡ Some ts →
+        first_text name.now ts ≡ Some v.items) }
     ensures within { IfOk result (λ v. length v.items ≤ 268435456) }
-    ensures stops { IfErr result (StopsReport (F.seen second.old) (F.seen second.new) name.now (F.texts second.old)) }
+    ensures stops { IfErr result (StopsReport (F.seen second.old) (F.seen second.new) name.now
+        (F.texts second.old)) }
     ensures opened { AsksFor name.now (F.seen second.old) (F.seen second.new) }
 {
     match second.open(name) {
@@ -137,7 +158,9 @@ fn report_of<F: Shelf>(alloc: Global, name: &str, second: &mut F) -> Result<Vec<
 fn check_bytes(alloc: Global, options: &Options, text: &[u8], report: &[u8]) -> Due
     requires text { length text.now ≤ 16777216 }
     requires report { length report.now ≤ 268435456 }
-    ensures due { (name : List ℕ) → IsDueOrFree (IsDueOf (Ok (plain_check (plain_options options.now) name)) text.now report.now) result.status result.output.items }
+    ensures due { (name : List ℕ) →
+        IsDueOrFree (IsDueOf (Ok (plain_check (plain_options options.now) name)) text.now
+        report.now) result.status result.output.items }
     ensures read { IsNoText result.status }
     ensures bare { IsBare result.status result.output.items }
 {
@@ -174,7 +197,9 @@ fn load_made(alloc: Global, start: u64, rows: u32, columns: u32) -> Due
     requires start { start ≤ 10 ^ 12 }
     requires rows { (1 ≤ rows) × (rows ≤ 200) }
     requires columns { (1 ≤ columns) × (columns ≤ 200) }
-    ensures due { (text report : List ℕ) → IsDueOrFree (IsDueOf (Ok (plain_load start rows columns)) text report) result.status result.output.items }
+    ensures due { (text report : List ℕ) →
+        IsDueOrFree (IsDueOf (Ok (plain_load start rows columns)) text report) result.status
+        result.output.items }
     ensures read { IsNoText result.status }
     ensures bare { IsBare result.status result.output.items }
 {
@@ -211,8 +236,10 @@ fn options_of_load() -> Options
 /// The line of a report of a made layout.
 fn told(alloc: Global, report: &Report) -> Due
     requires { IsReport (plain_report report.now) }
-    ensures done { result.status ≡ Status.Done → result.output.items ≡ loaded_line (plain_report report.now) }
-    ensures only { (result.status ≡ Status.Done) ⊎ ((result.status ≡ Status.NoMemory) × (result.output.items ≡ [])) }
+    ensures done { result.status ≡ Status.Done →
+        result.output.items ≡ loaded_line (plain_report report.now) }
+    ensures only { (result.status ≡ Status.Done) ⊎
+        ((result.status ≡ Status.NoMemory) × (result.output.items ≡ [])) }
     ensures bare { IsBare result.status result.output.items }
 {
     let counts = &report.counts;

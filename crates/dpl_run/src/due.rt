@@ -26,7 +26,8 @@ pub fn bare(alloc: Global, status: Status) -> Due
 
 /// Writes the output, and gives the status, or says that the writing failed.
 pub fn tell<O: Sink>(out: &mut O, due: &Due) -> Status
-    ensures { IsTold due.now.status due.now.output.items (O.taken out.old) (O.taken out.new) (O.faults out.old) (O.faults out.new) result }
+    ensures { IsTold due.now.status due.now.output.items (O.taken out.old) (O.taken out.new)
+        (O.faults out.old) (O.faults out.new) result }
 {
     if due.output.is_empty() {
         return due.status;

@@ -28,7 +28,8 @@ pub fn yes_line(alloc: Global, cost: u64, bound: u64) -> Result<Vec<u8>, AllocEr
 
 /// The line that tells the split of a made layout.
 pub fn load_line(alloc: Global, told: Told) -> Result<Vec<u8>, AllocError>
-    ensures { IfOk result (λ v. v.items ≡ lines.load_line told.fragments told.edges told.cost told.bound told.aside) }
+    ensures { IfOk result (λ v.
+        v.items ≡ lines.load_line told.fragments told.edges told.cost told.bound told.aside) }
 {
     let mut out = Vec::new(alloc);
     push_named(&mut out, b"fragments ", told.fragments)?;

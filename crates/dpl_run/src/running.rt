@@ -26,26 +26,36 @@ pub fn run<S: Source, F: Shelf, O: Sink, E: Sink>(
 ) -> Status
     // What the status says of the words, the layout and the report, and what `out` took.
     ensures answer { (text report : List ℕ)
-        → AreTold (command_of (map string_bytes words.now)) (S.seen layout.old).left (F.texts second.old) text report
-        → Answers (IsDue (map string_bytes words.now) text report) (O.taken out.old) (O.taken out.new) result }
+        → AreTold (command_of (map string_bytes words.now)) (S.seen layout.old).left
+        (F.texts second.old) text report
+        → Answers (IsDue (map string_bytes words.now) text report) (O.taken out.old)
+        (O.taken out.new) result }
     ensures quiet { IsQuiet (O.taken out.old) (O.taken out.new) result }
 
     // When each status comes.
     ensures comes { (text report : List ℕ)
-        → AreTold (command_of (map string_bytes words.now)) (S.seen layout.old).left (F.texts second.old) text report
-        → (due : Status) (output : List ℕ) → IsDue (map string_bytes words.now) text report due output
+        → AreTold (command_of (map string_bytes words.now)) (S.seen layout.old).left
+        (F.texts second.old) text report
+        → (due : Status) (output : List ℕ) →
+        IsDue (map string_bytes words.now) text report due output
         → result ≢ Status.ReadFault → IsAnswered due result }
 
     // When a device is to blame, how much was read, and which devices were not touched.
-    ensures read { result ≡ Status.ReadFault → IsReadFault (command_of (map string_bytes words.now)) (S.seen layout.old) (S.seen layout.new) (F.seen second.old) (F.seen second.new) }
+    ensures read { result ≡ Status.ReadFault →
+        IsReadFault (command_of (map string_bytes words.now)) (S.seen layout.old)
+        (S.seen layout.new) (F.seen second.old) (F.seen second.new) }
     ensures write { result ≡ Status.WriteFault → Rose (O.faults out.old) (O.faults out.new) }
-    ensures limit { (count : ℕ) → result ≡ Status.Limit 1 count → PassesBytes 16777217 count (S.seen layout.old) (S.seen layout.new) }
-    ensures report_limit { (count : ℕ) → result ≡ Status.Limit 9 count → PassesBytes 268435457 count (F.seen second.old) (F.seen second.new) }
-    ensures touched { IsTouched (command_of (map string_bytes words.now)) (S.seen layout.old) (S.seen layout.new) (F.seen second.old) (F.seen second.new) }
+    ensures limit { (count : ℕ) → result ≡ Status.Limit 1 count →
+        PassesBytes 16777217 count (S.seen layout.old) (S.seen layout.new) }
+    ensures report_limit { (count : ℕ) → result ≡ Status.Limit 9 count →
+        PassesBytes 268435457 count (F.seen second.old) (F.seen second.new) }
+    ensures touched { IsTouched (command_of (map string_bytes words.now)) (S.seen layout.old)
+        (S.seen layout.new) (F.seen second.old) (F.seen second.new) }
 
     // What `err` took.
     ensures line { AppendsFront (E.taken err.old) (E.taken err.new) (line_of result) }
-    ensures whole_line { ¬ Rose (E.faults err.old) (E.faults err.new) → Appends (E.taken err.old) (E.taken err.new) (line_of result) }
+    ensures whole_line { ¬ Rose (E.faults err.old) (E.faults err.new) →
+        Appends (E.taken err.old) (E.taken err.new) (line_of result) }
 {
     let status = attempt(alloc, words, layout, second, out);
     let _ = write_all(err, status_line(status).bytes());
@@ -60,14 +70,21 @@ fn attempt<S: Source, F: Shelf, O: Sink>(
     out: &mut O,
 ) -> Status
     ensures answer { (text report : List ℕ)
-        → AreTold (command_of (map string_bytes words.now)) (S.seen layout.old).left (F.texts second.old) text report
-        → Answers (IsDue (map string_bytes words.now) text report) (O.taken out.old) (O.taken out.new) result }
+        → AreTold (command_of (map string_bytes words.now)) (S.seen layout.old).left
+        (F.texts second.old) text report
+        → Answers (IsDue (map string_bytes words.now) text report) (O.taken out.old)
+        (O.taken out.new) result }
     ensures quiet { IsQuiet (O.taken out.old) (O.taken out.new) result }
-    ensures read { result ≡ Status.ReadFault → IsReadFault (command_of (map string_bytes words.now)) (S.seen layout.old) (S.seen layout.new) (F.seen second.old) (F.seen second.new) }
+    ensures read { result ≡ Status.ReadFault →
+        IsReadFault (command_of (map string_bytes words.now)) (S.seen layout.old)
+        (S.seen layout.new) (F.seen second.old) (F.seen second.new) }
     ensures write { result ≡ Status.WriteFault → Rose (O.faults out.old) (O.faults out.new) }
-    ensures limit { (count : ℕ) → result ≡ Status.Limit 1 count → PassesBytes 16777217 count (S.seen layout.old) (S.seen layout.new) }
-    ensures report_limit { (count : ℕ) → result ≡ Status.Limit 9 count → PassesBytes 268435457 count (F.seen second.old) (F.seen second.new) }
-    ensures touched { IsTouched (command_of (map string_bytes words.now)) (S.seen layout.old) (S.seen layout.new) (F.seen second.old) (F.seen second.new) }
+    ensures limit { (count : ℕ) → result ≡ Status.Limit 1 count →
+        PassesBytes 16777217 count (S.seen layout.old) (S.seen layout.new) }
+    ensures report_limit { (count : ℕ) → result ≡ Status.Limit 9 count →
+        PassesBytes 268435457 count (F.seen second.old) (F.seen second.new) }
+    ensures touched { IsTouched (command_of (map string_bytes words.now)) (S.seen layout.old)
+        (S.seen layout.new) (F.seen second.old) (F.seen second.new) }
 {
     let command = match parse(alloc, words) {
         Ok(command) => command,

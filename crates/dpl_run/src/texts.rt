@@ -15,7 +15,8 @@ pub fn text_of<S: Source>(
     most: u64,
 ) -> Result<Vec<u8>, Status>
     requires { most < 2 ^ 32 }
-    ensures whole { IfOk result (λ v. IsWhole (S.seen source.old) (S.seen source.new) v.items most) }
+    ensures whole { IfOk result (λ v.
+        IsWhole (S.seen source.old) (S.seen source.new) v.items most) }
     ensures stops { IfErr result (StopsReading (S.seen source.old) (S.seen source.new) kind most) }
     ensures asked { (S.seen source.new).asked ≡ (S.seen source.old).asked }
 {

@@ -34,4 +34,5 @@ cost_of g colours = sum_by (broken_weight colours) g.edges
 -- a colour for each node, one for the two ends of each bond
 pub record IsColouring (g : Signed) (colours : List Bool) : Type 0 where
   pub length : length colours ≡ g.nodes
-  pub bonds : All (λ e. is_bond e.kind ≡ true → colour_of colours e.a ≡ colour_of colours e.b) g.edges
+  pub bonds : All (λ e. is_bond e.kind ≡ true →
+      colour_of colours e.a ≡ colour_of colours e.b) g.edges

@@ -7,7 +7,9 @@ use Rattle.dpl_cycle.specs.Names.{name_count, join}
 -- each node's component over the edges of the set below k, named by one of its nodes: an edge joins the components of its ends
 abbrev pub names_below : Signed → (ℕ → Bool) → ℕ → ℕ → ℕ
 names_below g set zero = λ v. v
-names_below g set (suc k) = elim (set k) [ true ↦ join (names_below g set k) (edge_at g k).a (edge_at g k).b | false ↦ names_below g set k ]
+names_below g set (suc k) =
+    elim (set k) [ true ↦ join (names_below g set k) (edge_at g k).a (edge_at g k).b
+    | false ↦ names_below g set k ]
 
 -- two nodes are joined by edges of the set where this is the same
 abbrev pub component_of : Signed → (ℕ → Bool) → ℕ → ℕ

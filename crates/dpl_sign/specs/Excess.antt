@@ -12,7 +12,8 @@ edge_count net set = count_on set (length net.graph.edges)
 
 -- 2C - (V - E + F), which is never negative
 abbrev pub excess : Net → (ℕ → Bool) → ℕ
-excess net set = (2 * component_count net.graph set + edge_count net set) - (net.graph.nodes + face_count net set)
+excess net set = (2 * component_count net.graph set + edge_count net set)
+    - (net.graph.nodes + face_count net set)
 
 -- a set with one edge more
 abbrev pub with_edge : (ℕ → Bool) → ℕ → ℕ → Bool
@@ -20,7 +21,8 @@ with_edge set e x = (x == e) || set x
 
 -- edges of the set join the two ends of an edge
 abbrev pub AreEndsJoined : Net → (ℕ → Bool) → ℕ → Type 0
-AreEndsJoined net set e = component_of net.graph set (edge_at net.graph e).a ≡ component_of net.graph set (edge_at net.graph e).b
+AreEndsJoined net set e = component_of net.graph set (edge_at net.graph e).a
+    ≡ component_of net.graph set (edge_at net.graph e).b
 
 -- the two corners at which an edge leaves its ends are on one face
 abbrev pub LiesInFace : Net → (ℕ → Bool) → ℕ → Type 0
@@ -48,7 +50,8 @@ is_aside net e = not (is_in (kept_edges net) e)
 -- the numbers of the edges that are set aside among the first, in order
 abbrev pub aside_before : Net → ℕ → List ℕ
 aside_before net zero = []
-aside_before net (suc e) = if is_aside net e then aside_before net e ++ e ∷ [] else aside_before net e
+aside_before net (suc e) =
+    if is_aside net e then aside_before net e ++ e ∷ [] else aside_before net e
 
 abbrev pub aside_edges : Net → List ℕ
 aside_edges net = aside_before net (length net.graph.edges)

@@ -20,7 +20,8 @@ EndsBelow nodes edges = All (λ e. e.b < nodes) edges
 
 -- before a bond stand only bonds
 abbrev pub BondsFirst : List Edge → Type 0
-BondsFirst edges = (j k : ℕ) (d : Edge) → j < k → k < length edges → is_bond (slice_index_or edges k d).kind ≡ true → is_bond (slice_index_or edges j d).kind ≡ true
+BondsFirst edges = (j k : ℕ) (d : Edge) → j < k → k < length edges →
+    is_bond (slice_index_or edges k d).kind ≡ true → is_bond (slice_index_or edges j d).kind ≡ true
 
 -- the nodes and the edges are those of a graph
 pub record IsGraph (nodes : ℕ) (edges : List Edge) : Type 0 where

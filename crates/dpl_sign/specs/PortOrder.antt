@@ -23,7 +23,8 @@ slope_cmp p q = fraction_cmp (rise p) (run p) (rise q) (run q)
 
 -- counterclockwise from south-west: by the side, then by the place on the side, and ties by the edge's number
 abbrev pub port_cmp : Port → ℕ → Port → ℕ → Ordering
-port_cmp p e q f = ordering_then (nat_cmp p.side q.side) (ordering_then (int_cmp p.key q.key) (ordering_then (slope_cmp p q) (nat_cmp e f)))
+port_cmp p e q f = ordering_then (nat_cmp p.side q.side)
+    (ordering_then (int_cmp p.key q.key) (ordering_then (slope_cmp p q) (nat_cmp e f)))
 
 -- edge e leaves at p before edge f leaves at q
 abbrev pub StandsBefore : Port → ℕ → Port → ℕ → Type 0

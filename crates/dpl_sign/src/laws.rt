@@ -15,7 +15,8 @@ use crate::walks::Cycle;
 /// The edges that leave one node stand in a strict total order by their ports.
 pub fn ports_are_in_order(p: &Port, e: u32, q: &Port, f: u32, r: &Port, g: u32)
     ensures irreflexive { ¬ StandsBefore p.now e p.now e }
-    ensures transitive { StandsBefore p.now e q.now f → StandsBefore q.now f r.now g → StandsBefore p.now e r.now g }
+    ensures transitive { StandsBefore p.now e q.now f → StandsBefore q.now f r.now g →
+        StandsBefore p.now e r.now g }
     ensures total { e ≢ f → StandsBefore p.now e q.now f ⊎ StandsBefore q.now f p.now e }
 {}
 
@@ -42,7 +43,8 @@ pub fn components_are_joined(graph: &Signed, set: &[bool], u: u32, v: u32)
 /// The excess is even and never negative: it is what Euler's formula lacks.
 pub fn excess_is_even(net: &Net, set: &[bool])
     ensures even { excess net.now (is_in set.now) % 2 ≡ 0 }
-    ensures euler { net.now.graph.nodes + face_count net.now (is_in set.now) + excess net.now (is_in set.now) ≡
+    ensures euler { net.now.graph.nodes + face_count net.now (is_in set.now)
+        + excess net.now (is_in set.now) ≡
         2 * component_count net.now.graph (is_in set.now) + edge_count net.now (is_in set.now) }
 {}
 
@@ -52,19 +54,25 @@ pub fn excess_is_even(net: &Net, set: &[bool])
 pub fn edges_never_lower_the_excess(net: &Net, set: &[bool], edge: u32)
     requires edge { edge < length net.now.graph.edges }
     requires new { is_in set.now edge ≡ false }
-    ensures joins { ¬ AreEndsJoined net.now (is_in set.now) edge → excess net.now (with_edge (is_in set.now) edge) ≡ excess net.now (is_in set.now) }
-    ensures splits { AreEndsJoined net.now (is_in set.now) edge → LiesInFace net.now (is_in set.now) edge →
+    ensures joins { ¬ AreEndsJoined net.now (is_in set.now) edge →
         excess net.now (with_edge (is_in set.now) edge) ≡ excess net.now (is_in set.now) }
-    ensures crosses { AreEndsJoined net.now (is_in set.now) edge → (¬ LiesInFace net.now (is_in set.now) edge) →
+    ensures splits { AreEndsJoined net.now (is_in set.now) edge →
+        LiesInFace net.now (is_in set.now) edge →
+        excess net.now (with_edge (is_in set.now) edge) ≡ excess net.now (is_in set.now) }
+    ensures crosses { AreEndsJoined net.now (is_in set.now) edge →
+        (¬ LiesInFace net.now (is_in set.now) edge) →
         excess net.now (with_edge (is_in set.now) edge) ≡ excess net.now (is_in set.now) + 2 }
 {}
 
 /// The next edge is set aside exactly where it leads from one face of a component to another.
 pub fn edges_aside_cross(net: &Net, kept: &[bool])
     requires { length kept.now < length net.now.graph.edges }
-    ensures joined { raises_excess net.now kept.now ≡ true → AreEndsJoined net.now (is_in kept.now) (length kept.now) }
-    ensures faces { raises_excess net.now kept.now ≡ true → ¬ LiesInFace net.now (is_in kept.now) (length kept.now) }
-    ensures only { AreEndsJoined net.now (is_in kept.now) (length kept.now) → (¬ LiesInFace net.now (is_in kept.now) (length kept.now)) →
+    ensures joined { raises_excess net.now kept.now ≡ true →
+        AreEndsJoined net.now (is_in kept.now) (length kept.now) }
+    ensures faces { raises_excess net.now kept.now ≡ true →
+        ¬ LiesInFace net.now (is_in kept.now) (length kept.now) }
+    ensures only { AreEndsJoined net.now (is_in kept.now) (length kept.now) →
+        (¬ LiesInFace net.now (is_in kept.now) (length kept.now)) →
         raises_excess net.now kept.now ≡ true }
 {}
 
@@ -75,7 +83,8 @@ pub fn kept_edges_are_plane(net: &Net)
 
 /// The excess of a set never falls when edges are added.
 pub fn excess_never_falls(net: &Net, set: &[bool], more: &[bool])
-    requires { (e : ℕ) → e < length net.now.graph.edges → is_in set.now e ≡ true → is_in more.now e ≡ true }
+    requires { (e : ℕ) → e < length net.now.graph.edges → is_in set.now e ≡ true →
+        is_in more.now e ≡ true }
     ensures { excess net.now (is_in set.now) ≤ excess net.now (is_in more.now) }
 {}
 

@@ -29,10 +29,13 @@ impl Net {
         pieces: Vec<u32>,
         piece_count: u32,
     ) -> Option<Net>
-        ensures net { IsSome result ↔ FitGraph graph.nodes (length graph.edges) (length ports.items) pieces.items piece_count }
+        ensures net { IsSome result ↔
+            FitGraph graph.nodes (length graph.edges) (length ports.items) pieces.items
+            piece_count }
         ensures graph { IfSome result (λ n. n.graph ≡ graph) }
         ensures ports { IfSome result (λ n. n.ports ≡ ports.items) }
-        ensures pieces { IfSome result (λ n. (n.pieces ≡ pieces.items) × (n.piece_count ≡ piece_count)) }
+        ensures pieces { IfSome result (λ n. (n.pieces ≡ pieces.items) ×
+            (n.piece_count ≡ piece_count)) }
     {
         let per_edge = ports.len() == graph.edges.as_slice().len();
         let per_node = pieces.len() == graph.nodes as usize;

@@ -14,17 +14,20 @@ use Rattle.dpl_solve.specs.Tight.{PassKept, joined_weight}
 use Rattle.dpl_solve.specs.Solved.{PassOnce}
 
 -- the parts of the first n groups are solved
-pub record AreSolved (g : Signed) (m : MapView) (d : Dual) (groups : List (List ℕ)) (n : ℕ) (joined : List Bool) (cycles : List Cycle) : Type 0 where
+pub record AreSolved (g : Signed) (m : MapView) (d : Dual) (groups : List (List ℕ)) (n : ℕ)
+    (joined : List Bool) (cycles : List Cycle) : Type 0 where
   pub parts : List Part
   pub numbers : map (λ p. p.part) parts ≡ numbers_of d (take n groups)
   pub are : All (IsPart g m d) parts
   pub paired : All (IsPaired d) parts
   pub cycles_are : cycles ≡ all_cycles parts
   pub places : length joined ≡ length g.edges
-  pub joins : (e : ℕ) → e < length g.edges → joined_bit joined e % 2 ≡ times (all_ways (all_chains parts)) e % 2
+  pub joins : (e : ℕ) → e < length g.edges → joined_bit joined e % 2
+      ≡ times (all_ways (all_chains parts)) e % 2
 
 -- joined edges that meet the faces, and a packing of no smaller weight
-pub record IsOptimum (g : Signed) (m : MapView) (d : Dual) (joined : List Bool) (cycles : List Cycle) : Type 0 where
+pub record IsOptimum (g : Signed) (m : MapView) (d : Dual) (joined : List Bool)
+    (cycles : List Cycle) : Type 0 where
   pub places : length joined ≡ length g.edges
   pub meets : MeetsFaces g m joined
   pub packing : IsPacking g cycles

@@ -38,4 +38,5 @@ pub record AreBetween (corners : List Corner) (z : ℤ) (from to : ℕ) : Type 0
   pub from_within : from ≤ length corners
   pub to_within : to ≤ length corners
   pub below : (k : ℕ) (d : Corner) → k < from → (slice_index_or corners k d).y <ℤ z
-  pub above : (k : ℕ) (d : Corner) → to ≤ k → k < length corners → z <ℤ (slice_index_or corners k d).y
+  pub above : (k : ℕ) (d : Corner) → to ≤ k → k < length corners →
+      z <ℤ (slice_index_or corners k d).y

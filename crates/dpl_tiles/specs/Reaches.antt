@@ -37,7 +37,13 @@ pub record AreSingles (prims : List Primitive) (n : ℕ) (reaches : List Reach) 
 
 -- the rows and columns of a reach hold the corners of its primitive and of the primitives of as many reaches behind it as it says
 pub record IsReached (prims : List Primitive) (reaches : List Reach) : Type 0 where
-  pub inside : (k : ℕ) (d : Reach) → k < length reaches → (slice_index_or reaches k d).number < length prims
-  pub all : (i : ℕ) → i < length prims → (k : ℕ) × (k < length reaches) × ((d : Reach) → (slice_index_or reaches k d).number ≡ i)
-  pub short : (k : ℕ) (d : Reach) → k < length reaches → k + (slice_index_or reaches k d).rest < length reaches
-  pub covers : (k m : ℕ) (d : Reach) (e : Primitive) → k < length reaches → k ≤ m → m ≤ k + (slice_index_or reaches k d).rest → IsHeldBy (slice_index_or reaches k d) (slice_index_or prims (slice_index_or reaches m d).number e)
+  pub inside : (k : ℕ) (d : Reach) → k < length reaches →
+      (slice_index_or reaches k d).number < length prims
+  pub all : (i : ℕ) → i < length prims → (k : ℕ) × (k < length reaches) ×
+      ((d : Reach) → (slice_index_or reaches k d).number ≡ i)
+  pub short : (k : ℕ) (d : Reach) → k < length reaches →
+      k + (slice_index_or reaches k d).rest < length reaches
+  pub covers : (k m : ℕ) (d : Reach) (e : Primitive) → k < length reaches → k ≤ m →
+      m ≤ k + (slice_index_or reaches k d).rest →
+      IsHeldBy (slice_index_or reaches k d) (slice_index_or prims
+      (slice_index_or reaches m d).number e)

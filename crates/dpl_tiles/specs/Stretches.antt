@@ -19,7 +19,8 @@ pub record IsRow (cells : ℤ → ℤ → Bool) (y : ℤ) (stretches : List Stre
 
 -- what the key says of the items does not fall
 abbrev pub Ascends : {X : Type 0} → (X → ℤ) → List X → Type 0
-Ascends {X} key xs = (i j : ℕ) (d : X) → i ≤ j → j < length xs → key (slice_index_or xs i d) ≤ℤ key (slice_index_or xs j d)
+Ascends {X} key xs = (i j : ℕ) (d : X) → i ≤ j → j < length xs →
+    key (slice_index_or xs i d) ≤ℤ key (slice_index_or xs j d)
 
 -- the first list grew by stretches that hold these places
 abbrev pub AddsPlaces : (ℤ → Bool) → List Stretch → List Stretch → Type 0

@@ -27,7 +27,8 @@ pub record HoldsRun (x1 x2 y : ℤ) (r : Rect) : Type 0 where
 pub record AreSwept (cells : ℤ → ℤ → Bool) (z : ℤ) (ended held : List Rect) : Type 0 where
   pub done : AreEnded cells z ended
   pub going : AreHeld cells z held
-  pub whole : (x1 x2 y : ℤ) → y <ℤ z → IsRun cells x1 x2 y → Any (IsPieceAt x1 x2 y) ended ⊎ Any (HoldsRun x1 x2 y) held
+  pub whole : (x1 x2 y : ℤ) → y <ℤ z → IsRun cells x1 x2 y →
+      Any (IsPieceAt x1 x2 y) ended ⊎ Any (HoldsRun x1 x2 y) held
 
 -- the second is the first stack, perhaps with another top
 pub record IsSameStack (o r : Rect) : Type 0 where
@@ -41,10 +42,12 @@ pub record IsNew (held : List Rect) (z : ℤ) (r : Rect) : Type 0 where
 
 -- what becomes of the stacks at row z: those with a run there are kept, those without one are closed, and each other run begins one
 pub record IsStep (cells : ℤ → ℤ → Bool) (z : ℤ) (held closed next : List Rect) : Type 0 where
-  pub each : All (λ r. IsRun cells r.x1 r.x2 z × (Any (λ o. IsSameStack o r) held ⊎ IsNew held z r)) next
+  pub each : All (λ r. IsRun cells r.x1 r.x2 z ×
+      (Any (λ o. IsSameStack o r) held ⊎ IsNew held z r)) next
   pub all : (x1 x2 : ℤ) → IsRun cells x1 x2 z → Any (HasColumns x1 x2) next
   pub ordered : AllPairs IsLeftOf next
-  pub ends : All (λ r. (¬ IsRun cells r.x1 r.x2 z) × (r.y2 ≡ z) × Any (λ o. IsSameStack o r) held) closed
+  pub ends : All (λ r. (¬ IsRun cells r.x1 r.x2 z) × (r.y2 ≡ z) ×
+      Any (λ o. IsSameStack o r) held) closed
   pub gone : All (λ o. (¬ IsRun cells o.x1 o.x2 z) → Any (IsSameStack o) closed) held
   pub kept : All (λ o. IsRun cells o.x1 o.x2 z → Any (IsSameStack o) next) held
   pub rising : AllPairs (λ a b. a.x1 <ℤ b.x1) closed

@@ -35,7 +35,8 @@ pub record AreNearRuns (cells : ℤ → ℤ → Bool) (z d1 d2 : ℤ) (runs : Li
 -- the stack of a run: the one that goes on with it, or a new one that begins at row z
 pub record IsContinued (near : List Rect) (z : ℤ) (run r : Rect) : Type 0 where
   pub columns : HasColumns run.x1 run.x2 r
-  pub bottom : Any (λ o. HasColumns run.x1 run.x2 o × (r.y1 ≡ o.y1)) near ⊎ ((¬ Any (HasColumns run.x1 run.x2) near) × (r.y1 ≡ z))
+  pub bottom : Any (λ o. HasColumns run.x1 run.x2 o × (r.y1 ≡ o.y1)) near ⊎
+      ((¬ Any (HasColumns run.x1 run.x2) near) × (r.y1 ≡ z))
 
 -- the first stacks lie left of the columns, those from place `to` on right of them, and the others are near
 pub record IsParted (held : List Rect) (d1 d2 : ℤ) (from to : ℕ) : Type 0 where
@@ -44,7 +45,8 @@ pub record IsParted (held : List Rect) (d1 d2 : ℤ) (from to : ℕ) : Type 0 wh
   pub from_within : from ≤ length held
   pub to_within : to ≤ length held
   pub left : (k : ℕ) (d : Rect) → k < from → (slice_index_or held k d).x2 <ℤ d1
-  pub not_left : (k : ℕ) (d : Rect) → from ≤ k → k < length held → d1 ≤ℤ (slice_index_or held k d).x2
+  pub not_left : (k : ℕ) (d : Rect) → from ≤ k → k < length held →
+      d1 ≤ℤ (slice_index_or held k d).x2
   pub not_right : (k : ℕ) (d : Rect) → k < to → (slice_index_or held k d).x1 ≤ℤ d2
   pub right : (k : ℕ) (d : Rect) → to ≤ k → k < length held → d2 <ℤ (slice_index_or held k d).x1
 

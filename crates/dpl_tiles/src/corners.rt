@@ -86,7 +86,8 @@ fn corner_at(y: i64, columns: &Columns) -> Corner
 /// Columns that hold those of all corners at a row.
 pub fn change_at(corners: &[Corner], y: i64) -> Columns
     requires { Ascends (λ c. c.y) corners.now }
-    ensures spans { All (λ c. c.y ≡ y → (result.left ≤ℤ c.left) × (c.right ≤ℤ result.right)) corners.now }
+    ensures spans { All (λ c. c.y ≡ y → (result.left ≤ℤ c.left) ×
+        (c.right ≤ℤ result.right)) corners.now }
     ensures some { result.left ≤ℤ result.right }
 {
     let places = places_at(corners, y);
@@ -117,7 +118,8 @@ fn first_from(corners: &[Corner], y: i64) -> usize
 fn first_past(corners: &[Corner], y: i64) -> usize
     requires { Ascends (λ c. c.y) corners.now }
     ensures within { result ≤ length corners.now }
-    ensures above { (k : ℕ) (d : Corner) → result ≤ k → k < length corners.now → y <ℤ (slice_index_or corners.now k d).y }
+    ensures above { (k : ℕ) (d : Corner) → result ≤ k → k < length corners.now →
+        y <ℤ (slice_index_or corners.now k d).y }
 {
     corners.partition_point(|c| c.y <= y)
 }

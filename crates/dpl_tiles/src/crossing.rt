@@ -16,7 +16,8 @@ pub fn push_polygon(
     points: &[Point],
     y: i64,
 ) -> Result<(), AllocError>
-    ensures { OnOk result (AddsPlaces (λ x. is_in_polygon (map place_of points.now) x y) parts.old.items parts.new.items) }
+    ensures { OnOk result (AddsPlaces (λ x.
+        is_in_polygon (map place_of points.now) x y) parts.old.items parts.new.items) }
 {
     let mut sides = crossings(alloc, points, y)?;
     sides.sort_unstable();
@@ -67,7 +68,8 @@ fn push_pairs(parts: &mut Vec<Stretch>, sides: &[i64]) -> Result<(), AllocError>
     requires sorted { Ascends (λ z. z) sides.now }
     requires even { length sides.now % 2 ≡ 0 }
     requires range { All IsInRange sides.now }
-    ensures { OnOk result (AddsPlaces (λ x. at_or_left x sides.now % 2 == 1) parts.old.items parts.new.items) }
+    ensures { OnOk result (AddsPlaces (λ x. at_or_left x sides.now % 2
+        == 1) parts.old.items parts.new.items) }
 {
     let mut rest = sides;
     while let [from, to, others @ ..] = rest {

@@ -8,5 +8,6 @@ use dpl_cell::Layout;
 
 /// Each cell of a layout lies in exactly one of its tiles, and no other cell lies in any.
 pub fn tiles_share_out(layout: &Layout)
-    ensures { (tiles : List Corners) → AreTiles (cells_of layout.now) tiles → SharesOut (cells_of layout.now) tiles }
+    ensures { (tiles : List Corners) → AreTiles (cells_of layout.now) tiles →
+        SharesOut (cells_of layout.now) tiles }
 {}

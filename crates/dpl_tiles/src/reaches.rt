@@ -138,7 +138,8 @@ pub fn greater(a: i64, b: i64) -> i64
 }
 
 fn sort(reaches: &mut Vec<Reach>)
-    ensures { (prims : List Primitive) (n : ℕ) → AreSingles prims n reaches.old.items → AreSingles prims n reaches.new.items }
+    ensures { (prims : List Primitive) (n : ℕ) → AreSingles prims n reaches.old.items →
+        AreSingles prims n reaches.new.items }
 {
     reaches.sort_unstable_by_key(|r| r.place);
 }
@@ -182,7 +183,8 @@ fn widen(prims: &[Prim], reaches: &mut [Reach], k: usize)
 fn absorb(prims: &[Prim], reaches: &mut [Reach], k: usize) -> usize
     requires reached { IsReached prims.now reaches.old }
     requires within { k < length reaches.old }
-    requires more { (d : Reach) → k + (slice_index_or reaches.old k d).rest + 1 < length reaches.old }
+    requires more { (d : Reach) → k + (slice_index_or reaches.old k d).rest + 1
+        < length reaches.old }
     ensures reached { IsReached prims.now reaches.new }
     ensures value { (d : Reach) → result ≡ (slice_index_or reaches.new k d).rest }
     ensures more { (d : Reach) → (slice_index_or reaches.old k d).rest < result }

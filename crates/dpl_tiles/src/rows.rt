@@ -16,7 +16,8 @@ pub fn push_prim(
     prim: &Prim,
     y: i64,
 ) -> Result<(), AllocError>
-    ensures { OnOk result (AddsPlaces (λ x. is_in_outline x y (outline_of prim.now)) parts.old.items parts.new.items) }
+    ensures { OnOk result (AddsPlaces (λ x.
+        is_in_outline x y (outline_of prim.now)) parts.old.items parts.new.items) }
 {
     match prim {
         Prim::Box(r) => push_box(parts, r, y),
@@ -25,7 +26,8 @@ pub fn push_prim(
 }
 
 fn push_box(parts: &mut Vec<Stretch>, r: &Rect, y: i64) -> Result<(), AllocError>
-    ensures { OnOk result (AddsPlaces (λ x. is_in_box (corners_of r.now) x y) parts.old.items parts.new.items) }
+    ensures { OnOk result (AddsPlaces (λ x.
+        is_in_box (corners_of r.now) x y) parts.old.items parts.new.items) }
 {
     if r.y1 <= y && y < r.y2 {
         parts.push(Stretch::new(r.x1, r.x2))?;
@@ -44,7 +46,8 @@ pub fn sort(parts: &mut Vec<Stretch>)
 pub fn merged(alloc: Global, parts: &[Stretch]) -> Result<Vec<Stretch>, AllocError>
     requires { Ascends (λ s. s.from) parts.now }
     ensures separate { IfOk result (λ v. AreSeparate v.items) }
-    ensures same { IfOk result (λ v. (x : ℤ) → is_in_stretches v.items x ≡ is_in_stretches parts.now x) }
+    ensures same { IfOk result (λ v. (x : ℤ) →
+        is_in_stretches v.items x ≡ is_in_stretches parts.now x) }
 {
     match parts.split_first() {
         None => Ok(Vec::new(alloc)),
@@ -56,7 +59,9 @@ fn merged_with(alloc: Global, first: Stretch, rest: &[Stretch]) -> Result<Vec<St
     requires first { All (λ s. first.from ≤ℤ s.from) rest.now }
     requires sorted { Ascends (λ s. s.from) rest.now }
     ensures separate { IfOk result (λ v. AreSeparate v.items) }
-    ensures same { IfOk result (λ v. (x : ℤ) → is_in_stretches v.items x ≡ (is_within first.from first.to x || is_in_stretches rest.now x)) }
+    ensures same { IfOk result (λ v. (x : ℤ) →
+        is_in_stretches v.items x ≡ (is_within first.from first.to x
+        || is_in_stretches rest.now x)) }
 {
     let mut merged = Vec::new(alloc);
     let mut last = first;
@@ -77,7 +82,8 @@ fn joined(a: &Stretch, b: &Stretch) -> Stretch
     requires above { a.now.from ≤ℤ b.now.from }
     requires touching { b.now.from ≤ℤ a.now.to }
     ensures from { result.from ≡ a.now.from }
-    ensures same { (x : ℤ) → is_within result.from result.to x ≡ (is_within a.now.from a.now.to x || is_within b.now.from b.now.to x) }
+    ensures same { (x : ℤ) → is_within result.from result.to x
+        ≡ (is_within a.now.from a.now.to x || is_within b.now.from b.now.to x) }
 {
     Stretch {
         from: a.from,

@@ -7,7 +7,8 @@ use dpl_cell::Rect;
 /// Which rectangle of the list has these columns.
 pub fn find(rects: &[Rect], r: &Rect) -> Option<usize>
     requires { AllPairs IsLeftOf rects.now }
-    ensures { MatchOption result (¬ Any (HasColumns r.now.x1 r.now.x2) rects.now) (IsPlaceOf rects.now r.now) }
+    ensures { MatchOption result (¬ Any (HasColumns r.now.x1 r.now.x2) rects.now)
+        (IsPlaceOf rects.now r.now) }
 {
     match rects.binary_search_by_key(&r.x1, |other| other.x1) {
         Err(_) => None,

@@ -38,9 +38,12 @@ pub fn step(
     requires high { low <ℤ high }
     requires below { neg_ℤ (pos (2 ^ 30)) ≤ℤ low }
     requires above { high ≤ℤ pos (2 ^ 30) }
-    requires swept { AreSwept (is_cell (map outline_of prims.now)) low ended.old.items held.old.items }
-    requires alike { (x y : ℤ) → IsWithin low high y → is_cell (map outline_of prims.now) x low ≡ is_cell (map outline_of prims.now) x y }
-    ensures { OnOk result (AreSwept (is_cell (map outline_of prims.now)) high ended.new.items held.new.items) }
+    requires swept { AreSwept (is_cell (map outline_of prims.now)) low ended.old.items
+        held.old.items }
+    requires alike { (x y : ℤ) → IsWithin low high y →
+        is_cell (map outline_of prims.now) x low ≡ is_cell (map outline_of prims.now) x y }
+    ensures { OnOk result (AreSwept (is_cell (map outline_of prims.now)) high ended.new.items
+        held.new.items) }
 {
     *held = stepped(
         alloc,
@@ -72,8 +75,10 @@ fn stepped(
     requires below { neg_ℤ (pos (2 ^ 30)) ≤ℤ low }
     requires above { high ≤ℤ pos (2 ^ 30) }
     requires swept { AreSwept (is_cell (map outline_of prims.now)) low ended.old.items held.now }
-    requires alike { (x y : ℤ) → IsWithin low high y → is_cell (map outline_of prims.now) x low ≡ is_cell (map outline_of prims.now) x y }
-    ensures { IfOk result (λ v. AreSwept (is_cell (map outline_of prims.now)) high ended.new.items v.items) }
+    requires alike { (x y : ℤ) → IsWithin low high y →
+        is_cell (map outline_of prims.now) x low ≡ is_cell (map outline_of prims.now) x y }
+    ensures { IfOk result (λ v.
+        AreSwept (is_cell (map outline_of prims.now)) high ended.new.items v.items) }
 {
     let change = change_at(corners, low);
     let places = places_of(held, &change);
@@ -100,7 +105,8 @@ fn places_of(held: &[Rect], change: &Columns) -> Places
 /// The stacks of all runs.
 fn all_continued(alloc: Global, near: &[Rect], runs: &[Rect]) -> Result<Vec<Rect>, AllocError>
     requires { AllPairs IsLeftOf near.now }
-    ensures { IfOk result (λ v. AllZip (λ run r. IsContinued near.now run.y1 run r) runs.now v.items) }
+    ensures { IfOk result (λ v.
+        AllZip (λ run r. IsContinued near.now run.y1 run r) runs.now v.items) }
 {
     let mut stacks = Vec::new(alloc);
     for run in runs {
@@ -118,7 +124,8 @@ fn put_between(
 ) -> Result<Vec<Rect>, AllocError>
     requires from { places.now.from ≤ length held.now }
     requires to { places.now.to ≤ length held.now }
-    ensures { IfOk result (λ v. v.items ≡ take places.now.from held.now ++ (stacks.now ++ drop places.now.to held.now)) }
+    ensures { IfOk result (λ v. v.items ≡ take places.now.from held.now
+        ++ (stacks.now ++ drop places.now.to held.now)) }
 {
     let mut next = Vec::new(alloc);
     next.extend_from_slice(&held[..places.from])?;
@@ -132,7 +139,8 @@ fn first_not_left(held: &[Rect], column: i64) -> usize
     requires { AllPairs IsLeftOf held.now }
     ensures within { result ≤ length held.now }
     ensures left { (k : ℕ) (d : Rect) → k < result → (slice_index_or held.now k d).x2 <ℤ column }
-    ensures others { (k : ℕ) (d : Rect) → result ≤ k → k < length held.now → column ≤ℤ (slice_index_or held.now k d).x2 }
+    ensures others { (k : ℕ) (d : Rect) → result ≤ k → k < length held.now →
+        column ≤ℤ (slice_index_or held.now k d).x2 }
 {
     held.partition_point(|r| r.x2 < column)
 }
@@ -142,7 +150,8 @@ fn first_right(held: &[Rect], column: i64) -> usize
     requires { AllPairs IsLeftOf held.now }
     ensures within { result ≤ length held.now }
     ensures others { (k : ℕ) (d : Rect) → k < result → (slice_index_or held.now k d).x1 ≤ℤ column }
-    ensures right { (k : ℕ) (d : Rect) → result ≤ k → k < length held.now → column <ℤ (slice_index_or held.now k d).x1 }
+    ensures right { (k : ℕ) (d : Rect) → result ≤ k → k < length held.now →
+        column <ℤ (slice_index_or held.now k d).x1 }
 {
     held.partition_point(|r| r.x1 <= column)
 }
@@ -185,8 +194,12 @@ fn near_runs(
     requires high { low <ℤ high }
     requires below { neg_ℤ (pos (2 ^ 30)) ≤ℤ low }
     requires above { high ≤ℤ pos (2 ^ 30) }
-    requires inside { (x1 x2 : ℤ) → IsRun (is_cell (map outline_of prims.now)) x1 x2 low → ¬ IsFar change.now.left change.now.right x1 x2 → (window.now.left ≤ℤ x1) × (x2 ≤ℤ window.now.right) }
-    ensures runs { IfOk result (λ v. AreNearRuns (is_cell (map outline_of prims.now)) low change.now.left change.now.right v.items) }
+    requires inside { (x1 x2 : ℤ) → IsRun (is_cell (map outline_of prims.now)) x1 x2 low →
+        ¬ IsFar change.now.left change.now.right x1 x2 →
+        (window.now.left ≤ℤ x1) × (x2 ≤ℤ window.now.right) }
+    ensures runs { IfOk result (λ v.
+        AreNearRuns (is_cell (map outline_of prims.now)) low change.now.left change.now.right
+        v.items) }
     ensures bottom { IfOk result (λ v. All (λ r. r.y1 ≡ low) v.items) }
 {
     let mut parts = parts_within(alloc, prims, reaches, window, low)?;
@@ -207,7 +220,9 @@ fn raised_near(
     requires high { low <ℤ high }
     requires below { neg_ℤ (pos (2 ^ 30)) ≤ℤ low }
     requires above { high ≤ℤ pos (2 ^ 30) }
-    ensures { IfOk result (λ v. AllZip (IsOver low high) (filter (is_near change.now.left change.now.right) stretches.now) v.items) }
+    ensures { IfOk result (λ v.
+        AllZip (IsOver low high) (filter (is_near change.now.left change.now.right) stretches.now)
+        v.items) }
 {
     let mut runs = Vec::new(alloc);
     for s in stretches {
@@ -249,8 +264,11 @@ fn parts_within(
     y: i64,
 ) -> Result<Vec<Stretch>, AllocError>
     requires { IsReached prims.now reaches.now }
-    ensures sound { IfOk result (λ v. (x : ℤ) → is_in_stretches v.items x ≡ true → is_cell (map outline_of prims.now) x y ≡ true) }
-    ensures full { IfOk result (λ v. (x : ℤ) → (window.now.left -ℤ pos 1) ≤ℤ x → x ≤ℤ window.now.right → is_cell (map outline_of prims.now) x y ≡ true → is_in_stretches v.items x ≡ true) }
+    ensures sound { IfOk result (λ v. (x : ℤ) → is_in_stretches v.items x ≡ true →
+        is_cell (map outline_of prims.now) x y ≡ true) }
+    ensures full { IfOk result (λ v. (x : ℤ) → (window.now.left -ℤ pos 1) ≤ℤ x →
+        x ≤ℤ window.now.right → is_cell (map outline_of prims.now) x y ≡ true →
+        is_in_stretches v.items x ≡ true) }
 {
     let mut parts = Vec::new(alloc);
     let mut at = 0;
@@ -268,7 +286,8 @@ fn parts_within(
 
 /// Whether the primitives of a reach may have cells of a row in a window or right beside it.
 fn may_hold(reach: &Reach, window: &Columns, y: i64) -> bool
-    ensures { result ≡ false → Misses reach.now.low reach.now.high y ⊎ ((reach.now.right <ℤ window.now.left) ⊎ (window.now.right <ℤ reach.now.left)) }
+    ensures { result ≡ false → Misses reach.now.low reach.now.high y ⊎
+        ((reach.now.right <ℤ window.now.left) ⊎ (window.now.right <ℤ reach.now.left)) }
 {
     is_row_of(reach, y) && is_beside(reach, window)
 }
@@ -280,7 +299,8 @@ fn is_row_of(reach: &Reach, y: i64) -> bool
 }
 
 fn is_beside(reach: &Reach, window: &Columns) -> bool
-    ensures { result ≡ false → (reach.now.right <ℤ window.now.left) ⊎ (window.now.right <ℤ reach.now.left) }
+    ensures { result ≡ false → (reach.now.right <ℤ window.now.left) ⊎
+        (window.now.right <ℤ reach.now.left) }
 {
     window.left <= reach.right && reach.left <= window.right
 }
@@ -295,7 +315,8 @@ fn push_closed(
     requires ordered { AllPairs IsLeftOf runs.now }
     requires below { All (λ r. r.y1 <ℤ top) near.now }
     requires range { top ≤ℤ pos (2 ^ 30) }
-    ensures { OnOk result (AddsClosed top (ending runs.now near.now) ended.old.items ended.new.items) }
+    ensures { OnOk result (AddsClosed top (ending runs.now near.now) ended.old.items
+        ended.new.items) }
 {
     for stack in near {
         if find(runs, stack).is_none() {

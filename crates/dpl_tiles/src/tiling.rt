@@ -31,7 +31,8 @@ pub fn tiles(alloc: Global, layout: &Layout) -> Result<Vec<Rect>, TileError>
     ensures tiles { IfOk result (λ v. AreTiles (cells_of layout.now) (map corners_of v.items)) }
     ensures few { IfOk result (λ v. length v.items ≤ 100000) }
     ensures many { result ≡ Err TileError.TooMany → HasMoreTiles (cells_of layout.now) 100000 }
-    ensures exact { HasMoreTiles (cells_of layout.now) 100000 → (result ≡ Err TileError.TooMany) ⊎ (result ≡ Err TileError.NoMemory) }
+    ensures exact { HasMoreTiles (cells_of layout.now) 100000 →
+        (result ≡ Err TileError.TooMany) ⊎ (result ≡ Err TileError.NoMemory) }
 {
     let prims = layout.prims.as_slice();
     let rows = ordinates(alloc, prims)?;
@@ -63,7 +64,8 @@ fn unsorted(
     requires all { HasOrdinates rows.now prims.now }
     ensures tiles { IfOk result (λ v. AreAllTiles (is_cell (map outline_of prims.now)) v.items) }
     ensures few { IfOk result (λ v. length v.items ≤ 100000) }
-    ensures many { result ≡ Err TileError.TooMany → HasMoreTiles (is_cell (map outline_of prims.now)) 100000 }
+    ensures many { result ≡ Err TileError.TooMany →
+        HasMoreTiles (is_cell (map outline_of prims.now)) 100000 }
 {
     let mut ended = Vec::new(alloc);
     let mut held = Vec::new(alloc);

@@ -40,16 +40,20 @@ pub record IsTree (n : ℕ) (f : Sets) (load dist : ℕ → ℕ → ℕ) (x : Fo
   pub tops : (i : ℕ) → x.place i ≢ free → (i < 2 * n) × (f.live i ≡ true) × (f.parent i ≡ None)
   pub root_outer : x.place x.root ≡ outer
   pub root_free : (m t : ℕ) → IsExit n f x.mate x.root m t → ⊥
-  pub outer_pair : (i : ℕ) → x.place i ≡ outer → i ≢ x.root → (m : ℕ) × (t : ℕ) × IsExit n f x.mate i m t
-  pub outer_mate : (i m t : ℕ) → x.place i ≡ outer → IsExit n f x.mate i m t → (x.place (f.top t) ≡ inner) ×
+  pub outer_pair : (i : ℕ) → x.place i ≡ outer → i ≢ x.root →
+      (m : ℕ) × (t : ℕ) × IsExit n f x.mate i m t
+  pub outer_mate : (i m t : ℕ) → x.place i ≡ outer → IsExit n f x.mate i m t →
+      (x.place (f.top t) ≡ inner) ×
       (x.rank (f.top t) < x.rank i)
   pub inner_pair : (i : ℕ) → x.place i ≡ inner → (m : ℕ) × (t : ℕ) × IsExit n f x.mate i m t
-  pub inner_mate : (i m t : ℕ) → x.place i ≡ inner → IsExit n f x.mate i m t → x.place (f.top t) ≡ outer
+  pub inner_mate : (i m t : ℕ) → x.place i ≡ inner → IsExit n f x.mate i m t →
+      x.place (f.top t) ≡ outer
   pub link_range : (i : ℕ) → x.place i ≡ inner → (x.above i < n) × (x.entry i < n)
   pub link_entry : (i : ℕ) → x.place i ≡ inner → f.top (x.entry i) ≡ i
   pub link_outer : (i : ℕ) → x.place i ≡ inner → x.place (f.top (x.above i)) ≡ outer
   pub link_rank : (i : ℕ) → x.place i ≡ inner → x.rank (f.top (x.above i)) < x.rank i
-  pub link_tight : (i : ℕ) → x.place i ≡ inner → load (x.above i) (x.entry i) ≡ dist (x.above i) (x.entry i)
+  pub link_tight : (i : ℕ) → x.place i ≡ inner →
+      load (x.above i) (x.entry i) ≡ dist (x.above i) (x.entry i)
 
 -- what the place, the rank and the link of a set are after a pair of sets is taken into the tree
 pub record Grows (n : ℕ) (f : Sets) (x : Forest) (s t m o : ℕ) (y : Forest) : Type 0 where
@@ -78,8 +82,10 @@ pub record IsClimb (n : ℕ) (f : Sets) (load dist : ℕ → ℕ → ℕ) (x : F
   pub pairs : ArePairs n f load dist mate
   pub t_free : (m u : ℕ) → IsExit n f mate (f.top t) m u → ⊥
   pub t_rank : x.place (f.top t) ≢ free → x.rank (f.top s) < x.rank (f.top t)
-  pub kept : (m : ℕ) → m < n → x.place (f.top m) ≢ free → x.rank (f.top m) ≤ x.rank (f.top s) → mate m ≡ x.mate m
-  pub has_pair : (i m u : ℕ) → i ≢ f.top t → IsExit n f x.mate i m u → (a : ℕ) × (c : ℕ) × IsExit n f mate i a c
+  pub kept : (m : ℕ) → m < n → x.place (f.top m) ≢ free → x.rank (f.top m) ≤ x.rank (f.top s) →
+      mate m ≡ x.mate m
+  pub has_pair : (i m u : ℕ) → i ≢ f.top t → IsExit n f x.mate i m u →
+      (a : ℕ) × (c : ℕ) × IsExit n f mate i a c
 
 -- sets of the tree on two ways up to where they meet
 pub record IsCycle (n : ℕ) (f : Sets) (x : Forest) (children : List ℕ) (meet : ℕ) : Type 0 where
@@ -87,7 +93,8 @@ pub record IsCycle (n : ℕ) (f : Sets) (x : Forest) (children : List ℕ) (meet
   pub meet_outer : x.place meet ≡ outer
   pub ranks : (c : ℕ) → has children c ≡ true → x.rank meet ≤ x.rank c
   pub in_tree : (c : ℕ) → has children c ≡ true → x.place c ≢ free
-  pub closed : (c m t : ℕ) → has children c ≡ true → c ≢ meet → IsExit n f x.mate c m t → has children (f.top t) ≡ true
+  pub closed : (c m t : ℕ) → has children c ≡ true → c ≢ meet → IsExit n f x.mate c m t →
+      has children (f.top t) ≡ true
   pub root_meets : has children x.root ≡ true → meet ≡ x.root
 
 -- a set takes the place of these in the tree
@@ -103,20 +110,24 @@ pub record Folds (x : Forest) (children : List ℕ) (meet set : ℕ) (y : Forest
   pub root_out : has children x.root ≡ false → y.root ≡ x.root
 
 -- a tree in which the mate of one inner set, and of one outer set, need not stand in it
-pub record IsBroken (n : ℕ) (f : Sets) (load dist : ℕ → ℕ → ℕ) (x : Forest) (cur out room : ℕ) : Type 0 where
+pub record IsBroken (n : ℕ) (f : Sets) (load dist : ℕ → ℕ → ℕ) (x : Forest)
+    (cur out room : ℕ) : Type 0 where
   pub tops : (i : ℕ) → x.place i ≢ free → (i < 2 * n) × (f.live i ≡ true) × (f.parent i ≡ None)
   pub root_outer : x.place x.root ≡ outer
   pub root_free : (m t : ℕ) → IsExit n f x.mate x.root m t → ⊥
-  pub outer_pair : (i : ℕ) → x.place i ≡ outer → i ≢ x.root → (m : ℕ) × (t : ℕ) × IsExit n f x.mate i m t
+  pub outer_pair : (i : ℕ) → x.place i ≡ outer → i ≢ x.root →
+      (m : ℕ) × (t : ℕ) × IsExit n f x.mate i m t
   pub outer_mate : (i m t : ℕ) → x.place i ≡ outer → i ≢ out → IsExit n f x.mate i m t →
       (x.place (f.top t) ≡ inner) × (x.rank (f.top t) < x.rank i)
   pub inner_pair : (i : ℕ) → x.place i ≡ inner → (m : ℕ) × (t : ℕ) × IsExit n f x.mate i m t
-  pub inner_mate : (i m t : ℕ) → x.place i ≡ inner → i ≢ cur → IsExit n f x.mate i m t → x.place (f.top t) ≡ outer
+  pub inner_mate : (i m t : ℕ) → x.place i ≡ inner → i ≢ cur → IsExit n f x.mate i m t →
+      x.place (f.top t) ≡ outer
   pub link_range : (i : ℕ) → x.place i ≡ inner → (x.above i < n) × (x.entry i < n)
   pub link_entry : (i : ℕ) → x.place i ≡ inner → f.top (x.entry i) ≡ i
   pub link_outer : (i : ℕ) → x.place i ≡ inner → x.place (f.top (x.above i)) ≡ outer
   pub link_rank : (i : ℕ) → x.place i ≡ inner → x.rank (f.top (x.above i)) < x.rank i
-  pub link_tight : (i : ℕ) → x.place i ≡ inner → load (x.above i) (x.entry i) ≡ dist (x.above i) (x.entry i)
+  pub link_tight : (i : ℕ) → x.place i ≡ inner →
+      load (x.above i) (x.entry i) ≡ dist (x.above i) (x.entry i)
   pub cur_inner : x.place cur ≡ inner
   pub out_outer : x.place out ≡ outer
   pub room_left : x.rank cur + room < x.rank out

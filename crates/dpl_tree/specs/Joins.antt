@@ -7,7 +7,8 @@ use Rattle.dpl_tree.specs.Mates.{IsExit, loads}
 -- each join leads from a member of one top to one of the next, from the top a to the top b
 abbrev pub IsWay : ℕ → Sets → (ℕ → ℕ → ℕ) → (ℕ → ℕ → ℕ) → ℕ → List (ℕ × ℕ) → ℕ → Type 0
 IsWay n f load dist a [] b = a ≡ b
-IsWay n f load dist a (j ∷ js) b = (j.0 < n) × (j.1 < n) × (f.top j.0 ≡ a) × (load j.0 j.1 ≡ dist j.0 j.1) ×
+IsWay n f load dist a (j ∷ js) b =
+    (j.0 < n) × (j.1 < n) × (f.top j.0 ≡ a) × (load j.0 j.1 ≡ dist j.0 j.1) ×
     IsWay n f load dist (f.top j.1) js b
 
 -- how often a number stands in a list
@@ -29,7 +30,8 @@ pub record AreGathered (n : ℕ) (f : Sets) (x : Forest) (a b : ℕ) (met : ℕ 
   pub b_outer : x.place b ≡ outer
   pub once : (c : ℕ) → met c ≤ 1
   pub in_tree : (c : ℕ) → 0 < met c → x.place c ≢ free
-  pub above : (c : ℕ) → 0 < met c → x.place c ≡ outer → (x.rank a ≤ x.rank c) × (x.rank b ≤ x.rank c) ×
+  pub above : (c : ℕ) → 0 < met c → x.place c ≡ outer →
+      (x.rank a ≤ x.rank c) × (x.rank b ≤ x.rank c) ×
       (c ≢ a) × (c ≢ b)
   pub ranks : (c : ℕ) → 0 < met c → (x.rank a ≤ x.rank c) ⊎ (x.rank b ≤ x.rank c)
   pub closed : (c m t : ℕ) → 0 < met c → IsExit n f x.mate c m t → 0 < met (f.top t)
@@ -39,7 +41,8 @@ abbrev pub met_on : Sets → List (ℕ × ℕ) → List (ℕ × ℕ) → ℕ →
 met_on f left right c = times_in (tops_to f left) c + times_in (tops_from f right) c
 
 -- two ways up from the sets of s and t to a and b, the left one downwards with its last join first
-pub record AreClimbing (n : ℕ) (f : Sets) (dist : ℕ → ℕ → ℕ) (x : Forest) (s t : ℕ) (left right : List (ℕ × ℕ))
+pub record AreClimbing (n : ℕ) (f : Sets) (dist : ℕ → ℕ → ℕ) (x : Forest) (s t : ℕ)
+    (left right : List (ℕ × ℕ))
     (a b : ℕ) : Type 0 where
   pub way_left : IsWay n f (loads n f) dist a (reverse left) (f.top s)
   pub way_right : IsWay n f (loads n f) dist (f.top t) right b

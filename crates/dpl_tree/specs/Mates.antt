@@ -27,7 +27,8 @@ pub record ArePairs (n : ℕ) (f : Sets) (load dist : ℕ → ℕ → ℕ) (mate
   pub back : (m t : ℕ) → m < n → mate m ≡ Some t → mate t ≡ Some m
   pub leaves : (m t : ℕ) → m < n → mate m ≡ Some t → f.top m ≢ f.top t
   pub tight : (m t : ℕ) → m < n → mate m ≡ Some t → load m t ≡ dist m t
-  pub alone : (m s t u : ℕ) → m < n → s < n → f.top m ≡ f.top s → mate m ≡ Some t → mate s ≡ Some u → m ≡ s
+  pub alone : (m s t u : ℕ) → m < n → s < n → f.top m ≡ f.top s → mate m ≡ Some t →
+      mate s ≡ Some u → m ≡ s
 
 -- two members become mates
 pub record Joins (mate : ℕ → Option ℕ) (s t : ℕ) (new : ℕ → Option ℕ) : Type 0 where

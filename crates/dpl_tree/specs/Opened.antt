@@ -14,7 +14,8 @@ pub record IsAround (n : ℕ) (f : Sets) (dist : ℕ → ℕ → ℕ) (set : ℕ
   pub count : length joins ≡ length sets
   pub odd : length sets % 2 ≡ 1
   pub kids : (i : ℕ) → i < length sets → has (f.children set) (slice_index sets i) ≡ true
-  pub all : (c : ℕ) → has (f.children set) c ≡ true → (i : ℕ) × (i < length sets) × (slice_index sets i ≡ c)
+  pub all : (c : ℕ) → has (f.children set) c ≡ true →
+      (i : ℕ) × (i < length sets) × (slice_index sets i ≡ c)
   pub distinct : (i j : ℕ) → i < j → j < length sets → slice_index sets i ≢ slice_index sets j
   pub from : (i : ℕ) → i < length sets → ((slice_index_or joins i (0, 0)).0 < n) ×
       (f.holds (slice_index sets i) (slice_index_or joins i (0, 0)).0 ≡ true)
@@ -58,7 +59,8 @@ pub record Lists : Type 0 where
   pub links : List (ℕ × ℕ)
 
 abbrev pub lists_of : Tree → Lists
-lists_of tree = record { labels = tree.labels.items; ranks = tree.ranks.items; links = tree.links.items }
+lists_of tree = record { labels = tree.labels.items; ranks = tree.ranks.items; links =
+    tree.links.items }
 
 abbrev pub forest_in : Lists → ℕ → (ℕ → Option ℕ) → Forest
 forest_in l root mate = record {
@@ -74,7 +76,8 @@ forest_in l root mate = record {
 abbrev pub step_in : Lists → ℕ → ℕ → ℕ → ℕ × ℕ → Lists
 step_in l cur out next link = record {
   labels = slice_set (slice_set l.labels out Outer) next Inner;
-  ranks = slice_set (slice_set l.ranks out (slice_index l.ranks cur + 1)) next (slice_index l.ranks cur + 2);
+  ranks = slice_set (slice_set l.ranks out (slice_index l.ranks cur
+  + 1)) next (slice_index l.ranks cur + 2);
   links = slice_set l.links next link;
 }
 
@@ -82,4 +85,5 @@ step_in l cur out next link = record {
 abbrev pub walked_times : Lists → List ℕ → List (ℕ × ℕ) → ℕ → Lists
 walked_times l sets joins zero = l
 walked_times l sets joins (suc r) = step_in (walked_times l sets joins r) (slice_index sets (2 * r))
-    (slice_index sets (2 * r + 1)) (slice_index sets (2 * r + 2)) (slice_index_or joins (2 * r + 1) (0, 0))
+    (slice_index sets (2 * r + 1)) (slice_index sets (2 * r + 2)) (slice_index_or joins (2 * r
+    + 1) (0, 0))

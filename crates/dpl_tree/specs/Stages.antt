@@ -60,25 +60,31 @@ abbrev pub AreRanked : Forest → ℕ → Type 0
 AreRanked x bound = (i : ℕ) → x.rank i ≤ bound
 
 -- what an event between two turns keeps, and that it comes nearer to the end
-pub record Advances (n : ℕ) (dist : ℕ → ℕ → ℕ) (f : Sets) (x : Forest) (g : Sets) (y : Forest) : Type 0 where
+pub record Advances (n : ℕ) (dist : ℕ → ℕ → ℕ) (f : Sets) (x : Forest) (g : Sets)
+    (y : Forest) : Type 0 where
   pub stage : IsStage n g dist y
   pub falls : potential n g y.place < potential n f x.place
   pub ready : (k : ℕ) → k < n → IsReady n f x k → IsReady n g y k
 
 -- the end of a stage: all that was ready has a pair
-pub record Ends (n : ℕ) (dist : ℕ → ℕ → ℕ) (f : Sets) (x : Forest) (g : Sets) (mate : ℕ → Option ℕ) : Type 0 where
+pub record Ends (n : ℕ) (dist : ℕ → ℕ → ℕ) (f : Sets) (x : Forest) (g : Sets)
+    (mate : ℕ → Option ℕ) : Type 0 where
   pub rest : IsRest n g dist mate
   pub covered : (k : ℕ) → k < n → IsReady n f x k → IsCovered n g mate k
 
 -- Outer members stay outer, and who has an outer member's top keeps it.
-pub record Widens (n : ℕ) (f : Sets) (place : ℕ → Place) (g : Sets) (place' : ℕ → Place) : Type 0 where
+pub record Widens (n : ℕ) (f : Sets) (place : ℕ → Place) (g : Sets)
+    (place' : ℕ → Place) : Type 0 where
   pub outer_stays : (s : ℕ) → s < n → place (f.top s) ≡ outer → place' (g.top s) ≡ outer
-  pub together : (s t : ℕ) → s < n → t < n → place (f.top s) ≡ outer → f.top s ≡ f.top t → g.top s ≡ g.top t
+  pub together : (s t : ℕ) → s < n → t < n → place (f.top s) ≡ outer → f.top s ≡ f.top t →
+      g.top s ≡ g.top t
 
 -- An amount that no candidate forbids: what the scan over the pairs and over the inner sets gives.
-pub record IsChange (n : ℕ) (f : Sets) (x : Forest) (v : ℕ → ℕ) (dist : ℕ → ℕ → ℕ) (by : ℕ) : Type 0 where
+pub record IsChange (n : ℕ) (f : Sets) (x : Forest) (v : ℕ → ℕ) (dist : ℕ → ℕ → ℕ)
+    (by : ℕ) : Type 0 where
   pub both_outer : (s t : ℕ) → s < n → t < n → f.top s ≢ f.top t → x.place (f.top s) ≡ outer →
-      x.place (f.top t) ≡ outer → total_in (2 * n) v f.holds s + total_in (2 * n) v f.holds t + 2 * by ≤
+      x.place (f.top t) ≡ outer → total_in (2 * n) v f.holds s + total_in (2 * n) v f.holds t + 2
+      * by ≤
       dist s t
   pub to_free : (s t : ℕ) → s < n → t < n → x.place (f.top s) ≡ outer → x.place (f.top t) ≡ free →
       total_in (2 * n) v f.holds s + total_in (2 * n) v f.holds t + by ≤ dist s t
