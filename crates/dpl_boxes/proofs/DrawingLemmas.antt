@@ -26,6 +26,7 @@ use Rattle.dpl_boxes.specs.Lines.{Line, said, comment_line}
 use Rattle.dpl_boxes.specs.MaskLines.{box_form, box_line, last_lines, lines_of_mask, lines_of_definition, lines_of_masks}
 use Rattle.dpl_boxes.proofs.QuarterLemmas.{extent_of, scaled_extent-box}
 use Rattle.dpl_boxes.proofs.CleanLemmas.{inside}
+use Rattle.dpl_cif.proofs.InOrder.{max_is, min_is}
 
 -- a rectangle as a part of the definition
 abbrev pub box_part : Corners → Part
@@ -77,18 +78,12 @@ call_of_masks chosen comments layer on_a on_b =
 
 -- figures
 
-least : (a b : ℤ) → a <ℤ b → int_min a b ≡ a
-least a b h = omega (arith, ints, clamps)
-
-greatest : (a b : ℤ) → a <ℤ b → int_max a b ≡ b
-greatest a b h = omega (arith, ints, clamps)
-
 -- the call of the definition leaves each point where it is
 abbrev pub still : Corner → Corner
 still c = unmoved (transformed_by one_to_one [] c)
 
 outline-still : (b : Corners) → IsRectangle b → cif.drawn (placed still (figure.Rectangle (extent_of b))) ≡ outlines.Box b
-outline-still b r = rw (least b.x1 b.x2 r.columns.some, least b.y1 b.y2 r.rows.some, greatest b.x1 b.x2 r.columns.some, greatest b.y1 b.y2 r.rows.some) refl
+outline-still b r = rw (min_is b.x1 b.x2 r.columns.some, min_is b.y1 b.y2 r.rows.some, max_is b.x1 b.x2 r.columns.some, max_is b.y1 b.y2 r.rows.some) refl
 
 abbrev pub boxes_where : Bool → List Corners → List Outline
 boxes_where t boxes = if t then map outlines.Box boxes else []

@@ -11,6 +11,7 @@ use Rattle.dpl_lex.specs.Classes.{is_digit, is_separator, drop_while}
 use Rattle.dpl_lex.specs.Number.{greatest, digits_value, of_magnitude, of_negated, unsigned_at, signed_at}
 use Rattle.dpl_lex.specs.CuttingLaws.{is_inside}
 use Rattle.dpl_rules.specs.Readers.{unsigned_of, signed_of}
+use Rattle.std.proofs.lemmas.Bool.{and_parts}
 
 -- no digit stands at the front
 abbrev pub has_no_digit : List ℕ → Bool
@@ -35,21 +36,17 @@ begins-append : (ds es : List ℕ) → begins_with_digit ds ≡ true → begins_
 begins-append [] es h = absurd (cc)
 begins-append (d ∷ ds) es h = h
 
-pub both : (a b : Bool) → a && b ≡ true → (a ≡ true) × (b ≡ true)
-both true b e = (refl, e)
-both false b e = absurd (cc)
-
 -- what passes one test passes another
 pub list_all-weaker : (p q : ℕ → Bool) → ((b : ℕ) → p b ≡ true → q b ≡ true) → (bs : List ℕ) → list_all p bs ≡ true → list_all q bs ≡ true
 list_all-weaker p q w [] h = refl
 list_all-weaker p q w (b ∷ bs) h =
-    let s = both (p b) (list_all p bs) h in
+    let s = and_parts (p b) (list_all p bs) h in
     rw (w b s.0) (list_all-weaker p q w bs s.1)
 
 digits_value-append : (m : ℕ) (ds : List ℕ) (d : ℕ) → list_all is_digit ds ≡ true → is_digit d ≡ true → digits_value m (ds ++ d ∷ []) ≡ 10 * digits_value m ds + (d - 48)
 digits_value-append m [] d h e = rw e refl
 digits_value-append m (x ∷ ds) d h e =
-    let p = both (is_digit x) (list_all is_digit ds) h in
+    let p = and_parts (is_digit x) (list_all is_digit ds) h in
     rw (p.0) (digits_value-append (10 * m + (x - 48)) ds d p.1 e)
 
 one_digit : (n : ℕ) → n < 10 → AreDigitsOf n ((48 + n) ∷ [])
@@ -76,17 +73,17 @@ digits_value-behind : (m : ℕ) (ds rest : List ℕ) → list_all is_digit ds �
 digits_value-behind m [] [] h e = refl
 digits_value-behind m [] (b ∷ rest) h e = grind arith
 digits_value-behind m (d ∷ ds) rest h e =
-    let p = both (is_digit d) (list_all is_digit ds) h in
+    let p = and_parts (is_digit d) (list_all is_digit ds) h in
     rw (p.0) (digits_value-behind (10 * m + (d - 48)) ds rest p.1 e)
 
 drop_while-digits : (ds rest : List ℕ) → list_all is_digit ds ≡ true → has_no_digit rest ≡ true → drop_while is_digit (ds ++ rest) ≡ rest
 drop_while-digits [] [] h e = refl
 drop_while-digits [] (b ∷ rest) h e = grind arith
 drop_while-digits (d ∷ ds) rest h e =
-    let p = both (is_digit d) (list_all is_digit ds) h in
+    let p = and_parts (is_digit d) (list_all is_digit ds) h in
     rw (p.0) (drop_while-digits ds rest p.1 e)
 
-digit_is_no_separator : (b : ℕ) → is_digit b ≡ true → is_separator b ≡ false
+pub digit_is_no_separator : (b : ℕ) → is_digit b ≡ true → is_separator b ≡ false
 digit_is_no_separator b e = grind (arith, nat_tests)
 
 digit_is_no_minus : (b : ℕ) → is_digit b ≡ true → (b == 45) ≡ false

@@ -17,7 +17,8 @@ use Rattle.dpl_rules.specs.Bounds.{command_of, is_command_in_bounds}
 use Rattle.dpl_rules.specs.Forms.{form_of, comment_of, layer_of}
 use Rattle.dpl_boxes.specs.Lines.{IsRead, is_flat, CommentsAreRead}
 use Rattle.dpl_boxes.specs.MaskLines.{start_line, finish_line, call_line, LayersAreRead}
-use Rattle.dpl_boxes.proofs.NumberLemmas.{both, list_all-weaker}
+use Rattle.dpl_boxes.proofs.NumberLemmas.{list_all-weaker}
+use Rattle.std.proofs.lemmas.Bool.{and_parts}
 
 -- any line but a comment goes to its semicolon
 plain_cut : (first : ℕ) (body : List ℕ) → begins_plain first ≡ true → list_all is_inside body ≡ true → (rest : List ℕ) (at : ℕ)
@@ -28,7 +29,7 @@ plain_cut first body b h rest at =
 
 nested_from_flat : (inner : List ℕ) → list_all is_flat inner ≡ true → IsNested inner
 nested_from_flat [] h = nothing
-nested_from_flat (b ∷ bs) h = let s = both (is_flat b) (list_all is_flat bs) h in byte b bs s.0 (nested_from_flat bs s.1)
+nested_from_flat (b ∷ bs) h = let s = and_parts (is_flat b) (list_all is_flat bs) h in byte b bs s.0 (nested_from_flat bs s.1)
 
 comment_cut : (inner : List ℕ) → list_all is_flat inner ≡ true → (rest : List ℕ) (at : ℕ)
     → cut Between at ((40 ∷ (inner ++ 41 ∷ [])) ++ 59 ∷ rest) ≡ with_span (Some (span at (at + length (40 ∷ (inner ++ 41 ∷ []))))) (cut Between (at + length (40 ∷ (inner ++ 41 ∷ [])) + 1) rest)
@@ -39,7 +40,7 @@ comment_cut inner h rest at =
 
 comment_of-flat : (inner : List ℕ) → list_all is_flat inner ≡ true → comment_of 0 (inner ++ 41 ∷ []) ≡ Some Idle
 comment_of-flat [] h = refl
-comment_of-flat (b ∷ bs) h = let s = both (is_flat b) (list_all is_flat bs) h in grind (arith, nat_tests, comment_of-flat bs s.1)
+comment_of-flat (b ∷ bs) h = let s = and_parts (is_flat b) (list_all is_flat bs) h in grind (arith, nat_tests, comment_of-flat bs s.1)
 
 -- a form whose numbers are in bounds is the command
 command_of-form : (bytes : List ℕ) (command : Command) → form_of bytes ≡ Some command → is_command_in_bounds command ≡ true → command_of bytes ≡ Ok command
@@ -71,16 +72,16 @@ name_byte_is_inside : (b : ℕ) → is_name_byte b ≡ true → is_inside b ≡ 
 name_byte_is_inside b e = grind (arith, nat_tests)
 
 pub name_bytes : (name : List ℕ) → is_name name ≡ true → list_all is_name_byte name ≡ true
-name_bytes name h = (both (nat_le 1 (length name) && nat_le (length name) 32) (list_all is_name_byte name) h).1
+name_bytes name h = (and_parts (nat_le 1 (length name) && nat_le (length name) 32) (list_all is_name_byte name) h).1
 
 drop_while-name : (name : List ℕ) → list_all is_name_byte name ≡ true → drop_while is_blank name ≡ name
 drop_while-name [] h = refl
-drop_while-name (b ∷ bs) h = rw (name_byte_is_no_blank b (both (is_name_byte b) (list_all is_name_byte bs) h).0) refl
+drop_while-name (b ∷ bs) h = rw (name_byte_is_no_blank b (and_parts (is_name_byte b) (list_all is_name_byte bs) h).0) refl
 
 prefix_len-all : (name : List ℕ) → list_all is_name_byte name ≡ true → prefix_len is_name_byte name ≡ length name
 prefix_len-all [] h = refl
 prefix_len-all (b ∷ bs) h =
-    let s = both (is_name_byte b) (list_all is_name_byte bs) h in
+    let s = and_parts (is_name_byte b) (list_all is_name_byte bs) h in
     rw (s.0, prefix_len-all bs s.1) (omega arith)
 
 layer_of-name : (name : List ℕ) → is_name name ≡ true → layer_of (32 ∷ name) ≡ Some (Layer name)

@@ -25,11 +25,12 @@ use Rattle.dpl_calls.specs.Parts.{Part, is_same, where_true, scaled_extent, scal
 use Rattle.dpl_calls.specs.Parts.Part.{Drawn, Called}
 use Rattle.dpl_calls.specs.Kept.{IsLevel, AreLevel, HasLevelSides, IsSound, IsFigureNear, IsPartKept}
 use Rattle.dpl_calls.proofs.Cases.{of_eq}
-use Rattle.dpl_calls.proofs.Nearness.{and_true, in_bounds_le}
+use Rattle.dpl_calls.proofs.Nearness.{in_bounds_le}
 use Rattle.dpl_calls.proofs.FarParts.{all_cons, all_nil, path_near, leg_near, box_near}
 use Rattle.dpl_calls.proofs.Few.{AllFit}
 use Rattle.dpl_calls.proofs.Rigid.{transformations_rigid}
 use Rattle.dpl_calls.proofs.Scaling.{scaled_apart}
+use Rattle.std.proofs.lemmas.Bool.{and_parts, not-false, not-true, or_parts}
 
 -- ---- which rules were tried
 
@@ -56,14 +57,6 @@ clean s twice c h =
     let n = nine (breaks_nest s c) twice (breaks_angle s c) (breaks_layerless s c) (breaks_slant s c) (breaks_off_grid s c) (breaks_round s c) (breaks_delete c) (breaks_scale c) Nest Twice Angle Layerless Slant OffGrid Round DeleteRule ScaleRule h in
     record { slant = n.0; grid = n.1; scale = n.2 }
 
-not_false : (b : Bool) → not b ≡ false → b ≡ true
-not_false true h = refl
-not_false false h = cc
-
-or_false : (a b : Bool) → (a || b) ≡ false → (a ≡ false) × (b ≡ false)
-or_false true b h = cc
-or_false false b h = (refl, h)
-
 -- ---- corners stay apart
 
 less_more : (z : ℤ) (n : ℕ) → 0 < n → less z n <ℤ more z n
@@ -78,9 +71,9 @@ legs_apart a b n h =
 
 extent_sound : (s : Scale) (e : Extent) → IsScale s → is_extent_on_grid s e ≡ true → e.x1 <ℤ e.x2 → e.y1 <ℤ e.y2 → IsSound (figure.Rectangle (scaled_extent s e))
 extent_sound s e sc h x y =
-    let f = and_true (is_on_grid s e.x1 && is_on_grid s e.y1 && is_on_grid s e.x2) (is_on_grid s e.y2) h in
-    let g = and_true (is_on_grid s e.x1 && is_on_grid s e.y1) (is_on_grid s e.x2) f.0 in
-    let i = and_true (is_on_grid s e.x1) (is_on_grid s e.y1) g.0 in
+    let f = and_parts (is_on_grid s e.x1 && is_on_grid s e.y1 && is_on_grid s e.x2) (is_on_grid s e.y2) h in
+    let g = and_parts (is_on_grid s e.x1 && is_on_grid s e.y1) (is_on_grid s e.x2) f.0 in
+    let i = and_parts (is_on_grid s e.x1) (is_on_grid s e.y1) g.0 in
     (scaled_apart s e.x1 e.x2 sc.some i.0 g.1 x, scaled_apart s e.y1 e.y2 sc.some i.1 f.1 y)
 
 positive : (n : ℕ) → (n == 0) ≡ false → 0 < n
@@ -115,13 +108,13 @@ level s p q h = elim (and_false (eq_z p.x q.x) (eq_z p.y q.y) h) [
 levels : (s : Scale) (p : Spot) (ps : List Spot) (last : Spot) → slants_from p ps ≡ false → is_slanted (last_of p ps) last ≡ false → AreLevel (scaled_corner s p) (map (scaled_corner s) ps) (scaled_corner s last)
 levels s p [] last h k = level s p last k
 levels s p (q ∷ qs) last h k =
-    let f = or_false (is_slanted p q) (slants_from q qs) h in
+    let f = or_parts (is_slanted p q) (slants_from q qs) h in
     (level s p q f.0, levels s q qs last f.1 k)
 
 polygon_sound : (s : Scale) (path : List Spot) → slants_round path ≡ false → HasLevelSides (map (scaled_corner s) path)
 polygon_sound s [] h = tt
 polygon_sound s (p ∷ ps) h =
-    let f = or_false (slants_from p ps) (is_slanted (last_of p ps) p) h in
+    let f = or_parts (slants_from p ps) (is_slanted (last_of p ps) p) h in
     levels s p ps p f.0 f.1
 
 -- ---- the parts of a command
@@ -133,53 +126,46 @@ where_kept false ps h = all_nil IsPartKept
 one : (p : Part) → IsPartKept p → All IsPartKept (p ∷ [])
 one p h = all_cons IsPartKept p [] h (all_nil IsPartKept)
 
-where_chosen : (c b : Bool) → (c && b) ≡ true → (c ≡ true) × (b ≡ true)
-where_chosen c b h = and_true c b h
-
 leg_kept : (s : Scale) (w : ℕ) (p q : Spot) → IsScale s → w ≤ 10 ^ 12 → 0 < w → is_spot_in_bounds p ≡ true → is_spot_in_bounds q ≡ true → is_extent_on_grid s (leg w p q) ≡ true → IsPartKept (rectangle s (leg w p q))
 leg_kept s w p q sc hw some hp hq grid = (leg_near s w p q sc hw hp hq, extent_sound s (leg w p q) sc grid (legs_apart p.x q.x w some) (legs_apart p.y q.y w some))
 
 legs_kept : (s : Scale) (w : ℕ) (p : Spot) (ps : List Spot) → IsScale s → w ≤ 10 ^ 12 → 0 < w → is_spot_in_bounds p ≡ true → list_all is_spot_in_bounds ps ≡ true → list_all (is_extent_on_grid s) (legs_from w p ps) ≡ true → All IsPartKept (map (rectangle s) (legs_from w p ps))
 legs_kept s w p [] sc hw some hp h grid = all_nil IsPartKept
 legs_kept s w p (q ∷ qs) sc hw some hp h grid =
-    let f = and_true (is_spot_in_bounds q) (list_all is_spot_in_bounds qs) h in
-    let k = and_true (is_extent_on_grid s (leg w p q)) (list_all (is_extent_on_grid s) (legs_from w q qs)) grid in
+    let f = and_parts (is_spot_in_bounds q) (list_all is_spot_in_bounds qs) h in
+    let k = and_parts (is_extent_on_grid s (leg w p q)) (list_all (is_extent_on_grid s) (legs_from w q qs)) grid in
     all_cons IsPartKept (rectangle s (leg w p q)) (map (rectangle s) (legs_from w q qs)) (leg_kept s w p q sc hw some hp f.0 k.0) (legs_kept s w q qs sc hw some f.0 f.1 k.1)
 
 wire_kept : (s : Scale) (w : ℕ) (ps : List Spot) → IsScale s → w ≤ 10 ^ 12 → 0 < w → list_all is_spot_in_bounds ps ≡ true → list_all (is_extent_on_grid s) (legs w ps) ≡ true → All IsPartKept (map (rectangle s) (legs w ps))
 wire_kept s w [] sc hw some h grid = all_nil IsPartKept
 wire_kept s w (p ∷ []) sc hw some h grid =
-    let f = and_true (is_spot_in_bounds p) true h in
-    let k = and_true (is_extent_on_grid s (leg w p p)) true grid in
+    let f = and_parts (is_spot_in_bounds p) true h in
+    let k = and_parts (is_extent_on_grid s (leg w p p)) true grid in
     one (rectangle s (leg w p p)) (leg_kept s w p p sc hw some f.0 f.0 k.0)
 wire_kept s w (p ∷ q ∷ qs) sc hw some h grid =
-    let f = and_true (is_spot_in_bounds p) (list_all is_spot_in_bounds (q ∷ qs)) h in
+    let f = and_parts (is_spot_in_bounds p) (list_all is_spot_in_bounds (q ∷ qs)) h in
     legs_kept s w p (q ∷ qs) sc hw some f.0 f.1 grid
 
 on_grid : (chosen off : Bool) → (chosen && not off) ≡ false → chosen ≡ true → off ≡ true
-on_grid true off h k = not_false off h
+on_grid true off h k = not-false off h
 on_grid false off h k = cc
 
 no_slant : (chosen slant : Bool) → (chosen && slant) ≡ false → chosen ≡ true → slant ≡ false
 no_slant true slant h k = h
 no_slant false slant h k = cc
 
-not_true : (b : Bool) → not b ≡ true → b ≡ false
-not_true true h = cc
-not_true false h = refl
-
 pub parts_kept : (s : Scope) (c : Command) → IsScale s.scale → is_command_in_bounds c ≡ true → Clean s c → All IsPartKept (parts_of s c)
 parts_kept s Idle sc h k = all_nil IsPartKept
 parts_kept s (Polygon path) sc h k = where_kept (is_chosen s.layer) _ (λ on. one _ (path_near s.scale path sc h, polygon_sound s.scale path (no_slant (is_chosen s.layer) (slants_round path) k.slant on)))
 parts_kept s (Box b) sc h k = where_kept (is_chosen s.layer && not (b.length == 0 || b.width == 0)) _ (λ on.
-    let f = and_true (is_chosen s.layer) (not (b.length == 0 || b.width == 0)) on in
-    let z = or_false (b.length == 0) (b.width == 0) (not_true (b.length == 0 || b.width == 0) f.1) in
+    let f = and_parts (is_chosen s.layer) (not (b.length == 0 || b.width == 0)) on in
+    let z = or_parts (b.length == 0) (b.width == 0) (not-true (b.length == 0 || b.width == 0) f.1) in
     let a = box_apart b (positive b.length z.0) (positive b.width z.1) in
     one _ (box_near s.scale b sc h, extent_sound s.scale (box_extent b) sc (on_grid (is_chosen s.layer) (is_extent_on_grid s.scale (box_extent b)) k.grid f.0) a.0 a.1))
 parts_kept s (Wire width path) sc h k = where_kept (is_chosen s.layer && not (width == 0)) _ (λ on.
-    let f = and_true (is_chosen s.layer) (not (width == 0)) on in
-    let g = and_true (is_in_bounds width) (list_all is_spot_in_bounds path) h in
-    wire_kept s.scale width path sc (in_bounds_le width g.0) (positive width (not_true (width == 0) f.1)) g.1 (on_grid (is_chosen s.layer) (list_all (is_extent_on_grid s.scale) (legs width path)) k.grid f.0))
+    let f = and_parts (is_chosen s.layer) (not (width == 0)) on in
+    let g = and_parts (is_in_bounds width) (list_all is_spot_in_bounds path) h in
+    wire_kept s.scale width path sc (in_bounds_le width g.0) (positive width (not-true (width == 0) f.1)) g.1 (on_grid (is_chosen s.layer) (list_all (is_extent_on_grid s.scale) (legs width path)) k.grid f.0))
 parts_kept s (Flash d p) sc h k = all_nil IsPartKept
 parts_kept s (Layer name) sc h k = all_nil IsPartKept
 parts_kept s (Start n scale) sc h k = all_nil IsPartKept
@@ -189,9 +175,9 @@ parts_kept s (Call n ts) sc h k = one _ (transformations_rigid s.scale ts)
 
 start_scale : (n : ℕ) (scale : Scale) → (eqb scale.times 0 || eqb scale.over 0) ≡ false → is_command_in_bounds (Start n scale) ≡ true → IsScale scale
 start_scale n scale z h =
-    let f = and_true (is_in_bounds n && is_in_bounds scale.times) (is_in_bounds scale.over) h in
-    let g = and_true (is_in_bounds n) (is_in_bounds scale.times) f.0 in
-    let q = or_false (eqb scale.times 0) (eqb scale.over 0) z in
+    let f = and_parts (is_in_bounds n && is_in_bounds scale.times) (is_in_bounds scale.over) h in
+    let g = and_parts (is_in_bounds n) (is_in_bounds scale.times) f.0 in
+    let q = or_parts (eqb scale.times 0) (eqb scale.over 0) z in
     record { some = positive scale.times q.0; times = in_bounds_le scale.times g.1; over = positive scale.over q.1 }
 
 after_scale : (chosen : List ℕ) (s : Scope) (c : Command) → Clean s c → is_command_in_bounds c ≡ true → IsScale s.scale → IsScale (after chosen s c).scale

@@ -15,8 +15,9 @@ use Rattle.dpl_calls.specs.Loops.{names, calls, Path}
 use Rattle.dpl_calls.specs.Loops.Path.{once, more}
 use Rattle.dpl_calls.specs.Table.{part_of, or_nothing, bodies_of}
 use Rattle.dpl_calls.specs.Places.{place_of, one_further, with_place, called_places, body_at, graph_of}
-use Rattle.dpl_calls.proofs.Cases.{or_true, or_left, or_right, of_eq, to_eq, bool_cases, get_map}
+use Rattle.dpl_calls.proofs.Cases.{of_eq, to_eq, bool_cases, get_map}
 use Rattle.dpl_calls.proofs.LoopPaths.{placed_key}
+use Rattle.std.proofs.lemmas.Bool.{or_left, or_right, or_cases}
 
 -- what a place gives
 pub placed_value : (n i : ℕ) (es : List (ℕ × List Entry)) → place_of n (keys_of es) ≡ Some i → or_nothing (lookup (nat_eq n) es) ≡ get_or (values_of es) i []
@@ -71,7 +72,7 @@ module _ (t : Table) where
   pub edge_in : (m y : ℕ) → place_of m numbers ≡ Some y → (parts : List Part) → list_any (names m) parts ≡ true → At y (called_places numbers parts)
   edge_in m y h [] c = cc
   edge_in m y h (Drawn f ∷ ps) c = edge_in m y h ps c
-  edge_in m y h (Called n moves ∷ ps) c = elim (or_true (n == m) (list_any (names m) ps) c) [
+  edge_in m y h (Called n moves ∷ ps) c = elim (or_cases (n == m) (list_any (names m) ps) c) [
     | inl e ↦ subst (λ (o : Option ℕ). At y (with_place o (called_places numbers ps))) (sym (ap (λ (k : ℕ). place_of k numbers) (of_eq n m e) ∙ h)) (record { k = 0; within = omega arith; there = refl })
     | inr later ↦ at_later y (place_of n numbers) (called_places numbers ps) (edge_in m y h ps later)
   ]

@@ -13,7 +13,8 @@ use Rattle.dpl_calls.specs.declared.figure.Figure.TheVariants.{Rectangle}
 use Rattle.dpl_calls.specs.Parts.{scaled_corner, scaled_extent}
 use Rattle.dpl_calls.specs.Placement.{IsCornerNear}
 use Rattle.dpl_calls.specs.Kept.{IsFigureNear}
-use Rattle.dpl_calls.proofs.Nearness.{min_near, max_near, less_near, more_near, scaled_near, and_true, in_bounds_le, spot_near}
+use Rattle.dpl_calls.proofs.Nearness.{min_near, max_near, less_near, more_near, scaled_near, in_bounds_le, spot_near}
+use Rattle.std.proofs.lemmas.Bool.{and_parts}
 
 pub all_cons : {X : Type 0} (P : X → Type 0) (x : X) (xs : List X) → P x → All P xs → All P (x ∷ xs)
 all_cons P x xs p h zero d lt = p
@@ -25,7 +26,7 @@ all_nil P k d lt = absurd (omega arith)
 pub path_near : (s : Scale) (ps : List Spot) → IsScale s → list_all is_spot_in_bounds ps ≡ true → All IsCornerNear (map (scaled_corner s) ps)
 path_near s [] sc h = all_nil IsCornerNear
 path_near s (p ∷ ps) sc h =
-    let f = and_true (is_spot_in_bounds p) (list_all is_spot_in_bounds ps) h in
+    let f = and_parts (is_spot_in_bounds p) (list_all is_spot_in_bounds ps) h in
     all_cons IsCornerNear (scaled_corner s p) (map (scaled_corner s) ps) (spot_near s p sc f.0) (path_near s ps sc f.1)
 
 around_near : (s : Scale) (x : ℤ) (across : ℕ) (y : ℤ) (along : ℕ) → IsScale s → unsigned_abs x ≤ 10 ^ 12 → unsigned_abs y ≤ 10 ^ 12 → across ≤ 10 ^ 12 → along ≤ 10 ^ 12 → IsFigureNear (Rectangle (scaled_extent s (around x across y along)))
@@ -36,8 +37,8 @@ around_near s x across y along sc hx hy ha hl = (
 
 pub leg_near : (s : Scale) (w : ℕ) (p q : Spot) → IsScale s → w ≤ 10 ^ 12 → is_spot_in_bounds p ≡ true → is_spot_in_bounds q ≡ true → IsFigureNear (Rectangle (scaled_extent s (leg w p q)))
 leg_near s w p q sc hw hp hq =
-    let f = and_true (is_in_bounds (unsigned_abs p.x)) (is_in_bounds (unsigned_abs p.y)) hp in
-    let g = and_true (is_in_bounds (unsigned_abs q.x)) (is_in_bounds (unsigned_abs q.y)) hq in
+    let f = and_parts (is_in_bounds (unsigned_abs p.x)) (is_in_bounds (unsigned_abs p.y)) hp in
+    let g = and_parts (is_in_bounds (unsigned_abs q.x)) (is_in_bounds (unsigned_abs q.y)) hq in
     let px : unsigned_abs p.x ≤ 10 ^ 12 = in_bounds_le (unsigned_abs p.x) f.0 in
     let py : unsigned_abs p.y ≤ 10 ^ 12 = in_bounds_le (unsigned_abs p.y) f.1 in
     let qx : unsigned_abs q.x ≤ 10 ^ 12 = in_bounds_le (unsigned_abs q.x) g.0 in
@@ -52,10 +53,10 @@ chosen_near false s p q h k = k
 
 pub box_near : (s : Scale) (b : BoxForm) → IsScale s → is_command_in_bounds (Box b) ≡ true → IsFigureNear (Rectangle (scaled_extent s (box_extent b)))
 box_near s b sc h =
-    let f = and_true (is_in_bounds b.length && is_in_bounds b.width && is_spot_in_bounds b.centre) (is_spot_in_bounds b.direction) h in
-    let g = and_true (is_in_bounds b.length && is_in_bounds b.width) (is_spot_in_bounds b.centre) f.0 in
-    let e = and_true (is_in_bounds b.length) (is_in_bounds b.width) g.0 in
-    let c = and_true (is_in_bounds (unsigned_abs b.centre.x)) (is_in_bounds (unsigned_abs b.centre.y)) g.1 in
+    let f = and_parts (is_in_bounds b.length && is_in_bounds b.width && is_spot_in_bounds b.centre) (is_spot_in_bounds b.direction) h in
+    let g = and_parts (is_in_bounds b.length && is_in_bounds b.width) (is_spot_in_bounds b.centre) f.0 in
+    let e = and_parts (is_in_bounds b.length) (is_in_bounds b.width) g.0 in
+    let c = and_parts (is_in_bounds (unsigned_abs b.centre.x)) (is_in_bounds (unsigned_abs b.centre.y)) g.1 in
     let x : unsigned_abs b.centre.x ≤ 10 ^ 12 = in_bounds_le (unsigned_abs b.centre.x) c.0 in
     let y : unsigned_abs b.centre.y ≤ 10 ^ 12 = in_bounds_le (unsigned_abs b.centre.y) c.1 in
     let l : b.length ≤ 10 ^ 12 = in_bounds_le b.length e.0 in

@@ -21,6 +21,7 @@ use Rattle.dpl_calls.specs.Table.{part_of}
 use Rattle.dpl_calls.specs.Kept.{IsFigureNear, IsSound, IsPartKept}
 use Rattle.dpl_calls.specs.Stack.{left, frame_figures, pending, part_turns, turns_of, frame_turns, turns_left, frame_calls, calls_left, IsFrameNear, Goes}
 use Rattle.dpl_calls.proofs.Pending.{pending_push, pending_append, called_figures, called_calls, called_turns}
+use Rattle.dpl_list.proofs.Lists.{all_tail, all_head}
 
 all_push : {X : Type 0} (P : X → Type 0) (xs : List X) (x : X) → All P xs → P x → All P (xs ++ x ∷ [])
 all_push P xs x h p = All-append P xs (x ∷ []) h (λ k d lt. elim k as (λ j. j < 1 → P (get_or (x ∷ []) j d)) [ zero ↦ λ _. p | suc j ↦ λ bad. absurd (omega arith) ] lt)
@@ -31,12 +32,6 @@ all_popped P xs x h =
       λ k d lt. subst P (get_or_append_left xs (x ∷ []) d k lt) (h k d (omega arith)),
       subst P (get_or_push xs x x (length xs) refl) (h (length xs) x (omega arith)),
     )
-
-all_tail : {X : Type 0} (P : X → Type 0) (x : X) (xs : List X) → All P (x ∷ xs) → All P xs
-all_tail P x xs h k d lt = h (suc k) d (omega arith)
-
-all_head : {X : Type 0} (P : X → Type 0) (x : X) (xs : List X) → All P (x ∷ xs) → P x
-all_head P x xs h = h 0 x (omega arith)
 
 near_more : (n m : ℕ) (f : Frame) → n ≤ m → IsFrameNear n f → IsFrameNear m f
 near_more n m f le h = record { place = record { x = omega (arith, h.place.x); y = omega (arith, h.place.y) }; entries = h.entries; parts = h.parts }

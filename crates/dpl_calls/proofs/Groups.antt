@@ -14,9 +14,10 @@ use Rattle.dpl_calls.specs.Loops.{calls, leads_to, is_looped, LeadsBack, Path}
 use Rattle.dpl_calls.specs.Table.{bodies_of}
 use Rattle.dpl_calls.specs.Places.{place_of, body_at, graph_of}
 use Rattle.dpl_calls.specs.Found.{IsSite}
-use Rattle.dpl_calls.proofs.Cases.{of_eq, to_eq, bool_cases, same_if}
+use Rattle.dpl_calls.proofs.Cases.{of_eq, to_eq, bool_cases}
 use Rattle.dpl_calls.proofs.LoopPaths.{placed_key, looped_back, back_looped}
 use Rattle.dpl_calls.proofs.Edges.{body_absent, graph_size, call_edge, leads_path, path_leads, HasPlace, caller_place, path_place}
+use Rattle.std.specs.Cmp.{both_ways}
 
 module _ (t : Table) (labels heads : List ℕ) (G : AreGroups (graph_of t) labels heads) where
   abbrev numbers : List ℕ
@@ -58,7 +59,7 @@ module _ (t : Table) (labels heads : List ℕ) (G : AreGroups (graph_of t) label
         ]
 
     pub same_group : (get_or labels x 0 == get_or labels y 0) ≡ is_looped (length (keys t.definitions)) (bodies_of t) s
-    same_group = same_if (get_or labels x 0 == get_or labels y 0) (is_looped (length (keys t.definitions)) (bodies_of t) s)
+    same_group = both_ways (get_or labels x 0 == get_or labels y 0) (is_looped (length (keys t.definitions)) (bodies_of t) s)
         (λ e. back_looped (bodies_of t) (keys t.definitions) (body_absent t) s (forth (of_eq (get_or labels x 0) (get_or labels y 0) e)))
         (λ e. to_eq (get_or labels x 0) (get_or labels y 0) (back (looped_back (bodies_of t) (keys t.definitions) (body_absent t) s e)))
 

@@ -13,7 +13,8 @@ use Rattle.dpl_calls.specs.Parts.Part.{Drawn, Called}
 use Rattle.dpl_calls.specs.Loops.{part_leads, leads_to, is_looped, names, calls, Path, LeadsBack, LoopsLeadBack, numbers_from}
 use Rattle.dpl_calls.specs.Loops.Path.{once, more}
 use Rattle.dpl_calls.specs.Places.{place_of, one_further}
-use Rattle.dpl_calls.proofs.Cases.{or_true, or_left, or_right, of_eq, to_eq, bool_cases, same_if, get_map}
+use Rattle.dpl_calls.proofs.Cases.{of_eq, to_eq, bool_cases, get_map}
+use Rattle.std.proofs.lemmas.Bool.{or_left, or_right, or_cases}
 
 -- these parts lead there
 pub record Out (b : Bodies) (to : ℕ) (parts : List Part) : Type 0 where
@@ -28,11 +29,11 @@ out_parts : (b : Bodies) (to : ℕ) (inner : List Part → Bool) → ((n : ℕ) 
 out_parts b to inner ih [] h = cc
 out_parts b to inner ih (Drawn f ∷ ps) h = out_later b to (Drawn f) ps (out_parts b to inner ih ps h)
 out_parts b to inner ih (Called n moves ∷ ps) h =
-    elim (or_true (n == to || inner (b (Some n))) (list_any (part_leads b inner to) ps) h) [
+    elim (or_cases (n == to || inner (b (Some n))) (list_any (part_leads b inner to) ps) h) [
       | inl here ↦ record {
         n = n;
         named = or_left (n == n) (list_any (names n) ps) (to_eq n n refl);
-        on = elim (or_true (n == to) (inner (b (Some n))) here) [
+        on = elim (or_cases (n == to) (inner (b (Some n))) here) [
           | inl e ↦ inl (of_eq n to e)
           | inr l ↦ inr (let o : Out b to (b (Some n)) = ih n l in elim o.on [
             | inl e ↦ once n to (subst (λ (k : ℕ). calls b n k ≡ true) e o.named)
@@ -51,7 +52,7 @@ in_parts : (b : Bodies) (to n : ℕ) (inner : List Part → Bool) → (n == to |
 in_parts b to n inner h [] named = cc
 in_parts b to n inner h (Drawn f ∷ ps) named = in_parts b to n inner h ps named
 in_parts b to n inner h (Called m moves ∷ ps) named =
-    elim (or_true (m == n) (list_any (names n) ps) named) [
+    elim (or_cases (m == n) (list_any (names n) ps) named) [
       | inl e ↦ or_left (m == to || inner (b (Some m))) (list_any (part_leads b inner to) ps) (subst (λ (k : ℕ). (k == to || inner (b (Some k))) ≡ true) (sym (of_eq m n e)) h)
       | inr later ↦ or_right (m == to || inner (b (Some m))) (list_any (part_leads b inner to) ps) (in_parts b to n inner h ps later)
     ]
@@ -87,8 +88,8 @@ parts_more : (b : Bodies) (to : ℕ) (t u : List Part → Bool) → ((n : ℕ) �
 parts_more b to t u h [] l = l
 parts_more b to t u h (Drawn f ∷ ps) l = parts_more b to t u h ps l
 parts_more b to t u h (Called n moves ∷ ps) l =
-    elim (or_true (n == to || t (b (Some n))) (list_any (part_leads b t to) ps) l) [
-      | inl here ↦ or_left (n == to || u (b (Some n))) (list_any (part_leads b u to) ps) (elim (or_true (n == to) (t (b (Some n))) here) [
+    elim (or_cases (n == to || t (b (Some n))) (list_any (part_leads b t to) ps) l) [
+      | inl here ↦ or_left (n == to || u (b (Some n))) (list_any (part_leads b u to) ps) (elim (or_cases (n == to) (t (b (Some n))) here) [
         | inl e ↦ or_left (n == to) (u (b (Some n))) e
         | inr e ↦ or_right (n == to) (u (b (Some n))) (h n e)
       ])
@@ -236,7 +237,7 @@ module _ (b : Bodies) (ks : List ℕ) (only : (n : ℕ) → place_of n ks ≡ No
     where
       by : (d : Option ℕ) → (elim d as (λ o. Bool) [ None ↦ false | Some d ↦ s.called == d || leads_to (length ks) b d (b (Some s.called)) ]) ≡ true → MatchOption d ⊥ (λ d. (s.called ≡ d) ⊎ Path b s.called d)
       by None e = cc
-      by (Some d) e = elim (or_true (s.called == d) (leads_to (length ks) b d (b (Some s.called))) e) [
+      by (Some d) e = elim (or_cases (s.called == d) (leads_to (length ks) b d (b (Some s.called))) e) [
         | inl q ↦ inl (of_eq s.called d q)
         | inr l ↦ inr (leads_to_path b d ks only s.called l)
       ]

@@ -13,6 +13,7 @@ use Rattle.dpl_rules.specs.Bounds.{is_in_bounds, is_spot_in_bounds}
 use Rattle.dpl_rules.specs.Figures.{IsScale, scaled, double, less, more}
 use Rattle.dpl_calls.specs.Parts.{scaled_corner}
 use Rattle.dpl_calls.specs.Placement.{IsCornerNear}
+use Rattle.std.proofs.lemmas.Bool.{and_parts}
 
 abs_neg : (x : ℕ) → unsigned_abs (neg_ℤ (pos x)) ≡ x
 abs_neg zero = refl
@@ -48,10 +49,6 @@ scaled_near s z sc h =
     let b : unsigned_abs z * s.times ≤ (3 * 10 ^ 12) * 10 ^ 12 = mul-le-mul h sc.times in
     omega arith
 
-pub and_true : (a b : Bool) → (a && b) ≡ true → (a ≡ true) × (b ≡ true)
-and_true true b h = (refl, h)
-and_true false b h = cc
-
 pub in_bounds_le : (n : ℕ) → is_in_bounds n ≡ true → n ≤ 10 ^ 12
 in_bounds_le n h = grind (arith, common_steps)
 
@@ -62,7 +59,7 @@ double_near z h = omega (arith, ints, h)
 -- a point in bounds stays near in its scale
 pub spot_near : (s : Scale) (p : Spot) → IsScale s → is_spot_in_bounds p ≡ true → IsCornerNear (scaled_corner s p)
 spot_near s p sc h =
-    let f = and_true (is_in_bounds (unsigned_abs p.x)) (is_in_bounds (unsigned_abs p.y)) h in record {
+    let f = and_parts (is_in_bounds (unsigned_abs p.x)) (is_in_bounds (unsigned_abs p.y)) h in record {
       x = scaled_near s (double p.x) sc (double_near p.x (in_bounds_le (unsigned_abs p.x) f.0));
       y = scaled_near s (double p.y) sc (double_near p.y (in_bounds_le (unsigned_abs p.y) f.1));
     }

@@ -18,6 +18,7 @@ use Rattle.dpl_calls.specs.Parts.Part.{Drawn, Called}
 use Rattle.dpl_calls.specs.Unfolding.{placed, unmoved, part_figures, figures_of}
 use Rattle.dpl_calls.specs.Kept.{IsLevel, AreLevel, HasLevelSides, IsSound, IsRigid, IsPartKept, AreKept}
 use Rattle.dpl_calls.proofs.FarParts.{all_cons, all_nil}
+use Rattle.dpl_list.proofs.Lists.{all_tail, all_head}
 
 neg_back : (a b : ℤ) → neg_ℤ a ≡ neg_ℤ b → a ≡ b
 neg_back a b e = omega (arith, ints)
@@ -91,12 +92,6 @@ placed_sound f (Polygon (p ∷ ps)) F h = levels_placed f F p ps p h
 
 all_one : {X : Type 0} (P : X → Type 0) (x : X) → P x → All P (x ∷ [])
 all_one P x p = all_cons P x [] p (all_nil P)
-
-all_head : {X : Type 0} (P : X → Type 0) (x : X) (xs : List X) → All P (x ∷ xs) → P x
-all_head P x xs h = h 0 x (omega arith)
-
-all_tail : {X : Type 0} (P : X → Type 0) (x : X) (xs : List X) → All P (x ∷ xs) → All P xs
-all_tail P x xs h k d lt = h (suc k) d (omega arith)
 
 module _ (bodies : Bodies) (inner : (Corner → Corner) → List Part → List Figure) (ih : (f : Corner → Corner) (n : ℕ) → IsRigid f → All IsSound (inner f (bodies (Some n)))) where
   part_sound : (f : Corner → Corner) (p : Part) → IsRigid f → IsPartKept p → All IsSound (part_figures bodies inner f p)

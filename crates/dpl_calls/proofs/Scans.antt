@@ -22,12 +22,13 @@ use Rattle.dpl_calls.specs.Places.{place_of, one_further, body_at, graph_of}
 use Rattle.dpl_calls.specs.Found.{IsSite}
 use Rattle.dpl_calls.specs.Counted.{HasNoLoop}
 use Rattle.dpl_calls.specs.Scanned.{IsScanned}
-use Rattle.dpl_calls.proofs.Cases.{or_true, or_left, or_right, of_eq, to_eq, bool_cases}
-use Rattle.dpl_calls.proofs.Nearness.{and_true}
+use Rattle.dpl_calls.proofs.Cases.{of_eq, to_eq, bool_cases}
 use Rattle.dpl_calls.proofs.LoopPaths.{placed_key}
 use Rattle.dpl_calls.proofs.Edges.{is_graph, edge_names, Named, graph_size, body_placed}
 use Rattle.dpl_calls.proofs.Sites.{is_from, calls_are_sites}
 use Rattle.dpl_calls.proofs.Groups.{same_group}
+use Rattle.std.proofs.lemmas.Bool.{and_parts, or_left, or_right, or_cases}
+use Rattle.dpl_groups.proofs.Reach.{cases_le}
 
 at_any : (d e : ℕ) (sites : List CallSite) (k : ℕ) (x : CallSite) → k < length sites → is_from d e (get_or sites k x) ≡ true → list_any (is_from d e) sites ≡ true
 at_any d e [] k x h f = absurd (omega arith)
@@ -54,15 +55,10 @@ none_first test what d e (s ∷ ss) h f = by (test s) refl h (λ q g. none_first
   where
     by : (b : Bool) → test s ≡ b → cond b (Some (fault s.at what)) (first_site test what ss) ≡ None → (first_site test what ss ≡ None → list_any (is_from d e) ss ≡ true → FromSites d e ss test) → FromSites d e (s ∷ ss) test
     by true t g ih = cc
-    by false t g ih = elim (or_true (is_from d e s) (list_any (is_from d e) ss) f) [
-      | inl here ↦ let p = and_true (is_same (Some d) s.definition) (s.called == e) here in record { site = s; stands = some_same d s.definition p.0; named = of_eq s.called e p.1; passes = t }
+    by false t g ih = elim (or_cases (is_from d e s) (list_any (is_from d e) ss) f) [
+      | inl here ↦ let p = and_parts (is_same (Some d) s.definition) (s.called == e) here in record { site = s; stands = some_same d s.definition p.0; named = of_eq s.called e p.1; passes = t }
       | inr later ↦ let r : FromSites d e ss test = ih g later in record { site = r.site; stands = r.stands; named = r.named; passes = r.passes }
     ]
-
-cases_le : (m n : ℕ) → (m ≤ n) ⊎ (n < m)
-cases_le zero n = inl (omega arith)
-cases_le (suc m) zero = inr (omega arith)
-cases_le (suc m) (suc n) = elim (cases_le m n) [ inl h ↦ inl (omega (arith, h)) | inr h ↦ inr (omega (arith, h)) ]
 
 -- among different numbers each is found at its place
 place_of_key : (ks : List ℕ) (x : ℕ) → IsDistinct nat_eq ks → x < length ks → place_of (get_or ks x 0) ks ≡ Some x

@@ -2,7 +2,7 @@
 use Rattle.std.proofs.Common.{◌≡◌, ◌⊎◌, inl, inr, ℕ, zero, suc, ◌+◌, ◌-◌, ◌≤◌, ◌<◌, ◌^◌, min, Bool, true, false, ◌||◌, ◌==◌, List, [], ◌∷◌, map, length, Option, None, Some, sum_by, refl, sym, ◌∙◌, ap, subst, arith, get_or, set}
 use Rattle.std.specs.List.{list_any}
 use Rattle.std.proofs.lemmas.List.{length-map, get_or-set_same, get_or-set_other}
-use Rattle.std.proofs.lemmas.Bool.{cases_eq}
+use Rattle.std.proofs.lemmas.Bool.{cases_eq, or_left, or_right}
 use Rattle.std.proofs.Math.Nat.{eq-or-lt_of_le}
 use Rattle.std.proofs.lemmas.List.Sums.{sum_by-cons}
 use Rattle.indexmap.specs.IndexMap.{keys}
@@ -19,7 +19,7 @@ use Rattle.dpl_calls.specs.Totals.{part_total, total_of, shown}
 use Rattle.dpl_calls.specs.Table.{bodies_of}
 use Rattle.dpl_calls.specs.Places.{place_of, body_at, graph_of}
 use Rattle.dpl_calls.specs.Counted.{total_at, kept_of, kept_total, HasNoLoop, AreRight}
-use Rattle.dpl_calls.proofs.Cases.{or_left, or_right, to_eq}
+use Rattle.dpl_calls.proofs.Cases.{to_eq}
 use Rattle.dpl_calls.proofs.LoopPaths.{placed_key}
 use Rattle.dpl_calls.proofs.Edges.{body_placed, body_absent, next_is, edge_in, At, graph_size, is_graph}
 

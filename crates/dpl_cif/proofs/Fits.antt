@@ -12,6 +12,7 @@ use Rattle.dpl_calls.specs.Kept.{IsSound, IsLevel, AreLevel, HasLevelSides}
 use Rattle.dpl_cell.specs.Places.{Corners}
 use Rattle.dpl_cell.specs.Ranges.{IsInRange, IsStretch, IsRectangle, is_straight, are_straight, has_straight_sides}
 use Rattle.dpl_cif.specs.Drawn.{drawn, place_of, place_reach, places_reach, outline_reach, reach}
+use Rattle.std.proofs.lemmas.Bool.{and_from}
 
 abbrev pub corners : ℤ → ℤ → ℤ → ℤ → Corners
 corners x1 y1 x2 y2 = record { x1 = x1; y1 = y1; x2 = x2; y2 = y2 }
@@ -60,13 +61,9 @@ level_straight p q (inr e) = by (int_eq p.x q.x) (int_eq p.y q.y) (int_same p.y 
     by true b h = refl
     by false b h = h
 
-both : (a b : Bool) → a ≡ true → b ≡ true → (a && b) ≡ true
-both true b h k = k
-both false b h k = cc
-
 levels_straight : (p : Corner) (ps : List Corner) (last : Corner) → AreLevel p ps last → are_straight (place_of p) (map place_of ps) (place_of last) ≡ true
 levels_straight p [] last h = level_straight p last h
-levels_straight p (q ∷ qs) last h = both (is_straight (place_of p) (place_of q)) (are_straight (place_of q) (map place_of qs) (place_of last)) (level_straight p q h.0) (levels_straight q qs last h.1)
+levels_straight p (q ∷ qs) last h = and_from (is_straight (place_of p) (place_of q)) (are_straight (place_of q) (map place_of qs) (place_of last)) (level_straight p q h.0) (levels_straight q qs last h.1)
 
 pub sides_straight : (cs : List Corner) → HasLevelSides cs → has_straight_sides (map place_of cs) ≡ true
 sides_straight [] h = refl

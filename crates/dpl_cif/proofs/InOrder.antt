@@ -23,11 +23,12 @@ use Rattle.dpl_calls.specs.Kept.{IsSound, IsPartKept}
 use Rattle.dpl_cif.specs.Drawn.{drawn, place_of}
 use Rattle.dpl_cif.specs.Reading.{forms_of}
 use Rattle.dpl_cif.specs.Laws.{is_no_call, own_outlines, outside, drawn_in_order}
+use Rattle.std.proofs.lemmas.Bool.{and_parts}
 
-min_is : (a b : ℤ) → a <ℤ b → int_min a b ≡ a
+pub min_is : (a b : ℤ) → a <ℤ b → int_min a b ≡ a
 min_is a b h = grind (arith, ints)
 
-max_is : (a b : ℤ) → a <ℤ b → int_max a b ≡ b
+pub max_is : (a b : ℤ) → a <ℤ b → int_max a b ≡ b
 max_is a b h = grind (arith, ints)
 
 map_unmoved : (cs : List Corner) → map unmoved cs ≡ cs
@@ -43,10 +44,6 @@ stays (figure.Polygon cs) s = ap (λ (ds : List Corner). figure.Polygon ds) (map
 abbrev pub is_drawn : Part → Bool
 is_drawn (Drawn f) = true
 is_drawn (Called n moves) = false
-
-both_true : (a b : Bool) → (a && b) ≡ true → (a ≡ true) × (b ≡ true)
-both_true true b h = (refl, h)
-both_true false b h = cc
 
 own_figures : (bodies : Bodies) (inner : (Corner → Corner) → List Part → List Figure) (ps : List Part) → list_all is_drawn ps ≡ true → All IsPartKept ps → map drawn (flat_map (part_figures bodies inner unmoved) ps) ≡ own_outlines ps
 own_figures bodies inner [] d k = refl
@@ -71,7 +68,7 @@ in_order layer s (Ok c ∷ rest) = rw (own_append (where_true (is_same None s.de
 none_before : {A : Type 0} (xs ys : List A) (test : A → Bool) → list_all test xs ≡ true → list_all test ys ≡ true → list_all test (xs ++ ys) ≡ true
 none_before [] ys test h k = k
 none_before (x ∷ xs) ys test h k =
-    let f = both_true (test x) (list_all test xs) h in
+    let f = and_parts (test x) (list_all test xs) h in
     rw f.0 (none_before xs ys test f.1 k)
 
 drawn_where : (b : Bool) (ps : List Part) → list_all is_drawn ps ≡ true → list_all is_drawn (where_true b ps) ≡ true
@@ -99,7 +96,7 @@ commands_drawn : (layer : List ℕ) (s : Scope) (commands : List (Result Command
 commands_drawn layer s [] h = refl
 commands_drawn layer s (Err w ∷ rest) h = commands_drawn layer s rest h
 commands_drawn layer s (Ok c ∷ rest) h =
-    let f = both_true (is_no_call (Ok c)) (list_all is_no_call rest) h in
+    let f = and_parts (is_no_call (Ok c)) (list_all is_no_call rest) h in
     none_before (where_true (is_same None s.definition) (parts_of s c)) (parts_from layer (after layer s c) rest None) is_drawn
     (drawn_where (is_same None s.definition) (parts_of s c) (command_drawn s c f.0))
     (commands_drawn layer (after layer s c) rest f.1)

@@ -12,16 +12,16 @@ record IsUsed (label : List ℕ) (i v : ℕ) : Type 0 where
   within : place < length label
   is : get_or label place 0 ≡ v
 
-next_take : (label : List ℕ) (i : ℕ) → i < length label → next_label (take (suc i) label) ≡ max (next_label (take i label)) (get_or label i 0 + 1)
+pub next_take : (label : List ℕ) (i : ℕ) → i < length label → next_label (take (suc i) label) ≡ max (next_label (take i label)) (get_or label i 0 + 1)
 next_take label i l =
     let e : take (suc i) label ≡ take i label ++ get_or label i 0 ∷ [] = take-suc label i 0 l in
     ap next_label e ∙ fold-append _ 0 (take i label) (get_or label i 0 ∷ [])
 
-later : (label : List ℕ) (i v : ℕ) → IsUsed label i v → IsUsed label (suc i) v
+pub later : (label : List ℕ) (i v : ℕ) → IsUsed label i v → IsUsed label (suc i) v
 later label i v u = let b = u.before in record { place = u.place; before = omega arith; within = u.within; is = u.is }
 
 -- all numbers below the next one are used
-used : (label : List ℕ) (n : ℕ) → IsNumbered label n → (i v : ℕ) → v < next_label (take i label) → IsUsed label i v
+pub used : (label : List ℕ) (n : ℕ) → IsNumbered label n → (i v : ℕ) → v < next_label (take i label) → IsUsed label i v
 used label n h zero v l = absurd (omega arith)
 used label n h (suc i) v l = elim (cases_lt i (length label)) [
   | inl w ↦
@@ -42,13 +42,13 @@ used label n h (suc i) v l = elim (cases_lt i (length label)) [
 abbrev pub AreTied : List ℕ → List ℕ → Type 0
 AreTied a b = (i j : ℕ) → i < length a → j < length a → (get_or a i 0 ≡ get_or a j 0) ↔ (get_or b i 0 ≡ get_or b j 0)
 
-takes_same : (a b : List ℕ) (i : ℕ) → length a ≡ length b → i ≤ length a → ((k : ℕ) → k < i → get_or a k 0 ≡ get_or b k 0) → take i a ≡ take i b
+pub takes_same : (a b : List ℕ) (i : ℕ) → length a ≡ length b → i ≤ length a → ((k : ℕ) → k < i → get_or a k 0 ≡ get_or b k 0) → take i a ≡ take i b
 takes_same a b i n l f =
     let p : length (take i a) ≡ i = length-take-le i a l in
     let q : length (take i b) ≡ i = length-take-le i b (omega arith) in
     ext_get_or 0 (take i a) (take i b) (p ∙ sym q) (λ k m. let c : k < i = omega arith in get_or-take i a k 0 c ∙ f k c ∙ sym (get_or-take i b k 0 c))
 
-number_same : (a b : List ℕ) (m n i : ℕ) → length a ≡ length b → i < length a → AreTied a b → IsNumbered a m → IsNumbered b n → ((k : ℕ) → k < i → get_or a k 0 ≡ get_or b k 0) → get_or a i 0 ≡ get_or b i 0
+pub number_same : (a b : List ℕ) (m n i : ℕ) → length a ≡ length b → i < length a → AreTied a b → IsNumbered a m → IsNumbered b n → ((k : ℕ) → k < i → get_or a k 0 ≡ get_or b k 0) → get_or a i 0 ≡ get_or b i 0
 number_same a b m n i long l tied g h f =
     let e : next_label (take i a) ≡ next_label (take i b) = ap next_label (takes_same a b i long (omega arith) f) in
     let u = g.grows i l in
@@ -68,7 +68,7 @@ number_same a b m n i long l tied g h f =
       ]
     ]
 
-numbers_before : (a b : List ℕ) (m n : ℕ) → length a ≡ length b → AreTied a b → IsNumbered a m → IsNumbered b n → (i : ℕ) → i ≤ length a → (k : ℕ) → k < i → get_or a k 0 ≡ get_or b k 0
+pub numbers_before : (a b : List ℕ) (m n : ℕ) → length a ≡ length b → AreTied a b → IsNumbered a m → IsNumbered b n → (i : ℕ) → i ≤ length a → (k : ℕ) → k < i → get_or a k 0 ≡ get_or b k 0
 numbers_before a b m n long tied g h zero l k c = absurd (omega arith)
 numbers_before a b m n long tied g h (suc i) l k c =
     let f = numbers_before a b m n long tied g h i (omega arith) in

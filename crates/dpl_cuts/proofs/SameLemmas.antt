@@ -19,21 +19,13 @@ use Rattle.dpl_cuts.specs.declared.types.Fragments.{Fragments}
 use Rattle.dpl_cuts.specs.Positions.{nowhere, rect_at, end_of}
 use Rattle.dpl_cuts.specs.Cuts.{zone_at}
 use Rattle.dpl_cuts.specs.Fragments.{IsFragmentOf, AreParts, IsCut, AreCuts, AreFragments, HasMoreFragments}
-use Rattle.dpl_cuts.proofs.OrderedLemmas.{ordered_same, has_all, lists_same, maps_same, no_more}
+use Rattle.dpl_list.proofs.Ordered.{maps_same, has_all, ordered_same, lists_same}
+use Rattle.dpl_near.proofs.LawLemmas.{low_cell, labels_same}
+use Rattle.dpl_classes.proofs.NumberLemmas.{used, takes_same, numbers_before}
+use Rattle.dpl_cell.proofs.OrderLemmas.{before_once}
+use Rattle.dpl_list.proofs.Lists.{no_more}
 
 -- ---- tiles
-
-before_once : (a b : Corners) → IsBefore a b → IsBefore b a → ⊥
-before_once a b (inl h) (inl k) = absurd (omega (arith, ints, h, k))
-before_once a b (inl h) (inr k) = absurd (omega (arith, ints, h, k.0))
-before_once a b (inr h) (inl k) = absurd (omega (arith, ints, h.0, k))
-before_once a b (inr h) (inr k) = absurd (omega (arith, ints, h.1, k.1))
-
--- cells have one list of tiles
-pub tiles_same : (cells : ℤ → ℤ → Bool) (a b : List Corners) → AreTiles cells a → AreTiles cells b → a ≡ b
-tiles_same cells a b s t = ordered_same IsBefore before_once a b s.ordered t.ordered
-    (λ z c. t.all z (has_all (IsTile cells) a z s.each c))
-    (λ z c. s.all z (has_all (IsTile cells) b z t.each c))
 
 -- ---- numbers of classes
 
@@ -44,108 +36,9 @@ record IsUsed (label : List ℕ) (i v : ℕ) : Type 0 where
   within : place < length label
   is : get_or label place 0 ≡ v
 
-next_take : (label : List ℕ) (i : ℕ) → i < length label → next_label (take (suc i) label) ≡ max (next_label (take i label)) (get_or label i 0 + 1)
-next_take label i l =
-    let e : take (suc i) label ≡ take i label ++ get_or label i 0 ∷ [] = take-suc label i 0 l in
-    ap next_label e ∙ fold-append _ 0 (take i label) (get_or label i 0 ∷ [])
-
-later : (label : List ℕ) (i v : ℕ) → IsUsed label i v → IsUsed label (suc i) v
-later label i v u = let b = u.before in record { place = u.place; before = omega arith; within = u.within; is = u.is }
-
--- all numbers below the next one are used
-used : (label : List ℕ) (n : ℕ) → IsNumbered label n → (i v : ℕ) → v < next_label (take i label) → IsUsed label i v
-used label n h zero v l = absurd (omega arith)
-used label n h (suc i) v l = elim (cases_lt i (length label)) [
-  | inl w ↦
-      let e = next_take label i w in
-      let g = h.grows i w in
-      elim (cases_lt v (next_label (take i label))) [
-        | inl m ↦ later label i v (used label n h i v m)
-        | inr m ↦ record { place = i; before = omega arith; within = w; is = omega arith }
-      ]
-  | inr w ↦
-      let a : take (suc i) label ≡ label = take_all (suc i) label (omega arith) in
-      let b : take i label ≡ label = take_all i label w in
-      let m : v < next_label (take i label) = rw b (rw a at l) in
-      later label i v (used label n h i v m)
 ]
 
--- two lists of numbers are equal at the same places
-abbrev AreTied : List ℕ → List ℕ → Type 0
-AreTied a b = (i j : ℕ) → i < length a → j < length a → (get_or a i 0 ≡ get_or a j 0) ↔ (get_or b i 0 ≡ get_or b j 0)
-
-takes_same : (a b : List ℕ) (i : ℕ) → length a ≡ length b → i ≤ length a → ((k : ℕ) → k < i → get_or a k 0 ≡ get_or b k 0) → take i a ≡ take i b
-takes_same a b i n l f =
-    let p : length (take i a) ≡ i = length-take-le i a l in
-    let q : length (take i b) ≡ i = length-take-le i b (omega arith) in
-    lists_same (take i a) (take i b) 0 (p ∙ sym q) (λ k m. let c : k < i = omega arith in get_or-take i a k 0 c ∙ f k c ∙ sym (get_or-take i b k 0 c))
-
-number_same : (a b : List ℕ) (m n i : ℕ) → length a ≡ length b → i < length a → AreTied a b → IsNumbered a m → IsNumbered b n → ((k : ℕ) → k < i → get_or a k 0 ≡ get_or b k 0) → get_or a i 0 ≡ get_or b i 0
-number_same a b m n i long l tied g h f =
-    let e : next_label (take i a) ≡ next_label (take i b) = ap next_label (takes_same a b i long (omega arith) f) in
-    let u = g.grows i l in
-    let v = h.grows i (omega arith) in
-    elim (cases_lt (get_or a i 0) (next_label (take i a))) [
-      | inl c ↦
-          let w = used a m g i (get_or a i 0) c in
-          let s : get_or b w.place 0 ≡ get_or b i 0 = (tied w.place i w.within l).0 w.is in
-          sym w.is ∙ f w.place w.before ∙ s
-      | inr c ↦ elim (cases_lt (get_or b i 0) (next_label (take i b))) [
-        | inl d ↦
-            let w = used b n h i (get_or b i 0) d in
-            let k = w.within in
-            let s : get_or a w.place 0 ≡ get_or a i 0 = (tied w.place i (omega arith) l).1 w.is in
-            sym s ∙ f w.place w.before ∙ w.is
-        | inr d ↦ omega arith
-      ]
-    ]
-
-numbers_before : (a b : List ℕ) (m n : ℕ) → length a ≡ length b → AreTied a b → IsNumbered a m → IsNumbered b n → (i : ℕ) → i ≤ length a → (k : ℕ) → k < i → get_or a k 0 ≡ get_or b k 0
-numbers_before a b m n long tied g h zero l k c = absurd (omega arith)
-numbers_before a b m n long tied g h (suc i) l k c =
-    let f = numbers_before a b m n long tied g h i (omega arith) in
-    elim (cases_lt k i) [
-      | inl d ↦ f k d
-      | inr d ↦ let e : k ≡ i = omega arith in rw e (number_same a b m n i long (omega arith) tied g h f)
-    ]
-
--- classes have one numbering in order
-pub numbers_same : (a b : List ℕ) (m n : ℕ) → length a ≡ length b → AreTied a b → IsNumbered a m → IsNumbered b n → a ≡ b
-numbers_same a b m n long tied g h = lists_same a b 0 long (numbers_before a b m n long tied g h (length a) (omega arith))
-
-pub count_same : (a b : List ℕ) (m n : ℕ) → a ≡ b → IsNumbered a m → IsNumbered b n → m ≡ n
-count_same a b m n e g h = g.count ∙ ap next_label e ∙ sym h.count
-
 -- ---- shapes
-
--- a rectangle with a cell
-abbrev pub HasCell : Corners → Type 0
-HasCell r = (r.x1 <ℤ r.x2) × (r.y1 <ℤ r.y2)
-
-pub rects_have : (rects : List Rect) → All HasCell (map corners_of rects)
-rects_have rects = All-map HasCell corners_of rects (λ k d l. ((get_or rects k d).wide, (get_or rects k d).high))
-
-low_cell : (r : Corners) → HasCell r → IsIn r r.x1 r.y1
-low_cell r (w, h) = record { column = record { from = same_z r.x1; to = w }; row = record { from = same_z r.y1; to = h } } where
-  same_z : (x : ℤ) → x ≤ℤ x
-  same_z x = omega (arith, ints)
-
--- rectangles have one list of shapes
-pub labels_same : (rects : List Corners) (a b : List ℕ) (m n : ℕ) → All HasCell rects → AreShapes rects a m → AreShapes rects b n → a ≡ b
-labels_same rects a b m n full s t = numbers_same a b m n (s.long ∙ sym t.long)
-    (λ i j h l.
-    let p : i < length rects = let e = s.long in omega arith in
-    let q : j < length rects = let e = s.long in omega arith in
-    let x = rect_at rects i in let y = rect_at rects j in
-    let c : IsIn x x.x1 x.y1 = low_cell x (full i nowhere p) in
-    let d : IsIn y y.x1 y.y1 = low_cell y (full j nowhere q) in
-    let f = s.same i j nowhere x.x1 x.y1 y.x1 y.y1 p q c d in
-    let g = t.same i j nowhere x.x1 x.y1 y.x1 y.y1 p q c d in
-    ((λ e. g.1 (f.0 e)), (λ e. f.1 (g.0 e))))
-    s.numbered t.numbered
-
-pub counts_same : (rects : List Corners) (a b : List ℕ) (m n : ℕ) → All HasCell rects → AreShapes rects a m → AreShapes rects b n → m ≡ n
-counts_same rects a b m n full s t = count_same a b m n (labels_same rects a b m n full s t) s.numbered t.numbered
 
 -- ---- fragments
 

@@ -82,7 +82,7 @@ sum_parity (suc n) p a b m h pm e = elim (cases_eq n m) [
   ]
 ]
 
-sum_two : (n : ℕ) (p : ℕ → Bool) (a b : ℕ → ℕ) → sum_on p (λ z. a z + b z) n ≡ sum_on p a n + sum_on p b n
+pub sum_two : (n : ℕ) (p : ℕ → Bool) (a b : ℕ → ℕ) → sum_on p (λ z. a z + b z) n ≡ sum_on p a n + sum_on p b n
 sum_two zero p a b = refl
 sum_two (suc n) p a b = elim (cases_Bool (p n)) [
   | inl q ↦ omega (arith, sum_two n p a b, cond-true (p n) (a n + b n) 0 q, cond-true (p n) (a n) 0 q, cond-true (p n) (b n) 0 q)

@@ -65,7 +65,7 @@ exchange_permutes n f g p i j hi hj ne =
     }
 
 -- exchanging twice changes nothing
-exchange_twice : (f : ℕ → ℕ) (i j x : ℕ) → i ≢ j → exchange (exchange f i j) i j x ≡ f x
+pub exchange_twice : (f : ℕ → ℕ) (i j x : ℕ) → i ≢ j → exchange (exchange f i j) i j x ≡ f x
 exchange_twice f i j x ne = elim (forms (exchange f i j) i j x ne) [
   | inl a ↦ a.1 ∙ exchange_second f i j (λ k. ne (sym k)) ∙ ap f (sym a.0)
   | inr o ↦ elim o [

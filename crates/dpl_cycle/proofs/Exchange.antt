@@ -124,7 +124,7 @@ exchange_top n f g p i hi law =
       ]
     ]
 
-exchange_turned : (f : ℕ → ℕ) (i j x : ℕ) → i ≢ j → exchange f i j x ≡ exchange f j i x
+pub exchange_turned : (f : ℕ → ℕ) (i j x : ℕ) → i ≢ j → exchange f i j x ≡ exchange f j i x
 exchange_turned f i j x ne = elim (cases_eq x i) [
   | inl a ↦ ap (exchange f i j) a ∙ exchange_first f i j ∙ sym (ap (exchange f j i) a ∙ exchange_second f j i ne)
   | inr a ↦ elim (cases_eq x j) [

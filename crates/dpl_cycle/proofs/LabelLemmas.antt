@@ -34,7 +34,7 @@ sum_bump (suc n) p m v w h = elim (cases_eq n m) [
       omega (arith, ap (λ y. cond (p n) y 0) (bump_other m v w n t), sum_bump n p m v w (omega arith))
 ]
 
-sum_none : (n : ℕ) (p : ℕ → Bool) (w : ℕ → ℕ) → ((d : ℕ) → d < n → p d ≡ false) → sum_on p w n ≡ 0
+pub sum_none : (n : ℕ) (p : ℕ → Bool) (w : ℕ → ℕ) → ((d : ℕ) → d < n → p d ≡ false) → sum_on p w n ≡ 0
 sum_none zero p w h = refl
 sum_none (suc n) p w h = omega (arith, cond-false (p n) (w n) 0 (h n (omega arith)), sum_none n p w (λ d k. h d (omega arith)))
 

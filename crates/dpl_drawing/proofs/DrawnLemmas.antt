@@ -22,7 +22,7 @@ use Rattle.dpl_sign.proofs.DartLemmas.{first_half, second_half}
 use Rattle.dpl_sign.proofs.Rotation.{face_out}
 use Rattle.dpl_sign.proofs.Insert.{IsOneMore}
 use Rattle.dpl_sign.proofs.EdgeEffect.{effect, news, between_first, none_first}
-use Rattle.dpl_sign.proofs.ExcessLemmas.{kept_more, in_front, at_end, past_end, raises_from, raises_joined, raises_far}
+use Rattle.dpl_sign.proofs.ExcessLemmas.{kept_more, in_front, at_end, past_end, raises_from, raises_joined, raises_far, own_names}
 use Rattle.dpl_drawing.specs.Faces.{AreFaces}
 use Rattle.dpl_drawing.specs.Drawn.{AreParts, IsDrawn, IsInserted}
 use Rattle.dpl_drawing.proofs.InsertLemmas.{faces_more, bare_next, used_next}
@@ -33,10 +33,6 @@ use Rattle.dpl_drawing.proofs.PartSteps.{parts_stay, parts_join}
 nothing_joined : (g : Signed) (k v : ℕ) → names_below g (is_in []) k v ≡ v
 nothing_joined g zero v = refl
 nothing_joined g (suc k) v = nothing_joined g k v
-
-own_names : (n : ℕ) → name_count (λ v. v) n ≡ n
-own_names zero = refl
-own_names (suc n) = count_in (λ v. v) n refl ∙ ap suc (own_names n)
 
 pub drawn_empty : (net : Net) (faces parts : List ℕ) (components : ℕ) → length faces ≡ dart_count net → length parts ≡ net.graph.nodes → components ≡ net.graph.nodes → ((k : ℕ) → k < length faces → get_or faces k 0 ≡ k) → ((k : ℕ) → k < length parts → get_or parts k 0 ≡ k) →
     IsDrawn net (is_in []) faces parts components

@@ -1,6 +1,6 @@
 -- The excess over all edges, from the faces of all edges and those of the kept ones.
 use Rattle.std.proofs.Common.{arith, ◌≡◌, ◌≢◌, ℕ, zero, suc, ◌+◌, ◌/◌, ◌<◌, ◌==◌, ◌&&◌, refl, sym, ap, ◌∙◌, Bool, true, not, inl, inr, length}
-use Rattle.std.proofs.lemmas.Bool.{cases_Bool, cond-true}
+use Rattle.std.proofs.lemmas.Bool.{cases_Bool, cond-true, not-false}
 use Rattle.std.specs.Cmp.{both_ways}
 use Rattle.dpl_cycle.specs.Cycles.{least}
 use Rattle.dpl_cycle.specs.Sums.{count_on}
@@ -17,7 +17,7 @@ use Rattle.dpl_sign.proofs.ComponentLemmas.{component_joined, components_are, co
 use Rattle.dpl_sign.proofs.BareLemmas.{EndsAt, met_from, met_is, bare_edges}
 use Rattle.dpl_sign.proofs.ExcessLemmas.{excess_euler, kept_plane, kept_length, raises_joined}
 use Rattle.dpl_drawing.specs.Faces.{is_first, drawn_faces}
-use Rattle.dpl_sign.proofs.KeptLemmas.{not_false, kept_at, kept_early, kept_inside}
+use Rattle.dpl_sign.proofs.KeptLemmas.{kept_at, kept_early, kept_inside}
 use Rattle.dpl_drawing.proofs.KeptLemmas.{aside_count}
 use Rattle.dpl_drawing.proofs.FaceLists.{face_count_is}
 
@@ -31,7 +31,7 @@ ends_kept net e h =
       | inr t ↦
           let kept = kept_before net e in
           let size = kept_length net e in
-          let raises : raises_excess net kept ≡ true = not_false _ (sym (kept_at net (length g.edges) e h) ∙ t) in
+          let raises : raises_excess net kept ≡ true = not-false _ (sym (kept_at net (length g.edges) e h) ∙ t) in
           let joined : component_of g (is_in kept) (edge_at g (length kept)).a ≡ component_of g (is_in kept) (edge_at g (length kept)).b = raises_joined net kept (omega (arith, size)) raises in
           let here : component_of g (is_in kept) (edge_at g e).a ≡ component_of g (is_in kept) (edge_at g e).b =
           ap (λ x. component_of g (is_in kept) (edge_at g x).a) (sym size) ∙ joined ∙ ap (λ x. component_of g (is_in kept) (edge_at g x).b) size in

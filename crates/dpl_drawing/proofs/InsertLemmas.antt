@@ -17,6 +17,7 @@ use Rattle.dpl_sign.proofs.EdgeEffect.{news, between_first, between_second, none
 use Rattle.dpl_drawing.specs.Faces.{AreFaces}
 use Rattle.dpl_drawing.specs.Drawn.{IsAttached, IsInserted}
 use Rattle.dpl_sign.proofs.FaceSteps.{lone_is, hung_is, new_at, added_is}
+use Rattle.dpl_cycle.proofs.Exchange.{exchange_turned}
 
 -- ---- lists that tell where a permutation leads
 
@@ -35,13 +36,6 @@ exchange_alike n f f' i j hi hj same z h = elim (cases_eq z i) [
   ]
 ]
 
-turned_same : (f : ℕ → ℕ) (i j x : ℕ) → i ≢ j → exchange f i j x ≡ exchange f j i x
-turned_same f i j x ne = elim (cases_eq x i) [
-  | inl a ↦ ap (exchange f i j) a ∙ exchange_first f i j ∙ sym (ap (exchange f j i) a ∙ exchange_second f j i ne)
-  | inr a ↦ elim (cases_eq x j) [
-    | inl b ↦ ap (exchange f i j) b ∙ exchange_second f i j (λ k. ne (sym k)) ∙ sym (ap (exchange f j i) b ∙ exchange_first f j i)
-    | inr b ↦ exchange_other f i j x a b ∙ sym (exchange_other f j i x b a)
-  ]
 ]
 
 pub tells_swap : (n : ℕ) (xs ys : List ℕ) (f : ℕ → ℕ) (i j : ℕ) → Tells n xs f → i < n → j < n → i ≢ j → ys ≡ swap xs i j → Tells n ys (exchange f i j)
@@ -118,7 +112,7 @@ faces_more net p q e xs ys u v k faces hu hv (mid, one, two) =
                 let jc : j ≢ c = not_new net p q e c j n.first l.set in
                 let jd : j ≢ d = not_new net p q e d j n.second l.set in
                 let t3 : Tells m ys (exchange f0 j c) = tells_swap m mid ys f0 j c t2 l.set.inside n.first.inside jc (attached_used net p q e d mid ys f0 v c n.second b t2 hv (exchange_other f c d j jc jd) two) in
-                faces_from net q ys _ t3 (λ z h. hung_is net p q e d c (turned_new net p q e c d n) b none z h ∙ exchange_alike m (paired net p d c) f0 j c l.set.inside n.first.inside (λ y hy. turned_same f d c y (λ r. cd (sym r))) z h)
+                faces_from net q ys _ t3 (λ z h. hung_is net p q e d c (turned_new net p q e c d n) b none z h ∙ exchange_alike m (paired net p d c) f0 j c l.set.inside n.first.inside (λ y hy. exchange_turned f d c y (λ r. cd (sym r))) z h)
           ]
       | inr ha ↦
           let b = between_first net p q e k ha in

@@ -6,7 +6,7 @@ use Rattle.dpl_sign.specs.declared.nets.Net.{Net}
 use Rattle.dpl_sign.specs.Walks.{edge_at}
 use Rattle.dpl_sign.specs.Drawings.{is_in, tail_of, dart_count}
 use Rattle.dpl_sign.proofs.DartLemmas.{first_half, second_half, first_tail, second_tail, of_edge}
-use Rattle.dpl_sign.proofs.Insert.{IsOneMore}
+use Rattle.dpl_sign.proofs.Insert.{IsOneMore, half_below}
 use Rattle.dpl_sign.proofs.ComponentLemmas.{start_below, end_below}
 use Rattle.dpl_sign.proofs.ExcessLemmas.{kept_more, past_end}
 use Rattle.dpl_sign.specs.Rotations.{Leaves}
@@ -20,9 +20,6 @@ lasts_none net lasts l h = record {
 
 pub lasts_list : (net : Net) (xs ys : List Bool) (lasts : List ℕ) → xs ≡ ys → AreLasts net (is_in ys) lasts → AreLasts net (is_in xs) lasts
 lasts_list net xs ys lasts e k = let P : List Bool → Type 0 = λ zs. AreLasts net (is_in zs) lasts in subst P (sym e) k
-
-half_in : (net : Net) (d : ℕ) → d < dart_count net → d / 2 < length net.graph.edges
-half_in net d h = omega arith
 
 at_both : (net : Net) (p : ℕ → Bool) (a b c d : ℕ) → b ≡ a → d ≡ c → IsLast net p a c → IsLast net p b d
 at_both net p a b c d e f k =
@@ -61,10 +58,10 @@ lasts_same net p q lasts same k = record {
   each = λ v h.
       let old = k.each v h in
       record {
-        bare = λ e d l. old.bare e d (record { inside = l.inside; chosen = same (d / 2) (half_in net d l.inside) ∙ l.chosen; tail = l.tail });
+        bare = λ e d l. old.bare e d (record { inside = l.inside; chosen = same (d / 2) (half_below net d l.inside) ∙ l.chosen; tail = l.tail });
         used = λ ne.
             let l = old.used ne in
-            record { inside = l.inside; chosen = sym (same _ (half_in net _ l.inside)) ∙ l.chosen; tail = l.tail };
+            record { inside = l.inside; chosen = sym (same _ (half_below net _ l.inside)) ∙ l.chosen; tail = l.tail };
       };
 }
 
@@ -99,12 +96,12 @@ lasts_more net p q e lasts more k =
                     | inl t ↦ va (sym l.tail ∙ ap (tail_of g) t ∙ first_tail g e)
                     | inr t ↦ vb (sym l.tail ∙ ap (tail_of g) t ∙ second_tail g e)
                   ]
-                  | inr s ↦ old.bare r d (record { inside = l.inside; chosen = more.same (d / 2) (half_in net d l.inside) s ∙ l.chosen; tail = l.tail })
+                  | inr s ↦ old.bare r d (record { inside = l.inside; chosen = more.same (d / 2) (half_below net d l.inside) s ∙ l.chosen; tail = l.tail })
                 ];
                 used = λ ne.
                     let l = old.used ne in
                     let s : get_or lasts v 0 / 2 ≢ e = λ r. both_ways _ more.out (ap p (sym r) ∙ l.chosen) in
-                    record { inside = l.inside; chosen = sym (more.same _ (half_in net _ l.inside) s) ∙ l.chosen; tail = l.tail };
+                    record { inside = l.inside; chosen = sym (more.same _ (half_below net _ l.inside) s) ∙ l.chosen; tail = l.tail };
               })
         ]
       ];

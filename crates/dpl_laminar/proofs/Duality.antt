@@ -109,3 +109,13 @@ families_bound f distance mate p within pairing = values_bound f.size (2 * f.siz
   | inl live ↦ inr (p.laminar.sets.odd i h live)
   | inr dead ↦ inl (p.value_dead i dead)
 ]) within pairing
+
+pub differ_in : (a b : Bool) → a ≡ true → b ≡ false → differ a b ≡ true
+differ_in true false e e' = refl
+differ_in true true e e' = let no : true ≡ false = e' in cc
+differ_in false b e e' = let no : false ≡ true = e in cc
+
+pub differ_out : (a b : Bool) → a ≡ false → b ≡ true → differ a b ≡ true
+differ_out false true e e' = refl
+differ_out true b e e' = let no : true ≡ false = e in cc
+differ_out false false e e' = let no : false ≡ true = e' in cc

@@ -18,7 +18,7 @@ live_below s i p h = elim (cases_lt i (length s.live)) [
 
 -- ---- single members
 
-same_items : {A : Type 0} (n k : ℕ) (d : A) → get_or (replicate n d) k d ≡ d
+pub same_items : {A : Type 0} (n k : ℕ) (d : A) → get_or (replicate n d) k d ≡ d
 same_items n k d = elim (cases_lt k n) [
   | inl lt ↦ get_or-replicate n k d d lt
   | inr past ↦ get_or_past (replicate n d) k d (omega (arith, length-replicate n d))

@@ -1,10 +1,10 @@
 pub mod Duality
 mod Expanding
 mod Gathered
-mod Keeping
+pub mod Keeping
 mod Lifting
 pub mod Numbers
-mod Reached
+pub mod Reached
 pub mod Released
 mod Shrinking
 mod Singles

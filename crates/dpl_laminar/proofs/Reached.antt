@@ -14,7 +14,7 @@ bit_most true true h = omega arith
 bit_most true false h = true_false false (h refl) refl
 
 -- a set that misses a member of another one and holds no further members is smaller
-size_less : (n : ℕ) (a b : ℕ → Bool) → ((m : ℕ) → m < n → a m ≡ true → b m ≡ true) → (x : ℕ) → x < n → b x ≡ true → a x ≡ false → size_of n a < size_of n b
+pub size_less : (n : ℕ) (a b : ℕ → Bool) → ((m : ℕ) → m < n → a m ≡ true → b m ≡ true) → (x : ℕ) → x < n → b x ≡ true → a x ≡ false → size_of n a < size_of n b
 size_less zero a b inside x h bx ax = absurd (omega arith)
 size_less (suc n) a b inside x h bx ax =
     let bit : Bool → ℕ = λ z. cond z 1 0 in
@@ -22,6 +22,14 @@ size_less (suc n) a b inside x h bx ax =
       | inl e ↦ omega (arith, ap bit (ap b (sym e) ∙ bx), ap bit (ap a (sym e) ∙ ax), sum_most n (λ m. bit (a m)) (λ m. bit (b m)) (λ m l. bit_most (a m) (b m) (inside m (omega arith))))
       | inr ne ↦ omega (arith, bit_most (a n) (b n) (inside n (omega arith)), size_less n a b (λ m l. inside m (omega arith)) x (omega arith) bx ax)
     ]
+
+pub size_most : (n : ℕ) (p : ℕ → Bool) → size_of n p ≤ n
+size_most zero p = omega arith
+size_most (suc n) p = omega (arith, size_most n p, bit (p n))
+  where
+    bit : (b : Bool) → cond {A = ℕ} b 1 0 ≤ 1
+    bit true = omega arith
+    bit false = omega arith
 
 reached : (f : Sets) → IsFamily f → (bound i m : ℕ) → size_of f.size (f.holds i) ≤ bound → i < 2 * f.size → m < f.size → f.live i ≡ true → f.holds i m ≡ true → (k : ℕ) × (k < size_of f.size (f.holds i)) × (climb f m k ≡ Some i)
 reached f p zero i m small hi hm live h = absurd (omega (arith, small, p.laminar.sets.odd i hi live))

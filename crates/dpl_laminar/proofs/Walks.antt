@@ -8,6 +8,7 @@ use Rattle.std.proofs.Math.Nat.{mod-eq_of_lt, mod_self}
 use Rattle.dpl_laminar.specs.Families.{has}
 use Rattle.dpl_laminar.specs.Storing.{circle_of, walk, IsCircle}
 use Rattle.dpl_laminar.proofs.Numbers.{has_head, has_tail, has_at, place_in, true_false}
+use Rattle.dpl_ring.proofs.RingLemmas.{length_swap}
 
 pub length_walk : (f : ℕ → ℕ) (x k : ℕ) → length (walk f x k) ≡ k
 length_walk f x zero = refl
@@ -51,9 +52,6 @@ at_walk f x (suc k) zero h = refl
 at_walk f x (suc k) (suc i) h = at_walk f (f x) k i (omega arith) ∙ step_inner f x i
 
 -- ---- an exchange
-
-pub length_swap : (xs : List ℕ) (i j : ℕ) → i < length xs → j < length xs → length (swap xs i j) ≡ length xs
-length_swap xs i j hi hj = ap length (sym (swap_is xs i j 0 hi hj)) ∙ length-set (set xs i (get_or xs j 0)) j _ ∙ length-set xs i _
 
 swap_written : (xs : List ℕ) (i j x : ℕ) → i < length xs → j < length xs → get_or (swap xs i j) x 0 ≡ get_or (set (set xs i (get_or xs j 0)) j (get_or xs i 0)) x 0
 swap_written xs i j x hi hj = ap (λ (l : List ℕ). get_or l x 0) (sym (swap_is xs i j 0 hi hj))

@@ -12,8 +12,7 @@ use Rattle.dpl_near.specs.Shapes.{AreShapes}
 use Rattle.dpl_cuts.specs.declared.types.Fragments.{Fragments}
 use Rattle.dpl_cuts.specs.Positions.{nowhere, rect_at, lies_along_x, first_of, last_of}
 use Rattle.dpl_cuts.specs.Fragments.{AreFragments, HasMoreFragments}
-use Rattle.dpl_cuts.proofs.OrderedLemmas.{no_more}
-use Rattle.dpl_cuts.proofs.SameLemmas.{HasCell, tiles_same, labels_same, fragments_same, no_more_fragments}
+use Rattle.dpl_cuts.proofs.SameLemmas.{fragments_same, no_more_fragments}
 use Rattle.dpl_sign.specs.declared.nets.Net.{Net}
 use Rattle.dpl_links.specs.declared.types.Weights.{Weights}
 use Rattle.dpl_links.specs.Nets.{IsNet, HasMoreEdges}
@@ -21,6 +20,9 @@ use Rattle.dpl_links.proofs.NetLemmas.{edges_length, not_more_edges}
 use Rattle.dpl_report.specs.declared.options.Options.{Options}
 use Rattle.dpl_layer.specs.Layers.{AreFragmentsOf, IsLayerOf}
 use Rattle.dpl_links.proofs.SameLemmas.{net_same}
+use Rattle.dpl_near.proofs.LawLemmas.{labels_same, HasCell}
+use Rattle.dpl_cell.proofs.OrderLemmas.{tiles_same}
+use Rattle.dpl_list.proofs.Lists.{no_more}
 
 -- ---- tiles
 
@@ -91,8 +93,3 @@ pub within_fragments : (space over : ℕ) (cells : ℤ → ℤ → Bool) (f : Fr
 within_fragments space over cells f tiles n a few t more =
     let e : tiles ≡ a.tiles = tiles_same cells tiles a.tiles t a.are_tiles in
     no_more_fragments space over a.tiles a.label f n a.are_fragments few (subst (λ z. HasMoreFragments space over z n) e more)
-
-pub within_edges : (f : Fragments) (w : Weights) (space : ℕ) (m : Net) (n : ℕ) → IsNet f w space m → length m.graph.edges ≤ n → ¬ HasMoreEdges f space n
-within_edges f w space m n a few =
-    let e = edges_length w a.bonds f.cuts a.links m.graph.edges a.edges in
-    not_more_edges f space a.bonds m.pieces m.piece_count a.links n a.are_bonds a.are_pieces a.are_clashes (omega arith)

@@ -17,7 +17,8 @@ use Rattle.dpl_layer.specs.declared.error.LayerError.TheVariants.{Layout, Limit,
 use Rattle.dpl_layer.specs.declared.reading.Layer.{Layer}
 use Rattle.dpl_layer.specs.Layers.{IsLayerOf}
 use Rattle.dpl_layer.specs.Refusals.{HasTooManyEdges, IsOverLimit, RefusesLayer}
-use Rattle.dpl_layer.proofs.LayerLemmas.{few_tiles, fragments_same_of, within_fragments, within_edges}
+use Rattle.dpl_layer.proofs.LayerLemmas.{few_tiles, fragments_same_of, within_fragments}
+use Rattle.dpl_links.proofs.SameLemmas.{no_more_edges}
 
 -- a limit on the cells excludes a layer within the limits
 not_over : (o : Options) (cells : ℤ → ℤ → Bool) (f : Fragments) (n : Net) → IsLayerOf o cells f n → length f.rects ≤ 100000 → length n.graph.edges ≤ 400000 → (kind count' : ℕ) → ¬ IsOverLimit o cells kind count'
@@ -28,7 +29,7 @@ not_over o cells f n l few thin kind count' (inl (k, c, more)) =
 not_over o cells f n l few thin kind count' (inr (inl (k, c, more))) = within_fragments (2 * o.space) (2 * o.overlap) cells f more.tiles 100000 l.fragments few more.are_tiles more.many
 not_over o cells f n l few thin kind count' (inr (inr (k, c, more))) =
     let e : more.fragments ≡ f = fragments_same_of (2 * o.space) (2 * o.overlap) cells more.fragments f more.are_fragments l.fragments in
-    within_edges f o.weights (2 * o.space) n 400000 l.net thin (subst (λ z. HasMoreEdges z (2 * o.space) 400000) e more.many)
+    no_more_edges f o.weights (2 * o.space) n 400000 l.net thin (subst (λ z. HasMoreEdges z (2 * o.space) 400000) e more.many)
 
 -- the fragments that pass the limit on edges are within the limits before it
 tiles_within : (o : Options) (cells : ℤ → ℤ → Bool) (m : HasTooManyEdges o cells) → length m.are_fragments.tiles ≤ 100000

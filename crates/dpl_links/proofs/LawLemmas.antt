@@ -27,6 +27,7 @@ use Rattle.dpl_links.specs.Links.{piece_of, IsLink, IsLeast, AreAlike, AreClashe
 use Rattle.dpl_links.specs.Nets.{scene, Tie, tie_of, bond_tie, stitch_tie, clash_tie, ties_of, IsNet}
 use Rattle.dpl_links.specs.Spacing.{AreTooClose, IsClashOf, HoldTooClose, AreAllClashes, AreWithinShapes}
 use Rattle.dpl_links.proofs.NetLemmas.{all_edges, edges_length, two_of_two, min_turned, max_turned}
+use Rattle.dpl_list.proofs.Lists.{some_of}
 
 -- ---- pieces
 
@@ -98,7 +99,7 @@ each_clash tiles f weights space net h t n = clash_edges (HoldTooClose tiles (ma
 
 -- ---- cells that are too close
 
-turned_gap : (x y x' y' : ℤ) (n : ℕ) → cell_gap2 x y x' y' < n → cell_gap2 x' y' x y < n
+pub turned_gap : (x y x' y' : ℤ) (n : ℕ) → cell_gap2 x y x' y' < n → cell_gap2 x' y' x y < n
 turned_gap x y x' y' n h =
     let a : between x x' ≡ between x' x = omega (arith, ints) in
     let b : between y y' ≡ between y' y = omega (arith, ints) in
@@ -131,10 +132,6 @@ clash_at weights bonds cuts links edges k l d e h f =
     let is : get_or c k (tie_of d) ≡ clash_tie weights.conflict l = get_or-map (clash_tie weights.conflict) links k l (tie_of d) h ∙ ap (clash_tie weights.conflict) f in
     at ∙ to ∙ is
 
-some_at : {X : Type 0} (xs : List X) (k : ℕ) → k < length xs → X
-some_at [] k l = absurd (omega arith)
-some_at (x ∷ xs) k l = x
-
 alike_ends : (s : Scene) (pieces : List ℕ) (l m : Link) → IsLink s pieces l → IsLink s pieces m → AreAlike m l
     → ((piece_of pieces m.a ≡ piece_of pieces l.a) × (piece_of pieces m.b ≡ piece_of pieces l.b)) ⊎ ((piece_of pieces m.a ≡ piece_of pieces l.b) × (piece_of pieces m.b ≡ piece_of pieces l.a))
 alike_ends s pieces l m f g (h, k) = two_of_two _ _ _ _ (sym g.low ∙ h ∙ f.low) (sym g.high ∙ k ∙ f.high)
@@ -151,7 +148,7 @@ clash_of f weights space net i j n c =
     let long = edges_length weights n.bonds f.cuts n.links net.graph.edges n.edges in
     let at = length n.bonds + length f.cuts + k in
     let w : at < length net.graph.edges = omega arith in
-    let d = some_at net.graph.edges at w in
+    let d = some_of net.graph.edges at w in
     let t : tie_of (get_or net.graph.edges at d) ≡ clash_tie weights.conflict m = clash_at weights n.bonds f.cuts n.links net.graph.edges k m d n.edges h e in
     let a : (get_or net.graph.edges at d).a ≡ m.a = ap (λ (x : Tie). x.a) t in
     let b : (get_or net.graph.edges at d).b ≡ m.b = ap (λ (x : Tie). x.b) t in
@@ -207,7 +204,7 @@ pairs_map : {X Y : Type 0} (R : Y → Y → Type 0) (f : X → Y) (xs : List X) 
 pairs_map {X} {Y} R f xs g i j d h l =
     let n = length-map xs f in
     let m : j < length xs = omega arith in
-    let x = some_at xs j m in
+    let x = some_of xs j m in
     let e : get_or (map f xs) i d ≡ f (get_or xs i x) = get_or-map f xs i x d (omega arith) in
     let k : get_or (map f xs) j d ≡ f (get_or xs j x) = get_or-map f xs j x d m in
     let P : Y → Type 0 = λ z. R z (get_or (map f xs) j d) in

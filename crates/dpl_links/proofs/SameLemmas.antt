@@ -22,8 +22,6 @@ use Rattle.dpl_sign.specs.Sides.{is_corner}
 use Rattle.dpl_sign.proofs.Equal.{same_edge, same_port}
 use Rattle.dpl_cuts.specs.declared.types.Fragments.{Fragments}
 use Rattle.dpl_cuts.specs.Positions.{nowhere, rect_at}
-use Rattle.dpl_cuts.proofs.OrderedLemmas.{ordered_same, has_all, maps_same}
-use Rattle.dpl_cuts.proofs.SameLemmas.{HasCell, rects_have, numbers_same, count_same}
 use Rattle.dpl_links.specs.declared.types.Weights.{Weights}
 use Rattle.dpl_links.specs.declared.linking.Link.{Link}
 use Rattle.dpl_links.specs.Pairs.{Scene, IsBond, IsFirst, ArePairs}
@@ -33,6 +31,10 @@ use Rattle.dpl_links.specs.Nets.{scene, Tie, tie_of, ties_of, HasPorts, IsNet, H
 use Rattle.dpl_links.proofs.HeadLemmas.{rank_equal}
 use Rattle.dpl_links.proofs.GatherLemmas.{signed, same_link}
 use Rattle.dpl_links.proofs.NetLemmas.{edges_length, not_more_edges}
+use Rattle.dpl_list.proofs.Ordered.{maps_same, has_all, ordered_same}
+use Rattle.dpl_near.proofs.LawLemmas.{rects_have, HasCell}
+use Rattle.dpl_classes.proofs.NumberLemmas.{numbers_same, count_same}
+use Rattle.dpl_cuts.proofs.SortLemmas.{both_equal}
 
 -- ---- bonds and pieces
 
@@ -60,11 +62,6 @@ classes_same joins n a b m k s t = numbers_same a b m k (s.long ∙ sym t.long)
     s.numbered t.numbered
 
 -- ---- clashes
-
-both_equal : (x y : Ordering) → ordering_then x y ≡ Equal → (x ≡ Equal) × (y ≡ Equal)
-both_equal Less y e = absurd (cc)
-both_equal Equal y e = (refl, e)
-both_equal Greater y e = absurd (cc)
 
 nat_equal : (x y : ℕ) → nat_cmp x y ≡ Equal → x ≡ y
 nat_equal x y e = ranked x y Equal (sym e)

@@ -3,7 +3,7 @@ use Rattle.std.proofs.Common.{arith, ◌≡◌, ◌<◌, ◌⊎◌, inl, inr, �
 use Rattle.dpl_list.proofs.Lists.{none_in, in_cons, in_head, in_tail, pairs_tail}
 
 -- what stands behind the first
-behind_first : {X : Type 0} (R : X → X → Type 0) (x z : X) (xs : List X) → AllPairs R (x ∷ xs) → Contains xs z → R x z
+pub behind_first : {X : Type 0} (R : X → X → Type 0) (x z : X) (xs : List X) → AllPairs R (x ∷ xs) → Contains xs z → R x z
 behind_first R x z xs p (k, l, e) = let r = p 0 (suc k) z (omega arith) (omega arith) in subst (λ w. R x w) e r
 
 -- lists in one order with the same items

@@ -6,7 +6,6 @@ use Rattle.dpl_laminar.specs.Families.{Sets, IsFamily, IsLaminar}
 use Rattle.dpl_laminar.specs.Changes.{IsSingles}
 use Rattle.dpl_laminar.proofs.Numbers.{some_none}
 use Rattle.dpl_match.specs.Starting.{AreRaised, AreAlone}
-use Rattle.dpl_match.proofs.StageLemmas.{same_items}
 use Rattle.dpl_tree.specs.Mates.{IsExit, loads, totals}
 use Rattle.dpl_tree.specs.Metrics.{IsMetric}
 use Rattle.dpl_tree.specs.Stages.{IsRest}
@@ -16,6 +15,7 @@ use Rattle.dpl_tree.proofs.Loads.{load_totals}
 use Rattle.dpl_tree.proofs.Raising.{values_kept}
 use Rattle.dpl_tree.proofs.Stages.{laminar_sized, single_total}
 use Rattle.dpl_tree.proofs.Ways.{joins_list, load_turned}
+use Rattle.dpl_laminar.proofs.Keeping.{same_items}
 
 pub raised_begun : (n : ℕ) (dist : ℕ → ℕ → ℕ) (f : Sets) (sums : List ℕ) → IsSingles n f → IsFamily f → length sums ≡ n → AreRaised n dist f f sums 0
 raised_begun n dist f sums s fam e = record {

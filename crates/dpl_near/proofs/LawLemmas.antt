@@ -15,7 +15,7 @@ HasCell r = (r.x1 <ℤ r.x2) × (r.y1 <ℤ r.y2)
 pub rects_have : (rects : List Rect) → All HasCell (map corners_of rects)
 rects_have rects = All-map HasCell corners_of rects (λ k d l. ((get_or rects k d).wide, (get_or rects k d).high))
 
-low_cell : (r : Corners) → HasCell r → IsIn r r.x1 r.y1
+pub low_cell : (r : Corners) → HasCell r → IsIn r r.x1 r.y1
 low_cell r (w, h) = record { column = record { from = same_z r.x1; to = w }; row = record { from = same_z r.y1; to = h } } where
   same_z : (x : ℤ) → x ≤ℤ x
   same_z x = omega (arith, ints)

@@ -33,7 +33,7 @@ column_ordered rects i d x y y' l h p q = let (n, e) = steps y y' h in rw e (alo
     mid : (a b x x' k : ℤ) → IsWithin a b x → IsWithin a b x' → x ≤ℤ k → k ≤ℤ x' → IsWithin a b k
     mid a b x x' k p q f t = record { from = omega signed; to = omega signed }
 
-le_of_lt : (a b : ℤ) → a <ℤ b → a ≤ℤ b
+pub le_of_lt : (a b : ℤ) → a <ℤ b → a ≤ℤ b
 le_of_lt a b h = omega signed
 
 -- two cells of one rectangle

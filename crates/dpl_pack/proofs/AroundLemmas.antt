@@ -14,11 +14,11 @@ use Rattle.dpl_laminar.specs.Families.{has}
 use Rattle.dpl_laminar.proofs.Numbers.{has_at, place_in, taken_has, not_taken}
 use Rattle.dpl_map.specs.Views.{MapView}
 use Rattle.dpl_map.specs.Sides.{IsMap, is_kept, face, is_odd_face, odd_faces_in, row}
-use Rattle.dpl_dual.proofs.DualLemmas.{chosen_split}
 use Rattle.dpl_pack.specs.Moats.{IsWritten}
 use Rattle.dpl_pack.specs.Marks.{AreClear, AreCleared, IsListed}
 use Rattle.dpl_pack.proofs.CodeLemmas.{has_push, pushed_same}
 use Rattle.dpl_pack.specs.Traces.{is_active, is_seen, AreWhole, IsRoundWalk, IsAround, odd_list}
+use Rattle.dpl_map.proofs.RowLemmas.{chosen_split}
 
 -- ---- marks
 

@@ -9,6 +9,7 @@ use Rattle.dpl_sign.specs.declared.nets.Net.{Net}
 use Rattle.dpl_sign.specs.Drawings.{dart_count, face_of}
 use Rattle.dpl_sign.specs.Parity.{is_crossable, AreNeighbours, IsFacePath, AreOfOnePart}
 use Rattle.dpl_sign.proofs.Rotation.{face_permutes}
+use Rattle.dpl_sign.proofs.ComponentLemmas.{join_of}
 
 pub face_below : (net : Net) (set : ℕ → Bool) (d : ℕ) → d < dart_count net → face_of net set d < dart_count net
 face_below net set d h = omega (arith, least_le _ _ _ (face_permutes net set) d h, h)
@@ -75,10 +76,6 @@ joined_part net set names k c h t x y hx hy e =
       ]
     ]
 
-join_of : (s : ℕ → ℕ) (a b v w : ℕ) → s v ≡ s w → join s a b v ≡ join s a b w
-join_of s a b v w e = elim (cases_eq (s v) (s b)) [
-  | inl q ↦ join_hit s a b v q ∙ sym (join_hit s a b w (sym e ∙ q))
-  | inr q ↦ join_miss s a b v q ∙ e ∙ sym (join_miss s a b w (λ r. q (e ∙ r)))
 ]
 
 joined_sides : (s : ℕ → ℕ) (a b : ℕ) → join s a b a ≡ join s a b b

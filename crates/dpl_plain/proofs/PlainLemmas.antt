@@ -30,9 +30,9 @@ pub record IsCounted (before now : List ℕ) (set : List Bool) (count place : �
 last : (n : ℕ) → 0 < n → n ≡ suc (n - 1)
 last n h = omega arith
 
-pub count_alone : (before now next : List ℕ) (set : List Bool) (count place : ℕ) → IsCounted before now set count place → 0 < place → length next ≡ length now →
-    ((x : ℕ) → x < length next → get_or next x 0 ≡ without (place - 1) (slice_index now) x) → is_in set ((place - 1) / 2) ≡ true → get_or now (place - 1) 0 ≡ place - 1 →
-    IsCounted before next set (count + 1) (place - 1)
+pub count_alone : (before now next : List ℕ) (set : List Bool) (count place : ℕ) → IsCounted before now set count place → 0 < place → length next ≡ length now
+    → ((x : ℕ) → x < length next → get_or next x 0 ≡ without (place - 1) (slice_index now) x) → is_in set ((place - 1) / 2) ≡ true → get_or now (place - 1) 0 ≡ place - 1
+    → IsCounted before next set (count + 1) (place - 1)
 count_alone before now next set count place c h l w inside alone =
     let p : ℕ → Bool = λ d. is_in set (d / 2) in
     let k = place - 1 in
@@ -43,9 +43,9 @@ count_alone before now next set count place c h l w inside alone =
     among_same k p _ _ (λ x q. w x (omega (arith, l, c.lengths, c.bound))) in
     record { lengths = l ∙ c.lengths; counted = omega (arith, c.counted, one, same); bound = omega (arith, c.bound) }
 
-pub count_more : (before now next : List ℕ) (set : List Bool) (count place : ℕ) → IsCounted before now set count place → 0 < place → length next ≡ length now →
-    ((x : ℕ) → x < length next → get_or next x 0 ≡ without (place - 1) (slice_index now) x) → is_in set ((place - 1) / 2) ≡ true → get_or now (place - 1) 0 ≢ place - 1 →
-    IsCounted before next set count (place - 1)
+pub count_more : (before now next : List ℕ) (set : List Bool) (count place : ℕ) → IsCounted before now set count place → 0 < place → length next ≡ length now
+    → ((x : ℕ) → x < length next → get_or next x 0 ≡ without (place - 1) (slice_index now) x) → is_in set ((place - 1) / 2) ≡ true → get_or now (place - 1) 0 ≢ place - 1
+    → IsCounted before next set count (place - 1)
 count_more before now next set count place c h l w inside more =
     let p : ℕ → Bool = λ d. is_in set (d / 2) in
     let k = place - 1 in
@@ -70,8 +70,8 @@ pub count_named : (names items : List ℕ) (n r : ℕ) (f : ℕ → ℕ) → nam
 count_named names items n r f e l each h =
     h ∙ ap (λ (xs : List ℕ). name_count (slice_index xs) (length xs)) e ∙ ap (name_count (slice_index items)) l ∙ name_count_same n _ _ (λ v k. each v (omega (arith, l)))
 
-pub count_faces : (net : Net) (set : ℕ → Bool) (nexts items : List ℕ) (r b : ℕ) → nexts ≡ items → length items ≡ dart_count net → ((k : ℕ) → k < length items → get_or items k 0 ≡ next_in_face net set k) →
-    r ≡ cycles_among (slice_index nexts) (members (λ d. set (d / 2)) (length nexts)) → b ≡ bare_count net.graph set → r + b ≡ face_count net set
+pub count_faces : (net : Net) (set : ℕ → Bool) (nexts items : List ℕ) (r b : ℕ) → nexts ≡ items → length items ≡ dart_count net → ((k : ℕ) → k < length items → get_or items k 0 ≡ next_in_face net set k)
+    → r ≡ cycles_among (slice_index nexts) (members (λ d. set (d / 2)) (length nexts)) → b ≡ bare_count net.graph set → r + b ≡ face_count net set
 count_faces net set nexts items r b e l each h k =
     let p : ℕ → Bool = λ d. set (d / 2) in
     let one : r ≡ cycles_among (slice_index items) (members p (length items)) = h ∙ ap (λ (xs : List ℕ). cycles_among (slice_index xs) (members p (length xs))) e in
@@ -105,8 +105,8 @@ way_ends before now number here place c h a alone =
     let f = slice_index now in
     sym (least_alone f k alone) ∙ ap (least f (suc k)) (sym a) ∙ ap (λ n. least f n here) (sym (last place h)) ∙ c.same
 
-pub named_face : (net : Net) (set : ℕ → Bool) (nexts items : List ℕ) (dart r : ℕ) → nexts ≡ items → length items ≡ dart_count net → ((k : ℕ) → k < length items → get_or items k 0 ≡ next_in_face net set k) →
-    r ≡ least (slice_index nexts) (length nexts) dart → r ≡ face_of net set dart
+pub named_face : (net : Net) (set : ℕ → Bool) (nexts items : List ℕ) (dart r : ℕ) → nexts ≡ items → length items ≡ dart_count net → ((k : ℕ) → k < length items → get_or items k 0 ≡ next_in_face net set k)
+    → r ≡ least (slice_index nexts) (length nexts) dart → r ≡ face_of net set dart
 named_face net set nexts items dart r e l each h =
     h ∙ ap (λ (xs : List ℕ). least (slice_index xs) (length xs) dart) e ∙ ap (λ n. least (slice_index items) n dart) l ∙ least_same (dart_count net) _ _ (λ x q. each x (omega (arith, l))) dart
 

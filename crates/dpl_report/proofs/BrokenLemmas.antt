@@ -22,25 +22,21 @@ use Rattle.dpl_report.specs.Plain.{PlainZone}
 use Rattle.dpl_report.specs.Conditions.{is_stitch, is_broken_stitch, is_broken_clash, where_zone, cuts_after, cuts_from, clashes_from}
 use Rattle.dpl_report.specs.MaskRects.{where_same, is_zone, zones_of}
 use Rattle.dpl_report.specs.MaskCells.{NamesBroken, NameAllBroken}
+use Rattle.std.proofs.lemmas.Bool.{and_parts, and_from}
+use Rattle.dpl_list.proofs.Lists.{any_tail, any_head}
 
 -- ---- lists
-
-pub any_here : {X : Type 0} (P : X → Type 0) (x : X) (xs : List X) → P x → Any P (x ∷ xs)
-any_here P x xs p = (0, x, omega arith, refl, p)
-
-any_behind : {X : Type 0} (P : X → Type 0) (y : X) (xs : List X) → Any P xs → Any P (y ∷ xs)
-any_behind P y xs (k, x, l, e, p) = (suc k, x, omega arith, e, p)
 
 all_where : {X : Type 0} (P : X → Type 0) (t : Bool) (x : X) (xs : List X) → (t ≡ true → P x) → All P xs → All P (if t then x ∷ xs else xs)
 all_where P true x xs p a = All-cons P x xs (p refl) a
 all_where P false x xs p a = a
 
 any_where : {X : Type 0} (P : X → Type 0) (t : Bool) (x : X) (xs : List X) → Any P xs → Any P (if t then x ∷ xs else xs)
-any_where P true x xs a = any_behind P x xs a
+any_where P true x xs a = any_tail P x xs a
 any_where P false x xs a = a
 
 any_first : {X : Type 0} (P : X → Type 0) (t : Bool) (x : X) (xs : List X) → t ≡ true → P x → Any P (if t then x ∷ xs else xs)
-any_first P t x xs e p = rw e (any_here P x xs p)
+any_first P t x xs e p = rw e (any_head P x xs p)
 
 -- items that fit one after another rise
 fit_above : {X : Type 0} (Fits : ℕ → X → Type 0) (number : X → ℕ) → ((s : ℕ) (x : X) → Fits s x → s ≤ number x) → (s : ℕ) (xs : List X) → FitFrom Fits (λ x. number x + 1) s xs → All (λ x. s ≤ number x) xs
@@ -55,14 +51,6 @@ fit_rises Fits number least s (x ∷ xs) f =
     AllPairs-cons (λ y z. number y < number z) x xs (All-weaker (λ y. number x + 1 ≤ number y) (λ y. number x < number y) (λ y h. omega (arith, h)) xs (fit_above Fits number least (number x + 1) xs f.1)) (fit_rises Fits number least (number x + 1) xs f.1)
 
 -- ---- kinds
-
-both_true : (a b : Bool) → (a && b) ≡ true → (a ≡ true) × (b ≡ true)
-both_true true b e = (refl, e)
-both_true false b e = absurd (cc)
-
-both_are : (a b : Bool) → a ≡ true → b ≡ true → (a && b) ≡ true
-both_are true b e f = f
-both_are false b e f = absurd (cc)
 
 clash_kind : (kind : Kind) → is_clash kind ≡ true → kind ≡ Clash
 clash_kind Bond e = absurd (cc)
@@ -93,7 +81,7 @@ one_before colours kind e edge edges b n =
 
 clash_here : (colours : List Bool) (e : ℕ) (edge : Edge) (edges : List Edge) → is_broken_clash colours edge ≡ true → NamesHere colours Clash e (edge ∷ edges) (record { edge = e; a = edge.a; b = edge.b })
 clash_here colours e edge edges t =
-    let d = both_true (is_clash edge.kind) (breaks colours edge) t in
+    let d = and_parts (is_clash edge.kind) (breaks colours edge) t in
     record { k = 0; within = omega arith; number = omega arith; is = clash_kind edge.kind d.0; broken = d.1; first = refl; second = refl }
 
 clashes_name : (colours : List Bool) (e : ℕ) (edges : List Edge) → All (NamesHere colours Clash e edges) (clashes_from colours e edges)
@@ -108,7 +96,7 @@ moved e k bs (i, b, l, m, p) = (i, b, l, m, omega (arith, p))
 clashes_all : (colours : List Bool) (e : ℕ) (edges : List Edge) (k : ℕ) → k < length edges → (get_or edges k no_edge).kind ≡ Clash → breaks colours (get_or edges k no_edge) ≡ true → Any (λ b. b.edge ≡ e + k) (clashes_from colours e edges)
 clashes_all colours e [] k l f g = absurd (omega (arith, l))
 clashes_all colours e (edge ∷ edges) zero l f g =
-    let t : is_broken_clash colours edge ≡ true = both_are (is_clash edge.kind) (breaks colours edge) (ap is_clash f) g in
+    let t : is_broken_clash colours edge ≡ true = and_from (is_clash edge.kind) (breaks colours edge) (ap is_clash f) g in
     any_first (λ b. b.edge ≡ e + 0) (is_broken_clash colours edge) (record { edge = e; a = edge.a; b = edge.b }) (clashes_from colours (e + 1) edges) t (omega arith)
 clashes_all colours e (edge ∷ edges) (suc k) l f g =
     any_where (λ b. b.edge ≡ e + suc k) (is_broken_clash colours edge) (record { edge = e; a = edge.a; b = edge.b }) (clashes_from colours (e + 1) edges) (moved e k (clashes_from colours (e + 1) edges) (clashes_all colours (e + 1) edges k (omega (arith, l)) f g))
@@ -251,7 +239,7 @@ zones_hold P colours e (edge ∷ edges) (c ∷ cs) t a = by_kind (is_stitch edge
 
 stitch_here : (colours : List Bool) (e : ℕ) (edge : Edge) (edges : List Edge) → is_broken_stitch colours edge ≡ true → NamesHere colours Stitch e (edge ∷ edges) (record { edge = e; a = edge.a; b = edge.b })
 stitch_here colours e edge edges t =
-    let d = both_true (is_stitch edge) (breaks colours edge) t in
+    let d = and_parts (is_stitch edge) (breaks colours edge) t in
     record { k = 0; within = omega arith; number = omega arith; is = stitch_kind edge.kind d.0; broken = d.1; first = refl; second = refl }
 
 stitches_name : (colours : List Bool) (e : ℕ) (edges : List Edge) (cuts : List Cut) → All (λ (z : PlainZone). NamesHere colours Stitch e edges z.at) (cuts_from colours e edges cuts)
@@ -279,7 +267,7 @@ stitches_all colours e [] cuts k t l f g = absurd (omega (arith, l))
 stitches_all colours e (edge ∷ edges) [] zero t l f g = let bad : is_stitch edge ≡ true = stitch_is edge f in let worse = sym t.0 ∙ bad in absurd (cc)
 stitches_all colours e (edge ∷ edges) [] (suc k) t l f g = moved_zones e k (cuts_from colours (e + 1) edges []) (stitches_all colours (e + 1) edges [] k t.1 (omega (arith, l)) f g)
 stitches_all colours e (edge ∷ edges) (c ∷ cs) zero t l f g =
-    let b : is_broken_stitch colours edge ≡ true = both_are (is_stitch edge) (breaks colours edge) (stitch_is edge f) g in
+    let b : is_broken_stitch colours edge ≡ true = and_from (is_stitch edge) (breaks colours edge) (stitch_is edge f) g in
     any_first (λ (z : PlainZone). z.at.edge ≡ e + 0) (is_broken_stitch colours edge) (record { at = record { edge = e; a = edge.a; b = edge.b }; corners = corners_of c.zone }) (cuts_from colours (e + 1) edges (cuts_after edge (c ∷ cs))) b (omega arith)
 stitches_all colours e (edge ∷ edges) (c ∷ cs) (suc k) t l f g =
     let left = cuts_after edge (c ∷ cs) in

@@ -36,7 +36,8 @@ use Rattle.dpl_report.proofs.ValidLemmas.{aside_rises}
 use Rattle.dpl_report.proofs.GoodLemmas.{true_is_good}
 use Rattle.dpl_report.proofs.TrueLemmas.{good_is_true, halves_some}
 use Rattle.dpl_report.proofs.TextFormat.{text_is_found, text_is_read}
-use Rattle.dpl_report.proofs.BrokenLemmas.{TakeCuts, net_takes, any_here, zones_hold, clashes_rise, stitches_rise, fit_rises, clashes_are_named, stitches_are_named}
+use Rattle.dpl_report.proofs.BrokenLemmas.{TakeCuts, net_takes, zones_hold, clashes_rise, stitches_rise, fit_rises, clashes_are_named, stitches_are_named}
+use Rattle.dpl_list.proofs.Lists.{any_tail, pairs_tail, any_head}
 
 -- ---- lists by the numbers of their elements
 
@@ -47,31 +48,25 @@ no_smaller number x xs n a (suc k, y, l, e, p) = let f = ap number e in let h = 
 above : {X : Type 0} (number : X → ℕ) (x : X) (xs : List X) (n : ℕ) → AllPairs (λ y z. number y < number z) (x ∷ xs) → Any (λ y. number y ≡ n) xs → number x < n
 above number x xs n a (k, y, l, e, p) = let f = ap number e in let h = a 0 (suc k) y (omega arith) (omega (arith, l)) in omega (arith, f, p, h)
 
-behind : {X : Type 0} (P : X → Type 0) (x : X) (xs : List X) → Any P xs → Any P (x ∷ xs)
-behind P x xs (k, y, l, e, p) = (suc k, y, omega (arith, l), e, p)
-
 in_rest : {X : Type 0} (number : X → ℕ) (x : X) (xs : List X) (n : ℕ) → number x < n → Any (λ y. number y ≡ n) (x ∷ xs) → Any (λ y. number y ≡ n) xs
 in_rest number x xs n m (zero, y, l, e, p) = let f = ap number e in absurd (omega (arith, f, p, m))
 in_rest number x xs n m (suc k, y, l, e, p) = (k, y, omega (arith, l), e, p)
-
-pairs_behind : {X : Type 0} (R : X → X → Type 0) (x : X) (xs : List X) → AllPairs R (x ∷ xs) → AllPairs R xs
-pairs_behind R x xs a i j d h l = a (suc i) (suc j) d (omega (arith, h)) (omega (arith, l))
 
 -- rising lists with the same numbers are the same, where elements of one number are
 same_list : {X : Type 0} (number : X → ℕ) (P Q : X → Type 0) → ((x y : X) → P x → Q y → number x ≡ number y → x ≡ y) → (xs ys : List X) → All P xs → All Q ys
     → AllPairs (λ y z. number y < number z) xs → AllPairs (λ y z. number y < number z) ys
     → ((n : ℕ) → Any (λ x. number x ≡ n) xs → Any (λ x. number x ≡ n) ys) → ((n : ℕ) → Any (λ x. number x ≡ n) ys → Any (λ x. number x ≡ n) xs) → xs ≡ ys
 same_list number P Q same [] [] p q a b there back = refl
-same_list number P Q same [] (y ∷ ys) p q a b there back = let h = back (number y) (any_here (λ x. number x ≡ number y) y ys refl) in absurd (omega (arith, h.2))
-same_list number P Q same (x ∷ xs) [] p q a b there back = let h = there (number x) (any_here (λ y. number y ≡ number x) x xs refl) in absurd (omega (arith, h.2))
+same_list number P Q same [] (y ∷ ys) p q a b there back = let h = back (number y) (any_head (λ x. number x ≡ number y) y ys refl) in absurd (omega (arith, h.2))
+same_list number P Q same (x ∷ xs) [] p q a b there back = let h = there (number x) (any_head (λ y. number y ≡ number x) x xs refl) in absurd (omega (arith, h.2))
 same_list number P Q same (x ∷ xs) (y ∷ ys) p q a b there back =
-    let low = no_smaller number y ys (number x) b (there (number x) (any_here (λ z. number z ≡ number x) x xs refl)) in
-    let high = no_smaller number x xs (number y) a (back (number y) (any_here (λ z. number z ≡ number y) y ys refl)) in
+    let low = no_smaller number y ys (number x) b (there (number x) (any_head (λ z. number z ≡ number x) x xs refl)) in
+    let high = no_smaller number x xs (number y) a (back (number y) (any_head (λ z. number z ≡ number y) y ys refl)) in
     let one : number x ≡ number y = omega (arith, low, high) in
     let first : x ≡ y = same x y (All-head P x xs p) (All-head Q y ys q) one in
-    let others : xs ≡ ys = same_list number P Q same xs ys (All-tail P x xs p) (All-tail Q y ys q) (pairs_behind (λ y z. number y < number z) x xs a) (pairs_behind (λ y z. number y < number z) y ys b)
-    (λ n h. in_rest number y ys n (let m = above number x xs n a h in omega (arith, m, one)) (there n (behind (λ z. number z ≡ n) x xs h)))
-    (λ n h. in_rest number x xs n (let m = above number y ys n b h in omega (arith, m, one)) (back n (behind (λ z. number z ≡ n) y ys h))) in
+    let others : xs ≡ ys = same_list number P Q same xs ys (All-tail P x xs p) (All-tail Q y ys q) (pairs_tail (λ y z. number y < number z) x xs a) (pairs_tail (λ y z. number y < number z) y ys b)
+    (λ n h. in_rest number y ys n (let m = above number x xs n a h in omega (arith, m, one)) (there n (any_tail (λ z. number z ≡ n) x xs h)))
+    (λ n h. in_rest number x xs n (let m = above number y ys n b h in omega (arith, m, one)) (back n (any_tail (λ z. number z ≡ n) y ys h))) in
     ap (λ z. z ∷ xs) first ∙ ap (λ zs. y ∷ zs) others
 
 -- ---- broken edges

@@ -49,7 +49,7 @@ params_none p o e = rw e (both_none _ _ (name_same 2 o.layer) (both_none _ _ (nu
 pub counts_none : (k w : Counts) → k ≡ w → counts_miss k w ≡ None
 counts_none k w e = rw e (both_none _ _ (number_same 7 w.pieces) (both_none _ _ (number_same 8 w.fragments) (both_none _ _ (number_same 9 w.bonds) (both_none _ _ (number_same 10 w.stitches) (both_none _ _ (number_same 11 w.clashes) (number_same 12 w.excess))))))
 
-agree_same : (b : Bool) → agree b b ≡ true
+pub agree_same : (b : Bool) → agree b b ≡ true
 agree_same true = refl
 agree_same false = refl
 

@@ -6,7 +6,7 @@ use Rattle.std.specs.Str.{bytes_eq}
 use Rattle.std.proofs.lemmas.Int.{ints, quot-rem, rem_below}
 use Rattle.std.proofs.lemmas.Option.{cond_some}
 use Rattle.std.proofs.lemmas.Slice.Eq.{bytes_eq-Decides}
-use Rattle.std.proofs.lemmas.Bool.{leb-true, le-leb}
+use Rattle.std.proofs.lemmas.Bool.{leb-true, le-leb, and_parts}
 use Rattle.std.proofs.lemmas.Bool.Decides.{nat_tests}
 use Rattle.dpl_cell.specs.Places.{Corners}
 use Rattle.dpl_cell.specs.Ranges.{IsStretch, IsRectangle}
@@ -14,7 +14,6 @@ use Rattle.dpl_lex.specs.Classes.{is_separator}
 use Rattle.dpl_rules.specs.Readers.{◌>>=◌}
 use Rattle.dpl_sign.specs.declared.walks.Cycle.{Cycle}
 use Rattle.dpl_boxes.specs.Masks.{box_line}
-use Rattle.dpl_boxes.proofs.NumberLemmas.{both}
 use Rattle.dpl_form.proofs.Formats.{IsItem, AreItems}
 use Rattle.dpl_report.specs.declared.marks.Broken.{Broken}
 use Rattle.dpl_report.specs.Plain.{PlainZone}
@@ -130,8 +129,8 @@ broken_guess = record { fits = broken_from_fits; again = λ x f. rw (up_to_again
 
 stretch_fits : (a b : ℤ) → is_stretch a b ≡ true → IsStretch a b
 stretch_fits a b h =
-    let p = both (int_lt a b && int_le (neg_ℤ (pos (2 ^ 30))) a) (int_le b (pos (2 ^ 30))) h in
-    let q = both (int_lt a b) (int_le (neg_ℤ (pos (2 ^ 30))) a) p.0 in
+    let p = and_parts (int_lt a b && int_le (neg_ℤ (pos (2 ^ 30))) a) (int_le b (pos (2 ^ 30))) h in
+    let q = and_parts (int_lt a b) (int_le (neg_ℤ (pos (2 ^ 30))) a) p.0 in
     record { some = grind (arith, ints); low = grind (arith, ints); high = grind (arith, ints) }
 
 stretch_again : (a b : ℤ) → IsStretch a b → is_stretch a b ≡ true
@@ -145,7 +144,7 @@ rectangle_fits : (c d : Corners) → rectangle_of c ≡ Some d → IsRectangle d
 unfolding rectangle_of
 rectangle_fits c d e =
     let k = cond_some (is_stretch c.x1 c.x2 && is_stretch c.y1 c.y2) c d e in
-    let p = both (is_stretch c.x1 c.x2) (is_stretch c.y1 c.y2) k.0 in
+    let p = and_parts (is_stretch c.x1 c.x2) (is_stretch c.y1 c.y2) k.0 in
     rw (← k.1) (record { columns = stretch_fits c.x1 c.x2 p.0; rows = stretch_fits c.y1 c.y2 p.1 })
 
 rectangle_again : (c : Corners) → IsRectangle c → rectangle_of c ≡ Some c

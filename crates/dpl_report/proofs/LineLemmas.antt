@@ -13,10 +13,11 @@ use Rattle.dpl_lex.specs.declared.number.Num.{Num}
 use Rattle.dpl_lex.specs.declared.number.Num.TheVariants.{Nothing}
 use Rattle.dpl_rules.specs.Readers.{number_of, signed_of, repeated}
 use Rattle.dpl_boxes.specs.Masks.{box_line}
-use Rattle.dpl_boxes.proofs.NumberLemmas.{both, has_no_digit, signed_of-signed_decimal}
+use Rattle.dpl_boxes.proofs.NumberLemmas.{has_no_digit, signed_of-signed_decimal}
 use Rattle.dpl_form.specs.Lines.{is_line, is_nothing}
 use Rattle.dpl_report.specs.ReportLines.{numbered, bracketed}
 use Rattle.dpl_report.specs.Reading.{numbers_in}
+use Rattle.std.proofs.lemmas.Bool.{and_parts}
 
 -- ---- what stands before a number
 
@@ -45,7 +46,7 @@ signed_any v w (b ∷ bs) = signed_by_test (b == 45) v w b bs
 
 drop_while-append : (front rest : List ℕ) → list_all is_separator front ≡ true → drop_while is_separator (front ++ rest) ≡ drop_while is_separator rest
 drop_while-append [] rest h = refl
-drop_while-append (b ∷ bs) rest h = let s = both (is_separator b) (list_all is_separator bs) h in rw s.0 (drop_while-append bs rest s.1)
+drop_while-append (b ∷ bs) rest h = let s = and_parts (is_separator b) (list_all is_separator bs) h in rw s.0 (drop_while-append bs rest s.1)
 
 -- separators before a number are passed
 signed_of-word : (word rest : List ℕ) → list_all is_separator word ≡ true → signed_of (word ++ rest) ≡ signed_of rest
@@ -73,7 +74,7 @@ numbers_again (suc n) word (z ∷ zs) end e l h a =
     let k : length zs ≤ n = omega arith in
     rw (signed_of-word word (numbered (z ∷ zs) end) h, signed_of-signed_decimal z (numbered zs end) a.0 (has_no_digit-numbered zs end e)) (ap (λ ys. z ∷ ys) (numbers_again n [] zs end e k refl a.1))
 
-length-numbered : (zs : List ℤ) (end : List ℕ) → length zs ≤ length (numbered zs end)
+pub length-numbered : (zs : List ℤ) (end : List ℕ) → length zs ≤ length (numbered zs end)
 length-numbered [] end = omega arith
 length-numbered (z ∷ zs) end = omega (arith, length-numbered zs end, length-append (signed_decimal z) (numbered zs end))
 
@@ -114,7 +115,7 @@ line_by_test false bs rest n h = h
 
 pub is_line-append : (front rest : List ℕ) → list_all is_no_end front ≡ true → is_line (front ++ rest) ≡ is_line rest
 is_line-append [] rest h = refl
-is_line-append (b ∷ bs) rest h = let s = both (is_no_end b) (list_all is_no_end bs) h in line_by_test (b == 10) bs rest s.0 (is_line-append bs rest s.1)
+is_line-append (b ∷ bs) rest h = let s = and_parts (is_no_end b) (list_all is_no_end bs) h in line_by_test (b == 10) bs rest s.0 (is_line-append bs rest s.1)
 
 digit_is_no_end : (n : ℕ) → n < 10 → is_no_end (48 + n) ≡ true
 digit_is_no_end n l = grind (arith, nat_tests)

@@ -1,7 +1,7 @@
 -- The masks of a good report are the layer, overlap in the zones of its cut lines, and tell what is too close.
 use Rattle.std.proofs.Common.{arith, rules, ◌≡◌, ◌≤◌, ◌<◌, ◌*◌, ◌%◌, ◌⊎◌, inl, inr, ℕ, zero, suc, ℤ, Bool, true, false, List, [], ◌∷◌, ◌++◌, length, map, refl, sym, ap, subst, ◌∙◌, All, Any, AllPairs, Contains, append_assoc, IsTrue, None}
 use Rattle.std.specs.Prelude.{◌<ℤ◌, ◌≤ℤ◌, ◌&&◌, ◌||◌, if◌then◌else◌}
-use Rattle.std.proofs.lemmas.Bool.{cases_lt}
+use Rattle.std.proofs.lemmas.Bool.{cases_lt, and_parts, or_left, or_right, or_cases, and_from}
 use Rattle.std.proofs.lemmas.Int.{ints}
 use Rattle.std.proofs.lemmas.List.{map-append, get_or_default}
 use Rattle.std.proofs.lemmas.List.Folds.{list_any-append}
@@ -29,7 +29,7 @@ use Rattle.dpl_cuts.proofs.ZoneLemmas.{good_zones, hold_layer}
 use Rattle.dpl_links.specs.Links.{piece_of}
 use Rattle.dpl_links.specs.Nets.{Tie, tie_of, bond_tie, stitch_tie, clash_tie, IsNet}
 use Rattle.dpl_links.specs.Spacing.{AreTooClose, IsClashOf, AreAllClashes}
-use Rattle.dpl_links.proofs.LawLemmas.{net_clashes}
+use Rattle.dpl_links.proofs.LawLemmas.{net_clashes, turned_gap}
 use Rattle.dpl_lex.specs.Name.{is_name}
 use Rattle.dpl_boxes.specs.Drawings.{is_in_boxes, DrawsMasks}
 use Rattle.dpl_report.specs.declared.marks.Broken.{Broken}
@@ -47,54 +47,16 @@ use Rattle.dpl_report.proofs.TrueLemmas.{agree_none, AgreesAt, good_is_true}
 use Rattle.dpl_report.proofs.BrokenLemmas.{TakeCuts, net_takes, zones_are, zones_hold, fit_rises, first_tie, clashes_are_named, stitches_are_named}
 use Rattle.dpl_report.proofs.DrawnLemmas.{report_is_drawn}
 use Rattle.std.proofs.Math.Path.{fun_ext}
+use Rattle.dpl_cell.proofs.BoxLemmas.{test_within, true_is, box_in, in_box}
+use Rattle.dpl_report.proofs.GoodLemmas.{agree_same}
+use Rattle.std.specs.Cmp.{both_ways}
 
 -- ---- tests
-
-in_test : (r : Corners) (x y : ℤ) → IsIn r x y → is_in_box r x y ≡ true
-in_test r x y h = let a : r.x1 ≤ℤ x = h.column.from in let b : x <ℤ r.x2 = h.column.to in let c : r.y1 ≤ℤ y = h.row.from in let d : y <ℤ r.y2 = h.row.to in grind (arith, ints)
-
-from_stretch : (a b x : ℤ) → is_within a b x ≡ true → IsWithin a b x
-from_stretch a b x e = record { from = grind (arith, ints); to = grind (arith, ints) }
-
-both_true : (a b : Bool) → (a && b) ≡ true → (a ≡ true) × (b ≡ true)
-both_true true b e = (refl, e)
-both_true false b e = absurd (cc)
-
-from_test : (r : Corners) (x y : ℤ) → is_in_box r x y ≡ true → IsIn r x y
-from_test r x y e = let d = both_true (is_within r.x1 r.x2 x) (is_within r.y1 r.y2 y) e in record { column = from_stretch r.x1 r.x2 x d.0; row = from_stretch r.y1 r.y2 y d.1 }
-
-either_true : (a b : Bool) → (a || b) ≡ true → (a ≡ true) ⊎ (b ≡ true)
-either_true true b e = inl refl
-either_true false b e = inr e
-
-or_true : (a b : Bool) → b ≡ true → (a || b) ≡ true
-or_true true b e = refl
-or_true false b e = e
-
-true_or : (a b : Bool) → a ≡ true → (a || b) ≡ true
-true_or true b e = refl
-true_or false b e = absurd (cc)
-
-both_are : (a b : Bool) → a ≡ true → b ≡ true → (a && b) ≡ true
-both_are true b e f = f
-both_are false b e f = absurd (cc)
-
-same_test : (a b : Bool) → (a ≡ true → b ≡ true) → (b ≡ true → a ≡ true) → a ≡ b
-same_test true b f g = sym (f refl)
-same_test false true f g = g refl
-same_test false false f g = refl
-
-true_is : (b : Bool) → IsTrue b → b ≡ true
-true_is b h = search rules
 
 is_true : (b : Bool) → b ≡ true → IsTrue b
 is_true b e = search rules
 
-agree_same : (b : Bool) → agree b b ≡ true
-agree_same true = refl
-agree_same false = refl
-
-map_size : {X Y : Type 0} (f : X → Y) (xs : List X) → length (map f xs) ≡ length xs
+pub map_size : {X Y : Type 0} (f : X → Y) (xs : List X) → length (map f xs) ≡ length xs
 map_size f [] = refl
 map_size f (x ∷ xs) = ap suc (map_size f xs)
 
@@ -122,7 +84,7 @@ fragments_hold on_b (r ∷ rs) (d ∷ ds) x y l e = by_test (agree d on_b) refl 
   later h = let w = h.within in record { i = suc h.i; within = omega arith; own = h.own; holds = h.holds }
 
   here : agree d on_b ≡ true → is_in_box (corners_of r) x y ≡ true → IsOnFragment (r ∷ rs) (d ∷ ds) on_b x y
-  here f g = record { i = 0; within = omega arith; own = agree_none d on_b f; holds = from_test (corners_of r) x y g }
+  here f g = record { i = 0; within = omega arith; own = agree_none d on_b f; holds = in_box (corners_of r) x y g }
 
   either : agree d on_b ≡ true → (is_in_boxes (map corners_of (fragments_on on_b rs ds)) x y ≡ true → IsOnFragment rs ds on_b x y) → (is_in_box (corners_of r) x y ≡ true) ⊎ (is_in_boxes (map corners_of (fragments_on on_b rs ds)) x y ≡ true) → IsOnFragment (r ∷ rs) (d ∷ ds) on_b x y
   either f others (inl g) = here f g
@@ -130,14 +92,14 @@ fragments_hold on_b (r ∷ rs) (d ∷ ds) x y l e = by_test (agree d on_b) refl 
 
   by_test : (t : Bool) → agree d on_b ≡ t → (is_in_boxes (map corners_of (fragments_on on_b rs ds)) x y ≡ true → IsOnFragment rs ds on_b x y) → is_in_boxes (map corners_of (where_same t r (fragments_on on_b rs ds))) x y ≡ true → IsOnFragment (r ∷ rs) (d ∷ ds) on_b x y
   by_test false f others g = later (others g)
-  by_test true f others g = either f others (either_true (is_in_box (corners_of r) x y) (is_in_boxes (map corners_of (fragments_on on_b rs ds)) x y) g)
+  by_test true f others g = either f others (or_cases (is_in_box (corners_of r) x y) (is_in_boxes (map corners_of (fragments_on on_b rs ds)) x y) g)
 
 with_rect : (t : Bool) (r : Rect) (rs : List Rect) (x y : ℤ) → is_in_boxes (map corners_of rs) x y ≡ true → is_in_boxes (map corners_of (where_same t r rs)) x y ≡ true
-with_rect true r rs x y e = or_true (is_in_box (corners_of r) x y) (is_in_boxes (map corners_of rs) x y) e
+with_rect true r rs x y e = or_right (is_in_box (corners_of r) x y) (is_in_boxes (map corners_of rs) x y) e
 with_rect false r rs x y e = e
 
 first_rect : (t : Bool) (r : Rect) (rs : List Rect) (x y : ℤ) → t ≡ true → IsIn (corners_of r) x y → is_in_boxes (map corners_of (where_same t r rs)) x y ≡ true
-first_rect true r rs x y e h = true_or (is_in_box (corners_of r) x y) (is_in_boxes (map corners_of rs) x y) (in_test (corners_of r) x y h)
+first_rect true r rs x y e h = or_left (is_in_box (corners_of r) x y) (is_in_boxes (map corners_of rs) x y) (box_in (corners_of r) x y h)
 first_rect false r rs x y e h = absurd (cc)
 
 fragments_held : (on_b : Bool) (rects : List Rect) (colours : List Bool) (x y : ℤ) (i : ℕ) → i < length rects → length colours ≡ length rects → colour_of colours i ≡ on_b → IsIn (rect_at (map corners_of rects) i) x y → is_in_boxes (map corners_of (fragments_on on_b rects colours)) x y ≡ true
@@ -160,29 +122,29 @@ zones_in colours (d ∷ ds) x y e = by_test (is_zone colours d) refl (zones_in c
   later (k, c, l, f, p) = (suc k, c, omega arith, f, p)
 
   either : is_zone colours d ≡ true → (is_in_boxes (map corners_of (zones_of colours ds)) x y ≡ true → IsOnZone colours ds x y) → (is_in_box (corners_of d.zone) x y ≡ true) ⊎ (is_in_boxes (map corners_of (zones_of colours ds)) x y ≡ true) → IsOnZone colours (d ∷ ds) x y
-  either f others (inl g) = (0, d, omega arith, refl, (f, from_test (corners_of d.zone) x y g))
+  either f others (inl g) = (0, d, omega arith, refl, (f, in_box (corners_of d.zone) x y g))
   either f others (inr g) = later (others g)
 
   by_test : (t : Bool) → is_zone colours d ≡ t → (is_in_boxes (map corners_of (zones_of colours ds)) x y ≡ true → IsOnZone colours ds x y) → is_in_boxes (map corners_of (where_same t d.zone (zones_of colours ds))) x y ≡ true → IsOnZone colours (d ∷ ds) x y
   by_test false f others g = later (others g)
-  by_test true f others g = either f others (either_true (is_in_box (corners_of d.zone) x y) (is_in_boxes (map corners_of (zones_of colours ds)) x y) g)
+  by_test true f others g = either f others (or_cases (is_in_box (corners_of d.zone) x y) (is_in_boxes (map corners_of (zones_of colours ds)) x y) g)
 
 in_append : (rs more : List Rect) (x y : ℤ) → is_in_boxes (map corners_of (rs ++ more)) x y ≡ (is_in_boxes (map corners_of rs) x y || is_in_boxes (map corners_of more) x y)
 in_append rs more x y = ap (λ cs. is_in_boxes cs x y) (map-append corners_of rs more) ∙ list_any-append (λ b. is_in_box b x y) (map corners_of rs) (map corners_of more)
 
 mask_holds : (on_b : Bool) (f : Fragments) (colours : List Bool) (x y : ℤ) → length colours ≡ length f.rects → is_in_boxes (map corners_of (mask_of on_b f colours)) x y ≡ true → IsOnFragment f.rects colours on_b x y ⊎ IsOnZone colours f.cuts x y
-mask_holds on_b f colours x y l e = elim (either_true _ _ (sym (in_append (fragments_on on_b f.rects colours) (zones_of colours f.cuts) x y) ∙ e)) [
+mask_holds on_b f colours x y l e = elim (or_cases _ _ (sym (in_append (fragments_on on_b f.rects colours) (zones_of colours f.cuts) x y) ∙ e)) [
   | inl g ↦ inl (fragments_hold on_b f.rects colours x y l g)
   | inr g ↦ inr (zones_in colours f.cuts x y g)
 ]
 
 fragment_on_mask : (on_b : Bool) (f : Fragments) (colours : List Bool) (x y : ℤ) → length colours ≡ length f.rects → IsOnFragment f.rects colours on_b x y → is_in_boxes (map corners_of (mask_of on_b f colours)) x y ≡ true
 fragment_on_mask on_b f colours x y l h =
-    in_append (fragments_on on_b f.rects colours) (zones_of colours f.cuts) x y ∙ true_or _ (is_in_boxes (map corners_of (zones_of colours f.cuts)) x y) (fragments_held on_b f.rects colours x y h.i h.within l h.own h.holds)
+    in_append (fragments_on on_b f.rects colours) (zones_of colours f.cuts) x y ∙ or_left _ (is_in_boxes (map corners_of (zones_of colours f.cuts)) x y) (fragments_held on_b f.rects colours x y h.i h.within l h.own h.holds)
 
 zone_on_mask : (on_b : Bool) (f : Fragments) (colours : List Bool) (x y : ℤ) → IsOnZone colours f.cuts x y → is_in_boxes (map corners_of (mask_of on_b f colours)) x y ≡ true
 zone_on_mask on_b f colours x y h =
-    in_append (fragments_on on_b f.rects colours) (zones_of colours f.cuts) x y ∙ or_true (is_in_boxes (map corners_of (fragments_on on_b f.rects colours)) x y) _ (zones_held colours f.cuts x y h)
+    in_append (fragments_on on_b f.rects colours) (zones_of colours f.cuts) x y ∙ or_right (is_in_boxes (map corners_of (fragments_on on_b f.rects colours)) x y) _ (zones_held colours f.cuts x y h)
 
 -- ---- pieces have one colour
 
@@ -288,13 +250,13 @@ cell_on_fragment tiles rects colours x y h c =
 
 some_mask : (o : Options) (tiles : List Corners) (f : Fragments) (net : Net) (r : PlainReport) (x y : ℤ) → IsKnown o tiles f net r → (on_b : Bool) → IsOnFragment f.rects r.head.colours on_b x y → (is_in_boxes r.on_a x y || is_in_boxes r.on_b x y) ≡ true
 unfolding mask_boxes
-some_mask o tiles f net r x y k true h = or_true (is_in_boxes r.on_a x y) (is_in_boxes r.on_b x y) (fragment_is_on o tiles f net r true x y k h)
-some_mask o tiles f net r x y k false h = true_or (is_in_boxes r.on_a x y) (is_in_boxes r.on_b x y) (fragment_is_on o tiles f net r false x y k h)
+some_mask o tiles f net r x y k true h = or_right (is_in_boxes r.on_a x y) (is_in_boxes r.on_b x y) (fragment_is_on o tiles f net r true x y k h)
+some_mask o tiles f net r x y k false h = or_left (is_in_boxes r.on_a x y) (is_in_boxes r.on_b x y) (fragment_is_on o tiles f net r false x y k h)
 
 masks_together : (o : Options) (tiles : List Corners) (f : Fragments) (net : Net) (r : PlainReport) → IsKnown o tiles f net r → HoldTogether (layer_of tiles) r
 unfolding mask_boxes
-masks_together o tiles f net r k x y = same_test (is_in_boxes r.on_a x y || is_in_boxes r.on_b x y) (layer_of tiles x y)
-    (λ e. elim (either_true (is_in_boxes r.on_a x y) (is_in_boxes r.on_b x y) e) [ inl g ↦ mask_cell o tiles f net r false x y k g | inr g ↦ mask_cell o tiles f net r true x y k g ])
+masks_together o tiles f net r k x y = both_ways (is_in_boxes r.on_a x y || is_in_boxes r.on_b x y) (layer_of tiles x y)
+    (λ e. elim (or_cases (is_in_boxes r.on_a x y) (is_in_boxes r.on_b x y) e) [ inl g ↦ mask_cell o tiles f net r false x y k g | inr g ↦ mask_cell o tiles f net r true x y k g ])
     (λ e. let h = cell_on_fragment tiles f.rects r.head.colours x y k.hold (is_true (layer_of tiles x y) e) in some_mask o tiles f net r x y k h.0 h.1)
 
 -- ---- overlap
@@ -332,9 +294,9 @@ masks_overlap : (o : Options) (tiles : List Corners) (f : Fragments) (net : Net)
 unfolding mask_boxes
 masks_overlap o tiles f net r k x y =
     let same : is_in_boxes (map (λ (z : PlainZone). z.corners) r.lists.cuts) x y ≡ is_in_boxes (map corners_of (zones_of r.head.colours f.cuts)) x y = ap (λ bs. is_in_boxes bs x y) (line_zones o tiles f net r k) in
-    same_test (is_in_boxes r.on_a x y && is_in_boxes r.on_b x y) (is_in_boxes (map (λ (z : PlainZone). z.corners) r.lists.cuts) x y)
-    (λ e. let d = both_true (is_in_boxes r.on_a x y) (is_in_boxes r.on_b x y) e in same ∙ zones_held r.head.colours f.cuts x y (on_zone o tiles f net r x y k d.0 d.1))
-    (λ e. let z = zones_in r.head.colours f.cuts x y (sym same ∙ e) in both_are (is_in_boxes r.on_a x y) (is_in_boxes r.on_b x y) (zone_is_on o tiles f net r false x y k z) (zone_is_on o tiles f net r true x y k z))
+    both_ways (is_in_boxes r.on_a x y && is_in_boxes r.on_b x y) (is_in_boxes (map (λ (z : PlainZone). z.corners) r.lists.cuts) x y)
+    (λ e. let d = and_parts (is_in_boxes r.on_a x y) (is_in_boxes r.on_b x y) e in same ∙ zones_held r.head.colours f.cuts x y (on_zone o tiles f net r x y k d.0 d.1))
+    (λ e. let z = zones_in r.head.colours f.cuts x y (sym same ∙ e) in and_from (is_in_boxes r.on_a x y) (is_in_boxes r.on_b x y) (zone_is_on o tiles f net r false x y k z) (zone_is_on o tiles f net r true x y k z))
 
 -- each cut line shows the zone of its cut
 show_zones : (o : Options) (tiles : List Corners) (f : Fragments) (net : Net) (r : PlainReport) → IsKnown o tiles f net r → All (ShowsZone (2 * o.overlap) tiles f) r.lists.cuts
@@ -346,12 +308,6 @@ show_zones o tiles f net r k =
     subst (All (ShowsZone (2 * o.overlap) tiles f)) (sym k.truth.cuts) moved
 
 -- ---- what is too close
-
-turned_gap : (x y x' y' : ℤ) (n : ℕ) → cell_gap2 x y x' y' < n → cell_gap2 x' y' x y < n
-turned_gap x y x' y' n h =
-    let a : between x x' ≡ between x' x = omega (arith, ints) in
-    let b : between y y' ≡ between y' y = omega (arith, ints) in
-    rw (← a, ← b) h
 
 -- a cell that is too close to another one lies in no zone
 first_fragment : (o : Options) (tiles : List Corners) (f : Fragments) (net : Net) (r : PlainReport) (on_b : Bool) (x y x' y' : ℤ) → IsKnown o tiles f net r → AreTooClose (layer_of tiles) (2 * o.space) x y x' y' → is_in_boxes (mask_boxes r on_b) x y ≡ true → IsOnFragment f.rects r.head.colours on_b x y

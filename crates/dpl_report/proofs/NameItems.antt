@@ -4,10 +4,9 @@ use Rattle.std.specs.Str.{bytes_eq}
 use Rattle.std.proofs.lemmas.Option.{cond_some}
 use Rattle.std.proofs.lemmas.Slice.Eq.{bytes_eq-Decides}
 use Rattle.std.proofs.lemmas.Bool.Decides.{Decides-eqb}
-use Rattle.std.proofs.lemmas.Bool.{leb-true, le-leb, eqb-true}
+use Rattle.std.proofs.lemmas.Bool.{leb-true, le-leb, eqb-true, and_parts}
 use Rattle.std.proofs.lemmas.List.{take_at, length-replicate}
 use Rattle.dpl_lex.specs.Name.{is_name}
-use Rattle.dpl_boxes.proofs.NumberLemmas.{both}
 use Rattle.dpl_form.proofs.Formats.{IsItem}
 use Rattle.dpl_report.specs.ReportLines.{letter, layer_line, masks_line}
 use Rattle.dpl_report.specs.Valid.{IsLayer}
@@ -26,7 +25,7 @@ between-masks colours = between_seam (map letter colours) (codes ");\n") (length
 layer_fits : (name found : List ℕ) → layer_from name ≡ Some found → IsLayer found
 layer_fits name found e =
     let c = cond_some (is_name name && nat_le (length name) 31) name found e in
-    let d = both (is_name name) (nat_le (length name) 31) c.0 in
+    let d = and_parts (is_name name) (nat_le (length name) 31) c.0 in
     rw (← c.1) (d.0, leb-true (length name) 31 d.1)
 
 layer_again : (name : List ℕ) → IsLayer name → layer_from name ≡ Some name

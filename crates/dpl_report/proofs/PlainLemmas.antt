@@ -7,17 +7,7 @@ use Rattle.dpl_report.specs.declared.marks.Broken.{Broken}
 use Rattle.dpl_report.specs.declared.marks.Zone.{Zone}
 use Rattle.dpl_report.specs.declared.reports.Report.{Report}
 use Rattle.dpl_report.specs.Plain.{PlainZone, PlainReport, plain_zone, plain_report}
-
-same_list : {X Y : Type 0} (f : X → Y) → ((a b : X) → f a ≡ f b → a ≡ b) → (xs ys : List X) → map f xs ≡ map f ys → xs ≡ ys
-same_list f h [] [] e = refl
-same_list f h [] (y ∷ ys) e = absurd (cc)
-same_list f h (x ∷ xs) [] e = absurd (cc)
-same_list f h (x ∷ xs) (y ∷ ys) e =
-    let first : f x ≡ f y = cc in
-    let others : map f xs ≡ map f ys = cc in
-    let a = h x y first in
-    let b = same_list f h xs ys others in
-    cc
+use Rattle.dpl_list.proofs.Ordered.{maps_same}
 
 zone_with : Broken → Rect → Zone
 zone_with b r = record { at = b; rect = r }
@@ -48,8 +38,8 @@ report_with p cuts on_a on_b = record {
 pub same_report : (r s : Report) → plain_report r ≡ plain_report s → r ≡ s
 unfolding report_with
 same_report r s e =
-    let cuts = same_list plain_zone same_zone r.cuts s.cuts (ap (λ (p : PlainReport). p.lists.cuts) e) in
-    let on_a = same_list corners_of same_corners r.on_a s.on_a (ap (λ (p : PlainReport). p.on_a) e) in
-    let on_b = same_list corners_of same_corners r.on_b s.on_b (ap (λ (p : PlainReport). p.on_b) e) in
+    let cuts = maps_same plain_zone same_zone r.cuts s.cuts (ap (λ (p : PlainReport). p.lists.cuts) e) in
+    let on_a = maps_same corners_of same_corners r.on_a s.on_a (ap (λ (p : PlainReport). p.on_a) e) in
+    let on_b = maps_same corners_of same_corners r.on_b s.on_b (ap (λ (p : PlainReport). p.on_b) e) in
     ap (λ (p : PlainReport). report_with p r.cuts r.on_a r.on_b) e ∙ ap (λ (c : List Zone). report_with (plain_report s) c r.on_a r.on_b) cuts
     ∙ ap (λ (b : List Rect). report_with (plain_report s) s.cuts b r.on_b) on_a ∙ ap (λ (b : List Rect). report_with (plain_report s) s.cuts s.on_a b) on_b

@@ -2,7 +2,7 @@
 use Rattle.std.proofs.Common.{arith, ◌≡◌, ◌≤◌, ◌==◌, ℕ, ◌+◌, ◌*◌, inl, inr, Bool, true, false, not, List, [], ◌∷◌, ◌++◌, length, map, refl, sym, ap, subst, ◌∙◌, Option, None, Some, All, append_assoc, append-nil}
 use Rattle.std.specs.Prelude.{pos, nat_lt, ◌&&◌, if◌then◌else◌}
 use Rattle.std.specs.List.{AllByRecursion, list_all}
-use Rattle.std.proofs.lemmas.Bool.{cases_Bool, cases_eq, eqb-true}
+use Rattle.std.proofs.lemmas.Bool.{cases_Bool, cases_eq, eqb-true, and_parts}
 use Rattle.std.proofs.lemmas.Bool.Decides.{nat_tests}
 use Rattle.std.proofs.lemmas.List.Elements.{All-nil, All-cons, All-weaker, All-from_recursion}
 use Rattle.dpl_cell.specs.Places.{Corners, corners_of}
@@ -38,11 +38,11 @@ use Rattle.dpl_report.proofs.GoodLemmas.{edges_told}
 use Rattle.dpl_report.proofs.WalkLaws.{walk_is_odd}
 
 -- the first of two refusals and what comes behind it
-either_none : (a b : Option Refusal) → or_else a b ≡ None → (a ≡ None) × (b ≡ None)
+pub either_none : (a b : Option Refusal) → or_else a b ≡ None → (a ≡ None) × (b ≡ None)
 either_none None b e = (refl, e)
 either_none (Some x) b e = absurd (cc)
 
-not_refused : (reason : ℕ) (m : Option Miss) → refused reason m ≡ None → m ≡ None
+pub not_refused : (reason : ℕ) (m : Option Miss) → refused reason m ≡ None → m ≡ None
 not_refused reason None e = refl
 not_refused reason (Some m) e = absurd (cc)
 
@@ -51,10 +51,6 @@ number_none place m n e = elim (cases_Bool (m == n)) [
   | inl t ↦ eqb-true m n t
   | inr t ↦ let bad = rw t at e in absurd (cc)
 ]
-
-both_true : (a b : Bool) → (a && b) ≡ true → (a ≡ true) × (b ≡ true)
-both_true true b e = (refl, e)
-both_true false b e = absurd (cc)
 
 abbrev pub IsNameByte : ℕ → Type 0
 IsNameByte b = is_name_byte b ≡ true
@@ -77,7 +73,7 @@ name_none place (x ∷ xs) (y ∷ ys) a b e =
 
 name_bytes_each : (name : List ℕ) → list_all is_name_byte name ≡ true → AllByRecursion IsNameByte name
 name_bytes_each [] e = tt
-name_bytes_each (x ∷ xs) e = let d = both_true (is_name_byte x) (list_all is_name_byte xs) e in (d.0, name_bytes_each xs d.1)
+name_bytes_each (x ∷ xs) e = let d = and_parts (is_name_byte x) (list_all is_name_byte xs) e in (d.0, name_bytes_each xs d.1)
 
 params_with : List ℕ → ℕ → ℕ → ℕ → ℕ → Params
 params_with l s v a b = record { layer = l; space = s; overlap = v; stitch = a; conflict = b }
@@ -143,7 +139,7 @@ walks_true g cycle (c ∷ cs) n =
 -- ---- loads
 
 -- what one passage says
-here : Bool → ℕ → ℕ → ℕ → Option Miss
+pub here : Bool → ℕ → ℕ → ℕ → Option Miss
 here bond e limit carried = if not bond && nat_lt limit carried then Some (miss e (pos carried) (pos limit)) else None
 
 fits : (bond : Bool) (e limit carried : ℕ) → here bond e limit carried ≡ None → bond ≡ false → carried ≤ limit

@@ -23,7 +23,7 @@ use Rattle.dpl_sign.specs.Colourings.{breaks, broken_weight, cost_of}
 use Rattle.dpl_sign.specs.Packings.{bound_of}
 use Rattle.dpl_sign.specs.Components.{component_of}
 use Rattle.dpl_sign.specs.Excess.{all_edges, is_aside, aside_before}
-use Rattle.dpl_sign.proofs.WalkLemmas.{leaves_ends, packing_bounds}
+use Rattle.dpl_sign.proofs.WalkLemmas.{leaves_ends, packing_bounds, most_most}
 use Rattle.dpl_form.specs.Readers.{FitFrom}
 use Rattle.dpl_cuts.specs.declared.types.Cut.{Cut}
 use Rattle.dpl_cuts.specs.declared.types.Fragments.{Fragments}
@@ -158,15 +158,10 @@ cycles_fit g (c ∷ cs) b l h o =
 
 -- ---- numbers
 
-kind_small : (k : Kind) → most_weight k ≤ 1000000
-kind_small Bond = omega arith
-kind_small Stitch = omega arith
-kind_small Clash = omega arith
-
-weight_small : (colours : List Bool) (edge : Edge) → broken_weight colours edge ≤ 1000000
+pub weight_small : (colours : List Bool) (edge : Edge) → broken_weight colours edge ≤ 1000000
 weight_small colours edge = by_test (breaks colours edge) where
   by_test : (t : Bool) → (if t then edge.weight else 0) ≤ 1000000
-  by_test true = omega (arith, edge.most, kind_small edge.kind)
+  by_test true = omega (arith, edge.most, most_most edge.kind)
   by_test false = omega arith
 
 cost_small : (g : Signed) (colours : List Bool) → length g.edges ≤ 400000 → cost_of g colours ≤ 400000000000

@@ -1,6 +1,6 @@
 -- Nodes without an edge of a set.
 use Rattle.std.proofs.Common.{arith, ◌≡◌, ◌≢◌, ℕ, zero, suc, ◌+◌, ◌*◌, ◌/◌, ◌<◌, ◌==◌, ◌&&◌, ◌||◌, refl, sym, ap, ◌∙◌, Bool, true, false, not, cond, inl, inr, ◌⊎◌, length, eq-eqb}
-use Rattle.std.proofs.lemmas.Bool.{cases_eq, and_parts, and_from, or_cases, eqb-true, ne_eqb, cond-true, cond-false, true≢false, false≢true}
+use Rattle.std.proofs.lemmas.Bool.{cases_eq, and_parts, and_from, or_cases, eqb-true, ne_eqb, cond-true, cond-false, true≢false, false≢true, or_left, or_right, not-false, not-true}
 use Rattle.std.specs.Cmp.{both_ways}
 use Rattle.std.proofs.lemmas.Bool.{both_ways as contradict}
 use Rattle.dpl_cycle.proofs.MemberLemmas.{count_more}
@@ -17,14 +17,6 @@ use Rattle.dpl_sign.proofs.ComponentLemmas.{start_below, end_below}
 -- an edge ends at a node
 abbrev pub EndsAt : Signed → ℕ → ℕ → Type 0
 EndsAt g e v = ((edge_at g e).a ≡ v) ⊎ ((edge_at g e).b ≡ v)
-
-or_left : (x y : Bool) → x ≡ true → (x || y) ≡ true
-or_left true y h = refl
-or_left false y h = absurd (false≢true h)
-
-or_right : (x y : Bool) → y ≡ true → (x || y) ≡ true
-or_right true y h = refl
-or_right false y h = h
 
 pub met_from : (g : Signed) (p : ℕ → Bool) (n e v : ℕ) → e < n → p e ≡ true → EndsAt g e v → is_met_below g p n v ≡ true
 met_from g p zero e v h t k = absurd (omega arith)
@@ -55,14 +47,6 @@ met_is g p (suc n) v h = elim (or_cases _ _ h) [
       record { edge = rest.edge; inside = omega (arith, rest.inside); chosen = rest.chosen; ends = rest.ends }
 ]
 
-not_false : (b : Bool) → not b ≡ false → b ≡ true
-not_false true h = refl
-not_false false h = absurd (true≢false h)
-
-not_true : (b : Bool) → not b ≡ true → b ≡ false
-not_true true h = absurd (false≢true h)
-not_true false h = refl
-
 -- a node that is not bare has a dart
 pub record HasDart (net : Net) (p : ℕ → Bool) (v : ℕ) : Type 0 where
   pub dart : ℕ
@@ -72,7 +56,7 @@ pub record HasDart (net : Net) (p : ℕ → Bool) (v : ℕ) : Type 0 where
 pub has_dart : (net : Net) (p : ℕ → Bool) (v : ℕ) → is_bare net.graph p v ≡ false → HasDart net p v
 has_dart net p v h =
     let n = length net.graph.edges in
-    let m = met_is net.graph p n v (not_false _ h) in
+    let m = met_is net.graph p n v (not-false _ h) in
     elim m.ends [
       | inl a ↦ record { dart = 2 * m.edge; set = record { inside = omega (arith, m.inside); chosen = ap p (first_half m.edge) ∙ m.chosen }; tail = first_tail net.graph m.edge ∙ a }
       | inr b ↦ record { dart = 2 * m.edge + 1; set = record { inside = omega (arith, m.inside); chosen = ap p (second_half m.edge) ∙ m.chosen }; tail = second_tail net.graph m.edge ∙ b }
@@ -80,7 +64,7 @@ has_dart net p v h =
 
 -- no edge of the set ends at a bare node
 pub bare_edges : (g : Signed) (p : ℕ → Bool) (v : ℕ) → is_bare g p v ≡ true → (e : ℕ) → e < length g.edges → p e ≡ true → EndsAt g e v → ⊥
-bare_edges g p v h e l t k = contradict _ (not_true _ h) (met_from g p (length g.edges) e v l t k)
+bare_edges g p v h e l t k = contradict _ (not-true _ h) (met_from g p (length g.edges) e v l t k)
 
 -- nor does a dart leave it
 pub bare_darts : (net : Net) (p : ℕ → Bool) (v : ℕ) → is_bare net.graph p v ≡ true → (d : ℕ) → InSet net p d → tail_of net.graph d ≢ v

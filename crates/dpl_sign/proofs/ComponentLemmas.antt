@@ -63,7 +63,7 @@ join_first s a b = elim (cases_eq (s a) (s b)) [ inl q ↦ join_hit s a b a q | 
 join_second : (s : ℕ → ℕ) (a b : ℕ) → join s a b b ≡ s a
 join_second s a b = join_hit s a b b refl
 
-join_of : (s : ℕ → ℕ) (a b v w : ℕ) → s v ≡ s w → join s a b v ≡ join s a b w
+pub join_of : (s : ℕ → ℕ) (a b v w : ℕ) → s v ≡ s w → join s a b v ≡ join s a b w
 join_of s a b v w e = elim (cases_eq (s v) (s b)) [
   | inl q ↦ join_hit s a b v q ∙ sym (join_hit s a b w (sym e ∙ q))
   | inr q ↦ join_miss s a b v q ∙ e ∙ sym (join_miss s a b w (λ r. q (e ∙ r)))

@@ -13,7 +13,7 @@ use Rattle.dpl_sign.specs.Excess.{edge_count, AreEndsJoined, LiesInFace}
 use Rattle.dpl_sign.proofs.DartLemmas.{first_half, second_half, first_tail, second_tail, twin_first, twin_twin}
 use Rattle.dpl_sign.proofs.Rotation.{face_permutes, face_out, next_member, around_set, around_tail}
 use Rattle.dpl_sign.proofs.Insert.{IsOneMore, IsBetween, between}
-use Rattle.dpl_sign.proofs.FaceSteps.{AreNew, NoneAt}
+use Rattle.dpl_sign.proofs.FaceSteps.{AreNew, NoneAt, turned_new}
 use Rattle.dpl_sign.proofs.FaceCounts.{both_bare, one_bare, none_bare}
 use Rattle.dpl_sign.proofs.ComponentLemmas.{components_join, components_stay, bare_component, face_component}
 use Rattle.dpl_sign.proofs.BareLemmas.{has_dart, bare_edges, bare_darts, bare_none, bare_first, bare_second, bare_both}
@@ -27,9 +27,6 @@ news net p q e k = record {
   twin = sym (twin_first e);
   back = sym (twin_twin (2 * e)) ∙ ap twin_of (twin_first e);
 }
-
-turned : (net : Net) (p q : ℕ → Bool) (e c d : ℕ) → AreNew net p q e c d → AreNew net p q e d c
-turned net p q e c d n = record { first = n.second; second = n.first; twin = n.back; back = n.twin }
 
 -- the set of darts with one dart more
 put : (ℕ → Bool) → ℕ → ℕ → Bool
@@ -80,13 +77,13 @@ apart_effect net p q e k ne faces = record {
   crosses = λ h r. absurd (ne h);
 }
 
-first_apart : (net : Net) (p : ℕ → Bool) (e : ℕ) → is_bare net.graph p (edge_at net.graph e).a ≡ true → AreEndsJoined net p e → ⊥
+pub first_apart : (net : Net) (p : ℕ → Bool) (e : ℕ) → is_bare net.graph p (edge_at net.graph e).a ≡ true → AreEndsJoined net p e → ⊥
 first_apart net p e bare h =
     let same : (edge_at net.graph e).b ≡ (edge_at net.graph e).a =
     bare_component net.graph p _ _ (λ x l t. (λ r. bare_edges net.graph p _ bare x l t (inl r), λ r. bare_edges net.graph p _ bare x l t (inr r))) (sym h) in
     omega (arith, same, (edge_at net.graph e).ordered)
 
-second_apart : (net : Net) (p : ℕ → Bool) (e : ℕ) → is_bare net.graph p (edge_at net.graph e).b ≡ true → AreEndsJoined net p e → ⊥
+pub second_apart : (net : Net) (p : ℕ → Bool) (e : ℕ) → is_bare net.graph p (edge_at net.graph e).b ≡ true → AreEndsJoined net p e → ⊥
 second_apart net p e bare h =
     let same : (edge_at net.graph e).a ≡ (edge_at net.graph e).b =
     bare_component net.graph p _ _ (λ x l t. (λ r. bare_edges net.graph p _ bare x l t (inl r), λ r. bare_edges net.graph p _ bare x l t (inr r))) h in
@@ -156,7 +153,7 @@ effect net p q e k =
             let count = both_bare net p q e (2 * e) (2 * e + 1) n (none_first net p e ha) (none_second net p e hb) in
             apart_effect net p q e k (first_apart net p e ha) (omega (arith, count, bare_both net p q e k ha hb, others, one, two))
         | inr hb ↦
-            let count = one_bare net p q e (2 * e + 1) (2 * e) (turned net p q e _ _ n) (between_second net p q e k hb) (none_first net p e ha) in
+            let count = one_bare net p q e (2 * e + 1) (2 * e) (turned_new net p q e _ _ n) (between_second net p q e k hb) (none_first net p e ha) in
             apart_effect net p q e k (first_apart net p e ha) (omega (arith, count, bare_first net p q e k ha hb, others, one, two))
       ]
       | inr ha ↦ elim (cases_Bool (is_bare net.graph p (edge_at net.graph e).b)) [

@@ -45,7 +45,7 @@ count_none : (p : ℕ → Bool) (n : ℕ) → ((v : ℕ) → p v ≡ false) → 
 count_none p zero h = refl
 count_none p (suc n) h = omega (arith, cond-false {A = ℕ} (p n) 1 0 (h n), count_none p n h)
 
-own_names : (n : ℕ) → name_count (λ v. v) n ≡ n
+pub own_names : (n : ℕ) → name_count (λ v. v) n ≡ n
 own_names zero = refl
 own_names (suc n) = count_in (λ v. v) n refl ∙ ap suc (own_names n)
 
@@ -76,10 +76,10 @@ balanced_same net p q half h b =
 
 -- ---- one edge more
 
-same_component : (net : Net) (p : ℕ → Bool) (e : ℕ) → AreEndsJoined net p e ⊎ (AreEndsJoined net p e → ⊥)
+pub same_component : (net : Net) (p : ℕ → Bool) (e : ℕ) → AreEndsJoined net p e ⊎ (AreEndsJoined net p e → ⊥)
 same_component net p e = cases_eq _ _
 
-one_face : (net : Net) (p : ℕ → Bool) (e : ℕ) → LiesInFace net p e ⊎ (LiesInFace net p e → ⊥)
+pub one_face : (net : Net) (p : ℕ → Bool) (e : ℕ) → LiesInFace net p e ⊎ (LiesInFace net p e → ⊥)
 one_face net p e = cases_eq _ _
 
 abbrev Grows : Net → (ℕ → Bool) → ℕ → Type 0

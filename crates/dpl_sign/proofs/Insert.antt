@@ -16,7 +16,7 @@ pub record IsOneMore (net : Net) (p q : ℕ → Bool) (e : ℕ) : Type 0 where
   pub chosen : q e ≡ true
   pub same : (x : ℕ) → x < length net.graph.edges → x ≢ e → p x ≡ q x
 
-half_below : (net : Net) (d : ℕ) → d < dart_count net → d / 2 < length net.graph.edges
+pub half_below : (net : Net) (d : ℕ) → d < dart_count net → d / 2 < length net.graph.edges
 half_below net d h = omega arith
 
 pub grown : (net : Net) (p q : ℕ → Bool) (e : ℕ) → IsOneMore net p q e → (d : ℕ) → InSet net p d → InSet net q d

@@ -31,7 +31,3 @@ kept_inside net m e t = elim (cases_lt e m) [
   | inl h ↦ h
   | inr h ↦ absurd (both_ways _ (none_past (kept_before net m) e (omega (arith, kept_length net m, h))) t)
 ]
-
-pub not_false : (b : Bool) → not b ≡ false → b ≡ true
-not_false true h = refl
-not_false false h = absurd (true≢false h)

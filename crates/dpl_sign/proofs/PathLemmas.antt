@@ -1,7 +1,7 @@
 -- Components and the paths that join their nodes.
-use Rattle.std.proofs.Common.{arith, ◌≡◌, ℕ, zero, suc, ◌<◌, ◌≤◌, ◌==◌, ◌||◌, refl, sym, ap, ◌∙◌, Bool, true, false, inl, inr, List, [], ◌∷◌, ◌++◌, length, eq-eqb}
+use Rattle.std.proofs.Common.{arith, ◌≡◌, ℕ, zero, suc, ◌<◌, ◌≤◌, ◌==◌, ◌||◌, refl, sym, ap, ◌∙◌, Bool, true, false, inl, inr, List, [], ◌∷◌, ◌++◌, length, eq-eqb, subst}
 use Rattle.std.specs.Prelude.{◌↔◌}
-use Rattle.std.proofs.lemmas.Bool.{cases_eq, cases_Bool, ne_eqb, lt-ltb, ltb-true, eqb-true, and_from, and_parts, cond-true, cond-false, true≢false}
+use Rattle.std.proofs.lemmas.Bool.{cases_eq, cases_Bool, ne_eqb, lt-ltb, ltb-true, eqb-true, and_from, and_parts, cond-true, cond-false, true≢false, or_left, or_right}
 use Rattle.std.specs.List.{AllByRecursion}
 use Rattle.std.proofs.lemmas.List.Elements.{All-from_recursion, recursion_from_All}
 use Rattle.dpl_cycle.proofs.JoinLemmas.{joined_merged}
@@ -24,20 +24,18 @@ path_join : (g : Signed) (es fs : List ℕ) (u v w : ℕ) → IsPath g u es v �
 path_join g [] fs u v w p q = rw p q
 path_join g (e ∷ es) fs u v w p q = (p.0, path_join g es fs (across (edge_at g e) u) v w p.1 q)
 
+pub path_more : (g : Signed) (v : ℕ) (es : List ℕ) (u e : ℕ) → IsPath g v es u → leaves g e u ≡ true → IsPath g v (es ++ e ∷ []) (across (edge_at g e) u)
+path_more g v [] u e p h =
+    let P : ℕ → Type 0 = λ z. leaves g e z ≡ true in
+    (subst P (sym p) h, ap (across (edge_at g e)) p)
+path_more g v (x ∷ es) u e p h = (p.0, path_more g (across (edge_at g x) v) es u e p.1 h)
+
 each_join : (P : ℕ → Type 0) (es fs : List ℕ) → AllByRecursion P es → AllByRecursion P fs → AllByRecursion P (es ++ fs)
 each_join P [] fs p q = q
 each_join P (e ∷ es) fs p q = (p.0, each_join P es fs p.1 q)
 
 way_join : (g : Signed) (P : ℕ → Type 0) (u v w : ℕ) → IsWay g P u v → IsWay g P v w → IsWay g P u w
 way_join g P u v w s t = record { edges = s.edges ++ t.edges; path = path_join g s.edges t.edges u v w s.path t.path; each = each_join P s.edges t.edges s.each t.each }
-
-or_left : (x y : Bool) → x ≡ true → (x || y) ≡ true
-or_left true y h = refl
-or_left false y h = absurd (true≢false (sym h))
-
-or_right : (x y : Bool) → y ≡ true → (x || y) ≡ true
-or_right true y h = refl
-or_right false y h = h
 
 -- one edge, in both directions
 way_there : (g : Signed) (P : ℕ → Type 0) (e : ℕ) → e < length g.edges → P e → IsWay g P (edge_at g e).a (edge_at g e).b

@@ -1,6 +1,6 @@
 -- Around a node each dart leads to the one whose port comes next.
 use Rattle.std.proofs.Common.{◌≡◌, ℕ, ◌≤◌, sym, ap, ◌∙◌, Bool, true, false, ◌||◌, refl, arith}
-use Rattle.std.proofs.lemmas.Bool.{le-ltb, true≢false}
+use Rattle.std.proofs.lemmas.Bool.{le-ltb, true≢false, or_parts}
 use Rattle.dpl_cycle.proofs.Turns.{turn, Mem}
 use Rattle.dpl_cycle.proofs.TurnLemmas.{next_least}
 use Rattle.dpl_sign.specs.declared.nets.Net.{Net}
@@ -16,10 +16,6 @@ first_case false x y h k = absurd (true≢false (sym h))
 second_case : (b x y : Bool) → b ≡ false → elim b [ true ↦ x | false ↦ y ] ≡ false → y ≡ false
 second_case true x y h k = absurd (true≢false h)
 second_case false x y h k = k
-
-neither : (x y : Bool) → (x || y) ≡ false → (x ≡ false) × (y ≡ false)
-neither true y h = absurd (true≢false h)
-neither false y h = (refl, h)
 
 -- nothing is met before the next one
 none_before : (net : Net) (set : ℕ → Bool) (v d x : ℕ) → Leaves net set v d → Leaves net set v x → is_met_before net d x (next_around net set d) ≡ false
@@ -42,5 +38,5 @@ comes_next net set v d k =
     record {
       there = record { inside = s.inside; chosen = s.chosen; tail = around_tail net set v c hc };
       between = λ h x l. first_case _ _ _ h (none_before net set v d x k l);
-      around = λ h x l. neither _ _ (second_case _ _ _ h (none_before net set v d x k l));
+      around = λ h x l. or_parts _ _ (second_case _ _ _ h (none_before net set v d x k l));
     }

@@ -1,5 +1,5 @@
 -- Walks and colourings.
-use Rattle.std.proofs.Common.{arith, lit≤, ◌^◌, ◌≡◌, ◌≢◌, ℕ, zero, suc, ◌+◌, ◌*◌, ◌%◌, ◌<◌, ◌≤◌, refl, ap, Bool, true, false, cond, inl, inr, ◌⊎◌, List, [], ◌∷◌, length, eq-eqb}
+use Rattle.std.proofs.Common.{arith, lit≤, ◌^◌, ◌≡◌, ◌≢◌, ℕ, zero, suc, ◌+◌, ◌*◌, ◌%◌, ◌<◌, ◌≤◌, refl, ap, Bool, true, false, cond, inl, inr, ◌⊎◌, List, [], ◌∷◌, length, eq-eqb, get_or, ◌∙◌}
 use Rattle.std.specs.Prelude.{count_by, All}
 use Rattle.std.proofs.lemmas.List.Sums.{sum_by-cons}
 use Rattle.std.proofs.lemmas.List.Elements.{All-head, All-tail, All-cons, All-nil, All-append, All-map, All-get_or, All-weaker}
@@ -15,6 +15,7 @@ use Rattle.dpl_sign.specs.Colourings.{is_broken, colour_of, breaks, broken_weigh
 use Rattle.dpl_sign.specs.Walks.{no_edge, edge_at, across, leaves, IsPath, clashes, IsOddWalk}
 use Rattle.dpl_sign.specs.Packings.{passages, passages_of, load, IsWithin, IsPacking, bound_of}
 use Rattle.dpl_sign.proofs.Loads.{sum_to, sum_to_le, sum_to_twice, sum_by_places, passed_by_edge, bound_passed}
+use Rattle.std.proofs.lemmas.List.{get_or_read}
 
 abbrev bit : Bool → ℕ
 bit b = cond b 1 0
@@ -130,7 +131,7 @@ packing_bounds g cs colours p k =
     let c : cost_of g colours ≡ sum_to (λ e. broken_weight colours (edge_at g e)) (length g.edges) = sum_by_places (broken_weight colours) g.edges no_edge in
     omega (arith, b, c)
 
-most_most : (k : Kind) → most_weight k ≤ 1000000
+pub most_most : (k : Kind) → most_weight k ≤ 1000000
 most_most Bond = lit≤ tt
 most_most Stitch = lit≤ tt
 most_most Clash = lit≤ tt
@@ -145,7 +146,7 @@ weights_most g v (suc n) = elim (cases_Bool (v n)) [
   | inr b ↦ omega (arith, cond-false (v n) (edge_at g n).weight 0 b, weights_most g v n)
 ]
 
-clash_no_bond : (k : Kind) → is_clash k ≡ true → is_bond k ≡ false
+pub clash_no_bond : (k : Kind) → is_clash k ≡ true → is_bond k ≡ false
 clash_no_bond Bond h = absurd (false≢true h)
 clash_no_bond Stitch h = refl
 clash_no_bond Clash h = refl
@@ -156,3 +157,7 @@ bound_small g cs odd within =
     let v : ℕ → Bool = λ e. is_clash (edge_at g e).kind in
     let b = bound_by_edges g v (λ c h. omega (arith, h.odd)) (λ e h. clash_no_bond _ h) cs odd within in
     omega (arith, b, weights_most g v (length g.edges), g.few_edges)
+
+-- an edge that was read
+pub edge_is : (g : Signed) (es : List Edge) (x : ℕ) (e : Edge) → es ≡ g.edges → x < length es → e ≡ get_or es x e → e ≡ edge_at g x
+edge_is g es x e h l r = get_or_read es x e l r no_edge ∙ ap (λ (z : List Edge). get_or z x no_edge) h

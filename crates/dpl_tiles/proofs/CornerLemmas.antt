@@ -18,7 +18,7 @@ use Rattle.dpl_tiles.specs.Corners.{IsCornerOf, IsCornerAt, HasCornersOf, AddsCo
 use Rattle.dpl_tiles.proofs.Signed.{signed}
 use Rattle.dpl_list.proofs.Lists.{any_left, any_right, any_contains}
 use Rattle.dpl_tiles.proofs.ReachLemmas.{spans_wider}
-use Rattle.dpl_tiles.proofs.WindowLemmas.{is_less, not_less, is_at_most, not_at_most}
+use Rattle.dpl_tiles.proofs.WindowLemmas.{is_less, is_at_most, not_at_most}
 
 -- ---- all corners of a primitive
 

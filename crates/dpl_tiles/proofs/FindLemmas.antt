@@ -10,7 +10,8 @@ use Rattle.std.proofs.lemmas.List.{get_or_default}
 use Rattle.std.proofs.lemmas.List.Sorted.{searchable_from_sorted}
 use Rattle.dpl_cell.specs.declared.rect.Rect.{Rect}
 use Rattle.dpl_tiles.specs.Bands.{HasColumns, IsLeftOf}
-use Rattle.dpl_tiles.proofs.Signed.{signed, three}
+use Rattle.dpl_tiles.proofs.Signed.{signed}
+use Rattle.dpl_cell.proofs.BoxLemmas.{three}
 
 by_order : (P Q R : Type 0) (r s : Ordering) → MatchOrdering r P Q R → r ≡ s → MatchOrdering s P Q R
 by_order P Q R r s m e = rw e at m

@@ -7,6 +7,7 @@ use Rattle.dpl_cell.specs.Outlines.{Outline, Box, Polygon}
 use Rattle.dpl_cell.specs.Layers.{is_within, is_in_box, is_left_side, left_sides, is_in_outline, is_cell}
 use Rattle.dpl_tiles.specs.Sides.{spans}
 use Rattle.dpl_tiles.proofs.SideLemmas.{bit, spans_parity}
+use Rattle.std.proofs.Math.Bool.{and-false}
 
 -- a property of the rows and of the columns of all corners
 abbrev pub AllRows : (ℤ → Type 0) → Outline → Type 0
@@ -23,10 +24,6 @@ within_by_ends a b y = grind (arith, ints)
 
 spans_by_ends : (y : ℤ) (p q : ℤ × ℤ) → spans y p q ≡ cond (int_le p.1 y) (not (int_le q.1 y)) (int_le q.1 y)
 spans_by_ends y p q = grind (arith, ints, clamps)
-
-and_false : (b : Bool) → (b && false) ≡ false
-and_false true = refl
-and_false false = refl
 
 -- ---- rows that no corner parts have the same cells
 
@@ -65,7 +62,7 @@ abbrev pub Lies : Bool → ℤ → ℤ → Type 0
 Lies b y c = int_le c y ≡ b
 
 side_none : (b : Bool) (x y : ℤ) (p q : ℤ × ℤ) → Lies b y p.1 → Lies b y q.1 → is_left_side x y p q ≡ false
-side_none b x y p q e f = ap (λ c. int_le p.0 x && c) (spans_by_ends y p q ∙ ap (λ c. cond c (not (int_le q.1 y)) (int_le q.1 y)) e ∙ ap (λ c. cond b (not c) c) f ∙ same b) ∙ and_false (int_le p.0 x) where
+side_none b x y p q e f = ap (λ c. int_le p.0 x && c) (spans_by_ends y p q ∙ ap (λ c. cond c (not (int_le q.1 y)) (int_le q.1 y)) e ∙ ap (λ c. cond b (not c) c) f ∙ same b) ∙ and-false (int_le p.0 x) where
   same : (b : Bool) → cond b (not b) b ≡ false
   same true = refl
   same false = refl
@@ -80,7 +77,7 @@ sides_none b x y p (q ∷ qs) last e a f =
 
 pub outline_none : (b : Bool) (x y : ℤ) (o : Outline) → AllRows (Lies b y) o → is_in_outline x y o ≡ false
 outline_none b x y (Box r) (e, f) =
-    ap (λ c. is_within r.x1 r.x2 x && c) (within_by_ends r.y1 r.y2 y ∙ ap (λ c. c && not (int_le r.y2 y)) e ∙ ap (λ c. b && not c) f ∙ same b) ∙ and_false (is_within r.x1 r.x2 x) where
+    ap (λ c. is_within r.x1 r.x2 x && c) (within_by_ends r.y1 r.y2 y ∙ ap (λ c. c && not (int_le r.y2 y)) e ∙ ap (λ c. b && not c) f ∙ same b) ∙ and-false (is_within r.x1 r.x2 x) where
       same : (b : Bool) → (b && not b) ≡ false
       same true = refl
       same false = refl

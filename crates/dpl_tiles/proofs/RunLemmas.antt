@@ -8,8 +8,8 @@ use Rattle.dpl_cell.specs.Layers.{is_within}
 use Rattle.dpl_cell.specs.Tiles.{IsRun}
 use Rattle.dpl_tiles.specs.declared.stretch.Stretch.{Stretch}
 use Rattle.dpl_tiles.specs.Stretches.{IsRow}
-use Rattle.dpl_cell.proofs.BoxLemmas.{is_true, true_is, within_test, test_within}
-use Rattle.dpl_tiles.proofs.Signed.{signed, three}
+use Rattle.dpl_cell.proofs.BoxLemmas.{is_true, true_is, within_test, test_within, three}
+use Rattle.dpl_tiles.proofs.Signed.{signed}
 
 -- a cell of the row is in some stretch
 place : (cells : ℤ → ℤ → Bool) (y : ℤ) (ss : List Stretch) → IsRow cells y ss → (x : ℤ) → IsTrue (cells x y) → Any (λ s. IsWithin s.from s.to x) ss

@@ -6,10 +6,6 @@ use Rattle.dpl_cell.specs.Layers.{is_within}
 
 pub ruleset signed = (arith, ints, clamps)
 
--- three ways for two numbers to lie
-pub three : {P : Type 0} (i j : ℕ) → (i < j → P) → (i ≡ j → P) → (j < i → P) → P
-three i j p q r = elim (cases_lt i j) [ inl h ↦ p h | inr h ↦ elim (cases_eq i j) [ inl e ↦ q e | inr n ↦ r (omega (arith, n)) ] ]
-
 pub or_assoc : (a b c : Bool) → ((a || b) || c) ≡ (a || (b || c))
 or_assoc true b c = refl
 or_assoc false b c = refl

@@ -57,16 +57,16 @@ pub total_of_tops : (n : ℕ) (f : Sets) → IsLaminar n f → (w : ℕ → ℕ)
 total_of_tops n f p w tops m hm = sum_same (2 * n) _ _ (λ i hi. top_term n f p w tops m i hm hi) ∙ sum_at (2 * n) (f.top m) w (p.tops.top_range m hm)
 
 -- two values that differ by what tops have
-pub total_shifted : (n : ℕ) (f : Sets) → IsLaminar n f → (v v' up down : ℕ → ℕ) → ((i : ℕ) → i < 2 * n → (up i ≡ 0) ⊎ (f.parent i ≡ None)) → ((i : ℕ) → i < 2 * n → (down i ≡ 0) ⊎ (f.parent i ≡ None)) →
-    ((i : ℕ) → i < 2 * n → v' i + down i ≡ v i + up i) → (m : ℕ) → m < n → total_in (2 * n) v' f.holds m + down (f.top m) ≡ total_in (2 * n) v f.holds m + up (f.top m)
+pub total_shifted : (n : ℕ) (f : Sets) → IsLaminar n f → (v v' up down : ℕ → ℕ) → ((i : ℕ) → i < 2 * n → (up i ≡ 0) ⊎ (f.parent i ≡ None)) → ((i : ℕ) → i < 2 * n → (down i ≡ 0) ⊎ (f.parent i ≡ None))
+    → ((i : ℕ) → i < 2 * n → v' i + down i ≡ v i + up i) → (m : ℕ) → m < n → total_in (2 * n) v' f.holds m + down (f.top m) ≡ total_in (2 * n) v f.holds m + up (f.top m)
 total_shifted n f p v v' up down tu td e m hm =
     let both : sum_below (2 * n) (λ i. cond (f.holds i m) (v' i) 0 + cond (f.holds i m) (down i) 0) ≡ sum_below (2 * n) (λ i. cond (f.holds i m) (v i) 0 + cond (f.holds i m) (up i) 0) =
     sum_same (2 * n) _ _ (λ i hi. cond_sums (f.holds i m) (v' i) (down i) (v i) (up i) (e i hi)) in
     omega (arith, both, sum_added (2 * n) (λ i. cond (f.holds i m) (v' i) 0) (λ i. cond (f.holds i m) (down i) 0), sum_added (2 * n) (λ i. cond (f.holds i m) (v i) 0) (λ i. cond (f.holds i m) (up i) 0), total_of_tops n f p up tu m hm, total_of_tops n f p down td m hm)
 
 -- a load between members of one top does not see what tops have
-pub load_inside : (n : ℕ) (f : Sets) → IsLaminar n f → (v v' up down : ℕ → ℕ) → ((i : ℕ) → i < 2 * n → (up i ≡ 0) ⊎ (f.parent i ≡ None)) → ((i : ℕ) → i < 2 * n → (down i ≡ 0) ⊎ (f.parent i ≡ None)) →
-    ((i : ℕ) → i < 2 * n → v' i + down i ≡ v i + up i) → (s t : ℕ) → s < n → t < n → f.top s ≡ f.top t → load_in (2 * n) v' f.holds s t ≡ load_in (2 * n) v f.holds s t
+pub load_inside : (n : ℕ) (f : Sets) → IsLaminar n f → (v v' up down : ℕ → ℕ) → ((i : ℕ) → i < 2 * n → (up i ≡ 0) ⊎ (f.parent i ≡ None)) → ((i : ℕ) → i < 2 * n → (down i ≡ 0) ⊎ (f.parent i ≡ None))
+    → ((i : ℕ) → i < 2 * n → v' i + down i ≡ v i + up i) → (s t : ℕ) → s < n → t < n → f.top s ≡ f.top t → load_in (2 * n) v' f.holds s t ≡ load_in (2 * n) v f.holds s t
 load_inside n f p v v' up down tu td e s t hs ht same = sum_same (2 * n) _ _ (λ i hi. elim (cases_Bool (differ (f.holds i s) (f.holds i t))) [
   | inr alike ↦ cond-false _ (v' i) 0 alike ∙ sym (cond-false _ (v i) 0 alike)
   | inl apart ↦

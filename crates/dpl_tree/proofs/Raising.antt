@@ -7,6 +7,7 @@ use Rattle.dpl_laminar.proofs.Sums.{sum_same, sum_most, sum_at, sum_turned}
 use Rattle.dpl_laminar.proofs.Released.{some_member}
 use Rattle.dpl_tree.specs.Forests.{Place, free, gain, drop_of}
 use Rattle.dpl_tree.proofs.Growing.{place_cases, outer_in, inner_in}
+use Rattle.dpl_tree.proofs.Counting.{ones}
 
 pub sum_next : (n : ℕ) (f : ℕ → ℕ) → sum_below (n + 1) f ≡ f n + sum_below n f
 sum_next n f = ap (λ z. sum_below z f) (let e : n + 1 ≡ suc n = omega arith in e)
@@ -21,10 +22,6 @@ sum_part (suc n) f a h = elim (cases_eq a n) [
   | inl e ↦ omega (arith, ap f e)
   | inr ne ↦ omega (arith, sum_part n f a (omega arith))
 ]
-
-ones : (n : ℕ) → sum_below n (λ m. 1) ≡ n
-ones zero = refl
-ones (suc n) = omega (arith, ones n)
 
 -- the tops of a tree are at most as many as the members
 pub tops_few : (n : ℕ) (f : Sets) (place : ℕ → Place) → IsLaminar n f → ((i : ℕ) → place i ≢ free → (i < 2 * n) × (f.live i ≡ true) × (f.parent i ≡ None)) → sum_below (2 * n) (λ i. drop_of (place i) + gain (place i)) ≤ n

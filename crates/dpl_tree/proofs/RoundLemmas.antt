@@ -17,6 +17,7 @@ use Rattle.dpl_tree.specs.Opened.{IsAround}
 use Rattle.dpl_tree.specs.Rounds.{IsPart, IsRingFrom, IsTurned}
 use Rattle.dpl_tree.proofs.Counting.{ring_short}
 use Rattle.dpl_tree.proofs.Ways.{load_turned}
+use Rattle.dpl_laminar.proofs.Reached.{size_most}
 
 mod_next : (e j k : ℕ) → ((e + j) % k + 1) % k ≡ (e + (j + 1)) % k
 mod_next e j k = mod-add-mod (e + j) k 1 ∙ ap (λ z. z % k) (let z : e + j + 1 ≡ e + (j + 1) = omega arith in z)
@@ -342,12 +343,6 @@ rising_more f set m k child p fam hm r e ne =
       live = w.2;
       held = fam.laminar.children.child_holds p child m w.1 hm w.3 r.held;
     }
-
-size_most : (n : ℕ) (set : ℕ → Bool) → size_of n set ≤ n
-size_most n set = omega (arith, sum_most n (λ m. cond (set m) 1 0) (λ m. 1) (λ m h. bit_most (set m)), sum_ones n) where
-  bit_most : (b : Bool) → cond b 1 0 ≤ 1
-  bit_most true = omega arith
-  bit_most false = omega arith
 
   sum_ones : (k : ℕ) → sum_below k (λ m. 1) ≡ k
   sum_ones zero = refl

@@ -8,9 +8,9 @@ use Rattle.dpl_rules.specs.Readers.{spot}
 use Rattle.dpl_calls.specs.declared.figure.Corner.{Corner}
 use Rattle.dpl_calls.specs.Parts.{transformed, transformed_by}
 use Rattle.dpl_calls.specs.Placement.{apply, IsNear}
-use Rattle.dpl_calls.proofs.Nearness.{and_true}
 use Rattle.dpl_calls.proofs.Turns.{unmoved_stays}
 use Rattle.dpl_calls.proofs.placement.placement_of.Goals as goal
+use Rattle.std.proofs.lemmas.Bool.{and_parts}
 
 abbrev none : Transformation
 none = Shift (spot (pos 0) (pos 0))
@@ -35,6 +35,6 @@ loop-transformation-preserved c =
           (ap (λ (e : Corner). transformed_by c.args.scale (drop (i + 1) ts) e) (c.compose-placed.ensures.value d ∙ c.single.ensures.value (apply c.loop-transformation.placed d))
           ∙ sym (ap (λ (us : List Transformation). transformed_by c.args.scale us (apply c.loop-transformation.placed d)) split))
           ∙ c.loop-transformation.invariant.value d;
-      bounds = (and_true (is_transformation_in_bounds t) (list_all is_transformation_in_bounds (drop (i + 1) ts)) bounds).1;
+      bounds = (and_parts (is_transformation_in_bounds t) (list_all is_transformation_in_bounds (drop (i + 1) ts)) bounds).1;
       near = record { x = omega (arith, near.x); y = omega (arith, near.y) };
     }

@@ -7,9 +7,10 @@ use Rattle.dpl_sign.specs.Kinds.{is_clash}
 use Rattle.dpl_map.specs.Sides.{differ}
 use Rattle.dpl_map.proofs.ViewLemmas.{edge_of}
 use Rattle.dpl_colour.specs.Meets.{is_joined}
-use Rattle.dpl_colour.proofs.MergeLemmas.{settle_more, edge_is, kept_at}
+use Rattle.dpl_colour.proofs.MergeLemmas.{settle_more, kept_at}
 use Rattle.dpl_colour.proofs.ListedLemmas.{pair_of, row_nodes, row_listed, listed_after, on_ok_from, on_ok_maps}
 use Rattle.dpl_colour.proofs.merging.settle.Goals as goal
+use Rattle.dpl_sign.proofs.WalkLemmas.{edge_is}
 
 pub kept-requires : goal.kept-requires
 kept-requires c = edge_of c.args.graph.now c.args.map.now c.requires.map.map c.args.i c.requires.inside

@@ -1,8 +1,8 @@
 use Rattle.std.proofs.Common.{ap, ◌∙◌, Vec, false}
 use Rattle.std.specs.Prelude.{slice_index_or}
-use Rattle.dpl_dual.proofs.DualLemmas.{chosen_yes, chosen_no}
 use Rattle.dpl_dual.proofs.parity.chosen.Goals as goal
 use Rattle.dpl_dual.proofs.parity.chosen.Goals.{then-test-face+in_ok-push, else-test-face}
+use Rattle.dpl_map.proofs.RowLemmas.{chosen_no, chosen_yes}
 
 pub loop-face-preserved : goal.loop-face-preserved
 loop-face-preserved c = elim c.if-test-face.branch [
