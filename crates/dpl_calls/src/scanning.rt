@@ -2,6 +2,7 @@
 ghost use Rattle.std.specs.Prelude.{◌≡◌, ◌≤◌, ◌<◌, ◌+◌, ◌++◌, ◌==◌, [], ◌∷◌, false, true, ℕ, Option, Some, None, OnOk, IfOk, length, List, nat_eq, IsSome};
 ghost use Rattle.std.specs.List.{list_any};
 ghost use Rattle.indexmap.specs.IndexMap.{get, keys};
+ghost use Rattle.dpl_limits.specs.declared.TheConstants.{MOST_LAYOUT_BYTES};
 ghost use Rattle.dpl_lex.specs.Cutting.{commands_of};
 ghost use Rattle.dpl_rules.specs.Bounds.{is_command_in_bounds, read_commands};
 ghost use Rattle.dpl_rules.specs.Figures.{IsScale};
@@ -176,7 +177,7 @@ pub fn scan(
     commands: &Commands,
     layer: &Name,
 ) -> Result<Scanned, ScanError>
-    requires short { length text.now ≤ 16777216 }
+    requires short { length text.now ≤ MOST_LAYOUT_BYTES }
     requires commands { commands.now ≡ commands_of text.now }
     ensures { ScanGives layer.now (read_commands text.now commands.now.spans) commands.now.ending
         result }

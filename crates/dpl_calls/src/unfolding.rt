@@ -1,5 +1,6 @@
 // The calls of a layout are carried out, without recursion.
 ghost use Rattle.std.specs.Prelude.{◌≡◌, ◌≤◌, ◌<◌, ◌^◌, List, map, All, IfOk, None};
+ghost use Rattle.dpl_limits.specs.declared.TheConstants.{MOST_CALLS};
 ghost use Rattle.dpl_calls.specs.Unfolding as unfolds;
 ghost use Rattle.dpl_calls.specs.Unfolding.{figures_of, unmoved};
 ghost use Rattle.dpl_calls.specs.Totals.{total_of, own_calls};
@@ -73,7 +74,7 @@ fn place_figure(alloc: Global, p: Placement, figure: &Figure) -> Result<Figure, 
 pub fn unfold_table(alloc: Global, table: &Table, depth: usize) -> Result<Vec<Figure>, AllocError>
     requires kept { AreKept (bodies_of table.now) }
     requires calls { total_of own_calls depth (bodies_of table.now) (bodies_of table.now None)
-        ≤ 1000000 }
+        ≤ MOST_CALLS }
     requires deep { 0 < depth }
     ensures { IfOk result (λ v.
         v.items ≡ figures_of depth (bodies_of table.now) unmoved (bodies_of table.now None)) }

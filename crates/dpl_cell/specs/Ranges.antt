@@ -1,18 +1,19 @@
 -- Which numbers make a rectangle, a point and the outline of a polygon.
-use Rattle.std.specs.Prelude.{ℤ, pos, neg_ℤ, ◌≤ℤ◌, ◌<ℤ◌, ◌^◌, Bool, true, ◌&&◌, ◌||◌, List, [], ◌∷◌}
+use Rattle.std.specs.Prelude.{ℤ, pos, neg_ℤ, ◌≤ℤ◌, ◌<ℤ◌, Bool, true, ◌&&◌, ◌||◌, List, [], ◌∷◌}
 use Rattle.std.specs.Ordering.{int_eq}
+use Rattle.dpl_limits.specs.Limits.{most_coordinate}
 use Rattle.dpl_cell.specs.Places.{Corners}
 
 -- a coordinate within a little more than a billion grid units of the origin
 pub record IsInRange (z : ℤ) : Type 0 where
-  pub low : neg_ℤ (pos (2 ^ 30)) ≤ℤ z
-  pub high : z ≤ℤ pos (2 ^ 30)
+  pub low : neg_ℤ (pos most_coordinate) ≤ℤ z
+  pub high : z ≤ℤ pos most_coordinate
 
 -- columns or rows from a to b, b left out: at least one, and in range
 pub record IsStretch (a b : ℤ) : Type 0 where
   pub some : a <ℤ b
-  pub low : neg_ℤ (pos (2 ^ 30)) ≤ℤ a
-  pub high : b ≤ℤ pos (2 ^ 30)
+  pub low : neg_ℤ (pos most_coordinate) ≤ℤ a
+  pub high : b ≤ℤ pos most_coordinate
 
 -- a rectangle with at least one cell, and with its corners in range
 pub record IsRectangle (c : Corners) : Type 0 where

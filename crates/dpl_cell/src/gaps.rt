@@ -1,4 +1,5 @@
 ghost use Rattle.std.specs.Prelude.{◌≡◌, ◌↔◌, ℕ, ℤ, pos, neg_ℤ, ◌<ℤ◌, ◌≤ℤ◌, ◌≤◌, ◌<◌, ◌^◌, IsTrue};
+ghost use Rattle.dpl_limits.specs.Limits.{most_coordinate};
 ghost use Rattle.dpl_cell.specs.Places.{corners_of};
 ghost use Rattle.dpl_cell.specs.Cells.{IsWithin, IsIn};
 ghost use Rattle.dpl_cell.specs.Gaps.{between, IsBetween, IsGap2, AreClose};
@@ -9,10 +10,10 @@ use crate::rect::Rect;
 pub fn apart(a1: i64, a2: i64, b1: i64, b2: i64) -> u64
     requires a { a1 <ℤ a2 }
     requires b { b1 <ℤ b2 }
-    requires low_a { neg_ℤ (pos (2 ^ 30)) ≤ℤ a1 }
-    requires high_a { a2 ≤ℤ pos (2 ^ 30) }
-    requires low_b { neg_ℤ (pos (2 ^ 30)) ≤ℤ b1 }
-    requires high_b { b2 ≤ℤ pos (2 ^ 30) }
+    requires low_a { neg_ℤ (pos most_coordinate) ≤ℤ a1 }
+    requires high_a { a2 ≤ℤ pos most_coordinate }
+    requires low_b { neg_ℤ (pos most_coordinate) ≤ℤ b1 }
+    requires high_b { b2 ≤ℤ pos most_coordinate }
     ensures small { result ≤ 2 ^ 31 }
     ensures least { (x y : ℤ) → IsWithin a1 a2 x → IsWithin b1 b2 y → result ≤ between x y }
     ensures attained { IsBetween a1 a2 b1 b2 result }

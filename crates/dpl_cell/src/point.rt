@@ -1,4 +1,5 @@
-ghost use Rattle.std.specs.Prelude.{ℤ, pos, neg_ℤ, ◌≤ℤ◌, ◌^◌};
+ghost use Rattle.std.specs.Prelude.{ℤ, pos, neg_ℤ, ◌≤ℤ◌};
+ghost use Rattle.dpl_limits.specs.Limits.{most_coordinate};
 
 use crate::range::is_in_range;
 
@@ -7,10 +8,10 @@ use crate::range::is_in_range;
 pub struct Point {
     pub x: i64,
     pub y: i64,
-    pub ghost left: { neg_ℤ (pos (2 ^ 30)) ≤ℤ x },
-    pub ghost right: { x ≤ℤ pos (2 ^ 30) },
-    pub ghost below: { neg_ℤ (pos (2 ^ 30)) ≤ℤ y },
-    pub ghost above: { y ≤ℤ pos (2 ^ 30) },
+    pub ghost left: { neg_ℤ (pos most_coordinate) ≤ℤ x },
+    pub ghost right: { x ≤ℤ pos most_coordinate },
+    pub ghost below: { neg_ℤ (pos most_coordinate) ≤ℤ y },
+    pub ghost above: { y ≤ℤ pos most_coordinate },
 }
 
 impl Point {

@@ -2,14 +2,14 @@
 ghost use Rattle.std.specs.Prelude.{◌↔◌, ℤ, IsTrue};
 ghost use Rattle.dpl_cell.specs.Ranges.{IsInRange, IsStretch};
 
-/// The greatest magnitude of a coordinate, in grid units.
-const REACH: i64 = 1 << 30;
+use dpl_limits::MOST_COORDINATE;
 
+/// Whether a number is a coordinate: its magnitude is within the limit.
 pub fn is_in_range(z: i64) -> bool
     ensures { IsTrue result ↔ IsInRange z }
 {
-    let low = -REACH <= z;
-    let high = z <= REACH;
+    let low = -MOST_COORDINATE <= z;
+    let high = z <= MOST_COORDINATE;
     low & high
 }
 
@@ -17,7 +17,7 @@ pub fn is_stretch(from: i64, to: i64) -> bool
     ensures { IsTrue result ↔ IsStretch from to }
 {
     let some = from < to;
-    let low = -REACH <= from;
-    let high = to <= REACH;
+    let low = -MOST_COORDINATE <= from;
+    let high = to <= MOST_COORDINATE;
     some & low & high
 }

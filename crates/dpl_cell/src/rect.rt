@@ -1,4 +1,5 @@
-ghost use Rattle.std.specs.Prelude.{ℤ, pos, neg_ℤ, ◌<ℤ◌, ◌≤ℤ◌, ◌^◌};
+ghost use Rattle.std.specs.Prelude.{ℤ, pos, neg_ℤ, ◌<ℤ◌, ◌≤ℤ◌};
+ghost use Rattle.dpl_limits.specs.Limits.{most_coordinate};
 
 use crate::range::is_stretch;
 
@@ -11,10 +12,10 @@ pub struct Rect {
     pub y2: i64,
     pub ghost wide: { x1 <ℤ x2 },
     pub ghost high: { y1 <ℤ y2 },
-    pub ghost left: { neg_ℤ (pos (2 ^ 30)) ≤ℤ x1 },
-    pub ghost right: { x2 ≤ℤ pos (2 ^ 30) },
-    pub ghost below: { neg_ℤ (pos (2 ^ 30)) ≤ℤ y1 },
-    pub ghost above: { y2 ≤ℤ pos (2 ^ 30) },
+    pub ghost left: { neg_ℤ (pos most_coordinate) ≤ℤ x1 },
+    pub ghost right: { x2 ≤ℤ pos most_coordinate },
+    pub ghost below: { neg_ℤ (pos most_coordinate) ≤ℤ y1 },
+    pub ghost above: { y2 ≤ℤ pos most_coordinate },
 }
 
 impl Rect {

@@ -7,7 +7,7 @@ use Rattle.dpl_sign.specs.declared.nets.Net.{Net}
 use Rattle.dpl_sign.specs.Colourings.{IsColouring, cost_of}
 use Rattle.dpl_report.specs.declared.options.Options.{Options}
 use Rattle.dpl_layer.specs.Layers.{IsLayerOf}
-use Rattle.dpl_layer.specs.Limits.{Counted, most_of}
+use Rattle.dpl_limits.specs.Limits.{Counted, most_of}
 use Rattle.dpl_check.specs.declared.verdicts.Verdict.{Verdict}
 use Rattle.dpl_check.specs.Judged.{IsVerdict}
 

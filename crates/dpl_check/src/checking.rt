@@ -1,5 +1,6 @@
 // A report text against the text of a layout.
 ghost use Rattle.std.specs.Prelude.{◌≡◌, ◌⊎◌, ◌≤◌, ℕ, length, IfOk, IfErr, Ok, Err};
+ghost use Rattle.dpl_limits.specs.declared.TheConstants.{MOST_LAYOUT_BYTES, MOST_REPORT_BYTES};
 ghost use Rattle.dpl_layer.specs.Refusals.{RefusesLayer};
 ghost use Rattle.dpl_check.specs.Checked.{BoundsAll, IsVerdictOf};
 
@@ -17,8 +18,8 @@ pub fn check(
     options: &Options,
     report: &[u8],
 ) -> Result<Verdict, LayerError>
-    requires text { length text.now ≤ 16777216 }
-    requires report { length report.now ≤ 268435456 }
+    requires text { length text.now ≤ MOST_LAYOUT_BYTES }
+    requires report { length report.now ≤ MOST_REPORT_BYTES }
     ensures verdict { IfOk result (λ v. IsVerdictOf options.now text.now report.now v) }
     ensures refused { (e : LayerError) → result ≡ Err e →
         (e ≡ LayerError.NoMemory) ⊎ RefusesLayer options.now text.now e }
@@ -41,8 +42,8 @@ fn check_parts(
     options: &Options,
     report: &[u8],
 ) -> Result<Verdict, LayerError>
-    requires text { length text.now ≤ 16777216 }
-    requires report { length report.now ≤ 268435456 }
+    requires text { length text.now ≤ MOST_LAYOUT_BYTES }
+    requires report { length report.now ≤ MOST_REPORT_BYTES }
     ensures verdict { IfOk result (λ v. IsVerdictOf options.now text.now report.now v) }
     ensures refused { IfErr result (λ e. (e ≡ LayerError.NoMemory) ⊎
         RefusesLayer options.now text.now e) }

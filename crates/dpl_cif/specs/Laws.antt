@@ -1,6 +1,7 @@
 -- The primitives of a text without calls.
 use Rattle.std.specs.Prelude.{ℕ, ◌≡◌, ◌≤◌, length, not, Bool, true, false, ◌&&◌, is_some, List, [], ◌∷◌, ◌++◌, map, Option, None, Some, Result, Ok, Err, if◌then◌else◌}
 use Rattle.std.specs.List.{list_all}
+use Rattle.dpl_limits.specs.declared.TheConstants.{MOST_LAYOUT_BYTES}
 use Rattle.dpl_rules.specs.declared.command.Command.{Command}
 use Rattle.dpl_rules.specs.declared.command.Command.TheVariants.{Call}
 use Rattle.dpl_rules.specs.declared.scope.Scope.{Scope}
@@ -35,6 +36,6 @@ drawn_in_order layer s (Ok c ∷ rest) =
 
 -- a law: the primitives of a text without a fault and without calls are those of its commands outside definitions, in order
 abbrev pub DrawnInOrder : Type 0
-DrawnInOrder = (layer text : List ℕ) → length text ≤ 16777216 → first_fault layer text ≡ None →
+DrawnInOrder = (layer text : List ℕ) → length text ≤ MOST_LAYOUT_BYTES → first_fault layer text ≡ None →
     list_all is_no_call (forms_of text) ≡ true
     → primitives_of layer text ≡ drawn_in_order layer at_first (forms_of text)

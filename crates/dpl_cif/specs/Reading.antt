@@ -1,5 +1,7 @@
 -- What a text says about one layer (Mead and Conway 1980, section 4.5).
-use Rattle.std.specs.Prelude.{ℕ, ◌+◌, ◌^◌, nat_lt, List, [], map, length, Option, None, Some, Result, if◌then◌else◌}
+use Rattle.std.specs.Prelude.{ℕ, ◌+◌, nat_lt, List, [], map, length, Option, None, Some, Result, if◌then◌else◌}
+use Rattle.dpl_limits.specs.Limits.{most_coordinate}
+use Rattle.dpl_limits.specs.declared.TheConstants.{MOST_CALLS, MOST_PRIMITIVES}
 use Rattle.dpl_lex.specs.Cutting.{commands_of}
 use Rattle.dpl_lex.specs.declared.types.Ending.{Ending}
 use Rattle.dpl_rules.specs.declared.command.Command.{Command}
@@ -60,9 +62,9 @@ pub data Reading : Type 0 where
 -- the limits, in the order in which they are tried
 abbrev pub within_limits : ℕ → ℕ → List Outline → Reading
 within_limits primitives calls outlines =
-    if nat_lt 50000 primitives then TooMany (shown primitives)
-    else if nat_lt 1000000 calls then TooManyCalls (shown calls)
-    else if nat_lt (2 ^ 30) (reach outlines) then TooFar (shown (reach outlines))
+    if nat_lt MOST_PRIMITIVES primitives then TooMany (shown primitives)
+    else if nat_lt MOST_CALLS calls then TooManyCalls (shown calls)
+    else if nat_lt most_coordinate (reach outlines) then TooFar (shown (reach outlines))
     else Good outlines
 
 abbrev pub or_within : Option Fault → Reading → Reading

@@ -1,5 +1,6 @@
 // Figures become the rectangles and polygons of a layout.
-ghost use Rattle.std.specs.Prelude.{◌≡◌, ◌≤◌, ◌^◌, map, All, IfOk, unsigned_abs};
+ghost use Rattle.std.specs.Prelude.{◌≡◌, ◌≤◌, map, All, IfOk, unsigned_abs};
+ghost use Rattle.dpl_limits.specs.Limits.{most_coordinate};
 ghost use Rattle.dpl_cell.specs.Places as places;
 ghost use Rattle.dpl_cell.specs.Places.{corners_of};
 ghost use Rattle.dpl_cell.specs.Outlines.{outline_of};
@@ -13,7 +14,7 @@ use dpl_rules::figures::Extent;
 use std::alloc::{AllocError, Global};
 
 fn narrow(z: i128) -> i64
-    requires { unsigned_abs z ≤ 2 ^ 30 }
+    requires { unsigned_abs z ≤ most_coordinate }
     ensures { result ≡ z }
 {
     z as i64
@@ -21,7 +22,7 @@ fn narrow(z: i128) -> i64
 
 fn rect_of(e: &Extent) -> Rect
     requires sound { IsSound (Figure.Rectangle e.now) }
-    requires near { outline_reach (drawn (Figure.Rectangle e.now)) ≤ 2 ^ 30 }
+    requires near { outline_reach (drawn (Figure.Rectangle e.now)) ≤ most_coordinate }
     ensures { corners_of result ≡ record { x1 = e.now.x1; y1 = e.now.y1; x2 = e.now.x2; y2 =
         e.now.y2 } }
 {
@@ -32,7 +33,7 @@ fn rect_of(e: &Extent) -> Rect
 }
 
 fn point_of(corner: &Corner) -> Point
-    requires { place_reach (place_of corner.now) ≤ 2 ^ 30 }
+    requires { place_reach (place_of corner.now) ≤ most_coordinate }
     ensures { places.place_of result ≡ place_of corner.now }
 {
     match Point::new(narrow(corner.x), narrow(corner.y)) {
@@ -43,7 +44,7 @@ fn point_of(corner: &Corner) -> Point
 
 fn points_of(alloc: Global, corners: &[Corner]) -> Result<Points, AllocError>
     requires sound { HasLevelSides corners.now }
-    requires near { places_reach (map place_of corners.now) ≤ 2 ^ 30 }
+    requires near { places_reach (map place_of corners.now) ≤ most_coordinate }
     ensures { IfOk result (λ p. map places.place_of p ≡ map place_of corners.now) }
 {
     let mut points = Vec::new(alloc);
@@ -58,7 +59,7 @@ fn points_of(alloc: Global, corners: &[Corner]) -> Result<Points, AllocError>
 
 fn prim_of(alloc: Global, figure: &Figure) -> Result<Prim, AllocError>
     requires sound { IsSound figure.now }
-    requires near { outline_reach (drawn figure.now) ≤ 2 ^ 30 }
+    requires near { outline_reach (drawn figure.now) ≤ most_coordinate }
     ensures { IfOk result (λ p. outline_of p ≡ drawn figure.now) }
 {
     match figure {
@@ -70,7 +71,7 @@ fn prim_of(alloc: Global, figure: &Figure) -> Result<Prim, AllocError>
 /// The layout that these figures are. They are sound, and within the range of the layout's coordinates.
 pub fn layout_of(alloc: Global, figures: &[Figure]) -> Result<Layout, AllocError>
     requires sound { All IsSound figures.now }
-    requires near { reach (map drawn figures.now) ≤ 2 ^ 30 }
+    requires near { reach (map drawn figures.now) ≤ most_coordinate }
     ensures { IfOk result (λ l. map outline_of l.prims ≡ map drawn figures.now) }
 {
     let mut prims = Vec::new(alloc);

@@ -1,5 +1,6 @@
 // A text is read in rounds, and then its calls are carried out.
 ghost use Rattle.std.specs.Prelude.{◌≡◌, ◌≤◌, ◌+◌, ℕ, map, IfOk, None, Some, length, if◌then◌else◌};
+ghost use Rattle.dpl_limits.specs.declared.TheConstants.{MOST_LAYOUT_BYTES};
 ghost use Rattle.dpl_lex.specs.Cutting.{commands_of};
 ghost use Rattle.dpl_rules.specs.Rules as rules;
 ghost use Rattle.dpl_rules.specs.Rules.{fault};
@@ -27,12 +28,9 @@ use dpl_cell::Layout;
 use dpl_groups::Groups;
 use dpl_lex::types::{Commands, Ending};
 use dpl_lex::{Name, commands};
+use dpl_limits::{MOST_CALLS, MOST_PRIMITIVES};
 use dpl_rules::What;
 use std::alloc::Global;
-
-const MOST_PRIMITIVES: u64 = 50_000;
-
-const MOST_CALLS: u64 = 1_000_000;
 
 const FARTHEST: u128 = 1_073_741_824;
 
@@ -101,7 +99,7 @@ fn rounds(
     layer: &Name,
     scanned: &Scanned,
 ) -> Result<Layout, CifError>
-    requires short { length text.now ≤ 16777216 }
+    requires short { length text.now ≤ MOST_LAYOUT_BYTES }
     requires commands { commands.now ≡ commands_of text.now }
     requires scanned { IsScanned layer.now (forms_of text.now) (ending_of text.now) scanned.now }
     ensures { Gives result (reading layer.now text.now) }
@@ -140,7 +138,7 @@ fn rounds(
 /// grows with the length of the text and with the calls that are carried out, of which there are at most a
 /// million.
 pub fn read(alloc: Global, text: &[u8], layer: &Name) -> Result<Layout, CifError>
-    requires { length text.now ≤ 16777216 }
+    requires { length text.now ≤ MOST_LAYOUT_BYTES }
     ensures exact { Gives result (reading layer.now text.now) }
     ensures primitives { IfOk result (λ layout.
         map outline_of layout.prims ≡ primitives_of layer.now text.now) }

@@ -8,7 +8,7 @@ use Rattle.dpl_report.specs.declared.options.Options.{Options}
 use Rattle.dpl_solve.specs.Solved.{IsRefused}
 use Rattle.dpl_layer.specs.declared.error.LayerError.{LayerError}
 use Rattle.dpl_layer.specs.declared.error.LayerError.TheVariants.{Layout, Limit, NoMemory}
-use Rattle.dpl_layer.specs.Limits.{Counted, number_of, most_of}
+use Rattle.dpl_limits.specs.Limits.{Counted, number_of, most_of}
 use Rattle.dpl_layer.specs.Layers.{IsLayerOf}
 use Rattle.dpl_layer.specs.Refusals.{RefusesLayer}
 

@@ -1,5 +1,6 @@
 // From a text to its report.
 ghost use Rattle.std.specs.Prelude.{◌≡◌, ◌⊎◌, ◌≤◌, ℕ, length, IfOk, IfErr, Err};
+ghost use Rattle.dpl_limits.specs.declared.TheConstants.{MOST_EDGES, MOST_LAYOUT_BYTES};
 ghost use Rattle.dpl_cif.specs.Reading.{reading};
 ghost use Rattle.dpl_cif.specs.OnCells.{OnCells};
 ghost use Rattle.dpl_report.specs.Plain.{plain_report};
@@ -18,7 +19,7 @@ use std::alloc::Global;
 
 /// The report of a layer of a text, which has at most 16 MiB.
 pub fn make(alloc: Global, text: &[u8], options: &Options) -> Result<Report, LayerError>
-    requires { length text.now ≤ 16777216 }
+    requires { length text.now ≤ MOST_LAYOUT_BYTES }
     ensures made { IfOk result (λ r. IsReportOf options.now text.now (plain_report r)) }
     ensures masks { IfOk result (λ r.
         OnCells (reading options.now.layer text.now) (HasMasks options.now (plain_report r))) }
@@ -32,7 +33,7 @@ pub fn make(alloc: Global, text: &[u8], options: &Options) -> Result<Report, Lay
 
 /// The text of the report of a layer of a text, which has at most 16 MiB.
 pub fn split(alloc: Global, text: &[u8], options: &Options) -> Result<Vec<u8>, LayerError>
-    requires { length text.now ≤ 16777216 }
+    requires { length text.now ≤ MOST_LAYOUT_BYTES }
     ensures split { IfOk result (λ v. IsSplit options.now text.now v.items) }
     ensures refused { (e : LayerError) → result ≡ Err e →
         (e ≡ LayerError.NoMemory) ⊎ RefusesSplit options.now text.now e }
@@ -47,7 +48,7 @@ pub fn split(alloc: Global, text: &[u8], options: &Options) -> Result<Vec<u8>, L
 /// The same; of refusals it is said that one comes where it applies, and none to a text with a
 /// report.
 fn make_report(alloc: Global, text: &[u8], options: &Options) -> Result<Report, LayerError>
-    requires { length text.now ≤ 16777216 }
+    requires { length text.now ≤ MOST_LAYOUT_BYTES }
     ensures made { IfOk result (λ r. IsReportOf options.now text.now (plain_report r)) }
     ensures masks { IfOk result (λ r.
         OnCells (reading options.now.layer text.now) (HasMasks options.now (plain_report r))) }
@@ -66,7 +67,7 @@ fn make_report(alloc: Global, text: &[u8], options: &Options) -> Result<Report, 
 
 /// The optimum of a net.
 fn solve_net(alloc: Global, net: &Net) -> Result<Solution, LayerError>
-    requires few { length net.now.graph.edges ≤ 400000 }
+    requires few { length net.now.graph.edges ≤ MOST_EDGES }
     ensures solution { IfOk result (λ s.
         IsSolution net.now s.colours.items s.cost s.aside s.excess s.cycles s.bound) }
     ensures free { IfOk result (λ s. (n : ℕ) → ¬ IsRefused net.now n) }

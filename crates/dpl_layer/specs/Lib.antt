@@ -1,4 +1,3 @@
-pub mod Limits
 pub mod Layers
 pub mod Refusals
 pub mod Errors

@@ -13,7 +13,7 @@ use Rattle.dpl_cif.specs.OnCells.{OnCells, IsReadLimit}
 use Rattle.dpl_report.specs.declared.options.Options.{Options}
 use Rattle.dpl_layer.specs.declared.error.LayerError.{LayerError}
 use Rattle.dpl_layer.specs.declared.error.LayerError.TheVariants.{Layout, Limit, NoMemory}
-use Rattle.dpl_layer.specs.Limits.{Counted, Passes, most_of}
+use Rattle.dpl_limits.specs.Limits.{Counted, Passes, most_of}
 use Rattle.dpl_layer.specs.Layers.{AreFragmentsOf}
 
 -- no more tiles than are taken, and these have too many fragments

@@ -1,5 +1,6 @@
 // From a layout to its fragments.
 ghost use Rattle.std.specs.Prelude.{◌≡◌, ◌⊎◌, ◌≤◌, ◌*◌, length, map, IfOk, IfErr};
+ghost use Rattle.dpl_limits.specs.declared.TheConstants.{MOST_FRAGMENTS, MOST_TILES};
 ghost use Rattle.dpl_cell.specs.Places.{corners_of};
 ghost use Rattle.dpl_cell.specs.Layers.{cells_of};
 ghost use Rattle.dpl_cell.specs.Tiles.{AreTiles};
@@ -25,7 +26,7 @@ pub fn cut_layout(
     ensures fragments { IfOk result (λ f.
         AreFragmentsOf (2 * options.now.space) (2 * options.now.overlap) (cells_of layout.now) f) }
     ensures cut { IfOk result (λ f. CameFromCut (2 * options.now.space) f) }
-    ensures few { IfOk result (λ f. length f.rects ≤ 100000) }
+    ensures few { IfOk result (λ f. length f.rects ≤ MOST_FRAGMENTS) }
     ensures refused { IfErr result (λ e.
         (e ≡ LayerError.NoMemory) ⊎ RefusesCells options.now (cells_of layout.now) e) }
 {
@@ -42,11 +43,11 @@ fn cut_tiles(
     options: &Options,
 ) -> Result<Fragments, LayerError>
     requires tiles { AreTiles (cells_of layout.now) (map corners_of tiles.now) }
-    requires few { length tiles.now ≤ 100000 }
+    requires few { length tiles.now ≤ MOST_TILES }
     ensures fragments { IfOk result (λ f.
         AreFragmentsOf (2 * options.now.space) (2 * options.now.overlap) (cells_of layout.now) f) }
     ensures cut { IfOk result (λ f. CameFromCut (2 * options.now.space) f) }
-    ensures few { IfOk result (λ f. length f.rects ≤ 100000) }
+    ensures few { IfOk result (λ f. length f.rects ≤ MOST_FRAGMENTS) }
     ensures refused { IfErr result (λ e.
         (e ≡ LayerError.NoMemory) ⊎ RefusesCells options.now (cells_of layout.now) e) }
 {

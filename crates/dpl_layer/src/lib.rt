@@ -8,7 +8,6 @@
 mod drawing;
 mod error;
 mod laws;
-pub mod limits;
 mod reading;
 
 pub use error::LayerError;

@@ -1,5 +1,6 @@
 // From a text to a layer.
 ghost use Rattle.std.specs.Prelude.{◌≡◌, ◌⊎◌, ◌≤◌, ◌*◌, length, IfOk, IfErr, Err};
+ghost use Rattle.dpl_limits.specs.declared.TheConstants.{MOST_EDGES, MOST_FRAGMENTS, MOST_LAYOUT_BYTES};
 ghost use Rattle.dpl_cell.specs.Layers.{cells_of};
 ghost use Rattle.dpl_cif.specs.Reading.{reading};
 ghost use Rattle.dpl_cif.specs.OnCells.{OnCells};
@@ -30,13 +31,13 @@ pub struct Layer {
 ///
 /// The text has at most 16 MiB.
 pub fn read_layer(alloc: Global, text: &[u8], options: &Options) -> Result<Layer, LayerError>
-    requires { length text.now ≤ 16777216 }
+    requires { length text.now ≤ MOST_LAYOUT_BYTES }
     ensures layer { IfOk result (λ l. OnCells (reading options.now.layer text.now) (λ cells.
         IsLayerOf options.now cells l.fragments l.net)) }
     ensures shared { IfOk result (λ _. OnCells (reading options.now.layer text.now) TilesShareOut) }
     ensures cut { IfOk result (λ l. CameFromCut (2 * options.now.space) l.fragments) }
-    ensures few_fragments { IfOk result (λ l. length l.fragments.rects ≤ 100000) }
-    ensures few_edges { IfOk result (λ l. length l.net.graph.edges ≤ 400000) }
+    ensures few_fragments { IfOk result (λ l. length l.fragments.rects ≤ MOST_FRAGMENTS) }
+    ensures few_edges { IfOk result (λ l. length l.net.graph.edges ≤ MOST_EDGES) }
     ensures refused { (e : LayerError) → result ≡ Err e →
         (e ≡ LayerError.NoMemory) ⊎ RefusesLayer options.now text.now e }
     ensures exact { (e : LayerError) → RefusesLayer options.now text.now e →
@@ -47,13 +48,13 @@ pub fn read_layer(alloc: Global, text: &[u8], options: &Options) -> Result<Layer
 
 /// The same; only what refuses the text is said, and not when each refusal comes.
 fn read_parts(alloc: Global, text: &[u8], options: &Options) -> Result<Layer, LayerError>
-    requires { length text.now ≤ 16777216 }
+    requires { length text.now ≤ MOST_LAYOUT_BYTES }
     ensures layer { IfOk result (λ l. OnCells (reading options.now.layer text.now) (λ cells.
         IsLayerOf options.now cells l.fragments l.net)) }
     ensures shared { IfOk result (λ _. OnCells (reading options.now.layer text.now) TilesShareOut) }
     ensures cut { IfOk result (λ l. CameFromCut (2 * options.now.space) l.fragments) }
-    ensures few_fragments { IfOk result (λ l. length l.fragments.rects ≤ 100000) }
-    ensures few_edges { IfOk result (λ l. length l.net.graph.edges ≤ 400000) }
+    ensures few_fragments { IfOk result (λ l. length l.fragments.rects ≤ MOST_FRAGMENTS) }
+    ensures few_edges { IfOk result (λ l. length l.net.graph.edges ≤ MOST_EDGES) }
     ensures refused { IfErr result (λ e.
         (e ≡ LayerError.NoMemory) ⊎ RefusesLayer options.now text.now e) }
 {
@@ -68,8 +69,8 @@ fn draw(alloc: Global, layout: &Layout, options: &Options) -> Result<Layer, Laye
         IsLayerOf options.now (cells_of layout.now) l.fragments l.net) }
     ensures shared { TilesShareOut (cells_of layout.now) }
     ensures cut { IfOk result (λ l. CameFromCut (2 * options.now.space) l.fragments) }
-    ensures few_fragments { IfOk result (λ l. length l.fragments.rects ≤ 100000) }
-    ensures few_edges { IfOk result (λ l. length l.net.graph.edges ≤ 400000) }
+    ensures few_fragments { IfOk result (λ l. length l.fragments.rects ≤ MOST_FRAGMENTS) }
+    ensures few_edges { IfOk result (λ l. length l.net.graph.edges ≤ MOST_EDGES) }
     ensures refused { IfErr result (λ e.
         (e ≡ LayerError.NoMemory) ⊎ RefusesCells options.now (cells_of layout.now) e) }
 {

@@ -1,5 +1,6 @@
 // A text is cut into its commands in one pass.
 ghost use Rattle.std.specs.Prelude.{◌≡◌, ◌≤◌, ◌<◌, ◌+◌, ◌^◌, [], length, IfOk};
+ghost use Rattle.dpl_limits.specs.declared.TheConstants.{MOST_LAYOUT_BYTES};
 ghost use Rattle.dpl_lex.specs.Cutting as cutting;
 ghost use Rattle.dpl_lex.specs.CuttingLaws.{BlanksAreSkipped, EndEnds, EmptyIsCut, PlainIsCut, CommentIsCut, BlanksEnd, PlainRests, CommentRests, OpenCommentRests, CommandsAreWithin, CommandsAreFew};
 ghost use Rattle.dpl_lex.specs.Cutting.{commands_of, IsNoDeeper, cut, after};
@@ -96,7 +97,7 @@ fn ending(place: Place) -> Ending
 
 /// Goes over a text, and gives the place behind it.
 fn pass(spans: &mut Vec<Span>, text: &[u8]) -> Result<Place, AllocError>
-    requires { length text.now ≤ 16777216 }
+    requires { length text.now ≤ MOST_LAYOUT_BYTES }
     ensures { IfOk result (λ p. after spans.new.items (cut p (length text.now) [])
         ≡ after spans.old.items (commands_of text.now)) }
 {
@@ -119,7 +120,7 @@ fn pass(spans: &mut Vec<Span>, text: &[u8]) -> Result<Place, AllocError>
 /// The text has at most 16 MiB. The time grows with its length, and there are at most as many
 /// spans as bytes.
 pub fn commands(alloc: Global, text: &[u8]) -> Result<Commands, AllocError>
-    requires { length text.now ≤ 16777216 }
+    requires { length text.now ≤ MOST_LAYOUT_BYTES }
     ensures { IfOk result (λ c. c ≡ commands_of text.now) }
 {
     let mut spans = Vec::new(alloc);

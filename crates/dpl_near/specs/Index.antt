@@ -1,5 +1,6 @@
 -- An index of rectangles: stops, each with bounds that hold its rectangle and those of the stops right behind it.
 use Rattle.std.specs.Prelude.{◌≡◌, ℕ, ◌<◌, ◌≤◌, ◌+◌, ◌≤ℤ◌, List, All, Contains, length, slice_index_or}
+use Rattle.dpl_limits.specs.declared.TheConstants.{MOST_TILES}
 use Rattle.dpl_cell.specs.Places.{Corners, corners_of}
 use Rattle.dpl_near.specs.declared.index.Stop.{Stop}
 
@@ -18,7 +19,7 @@ pub record NamesAll (n : ℕ) (places : List (ℕ × ℕ)) : Type 0 where
 
 -- the bounds of a stop hold the rectangles of the stop itself and of as many behind it as it says
 pub record IsIndex (rects : List Corners) (stops : List Stop) : Type 0 where
-  pub few : length stops ≤ 100000
+  pub few : length stops ≤ MOST_TILES
   pub inside : (k : ℕ) (d : Stop) → k < length stops →
       (slice_index_or stops k d).number < length rects
   pub all : (i : ℕ) → i < length rects → (k : ℕ) × (k < length stops) ×

@@ -1,4 +1,5 @@
 ghost use Rattle.std.specs.Prelude.{ℕ, ◌≤◌, ◌<◌, length, IfOk, OnOk, map};
+ghost use Rattle.dpl_limits.specs.declared.TheConstants.{MOST_REACH, MOST_TILES};
 ghost use Rattle.dpl_cell.specs.Places.{corners_of};
 ghost use Rattle.dpl_near.specs.Index.{IsIndex};
 ghost use Rattle.dpl_near.specs.Near.{AddsNear, AreNear, HasNear};
@@ -28,7 +29,7 @@ impl<'a> Model for Finder<'a> {
 
     ghost view = { λ f. record { rects = map corners_of f.rects.now; reach = f.reach } };
 
-    ghost invariant = { λ f. record { few : length f.rects.now ≤ 100000; near : f.reach ≤ 200000;
+    ghost invariant = { λ f. record { few : length f.rects.now ≤ MOST_TILES; near : f.reach ≤ MOST_REACH;
         index : IsIndex (map corners_of f.rects.now) f.stops.items } };
 }
 
@@ -39,8 +40,8 @@ impl<'a> Finder<'a> {
 
     /// A finder over these rectangles. `reach` is in grid units.
     pub fn new(alloc: Global, rects: &'a [Rect], reach: u64) -> Result<Finder<'a>, NoMemory>
-        requires few { length rects.now ≤ 100000 }
-        requires near { reach ≤ 200000 }
+        requires few { length rects.now ≤ MOST_TILES }
+        requires near { reach ≤ MOST_REACH }
         ensures { IfOk result (λ f. f ≡ record { rects = map corners_of rects.now; reach =
             reach }) }
     {
@@ -77,7 +78,7 @@ fn gather_near(
     reach: u64,
     i: usize,
 ) -> Result<Vec<u32>, NoMemory>
-    requires near { reach ≤ 200000 }
+    requires near { reach ≤ MOST_REACH }
     requires within { i < length rects.now }
     requires index { IsIndex (map corners_of rects.now) stops.now }
     ensures { IfOk result (λ v.
@@ -105,7 +106,7 @@ fn push_near(
     i: usize,
     j: u32,
 ) -> Result<(), NoMemory>
-    requires near { reach ≤ 200000 }
+    requires near { reach ≤ MOST_REACH }
     requires within { i < length rects.now }
     requires other { j < length rects.now }
     ensures { OnOk result (AddsNear (record { rects = map corners_of rects.now; reach =

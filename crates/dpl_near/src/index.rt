@@ -1,5 +1,6 @@
 // Stops over rectangles: each has bounds that hold its rectangle and those of the stops right behind it.
 ghost use Rattle.std.specs.Prelude.{◌≡◌, ℕ, ℤ, ◌≤ℤ◌, ◌+◌, ◌≤◌, ◌<◌, length, slice_index_or, IfOk, map};
+ghost use Rattle.dpl_limits.specs.declared.TheConstants.{MOST_TILES};
 ghost use Rattle.dpl_cell.specs.Places.{corners_of};
 ghost use Rattle.dpl_near.specs.declared.index.Stop.{Stop};
 ghost use Rattle.dpl_near.specs.Index.{Holds, IsIndex, NamesAll};
@@ -17,7 +18,7 @@ pub struct Stop {
 
 /// A stop for each rectangle, so that a walk which leaves out the stops behind one whose bounds are far looks at few.
 pub fn stops_of(alloc: Global, rects: &[Rect]) -> Result<Vec<Stop>, NoMemory>
-    requires few { length rects.now ≤ 100000 }
+    requires few { length rects.now ≤ MOST_TILES }
     ensures { IfOk result (λ v. IsIndex (map corners_of rects.now) v.items) }
 {
     let mut places = places(alloc, rects)?;
@@ -29,7 +30,7 @@ pub fn stops_of(alloc: Global, rects: &[Rect]) -> Result<Vec<Stop>, NoMemory>
 
 /// The numbers of all rectangles, each with its place on the curve.
 fn places(alloc: Global, rects: &[Rect]) -> Result<Vec<(u64, u32)>, NoMemory>
-    requires few { length rects.now ≤ 100000 }
+    requires few { length rects.now ≤ MOST_TILES }
     ensures { IfOk result (λ v. NamesAll (length rects.now) v.items) }
 {
     let mut places = Vec::new(alloc);
@@ -64,7 +65,7 @@ fn spread(n: u64) -> u64 {
 
 /// A stop for each place, with the bounds of its rectangle alone.
 fn singles(alloc: Global, rects: &[Rect], places: &[(u64, u32)]) -> Result<Vec<Stop>, NoMemory>
-    requires few { length rects.now ≤ 100000 }
+    requires few { length rects.now ≤ MOST_TILES }
     requires names { NamesAll (length rects.now) places.now }
     ensures { IfOk result (λ v. IsIndex (map corners_of rects.now) v.items) }
 {

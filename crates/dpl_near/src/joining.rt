@@ -1,4 +1,5 @@
 ghost use Rattle.std.specs.Prelude.{ℕ, ◌+◌, ◌≤◌, ◌<◌, length, AllPairs, IfOk, OnOk, map};
+ghost use Rattle.dpl_limits.specs.declared.TheConstants.{MOST_TILES};
 ghost use Rattle.dpl_cell.specs.Places.{corners_of};
 ghost use Rattle.dpl_cell.specs.Cells.{AreApart};
 ghost use Rattle.dpl_near.specs.Joins.{AreJoins, AreJoinsBefore};
@@ -11,7 +12,7 @@ use std::alloc::{AllocError as NoMemory, Global};
 /// The pairs that share an edge.
 pub fn joins(alloc: Global, rects: &[Rect]) -> Result<Vec<(u32, u32)>, NoMemory>
     requires apart { AllPairs AreApart (map corners_of rects.now) }
-    requires few { length rects.now ≤ 100000 }
+    requires few { length rects.now ≤ MOST_TILES }
     ensures { IfOk result (λ v. AreJoins (map corners_of rects.now) v.items) }
 {
     let finder = Finder::new(alloc, rects, 1)?;
@@ -31,7 +32,7 @@ fn push_joins(
     found: &[u32],
 ) -> Result<(), NoMemory>
     requires apart { AllPairs AreApart (map corners_of rects.now) }
-    requires few { length rects.now ≤ 100000 }
+    requires few { length rects.now ≤ MOST_TILES }
     requires within { i < length rects.now }
     requires found { AreNear (record { rects = map corners_of rects.now; reach = 1 }) i found.now }
     requires before { AreJoinsBefore (map corners_of rects.now) i 0 joins.old.items }
@@ -46,7 +47,7 @@ fn push_joins(
 /// Adds the pair of two rectangles if the second is a later one and they share an edge.
 fn push_join(joins: &mut Vec<(u32, u32)>, rects: &[Rect], i: usize, j: u32) -> Result<(), NoMemory>
     requires apart { AllPairs AreApart (map corners_of rects.now) }
-    requires few { length rects.now ≤ 100000 }
+    requires few { length rects.now ≤ MOST_TILES }
     requires within { i < length rects.now }
     requires other { j < length rects.now }
     requires before { AreJoinsBefore (map corners_of rects.now) i j joins.old.items }

@@ -1,6 +1,7 @@
 -- Reading the lines of a report. Numbers are looked for, and a line counts only where it is written so again.
-use Rattle.std.specs.Prelude.{ℕ, zero, ℤ, pos, negsuc, ◌+ℤ◌, ◌-ℤ◌, ◌*ℤ◌, ◌-◌, ◌+◌, Bool, ◌&&◌, ◌==◌, nat_le, int_div, int_lt, int_le, neg_ℤ, ◌^◌, List, [], ◌∷◌, length, map, take, drop, codes, Option, None, Some, Ok, if◌then◌else◌}
+use Rattle.std.specs.Prelude.{ℕ, zero, ℤ, pos, negsuc, ◌+ℤ◌, ◌-ℤ◌, ◌*ℤ◌, ◌-◌, ◌+◌, Bool, ◌&&◌, ◌==◌, nat_le, int_div, int_lt, int_le, neg_ℤ, List, [], ◌∷◌, length, map, take, drop, codes, Option, None, Some, Ok, if◌then◌else◌}
 use Rattle.std.specs.Str.{bytes_eq}
+use Rattle.dpl_limits.specs.Limits.{most_coordinate}
 use Rattle.dpl_lex.specs.Name.{is_name}
 use Rattle.dpl_rules.specs.Readers.{◌>>=◌, signed_of, repeated}
 use Rattle.dpl_cell.specs.Places.{Corners}
@@ -63,7 +64,7 @@ item_clash least line = broken_from (numbers_in line) >>= λ b.
     from_edge least b.edge b >>= if_written lines.clash_line line
 
 abbrev pub is_stretch : ℤ → ℤ → Bool
-is_stretch a b = int_lt a b && int_le (neg_ℤ (pos (2 ^ 30))) a && int_le b (pos (2 ^ 30))
+is_stretch a b = int_lt a b && int_le (neg_ℤ (pos most_coordinate)) a && int_le b (pos most_coordinate)
 
 unfoldable pub rectangle_of : Corners → Option Corners
 rectangle_of c = if is_stretch c.x1 c.x2 && is_stretch c.y1 c.y2 then Some c else None

@@ -1,5 +1,6 @@
 // What holds of reports that say the truth.
 ghost use Rattle.std.specs.Prelude.{◌≡◌, ◌↔◌, ◌≤◌, ◌*◌, ℕ, ℤ, Bool, List, length, None};
+ghost use Rattle.dpl_limits.specs.declared.TheConstants.{MOST_EDGES};
 ghost use Rattle.dpl_cell.specs.Places.{Corners};
 ghost use Rattle.dpl_links.specs.Nets.{IsNet};
 ghost use Rattle.dpl_report.specs.Plain.{PlainReport, plain_report};
@@ -24,7 +25,7 @@ pub fn true_reports_are_good(options: &Options, fragments: &Fragments, net: &Net
 /// A report that says the truth of a net within the limits is valid, so it has a text.
 pub fn true_reports_are_valid(options: &Options, fragments: &Fragments, net: &Net, report: &Report)
     requires truth { SaysTrue options.now fragments.now net.now (plain_report report.now) }
-    requires few { length net.now.graph.edges ≤ 400000 }
+    requires few { length net.now.graph.edges ≤ MOST_EDGES }
     ensures { IsReport (plain_report report.now) }
 {
     let _name = options.layer.bytes();

@@ -1,5 +1,6 @@
 // A whole report, read.
 ghost use Rattle.std.specs.Prelude.{◌≡◌, ◌≤◌, ℕ, length, Err, IfOk};
+ghost use Rattle.dpl_limits.specs.declared.TheConstants.{MOST_REPORT_BYTES};
 ghost use Rattle.dpl_form.specs.Lines.{lines_in};
 ghost use Rattle.dpl_form.specs.Readers.{whole, IsFirstWrong};
 ghost use Rattle.dpl_report.specs.Gives.{Gives};
@@ -61,7 +62,7 @@ fn whole_report(alloc: Global, text: &[u8]) -> Result<Report, Stop>
 }
 
 fn numbered(alloc: Global, text: &[u8]) -> Result<Report, ReportError>
-    requires { length text.now ≤ 268435456 }
+    requires { length text.now ≤ MOST_REPORT_BYTES }
     ensures { Tells text.now result }
 {
     match whole_report(alloc, text) {
@@ -76,7 +77,7 @@ fn numbered(alloc: Global, text: &[u8]) -> Result<Report, ReportError>
 
 /// The report whose text this is.
 pub fn parse(alloc: Global, text: &[u8]) -> Result<Report, ReportError>
-    requires { length text.now ≤ 268435456 }
+    requires { length text.now ≤ MOST_REPORT_BYTES }
     // What reading gives.
     ensures told { Tells text.now result }
     // What is read is written so.

@@ -1,6 +1,7 @@
 -- What the program answers, in the order in which its answers are tried: words, layout, report, the work.
 use Rattle.std.specs.Prelude.{◌≡◌, ◌⊎◌, ⊤, ℕ, ℤ, ◌+◌, ◌≤◌, ◌<◌, ◌∷◌, ◌++◌, List, [], length, Option, Some, Result, Ok, Err, codes}
 use Rattle.std.specs.Io.KnownBytes.{Appends, Keeps}
+use Rattle.dpl_limits.specs.declared.TheConstants.{MOST_LAYOUT_BYTES, MOST_REPORT_BYTES}
 use Rattle.dpl_ext.specs.Device.{Seen, Texts, AppendsFront, Rose, RoseBy, first_text}
 use Rattle.dpl_gen.specs.Layout.{layout}
 use Rattle.dpl_report.specs.declared.options.Options.{Options}
@@ -20,10 +21,10 @@ use Rattle.dpl_run.specs.Errors.{status_of}
 
 -- the most bytes of a layout, and of a report
 abbrev pub most_bytes : ℕ
-most_bytes = 16777216
+most_bytes = MOST_LAYOUT_BYTES
 
 abbrev pub most_report : ℕ
-most_report = 268435456
+most_report = MOST_REPORT_BYTES
 
 -- the options of a made layout
 abbrev pub load_options : PlainOptions
@@ -43,17 +44,17 @@ pub data IsDueOf (command : Result PlainCommand ℕ)
     (text report : List ℕ) : Status → List ℕ → Type 0 where
   misused : (kind : ℕ) → command ≡ Err kind → IsDueOf command text report (Usage kind) []
   split_long : (plain : PlainOptions) → command ≡ Ok (split plain) → most_bytes < length text →
-      IsDueOf command text report (Limit 1 16777217) []
+      IsDueOf command text report (Limit 1 (MOST_LAYOUT_BYTES + 1)) []
   split_refused : (o : Options) → command ≡ Ok (split (plain_options o)) → length text ≤ most_bytes
       → (e : LayerError) → RefusesSplit o text e → IsDueOf command text report (status_of e) []
   split_done : (o : Options) → command ≡ Ok (split (plain_options o)) → length text ≤ most_bytes
       → (output : List ℕ) → IsSplit o text output → IsFree o text →
       IsDueOf command text report Done output
   check_long : (plain : PlainOptions) (name : List ℕ) → command ≡ Ok (check plain name) →
-      most_bytes < length text → IsDueOf command text report (Limit 1 16777217) []
+      most_bytes < length text → IsDueOf command text report (Limit 1 (MOST_LAYOUT_BYTES + 1)) []
   report_long : (plain : PlainOptions) (name : List ℕ) → command ≡ Ok (check plain name) →
       length text ≤ most_bytes → most_report < length report
-      → IsDueOf command text report (Limit 9 268435457) []
+      → IsDueOf command text report (Limit 9 (MOST_REPORT_BYTES + 1)) []
   check_refused : (o : Options) (name : List ℕ) → command ≡ Ok (check (plain_options o) name) →
       length text ≤ most_bytes → length report ≤ most_report
       → (e : LayerError) → RefusesLayer o text e → IsDueOf command text report (status_of e) []

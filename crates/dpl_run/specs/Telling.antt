@@ -1,6 +1,7 @@
 -- What is due or free, and what writing it answers.
 use Rattle.std.specs.Prelude.{◌≡◌, ◌≢◌, ◌⊎◌, ◌+◌, ◌<◌, ⊤, ℕ, List, [], length, Option, Some, IfSome}
 use Rattle.std.specs.Io.KnownBytes.{Appends}
+use Rattle.dpl_limits.specs.declared.TheConstants.{MOST_REPORT_BYTES}
 use Rattle.dpl_ext.specs.Device.{AppendsFront, Rose, RoseBy, Seen, Texts, first_text}
 use Rattle.dpl_run.specs.declared.status.Status.{Status}
 use Rattle.dpl_run.specs.declared.status.Status.TheVariants.{Done, Rejected, Usage, Layout, Limit, ReadFault, WriteFault, NoMemory}
@@ -53,9 +54,9 @@ IsNoText status = ⊤
 -- why the report of a name was not read whole: it could not be opened, or its reading stopped
 abbrev pub StopsReport : Seen → Seen → List ℕ → Option Texts → Status → Type 0
 StopsReport before now name texts (Limit k count) =
-    (k ≡ 9) × (count ≡ 268435457) × RoseBy 268435457 before.given now.given ×
+    (k ≡ 9) × (count ≡ (MOST_REPORT_BYTES + 1)) × RoseBy (MOST_REPORT_BYTES + 1) before.given now.given ×
     ((ts : Texts) → texts ≡ Some ts → (report : List ℕ) → first_text name ts ≡ Some report →
-    268435456 < length report)
+    MOST_REPORT_BYTES < length report)
 StopsReport before now name texts ReadFault = Rose before.faults now.faults
 StopsReport before now name texts NoMemory = ⊤
 StopsReport before now name texts status = ⊥

@@ -1,5 +1,6 @@
 // What is due for each command.
 ghost use Rattle.std.specs.Prelude.{◌≡◌, ◌≢◌, ◌⊎◌, ◌≤◌, ◌^◌, ℕ, List, [], length, Some, Ok, IfOk, IfErr};
+ghost use Rattle.dpl_limits.specs.declared.TheConstants.{MOST_LAYOUT_BYTES, MOST_REPORT_BYTES};
 ghost use Rattle.dpl_ext.specs.Device.{Rose, Texts, first_text};
 ghost use Rattle.dpl_report.specs.Plain.{plain_report};
 ghost use Rattle.dpl_report.specs.Valid.{IsReport};
@@ -19,16 +20,11 @@ use dpl_ext::{OpenEnd, Shelf, Source};
 use dpl_gen::layout as made_layout;
 use dpl_layer::LayerError;
 use dpl_lex::Name;
+use dpl_limits::{MOST_LAYOUT_BYTES, MOST_REPORT_BYTES};
 use dpl_links::types::Weights;
 use dpl_report::{Options, Report};
 use dpl_words::Command;
 use std::alloc::Global;
-
-/// The most bytes of a layout.
-const MOST_BYTES: u64 = 16_777_216;
-
-/// The most bytes of a report.
-const MOST_REPORT: u64 = 268_435_456;
 
 /// What is due for a command.
 pub fn carry_out<S: Source, F: Shelf>(
@@ -47,9 +43,9 @@ pub fn carry_out<S: Source, F: Shelf>(
         IsReadFault (Ok (plain_command command.now)) (S.seen layout.old) (S.seen layout.new)
         (F.seen second.old) (F.seen second.new) }
     ensures limit { (count : ℕ) → result.status ≡ Status.Limit 1 count →
-        PassesBytes 16777217 count (S.seen layout.old) (S.seen layout.new) }
+        PassesBytes (MOST_LAYOUT_BYTES + 1) count (S.seen layout.old) (S.seen layout.new) }
     ensures report_limit { (count : ℕ) → result.status ≡ Status.Limit 9 count →
-        PassesBytes 268435457 count (F.seen second.old) (F.seen second.new) }
+        PassesBytes (MOST_REPORT_BYTES + 1) count (F.seen second.old) (F.seen second.new) }
     ensures touched { IsTouched (Ok (plain_command command.now)) (S.seen layout.old)
         (S.seen layout.new) (F.seen second.old) (F.seen second.new) }
     ensures bare { IsBare result.status result.output.items }
@@ -75,12 +71,12 @@ fn split_text<S: Source>(alloc: Global, options: &Options, layout: &mut S) -> Du
     ensures read { result.status ≡ Status.ReadFault →
         Rose (S.seen layout.old).faults (S.seen layout.new).faults }
     ensures limit { (count : ℕ) → result.status ≡ Status.Limit 1 count →
-        PassesBytes 16777217 count (S.seen layout.old) (S.seen layout.new) }
+        PassesBytes (MOST_LAYOUT_BYTES + 1) count (S.seen layout.old) (S.seen layout.new) }
     ensures other { (count : ℕ) → result.status ≢ Status.Limit 9 count }
     ensures asked { (S.seen layout.new).asked ≡ (S.seen layout.old).asked }
     ensures bare { IsBare result.status result.output.items }
 {
-    match text_of(alloc, layout, 1, MOST_BYTES) {
+    match text_of(alloc, layout, 1, MOST_LAYOUT_BYTES) {
         Ok(text) => split_bytes(alloc, options, text.as_slice()),
         Err(status) => bare(alloc, status),
     }
@@ -88,7 +84,7 @@ fn split_text<S: Source>(alloc: Global, options: &Options, layout: &mut S) -> Du
 
 /// What is due for the bytes of a layout.
 fn split_bytes(alloc: Global, options: &Options, text: &[u8]) -> Due
-    requires { length text.now ≤ 16777216 }
+    requires { length text.now ≤ MOST_LAYOUT_BYTES }
     ensures due { (report : List ℕ) →
         IsDueOrFree (IsDueOf (Ok (plain_split (plain_options options.now))) text.now report)
         result.status result.output.items }
@@ -121,14 +117,14 @@ fn check_text<S: Source, F: Shelf>(
         Rose (S.seen layout.old).faults (S.seen layout.new).faults ⊎
         Rose (F.seen second.old).faults (F.seen second.new).faults }
     ensures limit { (count : ℕ) → result.status ≡ Status.Limit 1 count →
-        PassesBytes 16777217 count (S.seen layout.old) (S.seen layout.new) }
+        PassesBytes (MOST_LAYOUT_BYTES + 1) count (S.seen layout.old) (S.seen layout.new) }
     ensures report_limit { (count : ℕ) → result.status ≡ Status.Limit 9 count →
-        PassesBytes 268435457 count (F.seen second.old) (F.seen second.new) }
+        PassesBytes (MOST_REPORT_BYTES + 1) count (F.seen second.old) (F.seen second.new) }
     ensures asked { (S.seen layout.new).asked ≡ (S.seen layout.old).asked }
     ensures opened { AsksFor name.now (F.seen second.old) (F.seen second.new) }
     ensures bare { IsBare result.status result.output.items }
 {
-    let text = match text_of(alloc, layout, 1, MOST_BYTES) {
+    let text = match text_of(alloc, layout, 1, MOST_LAYOUT_BYTES) {
         Ok(text) => text,
         Err(status) => return bare(alloc, status),
     };
@@ -142,13 +138,13 @@ fn check_text<S: Source, F: Shelf>(
 fn report_of<F: Shelf>(alloc: Global, name: &str, second: &mut F) -> Result<Vec<u8>, Status>
     ensures whole { IfOk result (λ v. (ts : Texts) → F.texts second.old ≡ Some ts →
         first_text name.now ts ≡ Some v.items) }
-    ensures within { IfOk result (λ v. length v.items ≤ 268435456) }
+    ensures within { IfOk result (λ v. length v.items ≤ MOST_REPORT_BYTES) }
     ensures stops { IfErr result (StopsReport (F.seen second.old) (F.seen second.new) name.now
         (F.texts second.old)) }
     ensures opened { AsksFor name.now (F.seen second.old) (F.seen second.new) }
 {
     match second.open(name) {
-        Ok(()) => text_of(alloc, second, 9, MOST_REPORT),
+        Ok(()) => text_of(alloc, second, 9, MOST_REPORT_BYTES),
         Err(OpenEnd::Failed) => Err(Status::ReadFault),
         Err(OpenEnd::NoMemory) => Err(Status::NoMemory),
     }
@@ -156,8 +152,8 @@ fn report_of<F: Shelf>(alloc: Global, name: &str, second: &mut F) -> Result<Vec<
 
 /// What is due for the bytes of a layout and of a report.
 fn check_bytes(alloc: Global, options: &Options, text: &[u8], report: &[u8]) -> Due
-    requires text { length text.now ≤ 16777216 }
-    requires report { length report.now ≤ 268435456 }
+    requires text { length text.now ≤ MOST_LAYOUT_BYTES }
+    requires report { length report.now ≤ MOST_REPORT_BYTES }
     ensures due { (name : List ℕ) →
         IsDueOrFree (IsDueOf (Ok (plain_check (plain_options options.now) name)) text.now
         report.now) result.status result.output.items }

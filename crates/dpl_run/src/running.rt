@@ -1,6 +1,7 @@
 // The program over its devices.
 ghost use Rattle.std.specs.Prelude.{◌≡◌, ◌≢◌, ℕ, List, map, string_bytes};
 ghost use Rattle.std.specs.Io.KnownBytes.{Appends};
+ghost use Rattle.dpl_limits.specs.declared.TheConstants.{MOST_LAYOUT_BYTES, MOST_REPORT_BYTES};
 ghost use Rattle.dpl_ext.specs.Device.{Rose, AppendsFront};
 ghost use Rattle.dpl_words.specs.Commands.{command_of};
 ghost use Rattle.dpl_run.specs.Answer.{AreTold, Answers, IsAnswered, IsDue, IsQuiet, IsReadFault, IsTouched, PassesBytes};
@@ -46,9 +47,9 @@ pub fn run<S: Source, F: Shelf, O: Sink, E: Sink>(
         (S.seen layout.new) (F.seen second.old) (F.seen second.new) }
     ensures write { result ≡ Status.WriteFault → Rose (O.faults out.old) (O.faults out.new) }
     ensures limit { (count : ℕ) → result ≡ Status.Limit 1 count →
-        PassesBytes 16777217 count (S.seen layout.old) (S.seen layout.new) }
+        PassesBytes (MOST_LAYOUT_BYTES + 1) count (S.seen layout.old) (S.seen layout.new) }
     ensures report_limit { (count : ℕ) → result ≡ Status.Limit 9 count →
-        PassesBytes 268435457 count (F.seen second.old) (F.seen second.new) }
+        PassesBytes (MOST_REPORT_BYTES + 1) count (F.seen second.old) (F.seen second.new) }
     ensures touched { IsTouched (command_of (map string_bytes words.now)) (S.seen layout.old)
         (S.seen layout.new) (F.seen second.old) (F.seen second.new) }
 
@@ -80,9 +81,9 @@ fn attempt<S: Source, F: Shelf, O: Sink>(
         (S.seen layout.new) (F.seen second.old) (F.seen second.new) }
     ensures write { result ≡ Status.WriteFault → Rose (O.faults out.old) (O.faults out.new) }
     ensures limit { (count : ℕ) → result ≡ Status.Limit 1 count →
-        PassesBytes 16777217 count (S.seen layout.old) (S.seen layout.new) }
+        PassesBytes (MOST_LAYOUT_BYTES + 1) count (S.seen layout.old) (S.seen layout.new) }
     ensures report_limit { (count : ℕ) → result ≡ Status.Limit 9 count →
-        PassesBytes 268435457 count (F.seen second.old) (F.seen second.new) }
+        PassesBytes (MOST_REPORT_BYTES + 1) count (F.seen second.old) (F.seen second.new) }
     ensures touched { IsTouched (command_of (map string_bytes words.now)) (S.seen layout.old)
         (S.seen layout.new) (F.seen second.old) (F.seen second.new) }
 {

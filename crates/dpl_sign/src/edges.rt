@@ -1,4 +1,5 @@
 ghost use Rattle.std.specs.Prelude.{◌≡◌, ◌<◌, ◌≤◌};
+ghost use Rattle.dpl_limits.specs.declared.TheConstants.{MOST_WEIGHT};
 ghost use Rattle.dpl_sign.specs.Weights.{least_weight, most_weight};
 
 /// What an edge asks of the colours of its ends: a bond that they agree, a stitch that they
@@ -39,7 +40,7 @@ impl Edge {
     pub fn stitch(a: u32, b: u32, weight: u64) -> Edge
         requires order { a < b }
         requires least { 1 ≤ weight }
-        requires most { weight ≤ 1000000 }
+        requires most { weight ≤ MOST_WEIGHT }
         ensures first { result.a ≡ a }
         ensures second { result.b ≡ b }
         ensures kind { result.kind ≡ Kind.Stitch }
@@ -53,7 +54,7 @@ impl Edge {
     pub fn clash(a: u32, b: u32, weight: u64) -> Edge
         requires order { a < b }
         requires least { 1 ≤ weight }
-        requires most { weight ≤ 1000000 }
+        requires most { weight ≤ MOST_WEIGHT }
         ensures first { result.a ≡ a }
         ensures second { result.b ≡ b }
         ensures kind { result.kind ≡ Kind.Clash }

@@ -1,4 +1,5 @@
-ghost use Rattle.std.specs.Prelude.{ℤ, pos, neg_ℤ, ◌≤ℤ◌, ◌<ℤ◌, ◌^◌};
+ghost use Rattle.std.specs.Prelude.{ℤ, pos, neg_ℤ, ◌≤ℤ◌, ◌<ℤ◌};
+ghost use Rattle.dpl_limits.specs.Limits.{most_coordinate};
 
 /// Cells of one row from column `from` to column `to`, which is left out.
 #[derive(Clone, Copy, Debug)]
@@ -6,8 +7,8 @@ pub struct Stretch {
     pub from: i64,
     pub to: i64,
     pub ghost wide: { from <ℤ to },
-    pub ghost left: { neg_ℤ (pos (2 ^ 30)) ≤ℤ from },
-    pub ghost right: { to ≤ℤ pos (2 ^ 30) },
+    pub ghost left: { neg_ℤ (pos most_coordinate) ≤ℤ from },
+    pub ghost right: { to ≤ℤ pos most_coordinate },
 }
 
 impl Stretch {
@@ -15,8 +16,8 @@ impl Stretch {
 
     pub fn new(from: i64, to: i64) -> Stretch
         requires wide { from <ℤ to }
-        requires left { neg_ℤ (pos (2 ^ 30)) ≤ℤ from }
-        requires right { to ≤ℤ pos (2 ^ 30) }
+        requires left { neg_ℤ (pos most_coordinate) ≤ℤ from }
+        requires right { to ≤ℤ pos most_coordinate }
         ensures from { result.from ≡ from }
         ensures to { result.to ≡ to }
     {

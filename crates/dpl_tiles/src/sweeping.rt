@@ -1,6 +1,7 @@
 // A sweep that touches only the stacks near the columns that change.
-ghost use Rattle.std.specs.Prelude.{◌≡◌, ◌⊎◌, true, false, ℕ, ℤ, ◌-ℤ◌, ◌<ℤ◌, ◌≤ℤ◌, ◌<◌, ◌≤◌, ◌++◌, ◌^◌, neg_ℤ, pos, length, slice_index_or, All, AllPairs, IfOk, OnOk, IsTrue, map, filter, take, drop, []};
+ghost use Rattle.std.specs.Prelude.{◌≡◌, ◌⊎◌, true, false, ℕ, ℤ, ◌-ℤ◌, ◌<ℤ◌, ◌≤ℤ◌, ◌<◌, ◌≤◌, ◌++◌, neg_ℤ, pos, length, slice_index_or, All, AllPairs, IfOk, OnOk, IsTrue, map, filter, take, drop, []};
 ghost use Rattle.std.specs.List.{AllZip};
+ghost use Rattle.dpl_limits.specs.Limits.{most_coordinate};
 ghost use Rattle.dpl_cell.specs.declared.rect.Rect.{Rect};
 ghost use Rattle.dpl_cell.specs.Cells.{IsWithin};
 ghost use Rattle.dpl_cell.specs.Outlines.{outline_of};
@@ -36,8 +37,8 @@ pub fn step(
     requires reached { IsReached prims.now reaches.now }
     requires cornered { AreCorners prims.now corners.now }
     requires high { low <ℤ high }
-    requires below { neg_ℤ (pos (2 ^ 30)) ≤ℤ low }
-    requires above { high ≤ℤ pos (2 ^ 30) }
+    requires below { neg_ℤ (pos most_coordinate) ≤ℤ low }
+    requires above { high ≤ℤ pos most_coordinate }
     requires swept { AreSwept (is_cell (map outline_of prims.now)) low ended.old.items
         held.old.items }
     requires alike { (x y : ℤ) → IsWithin low high y →
@@ -72,8 +73,8 @@ fn stepped(
     requires reached { IsReached prims.now reaches.now }
     requires cornered { AreCorners prims.now corners.now }
     requires high { low <ℤ high }
-    requires below { neg_ℤ (pos (2 ^ 30)) ≤ℤ low }
-    requires above { high ≤ℤ pos (2 ^ 30) }
+    requires below { neg_ℤ (pos most_coordinate) ≤ℤ low }
+    requires above { high ≤ℤ pos most_coordinate }
     requires swept { AreSwept (is_cell (map outline_of prims.now)) low ended.old.items held.now }
     requires alike { (x y : ℤ) → IsWithin low high y →
         is_cell (map outline_of prims.now) x low ≡ is_cell (map outline_of prims.now) x y }
@@ -192,8 +193,8 @@ fn near_runs(
 ) -> Result<Vec<Rect>, AllocError>
     requires reached { IsReached prims.now reaches.now }
     requires high { low <ℤ high }
-    requires below { neg_ℤ (pos (2 ^ 30)) ≤ℤ low }
-    requires above { high ≤ℤ pos (2 ^ 30) }
+    requires below { neg_ℤ (pos most_coordinate) ≤ℤ low }
+    requires above { high ≤ℤ pos most_coordinate }
     requires inside { (x1 x2 : ℤ) → IsRun (is_cell (map outline_of prims.now)) x1 x2 low →
         ¬ IsFar change.now.left change.now.right x1 x2 →
         (window.now.left ≤ℤ x1) × (x2 ≤ℤ window.now.right) }
@@ -218,8 +219,8 @@ fn raised_near(
     high: i64,
 ) -> Result<Vec<Rect>, AllocError>
     requires high { low <ℤ high }
-    requires below { neg_ℤ (pos (2 ^ 30)) ≤ℤ low }
-    requires above { high ≤ℤ pos (2 ^ 30) }
+    requires below { neg_ℤ (pos most_coordinate) ≤ℤ low }
+    requires above { high ≤ℤ pos most_coordinate }
     ensures { IfOk result (λ v.
         AllZip (IsOver low high) (filter (is_near change.now.left change.now.right) stretches.now)
         v.items) }
@@ -236,8 +237,8 @@ fn raised_near(
 /// A stretch in all rows from `low` to `high`.
 fn piece_over(s: &Stretch, low: i64, high: i64) -> Rect
     requires high { low <ℤ high }
-    requires below { neg_ℤ (pos (2 ^ 30)) ≤ℤ low }
-    requires above { high ≤ℤ pos (2 ^ 30) }
+    requires below { neg_ℤ (pos most_coordinate) ≤ℤ low }
+    requires above { high ≤ℤ pos most_coordinate }
     ensures { IsOver low high s.now result }
 {
     Rect {
@@ -314,7 +315,7 @@ fn push_closed(
 ) -> Result<(), AllocError>
     requires ordered { AllPairs IsLeftOf runs.now }
     requires below { All (λ r. r.y1 <ℤ top) near.now }
-    requires range { top ≤ℤ pos (2 ^ 30) }
+    requires range { top ≤ℤ pos most_coordinate }
     ensures { OnOk result (AddsClosed top (ending runs.now near.now) ended.old.items
         ended.new.items) }
 {
@@ -329,7 +330,7 @@ fn push_closed(
 /// A stack, closed at row `top`.
 fn closed(stack: &Rect, top: i64) -> Rect
     requires below { stack.now.y1 <ℤ top }
-    requires range { top ≤ℤ pos (2 ^ 30) }
+    requires range { top ≤ℤ pos most_coordinate }
     ensures { IsClosed top stack.now result }
 {
     Rect {
@@ -354,7 +355,7 @@ fn continued(near: &[Rect], run: &Rect) -> Rect
 /// Adds all stacks, closed at row `top`.
 pub fn close_all(ended: &mut Vec<Rect>, held: &[Rect], top: i64) -> Result<(), AllocError>
     requires below { All (λ r. r.y1 <ℤ top) held.now }
-    requires range { top ≤ℤ pos (2 ^ 30) }
+    requires range { top ≤ℤ pos most_coordinate }
     ensures { OnOk result (AddsClosed top (ending [] held.now) ended.old.items ended.new.items) }
 {
     push_closed(ended, held, &[], top)

@@ -1,4 +1,6 @@
-ghost use Rattle.std.specs.Prelude.{◌≡◌, ◌⊎◌, ◌≤◌, ◌-◌, ◌^◌, ◌≤ℤ◌, pos, slice_index_or, All, AllPairs, IsPermutation, IfOk, length, map};
+ghost use Rattle.std.specs.Prelude.{◌≡◌, ◌⊎◌, ◌≤◌, ◌-◌, ◌≤ℤ◌, pos, slice_index_or, All, AllPairs, IsPermutation, IfOk, length, map};
+ghost use Rattle.dpl_limits.specs.Limits.{most_coordinate};
+ghost use Rattle.dpl_limits.specs.declared.TheConstants.{MOST_TILES};
 ghost use Rattle.dpl_cell.specs.Places.{corners_of};
 ghost use Rattle.dpl_cell.specs.Ranges.{IsInRange};
 ghost use Rattle.dpl_cell.specs.Outlines.{outline_of};
@@ -17,10 +19,8 @@ use crate::ordinates::ordinates;
 use crate::reaches::{Reach, reaches_of};
 use crate::sweeping::{close_all, step};
 use dpl_cell::{Layout, Prim, Rect};
+use dpl_limits::MOST_TILES;
 use std::alloc::Global;
-
-/// The most tiles of a layout.
-const MOST_TILES: usize = 100_000;
 
 /// The tiles of a layout, the lowest first, and those of one height from the left.
 ///
@@ -29,9 +29,9 @@ const MOST_TILES: usize = 100_000;
 /// `TooMany` where there are more than 100,000 tiles, and `NoMemory` where memory runs out.
 pub fn tiles(alloc: Global, layout: &Layout) -> Result<Vec<Rect>, TileError>
     ensures tiles { IfOk result (λ v. AreTiles (cells_of layout.now) (map corners_of v.items)) }
-    ensures few { IfOk result (λ v. length v.items ≤ 100000) }
-    ensures many { result ≡ Err TileError.TooMany → HasMoreTiles (cells_of layout.now) 100000 }
-    ensures exact { HasMoreTiles (cells_of layout.now) 100000 →
+    ensures few { IfOk result (λ v. length v.items ≤ MOST_TILES) }
+    ensures many { result ≡ Err TileError.TooMany → HasMoreTiles (cells_of layout.now) MOST_TILES }
+    ensures exact { HasMoreTiles (cells_of layout.now) MOST_TILES →
         (result ≡ Err TileError.TooMany) ⊎ (result ≡ Err TileError.NoMemory) }
 {
     let prims = layout.prims.as_slice();
@@ -63,9 +63,9 @@ fn unsorted(
     requires range { All IsInRange rows.now }
     requires all { HasOrdinates rows.now prims.now }
     ensures tiles { IfOk result (λ v. AreAllTiles (is_cell (map outline_of prims.now)) v.items) }
-    ensures few { IfOk result (λ v. length v.items ≤ 100000) }
+    ensures few { IfOk result (λ v. length v.items ≤ MOST_TILES) }
     ensures many { result ≡ Err TileError.TooMany →
-        HasMoreTiles (is_cell (map outline_of prims.now)) 100000 }
+        HasMoreTiles (is_cell (map outline_of prims.now)) MOST_TILES }
 {
     let mut ended = Vec::new(alloc);
     let mut held = Vec::new(alloc);
@@ -98,7 +98,7 @@ fn unsorted(
 fn top_of(rows: &[i64]) -> i64
     requires { All IsInRange rows.now }
     ensures value { result ≡ slice_index_or rows.now (length rows.now - 1) (pos 0) }
-    ensures range { result ≤ℤ pos (2 ^ 30) }
+    ensures range { result ≤ℤ pos most_coordinate }
 {
     match rows.last() {
         None => 0,

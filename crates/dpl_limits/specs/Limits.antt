@@ -1,5 +1,6 @@
 -- The limits of the program: what each counts, its number, and the most that is taken.
 use Rattle.std.specs.Prelude.{◌≡◌, ℕ, ◌+◌, ◌^◌}
+use Rattle.dpl_limits.specs.declared.TheConstants.{MOST_LAYOUT_BYTES, MOST_PRIMITIVES, MOST_CALLS, MOST_TILES, MOST_FRAGMENTS, MOST_EDGES, MOST_ODD_FACES, MOST_REPORT_BYTES}
 
 -- what a limit counts: bytes of a layout and of a report are counted in reading, the others are
 -- tried in this order
@@ -26,18 +27,22 @@ number_of Edges = 7
 number_of OddFaces = 8
 number_of ReportBytes = 9
 
+-- the greatest magnitude of a coordinate, in grid units
+abbrev pub most_coordinate : ℕ
+most_coordinate = 2 ^ 30
+
 -- the most that is taken: of coordinates the greatest magnitude, and of odd faces those of one
 -- part of a net
 abbrev pub most_of : Counted → ℕ
-most_of Bytes = 16777216
-most_of Primitives = 50000
-most_of Calls = 1000000
-most_of Coordinates = 2 ^ 30
-most_of Tiles = 100000
-most_of Fragments = 100000
-most_of Edges = 400000
-most_of OddFaces = 512
-most_of ReportBytes = 268435456
+most_of Bytes = MOST_LAYOUT_BYTES
+most_of Primitives = MOST_PRIMITIVES
+most_of Calls = MOST_CALLS
+most_of Coordinates = most_coordinate
+most_of Tiles = MOST_TILES
+most_of Fragments = MOST_FRAGMENTS
+most_of Edges = MOST_EDGES
+most_of OddFaces = MOST_ODD_FACES
+most_of ReportBytes = MOST_REPORT_BYTES
 
 -- an answer names this limit and one more than it takes, where there is a cause; what is beyond
 -- is not counted

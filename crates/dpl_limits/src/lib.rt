@@ -1,0 +1,38 @@
+//! The limits of the program, by name. Code and contracts cite them from here; `specs/Limits` has
+//! the number by which an answer names each.
+
+/// The most bytes of a layout.
+pub const MOST_LAYOUT_BYTES: u64 = 16_777_216;
+
+/// The most primitives of the layer.
+pub const MOST_PRIMITIVES: u64 = 50_000;
+
+/// The most calls that are written out.
+pub const MOST_CALLS: u64 = 1_000_000;
+
+/// The greatest magnitude of a coordinate, in grid units.
+pub const MOST_COORDINATE: i64 = 1 << 30;
+
+/// The most tiles of the layer.
+pub const MOST_TILES: usize = 100_000;
+
+/// The most fragments of the layer.
+pub const MOST_FRAGMENTS: usize = 100_000;
+
+/// The most edges of the net: bonds, stitches and clashes.
+pub const MOST_EDGES: usize = 400_000;
+
+/// The most odd faces of one part of the drawing.
+pub const MOST_ODD_FACES: usize = 512;
+
+/// The most bytes of a report.
+pub const MOST_REPORT_BYTES: u64 = 268_435_456;
+
+/// The greatest spacing and the greatest overlap, in hundredths of a micron.
+pub const MOST_SPACE: u64 = 100_000;
+
+/// The same in grid units, of which a hundredth of a micron has two.
+pub const MOST_REACH: u64 = 200_000;
+
+/// The greatest weight of a stitch and of a conflict.
+pub const MOST_WEIGHT: u64 = 1_000_000;
