@@ -32,8 +32,7 @@ impl<R: Read> Source for ReadSource<R> {
     ghost seen = { λ s. record {
       left = R.remaining s.from;
       faults = s.faults;
-      given =
-          s.given;
+      given = s.given;
       asked = [];
     } };
 

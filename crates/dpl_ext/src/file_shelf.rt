@@ -44,8 +44,7 @@ impl<'a, R: Files> Source for FileShelf<'a, R> {
     ghost seen = { λ s. record {
       left = left_of_file s.file;
       faults = s.faults;
-      given =
-          s.given;
+      given = s.given;
       asked = map string_bytes s.asked.items;
     } };
 

@@ -58,12 +58,10 @@ impl MemShelf {
         ensures { result ≡ record {
           texts = texts_of files.items;
           left = [];
-          is_open =
-              false;
+          is_open = false;
           piece = piece;
           fails = fails.items;
-          calls =
-              0;
+          calls = 0;
           faults = 0;
           given = 0;
           asked = [];
@@ -90,8 +88,7 @@ impl Source for MemShelf {
       left = Some s.left;
       faults = s.faults;
       given = s.given;
-      asked =
-          s.asked;
+      asked = s.asked;
     } };
 
     fn read(&mut self, into: &mut [u8]) -> Result<usize, Failed>
@@ -152,16 +149,14 @@ impl Shelf for MemShelf {
     fn open(&mut self, name: &str) -> Result<(), OpenEnd>
         ensures answer { AnswersOpen (record {
           left = Some self.old.left;
-          faults =
-              self.old.faults;
+          faults = self.old.faults;
           given = self.old.given;
           asked = self.old.asked;
         })
             (record {
               left = Some self.new.left;
               faults = self.new.faults;
-              given =
-                  self.new.given;
+              given = self.new.given;
               asked = self.new.asked;
             }) (Some self.old.texts) name.now result }
         ensures texts { Some self.new.texts ≡ Some self.old.texts }

@@ -45,8 +45,7 @@ impl MemSource {
           left = bytes.items;
           piece = piece;
           fails = fails.items;
-          calls =
-              0;
+          calls = 0;
           faults = 0;
           given = 0;
         } }
@@ -68,8 +67,7 @@ impl Source for MemSource {
       left = Some s.left;
       faults = s.faults;
       given = s.given;
-      asked =
-          [];
+      asked = [];
     } };
 
     fn read(&mut self, into: &mut [u8]) -> Result<usize, Failed>
@@ -140,8 +138,7 @@ impl MemSink {
           taken = [];
           room = room;
           piece = piece;
-          fails =
-              fails.items;
+          fails = fails.items;
           calls = 0;
           faults = 0;
         }) }
