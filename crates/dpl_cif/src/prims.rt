@@ -23,8 +23,13 @@ fn narrow(z: i128) -> i64
 fn rect_of(e: &Extent) -> Rect
     requires sound { IsSound (Figure.Rectangle e.now) }
     requires near { outline_reach (drawn (Figure.Rectangle e.now)) ≤ most_coordinate }
-    ensures { corners_of result ≡ record { x1 = e.now.x1; y1 = e.now.y1; x2 = e.now.x2; y2 =
-        e.now.y2 } }
+    ensures { corners_of result ≡ record {
+      x1 = e.now.x1;
+      y1 = e.now.y1;
+      x2 = e.now.x2;
+      y2 =
+          e.now.y2;
+    } }
 {
     match Rect::new(narrow(e.x1), narrow(e.y1), narrow(e.x2), narrow(e.y2)) {
         Some(rect) => rect,

@@ -146,8 +146,26 @@ pub fn read(alloc: Global, text: &[u8], layer: &Name) -> Result<Layout, CifError
     let Ok(commands) = commands(alloc, text) else {
         return Err(CifError::NoMemory);
     };
-    match scan(alloc, text, &commands, layer) {
-        Ok(scanned) => rounds(alloc, text, &commands, layer, &scanned),
+    read_commands(alloc, text, &commands, layer)
+}
+
+/// The same, where the text is already cut into these commands.
+///
+/// Time and memory are those of `read`, without those of cutting.
+pub fn read_commands(
+    alloc: Global,
+    text: &[u8],
+    commands: &Commands,
+    layer: &Name,
+) -> Result<Layout, CifError>
+    requires short { length text.now ≤ MOST_LAYOUT_BYTES }
+    requires commands { commands.now ≡ commands_of text.now }
+    ensures exact { Gives result (reading layer.now text.now) }
+    ensures primitives { IfOk result (λ layout.
+        map outline_of layout.prims ≡ primitives_of layer.now text.now) }
+{
+    match scan(alloc, text, commands, layer) {
+        Ok(scanned) => rounds(alloc, text, commands, layer, &scanned),
         Err(ScanError::Breaks(command, what)) => Err(CifError::Fault { command, what }),
         Err(ScanError::NoMemory) => Err(CifError::NoMemory),
     }
