@@ -36,8 +36,6 @@ exchange_alike n f f' i j hi hj same z h = elim (cases_eq z i) [
   ]
 ]
 
-]
-
 pub tells_swap : (n : ℕ) (xs ys : List ℕ) (f : ℕ → ℕ) (i j : ℕ) → Tells n xs f → i < n → j < n → i ≢ j → ys ≡ swap xs i j → Tells n ys (exchange f i j)
 tells_swap n xs ys f i j t hi hj ne e =
     let li : i < length xs = omega (arith, t.size) in

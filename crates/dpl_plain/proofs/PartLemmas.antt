@@ -76,8 +76,6 @@ joined_part net set names k c h t x y hx hy e =
       ]
     ]
 
-]
-
 joined_sides : (s : ℕ → ℕ) (a b : ℕ) → join s a b a ≡ join s a b b
 joined_sides s a b = elim (cases_eq (s a) (s b)) [
   | inl q ↦ join_of s a b a b q

@@ -91,7 +91,7 @@ abbrev pub clashes_from : List Bool → ℕ → List Edge → List Broken
 clashes_from colours e [] = []
 clashes_from colours e (edge ∷ edges) =
     where_broken (is_broken_clash colours edge) (record { edge = e; a = edge.a; b =
-    edge.b }) (clashes_from colours (e + 1) edges)
+      edge.b }) (clashes_from colours (e + 1) edges)
 
 abbrev pub is_stitch : Edge → Bool
 is_stitch edge = not (is_bond edge.kind || is_clash edge.kind)
@@ -112,7 +112,7 @@ abbrev pub zone_here : List Bool → ℕ → Edge → List Cut → List PlainZon
 zone_here colours e edge [] others = others
 zone_here colours e edge (cut ∷ cuts) others =
     where_zone (is_broken_stitch colours edge) (record { at =
-    record { edge = e; a = edge.a; b = edge.b }; corners = corners_of cut.zone }) others
+      record { edge = e; a = edge.a; b = edge.b }; corners = corners_of cut.zone }) others
 
 -- The broken stitches with their ends and zones. The stitches stand in the order of the cuts.
 abbrev pub cuts_from : List Bool → ℕ → List Edge → List Cut → List PlainZone

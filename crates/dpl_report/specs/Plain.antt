@@ -50,9 +50,9 @@ plain_lists l = record { cuts = map plain_zone l.cuts; clashes = l.clashes; asid
 abbrev pub plain_report : Report → PlainReport
 plain_report r = record {
   head = record { params = r.params; counts = r.counts; cost = r.cost; bound = r.bound; colours =
-  r.colours };
+    r.colours };
   lists = record { cuts = map plain_zone r.cuts; clashes = r.clashes; aside = r.aside; cycles =
-  r.cycles };
+    r.cycles };
   on_a = map corners_of r.on_a;
   on_b = map corners_of r.on_b;
 }

@@ -15,7 +15,7 @@ use Rattle.dpl_tree.proofs.Growing.{place_cases, outer_in, inner_in, outer_inner
 use Rattle.dpl_tree.proofs.Events.{root_lowest}
 use Rattle.dpl_tree.proofs.Ways.{load_turned}
 
-abbrev one_if : ℕ → ℕ → ℕ
+abbrev pub one_if : ℕ → ℕ → ℕ
 one_if x c = cond (eqb x c) 1 0
 
 -- ---- how often

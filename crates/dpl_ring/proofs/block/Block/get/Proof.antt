@@ -13,7 +13,7 @@ use Rattle.dpl_ring.proofs.block.Block.get.Statement.{statement}
 use Rattle.dpl_ring.proofs.block.Block.get.Code as code
 use Rattle.dpl_ring.specs.contracts.block.Block as C
 
-pub abbrev stayed : Stays f.ended.signature.params f.ended.kept
+abbrev stayed : Stays f.ended.signature.params f.ended.kept
 stayed = (stay_dropped (RefOf (0 ∷ []) tt (plain (λ _. C.the_row)) (λ _. tt)) f.ended.kept.0, (stay_dropped (plain (λ _. usize)) f.ended.kept.1.0, tt))
 
 pub get_spec : {M : Type 1} → statement M

@@ -9,7 +9,9 @@ use Rattle.dpl_ring.specs.contracts.block.Block.{the_row as R}
 use Rattle.dpl_ring.specs.contracts.pair.Pair.{the_row as P}
 use Rattle.dpl_ring.proofs.block.Block.TheLaws.{lowers}
 use Rattle.dpl_ring.proofs.pair.Pair.TheLaws as pair
-use Rattle.dpl_ring.proofs.block.Block.get.Proof.{stayed}
+
+abbrev stayed : Stays f.ended.signature.params f.ended.kept
+stayed = (stay_ref (0 ∷ []) tt (plain (λ _. R)), (stay_dropped (plain (λ _. usize)) f.ended.kept.1.0, (stay_dropped (plain (λ _. P)) f.ended.kept.1.1.0, tt)))
 
 pub put_spec : {M : Type 1} → statement M
 put_spec 𝓤 𝓛 𝓜 𝓡 wired =
