@@ -6,7 +6,7 @@ use Rattle.std.proofs.lemmas.List.Sums.{fold-append}
 use Rattle.dpl_classes.specs.Classes.{IsNumbered, next_label, AreClasses}
 
 -- a number before place i is this one
-record IsUsed (label : List ℕ) (i v : ℕ) : Type 0 where
+pub record IsUsed (label : List ℕ) (i v : ℕ) : Type 0 where
   place : ℕ
   before : place < i
   within : place < length label

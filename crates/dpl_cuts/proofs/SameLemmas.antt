@@ -36,8 +36,6 @@ record IsUsed (label : List ℕ) (i v : ℕ) : Type 0 where
   within : place < length label
   is : get_or label place 0 ≡ v
 
-]
-
 -- ---- shapes
 
 -- ---- fragments
