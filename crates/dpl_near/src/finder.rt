@@ -20,6 +20,7 @@ pub struct Finder<'a> {
 
 impl<'a> Model for Finder<'a> {
     ghost use Rattle.std.specs.Prelude.{ℕ, ◌≤◌, length, map};
+    ghost use Rattle.dpl_limits.specs.declared.TheConstants.{MOST_REACH, MOST_TILES};
     ghost use Rattle.dpl_cell.specs.Places.{corners_of};
     ghost use Rattle.dpl_near.specs.Near.{Search};
     ghost use Rattle.dpl_near.specs.Index.{IsIndex};
@@ -42,8 +43,8 @@ impl<'a> Finder<'a> {
     pub fn new(alloc: Global, rects: &'a [Rect], reach: u64) -> Result<Finder<'a>, NoMemory>
         requires few { length rects.now ≤ MOST_TILES }
         requires near { reach ≤ MOST_REACH }
-        ensures { IfOk result (λ f. f ≡ record { rects = map corners_of rects.now; reach =
-            reach }) }
+        ensures { IfOk result (λ f.
+            f ≡ record { rects = map corners_of rects.now; reach = reach }) }
     {
         let stops = stops_of(alloc, rects)?;
         Ok(Finder {
@@ -109,8 +110,8 @@ fn push_near(
     requires near { reach ≤ MOST_REACH }
     requires within { i < length rects.now }
     requires other { j < length rects.now }
-    ensures { OnOk result (AddsNear (record { rects = map corners_of rects.now; reach =
-        reach }) i j found.old.items found.new.items) }
+    ensures { OnOk result (AddsNear (record { rects = map corners_of rects.now; reach = reach })
+        i j found.old.items found.new.items) }
 {
     if j as usize != i && are_close(&rects[i], &rects[j as usize], reach) {
         found.push(j)?;
