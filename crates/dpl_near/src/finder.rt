@@ -30,8 +30,11 @@ impl<'a> Model for Finder<'a> {
 
     ghost view = { λ f. record { rects = map corners_of f.rects.now; reach = f.reach } };
 
-    ghost invariant = { λ f. record { few : length f.rects.now ≤ MOST_TILES; near : f.reach ≤ MOST_REACH;
-        index : IsIndex (map corners_of f.rects.now) f.stops.items } };
+    ghost invariant = { λ f. record {
+      few : length f.rects.now ≤ MOST_TILES;
+      near : f.reach ≤ MOST_REACH;
+      index : IsIndex (map corners_of f.rects.now) f.stops.items;
+    } };
 }
 
 impl<'a> Finder<'a> {
