@@ -20,6 +20,7 @@ pub struct Finder<'a> {
 
 impl<'a> Model for Finder<'a> {
     ghost use Rattle.std.specs.Prelude.{ℕ, ◌≤◌, length, map};
+    ghost use Rattle.dpl_limits.specs.declared.TheConstants.{MOST_REACH, MOST_TILES};
     ghost use Rattle.dpl_cell.specs.Places.{corners_of};
     ghost use Rattle.dpl_near.specs.Near.{Search};
     ghost use Rattle.dpl_near.specs.Index.{IsIndex};

@@ -344,10 +344,6 @@ rising_more f set m k child p fam hm r e ne =
       held = fam.laminar.children.child_holds p child m w.1 hm w.3 r.held;
     }
 
-  sum_ones : (k : ℕ) → sum_below k (λ m. 1) ≡ k
-  sum_ones zero = refl
-  sum_ones (suc k) = omega (arith, sum_ones k)
-
 pub rising_begun : (f : Sets) (set m : ℕ) → IsFamily f → AreReached f → m < f.size → f.size ≤ set → set < 2 * f.size → f.live set ≡ true → f.holds set m ≡ true → IsRising f set m 0 m
 rising_begun f set m fam all hm above below live held =
     let w = all set m below hm live held in
