@@ -7,28 +7,13 @@ use Rattle.std.proofs.lemmas.Int.{ints}
 use Rattle.dpl_calls.specs.declared.figure.Corner.{Corner}
 use Rattle.dpl_calls.specs.Parts.{corner}
 use Rattle.dpl_calls.specs.Rotations.{quarter_left, quarter_right}
+use Rattle.dpl_list.proofs.Integers.{not_less, no_less_test, is_less, less_test}
+use Rattle.dpl_calls.proofs.CleanParts.{positive}
+use Rattle.dpl_calls.proofs.Scaling.{zero_of}
 
 -- a turn by the answers of its three tests
 abbrev pub turn_by : Bool → Bool → Bool → Corner → Corner
 turn_by p q r c = cond p (cond q (corner (neg_ℤ c.x) (neg_ℤ c.y)) c) (cond r (corner c.y (neg_ℤ c.x)) (corner (neg_ℤ c.y) c.x))
-
-is_zero : (n : ℕ) → (n == 0) ≡ true → n ≡ 0
-is_zero n h = grind (arith, common_steps)
-
-is_some : (n : ℕ) → (n == 0) ≡ false → 0 < n
-is_some n h = grind (arith, common_steps)
-
-is_less : (a b : ℤ) → int_lt a b ≡ true → a <ℤ b
-is_less a b e = grind (arith, ints)
-
-is_no_less : (a b : ℤ) → int_lt a b ≡ false → b ≤ℤ a
-is_no_less a b e = grind (arith, ints)
-
-less_test : (a b : ℤ) → a <ℤ b → int_lt a b ≡ true
-less_test a b h = grind (arith, ints)
-
-no_less_test : (a b : ℤ) → b ≤ℤ a → int_lt a b ≡ false
-no_less_test a b h = grind (arith, ints)
 
 same_corner : (a b x y : ℤ) → a ≡ x → b ≡ y → corner a b ≡ corner x y
 same_corner a b x y e f = rw (e, f) refl
@@ -45,20 +30,20 @@ directed x y on = by (unsigned_abs y == 0) refl (int_lt x (pos 0)) refl (int_lt 
   by : (p : Bool) → (unsigned_abs y == 0) ≡ p → (q : Bool) → int_lt x (pos 0) ≡ q → (r : Bool) → int_lt y (pos 0) ≡ r
       → turn_by p q r (corner (pos (unsigned_abs x + unsigned_abs y)) (pos 0)) ≡ corner x y
   by true e true f r g =
-      let z : unsigned_abs y ≡ 0 = is_zero (unsigned_abs y) e in
+      let z : unsigned_abs y ≡ 0 = zero_of (unsigned_abs y) e in
       let l : x <ℤ pos 0 = is_less x (pos 0) f in
       same_corner (neg_ℤ (pos (unsigned_abs x + unsigned_abs y))) (neg_ℤ (pos 0)) x y (omega (arith, ints)) (omega (arith, ints))
   by true e false f r g =
-      let z : unsigned_abs y ≡ 0 = is_zero (unsigned_abs y) e in
-      let l : pos 0 ≤ℤ x = is_no_less x (pos 0) f in
+      let z : unsigned_abs y ≡ 0 = zero_of (unsigned_abs y) e in
+      let l : pos 0 ≤ℤ x = not_less x (pos 0) f in
       same_corner (pos (unsigned_abs x + unsigned_abs y)) (pos 0) x y (omega (arith, ints)) (omega (arith, ints))
   by false e q f true g =
-      let z : x ≡ pos 0 = upright x y on (is_some (unsigned_abs y) e) in
+      let z : x ≡ pos 0 = upright x y on (positive (unsigned_abs y) e) in
       let l : y <ℤ pos 0 = is_less y (pos 0) g in
       same_corner (pos 0) (neg_ℤ (pos (unsigned_abs x + unsigned_abs y))) x y (omega (arith, ints)) (omega (arith, ints))
   by false e q f false g =
-      let z : x ≡ pos 0 = upright x y on (is_some (unsigned_abs y) e) in
-      let l : pos 0 ≤ℤ y = is_no_less y (pos 0) g in
+      let z : x ≡ pos 0 = upright x y on (positive (unsigned_abs y) e) in
+      let l : pos 0 ≤ℤ y = not_less y (pos 0) g in
       same_corner (neg_ℤ (pos 0)) (pos (unsigned_abs x + unsigned_abs y)) x y (omega (arith, ints)) (omega (arith, ints))
 
 -- ---- the sense of rotation
@@ -90,8 +75,8 @@ other_side y h = by (int_lt y (pos 0)) refl where
       let l : y <ℤ pos 0 = is_less y (pos 0) e in
       no_less_test (neg_ℤ y) (pos 0) (omega (arith, ints))
   by false e =
-      let l : pos 0 ≤ℤ y = is_no_less y (pos 0) e in
-      let s : 0 < unsigned_abs y = is_some (unsigned_abs y) h in
+      let l : pos 0 ≤ℤ y = not_less y (pos 0) e in
+      let s : 0 < unsigned_abs y = positive (unsigned_abs y) h in
       less_test (neg_ℤ y) (pos 0) (omega (arith, ints))
 
 pub opposite : (x y : ℤ) (c : Corner) → turn_by (unsigned_abs (neg_ℤ y) == 0) (int_lt x (pos 0)) (int_lt (neg_ℤ y) (pos 0)) (turn_by (unsigned_abs y == 0) (int_lt x (pos 0)) (int_lt y (pos 0)) c) ≡ c

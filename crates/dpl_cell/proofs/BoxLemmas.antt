@@ -26,12 +26,6 @@ not_by_test b e f a = let t : IsTrue false = rw e at (f a) in search rules
 pub equal_z : (a b : ℤ) → a ≤ℤ b → b ≤ℤ a → a ≡ b
 equal_z a b h g = omega (arith, ints, clamps)
 
-pub less_test : (a b : ℤ) → a <ℤ b → int_lt a b ≡ true
-less_test a b h = grind (arith, ints)
-
-pub not_less : (a b : ℤ) → int_lt a b ≡ false → b ≤ℤ a
-not_less a b e = grind (arith, ints)
-
 -- three ways for two numbers to lie
 pub three : {P : Type 0} (i j : ℕ) → (i < j → P) → (i ≡ j → P) → (j < i → P) → P
 three i j p q r = elim (cases_lt i j) [ inl h ↦ p h | inr h ↦ elim (cases_eq i j) [ inl e ↦ q e | inr n ↦ r (omega (arith, n)) ] ]

@@ -15,7 +15,7 @@ use Rattle.dpl_tiles.specs.Stretches.{Ascends}
 use Rattle.dpl_tiles.specs.Corners.{IsCornerOf, SpansSide, IsEndOf, HasSide, HasSides, HasCornersOf, AreWithin, AddsCorners, AddsSide, AreBetween}
 use Rattle.dpl_tiles.proofs.Signed.{signed}
 use Rattle.dpl_list.proofs.Lists.{any_left, any_right, any_contains}
-use Rattle.dpl_tiles.proofs.WindowLemmas.{is_less, is_at_most, not_at_most}
+use Rattle.dpl_tiles.proofs.WindowLemmas.{is_at_most, not_at_most}
 
 -- ---- a longer list has what the shorter one has
 
