@@ -8,8 +8,10 @@ use Rattle.dpl_cycle.specs.Names.{name_count, join}
 abbrev pub names_below : Signed → (ℕ → Bool) → ℕ → ℕ → ℕ
 names_below g set zero = λ v. v
 names_below g set (suc k) =
-    elim (set k) [ true ↦ join (names_below g set k) (edge_at g k).a (edge_at g k).b
-    | false ↦ names_below g set k ]
+    elim (set k) [
+      | true ↦ join (names_below g set k) (edge_at g k).a (edge_at g k).b
+      | false ↦ names_below g set k
+    ]
 
 -- two nodes are joined by edges of the set where this is the same
 abbrev pub component_of : Signed → (ℕ → Bool) → ℕ → ℕ

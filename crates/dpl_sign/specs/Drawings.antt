@@ -31,13 +31,23 @@ dart_count net = 2 * length net.graph.edges
 
 -- what stands where there is no port
 abbrev pub no_port : Port
-no_port = record { side = 1; key = pos 0; dx = 0; dy = 0; eight = lit≤ tt; no_key =
-    λ e. refl; direction = λ e. absurd (false≢true e); no_direction = λ e. refl }
+no_port = record {
+  side = 1;
+  key = pos 0;
+  dx = 0;
+  dy = 0;
+  eight = lit≤ tt;
+  no_key = λ e. refl;
+  direction = λ e. absurd (false≢true e);
+  no_direction = λ e. refl;
+}
 
 -- the port at which a dart leaves its node
 abbrev pub port_of : Net → ℕ → Port
-port_of net d = elim (d % 2 == 0) [ true ↦ (slice_index_or net.ports (d / 2) (no_port, no_port)).0
-    | false ↦ (slice_index_or net.ports (d / 2) (no_port, no_port)).1 ]
+port_of net d = elim (d % 2 == 0) [
+  | true ↦ (slice_index_or net.ports (d / 2) (no_port, no_port)).0
+  | false ↦ (slice_index_or net.ports (d / 2) (no_port, no_port)).1
+]
 
 -- one dart of a node stands before another in the order of their ports
 abbrev pub is_before : Net → ℕ → ℕ → Bool
@@ -46,8 +56,10 @@ is_before net d c = is_lt (port_cmp (port_of net d) (d / 2) (port_of net c) (c /
 -- Turning counterclockwise from d, one meets c before e. After a whole turn one meets d itself.
 abbrev pub is_met_before : Net → ℕ → ℕ → ℕ → Bool
 is_met_before net d c e =
-    elim (is_before net d e) [ true ↦ is_before net d c && is_before net c e
-    | false ↦ is_before net d c || is_before net c e ]
+    elim (is_before net d e) [
+      | true ↦ is_before net d c && is_before net c e
+      | false ↦ is_before net d c || is_before net c e
+    ]
 
 -- of the dart c, if it leaves the node of d, and a dart e of that node, the one that is met first
 abbrev pub first_met : Net → ℕ → ℕ → ℕ → ℕ
@@ -58,8 +70,11 @@ first_met net d c e = if (tail_of net.graph c == tail_of net.graph d) && is_met_
 abbrev pub next_below : Net → (ℕ → Bool) → ℕ → ℕ → ℕ
 next_below net set zero d = d
 next_below net set (suc k) d =
-    elim (set k) [ true ↦ first_met net d (2 * k
-    + 1) (first_met net d (2 * k) (next_below net set k d)) | false ↦ next_below net set k d ]
+    elim (set k) [
+      | true ↦ first_met net d (2 * k
+          + 1) (first_met net d (2 * k) (next_below net set k d))
+      | false ↦ next_below net set k d
+    ]
 
 -- the next dart of the set counterclockwise around the node that d leaves
 abbrev pub next_around : Net → (ℕ → Bool) → ℕ → ℕ

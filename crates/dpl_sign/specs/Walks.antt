@@ -9,8 +9,15 @@ use Rattle.dpl_sign.specs.Kinds.{is_clash}
 
 -- what stands where there is no edge
 abbrev pub no_edge : Edge
-no_edge = record { a = 0; b = 1; kind = Bond; weight = 0; ordered = lit< tt; least = lit≤ tt; most =
-    lit≤ tt }
+no_edge = record {
+  a = 0;
+  b = 1;
+  kind = Bond;
+  weight = 0;
+  ordered = lit< tt;
+  least = lit≤ tt;
+  most = lit≤ tt;
+}
 
 abbrev pub edge_at : Signed → ℕ → Edge
 edge_at g e = slice_index_or g.edges e no_edge

@@ -1,11 +1,11 @@
-ghost use Rattle.std.specs.Prelude.{◌≡◌, ◌≢◌, ℕ, ◌+◌, ◌*◌, ◌%◌, ◌<◌, ◌≤◌, ◌⊎◌, ◌↔◌, true, false, [], length};
+ghost use Rattle.std.specs.Prelude.{◌≡◌, ◌≢◌, ◌==◌, ℕ, ◌+◌, ◌*◌, ◌%◌, ◌<◌, ◌≤◌, ◌⊎◌, ◌↔◌, true, false, [], length, sum_by, count_by};
 ghost use Rattle.dpl_sign.specs.Drawings.{is_in, face_count, next_around};
 ghost use Rattle.dpl_sign.specs.Rotations.{Leaves, ComesNext};
 ghost use Rattle.dpl_sign.specs.Components.{component_count, component_of, AreJoined};
 ghost use Rattle.dpl_sign.specs.Excess.{edge_count, excess, all_edges, with_edge, kept_edges, aside_edges, raises_excess, AreEndsJoined, LiesInFace};
 ghost use Rattle.dpl_sign.specs.PortOrder.{StandsBefore};
 ghost use Rattle.dpl_sign.specs.Colourings.{cost_of, IsColouring};
-ghost use Rattle.dpl_sign.specs.Packings.{IsPacking, bound_of};
+ghost use Rattle.dpl_sign.specs.Packings.{IsPacking, bound_of, load, passages};
 
 use crate::graphs::Signed;
 use crate::nets::Net;
@@ -25,6 +25,12 @@ pub fn packing_bounds(graph: &Signed, cycles: &[Cycle], colours: &[bool])
     requires packing { IsPacking graph.now cycles.now }
     requires colouring { IsColouring graph.now colours.now }
     ensures { bound_of cycles.now ≤ 2 * cost_of graph.now colours.now }
+{}
+
+/// A walk loads an edge with its half weight as often as it passes the edge.
+pub fn loads_count_passages(cycles: &[Cycle])
+    ensures { (e : ℕ) → load (passages cycles.now) e ≡
+        sum_by (λ c. c.half * count_by (λ f. f == e) c.walk.edges) cycles.now }
 {}
 
 /// Around a node each dart of a set leads to the one whose port comes next, and the last to the first:

@@ -24,8 +24,8 @@ pub use edges::{Edge, Kind};
 pub use graphs::Signed;
 pub use laws::{
     components_are_joined, edges_aside_cross, edges_never_lower_the_excess, excess_is_even,
-    excess_never_falls, kept_edges_are_plane, nothing_is_aside_where_plane, packing_bounds,
-    ports_are_in_order, rotation_follows_ports,
+    excess_never_falls, kept_edges_are_plane, loads_count_passages, nothing_is_aside_where_plane,
+    packing_bounds, ports_are_in_order, rotation_follows_ports,
 };
 pub use nets::Net;
 pub use order::port_order;
