@@ -78,3 +78,23 @@ fn frame_with_a_hole(rt: HostRuntime) -> Result<(), Fail> {
     }
     Ok(())
 }
+
+/// What two boxes both hold is held, and a box ends before its right and its upper side.
+#[test]
+fn overlapping_boxes(rt: HostRuntime) -> Result<(), Fail> {
+    let mut prims = Vec::new(rt.alloc());
+    prims.push(Prim::Box(Rect::new(0, 0, 4, 4).ok_or("out of range")?))?;
+    prims.push(Prim::Box(Rect::new(2, 2, 6, 6).ok_or("out of range")?))?;
+    for (x, y, held) in [
+        (0, 0, true),
+        (3, 3, true),
+        (5, 5, true),
+        (4, 1, false),
+        (1, 4, false),
+        (6, 5, false),
+        (-1, 0, false),
+    ] {
+        assert_eq!(rt; is_held(prims.as_slice(), x, y), held, "{x} {y}");
+    }
+    Ok(())
+}
