@@ -6,14 +6,15 @@ ghost use Rattle.dpl_dual.specs.Searches.{IsLabelled};
 ghost use Rattle.dpl_dual.specs.Labels.{labels, IsFar, IsUnderWay, AreReachedAlso, WaitsAlso};
 
 use crate::reach::Reach;
+use crate::table::Table;
 use std::alloc::{AllocError, Global};
-use std::collections::{BTreeMap, BinaryHeap};
+use std::collections::BinaryHeap;
 
 /// The labels so far, the faces that have one, and a queue of labels whose ways are to be tried. A
 /// label waits by how near it is, so that the nearest is the first that the queue gives.
 #[derive(Drop)]
 pub struct Search {
-    pub map: BTreeMap<u32, Reach>,
+    pub table: Table,
     pub reached: Vec<u32>,
     pub queue: BinaryHeap<(u64, u32)>,
 }
@@ -22,7 +23,7 @@ pub struct Search {
 pub fn length_of(search: &Search, face: u32) -> Option<u64>
     ensures { result ≡ option_map (λ r. r.length) (labels search.now face) }
 {
-    match search.map.get(&face) {
+    match search.table.get(face) {
         Some(reach) => Some(reach.length),
         None => None,
     }
@@ -32,7 +33,7 @@ pub fn length_of(search: &Search, face: u32) -> Option<u64>
 pub fn has_length(search: &Search, face: u32, length: u64) -> bool
     ensures { MatchBool result (IsFar search.now face length) (IsFar search.now face length → ⊥) }
 {
-    match search.map.get(&face) {
+    match search.table.get(face) {
         Some(reach) => reach.length == length,
         None => false,
     }
@@ -47,7 +48,7 @@ pub fn label(search: &mut Search, face: u32, reach: Reach, known: bool) -> Resul
     ensures queue { OnOk result (WaitsAlso reach.length face search.old search.new) }
 {
     search.queue.push((u64::MAX - reach.length, face))?;
-    search.map.insert(face, reach)?;
+    search.table.insert(face, reach)?;
     if !known {
         search.reached.push(face)?;
     }
@@ -60,7 +61,7 @@ pub fn begin(alloc: Global, from: u32, faces: u32) -> Result<Search, AllocError>
     ensures { IfOk result (λ s. (ways : List Cross) → IsUnderWay ways faces from (λ f. false) s) }
 {
     let mut search = Search {
-        map: BTreeMap::new(alloc),
+        table: Table::new(alloc),
         reached: Vec::new(alloc),
         queue: BinaryHeap::new(alloc),
     };
