@@ -64,17 +64,30 @@ fn coloured(alloc: Global, net: &Net, joined: &[bool]) -> Result<Outcome, Fail> 
     Ok(Outcome { colours, broken })
 }
 
-/// Three clashes around a triangle, of which the last is to be broken.
+/// One clash, with the same face on both sides, is broken or not, and two nodes lie apart.
 #[test]
-fn odd_triangle(rt: HostRuntime) -> Result<(), Fail> {
+fn one_clash(rt: HostRuntime) -> Result<(), Fail> {
+    let links = [(
+        Edge::clash(0, 1, 4),
+        Port::on_side(3, 0),
+        Port::on_side(7, 0),
+    )];
+    let net = drawing(rt.alloc(), 4, &links)?;
+    let done = coloured(rt.alloc(), &net, &[false])?;
+    assert_eq!(rt; done.colours.len(), 4);
+    assert!(rt; done.broken.as_slice().is_empty());
+    let done = coloured(rt.alloc(), &net, &[true])?;
+    assert_eq!(rt; done.broken.as_slice(), [0].as_slice());
+    Ok(())
+}
+
+/// A bond, a stitch and a clash around a triangle: the stitch is broken, or the clash.
+#[test]
+fn one_of_each_kind(rt: HostRuntime) -> Result<(), Fail> {
     let links = [
+        (Edge::bond(0, 1), Port::on_side(3, 0), Port::on_side(7, 0)),
         (
-            Edge::clash(0, 1, 10),
-            Port::on_side(3, 0),
-            Port::on_side(7, 0),
-        ),
-        (
-            Edge::clash(0, 2, 10),
+            Edge::stitch(0, 2, 1),
             Port::on_side(5, 0),
             Port::on_side(7, 0),
         ),
@@ -85,128 +98,29 @@ fn odd_triangle(rt: HostRuntime) -> Result<(), Fail> {
         ),
     ];
     let net = drawing(rt.alloc(), 3, &links)?;
-    let done = coloured(rt.alloc(), &net, &[false, false, true])?;
-    assert_eq!(rt; done.colours.len(), 3);
-    assert!(rt; colour_at(&done.colours, 0) != colour_at(&done.colours, 1));
-    assert_eq!(rt; colour_at(&done.colours, 1), colour_at(&done.colours, 2));
-    assert_eq!(rt; done.broken.as_slice(), [2].as_slice());
-    Ok(())
-}
-
-/// Clashes and stitches around a square, in turn, of which none is to be broken, and two nodes
-/// apart.
-#[test]
-fn ring(rt: HostRuntime) -> Result<(), Fail> {
-    let links = [
-        (
-            Edge::clash(0, 1, 4),
-            Port::on_side(3, 0),
-            Port::on_side(7, 0),
-        ),
-        (
-            Edge::stitch(0, 3, 1),
-            Port::on_side(5, 0),
-            Port::on_side(1, 0),
-        ),
-        (
-            Edge::stitch(1, 2, 2),
-            Port::on_side(5, 0),
-            Port::on_side(1, 0),
-        ),
-        (
-            Edge::clash(2, 3, 4),
-            Port::on_side(7, 0),
-            Port::on_side(3, 0),
-        ),
-    ];
-    let net = drawing(rt.alloc(), 6, &links)?;
-    let done = coloured(rt.alloc(), &net, &[false; 4])?;
-    assert_eq!(rt; done.colours.len(), 6);
-    assert_eq!(rt; done.broken.as_slice().len(), 0);
-    let done = coloured(rt.alloc(), &net, &[true, true, false, false])?;
-    assert_eq!(rt; done.broken.as_slice(), [0, 1].as_slice());
-    Ok(())
-}
-
-/// A triangle of bonds, with a node inside and one outside, each joined to two of its corners by a
-/// clash and a stitch, of which one is to be broken.
-#[test]
-fn bonds_between_parts(rt: HostRuntime) -> Result<(), Fail> {
-    let links = [
-        (Edge::bond(0, 1), Port::on_side(3, 0), Port::on_side(7, 2)),
-        (Edge::bond(0, 2), Port::on_side(3, 2), Port::on_side(1, 0)),
-        (Edge::bond(1, 2), Port::on_side(7, 0), Port::on_side(1, 1)),
-        (
-            Edge::clash(0, 3, 6),
-            Port::on_side(3, 1),
-            Port::on_side(7, 0),
-        ),
-        (
-            Edge::stitch(1, 3, 1),
-            Port::on_side(7, 1),
-            Port::on_side(3, 0),
-        ),
-        (
-            Edge::clash(0, 4, 3),
-            Port::on_side(3, -1),
-            Port::on_side(7, 0),
-        ),
-        (
-            Edge::stitch(1, 4, 2),
-            Port::on_side(7, 3),
-            Port::on_side(3, 0),
-        ),
-    ];
-    let net = drawing(rt.alloc(), 5, &links)?;
-    let joined = [false, false, false, false, true, true, false];
-    let done = coloured(rt.alloc(), &net, &joined)?;
-    assert_eq!(rt; done.broken.as_slice(), [4, 5].as_slice());
+    let done = coloured(rt.alloc(), &net, &[false, true, false])?;
+    assert_eq!(rt; done.broken.as_slice(), [1].as_slice());
     assert_eq!(rt; colour_at(&done.colours, 0), colour_at(&done.colours, 1));
-    assert_eq!(rt; colour_at(&done.colours, 0), colour_at(&done.colours, 2));
+    let done = coloured(rt.alloc(), &net, &[false, false, true])?;
+    assert_eq!(rt; done.broken.as_slice(), [2].as_slice());
+    assert_eq!(rt; colour_at(&done.colours, 0), colour_at(&done.colours, 1));
     Ok(())
 }
 
-/// A square with both diagonals. The second is set aside, and is broken or not as it comes.
+/// Three clashes of the same two nodes, in the same order around both. The third is set aside, and is broken or not
+/// as it comes.
 #[test]
-fn square_with_both_diagonals(rt: HostRuntime) -> Result<(), Fail> {
+fn a_clash_set_aside(rt: HostRuntime) -> Result<(), Fail> {
+    let clash = Edge::clash(0, 1, 1);
     let links = [
-        (
-            Edge::clash(0, 1, 1),
-            Port::on_side(3, 0),
-            Port::on_side(7, 1),
-        ),
-        (
-            Edge::clash(1, 2, 1),
-            Port::on_side(5, 0),
-            Port::on_side(1, 1),
-        ),
-        (
-            Edge::clash(2, 3, 1),
-            Port::on_side(7, 0),
-            Port::on_side(3, 1),
-        ),
-        (
-            Edge::clash(0, 3, 1),
-            Port::on_side(5, 0),
-            Port::on_side(1, 0),
-        ),
-        (
-            Edge::clash(0, 2, 3),
-            Port::on_side(3, 1),
-            Port::on_side(1, 0),
-        ),
-        (
-            Edge::clash(1, 3, 3),
-            Port::on_side(7, 0),
-            Port::on_side(3, 0),
-        ),
+        (clash, Port::on_side(1, 0), Port::on_side(1, 0)),
+        (clash, Port::on_side(3, 0), Port::on_side(3, 0)),
+        (clash, Port::on_side(5, 0), Port::on_side(5, 0)),
     ];
-    let net = drawing(rt.alloc(), 4, &links)?;
-    let around = [true, false, true, false, false, false];
-    let done = coloured(rt.alloc(), &net, &around)?;
-    assert_eq!(rt; done.broken.as_slice(), [0, 2].as_slice());
-    let across = [false, false, false, false, true, false];
-    let done = coloured(rt.alloc(), &net, &across)?;
-    assert_eq!(rt; done.broken.as_slice(), [4, 5].as_slice());
+    let net = drawing(rt.alloc(), 2, &links)?;
+    let done = coloured(rt.alloc(), &net, &[false; 3])?;
+    assert!(rt; done.broken.as_slice().is_empty());
+    let done = coloured(rt.alloc(), &net, &[true, true, false])?;
+    assert_eq!(rt; done.broken.as_slice(), [0, 1, 2].as_slice());
     Ok(())
 }
