@@ -24,14 +24,23 @@ any_split P xs ys (k, x, l, e, p) = let n = length-append xs ys in elim (cases_l
   | inr h ↦ inr (k - length xs, x, omega arith, sym (get_or-append_right xs ys (length xs) k x refl h) ∙ e, p)
 ]
 
-all_left : {X : Type 0} (P : X → Type 0) (xs ys : List X) → All P (xs ++ ys) → All P xs
+pub all_left : {X : Type 0} (P : X → Type 0) (xs ys : List X) → All P (xs ++ ys) → All P xs
 all_left P xs ys a k d l = let n = length-append xs ys in rw (get_or_append_left xs ys d k l) at (a k d (omega arith))
 
-all_right : {X : Type 0} (P : X → Type 0) (xs ys : List X) → All P (xs ++ ys) → All P ys
+pub all_right : {X : Type 0} (P : X → Type 0) (xs ys : List X) → All P (xs ++ ys) → All P ys
 all_right P xs ys a k d l =
     let n = length-append xs ys in
     let e : length xs + k - length xs ≡ k = omega arith in
     rw (get_or-append_right xs ys (length xs) (length xs + k) d refl (omega arith), e) at (a (length xs + k) d (omega arith))
+
+pub part_ordered : (xs ys : List Rect) → AllPairs IsLeftOf (xs ++ ys) → AllPairs IsLeftOf xs × AllPairs IsLeftOf ys
+part_ordered xs ys up = (
+  (λ i j d h l. let n = length-append xs ys in rw (get_or_append_left xs ys d i (omega arith), get_or_append_left xs ys d j l) at (up i j d h (omega arith))),
+  (λ i j d h l. let n = length-append xs ys in
+      let e : length xs + i - length xs ≡ i = omega arith in
+      let f : length xs + j - length xs ≡ j = omega arith in
+      rw (get_or-append_right xs ys (length xs) (length xs + i) d refl (omega arith), e, get_or-append_right xs ys (length xs) (length xs + j) d refl (omega arith), f) at (up (length xs + i) (length xs + j) d (omega arith) (omega arith))),
+)
 
 itself : (r : Rect) → IsSameStack r r
 itself r = record { columns = record { left = refl; right = refl }; bottom = refl }
@@ -161,15 +170,6 @@ module _ (cells : ℤ → ℤ → Bool) (z d1 d2 : ℤ) (before near behind runs
 
   before_behind : (a b : Rect) → a.x2 <ℤ d1 → d2 <ℤ b.x1 → IsLeftOf a b
   before_behind a b h g = let e = s.some in omega signed
-
-  part_ordered : (xs ys : List Rect) → AllPairs IsLeftOf (xs ++ ys) → AllPairs IsLeftOf xs × AllPairs IsLeftOf ys
-  part_ordered xs ys up = (
-    (λ i j d h l. let n = length-append xs ys in rw (get_or_append_left xs ys d i (omega arith), get_or_append_left xs ys d j l) at (up i j d h (omega arith))),
-    (λ i j d h l. let n = length-append xs ys in
-        let e : length xs + i - length xs ≡ i = omega arith in
-        let f : length xs + j - length xs ≡ j = omega arith in
-        rw (get_or-append_right xs ys (length xs) (length xs + i) d refl (omega arith), e, get_or-append_right xs ys (length xs) (length xs + j) d refl (omega arith), f) at (up (length xs + i) (length xs + j) d (omega arith) (omega arith))),
-  )
 
   ordered : AllPairs IsLeftOf (before ++ (stacks ++ behind))
   ordered =

@@ -87,7 +87,7 @@ is_at_most a b e = grind (arith, ints)
 pub not_at_most : (a b : ℤ) → int_le a b ≡ false → b <ℤ a
 not_at_most a b e = grind (arith, ints)
 
-at_most_test : (a b : ℤ) → a ≤ℤ b → int_le a b ≡ true
+pub at_most_test : (a b : ℤ) → a ≤ℤ b → int_le a b ≡ true
 at_most_test a b h = grind (arith, ints)
 
 pub parted_left : (held : List Rect) (c : ℤ) → AllPairs IsLeftOf held → IsPartitionedBy (λ r. int_lt r.x2 c) held
@@ -97,14 +97,6 @@ parted_left held c up i j d le l e = elim (cases_lt i j) [
 ] where
   step : (a b : Rect) → IsLeftOf a b → int_lt b.x2 c ≡ true → int_lt a.x2 c ≡ true
   step a b h e = let w = b.wide in let g = is_less b.x2 c e in less_test a.x2 c (omega signed)
-
-pub parted_right : (held : List Rect) (c : ℤ) → AllPairs IsLeftOf held → IsPartitionedBy (λ r. int_le r.x1 c) held
-parted_right held c up i j d le l e = elim (cases_lt i j) [
-  | inl h ↦ step (get_or held i d) (get_or held j d) (up i j d h l) e
-  | inr h ↦ let f : i ≡ j = omega arith in rw f e
-] where
-  step : (a b : Rect) → IsLeftOf a b → int_le b.x1 c ≡ true → int_le a.x1 c ≡ true
-  step a b h e = let w = a.wide in let g = is_at_most b.x1 c e in at_most_test a.x1 c (omega signed)
 
 pub at_most_on : (a b c : ℤ) → a ≤ℤ b → b ≤ℤ c → a ≤ℤ c
 at_most_on a b c h k = omega signed

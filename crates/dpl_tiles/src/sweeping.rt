@@ -1,5 +1,5 @@
 // A sweep that touches only the stacks near the columns that change.
-ghost use Rattle.std.specs.Prelude.{◌≡◌, ◌⊎◌, true, false, ℕ, ℤ, ◌-ℤ◌, ◌<ℤ◌, ◌≤ℤ◌, ◌<◌, ◌≤◌, ◌++◌, neg_ℤ, pos, length, slice_index_or, All, AllPairs, IfOk, OnOk, IsTrue, map, filter, take, drop, []};
+ghost use Rattle.std.specs.Prelude.{◌≡◌, ◌⊎◌, true, false, ℕ, ℤ, ◌-ℤ◌, ◌<ℤ◌, ◌≤ℤ◌, ◌<◌, ◌≤◌, ◌++◌, neg_ℤ, pos, length, slice_index_or, All, AllPairs, IfOk, OnOk, IsTrue, map, filter, take, drop, reverse, []};
 ghost use Rattle.std.specs.List.{AllZip};
 ghost use Rattle.dpl_limits.specs.Limits.{most_coordinate};
 ghost use Rattle.dpl_cell.specs.declared.rect.Rect.{Rect};
@@ -16,18 +16,20 @@ ghost use Rattle.dpl_tiles.specs.Sweeps.{AreSwept};
 ghost use Rattle.dpl_tiles.specs.Windows.{AddsClosed, AreNearRuns, IsClosed, IsContinued, IsFar, IsParted, is_near};
 
 use crate::corners::{Corner, change_at};
-use crate::reaches::{Columns, Places, Reach, greater, lesser};
+use crate::reaches::{Columns, Reach, greater, lesser};
 use crate::rows::{merged, push_prim, sort};
 use crate::stacking::find;
 use crate::stretch::Stretch;
 use dpl_cell::{Prim, Rect};
 use std::alloc::{AllocError, Global};
 
-/// Goes on by one band: closes the stacks that end at row `low`, and begins those that are new there.
+/// Goes on by one band: closes the stacks that end at row `low`, and begins those that are new there. The stacks stand in
+/// two lists, which meet where columns changed last: from the left up to there, and from the right.
 pub fn step(
     alloc: Global,
     ended: &mut Vec<Rect>,
-    held: &mut Vec<Rect>,
+    left: &mut Vec<Rect>,
+    right: &mut Vec<Rect>,
     prims: &[Prim],
     reaches: &[Reach],
     corners: &[Corner],
@@ -40,67 +42,67 @@ pub fn step(
     requires below { neg_ℤ (pos most_coordinate) ≤ℤ low }
     requires above { high ≤ℤ pos most_coordinate }
     requires swept { AreSwept (is_cell (map outline_of prims.now)) low ended.old.items
-        held.old.items }
+        (left.old.items ++ reverse right.old.items) }
     requires alike { (x y : ℤ) → IsWithin low high y →
         is_cell (map outline_of prims.now) x low ≡ is_cell (map outline_of prims.now) x y }
     ensures { OnOk result (AreSwept (is_cell (map outline_of prims.now)) high ended.new.items
-        held.new.items) }
-{
-    *held = stepped(
-        alloc,
-        ended,
-        held.as_slice(),
-        prims,
-        reaches,
-        corners,
-        low,
-        high,
-    )?;
-    Ok(())
-}
-
-/// The stacks that reach row `high`; those that end at row `low` are closed.
-fn stepped(
-    alloc: Global,
-    ended: &mut Vec<Rect>,
-    held: &[Rect],
-    prims: &[Prim],
-    reaches: &[Reach],
-    corners: &[Corner],
-    low: i64,
-    high: i64,
-) -> Result<Vec<Rect>, AllocError>
-    requires reached { IsReached prims.now reaches.now }
-    requires cornered { AreCorners prims.now corners.now }
-    requires high { low <ℤ high }
-    requires below { neg_ℤ (pos most_coordinate) ≤ℤ low }
-    requires above { high ≤ℤ pos most_coordinate }
-    requires swept { AreSwept (is_cell (map outline_of prims.now)) low ended.old.items held.now }
-    requires alike { (x y : ℤ) → IsWithin low high y →
-        is_cell (map outline_of prims.now) x low ≡ is_cell (map outline_of prims.now) x y }
-    ensures { IfOk result (λ v.
-        AreSwept (is_cell (map outline_of prims.now)) high ended.new.items v.items) }
+        (left.new.items ++ reverse right.new.items)) }
 {
     let change = change_at(corners, low);
-    let places = places_of(held, &change);
-    let near = &held[places.from..places.to];
+    let parted = part(alloc, left, right, &change)?;
+    let near = parted.as_slice();
     let window = window_of(near, &change);
     let runs = near_runs(alloc, prims, reaches, &change, &window, low, high)?;
     push_closed(ended, near, runs.as_slice(), low)?;
     let stacks = all_continued(alloc, near, runs.as_slice())?;
-    let next = put_between(alloc, held, &places, stacks.as_slice())?;
-    Ok(next)
+    left.extend_from_slice(stacks.as_slice())?;
+    Ok(())
 }
 
-/// The places of the stacks near the columns that change.
-fn places_of(held: &[Rect], change: &Columns) -> Places
-    requires ordered { AllPairs IsLeftOf held.now }
+/// Takes out the stacks near the columns that change; those left of them stand in one list, those right of them in the
+/// other.
+fn part(
+    alloc: Global,
+    left: &mut Vec<Rect>,
+    right: &mut Vec<Rect>,
+    change: &Columns,
+) -> Result<Vec<Rect>, AllocError>
+    requires ordered { AllPairs IsLeftOf (left.old.items ++ reverse right.old.items) }
     requires some { change.now.left ≤ℤ change.now.right }
-    ensures { IsParted held.now change.now.left change.now.right result.from result.to }
+    ensures { IfOk result (λ near. IsParted (left.old.items ++ reverse right.old.items)
+        change.now.left change.now.right left.new.items near.items right.new.items) }
 {
-    let from = first_not_left(held, change.left);
-    let to = first_right(held, change.right);
-    Places { from, to }
+    let mut near = Vec::new(alloc);
+    let from = first_not_left(left.as_slice(), change.left);
+    move_back(left, right, from)?;
+    let count = first_left(right.as_slice(), change.left);
+    move_back(right, left, count)?;
+    let count = first_not_right(right.as_slice(), change.right);
+    move_back(right, &mut near, count)?;
+    Ok(near)
+}
+
+/// Moves the stacks from a place on to the end of another list, the last first.
+pub fn move_back(from: &mut Vec<Rect>, to: &mut Vec<Rect>, count: usize) -> Result<(), AllocError>
+    requires within { count ≤ length from.old.items }
+    ensures from { OnOk result (from.new.items ≡ take count from.old.items) }
+    ensures to { OnOk result (to.new.items ≡ to.old.items ++ reverse (drop count from.old.items)) }
+{
+    push_back(to, &from[count..])?;
+    from.truncate(count);
+    Ok(())
+}
+
+/// Adds stacks, the last first.
+fn push_back(to: &mut Vec<Rect>, stacks: &[Rect]) -> Result<(), AllocError>
+    ensures { OnOk result (to.new.items ≡ to.old.items ++ reverse stacks.now) }
+{
+    let mut k = stacks.len();
+    'back: while k > 0 {
+        k -= 1;
+        to.push(stacks[k])?;
+    }
+    Ok(())
 }
 
 /// The stacks of all runs.
@@ -116,25 +118,6 @@ fn all_continued(alloc: Global, near: &[Rect], runs: &[Rect]) -> Result<Vec<Rect
     Ok(stacks)
 }
 
-/// The list with the rectangles of some places replaced.
-fn put_between(
-    alloc: Global,
-    held: &[Rect],
-    places: &Places,
-    stacks: &[Rect],
-) -> Result<Vec<Rect>, AllocError>
-    requires from { places.now.from ≤ length held.now }
-    requires to { places.now.to ≤ length held.now }
-    ensures { IfOk result (λ v. v.items ≡ take places.now.from held.now
-        ++ (stacks.now ++ drop places.now.to held.now)) }
-{
-    let mut next = Vec::new(alloc);
-    next.extend_from_slice(&held[..places.from])?;
-    next.extend_from_slice(stacks)?;
-    next.extend_from_slice(&held[places.to..])?;
-    Ok(next)
-}
-
 /// The place of the first stack that does not end left of a column.
 fn first_not_left(held: &[Rect], column: i64) -> usize
     requires { AllPairs IsLeftOf held.now }
@@ -146,15 +129,28 @@ fn first_not_left(held: &[Rect], column: i64) -> usize
     held.partition_point(|r| r.x2 < column)
 }
 
-/// The place of the first stack that begins right of a column.
-fn first_right(held: &[Rect], column: i64) -> usize
-    requires { AllPairs IsLeftOf held.now }
-    ensures within { result ≤ length held.now }
-    ensures others { (k : ℕ) (d : Rect) → k < result → (slice_index_or held.now k d).x1 ≤ℤ column }
-    ensures right { (k : ℕ) (d : Rect) → result ≤ k → k < length held.now →
-        column <ℤ (slice_index_or held.now k d).x1 }
+/// How many stacks, from the right, do not end left of a column.
+fn first_left(stacks: &[Rect], column: i64) -> usize
+    requires { AllPairs IsLeftOf (reverse stacks.now) }
+    ensures within { result ≤ length stacks.now }
+    ensures others { (k : ℕ) (d : Rect) → k < result →
+        column ≤ℤ (slice_index_or stacks.now k d).x2 }
+    ensures left { (k : ℕ) (d : Rect) → result ≤ k → k < length stacks.now →
+        (slice_index_or stacks.now k d).x2 <ℤ column }
 {
-    held.partition_point(|r| r.x1 <= column)
+    stacks.partition_point(|r| column <= r.x2)
+}
+
+/// How many stacks, from the right, begin right of a column.
+fn first_not_right(stacks: &[Rect], column: i64) -> usize
+    requires { AllPairs IsLeftOf (reverse stacks.now) }
+    ensures within { result ≤ length stacks.now }
+    ensures right { (k : ℕ) (d : Rect) → k < result →
+        column <ℤ (slice_index_or stacks.now k d).x1 }
+    ensures others { (k : ℕ) (d : Rect) → result ≤ k → k < length stacks.now →
+        (slice_index_or stacks.now k d).x1 ≤ℤ column }
+{
+    stacks.partition_point(|r| column < r.x1)
 }
 
 /// Columns that hold those that change and those of the stacks near them.

@@ -17,7 +17,7 @@ use crate::corners::{Corner, corners_of};
 use crate::error::TileError;
 use crate::ordinates::ordinates;
 use crate::reaches::{Reach, reaches_of};
-use crate::sweeping::{close_all, step};
+use crate::sweeping::{close_all, move_back, step};
 use dpl_cell::{Layout, Prim, Rect};
 use dpl_limits::MOST_TILES;
 use std::alloc::Global;
@@ -68,13 +68,15 @@ fn unsorted(
         HasMoreTiles (is_cell (map outline_of prims.now)) MOST_TILES }
 {
     let mut ended = Vec::new(alloc);
-    let mut held = Vec::new(alloc);
+    let mut left = Vec::new(alloc);
+    let mut right = Vec::new(alloc);
     for k in 1..rows.len() {
         if rows[k - 1] < rows[k] {
             step(
                 alloc,
                 &mut ended,
-                &mut held,
+                &mut left,
+                &mut right,
                 prims,
                 reaches,
                 corners,
@@ -87,7 +89,8 @@ fn unsorted(
         }
     }
     let top = top_of(rows);
-    close_all(&mut ended, held.as_slice(), top)?;
+    move_back(&mut right, &mut left, 0)?;
+    close_all(&mut ended, left.as_slice(), top)?;
     if ended.len() > MOST_TILES {
         return Err(TileError::TooMany);
     }

@@ -1,4 +1,4 @@
-use Rattle.std.proofs.Common.{rules, arith, ◌-◌, ◌∙◌, [], get_or, pos, SFits, w64}
+use Rattle.std.proofs.Common.{rules, arith, ◌-◌, ◌∙◌, ◌++◌, reverse, refl, [], get_or, pos, SFits, w64}
 use Rattle.std.proofs.lemmas.Int.{ints, to_z-of_z}
 use Rattle.dpl_tiles.specs.Stacks.{ending}
 use Rattle.dpl_tiles.specs.Windows.{AddsClosed}
@@ -9,7 +9,7 @@ use Rattle.dpl_tiles.proofs.tiling.unsorted.Goals as goal
 use Rattle.dpl_tiles.proofs.tiling.unsorted.Goals.{then-rows-k+in_ok-step+else-len-gt-MOST_TILES, else-rows-k}
 
 pub loop-k-init : goal.loop-k-init
-loop-k-init c = swept_first _ _ _ _ c.new-ended.ensures.items c.new-held.ensures.items c.requires.sorted c.requires.all
+loop-k-init c = swept_first _ _ _ _ c.new-ended.ensures.items (rw (c.new-left.ensures.items, c.new-right.ensures.items) refl) c.requires.sorted c.requires.all
 
 pub step-requires-clause-swept : goal.step-requires-clause-swept
 step-requires-clause-swept c =
@@ -30,21 +30,21 @@ loop-k-preserved c =
     let f : SFits w64 (get_or c.args.rows.now (c.loop-k.k - 1) (pos 0)) = search rules in
     let g : SFits w64 (get_or c.args.rows.now c.loop-k.k (pos 0)) = search rules in
     elim c.if-rows-k.branch [
-      | then-rows-k+in_ok-step+else-len-gt-MOST_TILES w ↦ rw (w.ended-is, w.held-is) (swept_next _ _ c.loop-k.k _ _ (simp to_z-of_z at w.in_ok-step.ensures))
-      | else-rows-k w ↦ rw (w.ended-is, w.held-is) (swept_still _ _ c.loop-k.k _ _ c.requires.sorted (omega arith) c.loop-k-test.true (let h = w.if-rows-k.false in grind (arith, ints)) c.loop-k.invariant)
+      | then-rows-k+in_ok-step+else-len-gt-MOST_TILES w ↦ rw (w.ended-is, w.left-is, w.right-is) (swept_next _ _ c.loop-k.k _ _ (simp to_z-of_z at w.in_ok-step.ensures))
+      | else-rows-k w ↦ rw (w.ended-is, w.left-is, w.right-is) (swept_still _ _ c.loop-k.k _ _ c.requires.sorted (omega arith) c.loop-k-test.true (let h = w.if-rows-k.false in grind (arith, ints)) c.loop-k.invariant)
     ]
 
 pub close_all-requires-clause-below : goal.close_all-requires-clause-below
 close_all-requires-clause-below c =
     let f : SFits w64 c.top_of-top.result = search rules in
     let e = c.top_of-top.ensures.value ∙ last_row_is c.args.rows.now c.loop-k.k c.loop-k-test.false c.loop-k.auto.k-end in
-    simp to_z-of_z (rw (c.as_slice.ensures.value, e) (λ k d l. (c.loop-k.invariant.going.each k d l).start))
+    simp to_z-of_z (rw (c.as_slice.ensures.value, c.in_ok-move_back.ensures.to, e) (λ k d l. (c.loop-k.invariant.going.each k d l).start))
 
 pub returns-then-len-gt-MOST_TILES-2-clause-many : goal.returns-then-len-gt-MOST_TILES-2-clause-many
 returns-then-len-gt-MOST_TILES-2-clause-many c = λ t.
     let f : SFits w64 c.top_of-top.result = search rules in
     let e = c.top_of-top.ensures.value ∙ last_row_is c.args.rows.now c.loop-k.k c.loop-k-test.false c.loop-k.auto.k-end in
-    let a : AddsClosed (get_or c.args.rows.now (c.loop-k.k - 1) (pos 0)) (ending [] c.loop-k.held.items) c.loop-k.ended.items c.close_all.new.ended.items = rw (← c.as_slice.ensures.value, ← e) (simp to_z-of_z at c.in_ok-close_all.ensures) in
+    let a : AddsClosed (get_or c.args.rows.now (c.loop-k.k - 1) (pos 0)) (ending [] (c.loop-k.left.items ++ reverse c.loop-k.right.items)) c.loop-k.ended.items c.close_all.new.ended.items = rw (← e) (rw (c.as_slice.ensures.value, c.in_ok-move_back.ensures.to) at (simp to_z-of_z at c.in_ok-close_all.ensures)) in
     let done = swept_last _ _ _ _ _ (rows_top c.args.prims.now c.args.rows.now c.loop-k.k c.requires.sorted c.requires.all c.loop-k-test.false c.loop-k.auto.k-end) c.loop-k.invariant a in
     more_tiles _ _ _ 100000 done.done (search rules)
 
@@ -52,5 +52,5 @@ pub returns-clause-tiles : goal.returns-clause-tiles
 returns-clause-tiles c =
     let f : SFits w64 c.top_of-top.result = search rules in
     let e = c.top_of-top.ensures.value ∙ last_row_is c.args.rows.now c.loop-k.k c.loop-k-test.false c.loop-k.auto.k-end in
-    let a : AddsClosed (get_or c.args.rows.now (c.loop-k.k - 1) (pos 0)) (ending [] c.loop-k.held.items) c.loop-k.ended.items c.close_all.new.ended.items = rw (← c.as_slice.ensures.value, ← e) (simp to_z-of_z at c.in_ok-close_all.ensures) in
+    let a : AddsClosed (get_or c.args.rows.now (c.loop-k.k - 1) (pos 0)) (ending [] (c.loop-k.left.items ++ reverse c.loop-k.right.items)) c.loop-k.ended.items c.close_all.new.ended.items = rw (← e) (rw (c.as_slice.ensures.value, c.in_ok-move_back.ensures.to) at (simp to_z-of_z at c.in_ok-close_all.ensures)) in
     all_swept _ _ _ _ _ (rows_top c.args.prims.now c.args.rows.now c.loop-k.k c.requires.sorted c.requires.all c.loop-k-test.false c.loop-k.auto.k-end) c.loop-k.invariant a

@@ -1,8 +1,8 @@
-use Rattle.std.proofs.Common.{◌-◌, get_or, pos, map}
+use Rattle.std.proofs.Common.{◌-◌, ◌++◌, reverse, get_or, pos, map}
 use Rattle.dpl_cell.specs.Outlines.{outline_of}
 use Rattle.dpl_cell.specs.Layers.{is_cell}
 use Rattle.dpl_tiles.specs.Sweeps.{AreSwept}
 use Rattle.dpl_tiles.proofs.tiling.unsorted.Given as goal
 
 abbrev pub invariant-loop-k : goal.invariant-loop-k
-invariant-loop-k l = AreSwept (is_cell (map outline_of l.prims)) (get_or l.rows (l.k - 1) (pos 0)) l.ended.items l.held.items
+invariant-loop-k l = AreSwept (is_cell (map outline_of l.prims)) (get_or l.rows (l.k - 1) (pos 0)) l.ended.items (l.left.items ++ reverse l.right.items)
