@@ -16,5 +16,7 @@ others_count p (suc n) = elim (p n) [ true ↦ others_count p n | false ↦ suc 
 abbrev pub cycles_among : (ℕ → ℕ) → List ℕ → ℕ
 cycles_among f [] = 0
 cycles_among f (d ∷ ds) =
-    elim (f d == d) [ true ↦ suc (cycles_among (without d f) ds)
-    | false ↦ cycles_among (without d f) ds ]
+    elim (f d == d) [
+      | true ↦ suc (cycles_among (without d f) ds)
+      | false ↦ cycles_among (without d f) ds
+    ]

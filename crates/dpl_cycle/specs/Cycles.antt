@@ -16,14 +16,21 @@ without d f x = elim (f x == d) [ true ↦ f d | false ↦ f x ]
 -- The number of cycles. The greatest number is taken out first: where it leads to itself it is a cycle of its own.
 abbrev pub cycles : (ℕ → ℕ) → ℕ → ℕ
 cycles f zero = 0
-cycles f (suc n) = elim (f n == n) [ true ↦ suc (cycles (without n f) n)
-    | false ↦ cycles (without n f) n ]
+cycles f (suc n) = elim (f n == n) [
+  | true ↦ suc (cycles (without n f) n)
+  | false ↦ cycles (without n f) n
+]
 
 -- The least number of the cycle of x. Two numbers are on one cycle where these are the same.
 abbrev pub least : (ℕ → ℕ) → ℕ → ℕ → ℕ
 least f zero x = x
-least f (suc n) x = elim (x == n) [ true ↦ elim (f n == n) [ true ↦ n
-    | false ↦ least (without n f) n (f n) ] | false ↦ least (without n f) n x ]
+least f (suc n) x = elim (x == n) [
+  | true ↦ elim (f n == n) [
+    | true ↦ n
+    | false ↦ least (without n f) n (f n)
+  ]
+  | false ↦ least (without n f) n x
+]
 
 -- the same permutation but for the numbers that i and j lead to, which are exchanged
 abbrev pub exchange : (ℕ → ℕ) → ℕ → ℕ → ℕ → ℕ

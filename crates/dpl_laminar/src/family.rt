@@ -162,8 +162,10 @@ impl Family {
             ≡ pos ((sets_of self.old).value set) +ℤ by }
         ensures others { (i : ℕ) → i ≢ set →
             (sets_of self.new).value i ≡ (sets_of self.old).value i }
-        ensures rest { sets_of self.new ≡ record (sets_of self.old) { value =
-            (sets_of self.new).value } }
+        ensures rest { sets_of self.new ≡ record (sets_of self.old) {
+          value =
+              (sets_of self.new).value;
+        } }
         ensures family { IsFamily (sets_of self.new) }
         ensures steps { steps.new ≡ steps.old + 1 }
     {

@@ -32,8 +32,14 @@ params_miss p o =
 
 -- the values that the options ask for
 abbrev pub params_of_options : Options → Params
-params_of_options o = record { layer = o.layer; space = o.space; overlap = o.overlap; stitch =
-    o.weights.stitch; conflict = o.weights.conflict }
+params_of_options o = record {
+  layer = o.layer;
+  space = o.space;
+  overlap = o.overlap;
+  stitch =
+      o.weights.stitch;
+  conflict = o.weights.conflict;
+}
 
 -- ---- 3: lines 7 to 12 are the counts of the layout
 
@@ -90,8 +96,12 @@ where_broken holds b bs = if holds then b ∷ bs else bs
 abbrev pub clashes_from : List Bool → ℕ → List Edge → List Broken
 clashes_from colours e [] = []
 clashes_from colours e (edge ∷ edges) =
-    where_broken (is_broken_clash colours edge) (record { edge = e; a = edge.a; b =
-      edge.b }) (clashes_from colours (e + 1) edges)
+    where_broken (is_broken_clash colours edge) (record {
+      edge = e;
+      a = edge.a;
+      b =
+          edge.b;
+    }) (clashes_from colours (e + 1) edges)
 
 abbrev pub is_stitch : Edge → Bool
 is_stitch edge = not (is_bond edge.kind || is_clash edge.kind)
@@ -111,8 +121,11 @@ cuts_after edge (cut ∷ cuts) = if is_stitch edge then cuts else cut ∷ cuts
 abbrev pub zone_here : List Bool → ℕ → Edge → List Cut → List PlainZone → List PlainZone
 zone_here colours e edge [] others = others
 zone_here colours e edge (cut ∷ cuts) others =
-    where_zone (is_broken_stitch colours edge) (record { at =
-      record { edge = e; a = edge.a; b = edge.b }; corners = corners_of cut.zone }) others
+    where_zone (is_broken_stitch colours edge) (record {
+      at =
+          record { edge = e; a = edge.a; b = edge.b };
+      corners = corners_of cut.zone;
+    }) others
 
 -- The broken stitches with their ends and zones. The stitches stand in the order of the cuts.
 abbrev pub cuts_from : List Bool → ℕ → List Edge → List Cut → List PlainZone
@@ -176,9 +189,11 @@ parity_after kind odd = not (agree (is_clash kind) odd)
 abbrev pub walk_miss : Signed → ℕ → ℕ → List ℕ → ℕ → ℕ → Bool → Option Miss
 walk_miss g cycle start [] place v odd = end_miss cycle start place v odd
 walk_miss g cycle start (e ∷ es) place v odd =
-    elim (leaves g e v) [ true ↦ walk_miss g cycle start es (place
-    + 1) (across (edge_at g e) v) (parity_after (edge_at g e).kind odd)
-    | false ↦ Some (miss cycle (pos place) (pos 0)) ]
+    elim (leaves g e v) [
+      | true ↦ walk_miss g cycle start es (place
+          + 1) (across (edge_at g e) v) (parity_after (edge_at g e).kind odd)
+      | false ↦ Some (miss cycle (pos place) (pos 0))
+    ]
 
 abbrev pub walks_miss : Signed → ℕ → List Cycle → Option Miss
 walks_miss g cycle [] = None

@@ -40,19 +40,41 @@ pub record PlainReport : Type 0 where
   pub on_b : List Corners
 
 abbrev pub plain_head : Head → PlainHead
-plain_head h = record { params = h.params; counts = h.counts; cost = h.cost; bound =
-    h.bound; colours = h.colours }
+plain_head h = record {
+  params = h.params;
+  counts = h.counts;
+  cost = h.cost;
+  bound =
+      h.bound;
+  colours = h.colours;
+}
 
 abbrev pub plain_lists : Lists → PlainLists
-plain_lists l = record { cuts = map plain_zone l.cuts; clashes = l.clashes; aside =
-    l.aside; cycles = l.cycles }
+plain_lists l = record {
+  cuts = map plain_zone l.cuts;
+  clashes = l.clashes;
+  aside =
+      l.aside;
+  cycles = l.cycles;
+}
 
 abbrev pub plain_report : Report → PlainReport
 plain_report r = record {
-  head = record { params = r.params; counts = r.counts; cost = r.cost; bound = r.bound; colours =
-    r.colours };
-  lists = record { cuts = map plain_zone r.cuts; clashes = r.clashes; aside = r.aside; cycles =
-    r.cycles };
+  head = record {
+    params = r.params;
+    counts = r.counts;
+    cost = r.cost;
+    bound = r.bound;
+    colours =
+        r.colours;
+  };
+  lists = record {
+    cuts = map plain_zone r.cuts;
+    clashes = r.clashes;
+    aside = r.aside;
+    cycles =
+        r.cycles;
+  };
   on_a = map corners_of r.on_a;
   on_b = map corners_of r.on_b;
 }

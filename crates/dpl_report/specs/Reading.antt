@@ -120,8 +120,13 @@ abbrev pub high_corner : ℤ → ℤ → ℤ
 high_corner middle length = int_div ((middle *ℤ pos 2) +ℤ length) (pos 4)
 
 abbrev pub box_by : ℤ → ℤ → ℤ → ℤ → Option Corners
-box_by l w x y = rectangle_of (record { x1 = low_corner x l; y1 = low_corner y w; x2 =
-    high_corner x l; y2 = high_corner y w })
+box_by l w x y = rectangle_of (record {
+  x1 = low_corner x l;
+  y1 = low_corner y w;
+  x2 =
+      high_corner x l;
+  y2 = high_corner y w;
+})
 
 abbrev pub box_from : List ℤ → Option Corners
 box_from (l ∷ w ∷ x ∷ y ∷ []) = box_by l w x y
@@ -172,8 +177,14 @@ abbrev pub then_ : {X Y : Type 0} → Reader X → Reader Y → Reader (X × Y)
 then_ f g = both f (λ _. g)
 
 abbrev pub params_of : Unit {0} × (List ℕ × (ℕ × (ℕ × (ℕ × ℕ)))) → Params
-params_of v = record { layer = v.1.0; space = v.1.1.0; overlap = v.1.1.1.0; stitch =
-    v.1.1.1.1.0; conflict = v.1.1.1.1.1 }
+params_of v = record {
+  layer = v.1.0;
+  space = v.1.1.0;
+  overlap = v.1.1.1.0;
+  stitch =
+      v.1.1.1.1.0;
+  conflict = v.1.1.1.1.1;
+}
 
 unfoldable pub read_params : Reader Params
 read_params = seen params_of (then_ (exactly lines.version_line)
@@ -181,8 +192,15 @@ read_params = seen params_of (then_ (exactly lines.version_line)
     (then_ (count (codes "overlap")) (then_ (count (codes "stitch")) (count (codes "conflict")))))))
 
 abbrev pub counts_of : ℕ × (ℕ × (ℕ × (ℕ × (ℕ × ℕ)))) → Counts
-counts_of v = record { pieces = v.0; fragments = v.1.0; bonds = v.1.1.0; stitches =
-    v.1.1.1.0; clashes = v.1.1.1.1.0; excess = v.1.1.1.1.1 }
+counts_of v = record {
+  pieces = v.0;
+  fragments = v.1.0;
+  bonds = v.1.1.0;
+  stitches =
+      v.1.1.1.0;
+  clashes = v.1.1.1.1.0;
+  excess = v.1.1.1.1.1;
+}
 
 unfoldable pub read_counts : Reader Counts
 read_counts = seen counts_of (then_ (count (codes "pieces"))
@@ -190,8 +208,14 @@ read_counts = seen counts_of (then_ (count (codes "pieces"))
     (then_ (count (codes "stitches")) (then_ (count (codes "clashes")) (count (codes "excess")))))))
 
 abbrev pub head_of : Params × (Counts × (ℕ × (ℕ × List Bool))) → PlainHead
-head_of v = record { params = v.0; counts = v.1.0; cost = v.1.1.0; bound = v.1.1.1.0; colours =
-    v.1.1.1.1 }
+head_of v = record {
+  params = v.0;
+  counts = v.1.0;
+  cost = v.1.1.0;
+  bound = v.1.1.1.0;
+  colours =
+      v.1.1.1.1;
+}
 
 unfoldable pub read_head : Reader PlainHead
 read_head = seen head_of (then_ read_params (both read_counts (λ k.

@@ -16,8 +16,10 @@ use std::alloc::Global;
 
 #[tactic(auto, unfolding(crate::specs::Reading::read_cuts))]
 pub fn cuts(alloc: Global, text: &[u8]) -> Result<(Vec<Zone>, &[u8]), Stop>
-    ensures { Gives (λ x. (map plain_zone x.0.items,
-        lines_in x.1.now)) result (reading.read_cuts (lines_in text.now)) }
+    ensures { Gives (λ x. (
+      map plain_zone x.0.items,
+      lines_in x.1.now,
+    )) result (reading.read_cuts (lines_in text.now)) }
 {
     let mut found = Vec::new(alloc);
     let mut rest = text;
@@ -90,8 +92,10 @@ pub fn cycles(alloc: Global, text: &[u8]) -> Result<(Vec<Cycle>, &[u8]), Stop>
 
 #[tactic(auto, unfolding(crate::specs::Reading::read_boxes))]
 pub fn boxes(alloc: Global, text: &[u8]) -> Result<(Vec<Rect>, &[u8]), Stop>
-    ensures { Gives (λ x. (map corners_of x.0.items,
-        lines_in x.1.now)) result (reading.read_boxes (lines_in text.now)) }
+    ensures { Gives (λ x. (
+      map corners_of x.0.items,
+      lines_in x.1.now,
+    )) result (reading.read_boxes (lines_in text.now)) }
 {
     let mut found = Vec::new(alloc);
     let mut rest = text;

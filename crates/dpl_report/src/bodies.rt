@@ -52,8 +52,10 @@ fn mask<'a>(
     letter: u8,
     text: &'a [u8],
 ) -> Result<(Vec<Rect>, &'a [u8]), Stop>
-    ensures { Gives (λ x. (map corners_of x.0.items,
-        lines_in x.1.now)) result (reading.read_mask name.now letter (lines_in text.now)) }
+    ensures { Gives (λ x. (
+      map corners_of x.0.items,
+      lines_in x.1.now,
+    )) result (reading.read_mask name.now letter (lines_in text.now)) }
 {
     let mut wanted = Vec::new(alloc);
     push_mask(&mut wanted, name, letter)?;
@@ -83,8 +85,10 @@ pub fn drawing_of<'a>(
     name: &[u8],
     text: &'a [u8],
 ) -> Result<(Drawing, &'a [u8]), Stop>
-    ensures { Gives (λ x. ((map corners_of x.0.on_a.items, map corners_of x.0.on_b.items),
-        lines_in x.1.now)) result (reading.read_drawing name.now (lines_in text.now)) }
+    ensures { Gives (λ x. (
+      (map corners_of x.0.on_a.items, map corners_of x.0.on_b.items),
+      lines_in x.1.now,
+    )) result (reading.read_drawing name.now (lines_in text.now)) }
 {
     let rest = exactly(b"DS 1 1 4;\n", text)?;
     let (on_a, rest) = mask(alloc, name, b'A', rest)?;

@@ -69,8 +69,13 @@ pub fn broken_of(numbers: &[i64]) -> Option<Broken>
 
 #[tactic(auto, unfolding(crate::specs::Reading::rectangle_of))]
 fn rectangle_of(x1: i64, y1: i64, x2: i64, y2: i64) -> Option<Rect>
-    ensures { Reads corners_of result (reading.rectangle_of (record { x1 = x1; y1 = y1; x2 =
-        x2; y2 = y2 })) }
+    ensures { Reads corners_of result (reading.rectangle_of (record {
+      x1 = x1;
+      y1 = y1;
+      x2 =
+          x2;
+      y2 = y2;
+    })) }
 {
     Rect::new(x1, y1, x2, y2)
 }

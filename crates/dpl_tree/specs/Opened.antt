@@ -59,8 +59,12 @@ pub record Lists : Type 0 where
   pub links : List (ℕ × ℕ)
 
 abbrev pub lists_of : Tree → Lists
-lists_of tree = record { labels = tree.labels.items; ranks = tree.ranks.items; links =
-    tree.links.items }
+lists_of tree = record {
+  labels = tree.labels.items;
+  ranks = tree.ranks.items;
+  links =
+      tree.links.items;
+}
 
 abbrev pub forest_in : Lists → ℕ → (ℕ → Option ℕ) → Forest
 forest_in l root mate = record {
@@ -77,7 +81,7 @@ abbrev pub step_in : Lists → ℕ → ℕ → ℕ → ℕ × ℕ → Lists
 step_in l cur out next link = record {
   labels = slice_set (slice_set l.labels out Outer) next Inner;
   ranks = slice_set (slice_set l.ranks out (slice_index l.ranks cur
-  + 1)) next (slice_index l.ranks cur + 2);
+      + 1)) next (slice_index l.ranks cur + 2);
   links = slice_set l.links next link;
 }
 
