@@ -54,8 +54,11 @@ leads_to (suc steps) bodies to parts =
 -- The call stands in a definition that it names, or that is reached from the one that it names. As many calls as there are definitions are enough.
 unfoldable pub is_looped : ℕ → Bodies → CallSite → Bool
 is_looped steps bodies s =
-    elim s.definition [ None ↦ false | Some d ↦ s.called == d
-    || leads_to steps bodies d (bodies (Some s.called)) ]
+    elim s.definition [
+      | None ↦ false
+      | Some d ↦ s.called == d
+          || leads_to steps bodies d (bodies (Some s.called))
+    ]
 
 -- the part calls this definition
 abbrev pub names : ℕ → Part → Bool

@@ -26,8 +26,13 @@ pub data Part : Type 0 where
 
 -- a rectangle in its scale
 abbrev pub scaled_extent : Scale → Extent → Extent
-scaled_extent scale e = record { x1 = scaled scale e.x1; y1 = scaled scale e.y1; x2 =
-    scaled scale e.x2; y2 = scaled scale e.y2 }
+scaled_extent scale e = record {
+  x1 = scaled scale e.x1;
+  y1 = scaled scale e.y1;
+  x2 =
+      scaled scale e.x2;
+  y2 = scaled scale e.y2;
+}
 
 -- a point in its scale
 abbrev pub scaled_corner : Scale → Spot → Corner

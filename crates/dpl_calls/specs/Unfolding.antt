@@ -11,8 +11,13 @@ use Rattle.dpl_calls.specs.Parts.Part.{Drawn, Called}
 
 -- the rectangle between two opposite corners
 abbrev pub between : Corner → Corner → Extent
-between a b = record { x1 = int_min a.x b.x; y1 = int_min a.y b.y; x2 = int_max a.x b.x; y2 =
-    int_max a.y b.y }
+between a b = record {
+  x1 = int_min a.x b.x;
+  y1 = int_min a.y b.y;
+  x2 = int_max a.x b.x;
+  y2 =
+      int_max a.y b.y;
+}
 
 -- a figure where its points go
 abbrev pub placed : (Corner → Corner) → Figure → Figure

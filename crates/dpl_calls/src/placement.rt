@@ -31,8 +31,14 @@ pub const UNMOVED: Placement = Placement {
 };
 
 fn make(swap: bool, negate_x: bool, negate_y: bool, x: i128, y: i128) -> Placement
-    ensures { result ≡ record { swap = swap; negate_x = negate_x; negate_y = negate_y; x = x; y =
-        y } }
+    ensures { result ≡ record {
+      swap = swap;
+      negate_x = negate_x;
+      negate_y = negate_y;
+      x = x;
+      y =
+          y;
+    } }
 {
     Placement {
         swap,
