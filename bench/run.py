@@ -1,20 +1,22 @@
 #!/usr/bin/env python3
 """Times the built program on large texts and layouts: bench/run.py [BINARY] [--only WORD] [--seconds N].
 
-First the texts, then layouts at n and at 2n: seconds, megabytes of text a second, peak memory, exit status, and for
-the second of a pair how many times as long it took as the first. A run is stopped after N seconds (120), and its
-status is then `late`. With --only, cases whose names hold WORD. No part of the gate.
+First the texts, then two large reports, then layouts at n and at 2n: seconds of processor time, megabytes of input a
+second, peak memory, exit status, and for the second of a pair how many times as long it took as the first. A run is
+stopped after N seconds (120), and its status is then `late`. With --only, cases whose names hold WORD. No part of the
+gate.
 """
 
 import argparse
 import os
 import random
 import subprocess
+import tempfile
 import threading
-import time
 
 MOST_BYTES = 16_777_216
-WORDS = ["split", "--layer", "M", "--space", "100", "--overlap", "20"]
+MOST_REPORT = 268_435_456
+OPTIONS = ["--layer", "M", "--space", "100", "--overlap", "20"]
 
 
 # ---- texts
@@ -25,9 +27,9 @@ def filled(block, before=b""):
     return before + block * ((MOST_BYTES - 1 - len(before)) // len(block)) + b"E"
 
 
-def nested_definitions(count):
+def nested_definitions(count, first="L M;B 2 2 0 0;"):
     """Definition k + 1 calls definition k, and the top calls the last one."""
-    lines = ["DS 1;L M;B 2 2 0 0;DF;"]
+    lines = ["DS 1;" + first + "DF;"]
     lines += ["DS %d;C %d;DF;" % (k + 1, k) for k in range(1, count)]
     return ("".join(lines) + "C %d;E" % count).encode()
 
@@ -38,32 +40,90 @@ def doubling(count):
     return ("".join(lines) + "C %d;E" % count).encode()
 
 
+def tenfold(count, inner, top):
+    """Definition k + 1 calls definition k ten times, for k below count."""
+    lines = ["DS 1;" + inner + "DF;"]
+    lines += ["DS %d;%sDF;" % (k + 1, "C %d;" % k * 10) for k in range(1, count)]
+    return ("".join(lines) + top + "E").encode()
+
+
+BOX = "L M;B 2 2 0 0;"
+
+
 def texts():
     yield "16 MB of spaces", filled(b" ")
     yield "16 MB of nested comments", filled(b"(a(b(c)d)e);")
+    yield "one comment 1 million deep", b"(" * 1_000_000 + b")" * 1_000_000 + b";E"
     yield "one comment 4 million deep", b"(" * 4_000_000 + b")" * 4_000_000 + b";E"
     yield "16 MB of boxes on another layer", filled(b"B 100 100 50 50;", b"L P;")
     yield "16 MB of user extensions", filled(b"9 a remark;")
     yield "100,000 nested definitions", nested_definitions(100_000)
+    yield "100,000 definitions in a ring, refused", nested_definitions(100_000, "C 100000;")
+    yield "50,000 boxes by 55,555 calls", tenfold(5, BOX, "C 5;" * 5)
+    yield "50,001 boxes by 55,555 calls, refused", tenfold(5, BOX, "C 5;" * 5 + BOX)
+    yield "1,000,000 calls of nothing", tenfold(6, "", "C 6;" * 9 + "C 1;")
+    yield "1,000,001 calls of nothing, refused", tenfold(6, "", "C 6;" * 9 + "C 1;" * 2)
     yield "2^31 calls, refused", doubling(31)
     yield "16 MB of calls, refused", filled(b"C1;", b"DS 1;L M;B 2 2 0 0;DF;")
+    yield "100,000 contacts, refused", layout(contacts(100_000, 300))
+    yield "100,000 tiles of crossing wires", layout(hundred_thousand_tiles())
+    yield "100,001 tiles, refused", layout([*hundred_thousand_tiles(), (1000, 0, 1010, 10)])
     yield "263,168 tiles, refused", layout(crossing(512))
+    yield "894 boxes, each two a clash", layout(unit_boxes(894))
+    yield "895 boxes, each two a clash, refused", layout(unit_boxes(895))
     yield "105,000 fragments, refused", layout(many_cuts())
 
 
-# ---- layouts, as boxes by their corners in hundredths
+# ---- layouts, as boxes by their corners in hundredths, or as a polygon
+
+
+def box(x1, y1, x2, y2):
+    """The command of a box, in units of half a hundredth."""
+    return "B %d %d %d %d;" % (2 * (x2 - x1), 2 * (y2 - y1), x1 + x2, y1 + y2)
 
 
 def layout(boxes):
     """The text of boxes on layer M."""
-    parts = ["B %d %d %d %d;" % (x2 - x1, y2 - y1, (x1 + x2) // 2, (y1 + y2) // 2) for x1, y1, x2, y2 in boxes]
-    return ("L M;" + "".join(parts) + "E").encode()
+    return ("DS 1 1 2;L M;" + "".join(box(*corners) for corners in boxes) + "DF;C 1;E").encode()
+
+
+def polygon(points):
+    """The text of one polygon on layer M."""
+    return ("L M;P " + " ".join("%d %d" % point for point in points) + ";E").encode()
+
+
+def comb_polygon(n):
+    """One polygon of about n corners: n / 4 teeth of as many lengths below a spine."""
+    teeth = n // 4
+    yield (0, 20)
+    for i in range(teeth):
+        end = -2 * (i * 7919 % teeth) - 20
+        yield from ((20 * i, 0), (20 * i, end), (20 * i + 10, end), (20 * i + 10, 0))
+    yield from ((20 * teeth, 0), (20 * teeth, 20))
+
+
+def stairs_polygon(n):
+    """One polygon of about n corners: n / 4 steps, above and below."""
+    steps = n // 4
+    yield from (point for i in range(steps) for point in ((10 * i, 10 * i), (10 * i + 10, 10 * i)))
+    yield from (point for i in reversed(range(steps)) for point in ((10 * i + 10, 10 * i + 30), (10 * i, 10 * i + 30)))
 
 
 def crossing(side):
     """As many upright wires as level ones, one shape of 2 * side * side + side tiles."""
     yield from ((40 * i, 0, 40 * i + 10, 40 * side) for i in range(side))
     yield from ((0, 40 * j + 20, 40 * side, 40 * j + 30) for j in range(side))
+
+
+def hundred_thousand_tiles():
+    """Ten upright wires and 9,090 level ones."""
+    yield from ((40 * i, 0, 40 * i + 10, 363_600) for i in range(10))
+    yield from ((0, 40 * j + 20, 400, 40 * j + 30) for j in range(9_090))
+
+
+def unit_boxes(n):
+    """n boxes of 1 by 1 in thirty columns, all close to one another."""
+    yield from ((2 * (k % 30), 2 * (k // 30), 2 * (k % 30) + 1, 2 * (k // 30) + 1) for k in range(n))
 
 
 def many_cuts():
@@ -126,6 +186,13 @@ def wires_beside_boxes(n):
     yield from ((-500, 200 * i, -400, 200 * i + 50) for i in range(half))
 
 
+def wires_between_boxes(n):
+    """n / 3 long upright wires, and on either side of them n / 3 boxes at the same heights."""
+    third = n // 3
+    yield from wires_beside_boxes(2 * third)
+    yield from ((150 * third + 500, 200 * i, 150 * third + 600, 200 * i + 50) for i in range(third))
+
+
 def level_wires(n):
     """n long level wires, none close to another."""
     yield from ((0, 150 * i, 100_000, 150 * i + 40) for i in range(n))
@@ -156,53 +223,63 @@ def layouts():
     yield "hanging comb", 24_500, hanging_comb
     yield "stairs", 24_500, stairs
     yield "boxes in one row", 24_500, row
-    yield "upright wires beside boxes", 24_500, wires_beside_boxes
+    yield "upright wires beside boxes", 20_000, wires_beside_boxes
+    yield "upright wires between boxes", 6_000, wires_between_boxes
     yield "level wires", 24_500, level_wires
     yield "random boxes", 20_000, random_boxes
     yield "level wires, six close to each", 250, close_wires
     yield "crossing wires of n tiles", 49_000, lambda n: crossing(int((n / 2) ** 0.5))
 
 
+def polygons():
+    """Each with the smaller of its two numbers of corners."""
+    yield "a comb as one polygon", 24_000, comb_polygon
+    yield "stairs as one polygon", 24_000, stairs_polygon
+
+
 # ---- running
 
 
-def watch(process, peak):
-    """Keeps the greatest memory of the process in megabytes while it runs."""
-    while process.poll() is None:
-        try:
-            with open("/proc/%d/status" % process.pid) as status:
-                for line in status:
-                    if line.startswith("VmHWM:"):
-                        peak[0] = max(peak[0], int(line.split()[1]) / 1024)
-        except OSError:
-            return
-        time.sleep(0.002)
+def timed(words, text, limit):
+    """Seconds of processor time, peak megabytes and exit status of one run."""
+    with tempfile.TemporaryFile() as source:
+        source.write(text)
+        source.seek(0)
+        process = subprocess.Popen(words, stdin=source, stdout=subprocess.DEVNULL, stderr=subprocess.DEVNULL)
+        late = threading.Timer(limit, process.kill)
+        late.start()
+        _, status, usage = os.wait4(process.pid, 0)
+        late.cancel()
+    code = "late" if os.WIFSIGNALED(status) else "%d" % os.WEXITSTATUS(status)
+    return usage.ru_utime + usage.ru_stime, usage.ru_maxrss / 1024, code
 
 
-def timed(binary, text, limit):
-    """Seconds, peak megabytes and exit status of one run."""
-    peak = [0.0]
-    start = time.perf_counter()
-    process = subprocess.Popen([binary] + WORDS, stdin=subprocess.PIPE, stdout=subprocess.DEVNULL,
-                               stderr=subprocess.DEVNULL)
-    watcher = threading.Thread(target=watch, args=(process, peak))
-    watcher.start()
-    try:
-        process.communicate(text, timeout=limit)
-        code = "%d" % process.returncode
-    except subprocess.TimeoutExpired:
-        process.kill()
-        process.wait()
-        code = "late"
-    seconds = time.perf_counter() - start
-    watcher.join()
-    return seconds, peak[0], code
-
-
-def report(name, text, run, times=""):
+def report(name, size, run, times=""):
     seconds, peak, code = run
-    print("%-42s %9.3f %7.1f %8.1f %6s %6s" % (name, seconds, len(text) / 1e6 / seconds, peak, code, times),
+    print("%-42s %9.3f %7.1f %8.1f %6s %6s" % (name, seconds, size / 1e6 / max(seconds, 1e-3), peak, code, times),
           flush=True)
+
+
+def check_spaces(binary, limit, size):
+    """A check of a report of so many spaces."""
+    with tempfile.NamedTemporaryFile() as second:
+        for _ in range(size >> 20):
+            second.write(b" " * (1 << 20))
+        second.write(b" " * (size % (1 << 20)))
+        second.flush()
+        return timed([binary, "check", *OPTIONS, "--report", second.name], b"E", limit)
+
+
+def pair(asked, name, size, text_of):
+    """A case at its size and at twice as much."""
+    before = None
+    for n in (size, 2 * size):
+        text = text_of(n)
+        run = timed([asked.binary, "split", *OPTIONS], text, asked.seconds)
+        report("%s, n = %d" % (name, n), len(text), run, "" if before is None else "%.1f" % (run[0] / before))
+        before = max(run[0], 1e-3)
+        if run[2] == "late":
+            break
 
 
 def main():
@@ -215,18 +292,16 @@ def main():
     print("%-42s %9s %7s %8s %6s %6s" % ("case", "seconds", "MB/s", "peak MB", "status", "times"))
     for name, text in texts():
         if asked.only in name:
-            report(name, text, timed(asked.binary, text, asked.seconds))
+            report(name, len(text), timed([asked.binary, "split", *OPTIONS], text, asked.seconds))
+    for name, size in (("a report of 268 MB of spaces", MOST_REPORT), ("one more space, refused", MOST_REPORT + 1)):
+        if asked.only in name:
+            report(name, size, check_spaces(asked.binary, asked.seconds, size))
     for name, size, boxes in layouts():
-        if asked.only not in name:
-            continue
-        before = None
-        for n in (size, 2 * size):
-            text = layout(boxes(n))
-            run = timed(asked.binary, text, asked.seconds)
-            report("%s, n = %d" % (name, n), text, run, "" if before is None else "%.1f" % (run[0] / before))
-            before = run[0]
-            if run[2] == "late":
-                break
+        if asked.only in name:
+            pair(asked, name, size, lambda n: layout(boxes(n)))
+    for name, size, points in polygons():
+        if asked.only in name:
+            pair(asked, name, size, lambda n: polygon(points(n)))
 
 
 if __name__ == "__main__":

@@ -76,7 +76,7 @@ extent_sound s e sc h x y =
     let i = and_parts (is_on_grid s e.x1) (is_on_grid s e.y1) g.0 in
     (scaled_apart s e.x1 e.x2 sc.some i.0 g.1 x, scaled_apart s e.y1 e.y2 sc.some i.1 f.1 y)
 
-positive : (n : ℕ) → (n == 0) ≡ false → 0 < n
+pub positive : (n : ℕ) → (n == 0) ≡ false → 0 < n
 positive n h = grind (arith, common_steps)
 
 box_apart : (b : BoxForm) → 0 < b.length → 0 < b.width → ((box_extent b).x1 <ℤ (box_extent b).x2) × ((box_extent b).y1 <ℤ (box_extent b).y2)

@@ -18,3 +18,6 @@ pub mod FarParts
 pub mod Rigid
 pub mod CleanParts
 pub mod Scans
+pub mod Depth
+pub mod JoinedPlacements
+pub mod TurnLaws

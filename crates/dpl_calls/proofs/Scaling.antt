@@ -44,7 +44,7 @@ back (pos m) (negsuc k) n h = absurd (not_pos_neg (m * n) (suc k * n) h)
 back (negsuc m) (pos k) n h = omega (arith, ints)
 back (negsuc m) (negsuc k) n h = lt_neg (suc m) (suc k) (lt_of_mul-lt-mul_right n (of_lt_neg (suc m * n) (suc k * n) h))
 
-zero_of : (n : ℕ) → (n == 0) ≡ true → n ≡ 0
+pub zero_of : (n : ℕ) → (n == 0) ≡ true → n ≡ 0
 zero_of n h = grind (arith, common_steps)
 
 abs_zero : (z : ℤ) → (unsigned_abs z == 0) ≡ true → z ≡ pos 0

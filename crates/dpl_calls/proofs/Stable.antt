@@ -57,7 +57,7 @@ module _ (own : Part → ℕ) (t : Table) (labels heads : List ℕ) (G : AreGrou
   count = length t.definitions.entries
 
   -- a definition that is called has a smaller number
-  callee_low : (x m y : ℕ) → list_any (names m) (body_at t x) ≡ true → place_of m (keys t.definitions) ≡ Some y → get_or labels y 0 < get_or labels x 0
+  pub callee_low : (x m y : ℕ) → list_any (names m) (body_at t x) ≡ true → place_of m (keys t.definitions) ≡ Some y → get_or labels y 0 < get_or labels x 0
   callee_low x m y c h =
       let a : At t y _ = edge_in t m y h (body_at t x) c in
       none x y (record {

@@ -13,3 +13,4 @@ pub mod Kept
 pub mod Places
 pub mod Found
 pub mod Counted
+pub mod Rotations

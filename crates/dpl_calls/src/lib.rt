@@ -10,6 +10,7 @@ mod body;
 mod entry;
 pub mod figure;
 mod graph;
+mod laws;
 mod loops;
 mod moves;
 mod placement;
@@ -22,6 +23,10 @@ mod totals;
 mod unfolding;
 
 pub use graph::groups_of;
+pub use laws::{
+    depth_may_grow, mirrors_undo, opposite_turns_undo, placements_are_joined,
+    turns_follow_their_direction,
+};
 pub use loops::{calling_rules, looped, missing};
 pub use scanning::{ScanError, Scanned, scan};
 pub use totals::{Count, total};

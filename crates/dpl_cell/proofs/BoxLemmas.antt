@@ -1,5 +1,5 @@
 -- Cells of boxes, as a fact and as a test.
-use Rattle.std.proofs.Common.{arith, rules, ◌≡◌, ◌<ℤ◌, ◌≤ℤ◌, ℕ, ◌<◌, ℤ, List, length, get_or, ◌∙◌, sym, refl, int_lt, Any, Bool, true, false, IsTrue, map, inl, inr}
+use Rattle.std.proofs.Common.{arith, rules, ◌≡◌, ◌<ℤ◌, ◌≤ℤ◌, ◌-ℤ◌, pos, ℕ, ◌<◌, ℤ, List, length, get_or, ◌∙◌, sym, refl, int_lt, Any, Bool, true, false, IsTrue, map, inl, inr}
 use Rattle.std.specs.List.{list_any}
 use Rattle.std.proofs.lemmas.Bool.{and_parts, cases_lt, cases_eq}
 use Rattle.std.proofs.lemmas.Int.{ints, clamps}
@@ -26,15 +26,18 @@ not_by_test b e f a = let t : IsTrue false = rw e at (f a) in search rules
 pub equal_z : (a b : ℤ) → a ≤ℤ b → b ≤ℤ a → a ≡ b
 equal_z a b h g = omega (arith, ints, clamps)
 
-pub less_test : (a b : ℤ) → a <ℤ b → int_lt a b ≡ true
-less_test a b h = grind (arith, ints)
-
-pub not_less : (a b : ℤ) → int_lt a b ≡ false → b ≤ℤ a
-not_less a b e = grind (arith, ints)
-
 -- three ways for two numbers to lie
 pub three : {P : Type 0} (i j : ℕ) → (i < j → P) → (i ≡ j → P) → (j < i → P) → P
 three i j p q r = elim (cases_lt i j) [ inl h ↦ p h | inr h ↦ elim (cases_eq i j) [ inl e ↦ q e | inr n ↦ r (omega (arith, n)) ] ]
+
+-- a stretch whose places lie in another does not go past its ends
+pub ends_inside : (a b low high : ℤ) → a <ℤ b → ((x : ℤ) → IsWithin a b x → IsWithin low high x) → (low ≤ℤ a) × (b ≤ℤ high)
+ends_inside a b low high h f =
+    let w = f a (record { from = omega (arith, ints); to = h }) in
+    let v = f (b -ℤ pos 1) (record { from = omega (arith, ints); to = omega (arith, ints) }) in
+    (w.from, up b high v.to) where
+      up : (b c : ℤ) → (b -ℤ pos 1) <ℤ c → b ≤ℤ c
+      up b c g = omega (arith, ints)
 
 -- ---- cells of one box
 

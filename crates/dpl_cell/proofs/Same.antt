@@ -1,6 +1,6 @@
 -- Rectangles with the same corners are the same, and so are points at one place: what the types keep of them
 -- has one proof at most.
-use Rattle.std.proofs.Common.{◌≡◌, ℤ, pos, neg_ℤ, ◌^◌, ◌<ℤ◌, ◌≤ℤ◌, ap, subst}
+use Rattle.std.proofs.Common.{rules, ◌≡◌, ℤ, pos, neg_ℤ, ◌^◌, ◌<ℤ◌, ◌≤ℤ◌, SFits, w64, ap, subst}
 use Rattle.std.proofs.Props.{props}
 use Rattle.dpl_cell.specs.declared.rect.Rect.{Rect}
 use Rattle.dpl_cell.specs.declared.point.Point.{Point}
@@ -33,6 +33,10 @@ same_corners a b e =
 
 pub same_rect : (a b : Rect) → a.x1 ≡ b.x1 → a.y1 ≡ b.y1 → a.x2 ≡ b.x2 → a.y2 ≡ b.y2 → a ≡ b
 same_rect a b e1 e2 e3 e4 = let e : corners_of a ≡ corners_of b = cc in same_corners a b e
+
+-- the corners of a rectangle are numbers of the code
+pub corners_fit : (r : Rect) → SFits w64 r.x1 × (SFits w64 r.x2 × (SFits w64 r.y1 × SFits w64 r.y2))
+corners_fit r = (search rules, (search rules, (search rules, search rules)))
 
 -- what a point keeps of its place
 record PointFacts (c : ℤ × ℤ) : Type 0 where

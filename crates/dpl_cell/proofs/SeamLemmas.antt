@@ -1,5 +1,5 @@
 -- Cells and edges that rectangles share, by the part that they have in common.
-use Rattle.std.proofs.Common.{arith, ◌≡◌, ℤ, pos, ◌+ℤ◌, ◌-ℤ◌, ◌<ℤ◌, ◌≤ℤ◌, true, false, Bool, ◌&&◌, ◌||◌, inl, inr, ◌⊎◌, refl}
+use Rattle.std.proofs.Common.{arith, ◌≡◌, ℤ, pos, ◌-ℤ◌, ◌<ℤ◌, ◌≤ℤ◌, true, false, Bool, ◌&&◌, ◌||◌, inl, inr, ◌⊎◌, refl}
 use Rattle.std.proofs.Math.Bool.{or-true}
 use Rattle.std.proofs.lemmas.Bool.{and_parts, or_cases}
 use Rattle.std.proofs.lemmas.Int.{ints, clamps, by_lt_z}

@@ -1,42 +1,18 @@
--- Cells have one list of tiles, tiles one list of shapes, and tiles with their shapes one list of fragments.
-use Rattle.std.proofs.Common.{arith, ◌≡◌, ◌<◌, ◌≤◌, ◌+◌, ◌↔◌, inl, inr, ℕ, zero, suc, Bool, List, [], ◌∷◌, ◌++◌, length, map, max, take, sym, ap, ◌∙◌, subst, All, AllPairs, Contains, get_or}
-use Rattle.std.proofs.Math.Seq.{take-suc}
-use Rattle.std.proofs.lemmas.List.Sums.{fold-append}
-use Rattle.std.specs.Prelude.{ℤ, ◌<ℤ◌, ◌≤ℤ◌}
+-- Tiles with their shapes have one list of fragments with their cuts.
+use Rattle.std.proofs.Common.{arith, ◌≡◌, ◌<◌, ◌≤◌, inl, inr, ℕ, zero, suc, List, [], ◌∷◌, length, map, sym, ap, ◌∙◌, subst, AllPairs, Contains, get_or}
 use Rattle.std.proofs.lemmas.Bool.{cases_lt}
-use Rattle.std.proofs.lemmas.Int.{ints}
-use Rattle.std.proofs.lemmas.List.Elements.{All-map}
-use Rattle.std.proofs.lemmas.List.{get_or_default, get_or-take, length-map, length-take-le, take_all}
-use Rattle.dpl_cell.specs.declared.rect.Rect.{Rect}
+use Rattle.std.proofs.lemmas.List.{get_or_default, length-map}
 use Rattle.dpl_cell.specs.Places.{Corners, corners_of}
-use Rattle.dpl_cell.specs.Cells.{IsIn}
-use Rattle.dpl_cell.specs.Tiles.{IsTile, IsBefore, AreTiles}
+use Rattle.dpl_cell.specs.Tiles.{IsBefore}
 use Rattle.dpl_cell.proofs.Same.{same_corners}
-use Rattle.dpl_classes.specs.Classes.{IsNumbered, next_label}
-use Rattle.dpl_near.specs.Shapes.{AreShapes}
 use Rattle.dpl_cuts.specs.declared.types.Cut.{Cut}
 use Rattle.dpl_cuts.specs.declared.types.Fragments.{Fragments}
 use Rattle.dpl_cuts.specs.Positions.{nowhere, rect_at, end_of}
 use Rattle.dpl_cuts.specs.Cuts.{zone_at}
 use Rattle.dpl_cuts.specs.Fragments.{IsFragmentOf, AreParts, IsCut, AreCuts, AreFragments, HasMoreFragments}
 use Rattle.dpl_list.proofs.Ordered.{maps_same, has_all, ordered_same, lists_same}
-use Rattle.dpl_near.proofs.LawLemmas.{low_cell, labels_same}
-use Rattle.dpl_classes.proofs.NumberLemmas.{used, takes_same, numbers_before}
 use Rattle.dpl_cell.proofs.OrderLemmas.{before_once}
 use Rattle.dpl_list.proofs.Lists.{no_more}
-
--- ---- tiles
-
--- ---- numbers of classes
-
--- a number before place i is this one
-record IsUsed (label : List ℕ) (i v : ℕ) : Type 0 where
-  place : ℕ
-  before : place < i
-  within : place < length label
-  is : get_or label place 0 ≡ v
-
--- ---- shapes
 
 -- ---- fragments
 

@@ -1,11 +1,12 @@
 -- What one read after another gave.
-use Rattle.std.proofs.Common.{◌≡◌, ℕ, ◌<◌, ◌⊎◌, List, ◌++◌, length, length-append, append_assoc, Bool, true, false, Option, None, Some, Result, Err, ap, ◌∙◌, sym, inl, inr, arith}
+use Rattle.std.proofs.Common.{◌≡◌, ℕ, ◌<◌, ◌≤◌, ◌⊎◌, drop, List, ◌++◌, length, length-append, append_assoc, Bool, true, false, Option, None, Some, Result, Err, ap, ◌∙◌, sym, inl, inr, arith}
 use Rattle.std.specs.Prelude.{IfSome}
+use Rattle.std.proofs.Math.Seq.{drop-append_seam}
 use Rattle.std.specs.Io.KnownBytes.{Consumes}
 use Rattle.dpl_ext.specs.declared.reading.ReadEnd.{ReadEnd}
 use Rattle.dpl_ext.specs.declared.reading.ReadEnd.TheVariants.{Fault, TooLong, NoMemory}
 use Rattle.dpl_ext.specs.Device.{Seen, Gave, Rose}
-use Rattle.dpl_ext.specs.Reading.{GivesPiece, StopsPiece, IsWhole, Refuses}
+use Rattle.dpl_ext.specs.Reading.{GivesPiece, StopsPiece, IsWhole, Refuses, TookFront}
 
 Consumes-append : (a b c : Option (List ℕ)) (xs ys : List ℕ) → Consumes a b xs → Consumes b c ys → Consumes a c (xs ++ ys)
 Consumes-append None b c xs ys p q = tt
@@ -21,11 +22,12 @@ Gave-append a b c xs ys p q = record {
   same = q.same ∙ p.same;
 }
 
-pub IsWhole-end : (a b c : Seen) (old new : List ℕ) (limit : ℕ) (ended : Bool) → Gave a b old → GivesPiece b c old new limit ended → ended ≡ true → IsWhole a c new limit
-IsWhole-end a b c old new limit ended p q e = record {
+pub IsWhole-end : (a b c : Seen) (old new : List ℕ) (limit : ℕ) (ended : Bool) → Gave a b old → b.faults ≡ a.faults → GivesPiece b c old new limit ended → ended ≡ true → IsWhole a c new limit
+IsWhole-end a b c old new limit ended p same q e = record {
   gave = rw q.added (Gave-append a b c old q.piece p q.gave);
   at_end = q.at_end e;
   within = q.within;
+  steady = q.steady ∙ same;
 }
 
 pub length-more : (b c : Seen) (old new : List ℕ) (limit : ℕ) (ended : Bool) → GivesPiece b c old new limit ended → ended ≡ false → length old < length new
@@ -34,22 +36,51 @@ length-more b c old new limit ended q e = rw (q.added, length-append) (omega (ar
 pub Gave-more : (a b c : Seen) (old new : List ℕ) (limit : ℕ) (ended : Bool) → Gave a b old → GivesPiece b c old new limit ended → Gave a c new
 Gave-more a b c old new limit ended p q = rw q.added (Gave-append a b c old q.piece p q.gave)
 
-pub Refuses-stop : (a b c : Seen) (old : List ℕ) (limit : ℕ) (error : ReadEnd) → Gave a b old → StopsPiece b c old limit error → Refuses a c limit error
-Refuses-stop a b c old limit Fault p q = record {
+pub Refuses-stop : (a b c : Seen) (old : List ℕ) (limit : ℕ) (error : ReadEnd) → Gave a b old → b.faults ≡ a.faults → StopsPiece b c old limit error → Refuses a c limit error
+Refuses-stop a b c old limit Fault p same q = record {
   taken = old ++ q.piece;
   gave = Gave-append a b c old q.piece p q.gave;
   means = simp length-append (omega (arith, q.means), omega (arith, q.means));
 }
-Refuses-stop a b c old limit TooLong p q = record {
+Refuses-stop a b c old limit TooLong p same q = record {
+  taken = old ++ q.piece;
+  gave = Gave-append a b c old q.piece p q.gave;
+  means = simp length-append (q.means.0, q.means.1 ∙ same);
+}
+Refuses-stop a b c old limit NoMemory p same q = record {
   taken = old ++ q.piece;
   gave = Gave-append a b c old q.piece p q.gave;
   means = simp length-append q.means;
 }
-Refuses-stop a b c old limit NoMemory p q = record {
-  taken = old ++ q.piece;
+
+-- the taker has what came before a read that stopped
+pub TookFront-stop : (a b c : Seen) (old : List ℕ) (limit : ℕ) (error : ReadEnd) (got got_now : List ℕ) → Gave a b old → StopsPiece b c old limit error → got_now ≡ got ++ old → length old ≤ limit → TookFront a c limit got got_now
+TookFront-stop a b c old limit error got got_now p q e w = record {
+  front = old;
+  rest = q.piece;
   gave = Gave-append a b c old q.piece p q.gave;
-  means = simp length-append q.means;
+  got_is = e;
+  within = w;
 }
+
+-- the taker refused a piece
+pub Refuses-piece : (a b c : Seen) (old new : List ℕ) (limit : ℕ) (ended : Bool) → Gave a b old → GivesPiece b c old new limit ended → Refuses a c limit NoMemory
+Refuses-piece a b c old new limit ended p q = record { taken = new; gave = Gave-more a b c old new limit ended p q; means = q.within }
+
+pub TookFront-piece : (a b c : Seen) (old new : List ℕ) (limit : ℕ) (ended : Bool) (got got_now : List ℕ) → Gave a b old → GivesPiece b c old new limit ended → got_now ≡ got ++ old → length old ≤ limit → TookFront a c limit got got_now
+TookFront-piece a b c old new limit ended got got_now p q e w = record {
+  front = old;
+  rest = q.piece;
+  gave = Gave-append a b c old q.piece p q.gave;
+  got_is = e;
+  within = w;
+}
+
+-- the taker got the piece behind the bytes so far
+pub got_more : (b c : Seen) (old new : List ℕ) (limit : ℕ) (ended : Bool) (first got got_now : List ℕ) → GivesPiece b c old new limit ended → got ≡ first ++ old → got_now ≡ got ++ drop (length old) new → got_now ≡ first ++ new
+got_more b c old new limit ended first got got_now q e f =
+    let d : drop (length old) new ≡ q.piece = rw q.added (drop-append_seam old q.piece) in
+    rw (f, d, e, q.added) (append_assoc first old q.piece)
 
 -- what holds of every value holds of the one that may be there
 pub IfSome-each : {X : Type 0} (o : Option X) (P : X → Type 0) → ((x : X) → P x) → IfSome o P

@@ -1,5 +1,5 @@
 -- What a call of a source or a sink may do to what is known of it.
-use Rattle.std.specs.Prelude.{◌≡◌, ℕ, ◌+◌, ◌-◌, ◌^◌, ◌≤◌, min, List, [], ◌∷◌, ◌++◌, length, take, find, option_map, Some, MatchResult, OnErr, IfSome}
+use Rattle.std.specs.Prelude.{◌≡◌, ℕ, ◌+◌, ◌-◌, ◌^◌, ◌≤◌, min, List, [], ◌∷◌, ◌++◌, length, take, find, option_map, Some, MatchResult, OnErr, OnOk, IfSome}
 use Rattle.std.specs.declared.result.Result.{Result}
 use Rattle.std.specs.declared.option.Option.{Option}
 use Rattle.std.specs.Io.KnownBytes.{Consumes, Appends}
@@ -27,10 +27,11 @@ Rose before now = min (before + 1) last_count ≤ now
 abbrev pub RoseBy : ℕ → ℕ → ℕ → Type 0
 RoseBy n before now = (now ≤ before + n) × (min (before + n) last_count ≤ now)
 
--- a count of faults never falls, and an error comes only where it rose
+-- a count of faults never falls, an error comes only where it rose, and Ok only where it stayed
 pub record HasCause {T E : Type 0} (before now : ℕ) (result : Result T E) : Type 0 where
   pub later : before ≤ now
   pub failed : OnErr result (Rose before now)
+  pub steady : OnOk result (now ≡ before)
 
 -- a read raises the count of given bytes by those that it gave
 abbrev pub CountsGiven : {E : Type 0} → ℕ → ℕ → Result ℕ E → Type 0
@@ -74,9 +75,10 @@ MeansClosed before now name Failed =
 MeansClosed before now name NoMemory =
     (now.asked ≡ before.asked) × (now.faults ≡ before.faults) × (now.left ≡ Some [])
 
--- the name was asked for, and where the texts are told its first text is what is left
+-- the name was asked for and nothing failed, and where the texts are told its first text is what is left
 pub record MeansOpened (before now : Seen) (texts : Option Texts) (name : List ℕ) : Type 0 where
   pub asked : now.asked ≡ before.asked ++ name ∷ []
+  pub steady : now.faults ≡ before.faults
   pub text : IfSome texts (OpensText now name)
 
 -- what an open answers

@@ -29,8 +29,12 @@ impl<R: Read> ReadSource<R> {
 }
 
 impl<R: Read> Source for ReadSource<R> {
-    ghost seen = { λ s. record { left = R.remaining s.from; faults = s.faults; given =
-        s.given; asked = [] } };
+    ghost seen = { λ s. record {
+      left = R.remaining s.from;
+      faults = s.faults;
+      given = s.given;
+      asked = [];
+    } };
 
     fn read(&mut self, into: &mut [u8]) -> Result<usize, Failed>
         ensures bound { ReadsAtMost result into.new }

@@ -41,8 +41,12 @@ impl<'a, R: Files> FileShelf<'a, R> {
 }
 
 impl<'a, R: Files> Source for FileShelf<'a, R> {
-    ghost seen = { λ s. record { left = left_of_file s.file; faults = s.faults; given =
-        s.given; asked = map string_bytes s.asked.items } };
+    ghost seen = { λ s. record {
+      left = left_of_file s.file;
+      faults = s.faults;
+      given = s.given;
+      asked = map string_bytes s.asked.items;
+    } };
 
     fn read(&mut self, into: &mut [u8]) -> Result<usize, Failed>
         ensures bound { ReadsAtMost result into.new }

@@ -1,8 +1,9 @@
 //! The outside world as the program sees it: sources that give bytes and sinks that take them.
 //!
 //! Every device counts its faults, so whoever calls it can tell a device that failed from one that
-//! did not. `read_all` gives all bytes that were left or says why not, and `write_all` has all bytes
-//! taken or says that the sink failed, over every device that keeps to its trait.
+//! did not. `read_all` gives all bytes that were left or says why not, `read_each` hands them to a
+//! taker besides, piece by piece, and `write_all` has all bytes taken or says that the sink failed,
+//! over every device that keeps to its trait.
 #![tactic(auto)]
 
 mod adapters;
@@ -12,6 +13,7 @@ mod mem_shelf;
 mod memory;
 mod opening;
 mod reading;
+mod taking;
 mod writing;
 
 pub use adapters::{ReadSource, WriteSink};
@@ -20,8 +22,9 @@ pub use file_shelf::FileShelf;
 pub use mem_shelf::MemShelf;
 pub use memory::{MemSink, MemSource};
 pub use opening::OpenEnd;
-pub use reading::{ReadEnd, read_all};
+pub use reading::{ReadEnd, read_all, read_each};
 pub use std::alloc::AllocError as NoMemory;
+pub use taking::Taker;
 pub use writing::write_all;
 
 #[cfg(test)]

@@ -55,9 +55,17 @@ impl MemShelf {
         fails: Vec<u64>,
     ) -> MemShelf
         requires { 0 < piece }
-        ensures { result ≡ record { texts = texts_of files.items; left = []; is_open =
-            false; piece = piece; fails = fails.items; calls =
-            0; faults = 0; given = 0; asked = [] } }
+        ensures { result ≡ record {
+          texts = texts_of files.items;
+          left = [];
+          is_open = false;
+          piece = piece;
+          fails = fails.items;
+          calls = 0;
+          faults = 0;
+          given = 0;
+          asked = [];
+        } }
     {
         MemShelf {
             alloc,
@@ -76,8 +84,12 @@ impl MemShelf {
 }
 
 impl Source for MemShelf {
-    ghost seen = { λ s. record { left = Some s.left; faults = s.faults; given = s.given; asked =
-        s.asked } };
+    ghost seen = { λ s. record {
+      left = Some s.left;
+      faults = s.faults;
+      given = s.given;
+      asked = s.asked;
+    } };
 
     fn read(&mut self, into: &mut [u8]) -> Result<usize, Failed>
         ensures bound { ReadsAtMost result into.new }
@@ -135,10 +147,18 @@ impl Shelf for MemShelf {
     ghost texts = { λ s. Some s.texts };
 
     fn open(&mut self, name: &str) -> Result<(), OpenEnd>
-        ensures answer { AnswersOpen (record { left = Some self.old.left; faults =
-            self.old.faults; given = self.old.given; asked = self.old.asked })
-            (record { left = Some self.new.left; faults = self.new.faults; given =
-            self.new.given; asked = self.new.asked }) (Some self.old.texts) name.now result }
+        ensures answer { AnswersOpen (record {
+          left = Some self.old.left;
+          faults = self.old.faults;
+          given = self.old.given;
+          asked = self.old.asked;
+        })
+            (record {
+              left = Some self.new.left;
+              faults = self.new.faults;
+              given = self.new.given;
+              asked = self.new.asked;
+            }) (Some self.old.texts) name.now result }
         ensures texts { Some self.new.texts ≡ Some self.old.texts }
         ensures fails { (result ≡ Err OpenEnd.NoMemory) ⊎
             (IsErr result ↔ (Contains self.old.fails self.old.calls ⊎

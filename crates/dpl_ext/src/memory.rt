@@ -41,8 +41,14 @@ impl MemSource {
     /// Each read gives at most `piece` bytes. The reads whose numbers from 0 are in `fails` fail.
     pub fn new(bytes: Vec<u8>, piece: usize, fails: Vec<u64>) -> MemSource
         requires { 0 < piece }
-        ensures { result ≡ record { left = bytes.items; piece = piece; fails = fails.items; calls =
-            0; faults = 0; given = 0 } }
+        ensures { result ≡ record {
+          left = bytes.items;
+          piece = piece;
+          fails = fails.items;
+          calls = 0;
+          faults = 0;
+          given = 0;
+        } }
     {
         MemSource {
             bytes,
@@ -57,8 +63,12 @@ impl MemSource {
 }
 
 impl Source for MemSource {
-    ghost seen = { λ s. record { left = Some s.left; faults = s.faults; given = s.given; asked =
-        [] } };
+    ghost seen = { λ s. record {
+      left = Some s.left;
+      faults = s.faults;
+      given = s.given;
+      asked = [];
+    } };
 
     fn read(&mut self, into: &mut [u8]) -> Result<usize, Failed>
         ensures bound { ReadsAtMost result into.new }
@@ -124,8 +134,14 @@ impl MemSink {
         fails: Vec<u64>,
     ) -> Result<MemSink, NoMemory>
         requires { 0 < piece }
-        ensures { IfOk result (λ s. s ≡ record { taken = []; room = room; piece = piece; fails =
-            fails.items; calls = 0; faults = 0 }) }
+        ensures { IfOk result (λ s. s ≡ record {
+          taken = [];
+          room = room;
+          piece = piece;
+          fails = fails.items;
+          calls = 0;
+          faults = 0;
+        }) }
     {
         let bytes = Vec::with_capacity(alloc, room)?;
         Ok(MemSink {

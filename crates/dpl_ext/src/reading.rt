@@ -1,9 +1,10 @@
 // Reading all that is left of a source.
-ghost use Rattle.std.specs.Prelude.{◌≡◌, ◌^◌, ◌<◌, ◌≤◌, ◌⊎◌, length, vec_len, IfOk, IfErr, IfSome, Err};
+ghost use Rattle.std.specs.Prelude.{◌≡◌, ◌+◌, ◌++◌, ◌^◌, ◌<◌, ◌≤◌, ◌⊎◌, length, vec_len, IfOk, IfErr, IfSome, OnErr, Err};
 ghost use Rattle.dpl_ext.specs.Device.{Rose};
-ghost use Rattle.dpl_ext.specs.Reading.{GivesPiece, StopsPiece, IsWhole, Refuses};
+ghost use Rattle.dpl_ext.specs.Reading.{GivesPiece, StopsPiece, IsWhole, Refuses, TookFront};
 
 use crate::devices::{Failed, Source};
+use crate::taking::Taker;
 use std::alloc::Global;
 use thiserror::Error;
 
@@ -38,6 +39,45 @@ pub fn read_all<S: Source>(alloc: Global, source: &mut S, limit: u64) -> Result<
     let mut bytes = Vec::new(alloc);
     for _turn in 0..limit + 2 {
         if read_piece(source, &mut bytes, limit)? {
+            return Ok(bytes);
+        }
+    }
+    unreachable!()
+}
+
+/// Reads all that is left as `read_all` does, and hands each piece on as it comes. After a refusal
+/// the taker has a front of what was read.
+pub fn read_each<S: Source, T: Taker>(
+    alloc: Global,
+    source: &mut S,
+    limit: u64,
+    taker: &mut T,
+) -> Result<Vec<u8>, ReadEnd>
+    requires small { limit < 2 ^ 32 }
+    requires room { length (T.got taker.old) + limit ≤ T.room taker.old }
+    ensures whole { IfOk result (λ v.
+        IsWhole (S.seen source.old) (S.seen source.new) v.items limit) }
+    ensures refused { IfErr result (Refuses (S.seen source.old) (S.seen source.new) limit) }
+    ensures too_long { result ≡ Err ReadEnd.TooLong →
+        IfSome (S.seen source.old).left (λ xs. limit < length xs) }
+    ensures long { IfSome (S.seen source.old).left (λ xs. limit < length xs
+        → ¬ Rose (S.seen source.old).faults (S.seen source.new).faults
+        → (result ≡ Err ReadEnd.TooLong) ⊎ (result ≡ Err ReadEnd.NoMemory)) }
+
+    // What the taker got.
+    ensures got { IfOk result (λ v. T.got taker.new ≡ T.got taker.old ++ v.items) }
+    ensures front { OnErr result (TookFront (S.seen source.old) (S.seen source.new) limit
+        (T.got taker.old) (T.got taker.new)) }
+    ensures same { T.room taker.new ≡ T.room taker.old }
+{
+    let mut bytes = Vec::new(alloc);
+    for _turn in 0..limit + 2 {
+        let before = bytes.len();
+        let ended = read_piece(source, &mut bytes, limit)?;
+        if taker.take(&bytes[before..]).is_err() {
+            return Err(ReadEnd::NoMemory);
+        }
+        if ended {
             return Ok(bytes);
         }
     }

@@ -1,3 +1,4 @@
 pub mod Digits
 pub mod CuttingRules
+pub mod CuttingLemmas
 pub mod Within

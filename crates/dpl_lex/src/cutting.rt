@@ -1,14 +1,13 @@
 // A text is cut into its commands in one pass.
-ghost use Rattle.std.specs.Prelude.{◌≡◌, ◌≤◌, ◌<◌, ◌+◌, ◌^◌, [], length, IfOk};
+ghost use Rattle.std.specs.Prelude.{◌≡◌, ◌≤◌, ◌<◌, ◌+◌, ◌++◌, ◌^◌, ℕ, List, length, take, IfOk, OnErr};
 ghost use Rattle.dpl_limits.specs.declared.TheConstants.{MOST_LAYOUT_BYTES};
 ghost use Rattle.dpl_lex.specs.Cutting as cutting;
 ghost use Rattle.dpl_lex.specs.CuttingLaws.{BlanksAreSkipped, EndEnds, EmptyIsCut, PlainIsCut, CommentIsCut, BlanksEnd, PlainRests, CommentRests, OpenCommentRests, CommandsAreWithin, CommandsAreFew};
-ghost use Rattle.dpl_lex.specs.Cutting.{commands_of, IsNoDeeper, cut, after};
+ghost use Rattle.dpl_lex.specs.Cutting.{IsNoDeeper, cut, after};
 
 use crate::classes::is_blank_byte;
-use crate::types::{Commands, Ending, Span};
-use dpl_list::Items;
-use std::alloc::{AllocError, Global};
+use crate::types::{Ending, Span};
+use std::alloc::AllocError;
 
 /// Where the next byte of a text stands.
 #[derive(Clone, Copy, Debug, PartialEq, Eq)]
@@ -85,7 +84,7 @@ fn finished(place: Place, at: u32, b: u8) -> Option<Span>
 }
 
 /// How a text ends that ends here.
-fn ending(place: Place) -> Ending
+pub fn ending(place: Place) -> Ending
     ensures { result ≡ cutting.ending place }
 {
     match place {
@@ -95,15 +94,20 @@ fn ending(place: Place) -> Ending
     }
 }
 
-/// Goes over a text, and gives the place behind it.
-fn pass(spans: &mut Vec<Span>, text: &[u8]) -> Result<Place, AllocError>
-    requires { length text.now ≤ MOST_LAYOUT_BYTES }
-    ensures { IfOk result (λ p. after spans.new.items (cut p (length text.now) [])
-        ≡ after spans.old.items (commands_of text.now)) }
+/// Goes on over a piece of a text that stands at `at`, and gives the place behind it.
+pub fn pass(spans: &mut Vec<Span>, place: Place, at: u32, piece: &[u8]) -> Result<Place, AllocError>
+    requires shallow { IsNoDeeper at place }
+    requires small { at + length piece.now ≤ MOST_LAYOUT_BYTES }
+    ensures cut { IfOk result (λ p. (rest : List ℕ) →
+        after spans.new.items (cut p (at + length piece.now) rest)
+        ≡ after spans.old.items (cut place at (piece.now ++ rest))) }
+    ensures shallow { IfOk result (IsNoDeeper (at + length piece.now)) }
+    ensures kept { OnErr result (take (length spans.old.items) spans.new.items
+        ≡ spans.old.items) }
 {
-    let mut place = Place::Between;
-    let mut at = 0;
-    let mut rest = text;
+    let mut place = place;
+    let mut at = at;
+    let mut rest = piece;
     'bytes: while let Some((first, others)) = rest.split_first() {
         if let Some(span) = finished(place, at, *first) {
             spans.push(span)?;
@@ -113,22 +117,6 @@ fn pass(spans: &mut Vec<Span>, text: &[u8]) -> Result<Place, AllocError>
         rest = others;
     }
     Ok(place)
-}
-
-/// The finished commands before the end, in order, and how the text ends.
-///
-/// The text has at most 16 MiB. The time grows with its length, and there are at most as many
-/// spans as bytes.
-pub fn commands(alloc: Global, text: &[u8]) -> Result<Commands, AllocError>
-    requires { length text.now ≤ MOST_LAYOUT_BYTES }
-    ensures { IfOk result (λ c. c ≡ commands_of text.now) }
-{
-    let mut spans = Vec::new(alloc);
-    let place = pass(&mut spans, text)?;
-    Ok(Commands {
-        spans: Items::new(spans),
-        ending: ending(place),
-    })
 }
 
 /// The rules by which a text is cut, one by one. They are facts about `commands_of`; nothing runs.

@@ -6,13 +6,15 @@
 
 pub mod classes;
 mod cutting;
+mod lexer;
 mod name;
 mod number;
 #[cfg(test)]
 mod tests;
 pub mod types;
 
-pub use cutting::{commands, cutting_rules};
+pub use cutting::cutting_rules;
+pub use lexer::{Lexer, commands};
 pub use name::Name;
 pub use number::{Num, Numbers};
 pub use types::{Ending, Span};

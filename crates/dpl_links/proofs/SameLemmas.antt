@@ -1,10 +1,10 @@
 -- Fragments have one net.
 use Rattle.std.proofs.Common.{arith, ◌≡◌, ◌<◌, ◌≤◌, ◌+◌, ◌^◌, ◌⊎◌, inl, inr, ℕ, suc, ◌==◌, Bool, true, false, List, [], ◌∷◌, length, map, refl, sym, ap, ◌∙◌, subst, All, Contains, if◌then◌else◌}
-use Rattle.std.proofs.Common.{Ordering, Less, Equal, Greater}
+use Rattle.std.proofs.Common.{Equal}
 use Rattle.std.proofs.Props.{props}
 use Rattle.std.specs.Prelude.{ℤ, pos, ◌-ℤ◌, ◌<ℤ◌, ◌≤ℤ◌}
 use Rattle.std.specs.List.{AllZip}
-use Rattle.std.specs.Ordering.{nat_cmp, ordering_then}
+use Rattle.std.specs.Ordering.{nat_cmp}
 use Rattle.std.proofs.lemmas.Cmp.{ranked}
 use Rattle.std.proofs.lemmas.List.{get_or_default, length-map}
 use Rattle.dpl_cell.specs.declared.types.Facing.{Facing}

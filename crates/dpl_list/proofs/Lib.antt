@@ -1,3 +1,4 @@
 pub mod Lists
 pub mod Zips
 pub mod Ordered
+pub mod Integers

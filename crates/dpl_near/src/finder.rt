@@ -30,8 +30,11 @@ impl<'a> Model for Finder<'a> {
 
     ghost view = { λ f. record { rects = map corners_of f.rects.now; reach = f.reach } };
 
-    ghost invariant = { λ f. record { few : length f.rects.now ≤ MOST_TILES; near : f.reach ≤ MOST_REACH;
-        index : IsIndex (map corners_of f.rects.now) f.stops.items } };
+    ghost invariant = { λ f. record {
+      few : length f.rects.now ≤ MOST_TILES;
+      near : f.reach ≤ MOST_REACH;
+      index : IsIndex (map corners_of f.rects.now) f.stops.items;
+    } };
 }
 
 impl<'a> Finder<'a> {
@@ -43,8 +46,8 @@ impl<'a> Finder<'a> {
     pub fn new(alloc: Global, rects: &'a [Rect], reach: u64) -> Result<Finder<'a>, NoMemory>
         requires few { length rects.now ≤ MOST_TILES }
         requires near { reach ≤ MOST_REACH }
-        ensures { IfOk result (λ f. f ≡ record { rects = map corners_of rects.now; reach =
-            reach }) }
+        ensures { IfOk result (λ f.
+            f ≡ record { rects = map corners_of rects.now; reach = reach }) }
     {
         let stops = stops_of(alloc, rects)?;
         Ok(Finder {
@@ -110,8 +113,8 @@ fn push_near(
     requires near { reach ≤ MOST_REACH }
     requires within { i < length rects.now }
     requires other { j < length rects.now }
-    ensures { OnOk result (AddsNear (record { rects = map corners_of rects.now; reach =
-        reach }) i j found.old.items found.new.items) }
+    ensures { OnOk result (AddsNear (record { rects = map corners_of rects.now; reach = reach })
+        i j found.old.items found.new.items) }
 {
     if j as usize != i && are_close(&rects[i], &rects[j as usize], reach) {
         found.push(j)?;

@@ -40,7 +40,10 @@ box_of bytes = do
   centre ← spot_of width.1
   let direction = direction_of (spot_of centre.1) centre.1
   complete (Box (record {
-    length = length.0; width = width.0; centre = centre.0; direction = direction.0
+    length = length.0;
+    width = width.0;
+    centre = centre.0;
+    direction = direction.0;
   })) direction.1
 
 -- behind `R`

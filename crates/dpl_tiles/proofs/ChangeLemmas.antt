@@ -1,22 +1,24 @@
--- Which columns of a row can differ from the row below it: those of the primitives with a corner there.
-use Rattle.std.proofs.Common.{arith, ◌≡◌, ◌≢◌, ◌⊎◌, suc, ℤ, pos, ◌-ℤ◌, List, [], ◌∷◌, get_or, All, Any, refl, sym, ap, ◌∙◌, inl, inr, Bool, true, false, ◌||◌, map}
-use Rattle.std.proofs.Common.{ℕ, length, ◌+◌, ◌<◌, ◌≤◌, ◌<ℤ◌, ◌≤ℤ◌, subst}
-use Rattle.std.proofs.lemmas.Bool.{cases_lt}
-use Rattle.std.proofs.lemmas.List.{get_or_default}
+-- Which columns of a row can differ from the row below it: those of the sides that end there.
+use Rattle.std.proofs.Common.{arith, ◌≡◌, ◌≢◌, ◌⊎◌, ◌∙◌, refl, sym, ap, inl, inr, ℕ, ◌+◌, ◌%◌, ◌==◌, ℤ, pos, ◌-ℤ◌, ◌<ℤ◌, ◌≤ℤ◌, int_le, Bool, true, false, cond, ◌&&◌, ◌||◌, List, [], ◌∷◌, get_or, map, All, Any}
 use Rattle.std.proofs.lemmas.Int.{by_lt_z}
-use Rattle.std.proofs.lemmas.List.Elements.{All-cons, All-head, All-tail, All-map}
+use Rattle.std.proofs.lemmas.List.Elements.{All-head, All-tail, All-map}
+use Rattle.dpl_cell.specs.declared.rect.Rect.{Rect}
 use Rattle.dpl_cell.specs.declared.point.Point.{Point}
 use Rattle.dpl_cell.specs.declared.layout.Primitive.{Primitive}
 use Rattle.dpl_cell.specs.declared.layout.Primitive.TheVariants as prim
 use Rattle.dpl_cell.specs.Places.{place_of}
 use Rattle.dpl_cell.specs.Outlines.{outline_of}
-use Rattle.dpl_cell.specs.Layers.{is_cell, is_in_outline}
-use Rattle.dpl_tiles.specs.Windows.{IsOutside, IsChange, HasCornerAt}
-use Rattle.dpl_tiles.specs.declared.reaches.Reach.{Reach}
-use Rattle.dpl_tiles.specs.Reaches.{SpansColumns, LiesIn, IsReached}
+use Rattle.dpl_cell.specs.Layers.{is_left_side, left_sides, is_in_polygon, is_cell, is_in_outline}
+use Rattle.dpl_tiles.specs.declared.corners.Corner.{Corner}
+use Rattle.dpl_tiles.specs.Sides.{spans}
+use Rattle.dpl_tiles.specs.Windows.{IsOutside, IsChange}
+use Rattle.dpl_tiles.specs.Reaches.{SpansColumns}
+use Rattle.dpl_tiles.specs.Corners.{IsCornerOf, SpansSide, IsEndOf, HasSides, HasCornersOf, AreCorners}
 use Rattle.dpl_cell.proofs.BoxLemmas.{equal_z}
 use Rattle.dpl_tiles.proofs.Signed.{signed}
-use Rattle.dpl_tiles.proofs.OutlineLemmas.{AllRows, AllColumns, Agrees, Lies, outline_same, outline_past, at_most, above}
+use Rattle.dpl_tiles.proofs.SideLemmas.{bit, spans_parity}
+use Rattle.dpl_tiles.proofs.WindowLemmas.{at_most_on}
+use Rattle.dpl_tiles.proofs.OutlineLemmas.{AllColumns, Agrees, Lies, side_same, outline_same, outline_past, at_most, above}
 
 -- an ordinate that is not z lies on one side of row z and of the row below it
 agrees : (z c : ℤ) → c ≢ z → Agrees (z -ℤ pos 1) z c
@@ -24,30 +26,8 @@ agrees z c n = by_lt_z c z
     (λ h. at_most c (z -ℤ pos 1) (omega signed) ∙ sym (at_most c z (omega signed)))
     (λ h. by_lt_z z c (λ g. above c (z -ℤ pos 1) (omega signed) ∙ sym (above c z g)) (λ g. absurd (n (equal_z c z g h))))
 
--- no corner of the primitive lies at z, or one does
-corner_or_not : (z : ℤ) (p : Primitive) → AllRows (λ c. c ≢ z) (outline_of p) ⊎ HasCornerAt z p
-corner_or_not z (prim.Box r) = elim (equal_or_not r.y1) [
-  | inl e ↦ inr (inl e)
-  | inr n ↦ elim (equal_or_not r.y2) [ inl e ↦ inr (inr e) | inr m ↦ inl (n, m) ]
-] where
-  equal_or_not : (c : ℤ) → (c ≡ z) ⊎ (c ≢ z)
-  equal_or_not c = by_lt_z c z (λ h. inr (λ e. absurd (omega signed))) (λ h. by_lt_z z c (λ g. inr (λ e. absurd (omega signed))) (λ g. inl (equal_z c z g h)))
-corner_or_not z (prim.Poly points) = go points where
-  equal_or_not : (c : ℤ) → (c ≡ z) ⊎ (c ≢ z)
-  equal_or_not c = by_lt_z c z (λ h. inr (λ e. absurd (omega signed))) (λ h. by_lt_z z c (λ g. inr (λ e. absurd (omega signed))) (λ g. inl (equal_z c z g h)))
-
-  all_or_some : (ps : List Point) → All (λ p. p.y ≢ z) ps ⊎ Any (λ p. p.y ≡ z) ps
-  all_or_some [] = inl (λ k d l. absurd (omega arith))
-  all_or_some (p ∷ ps) = elim (equal_or_not p.y) [
-    | inl e ↦ inr (0, p, omega arith, refl, e)
-    | inr n ↦ elim (all_or_some ps) [
-      | inl a ↦ inl (All-cons (λ q. q.y ≢ z) p ps n a)
-      | inr (k, q, l, f, e) ↦ inr (suc k, q, omega arith, f, e)
-    ]
-  ]
-
-  go : (ps : List Point) → All (λ c. c.1 ≢ z) (map place_of ps) ⊎ Any (λ p. p.y ≡ z) ps
-  go ps = elim (all_or_some ps) [ inl a ↦ inl (All-map (λ c. c.1 ≢ z) place_of ps a) | inr s ↦ inr s ]
+equal_or_not : (c z : ℤ) → (c ≡ z) ⊎ (c ≢ z)
+equal_or_not c z = by_lt_z c z (λ h. inr (λ e. absurd (omega signed))) (λ h. by_lt_z z c (λ g. inr (λ e. absurd (omega signed))) (λ g. inl (equal_z c z g h)))
 
 -- a primitive has no cell in a column outside those of its corners
 pub columns_past : (left right x : ℤ) (p : Primitive) → SpansColumns left right p → IsOutside left right x → (b : Bool) × AllColumns (Lies b x) (outline_of p)
@@ -56,22 +36,111 @@ columns_past left right x (prim.Box r) (f, g) (inr h) = (true, (at_most _ x (let
 columns_past left right x (prim.Poly points) a (inl h) = (false, All-map (λ c. Lies false x c.0) place_of points (λ k d l. let e = (a k d l).0 in above _ x (omega signed)))
 columns_past left right x (prim.Poly points) a (inr h) = (true, All-map (λ c. Lies true x c.0) place_of points (λ k d l. let e = (a k d l).1 in at_most _ x (omega signed)))
 
-all_agree : (z : ℤ) (p : Primitive) → AllRows (λ c. c ≢ z) (outline_of p) → AllRows (Agrees (z -ℤ pos 1) z) (outline_of p)
-all_agree z (prim.Box r) (n, m) = (agrees z r.y1 n, agrees z r.y2 m)
-all_agree z (prim.Poly points) a = λ k d l. agrees z _ (a k d l)
+-- ---- the sides of a polygon that have an end at row z
+
+-- how often the corner counts for the row below z and for row z, if it stands at or left of the column
+abbrev turn : ℤ → ℤ → ℤ × ℤ → ℕ
+turn x z p = cond (int_le p.0 x) (bit (int_le p.1 (z -ℤ pos 1)) + bit (int_le p.1 z)) 0
+
+left_is : (x y : ℤ) (p q : ℤ × ℤ) (b : Bool) → int_le p.0 x ≡ b → bit (is_left_side x y p q) ≡ bit (b && spans y p q)
+left_is x y p q b e = ap (λ c. bit (c && spans y p q)) e
+
+turn_is : (x z : ℤ) (p : ℤ × ℤ) (b : Bool) → int_le p.0 x ≡ b → turn x z p ≡ cond b (bit (int_le p.1 (z -ℤ pos 1)) + bit (int_le p.1 z)) 0
+turn_is x z p b e = ap (λ c. cond c (bit (int_le p.1 (z -ℤ pos 1)) + bit (int_le p.1 z)) 0) e
+
+-- a side with both ends on one side of the column
+one_side : (x z : ℤ) (p q : ℤ × ℤ) (b : Bool) → Lies b x p.0 → Lies b x q.0 → (bit (is_left_side x (z -ℤ pos 1) p q) + bit (is_left_side x z p q) + turn x z p + turn x z q) % 2 ≡ 0
+one_side x z p q false e f = omega (arith, left_is x (z -ℤ pos 1) p q false e, left_is x z p q false e, turn_is x z p false e, turn_is x z q false f)
+one_side x z p q true e f = omega (arith, left_is x (z -ℤ pos 1) p q true e, left_is x z p q true e, turn_is x z p true e, turn_is x z q true f, spans_parity (z -ℤ pos 1) p q, spans_parity z p q)
+
+even_turn : (x z : ℤ) (p : ℤ × ℤ) → p.1 ≢ z → turn x z p % 2 ≡ 0
+even_turn x z p n = go (int_le p.0 x) (ap bit (agrees z p.1 n)) where
+  go : (b : Bool) → bit (int_le p.1 (z -ℤ pos 1)) ≡ bit (int_le p.1 z) → cond b (bit (int_le p.1 (z -ℤ pos 1)) + bit (int_le p.1 z)) 0 % 2 ≡ 0
+  go true e = omega arith
+  go false e = refl
+
+-- a side with no end at row z
+no_end : (x z : ℤ) (p q : ℤ × ℤ) → p.1 ≢ z → q.1 ≢ z → (bit (is_left_side x (z -ℤ pos 1) p q) + bit (is_left_side x z p q) + turn x z p + turn x z q) % 2 ≡ 0
+no_end x z p q n m = omega (arith, ap bit (side_same x (z -ℤ pos 1) z p q (agrees z p.1 n) (agrees z q.1 m)), even_turn x z p n, even_turn x z q m)
+
+-- the columns hold the side if it has an end at row z
+abbrev SpansEnds : ℤ → ℤ → ℤ → Point → Point → Type 0
+SpansEnds z d1 d2 p q = (p.y ≡ z → SpansSide d1 d2 p q) × (q.y ≡ z → SpansSide d1 d2 p q)
+
+past_side : (x z d1 d2 : ℤ) (p q : Point) → SpansSide d1 d2 p q → IsOutside d1 d2 x → (bit (is_left_side x (z -ℤ pos 1) (place_of p) (place_of q)) + bit (is_left_side x z (place_of p) (place_of q)) + turn x z (place_of p) + turn x z (place_of q)) % 2 ≡ 0
+past_side x z d1 d2 p q s (inl h) = one_side x z (place_of p) (place_of q) false (above p.x x (let f = s.first_left in omega signed)) (above q.x x (let f = s.second_left in omega signed))
+past_side x z d1 d2 p q s (inr h) = one_side x z (place_of p) (place_of q) true (at_most p.x x (let f = s.first_right in omega signed)) (at_most q.x x (let f = s.second_right in omega signed))
+
+side_turns : (x z d1 d2 : ℤ) (p q : Point) → SpansEnds z d1 d2 p q → IsOutside d1 d2 x → (bit (is_left_side x (z -ℤ pos 1) (place_of p) (place_of q)) + bit (is_left_side x z (place_of p) (place_of q)) + turn x z (place_of p) + turn x z (place_of q)) % 2 ≡ 0
+side_turns x z d1 d2 p q (f, g) out = elim (equal_or_not p.y z) [
+  | inl e ↦ past_side x z d1 d2 p q (f e) out
+  | inr n ↦ elim (equal_or_not q.y z) [ inl e ↦ past_side x z d1 d2 p q (g e) out | inr m ↦ no_end x z (place_of p) (place_of q) n m ]
+]
+
+-- the columns hold each side with an end at row z, from one point through the list and on to the last
+abbrev SpansRound : ℤ → ℤ → ℤ → Point → List Point → Point → Type 0
+SpansRound z d1 d2 p [] last = SpansEnds z d1 d2 p last
+SpansRound z d1 d2 p (q ∷ qs) last = SpansEnds z d1 d2 p q × SpansRound z d1 d2 q qs last
+
+-- each corner counts for the side before it and for the one behind it
+round_turns : (x z d1 d2 : ℤ) (p : Point) (ps : List Point) (last : Point) → SpansRound z d1 d2 p ps last → IsOutside d1 d2 x
+    → (left_sides x (z -ℤ pos 1) (place_of p) (map place_of ps) (place_of last) + left_sides x z (place_of p) (map place_of ps) (place_of last) + turn x z (place_of p) + turn x z (place_of last)) % 2 ≡ 0
+round_turns x z d1 d2 p [] last s out = side_turns x z d1 d2 p last s out
+round_turns x z d1 d2 p (q ∷ qs) last (s, ss) out = omega (arith, side_turns x z d1 d2 p q s out, round_turns x z d1 d2 q qs last ss out)
+
+round_same : (x z d1 d2 : ℤ) (p : Point) (ps : List Point) → SpansRound z d1 d2 p ps p → IsOutside d1 d2 x → is_in_polygon (map place_of (p ∷ ps)) x (z -ℤ pos 1) ≡ is_in_polygon (map place_of (p ∷ ps)) x z
+round_same x z d1 d2 p ps s out =
+    let h = round_turns x z d1 d2 p ps p s out in
+    let e : left_sides x (z -ℤ pos 1) (place_of p) (map place_of ps) (place_of p) % 2 ≡ left_sides x z (place_of p) (map place_of ps) (place_of p) % 2 = omega (arith, h) in
+    ap (λ n. n == 1) e
+
+-- ---- all primitives
+
+-- columns that hold those of all corners at a row
+abbrev SpansAt : ℤ → ℤ → ℤ → Corner → Type 0
+SpansAt z d1 d2 c = c.y ≡ z → (d1 ≤ℤ c.left) × (c.right ≤ℤ d2)
+
+end_spans : (z d1 d2 y : ℤ) (p q : Point) (corners : List Corner) → All (SpansAt z d1 d2) corners → Any (IsEndOf p q y) corners → y ≡ z → SpansSide d1 d2 p q
+end_spans z d1 d2 y p q corners a (k, c, l, e, f) g =
+    let w : SpansAt z d1 d2 c = rw e at (a k c l) in
+    let (low, high) = w (f.y ∙ g) in
+    let s = f.spans in
+    record {
+      first_left = at_most_on d1 c.left p.x low s.first_left;
+      first_right = at_most_on p.x c.right d2 s.first_right high;
+      second_left = at_most_on d1 c.left q.x low s.second_left;
+      second_right = at_most_on q.x c.right d2 s.second_right high;
+    }
+
+round_spans : (z d1 d2 : ℤ) (corners : List Corner) (p : Point) (ps : List Point) (last : Point) → All (SpansAt z d1 d2) corners → HasSides corners p ps last → SpansRound z d1 d2 p ps last
+round_spans z d1 d2 corners p [] last a (g, h) = (end_spans z d1 d2 p.y p last corners a g, end_spans z d1 d2 last.y p last corners a h)
+round_spans z d1 d2 corners p (q ∷ qs) last a ((g, h), more) = ((end_spans z d1 d2 p.y p q corners a g, end_spans z d1 d2 q.y p q corners a h), round_spans z d1 d2 corners q qs last a more)
+
+box_spans : (z d1 d2 y : ℤ) (r : Rect) (corners : List Corner) → All (SpansAt z d1 d2) corners → Any (IsCornerOf y r.x1 r.x2) corners → y ≡ z → SpansColumns d1 d2 (prim.Box r)
+box_spans z d1 d2 y r corners a (k, c, l, e, f) g =
+    let w : SpansAt z d1 d2 c = rw e at (a k c l) in
+    rw (f.left, f.right) at (w (f.y ∙ g))
+
+box_past : (z d1 d2 x : ℤ) (r : Rect) → SpansColumns d1 d2 (prim.Box r) → IsOutside d1 d2 x → is_in_outline x (z -ℤ pos 1) (outline_of (prim.Box r)) ≡ is_in_outline x z (outline_of (prim.Box r))
+box_past z d1 d2 x r s out = let (b, a) = columns_past d1 d2 x (prim.Box r) s out in outline_past b x (z -ℤ pos 1) (outline_of (prim.Box r)) a ∙ sym (outline_past b x z (outline_of (prim.Box r)) a)
 
 -- one primitive
-pub same_cell : (z d1 d2 x : ℤ) (p : Primitive) → (HasCornerAt z p → SpansColumns d1 d2 p) → IsOutside d1 d2 x → is_in_outline x (z -ℤ pos 1) (outline_of p) ≡ is_in_outline x z (outline_of p)
-same_cell z d1 d2 x p spans out = elim (corner_or_not z p) [
-  | inl none ↦ outline_same x (z -ℤ pos 1) z (outline_of p) (all_agree z p none)
-  | inr some ↦ let (b, a) = columns_past d1 d2 x p (spans some) out in outline_past b x (z -ℤ pos 1) (outline_of p) a ∙ sym (outline_past b x z (outline_of p) a)
+same_cell : (z d1 d2 x : ℤ) (corners : List Corner) (p : Primitive) → All (SpansAt z d1 d2) corners → HasCornersOf corners p → IsOutside d1 d2 x → is_in_outline x (z -ℤ pos 1) (outline_of p) ≡ is_in_outline x z (outline_of p)
+same_cell z d1 d2 x corners (prim.Box r) a (g, h) out = elim (equal_or_not r.y1 z) [
+  | inl e ↦ box_past z d1 d2 x r (box_spans z d1 d2 r.y1 r corners a g e) out
+  | inr n ↦ elim (equal_or_not r.y2 z) [
+    | inl e ↦ box_past z d1 d2 x r (box_spans z d1 d2 r.y2 r corners a h e) out
+    | inr m ↦ outline_same x (z -ℤ pos 1) z (outline_of (prim.Box r)) (agrees z r.y1 n, agrees z r.y2 m)
+  ]
 ]
+same_cell z d1 d2 x corners (prim.Poly []) a h out = refl
+same_cell z d1 d2 x corners (prim.Poly (p ∷ ps)) a h out = round_same x z d1 d2 p ps (round_spans z d1 d2 corners p ps p a h) out
 
 layer_equal : (x y y' : ℤ) (prims : List Primitive) → All (λ p. is_in_outline x y (outline_of p) ≡ is_in_outline x y' (outline_of p)) prims → is_cell (map outline_of prims) x y ≡ is_cell (map outline_of prims) x y'
 layer_equal x y y' [] a = refl
 layer_equal x y y' (p ∷ ps) a = let P : Primitive → Type 0 = λ p. is_in_outline x y (outline_of p) ≡ is_in_outline x y' (outline_of p) in
     ap (λ b. b || is_cell (map outline_of ps) x y) (All-head P p ps a) ∙ ap (λ b. is_in_outline x y' (outline_of p) || b) (layer_equal x y y' ps (All-tail P p ps a))
 
--- columns that hold all primitives with a corner at z hold all changes of row z
-pub change_of : (prims : List Primitive) (z d1 d2 : ℤ) → All (λ p. HasCornerAt z p → SpansColumns d1 d2 p) prims → IsChange (is_cell (map outline_of prims)) z d1 d2
-change_of prims z d1 d2 spans x out = layer_equal x (z -ℤ pos 1) z prims (λ k d l. same_cell z d1 d2 x (get_or prims k d) (spans k d l) out)
+-- columns that hold those of all corners at z hold all changes of row z
+pub change_of : (prims : List Primitive) (corners : List Corner) (z d1 d2 : ℤ) → AreCorners prims corners → All (λ c. c.y ≡ z → (d1 ≤ℤ c.left) × (c.right ≤ℤ d2)) corners → IsChange (is_cell (map outline_of prims)) z d1 d2
+change_of prims corners z d1 d2 has a x out = layer_equal x (z -ℤ pos 1) z prims (λ k d l. same_cell z d1 d2 x corners (get_or prims k d) a (has.all k d l) out)

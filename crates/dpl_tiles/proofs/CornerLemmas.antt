@@ -3,8 +3,8 @@ use Rattle.std.proofs.Common.{arith, ◌≡◌, ◌⊎◌, ◌∙◌, ℕ, ◌+�
 use Rattle.std.specs.List.Sorted.{IsPermutation, IsPartitionedBy}
 use Rattle.std.proofs.lemmas.Bool.{cases_lt}
 use Rattle.std.proofs.lemmas.Int.{ints}
-use Rattle.std.proofs.lemmas.List.{get_or_default, take_all, get_or-take, get_or-drop, length-take, length-drop}
-use Rattle.std.proofs.lemmas.List.Elements.{All-more, All-weaker}
+use Rattle.std.proofs.lemmas.List.{take_all, get_or-take, get_or-drop, get_or_append_left, length-take, length-drop, drop_more, drop_all}
+use Rattle.std.proofs.lemmas.List.Elements.{All-more, All-weaker, Contains-append_left}
 use Rattle.std.proofs.lemmas.List.Sorted.{Contains-permutation}
 use Rattle.dpl_cell.specs.declared.rect.Rect.{Rect}
 use Rattle.dpl_cell.specs.declared.point.Point.{Point}
@@ -12,75 +12,99 @@ use Rattle.dpl_cell.specs.declared.layout.Primitive.{Primitive}
 use Rattle.dpl_cell.specs.declared.layout.Primitive.TheVariants as prim
 use Rattle.dpl_tiles.specs.declared.corners.Corner.{Corner}
 use Rattle.dpl_tiles.specs.Stretches.{Ascends}
-use Rattle.dpl_tiles.specs.Reaches.{SpansColumns}
-use Rattle.dpl_tiles.specs.Windows.{HasCornerAt}
-use Rattle.dpl_tiles.specs.Corners.{IsCornerOf, IsCornerAt, HasCornersOf, AddsCorners, AreCorners, AreBetween}
+use Rattle.dpl_tiles.specs.Corners.{IsCornerOf, SpansSide, IsEndOf, HasSide, HasSides, HasCornersOf, AreWithin, AddsCorners, AddsSide, AreBetween}
 use Rattle.dpl_tiles.proofs.Signed.{signed}
 use Rattle.dpl_list.proofs.Lists.{any_left, any_right, any_contains}
-use Rattle.dpl_tiles.proofs.ReachLemmas.{spans_wider}
-use Rattle.dpl_tiles.proofs.WindowLemmas.{is_less, is_at_most, not_at_most}
+use Rattle.dpl_tiles.proofs.WindowLemmas.{is_at_most, not_at_most}
+
+-- ---- a longer list has what the shorter one has
+
+any_kept : (P : Corner → Type 0) (old new : List Corner) → AreWithin old new → Any P old → Any P new
+any_kept P old new w (k, c, l, e, h) = any_contains P new c (w c (k, l, e)) h
+
+side_kept : (p q : Point) (old new : List Corner) → AreWithin old new → HasSide old p q → HasSide new p q
+side_kept p q old new w (g, h) = (any_kept (IsEndOf p q p.y) old new w g, any_kept (IsEndOf p q q.y) old new w h)
+
+sides_kept : (p : Point) (ps : List Point) (last : Point) (old new : List Corner) → AreWithin old new → HasSides old p ps last → HasSides new p ps last
+sides_kept p [] last old new w h = side_kept p last old new w h
+sides_kept p (q ∷ qs) last old new w (g, h) = (side_kept p q old new w g, sides_kept q qs last old new w h)
+
+corners_kept : (old new : List Corner) → AreWithin old new → (p : Primitive) → HasCornersOf old p → HasCornersOf new p
+corners_kept old new w (prim.Box r) (g, h) = (any_kept (IsCornerOf r.y1 r.x1 r.x2) old new w g, any_kept (IsCornerOf r.y2 r.x1 r.x2) old new w h)
+corners_kept old new w (prim.Poly []) h = tt
+corners_kept old new w (prim.Poly (p ∷ ps)) h = sides_kept p ps p old new w h
+
+all_within : (xs : List Corner) → AreWithin xs xs
+all_within xs c h = h
+
+grown : (old new : List Corner) (c : Corner) → new ≡ old ++ c ∷ [] → AreWithin old new
+grown old new c e d m = rw e (Contains-append_left old (c ∷ []) d m)
+
+newest : (P : Corner → Type 0) (old new : List Corner) (c : Corner) → new ≡ old ++ c ∷ [] → P c → Any P new
+newest P old new c e h = rw e (any_right P old (c ∷ []) (0, c, omega arith, refl, h))
 
 -- ---- all corners of a primitive
 
-corner_of : (y z left right : ℤ) (p : Primitive) (c : Corner) → y ≡ z → SpansColumns left right p → IsCornerOf y left right c → IsCornerAt z p c
-corner_of y z left right p c e s k = record { y = k.y ∙ e; spans = rw (k.left, k.right) s }
-
-pub sides_added : (r : Rect) (left right : ℤ) (old mid new : List Corner) (c d : Corner) → SpansColumns left right (prim.Box r) → mid ≡ old ++ c ∷ [] → new ≡ mid ++ d ∷ [] → IsCornerOf r.y1 left right c → IsCornerOf r.y2 left right d → AddsCorners (prim.Box r) old new
-sides_added r left right old mid new c d s e f a b = record {
-  added = c ∷ d ∷ [];
-  is = rw e at f ∙ append_assoc old (c ∷ []) (d ∷ []);
-  has = λ z h. elim h [
-    | inl g ↦ (0, c, omega arith, refl, corner_of r.y1 z left right (prim.Box r) c g s a)
-    | inr g ↦ (1, d, omega arith, refl, corner_of r.y2 z left right (prim.Box r) d g s b)
-  ];
+pub sides_added : (r : Rect) (old mid new : List Corner) (c d : Corner) → mid ≡ old ++ c ∷ [] → new ≡ mid ++ d ∷ [] → IsCornerOf r.y1 r.x1 r.x2 c → IsCornerOf r.y2 r.x1 r.x2 d → AddsCorners (prim.Box r) old new
+sides_added r old mid new c d e f a b = record {
+  kept = λ x h. grown mid new d f x (grown old mid c e x h);
+  has = (
+    any_kept (IsCornerOf r.y1 r.x1 r.x2) mid new (grown mid new d f) (newest (IsCornerOf r.y1 r.x1 r.x2) old mid c e a),
+    newest (IsCornerOf r.y2 r.x1 r.x2) mid new d f b,
+  );
 }
 
--- the list grew by the corners of the first i points
-pub record AddsPoints (points : List Point) (left right : ℤ) (i : ℕ) (old new : List Corner) : Type 0 where
-  pub added : List Corner
-  pub is : new ≡ old ++ added
-  pub has : All (λ p. Any (IsCornerOf p.y left right) added) (take i points)
+end_of : (p q : Point) (z left right : ℤ) (c : Corner) → SpansSide left right p q → IsCornerOf z left right c → IsEndOf p q z c
+end_of p q z left right c s k = record { y = k.y; spans = rw (k.left, k.right) s }
 
-pub points_none : (points : List Point) (left right : ℤ) (old : List Corner) → AddsPoints points left right 0 old old
-points_none points left right old = record { added = []; is = rw append-nil refl; has = λ k d l. absurd (omega arith) }
-
-pub points_more : (points : List Point) (left right : ℤ) (i : ℕ) (p : Point) (c : Corner) (old mid new : List Corner) → i < length points → p ≡ get_or points i p → AddsPoints points left right i old mid → new ≡ mid ++ c ∷ [] → IsCornerOf p.y left right c → AddsPoints points left right (i + 1) old new
-points_more points left right i p c old mid new within is a e k = record {
-  added = a.added ++ c ∷ [];
-  is = rw a.is at e ∙ append_assoc old a.added (c ∷ []);
-  has = All-more (λ p. Any (IsCornerOf p.y left right) (a.added ++ c ∷ [])) points i p within
-      (All-weaker (λ p. Any (IsCornerOf p.y left right) a.added) (λ p. Any (IsCornerOf p.y left right) (a.added ++ c ∷ [])) (λ p h. any_left (IsCornerOf p.y left right) a.added (c ∷ []) h) (take i points) a.has)
-      (let P : Point → Type 0 = λ q. Any (IsCornerOf q.y left right) (a.added ++ c ∷ []) in subst P is (any_right (IsCornerOf p.y left right) a.added (c ∷ []) (0, c, omega arith, refl, k)));
+pub side_added : (p q : Point) (left right : ℤ) (old mid new : List Corner) (c d : Corner) → SpansSide left right p q → mid ≡ old ++ c ∷ [] → new ≡ mid ++ d ∷ [] → IsCornerOf p.y left right c → IsCornerOf q.y left right d → AddsSide p q old new
+side_added p q left right old mid new c d s e f a b = record {
+  kept = λ x h. grown mid new d f x (grown old mid c e x h);
+  has = (
+    any_kept (IsEndOf p q p.y) mid new (grown mid new d f) (newest (IsEndOf p q p.y) old mid c e (end_of p q p.y left right c s a)),
+    newest (IsEndOf p q q.y) mid new d f (end_of p q q.y left right d s b),
+  );
 }
 
-pub points_all : (points : List Point) (left right : ℤ) (i : ℕ) (old new : List Corner) → SpansColumns left right (prim.Poly points) → length points ≤ i → AddsPoints points left right i old new → AddsCorners (prim.Poly points) old new
-points_all points left right i old new s whole a = record {
-  added = a.added;
-  is = a.is;
-  has = λ z (k, p, l, e, f). found z k p l e f;
+-- the list grew by the sides up to the i-th point behind the first: with those to go, it has all
+pub record AddsSides (first : Point) (rest : List Point) (i : ℕ) (before : Point) (old new : List Corner) : Type 0 where
+  pub kept : AreWithin old new
+  pub has : (all : List Corner) → AreWithin new all → HasSides all before (drop i rest) first → HasSides all first rest first
+
+pub round_none : (first : Point) (rest : List Point) (old : List Corner) → AddsSides first rest 0 first old old
+round_none first rest old = record { kept = all_within old; has = λ all w h. h }
+
+pub round_more : (first : Point) (rest : List Point) (i : ℕ) (before p : Point) (old mid new : List Corner) → i < length rest → p ≡ get_or rest i p → AddsSides first rest i before old mid → AddsSide before p mid new → AddsSides first rest (i + 1) p old new
+round_more first rest i before p old mid new within is a s = record {
+  kept = λ c h. s.kept c (a.kept c h);
+  has = λ all w h. a.has all (λ c m. w c (s.kept c m)) (go all (side_kept before p new all w s.has) h);
 } where
-  all : All (λ p. Any (IsCornerOf p.y left right) a.added) points
-  all = let h = a.has in rw (take_all i points whole) at h
+  go : (all : List Corner) → HasSide all before p → HasSides all p (drop (i + 1) rest) first → HasSides all before (drop i rest) first
+  go all g h =
+      let both : HasSides all before (p ∷ drop (i + 1) rest) first = (g, h) in
+      rw (drop_more rest i p within, ← is) both
 
-  found : (z : ℤ) (k : ℕ) (p : Point) → k < length points → get_or points k p ≡ p → p.y ≡ z → Any (IsCornerAt z (prim.Poly points)) a.added
-  found z k p l e f = go (rw e at (all k p l)) where
-    go : Any (IsCornerOf p.y left right) a.added → Any (IsCornerAt z (prim.Poly points)) a.added
-    go (m, c, n, g, h) = (m, c, n, g, corner_of p.y z left right (prim.Poly points) c f s h)
+pub round_all : (first : Point) (rest : List Point) (i : ℕ) (before : Point) (old mid new : List Corner) → length rest ≤ i → AddsSides first rest i before old mid → AddsSide before first mid new → AddsCorners (prim.Poly (first ∷ rest)) old new
+round_all first rest i before old mid new whole a s = record {
+  kept = λ c h. s.kept c (a.kept c h);
+  has = a.has new s.kept (rw (drop_all i rest whole) s.has);
+}
+
+pub no_points : (old : List Corner) → AddsCorners (prim.Poly []) old old
+no_points old = record { kept = all_within old; has = tt }
 
 -- ---- all primitives
 
 pub corners_more : (prims : List Primitive) (i : ℕ) (p : Primitive) (old new : List Corner) → i < length prims → p ≡ get_or prims i p → AddsCorners p old new → All (HasCornersOf old) (take i prims) → All (HasCornersOf new) (take (i + 1) prims)
-corners_more prims i p old new within is a h = rw a.is (All-more (HasCornersOf (old ++ a.added)) prims i p within
-    (All-weaker (HasCornersOf old) (HasCornersOf (old ++ a.added)) (λ q g z c. any_left (IsCornerAt z q) old a.added (g z c)) (take i prims) h)
-    (let g : HasCornersOf (old ++ a.added) p = λ z c. any_right (IsCornerAt z p) old a.added (a.has z c) in subst (HasCornersOf (old ++ a.added)) is g))
+corners_more prims i p old new within is a h = All-more (HasCornersOf new) prims i p within
+    (All-weaker (HasCornersOf old) (HasCornersOf new) (λ q g. corners_kept old new a.kept q g) (take i prims) h)
+    (subst (HasCornersOf new) is a.has)
 
 pub corners_all : (prims : List Primitive) (i : ℕ) (corners : List Corner) → length prims ≤ i → All (HasCornersOf corners) (take i prims) → All (HasCornersOf corners) prims
 corners_all prims i corners whole h = rw (take_all i prims whole) at h
 
 pub corners_moved : (prims : List Primitive) (old new : List Corner) → IsPermutation old new → All (HasCornersOf old) prims → All (HasCornersOf new) prims
-corners_moved prims old new p h = All-weaker (HasCornersOf old) (HasCornersOf new) (λ q g z c. go q z (g z c)) prims h where
-  go : (q : Primitive) (z : ℤ) → Any (IsCornerAt z q) old → Any (IsCornerAt z q) new
-  go q z (k, c, l, e, f) = any_contains (IsCornerAt z q) new c (Contains-permutation old new c p (k, l, e)) f
+corners_moved prims old new p h = All-weaker (HasCornersOf old) (HasCornersOf new) (λ q g. corners_kept old new (λ c m. Contains-permutation old new c p m) q g) prims h
 
 -- ---- the corners at a row
 
@@ -121,12 +145,6 @@ spans_all corners z left right from to b a k d l e = elim (cases_lt k from) [
         rw (get_or-take (to - from) (drop from corners) (k - from) d i, get_or-drop from corners (k - from) d, q) at (a (k - from) d m)
   ]
 ]
-
--- columns that hold those of all corners at a row hold all primitives with a corner there
-pub change_spans : (prims : List Primitive) (corners : List Corner) (z left right : ℤ) → AreCorners prims corners → All (λ c. c.y ≡ z → (left ≤ℤ c.left) × (c.right ≤ℤ right)) corners → All (λ p. HasCornerAt z p → SpansColumns left right p) prims
-change_spans prims corners z left right a h = All-weaker (HasCornersOf corners) (λ p. HasCornerAt z p → SpansColumns left right p) (λ p g c. go p (g z c)) prims a.all where
-  go : (p : Primitive) → Any (IsCornerAt z p) corners → SpansColumns left right p
-  go p (k, c, l, e, f) = let w : c.y ≡ z → (left ≤ℤ c.left) × (c.right ≤ℤ right) = rw e at (h k c l) in let v = w f.y in spans_wider left right c.left c.right p v.0 v.1 f.spans
 
 pub narrower : (corners : List Corner) (left right left' right' : ℤ) → left' ≡ left → right ≤ℤ right' → All (λ c. (left ≤ℤ c.left) × (c.right ≤ℤ right)) corners → All (λ c. (left' ≤ℤ c.left) × (c.right ≤ℤ right')) corners
 narrower corners left right left' right' e h a k d l = let g = a k d l in let f = g.0 in let i = g.1 in (rw e f, chain _ _ _ i h) where

@@ -31,7 +31,7 @@ spans_by_ends y p q = grind (arith, ints, clamps)
 abbrev pub Agrees : ℤ → ℤ → ℤ → Type 0
 Agrees y y' c = int_le c y ≡ int_le c y'
 
-side_same : (x y y' : ℤ) (p q : ℤ × ℤ) → Agrees y y' p.1 → Agrees y y' q.1 → is_left_side x y p q ≡ is_left_side x y' p q
+pub side_same : (x y y' : ℤ) (p q : ℤ × ℤ) → Agrees y y' p.1 → Agrees y y' q.1 → is_left_side x y p q ≡ is_left_side x y' p q
 side_same x y y' p q e f =
     ap (λ b. int_le p.0 x && b) (spans_by_ends y p q ∙ ap (λ b. cond b (not (int_le q.1 y)) (int_le q.1 y)) e ∙ ap (λ b. cond (int_le p.1 y') (not b) b) f ∙ sym (spans_by_ends y' p q))
 

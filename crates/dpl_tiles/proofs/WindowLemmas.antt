@@ -13,7 +13,7 @@ use Rattle.dpl_tiles.specs.Windows.{IsOutside, IsChange, IsFar, IsWindow}
 use Rattle.dpl_tiles.proofs.Signed.{signed}
 use Rattle.dpl_tiles.proofs.BoundLemmas.{IsBounded}
 use Rattle.dpl_tiles.proofs.UnionLemmas.{cell_run}
-use Rattle.dpl_cell.proofs.BoxLemmas.{less_test}
+use Rattle.dpl_list.proofs.Integers.{less_test, is_less}
 
 -- a column of far columns, or right beside them, is outside
 far_column : (d1 d2 x1 x2 x : ℤ) → IsFar d1 d2 x1 x2 → (x1 -ℤ pos 1) ≤ℤ x → x ≤ℤ x2 → IsOutside d1 d2 x
@@ -80,9 +80,6 @@ run_ends_inside cells z d1 d2 a b growing x1 x2 bound same o w run high some = b
           begins = by_lt_z d2 y1 (λ g. absurd (was.left (let e = same (y1 -ℤ pos 1) (inr (omega signed)) in rw e (run.full (y1 -ℤ pos 1) (record { from = omega signed; to = let f = at.from in omega signed }))))) (λ g. g)
 
 -- ---- the places of the stacks near the columns that change
-
-pub is_less : (a b : ℤ) → int_lt a b ≡ true → a <ℤ b
-is_less a b e = grind (arith, ints)
 
 pub is_at_most : (a b : ℤ) → int_le a b ≡ true → a ≤ℤ b
 is_at_most a b e = grind (arith, ints)

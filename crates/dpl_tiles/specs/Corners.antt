@@ -1,10 +1,10 @@
--- The corners of primitives, each with the columns of its primitive.
-use Rattle.std.specs.Prelude.{◌≡◌, ℕ, ◌≤◌, ◌<◌, ℤ, ◌<ℤ◌, List, All, Any, ◌++◌, length, slice_index_or}
+-- The corners of primitives, each with the columns of a side that ends there.
+use Rattle.std.specs.Prelude.{◌≡◌, ⊤, ℕ, ◌≤◌, ◌<◌, ℤ, ◌<ℤ◌, ◌≤ℤ◌, List, [], ◌∷◌, All, Any, Contains, length, slice_index_or}
+use Rattle.dpl_cell.specs.declared.point.Point.{Point}
 use Rattle.dpl_cell.specs.declared.layout.Primitive.{Primitive}
+use Rattle.dpl_cell.specs.declared.layout.Primitive.TheVariants as prim
 use Rattle.dpl_tiles.specs.declared.corners.Corner.{Corner}
 use Rattle.dpl_tiles.specs.Stretches.{Ascends}
-use Rattle.dpl_tiles.specs.Reaches.{SpansColumns}
-use Rattle.dpl_tiles.specs.Windows.{HasCornerAt}
 
 -- a corner at row z with the columns from a to b
 pub record IsCornerOf (z a b : ℤ) (c : Corner) : Type 0 where
@@ -12,20 +12,47 @@ pub record IsCornerOf (z a b : ℤ) (c : Corner) : Type 0 where
   pub left : c.left ≡ a
   pub right : c.right ≡ b
 
--- a corner at row z whose columns hold the primitive
-pub record IsCornerAt (z : ℤ) (p : Primitive) (c : Corner) : Type 0 where
-  pub y : c.y ≡ z
-  pub spans : SpansColumns c.left c.right p
+-- columns that hold both ends of a side
+pub record SpansSide (left right : ℤ) (p q : Point) : Type 0 where
+  pub first_left : left ≤ℤ p.x
+  pub first_right : p.x ≤ℤ right
+  pub second_left : left ≤ℤ q.x
+  pub second_right : q.x ≤ℤ right
 
--- each corner of the primitive is in the list
+-- a corner at row z whose columns hold the side
+pub record IsEndOf (p q : Point) (z : ℤ) (c : Corner) : Type 0 where
+  pub y : c.y ≡ z
+  pub spans : SpansSide c.left c.right p q
+
+-- both ends of the side are in the list
+abbrev pub HasSide : List Corner → Point → Point → Type 0
+HasSide corners p q = Any (IsEndOf p q p.y) corners × Any (IsEndOf p q q.y) corners
+
+-- so are those of all sides from one point through the list and on to the last
+abbrev pub HasSides : List Corner → Point → List Point → Point → Type 0
+HasSides corners p [] last = HasSide corners p last
+HasSides corners p (q ∷ qs) last = HasSide corners p q × HasSides corners q qs last
+
+-- the ends of the sides of the primitive are in the list; of a box, those of its upright sides
 abbrev pub HasCornersOf : List Corner → Primitive → Type 0
-HasCornersOf corners p = (z : ℤ) → HasCornerAt z p → Any (IsCornerAt z p) corners
+HasCornersOf corners (prim.Box r) = Any (IsCornerOf r.y1 r.x1 r.x2) corners ×
+    Any (IsCornerOf r.y2 r.x1 r.x2) corners
+HasCornersOf corners (prim.Poly []) = ⊤
+HasCornersOf corners (prim.Poly (p ∷ ps)) = HasSides corners p ps p
+
+-- what is in the first list is in the second
+abbrev pub AreWithin : List Corner → List Corner → Type 0
+AreWithin old new = (c : Corner) → Contains old c → Contains new c
 
 -- the list grew by the corners of the primitive
 pub record AddsCorners (p : Primitive) (old new : List Corner) : Type 0 where
-  pub added : List Corner
-  pub is : new ≡ old ++ added
-  pub has : HasCornersOf added p
+  pub kept : AreWithin old new
+  pub has : HasCornersOf new p
+
+-- the list grew by the ends of a side
+pub record AddsSide (p q : Point) (old new : List Corner) : Type 0 where
+  pub kept : AreWithin old new
+  pub has : HasSide new p q
 
 -- the corners of all primitives, the lowest first
 pub record AreCorners (prims : List Primitive) (corners : List Corner) : Type 0 where

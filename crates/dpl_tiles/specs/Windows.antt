@@ -2,8 +2,6 @@
 use Rattle.std.specs.Prelude.{◌≡◌, ◌⊎◌, ℕ, ◌<◌, ◌≤◌, ℤ, pos, ◌-ℤ◌, ◌<ℤ◌, ◌≤ℤ◌, ◌&&◌, ◌++◌, List, Bool, All, Any, AllPairs, int_le, length, slice_index_or}
 use Rattle.std.specs.List.{AllZip}
 use Rattle.dpl_cell.specs.declared.rect.Rect.{Rect}
-use Rattle.dpl_cell.specs.declared.layout.Primitive.{Primitive}
-use Rattle.dpl_cell.specs.declared.layout.Primitive.TheVariants as prim
 use Rattle.dpl_cell.specs.Tiles.{IsRun}
 use Rattle.dpl_tiles.specs.declared.stretch.Stretch.{Stretch}
 use Rattle.dpl_tiles.specs.Bands.{HasColumns, IsLeftOf}
@@ -65,8 +63,3 @@ pub record AddsClosed (z : ℤ) (ending old new : List Rect) : Type 0 where
 -- the stretch is not far from the columns from d1 to d2
 abbrev pub is_near : ℤ → ℤ → Stretch → Bool
 is_near d1 d2 s = int_le d1 s.to && int_le s.from d2
-
--- some corner lies at the ordinate
-abbrev pub HasCornerAt : ℤ → Primitive → Type 0
-HasCornerAt z (prim.Box r) = (r.y1 ≡ z) ⊎ (r.y2 ≡ z)
-HasCornerAt z (prim.Poly points) = Any (λ p. p.y ≡ z) points

@@ -1,15 +1,14 @@
-// The corners of primitives from the lowest to the highest, each with the columns of its primitive.
-ghost use Rattle.std.specs.Prelude.{◌≡◌, ℤ, ◌≤ℤ◌, ◌<ℤ◌, ℕ, ◌<◌, ◌≤◌, length, slice_index_or, All, IfOk, OnOk};
+// The corners of primitives from the lowest to the highest, each with the columns of a side that ends there.
+ghost use Rattle.std.specs.Prelude.{◌≡◌, ℤ, ◌≤ℤ◌, ◌<ℤ◌, ℕ, ◌<◌, ◌≤◌, length, slice_index_or, All, IfOk, OnOk, ◌∷◌};
 ghost use Rattle.dpl_cell.specs.declared.layout.Primitive.TheVariants as prim;
-ghost use Rattle.dpl_tiles.specs.Reaches.{SpansColumns};
 ghost use Rattle.dpl_tiles.specs.Stretches.{Ascends};
-ghost use Rattle.dpl_tiles.specs.Corners.{AddsCorners, AreBetween, AreCorners, HasCornersOf, IsCornerOf};
+ghost use Rattle.dpl_tiles.specs.Corners.{AddsCorners, AddsSide, AreBetween, AreCorners, HasCornersOf, IsCornerOf, SpansSide};
 
-use crate::reaches::{Columns, Places, greater, lesser, reach_of};
+use crate::reaches::{Columns, Places, greater, lesser};
 use dpl_cell::{Point, Prim, Rect};
 use std::alloc::{AllocError, Global};
 
-/// The ordinate of a corner, and the columns of its primitive.
+/// The ordinate of a corner, and the columns of a side that ends there.
 #[derive(Clone, Copy, Debug)]
 pub struct Corner {
     pub y: i64,
@@ -39,38 +38,64 @@ fn unsorted(alloc: Global, prims: &[Prim]) -> Result<Vec<Corner>, AllocError>
 fn push_corners(corners: &mut Vec<Corner>, prim: &Prim) -> Result<(), AllocError>
     ensures { OnOk result (AddsCorners prim.now corners.old.items corners.new.items) }
 {
-    let reach = reach_of(prim, 0);
-    let columns = Columns {
-        left: reach.left,
-        right: reach.right,
-    };
     match prim {
-        Prim::Box(r) => push_sides(corners, r, &columns),
-        Prim::Poly(points) => push_points(corners, points.as_slice(), &columns),
+        Prim::Box(r) => push_sides(corners, r),
+        Prim::Poly(points) => push_points(corners, points.as_slice()),
     }
 }
 
-fn push_sides(corners: &mut Vec<Corner>, r: &Rect, columns: &Columns) -> Result<(), AllocError>
-    requires { SpansColumns columns.now.left columns.now.right (prim.Box r.now) }
+/// The lower and the upper side of a box.
+fn push_sides(corners: &mut Vec<Corner>, r: &Rect) -> Result<(), AllocError>
     ensures { OnOk result (AddsCorners (prim.Box r.now) corners.old.items corners.new.items) }
 {
-    corners.push(corner_at(r.y1, columns))?;
-    corners.push(corner_at(r.y2, columns))?;
+    let columns = Columns {
+        left: r.x1,
+        right: r.x2,
+    };
+    corners.push(corner_at(r.y1, &columns))?;
+    corners.push(corner_at(r.y2, &columns))?;
     Ok(())
 }
 
-fn push_points(
-    corners: &mut Vec<Corner>,
-    points: &[Point],
-    columns: &Columns,
-) -> Result<(), AllocError>
-    requires { SpansColumns columns.now.left columns.now.right (prim.Poly points.now) }
+fn push_points(corners: &mut Vec<Corner>, points: &[Point]) -> Result<(), AllocError>
     ensures { OnOk result (AddsCorners (prim.Poly points.now) corners.old.items corners.new.items) }
 {
-    for p in points {
-        corners.push(corner_at(p.y, columns))?;
+    match points.split_first() {
+        None => Ok(()),
+        Some((first, rest)) => push_round(corners, first, rest),
     }
+}
+
+/// The sides of a polygon, from its first corner through the others and back.
+fn push_round(corners: &mut Vec<Corner>, first: &Point, rest: &[Point]) -> Result<(), AllocError>
+    ensures { OnOk result (AddsCorners (prim.Poly (first.now ∷ rest.now)) corners.old.items
+        corners.new.items) }
+{
+    let mut before = *first;
+    for p in rest {
+        push_side(corners, &before, p)?;
+        before = *p;
+    }
+    push_side(corners, &before, first)?;
     Ok(())
+}
+
+/// Both ends of a side.
+fn push_side(corners: &mut Vec<Corner>, p: &Point, q: &Point) -> Result<(), AllocError>
+    ensures { OnOk result (AddsSide p.now q.now corners.old.items corners.new.items) }
+{
+    let columns = columns_between(p, q);
+    corners.push(corner_at(p.y, &columns))?;
+    corners.push(corner_at(q.y, &columns))?;
+    Ok(())
+}
+
+fn columns_between(p: &Point, q: &Point) -> Columns
+    ensures { SpansSide result.left result.right p.now q.now }
+{
+    let left = lesser(p.x, q.x);
+    let right = greater(p.x, q.x);
+    Columns { left, right }
 }
 
 fn corner_at(y: i64, columns: &Columns) -> Corner

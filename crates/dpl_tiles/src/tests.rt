@@ -109,3 +109,36 @@ fn a_grid_with_too_many_tiles(rt: HostRuntime) -> Result<(), Fail> {
     assert!(rt; tiles(rt.alloc(), &layout).err() == Some(TileError::TooMany));
     Ok(())
 }
+
+/// Ten upright bars with 9,090 level ones across them, and boxes beside them that touch nothing.
+fn grid(rt: &HostRuntime, beside: &[Corners]) -> Result<Vec<Prim>, Fail> {
+    let mut prims = boxes(rt, beside)?;
+    for i in 0..10u16 {
+        let at = i64::from(i) * 40;
+        prims.push(Prim::Box(rect_of(&(at, 0, at + 10, 363_600))?))?;
+    }
+    for j in 0..9_090u16 {
+        let at = i64::from(j) * 40 + 20;
+        prims.push(Prim::Box(rect_of(&(0, at, 400, at + 10))?))?;
+    }
+    Ok(prims)
+}
+
+#[test]
+fn a_grid_with_the_most_tiles(rt: HostRuntime) -> Result<(), Fail> {
+    let layout = Layout {
+        prims: Items::new(grid(&rt, &[])?),
+    };
+    let found = tiles(rt.alloc(), &layout).map_err(|_| "refused")?;
+    assert_eq!(rt; found.len(), 100_000);
+    Ok(())
+}
+
+#[test]
+fn one_box_beside_the_most_tiles(rt: HostRuntime) -> Result<(), Fail> {
+    let layout = Layout {
+        prims: Items::new(grid(&rt, &[(500, 0, 510, 10)])?),
+    };
+    assert!(rt; tiles(rt.alloc(), &layout).err() == Some(TileError::TooMany));
+    Ok(())
+}

@@ -1,4 +1,4 @@
-use Rattle.std.proofs.Common.{◌≤◌, vec_len}
+use Rattle.std.proofs.Common.{◌≡◌, ◌≤◌, vec_len}
 use Rattle.dpl_ext.specs.Device.{Gave}
 use Rattle.dpl_ext.proofs.reading.read_all.Given as goal
 
@@ -8,4 +8,5 @@ invariant-loop-turn g l =
       turns : l._turn ≤ vec_len l.bytes;
       within : vec_len l.bytes ≤ l.limit;
       gave : Gave (g.S.Source.seen l.initial.source) (g.S.Source.seen l.source) l.bytes.items;
+      steady : (g.S.Source.seen l.source).faults ≡ (g.S.Source.seen l.initial.source).faults;
     }

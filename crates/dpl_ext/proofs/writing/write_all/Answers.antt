@@ -8,7 +8,7 @@ loop-rest-preserved g c =
     let n = c.in_ok-count.count in
     let k = c.loop-rest.invariant.count in
     record {
-      later = omega (arith, c.write.ensures.cause.later);
+      same = c.in_ok-count.ensures.cause.steady ∙ c.loop-rest.invariant.same;
       count = k + n;
       rest = take_rest _ n ∙ ap (drop n) c.loop-rest.invariant.rest ∙ drop-drop n k _;
       taken = Appends-take _ _ _ _ _ k n c.loop-rest.invariant.taken c.loop-rest.invariant.rest c.in_ok-count.ensures.bytes;

@@ -5,7 +5,7 @@ use Rattle.dpl_ext.proofs.writing.write_all.Given as goal
 abbrev pub invariant-loop-rest : goal.invariant-loop-rest
 invariant-loop-rest g l =
     record {
-      later : g.K.Sink.faults l.initial.sink ≤ g.K.Sink.faults l.sink;
+      same : g.K.Sink.faults l.sink ≡ g.K.Sink.faults l.initial.sink;
       count : ℕ;
       rest : l.rest ≡ drop count l.bytes;
       taken : Appends (g.K.Sink.taken l.initial.sink) (g.K.Sink.taken l.sink) (take count l.bytes);

@@ -1,13 +1,15 @@
-use Rattle.std.proofs.Common.{◌≡◌, ◌+◌, length}
-use Rattle.dpl_lex.specs.Cutting.{cut, commands_of, after, IsNoDeeper}
+use Rattle.std.proofs.Common.{◌≡◌, ◌+◌, ◌≤◌, ℕ, List, ◌++◌, length, take}
+use Rattle.dpl_lex.specs.Cutting.{cut, after, IsNoDeeper}
 use Rattle.dpl_lex.proofs.cutting.pass.Given as goal
 
 abbrev pub invariant-bytes : goal.invariant-bytes
 invariant-bytes l =
     record {
-      cut : after l.spans.items (cut l.place l.at l.rest) ≡ after l.fn.spans.items (commands_of l.fn.text);
+      cut : (more : List ℕ) → after l.spans.items (cut l.place l.at (l.rest ++ more)) ≡ after l.fn.spans.items (cut l.fn.place l.fn.at (l.fn.piece ++ more));
       shallow : IsNoDeeper l.at l.place;
-      passed : l.at + length l.rest ≡ length l.fn.text;
+      passed : l.at + length l.rest ≡ l.fn.at + length l.fn.piece;
+      longer : length l.fn.spans.items ≤ length l.spans.items;
+      kept : take (length l.fn.spans.items) l.spans.items ≡ l.fn.spans.items;
     }
 
 abbrev pub decreases-bytes : goal.decreases-bytes

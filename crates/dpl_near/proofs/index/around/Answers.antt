@@ -1,5 +1,6 @@
 use Rattle.std.proofs.Common.{rules, SFits, w64, ◌≤ℤ◌, ◌<ℤ◌, ℤ}
 use Rattle.std.proofs.lemmas.Int.{to_z-of_z}
+use Rattle.dpl_cell.proofs.Same.{corners_fit}
 use Rattle.dpl_near.proofs.WalkLemmas.{signed}
 use Rattle.dpl_near.proofs.index.around.Goals as goal
 
@@ -10,14 +11,8 @@ pub invariant_of-result : goal.invariant_of-result
 invariant_of-result c =
     let a = c.args.a.now in
     let b = c.args.b.now in
-    let fax1 : SFits w64 c.args.a.now.x1 = search rules in
-    let fax2 : SFits w64 c.args.a.now.x2 = search rules in
-    let fay1 : SFits w64 c.args.a.now.y1 = search rules in
-    let fay2 : SFits w64 c.args.a.now.y2 = search rules in
-    let fbx1 : SFits w64 c.args.b.now.x1 = search rules in
-    let fbx2 : SFits w64 c.args.b.now.x2 = search rules in
-    let fby1 : SFits w64 c.args.b.now.y1 = search rules in
-    let fby2 : SFits w64 c.args.b.now.y2 = search rules in
+    let (ax1, (ax2, (ay1, ay2))) = corners_fit c.args.a.now in
+    let (bx1, (bx2, (by1, by2))) = corners_fit c.args.b.now in
     let g0 : SFits w64 c.lesser-x1.result = search rules in
     let g1 : SFits w64 c.lesser-y1.result = search rules in
     let g2 : SFits w64 c.greater-x2.result = search rules in
@@ -37,14 +32,8 @@ invariant_of-result c =
 
 pub returns-clause-first : goal.returns-clause-first
 returns-clause-first c =
-    let fax1 : SFits w64 c.args.a.now.x1 = search rules in
-    let fax2 : SFits w64 c.args.a.now.x2 = search rules in
-    let fay1 : SFits w64 c.args.a.now.y1 = search rules in
-    let fay2 : SFits w64 c.args.a.now.y2 = search rules in
-    let fbx1 : SFits w64 c.args.b.now.x1 = search rules in
-    let fbx2 : SFits w64 c.args.b.now.x2 = search rules in
-    let fby1 : SFits w64 c.args.b.now.y1 = search rules in
-    let fby2 : SFits w64 c.args.b.now.y2 = search rules in
+    let (ax1, (ax2, (ay1, ay2))) = corners_fit c.args.a.now in
+    let (bx1, (bx2, (by1, by2))) = corners_fit c.args.b.now in
     let g0 : SFits w64 c.lesser-x1.result = search rules in
     let g1 : SFits w64 c.lesser-y1.result = search rules in
     let g2 : SFits w64 c.greater-x2.result = search rules in
@@ -58,14 +47,8 @@ returns-clause-first c =
 
 pub returns-clause-second : goal.returns-clause-second
 returns-clause-second c =
-    let fax1 : SFits w64 c.args.a.now.x1 = search rules in
-    let fax2 : SFits w64 c.args.a.now.x2 = search rules in
-    let fay1 : SFits w64 c.args.a.now.y1 = search rules in
-    let fay2 : SFits w64 c.args.a.now.y2 = search rules in
-    let fbx1 : SFits w64 c.args.b.now.x1 = search rules in
-    let fbx2 : SFits w64 c.args.b.now.x2 = search rules in
-    let fby1 : SFits w64 c.args.b.now.y1 = search rules in
-    let fby2 : SFits w64 c.args.b.now.y2 = search rules in
+    let (ax1, (ax2, (ay1, ay2))) = corners_fit c.args.a.now in
+    let (bx1, (bx2, (by1, by2))) = corners_fit c.args.b.now in
     let g0 : SFits w64 c.lesser-x1.result = search rules in
     let g1 : SFits w64 c.lesser-y1.result = search rules in
     let g2 : SFits w64 c.greater-x2.result = search rules in

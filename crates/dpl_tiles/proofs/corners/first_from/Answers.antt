@@ -1,9 +1,9 @@
 use Rattle.std.proofs.Common.{arith, rules, int_lt, SFits, w64}
 use Rattle.std.proofs.lemmas.Int.{to_z-of_z}
 use Rattle.std.proofs.lemmas.List.Sorted.{IsPartitionPoint-from_clause}
-use Rattle.dpl_tiles.proofs.WindowLemmas.{is_less}
 use Rattle.dpl_tiles.proofs.CornerLemmas.{parted_below}
 use Rattle.dpl_tiles.proofs.corners.first_from.Goals as goal
+use Rattle.dpl_list.proofs.Integers.{is_less}
 
 pub returns-clause-below : goal.returns-clause-below
 returns-clause-below c =

@@ -1,9 +1,9 @@
 use Rattle.std.proofs.Common.{arith, rules, int_lt, SFits, w64}
 use Rattle.std.proofs.lemmas.Int.{to_z-of_z}
 use Rattle.std.proofs.lemmas.List.Sorted.{IsPartitionPoint-from_clause}
-use Rattle.dpl_tiles.proofs.WindowLemmas.{parted_left, is_less}
+use Rattle.dpl_tiles.proofs.WindowLemmas.{parted_left}
 use Rattle.dpl_tiles.proofs.sweeping.first_not_left.Goals as goal
-use Rattle.dpl_cell.proofs.BoxLemmas.{not_less}
+use Rattle.dpl_list.proofs.Integers.{not_less, is_less}
 
 pub returns-clause-left : goal.returns-clause-left
 returns-clause-left c =

@@ -6,7 +6,6 @@ use Rattle.dpl_cell.specs.Layers.{is_cell}
 use Rattle.dpl_tiles.specs.Stacks.{ending}
 use Rattle.dpl_tiles.specs.Windows.{IsContinued, AddsClosed, IsChange, AreNearRuns}
 use Rattle.dpl_tiles.proofs.ChangeLemmas.{change_of}
-use Rattle.dpl_tiles.proofs.CornerLemmas.{change_spans}
 use Rattle.dpl_tiles.proofs.PlaceLemmas.{near_all, near_ordered, window, run_inside, step_done}
 use Rattle.dpl_tiles.proofs.sweeping.stepped.Goals as goal
 
@@ -14,7 +13,7 @@ pub near_runs-requires-clause-inside : goal.near_runs-requires-clause-inside
 near_runs-requires-clause-inside c =
     let f : SFits w64 c.args.low = c.ranges.low in
     let p = c.places_of-places.ensures in
-    let change : IsChange (is_cell (map outline_of c.args.prims.now)) c.args.low c.change_at-change.result.left c.change_at-change.result.right = change_of c.args.prims.now c.args.low _ _ (change_spans c.args.prims.now c.args.corners.now c.args.low _ _ c.requires.cornered (simp to_z-of_z at c.change_at-change.ensures.spans)) in
+    let change : IsChange (is_cell (map outline_of c.args.prims.now)) c.args.low c.change_at-change.result.left c.change_at-change.result.right = change_of c.args.prims.now c.args.corners.now c.args.low _ _ c.requires.cornered (simp to_z-of_z at c.change_at-change.ensures.spans) in
     simp to_z-of_z (run_inside c.args.held.now _ _ _ _ p c.args.prims.now c.args.low _ _ change c.requires.swept.going
     (window c.args.held.now _ _ _ _ p _ _ c.window_of-window.ensures.left c.window_of-window.ensures.right c.window_of-window.ensures.holds))
 
@@ -34,7 +33,7 @@ returns c =
     let f : SFits w64 c.args.low = c.ranges.low in
     let g : SFits w64 c.args.high = c.ranges.high in
     let p = c.places_of-places.ensures in
-    let change : IsChange (is_cell (map outline_of c.args.prims.now)) c.args.low c.change_at-change.result.left c.change_at-change.result.right = change_of c.args.prims.now c.args.low _ _ (change_spans c.args.prims.now c.args.corners.now c.args.low _ _ c.requires.cornered (simp to_z-of_z at c.change_at-change.ensures.spans)) in
+    let change : IsChange (is_cell (map outline_of c.args.prims.now)) c.args.low c.change_at-change.result.left c.change_at-change.result.right = change_of c.args.prims.now c.args.corners.now c.args.low _ _ c.requires.cornered (simp to_z-of_z at c.change_at-change.ensures.spans) in
     let runs : AreNearRuns (is_cell (map outline_of c.args.prims.now)) c.args.low c.change_at-change.result.left c.change_at-change.result.right c.in_ok-runs.runs.items = simp to_z-of_z at c.in_ok-runs.ensures.runs in
     let bottom : All (λ r. r.y1 ≡ c.args.low) c.in_ok-runs.runs.items = simp to_z-of_z at c.in_ok-runs.ensures.bottom in
     let near = take (c.places_of-places.result.to - c.places_of-places.result.from) (drop c.places_of-places.result.from c.args.held.now) in
