@@ -3,6 +3,7 @@ pub mod Unfolding
 pub mod Totals
 pub mod Loops
 pub mod Placement
+pub mod Moves
 pub mod Entries
 pub mod Table
 pub mod Put

@@ -1,10 +1,11 @@
 // A part of a definition.
+use crate::apart::Apart;
 use crate::figure::Figure;
-use crate::placement::Placement;
+use crate::moves::Move;
 
 /// A part of a definition: a figure, or a call of the definition with this number.
 #[derive(Drop)]
 pub enum Entry {
-    Drawn(Figure),
-    Called(u64, Placement),
+    Drawn(Apart<Figure>),
+    Called(u64, Move),
 }

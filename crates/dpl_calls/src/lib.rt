@@ -5,12 +5,14 @@
 //! calls out, and `unfold_table` carries them out. Nothing here recurses on the nesting of definitions.
 #![tactic(auto)]
 
+mod apart;
 mod body;
 mod entry;
 pub mod figure;
 mod graph;
 mod laws;
 mod loops;
+mod moves;
 mod placement;
 mod putting;
 mod scanning;

@@ -1,15 +1,17 @@
 // What a command puts into its definition.
-ghost use Rattle.std.specs.Prelude.{◌≡◌, ◌++◌, true, map, IfOk, OnOk};
+ghost use Rattle.std.specs.Prelude.{◌≡◌, ◌++◌, [], ◌∷◌, true, map, IfOk, OnOk};
 ghost use Rattle.dpl_rules.specs.Figures.{IsScale, IsExtentNear, legs};
 ghost use Rattle.dpl_rules.specs.Bounds.{is_command_in_bounds};
 ghost use Rattle.dpl_calls.specs.Parts as parts;
+ghost use Rattle.dpl_calls.specs.Parts.Part.{Drawn};
 ghost use Rattle.dpl_calls.specs.Table.{part_of};
-ghost use Rattle.dpl_calls.specs.Entries.{IsEntryNear};
 ghost use Rattle.dpl_calls.specs.Put.{IsFew};
 
+use crate::apart::Apart;
 use crate::body::Body;
 use crate::entry::Entry;
 use crate::figure::{Corner, Figure};
+use crate::moves::Move;
 use crate::placement::placement_of;
 use dpl_list::Items;
 use dpl_rules::command::{Command, Scale, Spot};
@@ -51,16 +53,31 @@ fn scaled_path(alloc: Global, scale: Scale, path: &[Spot]) -> Result<Items<Corne
     Ok(Items::new(corners))
 }
 
-fn rectangle(scale: Scale, e: Extent) -> Entry
-    requires scale { IsScale scale }
-    requires near { IsExtentNear e }
-    ensures value { part_of result ≡ parts.rectangle scale e }
-    ensures near { IsEntryNear result }
+/// Adds a figure.
+fn put_figure(alloc: Global, body: &mut Body, figure: Figure) -> Result<(), AllocError>
+    ensures { OnOk result (map part_of body.new ≡ map part_of body.old ++ Drawn figure ∷ []) }
 {
-    Entry::Drawn(Figure::Rectangle(scaled_extent(scale, e)))
+    let figure = Apart::new(alloc, figure)?;
+    body.put(Entry::Drawn(figure))
 }
 
-fn put_legs(body: &mut Body, scale: Scale, width: u64, path: &[Spot]) -> Result<(), AllocError>
+/// Adds a rectangle.
+fn put_rectangle(alloc: Global, body: &mut Body, scale: Scale, e: Extent) -> Result<(), AllocError>
+    requires scale { IsScale scale }
+    requires near { IsExtentNear e }
+    ensures { OnOk result (map part_of body.new ≡ map part_of body.old
+        ++ parts.rectangle scale e ∷ []) }
+{
+    put_figure(alloc, body, Figure::Rectangle(scaled_extent(scale, e)))
+}
+
+fn put_legs(
+    alloc: Global,
+    body: &mut Body,
+    scale: Scale,
+    width: u64,
+    path: &[Spot],
+) -> Result<(), AllocError>
     requires { IsScale scale }
     ensures { OnOk result (map part_of body.new ≡ map part_of body.old
         ++ map (parts.rectangle scale) (legs width path.now)) }
@@ -69,11 +86,11 @@ fn put_legs(body: &mut Body, scale: Scale, width: u64, path: &[Spot]) -> Result<
         return Ok(());
     };
     if rest.is_empty() {
-        return body.put(rectangle(scale, leg(width, first, first)));
+        return put_rectangle(alloc, body, scale, leg(width, first, first));
     }
     let mut before = first;
     for spot in rest {
-        body.put(rectangle(scale, leg(width, before, spot)))?;
+        put_rectangle(alloc, body, scale, leg(width, before, spot))?;
         before = spot;
     }
     Ok(())
@@ -96,17 +113,17 @@ pub fn put_entries(
     match command {
         Command::Polygon(path) if chosen => {
             let corners = scaled_path(alloc, scope.scale, path.as_slice())?;
-            body.put(Entry::Drawn(Figure::Polygon(corners)))
+            put_figure(alloc, body, Figure::Polygon(corners))
         }
         Command::Box(b) if chosen && !(b.length == 0 || b.width == 0) => {
-            body.put(rectangle(scope.scale, box_extent(b)))
+            put_rectangle(alloc, body, scope.scale, box_extent(b))
         }
         Command::Wire(width, path) if chosen && *width != 0 => {
-            put_legs(body, scope.scale, *width, path.as_slice())
+            put_legs(alloc, body, scope.scale, *width, path.as_slice())
         }
         Command::Call(number, transformations) => {
             let placement = placement_of(scope.scale, transformations.as_slice());
-            body.put(Entry::Called(*number, placement))
+            body.put(Entry::Called(*number, Move::new(alloc, placement)?))
         }
         _ => Ok(()),
     }

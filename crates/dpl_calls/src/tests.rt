@@ -1,5 +1,7 @@
+use crate::entry::Entry;
 use crate::{groups_of, missing, scan};
 use dpl_lex::{Name, commands};
+use std::mem::size_of;
 use std::test::Fail;
 
 #[test]
@@ -15,5 +17,12 @@ fn definitions_and_calls_are_found(rt: HostRuntime) -> Result<(), Fail> {
     assert_eq!(rt; missing(&scanned.table, scanned.sites.as_slice()), Some(9));
     let groups = groups_of(rt.alloc(), &scanned.table)?;
     assert_eq!(rt; groups.labels.as_slice(), [1, 0, 0].as_slice());
+    Ok(())
+}
+
+/// A million calls without transformations take 32 MB in their definitions.
+#[test]
+fn a_call_is_small(rt: HostRuntime) -> Result<(), Fail> {
+    assert_eq!(rt; size_of::<Entry>(), 32);
     Ok(())
 }

@@ -2,7 +2,8 @@
 ghost use Rattle.std.specs.Prelude.{◌≡◌, ◌≤◌, ◌<◌, ◌+◌, ◌^◌, map, sum_by, IfOk, None, length};
 ghost use Rattle.indexmap.specs.IndexMap.{keys};
 ghost use Rattle.dpl_groups.specs.Groups.{AreGroups};
-ghost use Rattle.dpl_calls.specs.Totals.{total_of, shown};
+ghost use Rattle.dpl_calls.specs.Parts.Part.{Drawn};
+ghost use Rattle.dpl_calls.specs.Totals.{total_of, own_weight, shown};
 ghost use Rattle.dpl_calls.specs.Table.{part_of, bodies_of};
 ghost use Rattle.dpl_calls.specs.Places.{graph_of};
 ghost use Rattle.dpl_calls.specs.Counted.{own_of, kept_of, kept_total, HasNoLoop, AreTotals};
@@ -23,6 +24,17 @@ pub enum Count {
 /// The greatest count that is shown.
 const MOST: u64 = 1_000_000_000_000;
 
+/// How many primitives a figure counts as.
+fn weight(figure: &Figure) -> u64
+    ensures value { result ≡ own_weight (Drawn figure.now) }
+    ensures small { result < 2 ^ 63 }
+{
+    match figure {
+        Figure::Rectangle(_) => 1,
+        Figure::Polygon(corners) => corners.as_slice().len() as u64,
+    }
+}
+
 fn own(count: Count, entry: &Entry) -> u64
     ensures value { result ≡ own_of count (part_of entry.now) }
     ensures small { result < 2 ^ 63 }
@@ -30,8 +42,7 @@ fn own(count: Count, entry: &Entry) -> u64
     match (count, entry) {
         (Count::Calls, Entry::Drawn(_)) => 0,
         (Count::Calls, Entry::Called(..)) => 1,
-        (Count::Weight, Entry::Drawn(Figure::Rectangle(_))) => 1,
-        (Count::Weight, Entry::Drawn(Figure::Polygon(corners))) => corners.as_slice().len() as u64,
+        (Count::Weight, Entry::Drawn(figure)) => weight(figure.get()),
         (Count::Weight, Entry::Called(..)) => 0,
     }
 }

@@ -8,9 +8,10 @@ ghost use Rattle.dpl_calls.specs.Placement.{apply, IsNear, IsCornerNear};
 ghost use Rattle.dpl_calls.specs.Table.{bodies_of};
 ghost use Rattle.dpl_calls.specs.Kept.{IsFigureNear, AreKept};
 
+use crate::apart::Apart;
 use crate::entry::Entry;
 use crate::figure::{Corner, Figure};
-use crate::placement::{Placement, UNMOVED, compose, place};
+use crate::placement::{Placement, UNMOVED, place};
 use crate::table::Table;
 use dpl_list::Items;
 use dpl_rules::figures::Extent;
@@ -52,12 +53,12 @@ fn place_corners(
     Ok(Items::new(placed))
 }
 
-fn place_figure(alloc: Global, p: Placement, figure: &Figure) -> Result<Figure, AllocError>
+fn place_figure(alloc: Global, p: Placement, figure: &Apart<Figure>) -> Result<Figure, AllocError>
     requires p { IsNear (2 ^ 126) p }
     requires near { IsFigureNear figure.now }
     ensures { IfOk result (λ r. r ≡ unfolds.placed (apply p) figure.now) }
 {
-    match figure {
+    match figure.get() {
         Figure::Rectangle(e) => {
             let a = place(p, Corner { x: e.x1, y: e.y1 });
             let b = place(p, Corner { x: e.x2, y: e.y2 });
@@ -101,7 +102,7 @@ pub fn unfold_table(alloc: Global, table: &Table, depth: usize) -> Result<Vec<Fi
                 if frame.below > 0 {
                     stack.push(Frame {
                         rest: table.body(*number),
-                        place: compose(frame.place, *inner),
+                        place: inner.within(frame.place),
                         below: frame.below - 1,
                     })?;
                 }

@@ -3,6 +3,7 @@
 //! `read_layer` reads the text, cuts the tiles of the layer into fragments and links them. What
 //! it gives is the one list of fragments and the one net that the layer has (`one_layer`), and
 //! it answers each refusal exactly where the text breaks that rule or passes that limit first.
+//! `layer_of_commands` gives the same where the text is already cut.
 #![tactic(auto)]
 
 mod drawing;
@@ -12,7 +13,7 @@ mod reading;
 
 pub use error::LayerError;
 pub use laws::one_layer;
-pub use reading::{Layer, read_layer};
+pub use reading::{Layer, layer_of_commands, read_layer};
 
 #[cfg(test)]
 mod tests;

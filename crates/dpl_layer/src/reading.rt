@@ -1,6 +1,7 @@
 // From a text to a layer.
 ghost use Rattle.std.specs.Prelude.{◌≡◌, ◌⊎◌, ◌≤◌, ◌*◌, length, IfOk, IfErr, Err};
 ghost use Rattle.dpl_limits.specs.declared.TheConstants.{MOST_EDGES, MOST_FRAGMENTS, MOST_LAYOUT_BYTES};
+ghost use Rattle.dpl_lex.specs.Cutting.{commands_of};
 ghost use Rattle.dpl_cell.specs.Layers.{cells_of};
 ghost use Rattle.dpl_cif.specs.Reading.{reading};
 ghost use Rattle.dpl_cif.specs.OnCells.{OnCells};
@@ -11,8 +12,10 @@ ghost use Rattle.dpl_layer.specs.Refusals.{RefusesCells, RefusesLayer};
 use crate::drawing::cut_layout;
 use crate::error::LayerError;
 use dpl_cell::Layout;
-use dpl_cif::read;
+use dpl_cif::read_commands;
 use dpl_cuts::types::Fragments;
+use dpl_lex::commands;
+use dpl_lex::types::Commands;
 use dpl_links::net;
 use dpl_report::Options;
 use dpl_sign::Net;
@@ -43,12 +46,44 @@ pub fn read_layer(alloc: Global, text: &[u8], options: &Options) -> Result<Layer
     ensures exact { (e : LayerError) → RefusesLayer options.now text.now e →
         (result ≡ Err e) ⊎ (result ≡ Err LayerError.NoMemory) }
 {
-    read_parts(alloc, text, options)
+    let Ok(commands) = commands(alloc, text) else {
+        return Err(LayerError::NoMemory);
+    };
+    layer_of_commands(alloc, text, &commands, options)
+}
+
+/// The same, where the text is already cut into these commands.
+pub fn layer_of_commands(
+    alloc: Global,
+    text: &[u8],
+    commands: &Commands,
+    options: &Options,
+) -> Result<Layer, LayerError>
+    requires short { length text.now ≤ MOST_LAYOUT_BYTES }
+    requires commands { commands.now ≡ commands_of text.now }
+    ensures layer { IfOk result (λ l. OnCells (reading options.now.layer text.now) (λ cells.
+        IsLayerOf options.now cells l.fragments l.net)) }
+    ensures shared { IfOk result (λ _. OnCells (reading options.now.layer text.now) TilesShareOut) }
+    ensures cut { IfOk result (λ l. CameFromCut (2 * options.now.space) l.fragments) }
+    ensures few_fragments { IfOk result (λ l. length l.fragments.rects ≤ MOST_FRAGMENTS) }
+    ensures few_edges { IfOk result (λ l. length l.net.graph.edges ≤ MOST_EDGES) }
+    ensures refused { (e : LayerError) → result ≡ Err e →
+        (e ≡ LayerError.NoMemory) ⊎ RefusesLayer options.now text.now e }
+    ensures exact { (e : LayerError) → RefusesLayer options.now text.now e →
+        (result ≡ Err e) ⊎ (result ≡ Err LayerError.NoMemory) }
+{
+    read_parts(alloc, text, commands, options)
 }
 
 /// The same; only what refuses the text is said, and not when each refusal comes.
-fn read_parts(alloc: Global, text: &[u8], options: &Options) -> Result<Layer, LayerError>
-    requires { length text.now ≤ MOST_LAYOUT_BYTES }
+fn read_parts(
+    alloc: Global,
+    text: &[u8],
+    commands: &Commands,
+    options: &Options,
+) -> Result<Layer, LayerError>
+    requires short { length text.now ≤ MOST_LAYOUT_BYTES }
+    requires commands { commands.now ≡ commands_of text.now }
     ensures layer { IfOk result (λ l. OnCells (reading options.now.layer text.now) (λ cells.
         IsLayerOf options.now cells l.fragments l.net)) }
     ensures shared { IfOk result (λ _. OnCells (reading options.now.layer text.now) TilesShareOut) }
@@ -58,7 +93,7 @@ fn read_parts(alloc: Global, text: &[u8], options: &Options) -> Result<Layer, La
     ensures refused { IfErr result (λ e.
         (e ≡ LayerError.NoMemory) ⊎ RefusesLayer options.now text.now e) }
 {
-    let layout = read(alloc, text, &options.layer)?;
+    let layout = read_commands(alloc, text, commands, &options.layer)?;
     let layer = draw(alloc, &layout, options)?;
     Ok(layer)
 }

@@ -24,8 +24,8 @@ pub frames-preserved-in_ok-push-in-Drawn : goal.frames-preserved-in_ok-push-in-D
 frames-preserved-in_ok-push-in-Drawn c =
     figure_at (bodies_of c.args.table.now) _ _ _ _ _ c.in-Some.frame _ _ _ c.in-Some.ensures.items c.in-Some-split_first.ensures.cases.0 refl refl c.frames.invariant _ _ c.in-Drawn.figure _ c.in_ok-push-2.ensures.items c.in_ok-push-in-Drawn.ensures.items c.in-Drawn.is c.in_ok-place_figure-in-Drawn.ensures
 
-pub compose-requires-clause-inner : goal.compose-requires-clause-inner
-compose-requires-clause-inner c =
+pub within-requires-clause-inner : goal.within-requires-clause-inner
+within-requires-clause-inner c =
     called_at (bodies_of c.args.table.now) _ _ _ _ _ c.in-Some.frame (record c.in-Some.frame { rest = c.in-Some-split_first.rest }) _ _ c.in-Some.ensures.items c.in-Some-split_first.ensures.cases.0 refl refl c.frames.invariant c.in-Called.number c.in-Called.inner c.in-Called.is
 
 pub frames-smaller-in_ok-push-in-Called : goal.frames-smaller-in_ok-push-in-Called
@@ -41,8 +41,8 @@ frames-preserved-in_ok-push-in-Called c =
     let near = frame_near (bodies_of c.args.table.now) _ _ _ _ _ c.in-Some.frame (record c.in-Some.frame { rest = c.in-Some-split_first.rest }) _ _ c.in-Some.ensures.items c.in-Some-split_first.ensures.cases.0 refl refl c.frames.invariant in
     let inner = called_at (bodies_of c.args.table.now) _ _ _ _ _ c.in-Some.frame (record c.in-Some.frame { rest = c.in-Some-split_first.rest }) _ _ c.in-Some.ensures.items c.in-Some-split_first.ensures.cases.0 refl refl c.frames.invariant c.in-Called.number c.in-Called.inner c.in-Called.is in
     deep_at (bodies_of c.args.table.now) _ _ _ _ _ c.in-Some.frame _ _ _ c.in-Some.ensures.items c.in-Some-split_first.ensures.cases.0 refl refl c.frames.invariant _ _ _ c.in-Called.number c.in-Called.inner c.in_ok-push-2.ensures.items c.in_ok-push-in-Called.ensures.items c.in-Called.is deep parts
-    c.compose.ensures.value
-    (child_near c.frames.done c.in-Some.frame _ c.in-Called.inner c.compose.ensures.near inner near c.body.ensures.near kept)
+    c.within.ensures.value
+    (child_near c.frames.done c.in-Some.frame _ c.in-Called.inner c.within.ensures.near inner near c.body.ensures.near kept)
 
 pub frames-preserved : goal.frames-preserved
 frames-preserved c =
