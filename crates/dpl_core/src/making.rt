@@ -1,6 +1,7 @@
 // From a text to its report.
 ghost use Rattle.std.specs.Prelude.{◌≡◌, ◌⊎◌, ◌≤◌, ℕ, length, IfOk, IfErr, Err};
 ghost use Rattle.dpl_limits.specs.declared.TheConstants.{MOST_EDGES, MOST_LAYOUT_BYTES};
+ghost use Rattle.dpl_lex.specs.Cutting.{commands_of};
 ghost use Rattle.dpl_cif.specs.Reading.{reading};
 ghost use Rattle.dpl_cif.specs.OnCells.{OnCells};
 ghost use Rattle.dpl_report.specs.Plain.{plain_report};
@@ -9,7 +10,9 @@ ghost use Rattle.dpl_core.specs.Reports.{HasMasks, IsReportOf, IsSplit};
 ghost use Rattle.dpl_core.specs.Refusals.{IsOddNet, RefusesSplit};
 
 use crate::reporting::report_of;
-use dpl_layer::{LayerError, read_layer};
+use dpl_layer::{LayerError, layer_of_commands};
+use dpl_lex::commands;
+use dpl_lex::types::Commands;
 use dpl_report::{
     Options, Report, masks_are_of_the_layer, print, true_reports_are_good, true_reports_are_valid,
 };
@@ -28,7 +31,10 @@ pub fn make(alloc: Global, text: &[u8], options: &Options) -> Result<Report, Lay
     ensures exact { (e : LayerError) → RefusesSplit options.now text.now e →
         (result ≡ Err e) ⊎ (result ≡ Err LayerError.NoMemory) }
 {
-    make_report(alloc, text, options)
+    let Ok(commands) = commands(alloc, text) else {
+        return Err(LayerError::NoMemory);
+    };
+    make_commands(alloc, text, &commands, options)
 }
 
 /// The text of the report of a layer of a text, which has at most 16 MiB.
@@ -40,15 +46,62 @@ pub fn split(alloc: Global, text: &[u8], options: &Options) -> Result<Vec<u8>, L
     ensures exact { (e : LayerError) → RefusesSplit options.now text.now e →
         (result ≡ Err e) ⊎ (result ≡ Err LayerError.NoMemory) }
 {
-    let report = make(alloc, text, options)?;
+    let Ok(commands) = commands(alloc, text) else {
+        return Err(LayerError::NoMemory);
+    };
+    split_commands(alloc, text, &commands, options)
+}
+
+/// The same, where the text is already cut into these commands.
+pub fn split_commands(
+    alloc: Global,
+    text: &[u8],
+    commands: &Commands,
+    options: &Options,
+) -> Result<Vec<u8>, LayerError>
+    requires short { length text.now ≤ MOST_LAYOUT_BYTES }
+    requires commands { commands.now ≡ commands_of text.now }
+    ensures split { IfOk result (λ v. IsSplit options.now text.now v.items) }
+    ensures refused { (e : LayerError) → result ≡ Err e →
+        (e ≡ LayerError.NoMemory) ⊎ RefusesSplit options.now text.now e }
+    ensures exact { (e : LayerError) → RefusesSplit options.now text.now e →
+        (result ≡ Err e) ⊎ (result ≡ Err LayerError.NoMemory) }
+{
+    let report = make_commands(alloc, text, commands, options)?;
     let written = print(alloc, &report)?;
     Ok(written)
 }
 
+/// The report of a text that is cut into these commands.
+fn make_commands(
+    alloc: Global,
+    text: &[u8],
+    commands: &Commands,
+    options: &Options,
+) -> Result<Report, LayerError>
+    requires short { length text.now ≤ MOST_LAYOUT_BYTES }
+    requires commands { commands.now ≡ commands_of text.now }
+    ensures made { IfOk result (λ r. IsReportOf options.now text.now (plain_report r)) }
+    ensures masks { IfOk result (λ r.
+        OnCells (reading options.now.layer text.now) (HasMasks options.now (plain_report r))) }
+    ensures refused { (e : LayerError) → result ≡ Err e →
+        (e ≡ LayerError.NoMemory) ⊎ RefusesSplit options.now text.now e }
+    ensures exact { (e : LayerError) → RefusesSplit options.now text.now e →
+        (result ≡ Err e) ⊎ (result ≡ Err LayerError.NoMemory) }
+{
+    make_report(alloc, text, commands, options)
+}
+
 /// The same; of refusals it is said that one comes where it applies, and none to a text with a
 /// report.
-fn make_report(alloc: Global, text: &[u8], options: &Options) -> Result<Report, LayerError>
-    requires { length text.now ≤ MOST_LAYOUT_BYTES }
+fn make_report(
+    alloc: Global,
+    text: &[u8],
+    commands: &Commands,
+    options: &Options,
+) -> Result<Report, LayerError>
+    requires short { length text.now ≤ MOST_LAYOUT_BYTES }
+    requires commands { commands.now ≡ commands_of text.now }
     ensures made { IfOk result (λ r. IsReportOf options.now text.now (plain_report r)) }
     ensures masks { IfOk result (λ r.
         OnCells (reading options.now.layer text.now) (HasMasks options.now (plain_report r))) }
@@ -56,7 +109,7 @@ fn make_report(alloc: Global, text: &[u8], options: &Options) -> Result<Report, 
     ensures refused { IfErr result (λ e.
         (e ≡ LayerError.NoMemory) ⊎ RefusesSplit options.now text.now e) }
 {
-    let layer = read_layer(alloc, text, options)?;
+    let layer = layer_of_commands(alloc, text, commands, options)?;
     let solution = solve_net(alloc, &layer.net)?;
     let report = report_of(alloc, options, &layer.fragments, &layer.net, solution)?;
     true_reports_are_good(options, &layer.fragments, &layer.net, &report);

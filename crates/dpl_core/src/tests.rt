@@ -1,7 +1,7 @@
 ghost use Rattle.std.specs.Prelude.{◌≤◌, length};
 
-use crate::{LayerError, make, split};
-use dpl_lex::Name;
+use crate::{LayerError, make, split, split_commands};
+use dpl_lex::{Name, commands};
 use dpl_links::types::Weights;
 use dpl_report::{Options, Report};
 use std::alloc::Global;
@@ -77,6 +77,42 @@ fn two_crossing_clashes(rt: HostRuntime) -> Result<(), Fail> {
     assert_eq!(rt; report.counts.excess, 2);
     assert_eq!(rt; report.aside.as_slice().len(), 2);
     assert_eq!(rt; report.bound, 20);
+    Ok(())
+}
+
+/// The same net from its commands: the report is the one of the text.
+#[test]
+fn two_crossing_clashes_in_commands(rt: HostRuntime) -> Result<(), Fail> {
+    let options = options().ok_or("no options")?;
+    let layout =
+        b"L M; B 100 100 50 50; B 100 100 200 50; B 100 100 50 200; B 100 100 200 200; E".as_slice();
+    let head = b"(dpl 1);\n(layer M);\n(space 100);\n(overlap 20);\n(stitch 1);\n(conflict 10);\n\
+      (pieces 4);\n(fragments 4);\n(bonds 0);\n(stitches 0);\n(clashes 6);\n(excess 2);\n";
+    let commands = commands(rt.alloc(), layout)?;
+    let text = split_commands(rt.alloc(), layout, &commands, &options)
+        .ok()
+        .ok_or("refused")?;
+    assert!(rt; text.starts_with(head.as_slice()));
+    let wanted = split(rt.alloc(), layout, &options)
+        .ok()
+        .ok_or("refused")?;
+    assert_eq!(rt; text.as_slice(), wanted.as_slice());
+    Ok(())
+}
+
+#[test]
+fn too_far_in_commands(rt: HostRuntime) -> Result<(), Fail> {
+    let options = options().ok_or("no options")?;
+    let layout = b"L M; B 2 2 536870912 0; E".as_slice();
+    let commands = commands(rt.alloc(), layout)?;
+    let error = split_commands(rt.alloc(), layout, &commands, &options)
+        .err()
+        .ok_or("split")?;
+    let wanted = LayerError::Limit {
+        kind: 4,
+        count: 1_073_741_826,
+    };
+    assert_eq!(rt; error, wanted);
     Ok(())
 }
 
