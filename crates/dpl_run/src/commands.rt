@@ -1,5 +1,5 @@
 // What is due for each command.
-ghost use Rattle.std.specs.Prelude.{◌≡◌, ◌≢◌, ◌⊎◌, ◌≤◌, ◌^◌, ℕ, List, [], length, Some, Ok, IfOk, IfErr};
+ghost use Rattle.std.specs.Prelude.{◌≡◌, ◌≢◌, ◌⊎◌, ◌≤◌, ◌^◌, ℕ, List, [], length, Some, Ok, Err, IfOk, IfErr};
 ghost use Rattle.dpl_limits.specs.declared.TheConstants.{MOST_LAYOUT_BYTES, MOST_REPORT_BYTES};
 ghost use Rattle.dpl_ext.specs.Device.{Rose, Texts, first_text};
 ghost use Rattle.dpl_report.specs.Plain.{plain_report};
@@ -48,6 +48,9 @@ pub fn carry_out<S: Source, F: Shelf>(
         PassesBytes (MOST_REPORT_BYTES + 1) count (F.seen second.old) (F.seen second.new) }
     ensures touched { IsTouched (Ok (plain_command command.now)) (S.seen layout.old)
         (S.seen layout.new) (F.seen second.old) (F.seen second.new) }
+    ensures steady { result.status ≢ Status.ReadFault → result.status ≢ Status.NoMemory →
+        ((S.seen layout.new).faults ≡ (S.seen layout.old).faults) ×
+        ((F.seen second.new).faults ≡ (F.seen second.old).faults) }
     ensures bare { IsBare result.status result.output.items }
 {
     match command {
@@ -74,6 +77,8 @@ fn split_text<S: Source>(alloc: Global, options: &Options, layout: &mut S) -> Du
         PassesBytes (MOST_LAYOUT_BYTES + 1) count (S.seen layout.old) (S.seen layout.new) }
     ensures other { (count : ℕ) → result.status ≢ Status.Limit 9 count }
     ensures asked { (S.seen layout.new).asked ≡ (S.seen layout.old).asked }
+    ensures steady { result.status ≢ Status.ReadFault → result.status ≢ Status.NoMemory →
+        (S.seen layout.new).faults ≡ (S.seen layout.old).faults }
     ensures bare { IsBare result.status result.output.items }
 {
     match text_of(alloc, layout, 1, MOST_LAYOUT_BYTES) {
@@ -122,6 +127,9 @@ fn check_text<S: Source, F: Shelf>(
         PassesBytes (MOST_REPORT_BYTES + 1) count (F.seen second.old) (F.seen second.new) }
     ensures asked { (S.seen layout.new).asked ≡ (S.seen layout.old).asked }
     ensures opened { AsksFor name.now (F.seen second.old) (F.seen second.new) }
+    ensures steady { result.status ≢ Status.ReadFault → result.status ≢ Status.NoMemory →
+        ((S.seen layout.new).faults ≡ (S.seen layout.old).faults) ×
+        ((F.seen second.new).faults ≡ (F.seen second.old).faults) }
     ensures bare { IsBare result.status result.output.items }
 {
     let text = match text_of(alloc, layout, 1, MOST_LAYOUT_BYTES) {
@@ -142,6 +150,8 @@ fn report_of<F: Shelf>(alloc: Global, name: &str, second: &mut F) -> Result<Vec<
     ensures stops { IfErr result (StopsReport (F.seen second.old) (F.seen second.new) name.now
         (F.texts second.old)) }
     ensures opened { AsksFor name.now (F.seen second.old) (F.seen second.new) }
+    ensures steady { result ≢ Err Status.ReadFault → result ≢ Err Status.NoMemory →
+        (F.seen second.new).faults ≡ (F.seen second.old).faults }
 {
     match second.open(name) {
         Ok(()) => text_of(alloc, second, 9, MOST_REPORT_BYTES),

@@ -1,5 +1,5 @@
 // Reading a layout or a report whole.
-ghost use Rattle.std.specs.Prelude.{◌≡◌, ◌<◌, ◌^◌, IfOk, IfErr};
+ghost use Rattle.std.specs.Prelude.{◌≡◌, ◌≢◌, ◌<◌, ◌^◌, IfOk, IfErr, Err};
 ghost use Rattle.dpl_ext.specs.Reading.{IsWhole};
 ghost use Rattle.dpl_run.specs.Telling.{StopsReading};
 
@@ -19,6 +19,8 @@ pub fn text_of<S: Source>(
         IsWhole (S.seen source.old) (S.seen source.new) v.items most) }
     ensures stops { IfErr result (StopsReading (S.seen source.old) (S.seen source.new) kind most) }
     ensures asked { (S.seen source.new).asked ≡ (S.seen source.old).asked }
+    ensures steady { result ≢ Err Status.ReadFault → result ≢ Err Status.NoMemory →
+        (S.seen source.new).faults ≡ (S.seen source.old).faults }
 {
     match read_all(alloc, source, most) {
         Ok(text) => Ok(text),
