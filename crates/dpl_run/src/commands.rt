@@ -1,6 +1,7 @@
 // What is due for each command.
 ghost use Rattle.std.specs.Prelude.{◌≡◌, ◌≢◌, ◌⊎◌, ◌≤◌, ◌^◌, ℕ, List, [], length, Some, Ok, Err, IfOk, IfErr};
 ghost use Rattle.dpl_limits.specs.declared.TheConstants.{MOST_LAYOUT_BYTES, MOST_REPORT_BYTES};
+ghost use Rattle.dpl_lex.specs.Cutting.{commands_of};
 ghost use Rattle.dpl_ext.specs.Device.{Rose, Texts, first_text};
 ghost use Rattle.dpl_report.specs.Plain.{plain_report};
 ghost use Rattle.dpl_report.specs.Valid.{IsReport};
@@ -13,13 +14,14 @@ ghost use Rattle.dpl_run.specs.Errors as errors;
 use crate::due::{Due, bare};
 use crate::lines::{Told, load_line, yes_line};
 use crate::status::Status;
-use crate::texts::text_of;
+use crate::texts::{layout_of, text_of};
 use dpl_check::{Verdict, check};
-use dpl_core::{make, split};
+use dpl_core::{make, split_commands};
 use dpl_ext::{OpenEnd, Shelf, Source};
 use dpl_gen::layout as made_layout;
 use dpl_layer::LayerError;
 use dpl_lex::Name;
+use dpl_lex::types::Commands;
 use dpl_limits::{MOST_LAYOUT_BYTES, MOST_REPORT_BYTES};
 use dpl_links::types::Weights;
 use dpl_report::{Options, Report};
@@ -81,22 +83,23 @@ fn split_text<S: Source>(alloc: Global, options: &Options, layout: &mut S) -> Du
         (S.seen layout.new).faults ≡ (S.seen layout.old).faults }
     ensures bare { IsBare result.status result.output.items }
 {
-    match text_of(alloc, layout, 1, MOST_LAYOUT_BYTES) {
-        Ok(text) => split_bytes(alloc, options, text.as_slice()),
+    match layout_of(alloc, layout) {
+        Ok(read) => split_bytes(alloc, options, read.text.as_slice(), &read.commands),
         Err(status) => bare(alloc, status),
     }
 }
 
-/// What is due for the bytes of a layout.
-fn split_bytes(alloc: Global, options: &Options, text: &[u8]) -> Due
-    requires { length text.now ≤ MOST_LAYOUT_BYTES }
+/// What is due for the bytes of a layout with its commands.
+fn split_bytes(alloc: Global, options: &Options, text: &[u8], commands: &Commands) -> Due
+    requires short { length text.now ≤ MOST_LAYOUT_BYTES }
+    requires commands { commands.now ≡ commands_of text.now }
     ensures due { (report : List ℕ) →
         IsDueOrFree (IsDueOf (Ok (plain_split (plain_options options.now))) text.now report)
         result.status result.output.items }
     ensures read { IsNoText result.status }
     ensures bare { IsBare result.status result.output.items }
 {
-    match split(alloc, text, options) {
+    match split_commands(alloc, text, commands, options) {
         Ok(output) => Due {
             status: Status::Done,
             output,
