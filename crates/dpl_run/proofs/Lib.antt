@@ -3,3 +3,4 @@ pub mod OnceLemmas
 pub mod ToldLemmas
 pub mod DueLemmas
 pub mod KindLemmas
+pub mod SteadyLemmas

@@ -149,3 +149,8 @@ IsTouched (Ok (check plain name)) layout layout_now second second_now =
     (layout_now.asked ≡ layout.asked) × AsksFor name second second_now
 IsTouched (Ok (load start rows columns)) layout layout_now second second_now =
     (layout_now ≡ layout) × (second_now ≡ second)
+
+-- the counts of faults of `layout`, `second` and `out` are as they were
+abbrev pub AreSteady : Seen → Seen → Seen → Seen → ℕ → ℕ → Type 0
+AreSteady layout layout_now second second_now out out_now =
+    (layout_now.faults ≡ layout.faults) × (second_now.faults ≡ second.faults) × (out_now ≡ out)

@@ -27,11 +27,12 @@ StopsReading before now kind most ReadFault = Rose before.faults now.faults
 StopsReading before now kind most NoMemory = ⊤
 StopsReading before now kind most status = ⊥
 
--- the whole output was taken and the status is given
+-- the whole output was taken, the sink did not fail, and the status is given
 pub record IsWhole (status : Status) (output : List ℕ) (before now : Option (List ℕ))
-    (result : Status) : Type 0 where
+    (faults faults_now : ℕ) (result : Status) : Type 0 where
   pub status_is : result ≡ status
   pub taken : Appends before now output
+  pub steady : faults_now ≡ faults
 
 -- the sink failed, and a front of the output was taken, which is not empty
 pub record IsFault (output : List ℕ) (before now : Option (List ℕ)) (faults faults_now : ℕ)
@@ -43,7 +44,8 @@ pub record IsFault (output : List ℕ) (before now : Option (List ℕ)) (faults 
 
 abbrev pub IsTold : Status → List ℕ → Option (List ℕ) → Option (List ℕ) → ℕ → ℕ → Status → Type 0
 IsTold status output before now faults faults_now result =
-    IsWhole status output before now result ⊎ IsFault output before now faults faults_now result
+    IsWhole status output before now faults faults_now result ⊎
+    IsFault output before now faults faults_now result
 
 -- no text was read here, so no read failed and no text is too long
 abbrev pub IsNoText : Status → Type 0

@@ -1,6 +1,7 @@
 // What is due for each command.
-ghost use Rattle.std.specs.Prelude.{◌≡◌, ◌≢◌, ◌⊎◌, ◌≤◌, ◌^◌, ℕ, List, [], length, Some, Ok, IfOk, IfErr};
+ghost use Rattle.std.specs.Prelude.{◌≡◌, ◌≢◌, ◌⊎◌, ◌≤◌, ◌^◌, ℕ, List, [], length, Some, Ok, Err, IfOk, IfErr};
 ghost use Rattle.dpl_limits.specs.declared.TheConstants.{MOST_LAYOUT_BYTES, MOST_REPORT_BYTES};
+ghost use Rattle.dpl_lex.specs.Cutting.{commands_of};
 ghost use Rattle.dpl_ext.specs.Device.{Rose, Texts, first_text};
 ghost use Rattle.dpl_report.specs.Plain.{plain_report};
 ghost use Rattle.dpl_report.specs.Valid.{IsReport};
@@ -13,13 +14,14 @@ ghost use Rattle.dpl_run.specs.Errors as errors;
 use crate::due::{Due, bare};
 use crate::lines::{Told, load_line, yes_line};
 use crate::status::Status;
-use crate::texts::text_of;
+use crate::texts::{layout_of, text_of};
 use dpl_check::{Verdict, check};
-use dpl_core::{make, split};
+use dpl_core::{make, split_commands};
 use dpl_ext::{OpenEnd, Shelf, Source};
 use dpl_gen::layout as made_layout;
 use dpl_layer::LayerError;
 use dpl_lex::Name;
+use dpl_lex::types::Commands;
 use dpl_limits::{MOST_LAYOUT_BYTES, MOST_REPORT_BYTES};
 use dpl_links::types::Weights;
 use dpl_report::{Options, Report};
@@ -48,6 +50,9 @@ pub fn carry_out<S: Source, F: Shelf>(
         PassesBytes (MOST_REPORT_BYTES + 1) count (F.seen second.old) (F.seen second.new) }
     ensures touched { IsTouched (Ok (plain_command command.now)) (S.seen layout.old)
         (S.seen layout.new) (F.seen second.old) (F.seen second.new) }
+    ensures steady { result.status ≢ Status.ReadFault → result.status ≢ Status.NoMemory →
+        ((S.seen layout.new).faults ≡ (S.seen layout.old).faults) ×
+        ((F.seen second.new).faults ≡ (F.seen second.old).faults) }
     ensures bare { IsBare result.status result.output.items }
 {
     match command {
@@ -74,24 +79,27 @@ fn split_text<S: Source>(alloc: Global, options: &Options, layout: &mut S) -> Du
         PassesBytes (MOST_LAYOUT_BYTES + 1) count (S.seen layout.old) (S.seen layout.new) }
     ensures other { (count : ℕ) → result.status ≢ Status.Limit 9 count }
     ensures asked { (S.seen layout.new).asked ≡ (S.seen layout.old).asked }
+    ensures steady { result.status ≢ Status.ReadFault → result.status ≢ Status.NoMemory →
+        (S.seen layout.new).faults ≡ (S.seen layout.old).faults }
     ensures bare { IsBare result.status result.output.items }
 {
-    match text_of(alloc, layout, 1, MOST_LAYOUT_BYTES) {
-        Ok(text) => split_bytes(alloc, options, text.as_slice()),
+    match layout_of(alloc, layout) {
+        Ok(read) => split_bytes(alloc, options, read.text.as_slice(), &read.commands),
         Err(status) => bare(alloc, status),
     }
 }
 
-/// What is due for the bytes of a layout.
-fn split_bytes(alloc: Global, options: &Options, text: &[u8]) -> Due
-    requires { length text.now ≤ MOST_LAYOUT_BYTES }
+/// What is due for the bytes of a layout with its commands.
+fn split_bytes(alloc: Global, options: &Options, text: &[u8], commands: &Commands) -> Due
+    requires short { length text.now ≤ MOST_LAYOUT_BYTES }
+    requires commands { commands.now ≡ commands_of text.now }
     ensures due { (report : List ℕ) →
         IsDueOrFree (IsDueOf (Ok (plain_split (plain_options options.now))) text.now report)
         result.status result.output.items }
     ensures read { IsNoText result.status }
     ensures bare { IsBare result.status result.output.items }
 {
-    match split(alloc, text, options) {
+    match split_commands(alloc, text, commands, options) {
         Ok(output) => Due {
             status: Status::Done,
             output,
@@ -122,6 +130,9 @@ fn check_text<S: Source, F: Shelf>(
         PassesBytes (MOST_REPORT_BYTES + 1) count (F.seen second.old) (F.seen second.new) }
     ensures asked { (S.seen layout.new).asked ≡ (S.seen layout.old).asked }
     ensures opened { AsksFor name.now (F.seen second.old) (F.seen second.new) }
+    ensures steady { result.status ≢ Status.ReadFault → result.status ≢ Status.NoMemory →
+        ((S.seen layout.new).faults ≡ (S.seen layout.old).faults) ×
+        ((F.seen second.new).faults ≡ (F.seen second.old).faults) }
     ensures bare { IsBare result.status result.output.items }
 {
     let text = match text_of(alloc, layout, 1, MOST_LAYOUT_BYTES) {
@@ -142,6 +153,8 @@ fn report_of<F: Shelf>(alloc: Global, name: &str, second: &mut F) -> Result<Vec<
     ensures stops { IfErr result (StopsReport (F.seen second.old) (F.seen second.new) name.now
         (F.texts second.old)) }
     ensures opened { AsksFor name.now (F.seen second.old) (F.seen second.new) }
+    ensures steady { result ≢ Err Status.ReadFault → result ≢ Err Status.NoMemory →
+        (F.seen second.new).faults ≡ (F.seen second.old).faults }
 {
     match second.open(name) {
         Ok(()) => text_of(alloc, second, 9, MOST_REPORT_BYTES),

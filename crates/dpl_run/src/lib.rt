@@ -9,6 +9,7 @@
 
 mod commands;
 mod due;
+mod feeding;
 mod line;
 mod lines;
 mod running;

@@ -4,7 +4,7 @@ ghost use Rattle.std.specs.Io.KnownBytes.{Appends};
 ghost use Rattle.dpl_limits.specs.declared.TheConstants.{MOST_LAYOUT_BYTES, MOST_REPORT_BYTES};
 ghost use Rattle.dpl_ext.specs.Device.{Rose, AppendsFront};
 ghost use Rattle.dpl_words.specs.Commands.{command_of};
-ghost use Rattle.dpl_run.specs.Answer.{AreTold, Answers, IsAnswered, IsDue, IsQuiet, IsReadFault, IsTouched, PassesBytes};
+ghost use Rattle.dpl_run.specs.Answer.{AreSteady, AreTold, Answers, IsAnswered, IsDue, IsQuiet, IsReadFault, IsTouched, PassesBytes};
 ghost use Rattle.dpl_run.specs.Lines.{line_of};
 
 use crate::commands::carry_out;
@@ -52,6 +52,9 @@ pub fn run<S: Source, F: Shelf, O: Sink, E: Sink>(
         PassesBytes (MOST_REPORT_BYTES + 1) count (F.seen second.old) (F.seen second.new) }
     ensures touched { IsTouched (command_of (map string_bytes words.now)) (S.seen layout.old)
         (S.seen layout.new) (F.seen second.old) (F.seen second.new) }
+    ensures steady { result ≢ Status.ReadFault → result ≢ Status.WriteFault
+        → result ≢ Status.NoMemory → AreSteady (S.seen layout.old) (S.seen layout.new)
+        (F.seen second.old) (F.seen second.new) (O.faults out.old) (O.faults out.new) }
 
     // What `err` took.
     ensures line { AppendsFront (E.taken err.old) (E.taken err.new) (line_of result) }
@@ -86,6 +89,9 @@ fn attempt<S: Source, F: Shelf, O: Sink>(
         PassesBytes (MOST_REPORT_BYTES + 1) count (F.seen second.old) (F.seen second.new) }
     ensures touched { IsTouched (command_of (map string_bytes words.now)) (S.seen layout.old)
         (S.seen layout.new) (F.seen second.old) (F.seen second.new) }
+    ensures steady { result ≢ Status.ReadFault → result ≢ Status.WriteFault
+        → result ≢ Status.NoMemory → AreSteady (S.seen layout.old) (S.seen layout.new)
+        (F.seen second.old) (F.seen second.new) (O.faults out.old) (O.faults out.new) }
 {
     let command = match parse(alloc, words) {
         Ok(command) => command,

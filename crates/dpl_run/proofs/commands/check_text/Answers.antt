@@ -5,6 +5,7 @@ use Rattle.dpl_words.specs.Views.{plain_options}
 use Rattle.dpl_run.specs.Answer.{IsDueOf}
 use Rattle.dpl_run.specs.Answer.IsDueOf.{check_long, report_long}
 use Rattle.dpl_run.proofs.DueLemmas.{stops_due, report_stops, read_is, bare_stops, bare_report}
+use Rattle.dpl_run.proofs.SteadyLemmas.{steady_stop}
 use Rattle.dpl_run.proofs.commands.check_text.Goals as goal
 
 pub returns-in-Err-clause-due : goal.returns-in-Err-clause-due
@@ -27,3 +28,9 @@ pub returns-clause-bare : goal.returns-clause-bare
 returns-clause-bare g c =
     bare_report (g.F.Source.seen c.args.second.now) (g.F.Source.seen c.report_of.new.second) c.args.name.now (g.F.Shelf.texts c.args.second.now) c.in-Err-report_of.status c.bare-in-Err-report_of.result.status c.bare-in-Err-report_of.result.output.items
     c.in-Err-report_of.ensures.stops c.bare-in-Err-report_of.ensures.status c.bare-in-Err-report_of.ensures.output
+
+pub returns-in-Err-clause-steady : goal.returns-in-Err-clause-steady
+returns-in-Err-clause-steady g c = λ n m. (steady_stop _ _ c.in-Err.status _ c.in-Err.is c.bare.ensures.status c.text_of.ensures.steady n m, refl)
+
+pub returns-clause-steady : goal.returns-clause-steady
+returns-clause-steady g c = λ n m. (c.in-Ok.ensures.whole.steady, steady_stop _ _ c.in-Err-report_of.status _ c.in-Err-report_of.is c.bare-in-Err-report_of.ensures.status c.report_of.ensures.steady n m)

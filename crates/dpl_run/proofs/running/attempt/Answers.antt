@@ -3,6 +3,7 @@ use Rattle.std.specs.Prelude.{string_bytes, Ok}
 use Rattle.dpl_words.specs.Views.{plain_command}
 use Rattle.dpl_run.specs.Answer.{Answers, IsDue}
 use Rattle.dpl_run.specs.declared.status.Status.TheVariants.{Usage}
+use Rattle.dpl_run.proofs.SteadyLemmas.{told_steady}
 use Rattle.dpl_run.proofs.ToldLemmas.{attempt_answers, usage_answers, told_quiet, told_write}
 use Rattle.dpl_run.proofs.running.attempt.Goals as goal
 
@@ -23,3 +24,7 @@ returns-clause-quiet g c =
 pub returns-clause-write : goal.returns-clause-write
 returns-clause-write g c =
     told_write c.carry_out-due.result.status c.carry_out-due.result.output.items (g.O.Sink.taken c.args.out.now) (g.O.Sink.taken c.tell.new.out) (g.O.Sink.faults c.args.out.now) (g.O.Sink.faults c.tell.new.out) c.tell.result c.carry_out-due.ensures.bare c.tell.ensures
+
+pub returns-clause-steady : goal.returns-clause-steady
+returns-clause-steady g c =
+    told_steady _ _ c.carry_out-due.result.status c.carry_out-due.result.output.items (g.O.Sink.taken c.args.out.now) (g.O.Sink.taken c.tell.new.out) (g.O.Sink.faults c.args.out.now) (g.O.Sink.faults c.tell.new.out) c.tell.result c.tell.ensures c.carry_out-due.ensures.steady
