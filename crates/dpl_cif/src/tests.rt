@@ -143,6 +143,16 @@ fn boxes_and_wires_lie_where_they_should(rt: HostRuntime) -> Result<(), Fail> {
             "DS 1; L M; B 30 10 0 0; DF; DS 2 1 2; C 1 T 1 0; DF; C 2; E",
             (-29, -10, 31, 10),
         ),
+        ("L M; W 10 30 5 5 5; E", (0, 0, 70, 20)),
+        ("DS 1 2 1; DF; L M; B 30 10 100 50; E", (170, 90, 230, 110)),
+        (
+            "DS 1; L M; B 30 10 100 50; DF; DS 2; C 1 R 0 1; DF; C 2 M X; E",
+            (90, 170, 110, 230),
+        ),
+        (
+            "DS 1; L M; B 30 10 100 50; DF; C 1 T 7 0 R 0 1; E",
+            (-110, 184, -90, 244),
+        ),
     ] {
         let layout = read(rt.alloc(), text.as_bytes(), &layer)?;
         let [Prim::Box(r)] = layout.prims.as_slice() else {
@@ -195,9 +205,101 @@ fn the_first_rule_is_named(rt: HostRuntime) -> Result<(), Fail> {
         ("DS 1; L M; DF; B 1 1 0 0; E", 4, What::Layerless),
         ("L X; R 1000000000001 0 0; E", 2, What::Number),
         ("DS 1; E", 2, What::Nest),
+        ("L M; B 10 10 0 0 0 0; E", 2, What::Angle),
+        ("DS 1; DF; C 1 R 0 0; E", 3, What::Angle),
+        ("DS 1; DF; C 1 R 1 1; E", 3, What::Angle),
+        ("L M; P 0 0 10 0 10 5; E", 2, What::Slant),
+        ("L M; W 10 0 0 5 5; E", 2, What::Slant),
+        ("R 10 0 0; E", 1, What::Layerless),
+        ("W 10 0 0; E", 1, What::Layerless),
+        ("DS 1 1 0; DF; E", 1, What::Scale),
+        ("DS 1 1 4; L M; W 1 0 0; DF; E", 3, What::OffGrid),
+        ("DS 1; DF; DS 1 0 1; DF; E", 3, What::Twice),
+        ("DS 2 1 4; C 1 T 1 0 R 1 1; DF; E", 2, What::Angle),
+        ("DS 1; C 1; DF; C 9; E", 4, What::Missing),
+        ("DS 1; C 1; DF; E", 2, What::Loop),
+        ("DS 1; C 2; DF; DS 2; C 1; DF; E", 2, What::Loop),
     ] {
         let fault = read(rt.alloc(), text.as_bytes(), &layer).err();
         assert_eq!(rt; fault, Some(CifError::Fault { command, what }), "{text}");
     }
+    Ok(())
+}
+
+/// Faults of figures are looked for on the chosen layer alone, and the greatest integer is no fault.
+#[test]
+fn other_layers_have_no_faults_of_figures(rt: HostRuntime) -> Result<(), Fail> {
+    let layer = Name::new(b"M").ok_or("a name")?;
+    for text in [
+        "L X; B 10 10 0 0 1 1; E",
+        "L X; P 0 0 10 0 5 5; E",
+        "DS 1 1 4; L X; B 1 1 0 0; DF; E",
+        "L X; B 1000000000000 1 0 0; E",
+        "9 1000000000001; (1000000000001); E",
+        "L M; B 0 10 0 0; B 10 0 0 0; W 0 0 0; E",
+    ] {
+        let layout = read(rt.alloc(), text.as_bytes(), &layer)?;
+        assert_eq!(rt; layout.prims.as_slice().len(), 0, "{text}");
+    }
+    Ok(())
+}
+
+/// More than a thousand commands, of which the last counts as the first does.
+#[test]
+fn a_text_of_many_commands(rt: HostRuntime) -> Result<(), Fail> {
+    let layer = Name::new(b"M").ok_or("a name")?;
+    let mut text = String::new(rt.alloc());
+    text.push_str("DS 1; L M; B 30 10 100 50; DF; L M;")?;
+    for _ in 0..1_200u32 {
+        text.push_str("B 2 2 0 0;")?;
+    }
+    let mut broken = String::from_str(rt.alloc(), text.as_str())?;
+    text.push_str("C 1; B 4 4 0 0; E")?;
+    broken.push_str("Q; E")?;
+    assert!(rt; text.len() <= 16777216);
+    assert!(rt; broken.len() <= 16777216);
+    let layout = read(rt.alloc(), text.as_bytes(), &layer)?;
+    let prims = layout.prims.as_slice();
+    assert_eq!(rt; prims.len(), 1202);
+    for (place, want) in [
+        (0usize, (-2, -2, 2, 2)),
+        (1200, (170, 90, 230, 110)),
+        (1201, (-4, -4, 4, 4)),
+    ] {
+        let Some(Prim::Box(r)) = prims.get(place) else {
+            return Err("no box")?;
+        };
+        assert_eq!(rt; (r.x1, r.y1, r.x2, r.y2), want, "{place}");
+    }
+    let fault = CifError::Fault {
+        command: 1206,
+        what: What::Syntax,
+    };
+    assert_eq!(rt;
+        read(rt.alloc(), broken.as_bytes(), &layer).err(),
+        Some(fault)
+    );
+    Ok(())
+}
+
+/// A count beyond 1,000,000,000,000 is shown as that.
+#[test]
+fn the_greatest_count(rt: HostRuntime) -> Result<(), Fail> {
+    let layer = Name::new(b"M").ok_or("a name")?;
+    let mut text = String::new(rt.alloc());
+    text.push_str("DS 1; DF;")?;
+    for k in 1..45 {
+        text.push_str(format!(in rt.alloc(); "DS {}; C {k}; C {k}; DF;", k + 1)?.as_str())?;
+    }
+    text.push_str("C 45; E")?;
+    assert!(rt; text.len() <= 16777216);
+    let limit = CifError::Limit {
+        kind: CifLimit::Calls,
+        count: 1_000_000_000_000,
+    };
+    assert_eq!(rt;
+        read(rt.alloc(), text.as_bytes(), &layer).err(),
+        Some(limit)
+    );
     Ok(())
 }
