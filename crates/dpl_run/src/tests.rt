@@ -1,5 +1,6 @@
 use crate::{Status, run};
 use dpl_ext::{MemShelf, MemSink, MemSource};
+use dpl_rules::What;
 use std::alloc::Global;
 use std::test::Fail;
 
@@ -10,7 +11,8 @@ struct Ended {
     err: MemSink,
 }
 
-/// Devices in memory: the layout, the report under the name `r`, and the numbers of the calls that fail.
+/// Devices in memory: the layout, the report under the name `r`, the numbers of the calls that fail, and how many
+/// bytes the output takes at once.
 #[derive(Drop)]
 struct World {
     layout: Vec<u8>,
@@ -18,6 +20,8 @@ struct World {
     reads: Vec<u64>,
     opens: Vec<u64>,
     writes: Vec<u64>,
+    lines: Vec<u64>,
+    piece: usize,
 }
 
 fn devices(alloc: Global, layout: &[u8], report: &[u8]) -> Result<World, Fail> {
@@ -27,6 +31,8 @@ fn devices(alloc: Global, layout: &[u8], report: &[u8]) -> Result<World, Fail> {
         reads: Vec::new(alloc),
         opens: Vec::new(alloc),
         writes: Vec::new(alloc),
+        lines: Vec::new(alloc),
+        piece: 40,
     })
 }
 
@@ -39,9 +45,9 @@ fn run_over(alloc: Global, line: &str, world: World) -> Result<Ended, Fail> {
     let mut files = Vec::new(alloc);
     files.push((String::from_str(alloc, "r")?, world.report))?;
     let mut layout = MemSource::new(world.layout, 10, world.reads);
-    let mut second = MemShelf::new(alloc, files, 100, world.opens);
-    let mut out = MemSink::new(alloc, 10_000, 40, world.writes)?;
-    let mut err = MemSink::new(alloc, 1000, 40, Vec::new(alloc))?;
+    let mut second = MemShelf::new(alloc, files, 1000, world.opens);
+    let mut out = MemSink::new(alloc, 10_000, world.piece.max(1), world.writes)?;
+    let mut err = MemSink::new(alloc, 1000, 40, world.lines)?;
     let status = run(
         alloc,
         words.as_slice(),
@@ -56,6 +62,8 @@ fn run_over(alloc: Global, line: &str, world: World) -> Result<Ended, Fail> {
 const SPLIT: &str = "split --layer M --space 100 --overlap 20";
 
 const CHECK: &str = "check --layer M --space 100 --overlap 20 --report r";
+
+const TWO: &[u8] = b"L M; B 100 100 50 50; B 100 100 200 50; E";
 
 const TRIANGLE: &[u8] = b"L M; B 100 100 50 50; B 100 100 200 50; B 100 100 125 200; E";
 
@@ -155,5 +163,72 @@ fn failing_devices(rt: HostRuntime) -> Result<(), Fail> {
     assert_eq!(rt; written.status, Status::WriteFault);
     assert_eq!(rt; written.out.bytes(), &NOTHING[..40]);
     assert_eq!(rt; written.err.bytes(), b"dpl: write fault\n".as_slice());
+    Ok(())
+}
+
+/// Each read of the layout fails in turn, and the output stays empty.
+#[test]
+fn each_read_fails_in_turn(rt: HostRuntime) -> Result<(), Fail> {
+    for call in 0..6u64 {
+        let mut given = devices(rt.alloc(), TWO, b"")?;
+        given.reads.push(call)?;
+        let ended = run_over(rt.alloc(), SPLIT, given)?;
+        assert_eq!(rt; ended.status, Status::ReadFault);
+        assert_eq!(rt; ended.out.bytes().len(), 0);
+        assert_eq!(rt; ended.err.bytes(), b"dpl: read fault\n".as_slice());
+    }
+    Ok(())
+}
+
+/// Each write of one byte fails in turn, and the output has the bytes before it.
+#[test]
+fn each_write_fails_in_turn(rt: HostRuntime) -> Result<(), Fail> {
+    let mut given = devices(rt.alloc(), TWO, b"")?;
+    given.piece = 1;
+    let whole = run_over(rt.alloc(), SPLIT, given)?;
+    assert_eq!(rt; whole.status, Status::Done);
+    let text = whole.out.bytes();
+    for call in 0..text.len() {
+        let mut given = devices(rt.alloc(), TWO, b"")?;
+        given.piece = 1;
+        given.writes.push(call as u64)?;
+        let ended = run_over(rt.alloc(), SPLIT, given)?;
+        assert_eq!(rt; ended.status, Status::WriteFault);
+        assert_eq!(rt; ended.out.bytes(), &text[..call]);
+    }
+    Ok(())
+}
+
+/// Opening the report, reading it and finding its end fail in turn.
+#[test]
+fn each_call_of_the_shelf_fails_in_turn(rt: HostRuntime) -> Result<(), Fail> {
+    let made = run_over(rt.alloc(), SPLIT, devices(rt.alloc(), TRIANGLE, b"")?)?;
+    for call in 0..3u64 {
+        let mut given = devices(rt.alloc(), TRIANGLE, made.out.bytes())?;
+        given.opens.push(call)?;
+        let ended = run_over(rt.alloc(), CHECK, given)?;
+        assert_eq!(rt; ended.status, Status::ReadFault);
+        assert_eq!(rt; ended.out.bytes().len(), 0);
+    }
+    Ok(())
+}
+
+/// A refusal is the same where its line cannot be written.
+#[test]
+fn a_refusal_without_its_line(rt: HostRuntime) -> Result<(), Fail> {
+    let layout = b"DS 1 1 3; L M; B 100 99 0 0; DF; C 1; E";
+    let mut given = devices(rt.alloc(), layout, b"")?;
+    for call in 0..100u64 {
+        given.lines.push(call)?;
+    }
+    let ended = run_over(rt.alloc(), SPLIT, given)?;
+    assert_eq!(rt;
+        ended.status,
+        Status::Layout {
+            command: 3,
+            what: What::OffGrid,
+        }
+    );
+    assert_eq!(rt; ended.err.bytes().len(), 0);
     Ok(())
 }
