@@ -1,5 +1,5 @@
 // What is due for each command.
-ghost use Rattle.std.specs.Prelude.{◌≡◌, ◌≢◌, ◌⊎◌, ◌≤◌, ◌^◌, ℕ, List, [], length, Some, Ok, Err, IfOk, IfErr};
+ghost use Rattle.std.specs.Prelude.{◌+◌, ◌≡◌, ◌≢◌, ◌⊎◌, ◌≤◌, ◌^◌, ℕ, List, [], length, Some, Ok, Err, IfOk, IfErr};
 ghost use Rattle.dpl_limits.specs.declared.TheConstants.{MOST_LAYOUT_BYTES, MOST_REPORT_BYTES};
 ghost use Rattle.dpl_lex.specs.Cutting.{commands_of};
 ghost use Rattle.dpl_ext.specs.Device.{Rose, Texts, first_text};
