@@ -93,9 +93,7 @@ fn two_crossing_clashes_in_commands(rt: HostRuntime) -> Result<(), Fail> {
         .ok()
         .ok_or("refused")?;
     assert!(rt; text.starts_with(head.as_slice()));
-    let wanted = split(rt.alloc(), layout, &options)
-        .ok()
-        .ok_or("refused")?;
+    let wanted = split(rt.alloc(), layout, &options).ok().ok_or("refused")?;
     assert_eq!(rt; text.as_slice(), wanted.as_slice());
     Ok(())
 }
