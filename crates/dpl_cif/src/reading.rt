@@ -28,11 +28,9 @@ use dpl_cell::Layout;
 use dpl_groups::Groups;
 use dpl_lex::types::{Commands, Ending};
 use dpl_lex::{Name, commands};
-use dpl_limits::{MOST_CALLS, MOST_PRIMITIVES};
+use dpl_limits::{FARTHEST, MOST_CALLS, MOST_PRIMITIVES};
 use dpl_rules::What;
 use std::alloc::Global;
-
-const FARTHEST: u128 = 1_073_741_824;
 
 const MOST_SHOWN: u128 = 1_000_000_000_000;
 

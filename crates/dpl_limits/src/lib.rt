@@ -13,6 +13,9 @@ pub const MOST_CALLS: u64 = 1_000_000;
 /// The greatest magnitude of a coordinate, in grid units.
 pub const MOST_COORDINATE: i64 = 1 << 30;
 
+/// The same as a magnitude, against numbers that may be larger than any coordinate.
+pub const FARTHEST: u128 = 1_073_741_824;
+
 /// The most tiles of the layer.
 pub const MOST_TILES: usize = 100_000;
 
