@@ -1,0 +1,168 @@
+#!/usr/bin/env python3
+"""Hostile layouts and changed reports with the answers that are due: bench/hostile.py [BINARY].
+
+For each case: seconds of processor time, peak memory, and whether the built program gave the answer. Ends with 1 where
+one did not. No part of the gate.
+"""
+
+import os
+import resource
+import subprocess
+import sys
+import tempfile
+
+sys.path.insert(0, os.path.dirname(os.path.abspath(__file__)))
+import run
+
+TOP = os.path.dirname(os.path.dirname(os.path.abspath(__file__)))
+
+TRIANGLE = b"L M; B 100 100 50 50; B 100 100 200 50; B 100 100 125 200; E"
+
+REPORT = """(dpl 1);
+(layer M);
+(space 100);
+(overlap 20);
+(stitch 1);
+(conflict 10);
+(pieces 3);
+(fragments 3);
+(bonds 0);
+(stitches 0);
+(clashes 3);
+(excess 0);
+(cost 10);
+(bound 20);
+(masks AAB);
+(clash 0 0 1);
+(cycle 20 0 0 2 1);
+DS 1 1 4;
+L MA;
+B 400 400 200 200;
+B 400 400 800 200;
+L MB;
+B 400 400 500 800;
+DF;
+C 1;
+E
+""".split("\n")
+
+
+def line(number, text):
+    """The report with another line in the place of this one, counted from 1."""
+    return "\n".join(REPORT[: number - 1] + [text] + REPORT[number:])
+
+
+def named(name):
+    """The report with another layer named everywhere."""
+    lines = list(REPORT)
+    lines[1], lines[18], lines[21] = "(layer %s);" % name, "L %sA;" % name, "L %sB;" % name
+    return "\n".join(lines)
+
+
+def without(number):
+    return "\n".join(REPORT[: number - 1] + REPORT[number:])
+
+
+def exchanged(number):
+    lines = list(REPORT)
+    lines[number - 1], lines[number] = lines[number], lines[number - 1]
+    return "\n".join(lines)
+
+
+def changed_reports():
+    """A name, the report, and the reason, place, found and wanted of its refusal."""
+    whole = "\n".join(REPORT)
+    yield "another version", line(1, "(dpl 9);"), (1, 1, 0, 0)
+    yield "another layer on its line alone", line(2, "(layer N);"), (1, 19, 0, 0)
+    yield "another layer everywhere", named("N"), (2, 2, 78, 77)
+    yield "another overlap", line(4, "(overlap 21);"), (2, 4, 21, 20)
+    yield "another weight", line(5, "(stitch 2);"), (2, 5, 2, 1)
+    yield "a piece too few", line(7, "(pieces 2);"), (3, 7, 2, 3)
+    yield "a fragment too few", line(8, "(fragments 2);"), (1, 15, 0, 0)
+    yield "another excess", line(12, "(excess 2);"), (3, 12, 2, 0)
+    yield "another cost", line(13, "(cost 11);"), (5, 3, 11, 10)
+    yield "another bound", line(14, "(bound 19);"), (8, 3, 20, 19)
+    yield "another mask", line(15, "(masks ABB);"), (5, 0, 1, 0)
+    yield "the masks exchanged", line(15, "(masks BBA);"), (9, 4294967296, 2, 1)
+    yield "no clash", without(16), (5, 0, 0, 1)
+    yield "a clash of others", line(16, "(clash 0 0 2);"), (5, 0, 2, 1)
+    yield "an edge aside", "\n".join(REPORT[:16] + ["(aside 1);"] + REPORT[16:]), (6, 1, 1, 0)
+    yield "an open walk", line(17, "(cycle 20 0 0 2);"), (7, 0, 3, 0)
+    yield "a walk that goes nowhere", line(17, "(cycle 20 0 0 0);"), (7, 0, 0, 1)
+    yield "a step that leaves no node", line(17, "(cycle 20 0 2 1 0);"), (7, 0, 1, 0)
+    yield "half the half weight", line(17, "(cycle 10 0 0 2 1);"), (8, 3, 10, 20)
+    yield "two boxes exchanged", exchanged(20), (9, 0, 300, 0)
+    yield "a box left out", without(21), (9, 4294967296, 1, 2)
+    yield "a box half a unit higher", line(23, "B 400 400 500 802;"), (9, 2, 301, 300)
+    yield "a byte behind the end", whole + "x", (1, 27, 0, 0)
+    yield "no newline at the end", whole[:-1], (1, 26, 0, 0)
+
+
+def layouts():
+    """A name, the layout, the status, and the line on the error output or how many fragments there are."""
+    box = run.BOX
+    yield "one comment 1 million deep", b"(" * 1_000_000 + b")" * 1_000_000 + b";E", 0, 0
+    yield "100,000 nested definitions", run.nested_definitions(100_000), 0, 1
+    ring = run.nested_definitions(100_000, "C 100000;")
+    yield "100,000 definitions in a ring", ring, 3, "layout 13 at command 2"
+    yield "50,000 boxes by calls", run.tenfold(5, box, "C 5;" * 5), 0, 1
+    yield "50,001 boxes by calls", run.tenfold(5, box, "C 5;" * 5 + box), 4, "limit 2 count 50001"
+    yield "1,000,000 calls", run.tenfold(6, "", "C 6;" * 9 + "C 1;"), 0, 0
+    yield "1,000,001 calls", run.tenfold(6, "", "C 6;" * 9 + "C 1;" * 2), 4, "limit 3 count 1000001"
+    yield "895 boxes, each two a clash", run.layout(run.unit_boxes(895)), 4, "limit 7 count 400001"
+    tiles = [*run.hundred_thousand_tiles(), (1000, 0, 1010, 10)]
+    yield "100,001 tiles", run.layout(tiles), 4, "limit 5 count 100001"
+
+
+def timed(binary, words, text):
+    """A run with its processor time and its peak memory in megabytes."""
+    before = resource.getrusage(resource.RUSAGE_CHILDREN)
+    with tempfile.TemporaryFile() as layout:
+        layout.write(text)
+        layout.seek(0)
+        ended = subprocess.run([binary] + words, stdin=layout, capture_output=True)
+    after = resource.getrusage(resource.RUSAGE_CHILDREN)
+    seconds = after.ru_utime + after.ru_stime - before.ru_utime - before.ru_stime
+    return ended, seconds, after.ru_maxrss / 1000
+
+
+def main():
+    binary = sys.argv[1] if len(sys.argv) > 1 else os.path.join(TOP, "crates", "dpl", "out", "dpl")
+    wrong = 0
+
+    def told(name, ended, seconds, memory, is_right):
+        nonlocal wrong
+        wrong += not is_right
+        answer = ended.stderr.decode().strip() or "status %d" % ended.returncode
+        print("%-36s %7.2f s %7.0f MB  %-5s %s" % (name, seconds, memory, "right" if is_right else "WRONG", answer), flush=True)
+
+    print("peak memory is that of the largest run so far")
+    with tempfile.TemporaryDirectory() as folder:
+        report = os.path.join(folder, "report")
+        check = ["check"] + run.OPTIONS + ["--report", report]
+        for name, text, wanted in changed_reports():
+            with open(report, "w") as file:
+                file.write(text)
+            ended, seconds, memory = timed(binary, check, TRIANGLE)
+            line = "dpl: rejected %d place %d found %d wanted %d\n" % wanted
+            told(name, ended, seconds, memory, (ended.returncode, ended.stderr, ended.stdout) == (1, line.encode(), b""))
+        for name, text, status, wanted in layouts():
+            ended, seconds, memory = timed(binary, ["split"] + run.OPTIONS, text)
+            if status:
+                is_right = (ended.stderr, ended.stdout) == (b"dpl: %s\n" % wanted.encode(), b"")
+            else:
+                is_right = b"(fragments %d);\n" % wanted in ended.stdout[:1000]
+            told(name, ended, seconds, memory, ended.returncode == status and is_right)
+        for spaces, status, line in ((268_435_456, 1, b"rejected 1 place 1 found 0 wanted 0"), (268_435_457, 4, b"limit 9 count 268435457")):
+            with open(report, "wb") as file:
+                for _ in range(0, spaces, 1 << 20):
+                    file.write(b" " * (1 << 20))
+                file.truncate(spaces)
+            ended, seconds, memory = timed(binary, check, b"E")
+            told("a report of %d spaces" % spaces, ended, seconds, memory, (ended.returncode, ended.stderr) == (status, b"dpl: " + line + b"\n"))
+    print("%d wrong" % wrong)
+    return 1 if wrong else 0
+
+
+if __name__ == "__main__":
+    sys.exit(main())
