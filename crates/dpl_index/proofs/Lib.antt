@@ -1,0 +1,4 @@
+pub mod Signed
+pub mod StopLemmas
+pub mod MeetingLemmas
+pub mod OrderLemmas

@@ -1,0 +1,91 @@
+ghost use Rattle.std.specs.Prelude.{ℕ, ◌<◌, length, IfOk, OnOk};
+ghost use Rattle.dpl_index.specs.Meetings.{AddsMeeting, HasMeeting};
+ghost use Rattle.dpl_index.specs.Stops.{IsIndex};
+
+use crate::bounds::{Bounds, do_meet};
+use crate::order::in_order;
+use crate::stops::{Stop, stops_of};
+use std::alloc::{AllocError as NoMemory, Global};
+use std::marker::Model;
+
+/// Finds the items whose bounds meet others. Contracts see it as the list of the bounds of all items, by number.
+#[derive(Drop)]
+pub struct Index {
+    bounds: Vec<Bounds>,
+    stops: Vec<Stop>,
+}
+
+impl Model for Index {
+    ghost use Rattle.std.specs.Prelude.{List};
+    ghost use Rattle.dpl_index.specs.declared.bounds.Bounds.{Bounds};
+    ghost use Rattle.dpl_index.specs.declared.stops.Stop.{Stop};
+    ghost use Rattle.dpl_index.specs.Stops.{IsIndex};
+
+    ghost Value = { List Bounds };
+
+    ghost view = { λ x. x.bounds.items };
+
+    ghost invariant = { λ x. IsIndex x.bounds.items x.stops.items };
+}
+
+impl Index {
+    ghost use Rattle.std.specs.Prelude.{◌≡◌, IfOk};
+    ghost use Rattle.dpl_index.specs.Meetings.{AreMeeting};
+
+    /// An index of items with these bounds. It takes about n log n steps for n of them.
+    pub fn new(alloc: Global, bounds: Vec<Bounds>) -> Result<Index, NoMemory>
+        ensures { IfOk result (λ index. index ≡ bounds.items) }
+    {
+        let stops = stops_of(alloc, bounds.as_slice())?;
+        Ok(Index { bounds, stops })
+    }
+
+    /// The numbers of the items whose bounds meet these, ascending.
+    pub fn meeting(&self, alloc: Global, window: &Bounds) -> Result<Vec<usize>, NoMemory>
+        ensures { IfOk result (λ v. AreMeeting self.now window.now v.items) }
+    {
+        let found = gather(alloc, self.bounds.as_slice(), self.stops.as_slice(), window)?;
+        let ordered = in_order(alloc, found)?;
+        Ok(ordered)
+    }
+}
+
+/// The numbers of the items whose bounds meet these, in any order.
+fn gather(
+    alloc: Global,
+    items: &[Bounds],
+    stops: &[Stop],
+    window: &Bounds,
+) -> Result<Vec<usize>, NoMemory>
+    requires { IsIndex items.now stops.now }
+    ensures { IfOk result (λ v. HasMeeting items.now window.now v.items) }
+{
+    let mut found = Vec::new(alloc);
+    let mut at = 0;
+    'stops: while at < stops.len() {
+        let stop = stops[at];
+        if do_meet(&stop.bounds, window) {
+            push_meeting(&mut found, items, window, stop.number)?;
+            at += 1;
+        } else {
+            at += stop.rest + 1;
+        }
+    }
+    Ok(found)
+}
+
+/// Adds an item if its bounds meet others.
+fn push_meeting(
+    found: &mut Vec<usize>,
+    items: &[Bounds],
+    window: &Bounds,
+    i: usize,
+) -> Result<(), NoMemory>
+    requires { i < length items.now }
+    ensures { OnOk result (AddsMeeting items.now window.now i found.old.items found.new.items) }
+{
+    if do_meet(&items[i], window) {
+        found.push(i)?;
+    }
+    Ok(())
+}

@@ -1,0 +1,117 @@
+// Stops over items: each has bounds that hold its item and those of the stops right behind it.
+ghost use Rattle.std.specs.Prelude.{◌≡◌, ℕ, ◌+◌, ◌<◌, length, slice_index_or, IfOk};
+ghost use Rattle.dpl_index.specs.declared.stops.Stop.{Stop};
+ghost use Rattle.dpl_index.specs.Stops.{IsIndex, NamesAll};
+
+use crate::bounds::{Bounds, around};
+use crate::curve::place_of;
+use std::alloc::{AllocError as NoMemory, Global};
+
+/// An item by its number, and bounds that hold it and the items of the next `rest` stops.
+#[derive(Clone, Copy, Debug)]
+pub struct Stop {
+    pub number: usize,
+    pub rest: usize,
+    pub bounds: Bounds,
+}
+
+/// A stop for each item, so that a walk which leaves out the stops behind one whose bounds are far looks at few.
+pub fn stops_of(alloc: Global, items: &[Bounds]) -> Result<Vec<Stop>, NoMemory>
+    ensures { IfOk result (λ v. IsIndex items.now v.items) }
+{
+    let mut places = places(alloc, items)?;
+    sort(&mut places);
+    let mut stops = singles(alloc, items, places.as_slice())?;
+    gather(items, stops.as_mut_slice());
+    Ok(stops)
+}
+
+/// The numbers of all items, each with its place on the curve.
+fn places(alloc: Global, items: &[Bounds]) -> Result<Vec<(u64, usize)>, NoMemory>
+    ensures { IfOk result (λ v. NamesAll (length items.now) v.items) }
+{
+    let mut places = Vec::new(alloc);
+    for i in 0..items.len() {
+        places.push((place_of(&items[i]), i))?;
+    }
+    Ok(places)
+}
+
+fn sort(places: &mut Vec<(u64, usize)>)
+    ensures { (n : ℕ) → NamesAll n places.old.items → NamesAll n places.new.items }
+{
+    places.sort_unstable_by_key(|p| p.0);
+}
+
+/// A stop for each place, with the bounds of its item alone.
+fn singles(alloc: Global, items: &[Bounds], places: &[(u64, usize)]) -> Result<Vec<Stop>, NoMemory>
+    requires { NamesAll (length items.now) places.now }
+    ensures { IfOk result (λ v. IsIndex items.now v.items) }
+{
+    let mut stops = Vec::new(alloc);
+    for p in places {
+        let number = p.1;
+        stops.push(Stop {
+            number,
+            rest: 0,
+            bounds: items[number],
+        })?;
+    }
+    Ok(stops)
+}
+
+/// Widens the bounds of the stops, from the last to the first.
+fn gather(items: &[Bounds], stops: &mut [Stop])
+    requires index { IsIndex items.now stops.old }
+    ensures index { IsIndex items.now stops.new }
+{
+    let mut k = stops.len();
+    'back: while k > 0 {
+        k -= 1;
+        widen(items, stops, k);
+    }
+}
+
+/// How many stops there are to be from a place on within its bounds: those up to the next multiple of the greatest
+/// power of two that divides the place.
+fn span(k: usize) -> usize {
+    if k == 0 {
+        return usize::MAX;
+    }
+    k ^ (k & (k - 1))
+}
+
+/// Takes the stops right behind a stop into its bounds.
+fn widen(items: &[Bounds], stops: &mut [Stop], k: usize)
+    requires index { IsIndex items.now stops.old }
+    requires within { k < length stops.old }
+    ensures index { IsIndex items.now stops.new }
+{
+    let span = span(k);
+    let mut rest = stops[k].rest;
+    'more: while rest + 1 < span && k + rest + 1 < stops.len() {
+        rest = absorb(items, stops, k);
+    }
+}
+
+/// Takes the next stop, with those within its bounds, into the bounds of a stop, and gives how many these then hold
+/// behind it.
+fn absorb(items: &[Bounds], stops: &mut [Stop], k: usize) -> usize
+    requires index { IsIndex items.now stops.old }
+    requires within { k < length stops.old }
+    requires more { (d : Stop) → k + (slice_index_or stops.old k d).rest + 1 < length stops.old }
+    ensures index { IsIndex items.now stops.new }
+    ensures value { (d : Stop) → result ≡ (slice_index_or stops.new k d).rest }
+    ensures more { (d : Stop) → (slice_index_or stops.old k d).rest < result }
+    ensures low { k + result < length stops.old }
+{
+    let stop = stops[k];
+    let next = stops[k + stop.rest + 1];
+    let rest = stop.rest + next.rest + 1;
+    stops[k] = Stop {
+        number: stop.number,
+        rest,
+        bounds: around(&stop.bounds, &next.bounds),
+    };
+    rest
+}
