@@ -1,6 +1,5 @@
 pub mod NearLemmas
-pub mod IndexLemmas
-pub mod OrderLemmas
+pub mod BoundsLemmas
 pub mod JoinLemmas
 pub mod WalkLemmas
 pub mod ShapeLemmas

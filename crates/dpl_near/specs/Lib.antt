@@ -1,4 +1,4 @@
 pub mod Near
-pub mod Index
+pub mod Bounds
 pub mod Joins
 pub mod Shapes

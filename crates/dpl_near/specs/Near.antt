@@ -22,10 +22,11 @@ pub record AreNear (s : Search) (i : ℕ) (found : List ℕ) : Type 0 where
   pub all : (j : ℕ) → IsNear s i j → Contains found j
   pub ordered : AllPairs (λ j k. j < k) found
 
--- the same in any order, perhaps more than once
-pub record HasNear (s : Search) (i : ℕ) (found : List ℕ) : Type 0 where
-  pub each : All (IsNear s i) found
+-- numbers of rectangles, ascending, and all near ones among them
+pub record MayBeNear (s : Search) (i : ℕ) (found : List ℕ) : Type 0 where
+  pub each : All (λ j. j < length s.rects) found
   pub all : (j : ℕ) → IsNear s i j → Contains found j
+  pub ordered : AllPairs (λ j k. j < k) found
 
 -- the second list is the first, and j behind it where j is near
 abbrev pub AddsNear : Search → ℕ → ℕ → List ℕ → List ℕ → Type 0

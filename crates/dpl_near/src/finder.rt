@@ -1,12 +1,11 @@
 ghost use Rattle.std.specs.Prelude.{ℕ, ◌≤◌, ◌<◌, length, IfOk, OnOk, map};
 ghost use Rattle.dpl_limits.specs.declared.TheConstants.{MOST_REACH, MOST_TILES};
 ghost use Rattle.dpl_cell.specs.Places.{corners_of};
-ghost use Rattle.dpl_near.specs.Index.{IsIndex};
-ghost use Rattle.dpl_near.specs.Near.{AddsNear, AreNear, HasNear};
+ghost use Rattle.dpl_near.specs.Near.{AddsNear, AreNear, MayBeNear};
 
-use crate::index::{Stop, stops_of};
-use crate::order::in_order;
+use crate::bounds::{all_bounds, within_reach};
 use dpl_cell::{Rect, are_close};
+use dpl_index::Index;
 use std::alloc::{AllocError as NoMemory, Global};
 use std::marker::Model;
 
@@ -15,16 +14,15 @@ use std::marker::Model;
 pub struct Finder<'a> {
     rects: &'a [Rect],
     reach: u64,
-    stops: Vec<Stop>,
+    index: Index,
 }
 
 impl<'a> Model for Finder<'a> {
-    ghost use Rattle.std.specs.Prelude.{ℕ, ◌≤◌, length, map};
+    ghost use Rattle.std.specs.Prelude.{◌≡◌, ℕ, ◌≤◌, length, map};
     ghost use Rattle.dpl_limits.specs.declared.TheConstants.{MOST_REACH, MOST_TILES};
     ghost use Rattle.dpl_cell.specs.Places.{corners_of};
     ghost use Rattle.dpl_near.specs.Near.{Search};
-    ghost use Rattle.dpl_near.specs.Index.{IsIndex};
-    ghost use Rattle.dpl_near.specs.declared.index.Stop.{Stop};
+    ghost use Rattle.dpl_near.specs.Bounds.{bounds_of};
 
     ghost Value = { Search };
 
@@ -33,7 +31,7 @@ impl<'a> Model for Finder<'a> {
     ghost invariant = { λ f. record {
       few : length f.rects.now ≤ MOST_TILES;
       near : f.reach ≤ MOST_REACH;
-      index : IsIndex (map corners_of f.rects.now) f.stops.items;
+      bounds : f.index ≡ map (λ r. bounds_of (corners_of r)) f.rects.now;
     } };
 }
 
@@ -49,11 +47,12 @@ impl<'a> Finder<'a> {
         ensures { IfOk result (λ f.
             f ≡ record { rects = map corners_of rects.now; reach = reach }) }
     {
-        let stops = stops_of(alloc, rects)?;
+        let bounds = all_bounds(alloc, rects)?;
+        let index = Index::new(alloc, bounds)?;
         Ok(Finder {
             rects,
             reach,
-            stops,
+            index,
         })
     }
 
@@ -62,44 +61,34 @@ impl<'a> Finder<'a> {
         requires { i < length self.now.rects }
         ensures { IfOk result (λ v. AreNear self.now i v.items) }
     {
-        let found = gather_near(
-            alloc,
-            self.rects,
-            self.stops.as_slice(),
-            self.reach,
-            i as usize,
-        )?;
-        let ordered = in_order(alloc, found)?;
-        Ok(ordered)
+        let window = within_reach(&self.rects[i as usize], self.reach);
+        let found = self.index.meeting(alloc, &window)?;
+        let near = near_among(alloc, self.rects, self.reach, i as usize, found.as_slice())?;
+        Ok(near)
     }
 }
 
-/// The numbers of the rectangles near one, in any order.
-fn gather_near(
+/// The rectangles near one, among those that may be.
+fn near_among(
     alloc: Global,
     rects: &[Rect],
-    stops: &[Stop],
     reach: u64,
     i: usize,
+    found: &[usize],
 ) -> Result<Vec<u32>, NoMemory>
+    requires few { length rects.now ≤ MOST_TILES }
     requires near { reach ≤ MOST_REACH }
     requires within { i < length rects.now }
-    requires index { IsIndex (map corners_of rects.now) stops.now }
+    requires found { MayBeNear (record { rects = map corners_of rects.now; reach = reach }) i
+        found.now }
     ensures { IfOk result (λ v.
-        HasNear (record { rects = map corners_of rects.now; reach = reach }) i v.items) }
+        AreNear (record { rects = map corners_of rects.now; reach = reach }) i v.items) }
 {
-    let mut found = Vec::new(alloc);
-    let mut at = 0;
-    'stops: while at < stops.len() {
-        let stop = stops[at];
-        if are_close(&rects[i], &stop.bounds, reach) {
-            push_near(&mut found, rects, reach, i, stop.number)?;
-            at += 1;
-        } else {
-            at += stop.rest as usize + 1;
-        }
+    let mut near = Vec::new(alloc);
+    for j in found {
+        push_near(&mut near, rects, reach, i, *j)?;
     }
-    Ok(found)
+    Ok(near)
 }
 
 /// Adds a rectangle if it is near another.
@@ -108,16 +97,17 @@ fn push_near(
     rects: &[Rect],
     reach: u64,
     i: usize,
-    j: u32,
+    j: usize,
 ) -> Result<(), NoMemory>
+    requires few { length rects.now ≤ MOST_TILES }
     requires near { reach ≤ MOST_REACH }
     requires within { i < length rects.now }
     requires other { j < length rects.now }
     ensures { OnOk result (AddsNear (record { rects = map corners_of rects.now; reach = reach })
         i j found.old.items found.new.items) }
 {
-    if j as usize != i && are_close(&rects[i], &rects[j as usize], reach) {
-        found.push(j)?;
+    if j != i && are_close(&rects[i], &rects[j], reach) {
+        found.push(j as u32)?;
     }
     Ok(())
 }

@@ -6,11 +6,10 @@
 #![tactic(auto)]
 
 mod apart;
+mod bounds;
 mod finder;
-mod index;
 mod joining;
 pub mod laws;
-mod order;
 mod shaping;
 pub mod types;
 

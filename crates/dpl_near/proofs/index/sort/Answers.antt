@@ -1,8 +1,0 @@
-use Rattle.std.proofs.Common.{rules, ◌≡◌, length}
-use Rattle.dpl_near.proofs.IndexLemmas.{named_permuted}
-use Rattle.dpl_near.proofs.index.sort.Goals as goal
-
-pub returns : goal.returns
-returns c n names =
-    let e : length c.sort_unstable_by_key.new.self.items ≡ length c.args.places.now.items = search rules in
-    named_permuted _ _ c.sort_unstable_by_key.ensures.permutation e n names

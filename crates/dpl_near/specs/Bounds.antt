@@ -1,0 +1,6 @@
+-- The bounds of rectangles, for an index.
+use Rattle.dpl_index.specs.declared.bounds.Bounds.{Bounds}
+use Rattle.dpl_cell.specs.Places.{Corners}
+
+abbrev pub bounds_of : Corners → Bounds
+bounds_of r = record { left = r.x1; right = r.x2; low = r.y1; high = r.y2 }
