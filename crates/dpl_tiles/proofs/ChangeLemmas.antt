@@ -12,7 +12,7 @@ use Rattle.dpl_cell.specs.Layers.{is_left_side, left_sides, is_in_polygon, is_ce
 use Rattle.dpl_tiles.specs.declared.corners.Corner.{Corner}
 use Rattle.dpl_tiles.specs.Sides.{spans}
 use Rattle.dpl_tiles.specs.Windows.{IsOutside, IsChange}
-use Rattle.dpl_tiles.specs.Reaches.{SpansColumns}
+use Rattle.dpl_tiles.specs.Bounds.{SpansColumns}
 use Rattle.dpl_tiles.specs.Corners.{IsCornerOf, SpansSide, IsEndOf, HasSides, HasCornersOf, AreCorners}
 use Rattle.dpl_cell.proofs.BoxLemmas.{equal_z}
 use Rattle.dpl_tiles.proofs.Signed.{signed}

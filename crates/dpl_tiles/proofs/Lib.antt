@@ -6,7 +6,7 @@ pub mod PairLemmas
 pub mod OrdinateLemmas
 pub mod FindLemmas
 pub mod OutlineLemmas
-pub mod ReachLemmas
+pub mod IndexLemmas
 pub mod StackLemmas
 pub mod BandLemmas
 pub mod BoundLemmas

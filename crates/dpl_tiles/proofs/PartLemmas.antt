@@ -1,78 +1,64 @@
--- A row that is walked for the columns of a window alone.
-use Rattle.std.proofs.Common.{arith, ◌≡◌, ◌⊎◌, ℕ, ◌+◌, ◌<◌, ◌≤◌, ℤ, pos, ◌-ℤ◌, ◌<ℤ◌, ◌≤ℤ◌, List, [], ◌∷◌, length, get_or, ◌∙◌, refl, sym, ap, inl, inr, map, true, false, ◌||◌}
-use Rattle.std.proofs.lemmas.Bool.{cases_lt}
+-- The cells of a row in a window, from the primitives whose bounds meet the window.
+use Rattle.std.proofs.Common.{arith, ◌≡◌, ℕ, ◌+◌, ◌<◌, ◌≤◌, ℤ, pos, ◌-ℤ◌, ◌≤ℤ◌, List, [], length, get_or, ◌∙◌, Contains, sym, ap, subst, inl, inr, map, true, ◌||◌}
+use Rattle.std.proofs.lemmas.Bool.{cases_lt, or_cases, or_right}
 use Rattle.std.proofs.lemmas.List.{get_or_default}
 use Rattle.std.proofs.lemmas.List.Folds.{Any-from_list_any}
-use Rattle.std.proofs.lemmas.Bool.{or_cases, or_right}
+use Rattle.dpl_list.proofs.Zips.{zip_at, zip_length}
+use Rattle.dpl_index.specs.declared.bounds.Bounds.{Bounds}
+use Rattle.dpl_index.specs.Meetings.{IsMeeting, AreMeeting}
 use Rattle.dpl_cell.specs.declared.layout.Primitive.{Primitive}
 use Rattle.dpl_cell.specs.Outlines.{outline_of}
 use Rattle.dpl_cell.specs.Layers.{is_cell, is_in_outline}
-use Rattle.dpl_tiles.specs.declared.reaches.Reach.{Reach}
 use Rattle.dpl_tiles.specs.declared.stretch.Stretch.{Stretch}
+use Rattle.dpl_tiles.specs.Bounds.{HoldsCorners, AreBoundsOf}
 use Rattle.dpl_tiles.specs.Stretches.{is_in_stretches}
-use Rattle.dpl_tiles.specs.Reaches.{Misses, IsHeldBy, IsReached}
-use Rattle.dpl_tiles.specs.Windows.{IsOutside}
-use Rattle.dpl_tiles.proofs.Signed.{signed}
-use Rattle.dpl_tiles.proofs.OutlineLemmas.{outline_past}
 use Rattle.dpl_tiles.proofs.StretchLemmas.{in_parts}
-use Rattle.dpl_tiles.proofs.ChangeLemmas.{columns_past}
-use Rattle.dpl_tiles.proofs.ReachLemmas.{no_cell_there, held}
+use Rattle.dpl_tiles.proofs.IndexLemmas.{held, meets_there}
 
--- the parts hold cells of the row alone, and those of the primitives of the first reaches in the columns of the window and right beside it
-pub record WalkedWithin (prims : List Primitive) (y a b : ℤ) (reaches : List Reach) (at : ℕ) (parts : List Stretch) : Type 0 where
+-- ---- the parts of the primitives that are found
+
+-- the parts hold cells of the row alone, and those of the primitives at the places before t
+pub record PartsSoFar (prims : List Primitive) (y : ℤ) (found : List ℕ) (t : ℕ) (parts : List Stretch) : Type 0 where
   pub sound : (x : ℤ) → is_in_stretches parts x ≡ true → is_cell (map outline_of prims) x y ≡ true
-  pub full : (x : ℤ) (m : ℕ) (d : Reach) (e : Primitive) → (a -ℤ pos 1) ≤ℤ x → x ≤ℤ b → m < at → m < length reaches → is_in_outline x y (outline_of (get_or prims (get_or reaches m d).number e)) ≡ true → is_in_stretches parts x ≡ true
+  pub full : (x : ℤ) (k : ℕ) (e : Primitive) → k < t → is_in_outline x y (outline_of (get_or prims (get_or found k 0) e)) ≡ true → is_in_stretches parts x ≡ true
 
-pub within_begins : (prims : List Primitive) (y a b : ℤ) (reaches : List Reach) → WalkedWithin prims y a b reaches 0 []
-within_begins prims y a b reaches = record { sound = λ x h. absurd (cc); full = λ x m d e f g l. absurd (omega arith) }
+pub parts_none : (prims : List Primitive) (y : ℤ) (found : List ℕ) → PartsSoFar prims y found 0 []
+parts_none prims y found = record { sound = λ x h. absurd (cc); full = λ x k e l. absurd (omega arith) }
 
-pub within_on : (prims : List Primitive) (y a b : ℤ) (reaches : List Reach) (at : ℕ) (old new : List Stretch) (reach : Reach) (p : Primitive) → ((d : Reach) → get_or reaches at d ≡ reach) → reach.number < length prims → p ≡ get_or prims reach.number p
-    → ((x : ℤ) → is_in_stretches new x ≡ (is_in_stretches old x || is_in_outline x y (outline_of p))) → WalkedWithin prims y a b reaches at old → WalkedWithin prims y a b reaches (at + 1) new
-within_on prims y a b reaches at old new reach p is inside part adds w = record {
-  sound = λ x h. elim (or_cases _ _ (sym (adds x) ∙ h)) [ inl f ↦ w.sound x f | inr f ↦ held prims reach.number p x y inside part f ];
-  full = λ x m d e low high l h t. elim (cases_lt m at) [
-    | inl g ↦ adds x ∙ ap (λ b. b || is_in_outline x y (outline_of p)) (w.full x m d e low high g h t)
-    | inr g ↦ adds x ∙ or_right _ _ (here x m d e (omega arith) t)
+pub parts_more : (prims : List Primitive) (y : ℤ) (found : List ℕ) (t : ℕ) (old new : List Stretch) (p : Primitive) → get_or found t 0 < length prims → p ≡ get_or prims (get_or found t 0) p
+    → ((x : ℤ) → is_in_stretches new x ≡ (is_in_stretches old x || is_in_outline x y (outline_of p))) → PartsSoFar prims y found t old → PartsSoFar prims y found (t + 1) new
+parts_more prims y found t old new p inside is adds s = record {
+  sound = λ x h. elim (or_cases _ _ (sym (adds x) ∙ h)) [ inl f ↦ s.sound x f | inr f ↦ held prims (get_or found t 0) p x y inside is f ];
+  full = λ x k e l h. elim (cases_lt k t) [
+    | inl g ↦ adds x ∙ ap (λ b. b || is_in_outline x y (outline_of p)) (s.full x k e g h)
+    | inr g ↦ adds x ∙ or_right _ _ (here x k e (omega arith) h)
   ];
 } where
-  here : (x : ℤ) (m : ℕ) (d : Reach) (e : Primitive) → m ≡ at → is_in_outline x y (outline_of (get_or prims (get_or reaches m d).number e)) ≡ true → is_in_outline x y (outline_of p) ≡ true
-  here x m d e f t =
-      let g : get_or prims (get_or reaches m d).number e ≡ p = ap (λ (r : Reach). get_or prims r.number e) (ap (λ k. get_or reaches k d) f ∙ is d) ∙ get_or_default prims reach.number e p inside ∙ sym part in
-      ap (λ (q : Primitive). is_in_outline x y (outline_of q)) (sym g) ∙ t
+  here : (x : ℤ) (k : ℕ) (e : Primitive) → k ≡ t → is_in_outline x y (outline_of (get_or prims (get_or found k 0) e)) ≡ true → is_in_outline x y (outline_of p) ≡ true
+  here x k e f h =
+      let g : get_or prims (get_or found k 0) e ≡ p = ap (λ j. get_or prims (get_or found j 0) e) f ∙ get_or_default prims (get_or found t 0) e p inside ∙ sym is in
+      ap (λ (q : Primitive). is_in_outline x y (outline_of q)) (sym g) ∙ h
 
--- primitives that the row misses, or beside which the window lies
-pub within_past : (prims : List Primitive) (y a b : ℤ) (reaches : List Reach) (at : ℕ) (parts : List Stretch) (reach : Reach) → ((d : Reach) → get_or reaches at d ≡ reach) → at < length reaches → Misses reach.low reach.high y ⊎ ((reach.right <ℤ a) ⊎ (b <ℤ reach.left)) → IsReached prims reaches → WalkedWithin prims y a b reaches at parts
-    → WalkedWithin prims y a b reaches (at + reach.rest + 1) parts
-within_past prims y a b reaches at parts reach is within misses r w = record {
-  sound = w.sound;
-  full = λ x m d e low high l h t. elim (cases_lt m at) [
-    | inl g ↦ w.full x m d e low high g h t
-    | inr g ↦ absurd (there x m d e low high g l h t)
-  ];
-} where
-  none : (x : ℤ) (p : Primitive) → (a -ℤ pos 1) ≤ℤ x → x ≤ℤ b → IsHeldBy reach p → Misses reach.low reach.high y ⊎ ((reach.right <ℤ a) ⊎ (b <ℤ reach.left)) → is_in_outline x y (outline_of p) ≡ false
-  none x p low high g (inl miss) = no_cell_there reach.low reach.high x y p g.rows miss
-  none x p low high g (inr beside) =
-      let out : IsOutside reach.left reach.right x = elim beside [ inl i ↦ inr (omega signed) | inr i ↦ inl (omega signed) ] in
-      let (c, q) = columns_past _ _ x _ g.columns out in
-      outline_past c x y (outline_of p) q
+pub parts_all : (prims : List Primitive) (y : ℤ) (found : List ℕ) (t : ℕ) (parts : List Stretch) → length found ≤ t → PartsSoFar prims y found t parts
+    → (x : ℤ) (i : ℕ) (e : Primitive) → Contains found i → is_in_outline x y (outline_of (get_or prims i e)) ≡ true → is_in_stretches parts x ≡ true
+parts_all prims y found t parts whole s x i e (k, l, is) h =
+    let f : get_or found k 0 ≡ i = get_or_default found k 0 i l ∙ is in
+    let P : ℕ → Type 0 = λ j. is_in_outline x y (outline_of (get_or prims j e)) ≡ true in
+    s.full x k e (omega arith) (subst P (sym f) h)
 
-  there : (x : ℤ) (m : ℕ) (d : Reach) (e : Primitive) → (a -ℤ pos 1) ≤ℤ x → x ≤ℤ b → at ≤ m → m < at + reach.rest + 1 → m < length reaches → is_in_outline x y (outline_of (get_or prims (get_or reaches m d).number e)) ≡ true → ⊥
-  there x m d e low high from to h t =
-      let f : (get_or reaches at d).rest ≡ reach.rest = ap (λ (q : Reach). q.rest) (is d) in
-      let g : IsHeldBy reach (get_or prims (get_or reaches m d).number e) = rw (is d) at (r.covers at m d e within from (omega arith)) in
-      let n = none x _ low high g misses in cc
+-- ---- the primitives with cells in the window are among them
 
-some_of : (reaches : List Reach) (k : ℕ) → k < length reaches → Reach
-some_of [] k l = absurd (omega arith)
-some_of (r ∷ rs) k l = r
+pub found_within : (prims : List Primitive) (bounds : List Bounds) (window : Bounds) (found : List ℕ) → AreBoundsOf prims bounds → AreMeeting bounds window found → (k d : ℕ) → k < length found → get_or found k d < length prims
+found_within prims bounds window found are m k d l = let w = (m.each k d l).within in let n = zip_length HoldsCorners prims bounds are in omega arith
 
-pub within_ends : (prims : List Primitive) (y a b : ℤ) (reaches : List Reach) (at : ℕ) (parts : List Stretch) → length reaches ≤ at → IsReached prims reaches → WalkedWithin prims y a b reaches at parts → (x : ℤ) → (a -ℤ pos 1) ≤ℤ x → x ≤ℤ b → is_cell (map outline_of prims) x y ≡ true → is_in_stretches parts x ≡ true
-within_ends prims y a b reaches at parts whole r w x low high t = go (Any-from_list_any (λ p. is_in_outline x y (outline_of p)) prims (sym (in_parts prims x y) ∙ t)) where
+pub within_all : (prims : List Primitive) (bounds : List Bounds) (left right y : ℤ) (found : List ℕ) (parts : List Stretch) → AreBoundsOf prims bounds → AreMeeting bounds (record { left = left; right = right; low = y; high = y }) found
+    → ((x : ℤ) (i : ℕ) (e : Primitive) → Contains found i → is_in_outline x y (outline_of (get_or prims i e)) ≡ true → is_in_stretches parts x ≡ true)
+    → (x : ℤ) → (left -ℤ pos 1) ≤ℤ x → x ≤ℤ right → is_cell (map outline_of prims) x y ≡ true → is_in_stretches parts x ≡ true
+within_all prims bounds left right y found parts are m full x from to t = go (Any-from_list_any (λ p. is_in_outline x y (outline_of p)) prims (sym (in_parts prims x y) ∙ t)) where
   go : (k : ℕ) × (p : Primitive) × (k < length prims) × (get_or prims k p ≡ p) × (is_in_outline x y (outline_of p) ≡ true) → is_in_stretches parts x ≡ true
-  go (k, p, l, e, t) = there (r.all k l) where
-    there : (m : ℕ) × (m < length reaches) × ((d : Reach) → (get_or reaches m d).number ≡ k) → is_in_stretches parts x ≡ true
-    there (m, h, f) =
-        let d : Reach = some_of reaches m h in
-        let g : get_or prims (get_or reaches m d).number p ≡ p = ap (λ j. get_or prims j p) (f d) ∙ e in
-        w.full x m d p low high (omega arith) h (ap (λ (q : Primitive). is_in_outline x y (outline_of q)) g ∙ t)
+  go (k, p, l, e, h) = full x k p (m.all k meeting) (ap (λ (q : Primitive). is_in_outline x y (outline_of q)) e ∙ h) where
+    meeting : IsMeeting bounds (record { left = left; right = right; low = y; high = y }) k
+    meeting = record {
+      within = let n = zip_length HoldsCorners prims bounds are in omega arith;
+      meets = λ d. meets_there (get_or bounds k d) left right x y p (rw e at (zip_at HoldsCorners prims bounds k p d are l)) from to h;
+    }

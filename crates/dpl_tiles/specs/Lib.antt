@@ -3,7 +3,7 @@ pub mod Union
 pub mod Stretches
 pub mod Sides
 pub mod Bands
-pub mod Reaches
+pub mod Bounds
 pub mod Stacks
 pub mod Windows
 pub mod Sweeps

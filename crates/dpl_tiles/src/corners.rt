@@ -4,7 +4,7 @@ ghost use Rattle.dpl_cell.specs.declared.layout.Primitive.TheVariants as prim;
 ghost use Rattle.dpl_tiles.specs.Stretches.{Ascends};
 ghost use Rattle.dpl_tiles.specs.Corners.{AddsCorners, AddsSide, AreBetween, AreCorners, HasCornersOf, IsCornerOf, SpansSide};
 
-use crate::reaches::{Columns, Places, greater, lesser};
+use crate::columns::{Columns, Places, greater, lesser};
 use dpl_cell::{Point, Prim, Rect};
 use std::alloc::{AllocError, Global};
 

@@ -5,12 +5,13 @@
 //! `tiles_share_out` is the law that each cell of a layout lies in exactly one of its tiles.
 #![tactic(auto)]
 
+mod bounds;
+mod columns;
 mod corners;
 mod crossing;
 mod error;
 mod laws;
 mod ordinates;
-mod reaches;
 mod rows;
 mod stacking;
 mod stretch;

@@ -1,26 +1,28 @@
 // A sweep that touches only the stacks near the columns that change.
-ghost use Rattle.std.specs.Prelude.{◌≡◌, ◌⊎◌, true, false, ℕ, ℤ, ◌-ℤ◌, ◌<ℤ◌, ◌≤ℤ◌, ◌<◌, ◌≤◌, ◌++◌, neg_ℤ, pos, length, slice_index_or, All, AllPairs, IfOk, OnOk, IsTrue, map, filter, take, drop, reverse, []};
+ghost use Rattle.std.specs.Prelude.{◌≡◌, true, ℕ, ℤ, ◌-ℤ◌, ◌<ℤ◌, ◌≤ℤ◌, ◌<◌, ◌≤◌, ◌++◌, neg_ℤ, pos, length, slice_index_or, All, AllPairs, Contains, IfOk, OnOk, IsTrue, map, filter, take, drop, reverse, []};
 ghost use Rattle.std.specs.List.{AllZip};
 ghost use Rattle.dpl_limits.specs.Limits.{most_coordinate};
+ghost use Rattle.dpl_cell.specs.declared.layout.Primitive.{Primitive};
 ghost use Rattle.dpl_cell.specs.declared.rect.Rect.{Rect};
 ghost use Rattle.dpl_cell.specs.Cells.{IsWithin};
 ghost use Rattle.dpl_cell.specs.Outlines.{outline_of};
-ghost use Rattle.dpl_cell.specs.Layers.{is_cell};
+ghost use Rattle.dpl_cell.specs.Layers.{is_cell, is_in_outline};
 ghost use Rattle.dpl_cell.specs.Tiles.{IsRun};
 ghost use Rattle.dpl_tiles.specs.Bands.{IsLeftOf, IsOver};
-ghost use Rattle.dpl_tiles.specs.Reaches.{IsReached, Misses};
+ghost use Rattle.dpl_tiles.specs.Bounds.{AreBoundsOf};
 ghost use Rattle.dpl_tiles.specs.Corners.{AreCorners};
 ghost use Rattle.dpl_tiles.specs.Stacks.{ending};
 ghost use Rattle.dpl_tiles.specs.Stretches.{AreSeparate, is_in_stretches};
 ghost use Rattle.dpl_tiles.specs.Sweeps.{AreSwept};
 ghost use Rattle.dpl_tiles.specs.Windows.{AddsClosed, AreNearRuns, IsClosed, IsContinued, IsFar, IsParted, is_near};
 
+use crate::columns::{Columns, greater, lesser};
 use crate::corners::{Corner, change_at};
-use crate::reaches::{Columns, Reach, greater, lesser};
 use crate::rows::{merged, push_prim, sort};
 use crate::stacking::find;
 use crate::stretch::Stretch;
 use dpl_cell::{Prim, Rect};
+use dpl_index::{Bounds, Index};
 use std::alloc::{AllocError, Global};
 
 /// Goes on by one band: closes the stacks that end at row `low`, and begins those that are new there. The stacks stand in
@@ -31,12 +33,12 @@ pub fn step(
     left: &mut Vec<Rect>,
     right: &mut Vec<Rect>,
     prims: &[Prim],
-    reaches: &[Reach],
+    index: &Index,
     corners: &[Corner],
     low: i64,
     high: i64,
 ) -> Result<(), AllocError>
-    requires reached { IsReached prims.now reaches.now }
+    requires bounds { AreBoundsOf prims.now index.now }
     requires cornered { AreCorners prims.now corners.now }
     requires high { low <ℤ high }
     requires below { neg_ℤ (pos most_coordinate) ≤ℤ low }
@@ -52,7 +54,7 @@ pub fn step(
     let parted = part(alloc, left, right, &change)?;
     let near = parted.as_slice();
     let window = window_of(near, &change);
-    let runs = near_runs(alloc, prims, reaches, &change, &window, low, high)?;
+    let runs = near_runs(alloc, prims, index, &change, &window, low, high)?;
     push_closed(ended, near, runs.as_slice(), low)?;
     let stacks = all_continued(alloc, near, runs.as_slice())?;
     left.extend_from_slice(stacks.as_slice())?;
@@ -181,13 +183,13 @@ fn with_stack(columns: &Columns, r: &Rect) -> Columns
 fn near_runs(
     alloc: Global,
     prims: &[Prim],
-    reaches: &[Reach],
+    index: &Index,
     change: &Columns,
     window: &Columns,
     low: i64,
     high: i64,
 ) -> Result<Vec<Rect>, AllocError>
-    requires reached { IsReached prims.now reaches.now }
+    requires bounds { AreBoundsOf prims.now index.now }
     requires high { low <ℤ high }
     requires below { neg_ℤ (pos most_coordinate) ≤ℤ low }
     requires above { high ≤ℤ pos most_coordinate }
@@ -199,7 +201,7 @@ fn near_runs(
         v.items) }
     ensures bottom { IfOk result (λ v. All (λ r. r.y1 ≡ low) v.items) }
 {
-    let mut parts = parts_within(alloc, prims, reaches, window, low)?;
+    let mut parts = parts_within(alloc, prims, index, window, low)?;
     sort(&mut parts);
     let stretches = merged(alloc, parts.as_slice())?;
     let runs = raised_near(alloc, stretches.as_slice(), change, low, high)?;
@@ -256,50 +258,53 @@ fn is_near_to(s: &Stretch, change: &Columns) -> bool
 fn parts_within(
     alloc: Global,
     prims: &[Prim],
-    reaches: &[Reach],
+    index: &Index,
     window: &Columns,
     y: i64,
 ) -> Result<Vec<Stretch>, AllocError>
-    requires { IsReached prims.now reaches.now }
+    requires { AreBoundsOf prims.now index.now }
     ensures sound { IfOk result (λ v. (x : ℤ) → is_in_stretches v.items x ≡ true →
         is_cell (map outline_of prims.now) x y ≡ true) }
     ensures full { IfOk result (λ v. (x : ℤ) → (window.now.left -ℤ pos 1) ≤ℤ x →
         x ≤ℤ window.now.right → is_cell (map outline_of prims.now) x y ≡ true →
         is_in_stretches v.items x ≡ true) }
 {
-    let mut parts = Vec::new(alloc);
-    let mut at = 0;
-    'reaches: while at < reaches.len() {
-        let reach = reaches[at];
-        if may_hold(&reach, window, y) {
-            push_prim(alloc, &mut parts, &prims[reach.number], y)?;
-            at += 1;
-        } else {
-            at += reach.rest + 1;
-        }
-    }
+    let found = index.meeting(alloc, &row_within(window, y))?;
+    let parts = parts_of(alloc, prims, found.as_slice(), y)?;
     Ok(parts)
 }
 
-/// Whether the primitives of a reach may have cells of a row in a window or right beside it.
-fn may_hold(reach: &Reach, window: &Columns, y: i64) -> bool
-    ensures { result ≡ false → Misses reach.now.low reach.now.high y ⊎
-        ((reach.now.right <ℤ window.now.left) ⊎ (window.now.right <ℤ reach.now.left)) }
+/// The columns of a window in one row.
+fn row_within(window: &Columns, y: i64) -> Bounds
+    ensures { result ≡ record { left = window.now.left; right = window.now.right; low = y; high = y } }
 {
-    is_row_of(reach, y) && is_beside(reach, window)
+    Bounds {
+        left: window.left,
+        right: window.right,
+        low: y,
+        high: y,
+    }
 }
 
-fn is_row_of(reach: &Reach, y: i64) -> bool
-    ensures { result ≡ false → Misses reach.now.low reach.now.high y }
+/// The cells of some primitives in one row, in parts.
+fn parts_of(
+    alloc: Global,
+    prims: &[Prim],
+    found: &[usize],
+    y: i64,
+) -> Result<Vec<Stretch>, AllocError>
+    requires { All (λ i. i < length prims.now) found.now }
+    ensures sound { IfOk result (λ v. (x : ℤ) → is_in_stretches v.items x ≡ true →
+        is_cell (map outline_of prims.now) x y ≡ true) }
+    ensures full { IfOk result (λ v. (x : ℤ) (i : ℕ) (e : Primitive) → Contains found.now i →
+        is_in_outline x y (outline_of (slice_index_or prims.now i e)) ≡ true →
+        is_in_stretches v.items x ≡ true) }
 {
-    reach.low <= y && y < reach.high
-}
-
-fn is_beside(reach: &Reach, window: &Columns) -> bool
-    ensures { result ≡ false → (reach.now.right <ℤ window.now.left) ⊎
-        (window.now.right <ℤ reach.now.left) }
-{
-    window.left <= reach.right && reach.left <= window.right
+    let mut parts = Vec::new(alloc);
+    for i in found {
+        push_prim(alloc, &mut parts, &prims[*i], y)?;
+    }
+    Ok(parts)
 }
 
 /// Adds the stacks that do not go on in the runs, closed at row `top`.

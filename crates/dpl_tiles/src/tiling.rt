@@ -11,14 +11,15 @@ ghost use Rattle.dpl_tiles.specs.Stretches.{Ascends};
 ghost use Rattle.dpl_tiles.specs.Bands.{HasOrdinates};
 ghost use Rattle.dpl_tiles.specs.Stacks.{AreAllTiles, IsNotAfter};
 ghost use Rattle.dpl_tiles.specs.Corners.{AreCorners};
-ghost use Rattle.dpl_tiles.specs.Reaches.{IsReached};
+ghost use Rattle.dpl_tiles.specs.Bounds.{AreBoundsOf};
 
+use crate::bounds::all_bounds;
 use crate::corners::{Corner, corners_of};
 use crate::error::TileError;
 use crate::ordinates::ordinates;
-use crate::reaches::{Reach, reaches_of};
 use crate::sweeping::{close_all, move_back, step};
 use dpl_cell::{Layout, Prim, Rect};
+use dpl_index::Index;
 use dpl_limits::MOST_TILES;
 use std::alloc::Global;
 
@@ -36,15 +37,10 @@ pub fn tiles(alloc: Global, layout: &Layout) -> Result<Vec<Rect>, TileError>
 {
     let prims = layout.prims.as_slice();
     let rows = ordinates(alloc, prims)?;
-    let reaches = reaches_of(alloc, prims)?;
+    let bounds = all_bounds(alloc, prims)?;
+    let index = Index::new(alloc, bounds)?;
     let corners = corners_of(alloc, prims)?;
-    let mut tiles = unsorted(
-        alloc,
-        prims,
-        reaches.as_slice(),
-        corners.as_slice(),
-        rows.as_slice(),
-    )?;
+    let mut tiles = unsorted(alloc, prims, &index, corners.as_slice(), rows.as_slice())?;
     sort(&mut tiles);
     Ok(tiles)
 }
@@ -53,11 +49,11 @@ pub fn tiles(alloc: Global, layout: &Layout) -> Result<Vec<Rect>, TileError>
 fn unsorted(
     alloc: Global,
     prims: &[Prim],
-    reaches: &[Reach],
+    index: &Index,
     corners: &[Corner],
     rows: &[i64],
 ) -> Result<Vec<Rect>, TileError>
-    requires reached { IsReached prims.now reaches.now }
+    requires bounds { AreBoundsOf prims.now index.now }
     requires cornered { AreCorners prims.now corners.now }
     requires sorted { Ascends (λ z. z) rows.now }
     requires range { All IsInRange rows.now }
@@ -78,7 +74,7 @@ fn unsorted(
                 &mut left,
                 &mut right,
                 prims,
-                reaches,
+                index,
                 corners,
                 rows[k - 1],
                 rows[k],

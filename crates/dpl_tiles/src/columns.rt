@@ -1,0 +1,30 @@
+// Ranges of columns and of places in a list, and the lesser and the greater of two numbers.
+ghost use Rattle.std.specs.Prelude.{ℤ, ◌≤ℤ◌};
+
+/// Columns from `left` to `right`.
+#[derive(Clone, Copy, Debug)]
+pub struct Columns {
+    pub left: i64,
+    pub right: i64,
+}
+
+/// The places of a list from `from` to `to`, which is left out.
+#[derive(Clone, Copy, Debug)]
+pub struct Places {
+    pub from: usize,
+    pub to: usize,
+}
+
+pub fn lesser(a: i64, b: i64) -> i64
+    ensures first { result ≤ℤ a }
+    ensures second { result ≤ℤ b }
+{
+    if a < b { a } else { b }
+}
+
+pub fn greater(a: i64, b: i64) -> i64
+    ensures first { a ≤ℤ result }
+    ensures second { b ≤ℤ result }
+{
+    if a < b { b } else { a }
+}
