@@ -1,6 +1,5 @@
 -- The turns of an unfolding.
-use Rattle.std.proofs.Common.{◌≡◌, ℕ, zero, suc, ◌≤◌, ◌<◌, ◌+◌, ◌-◌, ◌*◌, ◌^◌, List, [], ◌∷◌, ◌++◌, length, map, None, Some, sum_by, refl, sym, ◌∙◌, ap, subst, arith, append_assoc, All, get_or}
-use Rattle.std.specs.List.{flat_map}
+use Rattle.std.proofs.Common.{◌≡◌, ℕ, zero, suc, ◌≤◌, ◌<◌, ◌+◌, ◌*◌, ◌^◌, List, [], ◌∷◌, ◌++◌, length, map, None, Some, sum_by, refl, sym, ◌∙◌, ap, subst, arith, append_assoc, All, get_or}
 use Rattle.std.proofs.lemmas.List.{append-nil, nil_from_length, length_push, get_or_append_left, get_or_push}
 use Rattle.std.proofs.lemmas.List.Sums.{sum_by_push, sum_by-append, sum_by-cons}
 use Rattle.std.proofs.lemmas.List.Elements.{All-append}
@@ -11,14 +10,14 @@ use Rattle.dpl_calls.specs.declared.placement.Placement.{Placement}
 use Rattle.dpl_calls.specs.declared.entry.Entry.{Entry}
 use Rattle.dpl_calls.specs.declared.entry.Entry.TheVariants as entry
 use Rattle.dpl_calls.specs.declared.unfolding.Frame.{Frame}
-use Rattle.dpl_calls.specs.Parts.{Part, Bodies}
+use Rattle.dpl_calls.specs.Parts.{Bodies}
 use Rattle.dpl_calls.specs.Parts.Part.{Drawn, Called}
 use Rattle.dpl_calls.specs.Unfolding.{placed, unmoved, part_figures, figures_of}
 use Rattle.dpl_calls.specs.Totals.{part_total, total_of, own_calls}
 use Rattle.dpl_calls.specs.Placement.{apply, IsNear}
 use Rattle.dpl_calls.specs.Entries.{IsEntryNear}
 use Rattle.dpl_calls.specs.Table.{part_of}
-use Rattle.dpl_calls.specs.Kept.{IsFigureNear, IsSound, IsPartKept}
+use Rattle.dpl_calls.specs.Kept.{IsFigureNear, IsPartKept}
 use Rattle.dpl_calls.specs.Stack.{left, frame_figures, pending, part_turns, turns_of, frame_turns, turns_left, frame_calls, calls_left, IsFrameNear, Goes}
 use Rattle.dpl_calls.proofs.Pending.{pending_push, pending_append, called_figures, called_calls, called_turns}
 use Rattle.dpl_list.proofs.Lists.{all_tail, all_head}
@@ -96,15 +95,15 @@ module _ (b : Bodies) (f g : Frame) (e : Entry) (split : f.rest.now ≡ e ∷ g.
         let r : Goes b all t (s ++ x ∷ []) (fs ++ g ∷ []) (n + 0) = goes_on b all t s fs f n (x ∷ []) (g ∷ []) 0 figures (omega (arith, calls)) (one_near (n + 0) g (rest_after (n + 0) (omega arith))) h in
         rw z at r
 
-    goes_flat : (m : ℕ) (p : Placement) → e ≡ entry.Called m p → f.below ≡ 0 → Goes b all t s (fs ++ g ∷ []) (n + 1)
-    goes_flat m p ee z =
+    goes_flat : (at m : ℕ) (p : Placement) → e ≡ entry.Called at m p → f.below ≡ 0 → Goes b all t s (fs ++ g ∷ []) (n + 1)
+    goes_flat at m p ee z =
         let figures : frame_figures b f ≡ [] ++ frame_figures b g = front_figures ∙ rw (ee, z) refl in
         let calls : frame_calls b f ≡ 1 + frame_calls b g = front_calls ∙ rw (ee, z) refl in
         let r : Goes b all t (s ++ []) (fs ++ g ∷ []) (n + 1) = goes_on b all t s fs f n [] (g ∷ []) 1 figures (omega (arith, calls)) (one_near (n + 1) g (rest_after (n + 1) (omega arith))) h in
         rw (append-nil s) at r
 
-    goes_deep : (c : Frame) (m : ℕ) (p : Placement) → e ≡ entry.Called m p → f.below ≡ suc c.below → left c ≡ b (Some m) → ((d : Corner) → apply c.place d ≡ apply f.place (apply p d)) → IsFrameNear (n + 1) c → Goes b all t s ((fs ++ g ∷ []) ++ c ∷ []) (n + 1)
-    goes_deep c m p ee z ec inner near =
+    goes_deep : (c : Frame) (at m : ℕ) (p : Placement) → e ≡ entry.Called at m p → f.below ≡ suc c.below → left c ≡ b (Some m) → ((d : Corner) → apply c.place d ≡ apply f.place (apply p d)) → IsFrameNear (n + 1) c → Goes b all t s ((fs ++ g ∷ []) ++ c ∷ []) (n + 1)
+    goes_deep c at m p ee z ec inner near =
         let inside : part_figures b (figures_of f.below b) (apply f.place) (Called m (apply p)) ≡ frame_figures b c = called_figures b f.below c.below m (apply p) (left c) z ec (apply f.place) (apply c.place) inner in
         let counted : part_total own_calls b (total_of own_calls f.below b) (Called m (apply p)) ≡ 1 + frame_calls b c = called_calls b f.below c.below m (apply p) (left c) z ec in
         let gs : List Frame = g ∷ c ∷ [] in
@@ -116,14 +115,14 @@ module _ (b : Bodies) (f g : Frame) (e : Entry) (split : f.rest.now ≡ e ∷ g.
         h in
         rw (append-nil s, ← append_assoc fs (g ∷ []) (c ∷ [])) at r
 
-  deep_turns : (fs : List Frame) (c : Frame) (m : ℕ) (p : Placement) → e ≡ entry.Called m p → f.below ≡ suc c.below → left c ≡ b (Some m) → turns_left b ((fs ++ g ∷ []) ++ c ∷ []) < turns_left b (fs ++ f ∷ [])
-  deep_turns fs c m p ee z ec =
+  deep_turns : (fs : List Frame) (c : Frame) (at m : ℕ) (p : Placement) → e ≡ entry.Called at m p → f.below ≡ suc c.below → left c ≡ b (Some m) → turns_left b ((fs ++ g ∷ []) ++ c ∷ []) < turns_left b (fs ++ f ∷ [])
+  deep_turns fs c at m p ee z ec =
       let front : frame_turns b f ≡ 1 + (part_turns b (turns_of f.below b) (Called m (apply p)) + sum_by (part_turns b (turns_of g.below b)) (left g)) = front_turns ∙ rw ee refl in
       omega (arith, sum_by_push (frame_turns b) fs f, sum_by_push (frame_turns b) fs g, sum_by_push (frame_turns b) (fs ++ g ∷ []) c, front, called_turns b f.below c.below m (apply p) (left c) z ec)
 
   -- a call in the last frame
-  called_near : (n m : ℕ) (p : Placement) → e ≡ entry.Called m p → IsFrameNear n f → IsNear (2 ^ 106) p
-  called_near n m p ee h =
+  called_near : (n at m : ℕ) (p : Placement) → e ≡ entry.Called at m p → IsFrameNear n f → IsNear (2 ^ 106) p
+  called_near n at m p ee h =
       let first : IsEntryNear e = all_head IsEntryNear e g.rest.now (subst (All IsEntryNear) split h.entries) in
       subst IsEntryNear ee first
 
@@ -156,20 +155,20 @@ module _ (b : Bodies) (all : List Figure) (t : ℕ) (s : List Figure) (fs stack 
   pub figure_at : (s' : List Figure) (stack' : List Frame) (figure x : Figure) → stack' ≡ fs ++ g ∷ [] → s' ≡ s ++ x ∷ [] → e ≡ entry.Drawn figure → x ≡ placed (apply f.place) figure → Goes b all t s' stack' n
   figure_at s' stack' figure x ek' es ee ex = rw (ek', es) (goes_figure b f g e split place below all t s fs n here figure x ee ex)
 
-  pub flat_at : (stack' : List Frame) (m : ℕ) (p : Placement) → stack' ≡ fs ++ g ∷ [] → e ≡ entry.Called m p → f.below ≡ 0 → Goes b all t s stack' (n + 1)
-  flat_at stack' m p ek' ee z = rw ek' (goes_flat b f g e split place below all t s fs n here m p ee z)
+  pub flat_at : (stack' : List Frame) (at m : ℕ) (p : Placement) → stack' ≡ fs ++ g ∷ [] → e ≡ entry.Called at m p → f.below ≡ 0 → Goes b all t s stack' (n + 1)
+  flat_at stack' at m p ek' ee z = rw ek' (goes_flat b f g e split place below all t s fs n here at m p ee z)
 
-  pub deep_at : (between stack' : List Frame) (c : Frame) (m : ℕ) (p : Placement) → between ≡ fs ++ g ∷ [] → stack' ≡ between ++ c ∷ [] → e ≡ entry.Called m p → f.below ≡ suc c.below → left c ≡ b (Some m) → ((d : Corner) → apply c.place d ≡ apply f.place (apply p d)) → IsFrameNear (n + 1) c → Goes b all t s stack' (n + 1)
-  deep_at between stack' c m p eg ek' ee z ec inner near = rw (ek', eg) (goes_deep b f g e split place below all t s fs n here c m p ee z ec inner near)
+  pub deep_at : (between stack' : List Frame) (c : Frame) (at m : ℕ) (p : Placement) → between ≡ fs ++ g ∷ [] → stack' ≡ between ++ c ∷ [] → e ≡ entry.Called at m p → f.below ≡ suc c.below → left c ≡ b (Some m) → ((d : Corner) → apply c.place d ≡ apply f.place (apply p d)) → IsFrameNear (n + 1) c → Goes b all t s stack' (n + 1)
+  deep_at between stack' c at m p eg ek' ee z ec inner near = rw (ek', eg) (goes_deep b f g e split place below all t s fs n here c at m p ee z ec inner near)
 
-  pub deep_smaller_at : (between stack' : List Frame) (c : Frame) (m : ℕ) (p : Placement) → between ≡ fs ++ g ∷ [] → stack' ≡ between ++ c ∷ [] → e ≡ entry.Called m p → f.below ≡ suc c.below → left c ≡ b (Some m) → turns_left b stack' < turns_left b stack
-  deep_smaller_at between stack' c m p eg ek' ee z ec = rw (ek', eg, ek) (deep_turns b f g e split place below fs c m p ee z ec)
+  pub deep_smaller_at : (between stack' : List Frame) (c : Frame) (at m : ℕ) (p : Placement) → between ≡ fs ++ g ∷ [] → stack' ≡ between ++ c ∷ [] → e ≡ entry.Called at m p → f.below ≡ suc c.below → left c ≡ b (Some m) → turns_left b stack' < turns_left b stack
+  deep_smaller_at between stack' c at m p eg ek' ee z ec = rw (ek', eg, ek) (deep_turns b f g e split place below fs c at m p ee z ec)
 
   pub frame_near : IsFrameNear n f
   frame_near = last_near b all t s fs f n here
 
-  pub called_at : (m : ℕ) (p : Placement) → e ≡ entry.Called m p → IsNear (2 ^ 106) p
-  called_at m p ee = called_near b f g e split place below n m p ee frame_near
+  pub called_at : (at m : ℕ) (p : Placement) → e ≡ entry.Called at m p → IsNear (2 ^ 106) p
+  called_at at m p ee = called_near b f g e split place below n at m p ee frame_near
 
   pub drawn_at : (figure : Figure) → e ≡ entry.Drawn figure → IsFigureNear figure
   drawn_at figure ee = drawn_near b f g e split place below n figure ee frame_near

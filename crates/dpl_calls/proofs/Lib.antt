@@ -17,6 +17,8 @@ pub mod Stable
 pub mod FarParts
 pub mod Rigid
 pub mod CleanParts
+pub mod CallEntries
+pub mod FirstCalls
 pub mod Scans
 pub mod Depth
 pub mod JoinedPlacements

@@ -1,5 +1,5 @@
 -- What a scanned layout gives.
-use Rattle.std.proofs.Common.{◌≡◌, ◌⊎◌, inl, inr, ℕ, zero, suc, ◌+◌, ◌≤◌, ◌<◌, Bool, true, false, cond, ◌||◌, ◌&&◌, ◌==◌, nat_eq, List, [], ◌∷◌, length, Option, None, Some, Result, All, refl, sym, ◌∙◌, ap, subst, arith, get_or}
+use Rattle.std.proofs.Common.{◌≡◌, inl, inr, ℕ, zero, suc, ◌+◌, ◌<◌, Bool, true, false, cond, ◌==◌, nat_eq, List, [], ◌∷◌, length, Option, None, Some, Result, refl, sym, ◌∙◌, ap, subst, arith, get_or}
 use Rattle.std.specs.List.{list_any, IsDistinct, AllByRecursion}
 use Rattle.std.proofs.Math.Nat.{eq-or-lt_of_le}
 use Rattle.std.proofs.lemmas.List.{length-map, get_or_past}
@@ -9,34 +9,23 @@ use Rattle.dpl_lex.specs.declared.types.Ending.{Ending}
 use Rattle.dpl_rules.specs.declared.command.Command.{Command}
 use Rattle.dpl_rules.specs.declared.what.What.{What}
 use Rattle.dpl_rules.specs.declared.what.What.TheVariants.{Loop}
-use Rattle.dpl_rules.specs.Rules.{Fault, fault, at_first}
-use Rattle.dpl_groups.specs.Graph.{Graph, IsEdge, next_of}
+use Rattle.dpl_rules.specs.Rules.{fault, at_first}
+use Rattle.dpl_groups.specs.Graph.{next_of}
 use Rattle.dpl_groups.specs.Groups.{AreGroups}
 use Rattle.dpl_calls.specs.declared.table.CallSite.{CallSite}
 use Rattle.dpl_calls.specs.declared.table.Table.{Table}
-use Rattle.dpl_calls.specs.declared.scanning.Scanned.{Scanned}
-use Rattle.dpl_calls.specs.Parts.{Part, Bodies, is_same, parts_from}
-use Rattle.dpl_calls.specs.Loops.{names, calls, sites_from, first_site, is_looped, LeadsBack}
+use Rattle.dpl_calls.specs.Parts.{Part, is_same, parts_from}
+use Rattle.dpl_calls.specs.Loops.{names, calls, sites_from, first_site, is_looped}
 use Rattle.dpl_calls.specs.Table.{bodies_of}
 use Rattle.dpl_calls.specs.Places.{place_of, one_further, body_at, graph_of}
-use Rattle.dpl_calls.specs.Found.{IsSite}
 use Rattle.dpl_calls.specs.Counted.{HasNoLoop}
 use Rattle.dpl_calls.specs.Scanned.{IsScanned}
 use Rattle.dpl_calls.proofs.Cases.{of_eq, to_eq, bool_cases}
-use Rattle.dpl_calls.proofs.LoopPaths.{placed_key}
 use Rattle.dpl_calls.proofs.Edges.{is_graph, edge_names, Named, graph_size, body_placed}
 use Rattle.dpl_calls.proofs.Sites.{is_from, calls_are_sites}
 use Rattle.dpl_calls.proofs.Groups.{same_group}
-use Rattle.std.proofs.lemmas.Bool.{and_parts, or_left, or_right, or_cases}
+use Rattle.std.proofs.lemmas.Bool.{and_parts, or_cases}
 use Rattle.dpl_groups.proofs.Reach.{cases_le}
-
-at_any : (d e : ℕ) (sites : List CallSite) (k : ℕ) (x : CallSite) → k < length sites → is_from d e (get_or sites k x) ≡ true → list_any (is_from d e) sites ≡ true
-at_any d e [] k x h f = absurd (omega arith)
-at_any d e (s ∷ ss) zero x h f = or_left (is_from d e s) (list_any (is_from d e) ss) f
-at_any d e (s ∷ ss) (suc k) x h f = or_right (is_from d e s) (list_any (is_from d e) ss) (at_any d e ss k x (omega arith) f)
-
-same_some : (d : ℕ) (o : Option ℕ) → o ≡ Some d → is_same (Some d) o ≡ true
-same_some d o e = subst (λ (p : Option ℕ). is_same (Some d) p ≡ true) (sym e) (to_eq d d refl)
 
 some_same : (d : ℕ) (o : Option ℕ) → is_same (Some d) o ≡ true → o ≡ Some d
 some_same d None h = cc
@@ -80,44 +69,37 @@ place_of_key (k ∷ ks) (suc x) d h =
     flip : (n k : ℕ) → (k == n) ≡ false → (n == k) ≡ false
     flip n k h = elim (bool_cases (n == k)) [ inl e ↦ let bad : true ≡ false = sym (to_eq k n (sym (of_eq n k e))) ∙ h in cc | inr e ↦ e ]
 
-module _ (chosen : List ℕ) (all : List (Result Command What)) (ending : Ending) (r : Scanned) (s : IsScanned chosen all ending r) where
-  pub bodies_same : bodies_of r.table ≡ parts_from chosen at_first all
+module _ (chosen : List ℕ) (all : List (Result Command What)) (ending : Ending) (t : Table) (s : IsScanned chosen all ending t) where
+  pub bodies_same : bodies_of t ≡ parts_from chosen at_first all
   bodies_same = fun_ext s.bodies
 
-  calls_sites : (d e : ℕ) → calls (bodies_of r.table) d e ≡ list_any (is_from d e) r.sites
-  calls_sites d e =
-      ap (λ (ps : List Part). list_any (names e) ps) (s.bodies (Some d))
-      ∙ (calls_are_sites chosen d e at_first 1 all
-      ∙ ap (λ (ss : List CallSite). list_any (is_from d e) ss) (sym s.calls))
+  abbrev sites : List CallSite
+  sites = sites_from chosen at_first 1 all
 
-  -- each call is one of the definition that it stands in
-  pub sites_fit : All (IsSite (bodies_of r.table)) r.sites
-  sites_fit k x h d e =
-      let site : CallSite = get_or r.sites k x in
-      let from : is_from d site.called site ≡ true = rw (same_some d site.definition e) (to_eq site.called site.called refl) in
-      calls_sites d site.called ∙ at_any d site.called r.sites k x h from
+  calls_sites : (d e : ℕ) → calls (bodies_of t) d e ≡ list_any (is_from d e) sites
+  calls_sites d e = ap (λ (ps : List Part). list_any (names e) ps) (s.bodies (Some d)) ∙ calls_are_sites chosen d e at_first 1 all
 
   -- where no call leads back, no edge stays in its group
-  pub no_loop : (labels heads : List ℕ) → IsDistinct nat_eq (keys r.table.definitions) → AreGroups (graph_of r.table) labels heads → first_site (is_looped (length (keys r.table.definitions)) (bodies_of r.table)) Loop r.sites ≡ None → HasNoLoop (graph_of r.table) labels
+  pub no_loop : (labels heads : List ℕ) → IsDistinct nat_eq (keys t.definitions) → AreGroups (graph_of t) labels heads → first_site (is_looped (length (keys t.definitions)) (bodies_of t)) Loop sites ≡ None → HasNoLoop (graph_of t) labels
   no_loop labels heads distinct G none x y e = elim (eq-or-lt_of_le (G.downward x y inside e)) [ inl same ↦ absurd (looped same) | inr less ↦ less ]
     where
-      inside : x < length (graph_of r.table)
-      inside = elim (cases_le (length (graph_of r.table)) x) [
-        | inl le ↦ let z : next_of (graph_of r.table) x ≡ [] = get_or_past (graph_of r.table) x [] le in let w : e.k < length (next_of (graph_of r.table) x) = e.within in let bad : e.k < 0 = subst (λ (ps : List ℕ). e.k < length ps) z w in absurd (omega arith)
+      inside : x < length (graph_of t)
+      inside = elim (cases_le (length (graph_of t)) x) [
+        | inl le ↦ let z : next_of (graph_of t) x ≡ [] = get_or_past (graph_of t) x [] le in let w : e.k < length (next_of (graph_of t) x) = e.within in let bad : e.k < 0 = subst (λ (ps : List ℕ). e.k < length ps) z w in absurd (omega arith)
         | inr lt ↦ lt
       ]
 
       looped : get_or labels y 0 ≡ get_or labels x 0 → ⊥
       looped same =
-          let size : length (graph_of r.table) ≡ length r.table.definitions.entries = graph_size r.table in
-          let count : length (keys r.table.definitions) ≡ length r.table.definitions.entries = length-map r.table.definitions.entries (λ e. e.0) in
-          let n : ℕ = get_or (keys r.table.definitions) x 0 in
-          let hx : place_of n (keys r.table.definitions) ≡ Some x = place_of_key (keys r.table.definitions) x distinct (omega (arith, size, count, inside)) in
-          let d : Named r.table y (body_at r.table x) = edge_names r.table x y e in
-          let call : calls (bodies_of r.table) n d.m ≡ true = subst (λ (ps : List Part). list_any (names d.m) ps ≡ true) (sym (body_placed r.table n x hx)) d.named in
-          let f : FromSites n d.m r.sites (is_looped (length (keys r.table.definitions)) (bodies_of r.table)) = none_first (is_looped (length (keys r.table.definitions)) (bodies_of r.table)) Loop n d.m r.sites none (sym (calls_sites n d.m) ∙ call) in
-          let hy : place_of f.site.called (keys r.table.definitions) ≡ Some y = ap (λ (k : ℕ). place_of k (keys r.table.definitions)) f.named ∙ d.place in
-          let site : calls (bodies_of r.table) n f.site.called ≡ true = subst (λ (k : ℕ). calls (bodies_of r.table) n k ≡ true) (sym f.named) call in
-          let group : (get_or labels x 0 == get_or labels y 0) ≡ is_looped (length (keys r.table.definitions)) (bodies_of r.table) f.site = same_group r.table labels heads G (is_graph r.table) f.site n x y f.stands hx hy site in
-          let yes : true ≡ is_looped (length (keys r.table.definitions)) (bodies_of r.table) f.site = sym (to_eq (get_or labels x 0) (get_or labels y 0) (sym same)) ∙ group in
+          let size : length (graph_of t) ≡ length t.definitions.entries = graph_size t in
+          let count : length (keys t.definitions) ≡ length t.definitions.entries = length-map t.definitions.entries (λ e. e.0) in
+          let n : ℕ = get_or (keys t.definitions) x 0 in
+          let hx : place_of n (keys t.definitions) ≡ Some x = place_of_key (keys t.definitions) x distinct (omega (arith, size, count, inside)) in
+          let d : Named t y (body_at t x) = edge_names t x y e in
+          let call : calls (bodies_of t) n d.m ≡ true = subst (λ (ps : List Part). list_any (names d.m) ps ≡ true) (sym (body_placed t n x hx)) d.named in
+          let f : FromSites n d.m sites (is_looped (length (keys t.definitions)) (bodies_of t)) = none_first (is_looped (length (keys t.definitions)) (bodies_of t)) Loop n d.m sites none (sym (calls_sites n d.m) ∙ call) in
+          let hy : place_of f.site.called (keys t.definitions) ≡ Some y = ap (λ (k : ℕ). place_of k (keys t.definitions)) f.named ∙ d.place in
+          let site : calls (bodies_of t) n f.site.called ≡ true = subst (λ (k : ℕ). calls (bodies_of t) n k ≡ true) (sym f.named) call in
+          let group : (get_or labels x 0 == get_or labels y 0) ≡ is_looped (length (keys t.definitions)) (bodies_of t) f.site = same_group t labels heads G (is_graph t) f.site n x y f.stands hx hy site in
+          let yes : true ≡ is_looped (length (keys t.definitions)) (bodies_of t) f.site = sym (to_eq (get_or labels x 0) (get_or labels y 0) (sym same)) ∙ group in
           let no : true ≡ false = yes ∙ f.passes in cc

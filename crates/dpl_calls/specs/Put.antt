@@ -3,12 +3,19 @@ use Rattle.std.specs.Prelude.{ℕ, nat_eq, ◌≤◌, ◌^◌, List, ◌++◌, l
 use Rattle.indexmap.specs.IndexMap.{get}
 use Rattle.dpl_rules.specs.declared.command.Command.{Command}
 use Rattle.dpl_rules.specs.declared.command.Command.TheVariants.{Call}
+use Rattle.dpl_rules.specs.Rules.{at_first}
+use Rattle.dpl_calls.specs.declared.table.CallSite.{CallSite}
 use Rattle.dpl_calls.specs.declared.table.Table.{Table}
-use Rattle.dpl_calls.specs.Parts.{Part, Bodies, is_same}
+use Rattle.dpl_calls.specs.Parts.{is_same}
+use Rattle.dpl_calls.specs.Loops.{sites_of}
 
--- the bodies with parts added at one place
-abbrev pub put_at : Option ℕ → Bodies → List Part → Bodies
-put_at at bodies parts place = if is_same place at then bodies place ++ parts else bodies place
+-- the lists of all places with some added at one
+abbrev pub put_at : {A : Type 0} → Option ℕ → (Option ℕ → List A) → List A → Option ℕ → List A
+put_at at lists added place = if is_same place at then lists place ++ added else lists place
+
+-- the call that a command is, where it stands in this definition
+abbrev pub site_in : Option ℕ → ℕ → Command → List CallSite
+site_in place at c = sites_of (record at_first { definition = place }) at c
 
 -- the definition that was begun is there
 abbrev pub IsKnown : Table → Option ℕ → Type 0

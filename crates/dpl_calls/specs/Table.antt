@@ -11,7 +11,7 @@ use Rattle.dpl_calls.specs.Placement.{apply}
 -- the part that an entry stands for
 abbrev pub part_of : Entry → Part
 part_of (entry.Drawn figure) = Drawn figure
-part_of (entry.Called n p) = Called n (apply p)
+part_of (entry.Called at n p) = Called n (apply p)
 
 abbrev pub or_nothing : Option (List Entry) → List Entry
 or_nothing None = []

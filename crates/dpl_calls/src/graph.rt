@@ -17,7 +17,7 @@ fn put_place(places: &mut Vec<usize>, table: &Table, entry: &Entry) -> Result<()
     ensures { OnOk result (places.new.items ≡ places.old.items
         ++ lists.called_places (keys table.now.definitions) (part_of entry.now ∷ [])) }
 {
-    let Entry::Called(number, _) = entry else {
+    let Entry::Called { number, .. } = entry else {
         return Ok(());
     };
     match table.place(*number) {

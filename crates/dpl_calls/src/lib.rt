@@ -28,6 +28,6 @@ pub use laws::{
     turns_follow_their_direction,
 };
 pub use loops::{calling_rules, looped, missing};
-pub use scanning::{ScanError, Scanned, scan};
+pub use scanning::{ScanError, scan};
 pub use totals::{Count, total};
 pub use unfolding::unfold_table;

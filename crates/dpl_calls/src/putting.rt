@@ -1,11 +1,12 @@
 // What a command puts into its definition.
-ghost use Rattle.std.specs.Prelude.{◌≡◌, ◌++◌, [], ◌∷◌, true, map, IfOk, OnOk};
+ghost use Rattle.std.specs.Prelude.{◌≡◌, ◌++◌, [], ◌∷◌, true, map, ℕ, Option, IfOk, OnOk};
 ghost use Rattle.dpl_rules.specs.Figures.{IsScale, IsExtentNear, legs};
 ghost use Rattle.dpl_rules.specs.Bounds.{is_command_in_bounds};
 ghost use Rattle.dpl_calls.specs.Parts as parts;
 ghost use Rattle.dpl_calls.specs.Parts.Part.{Drawn};
 ghost use Rattle.dpl_calls.specs.Table.{part_of};
-ghost use Rattle.dpl_calls.specs.Put.{IsFew};
+ghost use Rattle.dpl_calls.specs.Found.{calls_in};
+ghost use Rattle.dpl_calls.specs.Put.{site_in, IsFew};
 
 use crate::apart::Apart;
 use crate::body::Body;
@@ -55,7 +56,9 @@ fn scaled_path(alloc: Global, scale: Scale, path: &[Spot]) -> Result<Items<Corne
 
 /// Adds a figure.
 fn put_figure(alloc: Global, body: &mut Body, figure: Figure) -> Result<(), AllocError>
-    ensures { OnOk result (map part_of body.new ≡ map part_of body.old ++ Drawn figure ∷ []) }
+    ensures parts { OnOk result (map part_of body.new ≡ map part_of body.old ++ Drawn figure ∷ []) }
+    ensures calls { OnOk result ((place : Option ℕ) →
+        calls_in place body.new ≡ calls_in place body.old) }
 {
     let figure = Apart::new(alloc, figure)?;
     body.put(Entry::Drawn(figure))
@@ -65,8 +68,10 @@ fn put_figure(alloc: Global, body: &mut Body, figure: Figure) -> Result<(), Allo
 fn put_rectangle(alloc: Global, body: &mut Body, scale: Scale, e: Extent) -> Result<(), AllocError>
     requires scale { IsScale scale }
     requires near { IsExtentNear e }
-    ensures { OnOk result (map part_of body.new ≡ map part_of body.old
+    ensures parts { OnOk result (map part_of body.new ≡ map part_of body.old
         ++ parts.rectangle scale e ∷ []) }
+    ensures calls { OnOk result ((place : Option ℕ) →
+        calls_in place body.new ≡ calls_in place body.old) }
 {
     put_figure(alloc, body, Figure::Rectangle(scaled_extent(scale, e)))
 }
@@ -79,8 +84,10 @@ fn put_legs(
     path: &[Spot],
 ) -> Result<(), AllocError>
     requires { IsScale scale }
-    ensures { OnOk result (map part_of body.new ≡ map part_of body.old
+    ensures parts { OnOk result (map part_of body.new ≡ map part_of body.old
         ++ map (parts.rectangle scale) (legs width path.now)) }
+    ensures calls { OnOk result ((place : Option ℕ) →
+        calls_in place body.new ≡ calls_in place body.old) }
 {
     let Some((first, rest)) = path.split_first() else {
         return Ok(());
@@ -96,18 +103,21 @@ fn put_legs(
     Ok(())
 }
 
-/// Adds what a command puts in where it stands.
+/// Adds what the command with this number puts in where it stands.
 pub fn put_entries(
     alloc: Global,
     body: &mut Body,
     scope: &Scope,
+    at: u32,
     command: &Command,
 ) -> Result<(), AllocError>
     requires scale { IsScale scope.now.scale }
     requires bounds { is_command_in_bounds command.now ≡ true }
     requires few { IsFew command.now }
-    ensures { OnOk result (map part_of body.new ≡ map part_of body.old
+    ensures parts { OnOk result (map part_of body.new ≡ map part_of body.old
         ++ parts.parts_of scope.now command.now) }
+    ensures calls { OnOk result ((place : Option ℕ) →
+        calls_in place body.new ≡ calls_in place body.old ++ site_in place at command.now) }
 {
     let chosen = scope.layer == Some(true);
     match command {
@@ -123,7 +133,12 @@ pub fn put_entries(
         }
         Command::Call(number, transformations) => {
             let placement = placement_of(scope.scale, transformations.as_slice());
-            body.put(Entry::Called(*number, Move::new(alloc, placement)?))
+            let moves = Move::new(alloc, placement)?;
+            body.put(Entry::Called {
+                at,
+                number: *number,
+                moves,
+            })
         }
         _ => Ok(()),
     }

@@ -8,30 +8,22 @@ ghost use Rattle.dpl_rules.specs.Bounds.{is_command_in_bounds, read_commands};
 ghost use Rattle.dpl_rules.specs.Figures.{IsScale};
 ghost use Rattle.dpl_rules.specs.Rules as rules;
 ghost use Rattle.dpl_calls.specs.Parts.{parts_of};
-ghost use Rattle.dpl_calls.specs.Loops.{sites_of};
 ghost use Rattle.dpl_calls.specs.Table.{bodies_of};
-ghost use Rattle.dpl_calls.specs.Put.{put_at, IsKnown, IsFew};
+ghost use Rattle.dpl_calls.specs.Found.{calls_at};
+ghost use Rattle.dpl_calls.specs.Put.{put_at, site_in, IsKnown, IsFew};
 ghost use Rattle.dpl_calls.specs.Scanned.{ScanGives};
 
 use crate::body::Body;
 use crate::putting::put_entries;
-use crate::table::{CallSite, Table};
+use crate::table::Table;
 use dpl_lex::Name;
 use dpl_lex::types::{Commands, Ending};
-use dpl_list::Items;
 use dpl_rules::command::{Command, Scale};
 use dpl_rules::scope::Scope;
 use dpl_rules::{Refusal, What, broken_rule, read_command};
 use indexmap::IndexMap;
 use std::alloc::{AllocError, Global};
 use thiserror::Error;
-
-/// What a layout without a broken rule gives: its definitions, and its calls in the order of the file.
-#[derive(Drop)]
-pub struct Scanned {
-    pub table: Table,
-    pub sites: Items<CallSite>,
-}
 
 /// Why a layout was not scanned.
 #[derive(Clone, Copy, Debug, PartialEq, Eq, Error)]
@@ -42,11 +34,12 @@ pub enum ScanError {
     NoMemory,
 }
 
-/// Adds what the command puts in, where it stands.
+/// Adds what the command with this number puts in, where it stands.
 fn place(
     alloc: Global,
     table: &mut Table,
     scope: &Scope,
+    at: u32,
     command: &Command,
 ) -> Result<(), AllocError>
     requires scale { IsScale scope.now.scale }
@@ -57,13 +50,16 @@ fn place(
         bodies_of table.new place
         ≡ put_at scope.now.definition (bodies_of table.old) (parts_of scope.now command.now)
         place) }
+    ensures calls { OnOk result ((place : Option ℕ) →
+        calls_at table.new place
+        ≡ put_at scope.now.definition (calls_at table.old) (site_in place at command.now) place) }
     ensures keys { OnOk result (keys table.new.definitions ≡ keys table.old.definitions) }
     ensures known { OnOk result (IsKnown table.new scope.now.definition) }
 {
     match scope.definition {
-        None => put_entries(alloc, &mut table.top, scope, command),
+        None => put_entries(alloc, &mut table.top, scope, at, command),
         Some(number) => match table.definitions.get_mut(&number) {
-            Some(body) => put_entries(alloc, body, scope, command),
+            Some(body) => put_entries(alloc, body, scope, at, command),
             None => Ok(()),
         },
     }
@@ -75,6 +71,8 @@ fn begin(alloc: Global, table: &mut Table, number: u64) -> Result<(), AllocError
     requires { list_any (λ m. m == number) (keys table.old.definitions) ≡ false }
     ensures bodies { OnOk result ((place : Option ℕ) →
         bodies_of table.new place ≡ bodies_of table.old place) }
+    ensures calls { OnOk result ((place : Option ℕ) →
+        calls_at table.new place ≡ calls_at table.old place) }
     ensures keys { OnOk result (keys table.new.definitions ≡ keys table.old.definitions
         ++ number ∷ []) }
     ensures known { OnOk result (IsSome (get nat_eq table.new.definitions number)) }
@@ -87,7 +85,6 @@ fn begin(alloc: Global, table: &mut Table, number: u64) -> Result<(), AllocError
 fn step(
     alloc: Global,
     table: &mut Table,
-    sites: &mut Vec<CallSite>,
     scope: Scope,
     layer: &Name,
     at: u32,
@@ -105,12 +102,13 @@ fn step(
         ≡ put_at scope.definition (bodies_of table.old) (parts_of scope command.now) place) }
     ensures keys { OnOk result (keys table.new.definitions
         ≡ rules.with_start command.now (keys table.old.definitions)) }
-    ensures sites { OnOk result (sites.new.items ≡ sites.old.items
-        ++ sites_of scope at command.now) }
+    ensures calls { OnOk result ((place : Option ℕ) →
+        calls_at table.new place
+        ≡ put_at scope.definition (calls_at table.old) (site_in place at command.now) place) }
     ensures scale { IfOk result (λ s. IsScale s.scale) }
     ensures known { IfOk result (λ s. IsKnown table.new s.definition) }
 {
-    place(alloc, table, &scope, command)?;
+    place(alloc, table, &scope, at, command)?;
     match command {
         Command::Layer(name) => Ok(Scope {
             layer: Some(name.bytes() == layer.bytes()),
@@ -131,15 +129,8 @@ fn step(
             outer: None,
             scale: Scale { times: 1, over: 1 },
         }),
-        Command::Call(number, _) => {
-            sites.push(CallSite {
-                at,
-                definition: scope.definition,
-                called: *number,
-            })?;
-            Ok(scope)
-        }
-        Command::Idle
+        Command::Call(..)
+        | Command::Idle
         | Command::Polygon(_)
         | Command::Box(_)
         | Command::Wire(..)
@@ -170,13 +161,13 @@ fn broken_at_end(scope: &Scope, ending: Ending) -> Option<What>
     }
 }
 
-/// Goes over all commands, up to the first that breaks a rule of one command.
+/// The definitions and calls of all commands, or the first rule of one command that is broken.
 pub fn scan(
     alloc: Global,
     text: &[u8],
     commands: &Commands,
     layer: &Name,
-) -> Result<Scanned, ScanError>
+) -> Result<Table, ScanError>
     requires short { length text.now ≤ MOST_LAYOUT_BYTES }
     requires commands { commands.now ≡ commands_of text.now }
     ensures { ScanGives layer.now (read_commands text.now commands.now.spans) commands.now.ending
@@ -186,7 +177,6 @@ pub fn scan(
         top: Body::new(alloc),
         definitions: IndexMap::new(alloc),
     };
-    let mut sites = Vec::new(alloc);
     let mut scope = Scope {
         definition: None,
         layer: None,
@@ -204,7 +194,7 @@ pub fn scan(
         if let Some(what) = broken_rule(&scope, breaks_twice(&table, &command), &command) {
             return Err(ScanError::Breaks(at, what));
         }
-        scope = match step(alloc, &mut table, &mut sites, scope, layer, at, &command) {
+        scope = match step(alloc, &mut table, scope, layer, at, &command) {
             Ok(scope) => scope,
             Err(_) => return Err(ScanError::NoMemory),
         };
@@ -213,9 +203,6 @@ pub fn scan(
     }
     match broken_at_end(&scope, commands.ending) {
         Some(what) => Err(ScanError::Breaks(at, what)),
-        None => Ok(Scanned {
-            table,
-            sites: Items::new(sites),
-        }),
+        None => Ok(table),
     }
 }

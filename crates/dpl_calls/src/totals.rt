@@ -41,9 +41,9 @@ fn own(count: Count, entry: &Entry) -> u64
 {
     match (count, entry) {
         (Count::Calls, Entry::Drawn(_)) => 0,
-        (Count::Calls, Entry::Called(..)) => 1,
+        (Count::Calls, Entry::Called { .. }) => 1,
         (Count::Weight, Entry::Drawn(figure)) => weight(figure.get()),
-        (Count::Weight, Entry::Called(..)) => 0,
+        (Count::Weight, Entry::Called { .. }) => 0,
     }
 }
 
@@ -70,7 +70,7 @@ fn entry_total(count: Count, table: &Table, totals: &[u64], entry: &Entry) -> u6
     let alone = own(count, entry);
     match entry {
         Entry::Drawn(_) => alone,
-        Entry::Called(number, _) => alone + kept(table, totals, *number),
+        Entry::Called { number, .. } => alone + kept(table, totals, *number),
     }
 }
 

@@ -97,12 +97,12 @@ pub fn unfold_table(alloc: Global, table: &Table, depth: usize) -> Result<Vec<Fi
             Entry::Drawn(figure) => {
                 figures.push(place_figure(alloc, frame.place, figure)?)?;
             }
-            Entry::Called(number, inner) => {
+            Entry::Called { number, moves, .. } => {
                 done += 1;
                 if frame.below > 0 {
                     stack.push(Frame {
                         rest: table.body(*number),
-                        place: inner.within(frame.place),
+                        place: moves.within(frame.place),
                         below: frame.below - 1,
                     })?;
                 }

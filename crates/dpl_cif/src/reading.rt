@@ -23,7 +23,7 @@ use crate::error::{CifError, CifLimit};
 use crate::prims::layout_of;
 use crate::reach::reach;
 use dpl_calls::table::Table;
-use dpl_calls::{Count, ScanError, Scanned, groups_of, looped, missing, scan, total, unfold_table};
+use dpl_calls::{Count, ScanError, groups_of, looped, missing, scan, total, unfold_table};
 use dpl_cell::Layout;
 use dpl_groups::Groups;
 use dpl_lex::types::{Commands, Ending};
@@ -95,11 +95,11 @@ fn rounds(
     text: &[u8],
     commands: &Commands,
     layer: &Name,
-    scanned: &Scanned,
+    table: &Table,
 ) -> Result<Layout, CifError>
     requires short { length text.now ≤ MOST_LAYOUT_BYTES }
     requires commands { commands.now ≡ commands_of text.now }
-    requires scanned { IsScanned layer.now (forms_of text.now) (ending_of text.now) scanned.now }
+    requires scanned { IsScanned layer.now (forms_of text.now) (ending_of text.now) table.now }
     ensures { Gives result (reading layer.now text.now) }
 {
     if has_no_end(commands.ending) {
@@ -109,9 +109,7 @@ fn rounds(
             what: What::NoEnd,
         });
     }
-    let table = &scanned.table;
-    let sites = scanned.sites.as_slice();
-    if let Some(command) = missing(table, sites) {
+    if let Some(command) = missing(table) {
         return Err(CifError::Fault {
             command,
             what: What::Missing,
@@ -121,7 +119,7 @@ fn rounds(
     let Ok(groups) = groups_of(alloc, table) else {
         return Err(CifError::NoMemory);
     };
-    match looped(table, &groups, sites) {
+    match looped(table, &groups) {
         Some(command) => Err(CifError::Fault {
             command,
             what: What::Loop,
@@ -163,7 +161,7 @@ pub fn read_commands(
         map outline_of layout.prims ≡ primitives_of layer.now text.now) }
 {
     match scan(alloc, text, commands, layer) {
-        Ok(scanned) => rounds(alloc, text, commands, layer, &scanned),
+        Ok(table) => rounds(alloc, text, commands, layer, &table),
         Err(ScanError::Breaks(command, what)) => Err(CifError::Fault { command, what }),
         Err(ScanError::NoMemory) => Err(CifError::NoMemory),
     }

@@ -10,7 +10,7 @@ use Rattle.dpl_calls.proofs.scanning.scan.Given as goal
 abbrev pub invariant-commands : goal.invariant-commands
 invariant-commands l =
     record {
-      scans : Scans l.layer (read_commands l.text l.commands.spans) (read_commands l.text l.rest) l.commands.ending l.table l.sites.items l.scope l.at;
+      scans : Scans l.layer (read_commands l.text l.commands.spans) (read_commands l.text l.rest) l.commands.ending l.table l.scope l.at;
       within : AreWithin (length l.text) l.rest;
       fit : AllFit (read_commands l.text l.rest);
       count : l.at + length l.rest ≤ 16777217;

@@ -1,6 +1,5 @@
-use Rattle.std.proofs.Common.{◌≡◌, ℕ, suc, ◌+◌, ◌-◌, List, map, ap, subst, None, Some, arith, refl, All}
+use Rattle.std.proofs.Common.{◌≡◌, suc, ◌-◌, List, map, ap, None, Some, arith, refl, All}
 use Rattle.dpl_calls.specs.declared.entry.Entry.{Entry}
-use Rattle.dpl_calls.specs.Parts.{Part}
 use Rattle.dpl_calls.specs.Table.{part_of, bodies_of}
 use Rattle.dpl_calls.specs.Kept.{IsPartKept}
 use Rattle.dpl_calls.proofs.Goes.{goes_start, empty_at, figure_at, flat_at, deep_at, deep_smaller_at, frame_near, called_at, drawn_at, child_near}
@@ -26,12 +25,12 @@ frames-preserved-in_ok-push-in-Drawn c =
 
 pub within-requires-clause-inner : goal.within-requires-clause-inner
 within-requires-clause-inner c =
-    called_at (bodies_of c.args.table.now) _ _ _ _ _ c.in-Some.frame (record c.in-Some.frame { rest = c.in-Some-split_first.rest }) _ _ c.in-Some.ensures.items c.in-Some-split_first.ensures.cases.0 refl refl c.frames.invariant c.in-Called.number c.in-Called.inner c.in-Called.is
+    called_at (bodies_of c.args.table.now) _ _ _ _ _ c.in-Some.frame (record c.in-Some.frame { rest = c.in-Some-split_first.rest }) _ _ c.in-Some.ensures.items c.in-Some-split_first.ensures.cases.0 refl refl c.frames.invariant c.in-Called.at c.in-Called.number c.in-Called.moves c.in-Called.is
 
 pub frames-smaller-in_ok-push-in-Called : goal.frames-smaller-in_ok-push-in-Called
 frames-smaller-in_ok-push-in-Called c =
     let deep : c.in-Some.frame.below ≡ suc (c.in-Some.frame.below - 1) = omega (arith, c.if-frame-gt0.true) in
-    deep_smaller_at (bodies_of c.args.table.now) _ _ _ _ _ c.in-Some.frame _ _ _ c.in-Some.ensures.items c.in-Some-split_first.ensures.cases.0 refl refl c.frames.invariant _ _ _ c.in-Called.number c.in-Called.inner c.in_ok-push-2.ensures.items c.in_ok-push-in-Called.ensures.items c.in-Called.is deep (ap (λ (es : List Entry). map part_of es) c.body.ensures.value)
+    deep_smaller_at (bodies_of c.args.table.now) _ _ _ _ _ c.in-Some.frame _ _ _ c.in-Some.ensures.items c.in-Some-split_first.ensures.cases.0 refl refl c.frames.invariant _ _ _ c.in-Called.at c.in-Called.number c.in-Called.moves c.in_ok-push-2.ensures.items c.in_ok-push-in-Called.ensures.items c.in-Called.is deep (ap (λ (es : List Entry). map part_of es) c.body.ensures.value)
 
 pub frames-preserved-in_ok-push-in-Called : goal.frames-preserved-in_ok-push-in-Called
 frames-preserved-in_ok-push-in-Called c =
@@ -39,11 +38,11 @@ frames-preserved-in_ok-push-in-Called c =
     let parts : map part_of c.body.result.now ≡ bodies_of c.args.table.now (Some c.in-Called.number) = ap (λ (es : List Entry). map part_of es) c.body.ensures.value in
     let kept : All IsPartKept (map part_of c.body.result.now) = rw parts (c.requires.kept (Some c.in-Called.number)) in
     let near = frame_near (bodies_of c.args.table.now) _ _ _ _ _ c.in-Some.frame (record c.in-Some.frame { rest = c.in-Some-split_first.rest }) _ _ c.in-Some.ensures.items c.in-Some-split_first.ensures.cases.0 refl refl c.frames.invariant in
-    let inner = called_at (bodies_of c.args.table.now) _ _ _ _ _ c.in-Some.frame (record c.in-Some.frame { rest = c.in-Some-split_first.rest }) _ _ c.in-Some.ensures.items c.in-Some-split_first.ensures.cases.0 refl refl c.frames.invariant c.in-Called.number c.in-Called.inner c.in-Called.is in
-    deep_at (bodies_of c.args.table.now) _ _ _ _ _ c.in-Some.frame _ _ _ c.in-Some.ensures.items c.in-Some-split_first.ensures.cases.0 refl refl c.frames.invariant _ _ _ c.in-Called.number c.in-Called.inner c.in_ok-push-2.ensures.items c.in_ok-push-in-Called.ensures.items c.in-Called.is deep parts
+    let inner = called_at (bodies_of c.args.table.now) _ _ _ _ _ c.in-Some.frame (record c.in-Some.frame { rest = c.in-Some-split_first.rest }) _ _ c.in-Some.ensures.items c.in-Some-split_first.ensures.cases.0 refl refl c.frames.invariant c.in-Called.at c.in-Called.number c.in-Called.moves c.in-Called.is in
+    deep_at (bodies_of c.args.table.now) _ _ _ _ _ c.in-Some.frame _ _ _ c.in-Some.ensures.items c.in-Some-split_first.ensures.cases.0 refl refl c.frames.invariant _ _ _ c.in-Called.at c.in-Called.number c.in-Called.moves c.in_ok-push-2.ensures.items c.in_ok-push-in-Called.ensures.items c.in-Called.is deep parts
     c.within.ensures.value
-    (child_near c.frames.done c.in-Some.frame _ c.in-Called.inner c.within.ensures.near inner near c.body.ensures.near kept)
+    (child_near c.frames.done c.in-Some.frame _ c.in-Called.moves c.within.ensures.near inner near c.body.ensures.near kept)
 
 pub frames-preserved : goal.frames-preserved
 frames-preserved c =
-    flat_at (bodies_of c.args.table.now) _ _ _ _ _ c.in-Some.frame _ _ _ c.in-Some.ensures.items c.in-Some-split_first.ensures.cases.0 refl refl c.frames.invariant _ c.in-Called.number c.in-Called.inner c.in_ok-push-2.ensures.items c.in-Called.is (omega (arith, c.if-frame-gt0.false))
+    flat_at (bodies_of c.args.table.now) _ _ _ _ _ c.in-Some.frame _ _ _ c.in-Some.ensures.items c.in-Some-split_first.ensures.cases.0 refl refl c.frames.invariant _ c.in-Called.at c.in-Called.number c.in-Called.moves c.in_ok-push-2.ensures.items c.in-Called.is (omega (arith, c.if-frame-gt0.false))
