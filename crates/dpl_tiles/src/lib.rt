@@ -8,6 +8,7 @@
 mod corners;
 mod crossing;
 mod error;
+mod gathering;
 mod laws;
 mod ordinates;
 mod reaches;
