@@ -1,21 +1,26 @@
 -- The corners of primitives, and the columns that change at a row.
-use Rattle.std.proofs.Common.{arith, ◌≡◌, ◌⊎◌, ◌∙◌, ℕ, ◌+◌, ◌-◌, ◌<◌, ◌≤◌, ℤ, ◌<ℤ◌, ◌≤ℤ◌, List, length, get_or, take, drop, All, Any, subst, refl, sym, ap, inl, inr, [], ◌∷◌, ◌++◌, Bool, true, false, int_lt, int_le, append_assoc, append-nil, length-append}
-use Rattle.std.specs.List.Sorted.{IsPermutation, IsPartitionedBy}
+use Rattle.std.proofs.Common.{arith, ◌≡◌, ◌∙◌, ℕ, ◌+◌, ◌-◌, ◌<◌, ◌≤◌, ℤ, ◌<ℤ◌, ◌≤ℤ◌, List, length, get_or, take, drop, All, AllPairs, Any, Contains, subst, refl, sym, ap, inl, inr, [], ◌∷◌, ◌++◌, true, false, int_lt, int_le}
+use Rattle.std.proofs.Common.{Ordering, Less, Equal, Greater}
+use Rattle.std.specs.Ordering.{int_cmp, is_lt, ordering_then, MatchOrdering}
+use Rattle.std.specs.Cmp.{int_ranks, IsTotalOrder}
+use Rattle.std.proofs.lemmas.Cmp.{int_cmp_total, then_total, on_total}
+use Rattle.std.specs.List.Sorted.{IsPermutation, IsPartitionedBy, IsSortedBy}
 use Rattle.std.proofs.lemmas.Bool.{cases_lt}
 use Rattle.std.proofs.lemmas.Int.{ints}
-use Rattle.std.proofs.lemmas.List.{take_all, get_or-take, get_or-drop, get_or_append_left, length-take, length-drop, drop_more, drop_all}
+use Rattle.std.proofs.lemmas.List.{take_all, get_or-take, get_or-drop, length-take, length-drop, drop_more, drop_all}
 use Rattle.std.proofs.lemmas.List.Elements.{All-more, All-weaker, Contains-append_left}
-use Rattle.std.proofs.lemmas.List.Sorted.{Contains-permutation}
+use Rattle.std.proofs.lemmas.List.Sorted.{Contains-permutation, sorted_far, ranks_by}
 use Rattle.dpl_cell.specs.declared.rect.Rect.{Rect}
 use Rattle.dpl_cell.specs.declared.point.Point.{Point}
 use Rattle.dpl_cell.specs.declared.layout.Primitive.{Primitive}
 use Rattle.dpl_cell.specs.declared.layout.Primitive.TheVariants as prim
 use Rattle.dpl_tiles.specs.declared.corners.Corner.{Corner}
 use Rattle.dpl_tiles.specs.Stretches.{Ascends}
-use Rattle.dpl_tiles.specs.Corners.{IsCornerOf, SpansSide, IsEndOf, HasSide, HasSides, HasCornersOf, AreWithin, AddsCorners, AddsSide, AreBetween}
+use Rattle.dpl_tiles.specs.Corners.{IsCornerOf, SpansSide, IsEndOf, HasSide, HasSides, HasCornersOf, AreWithin, AddsCorners, AddsSide, AreBetween, AreCornersAt, ComesBefore}
+use Rattle.dpl_tiles.specs.Clusters.{IsCluster}
+use Rattle.dpl_cell.proofs.BoxLemmas.{equal_z}
 use Rattle.dpl_tiles.proofs.Signed.{signed}
-use Rattle.dpl_list.proofs.Lists.{any_left, any_right, any_contains}
-use Rattle.dpl_tiles.proofs.WindowLemmas.{is_at_most, not_at_most}
+use Rattle.dpl_list.proofs.Lists.{any_right, any_contains}
 
 -- ---- a longer list has what the shorter one has
 
@@ -122,9 +127,9 @@ some_of : (corners : List Corner) (k : ℕ) → k < length corners → Corner
 some_of [] k l = absurd (omega arith)
 some_of (c ∷ cs) k l = c
 
-pub first_between : (corners : List Corner) (z : ℤ) (from to : ℕ) → from ≤ length corners → to ≤ length corners → ((k : ℕ) (d : Corner) → k < from → (get_or corners k d).y <ℤ z) → ((k : ℕ) (d : Corner) → to ≤ k → k < length corners → z <ℤ (get_or corners k d).y)
-    → AreBetween corners z from to
-first_between corners z from to h g below above = record { order = order; from_within = h; to_within = g; below = below; above = above } where
+pub first_between : (corners : List Corner) (z : ℤ) (from to : ℕ) → from ≤ length corners → to ≤ length corners → ((k : ℕ) (d : Corner) → k < from → (get_or corners k d).y <ℤ z) → ((k : ℕ) (d : Corner) → from ≤ k → k < length corners → z ≤ℤ (get_or corners k d).y)
+    → ((k : ℕ) (d : Corner) → k < to → (get_or corners k d).y ≤ℤ z) → ((k : ℕ) (d : Corner) → to ≤ k → k < length corners → z <ℤ (get_or corners k d).y) → AreBetween corners z from to
+first_between corners z from to h g below at_least up_to above = record { order = order; from_within = h; to_within = g; below = below; on = λ k d i j. equal_z _ z (up_to k d j) (at_least k d i (omega arith)); above = above } where
   order : from ≤ to
   order = elim (cases_lt to from) [
     | inr i ↦ i
@@ -133,20 +138,112 @@ first_between corners z from to h g below above = record { order = order; from_w
     both : (y : ℤ) → y <ℤ z → z <ℤ y → ⊥
     both y a b = omega signed
 
-pub spans_all : (corners : List Corner) (z left right : ℤ) (from to : ℕ) → AreBetween corners z from to → All (λ c. (left ≤ℤ c.left) × (c.right ≤ℤ right)) (take (to - from) (drop from corners)) → All (λ c. c.y ≡ z → (left ≤ℤ c.left) × (c.right ≤ℤ right)) corners
-spans_all corners z left right from to b a k d l e = elim (cases_lt k from) [
-  | inl h ↦ absurd (let g = b.below k d h in omega signed)
-  | inr h ↦ elim (cases_lt k to) [
-    | inr g ↦ absurd (let f = b.above k d g l in omega signed)
-    | inl g ↦
-        let i : k - from < to - from = omega arith in
-        let m : k - from < length (take (to - from) (drop from corners)) = let n = length-take (to - from) (drop from corners) in let o = length-drop from corners in omega arith in
-        let q : from + (k - from) ≡ k = omega arith in
-        rw (get_or-take (to - from) (drop from corners) (k - from) d i, get_or-drop from corners (k - from) d, q) at (a (k - from) d m)
-  ]
-]
+-- ---- the corners at a row, from the left
 
-pub narrower : (corners : List Corner) (left right left' right' : ℤ) → left' ≡ left → right ≤ℤ right' → All (λ c. (left ≤ℤ c.left) × (c.right ≤ℤ right)) corners → All (λ c. (left' ≤ℤ c.left) × (c.right ≤ℤ right')) corners
-narrower corners left right left' right' e h a k d l = let g = a k d l in let f = g.0 in let i = g.1 in (rw e f, chain _ _ _ i h) where
-  chain : (a b c : ℤ) → a ≤ℤ b → b ≤ℤ c → a ≤ℤ c
-  chain a b c h k = omega signed
+pub rising_rows : (corners : List Corner) → AllPairs ComesBefore corners → Ascends (λ c. c.y) corners
+rising_rows corners up i j d h l = elim (cases_lt i j) [
+  | inl g ↦ elim (up i j d g l) [ inl f ↦ lower _ _ f | inr (e, f) ↦ level _ _ e ]
+  | inr g ↦ let e : i ≡ j = omega arith in rw e (level _ _ refl)
+] where
+  lower : (a b : ℤ) → a <ℤ b → a ≤ℤ b
+  lower a b f = omega signed
+
+  level : (a b : ℤ) → a ≡ b → a ≤ℤ b
+  level a b e = omega signed
+
+-- the order of a sort by the row and the left end
+by_place : Corner → Corner → Ordering
+by_place a b = ordering_then (int_cmp a.y b.y) (int_cmp a.left b.left)
+
+by_place_total : IsTotalOrder by_place
+unfolding by_place
+by_place_total = then_total (on_total (λ (c : Corner). c.y) int_cmp_total) (on_total (λ (c : Corner). c.left) int_cmp_total)
+
+in_place : (a b : Corner) (r s : Ordering) → MatchOrdering r (b.y <ℤ a.y) (b.y ≡ a.y) (a.y <ℤ b.y) → MatchOrdering s (b.left <ℤ a.left) (b.left ≡ a.left) (a.left <ℤ b.left) → is_lt (ordering_then r s) ≡ false → ComesBefore a b
+in_place a b Less s m n e = cc
+in_place a b Equal Less m n e = cc
+in_place a b Equal Equal m n e = inr (sym m, omega signed)
+in_place a b Equal Greater m n e = inr (sym m, omega signed)
+in_place a b Greater s m n e = inl m
+
+pub in_order : (corners : List Corner) → IsSortedBy (λ a b. is_lt (ordering_then (int_cmp a.y b.y) (int_cmp a.left b.left))) corners → AllPairs ComesBefore corners
+unfolding by_place
+in_order corners s i j d h l =
+    let a = get_or corners i d in let b = get_or corners j d in
+    in_place a b _ _ (int_ranks b.y a.y) (int_ranks b.left a.left) (sorted_far (λ a b. is_lt (by_place a b)) (ranks_by by_place_total (λ (c : Corner). c)) corners s i j d (omega arith) l)
+
+module _ (corners : List Corner) (z : ℤ) (from to : ℕ) (up : AllPairs ComesBefore corners) (b : AreBetween corners z from to) where
+  row_length : length (take (to - from) (drop from corners)) ≡ to - from
+  row_length = let n = length-take (to - from) (drop from corners) in let o = length-drop from corners in let g = b.order in let h = b.to_within in omega arith
+
+  row_at : (k : ℕ) (d : Corner) → k < to - from → get_or (take (to - from) (drop from corners)) k d ≡ get_or corners (from + k) d
+  row_at k d h = get_or-take (to - from) (drop from corners) k d h ∙ get_or-drop from corners k d
+
+  pub row_of : AreCornersAt corners z (take (to - from) (drop from corners))
+  row_of = record {
+    ordered = λ i j d h l. rw (row_at i d (let n = row_length in omega arith), row_at j d (let n = row_length in omega arith)) (rising (from + i) (from + j) d (omega arith) (omega arith) (let n = row_length in let g = b.to_within in omega arith) (let n = row_length in omega arith));
+    all = λ c (k, l, e) is. here c k l e is;
+  } where
+    rising : (i j : ℕ) (d : Corner) → from ≤ i → i ≤ j → j < length corners → j < to → (get_or corners i d).left ≤ℤ (get_or corners j d).left
+    rising i j d f h l g = elim (cases_lt i j) [
+      | inl n ↦ elim (up i j d n l) [
+        | inl a ↦ absurd (both _ _ (b.on i d f (omega arith)) (b.on j d (omega arith) g) a)
+        | inr (e, a) ↦ a
+      ]
+      | inr n ↦ let e : i ≡ j = omega arith in rw e (itself _)
+    ] where
+      both : (x y : ℤ) → x ≡ z → y ≡ z → x <ℤ y → ⊥
+      both x y e f a = omega signed
+
+      itself : (x : ℤ) → x ≤ℤ x
+      itself x = omega signed
+
+    here : (c : Corner) (k : ℕ) → k < length corners → get_or corners k c ≡ c → c.y ≡ z → Contains (take (to - from) (drop from corners)) c
+    here c k l e is = elim (cases_lt k from) [
+      | inl h ↦ absurd (lower _ (ap (λ (q : Corner). q.y) e ∙ is) (b.below k c h))
+      | inr h ↦ elim (cases_lt k to) [
+        | inr g ↦ absurd (higher _ (ap (λ (q : Corner). q.y) e ∙ is) (b.above k c g l))
+        | inl g ↦
+            let i : k - from < to - from = omega arith in
+            let j : from + (k - from) ≡ k = omega arith in
+            (k - from, rw row_length i, row_at (k - from) c i ∙ ap (λ n. get_or corners n c) j ∙ e)
+      ]
+    ] where
+      lower : (y : ℤ) → y ≡ z → y <ℤ z → ⊥
+      lower y e a = omega signed
+
+      higher : (y : ℤ) → y ≡ z → z <ℤ y → ⊥
+      higher y e a = omega signed
+
+-- ---- corners that are gathered
+
+-- the corners from one place up to another have columns from d1 to d2
+pub record AreGathered (row : List Corner) (at to : ℕ) (d1 d2 : ℤ) : Type 0 where
+  pub more : at < to
+  pub within : to ≤ length row
+  pub left : (d : Corner) → (get_or row at d).left ≡ d1
+  pub right : (k : ℕ) (d : Corner) → at ≤ k → k < to → (get_or row k d).right ≤ℤ d2
+
+pub one_gathered : (row : List Corner) (at : ℕ) (d1 d2 : ℤ) → at < length row → ((d : Corner) → (get_or row at d).left ≡ d1) → ((d : Corner) → (get_or row at d).right ≤ℤ d2) → AreGathered row at (at + 1) d1 d2
+one_gathered row at d1 d2 l left right = record {
+  more = omega arith;
+  within = omega arith;
+  left = left;
+  right = λ k d h g. let e : k ≡ at = omega arith in rw e (right d);
+}
+
+pub more_gathered : (row : List Corner) (at to : ℕ) (d1 d1' d2 d2' : ℤ) → AreGathered row at to d1 d2 → to < length row → d1' ≡ d1 → d2 ≤ℤ d2' → ((d : Corner) → (get_or row to d).right ≤ℤ d2') → AreGathered row at (to + 1) d1' d2'
+more_gathered row at to d1 d1' d2 d2' a l same h right = record {
+  more = let m = a.more in omega arith;
+  within = omega arith;
+  left = λ d. a.left d ∙ sym same;
+  right = λ k d f g. elim (cases_lt k to) [
+    | inl i ↦ chain _ (a.right k d f i)
+    | inr i ↦ let e : k ≡ to = omega arith in rw e (right d)
+  ];
+} where
+  chain : (x : ℤ) → x ≤ℤ d2 → x ≤ℤ d2'
+  chain x i = omega signed
+
+pub whole_cluster : (row : List Corner) (at to : ℕ) (d1 d2 : ℤ) (near : List Rect) → AreGathered row at to d1 d2 → ((d : Corner) → to < length row → (d2 <ℤ (get_or row to d).left) × All (λ r. r.x2 <ℤ (get_or row to d).left) near) → IsCluster row at to d1 d2 near
+whole_cluster row at to d1 d2 near a apart = record { more = a.more; within = a.within; left = a.left; right = a.right; apart = apart }

@@ -2,22 +2,21 @@
 use Rattle.std.proofs.Common.{Option, Some, None, MatchOption}
 use Rattle.std.specs.Option.{is_some}
 use Rattle.std.proofs.lemmas.List.{get_or_default}
-use Rattle.std.proofs.Common.{arith, rules, ◌≡◌, ◌⊎◌, ◌∙◌, ℕ, ◌+◌, ◌<◌, ◌≤◌, ◌^◌, ℤ, pos, neg_ℤ, ◌+ℤ◌, ◌-ℤ◌, ◌<ℤ◌, ◌≤ℤ◌, List, length, get_or, take, filter, All, Any, refl, sym, ap, inl, inr, [], ◌∷◌, ◌++◌, Bool, true, false, not, append_assoc, append-nil, IsTrue}
+use Rattle.std.proofs.Common.{arith, rules, ◌≡◌, ◌∙◌, ℕ, ◌+◌, ◌<◌, ◌≤◌, ◌^◌, ℤ, pos, neg_ℤ, ◌+ℤ◌, ◌-ℤ◌, ◌<ℤ◌, ◌≤ℤ◌, List, length, get_or, take, Any, refl, sym, inl, inr, [], ◌∷◌, ◌++◌, Bool, true, false, not, append_assoc, append-nil, IsTrue}
 use Rattle.std.specs.List.{AllZip}
 use Rattle.std.proofs.lemmas.Int.{by_lt_z}
 use Rattle.dpl_cell.specs.declared.rect.Rect.{Rect}
-use Rattle.dpl_cell.specs.Cells.{IsWithin}
 use Rattle.dpl_cell.specs.Tiles.{IsRun}
 use Rattle.dpl_tiles.specs.Bands.{HasColumns}
-use Rattle.dpl_tiles.specs.Stacks.{goes_on, ending, AreAllTiles, IsPieceAt, IsPlaceOf}
-use Rattle.dpl_tiles.specs.Sweeps.{AreSwept, IsStep, HoldsRun}
+use Rattle.dpl_tiles.specs.Stacks.{goes_on, ending, AreAllTiles, IsPlaceOf}
+use Rattle.dpl_tiles.specs.Sweeps.{AreSwept, IsStep}
 use Rattle.dpl_tiles.specs.Windows.{AddsClosed, IsClosed, IsFar}
 use Rattle.dpl_tiles.proofs.Signed.{signed}
 use Rattle.dpl_list.proofs.Zips.{zip_kept, zip_left_out, zip_all_kept}
 use Rattle.dpl_tiles.proofs.StackLemmas.{goes_on_none, goes_on_some}
 use Rattle.dpl_tiles.proofs.BoundLemmas.{IsBounded}
 use Rattle.dpl_tiles.proofs.SweepLemmas.{swept_more}
-use Rattle.dpl_tiles.proofs.StepLemmas.{IsWindowStep, window_step}
+use Rattle.dpl_tiles.proofs.StepLemmas.{IsWindowStep, held_runs, window_step}
 
 pub closed_next : (z : ℤ) (runs near : List Rect) (i : ℕ) (o r : Rect) (old now new : List Rect) → i < length near → o ≡ get_or near i o → AddsClosed z (ending runs (take i near)) old now → ¬ Any (HasColumns o.x1 o.x2) runs → new ≡ now ++ r ∷ [] → IsClosed z o r
     → AddsClosed z (ending runs (take (i + 1) near)) old new
@@ -63,14 +62,14 @@ no_run cells x1 x2 y none run =
     let f : IsTrue false = rw (none x1) at t in search (rules, f)
 
 -- all stacks are near, and none goes on
-top_step : (cells : ℤ → ℤ → Bool) (z : ℤ) (ended held closed : List Rect) → IsTop cells z → AreSwept cells z ended held → AllZip (IsClosed z) (ending [] held) closed → IsWindowStep cells z (neg_ℤ (pos (2 ^ 30))) (pos (2 ^ 30)) [] held [] [] [] closed
+top_step : (cells : ℤ → ℤ → Bool) (z : ℤ) (ended held closed : List Rect) → IsTop cells z → AreSwept cells z ended held → AllZip (IsClosed z) (ending [] held) closed → IsWindowStep (λ x y. cells x (y -ℤ pos 1)) cells z (neg_ℤ (pos (2 ^ 30))) (pos (2 ^ 30)) [] held [] [] [] closed
 top_step cells z ended held closed top s zip = record {
   change = λ x out. elim out [
     | inl h ↦ top.bound.left x (z -ℤ pos 1) h ∙ sym (top.bound.left x z h)
     | inr h ↦ top.bound.right x (z -ℤ pos 1) h ∙ sym (top.bound.right x z h)
   ];
   some = omega signed;
-  held = rw append-nil s.going;
+  held = rw append-nil (held_runs (λ x y. cells x (y -ℤ pos 1)) cells z held (λ x. refl) s.going);
   left = λ k d l. absurd (omega arith);
   right = λ k d l. absurd (omega arith);
   between = λ k d l. in_range (get_or held k d);
@@ -93,7 +92,7 @@ top_step cells z ended held closed top s zip = record {
 
 pub swept_last : (cells : ℤ → ℤ → Bool) (z : ℤ) (ended held new : List Rect) → IsTop cells z → AreSwept cells z ended held → AddsClosed z (ending [] held) ended new → AreSwept cells (z +ℤ pos 1) new []
 swept_last cells z ended held new top s a =
-    let step : IsStep cells z ([] ++ (held ++ [])) a.closed ([] ++ ([] ++ [])) = window_step cells z (neg_ℤ (pos (2 ^ 30))) (pos (2 ^ 30)) [] held [] [] [] a.closed (top_step cells z ended held a.closed top s a.each) in
+    let step : IsStep cells z ([] ++ (held ++ [])) a.closed ([] ++ ([] ++ [])) = window_step (λ x y. cells x (y -ℤ pos 1)) cells z (neg_ℤ (pos (2 ^ 30))) (pos (2 ^ 30)) [] held [] [] [] a.closed (top_step cells z ended held a.closed top s a.each) in
     let step' : IsStep cells z held a.closed [] = rw append-nil at step in
     rw a.added (swept_more cells z (z +ℤ pos 1) ended held a.closed [] (record { some = next z; same = λ x y w. top.none x z (itself z) ∙ sym (top.none x y w.from) }) s step') where
       next : (z : ℤ) → z <ℤ (z +ℤ pos 1)

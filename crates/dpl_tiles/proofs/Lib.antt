@@ -21,3 +21,5 @@ pub mod PartLemmas
 pub mod EndLemmas
 pub mod CornerLemmas
 pub mod PlaceLemmas
+pub mod PassLemmas
+pub mod ClusterLemmas

@@ -1,26 +1,16 @@
 -- The stacks before, near and behind the columns that change, by their places.
-use Rattle.std.proofs.Common.{arith, ◌≡◌, ◌⊎◌, ◌∙◌, ℕ, suc, ◌+◌, ◌-◌, ◌<◌, ◌≤◌, ℤ, ◌<ℤ◌, ◌≤ℤ◌, List, length, get_or, take, drop, reverse, All, AllPairs, subst, sym, ap, inl, inr, [], ◌∷◌, ◌++◌, append_assoc, append-nil, refl, Bool, true, int_le, int_lt, map}
+use Rattle.std.proofs.Common.{arith, ◌≡◌, ◌∙◌, ℕ, suc, ◌+◌, ◌-◌, ◌<◌, ◌≤◌, ℤ, ◌<ℤ◌, ◌≤ℤ◌, List, length, get_or, take, drop, reverse, All, AllPairs, subst, sym, ap, inl, inr, [], ◌∷◌, ◌++◌, append_assoc, append-nil, refl, true, int_le, int_lt}
 use Rattle.std.specs.List.{AllZip}
 use Rattle.std.specs.List.Sorted.{IsPartitionedBy}
 use Rattle.std.proofs.lemmas.Bool.{cases_lt}
-use Rattle.std.proofs.lemmas.List.{take-append-drop, drop_more, drop_all, get_or-take, get_or-drop, get_or-reverse, length-take, length-drop, length-reverse, reverse-append, reverse-reverse}
+use Rattle.std.proofs.lemmas.List.{take-append-drop, drop_more, drop_all, get_or-take, get_or-drop, get_or-reverse, get_or_default, length-take, length-drop, length-reverse, reverse-append, reverse-reverse}
 use Rattle.std.proofs.lemmas.List.Elements.{All-append, All-drop}
 use Rattle.dpl_cell.specs.declared.rect.Rect.{Rect}
-use Rattle.dpl_cell.specs.declared.layout.Primitive.{Primitive}
-use Rattle.dpl_cell.specs.Outlines.{outline_of}
-use Rattle.dpl_cell.specs.Layers.{is_cell}
-use Rattle.dpl_cell.specs.Tiles.{IsRun}
 use Rattle.dpl_tiles.specs.Bands.{IsLeftOf}
-use Rattle.dpl_tiles.specs.Stacks.{ending}
-use Rattle.dpl_tiles.specs.Sweeps.{AreHeld, AreSwept}
-use Rattle.dpl_tiles.specs.Windows.{IsParted, IsChange, IsFar, IsWindow, AreNearRuns, IsContinued, AddsClosed}
+use Rattle.dpl_tiles.specs.Windows.{IsParted, IsFar, IsContinued}
 use Rattle.dpl_tiles.proofs.Signed.{signed}
-use Rattle.dpl_tiles.proofs.BoundLemmas.{bounded}
-use Rattle.dpl_tiles.proofs.StackLemmas.{AreAlike}
-use Rattle.dpl_tiles.proofs.WindowLemmas.{run_starts_inside, run_ends_inside, is_at_most, at_most_test}
-use Rattle.dpl_tiles.proofs.NearLemmas.{near_ends}
-use Rattle.dpl_tiles.proofs.SweepLemmas.{swept_more}
-use Rattle.dpl_tiles.proofs.StepLemmas.{all_left, all_right, part_ordered, window_step}
+use Rattle.dpl_tiles.proofs.WindowLemmas.{is_at_most, at_most_test}
+use Rattle.dpl_tiles.proofs.StepLemmas.{all_left, all_right, part_ordered}
 use Rattle.dpl_list.proofs.Integers.{is_less, less_test}
 
 -- ---- lists from the right
@@ -105,6 +95,35 @@ moved d1 d2 left right left1 right1 left2 right2 near right3 a b c m = record {
   right = all_reverse (λ r. d2 <ℤ r.x1) right3 (rw m.is_right3 (first_ones (λ r. d2 <ℤ r.x1) right2 c m.begins_right));
 }
 
+-- no stack ends behind the last one
+pub last_ends : (xs : List Rect) (r : Rect) (w : ℤ) → AllPairs IsLeftOf xs → get_or xs (length xs - 1) r ≡ r → r.x2 ≤ℤ w → All (λ q. q.x2 ≤ℤ w) xs
+last_ends xs r w up e h k d l = elim (cases_lt k (length xs - 1)) [
+  | inl g ↦ let i : IsLeftOf (get_or xs k d) r = rw (get_or_default xs (length xs - 1) d r (omega arith) ∙ e) at (up k (length xs - 1) d g (omega arith)) in earlier (get_or xs k d) i
+  | inr g ↦ let i : k ≡ length xs - 1 = omega arith in rw (i, get_or_default xs (length xs - 1) d r (omega arith) ∙ e) h
+] where
+  earlier : (q : Rect) → IsLeftOf q r → q.x2 ≤ℤ w
+  earlier q i = let v = r.wide in omega signed
+
+-- the columns reach further to the right, and so do the stacks near them
+pub parted_wider : (held before near right near' right' : List Rect) (d1 d2 c : ℤ) (n : ℕ) → IsParted held d1 d2 before near right → d2 ≤ℤ c → right' ≡ take n right → near' ≡ near ++ reverse (drop n right) → ((k : ℕ) (d : Rect) → k < n → c <ℤ (get_or right k d).x1)
+    → ((k : ℕ) (d : Rect) → n ≤ k → k < length right → (get_or right k d).x1 ≤ℤ c) → IsParted held d1 c before near' right'
+parted_wider held before near right near' right' d1 d2 c n p h e f far close = record {
+  some = let g = p.some in omega signed;
+  whole = p.whole ∙ ap (λ xs. before ++ xs) (sym (to_left near right near' right' n e f));
+  left = p.left;
+  not_left = rw f (All-append (λ r. d1 ≤ℤ r.x2) near (reverse (drop n right)) p.not_left (all_reverse (λ r. d1 ≤ℤ r.x2) (drop n right) (All-drop (λ r. d1 ≤ℤ r.x2) n right (λ k d l. past (get_or right k d) (from_back k d l)))));
+  not_right = rw f (All-append (λ r. r.x1 ≤ℤ c) near (reverse (drop n right)) (λ k d l. chain _ (p.not_right k d l)) (all_reverse (λ r. r.x1 ≤ℤ c) (drop n right) (last_ones (λ r. r.x1 ≤ℤ c) right n close)));
+  right = all_reverse (λ r. c <ℤ r.x1) right' (rw e (first_ones (λ r. c <ℤ r.x1) right n far));
+} where
+  from_back : All (λ r. d2 <ℤ r.x1) right
+  from_back = rw (reverse-reverse right) at (all_reverse (λ r. d2 <ℤ r.x1) (reverse right) p.right)
+
+  past : (r : Rect) → d2 <ℤ r.x1 → d1 ≤ℤ r.x2
+  past r i = let w = r.wide in let g = p.some in omega signed
+
+  chain : (x : ℤ) → x ≤ℤ d2 → x ≤ℤ c
+  chain x i = omega signed
+
 -- ---- the three parts
 
 module _ (held : List Rect) (d1 d2 : ℤ) (before near behind : List Rect) (p : IsParted held d1 d2 before near behind) where
@@ -119,43 +138,11 @@ module _ (held : List Rect) (d1 d2 : ℤ) (before near behind : List Rect) (p : 
   pub near_ordered : AllPairs IsLeftOf held → AllPairs IsLeftOf near
   near_ordered up = (part_ordered near (reverse behind) ((part_ordered before (near ++ reverse behind) (rw p.whole at up)).1)).0
 
-  pub window : (a b : ℤ) → a ≤ℤ d1 → d2 ≤ℤ b → All (λ r. (a ≤ℤ r.x1) × (r.x2 ≤ℤ b)) near → IsWindow held d1 d2 a b
-  window a b h g inside = record {
-    left = h;
-    right = g;
-    holds = rw p.whole (All-append (λ r. IsFar d1 d2 r.x1 r.x2 ⊎ ((a ≤ℤ r.x1) × (r.x2 ≤ℤ b))) before (near ++ reverse behind) (λ k d l. inl (inl (p.left k d l)))
-        (All-append (λ r. IsFar d1 d2 r.x1 r.x2 ⊎ ((a ≤ℤ r.x1) × (r.x2 ≤ℤ b))) near (reverse behind) (λ k d l. inr (inside k d l)) (λ k d l. inl (inr (p.right k d l)))));
-  }
+  pub behind_ordered : AllPairs IsLeftOf held → AllPairs IsLeftOf (reverse behind)
+  behind_ordered up = (part_ordered near (reverse behind) ((part_ordered before (near ++ reverse behind) (rw p.whole at up)).1)).1
 
-  -- each run that is not far lies in the window
-  pub run_inside : (prims : List Primitive) (z a b : ℤ) → IsChange (is_cell (map outline_of prims)) z d1 d2 → AreHeld (is_cell (map outline_of prims)) z held → IsWindow held d1 d2 a b
-      → (x1 x2 : ℤ) → IsRun (is_cell (map outline_of prims)) x1 x2 z → ¬ IsFar d1 d2 x1 x2 → (a ≤ℤ x1) × (x2 ≤ℤ b)
-  run_inside prims z a b change h w x1 x2 run near' =
-      let (f, g) = near_ends d1 d2 x1 x2 near' in (
-        run_starts_inside (is_cell (map outline_of prims)) z d1 d2 a b held x1 x2 (bounded prims) change h w run f p.some,
-        run_ends_inside (is_cell (map outline_of prims)) z d1 d2 a b held x1 x2 (bounded prims) change h w run g p.some,
-      )
-
-continued_at : (near : List Rect) (z : ℤ) (runs stacks : List Rect) → All (λ r. r.y1 ≡ z) runs → AllZip (λ run r. IsContinued near run.y1 run r) runs stacks → AllZip (IsContinued near z) runs stacks
+pub continued_at : (near : List Rect) (z : ℤ) (runs stacks : List Rect) → All (λ r. r.y1 ≡ z) runs → AllZip (λ run r. IsContinued near run.y1 run r) runs stacks → AllZip (IsContinued near z) runs stacks
 continued_at near z [] [] a c = tt
 continued_at near z [] (s ∷ ss) a c = elim c [ ]
 continued_at near z (r ∷ rs) [] a c = elim c [ ]
 continued_at near z (r ∷ rs) (s ∷ ss) a c = (let P : ℤ → Type 0 = λ t. IsContinued near t r s in subst P (a 0 r (omega arith)) c.0, continued_at near z rs ss (λ k d l. a (suc k) d (omega arith)) c.1)
-
-pub step_done : (cells : ℤ → ℤ → Bool) (z high : ℤ) (ended held new left near right next runs stacks : List Rect) (d1 d2 : ℤ) → AreAlike cells z high → AreSwept cells z ended held → IsParted held d1 d2 left near right → IsChange cells z d1 d2
-    → AreNearRuns cells z d1 d2 runs → All (λ r. r.y1 ≡ z) runs → AllZip (λ run r. IsContinued near run.y1 run r) runs stacks → AddsClosed z (ending runs near) ended new
-    → next ≡ left ++ stacks → AreSwept cells high new (next ++ reverse right)
-step_done cells z high ended held new left near right next runs stacks d1 d2 alike s p change are bottom cont a e =
-    let h = reverse right in
-    let s' : AreSwept cells z ended (left ++ (near ++ h)) = rw p.whole at s in
-    rw (a.added, e, append_assoc left stacks h) (swept_more cells z high ended (left ++ (near ++ h)) a.closed (left ++ (stacks ++ h)) alike s' (window_step cells z d1 d2 left near h runs stacks a.closed (record {
-      change = change;
-      some = p.some;
-      held = s'.going;
-      left = p.left;
-      right = p.right;
-      between = between held d1 d2 left near right p;
-      runs_are = are;
-      continued = continued_at near z runs stacks bottom cont;
-      closed_are = a.each;
-    })))

@@ -1,5 +1,5 @@
 -- Which stacks go on, and rows of one band.
-use Rattle.std.proofs.Common.{arith, ◌≡◌, ℕ, ◌<◌, ℤ, pos, ◌-ℤ◌, ◌<ℤ◌, List, length, get_or, ◌∙◌, AllPairs, Any, refl, sym, ap, [], Bool, true, false, not, ◌&&◌}
+use Rattle.std.proofs.Common.{arith, ◌≡◌, ℕ, ◌<◌, ℤ, pos, ◌-ℤ◌, ◌<ℤ◌, List, length, get_or, ◌∙◌, AllPairs, Any, refl, sym, ap, Bool, true, false, not, ◌&&◌}
 use Rattle.std.specs.Ordering.{int_eq}
 use Rattle.std.proofs.lemmas.Int.{ints}
 use Rattle.std.proofs.lemmas.List.{get_or_default}
@@ -40,8 +40,8 @@ none_goes_on pieces r t a = let h : not true ≡ true = rw (goes_on_some pieces 
 
 -- ---- rows of one band
 
-pub run_same : (cells : ℤ → ℤ → Bool) (y y' x1 x2 : ℤ) → ((x : ℤ) → cells x y ≡ cells x y') → IsRun cells x1 x2 y → IsRun cells x1 x2 y'
-run_same cells y y' x1 x2 same run = record {
+pub run_same : (cells cells' : ℤ → ℤ → Bool) (y y' x1 x2 : ℤ) → ((x : ℤ) → cells x y ≡ cells' x y') → IsRun cells x1 x2 y → IsRun cells' x1 x2 y'
+run_same cells cells' y y' x1 x2 same run = record {
   long = run.long;
   full = λ x w. rw (same x) at (run.full x w);
   left = rw (same (x1 -ℤ pos 1)) at run.left;
@@ -54,10 +54,10 @@ pub record AreAlike (cells : ℤ → ℤ → Bool) (low high : ℤ) : Type 0 whe
   pub same : (x y : ℤ) → IsWithin low high y → cells x low ≡ cells x y
 
 pub up : (cells : ℤ → ℤ → Bool) (low high y x1 x2 : ℤ) → AreAlike cells low high → IsWithin low high y → IsRun cells x1 x2 low → IsRun cells x1 x2 y
-up cells low high y x1 x2 a w run = run_same cells low y x1 x2 (λ x. a.same x y w) run
+up cells low high y x1 x2 a w run = run_same cells cells low y x1 x2 (λ x. a.same x y w) run
 
 pub down : (cells : ℤ → ℤ → Bool) (low high y x1 x2 : ℤ) → AreAlike cells low high → IsWithin low high y → IsRun cells x1 x2 y → IsRun cells x1 x2 low
-down cells low high y x1 x2 a w run = run_same cells y low x1 x2 (λ x. sym (a.same x y w)) run
+down cells low high y x1 x2 a w run = run_same cells cells y low x1 x2 (λ x. sym (a.same x y w)) run
 
 pub last_row : (low high : ℤ) → low <ℤ high → IsWithin low high (high -ℤ pos 1)
 last_row low high h = record { from = omega signed; to = omega signed }

@@ -15,7 +15,7 @@ use Rattle.dpl_tiles.specs.Windows.{IsChange, IsFar, AreNearRuns, IsContinued, I
 use Rattle.dpl_tiles.proofs.Signed.{signed}
 use Rattle.dpl_list.proofs.Zips.{zip_at, zip_length}
 use Rattle.dpl_list.proofs.Lists.{any_left, any_right, all_pairs_append, kept_by}
-use Rattle.dpl_tiles.proofs.StackLemmas.{goes_on_none, none_goes_on, one_place}
+use Rattle.dpl_tiles.proofs.StackLemmas.{goes_on_none, none_goes_on, one_place, run_same}
 use Rattle.dpl_tiles.proofs.WindowLemmas.{run_up, run_down}
 
 pub any_split : {X : Type 0} (P : X → Type 0) (xs ys : List X) → Any P (xs ++ ys) → Any P xs ⊎ Any P ys
@@ -42,20 +42,34 @@ part_ordered xs ys up = (
       rw (get_or-append_right xs ys (length xs) (length xs + i) d refl (omega arith), e, get_or-append_right xs ys (length xs) (length xs + j) d refl (omega arith), f) at (up (length xs + i) (length xs + j) d (omega arith) (omega arith))),
 )
 
-itself : (r : Rect) → IsSameStack r r
+pub itself : (r : Rect) → IsSameStack r r
 itself r = record { columns = record { left = refl; right = refl }; bottom = refl }
 
-any_here : (P : Rect → Type 0) (xs : List Rect) (k : ℕ) (d : Rect) → k < length xs → P (get_or xs k d) → Any P xs
+pub any_here : (P : Rect → Type 0) (xs : List Rect) (k : ℕ) (d : Rect) → k < length xs → P (get_or xs k d) → Any P xs
 any_here P xs k d l p = (k, get_or xs k d, l, get_or_default xs k (get_or xs k d) d l, p)
 
 last : (cells : ℤ → ℤ → Bool) (z : ℤ) (r : Rect) → IsHeld cells z r → IsRun cells r.x1 r.x2 (z -ℤ pos 1)
 last cells z r h = h.rows (z -ℤ pos 1) (record { from = let s = h.start in omega signed; to = omega signed })
 
+-- the stacks have the columns of the runs of row z, from the left
+pub record AreRuns (cells : ℤ → ℤ → Bool) (z : ℤ) (stacks : List Rect) : Type 0 where
+  pub each : All (λ r. IsRun cells r.x1 r.x2 z) stacks
+  pub all : (x1 x2 : ℤ) → IsRun cells x1 x2 z → Any (HasColumns x1 x2) stacks
+  pub ordered : AllPairs IsLeftOf stacks
+
+-- the stacks that reach row z have the runs of a row with the cells of the row below it
+pub held_runs : (old cells : ℤ → ℤ → Bool) (z : ℤ) (held : List Rect) → ((x : ℤ) → old x z ≡ cells x (z -ℤ pos 1)) → AreHeld cells z held → AreRuns old z held
+held_runs old cells z held same h = record {
+  each = λ k d l. run_same cells old (z -ℤ pos 1) z _ _ (λ x. sym (same x)) (last cells z (get_or held k d) (h.each k d l));
+  all = λ x1 x2 run. h.all x1 x2 (run_same old cells z (z -ℤ pos 1) x1 x2 same run);
+  ordered = h.ordered;
+}
+
 -- what the code hands over
-pub record IsWindowStep (cells : ℤ → ℤ → Bool) (z d1 d2 : ℤ) (before near behind runs stacks closed : List Rect) : Type 0 where
-  pub change : IsChange cells z d1 d2
+pub record IsWindowStep (old cells : ℤ → ℤ → Bool) (z d1 d2 : ℤ) (before near behind runs stacks closed : List Rect) : Type 0 where
+  pub change : IsChange old cells z d1 d2
   pub some : d1 ≤ℤ d2
-  pub held : AreHeld cells z (before ++ (near ++ behind))
+  pub held : AreRuns old z (before ++ (near ++ behind))
   pub left : All (λ r. r.x2 <ℤ d1) before
   pub right : All (λ r. d2 <ℤ r.x1) behind
   pub between : All (λ r. ¬ IsFar d1 d2 r.x1 r.x2) near
@@ -63,18 +77,15 @@ pub record IsWindowStep (cells : ℤ → ℤ → Bool) (z d1 d2 : ℤ) (before n
   pub continued : AllZip (IsContinued near z) runs stacks
   pub closed_are : AllZip (IsClosed z) (ending runs near) closed
 
-module _ (cells : ℤ → ℤ → Bool) (z d1 d2 : ℤ) (before near behind runs stacks closed : List Rect) (s : IsWindowStep cells z d1 d2 before near behind runs stacks closed) where
-  before_held : All (IsHeld cells z) before
-  before_held = all_left (IsHeld cells z) before (near ++ behind) s.held.each
+module _ (old cells : ℤ → ℤ → Bool) (z d1 d2 : ℤ) (before near behind runs stacks closed : List Rect) (s : IsWindowStep old cells z d1 d2 before near behind runs stacks closed) where
+  before_held : All (λ r. IsRun old r.x1 r.x2 z) before
+  before_held = all_left (λ r. IsRun old r.x1 r.x2 z) before (near ++ behind) s.held.each
 
-  near_held : All (IsHeld cells z) near
-  near_held = all_left (IsHeld cells z) near behind (all_right (IsHeld cells z) before (near ++ behind) s.held.each)
+  behind_held : All (λ r. IsRun old r.x1 r.x2 z) behind
+  behind_held = all_right (λ r. IsRun old r.x1 r.x2 z) near behind (all_right (λ r. IsRun old r.x1 r.x2 z) before (near ++ behind) s.held.each)
 
-  behind_held : All (IsHeld cells z) behind
-  behind_held = all_right (IsHeld cells z) near behind (all_right (IsHeld cells z) before (near ++ behind) s.held.each)
-
-  far_run : (r : Rect) → IsFar d1 d2 r.x1 r.x2 → IsHeld cells z r → IsRun cells r.x1 r.x2 z
-  far_run r far h = run_up cells z d1 d2 r.x1 r.x2 s.change far (last cells z r h)
+  far_run : (r : Rect) → IsFar d1 d2 r.x1 r.x2 → IsRun old r.x1 r.x2 z → IsRun cells r.x1 r.x2 z
+  far_run r far h = run_up old cells z d1 d2 r.x1 r.x2 s.change far h
 
   zipped : (k : ℕ) (d : Rect) → k < length stacks → IsContinued near z (get_or runs k d) (get_or stacks k d)
   zipped k d l = let n = zip_length (IsContinued near z) runs stacks s.continued in zip_at (IsContinued near z) runs stacks k d d s.continued (omega arith)
@@ -139,7 +150,7 @@ module _ (cells : ℤ → ℤ → Bool) (z d1 d2 : ℤ) (before near behind runs
 
   all_runs : (x1 x2 : ℤ) → IsRun cells x1 x2 z → Any (HasColumns x1 x2) (before ++ (stacks ++ behind))
   all_runs x1 x2 run = elim (far_or_not x1 x2) [
-    | inl far ↦ far_stack x1 x2 run.long far (s.held.all x1 x2 (run_down cells z d1 d2 x1 x2 s.change far run))
+    | inl far ↦ far_stack x1 x2 run.long far (s.held.all x1 x2 (run_down old cells z d1 d2 x1 x2 s.change far run))
     | inr near' ↦ any_right _ before (stacks ++ behind) (any_left _ stacks behind (near_stack x1 x2 (s.runs_are.all x1 x2 run near')))
   ]
 

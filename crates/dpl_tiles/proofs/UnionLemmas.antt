@@ -1,14 +1,10 @@
 -- Each cell lies in exactly one tile.
-use Rattle.std.proofs.Common.{arith, rules, ◌≡◌, ℕ, zero, suc, ◌^◌, ℤ, pos, neg_ℤ, ◌+ℤ◌, ◌-ℤ◌, ◌<ℤ◌, ◌≤ℤ◌, List, ◌∙◌, Any, refl, sym, inl, inr, ◌⊎◌, Bool, true, false, ◌&&◌, map, IsTrue}
+use Rattle.std.proofs.Common.{arith, rules, ◌≡◌, ℕ, zero, suc, ◌^◌, ℤ, pos, neg_ℤ, ◌+ℤ◌, ◌-ℤ◌, ◌<ℤ◌, ◌≤ℤ◌, List, Any, refl, inl, inr, ◌⊎◌, Bool, true, false, IsTrue}
 use Rattle.std.specs.Int.RustNames.{unsigned_abs}
 use Rattle.std.proofs.lemmas.Int.{by_lt_z}
-use Rattle.std.proofs.lemmas.List.Folds.{list_any-from_Any, Any-from_list_any}
-use Rattle.dpl_cell.proofs.LayerLemmas.{list_any-map}
 use Rattle.dpl_cell.specs.Places.{Corners}
 use Rattle.dpl_cell.specs.Cells.{IsWithin, IsIn, SharesCell}
-use Rattle.dpl_cell.specs.Outlines.{Box}
-use Rattle.dpl_cell.specs.Layers.{is_within, is_in_box, is_in_outline, is_cell}
-use Rattle.dpl_cell.specs.Tiles.{IsRun, IsTile, IsBefore, AreTiles}
+use Rattle.dpl_cell.specs.Tiles.{IsRun, IsTile, AreTiles}
 use Rattle.dpl_tiles.specs.Union.{SharesOut}
 use Rattle.std.specs.Cmp.{both_ways}
 use Rattle.dpl_cell.proofs.BoxLemmas.{is_true, true_is, drawn_any, any_drawn, never_before}
@@ -61,11 +57,15 @@ run_or_not cells x1 x2 y long =
       ]
     ]
 
-pub cell_run : (cells : ℤ → ℤ → Bool) (x y : ℤ) → IsBounded cells → IsTrue (cells x y) → (x1 : ℤ) × (x2 : ℤ) × IsRun cells x1 x2 y × IsWithin x1 x2 x
-cell_run cells x y b t =
-    let (x1, x2, a) = around (λ x. IsTrue (cells x y)) (λ x. cell_or_not (cells x y)) (neg_ℤ (pos (2 ^ 30))) (pos (2 ^ 30)) (λ z h. no_cell (b.left z y h)) (λ z h. no_cell (b.right z y h)) x t in
+-- a run around a cell of a row that ends on both sides
+pub run_around : (cells : ℤ → ℤ → Bool) (x y : ℤ) → ((z : ℤ) → z <ℤ neg_ℤ (pos (2 ^ 30)) → cells z y ≡ false) → ((z : ℤ) → pos (2 ^ 30) ≤ℤ z → cells z y ≡ false) → IsTrue (cells x y) → (x1 : ℤ) × (x2 : ℤ) × IsRun cells x1 x2 y × IsWithin x1 x2 x
+run_around cells x y left right t =
+    let (x1, x2, a) = around (λ x. IsTrue (cells x y)) (λ x. cell_or_not (cells x y)) (neg_ℤ (pos (2 ^ 30))) (pos (2 ^ 30)) (λ z h. no_cell (left z h)) (λ z h. no_cell (right z h)) x t in
     let f = a.inside.from in let g = a.inside.to in
     (x1, x2, record { long = omega signed; full = a.each; left = a.before; right = a.after }, a.inside)
+
+pub cell_run : (cells : ℤ → ℤ → Bool) (x y : ℤ) → IsBounded cells → IsTrue (cells x y) → (x1 : ℤ) × (x2 : ℤ) × IsRun cells x1 x2 y × IsWithin x1 x2 x
+cell_run cells x y b t = run_around cells x y (λ z h. b.left z y h) (λ z h. b.right z y h) t
 
 first_cell : (cells : ℤ → ℤ → Bool) (x1 x2 y : ℤ) → IsRun cells x1 x2 y → IsTrue (cells x1 y)
 first_cell cells x1 x2 y r = r.full x1 (record { from = let h = r.long in omega signed; to = r.long })

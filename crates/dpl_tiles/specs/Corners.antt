@@ -1,5 +1,5 @@
 -- The corners of primitives, each with the columns of a side that ends there.
-use Rattle.std.specs.Prelude.{◌≡◌, ⊤, ℕ, ◌≤◌, ◌<◌, ℤ, ◌<ℤ◌, ◌≤ℤ◌, List, [], ◌∷◌, All, Any, Contains, length, slice_index_or}
+use Rattle.std.specs.Prelude.{◌≡◌, ◌⊎◌, ⊤, ℕ, ◌≤◌, ◌<◌, ℤ, ◌<ℤ◌, ◌≤ℤ◌, List, [], ◌∷◌, All, AllPairs, Any, Contains, length, slice_index_or}
 use Rattle.dpl_cell.specs.declared.point.Point.{Point}
 use Rattle.dpl_cell.specs.declared.layout.Primitive.{Primitive}
 use Rattle.dpl_cell.specs.declared.layout.Primitive.TheVariants as prim
@@ -54,9 +54,13 @@ pub record AddsSide (p q : Point) (old new : List Corner) : Type 0 where
   pub kept : AreWithin old new
   pub has : HasSide new p q
 
--- the corners of all primitives, the lowest first
+-- the first is lower, or in the same row and not further right
+abbrev pub ComesBefore : Corner → Corner → Type 0
+ComesBefore a b = (a.y <ℤ b.y) ⊎ ((a.y ≡ b.y) × (a.left ≤ℤ b.left))
+
+-- the corners of all primitives, the lowest first, and those of one row from the left
 pub record AreCorners (prims : List Primitive) (corners : List Corner) : Type 0 where
-  pub ordered : Ascends (λ c. c.y) corners
+  pub ordered : AllPairs ComesBefore corners
   pub all : All (HasCornersOf corners) prims
 
 -- the corners at row z stand from one place to another
@@ -65,5 +69,11 @@ pub record AreBetween (corners : List Corner) (z : ℤ) (from to : ℕ) : Type 0
   pub from_within : from ≤ length corners
   pub to_within : to ≤ length corners
   pub below : (k : ℕ) (d : Corner) → k < from → (slice_index_or corners k d).y <ℤ z
+  pub on : (k : ℕ) (d : Corner) → from ≤ k → k < to → (slice_index_or corners k d).y ≡ z
   pub above : (k : ℕ) (d : Corner) → to ≤ k → k < length corners →
       z <ℤ (slice_index_or corners k d).y
+
+-- all corners at row z, from the left
+pub record AreCornersAt (corners : List Corner) (z : ℤ) (row : List Corner) : Type 0 where
+  pub ordered : Ascends (λ c. c.left) row
+  pub all : (c : Corner) → Contains corners c → c.y ≡ z → Contains row c

@@ -8,3 +8,4 @@ pub mod Stacks
 pub mod Windows
 pub mod Sweeps
 pub mod Corners
+pub mod Clusters

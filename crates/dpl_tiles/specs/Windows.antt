@@ -1,5 +1,5 @@
 -- A row that differs from the row below it in some columns alone.
-use Rattle.std.specs.Prelude.{◌≡◌, ◌⊎◌, ℤ, pos, ◌-ℤ◌, ◌<ℤ◌, ◌≤ℤ◌, ◌&&◌, ◌++◌, List, Bool, All, Any, AllPairs, int_le, reverse}
+use Rattle.std.specs.Prelude.{◌≡◌, ◌⊎◌, ℤ, ◌<ℤ◌, ◌≤ℤ◌, ◌&&◌, ◌++◌, List, Bool, All, Any, AllPairs, int_le, reverse}
 use Rattle.std.specs.List.{AllZip}
 use Rattle.dpl_cell.specs.declared.rect.Rect.{Rect}
 use Rattle.dpl_cell.specs.Tiles.{IsRun}
@@ -10,19 +10,13 @@ use Rattle.dpl_tiles.specs.Bands.{HasColumns, IsLeftOf}
 abbrev pub IsOutside : ℤ → ℤ → ℤ → Type 0
 IsOutside d1 d2 x = (x <ℤ d1) ⊎ (d2 ≤ℤ x)
 
--- row z has the cells of the row below it outside these columns
-abbrev pub IsChange : (ℤ → ℤ → Bool) → ℤ → ℤ → ℤ → Type 0
-IsChange cells z d1 d2 = (x : ℤ) → IsOutside d1 d2 x → cells x (z -ℤ pos 1) ≡ cells x z
+-- row z has the same cells before and after outside these columns
+abbrev pub IsChange : (ℤ → ℤ → Bool) → (ℤ → ℤ → Bool) → ℤ → ℤ → ℤ → Type 0
+IsChange old new z d1 d2 = (x : ℤ) → IsOutside d1 d2 x → old x z ≡ new x z
 
 -- columns from x1 to x2 neither meet the columns from d1 to d2 nor end or begin right beside them
 abbrev pub IsFar : ℤ → ℤ → ℤ → ℤ → Type 0
 IsFar d1 d2 x1 x2 = (x2 <ℤ d1) ⊎ (d2 <ℤ x1)
-
--- the columns from a to b hold those from d1 to d2 and those of all stacks that are not far from them
-pub record IsWindow (growing : List Rect) (d1 d2 a b : ℤ) : Type 0 where
-  pub left : a ≤ℤ d1
-  pub right : d2 ≤ℤ b
-  pub holds : All (λ r. IsFar d1 d2 r.x1 r.x2 ⊎ ((a ≤ℤ r.x1) × (r.x2 ≤ℤ b))) growing
 
 -- the runs of row z that are not far from the columns that change, from the left
 pub record AreNearRuns (cells : ℤ → ℤ → Bool) (z d1 d2 : ℤ) (runs : List Rect) : Type 0 where

@@ -1,8 +1,8 @@
-// The corners of primitives from the lowest to the highest, each with the columns of a side that ends there.
-ghost use Rattle.std.specs.Prelude.{◌≡◌, ℤ, ◌≤ℤ◌, ◌<ℤ◌, ℕ, ◌<◌, ◌≤◌, length, slice_index_or, All, IfOk, OnOk, ◌∷◌};
+// The corners of primitives row by row from the left, each with the columns of a side that ends there.
+ghost use Rattle.std.specs.Prelude.{◌≡◌, ℤ, ◌≤ℤ◌, ◌<ℤ◌, ℕ, ◌<◌, ◌≤◌, length, slice_index_or, All, AllPairs, IfOk, OnOk, ◌∷◌};
 ghost use Rattle.dpl_cell.specs.declared.layout.Primitive.TheVariants as prim;
 ghost use Rattle.dpl_tiles.specs.Stretches.{Ascends};
-ghost use Rattle.dpl_tiles.specs.Corners.{AddsCorners, AddsSide, AreBetween, AreCorners, HasCornersOf, IsCornerOf, SpansSide};
+ghost use Rattle.dpl_tiles.specs.Corners.{AddsCorners, AddsSide, AreBetween, AreCorners, AreCornersAt, ComesBefore, HasCornersOf, IsCornerOf, SpansSide};
 
 use crate::columns::{Columns, Places, greater, lesser};
 use dpl_cell::{Point, Prim, Rect};
@@ -16,12 +16,12 @@ pub struct Corner {
     pub right: i64,
 }
 
-/// The corners of all primitives, the lowest first.
+/// The corners of all primitives, the lowest first, and those of one row from the left.
 pub fn corners_of(alloc: Global, prims: &[Prim]) -> Result<Vec<Corner>, AllocError>
     ensures { IfOk result (λ v. AreCorners prims.now v.items) }
 {
     let mut corners = unsorted(alloc, prims)?;
-    corners.sort_unstable_by_key(|c| c.y);
+    corners.sort_unstable_by_key(|c| (c.y, c.left));
     Ok(corners)
 }
 
@@ -108,16 +108,13 @@ fn corner_at(y: i64, columns: &Columns) -> Corner
     }
 }
 
-/// Columns that hold those of all corners at a row.
-pub fn change_at(corners: &[Corner], y: i64) -> Columns
-    requires { Ascends (λ c. c.y) corners.now }
-    ensures spans { All (λ c. c.y ≡ y → (result.left ≤ℤ c.left) ×
-        (c.right ≤ℤ result.right)) corners.now }
-    ensures some { result.left ≤ℤ result.right }
+/// The corners at a row, from the left.
+pub fn corners_at(corners: &[Corner], y: i64) -> &[Corner]
+    requires { AllPairs ComesBefore corners.now }
+    ensures { AreCornersAt corners.now y result.now }
 {
     let places = places_at(corners, y);
-    let columns = columns_of(&corners[places.from..places.to]);
-    not_empty(&columns)
+    &corners[places.from..places.to]
 }
 
 /// The places of the corners at a row.
@@ -135,6 +132,8 @@ fn first_from(corners: &[Corner], y: i64) -> usize
     requires { Ascends (λ c. c.y) corners.now }
     ensures within { result ≤ length corners.now }
     ensures below { (k : ℕ) (d : Corner) → k < result → (slice_index_or corners.now k d).y <ℤ y }
+    ensures others { (k : ℕ) (d : Corner) → result ≤ k → k < length corners.now →
+        y ≤ℤ (slice_index_or corners.now k d).y }
 {
     corners.partition_point(|c| c.y < y)
 }
@@ -143,44 +142,33 @@ fn first_from(corners: &[Corner], y: i64) -> usize
 fn first_past(corners: &[Corner], y: i64) -> usize
     requires { Ascends (λ c. c.y) corners.now }
     ensures within { result ≤ length corners.now }
+    ensures others { (k : ℕ) (d : Corner) → k < result → (slice_index_or corners.now k d).y ≤ℤ y }
     ensures above { (k : ℕ) (d : Corner) → result ≤ k → k < length corners.now →
         y <ℤ (slice_index_or corners.now k d).y }
 {
     corners.partition_point(|c| c.y <= y)
 }
 
-/// Columns that hold those of all corners.
-fn columns_of(corners: &[Corner]) -> Columns
-    ensures { All (λ c. (result.left ≤ℤ c.left) × (c.right ≤ℤ result.right)) corners.now }
-{
-    let mut columns = Columns {
-        left: i64::MAX,
-        right: i64::MIN,
-    };
-    for corner in corners {
-        columns = with_corner(&columns, corner);
-    }
-    columns
-}
-
-fn with_corner(columns: &Columns, c: &Corner) -> Columns
-    ensures left { result.left ≤ℤ columns.now.left }
-    ensures right { columns.now.right ≤ℤ result.right }
-    ensures own_left { result.left ≤ℤ c.now.left }
-    ensures own_right { c.now.right ≤ℤ result.right }
-{
-    let left = lesser(columns.left, c.left);
-    let right = greater(columns.right, c.right);
-    Columns { left, right }
-}
-
-/// The columns, the greater end not left of the smaller one.
-fn not_empty(columns: &Columns) -> Columns
-    ensures left { result.left ≡ columns.now.left }
-    ensures right { columns.now.right ≤ℤ result.right }
+/// The columns of a corner.
+pub fn columns_of(corner: &Corner) -> Columns
+    ensures left { result.left ≡ corner.now.left }
+    ensures right { corner.now.right ≤ℤ result.right }
     ensures some { result.left ≤ℤ result.right }
 {
-    let right = greater(columns.left, columns.right);
+    let right = greater(corner.left, corner.right);
+    Columns {
+        left: corner.left,
+        right,
+    }
+}
+
+/// The columns, and to the right of them those of a corner.
+pub fn widened(columns: &Columns, corner: &Corner) -> Columns
+    ensures left { result.left ≡ columns.now.left }
+    ensures right { columns.now.right ≤ℤ result.right }
+    ensures own { corner.now.right ≤ℤ result.right }
+{
+    let right = greater(columns.right, corner.right);
     Columns {
         left: columns.left,
         right,

@@ -10,6 +10,7 @@ mod columns;
 mod corners;
 mod crossing;
 mod error;
+mod gathering;
 mod laws;
 mod ordinates;
 mod rows;

@@ -14,10 +14,12 @@ ghost use Rattle.dpl_tiles.specs.Corners.{AreCorners};
 ghost use Rattle.dpl_tiles.specs.Stacks.{ending};
 ghost use Rattle.dpl_tiles.specs.Stretches.{AreSeparate, is_in_stretches};
 ghost use Rattle.dpl_tiles.specs.Sweeps.{AreSwept};
+ghost use Rattle.dpl_tiles.specs.Clusters.{AreChanges, IsPassed};
 ghost use Rattle.dpl_tiles.specs.Windows.{AddsClosed, AreNearRuns, IsClosed, IsContinued, IsFar, IsParted, is_near};
 
 use crate::columns::{Columns, greater, lesser};
-use crate::corners::{Corner, change_at};
+use crate::corners::{Corner, corners_at};
+use crate::gathering::gather;
 use crate::rows::{merged, push_prim, sort};
 use crate::stacking::find;
 use crate::stretch::Stretch;
@@ -50,20 +52,52 @@ pub fn step(
     ensures { OnOk result (AreSwept (is_cell (map outline_of prims.now)) high ended.new.items
         (left.new.items ++ reverse right.new.items)) }
 {
-    let change = change_at(corners, low);
-    let parted = part(alloc, left, right, &change)?;
-    let near = parted.as_slice();
-    let window = window_of(near, &change);
-    let runs = near_runs(alloc, prims, index, &change, &window, low, high)?;
+    let row = corners_at(corners, low);
+    let mut at = 0;
+    'clusters: while at < row.len() {
+        at = pass(alloc, ended, left, right, prims, index, row, at, low, high)?;
+    }
+    Ok(())
+}
+
+/// Passes the corners of a row that stand together from one place on, and gives the place behind them.
+fn pass(
+    alloc: Global,
+    ended: &mut Vec<Rect>,
+    left: &mut Vec<Rect>,
+    right: &mut Vec<Rect>,
+    prims: &[Prim],
+    index: &Index,
+    row: &[Corner],
+    at: usize,
+    low: i64,
+    high: i64,
+) -> Result<usize, AllocError>
+    requires bounds { AreBoundsOf prims.now index.now }
+    requires high { low <ℤ high }
+    requires below { neg_ℤ (pos most_coordinate) ≤ℤ low }
+    requires above { high ≤ℤ pos most_coordinate }
+    requires changes { AreChanges (is_cell (map outline_of prims.now)) low row.now }
+    requires inside { at < length row.now }
+    requires passed { IsPassed (is_cell (map outline_of prims.now)) low row.now at ended.old.items
+        (left.old.items ++ reverse right.old.items) }
+    ensures further { IfOk result (λ to. at < to) }
+    ensures passed { IfOk result (λ to. IsPassed (is_cell (map outline_of prims.now)) low row.now
+        to ended.new.items (left.new.items ++ reverse right.new.items)) }
+{
+    let cluster = gather(alloc, left, right, row, at)?;
+    let near = cluster.near.as_slice();
+    let window = window_of(near, &cluster.change);
+    let runs = near_runs(alloc, prims, index, &cluster.change, &window, low, high)?;
     push_closed(ended, near, runs.as_slice(), low)?;
     let stacks = all_continued(alloc, near, runs.as_slice())?;
     left.extend_from_slice(stacks.as_slice())?;
-    Ok(())
+    Ok(cluster.to)
 }
 
 /// Takes out the stacks near the columns that change; those left of them stand in one list, those right of them in the
 /// other.
-fn part(
+pub fn part(
     alloc: Global,
     left: &mut Vec<Rect>,
     right: &mut Vec<Rect>,
@@ -144,7 +178,7 @@ fn first_left(stacks: &[Rect], column: i64) -> usize
 }
 
 /// How many stacks, from the right, begin right of a column.
-fn first_not_right(stacks: &[Rect], column: i64) -> usize
+pub fn first_not_right(stacks: &[Rect], column: i64) -> usize
     requires { AllPairs IsLeftOf (reverse stacks.now) }
     ensures within { result ≤ length stacks.now }
     ensures right { (k : ℕ) (d : Rect) → k < result →

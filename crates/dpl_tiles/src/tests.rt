@@ -142,3 +142,43 @@ fn one_box_beside_the_most_tiles(rt: HostRuntime) -> Result<(), Fail> {
     assert!(rt; tiles(rt.alloc(), &layout).err() == Some(TileError::TooMany));
     Ok(())
 }
+
+#[test]
+fn a_row_that_changes_at_both_ends(rt: HostRuntime) -> Result<(), Fail> {
+    let prims = boxes(
+        &rt,
+        &[(0, 0, 2, 4), (4, 0, 6, 9), (8, 0, 10, 9), (12, 4, 14, 9)],
+    )?;
+    let want = [(0, 0, 2, 4), (4, 0, 6, 9), (8, 0, 10, 9), (12, 4, 14, 9)];
+    assert!(rt; are_tiles(&rt, prims, want.as_slice())?);
+    Ok(())
+}
+
+#[test]
+fn corners_at_both_ends_of_a_long_tile(rt: HostRuntime) -> Result<(), Fail> {
+    let prims = boxes(
+        &rt,
+        &[(0, 0, 20, 4), (0, 4, 3, 9), (18, 4, 20, 9), (8, 4, 9, 9)],
+    )?;
+    let want = [(0, 0, 20, 4), (0, 4, 3, 9), (8, 4, 9, 9), (18, 4, 20, 9)];
+    assert!(rt; are_tiles(&rt, prims, want.as_slice())?);
+    Ok(())
+}
+
+#[test]
+fn a_run_that_joins_two_tiles(rt: HostRuntime) -> Result<(), Fail> {
+    let prims = boxes(
+        &rt,
+        &[
+            (0, 0, 3, 4),
+            (3, 4, 9, 6),
+            (9, 0, 12, 4),
+            (0, 4, 3, 6),
+            (9, 4, 12, 6),
+            (14, 0, 15, 4),
+        ],
+    )?;
+    let want = [(0, 0, 3, 4), (9, 0, 12, 4), (14, 0, 15, 4), (0, 4, 12, 6)];
+    assert!(rt; are_tiles(&rt, prims, want.as_slice())?);
+    Ok(())
+}

@@ -1,23 +1,17 @@
-use Rattle.std.proofs.Common.{arith, ◌≡◌, inl, inr, get_or, pos}
-use Rattle.std.proofs.lemmas.Bool.{cases_lt}
-use Rattle.std.proofs.lemmas.List.{get_or_default}
-use Rattle.dpl_tiles.specs.declared.corners.Corner.{Corner}
-use Rattle.dpl_tiles.proofs.WindowLemmas.{at_most_on}
+use Rattle.std.proofs.Common.{rules, SFits, w64}
+use Rattle.std.proofs.lemmas.Int.{to_z-of_z}
 use Rattle.dpl_tiles.proofs.corners.columns_of.Goals as goal
 
-pub loop-corner-preserved : goal.loop-corner-preserved
-loop-corner-preserved c =
-    let v = c.loop-corner.invariant in
-    let w = c.with_corner-columns.ensures in
-    let i = c.loop-corner.corner-index in
-    let blank : Corner = record { y = pos 0; left = pos 0; right = pos 0 } in
-    record {
-      lefts = λ k d l h. elim (cases_lt k i) [
-        | inl g ↦ at_most_on _ _ _ w.left (v.lefts k d g h)
-        | inr g ↦ let e : k ≡ i = omega arith in rw (e, get_or_default c.args.corners.now i d blank c.loop-corner-test.true) w.own_left
-      ];
-      rights = λ k d l h. elim (cases_lt k i) [
-        | inl g ↦ at_most_on _ _ _ (v.rights k d g h) w.right
-        | inr g ↦ let e : k ≡ i = omega arith in rw (e, get_or_default c.args.corners.now i d blank c.loop-corner-test.true) w.own_right
-      ];
-    }
+pub returns-clause-right : goal.returns-clause-right
+returns-clause-right c =
+    let f1 : SFits w64 c.args.corner.now.left = search rules in
+    let f2 : SFits w64 c.args.corner.now.right = search rules in
+    let g2 : SFits w64 c.greater-right.result = search rules in
+    simp to_z-of_z (simp to_z-of_z at c.greater-right.ensures.second)
+
+pub returns-clause-some : goal.returns-clause-some
+returns-clause-some c =
+    let f1 : SFits w64 c.args.corner.now.left = search rules in
+    let f2 : SFits w64 c.args.corner.now.right = search rules in
+    let g2 : SFits w64 c.greater-right.result = search rules in
+    simp to_z-of_z (simp to_z-of_z at c.greater-right.ensures.first)

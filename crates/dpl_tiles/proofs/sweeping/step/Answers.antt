@@ -1,42 +1,27 @@
-use Rattle.std.proofs.Common.{◌≡◌, ◌<ℤ◌, ◌++◌, reverse, SFits, w64, map, All}
-use Rattle.std.specs.List.{AllZip}
+use Rattle.std.proofs.Common.{SFits, w64}
 use Rattle.std.proofs.lemmas.Int.{to_z-of_z}
-use Rattle.dpl_cell.specs.Outlines.{outline_of}
-use Rattle.dpl_cell.specs.Layers.{is_cell}
-use Rattle.dpl_tiles.specs.Stacks.{ending}
-use Rattle.dpl_tiles.specs.Windows.{IsParted, IsContinued, AddsClosed, IsChange, AreNearRuns}
-use Rattle.dpl_tiles.proofs.ChangeLemmas.{change_of}
-use Rattle.dpl_tiles.proofs.PlaceLemmas.{near_all, near_ordered, window, run_inside, step_done}
+use Rattle.dpl_tiles.proofs.ChangeLemmas.{changes_of}
+use Rattle.dpl_tiles.proofs.PassLemmas.{none_passed, all_passed}
 use Rattle.dpl_tiles.proofs.sweeping.step.Goals as goal
 
-pub near_runs-requires-clause-inside : goal.near_runs-requires-clause-inside
-near_runs-requires-clause-inside c =
+pub clusters-init : goal.clusters-init
+clusters-init c =
     let f : SFits w64 c.args.low = c.ranges.low in
-    let p : IsParted (c.args.left.now.items ++ reverse c.args.right.now.items) c.change_at-change.result.left c.change_at-change.result.right c.part.new.left.items c.as_slice-near.result.now c.part.new.right.items = rw c.as_slice-near.ensures.value c.in_ok-parted.ensures in
-    let change : IsChange (is_cell (map outline_of c.args.prims.now)) c.args.low c.change_at-change.result.left c.change_at-change.result.right = change_of c.args.prims.now c.args.corners.now c.args.low _ _ c.requires.cornered (simp to_z-of_z at c.change_at-change.ensures.spans) in
-    simp to_z-of_z (run_inside _ _ _ _ _ _ p c.args.prims.now c.args.low _ _ change c.requires.swept.going
-    (window _ _ _ _ _ _ p _ _ c.window_of-window.ensures.left c.window_of-window.ensures.right c.window_of-window.ensures.holds))
+    simp to_z-of_z (none_passed _ c.args.low _ _ _ (changes_of c.args.prims.now c.args.corners.now _ c.args.low c.requires.cornered (simp to_z-of_z at c.corners_at-row.ensures)) c.requires.swept)
 
-pub push_closed-requires-clause-ordered : goal.push_closed-requires-clause-ordered
-push_closed-requires-clause-ordered c = let f : SFits w64 c.args.low = c.ranges.low in rw c.as_slice.ensures.value c.in_ok-runs.ensures.runs.ordered
+pub clusters-preserved : goal.clusters-preserved
+clusters-preserved c = c.in_ok-at.ensures.passed
 
-pub push_closed-requires-clause-below : goal.push_closed-requires-clause-below
-push_closed-requires-clause-below c =
+pub pass-requires-clause-changes : goal.pass-requires-clause-changes
+pass-requires-clause-changes c =
     let f : SFits w64 c.args.low = c.ranges.low in
-    simp to_z-of_z (rw c.as_slice-near.ensures.value (near_all _ _ _ _ _ _ c.in_ok-parted.ensures (λ r. r.y1 <ℤ c.args.low) (λ k d l. (c.requires.swept.going.each k d l).start)))
+    simp to_z-of_z (changes_of c.args.prims.now c.args.corners.now _ c.args.low c.requires.cornered (simp to_z-of_z at c.corners_at-row.ensures))
 
-pub all_continued-requires : goal.all_continued-requires
-all_continued-requires c = rw c.as_slice-near.ensures.value (near_ordered _ _ _ _ _ _ c.in_ok-parted.ensures c.requires.swept.going.ordered)
+pub pass-requires-clause-passed : goal.pass-requires-clause-passed
+pass-requires-clause-passed c = c.clusters.invariant
 
 pub returns : goal.returns
 returns c =
     let f : SFits w64 c.args.low = c.ranges.low in
     let g : SFits w64 c.args.high = c.ranges.high in
-    let p : IsParted (c.args.left.now.items ++ reverse c.args.right.now.items) c.change_at-change.result.left c.change_at-change.result.right c.part.new.left.items c.as_slice-near.result.now c.part.new.right.items = rw c.as_slice-near.ensures.value c.in_ok-parted.ensures in
-    let change : IsChange (is_cell (map outline_of c.args.prims.now)) c.args.low c.change_at-change.result.left c.change_at-change.result.right = change_of c.args.prims.now c.args.corners.now c.args.low _ _ c.requires.cornered (simp to_z-of_z at c.change_at-change.ensures.spans) in
-    let runs : AreNearRuns (is_cell (map outline_of c.args.prims.now)) c.args.low c.change_at-change.result.left c.change_at-change.result.right c.in_ok-runs.runs.items = simp to_z-of_z at c.in_ok-runs.ensures.runs in
-    let bottom : All (λ r. r.y1 ≡ c.args.low) c.in_ok-runs.runs.items = simp to_z-of_z at c.in_ok-runs.ensures.bottom in
-    let stacks : AllZip (λ run r. IsContinued c.as_slice-near.result.now run.y1 run r) c.in_ok-runs.runs.items c.in_ok-stacks.stacks.items = rw c.as_slice-2.ensures.value at c.in_ok-stacks.ensures in
-    let closed : AddsClosed c.args.low (ending c.in_ok-runs.runs.items c.as_slice-near.result.now) c.args.ended.now.items c.push_closed.new.ended.items = rw c.as_slice.ensures.value at (simp to_z-of_z at c.in_ok-push_closed.ensures) in
-    step_done _ c.args.low c.args.high c.args.ended.now.items _ _ c.part.new.left.items c.as_slice-near.result.now c.part.new.right.items _ c.in_ok-runs.runs.items c.in_ok-stacks.stacks.items _ _ (record { some = c.requires.high; same = c.requires.alike }) c.requires.swept p change runs bottom stacks closed
-    (rw c.as_slice-3.ensures.value at c.in_ok-extend_from_slice.ensures.items)
+    all_passed _ c.args.low c.args.high _ _ _ _ (record { some = c.requires.high; same = c.requires.alike }) (changes_of c.args.prims.now c.args.corners.now _ c.args.low c.requires.cornered (simp to_z-of_z at c.corners_at-row.ensures)) c.clusters-test.false (simp to_z-of_z at c.clusters.invariant)
