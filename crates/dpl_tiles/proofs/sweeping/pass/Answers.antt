@@ -15,9 +15,6 @@ near_runs-requires-clause-inside c =
     let m = met c.args.prims.now c.args.low _ _ _ _ _ _ _ _ _ _ c.requires.changes c.requires.passed c.in_ok-cluster.ensures.parted c.in_ok-cluster.ensures.cluster in
     simp to_z-of_z (run_inside _ c.args.low _ _ _ _ _ _ _ _ _ _ m _ _ c.window_of-window.ensures.left c.window_of-window.ensures.right (rw c.as_slice-near.ensures.value at c.window_of-window.ensures.holds))
 
-pub push_closed-requires-clause-ordered : goal.push_closed-requires-clause-ordered
-push_closed-requires-clause-ordered c = let f : SFits w64 c.args.low = c.ranges.low in rw c.as_slice.ensures.value c.in_ok-runs.ensures.runs.ordered
-
 pub push_closed-requires-clause-below : goal.push_closed-requires-clause-below
 push_closed-requires-clause-below c =
     let f : SFits w64 c.args.low = c.ranges.low in

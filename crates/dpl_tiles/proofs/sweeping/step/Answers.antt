@@ -9,16 +9,10 @@ clusters-init c =
     let f : SFits w64 c.args.low = c.ranges.low in
     simp to_z-of_z (none_passed _ c.args.low _ _ _ (changes_of c.args.prims.now c.args.corners.now _ c.args.low c.requires.cornered (simp to_z-of_z at c.corners_at-row.ensures)) c.requires.swept)
 
-pub clusters-preserved : goal.clusters-preserved
-clusters-preserved c = c.in_ok-at.ensures.passed
-
 pub pass-requires-clause-changes : goal.pass-requires-clause-changes
 pass-requires-clause-changes c =
     let f : SFits w64 c.args.low = c.ranges.low in
     simp to_z-of_z (changes_of c.args.prims.now c.args.corners.now _ c.args.low c.requires.cornered (simp to_z-of_z at c.corners_at-row.ensures))
-
-pub pass-requires-clause-passed : goal.pass-requires-clause-passed
-pass-requires-clause-passed c = c.clusters.invariant
 
 pub returns : goal.returns
 returns c =
