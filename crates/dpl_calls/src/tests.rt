@@ -18,7 +18,7 @@ fn definitions_and_calls_are_found(rt: HostRuntime) -> Result<(), Fail> {
     Ok(())
 }
 
-/// A million calls without transformations take 32 MB in their definitions.
+/// A million calls without transformations take 32 MB in their definitions, and are kept nowhere else.
 #[test]
 fn a_call_is_small(rt: HostRuntime) -> Result<(), Fail> {
     assert_eq!(rt; size_of::<Entry>(), 32);
