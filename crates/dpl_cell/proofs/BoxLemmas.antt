@@ -1,6 +1,5 @@
 -- Cells of boxes, as a fact and as a test.
-use Rattle.std.proofs.Common.{arith, rules, ◌≡◌, ◌<ℤ◌, ◌≤ℤ◌, ◌-ℤ◌, pos, ℕ, ◌<◌, ℤ, List, length, get_or, ◌∙◌, sym, refl, int_lt, Any, Bool, true, false, IsTrue, map, inl, inr}
-use Rattle.std.specs.List.{list_any}
+use Rattle.std.proofs.Common.{arith, rules, ◌≡◌, ◌<ℤ◌, ◌≤ℤ◌, ◌-ℤ◌, pos, ℕ, ◌<◌, ℤ, List, length, get_or, ◌∙◌, sym, refl, Any, Bool, true, false, IsTrue, map, inl, inr}
 use Rattle.std.proofs.lemmas.Bool.{and_parts, cases_lt, cases_eq}
 use Rattle.std.proofs.lemmas.Int.{ints, clamps}
 use Rattle.std.proofs.lemmas.List.Folds.{list_any_at, list_any-from_Any, Any-from_list_any}

@@ -1,14 +1,11 @@
 -- Runs and tiles of a set of cells, which is given by a test of one cell.
 use Rattle.std.specs.Prelude.{◌≡◌, ◌⊎◌, Bool, List, ℤ, pos, ◌-ℤ◌, ◌<ℤ◌, IsTrue, All, AllPairs, Contains}
 use Rattle.dpl_cell.specs.Places.{Corners}
-use Rattle.dpl_cell.specs.Cells.{IsWithin}
+use Rattle.dpl_cell.specs.Cells.{IsWithin, IsMaximal}
 
 -- a maximal stretch of cells in one row
-pub record IsRun (cells : ℤ → ℤ → Bool) (x1 x2 y : ℤ) : Type 0 where
-  pub long : x1 <ℤ x2
-  pub full : (x : ℤ) → IsWithin x1 x2 x → IsTrue (cells x y)
-  pub left : ¬ IsTrue (cells (x1 -ℤ pos 1) y)
-  pub right : ¬ IsTrue (cells x2 y)
+abbrev pub IsRun : (ℤ → ℤ → Bool) → ℤ → ℤ → ℤ → Type 0
+IsRun cells x1 x2 y = IsMaximal (λ x. IsTrue (cells x y)) x1 x2
 
 -- a maximal upright stack of a relation on stretches of one row
 pub record IsStack (has : ℤ → ℤ → ℤ → Type 0) (r : Corners) : Type 0 where

@@ -1,6 +1,5 @@
 -- Fragments have one net.
-use Rattle.std.proofs.Common.{arith, ◌≡◌, ◌<◌, ◌≤◌, ◌+◌, ◌^◌, ◌⊎◌, inl, inr, ℕ, suc, ◌==◌, Bool, true, false, List, [], ◌∷◌, length, map, refl, sym, ap, ◌∙◌, subst, All, Contains, if◌then◌else◌}
-use Rattle.std.proofs.Common.{Equal}
+use Rattle.std.proofs.Common.{arith, ◌≡◌, ◌<◌, ◌≤◌, ◌+◌, ◌^◌, ◌⊎◌, inl, inr, ℕ, suc, ◌==◌, Bool, true, false, List, [], ◌∷◌, length, map, refl, sym, ap, ◌∙◌, subst, All, Contains, if◌then◌else◌, Equal}
 use Rattle.std.proofs.Props.{props}
 use Rattle.std.specs.Prelude.{ℤ, pos, ◌-ℤ◌, ◌<ℤ◌, ◌≤ℤ◌}
 use Rattle.std.specs.List.{AllZip}
@@ -29,7 +28,8 @@ use Rattle.dpl_links.specs.Links.{IsUpTo, IsLeast, AreClashes}
 use Rattle.dpl_links.specs.Ports.{side_key, IsPort, IsPortTo}
 use Rattle.dpl_links.specs.Nets.{scene, Tie, tie_of, ties_of, HasPorts, IsNet, HasMoreEdges}
 use Rattle.dpl_links.proofs.HeadLemmas.{rank_equal}
-use Rattle.dpl_links.proofs.GatherLemmas.{signed, same_link}
+use Rattle.dpl_list.proofs.Integers.{signed}
+use Rattle.dpl_links.proofs.GatherLemmas.{same_link}
 use Rattle.dpl_links.proofs.NetLemmas.{edges_length, not_more_edges}
 use Rattle.dpl_list.proofs.Ordered.{maps_same, has_all, ordered_same}
 use Rattle.dpl_near.proofs.LawLemmas.{rects_have, HasCell}

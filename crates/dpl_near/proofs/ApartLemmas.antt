@@ -8,7 +8,7 @@ use Rattle.std.proofs.lemmas.List.{get_or_default, get_or-map, length-map}
 use Rattle.dpl_cell.specs.declared.rect.Rect.{Rect}
 use Rattle.dpl_cell.specs.Places.{Corners, corners_of}
 use Rattle.dpl_cell.specs.Cells.{AreApart}
-use Rattle.dpl_near.proofs.WalkLemmas.{signed}
+use Rattle.dpl_list.proofs.Integers.{signed}
 
 pub apart_by_columns : (a b : Corners) → int_min a.x2 b.x2 ≤ℤ int_max a.x1 b.x1 → AreApart a b
 apart_by_columns a b h s = let f = s.first.column in let g = s.second.column in omega signed

@@ -11,7 +11,7 @@ use Rattle.dpl_cell.specs.Gaps.{AreClose}
 use Rattle.dpl_near.specs.declared.index.Stop.{Stop}
 use Rattle.dpl_near.specs.Near.{Search, IsNear, HasNear, AddsNear}
 use Rattle.dpl_near.specs.Index.{Holds, NamesAll, IsIndex}
-use Rattle.dpl_near.proofs.WalkLemmas.{signed}
+use Rattle.dpl_list.proofs.Integers.{signed}
 
 -- ---- bounds
 

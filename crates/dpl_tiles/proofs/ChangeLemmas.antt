@@ -15,7 +15,7 @@ use Rattle.dpl_tiles.specs.Windows.{IsOutside, IsChange}
 use Rattle.dpl_tiles.specs.Reaches.{SpansColumns}
 use Rattle.dpl_tiles.specs.Corners.{IsCornerOf, SpansSide, IsEndOf, HasSides, HasCornersOf, AreCorners}
 use Rattle.dpl_cell.proofs.BoxLemmas.{equal_z}
-use Rattle.dpl_tiles.proofs.Signed.{signed}
+use Rattle.dpl_list.proofs.Integers.{signed}
 use Rattle.dpl_tiles.proofs.SideLemmas.{bit, spans_parity}
 use Rattle.dpl_tiles.proofs.WindowLemmas.{at_most_on}
 use Rattle.dpl_tiles.proofs.OutlineLemmas.{AllColumns, Agrees, Lies, side_same, outline_same, outline_past, at_most, above}

@@ -1,18 +1,17 @@
 -- A row that is walked for the columns of a window alone.
 use Rattle.std.proofs.Common.{arith, ◌≡◌, ◌⊎◌, ℕ, ◌+◌, ◌<◌, ◌≤◌, ℤ, pos, ◌-ℤ◌, ◌<ℤ◌, ◌≤ℤ◌, List, [], ◌∷◌, length, get_or, ◌∙◌, refl, sym, ap, inl, inr, map, true, false, ◌||◌}
-use Rattle.std.proofs.lemmas.Bool.{cases_lt}
+use Rattle.std.proofs.lemmas.Bool.{cases_lt, or_cases, or_right}
 use Rattle.std.proofs.lemmas.List.{get_or_default}
 use Rattle.std.proofs.lemmas.List.Folds.{Any-from_list_any}
-use Rattle.std.proofs.lemmas.Bool.{or_cases, or_right}
 use Rattle.dpl_cell.specs.declared.layout.Primitive.{Primitive}
 use Rattle.dpl_cell.specs.Outlines.{outline_of}
 use Rattle.dpl_cell.specs.Layers.{is_cell, is_in_outline}
 use Rattle.dpl_tiles.specs.declared.reaches.Reach.{Reach}
-use Rattle.dpl_tiles.specs.declared.stretch.Stretch.{Stretch}
-use Rattle.dpl_tiles.specs.Stretches.{is_in_stretches}
+use Rattle.dpl_cell.specs.declared.stretch.Stretch.{Stretch}
+use Rattle.dpl_cell.specs.Stretches.{is_in_stretches}
 use Rattle.dpl_tiles.specs.Reaches.{Misses, IsHeldBy, IsReached}
 use Rattle.dpl_tiles.specs.Windows.{IsOutside}
-use Rattle.dpl_tiles.proofs.Signed.{signed}
+use Rattle.dpl_list.proofs.Integers.{signed}
 use Rattle.dpl_tiles.proofs.OutlineLemmas.{outline_past}
 use Rattle.dpl_tiles.proofs.StretchLemmas.{in_parts}
 use Rattle.dpl_tiles.proofs.ChangeLemmas.{columns_past}

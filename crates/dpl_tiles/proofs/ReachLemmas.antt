@@ -14,10 +14,10 @@ use Rattle.dpl_cell.specs.Places.{place_of}
 use Rattle.dpl_cell.specs.Outlines.{outline_of}
 use Rattle.dpl_cell.specs.Layers.{is_cell, is_in_outline}
 use Rattle.dpl_tiles.specs.declared.reaches.Reach.{Reach}
-use Rattle.dpl_tiles.specs.declared.stretch.Stretch.{Stretch}
-use Rattle.dpl_tiles.specs.Stretches.{is_in_stretches}
+use Rattle.dpl_cell.specs.declared.stretch.Stretch.{Stretch}
+use Rattle.dpl_cell.specs.Stretches.{is_in_stretches}
 use Rattle.dpl_tiles.specs.Reaches.{LiesIn, SpansColumns, Misses, IsHeldBy, IsSingle, AreSingles, IsReached}
-use Rattle.dpl_tiles.proofs.Signed.{signed}
+use Rattle.dpl_list.proofs.Integers.{signed}
 use Rattle.dpl_tiles.proofs.OutlineLemmas.{AllRows, Lies, outline_none, at_most, above}
 use Rattle.dpl_tiles.proofs.StretchLemmas.{in_parts}
 

@@ -1,6 +1,5 @@
 -- Tiles: when two are the same, and their order.
-use Rattle.std.proofs.Common.{arith, ◌≡◌, ℕ, ◌<◌, ◌≤◌, ℤ, pos, ◌-ℤ◌, ◌<ℤ◌, ◌≤ℤ◌, List, length, get_or, AllPairs, All, Contains, sym, ap, inl, inr, Bool, false, ◌&&◌, map, zero, suc, [], ◌∷◌}
-use Rattle.std.proofs.Common.{Ordering, Less, Equal, Greater}
+use Rattle.std.proofs.Common.{arith, ◌≡◌, ℕ, ◌<◌, ◌≤◌, ℤ, pos, ◌-ℤ◌, ◌<ℤ◌, ◌≤ℤ◌, List, length, get_or, AllPairs, All, Contains, sym, ap, inl, inr, Bool, false, ◌&&◌, map, zero, suc, [], ◌∷◌, Ordering, Less, Equal, Greater}
 use Rattle.std.specs.Ordering.{int_eq, int_cmp, is_lt, ordering_then, MatchOrdering}
 use Rattle.std.specs.Cmp.{int_ranks, IsTotalOrder}
 use Rattle.std.proofs.lemmas.Cmp.{int_cmp_total, then_total, on_total}
@@ -18,7 +17,7 @@ use Rattle.dpl_cell.specs.Tiles.{IsRun, IsTile, IsBefore, AreTiles}
 use Rattle.dpl_tiles.specs.Stacks.{EndsBefore, AreEnded, AreAllTiles, IsNotAfter}
 use Rattle.dpl_tiles.specs.Counts.{HasMoreTiles}
 use Rattle.dpl_cell.proofs.BoxLemmas.{equal_z}
-use Rattle.dpl_tiles.proofs.Signed.{signed}
+use Rattle.dpl_list.proofs.Integers.{signed}
 use Rattle.dpl_list.proofs.Lists.{all_pairs_map, contains_map, no_more}
 
 -- ---- when two tiles are the same

@@ -12,7 +12,7 @@ use Rattle.dpl_cell.specs.Tiles.{IsRun, IsTile, IsBefore, AreTiles}
 use Rattle.dpl_tiles.specs.Union.{SharesOut}
 use Rattle.std.specs.Cmp.{both_ways}
 use Rattle.dpl_cell.proofs.BoxLemmas.{is_true, true_is, drawn_any, any_drawn, never_before}
-use Rattle.dpl_tiles.proofs.Signed.{signed}
+use Rattle.dpl_list.proofs.Integers.{signed}
 use Rattle.dpl_tiles.proofs.TileLemmas.{one_tile, one_run}
 use Rattle.dpl_tiles.proofs.BoundLemmas.{IsBounded, around}
 

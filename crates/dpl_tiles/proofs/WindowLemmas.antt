@@ -10,7 +10,7 @@ use Rattle.dpl_cell.specs.Tiles.{IsRun}
 use Rattle.dpl_tiles.specs.Bands.{HasColumns, IsLeftOf}
 use Rattle.dpl_tiles.specs.Sweeps.{AreHeld}
 use Rattle.dpl_tiles.specs.Windows.{IsOutside, IsChange, IsFar, IsWindow}
-use Rattle.dpl_tiles.proofs.Signed.{signed}
+use Rattle.dpl_list.proofs.Integers.{signed}
 use Rattle.dpl_tiles.proofs.BoundLemmas.{IsBounded}
 use Rattle.dpl_tiles.proofs.UnionLemmas.{cell_run}
 use Rattle.dpl_list.proofs.Integers.{less_test, is_less}

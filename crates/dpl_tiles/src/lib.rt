@@ -13,7 +13,6 @@ mod ordinates;
 mod reaches;
 mod rows;
 mod stacking;
-mod stretch;
 mod sweeping;
 mod tiling;
 

@@ -11,7 +11,7 @@ ghost use Rattle.dpl_tiles.specs.Bands.{IsLeftOf, IsOver};
 ghost use Rattle.dpl_tiles.specs.Reaches.{IsReached, Misses};
 ghost use Rattle.dpl_tiles.specs.Corners.{AreCorners};
 ghost use Rattle.dpl_tiles.specs.Stacks.{ending};
-ghost use Rattle.dpl_tiles.specs.Stretches.{AreSeparate, is_in_stretches};
+ghost use Rattle.dpl_cell.specs.Stretches.{AreSeparate, is_in_stretches};
 ghost use Rattle.dpl_tiles.specs.Sweeps.{AreSwept};
 ghost use Rattle.dpl_tiles.specs.Windows.{AddsClosed, AreNearRuns, IsClosed, IsContinued, IsFar, IsParted, is_near};
 
@@ -19,8 +19,7 @@ use crate::corners::{Corner, change_at};
 use crate::reaches::{Columns, Reach, greater, lesser};
 use crate::rows::{merged, push_prim, sort};
 use crate::stacking::find;
-use crate::stretch::Stretch;
-use dpl_cell::{Prim, Rect};
+use dpl_cell::{Prim, Rect, Stretch};
 use std::alloc::{AllocError, Global};
 
 /// Goes on by one band: closes the stacks that end at row `low`, and begins those that are new there. The stacks stand in

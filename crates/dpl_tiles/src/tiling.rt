@@ -7,7 +7,7 @@ ghost use Rattle.dpl_cell.specs.Outlines.{outline_of};
 ghost use Rattle.dpl_cell.specs.Layers.{is_cell, cells_of};
 ghost use Rattle.dpl_cell.specs.Tiles.{AreTiles};
 ghost use Rattle.dpl_tiles.specs.Counts.{HasMoreTiles};
-ghost use Rattle.dpl_tiles.specs.Stretches.{Ascends};
+ghost use Rattle.dpl_list.specs.Order.{Ascends};
 ghost use Rattle.dpl_tiles.specs.Bands.{HasOrdinates};
 ghost use Rattle.dpl_tiles.specs.Stacks.{AreAllTiles, IsNotAfter};
 ghost use Rattle.dpl_tiles.specs.Corners.{AreCorners};

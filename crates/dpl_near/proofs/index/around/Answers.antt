@@ -1,7 +1,7 @@
 use Rattle.std.proofs.Common.{rules, SFits, w64, ◌≤ℤ◌, ◌<ℤ◌, ℤ}
 use Rattle.std.proofs.lemmas.Int.{to_z-of_z}
 use Rattle.dpl_cell.proofs.Same.{corners_fit}
-use Rattle.dpl_near.proofs.WalkLemmas.{signed}
+use Rattle.dpl_list.proofs.Integers.{signed}
 use Rattle.dpl_near.proofs.index.around.Goals as goal
 
 wide_by : (x1 a1 a2 x2 : ℤ) → x1 ≤ℤ a1 → a1 <ℤ a2 → a2 ≤ℤ x2 → x1 <ℤ x2

@@ -1,7 +1,7 @@
 use Rattle.std.proofs.Common.{rules}
 use Rattle.std.proofs.lemmas.List.Sorted.{answers_always}
 use Rattle.dpl_tiles.specs.declared.corners.Corner.{Corner}
-use Rattle.dpl_tiles.proofs.StretchLemmas.{ascends_from_sorted}
+use Rattle.dpl_list.proofs.OrderLemmas.{ascends_from_sorted}
 use Rattle.dpl_tiles.proofs.CornerLemmas.{corners_moved}
 use Rattle.dpl_tiles.proofs.corners.corners_of.Goals as goal
 
