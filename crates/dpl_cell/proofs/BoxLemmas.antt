@@ -29,6 +29,9 @@ equal_z a b h g = omega (arith, ints, clamps)
 pub three : {P : Type 0} (i j : ℕ) → (i < j → P) → (i ≡ j → P) → (j < i → P) → P
 three i j p q r = elim (cases_lt i j) [ inl h ↦ p h | inr h ↦ elim (cases_eq i j) [ inl e ↦ q e | inr n ↦ r (omega (arith, n)) ] ]
 
+pub at_start : (a b : ℤ) → a <ℤ b → IsWithin a b a
+at_start a b h = record { from = omega (arith, ints); to = h }
+
 -- a stretch whose places lie in another does not go past its ends
 pub ends_inside : (a b low high : ℤ) → a <ℤ b → ((x : ℤ) → IsWithin a b x → IsWithin low high x) → (low ≤ℤ a) × (b ≤ℤ high)
 ends_inside a b low high h f =

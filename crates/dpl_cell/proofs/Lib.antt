@@ -6,3 +6,4 @@ pub mod BoxLemmas
 pub mod OrderLemmas
 pub mod Same
 pub mod StretchLemmas
+pub mod SortLemmas

@@ -9,13 +9,31 @@ use Rattle.dpl_cell.specs.declared.stretch.Stretch.{Stretch}
 use Rattle.dpl_cell.specs.Cells.{IsWithin, IsMaximal}
 use Rattle.dpl_cell.specs.Layers.{is_within}
 use Rattle.dpl_cell.specs.Stretches.{is_in_stretches, AreSeparate}
-use Rattle.dpl_cell.proofs.BoxLemmas.{test_within, within_test, three}
+use Rattle.dpl_cell.proofs.BoxLemmas.{test_within, within_test, three, equal_z, at_start}
 
 pub within_none : (a b p : ℤ) → b ≤ℤ a → is_within a b p ≡ false
 within_none a b p h = grind (arith, ints)
 
 pub in_pushed : (parts : List Stretch) (s : Stretch) (p : ℤ) → is_in_stretches (parts ++ s ∷ []) p ≡ (is_in_stretches parts p || is_within s.from s.to p)
 in_pushed parts s p = list_any-append (λ s. is_within s.from s.to p) parts (s ∷ []) ∙ ap (λ b. is_in_stretches parts p || b) (or-false (is_within s.from s.to p))
+
+-- ---- maximal stretches that share a place are one
+
+same_from : (has : ℤ → Type 0) (a b c d p : ℤ) → IsMaximal has a b → IsMaximal has c d → IsWithin a b p → IsWithin c d p → c ≤ℤ a
+same_from has a b c d p r s w v = by_lt_z a c (λ h. absurd (s.left (r.full _ (inside a b c d p w v h)))) (λ h. h) where
+  inside : (a b c d p : ℤ) → IsWithin a b p → IsWithin c d p → a <ℤ c → IsWithin a b (c -ℤ pos 1)
+  inside a b c d p w v h = let k = w.to in let l = v.from in record { from = omega signed; to = omega signed }
+
+same_to : (has : ℤ → Type 0) (a b c d p : ℤ) → IsMaximal has a b → IsMaximal has c d → IsWithin a b p → IsWithin c d p → b ≤ℤ d
+same_to has a b c d p r s w v = by_lt_z d b (λ h. absurd (s.right (r.full d (inside a b c d p w v h)))) (λ h. h) where
+  inside : (a b c d p : ℤ) → IsWithin a b p → IsWithin c d p → d <ℤ b → IsWithin a b d
+  inside a b c d p w v h = let k = w.from in let l = v.to in record { from = omega signed; to = h }
+
+pub one_maximal : (has : ℤ → Type 0) (a b c d p : ℤ) → IsMaximal has a b → IsMaximal has c d → IsWithin a b p → IsWithin c d p → (a ≡ c) × (b ≡ d)
+one_maximal has a b c d p r s w v = (
+  equal_z a c (same_from has c d a b p s r v w) (same_from has a b c d p r s w v),
+  equal_z b d (same_to has a b c d p r s w v) (same_to has c d a b p s r v w),
+)
 
 -- ---- stretches that lie separate are the maximal ones
 
@@ -61,27 +79,7 @@ stretch_at has ss row k d l = record {
 
 pub stretch_among : (has : ℤ → Type 0) (ss : List Stretch) → Covers has ss → (a b : ℤ) → IsMaximal has a b → Any (λ s. (s.from ≡ a) × (s.to ≡ b)) ss
 stretch_among has ss row a b run =
-    let (k, s, l, e, w) = place ss a (row.all a (run.full a (at_start a b run.long))) in
+    let start = at_start a b run.long in
+    let (k, s, l, e, w) = place ss a (row.all a (run.full a start)) in
     let own : IsMaximal has s.from s.to = rw e at (stretch_at has ss row k s l) in
-    let from : s.from ≡ a = by_lt_z s.from a (λ h. absurd (run.left (own.full _ (just_before s.from s.to a w h)))) (λ h. equal s.from a s.to w h) in
-    let to : s.to ≡ b = by_lt_z s.to b
-    (λ h. absurd (own.right (run.full _ (inside a b s.from s.to w h))))
-    (λ h. by_lt_z b s.to (λ g. absurd (run.right (own.full _ (inside s.from s.to a b (at_start' s.from a b from run.long) g)))) (λ g. equal' s.to b h g)) in
-    (k, s, l, e, (from, to)) where
-      at_start : (a b : ℤ) → a <ℤ b → IsWithin a b a
-      at_start a b h = record { from = omega signed; to = h }
-
-      at_start' : (s a b : ℤ) → s ≡ a → a <ℤ b → IsWithin a b s
-      at_start' s a b e h = record { from = omega signed; to = omega signed }
-
-      just_before : (a b x : ℤ) → IsWithin a b x → a <ℤ x → IsWithin a b (x -ℤ pos 1)
-      just_before a b x w h = record { from = omega signed; to = omega signed }
-
-      equal : (a x b : ℤ) → IsWithin a b x → x ≤ℤ a → a ≡ x
-      equal a x b w h = omega signed
-
-      inside : (a b c d : ℤ) → IsWithin c d a → d <ℤ b → IsWithin a b d
-      inside a b c d w h = record { from = omega signed; to = h }
-
-      equal' : (a b : ℤ) → b ≤ℤ a → a ≤ℤ b → a ≡ b
-      equal' a b h g = omega signed
+    (k, s, l, e, one_maximal has s.from s.to a b a own run w start)

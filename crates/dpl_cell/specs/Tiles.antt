@@ -1,5 +1,5 @@
 -- Runs and tiles of a set of cells, which is given by a test of one cell.
-use Rattle.std.specs.Prelude.{◌≡◌, ◌⊎◌, Bool, List, ℤ, pos, ◌-ℤ◌, ◌<ℤ◌, IsTrue, All, AllPairs, Contains}
+use Rattle.std.specs.Prelude.{◌≡◌, ◌⊎◌, Bool, List, ℤ, pos, ◌-ℤ◌, ◌<ℤ◌, ◌≤ℤ◌, IsTrue, All, AllPairs, Contains}
 use Rattle.dpl_cell.specs.Places.{Corners}
 use Rattle.dpl_cell.specs.Cells.{IsWithin, IsMaximal}
 
@@ -21,6 +21,10 @@ IsTile cells = IsStack (IsRun cells)
 -- a stands before b: lower, or at one height and further left
 abbrev pub IsBefore : Corners → Corners → Type 0
 IsBefore a b = (a.y1 <ℤ b.y1) ⊎ ((a.y1 ≡ b.y1) × (a.x1 <ℤ b.x1))
+
+-- b does not stand before a
+abbrev pub IsNotAfter : Corners → Corners → Type 0
+IsNotAfter a b = (a.y1 <ℤ b.y1) ⊎ ((a.y1 ≡ b.y1) × (a.x1 ≤ℤ b.x1))
 
 -- all tiles of the cells, each once, in order
 pub record AreTiles (cells : ℤ → ℤ → Bool) (tiles : List Corners) : Type 0 where

@@ -1,19 +1,16 @@
 -- Each cell lies in exactly one tile.
-use Rattle.std.proofs.Common.{arith, rules, ◌≡◌, ℕ, zero, suc, ◌^◌, ℤ, pos, neg_ℤ, ◌+ℤ◌, ◌-ℤ◌, ◌<ℤ◌, ◌≤ℤ◌, List, ◌∙◌, Any, refl, sym, inl, inr, ◌⊎◌, Bool, true, false, ◌&&◌, map, IsTrue}
+use Rattle.std.proofs.Common.{arith, rules, ◌≡◌, ℕ, zero, suc, ◌^◌, ℤ, pos, neg_ℤ, ◌+ℤ◌, ◌-ℤ◌, ◌<ℤ◌, ◌≤ℤ◌, List, Any, refl, inl, inr, ◌⊎◌, Bool, true, false, IsTrue}
 use Rattle.std.specs.Int.RustNames.{unsigned_abs}
 use Rattle.std.proofs.lemmas.Int.{by_lt_z}
-use Rattle.std.proofs.lemmas.List.Folds.{list_any-from_Any, Any-from_list_any}
-use Rattle.dpl_cell.proofs.LayerLemmas.{list_any-map}
 use Rattle.dpl_cell.specs.Places.{Corners}
 use Rattle.dpl_cell.specs.Cells.{IsWithin, IsIn, SharesCell}
-use Rattle.dpl_cell.specs.Outlines.{Box}
-use Rattle.dpl_cell.specs.Layers.{is_within, is_in_box, is_in_outline, is_cell}
-use Rattle.dpl_cell.specs.Tiles.{IsRun, IsTile, IsBefore, AreTiles}
+use Rattle.dpl_cell.specs.Tiles.{IsRun, IsTile, AreTiles}
 use Rattle.dpl_tiles.specs.Union.{SharesOut}
 use Rattle.std.specs.Cmp.{both_ways}
 use Rattle.dpl_cell.proofs.BoxLemmas.{is_true, true_is, drawn_any, any_drawn, never_before}
 use Rattle.dpl_list.proofs.Integers.{signed}
-use Rattle.dpl_tiles.proofs.TileLemmas.{one_tile, one_run}
+use Rattle.dpl_tiles.proofs.TileLemmas.{one_tile}
+use Rattle.dpl_cell.proofs.StretchLemmas.{one_maximal}
 use Rattle.dpl_tiles.proofs.BoundLemmas.{IsBounded, around}
 
 -- ---- a cell lies in a run, and a run in a tile
@@ -94,7 +91,7 @@ held_cell cells tiles a x y (k, r, l, e, i) =
 -- two tiles that share a cell are the same
 shared : (cells : ℤ → ℤ → Bool) (a b : Corners) → IsTile cells a → IsTile cells b → SharesCell (IsIn a) (IsIn b) → a ≡ b
 shared cells a b s t c =
-    let (e, f) = one_run cells a.x1 a.x2 b.x1 b.x2 c.x c.y (s.rows c.y c.first.row) (t.rows c.y c.second.row) c.first.column c.second.column in
+    let (e, f) = one_maximal (λ x. IsTrue (cells x c.y)) a.x1 a.x2 b.x1 b.x2 c.x (s.rows c.y c.first.row) (t.rows c.y c.second.row) c.first.column c.second.column in
     one_tile cells a b c.y s t e f c.first.row c.second.row
 
 pub shares_out : (cells : ℤ → ℤ → Bool) (tiles : List Corners) → IsBounded cells → AreTiles cells tiles → SharesOut cells tiles
