@@ -15,6 +15,7 @@ mod points;
 mod range;
 mod rect;
 mod seams;
+mod spans;
 mod stretch;
 pub mod types;
 
@@ -26,6 +27,7 @@ pub use point::Point;
 pub use points::Points;
 pub use rect::Rect;
 pub use seams::{seam, touch};
+pub use spans::{is_between, meet};
 pub use stretch::Stretch;
 
 #[cfg(test)]
