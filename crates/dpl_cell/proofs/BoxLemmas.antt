@@ -1,6 +1,5 @@
 -- Cells of boxes, as a fact and as a test.
-use Rattle.std.proofs.Common.{arith, rules, ◌≡◌, ◌<ℤ◌, ◌≤ℤ◌, ◌-ℤ◌, pos, ℕ, ◌<◌, ℤ, List, length, get_or, ◌∙◌, sym, refl, int_lt, Any, Bool, true, false, IsTrue, map, inl, inr}
-use Rattle.std.specs.List.{list_any}
+use Rattle.std.proofs.Common.{arith, rules, ◌≡◌, ◌<ℤ◌, ◌≤ℤ◌, ◌-ℤ◌, pos, ℕ, ◌<◌, ℤ, List, length, get_or, ◌∙◌, sym, refl, Any, Bool, true, false, IsTrue, map, inl, inr}
 use Rattle.std.proofs.lemmas.Bool.{and_parts, cases_lt, cases_eq}
 use Rattle.std.proofs.lemmas.Int.{ints, clamps}
 use Rattle.std.proofs.lemmas.List.Folds.{list_any_at, list_any-from_Any, Any-from_list_any}
@@ -29,6 +28,9 @@ equal_z a b h g = omega (arith, ints, clamps)
 -- three ways for two numbers to lie
 pub three : {P : Type 0} (i j : ℕ) → (i < j → P) → (i ≡ j → P) → (j < i → P) → P
 three i j p q r = elim (cases_lt i j) [ inl h ↦ p h | inr h ↦ elim (cases_eq i j) [ inl e ↦ q e | inr n ↦ r (omega (arith, n)) ] ]
+
+pub at_start : (a b : ℤ) → a <ℤ b → IsWithin a b a
+at_start a b h = record { from = omega (arith, ints); to = h }
 
 -- a stretch whose places lie in another does not go past its ends
 pub ends_inside : (a b low high : ℤ) → a <ℤ b → ((x : ℤ) → IsWithin a b x → IsWithin low high x) → (low ≤ℤ a) × (b ≤ℤ high)

@@ -7,7 +7,7 @@ use Rattle.dpl_cell.specs.Places.{Corners}
 use Rattle.dpl_cell.specs.Cells.{IsWithin}
 use Rattle.dpl_cell.specs.Gaps.{between, IsBetween}
 use Rattle.dpl_cell.specs.Facing.{IsCommon, IsAhead, IsDistance}
-use Rattle.dpl_cell.proofs.SeamLemmas.{signed}
+use Rattle.dpl_list.proofs.Integers.{signed}
 
 pub common : (a1 a2 b1 b2 from to : ℤ) → from ≡ int_max a1 b1 → to ≡ int_min a2 b2 → from <ℤ to → IsCommon from to a1 a2 b1 b2
 common a1 a2 b1 b2 from to e f h = record { some = h; each = λ k. ((λ w. (search signed, search signed)), (λ w. let u = w.0 in let v = w.1 in search signed)) }

@@ -5,3 +5,5 @@ pub mod LayerLemmas
 pub mod BoxLemmas
 pub mod OrderLemmas
 pub mod Same
+pub mod StretchLemmas
+pub mod SortLemmas

@@ -2,15 +2,14 @@
 use Rattle.std.proofs.Common.{arith, ◌≡◌, ℤ, pos, ◌-ℤ◌, ◌<ℤ◌, ◌≤ℤ◌, true, false, Bool, ◌&&◌, ◌||◌, inl, inr, ◌⊎◌, refl}
 use Rattle.std.proofs.Math.Bool.{or-true}
 use Rattle.std.proofs.lemmas.Bool.{and_parts, or_cases}
-use Rattle.std.proofs.lemmas.Int.{ints, clamps, by_lt_z}
+use Rattle.std.proofs.lemmas.Int.{ints, by_lt_z}
 use Rattle.std.specs.Int.Signed.{le_z, lt_z}
 use Rattle.std.specs.Int.{int_max, int_min}
 use Rattle.dpl_cell.specs.Places.{Corners}
 use Rattle.dpl_cell.specs.Cells.{IsIn, SharesCell, AreApart}
 use Rattle.dpl_cell.specs.Edges.{SharesEdge, Touch}
 use Rattle.dpl_cell.specs.Seams.{IsSeam}
-
-pub ruleset signed = (arith, ints, clamps)
+use Rattle.dpl_list.proofs.Integers.{signed}
 
 -- the sides of a rectangle that has a cell
 pub record IsSolid (c : Corners) : Type 0 where

@@ -1,12 +1,19 @@
 -- Cells: a cell is a unit square of the grid, named by its lower left corner. A set of cells is given by
 -- what it says of a cell.
-use Rattle.std.specs.Prelude.{ℤ, ◌≤ℤ◌, ◌<ℤ◌}
+use Rattle.std.specs.Prelude.{ℤ, pos, ◌-ℤ◌, ◌≤ℤ◌, ◌<ℤ◌}
 use Rattle.dpl_cell.specs.Places.{Corners}
 
 -- x is in the stretch from a to b, b left out
 pub record IsWithin (a b x : ℤ) : Type 0 where
   pub from : a ≤ℤ x
   pub to : x <ℤ b
+
+-- a maximal stretch of places with a property
+pub record IsMaximal (has : ℤ → Type 0) (a b : ℤ) : Type 0 where
+  pub long : a <ℤ b
+  pub full : (p : ℤ) → IsWithin a b p → has p
+  pub left : ¬ has (a -ℤ pos 1)
+  pub right : ¬ has b
 
 -- the cell (x, y) lies in the rectangle
 pub record IsIn (r : Corners) (x y : ℤ) : Type 0 where

@@ -1,5 +1,6 @@
 -- The gap of cells, and what is closer than the spacing (the spacing rule of Kahng, Park, Xu and Yao 2008).
-use Rattle.std.specs.Prelude.{◌≡◌, ℕ, ◌+◌, ◌-◌, ◌*◌, ◌≤◌, ◌<◌, ℤ, ◌-ℤ◌}
+use Rattle.std.specs.Prelude.{◌≡◌, ℕ, ◌+◌, ◌-◌, ◌*◌, ◌≤◌, ◌<◌, ℤ, ◌-ℤ◌, Bool, int_lt}
+use Rattle.std.specs.Int.{int_max, int_min}
 use Rattle.std.specs.Int.RustNames.{unsigned_abs}
 use Rattle.dpl_cell.specs.Cells.{IsWithin}
 
@@ -35,3 +36,7 @@ pub record AreClose (one other : ℤ → ℤ → Type 0) (reach : ℕ) : Type 0 
 abbrev pub IsBetween : ℤ → ℤ → ℤ → ℤ → ℕ → Type 0
 IsBetween a1 a2 b1 b2 n =
     (x : ℤ) × (y : ℤ) × IsWithin a1 a2 x × IsWithin b1 b2 y × (between x y ≡ n)
+
+-- two stretches have something in common
+abbrev pub overlap : ℤ → ℤ → ℤ → ℤ → Bool
+overlap a1 a2 b1 b2 = int_lt (int_max a1 b1) (int_min a2 b2)

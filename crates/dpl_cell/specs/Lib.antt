@@ -9,3 +9,4 @@ pub mod Facing
 pub mod Layers
 pub mod Tiles
 pub mod Shapes
+pub mod Stretches

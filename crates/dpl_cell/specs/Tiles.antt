@@ -1,14 +1,11 @@
 -- Runs and tiles of a set of cells, which is given by a test of one cell.
-use Rattle.std.specs.Prelude.{◌≡◌, ◌⊎◌, Bool, List, ℤ, pos, ◌-ℤ◌, ◌<ℤ◌, IsTrue, All, AllPairs, Contains}
+use Rattle.std.specs.Prelude.{◌≡◌, ◌⊎◌, Bool, List, ℤ, pos, ◌-ℤ◌, ◌<ℤ◌, ◌≤ℤ◌, IsTrue, All, AllPairs, Contains}
 use Rattle.dpl_cell.specs.Places.{Corners}
-use Rattle.dpl_cell.specs.Cells.{IsWithin}
+use Rattle.dpl_cell.specs.Cells.{IsWithin, IsMaximal}
 
 -- a maximal stretch of cells in one row
-pub record IsRun (cells : ℤ → ℤ → Bool) (x1 x2 y : ℤ) : Type 0 where
-  pub long : x1 <ℤ x2
-  pub full : (x : ℤ) → IsWithin x1 x2 x → IsTrue (cells x y)
-  pub left : ¬ IsTrue (cells (x1 -ℤ pos 1) y)
-  pub right : ¬ IsTrue (cells x2 y)
+abbrev pub IsRun : (ℤ → ℤ → Bool) → ℤ → ℤ → ℤ → Type 0
+IsRun cells x1 x2 y = IsMaximal (λ x. IsTrue (cells x y)) x1 x2
 
 -- a maximal upright stack of a relation on stretches of one row
 pub record IsStack (has : ℤ → ℤ → ℤ → Type 0) (r : Corners) : Type 0 where
@@ -24,6 +21,10 @@ IsTile cells = IsStack (IsRun cells)
 -- a stands before b: lower, or at one height and further left
 abbrev pub IsBefore : Corners → Corners → Type 0
 IsBefore a b = (a.y1 <ℤ b.y1) ⊎ ((a.y1 ≡ b.y1) × (a.x1 <ℤ b.x1))
+
+-- b does not stand before a
+abbrev pub IsNotAfter : Corners → Corners → Type 0
+IsNotAfter a b = (a.y1 <ℤ b.y1) ⊎ ((a.y1 ≡ b.y1) × (a.x1 ≤ℤ b.x1))
 
 -- all tiles of the cells, each once, in order
 pub record AreTiles (cells : ℤ → ℤ → Bool) (tiles : List Corners) : Type 0 where

@@ -2,17 +2,12 @@ ghost use Rattle.std.specs.Prelude.{◌≡◌, map};
 ghost use Rattle.std.specs.List.{list_any};
 ghost use Rattle.dpl_cell.specs.Places.{corners_of, place_of};
 ghost use Rattle.dpl_cell.specs.Outlines.{outline_of};
-ghost use Rattle.dpl_cell.specs.Layers.{is_cell, is_in_outline, is_in_polygon, is_in_box, is_left_side, is_within};
+ghost use Rattle.dpl_cell.specs.Layers.{is_cell, is_in_outline, is_in_polygon, is_in_box, is_left_side};
 
 use crate::layout::Primitive;
 use crate::point::Point;
 use crate::rect::Rect;
-
-fn is_between(a: i64, b: i64, x: i64) -> bool
-    ensures { result ≡ is_within a b x }
-{
-    a <= x && x < b
-}
+use crate::spans::is_between;
 
 fn is_in_rect(r: &Rect, x: i64, y: i64) -> bool
     ensures { result ≡ is_in_box (corners_of r.now) x y }

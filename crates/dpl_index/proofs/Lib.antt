@@ -1,4 +1,3 @@
-pub mod Signed
 pub mod StopLemmas
 pub mod MeetingLemmas
 pub mod OrderLemmas

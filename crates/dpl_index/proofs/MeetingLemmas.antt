@@ -7,7 +7,7 @@ use Rattle.dpl_index.specs.declared.bounds.Bounds.{Bounds}
 use Rattle.dpl_index.specs.declared.stops.Stop.{Stop}
 use Rattle.dpl_index.specs.Meetings.{Meets, IsMeeting, AreMeeting, HasMeeting, AddsMeeting}
 use Rattle.dpl_index.specs.Stops.{Holds, IsIndex}
-use Rattle.dpl_index.proofs.Signed.{signed}
+use Rattle.dpl_list.proofs.Integers.{signed}
 
 -- what meets bounds meets all that hold them
 pub meets_outer : (outer inner window : Bounds) → Holds outer inner → Meets inner window → Meets outer window

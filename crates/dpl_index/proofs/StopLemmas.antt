@@ -8,7 +8,7 @@ use Rattle.std.specs.List.Sorted.{IsPermutation}
 use Rattle.dpl_index.specs.declared.bounds.Bounds.{Bounds}
 use Rattle.dpl_index.specs.declared.stops.Stop.{Stop}
 use Rattle.dpl_index.specs.Stops.{Holds, NamesAll, IsIndex}
-use Rattle.dpl_index.proofs.Signed.{signed}
+use Rattle.dpl_list.proofs.Integers.{signed}
 
 -- ---- bounds
 

@@ -1,8 +1,7 @@
 -- Fragments have one net.
-use Rattle.std.proofs.Common.{arith, ◌≡◌, ◌<◌, ◌≤◌, ◌+◌, ◌^◌, ◌⊎◌, inl, inr, ℕ, suc, ◌==◌, Bool, true, false, List, [], ◌∷◌, length, map, refl, sym, ap, ◌∙◌, subst, All, Contains, if◌then◌else◌}
-use Rattle.std.proofs.Common.{Equal}
+use Rattle.std.proofs.Common.{arith, ◌≡◌, ◌<◌, ◌≤◌, ◌+◌, ◌^◌, ◌⊎◌, inl, inr, ℕ, suc, ◌==◌, Bool, true, false, List, [], ◌∷◌, length, map, refl, sym, ap, ◌∙◌, subst, All, Contains, if◌then◌else◌, Equal}
 use Rattle.std.proofs.Props.{props}
-use Rattle.std.specs.Prelude.{ℤ, pos, ◌-ℤ◌, ◌<ℤ◌, ◌≤ℤ◌}
+use Rattle.std.specs.Prelude.{ℤ, pos, ◌-ℤ◌, ◌<ℤ◌}
 use Rattle.std.specs.List.{AllZip}
 use Rattle.std.specs.Ordering.{nat_cmp}
 use Rattle.std.proofs.lemmas.Cmp.{ranked}
@@ -29,7 +28,9 @@ use Rattle.dpl_links.specs.Links.{IsUpTo, IsLeast, AreClashes}
 use Rattle.dpl_links.specs.Ports.{side_key, IsPort, IsPortTo}
 use Rattle.dpl_links.specs.Nets.{scene, Tie, tie_of, ties_of, HasPorts, IsNet, HasMoreEdges}
 use Rattle.dpl_links.proofs.HeadLemmas.{rank_equal}
-use Rattle.dpl_links.proofs.GatherLemmas.{signed, same_link}
+use Rattle.dpl_cell.proofs.BoxLemmas.{at_start, equal_z}
+use Rattle.dpl_list.proofs.Integers.{signed}
+use Rattle.dpl_links.proofs.GatherLemmas.{same_link}
 use Rattle.dpl_links.proofs.NetLemmas.{edges_length, not_more_edges}
 use Rattle.dpl_list.proofs.Ordered.{maps_same, has_all, ordered_same}
 use Rattle.dpl_near.proofs.LawLemmas.{rects_have, HasCell}
@@ -103,53 +104,36 @@ stretch_same from to from' to' a1 a2 b1 b2 s t =
     let q = (s.each from').1 ((t.each from').0 (at_start from' to' t.some)) in
     let u = (t.each (to -ℤ pos 1)).1 ((s.each (to -ℤ pos 1)).0 (at_end from to s.some)) in
     let v = (s.each (to' -ℤ pos 1)).1 ((t.each (to' -ℤ pos 1)).0 (at_end from' to' t.some)) in
-    (same_z from from' q.from p.from, same_end to to' u.to v.to) where
-      at_start : (a b : ℤ) → a <ℤ b → IsWithin a b a
-      at_start a b h = record { from = omega signed; to = h }
-
+    (equal_z from from' q.from p.from, same_end to to' u.to v.to) where
       at_end : (a b : ℤ) → a <ℤ b → IsWithin a b (b -ℤ pos 1)
       at_end a b h = record { from = omega signed; to = omega signed }
-
-      same_z : (a b : ℤ) → a ≤ℤ b → b ≤ℤ a → a ≡ b
-      same_z a b h l = omega signed
 
       same_end : (a b : ℤ) → (a -ℤ pos 1) <ℤ b → (b -ℤ pos 1) <ℤ a → a ≡ b
       same_end a b h l = omega signed
 
 one_ahead : (a1 a2 b1 b2 : ℤ) → a1 <ℤ a2 → b1 <ℤ b2 → IsAhead a1 a2 b1 b2 → IsAhead b1 b2 a1 a2 → ⊥
 one_ahead a1 a2 b1 b2 h g p q =
-    let l = p a1 b1 (start a1 a2 h) (start b1 b2 g) in
-    let m = q b1 a1 (start b1 b2 g) (start a1 a2 h) in
+    let l = p a1 b1 (at_start a1 a2 h) (at_start b1 b2 g) in
+    let m = q b1 a1 (at_start b1 b2 g) (at_start a1 a2 h) in
     never a1 b1 l m where
-      start : (a b : ℤ) → a <ℤ b → IsWithin a b a
-      start a b h = record { from = omega signed; to = h }
-
       never : (a b : ℤ) → a <ℤ b → b <ℤ a → ⊥
       never a b h l = omega signed
 
 never_ahead : (from to a1 a2 b1 b2 : ℤ) → IsCommon from to a1 a2 b1 b2 → IsAhead a1 a2 b1 b2 → ⊥
 never_ahead from to a1 a2 b1 b2 c p =
-    let w = (c.each from).0 (start from to c.some) in never from (p from from w.0 w.1) where
-      start : (a b : ℤ) → a <ℤ b → IsWithin a b a
-      start a b h = record { from = omega signed; to = h }
-
+    let w = (c.each from).0 (at_start from to c.some) in never from (p from from w.0 w.1) where
       never : (a : ℤ) → a <ℤ a → ⊥
       never a h = omega signed
 
 never_behind : (from to a1 a2 b1 b2 : ℤ) → IsCommon from to a1 a2 b1 b2 → IsAhead b1 b2 a1 a2 → ⊥
 never_behind from to a1 a2 b1 b2 c p =
-    let w = (c.each from).0 (start from to c.some) in never from (p from from w.1 w.0) where
-      start : (a b : ℤ) → a <ℤ b → IsWithin a b a
-      start a b h = record { from = omega signed; to = h }
-
+    let w = (c.each from).0 (at_start from to c.some) in never from (p from from w.1 w.0) where
       never : (a : ℤ) → a <ℤ a → ⊥
       never a h = omega signed
 
 never_apart : (from to a1 a2 b1 b2 : ℤ) (n : ℕ) → IsCommon from to a1 a2 b1 b2 → IsDistance a1 a2 b1 b2 n → ⊥
 never_apart from to a1 a2 b1 b2 n c d =
-    let w = (c.each from).0 (start from to c.some) in d.none from w.0 w.1 where
-      start : (a b : ℤ) → a <ℤ b → IsWithin a b a
-      start a b h = record { from = omega signed; to = h }
+    let w = (c.each from).0 (at_start from to c.some) in d.none from w.0 w.1
 
 distance_same : (a1 a2 b1 b2 : ℤ) (m n : ℕ) → IsDistance a1 a2 b1 b2 m → IsDistance a1 a2 b1 b2 n → m ≡ n
 distance_same a1 a2 b1 b2 m n d e =

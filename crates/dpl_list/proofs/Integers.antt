@@ -1,6 +1,8 @@
--- The test of one integer against another, and the fact that it tells.
+-- Facts of integers that are searched for, and the test of one against another with the fact that it tells.
 use Rattle.std.proofs.Common.{◌≡◌, ℤ, ◌<ℤ◌, ◌≤ℤ◌, true, false, int_lt, arith}
-use Rattle.std.proofs.lemmas.Int.{ints}
+use Rattle.std.proofs.lemmas.Int.{ints, clamps}
+
+pub ruleset signed = (arith, ints, clamps)
 
 pub less_test : (a b : ℤ) → a <ℤ b → int_lt a b ≡ true
 less_test a b h = grind (arith, ints)

@@ -2,3 +2,4 @@ pub mod Lists
 pub mod Zips
 pub mod Ordered
 pub mod Integers
+pub mod OrderLemmas

@@ -1,20 +1,36 @@
 -- Rectangles that share no cell.
-use Rattle.std.proofs.Common.{arith, ◌≡◌, ℕ, ◌+◌, ◌<◌, ◌≤◌, ℤ, ◌≤ℤ◌, List, length, get_or, AllPairs, inl, inr, map, [], ◌∷◌, Bool, true, IsTrue, rules}
+use Rattle.std.proofs.Common.{arith, ◌≡◌, ℕ, ◌+◌, ◌<◌, ◌≤◌, ◌<ℤ◌, ◌≤ℤ◌, List, length, get_or, AllPairs, inl, inr, map, refl, sym, Bool, true, false, not, ◌&&◌, IsTrue}
 use Rattle.std.specs.Int.{int_max, int_min}
-use Rattle.std.specs.Int.Signed.{le_z}
-use Rattle.std.proofs.lemmas.Int.{ints}
 use Rattle.std.proofs.lemmas.Bool.{cases_lt}
 use Rattle.std.proofs.lemmas.List.{get_or_default, get_or-map, length-map}
 use Rattle.dpl_cell.specs.declared.rect.Rect.{Rect}
 use Rattle.dpl_cell.specs.Places.{Corners, corners_of}
 use Rattle.dpl_cell.specs.Cells.{AreApart}
-use Rattle.dpl_near.proofs.WalkLemmas.{signed}
+use Rattle.dpl_cell.specs.Gaps.{overlap}
+use Rattle.dpl_cell.proofs.BoxLemmas.{is_true, not_by_test}
+use Rattle.dpl_cell.proofs.SeamLemmas.{apart_sides}
+use Rattle.dpl_list.proofs.Lists.{some_of}
+use Rattle.dpl_list.proofs.Integers.{signed, is_less, not_less}
 
 pub apart_by_columns : (a b : Corners) → int_min a.x2 b.x2 ≤ℤ int_max a.x1 b.x1 → AreApart a b
 apart_by_columns a b h s = let f = s.first.column in let g = s.second.column in omega signed
 
 pub apart_by_rows : (a b : Corners) → int_min a.y2 b.y2 ≤ℤ int_max a.y1 b.y1 → AreApart a b
 apart_by_rows a b h s = let f = s.first.row in let g = s.second.row in omega signed
+
+-- rectangles share no cell exactly where they have no columns or no rows in common
+pub miss_apart : (a b : Corners) (p q : Bool) → p ≡ overlap a.x1 a.x2 b.x1 b.x2 → q ≡ overlap a.y1 a.y2 b.y1 b.y2 → IsTrue (not (p && q)) → AreApart a b
+miss_apart a b false q e f t = apart_by_columns a b (not_less _ _ (sym e))
+miss_apart a b true false e f t = apart_by_rows a b (not_less _ _ (sym f))
+miss_apart a b true true e f t = absurd (not_by_test false refl (λ (u : IsTrue false). u) t)
+
+pub apart_miss : (a b : Corners) (p q : Bool) → p ≡ overlap a.x1 a.x2 b.x1 b.x2 → q ≡ overlap a.y1 a.y2 b.y1 b.y2 → AreApart a b → IsTrue (not (p && q))
+apart_miss a b false q e f h = is_true refl
+apart_miss a b true false e f h = is_true refl
+apart_miss a b true true e f h = absurd (elim (apart_sides a b h) [
+  | inl g ↦ let l : int_max a.x1 b.x1 <ℤ int_min a.x2 b.x2 = is_less _ _ (sym e) in omega signed
+  | inr g ↦ let l : int_max a.y1 b.y1 <ℤ int_min a.y2 b.y2 = is_less _ _ (sym f) in omega signed
+])
 
 -- the rectangles of numbers below j are apart
 pub record ApartBelow (rects : List Rect) (j : ℕ) : Type 0 where
@@ -51,10 +67,6 @@ below_more rects i j h s = record {
 corners_in : (rects : List Rect) (k : ℕ) (d : Rect) (e : Corners) → k < length rects → get_or (map corners_of rects) k e ≡ corners_of (get_or rects k d)
 corners_in rects k d e l = get_or-map corners_of rects k d e l
 
-some_of : (rects : List Rect) (k : ℕ) → k < length rects → Rect
-some_of [] k l = absurd (omega arith)
-some_of (r ∷ rs) k l = r
-
 pub all_apart : (rects : List Rect) (j : ℕ) → length rects ≤ j → ApartBelow rects j → AllPairs AreApart (map corners_of rects)
 all_apart rects j whole s k l d h g =
     let n = length-map rects corners_of in
@@ -66,11 +78,3 @@ pub apart_at : (rects : List Rect) (i j : ℕ) (a b : Rect) → i < j → j < le
 apart_at rects i j a b h l e f all =
     let r = all i j (corners_of a) h (rw (length-map rects corners_of) l) in
     rw (corners_in rects i a (corners_of a) (omega arith), corners_in rects j b (corners_of a) l, ← e, ← f) at r
-
-pub le_test : (a b c d : ℤ) → a ≡ c → b ≡ d → IsTrue (le_z a b) → c ≤ℤ d
-le_test a b c d e f t = let h : le_z a b ≡ true = true_is _ t in grind (arith, ints) where
-  true_is : (b : Bool) → IsTrue b → b ≡ true
-  true_is b h = search rules
-
-pub test_le : (a b c d : ℤ) → a ≡ c → b ≡ d → c ≤ℤ d → IsTrue (le_z a b)
-test_le a b c d e f h = let t : le_z a b ≡ true = grind (arith, ints) in search (rules, t)

@@ -11,7 +11,7 @@ use Rattle.dpl_cell.specs.Cells.{IsIn}
 use Rattle.dpl_cell.specs.Gaps.{between, AreClose}
 use Rattle.dpl_near.specs.Bounds.{bounds_of}
 use Rattle.dpl_near.specs.Near.{IsNear, MayBeNear}
-use Rattle.dpl_near.proofs.WalkLemmas.{signed}
+use Rattle.dpl_list.proofs.Integers.{signed}
 
 -- ---- rectangles closer than the reach have bounds that meet those of one, widened
 

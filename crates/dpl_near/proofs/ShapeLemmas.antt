@@ -15,7 +15,8 @@ use Rattle.dpl_near.specs.Shapes.{AreShapes}
 use Rattle.dpl_classes.specs.Chains.{IsChain, AreLinked}
 use Rattle.dpl_classes.specs.Classes.{AreClasses}
 use Rattle.dpl_classes.proofs.ChainLemmas.{link_here, link_on, link_pair, link_back}
-use Rattle.dpl_near.proofs.WalkLemmas.{signed, walk_start, joined_on, joined_step, joined_back, neighbours_back, along_row, along_column, steps}
+use Rattle.dpl_list.proofs.Integers.{signed}
+use Rattle.dpl_near.proofs.WalkLemmas.{walk_start, joined_on, joined_step, joined_back, neighbours_back, along_row, along_column, steps}
 
 -- ---- walks within rectangles
 

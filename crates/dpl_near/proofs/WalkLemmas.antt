@@ -1,11 +1,9 @@
 -- Walks from cell to cell.
-use Rattle.std.proofs.Common.{arith, ◌≡◌, ℕ, zero, suc, ◌+◌, ◌≤◌, ℤ, pos, ◌+ℤ◌, ◌-ℤ◌, ◌≤ℤ◌, List, refl, subst, ◌∷◌, [], ◌++◌, Bool, IsTrue}
+use Rattle.std.proofs.Common.{◌≡◌, ℕ, zero, suc, ℤ, pos, ◌+ℤ◌, ◌-ℤ◌, ◌≤ℤ◌, List, refl, subst, ◌∷◌, [], ◌++◌, Bool, IsTrue}
 use Rattle.std.specs.Int.RustNames.{unsigned_abs}
-use Rattle.std.proofs.lemmas.Int.{ints, clamps}
 use Rattle.dpl_cell.specs.Edges.{AreNeighbours}
 use Rattle.dpl_cell.specs.Shapes.{IsWalk, AreOneShape}
-
-pub ruleset signed = (arith, ints, clamps)
+use Rattle.dpl_list.proofs.Integers.{signed}
 
 pub walk_start : (cells : ℤ → ℤ → Bool) (x y : ℤ) (cs : List (ℤ × ℤ)) (x' y' : ℤ) → IsWalk cells x y cs x' y' → IsTrue (cells x y)
 walk_start cells x y [] x' y' (h, e, f) = h

@@ -12,11 +12,11 @@ use Rattle.dpl_cell.specs.Cells.{IsWithin}
 use Rattle.dpl_cell.specs.Outlines.{outline_of}
 use Rattle.dpl_cell.specs.Layers.{is_cell}
 use Rattle.dpl_cell.specs.Tiles.{IsRun}
-use Rattle.dpl_tiles.specs.Stretches.{Ascends}
+use Rattle.dpl_list.specs.Order.{Ascends}
 use Rattle.dpl_tiles.specs.Bands.{HasCorners, HasOrdinates}
 use Rattle.dpl_tiles.specs.Sweeps.{AreSwept}
 use Rattle.dpl_cell.proofs.BoxLemmas.{equal_z}
-use Rattle.dpl_tiles.proofs.Signed.{signed}
+use Rattle.dpl_list.proofs.Integers.{signed}
 use Rattle.dpl_tiles.proofs.OutlineLemmas.{AllRows, Agrees, Lies, layer_same, no_row, at_most, above}
 use Rattle.dpl_tiles.proofs.BoundLemmas.{bounded}
 use Rattle.dpl_tiles.proofs.EndLemmas.{IsTop, no_run}

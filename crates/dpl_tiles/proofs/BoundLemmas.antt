@@ -12,7 +12,7 @@ use Rattle.dpl_cell.specs.Cells.{IsWithin}
 use Rattle.dpl_cell.specs.Ranges.{IsInRange}
 use Rattle.dpl_cell.specs.Outlines.{Outline, Box, Polygon, outline_of}
 use Rattle.dpl_cell.specs.Layers.{is_cell}
-use Rattle.dpl_tiles.proofs.Signed.{signed}
+use Rattle.dpl_list.proofs.Integers.{signed}
 use Rattle.dpl_tiles.proofs.OutlineLemmas.{AllRows, AllColumns, Lies, no_row, no_column, at_most, above}
 
 -- ---- bounds

@@ -17,7 +17,7 @@ use Rattle.dpl_tiles.specs.Bounds.{SpansColumns}
 use Rattle.dpl_tiles.specs.Corners.{IsCornerOf, SpansSide, IsEndOf, HasSides, HasCornersOf, AreCorners, AreCornersAt}
 use Rattle.dpl_tiles.specs.Clusters.{AreChanges}
 use Rattle.dpl_cell.proofs.BoxLemmas.{equal_z}
-use Rattle.dpl_tiles.proofs.Signed.{signed}
+use Rattle.dpl_list.proofs.Integers.{signed}
 use Rattle.dpl_tiles.proofs.SideLemmas.{bit, spans_parity}
 use Rattle.dpl_tiles.proofs.OutlineLemmas.{AllColumns, Agrees, Lies, side_same, outline_same, outline_past, at_most, above}
 

@@ -18,7 +18,7 @@ use Rattle.dpl_tiles.specs.Sweeps.{IsSameStack, IsStep}
 use Rattle.dpl_tiles.specs.Windows.{IsChange, IsFar, IsParted, AreNearRuns, IsContinued, IsClosed, AddsClosed}
 use Rattle.dpl_tiles.specs.Clusters.{passed, AreChanges, IsCluster, IsPassed}
 use Rattle.dpl_list.proofs.Lists.{any_head, any_tail, some_of}
-use Rattle.dpl_tiles.proofs.Signed.{signed}
+use Rattle.dpl_list.proofs.Integers.{signed}
 use Rattle.dpl_tiles.proofs.BoundLemmas.{IsBounded, bounded}
 use Rattle.dpl_tiles.proofs.UnionLemmas.{run_around}
 use Rattle.dpl_tiles.proofs.NearLemmas.{near_ends}

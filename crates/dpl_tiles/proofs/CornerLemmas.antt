@@ -15,11 +15,11 @@ use Rattle.dpl_cell.specs.declared.point.Point.{Point}
 use Rattle.dpl_cell.specs.declared.layout.Primitive.{Primitive}
 use Rattle.dpl_cell.specs.declared.layout.Primitive.TheVariants as prim
 use Rattle.dpl_tiles.specs.declared.corners.Corner.{Corner}
-use Rattle.dpl_tiles.specs.Stretches.{Ascends}
+use Rattle.dpl_list.specs.Order.{Ascends}
 use Rattle.dpl_tiles.specs.Corners.{IsCornerOf, SpansSide, IsEndOf, HasSide, HasSides, HasCornersOf, AreWithin, AddsCorners, AddsSide, AreBetween, AreCornersAt, ComesBefore}
 use Rattle.dpl_tiles.specs.Clusters.{IsCluster}
 use Rattle.dpl_cell.proofs.BoxLemmas.{equal_z}
-use Rattle.dpl_tiles.proofs.Signed.{signed}
+use Rattle.dpl_list.proofs.Integers.{signed}
 use Rattle.dpl_list.proofs.Lists.{any_right, any_contains}
 
 -- ---- a longer list has what the shorter one has

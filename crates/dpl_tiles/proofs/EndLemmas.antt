@@ -1,8 +1,7 @@
 -- The stacks that end at a row, closed one after the other, and all of them at the top.
-use Rattle.std.proofs.Common.{Option, Some, None, MatchOption}
+use Rattle.std.proofs.Common.{Option, Some, None, MatchOption, arith, rules, ◌≡◌, ◌⊎◌, ◌∙◌, ℕ, ◌+◌, ◌<◌, ◌≤◌, ◌^◌, ℤ, pos, neg_ℤ, ◌+ℤ◌, ◌-ℤ◌, ◌<ℤ◌, ◌≤ℤ◌, List, length, get_or, take, filter, All, Any, refl, sym, ap, inl, inr, [], ◌∷◌, ◌++◌, Bool, true, false, not, append_assoc, append-nil, IsTrue}
 use Rattle.std.specs.Option.{is_some}
 use Rattle.std.proofs.lemmas.List.{get_or_default}
-use Rattle.std.proofs.Common.{arith, rules, ◌≡◌, ◌∙◌, ℕ, ◌+◌, ◌<◌, ◌≤◌, ◌^◌, ℤ, pos, neg_ℤ, ◌+ℤ◌, ◌-ℤ◌, ◌<ℤ◌, ◌≤ℤ◌, List, length, get_or, take, Any, refl, sym, inl, inr, [], ◌∷◌, ◌++◌, Bool, true, false, not, append_assoc, append-nil, IsTrue}
 use Rattle.std.specs.List.{AllZip}
 use Rattle.std.proofs.lemmas.Int.{by_lt_z}
 use Rattle.dpl_cell.specs.declared.rect.Rect.{Rect}
@@ -11,7 +10,7 @@ use Rattle.dpl_tiles.specs.Bands.{HasColumns}
 use Rattle.dpl_tiles.specs.Stacks.{goes_on, ending, AreAllTiles, IsPlaceOf}
 use Rattle.dpl_tiles.specs.Sweeps.{AreSwept, IsStep}
 use Rattle.dpl_tiles.specs.Windows.{AddsClosed, IsClosed, IsFar}
-use Rattle.dpl_tiles.proofs.Signed.{signed}
+use Rattle.dpl_list.proofs.Integers.{signed}
 use Rattle.dpl_list.proofs.Zips.{zip_kept, zip_left_out, zip_all_kept}
 use Rattle.dpl_tiles.proofs.StackLemmas.{goes_on_none, goes_on_some}
 use Rattle.dpl_tiles.proofs.BoundLemmas.{IsBounded}

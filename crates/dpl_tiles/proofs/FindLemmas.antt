@@ -1,6 +1,5 @@
 -- Rectangles that are looked up by their columns.
-use Rattle.std.proofs.Common.{arith, ◌≡◌, ℕ, ◌+◌, ◌<◌, ℤ, ◌<ℤ◌, List, length, get_or, ◌∙◌, AllPairs, Any, refl, sym, ap, inl, inr, false, Ordering}
-use Rattle.std.proofs.Common.{Less, Equal, Greater}
+use Rattle.std.proofs.Common.{arith, ◌≡◌, ℕ, ◌+◌, ◌<◌, ℤ, ◌<ℤ◌, List, length, get_or, ◌∙◌, AllPairs, Any, refl, sym, ap, inl, inr, false, Ordering, Less, Equal, Greater}
 use Rattle.std.specs.Ordering.{int_cmp, is_lt, MatchOrdering, ordering_index}
 use Rattle.std.specs.Cmp.{int_ranks}
 use Rattle.std.specs.List.Sorted.{IsSortedBy, IsPartitionPoint, IsNonDecreasingBy}
@@ -10,7 +9,7 @@ use Rattle.std.proofs.lemmas.List.{get_or_default}
 use Rattle.std.proofs.lemmas.List.Sorted.{searchable_from_sorted}
 use Rattle.dpl_cell.specs.declared.rect.Rect.{Rect}
 use Rattle.dpl_tiles.specs.Bands.{HasColumns, IsLeftOf}
-use Rattle.dpl_tiles.proofs.Signed.{signed}
+use Rattle.dpl_list.proofs.Integers.{signed}
 use Rattle.dpl_cell.proofs.BoxLemmas.{three}
 
 by_order : (P Q R : Type 0) (r s : Ordering) → MatchOrdering r P Q R → r ≡ s → MatchOrdering s P Q R

@@ -15,7 +15,7 @@ use Rattle.dpl_cell.specs.Outlines.{outline_of}
 use Rattle.dpl_cell.specs.Layers.{is_cell, is_in_outline}
 use Rattle.dpl_tiles.specs.Bounds.{LiesIn, HoldsCorners}
 use Rattle.dpl_tiles.specs.Windows.{IsOutside}
-use Rattle.dpl_tiles.proofs.Signed.{signed}
+use Rattle.dpl_list.proofs.Integers.{signed}
 use Rattle.dpl_tiles.proofs.OutlineLemmas.{AllRows, Lies, outline_none, outline_past, at_most, above}
 use Rattle.dpl_tiles.proofs.StretchLemmas.{in_parts}
 use Rattle.dpl_tiles.proofs.ChangeLemmas.{columns_past}

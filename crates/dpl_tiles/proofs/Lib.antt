@@ -1,4 +1,3 @@
-pub mod Signed
 pub mod StretchLemmas
 pub mod RunLemmas
 pub mod SideLemmas

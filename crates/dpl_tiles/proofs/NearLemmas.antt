@@ -8,12 +8,13 @@ use Rattle.std.proofs.lemmas.Int.{by_lt_z, ints}
 use Rattle.dpl_cell.specs.declared.rect.Rect.{Rect}
 use Rattle.dpl_cell.specs.Cells.{IsWithin}
 use Rattle.dpl_cell.specs.Tiles.{IsRun}
-use Rattle.dpl_tiles.specs.declared.stretch.Stretch.{Stretch}
-use Rattle.dpl_tiles.specs.Stretches.{is_in_stretches, AreSeparate, IsRow}
+use Rattle.dpl_cell.specs.declared.stretch.Stretch.{Stretch}
+use Rattle.dpl_cell.specs.Stretches.{is_in_stretches, AreSeparate}
+use Rattle.dpl_tiles.specs.Stretches.{IsRow}
 use Rattle.dpl_tiles.specs.Bands.{HasColumns, IsLeftOf, IsOver}
 use Rattle.dpl_tiles.specs.Windows.{IsFar, AreNearRuns, is_near}
 use Rattle.dpl_cell.proofs.BoxLemmas.{is_true, true_is}
-use Rattle.dpl_tiles.proofs.Signed.{signed}
+use Rattle.dpl_list.proofs.Integers.{signed}
 use Rattle.dpl_list.proofs.Zips.{zip_at, zip_length}
 use Rattle.dpl_list.proofs.Lists.{kept_by}
 use Rattle.dpl_tiles.proofs.BoundLemmas.{IsBounded}

@@ -10,7 +10,7 @@ use Rattle.dpl_cell.specs.declared.layout.Primitive.{Primitive}
 use Rattle.dpl_cell.specs.declared.layout.Primitive.TheVariants as prim
 use Rattle.dpl_cell.specs.Ranges.{IsInRange}
 use Rattle.dpl_tiles.specs.Bands.{HasCorners, HasOrdinates, AddsOrdinates}
-use Rattle.dpl_tiles.proofs.Signed.{signed}
+use Rattle.dpl_list.proofs.Integers.{signed}
 
 pub corners_kept : (old new : List ℤ) (part : Primitive) → ((z : ℤ) → Contains old z → Contains new z) → HasCorners old part → HasCorners new part
 corners_kept old new (prim.Box r) f (a, b) = (f r.y1 a, f r.y2 b)

@@ -5,12 +5,14 @@ use Rattle.std.proofs.lemmas.List.{take_all}
 use Rattle.std.proofs.lemmas.List.Elements.{All-tail, All-head}
 use Rattle.dpl_cell.specs.Ranges.{IsInRange}
 use Rattle.dpl_cell.specs.Layers.{is_within}
-use Rattle.dpl_tiles.specs.declared.stretch.Stretch.{Stretch}
-use Rattle.dpl_tiles.specs.Stretches.{is_in_stretches, Ascends, AddsPlaces}
+use Rattle.dpl_cell.specs.declared.stretch.Stretch.{Stretch}
+use Rattle.dpl_cell.specs.Stretches.{is_in_stretches}
+use Rattle.dpl_list.specs.Order.{Ascends}
+use Rattle.dpl_tiles.specs.Stretches.{AddsPlaces}
 use Rattle.dpl_tiles.specs.Sides.{at_or_left}
-use Rattle.std.proofs.Math.Bool.{or-false}
-use Rattle.dpl_tiles.proofs.Signed.{signed, or_assoc, within_none}
-use Rattle.dpl_tiles.proofs.StretchLemmas.{in_pushed}
+use Rattle.std.proofs.Math.Bool.{or-false, or_assoc}
+use Rattle.dpl_list.proofs.Integers.{signed}
+use Rattle.dpl_cell.proofs.StretchLemmas.{within_none, in_pushed}
 use Rattle.dpl_tiles.proofs.SideLemmas.{bit, left_cons}
 
 -- nothing stands left of numbers that are greater

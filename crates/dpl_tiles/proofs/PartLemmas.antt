@@ -9,9 +9,9 @@ use Rattle.dpl_index.specs.Meetings.{IsMeeting, AreMeeting}
 use Rattle.dpl_cell.specs.declared.layout.Primitive.{Primitive}
 use Rattle.dpl_cell.specs.Outlines.{outline_of}
 use Rattle.dpl_cell.specs.Layers.{is_cell, is_in_outline}
-use Rattle.dpl_tiles.specs.declared.stretch.Stretch.{Stretch}
+use Rattle.dpl_cell.specs.declared.stretch.Stretch.{Stretch}
 use Rattle.dpl_tiles.specs.Bounds.{HoldsCorners, AreBoundsOf}
-use Rattle.dpl_tiles.specs.Stretches.{is_in_stretches}
+use Rattle.dpl_cell.specs.Stretches.{is_in_stretches}
 use Rattle.dpl_tiles.proofs.StretchLemmas.{in_parts}
 use Rattle.dpl_tiles.proofs.IndexLemmas.{held, meets_there}
 

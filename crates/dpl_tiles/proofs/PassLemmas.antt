@@ -11,7 +11,7 @@ use Rattle.dpl_tiles.specs.Windows.{IsChange, IsFar}
 use Rattle.dpl_tiles.specs.Clusters.{passed, AreChanges, IsStepUpTo, IsPassed}
 use Rattle.dpl_list.proofs.Integers.{less_test, no_less_test}
 use Rattle.dpl_list.proofs.Lists.{any_left, any_right, all_pairs_append}
-use Rattle.dpl_tiles.proofs.Signed.{signed}
+use Rattle.dpl_list.proofs.Integers.{signed}
 use Rattle.dpl_tiles.proofs.StackLemmas.{AreAlike, run_same}
 use Rattle.dpl_tiles.proofs.UnionLemmas.{run_or_not}
 use Rattle.dpl_tiles.proofs.WindowLemmas.{run_up, run_down}

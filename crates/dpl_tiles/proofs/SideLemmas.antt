@@ -10,8 +10,9 @@ use Rattle.dpl_cell.specs.declared.point.Point.{Point}
 use Rattle.dpl_cell.specs.Places.{place_of}
 use Rattle.dpl_cell.specs.Ranges.{IsInRange}
 use Rattle.dpl_cell.specs.Layers.{is_left_side, left_sides, is_in_polygon}
-use Rattle.dpl_tiles.specs.declared.stretch.Stretch.{Stretch}
-use Rattle.dpl_tiles.specs.Stretches.{is_in_stretches, AddsPlaces}
+use Rattle.dpl_cell.specs.declared.stretch.Stretch.{Stretch}
+use Rattle.dpl_cell.specs.Stretches.{is_in_stretches}
+use Rattle.dpl_tiles.specs.Stretches.{AddsPlaces}
 use Rattle.dpl_tiles.specs.Sides.{AreCrossings, spans, sides_of, at_or_left}
 
 -- 1 for true

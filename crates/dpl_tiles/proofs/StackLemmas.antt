@@ -9,7 +9,7 @@ use Rattle.dpl_cell.specs.Cells.{IsWithin}
 use Rattle.dpl_cell.specs.Tiles.{IsRun}
 use Rattle.dpl_tiles.specs.Bands.{HasColumns, IsLeftOf}
 use Rattle.dpl_tiles.specs.Stacks.{goes_on}
-use Rattle.dpl_tiles.proofs.Signed.{signed}
+use Rattle.dpl_list.proofs.Integers.{signed}
 use Rattle.dpl_cell.proofs.BoxLemmas.{three}
 
 -- ---- which stacks go on

@@ -12,7 +12,7 @@ use Rattle.dpl_tiles.specs.Bands.{HasColumns, IsLeftOf}
 use Rattle.dpl_tiles.specs.Stacks.{goes_on, ending}
 use Rattle.dpl_tiles.specs.Sweeps.{IsHeld, AreHeld, IsSameStack, IsNew, IsStep}
 use Rattle.dpl_tiles.specs.Windows.{IsChange, IsFar, AreNearRuns, IsContinued, IsClosed}
-use Rattle.dpl_tiles.proofs.Signed.{signed}
+use Rattle.dpl_list.proofs.Integers.{signed}
 use Rattle.dpl_list.proofs.Zips.{zip_at, zip_length}
 use Rattle.dpl_list.proofs.Lists.{any_left, any_right, all_pairs_append, kept_by}
 use Rattle.dpl_tiles.proofs.StackLemmas.{goes_on_none, none_goes_on, one_place, run_same}

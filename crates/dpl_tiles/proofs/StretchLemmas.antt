@@ -1,48 +1,33 @@
 -- Stretches of one row that are gathered, sorted and merged.
-use Rattle.std.proofs.Common.{arith, ◌≡◌, ℕ, suc, ◌+◌, ◌<◌, ◌≤◌, ℤ, ◌<ℤ◌, ◌≤ℤ◌, List, length, get_or, take, ◌∙◌, All, sym, ap, ◌∷◌, [], ◌++◌, ◌⊎◌, false, ◌||◌, Ordering, map}
-use Rattle.std.proofs.Common.{Less, Equal, Greater}
-use Rattle.std.specs.Ordering.{int_cmp, is_lt, MatchOrdering}
+use Rattle.std.proofs.Common.{arith, ◌≡◌, ℕ, ◌+◌, ◌<◌, ◌≤◌, ℤ, ◌<ℤ◌, ◌≤ℤ◌, List, length, get_or, take, ◌∙◌, All, sym, ap, ◌∷◌, [], ◌++◌, ◌⊎◌, false, ◌||◌, map}
 use Rattle.std.specs.Int.{int_max}
-use Rattle.std.specs.Cmp.{int_ranks}
 use Rattle.std.specs.List.{list_any}
-use Rattle.std.specs.List.Sorted.{IsSortedByKey}
-use Rattle.std.proofs.lemmas.Cmp.{int_cmp_total}
 use Rattle.std.proofs.lemmas.Int.{ints, clamps}
 use Rattle.std.proofs.lemmas.List.{get_or_default, take_all}
 use Rattle.std.proofs.lemmas.List.Elements.{All-push, All-weaker}
-use Rattle.std.proofs.lemmas.List.Folds.{list_any-append, list_any_more}
+use Rattle.std.proofs.lemmas.List.Folds.{list_any_more}
 use Rattle.std.proofs.lemmas.List.Quantifiers.{all_pairs_push}
-use Rattle.std.proofs.lemmas.List.Sorted.{sorted_far, ranks_by}
 use Rattle.dpl_cell.specs.declared.layout.Primitive.{Primitive}
 use Rattle.dpl_cell.specs.Places.{Corners}
 use Rattle.dpl_cell.specs.Outlines.{outline_of}
 use Rattle.dpl_cell.proofs.LayerLemmas.{list_any-map}
 use Rattle.dpl_cell.specs.Layers.{is_within, is_in_box, is_in_outline, is_cell}
-use Rattle.dpl_tiles.specs.declared.stretch.Stretch.{Stretch}
-use Rattle.dpl_tiles.specs.Stretches.{is_in_stretches, AreSeparate, Ascends, AddsPlaces}
-use Rattle.std.proofs.Math.Bool.{or-false}
-use Rattle.dpl_tiles.proofs.Signed.{signed, or_assoc}
+use Rattle.dpl_cell.specs.declared.stretch.Stretch.{Stretch}
+use Rattle.dpl_cell.specs.Stretches.{is_in_stretches, AreSeparate}
+use Rattle.dpl_list.specs.Order.{Ascends}
+use Rattle.dpl_tiles.specs.Stretches.{AddsPlaces}
+use Rattle.std.proofs.Math.Bool.{or-false, or_assoc}
+use Rattle.dpl_list.proofs.Integers.{signed}
+use Rattle.dpl_cell.proofs.StretchLemmas.{in_pushed}
 
 pub joined_places : (a b c d x : ℤ) → a ≤ℤ c → c ≤ℤ b → is_within a (int_max b d) x ≡ (is_within a b x || is_within c d x)
 joined_places a b c d x h g = grind (arith, ints, clamps)
-
-pub in_pushed : (parts : List Stretch) (s : Stretch) (x : ℤ) → is_in_stretches (parts ++ s ∷ []) x ≡ (is_in_stretches parts x || is_within s.from s.to x)
-in_pushed parts s x = list_any-append (λ s. is_within s.from s.to x) parts (s ∷ []) ∙ ap (λ b. is_in_stretches parts x || b) (or-false (is_within s.from s.to x))
 
 pub box_in_row : (r : Corners) (x y : ℤ) → r.y1 ≤ℤ y → y <ℤ r.y2 → is_in_box r x y ≡ is_within r.x1 r.x2 x
 box_in_row r x y h g = grind (arith, ints)
 
 pub box_past_row : (r : Corners) (x y : ℤ) → ¬ (r.y1 ≤ℤ y) ⊎ ¬ (y <ℤ r.y2) → is_in_box r x y ≡ false
 box_past_row r x y h = grind (arith, ints)
-
-ranked_low : (x y : ℤ) (r : Ordering) → MatchOrdering r (x <ℤ y) (x ≡ y) (y <ℤ x) → is_lt r ≡ false → y ≤ℤ x
-ranked_low x y Less m e = cc
-ranked_low x y Equal m e = omega signed
-ranked_low x y Greater m e = omega signed
-
-pub ascends_from_sorted : {X : Type 0} (key : X → ℤ) (xs : List X) → IsSortedByKey key int_cmp xs → Ascends key xs
-ascends_from_sorted {X} key xs s i j d h l =
-    ranked_low (key (get_or xs j d)) (key (get_or xs i d)) _ (int_ranks (key (get_or xs j d)) (key (get_or xs i d))) (sorted_far (λ x y. is_lt (int_cmp (key x) (key y))) (ranks_by int_cmp_total key) xs s i j d h l)
 
 -- the places of the first i stretches behind the first: what is finished, and what is open
 pub record Merging (first : Stretch) (rest : List Stretch) (i : ℕ) (merged : List Stretch) (last : Stretch) : Type 0 where
@@ -85,12 +70,6 @@ pub pushed_box : (parts new : List Stretch) (s : Stretch) (r : Corners) (y : ℤ
 pushed_box parts new s r y e f g low high = λ x.
     let h : is_within s.from s.to x ≡ is_in_box r x y = rw (f, g) (sym (box_in_row r x y low high)) in
     rw e (in_pushed parts s x ∙ ap (λ b. is_in_stretches parts x || b) h)
-
-pub ascends_tail : (s : Stretch) (rest parts : List Stretch) → parts ≡ s ∷ rest → Ascends (λ s. s.from) parts → Ascends (λ s. s.from) rest
-ascends_tail s rest parts e a i j d h l = let a' : Ascends (λ s. s.from) (s ∷ rest) = rw e at a in a' (suc i) (suc j) d (omega arith) (omega arith)
-
-pub ascends_head : (s : Stretch) (rest parts : List Stretch) → parts ≡ s ∷ rest → Ascends (λ s. s.from) parts → All (λ t. s.from ≤ℤ t.from) rest
-ascends_head s rest parts e a k d l = let a' : Ascends (λ s. s.from) (s ∷ rest) = rw e at a in a' 0 (suc k) d (omega arith) (omega arith)
 
 pub merging_end : (first : Stretch) (rest : List Stretch) (i : ℕ) (merged new : List Stretch) (last : Stretch) → length rest ≤ i → Merging first rest i merged last → new ≡ merged ++ last ∷ []
     → (x : ℤ) → is_in_stretches new x ≡ (is_within first.from first.to x || is_in_stretches rest x)

@@ -8,8 +8,9 @@ use Rattle.dpl_cell.specs.Tiles.{IsRun, IsTile, AreTiles}
 use Rattle.dpl_tiles.specs.Union.{SharesOut}
 use Rattle.std.specs.Cmp.{both_ways}
 use Rattle.dpl_cell.proofs.BoxLemmas.{is_true, true_is, drawn_any, any_drawn, never_before}
-use Rattle.dpl_tiles.proofs.Signed.{signed}
-use Rattle.dpl_tiles.proofs.TileLemmas.{one_tile, one_run}
+use Rattle.dpl_list.proofs.Integers.{signed}
+use Rattle.dpl_tiles.proofs.TileLemmas.{one_tile}
+use Rattle.dpl_cell.proofs.StretchLemmas.{one_maximal}
 use Rattle.dpl_tiles.proofs.BoundLemmas.{IsBounded, around}
 
 -- ---- a cell lies in a run, and a run in a tile
@@ -94,7 +95,7 @@ held_cell cells tiles a x y (k, r, l, e, i) =
 -- two tiles that share a cell are the same
 shared : (cells : ℤ → ℤ → Bool) (a b : Corners) → IsTile cells a → IsTile cells b → SharesCell (IsIn a) (IsIn b) → a ≡ b
 shared cells a b s t c =
-    let (e, f) = one_run cells a.x1 a.x2 b.x1 b.x2 c.x c.y (s.rows c.y c.first.row) (t.rows c.y c.second.row) c.first.column c.second.column in
+    let (e, f) = one_maximal (λ x. IsTrue (cells x c.y)) a.x1 a.x2 b.x1 b.x2 c.x (s.rows c.y c.first.row) (t.rows c.y c.second.row) c.first.column c.second.column in
     one_tile cells a b c.y s t e f c.first.row c.second.row
 
 pub shares_out : (cells : ℤ → ℤ → Bool) (tiles : List Corners) → IsBounded cells → AreTiles cells tiles → SharesOut cells tiles

@@ -8,7 +8,7 @@ use Rattle.dpl_cell.specs.declared.rect.Rect.{Rect}
 use Rattle.dpl_cell.specs.Tiles.{IsRun}
 use Rattle.dpl_tiles.specs.Bands.{IsLeftOf}
 use Rattle.dpl_tiles.specs.Windows.{IsOutside, IsChange, IsFar}
-use Rattle.dpl_tiles.proofs.Signed.{signed}
+use Rattle.dpl_list.proofs.Integers.{signed}
 use Rattle.dpl_list.proofs.Integers.{less_test, is_less}
 
 -- a column of far columns, or right beside them, is outside

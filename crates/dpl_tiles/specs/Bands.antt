@@ -5,7 +5,7 @@ use Rattle.dpl_cell.specs.declared.layout.Primitive.{Primitive}
 use Rattle.dpl_cell.specs.declared.layout.Primitive.TheVariants as prim
 use Rattle.dpl_cell.specs.Ranges.{IsInRange}
 use Rattle.dpl_cell.specs.Tiles.{IsRun}
-use Rattle.dpl_tiles.specs.declared.stretch.Stretch.{Stretch}
+use Rattle.dpl_cell.specs.declared.stretch.Stretch.{Stretch}
 
 -- the list has the ordinates of a primitive's corners
 abbrev pub HasCorners : List ℤ → Primitive → Type 0

@@ -2,7 +2,7 @@
 use Rattle.std.specs.Prelude.{◌≡◌, ◌⊎◌, ℕ, ◌≤◌, ◌<◌, ℤ, pos, ◌-ℤ◌, ◌<ℤ◌, ◌≤ℤ◌, List, Bool, All, Any, ◌++◌, length, slice_index_or, if◌then◌else◌, int_lt}
 use Rattle.dpl_cell.specs.declared.rect.Rect.{Rect}
 use Rattle.dpl_tiles.specs.declared.corners.Corner.{Corner}
-use Rattle.dpl_tiles.specs.Stretches.{Ascends}
+use Rattle.dpl_list.specs.Order.{Ascends}
 use Rattle.dpl_tiles.specs.Sweeps.{AreSwept, IsSameStack, IsStep}
 use Rattle.dpl_tiles.specs.Windows.{IsOutside}
 

@@ -4,7 +4,7 @@ use Rattle.dpl_cell.specs.declared.point.Point.{Point}
 use Rattle.dpl_cell.specs.declared.layout.Primitive.{Primitive}
 use Rattle.dpl_cell.specs.declared.layout.Primitive.TheVariants as prim
 use Rattle.dpl_tiles.specs.declared.corners.Corner.{Corner}
-use Rattle.dpl_tiles.specs.Stretches.{Ascends}
+use Rattle.dpl_list.specs.Order.{Ascends}
 
 -- a corner at row z with the columns from a to b
 pub record IsCornerOf (z a b : ℤ) (c : Corner) : Type 0 where

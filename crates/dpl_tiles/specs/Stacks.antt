@@ -1,12 +1,12 @@
 -- Stacks of equal runs that are built up band by band.
-use Rattle.std.specs.Prelude.{◌≡◌, ◌⊎◌, ℕ, ℤ, pos, ◌-ℤ◌, ◌<ℤ◌, ◌≤ℤ◌, ◌<◌, ◌&&◌, not, List, Bool, All, Any, AllPairs, length, slice_index_or, filter}
+use Rattle.std.specs.Prelude.{◌≡◌, ◌⊎◌, ℕ, ℤ, ◌<ℤ◌, ◌<◌, ◌&&◌, not, List, Bool, All, Any, AllPairs, length, slice_index_or, filter}
 use Rattle.std.specs.Ordering.{int_eq}
 use Rattle.std.specs.List.{list_any}
 use Rattle.dpl_cell.specs.declared.rect.Rect.{Rect}
 use Rattle.dpl_cell.specs.Cells.{IsWithin}
 use Rattle.dpl_cell.specs.Places.{corners_of}
 use Rattle.dpl_cell.specs.Tiles.{IsRun, IsTile}
-use Rattle.dpl_tiles.specs.Bands.{HasColumns, IsLeftOf}
+use Rattle.dpl_tiles.specs.Bands.{HasColumns}
 
 -- the rectangle holds these columns and this row
 pub record IsPieceAt (x1 x2 y : ℤ) (r : Rect) : Type 0 where
@@ -28,10 +28,6 @@ pub record AreAllTiles (cells : ℤ → ℤ → Bool) (rects : List Rect) : Type
   pub each : All (λ r. IsTile cells (corners_of r)) rects
   pub whole : (x1 x2 y : ℤ) → IsRun cells x1 x2 y → Any (IsPieceAt x1 x2 y) rects
   pub ordered : AllPairs EndsBefore rects
-
--- the second does not stand before the first: it is higher, or at one height and not further left
-abbrev pub IsNotAfter : Rect → Rect → Type 0
-IsNotAfter a b = (a.y1 <ℤ b.y1) ⊎ ((a.y1 ≡ b.y1) × (a.x1 ≤ℤ b.x1))
 
 -- a rectangle at the place of the list has these columns
 abbrev pub IsPlaceOf : List Rect → Rect → ℕ → Type 0

@@ -3,7 +3,7 @@ use Rattle.std.specs.Prelude.{◌≡◌, ◌⊎◌, ℤ, ◌<ℤ◌, ◌≤ℤ�
 use Rattle.std.specs.List.{AllZip}
 use Rattle.dpl_cell.specs.declared.rect.Rect.{Rect}
 use Rattle.dpl_cell.specs.Tiles.{IsRun}
-use Rattle.dpl_tiles.specs.declared.stretch.Stretch.{Stretch}
+use Rattle.dpl_cell.specs.declared.stretch.Stretch.{Stretch}
 use Rattle.dpl_tiles.specs.Bands.{HasColumns, IsLeftOf}
 
 -- the column lies outside the columns from d1 to d2, d2 left out

@@ -1,7 +1,7 @@
 // The corners of primitives row by row from the left, each with the columns of a side that ends there.
 ghost use Rattle.std.specs.Prelude.{◌≡◌, ℤ, ◌≤ℤ◌, ◌<ℤ◌, ℕ, ◌<◌, ◌≤◌, length, slice_index_or, All, AllPairs, IfOk, OnOk, ◌∷◌};
 ghost use Rattle.dpl_cell.specs.declared.layout.Primitive.TheVariants as prim;
-ghost use Rattle.dpl_tiles.specs.Stretches.{Ascends};
+ghost use Rattle.dpl_list.specs.Order.{Ascends};
 ghost use Rattle.dpl_tiles.specs.Corners.{AddsCorners, AddsSide, AreBetween, AreCorners, AreCornersAt, ComesBefore, HasCornersOf, IsCornerOf, SpansSide};
 
 use crate::columns::{Columns, Places, greater, lesser};

@@ -2,11 +2,11 @@ ghost use Rattle.std.specs.Prelude.{◌≡◌, ℕ, ℤ, IfOk, OnOk, ◌==◌, �
 ghost use Rattle.dpl_cell.specs.Places.{place_of};
 ghost use Rattle.dpl_cell.specs.Ranges.{IsInRange};
 ghost use Rattle.dpl_cell.specs.Layers.{is_in_polygon};
-ghost use Rattle.dpl_tiles.specs.Stretches.{Ascends, AddsPlaces};
+ghost use Rattle.dpl_list.specs.Order.{Ascends};
+ghost use Rattle.dpl_tiles.specs.Stretches.{AddsPlaces};
 ghost use Rattle.dpl_tiles.specs.Sides.{AreCrossings, spans, at_or_left};
 
-use crate::stretch::Stretch;
-use dpl_cell::Point;
+use dpl_cell::{Point, Stretch};
 use std::alloc::{AllocError, Global};
 
 /// Adds the cells of a polygon in one row: those between its sides, taken in pairs from the left.

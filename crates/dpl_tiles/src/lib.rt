@@ -15,7 +15,6 @@ mod laws;
 mod ordinates;
 mod rows;
 mod stacking;
-mod stretch;
 mod sweeping;
 mod tiling;
 

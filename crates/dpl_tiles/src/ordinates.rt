@@ -1,7 +1,7 @@
 ghost use Rattle.std.specs.Prelude.{◌≡◌, ℤ, IfOk, OnOk, All};
 ghost use Rattle.dpl_cell.specs.declared.layout.Primitive.TheVariants as prim;
 ghost use Rattle.dpl_cell.specs.Ranges.{IsInRange};
-ghost use Rattle.dpl_tiles.specs.Stretches.{Ascends};
+ghost use Rattle.dpl_list.specs.Order.{Ascends};
 ghost use Rattle.dpl_tiles.specs.Bands.{HasOrdinates, AddsOrdinates};
 
 use dpl_cell::{Point, Prim, Rect};

@@ -2,11 +2,12 @@ ghost use Rattle.std.specs.Prelude.{◌≡◌, ℤ, ◌≤ℤ◌, IfOk, OnOk, �
 ghost use Rattle.dpl_cell.specs.Places.{corners_of};
 ghost use Rattle.dpl_cell.specs.Outlines.{outline_of};
 ghost use Rattle.dpl_cell.specs.Layers.{is_in_outline, is_in_box, is_within};
-ghost use Rattle.dpl_tiles.specs.Stretches.{AreSeparate, is_in_stretches, Ascends, AddsPlaces};
+ghost use Rattle.dpl_cell.specs.Stretches.{AreSeparate, is_in_stretches};
+ghost use Rattle.dpl_list.specs.Order.{Ascends};
+ghost use Rattle.dpl_tiles.specs.Stretches.{AddsPlaces};
 
 use crate::crossing::push_polygon;
-use crate::stretch::Stretch;
-use dpl_cell::{Prim, Rect};
+use dpl_cell::{Prim, Rect, Stretch};
 use std::alloc::{AllocError, Global};
 
 /// Adds the cells of a primitive in one row.

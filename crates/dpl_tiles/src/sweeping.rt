@@ -12,7 +12,7 @@ ghost use Rattle.dpl_tiles.specs.Bands.{IsLeftOf, IsOver};
 ghost use Rattle.dpl_tiles.specs.Bounds.{AreBoundsOf};
 ghost use Rattle.dpl_tiles.specs.Corners.{AreCorners};
 ghost use Rattle.dpl_tiles.specs.Stacks.{ending};
-ghost use Rattle.dpl_tiles.specs.Stretches.{AreSeparate, is_in_stretches};
+ghost use Rattle.dpl_cell.specs.Stretches.{AreSeparate, is_in_stretches};
 ghost use Rattle.dpl_tiles.specs.Sweeps.{AreSwept};
 ghost use Rattle.dpl_tiles.specs.Clusters.{AreChanges, IsPassed};
 ghost use Rattle.dpl_tiles.specs.Windows.{AddsClosed, AreNearRuns, IsClosed, IsContinued, IsFar, IsParted, is_near};
@@ -22,8 +22,7 @@ use crate::corners::{Corner, corners_at};
 use crate::gathering::gather;
 use crate::rows::{merged, push_prim, sort};
 use crate::stacking::find;
-use crate::stretch::Stretch;
-use dpl_cell::{Prim, Rect};
+use dpl_cell::{Prim, Rect, Stretch};
 use dpl_index::{Bounds, Index};
 use std::alloc::{AllocError, Global};
 

@@ -5,11 +5,11 @@ ghost use Rattle.dpl_cell.specs.Places.{corners_of};
 ghost use Rattle.dpl_cell.specs.Ranges.{IsInRange};
 ghost use Rattle.dpl_cell.specs.Outlines.{outline_of};
 ghost use Rattle.dpl_cell.specs.Layers.{is_cell, cells_of};
-ghost use Rattle.dpl_cell.specs.Tiles.{AreTiles};
+ghost use Rattle.dpl_cell.specs.Tiles.{AreTiles, IsNotAfter};
 ghost use Rattle.dpl_tiles.specs.Counts.{HasMoreTiles};
-ghost use Rattle.dpl_tiles.specs.Stretches.{Ascends};
+ghost use Rattle.dpl_list.specs.Order.{Ascends};
 ghost use Rattle.dpl_tiles.specs.Bands.{HasOrdinates};
-ghost use Rattle.dpl_tiles.specs.Stacks.{AreAllTiles, IsNotAfter};
+ghost use Rattle.dpl_tiles.specs.Stacks.{AreAllTiles};
 ghost use Rattle.dpl_tiles.specs.Corners.{AreCorners};
 ghost use Rattle.dpl_tiles.specs.Bounds.{AreBoundsOf};
 
@@ -107,7 +107,8 @@ fn top_of(rows: &[i64]) -> i64
 
 fn sort(tiles: &mut Vec<Rect>)
     ensures same { IsPermutation tiles.old.items tiles.new.items }
-    ensures sorted { AllPairs IsNotAfter tiles.new.items }
+    ensures sorted { AllPairs (λ a b.
+        IsNotAfter (corners_of a) (corners_of b)) tiles.new.items }
 {
     tiles.sort_unstable_by_key(|tile| (tile.y1, tile.x1));
 }

@@ -1,6 +1,6 @@
 use Rattle.std.proofs.Common.{arith}
 use Rattle.std.proofs.lemmas.Int.{to_z-of_z}
-use Rattle.dpl_cell.proofs.SeamLemmas.{signed}
+use Rattle.dpl_list.proofs.Integers.{signed}
 use Rattle.dpl_cell.proofs.seams.common_part.Goals as goal
 
 pub returns-clause-left : goal.returns-clause-left

@@ -1,4 +1,5 @@
-use Rattle.dpl_cell.proofs.SeamLemmas.{signed, upright_seam, level_seam, no_edge}
+use Rattle.dpl_list.proofs.Integers.{signed}
+use Rattle.dpl_cell.proofs.SeamLemmas.{upright_seam, level_seam, no_edge}
 use Rattle.dpl_cell.proofs.seams.seam.Goals as goal
 use Rattle.dpl_cell.proofs.seams.seam.Goals.{then-c+else-c-2, else-c}
 

@@ -6,7 +6,7 @@ use Rattle.std.proofs.lemmas.Result.{IfOk-weaker}
 use Rattle.dpl_cell.specs.Places.{place_of}
 use Rattle.dpl_cell.specs.Ranges.{IsInRange}
 use Rattle.dpl_tiles.specs.Sides.{AreCrossings}
-use Rattle.dpl_tiles.proofs.StretchLemmas.{ascends_from_sorted}
+use Rattle.dpl_list.proofs.OrderLemmas.{ascends_from_sorted}
 use Rattle.dpl_tiles.proofs.SideLemmas.{polygon_places}
 use Rattle.dpl_tiles.proofs.crossing.push_polygon.Goals as goal
 

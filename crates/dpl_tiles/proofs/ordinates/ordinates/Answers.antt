@@ -1,7 +1,7 @@
 use Rattle.std.proofs.Common.{ℤ}
 use Rattle.std.proofs.lemmas.List.Sorted.{All-permutation}
 use Rattle.dpl_cell.specs.Ranges.{IsInRange}
-use Rattle.dpl_tiles.proofs.StretchLemmas.{ascends_from_sorted}
+use Rattle.dpl_list.proofs.OrderLemmas.{ascends_from_sorted}
 use Rattle.dpl_tiles.proofs.OrdinateLemmas.{ordinates_moved}
 use Rattle.dpl_tiles.proofs.ordinates.ordinates.Goals as goal
 

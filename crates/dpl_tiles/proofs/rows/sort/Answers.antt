@@ -1,8 +1,8 @@
 use Rattle.std.proofs.Common.{rules, sym}
 use Rattle.std.proofs.lemmas.List.Sorted.{answers_always, list_any-IsPermutation}
-use Rattle.dpl_tiles.specs.declared.stretch.Stretch.{Stretch}
+use Rattle.dpl_cell.specs.declared.stretch.Stretch.{Stretch}
 use Rattle.dpl_cell.specs.Layers.{is_within}
-use Rattle.dpl_tiles.proofs.StretchLemmas.{ascends_from_sorted}
+use Rattle.dpl_list.proofs.OrderLemmas.{ascends_from_sorted}
 use Rattle.dpl_tiles.proofs.rows.sort.Goals as goal
 
 pub returns-clause-same : goal.returns-clause-same
