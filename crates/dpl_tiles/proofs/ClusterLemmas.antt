@@ -1,9 +1,9 @@
 -- One cluster of corners: what it changes lies between the column that was passed before and the next one.
-use Rattle.std.proofs.Common.{arith, ◌≡◌, ◌⊎◌, ◌∙◌, ℕ, ◌+◌, ◌<◌, ◌≤◌, ℤ, pos, ◌-ℤ◌, ◌<ℤ◌, ◌≤ℤ◌, List, length, get_or, reverse, All, Any, AllPairs, refl, sym, ap, inl, inr, [], ◌∷◌, ◌++◌, append_assoc, length-append, Bool, IsTrue, map}
+use Rattle.std.proofs.Common.{arith, ◌≡◌, ◌⊎◌, ◌∙◌, ℕ, ◌<◌, ◌≤◌, ℤ, pos, ◌-ℤ◌, ◌<ℤ◌, ◌≤ℤ◌, List, length, get_or, reverse, All, Any, AllPairs, refl, sym, ap, inl, inr, [], ◌∷◌, ◌++◌, append_assoc, Bool, IsTrue, map}
 use Rattle.std.specs.List.{AllZip}
 use Rattle.std.proofs.lemmas.Bool.{cases_lt}
 use Rattle.std.proofs.lemmas.Int.{by_lt_z}
-use Rattle.std.proofs.lemmas.List.{get_or_append_left, get_or-append-add, get_or_default}
+use Rattle.std.proofs.lemmas.List.{get_or_default}
 use Rattle.std.proofs.lemmas.List.Elements.{All-append, All-cons, All-weaker}
 use Rattle.dpl_cell.specs.declared.rect.Rect.{Rect}
 use Rattle.dpl_cell.specs.declared.layout.Primitive.{Primitive}
@@ -23,7 +23,7 @@ use Rattle.dpl_tiles.proofs.BoundLemmas.{IsBounded, bounded}
 use Rattle.dpl_tiles.proofs.UnionLemmas.{run_around}
 use Rattle.dpl_tiles.proofs.NearLemmas.{near_ends}
 use Rattle.dpl_tiles.proofs.StepLemmas.{AreRuns, IsWindowStep, window_step, part_ordered}
-use Rattle.dpl_tiles.proofs.PlaceLemmas.{between, continued_at, near_all}
+use Rattle.dpl_tiles.proofs.PlaceLemmas.{across, between, continued_at, near_all}
 use Rattle.dpl_tiles.proofs.PassLemmas.{passed_left, passed_right, passed_on}
 
 -- a run that ends before the rows differ
@@ -50,9 +50,6 @@ end_of (r ∷ rs) d2 = go (end_of rs d2) where
   go (w, e) = by_lt_z r.x2 w
       (λ h. (w, record { right = e.right; holds = All-cons (λ r. r.x2 ≤ℤ w) r rs (omega signed) e.holds; is = elim e.is [ inl f ↦ inl f | inr a ↦ inr (any_tail (λ r. r.x2 ≡ w) r rs a) ] }))
       (λ h. (r.x2, record { right = let f = e.right in omega signed; holds = All-cons (λ q. q.x2 ≤ℤ r.x2) r rs (omega signed) (All-weaker (λ q. q.x2 ≤ℤ w) (λ q. q.x2 ≤ℤ r.x2) (λ q i. omega signed) rs e.holds); is = inr (any_head (λ q. q.x2 ≡ r.x2) r rs refl) }))
-
-across : (xs ys : List Rect) → AllPairs IsLeftOf (xs ++ ys) → (i j : ℕ) (d : Rect) → i < length xs → j < length ys → IsLeftOf (get_or xs i d) (get_or ys j d)
-across xs ys up i j d h l = let n = length-append xs ys in rw (get_or_append_left xs ys d i h, get_or-append-add xs ys j d) at (up i (length xs + j) d (omega arith) (omega arith))
 
 -- a cluster, with the stacks near it
 pub record IsMet (cells : ℤ → ℤ → Bool) (z : ℤ) (row : List Corner) (at to : ℕ) (d1 d2 : ℤ) (ended now left near right : List Rect) : Type 0 where

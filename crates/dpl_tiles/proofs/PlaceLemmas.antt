@@ -1,9 +1,9 @@
 -- The stacks before, near and behind the columns that change, by their places.
-use Rattle.std.proofs.Common.{arith, ◌≡◌, ◌∙◌, ℕ, suc, ◌+◌, ◌-◌, ◌<◌, ◌≤◌, ℤ, ◌<ℤ◌, ◌≤ℤ◌, List, length, get_or, take, drop, reverse, All, AllPairs, subst, sym, ap, inl, inr, [], ◌∷◌, ◌++◌, append_assoc, append-nil, refl, true, int_le, int_lt}
+use Rattle.std.proofs.Common.{arith, ◌≡◌, ◌∙◌, ℕ, suc, ◌+◌, ◌-◌, ◌<◌, ◌≤◌, ℤ, ◌<ℤ◌, ◌≤ℤ◌, List, length, length-append, get_or, take, drop, reverse, All, AllPairs, Any, subst, sym, ap, inl, inr, [], ◌∷◌, ◌++◌, append_assoc, append-nil, refl, true, int_le, int_lt}
 use Rattle.std.specs.List.{AllZip}
 use Rattle.std.specs.List.Sorted.{IsPartitionedBy}
 use Rattle.std.proofs.lemmas.Bool.{cases_lt}
-use Rattle.std.proofs.lemmas.List.{take-append-drop, drop_more, drop_all, get_or-take, get_or-drop, get_or-reverse, get_or_default, length-take, length-drop, length-reverse, reverse-append, reverse-reverse}
+use Rattle.std.proofs.lemmas.List.{take-append-drop, drop_more, drop_all, get_or-take, get_or-drop, get_or-reverse, get_or_default, get_or_append_left, get_or-append-add, length-take, length-drop, length-reverse, reverse-append, reverse-reverse}
 use Rattle.std.proofs.lemmas.List.Elements.{All-append, All-drop}
 use Rattle.dpl_cell.specs.declared.rect.Rect.{Rect}
 use Rattle.dpl_tiles.specs.Bands.{IsLeftOf}
@@ -55,6 +55,10 @@ back_none old stacks = rw (drop_all (length stacks) stacks (omega arith), append
 pub back_more : (old to new stacks : List Rect) (k : ℕ) (d : Rect) → k < length stacks → to ≡ old ++ reverse (drop (k + 1) stacks) → new ≡ to ++ get_or stacks k d ∷ [] → new ≡ old ++ reverse (drop k stacks)
 back_more old to new stacks k d l e f = rw (f, e, drop_more stacks k d l, reverse-append (get_or stacks k d ∷ []) (drop (k + 1) stacks)) (append_assoc old (reverse (drop (k + 1) stacks)) (get_or stacks k d ∷ []))
 
+-- the order of one of the first list and one of the second
+pub across : (xs ys : List Rect) → AllPairs IsLeftOf (xs ++ ys) → (i j : ℕ) (d : Rect) → i < length xs → j < length ys → IsLeftOf (get_or xs i d) (get_or ys j d)
+across xs ys up i j d h l = let n = length-append xs ys in rw (get_or_append_left xs ys d i h, get_or-append-add xs ys j d) at (up i (length xs + j) d (omega arith) (omega arith))
+
 -- ---- moving stacks from one list to the other leaves their order
 
 pub to_right : (left right left' right' : List Rect) (n : ℕ) → left' ≡ take n left → right' ≡ right ++ reverse (drop n left) → left' ++ reverse right' ≡ left ++ reverse right
@@ -94,14 +98,14 @@ moved d1 d2 left right left1 right1 left2 right2 near right3 a b c m = record {
   right = all_reverse (λ r. d2 <ℤ r.x1) right3 (rw m.is_right3 (first_ones (λ r. d2 <ℤ r.x1) right2 c m.begins_right));
 }
 
--- no stack ends behind the last one
-pub last_ends : (xs : List Rect) (r : Rect) (w : ℤ) → AllPairs IsLeftOf xs → get_or xs (length xs - 1) r ≡ r → r.x2 ≤ℤ w → All (λ q. q.x2 ≤ℤ w) xs
-last_ends xs r w up e h k d l = elim (cases_lt k (length xs - 1)) [
-  | inl g ↦ let i : IsLeftOf (get_or xs k d) r = rw (get_or_default xs (length xs - 1) d r (omega arith) ∙ e) at (up k (length xs - 1) d g (omega arith)) in earlier (get_or xs k d) i
+-- the last one from the right begins before all others
+pub last_begins : (xs : List Rect) (r : Rect) (c : ℤ) → AllPairs IsLeftOf (reverse xs) → get_or xs (length xs - 1) r ≡ r → c ≤ℤ r.x1 → All (λ q. c ≤ℤ q.x1) xs
+last_begins xs r c up e h k d l = elim (cases_lt k (length xs - 1)) [
+  | inl g ↦ let i : IsLeftOf r (get_or xs k d) = rw (get_or_default xs (length xs - 1) d r (omega arith) ∙ e) at (from_right xs up k (length xs - 1) d g (omega arith)) in later (get_or xs k d) i
   | inr g ↦ let i : k ≡ length xs - 1 = omega arith in rw (i, get_or_default xs (length xs - 1) d r (omega arith) ∙ e) h
 ] where
-  earlier : (q : Rect) → IsLeftOf q r → q.x2 ≤ℤ w
-  earlier q i = let v = r.wide in omega signed
+  later : (q : Rect) → IsLeftOf r q → c ≤ℤ q.x1
+  later q i = let v = r.wide in omega signed
 
 -- the columns reach further to the right, and so do the stacks near them
 pub parted_wider : (held before near right near' right' : List Rect) (d1 d2 c : ℤ) (n : ℕ) → IsParted held d1 d2 before near right → d2 ≤ℤ c → right' ≡ take n right → near' ≡ near ++ reverse (drop n right) → ((k : ℕ) (d : Rect) → k < n → c <ℤ (get_or right k d).x1)
@@ -139,6 +143,21 @@ module _ (held : List Rect) (d1 d2 : ℤ) (before near behind : List Rect) (p : 
 
   pub behind_ordered : AllPairs IsLeftOf held → AllPairs IsLeftOf (reverse behind)
   behind_ordered up = (part_ordered near (reverse behind) ((part_ordered before (near ++ reverse behind) (rw p.whole at up)).1)).1
+
+  -- a column behind the begin of a stack on the right lies right of all that is near
+  pub behind_one : AllPairs IsLeftOf held → (c : ℤ) → Any (λ r. r.x1 <ℤ c) behind → (d2 <ℤ c) × All (λ r. r.x2 <ℤ c) near
+  behind_one up c (k, r, l, e, h) = (chain d2 (rw e at (from_back k r l)), λ i d g. chain _ (rw e at (near_back i d g k r l))) where
+    chain : (x : ℤ) → x <ℤ r.x1 → x <ℤ c
+    chain x f = omega signed
+
+    ordered : AllPairs IsLeftOf (near ++ reverse behind)
+    ordered = (part_ordered before (near ++ reverse behind) (rw p.whole at up)).1
+
+    from_back : All (λ q. d2 <ℤ q.x1) behind
+    from_back = rw (reverse-reverse behind) at (all_reverse (λ q. d2 <ℤ q.x1) (reverse behind) p.right)
+
+    near_back : (i : ℕ) (d : Rect) → i < length near → All (λ q. (get_or near i d).x2 <ℤ q.x1) behind
+    near_back i d g = rw (reverse-reverse behind) at (all_reverse (λ q. (get_or near i d).x2 <ℤ q.x1) (reverse behind) (λ j c m. rw (get_or_default near i d c g) (across near (reverse behind) ordered i j c g m)))
 
 pub continued_at : (near : List Rect) (z : ℤ) (runs stacks : List Rect) → All (λ r. r.y1 ≡ z) runs → AllZip (λ run r. IsContinued near run.y1 run r) runs stacks → AllZip (IsContinued near z) runs stacks
 continued_at near z [] [] a c = tt

@@ -1,4 +1,4 @@
--- A row whose corners are passed from the left in clusters. Corners of a cluster touch one another or a stack near them, and no two clusters touch.
+-- A row whose corners are passed from the left in clusters. No two clusters touch: a stack that is not near the first begins before the second.
 use Rattle.std.specs.Prelude.{◌≡◌, ◌⊎◌, ℕ, ◌≤◌, ◌<◌, ℤ, pos, ◌-ℤ◌, ◌<ℤ◌, ◌≤ℤ◌, List, Bool, All, Any, ◌++◌, length, slice_index_or, if◌then◌else◌, int_lt}
 use Rattle.dpl_cell.specs.declared.rect.Rect.{Rect}
 use Rattle.dpl_tiles.specs.declared.corners.Corner.{Corner}

@@ -1,18 +1,18 @@
-// Corners of a row that stand together, and the stacks near them.
-ghost use Rattle.std.specs.Prelude.{◌≡◌, true, false, ℤ, ◌<ℤ◌, ◌≤ℤ◌, ◌<◌, ◌++◌, length, slice_index_or, List, All, AllPairs, IfOk, OnOk, reverse};
+// Corners of a row with no stack between them, and the stacks near them.
+ghost use Rattle.std.specs.Prelude.{◌≡◌, true, false, ℤ, ◌<ℤ◌, ◌≤ℤ◌, ◌<◌, ◌++◌, length, slice_index_or, List, All, AllPairs, Any, IfOk, OnOk, reverse};
 ghost use Rattle.dpl_cell.specs.declared.rect.Rect.{Rect};
 ghost use Rattle.dpl_tiles.specs.declared.corners.Corner.{Corner};
 ghost use Rattle.dpl_tiles.specs.Bands.{IsLeftOf};
 ghost use Rattle.dpl_tiles.specs.Windows.{IsParted};
 ghost use Rattle.dpl_tiles.specs.Clusters.{IsCluster};
 
-use crate::columns::{Columns, greater};
+use crate::columns::{Columns, Columns, greater};
 use crate::corners::{Corner, columns_of, widened};
 use crate::sweeping::{first_not_right, move_back, part};
 use dpl_cell::Rect;
 use std::alloc::{AllocError, Global};
 
-/// The columns of corners that stand together, the stacks near them, and the place of the corner behind them.
+/// The columns of corners with no stack between them, the stacks near these columns, and the place of the next corner.
 #[derive(Drop)]
 pub struct Cluster {
     pub change: Columns,
@@ -20,7 +20,7 @@ pub struct Cluster {
     pub to: usize,
 }
 
-/// Takes out the stacks near the corners from a place on, as far as these touch one another or one of the stacks.
+/// Takes out the stacks near the corners from a place on, up to one that begins behind a stack that is not near them.
 pub fn gather(
     alloc: Global,
     left: &mut Vec<Rect>,
@@ -38,7 +38,7 @@ pub fn gather(
     let mut change = columns_of(&corners[at]);
     let mut near = part(alloc, left, right, &change)?;
     let mut to = at + 1;
-    'wider: while touches(corners, to, near.as_slice(), &change) {
+    'wider: while goes_on(corners, to, right.as_slice()) {
         change = widened(&change, &corners[to]);
         take_near(right, &mut near, change.right)?;
         to += 1;
@@ -58,28 +58,27 @@ fn take_near(right: &mut Vec<Rect>, near: &mut Vec<Rect>, column: i64) -> Result
     Ok(())
 }
 
-/// Whether there is a corner at a place that begins within some columns or the stacks near them, or right behind these.
-fn touches(corners: &[Corner], at: usize, near: &[Rect], change: &Columns) -> bool
-    requires { AllPairs IsLeftOf near.now }
+/// Whether there is a corner at a place before which no stack begins, of those given from the right.
+fn goes_on(corners: &[Corner], at: usize, right: &[Rect]) -> bool
+    requires { AllPairs IsLeftOf (reverse right.now) }
     ensures some { result ≡ true → at < length corners.now }
     ensures none { result ≡ false → (d : Corner) → at < length corners.now →
-        (change.now.right <ℤ (slice_index_or corners.now at d).left) ×
-        All (λ r. r.x2 <ℤ (slice_index_or corners.now at d).left) near.now }
+        Any (λ r. r.x1 <ℤ (slice_index_or corners.now at d).left) right.now }
 {
     match corners.get(at) {
         None => false,
-        Some(corner) => corner.left <= end_of(near, change),
+        Some(corner) => are_from(right, corner.left),
     }
 }
 
-/// The right end of some columns and of the stacks near them.
-fn end_of(near: &[Rect], change: &Columns) -> i64
-    requires { AllPairs IsLeftOf near.now }
-    ensures right { change.now.right ≤ℤ result }
-    ensures holds { All (λ r. r.x2 ≤ℤ result) near.now }
+/// Whether no stack, of those given from the right, begins left of a column.
+fn are_from(right: &[Rect], column: i64) -> bool
+    requires { AllPairs IsLeftOf (reverse right.now) }
+    ensures all { result ≡ true → All (λ r. column ≤ℤ r.x1) right.now }
+    ensures some { result ≡ false → Any (λ r. r.x1 <ℤ column) right.now }
 {
-    match near.last() {
-        None => change.right,
-        Some(r) => greater(change.right, r.x2),
+    match right.last() {
+        None => true,
+        Some(r) => column <= r.x1,
     }
 }

@@ -59,7 +59,7 @@ pub fn step(
     Ok(())
 }
 
-/// Passes the corners of a row that stand together from one place on, and gives the place behind them.
+/// Passes a cluster of the corners of a row, from one place on, and gives the place behind it.
 fn pass(
     alloc: Global,
     ended: &mut Vec<Rect>,
