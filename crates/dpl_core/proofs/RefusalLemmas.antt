@@ -1,6 +1,6 @@
 -- A text has at most one refusal.
-use Rattle.std.proofs.Common.{arith, ◌≡◌, ◌⊎◌, inl, inr, ◌≤◌, ℕ, Bool, List, Result, Ok, Err, length, refl, sym, ap, subst}
-use Rattle.std.specs.Prelude.{ℤ, IfOk, IfErr}
+use Rattle.std.proofs.Common.{arith, ◌≡◌, ◌⊎◌, inl, inr, ℕ, Bool, List, Result, Err, refl, sym, ap, ◌∙◌, subst}
+use Rattle.std.specs.Prelude.{ℤ}
 use Rattle.dpl_cell.specs.Layers.{is_cell}
 use Rattle.dpl_sign.specs.declared.nets.Net.{Net}
 use Rattle.dpl_cuts.specs.declared.types.Fragments.{Fragments}
@@ -11,10 +11,10 @@ use Rattle.dpl_report.specs.declared.options.Options.{Options}
 use Rattle.dpl_solve.specs.Solved.{IsRefused}
 use Rattle.dpl_layer.specs.declared.error.LayerError.{LayerError}
 use Rattle.dpl_layer.specs.declared.error.LayerError.TheVariants.{Layout, Limit, NoMemory}
-use Rattle.dpl_layer.specs.Layers.{IsLayerOf}
+use Rattle.dpl_layer.specs.Layers.{IsLayer, IsLayerOf}
 use Rattle.dpl_layer.specs.Refusals.{RefusesLayer}
-use Rattle.dpl_layer.proofs.LayerLemmas.{same_layer}
-use Rattle.dpl_layer.proofs.RefusalLemmas.{one_text_refusal, not_refused_text}
+use Rattle.dpl_layer.proofs.LayerLemmas.{same_layer, on_read}
+use Rattle.dpl_layer.proofs.RefusalLemmas.{one_text_refusal, not_refused_text, none_comes}
 use Rattle.dpl_core.specs.Refusals.{IsOddNet, HasOddNet, RefusesSplit}
 
 -- the greatest number of odd faces of one part is one
@@ -62,41 +62,38 @@ one_split_refusal o text e f (inr a) (inr b) = on_both o (reading o.layer text) 
 -- ---- of a text with a layer
 
 -- a layer whose net has too many odd faces refuses the text
-pub odd_refuses : (o : Options) (text : List ℕ) (f : Fragments) (n : Net) (e : LayerError) → OnCells (reading o.layer text) (λ cells. IsLayerOf o cells f n)
-    → length f.rects ≤ 100000 → length n.graph.edges ≤ 400000 → (e ≡ NoMemory) ⊎ IsOddNet n e → (e ≡ NoMemory) ⊎ RefusesSplit o text e
-odd_refuses o text f n e l few thin (inl m) = inl m
-odd_refuses o text f n e l few thin (inr h) = inr (inr (on_cells (reading o.layer text) l)) where
-  on_cells : (read : Reading) → OnCells read (λ cells. IsLayerOf o cells f n) → OnCells read (HasOddNet o e)
-  on_cells (Good parts) k = record { fragments = f; net = n; layer = k; few_fragments = few; few_edges = thin; odd = h }
-  on_cells (Faulty g) k = k
-  on_cells (TooMany m) k = k
-  on_cells (TooManyCalls m) k = k
-  on_cells (TooFar m) k = k
+pub odd_refuses : (o : Options) (text : List ℕ) (f : Fragments) (n : Net) (e : LayerError) → OnCells (reading o.layer text) (λ cells. IsLayer o cells f n) → (e ≡ NoMemory) ⊎ IsOddNet n e → (e ≡ NoMemory) ⊎ RefusesSplit o text e
+odd_refuses o text f n e l (inl m) = inl m
+odd_refuses o text f n e l (inr h) = inr (inr (on_read (reading o.layer text) (λ cells. IsLayer o cells f n) (HasOddNet o e) (λ cells k. record { fragments = f; net = n; layer = k.layer; few_fragments = k.few_fragments; few_edges = k.few_edges; odd = h }) l))
 
--- a layer within the limits whose net has not too many odd faces leaves no refusal
-pub none_refuses : (o : Options) (text : List ℕ) (f : Fragments) (n : Net) → OnCells (reading o.layer text) (λ cells. IsLayerOf o cells f n)
-    → length f.rects ≤ 100000 → length n.graph.edges ≤ 400000 → ((m : ℕ) → ¬ IsRefused n m) → (e : LayerError) → ¬ RefusesSplit o text e
-none_refuses o text f n l few thin free e (inl r) = not_refused_text o text f n e l few thin r
-none_refuses o text f n l few thin free e (inr r) = on_cells (reading o.layer text) l r where
+-- a layer whose net has not too many odd faces leaves no refusal
+pub none_refuses : (o : Options) (text : List ℕ) (f : Fragments) (n : Net) → OnCells (reading o.layer text) (λ cells. IsLayer o cells f n) → ((m : ℕ) → ¬ IsRefused n m) → (e : LayerError) → ¬ RefusesSplit o text e
+none_refuses o text f n l free e (inl r) = none_comes o text f n l e r
+none_refuses o text f n l free e (inr r) = on_cells (reading o.layer text) l r where
   not_odd : (e : LayerError) → IsOddNet n e → ⊥
   not_odd (Limit k m) h = free m h.1
   not_odd (Layout c w) h = h
   not_odd NoMemory h = h
 
-  on_cells : (read : Reading) → OnCells read (λ cells. IsLayerOf o cells f n) → OnCells read (HasOddNet o e) → ⊥
+  on_cells : (read : Reading) → OnCells read (λ cells. IsLayer o cells f n) → OnCells read (HasOddNet o e) → ⊥
   on_cells (Good parts) k h =
-      let s = same_layer o (is_cell parts) h.fragments f h.net n h.layer k in
+      let s = same_layer o (is_cell parts) h.fragments f h.net n h.layer k.layer in
       not_odd e (subst (λ z. IsOddNet z e) s.1 h.odd)
   on_cells (Faulty g) k h = k
   on_cells (TooMany m) k h = k
   on_cells (TooManyCalls m) k h = k
   on_cells (TooFar m) k h = k
 
--- where the answer has what it says and no refusal applies to a text with a report, each refusal comes where it applies
-pub comes : {T : Type 0} (o : Options) (text : List ℕ) (result : Result T LayerError)
-    → IfOk result (λ r. (e : LayerError) → ¬ RefusesSplit o text e)
-    → IfErr result (λ e. (e ≡ NoMemory) ⊎ RefusesSplit o text e)
+-- the refusal that applies is the one that comes
+pub one_comes : {T : Type 0} (o : Options) (text : List ℕ) (result : Result T LayerError) (f : LayerError) → result ≡ Err f → (f ≡ NoMemory) ⊎ RefusesSplit o text f
     → (e : LayerError) → RefusesSplit o text e → (result ≡ Err e) ⊎ (result ≡ Err NoMemory)
-comes o text (Ok r) free b e h = absurd (free e h)
-comes o text (Err f) free (inl m) e h = inr (ap Err m)
-comes o text (Err f) free (inr s) e h = inl (ap Err (one_split_refusal o text f e s h))
+one_comes o text result f is (inl m) e h = inr (is ∙ ap Err m)
+one_comes o text result f is (inr s) e h = inl (is ∙ ap Err (one_split_refusal o text f e s h))
+
+-- what comes is a refusal that applies
+pub only_comes : {T : Type 0} (o : Options) (text : List ℕ) (result : Result T LayerError) (f : LayerError) → result ≡ Err f → (f ≡ NoMemory) ⊎ RefusesSplit o text f
+    → (e : LayerError) → result ≡ Err e → (e ≡ NoMemory) ⊎ RefusesSplit o text e
+only_comes {T} o text result f is h e comes =
+    let same : ◌≡◌ {A = Result T LayerError} (Err f) (Err e) = sym is ∙ comes in
+    let d : f ≡ e = cc in
+    subst (λ z. (z ≡ NoMemory) ⊎ RefusesSplit o text z) d h

@@ -50,8 +50,9 @@ pub record IsReportOf (o : Options) (text : List ℕ) (r : PlainReport) : Type 0
   pub tight : IsTight net r
   pub least : IsLeast net r
 
--- The masks of the report are those of the layer with these cells: together they are the layer, they overlap exactly at the
--- listed stitches, they break the spacing only at the listed clashes, and the text read as CIF draws them.
+-- The masks of the report are those of the layer with these cells: together they are the layer,
+-- they overlap exactly at the listed stitches, they break the spacing only at the listed clashes,
+-- and the text read as CIF draws them.
 pub record HasMasks (o : Options) (r : PlainReport) (cells : ℤ → ℤ → Bool) : Type 0 where
   pub fragments : Fragments
   pub net : Net

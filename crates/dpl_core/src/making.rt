@@ -89,26 +89,6 @@ fn make_commands(
     ensures exact { (e : LayerError) → RefusesSplit options.now text.now e →
         (result ≡ Err e) ⊎ (result ≡ Err LayerError.NoMemory) }
 {
-    make_report(alloc, text, commands, options)
-}
-
-/// The same; of refusals it is said that one comes where it applies, and none to a text with a
-/// report.
-fn make_report(
-    alloc: Global,
-    text: &[u8],
-    commands: &Commands,
-    options: &Options,
-) -> Result<Report, LayerError>
-    requires short { length text.now ≤ MOST_LAYOUT_BYTES }
-    requires commands { commands.now ≡ commands_of text.now }
-    ensures made { IfOk result (λ r. IsReportOf options.now text.now (plain_report r)) }
-    ensures masks { IfOk result (λ r.
-        OnCells (reading options.now.layer text.now) (HasMasks options.now (plain_report r))) }
-    ensures free { IfOk result (λ r. (e : LayerError) → ¬ RefusesSplit options.now text.now e) }
-    ensures refused { IfErr result (λ e.
-        (e ≡ LayerError.NoMemory) ⊎ RefusesSplit options.now text.now e) }
-{
     let layer = layer_of_commands(alloc, text, commands, options)?;
     let solution = solve_net(alloc, &layer.net)?;
     let report = report_of(alloc, options, &layer.fragments, &layer.net, solution)?;

@@ -7,6 +7,7 @@ use Rattle.std.proofs.lemmas.List.{length-map, get_or_default}
 use Rattle.std.proofs.lemmas.List.FromFn.{length-range_with_len}
 use Rattle.dpl_cell.specs.Places.{Corners, corners_of}
 use Rattle.dpl_cell.specs.Cells.{IsWithin}
+use Rattle.dpl_cell.specs.Layers.{is_cell}
 use Rattle.dpl_cell.specs.Tiles.{IsTile, AreTiles}
 use Rattle.dpl_near.specs.Shapes.{AreShapes}
 use Rattle.dpl_cuts.specs.declared.types.Fragments.{Fragments}
@@ -14,11 +15,12 @@ use Rattle.dpl_cuts.specs.Positions.{nowhere, rect_at, lies_along_x, first_of, l
 use Rattle.dpl_cuts.specs.Fragments.{AreFragments, HasMoreFragments}
 use Rattle.dpl_cuts.proofs.SameLemmas.{fragments_same, no_more_fragments}
 use Rattle.dpl_sign.specs.declared.nets.Net.{Net}
-use Rattle.dpl_links.specs.declared.types.Weights.{Weights}
-use Rattle.dpl_links.specs.Nets.{IsNet, HasMoreEdges}
-use Rattle.dpl_links.proofs.NetLemmas.{edges_length, not_more_edges}
+use Rattle.dpl_links.specs.Nets.{IsNet}
 use Rattle.dpl_report.specs.declared.options.Options.{Options}
-use Rattle.dpl_layer.specs.Layers.{AreFragmentsOf, IsLayerOf}
+use Rattle.dpl_cif.specs.Reading.{Reading}
+use Rattle.dpl_cif.specs.Reading.Reading.{Faulty, TooMany, TooManyCalls, TooFar, Good}
+use Rattle.dpl_cif.specs.OnCells.{OnCells}
+use Rattle.dpl_layer.specs.Layers.{AreFragmentsOf, IsLayer, IsLayerOf}
 use Rattle.dpl_links.proofs.SameLemmas.{net_same}
 use Rattle.dpl_near.proofs.LawLemmas.{labels_same, HasCell}
 use Rattle.dpl_cell.proofs.OrderLemmas.{tiles_same}
@@ -93,3 +95,29 @@ pub within_fragments : (space over : ℕ) (cells : ℤ → ℤ → Bool) (f : Fr
 within_fragments space over cells f tiles n a few t more =
     let e : tiles ≡ a.tiles = tiles_same cells tiles a.tiles t a.are_tiles in
     no_more_fragments space over a.tiles a.label f n a.are_fragments few (subst (λ z. HasMoreFragments space over z n) e more)
+
+-- ---- what was read
+
+-- what follows from the property of the cells
+pub of_read : {Q : Type 0} (read : Reading) (P : (ℤ → ℤ → Bool) → Type 0) → ((cells : ℤ → ℤ → Bool) → P cells → Q) → OnCells read P → Q
+of_read (Good parts) P step h = step (is_cell parts) h
+of_read (Faulty g) P step h = absurd h
+of_read (TooMany m) P step h = absurd h
+of_read (TooManyCalls m) P step h = absurd h
+of_read (TooFar m) P step h = absurd h
+
+pub on_read : (read : Reading) (P Q : (ℤ → ℤ → Bool) → Type 0) → ((cells : ℤ → ℤ → Bool) → P cells → Q cells) → OnCells read P → OnCells read Q
+on_read (Good parts) P Q step h = step (is_cell parts) h
+on_read (Faulty g) P Q step h = h
+on_read (TooMany m) P Q step h = h
+on_read (TooManyCalls m) P Q step h = h
+on_read (TooFar m) P Q step h = h
+
+pub layer_is : (o : Options) (read : Reading) (f : Fragments) (n : Net) → OnCells read (λ cells. IsLayer o cells f n) → OnCells read (λ cells. IsLayerOf o cells f n)
+layer_is o read f n = on_read read (λ cells. IsLayer o cells f n) (λ cells. IsLayerOf o cells f n) (λ cells l. l.layer)
+
+pub layer_few_fragments : (o : Options) (read : Reading) (f : Fragments) (n : Net) → OnCells read (λ cells. IsLayer o cells f n) → length f.rects ≤ 100000
+layer_few_fragments o read f n = of_read read (λ cells. IsLayer o cells f n) (λ cells l. l.few_fragments)
+
+pub layer_few_edges : (o : Options) (read : Reading) (f : Fragments) (n : Net) → OnCells read (λ cells. IsLayer o cells f n) → length n.graph.edges ≤ 400000
+layer_few_edges o read f n = of_read read (λ cells. IsLayer o cells f n) (λ cells l. l.few_edges)

@@ -1,6 +1,6 @@
 -- A text has at most one refusal, and none where it has a layer within the limits.
-use Rattle.std.proofs.Common.{arith, ◌≡◌, ◌⊎◌, inl, inr, ◌≤◌, ◌*◌, ℕ, Bool, List, Result, Ok, Err, length, refl, ap, subst}
-use Rattle.std.specs.Prelude.{ℤ, IfOk, IfErr}
+use Rattle.std.proofs.Common.{arith, ◌≡◌, ◌⊎◌, inl, inr, ◌≤◌, ◌*◌, ℕ, Bool, List, Result, Err, length, refl, ap, ◌∙◌, subst}
+use Rattle.std.specs.Prelude.{ℤ}
 use Rattle.dpl_cell.specs.Layers.{is_cell}
 use Rattle.dpl_tiles.proofs.TileLemmas.{not_more}
 use Rattle.dpl_rules.specs.declared.what.What.{What}
@@ -14,10 +14,9 @@ use Rattle.dpl_cif.specs.OnCells.{OnCells, IsReadLimit}
 use Rattle.dpl_report.specs.declared.options.Options.{Options}
 use Rattle.dpl_layer.specs.declared.error.LayerError.{LayerError}
 use Rattle.dpl_layer.specs.declared.error.LayerError.TheVariants.{Layout, Limit, NoMemory}
-use Rattle.dpl_layer.specs.declared.reading.Layer.{Layer}
-use Rattle.dpl_layer.specs.Layers.{IsLayerOf}
+use Rattle.dpl_layer.specs.Layers.{IsLayer, IsLayerOf}
 use Rattle.dpl_layer.specs.Refusals.{HasTooManyEdges, IsOverLimit, RefusesLayer}
-use Rattle.dpl_layer.proofs.LayerLemmas.{few_tiles, fragments_same_of, within_fragments}
+use Rattle.dpl_layer.proofs.LayerLemmas.{few_tiles, fragments_same_of, within_fragments, layer_is, layer_few_fragments, layer_few_edges}
 use Rattle.dpl_links.proofs.SameLemmas.{no_more_edges}
 
 -- a limit on the cells excludes a layer within the limits
@@ -116,12 +115,14 @@ not_refused_text o text f n e l few thin r = not_refused o (reading o.layer text
 
 -- ---- when each answer comes
 
--- where the answer is a layer within the limits or a refusal that applies, each refusal comes where it applies
-pub comes : (o : Options) (text : List ℕ) (result : Result Layer LayerError)
-    → IfOk result (λ l. OnCells (reading o.layer text) (λ cells. IsLayerOf o cells l.fragments l.net))
-    → IfOk result (λ l. length l.fragments.rects ≤ 100000) → IfOk result (λ l. length l.net.graph.edges ≤ 400000)
-    → IfErr result (λ e. (e ≡ NoMemory) ⊎ RefusesLayer o text e)
+-- no refusal applies to a text with a layer
+pub none_comes : (o : Options) (text : List ℕ) (f : Fragments) (n : Net) → OnCells (reading o.layer text) (λ cells. IsLayer o cells f n) → (e : LayerError) → ¬ RefusesLayer o text e
+none_comes o text f n l e r =
+    let read = reading o.layer text in
+    not_refused_text o text f n e (layer_is o read f n l) (layer_few_fragments o read f n l) (layer_few_edges o read f n l) r
+
+-- the refusal that applies is the one that comes
+pub one_comes : {T : Type 0} (o : Options) (text : List ℕ) (result : Result T LayerError) (f : LayerError) → result ≡ Err f → (f ≡ NoMemory) ⊎ RefusesLayer o text f
     → (e : LayerError) → RefusesLayer o text e → (result ≡ Err e) ⊎ (result ≡ Err NoMemory)
-comes o text (Ok l) a few thin b e r = absurd (not_refused_text o text l.fragments l.net e a few thin r)
-comes o text (Err f) a few thin (inl m) e r = inr (ap Err m)
-comes o text (Err f) a few thin (inr s) e r = inl (ap Err (one_text_refusal o text f e s r))
+one_comes o text result f is (inl m) e r = inr (is ∙ ap Err m)
+one_comes o text result f is (inr s) e r = inl (is ∙ ap Err (one_text_refusal o text f e s r))

@@ -1,11 +1,12 @@
 -- The fragments of a layer and their net.
-use Rattle.std.specs.Prelude.{ℕ, ◌*◌, ℤ, Bool, List}
+use Rattle.std.specs.Prelude.{ℕ, ◌*◌, ◌≤◌, ℤ, Bool, List, length}
+use Rattle.dpl_limits.specs.Limits.{Counted, most_of}
 use Rattle.dpl_cell.specs.Places.{Corners}
 use Rattle.dpl_cell.specs.Tiles.{AreTiles}
 use Rattle.dpl_tiles.specs.Union.{SharesOut}
 use Rattle.dpl_near.specs.Shapes.{AreShapes}
 use Rattle.dpl_cuts.specs.declared.types.Fragments.{Fragments}
-use Rattle.dpl_cuts.specs.Fragments.{AreFragments}
+use Rattle.dpl_cuts.specs.Fragments.{AreFragments, CameFromCut}
 use Rattle.dpl_sign.specs.declared.nets.Net.{Net}
 use Rattle.dpl_links.specs.Nets.{IsNet}
 use Rattle.dpl_report.specs.declared.options.Options.{Options}
@@ -29,3 +30,11 @@ pub record IsLayerOf (o : Options) (cells : ℤ → ℤ → Bool) (f : Fragments
 -- each of these cells lies in exactly one tile, and no other cell lies in any
 abbrev pub TilesShareOut : (ℤ → ℤ → Bool) → Type 0
 TilesShareOut cells = (tiles : List Corners) → AreTiles cells tiles → SharesOut cells tiles
+
+-- the layer of these cells, cut from the tiles that share them out, and within the limits
+pub record IsLayer (o : Options) (cells : ℤ → ℤ → Bool) (f : Fragments) (n : Net) : Type 0 where
+  pub layer : IsLayerOf o cells f n
+  pub shared : TilesShareOut cells
+  pub cut : CameFromCut (2 * o.space) f
+  pub few_fragments : length f.rects ≤ most_of Counted.Fragments
+  pub few_edges : length n.graph.edges ≤ most_of Counted.Edges

@@ -1,12 +1,11 @@
 // From a text to a layer.
-ghost use Rattle.std.specs.Prelude.{◌≡◌, ◌⊎◌, ◌≤◌, ◌*◌, length, IfOk, IfErr, Err};
-ghost use Rattle.dpl_limits.specs.declared.TheConstants.{MOST_EDGES, MOST_FRAGMENTS, MOST_LAYOUT_BYTES};
+ghost use Rattle.std.specs.Prelude.{◌≡◌, ◌⊎◌, ◌≤◌, length, IfOk, IfErr, Err};
+ghost use Rattle.dpl_limits.specs.declared.TheConstants.{MOST_LAYOUT_BYTES};
 ghost use Rattle.dpl_lex.specs.Cutting.{commands_of};
 ghost use Rattle.dpl_cell.specs.Layers.{cells_of};
 ghost use Rattle.dpl_cif.specs.Reading.{reading};
 ghost use Rattle.dpl_cif.specs.OnCells.{OnCells};
-ghost use Rattle.dpl_cuts.specs.Fragments.{CameFromCut};
-ghost use Rattle.dpl_layer.specs.Layers.{IsLayerOf, TilesShareOut};
+ghost use Rattle.dpl_layer.specs.Layers.{IsLayer};
 ghost use Rattle.dpl_layer.specs.Refusals.{RefusesCells, RefusesLayer};
 
 use crate::drawing::cut_layout;
@@ -36,11 +35,7 @@ pub struct Layer {
 pub fn read_layer(alloc: Global, text: &[u8], options: &Options) -> Result<Layer, LayerError>
     requires { length text.now ≤ MOST_LAYOUT_BYTES }
     ensures layer { IfOk result (λ l. OnCells (reading options.now.layer text.now) (λ cells.
-        IsLayerOf options.now cells l.fragments l.net)) }
-    ensures shared { IfOk result (λ _. OnCells (reading options.now.layer text.now) TilesShareOut) }
-    ensures cut { IfOk result (λ l. CameFromCut (2 * options.now.space) l.fragments) }
-    ensures few_fragments { IfOk result (λ l. length l.fragments.rects ≤ MOST_FRAGMENTS) }
-    ensures few_edges { IfOk result (λ l. length l.net.graph.edges ≤ MOST_EDGES) }
+        IsLayer options.now cells l.fragments l.net)) }
     ensures refused { (e : LayerError) → result ≡ Err e →
         (e ≡ LayerError.NoMemory) ⊎ RefusesLayer options.now text.now e }
     ensures exact { (e : LayerError) → RefusesLayer options.now text.now e →
@@ -62,36 +57,11 @@ pub fn layer_of_commands(
     requires short { length text.now ≤ MOST_LAYOUT_BYTES }
     requires commands { commands.now ≡ commands_of text.now }
     ensures layer { IfOk result (λ l. OnCells (reading options.now.layer text.now) (λ cells.
-        IsLayerOf options.now cells l.fragments l.net)) }
-    ensures shared { IfOk result (λ _. OnCells (reading options.now.layer text.now) TilesShareOut) }
-    ensures cut { IfOk result (λ l. CameFromCut (2 * options.now.space) l.fragments) }
-    ensures few_fragments { IfOk result (λ l. length l.fragments.rects ≤ MOST_FRAGMENTS) }
-    ensures few_edges { IfOk result (λ l. length l.net.graph.edges ≤ MOST_EDGES) }
+        IsLayer options.now cells l.fragments l.net)) }
     ensures refused { (e : LayerError) → result ≡ Err e →
         (e ≡ LayerError.NoMemory) ⊎ RefusesLayer options.now text.now e }
     ensures exact { (e : LayerError) → RefusesLayer options.now text.now e →
         (result ≡ Err e) ⊎ (result ≡ Err LayerError.NoMemory) }
-{
-    read_parts(alloc, text, commands, options)
-}
-
-/// The same; only what refuses the text is said, and not when each refusal comes.
-fn read_parts(
-    alloc: Global,
-    text: &[u8],
-    commands: &Commands,
-    options: &Options,
-) -> Result<Layer, LayerError>
-    requires short { length text.now ≤ MOST_LAYOUT_BYTES }
-    requires commands { commands.now ≡ commands_of text.now }
-    ensures layer { IfOk result (λ l. OnCells (reading options.now.layer text.now) (λ cells.
-        IsLayerOf options.now cells l.fragments l.net)) }
-    ensures shared { IfOk result (λ _. OnCells (reading options.now.layer text.now) TilesShareOut) }
-    ensures cut { IfOk result (λ l. CameFromCut (2 * options.now.space) l.fragments) }
-    ensures few_fragments { IfOk result (λ l. length l.fragments.rects ≤ MOST_FRAGMENTS) }
-    ensures few_edges { IfOk result (λ l. length l.net.graph.edges ≤ MOST_EDGES) }
-    ensures refused { IfErr result (λ e.
-        (e ≡ LayerError.NoMemory) ⊎ RefusesLayer options.now text.now e) }
 {
     let layout = read_commands(alloc, text, commands, &options.layer)?;
     let layer = draw(alloc, &layout, options)?;
@@ -100,12 +70,7 @@ fn read_parts(
 
 /// The fragments and the net of a layout.
 fn draw(alloc: Global, layout: &Layout, options: &Options) -> Result<Layer, LayerError>
-    ensures layer { IfOk result (λ l.
-        IsLayerOf options.now (cells_of layout.now) l.fragments l.net) }
-    ensures shared { TilesShareOut (cells_of layout.now) }
-    ensures cut { IfOk result (λ l. CameFromCut (2 * options.now.space) l.fragments) }
-    ensures few_fragments { IfOk result (λ l. length l.fragments.rects ≤ MOST_FRAGMENTS) }
-    ensures few_edges { IfOk result (λ l. length l.net.graph.edges ≤ MOST_EDGES) }
+    ensures layer { IfOk result (λ l. IsLayer options.now (cells_of layout.now) l.fragments l.net) }
     ensures refused { IfErr result (λ e.
         (e ≡ LayerError.NoMemory) ⊎ RefusesCells options.now (cells_of layout.now) e) }
 {

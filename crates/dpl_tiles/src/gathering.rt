@@ -6,7 +6,7 @@ ghost use Rattle.dpl_tiles.specs.Bands.{IsLeftOf};
 ghost use Rattle.dpl_tiles.specs.Windows.{IsParted};
 ghost use Rattle.dpl_tiles.specs.Clusters.{IsCluster};
 
-use crate::columns::{Columns, Columns, greater};
+use crate::columns::Columns;
 use crate::corners::{Corner, columns_of, widened};
 use crate::sweeping::{first_not_right, move_back, part};
 use dpl_cell::Rect;

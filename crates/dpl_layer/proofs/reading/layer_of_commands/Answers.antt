@@ -1,5 +1,15 @@
-use Rattle.dpl_layer.proofs.RefusalLemmas.{comes}
+use Rattle.std.proofs.Common.{rules, ◌≡◌, ◌⊎◌}
+use Rattle.std.proofs.lemmas.Result.{err_from_is_err_and}
+use Rattle.dpl_layer.specs.declared.error.LayerError.TheVariants.{NoMemory}
+use Rattle.dpl_layer.specs.Refusals.{RefusesLayer}
+use Rattle.dpl_layer.proofs.RefusalLemmas.{none_comes, one_comes}
 use Rattle.dpl_layer.proofs.reading.layer_of_commands.Goals as goal
 
+pub returns-in_err-layer-clause-exact : goal.returns-in_err-layer-clause-exact
+returns-in_err-layer-clause-exact c =
+    let p = err_from_is_err_and c.from_residual-in_err-layer.result c.from_residual-in_err-layer.ensures.1 in
+    let applies : (p.0 ≡ NoMemory) ⊎ RefusesLayer c.args.options.now c.args.text.now p.0 = rw p.2 (search rules) in
+    one_comes c.args.options.now c.args.text.now _ p.0 p.1 applies
+
 pub returns-clause-exact : goal.returns-clause-exact
-returns-clause-exact c = comes c.args.options.now c.args.text.now c.read_parts.result c.read_parts.ensures.layer c.read_parts.ensures.few_fragments c.read_parts.ensures.few_edges c.read_parts.ensures.refused
+returns-clause-exact c = λ e r. absurd (none_comes c.args.options.now c.args.text.now c.in_ok-layer.layer.fragments c.in_ok-layer.layer.net (search rules) e r)
