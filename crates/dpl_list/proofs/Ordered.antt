@@ -1,5 +1,5 @@
 -- Lists are the same where they have the same items in order, place by place, or under a map.
-use Rattle.std.proofs.Common.{arith, ◌≡◌, ◌<◌, ◌⊎◌, inl, inr, ℕ, suc, List, [], ◌∷◌, length, map, refl, sym, ◌∙◌, subst, All, AllPairs, Contains, get_or}
+use Rattle.std.proofs.Common.{arith, ◌≡◌, ◌<◌, ◌⊎◌, inl, inr, ℕ, zero, suc, List, [], ◌∷◌, length, map, refl, sym, ◌∙◌, subst, All, AllPairs, Contains, get_or}
 use Rattle.dpl_list.proofs.Lists.{none_in, in_cons, in_head, in_tail, pairs_tail}
 
 -- what stands behind the first

@@ -9,7 +9,7 @@ use crate::finder::Finder;
 use dpl_cell::{Rect, touch};
 use std::alloc::{AllocError as NoMemory, Global};
 
-/// The pairs that share an edge.
+/// The pairs of rectangles that share an edge, of which no two share a cell.
 pub fn joins(alloc: Global, rects: &[Rect]) -> Result<Vec<(u32, u32)>, NoMemory>
     requires apart { AllPairs AreApart (map corners_of rects.now) }
     requires few { length rects.now ≤ MOST_TILES }

@@ -1,7 +1,7 @@
 //! Shapes and close pairs of rectangles.
 //!
-//! `shapes` gives the pairs of rectangles that share an edge, and for each rectangle the number of its shape: the
-//! class of its cells under walks over shared edges. A `Finder` gives the rectangles that are closer to one of
+//! `joins` gives the pairs of rectangles that share an edge, and `shapes` for each rectangle the number of its shape
+//! too: the class of its cells under walks over shared edges. A `Finder` gives the rectangles that are closer to one of
 //! them than a reach. `are_apart` tells whether no two rectangles share a cell, which `shapes` asks for.
 #![tactic(auto)]
 
@@ -15,6 +15,7 @@ pub mod types;
 
 pub use apart::are_apart;
 pub use finder::Finder;
+pub use joining::joins;
 pub use shaping::shapes;
 pub use std::alloc::AllocError as NoMemory;
 
