@@ -20,7 +20,8 @@ use Rattle.dpl_links.proofs.NetLemmas.{edges_length, not_more_edges}
 use Rattle.dpl_report.specs.declared.options.Options.{Options}
 use Rattle.dpl_layer.specs.Layers.{AreFragmentsOf, IsLayerOf}
 use Rattle.dpl_links.proofs.SameLemmas.{net_same}
-use Rattle.dpl_near.proofs.LawLemmas.{labels_same, HasCell}
+use Rattle.dpl_cell.proofs.BoxLemmas.{HasCell}
+use Rattle.dpl_near.proofs.LawLemmas.{labels_same}
 use Rattle.dpl_cell.proofs.OrderLemmas.{tiles_same}
 use Rattle.dpl_list.proofs.Lists.{no_more}
 
