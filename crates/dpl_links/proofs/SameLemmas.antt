@@ -23,7 +23,8 @@ use Rattle.dpl_cuts.specs.declared.types.Fragments.{Fragments}
 use Rattle.dpl_cuts.specs.Positions.{nowhere, rect_at}
 use Rattle.dpl_links.specs.declared.types.Weights.{Weights}
 use Rattle.dpl_links.specs.declared.linking.Link.{Link}
-use Rattle.dpl_links.specs.Pairs.{Scene, IsBond, IsFirst, ArePairs}
+use Rattle.dpl_near.specs.Joins.{IsFirst, ArePairs}
+use Rattle.dpl_links.specs.Pairs.{Scene, IsBond}
 use Rattle.dpl_links.specs.Links.{IsUpTo, IsLeast, AreClashes}
 use Rattle.dpl_links.specs.Ports.{side_key, IsPort, IsPortTo}
 use Rattle.dpl_links.specs.Nets.{scene, Tie, tie_of, ties_of, HasPorts, IsNet, HasMoreEdges}
