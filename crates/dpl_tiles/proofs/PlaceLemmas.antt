@@ -14,13 +14,14 @@ use Rattle.dpl_tiles.specs.Bands.{IsLeftOf}
 use Rattle.dpl_tiles.specs.Stacks.{ending}
 use Rattle.dpl_tiles.specs.Sweeps.{AreHeld, AreSwept}
 use Rattle.dpl_tiles.specs.Windows.{IsParted, IsChange, IsFar, IsWindow, AreNearRuns, IsContinued, AddsClosed}
-use Rattle.dpl_list.proofs.Integers.{signed, is_less, less_test}
+use Rattle.dpl_list.proofs.Integers.{signed}
 use Rattle.dpl_tiles.proofs.BoundLemmas.{bounded}
 use Rattle.dpl_tiles.proofs.StackLemmas.{AreAlike}
 use Rattle.dpl_tiles.proofs.WindowLemmas.{run_starts_inside, run_ends_inside, is_at_most, at_most_test}
 use Rattle.dpl_tiles.proofs.NearLemmas.{near_ends}
 use Rattle.dpl_tiles.proofs.SweepLemmas.{swept_more}
 use Rattle.dpl_tiles.proofs.StepLemmas.{all_left, all_right, part_ordered, window_step}
+use Rattle.dpl_list.proofs.Integers.{is_less, less_test}
 
 -- ---- lists from the right
 
