@@ -1,9 +1,11 @@
 -- Cells of boxes, as a fact and as a test.
-use Rattle.std.proofs.Common.{arith, rules, ◌≡◌, ◌<ℤ◌, ◌≤ℤ◌, ◌-ℤ◌, pos, ℕ, ◌<◌, ℤ, List, length, get_or, ◌∙◌, sym, refl, Any, Bool, true, false, IsTrue, map, inl, inr}
+use Rattle.std.proofs.Common.{arith, rules, ◌≡◌, ◌<ℤ◌, ◌≤ℤ◌, ◌-ℤ◌, pos, ℕ, ◌<◌, ℤ, List, length, get_or, ◌∙◌, sym, refl, All, Any, Bool, true, false, IsTrue, map, inl, inr}
 use Rattle.std.proofs.lemmas.Bool.{and_parts, cases_lt, cases_eq}
 use Rattle.std.proofs.lemmas.Int.{ints, clamps}
+use Rattle.std.proofs.lemmas.List.Elements.{All-map}
 use Rattle.std.proofs.lemmas.List.Folds.{list_any_at, list_any-from_Any, Any-from_list_any}
-use Rattle.dpl_cell.specs.Places.{Corners}
+use Rattle.dpl_cell.specs.declared.rect.Rect.{Rect}
+use Rattle.dpl_cell.specs.Places.{Corners, corners_of}
 use Rattle.dpl_cell.specs.Cells.{IsWithin, IsIn}
 use Rattle.dpl_cell.specs.Outlines.{Box}
 use Rattle.dpl_cell.specs.Layers.{is_within, is_in_box, is_in_outline, is_cell}
@@ -54,6 +56,16 @@ box_in r x y i = let e = within_test r.x1 r.x2 x i.column in let f = within_test
 
 pub in_box : (r : Corners) (x y : ℤ) → is_in_box r x y ≡ true → IsIn r x y
 in_box r x y e = let (f, g) = and_parts (is_within r.x1 r.x2 x) (is_within r.y1 r.y2 y) e in record { column = test_within _ _ x f; row = test_within _ _ y g }
+
+-- a rectangle with a cell
+abbrev pub HasCell : Corners → Type 0
+HasCell r = (r.x1 <ℤ r.x2) × (r.y1 <ℤ r.y2)
+
+pub rects_have : (rects : List Rect) → All HasCell (map corners_of rects)
+rects_have rects = All-map HasCell corners_of rects (λ k d l. ((get_or rects k d).wide, (get_or rects k d).high))
+
+pub low_cell : (r : Corners) → HasCell r → IsIn r r.x1 r.y1
+low_cell r (w, h) = record { column = at_start r.x1 r.x2 w; row = at_start r.y1 r.y2 h }
 
 -- ---- cells of the layer of boxes
 

@@ -1,8 +1,6 @@
 -- How two rectangles lie to each other, by the parts that they have in common.
-use Rattle.std.proofs.Common.{arith, ◌≡◌, ◌⊎◌, inl, inr, ℕ, ◌≤◌, ℤ, ◌<ℤ◌, ◌≤ℤ◌, true, false}
-use Rattle.std.proofs.lemmas.Int.{ints}
+use Rattle.std.proofs.Common.{◌≡◌, ◌⊎◌, inl, inr, ℕ, ◌≤◌, ℤ, ◌<ℤ◌, ◌≤ℤ◌}
 use Rattle.std.specs.Int.{int_max, int_min}
-use Rattle.std.specs.Int.Signed.{lt_z}
 use Rattle.dpl_cell.specs.Places.{Corners}
 use Rattle.dpl_cell.specs.Cells.{IsWithin}
 use Rattle.dpl_cell.specs.Gaps.{between, IsBetween}
@@ -33,8 +31,3 @@ other_side l r l' r' (inl h) g = absurd (omega signed)
 other_side l r l' r' (inr h) g = h
 
 -- what the test of two numbers says
-pub test_lt : (x y : ℤ) → lt_z x y ≡ true → x <ℤ y
-test_lt x y e = grind (arith, ints)
-
-pub test_le : (x y : ℤ) → lt_z x y ≡ false → y ≤ℤ x
-test_le x y e = grind (arith, ints)

@@ -22,7 +22,8 @@ use Rattle.dpl_cif.specs.Reading.Reading.{Faulty, TooMany, TooManyCalls, TooFar,
 use Rattle.dpl_cif.specs.OnCells.{OnCells}
 use Rattle.dpl_layer.specs.Layers.{AreFragmentsOf, IsLayer, IsLayerOf}
 use Rattle.dpl_links.proofs.SameLemmas.{net_same}
-use Rattle.dpl_near.proofs.LawLemmas.{labels_same, HasCell}
+use Rattle.dpl_cell.proofs.BoxLemmas.{HasCell}
+use Rattle.dpl_near.proofs.LawLemmas.{labels_same}
 use Rattle.dpl_cell.proofs.OrderLemmas.{tiles_same}
 use Rattle.dpl_list.proofs.Lists.{no_more}
 

@@ -22,7 +22,8 @@ use Rattle.dpl_cuts.specs.Zones.{TellShapes, HoldLayer}
 use Rattle.dpl_cuts.proofs.ZoneLemmas.{tell_shapes, hold_layer}
 use Rattle.dpl_links.specs.declared.types.Weights.{Weights}
 use Rattle.dpl_links.specs.declared.linking.Link.{Link}
-use Rattle.dpl_links.specs.Pairs.{Scene, IsBond, IsConflict, ArePairs, rect_gap2, corner_rank}
+use Rattle.dpl_near.specs.Joins.{ArePairs}
+use Rattle.dpl_links.specs.Pairs.{Scene, IsBond, IsConflict, rect_gap2, corner_rank}
 use Rattle.dpl_links.specs.Links.{piece_of, IsLink, IsLeast, AreAlike, AreClashes}
 use Rattle.dpl_links.specs.Nets.{scene, Tie, tie_of, bond_tie, stitch_tie, clash_tie, ties_of, IsNet}
 use Rattle.dpl_links.specs.Spacing.{AreTooClose, IsClashOf, HoldTooClose, AreAllClashes, AreWithinShapes}

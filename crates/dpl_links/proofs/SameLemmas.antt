@@ -23,17 +23,17 @@ use Rattle.dpl_cuts.specs.declared.types.Fragments.{Fragments}
 use Rattle.dpl_cuts.specs.Positions.{nowhere, rect_at}
 use Rattle.dpl_links.specs.declared.types.Weights.{Weights}
 use Rattle.dpl_links.specs.declared.linking.Link.{Link}
-use Rattle.dpl_links.specs.Pairs.{Scene, IsBond, IsFirst, ArePairs}
+use Rattle.dpl_near.specs.Joins.{IsFirst, ArePairs}
+use Rattle.dpl_links.specs.Pairs.{Scene, IsBond}
 use Rattle.dpl_links.specs.Links.{IsUpTo, IsLeast, AreClashes}
 use Rattle.dpl_links.specs.Ports.{side_key, IsPort, IsPortTo}
 use Rattle.dpl_links.specs.Nets.{scene, Tie, tie_of, ties_of, HasPorts, IsNet, HasMoreEdges}
 use Rattle.dpl_links.proofs.HeadLemmas.{rank_equal}
-use Rattle.dpl_cell.proofs.BoxLemmas.{at_start, equal_z}
+use Rattle.dpl_cell.proofs.BoxLemmas.{at_start, equal_z, HasCell, rects_have}
 use Rattle.dpl_list.proofs.Integers.{signed}
 use Rattle.dpl_links.proofs.GatherLemmas.{same_link}
 use Rattle.dpl_links.proofs.NetLemmas.{edges_length, not_more_edges}
 use Rattle.dpl_list.proofs.Ordered.{maps_same, has_all, ordered_same}
-use Rattle.dpl_near.proofs.LawLemmas.{rects_have, HasCell}
 use Rattle.dpl_classes.proofs.NumberLemmas.{numbers_same, count_same}
 use Rattle.dpl_cuts.proofs.SortLemmas.{both_equal}
 

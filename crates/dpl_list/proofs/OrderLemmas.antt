@@ -1,4 +1,4 @@
--- Lists whose keys do not fall.
+-- What the order of two integers says, and lists whose keys do not fall.
 use Rattle.std.proofs.Common.{arith, ◌≡◌, suc, ℤ, ◌<ℤ◌, ◌≤ℤ◌, List, get_or, ◌∷◌, All, Ordering, false}
 use Rattle.std.proofs.Common.{Less, Equal, Greater}
 use Rattle.std.specs.Ordering.{int_cmp, is_lt, MatchOrdering}
@@ -8,6 +8,19 @@ use Rattle.std.proofs.lemmas.Cmp.{int_cmp_total}
 use Rattle.std.proofs.lemmas.List.Sorted.{sorted_far, ranks_by}
 use Rattle.dpl_list.specs.Order.{Ascends}
 use Rattle.dpl_list.proofs.Integers.{signed}
+
+by_order : (P Q R : Type 0) (r s : Ordering) → MatchOrdering r P Q R → r ≡ s → MatchOrdering s P Q R
+by_order P Q R r s m e = rw e at m
+
+-- what the order of two numbers says
+pub equal_by_order : (a b : ℤ) → int_cmp a b ≡ Equal → a ≡ b
+equal_by_order a b e = by_order _ _ _ _ _ (int_ranks a b) e
+
+pub less_by_order : (a b : ℤ) → int_cmp a b ≡ Less → a <ℤ b
+less_by_order a b e = by_order _ _ _ _ _ (int_ranks a b) e
+
+pub greater_by_order : (a b : ℤ) → int_cmp a b ≡ Greater → b <ℤ a
+greater_by_order a b e = by_order _ _ _ _ _ (int_ranks a b) e
 
 ranked_low : (x y : ℤ) (r : Ordering) → MatchOrdering r (x <ℤ y) (x ≡ y) (y <ℤ x) → is_lt r ≡ false → y ≤ℤ x
 ranked_low x y Less m e = cc

@@ -1,24 +1,10 @@
 -- Rectangles have one list of shapes.
-use Rattle.std.proofs.Common.{arith, ◌≡◌, ℕ, ◌<◌, ℤ, pos, ◌<ℤ◌, ◌≤ℤ◌, List, length, get_or, map, All, sym, ◌∙◌}
-use Rattle.std.proofs.lemmas.Int.{ints}
-use Rattle.std.proofs.lemmas.List.Elements.{All-map}
-use Rattle.dpl_cell.specs.declared.rect.Rect.{Rect}
-use Rattle.dpl_cell.specs.Places.{Corners, corners_of}
+use Rattle.std.proofs.Common.{arith, ◌≡◌, ℕ, ◌<◌, pos, List, length, get_or, All, sym, ◌∙◌}
+use Rattle.dpl_cell.specs.Places.{Corners}
 use Rattle.dpl_cell.specs.Cells.{IsIn}
+use Rattle.dpl_cell.proofs.BoxLemmas.{HasCell, low_cell}
 use Rattle.dpl_classes.proofs.NumberLemmas.{numbers_same, count_same}
 use Rattle.dpl_near.specs.Shapes.{AreShapes}
-
--- a rectangle with a cell
-abbrev pub HasCell : Corners → Type 0
-HasCell r = (r.x1 <ℤ r.x2) × (r.y1 <ℤ r.y2)
-
-pub rects_have : (rects : List Rect) → All HasCell (map corners_of rects)
-rects_have rects = All-map HasCell corners_of rects (λ k d l. ((get_or rects k d).wide, (get_or rects k d).high))
-
-pub low_cell : (r : Corners) → HasCell r → IsIn r r.x1 r.y1
-low_cell r (w, h) = record { column = record { from = same_z r.x1; to = w }; row = record { from = same_z r.y1; to = h } } where
-  same_z : (x : ℤ) → x ≤ℤ x
-  same_z x = omega (arith, ints)
 
 nowhere : Corners
 nowhere = record { x1 = pos 0; y1 = pos 0; x2 = pos 0; y2 = pos 0 }

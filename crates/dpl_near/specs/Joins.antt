@@ -11,19 +11,27 @@ pub record IsJoin (rects : List Corners) (i j : ℕ) : Type 0 where
   pub edge : (d : Corners) →
       SharesEdge (IsIn (slice_index_or rects i d)) (IsIn (slice_index_or rects j d))
 
--- the pair stands before (i, j), in the order of the first number and then of the second
-abbrev pub IsEarlier : ℕ → ℕ → ℕ × ℕ → Type 0
-IsEarlier i j p = (p.0 < i) ⊎ ((p.0 ≡ i) × (p.1 < j))
+-- the pair (i, j) stands before (k, l)
+abbrev pub IsFirst : ℕ × ℕ → ℕ × ℕ → Type 0
+IsFirst p q = (p.0 < q.0) ⊎ ((p.0 ≡ q.0) × (p.1 < q.1))
+
+-- all pairs with a property, each once, in order
+pub record ArePairs (has : ℕ → ℕ → Type 0) (pairs : List (ℕ × ℕ)) : Type 0 where
+  pub each : All (λ p. has p.0 p.1) pairs
+  pub all : (i j : ℕ) → has i j → Contains pairs (i, j)
+  pub ordered : AllPairs IsFirst pairs
 
 -- all such pairs, each once, in order
-pub record AreJoins (rects : List Corners) (joins : List (ℕ × ℕ)) : Type 0 where
-  pub each : All (λ p. IsJoin rects p.0 p.1) joins
-  pub all : (i j : ℕ) → IsJoin rects i j → Contains joins (i, j)
-  pub ordered : AllPairs (λ p q. IsEarlier q.0 q.1 p) joins
+abbrev pub AreJoins : List Corners → List (ℕ × ℕ) → Type 0
+AreJoins rects = ArePairs (IsJoin rects)
+
+-- the pair stands before (i, j), in the order of the first number and then of the second
+abbrev pub IsEarlier : ℕ → ℕ → ℕ × ℕ → Type 0
+IsEarlier i j p = IsFirst p (i, j)
 
 -- those of them that stand before (i, j)
 pub record AreJoinsBefore (rects : List Corners) (i j : ℕ) (joins : List (ℕ × ℕ)) : Type 0 where
   pub each : All (λ p. IsJoin rects p.0 p.1) joins
   pub all : (k l : ℕ) → IsEarlier i j (k, l) → IsJoin rects k l → Contains joins (k, l)
-  pub ordered : AllPairs (λ p q. IsEarlier q.0 q.1 p) joins
+  pub ordered : AllPairs IsFirst joins
   pub earlier : All (IsEarlier i j) joins

@@ -10,20 +10,8 @@ use Rattle.std.proofs.lemmas.List.Sorted.{searchable_from_sorted}
 use Rattle.dpl_cell.specs.declared.rect.Rect.{Rect}
 use Rattle.dpl_tiles.specs.Bands.{HasColumns, IsLeftOf}
 use Rattle.dpl_list.proofs.Integers.{signed}
+use Rattle.dpl_list.proofs.OrderLemmas.{less_by_order, greater_by_order}
 use Rattle.dpl_cell.proofs.BoxLemmas.{three}
-
-by_order : (P Q R : Type 0) (r s : Ordering) → MatchOrdering r P Q R → r ≡ s → MatchOrdering s P Q R
-by_order P Q R r s m e = rw e at m
-
--- what the order of two numbers says
-pub equal_by_order : (a b : ℤ) → int_cmp a b ≡ Equal → a ≡ b
-equal_by_order a b e = by_order _ _ _ _ _ (int_ranks a b) e
-
-pub less_by_order : (a b : ℤ) → int_cmp a b ≡ Less → a <ℤ b
-less_by_order a b e = by_order _ _ _ _ _ (int_ranks a b) e
-
-pub greater_by_order : (a b : ℤ) → int_cmp a b ≡ Greater → b <ℤ a
-greater_by_order a b e = by_order _ _ _ _ _ (int_ranks a b) e
 
 not_less : (a b : ℤ) (r : Ordering) → MatchOrdering r (b <ℤ a) (b ≡ a) (a <ℤ b) → a <ℤ b → is_lt r ≡ false
 not_less a b Less m h = absurd (omega signed)

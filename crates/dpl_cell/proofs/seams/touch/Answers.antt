@@ -14,4 +14,4 @@ returns c =
     let f3 : SFits w64 r.low = search rules in
     let f4 : SFits w64 r.high = search rules in
     let e = c.common_part-c.ensures in
-    simp to_z-of_z (touch_test (corners_of a) (corners_of b) r.left r.right r.low r.high (record { wide = a.wide; high = a.high }) (record { wide = b.wide; high = b.high }) e.left e.right e.low e.high)
+    simp to_z-of_z (touch_test (corners_of a) (corners_of b) r.left r.right r.low r.high (a.wide, a.high) (b.wide, b.high) e.left e.right e.low e.high)

@@ -1,6 +1,7 @@
 use Rattle.std.proofs.Common.{map}
 use Rattle.dpl_cell.specs.Places.{corners_of}
-use Rattle.dpl_near.proofs.LawLemmas.{rects_have, labels_same, counts_same}
+use Rattle.dpl_near.proofs.LawLemmas.{labels_same, counts_same}
+use Rattle.dpl_cell.proofs.BoxLemmas.{rects_have}
 use Rattle.dpl_near.proofs.laws.shapes_are_one.Goals as goal
 
 pub returns : goal.returns

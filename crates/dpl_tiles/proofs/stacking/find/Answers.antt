@@ -3,7 +3,8 @@ use Rattle.std.proofs.lemmas.Int.{ints}
 use Rattle.std.proofs.lemmas.List.{get_or_default}
 use Rattle.std.proofs.lemmas.List.Sorted.{answers_always}
 use Rattle.dpl_cell.specs.declared.rect.Rect.{Rect}
-use Rattle.dpl_tiles.proofs.FindLemmas.{rising, none_begins, none_as_wide, equal_by_order}
+use Rattle.dpl_tiles.proofs.FindLemmas.{rising, none_begins, none_as_wide}
+use Rattle.dpl_list.proofs.OrderLemmas.{equal_by_order}
 use Rattle.dpl_tiles.proofs.stacking.find.Goals as goal
 
 pub returns-in-Err : goal.returns-in-Err
