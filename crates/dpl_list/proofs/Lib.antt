@@ -3,3 +3,4 @@ pub mod Zips
 pub mod Ordered
 pub mod Integers
 pub mod OrderLemmas
+pub mod Naturals

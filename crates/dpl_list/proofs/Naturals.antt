@@ -1,0 +1,9 @@
+-- The test whether two numbers differ, and the fact that it tells.
+use Rattle.std.proofs.Common.{◌≡◌, ◌≢◌, ℕ, ◌==◌, true, not, arith}
+use Rattle.std.proofs.lemmas.Bool.Decides.{nat_tests}
+
+pub differ_test : (a b : ℕ) → a ≢ b → not (a == b) ≡ true
+differ_test a b n = grind (arith, nat_tests)
+
+pub they_differ : (a b : ℕ) → not (a == b) ≡ true → a ≢ b
+they_differ a b t e = grind (arith, nat_tests)
