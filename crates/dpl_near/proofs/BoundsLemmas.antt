@@ -12,17 +12,15 @@ use Rattle.dpl_cell.specs.Gaps.{between, AreClose}
 use Rattle.dpl_near.specs.Bounds.{bounds_of}
 use Rattle.dpl_near.specs.Near.{IsNear, MayBeNear}
 use Rattle.dpl_list.proofs.Integers.{signed}
+use Rattle.dpl_list.proofs.Naturals.{square_le}
 
 -- ---- rectangles closer than the reach have bounds that meet those of one, widened
 
-squares : (a c : ℕ) → a ≤ c → a * a ≤ c * c
-squares a c h = grind arith
-
 first_less : (a b r : ℕ) → a * a + b * b < r * r → a < r
-first_less a b r h = elim (cases_lt a r) [ inl l ↦ l | inr l ↦ let s = squares r a l in absurd (omega arith) ]
+first_less a b r h = elim (cases_lt a r) [ inl l ↦ l | inr l ↦ let s = square_le r a l in absurd (omega arith) ]
 
 second_less : (a b r : ℕ) → a * a + b * b < r * r → b < r
-second_less a b r h = elim (cases_lt b r) [ inl l ↦ l | inr l ↦ let s = squares r b l in absurd (omega arith) ]
+second_less a b r h = elim (cases_lt b r) [ inl l ↦ l | inr l ↦ let s = square_le r b l in absurd (omega arith) ]
 
 pub close_meets : (r other : Corners) (reach : ℕ) → AreClose (IsIn r) (IsIn other) reach
     → Meets (bounds_of other) (record { left = r.x1 -ℤ pos reach; right = r.x2 +ℤ pos reach; low = r.y1 -ℤ pos reach; high = r.y2 +ℤ pos reach })
