@@ -11,14 +11,13 @@ use Rattle.dpl_cell.specs.Places.{place_of}
 use Rattle.dpl_cell.specs.Outlines.{outline_of}
 use Rattle.dpl_cell.specs.Layers.{is_left_side, left_sides, is_in_polygon, is_cell, is_in_outline}
 use Rattle.dpl_tiles.specs.declared.corners.Corner.{Corner}
-use Rattle.dpl_tiles.specs.Sides.{spans}
 use Rattle.dpl_tiles.specs.Windows.{IsOutside}
 use Rattle.dpl_tiles.specs.Bounds.{SpansColumns}
 use Rattle.dpl_tiles.specs.Corners.{IsCornerOf, SpansSide, IsEndOf, HasSides, HasCornersOf, AreCorners, AreCornersAt}
 use Rattle.dpl_tiles.specs.Clusters.{AreChanges}
 use Rattle.dpl_cell.proofs.BoxLemmas.{equal_z}
 use Rattle.dpl_list.proofs.Integers.{signed}
-use Rattle.dpl_tiles.proofs.SideLemmas.{bit, spans_parity}
+use Rattle.dpl_tiles.proofs.SideLemmas.{bit, spans, spans_parity}
 use Rattle.dpl_tiles.proofs.OutlineLemmas.{AllColumns, Agrees, Lies, side_same, outline_same, outline_past, at_most, above}
 
 -- an ordinate that is not z lies on one side of row z and of the row below it

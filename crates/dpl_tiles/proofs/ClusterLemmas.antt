@@ -1,5 +1,5 @@
 -- One cluster of corners: what it changes lies between the column that was passed before and the next one.
-use Rattle.std.proofs.Common.{arith, ◌≡◌, ◌⊎◌, ◌∙◌, ℕ, ◌<◌, ◌≤◌, ℤ, pos, ◌-ℤ◌, ◌<ℤ◌, ◌≤ℤ◌, List, length, get_or, reverse, All, Any, AllPairs, refl, sym, ap, inl, inr, [], ◌∷◌, ◌++◌, append_assoc, Bool, IsTrue, map}
+use Rattle.std.proofs.Common.{arith, ◌≡◌, ◌⊎◌, ◌∙◌, ℕ, ◌<◌, ◌≤◌, ℤ, pos, ◌-ℤ◌, ◌<ℤ◌, ◌≤ℤ◌, List, length, get_or, reverse, All, Any, AllPairs, refl, sym, ap, inl, inr, [], ◌∷◌, ◌++◌, append_assoc, subst, Bool, true, false, IsTrue, map}
 use Rattle.std.specs.List.{AllZip}
 use Rattle.std.proofs.lemmas.Bool.{cases_lt}
 use Rattle.std.proofs.lemmas.Int.{by_lt_z}
@@ -16,6 +16,7 @@ use Rattle.dpl_tiles.specs.Bands.{HasColumns, IsLeftOf}
 use Rattle.dpl_tiles.specs.Stacks.{ending}
 use Rattle.dpl_tiles.specs.Sweeps.{IsSameStack, IsStep}
 use Rattle.dpl_tiles.specs.Windows.{IsChange, IsFar, IsParted, AreNearRuns, IsContinued, IsClosed, AddsClosed}
+use Rattle.dpl_tiles.specs.Stretches.{IsFramed}
 use Rattle.dpl_tiles.specs.Clusters.{passed, AreChanges, IsCluster, IsPassed}
 use Rattle.dpl_list.proofs.Lists.{any_head, any_tail, some_of}
 use Rattle.dpl_list.proofs.Integers.{signed}
@@ -35,6 +36,10 @@ run_within old new z w x1 x2 same h run = record {
   right = let e = same x2 h in λ f. run.right (rw e f);
 }
 
+not_true : (t : Bool) → (t ≡ true → ⊥) → t ≡ false
+not_true true f = absurd (f refl)
+not_true false f = refl
+
 -- ---- the end of a cluster
 
 -- the right end of the columns up to d2 and of the stacks
@@ -50,6 +55,12 @@ end_of (r ∷ rs) d2 = go (end_of rs d2) where
   go (w, e) = by_lt_z r.x2 w
       (λ h. (w, record { right = e.right; holds = All-cons (λ r. r.x2 ≤ℤ w) r rs (omega signed) e.holds; is = elim e.is [ inl f ↦ inl f | inr a ↦ inr (any_tail (λ r. r.x2 ≡ w) r rs a) ] }))
       (λ h. (r.x2, record { right = let f = e.right in omega signed; holds = All-cons (λ q. q.x2 ≤ℤ r.x2) r rs (omega signed) (All-weaker (λ q. q.x2 ≤ℤ w) (λ q. q.x2 ≤ℤ r.x2) (λ q i. omega signed) rs e.holds); is = inr (any_head (λ q. q.x2 ≡ r.x2) r rs refl) }))
+
+end_within : (near : List Rect) (d2 w b : ℤ) → IsEnd near d2 w → d2 ≤ℤ b → All (λ r. r.x2 ≤ℤ b) near → w ≤ℤ b
+end_within near d2 w b e h inside = elim e.is [
+  | inl f ↦ omega signed
+  | inr (k, q, l, i, f) ↦ let j : q.x2 ≤ℤ b = rw i at (inside k q l) in omega signed
+]
 
 -- a cluster, with the stacks near it
 pub record IsMet (cells : ℤ → ℤ → Bool) (z : ℤ) (row : List Corner) (at to : ℕ) (d1 d2 : ℤ) (ended now left near right : List Rect) : Type 0 where
@@ -159,8 +170,9 @@ module _ (cells : ℤ → ℤ → Bool) (z : ℤ) (row : List Corner) (at to : �
       let (x1, x2, run, at') = run_around (passed cells m.before.column) x z (λ y h. m.bound.left y _ h) (λ y h. m.bound.right y _ h) t in
       (x1, x2, run, at', m.before.step.step.all x1 x2 run)
 
-  ends_by : (new : ℤ → ℤ → Bool) → passed cells m.before.column w z ≡ new w z → (x1 x2 : ℤ) → IsRun new x1 x2 z → x1 ≤ℤ d2 → x2 ≤ℤ w
-  ends_by new same x1 x2 run h = by_lt_z w x2 (λ g. absurd (go (stack_at w (rw same (run.full w (record { from = let f = e.right in omega signed; to = g })))))) (λ g. g) where
+  -- no stack stands across the end
+  missed : IsTrue (passed cells m.before.column w z) → ⊥
+  missed t = go (stack_at w t) where
     go : (y1 : ℤ) × (y2 : ℤ) × IsRun (passed cells m.before.column) y1 y2 z × IsWithin y1 y2 w × Any (HasColumns y1 y2) now → ⊥
     go (y1, y2, was, at', (k, o, l, f, t)) = elim (on k o l f) [
       | inl i ↦ let j = t.right in let n = at'.to in omega signed
@@ -169,19 +181,26 @@ module _ (cells : ℤ → ℤ → Bool) (z : ℤ) (row : List Corner) (at to : �
       on : (k : ℕ) (o : Rect) → k < length now → get_or now k o ≡ o → (o.x2 ≤ℤ w) ⊎ (w <ℤ o.x1)
       on k o l f = rw f at (sides k o l)
 
+  ends_by : (new : ℤ → ℤ → Bool) → passed cells m.before.column w z ≡ new w z → (x1 x2 : ℤ) → IsRun new x1 x2 z → x1 ≤ℤ d2 → x2 ≤ℤ w
+  ends_by new same x1 x2 run h = by_lt_z w x2 (λ g. absurd (missed (rw same (run.full w (record { from = let f = e.right in omega signed; to = g }))))) (λ g. g)
+
   passed_ends : (x1 x2 : ℤ) → IsRun (passed cells w) x1 x2 z → x1 ≤ℤ d2 → x2 ≤ℤ w
   passed_ends x1 x2 run h = ends_by (passed cells w) (passed_behind w e.right ∙ sym (passed_right cells w w z (omega signed))) x1 x2 run h
 
   row_ends : (x1 x2 : ℤ) → IsRun cells x1 x2 z → x1 ≤ℤ d2 → x2 ≤ℤ w
   row_ends x1 x2 run h = ends_by cells (passed_behind w e.right ∙ same_right w e.right (omega signed)) x1 x2 run h
 
+  -- each stack ends left of the cluster, or begins in the window or right of it
+  near_or_past : (a : ℤ) → a ≤ℤ d1 → All (λ r. a ≤ℤ r.x1) near → All (λ r. (r.x2 <ℤ d1) ⊎ (a ≤ℤ r.x1)) now
+  near_or_past a h holds = rw m.parted.whole (All-append (λ r. (r.x2 <ℤ d1) ⊎ (a ≤ℤ r.x1)) left (near ++ reverse right) (λ k d l. inl (m.parted.left k d l))
+      (All-append (λ r. (r.x2 <ℤ d1) ⊎ (a ≤ℤ r.x1)) near (reverse right) (λ k d l. inr (holds k d l)) (λ k d l. inr (further _ (m.parted.right k d l))))) where
+        further : (x : ℤ) → d2 <ℤ x → a ≤ℤ x
+        further x i = let f = m.parted.some in omega signed
+
   row_starts : (a : ℤ) → a ≤ℤ d1 → All (λ r. a ≤ℤ r.x1) near → (x1 x2 : ℤ) → IsRun cells x1 x2 z → d1 ≤ℤ x2 → a ≤ℤ x1
   row_starts a h holds x1 x2 run low = by_lt_z x1 d1 (λ g. go g (stack_at (d1 -ℤ pos 1) (rw (passed_before (d1 -ℤ pos 1) (omega signed)) (run.full (d1 -ℤ pos 1) (record { from = omega signed; to = omega signed }))))) (λ g. omega signed) where
     places : All (λ r. (r.x2 <ℤ d1) ⊎ (a ≤ℤ r.x1)) now
-    places = rw m.parted.whole (All-append (λ r. (r.x2 <ℤ d1) ⊎ (a ≤ℤ r.x1)) left (near ++ reverse right) (λ k d l. inl (m.parted.left k d l))
-        (All-append (λ r. (r.x2 <ℤ d1) ⊎ (a ≤ℤ r.x1)) near (reverse right) (λ k d l. inr (holds k d l)) (λ k d l. inr (further _ (m.parted.right k d l))))) where
-          further : (x : ℤ) → d2 <ℤ x → a ≤ℤ x
-          further x i = let f = m.parted.some in omega signed
+    places = near_or_past a h holds
 
     go : x1 <ℤ d1 → (y1 : ℤ) × (y2 : ℤ) × IsRun (passed cells m.before.column) y1 y2 z × IsWithin y1 y2 (d1 -ℤ pos 1) × Any (HasColumns y1 y2) now → a ≤ℤ x1
     go g (y1, y2, was, at', (k, o, l, f, t)) = elim (on k o l f) [
@@ -194,6 +213,31 @@ module _ (cells : ℤ → ℤ → Bool) (z : ℤ) (row : List Corner) (at to : �
       -- the row has cells from x1 up to the cluster, and so has the row before
       reaches : y1 ≤ℤ x1
       reaches = by_lt_z x1 y1 (λ i. absurd (was.left (let n = at'.from in rw (passed_before (y1 -ℤ pos 1) (omega signed)) (run.full (y1 -ℤ pos 1) (record { from = omega signed; to = omega signed }))))) (λ i. i)
+
+  -- ---- no cell stands right beside the window
+
+  -- the right end is no cell of the row
+  end_free : cells w z ≡ false
+  end_free = not_true (cells w z) (λ t. missed (passed_behind w e.right ∙ same_right w e.right (omega signed) ∙ t))
+
+  -- left of the stack where the window begins, or of the cluster, there is none
+  start_free : (a : ℤ) → a ≤ℤ d1 → All (λ r. a ≤ℤ r.x1) near → (a ≡ d1) ⊎ Any (λ r. r.x1 ≡ a) near → cells (a -ℤ pos 1) z ≡ false
+  start_free a h holds which = not_true (cells (a -ℤ pos 1) z) (λ t. by_end (passed_before (a -ℤ pos 1) (omega signed) ∙ t) which) where
+    by_end : passed cells m.before.column (a -ℤ pos 1) z ≡ true → (a ≡ d1) ⊎ Any (λ r. r.x1 ≡ a) near → ⊥
+    by_end t (inl f) = go (stack_at (a -ℤ pos 1) t) where
+      places : All (λ r. (r.x2 <ℤ d1) ⊎ (a ≤ℤ r.x1)) now
+      places = near_or_past a h holds
+
+      go : (y1 : ℤ) × (y2 : ℤ) × IsRun (passed cells m.before.column) y1 y2 z × IsWithin y1 y2 (a -ℤ pos 1) × Any (HasColumns y1 y2) now → ⊥
+      go (y1, y2, was, at', (k, o, l, g, u)) = elim (on k o l g) [
+        | inl i ↦ let j = u.right in let n = at'.to in omega signed
+        | inr i ↦ let j = u.left in let n = at'.from in omega signed
+      ] where
+        on : (k : ℕ) (o : Rect) → k < length now → get_or now k o ≡ o → (o.x2 <ℤ d1) ⊎ (a ≤ℤ o.x1)
+        on k o l g = rw g at (places k o l)
+    by_end t (inr (k, q, l, f, e)) = begun q (rw f at (near_all now d1 d2 left near right m.parted (λ r. IsRun (passed cells m.before.column) r.x1 r.x2 z) (λ k d l. (m.before.step.step.each k d l).0) k q l)) e where
+      begun : (q : Rect) → IsRun (passed cells m.before.column) q.x1 q.x2 z → q.x1 ≡ a → ⊥
+      begun q run g = run.left (rw g t)
 
   near_passed : (runs : List Rect) → AreNearRuns cells z d1 d2 runs → AreNearRuns (passed cells w) z d1 d2 runs
   near_passed runs are = record {
@@ -250,17 +294,29 @@ module _ (cells : ℤ → ℤ → Bool) (z : ℤ) (row : List Corner) (at to : �
   -- each run that is not far from the cluster lies in the window
   pub run_inside : (a b : ℤ) → a ≤ℤ d1 → d2 ≤ℤ b → All (λ r. (a ≤ℤ r.x1) × (r.x2 ≤ℤ b)) near → (x1 x2 : ℤ) → IsRun cells x1 x2 z → ¬ IsFar d1 d2 x1 x2 → (a ≤ℤ x1) × (x2 ≤ℤ b)
   run_inside a b h g inside x1 x2 run near' = go (end_of near d2) (near_ends d1 d2 x1 x2 near') where
-    up_to : (w : ℤ) → IsEnd near d2 w → w ≤ℤ b
-    up_to w e = elim e.is [
-      | inl f ↦ omega signed
-      | inr (k, q, l, i, f) ↦ let j : q.x2 ≤ℤ b = rw i at ((inside k q l).1) in omega signed
-    ]
-
     go : (w : ℤ) × IsEnd near d2 w → (d1 ≤ℤ x2) × (x1 ≤ℤ d2) → (a ≤ℤ x1) × (x2 ≤ℤ b)
     go (w, e) (i, j) = (
       row_starts cells z row at to d1 d2 ended now left near right m w e a h (λ k d l. (inside k d l).0) x1 x2 run i,
-      let f = row_ends cells z row at to d1 d2 ended now left near right m w e x1 x2 run j in let n = up_to w e in omega signed,
+      let f = row_ends cells z row at to d1 d2 ended now left near right m w e x1 x2 run j in let n = end_within near d2 w b e g (λ k d l. (inside k d l).1) in omega signed,
     )
+
+  -- no cell of the row stands right beside the window
+  pub framed : (a b : ℤ) → a ≤ℤ d1 → d2 ≤ℤ b → All (λ r. (a ≤ℤ r.x1) × (r.x2 ≤ℤ b)) near → (a ≡ d1) ⊎ Any (λ r. r.x1 ≡ a) near → (b ≡ d2) ⊎ Any (λ r. r.x2 ≡ b) near → IsFramed cells z a b
+  framed a b h g inside first last = go (end_of near d2) where
+    go : (w : ℤ) × IsEnd near d2 w → IsFramed cells z a b
+    go (w, e) = record {
+      some = let f = m.parted.some in omega signed;
+      left = start_free cells z row at to d1 d2 ended now left near right m w e a h (λ k d l. (inside k d l).0) first;
+      right = subst (λ c. cells c z ≡ false) is_end (end_free cells z row at to d1 d2 ended now left near right m w e);
+    } where
+      from : b ≤ℤ w
+      from = elim last [
+        | inl f ↦ let i = e.right in omega signed
+        | inr (k, q, l, i, f) ↦ let j : q.x2 ≤ℤ w = rw i at (e.holds k q l) in omega signed
+      ]
+
+      is_end : w ≡ b
+      is_end = let f = end_within near d2 w b e g (λ k d l. (inside k d l).1) in let i = from in omega signed
 
   -- the stacks near it begin below row z
   pub near_below : All (λ r. r.y1 <ℤ z) near

@@ -2,6 +2,7 @@ pub mod StretchLemmas
 pub mod RunLemmas
 pub mod SideLemmas
 pub mod PairLemmas
+pub mod CrossingLemmas
 pub mod OrdinateLemmas
 pub mod FindLemmas
 pub mod OutlineLemmas

@@ -5,8 +5,7 @@ use Rattle.std.proofs.lemmas.List.Elements.{All-tail, All-head}
 use Rattle.dpl_cell.specs.Places.{Corners}
 use Rattle.dpl_cell.specs.Outlines.{Outline, Box, Polygon}
 use Rattle.dpl_cell.specs.Layers.{is_within, is_in_box, is_left_side, left_sides, is_in_outline, is_cell}
-use Rattle.dpl_tiles.specs.Sides.{spans}
-use Rattle.dpl_tiles.proofs.SideLemmas.{bit, spans_parity}
+use Rattle.dpl_tiles.proofs.SideLemmas.{bit, spans, spans_parity}
 use Rattle.std.proofs.Math.Bool.{and-false}
 
 -- a property of the rows and of the columns of all corners

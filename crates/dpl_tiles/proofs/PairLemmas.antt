@@ -16,7 +16,7 @@ use Rattle.dpl_cell.proofs.StretchLemmas.{within_none, in_pushed}
 use Rattle.dpl_tiles.proofs.SideLemmas.{bit, left_cons}
 
 -- nothing stands left of numbers that are greater
-left_none : (x z : ℤ) (zs : List ℤ) → x <ℤ z → All (λ w. z ≤ℤ w) zs → at_or_left x zs ≡ 0
+pub left_none : (x z : ℤ) (zs : List ℤ) → x <ℤ z → All (λ w. z ≤ℤ w) zs → at_or_left x zs ≡ 0
 left_none x z [] h a = refl
 left_none x z (w ∷ ws) h a =
     let f : z ≤ℤ w = All-head (λ w. z ≤ℤ w) w ws a in

@@ -1,6 +1,6 @@
 -- What a change of some columns leaves of the runs of a row.
 use Rattle.std.proofs.Common.{ℤ, pos, ◌-ℤ◌, ◌<ℤ◌, ◌≤ℤ◌, List, inl, inr, Bool, IsTrue, sym}
-use Rattle.std.proofs.Common.{arith, ◌≡◌, get_or, AllPairs, true, false, int_le, int_lt}
+use Rattle.std.proofs.Common.{arith, ◌≡◌, ◌⊎◌, ℕ, ◌<◌, length, get_or, subst, Any, AllPairs, true, false, int_le, int_lt}
 use Rattle.std.specs.List.Sorted.{IsPartitionedBy}
 use Rattle.std.proofs.lemmas.Bool.{cases_lt}
 use Rattle.std.proofs.lemmas.Int.{ints}
@@ -50,3 +50,8 @@ parted_left held c up i j d le l e = elim (cases_lt i j) [
 
 pub at_most_on : (a b c : ℤ) → a ≤ℤ b → b ≤ℤ c → a ≤ℤ c
 at_most_on a b c h k = omega signed
+
+-- an end that stays or is that of one more stack
+pub reached : (end : Rect → ℤ) (near : List Rect) (i : ℕ) (r : Rect) (change old new : ℤ) → i < length near → r ≡ get_or near i r → (new ≡ old) ⊎ (new ≡ end r) → (old ≡ change) ⊎ Any (λ o. end o ≡ old) near → (new ≡ change) ⊎ Any (λ o. end o ≡ new) near
+reached end near i r change old new l is (inl e) so = subst (λ z. (z ≡ change) ⊎ Any (λ o. end o ≡ z) near) (sym e) so
+reached end near i r change old new l is (inr e) so = inr (i, r, l, sym is, sym e)

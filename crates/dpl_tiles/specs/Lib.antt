@@ -2,6 +2,7 @@ pub mod Counts
 pub mod Union
 pub mod Stretches
 pub mod Sides
+pub mod Finders
 pub mod Bands
 pub mod Bounds
 pub mod Stacks

@@ -1,5 +1,7 @@
 // Ranges of columns and of places in a list, and the lesser and the greater of two numbers.
-ghost use Rattle.std.specs.Prelude.{ℤ, ◌≤ℤ◌};
+ghost use Rattle.std.specs.Prelude.{◌≡◌, ◌⊎◌, ℤ, ◌≤ℤ◌};
+
+use dpl_index::Bounds;
 
 /// Columns from `left` to `right`.
 #[derive(Clone, Copy, Debug)]
@@ -18,6 +20,7 @@ pub struct Places {
 pub fn lesser(a: i64, b: i64) -> i64
     ensures first { result ≤ℤ a }
     ensures second { result ≤ℤ b }
+    ensures one { (result ≡ a) ⊎ (result ≡ b) }
 {
     if a < b { a } else { b }
 }
@@ -25,6 +28,19 @@ pub fn lesser(a: i64, b: i64) -> i64
 pub fn greater(a: i64, b: i64) -> i64
     ensures first { a ≤ℤ result }
     ensures second { b ≤ℤ result }
+    ensures one { (result ≡ a) ⊎ (result ≡ b) }
 {
     if a < b { b } else { a }
+}
+
+/// The columns of a window in one row.
+pub fn row_within(window: &Columns, y: i64) -> Bounds
+    ensures { result ≡ record { left = window.now.left; right = window.now.right; low = y; high = y } }
+{
+    Bounds {
+        left: window.left,
+        right: window.right,
+        low: y,
+        high: y,
+    }
 }

@@ -4,25 +4,33 @@ ghost use Rattle.dpl_cell.specs.Outlines.{outline_of};
 ghost use Rattle.dpl_cell.specs.Layers.{is_in_outline, is_in_box, is_within};
 ghost use Rattle.dpl_cell.specs.Stretches.{AreSeparate, is_in_stretches};
 ghost use Rattle.dpl_list.specs.Order.{Ascends};
-ghost use Rattle.dpl_tiles.specs.Stretches.{AddsPlaces};
+ghost use Rattle.dpl_tiles.specs.Stretches.{AddsPlaces, AddsWithin, IsFramed};
+ghost use Rattle.dpl_tiles.specs.Sides.{AreSides};
 
+use crate::columns::Columns;
 use crate::crossing::push_polygon;
+use crate::sides::Sides;
 use dpl_cell::{Prim, Rect, Stretch};
 use std::alloc::{AllocError, Global};
 
-/// Adds the cells of a primitive in one row.
+/// Adds the cells that a primitive has in a window of a row, and perhaps more of those that it has in the row.
 pub fn push_prim(
     alloc: Global,
     parts: &mut Vec<Stretch>,
     prim: &Prim,
+    sides: &Sides,
+    window: &Columns,
     y: i64,
 ) -> Result<(), AllocError>
-    ensures { OnOk result (AddsPlaces (λ x.
-        is_in_outline x y (outline_of prim.now)) parts.old.items parts.new.items) }
+    requires sides { AreSides prim.now sides.now }
+    requires framed { IsFramed (λ x y. is_in_outline x y (outline_of prim.now)) y window.now.left
+        window.now.right }
+    ensures { OnOk result (AddsWithin (λ x y. is_in_outline x y (outline_of prim.now)) y
+        window.now.left window.now.right parts.old.items parts.new.items) }
 {
     match prim {
         Prim::Box(r) => push_box(parts, r, y),
-        Prim::Poly(points) => push_polygon(alloc, parts, points.as_slice(), y),
+        Prim::Poly(_) => push_polygon(alloc, parts, sides, window, y),
     }
 }
 

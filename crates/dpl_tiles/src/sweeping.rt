@@ -1,5 +1,5 @@
 // A sweep that touches only the stacks near the columns that change.
-ghost use Rattle.std.specs.Prelude.{◌≡◌, true, ℕ, ℤ, ◌-ℤ◌, ◌<ℤ◌, ◌≤ℤ◌, ◌<◌, ◌≤◌, ◌++◌, neg_ℤ, pos, length, slice_index_or, All, AllPairs, Contains, IfOk, OnOk, IsTrue, map, filter, take, drop, reverse, []};
+ghost use Rattle.std.specs.Prelude.{◌≡◌, ◌⊎◌, true, ℕ, ℤ, ◌-ℤ◌, ◌<ℤ◌, ◌≤ℤ◌, ◌<◌, ◌≤◌, ◌++◌, neg_ℤ, pos, length, slice_index_or, All, AllPairs, Any, Contains, IfOk, OnOk, IsTrue, map, filter, take, drop, reverse, []};
 ghost use Rattle.std.specs.List.{AllZip};
 ghost use Rattle.dpl_limits.specs.Limits.{most_coordinate};
 ghost use Rattle.dpl_cell.specs.declared.layout.Primitive.{Primitive};
@@ -9,7 +9,9 @@ ghost use Rattle.dpl_cell.specs.Outlines.{outline_of};
 ghost use Rattle.dpl_cell.specs.Layers.{is_cell, is_in_outline};
 ghost use Rattle.dpl_cell.specs.Tiles.{IsRun};
 ghost use Rattle.dpl_tiles.specs.Bands.{IsLeftOf, IsOver};
-ghost use Rattle.dpl_tiles.specs.Bounds.{AreBoundsOf};
+ghost use Rattle.dpl_tiles.specs.Finders.{IsFinderOf};
+ghost use Rattle.dpl_tiles.specs.Sides.{AreSides};
+ghost use Rattle.dpl_tiles.specs.Stretches.{IsFramed};
 ghost use Rattle.dpl_tiles.specs.Corners.{AreCorners};
 ghost use Rattle.dpl_tiles.specs.Stacks.{ending};
 ghost use Rattle.dpl_cell.specs.Stretches.{AreSeparate, is_in_stretches};
@@ -17,13 +19,14 @@ ghost use Rattle.dpl_tiles.specs.Sweeps.{AreSwept};
 ghost use Rattle.dpl_tiles.specs.Clusters.{AreChanges, IsPassed};
 ghost use Rattle.dpl_tiles.specs.Windows.{AddsClosed, AreNearRuns, IsClosed, IsContinued, IsFar, IsParted, is_near};
 
-use crate::columns::{Columns, greater, lesser};
+use crate::columns::{Columns, greater, lesser, row_within};
 use crate::corners::{Corner, corners_at};
+use crate::finder::Finder;
 use crate::gathering::gather;
 use crate::rows::{merged, push_prim, sort};
+use crate::sides::Sides;
 use crate::stacking::find;
 use dpl_cell::{Prim, Rect, Stretch};
-use dpl_index::{Bounds, Index};
 use std::alloc::{AllocError, Global};
 
 /// Goes on by one band: closes the stacks that end at row `low`, and begins those that are new there. The stacks stand in
@@ -34,12 +37,12 @@ pub fn step(
     left: &mut Vec<Rect>,
     right: &mut Vec<Rect>,
     prims: &[Prim],
-    index: &Index,
+    finder: &Finder,
     corners: &[Corner],
     low: i64,
     high: i64,
 ) -> Result<(), AllocError>
-    requires bounds { AreBoundsOf prims.now index.now }
+    requires finder { IsFinderOf prims.now finder.now }
     requires cornered { AreCorners prims.now corners.now }
     requires high { low <ℤ high }
     requires below { neg_ℤ (pos most_coordinate) ≤ℤ low }
@@ -54,7 +57,7 @@ pub fn step(
     let row = corners_at(corners, low);
     let mut at = 0;
     'clusters: while at < row.len() {
-        at = pass(alloc, ended, left, right, prims, index, row, at, low, high)?;
+        at = pass(alloc, ended, left, right, prims, finder, row, at, low, high)?;
     }
     Ok(())
 }
@@ -66,13 +69,13 @@ fn pass(
     left: &mut Vec<Rect>,
     right: &mut Vec<Rect>,
     prims: &[Prim],
-    index: &Index,
+    finder: &Finder,
     row: &[Corner],
     at: usize,
     low: i64,
     high: i64,
 ) -> Result<usize, AllocError>
-    requires bounds { AreBoundsOf prims.now index.now }
+    requires finder { IsFinderOf prims.now finder.now }
     requires high { low <ℤ high }
     requires below { neg_ℤ (pos most_coordinate) ≤ℤ low }
     requires above { high ≤ℤ pos most_coordinate }
@@ -87,7 +90,7 @@ fn pass(
     let cluster = gather(alloc, left, right, row, at)?;
     let near = cluster.near.as_slice();
     let window = window_of(near, &cluster.change);
-    let runs = near_runs(alloc, prims, index, &cluster.change, &window, low, high)?;
+    let runs = near_runs(alloc, prims, finder, &cluster.change, &window, low, high)?;
     push_closed(ended, near, runs.as_slice(), low)?;
     let stacks = all_continued(alloc, near, runs.as_slice())?;
     left.extend_from_slice(stacks.as_slice())?;
@@ -193,6 +196,8 @@ fn window_of(near: &[Rect], change: &Columns) -> Columns
     ensures left { result.left ≤ℤ change.now.left }
     ensures right { change.now.right ≤ℤ result.right }
     ensures holds { All (λ r. (result.left ≤ℤ r.x1) × (r.x2 ≤ℤ result.right)) near.now }
+    ensures first { (result.left ≡ change.now.left) ⊎ Any (λ r. r.x1 ≡ result.left) near.now }
+    ensures last { (result.right ≡ change.now.right) ⊎ Any (λ r. r.x2 ≡ result.right) near.now }
 {
     let mut columns = *change;
     for r in near {
@@ -206,6 +211,8 @@ fn with_stack(columns: &Columns, r: &Rect) -> Columns
     ensures right { columns.now.right ≤ℤ result.right }
     ensures own_left { result.left ≤ℤ r.now.x1 }
     ensures own_right { r.now.x2 ≤ℤ result.right }
+    ensures first { (result.left ≡ columns.now.left) ⊎ (result.left ≡ r.now.x1) }
+    ensures last { (result.right ≡ columns.now.right) ⊎ (result.right ≡ r.now.x2) }
 {
     let left = lesser(columns.left, r.x1);
     let right = greater(columns.right, r.x2);
@@ -216,25 +223,27 @@ fn with_stack(columns: &Columns, r: &Rect) -> Columns
 fn near_runs(
     alloc: Global,
     prims: &[Prim],
-    index: &Index,
+    finder: &Finder,
     change: &Columns,
     window: &Columns,
     low: i64,
     high: i64,
 ) -> Result<Vec<Rect>, AllocError>
-    requires bounds { AreBoundsOf prims.now index.now }
+    requires finder { IsFinderOf prims.now finder.now }
     requires high { low <ℤ high }
     requires below { neg_ℤ (pos most_coordinate) ≤ℤ low }
     requires above { high ≤ℤ pos most_coordinate }
     requires inside { (x1 x2 : ℤ) → IsRun (is_cell (map outline_of prims.now)) x1 x2 low →
         ¬ IsFar change.now.left change.now.right x1 x2 →
         (window.now.left ≤ℤ x1) × (x2 ≤ℤ window.now.right) }
+    requires framed { IsFramed (is_cell (map outline_of prims.now)) low window.now.left
+        window.now.right }
     ensures runs { IfOk result (λ v.
         AreNearRuns (is_cell (map outline_of prims.now)) low change.now.left change.now.right
         v.items) }
     ensures bottom { IfOk result (λ v. All (λ r. r.y1 ≡ low) v.items) }
 {
-    let mut parts = parts_within(alloc, prims, index, window, low)?;
+    let mut parts = parts_within(alloc, prims, finder, window, low)?;
     sort(&mut parts);
     let stretches = merged(alloc, parts.as_slice())?;
     let runs = raised_near(alloc, stretches.as_slice(), change, low, high)?;
@@ -291,51 +300,54 @@ fn is_near_to(s: &Stretch, change: &Columns) -> bool
 fn parts_within(
     alloc: Global,
     prims: &[Prim],
-    index: &Index,
+    finder: &Finder,
     window: &Columns,
     y: i64,
 ) -> Result<Vec<Stretch>, AllocError>
-    requires { AreBoundsOf prims.now index.now }
+    requires finder { IsFinderOf prims.now finder.now }
+    requires framed { IsFramed (is_cell (map outline_of prims.now)) y window.now.left
+        window.now.right }
     ensures sound { IfOk result (λ v. (x : ℤ) → is_in_stretches v.items x ≡ true →
         is_cell (map outline_of prims.now) x y ≡ true) }
     ensures full { IfOk result (λ v. (x : ℤ) → (window.now.left -ℤ pos 1) ≤ℤ x →
         x ≤ℤ window.now.right → is_cell (map outline_of prims.now) x y ≡ true →
         is_in_stretches v.items x ≡ true) }
 {
-    let found = index.meeting(alloc, &row_within(window, y))?;
-    let parts = parts_of(alloc, prims, found.as_slice(), y)?;
+    let found = finder.prims.meeting(alloc, &row_within(window, y))?;
+    let parts = parts_of(
+        alloc,
+        prims,
+        finder.sides.as_slice(),
+        found.as_slice(),
+        window,
+        y,
+    )?;
     Ok(parts)
 }
 
-/// The columns of a window in one row.
-fn row_within(window: &Columns, y: i64) -> Bounds
-    ensures { result ≡ record { left = window.now.left; right = window.now.right; low = y; high = y } }
-{
-    Bounds {
-        left: window.left,
-        right: window.right,
-        low: y,
-        high: y,
-    }
-}
-
-/// The cells of some primitives in one row, in parts.
+/// Cells of some primitives in one row in parts: all of those in the window and right beside it, and perhaps others.
 fn parts_of(
     alloc: Global,
     prims: &[Prim],
+    sides: &[Sides],
     found: &[usize],
+    window: &Columns,
     y: i64,
 ) -> Result<Vec<Stretch>, AllocError>
-    requires { All (λ i. i < length prims.now) found.now }
+    requires sides { AllZip AreSides prims.now sides.now }
+    requires found { All (λ i. i < length prims.now) found.now }
+    requires framed { IsFramed (is_cell (map outline_of prims.now)) y window.now.left
+        window.now.right }
     ensures sound { IfOk result (λ v. (x : ℤ) → is_in_stretches v.items x ≡ true →
         is_cell (map outline_of prims.now) x y ≡ true) }
-    ensures full { IfOk result (λ v. (x : ℤ) (i : ℕ) (e : Primitive) → Contains found.now i →
+    ensures full { IfOk result (λ v. (x : ℤ) (i : ℕ) (e : Primitive) →
+        (window.now.left -ℤ pos 1) ≤ℤ x → x ≤ℤ window.now.right → Contains found.now i →
         is_in_outline x y (outline_of (slice_index_or prims.now i e)) ≡ true →
         is_in_stretches v.items x ≡ true) }
 {
     let mut parts = Vec::new(alloc);
     for i in found {
-        push_prim(alloc, &mut parts, &prims[*i], y)?;
+        push_prim(alloc, &mut parts, &prims[*i], &sides[*i], window, y)?;
     }
     Ok(parts)
 }

@@ -32,6 +32,14 @@ fn boxes(rt: &HostRuntime, all: &[Corners]) -> Result<Vec<Prim>, Fail> {
     Ok(prims)
 }
 
+fn polygon(rt: &HostRuntime, corners: &[(i64, i64)]) -> Result<Prim, Fail> {
+    let mut points = Vec::new(rt.alloc());
+    for (x, y) in corners {
+        points.push(Point::new(*x, *y).ok_or("out of range")?)?;
+    }
+    Ok(Prim::Poly(Points::new(points).ok_or("slanted")?))
+}
+
 #[test]
 fn a_t(rt: HostRuntime) -> Result<(), Fail> {
     let prims = boxes(&rt, &[(200, 100, 400, 600), (0, 0, 600, 200)])?;
@@ -67,8 +75,7 @@ fn nothing_has_no_tiles(rt: HostRuntime) -> Result<(), Fail> {
 
 #[test]
 fn a_ring_with_a_box_inside(rt: HostRuntime) -> Result<(), Fail> {
-    let mut corners = Vec::new(rt.alloc());
-    for (x, y) in [
+    let ring = [
         (0, 0),
         (10, 0),
         (10, 10),
@@ -79,17 +86,56 @@ fn a_ring_with_a_box_inside(rt: HostRuntime) -> Result<(), Fail> {
         (7, 7),
         (7, 3),
         (0, 3),
-    ] {
-        corners.push(Point::new(x, y).ok_or("out of range")?)?;
-    }
+    ];
     let mut prims = boxes(&rt, &[(4, 4, 6, 6)])?;
-    prims.push(Prim::Poly(Points::new(corners).ok_or("slanted")?))?;
+    prims.push(polygon(&rt, ring.as_slice())?)?;
     let want = [
         (0, 0, 10, 3),
         (0, 3, 3, 7),
         (7, 3, 10, 7),
         (4, 4, 6, 6),
         (0, 7, 10, 10),
+    ];
+    assert!(rt; are_tiles(&rt, prims, want.as_slice())?);
+    Ok(())
+}
+
+#[test]
+fn a_comb_with_teeth_of_different_lengths(rt: HostRuntime) -> Result<(), Fail> {
+    let comb = [
+        (0, 0),
+        (10, 0),
+        (10, 8),
+        (8, 8),
+        (8, 2),
+        (6, 2),
+        (6, 4),
+        (4, 4),
+        (4, 2),
+        (2, 2),
+        (2, 6),
+        (0, 6),
+    ];
+    let mut prims = boxes(&rt, &[])?;
+    prims.push(polygon(&rt, comb.as_slice())?)?;
+    let want = [(0, 0, 10, 2), (0, 2, 2, 6), (4, 2, 6, 4), (8, 2, 10, 8)];
+    assert!(rt; are_tiles(&rt, prims, want.as_slice())?);
+    Ok(())
+}
+
+#[test]
+fn two_polygons_joined_by_a_box(rt: HostRuntime) -> Result<(), Fail> {
+    let corner = [(0, 0), (8, 0), (8, 3), (3, 3), (3, 9), (0, 9)];
+    let square = [(9, 7), (9, 4), (5, 4), (5, 7)];
+    let mut prims = boxes(&rt, &[(2, 2, 6, 5)])?;
+    prims.push(polygon(&rt, corner.as_slice())?)?;
+    prims.push(polygon(&rt, square.as_slice())?)?;
+    let want = [
+        (0, 0, 8, 3),
+        (0, 3, 6, 4),
+        (0, 4, 9, 5),
+        (0, 5, 3, 9),
+        (5, 5, 9, 7),
     ];
     assert!(rt; are_tiles(&rt, prims, want.as_slice())?);
     Ok(())

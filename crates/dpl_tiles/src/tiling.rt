@@ -11,15 +11,14 @@ ghost use Rattle.dpl_list.specs.Order.{Ascends};
 ghost use Rattle.dpl_tiles.specs.Bands.{HasOrdinates};
 ghost use Rattle.dpl_tiles.specs.Stacks.{AreAllTiles};
 ghost use Rattle.dpl_tiles.specs.Corners.{AreCorners};
-ghost use Rattle.dpl_tiles.specs.Bounds.{AreBoundsOf};
+ghost use Rattle.dpl_tiles.specs.Finders.{IsFinderOf};
 
-use crate::bounds::all_bounds;
 use crate::corners::{Corner, corners_of};
 use crate::error::TileError;
+use crate::finder::Finder;
 use crate::ordinates::ordinates;
 use crate::sweeping::{close_all, move_back, step};
 use dpl_cell::{Layout, Prim, Rect};
-use dpl_index::Index;
 use dpl_limits::MOST_TILES;
 use std::alloc::Global;
 
@@ -37,10 +36,9 @@ pub fn tiles(alloc: Global, layout: &Layout) -> Result<Vec<Rect>, TileError>
 {
     let prims = layout.prims.as_slice();
     let rows = ordinates(alloc, prims)?;
-    let bounds = all_bounds(alloc, prims)?;
-    let index = Index::new(alloc, bounds)?;
+    let finder = Finder::new(alloc, prims)?;
     let corners = corners_of(alloc, prims)?;
-    let mut tiles = unsorted(alloc, prims, &index, corners.as_slice(), rows.as_slice())?;
+    let mut tiles = unsorted(alloc, prims, &finder, corners.as_slice(), rows.as_slice())?;
     sort(&mut tiles);
     Ok(tiles)
 }
@@ -49,11 +47,11 @@ pub fn tiles(alloc: Global, layout: &Layout) -> Result<Vec<Rect>, TileError>
 fn unsorted(
     alloc: Global,
     prims: &[Prim],
-    index: &Index,
+    finder: &Finder,
     corners: &[Corner],
     rows: &[i64],
 ) -> Result<Vec<Rect>, TileError>
-    requires bounds { AreBoundsOf prims.now index.now }
+    requires finder { IsFinderOf prims.now finder.now }
     requires cornered { AreCorners prims.now corners.now }
     requires sorted { Ascends (λ z. z) rows.now }
     requires range { All IsInRange rows.now }
@@ -74,7 +72,7 @@ fn unsorted(
                 &mut left,
                 &mut right,
                 prims,
-                index,
+                finder,
                 corners,
                 rows[k - 1],
                 rows[k],
