@@ -24,13 +24,16 @@ folding_asked {n} {f} {dist} {x} {joins} {meet} st w =
       tied = λ i h. folding_joined n f dist x joins meet i st w (omega (arith, h, len));
     }
 
-pub folded_all : (n : ℕ) (f g : Sets) (dist : ℕ → ℕ → ℕ) (x y : Forest) (joins : List (ℕ × ℕ)) (meet set : ℕ) → IsStage n f dist x → IsFolding n f dist x joins meet → IsShrunk f (tops_from f joins) joins set g → IsFamily g → DropsInside n g x.mate y.mate → Folds x (tops_from f joins) meet set y → Advances n dist f x g y
+pub folded_all : (n : ℕ) (f g : Sets) (dist : ℕ → ℕ → ℕ) (x y : Forest) (joins : List (ℕ × ℕ)) (meet set : ℕ) →
+    IsStage n f dist x → IsFolding n f dist x joins meet → IsShrunk f (tops_from f joins) joins set g → IsFamily g →
+    DropsInside n g x.mate y.mate → Folds x (tops_from f joins) meet set y → Advances n dist f x g y
 folded_all n f g dist x y joins meet set st w sh fam d o =
     let cs : List ℕ = tops_from f joins in
     let len : length cs ≡ length joins = length-map joins (λ j. f.top j.0) in
     let q : Gathers n f cs set g = subst (λ (z : ℕ). Gathers z f cs set g) st.rest.size sh.sets in
     let r = folded_stage n f g dist x y cs joins set meet w.some_inner.0 st (folding_tops n f dist x joins meet st w) sh fam w.cycle d o
-    (λ i h. subst (λ (z : ℕ × ℕ). loads n f z.0 z.1 ≡ dist z.0 z.1) (sym (sh.join_child i h)) (way_step n f (loads n f) dist meet meet i joins w.way (omega (arith, h, len))).tight)
+    (λ i h. subst (λ (z : ℕ × ℕ). loads n f z.0 z.1 ≡ dist z.0 z.1) (sym (sh.join_child i h))
+    (way_step n f (loads n f) dist meet meet i joins w.way (omega (arith, h, len))).tight)
     w.some_inner.1 w.some_inner.2 in
     record {
       stage = r.0;
@@ -45,7 +48,8 @@ folded_ranked x y cs meet set bound o r = λ i. elim (cases_eq i set) [
 ]
 
 -- a set that was free is none of the tree's
-pub free_outside : (n : ℕ) (f g : Sets) (dist : ℕ → ℕ → ℕ) (x : Forest) (joins : List (ℕ × ℕ)) (meet set : ℕ) → IsStage n f dist x → IsFolding n f dist x joins meet → IsShrunk f (tops_from f joins) joins set g → has (tops_from f joins) set ≡ false
+pub free_outside : (n : ℕ) (f g : Sets) (dist : ℕ → ℕ → ℕ) (x : Forest) (joins : List (ℕ × ℕ)) (meet set : ℕ) →
+    IsStage n f dist x → IsFolding n f dist x joins meet → IsShrunk f (tops_from f joins) joins set g → has (tops_from f joins) set ≡ false
 free_outside n f g dist x joins meet set st w sh = elim (cases_Bool (has (tops_from f joins) set)) [
   | inr k ↦ k
   | inl k ↦ true_false (f.live set) (st.tree.tops set (w.cycle.in_tree set k)).1 sh.sets.was_free

@@ -68,7 +68,8 @@ giving_place {set = set} {last = last} g =
 
 pub starts_first : (f : Sets) (first : ℕ) (sets : List ℕ) (joins : List (ℕ × ℕ)) → 0 < length sets → IsRingFrom f first sets joins → get_or sets 0 0 ≡ first
 starts_first f first sets joins h r =
-    let z : (r.at + 0) % length (f.children r.parent) ≡ r.at = ap (λ y. y % length (f.children r.parent)) (let y : r.at + 0 ≡ r.at = omega arith in y) ∙ mod-eq_of_lt r.part.place in
+    let z : (r.at + 0) % length (f.children r.parent) ≡ r.at =
+    ap (λ y. y % length (f.children r.parent)) (let y : r.at + 0 ≡ r.at = omega arith in y) ∙ mod-eq_of_lt r.part.place in
     r.part.each 0 h ∙ ap (λ y. get_or (f.children r.parent) y 0) z ∙ r.starts
 
 -- the ring as it stands, where the place in the list as it was read is even
@@ -122,22 +123,6 @@ around_few {n} {set = set} {sets = sets} st o =
     let low = λ (i : ℕ) (h : i < length sets). (st.rest.laminar.children.child set (get_or sets i 0) at.0 (o.around.kids i h)).0 in
     (low, ring_short (2 * n) sets o.around.distinct low)
 
-pub way_given : (n : ℕ) (f g : Sets) (dist : ℕ → ℕ → ℕ) (t0 t1 t2 : Tree) (mates new : List (Option ℕ)) (set : ℕ) (sets : List ℕ) (joins : List (ℕ × ℕ)) (p m0 u0 : ℕ) → IsMetric n dist → length mates ≡ n → IsStage n f dist (forest_of t0 mates) →
-    IsOpening n f dist (forest_of t0 mates) set sets joins p m0 u0 → IsExpanded f set g → IsFamily g → IsSized n t1 → Opens n f (forest_of t0 mates) set (get_or sets 0 0) p (forest_of t1 new) → t1.root ≡ t0.root →
-    new ≡ paired_times mates joins p (length joins / 2) → lists_of t2 ≡ walked_times (lists_of t1) sets joins (p / 2) → t2.root ≡ t1.root →
-    (bound : ℕ) → AreRanked (forest_of t0 mates) bound → Advances n dist f (forest_of t0 mates) g (forest_of t2 new) × AreRanked (forest_of t2 new) (bound + 4 * n)
-way_given n f g dist t0 t1 t2 mates new set sets joins p m0 u0 me len st o ex fam size op r1 en el r2 bound ranked =
-    let x : Forest = forest_of t0 mates in
-    let l : Lists = lists_of t1 in
-    let made : List (Option ℕ) = paired_times mates joins p (length joins / 2) in
-    let op1 : Opens n f x set (get_or sets 0 0) p (forest_in l t0.root (mate_in new)) = subst (λ (z : ℕ). Opens n f x set (get_or sets 0 0) p (forest_in l z (mate_in new))) r1 op in
-    let op2 : Opens n f x set (get_or sets 0 0) p (forest_in l t0.root (mate_in made)) = subst (λ (z : List (Option ℕ)). Opens n f x set (get_or sets 0 0) p (forest_in l t0.root (mate_in z))) en op1 in
-    let d = opening_done n f g dist x set sets joins p m0 u0 mates l bound me len refl st o ex fam (record { labels = size.labels; ranks = size.ranks; links = size.links }) op2 ranked in
-    let few = around_few st o in
-    let back : forest_in (walked_times l sets joins (p / 2)) t0.root (mate_in made) ≡ forest_of t2 new =
-    ap (λ (z : List (Option ℕ)). forest_in (walked_times l sets joins (p / 2)) t0.root (mate_in z)) (sym en) ∙ ap (λ (z : Lists). forest_in z t0.root (mate_in new)) (sym el) ∙ ap (λ (z : ℕ). forest_in (lists_of t2) z (mate_in new)) (sym (r2 ∙ r1)) in
-    (subst (λ (z : Forest). Advances n dist f x g z) back d.0, λ i. omega (arith, d.1 i, ap (λ (z : Lists). get_or z.ranks i 0) el, few.1, o.place))
-
 -- where the tree enters, as it was read
 pub opening_first : {n : ℕ} {f : Sets} {dist : ℕ → ℕ → ℕ} {x : Forest} {set first : ℕ} {sets seen : List ℕ} {joins : List (ℕ × ℕ)}
     {p m0 t0 : ℕ} → IsStage n f dist x → IsOpening n f dist x set sets joins p m0 t0 → first ≡ get_or seen 0 0 → seen ≡ sets → (first < 2 * n) × (set ≢ first)
@@ -166,19 +151,26 @@ pub gave_way : {n : ℕ} {f g : Sets} {dist : ℕ → ℕ → ℕ} {t0 t1 t2 : T
 gave_way {n} {f} {g} {dist} {t0} {t1} {t2} {set} {first} {p} {m0} {u0} {sets} {ss} {ws} {joins} {js} {ks}
     mates new me len st small o ex fam _ size _ ej paired es is opens r1 ew ek walked r2 =
     let x : Forest = forest_of t0 mates in
-    let e : first ≡ get_or sets 0 0 = is ∙ ap (λ (z : List ℕ). get_or z 0 0) es in
-    let op : Opens n f x set (get_or sets 0 0) p (forest_of t1 new) =
-    subst (λ (z : ℕ). Opens n f x set z p (forest_of t1 new)) e (opens n f mates new) in
-    let en : new ≡ paired_times mates joins p (length joins / 2) =
-    subst (λ (z : List (ℕ × ℕ)). new ≡ paired_times mates z p (length z / 2)) ej paired in
-    let wk : lists_of t2 ≡ walked_times (lists_of t1) sets ks (p / 2) =
-    subst (λ (z : List ℕ). lists_of t2 ≡ walked_times (lists_of t1) z ks (p / 2)) ew walked in
-    let el : lists_of t2 ≡ walked_times (lists_of t1) sets joins (p / 2) =
-    subst (λ (z : List (ℕ × ℕ)). lists_of t2 ≡ walked_times (lists_of t1) sets z (p / 2)) ek wk in
-    let w = way_given n f g dist t0 t1 t2 mates new set sets joins p m0 u0 me len st o ex fam size op r1 en el r2 in
+    let l : Lists = lists_of t1 in
+    let first_in : ℕ = get_or sets 0 0 in
+    let made : List (Option ℕ) = paired_times mates joins p (length joins / 2) in
+    let en : new ≡ made = subst (λ (z : List (ℕ × ℕ)). new ≡ paired_times mates z p (length z / 2)) ej paired in
+    let wk : lists_of t2 ≡ walked_times l sets ks (p / 2) = subst (λ (z : List ℕ). lists_of t2 ≡ walked_times l z ks (p / 2)) ew walked in
+    let el : lists_of t2 ≡ walked_times l sets joins (p / 2) = subst (λ (z : List (ℕ × ℕ)). lists_of t2 ≡ walked_times l sets z (p / 2)) ek wk in
+    let op : Opens n f x set first_in p (forest_of t1 new) =
+    subst (λ (z : ℕ). Opens n f x set z p (forest_of t1 new)) (is ∙ ap (λ (z : List ℕ). get_or z 0 0) es) (opens n f mates new) in
+    let op1 : Opens n f x set first_in p (forest_in l t0.root (mate_in new)) =
+    subst (λ (z : ℕ). Opens n f x set first_in p (forest_in l z (mate_in new))) r1 op in
+    let op2 : Opens n f x set first_in p (forest_in l t0.root (mate_in made)) =
+    subst (λ (z : List (Option ℕ)). Opens n f x set first_in p (forest_in l t0.root (mate_in z))) en op1 in
+    let done = λ (bound : ℕ) (r : AreRanked x bound). opening_done n f g dist x set sets joins p m0 u0 mates l bound me len refl st o ex fam
+    (record { labels = size.labels; ranks = size.ranks; links = size.links }) op2 r in
+    let back : forest_in (walked_times l sets joins (p / 2)) t0.root (mate_in made) ≡ forest_of t2 new =
+    ap (λ (z : List (Option ℕ)). forest_in (walked_times l sets joins (p / 2)) t0.root (mate_in z)) (sym en) ∙
+    ap (λ (z : Lists). forest_in z t0.root (mate_in new)) (sym el) ∙ ap (λ (z : ℕ). forest_in (lists_of t2) z (mate_in new)) (sym (r2 ∙ r1)) in
     record {
-      advances = (w (2 ^ 60) small).0;
-      ranks = λ bound r. (w bound r).1;
+      advances = subst (λ (z : Forest). Advances n dist f x g z) back (done (2 ^ 60) small).0;
+      ranks = λ bound r i. omega (arith, (done bound r).1 i, ap (λ (z : Lists). get_or z.ranks i 0) el, (around_few st o).1, o.place);
       sums = totals_alike n f g (expanded_alike n f g set st.rest.size o.empty ex);
       widens = given_widens n f g dist t0 t1 t2 mates new set sets joins p m0 u0 st o ex op el;
     }

@@ -5,12 +5,11 @@ use Rattle.dpl_tree.proofs.expanding_set.give_way.Goals as goal
 pub pair_round-requires-clause-small : goal.pair_round-requires-clause-small
 pair_round-requires-clause-small g c =
     let o = c.in_ok-path.ensures.2 in
-    omega (arith, ap length c.deref.ensures.value, o.around.count, (around_few c.requires.stage o).1, c.size-size.ensures.table.small)
+    omega (arith, ap length c.deref.ensures.value, o.around.count, (around_few c.requires.stage o).1)
 
 pub enter-requires-clause-first : goal.enter-requires-clause-first
 enter-requires-clause-first g c =
-    let first = opening_first c.requires.stage c.in_ok-path.ensures.2 c.first_set-first.ensures c.deref-2.ensures.value in
-    omega (arith, first.0, c.requires.sized.labels)
+    omega (arith, (opening_first c.requires.stage c.in_ok-path.ensures.2 c.first_set-first.ensures c.deref-2.ensures.value).0)
 
 pub enter-requires-clause-apart : goal.enter-requires-clause-apart
 enter-requires-clause-apart g c = (opening_first c.requires.stage c.in_ok-path.ensures.2 c.first_set-first.ensures c.deref-2.ensures.value).1
@@ -18,11 +17,11 @@ enter-requires-clause-apart g c = (opening_first c.requires.stage c.in_ok-path.e
 pub enter-requires-clause-room : goal.enter-requires-clause-room
 enter-requires-clause-room g c =
     let o = c.in_ok-path.ensures.2 in
-    omega (arith, o.place, (around_few c.requires.stage o).1, c.size-size.ensures.table.small)
+    omega (arith, o.place, (around_few c.requires.stage o).1)
 
 pub walk-requires-clause-few : goal.walk-requires-clause-few
 walk-requires-clause-few g c =
-    omega (arith, ap length c.deref-3.ensures.value, (around_few c.requires.stage c.in_ok-path.ensures.2).1, c.size-size.ensures.table.small)
+    omega (arith, ap length c.deref-3.ensures.value, (around_few c.requires.stage c.in_ok-path.ensures.2).1)
 
 pub walk-requires-clause-below : goal.walk-requires-clause-below
 walk-requires-clause-below g c =

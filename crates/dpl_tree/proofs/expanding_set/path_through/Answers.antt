@@ -41,5 +41,5 @@ returns c =
       c.in-Some.field-0-1,
       opening_backward c.size-size.ensures.table.metric k c.deref.ensures.value c.place_of-at.ensures.below c.place_of-at.ensures.value c.if-at-eq0.false
           c.deref-in-Some.ensures.value c.deref-in-Some-2.ensures.value c.in_ok-other-in-Some.ensures
-          (omega (arith, c.len.ensures, c.deref.ensures.len, ap length c.deref.ensures.value)),
+          (omega (arith, ap length c.deref.ensures.value)),
     )
