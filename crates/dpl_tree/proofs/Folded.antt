@@ -6,11 +6,11 @@ use Rattle.dpl_laminar.specs.Families.{Sets, IsFamily, has}
 use Rattle.dpl_laminar.specs.Changes.{AreTops, AreJoined, IsShrunk, Gathers}
 use Rattle.dpl_laminar.proofs.Numbers.{true_false}
 use Rattle.dpl_tree.specs.Forests.{Forest, Folds}
-use Rattle.dpl_tree.specs.Mates.{DropsInside, loads, totals}
-use Rattle.dpl_tree.specs.Stages.{IsStage, Advances, AreRanked, Widens}
+use Rattle.dpl_tree.specs.Mates.{DropsInside, loads}
+use Rattle.dpl_tree.specs.Stages.{IsStage, Advances, AreRanked}
 use Rattle.dpl_tree.specs.Joins.{tops_from, AreClimbing}
 use Rattle.dpl_tree.proofs.Alike.{totals_alike, shrunk_alike}
-use Rattle.dpl_tree.proofs.Events.{folded_stage, folded_ready}
+use Rattle.dpl_tree.proofs.Events.{IsEvent, folded_stage, folded_ready}
 use Rattle.dpl_tree.proofs.Widening.{folded_widens}
 use Rattle.dpl_tree.proofs.Meetings.{IsFolding, climbing_whole, folding_tops, folding_joined, way_step}
 
@@ -77,17 +77,10 @@ pub free_outside_of : {n : ℕ} {f g : Sets} {dist : ℕ → ℕ → ℕ} {x : F
 free_outside_of {n} {f} {g} {dist} {x} {joins} {meet = meet} {set = set} st w e e' sh =
     ap (λ z. has z set) e' ∙ free_outside n f g dist x joins meet set st w (subst (λ (z : List ℕ). IsShrunk f z joins set g) e sh)
 
--- two ways became a set
-pub record HasFolded (n : ℕ) (dist : ℕ → ℕ → ℕ) (f : Sets) (x : Forest) (g : Sets) (y : Forest) : Type 0 where
-  pub advances : Advances n dist f x g y
-  pub ranks : (bound : ℕ) → AreRanked x bound → AreRanked y bound
-  pub sums : (m : ℕ) → m < n → totals n g m ≡ totals n f m
-  pub widens : Widens n f x.place g y.place
-
--- by the tops as each step read them: cs by the family, ds by the tree
+-- two ways became a set, by the tops as each step read them: cs by the family, ds by the tree
 pub folded_up : {n k : ℕ} {f g : Sets} {dist : ℕ → ℕ → ℕ} {x y : Forest} {joins : List (ℕ × ℕ)} {cs ds : List ℕ} {meet set : ℕ} →
     IsStage n f dist x → IsFolding n f dist x joins meet → cs ≡ tops_from f joins → ds ≡ tops_from f joins → IsShrunk f cs joins set g → IsFamily g →
-    k ≡ n → DropsInside k g x.mate y.mate → Folds x ds meet set y → HasFolded n dist f x g y
+    k ≡ n → DropsInside k g x.mate y.mate → Folds x ds meet set y → IsEvent n dist (λ bound. bound) f x g y
 folded_up {n} {k} {f} {g} {dist} {x} {y} {joins} {cs} {ds} {meet} {set} st w e e' sh fam size drops o =
     let sh' : IsShrunk f (tops_from f joins) joins set g = subst (λ (z : List ℕ). IsShrunk f z joins set g) e sh in
     let d : DropsInside n g x.mate y.mate = subst (λ (z : ℕ). DropsInside z g x.mate y.mate) size drops in

@@ -6,13 +6,14 @@ use Rattle.dpl_laminar.specs.Changes.{IsExpanded}
 use Rattle.dpl_laminar.proofs.Numbers.{some_none}
 use Rattle.dpl_tree.specs.declared.tree.Tree.{Tree}
 use Rattle.dpl_tree.specs.Forests.{Forest, Opens, inner}
-use Rattle.dpl_tree.specs.Mates.{IsExit, totals}
+use Rattle.dpl_tree.specs.Mates.{IsExit}
 use Rattle.dpl_tree.specs.Metrics.{IsMetric}
-use Rattle.dpl_tree.specs.Stages.{IsStage, Advances, AreRanked, Widens}
+use Rattle.dpl_tree.specs.Stages.{IsStage, Advances, AreRanked}
 use Rattle.dpl_tree.specs.Views.{mate_in, forest_of, IsSized}
 use Rattle.dpl_tree.specs.Opened.{IsAround, IsOpening, Lists, lists_of, forest_in, walked_times, paired_times}
 use Rattle.dpl_tree.specs.Rounds.{IsRingFrom, IsTurned}
 use Rattle.dpl_tree.proofs.Alike.{totals_alike, expanded_alike}
+use Rattle.dpl_tree.proofs.Events.{IsEvent}
 use Rattle.dpl_tree.proofs.Growing.{inner_in}
 use Rattle.dpl_tree.proofs.Counting.{ring_short}
 use Rattle.dpl_tree.proofs.RingWalks.{opening_done}
@@ -132,14 +133,7 @@ opening_first {n} {f} {set = set} {first = first} {sets = sets} st o is seen =
     let k = st.rest.laminar.children.child set (get_or sets 0 0) at.0 (o.around.kids 0 (omega (arith, o.place))) in
     (omega (arith, e, k.0), λ z. some_none (f.parent (get_or sets 0 0)) set k.2 (ap f.parent (sym (z ∙ e)) ∙ at.2))
 
--- an inner set gave way to its ring
-pub record HasGiven (n : ℕ) (dist : ℕ → ℕ → ℕ) (f : Sets) (x : Forest) (g : Sets) (y : Forest) : Type 0 where
-  pub advances : Advances n dist f x g y
-  pub ranks : (bound : ℕ) → AreRanked x bound → AreRanked y (bound + 4 * n)
-  pub sums : (m : ℕ) → m < n → totals n g m ≡ totals n f m
-  pub widens : Widens n f x.place g y.place
-
--- by the lists as each step read them: js by the pairs, ss by the entry, ws and ks by the walk
+-- an inner set gave way to its ring, by the lists as each step read them: js by the pairs, ss by the entry, ws and ks by the walk
 pub gave_way : {n : ℕ} {f g : Sets} {dist : ℕ → ℕ → ℕ} {t0 t1 t2 : Tree} {set first p m0 u0 : ℕ} {sets ss ws : List ℕ}
     {joins js ks : List (ℕ × ℕ)} (mates new : List (Option ℕ)) → IsMetric n dist → length mates ≡ n →
     IsStage n f dist (forest_of t0 mates) → AreRanked (forest_of t0 mates) (2 ^ 60) →
@@ -147,7 +141,7 @@ pub gave_way : {n : ℕ} {f g : Sets} {dist : ℕ → ℕ → ℕ} {t0 t1 t2 : T
     js ≡ joins → new ≡ paired_times mates js p (length js / 2) → ss ≡ sets → first ≡ get_or ss 0 0 →
     ((k : ℕ) (h : Sets) (ms ns : List (Option ℕ)) → Opens k h (forest_of t0 ms) set first p (forest_of t1 ns)) → t1.root ≡ t0.root →
     ws ≡ sets → ks ≡ joins → lists_of t2 ≡ walked_times (lists_of t1) ws ks (p / 2) → t2.root ≡ t1.root →
-    HasGiven n dist f (forest_of t0 mates) g (forest_of t2 new)
+    IsEvent n dist (λ bound. bound + 4 * n) f (forest_of t0 mates) g (forest_of t2 new)
 gave_way {n} {f} {g} {dist} {t0} {t1} {t2} {set} {first} {p} {m0} {u0} {sets} {ss} {ws} {joins} {js} {ks}
     mates new me len st small o ex fam _ size _ ej paired es is opens r1 ew ek walked r2 =
     let x : Forest = forest_of t0 mates in
