@@ -8,13 +8,20 @@ use Rattle.dpl_laminar.proofs.Numbers.{true_false, place_in}
 use Rattle.dpl_tree.specs.Forests.{free, outer, inner, Forest, IsTree, Grows, IsCycle, Folds}
 use Rattle.dpl_tree.specs.Mates.{IsExit, DropsInside, total_in, loads, totals}
 use Rattle.dpl_tree.specs.Metrics.{IsMetric}
-use Rattle.dpl_tree.specs.Stages.{IsRest, IsStage, IsReady, potential}
+use Rattle.dpl_tree.specs.Stages.{IsRest, IsStage, IsReady, potential, Advances, AreRanked, Widens}
 use Rattle.dpl_tree.proofs.Growing.{place_cases, outer_in, grown}
 use Rattle.dpl_tree.proofs.Parity.{grown_parity, folded_parity}
 use Rattle.dpl_tree.proofs.Folding.{folded, folded_pairs}
 use Rattle.dpl_tree.proofs.Turning.{grown_falls, folded_falls}
 use Rattle.dpl_tree.proofs.Stages.{stage_parity, laminar_sized}
 use Rattle.dpl_tree.proofs.Alike.{loads_alike, totals_alike, shrunk_alike, pairs_alike, tree_alike}
+
+-- what is said of an event that rebuilds the tree, with the bound of the ranks after it
+pub record IsEvent (n : ℕ) (dist : ℕ → ℕ → ℕ) (after : ℕ → ℕ) (f : Sets) (x : Forest) (g : Sets) (y : Forest) : Type 0 where
+  pub advances : Advances n dist f x g y
+  pub ranks : (bound : ℕ) → AreRanked x bound → AreRanked y (after bound)
+  pub sums : (m : ℕ) → m < n → totals n g m ≡ totals n f m
+  pub widens : Widens n f x.place g y.place
 
 -- ---- the root
 

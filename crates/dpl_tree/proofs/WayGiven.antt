@@ -1,5 +1,5 @@
 -- An inner set and the ring of its children, and what the tree is after it gave way to them.
-use Rattle.std.proofs.Common.{arith, ◌≡◌, ◌≢◌, ℕ, ◌+◌, ◌-◌, ◌*◌, ◌/◌, ◌%◌, ◌<◌, ◌≤◌, refl, sym, ap, ◌∙◌, subst, true, Option, Some, List, length, get_or}
+use Rattle.std.proofs.Common.{arith, ◌≡◌, ◌≢◌, ℕ, ◌+◌, ◌-◌, ◌*◌, ◌/◌, ◌%◌, ◌^◌, ◌<◌, ◌≤◌, refl, sym, ap, ◌∙◌, subst, true, Option, Some, List, length, get_or}
 use Rattle.std.proofs.Math.Nat.{mod-eq_of_lt}
 use Rattle.dpl_laminar.specs.Families.{Sets, IsFamily}
 use Rattle.dpl_laminar.specs.Changes.{IsExpanded}
@@ -12,9 +12,12 @@ use Rattle.dpl_tree.specs.Stages.{IsStage, Advances, AreRanked}
 use Rattle.dpl_tree.specs.Views.{mate_in, forest_of, IsSized}
 use Rattle.dpl_tree.specs.Opened.{IsAround, IsOpening, Lists, lists_of, forest_in, walked_times, paired_times}
 use Rattle.dpl_tree.specs.Rounds.{IsRingFrom, IsTurned}
+use Rattle.dpl_tree.proofs.Alike.{totals_alike, expanded_alike}
+use Rattle.dpl_tree.proofs.Events.{IsEvent}
 use Rattle.dpl_tree.proofs.Growing.{inner_in}
 use Rattle.dpl_tree.proofs.Counting.{ring_short}
 use Rattle.dpl_tree.proofs.RingWalks.{opening_done}
+use Rattle.dpl_tree.proofs.Widening.{given_widens}
 use Rattle.dpl_tree.proofs.RoundLemmas.{ring_around, around_turned}
 
 -- what is known of an inner set that is to give way
@@ -32,77 +35,141 @@ pub record IsGiving (n : ℕ) (f : Sets) (dist : ℕ → ℕ → ℕ) (x : Fores
   pub last_below : last < 2 * n
   pub ring : IsRingFrom f first sets joins
 
-pub giving_around : (n : ℕ) (f : Sets) (dist : ℕ → ℕ → ℕ) (x : Forest) (set first last m0 t0 : ℕ) (sets : List ℕ) (joins : List (ℕ × ℕ)) → IsGiving n f dist x set first last m0 t0 sets joins → IsAround n f dist set sets joins
-giving_around n f dist x set first last m0 t0 sets joins g =
+-- the same from what each step of the code says of it
+pub giving_of : {n : ℕ} {f : Sets} {dist : ℕ → ℕ → ℕ} {x : Forest} {set first last m0 t0 : ℕ} {link : ℕ × ℕ} {sets : List ℕ} {joins : List (ℕ × ℕ)} →
+    IsStage n f dist x → n ≤ set → x.place set ≡ inner → f.value set ≡ 0 → (m0 < f.size) × (f.top m0 ≡ set) × (x.mate m0 ≡ Some t0) →
+    link ≡ (x.above set, x.entry set) → f.parent first ≡ Some set → f.holds first link.1 ≡ true →
+    f.parent last ≡ Some set → f.holds last m0 ≡ true → f.live last ≡ true → last < 2 * f.size → IsRingFrom f first sets joins →
+    IsGiving n f dist x set first last m0 t0 sets joins
+giving_of {f = f} {first = first} stage above is_inner empty e link first_parent held last_parent last_held last_live below ring = record {
+  stage = stage;
+  above = above;
+  is_inner = is_inner;
+  empty = empty;
+  exit = record { below = omega (arith, e.0, stage.rest.size); top = e.1; paired = e.2 };
+  first_parent = first_parent;
+  first_held = ap (λ (z : ℕ × ℕ). f.holds first z.1) (sym link) ∙ held;
+  last_parent = last_parent;
+  last_held = last_held;
+  last_live = last_live;
+  last_below = omega (arith, below, stage.rest.size);
+  ring = ring;
+}
+
+pub giving_around : {n : ℕ} {f : Sets} {dist : ℕ → ℕ → ℕ} {x : Forest} {set first last m0 t0 : ℕ} {sets : List ℕ} {joins : List (ℕ × ℕ)} →
+    IsGiving n f dist x set first last m0 t0 sets joins → IsAround n f dist set sets joins
+giving_around {n} {f} {dist} {x} {set} {first} {sets = sets} {joins = joins} g =
     let at = g.stage.tree.tops set (inner_in g.is_inner) in
     ring_around n f dist x.mate set first sets joins g.stage.rest g.above at.0 at.1 g.first_parent g.ring
 
-pub giving_place : (n : ℕ) (f : Sets) (dist : ℕ → ℕ → ℕ) (x : Forest) (set first last m0 t0 : ℕ) (sets : List ℕ) (joins : List (ℕ × ℕ)) → IsGiving n f dist x set first last m0 t0 sets joins → (i : ℕ) × (i < length sets) × (get_or sets i 0 ≡ last)
-giving_place n f dist x set first last m0 t0 sets joins g =
-    (giving_around n f dist x set first last m0 t0 sets joins g).all last (g.stage.rest.laminar.children.parent_range last set g.last_below g.last_live g.last_parent).3
+pub giving_place : {n : ℕ} {f : Sets} {dist : ℕ → ℕ → ℕ} {x : Forest} {set first last m0 t0 : ℕ} {sets : List ℕ} {joins : List (ℕ × ℕ)} →
+    IsGiving n f dist x set first last m0 t0 sets joins → (i : ℕ) × (i < length sets) × (get_or sets i 0 ≡ last)
+giving_place {set = set} {last = last} g =
+    (giving_around g).all last (g.stage.rest.laminar.children.parent_range last set g.last_below g.last_live g.last_parent).3
 
 pub starts_first : (f : Sets) (first : ℕ) (sets : List ℕ) (joins : List (ℕ × ℕ)) → 0 < length sets → IsRingFrom f first sets joins → get_or sets 0 0 ≡ first
 starts_first f first sets joins h r =
-    let z : (r.at + 0) % length (f.children r.parent) ≡ r.at = ap (λ y. y % length (f.children r.parent)) (let y : r.at + 0 ≡ r.at = omega arith in y) ∙ mod-eq_of_lt r.part.place in
+    let z : (r.at + 0) % length (f.children r.parent) ≡ r.at =
+    ap (λ y. y % length (f.children r.parent)) (let y : r.at + 0 ≡ r.at = omega arith in y) ∙ mod-eq_of_lt r.part.place in
     r.part.each 0 h ∙ ap (λ y. get_or (f.children r.parent) y 0) z ∙ r.starts
 
-pub opening_forward : (n : ℕ) (f : Sets) (dist : ℕ → ℕ → ℕ) (x : Forest) (set first last m0 t0 at : ℕ) (sets : List ℕ) (joins : List (ℕ × ℕ)) → IsGiving n f dist x set first last m0 t0 sets joins → at < length sets → get_or sets at 0 ≡ last → at % 2 ≡ 0 →
+-- the ring as it stands, where the place in the list as it was read is even
+pub opening_forward : {n : ℕ} {f : Sets} {dist : ℕ → ℕ → ℕ} {x : Forest} {set first last m0 t0 at : ℕ} {sets seen : List ℕ} {joins : List (ℕ × ℕ)} →
+    IsGiving n f dist x set first last m0 t0 sets joins → seen ≡ sets → at < length seen → get_or seen at 0 ≡ last → at % 2 ≡ 0 →
     IsOpening n f dist x set sets joins at m0 t0
-opening_forward n f dist x set first last m0 t0 at sets joins g h e even =
-    let a = giving_around n f dist x set first last m0 t0 sets joins g in
+opening_forward {f = f} {x = x} {set = set} {first = first} {m0 = m0} {at = at} {sets = sets} {joins = joins} g seen below value even =
+    let h : at < length sets = omega (arith, ap length seen, below) in
     record {
       above = g.above;
       is_inner = g.is_inner;
       empty = g.empty;
-      around = a;
+      around = giving_around g;
       even = even;
       place = h;
       enters = ap (λ z. f.holds z (x.entry set)) (starts_first f first sets joins (omega (arith, h)) g.ring) ∙ g.first_held;
-      leaves = ap (λ z. f.holds z m0) e ∙ g.last_held;
+      leaves = ap (λ z. f.holds z m0) (ap (λ (z : List ℕ). get_or z at 0) (sym seen) ∙ value) ∙ g.last_held;
       exit = g.exit;
     }
 
-pub opening_backward : (n : ℕ) (f : Sets) (dist : ℕ → ℕ → ℕ) (x : Forest) (set first last m0 t0 at : ℕ) (sets sets' : List ℕ) (joins joins' : List (ℕ × ℕ)) → IsMetric n dist → IsGiving n f dist x set first last m0 t0 sets joins → at < length sets → get_or sets at 0 ≡ last → at % 2 ≢ 0 →
-    IsTurned sets joins sets' joins' → IsOpening n f dist x set sets' joins' (length sets - at) m0 t0
-opening_backward n f dist x set first last m0 t0 at sets sets' joins joins' me g h e odd t =
-    let a = giving_around n f dist x set first last m0 t0 sets joins g in
+-- the ring the other way around, where it is odd; the list is read twice
+pub opening_backward : {n : ℕ} {f : Sets} {dist : ℕ → ℕ → ℕ} {x : Forest} {set first last m0 t0 at count : ℕ} {sets seen read sets' : List ℕ}
+    {joins read_joins joins' : List (ℕ × ℕ)} → IsMetric n dist → IsGiving n f dist x set first last m0 t0 sets joins →
+    seen ≡ sets → at < length seen → get_or seen at 0 ≡ last → at % 2 ≢ 0 →
+    read ≡ sets → read_joins ≡ joins → IsTurned read read_joins sets' joins' → count ≡ length sets → IsOpening n f dist x set sets' joins' (count - at) m0 t0
+opening_backward {n} {f} {dist} {x} {set} {first} {last} {m0} {t0} {at} {count} {sets} {seen} {read} {sets'} {joins} {read_joins} {joins'} me g
+    es below value odd er ej turned ec =
+    let a = giving_around g in
+    let h : at < length sets = omega (arith, ap length es, below) in
     let low : 0 < at = omega (arith, odd) in
+    let t1 : IsTurned sets read_joins sets' joins' = subst (λ (z : List ℕ). IsTurned z read_joins sets' joins') er turned in
+    let t : IsTurned sets joins sets' joins' = subst (λ (z : List (ℕ × ℕ)). IsTurned sets z sets' joins') ej t1 in
+    let back : get_or sets (length sets - (count - at)) 0 ≡ last =
+    ap (λ z. get_or sets z 0) (let z : length sets - (count - at) ≡ at = omega (arith, h, ec) in z) ∙ ap (λ (z : List ℕ). get_or z at 0) (sym es) ∙ value in
     record {
       above = g.above;
       is_inner = g.is_inner;
       empty = g.empty;
       around = around_turned n f dist set sets sets' joins joins' me a t;
-      even = omega (arith, a.odd, odd, h);
-      place = omega (arith, h, low, t.sets_length);
+      even = omega (arith, a.odd, odd, h, ec);
+      place = omega (arith, h, low, t.sets_length, ec);
       enters = ap (λ z. f.holds z (x.entry set)) (t.first ∙ starts_first f first sets joins (omega (arith, h)) g.ring) ∙ g.first_held;
-      leaves = ap (λ z. f.holds z m0) (t.each (length sets - at) (omega (arith, h)) (omega (arith, h, low)) ∙ ap (λ z. get_or sets z 0) (let z : length sets - (length sets - at) ≡ at = omega (arith, h) in z) ∙ e) ∙ g.last_held;
+      leaves = ap (λ z. f.holds z m0) (t.each (count - at) (omega (arith, h, ec)) (omega (arith, h, low, ec)) ∙ back) ∙ g.last_held;
       exit = g.exit;
     }
 
-pub around_few : (n : ℕ) (f : Sets) (dist : ℕ → ℕ → ℕ) (x : Forest) (set : ℕ) (sets : List ℕ) (joins : List (ℕ × ℕ)) (p m0 t0 : ℕ) → IsStage n f dist x → IsOpening n f dist x set sets joins p m0 t0 → ((i : ℕ) → i < length sets → get_or sets i 0 < 2 * n) × (length sets ≤ 2 * n)
-around_few n f dist x set sets joins p m0 t0 st o =
+pub around_few : {n : ℕ} {f : Sets} {dist : ℕ → ℕ → ℕ} {x : Forest} {set : ℕ} {sets : List ℕ} {joins : List (ℕ × ℕ)} {p m0 t0 : ℕ} →
+    IsStage n f dist x → IsOpening n f dist x set sets joins p m0 t0 → ((i : ℕ) → i < length sets → get_or sets i 0 < 2 * n) × (length sets ≤ 2 * n)
+around_few {n} {set = set} {sets = sets} st o =
     let at = st.tree.tops set (inner_in o.is_inner) in
     let low = λ (i : ℕ) (h : i < length sets). (st.rest.laminar.children.child set (get_or sets i 0) at.0 (o.around.kids i h)).0 in
     (low, ring_short (2 * n) sets o.around.distinct low)
 
-pub way_given : (n : ℕ) (f g : Sets) (dist : ℕ → ℕ → ℕ) (t0 t1 t2 : Tree) (mates new : List (Option ℕ)) (set : ℕ) (sets : List ℕ) (joins : List (ℕ × ℕ)) (p m0 u0 : ℕ) → IsMetric n dist → length mates ≡ n → IsStage n f dist (forest_of t0 mates) →
-    IsOpening n f dist (forest_of t0 mates) set sets joins p m0 u0 → IsExpanded f set g → IsFamily g → IsSized n t1 → Opens n f (forest_of t0 mates) set (get_or sets 0 0) p (forest_of t1 new) → t1.root ≡ t0.root →
-    new ≡ paired_times mates joins p (length joins / 2) → lists_of t2 ≡ walked_times (lists_of t1) sets joins (p / 2) → t2.root ≡ t1.root →
-    (bound : ℕ) → AreRanked (forest_of t0 mates) bound → Advances n dist f (forest_of t0 mates) g (forest_of t2 new) × AreRanked (forest_of t2 new) (bound + 4 * n)
-way_given n f g dist t0 t1 t2 mates new set sets joins p m0 u0 me len st o ex fam size op r1 en el r2 bound ranked =
-    let x : Forest = forest_of t0 mates in
-    let l : Lists = lists_of t1 in
-    let made : List (Option ℕ) = paired_times mates joins p (length joins / 2) in
-    let op1 : Opens n f x set (get_or sets 0 0) p (forest_in l t0.root (mate_in new)) = subst (λ (z : ℕ). Opens n f x set (get_or sets 0 0) p (forest_in l z (mate_in new))) r1 op in
-    let op2 : Opens n f x set (get_or sets 0 0) p (forest_in l t0.root (mate_in made)) = subst (λ (z : List (Option ℕ)). Opens n f x set (get_or sets 0 0) p (forest_in l t0.root (mate_in z))) en op1 in
-    let d = opening_done n f g dist x set sets joins p m0 u0 mates l bound me len refl st o ex fam (record { labels = size.labels; ranks = size.ranks; links = size.links }) op2 ranked in
-    let few = around_few n f dist x set sets joins p m0 u0 st o in
-    let back : forest_in (walked_times l sets joins (p / 2)) t0.root (mate_in made) ≡ forest_of t2 new =
-    ap (λ (z : List (Option ℕ)). forest_in (walked_times l sets joins (p / 2)) t0.root (mate_in z)) (sym en) ∙ ap (λ (z : Lists). forest_in z t0.root (mate_in new)) (sym el) ∙ ap (λ (z : ℕ). forest_in (lists_of t2) z (mate_in new)) (sym (r2 ∙ r1)) in
-    (subst (λ (z : Forest). Advances n dist f x g z) back d.0, λ i. omega (arith, d.1 i, ap (λ (z : Lists). get_or z.ranks i 0) el, few.1, o.place))
-
-pub opening_apart : (n : ℕ) (f : Sets) (dist : ℕ → ℕ → ℕ) (x : Forest) (set : ℕ) (sets : List ℕ) (joins : List (ℕ × ℕ)) (p m0 t0 : ℕ) → IsStage n f dist x → IsOpening n f dist x set sets joins p m0 t0 → set ≢ get_or sets 0 0
-opening_apart n f dist x set sets joins p m0 t0 st o e =
+-- where the tree enters, as it was read
+pub opening_first : {n : ℕ} {f : Sets} {dist : ℕ → ℕ → ℕ} {x : Forest} {set first : ℕ} {sets seen : List ℕ} {joins : List (ℕ × ℕ)}
+    {p m0 t0 : ℕ} → IsStage n f dist x → IsOpening n f dist x set sets joins p m0 t0 → first ≡ get_or seen 0 0 → seen ≡ sets → (first < 2 * n) × (set ≢ first)
+opening_first {n} {f} {set = set} {first = first} {sets = sets} st o is seen =
+    let e : first ≡ get_or sets 0 0 = is ∙ ap (λ (z : List ℕ). get_or z 0 0) seen in
     let at = st.tree.tops set (inner_in o.is_inner) in
     let k = st.rest.laminar.children.child set (get_or sets 0 0) at.0 (o.around.kids 0 (omega (arith, o.place))) in
-    some_none (f.parent (get_or sets 0 0)) set k.2 (ap f.parent (sym e) ∙ at.2)
+    (omega (arith, e, k.0), λ z. some_none (f.parent (get_or sets 0 0)) set k.2 (ap f.parent (sym (z ∙ e)) ∙ at.2))
+
+-- an inner set gave way to its ring, by the lists as each step read them: js by the pairs, ss by the entry, ws and ks by the walk
+pub gave_way : {n : ℕ} {f g : Sets} {dist : ℕ → ℕ → ℕ} {t0 t1 t2 : Tree} {set first p m0 u0 : ℕ} {sets ss ws : List ℕ}
+    {joins js ks : List (ℕ × ℕ)} (mates new : List (Option ℕ)) → IsMetric n dist → length mates ≡ n →
+    IsStage n f dist (forest_of t0 mates) → AreRanked (forest_of t0 mates) (2 ^ 60) →
+    IsOpening n f dist (forest_of t0 mates) set sets joins p m0 u0 → IsExpanded f set g → IsFamily g → IsSized n t0 → IsSized n t1 → IsSized n t2 →
+    js ≡ joins → new ≡ paired_times mates js p (length js / 2) → ss ≡ sets → first ≡ get_or ss 0 0 →
+    ((k : ℕ) (h : Sets) (ms ns : List (Option ℕ)) → Opens k h (forest_of t0 ms) set first p (forest_of t1 ns)) → t1.root ≡ t0.root →
+    ws ≡ sets → ks ≡ joins → lists_of t2 ≡ walked_times (lists_of t1) ws ks (p / 2) → t2.root ≡ t1.root →
+    IsEvent n dist (λ bound. bound + 4 * n) f (forest_of t0 mates) g (forest_of t2 new)
+gave_way {n} {f} {g} {dist} {t0} {t1} {t2} {set} {first} {p} {m0} {u0} {sets} {ss} {ws} {joins} {js} {ks}
+    mates new me len st small o ex fam _ size _ ej paired es is opens r1 ew ek walked r2 =
+    let x : Forest = forest_of t0 mates in
+    let l : Lists = lists_of t1 in
+    let first_in : ℕ = get_or sets 0 0 in
+    let made : List (Option ℕ) = paired_times mates joins p (length joins / 2) in
+    let en : new ≡ made = subst (λ (z : List (ℕ × ℕ)). new ≡ paired_times mates z p (length z / 2)) ej paired in
+    let wk : lists_of t2 ≡ walked_times l sets ks (p / 2) = subst (λ (z : List ℕ). lists_of t2 ≡ walked_times l z ks (p / 2)) ew walked in
+    let el : lists_of t2 ≡ walked_times l sets joins (p / 2) = subst (λ (z : List (ℕ × ℕ)). lists_of t2 ≡ walked_times l sets z (p / 2)) ek wk in
+    let op : Opens n f x set first_in p (forest_of t1 new) =
+    subst (λ (z : ℕ). Opens n f x set z p (forest_of t1 new)) (is ∙ ap (λ (z : List ℕ). get_or z 0 0) es) (opens n f mates new) in
+    let op1 : Opens n f x set first_in p (forest_in l t0.root (mate_in new)) =
+    subst (λ (z : ℕ). Opens n f x set first_in p (forest_in l z (mate_in new))) r1 op in
+    let op2 : Opens n f x set first_in p (forest_in l t0.root (mate_in made)) =
+    subst (λ (z : List (Option ℕ)). Opens n f x set first_in p (forest_in l t0.root (mate_in z))) en op1 in
+    let done = λ (bound : ℕ) (r : AreRanked x bound). opening_done n f g dist x set sets joins p m0 u0 mates l bound me len refl st o ex fam
+    (record { labels = size.labels; ranks = size.ranks; links = size.links }) op2 r in
+    let back : forest_in (walked_times l sets joins (p / 2)) t0.root (mate_in made) ≡ forest_of t2 new =
+    ap (λ (z : List (Option ℕ)). forest_in (walked_times l sets joins (p / 2)) t0.root (mate_in z)) (sym en) ∙
+    ap (λ (z : Lists). forest_in z t0.root (mate_in new)) (sym el) ∙ ap (λ (z : ℕ). forest_in (lists_of t2) z (mate_in new)) (sym (r2 ∙ r1)) in
+    record {
+      advances = subst (λ (z : Forest). Advances n dist f x g z) back (done (2 ^ 60) small).0;
+      ranks = λ bound r i. omega (arith, (done bound r).1 i, ap (λ (z : Lists). get_or z.ranks i 0) el, (around_few st o).1, o.place);
+      sums = totals_alike n f g (expanded_alike n f g set st.rest.size o.empty ex);
+      widens = given_widens n f g dist t0 t1 t2 mates new set sets joins p m0 u0 st o ex op el;
+    }
+
+-- a step that keeps the lengths
+pub sized_on : {n : ℕ} {t : Tree} (t' : Tree) → IsSized n t → length t'.labels.items ≡ length t.labels.items → length t'.ranks.items ≡ length t.labels.items →
+    length t'.links.items ≡ length t.labels.items → IsSized n t'
+sized_on t' s labels ranks links = record { labels = labels ∙ s.labels; ranks = ranks ∙ s.labels; links = links ∙ s.labels }
