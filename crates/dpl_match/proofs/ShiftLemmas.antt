@@ -19,9 +19,10 @@ use Rattle.dpl_match.proofs.NearLemmas.{moved}
 use Rattle.dpl_match.proofs.TurnLemmas.{totals_enough, turned_stage, turned_totals, advance_back, end_back, shifts_few}
 
 -- no total of an inner member falls below 0
-pub shift_enough : (n : ℕ) (dist : ℕ → ℕ → ℕ) (f : Sets) (t : Tree) (mates : List (Option ℕ)) (labels : List Label) (sums : List ℕ) (known : List Bool) (near : List (Option ℕ)) (by : ℕ) (event : Event) → labels ≡ t.labels.items → IsAtTurn n dist f t mates sums known near →
+pub shift_enough : {n : ℕ} {dist : ℕ → ℕ → ℕ} {f : Sets} {t : Tree} {mates : List (Option ℕ)} {labels : List Label} {sums : List ℕ} {known : List Bool}
+    {near : List (Option ℕ)} {by : ℕ} {event : Event} → labels ≡ t.labels.items → IsAtTurn n dist f t mates sums known near →
     IsChosen n f (forest_of t mates) dist by event → (m : ℕ) → m < length sums → place_in labels (f.top m) ≡ inner → by ≤ get_or sums m 0
-shift_enough n dist f t mates labels sums known near by event is start ch m h p =
+shift_enough {n} {f} {by} is start ch m h p =
     let hm : m < n = omega (arith, h, start.sums_count) in
     let tops = start.stage.rest.laminar.tops in
     let r = tops.top_range m hm in
@@ -30,7 +31,8 @@ shift_enough n dist f t mates labels sums known near by event is start ch m h p 
 
 -- the sets f have become the sets g by a change of values: the event after it starts from this, and
 -- what holds after that event holds of the state before the change
-pub record IsShifted (n : ℕ) (dist : ℕ → ℕ → ℕ) (f g : Sets) (t : Tree) (mates : List (Option ℕ)) (sums : List ℕ) (known : List Bool) (near : List (Option ℕ)) (event : Event) (before steps : ℕ) : Type 0 where
+pub record IsShifted (n : ℕ) (dist : ℕ → ℕ → ℕ) (f g : Sets) (t : Tree) (mates : List (Option ℕ)) (sums : List ℕ) (known : List Bool)
+    (near : List (Option ℕ)) (event : Event) (before steps : ℕ) : Type 0 where
   pub stage : IsStage n g dist (forest_of t mates)
   pub due : IsDueNow n g (place_in t.labels.items) dist event
   pub sum : (m : ℕ) → m < n → get_or sums m 0 ≡ totals n g m
@@ -38,14 +40,18 @@ pub record IsShifted (n : ℕ) (dist : ℕ → ℕ → ℕ) (f g : Sets) (t : Tr
   pub left : potential n g (place_in t.labels.items) ≡ potential n f (place_in t.labels.items)
   pub next : (h : Sets) (u : Tree) (new : List (Option ℕ)) → IsNext n dist g t mates h u new → IsNext n dist f t mates h u new
   pub ends : (h : Sets) (new : ℕ → Option ℕ) → Ends n dist g (forest_of t mates) h new → Ends n dist f (forest_of t mates) h new
-  pub nears : (h : Sets) (u : Tree) (new : List (Option ℕ)) → IsNext n dist g t mates h u new → AreNear (members_by n h (place_in u.labels.items) dist (λ m. get_or sums m 0)) known near
+  pub nears : (h : Sets) (u : Tree) (new : List (Option ℕ)) → IsNext n dist g t mates h u new →
+      AreNear (members_by n h (place_in u.labels.items) dist (λ m. get_or sums m 0)) known near
 
-pub shifted : (n : ℕ) (dist : ℕ → ℕ → ℕ) (f g : Sets) (t : Tree) (mates : List (Option ℕ)) (labels : List Label) (sums sums' : List ℕ) (known : List Bool) (near : List (Option ℕ)) (by : ℕ) (event : Event) (before steps : ℕ) →
-    labels ≡ t.labels.items → IsMetric n dist → IsAtTurn n dist f t mates sums known near → IsChosen n f (forest_of t mates) dist by event → g ≡ record f { value = g.value } →
+pub shifted : {n : ℕ} {dist : ℕ → ℕ → ℕ} {f g : Sets} {t : Tree} {mates : List (Option ℕ)} {labels : List Label} {sums sums' : List ℕ} {known : List Bool}
+    {near : List (Option ℕ)} {by : ℕ} {event : Event} {before steps : ℕ} → labels ≡ t.labels.items → IsMetric n dist →
+    IsAtTurn n dist f t mates sums known near → IsChosen n f (forest_of t mates) dist by event → g ≡ record f { value = g.value } →
     ((i : ℕ) → i < 2 * f.size → g.value i + drop_of (place_in labels i) * by ≡ f.value i + gain (place_in labels i) * by) → IsFamily g →
-    ((m : ℕ) → m < length sums → get_or sums' m 0 + drop_of (place_in labels (f.top m)) * by ≡ get_or sums m 0 + gain (place_in labels (f.top m)) * by) →
-    steps ≡ before + sum_below (2 * f.size) (λ i. drop_of (place_in labels i) + gain (place_in labels i)) → IsShifted n dist f g t mates sums' known near event before steps
-shifted n dist f g t mates labels sums sums' known near by event before steps is me start ch same values fam sum count =
+    ((m : ℕ) → m < length sums →
+      get_or sums' m 0 + drop_of (place_in labels (f.top m)) * by ≡ get_or sums m 0 + gain (place_in labels (f.top m)) * by) →
+    steps ≡ before + sum_below (2 * f.size) (λ i. drop_of (place_in labels i) + gain (place_in labels i)) →
+    IsShifted n dist f g t mates sums' known near event before steps
+shifted {n} {dist} {f} {g} {t} {mates} {labels} {sums} {sums'} {known} {near} {by} {event} is me start ch same values fam sum count =
     let x : Forest = forest_of t mates in
     let size = start.stage.rest.size in
     let each = λ (i : ℕ) (h : i < 2 * n). subst (λ (z : List Label). g.value i + drop_of (place_in z i) * by ≡ f.value i + gain (place_in z i) * by) is (values i (omega (arith, h, size))) in
