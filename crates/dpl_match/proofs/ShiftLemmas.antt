@@ -1,5 +1,5 @@
 -- The change of values within a turn, and what is said after it of the state before it.
-use Rattle.std.proofs.Common.{arith, ◌≡◌, ℕ, ◌+◌, ◌*◌, ◌<◌, ◌≤◌, sym, ap, ◌∙◌, subst, Bool, Option, List, length, get_or}
+use Rattle.std.proofs.Common.{arith, ◌≡◌, ℕ, ◌+◌, ◌*◌, ◌<◌, ◌≤◌, ap, Bool, Option, List, length, get_or}
 use Rattle.dpl_laminar.specs.Loads.{sum_below}
 use Rattle.dpl_laminar.specs.Families.{Sets, IsFamily}
 use Rattle.dpl_tree.specs.declared.tree.Label.{Label}
@@ -26,8 +26,7 @@ shift_enough {n} {f} {by} is start ch m h p =
     let hm : m < n = omega (arith, h, start.sums_count) in
     let tops = start.stage.rest.laminar.tops in
     let r = tops.top_range m hm in
-    let p' = ap (λ (z : List Label). place_in z (f.top m)) (sym is) ∙ p in
-    omega (arith, totals_enough n f m by hm r (tops.top_holds m hm) (ch.enough (f.top m) r p'), start.sum m hm)
+    omega (arith, totals_enough n f m by hm r (tops.top_holds m hm) (ch.enough (f.top m) r (rw is at p)), start.sum m hm)
 
 -- the sets f have become the sets g by a change of values: the event after it starts from this, and
 -- what holds after that event holds of the state before the change
@@ -48,29 +47,29 @@ pub shifted : {n : ℕ} {dist : ℕ → ℕ → ℕ} {f g : Sets} {t : Tree} {ma
     IsAtTurn n dist f t mates sums known near → IsChosen n f (forest_of t mates) dist by event → g ≡ record f { value = g.value } →
     ((i : ℕ) → i < 2 * f.size → g.value i + drop_of (place_in labels i) * by ≡ f.value i + gain (place_in labels i) * by) → IsFamily g →
     ((m : ℕ) → m < length sums →
-      get_or sums' m 0 + drop_of (place_in labels (f.top m)) * by ≡ get_or sums m 0 + gain (place_in labels (f.top m)) * by) →
+    get_or sums' m 0 + drop_of (place_in labels (f.top m)) * by ≡ get_or sums m 0 + gain (place_in labels (f.top m)) * by) →
     steps ≡ before + sum_below (2 * f.size) (λ i. drop_of (place_in labels i) + gain (place_in labels i)) →
     IsShifted n dist f g t mates sums' known near event before steps
 shifted {n} {dist} {f} {g} {t} {mates} {labels} {sums} {sums'} {known} {near} {by} {event} is me start ch same values fam sum count =
     let x : Forest = forest_of t mates in
     let size = start.stage.rest.size in
-    let each = λ (i : ℕ) (h : i < 2 * n). subst (λ (z : List Label). g.value i + drop_of (place_in z i) * by ≡ f.value i + gain (place_in z i) * by) is (values i (omega (arith, h, size))) in
-    let total = λ (m : ℕ) (h : m < n). subst (λ (z : List Label). get_or sums' m 0 + drop_of (place_in z (f.top m)) * by ≡ get_or sums m 0 + gain (place_in z (f.top m)) * by) is (sum m (omega (arith, h, start.sums_count))) in
+    let each = λ (i : ℕ) (h : i < 2 * n). rw is at (values i (omega (arith, h, size))) in
+    let total = λ (m : ℕ) (h : m < n). rw is at (sum m (omega (arith, h, start.sums_count))) in
     let after = turned_stage n f g dist x by event me start.stage ch same each fam in
-    let bits : List Label → ℕ → ℕ = λ z i. drop_of (place_in z i) + gain (place_in z i) in
-    let all : sum_below (2 * f.size) (bits labels) ≡ sum_below (2 * n) (bits t.labels.items) = ap (λ (z : ℕ). sum_below (2 * z) (bits labels)) size ∙ ap (λ (z : List Label). sum_below (2 * n) (bits z)) is in
+    let widens = λ (h : Sets) (u : Tree) (new : List (Option ℕ)) (w : IsNext n dist g t mates h u new). widens_back n f g h _ _ same w.widens in
     record {
       stage = after.0;
       due = after.1;
       sum = λ m h. omega (arith, turned_totals n f g dist x by start.stage same each m h, total m h, start.sum m h);
-      few = omega (arith, count, all, shifts_few n f dist x start.stage);
+      few = omega (arith, rw (size, is) at count, shifts_few n f dist x start.stage);
       left = ap (λ (z : Sets). potential n z x.place) same;
       next = λ h u new w. record {
         advances = advance_back n f g h dist x (forest_of u new) same w.advances;
         sized = w.sized;
         ranks = w.ranks;
-        widens = widens_back n f g h x.place (forest_of u new).place same w.widens;
+        widens = widens h u new w;
       };
       ends = λ h new w. end_back n f g h dist x new same w;
-      nears = λ h u new w. moved n f h x.place (forest_of u new).place dist (λ m. get_or sums m 0) (λ m. get_or sums' m 0) known near by start.nearest.near_outer (widens_back n f g h x.place (forest_of u new).place same w.widens) total;
+      nears = λ h u new w.
+          moved n f h x.place (forest_of u new).place dist _ (λ m. get_or sums' m 0) known near by start.nearest.near_outer (widens h u new w) total;
     }
