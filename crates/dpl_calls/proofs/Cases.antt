@@ -1,5 +1,5 @@
 -- Small cases.
-use Rattle.std.proofs.Common.{◌≡◌, ◌⊎◌, inl, inr, ℕ, zero, suc, ◌+◌, ◌≤◌, ◌<◌, Bool, true, false, ◌||◌, ◌==◌, eqb, List, [], ◌∷◌, map, length, refl, sym, ◌∙◌, ap, subst, arith, get_or}
+use Rattle.std.proofs.Common.{◌≡◌, ◌⊎◌, inl, inr, ℕ, zero, suc, Bool, true, false, ◌==◌, List, [], ◌∷◌, map, refl, sym, ◌∙◌, get_or}
 use Rattle.std.proofs.lemmas.Bool.Decides.{eqb_tells}
 
 pub of_eq : (a b : ℕ) → (a == b) ≡ true → a ≡ b

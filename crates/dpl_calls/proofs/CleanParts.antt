@@ -1,5 +1,5 @@
 -- What a command that breaks no rule puts in is kept to.
-use Rattle.std.proofs.Common.{◌≡◌, ◌≢◌, ◌⊎◌, inl, inr, ℕ, zero, suc, ◌+◌, ◌≤◌, ◌<◌, ◌^◌, ℤ, pos, ◌+ℤ◌, ◌-ℤ◌, ◌*ℤ◌, ◌<ℤ◌, unsigned_abs, Bool, true, false, not, cond, ◌&&◌, ◌||◌, ◌==◌, eqb, List, [], ◌∷◌, ◌++◌, map, is_some, Option, None, Some, Result, Ok, Err, All, refl, sym, ◌∙◌, ap, subst, arith}
+use Rattle.std.proofs.Common.{◌≡◌, ◌⊎◌, inl, inr, ℕ, ◌+◌, ◌≤◌, ◌<◌, ◌^◌, ℤ, pos, ◌+ℤ◌, ◌<ℤ◌, unsigned_abs, Bool, true, false, not, cond, ◌&&◌, ◌||◌, ◌==◌, eqb, List, [], ◌∷◌, map, Option, None, Some, Result, Ok, Err, All, refl, ap, arith}
 use Rattle.std.specs.List.{list_all}
 use Rattle.std.specs.Int.{int_min, int_max}
 use Rattle.std.proofs.Math.IntN.{negsuc}
@@ -16,14 +16,12 @@ use Rattle.dpl_rules.specs.declared.figures.Extent.{Extent}
 use Rattle.dpl_rules.specs.declared.scope.Scope.{Scope}
 use Rattle.dpl_rules.specs.declared.what.What.{What}
 use Rattle.dpl_rules.specs.declared.what.What.TheVariants.{Nest, Twice, Angle, Layerless, Slant, OffGrid, Round, Delete as DeleteRule, Scale as ScaleRule}
-use Rattle.dpl_rules.specs.Bounds.{is_in_bounds, is_spot_in_bounds, is_command_in_bounds, is_transformation_in_bounds}
+use Rattle.dpl_rules.specs.Bounds.{is_in_bounds, is_spot_in_bounds, is_command_in_bounds}
 use Rattle.dpl_rules.specs.Figures.{IsScale, double, less, more, around, box_extent, leg, legs, legs_from, scaled, is_on_grid, is_extent_on_grid, eq_z, is_slanted, slants_from, slants_round, last_of}
 use Rattle.dpl_rules.specs.Rules.{Fault, rule_fault, or_later, broken_rule, breaks_nest, breaks_twice, breaks_angle, breaks_layerless, breaks_slant, breaks_off_grid, breaks_round, breaks_delete, breaks_scale, first_of, after, with_start, is_chosen}
-use Rattle.dpl_calls.specs.declared.figure.Corner.{Corner}
 use Rattle.dpl_calls.specs.declared.figure.Figure.TheVariants as figure
 use Rattle.dpl_calls.specs.Parts.{Part, is_same, where_true, scaled_extent, scaled_corner, rectangle, parts_of, parts_from}
-use Rattle.dpl_calls.specs.Parts.Part.{Drawn, Called}
-use Rattle.dpl_calls.specs.Kept.{IsLevel, AreLevel, HasLevelSides, IsSound, IsFigureNear, IsPartKept}
+use Rattle.dpl_calls.specs.Kept.{IsLevel, AreLevel, HasLevelSides, IsSound, IsPartKept}
 use Rattle.dpl_calls.proofs.Cases.{of_eq}
 use Rattle.dpl_calls.proofs.Nearness.{in_bounds_le}
 use Rattle.dpl_calls.proofs.FarParts.{all_cons, all_nil, path_near, leg_near, box_near}

@@ -1,21 +1,21 @@
 -- Calls are edges between the places of definitions.
-use Rattle.std.proofs.Common.{◌≡◌, ◌⊎◌, inl, inr, ℕ, zero, suc, ◌+◌, ◌-◌, ◌≤◌, ◌<◌, Bool, true, false, cond, ◌||◌, ◌==◌, nat_eq, List, [], ◌∷◌, map, length, Option, None, Some, refl, sym, ◌∙◌, ap, subst, arith, get_or}
+use Rattle.std.proofs.Common.{◌≡◌, inl, inr, ℕ, zero, suc, ◌+◌, ◌<◌, Bool, true, false, cond, ◌==◌, nat_eq, List, [], ◌∷◌, map, length, Option, None, Some, refl, sym, ◌∙◌, ap, subst, arith, get_or}
 use Rattle.std.specs.List.{list_any, position}
 use Rattle.std.specs.Map.{lookup, keys_of, values_of}
 use Rattle.std.proofs.lemmas.List.{length-map}
 use Rattle.std.proofs.lemmas.Grind.{common_steps}
 use Rattle.indexmap.specs.IndexMap.{keys, values}
-use Rattle.dpl_groups.specs.Graph.{Graph, next_of, IsEdge, Leads, IsGraph}
+use Rattle.dpl_groups.specs.Graph.{next_of, IsEdge, Leads, IsGraph}
 use Rattle.dpl_groups.specs.Graph.Leads.{once as edge, more as edge_and}
 use Rattle.dpl_calls.specs.declared.entry.Entry.{Entry}
 use Rattle.dpl_calls.specs.declared.table.Table.{Table}
-use Rattle.dpl_calls.specs.Parts.{Part, Bodies}
+use Rattle.dpl_calls.specs.Parts.{Part}
 use Rattle.dpl_calls.specs.Parts.Part.{Drawn, Called}
 use Rattle.dpl_calls.specs.Loops.{names, calls, Path}
 use Rattle.dpl_calls.specs.Loops.Path.{once, more}
 use Rattle.dpl_calls.specs.Table.{part_of, or_nothing, bodies_of}
 use Rattle.dpl_calls.specs.Places.{place_of, one_further, with_place, called_places, body_at, graph_of}
-use Rattle.dpl_calls.proofs.Cases.{of_eq, to_eq, bool_cases, get_map}
+use Rattle.dpl_calls.proofs.Cases.{of_eq, to_eq, get_map}
 use Rattle.dpl_calls.proofs.LoopPaths.{placed_key}
 use Rattle.std.proofs.lemmas.Bool.{or_left, or_right, or_cases}
 

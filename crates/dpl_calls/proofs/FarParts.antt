@@ -1,5 +1,5 @@
 -- The figures of a command in bounds are near.
-use Rattle.std.proofs.Common.{◌≡◌, ℕ, zero, suc, ◌+◌, ◌≤◌, ◌<◌, ◌^◌, ℤ, unsigned_abs, Bool, true, false, cond, ◌&&◌, ◌==◌, List, [], ◌∷◌, ◌++◌, map, All, arith, subst, refl}
+use Rattle.std.proofs.Common.{◌≡◌, ℕ, zero, suc, ◌≤◌, ◌^◌, ℤ, unsigned_abs, Bool, true, false, cond, ◌&&◌, ◌==◌, List, [], ◌∷◌, map, All, arith}
 use Rattle.std.specs.List.{list_all}
 use Rattle.std.specs.Int.{int_min, int_max}
 use Rattle.dpl_rules.specs.declared.command.Spot.{Spot}
@@ -8,7 +8,7 @@ use Rattle.dpl_rules.specs.declared.command.Scale.{Scale}
 use Rattle.dpl_rules.specs.declared.command.Command.TheVariants.{Box}
 use Rattle.dpl_rules.specs.declared.figures.Extent.{Extent}
 use Rattle.dpl_rules.specs.Bounds.{is_in_bounds, is_spot_in_bounds, is_command_in_bounds}
-use Rattle.dpl_rules.specs.Figures.{IsScale, less, more, around, box_extent, leg, legs, legs_from}
+use Rattle.dpl_rules.specs.Figures.{IsScale, less, more, around, box_extent, leg}
 use Rattle.dpl_calls.specs.declared.figure.Figure.TheVariants.{Rectangle}
 use Rattle.dpl_calls.specs.Parts.{scaled_corner, scaled_extent}
 use Rattle.dpl_calls.specs.Placement.{IsCornerNear}

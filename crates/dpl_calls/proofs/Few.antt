@@ -1,5 +1,5 @@
 -- A call has no more transformations than its command has bytes.
-use Rattle.std.proofs.Common.{◌≡◌, ℕ, zero, suc, ◌+◌, ◌-◌, ◌<◌, ◌≤◌, ◌^◌, Bool, true, false, cond, ◌==◌, List, [], ◌∷◌, length, take, drop, Option, None, Some, Result, Ok, Err, refl, sym, ◌∙◌, ap, subst, arith, unsigned_abs}
+use Rattle.std.proofs.Common.{◌≡◌, ℕ, zero, suc, ◌+◌, ◌-◌, ◌≤◌, ◌^◌, Bool, true, false, cond, ◌==◌, List, [], ◌∷◌, length, take, drop, Option, None, Some, Result, Ok, Err, refl, subst, arith, unsigned_abs}
 use Rattle.std.specs.List.{prefix_len, list_all, slice_range}
 use Rattle.std.proofs.lemmas.Grind.{common_steps}
 use Rattle.dpl_lex.specs.Classes.{is_digit, is_separator, is_blank, is_name_byte, drop_while}

@@ -1,20 +1,17 @@
 -- A call is looped exactly where both its definitions are in one group.
-use Rattle.std.proofs.Common.{◌≡◌, ◌⊎◌, inl, inr, ℕ, ◌+◌, ◌≤◌, ◌<◌, Bool, true, false, ◌||◌, ◌==◌, List, [], length, Option, None, Some, MatchOption, refl, sym, ◌∙◌, ap, subst, arith, get_or, All}
+use Rattle.std.proofs.Common.{◌≡◌, ◌⊎◌, inl, inr, ℕ, ◌≤◌, ◌<◌, Bool, true, false, ◌==◌, List, length, Option, None, Some, MatchOption, refl, sym, ◌∙◌, ap, subst, arith, get_or}
 use Rattle.std.proofs.lemmas.List.{length-map}
 use Rattle.indexmap.specs.IndexMap.{keys}
-use Rattle.dpl_groups.specs.Graph.{Graph, IsEdge, Leads, Reaches}
+use Rattle.dpl_groups.specs.Graph.{IsEdge, Leads}
 use Rattle.dpl_groups.specs.Graph.Leads.{once as edge, more as edge_and}
 use Rattle.dpl_groups.specs.Groups.{AreGroups}
-use Rattle.dpl_rules.specs.Rules.{Fault, fault}
-use Rattle.dpl_rules.specs.declared.what.What.{What}
 use Rattle.dpl_calls.specs.declared.table.CallSite.{CallSite}
 use Rattle.dpl_calls.specs.declared.table.Table.{Table}
-use Rattle.dpl_calls.specs.Parts.{Part, Bodies}
-use Rattle.dpl_calls.specs.Loops.{calls, leads_to, is_looped, LeadsBack, Path}
+use Rattle.dpl_calls.specs.Loops.{calls, is_looped, LeadsBack, Path}
 use Rattle.dpl_calls.specs.Table.{bodies_of}
-use Rattle.dpl_calls.specs.Places.{place_of, body_at, graph_of}
+use Rattle.dpl_calls.specs.Places.{place_of, graph_of}
 use Rattle.dpl_calls.specs.Found.{IsSite}
-use Rattle.dpl_calls.proofs.Cases.{of_eq, to_eq, bool_cases}
+use Rattle.dpl_calls.proofs.Cases.{of_eq, to_eq}
 use Rattle.dpl_calls.proofs.LoopPaths.{placed_key, looped_back, back_looped}
 use Rattle.dpl_calls.proofs.Edges.{body_absent, graph_size, call_edge, leads_path, path_leads, HasPlace, caller_place, path_place}
 use Rattle.std.specs.Cmp.{both_ways}

@@ -1,11 +1,11 @@
 -- A Loop is a call from which a path of calls leads back.
-use Rattle.std.proofs.Common.{◌≡◌, ◌⊎◌, ◌↔◌, inl, inr, ℕ, ◌+◌, Bool, true, false, cond, ◌||◌, ◌==◌, List, [], ◌∷◌, ◌++◌, length, Option, None, Some, Result, Ok, Err, refl, sym, ◌∙◌, ap, subst}
+use Rattle.std.proofs.Common.{◌≡◌, ℕ, Bool, true, false, cond, ◌==◌, List, [], ◌∷◌, ◌++◌, Option, None, Some, Result, Ok, Err, refl, ◌∙◌, ap}
 use Rattle.dpl_rules.specs.declared.command.Command.{Command}
-use Rattle.dpl_rules.specs.declared.command.Command.TheVariants.{Idle, Polygon, Box, Wire, Flash, Layer, Start, Finish, Delete, Call}
+use Rattle.dpl_rules.specs.declared.command.Command.TheVariants.{Layer, Start, Finish}
 use Rattle.dpl_rules.specs.declared.scope.Scope.{Scope}
 use Rattle.dpl_rules.specs.declared.what.What.{What}
 use Rattle.dpl_rules.specs.Rules.{at_first, after, with_start}
-use Rattle.dpl_calls.specs.Parts.{Part, is_same, where_true, parts_of, parts_from}
+use Rattle.dpl_calls.specs.Parts.{is_same, where_true, parts_of, parts_from}
 use Rattle.dpl_calls.specs.Loops.{LoopsLeadBack, numbers_from}
 use Rattle.dpl_calls.specs.Places.{place_of, one_further}
 use Rattle.dpl_calls.proofs.LoopPaths.{looped_back, back_looped}

@@ -1,19 +1,13 @@
 -- Paths of calls.
-use Rattle.std.proofs.Common.{◌≡◌, ◌⊎◌, ◌↔◌, inl, inr, ℕ, zero, suc, ◌+◌, ◌-◌, ◌≤◌, ◌<◌, Bool, true, false, cond, ◌||◌, ◌==◌, List, [], ◌∷◌, ◌++◌, map, length, Option, None, Some, Result, Ok, Err, MatchOption, refl, sym, ◌∙◌, ap, subst, arith, get_or}
+use Rattle.std.proofs.Common.{◌≡◌, ◌⊎◌, inl, inr, ℕ, zero, suc, ◌+◌, ◌-◌, ◌≤◌, ◌<◌, Bool, true, false, cond, ◌||◌, ◌==◌, List, [], ◌∷◌, map, length, Option, None, Some, MatchOption, refl, sym, ◌∙◌, ap, subst, arith, get_or}
 use Rattle.std.specs.List.{list_any}
-use Rattle.std.proofs.lemmas.List.Folds.{list_any-append}
-use Rattle.dpl_rules.specs.declared.command.Command.{Command}
-use Rattle.dpl_rules.specs.declared.command.Command.TheVariants.{Idle, Polygon, Box, Wire, Flash, Layer, Start, Finish, Delete, Call}
-use Rattle.dpl_rules.specs.declared.scope.Scope.{Scope}
-use Rattle.dpl_rules.specs.declared.what.What.{What}
-use Rattle.dpl_rules.specs.Rules.{at_first, after, with_start}
 use Rattle.dpl_calls.specs.declared.table.CallSite.{CallSite}
-use Rattle.dpl_calls.specs.Parts.{Part, Bodies, is_same, where_true, parts_of, parts_from}
+use Rattle.dpl_calls.specs.Parts.{Part, Bodies}
 use Rattle.dpl_calls.specs.Parts.Part.{Drawn, Called}
-use Rattle.dpl_calls.specs.Loops.{part_leads, leads_to, is_looped, names, calls, Path, LeadsBack, LoopsLeadBack, numbers_from}
+use Rattle.dpl_calls.specs.Loops.{part_leads, leads_to, is_looped, names, calls, Path, LeadsBack}
 use Rattle.dpl_calls.specs.Loops.Path.{once, more}
 use Rattle.dpl_calls.specs.Places.{place_of, one_further}
-use Rattle.dpl_calls.proofs.Cases.{of_eq, to_eq, bool_cases, get_map}
+use Rattle.dpl_calls.proofs.Cases.{of_eq, to_eq, bool_cases}
 use Rattle.std.proofs.lemmas.Bool.{or_left, or_right, or_cases}
 
 -- these parts lead there

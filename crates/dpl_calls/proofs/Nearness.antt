@@ -1,6 +1,5 @@
 -- How large scaled numbers are.
-use Rattle.std.proofs.Common.{◌≡◌, ℕ, zero, suc, ◌+◌, ◌*◌, ◌/◌, ◌<◌, ◌≤◌, ◌^◌, ℤ, pos, ◌+ℤ◌, ◌-ℤ◌, ◌*ℤ◌, refl, sym, ◌∙◌, ap, subst, arith, unsigned_abs, Bool, true, false, ◌&&◌, List, [], ◌∷◌, map, All, cond}
-use Rattle.std.specs.List.{list_all}
+use Rattle.std.proofs.Common.{◌≡◌, ℕ, zero, suc, ◌*◌, ◌/◌, ◌≤◌, ◌^◌, ℤ, pos, ◌*ℤ◌, refl, arith, unsigned_abs, true}
 use Rattle.std.specs.Int.{int_min, int_max}
 use Rattle.std.specs.Int.RustNames.{int_div}
 use Rattle.std.proofs.lemmas.Grind.{common_steps}

@@ -1,5 +1,5 @@
 -- Frames on a stack.
-use Rattle.std.proofs.Common.{◌≡◌, ℕ, zero, suc, ◌≤◌, ◌<◌, ◌+◌, ◌*◌, ◌^◌, List, [], ◌∷◌, ◌++◌, Some, sum_by, refl, sym, ◌∙◌, ap, append_assoc}
+use Rattle.std.proofs.Common.{◌≡◌, ℕ, suc, ◌+◌, List, [], ◌∷◌, ◌++◌, Some, sum_by, refl, sym, ◌∙◌, ap, append_assoc}
 use Rattle.std.specs.List.{flat_map}
 use Rattle.std.proofs.lemmas.List.{append-nil}
 use mathlib.Core.Path.{fun_ext}
@@ -7,7 +7,7 @@ use Rattle.dpl_calls.specs.declared.figure.Corner.{Corner}
 use Rattle.dpl_calls.specs.declared.figure.Figure.{Figure}
 use Rattle.dpl_calls.specs.declared.unfolding.Frame.{Frame}
 use Rattle.dpl_calls.specs.Parts.{Part, Bodies}
-use Rattle.dpl_calls.specs.Parts.Part.{Drawn, Called}
+use Rattle.dpl_calls.specs.Parts.Part.{Called}
 use Rattle.dpl_calls.specs.Unfolding.{part_figures, figures_of}
 use Rattle.dpl_calls.specs.Totals.{part_total, total_of, own_calls}
 use Rattle.dpl_calls.specs.Stack.{frame_figures, pending, part_turns, turns_of}

@@ -1,5 +1,5 @@
 -- Transformations keep level and upright lines, and points apart.
-use Rattle.std.proofs.Common.{◌≡◌, ◌≢◌, ◌⊎◌, inl, inr, ℕ, zero, suc, ◌≤◌, Bool, true, false, cond, ◌==◌, ℤ, pos, ◌+ℤ◌, ◌<ℤ◌, List, [], ◌∷◌, ◌++◌, map, Some, Option, None, All, refl, sym, ◌∙◌, ap, subst, arith, unsigned_abs}
+use Rattle.std.proofs.Common.{◌≡◌, ◌≢◌, inl, inr, ℕ, zero, suc, Bool, true, false, cond, ◌==◌, ℤ, pos, ◌+ℤ◌, ◌<ℤ◌, List, [], ◌∷◌, map, Some, All, ap, arith, unsigned_abs}
 use Rattle.std.specs.List.{flat_map}
 use Rattle.std.specs.Int.{int_min, int_max}
 use Rattle.std.proofs.Math.IntN.{neg_ℤ}
@@ -16,7 +16,7 @@ use Rattle.dpl_calls.specs.declared.figure.Figure.TheVariants.{Rectangle, Polygo
 use Rattle.dpl_calls.specs.Parts.{corner, Part, Bodies, turned, transformed, transformed_by}
 use Rattle.dpl_calls.specs.Parts.Part.{Drawn, Called}
 use Rattle.dpl_calls.specs.Unfolding.{placed, unmoved, part_figures, figures_of}
-use Rattle.dpl_calls.specs.Kept.{IsLevel, AreLevel, HasLevelSides, IsSound, IsRigid, IsPartKept, AreKept}
+use Rattle.dpl_calls.specs.Kept.{AreLevel, IsSound, IsRigid, IsPartKept, AreKept}
 use Rattle.dpl_calls.proofs.FarParts.{all_cons, all_nil}
 use Rattle.dpl_list.proofs.Lists.{all_tail, all_head}
 

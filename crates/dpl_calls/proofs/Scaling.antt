@@ -1,5 +1,5 @@
 -- Scaling keeps the order.
-use Rattle.std.proofs.Common.{◌≡◌, ℕ, zero, suc, ◌+◌, ◌*◌, ◌<◌, ◌≤◌, ℤ, pos, ◌+ℤ◌, ◌*ℤ◌, ◌<ℤ◌, ◌≤ℤ◌, Bool, true, false, refl, sym, ◌∙◌, ap, subst, arith, unsigned_abs, ◌==◌}
+use Rattle.std.proofs.Common.{◌≡◌, ℕ, suc, ◌*◌, ◌<◌, ℤ, pos, ◌+ℤ◌, ◌*ℤ◌, ◌<ℤ◌, true, sym, ◌∙◌, ap, arith, unsigned_abs, ◌==◌}
 use Rattle.std.proofs.lemmas.Grind.{common_steps}
 use Rattle.std.proofs.Math.IntN.{negsuc, neg_ℤ, +ℤ_idr}
 use Rattle.std.proofs.lemmas.Int.{ints, quot-rem}

@@ -1,5 +1,5 @@
 -- Totals where no call leads back.
-use Rattle.std.proofs.Common.{◌≡◌, ◌⊎◌, inl, inr, ℕ, zero, suc, ◌+◌, ◌-◌, ◌≤◌, ◌<◌, ◌^◌, min, Bool, true, false, ◌||◌, ◌==◌, List, [], ◌∷◌, map, length, Option, None, Some, sum_by, refl, sym, ◌∙◌, ap, subst, arith, get_or, set}
+use Rattle.std.proofs.Common.{◌≡◌, inl, inr, ℕ, zero, suc, ◌+◌, ◌≤◌, ◌<◌, true, ◌==◌, List, [], ◌∷◌, length, Option, None, Some, sum_by, refl, sym, ◌∙◌, ap, subst, arith, get_or, set}
 use Rattle.std.specs.List.{list_any}
 use Rattle.std.proofs.lemmas.List.{length-map, get_or-set_same, get_or-set_other}
 use Rattle.std.proofs.lemmas.Bool.{cases_eq, or_left, or_right}
@@ -7,10 +7,9 @@ use Rattle.std.proofs.Math.Nat.{eq-or-lt_of_le}
 use Rattle.std.proofs.lemmas.List.Sums.{sum_by-cons}
 use Rattle.indexmap.specs.IndexMap.{keys}
 use Rattle.indexmap.proofs.IndexTableLemmas.Probe.{pigeonhole}
-use Rattle.dpl_groups.specs.Graph.{Graph, IsEdge, Leads, Reaches, IsGraph}
+use Rattle.dpl_groups.specs.Graph.{Leads}
 use Rattle.dpl_groups.specs.Graph.Leads.{once as edge, more as edge_and}
 use Rattle.dpl_groups.specs.Groups.{AreGroups}
-use Rattle.dpl_calls.specs.declared.totals.Count.{Count}
 use Rattle.dpl_calls.specs.declared.table.Table.{Table}
 use Rattle.dpl_calls.specs.Parts.{Part, Bodies}
 use Rattle.dpl_calls.specs.Parts.Part.{Drawn, Called}

@@ -2,11 +2,10 @@
 use Rattle.std.proofs.Common.{◌≡◌, ◌⊎◌, inl, inr, ℕ, ◌+◌, ◌<◌, Bool, true, false, cond, not, ◌==◌, ℤ, pos, ◌<ℤ◌, ◌≤ℤ◌, refl, ap, arith, unsigned_abs}
 use Rattle.std.specs.Prelude.{int_lt}
 use Rattle.std.proofs.Math.IntN.{neg_ℤ, neg_ℤ-neg_ℤ}
-use Rattle.std.proofs.lemmas.Grind.{common_steps}
 use Rattle.std.proofs.lemmas.Int.{ints}
 use Rattle.dpl_calls.specs.declared.figure.Corner.{Corner}
 use Rattle.dpl_calls.specs.Parts.{corner}
-use Rattle.dpl_calls.specs.Rotations.{quarter_left, quarter_right}
+use Rattle.dpl_calls.specs.Rotations.{quarter_left}
 use Rattle.dpl_list.proofs.Integers.{not_less, no_less_test, is_less, less_test}
 use Rattle.dpl_calls.proofs.CleanParts.{positive}
 use Rattle.dpl_calls.proofs.Scaling.{zero_of}

@@ -1,9 +1,8 @@
 -- Turns and shifts, one after another.
-use Rattle.std.proofs.Common.{◌≡◌, ℕ, ◌≤◌, ◌+◌, Bool, true, false, ℤ, pos, ◌+ℤ◌, cond, not, refl, sym, ◌∙◌, ap, arith, unsigned_abs}
+use Rattle.std.proofs.Common.{◌≡◌, ℕ, ◌≤◌, ◌+◌, Bool, true, false, ℤ, pos, ◌+ℤ◌, cond, not, refl, arith, unsigned_abs}
 use Rattle.std.proofs.lemmas.Int.{ints}
 use Rattle.dpl_calls.specs.declared.figure.Corner.{Corner}
 use Rattle.dpl_calls.specs.declared.placement.Placement.{Placement}
-use Rattle.dpl_calls.specs.Parts.{corner}
 use Rattle.dpl_calls.specs.Placement.{signed, other, apply, IsNear}
 
 abbrev pub placement : Bool → Bool → Bool → ℤ → ℤ → Placement

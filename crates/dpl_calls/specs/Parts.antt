@@ -1,12 +1,11 @@
 -- What the commands of a layout put into its definitions (Mead and Conway 1980, section 4.5).
 use Rattle.std.specs.Prelude.{ℕ, ℤ, pos, ◌+ℤ◌, neg_ℤ, int_lt, ◌==◌, ◌&&◌, ◌||◌, not, Bool, true, false, unsigned_abs, List, [], ◌∷◌, ◌++◌, map, Option, None, Some, Result, Ok, Err, if◌then◌else◌}
 use Rattle.dpl_rules.specs.declared.command.Spot.{Spot}
-use Rattle.dpl_rules.specs.declared.command.BoxForm.{BoxForm}
 use Rattle.dpl_rules.specs.declared.command.Scale.{Scale}
 use Rattle.dpl_rules.specs.declared.command.Transformation.{Transformation}
 use Rattle.dpl_rules.specs.declared.command.Transformation.TheVariants.{Shift, MirrorX, MirrorY, Rotate}
 use Rattle.dpl_rules.specs.declared.command.Command.{Command}
-use Rattle.dpl_rules.specs.declared.command.Command.TheVariants.{Idle, Polygon, Box, Wire, Flash, Layer, Start, Finish, Delete, Call}
+use Rattle.dpl_rules.specs.declared.command.Command.TheVariants.{Polygon, Box, Wire, Call}
 use Rattle.dpl_rules.specs.declared.scope.Scope.{Scope}
 use Rattle.dpl_rules.specs.declared.what.What.{What}
 use Rattle.dpl_rules.specs.declared.figures.Extent.{Extent}

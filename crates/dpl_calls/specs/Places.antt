@@ -1,5 +1,5 @@
 -- The definitions of a table by their places, and the graph of their calls.
-use Rattle.std.specs.Prelude.{ℕ, suc, ◌+◌, ◌==◌, List, [], ◌∷◌, map, Option, None, Some, if◌then◌else◌}
+use Rattle.std.specs.Prelude.{ℕ, ◌+◌, ◌==◌, List, [], ◌∷◌, map, Option, None, Some, if◌then◌else◌}
 use Rattle.std.proofs.Math.ListN.{get_or}
 use Rattle.indexmap.specs.IndexMap.{keys, values}
 use Rattle.dpl_groups.specs.Graph.{Graph}

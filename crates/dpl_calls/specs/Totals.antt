@@ -1,5 +1,5 @@
 -- How many calls are carried out, and how many primitives come.
-use Rattle.std.specs.Prelude.{ℕ, zero, suc, ◌+◌, ◌^◌, min, List, length, map, sum_by, Some}
+use Rattle.std.specs.Prelude.{ℕ, zero, suc, ◌+◌, ◌^◌, min, List, length, sum_by, Some}
 use Rattle.dpl_calls.specs.declared.figure.Figure.TheVariants.{Rectangle, Polygon}
 use Rattle.dpl_calls.specs.Parts.{Part, Bodies}
 use Rattle.dpl_calls.specs.Parts.Part.{Drawn, Called}

@@ -1,5 +1,5 @@
 -- The calls of a layout, carried out (Mead and Conway 1980, section 4.5).
-use Rattle.std.specs.Prelude.{ℕ, zero, suc, List, [], ◌∷◌, ◌++◌, map, Some}
+use Rattle.std.specs.Prelude.{ℕ, zero, suc, List, [], ◌∷◌, map, Some}
 use Rattle.std.specs.List.{flat_map}
 use Rattle.std.specs.Int.{int_min, int_max}
 use Rattle.dpl_rules.specs.declared.figures.Extent.{Extent}

@@ -1,6 +1,5 @@
 -- The bands between ordinates in order.
-use Rattle.std.proofs.Common.{arith, ◌≡◌, ℕ, ◌+◌, ◌-◌, ◌<◌, ◌≤◌, ℤ, pos, ◌+ℤ◌, ◌<ℤ◌, ◌≤ℤ◌, List, length, get_or, All, subst, ap, refl, sym, ◌∷◌, ◌∙◌, inl, inr, [], ◌++◌, Bool, true, false, not, map, IsTrue, rules}
-use Rattle.std.proofs.lemmas.Int.{by_lt_z}
+use Rattle.std.proofs.Common.{arith, ◌≡◌, ℕ, ◌+◌, ◌-◌, ◌<◌, ◌≤◌, ℤ, pos, ◌<ℤ◌, ◌≤ℤ◌, List, length, get_or, All, subst, ap, refl, sym, ◌∷◌, ◌∙◌, inl, inr, [], Bool, true, false, map}
 use Rattle.std.proofs.lemmas.Bool.{cases_lt}
 use Rattle.std.proofs.lemmas.List.{get_or_default}
 use Rattle.std.proofs.lemmas.List.Elements.{All-map, All-weaker, All-contains}
@@ -11,7 +10,6 @@ use Rattle.dpl_cell.specs.Places.{place_of}
 use Rattle.dpl_cell.specs.Cells.{IsWithin}
 use Rattle.dpl_cell.specs.Outlines.{outline_of}
 use Rattle.dpl_cell.specs.Layers.{is_cell}
-use Rattle.dpl_cell.specs.Tiles.{IsRun}
 use Rattle.dpl_list.specs.Order.{Ascends}
 use Rattle.dpl_tiles.specs.Bands.{HasCorners, HasOrdinates}
 use Rattle.dpl_tiles.specs.Sweeps.{AreSwept}

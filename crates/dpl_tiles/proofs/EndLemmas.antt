@@ -1,5 +1,5 @@
 -- The stacks that end at a row, closed one after the other, and all of them at the top.
-use Rattle.std.proofs.Common.{Option, Some, None, MatchOption, arith, rules, ◌≡◌, ◌⊎◌, ◌∙◌, ℕ, ◌+◌, ◌<◌, ◌≤◌, ◌^◌, ℤ, pos, neg_ℤ, ◌+ℤ◌, ◌-ℤ◌, ◌<ℤ◌, ◌≤ℤ◌, List, length, get_or, take, filter, All, Any, refl, sym, ap, inl, inr, [], ◌∷◌, ◌++◌, Bool, true, false, not, append_assoc, append-nil, IsTrue}
+use Rattle.std.proofs.Common.{Option, Some, None, MatchOption, arith, rules, ◌≡◌, ◌∙◌, ℕ, ◌+◌, ◌<◌, ◌≤◌, ◌^◌, ℤ, pos, neg_ℤ, ◌+ℤ◌, ◌-ℤ◌, ◌<ℤ◌, ◌≤ℤ◌, List, length, get_or, take, Any, refl, sym, inl, inr, [], ◌∷◌, ◌++◌, Bool, true, false, not, append_assoc, append-nil, IsTrue}
 use Rattle.std.specs.Option.{is_some}
 use Rattle.std.proofs.lemmas.List.{get_or_default}
 use Rattle.std.specs.List.{AllZip}

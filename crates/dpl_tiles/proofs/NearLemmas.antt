@@ -1,5 +1,5 @@
 -- The runs near the columns that change, from stretches that are exact in a window.
-use Rattle.std.proofs.Common.{arith, ◌≡◌, ◌∙◌, ℕ, ℤ, pos, ◌-ℤ◌, ◌<ℤ◌, ◌≤ℤ◌, ◌<◌, ◌&&◌, List, length, get_or, filter, [], ◌∷◌, All, Any, AllPairs, refl, sym, inl, inr, Bool, true, IsTrue, int_le}
+use Rattle.std.proofs.Common.{arith, ◌≡◌, ◌∙◌, ℕ, ℤ, pos, ◌-ℤ◌, ◌<ℤ◌, ◌≤ℤ◌, ◌<◌, ◌&&◌, List, length, get_or, filter, [], ◌∷◌, All, Any, refl, sym, inl, inr, Bool, true, IsTrue, int_le}
 use Rattle.std.specs.List.{AllZip}
 use Rattle.std.proofs.lemmas.List.{get_or_default}
 use Rattle.std.proofs.lemmas.List.Elements.{All-cons, All-filter, filter_passes}
@@ -11,7 +11,7 @@ use Rattle.dpl_cell.specs.Tiles.{IsRun}
 use Rattle.dpl_cell.specs.declared.stretch.Stretch.{Stretch}
 use Rattle.dpl_cell.specs.Stretches.{is_in_stretches, AreSeparate}
 use Rattle.dpl_tiles.specs.Stretches.{IsRow}
-use Rattle.dpl_tiles.specs.Bands.{HasColumns, IsLeftOf, IsOver}
+use Rattle.dpl_tiles.specs.Bands.{HasColumns, IsOver}
 use Rattle.dpl_tiles.specs.Windows.{IsFar, AreNearRuns, is_near}
 use Rattle.dpl_cell.proofs.BoxLemmas.{is_true, true_is}
 use Rattle.dpl_list.proofs.Integers.{signed}

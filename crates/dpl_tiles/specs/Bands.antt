@@ -1,10 +1,9 @@
 -- Bands: the rows between neighbouring ordinates of corners. All rows of a band have the same cells.
-use Rattle.std.specs.Prelude.{◌≡◌, ℤ, ◌<ℤ◌, List, Bool, All, Any, AllPairs, Contains}
+use Rattle.std.specs.Prelude.{◌≡◌, ℤ, ◌<ℤ◌, List, All, Contains}
 use Rattle.dpl_cell.specs.declared.rect.Rect.{Rect}
 use Rattle.dpl_cell.specs.declared.layout.Primitive.{Primitive}
 use Rattle.dpl_cell.specs.declared.layout.Primitive.TheVariants as prim
 use Rattle.dpl_cell.specs.Ranges.{IsInRange}
-use Rattle.dpl_cell.specs.Tiles.{IsRun}
 use Rattle.dpl_cell.specs.declared.stretch.Stretch.{Stretch}
 
 -- the list has the ordinates of a primitive's corners

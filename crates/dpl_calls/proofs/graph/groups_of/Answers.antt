@@ -1,5 +1,5 @@
 use Rattle.std.proofs.Common.{◌≡◌, ◌∙◌, sym, subst}
-use Rattle.dpl_groups.specs.Graph.{Graph, IsGraph}
+use Rattle.dpl_groups.specs.Graph.{IsGraph}
 use Rattle.dpl_calls.specs.Places.{graph_of}
 use Rattle.dpl_calls.proofs.Edges.{is_graph}
 use Rattle.dpl_calls.proofs.graph.groups_of.Goals as goal

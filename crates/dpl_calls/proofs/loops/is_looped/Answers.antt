@@ -1,4 +1,4 @@
-use Rattle.std.proofs.Common.{◌≡◌, ◌∙◌, None, Some, sym, ap}
+use Rattle.std.proofs.Common.{◌≡◌, ◌∙◌, sym}
 use Rattle.dpl_calls.proofs.Edges.{is_graph}
 use Rattle.dpl_calls.proofs.Groups.{outside, nowhere, called_nowhere, same_group}
 use Rattle.dpl_calls.proofs.loops.is_looped.Goals as goal

@@ -6,7 +6,7 @@ use Rattle.dpl_rules.specs.declared.command.Transformation.{Transformation}
 use Rattle.dpl_rules.specs.declared.command.Transformation.TheVariants.{Shift}
 use Rattle.dpl_rules.specs.Readers.{spot}
 use Rattle.dpl_calls.specs.declared.figure.Corner.{Corner}
-use Rattle.dpl_calls.specs.Parts.{transformed, transformed_by}
+use Rattle.dpl_calls.specs.Parts.{transformed_by}
 use Rattle.dpl_calls.specs.Placement.{apply, IsNear}
 use Rattle.dpl_calls.proofs.Turns.{unmoved_stays}
 use Rattle.dpl_calls.proofs.placement.placement_of.Goals as goal

@@ -1,4 +1,4 @@
-use Rattle.std.proofs.Common.{◌≡◌, ◌∙◌, ◌<◌, ◌+◌, suc, ℕ, List, None, map, sum_by, length, ap, arith}
+use Rattle.std.proofs.Common.{◌≡◌, ◌∙◌, ◌+◌, suc, ℕ, List, None, map, sum_by, length, ap, arith}
 use Rattle.indexmap.specs.IndexMap.{keys}
 use Rattle.dpl_calls.specs.declared.entry.Entry.{Entry}
 use Rattle.dpl_calls.specs.Parts.{Part}

@@ -1,5 +1,4 @@
 use Rattle.std.proofs.Common.{arith, rules, int_lt, SFits, w64}
-use Rattle.std.proofs.lemmas.Int.{to_z-of_z}
 use Rattle.std.proofs.lemmas.List.Sorted.{IsPartitionPoint-from_clause}
 use Rattle.dpl_tiles.proofs.WindowLemmas.{parted_left}
 use Rattle.dpl_tiles.proofs.sweeping.first_not_left.Goals as goal

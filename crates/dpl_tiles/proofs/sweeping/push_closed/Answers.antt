@@ -1,6 +1,5 @@
 use Rattle.std.proofs.Common.{SFits, w64}
 use Rattle.std.proofs.lemmas.Int.{to_z-of_z}
-use Rattle.dpl_tiles.specs.Windows.{AddsClosed, IsClosed}
 use Rattle.dpl_tiles.proofs.EndLemmas.{closed_next, closed_same, closed_none, closed_whole, nothing_found, one_found}
 use Rattle.dpl_tiles.proofs.sweeping.push_closed.Goals as goal
 use Rattle.dpl_tiles.proofs.sweeping.push_closed.Goals.{then-is_none+in_ok-push, else-is_none}
