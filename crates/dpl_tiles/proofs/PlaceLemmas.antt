@@ -1,9 +1,9 @@
 -- The stacks before, near and behind the columns that change, by their places.
-use Rattle.std.proofs.Common.{arith, ◌≡◌, ◌∙◌, ℕ, suc, ◌+◌, ◌-◌, ◌<◌, ◌≤◌, ℤ, ◌<ℤ◌, ◌≤ℤ◌, List, length, length-append, get_or, take, drop, reverse, All, AllPairs, Any, subst, sym, ap, inl, inr, [], ◌∷◌, ◌++◌, append_assoc, append-nil, refl, true, int_le, int_lt}
+use Rattle.std.proofs.Common.{arith, ◌≡◌, ◌∙◌, ℕ, suc, ◌+◌, ◌-◌, ◌<◌, ◌≤◌, ℤ, ◌<ℤ◌, ◌≤ℤ◌, List, length, length-append, get_or, take, drop, reverse, All, AllPairs, Any, subst, sym, ap, inl, inr, [], ◌∷◌, ◌++◌, append_assoc, true, int_le, int_lt}
 use Rattle.std.specs.List.{AllZip}
 use Rattle.std.specs.List.Sorted.{IsPartitionedBy}
 use Rattle.std.proofs.lemmas.Bool.{cases_lt}
-use Rattle.std.proofs.lemmas.List.{take-append-drop, drop_more, drop_all, get_or-take, get_or-drop, get_or-reverse, get_or_default, get_or_append_left, get_or-append-add, length-take, length-drop, length-reverse, reverse-append, reverse-reverse}
+use Rattle.std.proofs.lemmas.List.{take-append-drop, get_or-take, get_or-drop, get_or-reverse, get_or_default, get_or_append_left, get_or-append-add, length-take, length-drop, length-reverse, reverse-append, reverse-reverse}
 use Rattle.std.proofs.lemmas.List.Elements.{All-append, All-drop}
 use Rattle.dpl_cell.specs.declared.rect.Rect.{Rect}
 use Rattle.dpl_tiles.specs.Bands.{IsLeftOf}
@@ -46,14 +46,6 @@ first_ones P xs n a k d l = let m = length-take n xs in let h : k < n = omega ar
 
 pub last_ones : (P : Rect → Type 0) (xs : List Rect) (n : ℕ) → ((k : ℕ) (d : Rect) → n ≤ k → k < length xs → P (get_or xs k d)) → All P (drop n xs)
 last_ones P xs n a k d l = let m = length-drop n xs in rw (get_or-drop n xs k d) (a (n + k) d (omega arith) (omega arith))
-
--- none yet
-pub back_none : (old stacks : List Rect) → old ≡ old ++ reverse (drop (length stacks) stacks)
-back_none old stacks = rw (drop_all (length stacks) stacks (omega arith), append-nil) refl
-
--- one more from the back
-pub back_more : (old to new stacks : List Rect) (k : ℕ) (d : Rect) → k < length stacks → to ≡ old ++ reverse (drop (k + 1) stacks) → new ≡ to ++ get_or stacks k d ∷ [] → new ≡ old ++ reverse (drop k stacks)
-back_more old to new stacks k d l e f = rw (f, e, drop_more stacks k d l, reverse-append (get_or stacks k d ∷ []) (drop (k + 1) stacks)) (append_assoc old (reverse (drop (k + 1) stacks)) (get_or stacks k d ∷ []))
 
 -- the order of one of the first list and one of the second
 pub across : (xs ys : List Rect) → AllPairs IsLeftOf (xs ++ ys) → (i j : ℕ) (d : Rect) → i < length xs → j < length ys → IsLeftOf (get_or xs i d) (get_or ys j d)

@@ -135,11 +135,9 @@ pub fn move_back(from: &mut Vec<Rect>, to: &mut Vec<Rect>, count: usize) -> Resu
 fn push_back(to: &mut Vec<Rect>, stacks: &[Rect]) -> Result<(), AllocError>
     ensures { OnOk result (to.new.items ≡ to.old.items ++ reverse stacks.now) }
 {
-    let mut k = stacks.len();
-    'back: while k > 0 {
-        k -= 1;
-        to.push(stacks[k])?;
-    }
+    let from = to.len();
+    to.extend_from_slice(stacks)?;
+    to[from..].reverse();
     Ok(())
 }
 
