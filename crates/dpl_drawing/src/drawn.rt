@@ -73,7 +73,7 @@ fn excess_from(net: &Net, aside: &[u32], drawn: u32, whole: u32) -> u64
 }
 
 /// Draws the edges of a net in their order, each of which is kept unless it raises the excess of
-/// those kept before it. Near linear, where the edges around a fragment come in few turns.
+/// those kept before it. Near linear, also where the edges around a fragment come in no order.
 pub fn draw(alloc: Global, net: &Net) -> Result<Drawing, AllocError>
     ensures kept { IfOk result (λ d. d.kept.items ≡ kept_edges net.now) }
     ensures aside { IfOk result (λ d. d.aside.items ≡ aside_edges net.now) }
