@@ -4,7 +4,7 @@ use Rattle.std.proofs.lemmas.Bool.{cases_eq, both_ways}
 use Rattle.dpl_sign.specs.declared.edges.Edge.{Edge}
 use Rattle.dpl_sign.specs.declared.nets.Net.{Net}
 use Rattle.dpl_sign.specs.Walks.{edge_at}
-use Rattle.dpl_sign.specs.Drawings.{is_in, tail_of, dart_count}
+use Rattle.dpl_sign.specs.Drawings.{is_in, tail_of}
 use Rattle.dpl_sign.proofs.DartLemmas.{first_half, second_half, first_tail, second_tail, of_edge}
 use Rattle.dpl_sign.proofs.Insert.{IsOneMore, half_below}
 use Rattle.dpl_sign.proofs.ComponentLemmas.{start_below, end_below}
