@@ -83,12 +83,12 @@ pub fn draw(alloc: Global, net: &Net) -> Result<Drawing, AllocError>
         d.components ≡ component_count net.now.graph (is_in (kept_edges net.now))) }
     ensures excess { IfOk result (λ d. d.excess ≡ excess_of net.now all_edges) }
 {
-    let drawn = keep(alloc, net)?;
+    let mut drawn = keep(alloc, net)?;
     let darts = 2 * net.graph.edges.as_slice().len() as u32;
     let corners = listed(alloc, drawn.plane.faces.ring(), darts)?;
     let aside = aside_of(alloc, net, &drawn.edges)?;
     let faces = number(alloc, &corners, &drawn.edges)?;
-    let whole = count_faces(alloc, net)?;
+    let whole = count_faces(alloc, net, &mut drawn.plane.nearby)?;
     let excess = excess_from(net, &aside, faces.count, whole);
     Ok(Drawing {
         kept: drawn.edges,

@@ -72,16 +72,15 @@ fn add_next(faces: &mut Ring, lasts: &mut [u32], nearby: &mut Nearby, net: &Net,
 }
 
 /// How many faces with darts the drawing of all edges has.
-pub fn count_faces(alloc: Global, net: &Net) -> Result<u32, AllocError>
+pub fn count_faces(alloc: Global, net: &Net, nearby: &mut Nearby) -> Result<u32, AllocError>
     ensures { IfOk result (λ n. n ≡ drawn_faces net.now all_edges) }
 {
     let darts = 2 * net.graph.edges.as_slice().len() as u32;
     let mut faces = Ring::new(alloc, darts)?;
     let mut lasts = filled(alloc, net.graph.nodes as usize, NO_DART)?;
-    let mut nearby = Nearby::new(alloc, net)?;
     let mut all = Vec::new(alloc);
     for _edge in 0..darts / 2 {
-        add_next(&mut faces, &mut lasts, &mut nearby, net, &all);
+        add_next(&mut faces, &mut lasts, nearby, net, &all);
         all.push(true)?;
     }
     let corners = listed(alloc, &faces, darts)?;
