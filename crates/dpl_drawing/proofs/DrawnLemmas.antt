@@ -2,8 +2,7 @@
 use Rattle.std.proofs.Common.{arith, ◌≡◌, ◌≢◌, ℕ, zero, suc, ◌+◌, ◌-◌, ◌*◌, ◌/◌, ◌<◌, ◌≤◌, refl, sym, ap, ◌∙◌, Bool, true, false, not, inl, inr, List, [], ◌∷◌, ◌++◌, length, get_or}
 use Rattle.std.specs.Prelude.{◌↔◌, swap, slice_index}
 use Rattle.std.proofs.lemmas.Bool.{cases_eq, cases_Bool}
-use Rattle.dpl_cycle.specs.Names.{name_count}
-use Rattle.dpl_cycle.proofs.NameLemmas.{count_in, name_count_same}
+use Rattle.dpl_cycle.proofs.NameLemmas.{name_count_same}
 use Rattle.dpl_cycle.proofs.Fixed.{least_fixed}
 use Rattle.dpl_cycle.proofs.Shorter.{least_same}
 use Rattle.dpl_cycle.specs.Cycles.{least}

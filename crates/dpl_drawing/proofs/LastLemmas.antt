@@ -4,7 +4,7 @@ use Rattle.std.proofs.lemmas.Bool.{cases_eq, both_ways}
 use Rattle.dpl_sign.specs.declared.edges.Edge.{Edge}
 use Rattle.dpl_sign.specs.declared.nets.Net.{Net}
 use Rattle.dpl_sign.specs.Walks.{edge_at}
-use Rattle.dpl_sign.specs.Drawings.{is_in, tail_of, dart_count}
+use Rattle.dpl_sign.specs.Drawings.{is_in, tail_of}
 use Rattle.dpl_sign.proofs.DartLemmas.{first_half, second_half, first_tail, second_tail, of_edge}
 use Rattle.dpl_sign.proofs.Insert.{IsOneMore, half_below}
 use Rattle.dpl_sign.proofs.ComponentLemmas.{start_below, end_below}
@@ -33,7 +33,7 @@ ends_in net p lasts e edge k h same =
     let b : edge.b ≡ (edge_at net.graph e).b = ap (λ (x : Edge). x.b) same in
     (omega (arith, a, start_below net.graph e h, k.per_node), omega (arith, b, end_below net.graph e h, k.per_node))
 
-is_last : (net : Net) (q : ℕ → Bool) (v last d : ℕ) → last ≡ d → d < 4294967295 → Leaves net q v d → IsLast net q v last
+pub is_last : (net : Net) (q : ℕ → Bool) (v last d : ℕ) → last ≡ d → d < 4294967295 → Leaves net q v d → IsLast net q v last
 is_last net q v last d e small l =
     let P : ℕ → Type 0 = λ x. IsLast net q v x in
     subst P (sym e) (record { bare = λ r. absurd (omega (arith, r)); used = λ ne. l })

@@ -73,7 +73,7 @@ fn excess_from(net: &Net, aside: &[u32], drawn: u32, whole: u32) -> u64
 }
 
 /// Draws the edges of a net in their order, each of which is kept unless it raises the excess of
-/// those kept before it. Near linear, where the edges around a fragment come in few turns.
+/// those kept before it. Near linear, also where the edges around a fragment come in no order.
 pub fn draw(alloc: Global, net: &Net) -> Result<Drawing, AllocError>
     ensures kept { IfOk result (λ d. d.kept.items ≡ kept_edges net.now) }
     ensures aside { IfOk result (λ d. d.aside.items ≡ aside_edges net.now) }
@@ -83,12 +83,12 @@ pub fn draw(alloc: Global, net: &Net) -> Result<Drawing, AllocError>
         d.components ≡ component_count net.now.graph (is_in (kept_edges net.now))) }
     ensures excess { IfOk result (λ d. d.excess ≡ excess_of net.now all_edges) }
 {
-    let drawn = keep(alloc, net)?;
+    let mut drawn = keep(alloc, net)?;
     let darts = 2 * net.graph.edges.as_slice().len() as u32;
     let corners = listed(alloc, drawn.plane.faces.ring(), darts)?;
     let aside = aside_of(alloc, net, &drawn.edges)?;
     let faces = number(alloc, &corners, &drawn.edges)?;
-    let whole = count_faces(alloc, net)?;
+    let whole = count_faces(alloc, net, &mut drawn.plane.nearby)?;
     let excess = excess_from(net, &aside, faces.count, whole);
     Ok(Drawing {
         kept: drawn.edges,

@@ -6,6 +6,7 @@
 
 mod cycles;
 mod drawn;
+mod nearness;
 mod numbering;
 mod planes;
 mod turning;

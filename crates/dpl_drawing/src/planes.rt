@@ -6,6 +6,7 @@ ghost use Rattle.dpl_sign.specs.Excess.{raises_excess};
 ghost use Rattle.dpl_drawing.specs.Drawn.{IsDrawn, AreLasts, IsAttached, IsInserted};
 
 use crate::cycles::Cycles;
+use crate::nearness::Nearby;
 use crate::numbering::filled;
 use crate::turning::{NO_DART, next_from};
 use dpl_sign::Net;
@@ -20,6 +21,7 @@ pub struct Plane {
     pub components: u32,
     // A dart of each node, from which the others are near.
     pub lasts: Vec<u32>,
+    pub nearby: Nearby,
 }
 
 /// Puts a dart of a new edge before `next` around its node. Where `next` is the dart itself the node
@@ -74,11 +76,13 @@ impl Plane {
         let faces = Cycles::new(alloc, 2 * net.graph.edges.as_slice().len() as u32)?;
         let parts = Cycles::new(alloc, components)?;
         let lasts = filled(alloc, components as usize, NO_DART)?;
+        let nearby = Nearby::new(alloc, net)?;
         Ok(Plane {
             faces,
             parts,
             components,
             lasts,
+            nearby,
         })
     }
 
@@ -102,15 +106,24 @@ impl Plane {
         let (dart, twin) = (2 * edge, 2 * edge + 1);
         let ends = net.graph.edges.as_slice()[edge as usize];
         let last = self.lasts[ends.a as usize];
-        let next = next_from(self.faces.ring(), net, kept, dart, last);
+        let next = next_from(self.faces.ring(), net, kept, dart, last, &mut self.nearby);
         let last_twin = self.lasts[ends.b as usize];
-        let next_twin = next_from(self.faces.ring(), net, kept, twin, last_twin);
+        let next_twin = next_from(
+            self.faces.ring(),
+            net,
+            kept,
+            twin,
+            last_twin,
+            &mut self.nearby,
+        );
         if !self.parts.are_together(ends.a, ends.b) {
             insert(&mut self.faces, edge, next, next_twin);
             self.parts.splice(ends.a, ends.b);
             self.components -= 1;
             self.lasts[ends.a as usize] = dart;
             self.lasts[ends.b as usize] = twin;
+            self.nearby.note(dart, dart);
+            self.nearby.note(twin, twin);
             return true;
         }
         if !self.faces.are_together(next, next_twin) {
@@ -119,6 +132,8 @@ impl Plane {
         insert(&mut self.faces, edge, next, next_twin);
         self.lasts[ends.a as usize] = dart;
         self.lasts[ends.b as usize] = twin;
+        self.nearby.note(dart, dart);
+        self.nearby.note(twin, twin);
         true
     }
 }

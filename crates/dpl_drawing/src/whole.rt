@@ -7,6 +7,7 @@ ghost use Rattle.dpl_drawing.specs.Faces.{AreFaces};
 ghost use Rattle.dpl_drawing.specs.Drawn.{AreLasts, IsAttached, IsInserted};
 ghost use Rattle.dpl_drawing.specs.Faces.{drawn_faces};
 
+use crate::nearness::Nearby;
 use crate::numbering::{filled, listed, number};
 use crate::turning::{NO_DART, next_from};
 use dpl_ring::Ring;
@@ -49,7 +50,7 @@ fn insert(faces: &mut Ring, edge: u32, next: u32, next_twin: u32)
 }
 
 /// Draws the next edge.
-fn add_next(faces: &mut Ring, lasts: &mut [u32], net: &Net, all: &[bool])
+fn add_next(faces: &mut Ring, lasts: &mut [u32], nearby: &mut Nearby, net: &Net, all: &[bool])
     requires edge { length all.now < length net.now.graph.edges }
     requires faces { AreFaces net.now (is_in all.now) faces.old }
     requires lasts { AreLasts net.now (is_in all.now) lasts.old }
@@ -60,16 +61,18 @@ fn add_next(faces: &mut Ring, lasts: &mut [u32], net: &Net, all: &[bool])
     let (dart, twin) = (2 * edge, 2 * edge + 1);
     let ends = net.graph.edges.as_slice()[edge as usize];
     let last = lasts[ends.a as usize];
-    let next = next_from(faces, net, all, dart, last);
+    let next = next_from(faces, net, all, dart, last, nearby);
     let last_twin = lasts[ends.b as usize];
-    let next_twin = next_from(faces, net, all, twin, last_twin);
+    let next_twin = next_from(faces, net, all, twin, last_twin, nearby);
     insert(faces, edge, next, next_twin);
     lasts[ends.a as usize] = dart;
     lasts[ends.b as usize] = twin;
+    nearby.note(dart, dart);
+    nearby.note(twin, twin);
 }
 
 /// How many faces with darts the drawing of all edges has.
-pub fn count_faces(alloc: Global, net: &Net) -> Result<u32, AllocError>
+pub fn count_faces(alloc: Global, net: &Net, nearby: &mut Nearby) -> Result<u32, AllocError>
     ensures { IfOk result (λ n. n ≡ drawn_faces net.now all_edges) }
 {
     let darts = 2 * net.graph.edges.as_slice().len() as u32;
@@ -77,7 +80,7 @@ pub fn count_faces(alloc: Global, net: &Net) -> Result<u32, AllocError>
     let mut lasts = filled(alloc, net.graph.nodes as usize, NO_DART)?;
     let mut all = Vec::new(alloc);
     for _edge in 0..darts / 2 {
-        add_next(&mut faces, &mut lasts, net, &all);
+        add_next(&mut faces, &mut lasts, nearby, net, &all);
         all.push(true)?;
     }
     let corners = listed(alloc, &faces, darts)?;

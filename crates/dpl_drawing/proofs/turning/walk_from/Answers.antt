@@ -1,7 +1,7 @@
 use Rattle.std.proofs.Common.{arith, ◌<◌, sym}
 use Rattle.dpl_sign.specs.Drawings.{is_in, dart_count}
 use Rattle.dpl_drawing.proofs.TurnSteps.{last_bare, ahead_in, found_ahead, back_in, found_back}
-use Rattle.dpl_drawing.proofs.turning.next_from.Goals as goal
+use Rattle.dpl_drawing.proofs.turning.walk_from.Goals as goal
 
 pub returns-then-last-eq-NO_DART-clause-value : goal.returns-then-last-eq-NO_DART-clause-value
 returns-then-last-eq-NO_DART-clause-value c = sym (last_bare c.args.net.now (is_in c.args.kept.now) c.args.dart c.args.last c.requires.dart c.requires.last c.if-last-eq-NO_DART.true)

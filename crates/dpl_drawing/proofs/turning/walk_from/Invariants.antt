@@ -1,6 +1,6 @@
 use Rattle.dpl_sign.specs.Drawings.{is_in, tail_of}
 use Rattle.dpl_sign.specs.Rotations.{Leaves}
-use Rattle.dpl_drawing.proofs.turning.next_from.Given as goal
+use Rattle.dpl_drawing.proofs.turning.walk_from.Given as goal
 
 abbrev pub invariant-loop-step : goal.invariant-loop-step
 invariant-loop-step l = record {
