@@ -19,10 +19,10 @@ fn bounds(columns: (i64, i64), rows: (i64, i64)) -> Bounds {
 /// Squares of 3 by 3, a free column and a free row between each two of them, numbered from the lower left row by row.
 fn grid(rt: &HostRuntime) -> Result<Index, NoMemory> {
     let mut all = Vec::new(rt.alloc());
-    for row in 0..4_i64 {
-        for column in 0..4_i64 {
-            let x = column * 4;
-            let y = row * 4;
+    for row in 0..4u16 {
+        for column in 0..4u16 {
+            let x = i64::from(column) * 4;
+            let y = i64::from(row) * 4;
             all.push(bounds((x, x + 2), (y, y + 2)))?;
         }
     }
