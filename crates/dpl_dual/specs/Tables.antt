@@ -1,5 +1,5 @@
 -- A table of faces by their numbers, in pages of 64.
-use Rattle.std.specs.Prelude.{ℕ, ◌/◌, ◌%◌, List, [], slice_index_or, Option, Some, None}
+use Rattle.std.specs.Prelude.{ℕ, ◌/◌, ◌%◌, List, [], slice_index_or, Option, None}
 use Rattle.dpl_dual.specs.declared.reach.Reach.{Reach}
 
 -- how a face is reached, if it is

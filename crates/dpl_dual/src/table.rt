@@ -60,8 +60,8 @@ fn fill(reaches: &mut Vec<Option<Reach>>) -> Result<(), AllocError>
     ensures same { OnOk result ((i : ℕ) →
         slice_index_or reaches.new.items i None ≡ slice_index_or reaches.old.items i None) }
 {
-    for _place in reaches.len()..64 {
-        reaches.push(None)?;
+    if reaches.len() < 64 {
+        reaches.resize(64, None)?;
     }
     Ok(())
 }
@@ -72,6 +72,7 @@ fn grow(alloc: Global, pages: &mut Vec<Page>, count: usize) -> Result<(), AllocE
     ensures same { OnOk result ((i : ℕ) →
         slice_index_or pages.new.items i [] ≡ slice_index_or pages.old.items i []) }
 {
+    pages.reserve(count.saturating_sub(pages.len()))?;
     for _page in pages.len()..count {
         pages.push(Page::new(alloc))?;
     }

@@ -3,10 +3,13 @@ ghost use Rattle.dpl_index.specs.Meetings.{AddsMeeting, HasMeeting};
 ghost use Rattle.dpl_index.specs.Stops.{IsIndex};
 
 use crate::bounds::{Bounds, do_meet};
-use crate::order::in_order;
+use crate::order::put_in_order;
 use crate::stops::{Stop, stops_of};
 use std::alloc::{AllocError as NoMemory, Global};
 use std::marker::Model;
+
+/// Room for so many items is made before a search: most find fewer, and then no list grows.
+const USUAL: usize = 16;
 
 /// Finds the items whose bounds meet others. Contracts see it as the list of the bounds of all items, by number.
 #[derive(Drop)]
@@ -44,9 +47,9 @@ impl Index {
     pub fn meeting(&self, alloc: Global, window: &Bounds) -> Result<Vec<usize>, NoMemory>
         ensures { IfOk result (λ v. AreMeeting self.now window.now v.items) }
     {
-        let found = gather(alloc, self.bounds.as_slice(), self.stops.as_slice(), window)?;
-        let ordered = in_order(alloc, found)?;
-        Ok(ordered)
+        let mut found = gather(alloc, self.bounds.as_slice(), self.stops.as_slice(), window)?;
+        put_in_order(&mut found);
+        Ok(found)
     }
 }
 
@@ -60,7 +63,7 @@ fn gather(
     requires { IsIndex items.now stops.now }
     ensures { IfOk result (λ v. HasMeeting items.now window.now v.items) }
 {
-    let mut found = Vec::new(alloc);
+    let mut found = Vec::with_capacity(alloc, USUAL)?;
     let mut at = 0;
     'stops: while at < stops.len() {
         let stop = stops[at];

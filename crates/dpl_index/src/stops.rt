@@ -22,7 +22,8 @@ pub fn stops_of(alloc: Global, items: &[Bounds]) -> Result<Vec<Stop>, NoMemory>
     let mut places = places(alloc, items)?;
     sort(&mut places);
     let mut stops = singles(alloc, items, places.as_slice())?;
-    gather(items, stops.as_mut_slice());
+    let sizes = sizes(alloc, stops.len())?;
+    gather(items, stops.as_mut_slice(), &sizes);
     Ok(stops)
 }
 
@@ -30,7 +31,7 @@ pub fn stops_of(alloc: Global, items: &[Bounds]) -> Result<Vec<Stop>, NoMemory>
 fn places(alloc: Global, items: &[Bounds]) -> Result<Vec<(u64, usize)>, NoMemory>
     ensures { IfOk result (λ v. NamesAll (length items.now) v.items) }
 {
-    let mut places = Vec::new(alloc);
+    let mut places = Vec::with_capacity(alloc, items.len())?;
     for i in 0..items.len() {
         places.push((place_of(&items[i]), i))?;
     }
@@ -48,7 +49,7 @@ fn singles(alloc: Global, items: &[Bounds], places: &[(u64, usize)]) -> Result<V
     requires { NamesAll (length items.now) places.now }
     ensures { IfOk result (λ v. IsIndex items.now v.items) }
 {
-    let mut stops = Vec::new(alloc);
+    let mut stops = Vec::with_capacity(alloc, places.len())?;
     for p in places {
         let number = p.1;
         stops.push(Stop {
@@ -60,36 +61,61 @@ fn singles(alloc: Global, items: &[Bounds], places: &[(u64, usize)]) -> Result<V
     Ok(stops)
 }
 
+/// How many stops each stop is to hold, itself among them: the first holds all. The stops behind one, as far as it holds
+/// them, are held by two, half of them by the next one. So a stop is found over about twice log n others.
+fn sizes(alloc: Global, count: usize) -> Result<Vec<usize>, NoMemory> {
+    let mut sizes = vec![in alloc; 0usize; count]?;
+    set(&mut sizes, 0, count);
+    for k in 0..count {
+        let behind = size_at(&sizes, k).wrapping_sub(1);
+        let half = behind / 2;
+        set(
+            &mut sizes,
+            k.wrapping_add(half).wrapping_add(1),
+            behind.wrapping_sub(half),
+        );
+        if half > 0 {
+            set(&mut sizes, k.wrapping_add(1), half);
+        }
+    }
+    Ok(sizes)
+}
+
+fn set(sizes: &mut [usize], k: usize, size: usize) {
+    if size > 0 {
+        if let Some(place) = sizes.get_mut(k) {
+            *place = size;
+        }
+    }
+}
+
+fn size_at(sizes: &[usize], k: usize) -> usize {
+    match sizes.get(k) {
+        Some(size) => *size,
+        None => 1,
+    }
+}
+
 /// Widens the bounds of the stops, from the last to the first.
-fn gather(items: &[Bounds], stops: &mut [Stop])
+fn gather(items: &[Bounds], stops: &mut [Stop], sizes: &[usize])
     requires index { IsIndex items.now stops.old }
     ensures index { IsIndex items.now stops.new }
 {
     let mut k = stops.len();
     'back: while k > 0 {
         k -= 1;
-        widen(items, stops, k);
+        widen(items, stops, k, size_at(sizes, k));
     }
 }
 
-/// How many stops there are to be from a place on within its bounds: those up to the next multiple of the greatest
-/// power of two that divides the place.
-fn span(k: usize) -> usize {
-    if k == 0 {
-        return usize::MAX;
-    }
-    k ^ (k & (k - 1))
-}
-
-/// Takes the stops right behind a stop into its bounds.
-fn widen(items: &[Bounds], stops: &mut [Stop], k: usize)
+/// Takes the stops right behind a stop into its bounds, until it holds so many.
+fn widen(items: &[Bounds], stops: &mut [Stop], k: usize, size: usize)
     requires index { IsIndex items.now stops.old }
     requires within { k < length stops.old }
     ensures index { IsIndex items.now stops.new }
 {
-    let span = span(k);
     let mut rest = stops[k].rest;
-    'more: while rest + 1 < span && k + rest + 1 < stops.len() {
+    'more: while rest + 1 < size && k + rest + 1 < stops.len() {
         rest = absorb(items, stops, k);
     }
 }

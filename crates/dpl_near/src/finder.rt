@@ -84,7 +84,7 @@ fn near_among(
     ensures { IfOk result (λ v.
         AreNear (record { rects = map corners_of rects.now; reach = reach }) i v.items) }
 {
-    let mut near = Vec::new(alloc);
+    let mut near = Vec::with_capacity(alloc, found.len())?;
     for j in found {
         push_near(&mut near, rects, reach, i, *j)?;
     }
