@@ -114,7 +114,7 @@ fn too_far_in_commands(rt: HostRuntime) -> Result<(), Fail> {
     Ok(())
 }
 
-/// A zigzag of 516 boxes between which 514 triangles stand.
+/// A zigzag of 2,051 boxes between which 2,049 triangles stand. The face around them is odd too.
 #[test]
 fn too_many_odd_faces(rt: HostRuntime) -> Result<(), Fail> {
     let options = options().ok_or("no options")?;
@@ -122,15 +122,30 @@ fn too_many_odd_faces(rt: HostRuntime) -> Result<(), Fail> {
         b"DS 1; L M; B 100 100 50 50; B 100 100 125 200; DF; DS 2; C 1; C 1 T 150 0; DF; DS 3; C 2; C \
       2 T 300 0; DF; DS 4; C 3; C 3 T 600 0; DF; DS 5; C 4; C 4 T 1200 0; DF; DS 6; C 5; C 5 T \
       2400 0; DF; DS 7; C 6; C 6 T 4800 0; DF; DS 8; C 7; C 7 T 9600 0; DF; DS 9; C 8; C 8 T 19200 \
-      0; DF; C 9; C 2 T 38400 0; E";
+      0; DF; DS 10; C 9; C 9 T 38400 0; DF; DS 11; C 10; C 10 T 76800 0; DF; C 11; C 1 T 153600 0; \
+      L M; B 100 100 153800 50; E";
     let error = make(rt.alloc(), layout.as_slice(), &options)
         .err()
         .ok_or("made")?;
     let wanted = LayerError::Limit {
         kind: 8,
-        count: 514,
+        count: 2050,
     };
     assert_eq!(rt; error, wanted);
+    Ok(())
+}
+
+/// The same of 515 boxes and 513 triangles: the face around them is odd.
+#[test]
+fn an_odd_number_of_triangles(rt: HostRuntime) -> Result<(), Fail> {
+    let layout =
+        b"DS 1; L M; B 100 100 50 50; B 100 100 125 200; DF; DS 2; C 1; C 1 T 150 0; DF; DS 3; C 2; C \
+      2 T 300 0; DF; DS 4; C 3; C 3 T 600 0; DF; DS 5; C 4; C 4 T 1200 0; DF; DS 6; C 5; C 5 T \
+      2400 0; DF; DS 7; C 6; C 6 T 4800 0; DF; DS 8; C 7; C 7 T 9600 0; DF; DS 9; C 8; C 8 T 19200 \
+      0; DF; C 9; C 1 T 38400 0; L M; B 100 100 38600 50; E";
+    let report = report(rt.alloc(), layout.as_slice()).ok_or("refused")?;
+    assert_eq!(rt; report.cost, 2570);
+    assert_eq!(rt; report.bound, 5140);
     Ok(())
 }
 

@@ -38,7 +38,7 @@ fn name_all(
 {
     for start in 0..faces {
         if names[start as usize] == faces {
-            let reach = measure(alloc, ways, rows, faces, start)?;
+            let reach = measure(alloc, ways, rows, faces, start, u64::MAX)?;
             name(names, reach.reached(), start);
         }
     }

@@ -56,16 +56,18 @@ pub fn label(search: &mut Search, face: u32, reach: Reach, known: bool) -> Resul
 }
 
 /// A search that has reached the first face alone.
-pub fn begin(alloc: Global, from: u32, faces: u32) -> Result<Search, AllocError>
-    requires { from < faces }
-    ensures { IfOk result (λ s. (ways : List Cross) → IsUnderWay ways faces from (λ f. false) s) }
+pub fn begin(alloc: Global, from: u32, faces: u32, limit: u64) -> Result<Search, AllocError>
+    requires from { from < faces }
+    requires some { 0 < limit }
+    ensures { IfOk result (λ s. (ways : List Cross) →
+        IsUnderWay ways faces from limit (λ f. false) s) }
 {
     let mut search = Search {
         table: Table::new(alloc),
         reached: Vec::new(alloc),
         queue: BinaryHeap::new(alloc),
     };
-    let _faces = faces;
+    let _within = (faces, limit);
     let reach = Reach {
         length: 0,
         last: None,

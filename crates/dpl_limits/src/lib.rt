@@ -26,7 +26,7 @@ pub const MOST_FRAGMENTS: usize = 100_000;
 pub const MOST_EDGES: usize = 400_000;
 
 /// The most odd faces of one part of the drawing.
-pub const MOST_ODD_FACES: usize = 512;
+pub const MOST_ODD_FACES: usize = 2048;
 
 /// The most bytes of a report.
 pub const MOST_REPORT_BYTES: u64 = 268_435_456;

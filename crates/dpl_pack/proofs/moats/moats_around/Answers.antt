@@ -1,29 +1,38 @@
-use Rattle.std.proofs.Common.{arith, ◌∙◌, ◌<◌, sym, ap, length}
-use Rattle.std.proofs.lemmas.List.{get_or_read}
+use Rattle.std.proofs.Common.{refl, ℕ, List}
+use Rattle.std.specs.Prelude.{slice_index}
+use Rattle.dpl_dual.specs.declared.crosses.Dual.{Dual}
+use Rattle.dpl_pack.specs.Stacks.{AreLimited}
 use Rattle.dpl_laminar.specs.Storing.{sets_of}
-use Rattle.dpl_dual.specs.Distances.{DistancesView}
-use Rattle.dpl_pack.specs.Moats.{no_distances}
 use Rattle.dpl_pack.proofs.TableLemmas.{table_rows, table_small}
-use Rattle.dpl_pack.proofs.MoatLemmas.{IsPart, moats_are}
+use Rattle.dpl_pack.proofs.MoatLemmas.{terminals_below, IsPart, part_faces, field_of, moats_are}
 use Rattle.dpl_pack.proofs.moats.moats_around.Goals as goal
 
+pub surround-requires-clause-faces : goal.surround-requires-clause-faces
+surround-requires-clause-faces c = terminals_below _ _ c.requires.dual c.requires.terminals
+
 pub surround-requires-clause-members : goal.surround-requires-clause-members
-surround-requires-clause-members c = rw c.deref.ensures.value (table_rows _ _ _ (length c.args.reaches.now) c.in_ok-table.ensures.table (c.requires.members ∙ sym c.requires.measured.count))
+surround-requires-clause-members c = rw c.deref.ensures.value (table_rows _ _ _ _ c.in_ok-table.ensures.table c.requires.members)
 
 pub surround-requires-clause-small : goal.surround-requires-clause-small
 surround-requires-clause-small c = rw c.deref-2.ensures.value (table_small _ _ _ c.in_ok-table.ensures.family c.in_ok-table.ensures.table)
 
 pub returns : goal.returns
 returns c =
-    let some : 0 < length c.args.reaches.now = omega (arith, c.requires.measured.count, c.requires.terminals.some) in
-    let part : IsPart c.args.dual.now c.args.terminals.now (sets_of c.args.family.now) c.args.reaches.now c.reached-faces.result.now = record {
+    let d : Dual = c.args.dual.now in
+    let terminals : List ℕ = c.args.terminals.now in
+    let limited : AreLimited d terminals (sets_of c.args.family.now) = c.requires.limited in
+    let faces : List ℕ = part_faces d (slice_index d.part (slice_index terminals 0)) in
+    let part : IsPart d terminals (sets_of c.args.family.now) limited.measured.points faces = record {
       came = c.requires.dual;
       terms = c.requires.terminals;
       family = c.in_ok-table.ensures.family;
       size = c.requires.members;
       within = c.requires.within;
-      measured = c.requires.measured;
-      faces_are = c.reached-faces.ensures ∙ ap (λ (z : DistancesView). z.reached) (get_or_read c.args.reaches.now 0 c.index-reaches-0.result some c.index-reaches-0.is no_distances);
+      limit = limited.limit;
+      are = limited.measured.are;
+      loads = limited.loads;
+      values = limited.values;
+      faces_are = refl;
     } in
     let stacked = rw (c.deref.ensures.value, c.deref-2.ensures.value) at c.in_ok-moats.ensures in
-    moats_are _ _ _ _ _ _ part (stacked (sets_of c.args.family.now) c.in_ok-table.ensures.table)
+    moats_are _ _ _ _ _ _ part (stacked (sets_of c.args.family.now) limited.measured.points faces c.in_ok-table.ensures.table (field_of _ _ _ _ _ part))

@@ -1,0 +1,1 @@
+use Rattle.dpl_pack.proofs.depths.depths_of.Goals as goal

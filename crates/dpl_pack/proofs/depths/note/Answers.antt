@@ -1,0 +1,1 @@
+use Rattle.dpl_pack.proofs.depths.note.Goals as goal

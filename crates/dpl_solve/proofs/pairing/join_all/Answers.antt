@@ -1,0 +1,1 @@
+use Rattle.dpl_solve.proofs.pairing.join_all.Goals as goal

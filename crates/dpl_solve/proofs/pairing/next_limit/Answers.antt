@@ -1,0 +1,1 @@
+use Rattle.dpl_solve.proofs.pairing.next_limit.Goals as goal

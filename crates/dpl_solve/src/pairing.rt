@@ -1,0 +1,192 @@
+//! The pairing of the odd faces of a part, by distances up to a limit.
+
+ghost use Rattle.std.specs.Prelude.{◌≡◌, ℕ, ◌<◌, ◌≤◌, length, slice_index, IfOk, MatchBool, MatchOption};
+ghost use Rattle.dpl_limits.specs.declared.TheConstants.{MOST_EDGES};
+ghost use Rattle.dpl_laminar.specs.Pairings.{IsPairing};
+ghost use Rattle.dpl_laminar.specs.Storing.{sets_of};
+ghost use Rattle.dpl_map.specs.Views.{view_of};
+ghost use Rattle.dpl_map.specs.Built.{IsMapOf};
+ghost use Rattle.dpl_dual.specs.Duals.{IsDual};
+ghost use Rattle.dpl_dual.specs.Distances.{IsDistanceUpTo};
+ghost use Rattle.dpl_pack.specs.Moats.{AreTerminals};
+ghost use Rattle.dpl_pack.specs.Stacks.{AreMeasured};
+ghost use Rattle.dpl_tree.specs.Metrics.{dist_of};
+ghost use Rattle.dpl_solve.specs.Matches.{AreJoinedBy};
+ghost use Rattle.dpl_solve.specs.Metrics.{IsLengthLimit, AreNearer, full_limit};
+
+use crate::joins::{join_pairs, mate_of};
+use crate::metrics::all_rows;
+use dpl_dual::Dual;
+use dpl_laminar::{Family, Steps};
+use dpl_map::Map;
+use dpl_match::{Matched, Metric};
+use dpl_sign::Signed;
+use std::alloc::{AllocError, Global};
+use std::sync::ledger::Ledger;
+
+/// No distance between two faces of a part comes near this limit.
+const FULL_LIMIT: u64 = 1125899906842624;
+
+/// The distances of the odd faces of a part, up to a limit.
+fn metric_of(
+    alloc: Global,
+    map: &Map,
+    graph: &Signed,
+    dual: &Dual,
+    terminals: &[u32],
+    limit: u64,
+) -> Result<Metric, AllocError>
+    requires map { IsMapOf graph.now map.now }
+    requires dual { IsDual graph.now (view_of map.now) dual.now }
+    requires terminals { AreTerminals dual.now terminals.now }
+    requires few { length terminals.now ≤ 2048 }
+    requires edges { length graph.now.edges ≤ MOST_EDGES }
+    requires limit { IsLengthLimit limit }
+    ensures size { IfOk result (λ m. m.size ≡ length terminals.now) }
+    ensures each { IfOk result (λ m. (s u : ℕ) → s < length terminals.now →
+        u < length terminals.now → IsDistanceUpTo dual.now.crosses limit
+        (slice_index terminals.now s) (slice_index terminals.now u) (dist_of m s u)) }
+    ensures measured { IfOk result (λ _.
+        AreMeasured dual.now terminals.now limit (length terminals.now)) }
+{
+    let _map = map;
+    let _graph = graph;
+    let rows = all_rows(alloc, dual, terminals, limit)?;
+    Ok(Metric::new(terminals.len() as u32, rows))
+}
+
+/// Whether a member has no other one so near.
+fn is_alone(metric: &Metric, s: u32, near: u64) -> bool
+    requires { s < metric.now.size }
+{
+    let n = metric.size() as u32;
+    for t in 0..n {
+        if t != s {
+            if metric.dist(s, t) < near {
+                return false;
+            }
+        }
+    }
+    true
+}
+
+/// Whether some member has no other one so near. Pairs are then sought farther away.
+fn is_sparse(metric: &Metric, near: u64) -> bool {
+    let n = metric.size() as u32;
+    for s in 0..n {
+        if is_alone(metric, s, near) {
+            return true;
+        }
+    }
+    false
+}
+
+/// Whether each member is nearer to its mate than the limit.
+fn are_near(metric: &Metric, mate: &[u32], limit: u64) -> bool
+    requires { IsPairing metric.now.size (slice_index mate.now) }
+    ensures { MatchBool result (AreNearer metric.now.size (dist_of metric.now) (slice_index mate.now) limit)
+        ((s : ℕ) × (s < metric.now.size) × (limit ≤ dist_of metric.now s (slice_index mate.now s))) }
+{
+    let n = metric.size() as u32;
+    for s in 0..n {
+        if metric.dist(s, mate_of(mate, s as usize)) >= limit {
+            return false;
+        }
+    }
+    true
+}
+
+/// Joins the odd faces of a part in pairs that are nearer than a limit, along chains that are as long as
+/// a family weighs. None where the pairs of least length are not so near.
+fn join_within<L: Ledger>(
+    alloc: Global,
+    map: &Map,
+    graph: &Signed,
+    dual: &Dual,
+    terminals: &[u32],
+    limit: u64,
+    joined: &mut [bool],
+    steps: &mut Steps<L>,
+) -> Result<Option<Family>, AllocError>
+    requires map { IsMapOf graph.now map.now }
+    requires dual { IsDual graph.now (view_of map.now) dual.now }
+    requires terminals { AreTerminals dual.now terminals.now }
+    requires few { length terminals.now ≤ 2048 }
+    requires edges { length graph.now.edges ≤ MOST_EDGES }
+    requires places { length joined.old ≡ length graph.now.edges }
+    requires limit { IsLengthLimit limit }
+    ensures { IfOk result (λ o. MatchOption o ((joined.new ≡ joined.old) × (limit < full_limit))
+        (λ f. AreJoinedBy dual.now terminals.now (sets_of f) joined.old joined.new)) }
+{
+    let metric = metric_of(alloc, map, graph, dual, terminals, limit)?;
+    if limit < FULL_LIMIT {
+        if is_sparse(&metric, limit / 2) {
+            return Ok(None);
+        }
+    }
+    let Matched { mate, family } = match dpl_match::solve(alloc, &metric, steps) {
+        Ok(matched) => matched,
+        Err(no_memory) => return Err(no_memory),
+    };
+    if !are_near(&metric, &mate, limit) {
+        return Ok(None);
+    }
+    join_pairs(alloc, dual, terminals, &metric, &mate, joined)?;
+    Ok(Some(family))
+}
+
+/// The limit that is tried first: a few of the longest ways.
+fn first_limit(dual: &Dual) -> u64
+    ensures { IsLengthLimit result }
+{
+    let mut most: u64 = 1;
+    for way in dual.crosses.as_slice() {
+        most = most.max(way.length);
+    }
+    4 * most.min(1099511627776)
+}
+
+/// The limit that is tried after another.
+fn next_limit(limit: u64) -> u64
+    requires { IsLengthLimit limit }
+    ensures { IsLengthLimit result }
+{
+    (2 * limit).min(FULL_LIMIT)
+}
+
+/// Joins the odd faces of a part in pairs, along chains that are as long as a family weighs.
+///
+/// The search for distances ends at a limit, which grows until the pairs are nearer. So it costs the
+/// faces near each odd one, and the square of the number of odd faces in memory.
+pub fn join_all<L: Ledger>(
+    alloc: Global,
+    map: &Map,
+    graph: &Signed,
+    dual: &Dual,
+    terminals: &[u32],
+    joined: &mut [bool],
+    steps: &mut Steps<L>,
+) -> Result<Family, AllocError>
+    requires map { IsMapOf graph.now map.now }
+    requires dual { IsDual graph.now (view_of map.now) dual.now }
+    requires terminals { AreTerminals dual.now terminals.now }
+    requires few { length terminals.now ≤ 2048 }
+    requires edges { length graph.now.edges ≤ MOST_EDGES }
+    requires places { length joined.old ≡ length graph.now.edges }
+    ensures { IfOk result (λ f.
+        AreJoinedBy dual.now terminals.now (sets_of f) joined.old joined.new) }
+{
+    let tries: usize = 50;
+    let mut limit = first_limit(dual);
+    for _try in 0..tries {
+        match join_within(alloc, map, graph, dual, terminals, limit, joined, steps)? {
+            Some(family) => return Ok(family),
+            None => {}
+        }
+        limit = next_limit(limit);
+    }
+    match join_within(alloc, map, graph, dual, terminals, FULL_LIMIT, joined, steps)? {
+        Some(family) => Ok(family),
+        None => unreachable!(),
+    }
+}
