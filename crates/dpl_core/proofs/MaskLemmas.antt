@@ -1,5 +1,5 @@
 -- The masks of a report of a layer that was read.
-use Rattle.std.proofs.Common.{◌*◌, Bool, List}
+use Rattle.std.proofs.Common.{◌*◌, Bool, List, []}
 use Rattle.std.specs.Prelude.{ℤ}
 use Rattle.dpl_cell.specs.Places.{Corners}
 use Rattle.dpl_cif.specs.Reading.{Reading}
@@ -24,5 +24,5 @@ masks_of_layer o read f n r l law = on_read read (λ cells. IsLayer o cells f n)
   masks cells k =
       let a = k.layer.fragments in
       let h = k.shared a.tiles a.are_tiles in
-      let from : AreCutFrom o cells a.tiles f = record { label = a.label; count = a.count; drawn = h.drawn; apart = h.apart; shapes = a.are_shapes; fragments = a.are_fragments } in
+      let from : AreCutFrom o cells a.tiles f = record { keep = []; label = a.label; count = a.count; drawn = h.drawn; apart = h.apart; shapes = a.are_shapes; fragments = a.are_fragments } in
       record { fragments = f; net = n; layer = k.layer; tiles = a.tiles; are_tiles = a.are_tiles; masks = law cells a.tiles from }

@@ -17,19 +17,19 @@ use Rattle.dpl_list.proofs.Lists.{no_more}
 -- ---- fragments
 
 -- the first list of fragments has each of the second
-found : (space over : ℕ) (tiles : List Corners) (label l : List ℕ) (a b : List Corners) (tile shape t s : List ℕ) → AreParts space over tiles label a tile shape → AreParts space over tiles l b t s → (z : Corners) → Contains a z → Contains b z
-found space over tiles label l a b tile shape t s p q z c =
+found : (keep : List Corners) (space over : ℕ) (tiles : List Corners) (label l : List ℕ) (a b : List Corners) (tile shape t s : List ℕ) → AreParts keep space over tiles label a tile shape → AreParts keep space over tiles l b t s → (z : Corners) → Contains a z → Contains b z
+found keep space over tiles label l a b tile shape t s p q z c =
     let i = get_or tile c.0 0 in
     let own : rect_at a c.0 ≡ z = get_or_default a c.0 _ z c.1 ∙ c.2 in
-    let part : IsFragmentOf space over tiles i z = subst (λ w. IsFragmentOf space over tiles i w) own (p.each c.0 c.1) in
+    let part : IsFragmentOf keep space over tiles i z = subst (λ w. IsFragmentOf keep space over tiles i w) own (p.each c.0 c.1) in
     let k = q.all i z part in
     (k.0, k.1.within, get_or_default b k.0 z _ k.1.within ∙ k.1.is)
 
 -- tiles have one list of fragments
-pub parts_same : (space over : ℕ) (tiles : List Corners) (label l : List ℕ) (a b : List Corners) (tile shape t s : List ℕ) → AreParts space over tiles label a tile shape → AreParts space over tiles l b t s → a ≡ b
-parts_same space over tiles label l a b tile shape t s p q = ordered_same IsBefore before_once a b p.ordered q.ordered
-    (λ z c. found space over tiles label l a b tile shape t s p q z c)
-    (λ z c. found space over tiles l label b a t s tile shape q p z c)
+pub parts_same : (keep : List Corners) (space over : ℕ) (tiles : List Corners) (label l : List ℕ) (a b : List Corners) (tile shape t s : List ℕ) → AreParts keep space over tiles label a tile shape → AreParts keep space over tiles l b t s → a ≡ b
+parts_same keep space over tiles label l a b tile shape t s p q = ordered_same IsBefore before_once a b p.ordered q.ordered
+    (λ z c. found keep space over tiles label l a b tile shape t s p q z c)
+    (λ z c. found keep space over tiles l label b a t s tile shape q p z c)
 
 -- no two places of an ordered list hold one rectangle
 one_place : (rects : List Corners) (i j : ℕ) → AllPairs IsBefore rects → i < length rects → j < length rects → rect_at rects i ≡ rect_at rects j → i ≡ j
@@ -43,16 +43,16 @@ one_place rects i j up h l e = elim (cases_lt i j) [
   never : (r s : Corners) → r ≡ s → IsBefore r s → ⊥
   never r s f b = let P : Corners → Type 0 = λ c. IsBefore r c in let Q : Corners → Type 0 = λ c. IsBefore c r in before_once r r (subst P (sym f) b) (subst P (sym f) b)
 
-pub tile_same : (space over : ℕ) (tiles : List Corners) (label l : List ℕ) (rects : List Corners) (tile shape t s : List ℕ) → AreParts space over tiles label rects tile shape → AreParts space over tiles l rects t s → tile ≡ t
-tile_same space over tiles label l rects tile shape t s p q = lists_same tile t 0 (p.tile_long ∙ sym q.tile_long)
+pub tile_same : (keep : List Corners) (space over : ℕ) (tiles : List Corners) (label l : List ℕ) (rects : List Corners) (tile shape t s : List ℕ) → AreParts keep space over tiles label rects tile shape → AreParts keep space over tiles l rects t s → tile ≡ t
+tile_same keep space over tiles label l rects tile shape t s p q = lists_same tile t 0 (p.tile_long ∙ sym q.tile_long)
     (λ k h.
     let w : k < length rects = let e = p.tile_long in omega arith in
     let (m, n) = q.all (get_or tile k 0) (rect_at rects k) (p.each k w) in
     let e : m ≡ k = one_place rects m k p.ordered n.within w n.is in
     sym n.own ∙ ap (λ i. get_or t i 0) e)
 
-pub shape_same : (space over : ℕ) (tiles : List Corners) (label : List ℕ) (rects : List Corners) (tile shape s : List ℕ) → AreParts space over tiles label rects tile shape → AreParts space over tiles label rects tile s → shape ≡ s
-shape_same space over tiles label rects tile shape s p q = lists_same shape s 0 (p.shape_long ∙ sym q.shape_long)
+pub shape_same : (keep : List Corners) (space over : ℕ) (tiles : List Corners) (label : List ℕ) (rects : List Corners) (tile shape s : List ℕ) → AreParts keep space over tiles label rects tile shape → AreParts keep space over tiles label rects tile s → shape ≡ s
+shape_same keep space over tiles label rects tile shape s p q = lists_same shape s 0 (p.shape_long ∙ sym q.shape_long)
     (λ k h. let w : k < length rects = let e = p.shape_long in omega arith in p.shapes k w ∙ sym (q.shapes k w))
 
 -- cuts with the same fragments and the same zone are the same
@@ -80,16 +80,16 @@ lists_joined : (f g : Fragments) → f.rects ≡ g.rects → f.tile ≡ g.tile �
 lists_joined f g d e h i = let r : ◌≡◌ {A = Fragments} (record { rects = f.rects; tile = f.tile; shape = f.shape; cuts = f.cuts }) (record { rects = g.rects; tile = g.tile; shape = g.shape; cuts = g.cuts }) = cc in r
 
 -- tiles with their shapes have one list of fragments with their cuts
-pub fragments_same : (space over : ℕ) (tiles : List Corners) (label : List ℕ) (f g : Fragments) → AreFragments space over tiles label f → AreFragments space over tiles label g → f ≡ g
-fragments_same space over tiles label f g a b =
-    let c : map corners_of f.rects ≡ map corners_of g.rects = parts_same space over tiles label label (map corners_of f.rects) (map corners_of g.rects) f.tile f.shape g.tile g.shape a.parts b.parts in
+pub fragments_same : (keep : List Corners) (space over : ℕ) (tiles : List Corners) (label : List ℕ) (f g : Fragments) → AreFragments keep space over tiles label f → AreFragments keep space over tiles label g → f ≡ g
+fragments_same keep space over tiles label f g a b =
+    let c : map corners_of f.rects ≡ map corners_of g.rects = parts_same keep space over tiles label label (map corners_of f.rects) (map corners_of g.rects) f.tile f.shape g.tile g.shape a.parts b.parts in
     let r : f.rects ≡ g.rects = maps_same corners_of same_corners f.rects g.rects c in
-    let P : List Corners → Type 0 = λ z. AreParts space over tiles label z g.tile g.shape in
-    let p : AreParts space over tiles label (map corners_of f.rects) g.tile g.shape = subst P (sym c) b.parts in
-    let t : f.tile ≡ g.tile = tile_same space over tiles label label (map corners_of f.rects) f.tile f.shape g.tile g.shape a.parts p in
-    let Q : List ℕ → Type 0 = λ z. AreParts space over tiles label (map corners_of f.rects) z g.shape in
-    let q : AreParts space over tiles label (map corners_of f.rects) f.tile g.shape = subst Q (sym t) p in
-    let s : f.shape ≡ g.shape = shape_same space over tiles label (map corners_of f.rects) f.tile f.shape g.shape a.parts q in
+    let P : List Corners → Type 0 = λ z. AreParts keep space over tiles label z g.tile g.shape in
+    let p : AreParts keep space over tiles label (map corners_of f.rects) g.tile g.shape = subst P (sym c) b.parts in
+    let t : f.tile ≡ g.tile = tile_same keep space over tiles label label (map corners_of f.rects) f.tile f.shape g.tile g.shape a.parts p in
+    let Q : List ℕ → Type 0 = λ z. AreParts keep space over tiles label (map corners_of f.rects) z g.shape in
+    let q : AreParts keep space over tiles label (map corners_of f.rects) f.tile g.shape = subst Q (sym t) p in
+    let s : f.shape ≡ g.shape = shape_same keep space over tiles label (map corners_of f.rects) f.tile f.shape g.shape a.parts q in
     let R : List Corners → Type 0 = λ z. AreCuts over tiles z g.tile g.cuts in
     let S : List ℕ → Type 0 = λ z. AreCuts over tiles (map corners_of f.rects) z g.cuts in
     let d : f.cuts ≡ g.cuts = cuts_same over tiles (map corners_of f.rects) f.tile f.cuts g.cuts a.cuts (subst S (sym t) (subst R (sym c) b.cuts)) in
@@ -115,8 +115,8 @@ in_zipped (i ∷ is) (r ∷ rs) zero p l m e f = let g : ◌≡◌ {A = ℕ × C
 in_zipped (i ∷ is) (r ∷ rs) (suc k) p l m e f = let c = in_zipped is rs k p (omega arith) (omega arith) e f in let h = c.1 in (suc c.0, omega (arith, h), c.2)
 
 -- where there are no more than n fragments, no list of different ones is longer
-pub no_more_fragments : (space over : ℕ) (tiles : List Corners) (label : List ℕ) (f : Fragments) (n : ℕ) → AreFragments space over tiles label f → length f.rects ≤ n → ¬ HasMoreFragments space over tiles n
-no_more_fragments space over tiles label f n a few more =
+pub no_more_fragments : (keep : List Corners) (space over : ℕ) (tiles : List Corners) (label : List ℕ) (f : Fragments) (n : ℕ) → AreFragments keep space over tiles label f → length f.rects ≤ n → ¬ HasMoreFragments keep space over tiles n
+no_more_fragments keep space over tiles label f n a few more =
     let rects = map corners_of f.rects in
     let long : length rects ≡ length f.rects = length-map f.rects corners_of in
     let m = more.many in

@@ -1,5 +1,5 @@
 -- Cells have one list of fragments and one net.
-use Rattle.std.proofs.Common.{arith, ◌≡◌, ◌<◌, ◌≤◌, ◌*◌, ◌+◌, ℕ, zero, suc, Bool, true, false, List, length, sym, ◌∙◌, subst, All, get_or}
+use Rattle.std.proofs.Common.{arith, ◌≡◌, ◌<◌, ◌≤◌, ◌*◌, ◌+◌, ℕ, zero, suc, Bool, true, false, List, [], length, sym, ◌∙◌, subst, All, get_or}
 use Rattle.std.specs.Prelude.{ℤ, if◌then◌else◌}
 use Rattle.std.specs.List.{range_with_len}
 use Rattle.std.proofs.lemmas.Int.{ints}
@@ -35,7 +35,7 @@ has_cell cells r t =
     let w : IsWithin r.y1 r.y2 r.y1 = record { from = omega (arith, ints); to = h } in
     ((t.rows r.y1 w).long, h)
 
-have_cells : (cells : ℤ → ℤ → Bool) (tiles : List Corners) → AreTiles cells tiles → All HasCell tiles
+pub have_cells : (cells : ℤ → ℤ → Bool) (tiles : List Corners) → AreTiles cells tiles → All HasCell tiles
 have_cells cells tiles a k d l = has_cell cells (get_or tiles k d) (a.each k d l)
 
 -- the first position of a rectangle with a cell is one of its positions
@@ -53,8 +53,8 @@ range_at a (suc n) zero d l = omega arith
 range_at a (suc n) (suc k) d l = let e = range_at (a + 1) n k d (omega arith) in omega arith
 
 -- each tile has a fragment, so there are no more tiles than fragments
-pub few_tiles : (space over : ℕ) (cells : ℤ → ℤ → Bool) (tiles : List Corners) (label : List ℕ) (f : Fragments) → AreTiles cells tiles → AreFragments space over tiles label f → length tiles ≤ length f.rects
-few_tiles space over cells tiles label f t a =
+pub few_tiles : (keep : List Corners) (space over : ℕ) (cells : ℤ → ℤ → Bool) (tiles : List Corners) (label : List ℕ) (f : Fragments) → AreTiles cells tiles → AreFragments keep space over tiles label f → length tiles ≤ length f.rects
+few_tiles keep space over cells tiles label f t a =
     let n = length tiles in
     let numbers = range_with_len 0 n in
     let long : length numbers ≡ n = length-range_with_len 0 n in
@@ -79,9 +79,9 @@ fragments_same_of space over cells f g a b =
     let t : b.tiles ≡ a.tiles = tiles_same cells b.tiles a.tiles b.are_tiles a.are_tiles in
     let s = subst (λ z. AreShapes z b.label b.count) t b.are_shapes in
     let l : b.label ≡ a.label = labels_same a.tiles b.label a.label b.count a.count (have_cells cells a.tiles a.are_tiles) s a.are_shapes in
-    let p = subst (λ z. AreFragments space over z b.label g) t b.are_fragments in
-    let q = subst (λ z. AreFragments space over a.tiles z g) l p in
-    fragments_same space over a.tiles a.label f g a.are_fragments q
+    let p = subst (λ z. AreFragments [] space over z b.label g) t b.are_fragments in
+    let q = subst (λ z. AreFragments [] space over a.tiles z g) l p in
+    fragments_same [] space over a.tiles a.label f g a.are_fragments q
 
 pub same_layer : (o : Options) (cells : ℤ → ℤ → Bool) (f g : Fragments) (n m : Net) → IsLayerOf o cells f n → IsLayerOf o cells g m → (f ≡ g) × (n ≡ m)
 same_layer o cells f g n m a b =
@@ -92,10 +92,10 @@ same_layer o cells f g n m a b =
 -- ---- how many
 
 -- the tiles of cells with no more than n fragments have no more
-pub within_fragments : (space over : ℕ) (cells : ℤ → ℤ → Bool) (f : Fragments) (tiles : List Corners) (n : ℕ) → AreFragmentsOf space over cells f → length f.rects ≤ n → AreTiles cells tiles → ¬ HasMoreFragments space over tiles n
+pub within_fragments : (space over : ℕ) (cells : ℤ → ℤ → Bool) (f : Fragments) (tiles : List Corners) (n : ℕ) → AreFragmentsOf space over cells f → length f.rects ≤ n → AreTiles cells tiles → ¬ HasMoreFragments [] space over tiles n
 within_fragments space over cells f tiles n a few t more =
     let e : tiles ≡ a.tiles = tiles_same cells tiles a.tiles t a.are_tiles in
-    no_more_fragments space over a.tiles a.label f n a.are_fragments few (subst (λ z. HasMoreFragments space over z n) e more)
+    no_more_fragments [] space over a.tiles a.label f n a.are_fragments few (subst (λ z. HasMoreFragments [] space over z n) e more)
 
 -- ---- what was read
 

@@ -1,2 +1,3 @@
 pub mod LayerLemmas
 pub mod RefusalLemmas
+pub mod KeepLemmas

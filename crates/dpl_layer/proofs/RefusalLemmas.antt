@@ -1,5 +1,5 @@
 -- A text has at most one refusal, and none where it has a layer within the limits.
-use Rattle.std.proofs.Common.{arith, ◌≡◌, ◌⊎◌, inl, inr, ◌≤◌, ◌*◌, ℕ, Bool, List, Result, Err, length, refl, ap, ◌∙◌, subst}
+use Rattle.std.proofs.Common.{arith, ◌≡◌, ◌⊎◌, inl, inr, ◌≤◌, ◌*◌, ℕ, Bool, List, [], Result, Err, length, refl, ap, ◌∙◌, subst}
 use Rattle.std.specs.Prelude.{ℤ}
 use Rattle.dpl_cell.specs.Layers.{is_cell}
 use Rattle.dpl_tiles.proofs.TileLemmas.{not_more}
@@ -23,7 +23,7 @@ use Rattle.dpl_links.proofs.SameLemmas.{no_more_edges}
 not_over : (o : Options) (cells : ℤ → ℤ → Bool) (f : Fragments) (n : Net) → IsLayerOf o cells f n → length f.rects ≤ 100000 → length n.graph.edges ≤ 400000 → (kind count' : ℕ) → ¬ IsOverLimit o cells kind count'
 not_over o cells f n l few thin kind count' (inl (k, c, more)) =
     let a = l.fragments in
-    let h = few_tiles (2 * o.space) (2 * o.overlap) cells a.tiles a.label f a.are_tiles a.are_fragments in
+    let h = few_tiles [] (2 * o.space) (2 * o.overlap) cells a.tiles a.label f a.are_tiles a.are_fragments in
     not_more cells a.tiles 100000 a.are_tiles (omega arith) more
 not_over o cells f n l few thin kind count' (inr (inl (k, c, more))) = within_fragments (2 * o.space) (2 * o.overlap) cells f more.tiles 100000 l.fragments few more.are_tiles more.many
 not_over o cells f n l few thin kind count' (inr (inr (k, c, more))) =
@@ -34,7 +34,7 @@ not_over o cells f n l few thin kind count' (inr (inr (k, c, more))) =
 tiles_within : (o : Options) (cells : ℤ → ℤ → Bool) (m : HasTooManyEdges o cells) → length m.are_fragments.tiles ≤ 100000
 tiles_within o cells m =
     let a = m.are_fragments in
-    let h = few_tiles (2 * o.space) (2 * o.overlap) cells a.tiles a.label m.fragments a.are_tiles a.are_fragments in
+    let h = few_tiles [] (2 * o.space) (2 * o.overlap) cells a.tiles a.label m.fragments a.are_tiles a.are_fragments in
     let g = m.few_fragments in
     omega arith
 

@@ -1,5 +1,5 @@
 -- The fragments of a layer and their net.
-use Rattle.std.specs.Prelude.{ℕ, ◌*◌, ◌≤◌, ℤ, Bool, List, length}
+use Rattle.std.specs.Prelude.{ℕ, ◌*◌, ◌≤◌, ℤ, Bool, List, [], length}
 use Rattle.dpl_limits.specs.Limits.{Counted, most_of}
 use Rattle.dpl_cell.specs.Places.{Corners}
 use Rattle.dpl_cell.specs.Tiles.{AreTiles}
@@ -19,7 +19,7 @@ pub record AreFragmentsOf (space over : ℕ) (cells : ℤ → ℤ → Bool) (f :
   pub count : ℕ
   pub are_tiles : AreTiles cells tiles
   pub are_shapes : AreShapes tiles label count
-  pub are_fragments : AreFragments space over tiles label f
+  pub are_fragments : AreFragments [] space over tiles label f
 
 -- the fragments of these cells and their net, for the lengths and weights of the options; a
 -- hundredth is two grid units

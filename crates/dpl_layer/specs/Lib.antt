@@ -1,3 +1,4 @@
 pub mod Layers
 pub mod Refusals
 pub mod Errors
+pub mod Keeps

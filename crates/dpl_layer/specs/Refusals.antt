@@ -1,5 +1,5 @@
 -- Why a text has no layer: a broken rule, or the first limit that is passed.
-use Rattle.std.specs.Prelude.{◌≡◌, ◌⊎◌, ℕ, ◌*◌, ◌≤◌, ℤ, Bool, List, length}
+use Rattle.std.specs.Prelude.{◌≡◌, ◌⊎◌, ℕ, ◌*◌, ◌≤◌, ℤ, Bool, List, [], length}
 use Rattle.dpl_cell.specs.Places.{Corners}
 use Rattle.dpl_cell.specs.Tiles.{AreTiles}
 use Rattle.dpl_tiles.specs.Counts.{HasMoreTiles}
@@ -21,7 +21,7 @@ pub record HasTooManyFragments (o : Options) (cells : ℤ → ℤ → Bool) : Ty
   pub tiles : List Corners
   pub are_tiles : AreTiles cells tiles
   pub few_tiles : length tiles ≤ most_of Counted.Tiles
-  pub many : HasMoreFragments (2 * o.space) (2 * o.overlap) tiles (most_of Counted.Fragments)
+  pub many : HasMoreFragments [] (2 * o.space) (2 * o.overlap) tiles (most_of Counted.Fragments)
 
 -- no more tiles and fragments than are taken (each tile has a fragment), and these have too many
 -- edges

@@ -57,6 +57,7 @@ fn cut_tiles(
         alloc,
         tiles,
         &shapes,
+        &[],
         2 * options.space,
         2 * options.overlap,
     )?;

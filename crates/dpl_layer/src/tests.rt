@@ -1,8 +1,8 @@
 ghost use Rattle.std.specs.Prelude.{◌≤◌, length};
 
-use crate::{LayerError, read_layer};
+use crate::{Layer, LayerError, keeping_layer, read_layer};
 use dpl_cif::What;
-use dpl_lex::Name;
+use dpl_lex::{Name, commands};
 use dpl_links::types::Weights;
 use dpl_report::Options;
 use std::alloc::Global;
@@ -127,5 +127,46 @@ fn too_many_edges(rt: HostRuntime) -> Result<(), Fail> {
     };
     let error = refusal(rt.alloc(), text.as_slice()).ok_or("read")?;
     assert_eq!(rt; error, wanted);
+    Ok(())
+}
+
+/// The layer M where nothing is cut in a cell of the layer K.
+fn beside(alloc: Global, text: &[u8]) -> Option<Layer>
+    requires { length text.now ≤ 16777216 }
+{
+    let options = options()?;
+    let keep = Some(Name::new(b"K")?);
+    let commands = commands(alloc, text).ok()?;
+    keeping_layer(alloc, text, &commands, &options, &keep).ok()
+}
+
+/// The same wire, which the keep layer covers.
+#[test]
+fn a_kept_wire(rt: HostRuntime) -> Result<(), Fail> {
+    let text = b"L M; B 1000 100 500 50; B 100 100 50 200; B 100 100 950 200; L K; B 1000 20 500 50; E";
+    let layer = beside(rt.alloc(), text.as_slice()).ok_or("refused")?;
+    assert_eq!(rt; layer.fragments.rects.as_slice().len(), 3);
+    assert_eq!(rt; layer.fragments.cuts.as_slice().len(), 0);
+    assert_eq!(rt; layer.net.graph.edges.as_slice().len(), 2);
+    Ok(())
+}
+
+/// A cell of the keep layer in the middle of the wire leaves a stretch on each side of it.
+#[test]
+fn a_kept_cell(rt: HostRuntime) -> Result<(), Fail> {
+    let text = b"L M; B 1000 100 500 50; B 100 100 50 200; B 100 100 950 200; L K; B 20 20 500 50; E";
+    let layer = beside(rt.alloc(), text.as_slice()).ok_or("refused")?;
+    assert_eq!(rt; layer.fragments.rects.as_slice().len(), 5);
+    assert_eq!(rt; layer.fragments.cuts.as_slice().len(), 2);
+    Ok(())
+}
+
+/// The keep layer beside the wire keeps nothing of it.
+#[test]
+fn a_keep_layer_beside(rt: HostRuntime) -> Result<(), Fail> {
+    let text = b"L M; B 1000 100 500 50; B 100 100 50 200; B 100 100 950 200; L K; B 1000 20 500 110; E";
+    let layer = beside(rt.alloc(), text.as_slice()).ok_or("refused")?;
+    assert_eq!(rt; layer.fragments.rects.as_slice().len(), 4);
+    assert_eq!(rt; layer.fragments.cuts.as_slice().len(), 1);
     Ok(())
 }

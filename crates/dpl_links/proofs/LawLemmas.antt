@@ -246,15 +246,15 @@ one_clash f weights space net n i j d h l e c =
 
 -- ---- all of it
 
-pub net_within_shapes : (space over : ℕ) (tiles : List Corners) (label : List ℕ) (count' : ℕ) (f : Fragments) (weights : Weights) (net : Net) → 2 ≤ over → AreShapes tiles label count' → AreFragments space over tiles label f → IsNet f weights space net → AreWithinShapes net.pieces f.shape
-net_within_shapes space over tiles label count' f weights net wide s a n = within_shapes tiles f weights space net
-    (hold_layer space over tiles label (map corners_of f.rects) f.tile f.shape wide a.parts)
-    (tell_shapes space over tiles label count' (map corners_of f.rects) f.tile f.shape wide s a.parts) n
+pub net_within_shapes : (keep : List Corners) (space over : ℕ) (tiles : List Corners) (label : List ℕ) (count' : ℕ) (f : Fragments) (weights : Weights) (net : Net) → 2 ≤ over → AreShapes tiles label count' → AreFragments keep space over tiles label f → IsNet f weights space net → AreWithinShapes net.pieces f.shape
+net_within_shapes keep space over tiles label count' f weights net wide s a n = within_shapes tiles f weights space net
+    (hold_layer keep space over tiles label (map corners_of f.rects) f.tile f.shape wide a.parts)
+    (tell_shapes keep space over tiles label count' (map corners_of f.rects) f.tile f.shape wide s a.parts) n
 
-pub net_clashes : (space over : ℕ) (tiles : List Corners) (label : List ℕ) (count' : ℕ) (f : Fragments) (weights : Weights) (net : Net) → 2 ≤ over → AreShapes tiles label count' → AreFragments space over tiles label f → IsNet f weights space net → AreAllClashes tiles (map corners_of f.rects) space net.pieces net.graph.edges
-net_clashes space over tiles label count' f weights net wide s a n =
-    let h = hold_layer space over tiles label (map corners_of f.rects) f.tile f.shape wide a.parts in
-    let t = tell_shapes space over tiles label count' (map corners_of f.rects) f.tile f.shape wide s a.parts in
+pub net_clashes : (keep : List Corners) (space over : ℕ) (tiles : List Corners) (label : List ℕ) (count' : ℕ) (f : Fragments) (weights : Weights) (net : Net) → 2 ≤ over → AreShapes tiles label count' → AreFragments keep space over tiles label f → IsNet f weights space net → AreAllClashes tiles (map corners_of f.rects) space net.pieces net.graph.edges
+net_clashes keep space over tiles label count' f weights net wide s a n =
+    let h = hold_layer keep space over tiles label (map corners_of f.rects) f.tile f.shape wide a.parts in
+    let t = tell_shapes keep space over tiles label count' (map corners_of f.rects) f.tile f.shape wide s a.parts in
     record {
       each = each_clash tiles f weights space net h t n;
       all = all_clashes tiles f weights space net t n;

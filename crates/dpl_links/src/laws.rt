@@ -13,8 +13,10 @@ use dpl_cuts::types::Fragments;
 /// All fragments of a piece are of one shape.
 pub fn pieces_are_within_shapes(fragments: &Fragments, space: u64, overlap: u64)
     requires { 2 ≤ overlap }
-    ensures { (tiles : List Corners) (label : List ℕ) (count : ℕ) (weights : Weights) (net : Net) →
-        AreShapes tiles label count → AreFragments space overlap tiles label fragments.now →
+    ensures { (keep tiles : List Corners) (label : List ℕ) (count : ℕ) (weights : Weights)
+        (net : Net) →
+        AreShapes tiles label count →
+        AreFragments keep space overlap tiles label fragments.now →
         IsNet fragments.now weights space net → AreWithinShapes net.pieces fragments.now.shape }
 {
     let _lengths = (space, overlap);
@@ -24,8 +26,10 @@ pub fn pieces_are_within_shapes(fragments: &Fragments, space: u64, overlap: u64)
 /// fragments whose pieces a clash joins, and no two clashes join the same two pieces.
 pub fn clashes_are_all(fragments: &Fragments, space: u64, overlap: u64)
     requires { 2 ≤ overlap }
-    ensures { (tiles : List Corners) (label : List ℕ) (count : ℕ) (weights : Weights) (net : Net) →
-        AreShapes tiles label count → AreFragments space overlap tiles label fragments.now →
+    ensures { (keep tiles : List Corners) (label : List ℕ) (count : ℕ) (weights : Weights)
+        (net : Net) →
+        AreShapes tiles label count →
+        AreFragments keep space overlap tiles label fragments.now →
         IsNet fragments.now weights space net →
         AreAllClashes tiles (map corners_of fragments.now.rects) space net.pieces net.graph.edges }
 {

@@ -17,7 +17,8 @@ pub fn all_bounds(alloc: Global, rects: &[Rect]) -> Result<Vec<Bounds>, NoMemory
     rects.iter().map(bounds_of).collect(alloc)
 }
 
-fn bounds_of(rect: &Rect) -> Bounds
+/// The bounds of a rectangle.
+pub fn bounds_of(rect: &Rect) -> Bounds
     ensures { result ≡ bounds_of (corners_of rect.now) }
 {
     Bounds {

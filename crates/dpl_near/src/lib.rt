@@ -14,6 +14,7 @@ mod shaping;
 pub mod types;
 
 pub use apart::are_apart;
+pub use bounds::{all_bounds, bounds_of};
 pub use finder::Finder;
 pub use joining::joins;
 pub use shaping::shapes;

@@ -229,7 +229,7 @@ facts_are_good o f net text r take order n =
     let read : whole read_report (lines_in text) ≡ Ok r = text_is_read text r n.valid n.text_is in
     ap (refusal_from o f net text) read ∙ true_is_good o f net r (truth_of_facts o f net text r take order n)
 
-pub good_exactly : (o : Options) (f : Fragments) (net : Net) (tiles : List Corners) (label text : List ℕ) → is_name o.layer ≡ true → IsNet f o.weights (2 * o.space) net → AreFragments (2 * o.space) (2 * o.overlap) tiles label f → IsGood o f net text ↔ ((r : PlainReport) × AreNineFacts o f net text r)
-good_exactly o f net tiles label text name n a =
+pub good_exactly : (o : Options) (f : Fragments) (net : Net) (keep tiles : List Corners) (label text : List ℕ) → is_name o.layer ≡ true → IsNet f o.weights (2 * o.space) net → AreFragments keep (2 * o.space) (2 * o.overlap) tiles label f → IsGood o f net text ↔ ((r : PlainReport) × AreNineFacts o f net text r)
+good_exactly o f net keep tiles label text name n a =
     let take = net_takes o.weights n.bonds f.cuts n.links net.graph.edges n.edges in
     (good_has_facts o f net text name take, λ h. facts_are_good o f net text h.0 take a.cuts.ordered h.1)

@@ -170,12 +170,13 @@ chain_agrees colours bonds a i (j ∷ js) k (c, r) =
 -- ---- what is known of a good report
 
 record IsKnown (o : Options) (tiles : List Corners) (f : Fragments) (net : Net) (r : PlainReport) : Type 0 where
+  keep : List Corners
   truth : SaysTrue o f net r
   valid : IsReport r
   long : length r.head.colours ≡ length f.rects
   hold : HoldLayer tiles (map corners_of f.rects)
   apart : AllPairs AreApart (map corners_of f.rects)
-  zones : All (IsGoodZone (2 * o.space) (2 * o.overlap) tiles (map corners_of f.rects) f.tile) f.cuts
+  zones : All (IsGoodZone keep (2 * o.space) (2 * o.overlap) tiles (map corners_of f.rects) f.tile) f.cuts
   cuts : AreCuts (2 * o.overlap) tiles (map corners_of f.rects) f.tile f.cuts
   take : TakeCuts net.graph.edges f.cuts
   clashes : AreAllClashes tiles (map corners_of f.rects) (2 * o.space) net.pieces net.graph.edges
@@ -210,14 +211,16 @@ fragment_cell o tiles f net r on_b x y k h = in_layer tiles f.rects h.i x y k.ho
 -- what is known of the zone that holds a cell
 record IsZoneHere (o : Options) (tiles : List Corners) (f : Fragments) (x y : ℤ) : Type 0 where
   cut : Cut
-  good : IsGoodZone (2 * o.space) (2 * o.overlap) tiles (map corners_of f.rects) f.tile cut
+  keep : List Corners
+  good : IsGoodZone keep (2 * o.space) (2 * o.overlap) tiles (map corners_of f.rects) f.tile cut
   is : IsCut (2 * o.overlap) tiles (map corners_of f.rects) f.tile cut.a cut.b (corners_of cut.zone)
   holds : IsIn (corners_of cut.zone) x y
 
 zone_here : (o : Options) (tiles : List Corners) (f : Fragments) (net : Net) (r : PlainReport) (x y : ℤ) → IsKnown o tiles f net r → IsOnZone r.head.colours f.cuts x y → IsZoneHere o tiles f x y
 zone_here o tiles f net r x y k (i, c, l, e, p) = record {
   cut = c;
-  good = subst (IsGoodZone (2 * o.space) (2 * o.overlap) tiles (map corners_of f.rects) f.tile) e (k.zones i c l);
+  keep = k.keep;
+  good = subst (IsGoodZone k.keep (2 * o.space) (2 * o.overlap) tiles (map corners_of f.rects) f.tile) e (k.zones i c l);
   is = let P : Cut → Type 0 = λ d. IsCut (2 * o.overlap) tiles (map corners_of f.rects) f.tile d.a d.b (corners_of d.zone) in subst P e (k.cuts.each i c l);
   holds = p.1;
 }
@@ -439,15 +442,16 @@ masks_of_layer o cells tiles f net r name v good n c =
     let w = wide o.overlap o.some_overlap in
     let bonds = pairs_agree r.head.colours net.graph.edges n.bonds (map (stitch_tie o.weights.stitch) f.cuts ++ map (clash_tie o.weights.conflict) n.links) (n.edges ∙ append_assoc (map bond_tie n.bonds) (map (stitch_tie o.weights.stitch) f.cuts) (map (clash_tie o.weights.conflict) n.links)) t.colouring.bonds in
     let k : IsKnown o tiles f net r = record {
+      keep = c.keep;
       truth = t;
       valid = v;
       long = t.colouring.length ∙ n.nodes;
-      hold = hold_layer (2 * o.space) (2 * o.overlap) tiles c.label (map corners_of f.rects) f.tile f.shape w a.parts;
-      apart = parts_apart (2 * o.space) (2 * o.overlap) tiles c.label (map corners_of f.rects) f.tile f.shape w c.apart a.parts;
-      zones = good_zones (2 * o.space) (2 * o.overlap) tiles c.label f w (even o.overlap) a;
+      hold = hold_layer c.keep (2 * o.space) (2 * o.overlap) tiles c.label (map corners_of f.rects) f.tile f.shape w a.parts;
+      apart = parts_apart c.keep (2 * o.space) (2 * o.overlap) tiles c.label (map corners_of f.rects) f.tile f.shape w c.apart a.parts;
+      zones = good_zones c.keep (2 * o.space) (2 * o.overlap) tiles c.label f w (even o.overlap) a;
       cuts = a.cuts;
       take = net_takes o.weights n.bonds f.cuts n.links net.graph.edges n.edges;
-      clashes = net_clashes (2 * o.space) (2 * o.overlap) tiles c.label c.count f o.weights net w c.shapes a n;
+      clashes = net_clashes c.keep (2 * o.space) (2 * o.overlap) tiles c.label c.count f o.weights net w c.shapes a n;
       ends = subst (λ (m : ℕ). All (λ (e : Edge). e.b < m) net.graph.edges) n.nodes net.graph.inside;
       alike = λ i j l m e. let s = (n.are_pieces.same i j l m).0 e in chain_agrees r.head.colours n.bonds bonds i s.chain j s.is;
     } in

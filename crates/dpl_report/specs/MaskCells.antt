@@ -22,16 +22,17 @@ use Rattle.dpl_report.specs.declared.options.Options.{Options}
 use Rattle.dpl_report.specs.Plain.{PlainZone, PlainReport}
 use Rattle.dpl_report.specs.ReportLines.{report_text}
 
--- Tiles that share out these cells, their shapes, and their fragments at the lengths of the options. A hundredth of a
+-- Tiles that share out these cells, their shapes, rectangles that are kept whole, and the fragments at the lengths of the options. A hundredth of a
 -- micron is two grid units.
 pub record AreCutFrom (o : Options) (cells : ℤ → ℤ → Bool) (tiles : List Corners)
     (f : Fragments) : Type 0 where
+  pub keep : List Corners
   pub label : List ℕ
   pub count : ℕ
   pub drawn : (x y : ℤ) → layer_of tiles x y ≡ cells x y
   pub apart : AllPairs AreApart tiles
   pub shapes : AreShapes tiles label count
-  pub fragments : AreFragments (2 * o.space) (2 * o.overlap) tiles label f
+  pub fragments : AreFragments keep (2 * o.space) (2 * o.overlap) tiles label f
 
 -- together the masks hold the cells of the layer, and no other cells
 abbrev pub HoldTogether : (ℤ → ℤ → Bool) → PlainReport → Type 0

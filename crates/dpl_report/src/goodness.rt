@@ -56,8 +56,9 @@ pub fn masks_are_of_the_layer(options: &Options, fragments: &Fragments, net: &Ne
 /// A text is good exactly where the nine facts hold of the report that it is the text of.
 pub fn nine_facts_make_good(options: &Options, fragments: &Fragments, net: &Net)
     requires { IsNet fragments.now options.now.weights (2 * options.now.space) net.now }
-    ensures { (tiles : List Corners) (label text : List ℕ) →
-        AreFragments (2 * options.now.space) (2 * options.now.overlap) tiles label fragments.now →
+    ensures { (keep tiles : List Corners) (label text : List ℕ) →
+        AreFragments keep (2 * options.now.space) (2 * options.now.overlap) tiles label
+        fragments.now →
         IsGood options.now fragments.now net.now text
         ↔ ((r : PlainReport) × AreNineFacts options.now fragments.now net.now text r) }
 {
