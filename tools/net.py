@@ -40,6 +40,8 @@ class Report:
             self.letters = rest[0] if rest else ""
         elif word == "layer":
             self.layer = rest[0]
+        elif word == "keep":
+            self.keep = rest[0]
         elif word == "cut":
             numbers = list(map(int, rest))
             self.cuts.append((numbers[0], tuple(numbers[3:7])))

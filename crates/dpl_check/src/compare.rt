@@ -9,7 +9,7 @@ ghost use Rattle.dpl_report.specs.Misses as misses;
 ghost use Rattle.dpl_report.specs.Conditions as conditions;
 
 use dpl_cell::Rect;
-use dpl_report::{Broken, Counts, Miss, Options, Params, Zone};
+use dpl_report::{Broken, Counts, Miss, Options, Params, Zone, name_bytes};
 
 /// Two numbers of a line that have to be the same.
 pub fn number_miss(place: u64, found: u64, wanted: u64) -> Option<Miss>
@@ -119,21 +119,21 @@ pub fn aside_lines_miss(found: &[u32], wanted: &[u32]) -> Option<Miss>
     left.first().map(|y| not_listed(*y))
 }
 
-fn name_miss(found: &[u8], wanted: &[u8]) -> Option<Miss>
-    ensures { result ≡ misses.name_miss 2 found.now wanted.now }
+fn name_miss(place: u64, found: &[u8], wanted: &[u8]) -> Option<Miss>
+    ensures { result ≡ misses.name_miss place found.now wanted.now }
 {
     let mut left = wanted;
     for x in found {
         let Some((y, others)) = left.split_first() else {
-            return pair_miss(2, i64::from(*x), 256);
+            return pair_miss(place, i64::from(*x), 256);
         };
-        if let Some(miss) = pair_miss(2, i64::from(*x), i64::from(*y)) {
+        if let Some(miss) = pair_miss(place, i64::from(*x), i64::from(*y)) {
             return Some(miss);
         }
         left = others;
     }
     match left.first() {
-        Some(y) => pair_miss(2, 256, i64::from(*y)),
+        Some(y) => pair_miss(place, 256, i64::from(*y)),
         None => None,
     }
 }
@@ -223,15 +223,38 @@ pub fn cut_lines_miss(found: &[Zone], wanted: &[Zone]) -> Option<Miss>
     left.first().map(|y| not_listed(y.at.edge))
 }
 
-/// Lines 2 to 6 against the options.
+/// The weight of a clash between corners: without a line of its own that of every clash.
+fn corner_weight(params: &Params) -> u64
+    requires { IsParams params.now }
+    ensures weight { result ≡ conditions.corner_weight params.now.corner params.now.conflict }
+    ensures small { result < 2 ^ 63 }
+{
+    match params.corner {
+        Some(corner) => corner,
+        None => params.conflict,
+    }
+}
+
+/// The corner weight and the keep layer against the options.
+fn more_miss(found: &Params, wanted: &Options) -> Option<Miss>
+    requires found { IsParams found.now }
+    ensures { result ≡ conditions.more_miss found.now wanted.now }
+{
+    let corner = number_miss(16, corner_weight(found), wanted.weights.corner);
+    let keep = name_miss(17, name_bytes(&found.keep), name_bytes(&wanted.keep));
+    corner.or(keep)
+}
+
+/// Lines 2 to 6, and 16 and 17 where they are there, against the options.
 pub fn params_miss(found: &Params, wanted: &Options) -> Option<Miss>
     requires found { IsParams found.now }
     ensures { result ≡ conditions.params_miss found.now wanted.now }
 {
-    let first = name_miss(found.layer.bytes(), wanted.layer.bytes())
+    let first = name_miss(2, found.layer.bytes(), wanted.layer.bytes())
         .or(number_miss(3, found.space, wanted.space))
         .or(number_miss(4, found.overlap, wanted.overlap));
     first
         .or(number_miss(5, found.stitch, wanted.weights.stitch))
         .or(number_miss(6, found.conflict, wanted.weights.conflict))
+        .or(more_miss(found, wanted))
 }

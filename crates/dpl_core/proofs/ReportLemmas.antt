@@ -1,5 +1,6 @@
 -- What a report of a solution says.
-use Rattle.std.proofs.Common.{arith, ◌≡◌, ℕ, ◌≤◌, ◌↔◌, sym, ◌∙◌, subst, Bool, List, []}
+use Rattle.std.proofs.Common.{arith, ◌≡◌, ℕ, ◌≤◌, ◌↔◌, sym, ◌∙◌, subst, Bool, true, List, [], Option, None, Some}
+use Rattle.std.specs.Prelude.{is_some}
 use Rattle.dpl_sign.specs.declared.nets.Net.{Net}
 use Rattle.dpl_sign.specs.declared.walks.Cycle.{Cycle}
 use Rattle.dpl_sign.specs.Excess.{excess, all_edges}
@@ -18,3 +19,8 @@ least_of net colours cost aside excess' cs bound s r ec et eb ea = record {
   plane = subst (λ z. (z ≡ []) ↔ (excess net all_edges ≡ 0)) (sym (ea ∙ s.aside_is)) (none_aside net);
   all = λ plane others k. let h = least net colours others cost aside excess' cs bound s (s.aside_is ∙ (none_aside net).1 plane) k in omega arith;
 }
+
+-- where there is a corner weight, nothing follows of there being none
+pub corner_stands : (corner : Option ℕ) (P : Type 0) → is_some corner ≡ true → corner ≡ None → P
+corner_stands None P s e = absurd (cc)
+corner_stands (Some n) P s e = absurd (cc)

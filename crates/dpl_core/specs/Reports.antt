@@ -1,5 +1,5 @@
 -- The report of a layer of a text, and what its bound proves.
-use Rattle.std.specs.Prelude.{◌≡◌, ◌↔◌, ◌+◌, ◌*◌, ◌≤◌, ℕ, ℤ, Bool, List, [], None}
+use Rattle.std.specs.Prelude.{◌≡◌, ◌↔◌, ◌+◌, ◌*◌, ◌≤◌, ℕ, ℤ, Bool, true, List, [], None, is_some}
 use Rattle.dpl_cell.specs.Places.{Corners}
 use Rattle.dpl_cell.specs.Tiles.{AreTiles}
 use Rattle.dpl_cif.specs.Reading.{reading}
@@ -30,10 +30,11 @@ pub record IsLeast (net : Net) (r : PlainReport) : Type 0 where
   pub all : excess net all_edges ≡ 0 → (colours : List Bool) → IsColouring net.graph colours
       → r.head.cost ≤ cost_of net.graph colours
 
--- Its cycles pass kept edges alone, its bound is twice the weight of the kept edges that its
+-- It has a corner weight, its cycles pass kept edges alone, its bound is twice the weight of the kept edges that its
 -- colouring breaks, and its cost exceeds half the bound by the weight of the broken edges among
 -- those set aside.
 pub record IsTight (net : Net) (r : PlainReport) : Type 0 where
+  pub corner : is_some r.head.params.corner ≡ true
   pub kept : KeepToKept net r.lists.cycles
   pub tight : r.head.bound ≡ 2 * kept_cost net r.head.colours
   pub rest : r.head.cost ≡ kept_cost net r.head.colours + aside_cost net r.head.colours

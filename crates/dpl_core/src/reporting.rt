@@ -57,16 +57,33 @@ pub fn report_of(
 fn params_of(options: &Options) -> Params
     ensures { result ≡ params_of_options options.now }
 {
-    let layer = match Name::new(options.layer.bytes()) {
-        Some(layer) => layer,
-        None => unreachable!(),
-    };
+    let corner = Some(options.weights.corner);
     Params {
-        layer,
+        layer: same_name(&options.layer),
         space: options.space,
         overlap: options.overlap,
         stitch: options.weights.stitch,
         conflict: options.weights.conflict,
+        corner,
+        keep: same_keep(&options.keep),
+    }
+}
+
+fn same_name(name: &Name) -> Name
+    ensures { result ≡ name.now }
+{
+    match Name::new(name.bytes()) {
+        Some(name) => name,
+        None => unreachable!(),
+    }
+}
+
+fn same_keep(keep: &Option<Name>) -> Option<Name>
+    ensures { result ≡ keep.now }
+{
+    match keep {
+        Some(name) => Some(same_name(name)),
+        None => None,
     }
 }
 

@@ -10,6 +10,14 @@ use std::test::Fail;
 /// Layer M, a spacing of one micron, an overlap of 0.2, a stitch of weight 1 and a clash of
 /// weight 10.
 fn options() -> Option<Options> {
+    options_with(10)
+}
+
+/// The same with a weight for a clash between corners.
+fn options_with(corner: u64) -> Option<Options> {
+    if corner < 1 || corner > 1_000_000 {
+        return None;
+    }
     let layer = Name::new(b"M")?;
     if layer.bytes().len() > 31 {
         return None;
@@ -17,12 +25,14 @@ fn options() -> Option<Options> {
     let weights = Weights {
         stitch: 1,
         conflict: 10,
+        corner,
     };
     Some(Options {
         layer,
         space: 100,
         overlap: 20,
         weights,
+        keep: None,
     })
 }
 
@@ -36,9 +46,9 @@ fn report(alloc: Global, text: &[u8]) -> Option<Report>
 #[test]
 fn nothing(rt: HostRuntime) -> Result<(), Fail> {
     let options = options().ok_or("no options")?;
-    let wanted = b"(dpl 1);\n(layer M);\n(space 100);\n(overlap 20);\n(stitch 1);\n(conflict 10);\n\
+    let wanted = b"(dpl 2);\n(layer M);\n(space 100);\n(overlap 20);\n(stitch 1);\n(conflict 10);\n\
       (pieces 0);\n(fragments 0);\n(bonds 0);\n(stitches 0);\n(clashes 0);\n(excess 0);\n\
-      (cost 0);\n(bound 0);\n(masks );\nDS 1 1 4;\nL MA;\nL MB;\nDF;\nC 1;\nE\n";
+      (cost 0);\n(bound 0);\n(masks );\n(corner 10);\nDS 1 1 4;\nL MA;\nL MB;\nDF;\nC 1;\nE\n";
     let text = split(rt.alloc(), b"E".as_slice(), &options)
         .ok()
         .ok_or("refused")?;
@@ -80,13 +90,52 @@ fn two_crossing_clashes(rt: HostRuntime) -> Result<(), Fail> {
     Ok(())
 }
 
+fn report_with(alloc: Global, text: &[u8], corner: u64) -> Option<Report>
+    requires { length text.now ≤ 16777216 }
+{
+    let options = options_with(corner)?;
+    make(alloc, text, &options).ok()
+}
+
+/// An L of three boxes: the clash between corners is the one that is left, where it weighs less.
+#[test]
+fn a_corner_that_weighs_less(rt: HostRuntime) -> Result<(), Fail> {
+    let layout = b"L M; B 100 100 50 50; B 100 100 200 50; B 100 100 50 200; E".as_slice();
+    let report = report_with(rt.alloc(), layout, 3).ok_or("refused")?;
+    assert_eq!(rt; report.counts.clashes, 3);
+    assert_eq!(rt; (report.cost, report.bound), (3, 6));
+    for broken in report.clashes.as_slice() {
+        assert_eq!(rt; broken.edge, 2);
+    }
+    assert_eq!(rt; report.params.corner, Some(3u64));
+    let report = report_with(rt.alloc(), layout, 10).ok_or("refused")?;
+    assert_eq!(rt; (report.cost, report.bound), (10, 20));
+    Ok(())
+}
+
+/// Four boxes in a square, whose corners weigh least.
+#[test]
+fn two_crossing_clashes_that_weigh_less(rt: HostRuntime) -> Result<(), Fail> {
+    let layout =
+        b"L M; B 100 100 50 50; B 100 100 200 50; B 100 100 50 200; B 100 100 200 200; E".as_slice();
+    let report = report_with(rt.alloc(), layout, 1).ok_or("refused")?;
+    assert_eq!(rt; report.aside.as_slice(), [4, 5].as_slice());
+    assert_eq!(rt; (report.cost, report.bound), (21, 2));
+    let mut broken = Vec::new(rt.alloc());
+    for clash in report.clashes.as_slice() {
+        broken.push(clash.edge)?;
+    }
+    assert_eq!(rt; broken.as_slice(), [3, 4, 5].as_slice());
+    Ok(())
+}
+
 /// The same net from its commands: the report is the one of the text.
 #[test]
 fn two_crossing_clashes_in_commands(rt: HostRuntime) -> Result<(), Fail> {
     let options = options().ok_or("no options")?;
     let layout =
         b"L M; B 100 100 50 50; B 100 100 200 50; B 100 100 50 200; B 100 100 200 200; E".as_slice();
-    let head = b"(dpl 1);\n(layer M);\n(space 100);\n(overlap 20);\n(stitch 1);\n(conflict 10);\n\
+    let head = b"(dpl 2);\n(layer M);\n(space 100);\n(overlap 20);\n(stitch 1);\n(conflict 10);\n\
       (pieces 4);\n(fragments 4);\n(bonds 0);\n(stitches 0);\n(clashes 6);\n(excess 2);\n";
     let commands = commands(rt.alloc(), layout)?;
     let text = split_commands(rt.alloc(), layout, &commands, &options)

@@ -17,12 +17,14 @@ fn options() -> Option<Options> {
     let weights = Weights {
         stitch: 1,
         conflict: 10,
+        corner: 10,
     };
     Some(Options {
         layer,
         space: 100,
         overlap: 20,
         weights,
+        keep: None,
     })
 }
 

@@ -122,15 +122,15 @@ unfolding link_between
 link_between_is s pieces i j c = record { conflict = c; low = refl; high = refl; gap = refl; corner = refl }
 
 -- the clash of a link stands among the edges
-clash_at : (weights : Weights) (bonds : List (ℕ × ℕ)) (cuts : List Cut) (links : List Link) (edges : List Edge) (k : ℕ) (l : Link) (d : Edge) → map tie_of edges ≡ ties_of weights bonds cuts links → k < length links → get_or links k l ≡ l → tie_of (get_or edges (length bonds + length cuts + k) d) ≡ clash_tie weights.conflict l
+clash_at : (weights : Weights) (bonds : List (ℕ × ℕ)) (cuts : List Cut) (links : List Link) (edges : List Edge) (k : ℕ) (l : Link) (d : Edge) → map tie_of edges ≡ ties_of weights bonds cuts links → k < length links → get_or links k l ≡ l → tie_of (get_or edges (length bonds + length cuts + k) d) ≡ clash_tie weights l
 clash_at weights bonds cuts links edges k l d e h f =
-    let b = map bond_tie bonds in let s = map (stitch_tie weights.stitch) cuts in let c = map (clash_tie weights.conflict) links in
+    let b = map bond_tie bonds in let s = map (stitch_tie weights.stitch) cuts in let c = map (clash_tie weights) links in
     let n : length (b ++ s) ≡ length bonds + length cuts = length-append b s ∙ ap (λ z. z + length s) (length-map bonds bond_tie) ∙ ap (λ z. length bonds + z) (length-map cuts (stitch_tie weights.stitch)) in
     let m : length edges ≡ length bonds + length cuts + length links = edges_length weights bonds cuts links edges e in
     let at : tie_of (get_or edges (length bonds + length cuts + k) d) ≡ get_or (ties_of weights bonds cuts links) (length bonds + length cuts + k) (tie_of d) =
     sym (get_or-map tie_of edges (length bonds + length cuts + k) d (tie_of d) (omega arith)) ∙ ap (λ (ts : List Tie). get_or ts (length bonds + length cuts + k) (tie_of d)) e in
     let to : get_or ((b ++ s) ++ c) (length bonds + length cuts + k) (tie_of d) ≡ get_or c k (tie_of d) = ap (λ z. get_or ((b ++ s) ++ c) (z + k) (tie_of d)) (sym n) ∙ get_or-append-add (b ++ s) c k (tie_of d) in
-    let is : get_or c k (tie_of d) ≡ clash_tie weights.conflict l = get_or-map (clash_tie weights.conflict) links k l (tie_of d) h ∙ ap (clash_tie weights.conflict) f in
+    let is : get_or c k (tie_of d) ≡ clash_tie weights l = get_or-map (clash_tie weights) links k l (tie_of d) h ∙ ap (clash_tie weights) f in
     at ∙ to ∙ is
 
 alike_ends : (s : Scene) (pieces : List ℕ) (l m : Link) → IsLink s pieces l → IsLink s pieces m → AreAlike m l
@@ -150,7 +150,7 @@ clash_of f weights space net i j n c =
     let at = length n.bonds + length f.cuts + k in
     let w : at < length net.graph.edges = omega arith in
     let d = some_of net.graph.edges at w in
-    let t : tie_of (get_or net.graph.edges at d) ≡ clash_tie weights.conflict m = clash_at weights n.bonds f.cuts n.links net.graph.edges k m d n.edges h e in
+    let t : tie_of (get_or net.graph.edges at d) ≡ clash_tie weights m = clash_at weights n.bonds f.cuts n.links net.graph.edges k m d n.edges h e in
     let a : (get_or net.graph.edges at d).a ≡ m.a = ap (λ (x : Tie). x.a) t in
     let b : (get_or net.graph.edges at d).b ≡ m.b = ap (λ (x : Tie). x.b) t in
     let ends = alike_ends s net.pieces l m p q alike in (
@@ -232,11 +232,11 @@ ends_alike s pieces l m f g (inl (u, v)) = (f.low ∙ ap (λ z. min z (piece_of 
 ends_alike s pieces l m f g (inr (u, v)) = (f.low ∙ ap (λ z. min z (piece_of pieces l.b)) u ∙ ap (λ z. min (piece_of pieces m.b) z) v ∙ min_turned _ _ ∙ sym g.low, f.high ∙ ap (λ z. max z (piece_of pieces l.b)) u ∙ ap (λ z. max (piece_of pieces m.b) z) v ∙ max_turned _ _ ∙ sym g.high)
 
 other_ties : (s : Scene) (pieces : List ℕ) (weights : Weights) (bonds : List (ℕ × ℕ)) (cuts : List Cut) (links : List Link) → AreClashes s pieces links → AllPairs (AreOther pieces) (ties_of weights bonds cuts links)
-other_ties s pieces weights bonds cuts links c = pairs_behind (AreOther pieces) (map bond_tie bonds ++ map (stitch_tie weights.stitch) cuts) (map (clash_tie weights.conflict) links)
+other_ties s pieces weights bonds cuts links c = pairs_behind (AreOther pieces) (map bond_tie bonds ++ map (stitch_tie weights.stitch) cuts) (map (clash_tie weights) links)
     (All-append (λ (t : Tie). (u : Tie) → AreOther pieces t u) (map bond_tie bonds) (map (stitch_tie weights.stitch) cuts)
     (All-map (λ (t : Tie). (u : Tie) → AreOther pieces t u) bond_tie bonds (λ k d l u e f. absurd (no_bond f)))
     (All-map (λ (t : Tie). (u : Tie) → AreOther pieces t u) (stitch_tie weights.stitch) cuts (λ k d l u e f. absurd (no_stitch f))))
-    (pairs_map (AreOther pieces) (clash_tie weights.conflict) links
+    (pairs_map (AreOther pieces) (clash_tie weights) links
     (λ i j d h l e f t. c.one i j d h l (ends_alike s pieces (get_or links i d) (get_or links j d) (c.each i d (omega arith)).link (c.each j d l).link t)))
 
 one_clash : (f : Fragments) (weights : Weights) (space : ℕ) (net : Net) → IsNet f weights space net → AllPairs (λ (d : Edge) (e : Edge). e.kind ≡ Clash → ¬ IsClashOf net.pieces e.a e.b d) net.graph.edges

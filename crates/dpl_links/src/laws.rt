@@ -1,12 +1,13 @@
 // What holds of the net of fragments, said without the steps that find it.
-ghost use Rattle.std.specs.Prelude.{◌≡◌, ℕ, ◌≤◌, List, length, map};
+ghost use Rattle.std.specs.Prelude.{◌≡◌, ℕ, ◌≤◌, List, length, map, All};
 ghost use Rattle.dpl_cell.specs.Places.{Corners, corners_of};
 ghost use Rattle.dpl_near.specs.Shapes.{AreShapes};
 ghost use Rattle.dpl_sign.specs.declared.nets.Net.{Net};
 ghost use Rattle.dpl_cuts.specs.Fragments.{AreFragments};
 ghost use Rattle.dpl_links.specs.declared.types.Weights.{Weights};
-ghost use Rattle.dpl_links.specs.Nets.{IsNet, HasMoreEdges};
+ghost use Rattle.dpl_links.specs.Nets.{IsNet, HasMoreEdges, tie_of};
 ghost use Rattle.dpl_links.specs.Spacing.{AreWithinShapes, AreAllClashes};
+ghost use Rattle.dpl_links.specs.Weighing.{HasWeight};
 
 use dpl_cuts::types::Fragments;
 
@@ -50,6 +51,15 @@ pub fn edges_are_all(fragments: &Fragments)
     ensures { (weights : Weights) (space n : ℕ) (net : Net) →
         IsNet fragments.now weights space net → length net.graph.edges ≤ n →
         ¬ HasMoreEdges fragments.now space n }
+{
+    let _fragments = fragments;
+}
+
+/// Which edge has which weight.
+pub fn edges_have_weights(fragments: &Fragments)
+    ensures { (weights : Weights) (space : ℕ) (net : Net) → IsNet fragments.now weights space net →
+        All (λ e. HasWeight weights (map corners_of fragments.now.rects) (tie_of e))
+        net.graph.edges }
 {
     let _fragments = fragments;
 }

@@ -1,6 +1,6 @@
 -- The text of a report, read again as CIF, draws its two masks.
-use Rattle.std.proofs.Common.{arith, ◌≡◌, ℕ, suc, ◌+◌, ◌%◌, ◌<◌, ◌^◌, Bool, true, false, List, [], ◌∷◌, ◌++◌, map, refl, sym, ap, subst, ◌∙◌, append_assoc, append-nil, codes, All}
-use Rattle.std.specs.Prelude.{ℤ, pos, negsuc}
+use Rattle.std.proofs.Common.{arith, ◌≡◌, ℕ, suc, ◌+◌, ◌%◌, ◌<◌, ◌^◌, Bool, true, false, List, [], ◌∷◌, ◌++◌, map, refl, sym, ap, subst, ◌∙◌, append_assoc, append-nil, codes, All, Option, None, Some}
+use Rattle.std.specs.Prelude.{ℤ, pos, negsuc, is_some}
 use Rattle.std.specs.List.{list_all, flat_map, AllByRecursion}
 use Rattle.std.specs.Fmt.{decimal, signed_decimal}
 use Rattle.std.proofs.lemmas.Fmt.{decimal_by_steps}
@@ -22,8 +22,8 @@ use Rattle.dpl_form.specs.Lines.{text_of}
 use Rattle.dpl_form.specs.Readers.{FitFrom}
 use Rattle.dpl_form.proofs.TextLemmas.{text_of-append}
 use Rattle.dpl_report.specs.Plain.{PlainHead, PlainLists, PlainReport}
-use Rattle.dpl_report.specs.ReportLines.{numbered, bracketed, letter, count_line, layer_line, masks_line, broken_numbers, zone_numbers, cycle_numbers, cut_line, clash_line, aside_line, cycle_line, head_lines, lists_lines, drawing_lines, mask_lines, report_text, last_lines}
-use Rattle.dpl_report.specs.Valid.{IsCount, IsLayer, IsHead, IsCycle, IsLists, IsReport, CutFits, ClashFits, AsideFits}
+use Rattle.dpl_report.specs.ReportLines.{numbered, bracketed, letter, count_line, layer_line, keep_line, version_line, more_lines, masks_line, broken_numbers, zone_numbers, cycle_numbers, cut_line, clash_line, aside_line, cycle_line, head_lines, lists_lines, drawing_lines, mask_lines, report_text, last_lines}
+use Rattle.dpl_report.specs.Valid.{IsCount, IsLayer, AreMore, IsHead, IsCycle, IsLists, IsReport, CutFits, ClashFits, AsideFits}
 use Rattle.dpl_report.proofs.LineLemmas.{IsNear}
 use Rattle.dpl_report.proofs.ItemLemmas.{near, zone_near, cycle_near}
 
@@ -103,8 +103,17 @@ letters_are_flat (false ∷ cs) = letters_are_flat cs
 masks_is_comment : (colours : List Bool) → IsComment (masks_line colours)
 masks_is_comment colours = record { inner = codes "masks " ++ map letter colours; flat = letters_are_flat colours; line = refl }
 
-version_is_comment : IsComment (codes "(dpl 1);\n")
-version_is_comment = record { inner = codes "dpl 1"; flat = refl; line = refl }
+version_is_comment : (second : Bool) → IsComment (version_line second)
+version_is_comment true = record { inner = codes "dpl 2"; flat = refl; line = refl }
+version_is_comment false = record { inner = codes "dpl 1"; flat = refl; line = refl }
+
+keep_is_comment : (name : List ℕ) → IsLayer name → IsComment (keep_line name)
+keep_is_comment name f = record { inner = codes "keep " ++ name; flat = list_all-weaker is_name_byte is_flat name_byte_is_flat name (name_bytes name f.0); line = refl }
+
+more_are_comments : (c : Option ℕ) (k : Option (List ℕ)) → AreMore c k → AllByRecursion IsComment (more_lines c k)
+more_are_comments None k m = tt
+more_are_comments (Some n) None m = (count_is_comment (codes "corner") n refl m.0, tt)
+more_are_comments (Some n) (Some name) m = (count_is_comment (codes "corner") n refl m.0, (keep_is_comment name m.1, tt))
 
 -- ---- the lines before the drawing
 
@@ -112,7 +121,7 @@ head_comments : (h : PlainHead) → IsHead h → AllByRecursion IsComment (head_
 head_comments h f =
     let p = f.params in
     let k = f.counts in (
-      version_is_comment,
+      version_is_comment (is_some h.params.corner),
       (
         layer_is_comment h.params.layer p.layer,
         (
@@ -135,7 +144,7 @@ head_comments h f =
                           count_is_comment (codes "clashes") h.counts.clashes refl k.clashes,
                           (
                             count_is_comment (codes "excess") h.counts.excess refl k.excess,
-                            (count_is_comment (codes "cost") h.cost refl f.cost, (count_is_comment (codes "bound") h.bound refl f.bound, (masks_is_comment h.colours, tt))),
+                            (count_is_comment (codes "cost") h.cost refl f.cost, (count_is_comment (codes "bound") h.bound refl f.bound, (masks_is_comment h.colours, more_are_comments h.params.corner h.params.keep p.more))),
                           ),
                         ),
                       ),

@@ -5,7 +5,6 @@ use Rattle.std.proofs.lemmas.Bool.{cases_lt}
 use Rattle.std.proofs.lemmas.List.{get_or_default}
 use Rattle.std.proofs.lemmas.List.Elements.{All-nil, All-head, All-tail, All-weaker, All-push}
 use Rattle.dpl_cell.specs.Places.{Corners, corners_of}
-use Rattle.dpl_lex.specs.Name.{is_name}
 use Rattle.dpl_sign.specs.declared.edges.Kind.{Kind}
 use Rattle.dpl_sign.specs.declared.edges.Kind.TheVariants.{Stitch, Clash}
 use Rattle.dpl_sign.specs.declared.edges.Edge.{Edge}
@@ -25,7 +24,7 @@ use Rattle.dpl_report.specs.declared.params.Counts.{Counts}
 use Rattle.dpl_report.specs.Plain.{PlainZone, PlainReport}
 use Rattle.dpl_report.specs.ReportLines.{report_text}
 use Rattle.dpl_report.specs.Reading.{read_report}
-use Rattle.dpl_report.specs.Valid.{IsReport, AsideFits}
+use Rattle.dpl_report.specs.Valid.{AreNames, IsReport, AsideFits}
 use Rattle.dpl_report.specs.Conditions.{cuts_from, clashes_from}
 use Rattle.dpl_report.specs.Verdicts.{IsGood, refusal_of, refusal_from}
 use Rattle.dpl_report.specs.Truths.{SaysTrue}
@@ -219,7 +218,7 @@ good_read : (o : Options) (f : Fragments) (net : Net) (text : List ℕ) (found :
 good_read o f net text (Ok r) e g = let d = text_is_found text r e in (r, d.0, d.1, g)
 good_read o f net text (Err n) e g = absurd (cc)
 
-pub good_has_facts : (o : Options) (f : Fragments) (net : Net) (text : List ℕ) → is_name o.layer ≡ true → TakeCuts net.graph.edges f.cuts → IsGood o f net text → (r : PlainReport) × AreNineFacts o f net text r
+pub good_has_facts : (o : Options) (f : Fragments) (net : Net) (text : List ℕ) → AreNames o.layer o.keep → TakeCuts net.graph.edges f.cuts → IsGood o f net text → (r : PlainReport) × AreNineFacts o f net text r
 good_has_facts o f net text name take g =
     let (r, v, e, h) = good_read o f net text (whole read_report (lines_in text)) refl g in
     (r, facts_of_truth o f net text r take v e (good_is_true o f net r name v h))
@@ -229,7 +228,7 @@ facts_are_good o f net text r take order n =
     let read : whole read_report (lines_in text) ≡ Ok r = text_is_read text r n.valid n.text_is in
     ap (refusal_from o f net text) read ∙ true_is_good o f net r (truth_of_facts o f net text r take order n)
 
-pub good_exactly : (o : Options) (f : Fragments) (net : Net) (keep tiles : List Corners) (label text : List ℕ) → is_name o.layer ≡ true → IsNet f o.weights (2 * o.space) net → AreFragments keep (2 * o.space) (2 * o.overlap) tiles label f → IsGood o f net text ↔ ((r : PlainReport) × AreNineFacts o f net text r)
+pub good_exactly : (o : Options) (f : Fragments) (net : Net) (keep tiles : List Corners) (label text : List ℕ) → AreNames o.layer o.keep → IsNet f o.weights (2 * o.space) net → AreFragments keep (2 * o.space) (2 * o.overlap) tiles label f → IsGood o f net text ↔ ((r : PlainReport) × AreNineFacts o f net text r)
 good_exactly o f net keep tiles label text name n a =
     let take = net_takes o.weights n.bonds f.cuts n.links net.graph.edges n.edges in
     (good_has_facts o f net text name take, λ h. facts_are_good o f net text h.0 take a.cuts.ordered h.1)

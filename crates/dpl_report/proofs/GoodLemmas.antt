@@ -22,8 +22,8 @@ use Rattle.dpl_report.specs.declared.params.Params.{Params}
 use Rattle.dpl_report.specs.declared.params.Counts.{Counts}
 use Rattle.dpl_report.specs.Plain.{PlainReport}
 use Rattle.dpl_report.specs.declared.refusals.Miss.{Miss}
-use Rattle.dpl_report.specs.Misses.{miss, number_miss, name_miss}
-use Rattle.dpl_report.specs.Conditions.{params_miss, params_of_options, counts_miss, bond_miss, bonds_miss, broken_miss, aside_miss, walks_miss, load_of, loads_miss, packing_miss, boxes_miss, drawing_miss, corner_numbers}
+use Rattle.dpl_report.specs.Misses.{miss, number_miss, name_miss, name_or_nothing}
+use Rattle.dpl_report.specs.Conditions.{params_miss, AreAsked, counts_miss, bond_miss, bonds_miss, broken_miss, aside_miss, walks_miss, load_of, loads_miss, packing_miss, boxes_miss, drawing_miss, corner_numbers}
 use Rattle.dpl_report.specs.Verdicts.{refused, refusal_of, rects_of}
 use Rattle.dpl_report.specs.Truths.{SaysTrue}
 use Rattle.dpl_sign.proofs.Loads.{load_append}
@@ -43,8 +43,16 @@ name_same : (place : ℕ) (xs : List ℕ) → name_miss place xs xs ≡ None
 name_same place [] = refl
 name_same place (x ∷ xs) = rw (pair_same place (pos x)) (name_same place xs)
 
-pub params_none : (p : Params) (o : Options) → p ≡ params_of_options o → params_miss p o ≡ None
-params_none p o e = rw e (both_none _ _ (name_same 2 o.layer) (both_none _ _ (number_same 3 o.space) (both_none _ _ (number_same 4 o.overlap) (both_none _ _ (number_same 5 o.weights.stitch) (number_same 6 o.weights.conflict)))))
+names_are : (place : ℕ) (xs ys : List ℕ) → xs ≡ ys → name_miss place xs ys ≡ None
+names_are place xs ys e = rw e (name_same place ys)
+
+kept_are : (place : ℕ) (a b : Option (List ℕ)) → a ≡ b → name_miss place (name_or_nothing a) (name_or_nothing b) ≡ None
+kept_are place a b e = rw e (name_same place (name_or_nothing b))
+
+pub params_none : (p : Params) (o : Options) → AreAsked p o → params_miss p o ≡ None
+params_none p o a =
+    both_none _ _ (names_are 2 p.layer o.layer a.layer) (both_none _ _ (numbers_are 3 _ _ a.space) (both_none _ _ (numbers_are 4 _ _ a.overlap) (both_none _ _ (numbers_are 5 _ _ a.stitch)
+    (both_none _ _ (numbers_are 6 _ _ a.conflict) (both_none _ _ (numbers_are 16 _ _ a.corner) (kept_are 17 p.keep o.keep a.keep))))))
 
 pub counts_none : (k w : Counts) → k ≡ w → counts_miss k w ≡ None
 counts_none k w e = rw e (both_none _ _ (number_same 7 w.pieces) (both_none _ _ (number_same 8 w.fragments) (both_none _ _ (number_same 9 w.bonds) (both_none _ _ (number_same 10 w.stitches) (both_none _ _ (number_same 11 w.clashes) (number_same 12 w.excess))))))

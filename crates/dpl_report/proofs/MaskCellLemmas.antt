@@ -30,14 +30,12 @@ use Rattle.dpl_links.specs.Links.{piece_of}
 use Rattle.dpl_links.specs.Nets.{Tie, tie_of, bond_tie, stitch_tie, clash_tie, IsNet}
 use Rattle.dpl_links.specs.Spacing.{AreTooClose, IsClashOf, AreAllClashes}
 use Rattle.dpl_links.proofs.LawLemmas.{net_clashes, turned_gap}
-use Rattle.dpl_lex.specs.Name.{is_name}
 use Rattle.dpl_boxes.specs.Drawings.{is_in_boxes, DrawsMasks}
 use Rattle.dpl_report.specs.declared.marks.Broken.{Broken}
 use Rattle.dpl_report.specs.declared.options.Options.{Options}
-use Rattle.dpl_report.specs.declared.params.Params.{Params}
 use Rattle.dpl_report.specs.Plain.{PlainZone, PlainReport}
 use Rattle.dpl_report.specs.ReportLines.{report_text}
-use Rattle.dpl_report.specs.Valid.{IsReport, CutFits, ClashFits}
+use Rattle.dpl_report.specs.Valid.{AreNames, IsReport, CutFits, ClashFits}
 use Rattle.dpl_report.specs.Verdicts.{refusal_of}
 use Rattle.dpl_report.specs.Truths.{SaysTrue}
 use Rattle.dpl_report.specs.Conditions.{cuts_from}
@@ -426,7 +424,7 @@ known_masks o tiles f net r k =
       clashes = named;
       told = masks_told o tiles f net r k named;
       close = All-weaker (NamesBroken net.graph r.head.colours Clash) (TellsClose (layer_of tiles) (2 * o.space) f r) (λ b n. line_tells o tiles f net r b k n) r.lists.clashes named.each;
-      drawn = subst (λ (n : List ℕ). DrawsMasks n r.on_a r.on_b (report_text r)) (ap (λ (p : Params). p.layer) k.truth.params) (report_is_drawn r k.valid);
+      drawn = subst (λ (n : List ℕ). DrawsMasks n r.on_a r.on_b (report_text r)) k.truth.params.layer (report_is_drawn r k.valid);
     }
 
 wide : (n : ℕ) → 1 ≤ n → 2 ≤ 2 * n
@@ -435,12 +433,12 @@ wide n l = omega arith
 even : (n : ℕ) → 2 * n % 2 ≡ 0
 even n = omega arith
 
-pub masks_of_layer : (o : Options) (cells : ℤ → ℤ → Bool) (tiles : List Corners) (f : Fragments) (net : Net) (r : PlainReport) → is_name o.layer ≡ true → IsReport r → refusal_of o f net r ≡ None → IsNet f o.weights (2 * o.space) net → AreCutFrom o cells tiles f → AreMasksOf o cells tiles f net r
+pub masks_of_layer : (o : Options) (cells : ℤ → ℤ → Bool) (tiles : List Corners) (f : Fragments) (net : Net) (r : PlainReport) → AreNames o.layer o.keep → IsReport r → refusal_of o f net r ≡ None → IsNet f o.weights (2 * o.space) net → AreCutFrom o cells tiles f → AreMasksOf o cells tiles f net r
 masks_of_layer o cells tiles f net r name v good n c =
     let t = good_is_true o f net r name v good in
     let a = c.fragments in
     let w = wide o.overlap o.some_overlap in
-    let bonds = pairs_agree r.head.colours net.graph.edges n.bonds (map (stitch_tie o.weights.stitch) f.cuts ++ map (clash_tie o.weights.conflict) n.links) (n.edges ∙ append_assoc (map bond_tie n.bonds) (map (stitch_tie o.weights.stitch) f.cuts) (map (clash_tie o.weights.conflict) n.links)) t.colouring.bonds in
+    let bonds = pairs_agree r.head.colours net.graph.edges n.bonds (map (stitch_tie o.weights.stitch) f.cuts ++ map (clash_tie o.weights) n.links) (n.edges ∙ append_assoc (map bond_tie n.bonds) (map (stitch_tie o.weights.stitch) f.cuts) (map (clash_tie o.weights) n.links)) t.colouring.bonds in
     let k : IsKnown o tiles f net r = record {
       keep = c.keep;
       truth = t;

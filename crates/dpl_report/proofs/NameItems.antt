@@ -1,5 +1,5 @@
 -- The lines of a name, of the masks, and lines that are always the same.
-use Rattle.std.proofs.Common.{arith, ◌≡◌, ℕ, ◌-◌, Bool, true, false, ◌&&◌, ◌==◌, nat_le, List, [], ◌∷◌, ◌++◌, length, map, take, replicate, refl, sym, ap, length-append, Some, codes}
+use Rattle.std.proofs.Common.{arith, ◌≡◌, ℕ, ◌-◌, cond, Bool, true, false, ◌&&◌, ◌==◌, nat_le, List, [], ◌∷◌, ◌++◌, length, map, take, replicate, refl, sym, ap, ◌∙◌, length-append, Option, None, Some, codes}
 use Rattle.std.specs.Str.{bytes_eq}
 use Rattle.std.proofs.lemmas.Option.{cond_some}
 use Rattle.std.proofs.lemmas.Slice.Eq.{bytes_eq-Decides}
@@ -8,9 +8,9 @@ use Rattle.std.proofs.lemmas.Bool.{leb-true, le-leb, eqb-true, and_parts}
 use Rattle.std.proofs.lemmas.List.{take_at, length-replicate}
 use Rattle.dpl_lex.specs.Name.{is_name}
 use Rattle.dpl_form.proofs.Formats.{IsItem}
-use Rattle.dpl_report.specs.ReportLines.{letter, layer_line, masks_line}
+use Rattle.dpl_report.specs.ReportLines.{letter, layer_line, keep_line, version_line, masks_line}
 use Rattle.dpl_report.specs.Valid.{IsLayer}
-use Rattle.dpl_report.specs.Reading.{if_written, between, layer_from, item_layer, colours_from, of_length, item_masks, item_line}
+use Rattle.dpl_report.specs.Reading.{if_written, between, layer_from, item_layer, item_keep, item_version, colours_from, of_length, item_masks, item_line}
 use Rattle.dpl_report.proofs.ItemLemmas.{bind_some, if_written_some, if_written_same}
 
 between_seam : (middle end : List ℕ) (n : ℕ) → n ≡ length middle → take n (middle ++ end) ≡ middle
@@ -21,6 +21,9 @@ between-layer name = between_seam name (codes ");\n") (length (layer_line name) 
 
 between-masks : (colours : List Bool) → between 7 (masks_line colours) ≡ map letter colours
 between-masks colours = between_seam (map letter colours) (codes ");\n") (length (masks_line colours) - 10) (omega (arith, length-append (map letter colours) (codes ");\n")))
+
+between-keep : (name : List ℕ) → between 6 (keep_line name) ≡ name
+between-keep name = between_seam name (codes ");\n") (length (keep_line name) - 9) (omega (arith, length-append name (codes ");\n")))
 
 layer_fits : (name found : List ℕ) → layer_from name ≡ Some found → IsLayer found
 layer_fits name found e =
@@ -41,6 +44,35 @@ layer_item = record {
       (rw (← b.0) (layer_fits (between 7 l) a.0 a.1), b.1);
   again = λ x f. rw (between-layer x, layer_again x f) (if_written_same layer_line x);
 }
+
+pub keep_item : IsItem item_keep keep_line IsLayer
+keep_item = record {
+  some = codes "K";
+  some_fits = (refl, omega arith);
+  takes = λ l x e.
+      let a = bind_some (layer_from (between 6 l)) (if_written keep_line l) x e in
+      let b = if_written_some keep_line l a.0 x a.2 in
+      (rw (← b.0) (layer_fits (between 6 l) a.0 a.1), b.1);
+  again = λ x f. rw (between-keep x, layer_again x f) (if_written_same keep_line x);
+}
+
+version_by : (first second : Bool) (l : List ℕ) (x : Bool) → (second ≡ true → l ≡ version_line true) → (first ≡ true → l ≡ version_line false)
+    → ◌≡◌ {A = Option Bool} (cond second (Some true) (cond first (Some false) None)) (Some x) → l ≡ version_line x
+version_by first true l x s f e = let d : true ≡ x = cc in s refl ∙ ap version_line d
+version_by true false l x s f e = let d : false ≡ x = cc in f refl ∙ ap version_line d
+version_by false false l x s f e = absurd (cc)
+
+pub version_item : IsItem item_version version_line (λ _. Unit {0})
+version_item = record {
+  some = true;
+  some_fits = tt;
+  takes = λ l x e. (tt, version_by (bytes_eq (version_line false) l) (bytes_eq (version_line true) l) l x
+  (λ t. sym ((bytes_eq-Decides (version_line true) l).0 t)) (λ t. sym ((bytes_eq-Decides (version_line false) l).0 t)) e);
+  again = λ x f. version_again x;
+} where
+  version_again : (x : Bool) → item_version (version_line x) ≡ Some x
+  version_again true = refl
+  version_again false = refl
 
 colours_again : (colours : List Bool) → colours_from (map letter colours) ≡ colours
 colours_again [] = refl

@@ -1,5 +1,5 @@
 -- The reader of a report gives back what its lines were written from.
-use Rattle.std.proofs.Common.{◌+◌, ◌≡◌, ◌≢◌, ◌==◌, ℕ, zero, Bool, true, false, List, [], ◌∷◌, ◌++◌, length, map, refl, sym, ap, ◌∙◌, append_assoc, codes}
+use Rattle.std.proofs.Common.{Option, None, Some, IfSome, cond, ◌+◌, ◌≡◌, ◌≢◌, ◌==◌, ℕ, zero, Bool, true, false, List, [], ◌∷◌, ◌++◌, length, map, refl, sym, ap, ◌∙◌, append_assoc, codes, Ok}
 use Rattle.std.specs.List.{list_all, AllByRecursion}
 use Rattle.std.proofs.lemmas.Bool.Decides.{Decides-eqb, not_from_Decides}
 use Rattle.dpl_cell.specs.Places.{Corners}
@@ -7,19 +7,23 @@ use Rattle.dpl_cell.specs.Ranges.{IsRectangle}
 use Rattle.dpl_lex.specs.Classes.{is_separator}
 use Rattle.dpl_sign.specs.declared.walks.Cycle.{Cycle}
 use Rattle.dpl_boxes.specs.Masks.{box_line}
+use Rattle.std.specs.Prelude.{is_some}
+use Rattle.dpl_form.specs.Lines.{optional_line}
 use Rattle.dpl_form.specs.Readers.{FitFrom}
-use Rattle.dpl_form.proofs.Formats.{IsFormat, Anywhere, EndFrom, one_format, both_format, seen_format, many_format, refit}
-use Rattle.dpl_form.proofs.Endings.{BeginsOther, ends_at_other, other-map}
+use Rattle.dpl_form.proofs.Formats.{IsFormat, Anywhere, EndFrom, EndsOption, one_format, both_format, seen_format, seen_as_format, done_format, optional_format, many_format, refit}
+use Rattle.dpl_form.proofs.Endings.{BeginsOther, ends_at_other, option_ends_at_other, other-map}
 use Rattle.dpl_report.specs.declared.marks.Broken.{Broken}
 use Rattle.dpl_report.specs.declared.params.Params.{Params}
+use Rattle.dpl_report.specs.declared.heads.Values.{Values}
+use Rattle.dpl_report.specs.declared.heads.More.{More}
 use Rattle.dpl_report.specs.declared.params.Counts.{Counts}
 use Rattle.dpl_report.specs.Plain.{PlainZone, PlainHead, PlainLists, PlainReport}
 use Rattle.dpl_report.specs.ReportLines as lines
-use Rattle.dpl_report.specs.ReportLines.{count_line, layer_line, cut_line, clash_line, aside_line, cycle_line, params_lines, counts_lines, head_lines, lists_lines, drawing_lines, report_lines}
-use Rattle.dpl_report.specs.Valid.{IsCount, IsLayer, IsParams, IsCounts, IsHead, IsCycle, IsLists, IsReport, CutFits, ClashFits, AsideFits}
-use Rattle.dpl_report.specs.Reading.{count, exactly, read_layer, read_masks, item_cut, item_clash, item_aside, item_cycle, item_box, params_of, read_params, counts_of, read_counts, head_of, read_head, read_cuts, read_clashes, read_aside, read_cycles, lists_of, read_lists, read_boxes, read_mask, read_last, read_drawing, report_of, read_report}
+use Rattle.dpl_report.specs.ReportLines.{count_line, layer_line, cut_line, clash_line, aside_line, cycle_line, more_lines, counts_lines, head_lines, lists_lines, drawing_lines, report_lines}
+use Rattle.dpl_report.specs.Valid.{IsCount, IsLayer, AreMore, IsCounts, IsHead, IsCycle, IsLists, IsReport, CutFits, ClashFits, AsideFits}
+use Rattle.dpl_report.specs.Reading.{count, exactly, read_layer, read_masks, item_cut, item_clash, item_aside, item_cycle, item_box, item_keep, read_version, read_keep, values_of, read_values, nothing_more, more_of, read_corner, read_more, counts_of, read_counts, head_of, read_head, read_cuts, read_clashes, read_aside, read_cycles, lists_of, read_lists, read_boxes, read_mask, read_last, read_drawing, report_of, read_report}
 use Rattle.dpl_report.proofs.ItemLemmas.{count_item, cut_items, clash_items, aside_items, cycle_item, box_item, items_of_item}
-use Rattle.dpl_report.proofs.NameItems.{layer_item, masks_item, line_item}
+use Rattle.dpl_report.proofs.NameItems.{layer_item, keep_item, version_item, masks_item, line_item}
 
 -- ---- the lines before the lists
 
@@ -39,19 +43,33 @@ masks_format : (n : ℕ) → IsFormat (read_masks n) (λ colours. lines.masks_li
 unfolding read_masks
 masks_format n = one_format (masks_item n)
 
-params_back : Params → Unit {0} × (List ℕ × (ℕ × (ℕ × (ℕ × ℕ))))
-params_back p = (tt, (p.layer, (p.space, (p.overlap, (p.stitch, p.conflict)))))
+version_format : IsFormat read_version (λ second. lines.version_line second ∷ []) (λ _. Unit {0}) Anywhere
+unfolding read_version
+version_format = one_format version_item
 
-params_format : IsFormat read_params params_lines IsParams Anywhere
-unfolding read_params params_back
-params_format =
-    refit params_lines IsParams Anywhere (λ p. refl)
-    (λ p f. record { layer = f.1.0; space = f.1.1.0; overlap = f.1.1.1.0; stitch = f.1.1.1.1.0; conflict = f.1.1.1.1.1 })
-    (λ p f. (tt, (f.layer, (f.space, (f.overlap, (f.stitch, f.conflict))))))
-    (λ p rest e. tt) (λ p rest e. (tt, (tt, (tt, (tt, (tt, tt))))))
-    (seen_format params_of params_back (λ v. refl) (λ p. refl)
-    (both_format (line_format lines.version_line) (λ _ _. both_format layer_format (λ _ _. both_format (count_format (codes "space") refl) (λ _ _. both_format (count_format (codes "overlap") refl)
-    (λ _ _. both_format (count_format (codes "stitch") refl) (λ _ _. count_format (codes "conflict") refl)))))))
+values_back : Values → List ℕ × (ℕ × (ℕ × (ℕ × ℕ)))
+values_back v = (v.layer, (v.space, (v.overlap, (v.stitch, v.conflict))))
+
+abbrev values_lines : Values → List (List ℕ)
+values_lines v = layer_line v.layer ∷ count_line (codes "space") v.space ∷ count_line (codes "overlap") v.overlap ∷ count_line (codes "stitch") v.stitch ∷ count_line (codes "conflict") v.conflict ∷ []
+
+record AreValues (v : Values) : Type 0 where
+  layer : IsLayer v.layer
+  space : IsCount v.space
+  overlap : IsCount v.overlap
+  stitch : IsCount v.stitch
+  conflict : IsCount v.conflict
+
+values_format : IsFormat read_values values_lines AreValues Anywhere
+unfolding read_values values_back
+values_format =
+    refit values_lines AreValues Anywhere (λ v. refl)
+    (λ v f. record { layer = f.0; space = f.1.0; overlap = f.1.1.0; stitch = f.1.1.1.0; conflict = f.1.1.1.1 })
+    (λ v f. (f.layer, (f.space, (f.overlap, (f.stitch, f.conflict)))))
+    (λ v rest e. tt) (λ v rest e. (tt, (tt, (tt, (tt, tt)))))
+    (seen_format values_of values_back (λ v. refl) (λ v. refl)
+    (both_format layer_format (λ _ _. both_format (count_format (codes "space") refl) (λ _ _. both_format (count_format (codes "overlap") refl)
+    (λ _ _. both_format (count_format (codes "stitch") refl) (λ _ _. count_format (codes "conflict") refl))))))
 
 counts_back : Counts → ℕ × (ℕ × (ℕ × (ℕ × (ℕ × ℕ))))
 counts_back k = (k.pieces, (k.fragments, (k.bonds, (k.stitches, (k.clashes, k.excess)))))
@@ -67,18 +85,132 @@ counts_format =
     (both_format (count_format (codes "pieces") refl) (λ _ _. both_format (count_format (codes "fragments") refl) (λ _ _. both_format (count_format (codes "bonds") refl) (λ _ _. both_format (count_format (codes "stitches") refl)
     (λ _ _. both_format (count_format (codes "clashes") refl) (λ _ _. count_format (codes "excess") refl)))))))
 
-head_back : PlainHead → Params × (Counts × (ℕ × (ℕ × List Bool)))
-head_back h = (h.params, (h.counts, (h.cost, (h.bound, h.colours))))
+-- ---- the corner weight and the keep layer
 
-head_format : IsFormat read_head head_lines IsHead Anywhere
+keep_format : IsFormat read_keep (optional_line lines.keep_line) (λ o. IfSome o IsLayer) (EndsOption item_keep)
+unfolding read_keep
+keep_format = optional_format keep_item
+
+-- what a version has
+abbrev FitsVersion : Bool → More → Type 0
+FitsVersion second m = (is_some m.corner ≡ second) × AreMore m.corner m.keep
+
+abbrev EndsMore : Option ℕ → Option (List ℕ) → List (List ℕ) → Type 0
+EndsMore None keep rest = Unit {0}
+EndsMore (Some corner) keep rest = EndsOption item_keep keep rest
+
+abbrev lines_of_more : More → List (List ℕ)
+lines_of_more m = more_lines m.corner m.keep
+
+abbrev EndsWith : More → List (List ℕ) → Type 0
+EndsWith m rest = EndsMore m.corner m.keep rest
+
+or_zero : Option ℕ → ℕ
+or_zero None = 0
+or_zero (Some n) = n
+
+more_back : More → ℕ × Option (List ℕ)
+more_back m = (or_zero m.corner, m.keep)
+
+more_with : Option ℕ → Option (List ℕ) → More
+more_with corner keep = record { corner = corner; keep = keep }
+
+corner_same : (c : Option ℕ) → is_some c ≡ true → Some (or_zero c) ≡ c
+unfolding or_zero
+corner_same None e = absurd (cc)
+corner_same (Some n) e = refl
+
+corner_fits : (c : Option ℕ) (k : Option (List ℕ)) → is_some c ≡ true → AreMore c k → IsCount (or_zero c) × IfSome k IsLayer
+unfolding or_zero
+corner_fits None k e m = absurd (cc)
+corner_fits (Some n) k e m = m
+
+corner_lines : (c : Option ℕ) (k : Option (List ℕ)) → is_some c ≡ true → count_line (codes "corner") (or_zero c) ∷ optional_line lines.keep_line k ≡ more_lines c k
+unfolding or_zero
+corner_lines None k e = absurd (cc)
+corner_lines (Some n) k e = refl
+
+corner_ends : (c : Option ℕ) (k : Option (List ℕ)) (rest : List (List ℕ)) → EndsOption item_keep k rest → EndsMore c k rest
+corner_ends None k rest e = tt
+corner_ends (Some n) k rest e = e
+
+corner_ends_back : (c : Option ℕ) (k : Option (List ℕ)) (rest : List (List ℕ)) → is_some c ≡ true → EndsMore c k rest → EndsOption item_keep k rest
+corner_ends_back None k rest h e = absurd (cc)
+corner_ends_back (Some n) k rest h e = e
+
+corner_format : IsFormat read_corner lines_of_more (FitsVersion true) EndsWith
+unfolding read_corner more_back or_zero more_with
+corner_format =
+    seen_as_format more_of more_back lines_of_more (FitsVersion true) EndsWith
+    (λ v g. refl) (λ m g. ap (λ c. more_with c m.keep) (corner_same m.corner g.0))
+    (λ v g. (refl, g)) (λ m g. corner_fits m.corner m.keep g.0 g.1)
+    (λ m g. corner_lines m.corner m.keep g.0)
+    (λ m rest g e. corner_ends m.corner m.keep rest e.1) (λ m rest g e. (tt, corner_ends_back m.corner m.keep rest g.0 e))
+    (both_format (count_format (codes "corner") refl) (λ _ _. keep_format))
+
+nothing_fits : (c : Option ℕ) (k : Option (List ℕ)) → is_some c ≡ false → AreMore c k → more_with c k ≡ nothing_more
+unfolding more_with
+nothing_fits None k e m = ap (λ x. more_with None x) m
+nothing_fits (Some n) k e m = absurd (cc)
+
+nothing_format : IsFormat (λ ls. Ok (nothing_more, ls)) lines_of_more (FitsVersion false) EndsWith
+unfolding more_with
+nothing_format = record {
+  some = nothing_more;
+  some_fits = (refl, refl);
+  takes = λ ls m rest e. let t = done.takes ls m rest e in rw t.fits (record { fits = (refl, refl); parts = t.parts; ends = tt });
+  again = λ m rest g e. rw (nothing_fits m.corner m.keep g.0 g.1) refl;
+  next = λ m g l t u e. rw (nothing_fits m.corner m.keep g.0 g.1) tt;
+  stops = λ ls left e. absurd (cc);
+} where
+  done : IsFormat (λ ls. Ok (nothing_more, ls)) (λ m. []) (λ m. m ≡ nothing_more) Anywhere
+  done = done_format nothing_more
+
+more_format : (second : Bool) → IsFormat (read_more second) lines_of_more (FitsVersion second) EndsWith
+unfolding read_more
+more_format true = corner_format
+more_format false = nothing_format
+
+-- ---- all the lines before the lists
+
+abbrev HeadParts : Type 0
+HeadParts = Bool × (Values × (Counts × (ℕ × (ℕ × (List Bool × More)))))
+
+head_back : PlainHead → HeadParts
+head_back h = (
+  is_some h.params.corner,
+  (
+    record { layer = h.params.layer; space = h.params.space; overlap = h.params.overlap; stitch = h.params.stitch; conflict = h.params.conflict },
+    (h.counts, (h.cost, (h.bound, (h.colours, record { corner = h.params.corner; keep = h.params.keep })))),
+  ),
+)
+
+abbrev EndsHead : PlainHead → List (List ℕ) → Type 0
+EndsHead h rest = EndsMore h.params.corner h.params.keep rest
+
+head_format : IsFormat read_head head_lines IsHead EndsHead
 unfolding read_head head_back
 head_format =
-    refit head_lines IsHead Anywhere (λ h. refl)
-    (λ h f. record { params = f.0; counts = f.1.0; cost = f.1.1.0; bound = f.1.1.1.0; colours = f.1.1.1.1 })
-    (λ h f. (f.params, (f.counts, (f.cost, (f.bound, f.colours)))))
-    (λ h rest e. tt) (λ h rest e. (tt, (tt, (tt, (tt, tt)))))
-    (seen_format head_of head_back (λ v. refl) (λ h. refl)
-    (both_format params_format (λ _ _. both_format counts_format (λ k _. both_format (count_format (codes "cost") refl) (λ _ _. both_format (count_format (codes "bound") refl) (λ _ _. masks_format k.fragments))))))
+    seen_as_format head_of head_back head_lines IsHead EndsHead
+    (λ v g. ap (λ (second : Bool). (second, v.1)) g.1.1.1.1.1.1.0) (λ h g. refl)
+    (λ v g. record {
+      params = record { layer = g.1.0.layer; space = g.1.0.space; overlap = g.1.0.overlap; stitch = g.1.0.stitch; conflict = g.1.0.conflict; more = g.1.1.1.1.1.1.1 };
+      counts = g.1.1.0;
+      cost = g.1.1.1.0;
+      bound = g.1.1.1.1.0;
+      colours = g.1.1.1.1.1.0;
+    })
+    (λ h g. (
+      tt,
+      (
+        record { layer = g.params.layer; space = g.params.space; overlap = g.params.overlap; stitch = g.params.stitch; conflict = g.params.conflict },
+        (g.counts, (g.cost, (g.bound, (g.colours, (refl, g.params.more))))),
+      ),
+    ))
+    (λ h g. refl)
+    (λ h rest g e. e.1.1.1.1.1.1) (λ h rest g e. (tt, (tt, (tt, (tt, (tt, (tt, e)))))))
+    (both_format version_format (λ second _. both_format values_format (λ _ _. both_format counts_format (λ k _. both_format (count_format (codes "cost") refl)
+    (λ _ _. both_format (count_format (codes "bound") refl) (λ _ _. both_format (masks_format k.fragments) (λ _ _. more_format second)))))))
 
 -- ---- the lists
 
@@ -181,6 +313,31 @@ lists_end l line rest h =
       ),
     )
 
+-- nor does one of those or a line of the lists begin a keep layer
+cuts_before : (k : ℕ) (zs : List PlainZone) (rest : List (List ℕ)) → (117 == k) ≡ false → BeginsOther third k rest → BeginsOther third k (map cut_line zs ++ rest)
+unfolding third
+cuts_before k zs rest n b = other-map third k 117 cut_line (λ z. refl) (apart 117 k n) zs rest b
+
+lists_before : (l : PlainLists) (rest : List (List ℕ)) → BeginsOther third 101 rest → BeginsOther third 101 (lists_lines l ++ rest)
+lists_before l rest b =
+    let cycles = map cycle_line l.cycles in
+    let aside = map aside_line l.aside in
+    let clashes = map clash_line l.clashes in
+    let cuts = map cut_line l.cuts in
+    let parts : (cuts ++ (clashes ++ (aside ++ cycles))) ++ rest ≡ cuts ++ (clashes ++ (aside ++ (cycles ++ rest))) =
+    append_assoc cuts (clashes ++ (aside ++ cycles)) rest ∙ ap (λ t. cuts ++ t) (append_assoc clashes (aside ++ cycles) rest ∙ ap (λ t. clashes ++ t) (append_assoc aside cycles rest)) in
+    rw parts (cuts_before 101 l.cuts (clashes ++ (aside ++ (cycles ++ rest))) refl (clashes_before 101 l.clashes (aside ++ (cycles ++ rest)) refl
+    (aside_before 101 l.aside (cycles ++ rest) refl (cycles_before 101 l.cycles rest refl b))))
+
+more_end : (c : Option ℕ) (k : Option (List ℕ)) (rest : List (List ℕ)) → BeginsOther third 101 rest → EndsMore c k rest
+unfolding third
+more_end None k rest b = tt
+more_end (Some n) k rest b = option_ends_at_other third 101 keep_item (λ name. refl) k rest b
+
+head_end : (h : PlainHead) (l : PlainLists) (line : List ℕ) (drawing rest : List (List ℕ)) → third line ≡ 32 → EndsHead h ((lists_lines l ++ (line ∷ drawing)) ++ rest)
+head_end h l line drawing rest e =
+    rw (append_assoc (lists_lines l) (line ∷ drawing) rest) (more_end h.params.corner h.params.keep (lists_lines l ++ line ∷ (drawing ++ rest)) (lists_before l (line ∷ (drawing ++ rest)) (begins_other third 32 101 line (drawing ++ rest) e refl)))
+
 -- and a line that begins otherwise no box
 boxes_end : (boxes : List Corners) (line : List ℕ) (rest : List (List ℕ)) → (first line == 66) ≡ false → EndFrom (λ (s : ℕ). item_box) (λ _. zero) zero boxes (line ∷ rest)
 unfolding first
@@ -223,6 +380,6 @@ report_format =
     (λ r f. record { head = f.0; lists = f.1.0; on_a = f.1.1.0; on_b = f.1.1.1 })
     (λ r f. (f.head, (f.lists, (f.on_a, f.on_b))))
     (λ r rest e. tt)
-    (λ r rest e. (tt, (lists_end r.lists lines.start_line _ refl, tt)))
+    (λ r rest e. (head_end r.head r.lists lines.start_line _ rest refl, (lists_end r.lists lines.start_line _ refl, tt)))
     (seen_format report_of report_back (λ v. refl) (λ r. refl)
     (both_format head_format (λ h _. both_format lists_format (λ _ _. drawing_format h.params.layer))))

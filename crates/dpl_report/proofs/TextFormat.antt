@@ -1,6 +1,6 @@
 -- The text of a report is read as it was written.
-use Rattle.std.proofs.Common.{arith, ◌≡◌, ℕ, zero, ◌+◌, ◌-◌, Bool, true, false, List, [], ◌∷◌, ◌++◌, length, map, refl, sym, ap, ◌∙◌, codes, Ok, Err}
-use Rattle.std.specs.Prelude.{pos}
+use Rattle.std.proofs.Common.{arith, ◌≡◌, ℕ, zero, ◌+◌, ◌-◌, Bool, true, false, List, [], ◌∷◌, ◌++◌, length, map, refl, sym, ap, ◌∙◌, codes, Option, None, Some, Ok, Err}
+use Rattle.std.specs.Prelude.{pos, is_some}
 use Rattle.std.specs.List.{list_all, AllByRecursion}
 use Rattle.std.proofs.lemmas.Bool.Decides.{nat_tests}
 use Rattle.dpl_cell.specs.Places.{Corners}
@@ -14,8 +14,8 @@ use Rattle.dpl_form.specs.Readers.{FitFrom, whole, IsFirstWrong}
 use Rattle.dpl_form.proofs.TextLemmas.{IsLine, text_of-lines_in, lines_in-text_of}
 use Rattle.dpl_form.proofs.Formats.{Anywhere, whole_found, whole_again, whole_stops}
 use Rattle.dpl_report.specs.Plain.{PlainHead, PlainLists, PlainReport}
-use Rattle.dpl_report.specs.ReportLines.{letter, count_line, layer_line, masks_line, mask_line, broken_numbers, zone_numbers, cycle_numbers, cut_line, clash_line, aside_line, cycle_line, head_lines, lists_lines, drawing_lines, report_lines, report_text, last_lines}
-use Rattle.dpl_report.specs.Valid.{IsCount, IsLayer, IsHead, IsCycle, IsLists, IsReport, CutFits, ClashFits, AsideFits}
+use Rattle.dpl_report.specs.ReportLines.{letter, count_line, layer_line, keep_line, version_line, more_lines, masks_line, mask_line, broken_numbers, zone_numbers, cycle_numbers, cut_line, clash_line, aside_line, cycle_line, head_lines, lists_lines, drawing_lines, report_lines, report_text, last_lines}
+use Rattle.dpl_report.specs.Valid.{IsCount, IsLayer, AreMore, IsHead, IsCycle, IsLists, IsReport, CutFits, ClashFits, AsideFits}
 use Rattle.dpl_report.specs.Reading.{read_report}
 use Rattle.dpl_report.proofs.LineLemmas.{is_no_end, is_line-append, is_line-bracketed, is_line-box}
 use Rattle.dpl_report.proofs.ItemLemmas.{near, zone_near, cycle_near, box_near}
@@ -58,11 +58,23 @@ letters_have_no_end (false ∷ cs) = letters_have_no_end cs
 masks_is_line : (colours : List Bool) → IsLine (masks_line colours)
 masks_is_line colours = is_line-append (map letter colours) (codes ");\n") (letters_have_no_end colours)
 
+version_is_line : (second : Bool) → IsLine (version_line second)
+version_is_line true = refl
+version_is_line false = refl
+
+keep_is_line : (name : List ℕ) → IsLayer name → IsLine (keep_line name)
+keep_is_line name f = is_line-append name (codes ");\n") (name_has_no_end name f)
+
+more_are_lines : (c : Option ℕ) (k : Option (List ℕ)) → AreMore c k → AllByRecursion IsLine (more_lines c k)
+more_are_lines None k m = tt
+more_are_lines (Some n) None m = (count_is_line (codes "corner") n refl m.0, tt)
+more_are_lines (Some n) (Some name) m = (count_is_line (codes "corner") n refl m.0, (keep_is_line name m.1, tt))
+
 head_are_lines : (h : PlainHead) → IsHead h → AllByRecursion IsLine (head_lines h)
 head_are_lines h f =
     let p = f.params in
     let k = f.counts in (
-      refl,
+      version_is_line (is_some h.params.corner),
       (
         layer_is_line h.params.layer p.layer,
         (
@@ -85,7 +97,7 @@ head_are_lines h f =
                           count_is_line (codes "clashes") h.counts.clashes refl k.clashes,
                           (
                             count_is_line (codes "excess") h.counts.excess refl k.excess,
-                            (count_is_line (codes "cost") h.cost refl f.cost, (count_is_line (codes "bound") h.bound refl f.bound, (masks_is_line h.colours, tt))),
+                            (count_is_line (codes "cost") h.cost refl f.cost, (count_is_line (codes "bound") h.bound refl f.bound, (masks_is_line h.colours, more_are_lines h.params.corner h.params.keep p.more))),
                           ),
                         ),
                       ),

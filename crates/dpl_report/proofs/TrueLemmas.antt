@@ -1,5 +1,5 @@
 -- A good report says the truth: each condition that does not fail is a fact.
-use Rattle.std.proofs.Common.{arith, ◌≡◌, ◌≤◌, ◌==◌, ℕ, ◌+◌, ◌*◌, inl, inr, Bool, true, false, not, List, [], ◌∷◌, ◌++◌, length, map, refl, sym, ap, subst, ◌∙◌, Option, None, Some, All, append_assoc, append-nil}
+use Rattle.std.proofs.Common.{arith, ◌≡◌, ◌≤◌, ◌==◌, ℕ, ◌+◌, ◌*◌, inl, inr, Bool, true, false, not, List, [], ◌∷◌, ◌++◌, length, map, refl, sym, ap, subst, ◌∙◌, Option, None, Some, IfSome, All, append_assoc, append-nil}
 use Rattle.std.specs.Prelude.{pos, nat_lt, ◌&&◌, if◌then◌else◌}
 use Rattle.std.specs.List.{AllByRecursion, list_all}
 use Rattle.std.proofs.lemmas.Bool.{cases_Bool, cases_eq, eqb-true, and_parts}
@@ -27,12 +27,12 @@ use Rattle.dpl_report.specs.declared.params.Counts.{Counts}
 use Rattle.dpl_report.specs.declared.refusals.Miss.{Miss}
 use Rattle.dpl_report.specs.declared.refusals.Refusal.{Refusal}
 use Rattle.dpl_report.specs.Plain.{PlainReport}
-use Rattle.dpl_report.specs.Misses.{miss, number_miss, name_miss, pair_miss, numbers_miss}
-use Rattle.dpl_report.specs.Conditions.{params_miss, params_of_options, counts_miss, bond_miss, bonds_miss, aside_miss, walks_miss, load_of, loads_miss, boxes_miss, drawing_miss, corner_numbers, cuts_from, clashes_from, cut_lines_miss, clash_lines_miss, cost_miss, broken_miss, packing_miss}
+use Rattle.dpl_report.specs.Misses.{miss, number_miss, name_miss, name_or_nothing, pair_miss, numbers_miss}
+use Rattle.dpl_report.specs.Conditions.{params_miss, AreAsked, corner_weight, counts_miss, bond_miss, bonds_miss, aside_miss, walks_miss, load_of, loads_miss, boxes_miss, drawing_miss, corner_numbers, cuts_from, clashes_from, cut_lines_miss, clash_lines_miss, cost_miss, broken_miss, packing_miss}
 use Rattle.dpl_report.specs.MaskRects.{mask_of}
 use Rattle.dpl_report.specs.Verdicts.{refused, refusal_of, rects_of, counts_of_net, rects_refusal, packing_refusal, walks_refusal, aside_refusal, broken_refusal, bonds_refusal, counts_refusal}
 use Rattle.dpl_report.specs.Truths.{SaysTrue}
-use Rattle.dpl_report.specs.Valid.{IsReport, IsCycle}
+use Rattle.dpl_report.specs.Valid.{AreNames, AreMore, IsParams, IsReport, IsCycle}
 use Rattle.dpl_report.proofs.ListLaws.{or_none, pair_none, numbers_none, same_corners, lists_none, clash_lines_are, cut_lines_are}
 use Rattle.dpl_report.proofs.GoodLemmas.{edges_told}
 use Rattle.dpl_report.proofs.WalkLaws.{walk_is_odd}
@@ -75,20 +75,48 @@ name_bytes_each : (name : List ℕ) → list_all is_name_byte name ≡ true → 
 name_bytes_each [] e = tt
 name_bytes_each (x ∷ xs) e = let d = and_parts (is_name_byte x) (list_all is_name_byte xs) e in (d.0, name_bytes_each xs d.1)
 
-params_with : List ℕ → ℕ → ℕ → ℕ → ℕ → Params
-params_with l s v a b = record { layer = l; space = s; overlap = v; stitch = a; conflict = b }
+layer_none : (place : ℕ) (a b : List ℕ) → is_name a ≡ true → is_name b ≡ true → name_miss place a b ≡ None → a ≡ b
+layer_none place a b m n e = name_none place a b (name_bytes_each a (name_bytes a m)) (name_bytes_each b (name_bytes b n)) e
 
-pub params_true : (p : Params) (o : Options) → is_name p.layer ≡ true → is_name o.layer ≡ true → params_miss p o ≡ None → p ≡ params_of_options o
-unfolding params_with
+-- no name is empty
+keep_none : (place : ℕ) (a b : Option (List ℕ)) → IfSome a (λ n. is_name n ≡ true) → IfSome b (λ n. is_name n ≡ true) → name_miss place (name_or_nothing a) (name_or_nothing b) ≡ None → a ≡ b
+keep_none place None None m n e = refl
+keep_none place None (Some b) m n e =
+    let same : [] ≡ b = name_none place [] b tt (name_bytes_each b (name_bytes b n)) e in
+    let bad : is_name [] ≡ true = ap is_name same ∙ n in
+    absurd (cc)
+keep_none place (Some a) None m n e =
+    let same : a ≡ [] = name_none place a [] (name_bytes_each a (name_bytes a m)) tt e in
+    let bad : is_name [] ≡ true = ap is_name (sym same) ∙ m in
+    absurd (cc)
+keep_none place (Some a) (Some b) m n e = ap Some (layer_none place a b m n e)
+
+pub params_true : (p : Params) (o : Options) → AreNames p.layer p.keep → AreNames o.layer o.keep → params_miss p o ≡ None → AreAsked p o
 params_true p o m n e =
     let a = or_none (name_miss 2 p.layer o.layer) _ e in
     let b = or_none (number_miss 3 p.space o.space) _ a.1 in
     let c = or_none (number_miss 4 p.overlap o.overlap) _ b.1 in
     let d = or_none (number_miss 5 p.stitch o.weights.stitch) _ c.1 in
-    let same = name_none 2 p.layer o.layer (name_bytes_each p.layer (name_bytes p.layer m)) (name_bytes_each o.layer (name_bytes o.layer n)) a.0 in
-    let h : params_with p.layer p.space p.overlap p.stitch p.conflict ≡ params_with o.layer o.space o.overlap o.weights.stitch o.weights.conflict =
-    rw (same, number_none 3 _ _ b.0, number_none 4 _ _ c.0, number_none 5 _ _ d.0, number_none 6 _ _ d.1) refl in
-    h
+    let f = or_none (number_miss 6 p.conflict o.weights.conflict) _ d.1 in
+    let g = or_none (number_miss 16 (corner_weight p.corner p.conflict) o.weights.corner) _ f.1 in
+    record {
+      layer = layer_none 2 p.layer o.layer m.layer_is n.layer_is a.0;
+      space = number_none 3 _ _ b.0;
+      overlap = number_none 4 _ _ c.0;
+      stitch = number_none 5 _ _ d.0;
+      conflict = number_none 6 _ _ f.0;
+      corner = number_none 16 _ _ g.0;
+      keep = keep_none 17 p.keep o.keep m.keep_is n.keep_is g.1;
+    }
+
+-- the names of a report are names
+more_names : (c : Option ℕ) (k : Option (List ℕ)) → AreMore c k → IfSome k (λ n. is_name n ≡ true)
+more_names None k m = rw m tt
+more_names (Some n) None m = tt
+more_names (Some n) (Some name) m = m.1.0
+
+params_names : (p : Params) → IsParams p → AreNames p.layer p.keep
+params_names p v = record { layer_is = v.layer.0; keep_is = more_names p.corner p.keep v.more }
 
 counts_with : ℕ → ℕ → ℕ → ℕ → ℕ → ℕ → Counts
 counts_with p f b s c x = record { pieces = p; fragments = f; bonds = b; stitches = s; clashes = c; excess = x }
@@ -190,7 +218,7 @@ drawing_true on_a on_b on_c on_d n =
 pub halves_some : (cs : List Cycle) → AllByRecursion IsCycle cs → All (λ (c : Cycle). 1 ≤ c.half) cs
 halves_some cs h = All-weaker IsCycle (λ (c : Cycle). 1 ≤ c.half) (λ c i. i.some) cs (All-from_recursion IsCycle cs h)
 
-pub good_is_true : (o : Options) (f : Fragments) (net : Net) (r : PlainReport) → is_name o.layer ≡ true → IsReport r → refusal_of o f net r ≡ None → SaysTrue o f net r
+pub good_is_true : (o : Options) (f : Fragments) (net : Net) (r : PlainReport) → AreNames o.layer o.keep → IsReport r → refusal_of o f net r ≡ None → SaysTrue o f net r
 good_is_true o f net r name v n =
     let g = net.graph in
     let c2 = either_none (refused 2 (params_miss r.head.params o)) (counts_refusal f net r) n in
@@ -200,7 +228,7 @@ good_is_true o f net r name v n =
     let c6 = either_none (refused 6 (aside_miss r.lists.aside (aside_edges net))) (walks_refusal f net r) c5.1 in
     let c7 = either_none (refused 7 (walks_miss g 0 r.lists.cycles)) (packing_refusal f net r) c6.1 in
     let c8 = either_none (refused 8 (packing_miss g r.head.bound r.lists.cycles)) (rects_refusal f r) c7.1 in
-    let params = params_true r.head.params o v.head.params.layer.0 name (not_refused 2 _ c2.0) in
+    let params = params_true r.head.params o (params_names r.head.params v.head.params) name (not_refused 2 _ c2.0) in
     let counts = counts_true r.head.counts (counts_of_net net) (not_refused 3 _ c3.0) in
     let bonds = bonds_true r.head.colours 0 g.edges (not_refused 4 _ c4.0) in
     let broken = or_none (cut_lines_miss r.lists.cuts (cuts_from r.head.colours 0 g.edges f.cuts)) _ (not_refused 5 (broken_miss f net r) c5.0) in

@@ -1,5 +1,5 @@
 -- The conditions of a good report, each as the first place at which it fails.
-use Rattle.std.specs.Prelude.{ℕ, ◌+◌, ◌*◌, ℤ, pos, ◌==◌, ◌||◌, ◌&&◌, nat_lt, Bool, true, false, not, List, [], ◌∷◌, ◌++◌, length, sum_by, Option, None, Some, if◌then◌else◌}
+use Rattle.std.specs.Prelude.{◌≡◌, ℕ, ◌+◌, ◌*◌, ℤ, pos, ◌==◌, ◌||◌, ◌&&◌, nat_lt, Bool, true, false, not, List, [], ◌∷◌, ◌++◌, length, sum_by, Option, None, Some, if◌then◌else◌}
 use Rattle.dpl_cell.specs.Places.{Corners, corners_of}
 use Rattle.dpl_rules.specs.Readers.{or_else}
 use Rattle.dpl_sign.specs.declared.edges.Kind.{Kind}
@@ -19,18 +19,38 @@ use Rattle.dpl_cuts.specs.declared.types.Cut.{Cut}
 use Rattle.dpl_cuts.specs.declared.types.Fragments.{Fragments}
 use Rattle.dpl_report.specs.declared.options.Options.{Options}
 use Rattle.dpl_report.specs.declared.refusals.Miss.{Miss}
-use Rattle.dpl_report.specs.Misses.{miss, number_miss, name_miss, numbers_miss}
+use Rattle.dpl_report.specs.Misses.{miss, number_miss, name_miss, name_or_nothing, numbers_miss}
 
--- ---- 2: lines 2 to 6 are the options' values
+-- ---- 2: lines 2 to 6, and 16 and 17 where they are there, are the options' values
+
+-- the weight of a clash between corners: without a line of its own that of every clash
+abbrev pub corner_weight : Option ℕ → ℕ → ℕ
+corner_weight None conflict = conflict
+corner_weight (Some corner) conflict = corner
+
+-- the corner weight and the keep layer
+abbrev pub more_miss : Params → Options → Option Miss
+more_miss p o = or_else (number_miss 16 (corner_weight p.corner p.conflict) o.weights.corner)
+    (name_miss 17 (name_or_nothing p.keep) (name_or_nothing o.keep))
 
 abbrev pub params_miss : Params → Options → Option Miss
 params_miss p o =
     or_else (name_miss 2 p.layer o.layer) (or_else (number_miss 3 p.space o.space)
     (or_else (number_miss 4 p.overlap o.overlap)
     (or_else (number_miss 5 p.stitch o.weights.stitch)
-    (number_miss 6 p.conflict o.weights.conflict))))
+    (or_else (number_miss 6 p.conflict o.weights.conflict) (more_miss p o)))))
 
--- the values that the options ask for
+-- The values are those that the options ask for.
+pub record AreAsked (p : Params) (o : Options) : Type 0 where
+  pub layer : p.layer ≡ o.layer
+  pub space : p.space ≡ o.space
+  pub overlap : p.overlap ≡ o.overlap
+  pub stitch : p.stitch ≡ o.weights.stitch
+  pub conflict : p.conflict ≡ o.weights.conflict
+  pub corner : corner_weight p.corner p.conflict ≡ o.weights.corner
+  pub keep : p.keep ≡ o.keep
+
+-- the values that a new report has
 abbrev pub params_of_options : Options → Params
 params_of_options o = record {
   layer = o.layer;
@@ -39,6 +59,8 @@ params_of_options o = record {
   stitch =
       o.weights.stitch;
   conflict = o.weights.conflict;
+  corner = Some o.weights.corner;
+  keep = o.keep;
 }
 
 -- ---- 3: lines 7 to 12 are the counts of the layout

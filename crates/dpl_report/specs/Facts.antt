@@ -13,7 +13,7 @@ use Rattle.dpl_report.specs.declared.options.Options.{Options}
 use Rattle.dpl_report.specs.Plain.{PlainZone, PlainReport}
 use Rattle.dpl_report.specs.ReportLines.{report_text}
 use Rattle.dpl_report.specs.Valid.{IsReport}
-use Rattle.dpl_report.specs.Conditions.{params_of_options}
+use Rattle.dpl_report.specs.Conditions.{AreAsked}
 use Rattle.dpl_report.specs.Verdicts.{counts_of_net}
 use Rattle.dpl_report.specs.MaskRects.{mask_of}
 use Rattle.dpl_report.specs.MaskCells.{NameAllBroken}
@@ -34,7 +34,7 @@ pub record AreNineFacts (o : Options) (f : Fragments) (net : Net) (text : List �
   pub valid : IsReport r
   pub text_is : text ≡ report_text r
   -- 2: it was made with these options
-  pub options : r.head.params ≡ params_of_options o
+  pub options : AreAsked r.head.params o
   -- 3: its numbers are those of the layout
   pub counts : r.head.counts ≡ counts_of_net net
   -- 4: the two fragments of each bond are on one mask

@@ -1,7 +1,6 @@
 -- What holds of every report, and of each condition of a good one.
 use Rattle.std.specs.Prelude.{◌≡◌, ◌↔◌, ℕ, Bool, true, List, None, All}
 use Rattle.dpl_cell.specs.Places.{Corners}
-use Rattle.dpl_lex.specs.Name.{is_name}
 use Rattle.dpl_sign.specs.declared.edges.Edge.{Edge}
 use Rattle.dpl_sign.specs.declared.graphs.Signed.{Signed}
 use Rattle.dpl_sign.specs.declared.nets.Net.{Net}
@@ -18,8 +17,8 @@ use Rattle.dpl_report.specs.declared.params.Counts.{Counts}
 use Rattle.dpl_report.specs.declared.reports.Report.{Report}
 use Rattle.dpl_report.specs.Plain.{PlainZone, PlainReport, plain_report}
 use Rattle.dpl_report.specs.ReportLines.{report_text}
-use Rattle.dpl_report.specs.Valid.{IsReport}
-use Rattle.dpl_report.specs.Conditions.{params_miss, params_of_options, counts_miss, bonds_miss, cut_lines_miss, clash_lines_miss, cost_miss, aside_miss, walks_miss, packing_miss, drawing_miss}
+use Rattle.dpl_report.specs.Valid.{AreNames, IsReport}
+use Rattle.dpl_report.specs.Conditions.{params_miss, AreAsked, counts_miss, bonds_miss, cut_lines_miss, clash_lines_miss, cost_miss, aside_miss, walks_miss, packing_miss, drawing_miss}
 
 -- no two reports have the same text
 abbrev pub TextsDiffer : Type 0
@@ -37,8 +36,8 @@ PlainIsExact = (r s : Report) → plain_report r ≡ plain_report s → r ≡ s
 -- ---- each condition fails nowhere exactly where its fact holds
 
 abbrev pub OptionsAreTold : Type 0
-OptionsAreTold = (p : Params) (o : Options) → is_name p.layer ≡ true → is_name o.layer ≡ true →
-    (params_miss p o ≡ None) ↔ (p ≡ params_of_options o)
+OptionsAreTold = (p : Params) (o : Options) → AreNames p.layer p.keep → AreNames o.layer o.keep →
+    (params_miss p o ≡ None) ↔ AreAsked p o
 
 abbrev pub CountsAreTold : Type 0
 CountsAreTold = (shown wanted : Counts) → (counts_miss shown wanted ≡ None) ↔ (shown ≡ wanted)

@@ -8,6 +8,8 @@ use Rattle.dpl_report.specs.declared.params.Params.{Params}
 use Rattle.dpl_report.specs.declared.params.Counts.{Counts}
 use Rattle.dpl_report.specs.declared.reports.Report.{Report}
 use Rattle.dpl_report.specs.declared.heads.Head.{Head}
+use Rattle.dpl_report.specs.declared.heads.Values.{Values}
+use Rattle.dpl_report.specs.declared.heads.More.{More}
 use Rattle.dpl_report.specs.declared.bodies.Lists.{Lists}
 
 -- a broken stitch with its overlap
@@ -38,6 +40,18 @@ pub record PlainReport : Type 0 where
   pub lists : PlainLists
   pub on_a : List Corners
   pub on_b : List Corners
+
+-- the values that each report has, and those that only some have
+abbrev pub params_with : Values → More → Params
+params_with v m = record {
+  layer = v.layer;
+  space = v.space;
+  overlap = v.overlap;
+  stitch = v.stitch;
+  conflict = v.conflict;
+  corner = m.corner;
+  keep = m.keep;
+}
 
 abbrev pub plain_head : Head → PlainHead
 plain_head h = record {

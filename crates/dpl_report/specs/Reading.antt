@@ -1,5 +1,5 @@
 -- Reading the lines of a report. Numbers are looked for, and a line counts only where it is written so again.
-use Rattle.std.specs.Prelude.{ℕ, zero, ℤ, pos, negsuc, ◌+ℤ◌, ◌-ℤ◌, ◌*ℤ◌, ◌-◌, ◌+◌, Bool, ◌&&◌, ◌==◌, nat_le, int_div, int_lt, int_le, neg_ℤ, List, [], ◌∷◌, length, map, take, drop, codes, Option, None, Some, Ok, if◌then◌else◌}
+use Rattle.std.specs.Prelude.{ℕ, zero, ℤ, pos, negsuc, ◌+ℤ◌, ◌-ℤ◌, ◌*ℤ◌, ◌-◌, ◌+◌, Bool, true, false, ◌&&◌, ◌==◌, nat_le, int_div, int_lt, int_le, neg_ℤ, List, [], ◌∷◌, length, map, take, drop, codes, Option, None, Some, Ok, if◌then◌else◌}
 use Rattle.std.specs.Str.{bytes_eq}
 use Rattle.dpl_limits.specs.Limits.{most_coordinate}
 use Rattle.dpl_lex.specs.Name.{is_name}
@@ -7,11 +7,12 @@ use Rattle.dpl_rules.specs.Readers.{◌>>=◌, signed_of, repeated}
 use Rattle.dpl_cell.specs.Places.{Corners}
 use Rattle.dpl_sign.specs.declared.walks.Cycle.{Cycle}
 use Rattle.dpl_boxes.specs.Masks.{box_line}
-use Rattle.dpl_form.specs.Readers.{Reader, one, many, both, seen}
+use Rattle.dpl_form.specs.Readers.{Reader, one, optional, many, both, seen}
 use Rattle.dpl_report.specs.declared.marks.Broken.{Broken}
-use Rattle.dpl_report.specs.declared.params.Params.{Params}
+use Rattle.dpl_report.specs.declared.heads.Values.{Values}
+use Rattle.dpl_report.specs.declared.heads.More.{More}
 use Rattle.dpl_report.specs.declared.params.Counts.{Counts}
-use Rattle.dpl_report.specs.Plain.{PlainZone, PlainHead, PlainLists, PlainReport}
+use Rattle.dpl_report.specs.Plain.{PlainZone, PlainHead, PlainLists, PlainReport, params_with}
 use Rattle.dpl_report.specs.ReportLines as lines
 
 -- the integers of a line behind its first byte
@@ -145,6 +146,13 @@ layer_from name = if is_name name && nat_le (length name) 31 then Some name else
 abbrev pub item_layer : List ℕ → Option (List ℕ)
 item_layer line = layer_from (between 7 line) >>= if_written lines.layer_line line
 
+abbrev pub item_keep : List ℕ → Option (List ℕ)
+item_keep line = layer_from (between 6 line) >>= if_written lines.keep_line line
+
+abbrev pub item_version : List ℕ → Option Bool
+item_version line = if bytes_eq (lines.version_line true) line then Some true
+    else (if bytes_eq (lines.version_line false) line then Some false else None)
+
 abbrev pub colours_from : List ℕ → List Bool
 colours_from letters = map (λ b. b == 66) letters
 
@@ -170,26 +178,30 @@ exactly line = one (item_line line)
 unfoldable pub read_layer : Reader (List ℕ)
 read_layer = one item_layer
 
+unfoldable pub read_version : Reader Bool
+read_version = one item_version
+
+unfoldable pub read_keep : Reader (Option (List ℕ))
+read_keep = optional item_keep
+
 unfoldable pub read_masks : ℕ → Reader (List Bool)
 read_masks fragments = one (item_masks fragments)
 
 abbrev pub then_ : {X Y : Type 0} → Reader X → Reader Y → Reader (X × Y)
 then_ f g = both f (λ _. g)
 
-abbrev pub params_of : Unit {0} × (List ℕ × (ℕ × (ℕ × (ℕ × ℕ)))) → Params
-params_of v = record {
-  layer = v.1.0;
-  space = v.1.1.0;
-  overlap = v.1.1.1.0;
-  stitch =
-      v.1.1.1.1.0;
-  conflict = v.1.1.1.1.1;
+abbrev pub values_of : List ℕ × (ℕ × (ℕ × (ℕ × ℕ))) → Values
+values_of v = record {
+  layer = v.0;
+  space = v.1.0;
+  overlap = v.1.1.0;
+  stitch = v.1.1.1.0;
+  conflict = v.1.1.1.1;
 }
 
-unfoldable pub read_params : Reader Params
-read_params = seen params_of (then_ (exactly lines.version_line)
-    (then_ read_layer (then_ (count (codes "space"))
-    (then_ (count (codes "overlap")) (then_ (count (codes "stitch")) (count (codes "conflict")))))))
+unfoldable pub read_values : Reader Values
+read_values = seen values_of (then_ read_layer (then_ (count (codes "space"))
+    (then_ (count (codes "overlap")) (then_ (count (codes "stitch")) (count (codes "conflict"))))))
 
 abbrev pub counts_of : ℕ × (ℕ × (ℕ × (ℕ × (ℕ × ℕ)))) → Counts
 counts_of v = record {
@@ -207,19 +219,32 @@ read_counts = seen counts_of (then_ (count (codes "pieces"))
     (then_ (count (codes "fragments")) (then_ (count (codes "bonds"))
     (then_ (count (codes "stitches")) (then_ (count (codes "clashes")) (count (codes "excess")))))))
 
-abbrev pub head_of : Params × (Counts × (ℕ × (ℕ × List Bool))) → PlainHead
+abbrev pub nothing_more : More
+nothing_more = record { corner = None; keep = None }
+
+abbrev pub more_of : ℕ × Option (List ℕ) → More
+more_of v = record { corner = Some v.0; keep = v.1 }
+
+unfoldable pub read_corner : Reader More
+read_corner = seen more_of (then_ (count (codes "corner")) read_keep)
+
+-- behind the masks a second version has a corner weight
+unfoldable pub read_more : Bool → Reader More
+read_more second ls = if second then read_corner ls else Ok (nothing_more, ls)
+
+abbrev pub head_of : Bool × (Values × (Counts × (ℕ × (ℕ × (List Bool × More))))) → PlainHead
 head_of v = record {
-  params = v.0;
-  counts = v.1.0;
-  cost = v.1.1.0;
-  bound = v.1.1.1.0;
-  colours =
-      v.1.1.1.1;
+  params = params_with v.1.0 v.1.1.1.1.1.1;
+  counts = v.1.1.0;
+  cost = v.1.1.1.0;
+  bound = v.1.1.1.1.0;
+  colours = v.1.1.1.1.1.0;
 }
 
 unfoldable pub read_head : Reader PlainHead
-read_head = seen head_of (then_ read_params (both read_counts (λ k.
-    then_ (count (codes "cost")) (then_ (count (codes "bound")) (read_masks k.fragments)))))
+read_head = seen head_of (both read_version (λ second. then_ read_values (both read_counts (λ k.
+    then_ (count (codes "cost")) (then_ (count (codes "bound")) (then_ (read_masks k.fragments)
+    (read_more second)))))))
 
 -- as many lines as read as items, with a state
 abbrev pub block : {S X : Type 0} → (S → List ℕ → Option X) → (X → S) → S → Reader (List X)

@@ -1,10 +1,10 @@
 -- The text of a report as the list of its lines.
-use Rattle.std.specs.Prelude.{ℕ, ℤ, pos, Bool, List, [], ◌∷◌, ◌++◌, map, codes, if◌then◌else◌}
+use Rattle.std.specs.Prelude.{ℕ, ℤ, pos, Bool, List, [], ◌∷◌, ◌++◌, map, codes, Option, None, Some, is_some, if◌then◌else◌}
 use Rattle.std.specs.Fmt.{signed_decimal}
 use Rattle.dpl_cell.specs.Places.{Corners}
 use Rattle.dpl_sign.specs.declared.walks.Cycle.{Cycle}
 use Rattle.dpl_boxes.specs.Masks.{box_line}
-use Rattle.dpl_form.specs.Lines.{text_of}
+use Rattle.dpl_form.specs.Lines.{text_of, optional_line}
 use Rattle.dpl_report.specs.declared.marks.Broken.{Broken}
 use Rattle.dpl_report.specs.declared.params.Params.{Params}
 use Rattle.dpl_report.specs.declared.params.Counts.{Counts}
@@ -22,11 +22,16 @@ bracketed word zs = codes "(" ++ word ++ numbered zs (codes ");\n")
 abbrev pub count_line : List ℕ → ℕ → List ℕ
 count_line word n = bracketed word (pos n ∷ [])
 
-abbrev pub version_line : List ℕ
-version_line = codes "(dpl 1);\n"
+-- the second version has a corner weight
+abbrev pub version_line : Bool → List ℕ
+version_line second = if second then codes "(dpl 2);\n" else codes "(dpl 1);\n"
 
 abbrev pub layer_line : List ℕ → List ℕ
 layer_line name = codes "(layer " ++ name ++ codes ");\n"
+
+-- the layer where nothing is cut
+abbrev pub keep_line : List ℕ → List ℕ
+keep_line name = codes "(keep " ++ name ++ codes ");\n"
 
 -- A or B
 abbrev pub letter : Bool → ℕ
@@ -68,7 +73,8 @@ abbrev pub last_lines : List (List ℕ)
 last_lines = codes "DF;\n" ∷ codes "C 1;\n" ∷ codes "E\n" ∷ []
 
 abbrev pub params_lines : Params → List (List ℕ)
-params_lines p = version_line ∷ layer_line p.layer ∷ count_line (codes "space") p.space
+params_lines p = version_line (is_some p.corner) ∷ layer_line p.layer
+    ∷ count_line (codes "space") p.space
     ∷ count_line (codes "overlap") p.overlap ∷ count_line (codes "stitch") p.stitch
     ∷ count_line (codes "conflict") p.conflict ∷ []
 
@@ -87,9 +93,15 @@ abbrev pub costs_lines : ℕ → ℕ → List Bool → List (List ℕ)
 costs_lines cost bound colours =
     count_line (codes "cost") cost ∷ count_line (codes "bound") bound ∷ masks_line colours ∷ []
 
+-- behind the masks the corner weight, and behind it the keep layer
+abbrev pub more_lines : Option ℕ → Option (List ℕ) → List (List ℕ)
+more_lines None keep = []
+more_lines (Some corner) keep =
+    count_line (codes "corner") corner ∷ optional_line keep_line keep
+
 abbrev pub head_lines : PlainHead → List (List ℕ)
 head_lines h = params_lines h.params ++ (counts_lines h.counts
-    ++ costs_lines h.cost h.bound h.colours)
+    ++ (costs_lines h.cost h.bound h.colours ++ more_lines h.params.corner h.params.keep))
 
 abbrev pub lists_lines : PlainLists → List (List ℕ)
 lists_lines l = map cut_line l.cuts ++ (map clash_line l.clashes

@@ -1,5 +1,5 @@
 -- Which reports have a text.
-use Rattle.std.specs.Prelude.{◌+◌, ◌≡◌, ◌≤◌, ◌<◌, ℕ, true, List, length}
+use Rattle.std.specs.Prelude.{◌+◌, ◌≡◌, ◌≤◌, ◌<◌, ℕ, true, List, length, Option, None, Some, IfSome}
 use Rattle.std.specs.List.{AllByRecursion}
 use Rattle.dpl_cell.specs.Ranges.{IsRectangle}
 use Rattle.dpl_lex.specs.Name.{is_name}
@@ -21,12 +21,23 @@ IsCount n = n ≤ 1000000000000
 abbrev pub IsLayer : List ℕ → Type 0
 IsLayer name = (is_name name ≡ true) × (length name ≤ 31)
 
+-- a name of a layer, and another where there is one
+pub record AreNames (layer : List ℕ) (keep : Option (List ℕ)) : Type 0 where
+  pub layer_is : is_name layer ≡ true
+  pub keep_is : IfSome keep (λ name. is_name name ≡ true)
+
+-- a keep layer stands behind a corner weight alone
+abbrev pub AreMore : Option ℕ → Option (List ℕ) → Type 0
+AreMore None keep = keep ≡ None
+AreMore (Some corner) keep = IsCount corner × IfSome keep IsLayer
+
 pub record IsParams (p : Params) : Type 0 where
   pub layer : IsLayer p.layer
   pub space : IsCount p.space
   pub overlap : IsCount p.overlap
   pub stitch : IsCount p.stitch
   pub conflict : IsCount p.conflict
+  pub more : AreMore p.corner p.keep
 
 pub record IsCounts (k : Counts) : Type 0 where
   pub pieces : IsCount k.pieces

@@ -11,7 +11,7 @@ ghost use Rattle.dpl_report.specs.MaskCells.{AreCutFrom, AreMasksOf};
 ghost use Rattle.dpl_report.specs.Facts.{AreNineFacts};
 ghost use Rattle.dpl_cuts.specs.Fragments.{AreFragments};
 
-use crate::options::Options;
+use crate::options::{Options, name_bytes};
 use crate::reports::Report;
 use dpl_cuts::types::Fragments;
 use dpl_sign::Net;
@@ -26,9 +26,12 @@ pub fn true_reports_are_good(options: &Options, fragments: &Fragments, net: &Net
 pub fn true_reports_are_valid(options: &Options, fragments: &Fragments, net: &Net, report: &Report)
     requires truth { SaysTrue options.now fragments.now net.now (plain_report report.now) }
     requires few { length net.now.graph.edges ≤ MOST_EDGES }
+    // A keep layer stands behind a corner weight alone.
+    requires keep { report.now.params.corner ≡ None → report.now.params.keep ≡ None }
     ensures { IsReport (plain_report report.now) }
 {
-    let _name = options.layer.bytes();
+    let _layer = options.layer.bytes();
+    let _keep = name_bytes(&options.keep);
     let _count = u64::from(net.piece_count);
 }
 
@@ -38,7 +41,8 @@ pub fn good_reports_are_true(options: &Options, fragments: &Fragments, net: &Net
     requires good { refusal_of options.now fragments.now net.now (plain_report report.now) ≡ None }
     ensures { SaysTrue options.now fragments.now net.now (plain_report report.now) }
 {
-    let _name = options.layer.bytes();
+    let _layer = options.layer.bytes();
+    let _keep = name_bytes(&options.keep);
 }
 
 /// What the masks of a good report are of the cells of its layer.
@@ -50,7 +54,8 @@ pub fn masks_are_of_the_layer(options: &Options, fragments: &Fragments, net: &Ne
         AreCutFrom options.now cells tiles fragments.now →
         AreMasksOf options.now cells tiles fragments.now net.now (plain_report report.now) }
 {
-    let _name = options.layer.bytes();
+    let _layer = options.layer.bytes();
+    let _keep = name_bytes(&options.keep);
 }
 
 /// A text is good exactly where the nine facts hold of the report that it is the text of.
@@ -62,7 +67,8 @@ pub fn nine_facts_make_good(options: &Options, fragments: &Fragments, net: &Net)
         IsGood options.now fragments.now net.now text
         ↔ ((r : PlainReport) × AreNineFacts options.now fragments.now net.now text r) }
 {
-    let _name = options.layer.bytes();
+    let _layer = options.layer.bytes();
+    let _keep = name_bytes(&options.keep);
     let _net = net;
     let _fragments = fragments;
 }

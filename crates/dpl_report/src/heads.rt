@@ -2,14 +2,32 @@
 ghost use Rattle.std.specs.Prelude.{◌≡◌, map, IfOk};
 ghost use Rattle.dpl_form.specs.Lines.{lines_in};
 ghost use Rattle.dpl_report.specs.Gives.{Gives};
-ghost use Rattle.dpl_report.specs.Plain.{plain_head};
+ghost use Rattle.dpl_report.specs.Plain.{plain_head, params_with as plain_params};
 ghost use Rattle.dpl_report.specs.Reading as reading;
 
 use crate::params::{Counts, Params};
-use crate::parts::{count, exactly, layer, masks};
+use crate::parts::{count, keep, layer, masks, version};
 use crate::stops::Stop;
+use dpl_lex::Name;
 use dpl_list::Items;
 use std::alloc::Global;
+
+/// The values that each report has.
+#[derive(Drop)]
+pub struct Values {
+    pub layer: Name,
+    pub space: u64,
+    pub overlap: u64,
+    pub stitch: u64,
+    pub conflict: u64,
+}
+
+/// The values that only a report of the second version has.
+#[derive(Drop)]
+pub struct More {
+    pub corner: Option<u64>,
+    pub keep: Option<Name>,
+}
 
 /// The lines before the lists.
 #[derive(Drop)]
@@ -21,25 +39,64 @@ pub struct Head {
     pub colours: Items<bool>,
 }
 
-#[tactic(auto, unfolding(crate::specs::Reading::read_params))]
-fn params(alloc: Global, text: &[u8]) -> Result<(Params, &[u8]), Stop>
+#[tactic(auto, unfolding(crate::specs::Reading::read_values))]
+fn values_in(alloc: Global, text: &[u8]) -> Result<(Values, &[u8]), Stop>
     ensures { Gives (λ x. (x.0, lines_in x.1.now)) result
-        (reading.read_params (lines_in text.now)) }
+        (reading.read_values (lines_in text.now)) }
 {
-    let rest = exactly(b"(dpl 1);\n", text)?;
-    let (layer, rest) = layer(alloc, rest)?;
+    let (layer, rest) = layer(alloc, text)?;
     let (space, rest) = count(alloc, b"space", rest)?;
     let (overlap, rest) = count(alloc, b"overlap", rest)?;
     let (stitch, rest) = count(alloc, b"stitch", rest)?;
     let (conflict, rest) = count(alloc, b"conflict", rest)?;
-    let params = Params {
+    let values = Values {
         layer,
         space,
         overlap,
         stitch,
         conflict,
     };
-    Ok((params, rest))
+    Ok((values, rest))
+}
+
+/// The corner weight and what follows it.
+#[tactic(auto, unfolding(crate::specs::Reading::read_corner))]
+fn corner(alloc: Global, text: &[u8]) -> Result<(More, &[u8]), Stop>
+    ensures { Gives (λ x. (x.0, lines_in x.1.now)) result
+        (reading.read_corner (lines_in text.now)) }
+{
+    let (corner, rest) = count(alloc, b"corner", text)?;
+    let (keep, rest) = keep(alloc, rest)?;
+    let corner = Some(corner);
+    Ok((More { corner, keep }, rest))
+}
+
+/// What a report of this version has behind the masks.
+#[tactic(auto, unfolding(crate::specs::Reading::read_more))]
+fn more_in(alloc: Global, second: bool, text: &[u8]) -> Result<(More, &[u8]), Stop>
+    ensures { Gives (λ x. (x.0, lines_in x.1.now)) result
+        (reading.read_more second (lines_in text.now)) }
+{
+    if second {
+        corner(alloc, text)
+    } else {
+        let (corner, keep) = (None, None);
+        Ok((More { corner, keep }, text))
+    }
+}
+
+fn params_with(values: Values, more: More) -> Params
+    ensures { result ≡ plain_params values more }
+{
+    Params {
+        layer: values.layer,
+        space: values.space,
+        overlap: values.overlap,
+        stitch: values.stitch,
+        conflict: values.conflict,
+        corner: more.corner,
+        keep: more.keep,
+    }
 }
 
 #[tactic(auto, unfolding(crate::specs::Reading::read_counts))]
@@ -69,12 +126,15 @@ pub fn head_of(alloc: Global, text: &[u8]) -> Result<(Head, &[u8]), Stop>
     ensures { Gives (λ x. (plain_head x.0, lines_in x.1.now)) result
         (reading.read_head (lines_in text.now)) }
 {
-    let (params, rest) = params(alloc, text)?;
+    let (second, rest) = version(text)?;
+    let (values, rest) = values_in(alloc, rest)?;
     let (counts, rest) = counts(alloc, rest)?;
     let (cost, rest) = count(alloc, b"cost", rest)?;
     let (bound, rest) = count(alloc, b"bound", rest)?;
     let (colours, rest) = masks(alloc, counts.fragments, rest)?;
+    let (more, rest) = more_in(alloc, second, rest)?;
     let colours = Items::new(colours);
+    let params = params_with(values, more);
     let head = Head {
         params,
         counts,

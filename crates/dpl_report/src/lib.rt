@@ -43,7 +43,7 @@ pub use goodness::{
 pub use laws::{condition_rules, report_rules};
 pub use marks::{Broken, Zone};
 pub use masking::{colour_at, masks};
-pub use options::Options;
+pub use options::{Options, name_bytes};
 pub use params::{Counts, Params};
 pub use printing::print;
 pub use reading::{ReportError, parse};

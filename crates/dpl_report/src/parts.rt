@@ -5,7 +5,7 @@ ghost use Rattle.dpl_report.specs.Gives.{Gives};
 ghost use Rattle.dpl_report.specs.Reading as reading;
 
 use crate::items::count_in;
-use crate::names::{colours_in, layer_in};
+use crate::names::{colours_in, keep_in, layer_in, version_in};
 use crate::stops::{Stop, stop_at};
 use dpl_form::first_line;
 use dpl_lex::Name;
@@ -61,6 +61,35 @@ pub fn masks(alloc: Global, fragments: u64, text: &[u8]) -> Result<(Vec<bool>, &
         Some((line, rest)) => match colours_in(alloc, fragments, line)? {
             None => Err(stop_at(text)),
             Some(colours) => Ok((colours, rest)),
+        },
+    }
+}
+
+/// Whether the report is of the second version.
+#[tactic(auto, unfolding(crate::specs::Reading::read_version))]
+pub fn version(text: &[u8]) -> Result<(bool, &[u8]), Stop>
+    ensures { Gives (λ x. (x.0, lines_in x.1.now)) result
+        (reading.read_version (lines_in text.now)) }
+{
+    match first_line(text) {
+        None => Err(stop_at(text)),
+        Some((line, rest)) => match version_in(line) {
+            None => Err(stop_at(text)),
+            Some(second) => Ok((second, rest)),
+        },
+    }
+}
+
+/// The keep layer, where there is one.
+#[tactic(auto, unfolding(crate::specs::Reading::read_keep))]
+pub fn keep(alloc: Global, text: &[u8]) -> Result<(Option<Name>, &[u8]), Stop>
+    ensures { Gives (λ x. (x.0, lines_in x.1.now)) result (reading.read_keep (lines_in text.now)) }
+{
+    match first_line(text) {
+        None => Ok((None, text)),
+        Some((line, rest)) => match keep_in(alloc, line)? {
+            None => Ok((None, text)),
+            Some(name) => Ok((Some(name), rest)),
         },
     }
 }

@@ -3,7 +3,7 @@ ghost use Rattle.std.specs.Prelude.{◌≡◌, [], ◌∷◌, ◌++◌, map, OnO
 ghost use Rattle.dpl_cell.specs.Places.{corners_of};
 ghost use Rattle.dpl_boxes.specs.Masks.{box_line};
 ghost use Rattle.dpl_boxes.specs.Drawings.{DrawsMasks};
-ghost use Rattle.dpl_form.specs.Lines.{text_of};
+ghost use Rattle.dpl_form.specs.Lines.{text_of, optional_line};
 ghost use Rattle.dpl_report.specs.Plain.{plain_zone, plain_report};
 ghost use Rattle.dpl_report.specs.ReportLines.{cut_line, clash_line, aside_line, cycle_line, params_lines, counts_lines, report_text};
 ghost use Rattle.dpl_report.specs.ReportLines as lines;
@@ -13,17 +13,19 @@ use crate::marks::{Broken, Zone};
 use crate::params::{Counts, Params};
 use crate::reports::Report;
 use crate::writing::{
-    push_aside, push_clash, push_count, push_cut, push_cycle, push_layer, push_mask, push_masks,
+    push_aside, push_clash, push_count, push_cut, push_cycle, push_keep, push_layer, push_mask,
+    push_masks, version_line,
 };
 use dpl_boxes::push_box;
 use dpl_cell::Rect;
+use dpl_lex::Name;
 use dpl_sign::Cycle;
 use std::alloc::{AllocError as NoMemory, Global};
 
 fn push_params(out: &mut Vec<u8>, p: &Params) -> Result<(), NoMemory>
     ensures { OnOk result (out.new.items ≡ out.old.items ++ text_of (params_lines p.now)) }
 {
-    out.extend_from_slice(b"(dpl 1);\n")?;
+    out.extend_from_slice(version_line(p.corner.is_some()))?;
     push_layer(out, p.layer.bytes())?;
     push_count(out, b"space", p.space)?;
     push_count(out, b"overlap", p.overlap)?;
@@ -114,6 +116,29 @@ fn push_costs(out: &mut Vec<u8>, r: &Report) -> Result<(), NoMemory>
     Ok(())
 }
 
+fn push_kept(out: &mut Vec<u8>, keep: &Option<Name>) -> Result<(), NoMemory>
+    ensures { OnOk result (out.new.items ≡ out.old.items
+        ++ text_of (optional_line lines.keep_line keep.now)) }
+{
+    match keep {
+        None => Ok(()),
+        Some(name) => push_keep(out, name.bytes()),
+    }
+}
+
+fn push_more(out: &mut Vec<u8>, p: &Params) -> Result<(), NoMemory>
+    ensures { OnOk result (out.new.items ≡ out.old.items
+        ++ text_of (lines.more_lines p.now.corner p.now.keep)) }
+{
+    match p.corner {
+        None => Ok(()),
+        Some(corner) => {
+            push_count(out, b"corner", corner)?;
+            push_kept(out, &p.keep)
+        }
+    }
+}
+
 fn push_head(out: &mut Vec<u8>, r: &Report) -> Result<(), NoMemory>
     ensures { OnOk result (out.new.items ≡ out.old.items
         ++ text_of (lines.head_lines (plain_report r.now).head)) }
@@ -121,6 +146,7 @@ fn push_head(out: &mut Vec<u8>, r: &Report) -> Result<(), NoMemory>
     push_params(out, &r.params)?;
     push_counts(out, &r.counts)?;
     push_costs(out, r)?;
+    push_more(out, &r.params)?;
     Ok(())
 }
 

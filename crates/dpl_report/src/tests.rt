@@ -10,6 +10,14 @@ const NOTHING: &[u8] =
 const TRIANGLE: &[u8] =
     b"(dpl 1);\n(layer M);\n(space 100);\n(overlap 20);\n(stitch 1);\n(conflict 10);\n(pieces 3);\n(fragments 3);\n(bonds 0);\n(stitches 0);\n(clashes 3);\n(excess 0);\n(cost 10);\n(bound 20);\n(masks AAB);\n(clash 0 0 1);\n(cycle 20 0 0 2 1);\nDS 1 1 4;\nL MA;\nB 400 400 200 200;\nB 400 400 800 200;\nL MB;\nB 400 400 500 800;\nDF;\nC 1;\nE\n";
 
+/// Nothing in the second version.
+const SECOND: &[u8] =
+    b"(dpl 2);\n(layer M);\n(space 100);\n(overlap 20);\n(stitch 1);\n(conflict 10);\n(pieces 0);\n(fragments 0);\n(bonds 0);\n(stitches 0);\n(clashes 0);\n(excess 0);\n(cost 0);\n(bound 0);\n(masks );\n(corner 10);\nDS 1 1 4;\nL MA;\nL MB;\nDF;\nC 1;\nE\n";
+
+/// The same with a keep layer.
+const KEPT: &[u8] =
+    b"(dpl 2);\n(layer M);\n(space 100);\n(overlap 20);\n(stitch 1);\n(conflict 10);\n(pieces 0);\n(fragments 0);\n(bonds 0);\n(stitches 0);\n(clashes 0);\n(excess 0);\n(cost 0);\n(bound 0);\n(masks );\n(corner 3);\n(keep K);\nDS 1 1 4;\nL MA;\nL MB;\nDF;\nC 1;\nE\n";
+
 /// What is read is written again so.
 fn is_written_again(alloc: Global, text: &[u8]) -> Result<bool, ReportError> {
     if text.len() > 1000 {
@@ -34,10 +42,15 @@ fn wrong_line(alloc: Global, text: &[u8]) -> Result<u64, NoMemory> {
     }
 }
 
-/// The triangle's report with other text in place of one line.
-fn with_line(alloc: Global, number: usize, new: &[u8]) -> Result<Vec<u8>, NoMemory> {
+/// A report with other text in place of one line.
+fn with_line(
+    alloc: Global,
+    report: &[u8],
+    number: usize,
+    new: &[u8],
+) -> Result<Vec<u8>, NoMemory> {
     let mut out = Vec::new(alloc);
-    let mut rest = TRIANGLE;
+    let mut rest = report;
     let mut at: usize = 1;
     'lines: while let Some((line, others)) = first_line(rest) {
         out.extend_from_slice(if at == number { new } else { line })?;
@@ -51,6 +64,8 @@ fn with_line(alloc: Global, number: usize, new: &[u8]) -> Result<Vec<u8>, NoMemo
 fn reports_are_read_and_written_again(rt: HostRuntime) -> Result<(), Fail> {
     assert!(rt; matches!(is_written_again(rt.alloc(), NOTHING), Ok(true)));
     assert!(rt; matches!(is_written_again(rt.alloc(), TRIANGLE), Ok(true)));
+    assert!(rt; matches!(is_written_again(rt.alloc(), SECOND), Ok(true)));
+    assert!(rt; matches!(is_written_again(rt.alloc(), KEPT), Ok(true)));
     Ok(())
 }
 
@@ -82,7 +97,27 @@ fn the_first_wrong_line_is_named(rt: HostRuntime) -> Result<(), Fail> {
         (26, b"E", 26),
         (26, b"E\nE\n", 27),
     ] {
-        let text = with_line(rt.alloc(), number, new)?;
+        let text = with_line(rt.alloc(), TRIANGLE, number, new)?;
+        assert_eq!(rt; wrong_line(rt.alloc(), text.as_slice())?, line);
+    }
+    Ok(())
+}
+
+#[test]
+fn the_first_wrong_line_of_a_second_version(rt: HostRuntime) -> Result<(), Fail> {
+    for (number, new, line) in [
+        (1, b"(dpl 3);\n".as_slice(), 1),
+        (1, b"(dpl 1);\n", 16),
+        (15, b"(masks );\n(keep K);\n", 16),
+        (16, b"(corner 03);\n", 16),
+        (16, b"", 16),
+        (16, b"(keep K);\n(corner 3);\n", 16),
+        (17, b"(keep k);\n", 17),
+        (17, b"(keep );\n", 17),
+        (17, b"(keep K);\n(keep K);\n", 18),
+        (18, b"(corner 3);\nDS 1 1 4;\n", 18),
+    ] {
+        let text = with_line(rt.alloc(), KEPT, number, new)?;
         assert_eq!(rt; wrong_line(rt.alloc(), text.as_slice())?, line);
     }
     Ok(())

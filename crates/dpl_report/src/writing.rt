@@ -1,7 +1,7 @@
 // The lines of a report, written.
 ghost use Rattle.std.specs.Prelude.{◌≡◌, ◌++◌, ◌∷◌, [], pos, map, codes, OnOk};
 ghost use Rattle.dpl_report.specs.Plain.{plain_zone};
-ghost use Rattle.dpl_report.specs.ReportLines.{numbered, broken_numbers, count_line, layer_line, masks_line, letter, cut_line, clash_line, aside_line, cycle_line, mask_line};
+ghost use Rattle.dpl_report.specs.ReportLines.{numbered, broken_numbers, count_line, layer_line, keep_line, version_line as the_version_line, masks_line, letter, cut_line, clash_line, aside_line, cycle_line, mask_line};
 
 use crate::marks::{Broken, Zone};
 use dpl_boxes::push_spaced;
@@ -45,6 +45,24 @@ pub fn push_layer(out: &mut Vec<u8>, name: &[u8]) -> Result<(), NoMemory>
     out.extend_from_slice(b"(layer ")?;
     out.extend_from_slice(name)?;
     out.extend_from_slice(b");\n")
+}
+
+pub fn push_keep(out: &mut Vec<u8>, name: &[u8]) -> Result<(), NoMemory>
+    ensures { OnOk result (out.new.items ≡ out.old.items ++ keep_line name.now) }
+{
+    out.extend_from_slice(b"(keep ")?;
+    out.extend_from_slice(name)?;
+    out.extend_from_slice(b");\n")
+}
+
+pub fn version_line(second: bool) -> &'static [u8]
+    ensures { result.now ≡ the_version_line second }
+{
+    if second {
+        b"(dpl 2);\n"
+    } else {
+        b"(dpl 1);\n"
+    }
 }
 
 fn letter_of(on_b: bool) -> u8

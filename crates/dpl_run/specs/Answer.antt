@@ -1,5 +1,5 @@
 -- What the program answers, in the order in which its answers are tried: words, layout, report, the work.
-use Rattle.std.specs.Prelude.{◌≡◌, ◌⊎◌, ⊤, ℕ, ℤ, ◌+◌, ◌≤◌, ◌<◌, ◌∷◌, ◌++◌, List, [], length, Option, Some, Result, Ok, Err, codes}
+use Rattle.std.specs.Prelude.{◌≡◌, ◌⊎◌, ⊤, ℕ, ℤ, ◌+◌, ◌≤◌, ◌<◌, ◌∷◌, ◌++◌, List, [], length, Option, Some, Result, Ok, Err, codes, None}
 use Rattle.std.specs.Io.KnownBytes.{Appends, Keeps}
 use Rattle.dpl_limits.specs.declared.TheConstants.{MOST_LAYOUT_BYTES, MOST_REPORT_BYTES}
 use Rattle.dpl_ext.specs.Device.{Seen, Texts, AppendsFront, Rose, RoseBy, first_text}
@@ -28,7 +28,15 @@ most_report = MOST_REPORT_BYTES
 
 -- the options of a made layout
 abbrev pub load_options : PlainOptions
-load_options = record { layer = codes "M"; space = 100; overlap = 20; stitch = 1; conflict = 10 }
+load_options = record {
+  layer = codes "M";
+  space = 100;
+  overlap = 20;
+  stitch = 1;
+  conflict = 10;
+  corner = 10;
+  keep = None;
+}
 
 -- the line that tells the numbers of a report: its edges are bonds, stitches and clashes
 abbrev pub loaded_line : PlainReport → List ℕ

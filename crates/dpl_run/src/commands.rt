@@ -201,7 +201,7 @@ fn check_bytes(alloc: Global, options: &Options, text: &[u8], report: &[u8]) -> 
     }
 }
 
-/// What is due for a made layout: layer M, spacing 100, overlap 20, a stitch weighs 1 and a conflict 10.
+/// What is due for a made layout: layer M, spacing 100, overlap 20, a stitch weighs 1 and a conflict 10, and nothing is kept.
 fn load_made(alloc: Global, start: u64, rows: u32, columns: u32) -> Due
     requires start { start ≤ 10 ^ 12 }
     requires rows { (1 ≤ rows) × (rows ≤ 200) }
@@ -233,12 +233,14 @@ fn options_of_load() -> Options
     let weights = Weights {
         stitch: 1,
         conflict: 10,
+        corner: 10,
     };
     Options {
         layer,
         space: 100,
         overlap: 20,
         weights,
+        keep: None,
     }
 }
 

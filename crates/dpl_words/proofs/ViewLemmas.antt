@@ -3,6 +3,7 @@ use Rattle.std.proofs.Common.{◌≡◌, ℕ, ◌≤◌, List, length, ap, subst
 use Rattle.std.proofs.Props.{props}
 use Rattle.dpl_links.specs.declared.types.Weights.{Weights}
 use Rattle.dpl_report.specs.declared.options.Options.{Options}
+use Rattle.dpl_report.specs.Misses.{name_or_nothing}
 use Rattle.dpl_words.specs.Commands.{PlainOptions}
 use Rattle.dpl_words.specs.Views.{plain_options}
 
@@ -17,6 +18,9 @@ record OptionsFacts (p : PlainOptions) : Type 0 where
   most_stitch : p.stitch ≤ 1000000
   some_conflict : 1 ≤ p.conflict
   most_conflict : p.conflict ≤ 1000000
+  some_corner : 1 ≤ p.corner
+  most_corner : p.corner ≤ 1000000
+  short_keep : length (name_or_nothing p.keep) ≤ 31
 
 OptionsFacts-prop : (p : PlainOptions) (f g : OptionsFacts p) → f ≡ g
 OptionsFacts-prop p = hlevel props
@@ -25,10 +29,13 @@ weights_with : (p : PlainOptions) → OptionsFacts p → Weights
 weights_with p f = record {
   stitch = p.stitch;
   conflict = p.conflict;
+  corner = p.corner;
   some_stitch = f.some_stitch;
   most_stitch = f.most_stitch;
   some_conflict = f.some_conflict;
   most_conflict = f.most_conflict;
+  some_corner = f.some_corner;
+  most_corner = f.most_corner;
 }
 
 options_with : (p : PlainOptions) → OptionsFacts p → Options
@@ -37,7 +44,9 @@ options_with p f = record {
   space = p.space;
   overlap = p.overlap;
   weights = weights_with p f;
+  keep = p.keep;
   short_layer = f.short_layer;
+  short_keep = f.short_keep;
   some_space = f.some_space;
   most_space = f.most_space;
   some_overlap = f.some_overlap;
@@ -47,6 +56,7 @@ options_with p f = record {
 options_facts : (o : Options) → OptionsFacts (plain_options o)
 options_facts o = record {
   short_layer = o.short_layer;
+  short_keep = o.short_keep;
   some_space = o.some_space;
   most_space = o.most_space;
   some_overlap = o.some_overlap;
@@ -55,6 +65,8 @@ options_facts o = record {
   most_stitch = o.weights.most_stitch;
   some_conflict = o.weights.some_conflict;
   most_conflict = o.weights.most_conflict;
+  some_corner = o.weights.some_corner;
+  most_corner = o.weights.most_corner;
 }
 
 pub same_options : (a b : Options) → plain_options a ≡ plain_options b → a ≡ b

@@ -3,4 +3,4 @@ use Rattle.dpl_report.specs.Misses as misses
 use Rattle.dpl_check.proofs.compare.name_miss.Given as goal
 
 abbrev pub invariant-loop-x : goal.invariant-loop-x
-invariant-loop-x l = misses.name_miss 2 (drop l.x-index l.found) l.left ≡ misses.name_miss 2 l.found l.wanted
+invariant-loop-x l = misses.name_miss l.place (drop l.x-index l.found) l.left ≡ misses.name_miss l.place l.found l.wanted

@@ -7,6 +7,7 @@ use Rattle.dpl_layer.specs.declared.error.LayerError.TheVariants.{NoMemory}
 use Rattle.dpl_layer.proofs.LayerLemmas.{layer_is, layer_few_edges}
 use Rattle.dpl_core.specs.Refusals.{RefusesSplit}
 use Rattle.dpl_core.proofs.RefusalLemmas.{odd_refuses, none_refuses, one_comes, only_comes}
+use Rattle.dpl_core.proofs.ReportLemmas.{corner_stands}
 use Rattle.dpl_core.proofs.MaskLemmas.{net_of_layer, masks_of_layer}
 use Rattle.dpl_core.proofs.making.make_commands.Goals as goal
 
@@ -32,6 +33,9 @@ returns-in_err-solution-clause-exact c =
 
 pub true_reports_are_valid-requires-clause-few : goal.true_reports_are_valid-requires-clause-few
 true_reports_are_valid-requires-clause-few c = layer_few_edges c.args.options.now (reading c.args.options.now.layer c.args.text.now) c.in_ok-layer.layer.fragments c.in_ok-layer.layer.net c.in_ok-layer.ensures.layer
+
+pub true_reports_are_valid-requires-clause-keep : goal.true_reports_are_valid-requires-clause-keep
+true_reports_are_valid-requires-clause-keep c = λ e. corner_stands _ _ c.in_ok-report.ensures.tight.corner e
 
 pub masks_are_of_the_layer-requires-clause-net : goal.masks_are_of_the_layer-requires-clause-net
 masks_are_of_the_layer-requires-clause-net c = net_of_layer c.args.options.now (reading c.args.options.now.layer c.args.text.now) c.in_ok-layer.layer.fragments c.in_ok-layer.layer.net c.in_ok-layer.ensures.layer
