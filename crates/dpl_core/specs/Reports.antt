@@ -17,6 +17,7 @@ use Rattle.dpl_report.specs.Verdicts.{refusal_of}
 use Rattle.dpl_report.specs.MaskCells.{AreMasksOf}
 use Rattle.dpl_solve.specs.Solved.{kept_cost, aside_cost, KeepToKept}
 use Rattle.dpl_layer.specs.Layers.{IsLayerOf}
+use Rattle.dpl_balance.specs.Balance.{AreBalanced}
 
 -- What the report's bound and cost say of all colourings of the net: each costs at least half
 -- the bound, none breaks kept edges of a smaller weight, and where the drawing is plane, and so
@@ -67,4 +68,16 @@ pub record IsSplit (o : Options) (text output : List ℕ) : Type 0 where
   pub report : PlainReport
   pub of_layer : IsReportOf o text report
   pub masks : OnCells (reading o.layer text) (HasMasks o report)
+  pub is : output ≡ report_text report
+
+-- The output is the text of such a report, with its masks, and the two masks differ in area by no
+-- more than they differ within one component.
+pub record IsBalancedSplit (o : Options) (text output : List ℕ) : Type 0 where
+  pub report : PlainReport
+  pub of_layer : IsReportOf o text report
+  pub masks : OnCells (reading o.layer text) (HasMasks o report)
+  pub fragments : Fragments
+  pub net : Net
+  pub layer : OnCells (reading o.layer text) (λ cells. IsLayerOf o cells fragments net)
+  pub even : AreBalanced fragments net report.head.colours
   pub is : output ≡ report_text report

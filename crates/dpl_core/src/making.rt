@@ -4,13 +4,15 @@ ghost use Rattle.dpl_limits.specs.declared.TheConstants.{MOST_EDGES, MOST_LAYOUT
 ghost use Rattle.dpl_lex.specs.Cutting.{commands_of};
 ghost use Rattle.dpl_cif.specs.Reading.{reading};
 ghost use Rattle.dpl_cif.specs.OnCells.{OnCells};
+ghost use Rattle.dpl_layer.specs.Layers.{IsLayer};
 ghost use Rattle.dpl_report.specs.Plain.{plain_report};
+ghost use Rattle.dpl_report.specs.Truths.{SaysTrue};
 ghost use Rattle.dpl_solve.specs.Solved.{IsSolution, IsRefused};
-ghost use Rattle.dpl_core.specs.Reports.{HasMasks, IsReportOf, IsSplit};
+ghost use Rattle.dpl_core.specs.Reports.{HasMasks, IsLeast, IsReportOf, IsSplit, IsTight};
 ghost use Rattle.dpl_core.specs.Refusals.{IsOddNet, RefusesSplit};
 
 use crate::reporting::report_of;
-use dpl_layer::{LayerError, layer_of_commands};
+use dpl_layer::{Layer, LayerError, layer_of_commands};
 use dpl_lex::commands;
 use dpl_lex::types::Commands;
 use dpl_report::{
@@ -89,13 +91,60 @@ fn make_commands(
     ensures exact { (e : LayerError) → RefusesSplit options.now text.now e →
         (result ≡ Err e) ⊎ (result ≡ Err LayerError.NoMemory) }
 {
+    let Made { layer, report } = solved(alloc, text, commands, options)?;
+    report_is_of_the_layer(options, text, &layer, &report);
+    Ok(report)
+}
+
+/// A layer and the report of its optimum.
+#[derive(Drop)]
+pub struct Made {
+    pub layer: Layer,
+    pub report: Report,
+}
+
+/// The layer of a text that is cut into these commands, and the report of its optimum.
+pub fn solved(
+    alloc: Global,
+    text: &[u8],
+    commands: &Commands,
+    options: &Options,
+) -> Result<Made, LayerError>
+    requires short { length text.now ≤ MOST_LAYOUT_BYTES }
+    requires commands { commands.now ≡ commands_of text.now }
+    ensures layer { IfOk result (λ m. OnCells (reading options.now.layer text.now) (λ cells.
+        IsLayer options.now cells m.layer.fragments m.layer.net)) }
+    ensures truth { IfOk result (λ m.
+        SaysTrue options.now m.layer.fragments m.layer.net (plain_report m.report)) }
+    ensures tight { IfOk result (λ m. IsTight m.layer.net (plain_report m.report)) }
+    ensures least { IfOk result (λ m. IsLeast m.layer.net (plain_report m.report)) }
+    ensures refused { (e : LayerError) → result ≡ Err e →
+        (e ≡ LayerError.NoMemory) ⊎ RefusesSplit options.now text.now e }
+    ensures exact { (e : LayerError) → RefusesSplit options.now text.now e →
+        (result ≡ Err e) ⊎ (result ≡ Err LayerError.NoMemory) }
+{
     let layer = layer_of_commands(alloc, text, commands, options)?;
     let solution = solve_net(alloc, &layer.net)?;
     let report = report_of(alloc, options, &layer.fragments, &layer.net, solution)?;
-    true_reports_are_good(options, &layer.fragments, &layer.net, &report);
-    true_reports_are_valid(options, &layer.fragments, &layer.net, &report);
-    masks_are_of_the_layer(options, &layer.fragments, &layer.net, &report);
-    Ok(report)
+    Ok(Made { layer, report })
+}
+
+/// A report that says the truth of the layer of a text, and is tight and the least, is the report of that layer. It
+/// is a fact about the definitions; nothing runs.
+pub fn report_is_of_the_layer(options: &Options, text: &[u8], layer: &Layer, report: &Report)
+    requires layer { OnCells (reading options.now.layer text.now) (λ cells.
+        IsLayer options.now cells layer.now.fragments layer.now.net) }
+    requires truth { SaysTrue options.now layer.now.fragments layer.now.net
+        (plain_report report.now) }
+    requires tight { IsTight layer.now.net (plain_report report.now) }
+    requires least { IsLeast layer.now.net (plain_report report.now) }
+    ensures made { IsReportOf options.now text.now (plain_report report.now) }
+    ensures masks { OnCells (reading options.now.layer text.now)
+        (HasMasks options.now (plain_report report.now)) }
+{
+    true_reports_are_good(options, &layer.fragments, &layer.net, report);
+    true_reports_are_valid(options, &layer.fragments, &layer.net, report);
+    masks_are_of_the_layer(options, &layer.fragments, &layer.net, report);
 }
 
 /// The optimum of a net.

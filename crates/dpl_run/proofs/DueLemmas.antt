@@ -14,12 +14,12 @@ use Rattle.dpl_core.specs.Reports.{IsReportOf}
 use Rattle.dpl_core.specs.Refusals.{RefusesSplit}
 use Rattle.dpl_check.specs.declared.verdicts.Verdict.TheVariants.{Yes, No}
 use Rattle.dpl_check.specs.Checked.{IsVerdictOf}
-use Rattle.dpl_words.specs.Commands.{PlainCommand, split, check, load}
+use Rattle.dpl_words.specs.Commands.{PlainCommand, split, check, load, balance}
 use Rattle.dpl_words.specs.Views.{plain_options}
 use Rattle.dpl_run.specs.declared.status.Status.{Status}
 use Rattle.dpl_run.specs.declared.status.Status.TheVariants.{Done, Rejected, Usage, Layout, Limit, ReadFault, WriteFault, NoMemory}
 use Rattle.dpl_run.specs.Answer.{IsDueOf, IsFree, load_options, loaded_line}
-use Rattle.dpl_run.specs.Answer.IsDueOf.{split_long, split_refused, check_long, report_long, check_refused, rejected, load_refused, load_done}
+use Rattle.dpl_run.specs.Answer.IsDueOf.{split_long, split_refused, check_long, report_long, check_refused, rejected, load_refused, load_done, balance_refused}
 use Rattle.dpl_run.specs.Errors.{status_of}
 use Rattle.dpl_run.specs.Telling.{IsBare, IsDueOrFree, StopsReading, StopsReport}
 use Rattle.dpl_run.proofs.SoundLemmas.{never_memory}
@@ -49,6 +49,10 @@ bare_due Due P e s x f h is none = subst (λ z. IsDueOrFree Due z x) (sym is) (s
 pub split_bare : (o : Options) (text report : List ℕ) (e : LayerError) (s : Status) (x : List ℕ) → length text ≤ 16777216 → (e ≡ refusal.NoMemory) ⊎ RefusesSplit o text e
     → s ≡ status_of e → x ≡ [] → IsDueOrFree (IsDueOf (Ok (split (plain_options o))) text report) s x
 split_bare o text report e s x short h is none = bare_due (IsDueOf (Ok (split (plain_options o))) text report) (RefusesSplit o text) e s x (λ f r. split_refused o refl short f r) h is none
+
+pub balance_bare : (o : Options) (text report : List ℕ) (e : LayerError) (s : Status) (x : List ℕ) → length text ≤ 16777216 → (e ≡ refusal.NoMemory) ⊎ RefusesSplit o text e
+    → s ≡ status_of e → x ≡ [] → IsDueOrFree (IsDueOf (Ok (balance (plain_options o))) text report) s x
+balance_bare o text report e s x short h is none = bare_due (IsDueOf (Ok (balance (plain_options o))) text report) (RefusesSplit o text) e s x (λ f r. balance_refused o refl short f r) h is none
 
 pub check_bare : (o : Options) (name text report : List ℕ) (e : LayerError) (s : Status) (x : List ℕ) → length text ≤ 16777216 → length report ≤ 268435456 → (e ≡ refusal.NoMemory) ⊎ RefusesLayer o text e
     → s ≡ status_of e → x ≡ [] → IsDueOrFree (IsDueOf (Ok (check (plain_options o) name)) text report) s x

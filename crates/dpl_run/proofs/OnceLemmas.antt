@@ -6,7 +6,7 @@ use Rattle.dpl_report.specs.declared.options.Options.{Options}
 use Rattle.dpl_report.specs.Plain.{PlainReport}
 use Rattle.dpl_layer.specs.declared.error.LayerError.{LayerError}
 use Rattle.dpl_layer.specs.Refusals.{RefusesLayer}
-use Rattle.dpl_core.specs.Reports.{IsReportOf, IsSplit}
+use Rattle.dpl_core.specs.Reports.{IsReportOf}
 use Rattle.dpl_core.specs.Refusals.{RefusesSplit}
 use Rattle.dpl_core.proofs.RefusalLemmas.{one_split_refusal as one_refusal}
 use Rattle.dpl_check.specs.declared.verdicts.Verdict.{Verdict}
@@ -14,21 +14,22 @@ use Rattle.dpl_check.specs.declared.verdicts.Verdict.TheVariants.{Yes, No}
 use Rattle.dpl_check.specs.Checked.{IsVerdictOf}
 use Rattle.dpl_layer.proofs.RefusalLemmas.{one_text_refusal}
 use Rattle.dpl_check.proofs.OnceLemmas.{verdict_not_refused, one_verdict}
-use Rattle.dpl_words.specs.Commands.{PlainOptions, PlainCommand, split, check, load}
+use Rattle.dpl_words.specs.Commands.{PlainOptions, PlainCommand, split, check, load, balance}
 use Rattle.dpl_words.specs.Views.{plain_options}
 use Rattle.dpl_words.proofs.ViewLemmas.{same_options}
 use Rattle.dpl_run.specs.declared.status.Status.{Status}
 use Rattle.dpl_run.specs.declared.status.Status.TheVariants.{Done, Rejected, Usage, Limit}
 use Rattle.dpl_run.specs.Answer.{IsDueOf, IsFree, load_options, most_bytes, most_report}
-use Rattle.dpl_run.specs.Answer.IsDueOf.{misused, split_long, split_refused, split_done, check_long, report_long, check_refused, rejected, accepted, load_refused, load_done}
+use Rattle.dpl_run.specs.Answer.IsDueOf.{misused, split_long, split_refused, split_done, check_long, report_long, check_refused, rejected, accepted, load_refused, load_done, balance_long, balance_refused, balance_done}
 use Rattle.dpl_run.specs.Errors.{status_of}
 
 -- ---- what is due for each command
 
+-- of a split, and of a balanced one
 data SplitDue (plain : PlainOptions) (text : List ℕ) : Status → Type 0 where
   long : most_bytes < length text → SplitDue plain text (Limit 1 16777217)
   refused : (o : Options) → plain_options o ≡ plain → length text ≤ most_bytes → (e : LayerError) → RefusesSplit o text e → SplitDue plain text (status_of e)
-  done : (o : Options) → plain_options o ≡ plain → length text ≤ most_bytes → (output : List ℕ) → IsSplit o text output → IsFree o text → SplitDue plain text Done
+  done : (o : Options) → plain_options o ≡ plain → length text ≤ most_bytes → IsFree o text → SplitDue plain text Done
 
 data CheckDue (plain : PlainOptions) (text report : List ℕ) : Status → Type 0 where
   too_long : most_bytes < length text → CheckDue plain text report (Limit 1 16777217)
@@ -54,12 +55,15 @@ wrong_due kind text report _ _ (rejected o name e s t reason place found wanted 
 wrong_due kind text report _ _ (accepted o name e s t cost bound v) = absurd cc
 wrong_due kind text report _ _ (load_refused o start rows columns e same error r) = absurd cc
 wrong_due kind text report _ _ (load_done o start rows columns e same r fine free) = absurd cc
+wrong_due kind text report _ _ (balance_long p e l) = absurd cc
+wrong_due kind text report _ _ (balance_refused o e s error r) = absurd cc
+wrong_due kind text report _ _ (balance_done o e s output p free) = absurd cc
 
 split_due : (plain : PlainOptions) (text report : List ℕ) (a : Status) (x : List ℕ) → IsDueOf (Ok (split plain)) text report a x → SplitDue plain text a
 split_due plain text report _ _ (misused k e) = absurd cc
 split_due plain text report _ _ (split_long p e l) = long l
 split_due plain text report _ _ (split_refused o e s error r) = refused o (cc) s error r
-split_due plain text report _ _ (split_done o e s output p free) = done o (cc) s output p free
+split_due plain text report _ _ (split_done o e s output p free) = done o (cc) s free
 split_due plain text report _ _ (check_long p name e l) = absurd cc
 split_due plain text report _ _ (report_long p name e s l) = absurd cc
 split_due plain text report _ _ (check_refused o name e s t error r) = absurd cc
@@ -67,6 +71,25 @@ split_due plain text report _ _ (rejected o name e s t reason place found wanted
 split_due plain text report _ _ (accepted o name e s t cost bound v) = absurd cc
 split_due plain text report _ _ (load_refused o start rows columns e same error r) = absurd cc
 split_due plain text report _ _ (load_done o start rows columns e same r fine free) = absurd cc
+split_due plain text report _ _ (balance_long p e l) = absurd cc
+split_due plain text report _ _ (balance_refused o e s error r) = absurd cc
+split_due plain text report _ _ (balance_done o e s output p free) = absurd cc
+
+balance_due : (plain : PlainOptions) (text report : List ℕ) (a : Status) (x : List ℕ) → IsDueOf (Ok (balance plain)) text report a x → SplitDue plain text a
+balance_due plain text report _ _ (misused k e) = absurd cc
+balance_due plain text report _ _ (split_long p e l) = absurd cc
+balance_due plain text report _ _ (split_refused o e s error r) = absurd cc
+balance_due plain text report _ _ (split_done o e s output p free) = absurd cc
+balance_due plain text report _ _ (check_long p name e l) = absurd cc
+balance_due plain text report _ _ (report_long p name e s l) = absurd cc
+balance_due plain text report _ _ (check_refused o name e s t error r) = absurd cc
+balance_due plain text report _ _ (rejected o name e s t reason place found wanted v) = absurd cc
+balance_due plain text report _ _ (accepted o name e s t cost bound v) = absurd cc
+balance_due plain text report _ _ (load_refused o start rows columns e same error r) = absurd cc
+balance_due plain text report _ _ (load_done o start rows columns e same r fine free) = absurd cc
+balance_due plain text report _ _ (balance_long p e l) = long l
+balance_due plain text report _ _ (balance_refused o e s error r) = refused o (cc) s error r
+balance_due plain text report _ _ (balance_done o e s output p free) = done o (cc) s free
 
 check_due : (plain : PlainOptions) (name text report : List ℕ) (a : Status) (x : List ℕ) → IsDueOf (Ok (check plain name)) text report a x → CheckDue plain text report a
 check_due plain name text report _ _ (misused k e) = absurd cc
@@ -80,6 +103,9 @@ check_due plain name text report _ _ (rejected o n e s t reason place found want
 check_due plain name text report _ _ (accepted o n e s t cost bound v) = good o (cc) s t cost bound v
 check_due plain name text report _ _ (load_refused o start rows columns e same error r) = absurd cc
 check_due plain name text report _ _ (load_done o start rows columns e same r fine free) = absurd cc
+check_due plain name text report _ _ (balance_long p e l) = absurd cc
+check_due plain name text report _ _ (balance_refused o e s error r) = absurd cc
+check_due plain name text report _ _ (balance_done o e s output p free) = absurd cc
 
 same_made : (s r c start rows columns : ℕ) → ◌≡◌ {A = Result PlainCommand ℕ} (Ok (load start rows columns)) (Ok (load s r c)) → layout s r c ≡ layout start rows columns
 same_made s r c start rows columns e =
@@ -98,6 +124,9 @@ load_due start rows columns text report _ _ (report_long p n e s l) = absurd cc
 load_due start rows columns text report _ _ (check_refused o n e s t error r) = absurd cc
 load_due start rows columns text report _ _ (rejected o n e s t reason place found wanted v) = absurd cc
 load_due start rows columns text report _ _ (accepted o n e s t cost bound v) = absurd cc
+load_due start rows columns text report _ _ (balance_long p e l) = absurd cc
+load_due start rows columns text report _ _ (balance_refused o e s error r) = absurd cc
+load_due start rows columns text report _ _ (balance_done o e s output p free) = absurd cc
 load_due start rows columns text report _ _ (load_refused o s r c e same error p) =
     stopped o same error (subst (λ t. RefusesSplit o t error) (same_made s r c start rows columns e) p)
 load_due start rows columns text report _ _ (load_done o s r c e same report' fine free) =
@@ -112,13 +141,13 @@ same_of o p plain e f = same_options p o (f ∙ sym e)
 one_split : (plain : PlainOptions) (text : List ℕ) (a b : Status) → SplitDue plain text a → SplitDue plain text b → a ≡ b
 one_split plain text _ _ (long l) (long m) = refl
 one_split plain text _ _ (long l) (refused o e s error r) = absurd (omega arith)
-one_split plain text _ _ (long l) (done o e s output p free) = absurd (omega arith)
+one_split plain text _ _ (long l) (done o e s free) = absurd (omega arith)
 one_split plain text _ _ (refused o e s error r) (long m) = absurd (omega arith)
 one_split plain text _ _ (refused o e s error r) (refused p f t error' q) = ap status_of (one_refusal o text error error' r (subst (λ z. RefusesSplit z text error') (same_of o p plain e f) q))
-one_split plain text _ _ (refused o e s error r) (done p f t output q free) = absurd (free error (subst (λ z. RefusesSplit z text error) (sym (same_of o p plain e f)) r))
-one_split plain text _ _ (done o e s output p free) (long m) = absurd (omega arith)
-one_split plain text _ _ (done o e s output p free) (refused q f t error r) = absurd (free error (subst (λ z. RefusesSplit z text error) (same_of o q plain e f) r))
-one_split plain text _ _ (done o e s output p free) (done q f t output' r free') = refl
+one_split plain text _ _ (refused o e s error r) (done p f t free) = absurd (free error (subst (λ z. RefusesSplit z text error) (sym (same_of o p plain e f)) r))
+one_split plain text _ _ (done o e s free) (long m) = absurd (omega arith)
+one_split plain text _ _ (done o e s free) (refused q f t error r) = absurd (free error (subst (λ z. RefusesSplit z text error) (same_of o q plain e f) r))
+one_split plain text _ _ (done o e s free) (done q f t free') = refl
 
 abbrev status_of_verdict : Verdict → Status
 status_of_verdict (Yes cost bound) = Done
@@ -169,3 +198,4 @@ one_due (Err kind) text report a b x y p q = wrong_due kind text report a x p �
 one_due (Ok (split plain)) text report a b x y p q = one_split plain text a b (split_due plain text report a x p) (split_due plain text report b y q)
 one_due (Ok (check plain name)) text report a b x y p q = one_check plain text report a b (stage plain text report a (check_due plain name text report a x p)) (stage plain text report b (check_due plain name text report b y q))
 one_due (Ok (load start rows columns)) text report a b x y p q = one_load (layout start rows columns) a b (load_due start rows columns text report a x p) (load_due start rows columns text report b y q)
+one_due (Ok (balance plain)) text report a b x y p q = one_split plain text a b (balance_due plain text report a x p) (balance_due plain text report b y q)

@@ -14,7 +14,7 @@ use Rattle.dpl_words.specs.Commands.{PlainCommand}
 use Rattle.dpl_run.specs.declared.status.Status.{Status}
 use Rattle.dpl_run.specs.declared.status.Status.TheVariants.{Done, ReadFault, WriteFault, NoMemory}
 use Rattle.dpl_run.specs.Answer.{IsDueOf}
-use Rattle.dpl_run.specs.Answer.IsDueOf.{misused, split_long, split_refused, split_done, check_long, report_long, check_refused, rejected, accepted, load_refused, load_done}
+use Rattle.dpl_run.specs.Answer.IsDueOf.{misused, split_long, split_refused, split_done, check_long, report_long, check_refused, rejected, accepted, load_refused, load_done, balance_long, balance_refused, balance_done}
 use Rattle.dpl_run.specs.Errors.{status_of}
 
 -- done, or a refusal with nothing written
@@ -59,3 +59,6 @@ fits command text report _ _ (rejected o name e s t reason place found wanted v)
 fits command text report _ _ (accepted o name e s t cost bound v) = tt
 fits command text report _ _ (load_refused o start rows columns e same error r) = split_fits o (layout start rows columns) error r
 fits command text report _ _ (load_done o start rows columns e same r fine free) = tt
+fits command text report _ _ (balance_long plain e l) = refl
+fits command text report _ _ (balance_refused o e s error r) = split_fits o text error r
+fits command text report _ _ (balance_done o e s output p free) = tt

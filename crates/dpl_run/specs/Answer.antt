@@ -8,11 +8,11 @@ use Rattle.dpl_report.specs.declared.options.Options.{Options}
 use Rattle.dpl_report.specs.Plain.{PlainReport}
 use Rattle.dpl_layer.specs.declared.error.LayerError.{LayerError}
 use Rattle.dpl_layer.specs.Refusals.{RefusesLayer}
-use Rattle.dpl_core.specs.Reports.{IsReportOf, IsSplit}
+use Rattle.dpl_core.specs.Reports.{IsReportOf, IsSplit, IsBalancedSplit}
 use Rattle.dpl_core.specs.Refusals.{RefusesSplit}
 use Rattle.dpl_check.specs.declared.verdicts.Verdict.TheVariants.{Yes, No}
 use Rattle.dpl_check.specs.Checked.{IsVerdictOf}
-use Rattle.dpl_words.specs.Commands.{PlainOptions, PlainCommand, split, check, load, command_of}
+use Rattle.dpl_words.specs.Commands.{PlainOptions, PlainCommand, split, check, load, balance, command_of}
 use Rattle.dpl_words.specs.Views.{plain_options}
 use Rattle.dpl_run.specs.declared.status.Status.{Status}
 use Rattle.dpl_run.specs.declared.status.Status.TheVariants.{Done, Rejected, Usage, Limit, ReadFault, WriteFault, NoMemory}
@@ -79,6 +79,13 @@ pub data IsDueOf (command : Result PlainCommand ℕ)
       plain_options o ≡ load_options
       → (e : LayerError) → RefusesSplit o (layout start rows columns) e →
       IsDueOf command text report (status_of e) []
+  balance_long : (plain : PlainOptions) → command ≡ Ok (balance plain) → most_bytes < length text →
+      IsDueOf command text report (Limit 1 (MOST_LAYOUT_BYTES + 1)) []
+  balance_refused : (o : Options) → command ≡ Ok (balance (plain_options o)) → length text ≤ most_bytes
+      → (e : LayerError) → RefusesSplit o text e → IsDueOf command text report (status_of e) []
+  balance_done : (o : Options) → command ≡ Ok (balance (plain_options o)) → length text ≤ most_bytes
+      → (output : List ℕ) → IsBalancedSplit o text output → IsFree o text →
+      IsDueOf command text report Done output
   load_done : (o : Options) (start rows columns : ℕ) → command ≡ Ok (load start rows columns) →
       plain_options o ≡ load_options
       → (r : PlainReport) → IsReportOf o (layout start rows columns) r →
@@ -95,6 +102,7 @@ AreTold (Ok (split plain)) left texts text report = left ≡ Some text
 AreTold (Ok (check plain name)) left texts text report =
     (left ≡ Some text) × ((ts : Texts) × (texts ≡ Some ts) × (first_text name ts ≡ Some report))
 AreTold (Ok (load start rows columns)) left texts text report = ⊤
+AreTold (Ok (balance plain)) left texts text report = left ≡ Some text
 
 -- the status is due, and its output was written
 pub record IsWritten (Due : Status → List ℕ → Type 0) (before now : Option (List ℕ))
@@ -134,7 +142,7 @@ IsQuiet before now status = Keeps before now
 abbrev pub PassesBytes : ℕ → ℕ → Seen → Seen → Type 0
 PassesBytes most count before now = (count ≡ most) × RoseBy most before.given now.given
 
--- `split` and `check` read the layout, and `check` reads the report of its name: a read that fails is one of these
+-- `split`, `balance` and `check` read the layout, and `check` reads the report of its name: a read that fails is one of these
 abbrev pub IsReadFault : Result PlainCommand ℕ → Seen → Seen → Seen → Seen → Type 0
 IsReadFault (Err kind) layout layout_now second second_now = ⊥
 IsReadFault (Ok (split plain)) layout layout_now second second_now =
@@ -142,6 +150,8 @@ IsReadFault (Ok (split plain)) layout layout_now second second_now =
 IsReadFault (Ok (check plain name)) layout layout_now second second_now =
     Rose layout.faults layout_now.faults ⊎ Rose second.faults second_now.faults
 IsReadFault (Ok (load start rows columns)) layout layout_now second second_now = ⊥
+IsReadFault (Ok (balance plain)) layout layout_now second second_now =
+    Rose layout.faults layout_now.faults
 
 -- no name is asked for but that of the report, and that once at most
 abbrev pub AsksFor : List ℕ → Seen → Seen → Type 0
@@ -157,6 +167,8 @@ IsTouched (Ok (check plain name)) layout layout_now second second_now =
     (layout_now.asked ≡ layout.asked) × AsksFor name second second_now
 IsTouched (Ok (load start rows columns)) layout layout_now second second_now =
     (layout_now ≡ layout) × (second_now ≡ second)
+IsTouched (Ok (balance plain)) layout layout_now second second_now =
+    (layout_now.asked ≡ layout.asked) × (second_now ≡ second)
 
 -- the counts of faults of `layout`, `second` and `out` are as they were
 abbrev pub AreSteady : Seen → Seen → Seen → Seen → ℕ → ℕ → Type 0

@@ -5,7 +5,7 @@ ghost use Rattle.dpl_lex.specs.Cutting.{commands_of};
 ghost use Rattle.dpl_ext.specs.Device.{Rose, Texts, first_text};
 ghost use Rattle.dpl_report.specs.Plain.{plain_report};
 ghost use Rattle.dpl_report.specs.Valid.{IsReport};
-ghost use Rattle.dpl_words.specs.Commands.{split as plain_split, check as plain_check, load as plain_load};
+ghost use Rattle.dpl_words.specs.Commands.{split as plain_split, check as plain_check, load as plain_load, balance as plain_balance};
 ghost use Rattle.dpl_words.specs.Views.{plain_command, plain_options, IsInRange};
 ghost use Rattle.dpl_run.specs.Answer.{AreTold, AsksFor, IsDueOf, IsReadFault, IsTouched, PassesBytes, load_options, loaded_line};
 ghost use Rattle.dpl_run.specs.Telling.{IsBare, IsDueOrFree, IsNoText, StopsReport};
@@ -16,7 +16,7 @@ use crate::lines::{Told, load_line, yes_line};
 use crate::status::Status;
 use crate::texts::{layout_of, text_of};
 use dpl_check::{Verdict, check};
-use dpl_core::{make, split_commands};
+use dpl_core::{balance_commands, make, split_commands};
 use dpl_ext::{OpenEnd, Shelf, Source};
 use dpl_gen::layout as made_layout;
 use dpl_layer::LayerError;
@@ -57,6 +57,7 @@ pub fn carry_out<S: Source, F: Shelf>(
 {
     match command {
         Command::Split(options) => split_text(alloc, options, layout),
+        Command::Balance(options) => balance_text(alloc, options, layout),
         Command::Check { options, report } => {
             check_text(alloc, options, report.as_str(), layout, second)
         }
@@ -100,6 +101,46 @@ fn split_bytes(alloc: Global, options: &Options, text: &[u8], commands: &Command
     ensures bare { IsBare result.status result.output.items }
 {
     match split_commands(alloc, text, commands, options) {
+        Ok(output) => Due {
+            status: Status::Done,
+            output,
+        },
+        Err(error) => bare(alloc, status_of(error)),
+    }
+}
+
+/// What is due for the layout that a source gives, where its masks are to cover about the same area.
+fn balance_text<S: Source>(alloc: Global, options: &Options, layout: &mut S) -> Due
+    ensures due { (text : List ℕ) → (S.seen layout.old).left ≡ Some text
+        → (report : List ℕ) → IsDueOrFree (IsDueOf (Ok (plain_balance (plain_options options.now)))
+        text report) result.status result.output.items }
+    ensures read { result.status ≡ Status.ReadFault →
+        Rose (S.seen layout.old).faults (S.seen layout.new).faults }
+    ensures limit { (count : ℕ) → result.status ≡ Status.Limit 1 count →
+        PassesBytes (MOST_LAYOUT_BYTES + 1) count (S.seen layout.old) (S.seen layout.new) }
+    ensures other { (count : ℕ) → result.status ≢ Status.Limit 9 count }
+    ensures asked { (S.seen layout.new).asked ≡ (S.seen layout.old).asked }
+    ensures steady { result.status ≢ Status.ReadFault → result.status ≢ Status.NoMemory →
+        (S.seen layout.new).faults ≡ (S.seen layout.old).faults }
+    ensures bare { IsBare result.status result.output.items }
+{
+    match layout_of(alloc, layout) {
+        Ok(read) => balance_bytes(alloc, options, read.text.as_slice(), &read.commands),
+        Err(status) => bare(alloc, status),
+    }
+}
+
+/// The same for the bytes of a layout with its commands.
+fn balance_bytes(alloc: Global, options: &Options, text: &[u8], commands: &Commands) -> Due
+    requires short { length text.now ≤ MOST_LAYOUT_BYTES }
+    requires commands { commands.now ≡ commands_of text.now }
+    ensures due { (report : List ℕ) →
+        IsDueOrFree (IsDueOf (Ok (plain_balance (plain_options options.now))) text.now report)
+        result.status result.output.items }
+    ensures read { IsNoText result.status }
+    ensures bare { IsBare result.status result.output.items }
+{
+    match balance_commands(alloc, text, commands, options) {
         Ok(output) => Due {
             status: Status::Done,
             output,

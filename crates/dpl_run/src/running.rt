@@ -15,7 +15,7 @@ use dpl_ext::{Shelf, Sink, Source, write_all};
 use dpl_words::{UsageError, parse};
 use std::alloc::Global;
 
-/// Does what the words ask for: `split` and `check` read the layout from `layout`, `check` opens its report in
+/// Does what the words ask for: `split`, `balance` and `check` read the layout from `layout`, `check` opens its report in
 /// `second`, and what is due is written to `out`, a line to `err` where the status is not `Done`.
 pub fn run<S: Source, F: Shelf, O: Sink, E: Sink>(
     alloc: Global,

@@ -1,15 +1,11 @@
 use Rattle.std.proofs.Common.{rules, ◌≡◌, ◌⊎◌}
 use Rattle.std.proofs.lemmas.Result.{err_from_is_err_and}
-use Rattle.dpl_cif.specs.Reading.{reading}
 use Rattle.dpl_cuts.specs.declared.types.Fragments.{Fragments}
 use Rattle.dpl_sign.specs.declared.nets.Net.{Net}
 use Rattle.dpl_layer.specs.declared.error.LayerError.TheVariants.{NoMemory}
-use Rattle.dpl_layer.proofs.LayerLemmas.{layer_is, layer_few_edges}
 use Rattle.dpl_core.specs.Refusals.{RefusesSplit}
 use Rattle.dpl_core.proofs.RefusalLemmas.{odd_refuses, none_refuses, one_comes, only_comes}
-use Rattle.dpl_core.proofs.ReportLemmas.{corner_stands}
-use Rattle.dpl_core.proofs.MaskLemmas.{net_of_layer, masks_of_layer}
-use Rattle.dpl_core.proofs.making.make_commands.Goals as goal
+use Rattle.dpl_core.proofs.making.solved.Goals as goal
 
 pub returns-in_err-layer-clause-exact : goal.returns-in_err-layer-clause-exact
 returns-in_err-layer-clause-exact c =
@@ -30,33 +26,6 @@ returns-in_err-solution-clause-exact c =
     let f : Fragments = c.in_ok-layer.layer.fragments in
     let n : Net = c.in_ok-layer.layer.net in
     one_comes c.args.options.now c.args.text.now _ p.0 p.1 (rw p.2 (odd_refuses c.args.options.now c.args.text.now f n _ c.in_ok-layer.ensures.layer c.in_err-solution.ensures.refused))
-
-pub true_reports_are_valid-requires-clause-few : goal.true_reports_are_valid-requires-clause-few
-true_reports_are_valid-requires-clause-few c = layer_few_edges c.args.options.now (reading c.args.options.now.layer c.args.text.now) c.in_ok-layer.layer.fragments c.in_ok-layer.layer.net c.in_ok-layer.ensures.layer
-
-pub true_reports_are_valid-requires-clause-keep : goal.true_reports_are_valid-requires-clause-keep
-true_reports_are_valid-requires-clause-keep c = λ e. corner_stands _ _ c.in_ok-report.ensures.tight.corner e
-
-pub masks_are_of_the_layer-requires-clause-net : goal.masks_are_of_the_layer-requires-clause-net
-masks_are_of_the_layer-requires-clause-net c = net_of_layer c.args.options.now (reading c.args.options.now.layer c.args.text.now) c.in_ok-layer.layer.fragments c.in_ok-layer.layer.net c.in_ok-layer.ensures.layer
-
-pub returns-clause-made : goal.returns-clause-made
-returns-clause-made c =
-    let f : Fragments = c.in_ok-layer.layer.fragments in
-    let n : Net = c.in_ok-layer.layer.net in
-    record {
-      fragments = f;
-      net = n;
-      layer = layer_is c.args.options.now (reading c.args.options.now.layer c.args.text.now) f n c.in_ok-layer.ensures.layer;
-      truth = c.in_ok-report.ensures.truth;
-      valid = c.true_reports_are_valid.ensures;
-      good = c.true_reports_are_good.ensures;
-      tight = c.in_ok-report.ensures.tight;
-      least = c.in_ok-report.ensures.least;
-    }
-
-pub returns-clause-masks : goal.returns-clause-masks
-returns-clause-masks c = masks_of_layer c.args.options.now (reading c.args.options.now.layer c.args.text.now) c.in_ok-layer.layer.fragments c.in_ok-layer.layer.net _ c.in_ok-layer.ensures.layer c.masks_are_of_the_layer.ensures
 
 pub returns-clause-exact : goal.returns-clause-exact
 returns-clause-exact c = λ e r. absurd (none_refuses c.args.options.now c.args.text.now c.in_ok-layer.layer.fragments c.in_ok-layer.layer.net c.in_ok-layer.ensures.layer c.in_ok-solution.ensures.free e r)

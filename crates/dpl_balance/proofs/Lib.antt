@@ -1,0 +1,10 @@
+pub mod SumLemmas
+pub mod ComponentLemmas
+pub mod ShareLemmas
+pub mod SettleLemmas
+pub mod PartLemmas
+pub mod BalanceLemmas
+pub mod StayLemmas
+pub mod ListedLemmas
+pub mod ZoneHalves
+pub mod OuterLemmas
