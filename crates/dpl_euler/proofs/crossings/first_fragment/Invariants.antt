@@ -1,0 +1,7 @@
+use Rattle.std.proofs.Common.{◌≡◌, ◌<◌, ℕ, false}
+use Rattle.std.specs.Prelude.{slice_index}
+use Rattle.dpl_euler.specs.Crossings.{crosses_fragment}
+use Rattle.dpl_euler.proofs.crossings.first_fragment.Given as goal
+
+abbrev pub invariant-loop-i : goal.invariant-loop-i
+invariant-loop-i l = (i : ℕ) → i < l.i → crosses_fragment l.fragments l.net l.edge (slice_index l.found i) ≡ false

@@ -1,0 +1,13 @@
+use Rattle.std.proofs.Common.{◌-◌, ◌≤◌, length}
+use Rattle.dpl_euler.specs.Searches.{AreSteps, AreFollowed}
+use Rattle.dpl_euler.proofs.searching.follow_all.Given as goal
+
+abbrev pub invariant-loop-place : goal.invariant-loop-place
+invariant-loop-place l = record {
+  steps : AreSteps l.graph l.set l.goal l.steps.items l.places;
+  followed : AreFollowed l.graph l.set l.steps.items l.places l.place;
+  inside : l.place ≤ length l.steps.items;
+}
+
+abbrev pub decreases-loop-place : goal.decreases-loop-place
+decreases-loop-place l = l.graph.nodes - l.place

@@ -1,0 +1,8 @@
+-- what a reader must believe
+pub mod Cycles
+pub mod Bars
+pub mod Segments
+pub mod Crossings
+-- the words of the functions below `bar` and `crossing`
+pub mod Searches
+pub mod Links
