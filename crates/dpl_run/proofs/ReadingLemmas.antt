@@ -47,6 +47,9 @@ small_second : (o : Option Opened) (texts : Option Texts) (bytes second : List �
 small_second None texts bytes second read told small = tt
 small_second (Some o) texts bytes second read told small = subst (λ (z : List ℕ). length z ≤ o.limit.most) (sym (same_second (Some o) texts bytes second read told o refl)) small
 
+abbrev report_named : List ℕ → Opened
+report_named name = record { name = name; limit = report_limit }
+
 -- what a command does not read makes no difference
 same_due : (c : PlainCommand) (text bytes second others : List ℕ) → (reads_layout c ≡ true → text ≡ bytes) → ((p : Opened) → opens c ≡ Some p → second ≡ others)
     → (a : Status) (x : List ℕ) → DueOf c bytes others a x → DueOf c text second a x
@@ -55,7 +58,7 @@ same_due (balance options) text bytes second others e f a x d = subst (λ z. Due
 same_due (cross options) text bytes second others e f a x d = subst (λ z. DueOf (cross options) z second a x) (sym (e refl)) d
 same_due (load start rows columns) text bytes second others e f a x d = d
 same_due (check options name) text bytes second others e f a x d =
-    subst (λ z. DueOf (check options name) z second a x) (sym (e refl)) (subst (λ z. DueOf (check options name) bytes z a x) (sym (f (record { name = name; limit = report_limit }) refl)) d)
+    subst (λ z. DueOf (check options name) z second a x) (sym (e refl)) (subst (λ z. DueOf (check options name) bytes z a x) (sym (f (report_named name) refl)) d)
 
 free_map : (Due Other : Status → List ℕ → Type 0) → ((a : Status) (x : List ℕ) → Due a x → Other a x) → (a : Status) (x : List ℕ) → IsDueOrFree Due a x → IsDueOrFree Other a x
 free_map Due Other f Done x p = f Done x p
@@ -189,7 +192,7 @@ report_is (split options) o e = absurd (cc)
 report_is (balance options) o e = absurd (cc)
 report_is (cross options) o e = absurd (cc)
 report_is (load start rows columns) o e = absurd (cc)
-report_is (check options name) o e = let a : record { name = name; limit = report_limit } ≡ o = cc in ap (λ z. z.limit) (sym a)
+report_is (check options name) o e = let a : report_named name ≡ o = cc in ap (λ z. z.limit) (sym a)
 
 opening_limit : (c : PlainCommand) (o : Option Opened) → opens c ≡ o → (before now : Seen) (texts : Option Texts) (k n : ℕ) → StopsOpening o before now texts (Limit k n) → (k ≡ 9) × PassesBytes 268435457 n before now
 opening_limit c None is before now texts k n w = absurd w

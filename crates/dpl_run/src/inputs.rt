@@ -30,11 +30,7 @@ pub fn reads_layout(command: &Command) -> bool
 }
 
 /// The layout, where it is read.
-pub fn layout_for<S: Source>(
-    alloc: Global,
-    is_read: bool,
-    layout: &mut S,
-) -> Result<Lexed, Status>
+pub fn layout_for<S: Source>(alloc: Global, is_read: bool, layout: &mut S) -> Result<Lexed, Status>
     ensures whole { IfOk result (λ l. is_read ≡ true →
         IsWhole (S.seen layout.old) (S.seen layout.new) l.text.items MOST_LAYOUT_BYTES) }
     ensures short { IfOk result (λ l. length l.text.items ≤ MOST_LAYOUT_BYTES) }

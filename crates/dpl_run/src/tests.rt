@@ -63,9 +63,21 @@ const SPLIT: &str = "split --layer M --space 100 --overlap 20";
 
 const CHECK: &str = "check --layer M --space 100 --overlap 20 --report r";
 
+const CROSS: &str = "cross --layer M --space 100 --overlap 20";
+
+const BALANCE: &str = "balance --layer M --space 100 --overlap 20";
+
 const TWO: &[u8] = b"L M; B 100 100 50 50; B 100 100 200 50; E";
 
 const TRIANGLE: &[u8] = b"L M; B 100 100 50 50; B 100 100 200 50; B 100 100 125 200; E";
+
+/// Four boxes in a square, each two a clash: the links over the corners cross.
+const SQUARE: &[u8] =
+    b"L M; B 100 100 50 50; B 100 100 200 50; B 100 100 50 200; B 100 100 200 200; E";
+
+/// Three boxes side by side, each two a clash. The link of the outer ones leads through the middle one, but beside the
+/// other links.
+const ROW: &[u8] = b"L M; B 20 100 10 50; B 20 60 60 70; B 20 100 110 50; E";
 
 const NOTHING: &[u8] =
     b"(dpl 2);\n(layer M);\n(space 100);\n(overlap 20);\n(stitch 1);\n(conflict 10);\n(pieces 0);\n(fragments 0);\n(bonds 0);\n(stitches 0);\n(clashes 0);\n(excess 0);\n(cost 0);\n(bound 0);\n(masks );\n(corner 10);\nDS 1 1 4;\nL MA;\nL MB;\nDF;\nC 1;\nE\n";
@@ -91,6 +103,9 @@ fn statuses_and_lines(rt: HostRuntime) -> Result<(), Fail> {
             "dpl: usage 3\n",
         ),
         (SPLIT, "L M; Q 1; E", 3, "dpl: layout 1 at command 2\n"),
+        (CROSS, "L M; Q 1; E", 3, "dpl: layout 1 at command 2\n"),
+        (BALANCE, "L M; Q 1; E", 3, "dpl: layout 1 at command 2\n"),
+        ("cross --layer M --space 1", "E", 2, "dpl: usage 2\n"),
         (CHECK, "L M; B 1 1 0 0", 3, "dpl: layout 14 at command 2\n"),
         (
             SPLIT,
@@ -133,6 +148,42 @@ fn the_odd_triangle_and_its_check(rt: HostRuntime) -> Result<(), Fail> {
     Ok(())
 }
 
+/// What `cross` tells, by hand.
+#[test]
+fn crossings_and_a_bar(rt: HostRuntime) -> Result<(), Fail> {
+    for (layout, told) in [
+        (b"E".as_slice(), "excess 0 none\n"),
+        (TRIANGLE, "excess 0 none\n"),
+        (ROW, "excess 0 fragment 1 1\n"),
+        (SQUARE, "excess 2 link 2 3\nbar 4 face 6 3 0 walk 0 2\n"),
+    ] {
+        let ended = run_over(rt.alloc(), CROSS, devices(rt.alloc(), layout, b"")?)?;
+        assert_eq!(rt; ended.status, Status::Done);
+        assert_eq!(rt; ended.out.bytes(), told.as_bytes());
+        assert_eq!(rt; ended.err.bytes().len(), 0);
+    }
+    Ok(())
+}
+
+/// Two boxes far from each other lie on one mask by `split`, and each on a mask of its own by `balance`.
+#[test]
+fn masks_of_the_same_area(rt: HostRuntime) -> Result<(), Fail> {
+    let layout = b"L M; B 100 100 50 50; B 100 100 5000 50; E";
+    let split = run_over(rt.alloc(), SPLIT, devices(rt.alloc(), layout, b"")?)?;
+    let balanced = run_over(rt.alloc(), BALANCE, devices(rt.alloc(), layout, b"")?)?;
+    assert_eq!(rt; balanced.status, Status::Done);
+    assert!(rt; split.out.bytes() != balanced.out.bytes());
+    for ended in [split, balanced] {
+        let read = run_over(
+            rt.alloc(),
+            CHECK,
+            devices(rt.alloc(), layout, ended.out.bytes())?,
+        )?;
+        assert_eq!(rt; read.out.bytes(), b"yes cost 0 bound 0\n".as_slice());
+    }
+    Ok(())
+}
+
 #[test]
 fn a_made_layout(rt: HostRuntime) -> Result<(), Fail> {
     let ended = run_over(
@@ -157,6 +208,12 @@ fn failing_devices(rt: HostRuntime) -> Result<(), Fail> {
     given.opens.push(0)?;
     let opened = run_over(rt.alloc(), CHECK, given)?;
     assert_eq!(rt; opened.status, Status::ReadFault);
+    let unknown = run_over(
+        rt.alloc(),
+        "check --layer M --space 100 --overlap 20 --report s",
+        devices(rt.alloc(), b"E", b"")?,
+    )?;
+    assert_eq!(rt; unknown.status, Status::ReadFault);
     let mut given = devices(rt.alloc(), b"E", b"")?;
     given.writes.push(1)?;
     let written = run_over(rt.alloc(), SPLIT, given)?;

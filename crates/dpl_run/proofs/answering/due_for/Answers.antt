@@ -1,8 +1,78 @@
 use Rattle.std.proofs.Common.{refl, sym, ◌∙◌}
 use Rattle.dpl_words.specs.Views.{plain_command}
+use Rattle.dpl_run.specs.Inputs.{opens}
 use Rattle.dpl_run.specs.Answer.{DueOf}
 use Rattle.dpl_run.proofs.EndLemmas.{worked_bare, worked_limit, worked_no_fault, worked_status}
 use Rattle.dpl_run.proofs.DueLemmas.{all_end}
 use Rattle.dpl_run.proofs.ReadingLemmas.{carried_due, layout_due, layout_fault, layout_limit, layout_no_limit, layout_bare, layout_status, untouched, second_due, second_fault, second_limit, second_no_limit, second_bare, second_status}
 use Rattle.dpl_run.proofs.SteadyLemmas.{steady_ok, steady_stop}
 use Rattle.dpl_run.proofs.answering.due_for.Goals as goal
+
+-- ---- the layout was not read whole
+
+pub returns-in-Err-clause-due : goal.returns-in-Err-clause-due
+returns-in-Err-clause-due g c = λ text other told.
+    layout_due (plain_command c.args.command.now) (g.S.Source.seen c.args.layout.now) (g.S.Source.seen c.layout_for.new.layout) text other c.in-Err.status _ _ (rw c.reads_layout.ensures at c.in-Err.ensures.stops) c.bare.ensures.status c.bare.ensures.output told.0
+
+pub returns-in-Err-clause-read : goal.returns-in-Err-clause-read
+returns-in-Err-clause-read g c =
+    layout_fault (plain_command c.args.command.now) (g.S.Source.seen c.args.layout.now) (g.S.Source.seen c.layout_for.new.layout) _ _ c.in-Err.status _ (rw c.reads_layout.ensures at c.in-Err.ensures.stops) c.bare.ensures.status
+
+pub returns-in-Err-clause-limit : goal.returns-in-Err-clause-limit
+returns-in-Err-clause-limit g c = λ count.
+    layout_limit (plain_command c.args.command.now) (g.S.Source.seen c.args.layout.now) (g.S.Source.seen c.layout_for.new.layout) c.in-Err.status _ count (rw c.reads_layout.ensures at c.in-Err.ensures.stops) c.bare.ensures.status
+
+pub returns-in-Err-clause-report_limit : goal.returns-in-Err-clause-report_limit
+returns-in-Err-clause-report_limit g c = λ count.
+    layout_no_limit (plain_command c.args.command.now) (g.S.Source.seen c.args.layout.now) (g.S.Source.seen c.layout_for.new.layout) c.in-Err.status _ count _ (rw c.reads_layout.ensures at c.in-Err.ensures.stops) c.bare.ensures.status
+
+pub returns-in-Err-clause-touched : goal.returns-in-Err-clause-touched
+returns-in-Err-clause-touched g c = (rw c.reads_layout.ensures at c.layout_for.ensures.touched, untouched (opens (plain_command c.args.command.now)) (g.F.Source.seen c.args.second.now))
+
+pub returns-in-Err-clause-steady : goal.returns-in-Err-clause-steady
+returns-in-Err-clause-steady g c = λ n m. (steady_stop _ _ c.in-Err.status _ c.in-Err.is c.bare.ensures.status c.layout_for.ensures.steady n m, refl)
+
+pub returns-in-Err-clause-bare : goal.returns-in-Err-clause-bare
+returns-in-Err-clause-bare g c =
+    layout_bare (plain_command c.args.command.now) (g.S.Source.seen c.args.layout.now) (g.S.Source.seen c.layout_for.new.layout) c.in-Err.status _ _ (rw c.reads_layout.ensures at c.in-Err.ensures.stops) c.bare.ensures.status c.bare.ensures.output
+
+pub returns-in-Err-clause-of_words : goal.returns-in-Err-clause-of_words
+returns-in-Err-clause-of_words g c =
+    layout_status (plain_command c.args.command.now) (g.S.Source.seen c.args.layout.now) (g.S.Source.seen c.layout_for.new.layout) c.in-Err.status _ (rw c.reads_layout.ensures at c.in-Err.ensures.stops) c.bare.ensures.status
+
+-- ---- the second text was not read whole
+
+pub returns-clause-due : goal.returns-clause-due
+returns-clause-due g c = λ text other told.
+    second_due (plain_command c.args.command.now) (g.S.Source.seen c.args.layout.now) (g.S.Source.seen c.layout_for.new.layout) (g.F.Source.seen c.args.second.now) (g.F.Source.seen c.second_for.new.second) (g.F.Shelf.texts c.args.second.now) c.in-Ok.read.text.items text other
+    c.in-Err-second_for.status _ _ (rw c.reads_layout.ensures at c.in-Ok.ensures.whole) c.in-Err-second_for.ensures.stops c.bare-in-Err-second_for.ensures.status c.bare-in-Err-second_for.ensures.output told
+
+pub returns-clause-read : goal.returns-clause-read
+returns-clause-read g c =
+    second_fault (plain_command c.args.command.now) (g.S.Source.seen c.args.layout.now) (g.S.Source.seen c.layout_for.new.layout) (g.F.Source.seen c.args.second.now) (g.F.Source.seen c.second_for.new.second) (g.F.Shelf.texts c.args.second.now) c.in-Err-second_for.status _
+    c.in-Err-second_for.ensures.stops c.bare-in-Err-second_for.ensures.status
+
+pub returns-clause-limit : goal.returns-clause-limit
+returns-clause-limit g c = λ count.
+    second_no_limit (plain_command c.args.command.now) (g.F.Source.seen c.args.second.now) (g.F.Source.seen c.second_for.new.second) (g.F.Shelf.texts c.args.second.now) c.in-Err-second_for.status _ count _ c.in-Err-second_for.ensures.stops c.bare-in-Err-second_for.ensures.status
+
+pub returns-clause-report_limit : goal.returns-clause-report_limit
+returns-clause-report_limit g c = λ count.
+    second_limit (plain_command c.args.command.now) (g.F.Source.seen c.args.second.now) (g.F.Source.seen c.second_for.new.second) (g.F.Shelf.texts c.args.second.now) c.in-Err-second_for.status _ count c.in-Err-second_for.ensures.stops c.bare-in-Err-second_for.ensures.status
+
+pub returns-clause-touched : goal.returns-clause-touched
+returns-clause-touched g c = (rw c.reads_layout.ensures at c.layout_for.ensures.touched, c.second_for.ensures.touched)
+
+pub returns-clause-steady : goal.returns-clause-steady
+returns-clause-steady g c = λ n m. (
+  steady_ok _ c.layout_for.result c.in-Ok.read c.in-Ok.is c.layout_for.ensures.steady,
+  steady_stop _ _ c.in-Err-second_for.status _ c.in-Err-second_for.is c.bare-in-Err-second_for.ensures.status c.second_for.ensures.steady n m,
+)
+
+pub returns-clause-bare : goal.returns-clause-bare
+returns-clause-bare g c =
+    second_bare (plain_command c.args.command.now) (g.F.Source.seen c.args.second.now) (g.F.Source.seen c.second_for.new.second) (g.F.Shelf.texts c.args.second.now) c.in-Err-second_for.status _ _ c.in-Err-second_for.ensures.stops c.bare-in-Err-second_for.ensures.status c.bare-in-Err-second_for.ensures.output
+
+pub returns-clause-of_words : goal.returns-clause-of_words
+returns-clause-of_words g c =
+    second_status (plain_command c.args.command.now) (g.F.Source.seen c.args.second.now) (g.F.Source.seen c.second_for.new.second) (g.F.Shelf.texts c.args.second.now) c.in-Err-second_for.status _ c.in-Err-second_for.ensures.stops c.bare-in-Err-second_for.ensures.status

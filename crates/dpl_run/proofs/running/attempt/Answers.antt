@@ -1,10 +1,11 @@
 use Rattle.std.proofs.Common.{map, sym, subst}
 use Rattle.std.specs.Prelude.{string_bytes, Ok}
+use Rattle.dpl_words.specs.Commands.{command_of}
 use Rattle.dpl_words.specs.Views.{plain_command}
-use Rattle.dpl_run.specs.Answer.{Answers, IsDue}
+use Rattle.dpl_run.specs.Answer.{Answers, IsDue, IsStatusOf}
 use Rattle.dpl_run.specs.declared.status.Status.TheVariants.{Usage}
 use Rattle.dpl_run.proofs.SteadyLemmas.{told_steady}
-use Rattle.dpl_run.proofs.ToldLemmas.{attempt_answers, usage_answers, told_quiet, told_write}
+use Rattle.dpl_run.proofs.ToldLemmas.{attempt_answers, usage_answers, told_quiet, told_write, told_status, usage_status, memory_status}
 use Rattle.dpl_run.proofs.running.attempt.Goals as goal
 
 pub returns-in-Err-Usage-clause-answer : goal.returns-in-Err-Usage-clause-answer
@@ -15,16 +16,29 @@ returns-in-Err-Usage-clause-answer g c = λ text report told.
 pub returns-clause-answer : goal.returns-clause-answer
 returns-clause-answer g c =
     attempt_answers (map string_bytes c.args.words.now) (Ok (plain_command c.in-Ok.command)) (g.S.Source.seen c.args.layout.now).left (g.F.Shelf.texts c.args.second.now) (g.O.Sink.taken c.args.out.now) (g.O.Sink.taken c.tell.new.out) (g.O.Sink.faults c.args.out.now) (g.O.Sink.faults c.tell.new.out)
-    c.carry_out-due.result.status c.carry_out-due.result.output.items c.tell.result c.in-Ok.ensures.answer c.carry_out-due.ensures.due c.tell.ensures
+    c.due_for-due.result.status c.due_for-due.result.output.items c.tell.result c.in-Ok.ensures.answer c.due_for-due.ensures.due c.tell.ensures
 
 pub returns-clause-quiet : goal.returns-clause-quiet
 returns-clause-quiet g c =
-    told_quiet c.carry_out-due.result.status c.carry_out-due.result.output.items (g.O.Sink.taken c.args.out.now) (g.O.Sink.taken c.tell.new.out) (g.O.Sink.faults c.args.out.now) (g.O.Sink.faults c.tell.new.out) c.tell.result c.carry_out-due.ensures.bare c.tell.ensures
+    told_quiet c.due_for-due.result.status c.due_for-due.result.output.items (g.O.Sink.taken c.args.out.now) (g.O.Sink.taken c.tell.new.out) (g.O.Sink.faults c.args.out.now) (g.O.Sink.faults c.tell.new.out) c.tell.result c.due_for-due.ensures.bare c.tell.ensures
 
 pub returns-clause-write : goal.returns-clause-write
 returns-clause-write g c =
-    told_write c.carry_out-due.result.status c.carry_out-due.result.output.items (g.O.Sink.taken c.args.out.now) (g.O.Sink.taken c.tell.new.out) (g.O.Sink.faults c.args.out.now) (g.O.Sink.faults c.tell.new.out) c.tell.result c.carry_out-due.ensures.bare c.tell.ensures
+    told_write c.due_for-due.result.status c.due_for-due.result.output.items (g.O.Sink.taken c.args.out.now) (g.O.Sink.taken c.tell.new.out) (g.O.Sink.faults c.args.out.now) (g.O.Sink.faults c.tell.new.out) c.tell.result c.due_for-due.ensures.bare c.tell.ensures
 
 pub returns-clause-steady : goal.returns-clause-steady
 returns-clause-steady g c =
-    told_steady _ _ c.carry_out-due.result.status c.carry_out-due.result.output.items (g.O.Sink.taken c.args.out.now) (g.O.Sink.taken c.tell.new.out) (g.O.Sink.faults c.args.out.now) (g.O.Sink.faults c.tell.new.out) c.tell.result c.tell.ensures c.carry_out-due.ensures.steady
+    told_steady _ _ c.due_for-due.result.status c.due_for-due.result.output.items (g.O.Sink.taken c.args.out.now) (g.O.Sink.taken c.tell.new.out) (g.O.Sink.faults c.args.out.now) (g.O.Sink.faults c.tell.new.out) c.tell.result c.tell.ensures c.due_for-due.ensures.steady
+
+pub returns-clause-of_words : goal.returns-clause-of_words
+returns-clause-of_words g c =
+    told_status (map string_bytes c.args.words.now) (plain_command c.in-Ok.command) c.due_for-due.result.status c.due_for-due.result.output.items (g.O.Sink.taken c.args.out.now) (g.O.Sink.taken c.tell.new.out) (g.O.Sink.faults c.args.out.now) (g.O.Sink.faults c.tell.new.out) c.tell.result
+    c.in-Ok.ensures.answer c.due_for-due.ensures.of_words c.tell.ensures
+
+pub returns-in-Err-Usage-clause-of_words : goal.returns-in-Err-Usage-clause-of_words
+returns-in-Err-Usage-clause-of_words g c =
+    subst (λ z. IsStatusOf (command_of (map string_bytes c.args.words.now)) (Usage z)) (sym c.in-Err-Usage.kind-is)
+    (usage_status (map string_bytes c.args.words.now) c.in-Err-Usage.kind (rw c.in-Err-Usage.field-0-is at c.in-Err-Usage.ensures.answer))
+
+pub returns-in-Err-clause-of_words : goal.returns-in-Err-clause-of_words
+returns-in-Err-clause-of_words g c = memory_status (command_of (map string_bytes c.args.words.now))

@@ -1,0 +1,107 @@
+//! What the words of the contract of `run` mean, said without them: no proof guards a definition but these.
+ghost use Rattle.std.specs.Prelude.{◌≡◌, ◌≢◌, ◌⊎◌, ◌↔◌, ℕ, ℤ, ◌+◌, ◌<◌, ◌≤◌, List, [], ◌∷◌, ◌++◌, Option, Some, Ok, Err};
+ghost use Rattle.dpl_limits.specs.declared.TheConstants.{MOST_LAYOUT_BYTES};
+ghost use Rattle.dpl_ext.specs.Device.{Seen, Texts, last_count};
+ghost use Rattle.dpl_words.specs.Commands.{PlainOptions, PlainCommand, split, check, load, cross, balance};
+ghost use Rattle.dpl_run.specs.Answer.{Answers, IsAnswered, IsDueOf, IsQuiet, IsStatusOf};
+ghost use Rattle.dpl_run.specs.Devices.{AreSteady, AreTold, AsksFor, IsReadFault, IsTouched, PassesBytes};
+ghost use Rattle.dpl_run.specs.declared.status.Status.{Status};
+ghost use Rattle.dpl_run.specs.declared.status.Status.TheVariants.{Done, Rejected, Usage, Limit, NoMemory, ReadFault, WriteFault};
+
+/// Devices that tell: a layout that is left, and a text that is the first of its name. A made layout needs none.
+pub fn devices_tell()
+    ensures split { (o : PlainOptions) (text second : List ℕ) (texts : Option Texts) →
+        AreTold (Ok (split o)) (Some text) texts text second }
+    ensures check { (o : PlainOptions) (name text second : List ℕ) (others : Texts) →
+        AreTold (Ok (check o name)) (Some text) (Some ((name, second) ∷ others)) text second }
+    ensures load { (start rows columns : ℕ) (left : Option (List ℕ)) (texts : Option Texts)
+        (text second : List ℕ) → AreTold (Ok (load start rows columns)) left texts text second }
+    ensures wrong_words { (kind : ℕ) (left : Option (List ℕ)) (texts : Option Texts)
+        (text second : List ℕ) → AreTold (Err kind) left texts text second }
+{}
+
+/// What is due for wrong words, and for a layout that is too long.
+pub fn answers_are_due()
+    ensures wrong_words { (kind : ℕ) (text second output : List ℕ) (status : Status) →
+        IsDueOf (Err kind) text second status output ↔ ((status ≡ Usage kind) × (output ≡ [])) }
+    ensures answered { (due result : Status) → IsAnswered due result → result ≢ NoMemory →
+        result ≢ WriteFault → result ≡ due }
+    ensures cut { (due : Status) → IsAnswered due WriteFault → due ≢ WriteFault → due ≡ Done }
+{}
+
+/// What a sink took that tells it: all that is due where the run is done, and nothing where it ends otherwise.
+pub fn outputs_are_taken()
+    ensures done { (Due : Status → List ℕ → Type 0) (taken taken_now : List ℕ) →
+        Answers Due (Some taken) (Some taken_now) Done ↔
+        ((output : List ℕ) × Due Done output × (taken_now ≡ taken ++ output)) }
+    ensures cut { (Due : Status → List ℕ → Type 0) (taken taken_now : List ℕ) →
+        Answers Due (Some taken) (Some taken_now) WriteFault →
+        (front : List ℕ) × (rest : List ℕ) × Due Done (front ++ rest) ×
+        (taken_now ≡ taken ++ front) }
+    ensures quiet { (taken taken_now : List ℕ) (status : Status) → status ≢ Done →
+        status ≢ WriteFault →
+        IsQuiet (Some taken) (Some taken_now) status ↔ (taken_now ≡ taken) }
+{}
+
+/// Where a read fault is answered, a call failed by which a text of the command is read, and the report was asked for
+/// by its name.
+pub fn read_faults_have_causes()
+    ensures split { (o : PlainOptions) (layout layout_now second second_now : Seen) →
+        layout.faults < last_count →
+        IsReadFault (Ok (split o)) layout layout_now second second_now
+        ↔ (layout.faults < layout_now.faults) }
+    ensures check { (o : PlainOptions) (name : List ℕ)
+        (layout layout_now second second_now : Seen) → layout.faults < last_count →
+        second.faults < last_count →
+        IsReadFault (Ok (check o name)) layout layout_now second second_now
+        ↔ ((layout.faults < layout_now.faults) ⊎ ((second.faults < second_now.faults) ×
+        (second_now.asked ≡ second.asked ++ name ∷ []))) }
+    ensures load { (start rows columns : ℕ) (layout layout_now second second_now : Seen) →
+        ¬ IsReadFault (Ok (load start rows columns)) layout layout_now second second_now }
+    ensures wrong_words { (kind : ℕ) (layout layout_now second second_now : Seen) →
+        ¬ IsReadFault (Err kind) layout layout_now second second_now }
+{}
+
+/// One more byte than the limit was read, and no more.
+pub fn one_byte_more_is_read()
+    ensures { (most count : ℕ) (before now : Seen) → before.given + most ≤ last_count →
+        PassesBytes most count before now ↔ ((count ≡ most) × (now.given ≡ before.given + most)) }
+{}
+
+/// A command leaves the devices as they were that it does not read, and asks the shelf for no name but its own, once.
+pub fn devices_are_left()
+    ensures split { (o : PlainOptions) (layout layout_now second second_now : Seen) →
+        IsTouched (Ok (split o)) layout layout_now second second_now
+        ↔ ((layout_now.asked ≡ layout.asked) × (second_now ≡ second)) }
+    ensures load { (start rows columns : ℕ) (layout layout_now second second_now : Seen) →
+        IsTouched (Ok (load start rows columns)) layout layout_now second second_now
+        ↔ ((layout_now ≡ layout) × (second_now ≡ second)) }
+    ensures wrong_words { (kind : ℕ) (layout layout_now second second_now : Seen) →
+        IsTouched (Err kind) layout layout_now second second_now
+        ↔ ((layout_now ≡ layout) × (second_now ≡ second)) }
+    ensures asked { (name : List ℕ) (before now : Seen) (others : List (List ℕ)) →
+        now.asked ≡ before.asked ++ others →
+        AsksFor name before now ↔ ((others ≡ []) ⊎ (others ≡ name ∷ [])) }
+    ensures steady { (layout layout_now second second_now : Seen) (out out_now : ℕ) →
+        layout.faults < layout_now.faults ⊎ second.faults < second_now.faults ⊎ out < out_now →
+        ¬ AreSteady layout layout_now second second_now out out_now }
+{}
+
+/// Words are wrong exactly where the answer says so, but for want of memory; `check` alone rejects and has a limit on its
+/// report, and neither `check` nor `cross` counts odd faces. No device is asked for that.
+pub fn words_leave_statuses()
+    ensures wrong_words { (kind : ℕ) (status : Status) → IsStatusOf (Err kind) status →
+        status ≢ NoMemory → status ≡ Usage kind }
+    ensures right_words { (c : PlainCommand) (kind : ℕ) → ¬ IsStatusOf (Ok c) (Usage kind) }
+    ensures rejected { (c : PlainCommand) (reason place : ℕ) (found wanted : ℤ) →
+        IsStatusOf (Ok c) (Rejected reason place found wanted) →
+        (o : PlainOptions) × (name : List ℕ) × (c ≡ check o name) }
+    ensures report { (c : PlainCommand) (count : ℕ) → IsStatusOf (Ok c) (Limit 9 count) →
+        (o : PlainOptions) × (name : List ℕ) × (c ≡ check o name) }
+    ensures check { (o : PlainOptions) (name : List ℕ) (count : ℕ) →
+        ¬ IsStatusOf (Ok (check o name)) (Limit 8 count) }
+    ensures cross { (o : PlainOptions) (count : ℕ) →
+        ¬ IsStatusOf (Ok (cross o)) (Limit 8 count) }
+    ensures limits { (c : PlainCommand) (kind count : ℕ) → IsStatusOf (Ok c) (Limit kind count) →
+        (1 ≤ kind) × (kind ≤ 9) }
+{}
