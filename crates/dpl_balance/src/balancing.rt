@@ -1,7 +1,7 @@
 // A report whose masks cover about the same area.
 ghost use Rattle.std.specs.Prelude.{◌≡◌, ◌<◌, ◌≤◌, ◌^◌, ℕ, false, true, length, slice_index_or, All, IfOk, map};
 ghost use Rattle.dpl_sign.specs.Colourings.{colour_of};
-ghost use Rattle.dpl_report.specs.declared.options.Options.{Options};
+ghost use Rattle.dpl_options.specs.Options.{PlainOptions};
 ghost use Rattle.dpl_report.specs.Plain.{plain_report};
 ghost use Rattle.dpl_report.specs.MaskRects.{mask_of};
 ghost use Rattle.dpl_report.specs.Truths.{SaysTrue};
@@ -83,7 +83,7 @@ pub fn balance(
     ensures on_b { IfOk result (λ r. r.on_b ≡ mask_of true fragments.now r.colours) }
     ensures rest { IfOk result (IsRestOf report) }
     ensures broken { IfOk result (λ r. BreakTheSame net.now report.colours r.colours) }
-    ensures truth { IfOk result (λ r. (options : Options) →
+    ensures truth { IfOk result (λ r. (options : PlainOptions) →
         SaysTrue options fragments.now net.now (plain_report report) →
         SaysTrue options fragments.now net.now (plain_report r)) }
     ensures even { IfOk result (λ r. AreBalanced fragments.now net.now r.colours) }

@@ -11,7 +11,7 @@ use Rattle.dpl_sign.specs.declared.edges.Edge.{Edge}
 use Rattle.dpl_sign.specs.declared.nets.Net.{Net}
 use Rattle.dpl_cuts.specs.declared.types.Fragments.{Fragments}
 use Rattle.dpl_cuts.specs.Positions.{rect_at}
-use Rattle.dpl_links.specs.declared.types.Weights.{Weights}
+use Rattle.dpl_options.specs.Options.{PlainWeights}
 use Rattle.dpl_links.specs.declared.linking.Link.{Link}
 use Rattle.dpl_links.specs.Pairs.{Scene, are_facing}
 use Rattle.dpl_links.specs.Links.{IsLink, IsLeast}
@@ -76,7 +76,7 @@ corner_cells a b space c n = elim (are_facing a b) as (λ t. are_facing a b ≡ 
   | false ↦ λ e. refl
 ] refl
 
-clash_weighs : (s : Scene) (pieces : List ℕ) (weights : Weights) (l : Link) → IsLink s pieces l → HasWeight weights s.rects (clash_tie weights l)
+clash_weighs : (s : Scene) (pieces : List ℕ) (weights : PlainWeights) (l : Link) → IsLink s pieces l → HasWeight weights s.rects (clash_tie weights l)
 clash_weighs s pieces weights l f = record {
   bond = λ e. absurd (cc);
   stitch = λ e. absurd (cc);
@@ -84,7 +84,7 @@ clash_weighs s pieces weights l f = record {
   corner = λ e t. rw (f.corner, corner_cells (rect_at s.rects l.a) (rect_at s.rects l.b) s.space f.conflict.close t) refl;
 }
 
-pub edges_weigh : (f : Fragments) (weights : Weights) (space : ℕ) (net : Net) → IsNet f weights space net → All (λ (e : Edge). HasWeight weights (map corners_of f.rects) (tie_of e)) net.graph.edges
+pub edges_weigh : (f : Fragments) (weights : PlainWeights) (space : ℕ) (net : Net) → IsNet f weights space net → All (λ (e : Edge). HasWeight weights (map corners_of f.rects) (tie_of e)) net.graph.edges
 edges_weigh f weights space net n =
     all_edges (HasWeight weights (map corners_of f.rects)) weights n.bonds f.cuts n.links net.graph.edges n.edges
     (λ k d l. record { bond = λ e. refl; stitch = λ e. absurd (cc); side = λ e t. absurd (cc); corner = λ e t. absurd (cc) })

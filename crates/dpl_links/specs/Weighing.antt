@@ -5,7 +5,7 @@ use Rattle.dpl_cell.specs.Cells.{IsIn}
 use Rattle.dpl_cell.specs.Gaps.{CellPair}
 use Rattle.dpl_sign.specs.declared.edges.Kind.TheVariants.{Bond, Stitch, Clash}
 use Rattle.dpl_cuts.specs.Positions.{rect_at}
-use Rattle.dpl_links.specs.declared.types.Weights.{Weights}
+use Rattle.dpl_options.specs.Options.{PlainWeights}
 use Rattle.dpl_links.specs.Nets.{Tie}
 
 -- a cell of one set and a cell of the other lie in one column or in one row
@@ -23,7 +23,7 @@ AreFacing rects t = FaceEachOther (IsIn (rect_at rects t.a)) (IsIn (rect_at rect
 
 -- A clash of two fragments that face each other has the conflict weight, and one of two that meet at corners the
 -- corner weight.
-pub record HasWeight (weights : Weights) (rects : List Corners) (t : Tie) : Type 0 where
+pub record HasWeight (weights : PlainWeights) (rects : List Corners) (t : Tie) : Type 0 where
   pub bond : t.kind ≡ Bond → t.weight ≡ 0
   pub stitch : t.kind ≡ Stitch → t.weight ≡ weights.stitch
   pub side : t.kind ≡ Clash → AreFacing rects t → t.weight ≡ weights.conflict
