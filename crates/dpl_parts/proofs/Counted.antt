@@ -1,5 +1,5 @@
 -- A face of a part passes in the whole what it passes in the part.
-use Rattle.std.proofs.Common.{arith, ◌≡◌, ◌≢◌, ℕ, zero, suc, ◌/◌, ◌%◌, ◌<◌, ◌==◌, ◌&&◌, refl, sym, ap, ◌∙◌, Bool, inl, inr, length, eq-eqb}
+use Rattle.std.proofs.Common.{arith, ◌≡◌, ◌↔◌, ◌≢◌, ℕ, zero, suc, ◌/◌, ◌%◌, ◌<◌, ◌==◌, ◌&&◌, refl, sym, ap, ◌∙◌, Bool, inl, inr, length, eq-eqb}
 use Rattle.std.specs.Prelude.{if◌then◌else◌}
 use Rattle.std.proofs.lemmas.Bool.{cases_eq, cases_Bool, ne_eqb}
 use Rattle.dpl_cycle.proofs.Least.{label_least}
@@ -9,7 +9,7 @@ use Rattle.dpl_sign.specs.Excess.{kept_edges}
 use Rattle.dpl_sign.specs.Kinds.{is_clash}
 use Rattle.dpl_sign.specs.Parity.{passages_on_face, is_clash_edge, is_odd_face}
 use Rattle.dpl_sign.proofs.Rotation.{face_back, face_permutes}
-use Rattle.dpl_parts.specs.Parts.{IsPartOf, dart, FacesAlike, OddFacesAlike}
+use Rattle.dpl_parts.specs.Parts.{IsPartOf, dart, face_at}
 use Rattle.dpl_parts.proofs.Kept.{keeps_alike}
 use Rattle.dpl_parts.proofs.Darts.{dart_half, dart_below, dart_apart}
 use Rattle.dpl_parts.proofs.Faces.{seek, seek_hit, seek_miss, label_along, face_there, face_here}
@@ -70,12 +70,14 @@ module _ (part whole : Net) (node edge : ℕ → ℕ) (h : IsPartOf part whole n
 
 -- ---- of the kept edges
 
-pub faces_alike : FacesAlike
+pub faces_alike : (part whole : Net) (node edge : ℕ → ℕ) → IsPartOf part whole node edge → (c d : ℕ) → c < dart_count part → d < dart_count part →
+    face_at whole (dart edge c) ≡ face_at whole (dart edge d) ↔ face_at part c ≡ face_at part d
 faces_alike part whole node edge h c d l m =
     let p = is_in (kept_edges part) in
     let q = is_in (kept_edges whole) in
     let alike = keeps_alike part whole node edge h in
     (face_here part whole node edge h p q alike c d l m, face_there part whole node edge h p q alike c d l m)
 
-pub odd_faces_alike : OddFacesAlike
+pub odd_faces_alike : (part whole : Net) (node edge : ℕ → ℕ) → IsPartOf part whole node edge → (c : ℕ) → c < dart_count part →
+    is_odd_face whole (is_in (kept_edges whole)) (face_at whole (dart edge c)) ≡ is_odd_face part (is_in (kept_edges part)) (face_at part c)
 odd_faces_alike part whole node edge h c l = odd_alike part whole node edge h (is_in (kept_edges part)) (is_in (kept_edges whole)) (keeps_alike part whole node edge h) c l

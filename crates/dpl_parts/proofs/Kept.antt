@@ -4,13 +4,18 @@ use Rattle.std.proofs.lemmas.Bool.{cases_lt, cases_eq, cases_Bool, both_ways}
 use Rattle.dpl_sign.specs.declared.nets.Net.{Net}
 use Rattle.dpl_sign.specs.Drawings.{is_in, dart_count, next_around, face_of}
 use Rattle.dpl_sign.specs.Components.{component_of}
-use Rattle.dpl_sign.specs.Excess.{raises_excess, kept_before, AreEndsJoined, LiesInFace}
+use Rattle.dpl_sign.specs.Excess.{raises_excess, kept_before, kept_edges, AreEndsJoined, LiesInFace}
 use Rattle.dpl_sign.proofs.ComponentLemmas.{start_below, end_below}
 use Rattle.dpl_sign.proofs.ExcessLemmas.{raises_from, raises_joined, raises_far, kept_length}
 use Rattle.dpl_sign.proofs.KeptLemmas.{kept_at, kept_inside}
-use Rattle.dpl_parts.specs.Parts.{IsPartOf, dart, KeepsAlike}
+use Rattle.dpl_parts.specs.Parts.{IsPartOf, dart}
 use Rattle.dpl_parts.proofs.Darts.{dart_first, dart_second, around_same, around_below}
 use Rattle.dpl_parts.proofs.Faces.{face_there, face_here, joined_there, joined_here}
+
+-- the whole keeps an edge of the part where the part by itself keeps it
+abbrev pub KeepsAlike : Net → Net → (ℕ → ℕ) → Type 0
+KeepsAlike part whole edge = (e : ℕ) → e < length part.graph.edges →
+    is_in (kept_edges whole) (edge e) ≡ is_in (kept_edges part) e
 
 -- ---- when the next edge is set aside
 

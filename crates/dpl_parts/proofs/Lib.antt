@@ -6,3 +6,4 @@ pub mod Mixed
 pub mod Stays
 pub mod Counted
 pub mod Linked
+pub mod JoinedLemmas

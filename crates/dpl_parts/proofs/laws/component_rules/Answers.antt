@@ -1,7 +1,6 @@
 use Rattle.dpl_parts.proofs.Kept.{keeps_alike}
 use Rattle.dpl_parts.proofs.Counted.{faces_alike, odd_faces_alike}
 use Rattle.dpl_parts.proofs.Linked.{links_alike, links_stay}
-use Rattle.dpl_parts.proofs.Stays.{optimum_stays}
 use Rattle.dpl_parts.proofs.laws.component_rules.Goals as goal
 
 pub returns-clause-keep : goal.returns-clause-keep
@@ -12,9 +11,6 @@ returns-clause-faces c = faces_alike
 
 pub returns-clause-odd : goal.returns-clause-odd
 returns-clause-odd c = odd_faces_alike
-
-pub returns-clause-stay : goal.returns-clause-stay
-returns-clause-stay c = optimum_stays
 
 pub returns-clause-links : goal.returns-clause-links
 returns-clause-links c = links_alike
