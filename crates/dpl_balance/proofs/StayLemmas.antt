@@ -23,9 +23,9 @@ use Rattle.dpl_report.specs.Plain.{PlainZone, plain_report}
 use Rattle.dpl_report.specs.MaskRects.{mask_of}
 use Rattle.dpl_report.specs.Conditions.{is_stitch, where_zone, cuts_after, zone_here, cuts_from, where_broken, clashes_from}
 use Rattle.dpl_report.specs.Truths.{SaysTrue}
-use Rattle.dpl_balance.specs.Components.{are_one_component}
+use Rattle.dpl_parts.specs.Components.{are_one_component}
 use Rattle.dpl_balance.specs.Balance.{AreTurned, BreakTheSame}
-use Rattle.dpl_balance.proofs.ComponentLemmas.{edge_joins}
+use Rattle.dpl_parts.proofs.JoinedLemmas.{edge_joins}
 
 -- two colours that both stay or both turn over agree where they did
 agree_turned : (a b a' b' : Bool) → agree a a' ≡ agree b b' → agree a' b' ≡ agree a b

@@ -5,15 +5,15 @@ ghost use Rattle.dpl_options.specs.Options.{PlainOptions};
 ghost use Rattle.dpl_report.specs.Plain.{plain_report};
 ghost use Rattle.dpl_report.specs.MaskRects.{mask_of};
 ghost use Rattle.dpl_report.specs.Truths.{SaysTrue};
-ghost use Rattle.dpl_balance.specs.Components.{AreComponents};
+ghost use Rattle.dpl_parts.specs.Components.{AreComponents};
 ghost use Rattle.dpl_balance.specs.Balance.{AreBalanced, AreTurned, BreakTheSame, turn};
 ghost use Rattle.dpl_balance.specs.Rest.{IsRestOf};
 
 use crate::adding::sides;
-use crate::joining::joined;
 use crate::turning::turned;
 use dpl_cuts::types::Fragments;
 use dpl_list::Items;
+use dpl_parts::counted_components;
 use dpl_report::{Report, masks};
 use dpl_sign::Net;
 use std::alloc::{AllocError as NoMemory, Global};
@@ -59,7 +59,7 @@ fn balanced(
     ensures even { IfOk result (λ v. AreBalanced fragments.now net.now v.items) }
 {
     let rects = fragments.rects.as_slice();
-    let (number, count) = joined(alloc, net)?;
+    let (number, count) = counted_components(alloc, net)?;
     let on_a = sides(alloc, rects, colours, number.as_slice(), count, false)?;
     let on_b = sides(alloc, rects, colours, number.as_slice(), count, true)?;
     let turned = turned(alloc, on_a.as_slice(), on_b.as_slice())?;

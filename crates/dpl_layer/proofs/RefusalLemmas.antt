@@ -20,7 +20,7 @@ use Rattle.dpl_layer.proofs.LayerLemmas.{few_tiles, fragments_same_of, within_fr
 use Rattle.dpl_links.proofs.SameLemmas.{no_more_edges}
 
 -- a limit on the cells excludes a layer within the limits
-not_over : (o : Options) (cells : ℤ → ℤ → Bool) (f : Fragments) (n : Net) → IsLayerOf o cells f n → length f.rects ≤ 100000 → length n.graph.edges ≤ 400000 → (kind count' : ℕ) → ¬ IsOverLimit o cells kind count'
+pub not_over : (o : Options) (cells : ℤ → ℤ → Bool) (f : Fragments) (n : Net) → IsLayerOf o cells f n → length f.rects ≤ 100000 → length n.graph.edges ≤ 400000 → (kind count' : ℕ) → ¬ IsOverLimit o cells kind count'
 not_over o cells f n l few thin kind count' (inl (k, c, more)) =
     let a = l.fragments in
     let h = few_tiles [] (2 * o.space) (2 * o.overlap) cells a.tiles a.label f a.are_tiles a.are_fragments in
@@ -39,7 +39,7 @@ tiles_within o cells m =
     omega arith
 
 -- the first limit that is passed is one
-one_limit : (o : Options) (cells : ℤ → ℤ → Bool) (k c l d : ℕ) → IsOverLimit o cells k c → IsOverLimit o cells l d → Limit k c ≡ Limit l d
+pub one_limit : (o : Options) (cells : ℤ → ℤ → Bool) (k c l d : ℕ) → IsOverLimit o cells k c → IsOverLimit o cells l d → Limit k c ≡ Limit l d
 one_limit o cells k c l d (inl (p, q, m)) (inl (r, s, n)) = rw (p, q, r, s) refl
 one_limit o cells k c l d (inl (p, q, m)) (inr (inl (r, s, n))) = absurd (not_more cells n.tiles 100000 n.are_tiles n.few_tiles m)
 one_limit o cells k c l d (inl (p, q, m)) (inr (inr (r, s, n))) = absurd (not_more cells n.are_fragments.tiles 100000 n.are_fragments.are_tiles (tiles_within o cells n) m)

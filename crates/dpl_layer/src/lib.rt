@@ -17,7 +17,7 @@ mod reading;
 pub use beside::keeping_layer;
 pub use error::LayerError;
 pub use laws::one_layer;
-pub use reading::{Layer, layer_of_commands, read_layer};
+pub use reading::{Layer, layer_of_commands, layer_of_layout, read_layer};
 
 #[cfg(test)]
 mod tests;

@@ -64,12 +64,16 @@ pub fn layer_of_commands(
         (result ≡ Err e) ⊎ (result ≡ Err LayerError.NoMemory) }
 {
     let layout = read_commands(alloc, text, commands, &options.layer)?;
-    let layer = draw(alloc, &layout, options)?;
+    let layer = layer_of_layout(alloc, &layout, options)?;
     Ok(layer)
 }
 
 /// The fragments and the net of a layout.
-fn draw(alloc: Global, layout: &Layout, options: &Options) -> Result<Layer, LayerError>
+pub fn layer_of_layout(
+    alloc: Global,
+    layout: &Layout,
+    options: &Options,
+) -> Result<Layer, LayerError>
     ensures layer { IfOk result (λ l. IsLayer options.now (cells_of layout.now) l.fragments l.net) }
     ensures refused { IfErr result (λ e.
         (e ≡ LayerError.NoMemory) ⊎ RefusesCells options.now (cells_of layout.now) e) }

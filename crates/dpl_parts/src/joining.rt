@@ -1,7 +1,7 @@
 // The components of a net.
 ghost use Rattle.std.specs.Prelude.{◌≡◌, ◌<◌, ℕ, map, length, All, IfOk};
 ghost use Rattle.dpl_classes.specs.Classes.{AreClasses};
-ghost use Rattle.dpl_balance.specs.Components.{AreComponents};
+ghost use Rattle.dpl_parts.specs.Components.{AreComponents};
 
 use dpl_classes::classes;
 use dpl_sign::{Edge, Net};
@@ -18,8 +18,8 @@ fn ends(alloc: Global, edges: &[Edge]) -> Result<Vec<(u32, u32)>, NoMemory>
     Ok(ends)
 }
 
-/// The number of each fragment's component, and how many components there are.
-pub fn joined(alloc: Global, net: &Net) -> Result<(Vec<u32>, u32), NoMemory>
+/// The number of each node's component, and how many components there are.
+pub fn counted_components(alloc: Global, net: &Net) -> Result<(Vec<u32>, u32), NoMemory>
     ensures components { IfOk result (λ p. AreComponents net.now p.0.items) }
     ensures within { IfOk result (λ p. All (λ c. c < p.1) p.0.items) }
 {
@@ -28,10 +28,10 @@ pub fn joined(alloc: Global, net: &Net) -> Result<(Vec<u32>, u32), NoMemory>
     Ok(found)
 }
 
-/// The number of each fragment's component. Components are numbered from 0 in the order of their least fragments.
+/// The number of each node's component. Components are numbered from 0 in the order of their least nodes.
 pub fn components(alloc: Global, net: &Net) -> Result<Vec<u32>, NoMemory>
     ensures { IfOk result (λ v. AreComponents net.now v.items) }
 {
-    let (number, _) = joined(alloc, net)?;
+    let (number, _) = counted_components(alloc, net)?;
     Ok(number)
 }

@@ -11,7 +11,7 @@ use Rattle.dpl_sign.specs.declared.nets.Net.{Net}
 use Rattle.dpl_sign.specs.Walks.{no_edge, edge_at, across, leaves, IsPath}
 use Rattle.dpl_sign.specs.Excess.{all_edges}
 use Rattle.dpl_sign.proofs.PathLemmas.{component_is}
-use Rattle.dpl_balance.specs.Components.{are_one_component, AreComponents}
+use Rattle.dpl_parts.specs.Components.{are_one_component, AreComponents}
 
 -- the two ends of an edge
 abbrev pub ends_of : Edge → ℕ × ℕ

@@ -1,5 +1,5 @@
-use Rattle.dpl_balance.proofs.ComponentLemmas.{ends_within, are_components, labels_below}
-use Rattle.dpl_balance.proofs.joining.joined.Goals as goal
+use Rattle.dpl_parts.proofs.JoinedLemmas.{ends_within, are_components, labels_below}
+use Rattle.dpl_parts.proofs.joining.counted_components.Goals as goal
 
 pub classes-requires-clause-within : goal.classes-requires-clause-within
 classes-requires-clause-within c = rw (c.as_slice-2.ensures.value, c.in_ok-ends.ensures, c.as_slice.ensures) (ends_within c.args.net.now.graph)
