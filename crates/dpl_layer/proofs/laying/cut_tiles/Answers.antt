@@ -1,7 +1,7 @@
 use Rattle.std.proofs.Common.{map}
 use Rattle.std.proofs.lemmas.List.{length-map}
 use Rattle.dpl_cell.specs.Places.{corners_of}
-use Rattle.dpl_layer.proofs.beside.cut_tiles.Goals as goal
+use Rattle.dpl_layer.proofs.laying.cut_tiles.Goals as goal
 
 pub shapes-requires-clause-apart : goal.shapes-requires-clause-apart
 shapes-requires-clause-apart c = (c.tiles_share_out.ensures _ c.requires.tiles).apart

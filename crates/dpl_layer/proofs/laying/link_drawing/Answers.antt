@@ -1,14 +1,14 @@
-use Rattle.std.proofs.Common.{rules, ap, Err, ◌≡◌}
+use Rattle.std.proofs.Common.{ap, Err, ◌≡◌}
 use Rattle.std.proofs.lemmas.Result.{err_from_is_err_and}
 use Rattle.dpl_cell.specs.Layers.{cells_of}
-use Rattle.dpl_layer.proofs.KeepLemmas.{err_refuses, net_refuses}
-use Rattle.dpl_layer.proofs.beside.draw.Goals as goal
+use Rattle.dpl_layer.proofs.RefusalLemmas.{err_refuses, net_refuses}
+use Rattle.dpl_layer.proofs.laying.link_drawing.Goals as goal
 
 pub returns-in_err-net-clause-refused : goal.returns-in_err-net-clause-refused
 returns-in_err-net-clause-refused c =
     let p = err_from_is_err_and c.from_residual-in_err-net.result c.from_residual-in_err-net.ensures.1 in
     err_refuses c.from_residual-in_err-net.result _ p.0 _ p.1 p.2
-    (net_refuses c.args.options.now (cells_of c.args.layout.now) (cells_of c.args.kept.now) c.in_ok-fragments.fragments c.in_err-net.field-0.0 c.in_ok-fragments.ensures.fragments.0 c.in_ok-fragments.ensures.fragments.1 c.in_ok-fragments.ensures.few (λ h. c.in_err-net.ensures.many (ap Err h)))
+    (net_refuses c.args.options.now (cells_of c.args.drawing.now.layer) (cells_of c.args.drawing.now.keep) c.in_ok-fragments.fragments c.in_err-net.field-0.0 c.in_ok-fragments.ensures.fragments.0 c.in_ok-fragments.ensures.fragments.1 c.in_ok-fragments.ensures.few (λ h. c.in_err-net.ensures.many (ap Err h)))
 
 pub returns-clause-layer : goal.returns-clause-layer
 returns-clause-layer c = record {
