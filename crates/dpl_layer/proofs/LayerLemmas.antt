@@ -15,7 +15,7 @@ use Rattle.dpl_cuts.specs.Fragments.{AreFragments, HasMoreFragments}
 use Rattle.dpl_cuts.proofs.SameLemmas.{fragments_same, no_more_fragments}
 use Rattle.dpl_sign.specs.declared.nets.Net.{Net}
 use Rattle.dpl_links.specs.Nets.{IsNet}
-use Rattle.dpl_report.specs.declared.options.Options.{Options}
+use Rattle.dpl_options.specs.Options.{PlainOptions}
 use Rattle.dpl_layer.specs.Drawings.{Cells}
 use Rattle.dpl_layer.specs.Layers.{AreFragmentsOf, IsLayerOf}
 use Rattle.dpl_links.proofs.SameLemmas.{net_same}
@@ -82,7 +82,7 @@ fragments_same_of space over cells kept f g a b =
     let r = subst (λ z. AreFragments z space over a.tiles a.label g) k q in
     fragments_same a.keep space over a.tiles a.label f g a.are_fragments r
 
-pub same_layer : (o : Options) (cells kept : Cells) (f g : Fragments) (n m : Net) → IsLayerOf o cells kept f n → IsLayerOf o cells kept g m → (f ≡ g) × (n ≡ m)
+pub same_layer : (o : PlainOptions) (cells kept : Cells) (f g : Fragments) (n m : Net) → IsLayerOf o cells kept f n → IsLayerOf o cells kept g m → (f ≡ g) × (n ≡ m)
 same_layer o cells kept f g n m a b =
     let e : g ≡ f = fragments_same_of (2 * o.space) (2 * o.overlap) cells kept g f b.fragments a.fragments in
     let p = subst (λ z. IsNet z o.weights (2 * o.space) m) e b.net in

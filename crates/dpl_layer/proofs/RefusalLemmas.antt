@@ -25,7 +25,7 @@ use Rattle.dpl_links.proofs.SameLemmas.{no_more_edges}
 use Rattle.dpl_cif.specs.Reading.{Reading}
 use Rattle.dpl_cif.specs.Reading.Reading.{Faulty, TooMany, TooManyCalls, TooFar, Good}
 use Rattle.dpl_cif.specs.Gives.{Refuses}
-use Rattle.dpl_report.specs.declared.options.Options.{Options}
+use Rattle.dpl_options.specs.Options.{PlainOptions}
 use Rattle.dpl_layer.specs.declared.error.LayerError.{LayerError}
 use Rattle.dpl_layer.specs.declared.error.LayerError.TheVariants.{Layout, Limit, NoMemory}
 use Rattle.dpl_layer.specs.Errors.{of_reading, of_tiles, of_net}
@@ -39,7 +39,7 @@ use Rattle.dpl_layer.proofs.TextLemmas.{with_layer, of_layer, layer_good, on_dra
 -- ---- limits on the cells
 
 -- a limit on the cells excludes a layer within the limits
-not_over : (o : Options) (cells kept : Cells) (f : Fragments) (n : Net) → IsLayer o cells kept f n → (kind count' : ℕ) → ¬ IsOverLimit o cells kept kind count'
+not_over : (o : PlainOptions) (cells kept : Cells) (f : Fragments) (n : Net) → IsLayer o cells kept f n → (kind count' : ℕ) → ¬ IsOverLimit o cells kept kind count'
 not_over o cells kept f n l kind count' (inl (k, c, more)) =
     let a = l.layer.fragments in
     not_more cells a.tiles 100000 a.are_tiles (tiles_within (2 * o.space) (2 * o.overlap) cells kept f a l.few_fragments) more
@@ -51,16 +51,16 @@ not_over o cells kept f n l kind count' (inr (inr (inr (k, c, more)))) =
     let e : more.fragments ≡ f = fragments_same_of (2 * o.space) (2 * o.overlap) cells kept more.fragments f more.are_fragments l.layer.fragments in
     no_more_edges f o.weights (2 * o.space) n 400000 l.layer.net l.few_edges (subst (λ z. HasMoreEdges z (2 * o.space) 400000) e more.many)
 
-pub cells_free : (o : Options) (cells kept : Cells) (f : Fragments) (n : Net) → IsLayer o cells kept f n → (e : LayerError) → ¬ RefusesCells o cells kept e
+pub cells_free : (o : PlainOptions) (cells kept : Cells) (f : Fragments) (n : Net) → IsLayer o cells kept f n → (e : LayerError) → ¬ RefusesCells o cells kept e
 cells_free o cells kept f n l (Layout k w) r = r
 cells_free o cells kept f n l (Limit k c) r = not_over o cells kept f n l k c r
 cells_free o cells kept f n l NoMemory r = r
 
-edges_within : (o : Options) (cells kept : Cells) (m : HasTooManyEdges o cells kept) → length m.are_fragments.tiles ≤ 100000
+edges_within : (o : PlainOptions) (cells kept : Cells) (m : HasTooManyEdges o cells kept) → length m.are_fragments.tiles ≤ 100000
 edges_within o cells kept m = tiles_within (2 * o.space) (2 * o.overlap) cells kept m.fragments m.are_fragments m.few_fragments
 
 -- the first limit that is passed is one
-one_limit : (o : Options) (cells kept : Cells) (k c l d : ℕ) → IsOverLimit o cells kept k c → IsOverLimit o cells kept l d → Limit k c ≡ Limit l d
+one_limit : (o : PlainOptions) (cells kept : Cells) (k c l d : ℕ) → IsOverLimit o cells kept k c → IsOverLimit o cells kept l d → Limit k c ≡ Limit l d
 one_limit o cells kept k c l d (inl (p, q, m)) (inl (r, s, n)) = rw (p, q, r, s) refl
 one_limit o cells kept k c l d (inl (p, q, m)) (inr (inl (r, s, n))) = rw (p, q, r, s) refl
 one_limit o cells kept k c l d (inl (p, q, m)) (inr (inr (inl (r, s, n)))) = absurd (not_more cells n.tiles 100000 n.are_tiles n.few_tiles m)
@@ -78,7 +78,7 @@ one_limit o cells kept k c l d (inr (inr (inr (p, q, m)))) (inr (inl (r, s, n)))
 one_limit o cells kept k c l d (inr (inr (inr (p, q, m)))) (inr (inr (inl (r, s, n)))) = absurd (within_fragments (2 * o.space) (2 * o.overlap) cells kept m.fragments n.tiles n.keep 100000 m.are_fragments m.few_fragments n.are_tiles n.are_kept n.many)
 one_limit o cells kept k c l d (inr (inr (inr (p, q, m)))) (inr (inr (inr (r, s, n)))) = rw (p, q, r, s) refl
 
-pub one_cells_refusal : (o : Options) (cells kept : Cells) (e f : LayerError) → RefusesCells o cells kept e → RefusesCells o cells kept f → e ≡ f
+pub one_cells_refusal : (o : PlainOptions) (cells kept : Cells) (e f : LayerError) → RefusesCells o cells kept e → RefusesCells o cells kept f → e ≡ f
 one_cells_refusal o cells kept (Layout k w) f a b = absurd a
 one_cells_refusal o cells kept NoMemory f a b = absurd a
 one_cells_refusal o cells kept (Limit k c) (Layout l v) a b = absurd b
@@ -109,7 +109,7 @@ one_reading_refusal read (Layout k w) (Limit l d) a b = absurd (fault_first read
 one_reading_refusal read (Limit k c) (Layout l v) a b = absurd (fault_first read l v k c b a)
 one_reading_refusal read (Limit k c) (Limit l d) a b = one_stop read k c l d a b
 
-pub one_drawing_refusal : (o : Options) (text : List ℕ) (e f : LayerError) → RefusesDrawing o text e → RefusesDrawing o text f → e ≡ f
+pub one_drawing_refusal : (o : PlainOptions) (text : List ℕ) (e f : LayerError) → RefusesDrawing o text e → RefusesDrawing o text f → e ≡ f
 one_drawing_refusal o text e f a b = one_reading_refusal (joined_reading o text) e f a b
 
 good_free : (read : Reading) (parts : List Outline) (e : LayerError) → read ≡ Good parts → ¬ RefusesReading read e
@@ -118,38 +118,38 @@ good_free read parts (Limit k c) is r = subst (λ z. RefusesReading z (Limit k c
 good_free read parts NoMemory is r = r
 
 -- a text with a property of its cells was read
-pub drawing_free : (o : Options) (text : List ℕ) (P : Cells → Cells → Type 0) (e : LayerError) → OnLayer o text P → ¬ RefusesDrawing o text e
+pub drawing_free : (o : PlainOptions) (text : List ℕ) (P : Cells → Cells → Type 0) (e : LayerError) → OnLayer o text P → ¬ RefusesDrawing o text e
 drawing_free o text P e h r =
     let (parts, is) = layer_good o text P h in
     good_free (joined_reading o text) parts e is r
 
 -- a text with a drawing was read
-pub good_drawing_free : (o : Options) (text : List ℕ) (d : Drawing) → IsDrawingOf o text d → (e : LayerError) → ¬ RefusesDrawing o text e
+pub good_drawing_free : (o : PlainOptions) (text : List ℕ) (d : Drawing) → IsDrawingOf o text d → (e : LayerError) → ¬ RefusesDrawing o text e
 good_drawing_free o text d is e = drawing_free o text (λ cells kept. Unit {0}) e (on_drawing o text d (λ cells kept. Unit {0}) is tt)
 
 -- ---- both
 
-pub drawing_text_refuses : (o : Options) (text : List ℕ) (e : LayerError) → (e ≡ NoMemory) ⊎ RefusesDrawing o text e → (e ≡ NoMemory) ⊎ RefusesLayer o text e
+pub drawing_text_refuses : (o : PlainOptions) (text : List ℕ) (e : LayerError) → (e ≡ NoMemory) ⊎ RefusesDrawing o text e → (e ≡ NoMemory) ⊎ RefusesLayer o text e
 drawing_text_refuses o text e (inl m) = inl m
 drawing_text_refuses o text e (inr r) = inr (inl r)
 
-pub cells_text_refuse : (o : Options) (text : List ℕ) (d : Drawing) (e : LayerError) → IsDrawingOf o text d → (e ≡ NoMemory) ⊎ RefusesCells o (cells_of d.layer) (cells_of d.keep) e → (e ≡ NoMemory) ⊎ RefusesLayer o text e
+pub cells_text_refuse : (o : PlainOptions) (text : List ℕ) (d : Drawing) (e : LayerError) → IsDrawingOf o text d → (e ≡ NoMemory) ⊎ RefusesCells o (cells_of d.layer) (cells_of d.keep) e → (e ≡ NoMemory) ⊎ RefusesLayer o text e
 cells_text_refuse o text d e is (inl m) = inl m
 cells_text_refuse o text d e is (inr r) = inr (inr (on_drawing o text d (λ cells kept. RefusesCells o cells kept e) is r))
 
-pub one_text_refusal : (o : Options) (text : List ℕ) (e f : LayerError) → RefusesLayer o text e → RefusesLayer o text f → e ≡ f
+pub one_text_refusal : (o : PlainOptions) (text : List ℕ) (e f : LayerError) → RefusesLayer o text e → RefusesLayer o text f → e ≡ f
 one_text_refusal o text e f (inl a) (inl b) = one_drawing_refusal o text e f a b
 one_text_refusal o text e f (inl a) (inr b) = absurd (drawing_free o text (λ cells kept. RefusesCells o cells kept f) e b a)
 one_text_refusal o text e f (inr a) (inl b) = absurd (drawing_free o text (λ cells kept. RefusesCells o cells kept e) f a b)
 one_text_refusal o text e f (inr a) (inr b) = with_layer o text (λ cells kept. RefusesCells o cells kept e) (λ cells kept. RefusesCells o cells kept f) (λ cells kept p q. one_cells_refusal o cells kept e f p q) a b
 
 -- no refusal applies to a text with a layer within the limits
-pub none_comes : (o : Options) (text : List ℕ) (f : Fragments) (n : Net) → IsLayerOfText o text f n → (e : LayerError) → ¬ RefusesLayer o text e
+pub none_comes : (o : PlainOptions) (text : List ℕ) (f : Fragments) (n : Net) → IsLayerOfText o text f n → (e : LayerError) → ¬ RefusesLayer o text e
 none_comes o text f n l e (inl r) = drawing_free o text (λ cells kept. IsLayer o cells kept f n) e l r
 none_comes o text f n l e (inr r) = with_layer o text (λ cells kept. IsLayer o cells kept f n) (λ cells kept. RefusesCells o cells kept e) (λ cells kept p q. cells_free o cells kept f n p e q) l r
 
 -- want of memory is no refusal of a text
-pub never_memory : (o : Options) (text : List ℕ) → ¬ RefusesLayer o text NoMemory
+pub never_memory : (o : PlainOptions) (text : List ℕ) → ¬ RefusesLayer o text NoMemory
 never_memory o text (inl r) = r
 never_memory o text (inr r) = of_layer o text (λ cells kept. RefusesCells o cells kept NoMemory) (λ cells kept p. p) r
 
@@ -162,14 +162,14 @@ stop_kind (TooFar n) k c r = (omega (arith, r.0), omega (arith, r.0))
 stop_kind (Faulty f) k c r = absurd r
 stop_kind (Good parts) k c r = absurd r
 
-over_kind : (o : Options) (cells kept : Cells) (k c : ℕ) → IsOverLimit o cells kept k c → (2 ≤ k) × (k ≤ 7)
+over_kind : (o : PlainOptions) (cells kept : Cells) (k c : ℕ) → IsOverLimit o cells kept k c → (2 ≤ k) × (k ≤ 7)
 over_kind o cells kept k c (inl p) = (omega (arith, p.0), omega (arith, p.0))
 over_kind o cells kept k c (inr (inl p)) = (omega (arith, p.0), omega (arith, p.0))
 over_kind o cells kept k c (inr (inr (inl p))) = (omega (arith, p.0), omega (arith, p.0))
 over_kind o cells kept k c (inr (inr (inr p))) = (omega (arith, p.0), omega (arith, p.0))
 
 -- the limits that refuse a layer have the numbers 2 to 7
-pub layer_kind : (o : Options) (text : List ℕ) (k c : ℕ) → RefusesLayer o text (Limit k c) → (2 ≤ k) × (k ≤ 7)
+pub layer_kind : (o : PlainOptions) (text : List ℕ) (k c : ℕ) → RefusesLayer o text (Limit k c) → (2 ≤ k) × (k ≤ 7)
 layer_kind o text k c (inl r) = stop_kind (joined_reading o text) k c r
 layer_kind o text k c (inr r) = of_layer o text (λ cells kept. RefusesCells o cells kept (Limit k c)) (λ cells kept p. over_kind o cells kept k c p) r
 
@@ -210,11 +210,11 @@ reading_refuses read (cif.Limit Calls n) is = inr (subst (λ z. RefusesReading z
 reading_refuses read (cif.Limit Coordinate n) is = inr (subst (λ z. RefusesReading z (Limit 4 n)) (sym is) (refl, refl))
 reading_refuses read cif.NoMemory is = inl refl
 
-pub kept_refuses : (o : Options) (cells kept : Cells) (v : List Rect) (e : TileError) → AreTiles cells (map corners_of v) → length v ≤ 100000 → (e ≡ tile.TooMany → HasMoreTiles kept 100000) → (of_tiles e ≡ NoMemory) ⊎ RefusesCells o cells kept (of_tiles e)
+pub kept_refuses : (o : PlainOptions) (cells kept : Cells) (v : List Rect) (e : TileError) → AreTiles cells (map corners_of v) → length v ≤ 100000 → (e ≡ tile.TooMany → HasMoreTiles kept 100000) → (of_tiles e ≡ NoMemory) ⊎ RefusesCells o cells kept (of_tiles e)
 kept_refuses o cells kept v tile.TooMany t few many = inr (inr (inl (refl, refl, record { tiles = map corners_of v; are_tiles = t; few_tiles = rw (length-map v corners_of) few; many = many refl })))
 kept_refuses o cells kept v tile.NoMemory t few many = inl refl
 
-pub net_refuses : (o : Options) (cells kept : Cells) (f : Fragments) (e : NetError) (a : AreFragmentsOf (2 * o.space) (2 * o.overlap) cells kept f) → length a.keep ≤ 100000 → length f.rects ≤ 100000 → (e ≡ net.TooMany → HasMoreEdges f (2 * o.space) 400000)
+pub net_refuses : (o : PlainOptions) (cells kept : Cells) (f : Fragments) (e : NetError) (a : AreFragmentsOf (2 * o.space) (2 * o.overlap) cells kept f) → length a.keep ≤ 100000 → length f.rects ≤ 100000 → (e ≡ net.TooMany → HasMoreEdges f (2 * o.space) 400000)
     → (of_net e ≡ NoMemory) ⊎ RefusesCells o cells kept (of_net e)
 net_refuses o cells kept f net.TooMany a few_kept few many = inr (inr (inr (inr (refl, refl, record { fragments = f; are_fragments = a; few_kept = few_kept; few_fragments = few; many = many refl }))))
 net_refuses o cells kept f net.NoMemory a few_kept few many = inl refl

@@ -6,7 +6,7 @@ use Rattle.dpl_cuts.specs.declared.types.Fragments.{Fragments}
 use Rattle.dpl_sign.specs.declared.nets.Net.{Net}
 use Rattle.dpl_cif.specs.Reading.{Reading, reading}
 use Rattle.dpl_cif.specs.Reading.Reading.{Faulty, TooMany, TooManyCalls, TooFar, Good}
-use Rattle.dpl_report.specs.declared.options.Options.{Options}
+use Rattle.dpl_options.specs.Options.{PlainOptions}
 use Rattle.dpl_layer.specs.declared.drawing.Drawing.{Drawing}
 use Rattle.dpl_layer.specs.Drawings.{Cells, keep_reading, joined, joined_reading, OnBoth, OnLayer, IsDrawingOf}
 use Rattle.dpl_layer.specs.Layers.{IsLayer, IsLayerOf, IsSomeLayer, IsLayerOfText}
@@ -51,24 +51,24 @@ both_good (TooFar n) keep P h = absurd h
 -- ---- a text
 
 -- two properties of the cells of a text are properties of the same cells
-pub with_layer : {R : Type 0} (o : Options) (text : List ℕ) (P Q : Cells → Cells → Type 0) → ((cells kept : Cells) → P cells kept → Q cells kept → R) → OnLayer o text P → OnLayer o text Q → R
+pub with_layer : {R : Type 0} (o : PlainOptions) (text : List ℕ) (P Q : Cells → Cells → Type 0) → ((cells kept : Cells) → P cells kept → Q cells kept → R) → OnLayer o text P → OnLayer o text Q → R
 with_layer o text P Q step h k = with_both (reading o.layer text) (keep_reading o.keep text) P Q step h k
 
 -- what follows from the property of the cells
-pub of_layer : {R : Type 0} (o : Options) (text : List ℕ) (P : Cells → Cells → Type 0) → ((cells kept : Cells) → P cells kept → R) → OnLayer o text P → R
+pub of_layer : {R : Type 0} (o : PlainOptions) (text : List ℕ) (P : Cells → Cells → Type 0) → ((cells kept : Cells) → P cells kept → R) → OnLayer o text P → R
 of_layer o text P step h = with_layer o text P P (λ cells kept p q. step cells kept p) h h
 
-pub on_layer : (o : Options) (text : List ℕ) (P Q : Cells → Cells → Type 0) → ((cells kept : Cells) → P cells kept → Q cells kept) → OnLayer o text P → OnLayer o text Q
+pub on_layer : (o : PlainOptions) (text : List ℕ) (P Q : Cells → Cells → Type 0) → ((cells kept : Cells) → P cells kept → Q cells kept) → OnLayer o text P → OnLayer o text Q
 on_layer o text P Q step h = on_both (reading o.layer text) (keep_reading o.keep text) P Q step h
 
-pub layer_good : (o : Options) (text : List ℕ) (P : Cells → Cells → Type 0) → OnLayer o text P → (parts : List Outline) × (joined_reading o text ≡ Good parts)
+pub layer_good : (o : PlainOptions) (text : List ℕ) (P : Cells → Cells → Type 0) → OnLayer o text P → (parts : List Outline) × (joined_reading o text ≡ Good parts)
 layer_good o text P h = both_good (reading o.layer text) (keep_reading o.keep text) P h
 
 -- the cells of a text are those of its drawing
-pub on_drawing : (o : Options) (text : List ℕ) (d : Drawing) (P : Cells → Cells → Type 0) → IsDrawingOf o text d → P (cells_of d.layer) (cells_of d.keep) → OnLayer o text P
+pub on_drawing : (o : PlainOptions) (text : List ℕ) (d : Drawing) (P : Cells → Cells → Type 0) → IsDrawingOf o text d → P (cells_of d.layer) (cells_of d.keep) → OnLayer o text P
 on_drawing o text d P is p = rw (is.layer, is.keep) p
 
 -- ---- the layer of a text
 
-pub some_layer : (o : Options) (text : List ℕ) (f : Fragments) (n : Net) → IsLayerOfText o text f n → IsSomeLayer o f n
+pub some_layer : (o : PlainOptions) (text : List ℕ) (f : Fragments) (n : Net) → IsLayerOfText o text f n → IsSomeLayer o f n
 some_layer o text f n = of_layer o text (λ cells kept. IsLayer o cells kept f n) (λ cells kept l. record { cells = cells; kept = kept; is = l })

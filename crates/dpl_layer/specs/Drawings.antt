@@ -5,7 +5,7 @@ use Rattle.dpl_cell.specs.Outlines.{outline_of}
 use Rattle.dpl_cif.specs.Reading.{Reading, reading}
 use Rattle.dpl_cif.specs.Reading.Reading.{Faulty, TooMany, TooManyCalls, TooFar, Good}
 use Rattle.dpl_cif.specs.OnCells.{OnCells}
-use Rattle.dpl_report.specs.declared.options.Options.{Options}
+use Rattle.dpl_options.specs.Options.{PlainOptions}
 use Rattle.dpl_layer.specs.declared.drawing.Drawing.{Drawing}
 
 -- which cells a layer holds
@@ -35,7 +35,7 @@ joined (TooFar n) keep = fault_or keep (TooFar n)
 joined (Good parts) keep = keep
 
 -- the reading of both layers of a text
-abbrev pub joined_reading : Options → List ℕ → Reading
+abbrev pub joined_reading : PlainOptions → List ℕ → Reading
 joined_reading o text = joined (reading o.layer text) (keep_reading o.keep text)
 
 -- both readings are good, and their cells have the property
@@ -44,10 +44,10 @@ OnBoth chosen keep P = OnCells chosen (λ cells. OnCells keep (λ kept. P cells 
 
 -- both layers of the text were read, and their cells have the property: those of the chosen layer, and those where
 -- nothing is cut
-abbrev pub OnLayer : Options → List ℕ → (Cells → Cells → Type 0) → Type 0
+abbrev pub OnLayer : PlainOptions → List ℕ → (Cells → Cells → Type 0) → Type 0
 OnLayer o text P = OnBoth (reading o.layer text) (keep_reading o.keep text) P
 
 -- what the text draws on the two layers
-pub record IsDrawingOf (o : Options) (text : List ℕ) (d : Drawing) : Type 0 where
+pub record IsDrawingOf (o : PlainOptions) (text : List ℕ) (d : Drawing) : Type 0 where
   pub layer : reading o.layer text ≡ Good (map outline_of d.layer.prims)
   pub keep : keep_reading o.keep text ≡ Good (map outline_of d.keep.prims)

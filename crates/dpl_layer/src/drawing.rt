@@ -15,7 +15,7 @@ use dpl_cif::{CifError, read_commands};
 use dpl_lex::Name;
 use dpl_lex::types::Commands;
 use dpl_list::Items;
-use dpl_report::Options;
+use dpl_options::Options;
 use std::alloc::Global;
 
 /// What is drawn on the chosen layer, and on the layer where nothing is cut.
@@ -43,7 +43,7 @@ pub fn read_drawing(
     ensures exact { (e : LayerError) → RefusesDrawing options.now text.now e →
         (result ≡ Err e) ⊎ (result ≡ Err LayerError.NoMemory) }
 {
-    let drawing = read_both(alloc, text, commands, &options.layer, &options.keep)?;
+    let drawing = read_both(alloc, text, commands, options.layer(), options.keep())?;
     Ok(drawing)
 }
 

@@ -5,7 +5,7 @@ ghost use Rattle.dpl_sign.specs.declared.nets.Net.{Net};
 ghost use Rattle.dpl_layer.specs.Drawings.{Cells};
 ghost use Rattle.dpl_layer.specs.Layers.{IsLayerOf};
 
-use dpl_report::Options;
+use dpl_options::Options;
 
 /// Cells, and cells that are kept whole, have one list of fragments and one net.
 pub fn one_layer(options: &Options)

@@ -15,7 +15,7 @@ use dpl_cuts::cut;
 use dpl_cuts::types::Fragments;
 use dpl_links::net;
 use dpl_near::shapes;
-use dpl_report::Options;
+use dpl_options::Options;
 use dpl_sign::Net;
 use dpl_tiles::{tiles, tiles_share_out};
 use std::alloc::Global;
@@ -50,7 +50,7 @@ fn link_drawing(alloc: Global, drawing: &Drawing, options: &Options) -> Result<L
 {
     tiles_share_out(&drawing.layer);
     let fragments = cut_drawing(alloc, drawing, options)?;
-    let net = net(alloc, &fragments, &options.weights, 2 * options.space)?;
+    let net = net(alloc, &fragments, options.weights(), options.space_in_units())?;
     Ok(Layer { fragments, net })
 }
 
@@ -103,8 +103,8 @@ fn cut_tiles(
         tiles,
         &shapes,
         keep,
-        2 * options.space,
-        2 * options.overlap,
+        options.space_in_units(),
+        options.overlap_in_units(),
     )?;
     Ok(fragments)
 }

@@ -10,7 +10,7 @@ use crate::error::LayerError;
 use crate::laying::{Layer, layer_of};
 use dpl_lex::commands;
 use dpl_lex::types::Commands;
-use dpl_report::Options;
+use dpl_options::Options;
 use std::alloc::Global;
 
 /// The fragments and the net of a layer of a text. Nothing is cut in a cell of the keep layer, if there is one.
