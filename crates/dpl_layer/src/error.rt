@@ -55,15 +55,24 @@ impl From<CifError> for LayerError {
             CifError::Limit {
                 kind: CifLimit::Primitives,
                 count,
-            } => LayerError::Limit { kind: Counted::Primitives.number(), count },
+            } => LayerError::Limit {
+                kind: Counted::Primitives.number(),
+                count,
+            },
             CifError::Limit {
                 kind: CifLimit::Calls,
                 count,
-            } => LayerError::Limit { kind: Counted::Calls.number(), count },
+            } => LayerError::Limit {
+                kind: Counted::Calls.number(),
+                count,
+            },
             CifError::Limit {
                 kind: CifLimit::Coordinate,
                 count,
-            } => LayerError::Limit { kind: Counted::Coordinates.number(), count },
+            } => LayerError::Limit {
+                kind: Counted::Coordinates.number(),
+                count,
+            },
             CifError::NoMemory => LayerError::NoMemory,
         }
     }

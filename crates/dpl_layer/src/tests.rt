@@ -4,8 +4,7 @@ ghost use Rattle.dpl_report.specs.Misses.{name_or_nothing};
 use crate::{Layer, LayerError, layer_of, read_drawing, read_layer};
 use dpl_cif::What;
 use dpl_lex::{Name, commands};
-use dpl_options::Weights;
-use dpl_options::Options;
+use dpl_options::{Options, Weights};
 use std::alloc::Global;
 use std::test::Fail;
 

@@ -52,7 +52,10 @@ facing_cells a b f = elim f.line [
 cells_facing : (a b : Corners) (space : ℕ) → AreClose (IsIn a) (IsIn b) space → (p q : Bool)
     → overlap a.x1 a.x2 b.x1 b.x2 ≡ p → overlap a.y1 a.y2 b.y1 b.y2 ≡ q → (p || q) ≡ true → FaceEachOther (IsIn a) (IsIn b)
 cells_facing a b space c true q e f t = record {
-  x = int_max a.x1 b.x1; y = c.y; x' = int_max a.x1 b.x1; y' = c.y';
+  x = int_max a.x1 b.x1;
+  y = c.y;
+  x' = int_max a.x1 b.x1;
+  y' = c.y';
   cells = record {
     first = record { column = from_first a.x1 a.x2 b.x1 b.x2 e; row = c.cells.first.row };
     second = record { column = from_second a.x1 a.x2 b.x1 b.x2 e; row = c.cells.second.row };
@@ -60,7 +63,10 @@ cells_facing a b space c true q e f t = record {
   line = inl refl;
 }
 cells_facing a b space c false true e f t = record {
-  x = c.x; y = int_max a.y1 b.y1; x' = c.x'; y' = int_max a.y1 b.y1;
+  x = c.x;
+  y = int_max a.y1 b.y1;
+  x' = c.x';
+  y' = int_max a.y1 b.y1;
   cells = record {
     first = record { column = c.cells.first.column; row = from_first a.y1 a.y2 b.y1 b.y2 f };
     second = record { column = c.cells.second.column; row = from_second a.y1 a.y2 b.y1 b.y2 f };

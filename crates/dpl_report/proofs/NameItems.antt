@@ -66,8 +66,11 @@ pub version_item : IsItem item_version version_line (λ _. Unit {0})
 version_item = record {
   some = true;
   some_fits = tt;
-  takes = λ l x e. (tt, version_by (bytes_eq (version_line false) l) (bytes_eq (version_line true) l) l x
-  (λ t. sym ((bytes_eq-Decides (version_line true) l).0 t)) (λ t. sym ((bytes_eq-Decides (version_line false) l).0 t)) e);
+  takes = λ l x e. (
+    tt,
+    version_by (bytes_eq (version_line false) l) (bytes_eq (version_line true) l) l x
+        (λ t. sym ((bytes_eq-Decides (version_line true) l).0 t)) (λ t. sym ((bytes_eq-Decides (version_line false) l).0 t)) e,
+  );
   again = λ x f. version_again x;
 } where
   version_again : (x : Bool) → item_version (version_line x) ≡ Some x

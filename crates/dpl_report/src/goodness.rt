@@ -11,9 +11,9 @@ ghost use Rattle.dpl_report.specs.MaskCells.{AreCutFrom, AreMasksOf};
 ghost use Rattle.dpl_report.specs.Facts.{AreNineFacts};
 ghost use Rattle.dpl_cuts.specs.Fragments.{AreFragments};
 
-use dpl_options::Options;
 use crate::reports::Report;
 use dpl_cuts::types::Fragments;
+use dpl_options::Options;
 use dpl_sign::Net;
 
 /// A report that says the truth is good. It is a fact about the definitions; nothing runs.
