@@ -50,12 +50,8 @@ fn link_drawing(alloc: Global, drawing: &Drawing, options: &Options) -> Result<L
 {
     tiles_share_out(&drawing.layer);
     let fragments = cut_drawing(alloc, drawing, options)?;
-    let net = net(
-        alloc,
-        &fragments,
-        options.weights(),
-        options.space_in_units(),
-    )?;
+    let space = options.space_in_units();
+    let net = net(alloc, &fragments, options.weights(), space)?;
     Ok(Layer { fragments, net })
 }
 
