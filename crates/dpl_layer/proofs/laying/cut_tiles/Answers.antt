@@ -19,7 +19,7 @@ returns-clause-fragments c = (
     are_tiles = c.requires.tiles;
     are_shapes = c.in_ok-shapes.ensures.shapes;
     are_kept = c.requires.kept;
-    are_fragments = c.in_ok-fragments.ensures.fragments;
+    are_fragments = rw (c.space_in_units.ensures.value, c.overlap_in_units.ensures.value) at c.in_ok-fragments.ensures.fragments;
   },
   rw (length-map c.args.keep.now corners_of) c.requires.few_kept,
 )
