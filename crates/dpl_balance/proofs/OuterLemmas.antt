@@ -103,12 +103,12 @@ own_area on_b (r ∷ rs) (c ∷ cs) n = by_test (own_area on_b rs cs (omega (ari
 outer : ℕ → List Corners → Fragments → Bool → List Bool → Cut → Corners
 outer over tiles f on_b colours c = half_of over tiles f c (agree (colour_of colours c.a) on_b)
 
-keep : Bool → Corners → List Corners → List Corners
-keep t r rs = if t then r ∷ rs else rs
+put_where : Bool → Corners → List Corners → List Corners
+put_where t r rs = if t then r ∷ rs else rs
 
 outers : ℕ → List Corners → Fragments → Bool → List Bool → List Cut → List Corners
 outers over tiles f on_b colours [] = []
-outers over tiles f on_b colours (c ∷ cs) = keep (is_zone colours c) (outer over tiles f on_b colours c) (outers over tiles f on_b colours cs)
+outers over tiles f on_b colours (c ∷ cs) = put_where (is_zone colours c) (outer over tiles f on_b colours c) (outers over tiles f on_b colours cs)
 
 outer_colour : (c : Cut) (colours : List Bool) (on_b : Bool) → is_zone colours c ≡ true → agree (colour_of colours (owner c (agree (colour_of colours c.a) on_b))) on_b ≡ false
 outer_colour c colours on_b e = by_colours (colour_of colours c.a) refl (colour_of colours c.b) refl on_b e where
@@ -137,48 +137,48 @@ record IsOuter (f : Fragments) (on_b : Bool) (colours : List Bool) (q : Corners)
   colour : agree (colour_of colours number) on_b ≡ false
   inside : (x y : ℤ) → IsIn q x y → IsIn (rect_at (rects_of f) number) x y
 
-outer_is : (space over : ℕ) (tiles : List Corners) (f : Fragments) (on_b : Bool) (colours : List Bool) (c : Cut) → AreHere space over tiles f → IsCutOf over tiles f c → is_zone colours c ≡ true → IsOuter f on_b colours (outer over tiles f on_b colours c)
+outer_is : (keep : List Corners) (space over : ℕ) (tiles : List Corners) (f : Fragments) (on_b : Bool) (colours : List Bool) (c : Cut) → AreHere keep space over tiles f → IsCutOf over tiles f c → is_zone colours c ≡ true → IsOuter f on_b colours (outer over tiles f on_b colours c)
 unfolding outer
-outer_is space over tiles f on_b colours c a i e = record {
+outer_is keep space over tiles f on_b colours c a i e = record {
   number = owner c (agree (colour_of colours c.a) on_b);
   within = owner_within over tiles f c i (agree (colour_of colours c.a) on_b);
   colour = outer_colour c colours on_b e;
-  inside = half_in_fragment space over tiles f c (a.cut c i) (agree (colour_of colours c.a) on_b);
+  inside = half_in_fragment keep space over tiles f c (a.cut c i) (agree (colour_of colours c.a) on_b);
 }
 
 -- a property of the outer half at each broken cut holds of all outer halves
 all_outers : (P : Corners → Type 0) (over : ℕ) (tiles : List Corners) (f : Fragments) (on_b : Bool) (colours : List Bool) (cuts : List Cut)
     → All (λ (c : Cut). is_zone colours c ≡ true → P (outer over tiles f on_b colours c)) cuts → All P (outers over tiles f on_b colours cuts)
-unfolding outers keep
+unfolding outers put_where
 all_outers P over tiles f on_b colours [] a = All-nil P
 all_outers P over tiles f on_b colours (c ∷ cs) a =
     by_test (all_outers P over tiles f on_b colours cs (all_tail (λ (c : Cut). is_zone colours c ≡ true → P (outer over tiles f on_b colours c)) c cs a)) (is_zone colours c) refl where
-      by_test : All P (outers over tiles f on_b colours cs) → (t : Bool) → is_zone colours c ≡ t → All P (keep t (outer over tiles f on_b colours c) (outers over tiles f on_b colours cs))
+      by_test : All P (outers over tiles f on_b colours cs) → (t : Bool) → is_zone colours c ≡ t → All P (put_where t (outer over tiles f on_b colours c) (outers over tiles f on_b colours cs))
       by_test others true e = All-cons P (outer over tiles f on_b colours c) (outers over tiles f on_b colours cs) (all_head (λ (c : Cut). is_zone colours c ≡ true → P (outer over tiles f on_b colours c)) c cs a e) others
       by_test others false e = others
 
-outers_apart : (space over : ℕ) (tiles : List Corners) (f : Fragments) (on_b : Bool) (colours : List Bool) (cuts : List Cut) → AreHere space over tiles f → All (IsCutOf over tiles f) cuts → AllPairs (λ (c d : Cut). c.a < d.a) cuts → AllPairs AreApart (outers over tiles f on_b colours cuts)
-unfolding outers keep outer
-outers_apart space over tiles f on_b colours [] a all ordered = λ i j d l m. absurd (omega (arith, m))
-outers_apart space over tiles f on_b colours (c ∷ cs) a all ordered =
-    by_test (outers_apart space over tiles f on_b colours cs a (all_tail (IsCutOf over tiles f) c cs all) (pairs_tail (λ (c d : Cut). c.a < d.a) c cs ordered)) (is_zone colours c) where
+outers_apart : (keep : List Corners) (space over : ℕ) (tiles : List Corners) (f : Fragments) (on_b : Bool) (colours : List Bool) (cuts : List Cut) → AreHere keep space over tiles f → All (IsCutOf over tiles f) cuts → AllPairs (λ (c d : Cut). c.a < d.a) cuts → AllPairs AreApart (outers over tiles f on_b colours cuts)
+unfolding outers put_where outer
+outers_apart keep space over tiles f on_b colours [] a all ordered = λ i j d l m. absurd (omega (arith, m))
+outers_apart keep space over tiles f on_b colours (c ∷ cs) a all ordered =
+    by_test (outers_apart keep space over tiles f on_b colours cs a (all_tail (IsCutOf over tiles f) c cs all) (pairs_tail (λ (c d : Cut). c.a < d.a) c cs ordered)) (is_zone colours c) where
       here_apart : All (AreApart (outer over tiles f on_b colours c)) (outers over tiles f on_b colours cs)
       here_apart = all_outers (AreApart (outer over tiles f on_b colours c)) over tiles f on_b colours cs
-          (λ k d l e. halves_apart space over tiles f a c (get_or cs k d) (all_head (IsCutOf over tiles f) c cs all) (all_tail (IsCutOf over tiles f) c cs all k d l) (pairs_head (λ (c d : Cut). c.a < d.a) c cs ordered k d l) (agree (colour_of colours c.a) on_b) (agree (colour_of colours (get_or cs k d).a) on_b))
+          (λ k d l e. halves_apart keep space over tiles f a c (get_or cs k d) (all_head (IsCutOf over tiles f) c cs all) (all_tail (IsCutOf over tiles f) c cs all k d l) (pairs_head (λ (c d : Cut). c.a < d.a) c cs ordered k d l) (agree (colour_of colours c.a) on_b) (agree (colour_of colours (get_or cs k d).a) on_b))
 
-      by_test : AllPairs AreApart (outers over tiles f on_b colours cs) → (t : Bool) → AllPairs AreApart (keep t (outer over tiles f on_b colours c) (outers over tiles f on_b colours cs))
+      by_test : AllPairs AreApart (outers over tiles f on_b colours cs) → (t : Bool) → AllPairs AreApart (put_where t (outer over tiles f on_b colours c) (outers over tiles f on_b colours cs))
       by_test others true = AllPairs-cons AreApart (outer over tiles f on_b colours c) (outers over tiles f on_b colours cs) here_apart others
       by_test others false = others
 
 outers_area : (over : ℕ) (tiles : List Corners) (f : Fragments) (on_b : Bool) (colours : List Bool) (cuts : List Cut) → All (IsCutOf over tiles f) cuts → sum_by area_of (outers over tiles f on_b colours cuts) ≡ zones_area cuts all_fragments colours
-unfolding outers keep outer
+unfolding outers put_where outer
 outers_area over tiles f on_b colours [] all = refl
 outers_area over tiles f on_b colours (c ∷ cs) all =
     by_test (outers_area over tiles f on_b colours cs (all_tail (IsCutOf over tiles f) c cs all)) (is_zone colours c) refl ∙ sym (sum_by-cons (half_zone all_fragments colours) c cs) where
       size : area_of (outer over tiles f on_b colours c) ≡ area_of (corners_of c.zone) / 2
       size = half_of_area over tiles f c (all_head (IsCutOf over tiles f) c cs all) (agree (colour_of colours c.a) on_b)
 
-      by_test : sum_by area_of (outers over tiles f on_b colours cs) ≡ zones_area cs all_fragments colours → (t : Bool) → is_zone colours c ≡ t → sum_by area_of (keep t (outer over tiles f on_b colours c) (outers over tiles f on_b colours cs)) ≡ half_zone all_fragments colours c + zones_area cs all_fragments colours
+      by_test : sum_by area_of (outers over tiles f on_b colours cs) ≡ zones_area cs all_fragments colours → (t : Bool) → is_zone colours c ≡ t → sum_by area_of (put_where t (outer over tiles f on_b colours c) (outers over tiles f on_b colours cs)) ≡ half_zone all_fragments colours c + zones_area cs all_fragments colours
       by_test rest true e = sum_by-cons area_of (outer over tiles f on_b colours c) (outers over tiles f on_b colours cs) ∙ omega (arith, rest, size, ap (λ b. cond {A = ℕ} b (area_of (corners_of c.zone) / 2) 0) e)
       by_test rest false e = omega (arith, rest, ap (λ b. cond {A = ℕ} b (area_of (corners_of c.zone) / 2) 0) e)
 
@@ -188,7 +188,7 @@ zone_rects : List Bool → List Cut → List Corners
 zone_rects colours cuts = map corners_of (zones_of colours cuts)
 
 outers_on_zones : (over : ℕ) (tiles : List Corners) (f : Fragments) (on_b : Bool) (colours : List Bool) (cuts : List Cut) → All (IsCutOf over tiles f) cuts → (x y : ℤ) → HoldCell (outers over tiles f on_b colours cuts) x y → HoldCell (zone_rects colours cuts) x y
-unfolding outers keep outer zone_rects
+unfolding outers put_where outer zone_rects
 outers_on_zones over tiles f on_b colours [] all x y (k, s, l, e, i) = absurd (omega (arith, l))
 outers_on_zones over tiles f on_b colours (c ∷ cs) all x y h = by_test (outers_on_zones over tiles f on_b colours cs (all_tail (IsCutOf over tiles f) c cs all) x y) (is_zone colours c) h where
   either : (HoldCell (outers over tiles f on_b colours cs) x y → HoldCell (zone_rects colours cs) x y) → HoldCell (outer over tiles f on_b colours c ∷ outers over tiles f on_b colours cs) x y → HoldCell (corners_of c.zone ∷ zone_rects colours cs) x y
@@ -197,15 +197,15 @@ outers_on_zones over tiles f on_b colours (c ∷ cs) all x y h = by_test (outers
       any_head (λ r. IsIn r x y) (corners_of c.zone) (zone_rects colours cs) (half_in_zone over tiles f c (all_head (IsCutOf over tiles f) c cs all) (agree (colour_of colours c.a) on_b) x y (subst P (sym e) i))
   either others (suc k, s, l, e, i) = any_tail (λ r. IsIn r x y) (corners_of c.zone) (zone_rects colours cs) (others (k, s, omega (arith, l), e, i))
 
-  by_test : (HoldCell (outers over tiles f on_b colours cs) x y → HoldCell (zone_rects colours cs) x y) → (t : Bool) → HoldCell (keep t (outer over tiles f on_b colours c) (outers over tiles f on_b colours cs)) x y → HoldCell (map corners_of (where_same t c.zone (zones_of colours cs))) x y
+  by_test : (HoldCell (outers over tiles f on_b colours cs) x y → HoldCell (zone_rects colours cs) x y) → (t : Bool) → HoldCell (put_where t (outer over tiles f on_b colours c) (outers over tiles f on_b colours cs)) x y → HoldCell (map corners_of (where_same t c.zone (zones_of colours cs))) x y
   by_test others true h = either others h
   by_test others false h = others h
 
-zones_on_mask : (space over : ℕ) (tiles : List Corners) (f : Fragments) (on_b : Bool) (colours : List Bool) (cuts : List Cut) → length colours ≡ length f.rects → AreHere space over tiles f → All (IsCutOf over tiles f) cuts → (x y : ℤ)
+zones_on_mask : (keep : List Corners) (space over : ℕ) (tiles : List Corners) (f : Fragments) (on_b : Bool) (colours : List Bool) (cuts : List Cut) → length colours ≡ length f.rects → AreHere keep space over tiles f → All (IsCutOf over tiles f) cuts → (x y : ℤ)
     → HoldCell (zone_rects colours cuts) x y → HoldCell (own_rects on_b f.rects colours) x y ⊎ HoldCell (outers over tiles f on_b colours cuts) x y
-unfolding outers keep outer zone_rects
-zones_on_mask space over tiles f on_b colours [] n a all x y (k, s, l, e, i) = absurd (omega (arith, l))
-zones_on_mask space over tiles f on_b colours (c ∷ cs) n a all x y h = by_test (zones_on_mask space over tiles f on_b colours cs n a (all_tail (IsCutOf over tiles f) c cs all) x y) (is_zone colours c) refl h where
+unfolding outers put_where outer zone_rects
+zones_on_mask keep space over tiles f on_b colours [] n a all x y (k, s, l, e, i) = absurd (omega (arith, l))
+zones_on_mask keep space over tiles f on_b colours (c ∷ cs) n a all x y h = by_test (zones_on_mask keep space over tiles f on_b colours cs n a (all_tail (IsCutOf over tiles f) c cs all) x y) (is_zone colours c) refl h where
   Later : Type 0
   Later = HoldCell (zone_rects colours cs) x y → HoldCell (own_rects on_b f.rects colours) x y ⊎ HoldCell (outers over tiles f on_b colours cs) x y
 
@@ -220,7 +220,7 @@ zones_on_mask space over tiles f on_b colours (c ∷ cs) n a all x y h = by_test
         let P : Bool → Type 0 = λ z. agree (colour_of colours (owner c z)) on_b ≡ true in
         let colour : agree (colour_of colours (owner c b)) on_b ≡ true = subst P (ap not g ∙ sym s) (inner_colour c colours on_b e) in
         let m = owner_within over tiles f c cut b in
-        inl (own_held on_b f.rects colours (owner c b) x y n (let k = length-map f.rects corners_of in omega arith) colour (half_in_fragment space over tiles f c (a.cut c cut) b x y i))
+        inl (own_held on_b f.rects colours (owner c b) x y n (let k = length-map f.rects corners_of in omega arith) colour (half_in_fragment keep space over tiles f c (a.cut c cut) b x y i))
   ] where
     same_or_not : (b own : Bool) → (b ≡ own) ⊎ (b ≡ not own)
     same_or_not true true = inl refl
@@ -240,7 +240,7 @@ zones_on_mask space over tiles f on_b colours (c ∷ cs) n a all x y h = by_test
     | inr o ↦ inr (any_tail (λ r. IsIn r x y) (outer over tiles f on_b colours c) (outers over tiles f on_b colours cs) o)
   ]
 
-  by_test : Later → (t : Bool) → is_zone colours c ≡ t → HoldCell (map corners_of (where_same t c.zone (zones_of colours cs))) x y → HoldCell (own_rects on_b f.rects colours) x y ⊎ HoldCell (keep t (outer over tiles f on_b colours c) (outers over tiles f on_b colours cs)) x y
+  by_test : Later → (t : Bool) → is_zone colours c ≡ t → HoldCell (map corners_of (where_same t c.zone (zones_of colours cs))) x y → HoldCell (own_rects on_b f.rects colours) x y ⊎ HoldCell (put_where t (outer over tiles f on_b colours c) (outers over tiles f on_b colours cs)) x y
   by_test others true e h = either others e h
   by_test others false e h = others h
 
@@ -267,20 +267,20 @@ colours_differ a on_b e g = true≢false (sym e ∙ g)
 mask_parts : ℕ → List Corners → Fragments → Bool → List Bool → List Corners
 mask_parts over tiles f on_b colours = own_rects on_b f.rects colours ++ outers over tiles f on_b colours f.cuts
 
-parts_proper : (space over : ℕ) (tiles : List Corners) (f : Fragments) (on_b : Bool) (colours : List Bool) → AreHere space over tiles f → All (IsCutOf over tiles f) f.cuts → All IsProper (mask_parts over tiles f on_b colours)
+parts_proper : (keep : List Corners) (space over : ℕ) (tiles : List Corners) (f : Fragments) (on_b : Bool) (colours : List Bool) → AreHere keep space over tiles f → All (IsCutOf over tiles f) f.cuts → All IsProper (mask_parts over tiles f on_b colours)
 unfolding mask_parts outer
-parts_proper space over tiles f on_b colours a all = All-append IsProper (own_rects on_b f.rects colours) (outers over tiles f on_b colours f.cuts)
+parts_proper keep space over tiles f on_b colours a all = All-append IsProper (own_rects on_b f.rects colours) (outers over tiles f on_b colours f.cuts)
     (all_kept IsProper on_b f.rects colours (rects_proper f))
     (all_outers IsProper over tiles f on_b colours f.cuts (λ k d l e.
     let c = get_or f.cuts k d in
     let i : IsCutOf over tiles f c = all k d l in
     let m : c.a < length (rects_of f) = let r = i.rising in let w = i.within in omega arith in
-    half_proper space over tiles f c (a.cut c i) (rects_proper f c.a nowhere m) (agree (colour_of colours c.a) on_b)))
+    half_proper keep space over tiles f c (a.cut c i) (rects_proper f c.a nowhere m) (agree (colour_of colours c.a) on_b)))
 
-parts_apart : (space over : ℕ) (tiles : List Corners) (f : Fragments) (on_b : Bool) (colours : List Bool) → AreHere space over tiles f → All (IsCutOf over tiles f) f.cuts → AllPairs (λ (c d : Cut). c.a < d.a) f.cuts → AllPairs AreApart (mask_parts over tiles f on_b colours)
+parts_apart : (keep : List Corners) (space over : ℕ) (tiles : List Corners) (f : Fragments) (on_b : Bool) (colours : List Bool) → AreHere keep space over tiles f → All (IsCutOf over tiles f) f.cuts → AllPairs (λ (c d : Cut). c.a < d.a) f.cuts → AllPairs AreApart (mask_parts over tiles f on_b colours)
 unfolding mask_parts
-parts_apart space over tiles f on_b colours a all ordered = all_pairs_append AreApart (own_rects on_b f.rects colours) (outers over tiles f on_b colours f.cuts)
-    (own_apart on_b f.rects colours a.apart) (outers_apart space over tiles f on_b colours f.cuts a all ordered)
+parts_apart keep space over tiles f on_b colours a all ordered = all_pairs_append AreApart (own_rects on_b f.rects colours) (outers over tiles f on_b colours f.cuts)
+    (own_apart on_b f.rects colours a.apart) (outers_apart keep space over tiles f on_b colours f.cuts a all ordered)
     (λ i j d l m shared.
     let own = own_are on_b f.rects colours i d l in
     let other = outers_are j d m in
@@ -289,7 +289,7 @@ parts_apart space over tiles f on_b colours a all ordered = all_pairs_append Are
     numbers_apart f a.apart own.number other.number n other.within (λ e. colours_differ (colour_of colours own.number) on_b own.colour (ap (λ k. agree (colour_of colours k) on_b) e ∙ other.colour)) shared.x shared.y
     (subst P own.is shared.first) (other.inside shared.x shared.y shared.second)) where
       outers_are : All (IsOuter f on_b colours) (outers over tiles f on_b colours f.cuts)
-      outers_are = all_outers (IsOuter f on_b colours) over tiles f on_b colours f.cuts (λ k d l e. outer_is space over tiles f on_b colours (get_or f.cuts k d) a (all k d l) e)
+      outers_are = all_outers (IsOuter f on_b colours) over tiles f on_b colours f.cuts (λ k d l e. outer_is keep space over tiles f on_b colours (get_or f.cuts k d) a (all k d l) e)
 
 parts_area : (over : ℕ) (tiles : List Corners) (f : Fragments) (on_b : Bool) (colours : List Bool) → length colours ≡ length f.rects → All (IsCutOf over tiles f) f.cuts → sum_by area_of (mask_parts over tiles f on_b colours) ≡ mask_area f on_b colours
 unfolding mask_parts
@@ -300,10 +300,10 @@ mask_is : (f : Fragments) (on_b : Bool) (colours : List Bool) → map corners_of
 unfolding own_rects zone_rects
 mask_is f on_b colours = map-append corners_of (fragments_on on_b f.rects colours) (zones_of colours f.cuts)
 
-parts_same : (space over : ℕ) (tiles : List Corners) (f : Fragments) (on_b : Bool) (colours : List Bool) → length colours ≡ length f.rects → AreHere space over tiles f → All (IsCutOf over tiles f) f.cuts → (x y : ℤ)
+parts_same : (keep : List Corners) (space over : ℕ) (tiles : List Corners) (f : Fragments) (on_b : Bool) (colours : List Bool) → length colours ≡ length f.rects → AreHere keep space over tiles f → All (IsCutOf over tiles f) f.cuts → (x y : ℤ)
     → HoldCell (mask_parts over tiles f on_b colours) x y ↔ HoldCell (map corners_of (mask_of on_b f colours)) x y
 unfolding mask_parts
-parts_same space over tiles f on_b colours n a all x y =
+parts_same keep space over tiles f on_b colours n a all x y =
     let C : Corners → Type 0 = λ r. IsIn r x y in
     let own = own_rects on_b f.rects colours in
     let outside = outers over tiles f on_b colours f.cuts in
@@ -315,7 +315,7 @@ parts_same space over tiles f on_b colours n a all x y =
       ]),
       λ h. elim (any_cases C own zones (subst P (mask_is f on_b colours) h)) [
         | inl o ↦ any_left C own outside o
-        | inr z ↦ elim (zones_on_mask space over tiles f on_b colours f.cuts n a all x y z) [
+        | inr z ↦ elim (zones_on_mask keep space over tiles f on_b colours f.cuts n a all x y z) [
           | inl o ↦ any_left C own outside o
           | inr o ↦ any_right C own outside o
         ]
@@ -325,9 +325,9 @@ parts_same space over tiles f on_b colours n a all x y =
 -- a mask of fragments that came from tiles has as many cells as its area says
 pub mask_cells : (space : ℕ) (f : Fragments) (on_b : Bool) (colours : List Bool) → length colours ≡ length f.rects → CameFromCut space f → HasCells (HoldCell (map corners_of (mask_of on_b f colours))) (mask_area f on_b colours)
 mask_cells space f on_b colours n came =
-    let a : AreHere space came.over came.tiles f = record { wide = came.lengths.wide; apart = came_apart space f came; cut = λ c i. here space came.over came.tiles came.label f c came.lengths.wide came.fragments i } in
+    let a : AreHere came.keep space came.over came.tiles f = record { wide = came.lengths.wide; apart = came_apart space f came; cut = λ c i. here came.keep space came.over came.tiles came.label f c came.lengths.wide came.fragments i } in
     let all = came.fragments.cuts.each in
     let parts = mask_parts came.over came.tiles f on_b colours in
-    let counted = apart_cells parts (parts_proper space came.over came.tiles f on_b colours a all) (parts_apart space came.over came.tiles f on_b colours a all came.fragments.cuts.ordered) in
+    let counted = apart_cells parts (parts_proper came.keep space came.over came.tiles f on_b colours a all) (parts_apart came.keep space came.over came.tiles f on_b colours a all came.fragments.cuts.ordered) in
     let H : ℕ → Type 0 = HasCells (HoldCell parts) in
-    same_cells (HoldCell parts) (HoldCell (map corners_of (mask_of on_b f colours))) (mask_area f on_b colours) (parts_same space came.over came.tiles f on_b colours n a all) (subst H (parts_area came.over came.tiles f on_b colours n all) counted)
+    same_cells (HoldCell parts) (HoldCell (map corners_of (mask_of on_b f colours))) (mask_area f on_b colours) (parts_same came.keep space came.over came.tiles f on_b colours n a all) (subst H (parts_area came.over came.tiles f on_b colours n all) counted)

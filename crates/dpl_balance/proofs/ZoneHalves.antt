@@ -45,8 +45,8 @@ cell_at tile a b c d x y p = by_way (lies_along_x tile) refl where
 in_middle : (a b : ℤ) → a <ℤ b → IsWithin a b (middle a b)
 in_middle a b h = record { from = omega signed; to = omega signed }
 
-rooms_apart : (cells : ℤ → ℤ → Bool) (space over : ℕ) (tile : Corners) (c d : ℤ) → IsCutAt cells space over tile c → IsCutAt cells space over tile d → c <ℤ d → (c +ℤ pos (over / 2)) ≤ℤ (d -ℤ pos (over / 2))
-rooms_apart cells space over tile c d s t l =
+rooms_apart : (cells : ℤ → ℤ → Bool) (keep : List Corners) (space over : ℕ) (tile : Corners) (c d : ℤ) → IsCutAt cells keep space over tile c → IsCutAt cells keep space over tile d → c <ℤ d → (c +ℤ pos (over / 2)) ≤ℤ (d -ℤ pos (over / 2))
+rooms_apart cells keep space over tile c d s t l =
     let low : t.from ≤ℤ (d -ℤ pos (over / 2)) = rw t.at (half_room t.from t.to over t.long) in
     let high : (c +ℤ pos (over / 2)) ≤ℤ s.to = rw s.at (half_room' s.from s.to over s.long) in
     let own : IsWithin s.from s.to c = rw s.at (in_middle s.from s.to s.free.long) in
@@ -54,7 +54,7 @@ rooms_apart cells space over tile c d s t l =
     by_lt_z t.from s.to
     (λ m. by_lt_z d s.to
     (λ k. absurd (
-    let (e, f) = one_maximal (IsFree cells space tile) s.from s.to t.from t.to d s.free t.free (within s.from s.to c d own l k) other in
+    let (e, f) = one_maximal (IsFree cells keep space tile) s.from s.to t.from t.to d s.free t.free (within s.from s.to c d own l k) other in
     same c d l (s.at ∙ ap (λ x. middle x s.to) e ∙ ap (λ x. middle t.from x) f ∙ sym t.at)))
     (λ k. absurd (s.free.right (t.free.full s.to (between s.to t.from t.to d m k other)))))
     (λ m. chain _ s.to t.from _ high m low) where
@@ -71,13 +71,13 @@ rooms_apart cells space over tile c d s t l =
       chain a b c d h g k = omega signed
 
 -- the fragment before a cut has room for half of the zone, and so has the one behind
-room_before : (cells : ℤ → ℤ → Bool) (space over : ℕ) (tile : Corners) (from at : ℤ) → IsBetweenCuts cells space over tile from at → IsCutAt cells space over tile at → from ≤ℤ (at -ℤ pos (over / 2))
-room_before cells space over tile from at f t = elim f.low [
+room_before : (cells : ℤ → ℤ → Bool) (keep : List Corners) (space over : ℕ) (tile : Corners) (from at : ℤ) → IsBetweenCuts cells keep space over tile from at → IsCutAt cells keep space over tile at → from ≤ℤ (at -ℤ pos (over / 2))
+room_before cells keep space over tile from at f t = elim f.low [
   | inl e ↦
-      let (l, r) = maximal_inside cells space tile t.from t.to t.free in
+      let (l, r) = maximal_inside cells keep space tile t.from t.to t.free in
       let low : t.from ≤ℤ (at -ℤ pos (over / 2)) = rw t.at (half_room t.from t.to over t.long) in
       chain from (first_of tile) t.from _ e l low
-  | inr c ↦ nearer from at (over / 2) (rooms_apart cells space over tile from at c t f.some)
+  | inr c ↦ nearer from at (over / 2) (rooms_apart cells keep space over tile from at c t f.some)
 ] where
   chain : (a b c d : ℤ) → a ≡ b → b ≤ℤ c → c ≤ℤ d → a ≤ℤ d
   chain a b c d e h g = omega signed
@@ -85,13 +85,13 @@ room_before cells space over tile from at f t = elim f.low [
   nearer : (a b : ℤ) (h : ℕ) → (a +ℤ pos h) ≤ℤ (b -ℤ pos h) → a ≤ℤ (b -ℤ pos h)
   nearer a b h g = omega signed
 
-room_behind : (cells : ℤ → ℤ → Bool) (space over : ℕ) (tile : Corners) (at to : ℤ) → IsBetweenCuts cells space over tile at to → IsCutAt cells space over tile at → (at +ℤ pos (over / 2)) ≤ℤ to
-room_behind cells space over tile at to f t = elim f.high [
+room_behind : (cells : ℤ → ℤ → Bool) (keep : List Corners) (space over : ℕ) (tile : Corners) (at to : ℤ) → IsBetweenCuts cells keep space over tile at to → IsCutAt cells keep space over tile at → (at +ℤ pos (over / 2)) ≤ℤ to
+room_behind cells keep space over tile at to f t = elim f.high [
   | inl e ↦
-      let (l, r) = maximal_inside cells space tile t.from t.to t.free in
+      let (l, r) = maximal_inside cells keep space tile t.from t.to t.free in
       let high : (at +ℤ pos (over / 2)) ≤ℤ t.to = rw t.at (half_room' t.from t.to over t.long) in
       chain _ t.to (last_of tile) to high r e
-  | inr c ↦ nearer at to (over / 2) (rooms_apart cells space over tile at to t c f.some)
+  | inr c ↦ nearer at to (over / 2) (rooms_apart cells keep space over tile at to t c f.some)
 ] where
   chain : (a b c d : ℤ) → a ≤ℤ b → b ≤ℤ c → d ≡ c → a ≤ℤ d
   chain a b c d h g e = omega signed
@@ -100,12 +100,12 @@ room_behind cells space over tile at to f t = elim f.high [
   nearer a b h g = omega signed
 
 -- the fragment behind another one begins at a cut
-meets_cut : (cells : ℤ → ℤ → Bool) (space over : ℕ) (tile r s : Corners) → 2 ≤ over → (f : IsFragment cells space over tile r) (g : IsFragment cells space over tile s) → f.to ≡ g.from → IsCutAt cells space over tile f.to
-meets_cut cells space over tile r s wide f g e = elim f.between.high [
+meets_cut : (cells : ℤ → ℤ → Bool) (keep : List Corners) (space over : ℕ) (tile r s : Corners) → 2 ≤ over → (f : IsFragment cells keep space over tile r) (g : IsFragment cells keep space over tile s) → f.to ≡ g.from → IsCutAt cells keep space over tile f.to
+meets_cut cells keep space over tile r s wide f g e = elim f.between.high [
   | inr c ↦ c
   | inl q ↦ absurd (elim g.between.high [
     | inl h ↦ let k = g.between.some in turn f.to g.from g.to _ e q k h
-    | inr c ↦ let k = g.between.some in let l = cut_before cells space over tile g.to wide c in past f.to g.from g.to _ e q k l
+    | inr c ↦ let k = g.between.some in let l = cut_before cells keep space over tile g.to wide c in past f.to g.from g.to _ e q k l
   ])
 ] where
   turn : (a b c l : ℤ) → a ≡ b → a ≡ l → b <ℤ c → c ≡ l → ⊥
@@ -140,29 +140,29 @@ owner c true = c.b
 owner c false = c.a
 
 -- what is known of a cut
-pub record IsHere (space over : ℕ) (tiles : List Corners) (f : Fragments) (c : Cut) : Type 0 where
-  pub first : IsFragment (layer_of tiles) space over (tile_of tiles f c) (rect_at (rects_of f) c.a)
-  pub second : IsFragment (layer_of tiles) space over (tile_of tiles f c) (rect_at (rects_of f) c.b)
+pub record IsHere (keep : List Corners) (space over : ℕ) (tiles : List Corners) (f : Fragments) (c : Cut) : Type 0 where
+  pub first : IsFragment (layer_of tiles) keep space over (tile_of tiles f c) (rect_at (rects_of f) c.a)
+  pub second : IsFragment (layer_of tiles) keep space over (tile_of tiles f c) (rect_at (rects_of f) c.b)
   pub ends : first.to ≡ place_of tiles f c
   pub begins : second.from ≡ place_of tiles f c
-  pub cut : IsCutAt (layer_of tiles) space over (tile_of tiles f c) (place_of tiles f c)
+  pub cut : IsCutAt (layer_of tiles) keep space over (tile_of tiles f c) (place_of tiles f c)
 
 abbrev pub IsCutOf : ℕ → List Corners → Fragments → Cut → Type 0
 IsCutOf over tiles f c = IsCut over tiles (map corners_of f.rects) f.tile c.a c.b (corners_of c.zone)
 
-pub here : (space over : ℕ) (tiles : List Corners) (label : List ℕ) (f : Fragments) (c : Cut) → 2 ≤ over → AreFragments space over tiles label f → IsCutOf over tiles f c → IsHere space over tiles f c
+pub here : (keep : List Corners) (space over : ℕ) (tiles : List Corners) (label : List ℕ) (f : Fragments) (c : Cut) → 2 ≤ over → AreFragments keep space over tiles label f → IsCutOf over tiles f c → IsHere keep space over tiles f c
 unfolding tile_of place_of
-here space over tiles label f c wide a i =
+here keep space over tiles label f c wide a i =
     let t = rect_at tiles (get_or f.tile c.a 0) in
     let r = rect_at (map corners_of f.rects) c.a in
     let s = rect_at (map corners_of f.rects) c.b in
     let m : c.a < length (map corners_of f.rects) = let k = i.rising in let l = i.within in omega arith in
-    let p : IsFragment (layer_of tiles) space over t r = (a.parts.each c.a m).fragment in
-    let q : IsFragment (layer_of tiles) space over t s = let P : ℕ → Type 0 = λ k. IsFragment (layer_of tiles) space over (rect_at tiles k) s in subst P (sym i.same) (a.parts.each c.b i.within).fragment in
+    let p : IsFragment (layer_of tiles) keep space over t r = (a.parts.each c.a m).fragment in
+    let q : IsFragment (layer_of tiles) keep space over t s = let P : ℕ → Type 0 = λ k. IsFragment (layer_of tiles) keep space over (rect_at tiles k) s in subst P (sym i.same) (a.parts.each c.b i.within).fragment in
     let e : end_of t r ≡ p.to = ap (end_of t) p.is ∙ end_part t p.from p.to in
     let g : start_of t s ≡ q.from = ap (start_of t) q.is ∙ start_part t q.from q.to in
-    let k = meets_cut (layer_of tiles) space over t r s wide p q (sym e ∙ i.meet ∙ g) in
-    let P : ℤ → Type 0 = IsCutAt (layer_of tiles) space over t in
+    let k = meets_cut (layer_of tiles) keep space over t r s wide p q (sym e ∙ i.meet ∙ g) in
+    let P : ℤ → Type 0 = IsCutAt (layer_of tiles) keep space over t in
     record { first = p; second = q; ends = sym e; begins = sym g ∙ sym i.meet; cut = subst P (sym e) k }
 
 -- ---- the halves and their cells
@@ -170,22 +170,22 @@ here space over tiles label f c wide a i =
 within_ends : (a b c d p : ℤ) → c ≤ℤ a → b ≤ℤ d → IsWithin a b p → IsWithin c d p
 within_ends a b c d p h g w = let k = w.from in let l = w.to in record { from = omega signed; to = omega signed }
 
-pub half_in_fragment : (space over : ℕ) (tiles : List Corners) (f : Fragments) (c : Cut) → IsHere space over tiles f c → (behind : Bool) (x y : ℤ) → IsIn (half_of over tiles f c behind) x y → IsIn (rect_at (rects_of f) (owner c behind)) x y
+pub half_in_fragment : (keep : List Corners) (space over : ℕ) (tiles : List Corners) (f : Fragments) (c : Cut) → IsHere keep space over tiles f c → (behind : Bool) (x y : ℤ) → IsIn (half_of over tiles f c behind) x y → IsIn (rect_at (rects_of f) (owner c behind)) x y
 unfolding half_of half_at
-half_in_fragment space over tiles f c h true x y i =
+half_in_fragment keep space over tiles f c h true x y i =
     let t = tile_of tiles f c in let at = place_of tiles f c in
-    let B : ℤ → Type 0 = λ z. IsBetweenCuts (layer_of tiles) space over t z h.second.to in
-    let room = room_behind (layer_of tiles) space over t at h.second.to (subst B h.begins h.second.between) h.cut in
+    let B : ℤ → Type 0 = λ z. IsBetweenCuts (layer_of tiles) keep space over t z h.second.to in
+    let room = room_behind (layer_of tiles) keep space over t at h.second.to (subst B h.begins h.second.between) h.cut in
     let P : ℤ → Type 0 = λ z. z ≤ℤ at in
     let low : h.second.from ≤ℤ at = subst P (sym h.begins) (self at) in
     let R : Corners → Type 0 = λ z. IsIn z x y in
     subst R (sym h.second.is) (other_part t at (at +ℤ pos (over / 2)) h.second.from h.second.to x y i (within_ends _ _ _ _ _ low room (in_part t _ _ x y i))) where
       self : (z : ℤ) → z ≤ℤ z
       self z = omega signed
-half_in_fragment space over tiles f c h false x y i =
+half_in_fragment keep space over tiles f c h false x y i =
     let t = tile_of tiles f c in let at = place_of tiles f c in
-    let B : ℤ → Type 0 = λ z. IsBetweenCuts (layer_of tiles) space over t h.first.from z in
-    let room = room_before (layer_of tiles) space over t h.first.from at (subst B h.ends h.first.between) h.cut in
+    let B : ℤ → Type 0 = λ z. IsBetweenCuts (layer_of tiles) keep space over t h.first.from z in
+    let room = room_before (layer_of tiles) keep space over t h.first.from at (subst B h.ends h.first.between) h.cut in
     let P : ℤ → Type 0 = λ z. at ≤ℤ z in
     let high : at ≤ℤ h.first.to = subst P (sym h.ends) (self at) in
     let R : Corners → Type 0 = λ z. IsIn z x y in
@@ -269,9 +269,9 @@ proper_part tile a b c d = by_way (lies_along_x tile) refl where
   by_way true e = rw e (λ p l. record { wide = l; high = p.high })
   by_way false e = rw e (λ p l. record { wide = p.wide; high = l })
 
-pub half_proper : (space over : ℕ) (tiles : List Corners) (f : Fragments) (c : Cut) → IsHere space over tiles f c → IsProper (rect_at (rects_of f) c.a) → (behind : Bool) → IsProper (half_of over tiles f c behind)
+pub half_proper : (keep : List Corners) (space over : ℕ) (tiles : List Corners) (f : Fragments) (c : Cut) → IsHere keep space over tiles f c → IsProper (rect_at (rects_of f) c.a) → (behind : Bool) → IsProper (half_of over tiles f c behind)
 unfolding half_of half_at
-half_proper space over tiles f c h p behind = by_half behind where
+half_proper keep space over tiles f c h p behind = by_half behind where
   own : IsProper (part_of (tile_of tiles f c) h.first.from h.first.to)
   own = subst IsProper h.first.is p
 
@@ -288,29 +288,29 @@ half_proper space over tiles f c h p behind = by_half behind where
 -- ---- no two halves share a cell
 
 -- what is known of the fragments of a net of cuts
-pub record AreHere (space over : ℕ) (tiles : List Corners) (f : Fragments) : Type 0 where
+pub record AreHere (keep : List Corners) (space over : ℕ) (tiles : List Corners) (f : Fragments) : Type 0 where
   pub wide : 2 ≤ over
   pub apart : AllPairs AreApart (rects_of f)
-  pub cut : (c : Cut) → IsCutOf over tiles f c → IsHere space over tiles f c
+  pub cut : (c : Cut) → IsCutOf over tiles f c → IsHere keep space over tiles f c
 
 -- the fragment before one cut and behind another: the other cut stands there where the fragment begins
-high_low : (space over : ℕ) (tiles : List Corners) (f : Fragments) (c d : Cut) (t : Corners) → IsHere space over tiles f c → IsHere space over tiles f d → tile_of tiles f c ≡ t → tile_of tiles f d ≡ t → c.b ≡ d.a
+high_low : (keep : List Corners) (space over : ℕ) (tiles : List Corners) (f : Fragments) (c d : Cut) (t : Corners) → IsHere keep space over tiles f c → IsHere keep space over tiles f d → tile_of tiles f c ≡ t → tile_of tiles f d ≡ t → c.b ≡ d.a
     → (x y : ℤ) → IsIn (half_of over tiles f c true) x y → IsIn (half_of over tiles f d false) x y → ⊥
 unfolding half_of half_at
-high_low space over tiles f c d t h k e g same x y i j =
+high_low keep space over tiles f c d t h k e g same x y i j =
     let P : Corners → Type 0 = λ z. IsWithin (place_of tiles f c) (place_of tiles f c +ℤ pos (over / 2)) (position_of z x y) in
     let Q : Corners → Type 0 = λ z. IsWithin (place_of tiles f d -ℤ pos (over / 2)) (place_of tiles f d) (position_of z x y) in
     let w = subst P e (in_part (tile_of tiles f c) (place_of tiles f c) (place_of tiles f c +ℤ pos (over / 2)) x y i) in
     let v = subst Q g (in_part (tile_of tiles f d) (place_of tiles f d -ℤ pos (over / 2)) (place_of tiles f d) x y j) in
-    let C : Corners → Type 0 = λ z. IsCutAt (layer_of tiles) space over z (place_of tiles f c) in
-    let D : Corners → Type 0 = λ z. IsCutAt (layer_of tiles) space over z (place_of tiles f d) in
+    let C : Corners → Type 0 = λ z. IsCutAt (layer_of tiles) keep space over z (place_of tiles f c) in
+    let D : Corners → Type 0 = λ z. IsCutAt (layer_of tiles) keep space over z (place_of tiles f d) in
     let one : start_of t (rect_at (map corners_of f.rects) c.b) ≡ place_of tiles f c =
     ap (λ z. start_of z (rect_at (map corners_of f.rects) c.b)) (sym e) ∙ ap (start_of (tile_of tiles f c)) h.second.is ∙ start_part (tile_of tiles f c) h.second.from h.second.to ∙ h.begins in
     let other : start_of t (rect_at (map corners_of f.rects) d.a) ≡ k.first.from =
     ap (λ z. start_of z (rect_at (map corners_of f.rects) d.a)) (sym g) ∙ ap (start_of (tile_of tiles f d)) k.first.is ∙ start_part (tile_of tiles f d) k.first.from k.first.to in
     let begin : place_of tiles f c ≡ k.first.from = sym one ∙ ap (λ n. start_of t (rect_at (map corners_of f.rects) n)) same ∙ other in
     let before : place_of tiles f c <ℤ place_of tiles f d = ahead _ _ _ _ begin k.first.between.some k.ends in
-    let room = rooms_apart (layer_of tiles) space over t (place_of tiles f c) (place_of tiles f d) (subst C e h.cut) (subst D g k.cut) before in
+    let room = rooms_apart (layer_of tiles) keep space over t (place_of tiles f c) (place_of tiles f d) (subst C e h.cut) (subst D g k.cut) before in
     crossed _ _ (position_of t x y) room w.to v.from where
       ahead : (a b c d : ℤ) → a ≡ b → b <ℤ c → c ≡ d → a <ℤ d
       ahead a b c d e l g = omega signed
@@ -319,10 +319,10 @@ high_low space over tiles f c d t h k e g same x y i j =
       crossed a b p h l m = omega signed
 
 -- two cuts behind which one fragment begins have one fragment before them
-high_high : (space over : ℕ) (tiles : List Corners) (f : Fragments) (c d : Cut) (t : Corners) → 2 ≤ over → IsHere space over tiles f c → IsHere space over tiles f d → tile_of tiles f c ≡ t → tile_of tiles f d ≡ t → c.b ≡ d.b
+high_high : (keep : List Corners) (space over : ℕ) (tiles : List Corners) (f : Fragments) (c d : Cut) (t : Corners) → 2 ≤ over → IsHere keep space over tiles f c → IsHere keep space over tiles f d → tile_of tiles f c ≡ t → tile_of tiles f d ≡ t → c.b ≡ d.b
     → (x y : ℤ) → IsIn (half_of over tiles f c true) x y → SharesCell (IsIn (rect_at (rects_of f) c.a)) (IsIn (rect_at (rects_of f) d.a))
 unfolding half_of half_at
-high_high space over tiles f c d t wide h k e g same x y i =
+high_high keep space over tiles f c d t wide h k e g same x y i =
     let at = place_of tiles f c in
     let one : start_of t (rect_at (map corners_of f.rects) c.b) ≡ at =
     ap (λ z. start_of z (rect_at (map corners_of f.rects) c.b)) (sym e) ∙ ap (start_of (tile_of tiles f c)) h.second.is ∙ start_part (tile_of tiles f c) h.second.from h.second.to ∙ h.begins in
@@ -335,8 +335,8 @@ high_high space over tiles f c d t wide h k e g same x y i =
     record {
       x = x';
       y = y';
-      first = half_in_fragment space over tiles f c h false x' y' j;
-      second = half_in_fragment space over tiles f d k false x' y' (subst Q places (subst P (e ∙ sym g) j));
+      first = half_in_fragment keep space over tiles f c h false x' y' j;
+      second = half_in_fragment keep space over tiles f d k false x' y' (subst Q places (subst P (e ∙ sym g) j));
     } where
       before : (at : ℤ) (over : ℕ) → 2 ≤ over → IsWithin (at -ℤ pos (over / 2)) at (at -ℤ pos 1)
       before at over wide = let h : 1 ≤ over / 2 = omega arith in record { from = back at (over / 2) h; to = omega signed } where
@@ -354,18 +354,18 @@ pub owner_within : (over : ℕ) (tiles : List Corners) (f : Fragments) (c : Cut)
 owner_within over tiles f c i true = i.within
 owner_within over tiles f c i false = let r = i.rising in let w = i.within in omega arith
 
-pub halves_apart : (space over : ℕ) (tiles : List Corners) (f : Fragments) → AreHere space over tiles f → (c d : Cut) → IsCutOf over tiles f c → IsCutOf over tiles f d → c.a < d.a → (s t : Bool) → AreApart (half_of over tiles f c s) (half_of over tiles f d t)
+pub halves_apart : (keep : List Corners) (space over : ℕ) (tiles : List Corners) (f : Fragments) → AreHere keep space over tiles f → (c d : Cut) → IsCutOf over tiles f c → IsCutOf over tiles f d → c.a < d.a → (s t : Bool) → AreApart (half_of over tiles f c s) (half_of over tiles f d t)
 unfolding tile_of
-halves_apart space over tiles f a c d i j l s t shared = elim (cases_eq (owner c s) (owner d t)) [
+halves_apart keep space over tiles f a c d i j l s t shared = elim (cases_eq (owner c s) (owner d t)) [
   | inr differ ↦ numbers_apart f a.apart (owner c s) (owner d t) (owner_within over tiles f c i s) (owner_within over tiles f d j t) differ shared.x shared.y
-      (half_in_fragment space over tiles f c (a.cut c i) s shared.x shared.y shared.first) (half_in_fragment space over tiles f d (a.cut d j) t shared.x shared.y shared.second)
+      (half_in_fragment keep space over tiles f c (a.cut c i) s shared.x shared.y shared.first) (half_in_fragment keep space over tiles f d (a.cut d j) t shared.x shared.y shared.second)
   | inl same ↦ by_half s t same shared.first shared.second
 ] where
   by_half : (s t : Bool) → owner c s ≡ owner d t → IsIn (half_of over tiles f c s) shared.x shared.y → IsIn (half_of over tiles f d t) shared.x shared.y → ⊥
   by_half false false e p q = omega (arith, e, l)
   by_half false true e p q = let r = j.rising in omega (arith, e, l, r)
   by_half true false e p q =
-      high_low space over tiles f c d (rect_at tiles (get_or f.tile c.a 0)) (a.cut c i) (a.cut d j) refl (ap (rect_at tiles) (sym (i.same ∙ ap (λ n. get_or f.tile n 0) e))) e shared.x shared.y p q
+      high_low keep space over tiles f c d (rect_at tiles (get_or f.tile c.a 0)) (a.cut c i) (a.cut d j) refl (ap (rect_at tiles) (sym (i.same ∙ ap (λ n. get_or f.tile n 0) e))) e shared.x shared.y p q
   by_half true true e p q =
       a.apart c.a d.a nowhere l (let r = j.rising in let w = j.within in omega (arith, r, w))
-      (high_high space over tiles f c d (rect_at tiles (get_or f.tile c.a 0)) a.wide (a.cut c i) (a.cut d j) refl (ap (rect_at tiles) (sym (i.same ∙ ap (λ n. get_or f.tile n 0) e ∙ sym j.same))) e shared.x shared.y p)
+      (high_high keep space over tiles f c d (rect_at tiles (get_or f.tile c.a 0)) a.wide (a.cut c i) (a.cut d j) refl (ap (rect_at tiles) (sym (i.same ∙ ap (λ n. get_or f.tile n 0) e ∙ sym j.same))) e shared.x shared.y p)
