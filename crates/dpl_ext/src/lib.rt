@@ -3,12 +3,13 @@
 //! Every device counts its faults, so whoever calls it can tell a device that failed from one that
 //! did not. `read_all` gives all bytes that were left or says why not, `read_each` hands them to a
 //! taker besides, piece by piece, and `write_all` has all bytes taken or says that the sink failed,
-//! over every device that keeps to its trait.
+//! over every device that keeps to its trait. `laws` has what the words of these contracts mean.
 #![tactic(auto)]
 
 mod adapters;
 mod devices;
 mod file_shelf;
+pub mod laws;
 mod mem_shelf;
 mod memory;
 mod opening;

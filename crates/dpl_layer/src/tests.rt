@@ -1,5 +1,5 @@
 ghost use Rattle.std.specs.Prelude.{◌≤◌, length};
-ghost use Rattle.dpl_report.specs.Misses.{name_or_nothing};
+ghost use Rattle.dpl_options.specs.Options.{name_or_nothing};
 
 use crate::{Layer, LayerError, layer_of, read_drawing, read_layer};
 use dpl_cif::What;

@@ -1,162 +1,70 @@
--- What each step answers is due, or free.
-use Rattle.std.proofs.Common.{arith, ◌≡◌, ◌⊎◌, ◌∙◌, ℕ, ℤ, ◌+◌, ◌≤◌, ◌<◌, ◌++◌, List, [], length, append-nil, Option, Some, None, refl, sym, subst, inl, inr}
-use Rattle.std.specs.Prelude.{Result, Ok, Err, IfSome}
-use Rattle.std.specs.Io.KnownBytes.{Consumes, IsAtEnd}
-use Rattle.dpl_ext.specs.Device.{Seen, Texts, first_text}
-use Rattle.dpl_ext.specs.Reading.{IsWhole}
+-- What is due for words and texts: one status at most, and with which statuses it ends.
+use Rattle.std.proofs.Common.{arith, ◌≡◌, ◌∙◌, ◌+◌, ℕ, List, [], Option, Some, refl, sym, ap, subst}
+use Rattle.std.specs.Prelude.{Result, Ok, Err}
 use Rattle.dpl_gen.specs.Layout.{layout}
-use Rattle.dpl_report.specs.declared.options.Options.{Options}
-use Rattle.dpl_report.specs.Plain.{PlainReport}
-use Rattle.dpl_layer.specs.declared.error.LayerError.{LayerError}
-use Rattle.dpl_layer.specs.declared.error.LayerError.TheVariants as refusal
-use Rattle.dpl_layer.specs.Refusals.{RefusesLayer}
-use Rattle.dpl_core.specs.Reports.{IsReportOf}
-use Rattle.dpl_core.specs.Refusals.{RefusesSplit}
-use Rattle.dpl_check.specs.declared.verdicts.Verdict.TheVariants.{Yes, No}
-use Rattle.dpl_check.specs.Checked.{IsVerdictOf}
-use Rattle.dpl_words.specs.Commands.{PlainCommand, split, check, load, balance}
-use Rattle.dpl_words.specs.Views.{plain_options}
+use Rattle.dpl_words.specs.Commands.{PlainCommand, split, check, load, cross, balance}
 use Rattle.dpl_run.specs.declared.status.Status.{Status}
-use Rattle.dpl_run.specs.declared.status.Status.TheVariants.{Done, Rejected, Usage, Layout, Limit, ReadFault, WriteFault, NoMemory}
-use Rattle.dpl_run.specs.Answer.{IsDueOf, IsFree, load_options, loaded_line}
-use Rattle.dpl_run.specs.Answer.IsDueOf.{split_long, split_refused, check_long, report_long, check_refused, rejected, load_refused, load_done, balance_refused}
-use Rattle.dpl_run.specs.Errors.{status_of}
-use Rattle.dpl_run.specs.Telling.{IsBare, IsDueOrFree, StopsReading, StopsReport}
-use Rattle.dpl_run.proofs.SoundLemmas.{never_memory}
+use Rattle.dpl_run.specs.declared.status.Status.TheVariants.{Usage, Limit}
+use Rattle.dpl_run.specs.Inputs.{Opened, opens}
+use Rattle.dpl_run.specs.due.Split.{IsSplitDue}
+use Rattle.dpl_run.specs.due.Balance.{IsBalanceDue}
+use Rattle.dpl_run.specs.due.Check.{IsCheckDue}
+use Rattle.dpl_run.specs.due.Load.{IsLoadDue, made_options}
+use Rattle.dpl_run.specs.due.Cross.{IsCrossDue}
+use Rattle.dpl_run.specs.Answer.{DueOf, IsDueFor, IsDueOf, IsSmall}
+use Rattle.dpl_run.specs.Answer.IsDueFor.{long_layout, long_second, carried_out}
+use Rattle.dpl_run.proofs.EndLemmas.{AllEnd, IsFit, ends_fit, on_options_end, on_options_once}
+use Rattle.dpl_run.proofs.SplitLemmas.{split_ends, one_split}
+use Rattle.dpl_run.proofs.BalanceLemmas.{balance_ends, one_balance}
+use Rattle.dpl_run.proofs.CheckLemmas.{check_ends, one_check}
+use Rattle.dpl_run.proofs.LoadLemmas.{load_ends, one_load}
+use Rattle.dpl_run.proofs.CrossLemmas.{cross_ends, one_cross}
 
--- ---- refusals
+pub all_end : (c : PlainCommand) (text second : List ℕ) → AllEnd c (DueOf c text second)
+all_end (split options) text second = on_options_end (split options) options (λ o. IsSplitDue o text) (λ o. split_ends (split options) refl o text)
+all_end (balance options) text second = on_options_end (balance options) options (λ o. IsBalanceDue o text) (λ o. balance_ends (balance options) refl o text)
+all_end (check options name) text second = on_options_end (check options name) options (λ o. IsCheckDue o text second) (λ o. check_ends (check options name) refl o text second)
+all_end (load start rows columns) text second =
+    on_options_end (load start rows columns) made_options (λ o. IsLoadDue o (layout start rows columns)) (λ o. load_ends (load start rows columns) refl o (layout start rows columns))
+all_end (cross options) text second = on_options_end (cross options) options (λ o. IsCrossDue o text) (λ o. cross_ends (cross options) o text)
 
--- a text with a report is not refused
-pub free_of : {T : Type 0} (o : Options) (text : List ℕ) (result : Result T LayerError) (v : T) → result ≡ Ok v
-    → ((e : LayerError) → RefusesSplit o text e → (result ≡ Err e) ⊎ (result ≡ Err refusal.NoMemory)) → IsFree o text
-free_of o text result v h exact e r = elim (exact e r) [
-  | inl a ↦ absurd (cc)
-  | inr a ↦ absurd (cc)
-]
+one_of : (c : PlainCommand) (text second : List ℕ) (a b : Status) (x y : List ℕ) → DueOf c text second a x → DueOf c text second b y → a ≡ b
+one_of (split options) text second = on_options_once options (λ o. IsSplitDue o text) (λ o. one_split o text)
+one_of (balance options) text second = on_options_once options (λ o. IsBalanceDue o text) (λ o. one_balance o text)
+one_of (check options name) text second = on_options_once options (λ o. IsCheckDue o text second) (λ o. one_check o text second)
+one_of (load start rows columns) text second = on_options_once made_options (λ o. IsLoadDue o (layout start rows columns)) (λ o. one_load o (layout start rows columns))
+one_of (cross options) text second = on_options_once options (λ o. IsCrossDue o text) (λ o. one_cross o text)
 
--- a refusal is due where it applies, and want of memory is free
-or_free : (Due : Status → List ℕ → Type 0) (P : LayerError → Type 0) (e : LayerError) → ((f : LayerError) → P f → Due (status_of f) []) → (e ≡ refusal.NoMemory) ⊎ P e → IsDueOrFree Due (status_of e) []
-or_free Due P refusal.NoMemory f h = refl
-or_free Due P (refusal.Layout command what) f (inl h) = absurd (cc)
-or_free Due P (refusal.Limit kind count) f (inl h) = absurd (cc)
-or_free Due P (refusal.Layout command what) f (inr h) = f (refusal.Layout command what) h
-or_free Due P (refusal.Limit kind count) f (inr h) = f (refusal.Limit kind count) h
+-- what is opened is one
+same_opened : (o p : Opened) (x : Option Opened) → x ≡ Some o → x ≡ Some p → p ≡ o
+same_opened o p x e f = cc
 
-bare_due : (Due : Status → List ℕ → Type 0) (P : LayerError → Type 0) (e : LayerError) (s : Status) (x : List ℕ) → ((f : LayerError) → P f → Due (status_of f) []) → (e ≡ refusal.NoMemory) ⊎ P e
-    → s ≡ status_of e → x ≡ [] → IsDueOrFree Due s x
-bare_due Due P e s x f h is none = subst (λ z. IsDueOrFree Due z x) (sym is) (subst (IsDueOrFree Due (status_of e)) (sym none) (or_free Due P e f h))
+small_of : (o : Opened) (x : Option Opened) (second : List ℕ) → x ≡ Some o → IsSmall x second → IsSmall (Some o) second
+small_of o x second e s = subst (λ z. IsSmall z second) e s
 
-pub split_bare : (o : Options) (text report : List ℕ) (e : LayerError) (s : Status) (x : List ℕ) → length text ≤ 16777216 → (e ≡ refusal.NoMemory) ⊎ RefusesSplit o text e
-    → s ≡ status_of e → x ≡ [] → IsDueOrFree (IsDueOf (Ok (split (plain_options o))) text report) s x
-split_bare o text report e s x short h is none = bare_due (IsDueOf (Ok (split (plain_options o))) text report) (RefusesSplit o text) e s x (λ f r. split_refused o refl short f r) h is none
+abbrev passed : Opened → Status
+passed o = Limit o.limit.kind (o.limit.most + 1)
 
-pub balance_bare : (o : Options) (text report : List ℕ) (e : LayerError) (s : Status) (x : List ℕ) → length text ≤ 16777216 → (e ≡ refusal.NoMemory) ⊎ RefusesSplit o text e
-    → s ≡ status_of e → x ≡ [] → IsDueOrFree (IsDueOf (Ok (balance (plain_options o))) text report) s x
-balance_bare o text report e s x short h is none = bare_due (IsDueOf (Ok (balance (plain_options o))) text report) (RefusesSplit o text) e s x (λ f r. balance_refused o refl short f r) h is none
+one_for : (c : PlainCommand) (text second : List ℕ) (a b : Status) (x y : List ℕ) → IsDueFor c text second a x → IsDueFor c text second b y → a ≡ b
+one_for c text second _ _ _ _ (long_layout r l) (long_layout s m) = refl
+one_for c text second _ _ _ _ (long_layout r l) (long_second o e s m) = absurd (omega (arith, s r))
+one_for c text second _ _ _ _ (long_layout r l) (carried_out b y s m d) = absurd (omega (arith, s r))
+one_for c text second _ _ _ _ (long_second o e s l) (long_layout r m) = absurd (omega (arith, s r))
+one_for c text second _ _ _ _ (long_second o e s l) (long_second p f t m) = ap passed (sym (same_opened o p (opens c) e f))
+one_for c text second _ _ _ _ (long_second o e s l) (carried_out b y t m d) = absurd (omega (arith, small_of o (opens c) second e m))
+one_for c text second _ _ _ _ (carried_out a x s l d) (long_layout r m) = absurd (omega (arith, s r))
+one_for c text second _ _ _ _ (carried_out a x s l d) (long_second o e t m) = absurd (omega (arith, small_of o (opens c) second e l))
+one_for c text second _ _ _ _ (carried_out a x s l d) (carried_out b y t m g) = one_of c text second a b x y d g
 
-pub check_bare : (o : Options) (name text report : List ℕ) (e : LayerError) (s : Status) (x : List ℕ) → length text ≤ 16777216 → length report ≤ 268435456 → (e ≡ refusal.NoMemory) ⊎ RefusesLayer o text e
-    → s ≡ status_of e → x ≡ [] → IsDueOrFree (IsDueOf (Ok (check (plain_options o) name)) text report) s x
-check_bare o name text report e s x short small h is none = bare_due (IsDueOf (Ok (check (plain_options o) name)) text report) (RefusesLayer o text) e s x (λ f r. check_refused o name refl short small f r) h is none
+pub one_due : (command : Result PlainCommand ℕ) (text second : List ℕ) (a b : Status) (x y : List ℕ) → IsDueOf command text second a x → IsDueOf command text second b y → a ≡ b
+one_due (Err kind) text second a b x y p q = p.0 ∙ sym q.0
+one_due (Ok c) text second a b x y p q = one_for c text second a b x y p q
 
-pub load_bare : (o : Options) (start rows columns : ℕ) (made text report : List ℕ) (e : LayerError) (s : Status) (x : List ℕ) → made ≡ layout start rows columns → plain_options o ≡ load_options → (e ≡ refusal.NoMemory) ⊎ RefusesSplit o made e
-    → s ≡ status_of e → x ≡ [] → IsDueOrFree (IsDueOf (Ok (load start rows columns)) text report) s x
-load_bare o start rows columns made text report e s x m same h is none =
-    bare_due (IsDueOf (Ok (load start rows columns)) text report) (RefusesSplit o made) e s x (λ f r. load_refused o start rows columns refl same f (subst (λ z. RefusesSplit o z f) m r)) h is none
+fits_for : (c : PlainCommand) (text second : List ℕ) (a : Status) (x : List ℕ) → IsDueFor c text second a x → IsFit a x
+fits_for c text second _ _ (long_layout r l) = refl
+fits_for c text second _ _ (long_second o e s l) = refl
+fits_for c text second _ _ (carried_out a x s l d) = ends_fit c a x (all_end c text second a x d)
 
-pub load_told : (o : Options) (start rows columns : ℕ) (made text report : List ℕ) (r : PlainReport) (s : Status) (x : List ℕ) → made ≡ layout start rows columns → plain_options o ≡ load_options → IsReportOf o made r → IsFree o made
-    → (s ≡ Done → x ≡ loaded_line r) → (s ≡ Done) ⊎ ((s ≡ NoMemory) × (x ≡ [])) → IsDueOrFree (IsDueOf (Ok (load start rows columns)) text report) s x
-load_told o start rows columns made text report r s x m same good free line (inl d) =
-    let due = load_done o start rows columns refl same r (subst (λ z. IsReportOf o z r) m good) (subst (IsFree o) m free) in
-    subst (λ z. IsDueOrFree (IsDueOf (Ok (load start rows columns)) text report) z x) (sym d) (subst (IsDueOf (Ok (load start rows columns)) text report Done) (sym (line d)) due)
-load_told o start rows columns made text report r s x m same good free line (inr d) =
-    subst (λ z. IsDueOrFree (IsDueOf (Ok (load start rows columns)) text report) z x) (sym d.0) d.1
-
--- ---- what was read
-
--- all that was left was read, so what was read is the layout
-pub read_is : (before now : Seen) (bytes text : List ℕ) (limit : ℕ) → IsWhole before now bytes limit → before.left ≡ Some text → text ≡ bytes
-read_is before now bytes text limit w told = by_left before.left now.left told w.gave.front w.at_end where
-  by_left : (left rest : Option (List ℕ)) → left ≡ Some text → Consumes left rest bytes → IsAtEnd rest → text ≡ bytes
-  by_left None rest e c end = absurd (cc)
-  by_left (Some xs) None e c end = absurd c
-  by_left (Some xs) (Some ys) e c end =
-      let a : xs ≡ text = cc in
-      let b : xs ≡ bytes = rw (end, append-nil) at c in
-      sym a ∙ b
-
-long_text : (left : Option (List ℕ)) (text : List ℕ) (most : ℕ) → IfSome left (λ xs. most < length xs) → left ≡ Some text → most < length text
-long_text (Some xs) text most l e = let a : xs ≡ text = cc in rw a at l
-long_text None text most l e = absurd (cc)
-
-stops_at : (Due : Status → List ℕ → Type 0) (before now : Seen) (text : List ℕ) (kind most : ℕ) (s : Status) (x : List ℕ) → StopsReading before now kind most s → before.left ≡ Some text → x ≡ []
-    → (most < length text → Due (Limit kind (most + 1)) []) → IsDueOrFree Due s x
-stops_at Due before now text kind most ReadFault x w told none f = none
-stops_at Due before now text kind most NoMemory x w told none f = none
-stops_at Due before now text kind most (Limit k count) x w told none f =
-    let due = f (long_text before.left text most w.3 told) in
-    subst (λ z. Due (Limit z count) x) (sym w.0) (subst (λ z. Due (Limit kind z) x) (sym w.1) (subst (Due (Limit kind (most + 1))) (sym none) due))
-stops_at Due before now text kind most Done x w told none f = absurd w
-stops_at Due before now text kind most (Usage k) x w told none f = absurd w
-stops_at Due before now text kind most (Layout command what) x w told none f = absurd w
-stops_at Due before now text kind most (Rejected reason place found wanted) x w told none f = absurd w
-stops_at Due before now text kind most WriteFault x w told none f = absurd w
-
-report_at : (Due : Status → List ℕ → Type 0) (before now : Seen) (name report : List ℕ) (texts : Option Texts) (s : Status) (x : List ℕ) → StopsReport before now name texts s
-    → ((ts : Texts) × (texts ≡ Some ts) × (first_text name ts ≡ Some report)) → x ≡ [] → (268435456 < length report → Due (Limit 9 268435457) []) → IsDueOrFree Due s x
-report_at Due before now name report texts ReadFault x w told none f = none
-report_at Due before now name report texts NoMemory x w told none f = none
-report_at Due before now name report texts (Limit k count) x w told none f =
-    let due = f (w.3 told.0 told.1 report told.2) in
-    subst (λ z. Due (Limit z count) x) (sym w.0) (subst (λ z. Due (Limit 9 z) x) (sym w.1) (subst (Due (Limit 9 268435457)) (sym none) due))
-report_at Due before now name report texts Done x w told none f = absurd w
-report_at Due before now name report texts (Usage k) x w told none f = absurd w
-report_at Due before now name report texts (Layout command what) x w told none f = absurd w
-report_at Due before now name report texts (Rejected reason place found wanted) x w told none f = absurd w
-report_at Due before now name report texts WriteFault x w told none f = absurd w
-
--- ---- what stands written
-
-pub bare_of : (e : LayerError) (s : Status) (x : List ℕ) → s ≡ status_of e → x ≡ [] → IsBare s x
-bare_of e s x is none = subst (λ z. IsBare z x) (sym is) (by_error e) where
-  by_error : (e : LayerError) → IsBare (status_of e) x
-  by_error (refusal.Layout command what) = none
-  by_error (refusal.Limit kind count) = none
-  by_error refusal.NoMemory = none
-
-bare_at : (before now : Seen) (kind most : ℕ) (s : Status) (x : List ℕ) → StopsReading before now kind most s → x ≡ [] → IsBare s x
-bare_at before now kind most ReadFault x w none = none
-bare_at before now kind most NoMemory x w none = none
-bare_at before now kind most (Limit k count) x w none = none
-bare_at before now kind most Done x w none = tt
-bare_at before now kind most (Usage k) x w none = none
-bare_at before now kind most (Layout command what) x w none = none
-bare_at before now kind most (Rejected reason place found wanted) x w none = none
-bare_at before now kind most WriteFault x w none = w
-
-bare_report_at : (before now : Seen) (name : List ℕ) (texts : Option Texts) (s : Status) (x : List ℕ) → StopsReport before now name texts s → x ≡ [] → IsBare s x
-bare_report_at before now name texts ReadFault x w none = none
-bare_report_at before now name texts NoMemory x w none = none
-bare_report_at before now name texts (Limit k count) x w none = none
-bare_report_at before now name texts Done x w none = tt
-bare_report_at before now name texts (Usage k) x w none = none
-bare_report_at before now name texts (Layout command what) x w none = none
-bare_report_at before now name texts (Rejected reason place found wanted) x w none = none
-bare_report_at before now name texts WriteFault x w none = w
-
-pub bare_told : (s : Status) (x : List ℕ) → (s ≡ Done) ⊎ ((s ≡ NoMemory) × (x ≡ [])) → IsBare s x
-bare_told s x (inl d) = subst (λ z. IsBare z x) (sym d) tt
-bare_told s x (inr d) = subst (λ z. IsBare z x) (sym d.0) d.1
-
-pub stops_due : (Due : Status → List ℕ → Type 0) (before now : Seen) (text : List ℕ) (kind most : ℕ) (s t : Status) (x : List ℕ) → StopsReading before now kind most s → t ≡ s → before.left ≡ Some text → x ≡ []
-    → (most < length text → Due (Limit kind (most + 1)) []) → IsDueOrFree Due t x
-stops_due Due before now text kind most s t x w e told none f = subst (λ z. IsDueOrFree Due z x) (sym e) (stops_at Due before now text kind most s x w told none f)
-
-pub report_stops : (Due : Status → List ℕ → Type 0) (before now : Seen) (name report : List ℕ) (texts : Option Texts) (s t : Status) (x : List ℕ) → StopsReport before now name texts s → t ≡ s
-    → ((ts : Texts) × (texts ≡ Some ts) × (first_text name ts ≡ Some report)) → x ≡ [] → (268435456 < length report → Due (Limit 9 268435457) []) → IsDueOrFree Due t x
-report_stops Due before now name report texts s t x w e told none f = subst (λ z. IsDueOrFree Due z x) (sym e) (report_at Due before now name report texts s x w told none f)
-
-pub bare_stops : (before now : Seen) (kind most : ℕ) (s t : Status) (x : List ℕ) → StopsReading before now kind most s → t ≡ s → x ≡ [] → IsBare t x
-bare_stops before now kind most s t x w e none = subst (λ z. IsBare z x) (sym e) (bare_at before now kind most s x w none)
-
-pub bare_report : (before now : Seen) (name : List ℕ) (texts : Option Texts) (s t : Status) (x : List ℕ) → StopsReport before now name texts s → t ≡ s → x ≡ [] → IsBare t x
-bare_report before now name texts s t x w e none = subst (λ z. IsBare z x) (sym e) (bare_report_at before now name texts s x w none)
+pub fits : (command : Result PlainCommand ℕ) (text second : List ℕ) (a : Status) (x : List ℕ) → IsDueOf command text second a x → IsFit a x
+fits (Err kind) text second a x p = subst (λ z. IsFit z x) (sym p.0) p.1
+fits (Ok c) text second a x p = fits_for c text second a x p

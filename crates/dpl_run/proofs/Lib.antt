@@ -1,6 +1,11 @@
-pub mod SoundLemmas
-pub mod OnceLemmas
-pub mod ToldLemmas
+pub mod EndLemmas
+pub mod LayerLemmas
+pub mod SplitLemmas
+pub mod BalanceLemmas
+pub mod CheckLemmas
+pub mod LoadLemmas
+pub mod CrossLemmas
 pub mod DueLemmas
-pub mod KindLemmas
+pub mod ReadingLemmas
+pub mod ToldLemmas
 pub mod SteadyLemmas

@@ -1,5 +1,5 @@
 -- No device failed where the status does not say so.
-use Rattle.std.proofs.Common.{◌≡◌, ◌≢◌, ◌⊎◌, ◌∙◌, ap, sym, ℕ, List, Option, Result, Err, inl, inr}
+use Rattle.std.proofs.Common.{◌≡◌, ◌≢◌, ◌⊎◌, ◌∙◌, ap, sym, ℕ, List, Option, Result, Ok, Err, inl, inr}
 use Rattle.dpl_run.specs.declared.status.Status.{Status}
 use Rattle.dpl_run.specs.declared.status.Status.TheVariants.{ReadFault, WriteFault, NoMemory}
 use Rattle.dpl_run.specs.Telling.{IsTold}
@@ -20,3 +20,7 @@ told_steady P Q s x before now f g result (inl w) h n m k =
     let both = h (λ e. n (w.status_is ∙ e)) (λ e. k (w.status_is ∙ e)) in
     (both.0, both.1, w.steady)
 told_steady P Q s x before now f g result (inr w) h n m k = absurd (m w.fault)
+
+-- what was read whole left the count of faults as it was
+pub steady_ok : {T : Type 0} (P : Type 0) (r : Result T Status) (v : T) → r ≡ Ok v → (r ≢ Err ReadFault → r ≢ Err NoMemory → P) → P
+steady_ok P r v e h = h (λ f. absurd (cc)) (λ f. absurd (cc))

@@ -1,16 +1,16 @@
 -- What is written is due, and what is due is answered.
 use Rattle.std.proofs.Common.{◌≡◌, ◌≢◌, ◌⊎◌, ◌∙◌, ℕ, List, [], append-nil, Option, None, Some, refl, sym, subst, inl, inr}
-use Rattle.std.specs.Prelude.{Result, Err}
+use Rattle.std.specs.Prelude.{Result, Ok, Err}
 use Rattle.std.specs.Io.KnownBytes.{Appends, Keeps}
 use Rattle.dpl_ext.specs.Device.{Texts, Rose}
 use Rattle.dpl_words.specs.Commands.{PlainCommand, command_of}
 use Rattle.dpl_run.specs.declared.status.Status.{Status}
 use Rattle.dpl_run.specs.declared.status.Status.TheVariants.{Done, Rejected, Usage, Layout, Limit, ReadFault, WriteFault, NoMemory}
-use Rattle.dpl_run.specs.Answer.{Answers, AreTold, IsAnswered, IsDue, IsDueOf, IsQuiet}
-use Rattle.dpl_run.specs.Answer.IsDueOf.{misused}
+use Rattle.dpl_run.specs.Answer.{Answers, IsAnswered, IsDue, IsDueOf, IsQuiet, IsStatusOf}
+use Rattle.dpl_run.specs.Devices.{AreTold}
 use Rattle.dpl_run.specs.Telling.{IsBare, IsDueOrFree, IsTold}
-use Rattle.dpl_run.proofs.SoundLemmas.{IsFit, fits}
-use Rattle.dpl_run.proofs.OnceLemmas.{one_due}
+use Rattle.dpl_run.proofs.EndLemmas.{IsFit}
+use Rattle.dpl_run.proofs.DueLemmas.{fits, one_due}
 
 -- a relation of what is due, in which all that is due fits
 abbrev pub IsSound : (Status → List ℕ → Type 0) → Type 0
@@ -70,7 +70,8 @@ appends_none None = tt
 appends_none (Some xs) = sym (append-nil xs)
 
 pub usage_answers : (words : List (List ℕ)) (kind : ℕ) (now : Option (List ℕ)) (text report : List ℕ) → command_of words ≡ Err kind → Answers (IsDue words text report) now now (Usage kind)
-usage_answers words kind now text report e = record { output = []; due = misused kind e; taken = appends_none now }
+usage_answers words kind now text report e =
+    subst (λ z. Answers (IsDueOf z text report) now now (Usage kind)) (sym e) (record { output = []; due = (refl, refl); taken = appends_none now })
 
 keeps_none : (before now : Option (List ℕ)) → Appends before now [] → Keeps before now
 keeps_none None now a = tt
@@ -100,3 +101,17 @@ pub all_comes : (words : List (List ℕ)) (left : Option (List ℕ)) (texts : Op
     → (text report : List ℕ) → AreTold (command_of words) left texts text report → (due : Status) (output : List ℕ) → IsDue words text report due output → result ≢ ReadFault → IsAnswered due result
 all_comes words left texts before now result answer text report t due output d n =
     comes (IsDue words text report) (one_due (command_of words) text report) before now due result output (answer text report t) d n
+
+-- ---- whatever the devices do
+
+pub told_status : (words : List (List ℕ)) (c : PlainCommand) (a : Status) (x : List ℕ) (before now : Option (List ℕ)) (f g : ℕ) (result : Status) → command_of words ≡ Ok c → IsStatusOf (Ok c) a
+    → IsTold a x before now f g result → IsStatusOf (command_of words) result
+told_status words c a x before now f g result e s (inl w) = subst (λ z. IsStatusOf z result) (sym e) (subst (IsStatusOf (Ok c)) (sym w.status_is) s)
+told_status words c a x before now f g result e s (inr w) = subst (λ z. IsStatusOf z result) (sym e) (subst (IsStatusOf (Ok c)) (sym w.fault) tt)
+
+pub memory_status : (command : Result PlainCommand ℕ) → IsStatusOf command NoMemory
+memory_status (Err kind) = inr refl
+memory_status (Ok c) = tt
+
+pub usage_status : (words : List (List ℕ)) (kind : ℕ) → command_of words ≡ Err kind → IsStatusOf (command_of words) (Usage kind)
+usage_status words kind e = subst (λ z. IsStatusOf z (Usage kind)) (sym e) (inl refl)

@@ -1,108 +1,60 @@
--- What the program answers, in the order in which its answers are tried: words, layout, report, the work.
-use Rattle.std.specs.Prelude.{◌≡◌, ◌⊎◌, ⊤, ℕ, ℤ, ◌+◌, ◌≤◌, ◌<◌, ◌∷◌, ◌++◌, List, [], length, Option, Some, Result, Ok, Err, codes, None}
+-- What the program answers, in the order in which its answers are tried: words, layout, second text, the work.
+use Rattle.std.specs.Prelude.{◌≡◌, ◌⊎◌, ⊤, ℕ, ◌+◌, ◌≤◌, ◌<◌, List, [], length, Bool, true, Option, Some, None, Result, Ok, Err}
 use Rattle.std.specs.Io.KnownBytes.{Appends, Keeps}
-use Rattle.dpl_limits.specs.declared.TheConstants.{MOST_LAYOUT_BYTES, MOST_REPORT_BYTES}
-use Rattle.dpl_ext.specs.Device.{Seen, Texts, AppendsFront, Rose, RoseBy, first_text}
+use Rattle.dpl_limits.specs.declared.TheConstants.{MOST_LAYOUT_BYTES}
+use Rattle.dpl_ext.specs.Device.{AppendsFront}
 use Rattle.dpl_gen.specs.Layout.{layout}
-use Rattle.dpl_report.specs.declared.options.Options.{Options}
-use Rattle.dpl_report.specs.Plain.{PlainReport}
-use Rattle.dpl_layer.specs.declared.error.LayerError.{LayerError}
-use Rattle.dpl_layer.specs.Refusals.{RefusesLayer}
-use Rattle.dpl_core.specs.Reports.{IsReportOf, IsSplit, IsBalancedSplit}
-use Rattle.dpl_core.specs.Refusals.{RefusesSplit}
-use Rattle.dpl_check.specs.declared.verdicts.Verdict.TheVariants.{Yes, No}
-use Rattle.dpl_check.specs.Checked.{IsVerdictOf}
-use Rattle.dpl_words.specs.Commands.{PlainOptions, PlainCommand, split, check, load, balance, command_of}
-use Rattle.dpl_words.specs.Views.{plain_options}
+use Rattle.dpl_words.specs.Commands.{PlainCommand, split, check, load, cross, balance, command_of}
 use Rattle.dpl_run.specs.declared.status.Status.{Status}
 use Rattle.dpl_run.specs.declared.status.Status.TheVariants.{Done, Rejected, Usage, Limit, ReadFault, WriteFault, NoMemory}
-use Rattle.dpl_run.specs.Lines.{yes_line, load_line}
-use Rattle.dpl_run.specs.Errors.{status_of}
+use Rattle.dpl_run.specs.Inputs.{Opened, reads_layout, opens, judges, colours}
+use Rattle.dpl_run.specs.due.{OnOptions}
+use Rattle.dpl_run.specs.due.Split.{IsSplitDue}
+use Rattle.dpl_run.specs.due.Balance.{IsBalanceDue}
+use Rattle.dpl_run.specs.due.Check.{IsCheckDue}
+use Rattle.dpl_run.specs.due.Load.{IsLoadDue, made_options}
+use Rattle.dpl_run.specs.due.Cross.{IsCrossDue}
 
--- the most bytes of a layout, and of a report
-abbrev pub most_bytes : ℕ
-most_bytes = MOST_LAYOUT_BYTES
+-- ---- what is due
 
-abbrev pub most_report : ℕ
-most_report = MOST_REPORT_BYTES
+-- for a command whose texts are within their limits
+abbrev pub DueOf : PlainCommand → List ℕ → List ℕ → Status → List ℕ → Type 0
+DueOf (split options) text second = OnOptions options (λ o. IsSplitDue o text)
+DueOf (check options name) text second = OnOptions options (λ o. IsCheckDue o text second)
+DueOf (load start rows columns) text second =
+    OnOptions made_options (λ o. IsLoadDue o (layout start rows columns))
+DueOf (cross options) text second = OnOptions options (λ o. IsCrossDue o text)
+DueOf (balance options) text second = OnOptions options (λ o. IsBalanceDue o text)
 
--- the options of a made layout
-abbrev pub load_options : PlainOptions
-load_options = record {
-  layer = codes "M";
-  space = 100;
-  overlap = 20;
-  stitch = 1;
-  conflict = 10;
-  corner = 10;
-  keep = None;
-}
+-- the layout is within its limit, where it is read
+abbrev pub IsShort : Bool → List ℕ → Type 0
+IsShort reads text = reads ≡ true → length text ≤ MOST_LAYOUT_BYTES
 
--- the line that tells the numbers of a report: its edges are bonds, stitches and clashes
-abbrev pub loaded_line : PlainReport → List ℕ
-loaded_line r = load_line r.head.counts.fragments (r.head.counts.bonds + r.head.counts.stitches
-    + r.head.counts.clashes) r.head.cost r.head.bound (length r.lists.aside)
+-- the text that is opened is within its limit
+abbrev pub IsSmall : Option Opened → List ℕ → Type 0
+IsSmall None second = ⊤
+IsSmall (Some opened) second = length second ≤ opened.limit.most
 
--- no refusal of a split applies
-abbrev pub IsFree : Options → List ℕ → Type 0
-IsFree o text = (e : LayerError) → ¬ RefusesSplit o text e
+-- the layout passes its limit, or the second text passes its own, or the command is carried out
+pub data IsDueFor (c : PlainCommand) (text second : List ℕ) : Status → List ℕ → Type 0 where
+  long_layout : reads_layout c ≡ true → MOST_LAYOUT_BYTES < length text →
+      IsDueFor c text second (Limit 1 (MOST_LAYOUT_BYTES + 1)) []
+  long_second : (opened : Opened) → opens c ≡ Some opened → IsShort (reads_layout c) text →
+      opened.limit.most < length second →
+      IsDueFor c text second (Limit opened.limit.kind (opened.limit.most + 1)) []
+  carried_out : (status : Status) (output : List ℕ) → IsShort (reads_layout c) text →
+      IsSmall (opens c) second → DueOf c text second status output →
+      IsDueFor c text second status output
 
--- The status and the output that are due for a command, a layout and a report. The first line that applies decides.
-pub data IsDueOf (command : Result PlainCommand ℕ)
-    (text report : List ℕ) : Status → List ℕ → Type 0 where
-  misused : (kind : ℕ) → command ≡ Err kind → IsDueOf command text report (Usage kind) []
-  split_long : (plain : PlainOptions) → command ≡ Ok (split plain) → most_bytes < length text →
-      IsDueOf command text report (Limit 1 (MOST_LAYOUT_BYTES + 1)) []
-  split_refused : (o : Options) → command ≡ Ok (split (plain_options o)) → length text ≤ most_bytes
-      → (e : LayerError) → RefusesSplit o text e → IsDueOf command text report (status_of e) []
-  split_done : (o : Options) → command ≡ Ok (split (plain_options o)) → length text ≤ most_bytes
-      → (output : List ℕ) → IsSplit o text output → IsFree o text →
-      IsDueOf command text report Done output
-  check_long : (plain : PlainOptions) (name : List ℕ) → command ≡ Ok (check plain name) →
-      most_bytes < length text → IsDueOf command text report (Limit 1 (MOST_LAYOUT_BYTES + 1)) []
-  report_long : (plain : PlainOptions) (name : List ℕ) → command ≡ Ok (check plain name) →
-      length text ≤ most_bytes → most_report < length report
-      → IsDueOf command text report (Limit 9 (MOST_REPORT_BYTES + 1)) []
-  check_refused : (o : Options) (name : List ℕ) → command ≡ Ok (check (plain_options o) name) →
-      length text ≤ most_bytes → length report ≤ most_report
-      → (e : LayerError) → RefusesLayer o text e → IsDueOf command text report (status_of e) []
-  rejected : (o : Options) (name : List ℕ) → command ≡ Ok (check (plain_options o) name) →
-      length text ≤ most_bytes → length report ≤ most_report
-      → (reason place : ℕ) (found wanted : ℤ) →
-      IsVerdictOf o text report (No reason place found wanted) →
-      IsDueOf command text report (Rejected reason place found wanted) []
-  accepted : (o : Options) (name : List ℕ) → command ≡ Ok (check (plain_options o) name) →
-      length text ≤ most_bytes → length report ≤ most_report
-      → (cost bound : ℕ) → IsVerdictOf o text report (Yes cost bound) →
-      IsDueOf command text report Done (yes_line cost bound)
-  load_refused : (o : Options) (start rows columns : ℕ) → command ≡ Ok (load start rows columns) →
-      plain_options o ≡ load_options
-      → (e : LayerError) → RefusesSplit o (layout start rows columns) e →
-      IsDueOf command text report (status_of e) []
-  balance_long : (plain : PlainOptions) → command ≡ Ok (balance plain) → most_bytes < length text →
-      IsDueOf command text report (Limit 1 (MOST_LAYOUT_BYTES + 1)) []
-  balance_refused : (o : Options) → command ≡ Ok (balance (plain_options o)) → length text ≤ most_bytes
-      → (e : LayerError) → RefusesSplit o text e → IsDueOf command text report (status_of e) []
-  balance_done : (o : Options) → command ≡ Ok (balance (plain_options o)) → length text ≤ most_bytes
-      → (output : List ℕ) → IsBalancedSplit o text output → IsFree o text →
-      IsDueOf command text report Done output
-  load_done : (o : Options) (start rows columns : ℕ) → command ≡ Ok (load start rows columns) →
-      plain_options o ≡ load_options
-      → (r : PlainReport) → IsReportOf o (layout start rows columns) r →
-      IsFree o (layout start rows columns) → IsDueOf command text report Done (loaded_line r)
+-- the status and the output that are due for a command, a layout and a second text
+abbrev pub IsDueOf : Result PlainCommand ℕ → List ℕ → List ℕ → Status → List ℕ → Type 0
+IsDueOf (Err kind) text second status output = (status ≡ Usage kind) × (output ≡ [])
+IsDueOf (Ok c) text second status output = IsDueFor c text second status output
 
 abbrev pub IsDue : List (List ℕ) → List ℕ → List ℕ → Status → List ℕ → Type 0
 IsDue words = IsDueOf (command_of words)
 
--- the devices tell this layout and this report, as far as the command reads them
-abbrev pub AreTold : Result PlainCommand ℕ → Option (List ℕ) → Option Texts → List ℕ → List ℕ →
-    Type 0
-AreTold (Err kind) left texts text report = ⊤
-AreTold (Ok (split plain)) left texts text report = left ≡ Some text
-AreTold (Ok (check plain name)) left texts text report =
-    (left ≡ Some text) × ((ts : Texts) × (texts ≡ Some ts) × (first_text name ts ≡ Some report))
-AreTold (Ok (load start rows columns)) left texts text report = ⊤
-AreTold (Ok (balance plain)) left texts text report = left ≡ Some text
+-- ---- what is answered
 
 -- the status is due, and its output was written
 pub record IsWritten (Due : Status → List ℕ → Type 0) (before now : Option (List ℕ))
@@ -136,41 +88,20 @@ IsQuiet before now Done = ⊤
 IsQuiet before now WriteFault = ⊤
 IsQuiet before now status = Keeps before now
 
--- ---- what a command reads
+-- ---- what is answered whatever the devices do
 
--- so many bytes were read, one more than the limit
-abbrev pub PassesBytes : ℕ → ℕ → Seen → Seen → Type 0
-PassesBytes most count before now = (count ≡ most) × RoseBy most before.given now.given
+-- the limits that a command can pass: on the bytes of its layout, on what its layer has, on odd faces, on the bytes of
+-- what it opens
+abbrev pub IsLimitOf : PlainCommand → ℕ → Type 0
+IsLimitOf c kind = ((kind ≡ 1) × (reads_layout c ≡ true)) ⊎ ((2 ≤ kind) × (kind ≤ 7)) ⊎
+    ((kind ≡ 8) × (colours c ≡ true)) ⊎
+    ((opened : Opened) × (opens c ≡ Some opened) × (kind ≡ opened.limit.kind))
 
--- `split`, `balance` and `check` read the layout, and `check` reads the report of its name: a read that fails is one of these
-abbrev pub IsReadFault : Result PlainCommand ℕ → Seen → Seen → Seen → Seen → Type 0
-IsReadFault (Err kind) layout layout_now second second_now = ⊥
-IsReadFault (Ok (split plain)) layout layout_now second second_now =
-    Rose layout.faults layout_now.faults
-IsReadFault (Ok (check plain name)) layout layout_now second second_now =
-    Rose layout.faults layout_now.faults ⊎ Rose second.faults second_now.faults
-IsReadFault (Ok (load start rows columns)) layout layout_now second second_now = ⊥
-IsReadFault (Ok (balance plain)) layout layout_now second second_now =
-    Rose layout.faults layout_now.faults
-
--- no name is asked for but that of the report, and that once at most
-abbrev pub AsksFor : List ℕ → Seen → Seen → Type 0
-AsksFor name before now = (now.asked ≡ before.asked) ⊎ (now.asked ≡ before.asked ++ name ∷ [])
-
--- the other devices stay as they were
-abbrev pub IsTouched : Result PlainCommand ℕ → Seen → Seen → Seen → Seen → Type 0
-IsTouched (Err kind) layout layout_now second second_now =
-    (layout_now ≡ layout) × (second_now ≡ second)
-IsTouched (Ok (split plain)) layout layout_now second second_now =
-    (layout_now.asked ≡ layout.asked) × (second_now ≡ second)
-IsTouched (Ok (check plain name)) layout layout_now second second_now =
-    (layout_now.asked ≡ layout.asked) × AsksFor name second second_now
-IsTouched (Ok (load start rows columns)) layout layout_now second second_now =
-    (layout_now ≡ layout) × (second_now ≡ second)
-IsTouched (Ok (balance plain)) layout layout_now second second_now =
-    (layout_now.asked ≡ layout.asked) × (second_now ≡ second)
-
--- the counts of faults of `layout`, `second` and `out` are as they were
-abbrev pub AreSteady : Seen → Seen → Seen → Seen → ℕ → ℕ → Type 0
-AreSteady layout layout_now second second_now out out_now =
-    (layout_now.faults ≡ layout.faults) × (second_now.faults ≡ second.faults) × (out_now ≡ out)
+-- Words that ask for nothing are answered so, but for want of memory, and no others are. Only a command that judges
+-- rejects, and each passes its own limits alone.
+abbrev pub IsStatusOf : Result PlainCommand ℕ → Status → Type 0
+IsStatusOf (Err kind) status = (status ≡ Usage kind) ⊎ (status ≡ NoMemory)
+IsStatusOf (Ok c) (Usage kind) = ⊥
+IsStatusOf (Ok c) (Rejected reason place found wanted) = judges c ≡ true
+IsStatusOf (Ok c) (Limit kind count) = IsLimitOf c kind
+IsStatusOf (Ok c) status = ⊤

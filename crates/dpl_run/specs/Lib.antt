@@ -1,4 +1,7 @@
 pub mod Lines
+pub mod Inputs
+pub mod Devices
+pub mod due
 pub mod Answer
 pub mod Telling
 pub mod Errors

@@ -1,8 +1,12 @@
 -- How a run of the program ends: its exit status and its lines.
-use Rattle.std.specs.Prelude.{ℕ, List, [], ◌++◌, codes, decimal}
+use Rattle.std.specs.Prelude.{ℕ, List, [], ◌∷◌, ◌++◌, Option, None, Some, codes, decimal}
 use Rattle.std.specs.Fmt.{signed_decimal}
 use Rattle.dpl_rules.specs.declared.what.What.{What}
 use Rattle.dpl_rules.specs.declared.what.What.TheVariants as what
+use Rattle.dpl_euler.specs.declared.types.Bar.{Bar}
+use Rattle.dpl_euler.specs.declared.types.Crossing.{Crossing}
+use Rattle.dpl_euler.specs.declared.types.With.{With}
+use Rattle.dpl_euler.specs.declared.types.With.TheVariants.{Link, Fragment}
 use Rattle.dpl_run.specs.declared.status.Status.{Status}
 use Rattle.dpl_run.specs.declared.status.Status.TheVariants.{Done, Rejected, Usage, Limit, Layout, ReadFault, WriteFault, NoMemory}
 
@@ -59,3 +63,29 @@ abbrev pub load_line : ℕ → ℕ → ℕ → ℕ → ℕ → List ℕ
 load_line fragments edges cost bound aside = codes "fragments " ++ decimal fragments
     ++ codes " edges " ++ decimal edges ++ codes " cost " ++ decimal cost ++ codes " bound "
     ++ decimal bound ++ codes " aside " ++ decimal aside ++ codes "\n"
+
+-- an edge, and a larger edge or a fragment that its link crosses
+abbrev pub crossing_text : ℕ → With → List ℕ
+crossing_text edge (Link other) = codes " link " ++ decimal edge ++ codes " " ++ decimal other
+crossing_text edge (Fragment other) =
+    codes " fragment " ++ decimal edge ++ codes " " ++ decimal other
+
+-- what `cross` writes of the excess, and of a crossing
+abbrev pub excess_line : ℕ → Option Crossing → List ℕ
+excess_line excess None = codes "excess " ++ decimal excess ++ codes " none\n"
+excess_line excess (Some crossing) = codes "excess " ++ decimal excess
+    ++ crossing_text crossing.edge crossing.other ++ codes "\n"
+
+-- each number behind a blank
+abbrev pub numbers_text : List ℕ → List ℕ
+numbers_text [] = []
+numbers_text (number ∷ numbers) = codes " " ++ decimal number ++ numbers_text numbers
+
+-- what `cross` writes of a bar: its edge, the darts of its face and the edges of its walk
+abbrev pub bar_line : Option Bar → List ℕ
+bar_line None = []
+bar_line (Some bar) = codes "bar " ++ decimal bar.edge ++ codes " face" ++ numbers_text bar.face
+    ++ codes " walk" ++ numbers_text bar.walk ++ codes "\n"
+
+abbrev pub cross_lines : ℕ → Option Crossing → Option Bar → List ℕ
+cross_lines excess crossing bar = excess_line excess crossing ++ bar_line bar

@@ -1,16 +1,21 @@
 -- What is due or free, and what writing it answers.
-use Rattle.std.specs.Prelude.{◌≡◌, ◌≢◌, ◌⊎◌, ◌+◌, ◌<◌, ⊤, ℕ, List, [], length, Option, Some, IfSome}
+use Rattle.std.specs.Prelude.{◌≡◌, ◌≢◌, ◌⊎◌, ◌+◌, ◌<◌, ⊤, ℕ, ◌∷◌, ◌++◌, List, [], length, Option, Some, None, IfSome}
 use Rattle.std.specs.Io.KnownBytes.{Appends}
-use Rattle.dpl_limits.specs.declared.TheConstants.{MOST_REPORT_BYTES}
 use Rattle.dpl_ext.specs.Device.{AppendsFront, Rose, RoseBy, Seen, Texts, first_text}
 use Rattle.dpl_run.specs.declared.status.Status.{Status}
 use Rattle.dpl_run.specs.declared.status.Status.TheVariants.{Done, Rejected, Usage, Layout, Limit, ReadFault, WriteFault, NoMemory}
+use Rattle.dpl_run.specs.Inputs.{Opened}
 
 -- a failed read and want of memory come before anything is written; all else is due
 abbrev pub IsDueOrFree : (Status → List ℕ → Type 0) → Status → List ℕ → Type 0
 IsDueOrFree Due ReadFault output = output ≡ []
 IsDueOrFree Due NoMemory output = output ≡ []
 IsDueOrFree Due status output = Due status output
+
+-- want of memory comes before anything is written; all else is due
+abbrev pub IsWorked : (Status → List ℕ → Type 0) → Status → List ℕ → Type 0
+IsWorked Due NoMemory output = output ≡ []
+IsWorked Due status output = Due status output
 
 -- something is written before Done alone, and no write has failed yet
 abbrev pub IsBare : Status → List ℕ → Type 0
@@ -47,18 +52,24 @@ IsTold status output before now faults faults_now result =
     IsWhole status output before now faults faults_now result ⊎
     IsFault output before now faults faults_now result
 
--- no text was read here, so no read failed and no text is too long
-abbrev pub IsNoText : Status → Type 0
-IsNoText ReadFault = ⊥
-IsNoText (Limit kind count) = (kind ≢ 1) × (kind ≢ 9)
-IsNoText status = ⊤
+-- why the text of a name was not read whole: it could not be opened, or its reading stopped
+abbrev pub StopsSecond : Opened → Seen → Seen → Option Texts → Status → Type 0
+StopsSecond opened before now texts (Limit k count) =
+    (k ≡ opened.limit.kind) × (count ≡ opened.limit.most + 1) × RoseBy (opened.limit.most + 1) before.given now.given ×
+    ((ts : Texts) → texts ≡ Some ts → (second : List ℕ) → first_text opened.name ts ≡ Some second →
+    opened.limit.most < length second)
+StopsSecond opened before now texts ReadFault =
+    Rose before.faults now.faults × (now.asked ≡ before.asked ++ opened.name ∷ [])
+StopsSecond opened before now texts NoMemory = ⊤
+StopsSecond opened before now texts status = ⊥
 
--- why the report of a name was not read whole: it could not be opened, or its reading stopped
-abbrev pub StopsReport : Seen → Seen → List ℕ → Option Texts → Status → Type 0
-StopsReport before now name texts (Limit k count) =
-    (k ≡ 9) × (count ≡ (MOST_REPORT_BYTES + 1)) × RoseBy (MOST_REPORT_BYTES + 1) before.given now.given ×
-    ((ts : Texts) → texts ≡ Some ts → (report : List ℕ) → first_text name ts ≡ Some report →
-    MOST_REPORT_BYTES < length report)
-StopsReport before now name texts ReadFault = Rose before.faults now.faults
-StopsReport before now name texts NoMemory = ⊤
-StopsReport before now name texts status = ⊥
+-- why what a command opens was not read whole
+abbrev pub StopsOpening : Option Opened → Seen → Seen → Option Texts → Status → Type 0
+StopsOpening None before now texts status = ⊥
+StopsOpening (Some opened) before now texts status = StopsSecond opened before now texts status
+
+-- these are the bytes of what a command opens, where the shelf tells them
+abbrev pub IsSecondRead : Option Opened → Option Texts → List ℕ → Type 0
+IsSecondRead None texts second = ⊤
+IsSecondRead (Some opened) texts second =
+    (ts : Texts) → texts ≡ Some ts → first_text opened.name ts ≡ Some second

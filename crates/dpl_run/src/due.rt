@@ -1,9 +1,11 @@
 // A status with what is written before it, and the writing.
 ghost use Rattle.std.specs.Prelude.{◌≡◌, [], length};
+ghost use Rattle.dpl_run.specs.Errors as errors;
 ghost use Rattle.dpl_run.specs.Telling.{IsTold};
 
 use crate::status::Status;
 use dpl_ext::{Sink, write_all};
+use dpl_layer::LayerError;
 use std::alloc::Global;
 
 /// A status, and what is written before it is answered.
@@ -21,6 +23,25 @@ pub fn bare(alloc: Global, status: Status) -> Due
     Due {
         status,
         output: Vec::new(alloc),
+    }
+}
+
+/// A refusal of the work.
+pub fn refused(alloc: Global, error: LayerError) -> Due
+    ensures status { result.status ≡ errors.status_of error }
+    ensures output { result.output.items ≡ [] }
+{
+    bare(alloc, status_of(error))
+}
+
+/// A failed step of the work as a status.
+fn status_of(error: LayerError) -> Status
+    ensures { result ≡ errors.status_of error }
+{
+    match error {
+        LayerError::Layout { command, what } => Status::Layout { command, what },
+        LayerError::Limit { kind, count } => Status::Limit { kind, count },
+        LayerError::NoMemory => Status::NoMemory,
     }
 }
 

@@ -8,9 +8,11 @@
 //! `Status` is how a run ends: its exit status and its line on the error output.
 #![tactic(auto)]
 
+mod answering;
 mod commands;
 mod due;
 mod feeding;
+mod inputs;
 mod line;
 mod lines;
 mod running;

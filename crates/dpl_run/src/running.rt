@@ -4,10 +4,11 @@ ghost use Rattle.std.specs.Io.KnownBytes.{Appends};
 ghost use Rattle.dpl_limits.specs.declared.TheConstants.{MOST_LAYOUT_BYTES, MOST_REPORT_BYTES};
 ghost use Rattle.dpl_ext.specs.Device.{Rose, AppendsFront};
 ghost use Rattle.dpl_words.specs.Commands.{command_of};
-ghost use Rattle.dpl_run.specs.Answer.{AreSteady, AreTold, Answers, IsAnswered, IsDue, IsQuiet, IsReadFault, IsTouched, PassesBytes};
+ghost use Rattle.dpl_run.specs.Answer.{Answers, IsAnswered, IsDue, IsQuiet, IsStatusOf};
+ghost use Rattle.dpl_run.specs.Devices.{AreSteady, AreTold, IsReadFault, IsTouched, PassesBytes};
 ghost use Rattle.dpl_run.specs.Lines.{line_of};
 
-use crate::commands::carry_out;
+use crate::answering::due_for;
 use crate::due::tell;
 use crate::line::status_line;
 use crate::status::Status;
@@ -40,6 +41,7 @@ pub fn run<S: Source, F: Shelf, O: Sink, E: Sink>(
         → (due : Status) (output : List ℕ) →
         IsDue (map string_bytes words.now) text report due output
         → result ≢ Status.ReadFault → IsAnswered due result }
+    ensures of_words { IsStatusOf (command_of (map string_bytes words.now)) result }
 
     // When a device is to blame, how much was read, and which devices were not touched.
     ensures read { result ≡ Status.ReadFault →
@@ -79,6 +81,7 @@ fn attempt<S: Source, F: Shelf, O: Sink>(
         → Answers (IsDue (map string_bytes words.now) text report) (O.taken out.old)
         (O.taken out.new) result }
     ensures quiet { IsQuiet (O.taken out.old) (O.taken out.new) result }
+    ensures of_words { IsStatusOf (command_of (map string_bytes words.now)) result }
     ensures read { result ≡ Status.ReadFault →
         IsReadFault (command_of (map string_bytes words.now)) (S.seen layout.old)
         (S.seen layout.new) (F.seen second.old) (F.seen second.new) }
@@ -98,6 +101,6 @@ fn attempt<S: Source, F: Shelf, O: Sink>(
         Err(UsageError::Usage(kind)) => return Status::Usage(kind),
         Err(UsageError::NoMemory) => return Status::NoMemory,
     };
-    let due = carry_out(alloc, &command, layout, second);
+    let due = due_for(alloc, &command, layout, second);
     tell(out, &due)
 }

@@ -1,13 +1,15 @@
-// Reading a layout or a report whole.
-ghost use Rattle.std.specs.Prelude.{◌≡◌, ◌≢◌, ◌<◌, ◌^◌, IfOk, IfErr, Err};
+// Reading a text whole.
+ghost use Rattle.std.specs.Prelude.{◌≡◌, ◌≢◌, ◌<◌, ◌≤◌, ◌^◌, [], length, IfOk, IfErr, Some, Err};
 ghost use Rattle.dpl_limits.specs.declared.TheConstants.{MOST_LAYOUT_BYTES};
 ghost use Rattle.dpl_lex.specs.Cutting.{commands_of};
+ghost use Rattle.dpl_ext.specs.Device.{Texts, first_text};
 ghost use Rattle.dpl_ext.specs.Reading.{IsWhole};
-ghost use Rattle.dpl_run.specs.Telling.{StopsReading};
+ghost use Rattle.dpl_run.specs.Devices.{AsksFor};
+ghost use Rattle.dpl_run.specs.Telling.{StopsReading, StopsSecond};
 
 use crate::feeding::Feeder;
 use crate::status::Status;
-use dpl_ext::{ReadEnd, Source, read_all, read_each};
+use dpl_ext::{OpenEnd, ReadEnd, Shelf, Source, read_all, read_each};
 use dpl_lex::Lexer;
 use dpl_lex::types::Commands;
 use dpl_limits::MOST_LAYOUT_BYTES;
@@ -39,11 +41,50 @@ pub fn text_of<S: Source>(
     }
 }
 
+/// The text that a shelf has under a name, or the status where that is not to be had.
+pub fn second_of<F: Shelf>(
+    alloc: Global,
+    name: &str,
+    kind: u8,
+    most: u64,
+    second: &mut F,
+) -> Result<Vec<u8>, Status>
+    requires { most < 2 ^ 32 }
+    ensures read { IfOk result (λ v. (ts : Texts) → F.texts second.old ≡ Some ts →
+        first_text name.now ts ≡ Some v.items) }
+    ensures small { IfOk result (λ v. length v.items ≤ most) }
+    ensures stops { IfErr result (StopsSecond (record {
+      name = name.now;
+      limit = record { kind = kind; most = most };
+    }) (F.seen second.old) (F.seen second.new) (F.texts second.old)) }
+    ensures touched { AsksFor name.now (F.seen second.old) (F.seen second.new) }
+    ensures steady { result ≢ Err Status.ReadFault → result ≢ Err Status.NoMemory →
+        (F.seen second.new).faults ≡ (F.seen second.old).faults }
+{
+    match second.open(name) {
+        Ok(()) => text_of(alloc, second, kind, most),
+        Err(OpenEnd::Failed) => Err(Status::ReadFault),
+        Err(OpenEnd::NoMemory) => Err(Status::NoMemory),
+    }
+}
+
 /// A layout that was cut into its commands as it was read.
 #[derive(Drop)]
 pub struct Lexed {
     pub text: Vec<u8>,
     pub commands: Commands,
+}
+
+/// The layout of no byte, for a command that reads none.
+pub fn no_layout(alloc: Global) -> Lexed
+    ensures text { result.text.items ≡ [] }
+    ensures commands { result.commands ≡ commands_of result.text.items }
+{
+    let commands = Lexer::new(alloc).finish();
+    Lexed {
+        text: Vec::new(alloc),
+        commands,
+    }
 }
 
 /// The layout that a source gives, or the status where it is not to be had.

@@ -1,0 +1,38 @@
+-- What is due for `check`: one answer at most, and the end of its work.
+use Rattle.std.proofs.Common.{◌≡◌, ℕ, List, [], true, refl, ap, inl}
+use Rattle.dpl_report.specs.declared.options.Options.{Options}
+use Rattle.dpl_layer.specs.Refusals.{RefusesLayer}
+use Rattle.dpl_layer.proofs.RefusalLemmas.{one_text_refusal}
+use Rattle.dpl_check.specs.declared.verdicts.Verdict.{Verdict}
+use Rattle.dpl_check.specs.declared.verdicts.Verdict.TheVariants.{Yes, No}
+use Rattle.dpl_check.proofs.OnceLemmas.{verdict_not_refused, one_verdict}
+use Rattle.dpl_words.specs.Commands.{PlainCommand}
+use Rattle.dpl_run.specs.declared.status.Status.{Status}
+use Rattle.dpl_run.specs.declared.status.Status.TheVariants.{Done, Rejected}
+use Rattle.dpl_run.specs.Inputs.{judges}
+use Rattle.dpl_run.specs.due.Check.{IsCheckDue}
+use Rattle.dpl_run.specs.due.Check.IsCheckDue.{refused, rejected, accepted}
+use Rattle.dpl_run.specs.Errors.{status_of}
+use Rattle.dpl_run.proofs.EndLemmas.{AllEnd, error_ends}
+use Rattle.dpl_run.proofs.LayerLemmas.{layer_limit}
+
+pub check_ends : (c : PlainCommand) → judges c ≡ true → (o : Options) (text report : List ℕ) → AllEnd c (IsCheckDue o text report)
+check_ends c judging o text report _ _ (refused e r) = error_ends c (RefusesLayer o text) (λ n. n) (λ k n p. inl (layer_limit o text k n p)) e r
+check_ends c judging o text report _ _ (rejected reason place found wanted v) = (judging, refl)
+check_ends c judging o text report _ _ (accepted cost bound v) = tt
+
+abbrev status_of_verdict : Verdict → Status
+status_of_verdict (Yes cost bound) = Done
+status_of_verdict (No reason place found wanted) = Rejected reason place found wanted
+
+pub one_check : (o : Options) (text report : List ℕ) (a b : Status) (x y : List ℕ) → IsCheckDue o text report a x → IsCheckDue o text report b y → a ≡ b
+one_check o text report _ _ _ _ (refused e r) (refused f q) = ap status_of (one_text_refusal o text e f r q)
+one_check o text report _ _ _ _ (refused e r) (rejected reason place found wanted w) = absurd (verdict_not_refused o text report e (No reason place found wanted) r w)
+one_check o text report _ _ _ _ (refused e r) (accepted cost bound w) = absurd (verdict_not_refused o text report e (Yes cost bound) r w)
+one_check o text report _ _ _ _ (rejected reason place found wanted v) (refused f q) = absurd (verdict_not_refused o text report f (No reason place found wanted) q v)
+one_check o text report _ _ _ _ (rejected reason place found wanted v) (rejected reason' place' found' wanted' w) =
+    ap status_of_verdict (one_verdict o text report (No reason place found wanted) (No reason' place' found' wanted') v w)
+one_check o text report _ _ _ _ (rejected reason place found wanted v) (accepted cost bound w) = ap status_of_verdict (one_verdict o text report (No reason place found wanted) (Yes cost bound) v w)
+one_check o text report _ _ _ _ (accepted cost bound v) (refused f q) = absurd (verdict_not_refused o text report f (Yes cost bound) q v)
+one_check o text report _ _ _ _ (accepted cost bound v) (rejected reason place found wanted w) = ap status_of_verdict (one_verdict o text report (Yes cost bound) (No reason place found wanted) v w)
+one_check o text report _ _ _ _ (accepted cost bound v) (accepted cost' bound' w) = refl

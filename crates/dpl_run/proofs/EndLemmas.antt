@@ -1,0 +1,135 @@
+-- With which statuses the work on the texts of a command can end, and what is written before them.
+use Rattle.std.proofs.Common.{◌≡◌, ◌⊎◌, ◌∙◌, ◌≤◌, ℕ, List, [], true, refl, inl, inr, arith, sym, subst}
+use Rattle.std.specs.Prelude.{Ok}
+use Rattle.dpl_layer.specs.declared.error.LayerError.{LayerError}
+use Rattle.dpl_layer.specs.declared.error.LayerError.TheVariants as refusal
+use Rattle.dpl_report.specs.declared.options.Options.{Options}
+use Rattle.dpl_words.specs.Commands.{PlainOptions, PlainCommand}
+use Rattle.dpl_words.specs.Views.{plain_options}
+use Rattle.dpl_words.proofs.ViewLemmas.{same_options}
+use Rattle.dpl_run.specs.declared.status.Status.{Status}
+use Rattle.dpl_run.specs.declared.status.Status.TheVariants.{Done, Rejected, Usage, Layout, Limit, ReadFault, WriteFault, NoMemory}
+use Rattle.dpl_run.specs.Inputs.{judges, colours}
+use Rattle.dpl_run.specs.Answer.{IsLimitOf, IsStatusOf}
+use Rattle.dpl_run.specs.due.{OnOptions}
+use Rattle.dpl_run.specs.Errors.{status_of}
+use Rattle.dpl_run.specs.Telling.{IsBare, IsDueOrFree, IsWorked}
+
+-- done, or a refusal with nothing written
+abbrev pub IsFit : Status → List ℕ → Type 0
+IsFit Done x = Unit {0}
+IsFit ReadFault x = ⊥
+IsFit WriteFault x = ⊥
+IsFit NoMemory x = ⊥
+IsFit status x = x ≡ []
+
+-- a limit on what a layer has, or on the odd faces of a net that is coloured
+abbrev pub IsWorkLimit : PlainCommand → ℕ → Type 0
+IsWorkLimit c kind = ((2 ≤ kind) × (kind ≤ 7)) ⊎ ((kind ≡ 8) × (colours c ≡ true))
+
+-- done, or a refusal of the work
+abbrev pub Ends : PlainCommand → Status → List ℕ → Type 0
+Ends c Done x = Unit {0}
+Ends c (Rejected reason place found wanted) x = (judges c ≡ true) × (x ≡ [])
+Ends c (Usage kind) x = ⊥
+Ends c (Layout command what) x = x ≡ []
+Ends c (Limit kind count) x = IsWorkLimit c kind × (x ≡ [])
+Ends c ReadFault x = ⊥
+Ends c WriteFault x = ⊥
+Ends c NoMemory x = ⊥
+
+pub ends_fit : (c : PlainCommand) (a : Status) (x : List ℕ) → Ends c a x → IsFit a x
+ends_fit c Done x e = tt
+ends_fit c (Rejected reason place found wanted) x e = e.1
+ends_fit c (Usage kind) x e = absurd e
+ends_fit c (Layout command what) x e = e
+ends_fit c (Limit kind count) x e = e.1
+ends_fit c ReadFault x e = e
+ends_fit c WriteFault x e = e
+ends_fit c NoMemory x e = e
+
+-- a refusal ends the work, if it is not for want of memory and names a limit on the work
+pub error_ends : (c : PlainCommand) (P : LayerError → Type 0) → (P refusal.NoMemory → ⊥) → ((k n : ℕ) → P (refusal.Limit k n) → IsWorkLimit c k)
+    → (e : LayerError) → P e → Ends c (status_of e) []
+error_ends c P some f (refusal.Layout command what) p = refl
+error_ends c P some f (refusal.Limit k n) p = (f k n p, refl)
+error_ends c P some f refusal.NoMemory p = absurd (some p)
+
+-- ---- what the work answers
+
+-- all that is due ends the work
+abbrev pub AllEnd : PlainCommand → (Status → List ℕ → Type 0) → Type 0
+AllEnd c Due = (a : Status) (x : List ℕ) → Due a x → Ends c a x
+
+pub worked_free : (c : PlainCommand) (Due : Status → List ℕ → Type 0) → AllEnd c Due → (a : Status) (x : List ℕ) → IsWorked Due a x → IsDueOrFree Due a x
+worked_free c Due all Done x p = p
+worked_free c Due all (Rejected reason place found wanted) x p = p
+worked_free c Due all (Usage kind) x p = p
+worked_free c Due all (Layout command what) x p = p
+worked_free c Due all (Limit kind count) x p = p
+worked_free c Due all ReadFault x p = absurd (all ReadFault x p)
+worked_free c Due all WriteFault x p = p
+worked_free c Due all NoMemory x p = p
+
+pub worked_bare : (c : PlainCommand) (Due : Status → List ℕ → Type 0) → AllEnd c Due → (a : Status) (x : List ℕ) → IsWorked Due a x → IsBare a x
+worked_bare c Due all Done x p = tt
+worked_bare c Due all (Rejected reason place found wanted) x p = (all (Rejected reason place found wanted) x p).1
+worked_bare c Due all (Usage kind) x p = absurd (all (Usage kind) x p)
+worked_bare c Due all (Layout command what) x p = all (Layout command what) x p
+worked_bare c Due all (Limit kind count) x p = (all (Limit kind count) x p).1
+worked_bare c Due all ReadFault x p = absurd (all ReadFault x p)
+worked_bare c Due all WriteFault x p = absurd (all WriteFault x p)
+worked_bare c Due all NoMemory x p = p
+
+limit_of_work : (c : PlainCommand) (k : ℕ) → IsWorkLimit c k → IsLimitOf c k
+limit_of_work c k (inl p) = inr (inl p)
+limit_of_work c k (inr p) = inr (inr (inl p))
+
+pub worked_status : (c : PlainCommand) (Due : Status → List ℕ → Type 0) → AllEnd c Due → (a : Status) (x : List ℕ) → IsWorked Due a x → IsStatusOf (Ok c) a
+worked_status c Due all Done x p = tt
+worked_status c Due all (Rejected reason place found wanted) x p = (all (Rejected reason place found wanted) x p).0
+worked_status c Due all (Usage kind) x p = absurd (all (Usage kind) x p)
+worked_status c Due all (Layout command what) x p = tt
+worked_status c Due all (Limit kind count) x p = limit_of_work c kind (all (Limit kind count) x p).0
+worked_status c Due all ReadFault x p = tt
+worked_status c Due all WriteFault x p = tt
+worked_status c Due all NoMemory x p = tt
+
+-- no text was read in the work
+pub worked_no_fault : (c : PlainCommand) (Due : Status → List ℕ → Type 0) → AllEnd c Due → (a : Status) (x : List ℕ) → IsWorked Due a x → a ≡ ReadFault → ⊥
+worked_no_fault c Due all a x p e = all ReadFault x (subst (λ z. IsWorked Due z x) e p)
+
+work_limit_between : (c : PlainCommand) (k : ℕ) → IsWorkLimit c k → (2 ≤ k) × (k ≤ 8)
+work_limit_between c k (inl p) = (p.0, omega (arith, p.1))
+work_limit_between c k (inr p) = (omega (arith, p.0), omega (arith, p.0))
+
+-- and no limit on the bytes of a text is passed in it
+pub worked_limit : (c : PlainCommand) (Due : Status → List ℕ → Type 0) → AllEnd c Due → (a : Status) (x : List ℕ) (k n : ℕ) → IsWorked Due a x → a ≡ Limit k n → (2 ≤ k) × (k ≤ 8)
+worked_limit c Due all a x k n p e = work_limit_between c k (all (Limit k n) x (subst (λ z. IsWorked Due z x) e p)).0
+
+-- a refusal is due where it applies, and want of memory is free
+or_memory : (Due : Status → List ℕ → Type 0) (P : LayerError → Type 0) (e : LayerError) → ((f : LayerError) → P f → Due (status_of f) []) → (e ≡ refusal.NoMemory) ⊎ P e → IsWorked Due (status_of e) []
+or_memory Due P refusal.NoMemory f h = refl
+or_memory Due P (refusal.Layout command what) f (inl h) = absurd (cc)
+or_memory Due P (refusal.Limit kind count) f (inl h) = absurd (cc)
+or_memory Due P (refusal.Layout command what) f (inr h) = f (refusal.Layout command what) h
+or_memory Due P (refusal.Limit kind count) f (inr h) = f (refusal.Limit kind count) h
+
+pub refused_worked : (Due : Status → List ℕ → Type 0) (P : LayerError → Type 0) (e : LayerError) (s : Status) (x : List ℕ) → ((f : LayerError) → P f → Due (status_of f) []) → (e ≡ refusal.NoMemory) ⊎ P e
+    → s ≡ status_of e → x ≡ [] → IsWorked Due s x
+refused_worked Due P e s x f h is none = subst (λ z. IsWorked Due z x) (sym is) (subst (IsWorked Due (status_of e)) (sym none) (or_memory Due P e f h))
+
+-- ---- what is due for the options of the words
+
+-- a due for each value of the options
+abbrev pub Dues : Type 1
+Dues = Options → Status → List ℕ → Type 0
+
+pub on_options_end : (c : PlainCommand) (plain : PlainOptions) (Due : Dues) → ((o : Options) → AllEnd c (Due o)) → AllEnd c (OnOptions plain Due)
+on_options_end c plain Due all a x p = all p.0 a x p.2
+
+pub on_options_once : (plain : PlainOptions) (Due : Dues) → ((o : Options) (a b : Status) (x y : List ℕ) → Due o a x → Due o b y → a ≡ b)
+    → (a b : Status) (x y : List ℕ) → OnOptions plain Due a x → OnOptions plain Due b y → a ≡ b
+on_options_once plain Due once a b x y p q =
+    let same : q.0 ≡ p.0 = same_options q.0 p.0 (q.1 ∙ sym p.1) in
+    once p.0 a b x y p.2 (subst (λ o. Due o b y) same q.2)

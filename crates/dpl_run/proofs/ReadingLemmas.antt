@@ -1,0 +1,234 @@
+-- What is due where the texts of a command were read, and where they were not.
+use Rattle.std.proofs.Common.{arith, ◌≡◌, ◌≢◌, ◌⊎◌, ◌∙◌, ℕ, ◌+◌, ◌≤◌, ◌<◌, ◌++◌, List, [], length, append-nil, Bool, true, false, Option, Some, None, refl, sym, ap, subst, inl, inr}
+use Rattle.std.specs.Prelude.{Result, Ok, Err, IfSome}
+use Rattle.std.specs.Io.KnownBytes.{Consumes, IsAtEnd}
+use Rattle.dpl_ext.specs.Device.{Seen, Texts, Rose, RoseBy, first_text}
+use Rattle.dpl_ext.specs.Reading.{IsWhole}
+use Rattle.dpl_gen.specs.Layout.{layout}
+use Rattle.dpl_words.specs.Commands.{PlainCommand, split, check, load, cross, balance}
+use Rattle.dpl_run.specs.declared.status.Status.{Status}
+use Rattle.dpl_run.specs.declared.status.Status.TheVariants.{Done, Rejected, Usage, Layout, Limit, ReadFault, WriteFault, NoMemory}
+use Rattle.dpl_run.specs.Inputs.{Opened, opens, reads_layout, report_limit}
+use Rattle.dpl_run.specs.Devices.{AsksFor, IsLayoutTold, IsSecondTold, IsLayoutFault, IsSecondFault, IsReadFault, IsSecondTouched, PassesBytes}
+use Rattle.dpl_run.specs.Answer.{DueOf, IsDueFor, IsLimitOf, IsShort, IsSmall, IsStatusOf}
+use Rattle.dpl_run.specs.Answer.IsDueFor.{long_layout, long_second, carried_out}
+use Rattle.dpl_run.specs.Telling.{IsBare, IsDueOrFree, IsSecondRead, IsWorked, StopsOpening, StopsReading, StopsSecond}
+use Rattle.dpl_run.proofs.EndLemmas.{worked_free}
+use Rattle.dpl_run.proofs.DueLemmas.{all_end}
+
+-- ---- what was read is what is told
+
+-- all that was left was read, so what was read is the layout
+read_is : (before now : Seen) (bytes text : List ℕ) (limit : ℕ) → IsWhole before now bytes limit → before.left ≡ Some text → text ≡ bytes
+read_is before now bytes text limit w told = by_left before.left now.left told w.gave.front w.at_end where
+  by_left : (left rest : Option (List ℕ)) → left ≡ Some text → Consumes left rest bytes → IsAtEnd rest → text ≡ bytes
+  by_left None rest e c end = absurd (cc)
+  by_left (Some xs) None e c end = absurd c
+  by_left (Some xs) (Some ys) e c end =
+      let a : xs ≡ text = cc in
+      let b : xs ≡ bytes = rw (end, append-nil) at c in
+      sym a ∙ b
+
+told_where : (reads : Bool) (left : Option (List ℕ)) (text : List ℕ) → IsLayoutTold reads left text → reads ≡ true → left ≡ Some text
+told_where true left text t e = t
+told_where false left text t e = absurd (cc)
+
+same_layout : (reads : Bool) (before now : Seen) (bytes text : List ℕ) → (reads ≡ true → IsWhole before now bytes 16777216) → IsLayoutTold reads before.left text → reads ≡ true → text ≡ bytes
+same_layout reads before now bytes text whole told e = read_is before now bytes text 16777216 (whole e) (told_where reads before.left text told e)
+
+short_layout : (reads : Bool) (before now : Seen) (bytes text : List ℕ) → (reads ≡ true → IsWhole before now bytes 16777216) → IsLayoutTold reads before.left text → IsShort reads text
+short_layout reads before now bytes text whole told e = subst (λ (z : List ℕ). length z ≤ 16777216) (sym (same_layout reads before now bytes text whole told e)) (whole e).within
+
+same_second : (o : Option Opened) (texts : Option Texts) (bytes second : List ℕ) → IsSecondRead o texts bytes → IsSecondTold o texts second → (p : Opened) → o ≡ Some p → second ≡ bytes
+same_second None texts bytes second read told p e = absurd (cc)
+same_second (Some o) texts bytes second read told p e = let a = read told.0 told.1 in let b = told.2 in cc
+
+small_second : (o : Option Opened) (texts : Option Texts) (bytes second : List ℕ) → IsSecondRead o texts bytes → IsSecondTold o texts second → IsSmall o bytes → IsSmall o second
+small_second None texts bytes second read told small = tt
+small_second (Some o) texts bytes second read told small = subst (λ (z : List ℕ). length z ≤ o.limit.most) (sym (same_second (Some o) texts bytes second read told o refl)) small
+
+-- what a command does not read makes no difference
+same_due : (c : PlainCommand) (text bytes second others : List ℕ) → (reads_layout c ≡ true → text ≡ bytes) → ((p : Opened) → opens c ≡ Some p → second ≡ others)
+    → (a : Status) (x : List ℕ) → DueOf c bytes others a x → DueOf c text second a x
+same_due (split options) text bytes second others e f a x d = subst (λ z. DueOf (split options) z second a x) (sym (e refl)) d
+same_due (balance options) text bytes second others e f a x d = subst (λ z. DueOf (balance options) z second a x) (sym (e refl)) d
+same_due (cross options) text bytes second others e f a x d = subst (λ z. DueOf (cross options) z second a x) (sym (e refl)) d
+same_due (load start rows columns) text bytes second others e f a x d = d
+same_due (check options name) text bytes second others e f a x d =
+    subst (λ z. DueOf (check options name) z second a x) (sym (e refl)) (subst (λ z. DueOf (check options name) bytes z a x) (sym (f (record { name = name; limit = report_limit }) refl)) d)
+
+free_map : (Due Other : Status → List ℕ → Type 0) → ((a : Status) (x : List ℕ) → Due a x → Other a x) → (a : Status) (x : List ℕ) → IsDueOrFree Due a x → IsDueOrFree Other a x
+free_map Due Other f Done x p = f Done x p
+free_map Due Other f (Rejected reason place found wanted) x p = f (Rejected reason place found wanted) x p
+free_map Due Other f (Usage kind) x p = f (Usage kind) x p
+free_map Due Other f (Layout command what) x p = f (Layout command what) x p
+free_map Due Other f (Limit kind count) x p = f (Limit kind count) x p
+free_map Due Other f ReadFault x p = p
+free_map Due Other f WriteFault x p = f WriteFault x p
+free_map Due Other f NoMemory x p = p
+
+-- the texts were read whole, and the command was carried out
+pub carried_due : (c : PlainCommand) (layout layout_now : Seen) (texts : Option Texts) (bytes others text second : List ℕ) (a : Status) (x : List ℕ)
+    → (reads_layout c ≡ true → IsWhole layout layout_now bytes 16777216) → IsSecondRead (opens c) texts others → IsSmall (opens c) others
+    → IsWorked (DueOf c bytes others) a x → IsLayoutTold (reads_layout c) layout.left text × IsSecondTold (opens c) texts second → IsDueOrFree (IsDueFor c text second) a x
+carried_due c layout layout_now texts bytes others text second a x whole read small worked told =
+    let short = short_layout (reads_layout c) layout layout_now bytes text whole told.0 in
+    let few = small_second (opens c) texts others second read told.1 small in
+    let same = same_due c text bytes second others (same_layout (reads_layout c) layout layout_now bytes text whole told.0) (same_second (opens c) texts others second read told.1) in
+    free_map (DueOf c bytes others) (IsDueFor c text second) (λ b y d. carried_out b y short few (same b y d)) a x (worked_free c (DueOf c bytes others) (all_end c bytes others) a x worked)
+
+-- ---- the layout was not read whole
+
+long_text : (left : Option (List ℕ)) (text : List ℕ) (most : ℕ) → IfSome left (λ xs. most < length xs) → left ≡ Some text → most < length text
+long_text (Some xs) text most l e = let a : xs ≡ text = cc in rw a at l
+long_text None text most l e = absurd (cc)
+
+stops_at : (Due : Status → List ℕ → Type 0) (before now : Seen) (text : List ℕ) (kind most : ℕ) (s : Status) (x : List ℕ) → StopsReading before now kind most s → before.left ≡ Some text → x ≡ []
+    → (most < length text → Due (Limit kind (most + 1)) []) → IsDueOrFree Due s x
+stops_at Due before now text kind most ReadFault x w told none f = none
+stops_at Due before now text kind most NoMemory x w told none f = none
+stops_at Due before now text kind most (Limit k count) x w told none f =
+    let due = f (long_text before.left text most w.3 told) in
+    subst (λ z. Due (Limit z count) x) (sym w.0) (subst (λ z. Due (Limit kind z) x) (sym w.1) (subst (Due (Limit kind (most + 1))) (sym none) due))
+stops_at Due before now text kind most Done x w told none f = absurd w
+stops_at Due before now text kind most (Usage k) x w told none f = absurd w
+stops_at Due before now text kind most (Layout command what) x w told none f = absurd w
+stops_at Due before now text kind most (Rejected reason place found wanted) x w told none f = absurd w
+stops_at Due before now text kind most WriteFault x w told none f = absurd w
+
+-- why the layout of a command was not read whole
+abbrev StopsLayout : PlainCommand → Seen → Seen → Status → Type 0
+StopsLayout c before now s = (reads_layout c ≡ true) × StopsReading before now 1 16777216 s
+
+pub layout_due : (c : PlainCommand) (before now : Seen) (text second : List ℕ) (s t : Status) (x : List ℕ) → StopsLayout c before now s → t ≡ s → x ≡ [] → IsLayoutTold (reads_layout c) before.left text
+    → IsDueOrFree (IsDueFor c text second) t x
+layout_due c before now text second s t x w e none told =
+    subst (λ z. IsDueOrFree (IsDueFor c text second) z x) (sym e) (stops_at (IsDueFor c text second) before now text 1 16777216 s x w.1 (told_where (reads_layout c) before.left text told w.0) none (λ long. long_layout w.0 long))
+
+fault_where : (reads : Bool) (before now : Seen) → reads ≡ true → Rose before.faults now.faults → IsLayoutFault reads before now
+fault_where true before now e r = r
+fault_where false before now e r = absurd (cc)
+
+pub layout_fault : (c : PlainCommand) (before now second second_now : Seen) (s t : Status) → StopsLayout c before now s → t ≡ s → t ≡ ReadFault → IsReadFault (Ok c) before now second second_now
+layout_fault c before now second second_now s t w e f = inl (fault_where (reads_layout c) before now w.0 (subst (StopsReading before now 1 16777216) (sym e ∙ f) w.1))
+
+pub layout_limit : (c : PlainCommand) (before now : Seen) (s t : Status) (count : ℕ) → StopsLayout c before now s → t ≡ s → t ≡ Limit 1 count → PassesBytes 16777217 count before now
+layout_limit c before now s t count w e f = let p = subst (StopsReading before now 1 16777216) (sym e ∙ f) w.1 in (p.1, p.2)
+
+pub layout_no_limit : (c : PlainCommand) (before now : Seen) (s t : Status) (count : ℕ) (P : Type 0) → StopsLayout c before now s → t ≡ s → t ≡ Limit 9 count → P
+layout_no_limit c before now s t count P w e f = let p = subst (StopsReading before now 1 16777216) (sym e ∙ f) w.1 in absurd (omega (arith, p.0))
+
+pub untouched : (o : Option Opened) (before : Seen) → IsSecondTouched o before before
+untouched None before = refl
+untouched (Some opened) before = inl refl
+
+reading_bare : (before now : Seen) (kind most : ℕ) (s : Status) (x : List ℕ) → StopsReading before now kind most s → x ≡ [] → IsBare s x
+reading_bare before now kind most ReadFault x w none = none
+reading_bare before now kind most NoMemory x w none = none
+reading_bare before now kind most (Limit k count) x w none = none
+reading_bare before now kind most Done x w none = tt
+reading_bare before now kind most (Usage k) x w none = none
+reading_bare before now kind most (Layout command what) x w none = none
+reading_bare before now kind most (Rejected reason place found wanted) x w none = none
+reading_bare before now kind most WriteFault x w none = w
+
+pub layout_bare : (c : PlainCommand) (before now : Seen) (s t : Status) (x : List ℕ) → StopsLayout c before now s → t ≡ s → x ≡ [] → IsBare t x
+layout_bare c before now s t x w e none = subst (λ z. IsBare z x) (sym e) (reading_bare before now 1 16777216 s x w.1 none)
+
+reading_status : (c : PlainCommand) (before now : Seen) (s : Status) → reads_layout c ≡ true → StopsReading before now 1 16777216 s → IsStatusOf (Ok c) s
+reading_status c before now ReadFault e w = tt
+reading_status c before now NoMemory e w = tt
+reading_status c before now (Limit k count) e w = inl (w.0, e)
+reading_status c before now Done e w = tt
+reading_status c before now (Usage k) e w = w
+reading_status c before now (Layout command what) e w = tt
+reading_status c before now (Rejected reason place found wanted) e w = absurd w
+reading_status c before now WriteFault e w = tt
+
+pub layout_status : (c : PlainCommand) (before now : Seen) (s t : Status) → StopsLayout c before now s → t ≡ s → IsStatusOf (Ok c) t
+layout_status c before now s t w e = subst (IsStatusOf (Ok c)) (sym e) (reading_status c before now s w.0 w.1)
+
+-- ---- the second text was not read whole
+
+second_at : (Due : Status → List ℕ → Type 0) (o : Opened) (before now : Seen) (texts : Option Texts) (second : List ℕ) (s : Status) (x : List ℕ) → StopsSecond o before now texts s
+    → IsSecondTold (Some o) texts second → x ≡ [] → (o.limit.most < length second → Due (Limit o.limit.kind (o.limit.most + 1)) []) → IsDueOrFree Due s x
+second_at Due o before now texts second ReadFault x w told none f = none
+second_at Due o before now texts second NoMemory x w told none f = none
+second_at Due o before now texts second (Limit k count) x w told none f =
+    let due = f (w.3 told.0 told.1 second told.2) in
+    subst (λ z. Due (Limit z count) x) (sym w.0) (subst (λ z. Due (Limit o.limit.kind z) x) (sym w.1) (subst (Due (Limit o.limit.kind (o.limit.most + 1))) (sym none) due))
+second_at Due o before now texts second Done x w told none f = absurd w
+second_at Due o before now texts second (Usage k) x w told none f = absurd w
+second_at Due o before now texts second (Layout command what) x w told none f = absurd w
+second_at Due o before now texts second (Rejected reason place found wanted) x w told none f = absurd w
+second_at Due o before now texts second WriteFault x w told none f = absurd w
+
+opening_at : (c : PlainCommand) (o : Option Opened) → opens c ≡ o → (before now : Seen) (texts : Option Texts) (text second : List ℕ) (s : Status) (x : List ℕ) → StopsOpening o before now texts s
+    → IsShort (reads_layout c) text → IsSecondTold o texts second → x ≡ [] → IsDueOrFree (IsDueFor c text second) s x
+opening_at c None is before now texts text second s x w short told none = absurd w
+opening_at c (Some o) is before now texts text second s x w short told none = second_at (IsDueFor c text second) o before now texts second s x w told none (λ long. long_second o is short long)
+
+pub second_due : (c : PlainCommand) (layout layout_now before now : Seen) (texts : Option Texts) (bytes text second : List ℕ) (s t : Status) (x : List ℕ)
+    → (reads_layout c ≡ true → IsWhole layout layout_now bytes 16777216) → StopsOpening (opens c) before now texts s → t ≡ s → x ≡ []
+    → IsLayoutTold (reads_layout c) layout.left text × IsSecondTold (opens c) texts second → IsDueOrFree (IsDueFor c text second) t x
+second_due c layout layout_now before now texts bytes text second s t x whole w e none told =
+    let short = short_layout (reads_layout c) layout layout_now bytes text whole told.0 in
+    subst (λ z. IsDueOrFree (IsDueFor c text second) z x) (sym e) (opening_at c (opens c) refl before now texts text second s x w short told.1 none)
+
+opening_fault : (o : Option Opened) (before now : Seen) (texts : Option Texts) → StopsOpening o before now texts ReadFault → IsSecondFault o before now
+opening_fault None before now texts w = w
+opening_fault (Some o) before now texts w = w
+
+pub second_fault : (c : PlainCommand) (layout layout_now before now : Seen) (texts : Option Texts) (s t : Status) → StopsOpening (opens c) before now texts s → t ≡ s → t ≡ ReadFault
+    → IsReadFault (Ok c) layout layout_now before now
+second_fault c layout layout_now before now texts s t w e f = inr (opening_fault (opens c) before now texts (subst (StopsOpening (opens c) before now texts) (sym e ∙ f) w))
+
+-- what is opened is a report
+report_is : (c : PlainCommand) (o : Opened) → opens c ≡ Some o → o.limit ≡ report_limit
+report_is (split options) o e = absurd (cc)
+report_is (balance options) o e = absurd (cc)
+report_is (cross options) o e = absurd (cc)
+report_is (load start rows columns) o e = absurd (cc)
+report_is (check options name) o e = let a : record { name = name; limit = report_limit } ≡ o = cc in ap (λ z. z.limit) (sym a)
+
+opening_limit : (c : PlainCommand) (o : Option Opened) → opens c ≡ o → (before now : Seen) (texts : Option Texts) (k n : ℕ) → StopsOpening o before now texts (Limit k n) → (k ≡ 9) × PassesBytes 268435457 n before now
+opening_limit c None is before now texts k n w = absurd w
+opening_limit c (Some o) is before now texts k n w =
+    let r = report_is c o is in
+    let kind : o.limit.kind ≡ 9 = ap (λ z. z.kind) r in
+    let most : o.limit.most ≡ 268435456 = ap (λ z. z.most) r in
+    (w.0 ∙ kind, subst (λ z. (n ≡ z + 1) × RoseBy (z + 1) before.given now.given) most (w.1, w.2))
+
+pub second_limit : (c : PlainCommand) (before now : Seen) (texts : Option Texts) (s t : Status) (count : ℕ) → StopsOpening (opens c) before now texts s → t ≡ s → t ≡ Limit 9 count → PassesBytes 268435457 count before now
+second_limit c before now texts s t count w e f = (opening_limit c (opens c) refl before now texts 9 count (subst (StopsOpening (opens c) before now texts) (sym e ∙ f) w)).1
+
+pub second_no_limit : (c : PlainCommand) (before now : Seen) (texts : Option Texts) (s t : Status) (count : ℕ) (P : Type 0) → StopsOpening (opens c) before now texts s → t ≡ s → t ≡ Limit 1 count → P
+second_no_limit c before now texts s t count P w e f = let p = opening_limit c (opens c) refl before now texts 1 count (subst (StopsOpening (opens c) before now texts) (sym e ∙ f) w) in absurd (omega (arith, p.0))
+
+opening_bare : (o : Option Opened) (before now : Seen) (texts : Option Texts) (s : Status) (x : List ℕ) → StopsOpening o before now texts s → x ≡ [] → IsBare s x
+opening_bare None before now texts s x w none = absurd w
+opening_bare (Some o) before now texts ReadFault x w none = none
+opening_bare (Some o) before now texts NoMemory x w none = none
+opening_bare (Some o) before now texts (Limit k count) x w none = none
+opening_bare (Some o) before now texts Done x w none = tt
+opening_bare (Some o) before now texts (Usage k) x w none = none
+opening_bare (Some o) before now texts (Layout command what) x w none = none
+opening_bare (Some o) before now texts (Rejected reason place found wanted) x w none = none
+opening_bare (Some o) before now texts WriteFault x w none = w
+
+pub second_bare : (c : PlainCommand) (before now : Seen) (texts : Option Texts) (s t : Status) (x : List ℕ) → StopsOpening (opens c) before now texts s → t ≡ s → x ≡ [] → IsBare t x
+second_bare c before now texts s t x w e none = subst (λ z. IsBare z x) (sym e) (opening_bare (opens c) before now texts s x w none)
+
+opening_status : (c : PlainCommand) (o : Option Opened) → opens c ≡ o → (before now : Seen) (texts : Option Texts) (s : Status) → StopsOpening o before now texts s → IsStatusOf (Ok c) s
+opening_status c None is before now texts s w = absurd w
+opening_status c (Some o) is before now texts ReadFault w = tt
+opening_status c (Some o) is before now texts NoMemory w = tt
+opening_status c (Some o) is before now texts (Limit k count) w = inr (inr (inr (o, is, w.0)))
+opening_status c (Some o) is before now texts Done w = tt
+opening_status c (Some o) is before now texts (Usage k) w = w
+opening_status c (Some o) is before now texts (Layout command what) w = tt
+opening_status c (Some o) is before now texts (Rejected reason place found wanted) w = absurd w
+opening_status c (Some o) is before now texts WriteFault w = tt
+
+pub second_status : (c : PlainCommand) (before now : Seen) (texts : Option Texts) (s t : Status) → StopsOpening (opens c) before now texts s → t ≡ s → IsStatusOf (Ok c) t
+second_status c before now texts s t w e = subst (IsStatusOf (Ok c)) (sym e) (opening_status c (opens c) refl before now texts s w)

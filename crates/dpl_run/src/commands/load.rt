@@ -1,0 +1,89 @@
+// `load`: the numbers of the report of a made layout.
+ghost use Rattle.std.specs.Prelude.{◌+◌, ◌≡◌, ◌⊎◌, ◌≤◌, ◌^◌, [], length};
+ghost use Rattle.dpl_gen.specs.Layout.{layout};
+ghost use Rattle.dpl_report.specs.Plain.{plain_report};
+ghost use Rattle.dpl_report.specs.Valid.{IsReport};
+ghost use Rattle.dpl_words.specs.Views.{plain_options};
+ghost use Rattle.dpl_run.specs.due.{OnOptions};
+ghost use Rattle.dpl_run.specs.due.Load.{IsLoadDue, loaded_line, made_options};
+ghost use Rattle.dpl_run.specs.Telling.{IsWorked};
+
+use crate::due::{Due, bare, refused};
+use crate::lines::{Told, load_line};
+use crate::status::Status;
+use dpl_core::make;
+use dpl_gen::layout as made_layout;
+use dpl_lex::Name;
+use dpl_links::types::Weights;
+use dpl_report::{Options, Report};
+use std::alloc::Global;
+
+/// What is due for a made layout: layer M, spacing 100, overlap 20, a stitch weighs 1 and a conflict 10, and nothing is
+/// kept.
+pub fn load_made(alloc: Global, start: u64, rows: u32, columns: u32) -> Due
+    requires start { start ≤ 10 ^ 12 }
+    requires rows { (1 ≤ rows) × (rows ≤ 200) }
+    requires columns { (1 ≤ columns) × (columns ≤ 200) }
+    ensures due { IsWorked (OnOptions made_options (λ o.
+        IsLoadDue o (layout start rows columns))) result.status result.output.items }
+{
+    let text = match made_layout(alloc, start, rows, columns) {
+        Ok(text) => text,
+        Err(_) => return bare(alloc, Status::NoMemory),
+    };
+    let options = options_of_made();
+    match make(alloc, text.as_slice(), &options) {
+        Ok(report) => told(alloc, &report),
+        Err(error) => refused(alloc, error),
+    }
+}
+
+/// The options of a made layout.
+fn options_of_made() -> Options
+    ensures { plain_options result ≡ made_options }
+{
+    let layer = match Name::new(b"M") {
+        Some(layer) => layer,
+        None => unreachable!(),
+    };
+    let weights = Weights {
+        stitch: 1,
+        conflict: 10,
+        corner: 10,
+    };
+    Options {
+        layer,
+        space: 100,
+        overlap: 20,
+        weights,
+        keep: None,
+    }
+}
+
+/// The line of a report of a made layout.
+fn told(alloc: Global, report: &Report) -> Due
+    requires { IsReport (plain_report report.now) }
+    ensures done { result.status ≡ Status.Done →
+        result.output.items ≡ loaded_line (plain_report report.now) }
+    ensures only { (result.status ≡ Status.Done) ⊎
+        ((result.status ≡ Status.NoMemory) × (result.output.items ≡ [])) }
+{
+    let counts = &report.counts;
+    let line = load_line(
+        alloc,
+        Told {
+            fragments: counts.fragments,
+            edges: counts.bonds + counts.stitches + counts.clashes,
+            cost: report.cost,
+            bound: report.bound,
+            aside: report.aside.as_slice().len() as u64,
+        },
+    );
+    match line {
+        Ok(output) => Due {
+            status: Status::Done,
+            output,
+        },
+        Err(_) => bare(alloc, Status::NoMemory),
+    }
+}
