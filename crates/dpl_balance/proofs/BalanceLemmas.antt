@@ -7,13 +7,13 @@ use Rattle.dpl_sign.specs.declared.nets.Net.{Net}
 use Rattle.dpl_sign.specs.Colourings.{agree, colour_of}
 use Rattle.dpl_cuts.specs.declared.types.Fragments.{Fragments}
 use Rattle.dpl_balance.specs.Areas.{area_at, fragments_area, zones_area, all_fragments}
-use Rattle.dpl_balance.specs.Components.{are_one_component, AreComponents}
+use Rattle.dpl_parts.specs.Components.{are_one_component, AreComponents}
 use Rattle.dpl_balance.specs.Balance.{difference, mask_difference, AreBalanced, turn, AreTurned}
 use Rattle.dpl_balance.specs.Sides.{component_area}
 use Rattle.dpl_balance.specs.Parts.{part_at, cells_by, total_after, AreEven}
 use Rattle.dpl_balance.proofs.SumLemmas.{sum_none, some_passes}
 use Rattle.dpl_balance.proofs.ShareLemmas.{sum_shared, turn_same, turned_side}
-use Rattle.dpl_balance.proofs.ComponentLemmas.{one_number}
+use Rattle.dpl_parts.proofs.JoinedLemmas.{one_number}
 
 -- the new colours are the old ones, turned over where the list says so of their component
 pub record AreTurnedBy (f : Fragments) (net : Net) (old new : List Bool) (number : List ℕ) (turned : List Bool) : Type 0 where

@@ -1,5 +1,4 @@
 pub mod SumLemmas
-pub mod ComponentLemmas
 pub mod ShareLemmas
 pub mod SettleLemmas
 pub mod PartLemmas

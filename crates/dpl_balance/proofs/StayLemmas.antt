@@ -17,15 +17,15 @@ use Rattle.dpl_sign.specs.Colourings.{agree, is_broken, colour_of, breaks, broke
 use Rattle.dpl_cuts.specs.declared.types.Cut.{Cut}
 use Rattle.dpl_cuts.specs.declared.types.Fragments.{Fragments}
 use Rattle.dpl_report.specs.declared.marks.Broken.{Broken}
-use Rattle.dpl_report.specs.declared.options.Options.{Options}
+use Rattle.dpl_options.specs.Options.{PlainOptions}
 use Rattle.dpl_report.specs.declared.reports.Report.{Report}
 use Rattle.dpl_report.specs.Plain.{PlainZone, plain_report}
 use Rattle.dpl_report.specs.MaskRects.{mask_of}
 use Rattle.dpl_report.specs.Conditions.{is_stitch, where_zone, cuts_after, zone_here, cuts_from, where_broken, clashes_from}
 use Rattle.dpl_report.specs.Truths.{SaysTrue}
-use Rattle.dpl_balance.specs.Components.{are_one_component}
+use Rattle.dpl_parts.specs.Components.{are_one_component}
 use Rattle.dpl_balance.specs.Balance.{AreTurned, BreakTheSame}
-use Rattle.dpl_balance.proofs.ComponentLemmas.{edge_joins}
+use Rattle.dpl_parts.proofs.JoinedLemmas.{edge_joins}
 
 -- two colours that both stay or both turn over agree where they did
 agree_turned : (a b a' b' : Bool) → agree a a' ≡ agree b b' → agree a' b' ≡ agree a b
@@ -129,7 +129,7 @@ with_masks r colours on_a on_b = record {
   on_b = on_b;
 }
 
-pub still_true : (o : Options) (f : Fragments) (net : Net) (r : Report) (new : List Bool) (on_a on_b : List Rect) → AreTurned net r.colours new → on_a ≡ mask_of false f new → on_b ≡ mask_of true f new
+pub still_true : (o : PlainOptions) (f : Fragments) (net : Net) (r : Report) (new : List Bool) (on_a on_b : List Rect) → AreTurned net r.colours new → on_a ≡ mask_of false f new → on_b ≡ mask_of true f new
     → SaysTrue o f net (plain_report r) → SaysTrue o f net (plain_report (with_masks r new on_a on_b))
 still_true o f net r new on_a on_b t a b s =
     let alike : All (AreAlike r.colours new) net.graph.edges = break_the_same net r.colours new t in

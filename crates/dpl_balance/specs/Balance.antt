@@ -4,7 +4,7 @@ use Rattle.dpl_sign.specs.declared.nets.Net.{Net}
 use Rattle.dpl_sign.specs.Colourings.{agree, colour_of, breaks}
 use Rattle.dpl_cuts.specs.declared.types.Fragments.{Fragments}
 use Rattle.dpl_balance.specs.Areas.{area_on, all_fragments}
-use Rattle.dpl_balance.specs.Components.{are_one_component}
+use Rattle.dpl_parts.specs.Components.{are_one_component}
 
 -- how far two numbers are apart
 abbrev pub difference : ℕ → ℕ → ℕ

@@ -1,7 +1,6 @@
 -- what a reader must believe
 pub mod Areas
 pub mod Cells
-pub mod Components
 pub mod Balance
 pub mod Rest
 -- the words of the functions below `balance`

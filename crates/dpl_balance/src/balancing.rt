@@ -1,19 +1,19 @@
 // A report whose masks cover about the same area.
 ghost use Rattle.std.specs.Prelude.{◌≡◌, ◌<◌, ◌≤◌, ◌^◌, ℕ, false, true, length, slice_index_or, All, IfOk, map};
 ghost use Rattle.dpl_sign.specs.Colourings.{colour_of};
-ghost use Rattle.dpl_report.specs.declared.options.Options.{Options};
+ghost use Rattle.dpl_options.specs.Options.{PlainOptions};
 ghost use Rattle.dpl_report.specs.Plain.{plain_report};
 ghost use Rattle.dpl_report.specs.MaskRects.{mask_of};
 ghost use Rattle.dpl_report.specs.Truths.{SaysTrue};
-ghost use Rattle.dpl_balance.specs.Components.{AreComponents};
+ghost use Rattle.dpl_parts.specs.Components.{AreComponents};
 ghost use Rattle.dpl_balance.specs.Balance.{AreBalanced, AreTurned, BreakTheSame, turn};
 ghost use Rattle.dpl_balance.specs.Rest.{IsRestOf};
 
 use crate::adding::sides;
-use crate::joining::joined;
 use crate::turning::turned;
 use dpl_cuts::types::Fragments;
 use dpl_list::Items;
+use dpl_parts::counted_components;
 use dpl_report::{Report, masks};
 use dpl_sign::Net;
 use std::alloc::{AllocError as NoMemory, Global};
@@ -59,7 +59,7 @@ fn balanced(
     ensures even { IfOk result (λ v. AreBalanced fragments.now net.now v.items) }
 {
     let rects = fragments.rects.as_slice();
-    let (number, count) = joined(alloc, net)?;
+    let (number, count) = counted_components(alloc, net)?;
     let on_a = sides(alloc, rects, colours, number.as_slice(), count, false)?;
     let on_b = sides(alloc, rects, colours, number.as_slice(), count, true)?;
     let turned = turned(alloc, on_a.as_slice(), on_b.as_slice())?;
@@ -83,7 +83,7 @@ pub fn balance(
     ensures on_b { IfOk result (λ r. r.on_b ≡ mask_of true fragments.now r.colours) }
     ensures rest { IfOk result (IsRestOf report) }
     ensures broken { IfOk result (λ r. BreakTheSame net.now report.colours r.colours) }
-    ensures truth { IfOk result (λ r. (options : Options) →
+    ensures truth { IfOk result (λ r. (options : PlainOptions) →
         SaysTrue options fragments.now net.now (plain_report report) →
         SaysTrue options fragments.now net.now (plain_report r)) }
     ensures even { IfOk result (λ r. AreBalanced fragments.now net.now r.colours) }

@@ -31,6 +31,7 @@ pub fn report_of(
     ensures truth { IfOk result (λ r. SaysTrue options.now fragments.now net.now (plain_report r)) }
     ensures tight { IfOk result (λ r. IsTight net.now (plain_report r)) }
     ensures least { IfOk result (λ r. IsLeast net.now (plain_report r)) }
+    ensures colours { IfOk result (λ r. r.colours ≡ solution.colours.items) }
 {
     let params = params_of(options);
     let counts = counts_of(net, solution.excess);

@@ -16,8 +16,10 @@ use Rattle.dpl_list.proofs.Integers.{signed}
 use Rattle.dpl_euler.specs.declared.segment.Segment.{Segment}
 use Rattle.dpl_euler.specs.declared.types.With.{With}
 use Rattle.dpl_euler.specs.declared.types.With.TheVariants.{Link, Fragment}
-use Rattle.dpl_euler.specs.Segments.{Ends, ends_of, spans_meet, bounds_meet, is_beside, is_along, spans_overlap, segments_meet, segments_overlap}
-use Rattle.dpl_euler.specs.Crossings.{bounds_around, diagonal, link_at, share_end, cross, links_cross, passes_by, meets_rect, joins, crosses_fragment, IsWith}
+use Rattle.dpl_euler.specs.Points.{Ends}
+use Rattle.dpl_euler.specs.Segments.{ends_of, spans_meet, bounds_meet, is_beside, is_along, spans_overlap, segments_meet, segments_overlap}
+use Rattle.dpl_euler.specs.Crossings.{link_at}
+use Rattle.dpl_euler.specs.Tests.{bounds_around, diagonal, share_end, cross, links_cross, passes_by, meets_rect, joins, crosses_fragment, IsFound}
 use Rattle.dpl_euler.specs.Links.{AreLinks}
 
 -- ---- the links in a list
@@ -103,7 +105,7 @@ fragment_apart f net by_rect window also e eb ew m none v hv crosses =
     rect_bounds (r ∷ rs) (suc v) z h = rect_bounds rs v z (omega (arith, h))
 
 pub nothing_crossed : (f : Fragments) (net : Net) (links : List Segment) (by_link by_rect : List Bounds) (window : Bounds) (found also : List ℕ) (e : ℕ) (s : Segment) → AreLinks f net links (length net.graph.edges) → by_link ≡ map (λ x. bounds_around (ends_of x)) links → by_rect ≡ map (λ r. bounds_around (diagonal (corners_of r))) f.rects → e < length net.graph.edges → s ≡ get_or links e s → window ≡ bounds_around (ends_of s) →
-    AreMeeting by_link window found → AreMeeting by_rect window also → ((i : ℕ) → i < length found → e < get_or found i 0 → links_cross f net e (get_or found i 0) ≡ false) → ((i : ℕ) → i < length also → crosses_fragment f net e (get_or also i 0) ≡ false) → (w : With) → ¬ IsWith f net e w
+    AreMeeting by_link window found → AreMeeting by_rect window also → ((i : ℕ) → i < length found → e < get_or found i 0 → links_cross f net e (get_or found i 0) ≡ false) → ((i : ℕ) → i < length also → crosses_fragment f net e (get_or also i 0) ≡ false) → (w : With) → ¬ IsFound f net e w
 nothing_crossed f net links by_link by_rect window found also e s l el er he es ew m n none never (Link d) is =
     link_apart f net links by_link window found e s l el (ew ∙ ap bounds_around (ap ends_of es ∙ l.each e s he)) m none d is.0 is.1 is.2
 nothing_crossed f net links by_link by_rect window found also e s l el er he es ew m n none never (Fragment v) is =

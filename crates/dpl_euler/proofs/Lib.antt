@@ -4,4 +4,11 @@ pub mod BarLemmas
 pub mod RowLemmas
 pub mod SearchLemmas
 pub mod SegmentLemmas
+pub mod ProductLemmas
+pub mod TurnLemmas
+pub mod PointLemmas
+pub mod MeetingLemmas
+pub mod OverlapLemmas
+pub mod RectangleLemmas
 pub mod CrossingLemmas
+pub mod TestLemmas

@@ -8,8 +8,9 @@ use Rattle.std.specs.Int.{int_max, int_min}
 use Rattle.dpl_list.proofs.Integers.{signed}
 use Rattle.dpl_cell.specs.declared.rect.Rect.{Rect}
 use Rattle.dpl_cell.specs.Places.{corners_of}
-use Rattle.dpl_euler.specs.Segments.{Ends}
-use Rattle.dpl_euler.specs.Crossings.{leaving, link_between, diagonal, other_diagonal}
+use Rattle.dpl_euler.specs.Points.{Ends}
+use Rattle.dpl_euler.specs.Crossings.{leaving, link_between}
+use Rattle.dpl_euler.specs.Tests.{diagonal, other_diagonal}
 
 pub coordinate_fits : (z : ℤ) → neg_ℤ (pos (2 ^ 31)) ≤ℤ z → z ≤ℤ pos (2 ^ 31) → SFits w64 z
 coordinate_fits z f g = search (rules, ints)

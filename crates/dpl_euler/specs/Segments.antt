@@ -1,15 +1,11 @@
--- Segments of the plane and how they lie to each other. A segment leads from (x1, y1) to (x2, y2), and may be one point.
+-- How segments of the plane lie to each other, by the orientation of three points: the sign of a cross product (de Berg et
+-- al., Computational Geometry). Only the steps of the search for a crossing say this; what they find is said over points.
 use Rattle.std.specs.Prelude.{ℤ, ◌-ℤ◌, ◌*ℤ◌, Bool, not, ◌&&◌, ◌||◌, int_lt, int_le}
 use Rattle.std.specs.Int.{int_max, int_min}
 use Rattle.dpl_euler.specs.declared.segment.Segment.{Segment}
+use Rattle.dpl_euler.specs.Points.{Ends}
 
--- a segment by its two ends
-pub record Ends : Type 0 where
-  pub x1 : ℤ
-  pub y1 : ℤ
-  pub x2 : ℤ
-  pub y2 : ℤ
-
+-- the two ends of a segment of the code
 abbrev pub ends_of : Segment → Ends
 ends_of s = record { x1 = s.x1; y1 = s.y1; x2 = s.x2; y2 = s.y2 }
 

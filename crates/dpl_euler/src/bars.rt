@@ -9,7 +9,7 @@ ghost use Rattle.dpl_euler.specs.Bars.{IsBar, IsFirstAside};
 
 use crate::circling::cycle_from;
 use crate::searching::walk;
-use crate::types::Bar;
+use crate::types::{Bar, Drawn};
 use dpl_drawing::{Drawing, draw};
 use dpl_list::Items;
 use dpl_sign::{Net, next_around};
@@ -23,21 +23,38 @@ pub fn excess_of(alloc: Global, net: &Net) -> Result<u64, AllocError>
     Ok(drawing.excess)
 }
 
-/// What bars the least edge that is set aside, if there is one. With that edge the kept edges have
-/// excess 2. Near linear.
+/// The excess over all edges, and what bars the least edge that is set aside, from one drawing. With
+/// that edge the kept edges have excess 2. Near linear.
+pub fn drawn(alloc: Global, net: &Net) -> Result<Drawn, AllocError>
+    ensures excess { IfOk result (λ d. d.excess ≡ excess net.now all_edges) }
+    ensures none { IfOk result (λ d. d.bar ≡ None ↔ aside_edges net.now ≡ []) }
+    ensures least { IfOk result (λ d. IfSome d.bar (λ x. IsFirstAside net.now x.edge)) }
+    ensures bar { IfOk result (λ d. IfSome d.bar (IsBar net.now)) }
+    ensures two { IfOk result (λ d. IfSome d.bar (λ x.
+        excess net.now (with_edge (is_kept net.now) x.edge) ≡ 2)) }
+{
+    let drawing = draw(alloc, net)?;
+    let excess = drawing.excess;
+    if drawing.aside.is_empty() {
+        return Ok(Drawn { excess, bar: None });
+    }
+    let found = bar_of(alloc, net, &drawing)?;
+    Ok(Drawn {
+        excess,
+        bar: Some(found),
+    })
+}
+
+/// What bars the least edge that is set aside, if there is one.
 pub fn bar(alloc: Global, net: &Net) -> Result<Option<Bar>, AllocError>
     ensures none { IfOk result (λ b. b ≡ None ↔ aside_edges net.now ≡ []) }
     ensures least { IfOk result (λ b. IfSome b (λ x. IsFirstAside net.now x.edge)) }
     ensures bar { IfOk result (λ b. IfSome b (IsBar net.now)) }
-    ensures excess { IfOk result (λ b. IfSome b (λ x.
+    ensures two { IfOk result (λ b. IfSome b (λ x.
         excess net.now (with_edge (is_kept net.now) x.edge) ≡ 2)) }
 {
-    let drawing = draw(alloc, net)?;
-    if drawing.aside.is_empty() {
-        return Ok(None);
-    }
-    let found = bar_of(alloc, net, &drawing)?;
-    Ok(Some(found))
+    let drawn = drawn(alloc, net)?;
+    Ok(drawn.bar)
 }
 
 /// What bars the first edge that is set aside.

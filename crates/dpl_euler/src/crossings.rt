@@ -3,7 +3,8 @@
 ghost use Rattle.std.specs.Prelude.{◌≡◌, ◌<◌, ℕ, ◌^◌, false, length, slice_index, map, All, IfOk, IfSome, Ok, None};
 ghost use Rattle.dpl_cell.specs.Places.{corners_of};
 ghost use Rattle.dpl_euler.specs.Segments.{ends_of};
-ghost use Rattle.dpl_euler.specs.Crossings.{bounds_around, diagonal as the_diagonal, link_at as the_link, links_cross, crosses_fragment, joins as do_join, IsWith, IsCrossing, HasNoCrossing};
+ghost use Rattle.dpl_euler.specs.Crossings.{link_at as the_link, IsWith, IsCrossing, HasNoCrossing};
+ghost use Rattle.dpl_euler.specs.Tests.{bounds_around, diagonal as the_diagonal, links_cross, crosses_fragment, joins as do_join, IsFound};
 ghost use Rattle.dpl_euler.specs.Links.{AreLinks};
 
 use crate::links::{cross, diagonal, link_of, meets_rect};
@@ -120,7 +121,7 @@ fn first_link(
     requires links { AreLinks fragments.now net.now links.now (length net.now.graph.edges) }
     requires edge { edge < length net.now.graph.edges }
     requires found { All (λ d. d < length net.now.graph.edges) found.now }
-    ensures some { IfSome result (λ d. IsWith fragments.now net.now edge (With.Link d)) }
+    ensures some { IfSome result (λ d. IsFound fragments.now net.now edge (With.Link d)) }
     ensures none { result ≡ None → (i : ℕ) → i < length found.now → edge < slice_index found.now i →
         links_cross fragments.now net.now edge (slice_index found.now i) ≡ false }
 {
@@ -147,7 +148,7 @@ fn first_fragment(
     requires links { AreLinks fragments.now net.now links.now (length net.now.graph.edges) }
     requires edge { edge < length net.now.graph.edges }
     requires found { All (λ v. v < length fragments.now.rects) found.now }
-    ensures some { IfSome result (λ v. IsWith fragments.now net.now edge (With.Fragment v)) }
+    ensures some { IfSome result (λ v. IsFound fragments.now net.now edge (With.Fragment v)) }
     ensures none { result ≡ None → (i : ℕ) → i < length found.now →
         crosses_fragment fragments.now net.now edge (slice_index found.now i) ≡ false }
 {

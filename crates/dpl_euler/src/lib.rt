@@ -6,7 +6,7 @@
 //! `excess_of` gives the excess over all edges. `bar` shows for the least edge that is set aside what
 //! bars it: one face of the kept edges holds the corner at which the edge leaves its smaller end and
 //! not that at its larger end, and kept edges lead from one end to the other. So the edge would join
-//! two faces of one component.
+//! two faces of one component. `drawn` gives both from one drawing.
 #![tactic(auto)]
 
 mod bars;
@@ -19,7 +19,7 @@ mod segment;
 mod segments;
 pub mod types;
 
-pub use bars::{bar, excess_of};
+pub use bars::{bar, drawn, excess_of};
 pub use crossings::crossing;
 pub use std::alloc::AllocError as NoMemory;
 

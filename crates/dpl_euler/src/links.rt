@@ -4,7 +4,8 @@ ghost use Rattle.std.specs.Prelude.{◌≡◌, ◌<◌, ℕ, ℤ, pos, neg_ℤ, 
 ghost use Rattle.dpl_limits.specs.Limits.{most_coordinate};
 ghost use Rattle.dpl_cell.specs.Places.{corners_of};
 ghost use Rattle.dpl_euler.specs.Segments.{ends_of};
-ghost use Rattle.dpl_euler.specs.Crossings.{leaving as left_at, link_between, is_at as are_at, ends_at as do_end_at, share_end as do_share_end, cross as do_cross, diagonal as the_diagonal, other_diagonal as the_other_diagonal, passes_by as does_pass_by, meets_rect as does_meet_rect};
+ghost use Rattle.dpl_euler.specs.Crossings.{leaving as left_at, link_between};
+ghost use Rattle.dpl_euler.specs.Tests.{is_at as are_at, ends_at as do_end_at, share_end as do_share_end, cross as do_cross, diagonal as the_diagonal, other_diagonal as the_other_diagonal, passes_by as does_pass_by, meets_rect as does_meet_rect};
 
 use crate::segment::Segment;
 use crate::segments::{are_left, are_right, bounds_meet, segments_meet, segments_overlap};

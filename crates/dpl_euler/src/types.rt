@@ -12,6 +12,13 @@ pub struct Bar {
     pub walk: Items<u32>,
 }
 
+/// The excess over all edges, and what bars the least edge that is set aside, if there is one.
+#[derive(Drop)]
+pub struct Drawn {
+    pub excess: u64,
+    pub bar: Option<Bar>,
+}
+
 /// What a link crosses: the link of an edge, or a fragment.
 #[derive(Clone, Copy, Debug, PartialEq, Eq)]
 pub enum With {

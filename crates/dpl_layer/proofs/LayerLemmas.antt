@@ -1,5 +1,5 @@
--- Cells have one list of fragments and one net.
-use Rattle.std.proofs.Common.{arith, ◌≡◌, ◌<◌, ◌≤◌, ◌*◌, ◌+◌, ℕ, zero, suc, Bool, true, false, List, [], length, sym, ◌∙◌, subst, All, get_or}
+-- Cells, and cells that are kept whole, have one list of fragments and one net.
+use Rattle.std.proofs.Common.{arith, ◌≡◌, ◌<◌, ◌≤◌, ◌*◌, ◌+◌, ℕ, zero, suc, Bool, true, false, List, length, sym, ◌∙◌, subst, All, get_or}
 use Rattle.std.specs.Prelude.{ℤ, if◌then◌else◌}
 use Rattle.std.specs.List.{range_with_len}
 use Rattle.std.proofs.lemmas.Int.{ints}
@@ -7,7 +7,6 @@ use Rattle.std.proofs.lemmas.List.{length-map, get_or_default}
 use Rattle.std.proofs.lemmas.List.FromFn.{length-range_with_len}
 use Rattle.dpl_cell.specs.Places.{Corners, corners_of}
 use Rattle.dpl_cell.specs.Cells.{IsWithin}
-use Rattle.dpl_cell.specs.Layers.{is_cell}
 use Rattle.dpl_cell.specs.Tiles.{IsTile, AreTiles}
 use Rattle.dpl_near.specs.Shapes.{AreShapes}
 use Rattle.dpl_cuts.specs.declared.types.Fragments.{Fragments}
@@ -16,11 +15,9 @@ use Rattle.dpl_cuts.specs.Fragments.{AreFragments, HasMoreFragments}
 use Rattle.dpl_cuts.proofs.SameLemmas.{fragments_same, no_more_fragments}
 use Rattle.dpl_sign.specs.declared.nets.Net.{Net}
 use Rattle.dpl_links.specs.Nets.{IsNet}
-use Rattle.dpl_report.specs.declared.options.Options.{Options}
-use Rattle.dpl_cif.specs.Reading.{Reading}
-use Rattle.dpl_cif.specs.Reading.Reading.{Faulty, TooMany, TooManyCalls, TooFar, Good}
-use Rattle.dpl_cif.specs.OnCells.{OnCells}
-use Rattle.dpl_layer.specs.Layers.{AreFragmentsOf, IsLayer, IsLayerOf}
+use Rattle.dpl_options.specs.Options.{PlainOptions}
+use Rattle.dpl_layer.specs.Drawings.{Cells}
+use Rattle.dpl_layer.specs.Layers.{AreFragmentsOf, IsLayerOf}
 use Rattle.dpl_links.proofs.SameLemmas.{net_same}
 use Rattle.dpl_cell.proofs.BoxLemmas.{HasCell}
 use Rattle.dpl_near.proofs.LawLemmas.{labels_same}
@@ -74,51 +71,36 @@ few_tiles keep space over cells tiles label f t a =
 
 -- ---- fragments and nets
 
-pub fragments_same_of : (space over : ℕ) (cells : ℤ → ℤ → Bool) (f g : Fragments) → AreFragmentsOf space over cells f → AreFragmentsOf space over cells g → f ≡ g
-fragments_same_of space over cells f g a b =
+pub fragments_same_of : (space over : ℕ) (cells kept : Cells) (f g : Fragments) → AreFragmentsOf space over cells kept f → AreFragmentsOf space over cells kept g → f ≡ g
+fragments_same_of space over cells kept f g a b =
     let t : b.tiles ≡ a.tiles = tiles_same cells b.tiles a.tiles b.are_tiles a.are_tiles in
+    let k : b.keep ≡ a.keep = tiles_same kept b.keep a.keep b.are_kept a.are_kept in
     let s = subst (λ z. AreShapes z b.label b.count) t b.are_shapes in
     let l : b.label ≡ a.label = labels_same a.tiles b.label a.label b.count a.count (have_cells cells a.tiles a.are_tiles) s a.are_shapes in
-    let p = subst (λ z. AreFragments [] space over z b.label g) t b.are_fragments in
-    let q = subst (λ z. AreFragments [] space over a.tiles z g) l p in
-    fragments_same [] space over a.tiles a.label f g a.are_fragments q
+    let p = subst (λ z. AreFragments b.keep space over z b.label g) t b.are_fragments in
+    let q = subst (λ z. AreFragments b.keep space over a.tiles z g) l p in
+    let r = subst (λ z. AreFragments z space over a.tiles a.label g) k q in
+    fragments_same a.keep space over a.tiles a.label f g a.are_fragments r
 
-pub same_layer : (o : Options) (cells : ℤ → ℤ → Bool) (f g : Fragments) (n m : Net) → IsLayerOf o cells f n → IsLayerOf o cells g m → (f ≡ g) × (n ≡ m)
-same_layer o cells f g n m a b =
-    let e : g ≡ f = fragments_same_of (2 * o.space) (2 * o.overlap) cells g f b.fragments a.fragments in
+pub same_layer : (o : PlainOptions) (cells kept : Cells) (f g : Fragments) (n m : Net) → IsLayerOf o cells kept f n → IsLayerOf o cells kept g m → (f ≡ g) × (n ≡ m)
+same_layer o cells kept f g n m a b =
+    let e : g ≡ f = fragments_same_of (2 * o.space) (2 * o.overlap) cells kept g f b.fragments a.fragments in
     let p = subst (λ z. IsNet z o.weights (2 * o.space) m) e b.net in
     (sym e, net_same f o.weights (2 * o.space) n m a.net p)
 
 -- ---- how many
 
 -- the tiles of cells with no more than n fragments have no more
-pub within_fragments : (space over : ℕ) (cells : ℤ → ℤ → Bool) (f : Fragments) (tiles : List Corners) (n : ℕ) → AreFragmentsOf space over cells f → length f.rects ≤ n → AreTiles cells tiles → ¬ HasMoreFragments [] space over tiles n
-within_fragments space over cells f tiles n a few t more =
+pub within_fragments : (space over : ℕ) (cells kept : Cells) (f : Fragments) (tiles keep : List Corners) (n : ℕ) → AreFragmentsOf space over cells kept f → length f.rects ≤ n → AreTiles cells tiles → AreTiles kept keep
+    → ¬ HasMoreFragments keep space over tiles n
+within_fragments space over cells kept f tiles keep n a few t u more =
     let e : tiles ≡ a.tiles = tiles_same cells tiles a.tiles t a.are_tiles in
-    no_more_fragments [] space over a.tiles a.label f n a.are_fragments few (subst (λ z. HasMoreFragments [] space over z n) e more)
+    let d : keep ≡ a.keep = tiles_same kept keep a.keep u a.are_kept in
+    let m = subst (λ z. HasMoreFragments keep space over z n) e more in
+    no_more_fragments a.keep space over a.tiles a.label f n a.are_fragments few (subst (λ z. HasMoreFragments z space over a.tiles n) d m)
 
--- ---- what was read
-
--- what follows from the property of the cells
-pub of_read : {Q : Type 0} (read : Reading) (P : (ℤ → ℤ → Bool) → Type 0) → ((cells : ℤ → ℤ → Bool) → P cells → Q) → OnCells read P → Q
-of_read (Good parts) P step h = step (is_cell parts) h
-of_read (Faulty g) P step h = absurd h
-of_read (TooMany m) P step h = absurd h
-of_read (TooManyCalls m) P step h = absurd h
-of_read (TooFar m) P step h = absurd h
-
-pub on_read : (read : Reading) (P Q : (ℤ → ℤ → Bool) → Type 0) → ((cells : ℤ → ℤ → Bool) → P cells → Q cells) → OnCells read P → OnCells read Q
-on_read (Good parts) P Q step h = step (is_cell parts) h
-on_read (Faulty g) P Q step h = h
-on_read (TooMany m) P Q step h = h
-on_read (TooManyCalls m) P Q step h = h
-on_read (TooFar m) P Q step h = h
-
-pub layer_is : (o : Options) (read : Reading) (f : Fragments) (n : Net) → OnCells read (λ cells. IsLayer o cells f n) → OnCells read (λ cells. IsLayerOf o cells f n)
-layer_is o read f n = on_read read (λ cells. IsLayer o cells f n) (λ cells. IsLayerOf o cells f n) (λ cells l. l.layer)
-
-pub layer_few_fragments : (o : Options) (read : Reading) (f : Fragments) (n : Net) → OnCells read (λ cells. IsLayer o cells f n) → length f.rects ≤ 100000
-layer_few_fragments o read f n = of_read read (λ cells. IsLayer o cells f n) (λ cells l. l.few_fragments)
-
-pub layer_few_edges : (o : Options) (read : Reading) (f : Fragments) (n : Net) → OnCells read (λ cells. IsLayer o cells f n) → length n.graph.edges ≤ 400000
-layer_few_edges o read f n = of_read read (λ cells. IsLayer o cells f n) (λ cells l. l.few_edges)
+-- the tiles of fragments are no more than these
+pub tiles_within : (space over : ℕ) (cells kept : Cells) (f : Fragments) (a : AreFragmentsOf space over cells kept f) → length f.rects ≤ 100000 → length a.tiles ≤ 100000
+tiles_within space over cells kept f a few =
+    let h = few_tiles a.keep space over cells a.tiles a.label f a.are_tiles a.are_fragments in
+    omega arith

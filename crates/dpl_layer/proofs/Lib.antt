@@ -1,3 +1,3 @@
 pub mod LayerLemmas
+pub mod TextLemmas
 pub mod RefusalLemmas
-pub mod KeepLemmas

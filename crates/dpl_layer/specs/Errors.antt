@@ -11,8 +11,9 @@ use Rattle.dpl_links.specs.declared.error.NetError.{NetError}
 use Rattle.dpl_links.specs.declared.error.NetError.TheVariants as net
 use Rattle.dpl_layer.specs.declared.error.LayerError.{LayerError}
 use Rattle.dpl_layer.specs.declared.error.LayerError.TheVariants.{Layout, Limit, NoMemory}
-use Rattle.dpl_limits.specs.Limits.{Counted, number_of, most_of}
-use Rattle.dpl_limits.specs.Limits.Counted.{Tiles, Fragments, Edges}
+use Rattle.dpl_limits.specs.Limits.{number_of, most_of}
+use Rattle.dpl_limits.specs.declared.counted.Counted.{Counted}
+use Rattle.dpl_limits.specs.declared.counted.Counted.TheVariants.{Tiles, Fragments, Edges}
 
 -- one more than the limit takes
 abbrev pub passed : Counted → LayerError

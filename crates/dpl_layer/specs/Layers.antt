@@ -1,6 +1,7 @@
 -- The fragments of a layer and their net.
-use Rattle.std.specs.Prelude.{ℕ, ◌*◌, ◌≤◌, ℤ, Bool, List, [], length}
-use Rattle.dpl_limits.specs.Limits.{Counted, most_of}
+use Rattle.std.specs.Prelude.{ℕ, ◌*◌, ◌≤◌, List, length}
+use Rattle.dpl_limits.specs.Limits.{most_of}
+use Rattle.dpl_limits.specs.declared.counted.Counted.TheVariants as Counted
 use Rattle.dpl_cell.specs.Places.{Corners}
 use Rattle.dpl_cell.specs.Tiles.{AreTiles}
 use Rattle.dpl_tiles.specs.Union.{SharesOut}
@@ -9,32 +10,46 @@ use Rattle.dpl_cuts.specs.declared.types.Fragments.{Fragments}
 use Rattle.dpl_cuts.specs.Fragments.{AreFragments, CameFromCut}
 use Rattle.dpl_sign.specs.declared.nets.Net.{Net}
 use Rattle.dpl_links.specs.Nets.{IsNet}
-use Rattle.dpl_report.specs.declared.options.Options.{Options}
+use Rattle.dpl_options.specs.Options.{PlainOptions}
+use Rattle.dpl_layer.specs.Drawings.{Cells, OnLayer}
 
--- the fragments of the tiles of these cells, each with the number of its shape; lengths are in
--- grid units
-pub record AreFragmentsOf (space over : ℕ) (cells : ℤ → ℤ → Bool) (f : Fragments) : Type 0 where
+-- the fragments of the tiles of these cells, each with the number of its shape, with no cut in a cell that is kept whole;
+-- lengths are in grid units
+pub record AreFragmentsOf (space over : ℕ) (cells kept : Cells) (f : Fragments) : Type 0 where
   pub tiles : List Corners
   pub label : List ℕ
   pub count : ℕ
+  pub keep : List Corners
   pub are_tiles : AreTiles cells tiles
   pub are_shapes : AreShapes tiles label count
-  pub are_fragments : AreFragments [] space over tiles label f
+  pub are_kept : AreTiles kept keep
+  pub are_fragments : AreFragments keep space over tiles label f
 
 -- the fragments of these cells and their net, for the lengths and weights of the options; a
 -- hundredth is two grid units
-pub record IsLayerOf (o : Options) (cells : ℤ → ℤ → Bool) (f : Fragments) (n : Net) : Type 0 where
-  pub fragments : AreFragmentsOf (2 * o.space) (2 * o.overlap) cells f
+pub record IsLayerOf (o : PlainOptions) (cells kept : Cells) (f : Fragments) (n : Net) : Type 0 where
+  pub fragments : AreFragmentsOf (2 * o.space) (2 * o.overlap) cells kept f
   pub net : IsNet f o.weights (2 * o.space) n
 
 -- each of these cells lies in exactly one tile, and no other cell lies in any
-abbrev pub TilesShareOut : (ℤ → ℤ → Bool) → Type 0
+abbrev pub TilesShareOut : Cells → Type 0
 TilesShareOut cells = (tiles : List Corners) → AreTiles cells tiles → SharesOut cells tiles
 
 -- the layer of these cells, cut from the tiles that share them out, and within the limits
-pub record IsLayer (o : Options) (cells : ℤ → ℤ → Bool) (f : Fragments) (n : Net) : Type 0 where
-  pub layer : IsLayerOf o cells f n
+pub record IsLayer (o : PlainOptions) (cells kept : Cells) (f : Fragments) (n : Net) : Type 0 where
+  pub layer : IsLayerOf o cells kept f n
   pub shared : TilesShareOut cells
   pub cut : CameFromCut (2 * o.space) f
+  pub few_kept : length layer.fragments.keep ≤ most_of Counted.Tiles
   pub few_fragments : length f.rects ≤ most_of Counted.Fragments
   pub few_edges : length n.graph.edges ≤ most_of Counted.Edges
+
+-- the layer of some cells
+pub record IsSomeLayer (o : PlainOptions) (f : Fragments) (n : Net) : Type 0 where
+  pub cells : Cells
+  pub kept : Cells
+  pub is : IsLayer o cells kept f n
+
+-- the layer of the cells that the text draws
+abbrev pub IsLayerOfText : PlainOptions → List ℕ → Fragments → Net → Type 0
+IsLayerOfText o text f n = OnLayer o text (λ cells kept. IsLayer o cells kept f n)

@@ -1,4 +1,4 @@
+pub mod Drawings
 pub mod Layers
 pub mod Refusals
 pub mod Errors
-pub mod Keeps

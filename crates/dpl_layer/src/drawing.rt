@@ -1,65 +1,100 @@
-// From a layout to its fragments.
-ghost use Rattle.std.specs.Prelude.{◌≡◌, ◌⊎◌, ◌≤◌, ◌*◌, length, map, IfOk, IfErr};
-ghost use Rattle.dpl_limits.specs.declared.TheConstants.{MOST_FRAGMENTS, MOST_TILES};
-ghost use Rattle.dpl_cell.specs.Places.{corners_of};
-ghost use Rattle.dpl_cell.specs.Layers.{cells_of};
-ghost use Rattle.dpl_cell.specs.Tiles.{AreTiles};
-ghost use Rattle.dpl_cuts.specs.Fragments.{CameFromCut};
-ghost use Rattle.dpl_layer.specs.Layers.{AreFragmentsOf};
-ghost use Rattle.dpl_layer.specs.Refusals.{RefusesCells};
+// What a text draws on two layers: the chosen one, and one where nothing is cut.
+ghost use Rattle.std.specs.Prelude.{◌≡◌, ◌⊎◌, ◌≤◌, length, map, IfOk, IfErr, Err};
+ghost use Rattle.dpl_limits.specs.declared.TheConstants.{MOST_LAYOUT_BYTES};
+ghost use Rattle.dpl_lex.specs.Cutting.{commands_of};
+ghost use Rattle.dpl_cell.specs.Outlines.{outline_of};
+ghost use Rattle.dpl_cif.specs.Gives.{Gives, Refuses};
+ghost use Rattle.dpl_cif.specs.Reading.{reading};
+ghost use Rattle.dpl_cif.specs.Reading.Reading.{Good};
+ghost use Rattle.dpl_layer.specs.Drawings.{keep_reading, joined, IsDrawingOf};
+ghost use Rattle.dpl_layer.specs.Refusals.{RefusesDrawing};
 
 use crate::error::LayerError;
-use dpl_cell::{Layout, Rect};
-use dpl_cuts::cut;
-use dpl_cuts::types::Fragments;
-use dpl_near::shapes;
-use dpl_report::Options;
-use dpl_tiles::{tiles, tiles_share_out};
+use dpl_cell::Layout;
+use dpl_cif::{CifError, read_commands};
+use dpl_lex::Name;
+use dpl_lex::types::Commands;
+use dpl_list::Items;
+use dpl_options::Options;
 use std::alloc::Global;
 
-/// The fragments of a layout.
-pub fn cut_layout(
-    alloc: Global,
-    layout: &Layout,
-    options: &Options,
-) -> Result<Fragments, LayerError>
-    ensures fragments { IfOk result (λ f.
-        AreFragmentsOf (2 * options.now.space) (2 * options.now.overlap) (cells_of layout.now) f) }
-    ensures cut { IfOk result (λ f. CameFromCut (2 * options.now.space) f) }
-    ensures few { IfOk result (λ f. length f.rects ≤ MOST_FRAGMENTS) }
-    ensures refused { IfErr result (λ e.
-        (e ≡ LayerError.NoMemory) ⊎ RefusesCells options.now (cells_of layout.now) e) }
-{
-    let tiles = tiles(alloc, layout)?;
-    let fragments = cut_tiles(alloc, layout, tiles.as_slice(), options)?;
-    Ok(fragments)
+/// What is drawn on the chosen layer, and on the layer where nothing is cut.
+#[derive(Drop)]
+pub struct Drawing {
+    pub layer: Layout,
+    pub keep: Layout,
 }
 
-/// The fragments of the tiles of a layout.
-fn cut_tiles(
+/// What a text that is cut into these commands draws on the two layers of the options. A fault of either layer
+/// comes before the limits, and what the chosen layer has before what the keep layer has.
+///
+/// The text has at most 16 MiB.
+pub fn read_drawing(
     alloc: Global,
-    layout: &Layout,
-    tiles: &[Rect],
+    text: &[u8],
+    commands: &Commands,
     options: &Options,
-) -> Result<Fragments, LayerError>
-    requires tiles { AreTiles (cells_of layout.now) (map corners_of tiles.now) }
-    requires few { length tiles.now ≤ MOST_TILES }
-    ensures fragments { IfOk result (λ f.
-        AreFragmentsOf (2 * options.now.space) (2 * options.now.overlap) (cells_of layout.now) f) }
-    ensures cut { IfOk result (λ f. CameFromCut (2 * options.now.space) f) }
-    ensures few { IfOk result (λ f. length f.rects ≤ MOST_FRAGMENTS) }
-    ensures refused { IfErr result (λ e.
-        (e ≡ LayerError.NoMemory) ⊎ RefusesCells options.now (cells_of layout.now) e) }
+) -> Result<Drawing, LayerError>
+    requires short { length text.now ≤ MOST_LAYOUT_BYTES }
+    requires commands { commands.now ≡ commands_of text.now }
+    ensures drawing { IfOk result (λ d. IsDrawingOf options.now text.now d) }
+    ensures refused { (e : LayerError) → result ≡ Err e →
+        (e ≡ LayerError.NoMemory) ⊎ RefusesDrawing options.now text.now e }
+    ensures exact { (e : LayerError) → RefusesDrawing options.now text.now e →
+        (result ≡ Err e) ⊎ (result ≡ Err LayerError.NoMemory) }
 {
-    tiles_share_out(layout);
-    let shapes = shapes(alloc, tiles)?;
-    let fragments = cut(
-        alloc,
-        tiles,
-        &shapes,
-        &[],
-        2 * options.space,
-        2 * options.overlap,
-    )?;
-    Ok(fragments)
+    let drawing = read_both(alloc, text, commands, options.layer(), options.keep())?;
+    Ok(drawing)
+}
+
+/// Both layers, or the first fault of either, or the first limit of either.
+fn read_both(
+    alloc: Global,
+    text: &[u8],
+    commands: &Commands,
+    layer: &Name,
+    keep: &Option<Name>,
+) -> Result<Drawing, CifError>
+    requires short { length text.now ≤ MOST_LAYOUT_BYTES }
+    requires commands { commands.now ≡ commands_of text.now }
+    ensures layer { IfOk result (λ d.
+        reading layer.now text.now ≡ Good (map outline_of d.layer.prims)) }
+    ensures keep { IfOk result (λ d.
+        keep_reading keep.now text.now ≡ Good (map outline_of d.keep.prims)) }
+    ensures refused { IfErr result (λ e.
+        Refuses e (joined (reading layer.now text.now) (keep_reading keep.now text.now))) }
+{
+    match read_commands(alloc, text, commands, layer) {
+        Ok(layer) => match read_keep(alloc, text, commands, keep) {
+            Ok(keep) => Ok(Drawing { layer, keep }),
+            Err(error) => Err(error),
+        },
+        Err(CifError::Limit { kind, count }) => {
+            match read_keep(alloc, text, commands, keep) {
+                Err(CifError::Fault { command, what }) => Err(CifError::Fault { command, what }),
+                Err(CifError::NoMemory) => Err(CifError::NoMemory),
+                _ => Err(CifError::Limit { kind, count }),
+            }
+        }
+        Err(error) => Err(error),
+    }
+}
+
+/// What is drawn on the keep layer: nothing where there is none.
+fn read_keep(
+    alloc: Global,
+    text: &[u8],
+    commands: &Commands,
+    keep: &Option<Name>,
+) -> Result<Layout, CifError>
+    requires short { length text.now ≤ MOST_LAYOUT_BYTES }
+    requires commands { commands.now ≡ commands_of text.now }
+    ensures { Gives result (keep_reading keep.now text.now) }
+{
+    match keep {
+        Some(name) => read_commands(alloc, text, commands, name),
+        None => Ok(Layout {
+            prims: Items::new(Vec::new(alloc)),
+        }),
+    }
 }

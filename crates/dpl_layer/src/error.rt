@@ -1,5 +1,6 @@
 use dpl_cif::{CifError, CifLimit, What};
 use dpl_cuts::CutError;
+use dpl_limits::Counted;
 use dpl_links::NetError;
 use dpl_tiles::TileError;
 use std::alloc::{AllocError, AllocFailed};
@@ -54,15 +55,24 @@ impl From<CifError> for LayerError {
             CifError::Limit {
                 kind: CifLimit::Primitives,
                 count,
-            } => LayerError::Limit { kind: 2, count },
+            } => LayerError::Limit {
+                kind: Counted::Primitives.number(),
+                count,
+            },
             CifError::Limit {
                 kind: CifLimit::Calls,
                 count,
-            } => LayerError::Limit { kind: 3, count },
+            } => LayerError::Limit {
+                kind: Counted::Calls.number(),
+                count,
+            },
             CifError::Limit {
                 kind: CifLimit::Coordinate,
                 count,
-            } => LayerError::Limit { kind: 4, count },
+            } => LayerError::Limit {
+                kind: Counted::Coordinates.number(),
+                count,
+            },
             CifError::NoMemory => LayerError::NoMemory,
         }
     }
@@ -77,8 +87,8 @@ impl From<TileError> for LayerError {
     fn from(error: TileError) -> LayerError {
         match error {
             TileError::TooMany => LayerError::Limit {
-                kind: 5,
-                count: 100_001,
+                kind: Counted::Tiles.number(),
+                count: Counted::Tiles.most() + 1,
             },
             TileError::NoMemory => LayerError::NoMemory,
         }
@@ -94,8 +104,8 @@ impl From<CutError> for LayerError {
     fn from(error: CutError) -> LayerError {
         match error {
             CutError::TooMany => LayerError::Limit {
-                kind: 6,
-                count: 100_001,
+                kind: Counted::Fragments.number(),
+                count: Counted::Fragments.most() + 1,
             },
             CutError::NoMemory => LayerError::NoMemory,
         }
@@ -111,8 +121,8 @@ impl From<NetError> for LayerError {
     fn from(error: NetError) -> LayerError {
         match error {
             NetError::TooMany => LayerError::Limit {
-                kind: 7,
-                count: 400_001,
+                kind: Counted::Edges.number(),
+                count: Counted::Edges.most() + 1,
             },
             NetError::NoMemory => LayerError::NoMemory,
         }

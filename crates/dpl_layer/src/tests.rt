@@ -1,15 +1,30 @@
 ghost use Rattle.std.specs.Prelude.{◌≤◌, length};
+ghost use Rattle.dpl_options.specs.Options.{name_or_nothing};
 
-use crate::{Layer, LayerError, keeping_layer, read_layer};
+use crate::{Layer, LayerError, layer_of, read_drawing, read_layer};
 use dpl_cif::What;
 use dpl_lex::{Name, commands};
-use dpl_links::types::Weights;
-use dpl_report::Options;
+use dpl_options::{Options, Weights};
 use std::alloc::Global;
 use std::test::Fail;
 
-/// Layer M, a spacing of one micron, an overlap of 0.2.
+/// Layer M, a spacing of one micron, an overlap of 0.2, no keep layer.
 fn options() -> Option<Options> {
+    options_with(None)
+}
+
+/// The same with this keep layer.
+fn keeping(name: &[u8]) -> Option<Options> {
+    let keep = Name::new(name)?;
+    if keep.bytes().len() > 31 {
+        return None;
+    }
+    options_with(Some(keep))
+}
+
+fn options_with(keep: Option<Name>) -> Option<Options>
+    requires { length (name_or_nothing keep) ≤ 31 }
+{
     let layer = Name::new(b"M")?;
     if layer.bytes().len() > 31 {
         return None;
@@ -24,7 +39,7 @@ fn options() -> Option<Options> {
         space: 100,
         overlap: 20,
         weights,
-        keep: None,
+        keep,
     })
 }
 
@@ -132,21 +147,27 @@ fn too_many_edges(rt: HostRuntime) -> Result<(), Fail> {
     Ok(())
 }
 
-/// The layer M where nothing is cut in a cell of the layer K.
-fn beside(alloc: Global, text: &[u8]) -> Option<Layer>
+/// The layer M where nothing is cut in a cell of the layer with this name.
+fn beside(alloc: Global, text: &[u8], name: &[u8]) -> Option<Layer>
     requires { length text.now ≤ 16777216 }
 {
-    let options = options()?;
-    let keep = Some(Name::new(b"K")?);
-    let commands = commands(alloc, text).ok()?;
-    keeping_layer(alloc, text, &commands, &options, &keep).ok()
+    let options = keeping(name)?;
+    read_layer(alloc, text, &options).ok()
+}
+
+fn refusal_beside(alloc: Global, text: &[u8], name: &[u8]) -> Option<LayerError>
+    requires { length text.now ≤ 16777216 }
+{
+    let options = keeping(name)?;
+    read_layer(alloc, text, &options).err()
 }
 
 /// The same wire, which the keep layer covers.
 #[test]
 fn a_kept_wire(rt: HostRuntime) -> Result<(), Fail> {
-    let text = b"L M; B 1000 100 500 50; B 100 100 50 200; B 100 100 950 200; L K; B 1000 20 500 50; E";
-    let layer = beside(rt.alloc(), text.as_slice()).ok_or("refused")?;
+    let text =
+        b"L M; B 1000 100 500 50; B 100 100 50 200; B 100 100 950 200; L K; B 1000 20 500 50; E";
+    let layer = beside(rt.alloc(), text.as_slice(), b"K".as_slice()).ok_or("refused")?;
     assert_eq!(rt; layer.fragments.rects.as_slice().len(), 3);
     assert_eq!(rt; layer.fragments.cuts.as_slice().len(), 0);
     assert_eq!(rt; layer.net.graph.edges.as_slice().len(), 2);
@@ -156,8 +177,9 @@ fn a_kept_wire(rt: HostRuntime) -> Result<(), Fail> {
 /// A cell of the keep layer in the middle of the wire leaves a stretch on each side of it.
 #[test]
 fn a_kept_cell(rt: HostRuntime) -> Result<(), Fail> {
-    let text = b"L M; B 1000 100 500 50; B 100 100 50 200; B 100 100 950 200; L K; B 20 20 500 50; E";
-    let layer = beside(rt.alloc(), text.as_slice()).ok_or("refused")?;
+    let text =
+        b"L M; B 1000 100 500 50; B 100 100 50 200; B 100 100 950 200; L K; B 20 20 500 50; E";
+    let layer = beside(rt.alloc(), text.as_slice(), b"K".as_slice()).ok_or("refused")?;
     assert_eq!(rt; layer.fragments.rects.as_slice().len(), 5);
     assert_eq!(rt; layer.fragments.cuts.as_slice().len(), 2);
     Ok(())
@@ -166,9 +188,92 @@ fn a_kept_cell(rt: HostRuntime) -> Result<(), Fail> {
 /// The keep layer beside the wire keeps nothing of it.
 #[test]
 fn a_keep_layer_beside(rt: HostRuntime) -> Result<(), Fail> {
-    let text = b"L M; B 1000 100 500 50; B 100 100 50 200; B 100 100 950 200; L K; B 1000 20 500 110; E";
-    let layer = beside(rt.alloc(), text.as_slice()).ok_or("refused")?;
+    let text =
+        b"L M; B 1000 100 500 50; B 100 100 50 200; B 100 100 950 200; L K; B 1000 20 500 110; E";
+    let layer = beside(rt.alloc(), text.as_slice(), b"K".as_slice()).ok_or("refused")?;
     assert_eq!(rt; layer.fragments.rects.as_slice().len(), 4);
     assert_eq!(rt; layer.fragments.cuts.as_slice().len(), 1);
+    Ok(())
+}
+
+/// A keep layer of which the text says nothing keeps nothing. The chosen layer as the keep layer keeps all.
+#[test]
+fn an_empty_keep_layer_and_the_chosen_one(rt: HostRuntime) -> Result<(), Fail> {
+    let text = b"L M; B 1000 100 500 50; B 100 100 50 200; B 100 100 950 200; E";
+    let layer = beside(rt.alloc(), text.as_slice(), b"K".as_slice()).ok_or("refused")?;
+    assert_eq!(rt; layer.fragments.cuts.as_slice().len(), 1);
+    let layer = beside(rt.alloc(), text.as_slice(), b"M".as_slice()).ok_or("refused")?;
+    assert_eq!(rt; layer.fragments.cuts.as_slice().len(), 0);
+    assert_eq!(rt; layer.fragments.rects.as_slice().len(), 3);
+    Ok(())
+}
+
+/// The two stages one after the other.
+#[test]
+fn a_drawing_and_its_layer(rt: HostRuntime) -> Result<(), Fail> {
+    let text =
+        b"L M; B 1000 100 500 50; B 100 100 50 200; B 100 100 950 200; L K; B 20 20 500 50; E".as_slice();
+    let options = keeping(b"K".as_slice()).ok_or("no options")?;
+    let commands = commands(rt.alloc(), text)?;
+    let drawing = read_drawing(rt.alloc(), text, &commands, &options)
+        .ok()
+        .ok_or("refused")?;
+    assert_eq!(rt; drawing.layer.prims.as_slice().len(), 3);
+    assert_eq!(rt; drawing.keep.prims.as_slice().len(), 1);
+    let layer = layer_of(rt.alloc(), &drawing, &options)
+        .ok()
+        .ok_or("refused")?;
+    assert_eq!(rt; layer.fragments.cuts.as_slice().len(), 2);
+    Ok(())
+}
+
+/// A round flash on the keep layer is a fault, and none where there is no keep layer.
+#[test]
+fn a_fault_of_the_keep_layer(rt: HostRuntime) -> Result<(), Fail> {
+    let text = b"L M; B 10 10 0 0; L K; R 10 5 5; E".as_slice();
+    let error = refusal_beside(rt.alloc(), text, b"K".as_slice()).ok_or("read")?;
+    let wanted = LayerError::Layout {
+        command: 4,
+        what: What::Round,
+    };
+    assert_eq!(rt; error, wanted);
+    assert!(rt; refusal(rt.alloc(), text).is_none());
+    Ok(())
+}
+
+/// The fault of the chosen layer comes before that of the keep layer, though it stands behind it.
+#[test]
+fn a_fault_of_the_chosen_layer_first(rt: HostRuntime) -> Result<(), Fail> {
+    let text = b"L K; R 1 0 0; C 7; E".as_slice();
+    let error = refusal_beside(rt.alloc(), text, b"K".as_slice()).ok_or("read")?;
+    let wanted = LayerError::Layout {
+        command: 3,
+        what: What::Missing,
+    };
+    assert_eq!(rt; error, wanted);
+    Ok(())
+}
+
+/// The fault of the keep layer comes before a limit of the chosen layer, and that before a limit of the keep layer.
+#[test]
+fn faults_before_limits(rt: HostRuntime) -> Result<(), Fail> {
+    let far = LayerError::Limit {
+        kind: 4,
+        count: 1_073_741_826,
+    };
+    let text = b"L M; B 2 2 536870912 0; L K; R 10 5 5; E".as_slice();
+    let error = refusal_beside(rt.alloc(), text, b"K".as_slice()).ok_or("read")?;
+    let wanted = LayerError::Layout {
+        command: 4,
+        what: What::Round,
+    };
+    assert_eq!(rt; error, wanted);
+    let text = b"L M; B 2 2 536870912 0; L K; B 2 2 536870913 0; E".as_slice();
+    let error = refusal_beside(rt.alloc(), text, b"K".as_slice()).ok_or("read")?;
+    assert_eq!(rt; error, far);
+    let text = b"L M; B 2 2 0 0; L K; B 2 2 536870912 0; E".as_slice();
+    let error = refusal_beside(rt.alloc(), text, b"K".as_slice()).ok_or("read")?;
+    assert_eq!(rt; error, far);
+    assert!(rt; refusal(rt.alloc(), text).is_none());
     Ok(())
 }

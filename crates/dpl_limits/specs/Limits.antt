@@ -1,23 +1,12 @@
--- The limits of the program: what each counts, its number, and the most that is taken.
+-- The limits of the program: the number of each, and the most that is taken.
 use Rattle.std.specs.Prelude.{◌≡◌, ℕ, ◌+◌, ◌^◌}
-use Rattle.dpl_limits.specs.declared.TheConstants.{MOST_LAYOUT_BYTES, MOST_PRIMITIVES, MOST_CALLS, MOST_TILES, MOST_FRAGMENTS, MOST_EDGES, MOST_ODD_FACES, MOST_REPORT_BYTES}
-
--- what a limit counts: bytes of a layout and of a report are counted in reading, the others are
--- tried in this order
-pub data Counted : Type 0 where
-  Bytes : Counted
-  Primitives : Counted
-  Calls : Counted
-  Coordinates : Counted
-  Tiles : Counted
-  Fragments : Counted
-  Edges : Counted
-  OddFaces : Counted
-  ReportBytes : Counted
+use Rattle.dpl_limits.specs.declared.TheConstants.{MOST_LAYOUT_BYTES, MOST_PRIMITIVES, MOST_CALLS, MOST_TILES, MOST_FRAGMENTS, MOST_EDGES, MOST_ODD_FACES, MOST_REPORT_BYTES, MOST_SCRIPT_BYTES}
+use Rattle.dpl_limits.specs.declared.counted.Counted.{Counted}
+use Rattle.dpl_limits.specs.declared.counted.Counted.TheVariants.{LayoutBytes, Primitives, Calls, Coordinates, Tiles, Fragments, Edges, OddFaces, ReportBytes, ScriptBytes}
 
 -- the number by which an answer names the limit
 abbrev pub number_of : Counted → ℕ
-number_of Bytes = 1
+number_of LayoutBytes = 1
 number_of Primitives = 2
 number_of Calls = 3
 number_of Coordinates = 4
@@ -26,6 +15,7 @@ number_of Fragments = 6
 number_of Edges = 7
 number_of OddFaces = 8
 number_of ReportBytes = 9
+number_of ScriptBytes = 10
 
 -- the greatest magnitude of a coordinate, in grid units
 abbrev pub most_coordinate : ℕ
@@ -34,7 +24,7 @@ most_coordinate = 2 ^ 30
 -- the most that is taken: of coordinates the greatest magnitude, and of odd faces those of one
 -- part of a net
 abbrev pub most_of : Counted → ℕ
-most_of Bytes = MOST_LAYOUT_BYTES
+most_of LayoutBytes = MOST_LAYOUT_BYTES
 most_of Primitives = MOST_PRIMITIVES
 most_of Calls = MOST_CALLS
 most_of Coordinates = most_coordinate
@@ -43,6 +33,7 @@ most_of Fragments = MOST_FRAGMENTS
 most_of Edges = MOST_EDGES
 most_of OddFaces = MOST_ODD_FACES
 most_of ReportBytes = MOST_REPORT_BYTES
+most_of ScriptBytes = MOST_SCRIPT_BYTES
 
 -- an answer names this limit and one more than it takes, where there is a cause; what is beyond
 -- is not counted

@@ -1,5 +1,9 @@
-//! The limits of the program, by name. Code and contracts cite them from here; `specs/Limits` has
-//! the number by which an answer names each.
+//! The limits of the program, by name. Code and contracts cite them from here; `Counted` has the
+//! number by which an answer names each, and the most that is taken.
+
+mod counted;
+
+pub use counted::Counted;
 
 /// The most bytes of a layout.
 pub const MOST_LAYOUT_BYTES: u64 = 16_777_216;
@@ -30,6 +34,9 @@ pub const MOST_ODD_FACES: usize = 2048;
 
 /// The most bytes of a report.
 pub const MOST_REPORT_BYTES: u64 = 268_435_456;
+
+/// The most bytes of a script of edits.
+pub const MOST_SCRIPT_BYTES: u64 = 65_536;
 
 /// The greatest spacing and the greatest overlap, in hundredths of a micron.
 pub const MOST_SPACE: u64 = 100_000;

@@ -20,7 +20,7 @@ use Rattle.dpl_cuts.specs.Positions.{layer_of, nowhere, rect_at}
 use Rattle.dpl_cuts.specs.Fragments.{AreFragments}
 use Rattle.dpl_cuts.specs.Zones.{TellShapes, HoldLayer}
 use Rattle.dpl_cuts.proofs.ZoneLemmas.{tell_shapes, hold_layer}
-use Rattle.dpl_links.specs.declared.types.Weights.{Weights}
+use Rattle.dpl_options.specs.Options.{PlainWeights}
 use Rattle.dpl_links.specs.declared.linking.Link.{Link}
 use Rattle.dpl_near.specs.Joins.{ArePairs}
 use Rattle.dpl_links.specs.Pairs.{Scene, IsBond, IsConflict, rect_gap2, corner_rank}
@@ -55,7 +55,7 @@ trail_shape tiles s bonds h t a i (j ∷ js) k (c, r) =
     let e : get_or s.shape i 0 ≡ get_or s.shape j 0 = elim c [ inl d ↦ bond_shape tiles s i j h t (pair_bond s bonds i j a d) | inr d ↦ sym (bond_shape tiles s j i h t (pair_bond s bonds j i a d)) ] in
     e ∙ trail_shape tiles s bonds h t a j js k r
 
-pub within_shapes : (tiles : List Corners) (f : Fragments) (weights : Weights) (space : ℕ) (net : Net) → HoldLayer tiles (map corners_of f.rects) → TellShapes tiles (map corners_of f.rects) f.shape → IsNet f weights space net → AreWithinShapes net.pieces f.shape
+pub within_shapes : (tiles : List Corners) (f : Fragments) (weights : PlainWeights) (space : ℕ) (net : Net) → HoldLayer tiles (map corners_of f.rects) → TellShapes tiles (map corners_of f.rects) f.shape → IsNet f weights space net → AreWithinShapes net.pieces f.shape
 within_shapes tiles f weights space net h t n i j l m e =
     let w = n.are_pieces.long in
     let r = (n.are_pieces.same i j (omega arith) (omega arith)).0 e in
@@ -90,11 +90,11 @@ no_stitch : Stitch ≡ Clash → ⊥
 no_stitch e = cc
 
 -- what holds of the fragments of all links holds of those of all clashes
-pub clash_edges : (P : ℕ → ℕ → Type 0) (weights : Weights) (bonds : List (ℕ × ℕ)) (cuts : List Cut) (links : List Link) (edges : List Edge) → map tie_of edges ≡ ties_of weights bonds cuts links → All (λ (l : Link). P l.a l.b) links → All (λ (e : Edge). e.kind ≡ Clash → P e.a e.b) edges
+pub clash_edges : (P : ℕ → ℕ → Type 0) (weights : PlainWeights) (bonds : List (ℕ × ℕ)) (cuts : List Cut) (links : List Link) (edges : List Edge) → map tie_of edges ≡ ties_of weights bonds cuts links → All (λ (l : Link). P l.a l.b) links → All (λ (e : Edge). e.kind ≡ Clash → P e.a e.b) edges
 clash_edges P weights bonds cuts links edges e f = all_edges (λ (t : Tie). t.kind ≡ Clash → P t.a t.b) weights bonds cuts links edges e
     (λ k d l g. absurd (no_bond g)) (λ k d l g. absurd (no_stitch g)) (λ k d l g. f k d l)
 
-each_clash : (tiles : List Corners) (f : Fragments) (weights : Weights) (space : ℕ) (net : Net) → HoldLayer tiles (map corners_of f.rects) → TellShapes tiles (map corners_of f.rects) f.shape → IsNet f weights space net → All (λ (e : Edge). e.kind ≡ Clash → HoldTooClose tiles (map corners_of f.rects) space e.a e.b) net.graph.edges
+each_clash : (tiles : List Corners) (f : Fragments) (weights : PlainWeights) (space : ℕ) (net : Net) → HoldLayer tiles (map corners_of f.rects) → TellShapes tiles (map corners_of f.rects) f.shape → IsNet f weights space net → All (λ (e : Edge). e.kind ≡ Clash → HoldTooClose tiles (map corners_of f.rects) space e.a e.b) net.graph.edges
 each_clash tiles f weights space net h t n = clash_edges (HoldTooClose tiles (map corners_of f.rects) space) weights n.bonds f.cuts n.links net.graph.edges n.edges
     (All-weaker (IsLeast (scene f space) net.pieces) (λ (l : Link). HoldTooClose tiles (map corners_of f.rects) space l.a l.b) (λ l m. other_cells tiles (scene f space) l.a l.b h t m.link.conflict) n.links n.are_clashes.each)
 
@@ -122,7 +122,7 @@ unfolding link_between
 link_between_is s pieces i j c = record { conflict = c; low = refl; high = refl; gap = refl; corner = refl }
 
 -- the clash of a link stands among the edges
-clash_at : (weights : Weights) (bonds : List (ℕ × ℕ)) (cuts : List Cut) (links : List Link) (edges : List Edge) (k : ℕ) (l : Link) (d : Edge) → map tie_of edges ≡ ties_of weights bonds cuts links → k < length links → get_or links k l ≡ l → tie_of (get_or edges (length bonds + length cuts + k) d) ≡ clash_tie weights l
+clash_at : (weights : PlainWeights) (bonds : List (ℕ × ℕ)) (cuts : List Cut) (links : List Link) (edges : List Edge) (k : ℕ) (l : Link) (d : Edge) → map tie_of edges ≡ ties_of weights bonds cuts links → k < length links → get_or links k l ≡ l → tie_of (get_or edges (length bonds + length cuts + k) d) ≡ clash_tie weights l
 clash_at weights bonds cuts links edges k l d e h f =
     let b = map bond_tie bonds in let s = map (stitch_tie weights.stitch) cuts in let c = map (clash_tie weights) links in
     let n : length (b ++ s) ≡ length bonds + length cuts = length-append b s ∙ ap (λ z. z + length s) (length-map bonds bond_tie) ∙ ap (λ z. length bonds + z) (length-map cuts (stitch_tie weights.stitch)) in
@@ -138,7 +138,7 @@ alike_ends : (s : Scene) (pieces : List ℕ) (l m : Link) → IsLink s pieces l 
 alike_ends s pieces l m f g (h, k) = two_of_two _ _ _ _ (sym g.low ∙ h ∙ f.low) (sym g.high ∙ k ∙ f.high)
 
 -- the conflict of two fragments lies in a clash of their pieces
-clash_of : (f : Fragments) (weights : Weights) (space : ℕ) (net : Net) (i j : ℕ) → IsNet f weights space net → IsConflict (scene f space) i j → Any (IsClashOf net.pieces i j) net.graph.edges
+clash_of : (f : Fragments) (weights : PlainWeights) (space : ℕ) (net : Net) (i j : ℕ) → IsNet f weights space net → IsConflict (scene f space) i j → Any (IsClashOf net.pieces i j) net.graph.edges
 unfolding link_between
 clash_of f weights space net i j n c =
     let s = scene f space in
@@ -173,7 +173,7 @@ turned_clash pieces i j edges (k, e, l, g, c) = (k, e, l, g, record { kind = c.k
 turned_close : (cells : ℤ → ℤ → Bool) (space : ℕ) (x y x' y' : ℤ) → ¬ AreOneShape cells x' y' x y → AreTooClose cells space x y x' y' → AreTooClose cells space x' y' x y
 turned_close cells space x y x' y' o c = record { first = c.second; second = c.first; other = o; near = turned_gap x y x' y' (space * space) c.near }
 
-all_clashes : (tiles : List Corners) (f : Fragments) (weights : Weights) (space : ℕ) (net : Net) → TellShapes tiles (map corners_of f.rects) f.shape → IsNet f weights space net
+all_clashes : (tiles : List Corners) (f : Fragments) (weights : PlainWeights) (space : ℕ) (net : Net) → TellShapes tiles (map corners_of f.rects) f.shape → IsNet f weights space net
     → (i j : ℕ) (x y x' y' : ℤ) → i < length (map corners_of f.rects) → j < length (map corners_of f.rects) → IsIn (rect_at (map corners_of f.rects) i) x y → IsIn (rect_at (map corners_of f.rects) j) x' y' → AreTooClose (layer_of tiles) space x y x' y' → Any (IsClashOf net.pieces i j) net.graph.edges
 all_clashes tiles f weights space net t n i j x y x' y' l m g h c =
     let s = scene f space in
@@ -231,7 +231,7 @@ ends_alike : (s : Scene) (pieces : List ℕ) (l m : Link) → IsLink s pieces l 
 ends_alike s pieces l m f g (inl (u, v)) = (f.low ∙ ap (λ z. min z (piece_of pieces l.b)) u ∙ ap (λ z. min (piece_of pieces m.a) z) v ∙ sym g.low, f.high ∙ ap (λ z. max z (piece_of pieces l.b)) u ∙ ap (λ z. max (piece_of pieces m.a) z) v ∙ sym g.high)
 ends_alike s pieces l m f g (inr (u, v)) = (f.low ∙ ap (λ z. min z (piece_of pieces l.b)) u ∙ ap (λ z. min (piece_of pieces m.b) z) v ∙ min_turned _ _ ∙ sym g.low, f.high ∙ ap (λ z. max z (piece_of pieces l.b)) u ∙ ap (λ z. max (piece_of pieces m.b) z) v ∙ max_turned _ _ ∙ sym g.high)
 
-other_ties : (s : Scene) (pieces : List ℕ) (weights : Weights) (bonds : List (ℕ × ℕ)) (cuts : List Cut) (links : List Link) → AreClashes s pieces links → AllPairs (AreOther pieces) (ties_of weights bonds cuts links)
+other_ties : (s : Scene) (pieces : List ℕ) (weights : PlainWeights) (bonds : List (ℕ × ℕ)) (cuts : List Cut) (links : List Link) → AreClashes s pieces links → AllPairs (AreOther pieces) (ties_of weights bonds cuts links)
 other_ties s pieces weights bonds cuts links c = pairs_behind (AreOther pieces) (map bond_tie bonds ++ map (stitch_tie weights.stitch) cuts) (map (clash_tie weights) links)
     (All-append (λ (t : Tie). (u : Tie) → AreOther pieces t u) (map bond_tie bonds) (map (stitch_tie weights.stitch) cuts)
     (All-map (λ (t : Tie). (u : Tie) → AreOther pieces t u) bond_tie bonds (λ k d l u e f. absurd (no_bond f)))
@@ -239,19 +239,19 @@ other_ties s pieces weights bonds cuts links c = pairs_behind (AreOther pieces) 
     (pairs_map (AreOther pieces) (clash_tie weights) links
     (λ i j d h l e f t. c.one i j d h l (ends_alike s pieces (get_or links i d) (get_or links j d) (c.each i d (omega arith)).link (c.each j d l).link t)))
 
-one_clash : (f : Fragments) (weights : Weights) (space : ℕ) (net : Net) → IsNet f weights space net → AllPairs (λ (d : Edge) (e : Edge). e.kind ≡ Clash → ¬ IsClashOf net.pieces e.a e.b d) net.graph.edges
+one_clash : (f : Fragments) (weights : PlainWeights) (space : ℕ) (net : Net) → IsNet f weights space net → AllPairs (λ (d : Edge) (e : Edge). e.kind ≡ Clash → ¬ IsClashOf net.pieces e.a e.b d) net.graph.edges
 one_clash f weights space net n i j d h l e c =
     let ties : AllPairs (AreOther net.pieces) (map tie_of net.graph.edges) = let P : List Tie → Type 0 = AllPairs (AreOther net.pieces) in subst P (sym n.edges) (other_ties (scene f space) net.pieces weights n.bonds f.cuts n.links n.are_clashes) in
     pairs_back (AreOther net.pieces) tie_of net.graph.edges ties i j d h l e c.kind c.ends
 
 -- ---- all of it
 
-pub net_within_shapes : (keep : List Corners) (space over : ℕ) (tiles : List Corners) (label : List ℕ) (count' : ℕ) (f : Fragments) (weights : Weights) (net : Net) → 2 ≤ over → AreShapes tiles label count' → AreFragments keep space over tiles label f → IsNet f weights space net → AreWithinShapes net.pieces f.shape
+pub net_within_shapes : (keep : List Corners) (space over : ℕ) (tiles : List Corners) (label : List ℕ) (count' : ℕ) (f : Fragments) (weights : PlainWeights) (net : Net) → 2 ≤ over → AreShapes tiles label count' → AreFragments keep space over tiles label f → IsNet f weights space net → AreWithinShapes net.pieces f.shape
 net_within_shapes keep space over tiles label count' f weights net wide s a n = within_shapes tiles f weights space net
     (hold_layer keep space over tiles label (map corners_of f.rects) f.tile f.shape wide a.parts)
     (tell_shapes keep space over tiles label count' (map corners_of f.rects) f.tile f.shape wide s a.parts) n
 
-pub net_clashes : (keep : List Corners) (space over : ℕ) (tiles : List Corners) (label : List ℕ) (count' : ℕ) (f : Fragments) (weights : Weights) (net : Net) → 2 ≤ over → AreShapes tiles label count' → AreFragments keep space over tiles label f → IsNet f weights space net → AreAllClashes tiles (map corners_of f.rects) space net.pieces net.graph.edges
+pub net_clashes : (keep : List Corners) (space over : ℕ) (tiles : List Corners) (label : List ℕ) (count' : ℕ) (f : Fragments) (weights : PlainWeights) (net : Net) → 2 ≤ over → AreShapes tiles label count' → AreFragments keep space over tiles label f → IsNet f weights space net → AreAllClashes tiles (map corners_of f.rects) space net.pieces net.graph.edges
 net_clashes keep space over tiles label count' f weights net wide s a n =
     let h = hold_layer keep space over tiles label (map corners_of f.rects) f.tile f.shape wide a.parts in
     let t = tell_shapes keep space over tiles label count' (map corners_of f.rects) f.tile f.shape wide s a.parts in

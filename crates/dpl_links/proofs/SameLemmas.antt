@@ -21,7 +21,7 @@ use Rattle.dpl_sign.specs.Sides.{is_corner}
 use Rattle.dpl_sign.proofs.Equal.{same_edge, same_port}
 use Rattle.dpl_cuts.specs.declared.types.Fragments.{Fragments}
 use Rattle.dpl_cuts.specs.Positions.{nowhere, rect_at}
-use Rattle.dpl_links.specs.declared.types.Weights.{Weights}
+use Rattle.dpl_options.specs.Options.{PlainWeights}
 use Rattle.dpl_links.specs.declared.linking.Link.{Link}
 use Rattle.dpl_near.specs.Joins.{IsFirst, ArePairs}
 use Rattle.dpl_links.specs.Pairs.{Scene, IsBond}
@@ -320,7 +320,7 @@ same_net m n a b c d e =
     subst P parts (λ f. ap (make_net (net_parts m)) (NetFacts-prop m.graph.nodes m.graph.edges m.ports m.pieces m.piece_count (net_facts m) f)) (net_facts n)
 
 -- fragments have one net
-pub net_same : (f : Fragments) (weights : Weights) (space : ℕ) (m n : Net) → IsNet f weights space m → IsNet f weights space n → m ≡ n
+pub net_same : (f : Fragments) (weights : PlainWeights) (space : ℕ) (m n : Net) → IsNet f weights space m → IsNet f weights space n → m ≡ n
 net_same f weights space m n s t =
     let bonds : s.bonds ≡ t.bonds = pairs_same (IsBond (scene f space)) s.bonds t.bonds s.are_bonds t.are_bonds in
     let B : List (ℕ × ℕ) → Type 0 = λ z. AreClasses z (length f.rects) n.pieces n.piece_count in
@@ -340,7 +340,7 @@ net_same f weights space m n s t =
     same_net m n nodes edges ports pieces count'
 
 -- where the net has no more than n edges, there are no more
-pub no_more_edges : (f : Fragments) (weights : Weights) (space : ℕ) (net : Net) (n : ℕ) → IsNet f weights space net → length net.graph.edges ≤ n → ¬ HasMoreEdges f space n
+pub no_more_edges : (f : Fragments) (weights : PlainWeights) (space : ℕ) (net : Net) (n : ℕ) → IsNet f weights space net → length net.graph.edges ≤ n → ¬ HasMoreEdges f space n
 no_more_edges f weights space net n s few =
     let e = edges_length weights s.bonds f.cuts s.links net.graph.edges s.edges in
     not_more_edges f space s.bonds net.pieces net.piece_count s.links n s.are_bonds s.are_pieces s.are_clashes (omega arith)

@@ -4,7 +4,7 @@ ghost use Rattle.dpl_cell.specs.Places.{Corners, corners_of};
 ghost use Rattle.dpl_near.specs.Shapes.{AreShapes};
 ghost use Rattle.dpl_sign.specs.declared.nets.Net.{Net};
 ghost use Rattle.dpl_cuts.specs.Fragments.{AreFragments};
-ghost use Rattle.dpl_links.specs.declared.types.Weights.{Weights};
+ghost use Rattle.dpl_options.specs.Options.{PlainWeights};
 ghost use Rattle.dpl_links.specs.Nets.{IsNet, HasMoreEdges, tie_of};
 ghost use Rattle.dpl_links.specs.Spacing.{AreWithinShapes, AreAllClashes};
 ghost use Rattle.dpl_links.specs.Weighing.{HasWeight};
@@ -14,7 +14,7 @@ use dpl_cuts::types::Fragments;
 /// All fragments of a piece are of one shape.
 pub fn pieces_are_within_shapes(fragments: &Fragments, space: u64, overlap: u64)
     requires { 2 ≤ overlap }
-    ensures { (keep tiles : List Corners) (label : List ℕ) (count : ℕ) (weights : Weights)
+    ensures { (keep tiles : List Corners) (label : List ℕ) (count : ℕ) (weights : PlainWeights)
         (net : Net) →
         AreShapes tiles label count →
         AreFragments keep space overlap tiles label fragments.now →
@@ -27,7 +27,7 @@ pub fn pieces_are_within_shapes(fragments: &Fragments, space: u64, overlap: u64)
 /// fragments whose pieces a clash joins, and no two clashes join the same two pieces.
 pub fn clashes_are_all(fragments: &Fragments, space: u64, overlap: u64)
     requires { 2 ≤ overlap }
-    ensures { (keep tiles : List Corners) (label : List ℕ) (count : ℕ) (weights : Weights)
+    ensures { (keep tiles : List Corners) (label : List ℕ) (count : ℕ) (weights : PlainWeights)
         (net : Net) →
         AreShapes tiles label count →
         AreFragments keep space overlap tiles label fragments.now →
@@ -39,7 +39,7 @@ pub fn clashes_are_all(fragments: &Fragments, space: u64, overlap: u64)
 
 /// Fragments have one net at a spacing and with weights.
 pub fn nets_are_the_same(fragments: &Fragments)
-    ensures { (weights : Weights) (space : ℕ) (one other : Net) →
+    ensures { (weights : PlainWeights) (space : ℕ) (one other : Net) →
         IsNet fragments.now weights space one → IsNet fragments.now weights space other →
         one ≡ other }
 {
@@ -48,7 +48,7 @@ pub fn nets_are_the_same(fragments: &Fragments)
 
 /// Fragments whose net has no more edges than a number have no more edges than that.
 pub fn edges_are_all(fragments: &Fragments)
-    ensures { (weights : Weights) (space n : ℕ) (net : Net) →
+    ensures { (weights : PlainWeights) (space n : ℕ) (net : Net) →
         IsNet fragments.now weights space net → length net.graph.edges ≤ n →
         ¬ HasMoreEdges fragments.now space n }
 {
@@ -57,7 +57,7 @@ pub fn edges_are_all(fragments: &Fragments)
 
 /// Which edge has which weight.
 pub fn edges_have_weights(fragments: &Fragments)
-    ensures { (weights : Weights) (space : ℕ) (net : Net) → IsNet fragments.now weights space net →
+    ensures { (weights : PlainWeights) (space : ℕ) (net : Net) → IsNet fragments.now weights space net →
         All (λ e. HasWeight weights (map corners_of fragments.now.rects) (tie_of e))
         net.graph.edges }
 {

@@ -13,7 +13,7 @@ use Rattle.dpl_sign.specs.Kinds.{is_bond, is_clash}
 use Rattle.dpl_sign.specs.Walks.{edge_at, no_edge}
 use Rattle.dpl_sign.specs.Colourings.{breaks}
 use Rattle.dpl_cuts.specs.declared.types.Cut.{Cut}
-use Rattle.dpl_links.specs.declared.types.Weights.{Weights}
+use Rattle.dpl_options.specs.Options.{PlainWeights}
 use Rattle.dpl_links.specs.declared.linking.Link.{Link}
 use Rattle.dpl_links.specs.Nets.{Tie, tie_of, bond_tie, stitch_tie, clash_tie, ties_of}
 use Rattle.dpl_form.specs.Readers.{FitFrom}
@@ -159,14 +159,14 @@ no_stitch edge kind e f = rw e f
 pub first_tie : (edge : Edge) (edges : List Edge) (t : Tie) (ts : List Tie) → map tie_of (edge ∷ edges) ≡ t ∷ ts → (tie_of edge ≡ t) × (map tie_of edges ≡ ts)
 first_tie edge edges t ts e = (cc, cc)
 
-clashes_take : (weights : Weights) (edges : List Edge) (links : List Link) → map tie_of edges ≡ map (clash_tie weights) links → TakeCuts edges []
+clashes_take : (weights : PlainWeights) (edges : List Edge) (links : List Link) → map tie_of edges ≡ map (clash_tie weights) links → TakeCuts edges []
 clashes_take weights [] links e = refl
 clashes_take weights (edge ∷ edges) [] e = absurd (cc)
 clashes_take weights (edge ∷ edges) (l ∷ links) e =
     let d = first_tie edge edges (clash_tie weights l) (map (clash_tie weights) links) e in
     (no_stitch edge Clash (ap (λ (t : Tie). t.kind) d.0) refl, clashes_take weights edges links d.1)
 
-stitches_take : (stitch : ℕ) (clash : Weights) (edges : List Edge) (cuts : List Cut) (links : List Link) → map tie_of edges ≡ map (stitch_tie stitch) cuts ++ map (clash_tie clash) links → TakeCuts edges cuts
+stitches_take : (stitch : ℕ) (clash : PlainWeights) (edges : List Edge) (cuts : List Cut) (links : List Link) → map tie_of edges ≡ map (stitch_tie stitch) cuts ++ map (clash_tie clash) links → TakeCuts edges cuts
 stitches_take stitch clash edges [] links e = clashes_take clash edges links e
 stitches_take stitch clash [] (c ∷ cuts) links e = absurd (cc)
 stitches_take stitch clash (edge ∷ edges) (c ∷ cuts) links e =
@@ -175,7 +175,7 @@ stitches_take stitch clash (edge ∷ edges) (c ∷ cuts) links e =
     let is = stitch_is edge kind in
     ((λ t. (ap (λ (t : Tie). t.a) d.0, ap (λ (t : Tie). t.b) d.0)), rw is (stitches_take stitch clash edges cuts links d.1))
 
-bonds_take : (stitch : ℕ) (clash : Weights) (edges : List Edge) (bonds : List (ℕ × ℕ)) (cuts : List Cut) (links : List Link) → map tie_of edges ≡ map bond_tie bonds ++ (map (stitch_tie stitch) cuts ++ map (clash_tie clash) links) → TakeCuts edges cuts
+bonds_take : (stitch : ℕ) (clash : PlainWeights) (edges : List Edge) (bonds : List (ℕ × ℕ)) (cuts : List Cut) (links : List Link) → map tie_of edges ≡ map bond_tie bonds ++ (map (stitch_tie stitch) cuts ++ map (clash_tie clash) links) → TakeCuts edges cuts
 bonds_take stitch clash edges [] cuts links e = stitches_take stitch clash edges cuts links e
 bonds_take stitch clash [] (p ∷ bonds) cuts links e = absurd (cc)
 bonds_take stitch clash (edge ∷ edges) (p ∷ bonds) cuts links e =
@@ -187,7 +187,7 @@ bonds_take stitch clash (edge ∷ edges) (p ∷ bonds) cuts links e =
       no_cut edge edges [] n r = (n, r)
       no_cut edge edges (c ∷ cs) n r = ((λ t. let bad = sym n ∙ t in absurd (cc)), rw n r)
 
-pub net_takes : (weights : Weights) (bonds : List (ℕ × ℕ)) (cuts : List Cut) (links : List Link) (edges : List Edge) → map tie_of edges ≡ ties_of weights bonds cuts links → TakeCuts edges cuts
+pub net_takes : (weights : PlainWeights) (bonds : List (ℕ × ℕ)) (cuts : List Cut) (links : List Link) (edges : List Edge) → map tie_of edges ≡ ties_of weights bonds cuts links → TakeCuts edges cuts
 net_takes weights bonds cuts links edges e =
     bonds_take weights.stitch weights edges bonds cuts links (e ∙ append_assoc (map bond_tie bonds) (map (stitch_tie weights.stitch) cuts) (map (clash_tie weights) links))
 

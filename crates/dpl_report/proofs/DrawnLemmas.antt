@@ -23,7 +23,8 @@ use Rattle.dpl_form.specs.Readers.{FitFrom}
 use Rattle.dpl_form.proofs.TextLemmas.{text_of-append}
 use Rattle.dpl_report.specs.Plain.{PlainHead, PlainLists, PlainReport}
 use Rattle.dpl_report.specs.ReportLines.{numbered, bracketed, letter, count_line, layer_line, keep_line, version_line, more_lines, masks_line, broken_numbers, zone_numbers, cycle_numbers, cut_line, clash_line, aside_line, cycle_line, head_lines, lists_lines, drawing_lines, mask_lines, report_text, last_lines}
-use Rattle.dpl_report.specs.Valid.{IsCount, IsLayer, AreMore, IsHead, IsCycle, IsLists, IsReport, CutFits, ClashFits, AsideFits}
+use Rattle.dpl_report.specs.Valid.{IsCount, AreMore, IsHead, IsCycle, IsLists, IsReport, CutFits, ClashFits, AsideFits}
+use Rattle.dpl_options.specs.Options.{IsSplitLayer}
 use Rattle.dpl_report.proofs.LineLemmas.{IsNear}
 use Rattle.dpl_report.proofs.ItemLemmas.{near, zone_near, cycle_near}
 
@@ -92,7 +93,7 @@ count_is_comment word n h l = bracketed_is_comment word (pos n ∷ []) h (l, tt)
 name_byte_is_flat : (b : ℕ) → is_name_byte b ≡ true → is_flat b ≡ true
 name_byte_is_flat b h = grind (arith, nat_tests)
 
-layer_is_comment : (name : List ℕ) → IsLayer name → IsComment (layer_line name)
+layer_is_comment : (name : List ℕ) → IsSplitLayer name → IsComment (layer_line name)
 layer_is_comment name f = record { inner = codes "layer " ++ name; flat = list_all-weaker is_name_byte is_flat name_byte_is_flat name (name_bytes name f.0); line = refl }
 
 letters_are_flat : (colours : List Bool) → list_all is_flat (map letter colours) ≡ true
@@ -107,7 +108,7 @@ version_is_comment : (second : Bool) → IsComment (version_line second)
 version_is_comment true = record { inner = codes "dpl 2"; flat = refl; line = refl }
 version_is_comment false = record { inner = codes "dpl 1"; flat = refl; line = refl }
 
-keep_is_comment : (name : List ℕ) → IsLayer name → IsComment (keep_line name)
+keep_is_comment : (name : List ℕ) → IsSplitLayer name → IsComment (keep_line name)
 keep_is_comment name f = record { inner = codes "keep " ++ name; flat = list_all-weaker is_name_byte is_flat name_byte_is_flat name (name_bytes name f.0); line = refl }
 
 more_are_comments : (c : Option ℕ) (k : Option (List ℕ)) → AreMore c k → AllByRecursion IsComment (more_lines c k)

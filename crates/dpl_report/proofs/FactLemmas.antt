@@ -19,12 +19,12 @@ use Rattle.dpl_links.specs.Nets.{IsNet}
 use Rattle.dpl_form.specs.Lines.{lines_in}
 use Rattle.dpl_form.specs.Readers.{whole}
 use Rattle.dpl_report.specs.declared.marks.Broken.{Broken}
-use Rattle.dpl_report.specs.declared.options.Options.{Options}
+use Rattle.dpl_options.specs.Options.{PlainOptions, AreOptions}
 use Rattle.dpl_report.specs.declared.params.Counts.{Counts}
 use Rattle.dpl_report.specs.Plain.{PlainZone, PlainReport}
 use Rattle.dpl_report.specs.ReportLines.{report_text}
 use Rattle.dpl_report.specs.Reading.{read_report}
-use Rattle.dpl_report.specs.Valid.{AreNames, IsReport, AsideFits}
+use Rattle.dpl_report.specs.Valid.{IsReport, AsideFits}
 use Rattle.dpl_report.specs.Conditions.{cuts_from, clashes_from}
 use Rattle.dpl_report.specs.Verdicts.{IsGood, refusal_of, refusal_from}
 use Rattle.dpl_report.specs.Truths.{SaysTrue}
@@ -180,7 +180,7 @@ same_aside net xs ys a b =
 
 -- ---- all nine
 
-facts_of_truth : (o : Options) (f : Fragments) (net : Net) (text : List ℕ) (r : PlainReport) → TakeCuts net.graph.edges f.cuts → IsReport r → text ≡ report_text r → SaysTrue o f net r → AreNineFacts o f net text r
+facts_of_truth : (o : PlainOptions) (f : Fragments) (net : Net) (text : List ℕ) (r : PlainReport) → TakeCuts net.graph.edges f.cuts → IsReport r → text ≡ report_text r → SaysTrue o f net r → AreNineFacts o f net text r
 facts_of_truth o f net text r take v e t = record {
   valid = v;
   text_is = e;
@@ -199,7 +199,7 @@ facts_of_truth o f net text r take v e t = record {
   on_b = t.on_b;
 }
 
-truth_of_facts : (o : Options) (f : Fragments) (net : Net) (text : List ℕ) (r : PlainReport) → TakeCuts net.graph.edges f.cuts → AllPairs (λ (c d : Cut). c.a < d.a) f.cuts → AreNineFacts o f net text r → SaysTrue o f net r
+truth_of_facts : (o : PlainOptions) (f : Fragments) (net : Net) (text : List ℕ) (r : PlainReport) → TakeCuts net.graph.edges f.cuts → AllPairs (λ (c d : Cut). c.a < d.a) f.cuts → AreNineFacts o f net text r → SaysTrue o f net r
 truth_of_facts o f net text r take order n = record {
   params = n.options;
   counts = n.counts;
@@ -214,21 +214,21 @@ truth_of_facts o f net text r take order n = record {
   on_b = n.on_b;
 }
 
-good_read : (o : Options) (f : Fragments) (net : Net) (text : List ℕ) (found : Result PlainReport ℕ) → whole read_report (lines_in text) ≡ found → refusal_from o f net text found ≡ None → (r : PlainReport) × IsReport r × (text ≡ report_text r) × (refusal_of o f net r ≡ None)
+good_read : (o : PlainOptions) (f : Fragments) (net : Net) (text : List ℕ) (found : Result PlainReport ℕ) → whole read_report (lines_in text) ≡ found → refusal_from o f net text found ≡ None → (r : PlainReport) × IsReport r × (text ≡ report_text r) × (refusal_of o f net r ≡ None)
 good_read o f net text (Ok r) e g = let d = text_is_found text r e in (r, d.0, d.1, g)
 good_read o f net text (Err n) e g = absurd (cc)
 
-pub good_has_facts : (o : Options) (f : Fragments) (net : Net) (text : List ℕ) → AreNames o.layer o.keep → TakeCuts net.graph.edges f.cuts → IsGood o f net text → (r : PlainReport) × AreNineFacts o f net text r
-good_has_facts o f net text name take g =
+pub good_has_facts : (o : PlainOptions) (f : Fragments) (net : Net) (text : List ℕ) → AreOptions o → TakeCuts net.graph.edges f.cuts → IsGood o f net text → (r : PlainReport) × AreNineFacts o f net text r
+good_has_facts o f net text ranges take g =
     let (r, v, e, h) = good_read o f net text (whole read_report (lines_in text)) refl g in
-    (r, facts_of_truth o f net text r take v e (good_is_true o f net r name v h))
+    (r, facts_of_truth o f net text r take v e (good_is_true o f net r ranges v h))
 
-pub facts_are_good : (o : Options) (f : Fragments) (net : Net) (text : List ℕ) (r : PlainReport) → TakeCuts net.graph.edges f.cuts → AllPairs (λ (c d : Cut). c.a < d.a) f.cuts → AreNineFacts o f net text r → IsGood o f net text
+pub facts_are_good : (o : PlainOptions) (f : Fragments) (net : Net) (text : List ℕ) (r : PlainReport) → TakeCuts net.graph.edges f.cuts → AllPairs (λ (c d : Cut). c.a < d.a) f.cuts → AreNineFacts o f net text r → IsGood o f net text
 facts_are_good o f net text r take order n =
     let read : whole read_report (lines_in text) ≡ Ok r = text_is_read text r n.valid n.text_is in
     ap (refusal_from o f net text) read ∙ true_is_good o f net r (truth_of_facts o f net text r take order n)
 
-pub good_exactly : (o : Options) (f : Fragments) (net : Net) (keep tiles : List Corners) (label text : List ℕ) → AreNames o.layer o.keep → IsNet f o.weights (2 * o.space) net → AreFragments keep (2 * o.space) (2 * o.overlap) tiles label f → IsGood o f net text ↔ ((r : PlainReport) × AreNineFacts o f net text r)
-good_exactly o f net keep tiles label text name n a =
+pub good_exactly : (o : PlainOptions) (f : Fragments) (net : Net) (keep tiles : List Corners) (label text : List ℕ) → AreOptions o → IsNet f o.weights (2 * o.space) net → AreFragments keep (2 * o.space) (2 * o.overlap) tiles label f → IsGood o f net text ↔ ((r : PlainReport) × AreNineFacts o f net text r)
+good_exactly o f net keep tiles label text ranges n a =
     let take = net_takes o.weights n.bonds f.cuts n.links net.graph.edges n.edges in
-    (good_has_facts o f net text name take, λ h. facts_are_good o f net text h.0 take a.cuts.ordered h.1)
+    (good_has_facts o f net text ranges take, λ h. facts_are_good o f net text h.0 take a.cuts.ordered h.1)

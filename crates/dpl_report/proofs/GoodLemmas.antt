@@ -17,12 +17,12 @@ use Rattle.dpl_sign.specs.Colourings.{agree, colour_of}
 use Rattle.dpl_sign.specs.Packings.{load, IsWithin, passages}
 use Rattle.dpl_sign.specs.Excess.{aside_edges}
 use Rattle.dpl_cuts.specs.declared.types.Fragments.{Fragments}
-use Rattle.dpl_report.specs.declared.options.Options.{Options}
+use Rattle.dpl_options.specs.Options.{PlainOptions, name_or_nothing}
 use Rattle.dpl_report.specs.declared.params.Params.{Params}
 use Rattle.dpl_report.specs.declared.params.Counts.{Counts}
 use Rattle.dpl_report.specs.Plain.{PlainReport}
 use Rattle.dpl_report.specs.declared.refusals.Miss.{Miss}
-use Rattle.dpl_report.specs.Misses.{miss, number_miss, name_miss, name_or_nothing}
+use Rattle.dpl_report.specs.Misses.{miss, number_miss, name_miss}
 use Rattle.dpl_report.specs.Conditions.{params_miss, AreAsked, counts_miss, bond_miss, bonds_miss, broken_miss, aside_miss, walks_miss, load_of, loads_miss, packing_miss, boxes_miss, drawing_miss, corner_numbers}
 use Rattle.dpl_report.specs.Verdicts.{refused, refusal_of, rects_of}
 use Rattle.dpl_report.specs.Truths.{SaysTrue}
@@ -49,7 +49,7 @@ names_are place xs ys e = rw e (name_same place ys)
 kept_are : (place : ℕ) (a b : Option (List ℕ)) → a ≡ b → name_miss place (name_or_nothing a) (name_or_nothing b) ≡ None
 kept_are place a b e = rw e (name_same place (name_or_nothing b))
 
-pub params_none : (p : Params) (o : Options) → AreAsked p o → params_miss p o ≡ None
+pub params_none : (p : Params) (o : PlainOptions) → AreAsked p o → params_miss p o ≡ None
 params_none p o a =
     both_none _ _ (names_are 2 p.layer o.layer a.layer) (both_none _ _ (numbers_are 3 _ _ a.space) (both_none _ _ (numbers_are 4 _ _ a.overlap) (both_none _ _ (numbers_are 5 _ _ a.stitch)
     (both_none _ _ (numbers_are 6 _ _ a.conflict) (both_none _ _ (numbers_are 16 _ _ a.corner) (kept_are 17 p.keep o.keep a.keep))))))
@@ -119,7 +119,7 @@ drawing_none on_a on_b on_c on_d e f = rw (e, f) (both_none _ _ (number_same 429
 none_refused : (reason : ℕ) (m : Option Miss) → m ≡ None → refused reason m ≡ None
 none_refused reason m e = rw e refl
 
-pub true_is_good : (o : Options) (f : Fragments) (net : Net) (r : PlainReport) → SaysTrue o f net r → refusal_of o f net r ≡ None
+pub true_is_good : (o : PlainOptions) (f : Fragments) (net : Net) (r : PlainReport) → SaysTrue o f net r → refusal_of o f net r ≡ None
 true_is_good o f net r t =
     let g = net.graph in
     let broken : broken_miss f net r ≡ None = both_none _ _ ((cut_lines_are _ _).1 t.cuts) (both_none _ _ ((clash_lines_are _ _).1 t.clashes) (numbers_are (length g.edges) _ _ t.cost)) in

@@ -32,10 +32,10 @@ use Rattle.dpl_links.specs.Spacing.{AreTooClose, IsClashOf, AreAllClashes}
 use Rattle.dpl_links.proofs.LawLemmas.{net_clashes, turned_gap}
 use Rattle.dpl_boxes.specs.Drawings.{is_in_boxes, DrawsMasks}
 use Rattle.dpl_report.specs.declared.marks.Broken.{Broken}
-use Rattle.dpl_report.specs.declared.options.Options.{Options}
+use Rattle.dpl_options.specs.Options.{PlainOptions, AreOptions}
 use Rattle.dpl_report.specs.Plain.{PlainZone, PlainReport}
 use Rattle.dpl_report.specs.ReportLines.{report_text}
-use Rattle.dpl_report.specs.Valid.{AreNames, IsReport, CutFits, ClashFits}
+use Rattle.dpl_report.specs.Valid.{IsReport, CutFits, ClashFits}
 use Rattle.dpl_report.specs.Verdicts.{refusal_of}
 use Rattle.dpl_report.specs.Truths.{SaysTrue}
 use Rattle.dpl_report.specs.Conditions.{cuts_from}
@@ -167,7 +167,7 @@ chain_agrees colours bonds a i (j ∷ js) k (c, r) =
 
 -- ---- what is known of a good report
 
-record IsKnown (o : Options) (tiles : List Corners) (f : Fragments) (net : Net) (r : PlainReport) : Type 0 where
+record IsKnown (o : PlainOptions) (tiles : List Corners) (f : Fragments) (net : Net) (r : PlainReport) : Type 0 where
   keep : List Corners
   truth : SaysTrue o f net r
   valid : IsReport r
@@ -184,18 +184,18 @@ record IsKnown (o : Options) (tiles : List Corners) (f : Fragments) (net : Net) 
 mask_boxes : PlainReport → Bool → List Corners
 mask_boxes r on_b = if on_b then r.on_b else r.on_a
 
-boxes_are : (o : Options) (f : Fragments) (net : Net) (r : PlainReport) (on_b : Bool) → SaysTrue o f net r → mask_boxes r on_b ≡ map corners_of (mask_of on_b f r.head.colours)
+boxes_are : (o : PlainOptions) (f : Fragments) (net : Net) (r : PlainReport) (on_b : Bool) → SaysTrue o f net r → mask_boxes r on_b ≡ map corners_of (mask_of on_b f r.head.colours)
 unfolding mask_boxes
 boxes_are o f net r true t = t.on_b
 boxes_are o f net r false t = t.on_a
 
-on_mask : (o : Options) (tiles : List Corners) (f : Fragments) (net : Net) (r : PlainReport) (on_b : Bool) (x y : ℤ) → IsKnown o tiles f net r → is_in_boxes (mask_boxes r on_b) x y ≡ true → IsOnFragment f.rects r.head.colours on_b x y ⊎ IsOnZone r.head.colours f.cuts x y
+on_mask : (o : PlainOptions) (tiles : List Corners) (f : Fragments) (net : Net) (r : PlainReport) (on_b : Bool) (x y : ℤ) → IsKnown o tiles f net r → is_in_boxes (mask_boxes r on_b) x y ≡ true → IsOnFragment f.rects r.head.colours on_b x y ⊎ IsOnZone r.head.colours f.cuts x y
 on_mask o tiles f net r on_b x y k e = mask_holds on_b f r.head.colours x y k.long (sym (ap (λ bs. is_in_boxes bs x y) (boxes_are o f net r on_b k.truth)) ∙ e)
 
-fragment_is_on : (o : Options) (tiles : List Corners) (f : Fragments) (net : Net) (r : PlainReport) (on_b : Bool) (x y : ℤ) → IsKnown o tiles f net r → IsOnFragment f.rects r.head.colours on_b x y → is_in_boxes (mask_boxes r on_b) x y ≡ true
+fragment_is_on : (o : PlainOptions) (tiles : List Corners) (f : Fragments) (net : Net) (r : PlainReport) (on_b : Bool) (x y : ℤ) → IsKnown o tiles f net r → IsOnFragment f.rects r.head.colours on_b x y → is_in_boxes (mask_boxes r on_b) x y ≡ true
 fragment_is_on o tiles f net r on_b x y k h = ap (λ bs. is_in_boxes bs x y) (boxes_are o f net r on_b k.truth) ∙ fragment_on_mask on_b f r.head.colours x y k.long h
 
-zone_is_on : (o : Options) (tiles : List Corners) (f : Fragments) (net : Net) (r : PlainReport) (on_b : Bool) (x y : ℤ) → IsKnown o tiles f net r → IsOnZone r.head.colours f.cuts x y → is_in_boxes (mask_boxes r on_b) x y ≡ true
+zone_is_on : (o : PlainOptions) (tiles : List Corners) (f : Fragments) (net : Net) (r : PlainReport) (on_b : Bool) (x y : ℤ) → IsKnown o tiles f net r → IsOnZone r.head.colours f.cuts x y → is_in_boxes (mask_boxes r on_b) x y ≡ true
 zone_is_on o tiles f net r on_b x y k h = ap (λ bs. is_in_boxes bs x y) (boxes_are o f net r on_b k.truth) ∙ zone_on_mask on_b f r.head.colours x y h
 
 in_layer : (tiles : List Corners) (rects : List Rect) (i : ℕ) (x y : ℤ) → HoldLayer tiles (map corners_of rects) → i < length rects → IsIn (rect_at (map corners_of rects) i) x y → IsTrue (layer_of tiles x y)
@@ -203,18 +203,18 @@ in_layer tiles rects i x y h l g =
     let m : i < length (map corners_of rects) = let n = map_size corners_of rects in omega arith in
     (h x y).1 (i, rect_at (map corners_of rects) i, m, get_or_default (map corners_of rects) i _ nowhere m, g)
 
-fragment_cell : (o : Options) (tiles : List Corners) (f : Fragments) (net : Net) (r : PlainReport) (on_b : Bool) (x y : ℤ) → IsKnown o tiles f net r → IsOnFragment f.rects r.head.colours on_b x y → IsTrue (layer_of tiles x y)
+fragment_cell : (o : PlainOptions) (tiles : List Corners) (f : Fragments) (net : Net) (r : PlainReport) (on_b : Bool) (x y : ℤ) → IsKnown o tiles f net r → IsOnFragment f.rects r.head.colours on_b x y → IsTrue (layer_of tiles x y)
 fragment_cell o tiles f net r on_b x y k h = in_layer tiles f.rects h.i x y k.hold h.within h.holds
 
 -- what is known of the zone that holds a cell
-record IsZoneHere (o : Options) (tiles : List Corners) (f : Fragments) (x y : ℤ) : Type 0 where
+record IsZoneHere (o : PlainOptions) (tiles : List Corners) (f : Fragments) (x y : ℤ) : Type 0 where
   cut : Cut
   keep : List Corners
   good : IsGoodZone keep (2 * o.space) (2 * o.overlap) tiles (map corners_of f.rects) f.tile cut
   is : IsCut (2 * o.overlap) tiles (map corners_of f.rects) f.tile cut.a cut.b (corners_of cut.zone)
   holds : IsIn (corners_of cut.zone) x y
 
-zone_here : (o : Options) (tiles : List Corners) (f : Fragments) (net : Net) (r : PlainReport) (x y : ℤ) → IsKnown o tiles f net r → IsOnZone r.head.colours f.cuts x y → IsZoneHere o tiles f x y
+zone_here : (o : PlainOptions) (tiles : List Corners) (f : Fragments) (net : Net) (r : PlainReport) (x y : ℤ) → IsKnown o tiles f net r → IsOnZone r.head.colours f.cuts x y → IsZoneHere o tiles f x y
 zone_here o tiles f net r x y k (i, c, l, e, p) = record {
   cut = c;
   keep = k.keep;
@@ -223,7 +223,7 @@ zone_here o tiles f net r x y k (i, c, l, e, p) = record {
   holds = p.1;
 }
 
-zone_cell : (o : Options) (tiles : List Corners) (f : Fragments) (net : Net) (r : PlainReport) (x y : ℤ) → IsKnown o tiles f net r → IsOnZone r.head.colours f.cuts x y → IsTrue (layer_of tiles x y)
+zone_cell : (o : PlainOptions) (tiles : List Corners) (f : Fragments) (net : Net) (r : PlainReport) (x y : ℤ) → IsKnown o tiles f net r → IsOnZone r.head.colours f.cuts x y → IsTrue (layer_of tiles x y)
 zone_cell o tiles f net r x y k h =
     let z = zone_here o tiles f net r x y k h in
     let n = map_size corners_of f.rects in
@@ -234,7 +234,7 @@ zone_cell o tiles f net r x y k h =
       | inr g ↦ in_layer tiles f.rects z.cut.b x y k.hold b g
     ]
 
-mask_cell : (o : Options) (tiles : List Corners) (f : Fragments) (net : Net) (r : PlainReport) (on_b : Bool) (x y : ℤ) → IsKnown o tiles f net r → is_in_boxes (mask_boxes r on_b) x y ≡ true → layer_of tiles x y ≡ true
+mask_cell : (o : PlainOptions) (tiles : List Corners) (f : Fragments) (net : Net) (r : PlainReport) (on_b : Bool) (x y : ℤ) → IsKnown o tiles f net r → is_in_boxes (mask_boxes r on_b) x y ≡ true → layer_of tiles x y ≡ true
 mask_cell o tiles f net r on_b x y k e = elim (on_mask o tiles f net r on_b x y k e) [
   | inl h ↦ true_is (layer_of tiles x y) (fragment_cell o tiles f net r on_b x y k h)
   | inr h ↦ true_is (layer_of tiles x y) (zone_cell o tiles f net r x y k h)
@@ -249,12 +249,12 @@ cell_on_fragment tiles rects colours x y h c =
     let g' : IsIn (rect_at (map corners_of rects) i) x y = let P : Corners → Type 0 = λ z. IsIn z x y in subst P (sym (get_or_default (map corners_of rects) i nowhere q l ∙ e)) g in
     (colour_of colours i, record { i = i; within = m; own = refl; holds = g' })
 
-some_mask : (o : Options) (tiles : List Corners) (f : Fragments) (net : Net) (r : PlainReport) (x y : ℤ) → IsKnown o tiles f net r → (on_b : Bool) → IsOnFragment f.rects r.head.colours on_b x y → (is_in_boxes r.on_a x y || is_in_boxes r.on_b x y) ≡ true
+some_mask : (o : PlainOptions) (tiles : List Corners) (f : Fragments) (net : Net) (r : PlainReport) (x y : ℤ) → IsKnown o tiles f net r → (on_b : Bool) → IsOnFragment f.rects r.head.colours on_b x y → (is_in_boxes r.on_a x y || is_in_boxes r.on_b x y) ≡ true
 unfolding mask_boxes
 some_mask o tiles f net r x y k true h = or_right (is_in_boxes r.on_a x y) (is_in_boxes r.on_b x y) (fragment_is_on o tiles f net r true x y k h)
 some_mask o tiles f net r x y k false h = or_left (is_in_boxes r.on_a x y) (is_in_boxes r.on_b x y) (fragment_is_on o tiles f net r false x y k h)
 
-masks_together : (o : Options) (tiles : List Corners) (f : Fragments) (net : Net) (r : PlainReport) → IsKnown o tiles f net r → HoldTogether (layer_of tiles) r
+masks_together : (o : PlainOptions) (tiles : List Corners) (f : Fragments) (net : Net) (r : PlainReport) → IsKnown o tiles f net r → HoldTogether (layer_of tiles) r
 unfolding mask_boxes
 masks_together o tiles f net r k x y = both_ways (is_in_boxes r.on_a x y || is_in_boxes r.on_b x y) (layer_of tiles x y)
     (λ e. elim (or_cases (is_in_boxes r.on_a x y) (is_in_boxes r.on_b x y) e) [ inl g ↦ mask_cell o tiles f net r false x y k g | inr g ↦ mask_cell o tiles f net r true x y k g ])
@@ -265,7 +265,7 @@ masks_together o tiles f net r k x y = both_ways (is_in_boxes r.on_a x y || is_i
 never_both : (rects : List Corners) (i j : ℕ) (x y : ℤ) → AllPairs AreApart rects → i < j → j < length rects → IsIn (rect_at rects i) x y → IsIn (rect_at rects j) x y → ⊥
 never_both rects i j x y a l m f g = a i j nowhere l m (record { x = x; y = y; first = f; second = g })
 
-not_on_both : (o : Options) (tiles : List Corners) (f : Fragments) (net : Net) (r : PlainReport) (x y : ℤ) → IsKnown o tiles f net r → IsOnFragment f.rects r.head.colours false x y → IsOnFragment f.rects r.head.colours true x y → ⊥
+not_on_both : (o : PlainOptions) (tiles : List Corners) (f : Fragments) (net : Net) (r : PlainReport) (x y : ℤ) → IsKnown o tiles f net r → IsOnFragment f.rects r.head.colours false x y → IsOnFragment f.rects r.head.colours true x y → ⊥
 not_on_both o tiles f net r x y k g h =
     let n = map_size corners_of f.rects in
     let i : g.i < length (map corners_of f.rects) = let w = g.within in omega arith in
@@ -278,10 +278,10 @@ not_on_both o tiles f net r x y k g h =
       ]
     ]
 
-line_zones : (o : Options) (tiles : List Corners) (f : Fragments) (net : Net) (r : PlainReport) → IsKnown o tiles f net r → map (λ (z : PlainZone). z.corners) r.lists.cuts ≡ map corners_of (zones_of r.head.colours f.cuts)
+line_zones : (o : PlainOptions) (tiles : List Corners) (f : Fragments) (net : Net) (r : PlainReport) → IsKnown o tiles f net r → map (λ (z : PlainZone). z.corners) r.lists.cuts ≡ map corners_of (zones_of r.head.colours f.cuts)
 line_zones o tiles f net r k = ap (map (λ (z : PlainZone). z.corners)) k.truth.cuts ∙ zones_are r.head.colours 0 net.graph.edges f.cuts k.take
 
-on_zone : (o : Options) (tiles : List Corners) (f : Fragments) (net : Net) (r : PlainReport) (x y : ℤ) → IsKnown o tiles f net r → is_in_boxes r.on_a x y ≡ true → is_in_boxes r.on_b x y ≡ true → IsOnZone r.head.colours f.cuts x y
+on_zone : (o : PlainOptions) (tiles : List Corners) (f : Fragments) (net : Net) (r : PlainReport) (x y : ℤ) → IsKnown o tiles f net r → is_in_boxes r.on_a x y ≡ true → is_in_boxes r.on_b x y ≡ true → IsOnZone r.head.colours f.cuts x y
 unfolding mask_boxes
 on_zone o tiles f net r x y k a b = elim (on_mask o tiles f net r false x y k a) [
   | inr z ↦ z
@@ -291,7 +291,7 @@ on_zone o tiles f net r x y k a b = elim (on_mask o tiles f net r false x y k a)
   ]
 ]
 
-masks_overlap : (o : Options) (tiles : List Corners) (f : Fragments) (net : Net) (r : PlainReport) → IsKnown o tiles f net r → OverlapInZones r
+masks_overlap : (o : PlainOptions) (tiles : List Corners) (f : Fragments) (net : Net) (r : PlainReport) → IsKnown o tiles f net r → OverlapInZones r
 unfolding mask_boxes
 masks_overlap o tiles f net r k x y =
     let same : is_in_boxes (map (λ (z : PlainZone). z.corners) r.lists.cuts) x y ≡ is_in_boxes (map corners_of (zones_of r.head.colours f.cuts)) x y = ap (λ bs. is_in_boxes bs x y) (line_zones o tiles f net r k) in
@@ -300,7 +300,7 @@ masks_overlap o tiles f net r k x y =
     (λ e. let z = zones_in r.head.colours f.cuts x y (sym same ∙ e) in and_from (is_in_boxes r.on_a x y) (is_in_boxes r.on_b x y) (zone_is_on o tiles f net r false x y k z) (zone_is_on o tiles f net r true x y k z))
 
 -- each cut line shows the zone of its cut
-show_zones : (o : Options) (tiles : List Corners) (f : Fragments) (net : Net) (r : PlainReport) → IsKnown o tiles f net r → All (ShowsZone (2 * o.overlap) tiles f) r.lists.cuts
+show_zones : (o : PlainOptions) (tiles : List Corners) (f : Fragments) (net : Net) (r : PlainReport) → IsKnown o tiles f net r → All (ShowsZone (2 * o.overlap) tiles f) r.lists.cuts
 show_zones o tiles f net r k =
     let P : ℕ → ℕ → Corners → Type 0 = λ a b c. ShowsZone (2 * o.overlap) tiles f (record { at = record { edge = 0; a = a; b = b }; corners = c }) in
     let each : All (λ (c : Cut). P c.a c.b (corners_of c.zone)) f.cuts = λ i c l. record { cut = k.cuts.each i c l; from = (k.zones i c l).from; part = (k.zones i c l).part } in
@@ -311,13 +311,13 @@ show_zones o tiles f net r k =
 -- ---- what is too close
 
 -- a cell that is too close to another one lies in no zone
-first_fragment : (o : Options) (tiles : List Corners) (f : Fragments) (net : Net) (r : PlainReport) (on_b : Bool) (x y x' y' : ℤ) → IsKnown o tiles f net r → AreTooClose (layer_of tiles) (2 * o.space) x y x' y' → is_in_boxes (mask_boxes r on_b) x y ≡ true → IsOnFragment f.rects r.head.colours on_b x y
+first_fragment : (o : PlainOptions) (tiles : List Corners) (f : Fragments) (net : Net) (r : PlainReport) (on_b : Bool) (x y x' y' : ℤ) → IsKnown o tiles f net r → AreTooClose (layer_of tiles) (2 * o.space) x y x' y' → is_in_boxes (mask_boxes r on_b) x y ≡ true → IsOnFragment f.rects r.head.colours on_b x y
 first_fragment o tiles f net r on_b x y x' y' k c e = elim (on_mask o tiles f net r on_b x y k e) [
   | inl h ↦ h
   | inr h ↦ let z = zone_here o tiles f net r x y k h in absurd (c.other (z.good.clear x y z.holds x' y' c.second c.near))
 ]
 
-second_fragment : (o : Options) (tiles : List Corners) (f : Fragments) (net : Net) (r : PlainReport) (on_b : Bool) (x y x' y' : ℤ) → IsKnown o tiles f net r → AreTooClose (layer_of tiles) (2 * o.space) x y x' y' → is_in_boxes (mask_boxes r on_b) x' y' ≡ true → IsOnFragment f.rects r.head.colours on_b x' y'
+second_fragment : (o : PlainOptions) (tiles : List Corners) (f : Fragments) (net : Net) (r : PlainReport) (on_b : Bool) (x y x' y' : ℤ) → IsKnown o tiles f net r → AreTooClose (layer_of tiles) (2 * o.space) x y x' y' → is_in_boxes (mask_boxes r on_b) x' y' ≡ true → IsOnFragment f.rects r.head.colours on_b x' y'
 second_fragment o tiles f net r on_b x y x' y' k c e = elim (on_mask o tiles f net r on_b x' y' k e) [
   | inl h ↦ h
   | inr h ↦ let z = zone_here o tiles f net r x' y' k h in
@@ -325,7 +325,7 @@ second_fragment o tiles f net r on_b x y x' y' k c e = elim (on_mask o tiles f n
 ]
 
 -- a clash whose pieces are those of two fragments of one colour is broken
-clash_breaks : (o : Options) (tiles : List Corners) (f : Fragments) (net : Net) (r : PlainReport) (on_b : Bool) (i j n : ℕ) (e : Edge) → IsKnown o tiles f net r → i < length f.rects → j < length f.rects → colour_of r.head.colours i ≡ on_b → colour_of r.head.colours j ≡ on_b → n < length net.graph.edges → edge_at net.graph n ≡ e → IsClashOf net.pieces i j e → IsBrokenEdge net.graph r.head.colours Clash n
+clash_breaks : (o : PlainOptions) (tiles : List Corners) (f : Fragments) (net : Net) (r : PlainReport) (on_b : Bool) (i j n : ℕ) (e : Edge) → IsKnown o tiles f net r → i < length f.rects → j < length f.rects → colour_of r.head.colours i ≡ on_b → colour_of r.head.colours j ≡ on_b → n < length net.graph.edges → edge_at net.graph n ≡ e → IsClashOf net.pieces i j e → IsBrokenEdge net.graph r.head.colours Clash n
 clash_breaks o tiles f net r on_b i j n e k l m ci cj w is c =
     let b : e.b < length f.rects = subst (λ (d : Edge). d.b < length f.rects) is (k.ends n no_edge w) in
     let a : e.a < length f.rects = let h = e.ordered in omega arith in
@@ -350,7 +350,7 @@ joins net colours i j n e b is same names c =
       | inr p ↦ inr (first ∙ p.0, second ∙ p.1)
     ]
 
-told_on : (o : Options) (tiles : List Corners) (f : Fragments) (net : Net) (r : PlainReport) (on_b : Bool) (x y x' y' : ℤ) → IsKnown o tiles f net r → NameAllBroken net.graph r.head.colours Clash (λ b. b) r.lists.clashes → AreTooClose (layer_of tiles) (2 * o.space) x y x' y' → is_in_boxes (mask_boxes r on_b) x y ≡ true → is_in_boxes (mask_boxes r on_b) x' y' ≡ true → AreToldClose f net r x y x' y'
+told_on : (o : PlainOptions) (tiles : List Corners) (f : Fragments) (net : Net) (r : PlainReport) (on_b : Bool) (x y x' y' : ℤ) → IsKnown o tiles f net r → NameAllBroken net.graph r.head.colours Clash (λ b. b) r.lists.clashes → AreTooClose (layer_of tiles) (2 * o.space) x y x' y' → is_in_boxes (mask_boxes r on_b) x y ≡ true → is_in_boxes (mask_boxes r on_b) x' y' ≡ true → AreToldClose f net r x y x' y'
 told_on o tiles f net r on_b x y x' y' k named c p q =
     let g = first_fragment o tiles f net r on_b x y x' y' k c p in
     let h = second_fragment o tiles f net r on_b x y x' y' k c q in
@@ -369,19 +369,19 @@ told_on o tiles f net r on_b x y x' y' k named c p q =
       told = (v, b, w, t, joins net r.head.colours g.i h.i m e b at same names is);
     }
 
-masks_told : (o : Options) (tiles : List Corners) (f : Fragments) (net : Net) (r : PlainReport) → IsKnown o tiles f net r → NameAllBroken net.graph r.head.colours Clash (λ b. b) r.lists.clashes → (x y x' y' : ℤ) → AreTooClose (layer_of tiles) (2 * o.space) x y x' y' → AreOnOneMask r x y x' y' → AreToldClose f net r x y x' y'
+masks_told : (o : PlainOptions) (tiles : List Corners) (f : Fragments) (net : Net) (r : PlainReport) → IsKnown o tiles f net r → NameAllBroken net.graph r.head.colours Clash (λ b. b) r.lists.clashes → (x y x' y' : ℤ) → AreTooClose (layer_of tiles) (2 * o.space) x y x' y' → AreOnOneMask r x y x' y' → AreToldClose f net r x y x' y'
 unfolding mask_boxes
 masks_told o tiles f net r k named x y x' y' c m = elim m [
   | inl p ↦ told_on o tiles f net r false x y x' y' k named c (true_is _ p.0) (true_is _ p.1)
   | inr p ↦ told_on o tiles f net r true x y x' y' k named c (true_is _ p.0) (true_is _ p.1)
 ]
 
-one_mask : (o : Options) (tiles : List Corners) (f : Fragments) (net : Net) (r : PlainReport) (on_b : Bool) (x y x' y' : ℤ) → IsKnown o tiles f net r → IsOnFragment f.rects r.head.colours on_b x y → IsOnFragment f.rects r.head.colours on_b x' y' → AreOnOneMask r x y x' y'
+one_mask : (o : PlainOptions) (tiles : List Corners) (f : Fragments) (net : Net) (r : PlainReport) (on_b : Bool) (x y x' y' : ℤ) → IsKnown o tiles f net r → IsOnFragment f.rects r.head.colours on_b x y → IsOnFragment f.rects r.head.colours on_b x' y' → AreOnOneMask r x y x' y'
 unfolding mask_boxes
 one_mask o tiles f net r false x y x' y' k g h = inl (is_true _ (fragment_is_on o tiles f net r false x y k g), is_true _ (fragment_is_on o tiles f net r false x' y' k h))
 one_mask o tiles f net r true x y x' y' k g h = inr (is_true _ (fragment_is_on o tiles f net r true x y k g), is_true _ (fragment_is_on o tiles f net r true x' y' k h))
 
-line_tells : (o : Options) (tiles : List Corners) (f : Fragments) (net : Net) (r : PlainReport) (b : Broken) → IsKnown o tiles f net r → NamesBroken net.graph r.head.colours Clash b → TellsClose (layer_of tiles) (2 * o.space) f r b
+line_tells : (o : PlainOptions) (tiles : List Corners) (f : Fragments) (net : Net) (r : PlainReport) (b : Broken) → IsKnown o tiles f net r → NamesBroken net.graph r.head.colours Clash b → TellsClose (layer_of tiles) (2 * o.space) f r b
 line_tells o tiles f net r b k names =
     let e = edge_at net.graph b.edge in
     let w = names.edge.within in
@@ -413,7 +413,7 @@ clash_numbers r v = fit_rises ClashFits (λ (b : Broken). b.edge) (λ s b h. h.0
 cut_numbers : (r : PlainReport) → IsReport r → AllPairs (λ (y z : PlainZone). y.at.edge < z.at.edge) r.lists.cuts
 cut_numbers r v = fit_rises CutFits (λ (z : PlainZone). z.at.edge) (λ s z h. h.0) 0 r.lists.cuts v.lists.cuts
 
-known_masks : (o : Options) (tiles : List Corners) (f : Fragments) (net : Net) (r : PlainReport) → IsKnown o tiles f net r → AreMasksOf o (layer_of tiles) tiles f net r
+known_masks : (o : PlainOptions) (tiles : List Corners) (f : Fragments) (net : Net) (r : PlainReport) → IsKnown o tiles f net r → AreMasksOf o (layer_of tiles) tiles f net r
 known_masks o tiles f net r k =
     let named = clashes_are_named net.graph r.head.colours r.lists.clashes k.truth.clashes (clash_numbers r k.valid) in
     record {
@@ -433,11 +433,11 @@ wide n l = omega arith
 even : (n : ℕ) → 2 * n % 2 ≡ 0
 even n = omega arith
 
-pub masks_of_layer : (o : Options) (cells : ℤ → ℤ → Bool) (tiles : List Corners) (f : Fragments) (net : Net) (r : PlainReport) → AreNames o.layer o.keep → IsReport r → refusal_of o f net r ≡ None → IsNet f o.weights (2 * o.space) net → AreCutFrom o cells tiles f → AreMasksOf o cells tiles f net r
-masks_of_layer o cells tiles f net r name v good n c =
-    let t = good_is_true o f net r name v good in
+pub masks_of_layer : (o : PlainOptions) (cells : ℤ → ℤ → Bool) (tiles : List Corners) (f : Fragments) (net : Net) (r : PlainReport) → AreOptions o → IsReport r → refusal_of o f net r ≡ None → IsNet f o.weights (2 * o.space) net → AreCutFrom o cells tiles f → AreMasksOf o cells tiles f net r
+masks_of_layer o cells tiles f net r ranges v good n c =
+    let t = good_is_true o f net r ranges v good in
     let a = c.fragments in
-    let w = wide o.overlap o.some_overlap in
+    let w = wide o.overlap ranges.some_overlap in
     let bonds = pairs_agree r.head.colours net.graph.edges n.bonds (map (stitch_tie o.weights.stitch) f.cuts ++ map (clash_tie o.weights) n.links) (n.edges ∙ append_assoc (map bond_tie n.bonds) (map (stitch_tie o.weights.stitch) f.cuts) (map (clash_tie o.weights) n.links)) t.colouring.bonds in
     let k : IsKnown o tiles f net r = record {
       keep = c.keep;

@@ -9,7 +9,7 @@ use Rattle.std.proofs.lemmas.List.{take_at, length-replicate}
 use Rattle.dpl_lex.specs.Name.{is_name}
 use Rattle.dpl_form.proofs.Formats.{IsItem}
 use Rattle.dpl_report.specs.ReportLines.{letter, layer_line, keep_line, version_line, masks_line}
-use Rattle.dpl_report.specs.Valid.{IsLayer}
+use Rattle.dpl_options.specs.Options.{IsSplitLayer}
 use Rattle.dpl_report.specs.Reading.{if_written, between, layer_from, item_layer, item_keep, item_version, colours_from, of_length, item_masks, item_line}
 use Rattle.dpl_report.proofs.ItemLemmas.{bind_some, if_written_some, if_written_same}
 
@@ -25,16 +25,16 @@ between-masks colours = between_seam (map letter colours) (codes ");\n") (length
 between-keep : (name : List ℕ) → between 6 (keep_line name) ≡ name
 between-keep name = between_seam name (codes ");\n") (length (keep_line name) - 9) (omega (arith, length-append name (codes ");\n")))
 
-layer_fits : (name found : List ℕ) → layer_from name ≡ Some found → IsLayer found
+layer_fits : (name found : List ℕ) → layer_from name ≡ Some found → IsSplitLayer found
 layer_fits name found e =
     let c = cond_some (is_name name && nat_le (length name) 31) name found e in
     let d = and_parts (is_name name) (nat_le (length name) 31) c.0 in
     rw (← c.1) (d.0, leb-true (length name) 31 d.1)
 
-layer_again : (name : List ℕ) → IsLayer name → layer_from name ≡ Some name
+layer_again : (name : List ℕ) → IsSplitLayer name → layer_from name ≡ Some name
 layer_again name f = rw (f.0, le-leb (length name) 31 f.1) refl
 
-pub layer_item : IsItem item_layer layer_line IsLayer
+pub layer_item : IsItem item_layer layer_line IsSplitLayer
 layer_item = record {
   some = codes "M";
   some_fits = (refl, omega arith);
@@ -45,7 +45,7 @@ layer_item = record {
   again = λ x f. rw (between-layer x, layer_again x f) (if_written_same layer_line x);
 }
 
-pub keep_item : IsItem item_keep keep_line IsLayer
+pub keep_item : IsItem item_keep keep_line IsSplitLayer
 keep_item = record {
   some = codes "K";
   some_fits = (refl, omega arith);
@@ -66,8 +66,11 @@ pub version_item : IsItem item_version version_line (λ _. Unit {0})
 version_item = record {
   some = true;
   some_fits = tt;
-  takes = λ l x e. (tt, version_by (bytes_eq (version_line false) l) (bytes_eq (version_line true) l) l x
-  (λ t. sym ((bytes_eq-Decides (version_line true) l).0 t)) (λ t. sym ((bytes_eq-Decides (version_line false) l).0 t)) e);
+  takes = λ l x e. (
+    tt,
+    version_by (bytes_eq (version_line false) l) (bytes_eq (version_line true) l) l x
+        (λ t. sym ((bytes_eq-Decides (version_line true) l).0 t)) (λ t. sym ((bytes_eq-Decides (version_line false) l).0 t)) e,
+  );
   again = λ x f. version_again x;
 } where
   version_again : (x : Bool) → item_version (version_line x) ≡ Some x

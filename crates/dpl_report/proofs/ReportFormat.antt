@@ -20,7 +20,8 @@ use Rattle.dpl_report.specs.declared.params.Counts.{Counts}
 use Rattle.dpl_report.specs.Plain.{PlainZone, PlainHead, PlainLists, PlainReport}
 use Rattle.dpl_report.specs.ReportLines as lines
 use Rattle.dpl_report.specs.ReportLines.{count_line, layer_line, cut_line, clash_line, aside_line, cycle_line, more_lines, counts_lines, head_lines, lists_lines, drawing_lines, report_lines}
-use Rattle.dpl_report.specs.Valid.{IsCount, IsLayer, AreMore, IsCounts, IsHead, IsCycle, IsLists, IsReport, CutFits, ClashFits, AsideFits}
+use Rattle.dpl_report.specs.Valid.{IsCount, AreMore, IsCounts, IsHead, IsCycle, IsLists, IsReport, CutFits, ClashFits, AsideFits}
+use Rattle.dpl_options.specs.Options.{IsSplitLayer}
 use Rattle.dpl_report.specs.Reading.{count, exactly, read_layer, read_masks, item_cut, item_clash, item_aside, item_cycle, item_box, item_keep, read_version, read_keep, values_of, read_values, nothing_more, more_of, read_corner, read_more, counts_of, read_counts, head_of, read_head, read_cuts, read_clashes, read_aside, read_cycles, lists_of, read_lists, read_boxes, read_mask, read_last, read_drawing, report_of, read_report}
 use Rattle.dpl_report.proofs.ItemLemmas.{count_item, cut_items, clash_items, aside_items, cycle_item, box_item, items_of_item}
 use Rattle.dpl_report.proofs.NameItems.{layer_item, keep_item, version_item, masks_item, line_item}
@@ -35,7 +36,7 @@ line_format : (line : List ℕ) → IsFormat (exactly line) (λ _. line ∷ []) 
 unfolding exactly
 line_format line = one_format (line_item line)
 
-layer_format : IsFormat read_layer (λ name. layer_line name ∷ []) IsLayer Anywhere
+layer_format : IsFormat read_layer (λ name. layer_line name ∷ []) IsSplitLayer Anywhere
 unfolding read_layer
 layer_format = one_format layer_item
 
@@ -54,7 +55,7 @@ abbrev values_lines : Values → List (List ℕ)
 values_lines v = layer_line v.layer ∷ count_line (codes "space") v.space ∷ count_line (codes "overlap") v.overlap ∷ count_line (codes "stitch") v.stitch ∷ count_line (codes "conflict") v.conflict ∷ []
 
 record AreValues (v : Values) : Type 0 where
-  layer : IsLayer v.layer
+  layer : IsSplitLayer v.layer
   space : IsCount v.space
   overlap : IsCount v.overlap
   stitch : IsCount v.stitch
@@ -87,7 +88,7 @@ counts_format =
 
 -- ---- the corner weight and the keep layer
 
-keep_format : IsFormat read_keep (optional_line lines.keep_line) (λ o. IfSome o IsLayer) (EndsOption item_keep)
+keep_format : IsFormat read_keep (optional_line lines.keep_line) (λ o. IfSome o IsSplitLayer) (EndsOption item_keep)
 unfolding read_keep
 keep_format = optional_format keep_item
 
@@ -120,7 +121,7 @@ unfolding or_zero
 corner_same None e = absurd (cc)
 corner_same (Some n) e = refl
 
-corner_fits : (c : Option ℕ) (k : Option (List ℕ)) → is_some c ≡ true → AreMore c k → IsCount (or_zero c) × IfSome k IsLayer
+corner_fits : (c : Option ℕ) (k : Option (List ℕ)) → is_some c ≡ true → AreMore c k → IsCount (or_zero c) × IfSome k IsSplitLayer
 unfolding or_zero
 corner_fits None k e m = absurd (cc)
 corner_fits (Some n) k e m = m

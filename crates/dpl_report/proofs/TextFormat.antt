@@ -15,7 +15,8 @@ use Rattle.dpl_form.proofs.TextLemmas.{IsLine, text_of-lines_in, lines_in-text_o
 use Rattle.dpl_form.proofs.Formats.{Anywhere, whole_found, whole_again, whole_stops}
 use Rattle.dpl_report.specs.Plain.{PlainHead, PlainLists, PlainReport}
 use Rattle.dpl_report.specs.ReportLines.{letter, count_line, layer_line, keep_line, version_line, more_lines, masks_line, mask_line, broken_numbers, zone_numbers, cycle_numbers, cut_line, clash_line, aside_line, cycle_line, head_lines, lists_lines, drawing_lines, report_lines, report_text, last_lines}
-use Rattle.dpl_report.specs.Valid.{IsCount, IsLayer, AreMore, IsHead, IsCycle, IsLists, IsReport, CutFits, ClashFits, AsideFits}
+use Rattle.dpl_report.specs.Valid.{IsCount, AreMore, IsHead, IsCycle, IsLists, IsReport, CutFits, ClashFits, AsideFits}
+use Rattle.dpl_options.specs.Options.{IsSplitLayer}
 use Rattle.dpl_report.specs.Reading.{read_report}
 use Rattle.dpl_report.proofs.LineLemmas.{is_no_end, is_line-append, is_line-bracketed, is_line-box}
 use Rattle.dpl_report.proofs.ItemLemmas.{near, zone_near, cycle_near, box_near}
@@ -41,13 +42,13 @@ count_is_line word n h l = is_line-bracketed word (pos n ∷ []) h (l, tt)
 name_byte_is_no_end : (b : ℕ) → is_name_byte b ≡ true → is_no_end b ≡ true
 name_byte_is_no_end b h = grind (arith, nat_tests)
 
-name_has_no_end : (name : List ℕ) → IsLayer name → list_all is_no_end name ≡ true
+name_has_no_end : (name : List ℕ) → IsSplitLayer name → list_all is_no_end name ≡ true
 name_has_no_end name f = list_all-weaker is_name_byte is_no_end name_byte_is_no_end name (name_bytes name f.0)
 
-layer_is_line : (name : List ℕ) → IsLayer name → IsLine (layer_line name)
+layer_is_line : (name : List ℕ) → IsSplitLayer name → IsLine (layer_line name)
 layer_is_line name f = is_line-append name (codes ");\n") (name_has_no_end name f)
 
-mask_is_line : (name : List ℕ) (mask : ℕ) → IsLayer name → is_line (mask ∷ codes ";\n") ≡ true → IsLine (mask_line name mask)
+mask_is_line : (name : List ℕ) (mask : ℕ) → IsSplitLayer name → is_line (mask ∷ codes ";\n") ≡ true → IsLine (mask_line name mask)
 mask_is_line name mask f m = is_line-append name (mask ∷ codes ";\n") (name_has_no_end name f) ∙ m
 
 letters_have_no_end : (colours : List Bool) → list_all is_no_end (map letter colours) ≡ true
@@ -62,7 +63,7 @@ version_is_line : (second : Bool) → IsLine (version_line second)
 version_is_line true = refl
 version_is_line false = refl
 
-keep_is_line : (name : List ℕ) → IsLayer name → IsLine (keep_line name)
+keep_is_line : (name : List ℕ) → IsSplitLayer name → IsLine (keep_line name)
 keep_is_line name f = is_line-append name (codes ");\n") (name_has_no_end name f)
 
 more_are_lines : (c : Option ℕ) (k : Option (List ℕ)) → AreMore c k → AllByRecursion IsLine (more_lines c k)
@@ -124,7 +125,7 @@ lists_are_lines l f =
 boxes_are_lines : (boxes : List Corners) → AllByRecursion IsRectangle boxes → AllByRecursion IsLine (map box_line boxes)
 boxes_are_lines boxes f = are-map IsRectangle box_line (λ b r. is_line-box b (box_near b r)) boxes f
 
-drawing_are_lines : (name : List ℕ) (on_a on_b : List Corners) → IsLayer name → AllByRecursion IsRectangle on_a → AllByRecursion IsRectangle on_b → AllByRecursion IsLine (drawing_lines name on_a on_b)
+drawing_are_lines : (name : List ℕ) (on_a on_b : List Corners) → IsSplitLayer name → AllByRecursion IsRectangle on_a → AllByRecursion IsRectangle on_b → AllByRecursion IsLine (drawing_lines name on_a on_b)
 drawing_are_lines name on_a on_b f a b = (
   refl,
   (

@@ -21,13 +21,13 @@ use Rattle.dpl_sign.specs.Packings.{load, IsWithin, passages, bound_of}
 use Rattle.dpl_sign.specs.Excess.{aside_edges}
 use Rattle.dpl_sign.proofs.Loads.{load_push, at_same, at_other}
 use Rattle.dpl_cuts.specs.declared.types.Fragments.{Fragments}
-use Rattle.dpl_report.specs.declared.options.Options.{Options}
+use Rattle.dpl_options.specs.Options.{PlainOptions, name_or_nothing, AreOptions, IsSplitLayer}
 use Rattle.dpl_report.specs.declared.params.Params.{Params}
 use Rattle.dpl_report.specs.declared.params.Counts.{Counts}
 use Rattle.dpl_report.specs.declared.refusals.Miss.{Miss}
 use Rattle.dpl_report.specs.declared.refusals.Refusal.{Refusal}
 use Rattle.dpl_report.specs.Plain.{PlainReport}
-use Rattle.dpl_report.specs.Misses.{miss, number_miss, name_miss, name_or_nothing, pair_miss, numbers_miss}
+use Rattle.dpl_report.specs.Misses.{miss, number_miss, name_miss, pair_miss, numbers_miss}
 use Rattle.dpl_report.specs.Conditions.{params_miss, AreAsked, corner_weight, counts_miss, bond_miss, bonds_miss, aside_miss, walks_miss, load_of, loads_miss, boxes_miss, drawing_miss, corner_numbers, cuts_from, clashes_from, cut_lines_miss, clash_lines_miss, cost_miss, broken_miss, packing_miss}
 use Rattle.dpl_report.specs.MaskRects.{mask_of}
 use Rattle.dpl_report.specs.Verdicts.{refused, refusal_of, rects_of, counts_of_net, rects_refusal, packing_refusal, walks_refusal, aside_refusal, broken_refusal, bonds_refusal, counts_refusal}
@@ -91,7 +91,7 @@ keep_none place (Some a) None m n e =
     absurd (cc)
 keep_none place (Some a) (Some b) m n e = ap Some (layer_none place a b m n e)
 
-pub params_true : (p : Params) (o : Options) → AreNames p.layer p.keep → AreNames o.layer o.keep → params_miss p o ≡ None → AreAsked p o
+pub params_true : (p : Params) (o : PlainOptions) → AreNames p.layer p.keep → AreNames o.layer o.keep → params_miss p o ≡ None → AreAsked p o
 params_true p o m n e =
     let a = or_none (name_miss 2 p.layer o.layer) _ e in
     let b = or_none (number_miss 3 p.space o.space) _ a.1 in
@@ -218,8 +218,16 @@ drawing_true on_a on_b on_c on_d n =
 pub halves_some : (cs : List Cycle) → AllByRecursion IsCycle cs → All (λ (c : Cycle). 1 ≤ c.half) cs
 halves_some cs h = All-weaker IsCycle (λ (c : Cycle). 1 ≤ c.half) (λ c i. i.some) cs (All-from_recursion IsCycle cs h)
 
-pub good_is_true : (o : Options) (f : Fragments) (net : Net) (r : PlainReport) → AreNames o.layer o.keep → IsReport r → refusal_of o f net r ≡ None → SaysTrue o f net r
-good_is_true o f net r name v n =
+kept_name : (k : Option (List ℕ)) → IfSome k IsSplitLayer → IfSome k (λ n. is_name n ≡ true)
+kept_name None h = tt
+kept_name (Some n) h = h.0
+
+-- the names of options are names
+option_names : (o : PlainOptions) → AreOptions o → AreNames o.layer o.keep
+option_names o a = record { layer_is = a.layer.0; keep_is = kept_name o.keep a.keep }
+
+pub good_is_true : (o : PlainOptions) (f : Fragments) (net : Net) (r : PlainReport) → AreOptions o → IsReport r → refusal_of o f net r ≡ None → SaysTrue o f net r
+good_is_true o f net r ranges v n =
     let g = net.graph in
     let c2 = either_none (refused 2 (params_miss r.head.params o)) (counts_refusal f net r) n in
     let c3 = either_none (refused 3 (counts_miss r.head.counts (counts_of_net net))) (bonds_refusal f net r) c2.1 in
@@ -228,7 +236,7 @@ good_is_true o f net r name v n =
     let c6 = either_none (refused 6 (aside_miss r.lists.aside (aside_edges net))) (walks_refusal f net r) c5.1 in
     let c7 = either_none (refused 7 (walks_miss g 0 r.lists.cycles)) (packing_refusal f net r) c6.1 in
     let c8 = either_none (refused 8 (packing_miss g r.head.bound r.lists.cycles)) (rects_refusal f r) c7.1 in
-    let params = params_true r.head.params o (params_names r.head.params v.head.params) name (not_refused 2 _ c2.0) in
+    let params = params_true r.head.params o (params_names r.head.params v.head.params) (option_names o ranges) (not_refused 2 _ c2.0) in
     let counts = counts_true r.head.counts (counts_of_net net) (not_refused 3 _ c3.0) in
     let bonds = bonds_true r.head.colours 0 g.edges (not_refused 4 _ c4.0) in
     let broken = or_none (cut_lines_miss r.lists.cuts (cuts_from r.head.colours 0 g.edges f.cuts)) _ (not_refused 5 (broken_miss f net r) c5.0) in

@@ -1,5 +1,5 @@
 -- A report that says the truth of a net within the limits has a text.
-use Rattle.std.proofs.Common.{arith, ◌≡◌, ◌≤◌, ◌<◌, ◌^◌, ℕ, ◌+◌, inl, inr, zero, suc, Bool, true, false, List, [], ◌∷◌, ◌++◌, length, map, refl, sym, ◌∙◌, All, get_or, Option, None, Some, IfSome}
+use Rattle.std.proofs.Common.{arith, ◌≡◌, ◌≤◌, ◌<◌, ◌^◌, ℕ, ◌+◌, inl, inr, zero, suc, Bool, true, false, List, [], ◌∷◌, ◌++◌, length, map, refl, sym, subst, ◌∙◌, All, get_or, Option, None, Some, IfSome}
 use Rattle.std.specs.Prelude.{if◌then◌else◌}
 use Rattle.std.specs.List.{AllByRecursion}
 use Rattle.std.proofs.lemmas.List.Elements.{All-head, All-tail, All-get_or}
@@ -28,11 +28,10 @@ use Rattle.dpl_form.specs.Readers.{FitFrom}
 use Rattle.dpl_cuts.specs.declared.types.Cut.{Cut}
 use Rattle.dpl_cuts.specs.declared.types.Fragments.{Fragments}
 use Rattle.dpl_report.specs.declared.marks.Broken.{Broken}
-use Rattle.dpl_report.specs.declared.options.Options.{Options}
+use Rattle.dpl_options.specs.Options.{PlainOptions, IsSplitLayer, AreOptions}
 use Rattle.dpl_report.specs.declared.params.Params.{Params}
-use Rattle.dpl_report.specs.Misses.{name_or_nothing}
 use Rattle.dpl_report.specs.Plain.{PlainZone, PlainReport}
-use Rattle.dpl_report.specs.Valid.{IsNumber, AreNames, IsLayer, AreMore, IsParams, IsCounts, IsZone, IsCycle, IsReport, CutFits, ClashFits, AsideFits}
+use Rattle.dpl_report.specs.Valid.{IsNumber, AreMore, IsParams, IsCounts, IsZone, IsCycle, IsReport, CutFits, ClashFits, AsideFits}
 use Rattle.dpl_report.specs.Conditions.{params_of_options, AreAsked, corner_weight, is_stitch, is_broken_stitch, is_broken_clash, where_zone, where_broken, cuts_after, cuts_from, clashes_from}
 use Rattle.dpl_report.specs.Verdicts.{counts_of_net}
 use Rattle.dpl_report.specs.Truths.{SaysTrue}
@@ -169,28 +168,24 @@ weight_small colours edge = by_test (breaks colours edge) where
 cost_small : (g : Signed) (colours : List Bool) → length g.edges ≤ 400000 → cost_of g colours ≤ 400000000000
 cost_small g colours l = omega (arith, sum_by-le (broken_weight colours) 1000000 g.edges (λ k d m. weight_small colours (get_or g.edges k d)), l)
 
-keep_fits : (a b : Option (List ℕ)) → a ≡ b → IfSome b (λ n. is_name n ≡ true) → length (name_or_nothing b) ≤ 31 → IfSome a IsLayer
-keep_fits a None e n s = rw e tt
-keep_fits a (Some b) e n s = rw e (n, s)
-
-more_fits : (c : Option ℕ) (k : Option (List ℕ)) (conflict corner : ℕ) → corner_weight c conflict ≡ corner → corner ≤ 1000000 → IfSome k IsLayer → (c ≡ None → k ≡ None) → AreMore c k
+more_fits : (c : Option ℕ) (k : Option (List ℕ)) (conflict corner : ℕ) → corner_weight c conflict ≡ corner → corner ≤ 1000000 → IfSome k IsSplitLayer → (c ≡ None → k ≡ None) → AreMore c k
 more_fits None k conflict corner e m f h = h refl
 more_fits (Some n) k conflict corner e m f h = (omega (arith, e, m), f)
 
-asked_fit : (p : Params) (o : Options) → AreAsked p o → AreNames o.layer o.keep → (p.corner ≡ None → p.keep ≡ None) → IsParams p
+asked_fit : (p : Params) (o : PlainOptions) → AreAsked p o → AreOptions o → (p.corner ≡ None → p.keep ≡ None) → IsParams p
 asked_fit p o a n h = record {
-  layer = rw a.layer (n.layer_is, o.short_layer);
-  space = omega (arith, a.space, o.most_space);
-  overlap = omega (arith, a.overlap, o.most_overlap);
-  stitch = omega (arith, a.stitch, o.weights.most_stitch);
-  conflict = omega (arith, a.conflict, o.weights.most_conflict);
-  more = more_fits p.corner p.keep p.conflict o.weights.corner a.corner (omega (arith, o.weights.most_corner)) (keep_fits p.keep o.keep a.keep n.keep_is o.short_keep) h;
+  layer = rw a.layer n.layer;
+  space = omega (arith, a.space, n.most_space);
+  overlap = omega (arith, a.overlap, n.most_overlap);
+  stitch = omega (arith, a.stitch, n.weights.most_stitch);
+  conflict = omega (arith, a.conflict, n.weights.most_conflict);
+  more = more_fits p.corner p.keep p.conflict o.weights.corner a.corner n.weights.most_corner (subst (λ k. IfSome k IsSplitLayer) (sym a.keep) n.keep) h;
 }
 
-pub params_asked : (o : Options) → AreAsked (params_of_options o) o
+pub params_asked : (o : PlainOptions) → AreAsked (params_of_options o) o
 params_asked o = record { layer = refl; space = refl; overlap = refl; stitch = refl; conflict = refl; corner = refl; keep = refl }
 
-pub params_fit : (o : Options) → AreNames o.layer o.keep → IsParams (params_of_options o)
+pub params_fit : (o : PlainOptions) → AreOptions o → IsParams (params_of_options o)
 params_fit o n = asked_fit (params_of_options o) o (params_asked o) n (λ e. absurd (cc))
 
 counts_fit : (net : Net) → net.piece_count ≤ 1000000000000 → length net.graph.edges ≤ 400000 → IsCounts (counts_of_net net)
@@ -203,7 +198,7 @@ counts_fit net p l = record {
   excess = omega (arith, name_count_le (component_of net.graph all_edges) net.graph.nodes, count_on_le all_edges (length net.graph.edges), net.graph.few_nodes, l);
 }
 
-pub true_is_valid : (o : Options) (f : Fragments) (net : Net) (r : PlainReport) → SaysTrue o f net r → AreNames o.layer o.keep → (r.head.params.corner ≡ None → r.head.params.keep ≡ None) → net.piece_count ≤ 1000000000000 → length net.graph.edges ≤ 400000 → IsReport r
+pub true_is_valid : (o : PlainOptions) (f : Fragments) (net : Net) (r : PlainReport) → SaysTrue o f net r → AreOptions o → (r.head.params.corner ≡ None → r.head.params.keep ≡ None) → net.piece_count ≤ 1000000000000 → length net.graph.edges ≤ 400000 → IsReport r
 true_is_valid o f net r t n h p l =
     let g = net.graph in
     let small = cost_small g r.head.colours l in

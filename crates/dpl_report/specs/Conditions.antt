@@ -17,9 +17,9 @@ use Rattle.dpl_report.specs.declared.params.Counts.{Counts}
 use Rattle.dpl_report.specs.Plain.{PlainZone, PlainReport}
 use Rattle.dpl_cuts.specs.declared.types.Cut.{Cut}
 use Rattle.dpl_cuts.specs.declared.types.Fragments.{Fragments}
-use Rattle.dpl_report.specs.declared.options.Options.{Options}
+use Rattle.dpl_options.specs.Options.{PlainOptions, name_or_nothing}
 use Rattle.dpl_report.specs.declared.refusals.Miss.{Miss}
-use Rattle.dpl_report.specs.Misses.{miss, number_miss, name_miss, name_or_nothing, numbers_miss}
+use Rattle.dpl_report.specs.Misses.{miss, number_miss, name_miss, numbers_miss}
 
 -- ---- 2: lines 2 to 6, and 16 and 17 where they are there, are the options' values
 
@@ -29,11 +29,11 @@ corner_weight None conflict = conflict
 corner_weight (Some corner) conflict = corner
 
 -- the corner weight and the keep layer
-abbrev pub more_miss : Params → Options → Option Miss
+abbrev pub more_miss : Params → PlainOptions → Option Miss
 more_miss p o = or_else (number_miss 16 (corner_weight p.corner p.conflict) o.weights.corner)
     (name_miss 17 (name_or_nothing p.keep) (name_or_nothing o.keep))
 
-abbrev pub params_miss : Params → Options → Option Miss
+abbrev pub params_miss : Params → PlainOptions → Option Miss
 params_miss p o =
     or_else (name_miss 2 p.layer o.layer) (or_else (number_miss 3 p.space o.space)
     (or_else (number_miss 4 p.overlap o.overlap)
@@ -41,7 +41,7 @@ params_miss p o =
     (or_else (number_miss 6 p.conflict o.weights.conflict) (more_miss p o)))))
 
 -- The values are those that the options ask for.
-pub record AreAsked (p : Params) (o : Options) : Type 0 where
+pub record AreAsked (p : Params) (o : PlainOptions) : Type 0 where
   pub layer : p.layer ≡ o.layer
   pub space : p.space ≡ o.space
   pub overlap : p.overlap ≡ o.overlap
@@ -51,7 +51,7 @@ pub record AreAsked (p : Params) (o : Options) : Type 0 where
   pub keep : p.keep ≡ o.keep
 
 -- the values that a new report has
-abbrev pub params_of_options : Options → Params
+abbrev pub params_of_options : PlainOptions → Params
 params_of_options o = record {
   layer = o.layer;
   space = o.space;

@@ -9,7 +9,7 @@ use Rattle.dpl_sign.specs.Colourings.{colour_of, cost_of}
 use Rattle.dpl_sign.specs.Packings.{IsWithin, passages, bound_of}
 use Rattle.dpl_sign.specs.Excess.{is_aside}
 use Rattle.dpl_cuts.specs.declared.types.Fragments.{Fragments}
-use Rattle.dpl_report.specs.declared.options.Options.{Options}
+use Rattle.dpl_options.specs.Options.{PlainOptions}
 use Rattle.dpl_report.specs.Plain.{PlainZone, PlainReport}
 use Rattle.dpl_report.specs.ReportLines.{report_text}
 use Rattle.dpl_report.specs.Valid.{IsReport}
@@ -28,7 +28,7 @@ pub record NameAllAside (net : Net) (lines : List ℕ) : Type 0 where
   pub all : (e : ℕ) → e < length net.graph.edges → is_aside net e ≡ true → Contains lines e
   pub ordered : AllPairs (λ d e. d < e) lines
 
-pub record AreNineFacts (o : Options) (f : Fragments) (net : Net) (text : List ℕ)
+pub record AreNineFacts (o : PlainOptions) (f : Fragments) (net : Net) (text : List ℕ)
     (r : PlainReport) : Type 0 where
   -- 1: the text is the text of a report
   pub valid : IsReport r

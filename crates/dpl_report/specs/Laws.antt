@@ -11,7 +11,7 @@ use Rattle.dpl_sign.specs.Colourings.{colour_of, cost_of}
 use Rattle.dpl_sign.specs.Packings.{IsWithin, passages, bound_of}
 use Rattle.dpl_boxes.specs.Drawings.{DrawsMasks}
 use Rattle.dpl_report.specs.declared.marks.Broken.{Broken}
-use Rattle.dpl_report.specs.declared.options.Options.{Options}
+use Rattle.dpl_options.specs.Options.{PlainOptions}
 use Rattle.dpl_report.specs.declared.params.Params.{Params}
 use Rattle.dpl_report.specs.declared.params.Counts.{Counts}
 use Rattle.dpl_report.specs.declared.reports.Report.{Report}
@@ -36,7 +36,7 @@ PlainIsExact = (r s : Report) → plain_report r ≡ plain_report s → r ≡ s
 -- ---- each condition fails nowhere exactly where its fact holds
 
 abbrev pub OptionsAreTold : Type 0
-OptionsAreTold = (p : Params) (o : Options) → AreNames p.layer p.keep → AreNames o.layer o.keep →
+OptionsAreTold = (p : Params) (o : PlainOptions) → AreNames p.layer p.keep → AreNames o.layer o.keep →
     (params_miss p o ≡ None) ↔ AreAsked p o
 
 abbrev pub CountsAreTold : Type 0

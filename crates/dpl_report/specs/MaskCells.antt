@@ -18,13 +18,13 @@ use Rattle.dpl_links.specs.Links.{piece_of}
 use Rattle.dpl_links.specs.Spacing.{AreTooClose}
 use Rattle.dpl_boxes.specs.Drawings.{is_in_boxes, DrawsMasks}
 use Rattle.dpl_report.specs.declared.marks.Broken.{Broken}
-use Rattle.dpl_report.specs.declared.options.Options.{Options}
+use Rattle.dpl_options.specs.Options.{PlainOptions}
 use Rattle.dpl_report.specs.Plain.{PlainZone, PlainReport}
 use Rattle.dpl_report.specs.ReportLines.{report_text}
 
 -- Tiles that share out these cells, their shapes, rectangles that are kept whole, and the fragments at the lengths of the options. A hundredth of a
 -- micron is two grid units.
-pub record AreCutFrom (o : Options) (cells : ℤ → ℤ → Bool) (tiles : List Corners)
+pub record AreCutFrom (o : PlainOptions) (cells : ℤ → ℤ → Bool) (tiles : List Corners)
     (f : Fragments) : Type 0 where
   pub keep : List Corners
   pub label : List ℕ
@@ -112,7 +112,7 @@ pub record TellsClose (cells : ℤ → ℤ → Bool) (space : ℕ) (f : Fragment
 
 -- What the masks of a report are of the cells of a layer, of its fragments and of their net. The text of the report,
 -- read again as CIF, breaks no rule, and its two layers have exactly the boxes and the cells of the two masks.
-pub record AreMasksOf (o : Options) (cells : ℤ → ℤ → Bool) (tiles : List Corners) (f : Fragments)
+pub record AreMasksOf (o : PlainOptions) (cells : ℤ → ℤ → Bool) (tiles : List Corners) (f : Fragments)
     (net : Net)
     (r : PlainReport) : Type 0 where
   pub together : HoldTogether cells r

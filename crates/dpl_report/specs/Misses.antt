@@ -23,11 +23,6 @@ name_miss place (a ∷ others) [] = pair_miss place (pos a) (pos 256)
 name_miss place (a ∷ others) (b ∷ bs) =
     or_else (pair_miss place (pos a) (pos b)) (name_miss place others bs)
 
--- the name of a layer, the empty one where there is none
-abbrev pub name_or_nothing : Option (List ℕ) → List ℕ
-name_or_nothing None = []
-name_or_nothing (Some name) = name
-
 -- the first numbers that differ
 abbrev pub numbers_miss : ℕ → List ℤ → List ℤ → Option Miss
 numbers_miss place [] ys = None

@@ -6,14 +6,14 @@ use Rattle.dpl_sign.specs.Colourings.{IsColouring, cost_of}
 use Rattle.dpl_sign.specs.Packings.{IsPacking, bound_of}
 use Rattle.dpl_sign.specs.Excess.{aside_edges}
 use Rattle.dpl_cuts.specs.declared.types.Fragments.{Fragments}
-use Rattle.dpl_report.specs.declared.options.Options.{Options}
+use Rattle.dpl_options.specs.Options.{PlainOptions}
 use Rattle.dpl_report.specs.Plain.{PlainReport}
 use Rattle.dpl_report.specs.MaskRects.{mask_of}
 use Rattle.dpl_report.specs.Conditions.{AreAsked, cuts_from, clashes_from}
 use Rattle.dpl_report.specs.Verdicts.{counts_of_net}
 
 -- the report of the net of some fragments says what its colouring breaks and costs, and what its packing bounds
-pub record SaysTrue (o : Options) (f : Fragments) (net : Net) (r : PlainReport) : Type 0 where
+pub record SaysTrue (o : PlainOptions) (f : Fragments) (net : Net) (r : PlainReport) : Type 0 where
   pub params : AreAsked r.head.params o
   pub counts : r.head.counts ≡ counts_of_net net
   pub colouring : IsColouring net.graph r.head.colours

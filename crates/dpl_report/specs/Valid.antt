@@ -4,6 +4,7 @@ use Rattle.std.specs.List.{AllByRecursion}
 use Rattle.dpl_cell.specs.Ranges.{IsRectangle}
 use Rattle.dpl_lex.specs.Name.{is_name}
 use Rattle.dpl_sign.specs.declared.walks.Cycle.{Cycle}
+use Rattle.dpl_options.specs.Options.{IsSplitLayer}
 use Rattle.dpl_form.specs.Readers.{FitFrom}
 use Rattle.dpl_report.specs.declared.marks.Broken.{Broken}
 use Rattle.dpl_report.specs.declared.params.Params.{Params}
@@ -18,9 +19,6 @@ IsNumber n = n ≤ 4294967295
 abbrev pub IsCount : ℕ → Type 0
 IsCount n = n ≤ 1000000000000
 
-abbrev pub IsLayer : List ℕ → Type 0
-IsLayer name = (is_name name ≡ true) × (length name ≤ 31)
-
 -- a name of a layer, and another where there is one
 pub record AreNames (layer : List ℕ) (keep : Option (List ℕ)) : Type 0 where
   pub layer_is : is_name layer ≡ true
@@ -29,10 +27,10 @@ pub record AreNames (layer : List ℕ) (keep : Option (List ℕ)) : Type 0 where
 -- a keep layer stands behind a corner weight alone
 abbrev pub AreMore : Option ℕ → Option (List ℕ) → Type 0
 AreMore None keep = keep ≡ None
-AreMore (Some corner) keep = IsCount corner × IfSome keep IsLayer
+AreMore (Some corner) keep = IsCount corner × IfSome keep IsSplitLayer
 
 pub record IsParams (p : Params) : Type 0 where
-  pub layer : IsLayer p.layer
+  pub layer : IsSplitLayer p.layer
   pub space : IsCount p.space
   pub overlap : IsCount p.overlap
   pub stitch : IsCount p.stitch

@@ -11,7 +11,7 @@ use Rattle.dpl_report.specs.declared.params.Counts.{Counts}
 use Rattle.dpl_report.specs.Plain.{PlainReport}
 use Rattle.dpl_report.specs.Reading.{read_report}
 use Rattle.dpl_cuts.specs.declared.types.Fragments.{Fragments}
-use Rattle.dpl_report.specs.declared.options.Options.{Options}
+use Rattle.dpl_options.specs.Options.{PlainOptions}
 use Rattle.dpl_report.specs.declared.refusals.Miss.{Miss}
 use Rattle.dpl_report.specs.declared.refusals.Refusal.{Refusal}
 use Rattle.dpl_report.specs.Misses.{miss}
@@ -65,18 +65,18 @@ counts_refusal f net r =
     or_else (refused 3 (counts_miss r.head.counts (counts_of_net net))) (bonds_refusal f net r)
 
 -- conditions 2 to 9 of a report, in order
-abbrev pub refusal_of : Options → Fragments → Net → PlainReport → Option Refusal
+abbrev pub refusal_of : PlainOptions → Fragments → Net → PlainReport → Option Refusal
 refusal_of o f net r = or_else (refused 2 (params_miss r.head.params o)) (counts_refusal f net r)
 
 -- condition 1, and then the others
-abbrev pub refusal_from : Options → Fragments → Net → List ℕ → Result PlainReport ℕ → Option Refusal
+abbrev pub refusal_from : PlainOptions → Fragments → Net → List ℕ → Result PlainReport ℕ → Option Refusal
 refusal_from o f net text (Err left) =
     refused 1 (Some (miss (length (lines_in text) - left + 1) (pos 0) (pos 0)))
 refusal_from o f net text (Ok r) = refusal_of o f net r
 
-abbrev pub refusal : Options → Fragments → Net → List ℕ → Option Refusal
+abbrev pub refusal : PlainOptions → Fragments → Net → List ℕ → Option Refusal
 refusal o f net text = refusal_from o f net text (whole read_report (lines_in text))
 
 -- a good text: none of the nine fails
-abbrev pub IsGood : Options → Fragments → Net → List ℕ → Type 0
+abbrev pub IsGood : PlainOptions → Fragments → Net → List ℕ → Type 0
 IsGood o f net text = refusal o f net text ≡ None

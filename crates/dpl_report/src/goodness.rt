@@ -11,9 +11,9 @@ ghost use Rattle.dpl_report.specs.MaskCells.{AreCutFrom, AreMasksOf};
 ghost use Rattle.dpl_report.specs.Facts.{AreNineFacts};
 ghost use Rattle.dpl_cuts.specs.Fragments.{AreFragments};
 
-use crate::options::{Options, name_bytes};
 use crate::reports::Report;
 use dpl_cuts::types::Fragments;
+use dpl_options::Options;
 use dpl_sign::Net;
 
 /// A report that says the truth is good. It is a fact about the definitions; nothing runs.
@@ -30,8 +30,7 @@ pub fn true_reports_are_valid(options: &Options, fragments: &Fragments, net: &Ne
     requires keep { report.now.params.corner ≡ None → report.now.params.keep ≡ None }
     ensures { IsReport (plain_report report.now) }
 {
-    let _layer = options.layer.bytes();
-    let _keep = name_bytes(&options.keep);
+    options.in_range();
     let _count = u64::from(net.piece_count);
 }
 
@@ -41,8 +40,7 @@ pub fn good_reports_are_true(options: &Options, fragments: &Fragments, net: &Net
     requires good { refusal_of options.now fragments.now net.now (plain_report report.now) ≡ None }
     ensures { SaysTrue options.now fragments.now net.now (plain_report report.now) }
 {
-    let _layer = options.layer.bytes();
-    let _keep = name_bytes(&options.keep);
+    options.in_range();
 }
 
 /// What the masks of a good report are of the cells of its layer.
@@ -54,8 +52,7 @@ pub fn masks_are_of_the_layer(options: &Options, fragments: &Fragments, net: &Ne
         AreCutFrom options.now cells tiles fragments.now →
         AreMasksOf options.now cells tiles fragments.now net.now (plain_report report.now) }
 {
-    let _layer = options.layer.bytes();
-    let _keep = name_bytes(&options.keep);
+    options.in_range();
 }
 
 /// A text is good exactly where the nine facts hold of the report that it is the text of.
@@ -67,8 +64,7 @@ pub fn nine_facts_make_good(options: &Options, fragments: &Fragments, net: &Net)
         IsGood options.now fragments.now net.now text
         ↔ ((r : PlainReport) × AreNineFacts options.now fragments.now net.now text r) }
 {
-    let _layer = options.layer.bytes();
-    let _keep = name_bytes(&options.keep);
+    options.in_range();
     let _net = net;
     let _fragments = fragments;
 }

@@ -21,7 +21,6 @@ mod marks;
 mod masking;
 mod names;
 mod numbers;
-mod options;
 mod params;
 mod parts;
 mod printing;
@@ -43,7 +42,6 @@ pub use goodness::{
 pub use laws::{condition_rules, report_rules};
 pub use marks::{Broken, Zone};
 pub use masking::{colour_at, masks};
-pub use options::{Options, name_bytes};
 pub use params::{Counts, Params};
 pub use printing::print;
 pub use reading::{ReportError, parse};

@@ -43,12 +43,7 @@ fn wrong_line(alloc: Global, text: &[u8]) -> Result<u64, NoMemory> {
 }
 
 /// A report with other text in place of one line.
-fn with_line(
-    alloc: Global,
-    report: &[u8],
-    number: usize,
-    new: &[u8],
-) -> Result<Vec<u8>, NoMemory> {
+fn with_line(alloc: Global, report: &[u8], number: usize, new: &[u8]) -> Result<Vec<u8>, NoMemory> {
     let mut out = Vec::new(alloc);
     let mut rest = report;
     let mut at: usize = 1;

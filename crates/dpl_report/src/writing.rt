@@ -58,11 +58,7 @@ pub fn push_keep(out: &mut Vec<u8>, name: &[u8]) -> Result<(), NoMemory>
 pub fn version_line(second: bool) -> &'static [u8]
     ensures { result.now ≡ the_version_line second }
 {
-    if second {
-        b"(dpl 2);\n"
-    } else {
-        b"(dpl 1);\n"
-    }
+    if second { b"(dpl 2);\n" } else { b"(dpl 1);\n" }
 }
 
 fn letter_of(on_b: bool) -> u8

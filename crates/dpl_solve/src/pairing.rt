@@ -185,7 +185,9 @@ pub fn join_all<L: Ledger>(
         }
         limit = next_limit(limit);
     }
-    match join_within(alloc, map, graph, dual, terminals, FULL_LIMIT, joined, steps)? {
+    match join_within(
+        alloc, map, graph, dual, terminals, FULL_LIMIT, joined, steps,
+    )? {
         Some(family) => Ok(family),
         None => unreachable!(),
     }

@@ -1,7 +1,7 @@
 use Rattle.std.proofs.Common.{arith, sym, ap, ◌∙◌, inl, inr}
 use Rattle.std.specs.Prelude.{slice_index}
 use Rattle.std.proofs.lemmas.Bool.{cases_eq}
-use Rattle.dpl_euler.specs.Crossings.{crosses_fragment}
+use Rattle.dpl_euler.specs.Tests.{crosses_fragment}
 use Rattle.dpl_euler.proofs.crossings.first_fragment.Goals as goal
 
 pub loop-i-preserved : goal.loop-i-preserved

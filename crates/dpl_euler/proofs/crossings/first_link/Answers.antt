@@ -1,7 +1,7 @@
 use Rattle.std.proofs.Common.{arith, rules, ◌≡◌, ◌<◌, sym, ap, ◌∙◌, inl, inr, false}
 use Rattle.std.specs.Prelude.{slice_index}
 use Rattle.std.proofs.lemmas.Bool.{cases_eq}
-use Rattle.dpl_euler.specs.Crossings.{links_cross}
+use Rattle.dpl_euler.specs.Tests.{links_cross}
 use Rattle.dpl_euler.proofs.crossings.first_link.Goals as goal
 use Rattle.dpl_euler.proofs.crossings.first_link.Goals.{then-edge-other+else-do_cross, else-edge-other}
 

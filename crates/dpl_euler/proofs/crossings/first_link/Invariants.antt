@@ -1,6 +1,6 @@
 use Rattle.std.proofs.Common.{◌≡◌, ◌<◌, ℕ, false}
 use Rattle.std.specs.Prelude.{slice_index}
-use Rattle.dpl_euler.specs.Crossings.{links_cross}
+use Rattle.dpl_euler.specs.Tests.{links_cross}
 use Rattle.dpl_euler.proofs.crossings.first_link.Given as goal
 
 abbrev pub invariant-loop-i : goal.invariant-loop-i

@@ -1,7 +1,7 @@
 use Rattle.std.proofs.Common.{◌≡◌, SFits, w64}
 use Rattle.std.proofs.lemmas.Int.{to_z-of_z}
 use Rattle.dpl_euler.specs.Segments.{ends_of}
-use Rattle.dpl_euler.specs.Crossings.{ends_at}
+use Rattle.dpl_euler.specs.Tests.{ends_at}
 use Rattle.dpl_euler.proofs.SegmentLemmas.{coordinate_fits, or_yes, or_no}
 use Rattle.dpl_euler.proofs.links.share_end.Goals as goal
 

@@ -1,0 +1,4 @@
+pub mod ContentLemmas
+pub mod RefusalLemmas
+pub mod ReportLemmas
+pub mod SessionLemmas

@@ -1,0 +1,25 @@
+use Rattle.std.proofs.Common.{map}
+use Rattle.std.proofs.lemmas.List.{length-map}
+use Rattle.dpl_cell.specs.Places.{corners_of}
+use Rattle.dpl_layer.proofs.laying.cut_tiles.Goals as goal
+
+pub shapes-requires-clause-apart : goal.shapes-requires-clause-apart
+shapes-requires-clause-apart c = (c.tiles_share_out.ensures _ c.requires.tiles).apart
+
+pub cut-requires-clause-apart : goal.cut-requires-clause-apart
+cut-requires-clause-apart c = (c.tiles_share_out.ensures _ c.requires.tiles).apart
+
+pub returns-clause-fragments : goal.returns-clause-fragments
+returns-clause-fragments c = (
+  record {
+    tiles = map corners_of c.args.tiles.now;
+    label = c.in_ok-shapes.shapes.label;
+    count = c.in_ok-shapes.shapes.count;
+    keep = map corners_of c.args.keep.now;
+    are_tiles = c.requires.tiles;
+    are_shapes = c.in_ok-shapes.ensures.shapes;
+    are_kept = c.requires.kept;
+    are_fragments = rw (c.space_in_units.ensures.value, c.overlap_in_units.ensures.value) at c.in_ok-fragments.ensures.fragments;
+  },
+  rw (length-map c.args.keep.now corners_of) c.requires.few_kept,
+)

@@ -1,0 +1,61 @@
+// The weights of what is broken.
+ghost use Rattle.std.specs.Prelude.{◌≡◌, ◌≤◌};
+ghost use Rattle.dpl_limits.specs.declared.TheConstants.{MOST_WEIGHT};
+ghost use Rattle.dpl_options.specs.Options.{PlainWeights, AreWeights};
+
+use std::marker::Model;
+
+/// What a broken stitch, a broken conflict between sides and one between corners weigh, each 1 to 1,000,000.
+#[derive(Drop)]
+pub struct Weights {
+    stitch: u64,
+    conflict: u64,
+    corner: u64,
+}
+
+impl Model for Weights {
+    ghost use Rattle.dpl_options.specs.Options.{PlainWeights, AreWeights};
+
+    ghost Value = { PlainWeights };
+
+    ghost view = { λ w. record { stitch = w.stitch; conflict = w.conflict; corner = w.corner } };
+
+    ghost invariant = { λ w. AreWeights (record { stitch = w.stitch; conflict = w.conflict; corner = w.corner }) };
+}
+
+impl Weights {
+    pub fn new(stitch: u64, conflict: u64, corner: u64) -> Weights
+        requires { AreWeights (record { stitch = stitch; conflict = conflict; corner = corner }) }
+        ensures { result ≡ record { stitch = stitch; conflict = conflict; corner = corner } }
+    {
+        Weights {
+            stitch,
+            conflict,
+            corner,
+        }
+    }
+
+    pub fn stitch(&self) -> u64
+        ensures value { result ≡ self.now.stitch }
+        ensures some { 1 ≤ result }
+        ensures most { result ≤ MOST_WEIGHT }
+    {
+        self.stitch
+    }
+
+    pub fn conflict(&self) -> u64
+        ensures value { result ≡ self.now.conflict }
+        ensures some { 1 ≤ result }
+        ensures most { result ≤ MOST_WEIGHT }
+    {
+        self.conflict
+    }
+
+    pub fn corner(&self) -> u64
+        ensures value { result ≡ self.now.corner }
+        ensures some { 1 ≤ result }
+        ensures most { result ≤ MOST_WEIGHT }
+    {
+        self.corner
+    }
+}

@@ -1,0 +1,13 @@
+//! A net as the sum of its components.
+//!
+//! `components` numbers the components of a net. Which edges of a component are kept, and what its faces are, is told by
+//! the component alone (`component_rules`). So a component that stays in another net keeps its optimum: laid over an
+//! optimum of the other net it is one again (`optima_stay`).
+#![tactic(auto)]
+
+mod joining;
+mod laws;
+
+pub use joining::{components, counted_components};
+pub use laws::{component_rules, optima_stay};
+pub use std::alloc::AllocError as NoMemory;
