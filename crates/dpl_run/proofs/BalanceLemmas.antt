@@ -1,6 +1,6 @@
 -- What is due for `balance`: one answer at most, and the end of its work.
 use Rattle.std.proofs.Common.{◌≡◌, ℕ, List, true, refl, ap}
-use Rattle.dpl_report.specs.declared.options.Options.{Options}
+use Rattle.dpl_options.specs.Options.{PlainOptions}
 use Rattle.dpl_core.proofs.RefusalLemmas.{one_split_refusal}
 use Rattle.dpl_words.specs.Commands.{PlainCommand}
 use Rattle.dpl_run.specs.declared.status.Status.{Status}
@@ -11,11 +11,11 @@ use Rattle.dpl_run.specs.Errors.{status_of}
 use Rattle.dpl_run.proofs.EndLemmas.{AllEnd}
 use Rattle.dpl_run.proofs.SplitLemmas.{refused_ends}
 
-pub balance_ends : (c : PlainCommand) → colours c ≡ true → (o : Options) (text : List ℕ) → AllEnd c (IsBalanceDue o text)
+pub balance_ends : (c : PlainCommand) → colours c ≡ true → (o : PlainOptions) (text : List ℕ) → AllEnd c (IsBalanceDue o text)
 balance_ends c colouring o text _ _ (refused e r) = refused_ends c colouring o text e r
 balance_ends c colouring o text _ _ (done output p free) = tt
 
-pub one_balance : (o : Options) (text : List ℕ) (a b : Status) (x y : List ℕ) → IsBalanceDue o text a x → IsBalanceDue o text b y → a ≡ b
+pub one_balance : (o : PlainOptions) (text : List ℕ) (a b : Status) (x y : List ℕ) → IsBalanceDue o text a x → IsBalanceDue o text b y → a ≡ b
 one_balance o text _ _ _ _ (refused e r) (refused f q) = ap status_of (one_split_refusal o text e f r q)
 one_balance o text _ _ _ _ (refused e r) (done output p free) = absurd (free e r)
 one_balance o text _ _ _ _ (done output p free) (refused f q) = absurd (free f q)

@@ -1,8 +1,8 @@
 -- What is due for `check`: one answer at most, and the end of its work.
 use Rattle.std.proofs.Common.{◌≡◌, ℕ, List, [], true, refl, ap, inl}
-use Rattle.dpl_report.specs.declared.options.Options.{Options}
+use Rattle.dpl_options.specs.Options.{PlainOptions}
 use Rattle.dpl_layer.specs.Refusals.{RefusesLayer}
-use Rattle.dpl_layer.proofs.RefusalLemmas.{one_text_refusal}
+use Rattle.dpl_layer.proofs.RefusalLemmas.{layer_kind, never_memory, one_text_refusal}
 use Rattle.dpl_check.specs.declared.verdicts.Verdict.{Verdict}
 use Rattle.dpl_check.specs.declared.verdicts.Verdict.TheVariants.{Yes, No}
 use Rattle.dpl_check.proofs.OnceLemmas.{verdict_not_refused, one_verdict}
@@ -14,10 +14,9 @@ use Rattle.dpl_run.specs.due.Check.{IsCheckDue}
 use Rattle.dpl_run.specs.due.Check.IsCheckDue.{refused, rejected, accepted}
 use Rattle.dpl_run.specs.Errors.{status_of}
 use Rattle.dpl_run.proofs.EndLemmas.{AllEnd, error_ends}
-use Rattle.dpl_run.proofs.LayerLemmas.{layer_limit}
 
-pub check_ends : (c : PlainCommand) → judges c ≡ true → (o : Options) (text report : List ℕ) → AllEnd c (IsCheckDue o text report)
-check_ends c judging o text report _ _ (refused e r) = error_ends c (RefusesLayer o text) (λ n. n) (λ k n p. inl (layer_limit o text k n p)) e r
+pub check_ends : (c : PlainCommand) → judges c ≡ true → (o : PlainOptions) (text report : List ℕ) → AllEnd c (IsCheckDue o text report)
+check_ends c judging o text report _ _ (refused e r) = error_ends c (RefusesLayer o text) (never_memory o text) (λ k n p. inl (layer_kind o text k n p)) e r
 check_ends c judging o text report _ _ (rejected reason place found wanted v) = (judging, refl)
 check_ends c judging o text report _ _ (accepted cost bound v) = tt
 
@@ -25,7 +24,7 @@ abbrev status_of_verdict : Verdict → Status
 status_of_verdict (Yes cost bound) = Done
 status_of_verdict (No reason place found wanted) = Rejected reason place found wanted
 
-pub one_check : (o : Options) (text report : List ℕ) (a b : Status) (x y : List ℕ) → IsCheckDue o text report a x → IsCheckDue o text report b y → a ≡ b
+pub one_check : (o : PlainOptions) (text report : List ℕ) (a b : Status) (x y : List ℕ) → IsCheckDue o text report a x → IsCheckDue o text report b y → a ≡ b
 one_check o text report _ _ _ _ (refused e r) (refused f q) = ap status_of (one_text_refusal o text e f r q)
 one_check o text report _ _ _ _ (refused e r) (rejected reason place found wanted w) = absurd (verdict_not_refused o text report e (No reason place found wanted) r w)
 one_check o text report _ _ _ _ (refused e r) (accepted cost bound w) = absurd (verdict_not_refused o text report e (Yes cost bound) r w)

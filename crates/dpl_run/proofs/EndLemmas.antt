@@ -3,15 +3,11 @@ use Rattle.std.proofs.Common.{◌≡◌, ◌⊎◌, ◌∙◌, ◌≤◌, ℕ, L
 use Rattle.std.specs.Prelude.{Ok}
 use Rattle.dpl_layer.specs.declared.error.LayerError.{LayerError}
 use Rattle.dpl_layer.specs.declared.error.LayerError.TheVariants as refusal
-use Rattle.dpl_report.specs.declared.options.Options.{Options}
-use Rattle.dpl_words.specs.Commands.{PlainOptions, PlainCommand}
-use Rattle.dpl_words.specs.Views.{plain_options}
-use Rattle.dpl_words.proofs.ViewLemmas.{same_options}
+use Rattle.dpl_words.specs.Commands.{PlainCommand}
 use Rattle.dpl_run.specs.declared.status.Status.{Status}
 use Rattle.dpl_run.specs.declared.status.Status.TheVariants.{Done, Rejected, Usage, Layout, Limit, ReadFault, WriteFault, NoMemory}
 use Rattle.dpl_run.specs.Inputs.{judges, colours}
 use Rattle.dpl_run.specs.Answer.{IsLimitOf, IsStatusOf}
-use Rattle.dpl_run.specs.due.{OnOptions}
 use Rattle.dpl_run.specs.Errors.{status_of}
 use Rattle.dpl_run.specs.Telling.{IsBare, IsDueOrFree, IsWorked}
 
@@ -118,18 +114,3 @@ or_memory Due P (refusal.Limit kind count) f (inr h) = f (refusal.Limit kind cou
 pub refused_worked : (Due : Status → List ℕ → Type 0) (P : LayerError → Type 0) (e : LayerError) (s : Status) (x : List ℕ) → ((f : LayerError) → P f → Due (status_of f) []) → (e ≡ refusal.NoMemory) ⊎ P e
     → s ≡ status_of e → x ≡ [] → IsWorked Due s x
 refused_worked Due P e s x f h is none = subst (λ z. IsWorked Due z x) (sym is) (subst (IsWorked Due (status_of e)) (sym none) (or_memory Due P e f h))
-
--- ---- what is due for the options of the words
-
--- a due for each value of the options
-abbrev pub Dues : Type 1
-Dues = Options → Status → List ℕ → Type 0
-
-pub on_options_end : (c : PlainCommand) (plain : PlainOptions) (Due : Dues) → ((o : Options) → AllEnd c (Due o)) → AllEnd c (OnOptions plain Due)
-on_options_end c plain Due all a x p = all p.0 a x p.2
-
-pub on_options_once : (plain : PlainOptions) (Due : Dues) → ((o : Options) (a b : Status) (x y : List ℕ) → Due o a x → Due o b y → a ≡ b)
-    → (a b : Status) (x y : List ℕ) → OnOptions plain Due a x → OnOptions plain Due b y → a ≡ b
-on_options_once plain Due once a b x y p q =
-    let same : q.0 ≡ p.0 = same_options q.0 p.0 (q.1 ∙ sym p.1) in
-    once p.0 a b x y p.2 (subst (λ o. Due o b y) same q.2)

@@ -1,5 +1,4 @@
 pub mod EndLemmas
-pub mod LayerLemmas
 pub mod SplitLemmas
 pub mod BalanceLemmas
 pub mod CheckLemmas

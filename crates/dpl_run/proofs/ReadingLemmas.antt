@@ -8,7 +8,9 @@ use Rattle.dpl_gen.specs.Layout.{layout}
 use Rattle.dpl_words.specs.Commands.{PlainCommand, split, check, load, cross, balance}
 use Rattle.dpl_run.specs.declared.status.Status.{Status}
 use Rattle.dpl_run.specs.declared.status.Status.TheVariants.{Done, Rejected, Usage, Layout, Limit, ReadFault, WriteFault, NoMemory}
-use Rattle.dpl_run.specs.Inputs.{Opened, opens, reads_layout, report_limit}
+use Rattle.dpl_limits.specs.declared.counted.Counted.TheVariants.{ReportBytes}
+use Rattle.dpl_limits.specs.Limits.{number_of, most_of}
+use Rattle.dpl_run.specs.Inputs.{Opened, opens, reads_layout}
 use Rattle.dpl_run.specs.Devices.{AsksFor, IsLayoutTold, IsSecondTold, IsLayoutFault, IsSecondFault, IsReadFault, IsSecondTouched, PassesBytes}
 use Rattle.dpl_run.specs.Answer.{DueOf, IsDueFor, IsLimitOf, IsShort, IsSmall, IsStatusOf}
 use Rattle.dpl_run.specs.Answer.IsDueFor.{long_layout, long_second, carried_out}
@@ -45,10 +47,10 @@ same_second (Some o) texts bytes second read told p e = let a = read told.0 told
 
 small_second : (o : Option Opened) (texts : Option Texts) (bytes second : List ℕ) → IsSecondRead o texts bytes → IsSecondTold o texts second → IsSmall o bytes → IsSmall o second
 small_second None texts bytes second read told small = tt
-small_second (Some o) texts bytes second read told small = subst (λ (z : List ℕ). length z ≤ o.limit.most) (sym (same_second (Some o) texts bytes second read told o refl)) small
+small_second (Some o) texts bytes second read told small = subst (λ (z : List ℕ). length z ≤ most_of o.counted) (sym (same_second (Some o) texts bytes second read told o refl)) small
 
 abbrev report_named : List ℕ → Opened
-report_named name = record { name = name; limit = report_limit }
+report_named name = record { name = name; counted = ReportBytes }
 
 -- what a command does not read makes no difference
 same_due : (c : PlainCommand) (text bytes second others : List ℕ) → (reads_layout c ≡ true → text ≡ bytes) → ((p : Opened) → opens c ≡ Some p → second ≡ others)
@@ -154,12 +156,12 @@ layout_status c before now s t w e = subst (IsStatusOf (Ok c)) (sym e) (reading_
 -- ---- the second text was not read whole
 
 second_at : (Due : Status → List ℕ → Type 0) (o : Opened) (before now : Seen) (texts : Option Texts) (second : List ℕ) (s : Status) (x : List ℕ) → StopsSecond o before now texts s
-    → IsSecondTold (Some o) texts second → x ≡ [] → (o.limit.most < length second → Due (Limit o.limit.kind (o.limit.most + 1)) []) → IsDueOrFree Due s x
+    → IsSecondTold (Some o) texts second → x ≡ [] → (most_of o.counted < length second → Due (Limit number_of o.counted (most_of o.counted + 1)) []) → IsDueOrFree Due s x
 second_at Due o before now texts second ReadFault x w told none f = none
 second_at Due o before now texts second NoMemory x w told none f = none
 second_at Due o before now texts second (Limit k count) x w told none f =
     let due = f (w.3 told.0 told.1 second told.2) in
-    subst (λ z. Due (Limit z count) x) (sym w.0) (subst (λ z. Due (Limit o.limit.kind z) x) (sym w.1) (subst (Due (Limit o.limit.kind (o.limit.most + 1))) (sym none) due))
+    subst (λ z. Due (Limit z count) x) (sym w.0) (subst (λ z. Due (Limit number_of o.counted z) x) (sym w.1) (subst (Due (Limit number_of o.counted (most_of o.counted + 1))) (sym none) due))
 second_at Due o before now texts second Done x w told none f = absurd w
 second_at Due o before now texts second (Usage k) x w told none f = absurd w
 second_at Due o before now texts second (Layout command what) x w told none f = absurd w
@@ -187,19 +189,19 @@ pub second_fault : (c : PlainCommand) (layout layout_now before now : Seen) (tex
 second_fault c layout layout_now before now texts s t w e f = inr (opening_fault (opens c) before now texts (subst (StopsOpening (opens c) before now texts) (sym e ∙ f) w))
 
 -- what is opened is a report
-report_is : (c : PlainCommand) (o : Opened) → opens c ≡ Some o → o.limit ≡ report_limit
+report_is : (c : PlainCommand) (o : Opened) → opens c ≡ Some o → o.counted ≡ ReportBytes
 report_is (split options) o e = absurd (cc)
 report_is (balance options) o e = absurd (cc)
 report_is (cross options) o e = absurd (cc)
 report_is (load start rows columns) o e = absurd (cc)
-report_is (check options name) o e = let a : report_named name ≡ o = cc in ap (λ z. z.limit) (sym a)
+report_is (check options name) o e = let a : report_named name ≡ o = cc in ap (λ z. z.counted) (sym a)
 
 opening_limit : (c : PlainCommand) (o : Option Opened) → opens c ≡ o → (before now : Seen) (texts : Option Texts) (k n : ℕ) → StopsOpening o before now texts (Limit k n) → (k ≡ 9) × PassesBytes 268435457 n before now
 opening_limit c None is before now texts k n w = absurd w
 opening_limit c (Some o) is before now texts k n w =
     let r = report_is c o is in
-    let kind : o.limit.kind ≡ 9 = ap (λ z. z.kind) r in
-    let most : o.limit.most ≡ 268435456 = ap (λ z. z.most) r in
+    let kind : number_of o.counted ≡ 9 = ap number_of r in
+    let most : most_of o.counted ≡ 268435456 = ap most_of r in
     (w.0 ∙ kind, subst (λ z. (n ≡ z + 1) × RoseBy (z + 1) before.given now.given) most (w.1, w.2))
 
 pub second_limit : (c : PlainCommand) (before now : Seen) (texts : Option Texts) (s t : Status) (count : ℕ) → StopsOpening (opens c) before now texts s → t ≡ s → t ≡ Limit 9 count → PassesBytes 268435457 count before now

@@ -1,15 +1,13 @@
 -- What is due for `split`: one answer at most, and the end of its work.
-use Rattle.std.proofs.Common.{arith, ◌≡◌, ◌⊎◌, ◌≤◌, ℕ, ℤ, Bool, List, [], true, refl, ap, inl, inr}
+use Rattle.std.proofs.Common.{◌≡◌, ◌⊎◌, ℕ, List, [], true, refl, ap, inl, inr}
 use Rattle.std.specs.Prelude.{Ok, Err, Result}
-use Rattle.dpl_cell.specs.Layers.{is_cell}
-use Rattle.dpl_cif.specs.Reading.{Reading, reading}
-use Rattle.dpl_cif.specs.Reading.Reading.{Faulty, TooMany, TooManyCalls, TooFar, Good}
-use Rattle.dpl_cif.specs.OnCells.{OnCells}
-use Rattle.dpl_report.specs.declared.options.Options.{Options}
+use Rattle.dpl_options.specs.Options.{PlainOptions}
 use Rattle.dpl_layer.specs.declared.error.LayerError.{LayerError}
 use Rattle.dpl_layer.specs.declared.error.LayerError.TheVariants as refusal
+use Rattle.dpl_layer.proofs.RefusalLemmas.{layer_kind}
+use Rattle.dpl_layer.proofs.TextLemmas.{of_layer}
 use Rattle.dpl_core.specs.Refusals.{HasOddNet, RefusesSplit}
-use Rattle.dpl_core.proofs.RefusalLemmas.{one_split_refusal}
+use Rattle.dpl_core.proofs.RefusalLemmas.{one_split_refusal, never_memory}
 use Rattle.dpl_words.specs.Commands.{PlainCommand}
 use Rattle.dpl_run.specs.declared.status.Status.{Status}
 use Rattle.dpl_run.specs.Inputs.{colours}
@@ -17,47 +15,28 @@ use Rattle.dpl_run.specs.due.Split.{IsFree, IsSplitDue}
 use Rattle.dpl_run.specs.due.Split.IsSplitDue.{refused, done}
 use Rattle.dpl_run.specs.Errors.{status_of}
 use Rattle.dpl_run.proofs.EndLemmas.{AllEnd, Ends, IsWorkLimit, error_ends}
-use Rattle.dpl_run.proofs.LayerLemmas.{layer_limit}
 
-odd_limit : (o : Options) (read : Reading) (k n : ℕ) → OnCells read (HasOddNet o (refusal.Limit k n)) → k ≡ 8
-odd_limit o (Good parts) k n h = h.odd.0
-odd_limit o (Faulty g) k n h = absurd h
-odd_limit o (TooMany m) k n h = absurd h
-odd_limit o (TooManyCalls m) k n h = absurd h
-odd_limit o (TooFar m) k n h = absurd h
-
-odd_memory : (o : Options) (read : Reading) → OnCells read (HasOddNet o refusal.NoMemory) → ⊥
-odd_memory o (Good parts) h = h.odd
-odd_memory o (Faulty g) h = h
-odd_memory o (TooMany n) h = h
-odd_memory o (TooManyCalls n) h = h
-odd_memory o (TooFar n) h = h
-
-split_limit : (c : PlainCommand) → colours c ≡ true → (o : Options) (text : List ℕ) (k n : ℕ) → RefusesSplit o text (refusal.Limit k n) → IsWorkLimit c k
-split_limit c colouring o text k n (inl r) = inl (layer_limit o text k n r)
-split_limit c colouring o text k n (inr h) = inr (odd_limit o (reading o.layer text) k n h, colouring)
-
-split_memory : (o : Options) (text : List ℕ) → RefusesSplit o text refusal.NoMemory → ⊥
-split_memory o text (inl r) = r
-split_memory o text (inr h) = odd_memory o (reading o.layer text) h
+split_limit : (c : PlainCommand) → colours c ≡ true → (o : PlainOptions) (text : List ℕ) (k n : ℕ) → RefusesSplit o text (refusal.Limit k n) → IsWorkLimit c k
+split_limit c colouring o text k n (inl r) = inl (layer_kind o text k n r)
+split_limit c colouring o text k n (inr h) = inr (of_layer o text (HasOddNet o (refusal.Limit k n)) (λ cells kept p. p.odd.0) h, colouring)
 
 -- a refusal ends the work of a command that colours
-pub refused_ends : (c : PlainCommand) → colours c ≡ true → (o : Options) (text : List ℕ) (e : LayerError) → RefusesSplit o text e → Ends c (status_of e) []
-refused_ends c colouring o text e r = error_ends c (RefusesSplit o text) (split_memory o text) (split_limit c colouring o text) e r
+pub refused_ends : (c : PlainCommand) → colours c ≡ true → (o : PlainOptions) (text : List ℕ) (e : LayerError) → RefusesSplit o text e → Ends c (status_of e) []
+refused_ends c colouring o text e r = error_ends c (RefusesSplit o text) (never_memory o text) (split_limit c colouring o text) e r
 
 -- a text with a report is not refused
-pub free_of : {T : Type 0} (o : Options) (text : List ℕ) (result : Result T LayerError) (v : T) → result ≡ Ok v
+pub free_of : {T : Type 0} (o : PlainOptions) (text : List ℕ) (result : Result T LayerError) (v : T) → result ≡ Ok v
     → ((e : LayerError) → RefusesSplit o text e → (result ≡ Err e) ⊎ (result ≡ Err refusal.NoMemory)) → IsFree o text
 free_of o text result v h exact e r = elim (exact e r) [
   | inl a ↦ absurd (cc)
   | inr a ↦ absurd (cc)
 ]
 
-pub split_ends : (c : PlainCommand) → colours c ≡ true → (o : Options) (text : List ℕ) → AllEnd c (IsSplitDue o text)
+pub split_ends : (c : PlainCommand) → colours c ≡ true → (o : PlainOptions) (text : List ℕ) → AllEnd c (IsSplitDue o text)
 split_ends c colouring o text _ _ (refused e r) = refused_ends c colouring o text e r
 split_ends c colouring o text _ _ (done output p free) = tt
 
-pub one_split : (o : Options) (text : List ℕ) (a b : Status) (x y : List ℕ) → IsSplitDue o text a x → IsSplitDue o text b y → a ≡ b
+pub one_split : (o : PlainOptions) (text : List ℕ) (a b : Status) (x y : List ℕ) → IsSplitDue o text a x → IsSplitDue o text b y → a ≡ b
 one_split o text _ _ _ _ (refused e r) (refused f q) = ap status_of (one_split_refusal o text e f r q)
 one_split o text _ _ _ _ (refused e r) (done output p free) = absurd (free e r)
 one_split o text _ _ _ _ (done output p free) (refused f q) = absurd (free f q)

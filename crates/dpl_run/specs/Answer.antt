@@ -2,13 +2,15 @@
 use Rattle.std.specs.Prelude.{◌≡◌, ◌⊎◌, ⊤, ℕ, ◌+◌, ◌≤◌, ◌<◌, List, [], length, Bool, true, Option, Some, None, Result, Ok, Err}
 use Rattle.std.specs.Io.KnownBytes.{Appends, Keeps}
 use Rattle.dpl_limits.specs.declared.TheConstants.{MOST_LAYOUT_BYTES}
+use Rattle.dpl_limits.specs.declared.counted.Counted.{Counted}
+use Rattle.dpl_limits.specs.declared.counted.Counted.TheVariants.{LayoutBytes}
+use Rattle.dpl_limits.specs.Limits.{number_of, most_of}
 use Rattle.dpl_ext.specs.Device.{AppendsFront}
 use Rattle.dpl_gen.specs.Layout.{layout}
 use Rattle.dpl_words.specs.Commands.{PlainCommand, split, check, load, cross, balance, command_of}
 use Rattle.dpl_run.specs.declared.status.Status.{Status}
 use Rattle.dpl_run.specs.declared.status.Status.TheVariants.{Done, Rejected, Usage, Limit, ReadFault, WriteFault, NoMemory}
 use Rattle.dpl_run.specs.Inputs.{Opened, reads_layout, opens, judges, colours}
-use Rattle.dpl_run.specs.due.{OnOptions}
 use Rattle.dpl_run.specs.due.Split.{IsSplitDue}
 use Rattle.dpl_run.specs.due.Balance.{IsBalanceDue}
 use Rattle.dpl_run.specs.due.Check.{IsCheckDue}
@@ -19,12 +21,12 @@ use Rattle.dpl_run.specs.due.Cross.{IsCrossDue}
 
 -- for a command whose texts are within their limits
 abbrev pub DueOf : PlainCommand → List ℕ → List ℕ → Status → List ℕ → Type 0
-DueOf (split options) text second = OnOptions options (λ o. IsSplitDue o text)
-DueOf (check options name) text second = OnOptions options (λ o. IsCheckDue o text second)
+DueOf (split options) text second = IsSplitDue options text
+DueOf (check options name) text second = IsCheckDue options text second
 DueOf (load start rows columns) text second =
-    OnOptions made_options (λ o. IsLoadDue o (layout start rows columns))
-DueOf (cross options) text second = OnOptions options (λ o. IsCrossDue o text)
-DueOf (balance options) text second = OnOptions options (λ o. IsBalanceDue o text)
+    IsLoadDue made_options (layout start rows columns)
+DueOf (cross options) text second = IsCrossDue options text
+DueOf (balance options) text second = IsBalanceDue options text
 
 -- the layout is within its limit, where it is read
 abbrev pub IsShort : Bool → List ℕ → Type 0
@@ -33,15 +35,18 @@ IsShort reads text = reads ≡ true → length text ≤ MOST_LAYOUT_BYTES
 -- the text that is opened is within its limit
 abbrev pub IsSmall : Option Opened → List ℕ → Type 0
 IsSmall None second = ⊤
-IsSmall (Some opened) second = length second ≤ opened.limit.most
+IsSmall (Some opened) second = length second ≤ most_of opened.counted
+
+-- one byte more than the limit takes: what is beyond is not counted
+abbrev pub passed : Counted → Status
+passed counted = Limit (number_of counted) (most_of counted + 1)
 
 -- the layout passes its limit, or the second text passes its own, or the command is carried out
 pub data IsDueFor (c : PlainCommand) (text second : List ℕ) : Status → List ℕ → Type 0 where
   long_layout : reads_layout c ≡ true → MOST_LAYOUT_BYTES < length text →
-      IsDueFor c text second (Limit 1 (MOST_LAYOUT_BYTES + 1)) []
+      IsDueFor c text second (passed LayoutBytes) []
   long_second : (opened : Opened) → opens c ≡ Some opened → IsShort (reads_layout c) text →
-      opened.limit.most < length second →
-      IsDueFor c text second (Limit opened.limit.kind (opened.limit.most + 1)) []
+      most_of opened.counted < length second → IsDueFor c text second (passed opened.counted) []
   carried_out : (status : Status) (output : List ℕ) → IsShort (reads_layout c) text →
       IsSmall (opens c) second → DueOf c text second status output →
       IsDueFor c text second status output
@@ -95,7 +100,7 @@ IsQuiet before now status = Keeps before now
 abbrev pub IsLimitOf : PlainCommand → ℕ → Type 0
 IsLimitOf c kind = ((kind ≡ 1) × (reads_layout c ≡ true)) ⊎ ((2 ≤ kind) × (kind ≤ 7)) ⊎
     ((kind ≡ 8) × (colours c ≡ true)) ⊎
-    ((opened : Opened) × (opens c ≡ Some opened) × (kind ≡ opened.limit.kind))
+    ((opened : Opened) × (opens c ≡ Some opened) × (kind ≡ number_of opened.counted))
 
 -- Words that ask for nothing are answered so, but for want of memory, and no others are. Only a command that judges
 -- rejects, and each passes its own limits alone.

@@ -1,24 +1,14 @@
 -- What a command reads: the layout, and the text of a name. By these two tables all that is said of devices and of limits
 -- on bytes is said once for all commands.
 use Rattle.std.specs.Prelude.{ℕ, List, Bool, true, false, Option, Some, None}
-use Rattle.dpl_limits.specs.declared.TheConstants.{MOST_LAYOUT_BYTES, MOST_REPORT_BYTES}
+use Rattle.dpl_limits.specs.declared.counted.Counted.{Counted}
+use Rattle.dpl_limits.specs.declared.counted.Counted.TheVariants.{ReportBytes}
 use Rattle.dpl_words.specs.Commands.{PlainCommand, split, check, load, cross, balance}
 
--- a limit on the bytes of a text: the number by which an answer names it, and the most that is taken
-pub record ByteLimit : Type 0 where
-  pub kind : ℕ
-  pub most : ℕ
-
-abbrev pub layout_limit : ByteLimit
-layout_limit = record { kind = 1; most = MOST_LAYOUT_BYTES }
-
-abbrev pub report_limit : ByteLimit
-report_limit = record { kind = 9; most = MOST_REPORT_BYTES }
-
--- a text that is opened: the name asked of the shelf, and the limit on its bytes
+-- a text that is opened: the name asked of the shelf, and the limit that its bytes count for
 pub record Opened : Type 0 where
   pub name : List ℕ
-  pub limit : ByteLimit
+  pub counted : Counted
 
 -- the command reads the layout
 abbrev pub reads_layout : PlainCommand → Bool
@@ -31,7 +21,7 @@ reads_layout (balance options) = true
 -- the text that the command opens
 abbrev pub opens : PlainCommand → Option Opened
 opens (split options) = None
-opens (check options name) = Some (record { name = name; limit = report_limit })
+opens (check options name) = Some (record { name = name; counted = ReportBytes })
 opens (load start rows columns) = None
 opens (cross options) = None
 opens (balance options) = None

@@ -4,6 +4,7 @@ use Rattle.std.specs.Io.KnownBytes.{Appends}
 use Rattle.dpl_ext.specs.Device.{AppendsFront, Rose, RoseBy, Seen, Texts, first_text}
 use Rattle.dpl_run.specs.declared.status.Status.{Status}
 use Rattle.dpl_run.specs.declared.status.Status.TheVariants.{Done, Rejected, Usage, Layout, Limit, ReadFault, WriteFault, NoMemory}
+use Rattle.dpl_limits.specs.Limits.{number_of, most_of}
 use Rattle.dpl_run.specs.Inputs.{Opened}
 
 -- a failed read and want of memory come before anything is written; all else is due
@@ -55,9 +56,10 @@ IsTold status output before now faults faults_now result =
 -- why the text of a name was not read whole: it could not be opened, or its reading stopped
 abbrev pub StopsSecond : Opened → Seen → Seen → Option Texts → Status → Type 0
 StopsSecond opened before now texts (Limit k count) =
-    (k ≡ opened.limit.kind) × (count ≡ opened.limit.most + 1) × RoseBy (opened.limit.most + 1) before.given now.given ×
+    (k ≡ number_of opened.counted) × (count ≡ most_of opened.counted + 1) ×
+    RoseBy (most_of opened.counted + 1) before.given now.given ×
     ((ts : Texts) → texts ≡ Some ts → (second : List ℕ) → first_text opened.name ts ≡ Some second →
-    opened.limit.most < length second)
+    most_of opened.counted < length second)
 StopsSecond opened before now texts ReadFault =
     Rose before.faults now.faults × (now.asked ≡ before.asked ++ opened.name ∷ [])
 StopsSecond opened before now texts NoMemory = ⊤

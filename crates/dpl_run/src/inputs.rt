@@ -12,7 +12,7 @@ ghost use Rattle.dpl_run.specs.Telling.{IsSecondRead, StopsOpening, StopsReading
 use crate::status::Status;
 use crate::texts::{Lexed, layout_of, no_layout, second_of};
 use dpl_ext::{Shelf, Source};
-use dpl_limits::MOST_REPORT_BYTES;
+use dpl_limits::Counted;
 use dpl_words::Command;
 use std::alloc::Global;
 
@@ -68,7 +68,7 @@ pub fn second_for<F: Shelf>(
         Command::Balance(_) => Ok(Vec::new(alloc)),
         Command::Cross(_) => Ok(Vec::new(alloc)),
         Command::Check { report, .. } => {
-            second_of(alloc, report.as_str(), 9, MOST_REPORT_BYTES, second)
+            second_of(alloc, report.as_str(), Counted::ReportBytes, second)
         }
         Command::Load { .. } => Ok(Vec::new(alloc)),
     }

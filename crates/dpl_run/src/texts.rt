@@ -1,6 +1,7 @@
 // Reading a text whole.
 ghost use Rattle.std.specs.Prelude.{◌≡◌, ◌≢◌, ◌<◌, ◌≤◌, ◌^◌, [], length, IfOk, IfErr, Some, Err};
 ghost use Rattle.dpl_limits.specs.declared.TheConstants.{MOST_LAYOUT_BYTES};
+ghost use Rattle.dpl_limits.specs.Limits.{number_of, most_of};
 ghost use Rattle.dpl_lex.specs.Cutting.{commands_of};
 ghost use Rattle.dpl_ext.specs.Device.{Texts, first_text};
 ghost use Rattle.dpl_ext.specs.Reading.{IsWhole};
@@ -12,29 +13,30 @@ use crate::status::Status;
 use dpl_ext::{OpenEnd, ReadEnd, Shelf, Source, read_all, read_each};
 use dpl_lex::Lexer;
 use dpl_lex::types::Commands;
-use dpl_limits::MOST_LAYOUT_BYTES;
+use dpl_limits::{Counted, MOST_LAYOUT_BYTES};
 use std::alloc::Global;
 
-/// All that is left of a source, or the status where that is not to be had: `kind` is the number of its limit.
+/// All that is left of a source, or the status where that is not to be had.
 pub fn text_of<S: Source>(
     alloc: Global,
     source: &mut S,
-    kind: u8,
-    most: u64,
+    counted: Counted,
 ) -> Result<Vec<u8>, Status>
-    requires { most < 2 ^ 32 }
+    requires { most_of counted < 2 ^ 32 }
     ensures whole { IfOk result (λ v.
-        IsWhole (S.seen source.old) (S.seen source.new) v.items most) }
-    ensures stops { IfErr result (StopsReading (S.seen source.old) (S.seen source.new) kind most) }
+        IsWhole (S.seen source.old) (S.seen source.new) v.items (most_of counted)) }
+    ensures stops { IfErr result (StopsReading (S.seen source.old) (S.seen source.new)
+        (number_of counted) (most_of counted)) }
     ensures asked { (S.seen source.new).asked ≡ (S.seen source.old).asked }
     ensures steady { result ≢ Err Status.ReadFault → result ≢ Err Status.NoMemory →
         (S.seen source.new).faults ≡ (S.seen source.old).faults }
 {
+    let most = counted.most();
     match read_all(alloc, source, most) {
         Ok(text) => Ok(text),
         Err(ReadEnd::Fault) => Err(Status::ReadFault),
         Err(ReadEnd::TooLong) => Err(Status::Limit {
-            kind,
+            kind: counted.number(),
             count: most + 1,
         }),
         Err(ReadEnd::NoMemory) => Err(Status::NoMemory),
@@ -45,24 +47,21 @@ pub fn text_of<S: Source>(
 pub fn second_of<F: Shelf>(
     alloc: Global,
     name: &str,
-    kind: u8,
-    most: u64,
+    counted: Counted,
     second: &mut F,
 ) -> Result<Vec<u8>, Status>
-    requires { most < 2 ^ 32 }
+    requires { most_of counted < 2 ^ 32 }
     ensures read { IfOk result (λ v. (ts : Texts) → F.texts second.old ≡ Some ts →
         first_text name.now ts ≡ Some v.items) }
-    ensures small { IfOk result (λ v. length v.items ≤ most) }
-    ensures stops { IfErr result (StopsSecond (record {
-      name = name.now;
-      limit = record { kind = kind; most = most };
-    }) (F.seen second.old) (F.seen second.new) (F.texts second.old)) }
+    ensures small { IfOk result (λ v. length v.items ≤ most_of counted) }
+    ensures stops { IfErr result (StopsSecond (record { name = name.now; counted = counted })
+        (F.seen second.old) (F.seen second.new) (F.texts second.old)) }
     ensures touched { AsksFor name.now (F.seen second.old) (F.seen second.new) }
     ensures steady { result ≢ Err Status.ReadFault → result ≢ Err Status.NoMemory →
         (F.seen second.new).faults ≡ (F.seen second.old).faults }
 {
     match second.open(name) {
-        Ok(()) => text_of(alloc, second, kind, most),
+        Ok(()) => text_of(alloc, second, counted),
         Err(OpenEnd::Failed) => Err(Status::ReadFault),
         Err(OpenEnd::NoMemory) => Err(Status::NoMemory),
     }
@@ -108,7 +107,7 @@ pub fn layout_of<S: Source>(alloc: Global, source: &mut S) -> Result<Lexed, Stat
         }
         Err(ReadEnd::Fault) => Err(Status::ReadFault),
         Err(ReadEnd::TooLong) => Err(Status::Limit {
-            kind: 1,
+            kind: Counted::LayoutBytes.number(),
             count: MOST_LAYOUT_BYTES + 1,
         }),
         Err(ReadEnd::NoMemory) => Err(Status::NoMemory),

@@ -1,6 +1,6 @@
 -- What `balance` answers for a layout: what `split` does, with masks that cover about the same area.
 use Rattle.std.specs.Prelude.{ℕ, List, []}
-use Rattle.dpl_report.specs.declared.options.Options.{Options}
+use Rattle.dpl_options.specs.Options.{PlainOptions}
 use Rattle.dpl_layer.specs.declared.error.LayerError.{LayerError}
 use Rattle.dpl_core.specs.Reports.{IsBalancedSplit}
 use Rattle.dpl_core.specs.Refusals.{RefusesSplit}
@@ -9,7 +9,7 @@ use Rattle.dpl_run.specs.declared.status.Status.TheVariants.{Done}
 use Rattle.dpl_run.specs.Errors.{status_of}
 use Rattle.dpl_run.specs.due.Split.{IsFree}
 
-pub data IsBalanceDue (o : Options) (text : List ℕ) : Status → List ℕ → Type 0 where
+pub data IsBalanceDue (o : PlainOptions) (text : List ℕ) : Status → List ℕ → Type 0 where
   refused : (e : LayerError) → RefusesSplit o text e → IsBalanceDue o text (status_of e) []
   done : (output : List ℕ) → IsBalancedSplit o text output → IsFree o text →
       IsBalanceDue o text Done output

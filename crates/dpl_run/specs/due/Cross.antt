@@ -1,13 +1,11 @@
 -- What `cross` answers for a layout: why it has no layer, or what keeps its drawing from being plane.
 use Rattle.std.specs.Prelude.{◌≡◌, ℕ, List, [], Option, None, Some}
-use Rattle.dpl_cif.specs.Reading.{reading}
-use Rattle.dpl_cif.specs.OnCells.{OnCells}
 use Rattle.dpl_cuts.specs.declared.types.Fragments.{Fragments}
 use Rattle.dpl_sign.specs.declared.nets.Net.{Net}
 use Rattle.dpl_sign.specs.Excess.{excess, all_edges, aside_edges}
-use Rattle.dpl_report.specs.declared.options.Options.{Options}
+use Rattle.dpl_options.specs.Options.{PlainOptions}
 use Rattle.dpl_layer.specs.declared.error.LayerError.{LayerError}
-use Rattle.dpl_layer.specs.Layers.{IsLayer}
+use Rattle.dpl_layer.specs.Layers.{IsLayerOfText}
 use Rattle.dpl_layer.specs.Refusals.{RefusesLayer}
 use Rattle.dpl_euler.specs.declared.types.Bar.{Bar}
 use Rattle.dpl_euler.specs.declared.types.Crossing.{Crossing}
@@ -36,18 +34,14 @@ pub record TellsDrawing (f : Fragments) (net : Net) (output : List ℕ) : Type 0
   pub bars : ShowsBar net bar
   pub is : output ≡ cross_lines (excess net all_edges) crossing bar
 
--- the fragments and the net of the layer of a text, within the limits
-abbrev pub IsLayerOfText : Options → List ℕ → Fragments → Net → Type 0
-IsLayerOfText o text f net = OnCells (reading o.layer text) (λ cells. IsLayer o cells f net)
-
 -- the output tells of the drawing of the layer of the text
-pub record IsCrossed (o : Options) (text output : List ℕ) : Type 0 where
+pub record IsCrossed (o : PlainOptions) (text output : List ℕ) : Type 0 where
   pub fragments : Fragments
   pub net : Net
   pub layer : IsLayerOfText o text fragments net
   pub tells : TellsDrawing fragments net output
 
-pub data IsCrossDue (o : Options) (text : List ℕ) : Status → List ℕ → Type 0 where
+pub data IsCrossDue (o : PlainOptions) (text : List ℕ) : Status → List ℕ → Type 0 where
   refused : (e : LayerError) → RefusesLayer o text e → IsCrossDue o text (status_of e) []
   done : (output : List ℕ) → IsCrossed o text output → ((e : LayerError) → ¬ RefusesLayer o text e)
       → IsCrossDue o text Done output

@@ -1,11 +1,10 @@
 -- What `load` answers for a made layout: why it has no report, or a line with the numbers of its report.
 use Rattle.std.specs.Prelude.{ℕ, ◌+◌, List, [], length, None, codes}
-use Rattle.dpl_report.specs.declared.options.Options.{Options}
+use Rattle.dpl_options.specs.Options.{PlainOptions}
 use Rattle.dpl_report.specs.Plain.{PlainReport}
 use Rattle.dpl_layer.specs.declared.error.LayerError.{LayerError}
 use Rattle.dpl_core.specs.Reports.{IsReportOf}
 use Rattle.dpl_core.specs.Refusals.{RefusesSplit}
-use Rattle.dpl_words.specs.Commands.{PlainOptions}
 use Rattle.dpl_run.specs.declared.status.Status.{Status}
 use Rattle.dpl_run.specs.declared.status.Status.TheVariants.{Done}
 use Rattle.dpl_run.specs.Lines.{load_line}
@@ -18,9 +17,7 @@ made_options = record {
   layer = codes "M";
   space = 100;
   overlap = 20;
-  stitch = 1;
-  conflict = 10;
-  corner = 10;
+  weights = record { stitch = 1; conflict = 10; corner = 10 };
   keep = None;
 }
 
@@ -29,7 +26,7 @@ abbrev pub loaded_line : PlainReport → List ℕ
 loaded_line r = load_line r.head.counts.fragments (r.head.counts.bonds + r.head.counts.stitches
     + r.head.counts.clashes) r.head.cost r.head.bound (length r.lists.aside)
 
-pub data IsLoadDue (o : Options) (text : List ℕ) : Status → List ℕ → Type 0 where
+pub data IsLoadDue (o : PlainOptions) (text : List ℕ) : Status → List ℕ → Type 0 where
   refused : (e : LayerError) → RefusesSplit o text e → IsLoadDue o text (status_of e) []
   done : (r : PlainReport) → IsReportOf o text r → IsFree o text →
       IsLoadDue o text Done (loaded_line r)

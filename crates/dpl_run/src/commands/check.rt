@@ -1,8 +1,6 @@
 // `check`: the verdict on a report against a layout.
 ghost use Rattle.std.specs.Prelude.{◌≤◌, length};
 ghost use Rattle.dpl_limits.specs.declared.TheConstants.{MOST_LAYOUT_BYTES, MOST_REPORT_BYTES};
-ghost use Rattle.dpl_words.specs.Views.{plain_options};
-ghost use Rattle.dpl_run.specs.due.{OnOptions};
 ghost use Rattle.dpl_run.specs.due.Check.{IsCheckDue};
 ghost use Rattle.dpl_run.specs.Telling.{IsWorked};
 
@@ -10,15 +8,15 @@ use crate::due::{Due, bare, refused};
 use crate::lines::yes_line;
 use crate::status::Status;
 use dpl_check::{Verdict, check};
-use dpl_report::Options;
+use dpl_options::Options;
 use std::alloc::Global;
 
 /// What is due for the bytes of a layout and of a report.
 pub fn check_bytes(alloc: Global, options: &Options, text: &[u8], report: &[u8]) -> Due
     requires text { length text.now ≤ MOST_LAYOUT_BYTES }
     requires report { length report.now ≤ MOST_REPORT_BYTES }
-    ensures due { IsWorked (OnOptions (plain_options options.now) (λ o.
-        IsCheckDue o text.now report.now)) result.status result.output.items }
+    ensures due { IsWorked (IsCheckDue options.now text.now report.now) result.status
+        result.output.items }
 {
     match check(alloc, text, options, report) {
         Ok(Verdict::Yes { cost, bound }) => match yes_line(alloc, cost, bound) {

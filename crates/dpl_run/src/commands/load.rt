@@ -3,8 +3,6 @@ ghost use Rattle.std.specs.Prelude.{◌+◌, ◌≡◌, ◌⊎◌, ◌≤◌, �
 ghost use Rattle.dpl_gen.specs.Layout.{layout};
 ghost use Rattle.dpl_report.specs.Plain.{plain_report};
 ghost use Rattle.dpl_report.specs.Valid.{IsReport};
-ghost use Rattle.dpl_words.specs.Views.{plain_options};
-ghost use Rattle.dpl_run.specs.due.{OnOptions};
 ghost use Rattle.dpl_run.specs.due.Load.{IsLoadDue, loaded_line, made_options};
 ghost use Rattle.dpl_run.specs.Telling.{IsWorked};
 
@@ -14,8 +12,8 @@ use crate::status::Status;
 use dpl_core::make;
 use dpl_gen::layout as made_layout;
 use dpl_lex::Name;
-use dpl_links::types::Weights;
-use dpl_report::{Options, Report};
+use dpl_options::{Options, Weights};
+use dpl_report::Report;
 use std::alloc::Global;
 
 /// What is due for a made layout: layer M, spacing 100, overlap 20, a stitch weighs 1 and a conflict 10, and nothing is
@@ -24,8 +22,8 @@ pub fn load_made(alloc: Global, start: u64, rows: u32, columns: u32) -> Due
     requires start { start ≤ 10 ^ 12 }
     requires rows { (1 ≤ rows) × (rows ≤ 200) }
     requires columns { (1 ≤ columns) × (columns ≤ 200) }
-    ensures due { IsWorked (OnOptions made_options (λ o.
-        IsLoadDue o (layout start rows columns))) result.status result.output.items }
+    ensures due { IsWorked (IsLoadDue made_options (layout start rows columns)) result.status
+        result.output.items }
 {
     let text = match made_layout(alloc, start, rows, columns) {
         Ok(text) => text,
@@ -40,24 +38,13 @@ pub fn load_made(alloc: Global, start: u64, rows: u32, columns: u32) -> Due
 
 /// The options of a made layout.
 fn options_of_made() -> Options
-    ensures { plain_options result ≡ made_options }
+    ensures { result ≡ made_options }
 {
     let layer = match Name::new(b"M") {
         Some(layer) => layer,
         None => unreachable!(),
     };
-    let weights = Weights {
-        stitch: 1,
-        conflict: 10,
-        corner: 10,
-    };
-    Options {
-        layer,
-        space: 100,
-        overlap: 20,
-        weights,
-        keep: None,
-    }
+    Options::new(layer, 100, 20, Weights::new(1, 10, 10), None)
 }
 
 /// The line of a report of a made layout.

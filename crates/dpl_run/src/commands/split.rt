@@ -2,8 +2,6 @@
 ghost use Rattle.std.specs.Prelude.{◌≡◌, ◌≤◌, length};
 ghost use Rattle.dpl_limits.specs.declared.TheConstants.{MOST_LAYOUT_BYTES};
 ghost use Rattle.dpl_lex.specs.Cutting.{commands_of};
-ghost use Rattle.dpl_words.specs.Views.{plain_options};
-ghost use Rattle.dpl_run.specs.due.{OnOptions};
 ghost use Rattle.dpl_run.specs.due.Split.{IsSplitDue};
 ghost use Rattle.dpl_run.specs.Telling.{IsWorked};
 
@@ -11,15 +9,14 @@ use crate::due::{Due, refused};
 use crate::status::Status;
 use dpl_core::split_commands;
 use dpl_lex::types::Commands;
-use dpl_report::Options;
+use dpl_options::Options;
 use std::alloc::Global;
 
 /// What is due for the bytes of a layout with its commands.
 pub fn split_bytes(alloc: Global, options: &Options, text: &[u8], commands: &Commands) -> Due
     requires short { length text.now ≤ MOST_LAYOUT_BYTES }
     requires commands { commands.now ≡ commands_of text.now }
-    ensures due { IsWorked (OnOptions (plain_options options.now) (λ o. IsSplitDue o text.now))
-        result.status result.output.items }
+    ensures due { IsWorked (IsSplitDue options.now text.now) result.status result.output.items }
 {
     match split_commands(alloc, text, commands, options) {
         Ok(output) => Due {

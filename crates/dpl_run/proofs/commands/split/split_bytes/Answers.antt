@@ -1,7 +1,4 @@
-use Rattle.std.proofs.Common.{refl, ◌∙◌}
 use Rattle.dpl_core.specs.Refusals.{RefusesSplit}
-use Rattle.dpl_words.specs.Views.{plain_options}
-use Rattle.dpl_run.specs.due.{OnOptions}
 use Rattle.dpl_run.specs.due.Split.{IsSplitDue}
 use Rattle.dpl_run.specs.due.Split.IsSplitDue.{refused, done}
 use Rattle.dpl_run.proofs.EndLemmas.{refused_worked}
@@ -9,9 +6,9 @@ use Rattle.dpl_run.proofs.SplitLemmas.{free_of}
 use Rattle.dpl_run.proofs.commands.split.split_bytes.Goals as goal
 
 pub returns-in-Ok : goal.returns-in-Ok
-returns-in-Ok c = (c.args.options.now, refl, done c.in-Ok.output.items c.in-Ok.ensures.split (free_of c.args.options.now c.args.text.now c.split_commands.result c.in-Ok.output c.in-Ok.is c.split_commands.ensures.exact))
+returns-in-Ok c = done c.in-Ok.output.items c.in-Ok.ensures.split (free_of c.args.options.now c.args.text.now c.split_commands.result c.in-Ok.output c.in-Ok.is c.split_commands.ensures.exact)
 
 pub returns-in-Err : goal.returns-in-Err
 returns-in-Err c =
-    refused_worked (OnOptions (plain_options c.args.options.now) (λ o. IsSplitDue o c.args.text.now)) (RefusesSplit c.args.options.now c.args.text.now) c.in-Err.error _ _
-    (λ e r. (c.args.options.now, refl, refused e r)) (c.split_commands.ensures.refused c.in-Err.error c.in-Err.is) c.refused.ensures.status c.refused.ensures.output
+    refused_worked (IsSplitDue c.args.options.now c.args.text.now) (RefusesSplit c.args.options.now c.args.text.now) c.in-Err.error _ _
+    refused (c.split_commands.ensures.refused c.in-Err.error c.in-Err.is) c.refused.ensures.status c.refused.ensures.output
