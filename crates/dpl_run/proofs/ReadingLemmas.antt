@@ -1,6 +1,7 @@
 -- What is due where the texts of a command were read, and where they were not.
-use Rattle.std.proofs.Common.{arith, ◌≡◌, ◌≢◌, ◌⊎◌, ◌∙◌, ℕ, ◌+◌, ◌≤◌, ◌<◌, ◌++◌, List, [], length, append-nil, Bool, true, false, Option, Some, None, refl, sym, ap, subst, inl, inr}
+use Rattle.std.proofs.Common.{arith, ◌≡◌, ◌≢◌, ◌⊎◌, ◌↔◌, ◌∙◌, ℕ, ◌+◌, ◌≤◌, ◌<◌, ◌∷◌, ◌++◌, List, [], length, append-nil, Bool, true, false, Option, Some, None, refl, sym, ap, subst, inl, inr}
 use Rattle.std.specs.Prelude.{Result, Ok, Err, IfSome}
+use Rattle.std.proofs.lemmas.List.{append_cancel_left}
 use Rattle.std.specs.Io.KnownBytes.{Consumes, IsAtEnd}
 use Rattle.dpl_ext.specs.Device.{Seen, Texts, Rose, RoseBy, first_text}
 use Rattle.dpl_ext.specs.Reading.{IsWhole}
@@ -156,12 +157,12 @@ layout_status c before now s t w e = subst (IsStatusOf (Ok c)) (sym e) (reading_
 -- ---- the second text was not read whole
 
 second_at : (Due : Status → List ℕ → Type 0) (o : Opened) (before now : Seen) (texts : Option Texts) (second : List ℕ) (s : Status) (x : List ℕ) → StopsSecond o before now texts s
-    → IsSecondTold (Some o) texts second → x ≡ [] → (most_of o.counted < length second → Due (Limit number_of o.counted (most_of o.counted + 1)) []) → IsDueOrFree Due s x
+    → IsSecondTold (Some o) texts second → x ≡ [] → (most_of o.counted < length second → Due (Limit (number_of o.counted) (most_of o.counted + 1)) []) → IsDueOrFree Due s x
 second_at Due o before now texts second ReadFault x w told none f = none
 second_at Due o before now texts second NoMemory x w told none f = none
 second_at Due o before now texts second (Limit k count) x w told none f =
     let due = f (w.3 told.0 told.1 second told.2) in
-    subst (λ z. Due (Limit z count) x) (sym w.0) (subst (λ z. Due (Limit number_of o.counted z) x) (sym w.1) (subst (Due (Limit number_of o.counted (most_of o.counted + 1))) (sym none) due))
+    subst (λ z. Due (Limit z count) x) (sym w.0) (subst (λ z. Due (Limit (number_of o.counted) z) x) (sym w.1) (subst (Due (Limit (number_of o.counted) (most_of o.counted + 1))) (sym none) due))
 second_at Due o before now texts second Done x w told none f = absurd w
 second_at Due o before now texts second (Usage k) x w told none f = absurd w
 second_at Due o before now texts second (Layout command what) x w told none f = absurd w
@@ -237,3 +238,14 @@ opening_status c (Some o) is before now texts WriteFault w = tt
 
 pub second_status : (c : PlainCommand) (before now : Seen) (texts : Option Texts) (s t : Status) → StopsOpening (opens c) before now texts s → t ≡ s → IsStatusOf (Ok c) t
 second_status c before now texts s t w e = subst (IsStatusOf (Ok c)) (sym e) (opening_status c (opens c) refl before now texts s w)
+
+-- ---- names that are asked for
+
+pub asked_for : (name : List ℕ) (before now : Seen) (others : List (List ℕ)) → now.asked ≡ before.asked ++ others → AsksFor name before now ↔ ((others ≡ []) ⊎ (others ≡ name ∷ []))
+asked_for name before now others e = (there, back) where
+  there : AsksFor name before now → (others ≡ []) ⊎ (others ≡ name ∷ [])
+  there (inl a) = inl (append_cancel_left before.asked others [] (sym e ∙ a ∙ sym (append-nil before.asked)))
+  there (inr a) = inr (append_cancel_left before.asked others (name ∷ []) (sym e ∙ a))
+  back : (others ≡ []) ⊎ (others ≡ name ∷ []) → AsksFor name before now
+  back (inl a) = inl (e ∙ ap (λ z. before.asked ++ z) a ∙ append-nil before.asked)
+  back (inr a) = inr (e ∙ ap (λ z. before.asked ++ z) a)

@@ -36,7 +36,7 @@ pub fn carry_out(
     requires short { length text.now ≤ MOST_LAYOUT_BYTES }
     requires commands { commands.now ≡ commands_of text.now }
     requires small { IsSmall (opens (plain_command command.now)) second.now }
-    ensures due { IsWorked (DueOf (plain_command command.now) text.now second.now) result.status
+    ensures { IsWorked (DueOf (plain_command command.now) text.now second.now) result.status
         result.output.items }
 {
     match command {

@@ -2,8 +2,9 @@
 ghost use Rattle.std.specs.Prelude.{◌≡◌, ◌≢◌, ◌⊎◌, ◌↔◌, ℕ, ℤ, ◌+◌, ◌<◌, ◌≤◌, List, [], ◌∷◌, ◌++◌, Option, Some, Ok, Err};
 ghost use Rattle.dpl_limits.specs.declared.TheConstants.{MOST_LAYOUT_BYTES};
 ghost use Rattle.dpl_ext.specs.Device.{Seen, Texts, last_count};
-ghost use Rattle.dpl_words.specs.Commands.{PlainOptions, PlainCommand, split, check, load, cross, balance};
-ghost use Rattle.dpl_run.specs.Answer.{Answers, IsAnswered, IsDueOf, IsQuiet, IsStatusOf};
+ghost use Rattle.dpl_options.specs.Options.{PlainOptions};
+ghost use Rattle.dpl_words.specs.Commands.{PlainCommand, split, check, load, cross};
+ghost use Rattle.dpl_run.specs.Answer.{Answers, IsAnswered, IsDue, IsDueOf, IsQuiet, IsStatusOf};
 ghost use Rattle.dpl_run.specs.Devices.{AreSteady, AreTold, AsksFor, IsReadFault, IsTouched, PassesBytes};
 ghost use Rattle.dpl_run.specs.declared.status.Status.{Status};
 ghost use Rattle.dpl_run.specs.declared.status.Status.TheVariants.{Done, Rejected, Usage, Limit, NoMemory, ReadFault, WriteFault};
@@ -31,12 +32,13 @@ pub fn answers_are_due()
 
 /// What a sink took that tells it: all that is due where the run is done, and nothing where it ends otherwise.
 pub fn outputs_are_taken()
-    ensures done { (Due : Status → List ℕ → Type 0) (taken taken_now : List ℕ) →
-        Answers Due (Some taken) (Some taken_now) Done ↔
-        ((output : List ℕ) × Due Done output × (taken_now ≡ taken ++ output)) }
-    ensures cut { (Due : Status → List ℕ → Type 0) (taken taken_now : List ℕ) →
-        Answers Due (Some taken) (Some taken_now) WriteFault →
-        (front : List ℕ) × (rest : List ℕ) × Due Done (front ++ rest) ×
+    ensures done { (words : List (List ℕ)) (text second taken taken_now : List ℕ) →
+        Answers (IsDue words text second) (Some taken) (Some taken_now) Done ↔
+        ((output : List ℕ) × IsDue words text second Done output ×
+        (taken_now ≡ taken ++ output)) }
+    ensures cut { (words : List (List ℕ)) (text second taken taken_now : List ℕ) →
+        Answers (IsDue words text second) (Some taken) (Some taken_now) WriteFault →
+        (front : List ℕ) × (rest : List ℕ) × IsDue words text second Done (front ++ rest) ×
         (taken_now ≡ taken ++ front) }
     ensures quiet { (taken taken_now : List ℕ) (status : Status) → status ≢ Done →
         status ≢ WriteFault →

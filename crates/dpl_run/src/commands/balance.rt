@@ -16,7 +16,7 @@ use std::alloc::Global;
 pub fn balance_bytes(alloc: Global, options: &Options, text: &[u8], commands: &Commands) -> Due
     requires short { length text.now ≤ MOST_LAYOUT_BYTES }
     requires commands { commands.now ≡ commands_of text.now }
-    ensures due { IsWorked (IsBalanceDue options.now text.now) result.status result.output.items }
+    ensures { IsWorked (IsBalanceDue options.now text.now) result.status result.output.items }
 {
     match balance_commands(alloc, text, commands, options) {
         Ok(output) => Due {

@@ -15,7 +15,7 @@ use std::alloc::Global;
 pub fn check_bytes(alloc: Global, options: &Options, text: &[u8], report: &[u8]) -> Due
     requires text { length text.now ≤ MOST_LAYOUT_BYTES }
     requires report { length report.now ≤ MOST_REPORT_BYTES }
-    ensures due { IsWorked (IsCheckDue options.now text.now report.now) result.status
+    ensures { IsWorked (IsCheckDue options.now text.now report.now) result.status
         result.output.items }
 {
     match check(alloc, text, options, report) {

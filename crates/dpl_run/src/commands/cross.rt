@@ -18,7 +18,7 @@ use std::alloc::{AllocError, Global};
 pub fn cross_bytes(alloc: Global, options: &Options, text: &[u8], commands: &Commands) -> Due
     requires short { length text.now ≤ MOST_LAYOUT_BYTES }
     requires commands { commands.now ≡ commands_of text.now }
-    ensures due { IsWorked (IsCrossDue options.now text.now) result.status result.output.items }
+    ensures { IsWorked (IsCrossDue options.now text.now) result.status result.output.items }
 {
     let layer = match layer_of_commands(alloc, text, commands, options) {
         Ok(layer) => layer,

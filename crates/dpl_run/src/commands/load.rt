@@ -22,7 +22,7 @@ pub fn load_made(alloc: Global, start: u64, rows: u32, columns: u32) -> Due
     requires start { start ≤ 10 ^ 12 }
     requires rows { (1 ≤ rows) × (rows ≤ 200) }
     requires columns { (1 ≤ columns) × (columns ≤ 200) }
-    ensures due { IsWorked (IsLoadDue made_options (layout start rows columns)) result.status
+    ensures { IsWorked (IsLoadDue made_options (layout start rows columns)) result.status
         result.output.items }
 {
     let text = match made_layout(alloc, start, rows, columns) {

@@ -16,7 +16,7 @@ use std::alloc::Global;
 pub fn split_bytes(alloc: Global, options: &Options, text: &[u8], commands: &Commands) -> Due
     requires short { length text.now ≤ MOST_LAYOUT_BYTES }
     requires commands { commands.now ≡ commands_of text.now }
-    ensures due { IsWorked (IsSplitDue options.now text.now) result.status result.output.items }
+    ensures { IsWorked (IsSplitDue options.now text.now) result.status result.output.items }
 {
     match split_commands(alloc, text, commands, options) {
         Ok(output) => Due {

@@ -1,4 +1,4 @@
-use Rattle.std.proofs.Common.{refl, sym, ◌∙◌}
+use Rattle.std.proofs.Common.{arith, refl}
 use Rattle.dpl_words.specs.Views.{plain_command}
 use Rattle.dpl_run.specs.Inputs.{opens}
 use Rattle.dpl_run.specs.Answer.{DueOf}
@@ -76,3 +76,32 @@ returns-clause-bare g c =
 pub returns-clause-of_words : goal.returns-clause-of_words
 returns-clause-of_words g c =
     second_status (plain_command c.args.command.now) (g.F.Source.seen c.args.second.now) (g.F.Source.seen c.second_for.new.second) (g.F.Shelf.texts c.args.second.now) c.in-Err-second_for.status _ c.in-Err-second_for.ensures.stops c.bare-in-Err-second_for.ensures.status
+
+-- ---- the texts were read whole
+
+pub returns-in-Ok-second_for-clause-due : goal.returns-in-Ok-second_for-clause-due
+returns-in-Ok-second_for-clause-due g c = λ text other told.
+    carried_due (plain_command c.args.command.now) (g.S.Source.seen c.args.layout.now) (g.S.Source.seen c.layout_for.new.layout) (g.F.Shelf.texts c.args.second.now) c.in-Ok.read.text.items c.in-Ok-second_for.text.items text other _ _
+    (rw c.reads_layout.ensures at c.in-Ok.ensures.whole) c.in-Ok-second_for.ensures.read c.in-Ok-second_for.ensures.small (rw (c.as_slice.ensures.value, c.as_slice-in-Ok-second_for.ensures.value) at c.carry_out.ensures) told
+
+pub returns-in-Ok-second_for-clause-read : goal.returns-in-Ok-second_for-clause-read
+returns-in-Ok-second_for-clause-read g c = λ e.
+    absurd (worked_no_fault (plain_command c.args.command.now) (DueOf (plain_command c.args.command.now) c.as_slice.result.now c.as_slice-in-Ok-second_for.result.now) (all_end (plain_command c.args.command.now) c.as_slice.result.now c.as_slice-in-Ok-second_for.result.now) _ _ c.carry_out.ensures e)
+
+pub returns-in-Ok-second_for-clause-limit : goal.returns-in-Ok-second_for-clause-limit
+returns-in-Ok-second_for-clause-limit g c = λ count e.
+    let k = worked_limit (plain_command c.args.command.now) (DueOf (plain_command c.args.command.now) c.as_slice.result.now c.as_slice-in-Ok-second_for.result.now) (all_end (plain_command c.args.command.now) c.as_slice.result.now c.as_slice-in-Ok-second_for.result.now) _ _ 1 count c.carry_out.ensures e in
+    absurd (omega (arith, k.0))
+
+pub returns-in-Ok-second_for-clause-report_limit : goal.returns-in-Ok-second_for-clause-report_limit
+returns-in-Ok-second_for-clause-report_limit g c = λ count e.
+    let k = worked_limit (plain_command c.args.command.now) (DueOf (plain_command c.args.command.now) c.as_slice.result.now c.as_slice-in-Ok-second_for.result.now) (all_end (plain_command c.args.command.now) c.as_slice.result.now c.as_slice-in-Ok-second_for.result.now) _ _ 9 count c.carry_out.ensures e in
+    absurd (omega (arith, k.1))
+
+pub returns-in-Ok-second_for-clause-bare : goal.returns-in-Ok-second_for-clause-bare
+returns-in-Ok-second_for-clause-bare g c =
+    worked_bare (plain_command c.args.command.now) (DueOf (plain_command c.args.command.now) c.as_slice.result.now c.as_slice-in-Ok-second_for.result.now) (all_end (plain_command c.args.command.now) c.as_slice.result.now c.as_slice-in-Ok-second_for.result.now) _ _ c.carry_out.ensures
+
+pub returns-in-Ok-second_for-clause-of_words : goal.returns-in-Ok-second_for-clause-of_words
+returns-in-Ok-second_for-clause-of_words g c =
+    worked_status (plain_command c.args.command.now) (DueOf (plain_command c.args.command.now) c.as_slice.result.now c.as_slice-in-Ok-second_for.result.now) (all_end (plain_command c.args.command.now) c.as_slice.result.now c.as_slice-in-Ok-second_for.result.now) _ _ c.carry_out.ensures

@@ -40,5 +40,5 @@ returns-in-Err-Usage-clause-of_words g c =
     subst (λ z. IsStatusOf (command_of (map string_bytes c.args.words.now)) (Usage z)) (sym c.in-Err-Usage.kind-is)
     (usage_status (map string_bytes c.args.words.now) c.in-Err-Usage.kind (rw c.in-Err-Usage.field-0-is at c.in-Err-Usage.ensures.answer))
 
-pub returns-in-Err-clause-of_words : goal.returns-in-Err-clause-of_words
-returns-in-Err-clause-of_words g c = memory_status (command_of (map string_bytes c.args.words.now))
+pub returns-in-Err-NoMemory-clause-of_words : goal.returns-in-Err-NoMemory-clause-of_words
+returns-in-Err-NoMemory-clause-of_words g c = memory_status (command_of (map string_bytes c.args.words.now))
