@@ -1,12 +1,13 @@
 -- What is written is due, and what is due is answered.
-use Rattle.std.proofs.Common.{◌≡◌, ◌≢◌, ◌⊎◌, ◌∙◌, ℕ, List, [], append-nil, Option, None, Some, refl, sym, subst, inl, inr}
+use Rattle.std.proofs.Common.{◌≡◌, ◌≢◌, ◌⊎◌, ◌∙◌, ℕ, List, [], ◌++◌, append-nil, take, drop, Option, None, Some, refl, sym, subst, inl, inr}
 use Rattle.std.specs.Prelude.{Result, Ok, Err}
+use Rattle.std.proofs.lemmas.List.{take-append-drop}
 use Rattle.std.specs.Io.KnownBytes.{Appends, Keeps}
 use Rattle.dpl_ext.specs.Device.{Texts, Rose}
 use Rattle.dpl_words.specs.Commands.{PlainCommand, command_of}
 use Rattle.dpl_run.specs.declared.status.Status.{Status}
 use Rattle.dpl_run.specs.declared.status.Status.TheVariants.{Done, Rejected, Usage, Layout, Limit, ReadFault, WriteFault, NoMemory}
-use Rattle.dpl_run.specs.Answer.{Answers, IsAnswered, IsDue, IsDueOf, IsQuiet, IsStatusOf}
+use Rattle.dpl_run.specs.Answer.{Answers, IsAnswered, IsCut, IsDue, IsDueOf, IsQuiet, IsStatusOf}
 use Rattle.dpl_run.specs.Devices.{AreTold}
 use Rattle.dpl_run.specs.Telling.{IsBare, IsDueOrFree, IsTold}
 use Rattle.dpl_run.proofs.EndLemmas.{IsFit}
@@ -115,3 +116,11 @@ memory_status (Ok c) = tt
 
 pub usage_status : (words : List (List ℕ)) (kind : ℕ) → command_of words ≡ Err kind → IsStatusOf (command_of words) (Usage kind)
 usage_status words kind e = subst (λ z. IsStatusOf z (Usage kind)) (sym e) (inl refl)
+
+-- ---- what a sink took that tells it
+
+pub cut_front : (Due : Status → List ℕ → Type 0) (taken now : List ℕ) → IsCut Due (Some taken) (Some now) → (front : List ℕ) × (rest : List ℕ) × Due Done (front ++ rest) × (now ≡ taken ++ front)
+cut_front Due taken now cut =
+    let count = cut.taken.0 in
+    let whole = take-append-drop count cut.output in
+    (take count cut.output, drop count cut.output, subst (Due Done) (sym whole) cut.due, cut.taken.1)
