@@ -7,7 +7,7 @@ use Rattle.dpl_report.specs.declared.options.Options.{Options}
 use Rattle.dpl_report.specs.declared.refusals.Refusal.{Refusal}
 use Rattle.dpl_layer.specs.declared.error.LayerError.{LayerError}
 use Rattle.dpl_layer.specs.declared.error.LayerError.TheVariants.{NoMemory}
-use Rattle.dpl_layer.specs.Drawings.{Cells, OnLayer}
+use Rattle.dpl_layer.specs.Drawings.{Cells}
 use Rattle.dpl_layer.specs.Layers.{IsLayer, IsLayerOfText}
 use Rattle.dpl_layer.specs.Refusals.{RefusesCells, RefusesLayer}
 use Rattle.dpl_layer.proofs.LayerLemmas.{same_layer}
