@@ -3,7 +3,7 @@ use Rattle.std.proofs.Common.{◌≡◌, ◌*◌, ◌≤◌, ℕ, List, length}
 use Rattle.dpl_cell.specs.Places.{Corners}
 use Rattle.dpl_cuts.specs.declared.types.Fragments.{Fragments}
 use Rattle.dpl_sign.specs.declared.nets.Net.{Net}
-use Rattle.dpl_report.specs.declared.options.Options.{Options}
+use Rattle.dpl_options.specs.Options.{PlainOptions}
 use Rattle.dpl_report.specs.Plain.{PlainReport}
 use Rattle.dpl_report.specs.MaskCells.{AreCutFrom, AreMasksOf}
 use Rattle.dpl_balance.specs.Balance.{AreBalanced}
@@ -12,7 +12,7 @@ use Rattle.dpl_layer.specs.Layers.{IsLayer, IsLayerOfText}
 use Rattle.dpl_layer.proofs.TextLemmas.{on_layer}
 use Rattle.dpl_core.specs.Reports.{HasMasks, IsReportOfNet, IsReportOfCells, IsReportOf, IsBalancedOfCells}
 
-pub masks_of_layer : (o : Options) (f : Fragments) (n : Net) (r : PlainReport) → ((cells : Cells) (tiles : List Corners) → AreCutFrom o cells tiles f → AreMasksOf o cells tiles f n r)
+pub masks_of_layer : (o : PlainOptions) (f : Fragments) (n : Net) (r : PlainReport) → ((cells : Cells) (tiles : List Corners) → AreCutFrom o cells tiles f → AreMasksOf o cells tiles f n r)
     → (cells kept : Cells) → IsLayer o cells kept f n → HasMasks o cells f n r
 masks_of_layer o f n r law cells kept k =
     let a = k.layer.fragments in
@@ -21,16 +21,16 @@ masks_of_layer o f n r law cells kept k =
     record { tiles = a.tiles; are_tiles = a.are_tiles; masks = law cells a.tiles from }
 
 -- the masks of a layer's report are those of whatever cells the layer is of
-abbrev pub HaveMasks : Options → Fragments → Net → PlainReport → Type 0
+abbrev pub HaveMasks : PlainOptions → Fragments → Net → PlainReport → Type 0
 HaveMasks o f n r = (cells kept : Cells) → IsLayer o cells kept f n → HasMasks o cells f n r
 
-pub report_of_cells : (o : Options) (f : Fragments) (n : Net) (r : PlainReport) → IsReportOfNet o f n r → HaveMasks o f n r → (cells kept : Cells) → IsLayer o cells kept f n → IsReportOfCells o r cells kept
+pub report_of_cells : (o : PlainOptions) (f : Fragments) (n : Net) (r : PlainReport) → IsReportOfNet o f n r → HaveMasks o f n r → (cells kept : Cells) → IsLayer o cells kept f n → IsReportOfCells o r cells kept
 report_of_cells o f n r is masks cells kept l = record { fragments = f; net = n; layer = l; report = is; masks = masks cells kept l }
 
-pub report_of_text : (o : Options) (text : List ℕ) (f : Fragments) (n : Net) (r : PlainReport) → IsReportOfNet o f n r → HaveMasks o f n r → IsLayerOfText o text f n → IsReportOf o text r
+pub report_of_text : (o : PlainOptions) (text : List ℕ) (f : Fragments) (n : Net) (r : PlainReport) → IsReportOfNet o f n r → HaveMasks o f n r → IsLayerOfText o text f n → IsReportOf o text r
 report_of_text o text f n r is masks l = on_layer o text (λ cells kept. IsLayer o cells kept f n) (IsReportOfCells o r) (report_of_cells o f n r is masks) l
 
-pub balanced_of_text : (o : Options) (text : List ℕ) (f : Fragments) (n : Net) (r : PlainReport) → IsReportOfNet o f n r → HaveMasks o f n r → AreBalanced f n r.head.colours → IsLayerOfText o text f n → OnLayer o text (IsBalancedOfCells o r)
+pub balanced_of_text : (o : PlainOptions) (text : List ℕ) (f : Fragments) (n : Net) (r : PlainReport) → IsReportOfNet o f n r → HaveMasks o f n r → AreBalanced f n r.head.colours → IsLayerOfText o text f n → OnLayer o text (IsBalancedOfCells o r)
 unfolding report_of_cells
 balanced_of_text o text f n r is masks even l =
     on_layer o text (λ cells kept. IsLayer o cells kept f n) (IsBalancedOfCells o r) (λ cells kept k. record { of_cells = report_of_cells o f n r is masks cells kept k; even = even }) l

@@ -3,7 +3,7 @@ use Rattle.std.proofs.Common.{arith, ◌≡◌, ◌⊎◌, inl, inr, ◌≤◌, 
 use Rattle.std.specs.Prelude.{Ok}
 use Rattle.dpl_sign.specs.declared.nets.Net.{Net}
 use Rattle.dpl_cuts.specs.declared.types.Fragments.{Fragments}
-use Rattle.dpl_report.specs.declared.options.Options.{Options}
+use Rattle.dpl_options.specs.Options.{PlainOptions}
 use Rattle.dpl_solve.specs.Solved.{IsRefused}
 use Rattle.dpl_layer.specs.declared.error.LayerError.{LayerError}
 use Rattle.dpl_layer.specs.declared.error.LayerError.TheVariants.{Layout, Limit, NoMemory}
@@ -40,41 +40,41 @@ not_odd net free NoMemory h = h
 -- ---- of a text
 
 -- the net of the layer is one, so its odd faces are too
-odd_alike : (o : Options) (cells kept : Cells) (e f : LayerError) → HasOddNet o e cells kept → HasOddNet o f cells kept → e ≡ f
+odd_alike : (o : PlainOptions) (cells kept : Cells) (e f : LayerError) → HasOddNet o e cells kept → HasOddNet o f cells kept → e ≡ f
 odd_alike o cells kept e f a b =
     let s = same_layer o cells kept a.fragments b.fragments a.net b.net a.layer.layer b.layer.layer in
     one_odd a.net e f a.odd (subst (λ z. IsOddNet z f) (sym s.1) b.odd)
 
 -- a text with too many odd faces has a layer within the limits before
-within : (o : Options) (text : List ℕ) (e f : LayerError) → OnLayer o text (HasOddNet o e) → ¬ RefusesLayer o text f
+within : (o : PlainOptions) (text : List ℕ) (e f : LayerError) → OnLayer o text (HasOddNet o e) → ¬ RefusesLayer o text f
 within o text e f h (inl r) = layer.drawing_free o text (HasOddNet o e) f h r
 within o text e f h (inr r) = with_layer o text (HasOddNet o e) (λ cells kept. RefusesCells o cells kept f) (λ cells kept a b. layer.cells_free o cells kept a.fragments a.net a.layer f b) h r
 
-pub one_split_refusal : (o : Options) (text : List ℕ) (e f : LayerError) → RefusesSplit o text e → RefusesSplit o text f → e ≡ f
+pub one_split_refusal : (o : PlainOptions) (text : List ℕ) (e f : LayerError) → RefusesSplit o text e → RefusesSplit o text f → e ≡ f
 one_split_refusal o text e f (inl a) (inl b) = layer.one_text_refusal o text e f a b
 one_split_refusal o text e f (inl a) (inr b) = absurd (within o text f e b a)
 one_split_refusal o text e f (inr a) (inl b) = absurd (within o text e f a b)
 one_split_refusal o text e f (inr a) (inr b) = with_layer o text (HasOddNet o e) (HasOddNet o f) (λ cells kept p q. odd_alike o cells kept e f p q) a b
 
 -- want of memory is no refusal of a text
-pub never_memory : (o : Options) (text : List ℕ) → ¬ RefusesSplit o text NoMemory
+pub never_memory : (o : PlainOptions) (text : List ℕ) → ¬ RefusesSplit o text NoMemory
 never_memory o text (inl r) = layer.never_memory o text r
 never_memory o text (inr h) = of_layer o text (HasOddNet o NoMemory) (λ cells kept k. k.odd) h
 
 -- the limits that refuse a text have the numbers 2 to 8
-pub split_kind : (o : Options) (text : List ℕ) (k n : ℕ) → RefusesSplit o text (Limit k n) → (2 ≤ k) × (k ≤ 8)
+pub split_kind : (o : PlainOptions) (text : List ℕ) (k n : ℕ) → RefusesSplit o text (Limit k n) → (2 ≤ k) × (k ≤ 8)
 split_kind o text k n (inl r) = let h = layer.layer_kind o text k n r in (h.0, omega (arith, h.1))
 split_kind o text k n (inr h) = of_layer o text (HasOddNet o (Limit k n)) (λ cells kept p. (omega (arith, p.odd.0), omega (arith, p.odd.0))) h
 
 -- ---- of a text with a layer
 
 -- a layer whose net has too many odd faces refuses the text
-pub odd_refuses : (o : Options) (text : List ℕ) (f : Fragments) (n : Net) (e : LayerError) → IsLayerOfText o text f n → (e ≡ NoMemory) ⊎ IsOddNet n e → (e ≡ NoMemory) ⊎ RefusesSplit o text e
+pub odd_refuses : (o : PlainOptions) (text : List ℕ) (f : Fragments) (n : Net) (e : LayerError) → IsLayerOfText o text f n → (e ≡ NoMemory) ⊎ IsOddNet n e → (e ≡ NoMemory) ⊎ RefusesSplit o text e
 odd_refuses o text f n e l (inl m) = inl m
 odd_refuses o text f n e l (inr h) = inr (inr (on_layer o text (λ cells kept. IsLayer o cells kept f n) (HasOddNet o e) (λ cells kept k. record { fragments = f; net = n; layer = k; odd = h }) l))
 
 -- a layer whose net has not too many odd faces leaves no refusal
-pub none_refuses : (o : Options) (text : List ℕ) (f : Fragments) (n : Net) → IsLayerOfText o text f n → ((e : LayerError) → ¬ IsOddNet n e) → (e : LayerError) → ¬ RefusesSplit o text e
+pub none_refuses : (o : PlainOptions) (text : List ℕ) (f : Fragments) (n : Net) → IsLayerOfText o text f n → ((e : LayerError) → ¬ IsOddNet n e) → (e : LayerError) → ¬ RefusesSplit o text e
 none_refuses o text f n l free e (inl r) = layer.none_comes o text f n l e r
 none_refuses o text f n l free e (inr r) = with_layer o text (λ cells kept. IsLayer o cells kept f n) (HasOddNet o e) alike l r where
   alike : (cells kept : Cells) → IsLayer o cells kept f n → HasOddNet o e cells kept → ⊥

@@ -7,7 +7,7 @@ use Rattle.dpl_sign.specs.Colourings.{IsColouring, cost_of}
 use Rattle.dpl_sign.specs.Drawings.{face_count}
 use Rattle.dpl_sign.specs.Excess.{excess, all_edges}
 use Rattle.dpl_cuts.specs.declared.types.Fragments.{Fragments}
-use Rattle.dpl_report.specs.declared.options.Options.{Options}
+use Rattle.dpl_options.specs.Options.{PlainOptions}
 use Rattle.dpl_report.specs.Plain.{PlainReport}
 use Rattle.dpl_report.specs.ReportLines.{report_text}
 use Rattle.dpl_report.specs.Valid.{IsReport}
@@ -45,7 +45,7 @@ pub record IsTight (net : Net) (r : PlainReport) : Type 0 where
 
 -- The report says the truth of these fragments and this net, so it is valid, and the checker finds it good; and it is
 -- tight, so its colouring is the least.
-pub record IsReportOfNet (o : Options) (f : Fragments) (net : Net) (r : PlainReport) : Type 0 where
+pub record IsReportOfNet (o : PlainOptions) (f : Fragments) (net : Net) (r : PlainReport) : Type 0 where
   pub truth : SaysTrue o f net r
   pub valid : IsReport r
   pub good : refusal_of o f net r ≡ None
@@ -55,14 +55,14 @@ pub record IsReportOfNet (o : Options) (f : Fragments) (net : Net) (r : PlainRep
 -- The masks of the report are those of the layer with these cells: together they are the layer,
 -- they overlap exactly at the listed stitches, they break the spacing only at the listed clashes,
 -- and the text read as CIF draws them.
-pub record HasMasks (o : Options) (cells : Cells) (f : Fragments) (net : Net)
+pub record HasMasks (o : PlainOptions) (cells : Cells) (f : Fragments) (net : Net)
     (r : PlainReport) : Type 0 where
   pub tiles : List Corners
   pub are_tiles : AreTiles cells tiles
   pub masks : AreMasksOf o cells tiles f net r
 
 -- the report of the layer of these cells, of which some are kept whole, and its masks
-pub record IsReportOfCells (o : Options) (r : PlainReport) (cells kept : Cells) : Type 0 where
+pub record IsReportOfCells (o : PlainOptions) (r : PlainReport) (cells kept : Cells) : Type 0 where
   pub fragments : Fragments
   pub net : Net
   pub layer : IsLayer o cells kept fragments net
@@ -70,22 +70,22 @@ pub record IsReportOfCells (o : Options) (r : PlainReport) (cells kept : Cells) 
   pub masks : HasMasks o cells fragments net r
 
 -- such a report, whose two masks differ in area by no more than they differ within one component
-pub record IsBalancedOfCells (o : Options) (r : PlainReport) (cells kept : Cells) : Type 0 where
+pub record IsBalancedOfCells (o : PlainOptions) (r : PlainReport) (cells kept : Cells) : Type 0 where
   pub of_cells : IsReportOfCells o r cells kept
   pub even : AreBalanced of_cells.fragments of_cells.net r.head.colours
 
 -- the report of the layer of the text, with its masks
-abbrev pub IsReportOf : Options → List ℕ → PlainReport → Type 0
+abbrev pub IsReportOf : PlainOptions → List ℕ → PlainReport → Type 0
 IsReportOf o text r = OnLayer o text (IsReportOfCells o r)
 
 -- the output is the text of such a report
-pub record IsSplit (o : Options) (text output : List ℕ) : Type 0 where
+pub record IsSplit (o : PlainOptions) (text output : List ℕ) : Type 0 where
   pub report : PlainReport
   pub of_layer : IsReportOf o text report
   pub is : output ≡ report_text report
 
 -- the output is the text of such a report, whose masks cover about the same area
-pub record IsBalancedSplit (o : Options) (text output : List ℕ) : Type 0 where
+pub record IsBalancedSplit (o : PlainOptions) (text output : List ℕ) : Type 0 where
   pub report : PlainReport
   pub of_layer : OnLayer o text (IsBalancedOfCells o report)
   pub is : output ≡ report_text report

@@ -14,7 +14,8 @@ use crate::solving::report_is_of_the_layer;
 use dpl_balance::balance;
 use dpl_layer::{Layer, LayerError};
 use dpl_lex::types::Commands;
-use dpl_report::{Options, Report, print};
+use dpl_options::Options;
+use dpl_report::{Report, print};
 use std::alloc::{AllocError as NoMemory, Global};
 
 /// The text of a report of a layer, where the text of the layout is already cut into these commands. Its masks cover

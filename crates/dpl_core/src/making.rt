@@ -11,7 +11,8 @@ use crate::solving::report_of_layer;
 use dpl_layer::{Layer, LayerError, layer_of_commands};
 use dpl_lex::commands;
 use dpl_lex::types::Commands;
-use dpl_report::{Options, Report, print};
+use dpl_options::Options;
+use dpl_report::{Report, print};
 use std::alloc::Global;
 
 /// The report of a layer of a text, which has at most 16 MiB.

@@ -11,9 +11,9 @@ ghost use Rattle.dpl_core.specs.Refusals.{IsOddNet};
 
 use crate::reporting::report_of;
 use dpl_layer::{Layer, LayerError};
-use dpl_report::{
-    Options, Report, masks_are_of_the_layer, true_reports_are_good, true_reports_are_valid,
-};
+use dpl_limits::Counted;
+use dpl_options::Options;
+use dpl_report::{Report, masks_are_of_the_layer, true_reports_are_good, true_reports_are_valid};
 use dpl_sign::Net;
 use dpl_solve::{Solution, SolveError, solve};
 use std::alloc::Global;
@@ -72,7 +72,7 @@ fn solve_net(alloc: Global, net: &Net) -> Result<Solution, LayerError>
     match solve(alloc, net) {
         Ok(solution) => Ok(solution),
         Err(SolveError::OddFaces(count)) => Err(LayerError::Limit {
-            kind: 8,
+            kind: Counted::OddFaces.number(),
             count: u64::from(count),
         }),
         Err(SolveError::NoMemory) => Err(LayerError::NoMemory),

@@ -1,10 +1,10 @@
-ghost use Rattle.std.specs.Prelude.{◌≤◌, length};
-ghost use Rattle.dpl_report.specs.Misses.{name_or_nothing};
+ghost use Rattle.std.specs.Prelude.{◌≤◌, length, IfSome};
+ghost use Rattle.dpl_options.specs.Options.{IsSplitLayer};
 
 use crate::{LayerError, make, parts, split, split_commands};
 use dpl_lex::{Name, commands};
-use dpl_links::types::Weights;
-use dpl_report::{Options, Report, name_bytes};
+use dpl_options::{Options, Weights, name_bytes};
+use dpl_report::Report;
 use std::alloc::Global;
 use std::test::Fail;
 
@@ -29,7 +29,7 @@ fn keeping(name: &[u8]) -> Option<Options> {
 }
 
 fn options_of(corner: u64, keep: Option<Name>) -> Option<Options>
-    requires { length (name_or_nothing keep) ≤ 31 }
+    requires { IfSome keep IsSplitLayer }
 {
     if corner < 1 || corner > 1_000_000 {
         return None;
@@ -38,18 +38,7 @@ fn options_of(corner: u64, keep: Option<Name>) -> Option<Options>
     if layer.bytes().len() > 31 {
         return None;
     }
-    let weights = Weights {
-        stitch: 1,
-        conflict: 10,
-        corner,
-    };
-    Some(Options {
-        layer,
-        space: 100,
-        overlap: 20,
-        weights,
-        keep,
-    })
+    Some(Options::new(layer, 100, 20, Weights::new(1, 10, corner), keep))
 }
 
 fn report(alloc: Global, text: &[u8]) -> Option<Report>

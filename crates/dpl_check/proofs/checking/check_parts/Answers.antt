@@ -7,7 +7,7 @@ use Rattle.dpl_check.proofs.OnceLemmas.{verdict_of_text}
 use Rattle.dpl_check.proofs.checking.check_parts.Goals as goal
 
 pub judge-requires-clause-options : goal.judge-requires-clause-options
-judge-requires-clause-options c = params_fit c.args.options.now (record { layer_is = c.bytes-layer.ensures.name; keep_is = c.name_bytes-keep.ensures.name })
+judge-requires-clause-options c = params_fit c.args.options.now c.in_range.ensures
 
 pub returns-clause-verdict : goal.returns-clause-verdict
 returns-clause-verdict c =
