@@ -1,5 +1,5 @@
 -- The masks of a report of a layer, and the report of a layer of a text.
-use Rattle.std.proofs.Common.{◌≡◌, ◌*◌, ◌≤◌, ℕ, List, length}
+use Rattle.std.proofs.Common.{ℕ, List}
 use Rattle.dpl_cell.specs.Places.{Corners}
 use Rattle.dpl_cuts.specs.declared.types.Fragments.{Fragments}
 use Rattle.dpl_sign.specs.declared.nets.Net.{Net}

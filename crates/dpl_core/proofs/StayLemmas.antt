@@ -1,5 +1,5 @@
 -- A report that breaks the same edges stays tight and the least.
-use Rattle.std.proofs.Common.{arith, ◌≡◌, ◌+◌, ◌*◌, ◌<◌, ◌≤◌, ◌↔◌, ℕ, Bool, true, List, [], length, refl, sym, ap, subst, ◌∙◌, get_or}
+use Rattle.std.proofs.Common.{arith, ◌≡◌, ◌+◌, ◌*◌, ◌<◌, ◌≤◌, ◌↔◌, ℕ, Bool, true, List, [], length, refl, sym, ap, subst, ◌∙◌}
 use Rattle.std.specs.Prelude.{◌&&◌, is_some}
 use Rattle.dpl_cycle.proofs.SumLemmas.{sum_same}
 use Rattle.dpl_sign.specs.declared.nets.Net.{Net}
