@@ -263,3 +263,31 @@ fn most_odd_faces(rt: HostRuntime) -> Result<(), Fail> {
     assert_eq!(rt; report.bound, 5120);
     Ok(())
 }
+
+/// Three links at each corner of a box, and three at each side of a bar, turn around it as they are drawn: with the
+/// links between neighbours the drawing is plane, and in the other order it would not be.
+#[test]
+fn links_turn_as_they_are_drawn(rt: HostRuntime) -> Result<(), Fail> {
+    for text in [
+        b"L M; B 100 100 50 50; B 10 10 200 110; B 10 10 155 155; B 10 10 110 200; E".as_slice(),
+        b"L M; B 100 100 -50 50; B 10 10 -200 110; B 10 10 -155 155; B 10 10 -110 200; E",
+        b"L M; B 100 100 50 -50; B 10 10 200 -110; B 10 10 155 -155; B 10 10 110 -200; E",
+        b"L M; B 100 100 -50 -50; B 10 10 -200 -110; B 10 10 -155 -155; B 10 10 -110 -200; E",
+        b"L M; B 200 100 100 50; B 40 40 20 170; B 40 40 100 170; B 40 40 180 170; E",
+        b"L M; B 200 100 100 -50; B 40 40 20 -170; B 40 40 100 -170; B 40 40 180 -170; E",
+        b"L M; B 100 200 50 100; B 40 40 170 20; B 40 40 170 100; B 40 40 170 180; E",
+        b"L M; B 100 200 -50 100; B 40 40 -170 20; B 40 40 -170 100; B 40 40 -170 180; E",
+    ] {
+        if text.len() > 100 {
+            return Err("too long")?;
+        }
+        let report = report(rt.alloc(), text).ok_or("refused")?;
+        assert_eq!(rt;
+            (report.counts.fragments, report.counts.clashes),
+            (4u64, 5u64)
+        );
+        assert_eq!(rt; report.counts.excess, 0u64);
+        assert!(rt; report.aside.as_slice().is_empty());
+    }
+    Ok(())
+}
