@@ -60,8 +60,8 @@ inner_from s t d =
             point = m.point;
             first = m.first;
             second = m.second;
-            not_first = λ at. not_there _ m.point.x _ s.x1 (over_positive m.point) m.middle a.2 at.x;
-            not_second = λ at. not_there _ m.point.x _ s.x2 (over_positive m.point) m.middle a.3 at.x;
+            not_first = λ at. not_there (pos m.point.over) m.point.x (shared s.x1 s.x2 t.x1 t.x2) s.x1 (over_positive m.point) m.middle a.2 at.x;
+            not_second = λ at. not_there (pos m.point.over) m.point.x (shared s.x1 s.x2 t.x1 t.x2) s.x2 (over_positive m.point) m.middle a.3 at.x;
           }
       | inr h ↦
           let a = overlap_apart s.y1 s.y2 t.y1 t.y2 h in
@@ -70,8 +70,8 @@ inner_from s t d =
             point = m.point;
             first = m.first;
             second = m.second;
-            not_first = λ at. not_there _ m.point.y _ s.y1 (over_positive m.point) m.middle a.2 at.y;
-            not_second = λ at. not_there _ m.point.y _ s.y2 (over_positive m.point) m.middle a.3 at.y;
+            not_first = λ at. not_there (pos m.point.over) m.point.y (shared s.y1 s.y2 t.y1 t.y2) s.y1 (over_positive m.point) m.middle a.2 at.y;
+            not_second = λ at. not_there (pos m.point.over) m.point.y (shared s.y1 s.y2 t.y1 t.y2) s.y2 (over_positive m.point) m.middle a.3 at.y;
           }
     ]
 
