@@ -1,11 +1,11 @@
 -- Where two segments have more than one point in common.
-use Rattle.std.proofs.Common.{arith, ◌≡◌, ◌≢◌, ℕ, ◌+◌, ◌<◌, ◌≤◌, ℤ, pos, neg_ℤ, ◌≤ℤ◌, ◌<ℤ◌, ◌+ℤ◌, ◌-ℤ◌, ◌*ℤ◌, refl, sym, ap, ◌∙◌, ◌⊎◌, inl, inr}
+use Rattle.std.proofs.Common.{arith, ◌≡◌, ◌≢◌, ◌+◌, ℤ, pos, ◌≤ℤ◌, ◌<ℤ◌, ◌+ℤ◌, ◌*ℤ◌, sym, ap, ◌∙◌, ◌⊎◌, inl, inr}
 use Rattle.std.specs.Int.{int_max, int_min}
 use Rattle.std.proofs.lemmas.Int.{ints, clamps, by_lt_z}
 use Rattle.dpl_euler.specs.Points.{Ends, Point, IsAt, IsOn}
-use Rattle.dpl_euler.proofs.ProductLemmas.{mul_comm, mul_moved, mul_le, mul_pos, le_from_mul, same_from_mul, zero_from_mul}
-use Rattle.dpl_euler.proofs.PointLemmas.{turn_at, turn_to, turn_of, turn_step, turn_other, turn_first, turn_second, over_positive, IsWithin, within_bounds, on_line, turns_balance, same_or_not}
-use Rattle.dpl_euler.proofs.MeetingLemmas.{DoMeet, DoSpansMeet, shared, middle_columns, middle_rows, Middle, MiddleRow, along}
+use Rattle.dpl_euler.proofs.ProductLemmas.{mul_comm, mul_moved, mul_le, same_from_mul, zero_from_mul}
+use Rattle.dpl_euler.proofs.PointLemmas.{turn_to, turn_of, turn_step, turn_other, turn_first, turn_second, over_positive, within_bounds, on_line, turns_balance, same_or_not}
+use Rattle.dpl_euler.proofs.MeetingLemmas.{DoMeet, shared, middle_columns, middle_rows, along}
 
 abbrev pub DoSpansOverlap : ℤ → ℤ → ℤ → ℤ → Type 0
 DoSpansOverlap a1 a2 b1 b2 = int_max (int_min a1 a2) (int_min b1 b2) <ℤ int_min (int_max a1 a2) (int_max b1 b2)
