@@ -85,6 +85,21 @@ def numbers(piece):
     return found
 
 
+MOST_SHOWN = 200
+
+
+def shown(text, number):
+    """The command of a number, from 1: its line, its column and its text."""
+    found, end = commands(text)
+    if not 1 <= number <= len(found) + 1:
+        raise Unreadable(f"there are {len(found)} commands before the end")
+    at, piece = found[number - 1] if number <= len(found) else (end, text[end:])
+    line = text.count(b"\n", 0, at) + 1
+    column = at - text.rfind(b"\n", 0, at)
+    said = " ".join(piece[:MOST_SHOWN].decode("ascii", "replace").split())
+    return f"line {line}, column {column}: {said or 'the text ends'}{' ..' if len(piece) > MOST_SHOWN else ''}"
+
+
 class Layout:
     """Definitions by number, and the items outside of them, in the order of the text.
 
