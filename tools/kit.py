@@ -95,7 +95,7 @@ class Line:
     def tell(self, text):
         """Shows a text that will change soon; elsewhere than on a terminal, nothing."""
         if self.renews and text != self.shown:
-            tell(f"\r\033[K{text[: os.get_terminal_size(2).columns - 1]}")
+            tell(f"\r\033[K{text[: (os.get_terminal_size(2).columns or 80) - 1]}")
             self.shown = text
 
     def say(self, text):
