@@ -124,7 +124,7 @@ def nothing_split(layer, layout):
         return said
     if counts:
         named = ", ".join(f"{name} ({count:,})" for name, count in sorted(counts.items()))
-        return f"{said}; the layers with their numbers of figures are {named}"
+        return f"{said}; the layers with their numbers of primitives are {named}"
     if len(read.bodies) > 1:
         return f"{said}, since nothing is called: the file has definitions, but no call such as C 1; stands outside of them"
     return f"{said}, and so is every other"
