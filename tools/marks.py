@@ -31,25 +31,25 @@ class Mark(NamedTuple):
     lines: list
 
 
-def marks(report, kinds=KINDS):
-    """All marks of these kinds, kind by kind."""
+def marks(report, kinds=KINDS, divide=1):
+    """All marks of these kinds, kind by kind; what they say of lengths is made smaller by `divide`."""
     edges = edges_of(report) if {"aside", "cycle"} & set(kinds) else None
     of = {
-        "conflict": lambda: (conflict(report, clash) for clash in report.clashes),
+        "conflict": lambda: (conflict(report, clash, divide) for clash in report.clashes),
         "stitch": lambda: (stitch(report, cut) for cut in report.cuts),
-        "overlap": lambda: (overlap(cut) for cut in report.cuts),
-        "aside": lambda: aside_marks(report, edges),
+        "overlap": lambda: (overlap(cut, divide) for cut in report.cuts),
+        "aside": lambda: aside_marks(report, edges, divide),
         "cycle": lambda: (odd_cycle(report, edges, number) for number in range(len(report.cycles))),
     }
     for kind in kinds:
         yield from of[kind]()
 
 
-def conflict(report, clash):
+def conflict(report, clash, divide):
     r, s = report.fragments[clash.first], report.fragments[clash.second]
     cost = weight(report, {clash.edge: ("clash", clash.first, clash.second)}, clash.edge)
     said = f"conflict, edge {clash.edge}: fragments {clash.first} and {clash.second} on mask {report.letters[clash.first]}"
-    return Mark("conflict", f"{said}, {distance(r, s)} apart, weight {cost}", [gap_box(r, s)], [])
+    return Mark("conflict", f"{said}, {distance(r, s, divide)} apart, weight {cost}", [gap_box(r, s)], [])
 
 
 def stitch(report, cut):
@@ -58,19 +58,19 @@ def stitch(report, cut):
     return Mark("stitch", said, [], [[(x1, y1), (x2, y2)]])
 
 
-def overlap(cut):
+def overlap(cut, divide):
     x1, y1, x2, y2 = cut.zone
-    said = f"overlap of the stitch at edge {cut.edge}: {(x2 - x1) / 2:g} by {(y2 - y1) / 2:g} hundredths of a micron"
+    said = f"overlap of the stitch at edge {cut.edge}: {microns((x2 - x1,), divide)} by {microns((y2 - y1,), divide)} microns"
     return Mark("overlap", said, [cut.zone], [])
 
 
-def aside_marks(report, edges):
+def aside_marks(report, edges, divide):
     broken = {clash.edge for clash in report.clashes} | {cut.edge for cut in report.cuts}
     for number in report.aside:
         kind, i, j = edges[number]
         r, s = report.fragments[i], report.fragments[j]
         cost = weight(report, edges, number)
-        said = f"{kind} set aside, edge {number}: fragments {i} and {j}, {distance(r, s)} apart"
+        said = f"{kind} set aside, edge {number}: fragments {i} and {j}, {distance(r, s, divide)} apart"
         said += "" if cost is None else f", weight {cost}, {'broken' if number in broken else 'kept by the masks'}"
         yield Mark("aside", said, [gap_box(r, s)], [])
 
@@ -83,8 +83,8 @@ def odd_cycle(report, edges, number):
     return Mark("cycle", said, gaps_passed, [track(report, edges, cycle)])
 
 
-def distance(r, s):
-    return f"{hypot(*gaps(r, s)) / 2:.6g} hundredths of a micron"
+def distance(r, s, divide):
+    return f"{hypot(*gaps(r, s)) / (200 * divide):.6g} microns"
 
 
 # ---- the line of an odd cycle
