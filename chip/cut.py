@@ -6,7 +6,6 @@ others each window notes where they cross its sides, and what of the layer they 
 """
 
 import hashlib
-import json
 import os
 import sys
 
@@ -15,6 +14,8 @@ sys.path.insert(0, os.path.dirname(os.path.abspath(__file__)))
 import pya
 
 import settings as settings_module
+from classes import Classes
+from files import read_json, write_json
 from settings import Refused, guard
 from source import Source
 
@@ -206,23 +207,6 @@ def store(settings, folder, label, lines, count, clusters, bounds):
     }
 
 
-class Classes:
-    """Classes under pairs; the least member stands for its class."""
-
-    def __init__(self, count):
-        self.up = list(range(count))
-
-    def root(self, i):
-        while self.up[i] != i:
-            self.up[i] = self.up[self.up[i]]
-            i = self.up[i]
-        return i
-
-    def join(self, i, j):
-        i, j = self.root(i), self.root(j)
-        self.up[max(i, j)] = min(i, j)
-
-
 def joined(crossing):
     """The clusters that cross sides of windows, as lists of what the windows noted of them."""
     classes = Classes(len(crossing))
@@ -256,11 +240,18 @@ def curve(item):
     return sum(((column >> b & 1) << 2 * b) | ((row >> b & 1) << 2 * b + 1) for b in range(24))
 
 
+def clear(folder):
+    """An empty folder, so that no part of an earlier cut stays."""
+    os.makedirs(folder, exist_ok=True)
+    for name in os.listdir(folder):
+        os.remove(os.path.join(folder, name))
+
+
 def cut_band(settings, folder, band):
     source = Source(settings)
     windows = Windows(source, settings.size)
     target = os.path.join(folder, "cut", str(band))
-    os.makedirs(target, exist_ok=True)
+    clear(target)
     cut = Cut(source, target)
     for i, j in windows.of_band(band, settings.bands):
         cut.window(f"x{i:04}y{j:04}", (i, j), windows.box(i, j))
@@ -269,6 +260,7 @@ def cut_band(settings, folder, band):
         "shapes": source.count(),
         "bounds": [int(v * source.ratio) for v in (source.bounds.left, source.bounds.bottom, source.bounds.right, source.bounds.top)],
         "dbu": source.layout.dbu,
+        "cell": source.cell.name,
         "parts": cut.parts,
         "crossing": cut.crossing,
     }
@@ -278,7 +270,7 @@ def cut_band(settings, folder, band):
 def pack(settings, folder):
     indices = [read_json(os.path.join(folder, "cut", str(band), "index.json")) for band in range(settings.bands)]
     target = os.path.join(folder, "cut", "border")
-    os.makedirs(target, exist_ok=True)
+    clear(target)
     parts = [part for index in indices for part in index["parts"]]
     parts += border_parts(settings, target, joined([item for index in indices for item in index["crossing"]]))
     first = indices[0]
@@ -288,6 +280,7 @@ def pack(settings, folder):
         "overlap": settings.overlap,
         "grid": float(settings.grid),
         "dbu": first["dbu"],
+        "cell": first["cell"],
         "shapes": first["shapes"],
         "windows": first["windows"],
         "bounds": first["bounds"],
@@ -318,17 +311,6 @@ def store_group(settings, folder, number, group):
     bounds = [min(lefts), min(bottoms), max(rights), max(tops)]
     lines = "".join(item["text"] for item in items)
     return store(settings, folder, f"{number:06}", lines, sum(item["count"] for item in items), len(group), bounds)
-
-
-def write_json(path, value):
-    with open(path, "w") as file:
-        json.dump(value, file, indent=1)
-        file.write("\n")
-
-
-def read_json(path):
-    with open(path) as file:
-        return json.load(file)
 
 
 def main():

@@ -1,7 +1,7 @@
 """The settings of a run, read from a JSON file, and its lengths in the units of `dpl` and of the layout.
 
 Lengths of the settings are nanometres. `grid` says how many of them one grid unit of `dpl` stands for: 5 as it is, 1 where
-the layout is scaled by five. Whatever is not a whole number of units is refused, never rounded.
+the layout is made larger by five. Whatever is not a whole number of units is refused, never rounded.
 """
 
 import json
@@ -24,6 +24,8 @@ DEFAULTS = {
     "dpl": None,
 }
 NEEDED = ("layout", "layer", "space", "overlap")
+# A part may have half as much again, and `dpl` takes 50,000.
+MOST_SIZE = 33000
 HERE = os.path.dirname(os.path.abspath(__file__))
 
 
@@ -49,9 +51,12 @@ class Settings:
         self.layout = os.path.join(folder, values["layout"])
         self.dpl = os.path.join(folder, values["dpl"]) if values["dpl"] else os.path.join(HERE, "..", "dpl")
         self.grid = Fraction(str(values["grid"]))
+        self.scale = self.whole_scale()
         self.space = self.hundredths("space", values["space"])
         self.overlap = self.hundredths("overlap", values["overlap"])
         self.weights = [(word, values[word]) for word in ("stitch", "conflict", "corner") if values[word] is not None]
+        if not 1 <= self.size <= MOST_SIZE or self.bands < 1 or self.batch < 1:
+            raise Refused(f"settings: size is 1 to {MOST_SIZE}, bands and batch are at least 1")
         self.name = re.sub("[^0-9A-Z]", "", str(values["layer"]).replace("/", "D").upper())[:31]
         if not self.name:
             raise Refused(f"layer {self.layer}: its name has no digit and no letter")
@@ -63,6 +68,12 @@ class Settings:
         for word in given:
             if word not in NEEDED and word not in DEFAULTS:
                 raise Refused(f"settings: {word} is no setting")
+
+    def whole_scale(self):
+        scale = Fraction(5) / self.grid if self.grid > 0 else Fraction(1, 2)
+        if scale.denominator != 1:
+            raise Refused(f"grid {float(self.grid):g} nm: 5 nm has to be a whole number of them")
+        return int(scale)
 
     def hundredths(self, word, length):
         """A length of the settings as an option of `dpl`, which counts two grid units each."""
