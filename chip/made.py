@@ -1,6 +1,6 @@
 """Makes the chip of `test`, in GDSII with a unit of 1 nm: KLayout runs it with `target`, a path.
 
-A cell with what double patterning meets is set out as an array, some copies turned: an odd triangle, a wire that is cut
+A cell with what double patterning meets is set out as an array, some copies mirrored: an odd triangle, a wire that is cut
 at a stitch, a ring, a corner that touches another, a comb. A wire runs along each row of the array, so that clusters
 cross the windows of a cut. One crowd of contacts has more close pairs than `dpl` takes, and layers besides have faults.
 """
@@ -61,20 +61,27 @@ def faults(layout, top):
     top.shapes(names).insert(pya.Text("NAME", pya.Trans()))
 
 
+def array(layout, layer):
+    """The blocks, the upper half of them mirrored, and a wire along each row."""
+    cell = layout.create_cell("ARRAY")
+    one = block(layout, layer)
+    up, along = pya.Vector(0, PITCH), pya.Vector(PITCH, 0)
+    half = ROWS // 2
+    cell.insert(pya.CellInstArray(one.cell_index(), pya.Trans(0, 0), along, up, COLUMNS, half))
+    mirrored = pya.Trans(0, True, 0, half * PITCH + 3100)
+    cell.insert(pya.CellInstArray(one.cell_index(), mirrored, along, up, COLUMNS, ROWS - half))
+    for row in range(ROWS):
+        cell.shapes(layer).insert(pya.Box(0, row * PITCH + 3300, COLUMNS * PITCH, row * PITCH + 3400))
+    return cell
+
+
 def main():
     layout = pya.Layout()
     layout.dbu = 0.001
     layer = layout.layer(pya.LayerInfo(10, 0))
     top = layout.create_cell("CHIP")
-    one = block(layout, layer)
-    up, along = pya.Vector(0, PITCH), pya.Vector(PITCH, 0)
-    half = ROWS // 2
-    top.insert(pya.CellInstArray(one.cell_index(), pya.Trans(0, 0), along, up, COLUMNS, half))
-    turned = pya.Trans(2, True, 0, half * PITCH + 3100)
-    top.insert(pya.CellInstArray(one.cell_index(), turned, along, up, COLUMNS, ROWS - half))
-    for row in range(ROWS):
-        top.shapes(layer).insert(pya.Box(0, row * PITCH + 3300, COLUMNS * PITCH, row * PITCH + 3400))
-    top.insert(pya.CellInstArray(crowd(layout, layer).cell_index(), pya.Trans(0, ROWS * PITCH + 1000)))
+    for cell, y in ((array(layout, layer), 0), (crowd(layout, layer), ROWS * PITCH + 1000)):
+        top.insert(pya.CellInstArray(cell.cell_index(), pya.Trans(0, y)))
     faults(layout, top)
     layout.write(target)
 
