@@ -66,6 +66,8 @@ LAYER, WEIGHTS = ("layer", "space", "overlap"), ("stitch", "conflict", "corner",
 COMMANDS = {
     "split": Command(LAYER, WEIGHTS, "puts a layer of a CIF 2.0 layout on two masks, and writes the report"),
     "check": Command((*LAYER, "report"), WEIGHTS, "reads the layout and a report again, and says whether the report is good"),
+    "cross": Command(LAYER, WEIGHTS, "tells whether links of the drawing cross, and what bars the least edge set aside"),
+    "balance": Command(LAYER, WEIGHTS, "writes a report as split does, whose masks cover about the same area"),
     "load": Command(("start", "rows", "columns"), (), "splits a made layout, and tells its numbers in one line", False),
 }
 
