@@ -98,6 +98,38 @@ def changed_reports():
     yield "no newline at the end", whole[:-1], (1, 26, 0, 0)
 
 
+def second_version(text):
+    """The same report with a corner weight, that of every conflict, as line 16."""
+    lines = text.split("\n")
+    lines[0] = lines[0].replace("(dpl 1);", "(dpl 2);")
+    return "\n".join(lines[:15] + ["(corner 10);"] + lines[15:])
+
+
+def behind(refusal):
+    """The refusal of the second version: its lines behind the masks stand one lower."""
+    reason, place, found, wanted = refusal
+    return (reason, place + (reason == 1 and place > 15), found, wanted)
+
+
+def reports_of_both_versions():
+    """All changed reports in both versions, and what is wrong with the lines of the second alone."""
+    for name, text, wanted in changed_reports():
+        yield name, text, wanted
+        if "(dpl 1);" in text:
+            yield name + ", version 2", second_version(text), behind(wanted)
+    first, second = "\n".join(REPORT), second_version("\n".join(REPORT))
+    yield "a corner line in version 1", second.replace("(dpl 2);", "(dpl 1);"), (1, 16, 0, 0)
+    yield "no corner line in version 2", first.replace("(dpl 1);", "(dpl 2);"), (1, 16, 0, 0)
+    yield "another corner weight", second.replace("(corner 10);", "(corner 9);"), (2, 16, 9, 10)
+    yield "no corner weight", second.replace("(corner 10);", "(corner 0);"), (2, 16, 0, 10)
+    yield "the corner line before the masks", "\n".join(
+        [*second.split("\n")[:14], "(corner 10);", "(masks AAB);", *second.split("\n")[16:]]
+    ), (1, 15, 0, 0)
+    yield "a keep layer", second.replace("(corner 10);", "(corner 10);\n(keep K);"), (2, 17, 75, 256)
+    yield "two keep layers", second.replace("(corner 10);", "(corner 10);\n(keep K);\n(keep K);"), (1, 18, 0, 0)
+    yield "a keep line before the corner line", second.replace("(corner 10);", "(keep K);\n(corner 10);"), (1, 16, 0, 0)
+
+
 def layouts():
     """A name, the layout, the status, and the line on the error output or how many fragments there are."""
     box = run.BOX
@@ -140,7 +172,7 @@ def main():
     with tempfile.TemporaryDirectory() as folder:
         report = os.path.join(folder, "report")
         check = ["check"] + run.OPTIONS + ["--report", report]
-        for name, text, wanted in changed_reports():
+        for name, text, wanted in reports_of_both_versions():
             with open(report, "w") as file:
                 file.write(text)
             ended, seconds, memory = timed(binary, check, TRIANGLE)

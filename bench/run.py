@@ -212,6 +212,37 @@ def random_boxes(n):
         yield (2 * x, 2 * y, 2 * x + 2 * source.randrange(1, 30), 2 * y + 2 * source.randrange(1, 30))
 
 
+def strip(n):
+    """n boxes in two rows, each close to its neighbours, so that n - 2 triangles stand side by side: all odd faces of one part."""
+    for i in range(n):
+        x, y = 150 * i, 300 * (i % 2)
+        yield (x, y, x + 200, y + 200)
+
+
+def boxes_between(n, places):
+    """About n contacts, four close to each, and a small box between four of them in so many places: four odd faces each."""
+    side = int(n**0.5)
+    yield from contacts(n, 180)
+    step = (side - 1) ** 2 // places
+    for k in range(places):
+        x, y = 180 * (k * step % (side - 1)) + 130, 180 * (k * step // (side - 1)) + 130
+        yield (x, y, x + 20, y + 20)
+
+
+def under_a_cover(n):
+    """n thin upright boxes side by side whose ends are at different heights, under one box that covers them."""
+    yield (0, 0, 8 * n, 8 * n)
+    for i in range(n):
+        yield (8 * i, 2 * (i * 7919 % n) + 2, 8 * i + 2, 4 * n + 2 * (i * 104729 % n))
+
+
+def covered(boxes, n):
+    """The text of a layout with n boxes on a keep layer, none of which touches it."""
+    text = layout(boxes).decode()
+    kept = "".join(box(40 * i, -4000, 40 * i + 10, -3000) for i in range(n))
+    return text.replace("DF;", "L K;" + kept + "DF;").encode()
+
+
 def layouts():
     """Each with the smaller of its two sizes."""
     yield "contacts, none close", 24_500, lambda n: contacts(n, 300)
@@ -228,7 +259,17 @@ def layouts():
     yield "level wires", 24_500, level_wires
     yield "random boxes", 20_000, random_boxes
     yield "level wires, six close to each", 250, close_wires
+    yield "a strip of odd faces", 1_025, strip
+    yield "uprights under a cover", 1_500, under_a_cover
     yield "crossing wires of n tiles", 49_000, lambda n: crossing(int((n / 2) ** 0.5))
+
+
+def single():
+    """Texts of one size, each with the words behind the usual ones."""
+    yield "contacts, boxes in 120 places: 480 odd faces", layout(boxes_between(40_000, 120)), []
+    yield "contacts, boxes in 500 places: 2,000 odd faces", layout(boxes_between(40_000, 500)), []
+    yield "contacts, none close, no keep layer", layout(contacts(40_000, 300)), []
+    yield "the same with 50,000 keep tiles", covered(contacts(40_000, 300), 50_000), ["--keep", "K"]
 
 
 def polygons():
@@ -299,6 +340,9 @@ def main():
     for name, size, boxes in layouts():
         if asked.only in name:
             pair(asked, name, size, lambda n: layout(boxes(n)))
+    for name, text, words in single():
+        if asked.only in name:
+            report(name, len(text), timed([asked.binary, "split", *OPTIONS, *words], text, asked.seconds))
     for name, size, points in polygons():
         if asked.only in name:
             pair(asked, name, size, lambda n: polygon(points(n)))

@@ -85,10 +85,26 @@ def numbers(piece):
     return found
 
 
+MOST_SHOWN = 200
+
+
+def shown(text, number):
+    """The command of a number, from 1: its line, its column and its text."""
+    found, end = commands(text)
+    if not 1 <= number <= len(found) + 1:
+        raise Unreadable(f"there are {len(found)} commands before the end")
+    at, piece = found[number - 1] if number <= len(found) else (end, text[end:])
+    line = text.count(b"\n", 0, at) + 1
+    column = at - text.rfind(b"\n", 0, at)
+    said = " ".join(piece[:MOST_SHOWN].decode("ascii", "replace").split())
+    return f"line {line}, column {column}: {said or 'the text ends'}{' ..' if len(piece) > MOST_SHOWN else ''}"
+
+
 class Layout:
     """Definitions by number, and the items outside of them, in the order of the text.
 
-    An item is (layer, figure) or (None, call); a figure is a list of corner points, a call (number, placement).
+    An item is (layer, figure) or (None, call); a figure is a list of corner points, a call (number, placement). A polygon
+    counts as many times as it has points, anything else once.
     """
 
     def __init__(self, text):
@@ -101,7 +117,7 @@ class Layout:
             head = command[:1]
             try:
                 if head == b"L":
-                    layer = bytes(b for b in command[1:] if not is_blank(b)).decode()
+                    layer = name_of(command)
                 elif head == b"D":
                     kind = bytes(b for b in command[1:] if not is_blank(b))[:1]
                     if kind == b"S":
@@ -143,7 +159,7 @@ class Layout:
         return found
 
     def counts(self):
-        """How many primitives each layer has after all calls."""
+        """How many primitives each layer has after all calls, as the limit on primitives counts them."""
         known = {}
 
         def of(owner, inside):
@@ -154,7 +170,7 @@ class Layout:
             total = {}
             for layer, item in self.bodies[owner]:
                 if layer is not None:
-                    total[layer] = total.get(layer, 0) + 1
+                    total[layer] = total.get(layer, 0) + (len(item) if isinstance(item, Polygon) else 1)
                 else:
                     for name, count in of(item[0], inside | {owner}).items():
                         total[name] = total.get(name, 0) + count
@@ -162,6 +178,18 @@ class Layout:
             return total
 
         return of(None, frozenset())
+
+
+class Polygon(list):
+    """The points of a polygon."""
+
+
+def name_of(command):
+    """The name that a layer command sets: digits and upper-case letters with blanks before and behind them alone."""
+    name = bytes(b if not is_blank(b) else 32 for b in command[1:]).strip()
+    if not 1 <= len(name) <= 32 or not all(b in DIGITS or b in UPPERS for b in name):
+        raise ValueError(f"{command.decode('ascii', 'replace')} names no layer")
+    return name.decode()
 
 
 def call_of(command, scale):
@@ -216,7 +244,7 @@ def figures_of(command, scale):
     parts = numbers(command)
     half = scale / 2
     if command[:1] == b"P":
-        return [[(x * scale, y * scale) for x, y in zip(parts[::2], parts[1::2])]]
+        return [Polygon((x * scale, y * scale) for x, y in zip(parts[::2], parts[1::2]))]
     if command[:1] == b"B":
         length, width, x, y = parts[:4]
         if len(parts) > 4 and parts[4] == 0:

@@ -5,36 +5,74 @@ fragments; docs/cuts.md has the rules. Lengths are grid units.
 """
 
 import re
+from bisect import bisect_left, insort
+from heapq import heappop, heappush
+from typing import NamedTuple
 
 from cif import Unreadable
 
+HEADS = (b"(dpl 1);\n", b"(dpl 2);\n")
 BOX = re.compile(rb"^B (\d+) (\d+) (-?\d+) (-?\d+);$")
-CELL = 4096
+
+
+class Cut(NamedTuple):
+    """A broken stitch: its edge, its two fragments, and the zone that both masks hold."""
+
+    edge: int
+    first: int
+    second: int
+    zone: tuple
+
+
+class Clash(NamedTuple):
+    """A broken clash: its edge and its two fragments."""
+
+    edge: int
+    first: int
+    second: int
+
+
+class Cycle(NamedTuple):
+    """An odd cycle: its half weight, the fragment where it starts, and the edges that it passes."""
+
+    half: int
+    start: int
+    walk: list
+
+
+class Edge(NamedTuple):
+    """An edge of the net: `bond`, `stitch` or `clash`, its smaller and its larger fragment."""
+
+    kind: str
+    first: int
+    second: int
 
 
 class Report:
     """What the lines of a report say, and the rectangle of each fragment."""
 
     def __init__(self, text):
+        if not text.startswith(HEADS):
+            raise Unreadable("this is no report of dpl: its first line is not (dpl 2);")
         self.values, self.cuts, self.clashes, self.aside, self.cycles = {}, [], [], [], []
-        self.letters = ""
+        self.layer = self.keep = self.letters = ""
         boxes = {"A": [], "B": []}
         mask = "A"
-        for line in text.splitlines():
-            found = BOX.match(line)
-            if found:
-                length, width, x, y = map(int, found.groups())
-                box = ((2 * x - length) // 4, (2 * y - width) // 4, (2 * x + length) // 4, (2 * y + width) // 4)
-                boxes[mask].append(box)
-            elif line.startswith(b"L "):
-                mask = line.decode()[-2]
-            elif line.startswith(b"("):
-                self.note(line.decode().strip("();").split())
+        for number, line in enumerate(text.splitlines(), 1):
+            try:
+                found = BOX.match(line)
+                if found:
+                    length, width, x, y = map(int, found.groups())
+                    boxes[mask].append(((2 * x - length) // 4, (2 * y - width) // 4, (2 * x + length) // 4, (2 * y + width) // 4))
+                elif line.startswith(b"L "):
+                    mask = line.decode()[-2]
+                elif line.startswith(b"("):
+                    self.note(line.decode().strip("();").split())
+            except (IndexError, KeyError, ValueError) as error:
+                raise Unreadable(f"line {number} is none of a report") from error
         self.place(boxes)
 
     def note(self, parts):
-        if not parts:
-            return
         word, rest = parts[0], parts[1:]
         if word == "masks":
             self.letters = rest[0] if rest else ""
@@ -44,15 +82,15 @@ class Report:
             self.keep = rest[0]
         elif word == "cut":
             numbers = list(map(int, rest))
-            self.cuts.append((numbers[0], tuple(numbers[3:7])))
+            self.cuts.append(Cut(*numbers[:3], tuple(numbers[3:7])))
         elif word == "clash":
-            self.clashes.append(int(rest[0]))
+            self.clashes.append(Clash(*map(int, rest)))
         elif word == "aside":
             self.aside.append(int(rest[0]))
         elif word == "cycle":
             numbers = list(map(int, rest))
-            self.cycles.append((numbers[0], numbers[1], numbers[2:]))
-        elif rest:
+            self.cycles.append(Cycle(numbers[0], numbers[1], numbers[2:]))
+        elif rest and rest[0].isdigit():
             self.values[word] = int(rest[0])
 
     def place(self, boxes):
@@ -60,10 +98,17 @@ class Report:
         at = {"A": 0, "B": 0}
         self.fragments = []
         for letter in self.letters:
-            if at[letter] == len(boxes[letter]):
+            if letter not in at or at[letter] == len(boxes[letter]):
                 raise Unreadable("the report has fewer boxes than letters")
             self.fragments.append(boxes[letter][at[letter]])
             at[letter] += 1
+        if "space" not in self.values:
+            raise Unreadable("the report has no line of its spacing")
+
+    def boxes(self, letter):
+        """The boxes of a mask: its fragments, and the overlaps of the cuts."""
+        own = [box for box, mask in zip(self.fragments, self.letters) if mask == letter]
+        return own + [cut.zone for cut in self.cuts]
 
 
 class Classes:
@@ -86,33 +131,66 @@ def gaps(r, s):
     return (max(0, r[0] - s[2], s[0] - r[2]), max(0, r[1] - s[3], s[1] - r[3]))
 
 
+class Sweep:
+    """The rectangles that a level line is near, by their widths: in a row the widths are within a factor of two, so a
+    stretch of left sides has hardly more of them than are near."""
+
+    def __init__(self):
+        self.rows, self.ends = {}, []
+
+    def add(self, i, rect, end):
+        width = (rect[2] - rect[0]).bit_length()
+        entry = (rect[0], i)
+        insort(self.rows.setdefault(width, []), entry)
+        heappush(self.ends, (end, width, entry))
+
+    def drop_below(self, y):
+        while self.ends and self.ends[0][0] < y:
+            _, width, entry = heappop(self.ends)
+            row = self.rows[width]
+            del row[bisect_left(row, entry)]
+            if not row:
+                del self.rows[width]
+
+    def between(self, left, right):
+        for width, row in self.rows.items():
+            yield from row[bisect_left(row, (left - (1 << width), 0)) : bisect_left(row, (right + 1, 0))]
+
+
 def near(rects, reach):
-    """The pairs of numbers of rectangles whose gap is less than the reach, or that touch."""
-    cells = {}
-    for i, r in enumerate(rects):
-        for x in range((r[0] - reach) // CELL, (r[2] + reach) // CELL + 1):
-            for y in range((r[1] - reach) // CELL, (r[3] + reach) // CELL + 1):
-                cells.setdefault((x, y), []).append(i)
-    seen = set()
-    for found in cells.values():
-        for k, i in enumerate(found):
-            for j in found[k + 1 :]:
-                if (i, j) not in seen:
-                    dx, dy = gaps(rects[i], rects[j])
-                    if dx * dx + dy * dy < reach * reach or (dx, dy) == (0, 0):
-                        seen.add((i, j))
-    return seen
+    """The pairs of numbers of rectangles whose gap is less than the reach, or that touch, ascending."""
+    sweep, found = Sweep(), []
+    for i in sorted(range(len(rects)), key=lambda i: rects[i][1]):
+        r = rects[i]
+        sweep.drop_below(r[1])
+        for _, j in sweep.between(r[0] - reach, r[2] + reach):
+            dx, dy = gaps(r, rects[j])
+            if dx * dx + dy * dy < reach * reach or dx == dy == 0:
+                found.append((i, j) if i < j else (j, i))
+        sweep.add(i, r, r[3] + reach)
+    found.sort()
+    return found
+
+
+def common(r, s):
+    """The stretches that two rectangles share across and up; a negative length is a gap."""
+    return min(r[2], s[2]) - max(r[0], s[0]), min(r[3], s[3]) - max(r[1], s[1])
+
+
+def is_corner(r, s):
+    """Whether two rectangles meet at corners alone."""
+    across, up = common(r, s)
+    return across <= 0 and up <= 0
 
 
 def edges_of(report):
-    """The edges in their order: (kind, smaller fragment, larger fragment)."""
+    """The edges in their order: bonds, then stitches, then clashes."""
     rects = report.fragments
     reach = 2 * report.values["space"]
     bonds, stitches, others = [], [], []
-    for i, j in sorted(near(rects, reach)):
+    for i, j in near(rects, reach):
         r, s = rects[i], rects[j]
-        across = min(r[2], s[2]) - max(r[0], s[0])
-        up = min(r[3], s[3]) - max(r[1], s[1])
+        across, up = common(r, s)
         if across > 0 and up == 0:
             same = (r[0], r[2]) == (s[0], s[2])
             (stitches if same else bonds).append((i, j))
@@ -131,13 +209,50 @@ def edges_of(report):
         if shapes.root(i) == shapes.root(j):
             continue
         dx, dy = gaps(rects[i], rects[j])
-        if dx * dx + dy * dy >= reach * reach:
-            continue
-        r, s = rects[i], rects[j]
-        corner = not (min(r[2], s[2]) > max(r[0], s[0]) or min(r[3], s[3]) > max(r[1], s[1]))
-        rank = (dx * dx + dy * dy, corner, i, j)
-        pair = tuple(sorted((pieces.root(i), pieces.root(j))))
-        links[pair] = min(links.get(pair, rank), rank)
+        if dx * dx + dy * dy < reach * reach:
+            rank = (dx * dx + dy * dy, is_corner(rects[i], rects[j]), i, j)
+            pair = tuple(sorted((pieces.root(i), pieces.root(j))))
+            links[pair] = min(links.get(pair, rank), rank)
     clashes = sorted((i, j) for _, _, i, j in links.values())
     named = (("bond", bonds), ("stitch", stitches), ("clash", clashes))
-    return [(kind, i, j) for kind, pairs in named for i, j in pairs]
+    edges = [Edge(kind, i, j) for kind, pairs in named for i, j in pairs]
+    compare(report, {"bonds": bonds, "stitches": stitches, "clashes": clashes}, edges)
+    return edges
+
+
+def compare(report, counted, edges):
+    """Refuses a report that is not true of its own boxes, since its numbers would name other edges."""
+    for word, pairs in counted.items():
+        if report.values.get(word) != len(pairs):
+            raise Unreadable(f"the report has {report.values.get(word)} {word}, but its boxes make {len(pairs)}")
+    passed = (edge for cycle in report.cycles for edge in cycle.walk)
+    if any(not 0 <= edge < len(edges) for edge in [*report.aside, *passed]):
+        raise Unreadable("the report names an edge that its boxes do not make")
+
+
+def weight(report, edges, number):
+    """What a broken edge costs; None for a bond, which is never broken."""
+    kind, i, j = edges[number]
+    if kind == "clash" and is_corner(report.fragments[i], report.fragments[j]):
+        return report.values.get("corner", report.values["conflict"])
+    return {"bond": None, "stitch": report.values["stitch"], "clash": report.values["conflict"]}[kind]
+
+
+def gap_box(r, s):
+    """The box between two rectangles: as wide as they face each other, from the one to the other."""
+    xs = sorted((max(r[0], s[0]), min(r[2], s[2])))
+    ys = sorted((max(r[1], s[1]), min(r[3], s[3])))
+    return (xs[0], ys[0], xs[1], ys[1])
+
+
+def fragments_of(edges, cycle):
+    """The fragments that a cycle passes, one before each of its edges, and the one where it ends."""
+    at = cycle.start
+    passed = [at]
+    for edge in cycle.walk:
+        _, i, j = edges[edge]
+        if at not in (i, j):
+            raise Unreadable(f"a cycle passes edge {edge}, which does not begin where the cycle stands")
+        at = j if at == i else i
+        passed.append(at)
+    return passed

@@ -7,7 +7,7 @@ ghost use Rattle.dpl_check.specs.Checked.{BoundsAll, IsVerdictOf};
 use crate::judging::judge;
 use crate::verdicts::Verdict;
 use dpl_layer::{LayerError, read_layer};
-use dpl_report::{Options, name_bytes};
+use dpl_options::Options;
 use std::alloc::Global;
 
 /// Whether a report is good for a layer of a layout, and otherwise the first condition that fails. Nothing is believed
@@ -48,8 +48,7 @@ fn check_parts(
     ensures refused { IfErr result (λ e. (e ≡ LayerError.NoMemory) ⊎
         RefusesLayer options.now text.now e) }
 {
-    let _layer = options.layer.bytes();
-    let _keep = name_bytes(&options.keep);
+    options.in_range();
     let layer = read_layer(alloc, text, options)?;
     let verdict = judge(alloc, options, &layer.fragments, &layer.net, report)?;
     Ok(verdict)

@@ -9,7 +9,8 @@ ghost use Rattle.dpl_report.specs.Misses as misses;
 ghost use Rattle.dpl_report.specs.Conditions as conditions;
 
 use dpl_cell::Rect;
-use dpl_report::{Broken, Counts, Miss, Options, Params, Zone, name_bytes};
+use dpl_options::{Options, name_bytes};
+use dpl_report::{Broken, Counts, Miss, Params, Zone};
 
 /// Two numbers of a line that have to be the same.
 pub fn number_miss(place: u64, found: u64, wanted: u64) -> Option<Miss>
@@ -240,8 +241,8 @@ fn more_miss(found: &Params, wanted: &Options) -> Option<Miss>
     requires found { IsParams found.now }
     ensures { result ≡ conditions.more_miss found.now wanted.now }
 {
-    let corner = number_miss(16, corner_weight(found), wanted.weights.corner);
-    let keep = name_miss(17, name_bytes(&found.keep), name_bytes(&wanted.keep));
+    let corner = number_miss(16, corner_weight(found), wanted.weights().corner());
+    let keep = name_miss(17, name_bytes(&found.keep), name_bytes(wanted.keep()));
     corner.or(keep)
 }
 
@@ -250,11 +251,11 @@ pub fn params_miss(found: &Params, wanted: &Options) -> Option<Miss>
     requires found { IsParams found.now }
     ensures { result ≡ conditions.params_miss found.now wanted.now }
 {
-    let first = name_miss(2, found.layer.bytes(), wanted.layer.bytes())
-        .or(number_miss(3, found.space, wanted.space))
-        .or(number_miss(4, found.overlap, wanted.overlap));
+    let first = name_miss(2, found.layer.bytes(), wanted.layer().bytes())
+        .or(number_miss(3, found.space, wanted.space()))
+        .or(number_miss(4, found.overlap, wanted.overlap()));
     first
-        .or(number_miss(5, found.stitch, wanted.weights.stitch))
-        .or(number_miss(6, found.conflict, wanted.weights.conflict))
+        .or(number_miss(5, found.stitch, wanted.weights().stitch()))
+        .or(number_miss(6, found.conflict, wanted.weights().conflict()))
         .or(more_miss(found, wanted))
 }

@@ -1,15 +1,16 @@
 -- A report that breaks the same edges stays tight and the least.
-use Rattle.std.proofs.Common.{arith, ◌≡◌, ◌+◌, ◌*◌, ◌<◌, ◌≤◌, ◌↔◌, ℕ, Bool, List, [], length, refl, sym, ap, subst, ◌∙◌, get_or}
-use Rattle.std.specs.Prelude.{◌&&◌}
+use Rattle.std.proofs.Common.{arith, ◌≡◌, ◌+◌, ◌*◌, ◌<◌, ◌≤◌, ◌↔◌, ℕ, Bool, true, List, [], length, refl, sym, ap, subst, ◌∙◌}
+use Rattle.std.specs.Prelude.{◌&&◌, is_some}
 use Rattle.dpl_cycle.proofs.SumLemmas.{sum_same}
 use Rattle.dpl_sign.specs.declared.nets.Net.{Net}
 use Rattle.dpl_sign.specs.Colourings.{breaks}
 use Rattle.dpl_sign.specs.Walks.{no_edge, edge_at}
+use Rattle.dpl_sign.specs.Drawings.{face_count}
 use Rattle.dpl_sign.specs.Excess.{excess, all_edges, is_aside}
 use Rattle.dpl_report.specs.declared.reports.Report.{Report}
 use Rattle.dpl_report.specs.Plain.{plain_report}
-use Rattle.dpl_solve.specs.Named.{keeps}
-use Rattle.dpl_solve.specs.Solved.{kept_cost, aside_cost, KeepToKept}
+use Rattle.dpl_solve.specs.Named.{keeps, odd_faces}
+use Rattle.dpl_solve.specs.Solved.{kept_cost, aside_cost, KeepToKept, PassOnce}
 use Rattle.dpl_balance.specs.Balance.{BreakTheSame}
 use Rattle.dpl_balance.specs.Rest.{IsRestOf}
 use Rattle.dpl_core.specs.Reports.{IsTight, IsLeast}
@@ -25,7 +26,10 @@ aside_same net old new b = sum_same (length net.graph.edges) (λ e. is_aside net
 
 pub still_tight : (net : Net) (old new : Report) → IsRestOf old new → BreakTheSame net old.colours new.colours → IsTight net (plain_report old) → IsTight net (plain_report new)
 still_tight net old new r b t = record {
+  corner = subst (λ p. is_some p.corner ≡ true) (sym r.params) t.corner;
   kept = subst (KeepToKept net) (sym r.cycles) t.kept;
+  once = subst PassOnce (sym r.cycles) t.once;
+  few = subst (λ z. length z ≤ face_count net (keeps net) + 2 * length (odd_faces net)) (sym r.cycles) t.few;
   tight = r.bound ∙ t.tight ∙ ap (λ k. 2 * k) (sym (kept_same net old.colours new.colours b));
   rest = r.cost ∙ t.rest ∙ ap (λ k. k + aside_cost net old.colours) (sym (kept_same net old.colours new.colours b)) ∙ ap (λ k. kept_cost net new.colours + k) (sym (aside_same net old.colours new.colours b));
 }

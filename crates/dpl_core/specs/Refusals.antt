@@ -1,15 +1,15 @@
 -- Why a text has no report.
-use Rattle.std.specs.Prelude.{◌≡◌, ◌⊎◌, ◌≤◌, ℕ, ℤ, Bool, List, length}
-use Rattle.dpl_cif.specs.Reading.{reading}
-use Rattle.dpl_cif.specs.OnCells.{OnCells}
+use Rattle.std.specs.Prelude.{◌≡◌, ◌⊎◌, ℕ, List}
 use Rattle.dpl_sign.specs.declared.nets.Net.{Net}
 use Rattle.dpl_cuts.specs.declared.types.Fragments.{Fragments}
-use Rattle.dpl_report.specs.declared.options.Options.{Options}
+use Rattle.dpl_options.specs.Options.{PlainOptions}
 use Rattle.dpl_solve.specs.Solved.{IsRefused}
 use Rattle.dpl_layer.specs.declared.error.LayerError.{LayerError}
 use Rattle.dpl_layer.specs.declared.error.LayerError.TheVariants.{Layout, Limit, NoMemory}
-use Rattle.dpl_limits.specs.Limits.{Counted, number_of, most_of}
-use Rattle.dpl_layer.specs.Layers.{IsLayerOf}
+use Rattle.dpl_limits.specs.Limits.{number_of}
+use Rattle.dpl_limits.specs.declared.counted.Counted.TheVariants as Counted
+use Rattle.dpl_layer.specs.Drawings.{Cells, OnLayer}
+use Rattle.dpl_layer.specs.Layers.{IsLayer}
 use Rattle.dpl_layer.specs.Refusals.{RefusesLayer}
 
 -- an answer names the limit on odd faces with this count
@@ -20,14 +20,12 @@ IsOddNet net NoMemory = ⊥
 
 -- no limit before is passed, but a part of the net has too many odd faces, and this is the
 -- greatest number of one part
-pub record HasOddNet (o : Options) (e : LayerError) (cells : ℤ → ℤ → Bool) : Type 0 where
+pub record HasOddNet (o : PlainOptions) (e : LayerError) (cells kept : Cells) : Type 0 where
   pub fragments : Fragments
   pub net : Net
-  pub layer : IsLayerOf o cells fragments net
-  pub few_fragments : length fragments.rects ≤ most_of Counted.Fragments
-  pub few_edges : length net.graph.edges ≤ most_of Counted.Edges
+  pub layer : IsLayer o cells kept fragments net
   pub odd : IsOddNet net e
 
 -- the text has no layer, or the net of its layer has too many odd faces
-abbrev pub RefusesSplit : Options → List ℕ → LayerError → Type 0
-RefusesSplit o text e = RefusesLayer o text e ⊎ OnCells (reading o.layer text) (HasOddNet o e)
+abbrev pub RefusesSplit : PlainOptions → List ℕ → LayerError → Type 0
+RefusesSplit o text e = RefusesLayer o text e ⊎ OnLayer o text (HasOddNet o e)

@@ -1,22 +1,23 @@
 -- The report of a layer of a text, and what its bound proves.
-use Rattle.std.specs.Prelude.{◌≡◌, ◌↔◌, ◌+◌, ◌*◌, ◌≤◌, ℕ, ℤ, Bool, true, List, [], None, is_some}
+use Rattle.std.specs.Prelude.{◌≡◌, ◌↔◌, ◌+◌, ◌*◌, ◌≤◌, ℕ, Bool, true, List, [], length, None, is_some}
 use Rattle.dpl_cell.specs.Places.{Corners}
 use Rattle.dpl_cell.specs.Tiles.{AreTiles}
-use Rattle.dpl_cif.specs.Reading.{reading}
-use Rattle.dpl_cif.specs.OnCells.{OnCells}
 use Rattle.dpl_sign.specs.declared.nets.Net.{Net}
 use Rattle.dpl_sign.specs.Colourings.{IsColouring, cost_of}
+use Rattle.dpl_sign.specs.Drawings.{face_count}
 use Rattle.dpl_sign.specs.Excess.{excess, all_edges}
 use Rattle.dpl_cuts.specs.declared.types.Fragments.{Fragments}
-use Rattle.dpl_report.specs.declared.options.Options.{Options}
+use Rattle.dpl_options.specs.Options.{PlainOptions}
 use Rattle.dpl_report.specs.Plain.{PlainReport}
 use Rattle.dpl_report.specs.ReportLines.{report_text}
 use Rattle.dpl_report.specs.Valid.{IsReport}
 use Rattle.dpl_report.specs.Truths.{SaysTrue}
 use Rattle.dpl_report.specs.Verdicts.{refusal_of}
 use Rattle.dpl_report.specs.MaskCells.{AreMasksOf}
-use Rattle.dpl_solve.specs.Solved.{kept_cost, aside_cost, KeepToKept}
-use Rattle.dpl_layer.specs.Layers.{IsLayerOf}
+use Rattle.dpl_solve.specs.Named.{keeps, odd_faces}
+use Rattle.dpl_solve.specs.Solved.{kept_cost, aside_cost, KeepToKept, PassOnce}
+use Rattle.dpl_layer.specs.Drawings.{Cells, OnLayer}
+use Rattle.dpl_layer.specs.Layers.{IsLayer}
 use Rattle.dpl_balance.specs.Balance.{AreBalanced}
 
 -- What the report's bound and cost say of all colourings of the net: each costs at least half
@@ -31,53 +32,60 @@ pub record IsLeast (net : Net) (r : PlainReport) : Type 0 where
   pub all : excess net all_edges ≡ 0 → (colours : List Bool) → IsColouring net.graph colours
       → r.head.cost ≤ cost_of net.graph colours
 
--- It has a corner weight, its cycles pass kept edges alone, its bound is twice the weight of the kept edges that its
--- colouring breaks, and its cost exceeds half the bound by the weight of the broken edges among
--- those set aside.
+-- It has a corner weight, its cycles pass kept edges alone, each no edge twice, and they are no more than the faces and
+-- twice the odd faces. Its bound is twice the weight of the kept edges that its colouring breaks, and its cost exceeds
+-- half the bound by the weight of the broken edges among those set aside.
 pub record IsTight (net : Net) (r : PlainReport) : Type 0 where
   pub corner : is_some r.head.params.corner ≡ true
   pub kept : KeepToKept net r.lists.cycles
+  pub once : PassOnce r.lists.cycles
+  pub few : length r.lists.cycles ≤ face_count net (keeps net) + 2 * length (odd_faces net)
   pub tight : r.head.bound ≡ 2 * kept_cost net r.head.colours
   pub rest : r.head.cost ≡ kept_cost net r.head.colours + aside_cost net r.head.colours
 
--- The report says the truth of the fragments and the net of the layer, so it is valid, and the
--- checker finds it good; and it is tight, so its colouring is the least.
-pub record IsReportOf (o : Options) (text : List ℕ) (r : PlainReport) : Type 0 where
-  pub fragments : Fragments
-  pub net : Net
-  pub layer : OnCells (reading o.layer text) (λ cells. IsLayerOf o cells fragments net)
-  pub truth : SaysTrue o fragments net r
+-- The report says the truth of these fragments and this net, so it is valid, and the checker finds it good; and it is
+-- tight, so its colouring is the least.
+pub record IsReportOfNet (o : PlainOptions) (f : Fragments) (net : Net) (r : PlainReport) : Type 0 where
+  pub truth : SaysTrue o f net r
   pub valid : IsReport r
-  pub good : refusal_of o fragments net r ≡ None
+  pub good : refusal_of o f net r ≡ None
   pub tight : IsTight net r
   pub least : IsLeast net r
 
 -- The masks of the report are those of the layer with these cells: together they are the layer,
 -- they overlap exactly at the listed stitches, they break the spacing only at the listed clashes,
 -- and the text read as CIF draws them.
-pub record HasMasks (o : Options) (r : PlainReport) (cells : ℤ → ℤ → Bool) : Type 0 where
-  pub fragments : Fragments
-  pub net : Net
-  pub layer : IsLayerOf o cells fragments net
+pub record HasMasks (o : PlainOptions) (cells : Cells) (f : Fragments) (net : Net)
+    (r : PlainReport) : Type 0 where
   pub tiles : List Corners
   pub are_tiles : AreTiles cells tiles
-  pub masks : AreMasksOf o cells tiles fragments net r
+  pub masks : AreMasksOf o cells tiles f net r
 
--- the output is the text of such a report, with its masks
-pub record IsSplit (o : Options) (text output : List ℕ) : Type 0 where
-  pub report : PlainReport
-  pub of_layer : IsReportOf o text report
-  pub masks : OnCells (reading o.layer text) (HasMasks o report)
-  pub is : output ≡ report_text report
-
--- The output is the text of such a report, with its masks, and the two masks differ in area by no
--- more than they differ within one component.
-pub record IsBalancedSplit (o : Options) (text output : List ℕ) : Type 0 where
-  pub report : PlainReport
-  pub of_layer : IsReportOf o text report
-  pub masks : OnCells (reading o.layer text) (HasMasks o report)
+-- the report of the layer of these cells, of which some are kept whole, and its masks
+pub record IsReportOfCells (o : PlainOptions) (r : PlainReport) (cells kept : Cells) : Type 0 where
   pub fragments : Fragments
   pub net : Net
-  pub layer : OnCells (reading o.layer text) (λ cells. IsLayerOf o cells fragments net)
-  pub even : AreBalanced fragments net report.head.colours
+  pub layer : IsLayer o cells kept fragments net
+  pub report : IsReportOfNet o fragments net r
+  pub masks : HasMasks o cells fragments net r
+
+-- such a report, whose two masks differ in area by no more than they differ within one component
+pub record IsBalancedOfCells (o : PlainOptions) (r : PlainReport) (cells kept : Cells) : Type 0 where
+  pub of_cells : IsReportOfCells o r cells kept
+  pub even : AreBalanced of_cells.fragments of_cells.net r.head.colours
+
+-- the report of the layer of the text, with its masks
+abbrev pub IsReportOf : PlainOptions → List ℕ → PlainReport → Type 0
+IsReportOf o text r = OnLayer o text (IsReportOfCells o r)
+
+-- the output is the text of such a report
+pub record IsSplit (o : PlainOptions) (text output : List ℕ) : Type 0 where
+  pub report : PlainReport
+  pub of_layer : IsReportOf o text report
+  pub is : output ≡ report_text report
+
+-- the output is the text of such a report, whose masks cover about the same area
+pub record IsBalancedSplit (o : PlainOptions) (text output : List ℕ) : Type 0 where
+  pub report : PlainReport
+  pub of_layer : OnLayer o text (IsBalancedOfCells o report)
   pub is : output ≡ report_text report

@@ -2,17 +2,20 @@
 ghost use Rattle.std.specs.Prelude.{◌≡◌, ◌⊎◌, ◌≤◌, length, IfOk, Err};
 ghost use Rattle.dpl_limits.specs.declared.TheConstants.{MOST_LAYOUT_BYTES};
 ghost use Rattle.dpl_lex.specs.Cutting.{commands_of};
+ghost use Rattle.dpl_layer.specs.Drawings.{Cells};
+ghost use Rattle.dpl_layer.specs.Layers.{IsLayer, IsSomeLayer};
 ghost use Rattle.dpl_report.specs.Plain.{plain_report};
-ghost use Rattle.dpl_report.specs.Truths.{SaysTrue};
 ghost use Rattle.dpl_balance.specs.Balance.{AreBalanced};
-ghost use Rattle.dpl_core.specs.Reports.{IsBalancedSplit, IsLeast, IsTight};
+ghost use Rattle.dpl_core.specs.Reports.{HasMasks, IsBalancedSplit, IsReportOfNet};
 ghost use Rattle.dpl_core.specs.Refusals.{RefusesSplit};
 
-use crate::making::{Made, report_is_of_the_layer, solved};
+use crate::making::{Made, make_commands};
+use crate::solving::report_is_of_the_layer;
 use dpl_balance::balance;
 use dpl_layer::{Layer, LayerError};
 use dpl_lex::types::Commands;
-use dpl_report::{Options, Report, print};
+use dpl_options::Options;
+use dpl_report::{Report, print};
 use std::alloc::{AllocError as NoMemory, Global};
 
 /// The text of a report of a layer, where the text of the layout is already cut into these commands. Its masks cover
@@ -31,30 +34,30 @@ pub fn balance_commands(
     ensures exact { (e : LayerError) → RefusesSplit options.now text.now e →
         (result ≡ Err e) ⊎ (result ≡ Err LayerError.NoMemory) }
 {
-    let Made { layer, report } = solved(alloc, text, commands, options)?;
+    let Made { layer, report } = make_commands(alloc, text, commands, options)?;
     let report = balanced(alloc, options, &layer, report)?;
-    report_is_of_the_layer(options, text, &layer, &report);
     let written = print(alloc, &report)?;
     Ok(written)
 }
 
-/// The report with whole components turned over. It stays true, tight and the least.
+/// The report with whole components turned over. It stays the report of its layer.
 fn balanced(
     alloc: Global,
     options: &Options,
     layer: &Layer,
     report: Report,
 ) -> Result<Report, NoMemory>
-    requires nodes { layer.now.net.graph.nodes ≡ length layer.now.fragments.rects }
-    requires truth { SaysTrue options.now layer.now.fragments layer.now.net (plain_report report) }
-    requires tight { IsTight layer.now.net (plain_report report) }
-    requires least { IsLeast layer.now.net (plain_report report) }
-    ensures truth { IfOk result (λ r.
-        SaysTrue options.now layer.now.fragments layer.now.net (plain_report r)) }
-    ensures tight { IfOk result (λ r. IsTight layer.now.net (plain_report r)) }
-    ensures least { IfOk result (λ r. IsLeast layer.now.net (plain_report r)) }
+    requires layer { IsSomeLayer options.now layer.now.fragments layer.now.net }
+    requires report { IsReportOfNet options.now layer.now.fragments layer.now.net
+        (plain_report report) }
+    ensures report { IfOk result (λ r.
+        IsReportOfNet options.now layer.now.fragments layer.now.net (plain_report r)) }
+    ensures masks { IfOk result (λ r. (cells kept : Cells) →
+        IsLayer options.now cells kept layer.now.fragments layer.now.net →
+        HasMasks options.now cells layer.now.fragments layer.now.net (plain_report r)) }
     ensures even { IfOk result (λ r. AreBalanced layer.now.fragments layer.now.net r.colours) }
 {
     let report = balance(alloc, report, &layer.fragments, &layer.net)?;
+    report_is_of_the_layer(options, layer, &report);
     Ok(report)
 }

@@ -12,7 +12,8 @@ ghost use Rattle.dpl_core.specs.Reports.{IsTight, IsLeast};
 use dpl_cuts::types::Fragments;
 use dpl_lex::Name;
 use dpl_list::Items;
-use dpl_report::{Counts, Options, Params, Report, broken_clashes, broken_cuts, masks};
+use dpl_options::Options;
+use dpl_report::{Counts, Params, Report, broken_clashes, broken_cuts, masks};
 use dpl_sign::{Edge, Kind, Net};
 use dpl_solve::Solution;
 use std::alloc::{AllocError as NoMemory, Global};
@@ -58,15 +59,15 @@ pub fn report_of(
 fn params_of(options: &Options) -> Params
     ensures { result ≡ params_of_options options.now }
 {
-    let corner = Some(options.weights.corner);
+    let corner = Some(options.weights().corner());
     Params {
-        layer: same_name(&options.layer),
-        space: options.space,
-        overlap: options.overlap,
-        stitch: options.weights.stitch,
-        conflict: options.weights.conflict,
+        layer: same_name(options.layer()),
+        space: options.space(),
+        overlap: options.overlap(),
+        stitch: options.weights().stitch(),
+        conflict: options.weights().conflict(),
         corner,
-        keep: same_keep(&options.keep),
+        keep: same_keep(options.keep()),
     }
 }
 

@@ -1,9 +1,10 @@
-ghost use Rattle.std.specs.Prelude.{◌≤◌, length};
+ghost use Rattle.std.specs.Prelude.{◌≤◌, length, IfSome};
+ghost use Rattle.dpl_options.specs.Options.{IsSplitLayer};
 
-use crate::{LayerError, make, split, split_commands};
+use crate::{LayerError, make, parts, split, split_commands};
 use dpl_lex::{Name, commands};
-use dpl_links::types::Weights;
-use dpl_report::{Options, Report};
+use dpl_options::{Options, Weights, name_bytes};
+use dpl_report::Report;
 use std::alloc::Global;
 use std::test::Fail;
 
@@ -15,6 +16,21 @@ fn options() -> Option<Options> {
 
 /// The same with a weight for a clash between corners.
 fn options_with(corner: u64) -> Option<Options> {
+    options_of(corner, None)
+}
+
+/// The same with a keep layer.
+fn keeping(name: &[u8]) -> Option<Options> {
+    let keep = Name::new(name)?;
+    if keep.bytes().len() > 31 {
+        return None;
+    }
+    options_of(10, Some(keep))
+}
+
+fn options_of(corner: u64, keep: Option<Name>) -> Option<Options>
+    requires { IfSome keep IsSplitLayer }
+{
     if corner < 1 || corner > 1_000_000 {
         return None;
     }
@@ -22,18 +38,7 @@ fn options_with(corner: u64) -> Option<Options> {
     if layer.bytes().len() > 31 {
         return None;
     }
-    let weights = Weights {
-        stitch: 1,
-        conflict: 10,
-        corner,
-    };
-    Some(Options {
-        layer,
-        space: 100,
-        overlap: 20,
-        weights,
-        keep: None,
-    })
+    Some(Options::new(layer, 100, 20, Weights::new(1, 10, corner), keep))
 }
 
 fn report(alloc: Global, text: &[u8]) -> Option<Report>
@@ -76,6 +81,52 @@ fn a_stitch_is_cheaper(rt: HostRuntime) -> Result<(), Fail> {
     assert_eq!(rt; report.cost, 1);
     assert_eq!(rt; report.bound, 2);
     assert_eq!(rt; report.cuts.as_slice().len(), 1);
+    Ok(())
+}
+
+/// The same wire, which the keep layer covers: a clash is left, and the report names the keep layer.
+#[test]
+fn a_kept_wire_has_no_stitch(rt: HostRuntime) -> Result<(), Fail> {
+    let layout = b"L M; B 1000 100 500 50; B 100 100 50 200; B 100 100 950 200; \
+      B 450 100 225 350; B 500 100 750 350; L K; B 1000 500 500 200; E";
+    let options = keeping(b"K".as_slice()).ok_or("no options")?;
+    let report = make(rt.alloc(), layout.as_slice(), &options)
+        .ok()
+        .ok_or("refused")?;
+    assert_eq!(rt; report.counts.stitches, 0);
+    assert_eq!(rt; report.counts.fragments, 5);
+    assert_eq!(rt; report.counts.clashes, 5);
+    assert_eq!(rt; (report.cost, report.bound), (10, 20));
+    assert_eq!(rt; name_bytes(&report.params.keep), b"K".as_slice());
+    Ok(())
+}
+
+/// A wire whose free stretch is as long as the overlap: the keep layer leaves two that are too short.
+#[test]
+fn a_kept_cell_between_short_stretches(rt: HostRuntime) -> Result<(), Fail> {
+    let layout =
+        b"L M; B 394 100 197 50; B 100 100 50 200; B 100 100 344 200; L K; B 2 100 197 50; E".as_slice();
+    let without = report(rt.alloc(), layout).ok_or("refused")?;
+    assert_eq!(rt; without.counts.stitches, 1);
+    assert_eq!(rt; without.counts.fragments, 4);
+    let options = keeping(b"K".as_slice()).ok_or("no options")?;
+    let kept = make(rt.alloc(), layout, &options).ok().ok_or("refused")?;
+    assert_eq!(rt; kept.counts.stitches, 0);
+    assert_eq!(rt; kept.counts.fragments, 3);
+    assert_eq!(rt; kept.counts.clashes, 2);
+    assert_eq!(rt; kept.cost, 0);
+    Ok(())
+}
+
+/// The stages one by one: the parts of a text, and their report.
+#[test]
+fn parts_and_their_report(rt: HostRuntime) -> Result<(), Fail> {
+    let layout =
+        b"L M; B 100 100 50 50; B 100 100 200 50; B 100 100 50 200; B 100 100 200 200; E".as_slice();
+    let options = options().ok_or("no options")?;
+    let parts = parts(rt.alloc(), layout, &options).ok().ok_or("refused")?;
+    assert_eq!(rt; parts.fragments.rects.as_slice().len(), 4);
+    assert_eq!(rt; parts.net.graph.edges.as_slice().len(), 6);
     Ok(())
 }
 
@@ -210,5 +261,33 @@ fn most_odd_faces(rt: HostRuntime) -> Result<(), Fail> {
     assert_eq!(rt; report.counts.clashes, 1025);
     assert_eq!(rt; report.cost, 2560);
     assert_eq!(rt; report.bound, 5120);
+    Ok(())
+}
+
+/// Three links at each corner of a box, and three at each side of a bar, turn around it as they are drawn: with the
+/// links between neighbours the drawing is plane, and in the other order it would not be.
+#[test]
+fn links_turn_as_they_are_drawn(rt: HostRuntime) -> Result<(), Fail> {
+    for text in [
+        b"L M; B 100 100 50 50; B 10 10 200 110; B 10 10 155 155; B 10 10 110 200; E".as_slice(),
+        b"L M; B 100 100 -50 50; B 10 10 -200 110; B 10 10 -155 155; B 10 10 -110 200; E",
+        b"L M; B 100 100 50 -50; B 10 10 200 -110; B 10 10 155 -155; B 10 10 110 -200; E",
+        b"L M; B 100 100 -50 -50; B 10 10 -200 -110; B 10 10 -155 -155; B 10 10 -110 -200; E",
+        b"L M; B 200 100 100 50; B 40 40 20 170; B 40 40 100 170; B 40 40 180 170; E",
+        b"L M; B 200 100 100 -50; B 40 40 20 -170; B 40 40 100 -170; B 40 40 180 -170; E",
+        b"L M; B 100 200 50 100; B 40 40 170 20; B 40 40 170 100; B 40 40 170 180; E",
+        b"L M; B 100 200 -50 100; B 40 40 -170 20; B 40 40 -170 100; B 40 40 -170 180; E",
+    ] {
+        if text.len() > 100 {
+            return Err("too long")?;
+        }
+        let report = report(rt.alloc(), text).ok_or("refused")?;
+        assert_eq!(rt;
+            (report.counts.fragments, report.counts.clashes),
+            (4u64, 5u64)
+        );
+        assert_eq!(rt; report.counts.excess, 0u64);
+        assert!(rt; report.aside.as_slice().is_empty());
+    }
     Ok(())
 }

@@ -1,5 +1,5 @@
 -- An edge that is set aside leads from one face of the kept edges to another.
-use Rattle.std.proofs.Common.{arith, ◌≡◌, ◌≢◌, ℕ, zero, suc, ◌+◌, ◌*◌, ◌/◌, ◌<◌, ◌≤◌, refl, sym, ap, ◌∙◌, Bool, true, false, inl, inr, List, [], ◌∷◌, ◌++◌, length, get_or, ◌-◌, subst, eq-eqb, ◌==◌}
+use Rattle.std.proofs.Common.{arith, ◌≡◌, ℕ, zero, suc, ◌+◌, ◌*◌, ◌/◌, ◌<◌, sym, ap, ◌∙◌, Bool, true, false, inl, inr, List, [], ◌∷◌, ◌++◌, length, get_or, ◌-◌, subst, eq-eqb, ◌==◌}
 use Rattle.std.specs.Prelude.{slice_index, All, Contains}
 use Rattle.std.proofs.lemmas.Bool.{cases_eq, cases_Bool, not-false, ltb-true, or_left, or_right}
 use Rattle.std.proofs.lemmas.List.Elements.{All-weaker, All-from_get_or}
@@ -8,10 +8,10 @@ use Rattle.dpl_cycle.specs.Cycles.{Permutes, least}
 use Rattle.dpl_cycle.proofs.Least.{least_step}
 use Rattle.dpl_sign.specs.declared.nets.Net.{Net}
 use Rattle.dpl_sign.specs.Walks.{edge_at, IsPath}
-use Rattle.dpl_sign.specs.Drawings.{is_bare, is_in, dart_count, next_in_face, next_around, face_of, corner_face}
-use Rattle.dpl_sign.specs.Components.{component_of, AreJoined}
+use Rattle.dpl_sign.specs.Drawings.{is_bare, is_in, dart_count, next_in_face, next_around, face_of}
+use Rattle.dpl_sign.specs.Components.{AreJoined}
 use Rattle.dpl_sign.specs.Excess.{excess, with_edge, kept_before, kept_edges, aside_edges, raises_excess, AreEndsJoined, LiesInFace}
-use Rattle.dpl_sign.proofs.ExcessLemmas.{excess_effect, one_more, kept_plane, kept_length, kept_more, raises_joined, in_front, at_end}
+use Rattle.dpl_sign.proofs.ExcessLemmas.{excess_effect, one_more, kept_plane, kept_length, in_front}
 use Rattle.dpl_sign.proofs.KeptLemmas.{kept_at, kept_early, kept_inside}
 use Rattle.dpl_sign.proofs.MonotoneLemmas.{excess_rises}
 use Rattle.dpl_sign.proofs.PathLemmas.{component_is}
@@ -23,8 +23,6 @@ use Rattle.dpl_drawing.proofs.FaceLists.{face_stays}
 use Rattle.dpl_map.proofs.AsideLemmas.{joined_below}
 use Rattle.dpl_euler.specs.Bars.{corner_at, IsBar, IsFirstAside}
 use Rattle.dpl_euler.specs.Cycles.{IsCycleFrom}
-use Rattle.dpl_euler.specs.declared.types.Bar.{Bar}
-use Rattle.dpl_drawing.specs.Faces.{AreFaces}
 use Rattle.dpl_sign.specs.declared.edges.Edge.{Edge}
 use Rattle.dpl_euler.proofs.FirstLemmas.{first_aside}
 

@@ -1,12 +1,12 @@
 -- What the search for a crossing may leave out: links and fragments whose bounds do not meet.
-use Rattle.std.proofs.Common.{arith, ◌≡◌, ℕ, ◌+◌, ◌<◌, sym, ap, ◌∙◌, subst, Bool, true, false, not, ◌&&◌, inl, inr, List, [], ◌∷◌, ◌++◌, zero, suc, refl, length, length-append, get_or, map, ℤ, ◌≤ℤ◌}
+use Rattle.std.proofs.Common.{arith, ◌≡◌, ℕ, ◌+◌, ◌<◌, sym, ap, ◌∙◌, subst, true, false, not, ◌&&◌, inl, inr, List, [], ◌∷◌, ◌++◌, zero, suc, refl, length, length-append, get_or, map, ℤ, ◌≤ℤ◌}
 use Rattle.std.specs.Prelude.{int_le}
-use Rattle.std.proofs.lemmas.Bool.{cases_eq, cases_lt, cases_Bool, cond-true, cond-false, and_parts, true≢false}
-use Rattle.std.proofs.lemmas.List.{get_or_append_left, get_or-append-add, get_or_default, get_or-map, get_or_read, length-map}
+use Rattle.std.proofs.lemmas.Bool.{cases_eq, cases_Bool, cond-true, cond-false, and_parts, true≢false}
+use Rattle.std.proofs.lemmas.List.{get_or_append_left, get_or-append-add, get_or_default, get_or-map, length-map}
 use Rattle.dpl_index.specs.declared.bounds.Bounds.{Bounds}
 use Rattle.dpl_index.specs.Meetings.{Meets, IsMeeting, AreMeeting}
 use Rattle.dpl_cell.specs.declared.rect.Rect.{Rect}
-use Rattle.dpl_cell.specs.Places.{Corners, corners_of}
+use Rattle.dpl_cell.specs.Places.{corners_of}
 use Rattle.dpl_cuts.specs.declared.types.Fragments.{Fragments}
 use Rattle.dpl_cuts.specs.Positions.{rect_at}
 use Rattle.dpl_sign.specs.declared.edges.Edge.{Edge}
@@ -17,9 +17,9 @@ use Rattle.dpl_euler.specs.declared.segment.Segment.{Segment}
 use Rattle.dpl_euler.specs.declared.types.With.{With}
 use Rattle.dpl_euler.specs.declared.types.With.TheVariants.{Link, Fragment}
 use Rattle.dpl_euler.specs.Points.{Ends}
-use Rattle.dpl_euler.specs.Segments.{ends_of, spans_meet, bounds_meet, is_beside, is_along, spans_overlap, segments_meet, segments_overlap}
+use Rattle.dpl_euler.specs.Segments.{ends_of, spans_meet, bounds_meet, is_along, segments_meet, segments_overlap}
 use Rattle.dpl_euler.specs.Crossings.{link_at}
-use Rattle.dpl_euler.specs.Tests.{bounds_around, diagonal, share_end, cross, links_cross, passes_by, meets_rect, joins, crosses_fragment, IsFound}
+use Rattle.dpl_euler.specs.Tests.{bounds_around, diagonal, share_end, cross, links_cross, meets_rect, joins, crosses_fragment, IsFound}
 use Rattle.dpl_euler.specs.Links.{AreLinks}
 
 -- ---- the links in a list

@@ -1,11 +1,10 @@
 -- Where two segments have a point in common.
-use Rattle.std.proofs.Common.{arith, ◌≡◌, ◌≢◌, ℕ, ◌+◌, ◌<◌, ◌≤◌, ℤ, pos, neg_ℤ, ◌≤ℤ◌, ◌<ℤ◌, ◌+ℤ◌, ◌-ℤ◌, ◌*ℤ◌, refl, sym, ap, ◌∙◌, unsigned_abs, ◌⊎◌, inl, inr}
+use Rattle.std.proofs.Common.{arith, ◌≡◌, ◌≢◌, ℤ, pos, ◌≤ℤ◌, ◌<ℤ◌, ◌+ℤ◌, ◌-ℤ◌, ◌*ℤ◌, sym, ap, ◌∙◌, unsigned_abs, inl, inr}
 use Rattle.std.specs.Int.{int_max, int_min}
 use Rattle.std.proofs.lemmas.Int.{ints, clamps, by_lt_z}
-use Rattle.dpl_euler.specs.Points.{Ends, Point, IsAt, IsOn}
-use Rattle.dpl_euler.proofs.ProductLemmas.{mul_comm, add_mul, sub_mul, mul_swap, mul_add, mul_sub, mul_assoc, mul_moved, mul_nonneg, mul_le, mul_le_down, mul_pos, le_from_mul, same_from_mul, zero_from_mul}
-use Rattle.dpl_euler.proofs.TurnLemmas.{cramer_x, cramer_y}
-use Rattle.dpl_euler.proofs.PointLemmas.{turn, turn_at, turn_to, turn_of, turn_first, turn_second, rule_x, rule_y, end_point, turn_end, flat_x, flat_y, turn_flip_to, dot_on, not_left, not_right, on_line, within_bounds, turns_balance, turn_step, turn_other, turn_zero, weighed_on, on_line_x, on_line_y, on_segment, on_dot, back, on_back, turn_back, flip, flip_point, on_flip, turn_flip, abs_is, over_positive, IsWithin, same_or_not}
+use Rattle.dpl_euler.specs.Points.{Ends, Point, IsOn}
+use Rattle.dpl_euler.proofs.ProductLemmas.{mul_comm, add_mul, sub_mul, mul_swap, mul_sub, mul_assoc, mul_le, le_from_mul}
+use Rattle.dpl_euler.proofs.PointLemmas.{turn_to, turn_of, rule_x, rule_y, end_point, turn_end, flat_x, flat_y, turn_flip_to, dot_on, not_left, not_right, on_line, within_bounds, turn_step, turn_other, turn_zero, weighed_on, on_line_x, on_segment, back, on_back, flip, flip_point, on_flip, abs_is, over_positive, same_or_not}
 
 pub record Common (s t : Ends) : Type 0 where
   pub point : Point

@@ -1,11 +1,11 @@
 -- Where two segments have more than one point in common.
-use Rattle.std.proofs.Common.{arith, ◌≡◌, ◌≢◌, ℕ, ◌+◌, ◌<◌, ◌≤◌, ℤ, pos, neg_ℤ, ◌≤ℤ◌, ◌<ℤ◌, ◌+ℤ◌, ◌-ℤ◌, ◌*ℤ◌, refl, sym, ap, ◌∙◌, ◌⊎◌, inl, inr}
+use Rattle.std.proofs.Common.{arith, ◌≡◌, ◌≢◌, ◌+◌, ℤ, pos, ◌≤ℤ◌, ◌<ℤ◌, ◌+ℤ◌, ◌*ℤ◌, sym, ap, ◌∙◌, ◌⊎◌, inl, inr}
 use Rattle.std.specs.Int.{int_max, int_min}
 use Rattle.std.proofs.lemmas.Int.{ints, clamps, by_lt_z}
 use Rattle.dpl_euler.specs.Points.{Ends, Point, IsAt, IsOn}
-use Rattle.dpl_euler.proofs.ProductLemmas.{mul_comm, mul_moved, mul_le, mul_pos, le_from_mul, same_from_mul, zero_from_mul}
-use Rattle.dpl_euler.proofs.PointLemmas.{turn_at, turn_to, turn_of, turn_step, turn_other, turn_first, turn_second, over_positive, IsWithin, within_bounds, on_line, turns_balance, same_or_not}
-use Rattle.dpl_euler.proofs.MeetingLemmas.{DoMeet, DoSpansMeet, shared, middle_columns, middle_rows, Middle, MiddleRow, along}
+use Rattle.dpl_euler.proofs.ProductLemmas.{mul_comm, mul_moved, mul_le, same_from_mul, zero_from_mul}
+use Rattle.dpl_euler.proofs.PointLemmas.{turn_to, turn_of, turn_step, turn_other, turn_first, turn_second, over_positive, within_bounds, on_line, turns_balance, same_or_not}
+use Rattle.dpl_euler.proofs.MeetingLemmas.{DoMeet, shared, middle_columns, middle_rows, along}
 
 abbrev pub DoSpansOverlap : ℤ → ℤ → ℤ → ℤ → Type 0
 DoSpansOverlap a1 a2 b1 b2 = int_max (int_min a1 a2) (int_min b1 b2) <ℤ int_min (int_max a1 a2) (int_max b1 b2)
@@ -60,8 +60,8 @@ inner_from s t d =
             point = m.point;
             first = m.first;
             second = m.second;
-            not_first = λ at. not_there _ m.point.x _ s.x1 (over_positive m.point) m.middle a.2 at.x;
-            not_second = λ at. not_there _ m.point.x _ s.x2 (over_positive m.point) m.middle a.3 at.x;
+            not_first = λ at. not_there (pos m.point.over) m.point.x (shared s.x1 s.x2 t.x1 t.x2) s.x1 (over_positive m.point) m.middle a.2 at.x;
+            not_second = λ at. not_there (pos m.point.over) m.point.x (shared s.x1 s.x2 t.x1 t.x2) s.x2 (over_positive m.point) m.middle a.3 at.x;
           }
       | inr h ↦
           let a = overlap_apart s.y1 s.y2 t.y1 t.y2 h in
@@ -70,8 +70,8 @@ inner_from s t d =
             point = m.point;
             first = m.first;
             second = m.second;
-            not_first = λ at. not_there _ m.point.y _ s.y1 (over_positive m.point) m.middle a.2 at.y;
-            not_second = λ at. not_there _ m.point.y _ s.y2 (over_positive m.point) m.middle a.3 at.y;
+            not_first = λ at. not_there (pos m.point.over) m.point.y (shared s.y1 s.y2 t.y1 t.y2) s.y1 (over_positive m.point) m.middle a.2 at.y;
+            not_second = λ at. not_there (pos m.point.over) m.point.y (shared s.y1 s.y2 t.y1 t.y2) s.y2 (over_positive m.point) m.middle a.3 at.y;
           }
     ]
 

@@ -1,13 +1,13 @@
 -- Which points of the plane a segment has: those on its line and within its bounds.
-use Rattle.std.proofs.Common.{arith, ◌≡◌, ◌≢◌, ℕ, ◌+◌, ◌<◌, ◌≤◌, ℤ, pos, neg_ℤ, ◌≤ℤ◌, ◌<ℤ◌, ◌+ℤ◌, ◌-ℤ◌, ◌*ℤ◌, refl, sym, ap, ◌∙◌, unsigned_abs, ◌⊎◌, inl, inr, true, false}
-use Rattle.std.proofs.lemmas.Bool.{true_from_ne_false, false_from_ne_true, or_left, or_right, or_parts, or_from, true≢false, not-true, not_from_false}
+use Rattle.std.proofs.Common.{arith, ◌≡◌, ◌≢◌, ℕ, ◌+◌, ◌<◌, ℤ, pos, ◌≤ℤ◌, ◌<ℤ◌, ◌+ℤ◌, ◌-ℤ◌, ◌*ℤ◌, sym, ap, ◌∙◌, unsigned_abs, ◌⊎◌, inl, inr, true}
+use Rattle.std.proofs.lemmas.Bool.{false_from_ne_true, or_parts, or_from, true≢false, not-true, not_from_false}
 use Rattle.std.specs.Int.{int_max, int_min}
 use Rattle.std.proofs.lemmas.Int.{ints, clamps, by_lt_z}
 use Rattle.dpl_euler.specs.Points.{Ends, Point, IsOn}
 use Rattle.dpl_euler.specs.Segments.{is_left, is_right, is_on}
 use Rattle.dpl_list.proofs.Integers.{less_test, is_less}
-use Rattle.dpl_euler.proofs.ProductLemmas.{mul_comm, add_mul, sub_mul, mul_swap, mul_add, mul_sub, mul_assoc, mul_moved, mul_nonneg, mul_le, mul_le_down, mul_pos, le_from_mul, same_from_mul, zero_from_mul}
-use Rattle.dpl_euler.proofs.TurnLemmas.{turn_times, cramer_x, cramer_y, mean_above, mean_below, turn_mean, mean_not_zero, mean_not_zero_below, mean_along, mean_across}
+use Rattle.dpl_euler.proofs.ProductLemmas.{mul_comm, sub_mul, mul_sub, mul_moved, mul_pos, zero_from_mul}
+use Rattle.dpl_euler.proofs.TurnLemmas.{cramer_x, cramer_y, mean_above, mean_below, turn_mean, mean_not_zero, mean_not_zero_below, mean_along, mean_across}
 
 -- ---- the turn from a segment to a point
 

@@ -1,11 +1,10 @@
 -- Where a segment and an upright rectangle have a point in common.
-use Rattle.std.proofs.Common.{arith, ◌≡◌, ◌≢◌, ℕ, ◌+◌, ◌<◌, ◌≤◌, ℤ, pos, ◌≤ℤ◌, ◌<ℤ◌, ◌+ℤ◌, ◌-ℤ◌, ◌*ℤ◌, refl, sym, ap, subst, ◌∙◌}
+use Rattle.std.proofs.Common.{arith, ◌≡◌, ℤ, pos, ◌≤ℤ◌, ◌<ℤ◌, ◌+ℤ◌, ◌-ℤ◌, ◌*ℤ◌, sym, ap, subst, ◌∙◌}
 use Rattle.std.specs.Int.{int_max, int_min}
 use Rattle.std.proofs.lemmas.Int.{ints, clamps, by_lt_z}
 use Rattle.dpl_euler.specs.Points.{Ends, Point, IsOn}
-use Rattle.dpl_euler.proofs.ProductLemmas.{mul_comm, add_mul, sub_mul, mul_sub, mul_moved, mul_nonneg, mul_le, mul_le_down, mul_pos}
-use Rattle.dpl_euler.proofs.TurnLemmas.{turn_times}
-use Rattle.dpl_euler.proofs.PointLemmas.{turn, turn_at, turn_to, corner_of, turn_up, turn_right, turn_sign, over_positive, within_bounds, on_line}
+use Rattle.dpl_euler.proofs.ProductLemmas.{mul_comm, sub_mul, mul_sub, mul_nonneg, mul_le, mul_le_down, mul_pos}
+use Rattle.dpl_euler.proofs.PointLemmas.{turn_at, turn_to, corner_of, turn_up, turn_right, turn_sign, over_positive, within_bounds, on_line}
 use Rattle.dpl_euler.proofs.MeetingLemmas.{DoSpansMeet, mean_point, mean_on, over_is, spans_from}
 
 -- the point lies in the rectangle of these columns and rows

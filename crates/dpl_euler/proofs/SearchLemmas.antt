@@ -1,6 +1,6 @@
 -- A search breadth first.
-use Rattle.std.proofs.Common.{arith, ◌≡◌, ◌≢◌, ℕ, zero, suc, ◌+◌, ◌<◌, ◌≤◌, refl, sym, ap, ◌∙◌, subst, Bool, true, false, inl, inr, List, [], ◌∷◌, ◌++◌, length, length-append, get_or, set, map, length-set, get_or-set_same, get_or-set_other, eq-eqb, ◌==◌, Option, Some, None}
-use Rattle.std.specs.Prelude.{All, AllPairs, Contains, is_some}
+use Rattle.std.proofs.Common.{arith, ◌≡◌, ◌≢◌, ℕ, suc, ◌+◌, ◌<◌, ◌≤◌, refl, sym, ap, ◌∙◌, subst, Bool, true, false, inl, inr, List, [], ◌∷◌, ◌++◌, length, length-append, get_or, set, map, length-set, get_or-set_same, get_or-set_other, eq-eqb, ◌==◌, Option, Some, None}
+use Rattle.std.specs.Prelude.{All, AllPairs, Contains, is_some, nat_lt, ◌||◌}
 use Rattle.std.specs.List.{AllByRecursion}
 use Rattle.std.proofs.lemmas.Bool.{cases_eq, cases_lt, true≢false, false≢true, and_parts, and_from, or_left, or_right, or_cases, cond-true, cond-false, ne_eqb, eqb-true}
 use Rattle.std.proofs.lemmas.List.{get_or_append_left, get_or-append-add, get_or_default, get_or-map}
@@ -10,7 +10,7 @@ use Rattle.dpl_sign.specs.Walks.{edge_at, across, leaves, IsPath}
 use Rattle.dpl_sign.specs.Components.{AreJoined}
 use Rattle.dpl_sign.specs.Drawings.{is_in}
 use Rattle.dpl_euler.specs.declared.searching.Step.{Step}
-use Rattle.dpl_euler.specs.Searches.{IsAt, AreRows, no_step, step_at, place_of, is_reached, LeadsBack, AreSteps, IsClosed, AreFollowed, GoesOn}
+use Rattle.dpl_euler.specs.Searches.{IsAt, no_step, step_at, place_of, is_reached, LeadsBack, AreSteps, IsClosed, AreFollowed, GoesOn}
 use Rattle.dpl_sign.proofs.PathLemmas.{path_more}
 use Rattle.dpl_euler.proofs.CircleLemmas.{few_distinct}
 
@@ -174,7 +174,7 @@ take_step g chosen goal steps places place edge node s inside at there low new =
     over_back g chosen steps v e at =
         let a = (edge_at g e).a in
         let b = (edge_at g e).b in
-        let parts = and_parts _ _ at.0 in
+        let parts = and_parts (nat_lt e (length g.edges)) ((a == v) || (b == v)) at.0 in
         let apart : b ≢ a = λ q. omega (arith, (edge_at g e).ordered, q) in
         elim (cases_eq a v) [
           | inl t ↦

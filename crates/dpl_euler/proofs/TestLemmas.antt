@@ -1,5 +1,5 @@
 -- The tests of the code tell exactly what crosses.
-use Rattle.std.proofs.Common.{arith, ◌≡◌, ◌≢◌, ℕ, ◌+◌, ◌<◌, ℤ, pos, ◌≤ℤ◌, ◌<ℤ◌, ◌*ℤ◌, refl, sym, ap, ◌∙◌, subst, Bool, true, false, not, ◌&&◌, ◌||◌, ◌==◌, inl, inr, ◌⊎◌, length, map, eq-eqb, List, [], ◌∷◌, zero, suc}
+use Rattle.std.proofs.Common.{arith, ◌≡◌, ℕ, ◌<◌, ℤ, pos, ◌≤ℤ◌, ◌*ℤ◌, refl, sym, ap, ◌∙◌, true, false, not, ◌&&◌, ◌||◌, ◌==◌, inl, inr, ◌⊎◌, length, map, eq-eqb, List, [], ◌∷◌, zero, suc}
 use Rattle.std.specs.Prelude.{int_le}
 use Rattle.std.specs.Int.{int_max, int_min}
 use Rattle.std.specs.Ordering.{int_eq}
@@ -16,15 +16,15 @@ use Rattle.dpl_sign.specs.declared.nets.Net.{Net}
 use Rattle.dpl_sign.specs.Walks.{edge_at}
 use Rattle.dpl_euler.specs.declared.types.With.{With}
 use Rattle.dpl_euler.specs.declared.types.With.TheVariants.{Link, Fragment}
-use Rattle.dpl_euler.specs.Points.{Ends, Point, IsAt, IsOn}
+use Rattle.dpl_euler.specs.Points.{Ends, Point, IsAt}
 use Rattle.dpl_euler.specs.Segments.{is_left, is_right, are_left, are_right, is_beside, is_along, spans_meet, spans_overlap, bounds_meet, segments_meet, segments_overlap}
-use Rattle.dpl_euler.specs.Crossings.{link_at, EndsAt, AreCrossing, IsInside, MeetsRect, IsWith}
-use Rattle.dpl_euler.specs.Tests.{is_at, ends_at, share_end, cross, links_cross, diagonal, other_diagonal, passes_by, meets_rect, joins, crosses_fragment, IsFound}
+use Rattle.dpl_euler.specs.Crossings.{link_at, EndsAt, AreCrossing, MeetsRect, IsWith}
+use Rattle.dpl_euler.specs.Tests.{is_at, ends_at, share_end, cross, diagonal, other_diagonal, passes_by, meets_rect, joins, IsFound}
 use Rattle.dpl_euler.proofs.ProductLemmas.{same_from_mul}
-use Rattle.dpl_euler.proofs.PointLemmas.{turn_to, over_positive, left_is, left_from, right_is, right_from, on_is, on_from}
-use Rattle.dpl_euler.proofs.MeetingLemmas.{Common, DoSpansMeet, IsAcross, DoMeet, common_from, meet_from}
-use Rattle.dpl_euler.proofs.OverlapLemmas.{DoSpansOverlap, DoOverlap, Inner, IsEndOf, inner_from, overlap_from}
-use Rattle.dpl_euler.proofs.RectangleLemmas.{IsIn, InBoth, DoesMeetRect, rect_from, rect_to}
+use Rattle.dpl_euler.proofs.PointLemmas.{over_positive, left_is, left_from, right_is, right_from, on_is, on_from}
+use Rattle.dpl_euler.proofs.MeetingLemmas.{DoSpansMeet, IsAcross, DoMeet, common_from, meet_from}
+use Rattle.dpl_euler.proofs.OverlapLemmas.{DoOverlap, IsEndOf, inner_from, overlap_from}
+use Rattle.dpl_euler.proofs.RectangleLemmas.{rect_from, rect_to}
 
 le_is : (x y : ℤ) → int_le x y ≡ true → x ≤ℤ y
 le_is x y h = search signed

@@ -1,8 +1,8 @@
 -- Turns. For a direction (d, e) and a way (u, v) from a point of a line in that direction, d v - e u tells on which side of
 -- the line the way ends.
-use Rattle.std.proofs.Common.{arith, ◌≡◌, ◌≢◌, ℕ, ◌+◌, ◌<◌, ◌≤◌, ℤ, pos, ◌≤ℤ◌, ◌<ℤ◌, ◌+ℤ◌, ◌-ℤ◌, ◌*ℤ◌, neg_ℤ, refl, sym, ap, ◌∙◌, unsigned_abs}
-use Rattle.std.proofs.lemmas.Int.{ints, by_lt_z}
-use Rattle.dpl_euler.proofs.ProductLemmas.{mul_comm, add_mul, sub_mul, mul_swap, mul_add, mul_sub, mul_assoc, mul_moved, mul_nonneg, mul_le, mul_le_down, mul_pos, le_from_mul, same_from_mul}
+use Rattle.std.proofs.Common.{arith, ◌≡◌, ℤ, pos, ◌≤ℤ◌, ◌<ℤ◌, ◌+ℤ◌, ◌-ℤ◌, ◌*ℤ◌, neg_ℤ, sym, ap, ◌∙◌}
+use Rattle.std.proofs.lemmas.Int.{ints}
+use Rattle.dpl_euler.proofs.ProductLemmas.{mul_comm, add_mul, sub_mul, mul_swap, mul_add, mul_sub, mul_assoc, mul_moved, mul_le, le_from_mul}
 
 -- ---- two lines (Cramer's rule)
 

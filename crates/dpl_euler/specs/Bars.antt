@@ -1,5 +1,6 @@
--- Why an edge is set aside: its two corners are on two faces of one component, so that it would merge them. By Euler's
--- formula the excess would rise by 2.
+-- Why an edge is set aside: its two corners are on two faces of one component, so that it would merge them, and by Euler's
+-- formula the excess would rise by 2. Corners and faces are those of rotation systems (Mohar and Thomassen, "Graphs on
+-- Surfaces", 2001, chapter 3).
 use Rattle.std.specs.Prelude.{◌≡◌, ℕ, ◌+◌, ◌*◌, ◌/◌, ◌<◌, true, false, length, All, Contains}
 use Rattle.dpl_sign.specs.declared.nets.Net.{Net}
 use Rattle.dpl_sign.specs.Walks.{edge_at, IsPath}

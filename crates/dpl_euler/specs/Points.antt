@@ -1,6 +1,6 @@
--- Points and segments of the plane. A segment is the set of all sums of its two ends with weights that are not negative
--- and sum to 1 (convex combinations, as in de Berg et al., Computational Geometry). Coordinates of ends are whole numbers,
--- so two segments that have a point in common have one whose coordinates are fractions.
+-- Points and segments of the plane. A segment is the set of all means of its two ends (convex combinations: de Berg,
+-- Cheong, van Kreveld and Overmars, "Computational Geometry", 2008, chapter 1). The coordinates of ends are whole numbers.
+-- So two segments with a point in common have one whose coordinates are fractions.
 use Rattle.std.specs.Prelude.{◌≡◌, ℕ, ◌+◌, ◌<◌, ℤ, pos, ◌+ℤ◌, ◌*ℤ◌}
 
 -- a segment by its two ends, which may be one point
@@ -22,7 +22,7 @@ pub record IsAt (p : Point) (a b : ℤ) : Type 0 where
   pub x : p.x ≡ pos p.over *ℤ a
   pub y : p.y ≡ pos p.over *ℤ b
 
--- The point lies on the segment: it is the mean of the two ends with two weights.
+-- the point lies on the segment: it is a mean of the two ends, with two weights
 pub record IsOn (s : Ends) (p : Point) : Type 0 where
   pub first : ℕ
   pub second : ℕ

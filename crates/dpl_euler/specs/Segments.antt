@@ -1,5 +1,6 @@
--- How segments of the plane lie to each other, by the orientation of three points: the sign of a cross product (de Berg et
--- al., Computational Geometry). Only the steps of the search for a crossing say this; what they find is said over points.
+-- How segments of the plane lie to each other, by the orientation of three points, which is the sign of a cross product
+-- (as in de Berg and others, "Computational Geometry", 2008, chapters 1 and 2). Only the steps of the search for a crossing
+-- say this; `Crossings` says the same over points.
 use Rattle.std.specs.Prelude.{ℤ, ◌-ℤ◌, ◌*ℤ◌, Bool, not, ◌&&◌, ◌||◌, int_lt, int_le}
 use Rattle.std.specs.Int.{int_max, int_min}
 use Rattle.dpl_euler.specs.declared.segment.Segment.{Segment}

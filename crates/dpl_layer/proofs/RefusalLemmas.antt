@@ -31,7 +31,7 @@ use Rattle.dpl_layer.specs.declared.error.LayerError.TheVariants.{Layout, Limit,
 use Rattle.dpl_layer.specs.Errors.{of_reading, of_tiles, of_net}
 use Rattle.dpl_layer.specs.declared.drawing.Drawing.{Drawing}
 use Rattle.dpl_layer.specs.Drawings.{Cells, OnLayer, joined_reading, IsDrawingOf}
-use Rattle.dpl_layer.specs.Layers.{AreFragmentsOf, IsLayer, IsLayerOf, IsLayerOfText}
+use Rattle.dpl_layer.specs.Layers.{AreFragmentsOf, IsLayer, IsLayerOfText}
 use Rattle.dpl_layer.specs.Refusals.{HasTooManyEdges, IsOverLimit, RefusesCells, RefusesReading, RefusesDrawing, RefusesLayer}
 use Rattle.dpl_layer.proofs.LayerLemmas.{fragments_same_of, within_fragments, tiles_within}
 use Rattle.dpl_layer.proofs.TextLemmas.{with_layer, of_layer, layer_good, on_drawing}

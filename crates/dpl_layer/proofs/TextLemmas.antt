@@ -1,5 +1,5 @@
 -- What follows for a text from a property of the cells that it draws.
-use Rattle.std.proofs.Common.{◌≡◌, ℕ, List, length, refl, sym, subst}
+use Rattle.std.proofs.Common.{◌≡◌, ℕ, List, refl}
 use Rattle.dpl_cell.specs.Layers.{is_cell, cells_of}
 use Rattle.dpl_cell.specs.Outlines.{Outline}
 use Rattle.dpl_cuts.specs.declared.types.Fragments.{Fragments}
@@ -9,7 +9,7 @@ use Rattle.dpl_cif.specs.Reading.Reading.{Faulty, TooMany, TooManyCalls, TooFar,
 use Rattle.dpl_options.specs.Options.{PlainOptions}
 use Rattle.dpl_layer.specs.declared.drawing.Drawing.{Drawing}
 use Rattle.dpl_layer.specs.Drawings.{Cells, keep_reading, joined, joined_reading, OnBoth, OnLayer, IsDrawingOf}
-use Rattle.dpl_layer.specs.Layers.{IsLayer, IsLayerOf, IsSomeLayer, IsLayerOfText}
+use Rattle.dpl_layer.specs.Layers.{IsLayer, IsSomeLayer, IsLayerOfText}
 
 -- ---- two readings
 

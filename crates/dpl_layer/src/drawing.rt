@@ -76,7 +76,7 @@ fn read_both(
                 _ => Err(CifError::Limit { kind, count }),
             }
         }
-        Err(error) => Err(error),
+        Err(other) => Err(other),
     }
 }
 

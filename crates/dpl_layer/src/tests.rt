@@ -1,5 +1,5 @@
-ghost use Rattle.std.specs.Prelude.{◌≤◌, length};
-ghost use Rattle.dpl_options.specs.Options.{name_or_nothing};
+ghost use Rattle.std.specs.Prelude.{◌≤◌, length, IfSome};
+ghost use Rattle.dpl_options.specs.Options.{IsSplitLayer};
 
 use crate::{Layer, LayerError, layer_of, read_drawing, read_layer};
 use dpl_cif::What;
@@ -23,24 +23,13 @@ fn keeping(name: &[u8]) -> Option<Options> {
 }
 
 fn options_with(keep: Option<Name>) -> Option<Options>
-    requires { length (name_or_nothing keep) ≤ 31 }
+    requires { IfSome keep IsSplitLayer }
 {
     let layer = Name::new(b"M")?;
     if layer.bytes().len() > 31 {
         return None;
     }
-    let weights = Weights {
-        stitch: 1,
-        conflict: 10,
-        corner: 10,
-    };
-    Some(Options {
-        layer,
-        space: 100,
-        overlap: 20,
-        weights,
-        keep,
-    })
+    Some(Options::new(layer, 100, 20, Weights::new(1, 10, 10), keep))
 }
 
 fn refusal(alloc: Global, text: &[u8]) -> Option<LayerError>

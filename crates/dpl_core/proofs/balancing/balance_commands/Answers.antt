@@ -1,20 +1,14 @@
-use Rattle.dpl_cif.specs.Reading.{reading}
-use Rattle.dpl_layer.proofs.LayerLemmas.{layer_is}
+use Rattle.dpl_layer.proofs.TextLemmas.{some_layer}
 use Rattle.dpl_report.specs.Plain.{plain_report}
-use Rattle.dpl_core.proofs.MaskLemmas.{net_of_layer}
+use Rattle.dpl_core.proofs.MaskLemmas.{balanced_of_text}
 use Rattle.dpl_core.proofs.balancing.balance_commands.Goals as goal
 
-pub balanced-requires-clause-nodes : goal.balanced-requires-clause-nodes
-balanced-requires-clause-nodes c = (net_of_layer c.args.options.now (reading c.args.options.now.layer c.args.text.now) c.in_ok-layer.field-0.layer.fragments c.in_ok-layer.field-0.layer.net c.in_ok-layer.ensures.layer).nodes
+pub balanced-requires-clause-layer : goal.balanced-requires-clause-layer
+balanced-requires-clause-layer c = some_layer c.args.options.now c.args.text.now c.in_ok-layer.field-0.layer.fragments c.in_ok-layer.field-0.layer.net c.in_ok-layer.ensures.layer
 
 pub returns-clause-split : goal.returns-clause-split
 returns-clause-split c = record {
   report = plain_report c.in_ok-report.report;
-  of_layer = c.report_is_of_the_layer.ensures.made;
-  masks = c.report_is_of_the_layer.ensures.masks;
-  fragments = c.in_ok-layer.field-0.layer.fragments;
-  net = c.in_ok-layer.field-0.layer.net;
-  layer = layer_is c.args.options.now (reading c.args.options.now.layer c.args.text.now) c.in_ok-layer.field-0.layer.fragments c.in_ok-layer.field-0.layer.net c.in_ok-layer.ensures.layer;
-  even = c.in_ok-report.ensures.even;
+  of_layer = balanced_of_text c.args.options.now c.args.text.now c.in_ok-layer.field-0.layer.fragments c.in_ok-layer.field-0.layer.net (plain_report c.in_ok-report.report) c.in_ok-report.ensures.report c.in_ok-report.ensures.masks c.in_ok-report.ensures.even c.in_ok-layer.ensures.layer;
   is = c.in_ok-written.ensures.text;
 }

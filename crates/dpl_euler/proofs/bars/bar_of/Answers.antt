@@ -1,10 +1,7 @@
-use Rattle.std.proofs.Common.{arith, ◌≡◌, ◌<◌, ℕ, List, ap, ◌∙◌, length, get_or, sym}
-use Rattle.dpl_sign.specs.Drawings.{dart_count, next_in_face}
-use Rattle.dpl_sign.specs.Walks.{edge_at}
+use Rattle.std.proofs.Common.{arith, ℕ, List, ap, ◌∙◌, length, get_or}
 use Rattle.dpl_sign.proofs.WalkLemmas.{edge_is}
 use Rattle.dpl_drawing.proofs.FaceLists.{leads_back}
 use Rattle.dpl_map.specs.Maps.{is_kept}
-use Rattle.dpl_euler.specs.Bars.{IsFirstAside}
 use Rattle.dpl_euler.proofs.BarLemmas.{edge_first, joined_in, bar_is}
 use Rattle.dpl_euler.proofs.RowLemmas.{ends_inside}
 use Rattle.dpl_euler.proofs.bars.bar_of.Goals as goal

@@ -1,4 +1,4 @@
-use Rattle.std.proofs.Common.{arith, ap, length, length-append, [], ◌∷◌, ◌++◌}
+use Rattle.std.proofs.Common.{arith, ap, length, length-append, [], ◌∷◌}
 use Rattle.std.specs.Prelude.{slice_index}
 use Rattle.dpl_euler.proofs.CircleLemmas.{trail_goes_on, trail_short}
 use Rattle.dpl_euler.proofs.circling.cycle_from.Goals as goal

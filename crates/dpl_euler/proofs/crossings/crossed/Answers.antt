@@ -1,4 +1,4 @@
-use Rattle.std.proofs.Common.{rules, ◌≡◌, ◌<◌, ◌∙◌, sym, refl, ℕ, false, length, None}
+use Rattle.std.proofs.Common.{rules, refl}
 use Rattle.dpl_euler.proofs.CrossingLemmas.{nothing_crossed}
 use Rattle.dpl_euler.proofs.TestLemmas.{found_is, found_from}
 use Rattle.dpl_euler.specs.declared.types.With.TheVariants.{Link, Fragment}

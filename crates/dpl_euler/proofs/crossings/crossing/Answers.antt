@@ -1,4 +1,4 @@
-use Rattle.std.proofs.Common.{arith, rules, Ok, None, ◌≡◌, sym, subst, ℕ, inl, inr, refl}
+use Rattle.std.proofs.Common.{arith, rules, Ok, None, ◌≡◌, subst, ℕ, inl, inr}
 use Rattle.std.proofs.lemmas.Bool.{cases_eq}
 use Rattle.dpl_euler.specs.Crossings.{IsWith}
 use Rattle.dpl_euler.proofs.crossings.crossing.Goals as goal

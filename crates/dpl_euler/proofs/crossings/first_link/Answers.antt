@@ -1,4 +1,4 @@
-use Rattle.std.proofs.Common.{arith, rules, ◌≡◌, ◌<◌, sym, ap, ◌∙◌, inl, inr, false}
+use Rattle.std.proofs.Common.{arith, ◌<◌, sym, ap, ◌∙◌, inl, inr}
 use Rattle.std.specs.Prelude.{slice_index}
 use Rattle.std.proofs.lemmas.Bool.{cases_eq}
 use Rattle.dpl_euler.specs.Tests.{links_cross}

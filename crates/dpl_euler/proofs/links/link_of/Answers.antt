@@ -1,6 +1,4 @@
-use Rattle.std.proofs.Common.{rules, ◌≡◌, refl, SFits, w64}
-use Rattle.std.proofs.lemmas.Int.{to_z-of_z}
-use Rattle.dpl_euler.proofs.SegmentLemmas.{coordinate_fits, link_plain}
+use Rattle.dpl_euler.proofs.SegmentLemmas.{link_plain}
 use Rattle.dpl_euler.proofs.links.link_of.Goals as goal
 
 pub returns : goal.returns

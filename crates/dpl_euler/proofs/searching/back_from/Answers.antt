@@ -1,5 +1,4 @@
-use Rattle.std.proofs.Common.{arith, ◌≡◌, ◌<◌, sym, ap, ◌∙◌, ℕ, List, subst}
-use Rattle.dpl_sign.specs.Walks.{IsPath}
+use Rattle.std.proofs.Common.{arith}
 use Rattle.dpl_euler.proofs.SearchLemmas.{path_back, edges_back}
 use Rattle.dpl_euler.proofs.searching.back_from.Goals as goal
 

@@ -1,4 +1,4 @@
-use Rattle.std.proofs.Common.{◌≡◌, ◌<◌, ℕ, true, length}
+use Rattle.std.proofs.Common.{◌≡◌, ◌<◌, ℕ, true}
 use Rattle.std.specs.Prelude.{slice_index}
 use Rattle.dpl_sign.specs.Walks.{edge_at, across}
 use Rattle.dpl_euler.specs.Searches.{AreSteps, GoesOn, step_at, is_reached}

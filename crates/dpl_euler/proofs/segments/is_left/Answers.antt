@@ -1,4 +1,4 @@
-use Rattle.std.proofs.Common.{rules, ◌≡◌, refl, ℤ, ◌-ℤ◌, ◌*ℤ◌, SFits, w64}
+use Rattle.std.proofs.Common.{rules, ◌≡◌, refl, ◌-ℤ◌, ◌*ℤ◌, SFits, w64}
 use Rattle.std.specs.Int.{w128}
 use Rattle.std.proofs.lemmas.Int.{to_z-of_z}
 use Rattle.dpl_euler.proofs.SegmentLemmas.{coordinate_fits}

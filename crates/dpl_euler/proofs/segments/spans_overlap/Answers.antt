@@ -1,4 +1,4 @@
-use Rattle.std.proofs.Common.{rules, ◌≡◌, SFits, w64, refl}
+use Rattle.std.proofs.Common.{rules, ◌≡◌, SFits, w64}
 use Rattle.std.specs.Int.{int_max, int_min}
 use Rattle.std.proofs.lemmas.Int.{to_z-of_z}
 use Rattle.dpl_euler.proofs.segments.spans_overlap.Goals as goal

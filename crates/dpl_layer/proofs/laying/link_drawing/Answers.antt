@@ -1,4 +1,4 @@
-use Rattle.std.proofs.Common.{ap, Err, ◌≡◌}
+use Rattle.std.proofs.Common.{ap, Err}
 use Rattle.std.proofs.lemmas.Result.{err_from_is_err_and}
 use Rattle.dpl_cell.specs.Layers.{cells_of}
 use Rattle.dpl_layer.proofs.RefusalLemmas.{err_refuses, net_refuses}

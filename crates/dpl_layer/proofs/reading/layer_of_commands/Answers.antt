@@ -1,11 +1,10 @@
-use Rattle.std.proofs.Common.{rules, ◌≡◌, ◌⊎◌, inl, inr}
+use Rattle.std.proofs.Common.{rules, ◌≡◌, ◌⊎◌}
 use Rattle.std.proofs.lemmas.Result.{err_from_is_err_and}
-use Rattle.dpl_cell.specs.Layers.{cells_of}
 use Rattle.dpl_layer.specs.declared.error.LayerError.{LayerError}
 use Rattle.dpl_layer.specs.declared.error.LayerError.TheVariants.{NoMemory}
 use Rattle.dpl_layer.specs.Drawings.{Cells}
 use Rattle.dpl_layer.specs.Layers.{IsLayer}
-use Rattle.dpl_layer.specs.Refusals.{RefusesCells, RefusesLayer}
+use Rattle.dpl_layer.specs.Refusals.{RefusesLayer}
 use Rattle.dpl_layer.proofs.TextLemmas.{on_drawing}
 use Rattle.dpl_layer.proofs.RefusalLemmas.{none_comes, one_comes, only_comes, one_text_refusal, drawing_text_refuses, cells_text_refuse}
 use Rattle.dpl_layer.proofs.reading.layer_of_commands.Goals as goal

@@ -1,0 +1,328 @@
+"""Cuts a layer into parts that no spacing joins. KLayout runs it: see `cut`.
+
+A cluster is a connected part of the layer sized by half the spacing with square corners. The layer is taken window by
+window. A cluster that lies within one window is complete there, and such clusters make the parts of the window. Of the
+others each window notes where they cross its sides, and what of the layer they hold; `pack` joins them over the windows.
+"""
+
+import hashlib
+import os
+import sys
+
+sys.path.insert(0, os.path.dirname(os.path.abspath(__file__)))
+
+import pya
+
+import settings as settings_module
+from classes import Classes
+from files import read_json, write_json
+from settings import Refused, guard
+from source import Source
+
+# A window takes this many times the size of a part, since a share of it crosses its sides.
+ROOM = 1.25
+SHOWN = 5
+
+
+class Windows:
+    """A grid of equal windows over the layer, each with about as many shapes as a part may have."""
+
+    def __init__(self, source, size):
+        self.bounds = source.bounds.enlarged(source.half, source.half)
+        wanted = max(1.0, source.count() / (ROOM * size))
+        width, height = self.bounds.width(), self.bounds.height()
+        self.columns = max(1, min(width, round((wanted * width / height) ** 0.5)))
+        self.rows = max(1, min(height, round(wanted / self.columns)))
+
+    def column(self, i):
+        return self.bounds.left + self.bounds.width() * i // self.columns
+
+    def row(self, j):
+        return self.bounds.bottom + self.bounds.height() * j // self.rows
+
+    def box(self, i, j):
+        return pya.Box(self.column(i), self.row(j), self.column(i + 1), self.row(j + 1))
+
+    def of_band(self, band, bands):
+        rows = range(self.rows * band // bands, self.rows * (band + 1) // bands)
+        return [(i, j) for j in rows for i in range(self.columns)]
+
+
+class Cut:
+    """The cut of one band of windows into a folder."""
+
+    def __init__(self, source, folder):
+        self.source, self.folder = source, folder
+        self.parts, self.crossing = [], []
+
+    def window(self, name, place, box):
+        source = self.source
+        shapes = source.shapes(box.enlarged(source.half, source.half))
+        refuse_unfit(source, shapes)
+        hulls = shapes.sized(source.half, source.half, 2)
+        hulls.merge(False, 0)
+        complete, others = [], []
+        for hull in hulls.each():
+            bounds = hull.bbox()
+            if bounds.inside(box):
+                complete.append(hull)
+            else:
+                others.append(hull)
+        shared, whole = shapes.andnot(region_of(others))
+        self.whole(name, whole, complete)
+        met = [hull for hull in others if hull.bbox().overlaps(box)]
+        self.shared(place, box, shared & pya.Region(box), met)
+
+    def whole(self, name, layer, hulls):
+        """Writes parts of complete clusters, with about as many boxes each as a part may have."""
+        for number, (boxes, count) in enumerate(self.groups(layer, hulls)):
+            label = name if number == 0 else f"{name}-{number}"
+            self.parts.append(write_part(self.source, self.folder, label, boxes, count))
+
+    def groups(self, layer, hulls):
+        boxes = layer.decompose_trapezoids_to_region()
+        size = self.source.settings.size
+        pieces = min(len(hulls), round(boxes.count() / size))
+        if pieces <= 1:
+            return [(boxes, len(hulls))] if hulls else []
+        hulls = sorted(hulls, key=lambda hull: (hull.bbox().left, hull.bbox().bottom))
+        found = []
+        for k in range(pieces):
+            some = hulls[len(hulls) * k // pieces : len(hulls) * (k + 1) // pieces]
+            found += self.groups(layer & region_of(some), some)
+        return found
+
+    def shared(self, place, box, layer, hulls):
+        """Notes for each cluster that leaves the window what it holds there and where it crosses the sides."""
+        held = [[] for _ in hulls]
+        finder = Finder(hulls)
+        for shape in layer.each():
+            held[finder.of(shape)].append(shape)
+        for hull, shapes in zip(hulls, held):
+            boxes = region_of(shapes).decompose_trapezoids_to_region()
+            self.crossing.append(
+                {
+                    "place": place,
+                    "sides": sides_of(hull, place, box),
+                    "count": boxes.count(),
+                    "bounds": bounds_of(self.source, boxes),
+                    "text": text_of(self.source, boxes),
+                }
+            )
+
+
+class Finder:
+    """Finds the hull that a shape lies in. Hulls do not meet, so one point of the shape tells."""
+
+    def __init__(self, hulls):
+        self.hulls = [(hull.bbox(), hull) for hull in hulls]
+
+    def of(self, shape):
+        point = next(shape.each_point_hull())
+        near = [k for k, (bounds, _) in enumerate(self.hulls) if bounds.contains(point)]
+        if len(near) > 1:
+            near = [k for k in near if self.hulls[k][1].inside(point)]
+        return near[0]
+
+
+def region_of(polygons):
+    region = pya.Region(polygons)
+    region.merged_semantics = False
+    return region
+
+
+def sides_of(hull, place, box):
+    """Where a hull crosses the sides of its window: the line, the side of it, and a stretch along it."""
+    column, row = place
+    strips = [
+        ("v", column, 1, pya.Box(box.left, box.bottom, box.left + 1, box.top)),
+        ("v", column + 1, 0, pya.Box(box.right - 1, box.bottom, box.right, box.top)),
+        ("h", row, 1, pya.Box(box.left, box.bottom, box.right, box.bottom + 1)),
+        ("h", row + 1, 0, pya.Box(box.left, box.top - 1, box.right, box.top)),
+    ]
+    found = []
+    for kind, line, side, strip in strips:
+        if not hull.bbox().overlaps(strip):
+            continue
+        for piece in (pya.Region(hull) & pya.Region(strip)).each():
+            b = piece.bbox()
+            found.append([f"{kind}{line}", side] + ([b.bottom, b.top] if kind == "v" else [b.left, b.right]))
+    return found
+
+
+def refuse_unfit(source, shapes):
+    """Refuses slanted sides and corners off the grid, with their places."""
+    unit = source.layout.dbu
+    slanted = shapes.non_rectilinear()
+    if slanted.count():
+        places = [edge for shape in slanted.each() for edge in shape.each_edge() if edge.dx() and edge.dy()]
+        refuse("a slanted side", [edge.p1 for edge in places], unit)
+    grid = source.ratio.denominator
+    if grid > 1:
+        off = shapes.grid_check(grid, grid)
+        if off.count():
+            nm = float(source.settings.grid)
+            refuse(f"a corner off the grid of {nm:g} nm", [pair.first.p1 for pair in off.each()], unit)
+
+
+def refuse(what, points, unit):
+    places = ", ".join(f"({p.x * unit:.9g}, {p.y * unit:.9g})" for p in sorted(points, key=lambda p: (p.y, p.x))[:SHOWN])
+    raise Refused(f"{what} at {places} micrometres, {len(points)} in this window")
+
+
+def text_of(source, boxes):
+    """The lines of boxes, in quarters of a hundredth of a micron, of which a grid unit of `dpl` has two."""
+    up, down = source.ratio.numerator, source.ratio.denominator
+    lines = []
+    for polygon in boxes.each():
+        b = polygon.bbox()
+        left, bottom, right, top = b.left, b.bottom, b.right, b.top
+        lines.append(
+            f"B {2 * (right - left) * up // down} {2 * (top - bottom) * up // down}"
+            f" {(left + right) * up // down} {(bottom + top) * up // down};\n"
+        )
+    return "".join(lines)
+
+
+def bounds_of(source, boxes):
+    b, ratio = boxes.bbox(), source.ratio
+    return [int(v * ratio) for v in (b.left, b.bottom, b.right, b.top)]
+
+
+def write_part(source, folder, label, boxes, clusters):
+    return store(source.settings, folder, label, text_of(source, boxes), boxes.count(), clusters, bounds_of(source, boxes))
+
+
+def store(settings, folder, label, lines, count, clusters, bounds):
+    """Writes a part, and tells what the manifest says of it."""
+    text = f"(part {label});\nDS 1 1 4;\nL {settings.name};\n{lines}DF;\nC 1;\nE\n".encode()
+    with open(os.path.join(folder, label + ".cif"), "wb") as file:
+        file.write(text)
+    return {
+        "name": f"{os.path.basename(folder)}/{label}",
+        "primitives": count,
+        "clusters": clusters,
+        "bounds": bounds,
+        "sha256": hashlib.sha256(text).hexdigest(),
+    }
+
+
+def joined(crossing):
+    """The clusters that cross sides of windows, as lists of what the windows noted of them."""
+    classes = Classes(len(crossing))
+    lines = {}
+    for number, item in enumerate(crossing):
+        for line, side, start, end in item["sides"]:
+            lines.setdefault(line, ([], []))[side].append((start, end, number))
+    for below, above in lines.values():
+        join_along(sorted(below), sorted(above), classes)
+    found = {}
+    for number, item in enumerate(crossing):
+        found.setdefault(classes.root(number), []).append(item)
+    return list(found.values())
+
+
+def join_along(below, above, classes):
+    """Joins what meets along one line over a stretch of some length."""
+    at = 0
+    for start, end, number in below:
+        while at < len(above) and above[at][1] <= start:
+            at += 1
+        k = at
+        while k < len(above) and above[k][0] < end:
+            classes.join(number, above[k][2])
+            k += 1
+
+
+def curve(item):
+    """The place of a window along a curve that keeps neighbours together: its bits in turn."""
+    column, row = item[0]["place"]
+    return sum(((column >> b & 1) << 2 * b) | ((row >> b & 1) << 2 * b + 1) for b in range(24))
+
+
+def clear(folder):
+    """An empty folder, so that no part of an earlier cut stays."""
+    os.makedirs(folder, exist_ok=True)
+    for name in os.listdir(folder):
+        os.remove(os.path.join(folder, name))
+
+
+def cut_band(settings, folder, band):
+    source = Source(settings)
+    windows = Windows(source, settings.size)
+    target = os.path.join(folder, "cut", str(band))
+    clear(target)
+    cut = Cut(source, target)
+    for i, j in windows.of_band(band, settings.bands):
+        cut.window(f"x{i:04}y{j:04}", (i, j), windows.box(i, j))
+    index = {
+        "windows": [windows.columns, windows.rows],
+        "shapes": source.count(),
+        "bounds": [int(v * source.ratio) for v in (source.bounds.left, source.bounds.bottom, source.bounds.right, source.bounds.top)],
+        "dbu": source.layout.dbu,
+        "cell": source.cell.name,
+        "parts": cut.parts,
+        "crossing": cut.crossing,
+    }
+    write_json(os.path.join(target, "index.json"), index)
+
+
+def pack(settings, folder):
+    indices = [read_json(os.path.join(folder, "cut", str(band), "index.json")) for band in range(settings.bands)]
+    target = os.path.join(folder, "cut", "border")
+    clear(target)
+    parts = [part for index in indices for part in index["parts"]]
+    parts += border_parts(settings, target, joined([item for index in indices for item in index["crossing"]]))
+    first = indices[0]
+    manifest = {
+        "layer": settings.name,
+        "space": settings.space,
+        "overlap": settings.overlap,
+        "grid": float(settings.grid),
+        "dbu": first["dbu"],
+        "cell": first["cell"],
+        "shapes": first["shapes"],
+        "windows": first["windows"],
+        "bounds": first["bounds"],
+        "primitives": sum(part["primitives"] for part in parts),
+        "clusters": sum(part["clusters"] for part in parts),
+        "parts": parts,
+    }
+    write_json(os.path.join(folder, "manifest.json"), manifest)
+
+
+def border_parts(settings, folder, clusters):
+    found, group, count = [], [], 0
+    for items in sorted(clusters, key=curve):
+        more = sum(item["count"] for item in items)
+        if group and count + more > settings.size:
+            found.append(store_group(settings, folder, len(found), group))
+            group, count = [], 0
+        group.append(items)
+        count += more
+    if group:
+        found.append(store_group(settings, folder, len(found), group))
+    return found
+
+
+def store_group(settings, folder, number, group):
+    items = [item for items in group for item in items if item["count"]]
+    lefts, bottoms, rights, tops = zip(*(item["bounds"] for item in items))
+    bounds = [min(lefts), min(bottoms), max(rights), max(tops)]
+    lines = "".join(item["text"] for item in items)
+    return store(settings, folder, f"{number:06}", lines, sum(item["count"] for item in items), len(group), bounds)
+
+
+def main():
+    chosen = settings_module.read(settings)
+    if step == "all":
+        for band in range(chosen.bands):
+            cut_band(chosen, folder, band)
+        pack(chosen, folder)
+    elif step == "pack":
+        pack(chosen, folder)
+    else:
+        cut_band(chosen, folder, int(step))
+
+
+guard("cut", main)

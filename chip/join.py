@@ -1,0 +1,85 @@
+"""Joins the reports of all parts: both masks as two layers of one file, a table, and what was joined. See `Snakefile`."""
+
+import os
+import sys
+import tempfile
+
+sys.path.insert(0, os.path.dirname(os.path.abspath(__file__)))
+
+import pya
+
+import settings as settings_module
+from files import read_json, write_json
+from masks import Reader
+from reports import Report
+from settings import guard
+
+HEADS = ("part", "primitives", "fragments", "stitches", "conflicts", "cost", "bound", "aside", "check")
+COUNTS = HEADS[1:-1]
+
+
+def row_of(part, report, verdict):
+    """What the table says of a part; the bound is half the sum of the cycles, and aside is what is broken beside it."""
+    row = {"part": part["name"], "primitives": part["primitives"], "check": verdict}
+    if not report.refusal:
+        cost, bound = report.values["cost"], report.values["bound"] / 2
+        row |= {
+            "fragments": report.values["fragments"],
+            "stitches": len(report.cuts),
+            "conflicts": len(report.clashes),
+            "cost": cost,
+            "bound": bound,
+            "aside": cost - bound,
+        }
+    return row
+
+
+def verdict_of(folder, part, report):
+    with open(os.path.join(folder, "checks", part["name"] + ".txt")) as file:
+        said = file.read().strip()
+    if report.refusal:
+        return report.refusal
+    return "good" if said.startswith("yes ") else said
+
+
+def table_of(rows):
+    lines = ["\t".join(HEADS)]
+    lines += ["\t".join(shown(row.get(head, "-")) for head in HEADS) for row in rows]
+    done = [row for row in rows if "cost" in row]
+    lines.append("")
+    lines.append(f"parts      {len(rows)}")
+    lines.append(f"good       {sum(row['check'] == 'good' for row in rows)}")
+    lines.append(f"refused    {len(rows) - len(done)}")
+    for head in COUNTS:
+        lines.append(f"{head:<10} {shown(sum(row.get(head, 0) for row in rows))}")
+    return "\n".join(lines) + "\n"
+
+
+def shown(value):
+    return f"{value:.10g}" if isinstance(value, float) else str(value)
+
+
+def join(chosen, folder, target):
+    manifest = read_json(os.path.join(folder, "manifest.json"))
+    layout = pya.Layout(False)
+    layout.dbu = float(chosen.grid / 1000)
+    top = layout.create_cell(manifest["cell"])
+    layers = [layout.layer(pya.LayerInfo(1 + k, 0, chosen.name + letter)) for k, letter in enumerate("AB")]
+    rows, joined = [], {}
+    with tempfile.TemporaryDirectory() as scratch:
+        reader = Reader(scratch, chosen.name)
+        for part in manifest["parts"]:
+            report = Report(folder, part)
+            rows.append(row_of(part, report, verdict_of(folder, part, report)))
+            joined[part["name"]] = report.sha256
+            if not report.refusal:
+                cell = layout.create_cell("PART_" + part["name"].replace("/", "_"))
+                reader.into(report, cell, layers)
+                top.insert(pya.CellInstArray(cell.cell_index(), pya.Trans()))
+    layout.write(os.path.join(folder, target))
+    with open(os.path.join(folder, "table.txt"), "w") as file:
+        file.write(table_of(rows))
+    write_json(os.path.join(folder, "joined.json"), joined)
+
+
+guard("join", lambda: join(settings_module.read(settings), folder, masks))

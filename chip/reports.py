@@ -1,0 +1,54 @@
+"""What the lines of a report say, and what its boxes are. docs/report.md has the lines."""
+
+import hashlib
+import os
+import re
+
+BODY = b"DS 1 1 4;\n"
+LINE = re.compile(rb"^\((\w+) ([^)]*)\);$", re.MULTILINE)
+
+
+class Report:
+    """The report of a part in the folder of a run; `refusal` is the line of `dpl` where there is none."""
+
+    def __init__(self, folder, part):
+        base = os.path.join(folder, "reports", part["name"])
+        with open(base + ".refusal") as file:
+            self.refusal = file.read().strip()
+        with open(base + ".cif", "rb") as file:
+            self.text = file.read()
+        self.sha256 = hashlib.sha256(self.text).hexdigest()
+        self.values, self.letters = {}, b""
+        self.cuts, self.clashes = [], []
+        at = self.text.find(BODY)
+        self.body = self.text[at:] if at >= 0 else b""
+        self.read(self.text[: max(at, 0)])
+
+    def read(self, head):
+        for word, rest in LINE.findall(head):
+            if word == b"masks":
+                self.letters = rest
+            elif word == b"cut":
+                self.cuts.append([int(number) for number in rest.split()])
+            elif word == b"clash":
+                self.clashes.append([int(number) for number in rest.split()])
+            elif word not in (b"layer", b"keep", b"aside", b"cycle"):
+                self.values[word.decode()] = int(rest)
+
+    def zones(self):
+        """The zones that both masks hold, as corners in grid units."""
+        return [cut[3:7] for cut in self.cuts]
+
+    def fragments(self):
+        """The corners of each fragment in grid units. Each mask lists its fragments first, in their order."""
+        first, second = self.body.split(b"\nL ")[1:3]
+        boxes = {65: boxes_of(first), 66: boxes_of(second)}
+        return [next(boxes[letter]) for letter in self.letters]
+
+
+def boxes_of(lines):
+    for line in lines.splitlines()[1:]:
+        if not line.startswith(b"B "):
+            return
+        length, width, x, y = map(int, line[2:-1].split())
+        yield (2 * x - length) // 4, (2 * y - width) // 4, (2 * x + length) // 4, (2 * y + width) // 4

@@ -1,0 +1,107 @@
+"""One layer of a GDSII, OASIS or CIF file, read by KLayout: its cell, its extent and its units."""
+
+import math
+import os
+import re
+import tempfile
+from fractions import Fraction
+
+import pya
+
+from settings import Refused, ratio_of
+
+# KLayout reads the layer at the end of a label as a height. A label draws nothing.
+LABEL = re.compile(rb"^[ \t]*94[ \t][^;()]*;", re.MULTILINE)
+SCALE = re.compile(rb"D[^0-9A-Z();]*S[^0-9;]*[0-9]+[^0-9;]+([0-9]+)[^0-9;]+([0-9]+)")
+FINEST = Fraction(1, 100000)
+
+
+class Source:
+    def __init__(self, settings):
+        self.settings = settings
+        self.layout, self.layer = read_layer(settings)
+        self.cell = top_of(self.layout, self.layer, settings)
+        self.ratio = ratio_of(self.layout.dbu, settings.grid)
+        self.half = math.ceil(settings.space / self.ratio)
+        self.bounds = self.cell.bbox_per_layer(self.layer)
+        if self.bounds.empty():
+            raise Refused(f"layer {settings.layer} of {settings.layout} is empty")
+
+    def shapes(self, box):
+        """The shapes of the layer that meet a box, as they are drawn."""
+        found = pya.Region(self.cell.begin_shapes_rec_touching(self.layer, box))
+        found.merged_semantics = False
+        return found
+
+    def count(self):
+        """How many shapes the layer has after all instances."""
+        known = {}
+        for index in self.layout.each_cell_bottom_up():
+            cell = self.layout.cell(index)
+            below = sum(known[i.cell_index] * max(1, i.na) * max(1, i.nb) for i in cell.each_inst())
+            known[index] = cell.shapes(self.layer).size() + below
+        return known[self.cell.cell_index()]
+
+
+def read_layer(settings):
+    info = pya.LayerInfo.from_string(str(settings.layer))
+    options = pya.LoadLayoutOptions()
+    chosen = pya.LayerMap()
+    chosen.map(info, 0, info)
+    options.set_layer_map(chosen, False)
+    layout = read(settings.layout, options)
+    layer = layout.find_layer(info)
+    if layer is None or layout.layers() == 0:
+        there = sorted(i.to_s() for i in read(settings.layout, pya.LoadLayoutOptions()).layer_infos())
+        raise Refused(f"layer {settings.layer} is not in {settings.layout}, which has: {', '.join(there)}")
+    return layout, layer
+
+
+def read(path, options):
+    layout = pya.Layout(False)
+    try:
+        if path.lower().endswith(".cif"):
+            read_cif(layout, path, options)
+        else:
+            layout.read(path, options)
+    except RuntimeError as error:
+        raise Refused(f"KLayout cannot read {path}: {error}") from error
+    return layout
+
+
+def read_cif(layout, path, options):
+    """Reads a CIF text without its labels, on a grid so fine that nothing is rounded."""
+    with open(path, "rb") as file:
+        text = file.read()
+    options.cif_dbu = float(unit_of(text))
+    with tempfile.TemporaryDirectory() as folder:
+        copy = os.path.join(folder, "layout.cif")
+        with open(copy, "wb") as file:
+            file.write(LABEL.sub(b"", text))
+        layout.read(copy, options)
+
+
+def unit_of(text):
+    """The greatest unit, in micrometres, of which each corner that the text may name is a whole number."""
+    unit = Fraction(1, 200)
+    for a, b in set(SCALE.findall(text)):
+        if int(a) and int(b):
+            other = Fraction(int(a), 200 * int(b))
+            unit = Fraction(
+                math.gcd(unit.numerator * other.denominator, other.numerator * unit.denominator),
+                unit.denominator * other.denominator,
+            )
+    if unit < FINEST:
+        raise Refused("the scales of the definitions are too fine for KLayout")
+    return unit
+
+
+def top_of(layout, layer, settings):
+    if settings.top:
+        if not layout.has_cell(settings.top):
+            raise Refused(f"cell {settings.top} is not in {settings.layout}")
+        return layout.cell(settings.top)
+    tops = [cell for cell in layout.top_cells() if not cell.bbox_per_layer(layer).empty()]
+    if len(tops) > 1:
+        raise Refused(f"{settings.layout} has several top cells: set one of {', '.join(c.name for c in tops)}")
+    return tops[0] if tops else layout.top_cells()[0]

@@ -1,0 +1,130 @@
+"""Which pairs of shapes that are too close on one mask the reports tell, as conflicts.
+
+docs/cuts.md has the rules: a piece is a class of fragments under bonds, a conflict joins two pieces, and fragments of one
+shape may be as close as they like.
+"""
+
+from functools import lru_cache
+from typing import NamedTuple
+
+from classes import Classes
+from reports import Report
+
+
+class Told:
+    def __init__(self, folder, manifest, chosen, finer):
+        self.folder, self.parts = folder, manifest.parts
+        self.space = 2 * chosen.space
+        self.finer = finer
+        self.net = lru_cache(maxsize=64)(self.read)
+        self.around = Grid([part["bounds"] for part in self.parts])
+
+    def read(self, number):
+        report = Report(self.folder, self.parts[number])
+        return None if report.refusal else Net(report)
+
+    def tells(self, letter, pair):
+        """Whether what is too close where two edges of a mask face each other is of one shape, or told."""
+        explained = False
+        for part, first in self.items(letter, pair.first):
+            for other, second in self.items(letter, pair.second):
+                net = self.net(part)
+                if part == other and net.of_one_shape(first, second):
+                    explained = True
+                elif gap2(first.rect, second.rect) < self.space**2:
+                    if part != other or not net.tells(first, second):
+                        return False
+                    explained = True
+        return explained
+
+    def items(self, letter, edge):
+        """What of a mask an edge runs along, each with the number of its part."""
+        b = edge.bbox()
+        box = [v / self.finer for v in (b.left, b.bottom, b.right, b.top)]
+        return [(n, item) for n in self.around.meeting(box) if self.net(n) for item in self.net(n).at(letter, box)]
+
+
+class Item(NamedTuple):
+    """A box of a mask, and the fragment that it shows or, as a zone, goes on with."""
+
+    rect: tuple
+    letter: str
+    fragment: int
+
+
+class Net:
+    """The boxes of a report, the pieces and shapes of its fragments, and the pairs of pieces that its conflicts tell."""
+
+    def __init__(self, report):
+        rects, letters = report.fragments(), report.letters.decode()
+        self.items = [Item(rect, letter, i) for i, (rect, letter) in enumerate(zip(rects, letters))]
+        self.items += [Item(tuple(cut[3:7]), letters[i], i) for cut in report.cuts for i in cut[1:3]]
+        self.grid = Grid([item.rect for item in self.items])
+        self.pieces, self.shapes = Classes(len(rects)), Classes(len(rects))
+        for i, rect in enumerate(rects):
+            for j in self.grid.meeting(rect):
+                if i < j < len(rects):
+                    self.touch(i, j, rect, rects[j])
+        self.told = {frozenset(self.pieces.root(k) for k in clash[1:3]) for clash in report.clashes}
+
+    def touch(self, i, j, r, s):
+        across = min(r[2], s[2]) - max(r[0], s[0])
+        up = min(r[3], s[3]) - max(r[1], s[1])
+        if across + up > 0 and across >= 0 and up >= 0:
+            self.shapes.join(i, j)
+            if across > 0 and (r[0], r[2]) != (s[0], s[2]):
+                self.pieces.join(i, j)
+
+    def at(self, letter, box):
+        return [self.items[k] for k in self.grid.meeting(box) if self.items[k].letter == letter]
+
+    def of_one_shape(self, first, second):
+        return self.shapes.root(first.fragment) == self.shapes.root(second.fragment)
+
+    def tells(self, first, second):
+        return frozenset(self.pieces.root(item.fragment) for item in (first, second)) in self.told
+
+
+class Grid:
+    """Boxes by the squares that they meet."""
+
+    def __init__(self, boxes):
+        self.boxes = boxes
+        sides = sorted(max(b[2] - b[0], b[3] - b[1]) for b in boxes)
+        self.side = max(1, sides[len(sides) // 2] * 2) if sides else 1
+        self.squares, self.long = {}, []
+        for k, box in enumerate(boxes):
+            squares = list(self.squares_of(box, most=64))
+            if not squares:
+                self.long.append(k)
+            for square in squares:
+                self.squares.setdefault(square, []).append(k)
+
+    def squares_of(self, box, most):
+        """The squares of a box, none where it has more than so many."""
+        left, bottom, right, top = (int(v // self.side) for v in box)
+        if (right - left + 1) * (top - bottom + 1) > most:
+            return
+        for x in range(left, right + 1):
+            for y in range(bottom, top + 1):
+                yield x, y
+
+    def meeting(self, box):
+        """The numbers of the boxes that meet a box, also at an edge or a corner."""
+        near = set(self.long)
+        squares = list(self.squares_of(box, most=4096))
+        for square in squares:
+            near.update(self.squares.get(square, ()))
+        if not squares:
+            near = range(len(self.boxes))
+        return sorted(k for k in near if meets(self.boxes[k], box))
+
+
+def meets(a, b):
+    return a[0] <= b[2] and b[0] <= a[2] and a[1] <= b[3] and b[1] <= a[3]
+
+
+def gap2(r, s):
+    across = max(0, r[0] - s[2], s[0] - r[2])
+    up = max(0, r[1] - s[3], s[1] - r[3])
+    return across * across + up * up

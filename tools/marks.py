@@ -1,0 +1,146 @@
+"""The marks of a report: what the engineer looks at, each with its numbers, at the place where it is.
+
+A mark of a conflict or of an edge set aside is the gap between its two fragments, one of a stitch is the line of the
+cut, one of an overlap is the zone that both masks hold, and one of an odd cycle is a closed line that follows its
+fragments and crosses its gaps. Lengths are grid units, of which a hundredth of a micron has two.
+"""
+
+from math import hypot
+from typing import NamedTuple
+from xml.sax.saxutils import escape
+
+from net import edges_of, fragments_of, gap_box, gaps, weight
+
+KINDS = {
+    "conflict": "two shapes closer than the spacing on one mask",
+    "stitch": "a feature that goes on on the other mask",
+    "overlap": "where both masks hold a feature, around a stitch",
+    "aside": "edges set aside so that the others can be drawn plane",
+    "cycle": "odd cycles: on each something must break, so they bound the cost",
+}
+
+MOST_NAMED = 16
+
+
+class Mark(NamedTuple):
+    """A kind of KINDS, what to say, boxes as corners (x1, y1, x2, y2), and lines as lists of points."""
+
+    kind: str
+    title: str
+    boxes: list
+    lines: list
+
+
+def marks(report, kinds=KINDS, divide=1):
+    """All marks of these kinds, kind by kind; what they say of lengths is made smaller by `divide`."""
+    edges = edges_of(report) if {"aside", "cycle"} & set(kinds) else None
+    of = {
+        "conflict": lambda: (conflict(report, clash, divide) for clash in report.clashes),
+        "stitch": lambda: (stitch(report, cut) for cut in report.cuts),
+        "overlap": lambda: (overlap(cut, divide) for cut in report.cuts),
+        "aside": lambda: aside_marks(report, edges, divide),
+        "cycle": lambda: (odd_cycle(report, edges, number) for number in range(len(report.cycles))),
+    }
+    for kind in kinds:
+        yield from of[kind]()
+
+
+def conflict(report, clash, divide):
+    r, s = report.fragments[clash.first], report.fragments[clash.second]
+    cost = weight(report, {clash.edge: ("clash", clash.first, clash.second)}, clash.edge)
+    said = f"conflict, edge {clash.edge}: fragments {clash.first} and {clash.second} on mask {report.letters[clash.first]}"
+    return Mark("conflict", f"{said}, {distance(r, s, divide)} apart, weight {cost}", [gap_box(r, s)], [])
+
+
+def stitch(report, cut):
+    x1, y1, x2, y2 = gap_box(report.fragments[cut.first], report.fragments[cut.second])
+    said = f"stitch, edge {cut.edge}: fragments {cut.first} and {cut.second}, weight {report.values['stitch']}"
+    return Mark("stitch", said, [], [[(x1, y1), (x2, y2)]])
+
+
+def overlap(cut, divide):
+    x1, y1, x2, y2 = cut.zone
+    said = f"overlap of the stitch at edge {cut.edge}: {microns((x2 - x1,), divide)} by {microns((y2 - y1,), divide)} microns"
+    return Mark("overlap", said, [cut.zone], [])
+
+
+def aside_marks(report, edges, divide):
+    broken = {clash.edge for clash in report.clashes} | {cut.edge for cut in report.cuts}
+    for number in report.aside:
+        kind, i, j = edges[number]
+        r, s = report.fragments[i], report.fragments[j]
+        cost = weight(report, edges, number)
+        said = f"{kind} set aside, edge {number}: fragments {i} and {j}, {distance(r, s, divide)} apart"
+        said += "" if cost is None else f", weight {cost}, {'broken' if number in broken else 'kept by the masks'}"
+        yield Mark("aside", said, [gap_box(r, s)], [])
+
+
+def odd_cycle(report, edges, number):
+    cycle = report.cycles[number]
+    named = " ".join(map(str, cycle.walk[:MOST_NAMED])) + (" .." if len(cycle.walk) > MOST_NAMED else "")
+    said = f"odd cycle {number}, half weight {cycle.half}: {len(cycle.walk)} edges from fragment {cycle.start}: {named}"
+    gaps_passed = [gap_box(*map(report.fragments.__getitem__, edges[edge][1:])) for edge in cycle.walk if edges[edge].kind == "clash"]
+    return Mark("cycle", said, gaps_passed, [track(report, edges, cycle)])
+
+
+def distance(r, s, divide):
+    return f"{hypot(*gaps(r, s)) / (200 * divide):.6g} microns"
+
+
+# ---- the line of an odd cycle
+
+
+def middle(box):
+    return ((box[0] + box[2]) / 2, (box[1] + box[3]) / 2)
+
+
+def on_spine(rect, point):
+    """The point of a rectangle's middle line that is nearest to a point."""
+    x1, y1, x2, y2 = rect
+    half = min(x2 - x1, y2 - y1) / 2
+    return (min(max(point[0], x1 + half), x2 - half), min(max(point[1], y1 + half), y2 - half))
+
+
+def track(report, edges, cycle):
+    """A closed line along the middle of each fragment that a cycle passes, and through the middle of each gap."""
+    passed = fragments_of(edges, cycle)
+    points = []
+    for edge, before, after in zip(cycle.walk, passed, passed[1:]):
+        r, s = report.fragments[before], report.fragments[after]
+        between = middle(gap_box(r, s))
+        points += [on_spine(r, between), between, on_spine(s, between)]
+    points.append(points[0])
+    return [point for point, last in zip(points, [None, *points]) if point != last]
+
+
+# ---- KLayout's marker database
+
+
+def microns(numbers, divide):
+    return ",".join(f"{number / (200 * divide):.12g}" for number in numbers)
+
+
+def values(mark, divide):
+    """The lines of a mark's item: what to say, and its shapes."""
+    yield f"text: '{mark.title}'"
+    for x1, y1, x2, y2 in mark.boxes:
+        yield f"box: ({microns((x1, y1), divide)};{microns((x2, y2), divide)})"
+    for points in mark.lines:
+        if len(points) == 2:
+            yield f"edge: ({';'.join(microns(point, divide) for point in points)})"
+        else:
+            yield f"path: ({';'.join(microns(point, divide) for point in points)}) w=0 bx=0 ex=0 r=false"
+
+
+def database(found, cell, said, divide=1):
+    """The lines of a marker database with the marks, in a cell, `said` being what it says of itself."""
+    yield '<?xml version="1.0" encoding="utf-8"?>'
+    yield f"<report-database><description>{escape(said)}</description><generator>dpl</generator>"
+    yield f"<top-cell>{escape(cell)}</top-cell><categories>"
+    for kind, meaning in KINDS.items():
+        yield f"<category><name>{kind}</name><description>{escape(meaning)}</description></category>"
+    yield f"</categories><cells><cell><name>{escape(cell)}</name></cell></cells><items>"
+    for mark in found:
+        lines = "".join(f"<value>{escape(line)}</value>" for line in values(mark, divide))
+        yield f"<item><category>{mark.kind}</category><cell>{escape(cell)}</cell><values>{lines}</values></item>"
+    yield "</items></report-database>"

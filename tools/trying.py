@@ -1,0 +1,111 @@
+"""Answers by the sources without their proofs, where no proved program stands: `rt try` compiles and runs them.
+
+Its standard input must not pause, and it gives no answer past 1 MiB; so the launcher reads the layout to its end first,
+as far as the program would, and writes the answer itself.
+"""
+
+import os
+import re
+import subprocess
+import tempfile
+
+import words as command_line
+from kit import Failed, rt
+
+MOST_LAYOUT, MOST_REPORT = 16_777_216, 268_435_456
+SECONDS = 900
+WITHOUT = "the sources without their proofs give no answer to this"
+
+ENDED = re.compile(rb"^run=ended status=(\d+) ", re.M)
+REASON = re.compile(r"^checked: no-answer: (.*)$", re.M)
+
+
+class Ended(Exception):
+    """An answer of the program that the launcher gives in its place: its status and its line."""
+
+    def __init__(self, status, line):
+        super().__init__(line)
+        self.status, self.line = status, line
+
+
+def read(file, most):
+    """The bytes of a file, at most one more than the program would take."""
+    parts, left = [], most + 1
+    while left:
+        part = os.read(file, min(left, 1 << 20))
+        if not part:
+            break
+        parts.append(part)
+        left -= len(part)
+    return b"".join(parts)
+
+
+def read_layout():
+    try:
+        return read(0, MOST_LAYOUT)
+    except OSError as error:
+        raise Ended(5, "dpl: read fault") from error
+
+
+def read_named(name):
+    """The bytes of a file that an option names."""
+    try:
+        file = os.open(name, os.O_RDONLY)
+        try:
+            return read(file, MOST_REPORT)
+        finally:
+            os.close(file)
+    except OSError as error:
+        raise Ended(5, "dpl: read fault") from error
+
+
+def answer(words, line):
+    """The program's status, output, error output, and the layout that it read, by the sources without their proofs."""
+    command = command_line.COMMANDS[words[0]]
+    layout = read_layout() if command.reads_layout else b""
+    with tempfile.TemporaryDirectory(prefix="dpl-") as folder:
+        flags, given = ["--seconds", str(SECONDS)], words[:1]
+        for name, value in command_line.given_in(words[1:])[0]:
+            if command_line.OPTIONS[name].shown == "FILE":
+                # a layout that is too long is refused before a file that is named is opened
+                if len(layout) <= MOST_LAYOUT:
+                    with open(f"{folder}/{name}", "wb") as file:
+                        file.write(read_named(value))
+                    flags += ["--data", f"{name}.given={folder}/{name}"]
+                value = f"{name}.given"
+            given.append(f"--{name}={value}")
+        status, out, told = run([*flags, "--", *given], layout, folder, line)
+    return status, out, told, layout
+
+
+def run(words, layout, folder, line):
+    with open(f"{folder}/layout", "w+b") as source, open(f"{folder}/out", "w+b") as out, open(f"{folder}/told", "w+b") as told:
+        source.write(layout)
+        source.seek(0)
+        with rt(["try", *words], stdin=source, stdout=out, stderr=told) as process:
+            wait(process, line)
+        out.seek(0)
+        told.seek(0)
+        return judged(out.read(), told.read())
+
+
+def wait(process, line):
+    while True:
+        line.tell(f"dpl: compiling and running, {60 * line.minutes():.0f} s")
+        try:
+            process.wait(1)
+            break
+        except subprocess.TimeoutExpired:
+            continue
+    line.clear()
+
+
+def judged(out, told):
+    """The program's status, output and error line, out of what `rt try` says."""
+    ended = ENDED.search(told)
+    if ended:
+        return int(ended[1]), out, b"".join(it for it in told.splitlines(True) if it.startswith(b"dpl: "))
+    said = told.decode(errors="replace")
+    reason = REASON.search(said)
+    why = reason[1] if reason else "\n".join(said.splitlines()[-8:])
+    raise Failed(f"{WITHOUT} ({SECONDS // 60} minutes and 1 MiB are the most); dpl build makes the program, which has no such bound. The kit says: {why}")
