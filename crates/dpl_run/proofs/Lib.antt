@@ -5,6 +5,7 @@ pub mod CheckLemmas
 pub mod LoadLemmas
 pub mod CrossLemmas
 pub mod DueLemmas
+pub mod LeastLemmas
 pub mod ReadingLemmas
 pub mod ToldLemmas
 pub mod SteadyLemmas

@@ -246,6 +246,7 @@ asked_for name before now others e = (there, back) where
   there : AsksFor name before now → (others ≡ []) ⊎ (others ≡ name ∷ [])
   there (inl a) = inl (append_cancel_left before.asked others [] (sym e ∙ a ∙ sym (append-nil before.asked)))
   there (inr a) = inr (append_cancel_left before.asked others (name ∷ []) (sym e ∙ a))
+
   back : (others ≡ []) ⊎ (others ≡ name ∷ []) → AsksFor name before now
   back (inl a) = inl (e ∙ ap (λ z. before.asked ++ z) a ∙ append-nil before.asked)
   back (inr a) = inr (e ∙ ap (λ z. before.asked ++ z) a)

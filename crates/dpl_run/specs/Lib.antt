@@ -3,5 +3,6 @@ pub mod Inputs
 pub mod Devices
 pub mod due
 pub mod Answer
+pub mod Consequences
 pub mod Telling
 pub mod Errors

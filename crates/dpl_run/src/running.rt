@@ -1,10 +1,12 @@
 // The program over its devices.
-ghost use Rattle.std.specs.Prelude.{◌+◌, ◌≡◌, ◌≢◌, ℕ, List, map, string_bytes};
+ghost use Rattle.std.specs.Prelude.{◌+◌, ◌≡◌, ◌≢◌, ℕ, List, Some, Ok, map, string_bytes};
 ghost use Rattle.std.specs.Io.KnownBytes.{Appends};
 ghost use Rattle.dpl_limits.specs.declared.TheConstants.{MOST_LAYOUT_BYTES, MOST_REPORT_BYTES};
 ghost use Rattle.dpl_ext.specs.Device.{Rose, AppendsFront};
-ghost use Rattle.dpl_words.specs.Commands.{command_of};
+ghost use Rattle.dpl_options.specs.Options.{PlainOptions};
+ghost use Rattle.dpl_words.specs.Commands.{check, command_of};
 ghost use Rattle.dpl_run.specs.Answer.{Answers, IsAnswered, IsDue, IsQuiet, IsStatusOf};
+ghost use Rattle.dpl_run.specs.Consequences.{AskForSplit, WritesBound, WritesLeast};
 ghost use Rattle.dpl_run.specs.Devices.{AreSteady, AreTold, IsReadFault, IsTouched, PassesBytes};
 ghost use Rattle.dpl_run.specs.Lines.{line_of};
 
@@ -16,7 +18,7 @@ use dpl_ext::{Shelf, Sink, Source, write_all};
 use dpl_words::{UsageError, parse};
 use std::alloc::Global;
 
-/// Does what the words ask for: `split`, `balance` and `check` read the layout from `layout`, `check` opens its report in
+/// Does what the words ask for: every command but `load` reads the layout from `layout`, `check` opens its report in
 /// `second`, and what is due is written to `out`, a line to `err` where the status is not `Done`.
 pub fn run<S: Source, F: Shelf, O: Sink, E: Sink>(
     alloc: Global,
@@ -42,6 +44,18 @@ pub fn run<S: Source, F: Shelf, O: Sink, E: Sink>(
         IsDue (map string_bytes words.now) text report due output
         → result ≢ Status.ReadFault → IsAnswered due result }
     ensures of_words { IsStatusOf (command_of (map string_bytes words.now)) result }
+
+    // What a split and an accepted report mean for every other pair of masks.
+    ensures least { (o : PlainOptions) (text taken : List ℕ) →
+        AskForSplit (command_of (map string_bytes words.now)) o
+        → (S.seen layout.old).left ≡ Some text → O.taken out.old ≡ Some taken
+        → result ≡ Status.Done → WritesLeast o text taken (O.taken out.new) }
+    ensures bound { (o : PlainOptions) (name text report taken : List ℕ) →
+        command_of (map string_bytes words.now) ≡ Ok (check o name)
+        → AreTold (command_of (map string_bytes words.now)) (S.seen layout.old).left
+        (F.texts second.old) text report
+        → O.taken out.old ≡ Some taken → result ≡ Status.Done →
+        WritesBound o text taken (O.taken out.new) }
 
     // When a device is to blame, how much was read, and which devices were not touched.
     ensures read { result ≡ Status.ReadFault →
