@@ -1,6 +1,7 @@
 """The words of `./dpl`: those of the program are judged, answered and explained, and four are the launcher's own."""
 
 import os
+import signal
 import stat
 import subprocess
 import sys
@@ -32,12 +33,14 @@ EMPTY = b"\n(fragments 0);\n"
 
 def main(words):
     kit.hold_standard_files()
+    signal.signal(signal.SIGTERM, lambda number, _: sys.exit(128 + number))
     try:
         return run(words)
     except Failed as failed:
         kit.tell(f"dpl: {failed}\n")
         return FAILED
     except KeyboardInterrupt:
+        kit.tell("\n")
         return 130
 
 
