@@ -21,6 +21,7 @@ DEFAULTS = {
     "bands": 4,
     "batch": 25,
     "masks": "masks.oas",
+    "markers": "conflict,stitch,overlap,aside,cycle",
     "dpl": None,
 }
 NEEDED = ("layout", "layer", "space", "overlap")
@@ -46,7 +47,7 @@ class Settings:
     def __init__(self, given, folder):
         self.check(given)
         values = {**DEFAULTS, **given}
-        for word in ("top", "layer", "masks", "size", "bands", "batch", "balance"):
+        for word in ("top", "layer", "masks", "markers", "size", "bands", "batch", "balance"):
             setattr(self, word, values[word])
         self.layout = os.path.join(folder, values["layout"])
         self.dpl = os.path.join(folder, values["dpl"]) if values["dpl"] else os.path.join(HERE, "..", "dpl")
