@@ -1,6 +1,6 @@
 """Lays a layer of a layout out as an array, in GDSII, to measure with. KLayout runs it:
 
-    chip/klayout array.py settings=ONE.json times=10 gap=600 target=array.gds
+    chip/klayout repeat.py settings=ONE.json times=10 gap=600 target=array.gds
 
 `times` is how many blocks stand in a row and how many rows there are, `gap` how far apart they are, in nanometres.
 """
@@ -32,4 +32,4 @@ def main():
     layout.write(target)
 
 
-guard("array", main)
+guard("repeat", main)
