@@ -25,8 +25,8 @@ LIMITS = {
 }
 
 CONDITIONS = {
-    1: "line {place} of the report can not stand there{line}",
-    2: "line {place} of the report has another option than is asked for{line}",
+    1: "line {place} of the report cannot stand there{line}",
+    2: "line {place} of the report has {found} for an option that is asked for as {wanted}{line}",
     3: "line {place} of the report has the number {found}, and the layout has {wanted}{line}",
     4: "edge {place} is a bond, and its two fragments are on two masks",
     5: "edge {place}: the report lists {found} where its masks break {wanted}; past the last edge these are the two costs",

@@ -58,7 +58,7 @@ def run(words):
 def of_program(words):
     """The program's answer to its words."""
     has_program = kit.has_program()
-    if os.isatty(0) and words and words[0] in command_line.COMMANDS and command_line.COMMANDS[words[0]].reads_layout:
+    if os.isatty(0) and command_line.wrong_in(words) is None and command_line.COMMANDS[words[0]].reads_layout:
         kit.tell("dpl: the layout is read from this terminal; < FILE gives it one\n")
     if has_program and kit.is_old():
         kit.tell(f"{OLD}\n")
