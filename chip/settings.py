@@ -110,5 +110,6 @@ def guard(name, work):
     try:
         work()
     except (Refused, OSError, RuntimeError) as error:
-        print(f"{name}: {' '.join(str(error).split())}", file=sys.stderr)
-        sys.exit(1)
+        print(f"{name}: {' '.join(str(error).split())}", file=sys.stderr, flush=True)
+        # KLayout forgets the status of a SystemExit that is raised here.
+        os._exit(1)
