@@ -4,8 +4,9 @@
     bench/viewers.py [--program BINARY] LAYOUT:LAYER:SPACE:OVERLAP.. REPORT..
 
 Each layer is split by the built program; a report is taken as it is. The masks are written on the layers CMF and CMS,
-which all three know. KLayout and Electric must show each box of the report, no more and no fewer; Magic joins boxes, so
-for it the areas must be the same. Ends with 1 where one viewer shows something else.
+which all three know. KLayout and Electric must show each box of the report, no more and no fewer, but that Electric
+rounds to whole hundredths of a micron; Magic joins boxes, so for it the areas must be the same. Ends with 1 where a viewer
+shows something else.
 """
 
 import argparse
@@ -88,7 +89,10 @@ import java.util.HashMap;
 tech = Technology.findTechnology("mocmos");
 prefs = new com.sun.electric.tool.io.input.CIF$CIFPreferences(true);
 empty = Library.newInstance("masks", null);
-read = Input.importLibrary(EditingPreferences.getInstance(), prefs, new URL("file://{source}"), FileType.CIF, empty, tech, new HashMap(), new HashMap(), false, Job.getRunningJob());
+url = new URL("file://{source}");
+editing = EditingPreferences.getInstance();
+job = Job.getRunningJob();
+read = Input.importLibrary(editing, prefs, url, FileType.CIF, empty, tech, new HashMap(), new HashMap(), false, job);
 unit = tech.getScale() / 5;
 for (cells = read.getCells(); cells.hasNext(); ) {{
   cell = cells.next();
@@ -96,7 +100,8 @@ for (cells = read.getCells(); cells.hasNext(); ) {{
   for (nodes = cell.getNodes(); nodes.hasNext(); ) {{
     node = nodes.next();
     b = node.getBounds();
-    print("box " + node.getProto().getName() + " " + b.getMinX() * unit + " " + b.getMinY() * unit + " " + b.getMaxX() * unit + " " + b.getMaxY() * unit);
+    corners = b.getMinX() * unit + " " + b.getMinY() * unit + " " + b.getMaxX() * unit + " " + b.getMaxY() * unit;
+    print("box " + node.getProto().getName() + " " + corners);
   }}
 }}
 """
@@ -156,11 +161,13 @@ def tried(case, program):
         with open(report, "rb") as file:
             read = Report(file.read())
         wanted = [Counter(read.boxes(letter)) for letter in "AB"]
-        missed = {name: difference(wanted, shown(source)) for name, shown in (("klayout", shown_by_klayout), ("electric", shown_by_electric))}
+        count, half = sum(sum(boxes.values()) for boxes in wanted), off_hundredths(wanted)
+        by_klayout, by_electric = difference(wanted, shown_by_klayout(source)), difference(wanted, shown_by_electric(source))
         area = differs_in_magic(source)
-        count, half = sum(map(len, map(list, (w.elements() for w in wanted)))), off_hundredths(wanted)
-        print(f"{case}: {count} boxes, {half} off whole hundredths; klayout {missed['klayout']}, electric {missed['electric']} otherwise; magic {area:g} square hundredths otherwise", flush=True)
-        return missed["klayout"] == 0 and missed["electric"] <= 2 * half and area == 0
+        print(f"{case}: {count} boxes, {half} off whole hundredths; boxes missing or too many:", end=" ")
+        print(f"KLayout {by_klayout}, Electric {by_electric}; square hundredths that differ: Magic {area:g}", flush=True)
+        # Electric rounds what lies off whole hundredths
+        return by_klayout == 0 and by_electric <= 2 * half and area == 0
 
 
 def difference(wanted, found):

@@ -1,11 +1,12 @@
 """Cuts a layer into parts that no spacing joins. KLayout runs it: see `cut`.
 
 A cluster is a connected part of the layer sized by half the spacing with square corners. The layer is taken window by
-window. A cluster that lies within one window is complete there, and such clusters make the parts of the window. Of the
+window. A cluster that lies within one window is complete there, and such clusters make the part of the window. Of the
 others each window notes where they cross its sides, and what of the layer they hold; `pack` joins them over the windows.
 """
 
 import hashlib
+import math
 import os
 import sys
 
@@ -19,8 +20,10 @@ from files import read_json, write_json
 from settings import Refused, guard
 from source import Source
 
-# A window takes this many times the size of a part, since a share of it crosses its sides.
-ROOM = 1.25
+# A window takes this many times the size of a part, since a share of it crosses its sides, and a part at most so many.
+ROOM, MOST = 1.1, 1.5
+# The frame of a window is this share of its side.
+FRAME = 10
 SHOWN = 5
 
 
@@ -55,36 +58,52 @@ class Cut:
         self.source, self.folder = source, folder
         self.parts, self.crossing = [], []
 
-    def window(self, name, place, box):
+    def window(self, place, box):
         source = self.source
         shapes = source.shapes(box.enlarged(source.half, source.half))
         refuse_unfit(source, shapes)
-        hulls = shapes.sized(source.half, source.half, 2)
-        hulls.merge(False, 0)
-        complete, others = [], []
-        for hull in hulls.each():
-            bounds = hull.bbox()
-            if bounds.inside(box):
-                complete.append(hull)
-            else:
-                others.append(hull)
-        shared, whole = shapes.andnot(region_of(others))
-        self.whole(name, whole, complete)
-        met = [hull for hull in others if hull.bbox().overlaps(box)]
-        self.shared(place, box, shared & pya.Region(box), met)
+        hulls = self.leaving(shapes, box)
+        self.whole(f"x{place[0]:04}y{place[1]:04}", box, shapes, region_of(hulls))
+        self.shared(place, box, [hull for hull in hulls if hull.bbox().overlaps(box)])
 
-    def whole(self, name, layer, hulls):
-        """Writes parts of complete clusters, with about as many boxes each as a part may have."""
-        for number, (boxes, count) in enumerate(self.groups(layer, hulls)):
-            label = name if number == 0 else f"{name}-{number}"
-            self.parts.append(write_part(self.source, self.folder, label, boxes, count))
+    def leaving(self, shapes, box):
+        """The hulls of the clusters that leave a window. Mostly a frame of the window holds them, which is tried first."""
+        half = self.source.half
+        frame = min(box.width(), box.height()) // FRAME
+        inner = box.enlarged(-frame, -frame)
+        if frame > 2 * half:
+            around = pya.Region(box.enlarged(half, half)) - pya.Region(inner)
+            hulls = leaving(hulls_of(self.source.shapes(around), half), box)
+            if (region_of(hulls) & pya.Region(inner.enlarged(half, half))).is_empty():
+                return hulls
+        return leaving(hulls_of(shapes, half), box)
+
+    def whole(self, label, box, shapes, hulls):
+        """Writes the clusters that do not leave a window as a part, or as some where they have too many boxes for one."""
+        lines = self.lines_outside(shapes, hulls)
+        if len(lines) <= MOST * self.source.settings.size:
+            self.write(label, lines, box)
+            return
+        layer = shapes - hulls
+        for number, boxes in enumerate(self.groups(layer, list(hulls_of(layer, self.source.half).each()))):
+            self.write(f"{label}-{number}", lines_of(self.source, boxes)[0], boxes.bbox())
+
+    def lines_outside(self, shapes, hulls):
+        """The lines of the shapes that do not lie in hulls; rectangles are taken as they are drawn."""
+        lines, others = lines_of(self.source, shapes)
+        if not hulls.is_empty():
+            left_out = set(lines_of(self.source, self.source.shapes_over(hulls))[0])
+            lines = [line for line in lines if line not in left_out]
+        if others:
+            lines += lines_of(self.source, (region_of(others) - hulls).decompose_trapezoids_to_region())[0]
+        return list(dict.fromkeys(lines))
 
     def groups(self, layer, hulls):
+        """The boxes of a layer in groups of whole clusters, each with about as many boxes as a part may have."""
         boxes = layer.decompose_trapezoids_to_region()
-        size = self.source.settings.size
-        pieces = min(len(hulls), round(boxes.count() / size))
+        pieces = min(len(hulls), round(boxes.count() / self.source.settings.size))
         if pieces <= 1:
-            return [(boxes, len(hulls))] if hulls else []
+            return [boxes]
         hulls = sorted(hulls, key=lambda hull: (hull.bbox().left, hull.bbox().bottom))
         found = []
         for k in range(pieces):
@@ -92,10 +111,15 @@ class Cut:
             found += self.groups(layer & region_of(some), some)
         return found
 
-    def shared(self, place, box, layer, hulls):
+    def write(self, label, lines, box):
+        if lines:
+            self.parts.append(store(self.source.settings, self.folder, label, lines, bounds_of(self.source, box)))
+
+    def shared(self, place, box, hulls):
         """Notes for each cluster that leaves the window what it holds there and where it crosses the sides."""
         held = [[] for _ in hulls]
         finder = Finder(hulls)
+        layer = self.source.shapes_over(region_of(hulls)) & pya.Region(box) if hulls else pya.Region()
         for shape in layer.each():
             held[finder.of(shape)].append(shape)
         for hull, shapes in zip(hulls, held):
@@ -104,11 +128,21 @@ class Cut:
                 {
                     "place": place,
                     "sides": sides_of(hull, place, box),
-                    "count": boxes.count(),
-                    "bounds": bounds_of(self.source, boxes),
-                    "text": text_of(self.source, boxes),
+                    "bounds": bounds_of(self.source, boxes.bbox()),
+                    "lines": lines_of(self.source, boxes)[0],
                 }
             )
+
+
+def hulls_of(shapes, half):
+    """The layer sized by half the spacing with square corners, merged: a hull for each cluster."""
+    hulls = shapes.sized(half, half, 2)
+    hulls.merge(False, 0)
+    return hulls
+
+
+def leaving(hulls, box):
+    return [hull for hull in hulls.each() if not hull.bbox().inside(box)]
 
 
 class Finder:
@@ -170,38 +204,42 @@ def refuse(what, points, unit):
     raise Refused(f"{what} at {places} micrometres, {len(points)} in this window")
 
 
-def text_of(source, boxes):
-    """The lines of boxes, in quarters of a hundredth of a micron, of which a grid unit of `dpl` has two."""
+def lines_of(source, shapes):
+    """A line for each rectangle, in quarters of a hundredth of a micron, and the other polygons.
+
+    A grid unit of `dpl` has two such quarters.
+    """
     up, down = source.ratio.numerator, source.ratio.denominator
-    lines = []
-    for polygon in boxes.each():
+    lines, others = [], []
+    for polygon in shapes.each():
+        if not polygon.is_box():
+            others.append(polygon)
+            continue
         b = polygon.bbox()
         left, bottom, right, top = b.left, b.bottom, b.right, b.top
         lines.append(
             f"B {2 * (right - left) * up // down} {2 * (top - bottom) * up // down}"
             f" {(left + right) * up // down} {(bottom + top) * up // down};\n"
         )
-    return "".join(lines)
+    return lines, others
 
 
-def bounds_of(source, boxes):
-    b, ratio = boxes.bbox(), source.ratio
-    return [int(v * ratio) for v in (b.left, b.bottom, b.right, b.top)]
+def bounds_of(source, box):
+    """The corners of a box in grid units, rounded outwards; an empty box has none."""
+    if box.empty():
+        return []
+    low, high = (box.left, box.bottom), (box.right, box.top)
+    return [math.floor(v * source.ratio) for v in low] + [math.ceil(v * source.ratio) for v in high]
 
 
-def write_part(source, folder, label, boxes, clusters):
-    return store(source.settings, folder, label, text_of(source, boxes), boxes.count(), clusters, bounds_of(source, boxes))
-
-
-def store(settings, folder, label, lines, count, clusters, bounds):
+def store(settings, folder, label, lines, bounds):
     """Writes a part, and tells what the manifest says of it."""
-    text = f"(part {label});\nDS 1 1 4;\nL {settings.name};\n{lines}DF;\nC 1;\nE\n".encode()
+    text = f"(part {label});\nDS 1 1 4;\nL {settings.name};\n{''.join(lines)}DF;\nC 1;\nE\n".encode()
     with open(os.path.join(folder, label + ".cif"), "wb") as file:
         file.write(text)
     return {
         "name": f"{os.path.basename(folder)}/{label}",
-        "primitives": count,
-        "clusters": clusters,
+        "primitives": len(lines),
         "bounds": bounds,
         "sha256": hashlib.sha256(text).hexdigest(),
     }
@@ -254,11 +292,11 @@ def cut_band(settings, folder, band):
     clear(target)
     cut = Cut(source, target)
     for i, j in windows.of_band(band, settings.bands):
-        cut.window(f"x{i:04}y{j:04}", (i, j), windows.box(i, j))
+        cut.window((i, j), windows.box(i, j))
     index = {
         "windows": [windows.columns, windows.rows],
         "shapes": source.count(),
-        "bounds": [int(v * source.ratio) for v in (source.bounds.left, source.bounds.bottom, source.bounds.right, source.bounds.top)],
+        "bounds": bounds_of(source, source.bounds),
         "dbu": source.layout.dbu,
         "cell": source.cell.name,
         "parts": cut.parts,
@@ -285,32 +323,30 @@ def pack(settings, folder):
         "windows": first["windows"],
         "bounds": first["bounds"],
         "primitives": sum(part["primitives"] for part in parts),
-        "clusters": sum(part["clusters"] for part in parts),
         "parts": parts,
     }
     write_json(os.path.join(folder, "manifest.json"), manifest)
 
 
 def border_parts(settings, folder, clusters):
+    """Parts of the clusters that leave windows, neighbours together."""
     found, group, count = [], [], 0
     for items in sorted(clusters, key=curve):
-        more = sum(item["count"] for item in items)
-        if group and count + more > settings.size:
+        more = sum(len(item["lines"]) for item in items)
+        if count and count + more > settings.size:
             found.append(store_group(settings, folder, len(found), group))
             group, count = [], 0
-        group.append(items)
+        group += [item for item in items if item["lines"]]
         count += more
-    if group:
+    if count:
         found.append(store_group(settings, folder, len(found), group))
     return found
 
 
-def store_group(settings, folder, number, group):
-    items = [item for items in group for item in items if item["count"]]
+def store_group(settings, folder, number, items):
     lefts, bottoms, rights, tops = zip(*(item["bounds"] for item in items))
-    bounds = [min(lefts), min(bottoms), max(rights), max(tops)]
-    lines = "".join(item["text"] for item in items)
-    return store(settings, folder, f"{number:06}", lines, sum(item["count"] for item in items), len(group), bounds)
+    lines = [line for item in items for line in item["lines"]]
+    return store(settings, folder, f"{number:06}", lines, [min(lefts), min(bottoms), max(rights), max(tops)])
 
 
 def main():

@@ -21,6 +21,7 @@ DEFAULTS = {
     "bands": 4,
     "batch": 25,
     "masks": "masks.oas",
+    "markers": "conflict,stitch,overlap,aside,cycle",
     "dpl": None,
 }
 NEEDED = ("layout", "layer", "space", "overlap")
@@ -46,7 +47,7 @@ class Settings:
     def __init__(self, given, folder):
         self.check(given)
         values = {**DEFAULTS, **given}
-        for word in ("top", "layer", "masks", "size", "bands", "batch", "balance"):
+        for word in ("top", "layer", "masks", "markers", "size", "bands", "batch", "balance"):
             setattr(self, word, values[word])
         self.layout = os.path.join(folder, values["layout"])
         self.dpl = os.path.join(folder, values["dpl"]) if values["dpl"] else os.path.join(HERE, "..", "dpl")
@@ -57,9 +58,7 @@ class Settings:
         self.weights = [(word, values[word]) for word in ("stitch", "conflict", "corner") if values[word] is not None]
         if not 1 <= self.size <= MOST_SIZE or self.bands < 1 or self.batch < 1:
             raise Refused(f"settings: size is 1 to {MOST_SIZE}, bands and batch are at least 1")
-        self.name = re.sub("[^0-9A-Z]", "", str(values["layer"]).replace("/", "D").upper())[:31]
-        if not self.name:
-            raise Refused(f"layer {self.layer}: its name has no digit and no letter")
+        self.name = name_of(str(self.layer))
 
     def check(self, given):
         for word in NEEDED:
@@ -93,6 +92,14 @@ class Settings:
         return [str(word) for word in words]
 
 
+def name_of(layer):
+    """The name of a layer for `dpl`: 10/0 becomes L10D0, met2 becomes MET2."""
+    name = re.sub("[^0-9A-Z]", "", re.sub(r"^(\d+)/(\d+)$", r"L\1D\2", layer).upper())
+    if not name:
+        raise Refused(f"layer {layer}: its name has no digit and no letter")
+    return name[:31]
+
+
 def ratio_of(dbu, grid):
     """How many grid units one unit of a layout is that counts in `dbu` micrometres."""
     return Fraction(repr(dbu)).limit_denominator(10**9) * 1000 / grid
@@ -103,5 +110,6 @@ def guard(name, work):
     try:
         work()
     except (Refused, OSError, RuntimeError) as error:
-        print(f"{name}: {' '.join(str(error).split())}", file=sys.stderr)
-        sys.exit(1)
+        print(f"{name}: {' '.join(str(error).split())}", file=sys.stderr, flush=True)
+        # KLayout forgets the status of a SystemExit that is raised here.
+        os._exit(1)

@@ -27,11 +27,13 @@ class Source:
         if self.bounds.empty():
             raise Refused(f"layer {settings.layer} of {settings.layout} is empty")
 
-    def shapes(self, box):
-        """The shapes of the layer that meet a box, as they are drawn."""
-        found = pya.Region(self.cell.begin_shapes_rec_touching(self.layer, box))
-        found.merged_semantics = False
-        return found
+    def shapes(self, where):
+        """The shapes of the layer that meet a box or a region, as they are drawn."""
+        return raw(pya.RecursiveShapeIterator(self.layout, self.cell, self.layer, where, False))
+
+    def shapes_over(self, region):
+        """The shapes of the layer that share some area with a region, as they are drawn."""
+        return raw(pya.RecursiveShapeIterator(self.layout, self.cell, self.layer, region, True))
 
     def count(self):
         """How many shapes the layer has after all instances."""
@@ -43,16 +45,25 @@ class Source:
         return known[self.cell.cell_index()]
 
 
+def raw(shapes):
+    region = pya.Region(shapes)
+    region.merged_semantics = False
+    return region
+
+
 def read_layer(settings):
     info = pya.LayerInfo.from_string(str(settings.layer))
     options = pya.LoadLayoutOptions()
     chosen = pya.LayerMap()
     chosen.map(info, 0, info)
     options.set_layer_map(chosen, False)
+    options.text_enabled = options.properties_enabled = False
     layout = read(settings.layout, options)
     layer = layout.find_layer(info)
-    if layer is None or layout.layers() == 0:
+    if layer is None or all(cell.shapes(layer).is_empty() for cell in layout.each_cell()):
         there = sorted(i.to_s() for i in read(settings.layout, pya.LoadLayoutOptions()).layer_infos())
+        if info.to_s() in there:
+            raise Refused(f"layer {settings.layer} of {settings.layout} is empty")
         raise Refused(f"layer {settings.layer} is not in {settings.layout}, which has: {', '.join(there)}")
     return layout, layer
 

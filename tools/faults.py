@@ -9,16 +9,18 @@ from cif import RULES, Layout, Unreadable, shown
 LINE = re.compile(r"^dpl: (usage|layout|limit|rejected|read|write|no)\b")
 NUMBER = re.compile(r"-?\d+")
 
+PARTS = "split the block into parts that are farther apart than the spacing"
+
 # what is counted, the most, and what to do
 LIMITS = {
     1: ("bytes of the layout", 16_777_216, "leave out layers and labels that are not wanted"),
-    2: ("primitives of the layer after all calls, a polygon as many times as it has points", 50_000, "split the block into parts that are farther apart than the spacing"),
+    2: ("primitives after all calls, a polygon as many times as it has points", 50_000, PARTS),
     3: ("calls carried out", 1_000_000, "leave out cells that have nothing on the layer"),
     4: ("grid units from the origin to a corner", 1_073_741_824, "move the block to the origin"),
-    5: ("tiles", 100_000, "split the block into parts that are farther apart than the spacing"),
-    6: ("fragments", 100_000, "split the block into parts, or give a larger overlap, which gives fewer cuts"),
-    7: ("bonds, stitches and clashes", 400_000, "split the block into parts, or give a smaller spacing, which gives fewer clashes"),
-    8: ("odd faces in one part of the drawing", 2_048, "split the block into parts, or give a smaller spacing: the layer has many more conflicts than two masks can undo"),
+    5: ("tiles", 100_000, PARTS),
+    6: ("fragments", 100_000, f"{PARTS}, or give a larger overlap, which gives fewer cuts"),
+    7: ("bonds, stitches and clashes", 400_000, f"{PARTS}, or give a smaller spacing, which gives fewer clashes"),
+    8: ("odd faces in one part of the drawing", 2_048, f"{PARTS}, or give a smaller spacing"),
     9: ("bytes of the report", 268_435_456, "is this the report of this layout?"),
 }
 
@@ -27,10 +29,10 @@ CONDITIONS = {
     2: "line {place} of the report has another option than is asked for{line}",
     3: "line {place} of the report has the number {found}, and the layout has {wanted}{line}",
     4: "edge {place} is a bond, and its two fragments are on two masks",
-    5: "edge {place}: what the report lists as broken is not what its masks break (found {found}, wanted {wanted}); past the last edge these are its cost and the true one",
+    5: "edge {place}: the report lists {found} where its masks break {wanted}; past the last edge these are the two costs",
     6: "edge {place}: it is {listed} set aside, and it {due} be",
     7: "odd cycle {place} is none: its walk breaks off, does not close, or passes clashes an even number of times",
-    8: "edge {place}: the cycles load it with {found}, and {wanted} is the most; past the last edge these are the sum of the half weights and the bound",
+    8: "edge {place}: the cycles load it with {found}, at most {wanted}; past the last edge these are their sum and the bound",
     9: "the boxes of the masks are not those of their letters, first at {place} over both masks",
 }
 

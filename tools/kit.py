@@ -3,6 +3,7 @@
 import os
 import subprocess
 import time
+from contextlib import contextmanager
 
 TOP = os.path.dirname(os.path.dirname(os.path.realpath(__file__)))
 HOME = os.path.join(TOP, "crates", "dpl")
@@ -58,11 +59,19 @@ def libraries():
     return found
 
 
+@contextmanager
 def rt(words, **how):
+    """Runs the kit's command in the program's folder; it ends when the launcher does."""
     try:
-        return subprocess.Popen(["rt", *words], cwd=HOME, **how)
+        process = subprocess.Popen(["rt", *words], cwd=HOME, **how)
     except FileNotFoundError as error:
         raise Failed("the Rattle kit is not here: there is no command rt, which builds the program") from error
+    with process:
+        try:
+            yield process
+        except BaseException:
+            process.terminate()
+            raise
 
 
 def hold_standard_files():

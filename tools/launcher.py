@@ -1,6 +1,7 @@
 """The words of `./dpl`: those of the program are judged, answered and explained, and four are the launcher's own."""
 
 import os
+import signal
 import stat
 import subprocess
 import sys
@@ -20,7 +21,10 @@ OWN = {
     "install": ("copies the proved program and its manual page below a folder", manual.install),
 }
 
-UNPROVED = "dpl: no proved program stands here yet, so this answer comes from the same sources without their proofs, in about a minute; ./dpl build proves and builds the program"
+UNPROVED = (
+    "dpl: no proved program stands here yet, so this answer comes from the same sources without their proofs, "
+    "in about a minute; ./dpl build proves and builds the program"
+)
 OLD = "dpl: a source is newer than the program that answers; ./dpl build proves and builds it again"
 
 HEAD = 4_096
@@ -29,12 +33,14 @@ EMPTY = b"\n(fragments 0);\n"
 
 def main(words):
     kit.hold_standard_files()
+    signal.signal(signal.SIGTERM, lambda number, _: sys.exit(128 + number))
     try:
         return run(words)
     except Failed as failed:
         kit.tell(f"dpl: {failed}\n")
         return FAILED
     except KeyboardInterrupt:
+        kit.tell("\n")
         return 130
 
 
@@ -71,7 +77,7 @@ def of_program(words):
 def tell(words, line, is_empty, layout):
     """Says in words what the program's line means, or that a split has nothing."""
     said = faults.explain(line, words, layout)
-    if is_empty and not line:
+    if is_empty:
         said = faults.nothing_split(command_line.value_of(words, "layer"), layout)
     if said:
         kit.tell(f"     {said}\n")
@@ -89,7 +95,8 @@ def watched(words):
     status = process.returncode if process.returncode >= 0 else 128 - process.returncode
     if not is_taken:
         status, line = 6, "dpl: write fault\n"
-    return status, line, EMPTY in head, layout_again(begins) if status in (0, 3) and (status or EMPTY in head) else None
+    is_empty = status == 0 and EMPTY in head
+    return status, line, is_empty, layout_again(begins) if status == 3 or is_empty else None
 
 
 def passed_on(process):
@@ -144,7 +151,7 @@ def unproved(words):
         return ended.status, f"{ended.line}\n", False, None
     if not written(out):
         return 6, "dpl: write fault\n", False, None
-    return status, told.decode(errors="replace"), EMPTY in out[:HEAD], layout
+    return status, told.decode(errors="replace"), status == 0 and EMPTY in out[:HEAD], layout
 
 
 if __name__ == "__main__":

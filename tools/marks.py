@@ -5,6 +5,7 @@ cut, one of an overlap is the zone that both masks hold, and one of an odd cycle
 fragments and crosses its gaps. Lengths are grid units, of which a hundredth of a micron has two.
 """
 
+from functools import lru_cache
 from math import hypot
 from typing import NamedTuple
 from xml.sax.saxutils import escape
@@ -105,17 +106,26 @@ def track(report, edges, cycle):
     """A closed line along the middle of each fragment that a cycle passes, and through the middle of each gap."""
     passed = fragments_of(edges, cycle)
     points = []
-    for edge, before, after in zip(cycle.walk, passed, passed[1:]):
-        r, s = report.fragments[before], report.fragments[after]
-        between = middle(gap_box(r, s))
-        points += [on_spine(r, between), between, on_spine(s, between)]
-    points.append(points[0])
-    return [point for point, last in zip(points, [None, *points]) if point != last]
+    for before, after in zip(passed, passed[1:]):
+        for point in step(report.fragments[before], report.fragments[after]):
+            if not points or point != points[-1]:
+                points.append(point)
+    if points[0] != points[-1]:
+        points.append(points[0])
+    return points
+
+
+@lru_cache(maxsize=1 << 20)
+def step(r, s):
+    """The way from one fragment over the gap to another."""
+    between = middle(gap_box(r, s))
+    return on_spine(r, between), between, on_spine(s, between)
 
 
 # ---- KLayout's marker database
 
 
+@lru_cache(maxsize=1 << 20)
 def microns(numbers, divide):
     return ",".join(f"{number / (200 * divide):.12g}" for number in numbers)
 

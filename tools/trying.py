@@ -108,4 +108,5 @@ def judged(out, told):
     said = told.decode(errors="replace")
     reason = REASON.search(said)
     why = reason[1] if reason else "\n".join(said.splitlines()[-8:])
-    raise Failed(f"{WITHOUT} ({SECONDS // 60} minutes and 1 MiB are the most); dpl build makes the program, which has no such bound. The kit says: {why}")
+    bounds = f"{SECONDS // 60} minutes and 1 MiB are the most"
+    raise Failed(f"{WITHOUT} ({bounds}); dpl build makes the program, which has no such bound. The kit says: {why}")

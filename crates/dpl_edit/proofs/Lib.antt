@@ -1,4 +1,0 @@
-pub mod ContentLemmas
-pub mod RefusalLemmas
-pub mod ReportLemmas
-pub mod SessionLemmas
