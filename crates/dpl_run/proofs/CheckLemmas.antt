@@ -1,5 +1,5 @@
 -- What is due for `check`: one answer at most, and the end of its work.
-use Rattle.std.proofs.Common.{◌≡◌, ℕ, List, [], ◌++◌, Option, Some, true, refl, ap, inl}
+use Rattle.std.proofs.Common.{◌≡◌, ℕ, List, ◌++◌, Option, Some, true, refl, ap, inl}
 use Rattle.std.specs.Prelude.{Ok}
 use Rattle.dpl_options.specs.Options.{PlainOptions}
 use Rattle.dpl_layer.specs.Refusals.{RefusesLayer}
