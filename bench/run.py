@@ -215,8 +215,8 @@ def random_boxes(n):
 def strip(n):
     """n boxes in two rows, each close to its neighbours, so that n - 2 triangles stand side by side: all odd faces of one part."""
     for i in range(n):
-        x, y = 150 * i, 300 * (i % 2)
-        yield (x, y, x + 200, y + 200)
+        x, y = 75 * i, 150 * (i % 2)
+        yield (x, y, x + 100, y + 100)
 
 
 def boxes_between(n, places):

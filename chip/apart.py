@@ -1,4 +1,4 @@
-"""Sees for a batch of parts that the rest of the layer keeps the spacing from each. See `Snakefile`.
+"""Sees for a batch of parts that each keeps the spacing: within its masks, and from the rest of the layer. See `Snakefile`.
 
 What a part has is taken from its report, and the rest from the layout itself, so nothing of the cut is believed.
 """
@@ -19,9 +19,7 @@ from masks import Reader
 from reports import Report
 from settings import guard
 from source import Source
-
-SHOWN = 5
-
+from told import Told, key
 
 class Apart:
     """Lengths are counted in the greatest unit that both the layout and the grid are whole numbers of."""
@@ -33,22 +31,39 @@ class Apart:
         self.space = 2 * chosen.space * self.of_grid
         self.unit = float(chosen.grid / 1000 / self.of_grid)
 
-    def places(self, own, bounds):
-        """Where the rest of the layer is nearer to a part than the spacing, in micrometres."""
-        reach = math.ceil(self.space / self.of_layout)
-        box = pya.Box(*(math.floor(v / self.source.ratio) for v in bounds)).enlarged(reach + 1, reach + 1)
-        layer = self.source.shapes(box).transformed(pya.ICplxTrans(self.of_layout))
-        rest = layer - own
-        found = own.separation_check(rest, self.space)
-        return [[pair.first.p1.x * self.unit, pair.first.p1.y * self.unit] for pair in found.each()]
+    def seen(self, folder, part, report, reader):
+        """Where the rest of the layer is too near to a part, and which edges of its masks are, told by a conflict or not."""
+        masks = self.masks_of(reader, report)
+        own = masks["A"] + masks["B"]
+        near = own.separation_check(self.around(part) - own, self.space)
+        told = Told(folder, [part], self.source.settings, self.of_grid)
+        found = {"near": self.places(near.each()), "told": [], "untold": []}
+        for letter, mask in masks.items():
+            mask.min_coherence = True
+            for pair in mask.isolated_check(self.space).each():
+                if told.tells(letter, pair):
+                    found["told"].append(key(letter, pair))
+                else:
+                    found["untold"] += self.places([pair])
+        return found
 
+    def masks_of(self, reader, report):
+        # The layout has to live as long as its regions.
+        self.masks = layout = pya.Layout(False)
+        cell = layout.create_cell("PART")
+        layers = {letter: layout.layer(1 + number, 0) for number, letter in enumerate("AB")}
+        reader.into(report, cell, layers.values())
+        scale = pya.ICplxTrans(self.of_grid)
+        return {letter: pya.Region(cell.begin_shapes_rec(layer), scale) for letter, layer in layers.items()}
 
-def region_of(reader, report, scale):
-    layout = pya.Layout(False)
-    cell = layout.create_cell("PART")
-    layer = layout.layer(1, 0)
-    reader.into(report, cell, [layer, layer])
-    return pya.Region(cell.begin_shapes_rec(layer)).transformed(pya.ICplxTrans(scale))
+    def around(self, part):
+        """The layer as far as the spacing around a part."""
+        reach = math.ceil(self.space / self.of_layout) + 1
+        box = pya.Box(*(math.floor(v / self.source.ratio) for v in part["bounds"])).enlarged(reach, reach)
+        return self.source.shapes(box).transformed(pya.ICplxTrans(self.of_layout))
+
+    def places(self, pairs):
+        return [[pair.first.p1.x * self.unit, pair.first.p1.y * self.unit] for pair in pairs]
 
 
 def main():
@@ -61,9 +76,7 @@ def main():
         for part in parts:
             report = Report(folder, part)
             if not report.refusal:
-                own = region_of(reader, report, apart.of_grid)
-                places = apart.places(own, part["bounds"])
-                result[part["name"]] = {"near": len(places), "places": places[:SHOWN]}
+                result[part["name"]] = apart.seen(folder, part, report, reader)
     write_json(os.path.join(folder, found), result)
 
 

@@ -12,7 +12,7 @@ import settings as settings_module
 from files import read_json, write_json
 from masks import Reader
 from reports import Report
-from settings import guard
+from settings import Refused, guard
 
 HEADS = ("part", "primitives", "fragments", "stitches", "conflicts", "cost", "bound", "aside", "check")
 COUNTS = HEADS[1:-1]
@@ -59,6 +59,18 @@ def shown(value):
     return f"{value:.10g}" if isinstance(value, float) else str(value)
 
 
+def write_masks(layout, path):
+    """Writes the masks. KLayout does not always notice that a disk is full, so the end of the file is looked at."""
+    layout.write(path)
+    with open(path, "rb") as file:
+        file.seek(-min(256, os.path.getsize(path)), os.SEEK_END)
+        end = file.read()
+    # The last record of OASIS has number 2 and 256 bytes; that of GDSII is ENDLIB, and zeros may follow.
+    whole = end.rstrip(b"\0").endswith(b"\0\4\4") if path.endswith(".gds") else len(end) == 256 and end[0] == 2
+    if not whole:
+        raise Refused(f"{path} is not written to its end: is the disk full?")
+
+
 def join(chosen, folder, target):
     manifest = read_json(os.path.join(folder, "manifest.json"))
     layout = pya.Layout(False)
@@ -76,7 +88,7 @@ def join(chosen, folder, target):
                 cell = layout.create_cell("PART_" + part["name"].replace("/", "_"))
                 reader.into(report, cell, layers)
                 top.insert(pya.CellInstArray(cell.cell_index(), pya.Trans()))
-    layout.write(os.path.join(folder, target))
+    write_masks(layout, os.path.join(folder, target))
     with open(os.path.join(folder, "table.txt"), "w") as file:
         file.write(table_of(rows))
     write_json(os.path.join(folder, "joined.json"), joined)

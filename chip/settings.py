@@ -56,6 +56,8 @@ class Settings:
         self.space = self.hundredths("space", values["space"])
         self.overlap = self.hundredths("overlap", values["overlap"])
         self.weights = [(word, values[word]) for word in ("stitch", "conflict", "corner") if values[word] is not None]
+        if not str(self.masks).endswith((".oas", ".gds")):
+            raise Refused("settings: masks ends in .oas or .gds")
         if not 1 <= self.size <= MOST_SIZE or self.bands < 1 or self.batch < 1:
             raise Refused(f"settings: size is 1 to {MOST_SIZE}, bands and batch are at least 1")
         self.name = name_of(str(self.layer))
@@ -110,5 +112,6 @@ def guard(name, work):
     try:
         work()
     except (Refused, OSError, RuntimeError) as error:
-        print(f"{name}: {' '.join(str(error).split())}", file=sys.stderr)
-        sys.exit(1)
+        print(f"{name}: {' '.join(str(error).split())}", file=sys.stderr, flush=True)
+        # KLayout forgets the status of a SystemExit that is raised here.
+        os._exit(1)

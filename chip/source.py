@@ -57,10 +57,13 @@ def read_layer(settings):
     chosen = pya.LayerMap()
     chosen.map(info, 0, info)
     options.set_layer_map(chosen, False)
+    options.text_enabled = options.properties_enabled = False
     layout = read(settings.layout, options)
     layer = layout.find_layer(info)
-    if layer is None or layout.layers() == 0:
+    if layer is None or all(cell.shapes(layer).is_empty() for cell in layout.each_cell()):
         there = sorted(i.to_s() for i in read(settings.layout, pya.LoadLayoutOptions()).layer_infos())
+        if info.to_s() in there:
+            raise Refused(f"layer {settings.layer} of {settings.layout} is empty")
         raise Refused(f"layer {settings.layer} is not in {settings.layout}, which has: {', '.join(there)}")
     return layout, layer
 

@@ -12,8 +12,10 @@ from reports import Report
 
 
 class Told:
-    def __init__(self, folder, manifest, chosen, finer):
-        self.folder, self.parts = folder, manifest.parts
+    """Of some parts, whose lengths are counted `finer` to a grid unit."""
+
+    def __init__(self, folder, parts, chosen, finer):
+        self.folder, self.parts = folder, parts
         self.space = 2 * chosen.space
         self.finer = finer
         self.net = lru_cache(maxsize=64)(self.read)
@@ -42,6 +44,11 @@ class Told:
         b = edge.bbox()
         box = [v / self.finer for v in (b.left, b.bottom, b.right, b.top)]
         return [(n, item) for n in self.around.meeting(box) if self.net(n) for item in self.net(n).at(letter, box)]
+
+
+def key(letter, pair):
+    """What two edges of a mask that face each other are known by."""
+    return f"{letter} {min(pair.first.to_s(), pair.second.to_s())} {max(pair.first.to_s(), pair.second.to_s())}"
 
 
 class Item(NamedTuple):

@@ -1,8 +1,8 @@
 """Verifies the joined masks against the layout, by other means than the cut. KLayout runs it: see `Snakefile`.
 
 Tile by tile: both masks together are the layer; where they overlap are the zones that the reports list, and these alone;
-and two shapes of one mask that are closer than the spacing belong to a conflict that a report lists. That each part
-keeps the spacing from the rest of the layer is found by `apart`.
+and two shapes of one mask that are closer than the spacing belong to a conflict that a report lists. What `apart` found
+of the parts is put beside it.
 """
 
 import os
@@ -16,9 +16,9 @@ import settings as settings_module
 from files import read_json
 from manifest import Manifest
 from reports import Report
-from settings import Refused, guard
+from settings import guard
 from source import Source
-from told import Told
+from told import Told, key
 
 SHOWN = 5
 # Shapes of a tile, about.
@@ -44,6 +44,9 @@ class Verify:
         self.finer = self.source.ratio.denominator
         self.unit = float(chosen.grid / 1000 / self.finer)
         self.faults = []
+        self.seen = {}
+        for number in range(self.manifest.batches()):
+            self.seen |= read_json(os.path.join(folder, "apart", f"{number}.json"))
 
     def run(self):
         listed = self.listed()
@@ -109,22 +112,28 @@ class Verify:
         return max(1.0, (bounds.width() * bounds.height() * share) ** 0.5 * own * self.unit)
 
     def spacing(self, found):
-        told = Told(self.folder, self.manifest, self.chosen, self.finer)
+        """What is too close in the joined masks is known from a part; what is not is looked up, as at the sides of tiles."""
+        known = {line for seen in self.seen.values() for line in seen["told"]}
+        told = Told(self.folder, self.manifest.parts, self.chosen, self.finer)
         for letter, name in (("A", "near_a"), ("B", "near_b")):
-            pairs = {(pair.first.to_s(), pair.second.to_s()): pair for pair in found[name].each()}
-            untold = [pair for pair in pairs.values() if not told.tells(letter, pair)]
-            self.note(f"two shapes on mask {letter} are too close, and no conflict is listed", [pair.bbox() for pair in untold])
+            pairs = {key(letter, pair): pair for pair in found[name].each()}
+            untold = [pair.bbox() for line, pair in pairs.items() if line not in known and not told.tells(letter, pair)]
+            self.note(f"two shapes on mask {letter} are too close, and no conflict is listed", untold)
 
     def parts(self):
-        for number in range(self.manifest.batches()):
-            for name, seen in read_json(os.path.join(self.folder, "apart", f"{number}.json")).items():
-                if seen["near"]:
-                    self.faults.append(f"part {name}: the rest of the layer is nearer than the spacing at {seen['places']}")
+        for name, seen in self.seen.items():
+            self.part(name, "the rest of the layer is nearer than the spacing", seen["near"])
+            self.part(name, "two shapes on one mask are too close, and no conflict is listed", seen["untold"])
         for part in self.manifest.parts:
             with open(os.path.join(self.folder, "checks", part["name"] + ".txt")) as file:
                 said = file.read().strip()
             if not said.startswith("yes ") and said != "refused":
                 self.faults.append(f"part {part['name']}: {said}")
+
+    def part(self, name, what, places):
+        if places:
+            shown = ", ".join(f"({x:.9g}, {y:.9g})" for x, y in places[:SHOWN])
+            self.faults.append(f"part {name}: {what}: {len(places)} places, at {shown}")
 
     def note(self, what, shapes):
         boxes = [shape if isinstance(shape, pya.Box) else shape.bbox() for shape in (shapes.each() if isinstance(shapes, pya.Region) else shapes)]

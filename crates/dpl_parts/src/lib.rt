@@ -11,3 +11,6 @@ mod laws;
 pub use joining::{components, counted_components};
 pub use laws::{component_rules, optima_stay};
 pub use std::alloc::AllocError as NoMemory;
+
+#[cfg(test)]
+mod tests;

@@ -1,19 +1,21 @@
 -- What is due for `check`: one answer at most, and the end of its work.
-use Rattle.std.proofs.Common.{◌≡◌, ℕ, List, [], true, refl, ap, inl}
+use Rattle.std.proofs.Common.{◌≡◌, ℕ, List, ◌++◌, Option, Some, true, refl, ap, inl}
+use Rattle.std.specs.Prelude.{Ok}
 use Rattle.dpl_options.specs.Options.{PlainOptions}
 use Rattle.dpl_layer.specs.Refusals.{RefusesLayer}
 use Rattle.dpl_layer.proofs.RefusalLemmas.{layer_kind, never_memory, one_text_refusal}
 use Rattle.dpl_check.specs.declared.verdicts.Verdict.{Verdict}
 use Rattle.dpl_check.specs.declared.verdicts.Verdict.TheVariants.{Yes, No}
-use Rattle.dpl_check.proofs.OnceLemmas.{verdict_not_refused, one_verdict}
+use Rattle.dpl_check.proofs.OnceLemmas.{verdict_not_refused, one_verdict, yes_bounds}
 use Rattle.dpl_words.specs.Commands.{PlainCommand}
 use Rattle.dpl_run.specs.declared.status.Status.{Status}
 use Rattle.dpl_run.specs.declared.status.Status.TheVariants.{Done, Rejected}
 use Rattle.dpl_run.specs.Inputs.{judges}
 use Rattle.dpl_run.specs.due.Check.{IsCheckDue}
 use Rattle.dpl_run.specs.due.Check.IsCheckDue.{refused, rejected, accepted}
+use Rattle.dpl_run.specs.Consequences.{WritesBound}
 use Rattle.dpl_run.specs.Errors.{status_of}
-use Rattle.dpl_run.proofs.EndLemmas.{AllEnd, error_ends}
+use Rattle.dpl_run.proofs.EndLemmas.{AllEnd, error_ends, refused_not_done}
 
 pub check_ends : (c : PlainCommand) → judges c ≡ true → (o : PlainOptions) (text report : List ℕ) → AllEnd c (IsCheckDue o text report)
 check_ends c judging o text report _ _ (refused e r) = error_ends c (RefusesLayer o text) (never_memory o text) (λ k n p. inl (layer_kind o text k n p)) e r
@@ -35,3 +37,10 @@ one_check o text report _ _ _ _ (rejected reason place found wanted v) (accepted
 one_check o text report _ _ _ _ (accepted cost bound v) (refused f q) = absurd (verdict_not_refused o text report f (Yes cost bound) q v)
 one_check o text report _ _ _ _ (accepted cost bound v) (rejected reason place found wanted w) = ap status_of_verdict (one_verdict o text report (Yes cost bound) (No reason place found wanted) v w)
 one_check o text report _ _ _ _ (accepted cost bound v) (accepted cost' bound' w) = refl
+
+-- ---- what an accepted report means for every other pair of masks
+
+pub accepted_bound : (o : PlainOptions) (text report taken : List ℕ) (now : Option (List ℕ)) (a : Status) (x : List ℕ) → IsCheckDue o text report a x → a ≡ Done → now ≡ Some (taken ++ x) → WritesBound o text taken now
+accepted_bound o text report taken now _ _ (refused e r) d is = absurd (refused_not_done e d)
+accepted_bound o text report taken now _ _ (rejected reason place found wanted v) d is = absurd (cc)
+accepted_bound o text report taken now _ _ (accepted cost bound v) d is = (cost, bound, is, yes_bounds o text report (Ok (Yes cost bound)) v cost bound refl)

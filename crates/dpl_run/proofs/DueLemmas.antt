@@ -1,10 +1,9 @@
 -- What is due for words and texts: one status at most, and with which statuses it ends.
-use Rattle.std.proofs.Common.{arith, ◌≡◌, ◌∙◌, ℕ, List, [], Option, Some, refl, sym, ap, subst}
+use Rattle.std.proofs.Common.{arith, ◌≡◌, ◌∙◌, ℕ, List, Option, Some, refl, sym, ap, subst}
 use Rattle.std.specs.Prelude.{Result, Ok, Err}
 use Rattle.dpl_gen.specs.Layout.{layout}
 use Rattle.dpl_words.specs.Commands.{PlainCommand, split, check, load, cross, balance}
 use Rattle.dpl_run.specs.declared.status.Status.{Status}
-use Rattle.dpl_run.specs.declared.status.Status.TheVariants.{Usage}
 use Rattle.dpl_run.specs.Inputs.{Opened, opens}
 use Rattle.dpl_run.specs.due.Load.{made_options}
 use Rattle.dpl_run.specs.Answer.{DueOf, IsDueFor, IsDueOf, IsSmall, passed}

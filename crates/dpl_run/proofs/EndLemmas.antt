@@ -1,5 +1,5 @@
 -- With which statuses the work on the texts of a command can end, and what is written before them.
-use Rattle.std.proofs.Common.{◌≡◌, ◌⊎◌, ◌∙◌, ◌≤◌, ℕ, List, [], true, refl, inl, inr, arith, sym, subst}
+use Rattle.std.proofs.Common.{◌≡◌, ◌⊎◌, ◌≤◌, ℕ, List, [], true, refl, inl, inr, arith, sym, subst}
 use Rattle.std.specs.Prelude.{Ok}
 use Rattle.dpl_layer.specs.declared.error.LayerError.{LayerError}
 use Rattle.dpl_layer.specs.declared.error.LayerError.TheVariants as refusal
@@ -114,3 +114,9 @@ or_memory Due P (refusal.Limit kind count) f (inr h) = f (refusal.Limit kind cou
 pub refused_worked : (Due : Status → List ℕ → Type 0) (P : LayerError → Type 0) (e : LayerError) (s : Status) (x : List ℕ) → ((f : LayerError) → P f → Due (status_of f) []) → (e ≡ refusal.NoMemory) ⊎ P e
     → s ≡ status_of e → x ≡ [] → IsWorked Due s x
 refused_worked Due P e s x f h is none = subst (λ z. IsWorked Due z x) (sym is) (subst (IsWorked Due (status_of e)) (sym none) (or_memory Due P e f h))
+
+-- a refusal is not done
+pub refused_not_done : (e : LayerError) → status_of e ≡ Done → ⊥
+refused_not_done (refusal.Layout command what) e = absurd (cc)
+refused_not_done (refusal.Limit kind count) e = absurd (cc)
+refused_not_done refusal.NoMemory e = absurd (cc)

@@ -1,32 +1,19 @@
 -- What an answer means for every other pair of masks.
-use Rattle.std.proofs.Common.{◌≡◌, ◌⊎◌, ◌∙◌, ℕ, List, [], ◌++◌, Option, Some, None, refl, sym, ap, subst, inl, inr}
-use Rattle.std.specs.Prelude.{Result, Ok}
+use Rattle.std.proofs.Common.{◌≡◌, ◌∙◌, ℕ, List, [], ◌++◌, Option, Some, None, refl, sym, ap, subst, inl, inr}
+use Rattle.std.specs.Prelude.{Ok}
 use Rattle.std.specs.Io.KnownBytes.{Appends}
 use Rattle.dpl_options.specs.Options.{PlainOptions}
 use Rattle.dpl_ext.specs.Device.{Texts}
-use Rattle.dpl_report.specs.Plain.{PlainReport}
-use Rattle.dpl_report.specs.ReportLines.{report_text}
-use Rattle.dpl_layer.specs.declared.error.LayerError.{LayerError}
-use Rattle.dpl_layer.specs.declared.error.LayerError.TheVariants as refusal
-use Rattle.dpl_layer.specs.Drawings.{Cells, OnLayer}
-use Rattle.dpl_layer.proofs.TextLemmas.{on_layer}
-use Rattle.dpl_core.specs.Reports.{IsReportOfCells, IsBalancedOfCells}
-use Rattle.dpl_check.specs.declared.verdicts.Verdict.TheVariants.{Yes}
-use Rattle.dpl_check.proofs.OnceLemmas.{yes_bounds}
 use Rattle.dpl_words.specs.Commands.{PlainCommand, split, check, balance, command_of}
 use Rattle.dpl_run.specs.declared.status.Status.{Status}
 use Rattle.dpl_run.specs.declared.status.Status.TheVariants.{Done}
-use Rattle.dpl_run.specs.due.Split.{IsSplitDue}
-use Rattle.dpl_run.specs.due.Split.IsSplitDue as of_split
-use Rattle.dpl_run.specs.due.Balance.{IsBalanceDue}
-use Rattle.dpl_run.specs.due.Balance.IsBalanceDue as of_balance
-use Rattle.dpl_run.specs.due.Check.{IsCheckDue}
-use Rattle.dpl_run.specs.due.Check.IsCheckDue as of_check
 use Rattle.dpl_run.specs.Answer.{Answers, DueOf, IsDue, IsDueFor, IsDueOf}
 use Rattle.dpl_run.specs.Answer.IsDueFor.{long_layout, long_second, carried_out}
-use Rattle.dpl_run.specs.Consequences.{AskForSplit, IsLeastOfCells, WritesBound, WritesLeast}
+use Rattle.dpl_run.specs.Consequences.{AskForSplit, WritesBound, WritesLeast}
 use Rattle.dpl_run.specs.Devices.{AreTold}
-use Rattle.dpl_run.specs.Errors.{status_of}
+use Rattle.dpl_run.proofs.SplitLemmas.{split_least}
+use Rattle.dpl_run.proofs.BalanceLemmas.{balance_least}
+use Rattle.dpl_run.proofs.CheckLemmas.{accepted_bound}
 
 -- ---- what was written where the run is done
 
@@ -55,32 +42,6 @@ written words c text second taken before now result e answer done told =
 
 -- ---- a split
 
-refused_not_done : (e : LayerError) → status_of e ≡ Done → ⊥
-refused_not_done (refusal.Layout command what) e = absurd (cc)
-refused_not_done (refusal.Limit kind count) e = absurd (cc)
-refused_not_done refusal.NoMemory e = absurd (cc)
-
-least_of : (o : PlainOptions) (r : PlainReport) (output : List ℕ) → output ≡ report_text r → (cells whole : Cells) → IsReportOfCells o r cells whole → IsLeastOfCells o output cells whole
-least_of o r output e cells whole c = record {
-  fragments = c.fragments;
-  net = c.net;
-  report = r;
-  layer = c.layer;
-  is = e;
-  half = c.report.least.half;
-  kept = c.report.least.kept;
-  plane = c.report.least.all;
-}
-
-split_least : (o : PlainOptions) (text : List ℕ) (a : Status) (x : List ℕ) → IsSplitDue o text a x → a ≡ Done → OnLayer o text (IsLeastOfCells o x)
-split_least o text _ _ (of_split.refused e r) d = absurd (refused_not_done e d)
-split_least o text _ _ (of_split.done output p free) d = on_layer o text (IsReportOfCells o p.report) (IsLeastOfCells o output) (least_of o p.report output p.is) p.of_layer
-
-balance_least : (o : PlainOptions) (text : List ℕ) (a : Status) (x : List ℕ) → IsBalanceDue o text a x → a ≡ Done → OnLayer o text (IsLeastOfCells o x)
-balance_least o text _ _ (of_balance.refused e r) d = absurd (refused_not_done e d)
-balance_least o text _ _ (of_balance.done output p free) d =
-    on_layer o text (IsBalancedOfCells o p.report) (IsLeastOfCells o output) (λ cells whole c. least_of o p.report output p.is cells whole c.of_cells) p.of_layer
-
 pub writes_least : (words : List (List ℕ)) (left : Option (List ℕ)) (texts : Option Texts) (before now : Option (List ℕ)) (result : Status)
     → ((text second : List ℕ) → AreTold (command_of words) left texts text second → Answers (IsDue words text second) before now result)
     → (o : PlainOptions) (text taken : List ℕ) → AskForSplit (command_of words) o → left ≡ Some text → before ≡ Some taken → result ≡ Done → WritesLeast o text taken now
@@ -92,11 +53,6 @@ writes_least words left texts before now result answer o text taken (inr e) told
     (w.output, w.is, balance_least o text Done w.output w.due refl)
 
 -- ---- an accepted report
-
-accepted_bound : (o : PlainOptions) (text report taken : List ℕ) (now : Option (List ℕ)) (a : Status) (x : List ℕ) → IsCheckDue o text report a x → a ≡ Done → now ≡ Some (taken ++ x) → WritesBound o text taken now
-accepted_bound o text report taken now _ _ (of_check.refused e r) d is = absurd (refused_not_done e d)
-accepted_bound o text report taken now _ _ (of_check.rejected reason place found wanted v) d is = absurd (cc)
-accepted_bound o text report taken now _ _ (of_check.accepted cost bound v) d is = (cost, bound, is, yes_bounds o text report (Ok (Yes cost bound)) v cost bound refl)
 
 pub writes_bound : (words : List (List ℕ)) (left : Option (List ℕ)) (texts : Option Texts) (before now : Option (List ℕ)) (result : Status)
     → ((text second : List ℕ) → AreTold (command_of words) left texts text second → Answers (IsDue words text second) before now result)

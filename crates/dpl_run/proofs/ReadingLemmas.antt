@@ -1,9 +1,9 @@
 -- What is due where the texts of a command were read, and where they were not.
-use Rattle.std.proofs.Common.{arith, ◌≡◌, ◌≢◌, ◌⊎◌, ◌↔◌, ◌∙◌, ℕ, ◌+◌, ◌≤◌, ◌<◌, ◌∷◌, ◌++◌, List, [], length, append-nil, Bool, true, false, Option, Some, None, refl, sym, ap, subst, inl, inr}
-use Rattle.std.specs.Prelude.{Result, Ok, Err, IfSome}
+use Rattle.std.proofs.Common.{arith, ◌≡◌, ◌⊎◌, ◌↔◌, ◌∙◌, ℕ, ◌+◌, ◌≤◌, ◌<◌, ◌∷◌, ◌++◌, List, [], length, append-nil, Bool, true, false, Option, Some, None, refl, sym, ap, subst, inl, inr}
+use Rattle.std.specs.Prelude.{Ok, IfSome}
 use Rattle.std.proofs.lemmas.List.{append_cancel_left}
 use Rattle.std.specs.Io.KnownBytes.{Consumes, IsAtEnd}
-use Rattle.dpl_ext.specs.Device.{Seen, Texts, Rose, RoseBy, first_text}
+use Rattle.dpl_ext.specs.Device.{Seen, Texts, Rose, RoseBy}
 use Rattle.dpl_ext.specs.Reading.{IsWhole}
 use Rattle.dpl_gen.specs.Layout.{layout}
 use Rattle.dpl_words.specs.Commands.{PlainCommand, split, check, load, cross, balance}
@@ -13,7 +13,7 @@ use Rattle.dpl_limits.specs.declared.counted.Counted.TheVariants.{ReportBytes}
 use Rattle.dpl_limits.specs.Limits.{number_of, most_of}
 use Rattle.dpl_run.specs.Inputs.{Opened, opens, reads_layout}
 use Rattle.dpl_run.specs.Devices.{AsksFor, IsLayoutTold, IsSecondTold, IsLayoutFault, IsSecondFault, IsReadFault, IsSecondTouched, PassesBytes}
-use Rattle.dpl_run.specs.Answer.{DueOf, IsDueFor, IsLimitOf, IsShort, IsSmall, IsStatusOf}
+use Rattle.dpl_run.specs.Answer.{DueOf, IsDueFor, IsShort, IsSmall, IsStatusOf}
 use Rattle.dpl_run.specs.Answer.IsDueFor.{long_layout, long_second, carried_out}
 use Rattle.dpl_run.specs.Telling.{IsBare, IsDueOrFree, IsSecondRead, IsWorked, StopsOpening, StopsReading, StopsSecond}
 use Rattle.dpl_run.proofs.EndLemmas.{worked_free}

@@ -5,7 +5,11 @@ use Rattle.dpl_options.specs.Options.{PlainOptions}
 use Rattle.dpl_layer.specs.declared.error.LayerError.{LayerError}
 use Rattle.dpl_layer.specs.declared.error.LayerError.TheVariants as refusal
 use Rattle.dpl_layer.proofs.RefusalLemmas.{layer_kind}
-use Rattle.dpl_layer.proofs.TextLemmas.{of_layer}
+use Rattle.dpl_report.specs.Plain.{PlainReport}
+use Rattle.dpl_report.specs.ReportLines.{report_text}
+use Rattle.dpl_layer.specs.Drawings.{Cells, OnLayer}
+use Rattle.dpl_layer.proofs.TextLemmas.{of_layer, on_layer}
+use Rattle.dpl_core.specs.Reports.{IsReportOfCells}
 use Rattle.dpl_core.specs.Refusals.{HasOddNet, RefusesSplit}
 use Rattle.dpl_core.proofs.RefusalLemmas.{one_split_refusal, never_memory}
 use Rattle.dpl_words.specs.Commands.{PlainCommand}
@@ -13,8 +17,10 @@ use Rattle.dpl_run.specs.declared.status.Status.{Status}
 use Rattle.dpl_run.specs.Inputs.{colours}
 use Rattle.dpl_run.specs.due.Split.{IsFree, IsSplitDue}
 use Rattle.dpl_run.specs.due.Split.IsSplitDue.{refused, done}
+use Rattle.dpl_run.specs.Consequences.{IsLeastOfCells}
 use Rattle.dpl_run.specs.Errors.{status_of}
-use Rattle.dpl_run.proofs.EndLemmas.{AllEnd, Ends, IsWorkLimit, error_ends}
+use Rattle.dpl_run.specs.declared.status.Status.TheVariants.{Done}
+use Rattle.dpl_run.proofs.EndLemmas.{AllEnd, Ends, IsWorkLimit, error_ends, refused_not_done}
 
 split_limit : (c : PlainCommand) → colours c ≡ true → (o : PlainOptions) (text : List ℕ) (k n : ℕ) → RefusesSplit o text (refusal.Limit k n) → IsWorkLimit c k
 split_limit c colouring o text k n (inl r) = inl (layer_kind o text k n r)
@@ -41,3 +47,21 @@ one_split o text _ _ _ _ (refused e r) (refused f q) = ap status_of (one_split_r
 one_split o text _ _ _ _ (refused e r) (done output p free) = absurd (free e r)
 one_split o text _ _ _ _ (done output p free) (refused f q) = absurd (free f q)
 one_split o text _ _ _ _ (done output p free) (done other q also) = refl
+
+-- ---- what a split means for every other pair of masks
+
+pub least_of : (o : PlainOptions) (r : PlainReport) (output : List ℕ) → output ≡ report_text r → (cells whole : Cells) → IsReportOfCells o r cells whole → IsLeastOfCells o output cells whole
+least_of o r output e cells whole c = record {
+  fragments = c.fragments;
+  net = c.net;
+  report = r;
+  layer = c.layer;
+  is = e;
+  half = c.report.least.half;
+  kept = c.report.least.kept;
+  plane = c.report.least.all;
+}
+
+pub split_least : (o : PlainOptions) (text : List ℕ) (a : Status) (x : List ℕ) → IsSplitDue o text a x → a ≡ Done → OnLayer o text (IsLeastOfCells o x)
+split_least o text _ _ (refused e r) d = absurd (refused_not_done e d)
+split_least o text _ _ (done output p free) d = on_layer o text (IsReportOfCells o p.report) (IsLeastOfCells o output) (least_of o p.report output p.is) p.of_layer

@@ -3,7 +3,7 @@ use Rattle.std.specs.Prelude.{◌≡◌, ◌≢◌, ◌⊎◌, ◌+◌, ◌<◌,
 use Rattle.std.specs.Io.KnownBytes.{Appends}
 use Rattle.dpl_ext.specs.Device.{AppendsFront, Rose, RoseBy, Seen, Texts, first_text}
 use Rattle.dpl_run.specs.declared.status.Status.{Status}
-use Rattle.dpl_run.specs.declared.status.Status.TheVariants.{Done, Rejected, Usage, Layout, Limit, ReadFault, WriteFault, NoMemory}
+use Rattle.dpl_run.specs.declared.status.Status.TheVariants.{Done, Limit, ReadFault, WriteFault, NoMemory}
 use Rattle.dpl_limits.specs.Limits.{number_of, most_of}
 use Rattle.dpl_run.specs.Inputs.{Opened}
 

@@ -75,7 +75,8 @@ const TRIANGLE: &[u8] = b"L M; B 100 100 50 50; B 100 100 200 50; B 100 100 125 
 const SQUARE: &[u8] =
     b"L M; B 100 100 50 50; B 100 100 200 50; B 100 100 50 200; B 100 100 200 200; E";
 
-/// Three boxes side by side, each two a clash. The link of the outer ones leads through the middle one, but beside the
+/// Three boxes side by side, each two a clash. The middle one begins higher, so it is the last fragment, and the outer
+/// ones are 0 and 1: their link, edge 0, leads through the middle one, but beside the
 /// other links.
 const ROW: &[u8] = b"L M; B 20 100 10 50; B 20 60 60 70; B 20 100 110 50; E";
 
@@ -154,7 +155,7 @@ fn crossings_and_a_bar(rt: HostRuntime) -> Result<(), Fail> {
     for (layout, told) in [
         (b"E".as_slice(), "excess 0 none\n"),
         (TRIANGLE, "excess 0 none\n"),
-        (ROW, "excess 0 fragment 1 1\n"),
+        (ROW, "excess 0 fragment 0 2\n"),
         (SQUARE, "excess 2 link 2 3\nbar 4 face 6 3 0 walk 0 2\n"),
     ] {
         let ended = run_over(rt.alloc(), CROSS, devices(rt.alloc(), layout, b"")?)?;

@@ -1,4 +1,4 @@
-use Rattle.std.proofs.Common.{refl, sym, ◌∙◌}
+use Rattle.std.proofs.Common.{◌∙◌}
 use Rattle.dpl_gen.specs.Layout.{layout}
 use Rattle.dpl_report.specs.Plain.{plain_report}
 use Rattle.dpl_run.proofs.SplitLemmas.{free_of}
