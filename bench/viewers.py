@@ -119,7 +119,9 @@ def shown_by_electric(source):
     script = f"{source}.bsh"
     with open(script, "w", encoding="utf-8") as file:
         file.write(ELECTRIC.format(source=source))
-    ran = subprocess.run(["electric", "-batch", "-s", script], capture_output=True, text=True, timeout=600)
+    # it writes its log where it stands
+    where = {"cwd": os.path.dirname(source), "capture_output": True, "text": True, "timeout": 600}
+    ran = subprocess.run(["electric", "-batch", "-s", script], check=False, **where)
     found = {"Metal-1-Node": Counter(), "Metal-2-Node": Counter()}
     for line in ran.stdout.splitlines():
         if line.startswith("box "):
@@ -134,7 +136,8 @@ def differs_in_magic(source):
     with open(f"{stem}.tcl", "w", encoding="utf-8") as file:
         file.write(MAGIC.format(stem=stem))
     words = ["magic", "-dnull", "-noconsole", "-T", "scmos", f"{stem}.tcl"]
-    subprocess.run(words, stdin=subprocess.DEVNULL, capture_output=True, timeout=600, check=False)
+    where = {"cwd": os.path.dirname(source), "stdin": subprocess.DEVNULL, "capture_output": True, "timeout": 600}
+    subprocess.run(words, check=False, **where)
     klayout.run(BY_MAGIC, source=source, written=f"{stem}-magic.gds", target=target)
     with open(target, encoding="utf-8") as file:
         return sum(json.load(file).values())
