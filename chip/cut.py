@@ -15,6 +15,7 @@ sys.path.insert(0, os.path.dirname(os.path.abspath(__file__)))
 import pya
 
 import settings as settings_module
+from boxes import NOT_BOXES, boxes_of, drawn, lines_of
 from classes import Classes
 from files import read_json, write_json
 from settings import Refused, guard
@@ -60,47 +61,37 @@ class Cut:
 
     def window(self, place, box):
         source = self.source
-        shapes = source.shapes(box.enlarged(source.half, source.half))
-        refuse_unfit(source, shapes)
-        hulls = self.leaving(shapes, box)
-        self.whole(f"x{place[0]:04}y{place[1]:04}", box, shapes, region_of(hulls))
+        reach = box.enlarged(source.half, source.half)
+        refuse_unfit(source, reach)
+        hulls = self.leaving(reach, box)
+        self.whole(f"x{place[0]:04}y{place[1]:04}", pya.Region(reach) - region_of(hulls), box)
         self.shared(place, box, [hull for hull in hulls if hull.bbox().overlaps(box)])
 
-    def leaving(self, shapes, box):
+    def leaving(self, reach, box):
         """The hulls of the clusters that leave a window. Mostly a frame of the window holds them, which is tried first."""
         half = self.source.half
         frame = min(box.width(), box.height()) // FRAME
         inner = box.enlarged(-frame, -frame)
         if frame > 2 * half:
-            around = pya.Region(box.enlarged(half, half)) - pya.Region(inner)
+            around = pya.Region(reach) - pya.Region(inner)
             hulls = leaving(hulls_of(self.source.shapes(around), half), box)
             if (region_of(hulls) & pya.Region(inner.enlarged(half, half))).is_empty():
                 return hulls
-        return leaving(hulls_of(shapes, half), box)
+        return leaving(hulls_of(self.source.shapes(reach), half), box)
 
-    def whole(self, label, box, shapes, hulls):
-        """Writes the clusters that do not leave a window as a part, or as some where they have too many boxes for one."""
-        lines = self.lines_outside(shapes, hulls)
-        if len(lines) <= MOST * self.source.settings.size:
-            self.write(label, lines, box)
+    def whole(self, label, where, box):
+        """Writes what no hull holds as a part, or by clusters as some where it has too many boxes for one."""
+        lines, count = drawn(self.source, where, self.folder)
+        if count <= MOST * self.source.settings.size:
+            self.write(label, lines, count, box)
             return
-        layer = shapes - hulls
+        layer = self.source.shapes(where).merged()
         for number, boxes in enumerate(self.groups(layer, list(hulls_of(layer, self.source.half).each()))):
-            self.write(f"{label}-{number}", lines_of(self.source, boxes)[0], boxes.bbox())
-
-    def lines_outside(self, shapes, hulls):
-        """The lines of the shapes that do not lie in hulls; rectangles are taken as they are drawn."""
-        lines, others = lines_of(self.source, shapes)
-        if not hulls.is_empty():
-            left_out = set(lines_of(self.source, self.source.shapes_over(hulls))[0])
-            lines = [line for line in lines if line not in left_out]
-        if others:
-            lines += lines_of(self.source, (region_of(others) - hulls).decompose_trapezoids_to_region())[0]
-        return list(dict.fromkeys(lines))
+            self.write(f"{label}-{number}", lines_of(self.source, boxes), boxes.count(), boxes.bbox())
 
     def groups(self, layer, hulls):
         """The boxes of a layer in groups of whole clusters, each with about as many boxes as a part may have."""
-        boxes = layer.decompose_trapezoids_to_region()
+        boxes = boxes_of(layer)
         pieces = min(len(hulls), round(boxes.count() / self.source.settings.size))
         if pieces <= 1:
             return [boxes]
@@ -111,25 +102,27 @@ class Cut:
             found += self.groups(layer & region_of(some), some)
         return found
 
-    def write(self, label, lines, box):
-        if lines:
-            self.parts.append(store(self.source.settings, self.folder, label, lines, bounds_of(self.source, box)))
+    def write(self, label, lines, count, box):
+        if count:
+            bounds = bounds_of(self.source, box)
+            self.parts.append(store(self.source.settings, self.folder, label, lines, count, bounds))
 
     def shared(self, place, box, hulls):
         """Notes for each cluster that leaves the window what it holds there and where it crosses the sides."""
         held = [[] for _ in hulls]
         finder = Finder(hulls)
-        layer = self.source.shapes_over(region_of(hulls)) & pya.Region(box) if hulls else pya.Region()
+        layer = self.source.shapes(region_of(hulls), over=True) & pya.Region(box) if hulls else pya.Region()
         for shape in layer.each():
             held[finder.of(shape)].append(shape)
         for hull, shapes in zip(hulls, held):
-            boxes = region_of(shapes).decompose_trapezoids_to_region()
+            boxes = boxes_of(region_of(shapes))
             self.crossing.append(
                 {
                     "place": place,
                     "sides": sides_of(hull, place, box),
                     "bounds": bounds_of(self.source, boxes.bbox()),
-                    "lines": lines_of(self.source, boxes)[0],
+                    "count": boxes.count(),
+                    "lines": lines_of(self.source, boxes),
                 }
             )
 
@@ -184,44 +177,23 @@ def sides_of(hull, place, box):
     return found
 
 
-def refuse_unfit(source, shapes):
+def refuse_unfit(source, reach):
     """Refuses slanted sides and corners off the grid, with their places."""
-    unit = source.layout.dbu
-    slanted = shapes.non_rectilinear()
+    slanted = source.shapes(reach, NOT_BOXES).non_rectilinear()
     if slanted.count():
         places = [edge for shape in slanted.each() for edge in shape.each_edge() if edge.dx() and edge.dy()]
-        refuse("a slanted side", [edge.p1 for edge in places], unit)
+        refuse("a slanted side", [edge.p1 for edge in places], source.layout.dbu)
     grid = source.ratio.denominator
     if grid > 1:
-        off = shapes.grid_check(grid, grid)
+        off = source.shapes(reach).grid_check(grid, grid)
         if off.count():
             nm = float(source.settings.grid)
-            refuse(f"a corner off the grid of {nm:g} nm", [pair.first.p1 for pair in off.each()], unit)
+            refuse(f"a corner off the grid of {nm:g} nm", [pair.first.p1 for pair in off.each()], source.layout.dbu)
 
 
 def refuse(what, points, unit):
     places = ", ".join(f"({p.x * unit:.9g}, {p.y * unit:.9g})" for p in sorted(points, key=lambda p: (p.y, p.x))[:SHOWN])
     raise Refused(f"{what} at {places} micrometres, {len(points)} in this window")
-
-
-def lines_of(source, shapes):
-    """A line for each rectangle, in quarters of a hundredth of a micron, and the other polygons.
-
-    A grid unit of `dpl` has two such quarters.
-    """
-    up, down = source.ratio.numerator, source.ratio.denominator
-    lines, others = [], []
-    for polygon in shapes.each():
-        if not polygon.is_box():
-            others.append(polygon)
-            continue
-        b = polygon.bbox()
-        left, bottom, right, top = b.left, b.bottom, b.right, b.top
-        lines.append(
-            f"B {2 * (right - left) * up // down} {2 * (top - bottom) * up // down}"
-            f" {(left + right) * up // down} {(bottom + top) * up // down};\n"
-        )
-    return lines, others
 
 
 def bounds_of(source, box):
@@ -232,14 +204,14 @@ def bounds_of(source, box):
     return [math.floor(v * source.ratio) for v in low] + [math.ceil(v * source.ratio) for v in high]
 
 
-def store(settings, folder, label, lines, bounds):
+def store(settings, folder, label, lines, count, bounds):
     """Writes a part, and tells what the manifest says of it."""
-    text = f"(part {label});\nDS 1 1 4;\nL {settings.name};\n{''.join(lines)}DF;\nC 1;\nE\n".encode()
+    text = f"(part {label});\nDS 1 1 4;\nL {settings.name};\n{lines}DF;\nC 1;\nE\n".encode()
     with open(os.path.join(folder, label + ".cif"), "wb") as file:
         file.write(text)
     return {
         "name": f"{os.path.basename(folder)}/{label}",
-        "primitives": len(lines),
+        "primitives": count,
         "bounds": bounds,
         "sha256": hashlib.sha256(text).hexdigest(),
     }
@@ -332,11 +304,11 @@ def border_parts(settings, folder, clusters):
     """Parts of the clusters that leave windows, neighbours together."""
     found, group, count = [], [], 0
     for items in sorted(clusters, key=curve):
-        more = sum(len(item["lines"]) for item in items)
+        more = sum(item["count"] for item in items)
         if count and count + more > settings.size:
             found.append(store_group(settings, folder, len(found), group))
             group, count = [], 0
-        group += [item for item in items if item["lines"]]
+        group += [item for item in items if item["count"]]
         count += more
     if count:
         found.append(store_group(settings, folder, len(found), group))
@@ -345,8 +317,9 @@ def border_parts(settings, folder, clusters):
 
 def store_group(settings, folder, number, items):
     lefts, bottoms, rights, tops = zip(*(item["bounds"] for item in items))
-    lines = [line for item in items for line in item["lines"]]
-    return store(settings, folder, f"{number:06}", lines, [min(lefts), min(bottoms), max(rights), max(tops)])
+    lines = "".join(item["lines"] for item in items)
+    count = sum(item["count"] for item in items)
+    return store(settings, folder, f"{number:06}", lines, count, [min(lefts), min(bottoms), max(rights), max(tops)])
 
 
 def main():
