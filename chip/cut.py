@@ -5,7 +5,6 @@ window. A cluster that lies within one window is complete there, and such cluste
 others each window notes where they cross its sides, and what of the layer they hold; `pack` joins them over the windows.
 """
 
-import hashlib
 import math
 import os
 import sys
@@ -16,8 +15,8 @@ import pya
 
 import settings as settings_module
 from boxes import NOT_BOXES, boxes_of, drawn, lines_of
-from classes import Classes
-from files import read_json, write_json
+from files import clear, write_json
+from parts import store
 from settings import Refused, guard
 from source import Source
 
@@ -204,59 +203,6 @@ def bounds_of(source, box):
     return [math.floor(v * source.ratio) for v in low] + [math.ceil(v * source.ratio) for v in high]
 
 
-def store(settings, folder, label, lines, count, bounds):
-    """Writes a part, and tells what the manifest says of it."""
-    text = f"(part {label});\nDS 1 1 4;\nL {settings.name};\n{lines}DF;\nC 1;\nE\n".encode()
-    with open(os.path.join(folder, label + ".cif"), "wb") as file:
-        file.write(text)
-    return {
-        "name": f"{os.path.basename(folder)}/{label}",
-        "primitives": count,
-        "bounds": bounds,
-        "sha256": hashlib.sha256(text).hexdigest(),
-    }
-
-
-def joined(crossing):
-    """The clusters that cross sides of windows, as lists of what the windows noted of them."""
-    classes = Classes(len(crossing))
-    lines = {}
-    for number, item in enumerate(crossing):
-        for line, side, start, end in item["sides"]:
-            lines.setdefault(line, ([], []))[side].append((start, end, number))
-    for below, above in lines.values():
-        join_along(sorted(below), sorted(above), classes)
-    found = {}
-    for number, item in enumerate(crossing):
-        found.setdefault(classes.root(number), []).append(item)
-    return list(found.values())
-
-
-def join_along(below, above, classes):
-    """Joins what meets along one line over a stretch of some length."""
-    at = 0
-    for start, end, number in below:
-        while at < len(above) and above[at][1] <= start:
-            at += 1
-        k = at
-        while k < len(above) and above[k][0] < end:
-            classes.join(number, above[k][2])
-            k += 1
-
-
-def curve(item):
-    """The place of a window along a curve that keeps neighbours together: its bits in turn."""
-    column, row = item[0]["place"]
-    return sum(((column >> b & 1) << 2 * b) | ((row >> b & 1) << 2 * b + 1) for b in range(24))
-
-
-def clear(folder):
-    """An empty folder, so that no part of an earlier cut stays."""
-    os.makedirs(folder, exist_ok=True)
-    for name in os.listdir(folder):
-        os.remove(os.path.join(folder, name))
-
-
 def cut_band(settings, folder, band):
     source = Source(settings)
     windows = Windows(source, settings.size)
@@ -277,61 +223,9 @@ def cut_band(settings, folder, band):
     write_json(os.path.join(target, "index.json"), index)
 
 
-def pack(settings, folder):
-    indices = [read_json(os.path.join(folder, "cut", str(band), "index.json")) for band in range(settings.bands)]
-    target = os.path.join(folder, "cut", "border")
-    clear(target)
-    parts = [part for index in indices for part in index["parts"]]
-    parts += border_parts(settings, target, joined([item for index in indices for item in index["crossing"]]))
-    first = indices[0]
-    manifest = {
-        "layer": settings.name,
-        "space": settings.space,
-        "overlap": settings.overlap,
-        "grid": float(settings.grid),
-        "dbu": first["dbu"],
-        "cell": first["cell"],
-        "shapes": first["shapes"],
-        "windows": first["windows"],
-        "bounds": first["bounds"],
-        "primitives": sum(part["primitives"] for part in parts),
-        "parts": parts,
-    }
-    write_json(os.path.join(folder, "manifest.json"), manifest)
-
-
-def border_parts(settings, folder, clusters):
-    """Parts of the clusters that leave windows, neighbours together."""
-    found, group, count = [], [], 0
-    for items in sorted(clusters, key=curve):
-        more = sum(item["count"] for item in items)
-        if count and count + more > settings.size:
-            found.append(store_group(settings, folder, len(found), group))
-            group, count = [], 0
-        group += [item for item in items if item["count"]]
-        count += more
-    if count:
-        found.append(store_group(settings, folder, len(found), group))
-    return found
-
-
-def store_group(settings, folder, number, items):
-    lefts, bottoms, rights, tops = zip(*(item["bounds"] for item in items))
-    lines = "".join(item["lines"] for item in items)
-    count = sum(item["count"] for item in items)
-    return store(settings, folder, f"{number:06}", lines, count, [min(lefts), min(bottoms), max(rights), max(tops)])
-
-
 def main():
     chosen = settings_module.read(settings)
-    if step == "all":
-        for band in range(chosen.bands):
-            cut_band(chosen, folder, band)
-        pack(chosen, folder)
-    elif step == "pack":
-        pack(chosen, folder)
-    else:
-        cut_band(chosen, folder, int(step))
+    cut_band(chosen, folder, int(band))
 
 
 guard("cut", main)
