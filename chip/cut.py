@@ -5,7 +5,6 @@ window. A cluster that lies within one window is complete there, and such cluste
 others each window notes where they cross its sides, and what of the layer they hold; `pack` joins them over the windows.
 """
 
-import hashlib
 import math
 import os
 import sys
@@ -15,8 +14,9 @@ sys.path.insert(0, os.path.dirname(os.path.abspath(__file__)))
 import pya
 
 import settings as settings_module
-from classes import Classes
-from files import read_json, write_json
+from boxes import NOT_BOXES, boxes_of, drawn, lines_of
+from files import clear, write_json
+from parts import store
 from settings import Refused, guard
 from source import Source
 
@@ -60,47 +60,37 @@ class Cut:
 
     def window(self, place, box):
         source = self.source
-        shapes = source.shapes(box.enlarged(source.half, source.half))
-        refuse_unfit(source, shapes)
-        hulls = self.leaving(shapes, box)
-        self.whole(f"x{place[0]:04}y{place[1]:04}", box, shapes, region_of(hulls))
+        reach = box.enlarged(source.half, source.half)
+        refuse_unfit(source, reach)
+        hulls = self.leaving(reach, box)
+        self.whole(f"x{place[0]:04}y{place[1]:04}", pya.Region(reach) - region_of(hulls), box)
         self.shared(place, box, [hull for hull in hulls if hull.bbox().overlaps(box)])
 
-    def leaving(self, shapes, box):
+    def leaving(self, reach, box):
         """The hulls of the clusters that leave a window. Mostly a frame of the window holds them, which is tried first."""
         half = self.source.half
         frame = min(box.width(), box.height()) // FRAME
         inner = box.enlarged(-frame, -frame)
         if frame > 2 * half:
-            around = pya.Region(box.enlarged(half, half)) - pya.Region(inner)
+            around = pya.Region(reach) - pya.Region(inner)
             hulls = leaving(hulls_of(self.source.shapes(around), half), box)
             if (region_of(hulls) & pya.Region(inner.enlarged(half, half))).is_empty():
                 return hulls
-        return leaving(hulls_of(shapes, half), box)
+        return leaving(hulls_of(self.source.shapes(reach), half), box)
 
-    def whole(self, label, box, shapes, hulls):
-        """Writes the clusters that do not leave a window as a part, or as some where they have too many boxes for one."""
-        lines = self.lines_outside(shapes, hulls)
-        if len(lines) <= MOST * self.source.settings.size:
-            self.write(label, lines, box)
+    def whole(self, label, where, box):
+        """Writes what no hull holds as a part, or by clusters as some where it has too many boxes for one."""
+        lines, count = drawn(self.source, where, self.folder)
+        if count <= MOST * self.source.settings.size:
+            self.write(label, lines, count, box)
             return
-        layer = shapes - hulls
+        layer = self.source.shapes(where).merged()
         for number, boxes in enumerate(self.groups(layer, list(hulls_of(layer, self.source.half).each()))):
-            self.write(f"{label}-{number}", lines_of(self.source, boxes)[0], boxes.bbox())
-
-    def lines_outside(self, shapes, hulls):
-        """The lines of the shapes that do not lie in hulls; rectangles are taken as they are drawn."""
-        lines, others = lines_of(self.source, shapes)
-        if not hulls.is_empty():
-            left_out = set(lines_of(self.source, self.source.shapes_over(hulls))[0])
-            lines = [line for line in lines if line not in left_out]
-        if others:
-            lines += lines_of(self.source, (region_of(others) - hulls).decompose_trapezoids_to_region())[0]
-        return list(dict.fromkeys(lines))
+            self.write(f"{label}-{number}", lines_of(self.source, boxes), boxes.count(), boxes.bbox())
 
     def groups(self, layer, hulls):
         """The boxes of a layer in groups of whole clusters, each with about as many boxes as a part may have."""
-        boxes = layer.decompose_trapezoids_to_region()
+        boxes = boxes_of(layer)
         pieces = min(len(hulls), round(boxes.count() / self.source.settings.size))
         if pieces <= 1:
             return [boxes]
@@ -111,25 +101,27 @@ class Cut:
             found += self.groups(layer & region_of(some), some)
         return found
 
-    def write(self, label, lines, box):
-        if lines:
-            self.parts.append(store(self.source.settings, self.folder, label, lines, bounds_of(self.source, box)))
+    def write(self, label, lines, count, box):
+        if count:
+            bounds = bounds_of(self.source, box)
+            self.parts.append(store(self.source.settings, self.folder, label, lines, count, bounds))
 
     def shared(self, place, box, hulls):
         """Notes for each cluster that leaves the window what it holds there and where it crosses the sides."""
         held = [[] for _ in hulls]
         finder = Finder(hulls)
-        layer = self.source.shapes_over(region_of(hulls)) & pya.Region(box) if hulls else pya.Region()
+        layer = self.source.shapes(region_of(hulls), over=True) & pya.Region(box) if hulls else pya.Region()
         for shape in layer.each():
             held[finder.of(shape)].append(shape)
         for hull, shapes in zip(hulls, held):
-            boxes = region_of(shapes).decompose_trapezoids_to_region()
+            boxes = boxes_of(region_of(shapes))
             self.crossing.append(
                 {
                     "place": place,
                     "sides": sides_of(hull, place, box),
                     "bounds": bounds_of(self.source, boxes.bbox()),
-                    "lines": lines_of(self.source, boxes)[0],
+                    "count": boxes.count(),
+                    "lines": lines_of(self.source, boxes),
                 }
             )
 
@@ -184,44 +176,23 @@ def sides_of(hull, place, box):
     return found
 
 
-def refuse_unfit(source, shapes):
+def refuse_unfit(source, reach):
     """Refuses slanted sides and corners off the grid, with their places."""
-    unit = source.layout.dbu
-    slanted = shapes.non_rectilinear()
+    slanted = source.shapes(reach, NOT_BOXES).non_rectilinear()
     if slanted.count():
         places = [edge for shape in slanted.each() for edge in shape.each_edge() if edge.dx() and edge.dy()]
-        refuse("a slanted side", [edge.p1 for edge in places], unit)
+        refuse("a slanted side", [edge.p1 for edge in places], source.layout.dbu)
     grid = source.ratio.denominator
     if grid > 1:
-        off = shapes.grid_check(grid, grid)
+        off = source.shapes(reach).grid_check(grid, grid)
         if off.count():
             nm = float(source.settings.grid)
-            refuse(f"a corner off the grid of {nm:g} nm", [pair.first.p1 for pair in off.each()], unit)
+            refuse(f"a corner off the grid of {nm:g} nm", [pair.first.p1 for pair in off.each()], source.layout.dbu)
 
 
 def refuse(what, points, unit):
     places = ", ".join(f"({p.x * unit:.9g}, {p.y * unit:.9g})" for p in sorted(points, key=lambda p: (p.y, p.x))[:SHOWN])
     raise Refused(f"{what} at {places} micrometres, {len(points)} in this window")
-
-
-def lines_of(source, shapes):
-    """A line for each rectangle, in quarters of a hundredth of a micron, and the other polygons.
-
-    A grid unit of `dpl` has two such quarters.
-    """
-    up, down = source.ratio.numerator, source.ratio.denominator
-    lines, others = [], []
-    for polygon in shapes.each():
-        if not polygon.is_box():
-            others.append(polygon)
-            continue
-        b = polygon.bbox()
-        left, bottom, right, top = b.left, b.bottom, b.right, b.top
-        lines.append(
-            f"B {2 * (right - left) * up // down} {2 * (top - bottom) * up // down}"
-            f" {(left + right) * up // down} {(bottom + top) * up // down};\n"
-        )
-    return lines, others
 
 
 def bounds_of(source, box):
@@ -230,59 +201,6 @@ def bounds_of(source, box):
         return []
     low, high = (box.left, box.bottom), (box.right, box.top)
     return [math.floor(v * source.ratio) for v in low] + [math.ceil(v * source.ratio) for v in high]
-
-
-def store(settings, folder, label, lines, bounds):
-    """Writes a part, and tells what the manifest says of it."""
-    text = f"(part {label});\nDS 1 1 4;\nL {settings.name};\n{''.join(lines)}DF;\nC 1;\nE\n".encode()
-    with open(os.path.join(folder, label + ".cif"), "wb") as file:
-        file.write(text)
-    return {
-        "name": f"{os.path.basename(folder)}/{label}",
-        "primitives": len(lines),
-        "bounds": bounds,
-        "sha256": hashlib.sha256(text).hexdigest(),
-    }
-
-
-def joined(crossing):
-    """The clusters that cross sides of windows, as lists of what the windows noted of them."""
-    classes = Classes(len(crossing))
-    lines = {}
-    for number, item in enumerate(crossing):
-        for line, side, start, end in item["sides"]:
-            lines.setdefault(line, ([], []))[side].append((start, end, number))
-    for below, above in lines.values():
-        join_along(sorted(below), sorted(above), classes)
-    found = {}
-    for number, item in enumerate(crossing):
-        found.setdefault(classes.root(number), []).append(item)
-    return list(found.values())
-
-
-def join_along(below, above, classes):
-    """Joins what meets along one line over a stretch of some length."""
-    at = 0
-    for start, end, number in below:
-        while at < len(above) and above[at][1] <= start:
-            at += 1
-        k = at
-        while k < len(above) and above[k][0] < end:
-            classes.join(number, above[k][2])
-            k += 1
-
-
-def curve(item):
-    """The place of a window along a curve that keeps neighbours together: its bits in turn."""
-    column, row = item[0]["place"]
-    return sum(((column >> b & 1) << 2 * b) | ((row >> b & 1) << 2 * b + 1) for b in range(24))
-
-
-def clear(folder):
-    """An empty folder, so that no part of an earlier cut stays."""
-    os.makedirs(folder, exist_ok=True)
-    for name in os.listdir(folder):
-        os.remove(os.path.join(folder, name))
 
 
 def cut_band(settings, folder, band):
@@ -305,60 +223,9 @@ def cut_band(settings, folder, band):
     write_json(os.path.join(target, "index.json"), index)
 
 
-def pack(settings, folder):
-    indices = [read_json(os.path.join(folder, "cut", str(band), "index.json")) for band in range(settings.bands)]
-    target = os.path.join(folder, "cut", "border")
-    clear(target)
-    parts = [part for index in indices for part in index["parts"]]
-    parts += border_parts(settings, target, joined([item for index in indices for item in index["crossing"]]))
-    first = indices[0]
-    manifest = {
-        "layer": settings.name,
-        "space": settings.space,
-        "overlap": settings.overlap,
-        "grid": float(settings.grid),
-        "dbu": first["dbu"],
-        "cell": first["cell"],
-        "shapes": first["shapes"],
-        "windows": first["windows"],
-        "bounds": first["bounds"],
-        "primitives": sum(part["primitives"] for part in parts),
-        "parts": parts,
-    }
-    write_json(os.path.join(folder, "manifest.json"), manifest)
-
-
-def border_parts(settings, folder, clusters):
-    """Parts of the clusters that leave windows, neighbours together."""
-    found, group, count = [], [], 0
-    for items in sorted(clusters, key=curve):
-        more = sum(len(item["lines"]) for item in items)
-        if count and count + more > settings.size:
-            found.append(store_group(settings, folder, len(found), group))
-            group, count = [], 0
-        group += [item for item in items if item["lines"]]
-        count += more
-    if count:
-        found.append(store_group(settings, folder, len(found), group))
-    return found
-
-
-def store_group(settings, folder, number, items):
-    lefts, bottoms, rights, tops = zip(*(item["bounds"] for item in items))
-    lines = [line for item in items for line in item["lines"]]
-    return store(settings, folder, f"{number:06}", lines, [min(lefts), min(bottoms), max(rights), max(tops)])
-
-
 def main():
     chosen = settings_module.read(settings)
-    if step == "all":
-        for band in range(chosen.bands):
-            cut_band(chosen, folder, band)
-        pack(chosen, folder)
-    elif step == "pack":
-        pack(chosen, folder)
-    else:
-        cut_band(chosen, folder, int(step))
+    cut_band(chosen, folder, int(band))
 
 
 guard("cut", main)

@@ -8,7 +8,7 @@ cross the windows of a cut. One crowd of contacts has more close pairs than `dpl
 import pya
 
 PITCH = 4000
-ROWS, COLUMNS = 6, 8
+ROWS, COLUMNS = 4, 6
 CROWD = 36
 
 

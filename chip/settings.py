@@ -1,7 +1,9 @@
+#!/usr/bin/env python3
 """The settings of a run, read from a JSON file, and its lengths in the units of `dpl` and of the layout.
 
-Lengths of the settings are nanometres. `grid` says how many of them one grid unit of `dpl` stands for: 5 as it is, 1 where
-the layout is made larger by five. Whatever is not a whole number of units is refused, never rounded.
+`chip/settings.py SETTINGS.json WORD` prints one of them. Lengths of the settings are nanometres. `grid` says how many of
+them one grid unit of `dpl` stands for: 5 as it is, 1 where the layout is made larger by five. Whatever is not a whole
+number of units is refused, never rounded.
 """
 
 import json
@@ -115,3 +117,7 @@ def guard(name, work):
         print(f"{name}: {' '.join(str(error).split())}", file=sys.stderr, flush=True)
         # KLayout forgets the status of a SystemExit that is raised here.
         os._exit(1)
+
+
+if __name__ == "__main__":
+    guard("settings", lambda: print(getattr(read(sys.argv[1]), sys.argv[2])))

@@ -27,13 +27,16 @@ class Source:
         if self.bounds.empty():
             raise Refused(f"layer {settings.layer} of {settings.layout} is empty")
 
-    def shapes(self, where):
-        """The shapes of the layer that meet a box or a region, as they are drawn."""
-        return raw(pya.RecursiveShapeIterator(self.layout, self.cell, self.layer, where, False))
+    def shapes(self, where, flags=pya.Shapes.SAll, over=False):
+        """The shapes of the layer that meet a box or a region, or share some area with it, as they are drawn."""
+        found = pya.Region(self.iterator(where, flags, over))
+        found.merged_semantics = False
+        return found
 
-    def shapes_over(self, region):
-        """The shapes of the layer that share some area with a region, as they are drawn."""
-        return raw(pya.RecursiveShapeIterator(self.layout, self.cell, self.layer, region, True))
+    def iterator(self, where, flags=pya.Shapes.SAll, over=False):
+        found = pya.RecursiveShapeIterator(self.layout, self.cell, self.layer, where, over)
+        found.shape_flags = flags
+        return found
 
     def count(self):
         """How many shapes the layer has after all instances."""
@@ -43,12 +46,6 @@ class Source:
             below = sum(known[i.cell_index] * max(1, i.na) * max(1, i.nb) for i in cell.each_inst())
             known[index] = cell.shapes(self.layer).size() + below
         return known[self.cell.cell_index()]
-
-
-def raw(shapes):
-    region = pya.Region(shapes)
-    region.merged_semantics = False
-    return region
 
 
 def read_layer(settings):

@@ -1,7 +1,7 @@
 ghost use Rattle.std.specs.Prelude.{◌≤◌, length, IfSome};
 ghost use Rattle.dpl_options.specs.Options.{IsSplitLayer};
 
-use crate::{LayerError, make, parts, split, split_commands};
+use crate::{LayerError, balance_commands, make, parts, split, split_commands};
 use dpl_lex::{Name, commands};
 use dpl_options::{Options, Weights, name_bytes};
 use dpl_report::Report;
@@ -289,5 +289,42 @@ fn links_turn_as_they_are_drawn(rt: HostRuntime) -> Result<(), Fail> {
         assert_eq!(rt; report.counts.excess, 0u64);
         assert!(rt; report.aside.as_slice().is_empty());
     }
+    Ok(())
+}
+
+/// Bars of length 500, 300 and 200: the longest is alone on its mask. `split` leaves all on one.
+#[test]
+fn masks_of_lone_bars(rt: HostRuntime) -> Result<(), Fail> {
+    let options = options().ok_or("no options")?;
+    let layout = b"L M; B 500 100 250 50; B 300 100 1250 50; B 200 100 2100 50; E".as_slice();
+    let commands = commands(rt.alloc(), layout)?;
+    let text = balance_commands(rt.alloc(), layout, &commands, &options)
+        .ok()
+        .ok_or("refused")?;
+    let wanted = b"(dpl 2);\n(layer M);\n(space 100);\n(overlap 20);\n(stitch 1);\n(conflict 10);\n\
+      (pieces 3);\n(fragments 3);\n(bonds 0);\n(stitches 0);\n(clashes 0);\n(excess 0);\n\
+      (cost 0);\n(bound 0);\n(masks ABB);\n(corner 10);\nDS 1 1 4;\nL MA;\nB 2000 400 1000 200;\n\
+      L MB;\nB 1200 400 5000 200;\nB 800 400 8400 200;\nDF;\nC 1;\nE\n";
+    assert_eq!(rt; text.as_slice(), wanted.as_slice());
+    let report = report(rt.alloc(), layout).ok_or("refused")?;
+    let alone = report.on_a.as_slice().is_empty() || report.on_b.as_slice().is_empty();
+    assert!(rt; alone);
+    Ok(())
+}
+
+/// A pair of boxes whose clash is not broken stays on two masks, and a lone bar comes on the lighter one. The pair is 400
+/// and 100 hundredths of a micron long, and the bar 200.
+#[test]
+fn a_pair_and_a_lone_bar(rt: HostRuntime) -> Result<(), Fail> {
+    let options = options().ok_or("no options")?;
+    let layout = b"L M; B 400 100 200 50; B 100 100 500 50; B 200 100 1000 50; E".as_slice();
+    let head = b"(dpl 2);\n(layer M);\n(space 100);\n(overlap 20);\n(stitch 1);\n(conflict 10);\n\
+      (pieces 3);\n(fragments 3);\n(bonds 0);\n(stitches 0);\n(clashes 1);\n(excess 0);\n\
+      (cost 0);\n(bound 0);\n(masks ABB);\n";
+    let commands = commands(rt.alloc(), layout)?;
+    let text = balance_commands(rt.alloc(), layout, &commands, &options)
+        .ok()
+        .ok_or("refused")?;
+    assert!(rt; text.starts_with(head.as_slice()));
     Ok(())
 }

@@ -302,3 +302,31 @@ fn links_as_long_as_can_be(rt: HostRuntime) -> Result<(), Fail> {
     assert!(rt; crossing_of(rt.alloc(), 4, &far, &[(0, 1), (2, 3)])?.is_none());
     Ok(())
 }
+
+/// A link leaves and arrives at the middle of the rows that both boxes share, not of their sides: a third box whose top is
+/// there meets it, and one a unit lower does not. The same for columns.
+#[test]
+fn links_lead_over_common_rows(rt: HostRuntime) -> Result<(), Fail> {
+    for (top, wanted) in [(350, fragment(0, 2)), (349, None)] {
+        let rows = [(0, 0, 100, 400), (150, 300, 250, 700), (130, 345, 140, top)];
+        assert!(rt; crossing_of(rt.alloc(), 3, &rows, &[(0, 1)])? == wanted);
+        let columns = [(0, 0, 400, 100), (300, 150, 700, 250), (345, 130, top, 140)];
+        assert!(rt; crossing_of(rt.alloc(), 3, &columns, &[(0, 1)])? == wanted);
+    }
+    Ok(())
+}
+
+/// A third box that a link between corners touches at one corner alone, from either side of it.
+#[test]
+fn corners_that_a_link_touches(rt: HostRuntime) -> Result<(), Fail> {
+    for (third, wanted) in [
+        ((150, 100, 190, 150), fragment(0, 2)),
+        ((151, 100, 190, 150), None),
+        ((100, 150, 150, 190), fragment(0, 2)),
+        ((100, 151, 150, 190), None),
+    ] {
+        let boxes = [(0, 0, 100, 100), (200, 200, 300, 300), third];
+        assert!(rt; crossing_of(rt.alloc(), 3, &boxes, &[(0, 1)])? == wanted);
+    }
+    Ok(())
+}

@@ -117,3 +117,47 @@ fn the_first_wrong_line_of_a_second_version(rt: HostRuntime) -> Result<(), Fail>
     }
     Ok(())
 }
+
+/// A line in place of one of the report with a keep layer, and whether the report is read and written again so.
+fn kept_with(alloc: Global, number: usize, new: &[u8]) -> Result<bool, NoMemory> {
+    let text = with_line(alloc, KEPT, number, new)?;
+    Ok(matches!(is_written_again(alloc, text.as_slice()), Ok(true)))
+}
+
+/// The corner weight is a number as the others, up to 10 ^ 12. The name of the keep layer has up to 31 bytes, and may
+/// be that of the layer.
+#[test]
+fn corner_and_keep_lines(rt: HostRuntime) -> Result<(), Fail> {
+    for (number, new) in [
+        (16, b"(corner 10);\n".as_slice()),
+        (16, b"(corner 1);\n"),
+        (16, b"(corner 1000000000000);\n"),
+        (17, b"(keep M);\n"),
+        (17, b"(keep K234567890123456789012345678901);\n"),
+        (17, b""),
+    ] {
+        assert!(rt; kept_with(rt.alloc(), number, new)?);
+    }
+    for (number, new) in [
+        (16, b"(corner 1000000000001);\n".as_slice()),
+        (16, b"(corner -3);\n"),
+        (17, b"(keep K2345678901234567890123456789012);\n"),
+    ] {
+        let text = with_line(rt.alloc(), KEPT, number, new)?;
+        assert_eq!(rt; wrong_line(rt.alloc(), text.as_slice())?, number as u64);
+    }
+    Ok(())
+}
+
+/// A report of the first version has neither line.
+#[test]
+fn the_first_version_ends_with_the_masks(rt: HostRuntime) -> Result<(), Fail> {
+    for new in [
+        b"(masks );\n(corner 10);\n".as_slice(),
+        b"(masks );\n(keep K);\n",
+    ] {
+        let text = with_line(rt.alloc(), NOTHING, 15, new)?;
+        assert_eq!(rt; wrong_line(rt.alloc(), text.as_slice())?, 16);
+    }
+    Ok(())
+}
