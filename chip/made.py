@@ -2,7 +2,8 @@
 
 A cell with what double patterning meets is set out as an array, some copies mirrored: an odd triangle, a wire that is cut
 at a stitch, a ring, a corner that touches another, a comb. A wire runs along each row of the array, and a polygon along
-two sides of it, so that clusters cross the windows of a cut. One crowd of contacts has more close pairs than `dpl` takes, and layers besides have faults.
+two sides of it, so that clusters cross the windows of a cut. One crowd of contacts has more close pairs than `dpl` takes,
+and layers besides have faults.
 """
 
 import pya
