@@ -13,15 +13,16 @@ def scale_of(source):
 
 
 def drawn(source, where, folder):
-    """The lines of the shapes that meet a region, and their number: rectangles as they are drawn, others as boxes.
+    """The lines of what meets a region, and their number: rectangles as they are drawn, others as boxes.
 
-    KLayout writes them, to a file in a folder.
+    No shape may lie in the region in part. KLayout finds shapes by the boxes around them, so others than rectangles are
+    cut to the region. It writes the lines, to a file in a folder.
     """
     layout = pya.Layout(False)
     layout.dbu = QUARTER
     shapes = layout.create_cell("PART").shapes(layout.layer(pya.LayerInfo(source.settings.name)))
     shapes.insert(source.iterator(where, pya.Shapes.SBoxes), scale_of(source))
-    for polygon in boxes_of(source.shapes(where, NOT_BOXES)).each():
+    for polygon in boxes_of(source.shapes(where, NOT_BOXES) & where).each():
         shapes.insert(polygon.bbox().transformed(scale_of(source)))
     path = os.path.join(folder, "part.cif")
     layout.write(path)

@@ -14,7 +14,7 @@ sys.path.insert(0, os.path.dirname(os.path.abspath(__file__)))
 import pya
 
 import settings as settings_module
-from boxes import NOT_BOXES, boxes_of, drawn, lines_of
+from boxes import boxes_of, drawn, lines_of
 from files import clear, write_json
 from parts import store
 from settings import Refused, guard
@@ -84,7 +84,7 @@ class Cut:
         if count <= MOST * self.source.settings.size:
             self.write(label, lines, count, box)
             return
-        layer = self.source.shapes(where).merged()
+        layer = self.source.shapes(where) & where
         for number, boxes in enumerate(self.groups(layer, list(hulls_of(layer, self.source.half).each()))):
             self.write(f"{label}-{number}", lines_of(self.source, boxes), boxes.count(), boxes.bbox())
 
@@ -108,10 +108,12 @@ class Cut:
 
     def shared(self, place, box, hulls):
         """Notes for each cluster that leaves the window what it holds there and where it crosses the sides."""
+        if not hulls:
+            return
         held = [[] for _ in hulls]
         finder = Finder(hulls)
-        layer = self.source.shapes(region_of(hulls), over=True) & pya.Region(box) if hulls else pya.Region()
-        for shape in layer.each():
+        where = region_of(hulls) & pya.Region(box)
+        for shape in (self.source.shapes(where, over=True) & where).each():
             held[finder.of(shape)].append(shape)
         for hull, shapes in zip(hulls, held):
             boxes = boxes_of(region_of(shapes))
@@ -178,7 +180,7 @@ def sides_of(hull, place, box):
 
 def refuse_unfit(source, reach):
     """Refuses slanted sides and corners off the grid, with their places."""
-    slanted = source.shapes(reach, NOT_BOXES).non_rectilinear()
+    slanted = source.shapes(reach).non_rectilinear()
     if slanted.count():
         places = [edge for shape in slanted.each() for edge in shape.each_edge() if edge.dx() and edge.dy()]
         refuse("a slanted side", [edge.p1 for edge in places], source.layout.dbu)

@@ -1,8 +1,9 @@
 """Makes the chip of `test`, in GDSII with a unit of 1 nm: KLayout runs it with `target`, a path.
 
 A cell with what double patterning meets is set out as an array, some copies mirrored: an odd triangle, a wire that is cut
-at a stitch, a ring, a corner that touches another, a comb. A wire runs along each row of the array, so that clusters
-cross the windows of a cut. One crowd of contacts has more close pairs than `dpl` takes, and layers besides have faults.
+at a stitch, a ring, a corner that touches another, a comb. A wire runs along each row of the array, and a polygon along
+two sides of it, so that clusters cross the windows of a cut. One crowd of contacts has more close pairs than `dpl` takes,
+and layers besides have faults.
 """
 
 import pya
@@ -62,7 +63,7 @@ def faults(layout, top):
 
 
 def array(layout, layer):
-    """The blocks, the upper half of them mirrored, and a wire along each row."""
+    """The blocks, the upper half of them mirrored, a wire along each row, and a polygon along two sides of all."""
     cell = layout.create_cell("ARRAY")
     one = block(layout, layer)
     up, along = pya.Vector(0, PITCH), pya.Vector(PITCH, 0)
@@ -70,6 +71,9 @@ def array(layout, layer):
     cell.insert(pya.CellInstArray(one.cell_index(), pya.Trans(0, 0), along, up, COLUMNS, half))
     mirrored = pya.Trans(0, True, 0, half * PITCH + 3100)
     cell.insert(pya.CellInstArray(one.cell_index(), mirrored, along, up, COLUMNS, ROWS - half))
+    width, height = COLUMNS * PITCH, ROWS * PITCH
+    corner = [(-600, -600), (width, -600), (width, -500), (-500, -500), (-500, height), (-600, height)]
+    cell.shapes(layer).insert(pya.Polygon([pya.Point(*p) for p in corner]))
     for row in range(ROWS):
         cell.shapes(layer).insert(pya.Box(0, row * PITCH + 3300, COLUMNS * PITCH, row * PITCH + 3400))
     return cell

@@ -26,7 +26,7 @@ TILE = 50000
 
 SCRIPT = """
 a.min_coherence = true; b.min_coherence = true;
-_output(unlike, layer ^ ((a | b) + refused));
+_output(unlike, layer ^ (a + b + refused));
 _output(overlaps, (a & b) ^ zones);
 _output(near_a, a.isolated_check(space), false);
 _output(near_b, b.isolated_check(space), false);
