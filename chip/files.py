@@ -1,7 +1,8 @@
-"""Files of values, and folders."""
+"""Files of values, and folders. A file stands under its name when it is written to its end, and not before."""
 
 import json
 import os
+from contextlib import contextmanager
 
 
 def read_json(path):
@@ -10,9 +11,17 @@ def read_json(path):
 
 
 def write_json(path, value):
-    with open(path, "w") as file:
+    with written(path) as file:
         json.dump(value, file, indent=1)
         file.write("\n")
+
+
+@contextmanager
+def written(path):
+    """A file to write to; a run that is killed leaves none that is cut off."""
+    with open(path + ".new", "w") as file:
+        yield file
+    os.replace(path + ".new", path)
 
 
 def clear(folder):

@@ -9,7 +9,7 @@ sys.path.insert(0, os.path.dirname(os.path.abspath(__file__)))
 import pya
 
 import settings as settings_module
-from files import read_json, write_json
+from files import read_json, write_json, written
 from masks import Reader
 from reports import Report
 from settings import Refused, guard
@@ -61,14 +61,16 @@ def shown(value):
 
 def write_masks(layout, path):
     """Writes the masks. KLayout does not always notice that a disk is full, so the end of the file is looked at."""
-    layout.write(path)
-    with open(path, "rb") as file:
-        file.seek(-min(256, os.path.getsize(path)), os.SEEK_END)
+    new = os.path.join(os.path.dirname(path), "new-" + os.path.basename(path))
+    layout.write(new)
+    with open(new, "rb") as file:
+        file.seek(-min(256, os.path.getsize(new)), os.SEEK_END)
         end = file.read()
     # The last record of OASIS has number 2 and 256 bytes; that of GDSII is ENDLIB, and zeros may follow.
     whole = end.rstrip(b"\0").endswith(b"\0\4\4") if path.endswith(".gds") else len(end) == 256 and end[0] == 2
     if not whole:
         raise Refused(f"{path} is not written to its end: is the disk full?")
+    os.replace(new, path)
 
 
 def join(chosen, folder, target):
@@ -89,7 +91,7 @@ def join(chosen, folder, target):
                 reader.into(report, cell, layers)
                 top.insert(pya.CellInstArray(cell.cell_index(), pya.Trans()))
     write_masks(layout, os.path.join(folder, target))
-    with open(os.path.join(folder, "table.txt"), "w") as file:
+    with written(os.path.join(folder, "table.txt")) as file:
         file.write(table_of(rows))
     write_json(os.path.join(folder, "joined.json"), joined)
 

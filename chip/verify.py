@@ -13,7 +13,7 @@ sys.path.insert(0, os.path.dirname(os.path.abspath(__file__)))
 import pya
 
 import settings as settings_module
-from files import read_json
+from files import read_json, written
 from manifest import Manifest
 from reports import Report
 from settings import guard
@@ -145,7 +145,7 @@ class Verify:
 def main():
     chosen = settings_module.read(settings)
     faults = Verify(chosen, folder, int(threads)).run()
-    with open(os.path.join(folder, verdict), "w") as file:
+    with written(os.path.join(folder, verdict)) as file:
         file.write("\n".join([f"{len(faults)} faults", *faults] if faults else ["verified"]) + "\n")
 
 
