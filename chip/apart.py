@@ -37,7 +37,7 @@ class Apart:
         own = masks["A"] + masks["B"]
         near = own.separation_check(self.around(part) - own, self.space)
         told = Told(folder, [part], self.source.settings, self.of_grid)
-        found = {"near": self.places(near.each()), "told": [], "untold": []}
+        found = {"sha256": report.sha256, "near": self.places(near.each()), "told": [], "untold": []}
         for letter, mask in masks.items():
             mask.min_coherence = True
             for pair in mask.isolated_check(self.space).each():

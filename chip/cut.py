@@ -16,6 +16,7 @@ import pya
 import settings as settings_module
 from boxes import boxes_of, drawn, lines_of
 from files import clear, write_json
+from grid import Grid
 from parts import store
 from settings import Refused, guard
 from source import Source
@@ -57,6 +58,7 @@ class Cut:
     def __init__(self, source, folder):
         self.source, self.folder = source, folder
         self.parts, self.crossing = [], []
+        self.frames = True
 
     def window(self, place, box):
         source = self.source
@@ -67,15 +69,16 @@ class Cut:
         self.shared(place, box, [hull for hull in hulls if hull.bbox().overlaps(box)])
 
     def leaving(self, reach, box):
-        """The hulls of the clusters that leave a window. Mostly a frame of the window holds them, which is tried first."""
+        """The hulls of the clusters that leave a window. A frame of the window is tried first, until one does not do."""
         half = self.source.half
         frame = min(box.width(), box.height()) // FRAME
         inner = box.enlarged(-frame, -frame)
-        if frame > 2 * half:
+        if self.frames and frame > 2 * half:
             around = pya.Region(reach) - pya.Region(inner)
             hulls = leaving(hulls_of(self.source.shapes(around), half), box)
             if (region_of(hulls) & pya.Region(inner.enlarged(half, half))).is_empty():
                 return hulls
+            self.frames = False
         return leaving(hulls_of(self.source.shapes(reach), half), box)
 
     def whole(self, label, where, box):
@@ -143,14 +146,17 @@ class Finder:
     """Finds the hull that a shape lies in. Hulls do not meet, so one point of the shape tells."""
 
     def __init__(self, hulls):
-        self.hulls = [(hull.bbox(), hull) for hull in hulls]
+        self.hulls = hulls
+        self.grid = Grid([corners_of(hull.bbox()) for hull in hulls])
 
     def of(self, shape):
         point = next(shape.each_point_hull())
-        near = [k for k, (bounds, _) in enumerate(self.hulls) if bounds.contains(point)]
-        if len(near) > 1:
-            near = [k for k in near if self.hulls[k][1].inside(point)]
-        return near[0]
+        near = self.grid.meeting((point.x, point.y, point.x, point.y))
+        return near[0] if len(near) == 1 else next(k for k in near if self.hulls[k].inside(point))
+
+
+def corners_of(box):
+    return (box.left, box.bottom, box.right, box.top)
 
 
 def region_of(polygons):
@@ -222,7 +228,7 @@ def cut_band(settings, folder, band):
         "parts": cut.parts,
         "crossing": cut.crossing,
     }
-    write_json(os.path.join(target, "index.json"), index)
+    write_json(os.path.join(target, "index.json"), index, None)
 
 
 def main():

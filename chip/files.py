@@ -10,10 +10,9 @@ def read_json(path):
         return json.load(file)
 
 
-def write_json(path, value):
+def write_json(path, value, indent=1):
     with written(path) as file:
-        json.dump(value, file, indent=1)
-        file.write("\n")
+        file.write(json.dumps(value, indent=indent) + "\n")
 
 
 @contextmanager

@@ -67,6 +67,8 @@ class Verify:
             report = Report(self.folder, part)
             if report.sha256 != joined.get(part["name"]):
                 self.faults.append(f"part {part['name']}: its report is not the one that was joined")
+            if not report.refusal and self.seen.get(part["name"], {}).get("sha256") != report.sha256:
+                self.faults.append(f"part {part['name']}: its report is not the one whose spacing was seen")
             for zone in report.zones():
                 cell.shapes(self.zones).insert(pya.Box(*zone))
             if report.refusal:
