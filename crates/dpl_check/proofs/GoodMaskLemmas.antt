@@ -1,6 +1,6 @@
 -- The masks of an accepted report.
-use Rattle.std.proofs.Common.{◌≡◌, ◌⊎◌, ℕ, List}
-use Rattle.std.specs.Prelude.{Result, Ok, Err, IfOk}
+use Rattle.std.proofs.Common.{◌≡◌, ℕ, List}
+use Rattle.std.specs.Prelude.{Result, Ok, IfOk}
 use Rattle.dpl_options.specs.Options.{PlainOptions, AreOptions}
 use Rattle.dpl_report.specs.MaskCells.{AreCutFrom}
 use Rattle.dpl_report.proofs.MaskCellLemmas.{masks_of_layer}
