@@ -1,4 +1,4 @@
-ghost use Rattle.std.specs.Prelude.{ℕ, ◌<◌, length, IfOk, OnOk};
+ghost use Rattle.std.specs.Prelude.{ℕ, ◌<◌, ◌≤◌, length, IfOk, OnOk};
 ghost use Rattle.dpl_index.specs.Meetings.{AddsMeeting, HasMeeting};
 ghost use Rattle.dpl_index.specs.Stops.{IsIndex};
 
@@ -32,7 +32,7 @@ impl Model for Index {
 }
 
 impl Index {
-    ghost use Rattle.std.specs.Prelude.{◌≡◌, IfOk};
+    ghost use Rattle.std.specs.Prelude.{◌≡◌, IfOk, IfSome};
     ghost use Rattle.dpl_index.specs.Meetings.{AreMeeting};
 
     /// An index of items with these bounds. It takes about n log n steps for n of them.
@@ -47,21 +47,42 @@ impl Index {
     pub fn meeting(&self, alloc: Global, window: &Bounds) -> Result<Vec<usize>, NoMemory>
         ensures { IfOk result (λ v. AreMeeting self.now window.now v.items) }
     {
-        let mut found = gather(alloc, self.bounds.as_slice(), self.stops.as_slice(), window)?;
+        let (bounds, stops) = (self.bounds.as_slice(), self.stops.as_slice());
+        let mut found = gather(alloc, bounds, stops, window, usize::MAX)?;
         put_in_order(&mut found);
         Ok(found)
     }
+
+    /// The same, or `None` as soon as more than `most` are found.
+    pub fn few_meeting(
+        &self,
+        alloc: Global,
+        window: &Bounds,
+        most: usize,
+    ) -> Result<Option<Vec<usize>>, NoMemory>
+        ensures { IfOk result (λ few. IfSome few (λ v. AreMeeting self.now window.now v.items)) }
+    {
+        let (bounds, stops) = (self.bounds.as_slice(), self.stops.as_slice());
+        let mut found = gather(alloc, bounds, stops, window, most)?;
+        if found.len() > most {
+            return Ok(None);
+        }
+        put_in_order(&mut found);
+        Ok(Some(found))
+    }
 }
 
-/// The numbers of the items whose bounds meet these, in any order.
+/// The numbers of the items whose bounds meet these, in any order; where there are more than `enough`, one more than that.
 fn gather(
     alloc: Global,
     items: &[Bounds],
     stops: &[Stop],
     window: &Bounds,
+    enough: usize,
 ) -> Result<Vec<usize>, NoMemory>
     requires { IsIndex items.now stops.now }
-    ensures { IfOk result (λ v. HasMeeting items.now window.now v.items) }
+    ensures { IfOk result (λ v. length v.items ≤ enough →
+        HasMeeting items.now window.now v.items) }
 {
     let mut found = Vec::with_capacity(alloc, USUAL)?;
     let mut at = 0;
@@ -69,6 +90,9 @@ fn gather(
         let stop = stops[at];
         if do_meet(&stop.bounds, window) {
             push_meeting(&mut found, items, window, stop.number)?;
+            if found.len() > enough {
+                return Ok(found);
+            }
             at += 1;
         } else {
             at += stop.rest + 1;
