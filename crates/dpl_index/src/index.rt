@@ -113,7 +113,7 @@ fn gather(
     ensures { IfOk result (λ v. length v.items ≤ enough →
         HasMeeting items.now window.now v.items) }
 {
-    let mut found = Vec::with_capacity(alloc, USUAL)?;
+    let mut found = Vec::with_capacity(alloc, USUAL.min(stops.len()))?;
     let mut at = 0;
     'stops: while at < stops.len() {
         let stop = stops[at];

@@ -62,7 +62,7 @@ fn singles(alloc: Global, items: &[Bounds], places: &[(u64, usize)]) -> Result<V
 }
 
 /// How many stops each stop is to hold, itself among them: the first holds all. The stops behind one, as far as it holds
-/// them, are held by two: those of one half of a square of the curve, and those of the other.
+/// them, are held by two: those in one half of a square or of a half of one, and those in the other.
 fn sizes(alloc: Global, places: &[(u64, usize)]) -> Result<Vec<usize>, NoMemory> {
     let count = places.len();
     let mut sizes = vec![in alloc; 0usize; count]?;

@@ -1,8 +1,8 @@
-use Rattle.std.proofs.Common.{arith, ◌≡◌, ◌+◌, ◌<◌, length, get_or}
+use Rattle.std.proofs.Common.{arith, ◌≡◌, ◌+◌, get_or}
 use Rattle.std.proofs.lemmas.List.{get_or_default}
 use Rattle.dpl_index.specs.declared.stops.Stop.{Stop}
 use Rattle.dpl_index.proofs.StopLemmas.{blank}
-use Rattle.dpl_index.proofs.MeetingLemmas.{holding_no, not_held, search_on, search_past, search_ends}
+use Rattle.dpl_index.proofs.MeetingLemmas.{not_held, search_on, search_past, search_ends}
 use Rattle.dpl_index.proofs.index.first_holding.Goals as goal
 
 pub stops-preserved : goal.stops-preserved
