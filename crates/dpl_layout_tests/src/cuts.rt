@@ -367,3 +367,24 @@ fn stubs_of_one_shape(rt: HostRuntime) -> Result<(), Fail> {
     }
     Ok(())
 }
+
+/// A wire with eighty small boxes close above it, from its left end on, and one more near its right end.
+#[test]
+fn a_wire_among_many(rt: HostRuntime) -> Result<(), Fail> {
+    let apart = zones_above(&rt, 2)?;
+    assert_eq!(rt; apart.as_slice(), [(2010, 0, 2050, 200)].as_slice());
+    let all_along = zones_above(&rt, 45)?;
+    assert!(rt; all_along.as_slice().is_empty());
+    Ok(())
+}
+
+fn zones_above(rt: &HostRuntime, pitch: i64) -> Result<Vec<Corners>, Fail> {
+    let mut tiles = Vec::new(rt.alloc());
+    tiles.push((0, 0, 3970, 200))?;
+    for k in 0..80u16 {
+        let x = i64::from(k).wrapping_mul(pitch).clamp(0, 3650) + 100;
+        tiles.push((x, 300, x + 1, 301))?;
+    }
+    tiles.push((3801, 300, 3802, 301))?;
+    zones_beside(rt, tiles.as_slice(), &[])
+}

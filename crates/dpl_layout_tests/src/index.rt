@@ -84,3 +84,53 @@ fn an_empty_index(rt: HostRuntime) -> Result<(), Fail> {
     assert!(rt; index.meeting(rt.alloc(), &window)?.as_slice().is_empty());
     Ok(())
 }
+
+#[test]
+fn only_where_few_are_found(rt: HostRuntime) -> Result<(), Fail> {
+    let index = grid(&rt)?;
+    let inner = bounds((5, 9), (5, 9));
+    match index.few_meeting(rt.alloc(), &inner, 4)? {
+        Some(found) => assert_eq!(rt; found.as_slice(), [5, 6, 9, 10].as_slice()),
+        None => assert!(rt; false),
+    }
+    assert!(rt; index.few_meeting(rt.alloc(), &inner, 3)?.is_none());
+    Ok(())
+}
+
+#[test]
+fn one_that_holds_others(rt: HostRuntime) -> Result<(), Fail> {
+    let index = grid(&rt)?;
+    assert_eq!(rt; index.holding(&bounds((4, 5), (9, 10))), Some(9));
+    assert_eq!(rt; index.holding(&bounds((6, 6), (8, 8))), Some(9));
+    assert_eq!(rt; index.holding(&bounds((6, 7), (8, 8))), None);
+    assert_eq!(rt; index.holding(&bounds((0, 14), (0, 0))), None);
+    Ok(())
+}
+
+/// Bounds of many sizes around few places, so that places on the curve agree in many bits or in all.
+#[test]
+fn all_that_meet_a_window_among_many(rt: HostRuntime) -> Result<(), Fail> {
+    let mut all = Vec::new(rt.alloc());
+    for i in 0..300u16 {
+        let (x, y) = (i64::from(i % 7) * 100, i64::from(i % 3) * 1000);
+        let half = i64::from(i / 2);
+        all.push(bounds((x - half, x + half), (y - half, y + half)))?;
+    }
+    let index = index_of(&rt, all.as_slice())?;
+    for i in 0..40u16 {
+        let x = i64::from(i) * 20 - 100;
+        let window = bounds((x, x + 9), (120, 930));
+        let mut due = Vec::new(rt.alloc());
+        for k in 0..all.len() {
+            let b = all.as_slice()[k];
+            if b.left <= x + 9 && x <= b.right && b.low <= 930 && 120 <= b.high {
+                due.push(k)?;
+            }
+        }
+        assert_eq!(rt;
+            index.meeting(rt.alloc(), &window)?.as_slice(),
+            due.as_slice()
+        );
+    }
+    Ok(())
+}

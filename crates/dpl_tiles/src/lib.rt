@@ -8,6 +8,7 @@
 mod bounds;
 mod columns;
 mod corners;
+mod covering;
 mod crossing;
 mod error;
 mod finder;
