@@ -86,8 +86,7 @@ class Cut:
         if len(boxes) <= MOST * size:
             self.write(label, boxes)
             return
-        pieces = round(len(boxes) / size)
-        for number, group in enumerate(groups(boxes, numbers, -(-len(boxes) // pieces))):
+        for number, group in enumerate(groups(boxes, numbers, size)):
             self.write(f"{label}-{number}", group)
 
     def write(self, label, boxes):
