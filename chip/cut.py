@@ -154,7 +154,7 @@ def refuse_slanted(source, reach):
 
 
 def refuse_off_grid(source, boxes):
-    corners = boxes.reshape(-1, 2)
+    corners = boxes[:, [0, 1, 2, 1, 0, 3, 2, 3]].reshape(-1, 2)
     off = corners[(corners % source.ratio.denominator).any(axis=1)]
     if len(off):
         refuse(f"a corner off the grid of {float(source.settings.grid):g} nm", off.tolist(), source)
