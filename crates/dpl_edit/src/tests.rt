@@ -1,9 +1,10 @@
-use crate::{RemoveError, Session};
+use crate::{EditError, RemoveError, Session};
 use dpl_cell::{Layout, Prim, Rect};
 use dpl_layer::Drawing;
 use dpl_lex::Name;
 use dpl_list::Items;
 use dpl_options::{Options, Weights};
+use dpl_report::print;
 use std::alloc::Global;
 use std::test::Fail;
 
@@ -199,5 +200,122 @@ fn kept_cells_stay_whole(rt: HostRuntime) -> Result<(), Fail> {
     assert_eq!(rt; figures_of(alloc, &session), are(5, 10, 20));
     let rect = Rect::new(9000, 0, 9200, 200).ok_or("no box")?;
     assert_eq!(rt; add(alloc, &mut session, rect), are(6, 10, 20));
+    Ok(())
+}
+
+/// The text of the session's report.
+fn text(alloc: Global, session: &Session) -> Option<Vec<u8>> {
+    let report = session.report(alloc).ok()?;
+    print(alloc, &report).ok()
+}
+
+/// Whether the report has this text.
+fn shows(alloc: Global, session: &Session, wanted: &[u8]) -> bool {
+    match text(alloc, session) {
+        Some(found) => found.as_slice() == wanted,
+        None => false,
+    }
+}
+
+/// Why one box more is not taken.
+fn refusal(alloc: Global, session: &mut Session, rect: Rect) -> Option<EditError> {
+    if session.count() > 100 {
+        return None;
+    }
+    session.add(alloc, rect).err()
+}
+
+/// As many boxes as a layer may have, all in one place.
+fn full_layer(alloc: Global) -> Option<Vec<Prim>> {
+    let mut prims = Vec::new(alloc);
+    for _ in 0..50_000 {
+        push(&mut prims, 0, 0, 200, 200)?;
+    }
+    Some(prims)
+}
+
+#[test]
+fn a_primitive_too_many(rt: HostRuntime) -> Result<(), Fail> {
+    let alloc = rt.alloc();
+    let prims = full_layer(alloc).ok_or("no boxes")?;
+    let mut session = begin(alloc, prims).ok_or("refused")?;
+    let before = text(alloc, &session).ok_or("no report")?;
+    let rect = Rect::new(300, 0, 500, 200).ok_or("no box")?;
+    let error = refusal(alloc, &mut session, rect).ok_or("taken")?;
+    let limit = EditError::Limit {
+        kind: 2,
+        count: 50_001,
+    };
+    assert_eq!(rt; error, limit);
+    assert!(rt; shows(alloc, &session, before.as_slice()));
+    assert_eq!(rt; session.count(), 0);
+    Ok(())
+}
+
+/// So many boxes in two rows, each three neighbours an odd triangle.
+fn strip(alloc: Global, count: i64) -> Option<Vec<Prim>> {
+    let mut prims = Vec::new(alloc);
+    for i in 0..count {
+        let x = 150 * i;
+        let y = 300 * (i % 2);
+        push(&mut prims, x, y, x + 200, y + 200)?;
+    }
+    Some(prims)
+}
+
+/// A strip of 2,050 boxes has 2,048 odd triangles and an even face around them, all of one part; one box more at its end
+/// makes that face odd too. A box that joins the last two of the strip takes a triangle away: then the box at the end has
+/// one clash alone and may come, but the one that joins may no more go.
+#[test]
+fn odd_faces_too_many(rt: HostRuntime) -> Result<(), Fail> {
+    let alloc = rt.alloc();
+    let prims = strip(alloc, 2050).ok_or("no boxes")?;
+    let mut session = begin(alloc, prims).ok_or("refused")?;
+    let before = text(alloc, &session).ok_or("no report")?;
+    let end = Rect::new(307_500, 0, 307_700, 200).ok_or("no box")?;
+    let error = refusal(alloc, &mut session, end).ok_or("taken")?;
+    let limit = EditError::Limit {
+        kind: 8,
+        count: 2050,
+    };
+    assert_eq!(rt; error, limit);
+    assert!(rt; shows(alloc, &session, before.as_slice()));
+    let joint = Rect::new(307_350, 200, 307_400, 300).ok_or("no box")?;
+    assert_eq!(rt; refusal(alloc, &mut session, joint), None);
+    assert_eq!(rt; refusal(alloc, &mut session, end), None);
+    let before = text(alloc, &session).ok_or("no report")?;
+    let error = session.remove(alloc, 0).err().ok_or("removed")?;
+    let limit = RemoveError::Limit {
+        kind: 8,
+        count: 2050,
+    };
+    assert_eq!(rt; error, limit);
+    assert!(rt; shows(alloc, &session, before.as_slice()));
+    assert_eq!(rt; session.count(), 2);
+    Ok(())
+}
+
+/// Where an edit has no memory, the session is as before, and the edit is made at a second try. Run with one allocation
+/// refused, which may also be one of another call.
+#[test]
+fn an_edit_without_memory(rt: HostRuntime) -> Result<(), Fail> {
+    let alloc = rt.alloc();
+    let prims = wires(alloc).ok_or("no boxes")?;
+    let mut session = begin(alloc, prims).ok_or("refused")?;
+    let before = text(alloc, &session).ok_or("no report")?;
+    let rect = Rect::new(1450, -200, 2050, -100).ok_or("no box")?;
+    if let Some(error) = refusal(alloc, &mut session, rect) {
+        assert_eq!(rt; error, EditError::NoMemory);
+        assert!(rt; shows(alloc, &session, before.as_slice()));
+        assert_eq!(rt; session.count(), 0);
+        assert_eq!(rt; refusal(alloc, &mut session, rect), None);
+    }
+    let more = text(alloc, &session).ok_or("no report")?;
+    if let Err(error) = session.remove(alloc, 0) {
+        assert_eq!(rt; error, RemoveError::NoMemory);
+        assert!(rt; shows(alloc, &session, more.as_slice()));
+        assert_eq!(rt; session.remove(alloc, 0).err(), None);
+    }
+    assert_eq!(rt; figures_of(alloc, &session), are(8, 1, 2));
     Ok(())
 }
