@@ -252,37 +252,36 @@ fn a_primitive_too_many(rt: HostRuntime) -> Result<(), Fail> {
     Ok(())
 }
 
-/// So many boxes in two rows, each three neighbours an odd triangle.
-fn strip(alloc: Global, count: i64) -> Option<Vec<Prim>> {
+/// Boxes in a row, each close to its neighbours.
+fn row(alloc: Global) -> Option<Vec<Prim>> {
     let mut prims = Vec::new(alloc);
-    for i in 0..count {
-        let x = 150 * i;
-        let y = 300 * (i % 2);
-        push(&mut prims, x, y, x + 200, y + 200)?;
+    for i in 0..2050 {
+        let x = 300 * i;
+        push(&mut prims, x, 0, x + 200, 200)?;
     }
     Some(prims)
 }
 
-/// A strip of 2,050 boxes has 2,048 odd triangles and an even face around them, all of one part; one box more at its end
-/// makes that face odd too. A box that joins the last two of the strip takes a triangle away: then the box at the end has
-/// one clash alone and may come, but the one that joins may no more go.
+/// A wire along the row makes an odd triangle with each two neighbours, 2,049 of them, and the face around all is odd too.
+/// While a box covers everything the wire may come, but then this box may no more go.
 #[test]
 fn odd_faces_too_many(rt: HostRuntime) -> Result<(), Fail> {
     let alloc = rt.alloc();
-    let prims = strip(alloc, 2050).ok_or("no boxes")?;
+    let prims = row(alloc).ok_or("no boxes")?;
     let mut session = begin(alloc, prims).ok_or("refused")?;
     let before = text(alloc, &session).ok_or("no report")?;
-    let end = Rect::new(307_500, 0, 307_700, 200).ok_or("no box")?;
-    let error = refusal(alloc, &mut session, end).ok_or("taken")?;
+    assert_eq!(rt; figures_of(alloc, &session), are(2050, 0, 0));
+    let wire = Rect::new(0, 300, 614_900, 500).ok_or("no box")?;
+    let error = refusal(alloc, &mut session, wire).ok_or("taken")?;
     let limit = EditError::Limit {
         kind: 8,
         count: 2050,
     };
     assert_eq!(rt; error, limit);
     assert!(rt; shows(alloc, &session, before.as_slice()));
-    let joint = Rect::new(307_350, 200, 307_400, 300).ok_or("no box")?;
-    assert_eq!(rt; refusal(alloc, &mut session, joint), None);
-    assert_eq!(rt; refusal(alloc, &mut session, end), None);
+    let cover = Rect::new(0, 0, 614_900, 500).ok_or("no box")?;
+    assert_eq!(rt; add(alloc, &mut session, cover), are(1, 0, 0));
+    assert_eq!(rt; add(alloc, &mut session, wire), are(1, 0, 0));
     let before = text(alloc, &session).ok_or("no report")?;
     let error = session.remove(alloc, 0).err().ok_or("removed")?;
     let limit = RemoveError::Limit {
