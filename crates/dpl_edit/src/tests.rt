@@ -205,8 +205,10 @@ fn kept_cells_stay_whole(rt: HostRuntime) -> Result<(), Fail> {
 
 /// The text of the session's report.
 fn text(alloc: Global, session: &Session) -> Option<Vec<u8>> {
-    let report = session.report(alloc).ok()?;
-    print(alloc, &report).ok()
+    match session.report(alloc) {
+        Ok(report) => print(alloc, &report).ok(),
+        Err(_) => None,
+    }
 }
 
 /// Whether the report has this text.
