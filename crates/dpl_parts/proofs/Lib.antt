@@ -7,3 +7,5 @@ pub mod Stays
 pub mod Counted
 pub mod Linked
 pub mod JoinedLemmas
+pub mod PickLemmas
+pub mod GatherLemmas

@@ -5,9 +5,11 @@
 //! optimum of the other net it is one again (`optima_stay`).
 #![tactic(auto)]
 
+mod gathering;
 mod joining;
 mod laws;
 
+pub use gathering::{Gathered, gather};
 pub use joining::{components, counted_components};
 pub use laws::{component_rules, optima_stay};
 pub use std::alloc::AllocError as NoMemory;

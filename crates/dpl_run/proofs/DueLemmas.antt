@@ -2,7 +2,7 @@
 use Rattle.std.proofs.Common.{arith, ◌≡◌, ◌∙◌, ℕ, List, Option, Some, refl, sym, ap, subst}
 use Rattle.std.specs.Prelude.{Result, Ok, Err}
 use Rattle.dpl_gen.specs.Layout.{layout}
-use Rattle.dpl_words.specs.Commands.{PlainCommand, split, check, load, cross, balance}
+use Rattle.dpl_words.specs.Commands.{PlainCommand, split, check, load, cross, edit, balance}
 use Rattle.dpl_run.specs.declared.status.Status.{Status}
 use Rattle.dpl_run.specs.Inputs.{Opened, opens}
 use Rattle.dpl_run.specs.due.Load.{made_options}
@@ -14,6 +14,7 @@ use Rattle.dpl_run.proofs.BalanceLemmas.{balance_ends, one_balance}
 use Rattle.dpl_run.proofs.CheckLemmas.{check_ends, one_check}
 use Rattle.dpl_run.proofs.LoadLemmas.{load_ends, one_load}
 use Rattle.dpl_run.proofs.CrossLemmas.{cross_ends, one_cross}
+use Rattle.dpl_run.proofs.EditLemmas.{edit_ends, one_edit}
 
 pub all_end : (c : PlainCommand) (text second : List ℕ) → AllEnd c (DueOf c text second)
 all_end (split options) text second = split_ends (split options) refl options text
@@ -22,6 +23,7 @@ all_end (check options name) text second = check_ends (check options name) refl 
 all_end (load start rows columns) text second =
     load_ends (load start rows columns) refl made_options (layout start rows columns)
 all_end (cross options) text second = cross_ends (cross options) options text
+all_end (edit options name) text second = edit_ends (edit options name) refl refl options text second
 
 one_of : (c : PlainCommand) (text second : List ℕ) (a b : Status) (x y : List ℕ) → DueOf c text second a x → DueOf c text second b y → a ≡ b
 one_of (split options) text second = one_split options text
@@ -29,6 +31,7 @@ one_of (balance options) text second = one_balance options text
 one_of (check options name) text second = one_check options text second
 one_of (load start rows columns) text second = one_load made_options (layout start rows columns)
 one_of (cross options) text second = one_cross options text
+one_of (edit options name) text second = one_edit options text second
 
 -- what is opened is one
 same_opened : (o p : Opened) (x : Option Opened) → x ≡ Some o → x ≡ Some p → p ≡ o

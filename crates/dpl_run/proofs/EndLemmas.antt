@@ -5,8 +5,8 @@ use Rattle.dpl_layer.specs.declared.error.LayerError.{LayerError}
 use Rattle.dpl_layer.specs.declared.error.LayerError.TheVariants as refusal
 use Rattle.dpl_words.specs.Commands.{PlainCommand}
 use Rattle.dpl_run.specs.declared.status.Status.{Status}
-use Rattle.dpl_run.specs.declared.status.Status.TheVariants.{Done, Rejected, Usage, Layout, Limit, ReadFault, WriteFault, NoMemory}
-use Rattle.dpl_run.specs.Inputs.{judges, colours}
+use Rattle.dpl_run.specs.declared.status.Status.TheVariants.{Done, Rejected, Usage, Layout, Limit, Script, ReadFault, WriteFault, NoMemory}
+use Rattle.dpl_run.specs.Inputs.{judges, colours, follows}
 use Rattle.dpl_run.specs.Answer.{IsLimitOf, IsStatusOf}
 use Rattle.dpl_run.specs.Errors.{status_of}
 use Rattle.dpl_run.specs.Telling.{IsBare, IsDueOrFree, IsWorked}
@@ -30,6 +30,7 @@ Ends c (Rejected reason place found wanted) x = (judges c ≡ true) × (x ≡ []
 Ends c (Usage kind) x = ⊥
 Ends c (Layout command what) x = x ≡ []
 Ends c (Limit kind count) x = IsWorkLimit c kind × (x ≡ [])
+Ends c (Script line kind) x = (follows c ≡ true) × (x ≡ [])
 Ends c ReadFault x = ⊥
 Ends c WriteFault x = ⊥
 Ends c NoMemory x = ⊥
@@ -40,6 +41,7 @@ ends_fit c (Rejected reason place found wanted) x e = e.1
 ends_fit c (Usage kind) x e = absurd e
 ends_fit c (Layout command what) x e = e
 ends_fit c (Limit kind count) x e = e.1
+ends_fit c (Script line kind) x e = e.1
 ends_fit c ReadFault x e = e
 ends_fit c WriteFault x e = e
 ends_fit c NoMemory x e = e
@@ -63,6 +65,7 @@ worked_free c Due all (Rejected reason place found wanted) x p = p
 worked_free c Due all (Usage kind) x p = p
 worked_free c Due all (Layout command what) x p = p
 worked_free c Due all (Limit kind count) x p = p
+worked_free c Due all (Script line kind) x p = p
 worked_free c Due all ReadFault x p = absurd (all ReadFault x p)
 worked_free c Due all WriteFault x p = p
 worked_free c Due all NoMemory x p = p
@@ -73,6 +76,7 @@ worked_bare c Due all (Rejected reason place found wanted) x p = (all (Rejected 
 worked_bare c Due all (Usage kind) x p = absurd (all (Usage kind) x p)
 worked_bare c Due all (Layout command what) x p = all (Layout command what) x p
 worked_bare c Due all (Limit kind count) x p = (all (Limit kind count) x p).1
+worked_bare c Due all (Script line kind) x p = (all (Script line kind) x p).1
 worked_bare c Due all ReadFault x p = absurd (all ReadFault x p)
 worked_bare c Due all WriteFault x p = absurd (all WriteFault x p)
 worked_bare c Due all NoMemory x p = p
@@ -87,6 +91,7 @@ worked_status c Due all (Rejected reason place found wanted) x p = (all (Rejecte
 worked_status c Due all (Usage kind) x p = absurd (all (Usage kind) x p)
 worked_status c Due all (Layout command what) x p = tt
 worked_status c Due all (Limit kind count) x p = limit_of_work c kind (all (Limit kind count) x p).0
+worked_status c Due all (Script line kind) x p = (all (Script line kind) x p).0
 worked_status c Due all ReadFault x p = tt
 worked_status c Due all WriteFault x p = tt
 worked_status c Due all NoMemory x p = tt

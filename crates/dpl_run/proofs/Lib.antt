@@ -4,6 +4,8 @@ pub mod BalanceLemmas
 pub mod CheckLemmas
 pub mod LoadLemmas
 pub mod CrossLemmas
+pub mod LineLemmas
+pub mod EditLemmas
 pub mod DueLemmas
 pub mod LeastLemmas
 pub mod ReadingLemmas

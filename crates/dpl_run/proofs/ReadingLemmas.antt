@@ -6,10 +6,10 @@ use Rattle.std.specs.Io.KnownBytes.{Consumes, IsAtEnd}
 use Rattle.dpl_ext.specs.Device.{Seen, Texts, Rose, RoseBy}
 use Rattle.dpl_ext.specs.Reading.{IsWhole}
 use Rattle.dpl_gen.specs.Layout.{layout}
-use Rattle.dpl_words.specs.Commands.{PlainCommand, split, check, load, cross, balance}
+use Rattle.dpl_words.specs.Commands.{PlainCommand, split, check, load, cross, edit, balance}
 use Rattle.dpl_run.specs.declared.status.Status.{Status}
-use Rattle.dpl_run.specs.declared.status.Status.TheVariants.{Done, Rejected, Usage, Layout, Limit, ReadFault, WriteFault, NoMemory}
-use Rattle.dpl_limits.specs.declared.counted.Counted.TheVariants.{ReportBytes}
+use Rattle.dpl_run.specs.declared.status.Status.TheVariants.{Done, Rejected, Usage, Layout, Limit, Script, ReadFault, WriteFault, NoMemory}
+use Rattle.dpl_limits.specs.declared.counted.Counted.TheVariants.{ReportBytes, ScriptBytes}
 use Rattle.dpl_limits.specs.Limits.{number_of, most_of}
 use Rattle.dpl_run.specs.Inputs.{Opened, opens, reads_layout}
 use Rattle.dpl_run.specs.Devices.{AsksFor, IsLayoutTold, IsSecondTold, IsLayoutFault, IsSecondFault, IsReadFault, IsSecondTouched, PassesBytes}
@@ -53,6 +53,9 @@ small_second (Some o) texts bytes second read told small = subst (λ (z : List �
 abbrev report_named : List ℕ → Opened
 report_named name = record { name = name; counted = ReportBytes }
 
+abbrev script_named : List ℕ → Opened
+script_named name = record { name = name; counted = ScriptBytes }
+
 -- what a command does not read makes no difference
 same_due : (c : PlainCommand) (text bytes second others : List ℕ) → (reads_layout c ≡ true → text ≡ bytes) → ((p : Opened) → opens c ≡ Some p → second ≡ others)
     → (a : Status) (x : List ℕ) → DueOf c bytes others a x → DueOf c text second a x
@@ -62,6 +65,8 @@ same_due (cross options) text bytes second others e f a x d = subst (λ z. DueOf
 same_due (load start rows columns) text bytes second others e f a x d = d
 same_due (check options name) text bytes second others e f a x d =
     subst (λ z. DueOf (check options name) z second a x) (sym (e refl)) (subst (λ z. DueOf (check options name) bytes z a x) (sym (f (report_named name) refl)) d)
+same_due (edit options name) text bytes second others e f a x d =
+    subst (λ z. DueOf (edit options name) z second a x) (sym (e refl)) (subst (λ z. DueOf (edit options name) bytes z a x) (sym (f (script_named name) refl)) d)
 
 free_map : (Due Other : Status → List ℕ → Type 0) → ((a : Status) (x : List ℕ) → Due a x → Other a x) → (a : Status) (x : List ℕ) → IsDueOrFree Due a x → IsDueOrFree Other a x
 free_map Due Other f Done x p = f Done x p
@@ -69,6 +74,7 @@ free_map Due Other f (Rejected reason place found wanted) x p = f (Rejected reas
 free_map Due Other f (Usage kind) x p = f (Usage kind) x p
 free_map Due Other f (Layout command what) x p = f (Layout command what) x p
 free_map Due Other f (Limit kind count) x p = f (Limit kind count) x p
+free_map Due Other f (Script line kind) x p = f (Script line kind) x p
 free_map Due Other f ReadFault x p = p
 free_map Due Other f WriteFault x p = f WriteFault x p
 free_map Due Other f NoMemory x p = p
@@ -100,6 +106,7 @@ stops_at Due before now text kind most Done x w told none f = absurd w
 stops_at Due before now text kind most (Usage k) x w told none f = absurd w
 stops_at Due before now text kind most (Layout command what) x w told none f = absurd w
 stops_at Due before now text kind most (Rejected reason place found wanted) x w told none f = absurd w
+stops_at Due before now text kind most (Script line k) x w told none f = absurd w
 stops_at Due before now text kind most WriteFault x w told none f = absurd w
 
 -- why the layout of a command was not read whole
@@ -124,6 +131,9 @@ layout_limit c before now s t count w e f = let p = subst (StopsReading before n
 pub layout_no_limit : (c : PlainCommand) (before now : Seen) (s t : Status) (count : ℕ) (P : Type 0) → StopsLayout c before now s → t ≡ s → t ≡ Limit 9 count → P
 layout_no_limit c before now s t count P w e f = let p = subst (StopsReading before now 1 16777216) (sym e ∙ f) w.1 in absurd (omega (arith, p.0))
 
+pub layout_no_script : (c : PlainCommand) (before now : Seen) (s t : Status) (count : ℕ) (P : Type 0) → StopsLayout c before now s → t ≡ s → t ≡ Limit 10 count → P
+layout_no_script c before now s t count P w e f = let p = subst (StopsReading before now 1 16777216) (sym e ∙ f) w.1 in absurd (omega (arith, p.0))
+
 pub untouched : (o : Option Opened) (before : Seen) → IsSecondTouched o before before
 untouched None before = refl
 untouched (Some opened) before = inl refl
@@ -136,6 +146,7 @@ reading_bare before now kind most Done x w none = tt
 reading_bare before now kind most (Usage k) x w none = none
 reading_bare before now kind most (Layout command what) x w none = none
 reading_bare before now kind most (Rejected reason place found wanted) x w none = none
+reading_bare before now kind most (Script line k) x w none = none
 reading_bare before now kind most WriteFault x w none = w
 
 pub layout_bare : (c : PlainCommand) (before now : Seen) (s t : Status) (x : List ℕ) → StopsLayout c before now s → t ≡ s → x ≡ [] → IsBare t x
@@ -149,6 +160,7 @@ reading_status c before now Done e w = tt
 reading_status c before now (Usage k) e w = w
 reading_status c before now (Layout command what) e w = tt
 reading_status c before now (Rejected reason place found wanted) e w = absurd w
+reading_status c before now (Script line k) e w = absurd w
 reading_status c before now WriteFault e w = tt
 
 pub layout_status : (c : PlainCommand) (before now : Seen) (s t : Status) → StopsLayout c before now s → t ≡ s → IsStatusOf (Ok c) t
@@ -167,6 +179,7 @@ second_at Due o before now texts second Done x w told none f = absurd w
 second_at Due o before now texts second (Usage k) x w told none f = absurd w
 second_at Due o before now texts second (Layout command what) x w told none f = absurd w
 second_at Due o before now texts second (Rejected reason place found wanted) x w told none f = absurd w
+second_at Due o before now texts second (Script line k) x w told none f = absurd w
 second_at Due o before now texts second WriteFault x w told none f = absurd w
 
 opening_at : (c : PlainCommand) (o : Option Opened) → opens c ≡ o → (before now : Seen) (texts : Option Texts) (text second : List ℕ) (s : Status) (x : List ℕ) → StopsOpening o before now texts s
@@ -189,27 +202,57 @@ pub second_fault : (c : PlainCommand) (layout layout_now before now : Seen) (tex
     → IsReadFault (Ok c) layout layout_now before now
 second_fault c layout layout_now before now texts s t w e f = inr (opening_fault (opens c) before now texts (subst (StopsOpening (opens c) before now texts) (sym e ∙ f) w))
 
--- what is opened is a report
-report_is : (c : PlainCommand) (o : Opened) → opens c ≡ Some o → o.counted ≡ ReportBytes
-report_is (split options) o e = absurd (cc)
-report_is (balance options) o e = absurd (cc)
-report_is (cross options) o e = absurd (cc)
-report_is (load start rows columns) o e = absurd (cc)
-report_is (check options name) o e = let a : report_named name ≡ o = cc in ap (λ z. z.counted) (sym a)
+-- what is opened is a report or a script
+counted_is : (c : PlainCommand) (o : Opened) → opens c ≡ Some o → (o.counted ≡ ReportBytes) ⊎ (o.counted ≡ ScriptBytes)
+counted_is (split options) o e = absurd (cc)
+counted_is (balance options) o e = absurd (cc)
+counted_is (cross options) o e = absurd (cc)
+counted_is (load start rows columns) o e = absurd (cc)
+counted_is (check options name) o e = let a : report_named name ≡ o = cc in inl (ap (λ z. z.counted) (sym a))
+counted_is (edit options name) o e = let a : script_named name ≡ o = cc in inr (ap (λ z. z.counted) (sym a))
 
-opening_limit : (c : PlainCommand) (o : Option Opened) → opens c ≡ o → (before now : Seen) (texts : Option Texts) (k n : ℕ) → StopsOpening o before now texts (Limit k n) → (k ≡ 9) × PassesBytes 268435457 n before now
-opening_limit c None is before now texts k n w = absurd w
-opening_limit c (Some o) is before now texts k n w =
-    let r = report_is c o is in
+-- so its limit is the one or the other
+abbrev PassesOpened : ℕ → ℕ → Seen → Seen → Type 0
+PassesOpened k n before now = ((k ≡ 9) × PassesBytes 268435457 n before now) ⊎ ((k ≡ 10) × PassesBytes 65537 n before now)
+
+opened_limit : (o : Opened) (before now : Seen) (texts : Option Texts) (k n : ℕ) → (o.counted ≡ ReportBytes) ⊎ (o.counted ≡ ScriptBytes) → StopsSecond o before now texts (Limit k n) → PassesOpened k n before now
+opened_limit o before now texts k n (inl r) w =
     let kind : number_of o.counted ≡ 9 = ap number_of r in
     let most : most_of o.counted ≡ 268435456 = ap most_of r in
-    (w.0 ∙ kind, subst (λ z. (n ≡ z + 1) × RoseBy (z + 1) before.given now.given) most (w.1, w.2))
+    inl (w.0 ∙ kind, subst (λ z. (n ≡ z + 1) × RoseBy (z + 1) before.given now.given) most (w.1, w.2))
+opened_limit o before now texts k n (inr r) w =
+    let kind : number_of o.counted ≡ 10 = ap number_of r in
+    let most : most_of o.counted ≡ 65536 = ap most_of r in
+    inr (w.0 ∙ kind, subst (λ z. (n ≡ z + 1) × RoseBy (z + 1) before.given now.given) most (w.1, w.2))
+
+opening_limit : (c : PlainCommand) (o : Option Opened) → opens c ≡ o → (before now : Seen) (texts : Option Texts) (k n : ℕ) → StopsOpening o before now texts (Limit k n) → PassesOpened k n before now
+opening_limit c None is before now texts k n w = absurd w
+opening_limit c (Some o) is before now texts k n w = opened_limit o before now texts k n (counted_is c o is) w
+
+-- the status is that of a text that is opened and was not read whole
+stopped_limit : (c : PlainCommand) (before now : Seen) (texts : Option Texts) (s t : Status) (k count : ℕ) → StopsOpening (opens c) before now texts s → t ≡ s → t ≡ Limit k count → PassesOpened k count before now
+stopped_limit c before now texts s t k count w e f = opening_limit c (opens c) refl before now texts k count (subst (StopsOpening (opens c) before now texts) (sym e ∙ f) w)
+
+limit_of_report : (count : ℕ) (before now : Seen) → PassesOpened 9 count before now → PassesBytes 268435457 count before now
+limit_of_report count before now (inl p) = p.1
+limit_of_report count before now (inr p) = absurd (omega (arith, p.0))
+
+limit_of_script : (count : ℕ) (before now : Seen) → PassesOpened 10 count before now → PassesBytes 65537 count before now
+limit_of_script count before now (inl p) = absurd (omega (arith, p.0))
+limit_of_script count before now (inr p) = p.1
+
+no_limit_of_bytes : (count : ℕ) (before now : Seen) → PassesOpened 1 count before now → ⊥
+no_limit_of_bytes count before now (inl p) = omega (arith, p.0)
+no_limit_of_bytes count before now (inr p) = omega (arith, p.0)
 
 pub second_limit : (c : PlainCommand) (before now : Seen) (texts : Option Texts) (s t : Status) (count : ℕ) → StopsOpening (opens c) before now texts s → t ≡ s → t ≡ Limit 9 count → PassesBytes 268435457 count before now
-second_limit c before now texts s t count w e f = (opening_limit c (opens c) refl before now texts 9 count (subst (StopsOpening (opens c) before now texts) (sym e ∙ f) w)).1
+second_limit c before now texts s t count w e f = limit_of_report count before now (stopped_limit c before now texts s t 9 count w e f)
+
+pub second_script : (c : PlainCommand) (before now : Seen) (texts : Option Texts) (s t : Status) (count : ℕ) → StopsOpening (opens c) before now texts s → t ≡ s → t ≡ Limit 10 count → PassesBytes 65537 count before now
+second_script c before now texts s t count w e f = limit_of_script count before now (stopped_limit c before now texts s t 10 count w e f)
 
 pub second_no_limit : (c : PlainCommand) (before now : Seen) (texts : Option Texts) (s t : Status) (count : ℕ) (P : Type 0) → StopsOpening (opens c) before now texts s → t ≡ s → t ≡ Limit 1 count → P
-second_no_limit c before now texts s t count P w e f = let p = opening_limit c (opens c) refl before now texts 1 count (subst (StopsOpening (opens c) before now texts) (sym e ∙ f) w) in absurd (omega (arith, p.0))
+second_no_limit c before now texts s t count P w e f = absurd (no_limit_of_bytes count before now (stopped_limit c before now texts s t 1 count w e f))
 
 opening_bare : (o : Option Opened) (before now : Seen) (texts : Option Texts) (s : Status) (x : List ℕ) → StopsOpening o before now texts s → x ≡ [] → IsBare s x
 opening_bare None before now texts s x w none = absurd w
@@ -220,6 +263,7 @@ opening_bare (Some o) before now texts Done x w none = tt
 opening_bare (Some o) before now texts (Usage k) x w none = none
 opening_bare (Some o) before now texts (Layout command what) x w none = none
 opening_bare (Some o) before now texts (Rejected reason place found wanted) x w none = none
+opening_bare (Some o) before now texts (Script line k) x w none = none
 opening_bare (Some o) before now texts WriteFault x w none = w
 
 pub second_bare : (c : PlainCommand) (before now : Seen) (texts : Option Texts) (s t : Status) (x : List ℕ) → StopsOpening (opens c) before now texts s → t ≡ s → x ≡ [] → IsBare t x
@@ -234,6 +278,7 @@ opening_status c (Some o) is before now texts Done w = tt
 opening_status c (Some o) is before now texts (Usage k) w = w
 opening_status c (Some o) is before now texts (Layout command what) w = tt
 opening_status c (Some o) is before now texts (Rejected reason place found wanted) w = absurd w
+opening_status c (Some o) is before now texts (Script line k) w = absurd w
 opening_status c (Some o) is before now texts WriteFault w = tt
 
 pub second_status : (c : PlainCommand) (before now : Seen) (texts : Option Texts) (s t : Status) → StopsOpening (opens c) before now texts s → t ≡ s → IsStatusOf (Ok c) t

@@ -6,7 +6,7 @@ use Rattle.std.specs.Io.KnownBytes.{Appends, Keeps}
 use Rattle.dpl_ext.specs.Device.{Texts, Rose}
 use Rattle.dpl_words.specs.Commands.{PlainCommand, command_of}
 use Rattle.dpl_run.specs.declared.status.Status.{Status}
-use Rattle.dpl_run.specs.declared.status.Status.TheVariants.{Done, Rejected, Usage, Layout, Limit, ReadFault, WriteFault, NoMemory}
+use Rattle.dpl_run.specs.declared.status.Status.TheVariants.{Done, Rejected, Usage, Layout, Limit, Script, ReadFault, WriteFault, NoMemory}
 use Rattle.dpl_run.specs.Answer.{Answers, IsAnswered, IsCut, IsDue, IsDueOf, IsQuiet, IsStatusOf}
 use Rattle.dpl_run.specs.Devices.{AreTold}
 use Rattle.dpl_run.specs.Telling.{IsBare, IsDueOrFree, IsTold}
@@ -30,6 +30,7 @@ whole Due sound before now (Rejected reason place found wanted) x p t = record {
 whole Due sound before now (Usage kind) x p t = record { output = x; due = p; taken = t }
 whole Due sound before now (Limit kind count) x p t = record { output = x; due = p; taken = t }
 whole Due sound before now (Layout command what) x p t = record { output = x; due = p; taken = t }
+whole Due sound before now (Script line kind) x p t = record { output = x; due = p; taken = t }
 
 -- something was to be written, so it is what is due where all is done
 some : (Due : Status → List ℕ → Type 0) → IsSound Due → (a : Status) (x : List ℕ) → IsDueOrFree Due a x → x ≢ [] → Due Done x
@@ -41,6 +42,7 @@ some Due sound (Rejected reason place found wanted) x p n = absurd (n (sound (Re
 some Due sound (Usage kind) x p n = absurd (n (sound (Usage kind) x p))
 some Due sound (Limit kind count) x p n = absurd (n (sound (Limit kind count) x p))
 some Due sound (Layout command what) x p n = absurd (n (sound (Layout command what) x p))
+some Due sound (Script line kind) x p n = absurd (n (sound (Script line kind) x p))
 
 pub told_answers : (Due : Status → List ℕ → Type 0) → IsSound Due → (before now : Option (List ℕ)) (f g : ℕ) (a : Status) (x : List ℕ) (result : Status)
     → IsDueOrFree Due a x → IsTold a x before now f g result → Answers Due before now result
@@ -56,6 +58,7 @@ comes Due once before now due (Rejected reason place found wanted) x w p n = inl
 comes Due once before now due (Usage kind) x w p n = inl (once _ due w.output x w.due p)
 comes Due once before now due (Limit kind count) x w p n = inl (once _ due w.output x w.due p)
 comes Due once before now due (Layout command what) x w p n = inl (once _ due w.output x w.due p)
+comes Due once before now due (Script line kind) x w p n = inl (once _ due w.output x w.due p)
 
 -- ---- for a command
 
@@ -88,6 +91,7 @@ quiet_of (Rejected reason place found wanted) x before now b a = keeps_none befo
 quiet_of (Usage kind) x before now b a = keeps_none before now (subst (Appends before now) b a)
 quiet_of (Limit kind count) x before now b a = keeps_none before now (subst (Appends before now) b a)
 quiet_of (Layout command what) x before now b a = keeps_none before now (subst (Appends before now) b a)
+quiet_of (Script line kind) x before now b a = keeps_none before now (subst (Appends before now) b a)
 
 pub told_quiet : (a : Status) (x : List ℕ) (before now : Option (List ℕ)) (f g : ℕ) (result : Status) → IsBare a x → IsTold a x before now f g result → IsQuiet before now result
 told_quiet a x before now f g result b (inl w) = subst (IsQuiet before now) (sym w.status_is) (quiet_of a x before now b w.taken)

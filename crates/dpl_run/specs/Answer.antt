@@ -7,15 +7,16 @@ use Rattle.dpl_limits.specs.declared.counted.Counted.TheVariants.{LayoutBytes}
 use Rattle.dpl_limits.specs.Limits.{number_of, most_of}
 use Rattle.dpl_ext.specs.Device.{AppendsFront}
 use Rattle.dpl_gen.specs.Layout.{layout}
-use Rattle.dpl_words.specs.Commands.{PlainCommand, split, check, load, cross, balance, command_of}
+use Rattle.dpl_words.specs.Commands.{PlainCommand, split, check, load, cross, edit, balance, command_of}
 use Rattle.dpl_run.specs.declared.status.Status.{Status}
-use Rattle.dpl_run.specs.declared.status.Status.TheVariants.{Done, Rejected, Usage, Limit, ReadFault, WriteFault, NoMemory}
-use Rattle.dpl_run.specs.Inputs.{Opened, reads_layout, opens, judges, colours}
+use Rattle.dpl_run.specs.declared.status.Status.TheVariants.{Done, Rejected, Usage, Limit, Script, ReadFault, WriteFault, NoMemory}
+use Rattle.dpl_run.specs.Inputs.{Opened, reads_layout, opens, judges, follows, colours}
 use Rattle.dpl_run.specs.due.Split.{IsSplitDue}
 use Rattle.dpl_run.specs.due.Balance.{IsBalanceDue}
 use Rattle.dpl_run.specs.due.Check.{IsCheckDue}
 use Rattle.dpl_run.specs.due.Load.{IsLoadDue, made_options}
 use Rattle.dpl_run.specs.due.Cross.{IsCrossDue}
+use Rattle.dpl_run.specs.due.Edit.{IsEditDue}
 
 -- ---- what is due
 
@@ -26,6 +27,7 @@ DueOf (check options name) text second = IsCheckDue options text second
 DueOf (load start rows columns) text second =
     IsLoadDue made_options (layout start rows columns)
 DueOf (cross options) text second = IsCrossDue options text
+DueOf (edit options name) text second = IsEditDue options text second
 DueOf (balance options) text second = IsBalanceDue options text
 
 -- the layout is within its limit, where it is read
@@ -103,10 +105,11 @@ IsLimitOf c kind = ((kind ≡ 1) × (reads_layout c ≡ true)) ⊎ ((2 ≤ kind)
     ((opened : Opened) × (opens c ≡ Some opened) × (kind ≡ number_of opened.counted))
 
 -- Words that ask for nothing are answered so, but for want of memory, and no others are. Only a command that judges
--- rejects, and each passes its own limits alone.
+-- rejects, only one that follows a script names a line of it, and each passes its own limits alone.
 abbrev pub IsStatusOf : Result PlainCommand ℕ → Status → Type 0
 IsStatusOf (Err kind) status = (status ≡ Usage kind) ⊎ (status ≡ NoMemory)
 IsStatusOf (Ok c) (Usage kind) = ⊥
 IsStatusOf (Ok c) (Rejected reason place found wanted) = judges c ≡ true
 IsStatusOf (Ok c) (Limit kind count) = IsLimitOf c kind
+IsStatusOf (Ok c) (Script line kind) = follows c ≡ true
 IsStatusOf (Ok c) status = ⊤

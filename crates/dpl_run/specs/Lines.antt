@@ -8,7 +8,7 @@ use Rattle.dpl_euler.specs.declared.types.Crossing.{Crossing}
 use Rattle.dpl_euler.specs.declared.types.With.{With}
 use Rattle.dpl_euler.specs.declared.types.With.TheVariants.{Link, Fragment}
 use Rattle.dpl_run.specs.declared.status.Status.{Status}
-use Rattle.dpl_run.specs.declared.status.Status.TheVariants.{Done, Rejected, Usage, Limit, Layout, ReadFault, WriteFault, NoMemory}
+use Rattle.dpl_run.specs.declared.status.Status.TheVariants.{Done, Rejected, Usage, Limit, Layout, Script, ReadFault, WriteFault, NoMemory}
 
 -- the exit status
 abbrev pub code_of : Status → ℕ
@@ -20,6 +20,7 @@ code_of (Limit kind count) = 4
 code_of ReadFault = 5
 code_of WriteFault = 6
 code_of NoMemory = 7
+code_of (Script line kind) = 8
 
 -- the number of a rule of the layout
 abbrev pub what_number : What → ℕ
@@ -49,6 +50,8 @@ line_of (Layout command rule) = codes "dpl: layout " ++ decimal (what_number rul
     ++ codes " at command " ++ decimal command ++ codes "\n"
 line_of (Limit kind count) =
     codes "dpl: limit " ++ decimal kind ++ codes " count " ++ decimal count ++ codes "\n"
+line_of (Script line kind) =
+    codes "dpl: script " ++ decimal kind ++ codes " at line " ++ decimal line ++ codes "\n"
 line_of ReadFault = codes "dpl: read fault\n"
 line_of WriteFault = codes "dpl: write fault\n"
 line_of NoMemory = codes "dpl: no memory\n"

@@ -4,3 +4,4 @@ pub mod Balance
 pub mod Check
 pub mod Load
 pub mod Cross
+pub mod Edit

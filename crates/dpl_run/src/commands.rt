@@ -10,6 +10,7 @@ ghost use Rattle.dpl_run.specs.Telling.{IsWorked};
 mod balance;
 mod check;
 mod cross;
+mod edit;
 mod load;
 mod split;
 
@@ -19,6 +20,7 @@ use check::check_bytes;
 use cross::cross_bytes;
 use dpl_lex::types::Commands;
 use dpl_words::Command;
+use edit::edit_bytes;
 use load::load_made;
 use split::split_bytes;
 use std::alloc::Global;
@@ -44,6 +46,7 @@ pub fn carry_out(
         Command::Balance(options) => balance_bytes(alloc, options, text, commands),
         Command::Cross(options) => cross_bytes(alloc, options, text, commands),
         Command::Check { options, .. } => check_bytes(alloc, options, text, second),
+        Command::Edit { options, .. } => edit_bytes(alloc, options, text, commands, second),
         Command::Load {
             start,
             rows,

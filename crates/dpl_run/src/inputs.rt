@@ -25,6 +25,7 @@ pub fn reads_layout(command: &Command) -> bool
         Command::Balance(_) => true,
         Command::Cross(_) => true,
         Command::Check { .. } => true,
+        Command::Edit { .. } => true,
         Command::Load { .. } => false,
     }
 }
@@ -69,6 +70,9 @@ pub fn second_for<F: Shelf>(
         Command::Cross(_) => Ok(Vec::new(alloc)),
         Command::Check { report, .. } => {
             second_of(alloc, report.as_str(), Counted::ReportBytes, second)
+        }
+        Command::Edit { script, .. } => {
+            second_of(alloc, script.as_str(), Counted::ScriptBytes, second)
         }
         Command::Load { .. } => Ok(Vec::new(alloc)),
     }

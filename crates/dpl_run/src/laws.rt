@@ -3,11 +3,11 @@ ghost use Rattle.std.specs.Prelude.{◌≡◌, ◌≢◌, ◌⊎◌, ◌↔◌, 
 ghost use Rattle.dpl_limits.specs.declared.TheConstants.{MOST_LAYOUT_BYTES};
 ghost use Rattle.dpl_ext.specs.Device.{Seen, Texts, last_count};
 ghost use Rattle.dpl_options.specs.Options.{PlainOptions};
-ghost use Rattle.dpl_words.specs.Commands.{PlainCommand, split, check, load, cross};
+ghost use Rattle.dpl_words.specs.Commands.{PlainCommand, split, check, load, cross, edit};
 ghost use Rattle.dpl_run.specs.Answer.{Answers, IsAnswered, IsDue, IsDueOf, IsQuiet, IsStatusOf};
 ghost use Rattle.dpl_run.specs.Devices.{AreSteady, AreTold, AsksFor, IsReadFault, IsTouched, PassesBytes};
 ghost use Rattle.dpl_run.specs.declared.status.Status.{Status};
-ghost use Rattle.dpl_run.specs.declared.status.Status.TheVariants.{Done, Rejected, Usage, Limit, NoMemory, ReadFault, WriteFault};
+ghost use Rattle.dpl_run.specs.declared.status.Status.TheVariants.{Done, Rejected, Usage, Limit, Script, NoMemory, ReadFault, WriteFault};
 
 /// Devices that tell: a layout that is left, and a text that is the first of its name. A made layout needs none.
 pub fn devices_tell()
@@ -15,6 +15,8 @@ pub fn devices_tell()
         AreTold (Ok (split o)) (Some text) texts text second }
     ensures check { (o : PlainOptions) (name text second : List ℕ) (others : Texts) →
         AreTold (Ok (check o name)) (Some text) (Some ((name, second) ∷ others)) text second }
+    ensures edit { (o : PlainOptions) (name text second : List ℕ) (others : Texts) →
+        AreTold (Ok (edit o name)) (Some text) (Some ((name, second) ∷ others)) text second }
     ensures load { (start rows columns : ℕ) (left : Option (List ℕ)) (texts : Option Texts)
         (text second : List ℕ) → AreTold (Ok (load start rows columns)) left texts text second }
     ensures wrong_words { (kind : ℕ) (left : Option (List ℕ)) (texts : Option Texts)
@@ -90,7 +92,7 @@ pub fn devices_are_left()
 {}
 
 /// Words are wrong exactly where the answer says so, but for want of memory; `check` alone rejects and has a limit on its
-/// report, and neither `check` nor `cross` counts odd faces. No device is asked for that.
+/// report, `edit` alone names a line and has a limit on its script, and neither `check` nor `cross` counts odd faces. No device is asked for that.
 pub fn words_leave_statuses()
     ensures wrong_words { (kind : ℕ) (status : Status) → IsStatusOf (Err kind) status →
         status ≢ NoMemory → status ≡ Usage kind }
@@ -100,10 +102,14 @@ pub fn words_leave_statuses()
         (o : PlainOptions) × (name : List ℕ) × (c ≡ check o name) }
     ensures report { (c : PlainCommand) (count : ℕ) → IsStatusOf (Ok c) (Limit 9 count) →
         (o : PlainOptions) × (name : List ℕ) × (c ≡ check o name) }
+    ensures script { (c : PlainCommand) (count : ℕ) → IsStatusOf (Ok c) (Limit 10 count) →
+        (o : PlainOptions) × (name : List ℕ) × (c ≡ edit o name) }
+    ensures line { (c : PlainCommand) (line kind : ℕ) → IsStatusOf (Ok c) (Script line kind) →
+        (o : PlainOptions) × (name : List ℕ) × (c ≡ edit o name) }
     ensures check { (o : PlainOptions) (name : List ℕ) (count : ℕ) →
         ¬ IsStatusOf (Ok (check o name)) (Limit 8 count) }
     ensures cross { (o : PlainOptions) (count : ℕ) →
         ¬ IsStatusOf (Ok (cross o)) (Limit 8 count) }
     ensures limits { (c : PlainCommand) (kind count : ℕ) → IsStatusOf (Ok c) (Limit kind count) →
-        (1 ≤ kind) × (kind ≤ 9) }
+        (1 ≤ kind) × (kind ≤ 10) }
 {}

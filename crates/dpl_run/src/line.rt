@@ -93,6 +93,13 @@ pub fn status_line(status: Status) -> Line
             push_number(&mut line, count);
             line.push(b"\n");
         }
+        Status::Script { line: place, kind } => {
+            line.push(b"dpl: script ");
+            push_number(&mut line, u64::from(kind));
+            line.push(b" at line ");
+            push_number(&mut line, place);
+            line.push(b"\n");
+        }
         Status::ReadFault => line.push(b"dpl: read fault\n"),
         Status::WriteFault => line.push(b"dpl: write fault\n"),
         Status::NoMemory => line.push(b"dpl: no memory\n"),

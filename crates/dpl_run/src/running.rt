@@ -1,7 +1,7 @@
 // The program over its devices.
 ghost use Rattle.std.specs.Prelude.{◌+◌, ◌≡◌, ◌≢◌, ℕ, List, Some, Ok, map, string_bytes};
 ghost use Rattle.std.specs.Io.KnownBytes.{Appends};
-ghost use Rattle.dpl_limits.specs.declared.TheConstants.{MOST_LAYOUT_BYTES, MOST_REPORT_BYTES};
+ghost use Rattle.dpl_limits.specs.declared.TheConstants.{MOST_LAYOUT_BYTES, MOST_REPORT_BYTES, MOST_SCRIPT_BYTES};
 ghost use Rattle.dpl_ext.specs.Device.{Rose, AppendsFront};
 ghost use Rattle.dpl_options.specs.Options.{PlainOptions};
 ghost use Rattle.dpl_words.specs.Commands.{check, command_of};
@@ -18,8 +18,8 @@ use dpl_ext::{Shelf, Sink, Source, write_all};
 use dpl_words::{UsageError, parse};
 use std::alloc::Global;
 
-/// Does what the words ask for: every command but `load` reads the layout from `layout`, `check` opens its report in
-/// `second`, and what is due is written to `out`, a line to `err` where the status is not `Done`.
+/// Does what the words ask for: every command but `load` reads the layout from `layout`, `check` opens its report and
+/// `edit` its script in `second`, and what is due is written to `out`, a line to `err` where the status is not `Done`.
 pub fn run<S: Source, F: Shelf, O: Sink, E: Sink>(
     alloc: Global,
     words: &[String],
@@ -66,6 +66,8 @@ pub fn run<S: Source, F: Shelf, O: Sink, E: Sink>(
         PassesBytes (MOST_LAYOUT_BYTES + 1) count (S.seen layout.old) (S.seen layout.new) }
     ensures report_limit { (count : ℕ) → result ≡ Status.Limit 9 count →
         PassesBytes (MOST_REPORT_BYTES + 1) count (F.seen second.old) (F.seen second.new) }
+    ensures script_limit { (count : ℕ) → result ≡ Status.Limit 10 count →
+        PassesBytes (MOST_SCRIPT_BYTES + 1) count (F.seen second.old) (F.seen second.new) }
     ensures touched { IsTouched (command_of (map string_bytes words.now)) (S.seen layout.old)
         (S.seen layout.new) (F.seen second.old) (F.seen second.new) }
     ensures steady { result ≢ Status.ReadFault → result ≢ Status.WriteFault
@@ -104,6 +106,8 @@ fn attempt<S: Source, F: Shelf, O: Sink>(
         PassesBytes (MOST_LAYOUT_BYTES + 1) count (S.seen layout.old) (S.seen layout.new) }
     ensures report_limit { (count : ℕ) → result ≡ Status.Limit 9 count →
         PassesBytes (MOST_REPORT_BYTES + 1) count (F.seen second.old) (F.seen second.new) }
+    ensures script_limit { (count : ℕ) → result ≡ Status.Limit 10 count →
+        PassesBytes (MOST_SCRIPT_BYTES + 1) count (F.seen second.old) (F.seen second.new) }
     ensures touched { IsTouched (command_of (map string_bytes words.now)) (S.seen layout.old)
         (S.seen layout.new) (F.seen second.old) (F.seen second.new) }
     ensures steady { result ≢ Status.ReadFault → result ≢ Status.WriteFault

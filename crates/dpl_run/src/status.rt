@@ -21,10 +21,15 @@ pub enum Status {
         command: u32,
         what: What,
     },
-    /// The number of the limit that is passed, from 1 to 9, and the count that passes it.
+    /// The number of the limit that is passed, from 1 to 10, and the count that passes it.
     Limit {
         kind: u8,
         count: u64,
+    },
+    /// The line of the script that is not of the form (1) or removes a box that is not there (2), from 1.
+    Script {
+        line: u64,
+        kind: u8,
     },
     ReadFault,
     WriteFault,
@@ -47,6 +52,7 @@ impl Status {
             Status::ReadFault => 5,
             Status::WriteFault => 6,
             Status::NoMemory => 7,
+            Status::Script { .. } => 8,
         }
     }
 }

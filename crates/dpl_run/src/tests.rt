@@ -11,7 +11,7 @@ struct Ended {
     err: MemSink,
 }
 
-/// Devices in memory: the layout, the report under the name `r`, the numbers of the calls that fail, and how many
+/// Devices in memory: the layout, the report or the script under the name `r`, the numbers of the calls that fail, and how many
 /// bytes the output takes at once.
 #[derive(Drop)]
 struct World {
@@ -66,6 +66,8 @@ const CHECK: &str = "check --layer M --space 100 --overlap 20 --report r";
 const CROSS: &str = "cross --layer M --space 100 --overlap 20";
 
 const BALANCE: &str = "balance --layer M --space 100 --overlap 20";
+
+const EDIT: &str = "edit --layer M --space 100 --overlap 20 --script r";
 
 const TWO: &[u8] = b"L M; B 100 100 50 50; B 100 100 200 50; E";
 
@@ -182,6 +184,78 @@ fn masks_of_the_same_area(rt: HostRuntime) -> Result<(), Fail> {
         )?;
         assert_eq!(rt; read.out.bytes(), b"yes cost 0 bound 0\n".as_slice());
     }
+    Ok(())
+}
+
+/// A third box makes an odd triangle of two, and without it nothing is broken.
+#[test]
+fn a_box_is_added_and_removed(rt: HostRuntime) -> Result<(), Fail> {
+    let both = b"add 150 300 350 500\nremove 0\n".as_slice();
+    for (script, drawn, told) in [
+        (&both[..20], TRIANGLE, "yes cost 10 bound 20\n"),
+        (both, TWO, "yes cost 0 bound 0\n"),
+        (b"".as_slice(), TWO, "yes cost 0 bound 0\n"),
+    ] {
+        let made = run_over(rt.alloc(), EDIT, devices(rt.alloc(), TWO, script)?)?;
+        assert_eq!(rt; made.status, Status::Done);
+        let read = run_over(
+            rt.alloc(),
+            CHECK,
+            devices(rt.alloc(), drawn, made.out.bytes())?,
+        )?;
+        assert_eq!(rt; read.out.bytes(), told.as_bytes());
+    }
+    Ok(())
+}
+
+/// The first line that stops is told, and nothing is written.
+#[test]
+fn scripts_that_stop(rt: HostRuntime) -> Result<(), Fail> {
+    let missing = b"add 150 300 350 500\nremove 0\nremove 0\n".as_slice();
+    for (script, line, kind, told) in [
+        (missing, 3u64, 2u8, "dpl: script 2 at line 3\n"),
+        (
+            b"add 0 0 0 5\n".as_slice(),
+            1,
+            1,
+            "dpl: script 1 at line 1\n",
+        ),
+        (
+            b"remove 7\nadd 0 0 5 5".as_slice(),
+            2,
+            1,
+            "dpl: script 1 at line 2\n",
+        ),
+    ] {
+        let ended = run_over(rt.alloc(), EDIT, devices(rt.alloc(), TWO, script)?)?;
+        assert_eq!(rt; ended.status, Status::Script { line, kind });
+        assert_eq!(rt; ended.status.code(), 8u8);
+        assert_eq!(rt; ended.err.bytes(), told.as_bytes());
+        assert_eq!(rt; ended.out.bytes().len(), 0);
+    }
+    Ok(())
+}
+
+/// One byte more than a script may have.
+#[test]
+fn a_long_script(rt: HostRuntime) -> Result<(), Fail> {
+    let mut script = Vec::new(rt.alloc());
+    for _byte in 0..65_537u32 {
+        script.push(b'1')?;
+    }
+    let ended = run_over(
+        rt.alloc(),
+        EDIT,
+        devices(rt.alloc(), TWO, script.as_slice())?,
+    )?;
+    assert_eq!(rt;
+        ended.status,
+        Status::Limit {
+            kind: 10,
+            count: 65_537,
+        }
+    );
+    assert_eq!(rt; ended.out.bytes().len(), 0);
     Ok(())
 }
 

@@ -4,7 +4,7 @@ use Rattle.dpl_run.specs.Inputs.{opens}
 use Rattle.dpl_run.specs.Answer.{DueOf}
 use Rattle.dpl_run.proofs.EndLemmas.{worked_bare, worked_limit, worked_no_fault, worked_status}
 use Rattle.dpl_run.proofs.DueLemmas.{all_end}
-use Rattle.dpl_run.proofs.ReadingLemmas.{carried_due, layout_due, layout_fault, layout_limit, layout_no_limit, layout_bare, layout_status, untouched, second_due, second_fault, second_limit, second_no_limit, second_bare, second_status}
+use Rattle.dpl_run.proofs.ReadingLemmas.{carried_due, layout_due, layout_fault, layout_limit, layout_no_limit, layout_no_script, layout_bare, layout_status, untouched, second_due, second_fault, second_limit, second_script, second_no_limit, second_bare, second_status}
 use Rattle.dpl_run.proofs.SteadyLemmas.{steady_ok, steady_stop}
 use Rattle.dpl_run.proofs.answering.due_for.Goals as goal
 
@@ -25,6 +25,10 @@ returns-in-Err-clause-limit g c = λ count.
 pub returns-in-Err-clause-report_limit : goal.returns-in-Err-clause-report_limit
 returns-in-Err-clause-report_limit g c = λ count.
     layout_no_limit (plain_command c.args.command.now) (g.S.Source.seen c.args.layout.now) (g.S.Source.seen c.layout_for.new.layout) c.in-Err.status _ count _ (rw c.reads_layout.ensures at c.in-Err.ensures.stops) c.bare.ensures.status
+
+pub returns-in-Err-clause-script_limit : goal.returns-in-Err-clause-script_limit
+returns-in-Err-clause-script_limit g c = λ count.
+    layout_no_script (plain_command c.args.command.now) (g.S.Source.seen c.args.layout.now) (g.S.Source.seen c.layout_for.new.layout) c.in-Err.status _ count _ (rw c.reads_layout.ensures at c.in-Err.ensures.stops) c.bare.ensures.status
 
 pub returns-in-Err-clause-touched : goal.returns-in-Err-clause-touched
 returns-in-Err-clause-touched g c = (rw c.reads_layout.ensures at c.layout_for.ensures.touched, untouched (opens (plain_command c.args.command.now)) (g.F.Source.seen c.args.second.now))
@@ -59,6 +63,10 @@ returns-clause-limit g c = λ count.
 pub returns-clause-report_limit : goal.returns-clause-report_limit
 returns-clause-report_limit g c = λ count.
     second_limit (plain_command c.args.command.now) (g.F.Source.seen c.args.second.now) (g.F.Source.seen c.second_for.new.second) (g.F.Shelf.texts c.args.second.now) c.in-Err-second_for.status _ count c.in-Err-second_for.ensures.stops c.bare-in-Err-second_for.ensures.status
+
+pub returns-clause-script_limit : goal.returns-clause-script_limit
+returns-clause-script_limit g c = λ count.
+    second_script (plain_command c.args.command.now) (g.F.Source.seen c.args.second.now) (g.F.Source.seen c.second_for.new.second) (g.F.Shelf.texts c.args.second.now) c.in-Err-second_for.status _ count c.in-Err-second_for.ensures.stops c.bare-in-Err-second_for.ensures.status
 
 pub returns-clause-touched : goal.returns-clause-touched
 returns-clause-touched g c = (rw c.reads_layout.ensures at c.layout_for.ensures.touched, c.second_for.ensures.touched)
@@ -96,6 +104,11 @@ returns-in-Ok-second_for-clause-limit g c = λ count e.
 pub returns-in-Ok-second_for-clause-report_limit : goal.returns-in-Ok-second_for-clause-report_limit
 returns-in-Ok-second_for-clause-report_limit g c = λ count e.
     let k = worked_limit (plain_command c.args.command.now) (DueOf (plain_command c.args.command.now) c.as_slice.result.now c.as_slice-in-Ok-second_for.result.now) (all_end (plain_command c.args.command.now) c.as_slice.result.now c.as_slice-in-Ok-second_for.result.now) _ _ 9 count c.carry_out.ensures e in
+    absurd (omega (arith, k.1))
+
+pub returns-in-Ok-second_for-clause-script_limit : goal.returns-in-Ok-second_for-clause-script_limit
+returns-in-Ok-second_for-clause-script_limit g c = λ count e.
+    let k = worked_limit (plain_command c.args.command.now) (DueOf (plain_command c.args.command.now) c.as_slice.result.now c.as_slice-in-Ok-second_for.result.now) (all_end (plain_command c.args.command.now) c.as_slice.result.now c.as_slice-in-Ok-second_for.result.now) _ _ 10 count c.carry_out.ensures e in
     absurd (omega (arith, k.1))
 
 pub returns-in-Ok-second_for-clause-bare : goal.returns-in-Ok-second_for-clause-bare

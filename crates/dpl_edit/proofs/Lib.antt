@@ -1,0 +1,5 @@
+pub mod ContentLemmas
+pub mod RefusalLemmas
+pub mod OrderLemmas
+pub mod KeepLemmas
+pub mod SessionLemmas

@@ -1,0 +1,18 @@
+use Rattle.std.proofs.Common.{◌≡◌, subst, ◌∙◌}
+use Rattle.dpl_report.specs.Plain.{plain_report}
+use Rattle.dpl_edit.specs.Sessions.{IsReportOf, State}
+use Rattle.dpl_edit.proofs.sessions.Session.report.Goals as goal
+
+pub returns : goal.returns
+returns c =
+    let layer = c.self.invariant.solved.layer in
+    subst (λ (z : State). IsReportOf z (plain_report c.in_ok-report.report)) c.self.view_is (record {
+      of_cells = record {
+        fragments = c.self.inside.solved.layer.fragments;
+        net = c.self.inside.solved.layer.net;
+        layer = layer;
+        report = c.report_is_of_the_layer.ensures.report;
+        masks = c.report_is_of_the_layer.ensures.masks _ _ layer;
+      };
+      colours = c.in_ok-report.ensures.colours ∙ c.in_ok-solution.ensures.colours;
+    })

@@ -1,0 +1,64 @@
+-- The content of a session, and which limits it passes. That boxes come and go one after another is this project's own.
+use Rattle.std.specs.Prelude.{◌≡◌, ◌⊎◌, ◌<◌, ◌≤◌, ◌==◌, ℕ, Bool, not, List, ◌++◌, length, map, filter, sum_by, true}
+use Rattle.std.specs.List.{list_any}
+use Rattle.dpl_limits.specs.Limits.{number_of, most_of}
+use Rattle.dpl_limits.specs.declared.counted.Counted.TheVariants as Counted
+use Rattle.dpl_calls.specs.Totals.{shown}
+use Rattle.dpl_cell.specs.declared.layout.Primitive.{Primitive}
+use Rattle.dpl_cell.specs.declared.layout.Primitive.TheVariants.{Box, Poly}
+use Rattle.dpl_cell.specs.Outlines.{outline_of}
+use Rattle.dpl_cell.specs.Layers.{is_cell}
+use Rattle.dpl_options.specs.Options.{PlainOptions}
+use Rattle.dpl_layer.specs.Drawings.{Cells}
+use Rattle.dpl_layer.specs.declared.error.LayerError.{LayerError}
+use Rattle.dpl_layer.specs.declared.error.LayerError.TheVariants as layer
+use Rattle.dpl_layer.specs.Refusals.{RefusesCells}
+use Rattle.dpl_core.specs.Refusals.{HasOddNet}
+use Rattle.dpl_edit.specs.declared.placed.Placed.{Placed}
+use Rattle.dpl_edit.specs.declared.errors.EditError.{EditError}
+use Rattle.dpl_edit.specs.declared.errors.EditError.TheVariants.{Limit, NoMemory}
+
+-- the primitives that a session began with, then the boxes that were added and not removed, in the order of adding
+abbrev pub content : List Primitive → List Placed → List Primitive
+content begun boxes = begun ++ map (λ b. Box b.rect) boxes
+
+abbrev pub cells_in : List Primitive → Cells
+cells_in prims = is_cell (map outline_of prims)
+
+-- a polygon counts as many as it has points
+abbrev pub weight_of : Primitive → ℕ
+weight_of (Box r) = 1
+weight_of (Poly points) = length points
+
+abbrev pub prim_count : List Primitive → ℕ
+prim_count prims = sum_by weight_of prims
+
+-- the boxes but the one with this number
+abbrev pub without : ℕ → List Placed → List Placed
+without number boxes = filter (λ b. not (b.number == number)) boxes
+
+-- one of the boxes has this number
+abbrev pub has_number : ℕ → List Placed → Bool
+has_number number boxes = list_any (λ b. b.number == number) boxes
+
+abbrev pub HasBox : ℕ → List Placed → Type 0
+HasBox number boxes = has_number number boxes ≡ true
+
+-- of the limits on these cells, beside those that are kept whole, this one is the first that is passed: on tiles,
+-- fragments and edges, then on the odd faces of one part of the net
+abbrev pub RefusesDrawn : PlainOptions → Cells → Cells → LayerError → Type 0
+RefusesDrawn o cells kept e = RefusesCells o cells kept e ⊎ HasOddNet o e cells kept
+
+-- Of all limits on a content this one is the first that is passed, with this count. The first is that on primitives; the
+-- others are on the cells of the content and of the keep layer.
+abbrev pub PassesLimit : PlainOptions → List Primitive → List Primitive → ℕ → ℕ → Type 0
+PassesLimit o prims keep kind count =
+    ((most_of Counted.Primitives < prim_count prims)
+    × (kind ≡ number_of Counted.Primitives) × (count ≡ shown (prim_count prims)))
+    ⊎ ((prim_count prims ≤ most_of Counted.Primitives)
+    × RefusesDrawn o (cells_in prims) (cells_in keep) (layer.Limit kind count))
+
+-- the content is refused with this answer
+abbrev pub Refuses : PlainOptions → List Primitive → List Primitive → EditError → Type 0
+Refuses o prims keep (Limit kind count) = PassesLimit o prims keep kind count
+Refuses o prims keep NoMemory = ⊥

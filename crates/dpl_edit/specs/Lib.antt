@@ -1,0 +1,4 @@
+pub mod Contents
+pub mod Optima
+pub mod Sessions
+pub mod Errors

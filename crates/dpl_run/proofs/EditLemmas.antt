@@ -1,0 +1,259 @@
+-- What is due for `edit`: one answer at most, and the end of its work.
+use Rattle.std.proofs.Common.{arith, ◌≡◌, ◌⊎◌, ◌∙◌, ◌+◌, ◌≤◌, ◌<◌, ℕ, List, [], ◌∷◌, ◌++◌, append-nil, map, true, refl, sym, ap, subst, inl, inr}
+use Rattle.std.specs.Prelude.{Result, Ok, Err}
+use Rattle.dpl_cell.specs.declared.rect.Rect.{Rect}
+use Rattle.dpl_cell.specs.declared.layout.Primitive.{Primitive}
+use Rattle.dpl_cell.specs.Outlines.{Outline, outline_of}
+use Rattle.dpl_cif.specs.Reading.Reading.{Good}
+use Rattle.dpl_options.specs.Options.{PlainOptions}
+use Rattle.dpl_layer.specs.declared.error.LayerError.{LayerError}
+use Rattle.dpl_layer.specs.declared.error.LayerError.TheVariants as refusal
+use Rattle.dpl_layer.specs.declared.drawing.Drawing.{Drawing}
+use Rattle.dpl_layer.specs.Drawings.{Cells, IsDrawingOf}
+use Rattle.dpl_layer.specs.Refusals.{IsOverLimit, RefusesDrawing}
+use Rattle.dpl_layer.proofs.RefusalLemmas.{layer_kind, one_drawing_refusal, good_drawing_free}
+use Rattle.dpl_edit.specs.declared.placed.Placed.{Placed}
+use Rattle.dpl_edit.specs.declared.errors.EditError.{EditError}
+use Rattle.dpl_edit.specs.declared.errors.EditError.TheVariants as edit
+use Rattle.dpl_edit.specs.declared.errors.RemoveError.{RemoveError}
+use Rattle.dpl_edit.specs.declared.errors.RemoveError.TheVariants as removal
+use Rattle.dpl_edit.specs.Contents.{content, without, HasBox, PassesLimit, Refuses}
+use Rattle.dpl_edit.specs.Sessions.{State, IsBegun, IsEdited, RefusesRemoval}
+use Rattle.dpl_edit.proofs.RefusalLemmas.{one_refusal}
+use Rattle.dpl_words.specs.Commands.{PlainCommand}
+use Rattle.dpl_words.specs.declared.edits.Line.{Line}
+use Rattle.dpl_words.specs.declared.edits.Line.TheVariants.{Add, Remove}
+use Rattle.dpl_words.specs.declared.edits.ScriptError.{ScriptError}
+use Rattle.dpl_words.specs.declared.edits.ScriptError.TheVariants as script
+use Rattle.dpl_words.specs.Scripts.{plain_line, IsScript, IsFirstBad}
+use Rattle.dpl_words.proofs.ScriptLemmas.{bad_once, script_free}
+use Rattle.dpl_run.specs.declared.status.Status.{Status}
+use Rattle.dpl_run.specs.declared.status.Status.TheVariants.{Done, Rejected, Usage, Layout, Limit, Script, ReadFault, WriteFault, NoMemory}
+use Rattle.dpl_run.specs.Inputs.{colours, follows}
+use Rattle.dpl_run.specs.due.Edit.{Edits, begun_with, edits_of, after, IsMissing, IsOver, IsWithin, Reports, StopsAt, GoesOn, AreEditsDue, IsScriptDue, IsEditDue}
+use Rattle.dpl_run.specs.due.Edit.StopsAt.{missing, over}
+use Rattle.dpl_run.specs.due.Edit.IsScriptDue.{bad_line, applied}
+use Rattle.dpl_run.specs.due.Edit.IsEditDue.{unread, too_much, begun}
+use Rattle.dpl_run.specs.Errors.{status_of, of_edit, of_removal, of_script}
+use Rattle.dpl_run.specs.Telling.{IsWorked}
+use Rattle.dpl_run.proofs.EndLemmas.{AllEnd, Ends, IsWorkLimit, error_ends}
+use Rattle.dpl_run.proofs.LineLemmas.{one_script, prims_same}
+
+-- ---- one answer at most
+
+one_over : (s : Edits) (k n l m : ℕ) → IsOver s k n → IsOver s l m → Limit k n ≡ Limit l m
+one_over s k n l m a b = ap of_edit (one_refusal s.options (content s.begun s.boxes) s.keep (edit.Limit k n) (edit.Limit l m) a b)
+
+one_stop : (s : Edits) (n : ℕ) (l : Line) (a b : Status) (x y : List ℕ) → StopsAt s n l a x → StopsAt s n l b y → a ≡ b
+one_stop s n l _ _ _ _ (missing p) (missing q) = refl
+one_stop s n l _ _ _ _ (missing p) (over k c there q) = absurd (there p)
+one_stop s n l _ _ _ _ (over k c there p) (missing q) = absurd (there q)
+one_stop s n l _ _ _ _ (over k c there p) (over j d here q) = one_over (after l s) k c j d p q
+
+stops_alone : (s : Edits) (n : ℕ) (l : Line) (a : Status) (x : List ℕ) → StopsAt s n l a x → GoesOn s l → ⊥
+stops_alone s n l _ _ (missing p) g = g.there p
+stops_alone s n l _ _ (over k c there p) g = g.within k c p
+
+one_edits : (ls : List Line) (s : Edits) (n : ℕ) (a b : Status) (x y : List ℕ) → AreEditsDue s n ls a x → AreEditsDue s n ls b y → a ≡ b
+one_edits [] s n a b x y p q = p.0 ∙ sym q.0
+one_edits (l ∷ ls) s n a b x y (inl p) (inl q) = one_stop s n l a b x y p q
+one_edits (l ∷ ls) s n a b x y (inl p) (inr q) = absurd (stops_alone s n l a x p q.0)
+one_edits (l ∷ ls) s n a b x y (inr p) (inl q) = absurd (stops_alone s n l b y q p.0)
+one_edits (l ∷ ls) s n a b x y (inr p) (inr q) = one_edits ls (after l s) (n + 1) a b x y p.1 q.1
+
+one_script_due : (s : Edits) (text : List ℕ) (a b : Status) (x y : List ℕ) → IsScriptDue s text a x → IsScriptDue s text b y → a ≡ b
+one_script_due s text _ _ _ _ (bad_line m p) (bad_line n q) = ap (λ (z : ℕ). Script z 1) (bad_once text m n p q)
+one_script_due s text _ _ _ _ (bad_line m p) (applied ls is b y d) = absurd (script_free text (map plain_line ls) m is p)
+one_script_due s text _ _ _ _ (applied ls is a x d) (bad_line n q) = absurd (script_free text (map plain_line ls) n is q)
+one_script_due s text _ _ _ _ (applied ls is a x d) (applied ms also b y g) =
+    one_edits ls s 1 a b x y d (subst (λ z. AreEditsDue s 1 z b y) (sym (one_script text ls ms is also)) g)
+
+good_same : (xs ys : List Outline) → Good xs ≡ Good ys → xs ≡ ys
+good_same xs ys e = cc
+
+same_start : (o : PlainOptions) (text : List ℕ) (d e : Drawing) → IsDrawingOf o text d → IsDrawingOf o text e → begun_with o e ≡ begun_with o d
+same_start o text d e a b =
+    let l : e.layer.prims ≡ d.layer.prims = prims_same e.layer.prims d.layer.prims (good_same _ _ (sym b.layer ∙ a.layer)) in
+    let k : e.keep.prims ≡ d.keep.prims = prims_same e.keep.prims d.keep.prims (good_same _ _ (sym b.keep ∙ a.keep)) in
+    rw (l, k) refl
+
+pub one_edit : (o : PlainOptions) (text second : List ℕ) (a b : Status) (x y : List ℕ) → IsEditDue o text second a x → IsEditDue o text second b y → a ≡ b
+one_edit o text second _ _ _ _ (unread e r) (unread f q) = ap status_of (one_drawing_refusal o text e f r q)
+one_edit o text second _ _ _ _ (unread e r) (too_much d is k n p) = absurd (good_drawing_free o text d is e r)
+one_edit o text second _ _ _ _ (unread e r) (begun d is w b y due) = absurd (good_drawing_free o text d is e r)
+one_edit o text second _ _ _ _ (too_much d is k n p) (unread f q) = absurd (good_drawing_free o text d is f q)
+one_edit o text second _ _ _ _ (too_much d is k n p) (too_much g also l m q) =
+    one_over (begun_with o d) k n l m p (subst (λ z. IsOver z l m) (same_start o text d g is also) q)
+one_edit o text second _ _ _ _ (too_much d is k n p) (begun g also w b y due) =
+    absurd (subst IsWithin (same_start o text d g is also) w k n p)
+one_edit o text second _ _ _ _ (begun d is w a x due) (unread f q) = absurd (good_drawing_free o text d is f q)
+one_edit o text second _ _ _ _ (begun d is w a x due) (too_much g also l m q) =
+    absurd (w l m (subst (λ z. IsOver z l m) (same_start o text d g is also) q))
+one_edit o text second _ _ _ _ (begun d is w a x due) (begun g also v b y other) =
+    one_script_due (begun_with o d) second a b x y due (subst (λ z. IsScriptDue z second b y) (same_start o text d g is also) other)
+
+-- ---- the end of the work
+
+over_kind : (o : PlainOptions) (cells kept : Cells) (k c : ℕ) → IsOverLimit o cells kept k c → (2 ≤ k) × (k ≤ 7)
+over_kind o cells kept k c (inl p) = (omega (arith, p.0), omega (arith, p.0))
+over_kind o cells kept k c (inr (inl p)) = (omega (arith, p.0), omega (arith, p.0))
+over_kind o cells kept k c (inr (inr (inl p))) = (omega (arith, p.0), omega (arith, p.0))
+over_kind o cells kept k c (inr (inr (inr p))) = (omega (arith, p.0), omega (arith, p.0))
+
+over_limit : (c : PlainCommand) → colours c ≡ true → (o : PlainOptions) (prims keep : List Primitive) (k n : ℕ) → PassesLimit o prims keep k n → IsWorkLimit c k
+over_limit c colouring o prims keep k n (inl (many, kind, count)) = inl (omega (arith, kind), omega (arith, kind))
+over_limit c colouring o prims keep k n (inr (few, inl r)) = inl (over_kind o _ _ k n r)
+over_limit c colouring o prims keep k n (inr (few, inr h)) = inr (h.odd.0, colouring)
+
+stop_ends : (c : PlainCommand) → colours c ≡ true → follows c ≡ true → (s : Edits) (n : ℕ) (l : Line) (a : Status) (x : List ℕ) → StopsAt s n l a x → Ends c a x
+stop_ends c colouring following s n l _ _ (missing p) = (following, refl)
+stop_ends c colouring following s n l _ _ (over k m there p) =
+    (over_limit c colouring (after l s).options (content (after l s).begun (after l s).boxes) (after l s).keep k m p, refl)
+
+edits_end : (c : PlainCommand) → colours c ≡ true → follows c ≡ true → (ls : List Line) (s : Edits) (n : ℕ) (a : Status) (x : List ℕ) → AreEditsDue s n ls a x → Ends c a x
+edits_end c colouring following [] s n a x d = subst (λ z. Ends c z x) (sym d.0) tt
+edits_end c colouring following (l ∷ ls) s n a x (inl p) = stop_ends c colouring following s n l a x p
+edits_end c colouring following (l ∷ ls) s n a x (inr q) = edits_end c colouring following ls (after l s) (n + 1) a x q.1
+
+script_ends : (c : PlainCommand) → colours c ≡ true → follows c ≡ true → (s : Edits) (text : List ℕ) (a : Status) (x : List ℕ) → IsScriptDue s text a x → Ends c a x
+script_ends c colouring following s text _ _ (bad_line n b) = (following, refl)
+script_ends c colouring following s text _ _ (applied ls is a x d) = edits_end c colouring following ls s 1 a x d
+
+pub edit_ends : (c : PlainCommand) → colours c ≡ true → follows c ≡ true → (o : PlainOptions) (text second : List ℕ) → AllEnd c (IsEditDue o text second)
+edit_ends c colouring following o text second _ _ (unread e r) =
+    error_ends c (RefusesDrawing o text) (λ p. p) (λ k n p. inl (layer_kind o text k n (inl p))) e r
+edit_ends c colouring following o text second _ _ (too_much d is k n p) =
+    (over_limit c colouring o (content d.layer.prims []) d.keep.prims k n p, refl)
+edit_ends c colouring following o text second _ _ (begun d is w a x due) = script_ends c colouring following (begun_with o d) second a x due
+
+-- ---- a session
+
+pub of_edited : (old new : State) (boxes : List Placed) (count : ℕ) → IsEdited old new boxes count
+    → edits_of new ≡ record { options = old.options; begun = old.begun; keep = old.keep; boxes = boxes; count = count }
+of_edited old new boxes count e = rw (e.options, e.begun, e.keep, e.boxes_are, e.count_is) refl
+
+pub of_begun : (o : PlainOptions) (d : Drawing) (s : State) → IsBegun o d s → edits_of s ≡ begun_with o d
+of_begun o d s b = rw (b.options, b.begun, b.keep, b.boxes, b.count) refl
+
+-- a content that was taken passes no limit
+taken_within : {T : Type 0} (o : PlainOptions) (prims keep : List Primitive) (result : Result T EditError) (v : T) → result ≡ Ok v
+    → ((e : EditError) → Refuses o prims keep e → (result ≡ Err e) ⊎ (result ≡ Err edit.NoMemory)) → (k n : ℕ) → ¬ PassesLimit o prims keep k n
+taken_within o prims keep result v is exact k n p = elim (exact (edit.Limit k n) p) [
+  | inl a ↦ absurd (cc)
+  | inr a ↦ absurd (cc)
+]
+
+pub begun_within : {T : Type 0} (o : PlainOptions) (d : Drawing) (result : Result T EditError) (v : T) → result ≡ Ok v
+    → ((e : EditError) → Refuses o d.layer.prims d.keep.prims e → (result ≡ Err e) ⊎ (result ≡ Err edit.NoMemory)) → IsWithin (begun_with o d)
+begun_within o d result v is exact =
+    taken_within o (d.layer.prims ++ []) d.keep.prims result v is (subst (λ z. (e : EditError) → Refuses o z d.keep.prims e → (result ≡ Err e) ⊎ (result ≡ Err edit.NoMemory)) (sym (append-nil d.layer.prims)) exact)
+
+pub added_goes_on : {T : Type 0} (s : State) (rect : Rect) (result : Result T EditError) (v : T) → result ≡ Ok v
+    → ((e : EditError) → Refuses s.options (content s.begun (s.boxes ++ record { number = s.count; rect = rect } ∷ [])) s.keep e → (result ≡ Err e) ⊎ (result ≡ Err edit.NoMemory))
+    → GoesOn (edits_of s) (Add rect)
+added_goes_on s rect result v is exact = record {
+  there = λ p. p;
+  within = taken_within s.options (content s.begun (s.boxes ++ record { number = s.count; rect = rect } ∷ [])) s.keep result v is exact;
+}
+
+pub add_stops : (s : State) (rect : Rect) (e : EditError) (status : Status) → status ≡ of_edit e
+    → (e ≡ edit.NoMemory) ⊎ Refuses s.options (content s.begun (s.boxes ++ record { number = s.count; rect = rect } ∷ [])) s.keep e
+    → (n : ℕ) → (status ≡ NoMemory) ⊎ StopsAt (edits_of s) n (Add rect) status []
+add_stops s rect (edit.Limit k c) status is (inl m) n = absurd (cc)
+add_stops s rect edit.NoMemory status is h n = inl is
+add_stops s rect (edit.Limit k c) status is (inr r) n = inr (subst (λ z. StopsAt (edits_of s) n (Add rect) z []) (sym is) (over k c (λ p. p) r))
+
+removed_within : {T : Type 0} (s : State) (number : ℕ) (result : Result T RemoveError) (v : T) → result ≡ Ok v → HasBox number s.boxes
+    → ((e : RemoveError) → RefusesRemoval s number e → (result ≡ Err e) ⊎ (result ≡ Err removal.NoMemory)) → (k n : ℕ) → ¬ PassesLimit s.options (content s.begun (without number s.boxes)) s.keep k n
+removed_within s number result v is there exact k n p = elim (exact (removal.Limit k n) (there, p)) [
+  | inl a ↦ absurd (cc)
+  | inr a ↦ absurd (cc)
+]
+
+pub removed_goes_on : {T : Type 0} (s : State) (number : ℕ) (result : Result T RemoveError) (v : T) → result ≡ Ok v → HasBox number s.boxes
+    → ((e : RemoveError) → RefusesRemoval s number e → (result ≡ Err e) ⊎ (result ≡ Err removal.NoMemory)) → GoesOn (edits_of s) (Remove number)
+removed_goes_on s number result v is there exact = record { there = λ p. p there; within = removed_within s number result v is there exact }
+
+pub removal_stops : (s : State) (number n : ℕ) (e : RemoveError) (status : Status) → status ≡ of_removal n e → (e ≡ removal.NoMemory) ⊎ RefusesRemoval s number e
+    → (status ≡ NoMemory) ⊎ StopsAt (edits_of s) n (Remove number) status []
+removal_stops s number n (removal.NoBox m) status is (inl h) = absurd (cc)
+removal_stops s number n (removal.Limit k c) status is (inl h) = absurd (cc)
+removal_stops s number n removal.NoMemory status is h = inl is
+removal_stops s number n (removal.NoBox m) status is (inr r) = inr (subst (λ z. StopsAt (edits_of s) n (Remove number) z []) (sym is) (missing r.1))
+removal_stops s number n (removal.Limit k c) status is (inr r) =
+    inr (subst (λ z. StopsAt (edits_of s) n (Remove number) z []) (sym is) (over k c (λ p. p r.0) r.1))
+
+-- ---- the lines in order
+
+-- what is due for the lines that are left is due for all
+abbrev pub LeadsTo : Edits → List Line → Edits → ℕ → List Line → Type 0
+LeadsTo s ls t n rest = (status : Status) (output : List ℕ) → AreEditsDue t n rest status output → AreEditsDue s 1 ls status output
+
+pub leads_on : (s t u : Edits) (ls rest others : List Line) (n m : ℕ) (line : Line) → LeadsTo s ls t n rest → rest ≡ line ∷ others → GoesOn t line → u ≡ after line t → m ≡ n + 1 → LeadsTo s ls u m others
+leads_on s t u ls rest others n m line lead r g a e status output d =
+    let here : AreEditsDue (after line t) (n + 1) others status output = subst (λ z. AreEditsDue z (n + 1) others status output) a (subst (λ z. AreEditsDue u z others status output) e d) in
+    lead status output (subst (λ z. AreEditsDue t n z status output) (sym r) (inr (g, here)))
+
+pub leads_stop : (s t : Edits) (ls rest others : List Line) (n : ℕ) (line : Line) (status : Status) → LeadsTo s ls t n rest → rest ≡ line ∷ others
+    → (status ≡ NoMemory) ⊎ StopsAt t n line status [] → (status ≡ NoMemory) ⊎ AreEditsDue s 1 ls status []
+leads_stop s t ls rest others n line status lead r (inl m) = inl m
+leads_stop s t ls rest others n line status lead r (inr p) = inr (lead status [] (subst (λ z. AreEditsDue t n z status []) (sym r) (inl p)))
+
+pub leads_end : (s t : Edits) (ls rest : List Line) (n : ℕ) → LeadsTo s ls t n rest → rest ≡ [] → (output : List ℕ) → Reports t output → AreEditsDue s 1 ls Done output
+leads_end s t ls rest n lead r output p = lead Done output (subst (λ z. AreEditsDue t n z Done output) (sym r) (refl, p))
+
+pub count_after : (line : Line) (s t : Edits) → t ≡ after line s → t.count ≤ s.count + 1
+count_after (Add rect) s t e = let a = ap (λ (z : Edits). z.count) e in omega (arith, a)
+count_after (Remove number) s t e = let a = ap (λ (z : Edits). z.count) e in omega (arith, a)
+
+-- ---- what the work answers
+
+pub worked_as : (Due Other : Status → List ℕ → Type 0) → ((a : Status) (x : List ℕ) → Due a x → Other a x) → (a : Status) (x : List ℕ) → IsWorked Due a x → IsWorked Other a x
+worked_as Due Other f Done x p = f Done x p
+worked_as Due Other f (Rejected reason place found wanted) x p = f (Rejected reason place found wanted) x p
+worked_as Due Other f (Usage kind) x p = f (Usage kind) x p
+worked_as Due Other f (Layout command what) x p = f (Layout command what) x p
+worked_as Due Other f (Limit kind count) x p = f (Limit kind count) x p
+worked_as Due Other f (Script line kind) x p = f (Script line kind) x p
+worked_as Due Other f ReadFault x p = f ReadFault x p
+worked_as Due Other f WriteFault x p = f WriteFault x p
+worked_as Due Other f NoMemory x p = p
+
+or_due : (Due : Status → List ℕ → Type 0) (a : Status) → (a ≡ NoMemory) ⊎ Due a [] → IsWorked Due a []
+or_due Due a (inl m) = subst (λ z. IsWorked Due z []) (sym m) refl
+or_due Due Done (inr d) = d
+or_due Due (Rejected reason place found wanted) (inr d) = d
+or_due Due (Usage kind) (inr d) = d
+or_due Due (Layout command what) (inr d) = d
+or_due Due (Limit kind count) (inr d) = d
+or_due Due (Script line kind) (inr d) = d
+or_due Due ReadFault (inr d) = d
+or_due Due WriteFault (inr d) = d
+or_due Due NoMemory (inr d) = refl
+
+-- a refusal with nothing written
+pub worked_bare_at : (Due : Status → List ℕ → Type 0) (a s : Status) (x : List ℕ) → (a ≡ NoMemory) ⊎ Due a [] → s ≡ a → x ≡ [] → IsWorked Due s x
+worked_bare_at Due a s x h is none = subst (λ z. IsWorked Due z x) (sym is) (subst (IsWorked Due a) (sym none) (or_due Due a h))
+
+-- a session that was begun is followed
+pub begun_worked : (o : PlainOptions) (text second : List ℕ) (d : Drawing) (s : State) (a : Status) (x : List ℕ) → IsDrawingOf o text d → IsWithin (begun_with o d) → IsBegun o d s
+    → IsWorked (IsScriptDue (edits_of s) second) a x → IsWorked (IsEditDue o text second) a x
+begun_worked o text second d s a x is within b w =
+    worked_as (IsScriptDue (edits_of s) second) (IsEditDue o text second)
+    (λ c y due. begun d is within c y (subst (λ z. IsScriptDue z second c y) (of_begun o d s b) due)) a x w
+
+pub too_much_worked : (o : PlainOptions) (text second : List ℕ) (d : Drawing) (e : EditError) (a : Status) (x : List ℕ) → IsDrawingOf o text d → (e ≡ edit.NoMemory) ⊎ Refuses o d.layer.prims d.keep.prims e
+    → a ≡ of_edit e → x ≡ [] → IsWorked (IsEditDue o text second) a x
+too_much_worked o text second d (edit.Limit k n) a x is (inl m) e none = absurd (cc)
+too_much_worked o text second d edit.NoMemory a x is h e none = worked_bare_at (IsEditDue o text second) NoMemory a x (inl refl) e none
+too_much_worked o text second d (edit.Limit k n) a x is (inr r) e none =
+    worked_bare_at (IsEditDue o text second) (Limit k n) a x (inr (too_much d is k n (subst (λ z. PassesLimit o z d.keep.prims k n) (sym (append-nil d.layer.prims)) r))) e none
+
+pub no_script_worked : {T : Type 0} (s : Edits) (text : List ℕ) (result : Result T ScriptError) (e : ScriptError) (a : Status) (x : List ℕ) → result ≡ Err e
+    → ((n : ℕ) → result ≡ Err (script.Bad n) → IsFirstBad text n) → a ≡ of_script e → x ≡ [] → IsWorked (IsScriptDue s text) a x
+no_script_worked s text result (script.Bad n) a x is bad e none = worked_bare_at (IsScriptDue s text) (Script n 1) a x (inr (bad_line n (bad n is))) e none
+no_script_worked s text result script.NoMemory a x is bad e none = worked_bare_at (IsScriptDue s text) NoMemory a x (inl refl) e none
+
+pub script_worked : (s : Edits) (text : List ℕ) (ls lines : List Line) (a : Status) (x : List ℕ) → IsScript text (map plain_line ls) → lines ≡ ls → IsWorked (AreEditsDue s 1 lines) a x → IsWorked (IsScriptDue s text) a x
+script_worked s text ls lines a x is same w =
+    worked_as (AreEditsDue s 1 lines) (IsScriptDue s text) (λ b y d. applied ls is b y (subst (λ z. AreEditsDue s 1 z b y) same d)) a x w

@@ -1,0 +1,5 @@
+pub mod OrderLemmas
+pub mod PairLemmas
+pub mod MarkLemmas
+pub mod StayLemmas
+pub mod KeepLemmas

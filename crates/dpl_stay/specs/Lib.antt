@@ -1,0 +1,8 @@
+-- what a reader must believe
+pub mod Same
+-- the words of the functions below `keep_colours`
+pub mod Order
+pub mod Pairs
+pub mod Marks
+pub mod Laying
+pub mod Staying

@@ -1,0 +1,12 @@
+//! Components that stay keep their colours.
+#![tactic(auto)]
+
+mod comparing;
+mod finding;
+mod keeping;
+mod laying;
+mod marking;
+mod pairing;
+
+pub use keeping::keep_colours;
+pub use std::alloc::AllocError as NoMemory;
