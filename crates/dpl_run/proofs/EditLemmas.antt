@@ -1,11 +1,11 @@
 -- What is due for `edit`: one answer at most, and the end of its work.
-use Rattle.std.proofs.Common.{arith, ◌≡◌, ◌⊎◌, ◌∙◌, ◌+◌, ◌≤◌, ◌<◌, ℕ, List, [], ◌∷◌, ◌++◌, append-nil, map, true, refl, sym, ap, subst, inl, inr}
+use Rattle.std.proofs.Common.{arith, ◌≡◌, ◌⊎◌, ◌∙◌, ◌+◌, ◌≤◌, ◌<◌, ℕ, List, [], ◌∷◌, ◌++◌, append-nil, length, map, Option, true, refl, sym, ap, subst, inl, inr}
 use Rattle.std.specs.Prelude.{Result, Ok, Err}
 use Rattle.dpl_cell.specs.declared.rect.Rect.{Rect}
 use Rattle.dpl_cell.specs.declared.layout.Primitive.{Primitive}
 use Rattle.dpl_cell.specs.Outlines.{Outline, outline_of}
 use Rattle.dpl_cif.specs.Reading.Reading.{Good}
-use Rattle.dpl_options.specs.Options.{PlainOptions}
+use Rattle.dpl_options.specs.Options.{PlainOptions, PlainWeights}
 use Rattle.dpl_layer.specs.declared.error.LayerError.{LayerError}
 use Rattle.dpl_layer.specs.declared.error.LayerError.TheVariants as refusal
 use Rattle.dpl_layer.specs.declared.drawing.Drawing.{Drawing}
@@ -199,8 +199,12 @@ pub leads_stop : (s t : Edits) (ls rest others : List Line) (n : ℕ) (line : Li
 leads_stop s t ls rest others n line status lead r (inl m) = inl m
 leads_stop s t ls rest others n line status lead r (inr p) = inr (lead status [] (subst (λ z. AreEditsDue t n z status []) (sym r) (inl p)))
 
-pub leads_end : (s t : Edits) (ls rest : List Line) (n : ℕ) → LeadsTo s ls t n rest → rest ≡ [] → (output : List ℕ) → Reports t output → AreEditsDue s 1 ls Done output
-leads_end s t ls rest n lead r output p = lead Done output (subst (λ z. AreEditsDue t n z Done output) (sym r) (refl, p))
+none_left : (ls : List Line) → length ls ≡ 0 → ls ≡ []
+none_left [] e = refl
+none_left (l ∷ ls) e = absurd (omega (arith, e))
+
+pub leads_end : (s t : Edits) (ls rest : List Line) (n : ℕ) → LeadsTo s ls t n rest → length rest ≡ 0 → (output : List ℕ) → Reports t output → AreEditsDue s 1 ls Done output
+leads_end s t ls rest n lead none output p = lead Done output (subst (λ z. AreEditsDue t n z Done output) (sym (none_left rest none)) (refl, p))
 
 pub count_after : (line : Line) (s t : Edits) → t ≡ edited line s → t.count ≤ s.count + 1
 count_after (Add rect) s t e = let a = ap (λ (z : Edits). z.count) e in omega (arith, a)
@@ -236,18 +240,25 @@ pub worked_bare_at : (Due : Status → List ℕ → Type 0) (a s : Status) (x : 
 worked_bare_at Due a s x h is none = subst (λ z. IsWorked Due z x) (sym is) (subst (IsWorked Due a) (sym none) (or_due Due a h))
 
 -- a session that was begun is followed
-pub begun_worked : (o : PlainOptions) (text second : List ℕ) (d : Drawing) (s : State) (a : Status) (x : List ℕ) → IsDrawingOf o text d → PassesNone (begun_with o d) → IsBegun o d s
+pub begun_worked : {T : Type 0} (o p : PlainOptions) (text second : List ℕ) (d : Drawing) (result : Result T EditError) (v : T) (s : State) (a : Status) (x : List ℕ) → p ≡ o → IsDrawingOf o text d
+    → result ≡ Ok v → ((e : EditError) → Refuses p d.layer.prims d.keep.prims e → (result ≡ Err e) ⊎ (result ≡ Err edit.NoMemory)) → IsBegun p d s
     → IsWorked (IsScriptDue (edits_of s) second) a x → IsWorked (IsEditDue o text second) a x
-begun_worked o text second d s a x is within b w =
+begun_worked o p text second d result v s a x same is ok exact b w =
+    let within : PassesNone (begun_with o d) = subst (λ z. PassesNone (begun_with z d)) same (begun_within p d result v ok exact) in
+    let begins : IsBegun o d s = subst (λ z. IsBegun z d s) same b in
     worked_as (IsScriptDue (edits_of s) second) (IsEditDue o text second)
-    (λ c y due. begun d is within c y (subst (λ z. IsScriptDue z second c y) (of_begun o d s b) due)) a x w
+    (λ c y due. begun d is within c y (subst (λ z. IsScriptDue z second c y) (of_begun o d s begins) due)) a x w
 
-pub too_much_worked : (o : PlainOptions) (text second : List ℕ) (d : Drawing) (e : EditError) (a : Status) (x : List ℕ) → IsDrawingOf o text d → (e ≡ edit.NoMemory) ⊎ Refuses o d.layer.prims d.keep.prims e
+too_much_due : (o : PlainOptions) (text second : List ℕ) (d : Drawing) (e : EditError) (a : Status) (x : List ℕ) → IsDrawingOf o text d → (e ≡ edit.NoMemory) ⊎ Refuses o d.layer.prims d.keep.prims e
     → a ≡ of_edit e → x ≡ [] → IsWorked (IsEditDue o text second) a x
-too_much_worked o text second d (edit.Limit k n) a x is (inl m) e none = absurd (cc)
-too_much_worked o text second d edit.NoMemory a x is h e none = worked_bare_at (IsEditDue o text second) NoMemory a x (inl refl) e none
-too_much_worked o text second d (edit.Limit k n) a x is (inr r) e none =
+too_much_due o text second d (edit.Limit k n) a x is (inl m) e none = absurd (cc)
+too_much_due o text second d edit.NoMemory a x is h e none = worked_bare_at (IsEditDue o text second) NoMemory a x (inl refl) e none
+too_much_due o text second d (edit.Limit k n) a x is (inr r) e none =
     worked_bare_at (IsEditDue o text second) (Limit k n) a x (inr (too_much d is k n (subst (λ z. PassesLimit o z d.keep.prims k n) (sym (append-nil d.layer.prims)) r))) e none
+
+pub too_much_worked : (o p : PlainOptions) (text second : List ℕ) (d : Drawing) (e : EditError) (a : Status) (x : List ℕ) → p ≡ o → IsDrawingOf o text d
+    → (e ≡ edit.NoMemory) ⊎ Refuses p d.layer.prims d.keep.prims e → a ≡ of_edit e → x ≡ [] → IsWorked (IsEditDue o text second) a x
+too_much_worked o p text second d e a x same is h = too_much_due o text second d e a x is (subst (λ z. (e ≡ edit.NoMemory) ⊎ Refuses z d.layer.prims d.keep.prims e) same h)
 
 pub no_script_worked : {T : Type 0} (s : Edits) (text : List ℕ) (result : Result T ScriptError) (e : ScriptError) (a : Status) (x : List ℕ) → result ≡ Err e
     → ((n : ℕ) → result ≡ Err (script.Bad n) → IsFirstBad text n) → a ≡ of_script e → x ≡ [] → IsWorked (IsScriptDue s text) a x
@@ -257,3 +268,13 @@ no_script_worked s text result script.NoMemory a x is bad e none = worked_bare_a
 pub script_worked : (s : Edits) (text : List ℕ) (ls lines : List Line) (a : Status) (x : List ℕ) → IsScript text (map plain_line ls) → lines ≡ ls → IsWorked (AreEditsDue s 1 lines) a x → IsWorked (IsScriptDue s text) a x
 script_worked s text ls lines a x is same w =
     worked_as (AreEditsDue s 1 lines) (IsScriptDue s text) (λ b y d. applied ls is b y (subst (λ z. AreEditsDue s 1 z b y) same d)) a x w
+
+-- ---- options by their values
+
+pub same_weights : (w : PlainWeights) (stitch conflict corner : ℕ) → stitch ≡ w.stitch → conflict ≡ w.conflict → corner ≡ w.corner
+    → ◌≡◌ {A = PlainWeights} (record { stitch = stitch; conflict = conflict; corner = corner }) w
+same_weights w stitch conflict corner a b c = rw (a, b, c) refl
+
+pub same_plain : (o : PlainOptions) (layer : List ℕ) (space overlap : ℕ) (weights : PlainWeights) (keep : Option (List ℕ)) → layer ≡ o.layer → space ≡ o.space → overlap ≡ o.overlap → weights ≡ o.weights → keep ≡ o.keep
+    → ◌≡◌ {A = PlainOptions} (record { layer = layer; space = space; overlap = overlap; weights = weights; keep = keep }) o
+same_plain o layer space overlap weights keep a b c d e = rw (a, b, c, d, e) refl
