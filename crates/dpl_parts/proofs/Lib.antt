@@ -15,3 +15,4 @@ pub mod PartCounts
 pub mod Shared
 pub mod Packed
 pub mod Together
+pub mod SplitLemmas

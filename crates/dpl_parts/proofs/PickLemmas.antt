@@ -15,10 +15,10 @@ push_front (y ∷ xs) x zero l = refl
 push_front (y ∷ xs) x (suc i) l = push_front xs x i (omega (arith, l))
 
 module _ (test : ℕ → Bool) where
-  take_true : (k : ℕ) → test k ≡ true → picked_below test (suc k) ≡ picked_below test k ++ k ∷ []
+  pub take_true : (k : ℕ) → test k ≡ true → picked_below test (suc k) ≡ picked_below test k ++ k ∷ []
   take_true k t = rw t refl
 
-  take_false : (k : ℕ) → test k ≡ false → picked_below test (suc k) ≡ picked_below test k
+  pub take_false : (k : ℕ) → test k ≡ false → picked_below test (suc k) ≡ picked_below test k
   take_false k t = rw t refl
 
   pub picked_few : (k : ℕ) → length (picked_below test k) ≤ k

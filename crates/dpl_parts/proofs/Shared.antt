@@ -58,7 +58,7 @@ one_sum f (suc n) = let r = one_sum f n in omega (arith, r)
 -- ---- odd faces
 
 -- what is not the least dart of a face is no odd face
-not_odd : (net : Net) (set : ℕ → Bool) (f : ℕ) → face_of net set f ≢ f → is_odd_face net set f ≡ false
+pub not_odd : (net : Net) (set : ℕ → Bool) (f : ℕ) → face_of net set f ≢ f → is_odd_face net set f ≡ false
 not_odd net set f n =
     let m = dart_count net in
     let none : passages_on_face net set (is_clash_edge net) f ≡ 0 = count_on_same m (λ d. set (d / 2) && (face_of net set d == f) && is_clash_edge net (d / 2)) (λ d. false) (λ d l.
@@ -66,7 +66,7 @@ not_odd net set f n =
     elim (cases_Bool (set (d / 2))) [ inl t ↦ rw (t, r) refl | inr t ↦ rw t refl ]) ∙ sums_to (λ d. false) (λ x. 1) m ∙ zeros m in
     ap (λ z. z % 2 == 1) none
 
-odd_up : (part whole : Net) (node edge : ℕ → ℕ) → IsPartOf part whole node edge → (p q : ℕ → Bool) → ((e : ℕ) → e < length part.graph.edges → q (edge e) ≡ p e)
+pub odd_up : (part whole : Net) (node edge : ℕ → ℕ) → IsPartOf part whole node edge → (p q : ℕ → Bool) → ((e : ℕ) → e < length part.graph.edges → q (edge e) ≡ p e)
     → (c : ℕ) → c < dart_count part → is_odd_face whole q (dart edge c) ≡ is_odd_face part p c
 odd_up part whole node edge h p q alike c l =
     let up = face_up part whole node edge h p q alike c l in
