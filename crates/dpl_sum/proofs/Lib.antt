@@ -1,0 +1,2 @@
+pub mod OddLemmas
+pub mod SolutionLemmas
