@@ -1,2 +1,3 @@
 pub mod OddLemmas
 pub mod SolutionLemmas
+pub mod LayLemmas

@@ -1,5 +1,5 @@
 -- Solutions of the parts are a solution of the whole.
-use Rattle.std.proofs.Common.{arith, ◌≡◌, ℕ, suc, ◌+◌, ◌*◌, ◌<◌, ◌≤◌, ◌==◌, refl, sym, ap, subst, ◌∙◌, Bool, true, List, [], ◌∷◌, length, map}
+use Rattle.std.proofs.Common.{arith, ◌≡◌, ℕ, suc, ◌+◌, ◌*◌, ◌^◌, ◌<◌, ◌≤◌, ◌==◌, refl, sym, ap, subst, ◌∙◌, Bool, true, List, [], ◌∷◌, length, map}
 use Rattle.std.specs.Prelude.{All, Contains, sum_by, count_by, slice_index_or}
 use Rattle.std.proofs.lemmas.List.{length-map}
 use Rattle.std.proofs.lemmas.List.Sums.{sum_by-cons}
@@ -13,6 +13,7 @@ use Rattle.dpl_sign.specs.Parity.{is_odd_face}
 use Rattle.dpl_cycle.specs.Sums.{count_on}
 use Rattle.dpl_sign.specs.Excess.{all_edges, aside_edges, excess, kept_edges}
 use Rattle.dpl_sign.specs.Packings.{bound_of}
+use Rattle.dpl_sign.proofs.WalkLemmas.{bound_small}
 use Rattle.dpl_parts.specs.Parts.{IsPartOf, dart, broken_on}
 use Rattle.dpl_parts.specs.Shares.{Part, ShareOut, AgreeWith, renumbered, all_cycles}
 use Rattle.dpl_parts.proofs.Kept.{keeps_alike}
@@ -124,3 +125,29 @@ refused_sum whole parts h n each p among r = record {
     most = most_sum whole parts h n each;
   };
 }
+
+-- the same solution by numbers that are the same
+pub restated : (net : Net) (colours : List Bool) (cost cost' : ℕ) (aside aside' : List ℕ) (excess' excess'' : ℕ) (cycles cycles' : List Cycle) (bound bound' : ℕ)
+    → IsSolution net colours cost aside excess' cycles bound → cost' ≡ cost → aside' ≡ aside → excess'' ≡ excess' → cycles' ≡ cycles → bound' ≡ bound
+    → IsSolution net colours cost' aside' excess'' cycles' bound'
+restated net colours cost cost' aside aside' excess' excess'' cycles cycles' bound bound' s ec ea ex ey eb =
+    subst (λ y. IsSolution net colours cost' aside' excess'' y bound') (sym ey) (record {
+      colouring = s.colouring;
+      cost_is = ec ∙ s.cost_is;
+      aside_is = ea ∙ s.aside_is;
+      excess_is = ex ∙ s.excess_is;
+      packing = s.packing;
+      kept = s.kept;
+      bound_is = eb ∙ s.bound_is;
+      tight = eb ∙ s.tight;
+      rest = ec ∙ s.rest;
+      once = s.once;
+      parts = s.parts;
+      few = s.few;
+    })
+
+pub bound_low : (net : Net) (parts : List Part) → ShareOut net parts → All IsSolved parts → bound_of (all_cycles parts) < 2 ^ 64
+bound_low net parts h solved =
+    let p = packing_sum net parts h (λ k d l. (solved k d l).packing) in
+    let b = bound_small net.graph (all_cycles parts) p.odd p.within in
+    omega (arith, b)

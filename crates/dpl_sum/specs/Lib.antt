@@ -1,2 +1,3 @@
 -- what a reader must believe
 pub mod Solved
+pub mod Laying

@@ -4,6 +4,9 @@
 //! solution of the net, and it is refused where one of them is (`solutions_add_up`).
 #![tactic(auto)]
 
+mod combining;
 mod laws;
 
+pub use combining::{SolvedPart, combine};
 pub use laws::solutions_add_up;
+pub use std::alloc::AllocError as NoMemory;
