@@ -1,3 +1,4 @@
 pub mod OddLemmas
 pub mod SolutionLemmas
 pub mod LayLemmas
+pub mod SolveLemmas

@@ -6,7 +6,9 @@
 
 mod combining;
 mod laws;
+mod solving;
 
 pub use combining::{SolvedPart, combine};
 pub use laws::solutions_add_up;
+pub use solving::solve;
 pub use std::alloc::AllocError as NoMemory;
