@@ -2,3 +2,4 @@ pub mod OddLemmas
 pub mod SolutionLemmas
 pub mod LayLemmas
 pub mod SolveLemmas
+pub mod SameLemmas

@@ -24,8 +24,8 @@ use Rattle.dpl_parts.proofs.Together.{colouring_sum}
 use Rattle.dpl_solve.specs.Named.{keeps, odd_faces, AreOddTogether, IsMostOddFaces}
 use Rattle.dpl_solve.specs.Solved.{IsSolution, IsRefused, KeepToKept, kept_cost, aside_cost}
 use Rattle.dpl_solve.proofs.FinishLemmas.{cost_parted}
-use Rattle.dpl_sum.specs.Solved.{IsSolved, HasAtMost}
-use Rattle.dpl_sum.proofs.OddLemmas.{odd_counted, together_up, most_sum}
+use Rattle.dpl_sum.specs.Solved.{IsSolved, HasAtMost, IsRefusedIn}
+use Rattle.dpl_sum.proofs.OddLemmas.{odd_counted, together_up, in_one, most_sum}
 
 -- a solution says its own numbers
 pub as_solved : (p : Part) (cost : ℕ) (aside : List ℕ) (excess' bound : ℕ) → IsSolution p.net p.colours cost aside excess' p.cycles bound → IsSolved p
@@ -151,3 +151,34 @@ bound_low net parts h solved =
     let p = packing_sum net parts h (λ k d l. (solved k d l).packing) in
     let b = bound_small net.graph (all_cycles parts) p.odd p.within in
     omega (arith, b)
+
+-- and where the whole is refused some part is
+pub refused_in : (whole : Net) (parts : List Part) → ShareOut whole parts → (n : ℕ) → IsRefused whole n → IsRefusedIn parts n
+refused_in whole parts h n r = some_face r.most.faces r.most.are r.most.count where
+  at_most : All (λ p. HasAtMost p.net n) parts
+  at_most k d l faces o =
+      let p = slice_index_or parts k d in
+      let m = r.most.most (map (dart p.edge) faces) (together_up p whole (h.are k d l) faces o) in
+      let size = length-map faces (dart p.edge) in
+      omega (arith, m, size)
+
+  some_face : (faces : List ℕ) → AreOddTogether whole faces → length faces ≡ n → IsRefusedIn parts n
+  some_face [] o c = let m = r.many in absurd (omega (arith, c, m))
+  some_face (f ∷ faces) o c =
+      let s = in_one whole parts h f faces o in
+      let size = length-map s.own (dart s.part.edge) in
+      let same = ap length s.are in
+      record {
+        part = s.part;
+        among = s.among;
+        refused = record {
+          many = r.many;
+          most = record {
+            faces = s.own;
+            are = s.together;
+            count = omega (arith, size, same, c);
+            most = All-contains (λ p. HasAtMost p.net n) parts s.part at_most s.among;
+          };
+        };
+        at_most = at_most;
+      }
