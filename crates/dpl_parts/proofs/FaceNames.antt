@@ -1,10 +1,10 @@
 -- The faces of a part are faces of the whole, each named by its least dart, and how many there are.
-use Rattle.std.proofs.Common.{arith, ◌≡◌, ◌≢◌, ℕ, zero, suc, ◌+◌, ◌/◌, ◌<◌, ◌≤◌, ◌==◌, ◌&&◌, refl, sym, ap, ◌∙◌, Bool, true, false, inl, inr, length, eq-eqb}
+use Rattle.std.proofs.Common.{arith, ◌≡◌, ℕ, zero, suc, ◌+◌, ◌/◌, ◌<◌, ◌≤◌, ◌==◌, ◌&&◌, refl, sym, ap, ◌∙◌, Bool, true, false, inl, inr, length, eq-eqb}
 use Rattle.std.specs.Prelude.{if◌then◌else◌}
 use Rattle.std.proofs.lemmas.Bool.{cases_eq, cases_Bool, ne_eqb, cond-true, cond-false}
 use Rattle.dpl_cycle.specs.Cycles.{Permutes, cycles, least, without}
 use Rattle.dpl_cycle.specs.Sums.{count_on}
-use Rattle.dpl_cycle.specs.Among.{cycles_among, members, others_count}
+use Rattle.dpl_cycle.specs.Among.{others_count}
 use Rattle.dpl_cycle.proofs.Steps.{cycles_alone, cycles_more, least_alone, least_top, least_under}
 use Rattle.dpl_cycle.proofs.Shorter.{shorter}
 use Rattle.dpl_cycle.proofs.Least.{least_le}

@@ -1,17 +1,16 @@
 -- Some components of a net, gathered, are a part of it.
-use Rattle.std.proofs.Common.{arith, rules, ◌≡◌, ℕ, ◌<◌, ◌≤◌, ◌^◌, ◌⊎◌, inl, inr, Bool, true, false, List, length, refl, sym, ap, subst, ◌∙◌, slice_index_or}
-use Rattle.std.specs.Prelude.{All}
+use Rattle.std.proofs.Common.{arith, ◌≡◌, ℕ, ◌<◌, ◌≤◌, inl, inr, Bool, true, false, List, length, sym, ap, subst, ◌∙◌, slice_index_or}
 use Rattle.std.proofs.lemmas.Bool.{cases_lt, both_ways}
 use Rattle.std.proofs.lemmas.List.{get_or_default, get_or_past}
 use Rattle.dpl_sign.specs.declared.edges.Edge.{Edge}
 use Rattle.dpl_sign.specs.declared.nets.Net.{Net}
 use Rattle.dpl_sign.specs.declared.ports.Port.{Port}
 use Rattle.dpl_sign.specs.Drawings.{no_port}
-use Rattle.dpl_sign.specs.Kinds.{IsGraph, EndsBelow, BondsFirst, is_bond}
+use Rattle.dpl_sign.specs.Kinds.{IsGraph, is_bond}
 use Rattle.dpl_sign.specs.Walks.{no_edge, edge_at}
 use Rattle.dpl_sign.proofs.ComponentLemmas.{start_below, end_below}
 use Rattle.dpl_parts.specs.Parts.{IsPartOf}
-use Rattle.dpl_parts.specs.Picks.{is_taken, is_edge_taken, AreClosed, ArePicked, picked_below, place_in, IsRenumbered, HasPlaces}
+use Rattle.dpl_parts.specs.Picks.{is_taken, is_edge_taken, AreClosed, picked_below, place_in, IsRenumbered, HasPlaces}
 use Rattle.dpl_parts.proofs.PickLemmas.{picked_few, picked_is, picked_at, places_rise, picked_rise}
 
 -- what was gathered of a net

@@ -1,19 +1,18 @@
 -- The cycles of the parts, in the numbers of the whole, are a packing of it.
-use Rattle.std.proofs.Common.{arith, ◌≡◌, ◌≢◌, ◌⊎◌, ℕ, zero, suc, ◌+◌, ◌*◌, ◌%◌, ◌<◌, ◌≤◌, ◌==◌, ◌&&◌, ◌||◌, refl, sym, ap, subst, ◌∙◌, Bool, true, false, cond, inl, inr, List, [], ◌∷◌, ◌++◌, length, map, eq-eqb, length-append}
-use Rattle.std.specs.Prelude.{All, AllPairs, Contains, sum_by, count_by, slice_index_or, nat_lt}
-use Rattle.std.proofs.lemmas.Bool.{cases_eq, cases_Bool, ne_eqb, and_from, or_left, or_right, lt-ltb, cond-true, cond-false}
+use Rattle.std.proofs.Common.{arith, ◌≡◌, ◌≢◌, ℕ, suc, ◌*◌, ◌%◌, ◌<◌, ◌≤◌, ◌==◌, refl, sym, ap, subst, ◌∙◌, true, false, cond, inl, inr, List, [], ◌∷◌, length, map, eq-eqb, length-append}
+use Rattle.std.specs.Prelude.{All, sum_by, count_by, slice_index_or}
+use Rattle.std.proofs.lemmas.Bool.{cases_eq, ne_eqb, and_from, or_left, or_right, lt-ltb, cond-false}
 use Rattle.std.proofs.lemmas.List.{length-map}
 use Rattle.std.proofs.lemmas.List.Sums.{sum_by-cons, sum_by-append}
 use Rattle.std.proofs.lemmas.List.Elements.{All-nil, All-append, All-map}
-use Rattle.dpl_sign.specs.declared.edges.Edge.{Edge}
 use Rattle.dpl_sign.specs.declared.nets.Net.{Net}
 use Rattle.dpl_sign.specs.declared.walks.Cycle.{Cycle}
 use Rattle.dpl_sign.specs.Kinds.{is_bond, is_clash}
-use Rattle.dpl_sign.specs.Walks.{edge_at, across, leaves, IsPath, clashes, IsClosed, IsOddWalk}
-use Rattle.dpl_sign.specs.Packings.{load, passages, IsWithin, IsPacking, bound_of}
+use Rattle.dpl_sign.specs.Walks.{edge_at, across, leaves, IsPath, clashes, IsOddWalk}
+use Rattle.dpl_sign.specs.Packings.{IsPacking, bound_of}
 use Rattle.dpl_sign.proofs.ComponentLemmas.{start_below, end_below}
 use Rattle.dpl_sign.proofs.LoadLaw.{loads_counted}
-use Rattle.dpl_sign.proofs.WalkLemmas.{Leaves, leaves_ends, across_first, across_second, path_inside}
+use Rattle.dpl_sign.proofs.WalkLemmas.{leaves_ends, across_first, across_second, path_inside}
 use Rattle.dpl_parts.specs.Parts.{IsPartOf}
 use Rattle.dpl_parts.specs.Shares.{Part, ShareOut, renumbered, all_cycles}
 use Rattle.dpl_parts.proofs.Faces.{found}

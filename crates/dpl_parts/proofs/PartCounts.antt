@@ -1,5 +1,5 @@
 -- Bare nodes and components of a part are those of the whole.
-use Rattle.std.proofs.Common.{arith, ◌≡◌, ◌≢◌, ◌⊎◌, ℕ, zero, suc, ◌+◌, ◌-◌, ◌<◌, ◌==◌, refl, sym, ap, ◌∙◌, Bool, true, false, not, inl, inr, length, eq-eqb}
+use Rattle.std.proofs.Common.{arith, ◌≡◌, ℕ, zero, suc, ◌-◌, ◌<◌, ◌==◌, refl, sym, ap, ◌∙◌, Bool, not, inl, inr, length, eq-eqb}
 use Rattle.std.specs.Prelude.{if◌then◌else◌}
 use Rattle.std.proofs.lemmas.Bool.{cases_eq, cases_Bool, ne_eqb, cond-true, cond-false, both_ways}
 use Rattle.dpl_cycle.specs.Names.{AreNames, name_count}

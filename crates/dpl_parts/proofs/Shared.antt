@@ -1,10 +1,10 @@
 -- What the parts that share out a net sum to.
-use Rattle.std.proofs.Common.{arith, ◌≡◌, ◌≢◌, ◌⊎◌, ℕ, zero, suc, ◌+◌, ◌*◌, ◌/◌, ◌%◌, ◌<◌, ◌==◌, ◌&&◌, refl, sym, ap, ◌∙◌, Bool, true, false, inl, inr, List, [], ◌∷◌, length, eq-eqb}
-use Rattle.std.specs.Prelude.{if◌then◌else◌, All, AllPairs, Contains, sum_by, slice_index_or}
-use Rattle.std.proofs.lemmas.Bool.{cases_eq, cases_Bool, ne_eqb, eqb-true}
+use Rattle.std.proofs.Common.{arith, ◌≡◌, ◌≢◌, ℕ, zero, suc, ◌+◌, ◌*◌, ◌/◌, ◌%◌, ◌<◌, ◌==◌, ◌&&◌, refl, sym, ap, ◌∙◌, Bool, false, inl, inr, List, [], ◌∷◌, length}
+use Rattle.std.specs.Prelude.{if◌then◌else◌, All, sum_by, slice_index_or}
+use Rattle.std.proofs.lemmas.Bool.{cases_eq, cases_Bool, ne_eqb}
 use Rattle.std.proofs.lemmas.List.Sums.{sum_by-cons}
 use Rattle.std.proofs.lemmas.List.Elements.{All-contains}
-use Rattle.dpl_cycle.specs.Sums.{sum_on, count_on}
+use Rattle.dpl_cycle.specs.Sums.{count_on}
 use Rattle.dpl_cycle.proofs.SumLemmas.{count_on_same}
 use Rattle.dpl_sign.specs.declared.nets.Net.{Net}
 use Rattle.dpl_sign.specs.declared.graphs.Signed.{Signed}
@@ -12,13 +12,13 @@ use Rattle.dpl_sign.specs.Colourings.{breaks, broken_weight, colour_of, cost_of}
 use Rattle.dpl_sign.specs.Walks.{edge_at, no_edge}
 use Rattle.dpl_sign.specs.Drawings.{is_in, is_bare, bare_count, dart_count, face_of, face_count}
 use Rattle.dpl_sign.specs.Components.{component_of, component_count}
-use Rattle.dpl_sign.specs.Excess.{edge_count, excess, all_edges, kept_edges}
+use Rattle.dpl_sign.specs.Excess.{edge_count, excess, kept_edges}
 use Rattle.dpl_sign.specs.Parity.{passages_on_face, is_clash_edge, is_odd_face}
 use Rattle.dpl_sign.proofs.Loads as loads
 use Rattle.dpl_sign.proofs.ComponentLemmas.{start_below, end_below}
 use Rattle.dpl_sign.proofs.ExcessLemmas.{excess_euler}
 use Rattle.dpl_parts.specs.Parts.{IsPartOf, dart, broken_on}
-use Rattle.dpl_parts.specs.Shares.{Part, AreApart, IsInSome, ShareOut, AgreeWith}
+use Rattle.dpl_parts.specs.Shares.{Part, ShareOut, AgreeWith}
 use Rattle.dpl_parts.proofs.Sums.{sum_to, sums_to, sum_alike}
 use Rattle.dpl_parts.proofs.Places.{AreShares, IsHeld, sum_shared, sum_by_alike}
 use Rattle.dpl_parts.proofs.Darts.{dart_below, dart_apart, edge_apart}

@@ -1,5 +1,5 @@
 -- Colours of the parts colour the whole, and faces that the whole links lie in one part.
-use Rattle.std.proofs.Common.{arith, ◌≡◌, ℕ, ◌<◌, refl, sym, ap, ◌∙◌, Bool, true, List, length, subst}
+use Rattle.std.proofs.Common.{◌≡◌, ℕ, ◌<◌, sym, ap, ◌∙◌, Bool, true, List, length, subst}
 use Rattle.std.specs.Prelude.{All}
 use Rattle.std.proofs.lemmas.List.Elements.{All-contains}
 use Rattle.dpl_sign.specs.declared.nets.Net.{Net}

@@ -1,5 +1,5 @@
 -- A net as the sum of its components.
-use Rattle.std.specs.Prelude.{◌≡◌, ◌≢◌, ℕ, ◌<◌, Bool, List, ◌++◌, length, map, All, AllPairs, Contains}
+use Rattle.std.specs.Prelude.{◌≡◌, ◌≢◌, ℕ, ◌<◌, Bool, List, map, All, AllPairs, Contains}
 use Rattle.std.specs.List.{flat_map}
 use Rattle.dpl_sign.specs.Colourings.{colour_of}
 use Rattle.dpl_sign.specs.declared.nets.Net.{Net}

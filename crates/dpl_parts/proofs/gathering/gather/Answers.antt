@@ -1,5 +1,5 @@
-use Rattle.std.proofs.Common.{arith, rules, ◌≡◌, ◌<◌, ℕ, true, length, slice_index_or, List, sym, ap, subst, ◌∙◌}
-use Rattle.dpl_parts.specs.Picks.{is_taken, is_edge_taken, picked_below, place_in, ArePicked}
+use Rattle.std.proofs.Common.{arith, ◌≡◌, ℕ, true, length, slice_index_or, List, sym, ap, subst, ◌∙◌}
+use Rattle.dpl_parts.specs.Picks.{is_taken, is_edge_taken, picked_below, place_in}
 use Rattle.dpl_parts.proofs.PickLemmas.{picked_is, picked_at}
 use Rattle.dpl_parts.proofs.GatherLemmas.{taken_inside}
 use Rattle.dpl_parts.proofs.gathering.gather.Goals as goal

@@ -1,8 +1,8 @@
-use Rattle.std.proofs.Common.{arith, rules, ◌≡◌, ◌<◌, ◌≤◌, ◌^◌, ℕ, true, length, slice_index_or, List, sym, ap, subst, ◌∙◌}
+use Rattle.std.proofs.Common.{arith, ◌≡◌, ◌<◌, length, slice_index_or, sym, ap, subst, ◌∙◌}
 use Rattle.std.proofs.lemmas.List.{get_or_default}
 use Rattle.dpl_sign.specs.Kinds.{IsGraph}
 use Rattle.dpl_sign.specs.Walks.{no_edge}
-use Rattle.dpl_parts.specs.Picks.{is_taken, is_edge_taken, picked_below, HasPlaces, ArePicked}
+use Rattle.dpl_parts.specs.Picks.{HasPlaces}
 use Rattle.dpl_parts.proofs.GatherLemmas.{AreGathered, picks_taken, nodes_taken, has_places, gathered_graph, gathered_part}
 use Rattle.dpl_parts.proofs.gathering.gather_picked.Goals as goal
 
