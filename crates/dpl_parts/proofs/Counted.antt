@@ -15,7 +15,7 @@ use Rattle.dpl_parts.proofs.Darts.{dart_half, dart_below, dart_apart}
 use Rattle.dpl_parts.proofs.Faces.{seek, seek_hit, seek_miss, label_along, face_there, face_here}
 use Rattle.dpl_parts.proofs.Sums.{sum_to, sums_to, sum_alike, sum_part}
 
-zeros : (n : ℕ) → sum_to (λ e. 0) n ≡ 0
+pub zeros : (n : ℕ) → sum_to (λ e. 0) n ≡ 0
 zeros zero = refl
 zeros (suc n) = let r = zeros n in omega (arith, r)
 
@@ -31,7 +31,7 @@ module _ (part whole : Net) (node edge : ℕ → ℕ) (h : IsPartOf part whole n
       let s : label y ≡ label (dart edge c) = sym (all y m) ∙ ap label e ∙ all (dart edge c) (dart_below part whole node edge h c l) in
       omega (arith, a, b, s)
 
-  dart_order : (c d : ℕ) → c < d → d < dart_count part → dart edge c < dart edge d
+  pub dart_order : (c d : ℕ) → c < d → d < dart_count part → dart edge c < dart edge d
   dart_order c d l m = elim (cases_eq (c / 2) (d / 2)) [
     | inl e ↦ let s : edge (c / 2) ≡ edge (d / 2) = ap edge e in omega arith
     | inr e ↦ let s = h.order (c / 2) (d / 2) (omega arith) (omega arith) in omega arith

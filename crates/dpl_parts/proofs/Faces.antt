@@ -89,7 +89,7 @@ module _ (part whole : Net) (node edge : ℕ → ℕ) (h : IsPartOf part whole n
       let all = component_label part.graph p label (λ x l t. ap (component_of whole.graph q) (sym (h.first x l)) ∙ component_joined whole.graph q (edge x) (h.edges x l) (alike x l ∙ t) ∙ ap (component_of whole.graph q) (h.second x l)) in
       sym (all u) ∙ ap label e ∙ all v
 
-  one_label : (f : ℕ) → f < length whole.graph.edges → q f ≡ true → seek node (component_of part.graph p) part.graph.nodes (edge_at whole.graph f).a ≡ seek node (component_of part.graph p) part.graph.nodes (edge_at whole.graph f).b
+  pub one_label : (f : ℕ) → f < length whole.graph.edges → q f ≡ true → seek node (component_of part.graph p) part.graph.nodes (edge_at whole.graph f).a ≡ seek node (component_of part.graph p) part.graph.nodes (edge_at whole.graph f).b
   one_label f l t =
       let n = part.graph.nodes in
       let own = component_of part.graph p in

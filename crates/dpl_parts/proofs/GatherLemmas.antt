@@ -1,13 +1,12 @@
 -- Some components of a net, gathered, are a part of it.
-use Rattle.std.proofs.Common.{arith, rules, ◌≡◌, ℕ, ◌<◌, ◌≤◌, ◌^◌, ◌⊎◌, inl, inr, Bool, true, false, List, length, refl, sym, ap, subst, ◌∙◌, slice_index_or}
-use Rattle.std.specs.Prelude.{All}
+use Rattle.std.proofs.Common.{arith, ◌≡◌, ℕ, ◌<◌, ◌≤◌, inl, inr, Bool, true, false, List, length, sym, ap, subst, ◌∙◌, slice_index_or}
 use Rattle.std.proofs.lemmas.Bool.{cases_lt, both_ways}
 use Rattle.std.proofs.lemmas.List.{get_or_default, get_or_past}
 use Rattle.dpl_sign.specs.declared.edges.Edge.{Edge}
 use Rattle.dpl_sign.specs.declared.nets.Net.{Net}
 use Rattle.dpl_sign.specs.declared.ports.Port.{Port}
 use Rattle.dpl_sign.specs.Drawings.{no_port}
-use Rattle.dpl_sign.specs.Kinds.{IsGraph, EndsBelow, BondsFirst, is_bond}
+use Rattle.dpl_sign.specs.Kinds.{IsGraph, is_bond}
 use Rattle.dpl_sign.specs.Walks.{no_edge, edge_at}
 use Rattle.dpl_sign.proofs.ComponentLemmas.{start_below, end_below}
 use Rattle.dpl_parts.specs.Parts.{IsPartOf}
@@ -20,7 +19,7 @@ pub record AreGathered (whole : Net) (taken : List Bool) (nodes place picks : Li
   pub closed : AreClosed taken whole.graph.edges
   pub nodes_are : nodes ≡ picked_below (is_taken taken) (length taken)
   pub place_long : length place ≡ length taken
-  pub place_each : (v : ℕ) → v < length taken → slice_index_or place v 0 ≡ place_in (is_taken taken) v
+  pub place_each : (v : ℕ) → v < length taken → is_taken taken v ≡ true → slice_index_or place v 0 ≡ place_in (is_taken taken) v
   pub picks_are : picks ≡ picked_below (is_edge_taken taken whole.graph.edges) (length whole.graph.edges)
   pub edges_long : length edges ≡ length picks
   pub edges_each : (i : ℕ) → i < length picks → IsRenumbered (slice_index_or whole.graph.edges (slice_index_or picks i 0) no_edge) (slice_index_or edges i no_edge) place
@@ -52,13 +51,13 @@ taken_inside taken w t = elim (cases_lt w (length taken)) [
 
 -- the ends of an edge between taken nodes have places
 pub has_places : (whole : Net) (taken : List Bool) (place : List ℕ) → length taken ≡ whole.graph.nodes → AreClosed taken whole.graph.edges → length place ≡ length taken
-    → ((v : ℕ) → v < length taken → slice_index_or place v 0 ≡ place_in (is_taken taken) v)
+    → ((v : ℕ) → v < length taken → is_taken taken v ≡ true → slice_index_or place v 0 ≡ place_in (is_taken taken) v)
     → (e : ℕ) → e < length whole.graph.edges → is_taken taken (edge_at whole.graph e).a ≡ true → HasPlaces (edge_at whole.graph e) place
 has_places whole taken place long closed plong each e l t =
     let a = start_below whole.graph e l in
     let b = end_below whole.graph e l in
-    let pa = each (edge_at whole.graph e).a (omega (arith, a, long)) in
-    let pb = each (edge_at whole.graph e).b (omega (arith, b, long)) in
+    let pa = each (edge_at whole.graph e).a (omega (arith, a, long)) t in
+    let pb = each (edge_at whole.graph e).b (omega (arith, b, long)) (sym (closed e l) ∙ t) in
     let r = places_rise (is_taken taken) (edge_at whole.graph e).a (edge_at whole.graph e).b (edge_at whole.graph e).ordered t in
     record { first = omega (arith, a, long, plong); second = omega (arith, b, long, plong); order = omega (arith, pa, pb, r) }
 
@@ -75,7 +74,7 @@ module _ (whole : Net) (taken : List Bool) (nodes place picks : List ℕ) (edges
   node_at_place w l t =
       let P : List ℕ → Type 0 = λ xs. (place_in (is_taken taken) w < length xs) × (slice_index_or xs (place_in (is_taken taken) w) 0 ≡ w) in
       let Q : ℕ → Type 0 = λ z. (z < length nodes) × (slice_index_or nodes z 0 ≡ w) in
-      subst Q (sym (h.place_each w l)) (subst P (sym h.nodes_are) (picked_at (is_taken taken) (length taken) w l t))
+      subst Q (sym (h.place_each w l t)) (subst P (sym h.nodes_are) (picked_at (is_taken taken) (length taken) w l t))
 
   nodes_rise : (u v : ℕ) → u < v → v < length nodes → slice_index_or nodes u 0 < slice_index_or nodes v 0
   nodes_rise u v l m =

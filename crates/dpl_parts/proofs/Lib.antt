@@ -9,3 +9,10 @@ pub mod Linked
 pub mod JoinedLemmas
 pub mod PickLemmas
 pub mod GatherLemmas
+pub mod Places
+pub mod FaceNames
+pub mod PartCounts
+pub mod Shared
+pub mod Packed
+pub mod Together
+pub mod SplitLemmas

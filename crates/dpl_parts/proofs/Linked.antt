@@ -13,14 +13,14 @@ use Rattle.dpl_parts.proofs.Kept.{keeps_alike}
 use Rattle.dpl_parts.proofs.Counted.{not_away}
 
 -- a face is named by a dart on it
-face_name : (net : Net) (p : ℕ → Bool) (c : ℕ) → c < dart_count net → face_of net p (face_of net p c) ≡ face_of net p c
+pub face_name : (net : Net) (p : ℕ → Bool) (c : ℕ) → c < dart_count net → face_of net p (face_of net p c) ≡ face_of net p c
 face_name net p c l = label_least (dart_count net) (next_in_face net p) (face_back net p) (face_permutes net p) (face_of net p) (λ x k. least_step (dart_count net) (next_in_face net p) (face_back net p) (face_permutes net p) x k) c l
 
-face_low : (net : Net) (p : ℕ → Bool) (c : ℕ) → c < dart_count net → face_of net p c < dart_count net
+pub face_low : (net : Net) (p : ℕ → Bool) (c : ℕ) → c < dart_count net → face_of net p c < dart_count net
 face_low net p c l = let s = least_le (dart_count net) (next_in_face net p) (face_back net p) (face_permutes net p) c l in omega arith
 
 module _ (part whole : Net) (node edge : ℕ → ℕ) (h : IsPartOf part whole node edge) (p q : ℕ → Bool) (alike : (e : ℕ) → e < length part.graph.edges → q (edge e) ≡ p e) where
-  up_is : (c : ℕ) → c < dart_count part → face_of whole q (dart edge (face_of part p c)) ≡ face_of whole q (dart edge c)
+  pub up_is : (c : ℕ) → c < dart_count part → face_of whole q (dart edge (face_of part p c)) ≡ face_of whole q (dart edge c)
   up_is c l = face_there part whole node edge h p q alike (face_of part p c) c (face_low part p c l) l (face_name part p c l)
 
   first_up : (e f : ℕ) → e < length part.graph.edges → face_of part p (2 * e) ≡ f → face_of whole q (2 * edge e) ≡ face_of whole q (dart edge f)
@@ -54,7 +54,7 @@ module _ (part whole : Net) (node edge : ℕ → ℕ) (h : IsPartOf part whole n
 
   -- ---- back
 
-  from_dart : (f y : ℕ) → f < dart_count part → y < dart_count whole → face_of whole q y ≡ face_of whole q (dart edge f) → (x : ℕ) × (x < dart_count part) × (dart edge x ≡ y)
+  pub from_dart : (f y : ℕ) → f < dart_count part → y < dart_count whole → face_of whole q y ≡ face_of whole q (dart edge f) → (x : ℕ) × (x < dart_count part) × (dart edge x ≡ y)
   from_dart f y l m r = elim (found (dart edge) (dart_count part) y) [ inl k ↦ k | inr none ↦ absurd (not_away part whole node edge h p q alike f y l m none r) ]
 
   -- the face of the part over the other side of an edge

@@ -1,8 +1,6 @@
 -- Numbers that pass a test, in order.
-use Rattle.std.proofs.Common.{arith, rules, ◌≡◌, ℕ, zero, suc, ◌+◌, ◌<◌, ◌≤◌, inl, inr, Bool, true, false, List, [], ◌∷◌, ◌++◌, length, refl, sym, ap, subst, ◌∙◌, slice_index_or, length-append}
-use Rattle.std.specs.Prelude.{if◌then◌else◌}
-use Rattle.std.proofs.lemmas.Bool.{cases_lt, cases_eq, cases_Bool, both_ways}
-use Rattle.std.proofs.lemmas.List.{get_or_append_left}
+use Rattle.std.proofs.Common.{arith, ◌≡◌, ℕ, zero, suc, ◌<◌, ◌≤◌, inl, inr, Bool, true, false, List, [], ◌∷◌, ◌++◌, length, refl, sym, ap, subst, ◌∙◌, slice_index_or, length-append}
+use Rattle.std.proofs.lemmas.Bool.{cases_lt, cases_eq, cases_Bool}
 use Rattle.dpl_parts.specs.Picks.{picked_below, place_in}
 
 push_at : (xs : List ℕ) (x : ℕ) → slice_index_or (xs ++ x ∷ []) (length xs) 0 ≡ x
@@ -15,10 +13,10 @@ push_front (y ∷ xs) x zero l = refl
 push_front (y ∷ xs) x (suc i) l = push_front xs x i (omega (arith, l))
 
 module _ (test : ℕ → Bool) where
-  take_true : (k : ℕ) → test k ≡ true → picked_below test (suc k) ≡ picked_below test k ++ k ∷ []
+  pub take_true : (k : ℕ) → test k ≡ true → picked_below test (suc k) ≡ picked_below test k ++ k ∷ []
   take_true k t = rw t refl
 
-  take_false : (k : ℕ) → test k ≡ false → picked_below test (suc k) ≡ picked_below test k
+  pub take_false : (k : ℕ) → test k ≡ false → picked_below test (suc k) ≡ picked_below test k
   take_false k t = rw t refl
 
   pub picked_few : (k : ℕ) → length (picked_below test k) ≤ k

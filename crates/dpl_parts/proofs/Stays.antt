@@ -35,10 +35,10 @@ list_at f (suc n) v l =
 
 -- ---- bonds
 
-bond_at : (net : Net) (colours : List Bool) → IsColouring net.graph colours → (e : ℕ) → e < length net.graph.edges → is_bond (edge_at net.graph e).kind ≡ true → colour_of colours (edge_at net.graph e).a ≡ colour_of colours (edge_at net.graph e).b
+pub bond_at : (net : Net) (colours : List Bool) → IsColouring net.graph colours → (e : ℕ) → e < length net.graph.edges → is_bond (edge_at net.graph e).kind ≡ true → colour_of colours (edge_at net.graph e).a ≡ colour_of colours (edge_at net.graph e).b
 bond_at net colours k e l b = k.bonds e no_edge l b
 
-bonds_from : (net : Net) (colours : List Bool) → ((e : ℕ) → e < length net.graph.edges → is_bond (edge_at net.graph e).kind ≡ true → colour_of colours (edge_at net.graph e).a ≡ colour_of colours (edge_at net.graph e).b) → All (λ x. is_bond x.kind ≡ true → colour_of colours x.a ≡ colour_of colours x.b) net.graph.edges
+pub bonds_from : (net : Net) (colours : List Bool) → ((e : ℕ) → e < length net.graph.edges → is_bond (edge_at net.graph e).kind ≡ true → colour_of colours (edge_at net.graph e).a ≡ colour_of colours (edge_at net.graph e).b) → All (λ x. is_bond x.kind ≡ true → colour_of colours x.a ≡ colour_of colours x.b) net.graph.edges
 bonds_from net colours h e d l =
     subst (λ (x : Edge). is_bond x.kind ≡ true → colour_of colours x.a ≡ colour_of colours x.b) (get_or_default net.graph.edges e no_edge d l) (h e l)
 

@@ -1,6 +1,7 @@
 -- Some of the nodes of a net and the edges between them.
-use Rattle.std.specs.Prelude.{◌≡◌, ℕ, zero, suc, ◌<◌, Bool, true, false, List, [], ◌∷◌, ◌++◌, length, slice_index_or, if◌then◌else◌}
+use Rattle.std.specs.Prelude.{◌≡◌, ◌==◌, ℕ, zero, suc, ◌<◌, Bool, true, false, List, [], ◌∷◌, ◌++◌, length, slice_index_or, if◌then◌else◌}
 use Rattle.dpl_sign.specs.declared.edges.Edge.{Edge}
+use Rattle.dpl_sign.specs.declared.nets.Net.{Net}
 use Rattle.dpl_sign.specs.Walks.{no_edge}
 
 -- whether a node is taken
@@ -38,3 +39,19 @@ pub record HasPlaces (edge : Edge) (place : List ℕ) : Type 0 where
   pub first : edge.a < length place
   pub second : edge.b < length place
   pub order : slice_index_or place edge.a 0 < slice_index_or place edge.b 0
+
+-- whether a number has a label
+abbrev pub has_label : List ℕ → ℕ → ℕ → Bool
+has_label labels c v = slice_index_or labels v 0 == c
+
+-- These are the taken nodes and the edges between them, where no edge leads from them to others, and at each of these
+-- nodes stands its place among them.
+pub record ArePicked (whole : Net) (nodes place picks : List ℕ) : Type 0 where
+  pub taken : List Bool
+  pub long : length taken ≡ whole.graph.nodes
+  pub closed : AreClosed taken whole.graph.edges
+  pub nodes_are : nodes ≡ picked_below (is_taken taken) (length taken)
+  pub place_long : length place ≡ length taken
+  pub place_each : (v : ℕ) → v < length taken → is_taken taken v ≡ true →
+      slice_index_or place v 0 ≡ place_in (is_taken taken) v
+  pub picks_are : picks ≡ picked_below (is_edge_taken taken whole.graph.edges) (length whole.graph.edges)

@@ -5,7 +5,7 @@ ghost use Rattle.dpl_sign.specs.Walks.{no_edge};
 ghost use Rattle.dpl_sign.specs.Kinds.{IsGraph};
 ghost use Rattle.dpl_sign.specs.Pieces.{FitGraph};
 ghost use Rattle.dpl_parts.specs.Parts.{IsPartOf};
-ghost use Rattle.dpl_parts.specs.Picks.{is_taken, AreClosed, picked_below, is_edge_taken, place_in, IsRenumbered, HasPlaces};
+ghost use Rattle.dpl_parts.specs.Picks.{is_taken, AreClosed, ArePicked, picked_below, is_edge_taken, place_in, IsRenumbered, HasPlaces};
 
 use dpl_list::Items;
 use dpl_sign::{Edge, Net, Port, Signed};
@@ -174,22 +174,22 @@ fn assembled(
     }
 }
 
-/// The net of the components whose nodes are taken: these nodes and the edges between them.
-pub fn gather(alloc: Global, net: &Net, taken: &[bool]) -> Result<Gathered, NoMemory>
-    requires long { length taken.now ≡ net.now.graph.nodes }
-    requires closed { AreClosed taken.now net.now.graph.edges }
+/// The net of the picked nodes and the picked edges between them.
+pub fn gather_picked(
+    alloc: Global,
+    net: &Net,
+    nodes: Vec<u32>,
+    place: &[u32],
+    picks: Vec<u32>,
+) -> Result<Gathered, NoMemory>
+    requires { ArePicked net.now nodes.items place.now picks.items }
     ensures part { IfOk result (λ g. IsPartOf g.net net.now
         (λ v. slice_index_or g.nodes.items v 0) (λ e. slice_index_or g.edges.items e 0)) }
-    ensures taken { IfOk result (λ g. (v : ℕ) → v < g.net.graph.nodes →
-        is_taken taken.now (slice_index_or g.nodes.items v 0) ≡ true) }
-    ensures all { IfOk result (λ g. (w : ℕ) → is_taken taken.now w ≡ true →
-        (v : ℕ) × (v < g.net.graph.nodes) × (slice_index_or g.nodes.items v 0 ≡ w)) }
+    ensures nodes { IfOk result (λ g. g.nodes.items ≡ nodes.items) }
+    ensures count { IfOk result (λ g. g.net.graph.nodes ≡ length nodes.items) }
 {
     let edges = net.graph.edges.as_slice();
-    let nodes = taken_nodes(alloc, taken)?;
-    let place = places(alloc, taken)?;
-    let picks = taken_edges(alloc, taken, edges)?;
-    let found = gathered_edges(alloc, edges, picks.as_slice(), place.as_slice())?;
+    let found = gathered_edges(alloc, edges, picks.as_slice(), place)?;
     let ports = gathered_ports(alloc, net.ports.as_slice(), picks.as_slice())?;
     let pieces = gathered_pieces(
         alloc,
@@ -203,4 +203,24 @@ pub fn gather(alloc: Global, net: &Net, taken: &[bool]) -> Result<Gathered, NoMe
         nodes,
         edges: picks,
     })
+}
+
+/// The net of the components whose nodes are taken: these nodes and the edges between them.
+pub fn gather(alloc: Global, net: &Net, taken: &[bool]) -> Result<Gathered, NoMemory>
+    requires long { length taken.now ≡ net.now.graph.nodes }
+    requires closed { AreClosed taken.now net.now.graph.edges }
+    ensures part { IfOk result (λ g. IsPartOf g.net net.now
+        (λ v. slice_index_or g.nodes.items v 0) (λ e. slice_index_or g.edges.items e 0)) }
+    ensures taken { IfOk result (λ g. (v : ℕ) → v < g.net.graph.nodes →
+        is_taken taken.now (slice_index_or g.nodes.items v 0) ≡ true) }
+    ensures all { IfOk result (λ g. (w : ℕ) → is_taken taken.now w ≡ true →
+        (v : ℕ) × (v < g.net.graph.nodes) × (slice_index_or g.nodes.items v 0 ≡ w)) }
+{
+    let nodes = taken_nodes(alloc, taken)?;
+    let place = places(alloc, taken)?;
+    let picks = taken_edges(alloc, taken, net.graph.edges.as_slice())?;
+    match gather_picked(alloc, net, nodes, place.as_slice(), picks) {
+        Ok(gathered) => Ok(gathered),
+        Err(error) => Err(error),
+    }
 }

@@ -8,11 +8,15 @@
 mod gathering;
 mod joining;
 mod laws;
+mod splitting;
+mod summing;
 
 pub use gathering::{Gathered, gather};
 pub use joining::{components, counted_components};
 pub use laws::{component_rules, optima_stay};
+pub use splitting::split;
 pub use std::alloc::AllocError as NoMemory;
+pub use summing::sum_rules;
 
 #[cfg(test)]
 mod tests;

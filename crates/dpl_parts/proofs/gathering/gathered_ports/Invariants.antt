@@ -1,6 +1,5 @@
 use Rattle.std.proofs.Common.{◌≡◌, ◌<◌, ℕ, length, slice_index_or}
 use Rattle.dpl_sign.specs.Drawings.{no_port}
-use Rattle.dpl_parts.specs.Picks.{IsRenumbered}
 use Rattle.dpl_parts.proofs.gathering.gathered_ports.Given as goal
 
 abbrev pub invariant-loop-pick : goal.invariant-loop-pick

@@ -1,5 +1,5 @@
 use Rattle.std.proofs.Common.{◌≡◌, ◌<◌, ◌≤◌, ℕ, length, slice_index_or}
-use Rattle.dpl_parts.specs.Picks.{is_taken, is_edge_taken, picked_below, place_in}
+use Rattle.dpl_parts.specs.Picks.{is_taken, place_in}
 use Rattle.dpl_parts.proofs.gathering.places.Given as goal
 
 abbrev pub invariant-loop-v : goal.invariant-loop-v

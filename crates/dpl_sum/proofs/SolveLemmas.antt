@@ -1,0 +1,188 @@
+-- Parts solved one after another, and the net that they share out.
+use Rattle.std.proofs.Common.{arith, ◌≡◌, ◌≢◌, ℕ, zero, suc, ◌+◌, ◌-◌, ◌<◌, ◌≤◌, max, inl, inr, List, [], ◌∷◌, ◌++◌, length, map, refl, sym, ap, subst, ◌∙◌, length-append}
+use Rattle.std.specs.Prelude.{All, AllPairs, Contains, slice_index_or}
+use Rattle.std.proofs.lemmas.Bool.{cases_eq, cases_lt}
+use Rattle.std.proofs.lemmas.List.{append-nil, append_assoc, map-append, length-map, get_or-map}
+use Rattle.std.proofs.lemmas.List.Elements.{All-nil, All-map, All-push}
+use Rattle.dpl_limits.specs.declared.TheConstants.{MOST_ODD_FACES}
+use Rattle.dpl_sign.specs.declared.nets.Net.{Net}
+use Rattle.dpl_parts.specs.declared.gathering.Gathered.{Gathered}
+use Rattle.dpl_parts.specs.Gathers.{part_of}
+use Rattle.dpl_parts.specs.Parts.{IsPartOf}
+use Rattle.dpl_parts.specs.Shares.{Part, AreApart, IsInSome, ShareOut}
+use Rattle.dpl_solve.specs.Solved.{IsRefused}
+use Rattle.dpl_sum.specs.declared.combining.SolvedPart.{SolvedPart}
+use Rattle.dpl_sum.specs.Laying.{solved_part}
+use Rattle.dpl_sum.specs.Solved.{IsSolved, HasAtMost}
+use Rattle.dpl_sum.specs.Solving.{part_in, IsOneRefused, AreRefused, AreSolvedTo}
+use Rattle.dpl_sum.proofs.SolutionLemmas.{refused_sum}
+
+-- ---- a part has no more edges than the whole
+
+module _ (part whole : Net) (node edge : ℕ → ℕ) (h : IsPartOf part whole node edge) where
+  rises : (e : ℕ) → e < length part.graph.edges → e ≤ edge e
+  rises zero l = omega arith
+  rises (suc e) l = let r = rises e (omega (arith, l)) in let o = h.order e (suc e) (omega arith) l in omega (arith, r, o)
+
+  pub part_small : length part.graph.edges ≤ length whole.graph.edges
+  part_small = elim (cases_eq (length part.graph.edges) 0) [
+    | inl z ↦ omega (arith, z)
+    | inr z ↦
+        let last = length part.graph.edges - 1 in
+        let low : last < length part.graph.edges = omega (arith, z) in
+        let r = rises last low in
+        let i = h.edges last low in
+        omega (arith, r, i, z)
+  ]
+
+-- ---- elements of lists that are not empty
+
+abbrev pick : {X : Type 0} (xs : List X) (k : ℕ) → k < length xs → X
+pick [] k l = absurd (omega (arith, l))
+pick (x ∷ xs) zero l = x
+pick (x ∷ xs) (suc k) l = pick xs k (omega (arith, l))
+
+pick_is : {X Y : Type 0} (f : X → Y) (xs : List X) (k : ℕ) (l : k < length xs) (d : Y) → slice_index_or (map f xs) k d ≡ f (pick xs k l)
+pick_is f [] k l d = absurd (omega (arith, l))
+pick_is f (x ∷ xs) zero l d = refl
+pick_is f (x ∷ xs) (suc k) l d = pick_is f xs k (omega (arith, l)) d
+
+pick_at : {X : Type 0} (xs : List X) (k : ℕ) (l : k < length xs) (d : X) → slice_index_or xs k d ≡ pick xs k l
+pick_at [] k l d = absurd (omega (arith, l))
+pick_at (x ∷ xs) zero l d = refl
+pick_at (x ∷ xs) (suc k) l d = pick_at xs k (omega (arith, l)) d
+
+pub edges_few : (whole : Net) (parts : List Gathered) (n : ℕ) → ShareOut whole (map part_of parts) → length whole.graph.edges ≤ n → All (λ p. length p.net.graph.edges ≤ n) parts
+edges_few whole parts n h few k d l =
+    let size = length-map parts part_of in
+    let e : slice_index_or (map part_of parts) k (part_of d) ≡ part_of (slice_index_or parts k d) = get_or-map part_of parts k d (part_of d) l in
+    let own = subst (λ p. IsPartOf p.net whole p.node p.edge) e (h.are k (part_of d) (omega (arith, l, size))) in
+    let s = part_small (slice_index_or parts k d).net whole _ _ own in
+    omega (arith, s, few)
+
+-- ---- parts with their solutions share out what the parts do
+
+abbrev bare_of : SolvedPart → Part
+bare_of s = part_of s.part
+
+bare_map : (solved : List SolvedPart) → map part_of (map part_in solved) ≡ map bare_of solved
+bare_map [] = refl
+bare_map (s ∷ solved) = ap (λ zs. part_of s.part ∷ zs) (bare_map solved)
+
+share_bare : (whole : Net) (solved : List SolvedPart) → ShareOut whole (map bare_of solved) → ShareOut whole (map solved_part solved)
+share_bare whole solved h =
+    let n = length-map solved bare_of in
+    let m = length-map solved solved_part in
+    record {
+      are = λ k d l.
+          let low : k < length solved = omega (arith, l, m) in
+          let own : IsPartOf (bare_of (pick solved k low)).net whole (bare_of (pick solved k low)).node (bare_of (pick solved k low)).edge = subst (λ p. IsPartOf p.net whole p.node p.edge) (pick_is bare_of solved k low d) (h.are k d (omega (arith, low, n))) in
+          subst (λ p. IsPartOf p.net whole p.node p.edge) (sym (pick_is solved_part solved k low d)) own;
+      apart = λ i j d s l.
+          let low : j < length solved = omega (arith, l, m) in
+          let under : i < length solved = omega (arith, low, s) in
+          let own : AreApart (bare_of (pick solved i under)) (bare_of (pick solved j low)) = subst (AreApart (bare_of (pick solved i under))) (pick_is bare_of solved j low d) (subst (λ p. AreApart p (slice_index_or (map bare_of solved) j d)) (pick_is bare_of solved i under d) (h.apart i j d s (omega (arith, low, n)))) in
+          let as_solved : AreApart (solved_part (pick solved i under)) (solved_part (pick solved j low)) = own in
+          subst (λ p. AreApart p (slice_index_or (map solved_part solved) j d)) (sym (pick_is solved_part solved i under d)) (subst (AreApart (solved_part (pick solved i under))) (sym (pick_is solved_part solved j low d)) as_solved);
+      all = λ w l. in_solved w (h.all w l);
+    } where
+      in_solved : (w : ℕ) → IsInSome (map bare_of solved) w → IsInSome (map solved_part solved) w
+      in_solved w i = held i.among where
+        held : Contains (map bare_of solved) i.part → IsInSome (map solved_part solved) w
+        held (k, l, e) =
+            let n = length-map solved bare_of in
+            let m = length-map solved solved_part in
+            let low : k < length solved = omega (arith, l, n) in
+            let s = pick solved k low in
+            let at : bare_of s ≡ i.part = sym (pick_is bare_of solved k low i.part) ∙ e in
+            let b : i.own < (bare_of s).net.graph.nodes = subst (λ p. i.own < p.net.graph.nodes) (sym at) i.below in
+            let is : (bare_of s).node i.own ≡ w = ap (λ (p : Part). p.node i.own) at ∙ i.is in
+            record { part = solved_part s; among = (k, omega (arith, low, m), pick_is solved_part solved k low (solved_part s)); own = i.own; below = b; is = is }
+
+pub share_solved : (whole : Net) (parts : List Gathered) (solved : List SolvedPart) → ShareOut whole (map part_of parts) → map part_in solved ≡ parts → ShareOut whole (map solved_part solved)
+share_solved whole parts solved h e = share_bare whole solved (subst (ShareOut whole) (ap (map part_of) (sym e) ∙ bare_map solved) h)
+
+pub all_solved : (solved : List SolvedPart) → All (λ s. IsSolved (solved_part s)) solved → All IsSolved (map solved_part solved)
+all_solved solved h = All-map IsSolved solved_part solved h
+
+pub refused_all : (whole : Net) (parts : List Gathered) (n : ℕ) → ShareOut whole (map part_of parts) → AreRefused parts n → IsRefused whole n
+refused_all whole parts n h r = found r.one.among where
+  found : Contains parts r.one.part → IsRefused whole n
+  found (k, l, e) =
+      let size = length-map parts part_of in
+      refused_sum whole (map part_of parts) h n (All-map (λ p. HasAtMost p.net n) part_of parts r.at_most) (part_of r.one.part) (k, omega (arith, l, size), get_or-map part_of parts k r.one.part (part_of r.one.part) l ∙ ap part_of e) r.one.refused
+
+-- ---- one part after another
+
+pub none_yet : AreSolvedTo [] [] 0
+none_yet = record {
+  each = λ k d l. absurd (omega (arith, l));
+  all = λ e. refl;
+  low = λ n m l k d b. absurd (omega (arith, b));
+  some = λ l. absurd (omega (arith, l));
+}
+
+front_at : {X : Type 0} (xs ys : List X) (k : ℕ) (d : X) → k < length xs → slice_index_or (xs ++ ys) k d ≡ slice_index_or xs k d
+front_at [] ys k d l = absurd (omega (arith, l))
+front_at (x ∷ xs) ys zero d l = refl
+front_at (x ∷ xs) ys (suc k) d l = front_at xs ys k d (omega (arith, l))
+
+one_more : (parts : List Gathered) (p : Gathered) (n : ℕ) → IsOneRefused parts n → IsOneRefused (parts ++ p ∷ []) n
+one_more parts p n r = found r.among where
+  found : Contains parts r.part → IsOneRefused (parts ++ p ∷ []) n
+  found (k, l, e) =
+      let size = length-append parts (p ∷ []) in
+      record { part = r.part; among = (k, omega (arith, l, size), front_at parts (p ∷ []) k r.part l ∙ e); refused = r.refused }
+
+at_end : {X : Type 0} (xs : List X) (x d : X) → slice_index_or (xs ++ x ∷ []) (length xs) d ≡ x
+at_end [] x d = refl
+at_end (y ∷ xs) x d = at_end xs x d
+
+pub one_solved : (parts : List Gathered) (solved new : List SolvedPart) (most : ℕ) (p : Gathered) (s : SolvedPart) → AreSolvedTo parts solved most → s.part ≡ p → IsSolved (solved_part s) → new ≡ solved ++ s ∷ [] → AreSolvedTo (parts ++ p ∷ []) new most
+one_solved parts solved new most p s h e own is = subst (λ zs. AreSolvedTo (parts ++ p ∷ []) zs most) (sym is) (record {
+  each = All-push (λ z. IsSolved (solved_part z)) solved s h.each own;
+  all = λ z. map-append part_in solved (s ∷ []) ∙ ap (λ zs. zs ++ part_in s ∷ []) (h.all z) ∙ ap (λ z. parts ++ z ∷ []) e;
+  low = λ n m l.
+      let few : HasAtMost s.part.net n = λ faces o. let f = own.parts faces o in omega (arith, f, m) in
+      All-push (λ z. HasAtMost z.net n) parts p (h.low n m l) (subst (λ (z : Gathered). HasAtMost z.net n) e few);
+  some = λ l. one_more parts p most (h.some l);
+})
+
+pub one_refused : (parts : List Gathered) (solved : List SolvedPart) (most new count : ℕ) (p : Gathered) → AreSolvedTo parts solved most → IsRefused p.net count → new ≡ max most count → AreSolvedTo (parts ++ p ∷ []) solved new
+one_refused parts solved most new count p h r is =
+    let many = r.many in record {
+      each = h.each;
+      all = λ z. absurd (omega (arith, z, is, many));
+      low = λ n m l.
+          let few : HasAtMost p.net n = λ faces o. let f = r.most.most faces o in omega (arith, f, is, l) in
+          All-push (λ z. HasAtMost z.net n) parts p (h.low n m (omega (arith, l, is))) few;
+      some = λ l. elim (cases_lt most count) [
+        | inl low ↦
+            let same : count ≡ new = omega (arith, is, low) in
+            let size = length-append parts (p ∷ []) in
+            let r' : IsOneRefused (parts ++ p ∷ []) count = record { part = p; among = (length parts, omega (arith, size), at_end parts p p); refused = r } in
+            subst (IsOneRefused (parts ++ p ∷ [])) same r'
+        | inr far ↦
+            let same : most ≡ new = omega (arith, is, far) in
+            subst (IsOneRefused (parts ++ p ∷ [])) same (one_more parts p most (h.some (omega (arith, far, many))))
+      ];
+    }
+
+pub are_refused : (parts : List Gathered) (solved : List SolvedPart) (most : ℕ) → AreSolvedTo parts solved most → 0 < most → AreRefused parts most
+are_refused parts solved most h l =
+    let one = h.some l in
+    let many = one.refused.many in
+    record { one = one; at_most = h.low most (omega (arith, many)) (omega arith) }
+
+-- ---- the list that is gone through
+
+pub middle : {X : Type 0} (P : X → Type 0) (xs : List X) (y : X) (zs : List X) → All P (xs ++ y ∷ zs) → P y
+middle P [] y zs h = h 0 y (omega arith)
+middle P (x ∷ xs) y zs h = middle P xs y zs (λ k d l. h (suc k) d (omega (arith, l)))
+
+pub ended : {X : Type 0} (xs rest all : List X) → xs ++ rest ≡ all → length rest ≡ 0 → xs ≡ all
+ended xs [] all e z = sym (append-nil xs) ∙ e
+ended xs (y ∷ rest) all e z = absurd (omega (arith, z))
+
+pub one_on : {X : Type 0} (xs rest more all : List X) (y : X) → xs ++ rest ≡ all → rest ≡ y ∷ more → (xs ++ y ∷ []) ++ more ≡ all
+one_on xs rest more all y e r = append_assoc xs (y ∷ []) more ∙ ap (λ zs. xs ++ zs) (sym r) ∙ e
