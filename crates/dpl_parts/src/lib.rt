@@ -3,6 +3,9 @@
 //! `components` numbers the components of a net. Which edges of a component are kept, and what its faces are, is told by
 //! the component alone (`component_rules`). So a component that stays in another net keeps its optimum: laid over an
 //! optimum of the other net it is one again (`optima_stay`).
+//!
+//! What is counted or weighed of a net is the sum over the parts that share it out, and what colours and packs them colours
+//! and packs the net (`sum_rules`). `split` makes the net of each component.
 #![tactic(auto)]
 
 mod gathering;

@@ -27,4 +27,5 @@ with_part p colours = laid p.node (colour_of p.colours) colours p.net.graph.node
 abbrev pub AgreeBelow : List Bool → List Part → ℕ → Type 0
 AgreeBelow colours parts n = (k : ℕ) (d : Part) → k < n → (v : ℕ) →
     v < (slice_index_or parts k d).net.graph.nodes →
-    colour_of colours ((slice_index_or parts k d).node v) ≡ colour_of (slice_index_or parts k d).colours v
+    colour_of colours ((slice_index_or parts k d).node v)
+    ≡ colour_of (slice_index_or parts k d).colours v

@@ -32,8 +32,8 @@ pub fn solutions_add_up()
     ensures refused { (whole : Net) (parts : List Part) → ShareOut whole parts →
         (n : ℕ) → All (λ p. HasAtMost p.net n) parts →
         (part : Part) → Contains parts part → IsRefused part.net n → IsRefused whole n }
-    ensures stays { (old new : Net) → AreSameNets old new → (colours : List Bool) (cost : ℕ) (aside : List ℕ)
-        (excess' : ℕ) (cycles : List Cycle) (bound : ℕ) →
+    ensures stays { (old new : Net) → AreSameNets old new → (colours : List Bool) (cost : ℕ)
+        (aside : List ℕ) (excess' : ℕ) (cycles : List Cycle) (bound : ℕ) →
         IsSolution old colours cost aside excess' cycles bound →
         IsSolution new colours cost aside excess' cycles bound }
     ensures refuses { (whole : Net) (parts : List Part) → ShareOut whole parts →
