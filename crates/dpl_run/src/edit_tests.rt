@@ -1,5 +1,6 @@
 use crate::Status;
 use crate::tests::{CHECK, Ended, TRIANGLE, TWO, devices, run_over};
+use itoa::Buffer;
 use std::alloc::Global;
 use std::test::Fail;
 
@@ -65,34 +66,49 @@ fn scripts_that_stop(rt: HostRuntime) -> Result<(), Fail> {
     Ok(())
 }
 
-/// One byte more than a script may have, and a layout that is none besides: the script is told.
+/// As many bytes as are asked for.
+fn ones(alloc: Global, count: u32) -> Result<Vec<u8>, Fail> {
+    let mut bytes = Vec::new(alloc);
+    for _byte in 0..count {
+        bytes.push(b'1')?;
+    }
+    Ok(bytes)
+}
+
+/// A script that is too long is told before the layout is looked at, and after it one that is not.
 #[test]
 fn a_long_script(rt: HostRuntime) -> Result<(), Fail> {
-    let mut script = Vec::new(rt.alloc());
-    for _byte in 0..65_537u32 {
-        script.push(b'1')?;
-    }
-    let ended = edited(rt.alloc(), b"L M; Q 1; E", script.as_slice())?;
+    let layout = b"L M; Q 1; E";
+    let script = ones(rt.alloc(), 65_537)?;
+    let ended = edited(rt.alloc(), layout, script.as_slice())?;
     let limit = Status::Limit {
         kind: 10,
         count: 65_537,
     };
     assert_eq!(rt; ended.status, limit);
     assert_eq!(rt; ended.out.bytes().len(), 0);
-    let ended = edited(rt.alloc(), b"L M; Q 1; E", &script.as_slice()[..65_536])?;
+    let script = ones(rt.alloc(), 65_536)?;
+    let ended = edited(rt.alloc(), layout, script.as_slice())?;
     assert_eq!(rt; ended.status.code(), 3u8);
     Ok(())
 }
 
-/// A box far from the strip comes and goes 500 times.
+/// A box far from all others comes and goes 500 times.
+fn a_thousand_lines(alloc: Global) -> Result<Vec<u8>, Fail> {
+    let mut script = Vec::new(alloc);
+    for number in 0..500u32 {
+        let mut buffer = Buffer::new();
+        script.extend_from_slice(b"add 0 10000 200 10200\nremove ")?;
+        script.extend_from_slice(buffer.format(number).as_bytes())?;
+        script.push(b'\n')?;
+    }
+    Ok(script)
+}
+
 #[test]
 fn a_thousand_edits(rt: HostRuntime) -> Result<(), Fail> {
-    let mut script = String::new(rt.alloc());
-    for number in 0..500u32 {
-        writeln!(script, "add 0 10000 200 10200")?;
-        writeln!(script, "remove {number}")?;
-    }
-    let made = edited(rt.alloc(), STRIP, script.as_bytes())?;
+    let script = a_thousand_lines(rt.alloc())?;
+    let made = edited(rt.alloc(), STRIP, script.as_slice())?;
     assert_eq!(rt; made.status, Status::Done);
     let read = checked(rt.alloc(), STRIP, made.out.bytes())?;
     assert_eq!(rt; read.out.bytes(), b"yes cost 2560 bound 5120\n".as_slice());
