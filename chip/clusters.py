@@ -77,4 +77,4 @@ def groups(boxes, numbers, size):
     large = 2 * numpy.diff(starts, append=len(boxes)) > size
     begins = large | (numpy.diff(starts // size, prepend=-1) != 0)
     begins[1:] |= large[:-1]
-    return numpy.split(boxes[order], starts[begins][1:])
+    return numpy.split(boxes[order], starts[begins][1:]) if len(boxes) else []
