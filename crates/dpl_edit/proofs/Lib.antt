@@ -2,4 +2,5 @@ pub mod ContentLemmas
 pub mod RefusalLemmas
 pub mod OrderLemmas
 pub mod KeepLemmas
+pub mod RecallLemmas
 pub mod SessionLemmas

@@ -1,8 +1,9 @@
 -- The optimum of a content, and what stays of it.
-use Rattle.std.specs.Prelude.{◌≡◌, ◌<◌, ◌≤◌, ℕ, Bool, List}
+use Rattle.std.specs.Prelude.{◌≡◌, ◌<◌, ◌≤◌, ◌^◌, ℕ, Bool, List, length, All}
 use Rattle.dpl_limits.specs.Limits.{most_of}
 use Rattle.dpl_limits.specs.declared.counted.Counted.TheVariants as Counted
 use Rattle.dpl_cell.specs.declared.layout.Primitive.{Primitive}
+use Rattle.dpl_cell.specs.declared.rect.Rect.{Rect}
 use Rattle.dpl_sign.specs.declared.nets.Net.{Net}
 use Rattle.dpl_sign.specs.declared.walks.Cycle.{Cycle}
 use Rattle.dpl_sign.specs.Colourings.{colour_of}
@@ -11,7 +12,11 @@ use Rattle.dpl_options.specs.Options.{PlainOptions}
 use Rattle.dpl_solve.specs.Solved.{IsSolution, IsRefused}
 use Rattle.dpl_layer.specs.Drawings.{Cells}
 use Rattle.dpl_layer.specs.Layers.{IsLayer}
+use Rattle.dpl_stay.specs.Order.{AreRectsInOrder}
 use Rattle.dpl_stay.specs.Same.{corners_at, AreSame}
+use Rattle.dpl_sum.specs.declared.combining.SolvedPart.{SolvedPart}
+use Rattle.dpl_sum.specs.Laying.{solved_part}
+use Rattle.dpl_sum.specs.Solved as sum
 use Rattle.dpl_edit.specs.declared.solved.Solved.{Solved}
 use Rattle.dpl_edit.specs.Contents.{cells_in, prim_count}
 
@@ -62,3 +67,13 @@ KeepMasks before after = (v w : ℕ) → v < after.net.graph.nodes → w < befor
     AreSame after.fragments.rects before.fragments.rects after.net before.net v w →
     corners_at after.fragments.rects v ≡ corners_at before.fragments.rects w →
     colour_of after.colours v ≡ colour_of before.colours w
+
+-- components by themselves, with an optimum of each
+abbrev pub AreSolved : List SolvedPart → Type 0
+AreSolved parts = All (λ p. sum.IsSolved (solved_part p)) parts
+
+-- optima of components that are known, and the rectangles of the net that they came from
+pub record AreKnown (rects : List Rect) (known : List SolvedPart) : Type 0 where
+  pub order : AreRectsInOrder rects
+  pub few : length rects < 2 ^ 32
+  pub solved : AreSolved known

@@ -2,7 +2,7 @@
 ghost use Rattle.std.specs.Prelude.{◌≡◌, ◌⊎◌, IfOk, IfErr};
 ghost use Rattle.dpl_layer.specs.Drawings.{Cells};
 ghost use Rattle.dpl_edit.specs.Contents.{content, Refuses};
-ghost use Rattle.dpl_edit.specs.Optima.{IsSolved, IsSomeOptimum, IsSolvedContent, KeepMasks, solved_of};
+ghost use Rattle.dpl_edit.specs.Optima.{IsSolved, IsSomeOptimum, IsSolvedContent, AreSolved, KeepMasks, solved_of};
 
 use crate::errors::EditError;
 use crate::placed::Placed;
@@ -26,10 +26,15 @@ fn keep_masks(
     ensures solved { IfOk result (λ s. (cells kept : Cells) →
         IsSolved options.now cells kept (solved_of new) →
         IsSolved options.now cells kept (solved_of s)) }
+    ensures parts { IfOk result (λ s. s.parts.items ≡ new.parts.items) }
     ensures kept { IfOk result (λ s. KeepMasks (solved_of old.now) (solved_of s)) }
 {
     let _options = options;
-    let Solved { layer, solution } = new;
+    let Solved {
+        layer,
+        solution,
+        parts,
+    } = new;
     let colours = keep_colours(
         alloc,
         old.layer.fragments.rects.as_slice(),
@@ -48,10 +53,15 @@ fn keep_masks(
         cycles: solution.cycles,
         bound: solution.bound,
     };
-    Ok(Solved { layer, solution })
+    Ok(Solved {
+        layer,
+        solution,
+        parts,
+    })
 }
 
-/// The optimum of a drawing and the boxes, with the old masks on each component that is the same as one before.
+/// The optimum of a drawing and the boxes, with the old masks on each component that is the same as one before. Only the
+/// other components are solved.
 pub fn solve_edit(
     alloc: Global,
     drawing: &mut Drawing,
@@ -59,16 +69,20 @@ pub fn solve_edit(
     options: &Options,
     old: &Solved,
 ) -> Result<Solved, EditError>
-    requires { IsSomeOptimum options.now (solved_of old.now) }
+    requires old { IsSomeOptimum options.now (solved_of old.now) }
+    requires known { AreSolved old.now.parts.items }
     ensures same { drawing.new.layer.prims ≡ drawing.old.layer.prims }
     ensures keep { drawing.new.keep.prims ≡ drawing.old.keep.prims }
     ensures solved { IfOk result (λ s. IsSolvedContent options.now
         (content drawing.old.layer.prims boxes.now) drawing.old.keep.prims (solved_of s)) }
+    ensures parts { IfOk result (λ s. AreSolved s.parts.items) }
     ensures kept { IfOk result (λ s. KeepMasks (solved_of old.now) (solved_of s)) }
     ensures refused { IfErr result (λ e. (e ≡ EditError.NoMemory) ⊎ Refuses options.now
         (content drawing.old.layer.prims boxes.now) drawing.old.keep.prims e) }
 {
-    let solved = match solve_content(alloc, drawing, boxes, options) {
+    let old_rects = old.layer.fragments.rects.as_slice();
+    let known = old.parts.as_slice();
+    let solved = match solve_content(alloc, drawing, boxes, options, old_rects, known) {
         Ok(solved) => solved,
         Err(error) => return Err(error),
     };

@@ -7,10 +7,10 @@
 #![tactic(auto)]
 
 mod contents;
-mod copying;
 mod editing;
 mod errors;
 mod placed;
+mod recalling;
 mod sessions;
 mod solved;
 mod weighing;

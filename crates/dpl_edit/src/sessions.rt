@@ -6,7 +6,6 @@ ghost use Rattle.dpl_edit.specs.Optima.{KeepMasks};
 ghost use Rattle.dpl_edit.specs.Sessions.{IsReportOf, IsBegun, IsEdited, RefusesRemoval};
 
 use crate::contents::{has_box, with_box, without_box};
-use crate::copying::copy_solution;
 use crate::editing::solve_edit;
 use crate::errors::{EditError, RemoveError, as_removal};
 use crate::placed::Placed;
@@ -16,10 +15,11 @@ use dpl_core::{report_is_of_the_layer, report_of};
 use dpl_layer::Drawing;
 use dpl_options::Options;
 use dpl_report::Report;
+use dpl_sum::copy_solution;
 use std::alloc::{AllocError as NoMemory, Global};
 use std::marker::Model;
 
-/// The content of a layer, its net and an optimum.
+/// The content of a layer, its net and an optimum, of the whole and of each component.
 #[derive(Drop)]
 pub struct Session {
     options: Options,
@@ -30,7 +30,7 @@ pub struct Session {
 }
 
 impl Model for Session {
-    ghost use Rattle.dpl_edit.specs.Optima.{solved_of};
+    ghost use Rattle.dpl_edit.specs.Optima.{AreSolved, solved_of};
     ghost use Rattle.dpl_edit.specs.Sessions.{State, IsSession};
 
     ghost Value = { State };
@@ -51,7 +51,7 @@ impl Model for Session {
       boxes = s.boxes.items;
       count = s.count;
       solved = solved_of s.solved;
-    }) };
+    }) × AreSolved s.solved.parts.items };
 }
 
 impl Session {
@@ -66,7 +66,7 @@ impl Session {
     {
         let mut drawing = drawing;
         let boxes = Vec::new(alloc);
-        match solve_content(alloc, &mut drawing, &boxes, &options) {
+        match solve_content(alloc, &mut drawing, &boxes, &options, &[], &[]) {
             Ok(solved) => Ok(Session {
                 options,
                 drawing,

@@ -1,33 +1,71 @@
 // The net of a content and its optimum.
-ghost use Rattle.std.specs.Prelude.{◌≡◌, ◌⊎◌, length, take, IfOk, IfErr, OnOk, Err};
+ghost use Rattle.std.specs.Prelude.{◌≡◌, ◌⊎◌, ◌≤◌, ℕ, length, take, IfOk, IfErr, OnOk, Err};
+ghost use Rattle.dpl_limits.specs.declared.TheConstants.{MOST_EDGES};
 ghost use Rattle.dpl_cell.specs.Layers.{cells_of};
+ghost use Rattle.dpl_solve.specs.Solved.{IsSolution, IsRefused};
 ghost use Rattle.dpl_edit.specs.Contents.{content, Refuses, RefusesDrawn};
-ghost use Rattle.dpl_edit.specs.Optima.{IsSolved, IsSolvedContent, solved_of};
+ghost use Rattle.dpl_edit.specs.Optima.{IsSolved, IsSolvedContent, AreSolved, AreKnown, solved_of};
 
 use crate::contents::push_boxes;
 use crate::errors::{EditError, as_edit};
 use crate::placed::Placed;
+use crate::recalling::places;
 use crate::weighing::weigh;
-use dpl_cell::Layout;
+use dpl_cell::{Layout, Rect};
 use dpl_layer::{Drawing, Layer, LayerError, layer_of};
 use dpl_limits::Counted;
 use dpl_list::Items;
 use dpl_options::Options;
-use dpl_solve::{Solution, SolveError, solve};
+use dpl_solve::{Solution, SolveError};
+use dpl_sum::{SolvedPart, solve_again};
 use std::alloc::{AllocError as NoMemory, Global};
 use std::mem;
 
-/// The fragments and the net of a content, and an optimum of the net.
+/// The fragments and the net of a content, an optimum of the net, and one of each of its components.
 #[derive(Drop)]
 pub struct Solved {
     pub layer: Layer,
     pub solution: Solution,
+    pub parts: Vec<SolvedPart>,
+}
+
+/// The optimum of the net of a layer, where optima of old components may be known. The old net comes with the
+/// rectangles of its nodes.
+fn solve_layer(
+    alloc: Global,
+    layer: &Layer,
+    old_rects: &[Rect],
+    known: &[SolvedPart],
+) -> Result<dpl_sum::Solved, SolveError>
+    requires edges { length layer.now.net.graph.edges ≤ MOST_EDGES }
+    requires known { AreKnown old_rects.now known.now }
+    ensures solved { IfOk result (λ r. IsSolution layer.now.net r.solution.colours.items
+        r.solution.cost r.solution.aside r.solution.excess r.solution.cycles r.solution.bound) }
+    ensures parts { IfOk result (λ r. AreSolved r.parts.items) }
+    ensures refused { (n : ℕ) → result ≡ Err (SolveError.OddFaces n) → IsRefused layer.now.net n }
+    ensures exact { (n : ℕ) → IsRefused layer.now.net n →
+        (result ≡ Err (SolveError.OddFaces n)) ⊎ (result ≡ Err SolveError.NoMemory) }
+{
+    let rects = layer.fragments.rects.as_slice();
+    let places = match places(alloc, rects, old_rects, known) {
+        Ok(places) => places,
+        Err(_) => return Err(SolveError::NoMemory),
+    };
+    solve_again(alloc, &layer.net, known, places.as_slice())
 }
 
 /// The optimum of a drawing.
-fn solve_drawing(alloc: Global, drawing: &Drawing, options: &Options) -> Result<Solved, LayerError>
+fn solve_drawing(
+    alloc: Global,
+    drawing: &Drawing,
+    options: &Options,
+    old_rects: &[Rect],
+    known: &[SolvedPart],
+) -> Result<Solved, LayerError>
+    requires { AreKnown old_rects.now known.now }
     ensures solved { IfOk result (λ s. IsSolved options.now (cells_of drawing.now.layer)
         (cells_of drawing.now.keep) (solved_of s)) }
+    ensures parts { IfOk result (λ s. AreSolved s.parts.items) }
     ensures refused { IfErr result (λ e. (e ≡ LayerError.NoMemory) ⊎
         RefusesDrawn options.now (cells_of drawing.now.layer) (cells_of drawing.now.keep) e) }
 {
@@ -35,8 +73,15 @@ fn solve_drawing(alloc: Global, drawing: &Drawing, options: &Options) -> Result<
         Ok(layer) => layer,
         Err(error) => return Err(error),
     };
-    match solve(alloc, &layer.net) {
-        Ok(solution) => Ok(Solved { layer, solution }),
+    match solve_layer(alloc, &layer, old_rects, known) {
+        Ok(solved) => {
+            let dpl_sum::Solved { solution, parts } = solved;
+            Ok(Solved {
+                layer,
+                solution,
+                parts,
+            })
+        }
         Err(SolveError::OddFaces(count)) => Err(LayerError::Limit {
             kind: Counted::OddFaces.number(),
             count: u64::from(count),
@@ -46,9 +91,17 @@ fn solve_drawing(alloc: Global, drawing: &Drawing, options: &Options) -> Result<
 }
 
 /// The same, where there are not too many primitives.
-fn solve_few(alloc: Global, drawing: &Drawing, options: &Options) -> Result<Solved, EditError>
+fn solve_few(
+    alloc: Global,
+    drawing: &Drawing,
+    options: &Options,
+    old_rects: &[Rect],
+    known: &[SolvedPart],
+) -> Result<Solved, EditError>
+    requires { AreKnown old_rects.now known.now }
     ensures solved { IfOk result (λ s. IsSolvedContent options.now drawing.now.layer.prims
         drawing.now.keep.prims (solved_of s)) }
+    ensures parts { IfOk result (λ s. AreSolved s.parts.items) }
     ensures refused { IfErr result (λ e. (e ≡ EditError.NoMemory) ⊎
         Refuses options.now drawing.now.layer.prims drawing.now.keep.prims e) }
 {
@@ -59,7 +112,7 @@ fn solve_few(alloc: Global, drawing: &Drawing, options: &Options) -> Result<Solv
             count,
         });
     }
-    match solve_drawing(alloc, drawing, options) {
+    match solve_drawing(alloc, drawing, options, old_rects, known) {
         Ok(solved) => Ok(solved),
         Err(error) => Err(as_edit(error)),
     }
@@ -91,37 +144,46 @@ fn solve_together(
     drawing: &mut Drawing,
     boxes: &[Placed],
     options: &Options,
+    old_rects: &[Rect],
+    known: &[SolvedPart],
 ) -> Result<Solved, EditError>
+    requires { AreKnown old_rects.now known.now }
     ensures kept { take (length drawing.old.layer.prims) drawing.new.layer.prims
         ≡ drawing.old.layer.prims }
     ensures keep { drawing.new.keep.prims ≡ drawing.old.keep.prims }
     ensures solved { IfOk result (λ s. IsSolvedContent options.now
         (content drawing.old.layer.prims boxes.now) drawing.old.keep.prims (solved_of s)) }
+    ensures parts { IfOk result (λ s. AreSolved s.parts.items) }
     ensures refused { IfErr result (λ e. (e ≡ EditError.NoMemory) ⊎ Refuses options.now
         (content drawing.old.layer.prims boxes.now) drawing.old.keep.prims e) }
 {
     match put_behind(alloc, &mut drawing.layer, boxes) {
-        Ok(()) => solve_few(alloc, drawing, options),
+        Ok(()) => solve_few(alloc, drawing, options, old_rects, known),
         Err(_) => Err(EditError::NoMemory),
     }
 }
 
-/// The optimum of a drawing and the boxes that were added to its chosen layer.
+/// The optimum of a drawing and the boxes that were added to its chosen layer. Optima of the components of an old net are
+/// known, and the rectangles of its nodes; only what is none of these components is solved.
 pub fn solve_content(
     alloc: Global,
     drawing: &mut Drawing,
     boxes: &[Placed],
     options: &Options,
+    old_rects: &[Rect],
+    known: &[SolvedPart],
 ) -> Result<Solved, EditError>
+    requires { AreKnown old_rects.now known.now }
     ensures same { drawing.new.layer.prims ≡ drawing.old.layer.prims }
     ensures keep { drawing.new.keep.prims ≡ drawing.old.keep.prims }
     ensures solved { IfOk result (λ s. IsSolvedContent options.now
         (content drawing.old.layer.prims boxes.now) drawing.old.keep.prims (solved_of s)) }
+    ensures parts { IfOk result (λ s. AreSolved s.parts.items) }
     ensures refused { IfErr result (λ e. (e ≡ EditError.NoMemory) ⊎ Refuses options.now
         (content drawing.old.layer.prims boxes.now) drawing.old.keep.prims e) }
 {
     let count = drawing.layer.prims.as_slice().len();
-    let result = solve_together(alloc, drawing, boxes, options);
+    let result = solve_together(alloc, drawing, boxes, options, old_rects, known);
     leave(alloc, &mut drawing.layer, count);
     result
 }

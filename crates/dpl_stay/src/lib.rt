@@ -9,4 +9,5 @@ mod marking;
 mod pairing;
 
 pub use keeping::keep_colours;
+pub use pairing::partners;
 pub use std::alloc::AllocError as NoMemory;

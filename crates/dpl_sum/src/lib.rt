@@ -12,6 +12,7 @@ mod laws;
 mod solving;
 
 pub use combining::{SolvedPart, combine};
+pub use comparing::copy_solution;
 pub use laws::solutions_add_up;
 pub use solving::{Solved, solve, solve_again};
 pub use std::alloc::AllocError as NoMemory;

@@ -5,7 +5,7 @@ use Rattle.dpl_edit.proofs.sessions.Session.report.Goals as goal
 
 pub returns : goal.returns
 returns c =
-    let layer = c.self.invariant.solved.layer in
+    let layer = c.self.invariant.0.solved.layer in
     subst (λ (z : State). IsReportOf z (plain_report c.in_ok-report.report)) c.self.view_is (record {
       of_cells = record {
         fragments = c.self.inside.solved.layer.fragments;

@@ -1,5 +1,0 @@
-use Rattle.std.proofs.Common.{◌≡◌, take}
-use Rattle.dpl_edit.proofs.copying.copy_cycles.Given as goal
-
-abbrev pub invariant-loop-cycle : goal.invariant-loop-cycle
-invariant-loop-cycle l = l.copies.items ≡ take l.cycle-index l.cycles
