@@ -353,7 +353,7 @@ def main():
     asked.add_argument("layouts", nargs="*", metavar="LAYOUT:LAYER:SPACE:OVERLAP")
     asked.add_argument("--scripts", type=int, default=200)
     asked.add_argument("--lines", type=int, default=20)
-    asked = asked.parse_args()
+    asked = asked.parse_intermixed_args()
     with tempfile.TemporaryDirectory() as folder:
         program = Program(asked.binary, folder)
         wrong = try_scripts(program, asked.scripts) + try_limits(program)

@@ -18,6 +18,8 @@ mod laminar;
 #[cfg(test)]
 mod map;
 #[cfg(test)]
+mod parts;
+#[cfg(test)]
 mod sign;
 #[cfg(test)]
 mod solve;

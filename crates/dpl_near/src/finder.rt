@@ -68,12 +68,7 @@ impl<'a> Finder<'a> {
     }
 
     /// The same, or `None` where the bounds of more than `most` are near.
-    pub fn few_near(
-        &self,
-        alloc: Global,
-        i: u32,
-        most: usize,
-    ) -> Result<Option<Vec<u32>>, NoMemory>
+    pub fn few_near(&self, alloc: Global, i: u32, most: usize) -> Result<Option<Vec<u32>>, NoMemory>
         requires { i < length self.now.rects }
         ensures { IfOk result (λ few. IfSome few (λ v. AreNear self.now i v.items)) }
     {

@@ -8,6 +8,8 @@ mod balance;
 #[cfg(test)]
 mod check;
 #[cfg(test)]
+mod edits;
+#[cfg(test)]
 mod made_layouts;
 #[cfg(test)]
 mod report;

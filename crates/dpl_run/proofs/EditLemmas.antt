@@ -1,13 +1,11 @@
 -- What is due for `edit`: one answer at most, and the end of its work.
-use Rattle.std.proofs.Common.{arith, ◌≡◌, ◌⊎◌, ◌∙◌, ◌+◌, ◌≤◌, ◌<◌, ℕ, List, [], ◌∷◌, ◌++◌, append-nil, length, map, Option, true, refl, sym, ap, subst, inl, inr}
+use Rattle.std.proofs.Common.{arith, ◌≡◌, ◌⊎◌, ◌∙◌, ◌+◌, ◌≤◌, ℕ, List, [], ◌∷◌, ◌++◌, append-nil, length, map, Option, true, refl, sym, ap, subst, inl, inr}
 use Rattle.std.specs.Prelude.{Result, Ok, Err}
 use Rattle.dpl_cell.specs.declared.rect.Rect.{Rect}
 use Rattle.dpl_cell.specs.declared.layout.Primitive.{Primitive}
-use Rattle.dpl_cell.specs.Outlines.{Outline, outline_of}
+use Rattle.dpl_cell.specs.Outlines.{Outline}
 use Rattle.dpl_cif.specs.Reading.Reading.{Good}
 use Rattle.dpl_options.specs.Options.{PlainOptions, PlainWeights}
-use Rattle.dpl_layer.specs.declared.error.LayerError.{LayerError}
-use Rattle.dpl_layer.specs.declared.error.LayerError.TheVariants as refusal
 use Rattle.dpl_layer.specs.declared.drawing.Drawing.{Drawing}
 use Rattle.dpl_layer.specs.Drawings.{Cells, IsDrawingOf}
 use Rattle.dpl_layer.specs.Refusals.{IsOverLimit, RefusesDrawing}
@@ -30,7 +28,7 @@ use Rattle.dpl_words.proofs.ScriptLemmas.{bad_once, script_free}
 use Rattle.dpl_run.specs.declared.status.Status.{Status}
 use Rattle.dpl_run.specs.declared.status.Status.TheVariants.{Done, Rejected, Usage, Layout, Limit, Script, ReadFault, WriteFault, NoMemory}
 use Rattle.dpl_run.specs.Inputs.{colours, follows}
-use Rattle.dpl_run.specs.due.Edit.{Edits, begun_with, edits_of, edited, IsMissing, IsOver, PassesNone, Reports, StopsAt, IsTaken, AreEditsDue, IsScriptDue, IsEditDue}
+use Rattle.dpl_run.specs.due.Edit.{Edits, begun_with, edits_of, edited, IsOver, PassesNone, Reports, StopsAt, IsTaken, AreEditsDue, IsScriptDue, IsEditDue}
 use Rattle.dpl_run.specs.due.Edit.StopsAt.{missing, over}
 use Rattle.dpl_run.specs.due.Edit.IsScriptDue.{bad_line, applied}
 use Rattle.dpl_run.specs.due.Edit.IsEditDue.{unread, too_much, begun}

@@ -1,13 +1,13 @@
 -- A text is a script of one list of lines, which is no longer than the text, and two drawings of one text are the same.
-use Rattle.std.proofs.Common.{arith, ◌≡◌, ◌∙◌, ◌+◌, ◌≤◌, ◌<◌, ◌^◌, ℕ, suc, zero, Bool, true, false, List, [], ◌∷◌, length, map, Option, Some, refl, sym, ap}
+use Rattle.std.proofs.Common.{arith, ◌≡◌, ◌∙◌, ◌+◌, ◌≤◌, ◌<◌, ◌^◌, ℕ, suc, zero, Bool, true, false, List, [], ◌∷◌, length, map, refl, sym, ap}
 use Rattle.std.specs.Prelude.{codes, All, if◌then◌else◌, ◌==◌}
-use Rattle.dpl_form.specs.Lines.{lines_in, to_first, with_byte}
+use Rattle.dpl_form.specs.Lines.{lines_in, to_first}
 use Rattle.dpl_cell.specs.declared.point.Point.{Point}
 use Rattle.dpl_cell.specs.declared.rect.Rect.{Rect}
 use Rattle.dpl_cell.specs.declared.layout.Primitive.{Primitive}
 use Rattle.dpl_cell.specs.declared.layout.Primitive.TheVariants.{Box, Poly}
-use Rattle.dpl_cell.specs.Places.{Corners, corners_of, place_of}
-use Rattle.dpl_cell.specs.Outlines.{Outline, outline_of}
+use Rattle.dpl_cell.specs.Places.{corners_of, place_of}
+use Rattle.dpl_cell.specs.Outlines.{outline_of}
 use Rattle.dpl_cell.specs.Outlines.Outline.{Box as BoxOutline, Polygon}
 use Rattle.dpl_cell.proofs.Same.{same_corners, same_point}
 use Rattle.dpl_words.specs.declared.edits.Line.{Line}

@@ -1,6 +1,6 @@
 -- Odd faces that are together in the whole are together in one part.
-use Rattle.std.proofs.Common.{arith, ◌≡◌, ◌≢◌, ◌⊎◌, ℕ, zero, suc, ◌+◌, ◌*◌, ◌/◌, ◌%◌, ◌<◌, ◌≤◌, ◌==◌, ◌&&◌, refl, sym, ap, subst, ◌∙◌, Bool, true, false, cond, inl, inr, List, [], ◌∷◌, length, map}
-use Rattle.std.specs.Prelude.{All, AllPairs, Contains, filter, slice_index_or}
+use Rattle.std.proofs.Common.{arith, ◌≡◌, ℕ, zero, suc, ◌+◌, ◌/◌, ◌%◌, ◌<◌, ◌≤◌, ◌==◌, ◌&&◌, refl, sym, ap, subst, ◌∙◌, Bool, true, false, cond, inl, inr, List, [], ◌∷◌, length, map}
+use Rattle.std.specs.Prelude.{All, filter, slice_index_or}
 use Rattle.std.specs.List.{range_with_len}
 use Rattle.std.proofs.lemmas.Bool.{cases_eq, cases_lt, cases_Bool, cond-true, cond-false, ne_eqb, both_ways}
 use Rattle.std.proofs.lemmas.List.{get_or-map, length-map}
@@ -13,9 +13,9 @@ use Rattle.dpl_sign.specs.Parity.{passages_on_face, is_clash_edge, is_odd_face, 
 use Rattle.dpl_parts.specs.Parts.{IsPartOf, dart, face_at}
 use Rattle.dpl_parts.specs.Shares.{Part, ShareOut}
 use Rattle.dpl_parts.proofs.Counted.{zeros}
-use Rattle.dpl_parts.proofs.Darts.{dart_below, dart_apart}
+use Rattle.dpl_parts.proofs.Darts.{dart_apart}
 use Rattle.dpl_parts.proofs.Kept.{keeps_alike}
-use Rattle.dpl_parts.proofs.Linked.{face_name, face_low, links_alike, links_stay}
+use Rattle.dpl_parts.proofs.Linked.{face_low, links_alike, links_stay}
 use Rattle.dpl_parts.proofs.Shared.{dart_held, not_odd, odd_up}
 use Rattle.dpl_parts.proofs.Sums.{sums_to}
 use Rattle.dpl_parts.proofs.Together.{face_name_up, face_name_down}

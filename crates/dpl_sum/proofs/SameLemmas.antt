@@ -1,6 +1,6 @@
 -- A solution of a net is one of each net with the same nodes, edges and ports.
-use Rattle.std.proofs.Common.{arith, ◌≡◌, ℕ, zero, suc, ◌+◌, ◌<◌, ◌≤◌, not, List, [], ◌∷◌, ◌++◌, length, map, refl, sym, ap, ◌∙◌, Bool}
-use Rattle.std.specs.Prelude.{All, slice_index_or, sum_by, if◌then◌else◌}
+use Rattle.std.proofs.Common.{arith, ◌≡◌, ℕ, zero, suc, ◌≤◌, not, List, [], ◌∷◌, ◌++◌, length, map, refl, sym, ap, subst, ◌∙◌, Bool}
+use Rattle.std.specs.Prelude.{All, if◌then◌else◌}
 use Rattle.std.proofs.lemmas.List.{append-nil}
 use Rattle.std.proofs.lemmas.List.Sums.{sum_by-cons}
 use Rattle.dpl_sign.specs.declared.edges.Edge.{Edge}
@@ -94,3 +94,13 @@ module _ (old new : Net) (same : AreSameNets old new) where
         one_solved : (p : Part) → IsSolved p → All IsSolved (p ∷ [])
         one_solved p h zero d l = h
         one_solved p h (suc k) d l = absurd (omega (arith, l))
+
+-- a part with the colours and the cycles of one whose net is the same
+pub solved_stays : (old new : Part) → AreSameNets old.net new.net → new.colours ≡ old.colours → new.cycles ≡ old.cycles → IsSolved old → IsSolved new
+solved_stays old new same ec ey h =
+    let s = solution_stays old.net new.net same old.colours _ _ _ old.cycles _ h in
+    let between : Part = record { net = new.net; node = new.node; edge = new.edge; colours = old.colours; cycles = old.cycles } in
+    let u = as_solved between _ _ _ _ s in
+    let P : List Bool → Type 0 = λ c. IsSolution new.net c (cost_of new.net.graph c) (aside_edges new.net) (excess new.net all_edges) old.cycles (bound_of old.cycles) in
+    let Q : List Cycle → Type 0 = λ y. IsSolution new.net new.colours (cost_of new.net.graph new.colours) (aside_edges new.net) (excess new.net all_edges) y (bound_of y) in
+    subst Q (sym ey) (subst P (sym ec) u)

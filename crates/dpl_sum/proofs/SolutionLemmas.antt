@@ -1,6 +1,6 @@
 -- Solutions of the parts are a solution of the whole.
-use Rattle.std.proofs.Common.{arith, ◌≡◌, ℕ, suc, ◌+◌, ◌*◌, ◌^◌, ◌<◌, ◌≤◌, ◌==◌, refl, sym, ap, subst, ◌∙◌, Bool, true, List, [], ◌∷◌, length, map}
-use Rattle.std.specs.Prelude.{All, Contains, sum_by, count_by, slice_index_or}
+use Rattle.std.proofs.Common.{arith, ◌≡◌, ℕ, suc, ◌+◌, ◌*◌, ◌^◌, ◌<◌, ◌≤◌, refl, sym, ap, subst, ◌∙◌, Bool, true, List, [], ◌∷◌, length, map}
+use Rattle.std.specs.Prelude.{All, Contains, sum_by, slice_index_or}
 use Rattle.std.proofs.lemmas.List.{length-map}
 use Rattle.std.proofs.lemmas.List.Sums.{sum_by-cons}
 use Rattle.std.proofs.lemmas.List.Elements.{All-map, All-contains}
@@ -8,20 +8,20 @@ use Rattle.dpl_limits.specs.declared.TheConstants.{MOST_ODD_FACES}
 use Rattle.dpl_sign.specs.declared.nets.Net.{Net}
 use Rattle.dpl_sign.specs.declared.walks.Cycle.{Cycle}
 use Rattle.dpl_sign.specs.Colourings.{cost_of}
-use Rattle.dpl_sign.specs.Drawings.{is_in, dart_count, face_count}
+use Rattle.dpl_sign.specs.Drawings.{dart_count, face_count}
 use Rattle.dpl_sign.specs.Parity.{is_odd_face}
 use Rattle.dpl_cycle.specs.Sums.{count_on}
-use Rattle.dpl_sign.specs.Excess.{all_edges, aside_edges, excess, kept_edges}
+use Rattle.dpl_sign.specs.Excess.{all_edges, aside_edges, excess}
 use Rattle.dpl_sign.specs.Packings.{bound_of}
 use Rattle.dpl_sign.proofs.WalkLemmas.{bound_small}
 use Rattle.dpl_parts.specs.Parts.{IsPartOf, dart, broken_on}
-use Rattle.dpl_parts.specs.Shares.{Part, ShareOut, AgreeWith, renumbered, all_cycles}
+use Rattle.dpl_parts.specs.Shares.{Part, ShareOut, AgreeWith, all_cycles}
 use Rattle.dpl_parts.proofs.Kept.{keeps_alike}
 use Rattle.dpl_parts.proofs.Places.{sum_by_alike}
 use Rattle.dpl_parts.proofs.Shared.{sum_by_two, sum_by_twice, cost_sum, broken_sum, faces_sum, odd_sum, kept_alike}
 use Rattle.dpl_parts.proofs.Packed.{walk_inside, all_have, bound_sum, count_sum, packing_sum, once_sum}
 use Rattle.dpl_parts.proofs.Together.{colouring_sum}
-use Rattle.dpl_solve.specs.Named.{keeps, odd_faces, AreOddTogether, IsMostOddFaces}
+use Rattle.dpl_solve.specs.Named.{keeps, odd_faces, AreOddTogether}
 use Rattle.dpl_solve.specs.Solved.{IsSolution, IsRefused, KeepToKept, kept_cost, aside_cost}
 use Rattle.dpl_solve.proofs.FinishLemmas.{cost_parted}
 use Rattle.dpl_sum.specs.Solved.{IsSolved, HasAtMost, IsRefusedIn}

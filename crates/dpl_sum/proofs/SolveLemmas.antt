@@ -1,16 +1,18 @@
 -- Parts solved one after another, and the net that they share out.
-use Rattle.std.proofs.Common.{arith, ◌≡◌, ◌≢◌, ℕ, zero, suc, ◌+◌, ◌-◌, ◌<◌, ◌≤◌, max, inl, inr, List, [], ◌∷◌, ◌++◌, length, map, refl, sym, ap, subst, ◌∙◌, length-append}
-use Rattle.std.specs.Prelude.{All, AllPairs, Contains, slice_index_or}
+use Rattle.std.proofs.Common.{arith, ◌≡◌, ◌⊎◌, ℕ, zero, suc, ◌-◌, ◌<◌, ◌≤◌, max, inl, inr, List, [], ◌∷◌, ◌++◌, length, map, refl, sym, ap, subst, ◌∙◌, length-append}
+use Rattle.std.specs.Prelude.{All, Contains, slice_index_or, IfOk, Result, Ok, Err}
 use Rattle.std.proofs.lemmas.Bool.{cases_eq, cases_lt}
 use Rattle.std.proofs.lemmas.List.{append-nil, append_assoc, map-append, length-map, get_or-map}
-use Rattle.std.proofs.lemmas.List.Elements.{All-nil, All-map, All-push}
-use Rattle.dpl_limits.specs.declared.TheConstants.{MOST_ODD_FACES}
+use Rattle.std.proofs.lemmas.List.Elements.{All-map, All-push}
 use Rattle.dpl_sign.specs.declared.nets.Net.{Net}
 use Rattle.dpl_parts.specs.declared.gathering.Gathered.{Gathered}
 use Rattle.dpl_parts.specs.Gathers.{part_of}
 use Rattle.dpl_parts.specs.Parts.{IsPartOf}
 use Rattle.dpl_parts.specs.Shares.{Part, AreApart, IsInSome, ShareOut}
-use Rattle.dpl_solve.specs.Solved.{IsRefused}
+use Rattle.dpl_solve.specs.Solved.{IsSolution, IsRefused}
+use Rattle.dpl_solve.specs.declared.solving.SolveError.{SolveError}
+use Rattle.dpl_solve.specs.declared.solving.SolveError.TheVariants.{OddFaces, NoMemory}
+use Rattle.dpl_sum.specs.declared.solving.Solved.{Solved}
 use Rattle.dpl_sum.specs.declared.combining.SolvedPart.{SolvedPart}
 use Rattle.dpl_sum.specs.Laying.{solved_part}
 use Rattle.dpl_sum.specs.Solved.{IsSolved, HasAtMost}
@@ -186,3 +188,18 @@ ended xs (y ∷ rest) all e z = absurd (omega (arith, z))
 
 pub one_on : {X : Type 0} (xs rest more all : List X) (y : X) → xs ++ rest ≡ all → rest ≡ y ∷ more → (xs ++ y ∷ []) ++ more ≡ all
 one_on xs rest more all y e r = append_assoc xs (y ∷ []) more ∙ ap (λ zs. xs ++ zs) (sym r) ∙ e
+
+-- ---- refused exactly
+
+pub exact_again : (net : Net) (r : Result Solved SolveError) → IfOk r (λ s. IsSolution net s.solution.colours.items s.solution.cost s.solution.aside s.solution.excess s.solution.cycles s.solution.bound)
+    → ((n : ℕ) → r ≡ Err (OddFaces n) → IsRefused net n) → (n : ℕ) → IsRefused net n → (r ≡ Err (OddFaces n)) ⊎ (r ≡ Err NoMemory)
+exact_again net (Ok s) solved refused n h = let f = solved.parts h.most.faces h.most.are in let c = h.most.count in let m = h.many in absurd (omega (arith, m, f, c))
+exact_again net (Err (OddFaces k)) solved refused n h =
+    let o = refused k refl in
+    let a = o.most.most h.most.faces h.most.are in
+    let b = h.most.most o.most.faces o.most.are in
+    let c = h.most.count in
+    let d = o.most.count in
+    let same : k ≡ n = omega (arith, a, b, c, d) in
+    inl (ap (λ (z : ℕ). Err (OddFaces z)) same)
+exact_again net (Err NoMemory) solved refused n h = inr refl

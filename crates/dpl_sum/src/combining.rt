@@ -21,7 +21,7 @@ pub struct SolvedPart {
     pub solution: Solution,
 }
 
-fn number_at(numbers: &[u32], place: usize) -> u32
+pub fn number_at(numbers: &[u32], place: usize) -> u32
     ensures { result ≡ slice_index_or numbers.now place 0 }
 {
     match numbers.get(place) {

@@ -5,10 +5,11 @@
 #![tactic(auto)]
 
 mod combining;
+mod comparing;
 mod laws;
 mod solving;
 
 pub use combining::{SolvedPart, combine};
 pub use laws::solutions_add_up;
-pub use solving::solve;
+pub use solving::{Solved, solve, solve_again};
 pub use std::alloc::AllocError as NoMemory;

@@ -1,16 +1,18 @@
 // The optimum of a net, one component after another.
-ghost use Rattle.std.specs.Prelude.{◌≡◌, ◌⊎◌, ℕ, ◌≤◌, max, length, map, All, IfOk, Err};
+ghost use Rattle.std.specs.Prelude.{◌≡◌, ◌⊎◌, ℕ, ◌<◌, ◌≤◌, max, length, map, slice_index_or, All, IfOk, IsTrue, Err};
 ghost use Rattle.dpl_limits.specs.declared.TheConstants.{MOST_EDGES};
 ghost use Rattle.dpl_solve.specs.Solved.{IsSolution, IsRefused};
 ghost use Rattle.dpl_sum.specs.Laying.{solved_part};
+ghost use Rattle.dpl_sum.specs.declared.combining.SolvedPart.{SolvedPart};
 ghost use Rattle.dpl_sum.specs.Solving.{part_in, AreRefused};
-ghost use Rattle.dpl_sum.specs.Solved.{IsSolved};
+ghost use Rattle.dpl_sum.specs.Solved.{IsSolved, AreSameNets};
 
-use crate::combining::{SolvedPart, combine};
+use crate::combining::{SolvedPart, combine, number_at};
+use crate::comparing::{are_same, copy_solution};
 use dpl_parts::{Gathered, split};
 use dpl_sign::Net;
 use dpl_solve::{Solution, SolveError};
-use std::alloc::Global;
+use std::alloc::{AllocError as NoMemory, Global};
 
 /// An optimum of some components by themselves.
 fn solve_part(alloc: Global, part: Gathered) -> Result<SolvedPart, SolveError>
@@ -26,6 +28,58 @@ fn solve_part(alloc: Global, part: Gathered) -> Result<SolvedPart, SolveError>
     }
 }
 
+/// Whether there is a known part at this place, with a net that is the same.
+fn is_known(known: &[SolvedPart], place: usize, part: &Gathered) -> bool
+    ensures below { IsTrue result → place < length known.now }
+    ensures same { IsTrue result → (d : SolvedPart) →
+        AreSameNets (slice_index_or known.now place d).part.net part.now.net }
+{
+    if place >= known.len() {
+        return false;
+    }
+    are_same(&known[place].part.net, &part.net)
+}
+
+/// The optimum of another part whose net is the same.
+fn reused(alloc: Global, part: Gathered, old: &SolvedPart) -> Result<SolvedPart, NoMemory>
+    requires solved { IsSolved (solved_part old.now) }
+    requires same { AreSameNets old.now.part.net part.net }
+    ensures part { IfOk result (λ s. s.part ≡ part) }
+    ensures solved { IfOk result (λ s. IsSolved (solved_part s)) }
+{
+    let solution = copy_solution(alloc, &old.solution)?;
+    Ok(SolvedPart { part, solution })
+}
+
+/// An optimum of some components by themselves: the known one at this place, where its net is the same, and a new one
+/// otherwise.
+fn reuse_or_solve(
+    alloc: Global,
+    part: Gathered,
+    known: &[SolvedPart],
+    place: usize,
+) -> Result<SolvedPart, SolveError>
+    requires edges { length part.net.graph.edges ≤ MOST_EDGES }
+    requires known { All (λ s. IsSolved (solved_part s)) known.now }
+    ensures part { IfOk result (λ s. s.part ≡ part) }
+    ensures solved { IfOk result (λ s. IsSolved (solved_part s)) }
+    ensures refused { (n : ℕ) → result ≡ Err (SolveError.OddFaces n) → IsRefused part.net n }
+{
+    if !is_known(known, place, &part) {
+        return solve_part(alloc, part);
+    }
+    match reused(alloc, part, &known[place]) {
+        Ok(solved) => Ok(solved),
+        Err(_) => Err(SolveError::NoMemory),
+    }
+}
+
+/// The place that is noted for the first node of a part.
+fn place_for(part: &Gathered, places: &[u32]) -> usize {
+    let first = number_at(part.nodes.as_slice(), 0);
+    number_at(places, first as usize) as usize
+}
+
 fn greater(a: u32, b: u32) -> u32
     ensures { result ≡ max a b }
 {
@@ -33,8 +87,14 @@ fn greater(a: u32, b: u32) -> u32
 }
 
 /// Optima of all parts. Where one is refused, this is for the greatest number for which any is.
-fn solve_all(alloc: Global, parts: Vec<Gathered>) -> Result<Vec<SolvedPart>, SolveError>
+fn solve_all(
+    alloc: Global,
+    parts: Vec<Gathered>,
+    known: &[SolvedPart],
+    places: &[u32],
+) -> Result<Vec<SolvedPart>, SolveError>
     requires edges { All (λ p. length p.net.graph.edges ≤ MOST_EDGES) parts.items }
+    requires known { All (λ s. IsSolved (solved_part s)) known.now }
     ensures parts { IfOk result (λ v. map part_in v.items ≡ parts.items) }
     ensures solved { IfOk result (λ v. All (λ s. IsSolved (solved_part s)) v.items) }
     ensures refused { (n : ℕ) → result ≡ Err (SolveError.OddFaces n) → AreRefused parts.items n }
@@ -42,7 +102,8 @@ fn solve_all(alloc: Global, parts: Vec<Gathered>) -> Result<Vec<SolvedPart>, Sol
     let mut solved = Vec::new(alloc);
     let mut most = 0;
     for part in parts {
-        match solve_part(alloc, part) {
+        let place = place_for(&part, places);
+        match reuse_or_solve(alloc, part, known, place) {
             Ok(part) => {
                 match solved.push(part) {
                     Ok(()) => {}
@@ -59,25 +120,80 @@ fn solve_all(alloc: Global, parts: Vec<Gathered>) -> Result<Vec<SolvedPart>, Sol
     Ok(solved)
 }
 
+/// An optimum of a net, and those of its components.
+#[derive(Drop)]
+pub struct Solved {
+    pub solution: Solution,
+    pub parts: Vec<SolvedPart>,
+}
+
 /// The optimum of a net that is split into its components.
-fn solve_split(alloc: Global, net: &Net) -> Result<Solution, SolveError>
+fn solve_split(
+    alloc: Global,
+    net: &Net,
+    known: &[SolvedPart],
+    places: &[u32],
+) -> Result<Solved, SolveError>
     requires edges { length net.now.graph.edges ≤ MOST_EDGES }
-    ensures solved { IfOk result (λ s.
-        IsSolution net.now s.colours.items s.cost s.aside s.excess s.cycles s.bound) }
+    requires known { All (λ s. IsSolved (solved_part s)) known.now }
+    ensures solved { IfOk result (λ r. IsSolution net.now r.solution.colours.items r.solution.cost
+        r.solution.aside r.solution.excess r.solution.cycles r.solution.bound) }
+    ensures parts { IfOk result (λ r. All (λ s. IsSolved (solved_part s)) r.parts.items) }
     ensures refused { (n : ℕ) → result ≡ Err (SolveError.OddFaces n) → IsRefused net.now n }
 {
     let parts = match split(alloc, net) {
         Ok(parts) => parts,
         Err(_) => return Err(SolveError::NoMemory),
     };
-    let solved = match solve_all(alloc, parts) {
+    let solved = match solve_all(alloc, parts, known, places) {
         Ok(solved) => solved,
         Err(SolveError::OddFaces(count)) => return Err(SolveError::OddFaces(count)),
         Err(SolveError::NoMemory) => return Err(SolveError::NoMemory),
     };
     match combine(alloc, net, solved.as_slice()) {
-        Ok(solution) => Ok(solution),
+        Ok(solution) => Ok(Solved {
+            solution,
+            parts: solved,
+        }),
         Err(_) => Err(SolveError::NoMemory),
+    }
+}
+
+/// The optimum of a net, found for each of its components by itself, with those of the components. Some may be known: for
+/// each node of the net `places` has the place among them of one that may be that of the node's component, and it is taken
+/// if its net is the same, so that only the others are solved.
+pub fn solve_again(
+    alloc: Global,
+    net: &Net,
+    known: &[SolvedPart],
+    places: &[u32],
+) -> Result<Solved, SolveError>
+    requires edges { length net.now.graph.edges ≤ MOST_EDGES }
+    requires known { All (λ s. IsSolved (solved_part s)) known.now }
+    ensures solved { IfOk result (λ r. IsSolution net.now r.solution.colours.items r.solution.cost
+        r.solution.aside r.solution.excess r.solution.cycles r.solution.bound) }
+    ensures parts { IfOk result (λ r. All (λ s. IsSolved (solved_part s)) r.parts.items) }
+    ensures refused { (n : ℕ) → result ≡ Err (SolveError.OddFaces n) → IsRefused net.now n }
+    ensures exact { (n : ℕ) → IsRefused net.now n →
+        (result ≡ Err (SolveError.OddFaces n)) ⊎ (result ≡ Err SolveError.NoMemory) }
+{
+    solve_split(alloc, net, known, places)
+}
+
+/// The same where nothing is known, the optimum alone.
+fn solve_new(alloc: Global, net: &Net) -> Result<Solution, SolveError>
+    requires edges { length net.now.graph.edges ≤ MOST_EDGES }
+    ensures solved { IfOk result (λ s.
+        IsSolution net.now s.colours.items s.cost s.aside s.excess s.cycles s.bound) }
+    ensures refused { (n : ℕ) → result ≡ Err (SolveError.OddFaces n) → IsRefused net.now n }
+{
+    match solve_split(alloc, net, &[], &[]) {
+        Ok(solved) => {
+            let Solved { solution, parts: _ } = solved;
+            Ok(solution)
+        }
+        Err(SolveError::OddFaces(count)) => Err(SolveError::OddFaces(count)),
+        Err(SolveError::NoMemory) => Err(SolveError::NoMemory),
     }
 }
 
@@ -90,5 +206,5 @@ pub fn solve(alloc: Global, net: &Net) -> Result<Solution, SolveError>
     ensures exact { (n : ℕ) → IsRefused net.now n →
         (result ≡ Err (SolveError.OddFaces n)) ⊎ (result ≡ Err SolveError.NoMemory) }
 {
-    solve_split(alloc, net)
+    solve_new(alloc, net)
 }

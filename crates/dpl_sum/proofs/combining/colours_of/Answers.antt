@@ -1,4 +1,4 @@
-use Rattle.std.proofs.Common.{arith, ap, sym, subst, ◌∙◌, ◌≡◌, Bool, List, length, map}
+use Rattle.std.proofs.Common.{arith, ap, sym, subst, ◌≡◌, Bool, List, length, map}
 use Rattle.std.proofs.lemmas.List.{with_items_is}
 use Rattle.dpl_parts.specs.Shares.{AgreeWith}
 use Rattle.dpl_sum.specs.Laying.{solved_part}

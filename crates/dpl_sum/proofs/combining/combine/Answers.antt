@@ -1,5 +1,4 @@
-use Rattle.std.proofs.Common.{arith, ap, sym, ◌∙◌, Bool, List, length, map}
-use Rattle.dpl_sign.specs.declared.walks.Cycle.{Cycle}
+use Rattle.std.proofs.Common.{arith, ap, ◌∙◌, Bool, List, length, map}
 use Rattle.dpl_sign.specs.Colourings.{cost_of}
 use Rattle.dpl_sign.specs.Packings.{bound_of}
 use Rattle.dpl_sum.specs.Laying.{solved_part}

@@ -1,4 +1,4 @@
-use Rattle.std.proofs.Common.{◌≡◌, ℕ}
+use Rattle.std.proofs.Common.{◌≡◌}
 use Rattle.std.specs.Prelude.{slice_index_or}
 use Rattle.dpl_sign.specs.Colourings.{colour_of}
 use Rattle.dpl_sum.specs.Laying.{laid}

@@ -1,4 +1,4 @@
-use Rattle.std.proofs.Common.{arith, length, map}
+use Rattle.std.proofs.Common.{arith, map}
 use Rattle.std.proofs.lemmas.List.{length-map}
 use Rattle.dpl_sum.specs.Laying.{solved_part}
 use Rattle.dpl_sum.proofs.LayLemmas.{solved_at, part_inside, agree_more, agree_all}

@@ -1,11 +1,10 @@
 use Rattle.std.proofs.Common.{◌≡◌, ap, subst, ◌∙◌, Err}
 use Rattle.dpl_solve.specs.Solved.{IsRefused}
-use Rattle.dpl_sum.specs.Laying.{solved_part}
 use Rattle.dpl_sum.proofs.SolveLemmas.{edges_few, share_solved, all_solved, refused_all}
 use Rattle.dpl_sum.proofs.solving.solve_split.Goals as goal
 
 pub solve_all-requires : goal.solve_all-requires
-solve_all-requires c = record { edges = edges_few c.args.net.now c.in-Ok.parts.items _ c.in-Ok.ensures c.requires.edges }
+solve_all-requires c = record { edges = edges_few c.args.net.now c.in-Ok.parts.items _ c.in-Ok.ensures c.requires.edges; known = c.requires.known }
 
 pub combine-requires : goal.combine-requires
 combine-requires c = rw c.as_slice.ensures.value (record {

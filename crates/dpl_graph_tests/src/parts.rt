@@ -1,4 +1,4 @@
-use crate::{components, counted_components};
+use dpl_parts::{components, counted_components};
 use dpl_sign::{Edge, Net, Port, Signed};
 use std::alloc::Global;
 use std::test::Fail;

@@ -1,5 +1,5 @@
-use crate::{EditError, RemoveError, Session};
 use dpl_cell::{Layout, Prim, Rect};
+use dpl_edit::{EditError, RemoveError, Session};
 use dpl_layer::Drawing;
 use dpl_lex::Name;
 use dpl_list::Items;
