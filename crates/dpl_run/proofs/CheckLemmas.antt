@@ -1,11 +1,13 @@
 -- What is due for `check`: one answer at most, and the end of its work.
 use Rattle.std.proofs.Common.{◌≡◌, ℕ, List, ◌++◌, Option, Some, true, refl, ap, inl}
 use Rattle.std.specs.Prelude.{Ok}
-use Rattle.dpl_options.specs.Options.{PlainOptions}
+use Rattle.dpl_options.specs.Options.{PlainOptions, AreOptions}
 use Rattle.dpl_layer.specs.Refusals.{RefusesLayer}
 use Rattle.dpl_layer.proofs.RefusalLemmas.{layer_kind, never_memory, one_text_refusal}
 use Rattle.dpl_check.specs.declared.verdicts.Verdict.{Verdict}
 use Rattle.dpl_check.specs.declared.verdicts.Verdict.TheVariants.{Yes, No}
+use Rattle.dpl_check.specs.Checked.{HasMasksOf}
+use Rattle.dpl_check.proofs.GoodMaskLemmas.{yes_masks}
 use Rattle.dpl_check.proofs.OnceLemmas.{verdict_not_refused, one_verdict, yes_bounds}
 use Rattle.dpl_words.specs.Commands.{PlainCommand}
 use Rattle.dpl_run.specs.declared.status.Status.{Status}
@@ -44,3 +46,10 @@ pub accepted_bound : (o : PlainOptions) (text report taken : List ℕ) (now : Op
 accepted_bound o text report taken now _ _ (refused e r) d is = absurd (refused_not_done e d)
 accepted_bound o text report taken now _ _ (rejected reason place found wanted v) d is = absurd (cc)
 accepted_bound o text report taken now _ _ (accepted cost bound v) d is = (cost, bound, is, yes_bounds o text report (Ok (Yes cost bound)) v cost bound refl)
+
+-- ---- the masks of an accepted report
+
+pub accepted_masks : (o : PlainOptions) (text report : List ℕ) (a : Status) (x : List ℕ) → AreOptions o → IsCheckDue o text report a x → a ≡ Done → HasMasksOf o text report
+accepted_masks o text report _ _ ranges (refused e r) d = absurd (refused_not_done e d)
+accepted_masks o text report _ _ ranges (rejected reason place found wanted v) d = absurd (cc)
+accepted_masks o text report _ _ ranges (accepted cost bound v) d = yes_masks o text report (Ok (Yes cost bound)) ranges v cost bound refl

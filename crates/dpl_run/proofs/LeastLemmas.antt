@@ -2,7 +2,8 @@
 use Rattle.std.proofs.Common.{◌≡◌, ◌∙◌, ℕ, List, [], ◌++◌, Option, Some, None, refl, sym, ap, subst, inl, inr}
 use Rattle.std.specs.Prelude.{Ok}
 use Rattle.std.specs.Io.KnownBytes.{Appends}
-use Rattle.dpl_options.specs.Options.{PlainOptions}
+use Rattle.dpl_options.specs.Options.{PlainOptions, AreOptions}
+use Rattle.dpl_check.specs.Checked.{HasMasksOf}
 use Rattle.dpl_ext.specs.Device.{Texts}
 use Rattle.dpl_words.specs.Commands.{PlainCommand, split, check, balance, command_of}
 use Rattle.dpl_run.specs.declared.status.Status.{Status}
@@ -13,7 +14,7 @@ use Rattle.dpl_run.specs.Consequences.{AskForSplit, WritesBound, WritesLeast}
 use Rattle.dpl_run.specs.Devices.{AreTold}
 use Rattle.dpl_run.proofs.SplitLemmas.{split_least}
 use Rattle.dpl_run.proofs.BalanceLemmas.{balance_least}
-use Rattle.dpl_run.proofs.CheckLemmas.{accepted_bound}
+use Rattle.dpl_run.proofs.CheckLemmas.{accepted_bound, accepted_masks}
 
 -- ---- what was written where the run is done
 
@@ -61,3 +62,12 @@ pub writes_bound : (words : List (List ℕ)) (left : Option (List ℕ)) (texts :
 writes_bound words left texts before now result answer o name text report taken e told had done =
     let w = written words (check o name) text report taken before now result e (answer text report told) done had in
     accepted_bound o text report taken now Done w.output w.due refl w.is
+
+pub check_masks : (words : List (List ℕ)) (left : Option (List ℕ)) (texts : Option Texts) (before now : Option (List ℕ)) (result : Status)
+    → ((text second : List ℕ) → AreTold (command_of words) left texts text second → Answers (IsDue words text second) before now result)
+    → ((o : PlainOptions) (name : List ℕ) → result ≡ Done → command_of words ≡ Ok (check o name) → AreOptions o)
+    → (o : PlainOptions) (name text report taken : List ℕ) → command_of words ≡ Ok (check o name) → AreTold (command_of words) left texts text report → before ≡ Some taken → result ≡ Done
+    → HasMasksOf o text report
+check_masks words left texts before now result answer ranges o name text report taken e told had done =
+    let w = written words (check o name) text report taken before now result e (answer text report told) done had in
+    accepted_masks o text report Done w.output (ranges o name done e) w.due refl

@@ -3,8 +3,10 @@ ghost use Rattle.std.specs.Prelude.{◌+◌, ◌≡◌, ◌≢◌, ℕ, List, So
 ghost use Rattle.std.specs.Io.KnownBytes.{Appends};
 ghost use Rattle.dpl_limits.specs.declared.TheConstants.{MOST_LAYOUT_BYTES, MOST_REPORT_BYTES, MOST_SCRIPT_BYTES};
 ghost use Rattle.dpl_ext.specs.Device.{Rose, AppendsFront};
-ghost use Rattle.dpl_options.specs.Options.{PlainOptions};
+ghost use Rattle.dpl_options.specs.Options.{AreOptions, PlainOptions};
+ghost use Rattle.dpl_check.specs.Checked.{HasMasksOf};
 ghost use Rattle.dpl_words.specs.Commands.{check, command_of};
+ghost use Rattle.dpl_words.specs.Views.{plain_command};
 ghost use Rattle.dpl_run.specs.Answer.{Answers, IsAnswered, IsDue, IsQuiet, IsStatusOf};
 ghost use Rattle.dpl_run.specs.Consequences.{AskForSplit, WritesBound, WritesLeast};
 ghost use Rattle.dpl_run.specs.Devices.{AreSteady, AreTold, IsReadFault, IsTouched, PassesBytes};
@@ -15,7 +17,7 @@ use crate::due::tell;
 use crate::line::status_line;
 use crate::status::Status;
 use dpl_ext::{Shelf, Sink, Source, write_all};
-use dpl_words::{UsageError, parse};
+use dpl_words::{Command, UsageError, parse};
 use std::alloc::Global;
 
 /// Does what the words ask for: every command but `load` reads the layout from `layout`, `check` opens its report and
@@ -45,7 +47,8 @@ pub fn run<S: Source, F: Shelf, O: Sink, E: Sink>(
         → result ≢ Status.ReadFault → IsAnswered due result }
     ensures of_words { IsStatusOf (command_of (map string_bytes words.now)) result }
 
-    // What a split and an accepted report mean for every other pair of masks.
+    // What a split and an accepted report mean for every other pair of masks, and that the masks of an accepted report
+    // are those of the layer.
     ensures least { (o : PlainOptions) (text taken : List ℕ) →
         AskForSplit (command_of (map string_bytes words.now)) o
         → (S.seen layout.old).left ≡ Some text → O.taken out.old ≡ Some taken
@@ -56,6 +59,11 @@ pub fn run<S: Source, F: Shelf, O: Sink, E: Sink>(
         (F.texts second.old) text report
         → O.taken out.old ≡ Some taken → result ≡ Status.Done →
         WritesBound o text taken (O.taken out.new) }
+    ensures masks { (o : PlainOptions) (name text report taken : List ℕ) →
+        command_of (map string_bytes words.now) ≡ Ok (check o name)
+        → AreTold (command_of (map string_bytes words.now)) (S.seen layout.old).left
+        (F.texts second.old) text report
+        → O.taken out.old ≡ Some taken → result ≡ Status.Done → HasMasksOf o text report }
 
     // When a device is to blame, how much was read, and which devices were not touched.
     ensures read { result ≡ Status.ReadFault →
@@ -113,12 +121,26 @@ fn attempt<S: Source, F: Shelf, O: Sink>(
     ensures steady { result ≢ Status.ReadFault → result ≢ Status.WriteFault
         → result ≢ Status.NoMemory → AreSteady (S.seen layout.old) (S.seen layout.new)
         (F.seen second.old) (F.seen second.new) (O.faults out.old) (O.faults out.new) }
+    ensures ranges { (o : PlainOptions) (name : List ℕ) → result ≡ Status.Done →
+        command_of (map string_bytes words.now) ≡ Ok (check o name) → AreOptions o }
 {
     let command = match parse(alloc, words) {
         Ok(command) => command,
         Err(UsageError::Usage(kind)) => return Status::Usage(kind),
         Err(UsageError::NoMemory) => return Status::NoMemory,
     };
+    ranges_of_check(&command);
     let due = due_for(alloc, &command, layout, second);
     tell(out, &due)
+}
+
+/// The options of a check are in their ranges.
+fn ranges_of_check(command: &Command)
+    ensures { (o : PlainOptions) (name : List ℕ) → plain_command command.now ≡ check o name →
+        AreOptions o }
+{
+    match command {
+        Command::Check { options, .. } => options.in_range(),
+        _ => {}
+    }
 }
