@@ -368,23 +368,24 @@ fn stubs_of_one_shape(rt: HostRuntime) -> Result<(), Fail> {
     Ok(())
 }
 
-/// A wire with eighty small boxes close above it, from its left end on, and one more near its right end.
+/// A wire with eighty small boxes close above it, near its left end or all along it, and one more near its right end.
 #[test]
 fn a_wire_among_many(rt: HostRuntime) -> Result<(), Fail> {
-    let apart = zones_above(&rt, 2)?;
-    assert_eq!(rt; apart.as_slice(), [(2010, 0, 2050, 200)].as_slice());
-    let all_along = zones_above(&rt, 45)?;
-    assert!(rt; all_along.as_slice().is_empty());
-    Ok(())
-}
-
-fn zones_above(rt: &HostRuntime, pitch: i64) -> Result<Vec<Corners>, Fail> {
-    let mut tiles = Vec::new(rt.alloc());
-    tiles.push((0, 0, 3970, 200))?;
+    let mut at_one_end = Vec::new(rt.alloc());
+    let mut all_along = Vec::new(rt.alloc());
+    at_one_end.push((0, 0, 3970, 200))?;
+    all_along.push((0, 0, 3970, 200))?;
     for k in 0..80u16 {
-        let x = i64::from(k).wrapping_mul(pitch).clamp(0, 3650) + 100;
-        tiles.push((x, 300, x + 1, 301))?;
+        let x = i64::from(k) * 2;
+        at_one_end.push((x + 100, 300, x + 101, 301))?;
+        let x = i64::from(k) * 45;
+        all_along.push((x + 100, 300, x + 101, 301))?;
     }
-    tiles.push((3801, 300, 3802, 301))?;
-    zones_beside(rt, tiles.as_slice(), &[])
+    at_one_end.push((3801, 300, 3802, 301))?;
+    all_along.push((3801, 300, 3802, 301))?;
+    let cut = zones_beside(&rt, at_one_end.as_slice(), &[])?;
+    assert_eq!(rt; cut.as_slice(), [(2010, 0, 2050, 200)].as_slice());
+    let whole = zones_beside(&rt, all_along.as_slice(), &[])?;
+    assert!(rt; whole.as_slice().is_empty());
+    Ok(())
 }
