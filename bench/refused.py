@@ -1,8 +1,8 @@
 #!/usr/bin/env python3
 """Refuses each allocation of the built program in turn: bench/refused.py [BINARY].
 
-Over the split of `samples/stitch.cif` and the check of its report: run K gets no memory at its call K of malloc or
-realloc, until a run asks for less. A run is right where it gives the whole answer, or ends with status 7, nothing on
+Over the split of `samples/stitch.cif`, the check of its report and two edits of it: run K gets no memory at its call K of
+malloc or realloc, until a run asks for less. A run is right where it gives the whole answer, or ends with status 7, nothing on
 the standard output and `dpl: no memory` on the error output. Printed: how many were tried and how they ended.
 Needs `cc`; no part of the gate.
 """
@@ -87,7 +87,10 @@ def main():
         report = os.path.join(folder, "report")
         with open(layout, "rb") as file, open(report, "wb") as out:
             subprocess.run([binary, "split"] + options, stdin=file, stdout=out, check=True)
-        for words in (["split"] + options, ["check"] + options + ["--report", report]):
+        script = os.path.join(folder, "script")
+        with open(script, "w") as file:
+            file.write("add -400 0 -200 200\nremove 0\n")
+        for words in (["split"] + options, ["check"] + options + ["--report", report], ["edit"] + options + ["--script", script]):
             count, ended, wrong = tried(binary, words, layout, library, folder)
             told = ", ".join("%d with %s" % (n, how) for how, n in sorted(ended.items()))
             print("%s: %d refused, ended %s, %d wrong" % (words[0], count, told, len(wrong)))

@@ -17,6 +17,7 @@ import threading
 MOST_BYTES = 16_777_216
 MOST_REPORT = 268_435_456
 OPTIONS = ["--layer", "M", "--space", "100", "--overlap", "20"]
+WIDE = ["--layer", "M", "--space", "10000", "--overlap", "20"]
 
 
 # ---- texts
@@ -236,6 +237,15 @@ def under_a_cover(n):
         yield (8 * i, 2 * (i * 7919 % n) + 2, 8 * i + 2, 4 * n + 2 * (i * 104729 % n))
 
 
+def laid_over(n):
+    """n / 2 upright boxes that fill a square, and n / 2 level ones laid over them."""
+    half, source = n // 2, random.Random(7)
+    for i in range(half):
+        yield (10 * i, 0, 10 * i + 20, 10 * half + 10)
+        x1, x2 = sorted(source.sample(range(0, 10 * half + 10, 2), 2))
+        yield (x1, 10 * i, x2, 10 * i + 10)
+
+
 def covered(boxes, n):
     """The text of a layout with n boxes on a keep layer, none of which touches it."""
     text = layout(boxes).decode()
@@ -260,16 +270,20 @@ def layouts():
     yield "random boxes", 20_000, random_boxes
     yield "level wires, six close to each", 250, close_wires
     yield "a strip of odd faces", 1_025, strip
-    yield "uprights under a cover", 1_500, under_a_cover
+    yield "uprights under a cover", 24_500, under_a_cover
+    yield "boxes laid over each other", 3_000, laid_over
     yield "crossing wires of n tiles", 49_000, lambda n: crossing(int((n / 2) ** 0.5))
 
 
 def single():
-    """Texts of one size, each with the words behind the usual ones."""
-    yield "contacts, boxes in 120 places: 480 odd faces", layout(boxes_between(40_000, 120)), []
-    yield "contacts, boxes in 500 places: 2,000 odd faces", layout(boxes_between(40_000, 500)), []
-    yield "contacts, none close, no keep layer", layout(contacts(40_000, 300)), []
-    yield "the same with 50,000 keep tiles", covered(contacts(40_000, 300), 50_000), ["--keep", "K"]
+    """Texts of one size, each with its options."""
+    contacts_far = layout(contacts(40_000, 300))
+    yield "contacts, boxes in 120 places: 480 odd faces", layout(boxes_between(40_000, 120)), OPTIONS
+    yield "contacts, boxes in 500 places: 2,000 odd faces", layout(boxes_between(40_000, 500)), OPTIONS
+    yield "contacts, none close, no keep layer", contacts_far, OPTIONS
+    yield "the same with 50,000 keep tiles", covered(contacts(40_000, 300), 50_000), [*OPTIONS, "--keep", "K"]
+    yield "contacts at space 10,000, refused", contacts_far, WIDE
+    yield "random boxes at space 10,000, refused", layout(random_boxes(40_000)), WIDE
 
 
 def polygons():
@@ -340,9 +354,9 @@ def main():
     for name, size, boxes in layouts():
         if asked.only in name:
             pair(asked, name, size, lambda n: layout(boxes(n)))
-    for name, text, words in single():
+    for name, text, options in single():
         if asked.only in name:
-            report(name, len(text), timed([asked.binary, "split", *OPTIONS, *words], text, asked.seconds))
+            report(name, len(text), timed([asked.binary, "split", *options], text, asked.seconds))
     for name, size, points in polygons():
         if asked.only in name:
             pair(asked, name, size, lambda n: polygon(points(n)))

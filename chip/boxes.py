@@ -1,45 +1,65 @@
-"""Boxes as lines of CIF, in quarters of a hundredth of a micron, of which a grid unit of `dpl` has two."""
+"""A layer as boxes: arrays of their corners, left, bottom, right and top, in units of the layout."""
 
 import os
 
+import numpy
 import pya
 
 NOT_BOXES = pya.Shapes.SPolygons | pya.Shapes.SPaths
-QUARTER = 0.0025
+# A rectangle in GDSII: what it is, its five points, and its end.
+RECTANGLE = numpy.dtype([("head", "V20"), ("points", ">i4", (5, 2)), ("end", "V4")])
+HEAD = bytes.fromhex("00040800 00060d020001 00060e020000 002c1003")
 
 
-def scale_of(source):
-    return pya.ICplxTrans(2 * float(source.ratio))
+def boxes_of(source, where, folder):
+    """The boxes of what meets a box: rectangles as they are drawn, and boxes of what other shapes have in it.
 
-
-def drawn(source, where, folder):
-    """The lines of what meets a region, and their number: rectangles as they are drawn, others as boxes.
-
-    No shape may lie in the region in part. KLayout finds shapes by the boxes around them, so others than rectangles are
-    cut to the region. It writes the lines, to a file in a folder.
+    KLayout writes them in GDSII, where each takes as many bytes, to a file in a folder.
     """
     layout = pya.Layout(False)
-    layout.dbu = QUARTER
-    shapes = layout.create_cell("PART").shapes(layout.layer(pya.LayerInfo(source.settings.name)))
-    shapes.insert(source.iterator(where, pya.Shapes.SBoxes), scale_of(source))
-    for polygon in boxes_of(source.shapes(where, NOT_BOXES) & where).each():
-        shapes.insert(polygon.bbox().transformed(scale_of(source)))
-    path = os.path.join(folder, "part.cif")
+    shapes = layout.create_cell("BOXES").shapes(layout.layer(1, 0))
+    shapes.insert(source.iterator(where, pya.Shapes.SBoxes))
+    others = source.shapes(where, NOT_BOXES) & pya.Region(where)
+    shapes.insert(others.merged().decompose_trapezoids_to_region())
+    path = os.path.join(folder, "boxes.gds")
     layout.write(path)
-    with open(path) as file:
-        lines = file.read().partition(f"L {source.settings.name};\n")[2].rpartition("DF;")[0]
+    with open(path, "rb") as file:
+        data = file.read()
     os.remove(path)
-    return lines, shapes.size()
+    start = max(0, data.find(HEAD))
+    points = numpy.frombuffer(data, RECTANGLE, shapes.size(), start)["points"].astype(numpy.int64)
+    return boxes_between(points.min(axis=1), points.max(axis=1))
 
 
-def boxes_of(region):
-    return region.merged().decompose_trapezoids_to_region()
+def boxes_between(low, high):
+    """The boxes between corners, of those that have an area."""
+    return numpy.concatenate((low, high), axis=1)[(low < high).all(axis=1)]
 
 
 def lines_of(source, boxes):
-    """The lines of a region of boxes."""
-    scale, lines = scale_of(source), []
-    for polygon in boxes.each():
-        b = polygon.bbox().transformed(scale)
-        lines.append(f"B {b.width()} {b.height()} {(b.left + b.right) // 2} {(b.bottom + b.top) // 2};\n")
-    return "".join(lines)
+    """Boxes as lines of CIF, in quarters of a hundredth of a micron, of which a grid unit of `dpl` has two."""
+    left, bottom, right, top = (boxes * (2 * source.ratio.numerator) // source.ratio.denominator).T
+    numbers = numpy.array((right - left, top - bottom, (left + right) // 2, (bottom + top) // 2))
+    return "B %d %d %d %d;\n" * len(boxes) % tuple(numbers.T.ravel().tolist())
+
+
+def bounds_of(source, boxes):
+    """The corners of all boxes together in grid units, rounded outwards; no boxes have none."""
+    if not len(boxes):
+        return []
+    n, d = source.ratio.numerator, source.ratio.denominator
+    low, high = boxes[:, :2].min(axis=0), boxes[:, 2:].max(axis=0)
+    return (low * n // d).tolist() + (-(-high * n // d)).tolist()
+
+
+def meeting(boxes, window):
+    """The boxes that share some area with a window."""
+    left, bottom, right, top = boxes.T
+    return boxes[(left < window.right) & (right > window.left) & (bottom < window.top) & (top > window.bottom)]
+
+
+def clipped(boxes, window):
+    """What boxes have in a window."""
+    low = numpy.maximum(boxes[:, :2], (window.left, window.bottom))
+    high = numpy.minimum(boxes[:, 2:], (window.right, window.top))
+    return boxes_between(low, high)

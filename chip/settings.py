@@ -30,6 +30,8 @@ NEEDED = ("layout", "layer", "space", "overlap")
 # A part may have half as much again, and `dpl` takes 50,000.
 MOST_SIZE = 33000
 HERE = os.path.dirname(os.path.abspath(__file__))
+# The built program starts sooner than the launcher, which answers where none is built.
+BUILT, LAUNCHER = os.path.join(HERE, "..", "crates", "dpl", "out", "dpl"), os.path.join(HERE, "..", "dpl")
 
 
 class Refused(Exception):
@@ -52,7 +54,7 @@ class Settings:
         for word in ("top", "layer", "masks", "markers", "size", "bands", "batch", "balance"):
             setattr(self, word, values[word])
         self.layout = os.path.join(folder, values["layout"])
-        self.dpl = os.path.join(folder, values["dpl"]) if values["dpl"] else os.path.join(HERE, "..", "dpl")
+        self.dpl = os.path.join(folder, values["dpl"]) if values["dpl"] else BUILT if os.access(BUILT, os.X_OK) else LAUNCHER
         self.grid = Fraction(str(values["grid"]))
         self.scale = self.whole_scale()
         self.space = self.hundredths("space", values["space"])

@@ -22,7 +22,8 @@ class Source:
         self.layout, self.layer = read_layer(settings)
         self.cell = top_of(self.layout, self.layer, settings)
         self.ratio = ratio_of(self.layout.dbu, settings.grid)
-        self.half = math.ceil(settings.space / self.ratio)
+        grid = self.ratio.denominator
+        self.half = math.ceil(settings.space / self.ratio / grid) * grid
         self.bounds = self.cell.bbox_per_layer(self.layer)
         if self.bounds.empty():
             raise Refused(f"layer {settings.layer} of {settings.layout} is empty")

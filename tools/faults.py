@@ -6,7 +6,7 @@ import re
 import words as command_line
 from cif import RULES, Layout, Unreadable, shown
 
-LINE = re.compile(r"^dpl: (usage|layout|limit|rejected|read|write|no)\b")
+LINE = re.compile(r"^dpl: (usage|layout|limit|rejected|script|read|write|no)\b")
 NUMBER = re.compile(r"-?\d+")
 
 PARTS = "split the block into parts that are farther apart than the spacing"
@@ -22,6 +22,7 @@ LIMITS = {
     7: ("bonds, stitches and clashes", 400_000, f"{PARTS}, or give a smaller spacing, which gives fewer clashes"),
     8: ("odd faces in one part of the drawing", 2_048, f"{PARTS}, or give a smaller spacing"),
     9: ("bytes of the report", 268_435_456, "is this the report of this layout?"),
+    10: ("bytes of the script", 65_536, "draw the boxes that stay in the layout, and give the other lines"),
 }
 
 CONDITIONS = {
@@ -36,6 +37,11 @@ CONDITIONS = {
     9: "the boxes of the masks are not those of their letters, first at {place} over both masks",
 }
 
+SCRIPT = {
+    1: "is neither add X1 Y1 X2 Y2 nor remove N with one line end{text}",
+    2: "removes a box that is not there{text}",
+}
+
 MOST_READ = 4_000_000
 
 
@@ -45,8 +51,7 @@ def explain(line, words, layout):
     if not found:
         return None
     numbers = [int(number) for number in NUMBER.findall(line)]
-    of = {"usage": usage, "layout": rule, "limit": limit, "rejected": condition, "read": read_fault, "write": write_fault, "no": no_memory}
-    return of[found[1]](numbers, words, layout)
+    return SAYS[found[1]](numbers, words, layout)
 
 
 def usage(_, words, __):
@@ -70,15 +75,20 @@ def limit(numbers, _, __):
 
 def condition(numbers, words, _):
     reason, place, found, wanted = numbers
-    line = report_line(words, place) if reason <= 3 else ""
+    line = line_of(words, "report", place) if reason <= 3 else ""
     listed, due = ("listed as", "must not") if found else ("not listed as", "must")
     said = CONDITIONS[reason].format(place=place, found=found, wanted=wanted, line=line, listed=listed, due=due)
     return f"condition {reason} of docs/report.md: {said}"
 
 
-def report_line(words, number):
-    """The text of a line of the report, where it can be read again."""
-    name = command_line.value_of(words, "report")
+def script_line(numbers, words, _):
+    kind, number = numbers
+    return f"line {number} of the script {SCRIPT[kind].format(text=line_of(words, 'script', number))}; docs/edits.md has the form"
+
+
+def line_of(words, option, number):
+    """The text of a line of the file that an option names, where it can be read again."""
+    name = command_line.value_of(words, option)
     if not name or not os.path.isfile(name):
         return ""
     with open(name, "rb") as file:
@@ -109,6 +119,18 @@ def write_fault(*_):
 
 def no_memory(*_):
     return "memory ran out, and nothing was written"
+
+
+SAYS = {
+    "usage": usage,
+    "layout": rule,
+    "limit": limit,
+    "rejected": condition,
+    "script": script_line,
+    "read": read_fault,
+    "write": write_fault,
+    "no": no_memory,
+}
 
 
 # ---- a split of nothing

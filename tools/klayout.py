@@ -1,4 +1,4 @@
-"""Runs KLayout in batch, without a window."""
+"""Runs KLayout in batch, without a window; where the Debian package has put its Python module, by that."""
 
 import os
 import subprocess
@@ -6,16 +6,27 @@ import tempfile
 
 from cif import Unreadable
 
+LIBRARY = "/usr/lib/klayout"
+ALONE = os.path.join(os.path.dirname(os.path.realpath(__file__)), "alone.py")
+
 
 def run(script, **named):
     """Runs a script in KLayout's Python, with named texts as its global variables."""
     with tempfile.NamedTemporaryFile(suffix=".py", mode="w") as file:
         file.write(script)
         file.flush()
-        words = ["klayout", "-b", *(word for name, text in named.items() for word in ("-rd", f"{name}={text}"))]
+        words, settings = command(file.name, [f"{name}={text}" for name, text in named.items()])
         try:
-            subprocess.run([*words, "-r", file.name], check=True, env={**os.environ, "QT_QPA_PLATFORM": "offscreen"})
+            subprocess.run(words, check=True, env={**os.environ, **settings})
         except FileNotFoundError as error:
             raise Unreadable("this needs KLayout, and there is no program klayout here") from error
         except subprocess.CalledProcessError as error:
             raise Unreadable(f"KLayout ended with status {error.returncode}") from error
+
+
+def command(script, pairs):
+    """The words that run a script with variables, and the settings of the environment that they want."""
+    if os.path.isdir(f"{LIBRARY}/pymod"):
+        return ["/usr/bin/python3", ALONE, script, *pairs], {"LD_LIBRARY_PATH": LIBRARY, "PYTHONPATH": f"{LIBRARY}/pymod"}
+    words = [word for pair in pairs for word in ("-rd", pair)]
+    return ["klayout", "-b", *words, "-r", script], {"QT_QPA_PLATFORM": "offscreen"}

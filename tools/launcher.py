@@ -23,7 +23,7 @@ OWN = {
 
 UNPROVED = (
     "dpl: no proved program stands here yet, so this answer comes from the same sources without their proofs, "
-    "in about a minute; ./dpl build proves and builds the program"
+    "in a minute or two; ./dpl build proves and builds the program"
 )
 OLD = "dpl: a source is newer than the program that answers; ./dpl build proves and builds it again"
 

@@ -18,6 +18,7 @@ STATUSES = {
     5: "an input could not be read",
     6: "the output could not be written",
     7: "memory ran out",
+    8: "edit: a line of the script is not of the form, or removes a box that is not there",
 }
 
 ABOUT = (

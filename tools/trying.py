@@ -12,7 +12,7 @@ import tempfile
 import words as command_line
 from kit import Failed, rt
 
-MOST_LAYOUT, MOST_REPORT = 16_777_216, 268_435_456
+MOST_LAYOUT = 16_777_216
 SECONDS = 900
 WITHOUT = "the sources without their proofs give no answer to this"
 
@@ -47,12 +47,12 @@ def read_layout():
         raise Ended(5, "dpl: read fault") from error
 
 
-def read_named(name):
-    """The bytes of a file that an option names."""
+def read_named(name, most):
+    """The bytes of a file that an option names, at most one more than the program would take."""
     try:
         file = os.open(name, os.O_RDONLY)
         try:
-            return read(file, MOST_REPORT)
+            return read(file, most)
         finally:
             os.close(file)
     except OSError as error:
@@ -66,11 +66,12 @@ def answer(words, line):
     with tempfile.TemporaryDirectory(prefix="dpl-") as folder:
         flags, given = ["--seconds", str(SECONDS)], words[:1]
         for name, value in command_line.given_in(words[1:])[0]:
-            if command_line.OPTIONS[name].shown == "FILE":
+            option = command_line.OPTIONS[name]
+            if option.shown == "FILE":
                 # a layout that is too long is refused before a file that is named is opened
                 if len(layout) <= MOST_LAYOUT:
                     with open(f"{folder}/{name}", "wb") as file:
-                        file.write(read_named(value))
+                        file.write(read_named(value, option.most))
                     flags += ["--data", f"{name}.given={folder}/{name}"]
                 value = f"{name}.given"
             given.append(f"--{name}={value}")

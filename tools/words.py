@@ -13,7 +13,7 @@ DIGITS, NAME = frozenset("0123456789"), frozenset("0123456789ABCDEFGHIJKLMNOPQRS
 
 
 class Option(NamedTuple):
-    """How the value is shown, what it is, and for a number its least, its most and its default."""
+    """How the value is shown, what it is, for a number its least, its most and its default, for a file its most bytes."""
 
     shown: str
     meaning: str
@@ -55,7 +55,8 @@ OPTIONS = {
     "conflict": Option("N", "what a conflict costs", 1, 1_000_000, "10"),
     "corner": Option("N", "what a conflict between corners costs", 1, 1_000_000, "as a conflict"),
     "keep": Option("NAME", "a layer in which nothing is cut", default="none"),
-    "report": Option("FILE", "the report that is read again"),
+    "report": Option("FILE", "the report that is read again", most=268_435_456),
+    "script": Option("FILE", "the edits, a line for each box that is added and for each that is removed", most=65_536),
     "start": Option("N", "the number that the layout is made from", 0, 10**12),
     "rows": Option("N", "its rows", 1, 200),
     "columns": Option("N", "its columns", 1, 200),
@@ -68,6 +69,7 @@ COMMANDS = {
     "check": Command((*LAYER, "report"), WEIGHTS, "reads the layout and a report again, and says whether the report is good"),
     "cross": Command(LAYER, WEIGHTS, "tells whether links of the drawing cross, and what bars the least edge set aside"),
     "balance": Command(LAYER, WEIGHTS, "writes a report as split does, whose masks cover about the same area"),
+    "edit": Command((*LAYER, "script"), WEIGHTS, "adds boxes to the layer and removes them again, and writes the report of the result"),
     "load": Command(("start", "rows", "columns"), (), "splits a made layout, and tells its numbers in one line", False),
 }
 

@@ -7,8 +7,6 @@
 #![tactic(auto)]
 
 mod lines;
-#[cfg(test)]
-mod tests;
 mod writing;
 
 pub use lines::line_rules;

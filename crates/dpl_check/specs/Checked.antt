@@ -1,9 +1,14 @@
 -- The verdict on a report text against the text of a layout.
-use Rattle.std.specs.Prelude.{ℕ, ◌*◌, ◌≤◌, Bool, List}
+use Rattle.std.specs.Prelude.{◌≡◌, ℕ, ◌*◌, ◌≤◌, Bool, List}
+use Rattle.dpl_cell.specs.Places.{Corners}
+use Rattle.dpl_cell.specs.Tiles.{AreTiles}
 use Rattle.dpl_cuts.specs.declared.types.Fragments.{Fragments}
 use Rattle.dpl_sign.specs.declared.nets.Net.{Net}
 use Rattle.dpl_sign.specs.Colourings.{IsColouring, cost_of}
 use Rattle.dpl_options.specs.Options.{PlainOptions}
+use Rattle.dpl_report.specs.Plain.{PlainReport}
+use Rattle.dpl_report.specs.ReportLines.{report_text}
+use Rattle.dpl_report.specs.MaskCells.{AreMasksOf}
 use Rattle.dpl_layer.specs.Drawings.{Cells, OnLayer}
 use Rattle.dpl_layer.specs.Layers.{IsLayer}
 use Rattle.dpl_check.specs.declared.verdicts.Verdict.{Verdict}
@@ -31,3 +36,19 @@ pub record BoundsCells (o : PlainOptions) (bound : ℕ) (cells kept : Cells) : T
 -- each colouring of the net of the layer costs at least half of this
 abbrev pub BoundsAll : PlainOptions → List ℕ → ℕ → Type 0
 BoundsAll o text bound = OnLayer o text (BoundsCells o bound)
+
+-- The masks of the report are those of the layer with these cells: together they are the layer, they overlap exactly at
+-- the listed stitches, they break the spacing only at the listed clashes, and the text read as CIF draws them.
+pub record HasMasksOfCells (o : PlainOptions) (text : List ℕ) (cells kept : Cells) : Type 0 where
+  pub fragments : Fragments
+  pub net : Net
+  pub layer : IsLayer o cells kept fragments net
+  pub report : PlainReport
+  pub written : text ≡ report_text report
+  pub tiles : List Corners
+  pub are_tiles : AreTiles cells tiles
+  pub masks : AreMasksOf o cells tiles fragments net report
+
+-- the masks of the report are those of the layer of the text
+abbrev pub HasMasksOf : PlainOptions → List ℕ → List ℕ → Type 0
+HasMasksOf o text report = OnLayer o text (HasMasksOfCells o report)

@@ -2,7 +2,7 @@
 ghost use Rattle.std.specs.Prelude.{◌≡◌, ◌⊎◌, ◌≤◌, ℕ, length, IfOk, IfErr, Ok, Err};
 ghost use Rattle.dpl_limits.specs.declared.TheConstants.{MOST_LAYOUT_BYTES, MOST_REPORT_BYTES};
 ghost use Rattle.dpl_layer.specs.Refusals.{RefusesLayer};
-ghost use Rattle.dpl_check.specs.Checked.{BoundsAll, IsVerdictOf};
+ghost use Rattle.dpl_check.specs.Checked.{BoundsAll, HasMasksOf, IsVerdictOf};
 
 use crate::judging::judge;
 use crate::verdicts::Verdict;
@@ -31,7 +31,11 @@ pub fn check(
     // Every colouring costs at least half the bound of an accepted report.
     ensures bounds { (cost bound : ℕ) → result ≡ Ok (Verdict.Yes cost bound) →
         BoundsAll options.now text.now bound }
+    // Its masks are those of the layer.
+    ensures masks { (cost bound : ℕ) → result ≡ Ok (Verdict.Yes cost bound) →
+        HasMasksOf options.now text.now report.now }
 {
+    options.in_range();
     check_parts(alloc, text, options, report)
 }
 

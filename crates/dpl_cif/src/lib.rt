@@ -11,8 +11,6 @@ mod error;
 mod prims;
 mod reach;
 mod reading;
-#[cfg(test)]
-mod tests;
 
 pub use dpl_rules::What;
 pub use error::{CifError, CifLimit};

@@ -5,18 +5,17 @@ ghost use Rattle.dpl_dual.specs.declared.crosses.Cross.{Cross};
 ghost use Rattle.dpl_dual.specs.Searches.{IsLabelled};
 ghost use Rattle.dpl_dual.specs.Labels.{labels, IsFar, IsUnderWay, AreReachedAlso, WaitsAlso};
 
+use crate::queue::Waiting;
 use crate::reach::Reach;
 use crate::table::Table;
 use std::alloc::{AllocError, Global};
-use std::collections::BinaryHeap;
 
-/// The labels so far, the faces that have one, and a queue of labels whose ways are to be tried. A
-/// label waits by how near it is, so that the nearest is the first that the queue gives.
+/// The labels so far, the faces that have one, and the labels that wait for their ways to be tried.
 #[derive(Drop)]
 pub struct Search {
     pub table: Table,
     pub reached: Vec<u32>,
-    pub queue: BinaryHeap<(u64, u32)>,
+    pub queue: Waiting,
 }
 
 /// The length of a face's label.
@@ -39,15 +38,21 @@ pub fn has_length(search: &Search, face: u32, length: u64) -> bool
     }
 }
 
-/// Gives a face another label.
-pub fn label(search: &mut Search, face: u32, reach: Reach, known: bool) -> Result<(), AllocError>
+/// Gives a face another label, over a way of this length.
+pub fn label(
+    search: &mut Search,
+    way: u64,
+    face: u32,
+    reach: Reach,
+    known: bool,
+) -> Result<(), AllocError>
     requires { known ≡ is_some (labels search.old face) }
     ensures label { OnOk result (IsLabelled (labels search.old) (labels search.new) face reach) }
     ensures reached { OnOk result (AreReachedAlso (labels search.old face) face
         search.old.reached.items search.new.reached.items) }
     ensures queue { OnOk result (WaitsAlso reach.length face search.old search.new) }
 {
-    search.queue.push((u64::MAX - reach.length, face))?;
+    search.queue.push(way, (reach.length, face))?;
     search.table.insert(face, reach)?;
     if !known {
         search.reached.push(face)?;
@@ -65,13 +70,13 @@ pub fn begin(alloc: Global, from: u32, faces: u32, limit: u64) -> Result<Search,
     let mut search = Search {
         table: Table::new(alloc),
         reached: Vec::new(alloc),
-        queue: BinaryHeap::new(alloc),
+        queue: Waiting::new(alloc),
     };
     let _within = (faces, limit);
     let reach = Reach {
         length: 0,
         last: None,
     };
-    label(&mut search, from, reach, false)?;
+    label(&mut search, 0, from, reach, false)?;
     Ok(search)
 }

@@ -18,6 +18,3 @@ mod weighing;
 pub use errors::{EditError, RemoveError};
 pub use placed::Placed;
 pub use sessions::Session;
-
-#[cfg(test)]
-mod tests;

@@ -3,7 +3,7 @@ ghost use Rattle.std.specs.Prelude.{◌≡◌, ℕ, ◌<◌, List, length, IfOk}
 ghost use Rattle.std.specs.declared.option.Option.{Option};
 ghost use Rattle.std.specs.Io.{ReadsAtMost, WritesAtMost};
 ghost use Rattle.std.specs.Io.KnownBytes.{ReadConsumes, WriteAppends};
-ghost use Rattle.dpl_ext.specs.Device.{HasCause, CountsGiven, Seen, Texts, AnswersOpen};
+ghost use Rattle.dpl_ext.specs.Device.{HasCause, CountsGiven, RoseBy, Seen, Texts, AnswersOpen};
 
 use crate::opening::OpenEnd;
 use thiserror::Error;
@@ -17,6 +17,8 @@ pub struct Failed;
 pub trait Source {
     // What is known of the source.
     ghost seen: { Self → Seen };
+    // How many reads there were.
+    ghost reads: { Self → ℕ };
 
     /// Puts some bytes at the front of `into` and says how many. Where `into` has room, 0 is the end.
     fn read(&mut self, into: &mut [u8]) -> Result<usize, Failed>
@@ -24,7 +26,8 @@ pub trait Source {
         ensures bytes { ReadConsumes (seen self.old).left (seen self.new).left result into.new }
         ensures counted { CountsGiven (seen self.old).given (seen self.new).given result }
         ensures cause { HasCause (seen self.old).faults (seen self.new).faults result }
-        ensures same { (seen self.new).asked ≡ (seen self.old).asked };
+        ensures same { (seen self.new).asked ≡ (seen self.old).asked }
+        ensures reads { RoseBy 1 (reads self.old) (reads self.new) };
 }
 
 /// A source of several texts, each under a name.
@@ -36,7 +39,8 @@ pub trait Shelf: Source {
     fn open(&mut self, name: &str) -> Result<(), OpenEnd>
         ensures answer { AnswersOpen (Self.seen self.old) (Self.seen self.new) (texts self.old)
             name.now result }
-        ensures texts { texts self.new ≡ texts self.old };
+        ensures texts { texts self.new ≡ texts self.old }
+        ensures reads { Self.reads self.new ≡ Self.reads self.old };
 }
 
 /// Where bytes go.

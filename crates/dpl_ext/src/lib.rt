@@ -9,6 +9,7 @@
 mod adapters;
 mod devices;
 mod file_shelf;
+mod interrupted;
 pub mod laws;
 mod mem_shelf;
 mod memory;

@@ -2,7 +2,7 @@
 ghost use Rattle.std.specs.Prelude.{◌≡◌, ◌+◌, ◌-◌, ◌^◌, ◌<◌, ◌≤◌, ◌↔◌, ◌⊎◌, min, List, [], length, vec_len, drop, map, string_bytes, true, false, IfOk, IsErr, Contains, Ok, Err, Some, None, OnErr, OnOk, option_map};
 ghost use Rattle.std.specs.Io.{ReadsAtMost};
 ghost use Rattle.std.specs.Io.KnownBytes.{ReadConsumes};
-ghost use Rattle.dpl_ext.specs.Device.{HasCause, CountsGiven, Seen, AnswersOpen, first_text};
+ghost use Rattle.dpl_ext.specs.Device.{HasCause, CountsGiven, RoseBy, Seen, AnswersOpen, first_text};
 ghost use Rattle.dpl_ext.specs.Memory.{HeldShelf, texts_of};
 
 use crate::devices::{Failed, Shelf, Source};
@@ -23,6 +23,7 @@ pub struct MemShelf {
     calls: u64,
     faults: u64,
     given: u64,
+    reads: u64,
     asked: Vec<String>,
 }
 
@@ -38,6 +39,7 @@ impl Model for MemShelf {
       calls = s.calls;
       faults = s.faults;
       given = s.given;
+      reads = s.reads;
       asked = map string_bytes s.asked.items;
     } };
 
@@ -64,6 +66,7 @@ impl MemShelf {
           calls = 0;
           faults = 0;
           given = 0;
+          reads = 0;
           asked = [];
         } }
     {
@@ -78,6 +81,7 @@ impl MemShelf {
             calls: 0,
             faults: 0,
             given: 0,
+            reads: 0,
             asked: Vec::new(alloc),
         }
     }
@@ -91,13 +95,17 @@ impl Source for MemShelf {
       asked = s.asked;
     } };
 
+    ghost reads = { λ s. s.reads };
+
     fn read(&mut self, into: &mut [u8]) -> Result<usize, Failed>
         ensures bound { ReadsAtMost result into.new }
         ensures bytes { ReadConsumes (Some self.old.left) (Some self.new.left) result into.new }
         ensures counted { CountsGiven self.old.given self.new.given result }
         ensures cause { HasCause self.old.faults self.new.faults result }
         ensures same { self.new.asked ≡ self.old.asked }
-        ensures closed { self.old.is_open ≡ false → (result ≡ Ok 0) × (self.new ≡ self.old) }
+        ensures reads { RoseBy 1 self.old.reads self.new.reads }
+        ensures closed { self.old.is_open ≡ false → (result ≡ Ok 0) ×
+            (self.new.left ≡ self.old.left) × (self.new.calls ≡ self.old.calls) }
         ensures fails { self.old.is_open ≡ true →
             IsErr result ↔ Contains self.old.fails self.old.calls }
         ensures count { IfOk result (λ n.
@@ -108,6 +116,7 @@ impl Source for MemShelf {
             (self.new.texts ≡ self.old.texts) × (self.new.is_open ≡ self.old.is_open) }
     {
         let given = self.given;
+        self.reads = self.reads.saturating_add(1);
         if !self.is_open {
             return Ok(0);
         }
@@ -160,6 +169,7 @@ impl Shelf for MemShelf {
               asked = self.new.asked;
             }) (Some self.old.texts) name.now result }
         ensures texts { Some self.new.texts ≡ Some self.old.texts }
+        ensures reads { self.new.reads ≡ self.old.reads }
         ensures fails { (result ≡ Err OpenEnd.NoMemory) ⊎
             (IsErr result ↔ (Contains self.old.fails self.old.calls ⊎
             (first_text name.now self.old.texts ≡ None))) }

@@ -3,7 +3,7 @@ ghost use Rattle.std.specs.Prelude.{◌≡◌, ◌≢◌, ℕ, ◌+◌, ◌-◌,
 ghost use Rattle.std.specs.Io.{ReadsAtMost, WritesAtMost};
 ghost use Rattle.std.specs.Io.KnownBytes.{ReadConsumes, WriteAppends};
 ghost use Rattle.std.specs.Vec.{vec_capacity};
-ghost use Rattle.dpl_ext.specs.Device.{HasCause, CountsGiven, CountsFaults, Seen};
+ghost use Rattle.dpl_ext.specs.Device.{HasCause, CountsGiven, CountsFaults, RoseBy, Seen};
 ghost use Rattle.dpl_ext.specs.Memory.{HeldSource, HeldSink};
 
 use crate::devices::{Failed, Sink, Source};
@@ -70,11 +70,14 @@ impl Source for MemSource {
       asked = [];
     } };
 
+    ghost reads = { λ s. s.calls };
+
     fn read(&mut self, into: &mut [u8]) -> Result<usize, Failed>
         ensures bound { ReadsAtMost result into.new }
         ensures bytes { ReadConsumes (Some self.old.left) (Some self.new.left) result into.new }
         ensures counted { CountsGiven self.old.given self.new.given result }
         ensures cause { HasCause self.old.faults self.new.faults result }
+        ensures reads { RoseBy 1 self.old.calls self.new.calls }
         ensures fails { IsErr result ↔ Contains self.old.fails self.old.calls }
         ensures count { IfOk result (λ n.
             n ≡ min self.old.piece (min (length into.old) (length self.old.left))) }

@@ -1,6 +1,6 @@
 // Reading all that is left of a source.
 ghost use Rattle.std.specs.Prelude.{◌≡◌, ◌+◌, ◌++◌, ◌^◌, ◌<◌, ◌≤◌, ◌⊎◌, length, vec_len, IfOk, IfErr, IfSome, OnErr, Err};
-ghost use Rattle.dpl_ext.specs.Device.{Rose};
+ghost use Rattle.dpl_ext.specs.Device.{Rose, RoseBy};
 ghost use Rattle.dpl_ext.specs.Reading.{GivesPiece, StopsPiece, IsWhole, Refuses, TookFront};
 
 use crate::devices::{Failed, Source};
@@ -21,8 +21,8 @@ pub enum ReadEnd {
 
 const PIECE: u64 = 4096;
 
-/// Reads all that is left, if that is at most `limit` bytes. Each turn takes at least one byte, and
-/// never more than one past the limit.
+/// Reads all that is left, if that is at most `limit` bytes, in at most `limit + 2` reads: each but the last takes at
+/// least one byte, and all together never more than one past the limit.
 pub fn read_all<S: Source>(alloc: Global, source: &mut S, limit: u64) -> Result<Vec<u8>, ReadEnd>
     requires { limit < 2 ^ 32 }
     ensures whole { IfOk result (λ v.
@@ -35,6 +35,7 @@ pub fn read_all<S: Source>(alloc: Global, source: &mut S, limit: u64) -> Result<
     ensures long { IfSome (S.seen source.old).left (λ xs. limit < length xs
         → ¬ Rose (S.seen source.old).faults (S.seen source.new).faults
         → (result ≡ Err ReadEnd.TooLong) ⊎ (result ≡ Err ReadEnd.NoMemory)) }
+    ensures reads { S.reads source.new ≤ S.reads source.old + limit + 2 }
 {
     let mut bytes = Vec::new(alloc);
     for _turn in 0..limit + 2 {
@@ -63,6 +64,7 @@ pub fn read_each<S: Source, T: Taker>(
     ensures long { IfSome (S.seen source.old).left (λ xs. limit < length xs
         → ¬ Rose (S.seen source.old).faults (S.seen source.new).faults
         → (result ≡ Err ReadEnd.TooLong) ⊎ (result ≡ Err ReadEnd.NoMemory)) }
+    ensures reads { S.reads source.new ≤ S.reads source.old + limit + 2 }
 
     // What the taker got.
     ensures got { IfOk result (λ v. T.got taker.new ≡ T.got taker.old ++ v.items) }
@@ -92,6 +94,7 @@ fn read_piece<S: Source>(source: &mut S, bytes: &mut Vec<u8>, limit: u64) -> Res
         bytes.new.items limit) }
     ensures err { IfErr result (StopsPiece (S.seen source.old) (S.seen source.new) bytes.old.items
         limit) }
+    ensures reads { RoseBy 1 (S.reads source.old) (S.reads source.new) }
 {
     let mut piece = [0u8; 4096];
     let want = (limit + 1 - bytes.len() as u64).min(PIECE) as usize;

@@ -5,8 +5,6 @@
 #![tactic(auto)]
 
 mod finding;
-#[cfg(test)]
-mod tests;
 mod walk;
 
 pub use finding::{Groups, find_groups};

@@ -7,7 +7,8 @@ use Rattle.std.proofs.lemmas.List.Sorted.{All-permutation, Contains-permutation}
 use Rattle.std.specs.List.Sorted.{IsPermutation}
 use Rattle.dpl_index.specs.declared.bounds.Bounds.{Bounds}
 use Rattle.dpl_index.specs.declared.stops.Stop.{Stop}
-use Rattle.dpl_index.specs.Stops.{Holds, NamesAll, IsIndex}
+use Rattle.dpl_index.specs.Holds.{Holds}
+use Rattle.dpl_index.specs.Stops.{NamesAll, IsIndex}
 use Rattle.dpl_list.proofs.Integers.{signed}
 
 -- ---- bounds

@@ -1,14 +1,8 @@
 -- An index of items: stops, each with bounds that hold its item and those of the stops right behind it.
-use Rattle.std.specs.Prelude.{◌≡◌, ℕ, ◌<◌, ◌≤◌, ◌+◌, ◌≤ℤ◌, List, All, Contains, length, slice_index_or}
+use Rattle.std.specs.Prelude.{◌≡◌, ℕ, ◌<◌, ◌≤◌, ◌+◌, List, All, Contains, length, slice_index_or}
 use Rattle.dpl_index.specs.declared.bounds.Bounds.{Bounds}
 use Rattle.dpl_index.specs.declared.stops.Stop.{Stop}
-
--- the second bounds lie in the first
-pub record Holds (outer inner : Bounds) : Type 0 where
-  pub left : outer.left ≤ℤ inner.left
-  pub right : inner.right ≤ℤ outer.right
-  pub low : outer.low ≤ℤ inner.low
-  pub high : inner.high ≤ℤ outer.high
+use Rattle.dpl_index.specs.Holds.{Holds}
 
 -- the second numbers are those below n, in any order
 pub record NamesAll (n : ℕ) (places : List (ℕ × ℕ)) : Type 0 where

@@ -1,6 +1,6 @@
 ghost use Rattle.std.specs.Prelude.{◌↔◌, ℤ, ◌≤ℤ◌, IsTrue};
 ghost use Rattle.dpl_index.specs.Meetings.{Meets};
-ghost use Rattle.dpl_index.specs.Stops.{Holds};
+ghost use Rattle.dpl_index.specs.Holds.{Holds};
 
 /// Columns from `left` to `right` and rows from `low` to `high`; all four belong to them.
 #[derive(Clone, Copy, Debug, PartialEq, Eq)]
@@ -16,6 +16,21 @@ pub fn do_meet(a: &Bounds, b: &Bounds) -> bool
     ensures { IsTrue result ↔ Meets a.now b.now }
 {
     overlap(a.left, a.right, b.left, b.right) && overlap(a.low, a.high, b.low, b.high)
+}
+
+/// Whether bounds hold others.
+pub fn do_hold(outer: &Bounds, inner: &Bounds) -> bool
+    ensures { IsTrue result ↔ Holds outer.now inner.now }
+{
+    lies_in(outer.left, outer.right, inner.left, inner.right)
+        && lies_in(outer.low, outer.high, inner.low, inner.high)
+}
+
+/// Whether the second range lies in the first.
+fn lies_in(a1: i64, a2: i64, b1: i64, b2: i64) -> bool
+    ensures { IsTrue result ↔ (a1 ≤ℤ b1) × (b2 ≤ℤ a2) }
+{
+    a1 <= b1 && b2 <= a2
 }
 
 /// Whether two ranges have a number in common.

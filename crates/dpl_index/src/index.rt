@@ -1,8 +1,8 @@
-ghost use Rattle.std.specs.Prelude.{ℕ, ◌<◌, length, IfOk, OnOk};
-ghost use Rattle.dpl_index.specs.Meetings.{AddsMeeting, HasMeeting};
+ghost use Rattle.std.specs.Prelude.{ℕ, ◌<◌, ◌≤◌, length, IfOk, OnOk, MatchOption};
+ghost use Rattle.dpl_index.specs.Meetings.{AddsMeeting, HasMeeting, IsHolding};
 ghost use Rattle.dpl_index.specs.Stops.{IsIndex};
 
-use crate::bounds::{Bounds, do_meet};
+use crate::bounds::{Bounds, do_hold, do_meet};
 use crate::order::put_in_order;
 use crate::stops::{Stop, stops_of};
 use std::alloc::{AllocError as NoMemory, Global};
@@ -32,8 +32,8 @@ impl Model for Index {
 }
 
 impl Index {
-    ghost use Rattle.std.specs.Prelude.{◌≡◌, IfOk};
-    ghost use Rattle.dpl_index.specs.Meetings.{AreMeeting};
+    ghost use Rattle.std.specs.Prelude.{◌≡◌, ℕ, IfOk, IfSome, MatchOption};
+    ghost use Rattle.dpl_index.specs.Meetings.{AreMeeting, IsHolding};
 
     /// An index of items with these bounds. It takes about n log n steps for n of them.
     pub fn new(alloc: Global, bounds: Vec<Bounds>) -> Result<Index, NoMemory>
@@ -47,28 +47,81 @@ impl Index {
     pub fn meeting(&self, alloc: Global, window: &Bounds) -> Result<Vec<usize>, NoMemory>
         ensures { IfOk result (λ v. AreMeeting self.now window.now v.items) }
     {
-        let mut found = gather(alloc, self.bounds.as_slice(), self.stops.as_slice(), window)?;
+        let (bounds, stops) = (self.bounds.as_slice(), self.stops.as_slice());
+        let mut found = gather(alloc, bounds, stops, window, usize::MAX)?;
         put_in_order(&mut found);
         Ok(found)
     }
+
+    /// The same, or `None` as soon as more than `most` are found.
+    pub fn few_meeting(
+        &self,
+        alloc: Global,
+        window: &Bounds,
+        most: usize,
+    ) -> Result<Option<Vec<usize>>, NoMemory>
+        ensures { IfOk result (λ few. IfSome few (λ v. AreMeeting self.now window.now v.items)) }
+    {
+        let (bounds, stops) = (self.bounds.as_slice(), self.stops.as_slice());
+        let mut found = gather(alloc, bounds, stops, window, most)?;
+        if found.len() > most {
+            return Ok(None);
+        }
+        put_in_order(&mut found);
+        Ok(Some(found))
+    }
+
+    /// An item whose bounds hold these, if there is one.
+    pub fn holding(&self, inner: &Bounds) -> Option<usize>
+        ensures { MatchOption result ((i : ℕ) → ¬ IsHolding self.now inner.now i)
+            (IsHolding self.now inner.now) }
+    {
+        first_holding(self.bounds.as_slice(), self.stops.as_slice(), inner)
+    }
 }
 
-/// The numbers of the items whose bounds meet these, in any order.
+/// The first item, stop by stop, whose bounds hold these.
+fn first_holding(items: &[Bounds], stops: &[Stop], inner: &Bounds) -> Option<usize>
+    requires { IsIndex items.now stops.now }
+    ensures { MatchOption result ((i : ℕ) → ¬ IsHolding items.now inner.now i)
+        (IsHolding items.now inner.now) }
+{
+    let mut k = 0;
+    'stops: while k < stops.len() {
+        let stop = stops[k];
+        if do_hold(&stop.bounds, inner) {
+            if do_hold(&items[stop.number], inner) {
+                return Some(stop.number);
+            }
+            k += 1;
+        } else {
+            k += stop.rest + 1;
+        }
+    }
+    None
+}
+
+/// The numbers of the items whose bounds meet these, in any order; where there are more than `enough`, one more than that.
 fn gather(
     alloc: Global,
     items: &[Bounds],
     stops: &[Stop],
     window: &Bounds,
+    enough: usize,
 ) -> Result<Vec<usize>, NoMemory>
     requires { IsIndex items.now stops.now }
-    ensures { IfOk result (λ v. HasMeeting items.now window.now v.items) }
+    ensures { IfOk result (λ v. length v.items ≤ enough →
+        HasMeeting items.now window.now v.items) }
 {
-    let mut found = Vec::with_capacity(alloc, USUAL)?;
+    let mut found = Vec::with_capacity(alloc, USUAL.min(stops.len()))?;
     let mut at = 0;
     'stops: while at < stops.len() {
         let stop = stops[at];
         if do_meet(&stop.bounds, window) {
             push_meeting(&mut found, items, window, stop.number)?;
+            if found.len() > enough {
+                return Ok(found);
+            }
             at += 1;
         } else {
             at += stop.rest + 1;

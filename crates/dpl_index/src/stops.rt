@@ -22,7 +22,7 @@ pub fn stops_of(alloc: Global, items: &[Bounds]) -> Result<Vec<Stop>, NoMemory>
     let mut places = places(alloc, items)?;
     sort(&mut places);
     let mut stops = singles(alloc, items, places.as_slice())?;
-    let sizes = sizes(alloc, stops.len())?;
+    let sizes = sizes(alloc, places.as_slice())?;
     gather(items, stops.as_mut_slice(), &sizes);
     Ok(stops)
 }
@@ -62,23 +62,34 @@ fn singles(alloc: Global, items: &[Bounds], places: &[(u64, usize)]) -> Result<V
 }
 
 /// How many stops each stop is to hold, itself among them: the first holds all. The stops behind one, as far as it holds
-/// them, are held by two, half of them by the next one. So a stop is found over about twice log n others.
-fn sizes(alloc: Global, count: usize) -> Result<Vec<usize>, NoMemory> {
+/// them, are held by two: those in one half of a square or of a half of one, and those in the other.
+fn sizes(alloc: Global, places: &[(u64, usize)]) -> Result<Vec<usize>, NoMemory> {
+    let count = places.len();
     let mut sizes = vec![in alloc; 0usize; count]?;
     set(&mut sizes, 0, count);
     for k in 0..count {
         let behind = size_at(&sizes, k).wrapping_sub(1);
-        let half = behind / 2;
+        let from = k.wrapping_add(1);
+        let to = from.wrapping_add(behind);
+        let half = first_half(places.get(from..to).unwrap_or(&[]));
+        set(&mut sizes, from, half);
         set(
             &mut sizes,
-            k.wrapping_add(half).wrapping_add(1),
+            from.wrapping_add(half),
             behind.wrapping_sub(half),
         );
-        if half > 0 {
-            set(&mut sizes, k.wrapping_add(1), half);
-        }
     }
     Ok(sizes)
+}
+
+/// How many places, of some in order, agree with the first of them in more bits than with the last.
+fn first_half(places: &[(u64, usize)]) -> usize {
+    match (places.first(), places.last()) {
+        (Some(first), Some(last)) if first.0 < last.0 => {
+            places.partition_point(|p| p.0 ^ first.0 < p.0 ^ last.0)
+        }
+        _ => places.len() / 2,
+    }
 }
 
 fn set(sizes: &mut [usize], k: usize, size: usize) {

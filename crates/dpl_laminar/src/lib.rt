@@ -16,8 +16,6 @@ mod releasing;
 mod rings;
 mod starting;
 mod steps;
-#[cfg(test)]
-mod tests;
 mod values;
 
 pub use family::Family;

@@ -9,8 +9,6 @@ mod cutting;
 mod lexer;
 mod name;
 mod number;
-#[cfg(test)]
-mod tests;
 pub mod types;
 
 pub use cutting::cutting_rules;

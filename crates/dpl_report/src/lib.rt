@@ -29,8 +29,6 @@ mod refusals;
 mod reports;
 mod stitches;
 mod stops;
-#[cfg(test)]
-mod tests;
 pub mod types;
 mod writing;
 

@@ -12,8 +12,6 @@ mod forms;
 mod readers;
 mod rules;
 pub mod scope;
-#[cfg(test)]
-mod tests;
 mod what;
 
 pub use bounds::read_command;

@@ -1,13 +1,11 @@
 -- What is due for `edit`: one answer at most, and the end of its work.
-use Rattle.std.proofs.Common.{arith, ◌≡◌, ◌⊎◌, ◌∙◌, ◌+◌, ◌≤◌, ◌<◌, ℕ, List, [], ◌∷◌, ◌++◌, append-nil, map, true, refl, sym, ap, subst, inl, inr}
+use Rattle.std.proofs.Common.{arith, ◌≡◌, ◌⊎◌, ◌∙◌, ◌+◌, ◌≤◌, ℕ, List, [], ◌∷◌, ◌++◌, append-nil, length, map, Option, true, refl, sym, ap, subst, inl, inr}
 use Rattle.std.specs.Prelude.{Result, Ok, Err}
 use Rattle.dpl_cell.specs.declared.rect.Rect.{Rect}
 use Rattle.dpl_cell.specs.declared.layout.Primitive.{Primitive}
-use Rattle.dpl_cell.specs.Outlines.{Outline, outline_of}
+use Rattle.dpl_cell.specs.Outlines.{Outline}
 use Rattle.dpl_cif.specs.Reading.Reading.{Good}
-use Rattle.dpl_options.specs.Options.{PlainOptions}
-use Rattle.dpl_layer.specs.declared.error.LayerError.{LayerError}
-use Rattle.dpl_layer.specs.declared.error.LayerError.TheVariants as refusal
+use Rattle.dpl_options.specs.Options.{PlainOptions, PlainWeights}
 use Rattle.dpl_layer.specs.declared.drawing.Drawing.{Drawing}
 use Rattle.dpl_layer.specs.Drawings.{Cells, IsDrawingOf}
 use Rattle.dpl_layer.specs.Refusals.{IsOverLimit, RefusesDrawing}
@@ -30,7 +28,7 @@ use Rattle.dpl_words.proofs.ScriptLemmas.{bad_once, script_free}
 use Rattle.dpl_run.specs.declared.status.Status.{Status}
 use Rattle.dpl_run.specs.declared.status.Status.TheVariants.{Done, Rejected, Usage, Layout, Limit, Script, ReadFault, WriteFault, NoMemory}
 use Rattle.dpl_run.specs.Inputs.{colours, follows}
-use Rattle.dpl_run.specs.due.Edit.{Edits, begun_with, edits_of, after, IsMissing, IsOver, IsWithin, Reports, StopsAt, GoesOn, AreEditsDue, IsScriptDue, IsEditDue}
+use Rattle.dpl_run.specs.due.Edit.{Edits, begun_with, edits_of, edited, IsOver, PassesNone, Reports, StopsAt, IsTaken, AreEditsDue, IsScriptDue, IsEditDue}
 use Rattle.dpl_run.specs.due.Edit.StopsAt.{missing, over}
 use Rattle.dpl_run.specs.due.Edit.IsScriptDue.{bad_line, applied}
 use Rattle.dpl_run.specs.due.Edit.IsEditDue.{unread, too_much, begun}
@@ -48,9 +46,9 @@ one_stop : (s : Edits) (n : ℕ) (l : Line) (a b : Status) (x y : List ℕ) → 
 one_stop s n l _ _ _ _ (missing p) (missing q) = refl
 one_stop s n l _ _ _ _ (missing p) (over k c there q) = absurd (there p)
 one_stop s n l _ _ _ _ (over k c there p) (missing q) = absurd (there q)
-one_stop s n l _ _ _ _ (over k c there p) (over j d here q) = one_over (after l s) k c j d p q
+one_stop s n l _ _ _ _ (over k c there p) (over j d here q) = one_over (edited l s) k c j d p q
 
-stops_alone : (s : Edits) (n : ℕ) (l : Line) (a : Status) (x : List ℕ) → StopsAt s n l a x → GoesOn s l → ⊥
+stops_alone : (s : Edits) (n : ℕ) (l : Line) (a : Status) (x : List ℕ) → StopsAt s n l a x → IsTaken s l → ⊥
 stops_alone s n l _ _ (missing p) g = g.there p
 stops_alone s n l _ _ (over k c there p) g = g.within k c p
 
@@ -59,7 +57,7 @@ one_edits [] s n a b x y p q = p.0 ∙ sym q.0
 one_edits (l ∷ ls) s n a b x y (inl p) (inl q) = one_stop s n l a b x y p q
 one_edits (l ∷ ls) s n a b x y (inl p) (inr q) = absurd (stops_alone s n l a x p q.0)
 one_edits (l ∷ ls) s n a b x y (inr p) (inl q) = absurd (stops_alone s n l b y q p.0)
-one_edits (l ∷ ls) s n a b x y (inr p) (inr q) = one_edits ls (after l s) (n + 1) a b x y p.1 q.1
+one_edits (l ∷ ls) s n a b x y (inr p) (inr q) = one_edits ls (edited l s) (n + 1) a b x y p.1 q.1
 
 one_script_due : (s : Edits) (text : List ℕ) (a b : Status) (x y : List ℕ) → IsScriptDue s text a x → IsScriptDue s text b y → a ≡ b
 one_script_due s text _ _ _ _ (bad_line m p) (bad_line n q) = ap (λ (z : ℕ). Script z 1) (bad_once text m n p q)
@@ -85,7 +83,7 @@ one_edit o text second _ _ _ _ (too_much d is k n p) (unread f q) = absurd (good
 one_edit o text second _ _ _ _ (too_much d is k n p) (too_much g also l m q) =
     one_over (begun_with o d) k n l m p (subst (λ z. IsOver z l m) (same_start o text d g is also) q)
 one_edit o text second _ _ _ _ (too_much d is k n p) (begun g also w b y due) =
-    absurd (subst IsWithin (same_start o text d g is also) w k n p)
+    absurd (subst PassesNone (same_start o text d g is also) w k n p)
 one_edit o text second _ _ _ _ (begun d is w a x due) (unread f q) = absurd (good_drawing_free o text d is f q)
 one_edit o text second _ _ _ _ (begun d is w a x due) (too_much g also l m q) =
     absurd (w l m (subst (λ z. IsOver z l m) (same_start o text d g is also) q))
@@ -108,12 +106,12 @@ over_limit c colouring o prims keep k n (inr (few, inr h)) = inr (h.odd.0, colou
 stop_ends : (c : PlainCommand) → colours c ≡ true → follows c ≡ true → (s : Edits) (n : ℕ) (l : Line) (a : Status) (x : List ℕ) → StopsAt s n l a x → Ends c a x
 stop_ends c colouring following s n l _ _ (missing p) = (following, refl)
 stop_ends c colouring following s n l _ _ (over k m there p) =
-    (over_limit c colouring (after l s).options (content (after l s).begun (after l s).boxes) (after l s).keep k m p, refl)
+    (over_limit c colouring (edited l s).options (content (edited l s).begun (edited l s).boxes) (edited l s).keep k m p, refl)
 
 edits_end : (c : PlainCommand) → colours c ≡ true → follows c ≡ true → (ls : List Line) (s : Edits) (n : ℕ) (a : Status) (x : List ℕ) → AreEditsDue s n ls a x → Ends c a x
 edits_end c colouring following [] s n a x d = subst (λ z. Ends c z x) (sym d.0) tt
 edits_end c colouring following (l ∷ ls) s n a x (inl p) = stop_ends c colouring following s n l a x p
-edits_end c colouring following (l ∷ ls) s n a x (inr q) = edits_end c colouring following ls (after l s) (n + 1) a x q.1
+edits_end c colouring following (l ∷ ls) s n a x (inr q) = edits_end c colouring following ls (edited l s) (n + 1) a x q.1
 
 script_ends : (c : PlainCommand) → colours c ≡ true → follows c ≡ true → (s : Edits) (text : List ℕ) (a : Status) (x : List ℕ) → IsScriptDue s text a x → Ends c a x
 script_ends c colouring following s text _ _ (bad_line n b) = (following, refl)
@@ -144,13 +142,13 @@ taken_within o prims keep result v is exact k n p = elim (exact (edit.Limit k n)
 ]
 
 pub begun_within : {T : Type 0} (o : PlainOptions) (d : Drawing) (result : Result T EditError) (v : T) → result ≡ Ok v
-    → ((e : EditError) → Refuses o d.layer.prims d.keep.prims e → (result ≡ Err e) ⊎ (result ≡ Err edit.NoMemory)) → IsWithin (begun_with o d)
+    → ((e : EditError) → Refuses o d.layer.prims d.keep.prims e → (result ≡ Err e) ⊎ (result ≡ Err edit.NoMemory)) → PassesNone (begun_with o d)
 begun_within o d result v is exact =
     taken_within o (d.layer.prims ++ []) d.keep.prims result v is (subst (λ z. (e : EditError) → Refuses o z d.keep.prims e → (result ≡ Err e) ⊎ (result ≡ Err edit.NoMemory)) (sym (append-nil d.layer.prims)) exact)
 
 pub added_goes_on : {T : Type 0} (s : State) (rect : Rect) (result : Result T EditError) (v : T) → result ≡ Ok v
     → ((e : EditError) → Refuses s.options (content s.begun (s.boxes ++ record { number = s.count; rect = rect } ∷ [])) s.keep e → (result ≡ Err e) ⊎ (result ≡ Err edit.NoMemory))
-    → GoesOn (edits_of s) (Add rect)
+    → IsTaken (edits_of s) (Add rect)
 added_goes_on s rect result v is exact = record {
   there = λ p. p;
   within = taken_within s.options (content s.begun (s.boxes ++ record { number = s.count; rect = rect } ∷ [])) s.keep result v is exact;
@@ -171,7 +169,7 @@ removed_within s number result v is there exact k n p = elim (exact (removal.Lim
 ]
 
 pub removed_goes_on : {T : Type 0} (s : State) (number : ℕ) (result : Result T RemoveError) (v : T) → result ≡ Ok v → HasBox number s.boxes
-    → ((e : RemoveError) → RefusesRemoval s number e → (result ≡ Err e) ⊎ (result ≡ Err removal.NoMemory)) → GoesOn (edits_of s) (Remove number)
+    → ((e : RemoveError) → RefusesRemoval s number e → (result ≡ Err e) ⊎ (result ≡ Err removal.NoMemory)) → IsTaken (edits_of s) (Remove number)
 removed_goes_on s number result v is there exact = record { there = λ p. p there; within = removed_within s number result v is there exact }
 
 pub removal_stops : (s : State) (number n : ℕ) (e : RemoveError) (status : Status) → status ≡ of_removal n e → (e ≡ removal.NoMemory) ⊎ RefusesRemoval s number e
@@ -189,9 +187,9 @@ removal_stops s number n (removal.Limit k c) status is (inr r) =
 abbrev pub LeadsTo : Edits → List Line → Edits → ℕ → List Line → Type 0
 LeadsTo s ls t n rest = (status : Status) (output : List ℕ) → AreEditsDue t n rest status output → AreEditsDue s 1 ls status output
 
-pub leads_on : (s t u : Edits) (ls rest others : List Line) (n m : ℕ) (line : Line) → LeadsTo s ls t n rest → rest ≡ line ∷ others → GoesOn t line → u ≡ after line t → m ≡ n + 1 → LeadsTo s ls u m others
+pub leads_on : (s t u : Edits) (ls rest others : List Line) (n m : ℕ) (line : Line) → LeadsTo s ls t n rest → rest ≡ line ∷ others → IsTaken t line → u ≡ edited line t → m ≡ n + 1 → LeadsTo s ls u m others
 leads_on s t u ls rest others n m line lead r g a e status output d =
-    let here : AreEditsDue (after line t) (n + 1) others status output = subst (λ z. AreEditsDue z (n + 1) others status output) a (subst (λ z. AreEditsDue u z others status output) e d) in
+    let here : AreEditsDue (edited line t) (n + 1) others status output = subst (λ z. AreEditsDue z (n + 1) others status output) a (subst (λ z. AreEditsDue u z others status output) e d) in
     lead status output (subst (λ z. AreEditsDue t n z status output) (sym r) (inr (g, here)))
 
 pub leads_stop : (s t : Edits) (ls rest others : List Line) (n : ℕ) (line : Line) (status : Status) → LeadsTo s ls t n rest → rest ≡ line ∷ others
@@ -199,10 +197,14 @@ pub leads_stop : (s t : Edits) (ls rest others : List Line) (n : ℕ) (line : Li
 leads_stop s t ls rest others n line status lead r (inl m) = inl m
 leads_stop s t ls rest others n line status lead r (inr p) = inr (lead status [] (subst (λ z. AreEditsDue t n z status []) (sym r) (inl p)))
 
-pub leads_end : (s t : Edits) (ls rest : List Line) (n : ℕ) → LeadsTo s ls t n rest → rest ≡ [] → (output : List ℕ) → Reports t output → AreEditsDue s 1 ls Done output
-leads_end s t ls rest n lead r output p = lead Done output (subst (λ z. AreEditsDue t n z Done output) (sym r) (refl, p))
+none_left : (ls : List Line) → length ls ≡ 0 → ls ≡ []
+none_left [] e = refl
+none_left (l ∷ ls) e = absurd (omega (arith, e))
 
-pub count_after : (line : Line) (s t : Edits) → t ≡ after line s → t.count ≤ s.count + 1
+pub leads_end : (s t : Edits) (ls rest : List Line) (n : ℕ) → LeadsTo s ls t n rest → length rest ≡ 0 → (output : List ℕ) → Reports t output → AreEditsDue s 1 ls Done output
+leads_end s t ls rest n lead none output p = lead Done output (subst (λ z. AreEditsDue t n z Done output) (sym (none_left rest none)) (refl, p))
+
+pub count_after : (line : Line) (s t : Edits) → t ≡ edited line s → t.count ≤ s.count + 1
 count_after (Add rect) s t e = let a = ap (λ (z : Edits). z.count) e in omega (arith, a)
 count_after (Remove number) s t e = let a = ap (λ (z : Edits). z.count) e in omega (arith, a)
 
@@ -236,18 +238,25 @@ pub worked_bare_at : (Due : Status → List ℕ → Type 0) (a s : Status) (x : 
 worked_bare_at Due a s x h is none = subst (λ z. IsWorked Due z x) (sym is) (subst (IsWorked Due a) (sym none) (or_due Due a h))
 
 -- a session that was begun is followed
-pub begun_worked : (o : PlainOptions) (text second : List ℕ) (d : Drawing) (s : State) (a : Status) (x : List ℕ) → IsDrawingOf o text d → IsWithin (begun_with o d) → IsBegun o d s
+pub begun_worked : {T : Type 0} (o p : PlainOptions) (text second : List ℕ) (d : Drawing) (result : Result T EditError) (v : T) (s : State) (a : Status) (x : List ℕ) → p ≡ o → IsDrawingOf o text d
+    → result ≡ Ok v → ((e : EditError) → Refuses p d.layer.prims d.keep.prims e → (result ≡ Err e) ⊎ (result ≡ Err edit.NoMemory)) → IsBegun p d s
     → IsWorked (IsScriptDue (edits_of s) second) a x → IsWorked (IsEditDue o text second) a x
-begun_worked o text second d s a x is within b w =
+begun_worked o p text second d result v s a x same is ok exact b w =
+    let within : PassesNone (begun_with o d) = subst (λ z. PassesNone (begun_with z d)) same (begun_within p d result v ok exact) in
+    let begins : IsBegun o d s = subst (λ z. IsBegun z d s) same b in
     worked_as (IsScriptDue (edits_of s) second) (IsEditDue o text second)
-    (λ c y due. begun d is within c y (subst (λ z. IsScriptDue z second c y) (of_begun o d s b) due)) a x w
+    (λ c y due. begun d is within c y (subst (λ z. IsScriptDue z second c y) (of_begun o d s begins) due)) a x w
 
-pub too_much_worked : (o : PlainOptions) (text second : List ℕ) (d : Drawing) (e : EditError) (a : Status) (x : List ℕ) → IsDrawingOf o text d → (e ≡ edit.NoMemory) ⊎ Refuses o d.layer.prims d.keep.prims e
+too_much_due : (o : PlainOptions) (text second : List ℕ) (d : Drawing) (e : EditError) (a : Status) (x : List ℕ) → IsDrawingOf o text d → (e ≡ edit.NoMemory) ⊎ Refuses o d.layer.prims d.keep.prims e
     → a ≡ of_edit e → x ≡ [] → IsWorked (IsEditDue o text second) a x
-too_much_worked o text second d (edit.Limit k n) a x is (inl m) e none = absurd (cc)
-too_much_worked o text second d edit.NoMemory a x is h e none = worked_bare_at (IsEditDue o text second) NoMemory a x (inl refl) e none
-too_much_worked o text second d (edit.Limit k n) a x is (inr r) e none =
+too_much_due o text second d (edit.Limit k n) a x is (inl m) e none = absurd (cc)
+too_much_due o text second d edit.NoMemory a x is h e none = worked_bare_at (IsEditDue o text second) NoMemory a x (inl refl) e none
+too_much_due o text second d (edit.Limit k n) a x is (inr r) e none =
     worked_bare_at (IsEditDue o text second) (Limit k n) a x (inr (too_much d is k n (subst (λ z. PassesLimit o z d.keep.prims k n) (sym (append-nil d.layer.prims)) r))) e none
+
+pub too_much_worked : (o p : PlainOptions) (text second : List ℕ) (d : Drawing) (e : EditError) (a : Status) (x : List ℕ) → p ≡ o → IsDrawingOf o text d
+    → (e ≡ edit.NoMemory) ⊎ Refuses p d.layer.prims d.keep.prims e → a ≡ of_edit e → x ≡ [] → IsWorked (IsEditDue o text second) a x
+too_much_worked o p text second d e a x same is h = too_much_due o text second d e a x is (subst (λ z. (e ≡ edit.NoMemory) ⊎ Refuses z d.layer.prims d.keep.prims e) same h)
 
 pub no_script_worked : {T : Type 0} (s : Edits) (text : List ℕ) (result : Result T ScriptError) (e : ScriptError) (a : Status) (x : List ℕ) → result ≡ Err e
     → ((n : ℕ) → result ≡ Err (script.Bad n) → IsFirstBad text n) → a ≡ of_script e → x ≡ [] → IsWorked (IsScriptDue s text) a x
@@ -257,3 +266,13 @@ no_script_worked s text result script.NoMemory a x is bad e none = worked_bare_a
 pub script_worked : (s : Edits) (text : List ℕ) (ls lines : List Line) (a : Status) (x : List ℕ) → IsScript text (map plain_line ls) → lines ≡ ls → IsWorked (AreEditsDue s 1 lines) a x → IsWorked (IsScriptDue s text) a x
 script_worked s text ls lines a x is same w =
     worked_as (AreEditsDue s 1 lines) (IsScriptDue s text) (λ b y d. applied ls is b y (subst (λ z. AreEditsDue s 1 z b y) same d)) a x w
+
+-- ---- options by their values
+
+pub same_weights : (w : PlainWeights) (stitch conflict corner : ℕ) → stitch ≡ w.stitch → conflict ≡ w.conflict → corner ≡ w.corner
+    → ◌≡◌ {A = PlainWeights} (record { stitch = stitch; conflict = conflict; corner = corner }) w
+same_weights w stitch conflict corner a b c = rw (a, b, c) refl
+
+pub same_plain : (o : PlainOptions) (layer : List ℕ) (space overlap : ℕ) (weights : PlainWeights) (keep : Option (List ℕ)) → layer ≡ o.layer → space ≡ o.space → overlap ≡ o.overlap → weights ≡ o.weights → keep ≡ o.keep
+    → ◌≡◌ {A = PlainOptions} (record { layer = layer; space = space; overlap = overlap; weights = weights; keep = keep }) o
+same_plain o layer space overlap weights keep a b c d e = rw (a, b, c, d, e) refl

@@ -1,14 +1,14 @@
 -- A text is a script of one list of lines, which is no longer than the text, and two drawings of one text are the same.
-use Rattle.std.proofs.Common.{arith, ◌≡◌, ◌∙◌, ◌+◌, ◌≤◌, ◌<◌, ◌^◌, ℕ, suc, zero, Bool, true, false, List, [], ◌∷◌, length, map, Option, Some, refl, sym, ap}
+use Rattle.std.proofs.Common.{arith, ◌≡◌, ◌∙◌, ◌+◌, ◌≤◌, ◌<◌, ◌^◌, ℕ, suc, zero, Bool, true, false, List, [], ◌∷◌, length, map, refl, sym, ap}
 use Rattle.std.specs.Prelude.{codes, All, if◌then◌else◌, ◌==◌}
-use Rattle.dpl_form.specs.Lines.{lines_in, to_first, with_byte}
+use Rattle.dpl_form.specs.Lines.{lines_in, to_first}
 use Rattle.dpl_cell.specs.declared.point.Point.{Point}
 use Rattle.dpl_cell.specs.declared.rect.Rect.{Rect}
 use Rattle.dpl_cell.specs.declared.layout.Primitive.{Primitive}
 use Rattle.dpl_cell.specs.declared.layout.Primitive.TheVariants.{Box, Poly}
-use Rattle.dpl_cell.specs.Places.{Corners, corners_of, place_of}
-use Rattle.dpl_cell.specs.Outlines.{Outline, outline_of}
-use Rattle.dpl_cell.specs.Outlines.Outline as outline
+use Rattle.dpl_cell.specs.Places.{corners_of, place_of}
+use Rattle.dpl_cell.specs.Outlines.{outline_of}
+use Rattle.dpl_cell.specs.Outlines.Outline.{Box as BoxOutline, Polygon}
 use Rattle.dpl_cell.proofs.Same.{same_corners, same_point}
 use Rattle.dpl_words.specs.declared.edits.Line.{Line}
 use Rattle.dpl_words.specs.declared.edits.Line.TheVariants.{Add, Remove}
@@ -111,10 +111,10 @@ places_same (p ∷ ps) (q ∷ qs) e =
     let b : ps ≡ qs = places_same ps qs (tail_same _ _ _ _ e) in
     rw (a, b) refl
 
-outline_box : (r q : Rect) → outline.Box (corners_of r) ≡ outline.Box (corners_of q) → corners_of r ≡ corners_of q
+outline_box : (r q : Rect) → BoxOutline (corners_of r) ≡ BoxOutline (corners_of q) → corners_of r ≡ corners_of q
 outline_box r q e = cc
 
-outline_poly : (ps qs : List Point) → outline.Polygon (map place_of ps) ≡ outline.Polygon (map place_of qs) → map place_of ps ≡ map place_of qs
+outline_poly : (ps qs : List Point) → Polygon (map place_of ps) ≡ Polygon (map place_of qs) → map place_of ps ≡ map place_of qs
 outline_poly ps qs e = cc
 
 prim_same : (x y : Primitive) → outline_of x ≡ outline_of y → x ≡ y

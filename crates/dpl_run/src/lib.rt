@@ -24,4 +24,6 @@ pub use running::run;
 pub use status::Status;
 
 #[cfg(test)]
+mod edit_tests;
+#[cfg(test)]
 mod tests;

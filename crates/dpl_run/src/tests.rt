@@ -5,16 +5,16 @@ use std::alloc::Global;
 use std::test::Fail;
 
 #[derive(Drop)]
-struct Ended {
-    status: Status,
-    out: MemSink,
-    err: MemSink,
+pub struct Ended {
+    pub status: Status,
+    pub out: MemSink,
+    pub err: MemSink,
 }
 
 /// Devices in memory: the layout, the report or the script under the name `r`, the numbers of the calls that fail, and how many
 /// bytes the output takes at once.
 #[derive(Drop)]
-struct World {
+pub struct World {
     layout: Vec<u8>,
     report: Vec<u8>,
     reads: Vec<u64>,
@@ -24,7 +24,7 @@ struct World {
     piece: usize,
 }
 
-fn devices(alloc: Global, layout: &[u8], report: &[u8]) -> Result<World, Fail> {
+pub fn devices(alloc: Global, layout: &[u8], report: &[u8]) -> Result<World, Fail> {
     Ok(World {
         layout: Vec::from_slice(alloc, layout)?,
         report: Vec::from_slice(alloc, report)?,
@@ -37,7 +37,7 @@ fn devices(alloc: Global, layout: &[u8], report: &[u8]) -> Result<World, Fail> {
 }
 
 /// Runs a command line over devices in memory.
-fn run_over(alloc: Global, line: &str, world: World) -> Result<Ended, Fail> {
+pub fn run_over(alloc: Global, line: &str, world: World) -> Result<Ended, Fail> {
     let mut words = Vec::new(alloc);
     for word in line.split_whitespace() {
         words.push(String::from_str(alloc, word)?)?;
@@ -46,7 +46,7 @@ fn run_over(alloc: Global, line: &str, world: World) -> Result<Ended, Fail> {
     files.push((String::from_str(alloc, "r")?, world.report))?;
     let mut layout = MemSource::new(world.layout, 10, world.reads);
     let mut second = MemShelf::new(alloc, files, 1000, world.opens);
-    let mut out = MemSink::new(alloc, 10_000, world.piece.max(1), world.writes)?;
+    let mut out = MemSink::new(alloc, 100_000, world.piece.max(1), world.writes)?;
     let mut err = MemSink::new(alloc, 1000, 40, world.lines)?;
     let status = run(
         alloc,
@@ -61,17 +61,15 @@ fn run_over(alloc: Global, line: &str, world: World) -> Result<Ended, Fail> {
 
 const SPLIT: &str = "split --layer M --space 100 --overlap 20";
 
-const CHECK: &str = "check --layer M --space 100 --overlap 20 --report r";
+pub const CHECK: &str = "check --layer M --space 100 --overlap 20 --report r";
 
 const CROSS: &str = "cross --layer M --space 100 --overlap 20";
 
 const BALANCE: &str = "balance --layer M --space 100 --overlap 20";
 
-const EDIT: &str = "edit --layer M --space 100 --overlap 20 --script r";
+pub const TWO: &[u8] = b"L M; B 100 100 50 50; B 100 100 200 50; E";
 
-const TWO: &[u8] = b"L M; B 100 100 50 50; B 100 100 200 50; E";
-
-const TRIANGLE: &[u8] = b"L M; B 100 100 50 50; B 100 100 200 50; B 100 100 125 200; E";
+pub const TRIANGLE: &[u8] = b"L M; B 100 100 50 50; B 100 100 200 50; B 100 100 125 200; E";
 
 /// Four boxes in a square, each two a clash: the links over the corners cross.
 const SQUARE: &[u8] =
@@ -184,78 +182,6 @@ fn masks_of_the_same_area(rt: HostRuntime) -> Result<(), Fail> {
         )?;
         assert_eq!(rt; read.out.bytes(), b"yes cost 0 bound 0\n".as_slice());
     }
-    Ok(())
-}
-
-/// A third box makes an odd triangle of two, and without it nothing is broken.
-#[test]
-fn a_box_is_added_and_removed(rt: HostRuntime) -> Result<(), Fail> {
-    let both = b"add 150 300 350 500\nremove 0\n".as_slice();
-    for (script, drawn, told) in [
-        (&both[..20], TRIANGLE, "yes cost 10 bound 20\n"),
-        (both, TWO, "yes cost 0 bound 0\n"),
-        (b"".as_slice(), TWO, "yes cost 0 bound 0\n"),
-    ] {
-        let made = run_over(rt.alloc(), EDIT, devices(rt.alloc(), TWO, script)?)?;
-        assert_eq!(rt; made.status, Status::Done);
-        let read = run_over(
-            rt.alloc(),
-            CHECK,
-            devices(rt.alloc(), drawn, made.out.bytes())?,
-        )?;
-        assert_eq!(rt; read.out.bytes(), told.as_bytes());
-    }
-    Ok(())
-}
-
-/// The first line that stops is told, and nothing is written.
-#[test]
-fn scripts_that_stop(rt: HostRuntime) -> Result<(), Fail> {
-    let missing = b"add 150 300 350 500\nremove 0\nremove 0\n".as_slice();
-    for (script, line, kind, told) in [
-        (missing, 3u64, 2u8, "dpl: script 2 at line 3\n"),
-        (
-            b"add 0 0 0 5\n".as_slice(),
-            1,
-            1,
-            "dpl: script 1 at line 1\n",
-        ),
-        (
-            b"remove 7\nadd 0 0 5 5".as_slice(),
-            2,
-            1,
-            "dpl: script 1 at line 2\n",
-        ),
-    ] {
-        let ended = run_over(rt.alloc(), EDIT, devices(rt.alloc(), TWO, script)?)?;
-        assert_eq!(rt; ended.status, Status::Script { line, kind });
-        assert_eq!(rt; ended.status.code(), 8u8);
-        assert_eq!(rt; ended.err.bytes(), told.as_bytes());
-        assert_eq!(rt; ended.out.bytes().len(), 0);
-    }
-    Ok(())
-}
-
-/// One byte more than a script may have.
-#[test]
-fn a_long_script(rt: HostRuntime) -> Result<(), Fail> {
-    let mut script = Vec::new(rt.alloc());
-    for _byte in 0..65_537u32 {
-        script.push(b'1')?;
-    }
-    let ended = run_over(
-        rt.alloc(),
-        EDIT,
-        devices(rt.alloc(), TWO, script.as_slice())?,
-    )?;
-    assert_eq!(rt;
-        ended.status,
-        Status::Limit {
-            kind: 10,
-            count: 65_537,
-        }
-    );
-    assert_eq!(rt; ended.out.bytes().len(), 0);
     Ok(())
 }
 

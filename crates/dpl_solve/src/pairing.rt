@@ -15,6 +15,7 @@ ghost use Rattle.dpl_solve.specs.Matches.{AreJoinedBy};
 ghost use Rattle.dpl_solve.specs.Metrics.{IsLengthLimit, AreNearer, full_limit};
 
 use crate::joins::{join_pairs, mate_of};
+use crate::limits::{FULL_LIMIT, first_limit, next_limit};
 use crate::metrics::all_rows;
 use dpl_dual::Dual;
 use dpl_laminar::{Family, Steps};
@@ -23,9 +24,6 @@ use dpl_match::{Matched, Metric};
 use dpl_sign::Signed;
 use std::alloc::{AllocError, Global};
 use std::sync::ledger::Ledger;
-
-/// No distance between two faces of a part comes near this limit.
-const FULL_LIMIT: u64 = 1125899906842624;
 
 /// The distances of the odd faces of a part, up to a limit.
 fn metric_of(
@@ -53,32 +51,6 @@ fn metric_of(
     let _graph = graph;
     let rows = all_rows(alloc, dual, terminals, limit)?;
     Ok(Metric::new(terminals.len() as u32, rows))
-}
-
-/// Whether a member has no other one so near.
-fn is_alone(metric: &Metric, s: u32, near: u64) -> bool
-    requires { s < metric.now.size }
-{
-    let n = metric.size() as u32;
-    for t in 0..n {
-        if t != s {
-            if metric.dist(s, t) < near {
-                return false;
-            }
-        }
-    }
-    true
-}
-
-/// Whether some member has no other one so near. Pairs are then sought farther away.
-fn is_sparse(metric: &Metric, near: u64) -> bool {
-    let n = metric.size() as u32;
-    for s in 0..n {
-        if is_alone(metric, s, near) {
-            return true;
-        }
-    }
-    false
 }
 
 /// Whether each member is nearer to its mate than the limit.
@@ -119,11 +91,6 @@ fn join_within<L: Ledger>(
         (λ f. AreJoinedBy dual.now terminals.now (sets_of f) joined.old joined.new)) }
 {
     let metric = metric_of(alloc, map, graph, dual, terminals, limit)?;
-    if limit < FULL_LIMIT {
-        if is_sparse(&metric, limit / 2) {
-            return Ok(None);
-        }
-    }
     let Matched { mate, family } = match dpl_match::solve(alloc, &metric, steps) {
         Ok(matched) => matched,
         Err(no_memory) => return Err(no_memory),
@@ -133,25 +100,6 @@ fn join_within<L: Ledger>(
     }
     join_pairs(alloc, dual, terminals, &metric, &mate, joined)?;
     Ok(Some(family))
-}
-
-/// The limit that is tried first: a few of the longest ways.
-fn first_limit(dual: &Dual) -> u64
-    ensures { IsLengthLimit result }
-{
-    let mut most: u64 = 1;
-    for way in dual.crosses.as_slice() {
-        most = most.max(way.length);
-    }
-    4 * most.min(1099511627776)
-}
-
-/// The limit that is tried after another.
-fn next_limit(limit: u64) -> u64
-    requires { IsLengthLimit limit }
-    ensures { IsLengthLimit result }
-{
-    (2 * limit).min(FULL_LIMIT)
 }
 
 /// Joins the odd faces of a part in pairs, along chains that are as long as a family weighs.
@@ -177,7 +125,7 @@ pub fn join_all<L: Ledger>(
         AreJoinedBy dual.now terminals.now (sets_of f) joined.old joined.new) }
 {
     let tries: usize = 50;
-    let mut limit = first_limit(dual);
+    let mut limit = first_limit(alloc, dual, terminals)?;
     for _try in 0..tries {
         match join_within(alloc, map, graph, dual, terminals, limit, joined, steps)? {
             Some(family) => return Ok(family),

@@ -1,5 +1,5 @@
 -- One cluster of corners: what it changes lies between the column that was passed before and the next one.
-use Rattle.std.proofs.Common.{arith, ◌≡◌, ◌⊎◌, ◌∙◌, ℕ, ◌<◌, ◌≤◌, ℤ, pos, ◌-ℤ◌, ◌<ℤ◌, ◌≤ℤ◌, List, length, get_or, reverse, All, Any, AllPairs, refl, sym, ap, inl, inr, [], ◌∷◌, ◌++◌, append_assoc, subst, Bool, true, false, IsTrue, map}
+use Rattle.std.proofs.Common.{arith, ◌≡◌, ◌⊎◌, ◌∙◌, ℕ, ◌<◌, ◌≤◌, ℤ, pos, ◌-ℤ◌, ◌<ℤ◌, ◌≤ℤ◌, List, length, get_or, reverse, All, Any, AllPairs, refl, sym, ap, inl, inr, [], ◌∷◌, ◌++◌, append_assoc, subst, Bool, true, false, IsTrue, Option, Some, None, IfSome, map}
 use Rattle.std.specs.List.{AllZip}
 use Rattle.std.proofs.lemmas.Bool.{cases_lt}
 use Rattle.std.proofs.lemmas.Int.{by_lt_z}
@@ -8,6 +8,7 @@ use Rattle.std.proofs.lemmas.List.Elements.{All-append, All-cons, All-weaker}
 use Rattle.dpl_cell.specs.declared.rect.Rect.{Rect}
 use Rattle.dpl_cell.specs.declared.layout.Primitive.{Primitive}
 use Rattle.dpl_cell.specs.Cells.{IsWithin}
+use Rattle.dpl_cell.specs.declared.stretch.Stretch.{Stretch}
 use Rattle.dpl_cell.specs.Outlines.{outline_of}
 use Rattle.dpl_cell.specs.Layers.{is_cell}
 use Rattle.dpl_cell.specs.Tiles.{IsRun}
@@ -15,10 +16,11 @@ use Rattle.dpl_tiles.specs.declared.corners.Corner.{Corner}
 use Rattle.dpl_tiles.specs.Bands.{HasColumns, IsLeftOf}
 use Rattle.dpl_tiles.specs.Stacks.{ending}
 use Rattle.dpl_tiles.specs.Sweeps.{IsSameStack, IsStep}
-use Rattle.dpl_tiles.specs.Windows.{IsChange, IsFar, IsParted, AreNearRuns, IsContinued, IsClosed, AddsClosed}
+use Rattle.dpl_tiles.specs.Windows.{IsOutside, IsChange, IsFar, IsParted, AreNearRuns, IsContinued, IsClosed, AddsClosed, IsStill}
 use Rattle.dpl_tiles.specs.Stretches.{IsFramed}
 use Rattle.dpl_tiles.specs.Clusters.{passed, AreChanges, IsCluster, IsPassed}
 use Rattle.dpl_list.proofs.Lists.{any_head, any_tail, some_of}
+use Rattle.dpl_cell.proofs.BoxLemmas.{true_is}
 use Rattle.dpl_list.proofs.Integers.{signed}
 use Rattle.dpl_tiles.proofs.BoundLemmas.{IsBounded, bounded}
 use Rattle.dpl_tiles.proofs.UnionLemmas.{run_around}
@@ -317,6 +319,23 @@ module _ (cells : ℤ → ℤ → Bool) (z : ℤ) (row : List Corner) (at to : �
 
       is_end : w ≡ b
       is_end = let f = end_within near d2 w b e g (λ k d l. (inside k d l).1) in let i = from in omega signed
+
+  -- what a stack near it has outside the columns of the cluster are cells of the row
+  pub stays : (a b : ℤ) (s : Option Stretch) → IfSome s (λ s. (s.from ≤ℤ a) × (b ≤ℤ s.to) × Any (HasColumns s.from s.to) near) → IfSome s (IsStill cells z d1 d2 a b)
+  stays a b None h = h
+  stays a b (Some s) (f, g, (k, r, l, e, columns)) = record { left = f; right = g; same = λ x i out. on (end_of near d2) x i out } where
+    run : IsRun (passed cells m.before.column) r.x1 r.x2 z
+    run = rw e at (near_all now d1 d2 left near right m.parted (λ r. IsRun (passed cells m.before.column) r.x1 r.x2 z) (λ k d l. (m.before.step.step.each k d l).0) k r l)
+
+    on : (w : ℤ) × IsEnd near d2 w → (x : ℤ) → IsWithin s.from s.to x → IsOutside d1 d2 x → cells x z ≡ true
+    on (w, is_end) x i out =
+        let held : r.x2 ≤ℤ w = rw e at (is_end.holds k r l) in
+        let low = i.from in let high = i.to in let p = columns.left in let q = columns.right in
+        let t : passed cells m.before.column x z ≡ true = true_is _ (run.full x (record { from = omega signed; to = omega signed })) in
+        elim out [
+          | inl h ↦ sym (passed_before cells z row at to d1 d2 ended now left near right m w is_end x h) ∙ t
+          | inr h ↦ sym (passed_behind cells z row at to d1 d2 ended now left near right m w is_end x h ∙ same_right cells z row at to d1 d2 ended now left near right m w is_end x h (omega signed)) ∙ t
+        ]
 
   -- the stacks near it begin below row z
   pub near_below : All (λ r. r.y1 <ℤ z) near

@@ -9,4 +9,5 @@ pub mod Stacks
 pub mod Windows
 pub mod Sweeps
 pub mod Corners
+pub mod Covers
 pub mod Clusters

@@ -1,7 +1,8 @@
 -- A row that differs from the row below it in some columns alone.
-use Rattle.std.specs.Prelude.{◌≡◌, ◌⊎◌, ℤ, ◌<ℤ◌, ◌≤ℤ◌, ◌&&◌, ◌++◌, List, Bool, All, Any, AllPairs, int_le, reverse}
+use Rattle.std.specs.Prelude.{◌≡◌, ◌⊎◌, ℤ, ◌<ℤ◌, ◌≤ℤ◌, ◌&&◌, ◌++◌, List, Bool, true, All, Any, AllPairs, int_le, reverse}
 use Rattle.std.specs.List.{AllZip}
 use Rattle.dpl_cell.specs.declared.rect.Rect.{Rect}
+use Rattle.dpl_cell.specs.Cells.{IsWithin}
 use Rattle.dpl_cell.specs.Tiles.{IsRun}
 use Rattle.dpl_cell.specs.declared.stretch.Stretch.{Stretch}
 use Rattle.dpl_tiles.specs.Bands.{HasColumns, IsLeftOf}
@@ -54,3 +55,9 @@ pub record AddsClosed (z : ℤ) (ending old new : List Rect) : Type 0 where
 -- the stretch is not far from the columns from d1 to d2
 abbrev pub is_near : ℤ → ℤ → Stretch → Bool
 is_near d1 d2 s = int_le d1 s.to && int_le s.from d2
+
+-- the stretch holds the columns from a to b, and outside those from d1 to d2 its columns are cells of row z
+pub record IsStill (cells : ℤ → ℤ → Bool) (z d1 d2 a b : ℤ) (s : Stretch) : Type 0 where
+  pub left : s.from ≤ℤ a
+  pub right : b ≤ℤ s.to
+  pub same : (x : ℤ) → IsWithin s.from s.to x → IsOutside d1 d2 x → cells x z ≡ true

@@ -8,6 +8,7 @@
 mod bounds;
 mod columns;
 mod corners;
+mod covering;
 mod crossing;
 mod error;
 mod finder;
@@ -24,6 +25,3 @@ mod tiling;
 pub use error::TileError;
 pub use laws::tiles_share_out;
 pub use tiling::tiles;
-
-#[cfg(test)]
-mod tests;

@@ -1,5 +1,5 @@
 // A sweep that touches only the stacks near the columns that change.
-ghost use Rattle.std.specs.Prelude.{◌≡◌, ◌⊎◌, true, ℕ, ℤ, ◌-ℤ◌, ◌<ℤ◌, ◌≤ℤ◌, ◌<◌, ◌≤◌, ◌++◌, neg_ℤ, pos, length, slice_index_or, All, AllPairs, Any, Contains, IfOk, OnOk, IsTrue, map, filter, take, drop, reverse, []};
+ghost use Rattle.std.specs.Prelude.{◌≡◌, ◌⊎◌, true, ℕ, ℤ, ◌-ℤ◌, ◌<ℤ◌, ◌≤ℤ◌, ◌<◌, ◌≤◌, ◌++◌, neg_ℤ, pos, length, slice_index_or, All, AllPairs, Any, Contains, IfOk, IfSome, OnOk, IsTrue, map, filter, take, drop, reverse, [], ◌∷◌};
 ghost use Rattle.std.specs.List.{AllZip};
 ghost use Rattle.dpl_limits.specs.Limits.{most_coordinate};
 ghost use Rattle.dpl_cell.specs.declared.layout.Primitive.{Primitive};
@@ -17,10 +17,11 @@ ghost use Rattle.dpl_tiles.specs.Stacks.{ending};
 ghost use Rattle.dpl_cell.specs.Stretches.{AreSeparate, is_in_stretches};
 ghost use Rattle.dpl_tiles.specs.Sweeps.{AreSwept};
 ghost use Rattle.dpl_tiles.specs.Clusters.{AreChanges, IsPassed};
-ghost use Rattle.dpl_tiles.specs.Windows.{AddsClosed, AreNearRuns, IsClosed, IsContinued, IsFar, IsParted, is_near};
+ghost use Rattle.dpl_tiles.specs.Windows.{AddsClosed, AreNearRuns, IsClosed, IsContinued, IsFar, IsParted, IsStill, is_near};
 
 use crate::columns::{Columns, greater, lesser, row_within};
 use crate::corners::{Corner, corners_at};
+use crate::covering::{are_covered, stack_across};
 use crate::finder::Finder;
 use crate::gathering::gather;
 use crate::rows::{merged, push_prim, sort};
@@ -90,7 +91,17 @@ fn pass(
     let cluster = gather(alloc, left, right, row, at)?;
     let near = cluster.near.as_slice();
     let window = window_of(near, &cluster.change);
-    let runs = near_runs(alloc, prims, finder, &cluster.change, &window, low, high)?;
+    let still = stack_across(near, &window);
+    let runs = near_runs(
+        alloc,
+        prims,
+        finder,
+        &cluster.change,
+        &window,
+        still,
+        low,
+        high,
+    )?;
     push_closed(ended, near, runs.as_slice(), low)?;
     let stacks = all_continued(alloc, near, runs.as_slice())?;
     left.extend_from_slice(stacks.as_slice())?;
@@ -217,13 +228,15 @@ fn with_stack(columns: &Columns, r: &Rect) -> Columns
     Columns { left, right }
 }
 
-/// The runs of row `low` that are not far from the columns that change, each in all rows up to `high`.
+/// The runs of row `low` that are not far from the columns that change, each in all rows up to `high`. The window may lie
+/// in a stretch that does not change elsewhere.
 fn near_runs(
     alloc: Global,
     prims: &[Prim],
     finder: &Finder,
     change: &Columns,
     window: &Columns,
+    still: Option<Stretch>,
     low: i64,
     high: i64,
 ) -> Result<Vec<Rect>, AllocError>
@@ -236,12 +249,14 @@ fn near_runs(
         (window.now.left ≤ℤ x1) × (x2 ≤ℤ window.now.right) }
     requires framed { IsFramed (is_cell (map outline_of prims.now)) low window.now.left
         window.now.right }
+    requires still { IfSome still (IsStill (is_cell (map outline_of prims.now)) low change.now.left
+        change.now.right window.now.left window.now.right) }
     ensures runs { IfOk result (λ v.
         AreNearRuns (is_cell (map outline_of prims.now)) low change.now.left change.now.right
         v.items) }
     ensures bottom { IfOk result (λ v. All (λ r. r.y1 ≡ low) v.items) }
 {
-    let mut parts = parts_within(alloc, prims, finder, window, low)?;
+    let mut parts = parts_near(alloc, prims, finder, change, window, still, low)?;
     sort(&mut parts);
     let stretches = merged(alloc, parts.as_slice())?;
     let runs = raised_near(alloc, stretches.as_slice(), change, low, high)?;
@@ -292,6 +307,48 @@ fn is_near_to(s: &Stretch, change: &Columns) -> bool
     ensures { result ≡ is_near change.now.left change.now.right s.now }
 {
     change.left <= s.to && s.from <= change.right
+}
+
+/// Cells of one row in parts: all of those in the window and right beside it, and perhaps others. They are not asked for
+/// where the window lies in a stretch that does not change elsewhere, and a box covers the change.
+fn parts_near(
+    alloc: Global,
+    prims: &[Prim],
+    finder: &Finder,
+    change: &Columns,
+    window: &Columns,
+    still: Option<Stretch>,
+    y: i64,
+) -> Result<Vec<Stretch>, AllocError>
+    requires finder { IsFinderOf prims.now finder.now }
+    requires framed { IsFramed (is_cell (map outline_of prims.now)) y window.now.left
+        window.now.right }
+    requires still { IfSome still (IsStill (is_cell (map outline_of prims.now)) y change.now.left
+        change.now.right window.now.left window.now.right) }
+    ensures sound { IfOk result (λ v. (x : ℤ) → is_in_stretches v.items x ≡ true →
+        is_cell (map outline_of prims.now) x y ≡ true) }
+    ensures full { IfOk result (λ v. (x : ℤ) → (window.now.left -ℤ pos 1) ≤ℤ x →
+        x ≤ℤ window.now.right → is_cell (map outline_of prims.now) x y ≡ true →
+        is_in_stretches v.items x ≡ true) }
+{
+    match still {
+        None => parts_within(alloc, prims, finder, window, y),
+        Some(stretch) => {
+            if are_covered(prims, finder, change, y) {
+                alone(alloc, stretch)
+            } else {
+                parts_within(alloc, prims, finder, window, y)
+            }
+        }
+    }
+}
+
+fn alone(alloc: Global, stretch: Stretch) -> Result<Vec<Stretch>, AllocError>
+    ensures { IfOk result (λ v. v.items ≡ stretch ∷ []) }
+{
+    let mut parts = Vec::new(alloc);
+    parts.push(stretch)?;
+    Ok(parts)
 }
 
 /// Cells of one row in parts: all of those in the window and right beside it, and perhaps others.

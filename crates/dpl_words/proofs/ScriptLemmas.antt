@@ -1,7 +1,6 @@
 -- A line of a script is read as what it says.
-use Rattle.std.proofs.Common.{arith, rules, ◌≡◌, ℕ, ◌≤◌, ◌^◌, List, [], ◌∷◌, ◌++◌, refl, sym, ap, ◌∙◌, append_assoc, append-nil, Option, map, length, zero, suc, ◌+◌, ◌<◌, Some, None}
+use Rattle.std.proofs.Common.{arith, ◌≡◌, ℕ, ◌≤◌, ◌^◌, List, [], ◌∷◌, ◌++◌, refl, sym, ap, ◌∙◌, append_assoc, append-nil, Option, map, length, zero, suc, ◌+◌, Some}
 use Rattle.std.specs.Prelude.{ℤ, pos, unsigned_abs, true, codes, All}
-use Rattle.std.specs.Fmt.{signed_decimal}
 use Rattle.std.specs.Str.{bytes_eq}
 use Rattle.std.proofs.lemmas.Int.{ints}
 use Rattle.std.proofs.lemmas.Slice.Eq.{bytes_eq-Decides}
@@ -10,14 +9,14 @@ use Rattle.dpl_cell.specs.Ranges.{IsStretch, IsRectangle}
 use Rattle.dpl_lex.specs.Number.{greatest, signed_at}
 use Rattle.dpl_lex.specs.declared.number.Num.{Num}
 use Rattle.dpl_lex.specs.declared.number.Num.TheVariants.{Value, Big, Nothing}
-use Rattle.dpl_rules.specs.Readers.{signed_of, number_of, beyond}
+use Rattle.dpl_rules.specs.Readers.{number_of, beyond}
 use Rattle.dpl_boxes.specs.Masks.{spaced}
 use Rattle.dpl_boxes.proofs.NumberLemmas.{signed_of-signed_decimal, has_no_digit}
 use Rattle.dpl_words.specs.Scripts.{PlainLine, plain_line, line_text, Fits, IsNoLine, IsScript, IsFirstBad}
 use Rattle.dpl_words.specs.declared.edits.Line.{Line}
 use Rattle.dpl_form.specs.Lines.{lines_in}
 use Rattle.dpl_words.specs.Scripts.PlainLine.{add, remove}
-use Rattle.dpl_words.specs.ScriptReading.{value_of, next_value, corners_read, number_read, behind, added, removed}
+use Rattle.dpl_words.specs.ScriptReading.{value_of, next_value, corners_read, number_read, behind}
 
 -- a number within the greatest magnitude is a value
 value_from : (p : Num × List ℕ) (z : ℤ) (rest : List ℕ) → unsigned_abs z ≤ greatest → number_of p.0 p.1 ≡ Some (z, rest) → value_of p ≡ Some (z, rest)

@@ -1,13 +1,11 @@
 -- What is read of a line of a script. It counts only where it is written so again.
-use Rattle.std.specs.Prelude.{ℕ, ℤ, pos, negsuc, List, length, take, drop, codes, Option, None, Some, option_map, option_and_then, if◌then◌else◌}
+use Rattle.std.specs.Prelude.{ℕ, ℤ, List, length, take, drop, codes, Option, None, Some, option_and_then, if◌then◌else◌}
 use Rattle.std.specs.Str.{bytes_eq}
 use Rattle.dpl_cell.specs.Places.{Corners}
 use Rattle.dpl_lex.specs.Number.{signed_at}
 use Rattle.dpl_lex.specs.declared.number.Num.{Num}
 use Rattle.dpl_lex.specs.declared.number.Num.TheVariants.{Value, Big, Nothing}
 use Rattle.dpl_words.specs.Commands.{◌>>=◌}
-use Rattle.dpl_words.specs.Scripts.{PlainLine}
-use Rattle.dpl_words.specs.Scripts.PlainLine.{add, remove}
 
 abbrev pub value_of : Num × List ℕ → Option (ℤ × List ℕ)
 value_of (Value z, rest) = Some (z, rest)

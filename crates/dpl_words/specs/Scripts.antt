@@ -1,5 +1,5 @@
 -- A script of edits: a line for each box that is added and for each that is removed. The form is this project's own.
-use Rattle.std.specs.Prelude.{◌≡◌, ℕ, ℤ, pos, ◌+◌, ◌≤◌, ◌^◌, List, ◌∷◌, ◌++◌, length, map, codes, All}
+use Rattle.std.specs.Prelude.{◌≡◌, ℕ, pos, ◌+◌, ◌≤◌, ◌^◌, List, ◌∷◌, ◌++◌, length, map, codes, All}
 use Rattle.dpl_cell.specs.Places.{Corners, corners_of}
 use Rattle.dpl_cell.specs.Ranges.{IsRectangle}
 use Rattle.dpl_boxes.specs.Masks.{spaced}

@@ -52,15 +52,15 @@ edits_of s = record {
 }
 
 -- after a line: one box more, whose number is the count of those before, or all but the one with the number
-abbrev pub after : Line → Edits → Edits
-after (Add rect) s = record {
+abbrev pub edited : Line → Edits → Edits
+edited (Add rect) s = record {
   options = s.options;
   begun = s.begun;
   keep = s.keep;
   boxes = s.boxes ++ record { number = s.count; rect = rect } ∷ [];
   count = s.count + 1;
 }
-after (Remove number) s = record {
+edited (Remove number) s = record {
   options = s.options;
   begun = s.begun;
   keep = s.keep;
@@ -78,8 +78,8 @@ abbrev pub IsOver : Edits → ℕ → ℕ → Type 0
 IsOver s kind count = PassesLimit s.options (content s.begun s.boxes) s.keep kind count
 
 -- the content passes no limit
-abbrev pub IsWithin : Edits → Type 0
-IsWithin s = (kind count : ℕ) → ¬ IsOver s kind count
+abbrev pub PassesNone : Edits → Type 0
+PassesNone s = (kind count : ℕ) → ¬ IsOver s kind count
 
 -- the output is the text of a report of the content
 pub record Reports (s : Edits) (output : List ℕ) : Type 0 where
@@ -92,20 +92,20 @@ pub record Reports (s : Edits) (output : List ℕ) : Type 0 where
 -- the line with this number names a box that is not there, or the content after it passes a limit
 pub data StopsAt (s : Edits) (number : ℕ) (line : Line) : Status → List ℕ → Type 0 where
   missing : IsMissing line s → StopsAt s number line (Script number 2) []
-  over : (kind count : ℕ) → ¬ IsMissing line s → IsOver (after line s) kind count →
+  over : (kind count : ℕ) → ¬ IsMissing line s → IsOver (edited line s) kind count →
       StopsAt s number line (Limit kind count) []
 
--- neither
-pub record GoesOn (s : Edits) (line : Line) : Type 0 where
+-- the line names no box that is not there, and the content after it passes no limit
+pub record IsTaken (s : Edits) (line : Line) : Type 0 where
   pub there : ¬ IsMissing line s
-  pub within : IsWithin (after line s)
+  pub within : PassesNone (edited line s)
 
 -- the first line that stops is answered, and where none does a report of the last content is written; the first of these
 -- lines has this number
 abbrev pub AreEditsDue : Edits → ℕ → List Line → Status → List ℕ → Type 0
 AreEditsDue s number [] status output = (status ≡ Done) × Reports s output
 AreEditsDue s number (line ∷ lines) status output = StopsAt s number line status output
-    ⊎ (GoesOn s line × AreEditsDue (after line s) (number + 1) lines status output)
+    ⊎ (IsTaken s line × AreEditsDue (edited line s) (number + 1) lines status output)
 
 -- ---- the command
 
@@ -121,6 +121,6 @@ pub data IsEditDue (o : PlainOptions) (text script : List ℕ) : Status → List
   unread : (e : LayerError) → RefusesDrawing o text e → IsEditDue o text script (status_of e) []
   too_much : (d : Drawing) → IsDrawingOf o text d → (kind count : ℕ) →
       IsOver (begun_with o d) kind count → IsEditDue o text script (Limit kind count) []
-  begun : (d : Drawing) → IsDrawingOf o text d → IsWithin (begun_with o d) →
+  begun : (d : Drawing) → IsDrawingOf o text d → PassesNone (begun_with o d) →
       (status : Status) (output : List ℕ) → IsScriptDue (begun_with o d) script status output →
       IsEditDue o text script status output

@@ -2,7 +2,7 @@
 ghost use Rattle.std.specs.Prelude.{◌≡◌, ◌⊎◌, ◌+◌, ◌<◌, ◌≤◌, ◌^◌, ℕ, List, [], length, IfErr, IfOk, OnOk};
 ghost use Rattle.dpl_limits.specs.declared.TheConstants.{MOST_LAYOUT_BYTES, MOST_SCRIPT_BYTES};
 ghost use Rattle.dpl_lex.specs.Cutting.{commands_of};
-ghost use Rattle.dpl_run.specs.due.Edit.{AreEditsDue, GoesOn, IsEditDue, IsScriptDue, Reports, StopsAt, after, edits_of};
+ghost use Rattle.dpl_run.specs.due.Edit.{AreEditsDue, IsTaken, IsEditDue, IsScriptDue, Reports, StopsAt, edited, edits_of};
 ghost use Rattle.dpl_run.specs.Errors as errors;
 ghost use Rattle.dpl_run.specs.Telling.{IsWorked};
 
@@ -142,8 +142,8 @@ fn apply_all(alloc: Global, session: &mut Session, lines: &[Line]) -> Result<(),
 /// Applies the line with this number.
 fn apply(alloc: Global, session: &mut Session, line: &Line, number: u64) -> Result<(), Status>
     requires { session.old.count < 2 ^ 32 }
-    ensures goes_on { OnOk result (GoesOn (edits_of session.old) line.now) }
-    ensures after { OnOk result (edits_of session.new ≡ after line.now (edits_of session.old)) }
+    ensures taken { OnOk result (IsTaken (edits_of session.old) line.now) }
+    ensures edits { OnOk result (edits_of session.new ≡ edited line.now (edits_of session.old)) }
     ensures stops { IfErr result (λ status. (status ≡ Status.NoMemory) ⊎
         StopsAt (edits_of session.old) number line.now status []) }
 {
@@ -155,9 +155,9 @@ fn apply(alloc: Global, session: &mut Session, line: &Line, number: u64) -> Resu
 
 fn add(alloc: Global, session: &mut Session, rect: Rect) -> Result<(), Status>
     requires { session.old.count < 2 ^ 32 }
-    ensures goes_on { OnOk result (GoesOn (edits_of session.old) (Line.Add rect)) }
-    ensures after { OnOk result (edits_of session.new
-        ≡ after (Line.Add rect) (edits_of session.old)) }
+    ensures taken { OnOk result (IsTaken (edits_of session.old) (Line.Add rect)) }
+    ensures edits { OnOk result (edits_of session.new
+        ≡ edited (Line.Add rect) (edits_of session.old)) }
     ensures stops { IfErr result (λ status. (number : ℕ) → (status ≡ Status.NoMemory) ⊎
         StopsAt (edits_of session.old) number (Line.Add rect) status []) }
 {
@@ -168,9 +168,9 @@ fn add(alloc: Global, session: &mut Session, rect: Rect) -> Result<(), Status>
 }
 
 fn remove(alloc: Global, session: &mut Session, removed: u64, number: u64) -> Result<(), Status>
-    ensures goes_on { OnOk result (GoesOn (edits_of session.old) (Line.Remove removed)) }
-    ensures after { OnOk result (edits_of session.new
-        ≡ after (Line.Remove removed) (edits_of session.old)) }
+    ensures taken { OnOk result (IsTaken (edits_of session.old) (Line.Remove removed)) }
+    ensures edits { OnOk result (edits_of session.new
+        ≡ edited (Line.Remove removed) (edits_of session.old)) }
     ensures stops { IfErr result (λ status. (status ≡ Status.NoMemory) ⊎
         StopsAt (edits_of session.old) number (Line.Remove removed) status []) }
 {

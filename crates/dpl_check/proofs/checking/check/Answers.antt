@@ -2,6 +2,7 @@ use Rattle.dpl_layer.specs.Refusals.{RefusesLayer}
 use Rattle.dpl_layer.proofs.RefusalLemmas.{error_refuses, one_text_refusal, refusal_comes}
 use Rattle.dpl_check.specs.Checked.{IsVerdictOf}
 use Rattle.dpl_check.proofs.OnceLemmas.{verdict_free, verdict_comes, yes_bounds}
+use Rattle.dpl_check.proofs.GoodMaskLemmas.{yes_masks}
 use Rattle.dpl_check.proofs.checking.check.Goals as goal
 
 pub returns-clause-refused : goal.returns-clause-refused
@@ -18,3 +19,6 @@ returns-clause-once c = verdict_comes c.args.options.now c.args.text.now c.args.
 
 pub returns-clause-bounds : goal.returns-clause-bounds
 returns-clause-bounds c = yes_bounds c.args.options.now c.args.text.now c.args.report.now _ c.check_parts.ensures.verdict
+
+pub returns-clause-masks : goal.returns-clause-masks
+returns-clause-masks c = yes_masks c.args.options.now c.args.text.now c.args.report.now _ c.in_range.ensures c.check_parts.ensures.verdict

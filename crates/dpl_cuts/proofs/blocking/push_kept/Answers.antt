@@ -1,4 +1,4 @@
-use Rattle.std.proofs.Common.{refl, get_or, map}
+use Rattle.std.proofs.Common.{get_or, map}
 use Rattle.std.proofs.lemmas.List.{get_or_default}
 use Rattle.dpl_cell.specs.Places.{corners_of}
 use Rattle.dpl_cuts.proofs.BlockLemmas.{kept_none, kept_more, kept_all, rect_is}

@@ -17,6 +17,7 @@ loop-turn-preserved g c =
     let piece = c.in_ok-read_piece.ensures.ok in
     record {
       turns = omega (arith, length-more _ _ _ _ _ _ piece c.if-branch.false);
+      reads = omega (arith, c.loop-turn.invariant.reads, c.in_ok-read_piece.ensures.reads);
       within = omega (arith, piece.within);
       gave = Gave-more _ _ _ _ _ _ _ c.loop-turn.invariant.gave piece;
       steady = piece.steady ∙ c.loop-turn.invariant.steady;

@@ -1,4 +1,4 @@
-use Rattle.std.proofs.Common.{arith, ◌+◌, ◌∙◌, ap, drop}
+use Rattle.std.proofs.Common.{◌+◌, ◌∙◌, ap, drop}
 use Rattle.std.proofs.lemmas.List.{take_rest, drop-drop}
 use Rattle.dpl_ext.proofs.TakenLemmas.{Appends-take}
 use Rattle.dpl_ext.proofs.writing.write_all.Goals as goal

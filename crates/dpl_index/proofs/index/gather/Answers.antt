@@ -19,4 +19,4 @@ stops-preserved c =
     (not_met _ _ _ c.if-do_meet.false c.do_meet.ensures.1) c.requires c.stops.invariant)
 
 pub returns : goal.returns
-returns c = walk_ends _ _ c.args.stops.now c.stops.at _ c.stops-test.false c.requires c.stops.invariant
+returns c few = walk_ends _ _ c.args.stops.now c.stops.at _ c.stops-test.false c.requires c.stops.invariant

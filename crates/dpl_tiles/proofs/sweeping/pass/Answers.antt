@@ -6,7 +6,7 @@ use Rattle.dpl_cell.specs.Layers.{is_cell}
 use Rattle.dpl_tiles.specs.Stacks.{ending}
 use Rattle.dpl_tiles.specs.Windows.{IsContinued, AddsClosed, AreNearRuns}
 use Rattle.dpl_tiles.proofs.PlaceLemmas.{near_ordered}
-use Rattle.dpl_tiles.proofs.ClusterLemmas.{met, framed, run_inside, near_below, cluster_passed}
+use Rattle.dpl_tiles.proofs.ClusterLemmas.{met, framed, run_inside, stays, near_below, cluster_passed}
 use Rattle.dpl_tiles.proofs.sweeping.pass.Goals as goal
 
 pub near_runs-requires-clause-inside : goal.near_runs-requires-clause-inside
@@ -20,6 +20,12 @@ near_runs-requires-clause-framed c =
     let f : SFits w64 c.args.low = c.ranges.low in
     let m = met c.args.prims.now c.args.low _ _ _ _ _ _ _ _ _ _ c.requires.changes c.requires.passed c.in_ok-cluster.ensures.parted c.in_ok-cluster.ensures.cluster in
     simp to_z-of_z (framed _ c.args.low _ _ _ _ _ _ _ _ _ _ m _ _ c.window_of-window.ensures.left c.window_of-window.ensures.right (rw c.as_slice-near.ensures.value at c.window_of-window.ensures.holds) (rw c.as_slice-near.ensures.value at c.window_of-window.ensures.first) (rw c.as_slice-near.ensures.value at c.window_of-window.ensures.last))
+
+pub near_runs-requires-clause-still : goal.near_runs-requires-clause-still
+near_runs-requires-clause-still c =
+    let f : SFits w64 c.args.low = c.ranges.low in
+    let m = met c.args.prims.now c.args.low _ _ _ _ _ _ _ _ _ _ c.requires.changes c.requires.passed c.in_ok-cluster.ensures.parted c.in_ok-cluster.ensures.cluster in
+    simp to_z-of_z (stays _ c.args.low _ _ _ _ _ _ _ _ _ _ m _ _ _ (rw c.as_slice-near.ensures.value at c.stack_across-still.ensures))
 
 pub push_closed-requires-clause-below : goal.push_closed-requires-clause-below
 push_closed-requires-clause-below c =

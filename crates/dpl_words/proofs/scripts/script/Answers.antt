@@ -1,4 +1,4 @@
-use Rattle.std.proofs.Common.{arith, rules, ◌≡◌, ◌+◌, ◌++◌, ◌∷◌, [], ℕ, inl, inr, length, ap, Err, None, length-append}
+use Rattle.std.proofs.Common.{arith, rules, ◌≡◌, ◌++◌, ◌∷◌, [], ℕ, inl, ap, Err, None, length-append}
 use Rattle.dpl_form.specs.Lines.{lines_in}
 use Rattle.dpl_words.specs.declared.edits.ScriptError.TheVariants.{Bad}
 use Rattle.dpl_words.specs.Scripts.{IsNoLine}

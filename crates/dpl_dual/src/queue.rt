@@ -1,0 +1,193 @@
+//! Labels that wait, each a length and a face. Those that came over ways of one length have a queue of
+//! their own: where they come in the order of their lengths, the nearest of all is the first of a queue.
+
+ghost use Rattle.std.specs.Prelude.{◌≡◌, ℕ, ◌+◌, ◌⊎◌, Some, ◌<◌, ◌++◌, ◌∷◌, [], length, slice_index_or, slice_set, ⊤, IfOk, OnOk, MatchOption};
+ghost use Rattle.std.specs.List.Sorted.{IsPermutation};
+ghost use Rattle.dpl_dual.specs.Queues.{all_of, HasFirst};
+
+use std::alloc::{AllocError, Global};
+use std::collections::VecDeque;
+use std::marker::Model;
+
+/// The labels that came over ways of one length, in their order. Contracts see the list of them.
+#[derive(Drop)]
+struct Lane {
+    way: u64,
+    labels: VecDeque<(u64, u32)>,
+}
+
+impl Model for Lane {
+    ghost use Rattle.std.specs.Prelude.{List, ℕ};
+
+    ghost Value = { List (ℕ × ℕ) };
+
+    ghost view = { λ l. l.labels.items };
+}
+
+impl Lane {
+    fn new(alloc: Global, way: u64) -> Lane
+        ensures { result ≡ [] }
+    {
+        Lane {
+            way,
+            labels: VecDeque::new(alloc),
+        }
+    }
+
+    fn push(&mut self, label: (u64, u32)) -> Result<(), AllocError>
+        ensures { OnOk result (self.new ≡ self.old ++ label ∷ []) }
+    {
+        self.labels.push_back(label)?;
+        Ok(())
+    }
+
+    fn pop(&mut self) -> Option<(u64, u32)>
+        ensures { MatchOption result (self.old ≡ []) (λ label. self.old ≡ label ∷ self.new) }
+    {
+        self.labels.pop_front()
+    }
+
+    /// The length of the first label.
+    fn first(&self) -> Option<u64>
+        ensures { MatchOption result (self.now ≡ []) (λ _. 0 < length self.now) }
+    {
+        match self.labels.front() {
+            Some(label) => Some(label.0),
+            None => None,
+        }
+    }
+}
+
+/// The place of the queue for ways of a length.
+fn place_of(lanes: &[Lane], way: u64) -> Option<usize>
+    ensures { MatchOption result ⊤ (λ k. k < length lanes.now) }
+{
+    for k in 0..lanes.len() {
+        let lane = &lanes[k];
+        if lane.way == way {
+            return Some(k);
+        }
+    }
+    None
+}
+
+/// The place of the queue for ways of a length, which is made where there is none.
+fn place_for(alloc: Global, lanes: &mut Vec<Lane>, way: u64) -> Result<usize, AllocError>
+    ensures place { IfOk result (λ k. k < length lanes.new.items) }
+    ensures same { OnOk result (all_of lanes.new.items ≡ all_of lanes.old.items) }
+{
+    match place_of(lanes, way) {
+        Some(k) => Ok(k),
+        None => {
+            let k = lanes.len();
+            lanes.push(Lane::new(alloc, way))?;
+            Ok(k)
+        }
+    }
+}
+
+/// Puts a label at the end of a queue.
+fn put(lanes: &mut [Lane], place: usize, label: (u64, u32)) -> Result<(), AllocError>
+    requires { place < length lanes.old }
+    ensures { OnOk result (lanes.new ≡
+        slice_set lanes.old place (slice_index_or lanes.old place [] ++ label ∷ [])) }
+{
+    let lane = &mut lanes[place];
+    lane.push(label)
+}
+
+/// Takes the first label of a queue.
+fn take(lanes: &mut [Lane], place: usize) -> Option<(u64, u32)>
+    requires { place < length lanes.old }
+    ensures first { MatchOption result (slice_index_or lanes.old place [] ≡ [])
+        (λ label. slice_index_or lanes.old place [] ≡ label ∷ slice_index_or lanes.new place []) }
+    ensures others { lanes.new ≡ slice_set lanes.old place (slice_index_or lanes.new place []) }
+{
+    let lane = &mut lanes[place];
+    lane.pop()
+}
+
+/// The one of a length at a place and the best so far that is less.
+fn nearer(best: Option<(u64, usize)>, length: u64, place: usize) -> (u64, usize)
+    ensures { (result ≡ (length, place)) ⊎ (best ≡ Some result) }
+{
+    match best {
+        Some(other) => {
+            if length < other.0 {
+                (length, place)
+            } else {
+                other
+            }
+        }
+        None => (length, place),
+    }
+}
+
+/// The nearer one of the best first label so far and that of the queue at a place.
+fn nearest_step(lanes: &[Lane], place: usize, best: Option<(u64, usize)>) -> Option<(u64, usize)>
+    requires place { place < length lanes.now }
+    requires best { HasFirst lanes.now place best }
+    ensures { HasFirst lanes.now (place + 1) result }
+{
+    match lanes[place].first() {
+        Some(length) => Some(nearer(best, length, place)),
+        None => best,
+    }
+}
+
+/// The place of the queue whose first label is the nearest.
+fn nearest(lanes: &[Lane]) -> Option<(u64, usize)>
+    ensures { HasFirst lanes.now (length lanes.now) result }
+{
+    let mut best = None;
+    for place in 0..lanes.len() {
+        best = nearest_step(lanes, place, best);
+    }
+    best
+}
+
+/// Labels that wait. Contracts see a list of them, in some order.
+#[derive(Drop)]
+pub struct Waiting {
+    alloc: Global,
+    lanes: Vec<Lane>,
+}
+
+impl Model for Waiting {
+    ghost use Rattle.std.specs.Prelude.{List, ℕ};
+    ghost use Rattle.dpl_dual.specs.Queues.{all_of};
+
+    ghost Value = { List (ℕ × ℕ) };
+
+    ghost view = { λ w. all_of w.lanes.items };
+}
+
+impl Waiting {
+    pub fn new(alloc: Global) -> Waiting
+        ensures { result ≡ [] }
+    {
+        Waiting {
+            alloc,
+            lanes: Vec::new(alloc),
+        }
+    }
+
+    /// Puts a label into the queue for ways of a length.
+    pub fn push(&mut self, way: u64, label: (u64, u32)) -> Result<(), AllocError>
+        ensures { OnOk result (IsPermutation (label ∷ self.old) self.new) }
+    {
+        let place = place_for(self.alloc, &mut self.lanes, way)?;
+        put(&mut self.lanes, place, label)
+    }
+
+    /// Takes the nearest of the first labels.
+    pub fn pop(&mut self) -> Option<(u64, u32)>
+        ensures { MatchOption result ((self.old ≡ []) × (self.new ≡ []))
+            (λ label. IsPermutation self.old (label ∷ self.new)) }
+    {
+        match nearest(&self.lanes) {
+            Some((_, place)) => take(&mut self.lanes, place),
+            None => None,
+        }
+    }
+}

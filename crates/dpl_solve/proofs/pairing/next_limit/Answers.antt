@@ -1,1 +1,0 @@
-use Rattle.dpl_solve.proofs.pairing.next_limit.Goals as goal
