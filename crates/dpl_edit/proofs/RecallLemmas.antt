@@ -13,6 +13,7 @@ old_known o s parts h k = record {
   solved = k;
 }
 
-pub known_of : (o : PlainOptions) (s : Optimum) (parts : List SolvedPart) (rects : List Rect) (known : List SolvedPart) → rects ≡ s.fragments.rects → known ≡ parts → IsSomeOptimum o s → AreSolved parts
-    → AreKnown rects known
-known_of o s parts rects known p q h k = subst (λ z. AreKnown z known) (sym p) (subst (AreKnown s.fragments.rects) (sym q) (old_known o s parts h k))
+pub known_of : (o : PlainOptions) (s : Optimum) (parts : List SolvedPart) (rects : List Rect) (known : List SolvedPart)
+    → rects ≡ s.fragments.rects → known ≡ parts → IsSomeOptimum o s → AreSolved parts → AreKnown rects known
+known_of o s parts rects known p q h k =
+    subst (λ z. AreKnown z known) (sym p) (subst (AreKnown s.fragments.rects) (sym q) (old_known o s parts h k))
