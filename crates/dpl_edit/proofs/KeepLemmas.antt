@@ -1,6 +1,5 @@
 -- An optimum whose colours are others that break kept edges of the same weight.
-use Rattle.std.proofs.Common.{arith, ◌≡◌, ◌+◌, ◌*◌, ℕ, Bool, List, refl, sym, ap, ◌∙◌}
-use Rattle.dpl_sign.specs.declared.nets.Net.{Net}
+use Rattle.std.proofs.Common.{arith, ◌≡◌, ℕ, Bool, List, ◌∙◌}
 use Rattle.dpl_sign.specs.Colourings.{IsColouring, cost_of}
 use Rattle.dpl_options.specs.Options.{PlainOptions}
 use Rattle.dpl_parts.specs.Parts.{IsBest, broken_on}

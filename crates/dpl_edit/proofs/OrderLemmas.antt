@@ -1,16 +1,14 @@
 -- The fragments and the edges of a layer stand in order.
-use Rattle.std.proofs.Common.{arith, ◌≡◌, ◌⊎◌, inl, inr, ◌<◌, ◌*◌, ℕ, zero, suc, true, List, [], ◌∷◌, ◌++◌, length, map, refl, sym, ap, ◌∙◌, subst, slice_index_or}
+use Rattle.std.proofs.Common.{arith, ◌≡◌, inl, inr, ◌<◌, ℕ, zero, suc, true, List, [], ◌∷◌, ◌++◌, length, map, refl, sym, subst, slice_index_or}
 use Rattle.std.specs.Prelude.{All, AllPairs}
 use Rattle.std.proofs.lemmas.List.{get_or-map, length-map}
 use Rattle.std.proofs.lemmas.List.Elements.{All-append, All-map}
 use Rattle.std.proofs.lemmas.List.Kept.{AllPairs-cons}
-use Rattle.dpl_cell.specs.declared.rect.Rect.{Rect}
-use Rattle.dpl_cell.specs.Places.{Corners, corners_of}
+use Rattle.dpl_cell.specs.Places.{corners_of}
 use Rattle.dpl_cell.specs.Tiles.{IsBefore}
 use Rattle.dpl_near.specs.Joins.{IsFirst}
 use Rattle.dpl_cuts.specs.declared.types.Cut.{Cut}
 use Rattle.dpl_cuts.specs.declared.types.Fragments.{Fragments}
-use Rattle.dpl_sign.specs.declared.edges.Edge.{Edge}
 use Rattle.dpl_sign.specs.declared.nets.Net.{Net}
 use Rattle.dpl_options.specs.Options.{PlainOptions, PlainWeights}
 use Rattle.dpl_links.specs.declared.linking.Link.{Link}

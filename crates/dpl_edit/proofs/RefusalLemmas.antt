@@ -1,15 +1,11 @@
 -- A content has at most one refusal, and none where it has an optimum.
-use Rattle.std.proofs.Common.{arith, ◌≡◌, ◌⊎◌, inl, inr, ◌<◌, ◌≤◌, ℕ, List, Result, Ok, Err, IfOk, IfErr, refl, sym, ap, ◌∙◌, subst}
+use Rattle.std.proofs.Common.{arith, ◌≡◌, ◌⊎◌, inl, inr, ◌≤◌, ℕ, List, Result, Ok, Err, IfOk, IfErr, refl, sym, ap, subst}
 use Rattle.dpl_calls.specs.Totals.{shown}
 use Rattle.dpl_cell.specs.declared.layout.Primitive.{Primitive}
-use Rattle.dpl_sign.specs.declared.nets.Net.{Net}
-use Rattle.dpl_cuts.specs.declared.types.Fragments.{Fragments}
 use Rattle.dpl_options.specs.Options.{PlainOptions}
-use Rattle.dpl_solve.specs.Solved.{IsRefused}
 use Rattle.dpl_layer.specs.declared.error.LayerError.{LayerError}
 use Rattle.dpl_layer.specs.declared.error.LayerError.TheVariants as layer
 use Rattle.dpl_layer.specs.Drawings.{Cells}
-use Rattle.dpl_layer.specs.Layers.{IsLayer}
 use Rattle.dpl_layer.proofs.LayerLemmas.{same_layer}
 use Rattle.dpl_layer.proofs.RefusalLemmas.{cells_free, one_cells_refusal}
 use Rattle.dpl_core.specs.Refusals.{IsOddNet, HasOddNet}

@@ -1,4 +1,4 @@
-use Rattle.std.proofs.Common.{◌≡◌, sym, ap, subst, ◌∙◌}
+use Rattle.std.proofs.Common.{sym, ap, subst, ◌∙◌}
 use Rattle.dpl_sign.specs.Colourings.{cost_of}
 use Rattle.dpl_stay.specs.Order.{AreRectsInOrder}
 use Rattle.dpl_edit.specs.Optima.{solved_of}

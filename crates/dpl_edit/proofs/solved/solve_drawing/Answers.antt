@@ -1,4 +1,4 @@
-use Rattle.std.proofs.Common.{◌≡◌, inl, inr, sym, ap, subst, Err}
+use Rattle.std.proofs.Common.{inr, sym, ap, subst, Err}
 use Rattle.dpl_solve.specs.Solved.{IsRefused}
 use Rattle.dpl_edit.proofs.solved.solve_drawing.Goals as goal
 

@@ -1,4 +1,4 @@
-use Rattle.std.proofs.Common.{rules, ◌≡◌, inl, inr, ◌∙◌, ap, sym, Err}
+use Rattle.std.proofs.Common.{◌≡◌, inl, inr, ◌∙◌, ap, Err}
 use Rattle.dpl_edit.specs.Optima.{solved_of}
 use Rattle.dpl_edit.specs.Sessions.{State}
 use Rattle.dpl_edit.proofs.SessionLemmas.{added, content_is, ok_free, err_comes}

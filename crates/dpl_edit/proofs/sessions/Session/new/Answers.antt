@@ -1,4 +1,4 @@
-use Rattle.std.proofs.Common.{rules, ◌≡◌, inl, inr, ◌∙◌, ap, sym, refl, Err}
+use Rattle.std.proofs.Common.{inl, inr, ◌∙◌, ap, refl, Err}
 use Rattle.dpl_edit.specs.Optima.{solved_of}
 use Rattle.dpl_edit.proofs.SessionLemmas.{none_behind, ok_free, err_comes}
 use Rattle.dpl_edit.proofs.sessions.Session.new.Goals as goal

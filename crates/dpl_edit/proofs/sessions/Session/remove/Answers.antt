@@ -1,4 +1,4 @@
-use Rattle.std.proofs.Common.{rules, true, ◌≡◌, ◌⊎◌, inl, inr, ◌∙◌, ap, sym, subst, refl, Err}
+use Rattle.std.proofs.Common.{rules, true, ◌≡◌, inl, inr, ◌∙◌, ap, sym, Err}
 use Rattle.dpl_edit.specs.Contents.{HasBox, has_number, without}
 use Rattle.dpl_edit.specs.Errors.{of_edit}
 use Rattle.dpl_edit.specs.Optima.{solved_of}

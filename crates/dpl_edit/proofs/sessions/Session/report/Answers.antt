@@ -1,4 +1,4 @@
-use Rattle.std.proofs.Common.{◌≡◌, subst, ◌∙◌}
+use Rattle.std.proofs.Common.{subst, ◌∙◌}
 use Rattle.dpl_report.specs.Plain.{plain_report}
 use Rattle.dpl_edit.specs.Sessions.{IsReportOf, State}
 use Rattle.dpl_edit.proofs.sessions.Session.report.Goals as goal
