@@ -93,24 +93,36 @@ fn a_long_script(rt: HostRuntime) -> Result<(), Fail> {
     Ok(())
 }
 
-/// A box far from all others comes and goes 500 times.
-fn a_thousand_lines(alloc: Global) -> Result<Vec<u8>, Fail> {
+/// A box comes and goes 250 times.
+fn comes_and_goes(alloc: Global, added: &[u8]) -> Result<Vec<u8>, Fail> {
     let mut script = Vec::new(alloc);
-    for number in 0..500u32 {
+    for number in 0..250u32 {
         let mut buffer = Buffer::new();
-        script.extend_from_slice(b"add 0 10000 200 10200\nremove ")?;
+        script.extend_from_slice(added)?;
+        script.extend_from_slice(b"remove ")?;
         script.extend_from_slice(buffer.format(number).as_bytes())?;
         script.push(b'\n')?;
     }
     Ok(script)
 }
 
+fn strip_after(alloc: Global, added: &[u8]) -> Result<Ended, Fail> {
+    let script = comes_and_goes(alloc, added)?;
+    let made = edited(alloc, STRIP, script.as_slice())?;
+    checked(alloc, STRIP, made.out.bytes())
+}
+
 #[test]
-fn a_thousand_edits(rt: HostRuntime) -> Result<(), Fail> {
-    let script = a_thousand_lines(rt.alloc())?;
-    let made = edited(rt.alloc(), STRIP, script.as_slice())?;
-    assert_eq!(rt; made.status, Status::Done);
-    let read = checked(rt.alloc(), STRIP, made.out.bytes())?;
+fn edits_far_from_a_long_strip(rt: HostRuntime) -> Result<(), Fail> {
+    let read = strip_after(rt.alloc(), b"add 0 10000 200 10200\n")?;
+    assert_eq!(rt; read.out.bytes(), b"yes cost 2560 bound 5120\n".as_slice());
+    Ok(())
+}
+
+/// The box makes one odd triangle more.
+#[test]
+fn edits_at_the_end_of_a_long_strip(rt: HostRuntime) -> Result<(), Fail> {
+    let read = strip_after(rt.alloc(), b"add 77100 0 77300 200\n")?;
     assert_eq!(rt; read.out.bytes(), b"yes cost 2560 bound 5120\n".as_slice());
     Ok(())
 }
