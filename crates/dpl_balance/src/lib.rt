@@ -14,3 +14,6 @@ pub use balancing::balance;
 pub use dpl_parts::components;
 pub use measuring::areas;
 pub use std::alloc::AllocError as NoMemory;
+
+#[cfg(test)]
+mod tests;

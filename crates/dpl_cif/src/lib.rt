@@ -15,3 +15,6 @@ mod reading;
 pub use dpl_rules::What;
 pub use error::{CifError, CifLimit};
 pub use reading::{drawing_rules, read, read_commands};
+
+#[cfg(test)]
+mod tests;

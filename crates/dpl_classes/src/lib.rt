@@ -11,3 +11,6 @@ mod rooting;
 
 pub use classing::classes;
 pub use std::alloc::AllocError as NoMemory;
+
+#[cfg(test)]
+mod tests;

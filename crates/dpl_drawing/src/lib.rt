@@ -17,3 +17,6 @@ pub use cycles::Cycles;
 pub use drawn::{Drawing, draw};
 pub use numbering::{Numbered, number};
 pub use walking::{mark, shorter_first};
+
+#[cfg(test)]
+mod tests;

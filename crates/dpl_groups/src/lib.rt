@@ -8,3 +8,6 @@ mod finding;
 mod walk;
 
 pub use finding::{Groups, find_groups};
+
+#[cfg(test)]
+mod tests;

@@ -22,3 +22,6 @@ pub use family::Family;
 pub use law::values_bound_pairings;
 pub use std::alloc::AllocError as NoMemory;
 pub use steps::Steps;
+
+#[cfg(test)]
+mod tests;

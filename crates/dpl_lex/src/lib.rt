@@ -16,3 +16,6 @@ pub use lexer::{Lexer, commands};
 pub use name::Name;
 pub use number::{Num, Numbers};
 pub use types::{Ending, Span};
+
+#[cfg(test)]
+mod tests;

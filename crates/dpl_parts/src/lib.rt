@@ -20,3 +20,6 @@ pub use laws::{component_rules, optima_stay};
 pub use splitting::split;
 pub use std::alloc::AllocError as NoMemory;
 pub use summing::sum_rules;
+
+#[cfg(test)]
+mod tests;

@@ -17,3 +17,6 @@ mod what;
 pub use bounds::read_command;
 pub use rules::broken_rule;
 pub use what::{Refusal, What};
+
+#[cfg(test)]
+mod tests;

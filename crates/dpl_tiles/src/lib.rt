@@ -25,3 +25,6 @@ mod tiling;
 pub use error::TileError;
 pub use laws::tiles_share_out;
 pub use tiling::tiles;
+
+#[cfg(test)]
+mod tests;
