@@ -14,6 +14,3 @@ pub use balancing::balance;
 pub use dpl_parts::components;
 pub use measuring::areas;
 pub use std::alloc::AllocError as NoMemory;
-
-#[cfg(test)]
-mod tests;

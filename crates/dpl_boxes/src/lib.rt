@@ -12,6 +12,3 @@ mod writing;
 pub use lines::line_rules;
 pub use std::alloc::AllocError as NoMemory;
 pub use writing::{push_box, push_spaced};
-
-#[cfg(test)]
-mod tests;

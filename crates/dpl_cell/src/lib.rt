@@ -29,6 +29,3 @@ pub use rect::Rect;
 pub use seams::{seam, touch};
 pub use spans::{is_between, meet};
 pub use stretch::Stretch;
-
-#[cfg(test)]
-mod tests;

@@ -15,6 +15,3 @@ mod reading;
 pub use dpl_rules::What;
 pub use error::{CifError, CifLimit};
 pub use reading::{drawing_rules, read, read_commands};
-
-#[cfg(test)]
-mod tests;

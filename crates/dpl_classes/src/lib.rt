@@ -11,6 +11,3 @@ mod rooting;
 
 pub use classing::classes;
 pub use std::alloc::AllocError as NoMemory;
-
-#[cfg(test)]
-mod tests;

@@ -17,6 +17,3 @@ pub use cycles::Cycles;
 pub use drawn::{Drawing, draw};
 pub use numbering::{Numbered, number};
 pub use walking::{mark, shorter_first};
-
-#[cfg(test)]
-mod tests;

@@ -22,6 +22,3 @@ pub mod types;
 pub use bars::{bar, drawn, excess_of};
 pub use crossings::crossing;
 pub use std::alloc::AllocError as NoMemory;
-
-#[cfg(test)]
-mod tests;

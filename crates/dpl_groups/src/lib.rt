@@ -8,6 +8,3 @@ mod finding;
 mod walk;
 
 pub use finding::{Groups, find_groups};
-
-#[cfg(test)]
-mod tests;

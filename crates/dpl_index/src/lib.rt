@@ -13,6 +13,3 @@ mod stops;
 pub use bounds::Bounds;
 pub use index::Index;
 pub use std::alloc::AllocError as NoMemory;
-
-#[cfg(test)]
-mod tests;

@@ -22,6 +22,3 @@ pub use family::Family;
 pub use law::values_bound_pairings;
 pub use std::alloc::AllocError as NoMemory;
 pub use steps::Steps;
-
-#[cfg(test)]
-mod tests;

@@ -18,6 +18,3 @@ pub use error::LayerError;
 pub use laws::one_layer;
 pub use laying::{Layer, layer_of};
 pub use reading::{layer_of_commands, read_layer};
-
-#[cfg(test)]
-mod tests;

@@ -16,6 +16,3 @@ pub use lexer::{Lexer, commands};
 pub use name::Name;
 pub use number::{Num, Numbers};
 pub use types::{Ending, Span};
-
-#[cfg(test)]
-mod tests;

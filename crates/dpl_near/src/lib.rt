@@ -19,6 +19,3 @@ pub use finder::Finder;
 pub use joining::joins;
 pub use shaping::shapes;
 pub use std::alloc::AllocError as NoMemory;
-
-#[cfg(test)]
-mod tests;

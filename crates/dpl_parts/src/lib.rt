@@ -20,6 +20,3 @@ pub use laws::{component_rules, optima_stay};
 pub use splitting::split;
 pub use std::alloc::AllocError as NoMemory;
 pub use summing::sum_rules;
-
-#[cfg(test)]
-mod tests;

@@ -47,6 +47,3 @@ pub use refusals::{Miss, Refusal};
 pub use reports::Report;
 pub use std::alloc::AllocError as NoMemory;
 pub use stitches::broken_cuts;
-
-#[cfg(test)]
-mod tests;

@@ -17,6 +17,3 @@ mod what;
 pub use bounds::read_command;
 pub use rules::broken_rule;
 pub use what::{Refusal, What};
-
-#[cfg(test)]
-mod tests;

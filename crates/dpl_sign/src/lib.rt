@@ -32,6 +32,3 @@ pub use order::port_order;
 pub use ports::Port;
 pub use rotating::{is_met_before, next_around};
 pub use walks::{Claim, Cycle, Walk};
-
-#[cfg(test)]
-mod tests;

@@ -25,6 +25,3 @@ mod tiling;
 pub use error::TileError;
 pub use laws::tiles_share_out;
 pub use tiling::tiles;
-
-#[cfg(test)]
-mod tests;

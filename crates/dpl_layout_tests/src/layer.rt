@@ -1,0 +1,386 @@
+ghost use Rattle.std.specs.Prelude.{◌≤◌, length, IfSome};
+ghost use Rattle.dpl_options.specs.Options.{IsSplitLayer};
+
+use dpl_cif::What;
+use dpl_layer::{Layer, LayerError, layer_of, read_drawing, read_layer};
+use dpl_lex::{Name, commands};
+use dpl_options::{Options, Weights};
+use std::alloc::Global;
+use std::test::Fail;
+
+/// Layer M, a spacing of one micron, an overlap of 0.2, no keep layer.
+fn options() -> Option<Options> {
+    options_with(None)
+}
+
+/// The same with this keep layer.
+fn keeping(name: &[u8]) -> Option<Options> {
+    let keep = Name::new(name)?;
+    if keep.bytes().len() > 31 {
+        return None;
+    }
+    options_with(Some(keep))
+}
+
+fn options_with(keep: Option<Name>) -> Option<Options>
+    requires { IfSome keep IsSplitLayer }
+{
+    let layer = Name::new(b"M")?;
+    if layer.bytes().len() > 31 {
+        return None;
+    }
+    Some(Options::new(layer, 100, 20, Weights::new(1, 10, 10), keep))
+}
+
+fn refusal(alloc: Global, text: &[u8]) -> Option<LayerError>
+    requires { length text.now ≤ 16777216 }
+{
+    let options = options()?;
+    read_layer(alloc, text, &options).err()
+}
+
+/// A wire with a box near each end is cut in its middle.
+#[test]
+fn a_wire_is_cut(rt: HostRuntime) -> Result<(), Fail> {
+    let options = options().ok_or("no options")?;
+    let text = b"L M; B 1000 100 500 50; B 100 100 50 200; B 100 100 950 200; E";
+    let layer = read_layer(rt.alloc(), text.as_slice(), &options)
+        .ok()
+        .ok_or("refused")?;
+    assert_eq!(rt; layer.fragments.rects.as_slice().len(), 4);
+    assert_eq!(rt; layer.fragments.cuts.as_slice().len(), 1);
+    assert_eq!(rt; layer.net.graph.edges.as_slice().len(), 3);
+    Ok(())
+}
+
+#[test]
+fn a_broken_rule(rt: HostRuntime) -> Result<(), Fail> {
+    let error = refusal(rt.alloc(), b"L M; B 0 1 2; E".as_slice()).ok_or("read")?;
+    let wanted = LayerError::Layout {
+        command: 2,
+        what: What::Syntax,
+    };
+    assert_eq!(rt; error, wanted);
+    Ok(())
+}
+
+#[test]
+fn too_far(rt: HostRuntime) -> Result<(), Fail> {
+    let error = refusal(rt.alloc(), b"L M; B 2 2 536870912 0; E".as_slice()).ok_or("read")?;
+    let wanted = LayerError::Limit {
+        kind: 4,
+        count: 1_073_741_826,
+    };
+    assert_eq!(rt; error, wanted);
+    Ok(())
+}
+
+/// 512 upright bars and 512 level ones make 263,168 tiles.
+#[test]
+fn too_many_tiles(rt: HostRuntime) -> Result<(), Fail> {
+    let text =
+        b"DS 1; L M; B 10 20480 5 10240; DF; DS 2; C 1; C 1 T 40 0; DF; DS 3; C 2; C 2 T 80 0; DF; DS \
+      4; C 3; C 3 T 160 0; DF; DS 5; C 4; C 4 T 320 0; DF; DS 6; C 5; C 5 T 640 0; DF; DS 7; C 6; \
+      C 6 T 1280 0; DF; DS 8; C 7; C 7 T 2560 0; DF; DS 9; C 8; C 8 T 5120 0; DF; DS 10; C 9; C 9 \
+      T 10240 0; DF; DS 11; L M; B 20480 10 10240 25; DF; DS 12; C 11; C 11 T 0 40; DF; DS 13; C \
+      12; C 12 T 0 80; DF; DS 14; C 13; C 13 T 0 160; DF; DS 15; C 14; C 14 T 0 320; DF; DS 16; C \
+      15; C 15 T 0 640; DF; DS 17; C 16; C 16 T 0 1280; DF; DS 18; C 17; C 17 T 0 2560; DF; DS 19; \
+      C 18; C 18 T 0 5120; DF; DS 20; C 19; C 19 T 0 10240; DF; C 10; C 20; E";
+    let wanted = LayerError::Limit {
+        kind: 5,
+        count: 100_001,
+    };
+    let error = refusal(rt.alloc(), text.as_slice()).ok_or("read")?;
+    assert_eq!(rt; error, wanted);
+    Ok(())
+}
+
+/// 141 wires with 250 boxes between each two make 105,000 fragments.
+const MANY_FRAGMENTS: &[u8] =
+    b"DS 1; L M; B 149710 10 74855 5; DF; DS 2; C 1; C 1 T 0 120; DF; DS 3; C 2; C 2 T 0 240; DF; \
+      DS 4; C 3; C 3 T 0 480; DF; DS 5; C 4; C 4 T 0 960; DF; DS 6; C 5; C 5 T 0 1920; DF; DS 7; C \
+      6; C 6 T 0 3840; DF; DS 8; C 7; C 7 T 0 7680; DF; DS 9; C 8; C 8 T 0 15360; DF; DS 11; L M; \
+      B 10 10 5 65; DF; DS 12; C 11; C 11 T 600 0; DF; DS 13; C 12; C 12 T 1200 0; DF; DS 14; C \
+      13; C 13 T 2400 0; DF; DS 15; C 14; C 14 T 4800 0; DF; DS 16; C 15; C 15 T 9600 0; DF; DS \
+      17; C 16; C 16 T 19200 0; DF; DS 18; C 17; C 17 T 38400 0; DF; DS 19; C 18; C 18 T 76800 0; \
+      DF; DS 20; C 18; C 17 T 76800 0; C 16 T 115200 0; C 15 T 134400 0; C 14 T 144000 0; C 12 T \
+      148800 0; DF; DS 21; C 20; C 20 T 300 120; DF; DS 22; C 21; C 21 T 0 240; DF; DS 23; C 22; C \
+      22 T 0 480; DF; DS 24; C 23; C 23 T 0 960; DF; DS 25; C 24; C 24 T 0 1920; DF; DS 26; C 25; \
+      C 25 T 0 3840; DF; DS 27; C 26; C 26 T 0 7680; DF; C 8; C 4 T 0 15360; C 3 T 0 16320; C 1 T \
+      0 16800; C 27; C 23 T 0 15360; C 22 T 0 16320; E";
+
+#[test]
+fn too_many_fragments(rt: HostRuntime) -> Result<(), Fail> {
+    let wanted = LayerError::Limit {
+        kind: 6,
+        count: 100_001,
+    };
+    if MANY_FRAGMENTS.len() > 10_000 {
+        return Err("too long")?;
+    }
+    let error = refusal(rt.alloc(), MANY_FRAGMENTS).ok_or("read")?;
+    assert_eq!(rt; error, wanted);
+    Ok(())
+}
+
+/// 1,024 boxes that are all close to one another make 523,776 clashes.
+#[test]
+fn too_many_edges(rt: HostRuntime) -> Result<(), Fail> {
+    let text =
+        b"DS 1 1 2; L M; B 2 2 1 1; DF; DS 2; C 1; C 1 T 2 0; DF; DS 3; C 2; C 2 T 4 0; DF; DS 4; C 3; \
+      C 3 T 8 0; DF; DS 5; C 4; C 4 T 16 0; DF; DS 6; C 5; C 5 T 32 0; DF; DS 7; C 6; C 6 T 0 2; \
+      DF; DS 8; C 7; C 7 T 0 4; DF; DS 9; C 8; C 8 T 0 8; DF; DS 10; C 9; C 9 T 0 16; DF; DS 11; C \
+      10; C 10 T 0 32; DF; C 11; E";
+    let wanted = LayerError::Limit {
+        kind: 7,
+        count: 400_001,
+    };
+    let error = refusal(rt.alloc(), text.as_slice()).ok_or("read")?;
+    assert_eq!(rt; error, wanted);
+    Ok(())
+}
+
+/// The layer M where nothing is cut in a cell of the layer with this name.
+fn beside(alloc: Global, text: &[u8], name: &[u8]) -> Option<Layer>
+    requires { length text.now ≤ 16777216 }
+{
+    let options = keeping(name)?;
+    read_layer(alloc, text, &options).ok()
+}
+
+fn refusal_beside(alloc: Global, text: &[u8], name: &[u8]) -> Option<LayerError>
+    requires { length text.now ≤ 16777216 }
+{
+    let options = keeping(name)?;
+    read_layer(alloc, text, &options).err()
+}
+
+/// The same wire, which the keep layer covers.
+#[test]
+fn a_kept_wire(rt: HostRuntime) -> Result<(), Fail> {
+    let text =
+        b"L M; B 1000 100 500 50; B 100 100 50 200; B 100 100 950 200; L K; B 1000 20 500 50; E";
+    let layer = beside(rt.alloc(), text.as_slice(), b"K".as_slice()).ok_or("refused")?;
+    assert_eq!(rt; layer.fragments.rects.as_slice().len(), 3);
+    assert_eq!(rt; layer.fragments.cuts.as_slice().len(), 0);
+    assert_eq!(rt; layer.net.graph.edges.as_slice().len(), 2);
+    Ok(())
+}
+
+/// A cell of the keep layer in the middle of the wire leaves a stretch on each side of it.
+#[test]
+fn a_kept_cell(rt: HostRuntime) -> Result<(), Fail> {
+    let text =
+        b"L M; B 1000 100 500 50; B 100 100 50 200; B 100 100 950 200; L K; B 20 20 500 50; E";
+    let layer = beside(rt.alloc(), text.as_slice(), b"K".as_slice()).ok_or("refused")?;
+    assert_eq!(rt; layer.fragments.rects.as_slice().len(), 5);
+    assert_eq!(rt; layer.fragments.cuts.as_slice().len(), 2);
+    Ok(())
+}
+
+/// The keep layer beside the wire keeps nothing of it.
+#[test]
+fn a_keep_layer_beside(rt: HostRuntime) -> Result<(), Fail> {
+    let text =
+        b"L M; B 1000 100 500 50; B 100 100 50 200; B 100 100 950 200; L K; B 1000 20 500 110; E";
+    let layer = beside(rt.alloc(), text.as_slice(), b"K".as_slice()).ok_or("refused")?;
+    assert_eq!(rt; layer.fragments.rects.as_slice().len(), 4);
+    assert_eq!(rt; layer.fragments.cuts.as_slice().len(), 1);
+    Ok(())
+}
+
+/// A keep layer of which the text says nothing keeps nothing. The chosen layer as the keep layer keeps all.
+#[test]
+fn an_empty_keep_layer_and_the_chosen_one(rt: HostRuntime) -> Result<(), Fail> {
+    let text = b"L M; B 1000 100 500 50; B 100 100 50 200; B 100 100 950 200; E";
+    let layer = beside(rt.alloc(), text.as_slice(), b"K".as_slice()).ok_or("refused")?;
+    assert_eq!(rt; layer.fragments.cuts.as_slice().len(), 1);
+    let layer = beside(rt.alloc(), text.as_slice(), b"M".as_slice()).ok_or("refused")?;
+    assert_eq!(rt; layer.fragments.cuts.as_slice().len(), 0);
+    assert_eq!(rt; layer.fragments.rects.as_slice().len(), 3);
+    Ok(())
+}
+
+/// The two stages one after the other.
+#[test]
+fn a_drawing_and_its_layer(rt: HostRuntime) -> Result<(), Fail> {
+    let text =
+        b"L M; B 1000 100 500 50; B 100 100 50 200; B 100 100 950 200; L K; B 20 20 500 50; E".as_slice();
+    let options = keeping(b"K".as_slice()).ok_or("no options")?;
+    let commands = commands(rt.alloc(), text)?;
+    let drawing = read_drawing(rt.alloc(), text, &commands, &options)
+        .ok()
+        .ok_or("refused")?;
+    assert_eq!(rt; drawing.layer.prims.as_slice().len(), 3);
+    assert_eq!(rt; drawing.keep.prims.as_slice().len(), 1);
+    let layer = layer_of(rt.alloc(), &drawing, &options)
+        .ok()
+        .ok_or("refused")?;
+    assert_eq!(rt; layer.fragments.cuts.as_slice().len(), 2);
+    Ok(())
+}
+
+/// A round flash on the keep layer is a fault, and none where there is no keep layer.
+#[test]
+fn a_fault_of_the_keep_layer(rt: HostRuntime) -> Result<(), Fail> {
+    let text = b"L M; B 10 10 0 0; L K; R 10 5 5; E".as_slice();
+    let error = refusal_beside(rt.alloc(), text, b"K".as_slice()).ok_or("read")?;
+    let wanted = LayerError::Layout {
+        command: 4,
+        what: What::Round,
+    };
+    assert_eq!(rt; error, wanted);
+    assert!(rt; refusal(rt.alloc(), text).is_none());
+    Ok(())
+}
+
+/// The fault of the chosen layer comes before that of the keep layer, though it stands behind it.
+#[test]
+fn a_fault_of_the_chosen_layer_first(rt: HostRuntime) -> Result<(), Fail> {
+    let text = b"L K; R 1 0 0; C 7; E".as_slice();
+    let error = refusal_beside(rt.alloc(), text, b"K".as_slice()).ok_or("read")?;
+    let wanted = LayerError::Layout {
+        command: 3,
+        what: What::Missing,
+    };
+    assert_eq!(rt; error, wanted);
+    Ok(())
+}
+
+const FAR: LayerError = LayerError::Limit {
+    kind: 4,
+    count: 1_073_741_826,
+};
+
+/// The fault of the keep layer comes before a limit of the chosen layer.
+#[test]
+fn faults_before_limits(rt: HostRuntime) -> Result<(), Fail> {
+    let text = b"L M; B 2 2 536870912 0; L K; R 10 5 5; E".as_slice();
+    let error = refusal_beside(rt.alloc(), text, b"K".as_slice()).ok_or("read")?;
+    let wanted = LayerError::Layout {
+        command: 4,
+        what: What::Round,
+    };
+    assert_eq!(rt; error, wanted);
+    assert_eq!(rt; refusal(rt.alloc(), text).ok_or("read")?, FAR);
+    Ok(())
+}
+
+/// A limit of the chosen layer comes before one of the keep layer.
+#[test]
+fn limits_of_the_chosen_layer_first(rt: HostRuntime) -> Result<(), Fail> {
+    let text = b"L M; B 2 2 536870912 0; L K; B 2 2 536870913 0; E".as_slice();
+    let error = refusal_beside(rt.alloc(), text, b"K".as_slice()).ok_or("read")?;
+    assert_eq!(rt; error, FAR);
+    let text = b"L M; B 2 2 0 0; L K; B 2 2 536870912 0; E".as_slice();
+    let error = refusal_beside(rt.alloc(), text, b"K".as_slice()).ok_or("read")?;
+    assert_eq!(rt; error, FAR);
+    assert!(rt; refusal(rt.alloc(), text).is_none());
+    Ok(())
+}
+
+/// The same wire upright, with a cell of the keep layer in its middle.
+#[test]
+fn a_kept_cell_of_an_upright_wire(rt: HostRuntime) -> Result<(), Fail> {
+    let text =
+        b"L M; B 100 1000 50 500; B 100 100 200 50; B 100 100 200 950; L K; B 20 20 50 500; E";
+    let layer = beside(rt.alloc(), text.as_slice(), b"K".as_slice()).ok_or("refused")?;
+    assert_eq!(rt; layer.fragments.rects.as_slice().len(), 5);
+    assert_eq!(rt; layer.fragments.cuts.as_slice().len(), 2);
+    Ok(())
+}
+
+/// The cell beside the last column of the stretch, which is as long as the overlap, leaves the cut, and one a hundredth
+/// of a micron nearer does not. What overlaps on the keep layer is kept as well.
+#[test]
+fn kept_cells_at_the_end_of_a_stretch(rt: HostRuntime) -> Result<(), Fail> {
+    let past =
+        b"L M; B 394 100 197 50; B 100 100 50 200; B 100 100 344 200; L K; B 2 100 208 50; E";
+    let layer = beside(rt.alloc(), past.as_slice(), b"K".as_slice()).ok_or("refused")?;
+    assert_eq!(rt; layer.fragments.cuts.as_slice().len(), 1);
+    let last =
+        b"L M; B 394 100 197 50; B 100 100 50 200; B 100 100 344 200; L K; B 2 100 207 50; E";
+    let layer = beside(rt.alloc(), last.as_slice(), b"K".as_slice()).ok_or("refused")?;
+    assert_eq!(rt; layer.fragments.cuts.as_slice().len(), 0);
+    let overlapping =
+        b"L M; B 394 100 197 50; B 100 100 50 200; B 100 100 344 200; L K; B 2 100 207 50; B 2 100 207 50; E";
+    let layer = beside(rt.alloc(), overlapping.as_slice(), b"K".as_slice()).ok_or("refused")?;
+    assert_eq!(rt; layer.fragments.cuts.as_slice().len(), 0);
+    Ok(())
+}
+
+/// 512 upright bars and 512 level ones on the keep layer make 263,168 tiles.
+const KEPT_BARS: &[u8] =
+    b"DS 101; L K; B 10 20480 5 10240; DF; DS 102; C 101; C 101 T 40 0; DF; DS 103; C 102; C 102 T 80 0; DF; \
+      DS 104; C 103; C 103 T 160 0; DF; DS 105; C 104; C 104 T 320 0; DF; DS 106; C 105; C 105 T 640 0; DF; DS \
+      107; C 106; C 106 T 1280 0; DF; DS 108; C 107; C 107 T 2560 0; DF; DS 109; C 108; C 108 T 5120 0; DF; DS \
+      110; C 109; C 109 T 10240 0; DF; DS 111; L K; B 20480 10 10240 25; DF; DS 112; C 111; C 111 T 0 40; DF; \
+      DS 113; C 112; C 112 T 0 80; DF; DS 114; C 113; C 113 T 0 160; DF; DS 115; C 114; C 114 T 0 320; DF; DS \
+      116; C 115; C 115 T 0 640; DF; DS 117; C 116; C 116 T 0 1280; DF; DS 118; C 117; C 117 T 0 2560; DF; DS \
+      119; C 118; C 118 T 0 5120; DF; DS 120; C 119; C 119 T 0 10240; DF; C 110; C 120; ";
+
+fn joined(alloc: Global, first: &[u8], second: &[u8]) -> Result<Vec<u8>, Fail> {
+    let mut text = Vec::new(alloc);
+    text.extend_from_slice(first)?;
+    text.extend_from_slice(second)?;
+    Ok(text)
+}
+
+/// Too many tiles of the keep layer are the limit on tiles. They come before too many fragments, as the chosen layer's
+/// own tiles do.
+#[test]
+fn too_many_kept_tiles(rt: HostRuntime) -> Result<(), Fail> {
+    let wanted = LayerError::Limit {
+        kind: 5,
+        count: 100_001,
+    };
+    for others in [b"L M; B 10 10 5 5; E".as_slice(), MANY_FRAGMENTS] {
+        let text = joined(rt.alloc(), KEPT_BARS, others)?;
+        if text.len() > 10_000 {
+            return Err("too long")?;
+        }
+        let error = refusal_beside(rt.alloc(), text.as_slice(), b"K".as_slice()).ok_or("read")?;
+        assert_eq!(rt; error, wanted);
+    }
+    Ok(())
+}
+
+/// 65,536 boxes on the keep layer.
+const MANY_KEPT: &[u8] =
+    b"DS 1; L K; B 2 2 1 1; DF; DS 2; C 1; C 1 T 4 0; DF; DS 3; C 2; C 2 T 8 0; DF; DS 4; C 3; C 3 T 16 0; DF; \
+      DS 5; C 4; C 4 T 32 0; DF; DS 6; C 5; C 5 T 64 0; DF; DS 7; C 6; C 6 T 128 0; DF; DS 8; C 7; C 7 T 256 \
+      0; DF; DS 9; C 8; C 8 T 512 0; DF; DS 10; C 9; C 9 T 1024 0; DF; DS 11; C 10; C 10 T 2048 0; DF; DS 12; \
+      C 11; C 11 T 4096 0; DF; DS 13; C 12; C 12 T 8192 0; DF; DS 14; C 13; C 13 T 16384 0; DF; DS 15; C 14; C \
+      14 T 32768 0; DF; DS 16; C 15; C 15 T 65536 0; DF; DS 17; C 16; C 16 T 131072 0; DF; C 17; ";
+
+/// Too many primitives of the keep layer are a limit of its own. A limit of the chosen layer comes before it, though its
+/// kind is the greater one, and so does a fault.
+#[test]
+fn too_many_kept_primitives(rt: HostRuntime) -> Result<(), Fail> {
+    let many = LayerError::Limit {
+        kind: 2,
+        count: 65_536,
+    };
+    let missing = LayerError::Layout {
+        command: 72,
+        what: What::Missing,
+    };
+    for (others, wanted) in [
+        (b"L M; B 2 2 0 0; E".as_slice(), many),
+        (b"L M; B 2 2 536870912 0; E", FAR),
+        (b"L M; B 2 2 0 0; C 99; E", missing),
+    ] {
+        let text = joined(rt.alloc(), MANY_KEPT, others)?;
+        if text.len() > 10_000 {
+            return Err("too long")?;
+        }
+        let error = refusal_beside(rt.alloc(), text.as_slice(), b"K".as_slice()).ok_or("read")?;
+        assert_eq!(rt; error, wanted);
+    }
+    let text = joined(rt.alloc(), MANY_KEPT, b"L M; B 2 2 0 0; E".as_slice())?;
+    if text.len() > 10_000 {
+        return Err("too long")?;
+    }
+    assert!(rt; refusal(rt.alloc(), text.as_slice()).is_none());
+    Ok(())
+}

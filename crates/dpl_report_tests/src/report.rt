@@ -1,0 +1,163 @@
+use dpl_form::first_line;
+use dpl_report::{NoMemory, ReportError, parse, print};
+use std::alloc::Global;
+use std::test::Fail;
+
+const NOTHING: &[u8] =
+    b"(dpl 1);\n(layer M);\n(space 100);\n(overlap 20);\n(stitch 1);\n(conflict 10);\n(pieces 0);\n(fragments 0);\n(bonds 0);\n(stitches 0);\n(clashes 0);\n(excess 0);\n(cost 0);\n(bound 0);\n(masks );\nDS 1 1 4;\nL MA;\nL MB;\nDF;\nC 1;\nE\n";
+
+/// Three squares, each too close to the other two.
+const TRIANGLE: &[u8] =
+    b"(dpl 1);\n(layer M);\n(space 100);\n(overlap 20);\n(stitch 1);\n(conflict 10);\n(pieces 3);\n(fragments 3);\n(bonds 0);\n(stitches 0);\n(clashes 3);\n(excess 0);\n(cost 10);\n(bound 20);\n(masks AAB);\n(clash 0 0 1);\n(cycle 20 0 0 2 1);\nDS 1 1 4;\nL MA;\nB 400 400 200 200;\nB 400 400 800 200;\nL MB;\nB 400 400 500 800;\nDF;\nC 1;\nE\n";
+
+/// Nothing in the second version.
+const SECOND: &[u8] =
+    b"(dpl 2);\n(layer M);\n(space 100);\n(overlap 20);\n(stitch 1);\n(conflict 10);\n(pieces 0);\n(fragments 0);\n(bonds 0);\n(stitches 0);\n(clashes 0);\n(excess 0);\n(cost 0);\n(bound 0);\n(masks );\n(corner 10);\nDS 1 1 4;\nL MA;\nL MB;\nDF;\nC 1;\nE\n";
+
+/// The same with a keep layer.
+const KEPT: &[u8] =
+    b"(dpl 2);\n(layer M);\n(space 100);\n(overlap 20);\n(stitch 1);\n(conflict 10);\n(pieces 0);\n(fragments 0);\n(bonds 0);\n(stitches 0);\n(clashes 0);\n(excess 0);\n(cost 0);\n(bound 0);\n(masks );\n(corner 3);\n(keep K);\nDS 1 1 4;\nL MA;\nL MB;\nDF;\nC 1;\nE\n";
+
+/// What is read is written again so.
+fn is_written_again(alloc: Global, text: &[u8]) -> Result<bool, ReportError> {
+    if text.len() > 1000 {
+        return Ok(false);
+    }
+    let report = parse(alloc, text)?;
+    match print(alloc, &report) {
+        Ok(again) => Ok(again.as_slice() == text),
+        Err(_) => Err(ReportError::NoMemory),
+    }
+}
+
+/// The first wrong line, 0 where there is none.
+fn wrong_line(alloc: Global, text: &[u8]) -> Result<u64, NoMemory> {
+    if text.len() > 1000 {
+        return Ok(0);
+    }
+    match parse(alloc, text) {
+        Ok(_) => Ok(0),
+        Err(ReportError::NotReport(line)) => Ok(line),
+        Err(ReportError::NoMemory) => Err(NoMemory),
+    }
+}
+
+/// A report with other text in place of one line.
+fn with_line(alloc: Global, report: &[u8], number: usize, new: &[u8]) -> Result<Vec<u8>, NoMemory> {
+    let mut out = Vec::new(alloc);
+    let mut rest = report;
+    let mut at: usize = 1;
+    'lines: while let Some((line, others)) = first_line(rest) {
+        out.extend_from_slice(if at == number { new } else { line })?;
+        at = at.wrapping_add(1);
+        rest = others;
+    }
+    Ok(out)
+}
+
+#[test]
+fn reports_are_read_and_written_again(rt: HostRuntime) -> Result<(), Fail> {
+    assert!(rt; matches!(is_written_again(rt.alloc(), NOTHING), Ok(true)));
+    assert!(rt; matches!(is_written_again(rt.alloc(), TRIANGLE), Ok(true)));
+    assert!(rt; matches!(is_written_again(rt.alloc(), SECOND), Ok(true)));
+    assert!(rt; matches!(is_written_again(rt.alloc(), KEPT), Ok(true)));
+    Ok(())
+}
+
+#[test]
+fn a_front_of_a_report_ends_too_early(rt: HostRuntime) -> Result<(), Fail> {
+    let mut line: u64 = 1;
+    for (end, byte) in TRIANGLE.iter().enumerate() {
+        assert_eq!(rt; wrong_line(rt.alloc(), &TRIANGLE[..end])?, line);
+        if *byte == b'\n' {
+            line = line.wrapping_add(1);
+        }
+    }
+    Ok(())
+}
+
+#[test]
+fn the_first_wrong_line_is_named(rt: HostRuntime) -> Result<(), Fail> {
+    for (number, new, line) in [
+        (3, b"(overlap 20);\n(space 100);\n".as_slice(), 3),
+        (3, b"(space 0100);\n", 3),
+        (3, b"(space 1000000000001);\n", 3),
+        (15, b"(masks AABB);\n", 15),
+        (15, b"(masks AAb);\n", 15),
+        (16, b"(clash 1 0 2);\n(clash 0 0 1);\n", 17),
+        (16, b"(clash 0 0 1);\n(clash 0 0 1);\n", 17),
+        (17, b"(cycle 0 0 0 2 1);\n", 17),
+        (17, b"(cycle 20 0);\n", 17),
+        (20, b"B 0 400 200 200;\n", 20),
+        (26, b"E", 26),
+        (26, b"E\nE\n", 27),
+    ] {
+        let text = with_line(rt.alloc(), TRIANGLE, number, new)?;
+        assert_eq!(rt; wrong_line(rt.alloc(), text.as_slice())?, line);
+    }
+    Ok(())
+}
+
+#[test]
+fn the_first_wrong_line_of_a_second_version(rt: HostRuntime) -> Result<(), Fail> {
+    for (number, new, line) in [
+        (1, b"(dpl 3);\n".as_slice(), 1),
+        (1, b"(dpl 1);\n", 16),
+        (15, b"(masks );\n(keep K);\n", 16),
+        (16, b"(corner 03);\n", 16),
+        (16, b"", 16),
+        (16, b"(keep K);\n(corner 3);\n", 16),
+        (17, b"(keep k);\n", 17),
+        (17, b"(keep );\n", 17),
+        (17, b"(keep K);\n(keep K);\n", 18),
+        (18, b"(corner 3);\nDS 1 1 4;\n", 18),
+    ] {
+        let text = with_line(rt.alloc(), KEPT, number, new)?;
+        assert_eq!(rt; wrong_line(rt.alloc(), text.as_slice())?, line);
+    }
+    Ok(())
+}
+
+/// A line in place of one of the report with a keep layer, and whether the report is read and written again so.
+fn kept_with(alloc: Global, number: usize, new: &[u8]) -> Result<bool, NoMemory> {
+    let text = with_line(alloc, KEPT, number, new)?;
+    Ok(matches!(is_written_again(alloc, text.as_slice()), Ok(true)))
+}
+
+/// The corner weight is a number as the others, up to 10 ^ 12. The name of the keep layer has up to 31 bytes, and may
+/// be that of the layer.
+#[test]
+fn corner_and_keep_lines(rt: HostRuntime) -> Result<(), Fail> {
+    for (number, new) in [
+        (16, b"(corner 10);\n".as_slice()),
+        (16, b"(corner 1);\n"),
+        (16, b"(corner 1000000000000);\n"),
+        (17, b"(keep M);\n"),
+        (17, b"(keep K234567890123456789012345678901);\n"),
+        (17, b""),
+    ] {
+        assert!(rt; kept_with(rt.alloc(), number, new)?);
+    }
+    for (number, new) in [
+        (16, b"(corner 1000000000001);\n".as_slice()),
+        (16, b"(corner -3);\n"),
+        (17, b"(keep K2345678901234567890123456789012);\n"),
+    ] {
+        let text = with_line(rt.alloc(), KEPT, number, new)?;
+        assert_eq!(rt; wrong_line(rt.alloc(), text.as_slice())?, number as u64);
+    }
+    Ok(())
+}
+
+/// A report of the first version has neither line.
+#[test]
+fn the_first_version_ends_with_the_masks(rt: HostRuntime) -> Result<(), Fail> {
+    for new in [
+        b"(masks );\n(corner 10);\n".as_slice(),
+        b"(masks );\n(keep K);\n",
+    ] {
+        let text = with_line(rt.alloc(), NOTHING, 15, new)?;
+        assert_eq!(rt; wrong_line(rt.alloc(), text.as_slice())?, 16);
+    }
+    Ok(())
+}
