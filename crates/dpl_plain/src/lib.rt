@@ -21,6 +21,3 @@ pub use faces::face_count;
 pub use neighbours::{are_neighbours, leads};
 pub use parity::{face_name, is_odd_face, meets_faces, passages_on_face};
 pub use parts::are_of_one_part;
-
-#[cfg(test)]
-mod tests;

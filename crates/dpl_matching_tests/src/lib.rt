@@ -1,0 +1,17 @@
+//! Tests of the crates that measure between odd faces, match them and pack cycles, a file for each crate.
+//!
+//! A crate with tests is proved once for itself and once with them, so these stand above what they test.
+#![tactic(auto)]
+
+#[cfg(test)]
+mod dual;
+#[cfg(test)]
+mod dual_grids;
+#[cfg(test)]
+mod laminar;
+#[cfg(test)]
+mod matching;
+#[cfg(test)]
+mod solve;
+#[cfg(test)]
+mod tables;

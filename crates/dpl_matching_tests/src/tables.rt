@@ -1,0 +1,137 @@
+//! Whether rows of numbers are distances.
+
+ghost use Rattle.std.specs.Prelude.{◌≡◌, ℕ, ◌*◌, ◌<◌, ◌≤◌, true, length};
+ghost use Rattle.dpl_matching_tests.specs.Checks.{table_dist, IsFair, IsStraight};
+ghost use Rattle.dpl_tree.specs.Metrics.{IsTable};
+
+/// One distance.
+fn at(rows: &[u64], n: usize, s: usize, t: usize) -> u64
+    requires small { n ≤ 2048 }
+    requires count { length rows.now ≡ n * n }
+    requires s { s < n }
+    requires t { t < n }
+    ensures { result ≡ table_dist n rows.now s t }
+{
+    rows[s * n + t]
+}
+
+/// Whether a distance is even, small, the same both ways, and 0 to the member itself.
+fn is_fair(rows: &[u64], n: usize, s: usize, t: usize) -> bool
+    requires small { n ≤ 2048 }
+    requires count { length rows.now ≡ n * n }
+    requires s { s < n }
+    requires t { t < n }
+    ensures { result ≡ true → IsFair (table_dist n rows.now) s t }
+{
+    let dist = at(rows, n, s, t);
+    if dist % 2 != 0 {
+        return false;
+    }
+    if dist != at(rows, n, t, s) {
+        return false;
+    }
+    if dist > 1125899906842624 {
+        return false;
+    }
+    if s == t {
+        return dist == 0;
+    }
+    true
+}
+
+/// The same of one row.
+fn is_row_fair(rows: &[u64], n: usize, s: usize) -> bool
+    requires small { n ≤ 2048 }
+    requires count { length rows.now ≡ n * n }
+    requires s { s < n }
+    ensures { result ≡ true → (t : ℕ) → t < n → IsFair (table_dist n rows.now) s t }
+{
+    for t in 0..n {
+        if !is_fair(rows, n, s, t) {
+            return false;
+        }
+    }
+    true
+}
+
+/// The same of all rows.
+fn are_rows_fair(rows: &[u64], n: usize) -> bool
+    requires small { n ≤ 2048 }
+    requires count { length rows.now ≡ n * n }
+    ensures { result ≡ true → (s t : ℕ) → s < n → t < n → IsFair (table_dist n rows.now) s t }
+{
+    for s in 0..n {
+        if !is_row_fair(rows, n, s) {
+            return false;
+        }
+    }
+    true
+}
+
+/// Whether no way over t is shorter than that from s.
+fn is_straight(rows: &[u64], n: usize, s: usize, t: usize) -> bool
+    requires small { n ≤ 2048 }
+    requires count { length rows.now ≡ n * n }
+    requires s { s < n }
+    requires t { t < n }
+    requires fair { (a b : ℕ) → a < n → b < n → IsFair (table_dist n rows.now) a b }
+    ensures { result ≡ true → IsStraight n (table_dist n rows.now) s t }
+{
+    let first = at(rows, n, s, t);
+    for u in 0..n {
+        if at(rows, n, s, u) > first + at(rows, n, t, u) {
+            return false;
+        }
+    }
+    true
+}
+
+/// The same from s over any other one.
+fn is_row_straight(rows: &[u64], n: usize, s: usize) -> bool
+    requires small { n ≤ 2048 }
+    requires count { length rows.now ≡ n * n }
+    requires s { s < n }
+    requires fair { (a b : ℕ) → a < n → b < n → IsFair (table_dist n rows.now) a b }
+    ensures { result ≡ true → (t : ℕ) → t < n → IsStraight n (table_dist n rows.now) s t }
+{
+    for t in 0..n {
+        if !is_straight(rows, n, s, t) {
+            return false;
+        }
+    }
+    true
+}
+
+/// The same from each one.
+fn are_rows_straight(rows: &[u64], n: usize) -> bool
+    requires small { n ≤ 2048 }
+    requires count { length rows.now ≡ n * n }
+    requires fair { (a b : ℕ) → a < n → b < n → IsFair (table_dist n rows.now) a b }
+    ensures { result ≡ true → (s t : ℕ) → s < n → t < n → IsStraight n (table_dist n rows.now) s t }
+{
+    for s in 0..n {
+        if !is_row_straight(rows, n, s) {
+            return false;
+        }
+    }
+    true
+}
+
+/// Whether these rows are distances.
+pub fn is_table(rows: &[u64], n: usize) -> bool
+    ensures { result ≡ true → IsTable (record { size = n; rows = rows.now }) }
+{
+    if n > 2048 {
+        return false;
+    }
+    if n % 2 != 0 {
+        return false;
+    }
+    if rows.len() != n * n {
+        return false;
+    }
+    if !are_rows_fair(rows, n) {
+        return false;
+    }
+    are_rows_straight(rows, n)
+}
