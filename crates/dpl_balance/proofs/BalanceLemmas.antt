@@ -27,13 +27,15 @@ pub record AreTurnedBy (f : Fragments) (net : Net) (old new : List Bool) (number
 number_at : List ℕ → ℕ → ℕ
 number_at number v = get_or number v 0
 
-pub whole_components : (f : Fragments) (net : Net) (old new : List Bool) (number : List ℕ) (turned : List Bool) → AreTurnedBy f net old new number turned → AreTurned net old new
+pub whole_components : (f : Fragments) (net : Net) (old new : List Bool) (number : List ℕ) (turned : List Bool) →
+    AreTurnedBy f net old new number turned → AreTurned net old new
 whole_components f net old new number turned t = record {
   long = t.long;
   whole = λ u v l m e.
       let n = t.nodes in let o = t.one in
       let same : get_or number v 0 ≡ get_or number u 0 = eqb-true _ _ (one_number net number t.components u v l m ∙ e) in
-      let side : (w : ℕ) → w < net.graph.nodes → agree (colour_of old w) (colour_of new w) ≡ agree true (turn (get_or turned (get_or number w 0) false) true) = λ w k.
+      let side : (w : ℕ) → w < net.graph.nodes → agree (colour_of old w) (colour_of new w) ≡ agree true
+      (turn (get_or turned (get_or number w 0) false) true) = λ w k.
       ap (agree (colour_of old w)) (t.each w (omega arith)) ∙ turn_same (get_or turned (get_or number w 0) false) (colour_of old w) in
       side u l ∙ ap (λ c. agree true (turn (get_or turned c false) true)) (sym same) ∙ sym (side v m);
 }
@@ -50,42 +52,54 @@ difference_turned true g = flip (g true) (g false) where
 difference_turned false g = refl
 
 -- what a component has on a mask after it was turned over or not
-new_side : (f : Fragments) (net : Net) (old new : List Bool) (number : List ℕ) (turned : List Bool) → AreTurnedBy f net old new number turned → (c : ℕ) (b : Bool) → component_area f.rects number c b new ≡ component_area f.rects number c (turn (get_or turned c false) b) old
+new_side : (f : Fragments) (net : Net) (old new : List Bool) (number : List ℕ) (turned : List Bool) →
+    AreTurnedBy f net old new number turned → (c : ℕ) (b : Bool) →
+    component_area f.rects number c b new ≡ component_area f.rects number c (turn (get_or turned c false) b) old
 new_side f net old new number turned t c b =
     let o = t.one in
-    turned_side (length f.rects) c (λ v. get_or number v 0) (colour_of old) (colour_of new) (λ c. get_or turned c false) (area_at f.rects) b (λ v l. t.each v (omega arith))
+    turned_side (length f.rects) c (λ v. get_or number v 0) (colour_of old) (colour_of new) (λ c. get_or turned c false)
+    (area_at f.rects) b (λ v l. t.each v (omega arith))
 
 -- what all components have on a mask
-pub all_sides : (f : Fragments) (net : Net) (old new : List Bool) (number : List ℕ) (turned : List Bool) (on_a on_b : List ℕ) → AreTurnedBy f net old new number turned → length on_a ≡ length turned
-    → ((c : ℕ) → c < length on_a → get_or on_a c 0 ≡ component_area f.rects number c false old) → ((c : ℕ) → c < length on_a → get_or on_b c 0 ≡ component_area f.rects number c true old)
+pub all_sides : (f : Fragments) (net : Net) (old new : List Bool) (number : List ℕ) (turned : List Bool)
+    (on_a on_b : List ℕ) → AreTurnedBy f net old new number turned → length on_a ≡ length turned
+    → ((c : ℕ) → c < length on_a → get_or on_a c 0 ≡ component_area f.rects number c false old) →
+    ((c : ℕ) → c < length on_a → get_or on_b c 0 ≡ component_area f.rects number c true old)
     → (b : Bool) → total_after on_a on_b turned b ≡ fragments_area f.rects all_fragments b new
 all_sides f net old new number turned on_a on_b t long a_is b_is b =
     sum_same (length on_a) (λ c. true) (λ c. true) (λ c. cells_by turned b (part_at on_a on_b c)) (λ c. component_area f.rects number c b new) (λ c l. refl)
     (λ c l. part_is (turn (get_or turned c false) b) c l ∙ sym (new_side f net old new number turned t c b))
     ∙ sum_shared (length f.rects) (length on_a) (λ v. get_or number v 0) (λ v. agree (colour_of new v) b) (area_at f.rects)
-    (λ v l. let n = t.nodes in let k = t.components.long in let m : get_or number v 0 < length turned = t.within v 0 (omega arith) in omega (arith, m, long)) where
+    (λ v l. let n = t.nodes in let k = t.components.long in let m : get_or number v 0 < length turned =
+    t.within v 0 (omega arith) in omega (arith, m, long)) where
       part_is : (b : Bool) (c : ℕ) → c < length on_a → cond {A = ℕ} b (get_or on_b c 0) (get_or on_a c 0) ≡ component_area f.rects number c b old
       part_is true c l = b_is c l
       part_is false c l = a_is c l
 
 -- the difference of a component is that of its two sides
-one_side : (f : Fragments) (net : Net) (old new : List Bool) (number : List ℕ) (turned : List Bool) → AreTurnedBy f net old new number turned → (u c : ℕ) → u < net.graph.nodes → get_or number u 0 ≡ c → (b : Bool)
+one_side : (f : Fragments) (net : Net) (old new : List Bool) (number : List ℕ) (turned : List Bool) →
+    AreTurnedBy f net old new number turned → (u c : ℕ) → u < net.graph.nodes → get_or number u 0 ≡ c → (b : Bool)
     → fragments_area f.rects (are_one_component net u) b new ≡ component_area f.rects number c (turn (get_or turned c false) b) old
 one_side f net old new number turned t u c l e b =
     let n = t.nodes in
-    sum_same (length f.rects) (λ v. are_one_component net u v && agree (colour_of new v) b) (λ v. (get_or number v 0 == c) && agree (colour_of new v) b) (area_at f.rects) (area_at f.rects)
-    (λ v m. ap (λ z. z && agree (colour_of new v) b) (sym (one_number net number t.components u v l (omega arith)) ∙ ap (λ z. get_or number v 0 == z) e)) (λ v m. refl)
+    sum_same (length f.rects) (λ v. are_one_component net u v && agree (colour_of new v) b)
+    (λ v. (get_or number v 0 == c) && agree (colour_of new v) b) (area_at f.rects) (area_at f.rects)
+    (λ v m. ap (λ z. z && agree (colour_of new v) b) (sym (one_number net number t.components u v l (omega arith)) ∙
+    ap (λ z. get_or number v 0 == z) e)) (λ v m. refl)
     ∙ new_side f net old new number turned t c b
 
-side_difference : (f : Fragments) (net : Net) (old new : List Bool) (number : List ℕ) (turned : List Bool) → AreTurnedBy f net old new number turned → (most : ℕ)
-    → ((u : ℕ) → u < net.graph.nodes → mask_difference f (are_one_component net u) new ≤ most) → (c : ℕ) → difference (component_area f.rects number c false old) (component_area f.rects number c true old) ≤ most
+side_difference : (f : Fragments) (net : Net) (old new : List Bool) (number : List ℕ) (turned : List Bool) →
+    AreTurnedBy f net old new number turned → (most : ℕ)
+    → ((u : ℕ) → u < net.graph.nodes → mask_difference f (are_one_component net u) new ≤ most) → (c : ℕ) →
+    difference (component_area f.rects number c false old) (component_area f.rects number c true old) ≤ most
 side_difference f net old new number turned t most each c = elim (some_passes (length f.rects) (λ v. get_or number v 0 == c)) [
   | inl (u, l, e) ↦
       let n = t.nodes in
       let inside : u < net.graph.nodes = omega arith in
       let side = one_side f net old new number turned t u c inside (eqb-true _ _ e) in
       let zones = zones_area f.cuts (are_one_component net u) new in
-      let one : mask_difference f (are_one_component net u) new ≡ difference (component_area f.rects number c false old) (component_area f.rects number c true old) =
+      let one : mask_difference f (are_one_component net u) new ≡ difference (component_area f.rects number c false old)
+      (component_area f.rects number c true old) =
       difference_both (fragments_area f.rects (are_one_component net u) false new) (fragments_area f.rects (are_one_component net u) true new) zones
       ∙ ap (λ x. difference x (fragments_area f.rects (are_one_component net u) true new)) (side false)
       ∙ ap (λ y. difference (component_area f.rects number c (turn (get_or turned c false) false) old) y) (side true)
@@ -93,15 +107,19 @@ side_difference f net old new number turned t most each c = elim (some_passes (l
       let D : ℕ → Type 0 = λ d. d ≤ most in
       subst D one (each u inside)
   | inr none ↦
-      let empty : (b : Bool) → component_area f.rects number c b old ≡ 0 = λ b. sum_none (length f.rects) (λ v. (get_or number v 0 == c) && agree (colour_of old v) b) (area_at f.rects) (λ v l. and_left _ _ (none v l)) in
+      let empty : (b : Bool) → component_area f.rects number c b old ≡ 0 =
+      λ b. sum_none (length f.rects) (λ v. (get_or number v 0 == c) && agree (colour_of old v) b) (area_at f.rects)
+      (λ v l. and_left _ _ (none v l)) in
       nothing (component_area f.rects number c false old) (component_area f.rects number c true old) most (empty false) (empty true)
 ] where
   nothing : (x y most : ℕ) → x ≡ 0 → y ≡ 0 → difference x y ≤ most
   nothing x y most e f = omega arith
 
 -- the areas of the masks are about the same
-pub balanced_by : (f : Fragments) (net : Net) (old new : List Bool) (number : List ℕ) (turned : List Bool) (on_a on_b : List ℕ) → AreTurnedBy f net old new number turned → length on_a ≡ length turned
-    → ((c : ℕ) → c < length on_a → get_or on_a c 0 ≡ component_area f.rects number c false old) → ((c : ℕ) → c < length on_a → get_or on_b c 0 ≡ component_area f.rects number c true old)
+pub balanced_by : (f : Fragments) (net : Net) (old new : List Bool) (number : List ℕ) (turned : List Bool)
+    (on_a on_b : List ℕ) → AreTurnedBy f net old new number turned → length on_a ≡ length turned
+    → ((c : ℕ) → c < length on_a → get_or on_a c 0 ≡ component_area f.rects number c false old) →
+    ((c : ℕ) → c < length on_a → get_or on_b c 0 ≡ component_area f.rects number c true old)
     → AreEven on_a on_b turned → AreBalanced f net new
 balanced_by f net old new number turned on_a on_b t long a_is b_is even most each =
     let sides = all_sides f net old new number turned on_a on_b t long a_is b_is in
@@ -112,4 +130,6 @@ balanced_by f net old new number turned on_a on_b t long a_is b_is even most eac
     let D : ℕ → Type 0 = λ x. difference x (total_after on_a on_b turned true) ≤ most in
     let E : ℕ → Type 0 = λ y. difference (fragments_area f.rects all_fragments false new) y ≤ most in
     let F : ℕ → Type 0 = λ d. d ≤ most in
-    subst F (sym (difference_both (fragments_area f.rects all_fragments false new) (fragments_area f.rects all_fragments true new) (zones_area f.cuts all_fragments new))) (subst E (sides true) (subst D (sides false) bound))
+    subst F (sym (difference_both (fragments_area f.rects all_fragments false new)
+    (fragments_area f.rects all_fragments true new) (zones_area f.cuts all_fragments new)))
+    (subst E (sides true) (subst D (sides false) bound))

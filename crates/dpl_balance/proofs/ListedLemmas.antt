@@ -1,5 +1,7 @@
 -- The cells of rectangles of which no two share a cell, listed.
-use Rattle.std.proofs.Common.{arith, ◌≡◌, ◌↔◌, ◌+◌, ◌*◌, ◌<◌, ◌≤◌, ◌⊎◌, inl, inr, ℕ, zero, suc, ℤ, pos, ◌+ℤ◌, ◌-ℤ◌, ◌<ℤ◌, ◌≤ℤ◌, List, [], ◌∷◌, ◌++◌, length, refl, sym, ap, subst, ◌∙◌, All, Any, AllPairs, Contains, get_or, length-append}
+use Rattle.std.proofs.Common.{arith, ◌≡◌, ◌↔◌, ◌+◌, ◌*◌, ◌<◌, ◌≤◌, ◌⊎◌, inl, inr, ℕ, zero, suc, ℤ, pos, ◌+ℤ◌, ◌-ℤ◌}
+use Rattle.std.proofs.Common.{◌<ℤ◌, ◌≤ℤ◌, List, [], ◌∷◌, ◌++◌, length, refl, sym, ap, subst, ◌∙◌, All, Any, AllPairs}
+use Rattle.std.proofs.Common.{Contains, get_or, length-append}
 use Rattle.std.specs.Prelude.{sum_by}
 use Rattle.std.specs.Int.RustNames.{unsigned_abs}
 use Rattle.std.proofs.lemmas.Int.{by_lt_z}
@@ -24,7 +26,9 @@ all_contained P xs each k d l = each (get_or xs k d) (Contains-get_or xs k d l)
 
 -- lists without a common cell
 apart_lists : (xs ys : List Cell) → AllPairs Differ xs → AllPairs Differ ys → ((p : Cell) → Contains xs p → Contains ys p → ⊥) → AllPairs Differ (xs ++ ys)
-apart_lists xs ys a b none = all_pairs_append Differ xs ys a b (λ i j d l m e. none (get_or xs i d) (Contains-get_or xs i d l) (let P : Cell → Type 0 = Contains ys in subst P (sym e) (Contains-get_or ys j d m)))
+apart_lists xs ys a b none = all_pairs_append Differ xs ys a b
+    (λ i j d l m e. none (get_or xs i d) (Contains-get_or xs i d l)
+    (let P : Cell → Type 0 = Contains ys in subst P (sym e) (Contains-get_or ys j d m)))
 
 -- ---- a row
 
@@ -165,12 +169,14 @@ cells_held [] a b h (k, s, l, e, i) = absurd (omega (arith, l))
 cells_held (r ∷ rs) a b h (zero, s, l, e, i) =
     let P : Corners → Type 0 = λ s. IsIn s a b in
     Contains-append_left (cells_of r) (all_cells rs) (a, b) (cells_have r a b (all_head IsProper r rs h) (subst P (sym e) i))
-cells_held (r ∷ rs) a b h (suc k, s, l, e, i) = Contains-append_right (cells_of r) (all_cells rs) (a, b) (cells_held rs a b (all_tail IsProper r rs h) (k, s, omega (arith, l), e, i))
+cells_held (r ∷ rs) a b h (suc k, s, l, e, i) = Contains-append_right (cells_of r) (all_cells rs) (a, b)
+    (cells_held rs a b (all_tail IsProper r rs h) (k, s, omega (arith, l), e, i))
 
 cells_once : (rs : List Corners) → All IsProper rs → AllPairs AreApart rs → AllPairs Differ (all_cells rs)
 unfolding all_cells cells_of
 cells_once [] h a = λ i j d l m. absurd (omega (arith, m))
-cells_once (r ∷ rs) h a = apart_lists (cells_of r) (all_cells rs) (block_once r.x1 r.y1 _ _) (cells_once rs (all_tail IsProper r rs h) (pairs_tail AreApart r rs a))
+cells_once (r ∷ rs) h a = apart_lists (cells_of r) (all_cells rs) (block_once r.x1 r.y1 _ _)
+    (cells_once rs (all_tail IsProper r rs h) (pairs_tail AreApart r rs a))
     (λ p c d.
     let one = in_cells r p (all_head IsProper r rs h) c in
     let (k, s, l, e, other) = held_cells rs p (all_tail IsProper r rs h) d in
@@ -180,7 +186,9 @@ cells_once (r ∷ rs) h a = apart_lists (cells_of r) (all_cells rs) (block_once 
 cells_long : (rs : List Corners) → length (all_cells rs) ≡ sum_by area_of rs
 unfolding all_cells cells_of
 cells_long [] = refl
-cells_long (r ∷ rs) = length-append (cells_of r) (all_cells rs) ∙ omega (arith, block_long r.x1 r.y1 (unsigned_abs (r.x2 -ℤ r.x1)) (unsigned_abs (r.y2 -ℤ r.y1)), cells_long rs) ∙ sym (sum_by-cons area_of r rs)
+cells_long (r ∷ rs) = length-append (cells_of r) (all_cells rs) ∙
+    omega (arith, block_long r.x1 r.y1 (unsigned_abs (r.x2 -ℤ r.x1)) (unsigned_abs (r.y2 -ℤ r.y1)), cells_long rs) ∙
+    sym (sum_by-cons area_of r rs)
 
 -- rectangles of which no two share a cell have as many cells as their sizes sum to
 pub apart_cells : (rs : List Corners) → All IsProper rs → AllPairs AreApart rs → HasCells (HoldCell rs) (sum_by area_of rs)

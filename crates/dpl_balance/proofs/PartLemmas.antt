@@ -1,5 +1,6 @@
 -- The list of all components, in any order.
-use Rattle.std.proofs.Common.{arith, inl, inr, ◌≡◌, ◌<◌, ◌≤◌, ◌==◌, ℕ, zero, suc, Bool, true, false, List, [], ◌∷◌, ◌++◌, length, refl, sym, ap, subst, ◌∙◌, All, length-append, take, drop}
+use Rattle.std.proofs.Common.{arith, inl, inr, ◌≡◌, ◌<◌, ◌≤◌, ◌==◌, ℕ, zero, suc, Bool, true, false, List, [], ◌∷◌}
+use Rattle.std.proofs.Common.{◌++◌, length, refl, sym, ap, subst, ◌∙◌, All, length-append, take, drop}
 use Rattle.std.specs.Prelude.{sum_by, IsPermutation}
 use Rattle.std.specs.List.{IsDistinct, list_any}
 use Rattle.std.proofs.lemmas.Bool.{cases_Bool, eqb-true, eq-eqb, ne_eqb, both_ways}
@@ -48,7 +49,8 @@ distinct_parts a b (suc k) = IsDistinct-push (record {
   refl = λ x. eq-eqb x.number x.number refl;
   symm = flips;
   congr = λ x y z e. ap (λ n. n == z.number) (eqb-true x.number y.number e);
-}) (parts_below a b k) (part_at a b k) (distinct_parts a b k) (none_after (parts_below a b k) (part_at a b k) (all_parts a b (λ (q : Part). q.number < k) k (λ c l. l)))
+}) (parts_below a b k) (part_at a b k) (distinct_parts a b k)
+    (none_after (parts_below a b k) (part_at a b k) (all_parts a b (λ (q : Part). q.number < k) k (λ c l. l)))
 
 -- ---- the same of the parts in another order
 
@@ -58,15 +60,18 @@ moved_distinct a b k parts p = IsDistinct-IsPermutation have_one_number flips (p
 pub moved_long : (a b : List ℕ) (k : ℕ) (parts : List Part) → IsPermutation (parts_below a b k) parts → length parts ≡ k
 moved_long a b k parts p = length_permutation (parts_below a b k) parts p ∙ parts_long a b k
 
-pub moved_all : (a b : List ℕ) (k : ℕ) (parts : List Part) (P : Part → Type 0) → IsPermutation (parts_below a b k) parts → ((c : ℕ) → c < k → P (part_at a b c)) → All P parts
+pub moved_all : (a b : List ℕ) (k : ℕ) (parts : List Part) (P : Part → Type 0) →
+    IsPermutation (parts_below a b k) parts → ((c : ℕ) → c < k → P (part_at a b c)) → All P parts
 moved_all a b k parts P p each = All-permutation P (parts_below a b k) parts p (all_parts a b P k each)
 
-pub moved_sum : (a b : List ℕ) (k : ℕ) (parts : List Part) (f : Part → ℕ) → IsPermutation (parts_below a b k) parts → sum_by f parts ≡ sum_on (λ c. true) (λ c. f (part_at a b c)) k
+pub moved_sum : (a b : List ℕ) (k : ℕ) (parts : List Part) (f : Part → ℕ) → IsPermutation (parts_below a b k) parts →
+    sum_by f parts ≡ sum_on (λ c. true) (λ c. f (part_at a b c)) k
 moved_sum a b k parts f p = sum_by-IsPermutation f (parts_below a b k) parts p ∙ sum_parts a b f k
 
 -- what settling the parts in some order leaves of the components
 pub even_in_order : (a b : List ℕ) (parts : List Part) (turned : List Bool) → IsPermutation (parts_below a b (length a)) parts
-    → ((most : ℕ) → All (IsUnlike most) parts → difference (sum_by (cells_by turned false) parts) (sum_by (cells_by turned true) parts) ≤ most) → AreEven a b turned
+    → ((most : ℕ) → All (IsUnlike most) parts → difference (sum_by (cells_by turned false) parts)
+    (sum_by (cells_by turned true) parts) ≤ most) → AreEven a b turned
 even_in_order a b parts turned p even most each =
     let l : sum_by (cells_by turned false) parts ≡ total_after a b turned false = moved_sum a b (length a) parts (cells_by turned false) p in
     let r : sum_by (cells_by turned true) parts ≡ total_after a b turned true = moved_sum a b (length a) parts (cells_by turned true) p in

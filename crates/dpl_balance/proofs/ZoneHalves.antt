@@ -1,5 +1,7 @@
 -- The zone at a cut has two halves, one in each of the two fragments, and no two zones share a cell.
-use Rattle.std.proofs.Common.{arith, ◌≡◌, ◌+◌, ◌*◌, ◌/◌, ◌%◌, ◌<◌, ◌≤◌, ◌⊎◌, inl, inr, ℕ, ℤ, pos, ◌+ℤ◌, ◌-ℤ◌, ◌<ℤ◌, ◌≤ℤ◌, Bool, true, false, List, length, refl, sym, ap, subst, ◌∙◌, All, get_or, map, AllPairs}
+use Rattle.std.proofs.Common.{arith, ◌≡◌, ◌+◌, ◌*◌, ◌/◌, ◌%◌, ◌<◌, ◌≤◌, ◌⊎◌, inl, inr, ℕ, ℤ, pos, ◌+ℤ◌, ◌-ℤ◌, ◌<ℤ◌}
+use Rattle.std.proofs.Common.{◌≤ℤ◌, Bool, true, false, List, length, refl, sym, ap, subst, ◌∙◌, All, get_or, map}
+use Rattle.std.proofs.Common.{AllPairs}
 use Rattle.std.specs.Int.RustNames.{unsigned_abs}
 use Rattle.std.proofs.lemmas.Int.{by_lt_z}
 use Rattle.std.proofs.lemmas.Bool.{cases_eq}
@@ -34,9 +36,11 @@ other_part tile a b c d x y = by_way (lies_along_x tile) refl where
   by_way false e = rw e (λ i w. record { column = i.column; row = w })
 
 -- the cell of a tile at another position, in the same row or column
-cell_at : (tile : Corners) (a b c d x y p : ℤ) → IsIn (part_of tile a b) x y → IsWithin c d p → (x' : ℤ) × (y' : ℤ) × IsIn (part_of tile c d) x' y' × (position_of tile x' y' ≡ p)
+cell_at : (tile : Corners) (a b c d x y p : ℤ) → IsIn (part_of tile a b) x y → IsWithin c d p → (x' : ℤ) × (y' : ℤ) ×
+    IsIn (part_of tile c d) x' y' × (position_of tile x' y' ≡ p)
 cell_at tile a b c d x y p = by_way (lies_along_x tile) refl where
-  by_way : (along : Bool) → lies_along_x tile ≡ along → IsIn (part_of tile a b) x y → IsWithin c d p → (x' : ℤ) × (y' : ℤ) × IsIn (part_of tile c d) x' y' × (position_of tile x' y' ≡ p)
+  by_way : (along : Bool) → lies_along_x tile ≡ along → IsIn (part_of tile a b) x y → IsWithin c d p → (x' : ℤ) ×
+      (y' : ℤ) × IsIn (part_of tile c d) x' y' × (position_of tile x' y' ≡ p)
   by_way true e = rw e (λ i w. (p, y, record { column = w; row = i.row }, refl))
   by_way false e = rw e (λ i w. (x, p, record { column = i.column; row = w }, refl))
 
@@ -45,7 +49,9 @@ cell_at tile a b c d x y p = by_way (lies_along_x tile) refl where
 in_middle : (a b : ℤ) → a <ℤ b → IsWithin a b (middle a b)
 in_middle a b h = record { from = omega signed; to = omega signed }
 
-rooms_apart : (cells : ℤ → ℤ → Bool) (keep : List Corners) (space over : ℕ) (tile : Corners) (c d : ℤ) → IsCutAt cells keep space over tile c → IsCutAt cells keep space over tile d → c <ℤ d → (c +ℤ pos (over / 2)) ≤ℤ (d -ℤ pos (over / 2))
+rooms_apart : (cells : ℤ → ℤ → Bool) (keep : List Corners) (space over : ℕ) (tile : Corners) (c d : ℤ) →
+    IsCutAt cells keep space over tile c → IsCutAt cells keep space over tile d → c <ℤ d →
+    (c +ℤ pos (over / 2)) ≤ℤ (d -ℤ pos (over / 2))
 rooms_apart cells keep space over tile c d s t l =
     let low : t.from ≤ℤ (d -ℤ pos (over / 2)) = rw t.at (half_room t.from t.to over t.long) in
     let high : (c +ℤ pos (over / 2)) ≤ℤ s.to = rw s.at (half_room' s.from s.to over s.long) in
@@ -71,7 +77,9 @@ rooms_apart cells keep space over tile c d s t l =
       chain a b c d h g k = omega signed
 
 -- the fragment before a cut has room for half of the zone, and so has the one behind
-room_before : (cells : ℤ → ℤ → Bool) (keep : List Corners) (space over : ℕ) (tile : Corners) (from at : ℤ) → IsBetweenCuts cells keep space over tile from at → IsCutAt cells keep space over tile at → from ≤ℤ (at -ℤ pos (over / 2))
+room_before : (cells : ℤ → ℤ → Bool) (keep : List Corners) (space over : ℕ) (tile : Corners) (from at : ℤ) →
+    IsBetweenCuts cells keep space over tile from at → IsCutAt cells keep space over tile at →
+    from ≤ℤ (at -ℤ pos (over / 2))
 room_before cells keep space over tile from at f t = elim f.low [
   | inl e ↦
       let (l, r) = maximal_inside cells keep space tile t.from t.to t.free in
@@ -85,7 +93,9 @@ room_before cells keep space over tile from at f t = elim f.low [
   nearer : (a b : ℤ) (h : ℕ) → (a +ℤ pos h) ≤ℤ (b -ℤ pos h) → a ≤ℤ (b -ℤ pos h)
   nearer a b h g = omega signed
 
-room_behind : (cells : ℤ → ℤ → Bool) (keep : List Corners) (space over : ℕ) (tile : Corners) (at to : ℤ) → IsBetweenCuts cells keep space over tile at to → IsCutAt cells keep space over tile at → (at +ℤ pos (over / 2)) ≤ℤ to
+room_behind : (cells : ℤ → ℤ → Bool) (keep : List Corners) (space over : ℕ) (tile : Corners) (at to : ℤ) →
+    IsBetweenCuts cells keep space over tile at to → IsCutAt cells keep space over tile at →
+    (at +ℤ pos (over / 2)) ≤ℤ to
 room_behind cells keep space over tile at to f t = elim f.high [
   | inl e ↦
       let (l, r) = maximal_inside cells keep space tile t.from t.to t.free in
@@ -100,7 +110,9 @@ room_behind cells keep space over tile at to f t = elim f.high [
   nearer a b h g = omega signed
 
 -- the fragment behind another one begins at a cut
-meets_cut : (cells : ℤ → ℤ → Bool) (keep : List Corners) (space over : ℕ) (tile r s : Corners) → 2 ≤ over → (f : IsFragment cells keep space over tile r) (g : IsFragment cells keep space over tile s) → f.to ≡ g.from → IsCutAt cells keep space over tile f.to
+meets_cut : (cells : ℤ → ℤ → Bool) (keep : List Corners) (space over : ℕ) (tile r s : Corners) → 2 ≤ over →
+    (f : IsFragment cells keep space over tile r) (g : IsFragment cells keep space over tile s) → f.to ≡ g.from →
+    IsCutAt cells keep space over tile f.to
 meets_cut cells keep space over tile r s wide f g e = elim f.between.high [
   | inr c ↦ c
   | inl q ↦ absurd (elim g.between.high [
@@ -150,7 +162,8 @@ pub record IsHere (keep : List Corners) (space over : ℕ) (tiles : List Corners
 abbrev pub IsCutOf : ℕ → List Corners → Fragments → Cut → Type 0
 IsCutOf over tiles f c = IsCut over tiles (map corners_of f.rects) f.tile c.a c.b (corners_of c.zone)
 
-pub here : (keep : List Corners) (space over : ℕ) (tiles : List Corners) (label : List ℕ) (f : Fragments) (c : Cut) → 2 ≤ over → AreFragments keep space over tiles label f → IsCutOf over tiles f c → IsHere keep space over tiles f c
+pub here : (keep : List Corners) (space over : ℕ) (tiles : List Corners) (label : List ℕ) (f : Fragments) (c : Cut) →
+    2 ≤ over → AreFragments keep space over tiles label f → IsCutOf over tiles f c → IsHere keep space over tiles f c
 unfolding tile_of place_of
 here keep space over tiles label f c wide a i =
     let t = rect_at tiles (get_or f.tile c.a 0) in
@@ -158,7 +171,9 @@ here keep space over tiles label f c wide a i =
     let s = rect_at (map corners_of f.rects) c.b in
     let m : c.a < length (map corners_of f.rects) = let k = i.rising in let l = i.within in omega arith in
     let p : IsFragment (layer_of tiles) keep space over t r = (a.parts.each c.a m).fragment in
-    let q : IsFragment (layer_of tiles) keep space over t s = let P : ℕ → Type 0 = λ k. IsFragment (layer_of tiles) keep space over (rect_at tiles k) s in subst P (sym i.same) (a.parts.each c.b i.within).fragment in
+    let q : IsFragment (layer_of tiles) keep space over t s = let P : ℕ → Type 0 =
+    λ k. IsFragment (layer_of tiles) keep space over (rect_at tiles k) s in
+    subst P (sym i.same) (a.parts.each c.b i.within).fragment in
     let e : end_of t r ≡ p.to = ap (end_of t) p.is ∙ end_part t p.from p.to in
     let g : start_of t s ≡ q.from = ap (start_of t) q.is ∙ start_part t q.from q.to in
     let k = meets_cut (layer_of tiles) keep space over t r s wide p q (sym e ∙ i.meet ∙ g) in
@@ -170,7 +185,9 @@ here keep space over tiles label f c wide a i =
 within_ends : (a b c d p : ℤ) → c ≤ℤ a → b ≤ℤ d → IsWithin a b p → IsWithin c d p
 within_ends a b c d p h g w = let k = w.from in let l = w.to in record { from = omega signed; to = omega signed }
 
-pub half_in_fragment : (keep : List Corners) (space over : ℕ) (tiles : List Corners) (f : Fragments) (c : Cut) → IsHere keep space over tiles f c → (behind : Bool) (x y : ℤ) → IsIn (half_of over tiles f c behind) x y → IsIn (rect_at (rects_of f) (owner c behind)) x y
+pub half_in_fragment : (keep : List Corners) (space over : ℕ) (tiles : List Corners) (f : Fragments) (c : Cut) →
+    IsHere keep space over tiles f c → (behind : Bool) (x y : ℤ) → IsIn (half_of over tiles f c behind) x y →
+    IsIn (rect_at (rects_of f) (owner c behind)) x y
 unfolding half_of half_at
 half_in_fragment keep space over tiles f c h true x y i =
     let t = tile_of tiles f c in let at = place_of tiles f c in
@@ -179,7 +196,8 @@ half_in_fragment keep space over tiles f c h true x y i =
     let P : ℤ → Type 0 = λ z. z ≤ℤ at in
     let low : h.second.from ≤ℤ at = subst P (sym h.begins) (self at) in
     let R : Corners → Type 0 = λ z. IsIn z x y in
-    subst R (sym h.second.is) (other_part t at (at +ℤ pos (over / 2)) h.second.from h.second.to x y i (within_ends _ _ _ _ _ low room (in_part t _ _ x y i))) where
+    subst R (sym h.second.is) (other_part t at (at +ℤ pos (over / 2)) h.second.from h.second.to x y i
+    (within_ends _ _ _ _ _ low room (in_part t _ _ x y i))) where
       self : (z : ℤ) → z ≤ℤ z
       self z = omega signed
 half_in_fragment keep space over tiles f c h false x y i =
@@ -189,15 +207,18 @@ half_in_fragment keep space over tiles f c h false x y i =
     let P : ℤ → Type 0 = λ z. at ≤ℤ z in
     let high : at ≤ℤ h.first.to = subst P (sym h.ends) (self at) in
     let R : Corners → Type 0 = λ z. IsIn z x y in
-    subst R (sym h.first.is) (other_part t (at -ℤ pos (over / 2)) at h.first.from h.first.to x y i (within_ends _ _ _ _ _ room high (in_part t _ _ x y i))) where
+    subst R (sym h.first.is) (other_part t (at -ℤ pos (over / 2)) at h.first.from h.first.to x y i
+    (within_ends _ _ _ _ _ room high (in_part t _ _ x y i))) where
       self : (z : ℤ) → z ≤ℤ z
       self z = omega signed
 
-zone_is : (over : ℕ) (tiles : List Corners) (f : Fragments) (c : Cut) → IsCutOf over tiles f c → corners_of c.zone ≡ zone_at over (tile_of tiles f c) (place_of tiles f c)
+zone_is : (over : ℕ) (tiles : List Corners) (f : Fragments) (c : Cut) → IsCutOf over tiles f c →
+    corners_of c.zone ≡ zone_at over (tile_of tiles f c) (place_of tiles f c)
 unfolding tile_of place_of
 zone_is over tiles f c i = i.overlap
 
-pub half_in_zone : (over : ℕ) (tiles : List Corners) (f : Fragments) (c : Cut) → IsCutOf over tiles f c → (behind : Bool) (x y : ℤ) → IsIn (half_of over tiles f c behind) x y → IsIn (corners_of c.zone) x y
+pub half_in_zone : (over : ℕ) (tiles : List Corners) (f : Fragments) (c : Cut) → IsCutOf over tiles f c →
+    (behind : Bool) (x y : ℤ) → IsIn (half_of over tiles f c behind) x y → IsIn (corners_of c.zone) x y
 unfolding half_of half_at
 half_in_zone over tiles f c i behind x y j =
     let R : Corners → Type 0 = λ z. IsIn z x y in
@@ -218,10 +239,13 @@ half_in_zone over tiles f c i behind x y j =
       same z = omega signed
 
       by_half : (b : Bool) → IsIn (half_at over t at b) x y → IsIn (zone_at over t at) x y
-      by_half true j = other_part t at (at +ℤ pos (over / 2)) (at -ℤ pos (over / 2)) (at +ℤ pos (over / 2)) x y j (within_ends _ _ _ _ _ (low (over / 2) at) (same _) (in_part t _ _ x y j))
-      by_half false j = other_part t (at -ℤ pos (over / 2)) at (at -ℤ pos (over / 2)) (at +ℤ pos (over / 2)) x y j (within_ends _ _ _ _ _ (same _) (high (over / 2) at) (in_part t _ _ x y j))
+      by_half true j = other_part t at (at +ℤ pos (over / 2)) (at -ℤ pos (over / 2)) (at +ℤ pos (over / 2)) x y j
+          (within_ends _ _ _ _ _ (low (over / 2) at) (same _) (in_part t _ _ x y j))
+      by_half false j = other_part t (at -ℤ pos (over / 2)) at (at -ℤ pos (over / 2)) (at +ℤ pos (over / 2)) x y j
+          (within_ends _ _ _ _ _ (same _) (high (over / 2) at) (in_part t _ _ x y j))
 
-pub zone_in_halves : (over : ℕ) (tiles : List Corners) (f : Fragments) (c : Cut) → IsCutOf over tiles f c → (x y : ℤ) → IsIn (corners_of c.zone) x y → IsIn (half_of over tiles f c false) x y ⊎ IsIn (half_of over tiles f c true) x y
+pub zone_in_halves : (over : ℕ) (tiles : List Corners) (f : Fragments) (c : Cut) → IsCutOf over tiles f c → (x y : ℤ) →
+    IsIn (corners_of c.zone) x y → IsIn (half_of over tiles f c false) x y ⊎ IsIn (half_of over tiles f c true) x y
 unfolding half_of half_at
 zone_in_halves over tiles f c i x y j =
     let t = tile_of tiles f c in let at = place_of tiles f c in
@@ -258,7 +282,8 @@ half_area over tile at behind = by_way (lies_along_x tile) refl behind where
   by_way false e true = rw (e, (one (over / 2) at).1, both (over / 2) at) (sym (halves' (over / 2) (unsigned_abs (tile.x2 -ℤ tile.x1))))
   by_way false e false = rw (e, (one (over / 2) at).0, both (over / 2) at) (sym (halves' (over / 2) (unsigned_abs (tile.x2 -ℤ tile.x1))))
 
-pub half_of_area : (over : ℕ) (tiles : List Corners) (f : Fragments) (c : Cut) → IsCutOf over tiles f c → (behind : Bool) → area_of (half_of over tiles f c behind) ≡ area_of (corners_of c.zone) / 2
+pub half_of_area : (over : ℕ) (tiles : List Corners) (f : Fragments) (c : Cut) → IsCutOf over tiles f c →
+    (behind : Bool) → area_of (half_of over tiles f c behind) ≡ area_of (corners_of c.zone) / 2
 unfolding half_of
 half_of_area over tiles f c i behind = half_area over (tile_of tiles f c) (place_of tiles f c) behind ∙ ap (λ z. area_of z / 2) (sym (zone_is over tiles f c i))
 
@@ -269,7 +294,9 @@ proper_part tile a b c d = by_way (lies_along_x tile) refl where
   by_way true e = rw e (λ p l. record { wide = l; high = p.high })
   by_way false e = rw e (λ p l. record { wide = p.wide; high = l })
 
-pub half_proper : (keep : List Corners) (space over : ℕ) (tiles : List Corners) (f : Fragments) (c : Cut) → IsHere keep space over tiles f c → IsProper (rect_at (rects_of f) c.a) → (behind : Bool) → IsProper (half_of over tiles f c behind)
+pub half_proper : (keep : List Corners) (space over : ℕ) (tiles : List Corners) (f : Fragments) (c : Cut) →
+    IsHere keep space over tiles f c → IsProper (rect_at (rects_of f) c.a) → (behind : Bool) →
+    IsProper (half_of over tiles f c behind)
 unfolding half_of half_at
 half_proper keep space over tiles f c h p behind = by_half behind where
   own : IsProper (part_of (tile_of tiles f c) h.first.from h.first.to)
@@ -294,7 +321,9 @@ pub record AreHere (keep : List Corners) (space over : ℕ) (tiles : List Corner
   pub cut : (c : Cut) → IsCutOf over tiles f c → IsHere keep space over tiles f c
 
 -- the fragment before one cut and behind another: the other cut stands there where the fragment begins
-high_low : (keep : List Corners) (space over : ℕ) (tiles : List Corners) (f : Fragments) (c d : Cut) (t : Corners) → IsHere keep space over tiles f c → IsHere keep space over tiles f d → tile_of tiles f c ≡ t → tile_of tiles f d ≡ t → c.b ≡ d.a
+high_low : (keep : List Corners) (space over : ℕ) (tiles : List Corners) (f : Fragments) (c d : Cut) (t : Corners) →
+    IsHere keep space over tiles f c → IsHere keep space over tiles f d → tile_of tiles f c ≡ t →
+    tile_of tiles f d ≡ t → c.b ≡ d.a
     → (x y : ℤ) → IsIn (half_of over tiles f c true) x y → IsIn (half_of over tiles f d false) x y → ⊥
 unfolding half_of half_at
 high_low keep space over tiles f c d t h k e g same x y i j =
@@ -305,9 +334,12 @@ high_low keep space over tiles f c d t h k e g same x y i j =
     let C : Corners → Type 0 = λ z. IsCutAt (layer_of tiles) keep space over z (place_of tiles f c) in
     let D : Corners → Type 0 = λ z. IsCutAt (layer_of tiles) keep space over z (place_of tiles f d) in
     let one : start_of t (rect_at (map corners_of f.rects) c.b) ≡ place_of tiles f c =
-    ap (λ z. start_of z (rect_at (map corners_of f.rects) c.b)) (sym e) ∙ ap (start_of (tile_of tiles f c)) h.second.is ∙ start_part (tile_of tiles f c) h.second.from h.second.to ∙ h.begins in
+    ap (λ z. start_of z (rect_at (map corners_of f.rects) c.b)) (sym e) ∙
+    ap (start_of (tile_of tiles f c)) h.second.is ∙ start_part (tile_of tiles f c) h.second.from h.second.to ∙
+    h.begins in
     let other : start_of t (rect_at (map corners_of f.rects) d.a) ≡ k.first.from =
-    ap (λ z. start_of z (rect_at (map corners_of f.rects) d.a)) (sym g) ∙ ap (start_of (tile_of tiles f d)) k.first.is ∙ start_part (tile_of tiles f d) k.first.from k.first.to in
+    ap (λ z. start_of z (rect_at (map corners_of f.rects) d.a)) (sym g) ∙ ap (start_of (tile_of tiles f d)) k.first.is ∙
+    start_part (tile_of tiles f d) k.first.from k.first.to in
     let begin : place_of tiles f c ≡ k.first.from = sym one ∙ ap (λ n. start_of t (rect_at (map corners_of f.rects) n)) same ∙ other in
     let before : place_of tiles f c <ℤ place_of tiles f d = ahead _ _ _ _ begin k.first.between.some k.ends in
     let room = rooms_apart (layer_of tiles) keep space over t (place_of tiles f c) (place_of tiles f d) (subst C e h.cut) (subst D g k.cut) before in
@@ -319,15 +351,21 @@ high_low keep space over tiles f c d t h k e g same x y i j =
       crossed a b p h l m = omega signed
 
 -- two cuts behind which one fragment begins have one fragment before them
-high_high : (keep : List Corners) (space over : ℕ) (tiles : List Corners) (f : Fragments) (c d : Cut) (t : Corners) → 2 ≤ over → IsHere keep space over tiles f c → IsHere keep space over tiles f d → tile_of tiles f c ≡ t → tile_of tiles f d ≡ t → c.b ≡ d.b
+high_high : (keep : List Corners) (space over : ℕ) (tiles : List Corners) (f : Fragments) (c d : Cut) (t : Corners) →
+    2 ≤ over → IsHere keep space over tiles f c → IsHere keep space over tiles f d → tile_of tiles f c ≡ t →
+    tile_of tiles f d ≡ t → c.b ≡ d.b
     → (x y : ℤ) → IsIn (half_of over tiles f c true) x y → SharesCell (IsIn (rect_at (rects_of f) c.a)) (IsIn (rect_at (rects_of f) d.a))
 unfolding half_of half_at
 high_high keep space over tiles f c d t wide h k e g same x y i =
     let at = place_of tiles f c in
     let one : start_of t (rect_at (map corners_of f.rects) c.b) ≡ at =
-    ap (λ z. start_of z (rect_at (map corners_of f.rects) c.b)) (sym e) ∙ ap (start_of (tile_of tiles f c)) h.second.is ∙ start_part (tile_of tiles f c) h.second.from h.second.to ∙ h.begins in
+    ap (λ z. start_of z (rect_at (map corners_of f.rects) c.b)) (sym e) ∙
+    ap (start_of (tile_of tiles f c)) h.second.is ∙ start_part (tile_of tiles f c) h.second.from h.second.to ∙
+    h.begins in
     let other : start_of t (rect_at (map corners_of f.rects) d.b) ≡ place_of tiles f d =
-    ap (λ z. start_of z (rect_at (map corners_of f.rects) d.b)) (sym g) ∙ ap (start_of (tile_of tiles f d)) k.second.is ∙ start_part (tile_of tiles f d) k.second.from k.second.to ∙ k.begins in
+    ap (λ z. start_of z (rect_at (map corners_of f.rects) d.b)) (sym g) ∙
+    ap (start_of (tile_of tiles f d)) k.second.is ∙ start_part (tile_of tiles f d) k.second.from k.second.to ∙
+    k.begins in
     let places : at ≡ place_of tiles f d = sym one ∙ ap (λ n. start_of t (rect_at (map corners_of f.rects) n)) same ∙ other in
     let (x', y', j, _) = cell_at (tile_of tiles f c) at (at +ℤ pos (over / 2)) (at -ℤ pos (over / 2)) at x y (at -ℤ pos 1) i (before at over wide) in
     let P : Corners → Type 0 = λ z. IsIn (part_of z (at -ℤ pos (over / 2)) at) x' y' in
@@ -344,7 +382,9 @@ high_high keep space over tiles f c d t wide h k e g same x y i =
         back at h l = omega signed
 
 -- the fragments of two numbers share no cell
-pub numbers_apart : (f : Fragments) → AllPairs AreApart (rects_of f) → (i j : ℕ) → i < length (rects_of f) → j < length (rects_of f) → (i ≡ j → ⊥) → (x y : ℤ) → IsIn (rect_at (rects_of f) i) x y → IsIn (rect_at (rects_of f) j) x y → ⊥
+pub numbers_apart : (f : Fragments) → AllPairs AreApart (rects_of f) → (i j : ℕ) → i < length (rects_of f) →
+    j < length (rects_of f) → (i ≡ j → ⊥) → (x y : ℤ) → IsIn (rect_at (rects_of f) i) x y →
+    IsIn (rect_at (rects_of f) j) x y → ⊥
 numbers_apart f apart i j l m differ x y a b = three i j
     (λ h. apart i j nowhere h m (record { x = x; y = y; first = a; second = b }))
     differ
@@ -354,18 +394,23 @@ pub owner_within : (over : ℕ) (tiles : List Corners) (f : Fragments) (c : Cut)
 owner_within over tiles f c i true = i.within
 owner_within over tiles f c i false = let r = i.rising in let w = i.within in omega arith
 
-pub halves_apart : (keep : List Corners) (space over : ℕ) (tiles : List Corners) (f : Fragments) → AreHere keep space over tiles f → (c d : Cut) → IsCutOf over tiles f c → IsCutOf over tiles f d → c.a < d.a → (s t : Bool) → AreApart (half_of over tiles f c s) (half_of over tiles f d t)
+pub halves_apart : (keep : List Corners) (space over : ℕ) (tiles : List Corners) (f : Fragments) →
+    AreHere keep space over tiles f → (c d : Cut) → IsCutOf over tiles f c → IsCutOf over tiles f d → c.a < d.a →
+    (s t : Bool) → AreApart (half_of over tiles f c s) (half_of over tiles f d t)
 unfolding tile_of
 halves_apart keep space over tiles f a c d i j l s t shared = elim (cases_eq (owner c s) (owner d t)) [
   | inr differ ↦ numbers_apart f a.apart (owner c s) (owner d t) (owner_within over tiles f c i s) (owner_within over tiles f d j t) differ shared.x shared.y
-      (half_in_fragment keep space over tiles f c (a.cut c i) s shared.x shared.y shared.first) (half_in_fragment keep space over tiles f d (a.cut d j) t shared.x shared.y shared.second)
+      (half_in_fragment keep space over tiles f c (a.cut c i) s shared.x shared.y shared.first)
+      (half_in_fragment keep space over tiles f d (a.cut d j) t shared.x shared.y shared.second)
   | inl same ↦ by_half s t same shared.first shared.second
 ] where
   by_half : (s t : Bool) → owner c s ≡ owner d t → IsIn (half_of over tiles f c s) shared.x shared.y → IsIn (half_of over tiles f d t) shared.x shared.y → ⊥
   by_half false false e p q = omega (arith, e, l)
   by_half false true e p q = let r = j.rising in omega (arith, e, l, r)
   by_half true false e p q =
-      high_low keep space over tiles f c d (rect_at tiles (get_or f.tile c.a 0)) (a.cut c i) (a.cut d j) refl (ap (rect_at tiles) (sym (i.same ∙ ap (λ n. get_or f.tile n 0) e))) e shared.x shared.y p q
+      high_low keep space over tiles f c d (rect_at tiles (get_or f.tile c.a 0)) (a.cut c i) (a.cut d j) refl
+      (ap (rect_at tiles) (sym (i.same ∙ ap (λ n. get_or f.tile n 0) e))) e shared.x shared.y p q
   by_half true true e p q =
       a.apart c.a d.a nowhere l (let r = j.rising in let w = j.within in omega (arith, r, w))
-      (high_high keep space over tiles f c d (rect_at tiles (get_or f.tile c.a 0)) a.wide (a.cut c i) (a.cut d j) refl (ap (rect_at tiles) (sym (i.same ∙ ap (λ n. get_or f.tile n 0) e ∙ sym j.same))) e shared.x shared.y p)
+      (high_high keep space over tiles f c d (rect_at tiles (get_or f.tile c.a 0)) a.wide (a.cut c i) (a.cut d j) refl
+      (ap (rect_at tiles) (sym (i.same ∙ ap (λ n. get_or f.tile n 0) e ∙ sym j.same))) e shared.x shared.y p)

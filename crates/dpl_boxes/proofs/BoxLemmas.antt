@@ -37,7 +37,8 @@ record AreNear (a b c d : ℤ) : Type 0 where
 four_parts : (a b c d : List ℕ) → ((((66 ∷ 32 ∷ a) ++ (32 ∷ b)) ++ (32 ∷ c)) ++ (32 ∷ d)) ≡ 66 ∷ 32 ∷ (a ++ (32 ∷ (b ++ (32 ∷ (c ++ (32 ∷ (d ++ [])))))))
 four_parts a b c d = simp (append_assoc, append-nil)
 
-spaced_four : (a b c d : ℤ) → codes "B" ++ spaced a ++ spaced b ++ spaced c ++ spaced d ≡ 66 ∷ 32 ∷ (signed_decimal a ++ (32 ∷ (signed_decimal b ++ (32 ∷ (signed_decimal c ++ (32 ∷ (signed_decimal d ++ [])))))))
+spaced_four : (a b c d : ℤ) → codes "B" ++ spaced a ++ spaced b ++ spaced c ++ spaced d ≡ 66 ∷ 32 ∷
+    (signed_decimal a ++ (32 ∷ (signed_decimal b ++ (32 ∷ (signed_decimal c ++ (32 ∷ (signed_decimal d ++ [])))))))
 spaced_four a b c d = four_parts (signed_decimal a) (signed_decimal b) (signed_decimal c) (signed_decimal d)
 
 box_of-four : (a b c d : ℤ) → pos 0 ≤ℤ a → pos 0 ≤ℤ b → AreNear a b c d
@@ -53,7 +54,9 @@ box_of-four a b c d p q n =
       signed_of-signed_decimal d [] n.y refl,
     ) refl
 
-inside_four : (a b c d : ℤ) → AreNear a b c d → list_all is_inside (32 ∷ (signed_decimal a ++ (32 ∷ (signed_decimal b ++ (32 ∷ (signed_decimal c ++ (32 ∷ (signed_decimal d ++ [])))))))) ≡ true
+inside_four : (a b c d : ℤ) → AreNear a b c d → list_all is_inside
+    (32 ∷ (signed_decimal a ++ (32 ∷ (signed_decimal b ++
+    (32 ∷ (signed_decimal c ++ (32 ∷ (signed_decimal d ++ [])))))))) ≡ true
 inside_four a b c d n =
     rw (
       list_all-append is_inside (signed_decimal a) (32 ∷ (signed_decimal b ++ (32 ∷ (signed_decimal c ++ (32 ∷ (signed_decimal d ++ [])))))),
@@ -69,12 +72,37 @@ inside_four a b c d n =
 near_numbers : (b : Corners) → IsRectangle b → AreNear ((b.x2 -ℤ b.x1) *ℤ pos 2) ((b.y2 -ℤ b.y1) *ℤ pos 2) (b.x1 +ℤ b.x2) (b.y1 +ℤ b.y2)
 near_numbers b r = record { length = omega (arith, ints); width = omega (arith, ints); x = omega (arith, ints); y = omega (arith, ints) }
 
-four_in_bounds : (a b c d : ℤ) → AreNear a b c d → is_command_in_bounds (Box (record { length = unsigned_abs a; width = unsigned_abs b; centre = spot c d; direction = spot (pos 1) (pos 0) })) ≡ true
+four_in_bounds : (a b c d : ℤ) → AreNear a b c d → is_command_in_bounds
+    (Box (record {
+      length = unsigned_abs a;
+      width = unsigned_abs b;
+      centre = spot c d;
+      direction =
+          spot (pos 1) (pos 0);
+    })) ≡ true
 four_in_bounds a b c d n = rw (within (unsigned_abs a) n.length, within (unsigned_abs b) n.width, within (unsigned_abs c) n.x, within (unsigned_abs d) n.y) refl
 
 four_are_read : (a b c d : ℤ) → pos 0 ≤ℤ a → pos 0 ≤ℤ b → AreNear a b c d
-    → IsRead (record { bytes = codes "B" ++ spaced a ++ spaced b ++ spaced c ++ spaced d; command = Box (record { length = unsigned_abs a; width = unsigned_abs b; centre = spot c d; direction = spot (pos 1) (pos 0) }) })
-four_are_read a b c d p q n = rw (spaced_four a b c d) (plain_is_read 66 _ (Box (record { length = unsigned_abs a; width = unsigned_abs b; centre = spot c d; direction = spot (pos 1) (pos 0) })) refl (inside_four a b c d n) (box_of-four a b c d p q n) (four_in_bounds a b c d n))
+    → IsRead (record {
+      bytes = codes "B" ++ spaced a ++ spaced b ++ spaced c ++ spaced d;
+      command =
+          Box (record {
+            length = unsigned_abs a;
+            width = unsigned_abs b;
+            centre = spot c d;
+            direction =
+                spot (pos 1) (pos 0);
+          });
+    })
+four_are_read a b c d p q n = rw (spaced_four a b c d)
+    (plain_is_read 66 _ (Box (record {
+      length = unsigned_abs a;
+      width = unsigned_abs b;
+      centre = spot c d;
+      direction =
+          spot (pos 1) (pos 0);
+    })) refl (inside_four a b c d n) (box_of-four a b c d p q n) (four_in_bounds a b c d n))
 
 pub box_is_read : BoxesAreRead
-box_is_read b r = four_are_read ((b.x2 -ℤ b.x1) *ℤ pos 2) ((b.y2 -ℤ b.y1) *ℤ pos 2) (b.x1 +ℤ b.x2) (b.y1 +ℤ b.y2) (omega (arith, ints)) (omega (arith, ints)) (near_numbers b r)
+box_is_read b r = four_are_read ((b.x2 -ℤ b.x1) *ℤ pos 2) ((b.y2 -ℤ b.y1) *ℤ pos 2) (b.x1 +ℤ b.x2) (b.y1 +ℤ b.y2)
+    (omega (arith, ints)) (omega (arith, ints)) (near_numbers b r)

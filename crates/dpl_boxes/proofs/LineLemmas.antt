@@ -26,12 +26,16 @@ record Goes (text front : List ℕ) (ls : List Line) : Type 0 where
   ending : (cut Between (length front) (lines_text ls)).ending ≡ End
 
 -- with one more line before
-goes_on : (text front : List ℕ) (l : Line) (ls : List Line) → IsRead l → text ≡ front ++ lines_text (l ∷ ls) → Goes text (front ++ (l.bytes ++ (59 ∷ 10 ∷ []))) ls → Goes text front (l ∷ ls)
+goes_on : (text front : List ℕ) (l : Line) (ls : List Line) → IsRead l → text ≡ front ++ lines_text (l ∷ ls) →
+    Goes text (front ++ (l.bytes ++ (59 ∷ 10 ∷ []))) ls → Goes text front (l ∷ ls)
 goes_on text front l ls r e g =
     let size : length (front ++ (l.bytes ++ (59 ∷ 10 ∷ []))) ≡ length front + length l.bytes + 1 + 1 = simp length-append (omega arith) in
-    let cut_first : cut Between (length front) (lines_text (l ∷ ls)) ≡ with_span (Some (span (length front) (length front + length l.bytes))) (cut Between (length (front ++ (l.bytes ++ (59 ∷ 10 ∷ [])))) (lines_text ls))
+    let cut_first : cut Between (length front) (lines_text (l ∷ ls)) ≡ with_span
+    (Some (span (length front) (length front + length l.bytes)))
+    (cut Between (length (front ++ (l.bytes ++ (59 ∷ 10 ∷ [])))) (lines_text ls))
     = rw (lines_text-cons l ls, size) (r.cut_out (10 ∷ lines_text ls) (length front)) in
-    let part : slice_range text (length front) (length front + length l.bytes) ≡ l.bytes = rw (e, lines_text-cons l ls) (between_parts front l.bytes (59 ∷ 10 ∷ lines_text ls)) in
+    let part : slice_range text (length front) (length front + length l.bytes) ≡ l.bytes =
+    rw (e, lines_text-cons l ls) (between_parts front l.bytes (59 ∷ 10 ∷ lines_text ls)) in
     record {
       commands = rw (cut_first, part, r.read, g.commands) refl;
       ending = rw cut_first g.ending;

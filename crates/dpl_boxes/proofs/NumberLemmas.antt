@@ -43,7 +43,8 @@ list_all-weaker p q w (b ∷ bs) h =
     let s = and_parts (p b) (list_all p bs) h in
     rw (w b s.0) (list_all-weaker p q w bs s.1)
 
-digits_value-append : (m : ℕ) (ds : List ℕ) (d : ℕ) → list_all is_digit ds ≡ true → is_digit d ≡ true → digits_value m (ds ++ d ∷ []) ≡ 10 * digits_value m ds + (d - 48)
+digits_value-append : (m : ℕ) (ds : List ℕ) (d : ℕ) → list_all is_digit ds ≡ true → is_digit d ≡ true →
+    digits_value m (ds ++ d ∷ []) ≡ 10 * digits_value m ds + (d - 48)
 digits_value-append m [] d h e = rw e refl
 digits_value-append m (x ∷ ds) d h e =
     let p = and_parts (is_digit x) (list_all is_digit ds) h in
@@ -113,22 +114,43 @@ pub unsigned_of-decimal : (n : ℕ) (rest : List ℕ) → n ≤ greatest → has
 unsigned_of-decimal n rest l e =
     let small : n < 2 ^ 64 = omega arith in
     let d = digits_of-decimal n small in
-    rw (unsigned_at-digits (decimal n ++ rest) (begins-append (decimal n) rest d.some), digits_value-behind 0 (decimal n) rest d.all e, d.value, drop_while-digits (decimal n) rest d.all e, in_bounds n l) refl
+    rw (
+      unsigned_at-digits (decimal n ++ rest) (begins-append (decimal n) rest d.some),
+      digits_value-behind 0 (decimal n) rest d.all e,
+      d.value,
+      drop_while-digits (decimal n) rest d.all e,
+      in_bounds n l,
+    ) refl
 
 signed_of-decimal : (n : ℕ) (rest : List ℕ) → n ≤ greatest → has_no_digit rest ≡ true → signed_of (32 ∷ (decimal n ++ rest)) ≡ Some (pos n, rest)
 signed_of-decimal n rest l e =
     let small : n < 2 ^ 64 = omega arith in
     let d = digits_of-decimal n small in
-    rw (signed_at-digits (decimal n ++ rest) (begins-append (decimal n) rest d.some), digits_value-behind 0 (decimal n) rest d.all e, d.value, drop_while-digits (decimal n) rest d.all e, in_bounds n l) refl
+    rw (
+      signed_at-digits (decimal n ++ rest) (begins-append (decimal n) rest d.some),
+      digits_value-behind 0 (decimal n) rest d.all e,
+      d.value,
+      drop_while-digits (decimal n) rest d.all e,
+      in_bounds n l,
+    ) refl
 
-signed_of-minus : (n : ℕ) (rest : List ℕ) → suc n ≤ greatest → has_no_digit rest ≡ true → signed_of (32 ∷ 45 ∷ (decimal (suc n) ++ rest)) ≡ Some (negsuc n, rest)
+signed_of-minus : (n : ℕ) (rest : List ℕ) → suc n ≤ greatest → has_no_digit rest ≡ true →
+    signed_of (32 ∷ 45 ∷ (decimal (suc n) ++ rest)) ≡ Some (negsuc n, rest)
 signed_of-minus n rest l e =
     let small : suc n < 2 ^ 64 = omega arith in
     let d = digits_of-decimal (suc n) small in
-    rw (signed_at-minus (decimal (suc n) ++ rest) (begins-append (decimal (suc n)) rest d.some), digits_value-behind 0 (decimal (suc n)) rest d.all e, d.value, drop_while-digits (decimal (suc n)) rest d.all e, in_bounds (suc n) l, negated n) refl
+    rw (
+      signed_at-minus (decimal (suc n) ++ rest) (begins-append (decimal (suc n)) rest d.some),
+      digits_value-behind 0 (decimal (suc n)) rest d.all e,
+      d.value,
+      drop_while-digits (decimal (suc n)) rest d.all e,
+      in_bounds (suc n) l,
+      negated n,
+    ) refl
 
 -- an integer with a sign or without, and what follows it
-pub signed_of-signed_decimal : (z : ℤ) (rest : List ℕ) → unsigned_abs z ≤ greatest → has_no_digit rest ≡ true → signed_of (32 ∷ (signed_decimal z ++ rest)) ≡ Some (z, rest)
+pub signed_of-signed_decimal : (z : ℤ) (rest : List ℕ) → unsigned_abs z ≤ greatest → has_no_digit rest ≡ true →
+    signed_of (32 ∷ (signed_decimal z ++ rest)) ≡ Some (z, rest)
 signed_of-signed_decimal (pos n) rest l e = signed_of-decimal n rest l e
 signed_of-signed_decimal (negsuc n) rest l e = signed_of-minus n rest l e
 

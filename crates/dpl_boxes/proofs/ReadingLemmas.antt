@@ -32,7 +32,9 @@ nested_from_flat [] h = nothing
 nested_from_flat (b ∷ bs) h = let s = and_parts (is_flat b) (list_all is_flat bs) h in byte b bs s.0 (nested_from_flat bs s.1)
 
 comment_cut : (inner : List ℕ) → list_all is_flat inner ≡ true → (rest : List ℕ) (at : ℕ)
-    → cut Between at ((40 ∷ (inner ++ 41 ∷ [])) ++ 59 ∷ rest) ≡ with_span (Some (span at (at + length (40 ∷ (inner ++ 41 ∷ []))))) (cut Between (at + length (40 ∷ (inner ++ 41 ∷ [])) + 1) rest)
+    → cut Between at ((40 ∷ (inner ++ 41 ∷ [])) ++ 59 ∷ rest) ≡ with_span
+    (Some (span at (at + length (40 ∷ (inner ++ 41 ∷ [])))))
+    (cut Between (at + length (40 ∷ (inner ++ 41 ∷ [])) + 1) rest)
 comment_cut inner h rest at =
     let size : at + 1 + length inner + 1 + 0 ≡ at + suc (length (inner ++ 41 ∷ [])) = simp length-append (omega arith) in
     let c = comment_is_cut inner [] rest at (nested_from_flat inner h) refl in
@@ -47,7 +49,8 @@ command_of-form : (bytes : List ℕ) (command : Command) → form_of bytes ≡ S
 command_of-form bytes command f b = rw (f, command_of, b) refl
 
 -- a line that is no comment
-pub plain_is_read : (first : ℕ) (body : List ℕ) (command : Command) → begins_plain first ≡ true → list_all is_inside body ≡ true → form_of (first ∷ body) ≡ Some command → is_command_in_bounds command ≡ true
+pub plain_is_read : (first : ℕ) (body : List ℕ) (command : Command) → begins_plain first ≡ true →
+    list_all is_inside body ≡ true → form_of (first ∷ body) ≡ Some command → is_command_in_bounds command ≡ true
     → IsRead (record { bytes = first ∷ body; command = command })
 plain_is_read first body command b h f n = record { cut_out = plain_cut first body b h; read = command_of-form (first ∷ body) command f n }
 
@@ -90,4 +93,5 @@ layer_of-name name h =
     rw (drop_while-name name all, prefix_len-all name all, take-length name, drop-length name, h) refl
 
 pub layer_is_read : LayersAreRead
-layer_is_read name h = plain_is_read 76 (32 ∷ name) (Layer name) refl (list_all-weaker is_name_byte is_inside name_byte_is_inside name (name_bytes name h)) (layer_of-name name h) refl
+layer_is_read name h = plain_is_read 76 (32 ∷ name) (Layer name) refl
+    (list_all-weaker is_name_byte is_inside name_byte_is_inside name (name_bytes name h)) (layer_of-name name h) refl

@@ -1,5 +1,6 @@
 -- What lines of masks draw.
-use Rattle.std.proofs.Common.{◌≢◌, Bool, false, sym, arith, ◌≡◌, ◌≤◌, ℕ, ◌+◌, true, List, [], ◌∷◌, ◌++◌, length, map, refl, sym, ap, ◌∙◌, length-append, None, All}
+use Rattle.std.proofs.Common.{◌≢◌, Bool, false, sym, arith, ◌≡◌, ◌≤◌, ℕ, ◌+◌, true, List, [], ◌∷◌, ◌++◌, length, map}
+use Rattle.std.proofs.Common.{refl, sym, ap, ◌∙◌, length-append, None, All}
 use Rattle.std.specs.Prelude.{ℤ, ◌||◌, codes, nat_le}
 use Rattle.std.proofs.lemmas.Bool.Decides.{nat_tests}
 use Rattle.std.proofs.lemmas.List.Folds.{list_all-append}
@@ -32,9 +33,12 @@ name_with layer letter h l b =
     rw (size, some, few, list_all-append is_name_byte layer (letter ∷ []), name_bytes layer h, b) refl
 
 mask_is_read : (name : List ℕ) (boxes : List Corners) → is_name name ≡ true → All IsRectangle boxes → All IsRead (lines_of_mask name boxes)
-mask_is_read name boxes h r = All-cons IsRead _ _ (layer_is_read name h) (All-map IsRead box_line boxes (All-weaker IsRectangle (λ b. IsRead (box_line b)) box_is_read boxes r))
+mask_is_read name boxes h r = All-cons IsRead _ _ (layer_is_read name h)
+    (All-map IsRead box_line boxes (All-weaker IsRectangle (λ b. IsRead (box_line b)) box_is_read boxes r))
 
-masks_are_read : (comments : List (List ℕ)) (layer : List ℕ) (on_a on_b : List Corners) → All IsFlat comments → is_name layer ≡ true → length layer ≤ 31 → All IsRectangle on_a → All IsRectangle on_b → All IsRead (lines_of_masks comments layer on_a on_b)
+masks_are_read : (comments : List (List ℕ)) (layer : List ℕ) (on_a on_b : List Corners) → All IsFlat comments →
+    is_name layer ≡ true → length layer ≤ 31 → All IsRectangle on_a → All IsRectangle on_b →
+    All IsRead (lines_of_masks comments layer on_a on_b)
 masks_are_read comments layer on_a on_b c h l a b =
     let on_first = lines_of_mask (layer ++ codes "A") on_a in
     let on_second = lines_of_mask (layer ++ codes "B") on_b in
@@ -43,7 +47,8 @@ masks_are_read comments layer on_a on_b c h l a b =
     let last_read = All-cons IsRead finish_line (call_line ∷ []) finish_is_read (All-cons IsRead call_line [] call_is_read (All-nil IsRead)) in
     let definition_read = All-append IsRead on_first (on_second ++ last_lines) first_read (All-append IsRead on_second last_lines second_read last_read) in
     let comments_read = All-map IsRead comment_line comments (All-weaker IsFlat (λ k. IsRead (comment_line k)) comment_is_read comments c) in
-    All-append IsRead (map comment_line comments) (lines_of_definition layer on_a on_b) comments_read (All-cons IsRead start_line (on_first ++ (on_second ++ last_lines)) start_is_read definition_read)
+    All-append IsRead (map comment_line comments) (lines_of_definition layer on_a on_b) comments_read
+    (All-cons IsRead start_line (on_first ++ (on_second ++ last_lines)) start_is_read definition_read)
 
 -- what such a text draws
 
@@ -58,7 +63,8 @@ other_name : (name chosen : List ℕ) → name ≢ chosen → bytes_eq name chos
 other_name name chosen n = false_from (bytes_eq name chosen) (name ≡ chosen) (bytes_eq-Decides name chosen) n
 
 two_letters : (layer : List ℕ) → layer ++ codes "A" ≢ layer ++ codes "B"
-two_letters layer e = let f : codes "A" ≡ codes "B" = append_cancel_left layer (codes "A") (codes "B") e in let g : ◌≡◌ {A = ℕ} 65 66 = cc in absurd (omega arith)
+two_letters layer e = let f : codes "A" ≡ codes "B" = append_cancel_left layer (codes "A") (codes "B") e in
+    let g : ◌≡◌ {A = ℕ} 65 66 = cc in absurd (omega arith)
 
 cells_of_boxes : (boxes : List Corners) (x y : ℤ) → is_cell (map Box boxes) x y ≡ is_in_boxes boxes x y
 cells_of_boxes [] x y = refl
@@ -67,16 +73,25 @@ cells_of_boxes (b ∷ boxes) x y = ap (λ t. is_in_box b x y || t) (cells_of_box
 has_boxes : (name : List ℕ) (boxes : List Corners) (text : List ℕ) → primitives_of name text ≡ map Box boxes → HasBoxes name boxes text
 has_boxes name boxes text e = record { boxes_in_order = e; cells = λ x y. ap (λ ps. is_cell ps x y) e ∙ cells_of_boxes boxes x y }
 
-masks_are_drawn : (comments : List (List ℕ)) (layer : List ℕ) (on_a on_b : List Corners) (text : List ℕ) → All IsRectangle on_a → All IsRectangle on_b → Says text (lines_of_masks comments layer on_a on_b) → DrawsMasks layer on_a on_b text
+masks_are_drawn : (comments : List (List ℕ)) (layer : List ℕ) (on_a on_b : List Corners) (text : List ℕ) →
+    All IsRectangle on_a → All IsRectangle on_b → Says text (lines_of_masks comments layer on_a on_b) →
+    DrawsMasks layer on_a on_b text
 masks_are_drawn comments layer on_a on_b text a b s =
     let on_first = layer ++ codes "A" in
     let on_second = layer ++ codes "B" in
-    let clean : (chosen : List ℕ) → first_fault chosen text ≡ None = λ chosen. rw (first_fault, s.commands, s.ending) (masks_are_clean chosen comments layer on_a on_b a b) in
+    let clean : (chosen : List ℕ) → first_fault chosen text ≡ None =
+    λ chosen. rw (first_fault, s.commands, s.ending) (masks_are_clean chosen comments layer on_a on_b a b) in
     let drawn : (chosen : List ℕ) → primitives_of chosen text ≡ boxes_where (bytes_eq on_first chosen) on_a ++ boxes_where (bytes_eq on_second chosen) on_b
-    = λ chosen. rw (primitives_of, bodies_in, depth_of, s.commands, numbers_of_masks comments layer on_a on_b) (outlines_of_masks chosen comments layer on_a on_b 0 a b) in
+    = λ chosen. rw (primitives_of, bodies_in, depth_of, s.commands, numbers_of_masks comments layer on_a on_b)
+    (outlines_of_masks chosen comments layer on_a on_b 0 a b) in
     record {
       clean = clean;
-      on_first = has_boxes on_first on_a text (drawn on_first ∙ rw (same_name on_first, other_name on_second on_first (λ e. two_letters layer (sym e)), append-nil (map Box on_a)) refl);
+      on_first = has_boxes on_first on_a text (drawn on_first ∙
+          rw (
+            same_name on_first,
+            other_name on_second on_first (λ e. two_letters layer (sym e)),
+            append-nil (map Box on_a),
+          ) refl);
       on_second = has_boxes on_second on_b text (drawn on_second ∙ rw (other_name on_first on_second (two_letters layer), same_name on_second) refl);
       elsewhere = λ chosen x y. drawn chosen ∙ rw (other_name on_first chosen (λ e. x (sym e)), other_name on_second chosen (λ e. y (sym e))) refl;
     }

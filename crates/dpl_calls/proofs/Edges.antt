@@ -1,5 +1,6 @@
 -- Calls are edges between the places of definitions.
-use Rattle.std.proofs.Common.{◌≡◌, inl, inr, ℕ, zero, suc, ◌+◌, ◌<◌, Bool, true, false, cond, ◌==◌, nat_eq, List, [], ◌∷◌, map, length, Option, None, Some, refl, sym, ◌∙◌, ap, subst, arith, get_or}
+use Rattle.std.proofs.Common.{◌≡◌, inl, inr, ℕ, zero, suc, ◌+◌, ◌<◌, Bool, true, false, cond, ◌==◌, nat_eq, List, []}
+use Rattle.std.proofs.Common.{◌∷◌, map, length, Option, None, Some, refl, sym, ◌∙◌, ap, subst, arith, get_or}
 use Rattle.std.specs.List.{list_any, position}
 use Rattle.std.specs.Map.{lookup, keys_of, values_of}
 use Rattle.std.proofs.lemmas.List.{length-map}
@@ -24,7 +25,10 @@ pub placed_value : (n i : ℕ) (es : List (ℕ × List Entry)) → place_of n (k
 placed_value n i [] h = cc
 placed_value n i (e ∷ es) h = by (nat_eq n e.0) h (place_of n (keys_of es)) refl (λ j q. placed_value n j es q)
   where
-    by : (b : Bool) → cond b (Some 0) (one_further (place_of n (keys_of es))) ≡ Some i → (o : Option ℕ) → place_of n (keys_of es) ≡ o → ((j : ℕ) → place_of n (keys_of es) ≡ Some j → or_nothing (lookup (nat_eq n) es) ≡ get_or (values_of es) j []) → or_nothing (cond b (Some e.1) (lookup (nat_eq n) es)) ≡ get_or (e.1 ∷ values_of es) i []
+    by : (b : Bool) → cond b (Some 0) (one_further (place_of n (keys_of es))) ≡ Some i → (o : Option ℕ) →
+        place_of n (keys_of es) ≡ o → ((j : ℕ) → place_of n (keys_of es) ≡ Some j →
+        or_nothing (lookup (nat_eq n) es) ≡ get_or (values_of es) j []) →
+        or_nothing (cond b (Some e.1) (lookup (nat_eq n) es)) ≡ get_or (e.1 ∷ values_of es) i []
     by true f o q ih = let z : 0 ≡ i = cc in subst (λ (k : ℕ). e.1 ≡ get_or (e.1 ∷ values_of es) k []) z refl
     by false f None q ih = let bad : one_further None ≡ Some i = subst (λ (p : Option ℕ). one_further p ≡ Some i) q f in cc
     by false f (Some j) q ih =
@@ -36,7 +40,9 @@ pub absent_value : (n : ℕ) (es : List (ℕ × List Entry)) → place_of n (key
 absent_value n [] h = refl
 absent_value n (e ∷ es) h = by (nat_eq n e.0) h (place_of n (keys_of es)) refl (λ q. absent_value n es q)
   where
-    by : (b : Bool) → cond b (Some 0) (one_further (place_of n (keys_of es))) ≡ None → (o : Option ℕ) → place_of n (keys_of es) ≡ o → (place_of n (keys_of es) ≡ None → or_nothing (lookup (nat_eq n) es) ≡ []) → or_nothing (cond b (Some e.1) (lookup (nat_eq n) es)) ≡ []
+    by : (b : Bool) → cond b (Some 0) (one_further (place_of n (keys_of es))) ≡ None → (o : Option ℕ) →
+        place_of n (keys_of es) ≡ o → (place_of n (keys_of es) ≡ None → or_nothing (lookup (nat_eq n) es) ≡ []) →
+        or_nothing (cond b (Some e.1) (lookup (nat_eq n) es)) ≡ []
     by true f o q ih = cc
     by false f None q ih = ih q
     by false f (Some j) q ih = let bad : one_further (Some j) ≡ None = subst (λ (p : Option ℕ). one_further p ≡ None) q f in cc
@@ -73,7 +79,9 @@ module _ (t : Table) where
   edge_in m y h [] c = cc
   edge_in m y h (Drawn f ∷ ps) c = edge_in m y h ps c
   edge_in m y h (Called n moves ∷ ps) c = elim (or_cases (n == m) (list_any (names m) ps) c) [
-    | inl e ↦ subst (λ (o : Option ℕ). At y (with_place o (called_places numbers ps))) (sym (ap (λ (k : ℕ). place_of k numbers) (of_eq n m e) ∙ h)) (record { k = 0; within = omega arith; there = refl })
+    | inl e ↦ subst (λ (o : Option ℕ). At y (with_place o (called_places numbers ps)))
+        (sym (ap (λ (k : ℕ). place_of k numbers) (of_eq n m e) ∙ h))
+        (record { k = 0; within = omega arith; there = refl })
     | inr later ↦ at_later y (place_of n numbers) (called_places numbers ps) (edge_in m y h ps later)
   ]
 
@@ -90,7 +98,9 @@ module _ (t : Table) where
   edge_out (Drawn f ∷ ps) k h = named_later (get_or (called_places numbers ps) k 0) (Drawn f) ps (edge_out ps k h)
   edge_out (Called n moves ∷ ps) k h = by (place_of n numbers) refl k h (λ j l. edge_out ps j l)
     where
-      by : (o : Option ℕ) → place_of n numbers ≡ o → (k : ℕ) → k < length (with_place o (called_places numbers ps)) → ((j : ℕ) → j < length (called_places numbers ps) → Named (get_or (called_places numbers ps) j 0) ps) → Named (get_or (with_place o (called_places numbers ps)) k 0) (Called n moves ∷ ps)
+      by : (o : Option ℕ) → place_of n numbers ≡ o → (k : ℕ) → k < length (with_place o (called_places numbers ps)) →
+          ((j : ℕ) → j < length (called_places numbers ps) → Named (get_or (called_places numbers ps) j 0) ps) →
+          Named (get_or (with_place o (called_places numbers ps)) k 0) (Called n moves ∷ ps)
       by None e k h ih = named_later (get_or (called_places numbers ps) k 0) (Called n moves) ps (ih k h)
       by (Some i) e zero h ih = record { m = n; named = or_left (n == n) (list_any (names n) ps) (to_eq n n refl); place = e }
       by (Some i) e (suc k) h ih = named_later (get_or (called_places numbers ps) k 0) (Called n moves) ps (ih k (omega arith))
@@ -103,7 +113,9 @@ module _ (t : Table) where
 
   pub call_edge : (n m x y : ℕ) → place_of n numbers ≡ Some x → place_of m numbers ≡ Some y → calls (bodies_of t) n m ≡ true → IsEdge (graph_of t) x y
   call_edge n m x y hx hy c =
-      let a : At y (called_places numbers (body_at t x)) = edge_in m y hy (body_at t x) (subst (λ (ps : List Part). list_any (names m) ps ≡ true) (body_placed n x hx) c) in record {
+      let a : At y (called_places numbers (body_at t x)) =
+      edge_in m y hy (body_at t x) (subst (λ (ps : List Part). list_any (names m) ps ≡ true) (body_placed n x hx) c)
+      in record {
         k = a.k;
         within = subst (λ (ps : List ℕ). a.k < length ps) (sym (next_is x)) a.within;
         there = subst (λ (ps : List ℕ). get_or ps a.k 0 ≡ y) (sym (next_is x)) a.there;

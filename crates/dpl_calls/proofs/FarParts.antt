@@ -29,13 +29,16 @@ path_near s (p ∷ ps) sc h =
     let f = and_parts (is_spot_in_bounds p) (list_all is_spot_in_bounds ps) h in
     all_cons IsCornerNear (scaled_corner s p) (map (scaled_corner s) ps) (spot_near s p sc f.0) (path_near s ps sc f.1)
 
-around_near : (s : Scale) (x : ℤ) (across : ℕ) (y : ℤ) (along : ℕ) → IsScale s → unsigned_abs x ≤ 10 ^ 12 → unsigned_abs y ≤ 10 ^ 12 → across ≤ 10 ^ 12 → along ≤ 10 ^ 12 → IsFigureNear (Rectangle (scaled_extent s (around x across y along)))
+around_near : (s : Scale) (x : ℤ) (across : ℕ) (y : ℤ) (along : ℕ) → IsScale s → unsigned_abs x ≤ 10 ^ 12 →
+    unsigned_abs y ≤ 10 ^ 12 → across ≤ 10 ^ 12 → along ≤ 10 ^ 12 →
+    IsFigureNear (Rectangle (scaled_extent s (around x across y along)))
 around_near s x across y along sc hx hy ha hl = (
   record { x = scaled_near s (less x across) sc (less_near x across hx ha); y = scaled_near s (less y along) sc (less_near y along hy hl) },
   record { x = scaled_near s (more x across) sc (more_near x across hx ha); y = scaled_near s (more y along) sc (more_near y along hy hl) },
 )
 
-pub leg_near : (s : Scale) (w : ℕ) (p q : Spot) → IsScale s → w ≤ 10 ^ 12 → is_spot_in_bounds p ≡ true → is_spot_in_bounds q ≡ true → IsFigureNear (Rectangle (scaled_extent s (leg w p q)))
+pub leg_near : (s : Scale) (w : ℕ) (p q : Spot) → IsScale s → w ≤ 10 ^ 12 → is_spot_in_bounds p ≡ true →
+    is_spot_in_bounds q ≡ true → IsFigureNear (Rectangle (scaled_extent s (leg w p q)))
 leg_near s w p q sc hw hp hq =
     let f = and_parts (is_in_bounds (unsigned_abs p.x)) (is_in_bounds (unsigned_abs p.y)) hp in
     let g = and_parts (is_in_bounds (unsigned_abs q.x)) (is_in_bounds (unsigned_abs q.y)) hq in
@@ -43,11 +46,22 @@ leg_near s w p q sc hw hp hq =
     let py : unsigned_abs p.y ≤ 10 ^ 12 = in_bounds_le (unsigned_abs p.y) f.1 in
     let qx : unsigned_abs q.x ≤ 10 ^ 12 = in_bounds_le (unsigned_abs q.x) g.0 in
     let qy : unsigned_abs q.y ≤ 10 ^ 12 = in_bounds_le (unsigned_abs q.y) g.1 in (
-      record { x = scaled_near s (less (int_min p.x q.x) w) sc (less_near (int_min p.x q.x) w (min_near p.x q.x px qx) hw); y = scaled_near s (less (int_min p.y q.y) w) sc (less_near (int_min p.y q.y) w (min_near p.y q.y py qy) hw) },
-      record { x = scaled_near s (more (int_max p.x q.x) w) sc (more_near (int_max p.x q.x) w (max_near p.x q.x px qx) hw); y = scaled_near s (more (int_max p.y q.y) w) sc (more_near (int_max p.y q.y) w (max_near p.y q.y py qy) hw) },
+      record {
+        x = scaled_near s (less (int_min p.x q.x) w) sc
+            (less_near (int_min p.x q.x) w (min_near p.x q.x px qx) hw);
+        y =
+            scaled_near s (less (int_min p.y q.y) w) sc (less_near (int_min p.y q.y) w (min_near p.y q.y py qy) hw);
+      },
+      record {
+        x = scaled_near s (more (int_max p.x q.x) w) sc
+            (more_near (int_max p.x q.x) w (max_near p.x q.x px qx) hw);
+        y =
+            scaled_near s (more (int_max p.y q.y) w) sc (more_near (int_max p.y q.y) w (max_near p.y q.y py qy) hw);
+      },
     )
 
-chosen_near : (t : Bool) (s : Scale) (p q : Extent) → IsFigureNear (Rectangle (scaled_extent s p)) → IsFigureNear (Rectangle (scaled_extent s q)) → IsFigureNear (Rectangle (scaled_extent s (cond t p q)))
+chosen_near : (t : Bool) (s : Scale) (p q : Extent) → IsFigureNear (Rectangle (scaled_extent s p)) →
+    IsFigureNear (Rectangle (scaled_extent s q)) → IsFigureNear (Rectangle (scaled_extent s (cond t p q)))
 chosen_near true s p q h k = h
 chosen_near false s p q h k = k
 
@@ -61,4 +75,7 @@ box_near s b sc h =
     let y : unsigned_abs b.centre.y ≤ 10 ^ 12 = in_bounds_le (unsigned_abs b.centre.y) c.1 in
     let l : b.length ≤ 10 ^ 12 = in_bounds_le b.length e.0 in
     let w : b.width ≤ 10 ^ 12 = in_bounds_le b.width e.1 in
-    chosen_near (unsigned_abs b.direction.y == 0) s (around b.centre.x b.length b.centre.y b.width) (around b.centre.x b.width b.centre.y b.length) (around_near s b.centre.x b.length b.centre.y b.width sc x y l w) (around_near s b.centre.x b.width b.centre.y b.length sc x y w l)
+    chosen_near (unsigned_abs b.direction.y == 0) s (around b.centre.x b.length b.centre.y b.width)
+    (around b.centre.x b.width b.centre.y b.length)
+    (around_near s b.centre.x b.length b.centre.y b.width sc x y l w)
+    (around_near s b.centre.x b.width b.centre.y b.length sc x y w l)

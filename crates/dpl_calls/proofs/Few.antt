@@ -1,5 +1,6 @@
 -- A call has no more transformations than its command has bytes.
-use Rattle.std.proofs.Common.{◌≡◌, ℕ, zero, suc, ◌+◌, ◌-◌, ◌≤◌, ◌^◌, Bool, true, false, cond, ◌==◌, List, [], ◌∷◌, length, take, drop, Option, None, Some, Result, Ok, Err, refl, subst, arith, unsigned_abs}
+use Rattle.std.proofs.Common.{◌≡◌, ℕ, zero, suc, ◌+◌, ◌-◌, ◌≤◌, ◌^◌, Bool, true, false, cond, ◌==◌, List, [], ◌∷◌}
+use Rattle.std.proofs.Common.{length, take, drop, Option, None, Some, Result, Ok, Err, refl, subst, arith, unsigned_abs}
 use Rattle.std.specs.List.{prefix_len, list_all, slice_range}
 use Rattle.std.proofs.lemmas.Grind.{common_steps}
 use Rattle.dpl_lex.specs.Classes.{is_digit, is_separator, is_blank, is_name_byte, drop_while}
@@ -28,13 +29,16 @@ AllFit (Ok c ∷ rest) = (is_command_in_bounds c ≡ true) × IsFew c × AllFit 
 
 dropped : (p : ℕ → Bool) (bs : List ℕ) → length (drop_while p bs) ≤ length bs
 dropped p [] = omega arith
-dropped p (b ∷ bs) = elim (p b) as (λ t. length (cond t (drop_while p bs) (b ∷ bs)) ≤ suc (length bs)) [ true ↦ omega (arith, dropped p bs) | false ↦ omega arith ]
+dropped p (b ∷ bs) = elim (p b) as (λ t. length (cond t (drop_while p bs) (b ∷ bs)) ≤ suc (length bs))
+    [ true ↦ omega (arith, dropped p bs) | false ↦ omega arith ]
 
 digits_left : (of : ℕ → Num) (all bs : List ℕ) → length bs ≤ length all → length (digits_at of all bs).1 ≤ length all
 digits_left of all [] h = omega arith
 digits_left of all (b ∷ bs) h = split (is_digit b) (dropped is_digit (b ∷ bs))
   where
-    split : (t : Bool) → length (drop_while is_digit (b ∷ bs)) ≤ suc (length bs) → length (cond {A = Num × List ℕ} t (of (digits_value 0 (b ∷ bs)), drop_while is_digit (b ∷ bs)) (Nothing, all)).1 ≤ length all
+    split : (t : Bool) → length (drop_while is_digit (b ∷ bs)) ≤ suc (length bs) →
+        length (cond {A = Num × List ℕ} t (of (digits_value 0 (b ∷ bs)), drop_while is_digit (b ∷ bs)) (Nothing, all)).1
+        ≤ length all
     split true k = omega arith
     split false k = omega arith
 
@@ -50,7 +54,8 @@ on_bind : {A : Type 0} (o : Option A) (f : A → Option Command) → ((x : A) �
 on_bind None f h = tt
 on_bind (Some x) f h = h x
 
-on_when : {A : Type 0} (o : Option A) (then : A → Option Command) (other : Option Command) → ((x : A) → OnSome (then x)) → OnSome other → OnSome (f.where_there o then other)
+on_when : {A : Type 0} (o : Option A) (then : A → Option Command) (other : Option Command) →
+    ((x : A) → OnSome (then x)) → OnSome other → OnSome (f.where_there o then other)
 on_when None then other h k = k
 on_when (Some x) then other h k = h x
 
@@ -61,7 +66,8 @@ on_if : (b : Bool) (x y : Option Command) → OnSome x → OnSome y → OnSome (
 on_if true x y h k = h
 on_if false x y h k = k
 
-one_more : {X : Type 0} (o : Option (X × List ℕ)) (bytes : List ℕ) (n : ℕ) (more : List ℕ → List X × List ℕ) → ((bs : List ℕ) → length (more bs).0 ≤ n) → length (and_repeated o bytes more).0 ≤ suc n
+one_more : {X : Type 0} (o : Option (X × List ℕ)) (bytes : List ℕ) (n : ℕ) (more : List ℕ → List X × List ℕ) →
+    ((bs : List ℕ) → length (more bs).0 ≤ n) → length (and_repeated o bytes more).0 ≤ suc n
 one_more None bytes n more h = omega arith
 one_more (Some x) bytes n more h = omega (arith, h x.1)
 
@@ -79,9 +85,12 @@ taken_le Big rest m h = h
 taken_le Nothing rest m h = tt
 
 unsigned_le : (bytes : List ℕ) → LeIf (length bytes) (unsigned_of bytes)
-unsigned_le bytes = taken_le (unsigned_at bytes).0 (unsigned_at bytes).1 (length bytes) (digits_left of_magnitude bytes (drop_while is_separator bytes) (dropped is_separator bytes))
+unsigned_le bytes = taken_le (unsigned_at bytes).0 (unsigned_at bytes).1 (length bytes)
+    (digits_left of_magnitude bytes (drop_while is_separator bytes) (dropped is_separator bytes))
 
-call_few : (o : Option (ℕ × List ℕ)) (m : ℕ) → m ≤ 2 ^ 24 → LeIf m o → OnSome (o >>= λ n. complete (Call n.0 (repeated transformation_of (length n.1) n.1).0) (repeated transformation_of (length n.1) n.1).1)
+call_few : (o : Option (ℕ × List ℕ)) (m : ℕ) → m ≤ 2 ^ 24 → LeIf m o →
+    OnSome (o >>= λ n. complete (Call n.0 (repeated transformation_of (length n.1) n.1).0)
+    (repeated transformation_of (length n.1) n.1).1)
 call_few None m h k = tt
 call_few (Some n) m h k =
     let found : List Transformation × List ℕ = repeated transformation_of (length n.1) n.1 in
@@ -93,7 +102,9 @@ on_call bytes h = call_few (unsigned_of bytes) (length bytes) h (unsigned_le byt
 
 on_comment : (depth : ℕ) (bytes : List ℕ) → OnSome (f.comment_of depth bytes)
 on_comment depth [] = tt
-on_comment depth (b ∷ bytes) = on_if (b == 40) _ _ (on_comment (depth + 1) bytes) (on_if (b == 41) _ _ (on_if (depth == 0) _ _ (on_complete Idle bytes tt) (on_comment (depth - 1) bytes)) (on_comment depth bytes))
+on_comment depth (b ∷ bytes) = on_if (b == 40) _ _ (on_comment (depth + 1) bytes)
+    (on_if (b == 41) _ _ (on_if (depth == 0) _ _ (on_complete Idle bytes tt) (on_comment (depth - 1) bytes))
+    (on_comment depth bytes))
 
 on_path : (make : List Spot → Command) (bytes : List ℕ) → ((ps : List Spot) → IsFew (make ps)) → OnSome (f.path_of make bytes)
 on_path make bytes h =
@@ -104,17 +115,21 @@ on_wire : (bytes : List ℕ) → OnSome (f.wire_of bytes)
 on_wire bytes = on_bind (unsigned_of bytes) (λ w. f.path_of (Wire w.0) w.1) (λ w. on_path (Wire w.0) w.1 (λ ps. tt))
 
 on_flash : (bytes : List ℕ) → OnSome (f.flash_of bytes)
-on_flash bytes = on_bind (unsigned_of bytes) (λ d. spot_of d.1 >>= λ c. complete (Flash d.0 c.0) c.1) (λ d. on_bind (spot_of d.1) (λ c. complete (Flash d.0 c.0) c.1) (λ c. on_complete (Flash d.0 c.0) c.1 tt))
+on_flash bytes = on_bind (unsigned_of bytes) (λ d. spot_of d.1 >>= λ c. complete (Flash d.0 c.0) c.1)
+    (λ d. on_bind (spot_of d.1) (λ c. complete (Flash d.0 c.0) c.1) (λ c. on_complete (Flash d.0 c.0) c.1 tt))
 
 on_delete : (bytes : List ℕ) → OnSome (f.delete_of bytes)
 on_delete bytes = on_bind (unsigned_of bytes) (λ n. complete (Delete n.0) n.1) (λ n. on_complete (Delete n.0) n.1 tt)
 
 on_start : (bytes : List ℕ) → OnSome (f.start_of bytes)
-on_start bytes = on_bind (unsigned_of bytes) (λ n. complete (Start n.0 (f.scale_of (f.ratio_of n.1) n.1).0) (f.scale_of (f.ratio_of n.1) n.1).1) (λ n. on_complete (Start n.0 (f.scale_of (f.ratio_of n.1) n.1).0) (f.scale_of (f.ratio_of n.1) n.1).1 tt)
+on_start bytes = on_bind (unsigned_of bytes) (λ n. complete (Start n.0 (f.scale_of (f.ratio_of n.1) n.1).0)
+    (f.scale_of (f.ratio_of n.1) n.1).1) (λ n. on_complete (Start n.0 (f.scale_of (f.ratio_of n.1) n.1).0)
+    (f.scale_of (f.ratio_of n.1) n.1).1 tt)
 
 on_definition : (bytes : List ℕ) → OnSome (f.definition_of bytes)
 on_definition bytes = on_when (letter 83 bytes) f.start_of (f.where_there (letter 70 bytes) (complete Finish) (letter 68 bytes >>= f.delete_of)) on_start
-    (on_when (letter 70 bytes) (complete Finish) (letter 68 bytes >>= f.delete_of) (λ r. on_complete Finish r tt) (on_bind (letter 68 bytes) f.delete_of on_delete))
+    (on_when (letter 70 bytes) (complete Finish) (letter 68 bytes >>= f.delete_of) (λ r. on_complete Finish r tt)
+    (on_bind (letter 68 bytes) f.delete_of on_delete))
 
 on_layer : (bytes : List ℕ) → OnSome (f.layer_of bytes)
 on_layer bytes =
@@ -125,15 +140,43 @@ on_layer bytes =
 on_box : (bytes : List ℕ) → OnSome (f.box_of bytes)
 on_box bytes = by (unsigned_of bytes)
   where
-    last : (l w : ℕ × List ℕ) (c : Option (Spot × List ℕ)) → OnSome (c >>= λ centre. complete (Box (record { length = l.0; width = w.0; centre = centre.0; direction = (f.direction_of (spot_of centre.1) centre.1).0 })) (f.direction_of (spot_of centre.1) centre.1).1)
+    last : (l w : ℕ × List ℕ) (c : Option (Spot × List ℕ)) →
+        OnSome (c >>= λ centre. complete (Box (record {
+          length = l.0;
+          width = w.0;
+          centre = centre.0;
+          direction =
+              (f.direction_of (spot_of centre.1) centre.1).0;
+        })) (f.direction_of (spot_of centre.1) centre.1).1)
     last l w None = tt
-    last l w (Some centre) = on_complete (Box (record { length = l.0; width = w.0; centre = centre.0; direction = (f.direction_of (spot_of centre.1) centre.1).0 })) (f.direction_of (spot_of centre.1) centre.1).1 tt
+    last l w (Some centre) = on_complete (Box (record {
+      length = l.0;
+      width = w.0;
+      centre = centre.0;
+      direction =
+          (f.direction_of (spot_of centre.1) centre.1).0;
+    })) (f.direction_of (spot_of centre.1) centre.1).1 tt
 
-    second : (l : ℕ × List ℕ) (w : Option (ℕ × List ℕ)) → OnSome (w >>= λ width. spot_of width.1 >>= λ centre. complete (Box (record { length = l.0; width = width.0; centre = centre.0; direction = (f.direction_of (spot_of centre.1) centre.1).0 })) (f.direction_of (spot_of centre.1) centre.1).1)
+    second : (l : ℕ × List ℕ) (w : Option (ℕ × List ℕ)) →
+        OnSome (w >>= λ width. spot_of width.1 >>= λ centre. complete
+        (Box (record {
+          length = l.0;
+          width = width.0;
+          centre = centre.0;
+          direction =
+              (f.direction_of (spot_of centre.1) centre.1).0;
+        })) (f.direction_of (spot_of centre.1) centre.1).1)
     second l None = tt
     second l (Some w) = last l w (spot_of w.1)
 
-    by : (l : Option (ℕ × List ℕ)) → OnSome (l >>= λ length. unsigned_of length.1 >>= λ width. spot_of width.1 >>= λ centre. complete (Box (record { length = length.0; width = width.0; centre = centre.0; direction = (f.direction_of (spot_of centre.1) centre.1).0 })) (f.direction_of (spot_of centre.1) centre.1).1)
+    by : (l : Option (ℕ × List ℕ)) → OnSome (l >>= λ length. unsigned_of length.1 >>= λ width. spot_of width.1 >>=
+        λ centre. complete (Box (record {
+          length = length.0;
+          width = width.0;
+          centre = centre.0;
+          direction =
+              (f.direction_of (spot_of centre.1) centre.1).0;
+        })) (f.direction_of (spot_of centre.1) centre.1).1)
     by None = tt
     by (Some l) = second l (unsigned_of l.1)
 
@@ -154,11 +197,14 @@ fit_case : (t : Bool) (d c : Command) → is_command_in_bounds d ≡ t → IsFew
 fit_case true d c f few e = let same : d ≡ c = cc in (subst (λ (x : Command). is_command_in_bounds x ≡ true) same f, subst IsFew same few)
 fit_case false d c f few e = cc
 
-fit_of : (o : Option Command) (c : Command) → OnSome o → (elim o as (λ x. Result Command What) [ None ↦ Err Syntax | Some d ↦ bounded d ]) ≡ Ok c → (is_command_in_bounds c ≡ true) × IsFew c
+fit_of : (o : Option Command) (c : Command) → OnSome o →
+    (elim o as (λ x. Result Command What) [ None ↦ Err Syntax | Some d ↦ bounded d ]) ≡ Ok c →
+    (is_command_in_bounds c ≡ true) × IsFew c
 fit_of None c h e = cc
 fit_of (Some d) c h e = fit_case (is_command_in_bounds d) d c refl h e
 
-fit_cons : (r : Result Command What) (rest : List (Result Command What)) → ((c : Command) → r ≡ Ok c → (is_command_in_bounds c ≡ true) × IsFew c) → AllFit rest → AllFit (r ∷ rest)
+fit_cons : (r : Result Command What) (rest : List (Result Command What)) →
+    ((c : Command) → r ≡ Ok c → (is_command_in_bounds c ≡ true) × IsFew c) → AllFit rest → AllFit (r ∷ rest)
 fit_cons (Err w) rest h k = k
 fit_cons (Ok c) rest h k = let f = h c refl in (f.0, f.1, k)
 

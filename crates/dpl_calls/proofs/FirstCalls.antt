@@ -1,5 +1,6 @@
 -- The first call of a table that passes a test is the first of its calls in the order of the file.
-use Rattle.std.proofs.Common.{◌≡◌, inl, inr, ℕ, ◌+◌, ◌≤◌, Bool, true, false, cond, ◌||◌, ◌==◌, nat_eq, is_some, min, List, [], ◌∷◌, Option, None, Some, refl, sym, ◌∙◌, ap, subst, arith}
+use Rattle.std.proofs.Common.{◌≡◌, inl, inr, ℕ, ◌+◌, ◌≤◌, Bool, true, false, cond, ◌||◌, ◌==◌, nat_eq, is_some, min}
+use Rattle.std.proofs.Common.{List, [], ◌∷◌, Option, None, Some, refl, sym, ◌∙◌, ap, subst, arith}
 use Rattle.std.specs.List.{list_any, filter}
 use mathlib.Core.Path.{fun_ext}
 use Rattle.indexmap.specs.IndexMap.{keys, get}
@@ -44,7 +45,8 @@ module _ (first : Option ℕ → Option ℕ) where
     stays [] = refl
     stays (n ∷ ns) = ap (λ (o : Option ℕ). earliest first o ns) (earlier_first m (first (Some n)) (least n)) ∙ stays ns
 
-    comes : (found : Option ℕ) (ns : List ℕ) (k : ℕ) → AtLeast m found → first (Some k) ≡ Some m → list_any (λ n. n == k) ns ≡ true → earliest first found ns ≡ Some m
+    comes : (found : Option ℕ) (ns : List ℕ) (k : ℕ) → AtLeast m found → first (Some k) ≡ Some m →
+        list_any (λ n. n == k) ns ≡ true → earliest first found ns ≡ Some m
     comes found [] k h e c = cc
     comes found (n ∷ ns) k h e c = elim (or_cases (n == k) (list_any (λ n. n == k) ns) c) [
       | inl here ↦
@@ -62,7 +64,8 @@ module _ (test : CallSite → Bool) where
   passed true m a o h g = h
   passed false m a o h g = g
 
-  least_of : (b : Bool) (m : ℕ) (s : CallSite) (ss : List CallSite) → m ≤ s.at → AtLeast m (first_number test ss) → AtLeast m (first_number test (cond b (s ∷ ss) ss))
+  least_of : (b : Bool) (m : ℕ) (s : CallSite) (ss : List CallSite) → m ≤ s.at → AtLeast m (first_number test ss) →
+      AtLeast m (first_number test (cond b (s ∷ ss) ss))
   least_of true m s ss h g = passed (test s) m s.at (first_number test ss) h g
   least_of false m s ss h g = g
 
@@ -83,11 +86,13 @@ module _ (test : CallSite → Bool) where
   abbrev first_in : List CallSite → Option ℕ → Option ℕ
   first_in sites place = first_number test (standing place sites)
 
-  in_order : (ns : List ℕ) (m : ℕ) (sites : List CallSite) → AreRising m sites → ((n : ℕ) → list_any (λ s. is_same (Some n) s.definition) sites ≡ true → list_any (λ k. k == n) ns ≡ true)
+  in_order : (ns : List ℕ) (m : ℕ) (sites : List CallSite) → AreRising m sites →
+      ((n : ℕ) → list_any (λ s. is_same (Some n) s.definition) sites ≡ true → list_any (λ k. k == n) ns ≡ true)
       → earliest (first_in sites) (first_in sites None) ns ≡ first_number test sites
   in_order ns m [] r known = nothing (first_in []) ns (λ n. refl)
   in_order ns m (s ∷ ss) r known =
-      by (test s) refl (in_order ns (s.at + 1) ss r.1 (λ n c. known n (or_right (is_same (Some n) s.definition) (list_any (λ s. is_same (Some n) s.definition) ss) c)))
+      by (test s) refl (in_order ns (s.at + 1) ss r.1 (λ n c. known n
+      (or_right (is_same (Some n) s.definition) (list_any (λ s. is_same (Some n) s.definition) ss) c)))
     where
       least : (place : Option ℕ) → AtLeast s.at (first_in (s ∷ ss) place)
       least place = least_standing place s.at (s ∷ ss) (omega arith, r.1)
@@ -98,10 +103,12 @@ module _ (test : CallSite → Bool) where
           ap (λ (o : Option ℕ). earliest (first_in (s ∷ ss)) o ns) top ∙ stays (first_in (s ∷ ss)) s.at (λ n. least (Some n)) ns
       here (Some k) ed e =
           let same : is_same (Some k) s.definition ≡ true = ap (λ (o : Option ℕ). is_same (Some k) o) ed ∙ to_eq k k refl in
-          comes (first_in (s ∷ ss)) s.at (λ n. least (Some n)) (first_in (s ∷ ss) None) ns k (least None) (met (is_same (Some k) s.definition) s (standing (Some k) ss) same e)
+          comes (first_in (s ∷ ss)) s.at (λ n. least (Some n)) (first_in (s ∷ ss) None) ns k (least None)
+          (met (is_same (Some k) s.definition) s (standing (Some k) ss) same e)
           (known k (or_left (is_same (Some k) s.definition) (list_any (λ s. is_same (Some k) s.definition) ss) same))
 
-      by : (t : Bool) → test s ≡ t → earliest (first_in ss) (first_in ss None) ns ≡ first_number test ss → earliest (first_in (s ∷ ss)) (first_in (s ∷ ss) None) ns ≡ cond t (Some s.at) (first_number test ss)
+      by : (t : Bool) → test s ≡ t → earliest (first_in ss) (first_in ss None) ns ≡ first_number test ss →
+          earliest (first_in (s ∷ ss)) (first_in (s ∷ ss) None) ns ≡ cond t (Some s.at) (first_number test ss)
       by true e ih = here s.definition refl e
       by false e ih =
           let same : first_in (s ∷ ss) ≡ first_in ss = fun_ext (λ place. skipped (is_same place s.definition) s (standing place ss) e) in
@@ -111,7 +118,9 @@ module _ (test : CallSite → Bool) where
   found_at what [] = refl
   found_at what (s ∷ ss) = by (test s) (found_at what ss)
     where
-      by : (t : Bool) → FindsAt what (first_number test ss) (first_site test what ss) → FindsAt what (cond t (Some s.at) (first_number test ss)) (cond t (Some (fault s.at what)) (first_site test what ss))
+      by : (t : Bool) → FindsAt what (first_number test ss) (first_site test what ss) →
+          FindsAt what (cond t (Some s.at) (first_number test ss))
+          (cond t (Some (fault s.at what)) (first_site test what ss))
       by true h = refl
       by false h = h
 
@@ -129,12 +138,14 @@ module _ (t : Table) (sites : List CallSite) (h : AreCalls t sites) where
   begun n c = sym (present n t.definitions.entries) ∙ by (get nat_eq t.definitions n) refl
     where
       by : (o : Option (List Entry)) → get nat_eq t.definitions n ≡ o → is_some (get nat_eq t.definitions n) ≡ true
-      by None e = absurd (some_standing (λ s. is_same (Some n) s.definition) sites c (sym (h.held (Some n)) ∙ ap (λ (o : Option (List Entry)). calls_in (Some n) (or_nothing o)) e))
+      by None e = absurd (some_standing (λ s. is_same (Some n) s.definition) sites c
+          (sym (h.held (Some n)) ∙ ap (λ (o : Option (List Entry)). calls_in (Some n) (or_nothing o)) e))
       by (Some es) e = ap (λ (o : Option (List Entry)). is_some o) e
 
   first_is : (test : CallSite → Bool) → first_call test t ≡ first_number test sites
   first_is test =
-      ap (λ (held : Option ℕ → List CallSite). earliest (λ place. first_number test (held place)) (first_number test (held None)) (keys t.definitions)) (fun_ext h.held)
+      ap (λ (held : Option ℕ → List CallSite). earliest (λ place. first_number test (held place))
+      (first_number test (held None)) (keys t.definitions)) (fun_ext h.held)
       ∙ in_order test (keys t.definitions) 1 sites h.rising begun
 
   pub first_found : (test : CallSite → Bool) (what : What) (found : Option ℕ) → found ≡ first_call test t → FindsAt what found (first_site test what sites)

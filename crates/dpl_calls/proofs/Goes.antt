@@ -1,5 +1,6 @@
 -- The turns of an unfolding.
-use Rattle.std.proofs.Common.{◌≡◌, ℕ, zero, suc, ◌≤◌, ◌<◌, ◌+◌, ◌*◌, ◌^◌, List, [], ◌∷◌, ◌++◌, length, map, None, Some, sum_by, refl, sym, ◌∙◌, ap, subst, arith, append_assoc, All, get_or}
+use Rattle.std.proofs.Common.{◌≡◌, ℕ, zero, suc, ◌≤◌, ◌<◌, ◌+◌, ◌*◌, ◌^◌, List, [], ◌∷◌, ◌++◌, length, map, None, Some}
+use Rattle.std.proofs.Common.{sum_by, refl, sym, ◌∙◌, ap, subst, arith, append_assoc, All, get_or}
 use Rattle.std.proofs.lemmas.List.{append-nil, nil_from_length, length_push, get_or_append_left, get_or_push}
 use Rattle.std.proofs.lemmas.List.Sums.{sum_by_push, sum_by-append, sum_by-cons}
 use Rattle.std.proofs.lemmas.List.Elements.{All-append}
@@ -23,7 +24,8 @@ use Rattle.dpl_calls.proofs.Pending.{pending_push, pending_append, called_figure
 use Rattle.dpl_list.proofs.Lists.{all_tail, all_head}
 
 all_push : {X : Type 0} (P : X → Type 0) (xs : List X) (x : X) → All P xs → P x → All P (xs ++ x ∷ [])
-all_push P xs x h p = All-append P xs (x ∷ []) h (λ k d lt. elim k as (λ j. j < 1 → P (get_or (x ∷ []) j d)) [ zero ↦ λ _. p | suc j ↦ λ bad. absurd (omega arith) ] lt)
+all_push P xs x h p = All-append P xs (x ∷ []) h (λ k d lt. elim k as (λ j. j < 1 → P (get_or (x ∷ []) j d))
+    [ zero ↦ λ _. p | suc j ↦ λ bad. absurd (omega arith) ] lt)
 
 all_popped : {X : Type 0} (P : X → Type 0) (xs : List X) (x : X) → All P (xs ++ x ∷ []) → All P xs × P x
 all_popped P xs x h =
@@ -39,7 +41,10 @@ all_near_more : (n m : ℕ) (fs : List Frame) → n ≤ m → All (IsFrameNear n
 all_near_more n m fs le h k d lt = near_more n m (get_or fs k d) le (h k d lt)
 
 -- the last frame gives way to others, with these figures and so many calls done
-goes_on : (b : Bodies) (all : List Figure) (t : ℕ) (s : List Figure) (fs : List Frame) (f : Frame) (n : ℕ) (xs : List Figure) (gs : List Frame) (k : ℕ) → frame_figures b f ≡ xs ++ pending b gs → frame_calls b f ≡ k + calls_left b gs → All (IsFrameNear (n + k)) gs → Goes b all t s (fs ++ f ∷ []) n → Goes b all t (s ++ xs) (fs ++ gs) (n + k)
+goes_on : (b : Bodies) (all : List Figure) (t : ℕ) (s : List Figure) (fs : List Frame) (f : Frame) (n : ℕ)
+    (xs : List Figure) (gs : List Frame) (k : ℕ) → frame_figures b f ≡ xs ++ pending b gs →
+    frame_calls b f ≡ k + calls_left b gs → All (IsFrameNear (n + k)) gs → Goes b all t s (fs ++ f ∷ []) n →
+    Goes b all t (s ++ xs) (fs ++ gs) (n + k)
 goes_on b all t s fs f n xs gs k es ec near h =
     let new : pending b (fs ++ gs) ≡ pending b gs ++ pending b fs = pending_append b fs gs in
     let old : pending b (fs ++ f ∷ []) ≡ (xs ++ pending b gs) ++ pending b fs = pending_push b fs f ∙ ap (λ (x : List Figure). x ++ pending b fs) es in
@@ -58,7 +63,8 @@ one_near n g h = all_push (IsFrameNear n) [] g (λ k d lt. absurd (omega arith))
 last_near : (b : Bodies) (all : List Figure) (t : ℕ) (s : List Figure) (fs : List Frame) (f : Frame) (n : ℕ) → Goes b all t s (fs ++ f ∷ []) n → IsFrameNear n f
 last_near b all t s fs f n h = (all_popped (IsFrameNear n) fs f h.near).1
 
-goes_empty : (b : Bodies) (all : List Figure) (t : ℕ) (s : List Figure) (fs : List Frame) (f : Frame) (n : ℕ) → f.rest.now ≡ [] → Goes b all t s (fs ++ f ∷ []) n → Goes b all t s fs n
+goes_empty : (b : Bodies) (all : List Figure) (t : ℕ) (s : List Figure) (fs : List Frame) (f : Frame) (n : ℕ) →
+    f.rest.now ≡ [] → Goes b all t s (fs ++ f ∷ []) n → Goes b all t s fs n
 goes_empty b all t s fs f n e h =
     let g : Goes b all t (s ++ []) (fs ++ []) (n + 0) = goes_on b all t s fs f n [] [] 0 (rw e refl) (rw e refl) (λ k d lt. absurd (omega arith)) h in
     let z : n + 0 ≡ n = omega arith in
@@ -92,20 +98,28 @@ module _ (b : Bodies) (f g : Frame) (e : Entry) (split : f.rest.now ≡ e ∷ g.
         let z : n + 0 ≡ n = omega arith in
         let figures : frame_figures b f ≡ (x ∷ []) ++ frame_figures b g = front_figures ∙ rw (ee, ex) refl in
         let calls : frame_calls b f ≡ 0 + frame_calls b g = front_calls ∙ rw ee refl in
-        let r : Goes b all t (s ++ x ∷ []) (fs ++ g ∷ []) (n + 0) = goes_on b all t s fs f n (x ∷ []) (g ∷ []) 0 figures (omega (arith, calls)) (one_near (n + 0) g (rest_after (n + 0) (omega arith))) h in
+        let r : Goes b all t (s ++ x ∷ []) (fs ++ g ∷ []) (n + 0) =
+        goes_on b all t s fs f n (x ∷ []) (g ∷ []) 0 figures (omega (arith, calls))
+        (one_near (n + 0) g (rest_after (n + 0) (omega arith))) h in
         rw z at r
 
     goes_flat : (at m : ℕ) (p : Placement) → e ≡ entry.Called at m p → f.below ≡ 0 → Goes b all t s (fs ++ g ∷ []) (n + 1)
     goes_flat at m p ee z =
         let figures : frame_figures b f ≡ [] ++ frame_figures b g = front_figures ∙ rw (ee, z) refl in
         let calls : frame_calls b f ≡ 1 + frame_calls b g = front_calls ∙ rw (ee, z) refl in
-        let r : Goes b all t (s ++ []) (fs ++ g ∷ []) (n + 1) = goes_on b all t s fs f n [] (g ∷ []) 1 figures (omega (arith, calls)) (one_near (n + 1) g (rest_after (n + 1) (omega arith))) h in
+        let r : Goes b all t (s ++ []) (fs ++ g ∷ []) (n + 1) =
+        goes_on b all t s fs f n [] (g ∷ []) 1 figures (omega (arith, calls))
+        (one_near (n + 1) g (rest_after (n + 1) (omega arith))) h in
         rw (append-nil s) at r
 
-    goes_deep : (c : Frame) (at m : ℕ) (p : Placement) → e ≡ entry.Called at m p → f.below ≡ suc c.below → left c ≡ b (Some m) → ((d : Corner) → apply c.place d ≡ apply f.place (apply p d)) → IsFrameNear (n + 1) c → Goes b all t s ((fs ++ g ∷ []) ++ c ∷ []) (n + 1)
+    goes_deep : (c : Frame) (at m : ℕ) (p : Placement) → e ≡ entry.Called at m p → f.below ≡ suc c.below →
+        left c ≡ b (Some m) → ((d : Corner) → apply c.place d ≡ apply f.place (apply p d)) → IsFrameNear (n + 1) c →
+        Goes b all t s ((fs ++ g ∷ []) ++ c ∷ []) (n + 1)
     goes_deep c at m p ee z ec inner near =
-        let inside : part_figures b (figures_of f.below b) (apply f.place) (Called m (apply p)) ≡ frame_figures b c = called_figures b f.below c.below m (apply p) (left c) z ec (apply f.place) (apply c.place) inner in
-        let counted : part_total own_calls b (total_of own_calls f.below b) (Called m (apply p)) ≡ 1 + frame_calls b c = called_calls b f.below c.below m (apply p) (left c) z ec in
+        let inside : part_figures b (figures_of f.below b) (apply f.place) (Called m (apply p)) ≡ frame_figures b c =
+        called_figures b f.below c.below m (apply p) (left c) z ec (apply f.place) (apply c.place) inner in
+        let counted : part_total own_calls b (total_of own_calls f.below b) (Called m (apply p)) ≡ 1 + frame_calls b c =
+        called_calls b f.below c.below m (apply p) (left c) z ec in
         let gs : List Frame = g ∷ c ∷ [] in
         let figures : frame_figures b f ≡ [] ++ pending b gs = front_figures ∙ rw ee (ap (λ (x : List Figure). x ++ frame_figures b g) inside) in
         let calls : frame_calls b f ≡ part_total own_calls b (total_of own_calls f.below b) (Called m (apply p)) + frame_calls b g = front_calls ∙ rw ee refl in
@@ -115,10 +129,20 @@ module _ (b : Bodies) (f g : Frame) (e : Entry) (split : f.rest.now ≡ e ∷ g.
         h in
         rw (append-nil s, ← append_assoc fs (g ∷ []) (c ∷ [])) at r
 
-  deep_turns : (fs : List Frame) (c : Frame) (at m : ℕ) (p : Placement) → e ≡ entry.Called at m p → f.below ≡ suc c.below → left c ≡ b (Some m) → turns_left b ((fs ++ g ∷ []) ++ c ∷ []) < turns_left b (fs ++ f ∷ [])
+  deep_turns : (fs : List Frame) (c : Frame) (at m : ℕ) (p : Placement) → e ≡ entry.Called at m p →
+      f.below ≡ suc c.below → left c ≡ b (Some m) → turns_left b ((fs ++ g ∷ []) ++ c ∷ []) < turns_left b
+      (fs ++ f ∷ [])
   deep_turns fs c at m p ee z ec =
-      let front : frame_turns b f ≡ 1 + (part_turns b (turns_of f.below b) (Called m (apply p)) + sum_by (part_turns b (turns_of g.below b)) (left g)) = front_turns ∙ rw ee refl in
-      omega (arith, sum_by_push (frame_turns b) fs f, sum_by_push (frame_turns b) fs g, sum_by_push (frame_turns b) (fs ++ g ∷ []) c, front, called_turns b f.below c.below m (apply p) (left c) z ec)
+      let front : frame_turns b f ≡ 1 + (part_turns b (turns_of f.below b) (Called m (apply p)) + sum_by
+      (part_turns b (turns_of g.below b)) (left g)) = front_turns ∙ rw ee refl in
+      omega (
+        arith,
+        sum_by_push (frame_turns b) fs f,
+        sum_by_push (frame_turns b) fs g,
+        sum_by_push (frame_turns b) (fs ++ g ∷ []) c,
+        front,
+        called_turns b f.below c.below m (apply p) (left c) z ec,
+      )
 
   -- a call in the last frame
   called_near : (n at m : ℕ) (p : Placement) → e ≡ entry.Called at m p → IsFrameNear n f → IsNear (2 ^ 106) p
@@ -134,7 +158,10 @@ module _ (b : Bodies) (f g : Frame) (e : Entry) (split : f.rest.now ≡ e ∷ g.
       let kept : IsPartKept (Drawn figure) = subst (λ (x : Entry). IsPartKept (part_of x)) ee first in
       kept.0
 
-pub goes_start : (b : Bodies) (depth : ℕ) (f : Frame) (s : List Figure) (fs : List Frame) → s ≡ [] → fs ≡ f ∷ [] → depth ≡ suc f.below → left f ≡ b None → ((c : Corner) → apply f.place c ≡ unmoved c) → IsNear 0 f.place → All IsEntryNear f.rest.now → All IsPartKept (b None) → Goes b (figures_of depth b unmoved (b None)) (total_of own_calls depth b (b None)) s fs 0
+pub goes_start : (b : Bodies) (depth : ℕ) (f : Frame) (s : List Figure) (fs : List Frame) → s ≡ [] → fs ≡ f ∷ [] →
+    depth ≡ suc f.below → left f ≡ b None → ((c : Corner) → apply f.place c ≡ unmoved c) → IsNear 0 f.place →
+    All IsEntryNear f.rest.now → All IsPartKept (b None) →
+    Goes b (figures_of depth b unmoved (b None)) (total_of own_calls depth b (b None)) s fs 0
 goes_start b depth f s fs es efs ed er place near entries parts =
     let same : apply f.place ≡ unmoved = fun_ext place in
     let zero_near : IsNear (0 * 2 ^ 106) f.place = record { x = omega (arith, near.x); y = omega (arith, near.y) } in record {
@@ -145,23 +172,32 @@ goes_start b depth f s fs es efs ed er place near entries parts =
 
 -- ---- the same at the names of a loop
 
-pub empty_at : (b : Bodies) (all : List Figure) (t : ℕ) (s : List Figure) (fs stack : List Frame) (f : Frame) (n : ℕ) → stack ≡ fs ++ f ∷ [] → length f.rest.now ≡ 0 → Goes b all t s stack n → Goes b all t s fs n
+pub empty_at : (b : Bodies) (all : List Figure) (t : ℕ) (s : List Figure) (fs stack : List Frame) (f : Frame) (n : ℕ) →
+    stack ≡ fs ++ f ∷ [] → length f.rest.now ≡ 0 → Goes b all t s stack n → Goes b all t s fs n
 empty_at b all t s fs stack f n ek e h = goes_empty b all t s fs f n (nil_from_length f.rest.now e) (rw ek at h)
 
-module _ (b : Bodies) (all : List Figure) (t : ℕ) (s : List Figure) (fs stack : List Frame) (f g : Frame) (n : ℕ) (e : Entry) (ek : stack ≡ fs ++ f ∷ []) (split : f.rest.now ≡ e ∷ g.rest.now) (place : g.place ≡ f.place) (below : g.below ≡ f.below) (h : Goes b all t s stack n) where
+module _ (b : Bodies) (all : List Figure) (t : ℕ) (s : List Figure) (fs stack : List Frame) (f g : Frame) (n : ℕ)
+    (e : Entry) (ek : stack ≡ fs ++ f ∷ []) (split : f.rest.now ≡ e ∷ g.rest.now) (place : g.place ≡ f.place)
+    (below : g.below ≡ f.below) (h : Goes b all t s stack n) where
   here : Goes b all t s (fs ++ f ∷ []) n
   here = rw ek at h
 
-  pub figure_at : (s' : List Figure) (stack' : List Frame) (figure x : Figure) → stack' ≡ fs ++ g ∷ [] → s' ≡ s ++ x ∷ [] → e ≡ entry.Drawn figure → x ≡ placed (apply f.place) figure → Goes b all t s' stack' n
+  pub figure_at : (s' : List Figure) (stack' : List Frame) (figure x : Figure) → stack' ≡ fs ++ g ∷ [] → s' ≡ s ++ x ∷
+      [] → e ≡ entry.Drawn figure → x ≡ placed (apply f.place) figure → Goes b all t s' stack' n
   figure_at s' stack' figure x ek' es ee ex = rw (ek', es) (goes_figure b f g e split place below all t s fs n here figure x ee ex)
 
   pub flat_at : (stack' : List Frame) (at m : ℕ) (p : Placement) → stack' ≡ fs ++ g ∷ [] → e ≡ entry.Called at m p → f.below ≡ 0 → Goes b all t s stack' (n + 1)
   flat_at stack' at m p ek' ee z = rw ek' (goes_flat b f g e split place below all t s fs n here at m p ee z)
 
-  pub deep_at : (between stack' : List Frame) (c : Frame) (at m : ℕ) (p : Placement) → between ≡ fs ++ g ∷ [] → stack' ≡ between ++ c ∷ [] → e ≡ entry.Called at m p → f.below ≡ suc c.below → left c ≡ b (Some m) → ((d : Corner) → apply c.place d ≡ apply f.place (apply p d)) → IsFrameNear (n + 1) c → Goes b all t s stack' (n + 1)
+  pub deep_at : (between stack' : List Frame) (c : Frame) (at m : ℕ) (p : Placement) → between ≡ fs ++ g ∷ [] →
+      stack' ≡ between ++ c ∷ [] → e ≡ entry.Called at m p → f.below ≡ suc c.below → left c ≡ b (Some m) →
+      ((d : Corner) → apply c.place d ≡ apply f.place (apply p d)) → IsFrameNear (n + 1) c →
+      Goes b all t s stack' (n + 1)
   deep_at between stack' c at m p eg ek' ee z ec inner near = rw (ek', eg) (goes_deep b f g e split place below all t s fs n here c at m p ee z ec inner near)
 
-  pub deep_smaller_at : (between stack' : List Frame) (c : Frame) (at m : ℕ) (p : Placement) → between ≡ fs ++ g ∷ [] → stack' ≡ between ++ c ∷ [] → e ≡ entry.Called at m p → f.below ≡ suc c.below → left c ≡ b (Some m) → turns_left b stack' < turns_left b stack
+  pub deep_smaller_at : (between stack' : List Frame) (c : Frame) (at m : ℕ) (p : Placement) → between ≡ fs ++ g ∷ [] →
+      stack' ≡ between ++ c ∷ [] → e ≡ entry.Called at m p → f.below ≡ suc c.below → left c ≡ b (Some m) →
+      turns_left b stack' < turns_left b stack
   deep_smaller_at between stack' c at m p eg ek' ee z ec = rw (ek', eg, ek) (deep_turns b f g e split place below fs c at m p ee z ec)
 
   pub frame_near : IsFrameNear n f
@@ -174,7 +210,9 @@ module _ (b : Bodies) (all : List Figure) (t : ℕ) (s : List Figure) (fs stack 
   drawn_at figure ee = drawn_near b f g e split place below n figure ee frame_near
 
 -- the frame of a call
-pub child_near : (n : ℕ) (f c : Frame) (p : Placement) → ((a b : ℕ) → IsNear a f.place → IsNear b p → IsNear (a + b) c.place) → IsNear (2 ^ 106) p → IsFrameNear n f → All IsEntryNear c.rest.now → All IsPartKept (left c) → IsFrameNear (n + 1) c
+pub child_near : (n : ℕ) (f c : Frame) (p : Placement) →
+    ((a b : ℕ) → IsNear a f.place → IsNear b p → IsNear (a + b) c.place) → IsNear (2 ^ 106) p → IsFrameNear n f →
+    All IsEntryNear c.rest.now → All IsPartKept (left c) → IsFrameNear (n + 1) c
 child_near n f c p place near h entries parts =
     let q : IsNear (n * 2 ^ 106 + 2 ^ 106) c.place = place (n * 2 ^ 106) (2 ^ 106) h.place near in
     record { place = record { x = omega (arith, q.x); y = omega (arith, q.y) }; entries = entries; parts = parts }

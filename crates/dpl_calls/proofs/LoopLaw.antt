@@ -19,7 +19,8 @@ not_before : (n : ℕ) (ks ms : List ℕ) → place_of n (ks ++ ms) ≡ None →
 not_before n [] ms h = refl
 not_before n (k ∷ ks) ms h = by (n == k) h (λ q. not_before n ks ms q)
   where
-    by : (b : Bool) → cond b (Some 0) (one_further (place_of n (ks ++ ms))) ≡ None → (place_of n (ks ++ ms) ≡ None → place_of n ks ≡ None) → cond b (Some 0) (one_further (place_of n ks)) ≡ None
+    by : (b : Bool) → cond b (Some 0) (one_further (place_of n (ks ++ ms))) ≡ None →
+        (place_of n (ks ++ ms) ≡ None → place_of n ks ≡ None) → cond b (Some 0) (one_further (place_of n ks)) ≡ None
     by true f ih = cc
     by false f ih = ap one_further (ih (one_none (place_of n (ks ++ ms)) f))
 
@@ -32,7 +33,8 @@ not_last n m [] h = by (n == m) h
     by false f = refl
 not_last n m (k ∷ ks) h = by (n == k) h (λ q. not_last n m ks q)
   where
-    by : (b : Bool) → cond b (Some 0) (one_further (place_of n (ks ++ m ∷ []))) ≡ None → (place_of n (ks ++ m ∷ []) ≡ None → (n == m) ≡ false) → (n == m) ≡ false
+    by : (b : Bool) → cond b (Some 0) (one_further (place_of n (ks ++ m ∷ []))) ≡ None →
+        (place_of n (ks ++ m ∷ []) ≡ None → (n == m) ≡ false) → (n == m) ≡ false
     by true f ih = cc
     by false f ih = ih (one_none (place_of n (ks ++ m ∷ [])) f)
 
@@ -50,7 +52,8 @@ abbrev NotIn : ℕ → Option ℕ → Type 0
 NotIn n o = is_same (Some n) o ≡ false
 
 -- what no definition has as its number has no parts
-none_there : (chosen : List ℕ) (n : ℕ) (s : Scope) (seen : List ℕ) (commands : List (Result Command What)) → NotIn n s.definition → place_of n (numbers_from seen commands) ≡ None → parts_from chosen s commands (Some n) ≡ []
+none_there : (chosen : List ℕ) (n : ℕ) (s : Scope) (seen : List ℕ) (commands : List (Result Command What)) →
+    NotIn n s.definition → place_of n (numbers_from seen commands) ≡ None → parts_from chosen s commands (Some n) ≡ []
 none_there chosen n s seen [] out h = refl
 none_there chosen n s seen (Err w ∷ rest) out h = none_there chosen n s seen rest out h
 none_there chosen n s seen (Ok c ∷ rest) out h =

@@ -1,5 +1,7 @@
 -- Paths of calls.
-use Rattle.std.proofs.Common.{◌≡◌, ◌⊎◌, inl, inr, ℕ, zero, suc, ◌+◌, ◌-◌, ◌≤◌, ◌<◌, Bool, true, false, cond, ◌||◌, ◌==◌, List, [], ◌∷◌, map, length, Option, None, Some, MatchOption, refl, sym, ◌∙◌, ap, subst, arith, get_or}
+use Rattle.std.proofs.Common.{◌≡◌, ◌⊎◌, inl, inr, ℕ, zero, suc, ◌+◌, ◌-◌, ◌≤◌, ◌<◌, Bool, true, false, cond, ◌||◌, ◌==◌}
+use Rattle.std.proofs.Common.{List, [], ◌∷◌, map, length, Option, None, Some, MatchOption, refl, sym, ◌∙◌, ap, subst}
+use Rattle.std.proofs.Common.{arith, get_or}
 use Rattle.std.specs.List.{list_any}
 use Rattle.dpl_calls.specs.declared.table.CallSite.{CallSite}
 use Rattle.dpl_calls.specs.Parts.{Part, Bodies}
@@ -19,7 +21,9 @@ pub record Out (b : Bodies) (to : ℕ) (parts : List Part) : Type 0 where
 out_later : (b : Bodies) (to : ℕ) (p : Part) (parts : List Part) → Out b to parts → Out b to (p ∷ parts)
 out_later b to p parts o = record { n = o.n; named = or_right (names o.n p) (list_any (names o.n) parts) o.named; on = o.on }
 
-out_parts : (b : Bodies) (to : ℕ) (inner : List Part → Bool) → ((n : ℕ) → inner (b (Some n)) ≡ true → Out b to (b (Some n))) → (parts : List Part) → list_any (part_leads b inner to) parts ≡ true → Out b to parts
+out_parts : (b : Bodies) (to : ℕ) (inner : List Part → Bool) →
+    ((n : ℕ) → inner (b (Some n)) ≡ true → Out b to (b (Some n))) → (parts : List Part) →
+    list_any (part_leads b inner to) parts ≡ true → Out b to parts
 out_parts b to inner ih [] h = cc
 out_parts b to inner ih (Drawn f ∷ ps) h = out_later b to (Drawn f) ps (out_parts b to inner ih ps h)
 out_parts b to inner ih (Called n moves ∷ ps) h =
@@ -42,12 +46,14 @@ pub leads_out : (k : ℕ) (b : Bodies) (to : ℕ) (parts : List Part) → leads_
 leads_out zero b to parts h = cc
 leads_out (suc k) b to parts h = out_parts b to (leads_to k b to) (λ n l. leads_out k b to (b (Some n)) l) parts h
 
-in_parts : (b : Bodies) (to n : ℕ) (inner : List Part → Bool) → (n == to || inner (b (Some n))) ≡ true → (parts : List Part) → list_any (names n) parts ≡ true → list_any (part_leads b inner to) parts ≡ true
+in_parts : (b : Bodies) (to n : ℕ) (inner : List Part → Bool) → (n == to || inner (b (Some n))) ≡ true →
+    (parts : List Part) → list_any (names n) parts ≡ true → list_any (part_leads b inner to) parts ≡ true
 in_parts b to n inner h [] named = cc
 in_parts b to n inner h (Drawn f ∷ ps) named = in_parts b to n inner h ps named
 in_parts b to n inner h (Called m moves ∷ ps) named =
     elim (or_cases (m == n) (list_any (names n) ps) named) [
-      | inl e ↦ or_left (m == to || inner (b (Some m))) (list_any (part_leads b inner to) ps) (subst (λ (k : ℕ). (k == to || inner (b (Some k))) ≡ true) (sym (of_eq m n e)) h)
+      | inl e ↦ or_left (m == to || inner (b (Some m))) (list_any (part_leads b inner to) ps)
+          (subst (λ (k : ℕ). (k == to || inner (b (Some k))) ≡ true) (sym (of_eq m n e)) h)
       | inr later ↦ or_right (m == to || inner (b (Some m))) (list_any (part_leads b inner to) ps) (in_parts b to n inner h ps later)
     ]
 
@@ -73,12 +79,15 @@ unfolding up
 up_is k zero = omega arith
 up_is k (suc m) = omega (arith, up_is k m)
 
-parts_same : (b : Bodies) (to : ℕ) (t u : List Part → Bool) → ((n : ℕ) → t (b (Some n)) ≡ u (b (Some n))) → (parts : List Part) → list_any (part_leads b t to) parts ≡ list_any (part_leads b u to) parts
+parts_same : (b : Bodies) (to : ℕ) (t u : List Part → Bool) → ((n : ℕ) → t (b (Some n)) ≡ u (b (Some n))) →
+    (parts : List Part) → list_any (part_leads b t to) parts ≡ list_any (part_leads b u to) parts
 parts_same b to t u same [] = refl
 parts_same b to t u same (Drawn f ∷ ps) = parts_same b to t u same ps
 parts_same b to t u same (Called n moves ∷ ps) = rw (same n, parts_same b to t u same ps) refl
 
-parts_more : (b : Bodies) (to : ℕ) (t u : List Part → Bool) → ((n : ℕ) → t (b (Some n)) ≡ true → u (b (Some n)) ≡ true) → (parts : List Part) → list_any (part_leads b t to) parts ≡ true → list_any (part_leads b u to) parts ≡ true
+parts_more : (b : Bodies) (to : ℕ) (t u : List Part → Bool) →
+    ((n : ℕ) → t (b (Some n)) ≡ true → u (b (Some n)) ≡ true) → (parts : List Part) →
+    list_any (part_leads b t to) parts ≡ true → list_any (part_leads b u to) parts ≡ true
 parts_more b to t u h [] l = l
 parts_more b to t u h (Drawn f ∷ ps) l = parts_more b to t u h ps l
 parts_more b to t u h (Called n moves ∷ ps) l =
@@ -120,7 +129,11 @@ grows f h m [] = record { le = omega arith; same = inl refl }
 grows f h m (k ∷ ks) = by (f k) (h k) (m k) (grows f h m ks)
   where
     by : (x y : Bool) → (x ≡ true → y ≡ true) → Grows (map f ks) (map h ks) → Grows (x ∷ map f ks) (y ∷ map h ks)
-    by true true i g = record { le = omega (arith, g.le); same = elim g.same [ inl e ↦ inl (ap (λ (bs : List Bool). true ∷ bs) e) | inr l ↦ inr (omega (arith, l)) ] }
+    by true true i g = record {
+      le = omega (arith, g.le);
+      same =
+          elim g.same [ inl e ↦ inl (ap (λ (bs : List Bool). true ∷ bs) e) | inr l ↦ inr (omega (arith, l)) ];
+    }
     by true false i g = let bad : false ≡ true = i refl in cc
     by false true i g = record { le = omega (arith, g.le); same = inr (omega (arith, g.le)) }
     by false false i g = record { le = g.le; same = elim g.same [ inl e ↦ inl (ap (λ (bs : List Bool). false ∷ bs) e) | inr l ↦ inr l ] }
@@ -133,7 +146,8 @@ placed_key n i (k ∷ ks) h = elim (bool_cases (n == k)) [
   | inr e ↦ later i (λ j q. placed_key n j ks q) (place_of n ks) refl (subst (λ (b : Bool). cond b (Some 0) (one_further (place_of n ks)) ≡ Some i) e h)
 ]
   where
-    later : (i : ℕ) → ((j : ℕ) → place_of n ks ≡ Some j → (j < length ks) × (get_or ks j 0 ≡ n)) → (o : Option ℕ) → place_of n ks ≡ o → one_further o ≡ Some i → (i < length (k ∷ ks)) × (get_or (k ∷ ks) i 0 ≡ n)
+    later : (i : ℕ) → ((j : ℕ) → place_of n ks ≡ Some j → (j < length ks) × (get_or ks j 0 ≡ n)) → (o : Option ℕ) →
+        place_of n ks ≡ o → one_further o ≡ Some i → (i < length (k ∷ ks)) × (get_or (k ∷ ks) i 0 ≡ n)
     later i ih None e f = cc
     later i ih (Some j) e f =
         let q : suc j ≡ i = (let w : j + 1 ≡ i = cc in omega arith) in
@@ -229,7 +243,12 @@ module _ (b : Bodies) (ks : List ℕ) (only : (n : ℕ) → place_of n ks ≡ No
   unfolding is_looped
   looped_back s h = by s.definition h
     where
-      by : (d : Option ℕ) → (elim d as (λ o. Bool) [ None ↦ false | Some d ↦ s.called == d || leads_to (length ks) b d (b (Some s.called)) ]) ≡ true → MatchOption d ⊥ (λ d. (s.called ≡ d) ⊎ Path b s.called d)
+      by : (d : Option ℕ) → (elim d as (λ o. Bool) [
+        | None ↦ false
+        | Some d ↦
+            s.called == d || leads_to (length ks) b d (b (Some s.called))
+      ]) ≡ true →
+          MatchOption d ⊥ (λ d. (s.called ≡ d) ⊎ Path b s.called d)
       by None e = cc
       by (Some d) e = elim (or_cases (s.called == d) (leads_to (length ks) b d (b (Some s.called))) e) [
         | inl q ↦ inl (of_eq s.called d q)
@@ -240,7 +259,12 @@ module _ (b : Bodies) (ks : List ℕ) (only : (n : ℕ) → place_of n ks ≡ No
   unfolding is_looped
   back_looped s h = by s.definition h
     where
-      by : (d : Option ℕ) → MatchOption d ⊥ (λ d. (s.called ≡ d) ⊎ Path b s.called d) → (elim d as (λ o. Bool) [ None ↦ false | Some d ↦ s.called == d || leads_to (length ks) b d (b (Some s.called)) ]) ≡ true
+      by : (d : Option ℕ) → MatchOption d ⊥ (λ d. (s.called ≡ d) ⊎ Path b s.called d) →
+          (elim d as (λ o. Bool) [
+            | None ↦ false
+            | Some d ↦
+                s.called == d || leads_to (length ks) b d (b (Some s.called))
+          ]) ≡ true
       by None e = absurd e
       by (Some d) e = elim e [
         | inl q ↦ or_left (s.called == d) (leads_to (length ks) b d (b (Some s.called))) (to_eq s.called d q)

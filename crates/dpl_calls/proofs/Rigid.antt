@@ -1,5 +1,6 @@
 -- Transformations keep level and upright lines, and points apart.
-use Rattle.std.proofs.Common.{◌≡◌, ◌≢◌, inl, inr, ℕ, zero, suc, Bool, true, false, cond, ◌==◌, ℤ, pos, ◌+ℤ◌, ◌<ℤ◌, List, [], ◌∷◌, map, Some, All, ap, arith, unsigned_abs}
+use Rattle.std.proofs.Common.{◌≡◌, ◌≢◌, inl, inr, ℕ, zero, suc, Bool, true, false, cond, ◌==◌, ℤ, pos, ◌+ℤ◌, ◌<ℤ◌, List}
+use Rattle.std.proofs.Common.{[], ◌∷◌, map, Some, All, ap, arith, unsigned_abs}
 use Rattle.std.specs.List.{flat_map}
 use Rattle.std.specs.Int.{int_min, int_max}
 use Rattle.std.proofs.Math.IntN.{neg_ℤ}
@@ -93,16 +94,21 @@ placed_sound f (Polygon (p ∷ ps)) F h = levels_placed f F p ps p h
 all_one : {X : Type 0} (P : X → Type 0) (x : X) → P x → All P (x ∷ [])
 all_one P x p = all_cons P x [] p (all_nil P)
 
-module _ (bodies : Bodies) (inner : (Corner → Corner) → List Part → List Figure) (ih : (f : Corner → Corner) (n : ℕ) → IsRigid f → All IsSound (inner f (bodies (Some n)))) where
+module _ (bodies : Bodies) (inner : (Corner → Corner) → List Part → List Figure)
+    (ih : (f : Corner → Corner) (n : ℕ) → IsRigid f → All IsSound (inner f (bodies (Some n)))) where
   part_sound : (f : Corner → Corner) (p : Part) → IsRigid f → IsPartKept p → All IsSound (part_figures bodies inner f p)
   part_sound f (Drawn x) F h = all_one IsSound (placed f x) (placed_sound f x F h.1)
   part_sound f (Called n moves) F h = ih (λ c. f (moves c)) n (composed_rigid f moves F h)
 
   parts_sound : (f : Corner → Corner) (ps : List Part) → IsRigid f → All IsPartKept ps → All IsSound (flat_map (part_figures bodies inner f) ps)
   parts_sound f [] F h = all_nil IsSound
-  parts_sound f (p ∷ ps) F h = All-append IsSound (part_figures bodies inner f p) (flat_map (part_figures bodies inner f) ps) (part_sound f p F (all_head IsPartKept p ps h)) (parts_sound f ps F (all_tail IsPartKept p ps h))
+  parts_sound f (p ∷ ps) F h = All-append IsSound (part_figures bodies inner f p)
+      (flat_map (part_figures bodies inner f) ps) (part_sound f p F (all_head IsPartKept p ps h))
+      (parts_sound f ps F (all_tail IsPartKept p ps h))
 
 -- all figures of a layout are sound
-pub figures_sound : (depth : ℕ) (bodies : Bodies) → AreKept bodies → (f : Corner → Corner) (ps : List Part) → IsRigid f → All IsPartKept ps → All IsSound (figures_of depth bodies f ps)
+pub figures_sound : (depth : ℕ) (bodies : Bodies) → AreKept bodies → (f : Corner → Corner) (ps : List Part) →
+    IsRigid f → All IsPartKept ps → All IsSound (figures_of depth bodies f ps)
 figures_sound zero bodies K f ps F h = all_nil IsSound
-figures_sound (suc depth) bodies K f ps F h = parts_sound bodies (figures_of depth bodies) (λ q n Q. figures_sound depth bodies K q (bodies (Some n)) Q (K (Some n))) f ps F h
+figures_sound (suc depth) bodies K f ps F h = parts_sound bodies (figures_of depth bodies)
+    (λ q n Q. figures_sound depth bodies K q (bodies (Some n)) Q (K (Some n))) f ps F h

@@ -1,5 +1,6 @@
 -- One command more.
-use Rattle.std.proofs.Common.{◌≡◌, ℕ, ◌+◌, arith, Bool, true, false, cond, List, [], ◌∷◌, ◌++◌, Option, None, Some, Result, Ok, Err, refl, sym, ◌∙◌, ap, append_assoc, slice_range, length, subst}
+use Rattle.std.proofs.Common.{◌≡◌, ℕ, ◌+◌, arith, Bool, true, false, cond, List, [], ◌∷◌, ◌++◌, Option, None, Some}
+use Rattle.std.proofs.Common.{Result, Ok, Err, refl, sym, ◌∙◌, ap, append_assoc, slice_range, length, subst}
 use Rattle.std.proofs.lemmas.List.{append-nil, nil_from_length}
 use Rattle.indexmap.specs.IndexMap.{keys}
 use Rattle.dpl_lex.specs.declared.types.Ending.{Ending}
@@ -37,7 +38,8 @@ nothing_in true = refl
 nothing_in false = refl
 
 -- the call that a command is, seen from another place
-site_standing : (place : Option ℕ) (s : Scope) (at : ℕ) (c : Command) → standing place (sites_of s at c) ≡ cond (is_same place s.definition) (site_in place at c) []
+site_standing : (place : Option ℕ) (s : Scope) (at : ℕ) (c : Command) →
+    standing place (sites_of s at c) ≡ cond (is_same place s.definition) (site_in place at c) []
 site_standing place s at Idle = nothing_in (is_same place s.definition)
 site_standing place s at (Polygon path) = nothing_in (is_same place s.definition)
 site_standing place s at (Box b) = nothing_in (is_same place s.definition)
@@ -69,26 +71,47 @@ site_rising s at (Call n ts) rest h = (omega arith, h)
 sites_rising : (chosen : List ℕ) (s : Scope) (at : ℕ) (commands : List (Result Command What)) → AreRising at (sites_from chosen s at commands)
 sites_rising chosen s at [] = tt
 sites_rising chosen s at (Err w ∷ rest) = rising_more at (at + 1) (sites_from chosen s (at + 1) rest) (omega arith) (sites_rising chosen s (at + 1) rest)
-sites_rising chosen s at (Ok c ∷ rest) = site_rising s at c (sites_from chosen (after chosen s c) (at + 1) rest) (sites_rising chosen (after chosen s c) (at + 1) rest)
+sites_rising chosen s at (Ok c ∷ rest) = site_rising s at c (sites_from chosen (after chosen s c) (at + 1) rest)
+    (sites_rising chosen (after chosen s c) (at + 1) rest)
 
 -- the first command that is left
-pub read_next : (text : List ℕ) (s : Span) (others rest : List Span) (c : Command) → rest ≡ s ∷ others → command_of (slice_range text s.start s.end) ≡ Ok c → read_commands text rest ≡ Ok c ∷ read_commands text others
+pub read_next : (text : List ℕ) (s : Span) (others rest : List Span) (c : Command) → rest ≡ s ∷ others →
+    command_of (slice_range text s.start s.end) ≡ Ok c → read_commands text rest ≡ Ok c ∷ read_commands text others
 read_next text s others rest c e r = ap (λ (ss : List Span). read_commands text ss) e ∙ ap (λ (x : Result Command What). x ∷ read_commands text others) r
 
-pub scans_next : (chosen : List ℕ) (all before rest : List (Result Command What)) (ending : Ending) (t t' : Table) (s s' : Scope) (at : ℕ) (c : Command) → before ≡ Ok c ∷ rest → broken_rule s (breaks_twice (keys t.definitions) c) c ≡ None → s' ≡ after chosen s c → ((place : Option ℕ) → bodies_of t' place ≡ put_at s.definition (bodies_of t) (parts_of s c) place) → keys t'.definitions ≡ with_start c (keys t.definitions) → ((place : Option ℕ) → calls_at t' place ≡ put_at s.definition (calls_at t) (site_in place at c) place) → Scans chosen all before ending t s at → Scans chosen all rest ending t' s' (at + 1)
+pub scans_next : (chosen : List ℕ) (all before rest : List (Result Command What)) (ending : Ending) (t t' : Table)
+    (s s' : Scope) (at : ℕ) (c : Command) → before ≡ Ok c ∷ rest →
+    broken_rule s (breaks_twice (keys t.definitions) c) c ≡ None → s' ≡ after chosen s c →
+    ((place : Option ℕ) → bodies_of t' place ≡ put_at s.definition (bodies_of t) (parts_of s c) place) →
+    keys t'.definitions ≡ with_start c (keys t.definitions) →
+    ((place : Option ℕ) → calls_at t' place ≡ put_at s.definition (calls_at t) (site_in place at c) place) →
+    Scans chosen all before ending t s at → Scans chosen all rest ending t' s' (at + 1)
 scans_next chosen all before rest ending t t' s s' at c eb clean es bodies numbers calls h0 =
     let h : Scans chosen all (Ok c ∷ rest) ending t s at = rw eb at h0 in
-    let rule : or_later at (broken_rule s (breaks_twice (keys t.definitions) c) c) (rule_fault chosen (after chosen s c) (with_start c (keys t.definitions)) (at + 1) rest ending) ≡ rule_fault chosen at_first [] 1 all ending = h.rule in record {
-      rule = rw (es, numbers) (ap (λ (o : Option What). or_later at o (rule_fault chosen (after chosen s c) (with_start c (keys t.definitions)) (at + 1) rest ending)) (sym clean) ∙ rule);
-      bodies = λ place. rw (es, bodies place) (put_more (is_same place s.definition) (bodies_of t place) (parts_of s c) (parts_from chosen (after chosen s c) rest place) ∙ h.bodies place);
+    let rule : or_later at (broken_rule s (breaks_twice (keys t.definitions) c) c)
+    (rule_fault chosen (after chosen s c) (with_start c (keys t.definitions)) (at + 1) rest ending) ≡ rule_fault
+    chosen at_first [] 1 all ending = h.rule in record {
+      rule = rw (es, numbers) (ap (λ (o : Option What). or_later at o
+          (rule_fault chosen (after chosen s c) (with_start c (keys t.definitions)) (at + 1) rest ending)) (sym clean) ∙
+          rule);
+      bodies = λ place. rw (es, bodies place) (put_more (is_same place s.definition) (bodies_of t place) (parts_of s c)
+          (parts_from chosen (after chosen s c) rest place) ∙ h.bodies place);
       numbers = rw numbers h.numbers;
-      calls = λ place. rw (es, calls place) (put_more (is_same place s.definition) (calls_at t place) (site_in place at c) (standing place (sites_from chosen (after chosen s c) (at + 1) rest)) ∙ (ap (λ (ss : List CallSite). calls_at t place ++ ss) (one_more place) ∙ h.calls place));
+      calls = λ place. rw (es, calls place) (put_more (is_same place s.definition) (calls_at t place)
+          (site_in place at c) (standing place (sites_from chosen (after chosen s c) (at + 1) rest)) ∙
+          (ap (λ (ss : List CallSite). calls_at t place ++ ss) (one_more place) ∙ h.calls place));
     }
   where
-    one_more : (place : Option ℕ) → cond (is_same place s.definition) (site_in place at c) [] ++ standing place (sites_from chosen (after chosen s c) (at + 1) rest) ≡ standing place (sites_of s at c ++ sites_from chosen (after chosen s c) (at + 1) rest)
-    one_more place = ap (λ (ss : List CallSite). ss ++ standing place (sites_from chosen (after chosen s c) (at + 1) rest)) (sym (site_standing place s at c)) ∙ sym (filter-append (λ (x : CallSite). is_same place x.definition) (sites_of s at c) (sites_from chosen (after chosen s c) (at + 1) rest))
+    one_more : (place : Option ℕ) → cond (is_same place s.definition) (site_in place at c) [] ++ standing place
+        (sites_from chosen (after chosen s c) (at + 1) rest) ≡ standing place
+        (sites_of s at c ++ sites_from chosen (after chosen s c) (at + 1) rest)
+    one_more place = ap (λ (ss : List CallSite). ss ++ standing place
+        (sites_from chosen (after chosen s c) (at + 1) rest)) (sym (site_standing place s at c)) ∙
+        sym (filter-append (λ (x : CallSite). is_same place x.definition) (sites_of s at c)
+        (sites_from chosen (after chosen s c) (at + 1) rest))
 
-pub scans_first : (chosen : List ℕ) (all rest : List (Result Command What)) (ending : Ending) (t : Table) → rest ≡ all → t.top ≡ [] → t.definitions.entries ≡ [] → Scans chosen all rest ending t at_first 1
+pub scans_first : (chosen : List ℕ) (all rest : List (Result Command What)) (ending : Ending) (t : Table) → rest ≡ all →
+    t.top ≡ [] → t.definitions.entries ≡ [] → Scans chosen all rest ending t at_first 1
 scans_first chosen all rest ending t er et ed = record {
   rule = rw (er, ed) refl;
   bodies = λ place. rw (er, empty t place et ed) refl;
@@ -101,7 +124,10 @@ scans_first chosen all rest ending t er et ed = record {
     empty t (Some n) et ed = rw ed refl
 
 -- no command is left, and the end breaks no rule
-pub scanned : (chosen : List ℕ) (text : List ℕ) (all : List (Result Command What)) (rest : List Span) (ending : Ending) (t : Table) (s : Scope) (at : ℕ) (broken : Option What) → length rest ≡ 0 → ((n : ℕ) → fault_at_end s n ending ≡ or_later n broken None) → broken ≡ None → Scans chosen all (read_commands text rest) ending t s at → IsScanned chosen all ending t
+pub scanned : (chosen : List ℕ) (text : List ℕ) (all : List (Result Command What)) (rest : List Span) (ending : Ending)
+    (t : Table) (s : Scope) (at : ℕ) (broken : Option What) → length rest ≡ 0 →
+    ((n : ℕ) → fault_at_end s n ending ≡ or_later n broken None) → broken ≡ None →
+    Scans chosen all (read_commands text rest) ending t s at → IsScanned chosen all ending t
 scanned chosen text all rest ending t s at broken e fe eb h =
     let none : rest ≡ [] = nil_from_length rest e in
     let h' : Scans chosen all [] ending t s at = subst (λ (ss : List Span). Scans chosen all (read_commands text ss) ending t s at) none h in

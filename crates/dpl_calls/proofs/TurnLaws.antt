@@ -78,5 +78,7 @@ other_side y h = by (int_lt y (pos 0)) refl where
       let s : 0 < unsigned_abs y = positive (unsigned_abs y) h in
       less_test (neg_ℤ y) (pos 0) (omega (arith, ints))
 
-pub opposite : (x y : ℤ) (c : Corner) → turn_by (unsigned_abs (neg_ℤ y) == 0) (int_lt x (pos 0)) (int_lt (neg_ℤ y) (pos 0)) (turn_by (unsigned_abs y == 0) (int_lt x (pos 0)) (int_lt y (pos 0)) c) ≡ c
-opposite x y c = undone (unsigned_abs y == 0) (int_lt x (pos 0)) (int_lt y (pos 0)) (unsigned_abs (neg_ℤ y) == 0) (int_lt (neg_ℤ y) (pos 0)) c (ap (λ (n : ℕ). n == 0) (same_size y)) (other_side y)
+pub opposite : (x y : ℤ) (c : Corner) → turn_by (unsigned_abs (neg_ℤ y) == 0) (int_lt x (pos 0))
+    (int_lt (neg_ℤ y) (pos 0)) (turn_by (unsigned_abs y == 0) (int_lt x (pos 0)) (int_lt y (pos 0)) c) ≡ c
+opposite x y c = undone (unsigned_abs y == 0) (int_lt x (pos 0)) (int_lt y (pos 0)) (unsigned_abs (neg_ℤ y) == 0)
+    (int_lt (neg_ℤ y) (pos 0)) c (ap (λ (n : ℕ). n == 0) (same_size y)) (other_side y)

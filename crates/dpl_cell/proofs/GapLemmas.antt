@@ -8,7 +8,8 @@ squares : (a b c d : ℕ) → a ≤ c → b ≤ d → a * a + b * b ≤ c * c + 
 squares a b c d h k = grind arith
 
 -- the gap from the least numbers of columns and of rows between
-pub gap_of : (a b : Corners) (dx dy : ℕ) → ((x y : ℤ) → IsWithin a.x1 a.x2 x → IsWithin b.x1 b.x2 y → dx ≤ between x y) → ((x y : ℤ) → IsWithin a.y1 a.y2 x → IsWithin b.y1 b.y2 y → dy ≤ between x y)
+pub gap_of : (a b : Corners) (dx dy : ℕ) → ((x y : ℤ) → IsWithin a.x1 a.x2 x → IsWithin b.x1 b.x2 y → dx ≤ between x y)
+    → ((x y : ℤ) → IsWithin a.y1 a.y2 x → IsWithin b.y1 b.y2 y → dy ≤ between x y)
     → IsBetween a.x1 a.x2 b.x1 b.x2 dx → IsBetween a.y1 a.y2 b.y1 b.y2 dy → IsGap2 (IsIn a) (IsIn b) (dx * dx + dy * dy)
 gap_of a b dx dy least_x least_y (x, x', h, h', e) (y, y', k, k', f) = record {
   least = λ x y x' y' c. squares _ _ _ _ (least_x x x' c.first.column c.second.column) (least_y y y' c.first.row c.second.row);

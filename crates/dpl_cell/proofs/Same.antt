@@ -19,7 +19,18 @@ RectFacts-prop : (c : Corners) (p q : RectFacts c) → p ≡ q
 RectFacts-prop c = hlevel props
 
 rect_with : (c : Corners) → RectFacts c → Rect
-rect_with c p = record { x1 = c.x1; y1 = c.y1; x2 = c.x2; y2 = c.y2; wide = p.wide; high = p.high; left = p.left; right = p.right; below = p.below; above = p.above }
+rect_with c p = record {
+  x1 = c.x1;
+  y1 = c.y1;
+  x2 = c.x2;
+  y2 = c.y2;
+  wide = p.wide;
+  high = p.high;
+  left = p.left;
+  right = p.right;
+  below = p.below;
+  above = p.above;
+}
 
 rect_facts : (r : Rect) → RectFacts (corners_of r)
 rect_facts r = record { wide = r.wide; high = r.high; left = r.left; right = r.right; below = r.below; above = r.above }

@@ -15,7 +15,8 @@ pub within_none : (a b p : ℤ) → b ≤ℤ a → is_within a b p ≡ false
 within_none a b p h = grind (arith, ints)
 
 pub in_pushed : (parts : List Stretch) (s : Stretch) (p : ℤ) → is_in_stretches (parts ++ s ∷ []) p ≡ (is_in_stretches parts p || is_within s.from s.to p)
-in_pushed parts s p = list_any-append (λ s. is_within s.from s.to p) parts (s ∷ []) ∙ ap (λ b. is_in_stretches parts p || b) (or-false (is_within s.from s.to p))
+in_pushed parts s p = list_any-append (λ s. is_within s.from s.to p) parts (s ∷ []) ∙
+    ap (λ b. is_in_stretches parts p || b) (or-false (is_within s.from s.to p))
 
 -- ---- maximal stretches that share a place are one
 
@@ -46,7 +47,8 @@ pub record Covers (has : ℤ → Type 0) (ss : List Stretch) : Type 0 where
 place : (ss : List Stretch) (p : ℤ) → is_in_stretches ss p ≡ true → Any (λ s. IsWithin s.from s.to p) ss
 place ss p h = let (k, s, l, e, t) = Any-from_list_any (λ s. is_within s.from s.to p) ss h in (k, s, l, e, test_within _ _ p t)
 
-pub stretch_at : (has : ℤ → Type 0) (ss : List Stretch) → Covers has ss → (k : ℕ) (d : Stretch) → k < length ss → IsMaximal has (get_or ss k d).from (get_or ss k d).to
+pub stretch_at : (has : ℤ → Type 0) (ss : List Stretch) → Covers has ss → (k : ℕ) (d : Stretch) → k < length ss →
+    IsMaximal has (get_or ss k d).from (get_or ss k d).to
 stretch_at has ss row k d l = record {
   long = (get_or ss k d).wide;
   full = λ x w. row.only x (list_any_at (λ s. is_within s.from s.to x) ss k d l (within_test _ _ x w));

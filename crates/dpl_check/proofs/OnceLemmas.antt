@@ -29,7 +29,8 @@ same_verdict o f n text (Yes cost bound) w a b = sym (good_only o f n text cost 
 same_verdict o f n text (No k p x y) (Yes cost bound) a b = good_only o f n text cost bound (No k p x y) b a
 same_verdict o f n text (No k p x y) (No l q u z) a b = ap verdict_from (sym a ∙ b)
 
-one_of_cells : (o : PlainOptions) (report : List ℕ) (v w : Verdict) (cells kept : Cells) → IsVerdictOfCells o report v cells kept → IsVerdictOfCells o report w cells kept → v ≡ w
+one_of_cells : (o : PlainOptions) (report : List ℕ) (v w : Verdict) (cells kept : Cells) →
+    IsVerdictOfCells o report v cells kept → IsVerdictOfCells o report w cells kept → v ≡ w
 one_of_cells o report v w cells kept a b =
     let e = same_layer o cells kept b.fragments a.fragments b.net a.net b.layer.layer a.layer.layer in
     let p = subst (λ z. IsVerdict o z b.net report w) e.0 b.verdict in
@@ -37,31 +38,46 @@ one_of_cells o report v w cells kept a b =
     same_verdict o a.fragments a.net report v w a.verdict q
 
 pub one_verdict : (o : PlainOptions) (text report : List ℕ) (v w : Verdict) → IsVerdictOf o text report v → IsVerdictOf o text report w → v ≡ w
-one_verdict o text report v w a b = with_layer o text (IsVerdictOfCells o report v) (IsVerdictOfCells o report w) (λ cells kept p q. one_of_cells o report v w cells kept p q) a b
+one_verdict o text report v w a b = with_layer o text (IsVerdictOfCells o report v) (IsVerdictOfCells o report w)
+    (λ cells kept p q. one_of_cells o report v w cells kept p q) a b
 
 pub verdict_free : (o : PlainOptions) (text report : List ℕ) (v : Verdict) → IsVerdictOf o text report v → (e : LayerError) → ¬ RefusesLayer o text e
 verdict_free o text report v a e (inl r) = drawing_free o text (IsVerdictOfCells o report v) e a r
-verdict_free o text report v a e (inr r) = with_layer o text (IsVerdictOfCells o report v) (λ cells kept. RefusesCells o cells kept e) (λ cells kept p q. cells_free o cells kept p.fragments p.net p.layer e q) a r
+verdict_free o text report v a e (inr r) = with_layer o text (IsVerdictOfCells o report v)
+    (λ cells kept. RefusesCells o cells kept e) (λ cells kept p q. cells_free o cells kept p.fragments p.net p.layer e
+    q) a r
 
 pub verdict_not_refused : (o : PlainOptions) (text report : List ℕ) (e : LayerError) (v : Verdict) → RefusesLayer o text e → IsVerdictOf o text report v → ⊥
 verdict_not_refused o text report e v r a = verdict_free o text report v a e r
 
 -- the verdict for the layer of a text is that on the text
-pub verdict_of_text : (o : PlainOptions) (text report : List ℕ) (f : Fragments) (n : Net) (v : Verdict) → IsLayerOfText o text f n → IsVerdict o f n report v → IsVerdictOf o text report v
-verdict_of_text o text report f n v l is = on_layer o text (λ cells kept. IsLayer o cells kept f n) (IsVerdictOfCells o report v) (λ cells kept k. record { fragments = f; net = n; layer = k; verdict = is }) l
+pub verdict_of_text : (o : PlainOptions) (text report : List ℕ) (f : Fragments) (n : Net) (v : Verdict) →
+    IsLayerOfText o text f n → IsVerdict o f n report v → IsVerdictOf o text report v
+verdict_of_text o text report f n v l is = on_layer o text (λ cells kept. IsLayer o cells kept f n)
+    (IsVerdictOfCells o report v) (λ cells kept k. record { fragments = f; net = n; layer = k; verdict = is }) l
 
 -- ---- what an answer says of each due one
 
-pub verdict_comes : (o : PlainOptions) (text report : List ℕ) (result : Result Verdict LayerError) → IfOk result (λ v. IsVerdictOf o text report v) → IfErr result (λ e. (e ≡ NoMemory) ⊎ RefusesLayer o text e)
+pub verdict_comes : (o : PlainOptions) (text report : List ℕ) (result : Result Verdict LayerError) →
+    IfOk result (λ v. IsVerdictOf o text report v) → IfErr result (λ e. (e ≡ NoMemory) ⊎ RefusesLayer o text e)
     → (v : Verdict) → IsVerdictOf o text report v → (result ≡ Ok v) ⊎ (result ≡ Err NoMemory)
 verdict_comes o text report (Ok w) a b v d = inl (ap Ok (one_verdict o text report w v a d))
 verdict_comes o text report (Err f) a (inl n) v d = inr (ap Err n)
 verdict_comes o text report (Err f) a (inr q) v d = absurd (verdict_not_refused o text report f v q d)
 
-yes_of_cells : (o : PlainOptions) (report : List ℕ) (cost bound : ℕ) (cells kept : Cells) → IsVerdictOfCells o report (Yes cost bound) cells kept → BoundsCells o bound cells kept
-yes_of_cells o report cost bound cells kept y = record { fragments = y.fragments; net = y.net; layer = y.layer; bounds = good_bounds o y.fragments y.net report cost bound y.verdict }
+yes_of_cells : (o : PlainOptions) (report : List ℕ) (cost bound : ℕ) (cells kept : Cells) →
+    IsVerdictOfCells o report (Yes cost bound) cells kept → BoundsCells o bound cells kept
+yes_of_cells o report cost bound cells kept y = record {
+  fragments = y.fragments;
+  net = y.net;
+  layer = y.layer;
+  bounds =
+      good_bounds o y.fragments y.net report cost bound y.verdict;
+}
 
-pub yes_bounds : (o : PlainOptions) (text report : List ℕ) (result : Result Verdict LayerError) → IfOk result (λ v. IsVerdictOf o text report v) → (cost bound : ℕ) → result ≡ Ok (Yes cost bound) → BoundsAll o text bound
+pub yes_bounds : (o : PlainOptions) (text report : List ℕ) (result : Result Verdict LayerError) →
+    IfOk result (λ v. IsVerdictOf o text report v) → (cost bound : ℕ) → result ≡ Ok (Yes cost bound) →
+    BoundsAll o text bound
 yes_bounds o text report result a cost bound h =
     let y = rw h at a in
     on_layer o text (IsVerdictOfCells o report (Yes cost bound)) (BoundsCells o bound) (yes_of_cells o report cost bound) y

@@ -1,5 +1,7 @@
 -- Sound figures within the range of coordinates make rectangles and polygons.
-use Rattle.std.proofs.Common.{◌≡◌, ◌⊎◌, inl, inr, ℕ, zero, suc, ◌+◌, ◌≤◌, ◌<◌, ◌^◌, max, ℤ, pos, Bool, true, false, ◌||◌, ◌&&◌, List, [], ◌∷◌, map, length, cond, Option, None, Some, IsSome, unsigned_abs, refl, sym, ◌∙◌, ap, subst, arith, get_or}
+use Rattle.std.proofs.Common.{◌≡◌, ◌⊎◌, inl, inr, ℕ, zero, suc, ◌+◌, ◌≤◌, ◌<◌, ◌^◌, max, ℤ, pos, Bool, true, false}
+use Rattle.std.proofs.Common.{◌||◌, ◌&&◌, List, [], ◌∷◌, map, length, cond, Option, None, Some, IsSome, unsigned_abs}
+use Rattle.std.proofs.Common.{refl, sym, ◌∙◌, ap, subst, arith, get_or}
 use Rattle.std.proofs.Math.IntN.{negsuc, neg_ℤ}
 use Rattle.std.proofs.lemmas.Int.{ints}
 use Rattle.std.specs.Ordering.{int_eq}
@@ -36,7 +38,8 @@ place_fits c h =
     let y : unsigned_abs c.y ≤ 2 ^ 30 = omega (arith, h) in
     (in_range c.x x, in_range c.y y)
 
-pub place_low : (cs : List Corner) (i : ℕ) (d : Corner) (n : ℕ) → i < length cs → places_reach (map place_of cs) ≤ n → place_reach (place_of (get_or cs i d)) ≤ n
+pub place_low : (cs : List Corner) (i : ℕ) (d : Corner) (n : ℕ) → i < length cs → places_reach (map place_of cs) ≤ n →
+    place_reach (place_of (get_or cs i d)) ≤ n
 place_low [] i d n l h = absurd (omega arith)
 place_low (c ∷ cs) zero d n l h = omega (arith, h)
 place_low (c ∷ cs) (suc i) d n l h = place_low cs i d n (omega arith) (omega (arith, h))
@@ -63,7 +66,9 @@ level_straight p q (inr e) = by (int_eq p.x q.x) (int_eq p.y q.y) (int_same p.y 
 
 levels_straight : (p : Corner) (ps : List Corner) (last : Corner) → AreLevel p ps last → are_straight (place_of p) (map place_of ps) (place_of last) ≡ true
 levels_straight p [] last h = level_straight p last h
-levels_straight p (q ∷ qs) last h = and_from (is_straight (place_of p) (place_of q)) (are_straight (place_of q) (map place_of qs) (place_of last)) (level_straight p q h.0) (levels_straight q qs last h.1)
+levels_straight p (q ∷ qs) last h = and_from (is_straight (place_of p) (place_of q))
+    (are_straight (place_of q) (map place_of qs) (place_of last)) (level_straight p q h.0)
+    (levels_straight q qs last h.1)
 
 pub sides_straight : (cs : List Corner) → HasLevelSides cs → has_straight_sides (map place_of cs) ≡ true
 sides_straight [] h = refl

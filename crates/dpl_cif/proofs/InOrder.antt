@@ -1,5 +1,7 @@
 -- The primitives of a text without calls are those of its commands in order.
-use Rattle.std.proofs.Common.{◌≡◌, ◌⊎◌, inl, inr, ℕ, zero, suc, ◌+◌, ◌≤◌, ◌<◌, ℤ, ◌<ℤ◌, Bool, true, false, cond, ◌&&◌, ◌||◌, ◌==◌, not, List, [], ◌∷◌, ◌++◌, map, is_some, Option, None, Some, Result, Ok, Err, All, refl, sym, ◌∙◌, ap, subst, arith}
+use Rattle.std.proofs.Common.{◌≡◌, ◌⊎◌, inl, inr, ℕ, zero, suc, ◌+◌, ◌≤◌, ◌<◌, ℤ, ◌<ℤ◌, Bool, true, false, cond, ◌&&◌}
+use Rattle.std.proofs.Common.{◌||◌, ◌==◌, not, List, [], ◌∷◌, ◌++◌, map, is_some, Option, None, Some, Result, Ok, Err}
+use Rattle.std.proofs.Common.{All, refl, sym, ◌∙◌, ap, subst, arith}
 use Rattle.std.specs.List.{list_all, flat_map}
 use Rattle.std.specs.Int.{int_min, int_max}
 use Rattle.std.proofs.lemmas.Int.{ints}
@@ -45,7 +47,9 @@ abbrev pub is_drawn : Part → Bool
 is_drawn (Drawn f) = true
 is_drawn (Called n moves) = false
 
-own_figures : (bodies : Bodies) (inner : (Corner → Corner) → List Part → List Figure) (ps : List Part) → list_all is_drawn ps ≡ true → All IsPartKept ps → map drawn (flat_map (part_figures bodies inner unmoved) ps) ≡ own_outlines ps
+own_figures : (bodies : Bodies) (inner : (Corner → Corner) → List Part → List Figure) (ps : List Part) →
+    list_all is_drawn ps ≡ true → All IsPartKept ps → map drawn
+    (flat_map (part_figures bodies inner unmoved) ps) ≡ own_outlines ps
 own_figures bodies inner [] d k = refl
 own_figures bodies inner (Drawn f ∷ ps) d k =
     rw (stays f (k 0 (Drawn f) (omega arith)).1) (ap (λ (os : List Outline). drawn f ∷ os) (own_figures bodies inner ps d (λ i x h. k (suc i) x (omega arith))))
@@ -60,10 +64,16 @@ where_outside : (o : Option ℕ) (ps : List Part) → own_outlines (where_true (
 where_outside None ps = refl
 where_outside (Some n) ps = refl
 
-in_order : (layer : List ℕ) (s : Scope) (commands : List (Result Command What)) → own_outlines (parts_from layer s commands None) ≡ drawn_in_order layer s commands
+in_order : (layer : List ℕ) (s : Scope) (commands : List (Result Command What)) →
+    own_outlines (parts_from layer s commands None) ≡ drawn_in_order layer s commands
 in_order layer s [] = refl
 in_order layer s (Err w ∷ rest) = in_order layer s rest
-in_order layer s (Ok c ∷ rest) = rw (own_append (where_true (is_same None s.definition) (parts_of s c)) (parts_from layer (after layer s c) rest None), where_outside s.definition (parts_of s c), in_order layer (after layer s c) rest) refl
+in_order layer s (Ok c ∷ rest) = rw (
+  own_append (where_true (is_same None s.definition) (parts_of s c))
+      (parts_from layer (after layer s c) rest None),
+  where_outside s.definition (parts_of s c),
+  in_order layer (after layer s c) rest,
+) refl
 
 none_before : {A : Type 0} (xs ys : List A) (test : A → Bool) → list_all test xs ≡ true → list_all test ys ≡ true → list_all test (xs ++ ys) ≡ true
 none_before [] ys test h k = k
@@ -84,7 +94,8 @@ command_drawn : (s : Scope) (c : Command) → is_no_call (Ok c) ≡ true → lis
 command_drawn s Idle h = refl
 command_drawn s (Polygon path) h = drawn_where (is_chosen s.layer) (Drawn (figure.Polygon (map (scaled_corner s.scale) path)) ∷ []) refl
 command_drawn s (Box b) h = drawn_where (is_chosen s.layer && not (b.length == 0 || b.width == 0)) (rectangle s.scale (box_extent b) ∷ []) refl
-command_drawn s (Wire width path) h = drawn_where (is_chosen s.layer && not (width == 0)) (map (rectangle s.scale) (legs width path)) (all_rectangles s.scale (legs width path))
+command_drawn s (Wire width path) h = drawn_where (is_chosen s.layer && not (width == 0))
+    (map (rectangle s.scale) (legs width path)) (all_rectangles s.scale (legs width path))
 command_drawn s (Flash d p) h = refl
 command_drawn s (Layer n) h = refl
 command_drawn s (Start n k) h = refl
@@ -92,7 +103,8 @@ command_drawn s Finish h = refl
 command_drawn s (Delete n) h = refl
 command_drawn s (Call n ts) h = cc
 
-commands_drawn : (layer : List ℕ) (s : Scope) (commands : List (Result Command What)) → list_all is_no_call commands ≡ true → list_all is_drawn (parts_from layer s commands None) ≡ true
+commands_drawn : (layer : List ℕ) (s : Scope) (commands : List (Result Command What)) →
+    list_all is_no_call commands ≡ true → list_all is_drawn (parts_from layer s commands None) ≡ true
 commands_drawn layer s [] h = refl
 commands_drawn layer s (Err w ∷ rest) h = commands_drawn layer s rest h
 commands_drawn layer s (Ok c ∷ rest) h =
@@ -105,7 +117,12 @@ pub first_none : (a b : Option Fault) → or_fault a b ≡ None → a ≡ None
 first_none None b h = refl
 first_none (Some f) b h = cc
 
-pub all_drawn : (layer text : List ℕ) (depth : ℕ) → All IsPartKept (parts_from layer at_first (forms_of text) None) → list_all is_no_call (forms_of text) ≡ true → map drawn (figures_of (suc depth) (parts_from layer at_first (forms_of text)) unmoved (parts_from layer at_first (forms_of text) None)) ≡ drawn_in_order layer at_first (forms_of text)
+pub all_drawn : (layer text : List ℕ) (depth : ℕ) → All IsPartKept (parts_from layer at_first (forms_of text) None) →
+    list_all is_no_call (forms_of text) ≡ true → map drawn
+    (figures_of (suc depth) (parts_from layer at_first (forms_of text)) unmoved
+    (parts_from layer at_first (forms_of text) None)) ≡ drawn_in_order layer at_first (forms_of text)
 all_drawn layer text depth kept h =
-    own_figures (parts_from layer at_first (forms_of text)) (figures_of depth (parts_from layer at_first (forms_of text))) (parts_from layer at_first (forms_of text) None) (commands_drawn layer at_first (forms_of text) h) kept
+    own_figures (parts_from layer at_first (forms_of text))
+    (figures_of depth (parts_from layer at_first (forms_of text))) (parts_from layer at_first (forms_of text) None)
+    (commands_drawn layer at_first (forms_of text) h) kept
     ∙ in_order layer at_first (forms_of text)

@@ -29,7 +29,9 @@ use Rattle.dpl_cif.specs.Gives.{Gives}
 module _ (layer text : List ℕ) (t : Table) (s : IsScanned layer (forms_of text) (ending_of text) t) where
   pub table_kept : length text ≤ 16777216 → AreKept (bodies_of t)
   table_kept short place = subst (All IsPartKept) (sym (s.bodies place))
-      (bodies_kept layer at_first [] 1 (forms_of text) (ending_of text) s.clean (record { some = omega arith; times = omega arith; over = omega arith }) (all_fit text (commands_of text).spans (omega arith)) place)
+      (bodies_kept layer at_first [] 1 (forms_of text) (ending_of text) s.clean
+      (record { some = omega arith; times = omega arith; over = omega arith })
+      (all_fit text (commands_of text).spans (omega arith)) place)
 
   count_same : length t.definitions.entries ≡ length (numbers_from [] (forms_of text))
   count_same = sym (length-map t.definitions.entries (λ e. e.0)) ∙ ap (λ (ns : List ℕ). length ns) s.numbers
@@ -41,22 +43,34 @@ module _ (layer text : List ℕ) (t : Table) (s : IsScanned layer (forms_of text
   missing_same : first_site (is_missing (keys t.definitions)) Missing written ≡ first_site (is_missing (numbers_from [] (forms_of text))) Missing written
   missing_same = rw s.numbers refl
 
-  loop_same : first_site (is_looped (length (keys t.definitions)) (bodies_of t)) Loop written ≡ first_site (is_looped (length (numbers_from [] (forms_of text))) (bodies_in layer text)) Loop written
+  loop_same : first_site (is_looped (length (keys t.definitions)) (bodies_of t)) Loop written ≡ first_site
+      (is_looped (length (numbers_from [] (forms_of text))) (bodies_in layer text)) Loop written
   loop_same = rw (s.numbers, bodies_same layer (forms_of text) (ending_of text) t s) refl
 
   -- no round finds a fault
-  no_fault : end_fault (length (forms_of text) + 1) (ending_of text) ≡ None → first_site (is_missing (keys t.definitions)) Missing written ≡ None → first_site (is_looped (length (keys t.definitions)) (bodies_of t)) Loop written ≡ None → first_fault layer text ≡ None
+  no_fault : end_fault (length (forms_of text) + 1) (ending_of text) ≡ None →
+      first_site (is_missing (keys t.definitions)) Missing written ≡ None →
+      first_site (is_looped (length (keys t.definitions)) (bodies_of t)) Loop written ≡ None →
+      first_fault layer text ≡ None
   no_fault e m l = rw (s.clean, e, ← missing_same, m, ← loop_same, l) refl
 
-  pub gives_limits : (result : Result Layout CifError) (depth : ℕ) → depth ≡ length t.definitions.entries + 1 → end_fault (length (forms_of text) + 1) (ending_of text) ≡ None → first_site (is_missing (keys t.definitions)) Missing written ≡ None → first_site (is_looped (length (keys t.definitions)) (bodies_of t)) Loop written ≡ None
-      → Gives result (within_limits (total_of own_weight depth (bodies_of t) (bodies_of t None)) (total_of own_calls depth (bodies_of t) (bodies_of t None)) (map drawn (figures_of depth (bodies_of t) unmoved (bodies_of t None))))
+  pub gives_limits : (result : Result Layout CifError) (depth : ℕ) → depth ≡ length t.definitions.entries + 1 →
+      end_fault (length (forms_of text) + 1) (ending_of text) ≡ None →
+      first_site (is_missing (keys t.definitions)) Missing written ≡ None →
+      first_site (is_looped (length (keys t.definitions)) (bodies_of t)) Loop written ≡ None
+      → Gives result (within_limits (total_of own_weight depth (bodies_of t) (bodies_of t None))
+      (total_of own_calls depth (bodies_of t) (bodies_of t None))
+      (map drawn (figures_of depth (bodies_of t) unmoved (bodies_of t None))))
       → Gives result (reading layer text)
   gives_limits result depth ed e m l h =
       let same : bodies_of t ≡ bodies_in layer text = bodies_same layer (forms_of text) (ending_of text) t s in
       let deep : depth ≡ depth_of text = ed ∙ ap (λ (n : ℕ). n + 1) count_same in
-      let all : ℕ → Bodies → Reading = λ n b. within_limits (total_of own_weight n b (b None)) (total_of own_calls n b (b None)) (map drawn (figures_of n b unmoved (b None))) in
-      let moved : all depth (bodies_of t) ≡ all (depth_of text) (bodies_in layer text) = ap (λ (n : ℕ). all n (bodies_of t)) deep ∙ ap (λ (b : Bodies). all (depth_of text) b) same in
-      let clear : all (depth_of text) (bodies_in layer text) ≡ reading layer text = sym (ap (λ (f : Option Fault). or_within f (all (depth_of text) (bodies_in layer text))) (no_fault e m l)) in
+      let all : ℕ → Bodies → Reading = λ n b. within_limits (total_of own_weight n b (b None))
+      (total_of own_calls n b (b None)) (map drawn (figures_of n b unmoved (b None))) in
+      let moved : all depth (bodies_of t) ≡ all (depth_of text) (bodies_in layer text) =
+      ap (λ (n : ℕ). all n (bodies_of t)) deep ∙ ap (λ (b : Bodies). all (depth_of text) b) same in
+      let clear : all (depth_of text) (bodies_in layer text) ≡ reading layer text =
+      sym (ap (λ (f : Option Fault). or_within f (all (depth_of text) (bodies_in layer text))) (no_fault e m l)) in
       subst (Gives result) (moved ∙ clear) h
 
 -- what was looked for is not there

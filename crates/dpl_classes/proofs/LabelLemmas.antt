@@ -43,12 +43,15 @@ numbered_push label x n h l = record {
 push_before : (label : List ℕ) (x k : ℕ) → k < length label → get_or (label ++ x ∷ []) k 0 ≡ get_or label k 0
 push_before label x k l = get_or_append_left label (x ∷ []) 0 k l
 
-pub numbered_new : (roots : List ℕ) (i : ℕ) (label new : List ℕ) (n : ℕ) → ((k : ℕ) → k < length roots → get_or roots k 0 ≤ k) → i < length roots → get_or roots i 0 ≡ i → new ≡ label ++ n ∷ [] → Numbered roots i label n → Numbered roots (i + 1) new (n + 1)
+pub numbered_new : (roots : List ℕ) (i : ℕ) (label new : List ℕ) (n : ℕ) →
+    ((k : ℕ) → k < length roots → get_or roots k 0 ≤ k) → i < length roots → get_or roots i 0 ≡ i → new ≡ label ++ n ∷
+    [] → Numbered roots i label n → Numbered roots (i + 1) new (n + 1)
 numbered_new roots i label new n low within own e s = rw e (record {
   long = rw length_push (let l = s.long in omega arith);
   few = let f = s.few in omega arith;
   root = λ k l. elim (cases_lt k i) [
-    | inl h ↦ let r = low k (omega arith) in let g = s.long in rw (push_before label n k (omega arith), push_before label n (get_or roots k 0) (omega arith)) (s.root k h)
+    | inl h ↦ let r = low k (omega arith) in let g = s.long in
+        rw (push_before label n k (omega arith), push_before label n (get_or roots k 0) (omega arith)) (s.root k h)
     | inr h ↦ let f : k ≡ i = omega arith in rw (f, own) refl
   ];
   below = λ k l. elim (cases_lt k i) [
@@ -65,10 +68,15 @@ numbered_new roots i label new n low within own e s = rw e (record {
       | inr b ↦ omega arith
     ]
   ];
-  numbered = let m : max n (n + 1) ≡ n + 1 = omega arith in let P : ℕ → Type 0 = IsNumbered (label ++ n ∷ []) in subst P m (numbered_push label n n s.numbered (omega arith));
+  numbered = let m : max n (n + 1) ≡ n + 1 = omega arith in let P : ℕ → Type 0 = IsNumbered (label ++ n ∷ []) in
+      subst P m (numbered_push label n n s.numbered (omega arith));
 })
 
-pub numbered_old : (roots : List ℕ) (i : ℕ) (label new : List ℕ) (n x : ℕ) → ((k : ℕ) → k < length roots → get_or roots k 0 ≤ k) → ((k : ℕ) → k < length roots → get_or roots (get_or roots k 0) 0 ≡ get_or roots k 0) → i < length roots → get_or roots i 0 ≢ i → x ≡ get_or label (get_or roots i 0) x → new ≡ label ++ x ∷ [] → Numbered roots i label n → Numbered roots (i + 1) new n
+pub numbered_old : (roots : List ℕ) (i : ℕ) (label new : List ℕ) (n x : ℕ) →
+    ((k : ℕ) → k < length roots → get_or roots k 0 ≤ k) →
+    ((k : ℕ) → k < length roots → get_or roots (get_or roots k 0) 0 ≡ get_or roots k 0) → i < length roots →
+    get_or roots i 0 ≢ i → x ≡ get_or label (get_or roots i 0) x → new ≡ label ++ x ∷ [] → Numbered roots i label n →
+    Numbered roots (i + 1) new n
 numbered_old roots i label new n x low fixed within own read e s =
     let lo = low i within in let long = s.long in
     let under : get_or roots i 0 < i = omega (arith, own) in
@@ -91,20 +99,26 @@ numbered_old roots i label new n x low fixed within own read e s =
         ]
         | inr a ↦ absurd (let d : k ≡ i = omega arith in own (rw d at p))
       ];
-      numbered = let m : max n (x + 1) ≡ n = omega arith in let P : ℕ → Type 0 = IsNumbered (label ++ x ∷ []) in subst P m (numbered_push label x n s.numbered (omega arith));
+      numbered = let m : max n (x + 1) ≡ n = omega arith in let P : ℕ → Type 0 = IsNumbered (label ++ x ∷ []) in
+          subst P m (numbered_push label x n s.numbered (omega arith));
     })
 
-pub numbered_all : (roots : List ℕ) (i : ℕ) (label : List ℕ) (n : ℕ) → i ≡ length roots → ((k : ℕ) → k < length roots → get_or roots k 0 ≤ k) → ((k : ℕ) → k < length roots → get_or roots (get_or roots k 0) 0 ≡ get_or roots k 0) → Numbered roots i label n → AreNumbers roots label n
+pub numbered_all : (roots : List ℕ) (i : ℕ) (label : List ℕ) (n : ℕ) → i ≡ length roots →
+    ((k : ℕ) → k < length roots → get_or roots k 0 ≤ k) →
+    ((k : ℕ) → k < length roots → get_or roots (get_or roots k 0) 0 ≡ get_or roots k 0) → Numbered roots i label n →
+    AreNumbers roots label n
 numbered_all roots i label n whole low fixed s = record {
   long = s.long ∙ whole;
   same = λ k l p q. (
-    (λ e. let a = low k p in let b = low l q in s.one _ _ (omega arith) (omega arith) (fixed k p) (fixed l q) (sym (s.root k (omega arith)) ∙ e ∙ s.root l (omega arith))),
+    (λ e. let a = low k p in let b = low l q in s.one _ _ (omega arith) (omega arith) (fixed k p) (fixed l q)
+        (sym (s.root k (omega arith)) ∙ e ∙ s.root l (omega arith))),
     (λ e. s.root k (omega arith) ∙ ap (λ r. get_or label r 0) e ∙ sym (s.root l (omega arith))),
   );
   numbered = s.numbered;
 }
 
-pub classes_are : (pairs : List (ℕ × ℕ)) (n : ℕ) (roots label : List ℕ) (count' : ℕ) → AreRoots pairs n roots → AreNumbers roots label count' → AreClasses pairs n label count'
+pub classes_are : (pairs : List (ℕ × ℕ)) (n : ℕ) (roots label : List ℕ) (count' : ℕ) → AreRoots pairs n roots →
+    AreNumbers roots label count' → AreClasses pairs n label count'
 classes_are pairs n roots label count' r s = record {
   long = s.long ∙ r.long;
   same = λ i j l m.

@@ -1,5 +1,6 @@
 -- Where ways up end, as they are made shorter and joined.
-use Rattle.std.proofs.Common.{arith, ◌≡◌, ◌≢◌, ℕ, ◌+◌, ◌<◌, ◌≤◌, ◌==◌, List, length, get_or, set, length-set, ◌∙◌, All, refl, sym, ap, subst, inl, inr, cond, max, min, map, get_or-set_other, get_or-set_same}
+use Rattle.std.proofs.Common.{arith, ◌≡◌, ◌≢◌, ℕ, ◌+◌, ◌<◌, ◌≤◌, ◌==◌, List, length, get_or, set, length-set, ◌∙◌, All}
+use Rattle.std.proofs.Common.{refl, sym, ap, subst, inl, inr, cond, max, min, map, get_or-set_other, get_or-set_same}
 use Rattle.std.proofs.lemmas.Bool.{cases_lt, cases_eq}
 use Rattle.std.proofs.lemmas.List.{get_or-map, length-map, ext_get_or}
 use Rattle.dpl_classes.specs.Ways.{AreTops, IsUnited}
@@ -32,7 +33,8 @@ tops_short ups tops at next within e t = record {
     | inr n ↦ rw (get_or-set_other ups at i next 0 n) (t.same i (shorter i l))
   ];
   ends = λ i l. elim (cases_eq i at) [
-    | inl g ↦ rw (g, get_or-set_same ups at next 0 within, e) (λ h. t.ends at within (let a = t.falls at within in let b = t.falls (get_or ups at 0) lower in omega arith))
+    | inl g ↦ rw (g, get_or-set_same ups at next 0 within, e)
+        (λ h. t.ends at within (let a = t.falls at within in let b = t.falls (get_or ups at 0) lower in omega arith))
     | inr n ↦ rw (get_or-set_other ups at i next 0 n) (t.ends i (shorter i l))
   ];
 } where
@@ -43,7 +45,8 @@ tops_short ups tops at next within e t = record {
   shorter i l = let g = length-set ups at next in omega arith
 
 -- the end of the way from the place `at` is that of the way from `of`
-pub top_step : (ups tops : List ℕ) (at next of : ℕ) → at < length ups → next ≡ get_or ups (get_or ups at 0) 0 → AreTops ups tops → get_or tops at 0 ≡ get_or tops of 0 → get_or tops next 0 ≡ get_or tops of 0
+pub top_step : (ups tops : List ℕ) (at next of : ℕ) → at < length ups → next ≡ get_or ups (get_or ups at 0) 0 →
+    AreTops ups tops → get_or tops at 0 ≡ get_or tops of 0 → get_or tops next 0 ≡ get_or tops of 0
 top_step ups tops at next of within e t h = let a = t.falls at within in rw e (t.same (get_or ups at 0) (omega arith) ∙ t.same at within ∙ h)
 
 -- ---- one end is led to another
@@ -57,7 +60,8 @@ led_at from to tops k l = get_or-map (λ r. cond (r == from) to r) tops k 0 0 l
 led_end : (from to : ℕ) → cond (to == from) to to ≡ to
 led_end from to = elim (cases_eq to from) [ inl e ↦ moved_yes from to to e | inr n ↦ moved_no from to to n ]
 
-pub tops_led : (ups tops : List ℕ) (from to : ℕ) → from < length ups → to ≤ from → get_or ups from 0 ≡ from → get_or ups to 0 ≡ to → AreTops ups tops → AreTops (set ups from to) (led from to tops)
+pub tops_led : (ups tops : List ℕ) (from to : ℕ) → from < length ups → to ≤ from → get_or ups from 0 ≡ from →
+    get_or ups to 0 ≡ to → AreTops ups tops → AreTops (set ups from to) (led from to tops)
 tops_led ups tops from to within falls e f t = record {
   long = length-map tops (λ r. cond (r == from) to r) ∙ t.long ∙ sym (length-set ups from to);
   falls = λ i l. elim (cases_eq i from) [
@@ -72,7 +76,8 @@ tops_led ups tops from to within falls e f t = record {
   ends = λ i l. elim (cases_eq i from) [
     | inl g ↦ rw (g, get_or-set_same ups from to 0 within) (λ h. at_from ∙ h)
     | inr n ↦ let b = shorter i l in let c = t.long in
-        rw (get_or-set_other ups from i to 0 n) (λ h. led_at from to tops i (omega arith) ∙ ap (λ r. cond (r == from) to r) (t.ends i b h) ∙ moved_no from to i n)
+        rw (get_or-set_other ups from i to 0 n) (λ h. led_at from to tops i (omega arith) ∙
+        ap (λ r. cond (r == from) to r) (t.ends i b h) ∙ moved_no from to i n)
   ];
 } where
   shorter : (i : ℕ) → i < length (set ups from to) → i < length ups
@@ -94,7 +99,8 @@ pub record UnitedSoFar (pairs : List (ℕ × ℕ)) (n t : ℕ) (ups : List ℕ) 
 pub united_none : (pairs : List (ℕ × ℕ)) (ups : List ℕ) → ((k : ℕ) → k < length ups → get_or ups k 0 ≡ k) → UnitedSoFar pairs (length ups) 0 ups
 united_none pairs ups h = record { tops = ups; are = tops_none ups h; rooted = rooted_none pairs ups h }
 
-pub united_more : (pairs : List (ℕ × ℕ)) (n t : ℕ) (ups short : List ℕ) (p : ℕ × ℕ) (a b from to : ℕ) → All (λ p. (p.0 < n) × (p.1 < n)) pairs → t < length pairs → p ≡ get_or pairs t p
+pub united_more : (pairs : List (ℕ × ℕ)) (n t : ℕ) (ups short : List ℕ) (p : ℕ × ℕ) (a b from to : ℕ) →
+    All (λ p. (p.0 < n) × (p.1 < n)) pairs → t < length pairs → p ≡ get_or pairs t p
     → from ≡ max a b → to ≡ min a b → a < length short → b < length short → get_or short a 0 ≡ a → get_or short b 0 ≡ b
     → ((tops : List ℕ) → AreTops ups tops → AreTops short tops × (a ≡ get_or tops p.0 0) × (b ≡ get_or tops p.1 0))
     → UnitedSoFar pairs n t ups → UnitedSoFar pairs n (t + 1) (set short from to)
@@ -102,7 +108,8 @@ united_more pairs n t ups short p a b from to inside within is e f la lb ea eb h
     let (are, ta, tb) = h u.tops u.are in
     let r = u.rooted in record {
       tops = led from to u.tops;
-      are = tops_led short u.tops from to (at_less (λ k. k < length short) la lb).0 (omega arith) (at_less (λ k. get_or short k 0 ≡ k) ea eb).0 (at_less (λ k. get_or short k 0 ≡ k) ea eb).1 are;
+      are = tops_led short u.tops from to (at_less (λ k. k < length short) la lb).0 (omega arith)
+          (at_less (λ k. get_or short k 0 ≡ k) ea eb).0 (at_less (λ k. get_or short k 0 ≡ k) ea eb).1 are;
       rooted = rooted_more pairs n t u.tops (led from to u.tops) p from to inside within is r
           (move_at pairs n t u.tops (led from to u.tops) p from to inside within is r.long (length-map u.tops _)
           (e ∙ ap (λ k. max k b) ta ∙ ap (λ k. max (get_or u.tops p.0 0) k) tb) (f ∙ ap (λ k. min k b) ta ∙ ap (λ k. min (get_or u.tops p.0 0) k) tb)
@@ -130,7 +137,8 @@ pub record FlatSoFar (i : ℕ) (ups tops : List ℕ) : Type 0 where
 pub flat_none : (ups tops : List ℕ) → AreTops ups tops → FlatSoFar 0 ups tops
 flat_none ups tops t = record { are = t; flat = λ k l. absurd (omega arith) }
 
-pub flat_more : (i : ℕ) (ups tops : List ℕ) (next : ℕ) → i < length ups → next ≡ get_or ups (get_or ups i 0) 0 → FlatSoFar i ups tops → FlatSoFar (i + 1) (set ups i next) tops
+pub flat_more : (i : ℕ) (ups tops : List ℕ) (next : ℕ) → i < length ups → next ≡ get_or ups (get_or ups i 0) 0 →
+    FlatSoFar i ups tops → FlatSoFar (i + 1) (set ups i next) tops
 flat_more i ups tops next within e s = record {
   are = tops_short ups tops i next within e s.are;
   flat = λ k l. elim (cases_lt k i) [

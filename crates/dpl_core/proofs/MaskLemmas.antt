@@ -12,25 +12,39 @@ use Rattle.dpl_layer.specs.Layers.{IsLayer, IsLayerOfText}
 use Rattle.dpl_layer.proofs.TextLemmas.{on_layer}
 use Rattle.dpl_core.specs.Reports.{HasMasks, IsReportOfNet, IsReportOfCells, IsReportOf, IsBalancedOfCells}
 
-pub masks_of_layer : (o : PlainOptions) (f : Fragments) (n : Net) (r : PlainReport) → ((cells : Cells) (tiles : List Corners) → AreCutFrom o cells tiles f → AreMasksOf o cells tiles f n r)
+pub masks_of_layer : (o : PlainOptions) (f : Fragments) (n : Net) (r : PlainReport) →
+    ((cells : Cells) (tiles : List Corners) → AreCutFrom o cells tiles f → AreMasksOf o cells tiles f n r)
     → (cells kept : Cells) → IsLayer o cells kept f n → HasMasks o cells f n r
 masks_of_layer o f n r law cells kept k =
     let a = k.layer.fragments in
     let h = k.shared a.tiles a.are_tiles in
-    let from : AreCutFrom o cells a.tiles f = record { keep = a.keep; label = a.label; count = a.count; drawn = h.drawn; apart = h.apart; shapes = a.are_shapes; fragments = a.are_fragments } in
+    let from : AreCutFrom o cells a.tiles f = record {
+      keep = a.keep;
+      label = a.label;
+      count = a.count;
+      drawn = h.drawn;
+      apart = h.apart;
+      shapes = a.are_shapes;
+      fragments = a.are_fragments;
+    } in
     record { tiles = a.tiles; are_tiles = a.are_tiles; masks = law cells a.tiles from }
 
 -- the masks of a layer's report are those of whatever cells the layer is of
 abbrev pub HaveMasks : PlainOptions → Fragments → Net → PlainReport → Type 0
 HaveMasks o f n r = (cells kept : Cells) → IsLayer o cells kept f n → HasMasks o cells f n r
 
-pub report_of_cells : (o : PlainOptions) (f : Fragments) (n : Net) (r : PlainReport) → IsReportOfNet o f n r → HaveMasks o f n r → (cells kept : Cells) → IsLayer o cells kept f n → IsReportOfCells o r cells kept
+pub report_of_cells : (o : PlainOptions) (f : Fragments) (n : Net) (r : PlainReport) → IsReportOfNet o f n r →
+    HaveMasks o f n r → (cells kept : Cells) → IsLayer o cells kept f n → IsReportOfCells o r cells kept
 report_of_cells o f n r is masks cells kept l = record { fragments = f; net = n; layer = l; report = is; masks = masks cells kept l }
 
-pub report_of_text : (o : PlainOptions) (text : List ℕ) (f : Fragments) (n : Net) (r : PlainReport) → IsReportOfNet o f n r → HaveMasks o f n r → IsLayerOfText o text f n → IsReportOf o text r
+pub report_of_text : (o : PlainOptions) (text : List ℕ) (f : Fragments) (n : Net) (r : PlainReport) →
+    IsReportOfNet o f n r → HaveMasks o f n r → IsLayerOfText o text f n → IsReportOf o text r
 report_of_text o text f n r is masks l = on_layer o text (λ cells kept. IsLayer o cells kept f n) (IsReportOfCells o r) (report_of_cells o f n r is masks) l
 
-pub balanced_of_text : (o : PlainOptions) (text : List ℕ) (f : Fragments) (n : Net) (r : PlainReport) → IsReportOfNet o f n r → HaveMasks o f n r → AreBalanced f n r.head.colours → IsLayerOfText o text f n → OnLayer o text (IsBalancedOfCells o r)
+pub balanced_of_text : (o : PlainOptions) (text : List ℕ) (f : Fragments) (n : Net) (r : PlainReport) →
+    IsReportOfNet o f n r → HaveMasks o f n r → AreBalanced f n r.head.colours → IsLayerOfText o text f n →
+    OnLayer o text (IsBalancedOfCells o r)
 unfolding report_of_cells
 balanced_of_text o text f n r is masks even l =
-    on_layer o text (λ cells kept. IsLayer o cells kept f n) (IsBalancedOfCells o r) (λ cells kept k. record { of_cells = report_of_cells o f n r is masks cells kept k; even = even }) l
+    on_layer o text (λ cells kept. IsLayer o cells kept f n) (IsBalancedOfCells o r)
+    (λ cells kept k. record { of_cells = report_of_cells o f n r is masks cells kept k; even = even }) l

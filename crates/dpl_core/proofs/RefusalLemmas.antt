@@ -48,7 +48,8 @@ odd_alike o cells kept e f a b =
 -- a text with too many odd faces has a layer within the limits before
 within : (o : PlainOptions) (text : List ℕ) (e f : LayerError) → OnLayer o text (HasOddNet o e) → ¬ RefusesLayer o text f
 within o text e f h (inl r) = layer.drawing_free o text (HasOddNet o e) f h r
-within o text e f h (inr r) = with_layer o text (HasOddNet o e) (λ cells kept. RefusesCells o cells kept f) (λ cells kept a b. layer.cells_free o cells kept a.fragments a.net a.layer f b) h r
+within o text e f h (inr r) = with_layer o text (HasOddNet o e) (λ cells kept. RefusesCells o cells kept f)
+    (λ cells kept a b. layer.cells_free o cells kept a.fragments a.net a.layer f b) h r
 
 pub one_split_refusal : (o : PlainOptions) (text : List ℕ) (e f : LayerError) → RefusesSplit o text e → RefusesSplit o text f → e ≡ f
 one_split_refusal o text e f (inl a) (inl b) = layer.one_text_refusal o text e f a b
@@ -69,12 +70,15 @@ split_kind o text k n (inr h) = of_layer o text (HasOddNet o (Limit k n)) (λ ce
 -- ---- of a text with a layer
 
 -- a layer whose net has too many odd faces refuses the text
-pub odd_refuses : (o : PlainOptions) (text : List ℕ) (f : Fragments) (n : Net) (e : LayerError) → IsLayerOfText o text f n → (e ≡ NoMemory) ⊎ IsOddNet n e → (e ≡ NoMemory) ⊎ RefusesSplit o text e
+pub odd_refuses : (o : PlainOptions) (text : List ℕ) (f : Fragments) (n : Net) (e : LayerError) →
+    IsLayerOfText o text f n → (e ≡ NoMemory) ⊎ IsOddNet n e → (e ≡ NoMemory) ⊎ RefusesSplit o text e
 odd_refuses o text f n e l (inl m) = inl m
-odd_refuses o text f n e l (inr h) = inr (inr (on_layer o text (λ cells kept. IsLayer o cells kept f n) (HasOddNet o e) (λ cells kept k. record { fragments = f; net = n; layer = k; odd = h }) l))
+odd_refuses o text f n e l (inr h) = inr (inr (on_layer o text (λ cells kept. IsLayer o cells kept f n) (HasOddNet o e)
+    (λ cells kept k. record { fragments = f; net = n; layer = k; odd = h }) l))
 
 -- a layer whose net has not too many odd faces leaves no refusal
-pub none_refuses : (o : PlainOptions) (text : List ℕ) (f : Fragments) (n : Net) → IsLayerOfText o text f n → ((e : LayerError) → ¬ IsOddNet n e) → (e : LayerError) → ¬ RefusesSplit o text e
+pub none_refuses : (o : PlainOptions) (text : List ℕ) (f : Fragments) (n : Net) → IsLayerOfText o text f n →
+    ((e : LayerError) → ¬ IsOddNet n e) → (e : LayerError) → ¬ RefusesSplit o text e
 none_refuses o text f n l free e (inl r) = layer.none_comes o text f n l e r
 none_refuses o text f n l free e (inr r) = with_layer o text (λ cells kept. IsLayer o cells kept f n) (HasOddNet o e) alike l r where
   alike : (cells kept : Cells) → IsLayer o cells kept f n → HasOddNet o e cells kept → ⊥
@@ -83,5 +87,7 @@ none_refuses o text f n l free e (inr r) = with_layer o text (λ cells kept. IsL
       free e (subst (λ z. IsOddNet z e) s.1 h.odd)
 
 -- where each refusal that applies is answered, none applies to what was made
-pub made_free : {T : Type 0} (x : T) (R : LayerError → Type 0) → ((e : LayerError) → R e → (◌≡◌ {A = Result T LayerError} (Ok x) (Err e)) ⊎ (◌≡◌ {A = Result T LayerError} (Ok x) (Err NoMemory))) → (e : LayerError) → ¬ R e
+pub made_free : {T : Type 0} (x : T) (R : LayerError → Type 0) →
+    ((e : LayerError) → R e → (◌≡◌ {A = Result T LayerError} (Ok x) (Err e)) ⊎
+    (◌≡◌ {A = Result T LayerError} (Ok x) (Err NoMemory))) → (e : LayerError) → ¬ R e
 made_free x R exact e r = elim (exact e r) [ inl a ↦ absurd (cc) | inr a ↦ absurd (cc) ]

@@ -11,7 +11,8 @@ use Rattle.dpl_sign.proofs.AsideLaw.{none_aside}
 use Rattle.dpl_core.specs.Reports.{IsLeast}
 
 -- the report has the colours, the cost, the edges set aside and the bound of a solution
-pub least_of : (net : Net) (colours : List Bool) (cost : ℕ) (aside : List ℕ) (excess' : ℕ) (cs : List Cycle) (bound : ℕ) → IsSolution net colours cost aside excess' cs bound
+pub least_of : (net : Net) (colours : List Bool) (cost : ℕ) (aside : List ℕ) (excess' : ℕ) (cs : List Cycle)
+    (bound : ℕ) → IsSolution net colours cost aside excess' cs bound
     → (r : PlainReport) → r.head.colours ≡ colours → r.head.cost ≡ cost → r.head.bound ≡ bound → r.lists.aside ≡ aside → IsLeast net r
 least_of net colours cost aside excess' cs bound s r ec et eb ea = record {
   half = λ others k. let h = half_least net colours others cost aside excess' cs bound s k in omega arith;

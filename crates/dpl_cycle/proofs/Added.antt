@@ -22,22 +22,31 @@ pair_out : (c d z : ℕ) → z ≢ c → z ≢ d → pair_label c d z ≡ 1
 unfolding pair_label
 pair_out c d z a b = rw (ne_eqb z c a, ne_eqb z d b, pair_label)
 
-pub pair_apart : (n : ℕ) (f g : ℕ → ℕ) → Permutes n f g → (c d : ℕ) → c < n → d < n → f c ≡ d → f d ≡ c → (z : ℕ) → z < n → z ≢ c → z ≢ d → least f n z ≢ least f n d
+pub pair_apart : (n : ℕ) (f g : ℕ → ℕ) → Permutes n f g → (c d : ℕ) → c < n → d < n → f c ≡ d → f d ≡ c → (z : ℕ) →
+    z < n → z ≢ c → z ≢ d → least f n z ≢ least f n d
 pair_apart n f g p c d hc hd fc fd z hz zc zd e =
     let label = pair_label c d in
     let along : (x : ℕ) → x < n → label (f x) ≡ label x = λ x h. elim (cases_eq x c) [
       | inl a ↦ pair_in c d (f x) (inr (ap f a ∙ fc)) ∙ sym (pair_in c d x (inl a))
       | inr a ↦ elim (cases_eq x d) [
         | inl b ↦ pair_in c d (f x) (inl (ap f b ∙ fd)) ∙ sym (pair_in c d x (inr b))
-        | inr b ↦ pair_out c d (f x) (λ k. b (one_to_one n f g p x d h hd (k ∙ sym fd))) (λ k. a (one_to_one n f g p x c h hc (k ∙ sym fc))) ∙ sym (pair_out c d x a b)
+        | inr b ↦ pair_out c d (f x) (λ k. b (one_to_one n f g p x d h hd (k ∙ sym fd)))
+            (λ k. a (one_to_one n f g p x c h hc (k ∙ sym fc))) ∙ sym (pair_out c d x a b)
       ]
     ] in
-    omega (arith, sym (label_least n f g p label along z hz) ∙ ap label e ∙ label_least n f g p label along d hd, pair_out c d z zc zd, pair_in c d d (inr refl))
+    omega (
+      arith,
+      sym (label_least n f g p label along z hz) ∙ ap label e ∙ label_least n f g p label along d hd,
+      pair_out c d z zc zd,
+      pair_in c d d (inr refl),
+    )
 
 -- Two darts of a new edge, which were a cycle of their own, are put after i and after j. Where i and j were on one
 -- face it falls into two, and the count with the edge's own face stays; otherwise two faces become one.
-pub edge_added : (n : ℕ) (f g : ℕ → ℕ) → Permutes n f g → (i j c d : ℕ) → i < n → j < n → c < n → d < n → f c ≡ d → f d ≡ c → c ≢ d → i ≢ c → i ≢ d → j ≢ c → j ≢ d →
-    (least f n i ≡ least f n j → cycles (exchange (exchange f i d) j c) n ≡ cycles f n) × ((least f n i ≢ least f n j) → cycles (exchange (exchange f i d) j c) n + 2 ≡ cycles f n)
+pub edge_added : (n : ℕ) (f g : ℕ → ℕ) → Permutes n f g → (i j c d : ℕ) → i < n → j < n → c < n → d < n → f c ≡ d →
+    f d ≡ c → c ≢ d → i ≢ c → i ≢ d → j ≢ c → j ≢ d →
+    (least f n i ≡ least f n j → cycles (exchange (exchange f i d) j c) n ≡ cycles f n) ×
+    ((least f n i ≢ least f n j) → cycles (exchange (exchange f i d) j c) n + 2 ≡ cycles f n)
 edge_added n f g p i j c d hi hj hc hd fc fd cd ic id jc jd =
     let f1 = exchange f i d in
     let p1 = exchange_permutes n f g p i d hi hd id in
@@ -48,7 +57,8 @@ edge_added n f g p i j c d hi hj hc hd fc fd cd ic id jc jd =
     let two = exchange_law n f1 _ p1 j c hj hc jc in (
       λ e.
           let q : least f1 n j ≡ least f1 n c =
-          sym (merge_keeps n f g p i d hi hd id apart i j hi hj e) ∙ merged_together n f g p i d hi hd id apart ∙ sym (merge_keeps n f g p i d hi hd id apart c d hc hd together) in
+          sym (merge_keeps n f g p i d hi hd id apart i j hi hj e) ∙ merged_together n f g p i d hi hd id apart ∙
+          sym (merge_keeps n f g p i d hi hd id apart c d hc hd together) in
           omega (arith, one, two.splits q),
       λ k.
           let q : least f1 n j ≢ least f1 n c = λ e.

@@ -24,7 +24,8 @@ unfolding exchange_back
 back_other f g i j y k h = rw (ne_eqb y (f j) k, ne_eqb y (f i) h, exchange_back)
 
 -- f at one place
-forms : (f : ℕ → ℕ) (i j x : ℕ) → i ≢ j → ((x ≡ i) × (exchange f i j x ≡ f j)) ⊎ (((x ≡ j) × (exchange f i j x ≡ f i)) ⊎ ((x ≢ i) × (x ≢ j) × (exchange f i j x ≡ f x)))
+forms : (f : ℕ → ℕ) (i j x : ℕ) → i ≢ j → ((x ≡ i) × (exchange f i j x ≡ f j)) ⊎
+    (((x ≡ j) × (exchange f i j x ≡ f i)) ⊎ ((x ≢ i) × (x ≢ j) × (exchange f i j x ≡ f x)))
 forms f i j x ne = elim (cases_eq x i) [
   | inl a ↦ inl (a, ap (exchange f i j) a ∙ exchange_first f i j)
   | inr a ↦ elim (cases_eq x j) [
@@ -40,7 +41,11 @@ pub exchange_permutes : (n : ℕ) (f g : ℕ → ℕ) → Permutes n f g → (i 
 exchange_permutes n f g p i j hi hj ne =
     let apart : f i ≢ f j = λ e. ne (one_to_one n f g p i j hi hj e) in
     record {
-      to = λ x h. elim (forms f i j x ne) [ inl a ↦ omega (arith, a.1, p.to j hj) | inr o ↦ elim o [ inl b ↦ omega (arith, b.1, p.to i hi) | inr c ↦ omega (arith, c.2, p.to x h) ] ];
+      to = λ x h. elim (forms f i j x ne) [
+        | inl a ↦ omega (arith, a.1, p.to j hj)
+        | inr o ↦
+            elim o [ inl b ↦ omega (arith, b.1, p.to i hi) | inr c ↦ omega (arith, c.2, p.to x h) ]
+      ];
       from = λ y h. elim (cases_eq y (f j)) [
         | inl a ↦ omega (arith, back_first f g i j y a)
         | inr a ↦ elim (cases_eq y (f i)) [ inl b ↦ omega (arith, back_second f g i j y a b) | inr b ↦ omega (arith, back_other f g i j y a b, p.from y h) ]
@@ -49,7 +54,8 @@ exchange_permutes n f g p i j hi hj ne =
         | inl a ↦ back_first f g i j _ a.1 ∙ sym a.0
         | inr o ↦ elim o [
           | inl b ↦ back_second f g i j _ (λ e. apart (sym b.1 ∙ e)) b.1 ∙ sym b.0
-          | inr c ↦ back_other f g i j _ (λ e. c.1 (one_to_one n f g p x j h hj (sym c.2 ∙ e))) (λ e. c.0 (one_to_one n f g p x i h hi (sym c.2 ∙ e))) ∙ ap g c.2 ∙ p.back x h
+          | inr c ↦ back_other f g i j _ (λ e. c.1 (one_to_one n f g p x j h hj (sym c.2 ∙ e)))
+              (λ e. c.0 (one_to_one n f g p x i h hi (sym c.2 ∙ e))) ∙ ap g c.2 ∙ p.back x h
         ]
       ];
       forth = λ y h. elim (cases_eq y (f j)) [
@@ -78,7 +84,8 @@ cycles_twice : (n : ℕ) (f : ℕ → ℕ) (i j : ℕ) → i ≢ j → cycles (e
 cycles_twice n f i j ne = cycles_same n _ _ (λ x h. exchange_twice f i j x ne)
 
 -- after a merge the two are on one cycle
-pub merged_together : (n : ℕ) (f g : ℕ → ℕ) → Permutes n f g → (i j : ℕ) → i < n → j < n → i ≢ j → (least f n i ≢ least f n j) → least (exchange f i j) n i ≡ least (exchange f i j) n j
+pub merged_together : (n : ℕ) (f g : ℕ → ℕ) → Permutes n f g → (i j : ℕ) → i < n → j < n → i ≢ j →
+    (least f n i ≢ least f n j) → least (exchange f i j) n i ≡ least (exchange f i j) n j
 merged_together n f g p i j hi hj ne apart =
     let there = exchange_law n f g p i j hi hj ne in
     let back = exchange_law n (exchange f i j) (exchange_back f g i j) (exchange_permutes n f g p i j hi hj ne) i j hi hj ne in
@@ -88,20 +95,24 @@ merged_together n f g p i j hi hj ne apart =
     ]
 
 -- after a split they are on two
-pub split_apart : (n : ℕ) (f g : ℕ → ℕ) → Permutes n f g → (i j : ℕ) → i < n → j < n → i ≢ j → least f n i ≡ least f n j → least (exchange f i j) n i ≢ least (exchange f i j) n j
+pub split_apart : (n : ℕ) (f g : ℕ → ℕ) → Permutes n f g → (i j : ℕ) → i < n → j < n → i ≢ j →
+    least f n i ≡ least f n j → least (exchange f i j) n i ≢ least (exchange f i j) n j
 split_apart n f g p i j hi hj ne e k =
     let there = exchange_law n f g p i j hi hj ne in
     let back = exchange_law n (exchange f i j) (exchange_back f g i j) (exchange_permutes n f g p i j hi hj ne) i j hi hj ne in
     omega (arith, there.splits e, back.splits k, cycles_twice n f i j ne)
 
 -- a merge keeps together what was together
-pub merge_keeps : (n : ℕ) (f g : ℕ → ℕ) → Permutes n f g → (i j : ℕ) → i < n → j < n → i ≢ j → (least f n i ≢ least f n j) → (x y : ℕ) → x < n → y < n → least f n x ≡ least f n y → least (exchange f i j) n x ≡ least (exchange f i j) n y
+pub merge_keeps : (n : ℕ) (f g : ℕ → ℕ) → Permutes n f g → (i j : ℕ) → i < n → j < n → i ≢ j →
+    (least f n i ≢ least f n j) → (x y : ℕ) → x < n → y < n → least f n x ≡ least f n y →
+    least (exchange f i j) n x ≡ least (exchange f i j) n y
 merge_keeps n f g p i j hi hj ne apart x y hx hy e =
     let f' = exchange f i j in
     let p' = exchange_permutes n f g p i j hi hj ne in
     let one = merged_together n f g p i j hi hj ne apart in
     let along : (d : ℕ) → d < n → least f' n (f d) ≡ least f' n d = λ d h. elim (forms f i j d ne) [
-      | inl a ↦ ap (λ z. least f' n (f z)) a.0 ∙ ap (least f' n) (sym (exchange_second f i j (λ k. ne (sym k)))) ∙ least_step n f' _ p' j hj ∙ sym one ∙ ap (least f' n) (sym a.0)
+      | inl a ↦ ap (λ z. least f' n (f z)) a.0 ∙ ap (least f' n) (sym (exchange_second f i j (λ k. ne (sym k)))) ∙
+          least_step n f' _ p' j hj ∙ sym one ∙ ap (least f' n) (sym a.0)
       | inr o ↦ elim o [
         | inl b ↦ ap (λ z. least f' n (f z)) b.0 ∙ ap (least f' n) (sym (exchange_first f i j)) ∙ least_step n f' _ p' i hi ∙ one ∙ ap (least f' n) (sym b.0)
         | inr c ↦ ap (least f' n) (sym c.2) ∙ least_step n f' _ p' d h
@@ -122,7 +133,8 @@ unfolding joined
 joined_miss f n i j z h = rw (ne_eqb (least f n z) (least f n j) h, joined)
 
 -- a merge puts together no more than the two
-pub merge_only : (n : ℕ) (f g : ℕ → ℕ) → Permutes n f g → (i j : ℕ) → i < n → j < n → i ≢ j → (x y : ℕ) → x < n → y < n → least (exchange f i j) n x ≡ least (exchange f i j) n y → joined f n i j x ≡ joined f n i j y
+pub merge_only : (n : ℕ) (f g : ℕ → ℕ) → Permutes n f g → (i j : ℕ) → i < n → j < n → i ≢ j → (x y : ℕ) → x < n →
+    y < n → least (exchange f i j) n x ≡ least (exchange f i j) n y → joined f n i j x ≡ joined f n i j y
 merge_only n f g p i j hi hj ne x y hx hy e =
     let f' = exchange f i j in
     let p' = exchange_permutes n f g p i j hi hj ne in

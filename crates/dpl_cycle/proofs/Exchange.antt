@@ -2,19 +2,24 @@
 use Rattle.std.proofs.Common.{arith, ◌≡◌, ◌≢◌, ℕ, zero, suc, ◌<◌, ◌≤◌, sym, ap, ◌∙◌, inl, inr, subst}
 use Rattle.std.proofs.lemmas.Bool.{cases_eq}
 use Rattle.dpl_cycle.specs.Cycles.{without, cycles, least, exchange, Permutes, SplitsOrMerges}
-use Rattle.dpl_cycle.proofs.Steps.{without_hit, without_miss, cycles_alone, cycles_more, least_alone, least_top, least_under, exchange_first, exchange_second, exchange_other}
+use Rattle.dpl_cycle.proofs.Steps.{without_hit, without_miss, cycles_alone, cycles_more, least_alone, least_top}
+use Rattle.dpl_cycle.proofs.Steps.{least_under, exchange_first, exchange_second, exchange_other}
 use Rattle.dpl_cycle.proofs.Shorter.{shorter, cycles_same}
 use Rattle.dpl_cycle.proofs.Least.{least_step, least_le}
 
 -- neither is the greatest number
-exchange_below : (n : ℕ) (f g : ℕ → ℕ) → Permutes (suc n) f g → (i j : ℕ) → i < n → j < n → i ≢ j → SplitsOrMerges n (without n f) i j → SplitsOrMerges (suc n) f i j
+exchange_below : (n : ℕ) (f g : ℕ → ℕ) → Permutes (suc n) f g → (i j : ℕ) → i < n → j < n → i ≢ j →
+    SplitsOrMerges n (without n f) i j → SplitsOrMerges (suc n) f i j
 exchange_below n f g p i j hi hj ne law =
     let top : exchange f i j n ≡ f n = exchange_other f i j n (λ k. omega arith) (λ k. omega arith) in
     let same : cycles (without n (exchange f i j)) n ≡ cycles (exchange (without n f) i j) n =
     cycles_same n _ _ (λ x h. elim (cases_eq x i) [
       | inl a ↦ elim (cases_eq (f j) n) [
-        | inl q ↦ without_hit n (exchange f i j) x (ap (exchange f i j) a ∙ exchange_first f i j ∙ q) ∙ top ∙ sym (ap (exchange (without n f) i j) a ∙ exchange_first (without n f) i j ∙ without_hit n f j q)
-        | inr q ↦ without_miss n (exchange f i j) x (λ k. q (sym (ap (exchange f i j) a ∙ exchange_first f i j) ∙ k)) ∙ ap (exchange f i j) a ∙ exchange_first f i j ∙ sym (ap (exchange (without n f) i j) a ∙ exchange_first (without n f) i j ∙ without_miss n f j q)
+        | inl q ↦ without_hit n (exchange f i j) x (ap (exchange f i j) a ∙ exchange_first f i j ∙ q) ∙ top ∙
+            sym (ap (exchange (without n f) i j) a ∙ exchange_first (without n f) i j ∙ without_hit n f j q)
+        | inr q ↦ without_miss n (exchange f i j) x (λ k. q (sym (ap (exchange f i j) a ∙ exchange_first f i j) ∙ k)) ∙
+            ap (exchange f i j) a ∙ exchange_first f i j ∙
+            sym (ap (exchange (without n f) i j) a ∙ exchange_first (without n f) i j ∙ without_miss n f j q)
       ]
       | inr a ↦ elim (cases_eq x j) [
         | inl b ↦
@@ -53,7 +58,8 @@ exchange_below n f g p i j hi hj ne law =
     ]
 
 -- the second is the greatest number
-exchange_top : (n : ℕ) (f g : ℕ → ℕ) → Permutes (suc n) f g → (i : ℕ) → i < n → ((m : ℕ) → m < n → i ≢ m → SplitsOrMerges n (without n f) i m) → SplitsOrMerges (suc n) f i n
+exchange_top : (n : ℕ) (f g : ℕ → ℕ) → Permutes (suc n) f g → (i : ℕ) → i < n →
+    ((m : ℕ) → m < n → i ≢ m → SplitsOrMerges n (without n f) i m) → SplitsOrMerges (suc n) f i n
 exchange_top n f g p i hi law =
     let e = exchange f i n in
     let first : e i ≡ f n = exchange_first f i n in
@@ -102,11 +108,14 @@ exchange_top n f g p i hi law =
             let mi : i ≢ m = λ k. miss (ap f k ∙ fm) in
             let lt : m < n = omega (arith, p.from n (omega arith)) in
             let same : cycles (without n e) n ≡ cycles (exchange (without n f) i m) n = cycles_same n _ _ (λ x h. elim (cases_eq x i) [
-              | inl a ↦ ap (without n e) a ∙ without_miss n e i (λ k. ne (sym first ∙ k)) ∙ first ∙ sym (ap (exchange (without n f) i m) a ∙ exchange_first (without n f) i m ∙ without_hit n f m fm)
+              | inl a ↦ ap (without n e) a ∙ without_miss n e i (λ k. ne (sym first ∙ k)) ∙ first ∙
+                  sym (ap (exchange (without n f) i m) a ∙ exchange_first (without n f) i m ∙ without_hit n f m fm)
               | inr a ↦
                   let to : e x ≡ f x = other x a (λ k. omega arith) in
                   elim (cases_eq x m) [
-                    | inl b ↦ without_hit n e x (to ∙ ap f b ∙ fm) ∙ second ∙ sym (ap (exchange (without n f) i m) b ∙ exchange_second (without n f) i m (λ k. mi (sym k)) ∙ without_miss n f i miss)
+                    | inl b ↦ without_hit n e x (to ∙ ap f b ∙ fm) ∙ second ∙
+                        sym (ap (exchange (without n f) i m) b ∙ exchange_second (without n f) i m (λ k. mi (sym k)) ∙
+                        without_miss n f i miss)
                     | inr b ↦
                         let fx : f x ≢ n = λ k. b (sym (p.back x (omega arith)) ∙ ap g k) in
                         without_miss n e x (λ k. fx (sym to ∙ k)) ∙ to ∙ sym (exchange_other (without n f) i m x a b ∙ without_miss n f x fx)

@@ -29,4 +29,10 @@ fixed_apart n f g p d z hd hz fd ne e =
       | inl t ↦ mark_here d (f x) (ap f t ∙ fd) ∙ sym (mark_here d x t)
       | inr t ↦ mark_elsewhere d (f x) (λ k. t (sym (p.back x h) ∙ ap g (k ∙ sym fd) ∙ p.back d hd)) ∙ sym (mark_elsewhere d x t)
     ] in
-    omega (arith, sym (label_least n f g p (mark d) along z hz) ∙ ap (mark d) e ∙ label_least n f g p (mark d) along d hd, mark_here d d refl, mark_elsewhere d z ne)
+    omega (
+      arith,
+      sym (label_least n f g p (mark d) along z hz) ∙ ap (mark d) e ∙
+          label_least n f g p (mark d) along d hd,
+      mark_here d d refl,
+      mark_elsewhere d z ne,
+    )

@@ -67,7 +67,8 @@ even_alone n f g p w even alone =
     )
 
 -- the greatest number is on a longer cycle: its weight goes to the one before it
-even_more : (n : ℕ) (f g : ℕ → ℕ) → Permutes (suc n) f g → (w : ℕ → ℕ) → IsEvenAround f w (suc n) → f n ≢ n → g n < n → IsEvenAround (without n f) (bump (g n) (w n) w) n
+even_more : (n : ℕ) (f g : ℕ → ℕ) → Permutes (suc n) f g → (w : ℕ → ℕ) → IsEvenAround f w (suc n) → f n ≢ n → g n < n →
+    IsEvenAround (without n f) (bump (g n) (w n) w) n
 even_more n f g p w even more lt = λ x h.
     let q = shorter n f g p in
     let m = g n in
@@ -115,7 +116,14 @@ labels_exist (suc n) f g p w even = elim (cases_eq (f n) n) [
                 omega (arith, put_same n v rest.0 (f d) hit, put_other n v rest.0 d t, ap rest.0 dm, ap w dm)
             | inr miss ↦
                 let dm : d ≢ m = λ r. miss (ap f r ∙ fm) in
-                omega (arith, put_other n v rest.0 (f d) miss, put_other n v rest.0 d t, ap rest.0 (without_miss n f d miss), rest.1 d (omega arith), bump_other m (w n) w d dm)
+                omega (
+                  arith,
+                  put_other n v rest.0 (f d) miss,
+                  put_other n v rest.0 d t,
+                  ap rest.0 (without_miss n f d miss),
+                  rest.1 d (omega arith),
+                  bump_other m (w n) w d dm,
+                )
           ]
         ],
       )

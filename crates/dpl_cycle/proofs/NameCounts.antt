@@ -83,5 +83,12 @@ own_switched n s t p x h = elim (cases_eq (s x) x) [
 pub count_alike : (n : ℕ) (s t : ℕ → ℕ) → AreAlike n s t → name_count s n ≡ name_count t n
 count_alike n s t p =
     let f = switch s t in
-    let moves : Permutes n f f = record { to = switch_inside n s t p; from = switch_inside n s t p; back = switch_twice n s t p; forth = switch_twice n s t p } in
-    own_sum s n ∙ sym (sum_same n (λ x. true) (λ x. true) _ _ (λ x h. refl) (λ x h. own_switched n s t p x h)) ∙ sum_moved n f f moves (λ x. true) (λ x h. refl) (own t) ∙ sym (own_sum t n)
+    let moves : Permutes n f f = record {
+      to = switch_inside n s t p;
+      from = switch_inside n s t p;
+      back =
+          switch_twice n s t p;
+      forth = switch_twice n s t p;
+    } in
+    own_sum s n ∙ sym (sum_same n (λ x. true) (λ x. true) _ _ (λ x h. refl) (λ x h. own_switched n s t p x h)) ∙
+    sum_moved n f f moves (λ x. true) (λ x h. refl) (own t) ∙ sym (own_sum t n)

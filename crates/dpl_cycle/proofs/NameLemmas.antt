@@ -26,14 +26,17 @@ count_same (suc k) s t to from =
     ]
 
 -- names of which one number names itself no more
-count_less : (k : ℕ) (s t : ℕ → ℕ) (m : ℕ) → m < k → s m ≡ m → t m ≢ m → ((v : ℕ) → v < k → v ≢ m → s v ≡ v → t v ≡ v) → ((v : ℕ) → v < k → t v ≡ v → s v ≡ v) → name_count t k + 1 ≡ name_count s k
+count_less : (k : ℕ) (s t : ℕ → ℕ) (m : ℕ) → m < k → s m ≡ m → t m ≢ m → ((v : ℕ) → v < k → v ≢ m → s v ≡ v → t v ≡ v) →
+    ((v : ℕ) → v < k → t v ≡ v → s v ≡ v) → name_count t k + 1 ≡ name_count s k
 count_less zero s t m h sm tm to from = absurd (omega arith)
 count_less (suc k) s t m h sm tm to from = elim (cases_eq k m) [
   | inl q ↦
       let rest : name_count s k ≡ name_count t k = count_same k s t (λ v i e. to v (omega arith) (λ r. omega arith) e) (λ v i e. from v (omega arith) e) in
       omega (arith, rest, count_in s k (ap s q ∙ sm ∙ sym q), count_out t k (λ e. tm (ap t (sym q) ∙ e ∙ q)))
   | inr q ↦
-      let rest : name_count t k + 1 ≡ name_count s k = count_less k s t m (omega arith) sm tm (λ v i r e. to v (omega arith) r e) (λ v i e. from v (omega arith) e) in
+      let rest : name_count t k + 1 ≡ name_count s k =
+      count_less k s t m (omega arith) sm tm (λ v i r e. to v (omega arith) r e) (λ v i e. from v (omega arith) e)
+      in
       elim (cases_eq (s k) k) [
         | inl e ↦ omega (arith, rest, count_in s k e, count_in t k (to k (omega arith) q e))
         | inr e ↦ omega (arith, rest, count_out s k e, count_out t k (λ r. e (from k (omega arith) r)))
@@ -41,7 +44,8 @@ count_less (suc k) s t m h sm tm to from = elim (cases_eq k m) [
 ]
 
 -- joining two classes leaves one less
-pub join_less : (n : ℕ) (names : ℕ → ℕ) → AreNames n names → (a b : ℕ) → a < n → b < n → names a ≢ names b → name_count (join names a b) n + 1 ≡ name_count names n
+pub join_less : (n : ℕ) (names : ℕ → ℕ) → AreNames n names → (a b : ℕ) → a < n → b < n → names a ≢ names b →
+    name_count (join names a b) n + 1 ≡ name_count names n
 join_less n names p a b ha hb ne =
     let m = names b in
     count_less n names (join names a b) m (p.inside b hb) (p.twice b hb)
@@ -54,11 +58,18 @@ join_less n names p a b ha hb ne =
 
 pub join_names : (n : ℕ) (names : ℕ → ℕ) → AreNames n names → (a b : ℕ) → a < n → b < n → AreNames n (join names a b)
 join_names n names p a b ha hb = record {
-  inside = λ v h. elim (cases_eq (names v) (names b)) [ inl q ↦ omega (arith, join_hit names a b v q, p.inside a ha) | inr q ↦ omega (arith, join_miss names a b v q, p.inside v h) ];
+  inside = λ v h. elim (cases_eq (names v) (names b)) [
+    | inl q ↦
+        omega (arith, join_hit names a b v q, p.inside a ha)
+    | inr q ↦
+        omega (arith, join_miss names a b v q, p.inside v h)
+  ];
   twice = λ v h. elim (cases_eq (names v) (names b)) [
     | inl q ↦
         let here = join_hit names a b v q in
-        ap (join names a b) here ∙ (elim (cases_eq (names (names a)) (names b)) [ inl r ↦ join_hit names a b (names a) r | inr r ↦ join_miss names a b (names a) r ∙ p.twice a ha ]) ∙ sym here
+        ap (join names a b) here ∙ (elim (cases_eq (names (names a)) (names b))
+        [ inl r ↦ join_hit names a b (names a) r | inr r ↦ join_miss names a b (names a) r ∙ p.twice a ha ]) ∙
+        sym here
     | inr q ↦
         let here = join_miss names a b v q in
         ap (join names a b) here ∙ join_miss names a b (names v) (λ r. q (sym (p.twice v h) ∙ r)) ∙ p.twice v h ∙ sym here

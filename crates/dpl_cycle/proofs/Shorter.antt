@@ -59,7 +59,8 @@ least_same (suc n) f f' e x =
     elim (cases_eq x n) [
       | inl t ↦ elim (cases_eq (f n) n) [
         | inl q ↦ rw (ap (least f (suc n)) t) (least_alone f n q ∙ sym (ap (least f' (suc n)) t ∙ least_alone f' n (sym en ∙ q)))
-        | inr q ↦ ap (least f (suc n)) t ∙ least_top f n q ∙ more (f n) ∙ ap (least (without n f') n) en ∙ sym (ap (least f' (suc n)) t ∙ least_top f' n (λ k. q (en ∙ k)))
+        | inr q ↦ ap (least f (suc n)) t ∙ least_top f n q ∙ more (f n) ∙ ap (least (without n f') n) en ∙
+            sym (ap (least f' (suc n)) t ∙ least_top f' n (λ k. q (en ∙ k)))
       ]
       | inr t ↦ least_under f n x t ∙ more x ∙ sym (least_under f' n x t)
     ]

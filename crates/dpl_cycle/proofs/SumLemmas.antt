@@ -18,7 +18,8 @@ sum_alike zero p a b e = refl
 sum_alike (suc n) p a b e = omega (arith, ap (λ z. cond (p n) z 0) (e n (omega arith)), sum_alike n p a b (λ d k. e d (omega arith)))
 
 -- two weights that differ at one place
-sum_differ : (n : ℕ) (p : ℕ → Bool) (a b : ℕ → ℕ) (m : ℕ) → m < n → ((d : ℕ) → d < n → d ≢ m → a d ≡ b d) → sum_on p a n + cond (p m) (b m) 0 ≡ sum_on p b n + cond (p m) (a m) 0
+sum_differ : (n : ℕ) (p : ℕ → Bool) (a b : ℕ → ℕ) (m : ℕ) → m < n → ((d : ℕ) → d < n → d ≢ m → a d ≡ b d) →
+    sum_on p a n + cond (p m) (b m) 0 ≡ sum_on p b n + cond (p m) (a m) 0
 sum_differ zero p a b m h e = absurd (omega arith)
 sum_differ (suc n) p a b m h e = elim (cases_eq n m) [
   | inl t ↦
@@ -36,13 +37,15 @@ stays n f p keeps d k = elim (cases_eq (f d) n) [
 ]
 
 -- a sum over a set that the permutation keeps does not change when each member is moved on
-pub sum_moved : (n : ℕ) (f g : ℕ → ℕ) → Permutes n f g → (p : ℕ → Bool) → ((d : ℕ) → d < n → p (f d) ≡ p d) → (w : ℕ → ℕ) → sum_on p (λ d. w (f d)) n ≡ sum_on p w n
+pub sum_moved : (n : ℕ) (f g : ℕ → ℕ) → Permutes n f g → (p : ℕ → Bool) → ((d : ℕ) → d < n → p (f d) ≡ p d) →
+    (w : ℕ → ℕ) → sum_on p (λ d. w (f d)) n ≡ sum_on p w n
 sum_moved zero f g q p keeps w = refl
 sum_moved (suc n) f g q p keeps w = elim (cases_eq (f n) n) [
   | inl alone ↦
       let more = sum_moved n (without n f) (without n g) (shorter n f g q) p (λ d k. stays n f p keeps d k) w in
       let same : sum_on p (λ d. w (f d)) n ≡ sum_on p (λ d. w (without n f d)) n =
-      sum_alike n p _ _ (λ d k. ap w (sym (without_miss n f d (λ r. omega (arith, sym (q.back d (omega arith)) ∙ ap g (r ∙ sym alone) ∙ q.back n (omega arith)))))) in
+      sum_alike n p _ _ (λ d k. ap w (sym (without_miss n f d
+      (λ r. omega (arith, sym (q.back d (omega arith)) ∙ ap g (r ∙ sym alone) ∙ q.back n (omega arith)))))) in
       omega (arith, same, more, ap (λ z. cond (p n) (w z) 0) alone)
   | inr moved ↦
       let m = g n in
@@ -53,11 +56,20 @@ sum_moved (suc n) f g q p keeps w = elim (cases_eq (f n) n) [
       let differ = sum_differ n p (λ d. w (f d)) (λ d. w (without n f d)) m lt (λ d k r.
       ap w (sym (without_miss n f d (λ t. r (sym (q.back d (omega arith)) ∙ ap g t))))) in
       let pm : p m ≡ p n = sym (keeps m (omega arith)) ∙ ap p fm in
-      omega (arith, differ, more, ap (λ b. cond b (w (without n f m)) 0) pm, ap (λ b. cond b (w (f m)) 0) pm, ap (λ z. cond (p n) (w z) 0) (without_hit n f m fm), ap (λ z. cond (p n) (w z) 0) fm)
+      omega (
+        arith,
+        differ,
+        more,
+        ap (λ b. cond b (w (without n f m)) 0) pm,
+        ap (λ b. cond b (w (f m)) 0) pm,
+        ap (λ z. cond (p n) (w z) 0) (without_hit n f m fm),
+        ap (λ z. cond (p n) (w z) 0) fm,
+      )
 ]
 
 -- the weights of two darts of each edge sum to an even number
-pub sum_pairs : (e : ℕ) (p : ℕ → Bool) (w : ℕ → ℕ) → ((k : ℕ) → k < e → p (suc (2 * k)) ≡ p (2 * k)) → ((k : ℕ) → k < e → w (suc (2 * k)) ≡ w (2 * k)) → sum_on p w (2 * e) % 2 ≡ 0
+pub sum_pairs : (e : ℕ) (p : ℕ → Bool) (w : ℕ → ℕ) → ((k : ℕ) → k < e → p (suc (2 * k)) ≡ p (2 * k)) →
+    ((k : ℕ) → k < e → w (suc (2 * k)) ≡ w (2 * k)) → sum_on p w (2 * e) % 2 ≡ 0
 sum_pairs zero p w a b = refl
 sum_pairs (suc e) p w a b =
     let n = 2 * e in

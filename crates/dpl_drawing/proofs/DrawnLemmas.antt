@@ -1,5 +1,6 @@
 -- A drawing before and after the next edge.
-use Rattle.std.proofs.Common.{arith, ◌≡◌, ◌≢◌, ℕ, zero, suc, ◌+◌, ◌-◌, ◌*◌, ◌/◌, ◌<◌, ◌≤◌, refl, sym, ap, ◌∙◌, Bool, true, false, not, inl, inr, List, [], ◌∷◌, ◌++◌, length, get_or}
+use Rattle.std.proofs.Common.{arith, ◌≡◌, ◌≢◌, ℕ, zero, suc, ◌+◌, ◌-◌, ◌*◌, ◌/◌, ◌<◌, ◌≤◌, refl, sym, ap, ◌∙◌, Bool}
+use Rattle.std.proofs.Common.{true, false, not, inl, inr, List, [], ◌∷◌, ◌++◌, length, get_or}
 use Rattle.std.specs.Prelude.{◌↔◌, swap, slice_index}
 use Rattle.std.proofs.lemmas.Bool.{cases_eq, cases_Bool}
 use Rattle.dpl_cycle.proofs.NameLemmas.{name_count_same}
@@ -33,7 +34,9 @@ nothing_joined : (g : Signed) (k v : ℕ) → names_below g (is_in []) k v ≡ v
 nothing_joined g zero v = refl
 nothing_joined g (suc k) v = nothing_joined g k v
 
-pub drawn_empty : (net : Net) (faces parts : List ℕ) (components : ℕ) → length faces ≡ dart_count net → length parts ≡ net.graph.nodes → components ≡ net.graph.nodes → ((k : ℕ) → k < length faces → get_or faces k 0 ≡ k) → ((k : ℕ) → k < length parts → get_or parts k 0 ≡ k) →
+pub drawn_empty : (net : Net) (faces parts : List ℕ) (components : ℕ) → length faces ≡ dart_count net →
+    length parts ≡ net.graph.nodes → components ≡ net.graph.nodes →
+    ((k : ℕ) → k < length faces → get_or faces k 0 ≡ k) → ((k : ℕ) → k < length parts → get_or parts k 0 ≡ k) →
     IsDrawn net (is_in []) faces parts components
 drawn_empty net faces parts components lf lp lc f p =
     let alone : (v : ℕ) → component_of net.graph (is_in []) v ≡ v = λ v. nothing_joined net.graph (length net.graph.edges) v in
@@ -49,10 +52,13 @@ drawn_empty net faces parts components lf lp lc f p =
 
 -- ---- sets that agree
 
-pub drawn_same : (net : Net) (p q : ℕ → Bool) (faces parts : List ℕ) (components : ℕ) → ((e : ℕ) → e < length net.graph.edges → p e ≡ q e) → IsDrawn net p faces parts components → IsDrawn net q faces parts components
+pub drawn_same : (net : Net) (p q : ℕ → Bool) (faces parts : List ℕ) (components : ℕ) →
+    ((e : ℕ) → e < length net.graph.edges → p e ≡ q e) → IsDrawn net p faces parts components →
+    IsDrawn net q faces parts components
 drawn_same net p q faces parts components same k =
     let names : (v : ℕ) → component_of net.graph p v ≡ component_of net.graph q v = λ v. names_same net.graph p q (length net.graph.edges) v same in
-    let next : (d : ℕ) → d < dart_count net → next_in_face net p d ≡ next_in_face net q d = λ d h. rw (same (d / 2) (omega arith), next_same net p q (length net.graph.edges) (twin_of d) same) refl in
+    let next : (d : ℕ) → d < dart_count net → next_in_face net p d ≡ next_in_face net q d =
+    λ d h. rw (same (d / 2) (omega arith), next_same net p q (length net.graph.edges) (twin_of d) same) refl in
     record {
       are_faces = record { darts = k.are_faces.darts; next = λ d h. k.are_faces.next d h ∙ next d h };
       are_parts = record {
@@ -80,11 +86,15 @@ next_apart net p q e k = elim (cases_Bool (is_bare net.graph p (edge_at net.grap
 ]
 
 -- a dart of an edge that is not drawn leads to itself
-pub alone_first : (net : Net) (kept : List Bool) (faces : List ℕ) → length kept < length net.graph.edges → AreFaces net (is_in kept) faces → get_or faces (2 * length kept) 0 ≡ 2 * length kept
-alone_first net kept faces h k = k.next (2 * length kept) (omega arith) ∙ face_out net (is_in kept) (2 * length kept) (ap (is_in kept) (first_half (length kept)) ∙ past_end kept)
+pub alone_first : (net : Net) (kept : List Bool) (faces : List ℕ) → length kept < length net.graph.edges →
+    AreFaces net (is_in kept) faces → get_or faces (2 * length kept) 0 ≡ 2 * length kept
+alone_first net kept faces h k = k.next (2 * length kept) (omega arith) ∙
+    face_out net (is_in kept) (2 * length kept) (ap (is_in kept) (first_half (length kept)) ∙ past_end kept)
 
-pub alone_second : (net : Net) (kept : List Bool) (faces : List ℕ) → length kept < length net.graph.edges → AreFaces net (is_in kept) faces → get_or faces (2 * length kept + 1) 0 ≡ 2 * length kept + 1
-alone_second net kept faces h k = k.next (2 * length kept + 1) (omega arith) ∙ face_out net (is_in kept) (2 * length kept + 1) (ap (is_in kept) (second_half (length kept)) ∙ past_end kept)
+pub alone_second : (net : Net) (kept : List Bool) (faces : List ℕ) → length kept < length net.graph.edges →
+    AreFaces net (is_in kept) faces → get_or faces (2 * length kept + 1) 0 ≡ 2 * length kept + 1
+alone_second net kept faces h k = k.next (2 * length kept + 1) (omega arith) ∙
+    face_out net (is_in kept) (2 * length kept + 1) (ap (is_in kept) (second_half (length kept)) ∙ past_end kept)
 
 -- the cycles of the list are the faces
 pub least_faces : (net : Net) (p : ℕ → Bool) (faces : List ℕ) (z : ℕ) → AreFaces net p faces → least_of faces z ≡ face_of net p z
@@ -97,15 +107,20 @@ pub record IsLooked (net : Net) (kept : List Bool) (faces parts : List ℕ) (com
   pub first : u ≡ next_around net (is_in kept) (2 * length kept)
   pub second : v ≡ next_around net (is_in kept) (2 * length kept + 1)
 
-one_face : (net : Net) (kept : List Bool) (faces parts : List ℕ) (components u v : ℕ) → IsLooked net kept faces parts components u v → (least_of faces u ≡ least_of faces v ↔ LiesInFace net (is_in kept) (length kept))
+one_face : (net : Net) (kept : List Bool) (faces parts : List ℕ) (components u v : ℕ) →
+    IsLooked net kept faces parts components u v → (least_of faces u ≡ least_of faces v ↔ LiesInFace net (is_in kept)
+    (length kept))
 one_face net kept faces parts components u v k =
-    let at : (z y : ℕ) → z ≡ y → least_of faces z ≡ face_of net (is_in kept) y = λ z y e. least_faces net (is_in kept) faces z k.drawn.are_faces ∙ ap (face_of net (is_in kept)) e in
+    let at : (z y : ℕ) → z ≡ y → least_of faces z ≡ face_of net (is_in kept) y =
+    λ z y e. least_faces net (is_in kept) faces z k.drawn.are_faces ∙ ap (face_of net (is_in kept)) e in
     let a = at u _ k.first in
     let b = at v _ k.second in
     (λ e. sym a ∙ e ∙ b, λ e. a ∙ e ∙ sym b)
 
 -- the edge is set aside
-pub aside_next : (net : Net) (kept : List Bool) (faces parts : List ℕ) (components u v : ℕ) → IsLooked net kept faces parts components u v → AreEndsJoined net (is_in kept) (length kept) → least_of faces u ≢ least_of faces v →
+pub aside_next : (net : Net) (kept : List Bool) (faces parts : List ℕ) (components u v : ℕ) →
+    IsLooked net kept faces parts components u v → AreEndsJoined net (is_in kept) (length kept) →
+    least_of faces u ≢ least_of faces v →
     (false ≡ not (raises_excess net kept)) × IsDrawn net (is_in (kept ++ false ∷ [])) faces parts components
 aside_next net kept faces parts components u v k joined far = (
   sym (ap not (raises_from net kept k.edge joined (λ r. far ((one_face net kept faces parts components u v k).1 r)))),
@@ -116,7 +131,9 @@ stays_low : (net : Net) (kept : List Bool) → (raises_excess net kept ≡ true 
 stays_low net kept h = elim (cases_Bool (raises_excess net kept)) [ inl t ↦ absurd (h t) | inr t ↦ sym (ap not t) ]
 
 -- the edge splits a face
-pub split_next : (net : Net) (kept : List Bool) (faces parts : List ℕ) (components u v : ℕ) (new : List ℕ) → IsLooked net kept faces parts components u v → AreEndsJoined net (is_in kept) (length kept) → least_of faces u ≡ least_of faces v → IsInserted faces (length kept) u v new →
+pub split_next : (net : Net) (kept : List Bool) (faces parts : List ℕ) (components u v : ℕ) (new : List ℕ) →
+    IsLooked net kept faces parts components u v → AreEndsJoined net (is_in kept) (length kept) →
+    least_of faces u ≡ least_of faces v → IsInserted faces (length kept) u v new →
     (true ≡ not (raises_excess net kept)) × IsDrawn net (is_in (kept ++ true ∷ [])) new parts components
 split_next net kept faces parts components u v new k joined near put =
     let more = kept_more net kept k.edge in
@@ -131,7 +148,9 @@ split_next net kept faces parts components u v new k joined near put =
     )
 
 -- the edge joins two components
-pub join_next : (net : Net) (kept : List Bool) (faces parts : List ℕ) (components u v : ℕ) (new joined : List ℕ) → IsLooked net kept faces parts components u v → (AreEndsJoined net (is_in kept) (length kept) → ⊥) → IsRing parts → IsInserted faces (length kept) u v new →
+pub join_next : (net : Net) (kept : List Bool) (faces parts : List ℕ) (components u v : ℕ) (new joined : List ℕ) →
+    IsLooked net kept faces parts components u v → (AreEndsJoined net (is_in kept) (length kept) → ⊥) → IsRing parts →
+    IsInserted faces (length kept) u v new →
     joined ≡ swap parts (edge_at net.graph (length kept)).a (edge_at net.graph (length kept)).b →
     (true ≡ not (raises_excess net kept)) × IsDrawn net (is_in (kept ++ true ∷ [])) new joined (components - 1)
 join_next net kept faces parts components u v new joined k apart ring put e =
@@ -145,11 +164,15 @@ join_next net kept faces parts components u v new joined k apart ring put e =
       },
     )
 
-pub some_component : (net : Net) (kept : List Bool) (components : ℕ) → length kept < length net.graph.edges → (AreEndsJoined net (is_in kept) (length kept) → ⊥) → components ≡ component_count net.graph (is_in kept) → 1 ≤ components
+pub some_component : (net : Net) (kept : List Bool) (components : ℕ) → length kept < length net.graph.edges →
+    (AreEndsJoined net (is_in kept) (length kept) → ⊥) → components ≡ component_count net.graph (is_in kept) →
+    1 ≤ components
 some_component net kept components h apart e = omega (arith, e, ((effect net _ _ (length kept) (kept_more net kept h)).joins apart).1)
 
 -- the ends of an edge are on one cycle of the list exactly where they are joined
-pub ends_joined : (net : Net) (p : ℕ → Bool) (parts : List ℕ) (e : ℕ) (edge : Edge) → AreParts net p parts → e < length net.graph.edges → edge ≡ edge_at net.graph e → (least_of parts edge.a ≡ least_of parts edge.b ↔ AreEndsJoined net p e)
+pub ends_joined : (net : Net) (p : ℕ → Bool) (parts : List ℕ) (e : ℕ) (edge : Edge) → AreParts net p parts →
+    e < length net.graph.edges → edge ≡ edge_at net.graph e →
+    (least_of parts edge.a ≡ least_of parts edge.b ↔ AreEndsJoined net p e)
 ends_joined net p parts e edge k h same =
     let both = k.joined (edge_at net.graph e).a (edge_at net.graph e).b (start_below net.graph e h) (end_below net.graph e h) in
     let a : least_of parts edge.a ≡ least_of parts (edge_at net.graph e).a = ap (λ (x : Edge). least_of parts x.a) same in
@@ -160,5 +183,6 @@ ends_joined net p parts e edge k h same =
 pub edge_read : (g : Signed) (edges : List Edge) (e : ℕ) (edge : Edge) → edges ≡ g.edges → e < length edges → edge ≡ get_or edges e edge → edge ≡ edge_at g e
 edge_read g edges e edge same h is = get_or_read edges e edge h is no_edge ∙ ap (λ (xs : List Edge). get_or xs e no_edge) same
 
-pub swap_read : (g : Signed) (e : ℕ) (edge : Edge) (parts joined : List ℕ) → edge ≡ edge_at g e → joined ≡ swap parts edge.a edge.b → joined ≡ swap parts (edge_at g e).a (edge_at g e).b
+pub swap_read : (g : Signed) (e : ℕ) (edge : Edge) (parts joined : List ℕ) → edge ≡ edge_at g e →
+    joined ≡ swap parts edge.a edge.b → joined ≡ swap parts (edge_at g e).a (edge_at g e).b
 swap_read g e edge parts joined same h = h ∙ ap (λ (x : Edge). swap parts x.a x.b) same

@@ -22,7 +22,9 @@ use Rattle.dpl_drawing.proofs.KeptLemmas.{aside_count}
 use Rattle.dpl_drawing.proofs.FaceLists.{face_count_is}
 
 -- kept edges join the ends of every edge
-pub ends_kept : (net : Net) (e : ℕ) → e < length net.graph.edges → component_of net.graph (is_in (kept_edges net)) (edge_at net.graph e).a ≡ component_of net.graph (is_in (kept_edges net)) (edge_at net.graph e).b
+pub ends_kept : (net : Net) (e : ℕ) → e < length net.graph.edges →
+    component_of net.graph (is_in (kept_edges net)) (edge_at net.graph e).a ≡ component_of net.graph
+    (is_in (kept_edges net)) (edge_at net.graph e).b
 ends_kept net e h =
     let g = net.graph in
     let label = component_of g (is_in (kept_edges net)) in
@@ -32,11 +34,13 @@ ends_kept net e h =
           let kept = kept_before net e in
           let size = kept_length net e in
           let raises : raises_excess net kept ≡ true = not-false _ (sym (kept_at net (length g.edges) e h) ∙ t) in
-          let joined : component_of g (is_in kept) (edge_at g (length kept)).a ≡ component_of g (is_in kept) (edge_at g (length kept)).b = raises_joined net kept (omega (arith, size)) raises in
+          let joined : component_of g (is_in kept) (edge_at g (length kept)).a ≡ component_of g (is_in kept)
+          (edge_at g (length kept)).b = raises_joined net kept (omega (arith, size)) raises in
           let here : component_of g (is_in kept) (edge_at g e).a ≡ component_of g (is_in kept) (edge_at g e).b =
           ap (λ x. component_of g (is_in kept) (edge_at g x).a) (sym size) ∙ joined ∙ ap (λ x. component_of g (is_in kept) (edge_at g x).b) size in
           let old : (v : ℕ) → label (component_of g (is_in kept) v) ≡ label v =
-          λ v. component_label g (is_in kept) label (λ x l q. component_joined g (is_in (kept_edges net)) x l (sym (kept_early net e (length g.edges) x (kept_inside net e x q) l) ∙ q)) v in
+          λ v. component_label g (is_in kept) label (λ x l q. component_joined g (is_in (kept_edges net)) x l
+          (sym (kept_early net e (length g.edges) x (kept_inside net e x q) l) ∙ q)) v in
           sym (old (edge_at g e).a) ∙ ap label here ∙ old (edge_at g e).b
     ]
 
@@ -54,7 +58,11 @@ components_all net =
 bare_alone : (net : Net) (e v : ℕ) → e < length net.graph.edges → EndsAt net.graph e v → is_bare net.graph (is_in (kept_edges net)) v ≡ true → ⊥
 bare_alone net e v h ends bare =
     let g = net.graph in
-    let none : (x : ℕ) → x < length g.edges → is_in (kept_edges net) x ≡ true → ((edge_at g x).a ≢ v) × ((edge_at g x).b ≢ v) = λ x l t. (λ r. bare_edges g (is_in (kept_edges net)) v bare x l t (inl r), λ r. bare_edges g (is_in (kept_edges net)) v bare x l t (inr r)) in
+    let none : (x : ℕ) → x < length g.edges → is_in (kept_edges net) x ≡ true → ((edge_at g x).a ≢ v) ×
+    ((edge_at g x).b ≢ v) = λ x l t. (
+      λ r. bare_edges g (is_in (kept_edges net)) v bare x l t (inl r),
+      λ r. bare_edges g (is_in (kept_edges net)) v bare x l t (inr r),
+    ) in
     let order = (edge_at g e).ordered in
     let label = component_of g (is_in (kept_edges net)) in
     elim ends [
@@ -66,7 +74,8 @@ pub bare_all : (net : Net) → bare_count net.graph all_edges ≡ bare_count net
 bare_all net =
     let g = net.graph in
     let n = length g.edges in
-    count_on_same g.nodes (is_bare g all_edges) (is_bare g (is_in (kept_edges net))) (λ v l. ap not (both_ways (is_met_below g all_edges n v) (is_met_below g (is_in (kept_edges net)) n v)
+    count_on_same g.nodes (is_bare g all_edges) (is_bare g (is_in (kept_edges net)))
+    (λ v l. ap not (both_ways (is_met_below g all_edges n v) (is_met_below g (is_in (kept_edges net)) n v)
     (λ h. let m = met_is g all_edges n v h in elim (cases_Bool (is_met_below g (is_in (kept_edges net)) n v)) [
       | inl t ↦ t
       | inr t ↦ absurd (bare_alone net m.edge v m.inside m.ends (ap not t))
@@ -81,12 +90,26 @@ all_count (suc n) = omega (arith, all_count n, cond-true {A = ℕ} (all_edges n)
 pub excess_total : (net : Net) → excess net all_edges + drawn_faces net all_edges ≡ length (aside_edges net) + drawn_faces net (is_in (kept_edges net))
 excess_total net =
     let n = length net.graph.edges in
-    omega (arith, excess_euler net all_edges, excess_euler net (is_in (kept_edges net)), kept_plane net n (omega arith), components_all net, bare_all net, face_count_is net all_edges, face_count_is net (is_in (kept_edges net)), all_count n, aside_count net n)
+    omega (
+      arith,
+      excess_euler net all_edges,
+      excess_euler net (is_in (kept_edges net)),
+      kept_plane net n (omega arith),
+      components_all net,
+      bare_all net,
+      face_count_is net all_edges,
+      face_count_is net (is_in (kept_edges net)),
+      all_count n,
+      aside_count net n,
+    )
 
 pub drawn_faces_same : (net : Net) (p q : ℕ → Bool) → ((e : ℕ) → e < length net.graph.edges → p e ≡ q e) → drawn_faces net p ≡ drawn_faces net q
 drawn_faces_same net p q same =
     let n = dart_count net in
     let half : (z : ℕ) → z < n → p (z / 2) ≡ q (z / 2) = λ z h. same (z / 2) (omega arith) in
-    let next : (z : ℕ) → z < n → next_in_face net p z ≡ next_in_face net q z = λ z h. rw (half z h, next_same net p q (length net.graph.edges) (twin_of z) same) refl in
+    let next : (z : ℕ) → z < n → next_in_face net p z ≡ next_in_face net q z =
+    λ z h. rw (half z h, next_same net p q (length net.graph.edges) (twin_of z) same) refl in
     let low : (z : ℕ) → least (next_in_face net p) n z ≡ least (next_in_face net q) n z = λ z. least_same n _ _ next z in
-    count_on_same n (is_first (next_in_face net p) p n) (is_first (next_in_face net q) q n) (λ z h. ap (λ b. b && (least (next_in_face net p) n z == z)) (half z h) ∙ ap (λ y. q (z / 2) && (y == z)) (low z))
+    count_on_same n (is_first (next_in_face net p) p n) (is_first (next_in_face net q) q n)
+    (λ z h. ap (λ b. b && (least (next_in_face net p) n z == z)) (half z h) ∙
+    ap (λ y. q (z / 2) && (y == z)) (low z))

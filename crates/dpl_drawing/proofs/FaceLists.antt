@@ -24,7 +24,9 @@ pub cycles_least : (n : ℕ) (f g : ℕ → ℕ) → Permutes n f g → cycles f
 cycles_least zero f g p = refl
 cycles_least (suc n) f g p =
     let rest : cycles (without n f) n ≡ name_count (least f (suc n)) n =
-    cycles_least n (without n f) (without n g) (shorter n f g p) ∙ name_count_same n (least (without n f) n) (least f (suc n)) (λ v h. sym (least_under f n v (λ e. omega arith))) in
+    cycles_least n (without n f) (without n g) (shorter n f g p) ∙
+    name_count_same n (least (without n f) n) (least f (suc n)) (λ v h. sym (least_under f n v (λ e. omega arith)))
+    in
     elim (cases_eq (f n) n) [
       | inl e ↦ cycles_alone f n e ∙ ap suc rest ∙ sym (count_in (least f (suc n)) n (least_alone f n e))
       | inr e ↦
@@ -34,7 +36,8 @@ cycles_least (suc n) f g p =
     ]
 
 -- names that tell themselves outside a set
-own_split : (n : ℕ) (s : ℕ → ℕ) (p : ℕ → Bool) → ((d : ℕ) → d < n → p d ≡ false → s d ≡ d) → name_count s n ≡ count_on (λ d. p d && (s d == d)) n + others_count p n
+own_split : (n : ℕ) (s : ℕ → ℕ) (p : ℕ → Bool) → ((d : ℕ) → d < n → p d ≡ false → s d ≡ d) →
+    name_count s n ≡ count_on (λ d. p d && (s d == d)) n + others_count p n
 own_split zero s p h = refl
 own_split (suc n) s p h =
     let rest = own_split n s p (λ d k. h d (omega arith)) in
@@ -65,7 +68,8 @@ face_count_is net p = omega (arith, drawn_faces_are net p)
 pub number_same : (n : ℕ) (f f' : ℕ → ℕ) (set : ℕ → Bool) (d : ℕ) → ((x : ℕ) → x < n → f x ≡ f' x) → cycle_number f set n d ≡ cycle_number f' set n d
 number_same n f f' set d same =
     let low : (x : ℕ) → least f n x ≡ least f' n x = λ x. least_same n f f' same x in
-    ap (count_on (is_first f set n)) (low d) ∙ count_on_same (least f' n d) (is_first f set n) (is_first f' set n) (λ z h. ap (λ y. set (z / 2) && (y == z)) (low z))
+    ap (count_on (is_first f set n)) (low d) ∙ count_on_same (least f' n d) (is_first f set n) (is_first f' set n)
+    (λ z h. ap (λ y. set (z / 2) && (y == z)) (low z))
 
 pub drawn_same_count : (n : ℕ) (f f' : ℕ → ℕ) (set : ℕ → Bool) → ((x : ℕ) → x < n → f x ≡ f' x) → count_on (is_first f set n) n ≡ count_on (is_first f' set n) n
 drawn_same_count n f f' set same = count_on_same n (is_first f set n) (is_first f' set n) (λ z h. ap (λ y. set (z / 2) && (y == z)) (least_same n f f' same z))
@@ -79,7 +83,8 @@ face_stays net p d h = elim (cases_Bool (p (d / 2))) [
 
 -- ---- the list of the corners
 
-pub leads_back : (net : Net) (p : ℕ → Bool) (nexts : List ℕ) → length nexts ≡ dart_count net → ((d : ℕ) → d < dart_count net → get_or nexts d 0 ≡ next_in_face net p d) → LeadsBack nexts
+pub leads_back : (net : Net) (p : ℕ → Bool) (nexts : List ℕ) → length nexts ≡ dart_count net →
+    ((d : ℕ) → d < dart_count net → get_or nexts d 0 ≡ next_in_face net p d) → LeadsBack nexts
 leads_back net p nexts l same =
     let q = face_permutes net p in (
       face_back net p,
@@ -92,10 +97,14 @@ leads_back net p nexts l same =
     )
 
 -- the count of the cycles of a list that tells the faces
-pub count_is : (net : Net) (p : ℕ → Bool) (corners read : List ℕ) (set_read : List Bool) (r : ℕ) → length corners ≡ dart_count net → ((z : ℕ) → z < dart_count net → get_or corners z 0 ≡ next_in_face net p z) → read ≡ corners → ((x : ℕ) → is_in set_read x ≡ p x) →
+pub count_is : (net : Net) (p : ℕ → Bool) (corners read : List ℕ) (set_read : List Bool) (r : ℕ) →
+    length corners ≡ dart_count net → ((z : ℕ) → z < dart_count net → get_or corners z 0 ≡ next_in_face net p z) →
+    read ≡ corners → ((x : ℕ) → is_in set_read x ≡ p x) →
     r ≡ count_on (is_first (slice_index read) (is_in set_read) (length read)) (length read) → r ≡ drawn_faces net p
 count_is net p corners read set_read r l same er es h =
     let n = dart_count net in
-    h ∙ ap (λ (xs : List ℕ). count_on (is_first (slice_index xs) (is_in set_read) (length xs)) (length xs)) er ∙ ap (λ m. count_on (is_first (slice_index corners) (is_in set_read) m) m) l ∙
-    count_on_same n (is_first (slice_index corners) (is_in set_read) n) (is_first (slice_index corners) p n) (λ z k. ap (λ b. b && (least (slice_index corners) n z == z)) (es (z / 2))) ∙
+    h ∙ ap (λ (xs : List ℕ). count_on (is_first (slice_index xs) (is_in set_read) (length xs)) (length xs)) er ∙
+    ap (λ m. count_on (is_first (slice_index corners) (is_in set_read) m) m) l ∙
+    count_on_same n (is_first (slice_index corners) (is_in set_read) n) (is_first (slice_index corners) p n)
+    (λ z k. ap (λ b. b && (least (slice_index corners) n z == z)) (es (z / 2))) ∙
     drawn_same_count n (slice_index corners) (next_in_face net p) p same

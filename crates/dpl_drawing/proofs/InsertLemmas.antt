@@ -69,7 +69,9 @@ used_next net p q e c z n b k =
 -- ---- the cases
 
 -- the exchange at the corner of c is that of the dart that leads into it
-attached_used : (net : Net) (p q : ℕ → Bool) (e c : ℕ) (xs ys : List ℕ) (f : ℕ → ℕ) (u twin : ℕ) → IsNewDart net p q e c → IsBetween net p q c → Tells (dart_count net) xs f → u ≡ next_around net p c → f (into net p c) ≡ next_in_face net p (into net p c) → IsAttached xs c u twin ys →
+attached_used : (net : Net) (p q : ℕ → Bool) (e c : ℕ) (xs ys : List ℕ) (f : ℕ → ℕ) (u twin : ℕ) →
+    IsNewDart net p q e c → IsBetween net p q c → Tells (dart_count net) xs f → u ≡ next_around net p c →
+    f (into net p c) ≡ next_in_face net p (into net p c) → IsAttached xs c u twin ys →
     ys ≡ swap xs (into net p c) twin
 attached_used net p q e c xs ys f u twin n b t hu fi a =
     let k = corner net p q e c n b in
@@ -78,13 +80,17 @@ attached_used net p q e c xs ys f u twin n b t hu fi a =
     let leads : get_or xs i 0 ≡ u = t.at i k.set.inside ∙ fi ∙ sym k.face ∙ sym hu in
     move.1.swapped ∙ ap (λ x. swap xs x twin) (sym (move.1.only i (omega (arith, t.size, k.set.inside)) leads))
 
-attached_bare : (net : Net) (p : ℕ → Bool) (c : ℕ) (xs ys : List ℕ) (u twin : ℕ) → c < dart_count net → NoneAt net p c → u ≡ next_around net p c → IsAttached xs c u twin ys → ys ≡ xs
+attached_bare : (net : Net) (p : ℕ → Bool) (c : ℕ) (xs ys : List ℕ) (u twin : ℕ) → c < dart_count net → NoneAt net p c →
+    u ≡ next_around net p c → IsAttached xs c u twin ys → ys ≡ xs
 attached_bare net p c xs ys u twin h none hu a = a.stays (hu ∙ bare_next net p c h none)
 
-faces_from : (net : Net) (q : ℕ → Bool) (xs : List ℕ) (f : ℕ → ℕ) → Tells (dart_count net) xs f → ((z : ℕ) → z < dart_count net → next_in_face net q z ≡ f z) → AreFaces net q xs
+faces_from : (net : Net) (q : ℕ → Bool) (xs : List ℕ) (f : ℕ → ℕ) → Tells (dart_count net) xs f →
+    ((z : ℕ) → z < dart_count net → next_in_face net q z ≡ f z) → AreFaces net q xs
 faces_from net q xs f t same = record { darts = t.size; next = λ d h. t.at d h ∙ sym (same d h) }
 
-pub faces_more : (net : Net) (p q : ℕ → Bool) (e : ℕ) (xs ys : List ℕ) (u v : ℕ) → IsOneMore net p q e → AreFaces net p xs → u ≡ next_around net p (2 * e) → v ≡ next_around net p (2 * e + 1) → IsInserted xs e u v ys → AreFaces net q ys
+pub faces_more : (net : Net) (p q : ℕ → Bool) (e : ℕ) (xs ys : List ℕ) (u v : ℕ) → IsOneMore net p q e →
+    AreFaces net p xs → u ≡ next_around net p (2 * e) → v ≡ next_around net p (2 * e + 1) → IsInserted xs e u v ys →
+    AreFaces net q ys
 faces_more net p q e xs ys u v k faces hu hv (mid, one, two) =
     let m = dart_count net in
     let f = next_in_face net p in
@@ -102,15 +108,21 @@ faces_more net p q e xs ys u v k faces hu hv (mid, one, two) =
           elim (cases_Bool (is_bare net.graph p (edge_at net.graph e).b)) [
             | inl hb ↦
                 let none_d = none_second net p e hb in
-                faces_from net q ys f0 (tells_same m mid ys f0 t2 (attached_bare net p d mid ys v c n.second.inside none_d hv two)) (lone_is net p q e c d n none none_d)
+                faces_from net q ys f0 (tells_same m mid ys f0 t2
+                (attached_bare net p d mid ys v c n.second.inside none_d hv two))
+                (lone_is net p q e c d n none none_d)
             | inr hb ↦
                 let b = between_second net p q e k hb in
                 let j = into net p d in
                 let l = corner net p q e d n.second b in
                 let jc : j ≢ c = not_new net p q e c j n.first l.set in
                 let jd : j ≢ d = not_new net p q e d j n.second l.set in
-                let t3 : Tells m ys (exchange f0 j c) = tells_swap m mid ys f0 j c t2 l.set.inside n.first.inside jc (attached_used net p q e d mid ys f0 v c n.second b t2 hv (exchange_other f c d j jc jd) two) in
-                faces_from net q ys _ t3 (λ z h. hung_is net p q e d c (turned_new net p q e c d n) b none z h ∙ exchange_alike m (paired net p d c) f0 j c l.set.inside n.first.inside (λ y hy. exchange_turned f d c y (λ r. cd (sym r))) z h)
+                let t3 : Tells m ys (exchange f0 j c) =
+                tells_swap m mid ys f0 j c t2 l.set.inside n.first.inside jc
+                (attached_used net p q e d mid ys f0 v c n.second b t2 hv (exchange_other f c d j jc jd) two) in
+                faces_from net q ys _ t3 (λ z h. hung_is net p q e d c (turned_new net p q e c d n) b none z h ∙
+                exchange_alike m (paired net p d c) f0 j c l.set.inside n.first.inside
+                (λ y hy. exchange_turned f d c y (λ r. cd (sym r))) z h)
           ]
       | inr ha ↦
           let b = between_first net p q e k ha in
@@ -118,23 +130,27 @@ faces_more net p q e xs ys u v k faces hu hv (mid, one, two) =
           let l = corner net p q e c n.first b in
           let ic : i ≢ c = not_new net p q e c i n.first l.set in
           let id : i ≢ d = not_new net p q e d i n.second l.set in
-          let t2 : Tells m mid (exchange f0 i d) = tells_swap m _ mid f0 i d t1 l.set.inside n.second.inside id (attached_used net p q e c _ mid f0 u d n.first b t1 hu (exchange_other f c d i ic id) one) in
+          let t2 : Tells m mid (exchange f0 i d) = tells_swap m _ mid f0 i d t1 l.set.inside n.second.inside id
+          (attached_used net p q e c _ mid f0 u d n.first b t1 hu (exchange_other f c d i ic id) one) in
           elim (cases_Bool (is_bare net.graph p (edge_at net.graph e).b)) [
             | inl hb ↦
                 let none_d = none_second net p e hb in
-                faces_from net q ys _ (tells_same m mid ys _ t2 (attached_bare net p d mid ys v c n.second.inside none_d hv two)) (hung_is net p q e c d n b none_d)
+                faces_from net q ys _ (tells_same m mid ys _ t2
+                (attached_bare net p d mid ys v c n.second.inside none_d hv two)) (hung_is net p q e c d n b none_d)
             | inr hb ↦
                 let b' = between_second net p q e k hb in
                 let j = into net p d in
                 let new = new_at net p q e c d n b b' in
                 let fj : exchange f0 i d j ≡ f j = exchange_other f0 i d j (λ r. new.ij (sym r)) new.jd ∙ exchange_other f c d j new.jc new.jd in
-                let t3 = tells_swap m mid ys (exchange f0 i d) j c t2 new.j_in n.first.inside new.jc (attached_used net p q e d mid ys (exchange f0 i d) v c n.second b' t2 hv fj two) in
+                let t3 = tells_swap m mid ys (exchange f0 i d) j c t2 new.j_in n.first.inside new.jc
+                (attached_used net p q e d mid ys (exchange f0 i d) v c n.second b' t2 hv fj two) in
                 faces_from net q ys _ t3 (added_is net p q e c d n b b')
           ]
     ]
 
 -- after the first dart is put in, it still leads to its twin
-pub attached_back : (xs ones mid : List ℕ) (c d u : ℕ) → c < length xs → d < length xs → c ≢ d → get_or xs c 0 ≡ c → get_or xs d 0 ≡ d → u ≢ d → ones ≡ swap xs c d → IsAttached ones c u d mid → get_or mid c 0 ≡ d
+pub attached_back : (xs ones mid : List ℕ) (c d u : ℕ) → c < length xs → d < length xs → c ≢ d → get_or xs c 0 ≡ c →
+    get_or xs d 0 ≡ d → u ≢ d → ones ≡ swap xs c d → IsAttached ones c u d mid → get_or mid c 0 ≡ d
 attached_back xs ones mid c d u hc hd cd fc fd ud e a =
     let l : length ones ≡ length xs = ap length e ∙ length_swap xs c d hc hd in
     let at : (z : ℕ) → get_or ones z 0 ≡ exchange (slice_index xs) c d z = λ z. ap (λ (zs : List ℕ). get_or zs z 0) e ∙ swap_value xs c d hc hd cd z in
@@ -147,8 +163,11 @@ attached_back xs ones mid c d u hc hd cd fc fd ud e a =
           let i = move.0 in
           let ci : c ≢ i = λ k. ud (sym move.1.leads ∙ ap (λ z. get_or ones z 0) (sym k) ∙ first) in
           let id : i ≢ d = λ k. r (sym move.1.leads ∙ ap (λ z. get_or ones z 0) k ∙ second) in
-          ap (λ (zs : List ℕ). get_or zs c 0) move.1.swapped ∙ swap_value ones i d move.1.inside (omega (arith, l)) id c ∙ exchange_other (slice_index ones) i d c ci cd ∙ first
+          ap (λ (zs : List ℕ). get_or zs c 0) move.1.swapped ∙
+          swap_value ones i d move.1.inside (omega (arith, l)) id c ∙
+          exchange_other (slice_index ones) i d c ci cd ∙ first
     ]
 
 pub swapped_second : (xs ones : List ℕ) (c d : ℕ) → c < length xs → d < length xs → c ≢ d → get_or xs c 0 ≡ c → ones ≡ swap xs c d → get_or ones d 0 ≡ c
-swapped_second xs ones c d hc hd cd fc e = ap (λ (zs : List ℕ). get_or zs d 0) e ∙ swap_value xs c d hc hd cd d ∙ exchange_second (slice_index xs) c d (λ k. cd (sym k)) ∙ fc
+swapped_second xs ones c d hc hd cd fc e = ap (λ (zs : List ℕ). get_or zs d 0) e ∙ swap_value xs c d hc hd cd d ∙
+    exchange_second (slice_index xs) c d (λ k. cd (sym k)) ∙ fc

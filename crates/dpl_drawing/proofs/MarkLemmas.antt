@@ -1,5 +1,6 @@
 -- A walk along a cycle that labels what it passes.
-use Rattle.std.proofs.Common.{arith, ◌≡◌, ◌≢◌, ℕ, ◌<◌, ◌==◌, refl, sym, ap, ◌∙◌, true, false, inl, inr, ◌⊎◌, List, length, get_or, set, length-set, get_or-set_same, get_or-set_other, eq-eqb}
+use Rattle.std.proofs.Common.{arith, ◌≡◌, ◌≢◌, ℕ, ◌<◌, ◌==◌, refl, sym, ap, ◌∙◌, true, false, inl, inr, ◌⊎◌, List}
+use Rattle.std.proofs.Common.{length, get_or, set, length-set, get_or-set_same, get_or-set_other, eq-eqb}
 use Rattle.std.proofs.lemmas.Bool.{cases_eq, ne_eqb}
 use Rattle.std.specs.Prelude.{slice_index}
 use Rattle.dpl_cycle.specs.Cycles.{Permutes}
@@ -21,11 +22,13 @@ pub record Walking (ring : List ℕ) (start label : ℕ) (old labels : List ℕ)
   pub here_on : On ring start place
   pub others : (z : ℕ) → z < length ring → (On ring start z → ⊥) → get_or labels z 0 ≡ get_or old z 0
   pub on : (z : ℕ) → z < length ring → On ring start z → get_or labels z 0 ≡ label → (get_or labels (get_or ring z 0) 0 ≡ label) ⊎ (get_or ring z 0 ≡ place)
-  pub back : (z : ℕ) → z < length ring → get_or ring z 0 < length ring → On ring start (get_or ring z 0) → get_or labels (get_or ring z 0) 0 ≡ label → get_or ring z 0 ≢ start → get_or labels z 0 ≡ label
+  pub back : (z : ℕ) → z < length ring → get_or ring z 0 < length ring → On ring start (get_or ring z 0) →
+      get_or labels (get_or ring z 0) 0 ≡ label → get_or ring z 0 ≢ start → get_or labels z 0 ≡ label
   pub before : (z : ℕ) → z < length ring → get_or ring z 0 ≡ place → place ≢ start → get_or labels z 0 ≡ label
   pub begun : (place ≡ start) ⊎ (get_or labels start 0 ≡ label)
 
-pub begins : (ring : List ℕ) (start label : ℕ) (old : List ℕ) → length old ≡ length ring → start < length ring → ((z : ℕ) → z < length old → On ring start z → get_or old z 0 ≢ label) →
+pub begins : (ring : List ℕ) (start label : ℕ) (old : List ℕ) → length old ≡ length ring → start < length ring →
+    ((z : ℕ) → z < length old → On ring start z → get_or old z 0 ≢ label) →
     Walking ring start label old old start
 begins ring start label old e h fresh = record {
   lengths = refl;
@@ -51,7 +54,9 @@ marked ls place label z h c = elim (cases_eq z place) [
 unmarked : (ls : List ℕ) (place label z : ℕ) → get_or (set ls place label) z 0 ≡ label → (get_or ls z 0 ≡ label) ⊎ (z ≡ place)
 unmarked ls place label z e = elim (cases_eq z place) [ inl t ↦ inr t | inr t ↦ inl (sym (get_or-set_other ls place z label 0 t) ∙ e) ]
 
-pub goes_on : (ring : List ℕ) (g : ℕ → ℕ) (start label : ℕ) (old ls : List ℕ) (place : ℕ) → Permutes (length ring) (slice_index ring) g → Walking ring start label old ls place → get_or ring place 0 ≢ start → Walking ring start label old (set ls place label) (get_or ring place 0)
+pub goes_on : (ring : List ℕ) (g : ℕ → ℕ) (start label : ℕ) (old ls : List ℕ) (place : ℕ) →
+    Permutes (length ring) (slice_index ring) g → Walking ring start label old ls place → get_or ring place 0 ≢ start →
+    Walking ring start label old (set ls place label) (get_or ring place 0)
 goes_on ring g start label old ls place p w ne =
     let inside : place < length ls = omega (arith, w.sizes, w.inside) in
     let next = get_or ring place 0 in
@@ -98,7 +103,9 @@ lacks_off : (ring : List ℕ) (start label : ℕ) (ls : List ℕ) (z : ℕ) → 
 unfolding lacks
 lacks_off ring start label ls z o = rw (ne_eqb (least_of ring z) (least_of ring start) o, lacks)
 
-pub ends : (ring : List ℕ) (g : ℕ → ℕ) (start label : ℕ) (old ls : List ℕ) (place : ℕ) → Permutes (length ring) (slice_index ring) g → Walking ring start label old ls place → get_or ring place 0 ≡ start → MarksCycle ring start label old (set ls place label)
+pub ends : (ring : List ℕ) (g : ℕ → ℕ) (start label : ℕ) (old ls : List ℕ) (place : ℕ) →
+    Permutes (length ring) (slice_index ring) g → Walking ring start label old ls place → get_or ring place 0 ≡ start →
+    MarksCycle ring start label old (set ls place label)
 ends ring g start label old ls place p w back_at =
     let inside : place < length ls = omega (arith, w.sizes, w.inside) in
     let new = set ls place label in
@@ -106,11 +113,13 @@ ends ring g start label old ls place p w back_at =
     let first : get_or new start 0 ≡ label = elim w.begun [ inl a ↦ m start (inr (sym a)) | inr b ↦ m start (inl b) ] in
     let last : (z : ℕ) → z < length ring → get_or ring z 0 ≡ start → get_or new z 0 ≡ label = λ z k e.
     m z (inr (sym (p.back z k) ∙ ap g (e ∙ sym back_at) ∙ p.back place w.inside)) in
-    let to : (z : ℕ) → z < length ring → On ring start z → get_or new z 0 ≡ label → get_or new (get_or ring z 0) 0 ≡ label = λ z k o e. elim (unmarked ls place label z e) [
+    let to : (z : ℕ) → z < length ring → On ring start z → get_or new z 0 ≡ label →
+    get_or new (get_or ring z 0) 0 ≡ label = λ z k o e. elim (unmarked ls place label z e) [
       | inl a ↦ elim (w.on z k o a) [ inl b ↦ m (get_or ring z 0) (inl b) | inr b ↦ m (get_or ring z 0) (inr b) ]
       | inr b ↦ ap (λ y. get_or new y 0) (ap (λ y. get_or ring y 0) b ∙ back_at) ∙ first
     ] in
-    let from : (z : ℕ) → z < length ring → On ring start z → get_or new (get_or ring z 0) 0 ≡ label → get_or new z 0 ≡ label = λ z k o e. elim (cases_eq (get_or ring z 0) start) [
+    let from : (z : ℕ) → z < length ring → On ring start z → get_or new (get_or ring z 0) 0 ≡ label →
+    get_or new z 0 ≡ label = λ z k o e. elim (cases_eq (get_or ring z 0) start) [
       | inl t ↦ last z k t
       | inr t ↦ elim (unmarked ls place label (get_or ring z 0) e) [
         | inl a ↦ m z (inl (w.back z k (p.to z k) (least_step (length ring) _ _ p z k ∙ o) a t))
@@ -132,7 +141,13 @@ ends ring g start label old ls place p w back_at =
       lengths = length-set ls place label ∙ w.lengths;
       marked = λ z k e. elim (cases_eq (get_or new z 0) label) [
         | inl t ↦ t
-        | inr t ↦ absurd (omega (arith, lacks_yes ring start label new z e t, lacks_no ring start label new start refl first, sym (constant z k) ∙ ap label_of e ∙ constant start w.start_inside))
+        | inr t ↦ absurd (omega (
+          arith,
+          lacks_yes ring start label new z e t,
+          lacks_no ring start label new start refl first,
+          sym (constant z k) ∙ ap label_of e ∙
+              constant start w.start_inside,
+        ))
       ];
       others = λ z k off. elim (cases_eq z place) [
         | inl t ↦ absurd (off (ap (least_of ring) t ∙ w.here_on))

@@ -14,8 +14,11 @@ pub content_front : (begun : List Primitive) (boxes : List Placed) → take (len
 content_front begun boxes = front_stays begun _
 
 without_next : (number : ℕ) (b : Placed) (bs : List Placed) → without number (b ∷ []) ++ without number bs ≡ without number (b ∷ bs)
-without_next number b bs = elim (not (b.number == number)) as (λ t. (if t then b ∷ [] else []) ++ without number bs ≡ (if t then b ∷ without number bs else without number bs)) [ true ↦ refl | false ↦ refl ]
+without_next number b bs = elim (not (b.number == number)) as
+    (λ t. (if t then b ∷ [] else []) ++ without number bs ≡ (if t then b ∷ without number bs else without number bs))
+    [ true ↦ refl | false ↦ refl ]
 
 -- one box more is looked at
-pub one_box : (front : List Placed) (number : ℕ) (b : Placed) (bs : List Placed) → (front ++ without number (b ∷ [])) ++ without number bs ≡ front ++ without number (b ∷ bs)
+pub one_box : (front : List Placed) (number : ℕ) (b : Placed) (bs : List Placed) →
+    (front ++ without number (b ∷ [])) ++ without number bs ≡ front ++ without number (b ∷ bs)
 one_box front number b bs = append_assoc front (without number (b ∷ [])) (without number bs) ∙ ap (λ xs. front ++ xs) (without_next number b bs)

@@ -59,16 +59,23 @@ ranks_apart r s xs ys low a b i d l j e m =
     let less : (key_tie (slice_index_or xs i d)).rank < (key_tie (slice_index_or ys j e)).rank = omega (arith, low, p, q) in
     key_to (key_tie (slice_index_or xs i d)) (key_tie (slice_index_or ys j e)) (inl less)
 
-ties_in_order : (w : PlainWeights) (bonds : List (ℕ × ℕ)) (cuts : List Cut) (links : List Link) → AllPairs IsFirst bonds → AllPairs (λ (c d : Cut). c.a < d.a) cuts
+ties_in_order : (w : PlainWeights) (bonds : List (ℕ × ℕ)) (cuts : List Cut) (links : List Link) →
+    AllPairs IsFirst bonds → AllPairs (λ (c d : Cut). c.a < d.a) cuts
     → AllPairs (λ (l m : Link). IsFirst (l.a, l.b) (m.a, m.b)) links → AllPairs IsTieBefore (ties_of w bonds cuts links)
 unfolding IsTieBefore key_tie
 ties_in_order w bonds cuts links a b c =
     let x = map bond_tie bonds in
     let y = map (stitch_tie w.stitch) cuts in
     let z = map (clash_tie w) links in
-    let bonds_in = pairs_to_map bond_tie IsTieBefore bonds (λ i j d low l. key_to (key_tie (bond_tie (slice_index_or bonds i d))) (key_tie (bond_tie (slice_index_or bonds j d))) (inr (refl, a i j d low l))) in
-    let cuts_in = pairs_to_map (stitch_tie w.stitch) IsTieBefore cuts (λ i j d low l. key_to (key_tie (stitch_tie w.stitch (slice_index_or cuts i d))) (key_tie (stitch_tie w.stitch (slice_index_or cuts j d))) (inr (refl, inl (b i j d low l)))) in
-    let links_in = pairs_to_map (clash_tie w) IsTieBefore links (λ i j d low l. key_to (key_tie (clash_tie w (slice_index_or links i d))) (key_tie (clash_tie w (slice_index_or links j d))) (inr (refl, c i j d low l))) in
+    let bonds_in = pairs_to_map bond_tie IsTieBefore bonds
+    (λ i j d low l. key_to (key_tie (bond_tie (slice_index_or bonds i d)))
+    (key_tie (bond_tie (slice_index_or bonds j d))) (inr (refl, a i j d low l))) in
+    let cuts_in = pairs_to_map (stitch_tie w.stitch) IsTieBefore cuts
+    (λ i j d low l. key_to (key_tie (stitch_tie w.stitch (slice_index_or cuts i d)))
+    (key_tie (stitch_tie w.stitch (slice_index_or cuts j d))) (inr (refl, inl (b i j d low l)))) in
+    let links_in = pairs_to_map (clash_tie w) IsTieBefore links
+    (λ i j d low l. key_to (key_tie (clash_tie w (slice_index_or links i d)))
+    (key_tie (clash_tie w (slice_index_or links j d))) (inr (refl, c i j d low l))) in
     let rx : All (λ (t : Tie). rank_of t.kind ≡ 0) x = All-map (λ (t : Tie). rank_of t.kind ≡ 0) bond_tie bonds (λ k d l. refl) in
     let ry : All (λ (t : Tie). rank_of t.kind ≡ 1) y = All-map (λ (t : Tie). rank_of t.kind ≡ 1) (stitch_tie w.stitch) cuts (λ k d l. refl) in
     let rz : All (λ (t : Tie). rank_of t.kind ≡ 2) z = All-map (λ (t : Tie). rank_of t.kind ≡ 2) (clash_tie w) links (λ k d l. refl) in

@@ -38,11 +38,13 @@ drawn_free o cells kept s h e (inr a) =
 
 -- ---- of a content
 
-limits_once : (o : PlainOptions) (prims keep : List Primitive) (k c l d : ℕ) → Refuses o prims keep (Limit k c) → Refuses o prims keep (Limit l d) → Limit k c ≡ Limit l d
+limits_once : (o : PlainOptions) (prims keep : List Primitive) (k c l d : ℕ) → Refuses o prims keep (Limit k c) →
+    Refuses o prims keep (Limit l d) → Limit k c ≡ Limit l d
 limits_once o prims keep k c l d (inl (m, p, q)) (inl (n, r, s)) = rw (p, q, r, s) refl
 limits_once o prims keep k c l d (inl (m, p, q)) (inr (few, h)) = absurd (omega (arith, m, few))
 limits_once o prims keep k c l d (inr (few, h)) (inl (m, p, q)) = absurd (omega (arith, m, few))
-limits_once o prims keep k c l d (inr (few, h)) (inr (also, g)) = ap of_layer (one_drawn o (cells_in prims) (cells_in keep) (layer.Limit k c) (layer.Limit l d) h g)
+limits_once o prims keep k c l d (inr (few, h)) (inr (also, g)) =
+    ap of_layer (one_drawn o (cells_in prims) (cells_in keep) (layer.Limit k c) (layer.Limit l d) h g)
 
 pub one_refusal : (o : PlainOptions) (prims keep : List Primitive) (e f : EditError) → Refuses o prims keep e → Refuses o prims keep f → e ≡ f
 one_refusal o prims keep (Limit k c) (Limit l d) a b = limits_once o prims keep k c l d a b
@@ -56,7 +58,8 @@ content_free o prims keep s h (Limit k c) (inr (few, r)) = drawn_free o (cells_i
 content_free o prims keep s h NoMemory r = r
 
 -- what refuses the cells refuses a content with few primitives
-pub drawn_refuses : (o : PlainOptions) (prims keep : List Primitive) (e : LayerError) → prim_count prims ≤ 50000 → (e ≡ layer.NoMemory) ⊎ RefusesDrawn o (cells_in prims) (cells_in keep) e
+pub drawn_refuses : (o : PlainOptions) (prims keep : List Primitive) (e : LayerError) → prim_count prims ≤ 50000 →
+    (e ≡ layer.NoMemory) ⊎ RefusesDrawn o (cells_in prims) (cells_in keep) e
     → (of_layer e ≡ NoMemory) ⊎ Refuses o prims keep (of_layer e)
 drawn_refuses o prims keep e few (inl m) = inl (ap of_layer m)
 drawn_refuses o prims keep (layer.Layout c w) few (inr h) = inl refl

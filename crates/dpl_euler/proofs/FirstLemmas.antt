@@ -1,5 +1,6 @@
 -- The first edge that is set aside.
-use Rattle.std.proofs.Common.{arith, ◌≡◌, ℕ, zero, suc, ◌<◌, sym, ap, ◌∙◌, true, false, not, inl, inr, List, [], ◌∷◌, ◌++◌, length, get_or, length-append, subst}
+use Rattle.std.proofs.Common.{arith, ◌≡◌, ℕ, zero, suc, ◌<◌, sym, ap, ◌∙◌, true, false, not, inl, inr, List, [], ◌∷◌}
+use Rattle.std.proofs.Common.{◌++◌, length, get_or, length-append, subst}
 use Rattle.std.proofs.lemmas.Bool.{cases_eq, cases_Bool, cond-true, cond-false}
 use Rattle.std.proofs.lemmas.List.{get_or_append_left, get_or-append-add}
 use Rattle.dpl_sign.specs.declared.nets.Net.{Net}
@@ -45,10 +46,13 @@ first_before net (suc n) h =
           let more : aside_before net (suc n) ≡ old ++ n ∷ [] = cond-true (is_aside net n) _ _ (ap not t) in
           elim (cases_eq (length old) 0) [
             | inl none ↦
-                let at : get_or (aside_before net (suc n)) 0 0 ≡ n = ap (λ (xs : List ℕ). get_or xs 0 0) more ∙ ap (λ z. get_or (old ++ n ∷ []) z 0) (omega (arith, none)) ∙ get_or-append-add old (n ∷ []) 0 0 in
+                let at : get_or (aside_before net (suc n)) 0 0 ≡ n = ap (λ (xs : List ℕ). get_or xs 0 0) more ∙
+                ap (λ z. get_or (old ++ n ∷ []) z 0) (omega (arith, none)) ∙ get_or-append-add old (n ∷ []) 0 0 in
                 first_at net (suc n) _ _ (sym at) (record { inside = omega arith; aside = t; least = none_before net n none })
             | inr some ↦
-                let at : get_or (aside_before net (suc n)) 0 0 ≡ get_or old 0 0 = ap (λ (xs : List ℕ). get_or xs 0 0) more ∙ get_or_append_left old (n ∷ []) 0 0 (omega (arith, some)) in
+                let at : get_or (aside_before net (suc n)) 0 0 ≡ get_or old 0 0 =
+                ap (λ (xs : List ℕ). get_or xs 0 0) more ∙ get_or_append_left old (n ∷ []) 0 0 (omega (arith, some))
+                in
                 first_at net (suc n) _ _ (sym at) (later net n _ (first_before net n (omega (arith, some))))
           ]
     ]

@@ -4,7 +4,8 @@ use Rattle.std.specs.Int.{int_max, int_min}
 use Rattle.std.proofs.lemmas.Int.{ints, clamps, by_lt_z}
 use Rattle.dpl_euler.specs.Points.{Ends, Point, IsAt, IsOn}
 use Rattle.dpl_euler.proofs.ProductLemmas.{mul_comm, mul_moved, mul_le, same_from_mul, zero_from_mul}
-use Rattle.dpl_euler.proofs.PointLemmas.{turn_to, turn_of, turn_step, turn_other, turn_first, turn_second, over_positive, within_bounds, on_line, turns_balance, same_or_not}
+use Rattle.dpl_euler.proofs.PointLemmas.{turn_to, turn_of, turn_step, turn_other, turn_first, turn_second}
+use Rattle.dpl_euler.proofs.PointLemmas.{over_positive, within_bounds, on_line, turns_balance, same_or_not}
 use Rattle.dpl_euler.proofs.MeetingLemmas.{DoMeet, shared, middle_columns, middle_rows, along}
 
 abbrev pub DoSpansOverlap : ℤ → ℤ → ℤ → ℤ → Type 0
@@ -24,7 +25,8 @@ pub record Inner (s t : Ends) : Type 0 where
   pub not_first : ¬ IsAt point s.x1 s.y1
   pub not_second : ¬ IsAt point s.x2 s.y2
 
-overlap_apart : (a1 a2 b1 b2 : ℤ) → DoSpansOverlap a1 a2 b1 b2 → (a1 ≢ a2) × (b1 ≢ b2) × (shared a1 a2 b1 b2 ≢ (pos 2 *ℤ a1)) × (shared a1 a2 b1 b2 ≢ (pos 2 *ℤ a2))
+overlap_apart : (a1 a2 b1 b2 : ℤ) → DoSpansOverlap a1 a2 b1 b2 → (a1 ≢ a2) × (b1 ≢ b2) ×
+    (shared a1 a2 b1 b2 ≢ (pos 2 *ℤ a1)) × (shared a1 a2 b1 b2 ≢ (pos 2 *ℤ a2))
 overlap_apart a1 a2 b1 b2 h =
     let low : int_min a1 a2 <ℤ int_max a1 a2 = omega (arith, ints, clamps, h) in
     let low_b : int_min b1 b2 <ℤ int_max b1 b2 = omega (arith, ints, clamps, h) in
@@ -82,16 +84,25 @@ abbrev pub IsEndOf : Ends → ℤ → ℤ → Type 0
 IsEndOf s x y = ((s.x1 ≡ x) × (s.y1 ≡ y)) ⊎ ((s.x2 ≡ x) × (s.y2 ≡ y))
 
 -- two different points of which one is an end of both
-overlap_spans : (o p x a1 a2 b1 b2 : ℤ) → pos 0 <ℤ o → p ≢ (o *ℤ x) → (a1 ≡ x) ⊎ (a2 ≡ x) → (b1 ≡ x) ⊎ (b2 ≡ x) → (o *ℤ int_min a1 a2) ≤ℤ p → p ≤ℤ (o *ℤ int_max a1 a2) → (o *ℤ int_min b1 b2) ≤ℤ p → p ≤ℤ (o *ℤ int_max b1 b2) → DoSpansOverlap a1 a2 b1 b2
+overlap_spans : (o p x a1 a2 b1 b2 : ℤ) → pos 0 <ℤ o → p ≢ (o *ℤ x) → (a1 ≡ x) ⊎ (a2 ≡ x) → (b1 ≡ x) ⊎ (b2 ≡ x) →
+    (o *ℤ int_min a1 a2) ≤ℤ p → p ≤ℤ (o *ℤ int_max a1 a2) → (o *ℤ int_min b1 b2) ≤ℤ p → p ≤ℤ (o *ℤ int_max b1 b2) →
+    DoSpansOverlap a1 a2 b1 b2
 overlap_spans o p x a1 a2 b1 b2 ho apart ea eb f g h k =
     let ia = in_range a1 a2 ea in
     let ib = in_range b1 b2 eb in
     by_lt_z p (o *ℤ x)
-    (λ l. wider (int_min a1 a2) (int_max a1 a2) (int_min b1 b2) (int_max b1 b2) x ia.1 ib.1 (inl (under (int_min a1 a2) l f, under (int_min b1 b2) l h)) ia.0 ib.0)
-    (λ l. let m : (o *ℤ x) <ℤ p = omega (arith, ints, l, apart) in wider (int_min a1 a2) (int_max a1 a2) (int_min b1 b2) (int_max b1 b2) x ia.1 ib.1 (inr (above (int_max a1 a2) m g, above (int_max b1 b2) m k)) ia.0 ib.0)
+    (λ l. wider (int_min a1 a2) (int_max a1 a2) (int_min b1 b2) (int_max b1 b2) x ia.1 ib.1
+    (inl (under (int_min a1 a2) l f, under (int_min b1 b2) l h)) ia.0 ib.0)
+    (λ l. let m : (o *ℤ x) <ℤ p = omega (arith, ints, l, apart) in
+    wider (int_min a1 a2) (int_max a1 a2) (int_min b1 b2) (int_max b1 b2) x ia.1 ib.1
+    (inr (above (int_max a1 a2) m g, above (int_max b1 b2) m k)) ia.0 ib.0)
   where
     in_range : (a b : ℤ) → (a ≡ x) ⊎ (b ≡ x) → (int_min a b ≤ℤ x) × (x ≤ℤ int_max a b)
-    in_range a b e = elim e [ inl q ↦ (omega (arith, ints, clamps, q), omega (arith, ints, clamps, q)) | inr q ↦ (omega (arith, ints, clamps, q), omega (arith, ints, clamps, q)) ]
+    in_range a b e = elim e [
+      | inl q ↦ (omega (arith, ints, clamps, q), omega (arith, ints, clamps, q))
+      | inr q ↦
+          (omega (arith, ints, clamps, q), omega (arith, ints, clamps, q))
+    ]
 
     under : (low : ℤ) → p <ℤ (o *ℤ x) → (o *ℤ low) ≤ℤ p → low <ℤ x
     under low l f = by_lt_z low x (λ q. q) (λ q. absurd (omega (arith, ints, l, f, mul_le o x low (omega (arith, ints, ho)) q)))
@@ -141,7 +152,8 @@ end_on_line s x y e = elim e [
 ]
 
 -- the line through two points of the other segment goes through both its ends
-ends_along : (s t : Ends) (p : Point) (x y : ℤ) → IsOn s p → IsOn t p → IsEndOf s x y → IsEndOf t x y → ¬ IsAt p x y → (turn_to s t.x1 t.y1 ≡ pos 0) × (turn_to s t.x2 t.y2 ≡ pos 0)
+ends_along : (s t : Ends) (p : Point) (x y : ℤ) → IsOn s p → IsOn t p → IsEndOf s x y → IsEndOf t x y → ¬ IsAt p x y →
+    (turn_to s t.x1 t.y1 ≡ pos 0) × (turn_to s t.x2 t.y2 ≡ pos 0)
 ends_along s t p x y i j es et apart =
     let zero = end_on_line s x y es in
     let sum = turns_balance s t p j (on_line s p i) in
@@ -167,7 +179,8 @@ overlap_from s t p x y m i j es et apart =
       first = ends.0;
       second = ends.1;
       spans = elim (same_or_not p.x (pos p.over *ℤ x)) [
-        | inl ex ↦ inr (overlap_spans (pos p.over) p.y y s.y1 s.y2 t.y1 t.y2 o (λ ey. apart (record { x = ex; y = ey })) (rows s es) (rows t et) a.low a.high b.low b.high)
+        | inl ex ↦ inr (overlap_spans (pos p.over) p.y y s.y1 s.y2 t.y1 t.y2 o (λ ey. apart (record { x = ex; y = ey }))
+            (rows s es) (rows t et) a.low a.high b.low b.high)
         | inr nx ↦ inl (overlap_spans (pos p.over) p.x x s.x1 s.x2 t.x1 t.x2 o nx (columns s es) (columns t et) a.left a.right b.left b.right)
       ];
     }

@@ -45,7 +45,8 @@ pub turn_step : (s t : Ends) → turn_to s t.x2 t.y2 ≡ (turn_to s t.x1 t.y1 +�
 unfolding turn_to turn_of
 turn_step s t = step (s.x2 -ℤ s.x1) (s.y2 -ℤ s.y1) t.x1 t.y1 t.x2 t.y2 s.x1 s.y1
   where
-    step : (d e x1 y1 x2 y2 a b : ℤ) → ((d *ℤ (y2 -ℤ b)) -ℤ (e *ℤ (x2 -ℤ a))) ≡ (((d *ℤ (y1 -ℤ b)) -ℤ (e *ℤ (x1 -ℤ a))) +ℤ ((d *ℤ (y2 -ℤ y1)) -ℤ (e *ℤ (x2 -ℤ x1))))
+    step : (d e x1 y1 x2 y2 a b : ℤ) → ((d *ℤ (y2 -ℤ b)) -ℤ (e *ℤ (x2 -ℤ a)))
+        ≡ (((d *ℤ (y1 -ℤ b)) -ℤ (e *ℤ (x1 -ℤ a))) +ℤ ((d *ℤ (y2 -ℤ y1)) -ℤ (e *ℤ (x2 -ℤ x1))))
     step d e x1 y1 x2 y2 a b = omega (arith, ints, mul_sub d y2 b, mul_sub e x2 a, mul_sub d y1 b, mul_sub e x1 a, mul_sub d y2 y1, mul_sub e x2 x1)
 
 pub turn_other : (s t : Ends) → turn_of t s ≡ (pos 0 -ℤ turn_of s t)
@@ -64,31 +65,41 @@ weighed : (n m : ℕ) (z w : ℤ) → (pos (n + m) *ℤ z) ≡ w → ((pos n +�
 weighed n m z w h = ap (λ k. k *ℤ z) (sym (weights n m)) ∙ h
 
 -- the turn to it, by those to the ends
-pub turn_on : (s t : Ends) (p : Point) (i : IsOn t p) → ((pos i.first +ℤ pos i.second) *ℤ turn_at s p) ≡ (pos p.over *ℤ ((pos i.first *ℤ turn_to s t.x1 t.y1) +ℤ (pos i.second *ℤ turn_to s t.x2 t.y2)))
+pub turn_on : (s t : Ends) (p : Point) (i : IsOn t p) →
+    ((pos i.first +ℤ pos i.second) *ℤ turn_at s p) ≡ (pos p.over *ℤ
+    ((pos i.first *ℤ turn_to s t.x1 t.y1) +ℤ (pos i.second *ℤ turn_to s t.x2 t.y2)))
 unfolding turn_at turn turn_to
-turn_on s t p i = turn_mean (s.x2 -ℤ s.x1) (s.y2 -ℤ s.y1) s.x1 s.y1 (pos i.first) (pos i.second) (pos p.over) p.x p.y t.x1 t.y1 t.x2 t.y2 (weighed i.first i.second p.x _ i.x) (weighed i.first i.second p.y _ i.y)
+turn_on s t p i = turn_mean (s.x2 -ℤ s.x1) (s.y2 -ℤ s.y1) s.x1 s.y1 (pos i.first) (pos i.second) (pos p.over) p.x p.y
+    t.x1 t.y1 t.x2 t.y2 (weighed i.first i.second p.x _ i.x) (weighed i.first i.second p.y _ i.y)
 
 some_weight : (n m : ℕ) → 0 < n + m → pos 0 <ℤ (pos n +ℤ pos m)
 some_weight n m h = omega (arith, ints)
 
 pub turn_zero : (s t : Ends) (p : Point) → IsOn t p → turn_to s t.x1 t.y1 ≡ pos 0 → turn_to s t.x2 t.y2 ≡ pos 0 → turn_at s p ≡ pos 0
 turn_zero s t p i f g =
-    let sum : ((pos i.first *ℤ turn_to s t.x1 t.y1) +ℤ (pos i.second *ℤ turn_to s t.x2 t.y2)) ≡ pos 0 = omega (arith, ints, ap (λ z. pos i.first *ℤ z) f, ap (λ z. pos i.second *ℤ z) g) in
-    zero_from_mul (pos i.first +ℤ pos i.second) (turn_at s p) (omega (arith, ints, some_weight i.first i.second i.some)) (omega (arith, ints, turn_on s t p i, ap (λ z. pos p.over *ℤ z) sum))
+    let sum : ((pos i.first *ℤ turn_to s t.x1 t.y1) +ℤ (pos i.second *ℤ turn_to s t.x2 t.y2)) ≡ pos 0 =
+    omega (arith, ints, ap (λ z. pos i.first *ℤ z) f, ap (λ z. pos i.second *ℤ z) g) in
+    zero_from_mul (pos i.first +ℤ pos i.second) (turn_at s p) (omega (arith, ints, some_weight i.first i.second i.some))
+    (omega (arith, ints, turn_on s t p i, ap (λ z. pos p.over *ℤ z) sum))
 
 -- it lies on the line
 pub on_line : (s : Ends) (p : Point) → IsOn s p → turn_at s p ≡ pos 0
 on_line s p i = turn_zero s s p i (turn_first s) (turn_second s)
 
 -- the mean of the turns to the ends of a segment with a point on the line is 0
-pub turns_balance : (s t : Ends) (p : Point) (i : IsOn t p) → turn_at s p ≡ pos 0 → ((pos i.first *ℤ turn_to s t.x1 t.y1) +ℤ (pos i.second *ℤ turn_to s t.x2 t.y2)) ≡ pos 0
-turns_balance s t p i h = zero_from_mul (pos p.over) ((pos i.first *ℤ turn_to s t.x1 t.y1) +ℤ (pos i.second *ℤ turn_to s t.x2 t.y2)) (omega (arith, ints, over_positive p)) (omega (arith, ints, turn_on s t p i, ap (λ z. (pos i.first +ℤ pos i.second) *ℤ z) h))
+pub turns_balance : (s t : Ends) (p : Point) (i : IsOn t p) → turn_at s p ≡ pos 0 →
+    ((pos i.first *ℤ turn_to s t.x1 t.y1) +ℤ (pos i.second *ℤ turn_to s t.x2 t.y2)) ≡ pos 0
+turns_balance s t p i h = zero_from_mul (pos p.over) ((pos i.first *ℤ turn_to s t.x1 t.y1)
+    +ℤ (pos i.second *ℤ turn_to s t.x2 t.y2)) (omega (arith, ints, over_positive p))
+    (omega (arith, ints, turn_on s t p i, ap (λ z. (pos i.first +ℤ pos i.second) *ℤ z) h))
 
 pub not_left : (s t : Ends) (p : Point) → IsOn t p → turn_at s p ≡ pos 0 → pos 0 <ℤ turn_to s t.x1 t.y1 → pos 0 <ℤ turn_to s t.x2 t.y2 → ⊥
-not_left s t p i h f g = mean_not_zero (pos i.first) (pos i.second) _ _ (omega (arith, ints)) (omega (arith, ints)) (some_weight i.first i.second i.some) f g (turns_balance s t p i h)
+not_left s t p i h f g = mean_not_zero (pos i.first) (pos i.second) _ _ (omega (arith, ints)) (omega (arith, ints))
+    (some_weight i.first i.second i.some) f g (turns_balance s t p i h)
 
 pub not_right : (s t : Ends) (p : Point) → IsOn t p → turn_at s p ≡ pos 0 → turn_to s t.x1 t.y1 <ℤ pos 0 → turn_to s t.x2 t.y2 <ℤ pos 0 → ⊥
-not_right s t p i h f g = mean_not_zero_below (pos i.first) (pos i.second) _ _ (omega (arith, ints)) (omega (arith, ints)) (some_weight i.first i.second i.some) f g (turns_balance s t p i h)
+not_right s t p i h f g = mean_not_zero_below (pos i.first) (pos i.second) _ _ (omega (arith, ints))
+    (omega (arith, ints)) (some_weight i.first i.second i.some) f g (turns_balance s t p i h)
 
 -- it lies within the bounds
 pub record IsWithin (s : Ends) (p : Point) : Type 0 where
@@ -104,10 +115,14 @@ within_bounds s p i =
     let x = weighed i.first i.second p.x _ i.x in
     let y = weighed i.first i.second p.y _ i.y in
     record {
-      left = mean_above (pos i.first) (pos i.second) (pos p.over) p.x s.x1 s.x2 (int_min s.x1 s.x2) (omega (arith, ints)) (omega (arith, ints)) w o x (min_first s.x1 s.x2) (min_second s.x1 s.x2);
-      right = mean_below (pos i.first) (pos i.second) (pos p.over) p.x s.x1 s.x2 (int_max s.x1 s.x2) (omega (arith, ints)) (omega (arith, ints)) w o x (max_first s.x1 s.x2) (max_second s.x1 s.x2);
-      low = mean_above (pos i.first) (pos i.second) (pos p.over) p.y s.y1 s.y2 (int_min s.y1 s.y2) (omega (arith, ints)) (omega (arith, ints)) w o y (min_first s.y1 s.y2) (min_second s.y1 s.y2);
-      high = mean_below (pos i.first) (pos i.second) (pos p.over) p.y s.y1 s.y2 (int_max s.y1 s.y2) (omega (arith, ints)) (omega (arith, ints)) w o y (max_first s.y1 s.y2) (max_second s.y1 s.y2);
+      left = mean_above (pos i.first) (pos i.second) (pos p.over) p.x s.x1 s.x2 (int_min s.x1 s.x2)
+          (omega (arith, ints)) (omega (arith, ints)) w o x (min_first s.x1 s.x2) (min_second s.x1 s.x2);
+      right = mean_below (pos i.first) (pos i.second) (pos p.over) p.x s.x1 s.x2 (int_max s.x1 s.x2)
+          (omega (arith, ints)) (omega (arith, ints)) w o x (max_first s.x1 s.x2) (max_second s.x1 s.x2);
+      low = mean_above (pos i.first) (pos i.second) (pos p.over) p.y s.y1 s.y2 (int_min s.y1 s.y2) (omega (arith, ints))
+          (omega (arith, ints)) w o y (min_first s.y1 s.y2) (min_second s.y1 s.y2);
+      high = mean_below (pos i.first) (pos i.second) (pos p.over) p.y s.y1 s.y2 (int_max s.y1 s.y2)
+          (omega (arith, ints)) (omega (arith, ints)) w o y (max_first s.y1 s.y2) (max_second s.y1 s.y2);
     }
   where
     min_first : (a b : ℤ) → int_min a b ≤ℤ a
@@ -128,12 +143,16 @@ pub abs_is : (z : ℤ) → pos 0 ≤ℤ z → pos (unsigned_abs z) ≡ z
 abs_is z h = omega (arith, ints)
 
 -- a point from weights that are not negative
-pub weighed_on : (s : Ends) (p : Point) (n m : ℤ) → pos 0 ≤ℤ n → pos 0 ≤ℤ m → pos 0 <ℤ (n +ℤ m) → ((n +ℤ m) *ℤ p.x) ≡ (pos p.over *ℤ ((n *ℤ s.x1) +ℤ (m *ℤ s.x2))) → ((n +ℤ m) *ℤ p.y) ≡ (pos p.over *ℤ ((n *ℤ s.y1) +ℤ (m *ℤ s.y2))) → IsOn s p
+pub weighed_on : (s : Ends) (p : Point) (n m : ℤ) → pos 0 ≤ℤ n → pos 0 ≤ℤ m → pos 0 <ℤ (n +ℤ m) →
+    ((n +ℤ m) *ℤ p.x) ≡ (pos p.over *ℤ ((n *ℤ s.x1) +ℤ (m *ℤ s.x2))) →
+    ((n +ℤ m) *ℤ p.y) ≡ (pos p.over *ℤ ((n *ℤ s.y1) +ℤ (m *ℤ s.y2))) → IsOn s p
 weighed_on s p n m hn hm hw hx hy =
     let en = abs_is n hn in
     let em = abs_is m hm in
-    let whole : pos (unsigned_abs n + unsigned_abs m) ≡ (n +ℤ m) = weights (unsigned_abs n) (unsigned_abs m) ∙ ap (λ z. z +ℤ pos (unsigned_abs m)) en ∙ ap (λ z. n +ℤ z) em in
-    let sum : (a b : ℤ) → ((n *ℤ a) +ℤ (m *ℤ b)) ≡ ((pos (unsigned_abs n) *ℤ a) +ℤ (pos (unsigned_abs m) *ℤ b)) = λ a b. sym (ap (λ z. (z *ℤ a) +ℤ (pos (unsigned_abs m) *ℤ b)) en ∙ ap (λ z. (n *ℤ a) +ℤ (z *ℤ b)) em) in
+    let whole : pos (unsigned_abs n + unsigned_abs m) ≡ (n +ℤ m) = weights (unsigned_abs n) (unsigned_abs m) ∙
+    ap (λ z. z +ℤ pos (unsigned_abs m)) en ∙ ap (λ z. n +ℤ z) em in
+    let sum : (a b : ℤ) → ((n *ℤ a) +ℤ (m *ℤ b)) ≡ ((pos (unsigned_abs n) *ℤ a) +ℤ (pos (unsigned_abs m) *ℤ b)) =
+    λ a b. sym (ap (λ z. (z *ℤ a) +ℤ (pos (unsigned_abs m) *ℤ b)) en ∙ ap (λ z. (n *ℤ a) +ℤ (z *ℤ b)) em) in
     record {
       first = unsigned_abs n;
       second = unsigned_abs m;
@@ -168,23 +187,37 @@ on_back s p i = record {
 
 pub turn_back : (s : Ends) (o x y : ℤ) → turn (back s) o x y ≡ (pos 0 -ℤ turn s o x y)
 unfolding turn
-turn_back s o x y = reversed s.x1 s.x2 s.y1 s.y2 (y -ℤ (o *ℤ s.y2)) (x -ℤ (o *ℤ s.x2)) ∙ ap (λ z. pos 0 -ℤ z) (moved (s.x2 -ℤ s.x1) (s.y2 -ℤ s.y1) s.x1 s.y1 s.x2 s.y2 o x y (mul_comm (s.x2 -ℤ s.x1) (s.y2 -ℤ s.y1)))
+turn_back s o x y = reversed s.x1 s.x2 s.y1 s.y2 (y -ℤ (o *ℤ s.y2)) (x -ℤ (o *ℤ s.x2)) ∙
+    ap (λ z. pos 0 -ℤ z) (moved (s.x2 -ℤ s.x1) (s.y2 -ℤ s.y1) s.x1 s.y1 s.x2 s.y2 o x y
+    (mul_comm (s.x2 -ℤ s.x1) (s.y2 -ℤ s.y1)))
   where
     reversed : (a b c d u v : ℤ) → (((a -ℤ b) *ℤ u) -ℤ ((c -ℤ d) *ℤ v)) ≡ (pos 0 -ℤ (((b -ℤ a) *ℤ u) -ℤ ((d -ℤ c) *ℤ v)))
     reversed a b c d u v = omega (arith, ints, sub_mul a b u, sub_mul b a u, sub_mul c d v, sub_mul d c v)
 
     nearer : (d y o y1 y2 : ℤ) → (d *ℤ (y -ℤ (o *ℤ y2))) ≡ ((d *ℤ (y -ℤ (o *ℤ y1))) -ℤ (o *ℤ (d *ℤ (y2 -ℤ y1))))
-    nearer d y o y1 y2 = omega (arith, ints, mul_sub d y (o *ℤ y2), mul_sub d y (o *ℤ y1), mul_moved d o y2, mul_moved d o y1, mul_sub o (d *ℤ y2) (d *ℤ y1), ap (λ z. o *ℤ z) (mul_sub d y2 y1))
+    nearer d y o y1 y2 = omega (
+      arith,
+      ints,
+      mul_sub d y (o *ℤ y2),
+      mul_sub d y (o *ℤ y1),
+      mul_moved d o y2,
+      mul_moved d o y1,
+      mul_sub o (d *ℤ y2) (d *ℤ y1),
+      ap (λ z. o *ℤ z) (mul_sub d y2 y1),
+    )
 
-    moved : (d e x1 y1 x2 y2 o x y : ℤ) → (d *ℤ (y2 -ℤ y1)) ≡ (e *ℤ (x2 -ℤ x1)) → ((d *ℤ (y -ℤ (o *ℤ y2))) -ℤ (e *ℤ (x -ℤ (o *ℤ x2)))) ≡ ((d *ℤ (y -ℤ (o *ℤ y1))) -ℤ (e *ℤ (x -ℤ (o *ℤ x1))))
+    moved : (d e x1 y1 x2 y2 o x y : ℤ) → (d *ℤ (y2 -ℤ y1)) ≡ (e *ℤ (x2 -ℤ x1)) →
+        ((d *ℤ (y -ℤ (o *ℤ y2))) -ℤ (e *ℤ (x -ℤ (o *ℤ x2)))) ≡ ((d *ℤ (y -ℤ (o *ℤ y1))) -ℤ (e *ℤ (x -ℤ (o *ℤ x1))))
     moved d e x1 y1 x2 y2 o x y h = omega (arith, ints, nearer d y o y1 y2, nearer e x o x1 x2, ap (λ z. o *ℤ z) h)
 
-pub on_line_x : (s : Ends) (p : Point) → s.x1 ≢ s.x2 → turn_at s p ≡ pos 0 → (pos p.over *ℤ int_min s.x1 s.x2) ≤ℤ p.x → p.x ≤ℤ (pos p.over *ℤ int_max s.x1 s.x2) → IsOn s p
+pub on_line_x : (s : Ends) (p : Point) → s.x1 ≢ s.x2 → turn_at s p ≡ pos 0 → (pos p.over *ℤ int_min s.x1 s.x2) ≤ℤ p.x →
+    p.x ≤ℤ (pos p.over *ℤ int_max s.x1 s.x2) → IsOn s p
 unfolding turn_at
 on_line_x s p apart zero low high = by_lt_z s.x1 s.x2
     (λ l. on_line_up s p l zero (lower (pos p.over) p.x s.x1 s.x2 l low) (upper (pos p.over) p.x s.x1 s.x2 l high))
     (λ l. let m : s.x2 <ℤ s.x1 = omega (arith, ints, l, apart) in
-    on_back s p (on_line_up (back s) p m (turn_back s (pos p.over) p.x p.y ∙ omega (arith, ints, zero)) (lower_back (pos p.over) p.x s.x1 s.x2 m low) (upper_back (pos p.over) p.x s.x1 s.x2 m high)))
+    on_back s p (on_line_up (back s) p m (turn_back s (pos p.over) p.x p.y ∙ omega (arith, ints, zero))
+    (lower_back (pos p.over) p.x s.x1 s.x2 m low) (upper_back (pos p.over) p.x s.x1 s.x2 m high)))
   where
     least : (a b : ℤ) → a <ℤ b → (int_min a b ≡ a) × (int_max a b ≡ b)
     least a b l = (omega (arith, ints, clamps, l), omega (arith, ints, clamps, l))
@@ -221,9 +254,11 @@ turn_flip s o x y = flipped ((s.y2 -ℤ s.y1) *ℤ (x -ℤ (o *ℤ s.x1))) ((s.x
     flipped : (a b : ℤ) → (a -ℤ b) ≡ (pos 0 -ℤ (b -ℤ a))
     flipped a b = omega (arith, ints)
 
-pub on_line_y : (s : Ends) (p : Point) → s.y1 ≢ s.y2 → turn_at s p ≡ pos 0 → (pos p.over *ℤ int_min s.y1 s.y2) ≤ℤ p.y → p.y ≤ℤ (pos p.over *ℤ int_max s.y1 s.y2) → IsOn s p
+pub on_line_y : (s : Ends) (p : Point) → s.y1 ≢ s.y2 → turn_at s p ≡ pos 0 → (pos p.over *ℤ int_min s.y1 s.y2) ≤ℤ p.y →
+    p.y ≤ℤ (pos p.over *ℤ int_max s.y1 s.y2) → IsOn s p
 unfolding turn_at
-on_line_y s p apart zero low high = on_flip s p (on_line_x (flip s) (flip_point p) apart (turn_flip s (pos p.over) p.x p.y ∙ omega (arith, ints, zero)) low high)
+on_line_y s p apart zero low high = on_flip s p (on_line_x (flip s) (flip_point p) apart
+    (turn_flip s (pos p.over) p.x p.y ∙ omega (arith, ints, zero)) low high)
 
 pub on_dot : (s : Ends) (p : Point) → s.x1 ≡ s.x2 → s.y1 ≡ s.y2 → IsWithin s p → IsOn s p
 on_dot s p ex ey w = record {
@@ -242,7 +277,8 @@ on_dot s p ex ey w = record {
         omega (arith, ints, low, high, ap (λ z. o *ℤ z) least, ap (λ z. o *ℤ z) most, ap (λ z. o *ℤ z) sum)
 
 pub same_or_not : (a b : ℤ) → (a ≡ b) ⊎ (a ≢ b)
-same_or_not a b = by_lt_z a b (λ l. inr (λ e. omega (arith, ints, l, e))) (λ l. by_lt_z b a (λ m. inr (λ e. omega (arith, ints, m, e))) (λ m. inl (omega (arith, ints, l, m))))
+same_or_not a b = by_lt_z a b (λ l. inr (λ e. omega (arith, ints, l, e)))
+    (λ l. by_lt_z b a (λ m. inr (λ e. omega (arith, ints, m, e))) (λ m. inl (omega (arith, ints, l, m))))
 
 pub on_segment : (s : Ends) (p : Point) → turn_at s p ≡ pos 0 → IsWithin s p → IsOn s p
 on_segment s p zero w = elim (same_or_not s.x1 s.x2) [
@@ -260,11 +296,13 @@ opposite d e x1 y1 x2 y2 = omega (arith, ints, mul_sub d y1 y2, mul_sub e x1 x2,
 
 pub rule_x : (s t : Ends) → ((turn_of s t *ℤ (s.x1 -ℤ t.x1)) +ℤ (turn_to t s.x1 s.y1 *ℤ (s.x2 -ℤ s.x1))) ≡ ((pos 0 -ℤ turn_to s t.x1 t.y1) *ℤ (t.x2 -ℤ t.x1))
 unfolding turn_to turn_of
-rule_x s t = cramer_x (s.x2 -ℤ s.x1) (s.y2 -ℤ s.y1) (t.x2 -ℤ t.x1) (t.y2 -ℤ t.y1) (s.x1 -ℤ t.x1) (s.y1 -ℤ t.y1) ∙ ap (λ z. z *ℤ (t.x2 -ℤ t.x1)) (opposite (s.x2 -ℤ s.x1) (s.y2 -ℤ s.y1) s.x1 s.y1 t.x1 t.y1)
+rule_x s t = cramer_x (s.x2 -ℤ s.x1) (s.y2 -ℤ s.y1) (t.x2 -ℤ t.x1) (t.y2 -ℤ t.y1) (s.x1 -ℤ t.x1) (s.y1 -ℤ t.y1) ∙
+    ap (λ z. z *ℤ (t.x2 -ℤ t.x1)) (opposite (s.x2 -ℤ s.x1) (s.y2 -ℤ s.y1) s.x1 s.y1 t.x1 t.y1)
 
 pub rule_y : (s t : Ends) → ((turn_of s t *ℤ (s.y1 -ℤ t.y1)) +ℤ (turn_to t s.x1 s.y1 *ℤ (s.y2 -ℤ s.y1))) ≡ ((pos 0 -ℤ turn_to s t.x1 t.y1) *ℤ (t.y2 -ℤ t.y1))
 unfolding turn_to turn_of
-rule_y s t = cramer_y (s.x2 -ℤ s.x1) (s.y2 -ℤ s.y1) (t.x2 -ℤ t.x1) (t.y2 -ℤ t.y1) (s.x1 -ℤ t.x1) (s.y1 -ℤ t.y1) ∙ ap (λ z. z *ℤ (t.y2 -ℤ t.y1)) (opposite (s.x2 -ℤ s.x1) (s.y2 -ℤ s.y1) s.x1 s.y1 t.x1 t.y1)
+rule_y s t = cramer_y (s.x2 -ℤ s.x1) (s.y2 -ℤ s.y1) (t.x2 -ℤ t.x1) (t.y2 -ℤ t.y1) (s.x1 -ℤ t.x1) (s.y1 -ℤ t.y1) ∙
+    ap (λ z. z *ℤ (t.y2 -ℤ t.y1)) (opposite (s.x2 -ℤ s.x1) (s.y2 -ℤ s.y1) s.x1 s.y1 t.x1 t.y1)
 
 -- where one of two parallel segments has rows and the other is in one row, the other is in one column
 pub flat_x : (s t : Ends) → turn_of s t ≡ pos 0 → s.y1 ≢ s.y2 → t.y1 ≡ t.y2 → t.x1 ≡ t.x2
@@ -299,7 +337,8 @@ end_point x y = record { over = 1; some = omega arith; x = x; y = y }
 
 pub turn_end : (s : Ends) (x y : ℤ) → turn_at s (end_point x y) ≡ turn_to s x y
 unfolding turn_at turn turn_to
-turn_end s x y = ap (λ z. ((s.x2 -ℤ s.x1) *ℤ (y -ℤ z)) -ℤ ((s.y2 -ℤ s.y1) *ℤ (x -ℤ (pos 1 *ℤ s.x1)))) (once s.y1) ∙ ap (λ z. ((s.x2 -ℤ s.x1) *ℤ (y -ℤ s.y1)) -ℤ ((s.y2 -ℤ s.y1) *ℤ (x -ℤ z))) (once s.x1)
+turn_end s x y = ap (λ z. ((s.x2 -ℤ s.x1) *ℤ (y -ℤ z)) -ℤ ((s.y2 -ℤ s.y1) *ℤ (x -ℤ (pos 1 *ℤ s.x1)))) (once s.y1) ∙
+    ap (λ z. ((s.x2 -ℤ s.x1) *ℤ (y -ℤ s.y1)) -ℤ ((s.y2 -ℤ s.y1) *ℤ (x -ℤ z))) (once s.x1)
   where
     once : (z : ℤ) → (pos 1 *ℤ z) ≡ z
     once z = omega (arith, ints)
@@ -313,12 +352,30 @@ dot_on s ex ey = record { first = 1; second = 0; some = omega arith; x = once s.
 -- ---- the corners of a rectangle
 
 -- the turn to a whole point, many times as large
-pub corner_of : (s : Ends) (p : Point) (x y : ℤ) → ((((s.x2 -ℤ s.x1) *ℤ (pos p.over *ℤ y)) -ℤ ((s.y2 -ℤ s.y1) *ℤ (pos p.over *ℤ x))) +ℤ (turn_at s p -ℤ (((s.x2 -ℤ s.x1) *ℤ p.y) -ℤ ((s.y2 -ℤ s.y1) *ℤ p.x)))) ≡ (pos p.over *ℤ turn_to s x y)
+pub corner_of : (s : Ends) (p : Point) (x y : ℤ) → ((((s.x2 -ℤ s.x1) *ℤ (pos p.over *ℤ y))
+    -ℤ ((s.y2 -ℤ s.y1) *ℤ (pos p.over *ℤ x))) +ℤ (turn_at s p -ℤ (((s.x2 -ℤ s.x1) *ℤ p.y) -ℤ ((s.y2 -ℤ s.y1) *ℤ p.x))))
+    ≡ (pos p.over *ℤ turn_to s x y)
 unfolding turn_at turn turn_to
 corner_of s p x y = large (s.x2 -ℤ s.x1) (s.y2 -ℤ s.y1) (pos p.over) p.x p.y s.x1 s.y1 x y
   where
-    large : (d e o px py a b x y : ℤ) → (((d *ℤ (o *ℤ y)) -ℤ (e *ℤ (o *ℤ x))) +ℤ (((d *ℤ (py -ℤ (o *ℤ b))) -ℤ (e *ℤ (px -ℤ (o *ℤ a)))) -ℤ ((d *ℤ py) -ℤ (e *ℤ px)))) ≡ (o *ℤ ((d *ℤ (y -ℤ b)) -ℤ (e *ℤ (x -ℤ a))))
-    large d e o px py a b x y = omega (arith, ints, mul_sub d py (o *ℤ b), mul_sub e px (o *ℤ a), mul_moved d o y, mul_moved e o x, mul_moved d o b, mul_moved e o a, ap (λ z. o *ℤ z) (mul_sub d y b), ap (λ z. o *ℤ z) (mul_sub e x a), mul_sub o (d *ℤ y) (d *ℤ b), mul_sub o (e *ℤ x) (e *ℤ a), mul_sub o (d *ℤ (y -ℤ b)) (e *ℤ (x -ℤ a)))
+    large : (d e o px py a b x y : ℤ) → (((d *ℤ (o *ℤ y)) -ℤ (e *ℤ (o *ℤ x)))
+        +ℤ (((d *ℤ (py -ℤ (o *ℤ b))) -ℤ (e *ℤ (px -ℤ (o *ℤ a)))) -ℤ ((d *ℤ py) -ℤ (e *ℤ px))))
+        ≡ (o *ℤ ((d *ℤ (y -ℤ b)) -ℤ (e *ℤ (x -ℤ a))))
+    large d e o px py a b x y = omega (
+      arith,
+      ints,
+      mul_sub d py (o *ℤ b),
+      mul_sub e px (o *ℤ a),
+      mul_moved d o y,
+      mul_moved e o x,
+      mul_moved d o b,
+      mul_moved e o a,
+      ap (λ z. o *ℤ z) (mul_sub d y b),
+      ap (λ z. o *ℤ z) (mul_sub e x a),
+      mul_sub o (d *ℤ y) (d *ℤ b),
+      mul_sub o (e *ℤ x) (e *ℤ a),
+      mul_sub o (d *ℤ (y -ℤ b)) (e *ℤ (x -ℤ a)),
+    )
 
 pub turn_up : (s : Ends) (x y z : ℤ) → turn_to s x z ≡ (turn_to s x y +ℤ ((s.x2 -ℤ s.x1) *ℤ (z -ℤ y)))
 unfolding turn_to
@@ -335,9 +392,14 @@ turn_right s x y z = right (s.y2 -ℤ s.y1) s.x1 x z ((s.x2 -ℤ s.x1) *ℤ (y -
     right e a x z f = omega (arith, ints, mul_sub e z a, mul_sub e x a, mul_sub e z x)
 
 -- which of two products is the larger one
-pub turn_sign : (s : Ends) (x y : ℤ) → (pos 0 ≤ℤ turn_to s x y → ((s.y2 -ℤ s.y1) *ℤ (x -ℤ s.x1)) ≤ℤ ((s.x2 -ℤ s.x1) *ℤ (y -ℤ s.y1))) × (turn_to s x y ≤ℤ pos 0 → ((s.x2 -ℤ s.x1) *ℤ (y -ℤ s.y1)) ≤ℤ ((s.y2 -ℤ s.y1) *ℤ (x -ℤ s.x1)))
+pub turn_sign : (s : Ends) (x y : ℤ) → (pos 0 ≤ℤ turn_to s x y →
+    ((s.y2 -ℤ s.y1) *ℤ (x -ℤ s.x1)) ≤ℤ ((s.x2 -ℤ s.x1) *ℤ (y -ℤ s.y1))) ×
+    (turn_to s x y ≤ℤ pos 0 → ((s.x2 -ℤ s.x1) *ℤ (y -ℤ s.y1)) ≤ℤ ((s.y2 -ℤ s.y1) *ℤ (x -ℤ s.x1)))
 unfolding turn_to
-turn_sign s x y = (λ h. not_less ((s.x2 -ℤ s.x1) *ℤ (y -ℤ s.y1)) ((s.y2 -ℤ s.y1) *ℤ (x -ℤ s.x1)) h, λ h. not_more ((s.x2 -ℤ s.x1) *ℤ (y -ℤ s.y1)) ((s.y2 -ℤ s.y1) *ℤ (x -ℤ s.x1)) h)
+turn_sign s x y = (
+  λ h. not_less ((s.x2 -ℤ s.x1) *ℤ (y -ℤ s.y1)) ((s.y2 -ℤ s.y1) *ℤ (x -ℤ s.x1)) h,
+  λ h. not_more ((s.x2 -ℤ s.x1) *ℤ (y -ℤ s.y1)) ((s.y2 -ℤ s.y1) *ℤ (x -ℤ s.x1)) h,
+)
   where
     not_less : (a b : ℤ) → pos 0 ≤ℤ (a -ℤ b) → b ≤ℤ a
     not_less a b h = omega (arith, ints, h)
@@ -372,7 +434,11 @@ right_from s x y h = less_test _ _ ((under ((s.y2 -ℤ s.y1) *ℤ (x -ℤ s.x1))
 pub on_is : (s : Ends) (x y : ℤ) → is_on s x y ≡ true → turn_to s x y ≡ pos 0
 on_is s x y h =
     let off = or_parts (is_left s x y) (is_right s x y) (not-true _ h) in
-    by_lt_z (pos 0) (turn_to s x y) (λ l. absurd (true≢false (sym (left_from s x y l) ∙ off.0))) (λ l. by_lt_z (turn_to s x y) (pos 0) (λ k. absurd (true≢false (sym (right_from s x y k) ∙ off.1))) (λ k. omega (arith, ints, l, k)))
+    by_lt_z (pos 0) (turn_to s x y) (λ l. absurd (true≢false (sym (left_from s x y l) ∙ off.0)))
+    (λ l. by_lt_z (turn_to s x y) (pos 0) (λ k. absurd (true≢false (sym (right_from s x y k) ∙ off.1)))
+    (λ k. omega (arith, ints, l, k)))
 
 pub on_from : (s : Ends) (x y : ℤ) → turn_to s x y ≡ pos 0 → is_on s x y ≡ true
-on_from s x y h = not_from_false _ (or_from (is_left s x y) (is_right s x y) (false_from_ne_true _ (λ e. omega (arith, ints, left_is s x y e, h))) (false_from_ne_true _ (λ e. omega (arith, ints, right_is s x y e, h))))
+on_from s x y h = not_from_false _ (or_from (is_left s x y) (is_right s x y)
+    (false_from_ne_true _ (λ e. omega (arith, ints, left_is s x y e, h)))
+    (false_from_ne_true _ (λ e. omega (arith, ints, right_is s x y e, h))))

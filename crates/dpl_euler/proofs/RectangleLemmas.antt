@@ -28,13 +28,17 @@ pub record DoesMeetRect (s : Ends) (x1 y1 x2 y2 : ℤ) : Type 0 where
 
 -- ---- from a point
 
-by_signs : {P : Type 0} (d e : ℤ) → (pos 0 ≤ℤ d → pos 0 ≤ℤ e → P) → (pos 0 ≤ℤ d → e ≤ℤ pos 0 → P) → (d ≤ℤ pos 0 → pos 0 ≤ℤ e → P) → (d ≤ℤ pos 0 → e ≤ℤ pos 0 → P) → P
+by_signs : {P : Type 0} (d e : ℤ) → (pos 0 ≤ℤ d → pos 0 ≤ℤ e → P) → (pos 0 ≤ℤ d → e ≤ℤ pos 0 → P) →
+    (d ≤ℤ pos 0 → pos 0 ≤ℤ e → P) → (d ≤ℤ pos 0 → e ≤ℤ pos 0 → P) → P
 by_signs d e f g h k = by_lt_z d (pos 0)
     (λ l. by_lt_z e (pos 0) (λ m. k (omega (arith, ints, l)) (omega (arith, ints, m))) (λ m. h (omega (arith, ints, l)) m))
     (λ l. by_lt_z e (pos 0) (λ m. g l (omega (arith, ints, m))) (λ m. f l m))
 
 on_zero : (z o w : ℤ) → z ≡ pos 0 → pos 0 <ℤ o → ((o *ℤ w) ≤ℤ z → pos 0 <ℤ w → ⊥) × (z ≤ℤ (o *ℤ w) → w <ℤ pos 0 → ⊥)
-on_zero z o w e ho = (λ h l. omega (arith, ints, e, h, mul_pos o w ho l), λ h l. omega (arith, ints, e, h, mul_pos o (pos 0 -ℤ w) ho (omega (arith, ints, l)), mul_sub o (pos 0) w))
+on_zero z o w e ho = (
+  λ h l. omega (arith, ints, e, h, mul_pos o w ho l),
+  λ h l. omega (arith, ints, e, h, mul_pos o (pos 0 -ℤ w) ho (omega (arith, ints, l)), mul_sub o (pos 0) w),
+)
 
 pub rect_from : (s : Ends) (x1 y1 x2 y2 : ℤ) → x1 ≤ℤ x2 → y1 ≤ℤ y2 → InBoth s x1 y1 x2 y2 → DoesMeetRect s x1 y1 x2 y2
 rect_from s x1 y1 x2 y2 wide high c =
@@ -71,10 +75,12 @@ rect_from s x1 y1 x2 y2 wide high c =
         let m : int_max a b ≡ b = omega (arith, ints, clamps, l) in
         omega (arith, ints, h, ap (λ z. pos c.point.over *ℤ z) m)
 
-    lesser : (s : Ends) (p : Point) (x y : ℤ) → ((s.x2 -ℤ s.x1) *ℤ (pos p.over *ℤ y)) ≤ℤ ((s.x2 -ℤ s.x1) *ℤ p.y) → ((s.y2 -ℤ s.y1) *ℤ p.x) ≤ℤ ((s.y2 -ℤ s.y1) *ℤ (pos p.over *ℤ x)) → (pos p.over *ℤ turn_to s x y) ≤ℤ turn_at s p
+    lesser : (s : Ends) (p : Point) (x y : ℤ) → ((s.x2 -ℤ s.x1) *ℤ (pos p.over *ℤ y)) ≤ℤ ((s.x2 -ℤ s.x1) *ℤ p.y) →
+        ((s.y2 -ℤ s.y1) *ℤ p.x) ≤ℤ ((s.y2 -ℤ s.y1) *ℤ (pos p.over *ℤ x)) → (pos p.over *ℤ turn_to s x y) ≤ℤ turn_at s p
     lesser s p x y f g = omega (arith, ints, f, g, corner_of s p x y)
 
-    greater : (s : Ends) (p : Point) (x y : ℤ) → ((s.x2 -ℤ s.x1) *ℤ p.y) ≤ℤ ((s.x2 -ℤ s.x1) *ℤ (pos p.over *ℤ y)) → ((s.y2 -ℤ s.y1) *ℤ (pos p.over *ℤ x)) ≤ℤ ((s.y2 -ℤ s.y1) *ℤ p.x) → turn_at s p ≤ℤ (pos p.over *ℤ turn_to s x y)
+    greater : (s : Ends) (p : Point) (x y : ℤ) → ((s.x2 -ℤ s.x1) *ℤ p.y) ≤ℤ ((s.x2 -ℤ s.x1) *ℤ (pos p.over *ℤ y)) →
+        ((s.y2 -ℤ s.y1) *ℤ (pos p.over *ℤ x)) ≤ℤ ((s.y2 -ℤ s.y1) *ℤ p.x) → turn_at s p ≤ℤ (pos p.over *ℤ turn_to s x y)
     greater s p x y f g = omega (arith, ints, f, g, corner_of s p x y)
 
 -- ---- to a point
@@ -107,7 +113,8 @@ reach_now a d l h b e m n f g p q = record {
 }
 
 -- where the first place comes to l
-reach_first : (a d l h b e m n : ℤ) → a <ℤ l → l ≤ℤ (a +ℤ d) → l ≤ℤ h → (e *ℤ (l -ℤ a)) ≤ℤ (d *ℤ (n -ℤ b)) → (d *ℤ (m -ℤ b)) ≤ℤ (e *ℤ (l -ℤ a)) → Reach a d l h b e m n
+reach_first : (a d l h b e m n : ℤ) → a <ℤ l → l ≤ℤ (a +ℤ d) → l ≤ℤ h → (e *ℤ (l -ℤ a)) ≤ℤ (d *ℤ (n -ℤ b)) →
+    (d *ℤ (m -ℤ b)) ≤ℤ (e *ℤ (l -ℤ a)) → Reach a d l h b e m n
 reach_first a d l h b e m n f g p q r =
     let pd : pos 0 ≤ℤ d = omega (arith, ints, f, g) in
     let at : ((d *ℤ a) +ℤ ((l -ℤ a) *ℤ d)) ≡ (d *ℤ l) = omega (arith, ints, sub_mul l a d, mul_comm d l, mul_comm d a) in
@@ -126,15 +133,30 @@ reach_first a d l h b e m n f g p q r =
 reach_turn : (a d l h b e m n : ℤ) → Reach b e m n a d l h → Reach a d l h b e m n
 reach_turn a d l h b e m n r = record { w = r.w; k = r.k; some = r.some; from = r.from; to = r.to; left = r.low; right = r.high; low = r.left; high = r.right }
 
-reach_up : (a d l h b e m n : ℤ) → pos 0 ≤ℤ d → pos 0 ≤ℤ e → l ≤ℤ h → m ≤ℤ n → l ≤ℤ (a +ℤ d) → a ≤ℤ h → m ≤ℤ (b +ℤ e) → b ≤ℤ n → (e *ℤ (l -ℤ a)) ≤ℤ (d *ℤ (n -ℤ b)) → (d *ℤ (m -ℤ b)) ≤ℤ (e *ℤ (h -ℤ a)) → Reach a d l h b e m n
+reach_up : (a d l h b e m n : ℤ) → pos 0 ≤ℤ d → pos 0 ≤ℤ e → l ≤ℤ h → m ≤ℤ n → l ≤ℤ (a +ℤ d) → a ≤ℤ h → m ≤ℤ (b +ℤ e) →
+    b ≤ℤ n → (e *ℤ (l -ℤ a)) ≤ℤ (d *ℤ (n -ℤ b)) → (d *ℤ (m -ℤ b)) ≤ℤ (e *ℤ (h -ℤ a)) → Reach a d l h b e m n
 reach_up a d l h b e m n pd pe lh mn f g p q r t = by_lt_z a l
     (λ u. by_lt_z b m
     (λ v. by_lt_z (e *ℤ (l -ℤ a)) (d *ℤ (m -ℤ b))
     (λ x. second v (omega (arith, ints, x)))
     (λ x. first u x))
-    (λ v. first u (omega (arith, ints, mul_nonneg e (l -ℤ a) pe (omega (arith, ints, u)), mul_nonneg d (b -ℤ m) pd (omega (arith, ints, v)), mul_sub d b m, mul_sub d m b))))
+    (λ v. first u (omega (
+      arith,
+      ints,
+      mul_nonneg e (l -ℤ a) pe (omega (arith, ints, u)),
+      mul_nonneg d (b -ℤ m) pd (omega (arith, ints, v)),
+      mul_sub d b m,
+      mul_sub d m b,
+    ))))
     (λ u. by_lt_z b m
-    (λ v. second v (omega (arith, ints, mul_nonneg d (m -ℤ b) pd (omega (arith, ints, v)), mul_nonneg e (a -ℤ l) pe (omega (arith, ints, u)), mul_sub e a l, mul_sub e l a)))
+    (λ v. second v (omega (
+      arith,
+      ints,
+      mul_nonneg d (m -ℤ b) pd (omega (arith, ints, v)),
+      mul_nonneg e (a -ℤ l) pe (omega (arith, ints, u)),
+      mul_sub e a l,
+      mul_sub e l a,
+    )))
     (λ v. reach_now a d l h b e m n u g v q))
   where
     first : a <ℤ l → (d *ℤ (m -ℤ b)) ≤ℤ (e *ℤ (l -ℤ a)) → Reach a d l h b e m n
@@ -160,7 +182,15 @@ reach_back a d l h b e m n r =
     }
 
 both_negative : (a b c : ℤ) → ((pos 0 -ℤ a) *ℤ ((pos 0 -ℤ b) -ℤ (pos 0 -ℤ c))) ≡ (a *ℤ (b -ℤ c))
-both_negative a b c = omega (arith, ints, sub_mul (pos 0) a ((pos 0 -ℤ b) -ℤ (pos 0 -ℤ c)), mul_sub a (pos 0 -ℤ b) (pos 0 -ℤ c), mul_sub a (pos 0) b, mul_sub a (pos 0) c, mul_sub a b c)
+both_negative a b c = omega (
+  arith,
+  ints,
+  sub_mul (pos 0) a ((pos 0 -ℤ b) -ℤ (pos 0 -ℤ c)),
+  mul_sub a (pos 0 -ℤ b) (pos 0 -ℤ c),
+  mul_sub a (pos 0) b,
+  mul_sub a (pos 0) c,
+  mul_sub a b c,
+)
 
 second_negative : (a b c : ℤ) → (a *ℤ ((pos 0 -ℤ b) -ℤ (pos 0 -ℤ c))) ≡ (pos 0 -ℤ (a *ℤ (b -ℤ c)))
 second_negative a b c = omega (arith, ints, mul_sub a (pos 0 -ℤ b) (pos 0 -ℤ c), mul_sub a (pos 0) b, mul_sub a (pos 0) c, mul_sub a b c)
@@ -182,17 +212,28 @@ reach : (a d l h b e m n : ℤ) → l ≤ℤ h → m ≤ℤ n → DoSpansMeet a 
     (d ≤ℤ pos 0 → pos 0 ≤ℤ e → ((d *ℤ (n -ℤ b)) ≤ℤ (e *ℤ (h -ℤ a))) × ((e *ℤ (l -ℤ a)) ≤ℤ (d *ℤ (m -ℤ b)))) →
     (d ≤ℤ pos 0 → e ≤ℤ pos 0 → ((e *ℤ (h -ℤ a)) ≤ℤ (d *ℤ (m -ℤ b))) × ((d *ℤ (n -ℤ b)) ≤ℤ (e *ℤ (l -ℤ a)))) → Reach a d l h b e m n
 reach a d l h b e m n lh mn columns rows pp pn np nn = by_signs d e
-    (λ u v. let t = pp u v in reach_up a d l h b e m n u v lh mn (start a d l h lh u columns).0 (start a d l h lh u columns).1 (start b e m n mn v rows).0 (start b e m n mn v rows).1 t.0 t.1)
+    (λ u v. let t = pp u v in reach_up a d l h b e m n u v lh mn (start a d l h lh u columns).0
+    (start a d l h lh u columns).1 (start b e m n mn v rows).0 (start b e m n mn v rows).1 t.0 t.1)
     (λ u v. let t = pn u v in
-    reach_turn a d l h b e m n (reach_back b e m n a d l h (reach_turn _ _ _ _ _ _ _ _ (reach_up a d l h (pos 0 -ℤ b) (pos 0 -ℤ e) (pos 0 -ℤ n) (pos 0 -ℤ m) u (omega (arith, ints, v)) lh (omega (arith, ints, mn)) (start a d l h lh u columns).0 (start a d l h lh u columns).1 (end b e m n mn v rows).0 (end b e m n mn v rows).1
+    reach_turn a d l h b e m n (reach_back b e m n a d l h
+    (reach_turn _ _ _ _ _ _ _ _ (reach_up a d l h (pos 0 -ℤ b) (pos 0 -ℤ e) (pos 0 -ℤ n) (pos 0 -ℤ m) u
+    (omega (arith, ints, v)) lh (omega (arith, ints, mn)) (start a d l h lh u columns).0
+    (start a d l h lh u columns).1 (end b e m n mn v rows).0 (end b e m n mn v rows).1
     (omega (arith, ints, t.0, first_negative e l a, second_negative d m b))
     (omega (arith, ints, t.1, first_negative e h a, second_negative d n b))))))
     (λ u v. let t = np u v in
-    reach_back a d l h b e m n (reach_up (pos 0 -ℤ a) (pos 0 -ℤ d) (pos 0 -ℤ h) (pos 0 -ℤ l) b e m n (omega (arith, ints, u)) v (omega (arith, ints, lh)) mn (end a d l h lh u columns).0 (end a d l h lh u columns).1 (start b e m n mn v rows).0 (start b e m n mn v rows).1
+    reach_back a d l h b e m n (reach_up (pos 0 -ℤ a) (pos 0 -ℤ d) (pos 0 -ℤ h) (pos 0 -ℤ l) b e m n
+    (omega (arith, ints, u)) v (omega (arith, ints, lh)) mn (end a d l h lh u columns).0
+    (end a d l h lh u columns).1 (start b e m n mn v rows).0 (start b e m n mn v rows).1
     (omega (arith, ints, t.0, first_negative d n b, second_negative e h a))
     (omega (arith, ints, t.1, first_negative d m b, second_negative e l a))))
     (λ u v. let t = nn u v in
-    reach_turn a d l h b e m n (reach_back b e m n a d l h (reach_turn _ _ _ _ _ _ _ _ (reach_back a d l h (pos 0 -ℤ b) (pos 0 -ℤ e) (pos 0 -ℤ n) (pos 0 -ℤ m) (reach_up (pos 0 -ℤ a) (pos 0 -ℤ d) (pos 0 -ℤ h) (pos 0 -ℤ l) (pos 0 -ℤ b) (pos 0 -ℤ e) (pos 0 -ℤ n) (pos 0 -ℤ m) (omega (arith, ints, u)) (omega (arith, ints, v)) (omega (arith, ints, lh)) (omega (arith, ints, mn)) (end a d l h lh u columns).0 (end a d l h lh u columns).1 (end b e m n mn v rows).0 (end b e m n mn v rows).1
+    reach_turn a d l h b e m n (reach_back b e m n a d l h
+    (reach_turn _ _ _ _ _ _ _ _ (reach_back a d l h (pos 0 -ℤ b) (pos 0 -ℤ e) (pos 0 -ℤ n) (pos 0 -ℤ m)
+    (reach_up (pos 0 -ℤ a) (pos 0 -ℤ d) (pos 0 -ℤ h) (pos 0 -ℤ l) (pos 0 -ℤ b) (pos 0 -ℤ e) (pos 0 -ℤ n)
+    (pos 0 -ℤ m) (omega (arith, ints, u)) (omega (arith, ints, v)) (omega (arith, ints, lh))
+    (omega (arith, ints, mn)) (end a d l h lh u columns).0 (end a d l h lh u columns).1 (end b e m n mn v rows).0
+    (end b e m n mn v rows).1
     (omega (arith, ints, t.0, both_negative e h a, both_negative d m b))
     (omega (arith, ints, t.1, both_negative d n b, both_negative e l a)))))))
 
@@ -225,12 +266,14 @@ sides_up p u v s f g = (
 sides_right : (p u v : ℤ) → Sides p u v → pos 0 ≤ℤ u → v ≤ℤ pos 0 → (p ≤ℤ pos 0) × (pos 0 ≤ℤ ((p +ℤ u) -ℤ v))
 sides_right p u v s f g = (
   by_lt_z (pos 0) p (λ l. absurd (s.left l (omega (arith, ints, l, f, g)) (omega (arith, ints, l, f, g)) (omega (arith, ints, l, f, g)))) (λ l. l),
-  by_lt_z ((p +ℤ u) -ℤ v) (pos 0) (λ l. absurd (s.right (omega (arith, ints, l, f, g)) l (omega (arith, ints, l, f, g)) (omega (arith, ints, l, f, g)))) (λ l. l),
+  by_lt_z ((p +ℤ u) -ℤ v) (pos 0) (λ l. absurd (s.right (omega (arith, ints, l, f, g)) l (omega (arith, ints, l, f, g))
+      (omega (arith, ints, l, f, g)))) (λ l. l),
 )
 
 sides_left : (p u v : ℤ) → Sides p u v → u ≤ℤ pos 0 → pos 0 ≤ℤ v → (((p +ℤ u) -ℤ v) ≤ℤ pos 0) × (pos 0 ≤ℤ p)
 sides_left p u v s f g = (
-  by_lt_z (pos 0) ((p +ℤ u) -ℤ v) (λ l. absurd (s.left (omega (arith, ints, l, f, g)) l (omega (arith, ints, l, f, g)) (omega (arith, ints, l, f, g)))) (λ l. l),
+  by_lt_z (pos 0) ((p +ℤ u) -ℤ v) (λ l. absurd (s.left (omega (arith, ints, l, f, g)) l (omega (arith, ints, l, f, g))
+      (omega (arith, ints, l, f, g)))) (λ l. l),
   by_lt_z p (pos 0) (λ l. absurd (s.right l (omega (arith, ints, l, f, g)) (omega (arith, ints, l, f, g)) (omega (arith, ints, l, f, g)))) (λ l. l),
 )
 
@@ -284,10 +327,16 @@ rect_to s x1 y1 x2 y2 wide high m =
     let down : d ≤ℤ pos 0 → (d *ℤ (y2 -ℤ y1)) ≤ℤ pos 0 = λ u. below d (y2 -ℤ y1) u hy in
     let left : e ≤ℤ pos 0 → (e *ℤ (x2 -ℤ x1)) ≤ℤ pos 0 = λ v. below e (x2 -ℤ x1) v hx in
     point_of s x1 y1 x2 y2 (reach s.x1 d x1 x2 s.y1 e y1 y2 wide high (whole s.x1 s.x2 x1 x2 m.columns) (whole s.y1 s.y2 y1 y2 m.rows)
-    (λ u v. let q = sides_up _ _ _ t (up u) (right v) in ((turn_sign s x1 y2).0 (omega (arith, ints, q.0, c.rows)), (turn_sign s x2 y1).1 (omega (arith, ints, q.1, c.columns))))
+    (λ u v. let q = sides_up _ _ _ t (up u) (right v) in (
+      (turn_sign s x1 y2).0 (omega (arith, ints, q.0, c.rows)),
+      (turn_sign s x2 y1).1 (omega (arith, ints, q.1, c.columns)),
+    ))
     (λ u v. let q = sides_right _ _ _ t (up u) (left v) in ((turn_sign s x1 y1).1 q.0, (turn_sign s x2 y2).0 (omega (arith, ints, q.1, c.both))))
     (λ u v. let q = sides_left _ _ _ t (down u) (right v) in ((turn_sign s x2 y2).1 (omega (arith, ints, q.0, c.both)), (turn_sign s x1 y1).0 q.1))
-    (λ u v. let q = sides_down _ _ _ t (down u) (left v) in ((turn_sign s x2 y1).0 (omega (arith, ints, q.0, c.columns)), (turn_sign s x1 y2).1 (omega (arith, ints, q.1, c.rows)))))
+    (λ u v. let q = sides_down _ _ _ t (down u) (left v) in (
+      (turn_sign s x2 y1).0 (omega (arith, ints, q.0, c.columns)),
+      (turn_sign s x1 y2).1 (omega (arith, ints, q.1, c.rows)),
+    )))
   where
     below : (a b : ℤ) → a ≤ℤ pos 0 → pos 0 ≤ℤ b → (a *ℤ b) ≤ℤ pos 0
     below a b f g = omega (arith, ints, mul_nonneg (pos 0 -ℤ a) b (omega (arith, ints, f)) g, sub_mul (pos 0) a b)

@@ -1,5 +1,7 @@
 -- The edges of a set at each node, as they are put into rows.
-use Rattle.std.proofs.Common.{arith, ◌≡◌, ◌≢◌, ℕ, ◌+◌, ◌<◌, ◌==◌, ◌||◌, ◌⊎◌, refl, sym, ap, ◌∙◌, subst, Bool, true, false, inl, inr, List, [], ◌∷◌, ◌++◌, length, get_or, set, length-set, get_or-set_same, get_or-set_other, eq-eqb}
+use Rattle.std.proofs.Common.{arith, ◌≡◌, ◌≢◌, ℕ, ◌+◌, ◌<◌, ◌==◌, ◌||◌, ◌⊎◌, refl, sym, ap, ◌∙◌, subst, Bool, true}
+use Rattle.std.proofs.Common.{false, inl, inr, List, [], ◌∷◌, ◌++◌, length, get_or, set, length-set, get_or-set_same}
+use Rattle.std.proofs.Common.{get_or-set_other, eq-eqb}
 use Rattle.std.specs.Prelude.{All, Contains}
 use Rattle.std.proofs.lemmas.Bool.{cases_eq, and_from, and_parts, or_left, or_right, lt-ltb, ltb-true, true≢false, or_cases, eqb-true}
 use Rattle.std.proofs.lemmas.List.Elements.{All-push, All-nil, All-get_or, Contains-append_left, Contains-push}
@@ -15,7 +17,8 @@ pub record AreRowsBelow (g : Signed) (chosen : List Bool) (rows : List (List ℕ
   pub only : (v : ℕ) → All (IsAt g chosen v) (get_or rows v [])
   pub all : (v e : ℕ) → e < k → IsAt g chosen v e → Contains (get_or rows v []) e
 
-pub rows_begin : (g : Signed) (chosen : List Bool) (rows : List (List ℕ)) → length rows ≡ g.nodes → ((v : ℕ) → get_or rows v [] ≡ []) → AreRowsBelow g chosen rows 0
+pub rows_begin : (g : Signed) (chosen : List Bool) (rows : List (List ℕ)) → length rows ≡ g.nodes →
+    ((v : ℕ) → get_or rows v [] ≡ []) → AreRowsBelow g chosen rows 0
 rows_begin g chosen rows size blank = record {
   sizes = size;
   only = λ v.
@@ -31,7 +34,8 @@ rows_whole g chosen rows r = record {
   all = λ v e at. r.all v e (ltb-true e (length g.edges) (and_parts _ _ at.0).0) at;
 }
 
-pub rows_skip : (g : Signed) (chosen : List Bool) (rows : List (List ℕ)) (k : ℕ) → is_in chosen k ≡ false → AreRowsBelow g chosen rows k → AreRowsBelow g chosen rows (k + 1)
+pub rows_skip : (g : Signed) (chosen : List Bool) (rows : List (List ℕ)) (k : ℕ) → is_in chosen k ≡ false →
+    AreRowsBelow g chosen rows k → AreRowsBelow g chosen rows (k + 1)
 rows_skip g chosen rows k out r = record {
   sizes = r.sizes;
   only = r.only;
@@ -58,7 +62,8 @@ more_size : (rows : List (List ℕ)) (u x : ℕ) → length (more rows u x) ≡ 
 unfolding more
 more_size rows u x = length-set rows u (get_or rows u [] ++ x ∷ [])
 
-more_only : (P : ℕ → Type 0) (rows : List (List ℕ)) (u x v : ℕ) → u < length rows → All P (get_or rows v []) → (v ≡ u → P x) → All P (get_or (more rows u x) v [])
+more_only : (P : ℕ → Type 0) (rows : List (List ℕ)) (u x v : ℕ) → u < length rows → All P (get_or rows v []) →
+    (v ≡ u → P x) → All P (get_or (more rows u x) v [])
 more_only P rows u x v h old new =
     let Q : List ℕ → Type 0 = λ xs. All P xs in
     elim (cases_eq v u) [
@@ -91,7 +96,9 @@ first_end g e h = and_from _ _ (lt-ltb e (length g.edges) h) (or_left _ _ (eq-eq
 second_end : (g : Signed) (e : ℕ) → e < length g.edges → leaves g e (edge_at g e).b ≡ true
 second_end g e h = and_from _ _ (lt-ltb e (length g.edges) h) (or_right _ _ (eq-eqb (edge_at g e).b (edge_at g e).b refl))
 
-both : (g : Signed) (chosen : List Bool) (rows : List (List ℕ)) (k : ℕ) → k < length g.edges → (edge_at g k).a < length rows → (edge_at g k).b < length rows → is_in chosen k ≡ true → AreRowsBelow g chosen rows k → AreRowsBelow g chosen (more (more rows (edge_at g k).a k) (edge_at g k).b k) (k + 1)
+both : (g : Signed) (chosen : List Bool) (rows : List (List ℕ)) (k : ℕ) → k < length g.edges →
+    (edge_at g k).a < length rows → (edge_at g k).b < length rows → is_in chosen k ≡ true →
+    AreRowsBelow g chosen rows k → AreRowsBelow g chosen (more (more rows (edge_at g k).a k) (edge_at g k).b k) (k + 1)
 both g chosen rows k h ha hb in_set r =
     let a = (edge_at g k).a in
     let b = (edge_at g k).b in
@@ -107,7 +114,8 @@ both g chosen rows k h ha hb in_set r =
             let P : ℕ → Type 0 = λ z. Contains (get_or (more mid b k) v []) z in
             let Q : ℕ → Type 0 = λ z. Contains (get_or (more mid b k) z []) k in
             let ends = (and_parts _ _ at.0).1 in
-            let there : ((edge_at g k).a == v) ≡ true ⊎ ((edge_at g k).b == v) ≡ true = or_cases _ _ (ap (λ z. ((edge_at g z).a == v) || ((edge_at g z).b == v)) (sym t) ∙ ends) in
+            let there : ((edge_at g k).a == v) ≡ true ⊎ ((edge_at g k).b == v) ≡ true =
+            or_cases _ _ (ap (λ z. ((edge_at g z).a == v) || ((edge_at g z).b == v)) (sym t) ∙ ends) in
             subst P (sym t) (elim there [
               | inl q ↦ subst Q (eqb-true a v q) (more_kept mid b k a k wide (more_has rows a k ha))
               | inr q ↦ subst Q (eqb-true b v q) (more_has mid b k wide)
@@ -121,7 +129,10 @@ ends_inside g k h =
     let b : (edge_at g k).b < g.nodes = All-get_or (λ (x : Edge). x.b < g.nodes) g.edges k no_edge h g.inside in
     (omega (arith, (edge_at g k).ordered, b), b)
 
-pub rows_take : (g : Signed) (chosen : List Bool) (rows mid new : List (List ℕ)) (k : ℕ) (ends : Edge) → k < length g.edges → ends ≡ edge_at g k → is_in chosen k ≡ true → mid ≡ set rows ends.a (get_or rows ends.a [] ++ k ∷ []) → new ≡ set mid ends.b (get_or mid ends.b [] ++ k ∷ []) → AreRowsBelow g chosen rows k → AreRowsBelow g chosen new (k + 1)
+pub rows_take : (g : Signed) (chosen : List Bool) (rows mid new : List (List ℕ)) (k : ℕ) (ends : Edge) →
+    k < length g.edges → ends ≡ edge_at g k → is_in chosen k ≡ true →
+    mid ≡ set rows ends.a (get_or rows ends.a [] ++ k ∷ []) → new ≡ set mid ends.b (get_or mid ends.b [] ++ k ∷ []) →
+    AreRowsBelow g chosen rows k → AreRowsBelow g chosen new (k + 1)
 unfolding more
 rows_take g chosen rows mid new k ends h e in_set em en r =
     let ea : ends.a ≡ (edge_at g k).a = ap (λ (z : Edge). z.a) e in

@@ -1,9 +1,12 @@
 -- The tests of the code tell exactly what crosses.
-use Rattle.std.proofs.Common.{arith, ◌≡◌, ℕ, ◌<◌, ℤ, pos, ◌≤ℤ◌, ◌*ℤ◌, refl, sym, ap, ◌∙◌, true, false, not, ◌&&◌, ◌||◌, ◌==◌, inl, inr, ◌⊎◌, length, map, eq-eqb, List, [], ◌∷◌, zero, suc}
+use Rattle.std.proofs.Common.{arith, ◌≡◌, ℕ, ◌<◌, ℤ, pos, ◌≤ℤ◌, ◌*ℤ◌, refl, sym, ap, ◌∙◌, true, false, not, ◌&&◌, ◌||◌}
+use Rattle.std.proofs.Common.{◌==◌, inl, inr, ◌⊎◌, length, map, eq-eqb, List, [], ◌∷◌, zero, suc}
 use Rattle.std.specs.Prelude.{int_le}
 use Rattle.std.specs.Int.{int_max, int_min}
 use Rattle.std.specs.Ordering.{int_eq}
-use Rattle.std.proofs.lemmas.Bool.{and_parts, and_from, or_parts, or_left, or_right, or_from, or_cases, not-true, not_from_false, true≢false, false_from_ne_true, cases_Bool, cond-true, cond-false, eqb-true}
+use Rattle.std.proofs.lemmas.Bool.{and_parts, and_from, or_parts, or_left, or_right, or_from, or_cases, not-true}
+use Rattle.std.proofs.lemmas.Bool.{not_from_false, true≢false, false_from_ne_true, cases_Bool, cond-true, cond-false}
+use Rattle.std.proofs.lemmas.Bool.{eqb-true}
 use Rattle.std.proofs.lemmas.Bool.Decides.{Decides-int_eq}
 use Rattle.std.proofs.lemmas.Int.{ints}
 use Rattle.dpl_list.proofs.Integers.{signed, less_test, is_less}
@@ -17,7 +20,8 @@ use Rattle.dpl_sign.specs.Walks.{edge_at}
 use Rattle.dpl_euler.specs.declared.types.With.{With}
 use Rattle.dpl_euler.specs.declared.types.With.TheVariants.{Link, Fragment}
 use Rattle.dpl_euler.specs.Points.{Ends, Point, IsAt}
-use Rattle.dpl_euler.specs.Segments.{is_left, is_right, are_left, are_right, is_beside, is_along, spans_meet, spans_overlap, bounds_meet, segments_meet, segments_overlap}
+use Rattle.dpl_euler.specs.Segments.{is_left, is_right, are_left, are_right, is_beside, is_along, spans_meet}
+use Rattle.dpl_euler.specs.Segments.{spans_overlap, bounds_meet, segments_meet, segments_overlap}
 use Rattle.dpl_euler.specs.Crossings.{link_at, EndsAt, AreCrossing, MeetsRect, IsWith}
 use Rattle.dpl_euler.specs.Tests.{is_at, ends_at, share_end, cross, diagonal, other_diagonal, passes_by, meets_rect, joins, IsFound}
 use Rattle.dpl_euler.proofs.ProductLemmas.{same_from_mul}
@@ -40,7 +44,8 @@ spans_is a1 a2 b1 b2 h =
     record { first = le_is _ _ parts.0; second = le_is _ _ parts.1 }
 
 spans_test : (a1 a2 b1 b2 : ℤ) → DoSpansMeet a1 a2 b1 b2 → spans_meet a1 a2 b1 b2 ≡ true
-spans_test a1 a2 b1 b2 m = and_from (int_le (int_min a1 a2) (int_max b1 b2)) (int_le (int_min b1 b2) (int_max a1 a2)) (le_test _ _ m.first) (le_test _ _ m.second)
+spans_test a1 a2 b1 b2 m = and_from (int_le (int_min a1 a2) (int_max b1 b2)) (int_le (int_min b1 b2) (int_max a1 a2))
+    (le_test _ _ m.first) (le_test _ _ m.second)
 
 across_is : (s t : Ends) → is_beside s t ≡ false → IsAcross s t
 across_is s t h =
@@ -52,8 +57,10 @@ across_is s t h =
 
 across_test : (s t : Ends) → IsAcross s t → is_beside s t ≡ false
 across_test s t a = or_from (are_left s t) (are_right s t)
-    (false_from_ne_true _ (λ h. let parts = and_parts (is_left s t.x1 t.y1) (is_left s t.x2 t.y2) h in a.left (left_is s t.x1 t.y1 parts.0) (left_is s t.x2 t.y2 parts.1)))
-    (false_from_ne_true _ (λ h. let parts = and_parts (is_right s t.x1 t.y1) (is_right s t.x2 t.y2) h in a.right (right_is s t.x1 t.y1 parts.0) (right_is s t.x2 t.y2 parts.1)))
+    (false_from_ne_true _ (λ h. let parts = and_parts (is_left s t.x1 t.y1) (is_left s t.x2 t.y2) h in
+    a.left (left_is s t.x1 t.y1 parts.0) (left_is s t.x2 t.y2 parts.1)))
+    (false_from_ne_true _ (λ h. let parts = and_parts (is_right s t.x1 t.y1) (is_right s t.x2 t.y2) h in
+    a.right (right_is s t.x1 t.y1 parts.0) (right_is s t.x2 t.y2 parts.1)))
 
 meet_is : (s t : Ends) → segments_meet s t ≡ true → DoMeet s t
 meet_is s t h =
@@ -84,7 +91,8 @@ overlap_is s t h =
       meet = meet_is s t line.0;
       first = on_is s t.x1 t.y1 ends.0;
       second = on_is s t.x2 t.y2 ends.1;
-      spans = elim (or_cases (spans_overlap s.x1 s.x2 t.x1 t.x2) (spans_overlap s.y1 s.y2 t.y1 t.y2) parts.1) [ inl q ↦ inl (is_less _ _ q) | inr q ↦ inr (is_less _ _ q) ];
+      spans = elim (or_cases (spans_overlap s.x1 s.x2 t.x1 t.x2) (spans_overlap s.y1 s.y2 t.y1 t.y2) parts.1)
+          [ inl q ↦ inl (is_less _ _ q) | inr q ↦ inr (is_less _ _ q) ];
     }
 
 overlap_test : (s t : Ends) → DoOverlap s t → segments_overlap s t ≡ true
@@ -195,8 +203,13 @@ cross_test d s e t c =
     elim (cases_Bool (share_end d s e t)) [
       | inl q ↦
           let shared = shared_is d s e t q in
-          let apart : ¬ IsAt c.point shared.x shared.y = λ at. c.apart shared.node (ends_there d s shared.node shared.x shared.y c.point shared.here at) (ends_there e t shared.node shared.x shared.y c.point shared.there at) in
-          cond-true (share_end d s e t) (segments_overlap s t) (segments_meet s t) q ∙ overlap_test s t (overlap_from s t c.point shared.x shared.y m c.first c.second (end_of d s shared.node shared.x shared.y shared.here) (end_of e t shared.node shared.x shared.y shared.there) apart)
+          let apart : ¬ IsAt c.point shared.x shared.y =
+          λ at. c.apart shared.node (ends_there d s shared.node shared.x shared.y c.point shared.here at)
+          (ends_there e t shared.node shared.x shared.y c.point shared.there at) in
+          cond-true (share_end d s e t) (segments_overlap s t) (segments_meet s t) q ∙
+          overlap_test s t (overlap_from s t c.point shared.x shared.y m c.first c.second
+          (end_of d s shared.node shared.x shared.y shared.here)
+          (end_of e t shared.node shared.x shared.y shared.there) apart)
       | inr q ↦ cond-false (share_end d s e t) (segments_overlap s t) (segments_meet s t) q ∙ meet_test s t m
     ]
 
@@ -206,20 +219,33 @@ pub meets_is : (s : Ends) (r : Corners) → r.x1 ≤ℤ r.x2 → r.y1 ≤ℤ r.y
 meets_is s r wide high h =
     let parts = and_parts (bounds_meet s (diagonal r)) (not (passes_by s r)) h in
     let bounds = and_parts (spans_meet s.x1 s.x2 (pos 2 *ℤ r.x1) (pos 2 *ℤ r.x2)) (spans_meet s.y1 s.y2 (pos 2 *ℤ r.y1) (pos 2 *ℤ r.y2)) parts.0 in
-    let sides = or_parts (are_left s (diagonal r) && are_left s (other_diagonal r)) (are_right s (diagonal r) && are_right s (other_diagonal r)) (not-true _ parts.1) in
+    let sides = or_parts (are_left s (diagonal r) && are_left s (other_diagonal r))
+    (are_right s (diagonal r) && are_right s (other_diagonal r)) (not-true _ parts.1) in
     let c = rect_to s (pos 2 *ℤ r.x1) (pos 2 *ℤ r.y1) (pos 2 *ℤ r.x2) (pos 2 *ℤ r.y2) (omega (arith, ints, wide)) (omega (arith, ints, high)) (record {
       columns = spans_is _ _ _ _ bounds.0;
       rows = spans_is _ _ _ _ bounds.1;
-      left = λ f g k l. true≢false (sym (and_from (are_left s (diagonal r)) (are_left s (other_diagonal r)) (and_from _ _ (left_from s _ _ f) (left_from s _ _ g)) (and_from _ _ (left_from s _ _ k) (left_from s _ _ l))) ∙ sides.0);
-      right = λ f g k l. true≢false (sym (and_from (are_right s (diagonal r)) (are_right s (other_diagonal r)) (and_from _ _ (right_from s _ _ f) (right_from s _ _ g)) (and_from _ _ (right_from s _ _ k) (right_from s _ _ l))) ∙ sides.1);
+      left = λ f g k l. true≢false (sym (and_from (are_left s (diagonal r)) (are_left s (other_diagonal r))
+          (and_from _ _ (left_from s _ _ f) (left_from s _ _ g)) (and_from _ _ (left_from s _ _ k) (left_from s _ _ l)))
+          ∙ sides.0);
+      right = λ f g k l. true≢false (sym (and_from (are_right s (diagonal r)) (are_right s (other_diagonal r))
+          (and_from _ _ (right_from s _ _ f) (right_from s _ _ g))
+          (and_from _ _ (right_from s _ _ k) (right_from s _ _ l))) ∙ sides.1);
     }) in
     record { point = c.point; on = c.on; inside = record { left = c.inside.left; right = c.inside.right; low = c.inside.low; high = c.inside.high } }
 
 pub meets_test : (s : Ends) (r : Corners) → r.x1 ≤ℤ r.x2 → r.y1 ≤ℤ r.y2 → MeetsRect s r → meets_rect s r ≡ true
 meets_test s r wide high c =
-    let m = rect_from s (pos 2 *ℤ r.x1) (pos 2 *ℤ r.y1) (pos 2 *ℤ r.x2) (pos 2 *ℤ r.y2) (omega (arith, ints, wide)) (omega (arith, ints, high)) (record { point = c.point; on = c.on; inside = record { left = c.inside.left; right = c.inside.right; low = c.inside.low; high = c.inside.high } }) in
+    let m = rect_from s (pos 2 *ℤ r.x1) (pos 2 *ℤ r.y1) (pos 2 *ℤ r.x2) (pos 2 *ℤ r.y2) (omega (arith, ints, wide))
+    (omega (arith, ints, high)) (record {
+      point = c.point;
+      on = c.on;
+      inside =
+          record { left = c.inside.left; right = c.inside.right; low = c.inside.low; high = c.inside.high };
+    }) in
     and_from (bounds_meet s (diagonal r)) (not (passes_by s r))
-    (and_from (spans_meet s.x1 s.x2 (pos 2 *ℤ r.x1) (pos 2 *ℤ r.x2)) (spans_meet s.y1 s.y2 (pos 2 *ℤ r.y1) (pos 2 *ℤ r.y2)) (spans_test _ _ _ _ m.columns) (spans_test _ _ _ _ m.rows))
+    (and_from (spans_meet s.x1 s.x2 (pos 2 *ℤ r.x1) (pos 2 *ℤ r.x2))
+    (spans_meet s.y1 s.y2 (pos 2 *ℤ r.y1) (pos 2 *ℤ r.y2)) (spans_test _ _ _ _ m.columns)
+    (spans_test _ _ _ _ m.rows))
     (not_from_false _ (or_from (are_left s (diagonal r) && are_left s (other_diagonal r)) (are_right s (diagonal r) && are_right s (other_diagonal r))
     (false_from_ne_true _ (λ h.
     let both = and_parts (are_left s (diagonal r)) (are_left s (other_diagonal r)) h in
@@ -235,7 +261,9 @@ meets_test s r wide high c =
 -- ---- what the search finds
 
 -- the rectangle of a fragment is not empty
-sized : (rects : List Rect) (v : ℕ) → v < length rects → ((rect_at (map corners_of rects) v).x1 ≤ℤ (rect_at (map corners_of rects) v).x2) × ((rect_at (map corners_of rects) v).y1 ≤ℤ (rect_at (map corners_of rects) v).y2)
+sized : (rects : List Rect) (v : ℕ) → v < length rects →
+    ((rect_at (map corners_of rects) v).x1 ≤ℤ (rect_at (map corners_of rects) v).x2) ×
+    ((rect_at (map corners_of rects) v).y1 ≤ℤ (rect_at (map corners_of rects) v).y2)
 sized [] v h = absurd (omega (arith, h))
 sized (r ∷ rs) zero h = (omega (arith, ints, r.wide), omega (arith, ints, r.high))
 sized (r ∷ rs) (suc v) h = sized rs v (omega (arith, h))
@@ -245,12 +273,21 @@ found_is f net e (Link d) i = (i.0, i.1, cross_is (edge_at net.graph e) (link_at
 found_is f net e (Fragment v) i =
     let size = sized f.rects v i.0 in
     let parts = and_parts (not (joins (edge_at net.graph e) v)) (meets_rect (link_at f net e) (rect_at (map corners_of f.rects) v)) i.1 in
-    let third = or_parts ((edge_at net.graph e).a == v) ((edge_at net.graph e).b == v) (not-true _ parts.0) in
-    (i.0, (λ q. true≢false (sym (eq-eqb _ v q) ∙ third.0)), (λ q. true≢false (sym (eq-eqb _ v q) ∙ third.1)), meets_is (link_at f net e) (rect_at (map corners_of f.rects) v) size.0 size.1 parts.1)
+    let third = or_parts ((edge_at net.graph e).a == v) ((edge_at net.graph e).b == v) (not-true _ parts.0) in (
+      i.0,
+      (λ q. true≢false (sym (eq-eqb _ v q) ∙ third.0)),
+      (λ q. true≢false (sym (eq-eqb _ v q) ∙ third.1)),
+      meets_is (link_at f net e) (rect_at (map corners_of f.rects) v) size.0 size.1 parts.1,
+    )
 
 pub found_from : (f : Fragments) (net : Net) (e : ℕ) (w : With) → IsWith f net e w → IsFound f net e w
 found_from f net e (Link d) i = (i.0, i.1, cross_test (edge_at net.graph e) (link_at f net e) (edge_at net.graph d) (link_at f net d) i.2)
 found_from f net e (Fragment v) i =
     let size = sized f.rects v i.0 in
-    let own = or_from ((edge_at net.graph e).a == v) ((edge_at net.graph e).b == v) (false_from_ne_true _ (λ q. i.1 (eqb-true _ v q))) (false_from_ne_true _ (λ q. i.2 (eqb-true _ v q))) in
-    (i.0, and_from (not (joins (edge_at net.graph e) v)) (meets_rect (link_at f net e) (rect_at (map corners_of f.rects) v)) (not_from_false _ own) (meets_test (link_at f net e) (rect_at (map corners_of f.rects) v) size.0 size.1 i.3))
+    let own = or_from ((edge_at net.graph e).a == v) ((edge_at net.graph e).b == v)
+    (false_from_ne_true _ (λ q. i.1 (eqb-true _ v q))) (false_from_ne_true _ (λ q. i.2 (eqb-true _ v q))) in (
+      i.0,
+      and_from (not (joins (edge_at net.graph e) v))
+          (meets_rect (link_at f net e) (rect_at (map corners_of f.rects) v)) (not_from_false _ own)
+          (meets_test (link_at f net e) (rect_at (map corners_of f.rects) v) size.0 size.1 i.3),
+    )

@@ -45,7 +45,8 @@ rows_short zero row columns s r c = omega arith
 rows_short (suc k) row columns s r c =
     let line = row_text columns row 0 s in
     let b : length line ≤ columns * 30 = row_short columns row 0 s (omega arith) (omega arith) in
-    let rest : length (rows_text k (row + 1) columns (state_after columns s)) ≤ k * 6000 = rows_short k (row + 1) columns (state_after columns s) (omega arith) c in
+    let rest : length (rows_text k (row + 1) columns (state_after columns s)) ≤ k * 6000 =
+    rows_short k (row + 1) columns (state_after columns s) (omega arith) c in
     let e = length-append line (rows_text k (row + 1) columns (state_after columns s)) in
     omega arith
 

@@ -1,5 +1,6 @@
 -- The groups that a walk over all nodes leaves.
-use Rattle.std.proofs.Common.{◌≡◌, ◌≢◌, inl, inr, ℕ, zero, suc, true, false, ◌+◌, ◌-◌, ◌<◌, ◌≤◌, List, [], ◌∷◌, map, length, refl, sym, ◌∙◌, ap, subst, arith, get_or}
+use Rattle.std.proofs.Common.{◌≡◌, ◌≢◌, inl, inr, ℕ, zero, suc, true, false, ◌+◌, ◌-◌, ◌<◌, ◌≤◌, List, [], ◌∷◌, map}
+use Rattle.std.proofs.Common.{length, refl, sym, ◌∙◌, ap, subst, arith, get_or}
 use Rattle.std.proofs.Math.Nat.{eq-or-lt_of_le}
 use Rattle.std.proofs.lemmas.Bool.{cases_eq}
 use Rattle.std.proofs.lemmas.List.{length-map}
@@ -20,7 +21,8 @@ pub last_top : (w : Walk) (i : ℕ) → 0 < length w.stack.items → i ≡ get_o
 unfolding view
 last_top w i h e = record { busy = h; top = sym e }
 
-pub opened_first : (g : Graph) (a b : Walk) (y : ℕ) → IsWalk g (view a) → y < length g → (view a).mark y ≡ New → a.stack.items ≡ [] → view b ≡ opened (view a) y → IsWalk g (view b)
+pub opened_first : (g : Graph) (a b : Walk) (y : ℕ) → IsWalk g (view a) → y < length g → (view a).mark y ≡ New →
+    a.stack.items ≡ [] → view b ≡ opened (view a) y → IsWalk g (view b)
 opened_first g a b y I h new empty e = subst (IsWalk g) (sym e) (opened_kept g (view a) I y h new (inl (empty_height a empty)))
 
 pub opened_seen : (a b : Walk) (y x : ℕ) → view b ≡ opened (view a) y → (view a).mark x ≢ New → (view b).mark x ≢ New
@@ -30,16 +32,19 @@ opened_seen a b y x e n = subst (λ (v : View). v.mark x ≢ New) (sym e) (λ m.
 ])
 
 pub opened_node : (a b : Walk) (y : ℕ) → view b ≡ opened (view a) y → (view b).mark y ≢ New
-opened_node a b y e = subst (λ (v : View). v.mark y ≢ New) (sym e) (λ m. open_new (view a).depth (sym (set_same (view a).mark y y (Open (view a).depth) refl) ∙ m))
+opened_node a b y e = subst (λ (v : View). v.mark y ≢ New) (sym e)
+    (λ m. open_new (view a).depth (sym (set_same (view a).mark y y (Open (view a).depth) refl) ∙ m))
 
 -- all nodes are done once all were visited
-pub all_done : (g : Graph) (w : Walk) (n : ℕ) → IsWalk g (view w) → w.stack.items ≡ [] → length g ≤ n → ((x : ℕ) → x < n → (view w).mark x ≢ New) → AreDone w.marks.items
+pub all_done : (g : Graph) (w : Walk) (n : ℕ) → IsWalk g (view w) → w.stack.items ≡ [] → length g ≤ n →
+    ((x : ℕ) → x < n → (view w).mark x ≢ New) → AreDone w.marks.items
 unfolding view
 all_done g w n I empty all seen x h = by (get_or w.marks.items x New) refl
   where
     by : (m : Mark) → get_or w.marks.items x New ≡ m → (l : ℕ) × (get_or w.marks.items x New ≡ Done l)
     by New e = let s : length w.marks.items ≡ length g = I.size in absurd (seen x (omega arith) e)
-    by (Open i) e = let d : length w.path.items ≡ 0 = path_empty g (view w) I (empty_height w empty) in let p : i < length w.path.items = I.onpath x i e in absurd (omega arith)
+    by (Open i) e = let d : length w.path.items ≡ 0 = path_empty g (view w) I (empty_height w empty) in
+        let p : i < length w.path.items = I.onpath x i e in absurd (omega arith)
     by (Done l) e = (l, e)
 
 label_at : (marks : List Mark) (x l : ℕ) → get_or marks x New ≡ Done l → get_or (map label_of marks) x 0 ≡ l
@@ -47,11 +52,13 @@ label_at [] x l e = cc
 label_at (m ∷ ms) zero l e = ap label_of e
 label_at (m ∷ ms) (suc x) l e = label_at ms x l e
 
-pub are_groups : (g : Graph) (w : Walk) (labels heads : List ℕ) → IsWalk g (view w) → AreDone w.marks.items → labels ≡ map label_of w.marks.items → heads ≡ w.heads.items → AreGroups g labels heads
+pub are_groups : (g : Graph) (w : Walk) (labels heads : List ℕ) → IsWalk g (view w) → AreDone w.marks.items →
+    labels ≡ map label_of w.marks.items → heads ≡ w.heads.items → AreGroups g labels heads
 unfolding view
 are_groups g w labels heads I done el eh =
     let size : length w.marks.items ≡ length g = I.size in
-    let at : (x l : ℕ) → get_or w.marks.items x New ≡ Done l → get_or labels x 0 ≡ l = λ x l e. ap (λ (xs : List ℕ). get_or xs x 0) el ∙ label_at w.marks.items x l e in
+    let at : (x l : ℕ) → get_or w.marks.items x New ≡ Done l → get_or labels x 0 ≡ l =
+    λ x l e. ap (λ (xs : List ℕ). get_or xs x 0) el ∙ label_at w.marks.items x l e in
     let count : length heads ≡ length w.heads.items = ap (λ (xs : List ℕ). length xs) eh in
     let head : (l : ℕ) → get_or heads l 0 ≡ get_or w.heads.items l 0 = λ l. ap (λ (xs : List ℕ). get_or xs l 0) eh in record {
       size = (ap (λ (xs : List ℕ). length xs) el ∙ length-map w.marks.items label_of) ∙ size;

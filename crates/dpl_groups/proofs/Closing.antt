@@ -45,7 +45,8 @@ shut_done i l n (Open k) e = elim (cases_le i k) [
 ]
 shut_done i l n (Done m) e = inl e
 
-module _ (g : Graph) (v : View) (I : IsWalk g v) (busy : 0 < v.height) (none : v.left (v.path (top g v I)) ≡ 0) (begins : 0 < v.tops) (last : v.start (v.tops - 1) ≡ top g v I) where
+module _ (g : Graph) (v : View) (I : IsWalk g v) (busy : 0 < v.height) (none : v.left (v.path (top g v I)) ≡ 0)
+    (begins : 0 < v.tops) (last : v.start (v.tops - 1) ≡ top g v I) where
   abbrev i : ℕ
   i = top g v I
 
@@ -166,11 +167,15 @@ module _ (g : Graph) (v : View) (I : IsWalk g v) (busy : 0 < v.height) (none : v
     onpath = λ x k m. (shut_open i v.count k (v.mark x) m).1;
     itself = λ x k m. let o = shut_open i v.count k (v.mark x) m in path_old k o.1 ∙ I.itself x k o.0;
     upward = λ a b le h. let d : i < v.depth = deep in
-        subst (λ (n : ℕ). Reaches g n (w.path b)) (sym (path_old a (omega arith))) (subst (Reaches g (v.path a)) (sym (path_old b h)) (I.upward a b le (omega arith)));
+        subst (λ (n : ℕ). Reaches g n (w.path b)) (sym (path_old a (omega arith)))
+        (subst (Reaches g (v.path a)) (sym (path_old b h)) (I.upward a b le (omega arith)));
     back = λ a b le h ns. let d : i < v.depth = deep in
-        subst (λ (n : ℕ). Reaches g n (w.path a)) (sym (path_old b h)) (subst (Reaches g (v.path b)) (sym (path_old a (omega arith))) (I.back a b le (omega arith) (no_start a b h ns)));
+        subst (λ (n : ℕ). Reaches g n (w.path a)) (sym (path_old b h))
+        (subst (Reaches g (v.path b)) (sym (path_old a (omega arith)))
+        (I.back a b le (omega arith) (no_start a b h ns)));
     first = λ k h. elim (cases_le (v.tops - 1) 0) [
-      | inl le ↦ let z : v.start 0 ≡ 0 = I.lowest begins in let one : v.tops - 1 ≡ 0 = omega arith in let s : v.start 0 ≡ i = sym (ap v.start one) ∙ last in absurd (omega arith)
+      | inl le ↦ let z : v.start 0 ≡ 0 = I.lowest begins in let one : v.tops - 1 ≡ 0 = omega arith in
+          let s : v.start 0 ≡ i = sym (ap v.start one) ∙ last in absurd (omega arith)
       | inr lt ↦ lt
     ];
     lowest = λ h. start_old 0 h ∙ I.lowest begins;
@@ -187,7 +192,8 @@ module _ (g : Graph) (v : View) (I : IsWalk g v) (busy : 0 < v.height) (none : v
     ];
     settled = λ x a k m lt. let o = shut_open i v.count a (v.mark x) m in settle a (get_or (next_of g x) k 0) o.1 (I.settled x a k o.0 lt);
     downward = λ x l k m lt. elim (shut_done i v.count l (v.mark x) m) [
-      | inl e ↦ let d : IsDone v (get_or (next_of g x) k 0) l = I.downward x l k e lt in record { label = d.label; done = still_done (get_or (next_of g x) k 0) d.label d.done; low = d.low }
+      | inl e ↦ let d : IsDone v (get_or (next_of g x) k 0) l = I.downward x l k e lt in
+          record { label = d.label; done = still_done (get_or (next_of g x) k 0) d.label d.done; low = d.low }
       | inr o ↦ reached x l k o lt
     ];
     joined = λ x z l m n. elim (shut_done i v.count l (v.mark x) m) [

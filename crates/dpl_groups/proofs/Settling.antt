@@ -1,5 +1,6 @@
 -- An edge from the top of the stack is taken into account.
-use Rattle.std.proofs.Common.{◌≡◌, ◌≢◌, inl, inr, ℕ, ◌+◌, ◌-◌, ◌<◌, ◌≤◌, true, false, List, [], length, refl, sym, ◌∙◌, ap, subst, arith, get_or, Result, Ok, Err, OnOk}
+use Rattle.std.proofs.Common.{◌≡◌, ◌≢◌, inl, inr, ℕ, ◌+◌, ◌-◌, ◌<◌, ◌≤◌, true, false, List, [], length, refl, sym, ◌∙◌}
+use Rattle.std.proofs.Common.{ap, subst, arith, get_or, Result, Ok, Err, OnOk}
 use Rattle.std.proofs.lemmas.Bool.{cases_eq}
 use Rattle.std.proofs.lemmas.Grind.{common_steps}
 use Rattle.std.proofs.Math.Nat.{eq-or-lt_of_le}
@@ -22,7 +23,8 @@ pub on_both : {A E P Q R : Type 0} (r : Result A E) → (P → Q → R) → OnOk
 on_both (Ok a) f p q = f p q
 on_both (Err e) f p q = tt
 
-pub look_edge : (g : Graph) (x : ℕ) (list : List ℕ) (left : ℕ) → list ≡ next_of g x → 0 < left → left ≤ length list → IsEdge g x (get_or list (length list - left) 0)
+pub look_edge : (g : Graph) (x : ℕ) (list : List ℕ) (left : ℕ) → list ≡ next_of g x → 0 < left → left ≤ length list →
+    IsEdge g x (get_or list (length list - left) 0)
 look_edge g x list left e more few =
     let long : length list ≡ length (next_of g x) = ap (λ (xs : List ℕ). length xs) e in record {
       k = length list - left;
@@ -30,11 +32,13 @@ look_edge g x list left e more few =
       there = ap (λ (xs : List ℕ). get_or xs (length list - left) 0) (sym e);
     }
 
-pub same_next : (g : Graph) (x : ℕ) (list : List ℕ) (left l : ℕ) → list ≡ next_of g x → left ≡ l → get_or list (length list - left) 0 ≡ get_or (next_of g x) (length (next_of g x) - l) 0
+pub same_next : (g : Graph) (x : ℕ) (list : List ℕ) (left l : ℕ) → list ≡ next_of g x → left ≡ l →
+    get_or list (length list - left) 0 ≡ get_or (next_of g x) (length (next_of g x) - l) 0
 same_next g x list left l e el = rw (e, el) refl
 
 pub top_node : (g : Graph) (v : View) (x : ℕ) → IsWalk g v → IsTopNode v x → x < length g
-top_node g v x I t = let b : 0 < v.height = t.busy in subst (λ (n : ℕ). n < length g) t.node (I.node (v.stack (v.height - 1)) (I.placed (v.height - 1) (omega arith)))
+top_node g v x I t = let b : 0 < v.height = t.busy in subst (λ (n : ℕ). n < length g) t.node
+    (I.node (v.stack (v.height - 1)) (I.placed (v.height - 1) (omega arith)))
 
 pub node_of_top : (v : View) (i x : ℕ) → IsTop v i → v.path i ≡ x → IsTopNode v x
 node_of_top v i x t e = record { busy = t.busy; node = ap v.path t.top ∙ e }
@@ -104,7 +108,8 @@ module _ (g : Graph) (v : View) (I : IsWalk g v) (x y : ℕ) (t : IsTopNode v x)
   }
 
 -- the settled edge was the next one
-pub look_kept : (g : Graph) (v v' w : View) (x y : ℕ) → Settles g v v' x y → 0 < v.left x → y ≡ get_or (next_of g x) (length (next_of g x) - v.left x) 0 → w ≡ looked v' x → IsWalk g w
+pub look_kept : (g : Graph) (v v' w : View) (x y : ℕ) → Settles g v v' x y → 0 < v.left x →
+    y ≡ get_or (next_of g x) (length (next_of g x) - v.left x) 0 → w ≡ looked v' x → IsWalk g w
 look_kept g v v' w x y s more ey ew =
     let same : v'.left x ≡ v.left x = ap (λ (f : ℕ → ℕ). f x) s.left in
     let seen : IsSettled v' s.at (get_or (next_of g x) (length (next_of g x) - v'.left x) 0) = rw same (subst (IsSettled v' s.at) ey s.settled) in
@@ -151,7 +156,9 @@ pub record Looking (g : Graph) (w : Walk) (x : ℕ) (list : List ℕ) (left : �
   pub more : 0 < left
   pub few : left ≤ length list
 
-pub looking : (g : Graph) (w : Walk) (x : ℕ) (list entry : List ℕ) (left : ℕ) → IsWalk g (view w) → IsTopNode (view w) x → 0 < get_or w.left.items x 0 → list ≡ entry → entry ≡ get_or g x entry → left ≡ get_or w.left.items x left → Looking g w x list left
+pub looking : (g : Graph) (w : Walk) (x : ℕ) (list entry : List ℕ) (left : ℕ) → IsWalk g (view w) →
+    IsTopNode (view w) x → 0 < get_or w.left.items x 0 → list ≡ entry → entry ≡ get_or g x entry →
+    left ≡ get_or w.left.items x left → Looking g w x list left
 looking g w x list entry left I t more el ee eq =
     let size : length w.left.items ≡ length g = left_size g w I in
     let here : x < length g = top_node g (view w) x I t in

@@ -54,7 +54,9 @@ module _ (g : Graph) (v : View) (I : IsWalk g v) where
       upward = I.upward;
       back = λ i k le h ns. elim (cases_le j k) [
         | inl jk ↦
-            let round : Reaches g (v.path k) (v.path j) = reaches_trans g (v.path k) (v.path (top g v I)) (v.path j) (to_top g v I busy k h) (reaches_edge g (v.path (top g v I)) (v.path j) edge) in
+            let round : Reaches g (v.path k) (v.path j) =
+            reaches_trans g (v.path k) (v.path (top g v I)) (v.path j) (to_top g v I busy k h)
+            (reaches_edge g (v.path (top g v I)) (v.path j) edge) in
             reaches_trans g (v.path k) (v.path j) (v.path i) round (elim (cases_le j i) [
               | inl ji ↦ I.upward j i ji (omega arith)
               | inr ij ↦ I.back i j (omega arith) here (low_start i k ns j (omega arith) jk)
@@ -98,7 +100,8 @@ module _ (g : Graph) (v : View) (I : IsWalk g v) where
       size = I.size;
       lefts = I.lefts;
       few = λ z. elim (cases_eq z x) [
-        | inl e ↦ let n : l.left z ≡ v.left x - 1 = left_new z e in let f : v.left z ≤ length (next_of g z) = I.few z in let s : v.left z ≡ v.left x = ap v.left e in omega arith
+        | inl e ↦ let n : l.left z ≡ v.left x - 1 = left_new z e in let f : v.left z ≤ length (next_of g z) = I.few z in
+            let s : v.left z ≡ v.left x = ap v.left e in omega arith
         | inr e ↦ subst (λ (n : ℕ). n ≤ length (next_of g z)) (sym (left_old z e)) (I.few z)
       ];
       fresh = λ z n. elim (cases_eq z x) [
@@ -130,7 +133,8 @@ module _ (g : Graph) (v : View) (I : IsWalk g v) where
             let le : k ≤ length (next_of g x) - v.left x = omega arith in
             settle_looked i (get_or (next_of g z) k 0) (elim (eq-or-lt_of_le le) [
               | inl q ↦ subst (λ (u : ℕ). IsSettled v u (get_or (next_of g z) k 0)) (sym same)
-                  (subst (λ (u : ℕ). IsSettled v a (get_or (next_of g u) k 0)) (sym s) (subst (λ (u : ℕ). IsSettled v a (get_or (next_of g x) u 0)) (sym q) seen))
+                  (subst (λ (u : ℕ). IsSettled v a (get_or (next_of g u) k 0)) (sym s)
+                  (subst (λ (u : ℕ). IsSettled v a (get_or (next_of g x) u 0)) (sym q) seen))
               | inr q ↦ let old : v.left z ≡ v.left x = ap v.left s in I.settled z i k e (omega arith)
             ])
         | inr s ↦ settle_looked i (get_or (next_of g z) k 0) (I.settled z i k e (subst (λ (n : ℕ). k + n < length (next_of g z)) (left_old z s) lt))

@@ -1,7 +1,10 @@
 -- Where a walk stands, after writes.
-use Rattle.std.proofs.Common.{◌≡◌, ◌≢◌, ◌⊎◌, inl, inr, ℕ, zero, suc, ◌+◌, ◌-◌, ◌<◌, ◌≤◌, List, [], ◌∷◌, ◌++◌, map, take, replicate, length, sum_by, refl, sym, ◌∙◌, ap, subst, arith, get_or, set}
+use Rattle.std.proofs.Common.{◌≡◌, ◌≢◌, ◌⊎◌, inl, inr, ℕ, zero, suc, ◌+◌, ◌-◌, ◌<◌, ◌≤◌, List, [], ◌∷◌, ◌++◌, map, take}
+use Rattle.std.proofs.Common.{replicate, length, sum_by, refl, sym, ◌∙◌, ap, subst, arith, get_or, set}
 use Rattle.std.proofs.lemmas.Bool.{cases_eq}
-use Rattle.std.proofs.lemmas.List.{get_or-set_same, get_or-set_other, get_or_push, get_or_append_left, get_or_past, get_or_default, get_or-take, length_push, length-replicate, length-set, length-take, length-map}
+use Rattle.std.proofs.lemmas.List.{get_or-set_same, get_or-set_other, get_or_push, get_or_append_left, get_or_past}
+use Rattle.std.proofs.lemmas.List.{get_or_default, get_or-take, length_push, length-replicate, length-set, length-take}
+use Rattle.std.proofs.lemmas.List.{length-map}
 use Rattle.std.proofs.lemmas.List.Sums.{sum_by-set}
 use Rattle.std.proofs.lemmas.Grind.{common_steps}
 use Rattle.std.proofs.Math.Nat.{eq-or-lt_of_le}
@@ -10,7 +13,8 @@ use Rattle.dpl_groups.specs.Graph.{Graph, next_of}
 use Rattle.dpl_groups.specs.declared.walk.Mark.{Mark}
 use Rattle.dpl_groups.specs.declared.walk.Mark.TheVariants.{New, Open}
 use Rattle.dpl_groups.specs.declared.walk.Walk.{Walk}
-use Rattle.dpl_groups.specs.Walk.{View, view, IsWalk, set_at, below, shut, opened, merged, popped, closed, looked, Rises, DropsAbove, AreMerged, AreOnPath, IsTop, work}
+use Rattle.dpl_groups.specs.Walk.{View, view, IsWalk, set_at, below, shut, opened, merged, popped, closed, looked}
+use Rattle.dpl_groups.specs.Walk.{Rises, DropsAbove, AreMerged, AreOnPath, IsTop, work}
 use Rattle.dpl_groups.proofs.Reach.{cases_le, set_same, set_other, below_is}
 use Rattle.dpl_groups.proofs.Walks.{open_new, done_new}
 
@@ -44,12 +48,31 @@ take_view xs n = fun_ext (λ i. elim (cases_le n i) [
     past : (i : ℕ) → n ≤ i → below (λ k. get_or xs k 0) n i ≡ 0
     past i le = grind (arith, common_steps)
 
-pub opened_view : (a b : Walk) (y : ℕ) → y < length a.marks.items → b.marks.items ≡ set a.marks.items y (Open (length a.path.items)) → b.left.items ≡ a.left.items → b.path.items ≡ a.path.items ++ y ∷ [] → b.starts.items ≡ a.starts.items ++ length a.path.items ∷ [] → b.stack.items ≡ a.stack.items ++ length a.path.items ∷ [] → b.heads.items ≡ a.heads.items → view b ≡ opened (view a) y
+pub opened_view : (a b : Walk) (y : ℕ) → y < length a.marks.items →
+    b.marks.items ≡ set a.marks.items y (Open (length a.path.items)) → b.left.items ≡ a.left.items →
+    b.path.items ≡ a.path.items ++ y ∷ [] → b.starts.items ≡ a.starts.items ++ length a.path.items ∷ [] →
+    b.stack.items ≡ a.stack.items ++ length a.path.items ∷ [] → b.heads.items ≡ a.heads.items →
+    view b ≡ opened (view a) y
 unfolding view
 opened_view a b y h em el ep es ek eh =
     let place : ℕ = length a.path.items in
     let size : length (set a.marks.items y (Open place)) ≡ length a.marks.items = length-set a.marks.items y (Open place) in
-    rw (em, el, ep, es, ek, eh, size, set_view a.marks.items y (Open place) New h, push_view a.path.items y, push_view a.starts.items place, push_view a.stack.items place, length_push a.path.items y, length_push a.starts.items place, length_push a.stack.items place) refl
+    rw (
+      em,
+      el,
+      ep,
+      es,
+      ek,
+      eh,
+      size,
+      set_view a.marks.items y (Open place) New h,
+      push_view a.path.items y,
+      push_view a.starts.items place,
+      push_view a.stack.items place,
+      length_push a.path.items y,
+      length_push a.starts.items place,
+      length_push a.stack.items place,
+    ) refl
 
 get_new : (n x : ℕ) → get_or (replicate n New) x New ≡ New
 get_new zero x = refl
@@ -62,7 +85,8 @@ get_count (e ∷ g) zero = refl
 get_count (e ∷ g) (suc x) = get_count g x
 
 -- nothing has been seen
-unseen : (g : Graph) (v : View) → v.size ≡ length g → v.lefts ≡ length g → ((x : ℕ) → v.mark x ≡ New) → ((x : ℕ) → v.left x ≡ length (next_of g x)) → v.depth ≡ 0 → v.tops ≡ 0 → v.height ≡ 0 → v.count ≡ 0 → IsWalk g v
+unseen : (g : Graph) (v : View) → v.size ≡ length g → v.lefts ≡ length g → ((x : ℕ) → v.mark x ≡ New) →
+    ((x : ℕ) → v.left x ≡ length (next_of g x)) → v.depth ≡ 0 → v.tops ≡ 0 → v.height ≡ 0 → v.count ≡ 0 → IsWalk g v
 unseen g v size lefts new left depth tops height count = record {
   size = size;
   lefts = lefts;
@@ -89,7 +113,9 @@ unseen g v size lefts new left depth tops height count = record {
   own = λ l h. absurd (omega arith);
 }
 
-pub new_walk : (g : Graph) (w : Walk) → w.marks.items ≡ replicate (length g) New → w.left.items ≡ map (λ e. length e) g → w.path.items ≡ [] → w.starts.items ≡ [] → w.stack.items ≡ [] → w.heads.items ≡ [] → IsWalk g (view w)
+pub new_walk : (g : Graph) (w : Walk) → w.marks.items ≡ replicate (length g) New →
+    w.left.items ≡ map (λ e. length e) g → w.path.items ≡ [] → w.starts.items ≡ [] → w.stack.items ≡ [] →
+    w.heads.items ≡ [] → IsWalk g (view w)
 unfolding view
 new_walk g w em el ep es ek eh = unseen g (view w)
     (rw em (length-replicate (length g) New))
@@ -98,20 +124,47 @@ new_walk g w em el ep es ek eh = unseen g (view w)
     (λ x. rw el (get_count g x))
     (rw ep refl) (rw es refl) (rw ek refl) (rw eh refl)
 
-pub popped_view : (a b : Walk) → b.marks.items ≡ a.marks.items → b.left.items ≡ a.left.items → b.path.items ≡ a.path.items → b.starts.items ≡ a.starts.items → b.stack.items ≡ take (length a.stack.items - 1) a.stack.items → b.heads.items ≡ a.heads.items → view b ≡ popped (view a)
+pub popped_view : (a b : Walk) → b.marks.items ≡ a.marks.items → b.left.items ≡ a.left.items →
+    b.path.items ≡ a.path.items → b.starts.items ≡ a.starts.items →
+    b.stack.items ≡ take (length a.stack.items - 1) a.stack.items → b.heads.items ≡ a.heads.items →
+    view b ≡ popped (view a)
 unfolding view
 popped_view a b em el ep es ek eh =
-    let short : length (take (length a.stack.items - 1) a.stack.items) ≡ length a.stack.items - 1 = length_of_take a.stack.items (length a.stack.items - 1) (omega arith) in
+    let short : length (take (length a.stack.items - 1) a.stack.items) ≡ length a.stack.items - 1 =
+    length_of_take a.stack.items (length a.stack.items - 1) (omega arith) in
     rw (em, el, ep, es, ek, eh, short, take_view a.stack.items (length a.stack.items - 1)) refl
 
-pub closed_view : (a b : Walk) (i : ℕ) → i < length a.path.items → length b.marks.items ≡ length a.marks.items → ((x : ℕ) → get_or b.marks.items x New ≡ shut i (length a.heads.items) (get_or a.marks.items x New)) → b.left.items ≡ a.left.items → b.path.items ≡ take i a.path.items → b.starts.items ≡ take (length a.starts.items - 1) a.starts.items → b.stack.items ≡ take (length a.stack.items - 1) a.stack.items → b.heads.items ≡ a.heads.items ++ get_or a.path.items i 0 ∷ [] → view b ≡ closed (view a) i
+pub closed_view : (a b : Walk) (i : ℕ) → i < length a.path.items → length b.marks.items ≡ length a.marks.items →
+    ((x : ℕ) → get_or b.marks.items x New ≡ shut i (length a.heads.items) (get_or a.marks.items x New)) →
+    b.left.items ≡ a.left.items → b.path.items ≡ take i a.path.items →
+    b.starts.items ≡ take (length a.starts.items - 1) a.starts.items →
+    b.stack.items ≡ take (length a.stack.items - 1) a.stack.items →
+    b.heads.items ≡ a.heads.items ++ get_or a.path.items i 0 ∷ [] → view b ≡ closed (view a) i
 unfolding view
 closed_view a b i h size marks el ep es ek eh =
     let mark : (λ x. get_or b.marks.items x New) ≡ (λ x. shut i (length a.heads.items) (get_or a.marks.items x New)) = fun_ext marks in
     let depth : length (take i a.path.items) ≡ i = length_of_take a.path.items i (omega arith) in
-    let tops : length (take (length a.starts.items - 1) a.starts.items) ≡ length a.starts.items - 1 = length_of_take a.starts.items (length a.starts.items - 1) (omega arith) in
-    let short : length (take (length a.stack.items - 1) a.stack.items) ≡ length a.stack.items - 1 = length_of_take a.stack.items (length a.stack.items - 1) (omega arith) in
-    rw (size, mark, el, ep, es, ek, eh, depth, tops, short, take_view a.path.items i, take_view a.starts.items (length a.starts.items - 1), take_view a.stack.items (length a.stack.items - 1), push_view a.heads.items (get_or a.path.items i 0), length_push a.heads.items (get_or a.path.items i 0)) refl
+    let tops : length (take (length a.starts.items - 1) a.starts.items) ≡ length a.starts.items - 1 =
+    length_of_take a.starts.items (length a.starts.items - 1) (omega arith) in
+    let short : length (take (length a.stack.items - 1) a.stack.items) ≡ length a.stack.items - 1 =
+    length_of_take a.stack.items (length a.stack.items - 1) (omega arith) in
+    rw (
+      size,
+      mark,
+      el,
+      ep,
+      es,
+      ek,
+      eh,
+      depth,
+      tops,
+      short,
+      take_view a.path.items i,
+      take_view a.starts.items (length a.starts.items - 1),
+      take_view a.stack.items (length a.stack.items - 1),
+      push_view a.heads.items (get_or a.path.items i 0),
+      length_push a.heads.items (get_or a.path.items i 0),
+    ) refl
 
 starts_same : (a b : Walk) (m : ℕ) → length (take m a.starts.items) ≡ m → b.starts.items ≡ take m a.starts.items → record {
   size = length a.marks.items;
@@ -130,12 +183,15 @@ starts_same : (a b : Walk) (m : ℕ) → length (take m a.starts.items) ≡ m �
 unfolding view
 starts_same a b m short e = rw (e, short, take_view a.starts.items m) refl
 
-pub merged_view : (a b : Walk) (j : ℕ) → Rises (view a) → b.marks.items ≡ a.marks.items → b.left.items ≡ a.left.items → b.path.items ≡ a.path.items → b.stack.items ≡ a.stack.items → b.heads.items ≡ a.heads.items → DropsAbove j a.starts.items b.starts.items → AreMerged (view a) (view b) j
+pub merged_view : (a b : Walk) (j : ℕ) → Rises (view a) → b.marks.items ≡ a.marks.items → b.left.items ≡ a.left.items →
+    b.path.items ≡ a.path.items → b.stack.items ≡ a.stack.items → b.heads.items ≡ a.heads.items →
+    DropsAbove j a.starts.items b.starts.items → AreMerged (view a) (view b) j
 unfolding view
 merged_view a b j rises em el ep ek eh d =
     let m : ℕ = length b.starts.items in
     let short : length (take m a.starts.items) ≡ m = length_of_take a.starts.items m d.fewer in
-    let front : (t : ℕ) → t < m → get_or b.starts.items t 0 ≡ get_or a.starts.items t 0 = λ t h. ap (λ (xs : List ℕ). get_or xs t 0) d.front ∙ get_or-take m a.starts.items t 0 h in record {
+    let front : (t : ℕ) → t < m → get_or b.starts.items t 0 ≡ get_or a.starts.items t 0 =
+    λ t h. ap (λ (xs : List ℕ). get_or xs t 0) d.front ∙ get_or-take m a.starts.items t 0 h in record {
       m = m;
       merge = record {
         fewer = d.fewer;
@@ -145,20 +201,26 @@ merged_view a b j rises em el ep ek eh d =
             let le : t ≤ m - 1 = omega arith in
             elim (eq-or-lt_of_le le) [
               | inl e ↦ let s : get_or a.starts.items t 0 ≡ get_or a.starts.items (m - 1) 0 = ap (λ (n : ℕ). get_or a.starts.items n 0) e in omega arith
-              | inr l ↦ let f : m ≤ length a.starts.items = d.fewer in let r : get_or a.starts.items t 0 < get_or a.starts.items (m - 1) 0 = rises t (m - 1) l (omega arith) in omega arith
+              | inr l ↦ let f : m ≤ length a.starts.items = d.fewer in
+                  let r : get_or a.starts.items t 0 < get_or a.starts.items (m - 1) 0 = rises t (m - 1) l (omega arith)
+                  in omega arith
             ];
         merged = d.gone;
       };
       same = rw (em, el, ep, ek, eh) (starts_same a b m short d.front);
     }
 
-pub looked_view : (a b : Walk) (x n : ℕ) → x < length a.left.items → n ≡ get_or a.left.items x 0 - 1 → b.marks.items ≡ a.marks.items → b.left.items ≡ set a.left.items x n → b.path.items ≡ a.path.items → b.starts.items ≡ a.starts.items → b.stack.items ≡ a.stack.items → b.heads.items ≡ a.heads.items → view b ≡ looked (view a) x
+pub looked_view : (a b : Walk) (x n : ℕ) → x < length a.left.items → n ≡ get_or a.left.items x 0 - 1 →
+    b.marks.items ≡ a.marks.items → b.left.items ≡ set a.left.items x n → b.path.items ≡ a.path.items →
+    b.starts.items ≡ a.starts.items → b.stack.items ≡ a.stack.items → b.heads.items ≡ a.heads.items →
+    view b ≡ looked (view a) x
 unfolding view
 looked_view a b x n h en em el ep es ek eh =
     let same : length (set a.left.items x n) ≡ length a.left.items = length-set a.left.items x n in
     rw (em, el, ep, es, ek, eh, same, set_view a.left.items x n 0 h, en) refl
 
-pub looked_work : (a b : Walk) (x n : ℕ) → x < length a.left.items → n + 1 ≡ get_or a.left.items x 0 → b.left.items ≡ set a.left.items x n → b.stack.items ≡ a.stack.items → work b + 2 ≡ work a
+pub looked_work : (a b : Walk) (x n : ℕ) → x < length a.left.items → n + 1 ≡ get_or a.left.items x 0 →
+    b.left.items ≡ set a.left.items x n → b.stack.items ≡ a.stack.items → work b + 2 ≡ work a
 unfolding work
 looked_work a b x n h en el ek =
     let s : sum_by (λ m. m) (set a.left.items x n) + get_or a.left.items x 0 ≡ sum_by (λ m. m) a.left.items + n = sum_by-set (λ m. m) a.left.items x n 0 h in
@@ -187,7 +249,8 @@ left_size g w I = I.lefts
 
 pub path_deep : (g : Graph) (w : Walk) (i : ℕ) → IsWalk g (view w) → IsTop (view w) i → i < length w.path.items
 unfolding view
-path_deep g w i I t = subst (λ (n : ℕ). n < length w.path.items) t.top (I.placed (length w.stack.items - 1) (let b : 0 < length w.stack.items = t.busy in omega arith))
+path_deep g w i I t = subst (λ (n : ℕ). n < length w.path.items) t.top
+    (I.placed (length w.stack.items - 1) (let b : 0 < length w.stack.items = t.busy in omega arith))
 
 pub left_at : (w : Walk) (x : ℕ) → (view w).left x ≡ get_or w.left.items x 0
 unfolding view
@@ -206,7 +269,9 @@ pub left_few : (g : Graph) (w : Walk) (x : ℕ) → IsWalk g (view w) → get_or
 unfolding view
 left_few g w x I = I.few x
 
-pub looked_lower : (o a b : Walk) (x n : ℕ) → x < length a.left.items → n + 1 ≡ get_or a.left.items x 0 → a.left.items ≡ o.left.items → (view a).height ≤ (view o).height + 1 → b.left.items ≡ set a.left.items x n → b.stack.items ≡ a.stack.items → work b < work o
+pub looked_lower : (o a b : Walk) (x n : ℕ) → x < length a.left.items → n + 1 ≡ get_or a.left.items x 0 →
+    a.left.items ≡ o.left.items → (view a).height ≤ (view o).height + 1 → b.left.items ≡ set a.left.items x n →
+    b.stack.items ≡ a.stack.items → work b < work o
 looked_lower o a b x n h en eo high el ek =
     let less : work b + 2 ≡ work a = looked_work a b x n h en el ek in
     let same : work a + (view o).height ≡ work o + (view a).height = work_is o a eo in

@@ -164,7 +164,8 @@ module _ (g : Graph) (v : View) (I : IsWalk g v) where
               absurd (ns v.tops (omega arith) (omega arith) (omega arith))
         ]
         | inr l ↦ let li : i < v.depth = omega arith in
-            subst (λ (n : ℕ). Reaches g n (w.path i)) (sym (path_old j l)) (subst (Reaches g (v.path j)) (sym (path_old i li)) (I.back i j le l (no_start i j ns)))
+            subst (λ (n : ℕ). Reaches g n (w.path i)) (sym (path_old j l))
+            (subst (Reaches g (v.path j)) (sym (path_old i li)) (I.back i j le l (no_start i j ns)))
       ];
       first = λ i h. omega arith;
       lowest = λ h. elim (cases_le v.tops 0) [

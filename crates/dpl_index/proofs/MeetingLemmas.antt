@@ -1,5 +1,6 @@
 -- Bounds that meet, and the walk over the stops for those that meet a window.
-use Rattle.std.proofs.Common.{arith, ◌≡◌, ◌↔◌, ℕ, ◌+◌, ◌<◌, ◌≤◌, List, length, get_or, ◌∙◌, All, AllPairs, Contains, sym, ap, subst, inl, inr, ◌∷◌, [], Bool, true, false, IsTrue, ◌≤ℤ◌, rules}
+use Rattle.std.proofs.Common.{arith, ◌≡◌, ◌↔◌, ℕ, ◌+◌, ◌<◌, ◌≤◌, List, length, get_or, ◌∙◌, All, AllPairs, Contains}
+use Rattle.std.proofs.Common.{sym, ap, subst, inl, inr, ◌∷◌, [], Bool, true, false, IsTrue, ◌≤ℤ◌, rules}
 use Rattle.std.proofs.lemmas.Bool.{cases_lt}
 use Rattle.std.proofs.lemmas.List.{get_or_default}
 use Rattle.std.proofs.lemmas.List.Elements.{All-push, Contains-push, Contains-append_left}
@@ -20,14 +21,16 @@ meets_outer outer inner window h m = record {
   high = let p = h.high in let q = m.high in omega signed;
 }
 
-pub meeting_yes : (items : List Bounds) (window : Bounds) (i : ℕ) (b : Bounds) → i < length items → b ≡ get_or items i b → Meets b window → IsMeeting items window i
+pub meeting_yes : (items : List Bounds) (window : Bounds) (i : ℕ) (b : Bounds) → i < length items →
+    b ≡ get_or items i b → Meets b window → IsMeeting items window i
 meeting_yes items window i b l e m = record { within = l; meets = λ d. rw (get_or_default items i d b l, ← e) m }
 
 pub meeting_no : (items : List Bounds) (window : Bounds) (i : ℕ) (b : Bounds) → b ≡ get_or items i b → ¬ Meets b window → ¬ IsMeeting items window i
 meeting_no items window i b e none meeting = none (rw (← e) at (meeting.meets b))
 
 -- in ascending order
-pub meeting_in_order : (items : List Bounds) (window : Bounds) (found sorted : List ℕ) → HasMeeting items window found → AllPairs (λ i j. i < j) sorted → ((x : ℕ) → Contains sorted x ↔ Contains found x) → AreMeeting items window sorted
+pub meeting_in_order : (items : List Bounds) (window : Bounds) (found sorted : List ℕ) → HasMeeting items window found →
+    AllPairs (λ i j. i < j) sorted → ((x : ℕ) → Contains sorted x ↔ Contains found x) → AreMeeting items window sorted
 meeting_in_order items window found sorted h ordered same = record {
   each = λ k d l. go _ ((same _).0 (k, l, get_or_default sorted k _ d l));
   all = λ i m. (same i).1 (h.all i m);
@@ -36,7 +39,8 @@ meeting_in_order items window found sorted h ordered same = record {
   go : (x : ℕ) → Contains found x → IsMeeting items window x
   go x (k, l, e) = let m : IsMeeting items window (get_or found k x) = h.each k x l in rw e at m
 
-pub holding_yes : (items : List Bounds) (inner : Bounds) (i : ℕ) (b : Bounds) → i < length items → b ≡ get_or items i b → Holds b inner → IsHolding items inner i
+pub holding_yes : (items : List Bounds) (inner : Bounds) (i : ℕ) (b : Bounds) → i < length items →
+    b ≡ get_or items i b → Holds b inner → IsHolding items inner i
 holding_yes items inner i b l e h = record { within = l; holds = λ d. rw (get_or_default items i d b l, ← e) h }
 
 pub holding_no : (items : List Bounds) (inner : Bounds) (i : ℕ) (b : Bounds) → b ≡ get_or items i b → ¬ Holds b inner → ¬ IsHolding items inner i
@@ -53,7 +57,9 @@ pub walk_begins : (items : List Bounds) (window : Bounds) (stops : List Stop) �
 walk_begins items window stops = record { each = λ k d l. absurd (omega arith); all = λ m d l. absurd (omega arith) }
 
 -- a stop is looked at
-pub walk_on : (items : List Bounds) (window : Bounds) (stops : List Stop) (at : ℕ) (found new : List ℕ) (stop : Stop) → ((d : Stop) → get_or stops at d ≡ stop) → AddsMeeting items window stop.number found new → Walked items window stops at found → Walked items window stops (at + 1) new
+pub walk_on : (items : List Bounds) (window : Bounds) (stops : List Stop) (at : ℕ) (found new : List ℕ) (stop : Stop) →
+    ((d : Stop) → get_or stops at d ≡ stop) → AddsMeeting items window stop.number found new →
+    Walked items window stops at found → Walked items window stops (at + 1) new
 walk_on items window stops at found new stop is (inl (meets, e)) w = rw e (record {
   each = All-push (IsMeeting items window) found stop.number w.each meets;
   all = λ m d l h n. elim (cases_lt m at) [
@@ -65,12 +71,15 @@ walk_on items window stops at found new stop is (inr (none, e)) w = rw e (record
   each = w.each;
   all = λ m d l h n. elim (cases_lt m at) [
     | inl g ↦ w.all m d g h n
-    | inr g ↦ let f : m ≡ at = omega arith in let P : Stop → Type 0 = λ t. IsMeeting items window t.number in absurd (none (subst P (ap (λ j. get_or stops j d) f ∙ is d) n))
+    | inr g ↦ let f : m ≡ at = omega arith in let P : Stop → Type 0 = λ t. IsMeeting items window t.number in
+        absurd (none (subst P (ap (λ j. get_or stops j d) f ∙ is d) n))
   ];
 })
 
 -- the stops within bounds that do not meet the window are left out
-pub walk_past : (items : List Bounds) (window : Bounds) (stops : List Stop) (at : ℕ) (found : List ℕ) (stop : Stop) → ((d : Stop) → get_or stops at d ≡ stop) → at < length stops → ¬ Meets stop.bounds window → IsIndex items stops → Walked items window stops at found → Walked items window stops (at + stop.rest + 1) found
+pub walk_past : (items : List Bounds) (window : Bounds) (stops : List Stop) (at : ℕ) (found : List ℕ) (stop : Stop) →
+    ((d : Stop) → get_or stops at d ≡ stop) → at < length stops → ¬ Meets stop.bounds window → IsIndex items stops →
+    Walked items window stops at found → Walked items window stops (at + stop.rest + 1) found
 walk_past items window stops at found stop is within far x w = record {
   each = w.each;
   all = λ m d h k n. elim (cases_lt m at) [
@@ -88,7 +97,8 @@ some_of : (stops : List Stop) (k : ℕ) → k < length stops → Stop
 some_of [] k l = absurd (omega arith)
 some_of (s ∷ ss) k l = s
 
-pub walk_ends : (items : List Bounds) (window : Bounds) (stops : List Stop) (at : ℕ) (found : List ℕ) → length stops ≤ at → IsIndex items stops → Walked items window stops at found → HasMeeting items window found
+pub walk_ends : (items : List Bounds) (window : Bounds) (stops : List Stop) (at : ℕ) (found : List ℕ) →
+    length stops ≤ at → IsIndex items stops → Walked items window stops at found → HasMeeting items window found
 walk_ends items window stops at found whole x w = record {
   each = w.each;
   all = λ i n. let (k, l, e) = x.all i n.within in all_at i n k l e;
@@ -110,16 +120,21 @@ pub search_begins : (items : List Bounds) (inner : Bounds) (stops : List Stop) �
 search_begins items inner stops = record { none = λ m d l. absurd (omega arith) }
 
 -- a stop is looked at
-pub search_on : (items : List Bounds) (inner : Bounds) (stops : List Stop) (at : ℕ) (stop : Stop) → ((d : Stop) → get_or stops at d ≡ stop) → ¬ IsHolding items inner stop.number → NoneHolds items inner stops at → NoneHolds items inner stops (at + 1)
+pub search_on : (items : List Bounds) (inner : Bounds) (stops : List Stop) (at : ℕ) (stop : Stop) →
+    ((d : Stop) → get_or stops at d ≡ stop) → ¬ IsHolding items inner stop.number → NoneHolds items inner stops at →
+    NoneHolds items inner stops (at + 1)
 search_on items inner stops at stop is not_it w = record {
   none = λ m d l h n. elim (cases_lt m at) [
     | inl g ↦ w.none m d g h n
-    | inr g ↦ let f : m ≡ at = omega arith in let P : Stop → Type 0 = λ t. IsHolding items inner t.number in not_it (subst P (ap (λ j. get_or stops j d) f ∙ is d) n)
+    | inr g ↦ let f : m ≡ at = omega arith in let P : Stop → Type 0 = λ t. IsHolding items inner t.number in
+        not_it (subst P (ap (λ j. get_or stops j d) f ∙ is d) n)
   ];
 }
 
 -- the stops within bounds that do not hold them are left out
-pub search_past : (items : List Bounds) (inner : Bounds) (stops : List Stop) (at : ℕ) (stop : Stop) → ((d : Stop) → get_or stops at d ≡ stop) → at < length stops → ¬ Holds stop.bounds inner → IsIndex items stops → NoneHolds items inner stops at → NoneHolds items inner stops (at + stop.rest + 1)
+pub search_past : (items : List Bounds) (inner : Bounds) (stops : List Stop) (at : ℕ) (stop : Stop) →
+    ((d : Stop) → get_or stops at d ≡ stop) → at < length stops → ¬ Holds stop.bounds inner → IsIndex items stops →
+    NoneHolds items inner stops at → NoneHolds items inner stops (at + stop.rest + 1)
 search_past items inner stops at stop is within far x w = record {
   none = λ m d h k n. elim (cases_lt m at) [
     | inl g ↦ w.none m d g k n
@@ -132,7 +147,8 @@ search_past items inner stops at stop is within far x w = record {
       let h : Holds stop.bounds (get_or items (get_or stops m d).number stop.bounds) = rw (is d) at (x.covers at m d stop.bounds within low (omega arith)) in
       holds_on _ _ inner h (n.holds stop.bounds)
 
-pub search_ends : (items : List Bounds) (inner : Bounds) (stops : List Stop) (at : ℕ) → length stops ≤ at → IsIndex items stops → NoneHolds items inner stops at → (i : ℕ) → ¬ IsHolding items inner i
+pub search_ends : (items : List Bounds) (inner : Bounds) (stops : List Stop) (at : ℕ) → length stops ≤ at →
+    IsIndex items stops → NoneHolds items inner stops at → (i : ℕ) → ¬ IsHolding items inner i
 search_ends items inner stops at whole x w i n =
     let (k, l, e) = x.all i n.within in
     let d : Stop = some_of stops k l in
@@ -143,7 +159,9 @@ pub not_held : (test : Bool) (a b : Bounds) → test ≡ false → (Holds a b �
 not_held test a b e f h = let t : IsTrue false = rw e at (f h) in search rules
 
 -- bounds hold others where their columns and their rows do
-pub holds_both : (a b : Bounds) (columns rows : Bool) → columns ≡ true → (IsTrue columns ↔ (a.left ≤ℤ b.left) × (b.right ≤ℤ a.right)) → (IsTrue rows ↔ (a.low ≤ℤ b.low) × (b.high ≤ℤ a.high)) → IsTrue rows ↔ Holds a b
+pub holds_both : (a b : Bounds) (columns rows : Bool) → columns ≡ true →
+    (IsTrue columns ↔ (a.left ≤ℤ b.left) × (b.right ≤ℤ a.right)) →
+    (IsTrue rows ↔ (a.low ≤ℤ b.low) × (b.high ≤ℤ a.high)) → IsTrue rows ↔ Holds a b
 holds_both a b columns rows e f g = (
   (λ t. let p = f.0 (is_true columns e) in let q = g.0 t in record { left = p.0; right = p.1; low = q.0; high = q.1 }),
   (λ h. g.1 (h.low, h.high)),
@@ -156,7 +174,9 @@ pub not_met : (test : Bool) (a b : Bounds) → test ≡ false → (Meets a b →
 not_met test a b e f m = let t : IsTrue false = rw e at (f m) in search rules
 
 -- bounds meet where their columns do and their rows do
-pub meets_both : (a b : Bounds) (columns rows : Bool) → columns ≡ true → (IsTrue columns ↔ (a.left ≤ℤ b.right) × (b.left ≤ℤ a.right)) → (IsTrue rows ↔ (a.low ≤ℤ b.high) × (b.low ≤ℤ a.high)) → IsTrue rows ↔ Meets a b
+pub meets_both : (a b : Bounds) (columns rows : Bool) → columns ≡ true →
+    (IsTrue columns ↔ (a.left ≤ℤ b.right) × (b.left ≤ℤ a.right)) →
+    (IsTrue rows ↔ (a.low ≤ℤ b.high) × (b.low ≤ℤ a.high)) → IsTrue rows ↔ Meets a b
 meets_both a b columns rows e f g = (
   (λ t. let p = f.0 (is_true columns e) in let q = g.0 t in record { left = p.0; right = p.1; low = q.0; high = q.1 }),
   (λ m. g.1 (m.low, m.high)),

@@ -1,5 +1,7 @@
 -- Stops over items, as they are made and widened.
-use Rattle.std.proofs.Common.{arith, ◌≡◌, ◌≢◌, ℕ, ◌+◌, ◌<◌, ◌≤◌, pos, List, length, get_or, set, length-set, ◌∙◌, Contains, refl, sym, ap, subst, inl, inr, ◌∷◌, [], ◌++◌, get_or-set_other, get_or-set_same}
+use Rattle.std.proofs.Common.{arith, ◌≡◌, ◌≢◌, ℕ, ◌+◌, ◌<◌, ◌≤◌, pos, List, length, get_or, set, length-set, ◌∙◌}
+use Rattle.std.proofs.Common.{Contains, refl, sym, ap, subst, inl, inr, ◌∷◌, [], ◌++◌, get_or-set_other}
+use Rattle.std.proofs.Common.{get_or-set_same}
 use Rattle.std.proofs.lemmas.Bool.{cases_lt, cases_eq}
 use Rattle.std.proofs.lemmas.List.{get_or_default, get_or_append_left, get_or_push, length_push}
 use Rattle.std.proofs.lemmas.List.Elements.{All-push, Contains-push, Contains-append_left}
@@ -35,7 +37,8 @@ named_more n places new key e s = rw e (record {
   each = All-push (λ (p : ℕ × ℕ). p.1 < n + 1) places (key, n) (λ k d l. let h = s.each k d l in omega arith) (omega arith);
   all = λ i l. elim (cases_lt i n) [
     | inl h ↦ let (k, c) = s.all i h in (k, Contains-append_left places ((key, n) ∷ []) (k, i) c)
-    | inr h ↦ let f : n ≡ i = omega arith in let P : ℕ → Type 0 = λ j. Contains (places ++ (key, n) ∷ []) (key, j) in (key, subst P f (Contains-push places (key, n)))
+    | inr h ↦ let f : n ≡ i = omega arith in let P : ℕ → Type 0 = λ j. Contains (places ++ (key, n) ∷ []) (key, j) in
+        (key, subst P f (Contains-push places (key, n)))
   ];
 })
 
@@ -55,9 +58,18 @@ pub record SinglesSoFar (items : List Bounds) (places : List (ℕ × ℕ)) (n : 
   pub bounds : (k : ℕ) (d : Stop) (c : Bounds) → k < n → (get_or stops k d).bounds ≡ get_or items (get_or stops k d).number c
 
 pub singles_none : (items : List Bounds) (places : List (ℕ × ℕ)) → SinglesSoFar items places 0 []
-singles_none items places = record { long = refl; number = λ k d l. absurd (omega arith); rest = λ k d l. absurd (omega arith); bounds = λ k d c l. absurd (omega arith) }
+singles_none items places = record {
+  long = refl;
+  number = λ k d l. absurd (omega arith);
+  rest =
+      λ k d l. absurd (omega arith);
+  bounds = λ k d c l. absurd (omega arith);
+}
 
-pub singles_more : (items : List Bounds) (places : List (ℕ × ℕ)) (n : ℕ) (stops new : List Stop) (s : Stop) → new ≡ stops ++ s ∷ [] → s.number ≡ (get_or places n (0, 0)).1 → s.rest ≡ 0 → ((c : Bounds) → s.bounds ≡ get_or items s.number c) → SinglesSoFar items places n stops → SinglesSoFar items places (n + 1) new
+pub singles_more : (items : List Bounds) (places : List (ℕ × ℕ)) (n : ℕ) (stops new : List Stop) (s : Stop) →
+    new ≡ stops ++ s ∷ [] → s.number ≡ (get_or places n (0, 0)).1 → s.rest ≡ 0 →
+    ((c : Bounds) → s.bounds ≡ get_or items s.number c) → SinglesSoFar items places n stops →
+    SinglesSoFar items places (n + 1) new
 singles_more items places n stops new s e number rest bounds so = rw e (record {
   long = rw length_push (let l = so.long in omega arith);
   number = λ k d l. at k d (λ t. t.number ≡ (get_or places k (0, 0)).1) l (λ h. so.number k d h) (λ f. rw f number);
@@ -70,7 +82,8 @@ singles_more items places n stops new s e number rest bounds so = rw e (record {
     | inr h ↦ subst P (sym (get_or_push stops s d k (omega arith))) (g (omega arith))
   ]
 
-pub singles_all : (items : List Bounds) (places : List (ℕ × ℕ)) (n : ℕ) (stops : List Stop) → n ≡ length places → NamesAll (length items) places → SinglesSoFar items places n stops → IsIndex items stops
+pub singles_all : (items : List Bounds) (places : List (ℕ × ℕ)) (n : ℕ) (stops : List Stop) → n ≡ length places →
+    NamesAll (length items) places → SinglesSoFar items places n stops → IsIndex items stops
 singles_all items places n stops whole names so = let long = so.long in let full = names.long in record {
   inside = λ k d l. rw (so.number k d (omega arith)) (names.each k (0, 0) (omega arith));
   all = λ i l. named i (names.all i l);
@@ -78,7 +91,11 @@ singles_all items places n stops whole names so = let long = so.long in let full
   covers = λ k m d c l low high. let r = so.rest k d (omega arith) in let f : m ≡ k = omega arith in rw (f, so.bounds k d c (omega arith)) (holds_itself _);
 } where
   named : (i : ℕ) → (key : ℕ) × Contains places (key, i) → (k : ℕ) × (k < length stops) × ((d : Stop) → (get_or stops k d).number ≡ i)
-  named i (key, (k, h, e)) = let long = so.long in (k, omega arith, (λ d. so.number k d (omega arith) ∙ ap (λ (p : ℕ × ℕ). p.1) (get_or_default places k (0, 0) (key, i) h ∙ e)))
+  named i (key, (k, h, e)) = let long = so.long in (
+    k,
+    omega arith,
+    (λ d. so.number k d (omega arith) ∙ ap (λ (p : ℕ × ℕ). p.1) (get_or_default places k (0, 0) (key, i) h ∙ e)),
+  )
 
 -- ---- a stop takes in the next
 
@@ -91,7 +108,8 @@ pub record Absorbs (stops : List Stop) (k : ℕ) (stop next new : Stop) : Type 0
   pub first : Holds new.bounds stop.bounds
   pub second : Holds new.bounds next.bounds
 
-pub absorb_keeps : (items : List Bounds) (stops : List Stop) (k : ℕ) (stop next new : Stop) → Absorbs stops k stop next new → IsIndex items stops → IsIndex items (set stops k new)
+pub absorb_keeps : (items : List Bounds) (stops : List Stop) (k : ℕ) (stop next new : Stop) →
+    Absorbs stops k stop next new → IsIndex items stops → IsIndex items (set stops k new)
 absorb_keeps items stops k stop next new a s = record {
   inside = λ m d l. rw (same_number m d) (s.inside m d (shorter m l));
   all = λ i l. let (m, h, e) = s.all i l in (m, rw length-set h, (λ d. same_number m d ∙ e d));
@@ -111,7 +129,8 @@ absorb_keeps items stops k stop next new a s = record {
   ]
 
   same_number : (m : ℕ) (d : Stop) → (get_or (set stops k new) m d).number ≡ (get_or stops m d).number
-  same_number m d = at m d (λ t. t.number ≡ (get_or stops m d).number) (λ e. a.number ∙ ap (λ (t : Stop). t.number) (sym (a.stop_is d) ∙ ap (λ j. get_or stops j d) (sym e))) (λ n. refl)
+  same_number m d = at m d (λ t. t.number ≡ (get_or stops m d).number)
+      (λ e. a.number ∙ ap (λ (t : Stop). t.number) (sym (a.stop_is d) ∙ ap (λ j. get_or stops j d) (sym e))) (λ n. refl)
 
   next_short : k + stop.rest + 1 + next.rest < length stops
   next_short = let d = next in let h = s.short (k + stop.rest + 1) d a.more in let e = ap (λ (t : Stop). t.rest) (a.next_is d) in omega arith
@@ -119,16 +138,19 @@ absorb_keeps items stops k stop next new a s = record {
   short : (m : ℕ) (d : Stop) → m < length stops → m + (get_or (set stops k new) m d).rest < length stops
   short m d l = at m d (λ t. m + t.rest < length stops) (λ e. let r = a.rest in let h = next_short in omega arith) (λ n. s.short m d l)
 
-  covers : (j m : ℕ) (d : Stop) (c : Bounds) → j < length stops → j ≤ m → m ≤ j + (get_or (set stops k new) j d).rest → Holds ((get_or (set stops k new) j d).bounds) (get_or items (get_or stops m d).number c)
+  covers : (j m : ℕ) (d : Stop) (c : Bounds) → j < length stops → j ≤ m → m ≤ j + (get_or (set stops k new) j d).rest →
+      Holds ((get_or (set stops k new) j d).bounds) (get_or items (get_or stops m d).number c)
   covers j m d c l low = at j d (λ t. m ≤ j + t.rest → Holds t.bounds (get_or items (get_or stops m d).number c))
       (λ e high. here j m d c e low high) (λ n high. s.covers j m d c l low high) where
         here : (j m : ℕ) (d : Stop) (c : Bounds) → j ≡ k → j ≤ m → m ≤ j + new.rest → Holds new.bounds (get_or items (get_or stops m d).number c)
         here j m d c e low high = let r = a.rest in elim (cases_lt m (k + stop.rest + 1)) [
           | inl h ↦ let f = ap (λ (t : Stop). t.rest) (a.stop_is d) in
-              let g : Holds stop.bounds (get_or items (get_or stops m d).number c) = rw (a.stop_is d) at (s.covers k m d c within (omega arith) (omega arith)) in
+              let g : Holds stop.bounds (get_or items (get_or stops m d).number c) =
+              rw (a.stop_is d) at (s.covers k m d c within (omega arith) (omega arith)) in
               holds_on _ _ _ a.first g
           | inr h ↦ let f = ap (λ (t : Stop). t.rest) (a.next_is d) in
-              let g : Holds next.bounds (get_or items (get_or stops m d).number c) = rw (a.next_is d) at (s.covers (k + stop.rest + 1) m d c a.more h (omega arith)) in
+              let g : Holds next.bounds (get_or items (get_or stops m d).number c) =
+              rw (a.next_is d) at (s.covers (k + stop.rest + 1) m d c a.more h (omega arith)) in
               holds_on _ _ _ a.second g
         ]
 

@@ -57,7 +57,8 @@ sum_by_pairs n mate p w =
     sum_mates n mate p (λ m. cond (ltb (mate m) m) (w m) 0) in
     let back : sum_below n (λ m. cond (ltb (mate (mate m)) (mate m)) (w (mate m)) 0) ≡ sum_below n (λ m. cond (ltb m (mate m)) (w (mate m)) 0) =
     sum_same n _ _ (λ m h. ap (λ z. cond (ltb z (mate m)) (w (mate m)) 0) (p.back m h)) in
-    let whole : sum_below n (λ m. cond (ltb m (mate m)) (w m + w (mate m)) 0) ≡ sum_below n (λ m. cond (ltb m (mate m)) (w m) 0 + cond (ltb m (mate m)) (w (mate m)) 0) =
+    let whole : sum_below n (λ m. cond (ltb m (mate m)) (w m + w (mate m)) 0) ≡ sum_below n
+    (λ m. cond (ltb m (mate m)) (w m) 0 + cond (ltb m (mate m)) (w (mate m)) 0) =
     sum_same n _ _ (λ m h. cond_added (ltb m (mate m)) (w m) (w (mate m))) in
     let again = sum_added n (λ m. cond (ltb m (mate m)) (w m) 0) (λ m. cond (ltb m (mate m)) (w (mate m)) 0) in
     omega (arith, split, parted, moved, back, whole, again)
@@ -77,7 +78,8 @@ leaving_parity n mate p set =
 
 -- ---- the loads of the pairs
 
-one_load : (k : ℕ) (value : ℕ → ℕ) (d : ℕ → Bool) (t : Bool) → cond t (sum_below k (λ i. cond (d i) (value i) 0)) 0 ≡ sum_below k (λ i. cond t (cond (d i) 1 0) 0 * value i)
+one_load : (k : ℕ) (value : ℕ → ℕ) (d : ℕ → Bool) (t : Bool) →
+    cond t (sum_below k (λ i. cond (d i) (value i) 0)) 0 ≡ sum_below k (λ i. cond t (cond (d i) 1 0) 0 * value i)
 one_load k value d true = sum_same k _ _ (λ i h. one_value (d i) (value i))
 one_load k value d false = sym (sum_times_none k value)
 
@@ -89,7 +91,8 @@ loads_of_pairs n k value holds mate =
     sum_turned n k _ ∙
     sum_same k _ _ (λ i h. sum_times n _ (value i))
 
-pub pairs_most : (n : ℕ) (mate : ℕ → ℕ) (v w : ℕ → ℕ → ℕ) → IsPairing n mate → ((s t : ℕ) → s < n → t < n → s ≢ t → v s t ≤ w s t) → pairs_sum n mate v ≤ pairs_sum n mate w
+pub pairs_most : (n : ℕ) (mate : ℕ → ℕ) (v w : ℕ → ℕ → ℕ) → IsPairing n mate →
+    ((s t : ℕ) → s < n → t < n → s ≢ t → v s t ≤ w s t) → pairs_sum n mate v ≤ pairs_sum n mate w
 pairs_most n mate v w p h = sum_most n _ _ (λ m l. elim (cases_Bool (ltb m (mate m))) [
   | inl t ↦ omega (arith, cond-true _ (v m (mate m)) 0 t, cond-true _ (w m (mate m)) 0 t, h m (mate m) l (p.range m l) (λ q. p.apart m l (sym q)))
   | inr t ↦ omega (arith, cond-false _ (v m (mate m)) 0 t, cond-false _ (w m (mate m)) 0 t)

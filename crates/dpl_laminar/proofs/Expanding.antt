@@ -1,5 +1,7 @@
 -- The lists of a family after a top is taken away.
-use Rattle.std.proofs.Common.{arith, ◌≡◌, ◌≢◌, ℕ, ◌+◌, ◌-◌, ◌*◌, ◌%◌, ◌<◌, ◌≤◌, refl, sym, ap, ◌∙◌, subst, true, false, cond, inl, inr, List, [], length, get_or, set, length-set, get_or-set_same, get_or-set_other, Option, Some, None}
+use Rattle.std.proofs.Common.{arith, ◌≡◌, ◌≢◌, ℕ, ◌+◌, ◌-◌, ◌*◌, ◌%◌, ◌<◌, ◌≤◌, refl, sym, ap, ◌∙◌, subst, true, false}
+use Rattle.std.proofs.Common.{cond, inl, inr, List, [], length, get_or, set, length-set, get_or-set_same}
+use Rattle.std.proofs.Common.{get_or-set_other, Option, Some, None}
 use Rattle.std.proofs.lemmas.Bool.{cases_eq, cases_lt, cases_Bool, cond-true, cond-false}
 use Rattle.std.proofs.lemmas.List.{get_or_past}
 use Rattle.dpl_laminar.specs.Families.{Sets, IsTie, has}
@@ -60,13 +62,15 @@ abbrev pub without_set : Stored → ℕ → List (Option ℕ) → List ℕ → L
 without_set s r ps rg ts = record s { live = set s.live r false; rows = set s.rows r []; parents = ps; counts = set s.counts r 0; ring = rg; tops = ts }
 
 -- a child of another set is no child of this one
-not_kid : (s : Stored) (r d c : ℕ) → IsKept s → r < 2 * s.size → d < 2 * s.size → d ≢ r → has ((sets_of s).children d) c ≡ true → has ((sets_of s).children r) c ≡ false
+not_kid : (s : Stored) (r d c : ℕ) → IsKept s → r < 2 * s.size → d < 2 * s.size → d ≢ r →
+    has ((sets_of s).children d) c ≡ true → has ((sets_of s).children r) c ≡ false
 not_kid s r d c p hr hd ne k = elim (cases_Bool (has ((sets_of s).children r) c)) [
   | inl t ↦ absurd (ne (some_is (sym (p.family.laminar.children.child d c hd k).2 ∙ (p.family.laminar.children.child r c hr t).2)))
   | inr t ↦ t
 ]
 
-children_left : (s : Stored) (r : ℕ) (ps : List (Option ℕ)) (rg : List ℕ) (ts : List ℕ) → IsKept s → r < 2 * s.size → AreCleared s r ps rg ts → (i : ℕ) → i ≢ r → (sets_of (without_set s r ps rg ts)).children i ≡ (sets_of s).children i
+children_left : (s : Stored) (r : ℕ) (ps : List (Option ℕ)) (rg : List ℕ) (ts : List ℕ) → IsKept s → r < 2 * s.size →
+    AreCleared s r ps rg ts → (i : ℕ) → i ≢ r → (sets_of (without_set s r ps rg ts)).children i ≡ (sets_of s).children i
 children_left s r ps rg ts p hr w i ne =
     let after : ℕ → ℕ = λ c. get_or rg c 0 in
     let old : ℕ → ℕ = λ c. get_or s.ring c 0 in
@@ -78,7 +82,8 @@ children_left s r ps rg ts p hr w i ne =
     ] in
     ap (λ z. walk after first z) count ∙ moved
 
-pub expanded : (s : Stored) (r : ℕ) (ps : List (Option ℕ)) (rg : List ℕ) (ts : List ℕ) → IsKept s → s.size ≤ r → get_or s.live r false ≡ true → get_or s.parents r None ≡ None →
+pub expanded : (s : Stored) (r : ℕ) (ps : List (Option ℕ)) (rg : List ℕ) (ts : List ℕ) → IsKept s → s.size ≤ r →
+    get_or s.live r false ≡ true → get_or s.parents r None ≡ None →
     AreCleared s r ps rg ts → IsExpanded (sets_of s) r (sets_of (without_set s r ps rg ts))
 expanded s r ps rg ts p least live top w =
     let f : Sets = sets_of s in
@@ -125,13 +130,15 @@ after_parent s c d p e =
     let next : f.after c ≡ get_or (f.children d) ((v.0 + 1) % length (f.children d)) 0 = ap f.after (sym v.2) ∙ p.family.around d v.0 v.1 in
     ap f.parent next ∙ (p.family.laminar.children.child d _ up.1 (has_at (f.children d) ((v.0 + 1) % length (f.children d)) (omega (arith, v.1)))).2
 
-pub expanded_kept : (s : Stored) (r : ℕ) (ps : List (Option ℕ)) (rg : List ℕ) (ts : List ℕ) → IsKept s → s.size ≤ r → get_or s.live r false ≡ true → get_or s.parents r None ≡ None → get_or s.values r 0 ≡ 0 →
+pub expanded_kept : (s : Stored) (r : ℕ) (ps : List (Option ℕ)) (rg : List ℕ) (ts : List ℕ) → IsKept s → s.size ≤ r →
+    get_or s.live r false ≡ true → get_or s.parents r None ≡ None → get_or s.values r 0 ≡ 0 →
     AreCleared s r ps rg ts → IsExpanded (sets_of s) r (sets_of (without_set s r ps rg ts)) → IsKept (without_set s r ps rg ts)
 expanded_kept s r ps rg ts p least live top none w t =
     let f : Sets = sets_of s in
     let g : Sets = sets_of (without_set s r ps rg ts) in
     let below : r < 2 * s.size = live_below s r p live in
-    let still : (i m : ℕ) → i ≢ r → f.holds i m ≡ true → g.holds i m ≡ true = λ i m ne h. ap (λ z. get_or z m false) (get_or-set_other s.rows r i [] [] ne) ∙ h in
+    let still : (i m : ℕ) → i ≢ r → f.holds i m ≡ true → g.holds i m ≡ true =
+    λ i m ne h. ap (λ z. get_or z m false) (get_or-set_other s.rows r i [] [] ne) ∙ h in
     let inner : (c d : ℕ) → f.parent c ≡ Some d → c ≢ r = λ c d e z. some_none (f.parent c) d e (ap f.parent z ∙ top) in
     record {
       live_length = length-set s.live r false ∙ p.live_length;
@@ -156,7 +163,8 @@ expanded_kept s r ps rg ts p least live top none w t =
               let kids : g.children d ≡ f.children d = t.sets.children_others d ne in
               let hi' : i < length (f.children d) = omega (arith, hi, ap length kids) in
               let k = has_at (f.children d) i hi' in
-              let same : g.after (get_or (f.children d) i 0) ≡ f.after (get_or (f.children d) i 0) = t.after_others _ (not_kid s r d _ p below (parent_below s d _ p k) ne k) in
+              let same : g.after (get_or (f.children d) i 0) ≡ f.after (get_or (f.children d) i 0) =
+              t.after_others _ (not_kid s r d _ p below (parent_below s d _ p k) ne k) in
               ap (λ z. g.after (get_or z i 0)) kids ∙ same ∙ p.family.around d i hi' ∙ sym (ap (λ z. get_or z ((i + 1) % length z) 0) kids)
         ];
         alone = λ i hi e. elim (cases_Bool (has (f.children r) i)) [
@@ -168,7 +176,13 @@ expanded_kept s r ps rg ts p least live top none w t =
           | inr k ↦
               let up : f.parent c ≡ Some d = sym (t.sets.parent_others c k) ∙ e in
               let z = p.family.tied c d up in
-              let tie : IsTie g c (f.after c) (f.join c) = record { from_range = z.from_range; from = still c _ (inner c d up) z.from; to_range = z.to_range; to = still (f.after c) _ (inner (f.after c) d (after_parent s c d p up)) z.to } in
+              let tie : IsTie g c (f.after c) (f.join c) =
+              record {
+                from_range = z.from_range;
+                from = still c _ (inner c d up) z.from;
+                to_range = z.to_range;
+                to = still (f.after c) _ (inner (f.after c) d (after_parent s c d p up)) z.to;
+              } in
               subst (λ z. IsTie g c z (f.join c)) (sym (t.after_others c k)) tie
         ];
         value_small = p.family.value_small;
@@ -181,7 +195,8 @@ expanded_kept s r ps rg ts p least live top none w t =
 
 -- ---- the lists as the code leaves them
 
-pub expand_answer : (s : Stored) (r : ℕ) (ps ps' : List (Option ℕ)) (rg : List ℕ) (ts ts' : List ℕ) → IsKept s → s.size ≤ r → get_or s.live r false ≡ true → get_or s.parents r None ≡ None → get_or s.values r 0 ≡ 0 →
+pub expand_answer : (s : Stored) (r : ℕ) (ps ps' : List (Option ℕ)) (rg : List ℕ) (ts ts' : List ℕ) → IsKept s →
+    s.size ≤ r → get_or s.live r false ≡ true → get_or s.parents r None ≡ None → get_or s.values r 0 ≡ 0 →
     AreCleared s r ps rg ts → ps' ≡ ps → ts' ≡ ts → IsKept (without_set s r ps' rg ts') × IsExpanded (sets_of s) r (sets_of (without_set s r ps' rg ts'))
 expand_answer s r ps ps' rg ts ts' p least live top none w ep et =
     let P : List (Option ℕ) → List ℕ → Type 0 = λ a b. IsKept (without_set s r a rg b) × IsExpanded (sets_of s) r (sets_of (without_set s r a rg b)) in

@@ -1,5 +1,6 @@
 -- A family after tops became the children of a new top.
-use Rattle.std.proofs.Common.{arith, ◌≡◌, ◌≢◌, ℕ, suc, ◌+◌, ◌*◌, ◌%◌, ◌<◌, refl, sym, ap, ◌∙◌, Bool, true, false, cond, inl, inr, eqb, List, [], ◌∷◌, length, get_or, Some, None, eq-eqb}
+use Rattle.std.proofs.Common.{arith, ◌≡◌, ◌≢◌, ℕ, suc, ◌+◌, ◌*◌, ◌%◌, ◌<◌, refl, sym, ap, ◌∙◌, Bool, true, false, cond}
+use Rattle.std.proofs.Common.{inl, inr, eqb, List, [], ◌∷◌, length, get_or, Some, None, eq-eqb}
 use Rattle.std.proofs.lemmas.Bool.{cases_eq, cases_Bool, ne_eqb}
 use Rattle.dpl_laminar.specs.Loads.{size_of}
 use Rattle.dpl_laminar.specs.Families.{Sets, IsLaminar, has}
@@ -78,7 +79,9 @@ gathered n f g cs set p t q r er x y hx hy xr a ar ya =
         odd = λ i h l. elim (cases_eq i set) [
           | inl e ↦ rw e (
               let same : size_of n (g.holds set) ≡ size_of n (λ m. has cs (f.top m)) = sum_same n _ _ (λ m k. same_bit _ _ (q.holds_set m k)) in
-              let each = λ (c : ℕ) (k : has cs c ≡ true). ap (λ z. z % 2) (sum_same n (λ m. bit (eqb c (f.top m))) (λ m. bit (f.holds c m)) (λ m hm. same_bit _ _ (top_bit c m k hm))) ∙ p.sets.odd c (t.below c k) (t.are_live c k) in
+              let each = λ (c : ℕ) (k : has cs c ≡ true). ap (λ z. z % 2)
+              (sum_same n (λ m. bit (eqb c (f.top m))) (λ m. bit (f.holds c m))
+              (λ m hm. same_bit _ _ (top_bit c m k hm))) ∙ p.sets.odd c (t.below c k) (t.are_live c k) in
               ap (λ z. z % 2) same ∙ size_gathered n f.top cs t.distinct each ∙ t.count_odd)
           | inr e ↦ ap (λ z. z % 2) (sum_same n _ _ (λ m k. same_bit _ _ (q.holds_others i m h e k))) ∙ p.sets.odd i h (sym (q.live_others i e) ∙ l)
         ];
@@ -97,13 +100,23 @@ gathered n f g cs set p t q r er x y hx hy xr a ar ya =
                 let ia' : f.holds i a ≡ true = sym (q.holds_others i a hi e ha) ∙ ia in
                 let tm : has cs (f.top m) ≡ true = sym (q.holds_set m hm) ∙ ap (λ z. g.holds z m) (sym e') ∙ jm in
                 true_false (g.holds j a) (ap (λ z. g.holds z a) e' ∙ q.holds_set a ha ∙ ap (has cs) (sym (p.tops.top_shared i m a hi hm ha im' ia')) ∙ tm) ja
-            | inr e' ↦ q.holds_others i b hi e hb ∙ p.sets.nested i j m a b hi hj hm ha hb (sym (q.holds_others i m hi e hm) ∙ im) (sym (q.holds_others j m hj e' hm) ∙ jm) (sym (q.holds_others i a hi e ha) ∙ ia) (sym (q.holds_others j a hj e' ha) ∙ ja) (sym (q.holds_others j b hj e' hb) ∙ jb)
+            | inr e' ↦ q.holds_others i b hi e hb ∙ p.sets.nested i j m a b hi hj hm ha hb
+                (sym (q.holds_others i m hi e hm) ∙ im) (sym (q.holds_others j m hj e' hm) ∙ jm)
+                (sym (q.holds_others i a hi e ha) ∙ ia) (sym (q.holds_others j a hj e' ha) ∙ ja)
+                (sym (q.holds_others j b hj e' hb) ∙ jb)
           ]
         ];
         named = λ i h l. elim (cases_eq (n + i) set) [
           | inl e ↦
-              let ir : i ≡ r = omega (arith, e, er) in
-              (ap (λ z. g.holds z i) e ∙ ap (g.holds set) ir ∙ q.holds_set r rn ∙ inside x r hx rn xr, (a, omega (arith, ir), ap (λ z. g.holds z a) e ∙ q.holds_set a (omega arith) ∙ inside y a hy (omega arith) ya))
+              let ir : i ≡ r = omega (arith, e, er) in (
+                ap (λ z. g.holds z i) e ∙ ap (g.holds set) ir ∙ q.holds_set r rn ∙ inside x r hx rn xr,
+                (
+                  a,
+                  omega (arith, ir),
+                  ap (λ z. g.holds z a) e ∙ q.holds_set a (omega arith) ∙
+                      inside y a hy (omega arith) ya,
+                ),
+              )
           | inr e ↦
               let w = p.sets.named i h (sym (q.live_others (n + i) e) ∙ l) in
               let an : w.1.0 < n = omega (arith, w.1.1) in
@@ -121,7 +134,9 @@ gathered n f g cs set p t q r er x y hx hy xr a ar ya =
         ];
         top_holds = λ m h. elim (cases_Bool (has cs (f.top m))) [
           | inl k ↦ ap (λ z. g.holds z m) (q.top_inside m h k) ∙ q.holds_set m h ∙ k
-          | inr k ↦ ap (λ z. g.holds z m) (q.top_others m h k) ∙ q.holds_others (f.top m) m (p.tops.top_range m h) (old (f.top m) (p.tops.top_live m h)) h ∙ p.tops.top_holds m h
+          | inr k ↦ ap (λ z. g.holds z m) (q.top_others m h k) ∙
+              q.holds_others (f.top m) m (p.tops.top_range m h) (old (f.top m) (p.tops.top_live m h)) h ∙
+              p.tops.top_holds m h
         ];
         top_parent = λ m h. elim (cases_Bool (has cs (f.top m))) [
           | inl k ↦ ap g.parent (q.top_inside m h k) ∙ set_parent
@@ -137,7 +152,8 @@ gathered n f g cs set p t q r er x y hx hy xr a ar ya =
           ]
         ];
         top_shared = λ i m b hi hm hb im ib. elim (cases_eq i set) [
-          | inl e ↦ q.top_inside m hm (sym (q.holds_set m hm) ∙ ap (λ z. g.holds z m) (sym e) ∙ im) ∙ sym (q.top_inside b hb (sym (q.holds_set b hb) ∙ ap (λ z. g.holds z b) (sym e) ∙ ib))
+          | inl e ↦ q.top_inside m hm (sym (q.holds_set m hm) ∙ ap (λ z. g.holds z m) (sym e) ∙ im) ∙
+              sym (q.top_inside b hb (sym (q.holds_set b hb) ∙ ap (λ z. g.holds z b) (sym e) ∙ ib))
           | inr e ↦
               let tt' : f.top m ≡ f.top b = p.tops.top_shared i m b hi hm hb (sym (q.holds_others i m hi e hm) ∙ im) (sym (q.holds_others i b hi e hb) ∙ ib) in
               elim (cases_Bool (has cs (f.top m))) [
@@ -158,8 +174,12 @@ gathered n f g cs set p t q r er x y hx hy xr a ar ya =
         ];
         parent_range = λ i d hi l e. elim (cases_Bool (has cs i)) [
           | inl k ↦
-              let ds : d ≡ set = some_is (sym e ∙ q.parent_child i k) in
-              (omega (arith, ds, q.at_least), omega (arith, ds, q.below), ap g.live ds ∙ q.live_set, ap (λ z. has (g.children z) i) ds ∙ ap (λ z. has z i) q.children_set ∙ k)
+              let ds : d ≡ set = some_is (sym e ∙ q.parent_child i k) in (
+                omega (arith, ds, q.at_least),
+                omega (arith, ds, q.below),
+                ap g.live ds ∙ q.live_set,
+                ap (λ z. has (g.children z) i) ds ∙ ap (λ z. has z i) q.children_set ∙ k,
+              )
           | inr k ↦
               let e' : f.parent i ≡ Some d = sym (q.parent_others i k) ∙ e in
               let ni : i ≢ set = λ s. some_none (f.parent i) d e' (p.children.dead_parent i hi (ap f.live s ∙ q.was_free)) in
@@ -201,7 +221,8 @@ gathered n f g cs set p t q r er x y hx hy xr a ar ya =
           | inl e ↦
               let kc' : has cs c ≡ true = sym (ap (λ z. has (g.children z) c) e ∙ ap (λ z. has z c) q.children_set) ∙ kc in
               let kb' : has cs b ≡ true = sym (ap (λ z. has (g.children z) b) e ∙ ap (λ z. has z b) q.children_set) ∙ kb in
-              sym (top_is c m kc' hm (sym (q.holds_others c m (t.below c kc') (is_child c kc') hm) ∙ cm)) ∙ top_is b m kb' hm (sym (q.holds_others b m (t.below b kb') (is_child b kb') hm) ∙ bm)
+              sym (top_is c m kc' hm (sym (q.holds_others c m (t.below c kc') (is_child c kc') hm) ∙ cm)) ∙
+              top_is b m kb' hm (sym (q.holds_others b m (t.below b kb') (is_child b kb') hm) ∙ bm)
           | inr e ↦
               let kc' : has (f.children d) c ≡ true = sym (ap (λ z. has z c) (q.children_others d e)) ∙ kc in
               let kb' : has (f.children d) b ≡ true = sym (ap (λ z. has z b) (q.children_others d e)) ∙ kb in
@@ -241,7 +262,9 @@ gathered n f g cs set p t q r er x y hx hy xr a ar ya =
                     let km : has cs (f.top m) ≡ true = sym (q.holds_set m hm) ∙ ap (λ z. g.holds z m) (sym e') ∙ im in
                     let tt' : f.top m ≡ f.top b = p.tops.top_shared d m b hd hm hb dm' db' in
                     true_false (g.holds i b) (ap (λ z. g.holds z b) e' ∙ q.holds_set b hb ∙ ap (has cs) (sym tt') ∙ km) ib
-                | inr e' ↦ q.holds_others c v w.0 nc hv ∙ p.children.between d c i m b v hd hi hm hb hv kc cm' (sym (q.holds_others i m hi e' hm) ∙ im) db' (sym (q.holds_others i b hi e' hb) ∙ ib) (sym (q.holds_others i v hi e' hv) ∙ iv)
+                | inr e' ↦ q.holds_others c v w.0 nc hv ∙
+                    p.children.between d c i m b v hd hi hm hb hv kc cm' (sym (q.holds_others i m hi e' hm) ∙ im) db'
+                    (sym (q.holds_others i b hi e' hb) ∙ ib) (sym (q.holds_others i v hi e' hv) ∙ iv)
               ]
         ];
         childless = λ i h. ap length (q.children_others i (single_out i h)) ∙ p.children.childless i h;

@@ -1,5 +1,6 @@
 -- The lists of a family after each of its calls.
-use Rattle.std.proofs.Common.{arith, ◌≡◌, ◌≢◌, ℕ, ◌*◌, ◌<◌, ◌≤◌, ◌^◌, refl, sym, ap, ◌∙◌, subst, true, false, inl, inr, eqb, ltb, [], length, get_or, set, length-set, get_or-set_same, get_or-set_other, None}
+use Rattle.std.proofs.Common.{arith, ◌≡◌, ◌≢◌, ℕ, ◌*◌, ◌<◌, ◌≤◌, ◌^◌, refl, sym, ap, ◌∙◌, subst, true, false, inl, inr}
+use Rattle.std.proofs.Common.{eqb, ltb, [], length, get_or, set, length-set, get_or-set_same, get_or-set_other, None}
 use Rattle.std.specs.Prelude.{replicate}
 use Rattle.std.proofs.lemmas.Bool.{cases_eq, cases_lt, ne_eqb, lt-ltb}
 use Rattle.std.proofs.lemmas.List.{get_or_past, length-replicate, get_or-replicate}
@@ -151,7 +152,8 @@ child_below s i p inner = elim (cases_lt i (length s.parents)) [
   | inr past ↦ absurd (inner (get_or_past s.parents i None past))
 ]
 
-pub next_is : (s : Stored) (child next : ℕ) (pair : ℕ × ℕ) → IsKept s → get_or s.parents child None ≢ None → next ≡ get_or s.ring child 0 → pair ≡ get_or s.joins child (0, 0) → IsNext (sets_of s) child next pair
+pub next_is : (s : Stored) (child next : ℕ) (pair : ℕ × ℕ) → IsKept s → get_or s.parents child None ≢ None →
+    next ≡ get_or s.ring child 0 → pair ≡ get_or s.joins child (0, 0) → IsNext (sets_of s) child next pair
 next_is s child next pair p inner en ep = record {
   next = λ d i e hi k. en ∙ ap (λ z. get_or s.ring z 0) (sym k) ∙ p.family.around d i hi;
   join = ep;

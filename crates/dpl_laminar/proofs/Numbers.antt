@@ -1,5 +1,6 @@
 -- Numbers in a list, truth values and options.
-use Rattle.std.proofs.Common.{arith, ◌≡◌, ◌≢◌, ℕ, zero, suc, ◌+◌, ◌<◌, ◌⊎◌, refl, sym, ap, ◌∙◌, Bool, true, false, inl, inr, eqb, eq-eqb, ◌||◌, List, [], ◌∷◌, take, length, get_or, Option, Some, None}
+use Rattle.std.proofs.Common.{arith, ◌≡◌, ◌≢◌, ℕ, zero, suc, ◌+◌, ◌<◌, ◌⊎◌, refl, sym, ap, ◌∙◌, Bool, true, false, inl}
+use Rattle.std.proofs.Common.{inr, eqb, eq-eqb, ◌||◌, List, [], ◌∷◌, take, length, get_or, Option, Some, None}
 use Rattle.std.proofs.lemmas.Bool.{cases_eq, cases_Bool, ne_eqb, eqb-true}
 use Rattle.std.proofs.lemmas.List.Folds.{list_any_more}
 use Rattle.dpl_laminar.specs.Families.{has}

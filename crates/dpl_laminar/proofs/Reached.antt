@@ -19,7 +19,12 @@ size_less zero a b inside x h bx ax = absurd (omega arith)
 size_less (suc n) a b inside x h bx ax =
     let bit : Bool → ℕ = λ z. cond z 1 0 in
     elim (cases_eq x n) [
-      | inl e ↦ omega (arith, ap bit (ap b (sym e) ∙ bx), ap bit (ap a (sym e) ∙ ax), sum_most n (λ m. bit (a m)) (λ m. bit (b m)) (λ m l. bit_most (a m) (b m) (inside m (omega arith))))
+      | inl e ↦ omega (
+        arith,
+        ap bit (ap b (sym e) ∙ bx),
+        ap bit (ap a (sym e) ∙ ax),
+        sum_most n (λ m. bit (a m)) (λ m. bit (b m)) (λ m l. bit_most (a m) (b m) (inside m (omega arith))),
+      )
       | inr ne ↦ omega (arith, bit_most (a n) (b n) (inside n (omega arith)), size_less n a b (λ m l. inside m (omega arith)) x (omega arith) bx ax)
     ]
 
@@ -31,7 +36,8 @@ size_most (suc n) p = omega (arith, size_most n p, bit (p n))
     bit true = omega arith
     bit false = omega arith
 
-reached : (f : Sets) → IsFamily f → (bound i m : ℕ) → size_of f.size (f.holds i) ≤ bound → i < 2 * f.size → m < f.size → f.live i ≡ true → f.holds i m ≡ true → (k : ℕ) × (k < size_of f.size (f.holds i)) × (climb f m k ≡ Some i)
+reached : (f : Sets) → IsFamily f → (bound i m : ℕ) → size_of f.size (f.holds i) ≤ bound → i < 2 * f.size → m < f.size →
+    f.live i ≡ true → f.holds i m ≡ true → (k : ℕ) × (k < size_of f.size (f.holds i)) × (climb f m k ≡ Some i)
 reached f p zero i m small hi hm live h = absurd (omega (arith, small, p.laminar.sets.odd i hi live))
 reached f p (suc bound) i m small hi hm live h = elim (cases_lt i f.size) [
   | inl single ↦ (0, omega (arith, p.laminar.sets.odd i hi live), ap Some (sym (eqb-true i m (sym (p.laminar.sets.single i m single hm) ∙ h))))
@@ -39,7 +45,9 @@ reached f p (suc bound) i m small hi hm live h = elim (cases_lt i f.size) [
       let w = p.laminar.children.covered i m large hi hm h in
       let v = p.laminar.children.child i w.0 hi w.1 in
       let x = child_misses f.size f p.laminar i w.0 large hi live w.1 in
-      let less : size_of f.size (f.holds w.0) < size_of f.size (f.holds i) = size_less f.size (f.holds w.0) (f.holds i) (λ a l k. p.laminar.children.child_holds i w.0 a hi l w.1 k) x.0 x.1 x.2 x.3 in
+      let less : size_of f.size (f.holds w.0) < size_of f.size (f.holds i) =
+      size_less f.size (f.holds w.0) (f.holds i) (λ a l k. p.laminar.children.child_holds i w.0 a hi l w.1 k) x.0
+      x.1 x.2 x.3 in
       let r = reached f p bound w.0 m (omega arith) v.0 hm v.1 w.2 in
       (suc r.0, omega (arith, r.1), ap (option_and_then f.parent) r.2 ∙ v.2)
 ]

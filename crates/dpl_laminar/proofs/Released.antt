@@ -1,5 +1,6 @@
 -- A family after the children of a top became tops in its place.
-use Rattle.std.proofs.Common.{arith, ◌≡◌, ◌≢◌, ℕ, zero, suc, ◌+◌, ◌-◌, ◌*◌, ◌%◌, ◌<◌, ◌≤◌, sym, ap, ◌∙◌, Bool, true, false, cond, inl, inr, length, get_or, Some, None}
+use Rattle.std.proofs.Common.{arith, ◌≡◌, ◌≢◌, ℕ, zero, suc, ◌+◌, ◌-◌, ◌*◌, ◌%◌, ◌<◌, ◌≤◌, sym, ap, ◌∙◌, Bool, true}
+use Rattle.std.proofs.Common.{false, cond, inl, inr, length, get_or, Some, None}
 use Rattle.std.proofs.lemmas.Bool.{cases_eq, cases_Bool}
 use Rattle.dpl_laminar.specs.Loads.{size_of}
 use Rattle.dpl_laminar.specs.Families.{Sets, IsLaminar, has}
@@ -19,7 +20,8 @@ some_member (suc n) set odd = elim (cases_Bool (set n)) [
 ]
 
 -- a set has members that a child of it does not hold
-pub child_misses : (n : ℕ) (f : Sets) → IsLaminar n f → (d c : ℕ) → n ≤ d → d < 2 * n → f.live d ≡ true → has (f.children d) c ≡ true → (x : ℕ) × (x < n) × (f.holds d x ≡ true) × (f.holds c x ≡ false)
+pub child_misses : (n : ℕ) (f : Sets) → IsLaminar n f → (d c : ℕ) → n ≤ d → d < 2 * n → f.live d ≡ true →
+    has (f.children d) c ≡ true → (x : ℕ) × (x < n) × (f.holds d x ≡ true) × (f.holds c x ≡ false)
 child_misses n f p d c nd hd live k =
     let i = d - n in
     let e : n + i ≡ d = omega arith in
@@ -34,17 +36,20 @@ child_misses n f p d c nd hd live k =
     ] in
     let r : (x : ℕ) × (x < n) × (f.holds d x ≡ true) × (f.holds c x ≡ false) = (m.0, m.1, p.children.child_holds d b m.0 hd m.1 kb m.2, miss) in r) in
     elim (cases_eq (get_or (f.children d) 0 0) c) [
-      | inl same ↦ from (get_or (f.children d) 1 0) (has_at (f.children d) 1 (omega arith)) (λ other. p.children.distinct d 0 1 hd (omega arith) (omega arith) (same ∙ sym other))
+      | inl same ↦ from (get_or (f.children d) 1 0) (has_at (f.children d) 1 (omega arith))
+          (λ other. p.children.distinct d 0 1 hd (omega arith) (omega arith) (same ∙ sym other))
       | inr ne ↦ from (get_or (f.children d) 0 0) (has_at (f.children d) 0 (omega arith)) ne
     ]
 
-pub released : (n : ℕ) (f g : Sets) (set : ℕ) → IsLaminar n f → n ≤ set → set < 2 * n → f.live set ≡ true → f.parent set ≡ None → Releases n f set g → IsLaminar n g
+pub released : (n : ℕ) (f g : Sets) (set : ℕ) → IsLaminar n f → n ≤ set → set < 2 * n → f.live set ≡ true →
+    f.parent set ≡ None → Releases n f set g → IsLaminar n g
 released n f g set p ns hs live top q =
     let kids = f.children set in
     let single_out = λ (i : ℕ) (h : i < n) (e : i ≡ set). let z : ⊥ = absurd (omega arith) in z in
     let alive = λ (i : ℕ) (l : g.live i ≡ true) (e : i ≡ set). true_false {P = ⊥} (g.live i) l (ap g.live e ∙ q.live_set) in
     let old = λ (i : ℕ) (l : g.live i ≡ true). sym (q.live_others i (alive i l)) ∙ l in
-    let held = λ (i m : ℕ) (hm : m < n) (k : g.holds i m ≡ true) (e : i ≡ set). true_false {P = ⊥} (g.holds i m) k (ap (λ z. g.holds z m) e ∙ q.holds_set m hm) in
+    let held = λ (i m : ℕ) (hm : m < n) (k : g.holds i m ≡ true) (e : i ≡ set). true_false {P = ⊥} (g.holds i m) k
+    (ap (λ z. g.holds z m) e ∙ q.holds_set m hm) in
     let was = λ (i m : ℕ) (hi : i < 2 * n) (hm : m < n) (k : g.holds i m ≡ true). sym (q.holds_others i m hi (held i m hm k) hm) ∙ k in
     let not_top = λ (i d : ℕ) (k : f.parent i ≡ Some d) (e : i ≡ set). some_none {P = ⊥} (f.parent i) d k (ap f.parent e ∙ top) in
     let no_kid = (elim (cases_Bool (has kids set)) as (λ _. has kids set ≡ false) [
@@ -57,7 +62,8 @@ released n f g set p ns hs live top q =
     let w = p.children.covered set m ns hs hm (ap (λ z. f.holds z m) (sym e) ∙ p.tops.top_holds m hm) in
     let v = p.children.child set w.0 hs w.1 in
     let nw = not_top w.0 set v.2 in
-    let r : (c : ℕ) × (c < 2 * n) × (has kids c ≡ true) × (f.holds c m ≡ true) × (g.top m ≡ c) × (g.live c ≡ true) × (g.holds c m ≡ true) × (g.parent c ≡ None) =
+    let r : (c : ℕ) × (c < 2 * n) × (has kids c ≡ true) × (f.holds c m ≡ true) × (g.top m ≡ c) × (g.live c ≡ true) ×
+    (g.holds c m ≡ true) × (g.parent c ≡ None) =
     (w.0, v.0, w.1, w.2, q.top_inside w.0 m hm w.1 w.2, q.live_others w.0 nw ∙ v.1, q.holds_others w.0 m v.0 nw hm ∙ w.2, q.parent_child w.0 w.1) in r) in
     record {
       sets = record {
@@ -69,11 +75,15 @@ released n f g set p ns hs live top q =
         ];
         odd = λ i h l. ap (λ z. z % 2) (sum_same n _ _ (λ m k. ap (λ z. cond z 1 0) (q.holds_others i m h (alive i l) k))) ∙ p.sets.odd i h (old i l);
         nested = λ i j m a b hi hj hm ha hb im jm ia ja jb.
-            q.holds_others i b hi (held i m hm im) hb ∙ p.sets.nested i j m a b hi hj hm ha hb (was i m hi hm im) (was j m hj hm jm) (was i a hi ha ia) (sym (q.holds_others j a hj (held j m hm jm) ha) ∙ ja) (was j b hj hb jb);
+            q.holds_others i b hi (held i m hm im) hb ∙
+            p.sets.nested i j m a b hi hj hm ha hb (was i m hi hm im) (was j m hj hm jm) (was i a hi ha ia)
+            (sym (q.holds_others j a hj (held j m hm jm) ha) ∙ ja) (was j b hj hb jb);
         named = λ i h l.
             let w = p.sets.named i h (old (n + i) l) in
-            let an : w.1.0 < n = omega (arith, w.1.1) in
-            (q.holds_others (n + i) i (omega arith) (alive (n + i) l) h ∙ w.0, (w.1.0, w.1.1, q.holds_others (n + i) w.1.0 (omega arith) (alive (n + i) l) an ∙ w.1.2));
+            let an : w.1.0 < n = omega (arith, w.1.1) in (
+              q.holds_others (n + i) i (omega arith) (alive (n + i) l) h ∙ w.0,
+              (w.1.0, w.1.1, q.holds_others (n + i) w.1.0 (omega arith) (alive (n + i) l) an ∙ w.1.2),
+            );
       };
       tops = record {
         top_range = λ m h. elim (cases_eq (f.top m) set) [
@@ -181,7 +191,9 @@ released n f g set p ns hs live top q =
             let e = held d b hb db in
             let kc : has (f.children d) c ≡ true = sym (ap (λ z. has z c) (q.children_others d e)) ∙ k in
             let w = p.children.child d c hd kc in
-            q.holds_others c v w.0 (not_top c d w.2) hv ∙ p.children.between d c i m b v hd hi hm hb hv kc (was c m w.0 hm cm) (was i m hi hm im) (was d b hd hb db) (sym (q.holds_others i b hi (held i m hm im) hb) ∙ ib) (was i v hi hv iv);
+            q.holds_others c v w.0 (not_top c d w.2) hv ∙
+            p.children.between d c i m b v hd hi hm hb hv kc (was c m w.0 hm cm) (was i m hi hm im)
+            (was d b hd hb db) (sym (q.holds_others i b hi (held i m hm im) hb) ∙ ib) (was i v hi hv iv);
         childless = λ i h. ap length (q.children_others i (single_out i h)) ∙ p.children.childless i h;
         children_odd = λ i h l.
             let ch : length (g.children (n + i)) ≡ length (f.children (n + i)) = ap length (q.children_others (n + i) (alive (n + i) l)) in

@@ -29,7 +29,8 @@ pub sum_at : (k a : ℕ) (w : ℕ → ℕ) → a < k → sum_below k (λ i. cond
 sum_at zero a w h = absurd (omega arith)
 sum_at (suc k) a w h = elim (cases_eq a k) [
   | inl e ↦
-      let rest : sum_below k (λ i. cond (eqb a i) (w i) 0) ≡ 0 = sum_same k _ (λ i. 0) (λ i l. cond-false (eqb a i) (w i) 0 (ne_eqb a i (λ z. omega arith))) ∙ sum_zero k in
+      let rest : sum_below k (λ i. cond (eqb a i) (w i) 0) ≡ 0 =
+      sum_same k _ (λ i. 0) (λ i l. cond-false (eqb a i) (w i) 0 (ne_eqb a i (λ z. omega arith))) ∙ sum_zero k in
       omega (arith, rest, cond-true (eqb a k) (w k) 0 (eq-eqb a k e), ap w e)
   | inr ne ↦ omega (arith, sum_at k a w (omega arith), cond-false (eqb a k) (w k) 0 (ne_eqb a k ne))
 ]

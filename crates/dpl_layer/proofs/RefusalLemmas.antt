@@ -39,14 +39,17 @@ use Rattle.dpl_layer.proofs.TextLemmas.{with_layer, of_layer, layer_good, on_dra
 -- ---- limits on the cells
 
 -- a limit on the cells excludes a layer within the limits
-not_over : (o : PlainOptions) (cells kept : Cells) (f : Fragments) (n : Net) → IsLayer o cells kept f n → (kind count' : ℕ) → ¬ IsOverLimit o cells kept kind count'
+not_over : (o : PlainOptions) (cells kept : Cells) (f : Fragments) (n : Net) → IsLayer o cells kept f n →
+    (kind count' : ℕ) → ¬ IsOverLimit o cells kept kind count'
 not_over o cells kept f n l kind count' (inl (k, c, more)) =
     let a = l.layer.fragments in
     not_more cells a.tiles 100000 a.are_tiles (tiles_within (2 * o.space) (2 * o.overlap) cells kept f a l.few_fragments) more
 not_over o cells kept f n l kind count' (inr (inl (k, c, more))) =
     let a = l.layer.fragments in
     not_more kept a.keep 100000 a.are_kept l.few_kept more.many
-not_over o cells kept f n l kind count' (inr (inr (inl (k, c, more)))) = within_fragments (2 * o.space) (2 * o.overlap) cells kept f more.tiles more.keep 100000 l.layer.fragments l.few_fragments more.are_tiles more.are_kept more.many
+not_over o cells kept f n l kind count' (inr (inr (inl (k, c, more)))) =
+    within_fragments (2 * o.space) (2 * o.overlap) cells kept f more.tiles more.keep 100000 l.layer.fragments
+    l.few_fragments more.are_tiles more.are_kept more.many
 not_over o cells kept f n l kind count' (inr (inr (inr (k, c, more)))) =
     let e : more.fragments ≡ f = fragments_same_of (2 * o.space) (2 * o.overlap) cells kept more.fragments f more.are_fragments l.layer.fragments in
     no_more_edges f o.weights (2 * o.space) n 400000 l.layer.net l.few_edges (subst (λ z. HasMoreEdges z (2 * o.space) 400000) e more.many)
@@ -64,18 +67,26 @@ one_limit : (o : PlainOptions) (cells kept : Cells) (k c l d : ℕ) → IsOverLi
 one_limit o cells kept k c l d (inl (p, q, m)) (inl (r, s, n)) = rw (p, q, r, s) refl
 one_limit o cells kept k c l d (inl (p, q, m)) (inr (inl (r, s, n))) = rw (p, q, r, s) refl
 one_limit o cells kept k c l d (inl (p, q, m)) (inr (inr (inl (r, s, n)))) = absurd (not_more cells n.tiles 100000 n.are_tiles n.few_tiles m)
-one_limit o cells kept k c l d (inl (p, q, m)) (inr (inr (inr (r, s, n)))) = absurd (not_more cells n.are_fragments.tiles 100000 n.are_fragments.are_tiles (edges_within o cells kept n) m)
+one_limit o cells kept k c l d (inl (p, q, m)) (inr (inr (inr (r, s, n)))) =
+    absurd (not_more cells n.are_fragments.tiles 100000 n.are_fragments.are_tiles (edges_within o cells kept n) m)
 one_limit o cells kept k c l d (inr (inl (p, q, m))) (inl (r, s, n)) = rw (p, q, r, s) refl
 one_limit o cells kept k c l d (inr (inl (p, q, m))) (inr (inl (r, s, n))) = rw (p, q, r, s) refl
 one_limit o cells kept k c l d (inr (inl (p, q, m))) (inr (inr (inl (r, s, n)))) = absurd (not_more kept n.keep 100000 n.are_kept n.few_kept m.many)
-one_limit o cells kept k c l d (inr (inl (p, q, m))) (inr (inr (inr (r, s, n)))) = absurd (not_more kept n.are_fragments.keep 100000 n.are_fragments.are_kept n.few_kept m.many)
+one_limit o cells kept k c l d (inr (inl (p, q, m))) (inr (inr (inr (r, s, n)))) =
+    absurd (not_more kept n.are_fragments.keep 100000 n.are_fragments.are_kept n.few_kept m.many)
 one_limit o cells kept k c l d (inr (inr (inl (p, q, m)))) (inl (r, s, n)) = absurd (not_more cells m.tiles 100000 m.are_tiles m.few_tiles n)
 one_limit o cells kept k c l d (inr (inr (inl (p, q, m)))) (inr (inl (r, s, n))) = absurd (not_more kept m.keep 100000 m.are_kept m.few_kept n.many)
 one_limit o cells kept k c l d (inr (inr (inl (p, q, m)))) (inr (inr (inl (r, s, n)))) = rw (p, q, r, s) refl
-one_limit o cells kept k c l d (inr (inr (inl (p, q, m)))) (inr (inr (inr (r, s, n)))) = absurd (within_fragments (2 * o.space) (2 * o.overlap) cells kept n.fragments m.tiles m.keep 100000 n.are_fragments n.few_fragments m.are_tiles m.are_kept m.many)
-one_limit o cells kept k c l d (inr (inr (inr (p, q, m)))) (inl (r, s, n)) = absurd (not_more cells m.are_fragments.tiles 100000 m.are_fragments.are_tiles (edges_within o cells kept m) n)
-one_limit o cells kept k c l d (inr (inr (inr (p, q, m)))) (inr (inl (r, s, n))) = absurd (not_more kept m.are_fragments.keep 100000 m.are_fragments.are_kept m.few_kept n.many)
-one_limit o cells kept k c l d (inr (inr (inr (p, q, m)))) (inr (inr (inl (r, s, n)))) = absurd (within_fragments (2 * o.space) (2 * o.overlap) cells kept m.fragments n.tiles n.keep 100000 m.are_fragments m.few_fragments n.are_tiles n.are_kept n.many)
+one_limit o cells kept k c l d (inr (inr (inl (p, q, m)))) (inr (inr (inr (r, s, n)))) =
+    absurd (within_fragments (2 * o.space) (2 * o.overlap) cells kept n.fragments m.tiles m.keep 100000 n.are_fragments
+    n.few_fragments m.are_tiles m.are_kept m.many)
+one_limit o cells kept k c l d (inr (inr (inr (p, q, m)))) (inl (r, s, n)) =
+    absurd (not_more cells m.are_fragments.tiles 100000 m.are_fragments.are_tiles (edges_within o cells kept m) n)
+one_limit o cells kept k c l d (inr (inr (inr (p, q, m)))) (inr (inl (r, s, n))) =
+    absurd (not_more kept m.are_fragments.keep 100000 m.are_fragments.are_kept m.few_kept n.many)
+one_limit o cells kept k c l d (inr (inr (inr (p, q, m)))) (inr (inr (inl (r, s, n)))) =
+    absurd (within_fragments (2 * o.space) (2 * o.overlap) cells kept m.fragments n.tiles n.keep 100000 m.are_fragments
+    m.few_fragments n.are_tiles n.are_kept n.many)
 one_limit o cells kept k c l d (inr (inr (inr (p, q, m)))) (inr (inr (inr (r, s, n)))) = rw (p, q, r, s) refl
 
 pub one_cells_refusal : (o : PlainOptions) (cells kept : Cells) (e f : LayerError) → RefusesCells o cells kept e → RefusesCells o cells kept f → e ≡ f
@@ -88,7 +99,8 @@ one_cells_refusal o cells kept (Limit k c) (Limit l d) a b = one_limit o cells k
 -- ---- what was read
 
 same_fault : (read : Reading) (k l : ℕ) (w v : What) → read ≡ Faulty (fault k w) → read ≡ Faulty (fault l v) → Layout k w ≡ Layout l v
-same_fault read k l w v e f = let g : fault k w ≡ fault l v = cc in let h : k ≡ l = ap (λ x. x.command) g in let i : w ≡ v = ap (λ x. x.what) g in rw (h, i) refl
+same_fault read k l w v e f = let g : fault k w ≡ fault l v = cc in let h : k ≡ l = ap (λ x. x.command) g in
+    let i : w ≡ v = ap (λ x. x.what) g in rw (h, i) refl
 
 fault_first : (read : Reading) (j : ℕ) (w : What) (k c : ℕ) → read ≡ Faulty (fault j w) → RefusesReading read (Limit k c) → ⊥
 fault_first read j w k c e h = subst (λ z. RefusesReading z (Limit k c)) e h
@@ -129,11 +141,13 @@ good_drawing_free o text d is e = drawing_free o text (λ cells kept. Unit {0}) 
 
 -- ---- both
 
-pub drawing_text_refuses : (o : PlainOptions) (text : List ℕ) (e : LayerError) → (e ≡ NoMemory) ⊎ RefusesDrawing o text e → (e ≡ NoMemory) ⊎ RefusesLayer o text e
+pub drawing_text_refuses : (o : PlainOptions) (text : List ℕ) (e : LayerError) → (e ≡ NoMemory) ⊎
+    RefusesDrawing o text e → (e ≡ NoMemory) ⊎ RefusesLayer o text e
 drawing_text_refuses o text e (inl m) = inl m
 drawing_text_refuses o text e (inr r) = inr (inl r)
 
-pub cells_text_refuse : (o : PlainOptions) (text : List ℕ) (d : Drawing) (e : LayerError) → IsDrawingOf o text d → (e ≡ NoMemory) ⊎ RefusesCells o (cells_of d.layer) (cells_of d.keep) e → (e ≡ NoMemory) ⊎ RefusesLayer o text e
+pub cells_text_refuse : (o : PlainOptions) (text : List ℕ) (d : Drawing) (e : LayerError) → IsDrawingOf o text d →
+    (e ≡ NoMemory) ⊎ RefusesCells o (cells_of d.layer) (cells_of d.keep) e → (e ≡ NoMemory) ⊎ RefusesLayer o text e
 cells_text_refuse o text d e is (inl m) = inl m
 cells_text_refuse o text d e is (inr r) = inr (inr (on_drawing o text d (λ cells kept. RefusesCells o cells kept e) is r))
 
@@ -141,12 +155,14 @@ pub one_text_refusal : (o : PlainOptions) (text : List ℕ) (e f : LayerError) �
 one_text_refusal o text e f (inl a) (inl b) = one_drawing_refusal o text e f a b
 one_text_refusal o text e f (inl a) (inr b) = absurd (drawing_free o text (λ cells kept. RefusesCells o cells kept f) e b a)
 one_text_refusal o text e f (inr a) (inl b) = absurd (drawing_free o text (λ cells kept. RefusesCells o cells kept e) f a b)
-one_text_refusal o text e f (inr a) (inr b) = with_layer o text (λ cells kept. RefusesCells o cells kept e) (λ cells kept. RefusesCells o cells kept f) (λ cells kept p q. one_cells_refusal o cells kept e f p q) a b
+one_text_refusal o text e f (inr a) (inr b) = with_layer o text (λ cells kept. RefusesCells o cells kept e)
+    (λ cells kept. RefusesCells o cells kept f) (λ cells kept p q. one_cells_refusal o cells kept e f p q) a b
 
 -- no refusal applies to a text with a layer within the limits
 pub none_comes : (o : PlainOptions) (text : List ℕ) (f : Fragments) (n : Net) → IsLayerOfText o text f n → (e : LayerError) → ¬ RefusesLayer o text e
 none_comes o text f n l e (inl r) = drawing_free o text (λ cells kept. IsLayer o cells kept f n) e l r
-none_comes o text f n l e (inr r) = with_layer o text (λ cells kept. IsLayer o cells kept f n) (λ cells kept. RefusesCells o cells kept e) (λ cells kept p q. cells_free o cells kept f n p e q) l r
+none_comes o text f n l e (inr r) = with_layer o text (λ cells kept. IsLayer o cells kept f n)
+    (λ cells kept. RefusesCells o cells kept e) (λ cells kept p q. cells_free o cells kept f n p e q) l r
 
 -- want of memory is no refusal of a text
 pub never_memory : (o : PlainOptions) (text : List ℕ) → ¬ RefusesLayer o text NoMemory
@@ -176,7 +192,8 @@ layer_kind o text k c (inr r) = of_layer o text (λ cells kept. RefusesCells o c
 -- ---- when each answer comes, where at most one refusal applies
 
 -- the refusal that applies is the one that comes
-pub one_comes : {T : Type 0} (R : LayerError → Type 0) (result : Result T LayerError) (f : LayerError) → ((e g : LayerError) → R e → R g → e ≡ g) → result ≡ Err f → (f ≡ NoMemory) ⊎ R f
+pub one_comes : {T : Type 0} (R : LayerError → Type 0) (result : Result T LayerError) (f : LayerError) →
+    ((e g : LayerError) → R e → R g → e ≡ g) → result ≡ Err f → (f ≡ NoMemory) ⊎ R f
     → (e : LayerError) → R e → (result ≡ Err e) ⊎ (result ≡ Err NoMemory)
 one_comes R result f one is (inl m) e r = inr (is ∙ ap Err m)
 one_comes R result f one is (inr s) e r = inl (is ∙ ap Err (one f e s r))
@@ -189,10 +206,13 @@ only_comes {T} R result f is h e comes =
     let d : f ≡ e = cc in
     subst (λ z. (z ≡ NoMemory) ⊎ R z) d h
 
-pub error_refuses : {T : Type 0} (R : LayerError → Type 0) (result : Result T LayerError) → IfErr result (λ e. (e ≡ NoMemory) ⊎ R e) → (e : LayerError) → result ≡ Err e → (e ≡ NoMemory) ⊎ R e
+pub error_refuses : {T : Type 0} (R : LayerError → Type 0) (result : Result T LayerError) →
+    IfErr result (λ e. (e ≡ NoMemory) ⊎ R e) → (e : LayerError) → result ≡ Err e → (e ≡ NoMemory) ⊎ R e
 error_refuses R result b e h = rw h at b
 
-pub refusal_comes : {T : Type 0} (L : T → Type 0) (R : LayerError → Type 0) (result : Result T LayerError) → ((e g : LayerError) → R e → R g → e ≡ g) → ((t : T) → L t → (e : LayerError) → ¬ R e) → IfOk result L → IfErr result (λ e. (e ≡ NoMemory) ⊎ R e)
+pub refusal_comes : {T : Type 0} (L : T → Type 0) (R : LayerError → Type 0) (result : Result T LayerError) →
+    ((e g : LayerError) → R e → R g → e ≡ g) → ((t : T) → L t → (e : LayerError) → ¬ R e) → IfOk result L →
+    IfErr result (λ e. (e ≡ NoMemory) ⊎ R e)
     → (e : LayerError) → R e → (result ≡ Err e) ⊎ (result ≡ Err NoMemory)
 refusal_comes L R (Ok t) one free a b e r = absurd (free t a e r)
 refusal_comes L R (Err f) one free a (inl n) e r = inr (ap Err n)
@@ -210,11 +230,37 @@ reading_refuses read (cif.Limit Calls n) is = inr (subst (λ z. RefusesReading z
 reading_refuses read (cif.Limit Coordinate n) is = inr (subst (λ z. RefusesReading z (Limit 4 n)) (sym is) (refl, refl))
 reading_refuses read cif.NoMemory is = inl refl
 
-pub kept_refuses : (o : PlainOptions) (cells kept : Cells) (v : List Rect) (e : TileError) → AreTiles cells (map corners_of v) → length v ≤ 100000 → (e ≡ tile.TooMany → HasMoreTiles kept 100000) → (of_tiles e ≡ NoMemory) ⊎ RefusesCells o cells kept (of_tiles e)
-kept_refuses o cells kept v tile.TooMany t few many = inr (inr (inl (refl, refl, record { tiles = map corners_of v; are_tiles = t; few_tiles = rw (length-map v corners_of) few; many = many refl })))
+pub kept_refuses : (o : PlainOptions) (cells kept : Cells) (v : List Rect) (e : TileError) →
+    AreTiles cells (map corners_of v) → length v ≤ 100000 → (e ≡ tile.TooMany → HasMoreTiles kept 100000) →
+    (of_tiles e ≡ NoMemory) ⊎ RefusesCells o cells kept (of_tiles e)
+kept_refuses o cells kept v tile.TooMany t few many = inr
+    (inr (inl (
+      refl,
+      refl,
+      record {
+        tiles = map corners_of v;
+        are_tiles = t;
+        few_tiles =
+            rw (length-map v corners_of) few;
+        many = many refl;
+      },
+    )))
 kept_refuses o cells kept v tile.NoMemory t few many = inl refl
 
-pub net_refuses : (o : PlainOptions) (cells kept : Cells) (f : Fragments) (e : NetError) (a : AreFragmentsOf (2 * o.space) (2 * o.overlap) cells kept f) → length a.keep ≤ 100000 → length f.rects ≤ 100000 → (e ≡ net.TooMany → HasMoreEdges f (2 * o.space) 400000)
+pub net_refuses : (o : PlainOptions) (cells kept : Cells) (f : Fragments) (e : NetError)
+    (a : AreFragmentsOf (2 * o.space) (2 * o.overlap) cells kept f) → length a.keep ≤ 100000 → length f.rects ≤ 100000 →
+    (e ≡ net.TooMany → HasMoreEdges f (2 * o.space) 400000)
     → (of_net e ≡ NoMemory) ⊎ RefusesCells o cells kept (of_net e)
-net_refuses o cells kept f net.TooMany a few_kept few many = inr (inr (inr (inr (refl, refl, record { fragments = f; are_fragments = a; few_kept = few_kept; few_fragments = few; many = many refl }))))
+net_refuses o cells kept f net.TooMany a few_kept few many =
+    inr (inr (inr (inr (
+      refl,
+      refl,
+      record {
+        fragments = f;
+        are_fragments = a;
+        few_kept = few_kept;
+        few_fragments = few;
+        many = many refl;
+      },
+    ))))
 net_refuses o cells kept f net.NoMemory a few_kept few many = inl refl

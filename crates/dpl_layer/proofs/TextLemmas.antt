@@ -14,7 +14,8 @@ use Rattle.dpl_layer.specs.Layers.{IsLayer, IsSomeLayer, IsLayerOfText}
 -- ---- two readings
 
 -- two properties of the cells of two readings are properties of the same cells
-with_both : {R : Type 0} (chosen keep : Reading) (P Q : Cells → Cells → Type 0) → ((cells kept : Cells) → P cells kept → Q cells kept → R) → OnBoth chosen keep P → OnBoth chosen keep Q → R
+with_both : {R : Type 0} (chosen keep : Reading) (P Q : Cells → Cells → Type 0) →
+    ((cells kept : Cells) → P cells kept → Q cells kept → R) → OnBoth chosen keep P → OnBoth chosen keep Q → R
 with_both (Good a) (Good b) P Q step h k = step (is_cell a) (is_cell b) h k
 with_both (Good a) (Faulty f) P Q step h k = absurd h
 with_both (Good a) (TooMany n) P Q step h k = absurd h
@@ -25,7 +26,8 @@ with_both (TooMany n) keep P Q step h k = absurd h
 with_both (TooManyCalls n) keep P Q step h k = absurd h
 with_both (TooFar n) keep P Q step h k = absurd h
 
-on_both : (chosen keep : Reading) (P Q : Cells → Cells → Type 0) → ((cells kept : Cells) → P cells kept → Q cells kept) → OnBoth chosen keep P → OnBoth chosen keep Q
+on_both : (chosen keep : Reading) (P Q : Cells → Cells → Type 0) →
+    ((cells kept : Cells) → P cells kept → Q cells kept) → OnBoth chosen keep P → OnBoth chosen keep Q
 on_both (Good a) (Good b) P Q step h = step (is_cell a) (is_cell b) h
 on_both (Good a) (Faulty f) P Q step h = absurd h
 on_both (Good a) (TooMany n) P Q step h = absurd h
@@ -51,21 +53,25 @@ both_good (TooFar n) keep P h = absurd h
 -- ---- a text
 
 -- two properties of the cells of a text are properties of the same cells
-pub with_layer : {R : Type 0} (o : PlainOptions) (text : List ℕ) (P Q : Cells → Cells → Type 0) → ((cells kept : Cells) → P cells kept → Q cells kept → R) → OnLayer o text P → OnLayer o text Q → R
+pub with_layer : {R : Type 0} (o : PlainOptions) (text : List ℕ) (P Q : Cells → Cells → Type 0) →
+    ((cells kept : Cells) → P cells kept → Q cells kept → R) → OnLayer o text P → OnLayer o text Q → R
 with_layer o text P Q step h k = with_both (reading o.layer text) (keep_reading o.keep text) P Q step h k
 
 -- what follows from the property of the cells
 pub of_layer : {R : Type 0} (o : PlainOptions) (text : List ℕ) (P : Cells → Cells → Type 0) → ((cells kept : Cells) → P cells kept → R) → OnLayer o text P → R
 of_layer o text P step h = with_layer o text P P (λ cells kept p q. step cells kept p) h h
 
-pub on_layer : (o : PlainOptions) (text : List ℕ) (P Q : Cells → Cells → Type 0) → ((cells kept : Cells) → P cells kept → Q cells kept) → OnLayer o text P → OnLayer o text Q
+pub on_layer : (o : PlainOptions) (text : List ℕ) (P Q : Cells → Cells → Type 0) →
+    ((cells kept : Cells) → P cells kept → Q cells kept) → OnLayer o text P → OnLayer o text Q
 on_layer o text P Q step h = on_both (reading o.layer text) (keep_reading o.keep text) P Q step h
 
-pub layer_good : (o : PlainOptions) (text : List ℕ) (P : Cells → Cells → Type 0) → OnLayer o text P → (parts : List Outline) × (joined_reading o text ≡ Good parts)
+pub layer_good : (o : PlainOptions) (text : List ℕ) (P : Cells → Cells → Type 0) → OnLayer o text P →
+    (parts : List Outline) × (joined_reading o text ≡ Good parts)
 layer_good o text P h = both_good (reading o.layer text) (keep_reading o.keep text) P h
 
 -- the cells of a text are those of its drawing
-pub on_drawing : (o : PlainOptions) (text : List ℕ) (d : Drawing) (P : Cells → Cells → Type 0) → IsDrawingOf o text d → P (cells_of d.layer) (cells_of d.keep) → OnLayer o text P
+pub on_drawing : (o : PlainOptions) (text : List ℕ) (d : Drawing) (P : Cells → Cells → Type 0) → IsDrawingOf o text d →
+    P (cells_of d.layer) (cells_of d.keep) → OnLayer o text P
 on_drawing o text d P is p = rw (is.layer, is.keep) p
 
 -- ---- the layer of a text

@@ -1,5 +1,7 @@
 -- Facts about all, some and all pairs of the items of a list.
-use Rattle.std.proofs.Common.{arith, ◌≡◌, ℕ, zero, suc, ◌+◌, ◌-◌, ◌<◌, ◌≤◌, List, length, get_or, ◌∙◌, All, AllPairs, Any, Contains, refl, sym, ap, inl, inr, ◌⊎◌, ◌∷◌, [], ◌++◌, Bool, true, false, cond, filter, length-append, map}
+use Rattle.std.proofs.Common.{arith, ◌≡◌, ℕ, zero, suc, ◌+◌, ◌-◌, ◌<◌, ◌≤◌, List, length, get_or, ◌∙◌, All, AllPairs}
+use Rattle.std.proofs.Common.{Any, Contains, refl, sym, ap, inl, inr, ◌⊎◌, ◌∷◌, [], ◌++◌, Bool, true, false, cond}
+use Rattle.std.proofs.Common.{filter, length-append, map}
 use Rattle.std.specs.List.{remove}
 use Rattle.std.specs.List.Sorted.{IsPermutation}
 use Rattle.std.proofs.lemmas.Bool.{cases_lt}
@@ -55,7 +57,11 @@ all_pairs_append R xs ys a b c i j d h l =
       | inl g ↦ rw (get_or_append_left xs ys d i (omega arith), get_or_append_left xs ys d j g) (a i j d h g)
       | inr g ↦ elim (cases_lt i (length xs)) [
         | inl f ↦ rw (get_or_append_left xs ys d i f, get_or-append_right xs ys (length xs) j d refl g) (c i (j - length xs) d f (omega arith))
-        | inr f ↦ rw (get_or-append_right xs ys (length xs) i d refl f, get_or-append_right xs ys (length xs) j d refl g) (b (i - length xs) (j - length xs) d (omega arith) (omega arith))
+        | inr f ↦ rw (
+          get_or-append_right xs ys (length xs) i d refl f,
+          get_or-append_right xs ys (length xs) j d refl g,
+        )
+            (b (i - length xs) (j - length xs) d (omega arith) (omega arith))
       ]
     ]
 
@@ -100,7 +106,8 @@ no_more {X} (x ∷ xs) ys up among =
     let n : length (x ∷ remove ys k) ≡ length ys = length_permutation ys (x ∷ remove ys k) p in
     let h : length xs ≤ length (remove ys k) = no_more xs (remove ys k)
     (λ i j d h m. up (suc i) (suc j) d (omega arith) (omega arith))
-    (λ i d m. rest (remove ys k) (get_or xs i d) (λ f. up 0 (suc i) d (omega arith) (omega arith) (sym f)) (Contains-permutation ys (x ∷ remove ys k) (get_or xs i d) p (among (suc i) d (omega arith)))) in
+    (λ i d m. rest (remove ys k) (get_or xs i d) (λ f. up 0 (suc i) d (omega arith) (omega arith) (sym f))
+    (Contains-permutation ys (x ∷ remove ys k) (get_or xs i d) p (among (suc i) d (omega arith)))) in
     omega arith where
       rest : (zs : List X) (y : X) → ¬ (y ≡ x) → Contains (x ∷ zs) y → Contains zs y
       rest zs y n (zero, m, f) = absurd (n (sym f))

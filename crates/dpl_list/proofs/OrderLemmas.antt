@@ -29,7 +29,8 @@ ranked_low x y Greater m e = omega signed
 
 pub ascends_from_sorted : {X : Type 0} (key : X → ℤ) (xs : List X) → IsSortedByKey key int_cmp xs → Ascends key xs
 ascends_from_sorted {X} key xs s i j d h l =
-    ranked_low (key (get_or xs j d)) (key (get_or xs i d)) _ (int_ranks (key (get_or xs j d)) (key (get_or xs i d))) (sorted_far (λ x y. is_lt (int_cmp (key x) (key y))) (ranks_by int_cmp_total key) xs s i j d h l)
+    ranked_low (key (get_or xs j d)) (key (get_or xs i d)) _ (int_ranks (key (get_or xs j d)) (key (get_or xs i d)))
+    (sorted_far (λ x y. is_lt (int_cmp (key x) (key y))) (ranks_by int_cmp_total key) xs s i j d h l)
 
 pub ascends_tail : {X : Type 0} (key : X → ℤ) (x : X) (rest xs : List X) → xs ≡ x ∷ rest → Ascends key xs → Ascends key rest
 ascends_tail key x rest xs e a i j d h l = let a' : Ascends key (x ∷ rest) = rw e at a in a' (suc i) (suc j) d (omega arith) (omega arith)

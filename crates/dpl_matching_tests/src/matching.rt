@@ -1,8 +1,8 @@
 ghost use Rattle.std.specs.Prelude.{◌≡◌, ℕ, ◌*◌, ◌<◌, ◌≤◌, length};
 
 use crate::tables::is_table;
-use dpl_match::{Matched, Metric, solve};
 use dpl_laminar::Steps;
+use dpl_match::{Matched, Metric, solve};
 use std::alloc::{AllocError, Global};
 use std::marker::Brand;
 use std::process::Abort;

@@ -1,5 +1,6 @@
 -- Rectangles that share no cell.
-use Rattle.std.proofs.Common.{arith, ◌≡◌, ℕ, ◌+◌, ◌<◌, ◌≤◌, ◌<ℤ◌, ◌≤ℤ◌, List, length, get_or, AllPairs, inl, inr, map, refl, sym, Bool, true, false, not, ◌&&◌, IsTrue}
+use Rattle.std.proofs.Common.{arith, ◌≡◌, ℕ, ◌+◌, ◌<◌, ◌≤◌, ◌<ℤ◌, ◌≤ℤ◌, List, length, get_or, AllPairs, inl, inr, map}
+use Rattle.std.proofs.Common.{refl, sym, Bool, true, false, not, ◌&&◌, IsTrue}
 use Rattle.std.specs.Int.{int_max, int_min}
 use Rattle.std.proofs.lemmas.Bool.{cases_lt}
 use Rattle.std.proofs.lemmas.List.{get_or_default, get_or-map, length-map}
@@ -47,7 +48,8 @@ below_none rects = record { each = λ k l d h g. absurd (omega arith) }
 pub from_none : (rects : List Rect) (j : ℕ) → ApartBelow rects j → ApartFrom rects 0 j
 from_none rects j b = record { below = b; each = λ k d h. absurd (omega arith) }
 
-pub from_more : (rects : List Rect) (i j : ℕ) (a b : Rect) → i < j → j < length rects → a ≡ get_or rects i a → b ≡ get_or rects j b → AreApart (corners_of a) (corners_of b) → ApartFrom rects i j → ApartFrom rects (i + 1) j
+pub from_more : (rects : List Rect) (i j : ℕ) (a b : Rect) → i < j → j < length rects → a ≡ get_or rects i a →
+    b ≡ get_or rects j b → AreApart (corners_of a) (corners_of b) → ApartFrom rects i j → ApartFrom rects (i + 1) j
 from_more rects i j a b h l e f apart s = record {
   below = s.below;
   each = λ k d g. elim (cases_lt k i) [
@@ -74,7 +76,8 @@ all_apart rects j whole s k l d h g =
     let r = some_of rects l m in
     rw (corners_in rects k r d (omega arith), corners_in rects l r d m) (s.each k l r h (omega arith))
 
-pub apart_at : (rects : List Rect) (i j : ℕ) (a b : Rect) → i < j → j < length rects → a ≡ get_or rects i a → b ≡ get_or rects j b → AllPairs AreApart (map corners_of rects) → AreApart (corners_of a) (corners_of b)
+pub apart_at : (rects : List Rect) (i j : ℕ) (a b : Rect) → i < j → j < length rects → a ≡ get_or rects i a →
+    b ≡ get_or rects j b → AllPairs AreApart (map corners_of rects) → AreApart (corners_of a) (corners_of b)
 apart_at rects i j a b h l e f all =
     let r = all i j (corners_of a) h (rw (length-map rects corners_of) l) in
     rw (corners_in rects i a (corners_of a) (omega arith), corners_in rects j b (corners_of a) l, ← e, ← f) at r

@@ -1,5 +1,6 @@
 -- Rectangles that are close, by their bounds.
-use Rattle.std.proofs.Common.{arith, ◌≡◌, ℕ, ◌+◌, ◌*◌, ◌<◌, ◌≤◌, ℤ, pos, neg_ℤ, ◌^◌, ◌-ℤ◌, ◌+ℤ◌, ◌<ℤ◌, ◌≤ℤ◌, List, length, get_or, map, refl, inl, inr, rules, SFits, w64}
+use Rattle.std.proofs.Common.{arith, ◌≡◌, ℕ, ◌+◌, ◌*◌, ◌<◌, ◌≤◌, ℤ, pos, neg_ℤ, ◌^◌, ◌-ℤ◌, ◌+ℤ◌, ◌<ℤ◌, ◌≤ℤ◌, List}
+use Rattle.std.proofs.Common.{length, get_or, map, refl, inl, inr, rules, SFits, w64}
 use Rattle.std.proofs.lemmas.Bool.{cases_lt}
 use Rattle.std.proofs.lemmas.Int.{ints}
 use Rattle.std.proofs.lemmas.List.{get_or-map, length-map}
@@ -37,7 +38,8 @@ close_meets r other reach c =
     }
 
 -- the widened ends are numbers of the code
-pub wider_fit : (r : Rect) (reach : ℕ) → reach ≤ 200000 → SFits w64 (r.x1 -ℤ pos reach) × (SFits w64 (r.x2 +ℤ pos reach) × (SFits w64 (r.y1 -ℤ pos reach) × SFits w64 (r.y2 +ℤ pos reach)))
+pub wider_fit : (r : Rect) (reach : ℕ) → reach ≤ 200000 → SFits w64 (r.x1 -ℤ pos reach) ×
+    (SFits w64 (r.x2 +ℤ pos reach) × (SFits w64 (r.y1 -ℤ pos reach) × SFits w64 (r.y2 +ℤ pos reach)))
 wider_fit r reach h = (
   less r.x1 r.left (below _ _ r.wide r.right),
   (more r.x2 (above _ _ r.wide r.left) r.right, (less r.y1 r.below (below _ _ r.high r.above), more r.y2 (above _ _ r.high r.below) r.above)),
@@ -56,11 +58,14 @@ wider_fit r reach h = (
 
 -- ---- what meets the widened bounds may be near
 
-bounds_at : (rects : List Rect) (j : ℕ) (r : Rect) (d : Bounds) (e : Corners) → j < length rects → get_or (map (λ q. bounds_of (corners_of q)) rects) j d ≡ bounds_of (get_or (map corners_of rects) j e)
+bounds_at : (rects : List Rect) (j : ℕ) (r : Rect) (d : Bounds) (e : Corners) → j < length rects →
+    get_or (map (λ q. bounds_of (corners_of q)) rects) j d ≡ bounds_of (get_or (map corners_of rects) j e)
 bounds_at rects j r d e l = rw (get_or-map (λ q. bounds_of (corners_of q)) rects j r d l, get_or-map corners_of rects j r e l) refl
 
-pub may_be_near : (rects : List Rect) (reach i : ℕ) (r : Rect) (items : List Bounds) (window : Bounds) (found : List ℕ) → items ≡ map (λ q. bounds_of (corners_of q)) rects → i < length rects → r ≡ get_or rects i r
-    → ((other : Corners) → AreClose (IsIn (corners_of r)) (IsIn other) reach → Meets (bounds_of other) window) → AreMeeting items window found → MayBeNear (record { rects = map corners_of rects; reach = reach }) i found
+pub may_be_near : (rects : List Rect) (reach i : ℕ) (r : Rect) (items : List Bounds) (window : Bounds)
+    (found : List ℕ) → items ≡ map (λ q. bounds_of (corners_of q)) rects → i < length rects → r ≡ get_or rects i r
+    → ((other : Corners) → AreClose (IsIn (corners_of r)) (IsIn other) reach → Meets (bounds_of other) window) →
+    AreMeeting items window found → MayBeNear (record { rects = map corners_of rects; reach = reach }) i found
 may_be_near rects reach i r items window found e l is close m = record {
   each = λ k d h. let w = (m.each k d h).within in within_rects _ w;
   all = λ j n. m.all j (meeting j n);
@@ -77,5 +82,6 @@ may_be_near rects reach i r items window found e l is close m = record {
     within = let s = sizes in let w = n.within in omega arith;
     meets = λ d. rw (e, bounds_at rects j r d (corners_of r) (let w = n.within in let s = length-map rects corners_of in omega arith)) (close _ (here j n));
   } where
-    here : (j : ℕ) → IsNear (record { rects = map corners_of rects; reach = reach }) i j → AreClose (IsIn (corners_of r)) (IsIn (get_or (map corners_of rects) j (corners_of r))) reach
+    here : (j : ℕ) → IsNear (record { rects = map corners_of rects; reach = reach }) i j →
+        AreClose (IsIn (corners_of r)) (IsIn (get_or (map corners_of rects) j (corners_of r))) reach
     here j n = rw (get_or-map corners_of rects i r (corners_of r) l, ← is) at (n.close (corners_of r))

@@ -9,7 +9,8 @@ pub walk_start : (cells : ℤ → ℤ → Bool) (x y : ℤ) (cs : List (ℤ × �
 walk_start cells x y [] x' y' (h, e, f) = h
 walk_start cells x y (c ∷ cs) x' y' (h, n, w) = h
 
-walk_on : (cells : ℤ → ℤ → Bool) (x y : ℤ) (cs : List (ℤ × ℤ)) (x' y' : ℤ) (ds : List (ℤ × ℤ)) (x'' y'' : ℤ) → IsWalk cells x y cs x' y' → IsWalk cells x' y' ds x'' y'' → IsWalk cells x y (cs ++ ds) x'' y''
+walk_on : (cells : ℤ → ℤ → Bool) (x y : ℤ) (cs : List (ℤ × ℤ)) (x' y' : ℤ) (ds : List (ℤ × ℤ)) (x'' y'' : ℤ) →
+    IsWalk cells x y cs x' y' → IsWalk cells x' y' ds x'' y'' → IsWalk cells x y (cs ++ ds) x'' y''
 walk_on cells x y [] x' y' ds x'' y'' (h, e, f) w = rw (e, f) w
 walk_on cells x y (c ∷ cs) x' y' ds x'' y'' (h, n, v) w = (h, n, walk_on cells c.0 c.1 cs x' y' ds x'' y'' v w)
 
@@ -30,14 +31,17 @@ neighbours_back x y x' y' n = rw (distance_back x x', distance_back y y') n
 
 joined_back_walk : (cells : ℤ → ℤ → Bool) (x y : ℤ) (cs : List (ℤ × ℤ)) (x' y' : ℤ) → IsWalk cells x y cs x' y' → AreOneShape cells x' y' x y
 joined_back_walk cells x y [] x' y' (h, e, f) = rw (← e, ← f) (joined_here cells x y h)
-joined_back_walk cells x y (c ∷ cs) x' y' (h, n, w) = joined_on cells x' y' c.0 c.1 x y (joined_back_walk cells c.0 c.1 cs x' y' w) (joined_step cells c.0 c.1 x y (walk_start cells c.0 c.1 cs x' y' w) h (neighbours_back x y c.0 c.1 n))
+joined_back_walk cells x y (c ∷ cs) x' y' (h, n, w) = joined_on cells x' y' c.0 c.1 x y
+    (joined_back_walk cells c.0 c.1 cs x' y' w) (joined_step cells c.0 c.1 x y (walk_start cells c.0 c.1 cs x' y' w) h
+    (neighbours_back x y c.0 c.1 n))
 
 pub joined_back : (cells : ℤ → ℤ → Bool) (x y x' y' : ℤ) → AreOneShape cells x y x' y' → AreOneShape cells x' y' x y
 joined_back cells x y x' y' (cs, w) = joined_back_walk cells x y cs x' y' w
 
 -- along one row, and along one column
 pub along_row : (cells : ℤ → ℤ → Bool) (n : ℕ) (x y : ℤ) → ((k : ℤ) → x ≤ℤ k → k ≤ℤ (x +ℤ pos n) → IsTrue (cells k y)) → AreOneShape cells x y (x +ℤ pos n) y
-along_row cells zero x y h = let e : x ≡ x +ℤ pos 0 = omega signed in let P : ℤ → Type 0 = λ z. AreOneShape cells x y z y in subst P e (joined_here cells x y (h x (omega signed) (omega signed)))
+along_row cells zero x y h = let e : x ≡ x +ℤ pos 0 = omega signed in let P : ℤ → Type 0 =
+    λ z. AreOneShape cells x y z y in subst P e (joined_here cells x y (h x (omega signed) (omega signed)))
 along_row cells (suc n) x y h =
     let e : (x +ℤ pos 1) +ℤ pos n ≡ x +ℤ pos (suc n) = omega signed in
     let P : ℤ → Type 0 = λ z. AreOneShape cells x y z y in
@@ -46,7 +50,8 @@ along_row cells (suc n) x y h =
     (along_row cells n (x +ℤ pos 1) y (λ k f t. h k (omega signed) (omega signed))))
 
 pub along_column : (cells : ℤ → ℤ → Bool) (n : ℕ) (x y : ℤ) → ((k : ℤ) → y ≤ℤ k → k ≤ℤ (y +ℤ pos n) → IsTrue (cells x k)) → AreOneShape cells x y x (y +ℤ pos n)
-along_column cells zero x y h = let e : y ≡ y +ℤ pos 0 = omega signed in let P : ℤ → Type 0 = λ z. AreOneShape cells x y x z in subst P e (joined_here cells x y (h y (omega signed) (omega signed)))
+along_column cells zero x y h = let e : y ≡ y +ℤ pos 0 = omega signed in let P : ℤ → Type 0 =
+    λ z. AreOneShape cells x y x z in subst P e (joined_here cells x y (h y (omega signed) (omega signed)))
 along_column cells (suc n) x y h =
     let e : (y +ℤ pos 1) +ℤ pos n ≡ y +ℤ pos (suc n) = omega signed in
     let P : ℤ → Type 0 = λ z. AreOneShape cells x y x z in

@@ -19,13 +19,16 @@ pub zeros : (n : ℕ) → sum_to (λ e. 0) n ≡ 0
 zeros zero = refl
 zeros (suc n) = let r = zeros n in omega (arith, r)
 
-module _ (part whole : Net) (node edge : ℕ → ℕ) (h : IsPartOf part whole node edge) (p q : ℕ → Bool) (alike : (e : ℕ) → e < length part.graph.edges → q (edge e) ≡ p e) where
+module _ (part whole : Net) (node edge : ℕ → ℕ) (h : IsPartOf part whole node edge) (p q : ℕ → Bool)
+    (alike : (e : ℕ) → e < length part.graph.edges → q (edge e) ≡ p e) where
   -- a dart on the face of a dart of the part is one of the part's
-  pub not_away : (c y : ℕ) → c < dart_count part → y < dart_count whole → ((x : ℕ) → x < dart_count part → dart edge x ≢ y) → face_of whole q y ≢ face_of whole q (dart edge c)
+  pub not_away : (c y : ℕ) → c < dart_count part → y < dart_count whole →
+      ((x : ℕ) → x < dart_count part → dart edge x ≢ y) → face_of whole q y ≢ face_of whole q (dart edge c)
   not_away c y l m none e =
       let n = dart_count part in
       let label : ℕ → ℕ = seek (dart edge) (face_of part p) n in
-      let all = label_least (dart_count whole) (next_in_face whole q) (face_back whole q) (face_permutes whole q) label (label_along part whole node edge h p q alike) in
+      let all = label_least (dart_count whole) (next_in_face whole q) (face_back whole q) (face_permutes whole q) label
+      (label_along part whole node edge h p q alike) in
       let a : label (dart edge c) ≡ suc (face_of part p c) = seek_hit (dart edge) (face_of part p) n c (dart_apart part whole node edge h) l in
       let b : label y ≡ 0 = seek_miss (dart edge) (face_of part p) n y none in
       let s : label y ≡ label (dart edge c) = sym (all y m) ∙ ap label e ∙ all (dart edge c) (dart_below part whole node edge h c l) in
@@ -52,7 +55,8 @@ module _ (part whole : Net) (node edge : ℕ → ℕ) (h : IsPartOf part whole n
       let e = dart_half edge d in
       let t : q (dart edge d / 2) ≡ p (d / 2) = ap q e ∙ alike (d / 2) (omega arith) in
       let u : test' (dart edge d / 2) ≡ test (d / 2) = ap test' e ∙ tests (d / 2) (omega arith) in
-      let v : (face_of whole q (dart edge d) == face_of whole q (dart edge c)) ≡ (face_of part p d == face_of part p c) = elim (cases_eq (face_of part p d) (face_of part p c)) [
+      let v : (face_of whole q (dart edge d) == face_of whole q (dart edge c)) ≡ (face_of part p d == face_of part p c)
+      = elim (cases_eq (face_of part p d) (face_of part p c)) [
         | inl r ↦ eq-eqb _ _ (face_there part whole node edge h p q alike d c b l r) ∙ sym (eq-eqb _ _ r)
         | inr r ↦ ne_eqb _ _ (λ w. r (face_here part whole node edge h p q alike d c b l w)) ∙ sym (ne_eqb _ _ r)
       ] in
@@ -80,4 +84,5 @@ faces_alike part whole node edge h c d l m =
 
 pub odd_faces_alike : (part whole : Net) (node edge : ℕ → ℕ) → IsPartOf part whole node edge → (c : ℕ) → c < dart_count part →
     is_odd_face whole (is_in (kept_edges whole)) (face_at whole (dart edge c)) ≡ is_odd_face part (is_in (kept_edges part)) (face_at part c)
-odd_faces_alike part whole node edge h c l = odd_alike part whole node edge h (is_in (kept_edges part)) (is_in (kept_edges whole)) (keeps_alike part whole node edge h) c l
+odd_faces_alike part whole node edge h c l = odd_alike part whole node edge h (is_in (kept_edges part))
+    (is_in (kept_edges whole)) (keeps_alike part whole node edge h) c l

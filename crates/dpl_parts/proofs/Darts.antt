@@ -1,5 +1,6 @@
 -- The darts of a part in the whole, and how one turns around a node.
-use Rattle.std.proofs.Common.{arith, ◌≡◌, ◌≢◌, ◌⊎◌, ℕ, zero, suc, ◌+◌, ◌-◌, ◌*◌, ◌/◌, ◌%◌, ◌<◌, ◌≤◌, ◌==◌, ◌&&◌, ◌||◌, refl, sym, ap, ◌∙◌, Bool, true, false, inl, inr, length, eq-eqb}
+use Rattle.std.proofs.Common.{arith, ◌≡◌, ◌≢◌, ◌⊎◌, ℕ, zero, suc, ◌+◌, ◌-◌, ◌*◌, ◌/◌, ◌%◌, ◌<◌, ◌≤◌, ◌==◌, ◌&&◌, ◌||◌}
+use Rattle.std.proofs.Common.{refl, sym, ap, ◌∙◌, Bool, true, false, inl, inr, length, eq-eqb}
 use Rattle.std.specs.Prelude.{if◌then◌else◌, slice_index_or}
 use Rattle.std.proofs.lemmas.Bool.{cases_lt, cases_eq, cases_Bool, lt-ltb, le-ltb, ne_eqb, cond-true, cond-false}
 use Rattle.std.specs.Ordering.{nat_cmp}
@@ -88,8 +89,10 @@ module _ (part whole : Net) (node edge : ℕ → ℕ) (h : IsPartOf part whole n
       let s = dart_side edge d in
       let e = dart_half edge d in
       elim (cases_eq (d % 2) 0) [
-        | inl z ↦ tail_first whole.graph (dart edge d) (s ∙ z) ∙ ap (λ x. (edge_at whole.graph x).a) e ∙ h.first (d / 2) (omega arith) ∙ ap node (sym (tail_first part.graph d z))
-        | inr z ↦ tail_second whole.graph (dart edge d) (λ w. z (sym s ∙ w)) ∙ ap (λ x. (edge_at whole.graph x).b) e ∙ h.second (d / 2) (omega arith) ∙ ap node (sym (tail_second part.graph d z))
+        | inl z ↦ tail_first whole.graph (dart edge d) (s ∙ z) ∙ ap (λ x. (edge_at whole.graph x).a) e ∙
+            h.first (d / 2) (omega arith) ∙ ap node (sym (tail_first part.graph d z))
+        | inr z ↦ tail_second whole.graph (dart edge d) (λ w. z (sym s ∙ w)) ∙ ap (λ x. (edge_at whole.graph x).b) e ∙
+            h.second (d / 2) (omega arith) ∙ ap node (sym (tail_second part.graph d z))
       ]
 
   pub tail_below : (d : ℕ) → d < dart_count part → tail_of part.graph d < part.graph.nodes
@@ -114,10 +117,13 @@ module _ (part whole : Net) (node edge : ℕ → ℕ) (h : IsPartOf part whole n
       let q = dart_port c m in
       let e = dart_half edge d in
       let f = dart_half edge c in
-      let n : nat_cmp (edge (d / 2)) (edge (c / 2)) ≡ nat_cmp (d / 2) (c / 2) = cmp_rises (d / 2) (c / 2) (edge (d / 2)) (edge (c / 2)) (λ r. h.order (d / 2) (c / 2) r (omega arith)) (λ r. h.order (c / 2) (d / 2) r (omega arith)) (λ r. ap edge r) in
+      let n : nat_cmp (edge (d / 2)) (edge (c / 2)) ≡ nat_cmp (d / 2) (c / 2) =
+      cmp_rises (d / 2) (c / 2) (edge (d / 2)) (edge (c / 2)) (λ r. h.order (d / 2) (c / 2) r (omega arith))
+      (λ r. h.order (c / 2) (d / 2) r (omega arith)) (λ r. ap edge r) in
       rw (p, q, e, f, n) refl
 
-  met_same : (d c e : ℕ) → d < dart_count part → c < dart_count part → e < dart_count part → is_met_before whole (dart edge d) (dart edge c) (dart edge e) ≡ is_met_before part d c e
+  met_same : (d c e : ℕ) → d < dart_count part → c < dart_count part → e < dart_count part →
+      is_met_before whole (dart edge d) (dart edge c) (dart edge e) ≡ is_met_before part d c e
   met_same d c e l m n =
       met_is whole (dart edge d) (dart edge c) (dart edge e)
       ∙ ap (λ x. met_from x (is_before whole (dart edge d) (dart edge c)) (is_before whole (dart edge c) (dart edge e))) (before_same d e l n)
@@ -125,7 +131,9 @@ module _ (part whole : Net) (node edge : ℕ → ℕ) (h : IsPartOf part whole n
       ∙ ap (met_from (is_before part d e) (is_before part d c)) (before_same c e m n)
       ∙ sym (met_is part d c e)
 
-  tails_same : (d c : ℕ) → d < dart_count part → c < dart_count part → (tail_of whole.graph (dart edge c) == tail_of whole.graph (dart edge d)) ≡ (tail_of part.graph c == tail_of part.graph d)
+  tails_same : (d c : ℕ) → d < dart_count part → c < dart_count part →
+      (tail_of whole.graph (dart edge c) == tail_of whole.graph (dart edge d))
+      ≡ (tail_of part.graph c == tail_of part.graph d)
   tails_same d c l m =
       let p = dart_tail d l in
       let q = dart_tail c m in
@@ -138,8 +146,10 @@ module _ (part whole : Net) (node edge : ℕ → ℕ) (h : IsPartOf part whole n
   choose true x y = refl
   choose false x y = refl
 
-  first_same : (d c e : ℕ) → d < dart_count part → c < dart_count part → e < dart_count part → first_met whole (dart edge d) (dart edge c) (dart edge e) ≡ dart edge (first_met part d c e)
-  first_same d c e l m n = rw (tails_same d c l m, met_same d c e l m n) (choose ((tail_of part.graph c == tail_of part.graph d) && is_met_before part d c e) c e)
+  first_same : (d c e : ℕ) → d < dart_count part → c < dart_count part → e < dart_count part →
+      first_met whole (dart edge d) (dart edge c) (dart edge e) ≡ dart edge (first_met part d c e)
+  first_same d c e l m n = rw (tails_same d c l m, met_same d c e l m n)
+      (choose ((tail_of part.graph c == tail_of part.graph d) && is_met_before part d c e) c e)
 
   first_below : (d c e : ℕ) → c < dart_count part → e < dart_count part → first_met part d c e < dart_count part
   first_below d c e m n = elim (cases_Bool ((tail_of part.graph c == tail_of part.graph d) && is_met_before part d c e)) [
@@ -164,16 +174,20 @@ module _ (part whole : Net) (node edge : ℕ → ℕ) (h : IsPartOf part whole n
     ]
 
     -- edges of the whole that are none of the part's change nothing
-    skip : (from n d : ℕ) → d < dart_count part → from + n ≤ length whole.graph.edges → ((f : ℕ) → from ≤ f → f < from + n → (e : ℕ) → e < length part.graph.edges → edge e ≢ f) → next_below whole q (from + n) (dart edge d) ≡ next_below whole q from (dart edge d)
+    skip : (from n d : ℕ) → d < dart_count part → from + n ≤ length whole.graph.edges →
+        ((f : ℕ) → from ≤ f → f < from + n → (e : ℕ) → e < length part.graph.edges → edge e ≢ f) →
+        next_below whole q (from + n) (dart edge d) ≡ next_below whole q from (dart edge d)
     skip from zero d m l none = ap (λ k. next_below whole q k (dart edge d)) (omega arith)
     skip from (suc n) d m l none =
         let f = from + n in
-        let rest : next_below whole q f (dart edge d) ≡ next_below whole q from (dart edge d) = skip from n d m (omega arith) (λ g a b. none g a (omega arith)) in
+        let rest : next_below whole q f (dart edge d) ≡ next_below whole q from (dart edge d) =
+        skip from n d m (omega arith) (λ g a b. none g a (omega arith)) in
         let at : from + suc n ≡ suc f = omega arith in
         let t = dart_tail d m in
         let v = tail_of part.graph d in
         let low = tail_below d m in
-        let away : ((edge_at whole.graph f).a ≡ node v) ⊎ ((edge_at whole.graph f).b ≡ node v) → ⊥ = λ s. let k = h.closed f v (omega arith) low s in none f (omega arith) (omega arith) k.0 k.1 k.2 in
+        let away : ((edge_at whole.graph f).a ≡ node v) ⊎ ((edge_at whole.graph f).b ≡ node v) → ⊥ = λ s. let k =
+        h.closed f v (omega arith) low s in none f (omega arith) (omega arith) k.0 k.1 k.2 in
         let one : tail_of whole.graph (2 * f) ≢ tail_of whole.graph (dart edge d) = λ s. away (inl (sym (first_tail whole.graph f) ∙ s ∙ t)) in
         let two : tail_of whole.graph (2 * f + 1) ≢ tail_of whole.graph (dart edge d) = λ s. away (inr (sym (second_tail whole.graph f) ∙ s ∙ t)) in
         ap (λ k. next_below whole q k (dart edge d)) at ∙ (elim (cases_Bool (q f)) [
@@ -182,23 +196,39 @@ module _ (part whole : Net) (node edge : ℕ → ℕ) (h : IsPartOf part whole n
         ])
 
     -- over an edge of the part
-    next_step : (k d : ℕ) → k < length part.graph.edges → d < dart_count part → next_below whole q (edge k) (dart edge d) ≡ dart edge (next_below part p k d) → next_below whole q (suc (edge k)) (dart edge d) ≡ dart edge (next_below part p (suc k) d)
+    next_step : (k d : ℕ) → k < length part.graph.edges → d < dart_count part →
+        next_below whole q (edge k) (dart edge d) ≡ dart edge (next_below part p k d) →
+        next_below whole q (suc (edge k)) (dart edge d) ≡ dart edge (next_below part p (suc k) d)
     next_step k d l m before =
         let low = next_low k d (omega arith) m in
         elim (cases_Bool (p k)) [
           | inl t ↦
               let n = next_below part p k d in
               let b = first_below d (2 * k) n (omega arith) low in
-              let x : first_met whole (dart edge d) (2 * edge k) (next_below whole q (edge k) (dart edge d)) ≡ dart edge (first_met part d (2 * k) n) = ap (first_met whole (dart edge d) (2 * edge k)) before ∙ ap (λ z. first_met whole (dart edge d) z (dart edge n)) (sym (dart_first edge k)) ∙ first_same d (2 * k) n m (omega arith) low in
-              let y : first_met whole (dart edge d) (2 * edge k + 1) (dart edge (first_met part d (2 * k) n)) ≡ dart edge (first_met part d (2 * k + 1) (first_met part d (2 * k) n)) = ap (λ z. first_met whole (dart edge d) z (dart edge (first_met part d (2 * k) n))) (sym (dart_second edge k)) ∙ first_same d (2 * k + 1) (first_met part d (2 * k) n) m (omega arith) b in
-              next_in whole q (edge k) (dart edge d) (alike k l ∙ t) ∙ ap (first_met whole (dart edge d) (2 * edge k + 1)) x ∙ y ∙ ap (dart edge) (sym (next_in part p k d t))
+              let x : first_met whole (dart edge d) (2 * edge k) (next_below whole q (edge k) (dart edge d)) ≡ dart edge
+              (first_met part d (2 * k) n) = ap (first_met whole (dart edge d) (2 * edge k)) before ∙
+              ap (λ z. first_met whole (dart edge d) z (dart edge n)) (sym (dart_first edge k)) ∙
+              first_same d (2 * k) n m (omega arith) low in
+              let y : first_met whole (dart edge d) (2 * edge k + 1) (dart edge (first_met part d (2 * k) n)) ≡ dart
+              edge (first_met part d (2 * k + 1) (first_met part d (2 * k) n)) =
+              ap (λ z. first_met whole (dart edge d) z (dart edge (first_met part d (2 * k) n)))
+              (sym (dart_second edge k)) ∙ first_same d (2 * k + 1) (first_met part d (2 * k) n) m (omega arith) b
+              in
+              next_in whole q (edge k) (dart edge d) (alike k l ∙ t) ∙
+              ap (first_met whole (dart edge d) (2 * edge k + 1)) x ∙ y ∙
+              ap (dart edge) (sym (next_in part p k d t))
           | inr t ↦ next_out whole q (edge k) (dart edge d) (alike k l ∙ t) ∙ before ∙ ap (dart edge) (sym (next_out part p k d t))
         ]
 
     -- up to the place of an edge of the part
     next_upto : (k d : ℕ) → k < length part.graph.edges → d < dart_count part → next_below whole q (edge k) (dart edge d) ≡ dart edge (next_below part p k d)
     next_upto zero d l m =
-        let s = skip 0 (edge 0) d m (let b = h.edges 0 l in omega arith) (λ f a b e c r. elim (cases_eq e 0) [ inl z ↦ let w : edge e ≡ edge 0 = ap edge z in omega arith | inr z ↦ let w = h.order 0 e (omega arith) c in omega arith ]) in
+        let s = skip 0 (edge 0) d m (let b = h.edges 0 l in omega arith)
+        (λ f a b e c r. elim (cases_eq e 0) [
+          | inl z ↦ let w : edge e ≡ edge 0 = ap edge z in omega arith
+          | inr z ↦
+              let w = h.order 0 e (omega arith) c in omega arith
+        ]) in
         ap (λ k. next_below whole q k (dart edge d)) (omega arith) ∙ s
     next_upto (suc k) d l m =
         let up = h.order k (suc k) (omega arith) l in
@@ -206,8 +236,16 @@ module _ (part whole : Net) (node edge : ℕ → ℕ) (h : IsPartOf part whole n
         let gap = edge (suc k) - suc (edge k) in
         let at : edge (suc k) ≡ suc (edge k) + gap = omega arith in
         let s = skip (suc (edge k)) gap d m (omega arith) (λ f a b e c r. elim (cases_lt e (suc k)) [
-          | inl z ↦ elim (cases_eq e k) [ inl y ↦ let w : edge e ≡ edge k = ap edge y in omega arith | inr y ↦ let w = h.order e k (omega arith) (omega arith) in omega arith ]
-          | inr z ↦ elim (cases_eq e (suc k)) [ inl y ↦ let w : edge e ≡ edge (suc k) = ap edge y in omega arith | inr y ↦ let w = h.order (suc k) e (omega arith) c in omega arith ]
+          | inl z ↦ elim (cases_eq e k) [
+            | inl y ↦ let w : edge e ≡ edge k = ap edge y in omega arith
+            | inr y ↦ let w =
+                h.order e k (omega arith) (omega arith) in omega arith
+          ]
+          | inr z ↦ elim (cases_eq e (suc k)) [
+            | inl y ↦ let w : edge e ≡ edge (suc k) = ap edge y in
+                omega arith
+            | inr y ↦ let w = h.order (suc k) e (omega arith) c in omega arith
+          ]
         ]) in
         ap (λ j. next_below whole q j (dart edge d)) at ∙ s ∙ next_step k d (omega arith) m (next_upto k d (omega arith) m)
 
@@ -218,8 +256,15 @@ module _ (part whole : Net) (node edge : ℕ → ℕ) (h : IsPartOf part whole n
         let top = h.edges last (omega arith) in
         let gap = length whole.graph.edges - suc (edge last) in
         let at : length whole.graph.edges ≡ suc (edge last) + gap = omega arith in
-        let s = skip (suc (edge last)) gap d m (omega arith) (λ f a b e c r. elim (cases_eq e last) [ inl y ↦ let w : edge e ≡ edge last = ap edge y in omega arith | inr y ↦ let w = h.order e last (omega arith) (omega arith) in omega arith ]) in
-        ap (λ j. next_below whole q j (dart edge d)) at ∙ s ∙ next_step last d (omega arith) m (next_upto last d (omega arith) m) ∙ ap (λ j. dart edge (next_below part p j d)) size
+        let s = skip (suc (edge last)) gap d m (omega arith)
+        (λ f a b e c r. elim (cases_eq e last) [
+          | inl y ↦ let w : edge e ≡ edge last = ap edge y in
+              omega arith
+          | inr y ↦ let w = h.order e last (omega arith) (omega arith) in omega arith
+        ]) in
+        ap (λ j. next_below whole q j (dart edge d)) at ∙ s ∙
+        next_step last d (omega arith) m (next_upto last d (omega arith) m) ∙
+        ap (λ j. dart edge (next_below part p j d)) size
 
     pub around_below : (d : ℕ) → d < dart_count part → next_around part p d < dart_count part
     around_below d m = next_low (length part.graph.edges) d (omega arith) m
@@ -229,6 +274,7 @@ module _ (part whole : Net) (node edge : ℕ → ℕ) (h : IsPartOf part whole n
         let e = dart_half edge d in
         let t : q (dart edge d / 2) ≡ p (d / 2) = ap q e ∙ alike (d / 2) (omega arith) in
         elim (cases_Bool (p (d / 2))) [
-          | inl b ↦ face_in whole q (dart edge d) (t ∙ b) ∙ ap (next_around whole q) (dart_twin edge d) ∙ around_same (twin_of d) (twin_below d _ m) ∙ ap (dart edge) (sym (face_in part p d b))
+          | inl b ↦ face_in whole q (dart edge d) (t ∙ b) ∙ ap (next_around whole q) (dart_twin edge d) ∙
+              around_same (twin_of d) (twin_below d _ m) ∙ ap (dart edge) (sym (face_in part p d b))
           | inr b ↦ face_out whole q (dart edge d) (t ∙ b) ∙ ap (dart edge) (sym (face_out part p d b))
         ]

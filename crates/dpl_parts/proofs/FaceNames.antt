@@ -34,7 +34,8 @@ least_count zero f g p = refl
 least_count (suc n) f g p =
     let q = shorter n f g p in
     let r = least_count n (without n f) (without n g) q in
-    let same = count_on_same n (λ d. least f (suc n) d == d) (λ d. least (without n f) n d == d) (λ d l. ap (λ z. z == d) (least_under f n d (λ e. omega (arith, e, l)))) in
+    let same = count_on_same n (λ d. least f (suc n) d == d) (λ d. least (without n f) n d == d)
+    (λ d l. ap (λ z. z == d) (least_under f n d (λ e. omega (arith, e, l)))) in
     elim (cases_eq (f n) n) [
       | inl a ↦
           let c = cycles_alone f n a in
@@ -89,7 +90,8 @@ faces_counted net set =
 
 -- ---- the faces of a part
 
-module _ (part whole : Net) (node edge : ℕ → ℕ) (h : IsPartOf part whole node edge) (p q : ℕ → Bool) (alike : (e : ℕ) → e < length part.graph.edges → q (edge e) ≡ p e) where
+module _ (part whole : Net) (node edge : ℕ → ℕ) (h : IsPartOf part whole node edge) (p q : ℕ → Bool)
+    (alike : (e : ℕ) → e < length part.graph.edges → q (edge e) ≡ p e) where
   -- the least dart of a face is the least one also in the whole
   pub face_up : (c : ℕ) → c < dart_count part → face_of whole q (dart edge c) ≡ dart edge (face_of part p c)
   face_up c l =
@@ -102,7 +104,9 @@ module _ (part whole : Net) (node edge : ℕ → ℕ) (h : IsPartOf part whole n
       let same : face_of part p x ≡ f = face_here part whole node edge h p q alike x c lx l (ap (face_of whole q) rx ∙ name) in
       let below : face_of part p x ≤ x = least_le (dart_count part) (next_in_face part p) (face_back part p) (face_permutes part p) x lx in
       let up : face_of whole q (dart edge f) ≡ y = up_is part whole node edge h p q alike c l in
-      let le : face_of whole q (dart edge f) ≤ dart edge f = least_le (dart_count whole) (next_in_face whole q) (face_back whole q) (face_permutes whole q) (dart edge f) (dart_below part whole node edge h f f_low) in
+      let le : face_of whole q (dart edge f) ≤ dart edge f =
+      least_le (dart_count whole) (next_in_face whole q) (face_back whole q) (face_permutes whole q) (dart edge f)
+      (dart_below part whole node edge h f f_low) in
       elim (cases_eq f x) [
         | inl e ↦ sym rx ∙ ap (dart edge) (sym e)
         | inr e ↦ let o = dart_order part whole node edge h p q alike f x (omega (arith, same, below, e)) lx in absurd (omega (arith, o, up, le, rx))

@@ -22,17 +22,21 @@ pub record AreGathered (whole : Net) (taken : List Bool) (nodes place picks : Li
   pub place_each : (v : ℕ) → v < length taken → is_taken taken v ≡ true → slice_index_or place v 0 ≡ place_in (is_taken taken) v
   pub picks_are : picks ≡ picked_below (is_edge_taken taken whole.graph.edges) (length whole.graph.edges)
   pub edges_long : length edges ≡ length picks
-  pub edges_each : (i : ℕ) → i < length picks → IsRenumbered (slice_index_or whole.graph.edges (slice_index_or picks i 0) no_edge) (slice_index_or edges i no_edge) place
+  pub edges_each : (i : ℕ) → i < length picks → IsRenumbered
+      (slice_index_or whole.graph.edges (slice_index_or picks i 0) no_edge) (slice_index_or edges i no_edge) place
   pub ports_long : length ports ≡ length picks
-  pub ports_each : (i : ℕ) → i < length picks → slice_index_or ports i (no_port, no_port) ≡ slice_index_or whole.ports (slice_index_or picks i 0) (no_port, no_port)
+  pub ports_each : (i : ℕ) → i < length picks → slice_index_or ports i (no_port, no_port) ≡ slice_index_or whole.ports
+      (slice_index_or picks i 0) (no_port, no_port)
 
 -- ---- before the edges are gathered
 
 -- the picked edges are edges between taken nodes
 pub picks_taken : (whole : Net) (taken : List Bool) (picks : List ℕ) → picks ≡ picked_below (is_edge_taken taken whole.graph.edges) (length whole.graph.edges)
-    → (i : ℕ) → i < length picks → (slice_index_or picks i 0 < length whole.graph.edges) × (is_taken taken (edge_at whole.graph (slice_index_or picks i 0)).a ≡ true)
+    → (i : ℕ) → i < length picks → (slice_index_or picks i 0 < length whole.graph.edges) ×
+    (is_taken taken (edge_at whole.graph (slice_index_or picks i 0)).a ≡ true)
 picks_taken whole taken picks are i l =
-    let P : List ℕ → Type 0 = λ xs. i < length xs → (slice_index_or xs i 0 < length whole.graph.edges) × (is_taken taken (edge_at whole.graph (slice_index_or xs i 0)).a ≡ true) in
+    let P : List ℕ → Type 0 = λ xs. i < length xs → (slice_index_or xs i 0 < length whole.graph.edges) ×
+    (is_taken taken (edge_at whole.graph (slice_index_or xs i 0)).a ≡ true) in
     subst P (sym are) (picked_is (is_edge_taken taken whole.graph.edges) (length whole.graph.edges) i) l
 
 -- the picked nodes are taken ones
@@ -50,7 +54,8 @@ taken_inside taken w t = elim (cases_lt w (length taken)) [
 ]
 
 -- the ends of an edge between taken nodes have places
-pub has_places : (whole : Net) (taken : List Bool) (place : List ℕ) → length taken ≡ whole.graph.nodes → AreClosed taken whole.graph.edges → length place ≡ length taken
+pub has_places : (whole : Net) (taken : List Bool) (place : List ℕ) → length taken ≡ whole.graph.nodes →
+    AreClosed taken whole.graph.edges → length place ≡ length taken
     → ((v : ℕ) → v < length taken → is_taken taken v ≡ true → slice_index_or place v 0 ≡ place_in (is_taken taken) v)
     → (e : ℕ) → e < length whole.graph.edges → is_taken taken (edge_at whole.graph e).a ≡ true → HasPlaces (edge_at whole.graph e) place
 has_places whole taken place long closed plong each e l t =
@@ -61,7 +66,8 @@ has_places whole taken place long closed plong each e l t =
     let r = places_rise (is_taken taken) (edge_at whole.graph e).a (edge_at whole.graph e).b (edge_at whole.graph e).ordered t in
     record { first = omega (arith, a, long, plong); second = omega (arith, b, long, plong); order = omega (arith, pa, pb, r) }
 
-module _ (whole : Net) (taken : List Bool) (nodes place picks : List ℕ) (edges : List Edge) (ports : List (Port × Port)) (h : AreGathered whole taken nodes place picks edges ports) where
+module _ (whole : Net) (taken : List Bool) (nodes place picks : List ℕ) (edges : List Edge) (ports : List (Port × Port))
+    (h : AreGathered whole taken nodes place picks edges ports) where
   -- a gathered node is a taken one
   pub node_is : (v : ℕ) → v < length nodes → (slice_index_or nodes v 0 < whole.graph.nodes) × (is_taken taken (slice_index_or nodes v 0) ≡ true)
   node_is v l =
@@ -70,7 +76,8 @@ module _ (whole : Net) (taken : List Bool) (nodes place picks : List ℕ) (edges
       let n = h.long in (omega (arith, b, n), t)
 
   -- the place of a taken node
-  pub node_at_place : (w : ℕ) → w < length taken → is_taken taken w ≡ true → (slice_index_or place w 0 < length nodes) × (slice_index_or nodes (slice_index_or place w 0) 0 ≡ w)
+  pub node_at_place : (w : ℕ) → w < length taken → is_taken taken w ≡ true → (slice_index_or place w 0 < length nodes) ×
+      (slice_index_or nodes (slice_index_or place w 0) 0 ≡ w)
   node_at_place w l t =
       let P : List ℕ → Type 0 = λ xs. (place_in (is_taken taken) w < length xs) × (slice_index_or xs (place_in (is_taken taken) w) 0 ≡ w) in
       let Q : ℕ → Type 0 = λ z. (z < length nodes) × (slice_index_or nodes z 0 ≡ w) in
@@ -81,7 +88,8 @@ module _ (whole : Net) (taken : List Bool) (nodes place picks : List ℕ) (edges
       let P : List ℕ → Type 0 = λ xs. v < length xs → slice_index_or xs u 0 < slice_index_or xs v 0 in
       subst P (sym h.nodes_are) (picked_rise (is_taken taken) (length taken) u v l) m
 
-  pick_is : (i : ℕ) → i < length picks → (slice_index_or picks i 0 < length whole.graph.edges) × (is_taken taken (edge_at whole.graph (slice_index_or picks i 0)).a ≡ true)
+  pick_is : (i : ℕ) → i < length picks → (slice_index_or picks i 0 < length whole.graph.edges) ×
+      (is_taken taken (edge_at whole.graph (slice_index_or picks i 0)).a ≡ true)
   pick_is = picks_taken whole taken picks h.picks_are
 
   picks_rise : (i j : ℕ) → i < j → j < length picks → slice_index_or picks i 0 < slice_index_or picks j 0
@@ -96,7 +104,8 @@ module _ (whole : Net) (taken : List Bool) (nodes place picks : List ℕ) (edges
   nodes_few = let f = picked_few (is_taken taken) (length taken) in let e = ap length h.nodes_are in omega (arith, f, e)
 
   -- both ends of a picked edge are taken
-  ends_taken : (i : ℕ) → i < length picks → (is_taken taken (edge_at whole.graph (slice_index_or picks i 0)).a ≡ true) × (is_taken taken (edge_at whole.graph (slice_index_or picks i 0)).b ≡ true)
+  ends_taken : (i : ℕ) → i < length picks → (is_taken taken (edge_at whole.graph (slice_index_or picks i 0)).a ≡ true) ×
+      (is_taken taken (edge_at whole.graph (slice_index_or picks i 0)).b ≡ true)
   ends_taken i l = let (b, t) = pick_is i l in (t, sym (h.closed (slice_index_or picks i 0) b) ∙ t)
 
   second_below : (i : ℕ) → i < length picks → (slice_index_or edges i no_edge).b < length nodes
@@ -147,10 +156,12 @@ module _ (whole : Net) (taken : List Bool) (nodes place picks : List ℕ) (edges
         order = λ e f l m. picks_rise e f l (omega (arith, m, size));
         first = λ e l.
             let p : e < length picks = omega (arith, l, size) in
-            end (edge_at whole.graph (edge e)).a (start_below whole.graph (edge e) (pick_is e p).0) (ends_taken e p).0 (edge_at part.graph e).a (ap (λ (x : Edge). x.a) (at e) ∙ (h.edges_each e p).first);
+            end (edge_at whole.graph (edge e)).a (start_below whole.graph (edge e) (pick_is e p).0) (ends_taken e p).0
+            (edge_at part.graph e).a (ap (λ (x : Edge). x.a) (at e) ∙ (h.edges_each e p).first);
         second = λ e l.
             let p : e < length picks = omega (arith, l, size) in
-            end (edge_at whole.graph (edge e)).b (end_below whole.graph (edge e) (pick_is e p).0) (ends_taken e p).1 (edge_at part.graph e).b (ap (λ (x : Edge). x.b) (at e) ∙ (h.edges_each e p).second);
+            end (edge_at whole.graph (edge e)).b (end_below whole.graph (edge e) (pick_is e p).0) (ends_taken e p).1
+            (edge_at part.graph e).b (ap (λ (x : Edge). x.b) (at e) ∙ (h.edges_each e p).second);
         kind = λ e l. let p : e < length picks = omega (arith, l, size) in sym (ap (λ (x : Edge). x.kind) (at e) ∙ (h.edges_each e p).kind);
         weight = λ e l. let p : e < length picks = omega (arith, l, size) in sym (ap (λ (x : Edge). x.weight) (at e) ∙ (h.edges_each e p).weight);
         ports = λ e l. let p : e < length picks = omega (arith, l, size) in sym (ap (λ xs. slice_index_or xs e (no_port, no_port)) ep ∙ h.ports_each e p);
@@ -160,7 +171,8 @@ module _ (whole : Net) (taken : List Bool) (nodes place picks : List ℕ) (edges
               | inl e ↦ ap (is_taken taken) e ∙ t
               | inr e ↦ h.closed f l ∙ ap (is_taken taken) e ∙ t
             ] in
-            let P : List ℕ → Type 0 = λ xs. (place_in (is_edge_taken taken whole.graph.edges) f < length xs) × (slice_index_or xs (place_in (is_edge_taken taken whole.graph.edges) f) 0 ≡ f) in
+            let P : List ℕ → Type 0 = λ xs. (place_in (is_edge_taken taken whole.graph.edges) f < length xs) ×
+            (slice_index_or xs (place_in (is_edge_taken taken whole.graph.edges) f) 0 ≡ f) in
             let (low, is) = subst P (sym h.picks_are) (picked_at (is_edge_taken taken whole.graph.edges) (length whole.graph.edges) f l ta) in
             (place_in (is_edge_taken taken whole.graph.edges) f, omega (arith, low, size), is);
       } where

@@ -1,6 +1,8 @@
 -- Fragments that a chain of pairs of ends joins are those that edges join.
-use Rattle.std.proofs.Common.{arith, ◌≡◌, ◌+◌, ◌<◌, ◌≤◌, ◌==◌, ◌⊎◌, inl, inr, ℕ, zero, suc, true, false, List, [], ◌∷◌, length, map, refl, sym, ap, subst, ◌∙◌, All, Contains, get_or, max, fold}
-use Rattle.std.proofs.lemmas.Bool.{cases_Bool, eq-eqb, eqb-true, ne_eqb, and_from, and_parts, or_left, or_right, or_cases, lt-ltb, ltb-true, cond-true, cond-false, both_ways}
+use Rattle.std.proofs.Common.{arith, ◌≡◌, ◌+◌, ◌<◌, ◌≤◌, ◌==◌, ◌⊎◌, inl, inr, ℕ, zero, suc, true, false, List, [], ◌∷◌}
+use Rattle.std.proofs.Common.{length, map, refl, sym, ap, subst, ◌∙◌, All, Contains, get_or, max, fold}
+use Rattle.std.proofs.lemmas.Bool.{cases_Bool, eq-eqb, eqb-true, ne_eqb, and_from, and_parts, or_left, or_right}
+use Rattle.std.proofs.lemmas.Bool.{or_cases, lt-ltb, ltb-true, cond-true, cond-false, both_ways}
 use Rattle.std.proofs.lemmas.List.{get_or-map, length-map}
 use Rattle.std.proofs.lemmas.List.Elements.{All-map, All-weaker}
 use Rattle.dpl_classes.specs.Chains.{IsChain}
@@ -120,7 +122,8 @@ are_components net label count' a = record {
 }
 
 -- fragments have one number exactly where their component has one name
-pub one_number : (net : Net) (label : List ℕ) → AreComponents net label → (u v : ℕ) → u < net.graph.nodes → v < net.graph.nodes → (get_or label v 0 == get_or label u 0) ≡ are_one_component net u v
+pub one_number : (net : Net) (label : List ℕ) → AreComponents net label → (u v : ℕ) → u < net.graph.nodes →
+    v < net.graph.nodes → (get_or label v 0 == get_or label u 0) ≡ are_one_component net u v
 one_number net label a u v l m = elim (cases_Bool (are_one_component net u v)) [
   | inl t ↦ eq-eqb _ _ ((a.same v u m l).1 ((component_is net.graph all_edges v u).0 (eqb-true _ _ t))) ∙ sym t
   | inr f ↦ ne_eqb _ _ (λ e. both_ways _ f (eq-eqb _ _ ((component_is net.graph all_edges v u).1 ((a.same v u m l).0 e)))) ∙ sym f

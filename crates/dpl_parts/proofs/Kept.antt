@@ -19,14 +19,18 @@ KeepsAlike part whole edge = (e : ℕ) → e < length part.graph.edges →
 
 -- ---- when the next edge is set aside
 
-raises_crosses : (net : Net) (e : ℕ) → e < length net.graph.edges → raises_excess net (kept_before net e) ≡ true → AreEndsJoined net (is_in (kept_before net e)) e × (LiesInFace net (is_in (kept_before net e)) e → ⊥)
+raises_crosses : (net : Net) (e : ℕ) → e < length net.graph.edges → raises_excess net (kept_before net e) ≡ true →
+    AreEndsJoined net (is_in (kept_before net e)) e × (LiesInFace net (is_in (kept_before net e)) e → ⊥)
 raises_crosses net e l r =
     let kept = kept_before net e in
     let size : length kept ≡ e = kept_length net e in
-    let low : length kept < length net.graph.edges = omega arith in
-    (subst (AreEndsJoined net (is_in kept)) size (raises_joined net kept low r), λ f. raises_far net kept low r (subst (LiesInFace net (is_in kept)) (sym size) f))
+    let low : length kept < length net.graph.edges = omega arith in (
+      subst (AreEndsJoined net (is_in kept)) size (raises_joined net kept low r),
+      λ f. raises_far net kept low r (subst (LiesInFace net (is_in kept)) (sym size) f),
+    )
 
-crosses_raises : (net : Net) (e : ℕ) → e < length net.graph.edges → AreEndsJoined net (is_in (kept_before net e)) e → (LiesInFace net (is_in (kept_before net e)) e → ⊥) → raises_excess net (kept_before net e) ≡ true
+crosses_raises : (net : Net) (e : ℕ) → e < length net.graph.edges → AreEndsJoined net (is_in (kept_before net e)) e →
+    (LiesInFace net (is_in (kept_before net e)) e → ⊥) → raises_excess net (kept_before net e) ≡ true
 crosses_raises net e l j far =
     let kept = kept_before net e in
     let size : length kept ≡ e = kept_length net e in
@@ -40,10 +44,13 @@ false_from false n = refl
 module _ (part whole : Net) (node edge : ℕ → ℕ) (h : IsPartOf part whole node edge) where
   module _ (p q : ℕ → Bool) (alike : (e : ℕ) → e < length part.graph.edges → q (edge e) ≡ p e) where
     ends_there : (e : ℕ) → e < length part.graph.edges → AreEndsJoined part p e → AreEndsJoined whole q (edge e)
-    ends_there e l j = ap (component_of whole.graph q) (h.first e l) ∙ joined_there part whole node edge h p q alike _ _ j ∙ ap (component_of whole.graph q) (sym (h.second e l))
+    ends_there e l j = ap (component_of whole.graph q) (h.first e l) ∙
+        joined_there part whole node edge h p q alike _ _ j ∙ ap (component_of whole.graph q) (sym (h.second e l))
 
     ends_here : (e : ℕ) → e < length part.graph.edges → AreEndsJoined whole q (edge e) → AreEndsJoined part p e
-    ends_here e l j = joined_here part whole node edge h p q alike _ _ (start_below part.graph e l) (end_below part.graph e l) (ap (component_of whole.graph q) (sym (h.first e l)) ∙ j ∙ ap (component_of whole.graph q) (h.second e l))
+    ends_here e l j = joined_here part whole node edge h p q alike _ _ (start_below part.graph e l)
+        (end_below part.graph e l) (ap (component_of whole.graph q) (sym (h.first e l)) ∙ j ∙
+        ap (component_of whole.graph q) (h.second e l))
 
     corner_first : (e : ℕ) → e < length part.graph.edges → next_around whole q (2 * edge e) ≡ dart edge (next_around part p (2 * e))
     corner_first e l = ap (next_around whole q) (sym (dart_first edge e)) ∙ around_same part whole node edge h p q alike (2 * e) (omega arith)
@@ -55,10 +62,14 @@ module _ (part whole : Net) (node edge : ℕ → ℕ) (h : IsPartOf part whole n
     low = around_below part whole node edge h p q alike
 
     lies_there : (e : ℕ) → e < length part.graph.edges → LiesInFace part p e → LiesInFace whole q (edge e)
-    lies_there e l f = ap (face_of whole q) (corner_first e l) ∙ face_there part whole node edge h p q alike _ _ (low (2 * e) (omega arith)) (low (2 * e + 1) (omega arith)) f ∙ ap (face_of whole q) (sym (corner_second e l))
+    lies_there e l f = ap (face_of whole q) (corner_first e l) ∙
+        face_there part whole node edge h p q alike _ _ (low (2 * e) (omega arith)) (low (2 * e + 1) (omega arith)) f ∙
+        ap (face_of whole q) (sym (corner_second e l))
 
     lies_here : (e : ℕ) → e < length part.graph.edges → LiesInFace whole q (edge e) → LiesInFace part p e
-    lies_here e l f = face_here part whole node edge h p q alike _ _ (low (2 * e) (omega arith)) (low (2 * e + 1) (omega arith)) (ap (face_of whole q) (sym (corner_first e l)) ∙ f ∙ ap (face_of whole q) (corner_second e l))
+    lies_here e l f = face_here part whole node edge h p q alike _ _ (low (2 * e) (omega arith))
+        (low (2 * e + 1) (omega arith)) (ap (face_of whole q) (sym (corner_first e l)) ∙ f ∙
+        ap (face_of whole q) (corner_second e l))
 
   -- the same edges are set aside, up to any one
   raise_alike : (k e : ℕ) → e < k → e < length part.graph.edges → raises_excess whole (kept_before whole (edge e)) ≡ raises_excess part (kept_before part e)
@@ -69,7 +80,13 @@ module _ (part whole : Net) (node edge : ℕ → ℕ) (h : IsPartOf part whole n
       let alike : (x : ℕ) → x < length part.graph.edges → q (edge x) ≡ p x = λ x m. elim (cases_lt x e) [
         | inl r ↦ kept_at whole (edge e) (edge x) (h.order x e r l) ∙ ap not (raise_alike k x (omega arith) m) ∙ sym (kept_at part e x r)
         | inr r ↦
-            let first : q (edge x) ≡ false = false_from _ (λ t. let i = kept_inside whole (edge e) (edge x) t in elim (cases_eq x e) [ inl z ↦ let w : edge x ≡ edge e = ap edge z in omega arith | inr z ↦ let w = h.order e x (omega arith) m in omega arith ]) in
+            let first : q (edge x) ≡ false = false_from _
+            (λ t. let i = kept_inside whole (edge e) (edge x) t in
+            elim (cases_eq x e) [
+              | inl z ↦ let w : edge x ≡ edge e = ap edge z in omega arith
+              | inr z ↦ let w =
+                  h.order e x (omega arith) m in omega arith
+            ]) in
             let second : p x ≡ false = false_from _ (λ t. let i = kept_inside part e x t in omega arith) in
             first ∙ sym second
       ] in
@@ -85,4 +102,6 @@ module _ (part whole : Net) (node edge : ℕ → ℕ) (h : IsPartOf part whole n
 
 pub keeps_alike : (part whole : Net) (node edge : ℕ → ℕ) → IsPartOf part whole node edge → KeepsAlike part whole edge
 keeps_alike part whole node edge h e l =
-    kept_at whole (length whole.graph.edges) (edge e) (h.edges e l) ∙ ap not (raise_alike part whole node edge h (suc e) e (omega arith) l) ∙ sym (kept_at part (length part.graph.edges) e l)
+    kept_at whole (length whole.graph.edges) (edge e) (h.edges e l) ∙
+    ap not (raise_alike part whole node edge h (suc e) e (omega arith) l) ∙
+    sym (kept_at part (length part.graph.edges) e l)

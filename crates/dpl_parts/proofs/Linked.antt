@@ -14,12 +14,15 @@ use Rattle.dpl_parts.proofs.Counted.{not_away}
 
 -- a face is named by a dart on it
 pub face_name : (net : Net) (p : ℕ → Bool) (c : ℕ) → c < dart_count net → face_of net p (face_of net p c) ≡ face_of net p c
-face_name net p c l = label_least (dart_count net) (next_in_face net p) (face_back net p) (face_permutes net p) (face_of net p) (λ x k. least_step (dart_count net) (next_in_face net p) (face_back net p) (face_permutes net p) x k) c l
+face_name net p c l = label_least (dart_count net) (next_in_face net p) (face_back net p) (face_permutes net p)
+    (face_of net p) (λ x k. least_step (dart_count net) (next_in_face net p) (face_back net p) (face_permutes net p) x
+    k) c l
 
 pub face_low : (net : Net) (p : ℕ → Bool) (c : ℕ) → c < dart_count net → face_of net p c < dart_count net
 face_low net p c l = let s = least_le (dart_count net) (next_in_face net p) (face_back net p) (face_permutes net p) c l in omega arith
 
-module _ (part whole : Net) (node edge : ℕ → ℕ) (h : IsPartOf part whole node edge) (p q : ℕ → Bool) (alike : (e : ℕ) → e < length part.graph.edges → q (edge e) ≡ p e) where
+module _ (part whole : Net) (node edge : ℕ → ℕ) (h : IsPartOf part whole node edge) (p q : ℕ → Bool)
+    (alike : (e : ℕ) → e < length part.graph.edges → q (edge e) ≡ p e) where
   pub up_is : (c : ℕ) → c < dart_count part → face_of whole q (dart edge (face_of part p c)) ≡ face_of whole q (dart edge c)
   up_is c l = face_there part whole node edge h p q alike (face_of part p c) c (face_low part p c l) l (face_name part p c l)
 
@@ -45,7 +48,9 @@ module _ (part whole : Net) (node edge : ℕ → ℕ) (h : IsPartOf part whole n
     },
   )
 
-  path_there : (f : ℕ) (hs : List ℕ) (g : ℕ) → IsFacePath part p f hs g → IsFacePath whole q (face_of whole q (dart edge f)) (map (λ z. face_of whole q (dart edge z)) hs) (face_of whole q (dart edge g))
+  path_there : (f : ℕ) (hs : List ℕ) (g : ℕ) → IsFacePath part p f hs g →
+      IsFacePath whole q (face_of whole q (dart edge f)) (map (λ z. face_of whole q (dart edge z)) hs)
+      (face_of whole q (dart edge g))
   path_there f [] g r = ap (λ z. face_of whole q (dart edge z)) r
   path_there f (k ∷ hs) g (n, r) = (neighbours_there f k n, path_there k hs g r)
 
@@ -54,11 +59,15 @@ module _ (part whole : Net) (node edge : ℕ → ℕ) (h : IsPartOf part whole n
 
   -- ---- back
 
-  pub from_dart : (f y : ℕ) → f < dart_count part → y < dart_count whole → face_of whole q y ≡ face_of whole q (dart edge f) → (x : ℕ) × (x < dart_count part) × (dart edge x ≡ y)
-  from_dart f y l m r = elim (found (dart edge) (dart_count part) y) [ inl k ↦ k | inr none ↦ absurd (not_away part whole node edge h p q alike f y l m none r) ]
+  pub from_dart : (f y : ℕ) → f < dart_count part → y < dart_count whole →
+      face_of whole q y ≡ face_of whole q (dart edge f) → (x : ℕ) × (x < dart_count part) × (dart edge x ≡ y)
+  from_dart f y l m r = elim (found (dart edge) (dart_count part) y)
+      [ inl k ↦ k | inr none ↦ absurd (not_away part whole node edge h p q alike f y l m none r) ]
 
   -- the face of the part over the other side of an edge
-  step_first : (f k d : ℕ) → f < dart_count part → face_of part p f ≡ f → d < length whole.graph.edges → is_crossable whole q d ≡ true → face_of whole q (2 * d) ≡ face_of whole q (dart edge f) → face_of whole q (2 * d + 1) ≡ k
+  step_first : (f k d : ℕ) → f < dart_count part → face_of part p f ≡ f → d < length whole.graph.edges →
+      is_crossable whole q d ≡ true → face_of whole q (2 * d) ≡ face_of whole q (dart edge f) →
+      face_of whole q (2 * d + 1) ≡ k
       → (g : ℕ) × (g < dart_count part) × (face_of part p g ≡ g) × AreNeighbours part p f g × (face_of whole q (dart edge g) ≡ k)
   step_first f k d l name low cross a b =
       let (x, lx, rx) = from_dart f (2 * d) l (omega arith) a in
@@ -83,7 +92,9 @@ module _ (part whole : Net) (node edge : ℕ → ℕ) (h : IsPartOf part whole n
         up_is (2 * e + 1) (omega arith) ∙ ap (face_of whole q) two ∙ b,
       )
 
-  step_second : (f k d : ℕ) → f < dart_count part → face_of part p f ≡ f → d < length whole.graph.edges → is_crossable whole q d ≡ true → face_of whole q (2 * d) ≡ k → face_of whole q (2 * d + 1) ≡ face_of whole q (dart edge f)
+  step_second : (f k d : ℕ) → f < dart_count part → face_of part p f ≡ f → d < length whole.graph.edges →
+      is_crossable whole q d ≡ true → face_of whole q (2 * d) ≡ k →
+      face_of whole q (2 * d + 1) ≡ face_of whole q (dart edge f)
       → (g : ℕ) × (g < dart_count part) × (face_of part p g ≡ g) × AreNeighbours part p f g × (face_of whole q (dart edge g) ≡ k)
   step_second f k d l name low cross a b =
       let (x, lx, rx) = from_dart f (2 * d + 1) l (omega arith) b in
@@ -92,7 +103,8 @@ module _ (part whole : Net) (node edge : ℕ → ℕ) (h : IsPartOf part whole n
       let in_part : e < length part.graph.edges = omega arith in
       let one : dart edge (2 * e) ≡ 2 * d = let t = dart_first edge e in omega arith in
       let two : dart edge (2 * e + 1) ≡ 2 * d + 1 = let t = dart_second edge e in omega arith in
-      let here : face_of part p (2 * e + 1) ≡ f = face_here part whole node edge h p q alike (2 * e + 1) f (omega arith) l (ap (face_of whole q) two ∙ b) ∙ name in
+      let here : face_of part p (2 * e + 1) ≡ f = face_here part whole node edge h p q alike (2 * e + 1) f (omega arith)
+      l (ap (face_of whole q) two ∙ b) ∙ name in
       let g = face_of part p (2 * e) in (
         g,
         face_low part p (2 * e) (omega arith),
@@ -125,8 +137,11 @@ module _ (part whole : Net) (node edge : ℕ → ℕ) (h : IsPartOf part whole n
 
 pub links_alike : (part whole : Net) (node edge : ℕ → ℕ) → IsPartOf part whole node edge → (f g : ℕ) → AreOfOneKeptPart part f g →
     AreOfOneKeptPart whole (face_at whole (dart edge f)) (face_at whole (dart edge g))
-links_alike part whole node edge h f g r = one_part_there part whole node edge h (is_in (kept_edges part)) (is_in (kept_edges whole)) (keeps_alike part whole node edge h) f g r
+links_alike part whole node edge h f g r = one_part_there part whole node edge h (is_in (kept_edges part))
+    (is_in (kept_edges whole)) (keeps_alike part whole node edge h) f g r
 
-pub links_stay : (part whole : Net) (node edge : ℕ → ℕ) → IsPartOf part whole node edge → (f k : ℕ) → f < dart_count part → face_at part f ≡ f → AreOfOneKeptPart whole (face_at whole (dart edge f)) k →
+pub links_stay : (part whole : Net) (node edge : ℕ → ℕ) → IsPartOf part whole node edge → (f k : ℕ) →
+    f < dart_count part → face_at part f ≡ f → AreOfOneKeptPart whole (face_at whole (dart edge f)) k →
     (g : ℕ) × (g < dart_count part) × (face_at part g ≡ g) × AreOfOneKeptPart part f g × (face_at whole (dart edge g) ≡ k)
-links_stay part whole node edge h f k l name r = path_back part whole node edge h (is_in (kept_edges part)) (is_in (kept_edges whole)) (keeps_alike part whole node edge h) r.0 f k l name r.1
+links_stay part whole node edge h f k l name r = path_back part whole node edge h (is_in (kept_edges part))
+    (is_in (kept_edges whole)) (keeps_alike part whole node edge h) r.0 f k l name r.1

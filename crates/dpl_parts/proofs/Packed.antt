@@ -1,5 +1,6 @@
 -- The cycles of the parts, in the numbers of the whole, are a packing of it.
-use Rattle.std.proofs.Common.{arith, ◌≡◌, ◌≢◌, ℕ, suc, ◌*◌, ◌%◌, ◌<◌, ◌≤◌, ◌==◌, refl, sym, ap, subst, ◌∙◌, true, false, cond, inl, inr, List, [], ◌∷◌, length, map, eq-eqb, length-append}
+use Rattle.std.proofs.Common.{arith, ◌≡◌, ◌≢◌, ℕ, suc, ◌*◌, ◌%◌, ◌<◌, ◌≤◌, ◌==◌, refl, sym, ap, subst, ◌∙◌, true, false}
+use Rattle.std.proofs.Common.{cond, inl, inr, List, [], ◌∷◌, length, map, eq-eqb, length-append}
 use Rattle.std.specs.Prelude.{All, sum_by, count_by, slice_index_or}
 use Rattle.std.proofs.lemmas.Bool.{cases_eq, ne_eqb, and_from, or_left, or_right, lt-ltb, cond-false}
 use Rattle.std.proofs.lemmas.List.{length-map}
@@ -31,7 +32,8 @@ sum_by_map f g (x ∷ xs) =
 -- ---- walks of a part
 
 module _ (part whole : Net) (node edge : ℕ → ℕ) (h : IsPartOf part whole node edge) where
-  step_up : (e v : ℕ) → leaves part.graph e v ≡ true → (leaves whole.graph (edge e) (node v) ≡ true) × (across (edge_at whole.graph (edge e)) (node v) ≡ node (across (edge_at part.graph e) v))
+  step_up : (e v : ℕ) → leaves part.graph e v ≡ true → (leaves whole.graph (edge e) (node v) ≡ true) ×
+      (across (edge_at whole.graph (edge e)) (node v) ≡ node (across (edge_at part.graph e) v))
   step_up e v t =
       let s = leaves_ends part.graph e v t in
       let l = s.inside in
@@ -64,10 +66,13 @@ module _ (part whole : Net) (node edge : ℕ → ℕ) (h : IsPartOf part whole n
   clashes_up : (es : List ℕ) → All (λ e. e < length part.graph.edges) es → clashes whole.graph (map edge es) ≡ clashes part.graph es
   clashes_up es inside =
       sum_by_map (λ e. cond (is_clash (edge_at whole.graph e).kind) 1 0) edge es
-      ∙ sum_by_alike (λ e. cond (is_clash (edge_at whole.graph (edge e)).kind) 1 0) (λ e. cond (is_clash (edge_at part.graph e).kind) 1 0) es (λ k d l. ap (λ z. cond (is_clash z) 1 0) (h.kind (slice_index_or es k d) (inside k d l)))
+      ∙ sum_by_alike (λ e. cond (is_clash (edge_at whole.graph (edge e)).kind) 1 0)
+      (λ e. cond (is_clash (edge_at part.graph e).kind) 1 0) es
+      (λ k d l. ap (λ z. cond (is_clash z) 1 0) (h.kind (slice_index_or es k d) (inside k d l)))
 
   -- how often a walk passes an edge
-  passes_up : (e : ℕ) → e < length part.graph.edges → (es : List ℕ) → All (λ x. x < length part.graph.edges) es → count_by (λ x. x == edge e) (map edge es) ≡ count_by (λ x. x == e) es
+  passes_up : (e : ℕ) → e < length part.graph.edges → (es : List ℕ) → All (λ x. x < length part.graph.edges) es →
+      count_by (λ x. x == edge e) (map edge es) ≡ count_by (λ x. x == e) es
   passes_up e l es inside =
       sum_by_map (λ x. cond (x == edge e) 1 0) edge es
       ∙ sum_by_alike (λ x. cond (edge x == edge e) 1 0) (λ x. cond (x == e) 1 0) es (λ k d m.
@@ -78,7 +83,8 @@ module _ (part whole : Net) (node edge : ℕ → ℕ) (h : IsPartOf part whole n
       ]))
 
   -- and that it passes no edge of another part
-  passes_none : (f : ℕ) → ((e : ℕ) → e < length part.graph.edges → edge e ≢ f) → (es : List ℕ) → All (λ x. x < length part.graph.edges) es → count_by (λ x. x == f) (map edge es) ≡ 0
+  passes_none : (f : ℕ) → ((e : ℕ) → e < length part.graph.edges → edge e ≢ f) → (es : List ℕ) →
+      All (λ x. x < length part.graph.edges) es → count_by (λ x. x == f) (map edge es) ≡ 0
   passes_none f none [] inside = refl
   passes_none f none (e ∷ es) inside =
       let c = sum_by-cons (λ x. cond (x == f) 1 0) (edge e) (map edge es) in
@@ -107,14 +113,16 @@ module _ (whole : Net) (p : Part) (h : IsPartOf p.net whole p.node p.edge) where
         odd = ap (λ z. z % 2) (clashes_up p.net whole p.node p.edge h c.walk.edges (walk_inside p.net c o)) ∙ o.odd;
       }
 
-  carried_up : (e : ℕ) → e < edges_in p → (cs : List Cycle) → All (λ c. IsOddWalk p.net.graph c.walk) cs → carried (map (renumbered p) cs) (p.edge e) ≡ carried cs e
+  carried_up : (e : ℕ) → e < edges_in p → (cs : List Cycle) → All (λ c. IsOddWalk p.net.graph c.walk) cs →
+      carried (map (renumbered p) cs) (p.edge e) ≡ carried cs e
   carried_up e l cs odd =
       sum_by_map (λ c. c.half * count_by (λ x. x == p.edge e) c.walk.edges) (renumbered p) cs
       ∙ sum_by_alike (λ c. c.half * count_by (λ x. x == p.edge e) (map p.edge c.walk.edges)) (λ c. c.half * count_by (λ x. x == e) c.walk.edges) cs (λ k d m.
       let c = slice_index_or cs k d in
       ap (λ z. c.half * z) (passes_up p.net whole p.node p.edge h e l c.walk.edges (walk_inside p.net c (odd k d m))))
 
-  carried_none : (f : ℕ) → ((e : ℕ) → e < edges_in p → p.edge e ≢ f) → (cs : List Cycle) → All (λ c. IsOddWalk p.net.graph c.walk) cs → carried (map (renumbered p) cs) f ≡ 0
+  carried_none : (f : ℕ) → ((e : ℕ) → e < edges_in p → p.edge e ≢ f) → (cs : List Cycle) →
+      All (λ c. IsOddWalk p.net.graph c.walk) cs → carried (map (renumbered p) cs) f ≡ 0
   carried_none f none [] odd = refl
   carried_none f none (c ∷ cs) odd =
       let a = sum_by-cons (λ z. z.half * count_by (λ x. x == f) z.walk.edges) (renumbered p c) (map (renumbered p) cs) in
@@ -123,11 +131,13 @@ module _ (whole : Net) (p : Part) (h : IsPartOf p.net whole p.node p.edge) where
       let r = carried_none f none cs (λ k d l. odd (suc k) d (omega (arith, l))) in
       omega (arith, a, w, r)
 
-  once_up : (c : Cycle) → IsOddWalk p.net.graph c.walk → ((e : ℕ) → count_by (λ x. x == e) c.walk.edges ≤ 1) → (f : ℕ) → count_by (λ x. x == f) (renumbered p c).walk.edges ≤ 1
+  once_up : (c : Cycle) → IsOddWalk p.net.graph c.walk → ((e : ℕ) → count_by (λ x. x == e) c.walk.edges ≤ 1) → (f : ℕ) →
+      count_by (λ x. x == f) (renumbered p c).walk.edges ≤ 1
   once_up c o once f = elim (found p.edge (edges_in p) f) [
     | inl (e, l, r) ↦
         let u = passes_up p.net whole p.node p.edge h e l c.walk.edges (walk_inside p.net c o) in
-        let t : count_by (λ x. x == f) (map p.edge c.walk.edges) ≡ count_by (λ x. x == p.edge e) (map p.edge c.walk.edges) = ap (λ z. count_by (λ x. x == z) (map p.edge c.walk.edges)) (sym r) in
+        let t : count_by (λ x. x == f) (map p.edge c.walk.edges) ≡ count_by (λ x. x == p.edge e)
+        (map p.edge c.walk.edges) = ap (λ z. count_by (λ x. x == z) (map p.edge c.walk.edges)) (sym r) in
         let o = once e in
         omega (arith, u, t, o)
     | inr none ↦ let u = passes_none p.net whole p.node p.edge h f none c.walk.edges (walk_inside p.net c o) in omega (arith, u)
@@ -138,7 +148,9 @@ module _ (whole : Net) (p : Part) (h : IsPartOf p.net whole p.node p.edge) where
 -- what each cycle of each part has, each of all has
 pub all_have : (P : Cycle → Type 0) (parts : List Part) → All (λ p. All (λ c. P (renumbered p c)) p.cycles) parts → All P (all_cycles parts)
 all_have P [] each = All-nil P
-all_have P (p ∷ parts) each = All-append P (map (renumbered p) p.cycles) (all_cycles parts) (All-map P (renumbered p) p.cycles (each 0 p (omega arith))) (all_have P parts (λ k d l. each (suc k) d (omega (arith, l))))
+all_have P (p ∷ parts) each = All-append P (map (renumbered p) p.cycles) (all_cycles parts)
+    (All-map P (renumbered p) p.cycles (each 0 p (omega arith)))
+    (all_have P parts (λ k d l. each (suc k) d (omega (arith, l))))
 
 pub bound_sum : (parts : List Part) → bound_of (all_cycles parts) ≡ sum_by (λ p. bound_of p.cycles) parts
 bound_sum [] = refl
@@ -165,16 +177,19 @@ module _ (whole : Net) where
   abbrev ArePartsOf : List Part → Type 0
   ArePartsOf parts = All (λ p. IsPartOf p.net whole p.node p.edge) parts
 
-  all_none : (f : ℕ) (parts : List Part) → ArePartsOf parts → AreOdd parts → All (λ p. (e : ℕ) → e < edges_in p → p.edge e ≢ f) parts → carried (all_cycles parts) f ≡ 0
+  all_none : (f : ℕ) (parts : List Part) → ArePartsOf parts → AreOdd parts →
+      All (λ p. (e : ℕ) → e < edges_in p → p.edge e ≢ f) parts → carried (all_cycles parts) f ≡ 0
   all_none f [] are odd none = refl
   all_none f (p ∷ parts) are odd none =
       let a = sum_by-append (λ (c : Cycle). c.half * count_by (λ x. x == f) c.walk.edges) (map (renumbered p) p.cycles) (all_cycles parts) in
       let z = carried_none whole p (are 0 p (omega arith)) f (none 0 p (omega arith)) p.cycles (odd 0 p (omega arith)) in
-      let r = all_none f parts (λ k d l. are (suc k) d (omega (arith, l))) (λ k d l. odd (suc k) d (omega (arith, l))) (λ k d l. none (suc k) d (omega (arith, l))) in
+      let r = all_none f parts (λ k d l. are (suc k) d (omega (arith, l))) (λ k d l. odd (suc k) d (omega (arith, l)))
+      (λ k d l. none (suc k) d (omega (arith, l))) in
       omega (arith, a, z, r)
 
   -- an edge carries what it carries in its part
-  all_within : (f : ℕ) → is_bond (edge_at whole.graph f).kind ≡ false → (parts : List Part) → ArePartsOf parts → AreShares edges_in (λ p. p.edge) (length whole.graph.edges) parts
+  all_within : (f : ℕ) → is_bond (edge_at whole.graph f).kind ≡ false → (parts : List Part) → ArePartsOf parts →
+      AreShares edges_in (λ p. p.edge) (length whole.graph.edges) parts
       → All (λ p. IsPacking p.net.graph p.cycles) parts → carried (all_cycles parts) f ≤ 2 * (edge_at whole.graph f).weight
   all_within f bond [] are shares packed = omega arith
   all_within f bond (p ∷ parts) are shares packed =
@@ -185,31 +200,39 @@ module _ (whole : Net) where
       elim (found p.edge (edges_in p) f) [
         | inl (e, l, r) ↦
             let c = carried_up whole p here e l p.cycles own.odd in
-            let at : carried (map (renumbered p) p.cycles) f ≡ carried (map (renumbered p) p.cycles) (p.edge e) = ap (carried (map (renumbered p) p.cycles)) (sym r) in
-            let kind : is_bond (edge_at p.net.graph e).kind ≡ false = ap is_bond (sym (here.kind e l)) ∙ ap (λ z. is_bond (edge_at whole.graph z).kind) r ∙ bond in
+            let at : carried (map (renumbered p) p.cycles) f ≡ carried (map (renumbered p) p.cycles) (p.edge e) =
+            ap (carried (map (renumbered p) p.cycles)) (sym r) in
+            let kind : is_bond (edge_at p.net.graph e).kind ≡ false = ap is_bond (sym (here.kind e l)) ∙
+            ap (λ z. is_bond (edge_at whole.graph z).kind) r ∙ bond in
             let w = own.within e l kind in
             let n = loads_counted p.cycles e in
             let weight : (edge_at whole.graph f).weight ≡ (edge_at p.net.graph e).weight = ap (λ z. (edge_at whole.graph z).weight) (sym r) ∙ here.weight e l in
-            let z = all_none f parts later (λ k d m. (packed (suc k) d (omega (arith, m))).odd) (λ k d m x b s. shares.apart 0 (suc k) d (omega arith) (omega (arith, m)) e x l b (r ∙ sym s)) in
+            let z = all_none f parts later (λ k d m. (packed (suc k) d (omega (arith, m))).odd)
+            (λ k d m x b s. shares.apart 0 (suc k) d (omega arith) (omega (arith, m)) e x l b (r ∙ sym s)) in
             omega (arith, a, c, at, w, n, weight, z)
         | inr none ↦
             let z = carried_none whole p here f none p.cycles own.odd in
-            let r = all_within f bond parts later (shares_rest edges_in (λ q. q.edge) (length whole.graph.edges) p parts shares) (λ k d l. packed (suc k) d (omega (arith, l))) in
+            let r = all_within f bond parts later (shares_rest edges_in (λ q. q.edge) (length whole.graph.edges) p parts
+            shares) (λ k d l. packed (suc k) d (omega (arith, l))) in
             omega (arith, a, z, r)
       ]
 
-pub packing_sum : (whole : Net) (parts : List Part) → ShareOut whole parts → All (λ p. IsPacking p.net.graph p.cycles) parts → IsPacking whole.graph (all_cycles parts)
+pub packing_sum : (whole : Net) (parts : List Part) → ShareOut whole parts →
+    All (λ p. IsPacking p.net.graph p.cycles) parts → IsPacking whole.graph (all_cycles parts)
 packing_sum whole parts h packed = record {
   halves = all_have (λ c. 1 ≤ c.half) parts (λ k d l. (packed k d l).halves);
   odd = all_have (λ c. IsOddWalk whole.graph c.walk) parts (λ k d l.
       let p = slice_index_or parts k d in
       let o = (packed k d l).odd in
       λ j c m. odd_up whole p (h.are k d l) (slice_index_or p.cycles j c) (o j c m));
-  within = λ f l bond. let a = loads_counted (all_cycles parts) f in let b = all_within whole f bond parts h.are (edge_shares whole parts h) packed in omega (arith, a, b);
+  within = λ f l bond. let a = loads_counted (all_cycles parts) f in let b =
+      all_within whole f bond parts h.are (edge_shares whole parts h) packed in omega (arith, a, b);
 }
 
 -- each cycle passes each edge at most once where it does in its part
-pub once_sum : (whole : Net) (parts : List Part) → ShareOut whole parts → All (λ p. IsPacking p.net.graph p.cycles) parts → All (λ p. All (λ c. (e : ℕ) → count_by (λ x. x == e) c.walk.edges ≤ 1) p.cycles) parts
+pub once_sum : (whole : Net) (parts : List Part) → ShareOut whole parts →
+    All (λ p. IsPacking p.net.graph p.cycles) parts → All
+    (λ p. All (λ c. (e : ℕ) → count_by (λ x. x == e) c.walk.edges ≤ 1) p.cycles) parts
     → All (λ c. (e : ℕ) → count_by (λ x. x == e) c.walk.edges ≤ 1) (all_cycles parts)
 once_sum whole parts h packed once = all_have (λ c. (e : ℕ) → count_by (λ x. x == e) c.walk.edges ≤ 1) parts (λ k d l.
     let p = slice_index_or parts k d in

@@ -19,11 +19,15 @@ use Rattle.dpl_parts.proofs.Sums.{sum_to, sum_alike}
 pub names_counted : (names : ℕ → ℕ) (n : ℕ) → name_count names n ≡ sum_to (λ v. if names v == v then 1 else 0) n
 names_counted names zero = refl
 names_counted names (suc n) = elim (cases_eq (names n) n) [
-  | inl e ↦ let c = count_in names n e in let r = names_counted names n in let w : (if names n == n then 1 else 0) ≡ 1 = cond-true {A = ℕ} (names n == n) 1 0 (eq-eqb _ _ e) in omega (arith, c, r, w)
-  | inr e ↦ let c = count_out names n e in let r = names_counted names n in let w : (if names n == n then 1 else 0) ≡ 0 = cond-false {A = ℕ} (names n == n) 1 0 (ne_eqb _ _ e) in omega (arith, c, r, w)
+  | inl e ↦ let c = count_in names n e in let r = names_counted names n in let w : (if names n == n then 1 else 0) ≡ 1 =
+      cond-true {A = ℕ} (names n == n) 1 0 (eq-eqb _ _ e) in omega (arith, c, r, w)
+  | inr e ↦ let c = count_out names n e in let r = names_counted names n in
+      let w : (if names n == n then 1 else 0) ≡ 0 = cond-false {A = ℕ} (names n == n) 1 0 (ne_eqb _ _ e) in
+      omega (arith, c, r, w)
 ]
 
-module _ (part whole : Net) (node edge : ℕ → ℕ) (h : IsPartOf part whole node edge) (p q : ℕ → Bool) (alike : (e : ℕ) → e < length part.graph.edges → q (edge e) ≡ p e) where
+module _ (part whole : Net) (node edge : ℕ → ℕ) (h : IsPartOf part whole node edge) (p q : ℕ → Bool)
+    (alike : (e : ℕ) → e < length part.graph.edges → q (edge e) ≡ p e) where
   -- ---- bare nodes
 
   ends_there : (e v : ℕ) → e < length part.graph.edges → EndsAt part.graph e v → EndsAt whole.graph (edge e) (node v)
@@ -41,7 +45,8 @@ module _ (part whole : Net) (node edge : ℕ → ℕ) (h : IsPartOf part whole n
       elim (cases_Bool (is_met_below part.graph p m v)) [
         | inl t ↦
             let i = met_is part.graph p m v t in
-            let there = met_from whole.graph q n (edge i.edge) (node v) (h.edges i.edge i.inside) (alike i.edge i.inside ∙ i.chosen) (ends_there i.edge v i.inside i.ends) in
+            let there = met_from whole.graph q n (edge i.edge) (node v) (h.edges i.edge i.inside)
+            (alike i.edge i.inside ∙ i.chosen) (ends_there i.edge v i.inside i.ends) in
             ap not (there ∙ sym t)
         | inr t ↦ elim (cases_Bool (is_met_below whole.graph q n (node v))) [
           | inl s ↦
@@ -86,7 +91,8 @@ module _ (part whole : Net) (node edge : ℕ → ℕ) (h : IsPartOf part whole n
       let e : name_in v ≡ x = omega (arith, t) in
       (omega (arith, e, lx), ap node e ∙ rx)
 
-  name_of_one : (u v : ℕ) → u < part.graph.nodes → v < part.graph.nodes → component_of whole.graph q (node u) ≡ component_of whole.graph q (node v) → name_in u ≡ name_in v
+  name_of_one : (u v : ℕ) → u < part.graph.nodes → v < part.graph.nodes →
+      component_of whole.graph q (node u) ≡ component_of whole.graph q (node v) → name_in u ≡ name_in v
   name_of_one u v l m e =
       let (a, ra) = name_in_is u l in
       let (b, rb) = name_in_is v m in

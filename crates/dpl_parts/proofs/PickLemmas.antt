@@ -1,5 +1,6 @@
 -- Numbers that pass a test, in order.
-use Rattle.std.proofs.Common.{arith, ◌≡◌, ℕ, zero, suc, ◌<◌, ◌≤◌, inl, inr, Bool, true, false, List, [], ◌∷◌, ◌++◌, length, refl, sym, ap, subst, ◌∙◌, slice_index_or, length-append}
+use Rattle.std.proofs.Common.{arith, ◌≡◌, ℕ, zero, suc, ◌<◌, ◌≤◌, inl, inr, Bool, true, false, List, [], ◌∷◌, ◌++◌}
+use Rattle.std.proofs.Common.{length, refl, sym, ap, subst, ◌∙◌, slice_index_or, length-append}
 use Rattle.std.proofs.lemmas.Bool.{cases_lt, cases_eq, cases_Bool}
 use Rattle.dpl_parts.specs.Picks.{picked_below, place_in}
 
@@ -29,7 +30,8 @@ module _ (test : ℕ → Bool) where
       ]
 
   -- what a picked number is
-  pub picked_is : (k i : ℕ) → i < length (picked_below test k) → (slice_index_or (picked_below test k) i 0 < k) × (test (slice_index_or (picked_below test k) i 0) ≡ true)
+  pub picked_is : (k i : ℕ) → i < length (picked_below test k) → (slice_index_or (picked_below test k) i 0 < k) ×
+      (test (slice_index_or (picked_below test k) i 0) ≡ true)
   picked_is zero i l = absurd (omega (arith, l))
   picked_is (suc k) i l = elim (cases_Bool (test k)) [
     | inl t ↦
@@ -44,7 +46,8 @@ module _ (test : ℕ → Bool) where
               (omega (arith, f, b), ap test f ∙ t')
           | inr not ↦
               let s : i ≡ length (picked_below test k) = omega (arith, not, l, n, a) in
-              let f : slice_index_or (picked_below test k ++ k ∷ []) i 0 ≡ k = ap (λ j. slice_index_or (picked_below test k ++ k ∷ []) j 0) s ∙ push_at (picked_below test k) k in
+              let f : slice_index_or (picked_below test k ++ k ∷ []) i 0 ≡ k =
+              ap (λ j. slice_index_or (picked_below test k ++ k ∷ []) j 0) s ∙ push_at (picked_below test k) k in
               (omega (arith, f), ap test f ∙ t)
         ])
     | inr t ↦
@@ -56,13 +59,15 @@ module _ (test : ℕ → Bool) where
   ]
 
   -- a number that passes is picked, at its place
-  pub picked_at : (k v : ℕ) → v < k → test v ≡ true → (place_in test v < length (picked_below test k)) × (slice_index_or (picked_below test k) (place_in test v) 0 ≡ v)
+  pub picked_at : (k v : ℕ) → v < k → test v ≡ true → (place_in test v < length (picked_below test k)) ×
+      (slice_index_or (picked_below test k) (place_in test v) 0 ≡ v)
   picked_at zero v l t = absurd (omega (arith, l))
   picked_at (suc k) v l t = elim (cases_eq v k) [
     | inl same ↦
         let tk : test k ≡ true = ap test (sym same) ∙ t in
         let e = take_true k tk in
-        let P : ℕ → Type 0 = λ w. (place_in test w < length (picked_below test (suc k))) × (slice_index_or (picked_below test (suc k)) (place_in test w) 0 ≡ w) in
+        let P : ℕ → Type 0 = λ w. (place_in test w < length (picked_below test (suc k))) ×
+        (slice_index_or (picked_below test (suc k)) (place_in test w) 0 ≡ w) in
         let Q : List ℕ → Type 0 = λ xs. (length (picked_below test k) < length xs) × (slice_index_or xs (length (picked_below test k)) 0 ≡ k) in
         let a = length-append (picked_below test k) (k ∷ []) in
         subst P (sym same) (subst Q (sym e) (omega (arith, a), push_at (picked_below test k) k))
@@ -102,7 +107,8 @@ module _ (test : ℕ → Bool) where
               omega (arith, f, g, r)
           | inr not ↦
               let s : j ≡ length (picked_below test k) = omega (arith, not, m, n, a) in
-              let g : slice_index_or (picked_below test k ++ k ∷ []) j 0 ≡ k = ap (λ z. slice_index_or (picked_below test k ++ k ∷ []) z 0) s ∙ push_at (picked_below test k) k in
+              let g : slice_index_or (picked_below test k ++ k ∷ []) j 0 ≡ k =
+              ap (λ z. slice_index_or (picked_below test k ++ k ∷ []) z 0) s ∙ push_at (picked_below test k) k in
               let low : i < length (picked_below test k) = omega (arith, l, s) in
               let f = push_front (picked_below test k) k i low in
               let (b, t') = picked_is k i low in

@@ -40,7 +40,9 @@ pub cleared_at : (place f : ℕ → ℕ) (m i x : ℕ) → i < m → place i ≡
 cleared_at place f zero i x l e = absurd (omega arith)
 cleared_at place f (suc m) i x l e = elim (cases_eq (place m) x) [
   | inl r ↦ out_here (place m) x (cleared place f m) r
-  | inr r ↦ out_other (place m) x (cleared place f m) r ∙ cleared_at place f m i x (elim (cases_eq i m) [ inl z ↦ absurd (r (ap place (sym z) ∙ e)) | inr z ↦ omega arith ]) e
+  | inr r ↦ out_other (place m) x (cleared place f m) r ∙
+      cleared_at place f m i x (elim (cases_eq i m) [ inl z ↦ absurd (r (ap place (sym z) ∙ e)) | inr z ↦ omega arith ])
+      e
 ]
 
 pub sum_cleared : (place f : ℕ → ℕ) (m n : ℕ) → ((i : ℕ) → i < m → place i < n) → ((i j : ℕ) → i < m → j < m → place i ≡ place j → i ≡ j)
@@ -109,6 +111,7 @@ module _ {X : Type 0} (size : X → ℕ) (place : X → ℕ → ℕ) (n : ℕ) w
         ]
       ]) in
       let same = sum_by_alike (λ z. sum_to (λ i. g (place z i)) (size z)) (λ z. sum_to (λ i. f (place z i)) (size z)) xs (λ k d l.
-      sum_alike _ _ (size (slice_index_or xs k d)) (λ j m. cleared_away (place x) f (size x) (place (slice_index_or xs k d) j) (λ i b. h.apart 0 (suc k) d (omega arith) (omega (arith, l)) i j b m))) in
+      sum_alike _ _ (size (slice_index_or xs k d)) (λ j m. cleared_away (place x) f (size x)
+      (place (slice_index_or xs k d) j) (λ i b. h.apart 0 (suc k) d (omega arith) (omega (arith, l)) i j b m))) in
       let c = sum_by-cons (λ z. sum_to (λ i. f (place z i)) (size z)) x xs in
       omega (arith, s, rest, same, c)

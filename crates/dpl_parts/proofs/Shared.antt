@@ -1,5 +1,6 @@
 -- What the parts that share out a net sum to.
-use Rattle.std.proofs.Common.{arith, ◌≡◌, ◌≢◌, ℕ, zero, suc, ◌+◌, ◌*◌, ◌/◌, ◌%◌, ◌<◌, ◌==◌, ◌&&◌, refl, sym, ap, ◌∙◌, Bool, false, inl, inr, List, [], ◌∷◌, length}
+use Rattle.std.proofs.Common.{arith, ◌≡◌, ◌≢◌, ℕ, zero, suc, ◌+◌, ◌*◌, ◌/◌, ◌%◌, ◌<◌, ◌==◌, ◌&&◌, refl, sym, ap, ◌∙◌}
+use Rattle.std.proofs.Common.{Bool, false, inl, inr, List, [], ◌∷◌, length}
 use Rattle.std.specs.Prelude.{if◌then◌else◌, All, sum_by, slice_index_or}
 use Rattle.std.proofs.lemmas.Bool.{cases_eq, cases_Bool, ne_eqb}
 use Rattle.std.proofs.lemmas.List.Sums.{sum_by-cons}
@@ -61,41 +62,51 @@ one_sum f (suc n) = let r = one_sum f n in omega (arith, r)
 pub not_odd : (net : Net) (set : ℕ → Bool) (f : ℕ) → face_of net set f ≢ f → is_odd_face net set f ≡ false
 not_odd net set f n =
     let m = dart_count net in
-    let none : passages_on_face net set (is_clash_edge net) f ≡ 0 = count_on_same m (λ d. set (d / 2) && (face_of net set d == f) && is_clash_edge net (d / 2)) (λ d. false) (λ d l.
+    let none : passages_on_face net set (is_clash_edge net) f ≡ 0 =
+    count_on_same m (λ d. set (d / 2) && (face_of net set d == f) && is_clash_edge net (d / 2)) (λ d. false) (λ d l.
     let r = ne_eqb (face_of net set d) f (λ e. n (ap (face_of net set) (sym e) ∙ face_name net set d l ∙ e)) in
     elim (cases_Bool (set (d / 2))) [ inl t ↦ rw (t, r) refl | inr t ↦ rw t refl ]) ∙ sums_to (λ d. false) (λ x. 1) m ∙ zeros m in
     ap (λ z. z % 2 == 1) none
 
-pub odd_up : (part whole : Net) (node edge : ℕ → ℕ) → IsPartOf part whole node edge → (p q : ℕ → Bool) → ((e : ℕ) → e < length part.graph.edges → q (edge e) ≡ p e)
+pub odd_up : (part whole : Net) (node edge : ℕ → ℕ) → IsPartOf part whole node edge → (p q : ℕ → Bool) →
+    ((e : ℕ) → e < length part.graph.edges → q (edge e) ≡ p e)
     → (c : ℕ) → c < dart_count part → is_odd_face whole q (dart edge c) ≡ is_odd_face part p c
 odd_up part whole node edge h p q alike c l =
     let up = face_up part whole node edge h p q alike c l in
     elim (cases_eq (face_of part p c) c) [
       | inl e ↦ ap (is_odd_face whole q) (sym (up ∙ ap (dart edge) e)) ∙ odd_alike part whole node edge h p q alike c l ∙ ap (is_odd_face part p) e
       | inr e ↦
-          let away : face_of whole q (dart edge c) ≢ dart edge c = λ s. e (dart_apart part whole node edge h (face_of part p c) c (face_low part p c l) l (sym up ∙ s)) in
+          let away : face_of whole q (dart edge c) ≢ dart edge c =
+          λ s. e (dart_apart part whole node edge h (face_of part p c) c (face_low part p c l) l (sym up ∙ s)) in
           not_odd whole q (dart edge c) away ∙ sym (not_odd part p c e)
     ]
 
 -- ---- edges of a part
 
-module _ (part whole : Net) (node edge : ℕ → ℕ) (h : IsPartOf part whole node edge) (colours own : List Bool) (agree : (v : ℕ) → v < part.graph.nodes → colour_of colours (node v) ≡ colour_of own v) where
+module _ (part whole : Net) (node edge : ℕ → ℕ) (h : IsPartOf part whole node edge) (colours own : List Bool)
+    (agree : (v : ℕ) → v < part.graph.nodes → colour_of colours (node v) ≡ colour_of own v) where
   weight_alike : (e : ℕ) → e < length part.graph.edges → broken_weight colours (edge_at whole.graph (edge e)) ≡ broken_weight own (edge_at part.graph e)
   weight_alike e l =
       let kind = h.kind e l in
       let weight = h.weight e l in
-      let a : colour_of colours (edge_at whole.graph (edge e)).a ≡ colour_of own (edge_at part.graph e).a = ap (colour_of colours) (h.first e l) ∙ agree _ (start_below part.graph e l) in
-      let b : colour_of colours (edge_at whole.graph (edge e)).b ≡ colour_of own (edge_at part.graph e).b = ap (colour_of colours) (h.second e l) ∙ agree _ (end_below part.graph e l) in
+      let a : colour_of colours (edge_at whole.graph (edge e)).a ≡ colour_of own (edge_at part.graph e).a =
+      ap (colour_of colours) (h.first e l) ∙ agree _ (start_below part.graph e l) in
+      let b : colour_of colours (edge_at whole.graph (edge e)).b ≡ colour_of own (edge_at part.graph e).b =
+      ap (colour_of colours) (h.second e l) ∙ agree _ (end_below part.graph e l) in
       rw (kind, weight, a, b) refl
 
-  kept_weight_alike : (e : ℕ) → e < length part.graph.edges → (if is_in (kept_edges whole) (edge e) && breaks colours (edge_at whole.graph (edge e)) then (edge_at whole.graph (edge e)).weight else 0)
+  kept_weight_alike : (e : ℕ) → e < length part.graph.edges →
+      (if is_in (kept_edges whole) (edge e) && breaks colours (edge_at whole.graph (edge e)) then
+      (edge_at whole.graph (edge e)).weight else 0)
       ≡ (if is_in (kept_edges part) e && breaks own (edge_at part.graph e) then (edge_at part.graph e).weight else 0)
   kept_weight_alike e l =
       let k = keeps_alike part whole node edge h e l in
       let kind = h.kind e l in
       let weight = h.weight e l in
-      let a : colour_of colours (edge_at whole.graph (edge e)).a ≡ colour_of own (edge_at part.graph e).a = ap (colour_of colours) (h.first e l) ∙ agree _ (start_below part.graph e l) in
-      let b : colour_of colours (edge_at whole.graph (edge e)).b ≡ colour_of own (edge_at part.graph e).b = ap (colour_of colours) (h.second e l) ∙ agree _ (end_below part.graph e l) in
+      let a : colour_of colours (edge_at whole.graph (edge e)).a ≡ colour_of own (edge_at part.graph e).a =
+      ap (colour_of colours) (h.first e l) ∙ agree _ (start_below part.graph e l) in
+      let b : colour_of colours (edge_at whole.graph (edge e)).b ≡ colour_of own (edge_at part.graph e).b =
+      ap (colour_of colours) (h.second e l) ∙ agree _ (end_below part.graph e l) in
       rw (k, kind, weight, a, b) refl
 
 cost_by_places : (g : Signed) (colours : List Bool) → cost_of g colours ≡ sum_to (λ e. broken_weight colours (edge_at g e)) (length g.edges)
@@ -132,7 +143,8 @@ module _ (whole : Net) (parts : List Part) (h : ShareOut whole parts) where
         let q = slice_index_or parts j d in
         let hp = h.are i d (omega (arith, l, m)) in
         let hq = h.are j d m in
-        h.apart i j d l m _ _ (start_below p.net.graph e a) (start_below q.net.graph f b) (sym (hp.first e a) ∙ ap (λ z. (edge_at whole.graph z).a) r ∙ hq.first f b);
+        h.apart i j d l m _ _ (start_below p.net.graph e a) (start_below q.net.graph f b)
+        (sym (hp.first e a) ∙ ap (λ z. (edge_at whole.graph z).a) r ∙ hq.first f b);
   }
 
   pub edge_held : (y : ℕ) → y < length whole.graph.edges → IsHeld edges_in (λ p. p.edge) parts y
@@ -168,7 +180,9 @@ module _ (whole : Net) (parts : List Part) (h : ShareOut whole parts) where
   dart_sum f = sum_shared darts_in (λ p. dart p.edge) (dart_count whole) parts f dart_shares (λ y l. inr (dart_held y l))
 
   pub nodes_sum : whole.graph.nodes ≡ sum_by nodes_in parts
-  nodes_sum = sym (ones whole.graph.nodes) ∙ node_sum (λ x. 1) ∙ sum_by_alike (λ p. sum_to (λ i. 1) (nodes_in p)) nodes_in parts (λ k d l. ones (nodes_in (slice_index_or parts k d)))
+  nodes_sum = sym (ones whole.graph.nodes) ∙ node_sum (λ x. 1) ∙
+      sum_by_alike (λ p. sum_to (λ i. 1) (nodes_in p)) nodes_in parts
+      (λ k d l. ones (nodes_in (slice_index_or parts k d)))
 
   -- ---- costs
 
@@ -176,37 +190,50 @@ module _ (whole : Net) (parts : List Part) (h : ShareOut whole parts) where
   cost_sum colours agree =
       cost_by_places whole.graph colours
       ∙ edge_sum (λ e. broken_weight colours (edge_at whole.graph e))
-      ∙ sum_by_alike (λ p. sum_to (λ i. broken_weight colours (edge_at whole.graph (p.edge i))) (edges_in p)) (λ p. cost_of p.net.graph p.colours) parts (λ k d l.
+      ∙ sum_by_alike (λ p. sum_to (λ i. broken_weight colours (edge_at whole.graph (p.edge i))) (edges_in p))
+      (λ p. cost_of p.net.graph p.colours) parts (λ k d l.
       let p = slice_index_or parts k d in
-      sum_alike (λ i. broken_weight colours (edge_at whole.graph (p.edge i))) (λ e. broken_weight p.colours (edge_at p.net.graph e)) (edges_in p) (weight_alike p.net whole p.node p.edge (h.are k d l) colours p.colours (agree k d l))
+      sum_alike (λ i. broken_weight colours (edge_at whole.graph (p.edge i)))
+      (λ e. broken_weight p.colours (edge_at p.net.graph e)) (edges_in p)
+      (weight_alike p.net whole p.node p.edge (h.are k d l) colours p.colours (agree k d l))
       ∙ sym (cost_by_places p.net.graph p.colours))
 
   pub broken_sum : (colours : List Bool) → AgreeWith colours parts → broken_on whole colours ≡ sum_by (λ p. broken_on p.net p.colours) parts
   broken_sum colours agree =
       sums_to (λ e. is_in (kept_edges whole) e && breaks colours (edge_at whole.graph e)) (λ e. (edge_at whole.graph e).weight) (length whole.graph.edges)
       ∙ edge_sum (λ e. if is_in (kept_edges whole) e && breaks colours (edge_at whole.graph e) then (edge_at whole.graph e).weight else 0)
-      ∙ sum_by_alike (λ p. sum_to (λ i. if is_in (kept_edges whole) (p.edge i) && breaks colours (edge_at whole.graph (p.edge i)) then (edge_at whole.graph (p.edge i)).weight else 0) (edges_in p)) (λ p. broken_on p.net p.colours) parts (λ k d l.
+      ∙ sum_by_alike (λ p. sum_to (λ i. if is_in (kept_edges whole) (p.edge i) &&
+      breaks colours (edge_at whole.graph (p.edge i)) then (edge_at whole.graph (p.edge i)).weight else 0)
+      (edges_in p)) (λ p. broken_on p.net p.colours) parts (λ k d l.
       let p = slice_index_or parts k d in
-      sum_alike _ (λ e. if is_in (kept_edges p.net) e && breaks p.colours (edge_at p.net.graph e) then (edge_at p.net.graph e).weight else 0) (edges_in p) (kept_weight_alike p.net whole p.node p.edge (h.are k d l) colours p.colours (agree k d l))
+      sum_alike _ (λ e. if is_in (kept_edges p.net) e &&
+      breaks p.colours (edge_at p.net.graph e) then (edge_at p.net.graph e).weight else 0) (edges_in p)
+      (kept_weight_alike p.net whole p.node p.edge (h.are k d l) colours p.colours (agree k d l))
       ∙ sym (sums_to (λ e. is_in (kept_edges p.net) e && breaks p.colours (edge_at p.net.graph e)) (λ e. (edge_at p.net.graph e).weight) (edges_in p)))
 
   -- ---- faces
 
-  dart_count_sum : (t : ℕ → Bool) (own : Part → ℕ → Bool) → All (λ p. (c : ℕ) → c < darts_in p → t (dart p.edge c) ≡ own p c) parts → count_on t (dart_count whole) ≡ sum_by (λ p. count_on (own p) (darts_in p)) parts
+  dart_count_sum : (t : ℕ → Bool) (own : Part → ℕ → Bool) →
+      All (λ p. (c : ℕ) → c < darts_in p → t (dart p.edge c) ≡ own p c) parts →
+      count_on t (dart_count whole) ≡ sum_by (λ p. count_on (own p) (darts_in p)) parts
   dart_count_sum t own same =
       sums_to t (λ x. 1) (dart_count whole)
       ∙ dart_sum (λ d. if t d then 1 else 0)
       ∙ sum_by_alike (λ p. sum_to (λ i. if t (dart p.edge i) then 1 else 0) (darts_in p)) (λ p. count_on (own p) (darts_in p)) parts (λ k d l.
       let p = slice_index_or parts k d in
-      sum_alike (λ i. if t (dart p.edge i) then 1 else 0) (λ i. if own p i then 1 else 0) (darts_in p) (λ c m. ap (λ b. if b then 1 else 0) (same k d l c m)) ∙ sym (sums_to (own p) (λ x. 1) (darts_in p)))
+      sum_alike (λ i. if t (dart p.edge i) then 1 else 0) (λ i. if own p i then 1 else 0) (darts_in p)
+      (λ c m. ap (λ b. if b then 1 else 0) (same k d l c m)) ∙ sym (sums_to (own p) (λ x. 1) (darts_in p)))
 
-  node_count_sum : (t : ℕ → Bool) (own : Part → ℕ → Bool) → All (λ p. (c : ℕ) → c < nodes_in p → t (p.node c) ≡ own p c) parts → count_on t whole.graph.nodes ≡ sum_by (λ p. count_on (own p) (nodes_in p)) parts
+  node_count_sum : (t : ℕ → Bool) (own : Part → ℕ → Bool) →
+      All (λ p. (c : ℕ) → c < nodes_in p → t (p.node c) ≡ own p c) parts →
+      count_on t whole.graph.nodes ≡ sum_by (λ p. count_on (own p) (nodes_in p)) parts
   node_count_sum t own same =
       sums_to t (λ x. 1) whole.graph.nodes
       ∙ node_sum (λ d. if t d then 1 else 0)
       ∙ sum_by_alike (λ p. sum_to (λ i. if t (p.node i) then 1 else 0) (nodes_in p)) (λ p. count_on (own p) (nodes_in p)) parts (λ k d l.
       let p = slice_index_or parts k d in
-      sum_alike (λ i. if t (p.node i) then 1 else 0) (λ i. if own p i then 1 else 0) (nodes_in p) (λ c m. ap (λ b. if b then 1 else 0) (same k d l c m)) ∙ sym (sums_to (own p) (λ x. 1) (nodes_in p)))
+      sum_alike (λ i. if t (p.node i) then 1 else 0) (λ i. if own p i then 1 else 0) (nodes_in p)
+      (λ c m. ap (λ b. if b then 1 else 0) (same k d l c m)) ∙ sym (sums_to (own p) (λ x. 1) (nodes_in p)))
 
   edge_count_sum : (t : ℕ → Bool) (own : Part → ℕ → Bool) → AreAlikeIn t own parts → edge_count whole t ≡ sum_by (λ p. edge_count p.net (own p)) parts
   edge_count_sum t own same =
@@ -214,26 +241,37 @@ module _ (whole : Net) (parts : List Part) (h : ShareOut whole parts) where
       ∙ edge_sum (λ d. if t d then 1 else 0)
       ∙ sum_by_alike (λ p. sum_to (λ i. if t (p.edge i) then 1 else 0) (edges_in p)) (λ p. count_on (own p) (edges_in p)) parts (λ k d l.
       let p = slice_index_or parts k d in
-      sum_alike (λ i. if t (p.edge i) then 1 else 0) (λ i. if own p i then 1 else 0) (edges_in p) (λ c m. ap (λ b. if b then 1 else 0) (same k d l c m)) ∙ sym (sums_to (own p) (λ x. 1) (edges_in p)))
+      sum_alike (λ i. if t (p.edge i) then 1 else 0) (λ i. if own p i then 1 else 0) (edges_in p)
+      (λ c m. ap (λ b. if b then 1 else 0) (same k d l c m)) ∙ sym (sums_to (own p) (λ x. 1) (edges_in p)))
 
   module _ (q : ℕ → Bool) (set : Part → ℕ → Bool) (alike : AreAlikeIn q set parts) where
     pub faces_sum : face_count whole q ≡ sum_by (λ p. face_count p.net (set p)) parts
     faces_sum =
-        let darts = dart_count_sum (names_face whole q) (λ p. names_face p.net (set p)) (λ k d l. let p = slice_index_or parts k d in names_alike p.net whole p.node p.edge (h.are k d l) (set p) q (alike k d l)) in
-        let bare : bare_count whole.graph q ≡ sum_by (λ p. bare_count p.net.graph (set p)) parts = node_count_sum (is_bare whole.graph q) (λ p. is_bare p.net.graph (set p)) (λ k d l. let p = slice_index_or parts k d in bare_alike p.net whole p.node p.edge (h.are k d l) (set p) q (alike k d l)) in
+        let darts = dart_count_sum (names_face whole q) (λ p. names_face p.net (set p))
+        (λ k d l. let p = slice_index_or parts k d in
+        names_alike p.net whole p.node p.edge (h.are k d l) (set p) q (alike k d l)) in
+        let bare : bare_count whole.graph q ≡ sum_by (λ p. bare_count p.net.graph (set p)) parts =
+        node_count_sum (is_bare whole.graph q) (λ p. is_bare p.net.graph (set p))
+        (λ k d l. let p = slice_index_or parts k d in
+        bare_alike p.net whole p.node p.edge (h.are k d l) (set p) q (alike k d l)) in
         let two = sum_by_two (λ p. count_on (names_face p.net (set p)) (darts_in p)) (λ p. bare_count p.net.graph (set p)) parts in
-        let each = sum_by_alike (λ p. face_count p.net (set p)) (λ p. count_on (names_face p.net (set p)) (darts_in p) + bare_count p.net.graph (set p)) parts (λ k d l. let p = slice_index_or parts k d in faces_counted p.net (set p)) in
+        let each = sum_by_alike (λ p. face_count p.net (set p))
+        (λ p. count_on (names_face p.net (set p)) (darts_in p) + bare_count p.net.graph (set p)) parts
+        (λ k d l. let p = slice_index_or parts k d in faces_counted p.net (set p)) in
         let all = faces_counted whole q in
         omega (arith, darts, bare, two, each, all)
 
     pub odd_sum : count_on (is_odd_face whole q) (dart_count whole) ≡ sum_by (λ p. count_on (is_odd_face p.net (set p)) (dart_count p.net)) parts
-    odd_sum = dart_count_sum (is_odd_face whole q) (λ p. is_odd_face p.net (set p)) (λ k d l. let p = slice_index_or parts k d in odd_up p.net whole p.node p.edge (h.are k d l) (set p) q (alike k d l))
+    odd_sum = dart_count_sum (is_odd_face whole q) (λ p. is_odd_face p.net (set p))
+        (λ k d l. let p = slice_index_or parts k d in odd_up p.net whole p.node p.edge (h.are k d l) (set p) q
+        (alike k d l))
 
     components_sum : component_count whole.graph q ≡ sum_by (λ p. component_count p.net.graph (set p)) parts
     components_sum =
         names_counted (component_of whole.graph q) whole.graph.nodes
         ∙ node_sum (λ v. if component_of whole.graph q v == v then 1 else 0)
-        ∙ sum_by_alike (λ p. sum_to (λ i. if component_of whole.graph q (p.node i) == p.node i then 1 else 0) (nodes_in p)) (λ p. component_count p.net.graph (set p)) parts (λ k d l.
+        ∙ sum_by_alike (λ p. sum_to (λ i. if component_of whole.graph q (p.node i) == p.node i then 1 else 0)
+        (nodes_in p)) (λ p. component_count p.net.graph (set p)) parts (λ k d l.
         let p = slice_index_or parts k d in
         sym (components_alike p.net whole p.node p.edge (h.are k d l) (set p) q (alike k d l)))
 
@@ -244,7 +282,9 @@ module _ (whole : Net) (parts : List Part) (h : ShareOut whole parts) where
         let faces = faces_sum in
         let joined = components_sum in
         let edges = edge_count_sum q set alike in
-        let each = sum_by_alike (λ p. nodes_in p + face_count p.net (set p) + excess p.net (set p)) (λ p. 2 * component_count p.net.graph (set p) + edge_count p.net (set p)) parts (λ k d l. let p = slice_index_or parts k d in excess_euler p.net (set p)) in
+        let each = sum_by_alike (λ p. nodes_in p + face_count p.net (set p) + excess p.net (set p))
+        (λ p. 2 * component_count p.net.graph (set p) + edge_count p.net (set p)) parts
+        (λ k d l. let p = slice_index_or parts k d in excess_euler p.net (set p)) in
         let a = sum_by_two (λ p. nodes_in p + face_count p.net (set p)) (λ p. excess p.net (set p)) parts in
         let b = sum_by_two nodes_in (λ p. face_count p.net (set p)) parts in
         let c = sum_by_two (λ p. 2 * component_count p.net.graph (set p)) (λ p. edge_count p.net (set p)) parts in

@@ -1,5 +1,6 @@
 -- An optimum of one net, laid over an optimum of another on a part that both have, is an optimum.
-use Rattle.std.proofs.Common.{arith, ◌≡◌, ◌≢◌, ◌⊎◌, ℕ, zero, suc, ◌<◌, refl, sym, ap, ◌∙◌, Bool, true, inl, inr, List, [], ◌∷◌, ◌++◌, length, length-append, subst}
+use Rattle.std.proofs.Common.{arith, ◌≡◌, ◌≢◌, ◌⊎◌, ℕ, zero, suc, ◌<◌, refl, sym, ap, ◌∙◌, Bool, true, inl, inr, List}
+use Rattle.std.proofs.Common.{[], ◌∷◌, ◌++◌, length, length-append, subst}
 use Rattle.std.specs.Prelude.{All}
 use Rattle.std.proofs.lemmas.Bool.{cases_eq}
 use Rattle.std.proofs.lemmas.List.{get_or_default}
@@ -35,31 +36,44 @@ list_at f (suc n) v l =
 
 -- ---- bonds
 
-pub bond_at : (net : Net) (colours : List Bool) → IsColouring net.graph colours → (e : ℕ) → e < length net.graph.edges → is_bond (edge_at net.graph e).kind ≡ true → colour_of colours (edge_at net.graph e).a ≡ colour_of colours (edge_at net.graph e).b
+pub bond_at : (net : Net) (colours : List Bool) → IsColouring net.graph colours → (e : ℕ) → e < length net.graph.edges →
+    is_bond (edge_at net.graph e).kind ≡ true → colour_of colours (edge_at net.graph e).a ≡ colour_of colours
+    (edge_at net.graph e).b
 bond_at net colours k e l b = k.bonds e no_edge l b
 
-pub bonds_from : (net : Net) (colours : List Bool) → ((e : ℕ) → e < length net.graph.edges → is_bond (edge_at net.graph e).kind ≡ true → colour_of colours (edge_at net.graph e).a ≡ colour_of colours (edge_at net.graph e).b) → All (λ x. is_bond x.kind ≡ true → colour_of colours x.a ≡ colour_of colours x.b) net.graph.edges
+pub bonds_from : (net : Net) (colours : List Bool) → ((e : ℕ) → e < length net.graph.edges →
+    is_bond (edge_at net.graph e).kind ≡ true → colour_of colours (edge_at net.graph e).a ≡ colour_of colours
+    (edge_at net.graph e).b) → All (λ x. is_bond x.kind ≡ true → colour_of colours x.a ≡ colour_of colours x.b)
+    net.graph.edges
 bonds_from net colours h e d l =
     subst (λ (x : Edge). is_bond x.kind ≡ true → colour_of colours x.a ≡ colour_of colours x.b) (get_or_default net.graph.edges e no_edge d l) (h e l)
 
 module _ (part whole : Net) (node edge : ℕ → ℕ) (h : IsPartOf part whole node edge) where
   -- the colours of the whole on the part
-  pub own_bonds : (colours : List Bool) → IsColouring whole.graph colours → (e : ℕ) → e < length part.graph.edges → is_bond (edge_at part.graph e).kind ≡ true → colour_of colours (node (edge_at part.graph e).a) ≡ colour_of colours (node (edge_at part.graph e).b)
-  own_bonds colours k e l b = ap (colour_of colours) (sym (h.first e l)) ∙ bond_at whole colours k (edge e) (h.edges e l) (ap is_bond (h.kind e l) ∙ b) ∙ ap (colour_of colours) (h.second e l)
+  pub own_bonds : (colours : List Bool) → IsColouring whole.graph colours → (e : ℕ) → e < length part.graph.edges →
+      is_bond (edge_at part.graph e).kind ≡ true → colour_of colours (node (edge_at part.graph e).a) ≡ colour_of colours
+      (node (edge_at part.graph e).b)
+  own_bonds colours k e l b = ap (colour_of colours) (sym (h.first e l)) ∙
+      bond_at whole colours k (edge e) (h.edges e l) (ap is_bond (h.kind e l) ∙ b) ∙
+      ap (colour_of colours) (h.second e l)
 
   -- mixed colours are one for each bond
-  pub mixed_colouring : (colours mixed : List Bool) (tint : ℕ → Bool) → IsColouring whole.graph colours → length mixed ≡ whole.graph.nodes → IsMixed part whole node colours tint mixed
+  pub mixed_colouring : (colours mixed : List Bool) (tint : ℕ → Bool) → IsColouring whole.graph colours →
+      length mixed ≡ whole.graph.nodes → IsMixed part whole node colours tint mixed
       → ((e : ℕ) → e < length part.graph.edges → is_bond (edge_at part.graph e).kind ≡ true → tint (edge_at part.graph e).a ≡ tint (edge_at part.graph e).b)
       → IsColouring whole.graph mixed
   mixed_colouring colours mixed tint k size m bonds = record { length = size; bonds = bonds_from whole mixed one } where
-    inside : (f e : ℕ) → e < length part.graph.edges → edge e ≡ f → is_bond (edge_at whole.graph f).kind ≡ true → colour_of mixed (edge_at whole.graph f).a ≡ colour_of mixed (edge_at whole.graph f).b
+    inside : (f e : ℕ) → e < length part.graph.edges → edge e ≡ f → is_bond (edge_at whole.graph f).kind ≡ true →
+        colour_of mixed (edge_at whole.graph f).a ≡ colour_of mixed (edge_at whole.graph f).b
     inside f e l r b =
         let x : (edge_at whole.graph f).a ≡ node (edge_at part.graph e).a = ap (λ z. (edge_at whole.graph z).a) (sym r) ∙ h.first e l in
         let y : (edge_at whole.graph f).b ≡ node (edge_at part.graph e).b = ap (λ z. (edge_at whole.graph z).b) (sym r) ∙ h.second e l in
         let t : is_bond (edge_at part.graph e).kind ≡ true = ap is_bond (sym (h.kind e l)) ∙ ap (λ z. is_bond (edge_at whole.graph z).kind) r ∙ b in
-        ap (colour_of mixed) x ∙ m.inside _ (start_below part.graph e l) ∙ bonds e l t ∙ sym (m.inside _ (end_below part.graph e l)) ∙ ap (colour_of mixed) (sym y)
+        ap (colour_of mixed) x ∙ m.inside _ (start_below part.graph e l) ∙ bonds e l t ∙
+        sym (m.inside _ (end_below part.graph e l)) ∙ ap (colour_of mixed) (sym y)
 
-    one : (f : ℕ) → f < length whole.graph.edges → is_bond (edge_at whole.graph f).kind ≡ true → colour_of mixed (edge_at whole.graph f).a ≡ colour_of mixed (edge_at whole.graph f).b
+    one : (f : ℕ) → f < length whole.graph.edges → is_bond (edge_at whole.graph f).kind ≡ true →
+        colour_of mixed (edge_at whole.graph f).a ≡ colour_of mixed (edge_at whole.graph f).b
     one f l b = elim (found node part.graph.nodes (edge_at whole.graph f).a) [
       | inl (v, low, e) ↦ let c = h.closed f v l low (inl (sym e)) in inside f c.0 c.1 c.2 b
       | inr none ↦ elim (found node part.graph.nodes (edge_at whole.graph f).b) [
@@ -69,7 +83,8 @@ module _ (part whole : Net) (node edge : ℕ → ℕ) (h : IsPartOf part whole n
     ]
 
 -- some list has the mixed colours
-abbrev picked : (n : ℕ) (node : ℕ → ℕ) (colours : List Bool) (tint : ℕ → Bool) (w : ℕ) → ((x : ℕ) × (x < n) × (node x ≡ w)) ⊎ ((x : ℕ) → x < n → node x ≢ w) → Bool
+abbrev picked : (n : ℕ) (node : ℕ → ℕ) (colours : List Bool) (tint : ℕ → Bool) (w : ℕ) →
+    ((x : ℕ) × (x < n) × (node x ≡ w)) ⊎ ((x : ℕ) → x < n → node x ≢ w) → Bool
 picked n node colours tint w (inl k) = tint k.0
 picked n node colours tint w (inr none) = colour_of colours w
 
@@ -83,7 +98,9 @@ pick_out : (n : ℕ) (node : ℕ → ℕ) (colours : List Bool) (tint : ℕ → 
 pick_out n node colours tint w none (inl k) = absurd (none k.0 k.1 k.2)
 pick_out n node colours tint w none (inr all) = refl
 
-pub some_mixed : (part whole : Net) (node edge : ℕ → ℕ) → IsPartOf part whole node edge → (colours : List Bool) (tint : ℕ → Bool) → (mixed : List Bool) × (length mixed ≡ whole.graph.nodes) × IsMixed part whole node colours tint mixed
+pub some_mixed : (part whole : Net) (node edge : ℕ → ℕ) → IsPartOf part whole node edge →
+    (colours : List Bool) (tint : ℕ → Bool) → (mixed : List Bool) × (length mixed ≡ whole.graph.nodes) ×
+    IsMixed part whole node colours tint mixed
 some_mixed part whole node edge h colours tint =
     let n = part.graph.nodes in
     let f : ℕ → Bool = λ w. picked n node colours tint w (found node n w) in (

@@ -18,7 +18,8 @@ sum_alike f g zero h = refl
 sum_alike f g (suc n) h = let r = sum_alike f g n (λ e l. h e (omega arith)) in let s = h n (omega arith) in omega (arith, r, s)
 
 -- two sums over a stretch in which they agree differ as they did before it
-sum_stretch : (f g : ℕ → ℕ) (from n : ℕ) → ((e : ℕ) → from ≤ e → e < from + n → f e ≡ g e) → sum_to f (from + n) + sum_to g from ≡ sum_to g (from + n) + sum_to f from
+sum_stretch : (f g : ℕ → ℕ) (from n : ℕ) → ((e : ℕ) → from ≤ e → e < from + n → f e ≡ g e) →
+    sum_to f (from + n) + sum_to g from ≡ sum_to g (from + n) + sum_to f from
 sum_stretch f g from zero h =
     let e : from + 0 ≡ from = omega arith in
     let a : sum_to f (from + 0) ≡ sum_to f from = ap (sum_to f) e in
@@ -41,7 +42,12 @@ module _ (place : ℕ → ℕ) (m n : ℕ) (h : AreAmong place m n) (f g : ℕ �
   -- what the sums differ by they differ by over these numbers, up to any one
   sum_upto : (k : ℕ) → k < m → sum_to f (place k) + sum_to (λ x. g (place x)) k ≡ sum_to g (place k) + sum_to (λ x. f (place x)) k
   sum_upto zero l =
-      let s = sum_stretch f g 0 (place 0) (λ e a b. same e (let t = h.inside 0 l in omega arith) (λ x c r. elim (cases_eq x 0) [ inl z ↦ let w : place x ≡ place 0 = ap place z in omega arith | inr z ↦ let w = h.order 0 x (omega arith) c in omega arith ])) in
+      let s = sum_stretch f g 0 (place 0) (λ e a b. same e (let t = h.inside 0 l in omega arith)
+      (λ x c r. elim (cases_eq x 0) [
+        | inl z ↦ let w : place x ≡ place 0 = ap place z in omega arith
+        | inr z ↦
+            let w = h.order 0 x (omega arith) c in omega arith
+      ])) in
       let a : sum_to f (0 + place 0) ≡ sum_to f (place 0) = ap (sum_to f) (omega arith) in
       let b : sum_to g (0 + place 0) ≡ sum_to g (place 0) = ap (sum_to g) (omega arith) in
       omega (arith, s, a, b)
@@ -52,8 +58,16 @@ module _ (place : ℕ → ℕ) (m n : ℕ) (h : AreAmong place m n) (f g : ℕ �
       let gap = place (suc k) - suc (place k) in
       let at : suc (place k) + gap ≡ place (suc k) = omega arith in
       let s = sum_stretch f g (suc (place k)) gap (λ e a b. same e (omega arith) (λ x c r. elim (cases_lt x (suc k)) [
-        | inl z ↦ elim (cases_eq x k) [ inl y ↦ let w : place x ≡ place k = ap place y in omega arith | inr y ↦ let w = h.order x k (omega arith) (omega arith) in omega arith ]
-        | inr z ↦ elim (cases_eq x (suc k)) [ inl y ↦ let w : place x ≡ place (suc k) = ap place y in omega arith | inr y ↦ let w = h.order (suc k) x (omega arith) c in omega arith ]
+        | inl z ↦ elim (cases_eq x k) [
+          | inl y ↦ let w : place x ≡ place k = ap place y in omega arith
+          | inr y ↦ let w =
+              h.order x k (omega arith) (omega arith) in omega arith
+        ]
+        | inr z ↦ elim (cases_eq x (suc k)) [
+          | inl y ↦ let w : place x ≡ place (suc k) = ap place y in
+              omega arith
+          | inr y ↦ let w = h.order (suc k) x (omega arith) c in omega arith
+        ]
       ])) in
       let a : sum_to f (suc (place k) + gap) ≡ sum_to f (place (suc k)) = ap (sum_to f) at in
       let b : sum_to g (suc (place k) + gap) ≡ sum_to g (place (suc k)) = ap (sum_to g) at in
@@ -73,7 +87,12 @@ module _ (place : ℕ → ℕ) (m n : ℕ) (h : AreAmong place m n) (f g : ℕ �
         let before = sum_upto last (omega arith) in
         let gap = n - suc (place last) in
         let at : suc (place last) + gap ≡ n = omega arith in
-        let s = sum_stretch f g (suc (place last)) gap (λ e a b. same e (omega arith) (λ x c r. elim (cases_eq x last) [ inl y ↦ let w : place x ≡ place last = ap place y in omega arith | inr y ↦ let w = h.order x last (omega arith) (omega arith) in omega arith ])) in
+        let s = sum_stretch f g (suc (place last)) gap
+        (λ e a b. same e (omega arith) (λ x c r. elim (cases_eq x last) [
+          | inl y ↦ let w : place x ≡ place last = ap place y in omega arith
+          | inr y ↦ let w =
+              h.order x last (omega arith) (omega arith) in omega arith
+        ])) in
         let a : sum_to f (suc (place last) + gap) ≡ sum_to f (n) = ap (sum_to f) at in
         let b : sum_to g (suc (place last) + gap) ≡ sum_to g (n) = ap (sum_to g) at in
         let c : sum_to (λ x. f (place x)) (suc last) ≡ sum_to (λ x. f (place x)) (m) = ap (sum_to (λ x. f (place x))) size in

@@ -26,7 +26,8 @@ neighbours_back net set f g n = (
   },
 )
 
-path_join : (net : Net) (set : ℕ → Bool) (hs ks : List ℕ) (f g h : ℕ) → IsFacePath net set f hs g → IsFacePath net set g ks h → IsFacePath net set f (hs ++ ks) h
+path_join : (net : Net) (set : ℕ → Bool) (hs ks : List ℕ) (f g h : ℕ) → IsFacePath net set f hs g →
+    IsFacePath net set g ks h → IsFacePath net set f (hs ++ ks) h
 path_join net set [] ks f g h p q = rw p q
 path_join net set (x ∷ xs) ks f g h p q = (p.0, path_join net set xs ks x g h p.1 q)
 
@@ -49,11 +50,14 @@ names_alone net set names h = record {
   one_name = λ e l t. absurd (omega (arith, l));
 }
 
-sides_of : (net : Net) (set : ℕ → Bool) (e : ℕ) → e < length net.graph.edges → is_crossable net set e ≡ true → AreNeighbours net set (face_of net set (2 * e)) (face_of net set (2 * e + 1))
+sides_of : (net : Net) (set : ℕ → Bool) (e : ℕ) → e < length net.graph.edges → is_crossable net set e ≡ true →
+    AreNeighbours net set (face_of net set (2 * e)) (face_of net set (2 * e + 1))
 sides_of net set e h t = (e, record { edge = h; crossable = t; sides = inl (refl, refl) })
 
-joined_part : (net : Net) (set : ℕ → Bool) (names : ℕ → ℕ) (k : ℕ) → ArePartNames net set names k → k < length net.graph.edges → is_crossable net set k ≡ true → (x y : ℕ) → x < dart_count net → y < dart_count net →
-    join names (face_of net set (2 * k)) (face_of net set (2 * k + 1)) x ≡ join names (face_of net set (2 * k)) (face_of net set (2 * k + 1)) y → AreOfOnePart net set x y
+joined_part : (net : Net) (set : ℕ → Bool) (names : ℕ → ℕ) (k : ℕ) → ArePartNames net set names k →
+    k < length net.graph.edges → is_crossable net set k ≡ true → (x y : ℕ) → x < dart_count net → y < dart_count net →
+    join names (face_of net set (2 * k)) (face_of net set (2 * k + 1)) x ≡ join names (face_of net set (2 * k))
+    (face_of net set (2 * k + 1)) y → AreOfOnePart net set x y
 joined_part net set names k c h t x y hx hy e =
     let a = face_of net set (2 * k) in
     let b = face_of net set (2 * k + 1) in
@@ -82,7 +86,8 @@ joined_sides s a b = elim (cases_eq (s a) (s b)) [
   | inr q ↦ join_miss s a b a q ∙ sym (join_hit s a b b refl)
 ]
 
-names_join : (net : Net) (set : ℕ → Bool) (names next : ℕ → ℕ) (k : ℕ) → ArePartNames net set names k → k < length net.graph.edges → is_crossable net set k ≡ true →
+names_join : (net : Net) (set : ℕ → Bool) (names next : ℕ → ℕ) (k : ℕ) → ArePartNames net set names k →
+    k < length net.graph.edges → is_crossable net set k ≡ true →
     ((v : ℕ) → v < dart_count net → next v ≡ join names (face_of net set (2 * k)) (face_of net set (2 * k + 1)) v) → ArePartNames net set next (suc k)
 names_join net set names next k c h t w =
     let a = face_of net set (2 * k) in
@@ -94,12 +99,14 @@ names_join net set names next k c h t w =
           let first : face_of net set (2 * e) < dart_count net = below (2 * e) (omega (arith, h, l)) in
           let second : face_of net set (2 * e + 1) < dart_count net = below (2 * e + 1) (omega (arith, h, l)) in
           w _ first ∙ (elim (cases_eq e k) [
-            | inl q ↦ ap (λ i. join names a b (face_of net set (2 * i))) q ∙ joined_sides names a b ∙ ap (λ i. join names a b (face_of net set (2 * i + 1))) (sym q)
+            | inl q ↦ ap (λ i. join names a b (face_of net set (2 * i))) q ∙ joined_sides names a b ∙
+                ap (λ i. join names a b (face_of net set (2 * i + 1))) (sym q)
             | inr q ↦ join_of names a b _ _ (c.one_name e (omega (arith, l, q)) u)
           ]) ∙ sym (w _ second);
     }
 
-names_stay : (net : Net) (set : ℕ → Bool) (names next : ℕ → ℕ) (k : ℕ) → ArePartNames net set names k → k < length net.graph.edges → is_crossable net set k ≡ false →
+names_stay : (net : Net) (set : ℕ → Bool) (names next : ℕ → ℕ) (k : ℕ) → ArePartNames net set names k →
+    k < length net.graph.edges → is_crossable net set k ≡ false →
     ((v : ℕ) → v < dart_count net → next v ≡ names v) → ArePartNames net set next (suc k)
 names_stay net set names next k c h t w = record {
   one_part = λ x y hx hy e. c.one_part x y hx hy (sym (w x hx) ∙ e ∙ w y hy);
@@ -113,7 +120,8 @@ names_stay net set names next k c h t w = record {
 }
 
 pub names_cross : (net : Net) (set : ℕ → Bool) (names next : ℕ → ℕ) (k : ℕ) → ArePartNames net set names k → k < length net.graph.edges →
-    ((v : ℕ) → v < dart_count net → next v ≡ (if is_crossable net set k then join names (face_of net set (2 * k)) (face_of net set (2 * k + 1)) v else names v)) → ArePartNames net set next (suc k)
+    ((v : ℕ) → v < dart_count net → next v ≡ (if is_crossable net set k then join names (face_of net set (2 * k))
+    (face_of net set (2 * k + 1)) v else names v)) → ArePartNames net set next (suc k)
 names_cross net set names next k c h w = elim (cases_Bool (is_crossable net set k)) [
   | inl t ↦ names_join net set names next k c h t (λ v l. w v l ∙ cond-true (is_crossable net set k) _ _ t)
   | inr t ↦ names_stay net set names next k c h t (λ v l. w v l ∙ cond-false (is_crossable net set k) _ _ t)
@@ -128,7 +136,8 @@ first_below net set f g n =
     let two = face_below net set (2 * n.0 + 1) (omega (arith, h)) in
     elim n.1.sides [ inl s ↦ omega (arith, s.0, one) | inr s ↦ omega (arith, s.1, two) ]
 
-neighbours_named : (net : Net) (set : ℕ → Bool) (names : ℕ → ℕ) → ArePartNames net set names (length net.graph.edges) → (f g : ℕ) → AreNeighbours net set f g → names f ≡ names g
+neighbours_named : (net : Net) (set : ℕ → Bool) (names : ℕ → ℕ) → ArePartNames net set names (length net.graph.edges) →
+    (f g : ℕ) → AreNeighbours net set f g → names f ≡ names g
 neighbours_named net set names c f g n =
     let same = c.one_name n.0 n.1.edge n.1.crossable in
     elim n.1.sides [
@@ -136,13 +145,17 @@ neighbours_named net set names c f g n =
       | inr s ↦ ap names (sym s.1) ∙ sym same ∙ ap names s.0
     ]
 
-path_named : (net : Net) (set : ℕ → Bool) (names : ℕ → ℕ) → ArePartNames net set names (length net.graph.edges) → (hs : List ℕ) (f g : ℕ) → IsFacePath net set f hs g → names f ≡ names g
+path_named : (net : Net) (set : ℕ → Bool) (names : ℕ → ℕ) → ArePartNames net set names (length net.graph.edges) →
+    (hs : List ℕ) (f g : ℕ) → IsFacePath net set f hs g → names f ≡ names g
 path_named net set names c [] f g p = ap names p
 path_named net set names c (x ∷ xs) f g p = neighbours_named net set names c f x p.0 ∙ path_named net set names c xs x g p.1
 
-pub parts_named : (net : Net) (set : ℕ → Bool) (names : ℕ → ℕ) (k : ℕ) → ArePartNames net set names k → length net.graph.edges ≤ k → (x y : ℕ) → x < dart_count net → y < dart_count net → (names x ≡ names y ↔ AreOfOnePart net set x y)
+pub parts_named : (net : Net) (set : ℕ → Bool) (names : ℕ → ℕ) (k : ℕ) → ArePartNames net set names k →
+    length net.graph.edges ≤ k → (x y : ℕ) → x < dart_count net → y < dart_count net →
+    (names x ≡ names y ↔ AreOfOnePart net set x y)
 parts_named net set names k c h x y hx hy =
-    let all : ArePartNames net set names (length net.graph.edges) = record { one_part = c.one_part; one_name = λ e l t. c.one_name e (omega (arith, h, l)) t } in
+    let all : ArePartNames net set names (length net.graph.edges) =
+    record { one_part = c.one_part; one_name = λ e l t. c.one_name e (omega (arith, h, l)) t } in
     (λ e. c.one_part x y hx hy e, λ p. path_named net set names all p.0 x y p.1)
 
 path_below : (net : Net) (set : ℕ → Bool) (hs : List ℕ) (f g : ℕ) → f < dart_count net → IsFacePath net set f hs g → g < dart_count net

@@ -6,7 +6,8 @@ use Rattle.dpl_sign.specs.Colourings.{cost_of}
 use Rattle.dpl_sign.specs.Packings.{IsWithin, passages, bound_of}
 use Rattle.dpl_report.specs.Misses.{number_miss}
 use Rattle.dpl_report.specs.Conditions.{loads_miss, packing_miss}
-use Rattle.dpl_report.specs.Laws.{OptionsAreTold, CountsAreTold, BondsAreTold, CutsAreTold, ClashesAreTold, CostIsTold, AsideIsTold, WalksAreTold, PackingIsTold, MasksAreTold}
+use Rattle.dpl_report.specs.Laws.{OptionsAreTold, CountsAreTold, BondsAreTold, CutsAreTold, ClashesAreTold, CostIsTold}
+use Rattle.dpl_report.specs.Laws.{AsideIsTold, WalksAreTold, PackingIsTold, MasksAreTold}
 use Rattle.dpl_report.proofs.ListLaws.{or_none, lists_none, lists_same, clash_lines_are, cut_lines_are}
 use Rattle.dpl_report.proofs.GoodLemmas.{both_none, numbers_are, params_none, counts_none, bonds_none, walks_none, loads_none, drawing_none, edges_told}
 use Rattle.dpl_report.proofs.TrueLemmas.{number_none, params_true, counts_true, bonds_true, walks_true, loads_true, nothing_within, drawing_true}
@@ -27,7 +28,10 @@ pub clashes_are_told : ClashesAreTold
 clashes_are_told xs ws = clash_lines_are xs ws
 
 pub cost_is_told : CostIsTold
-cost_is_told net cost colours = (number_none (length net.graph.edges) cost (cost_of net.graph colours), numbers_are (length net.graph.edges) cost (cost_of net.graph colours))
+cost_is_told net cost colours = (
+  number_none (length net.graph.edges) cost (cost_of net.graph colours),
+  numbers_are (length net.graph.edges) cost (cost_of net.graph colours),
+)
 
 pub aside_is_told : AsideIsTold
 aside_is_told xs ws = (lists_none (λ e. e) (λ e w. None) edges_told xs ws, λ e. rw e (lists_same (λ e. e) (λ e w. None) edges_told ws))
@@ -41,7 +45,11 @@ fits g bound cs e =
     (loads_true g [] (passages cs) (nothing_within g) d.0, sym (number_none (length g.edges) (bound_of cs) bound d.1))
 
 pub packing_is_told : PackingIsTold
-packing_is_told g bound cs = (fits g bound cs, λ f. both_none _ _ (loads_none g [] (passages cs) f.0) (numbers_are (length g.edges) (bound_of cs) bound (sym f.1)))
+packing_is_told g bound cs = (
+  fits g bound cs,
+  λ f. both_none _ _ (loads_none g [] (passages cs) f.0)
+      (numbers_are (length g.edges) (bound_of cs) bound (sym f.1)),
+)
 
 pub masks_are_told : MasksAreTold
 masks_are_told on_a on_b a b = (drawing_true on_a on_b a b, λ f. drawing_none on_a on_b a b f.0 f.1)

@@ -1,5 +1,6 @@
 -- The text of a report, read again as CIF, draws its two masks.
-use Rattle.std.proofs.Common.{arith, ◌≡◌, ℕ, suc, ◌+◌, ◌%◌, ◌<◌, ◌^◌, Bool, true, false, List, [], ◌∷◌, ◌++◌, map, refl, sym, ap, subst, ◌∙◌, append_assoc, append-nil, codes, All, Option, None, Some}
+use Rattle.std.proofs.Common.{arith, ◌≡◌, ℕ, suc, ◌+◌, ◌%◌, ◌<◌, ◌^◌, Bool, true, false, List, [], ◌∷◌, ◌++◌, map, refl}
+use Rattle.std.proofs.Common.{sym, ap, subst, ◌∙◌, append_assoc, append-nil, codes, All, Option, None, Some}
 use Rattle.std.specs.Prelude.{ℤ, pos, negsuc, is_some}
 use Rattle.std.specs.List.{list_all, flat_map, AllByRecursion}
 use Rattle.std.specs.Fmt.{decimal, signed_decimal}
@@ -22,7 +23,10 @@ use Rattle.dpl_form.specs.Lines.{text_of}
 use Rattle.dpl_form.specs.Readers.{FitFrom}
 use Rattle.dpl_form.proofs.TextLemmas.{text_of-append}
 use Rattle.dpl_report.specs.Plain.{PlainHead, PlainLists, PlainReport}
-use Rattle.dpl_report.specs.ReportLines.{numbered, bracketed, letter, count_line, layer_line, keep_line, version_line, more_lines, masks_line, broken_numbers, zone_numbers, cycle_numbers, cut_line, clash_line, aside_line, cycle_line, head_lines, lists_lines, drawing_lines, mask_lines, report_text, last_lines}
+use Rattle.dpl_report.specs.ReportLines.{numbered, bracketed, letter, count_line, layer_line, keep_line, version_line}
+use Rattle.dpl_report.specs.ReportLines.{more_lines, masks_line, broken_numbers, zone_numbers, cycle_numbers, cut_line}
+use Rattle.dpl_report.specs.ReportLines.{clash_line, aside_line, cycle_line, head_lines, lists_lines, drawing_lines}
+use Rattle.dpl_report.specs.ReportLines.{mask_lines, report_text, last_lines}
 use Rattle.dpl_report.specs.Valid.{IsCount, AreMore, IsHead, IsCycle, IsLists, IsReport, CutFits, ClashFits, AsideFits}
 use Rattle.dpl_options.specs.Options.{IsSplitLayer}
 use Rattle.dpl_report.proofs.LineLemmas.{IsNear}
@@ -78,7 +82,8 @@ flat-numbered (z ∷ zs) a = rw (list_all-append is_flat (signed_decimal z) (num
 
 numbered-end : (zs : List ℤ) (end : List ℕ) → numbered zs end ≡ numbered zs [] ++ end
 numbered-end [] end = refl
-numbered-end (z ∷ zs) end = ap (λ t. 32 ∷ t) (ap (λ t. signed_decimal z ++ t) (numbered-end zs end) ∙ sym (append_assoc (signed_decimal z) (numbered zs []) end))
+numbered-end (z ∷ zs) end = ap (λ t. 32 ∷ t) (ap (λ t. signed_decimal z ++ t) (numbered-end zs end) ∙
+    sym (append_assoc (signed_decimal z) (numbered zs []) end))
 
 bracketed_is_comment : (word : List ℕ) (zs : List ℤ) → list_all is_flat word ≡ true → AllByRecursion IsNear zs → IsComment (bracketed word zs)
 bracketed_is_comment word zs h a = record {
@@ -94,7 +99,12 @@ name_byte_is_flat : (b : ℕ) → is_name_byte b ≡ true → is_flat b ≡ true
 name_byte_is_flat b h = grind (arith, nat_tests)
 
 layer_is_comment : (name : List ℕ) → IsSplitLayer name → IsComment (layer_line name)
-layer_is_comment name f = record { inner = codes "layer " ++ name; flat = list_all-weaker is_name_byte is_flat name_byte_is_flat name (name_bytes name f.0); line = refl }
+layer_is_comment name f = record {
+  inner = codes "layer " ++ name;
+  flat =
+      list_all-weaker is_name_byte is_flat name_byte_is_flat name (name_bytes name f.0);
+  line = refl;
+}
 
 letters_are_flat : (colours : List Bool) → list_all is_flat (map letter colours) ≡ true
 letters_are_flat [] = refl
@@ -109,7 +119,12 @@ version_is_comment true = record { inner = codes "dpl 2"; flat = refl; line = re
 version_is_comment false = record { inner = codes "dpl 1"; flat = refl; line = refl }
 
 keep_is_comment : (name : List ℕ) → IsSplitLayer name → IsComment (keep_line name)
-keep_is_comment name f = record { inner = codes "keep " ++ name; flat = list_all-weaker is_name_byte is_flat name_byte_is_flat name (name_bytes name f.0); line = refl }
+keep_is_comment name f = record {
+  inner = codes "keep " ++ name;
+  flat =
+      list_all-weaker is_name_byte is_flat name_byte_is_flat name (name_bytes name f.0);
+  line = refl;
+}
 
 more_are_comments : (c : Option ℕ) (k : Option (List ℕ)) → AreMore c k → AllByRecursion IsComment (more_lines c k)
 more_are_comments None k m = tt
@@ -145,7 +160,13 @@ head_comments h f =
                           count_is_comment (codes "clashes") h.counts.clashes refl k.clashes,
                           (
                             count_is_comment (codes "excess") h.counts.excess refl k.excess,
-                            (count_is_comment (codes "cost") h.cost refl f.cost, (count_is_comment (codes "bound") h.bound refl f.bound, (masks_is_comment h.colours, more_are_comments h.params.corner h.params.keep p.more))),
+                            (
+                              count_is_comment (codes "cost") h.cost refl f.cost,
+                              (
+                                count_is_comment (codes "bound") h.bound refl f.bound,
+                                (masks_is_comment h.colours, more_are_comments h.params.corner h.params.keep p.more),
+                              ),
+                            ),
                           ),
                         ),
                       ),
@@ -159,11 +180,14 @@ head_comments h f =
       ),
     )
 
-comments-map : {X : Type 0} (Fits : X → Type 0) (line : X → List ℕ) → ((x : X) → Fits x → IsComment (line x)) → (xs : List X) → AllByRecursion Fits xs → AllByRecursion IsComment (map line xs)
+comments-map : {X : Type 0} (Fits : X → Type 0) (line : X → List ℕ) → ((x : X) → Fits x → IsComment (line x)) →
+    (xs : List X) → AllByRecursion Fits xs → AllByRecursion IsComment (map line xs)
 comments-map Fits line h [] f = tt
 comments-map Fits line h (x ∷ xs) f = (h x f.0, comments-map Fits line h xs f.1)
 
-comments-fit : {X : Type 0} (Fits : ℕ → X → Type 0) (after : X → ℕ) (line : X → List ℕ) → ((s : ℕ) (x : X) → Fits s x → IsComment (line x)) → (s : ℕ) (xs : List X) → FitFrom Fits after s xs → AllByRecursion IsComment (map line xs)
+comments-fit : {X : Type 0} (Fits : ℕ → X → Type 0) (after : X → ℕ) (line : X → List ℕ) →
+    ((s : ℕ) (x : X) → Fits s x → IsComment (line x)) → (s : ℕ) (xs : List X) → FitFrom Fits after s xs →
+    AllByRecursion IsComment (map line xs)
 comments-fit Fits after line h s [] f = tt
 comments-fit Fits after line h s (x ∷ xs) f = (h s x f.0, comments-fit Fits after line h (after x) xs f.1)
 
@@ -172,10 +196,14 @@ lists_comments l f =
     more_comments (map cut_line l.cuts) (map clash_line l.clashes ++ (map aside_line l.aside ++ map cycle_line l.cycles))
     (comments-fit CutFits (λ z. z.at.edge + 1) cut_line (λ s z g. bracketed_is_comment (codes "cut") (zone_numbers z) refl (zone_near z g.1)) 0 l.cuts f.cuts)
     (more_comments (map clash_line l.clashes) (map aside_line l.aside ++ map cycle_line l.cycles)
-    (comments-fit ClashFits (λ b. b.edge + 1) clash_line (λ s b g. bracketed_is_comment (codes "clash") (broken_numbers b) refl (near b.edge g.1.edge, (near b.a g.1.a, (near b.b g.1.b, tt)))) 0 l.clashes f.clashes)
+    (comments-fit ClashFits (λ b. b.edge + 1) clash_line
+    (λ s b g. bracketed_is_comment (codes "clash") (broken_numbers b) refl
+    (near b.edge g.1.edge, (near b.a g.1.a, (near b.b g.1.b, tt)))) 0 l.clashes f.clashes)
     (more_comments (map aside_line l.aside) (map cycle_line l.cycles)
     (comments-fit AsideFits (λ e. e + 1) aside_line (λ s e g. bracketed_is_comment (codes "aside") (pos e ∷ []) refl (near e g.1, tt)) 0 l.aside f.aside)
-    (rw (← append-nil (map cycle_line l.cycles)) (more_comments (map cycle_line l.cycles) [] (comments-map IsCycle cycle_line (λ c g. bracketed_is_comment (codes "cycle") (cycle_numbers c) refl (cycle_near c g)) l.cycles f.cycles) no_comments))))
+    (rw (← append-nil (map cycle_line l.cycles)) (more_comments (map cycle_line l.cycles) []
+    (comments-map IsCycle cycle_line (λ c g. bracketed_is_comment (codes "cycle") (cycle_numbers c) refl
+    (cycle_near c g)) l.cycles f.cycles) no_comments))))
 
 -- ---- the drawing
 
@@ -183,14 +211,17 @@ text_of-boxes : (boxes : List Corners) → text_of (map box_line boxes) ≡ flat
 text_of-boxes [] = refl
 text_of-boxes (b ∷ bs) = ap (λ t. box_line b ++ t) (text_of-boxes bs)
 
-text_of-mask : (name : List ℕ) (mask : ℕ) (boxes : List Corners) → text_of (mask_lines name mask boxes) ≡ flat_map line_text (cif.lines_of_mask (name ++ mask ∷ []) boxes)
-text_of-mask name mask boxes = rw (← text_of-boxes boxes) (ap (λ t. 76 ∷ 32 ∷ (t ++ text_of (map box_line boxes))) (sym (append_assoc name (mask ∷ []) (59 ∷ 10 ∷ []))))
+text_of-mask : (name : List ℕ) (mask : ℕ) (boxes : List Corners) →
+    text_of (mask_lines name mask boxes) ≡ flat_map line_text (cif.lines_of_mask (name ++ mask ∷ []) boxes)
+text_of-mask name mask boxes = rw (← text_of-boxes boxes)
+    (ap (λ t. 76 ∷ 32 ∷ (t ++ text_of (map box_line boxes))) (sym (append_assoc name (mask ∷ []) (59 ∷ 10 ∷ []))))
 
 two_parts : (a b c d : List ℕ) → a ≡ b → c ≡ d → a ++ c ≡ b ++ d
 two_parts a b c d e f = cc
 
 lines_text-append : (xs ys : List Line) → lines_text (xs ++ ys) ≡ flat_map line_text xs ++ lines_text ys
-lines_text-append xs ys = ap (λ t. t ++ codes "E\n") (flat_map-append line_text xs ys) ∙ append_assoc (flat_map line_text xs) (flat_map line_text ys) (codes "E\n")
+lines_text-append xs ys = ap (λ t. t ++ codes "E\n") (flat_map-append line_text xs ys) ∙
+    append_assoc (flat_map line_text xs) (flat_map line_text ys) (codes "E\n")
 
 text_of-drawing : (name : List ℕ) (on_a on_b : List Corners) → text_of (drawing_lines name on_a on_b) ≡ lines_text (cif.lines_of_definition name on_a on_b)
 text_of-drawing name on_a on_b =
@@ -198,8 +229,11 @@ text_of-drawing name on_a on_b =
     let b = mask_lines name 66 on_b in
     let first = cif.lines_of_mask (name ++ 65 ∷ []) on_a in
     let second = cif.lines_of_mask (name ++ 66 ∷ []) on_b in
-    let written = text_of-append a (b ++ last_lines) ∙ two_parts (text_of a) (flat_map line_text first) (text_of (b ++ last_lines)) (flat_map line_text second ++ text_of last_lines) (text_of-mask name 65 on_a)
-    (text_of-append b last_lines ∙ two_parts (text_of b) (flat_map line_text second) (text_of last_lines) (text_of last_lines) (text_of-mask name 66 on_b) refl) in
+    let written = text_of-append a (b ++ last_lines) ∙
+    two_parts (text_of a) (flat_map line_text first) (text_of (b ++ last_lines))
+    (flat_map line_text second ++ text_of last_lines) (text_of-mask name 65 on_a)
+    (text_of-append b last_lines ∙ two_parts (text_of b) (flat_map line_text second) (text_of last_lines)
+    (text_of last_lines) (text_of-mask name 66 on_b) refl) in
     let read = lines_text-append first (second ++ cif.last_lines) ∙ ap (λ t. flat_map line_text first ++ t) (lines_text-append second cif.last_lines) in
     ap (λ t. codes "DS 1 1 4;\n" ++ t) (written ∙ sym read)
 
@@ -209,10 +243,15 @@ pub report_is_drawn : (r : PlainReport) → IsReport r → DrawsMasks r.head.par
 report_is_drawn r f =
     let name = r.head.params.layer in
     let before = more_comments (head_lines r.head) (lists_lines r.lists) (head_comments r.head f.head) (lists_comments r.lists f.lists) in
-    let drawn = all_masks_are_drawn before.comments name r.on_a r.on_b before.flat f.head.params.layer.0 f.head.params.layer.1 (All-from_recursion IsRectangle r.on_a f.on_a) (All-from_recursion IsRectangle r.on_b f.on_b) in
+    let drawn = all_masks_are_drawn before.comments name r.on_a r.on_b before.flat f.head.params.layer.0
+    f.head.params.layer.1 (All-from_recursion IsRectangle r.on_a f.on_a)
+    (All-from_recursion IsRectangle r.on_b f.on_b) in
     let drawing = drawing_lines name r.on_a r.on_b in
     let comments = map comment_line before.comments in
-    let parts = ap text_of (sym (append_assoc (head_lines r.head) (lists_lines r.lists) drawing)) ∙ text_of-append (head_lines r.head ++ lists_lines r.lists) drawing in
-    let same = two_parts (text_of (head_lines r.head ++ lists_lines r.lists)) (flat_map line_text comments) (text_of drawing) (lines_text (cif.lines_of_definition name r.on_a r.on_b)) before.text (text_of-drawing name r.on_a r.on_b) in
+    let parts = ap text_of (sym (append_assoc (head_lines r.head) (lists_lines r.lists) drawing)) ∙
+    text_of-append (head_lines r.head ++ lists_lines r.lists) drawing in
+    let same = two_parts (text_of (head_lines r.head ++ lists_lines r.lists)) (flat_map line_text comments)
+    (text_of drawing) (lines_text (cif.lines_of_definition name r.on_a r.on_b)) before.text
+    (text_of-drawing name r.on_a r.on_b) in
     let text = parts ∙ same ∙ sym (lines_text-append comments (cif.lines_of_definition name r.on_a r.on_b)) in
     subst (λ (t : List ℕ). DrawsMasks name r.on_a r.on_b t) (sym text) drawn.draws

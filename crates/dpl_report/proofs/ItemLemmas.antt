@@ -1,5 +1,6 @@
 -- An item is read from its line, and from no other.
-use Rattle.std.proofs.Common.{arith, ◌≡◌, ℕ, ◌<◌, ◌≤◌, ◌^◌, Bool, true, false, ◌&&◌, ◌==◌, cond, nat_le, List, [], ◌∷◌, length, map, refl, sym, ◌∙◌, Option, Some, None, codes}
+use Rattle.std.proofs.Common.{arith, ◌≡◌, ℕ, ◌<◌, ◌≤◌, ◌^◌, Bool, true, false, ◌&&◌, ◌==◌, cond, nat_le, List, [], ◌∷◌}
+use Rattle.std.proofs.Common.{length, map, refl, sym, ◌∙◌, Option, Some, None, codes}
 use Rattle.std.specs.Prelude.{ℤ, pos, negsuc, neg_ℤ, ◌+ℤ◌, ◌-ℤ◌, ◌*ℤ◌, int_lt, int_le, int_div, int_rem, unsigned_abs}
 use Rattle.std.specs.List.{list_all, AllByRecursion}
 use Rattle.std.specs.Str.{bytes_eq}
@@ -19,7 +20,10 @@ use Rattle.dpl_report.specs.declared.marks.Broken.{Broken}
 use Rattle.dpl_report.specs.Plain.{PlainZone}
 use Rattle.dpl_report.specs.ReportLines.{count_line, cut_line, clash_line, aside_line, cycle_line, broken_numbers, zone_numbers, cycle_numbers}
 use Rattle.dpl_report.specs.Valid.{IsNumber, IsCount, IsBroken, IsZone, IsCycle, CutFits, ClashFits, AsideFits}
-use Rattle.dpl_report.specs.Reading.{numbers_in, if_written, item_by, up_to, number_of, count_of, count_from, item_count, ends_from, broken_from, from_edge, item_clash, is_stretch, rectangle_of, corners_from, zone_from, item_cut, aside_from, item_aside, edges_of, cycle_with, cycle_from, item_cycle, low_corner, high_corner, box_from, item_box}
+use Rattle.dpl_report.specs.Reading.{numbers_in, if_written, item_by, up_to, number_of, count_of, count_from}
+use Rattle.dpl_report.specs.Reading.{item_count, ends_from, broken_from, from_edge, item_clash, is_stretch}
+use Rattle.dpl_report.specs.Reading.{rectangle_of, corners_from, zone_from, item_cut, aside_from, item_aside, edges_of}
+use Rattle.dpl_report.specs.Reading.{cycle_with, cycle_from, item_cycle, low_corner, high_corner, box_from, item_box}
 use Rattle.dpl_report.proofs.LineLemmas.{IsNear, numbers_in-bracketed, numbers_in-box, box_numbers}
 
 pub bind_some : {A B : Type 0} (o : Option A) (f : A → Option B) (y : B) → (o >>= f) ≡ Some y → (x : A) × (o ≡ Some x) × (f x ≡ Some y)
@@ -58,8 +62,11 @@ from_edge_same : {X : Type 0} (least edge : ℕ) (x : X) → least ≤ edge → 
 from_edge_same least edge x l = rw (le-leb least edge l) refl
 
 -- the same for items in ascending order
-pub items_of_guess : {X : Type 0} (guess : List ℤ → Option X) (text : X → List ℕ) (numbers : X → List ℤ) (edge : X → ℕ) (Fits : X → Type 0) → IsGuess guess numbers Fits
-    → ((x : X) → Fits x → numbers_in (text x) ≡ numbers x) → AreItems (λ least line. guess (numbers_in line) >>= λ x. from_edge least (edge x) x >>= if_written text line) text (λ least x. (least ≤ edge x) × Fits x)
+pub items_of_guess : {X : Type 0} (guess : List ℤ → Option X) (text : X → List ℕ) (numbers : X → List ℤ) (edge : X → ℕ)
+    (Fits : X → Type 0) → IsGuess guess numbers Fits
+    → ((x : X) → Fits x → numbers_in (text x) ≡ numbers x) →
+    AreItems (λ least line. guess (numbers_in line) >>= λ x. from_edge least (edge x) x >>= if_written text line)
+    text (λ least x. (least ≤ edge x) × Fits x)
 items_of_guess guess text numbers edge Fits g n = record {
   takes = λ least l x e.
       let a = bind_some (guess (numbers_in l)) (λ x. from_edge least (edge x) x >>= if_written text l) x e in
@@ -72,7 +79,8 @@ items_of_guess guess text numbers edge Fits g n = record {
 }
 
 -- items that depend on none before
-pub items_of_item : {X : Type 0} (item : List ℕ → Option X) (text : X → List ℕ) (Fits : X → Type 0) → IsItem item text Fits → AreItems (λ (s : ℕ). item) text (λ s. Fits)
+pub items_of_item : {X : Type 0} (item : List ℕ → Option X) (text : X → List ℕ) (Fits : X → Type 0) →
+    IsItem item text Fits → AreItems (λ (s : ℕ). item) text (λ s. Fits)
 items_of_item item text Fits i = record { takes = λ s. i.takes; again = λ s. i.again }
 
 -- ---- numbers
@@ -92,7 +100,8 @@ count_guess = record { fits = fits; again = λ n l. up_to_again 1000000000000 n 
   fits (z ∷ y ∷ zs) n e = absurd (cc)
 
 pub count_item : (word : List ℕ) → list_all is_separator word ≡ true → IsItem (item_count word) (count_line word) IsCount
-count_item word h = item_of_guess count_from (count_line word) (λ n. pos n ∷ []) IsCount count_guess (λ n l. numbers_in-bracketed word (pos n ∷ []) h (l, tt)) 0 (omega arith)
+count_item word h = item_of_guess count_from (count_line word) (λ n. pos n ∷ []) IsCount count_guess
+    (λ n l. numbers_in-bracketed word (pos n ∷ []) h (l, tt)) 0 (omega arith)
 
 aside_guess : IsGuess aside_from (λ e. pos e ∷ []) IsNumber
 aside_guess = record { fits = fits; again = λ n l. up_to_again 4294967295 n l } where
@@ -105,7 +114,8 @@ pub near : (n : ℕ) → IsNumber n → IsNear (pos n)
 near n l = omega arith
 
 pub aside_items : AreItems item_aside aside_line AsideFits
-aside_items = items_of_guess aside_from aside_line (λ e. pos e ∷ []) (λ e. e) IsNumber aside_guess (λ n l. numbers_in-bracketed (codes "aside") (pos n ∷ []) refl (near n l, tt))
+aside_items = items_of_guess aside_from aside_line (λ e. pos e ∷ []) (λ e. e) IsNumber aside_guess
+    (λ n l. numbers_in-bracketed (codes "aside") (pos n ∷ []) refl (near n l, tt))
 
 broken_fits : (e a b : ℤ) (x : Broken) → broken_from (e ∷ a ∷ b ∷ []) ≡ Some x → IsBroken x
 broken_fits e a b x h =
@@ -123,7 +133,12 @@ broken_from_fits (e ∷ a ∷ b ∷ []) x h = broken_fits e a b x h
 broken_from_fits (e ∷ a ∷ b ∷ z ∷ zs) x h = absurd (cc)
 
 broken_guess : IsGuess broken_from broken_numbers IsBroken
-broken_guess = record { fits = broken_from_fits; again = λ x f. rw (up_to_again 4294967295 x.edge f.edge, up_to_again 4294967295 x.a f.a, up_to_again 4294967295 x.b f.b) refl }
+broken_guess = record {
+  fits = broken_from_fits;
+  again =
+      λ x f. rw (up_to_again 4294967295 x.edge f.edge, up_to_again 4294967295 x.a f.a, up_to_again 4294967295 x.b f.b)
+      refl;
+}
 
 -- ---- rectangles
 
@@ -188,7 +203,8 @@ pub zone_near : (z : PlainZone) → IsZone z → AllByRecursion IsNear (zone_num
 zone_near z f = (near z.at.edge f.ends.edge, (near z.at.a f.ends.a, (near z.at.b f.ends.b, corners_near z.corners f.corners)))
 
 pub cut_items : AreItems item_cut cut_line CutFits
-cut_items = items_of_guess zone_from cut_line zone_numbers (λ z. z.at.edge) IsZone zone_guess (λ z f. numbers_in-bracketed (codes "cut") (zone_numbers z) refl (zone_near z f))
+cut_items = items_of_guess zone_from cut_line zone_numbers (λ z. z.at.edge) IsZone zone_guess
+    (λ z f. numbers_in-bracketed (codes "cut") (zone_numbers z) refl (zone_near z f))
 
 -- ---- cycles
 
@@ -217,7 +233,8 @@ cycle_by_test false half start e es c t h s f k =
     let some : 1 ≤ half = grind (arith, nat_tests) in
     rw (← same) (record { some = some; half = h; start = s; edges = f; not_empty = omega arith })
 
-cycle_with_fits : (half start : ℕ) (es : List ℕ) (c : Cycle) → IsCount half → IsNumber start → AllByRecursion IsNumber es → cycle_with half start es ≡ Some c → IsCycle c
+cycle_with_fits : (half start : ℕ) (es : List ℕ) (c : Cycle) → IsCount half → IsNumber start →
+    AllByRecursion IsNumber es → cycle_with half start es ≡ Some c → IsCycle c
 cycle_with_fits half start [] c h s f k = absurd (cc)
 cycle_with_fits half start (e ∷ es) c h s f k = cycle_by_test (half == 0) half start e es c refl h s f k
 
@@ -230,22 +247,36 @@ cycle_from_fits (h ∷ s ∷ zs) c k =
     let r = bind_some (edges_of zs) (λ w. cycle_with p.0 q.0 w) c q.2 in
     cycle_with_fits p.0 q.0 r.0 c (up_to_fits 1000000000000 h p.0 p.1) (up_to_fits 4294967295 s q.0 q.1) (edges_fit zs r.0 r.1) r.2
 
-cycle_with_again : (half start : ℕ) (es : List ℕ) → 1 ≤ half → 0 < length es → cycle_with half start es ≡ Some (record { half = half; walk = record { start = start; edges = es } })
+cycle_with_again : (half start : ℕ) (es : List ℕ) → 1 ≤ half → 0 < length es →
+    cycle_with half start es ≡ Some (record { half = half; walk = record { start = start; edges = es } })
 cycle_with_again half start [] h l = absurd (omega arith)
 cycle_with_again half start (e ∷ es) h l = let t : (half == 0) ≡ false = grind (arith, nat_tests) in rw t refl
 
 cycle_guess : IsGuess cycle_from cycle_numbers IsCycle
 cycle_guess = record {
   fits = cycle_from_fits;
-  again = λ c f. rw (up_to_again 1000000000000 c.half f.half, up_to_again 4294967295 c.walk.start f.start, edges_again c.walk.edges f.edges) (cycle_with_again c.half c.walk.start c.walk.edges f.some f.not_empty);
+  again = λ c f. rw (
+    up_to_again 1000000000000 c.half f.half,
+    up_to_again 4294967295 c.walk.start f.start,
+    edges_again c.walk.edges f.edges,
+  ) (cycle_with_again c.half c.walk.start c.walk.edges f.some f.not_empty);
 }
 
 pub cycle_near : (c : Cycle) → IsCycle c → AllByRecursion IsNear (cycle_numbers c)
 cycle_near c f = (f.half, (near c.walk.start f.start, edges_near c.walk.edges f.edges))
 
 pub cycle_item : IsItem item_cycle cycle_line IsCycle
-cycle_item = item_of_guess cycle_from cycle_line cycle_numbers IsCycle cycle_guess (λ c f. numbers_in-bracketed (codes "cycle") (cycle_numbers c) refl (cycle_near c f))
-    (record { half = 1; walk = record { start = 0; edges = 0 ∷ [] } }) (record { some = omega arith; half = omega arith; start = omega arith; edges = (omega arith, tt); not_empty = omega arith })
+cycle_item = item_of_guess cycle_from cycle_line cycle_numbers IsCycle cycle_guess
+    (λ c f. numbers_in-bracketed (codes "cycle") (cycle_numbers c) refl (cycle_near c f))
+    (record { half = 1; walk = record { start = 0; edges = 0 ∷ [] } })
+    (record {
+      some = omega arith;
+      half = omega arith;
+      start = omega arith;
+      edges = (omega arith, tt);
+      not_empty =
+          omega arith;
+    })
 
 -- ---- boxes
 
@@ -271,11 +302,29 @@ box_from_fits (l ∷ w ∷ x ∷ y ∷ []) c h = rectangle_fits (record { x1 = l
 box_from_fits (l ∷ w ∷ x ∷ y ∷ z ∷ zs) c h = absurd (cc)
 
 box_guess : IsGuess box_from box_numbers IsRectangle
-box_guess = record { fits = box_from_fits; again = λ c r. rw (low_again c.x1 c.x2, low_again c.y1 c.y2, high_again c.x1 c.x2, high_again c.y1 c.y2) (rectangle_again c r) }
+box_guess = record {
+  fits = box_from_fits;
+  again = λ c r.
+      rw (low_again c.x1 c.x2, low_again c.y1 c.y2, high_again c.x1 c.x2, high_again c.y1 c.y2) (rectangle_again c r);
+}
 
 pub box_near : (b : Corners) → IsRectangle b → AllByRecursion IsNear (box_numbers b)
 box_near b r = (omega (arith, ints), (omega (arith, ints), (omega (arith, ints), (omega (arith, ints), tt))))
 
 pub box_item : IsItem item_box box_line IsRectangle
 box_item = item_of_guess box_from box_line box_numbers IsRectangle box_guess (λ b r. numbers_in-box b (box_near b r))
-    (record { x1 = pos 0; y1 = pos 0; x2 = pos 1; y2 = pos 1 }) (record { columns = record { some = omega (arith, ints); low = omega (arith, ints); high = omega (arith, ints) }; rows = record { some = omega (arith, ints); low = omega (arith, ints); high = omega (arith, ints) } })
+    (record { x1 = pos 0; y1 = pos 0; x2 = pos 1; y2 = pos 1 })
+    (record {
+      columns = record {
+        some = omega (arith, ints);
+        low = omega (arith, ints);
+        high =
+            omega (arith, ints);
+      };
+      rows = record {
+        some = omega (arith, ints);
+        low = omega (arith, ints);
+        high =
+            omega (arith, ints);
+      };
+    })

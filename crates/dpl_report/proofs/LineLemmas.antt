@@ -1,5 +1,6 @@
 -- The numbers of a line are read back, and a line has one line end.
-use Rattle.std.proofs.Common.{arith, ◌≡◌, ℕ, zero, suc, ◌+◌, ◌%◌, ◌<◌, ◌≤◌, ◌^◌, Bool, true, false, ◌==◌, cond, List, [], ◌∷◌, ◌++◌, length, refl, ap, ◌∙◌, append_assoc, length-append, Option, None}
+use Rattle.std.proofs.Common.{arith, ◌≡◌, ℕ, zero, suc, ◌+◌, ◌%◌, ◌<◌, ◌≤◌, ◌^◌, Bool, true, false, ◌==◌, cond, List}
+use Rattle.std.proofs.Common.{[], ◌∷◌, ◌++◌, length, refl, ap, ◌∙◌, append_assoc, length-append, Option, None}
 use Rattle.std.specs.Prelude.{ℤ, pos, negsuc, ◌+ℤ◌, ◌-ℤ◌, ◌*ℤ◌, not, unsigned_abs, codes}
 use Rattle.std.specs.List.{list_all, AllByRecursion}
 use Rattle.std.specs.Fmt.{decimal, signed_decimal}
@@ -36,7 +37,9 @@ digits_any : (of : ℕ → Num) (v w bs : List ℕ) → number_with (digits_at o
 digits_any of v w [] = refl
 digits_any of v w (b ∷ bs) = any_whole (is_digit b) (of (digits_value 0 (b ∷ bs))) (drop_while is_digit (b ∷ bs)) v w
 
-signed_by_test : (t : Bool) (v w : List ℕ) (b : ℕ) (bs : List ℕ) → number_with (cond t (digits_at of_negated v bs) (digits_at of_magnitude v (b ∷ bs))) ≡ number_with (cond t (digits_at of_negated w bs) (digits_at of_magnitude w (b ∷ bs)))
+signed_by_test : (t : Bool) (v w : List ℕ) (b : ℕ) (bs : List ℕ) →
+    number_with (cond t (digits_at of_negated v bs) (digits_at of_magnitude v (b ∷ bs))) ≡ number_with
+    (cond t (digits_at of_negated w bs) (digits_at of_magnitude w (b ∷ bs)))
 signed_by_test true v w b bs = digits_any of_negated v w bs
 signed_by_test false v w b bs = digits_any of_magnitude v w (b ∷ bs)
 
@@ -66,19 +69,26 @@ has_no_digit-numbered : (zs : List ℤ) (end : List ℕ) → IsEnd end → has_n
 has_no_digit-numbered [] end e = e.no_digit
 has_no_digit-numbered (z ∷ zs) end e = refl
 
-numbers_again : (n : ℕ) (word : List ℕ) (zs : List ℤ) (end : List ℕ) → IsEnd end → length zs ≤ n → list_all is_separator word ≡ true → AllByRecursion IsNear zs → (repeated signed_of n (word ++ numbered zs end)).0 ≡ zs
+numbers_again : (n : ℕ) (word : List ℕ) (zs : List ℤ) (end : List ℕ) → IsEnd end → length zs ≤ n →
+    list_all is_separator word ≡ true → AllByRecursion IsNear zs →
+    (repeated signed_of n (word ++ numbered zs end)).0 ≡ zs
 numbers_again zero word [] end e l h a = refl
 numbers_again (suc n) word [] end e l h a = rw (signed_of-word word end h, e.no_number) refl
 numbers_again zero word (z ∷ zs) end e l h a = absurd (omega arith)
 numbers_again (suc n) word (z ∷ zs) end e l h a =
     let k : length zs ≤ n = omega arith in
-    rw (signed_of-word word (numbered (z ∷ zs) end) h, signed_of-signed_decimal z (numbered zs end) a.0 (has_no_digit-numbered zs end e)) (ap (λ ys. z ∷ ys) (numbers_again n [] zs end e k refl a.1))
+    rw (
+      signed_of-word word (numbered (z ∷ zs) end) h,
+      signed_of-signed_decimal z (numbered zs end) a.0 (has_no_digit-numbered zs end e),
+    )
+    (ap (λ ys. z ∷ ys) (numbers_again n [] zs end e k refl a.1))
 
 pub length-numbered : (zs : List ℤ) (end : List ℕ) → length zs ≤ length (numbered zs end)
 length-numbered [] end = omega arith
 length-numbered (z ∷ zs) end = omega (arith, length-numbered zs end, length-append (signed_decimal z) (numbered zs end))
 
-pub numbers_in-numbered : (first : ℕ) (word : List ℕ) (zs : List ℤ) (end : List ℕ) → IsEnd end → list_all is_separator word ≡ true → AllByRecursion IsNear zs → numbers_in (first ∷ (word ++ numbered zs end)) ≡ zs
+pub numbers_in-numbered : (first : ℕ) (word : List ℕ) (zs : List ℤ) (end : List ℕ) → IsEnd end →
+    list_all is_separator word ≡ true → AllByRecursion IsNear zs → numbers_in (first ∷ (word ++ numbered zs end)) ≡ zs
 numbers_in-numbered first word zs end e h a =
     numbers_again (suc (length (word ++ numbered zs end))) word zs end e (omega (arith, length-append word (numbered zs end), length-numbered zs end)) h a
 
@@ -95,11 +105,13 @@ numbers_in-bracketed word zs h a = numbers_in-numbered 40 word zs (codes ");\n")
 abbrev pub box_numbers : Corners → List ℤ
 box_numbers b = ((b.x2 -ℤ b.x1) *ℤ pos 2) ∷ ((b.y2 -ℤ b.y1) *ℤ pos 2) ∷ (b.x1 +ℤ b.x2) ∷ (b.y1 +ℤ b.y2) ∷ []
 
-four_parts : (a b c d : List ℕ) → ((((66 ∷ 32 ∷ a) ++ (32 ∷ b)) ++ (32 ∷ c)) ++ (32 ∷ d)) ++ (59 ∷ 10 ∷ []) ≡ 66 ∷ 32 ∷ (a ++ (32 ∷ (b ++ (32 ∷ (c ++ (32 ∷ (d ++ (59 ∷ 10 ∷ []))))))))
+four_parts : (a b c d : List ℕ) → ((((66 ∷ 32 ∷ a) ++ (32 ∷ b)) ++ (32 ∷ c)) ++ (32 ∷ d)) ++ (59 ∷ 10 ∷ []) ≡ 66 ∷ 32 ∷
+    (a ++ (32 ∷ (b ++ (32 ∷ (c ++ (32 ∷ (d ++ (59 ∷ 10 ∷ []))))))))
 four_parts a b c d = simp append_assoc
 
 pub box_line-numbered : (b : Corners) → box_line b ≡ 66 ∷ numbered (box_numbers b) (codes ";\n")
-box_line-numbered b = four_parts (signed_decimal ((b.x2 -ℤ b.x1) *ℤ pos 2)) (signed_decimal ((b.y2 -ℤ b.y1) *ℤ pos 2)) (signed_decimal (b.x1 +ℤ b.x2)) (signed_decimal (b.y1 +ℤ b.y2))
+box_line-numbered b = four_parts (signed_decimal ((b.x2 -ℤ b.x1) *ℤ pos 2)) (signed_decimal ((b.y2 -ℤ b.y1) *ℤ pos 2))
+    (signed_decimal (b.x1 +ℤ b.x2)) (signed_decimal (b.y1 +ℤ b.y2))
 
 pub numbers_in-box : (b : Corners) → AllByRecursion IsNear (box_numbers b) → numbers_in (box_line b) ≡ box_numbers b
 numbers_in-box b a = rw (box_line-numbered b) (numbers_in-numbered 66 [] (box_numbers b) (codes ";\n") box_closing_is_end refl a)
@@ -109,7 +121,8 @@ numbers_in-box b a = rw (box_line-numbered b) (numbers_in-numbered 66 [] (box_nu
 abbrev pub is_no_end : ℕ → Bool
 is_no_end b = not (b == 10)
 
-line_by_test : (t : Bool) (bs rest : List ℕ) → not t ≡ true → is_line (bs ++ rest) ≡ is_line rest → cond t (is_nothing (bs ++ rest)) (is_line (bs ++ rest)) ≡ is_line rest
+line_by_test : (t : Bool) (bs rest : List ℕ) → not t ≡ true → is_line (bs ++ rest) ≡ is_line rest →
+    cond t (is_nothing (bs ++ rest)) (is_line (bs ++ rest)) ≡ is_line rest
 line_by_test true bs rest n h = absurd (cc)
 line_by_test false bs rest n h = h
 

@@ -1,5 +1,7 @@
 -- The lines of a name, of the masks, and lines that are always the same.
-use Rattle.std.proofs.Common.{arith, ◌≡◌, ℕ, ◌-◌, cond, Bool, true, false, ◌&&◌, ◌==◌, nat_le, List, [], ◌∷◌, ◌++◌, length, map, take, replicate, refl, sym, ap, ◌∙◌, length-append, Option, None, Some, codes}
+use Rattle.std.proofs.Common.{arith, ◌≡◌, ℕ, ◌-◌, cond, Bool, true, false, ◌&&◌, ◌==◌, nat_le, List, [], ◌∷◌, ◌++◌}
+use Rattle.std.proofs.Common.{length, map, take, replicate, refl, sym, ap, ◌∙◌, length-append, Option, None, Some}
+use Rattle.std.proofs.Common.{codes}
 use Rattle.std.specs.Str.{bytes_eq}
 use Rattle.std.proofs.lemmas.Option.{cond_some}
 use Rattle.std.proofs.lemmas.Slice.Eq.{bytes_eq-Decides}
@@ -20,7 +22,8 @@ between-layer : (name : List ℕ) → between 7 (layer_line name) ≡ name
 between-layer name = between_seam name (codes ");\n") (length (layer_line name) - 10) (omega (arith, length-append name (codes ");\n")))
 
 between-masks : (colours : List Bool) → between 7 (masks_line colours) ≡ map letter colours
-between-masks colours = between_seam (map letter colours) (codes ");\n") (length (masks_line colours) - 10) (omega (arith, length-append (map letter colours) (codes ");\n")))
+between-masks colours = between_seam (map letter colours) (codes ");\n") (length (masks_line colours) - 10)
+    (omega (arith, length-append (map letter colours) (codes ");\n")))
 
 between-keep : (name : List ℕ) → between 6 (keep_line name) ≡ name
 between-keep name = between_seam name (codes ");\n") (length (keep_line name) - 9) (omega (arith, length-append name (codes ");\n")))

@@ -1,5 +1,6 @@
 -- The reader of a report gives back what its lines were written from.
-use Rattle.std.proofs.Common.{Option, None, Some, IfSome, cond, ◌+◌, ◌≡◌, ◌≢◌, ◌==◌, ℕ, zero, Bool, true, false, List, [], ◌∷◌, ◌++◌, length, map, refl, sym, ap, ◌∙◌, append_assoc, codes, Ok}
+use Rattle.std.proofs.Common.{Option, None, Some, IfSome, cond, ◌+◌, ◌≡◌, ◌≢◌, ◌==◌, ℕ, zero, Bool, true, false, List}
+use Rattle.std.proofs.Common.{[], ◌∷◌, ◌++◌, length, map, refl, sym, ap, ◌∙◌, append_assoc, codes, Ok}
 use Rattle.std.specs.List.{list_all, AllByRecursion}
 use Rattle.std.proofs.lemmas.Bool.Decides.{Decides-eqb, not_from_Decides}
 use Rattle.dpl_cell.specs.Places.{Corners}
@@ -10,7 +11,8 @@ use Rattle.dpl_boxes.specs.Masks.{box_line}
 use Rattle.std.specs.Prelude.{is_some}
 use Rattle.dpl_form.specs.Lines.{optional_line}
 use Rattle.dpl_form.specs.Readers.{FitFrom}
-use Rattle.dpl_form.proofs.Formats.{IsFormat, Anywhere, EndFrom, EndsOption, one_format, both_format, seen_format, seen_as_format, done_format, optional_format, many_format, refit}
+use Rattle.dpl_form.proofs.Formats.{IsFormat, Anywhere, EndFrom, EndsOption, one_format, both_format, seen_format}
+use Rattle.dpl_form.proofs.Formats.{seen_as_format, done_format, optional_format, many_format, refit}
 use Rattle.dpl_form.proofs.Endings.{BeginsOther, ends_at_other, option_ends_at_other, other-map}
 use Rattle.dpl_report.specs.declared.marks.Broken.{Broken}
 use Rattle.dpl_report.specs.declared.params.Params.{Params}
@@ -19,10 +21,15 @@ use Rattle.dpl_report.specs.declared.heads.More.{More}
 use Rattle.dpl_report.specs.declared.params.Counts.{Counts}
 use Rattle.dpl_report.specs.Plain.{PlainZone, PlainHead, PlainLists, PlainReport}
 use Rattle.dpl_report.specs.ReportLines as lines
-use Rattle.dpl_report.specs.ReportLines.{count_line, layer_line, cut_line, clash_line, aside_line, cycle_line, more_lines, counts_lines, head_lines, lists_lines, drawing_lines, report_lines}
+use Rattle.dpl_report.specs.ReportLines.{count_line, layer_line, cut_line, clash_line, aside_line, cycle_line}
+use Rattle.dpl_report.specs.ReportLines.{more_lines, counts_lines, head_lines, lists_lines, drawing_lines, report_lines}
 use Rattle.dpl_report.specs.Valid.{IsCount, AreMore, IsCounts, IsHead, IsCycle, IsLists, IsReport, CutFits, ClashFits, AsideFits}
 use Rattle.dpl_options.specs.Options.{IsSplitLayer}
-use Rattle.dpl_report.specs.Reading.{count, exactly, read_layer, read_masks, item_cut, item_clash, item_aside, item_cycle, item_box, item_keep, read_version, read_keep, values_of, read_values, nothing_more, more_of, read_corner, read_more, counts_of, read_counts, head_of, read_head, read_cuts, read_clashes, read_aside, read_cycles, lists_of, read_lists, read_boxes, read_mask, read_last, read_drawing, report_of, read_report}
+use Rattle.dpl_report.specs.Reading.{count, exactly, read_layer, read_masks, item_cut, item_clash, item_aside}
+use Rattle.dpl_report.specs.Reading.{item_cycle, item_box, item_keep, read_version, read_keep, values_of, read_values}
+use Rattle.dpl_report.specs.Reading.{nothing_more, more_of, read_corner, read_more, counts_of, read_counts, head_of}
+use Rattle.dpl_report.specs.Reading.{read_head, read_cuts, read_clashes, read_aside, read_cycles, lists_of, read_lists}
+use Rattle.dpl_report.specs.Reading.{read_boxes, read_mask, read_last, read_drawing, report_of, read_report}
 use Rattle.dpl_report.proofs.ItemLemmas.{count_item, cut_items, clash_items, aside_items, cycle_item, box_item, items_of_item}
 use Rattle.dpl_report.proofs.NameItems.{layer_item, keep_item, version_item, masks_item, line_item}
 
@@ -52,7 +59,8 @@ values_back : Values → List ℕ × (ℕ × (ℕ × (ℕ × ℕ)))
 values_back v = (v.layer, (v.space, (v.overlap, (v.stitch, v.conflict))))
 
 abbrev values_lines : Values → List (List ℕ)
-values_lines v = layer_line v.layer ∷ count_line (codes "space") v.space ∷ count_line (codes "overlap") v.overlap ∷ count_line (codes "stitch") v.stitch ∷ count_line (codes "conflict") v.conflict ∷ []
+values_lines v = layer_line v.layer ∷ count_line (codes "space") v.space ∷ count_line (codes "overlap") v.overlap ∷
+    count_line (codes "stitch") v.stitch ∷ count_line (codes "conflict") v.conflict ∷ []
 
 record AreValues (v : Values) : Type 0 where
   layer : IsSplitLayer v.layer
@@ -83,7 +91,9 @@ counts_format =
     (λ k f. (f.pieces, (f.fragments, (f.bonds, (f.stitches, (f.clashes, f.excess))))))
     (λ k rest e. tt) (λ k rest e. (tt, (tt, (tt, (tt, (tt, tt))))))
     (seen_format counts_of counts_back (λ v. refl) (λ k. refl)
-    (both_format (count_format (codes "pieces") refl) (λ _ _. both_format (count_format (codes "fragments") refl) (λ _ _. both_format (count_format (codes "bonds") refl) (λ _ _. both_format (count_format (codes "stitches") refl)
+    (both_format (count_format (codes "pieces") refl) (λ _ _. both_format (count_format (codes "fragments") refl)
+    (λ _ _. both_format (count_format (codes "bonds") refl)
+    (λ _ _. both_format (count_format (codes "stitches") refl)
     (λ _ _. both_format (count_format (codes "clashes") refl) (λ _ _. count_format (codes "excess") refl)))))))
 
 -- ---- the corner weight and the keep layer
@@ -126,7 +136,8 @@ unfolding or_zero
 corner_fits None k e m = absurd (cc)
 corner_fits (Some n) k e m = m
 
-corner_lines : (c : Option ℕ) (k : Option (List ℕ)) → is_some c ≡ true → count_line (codes "corner") (or_zero c) ∷ optional_line lines.keep_line k ≡ more_lines c k
+corner_lines : (c : Option ℕ) (k : Option (List ℕ)) → is_some c ≡ true → count_line (codes "corner") (or_zero c) ∷
+    optional_line lines.keep_line k ≡ more_lines c k
 unfolding or_zero
 corner_lines None k e = absurd (cc)
 corner_lines (Some n) k e = refl
@@ -195,7 +206,14 @@ head_format =
     seen_as_format head_of head_back head_lines IsHead EndsHead
     (λ v g. ap (λ (second : Bool). (second, v.1)) g.1.1.1.1.1.1.0) (λ h g. refl)
     (λ v g. record {
-      params = record { layer = g.1.0.layer; space = g.1.0.space; overlap = g.1.0.overlap; stitch = g.1.0.stitch; conflict = g.1.0.conflict; more = g.1.1.1.1.1.1.1 };
+      params = record {
+        layer = g.1.0.layer;
+        space = g.1.0.space;
+        overlap = g.1.0.overlap;
+        stitch = g.1.0.stitch;
+        conflict = g.1.0.conflict;
+        more = g.1.1.1.1.1.1.1;
+      };
       counts = g.1.1.0;
       cost = g.1.1.1.0;
       bound = g.1.1.1.1.0;
@@ -281,7 +299,8 @@ apart m k h = not_from_Decides (m == k) (Decides-eqb m k) h
 begins_other : (mark : List ℕ → ℕ) (m k : ℕ) (line : List ℕ) (rest : List (List ℕ)) → mark line ≡ m → (m == k) ≡ false → BeginsOther mark k (line ∷ rest)
 begins_other mark m k line rest h n e = apart m k n (sym h ∙ e)
 
-cycles_before : (k : ℕ) (cs : List Cycle) (rest : List (List ℕ)) → (121 == k) ≡ false → BeginsOther third k rest → BeginsOther third k (map cycle_line cs ++ rest)
+cycles_before : (k : ℕ) (cs : List Cycle) (rest : List (List ℕ)) → (121 == k) ≡ false → BeginsOther third k rest →
+    BeginsOther third k (map cycle_line cs ++ rest)
 unfolding third
 cycles_before k cs rest n b = other-map third k 121 cycle_line (λ c. refl) (apart 121 k n) cs rest b
 
@@ -289,7 +308,8 @@ aside_before : (k : ℕ) (es : List ℕ) (rest : List (List ℕ)) → (115 == k)
 unfolding third
 aside_before k es rest n b = other-map third k 115 aside_line (λ e. refl) (apart 115 k n) es rest b
 
-clashes_before : (k : ℕ) (bs : List Broken) (rest : List (List ℕ)) → (108 == k) ≡ false → BeginsOther third k rest → BeginsOther third k (map clash_line bs ++ rest)
+clashes_before : (k : ℕ) (bs : List Broken) (rest : List (List ℕ)) → (108 == k) ≡ false → BeginsOther third k rest →
+    BeginsOther third k (map clash_line bs ++ rest)
 unfolding third
 clashes_before k bs rest n b = other-map third k 108 clash_line (λ e. refl) (apart 108 k n) bs rest b
 
@@ -301,21 +321,27 @@ lists_end l line rest h =
     let cycles = map cycle_line l.cycles in
     let aside = map aside_line l.aside in
     let clashes = map clash_line l.clashes in
-    let three : (clashes ++ (aside ++ cycles)) ++ drawing ≡ clashes ++ (aside ++ (cycles ++ drawing)) = append_assoc clashes (aside ++ cycles) drawing ∙ ap (λ t. clashes ++ t) (append_assoc aside cycles drawing) in (
+    let three : (clashes ++ (aside ++ cycles)) ++ drawing ≡ clashes ++ (aside ++ (cycles ++ drawing)) =
+    append_assoc clashes (aside ++ cycles) drawing ∙ ap (λ t. clashes ++ t) (append_assoc aside cycles drawing) in (
       rw three (ends_at_other third 117 (λ z. z.at.edge + 1) cut_items (λ z. refl) zero l.cuts (clashes ++ (aside ++ (cycles ++ drawing)))
-          (clashes_before 117 l.clashes (aside ++ (cycles ++ drawing)) refl (aside_before 117 l.aside (cycles ++ drawing) refl (cycles_before 117 l.cycles drawing refl (begins_other third 32 117 line rest h refl))))),
+          (clashes_before 117 l.clashes (aside ++ (cycles ++ drawing)) refl
+          (aside_before 117 l.aside (cycles ++ drawing) refl
+          (cycles_before 117 l.cycles drawing refl (begins_other third 32 117 line rest h refl))))),
       (
         rw (append_assoc aside cycles drawing) (ends_at_other third 108 (λ b. b.edge + 1) clash_items (λ b. refl) zero l.clashes (aside ++ (cycles ++ drawing))
             (aside_before 108 l.aside (cycles ++ drawing) refl (cycles_before 108 l.cycles drawing refl (begins_other third 32 108 line rest h refl)))),
         (
-          ends_at_other third 115 (λ e. e + 1) aside_items (λ e. refl) zero l.aside (cycles ++ drawing) (cycles_before 115 l.cycles drawing refl (begins_other third 32 115 line rest h refl)),
-          ends_at_other third 121 (λ _. zero) (items_of_item item_cycle cycle_line IsCycle cycle_item) (λ c. refl) zero l.cycles drawing (begins_other third 32 121 line rest h refl),
+          ends_at_other third 115 (λ e. e + 1) aside_items (λ e. refl) zero l.aside (cycles ++ drawing)
+              (cycles_before 115 l.cycles drawing refl (begins_other third 32 115 line rest h refl)),
+          ends_at_other third 121 (λ _. zero) (items_of_item item_cycle cycle_line IsCycle cycle_item) (λ c. refl) zero
+              l.cycles drawing (begins_other third 32 121 line rest h refl),
         ),
       ),
     )
 
 -- nor does one of those or a line of the lists begin a keep layer
-cuts_before : (k : ℕ) (zs : List PlainZone) (rest : List (List ℕ)) → (117 == k) ≡ false → BeginsOther third k rest → BeginsOther third k (map cut_line zs ++ rest)
+cuts_before : (k : ℕ) (zs : List PlainZone) (rest : List (List ℕ)) → (117 == k) ≡ false → BeginsOther third k rest →
+    BeginsOther third k (map cut_line zs ++ rest)
 unfolding third
 cuts_before k zs rest n b = other-map third k 117 cut_line (λ z. refl) (apart 117 k n) zs rest b
 
@@ -326,7 +352,9 @@ lists_before l rest b =
     let clashes = map clash_line l.clashes in
     let cuts = map cut_line l.cuts in
     let parts : (cuts ++ (clashes ++ (aside ++ cycles))) ++ rest ≡ cuts ++ (clashes ++ (aside ++ (cycles ++ rest))) =
-    append_assoc cuts (clashes ++ (aside ++ cycles)) rest ∙ ap (λ t. cuts ++ t) (append_assoc clashes (aside ++ cycles) rest ∙ ap (λ t. clashes ++ t) (append_assoc aside cycles rest)) in
+    append_assoc cuts (clashes ++ (aside ++ cycles)) rest ∙
+    ap (λ t. cuts ++ t) (append_assoc clashes (aside ++ cycles) rest ∙
+    ap (λ t. clashes ++ t) (append_assoc aside cycles rest)) in
     rw parts (cuts_before 101 l.cuts (clashes ++ (aside ++ (cycles ++ rest))) refl (clashes_before 101 l.clashes (aside ++ (cycles ++ rest)) refl
     (aside_before 101 l.aside (cycles ++ rest) refl (cycles_before 101 l.cycles rest refl b))))
 
@@ -335,16 +363,23 @@ unfolding third
 more_end None k rest b = tt
 more_end (Some n) k rest b = option_ends_at_other third 101 keep_item (λ name. refl) k rest b
 
-head_end : (h : PlainHead) (l : PlainLists) (line : List ℕ) (drawing rest : List (List ℕ)) → third line ≡ 32 → EndsHead h ((lists_lines l ++ (line ∷ drawing)) ++ rest)
+head_end : (h : PlainHead) (l : PlainLists) (line : List ℕ) (drawing rest : List (List ℕ)) → third line ≡ 32 →
+    EndsHead h ((lists_lines l ++ (line ∷ drawing)) ++ rest)
 head_end h l line drawing rest e =
-    rw (append_assoc (lists_lines l) (line ∷ drawing) rest) (more_end h.params.corner h.params.keep (lists_lines l ++ line ∷ (drawing ++ rest)) (lists_before l (line ∷ (drawing ++ rest)) (begins_other third 32 101 line (drawing ++ rest) e refl)))
+    rw (append_assoc (lists_lines l) (line ∷ drawing) rest)
+    (more_end h.params.corner h.params.keep (lists_lines l ++ line ∷ (drawing ++ rest))
+    (lists_before l (line ∷ (drawing ++ rest)) (begins_other third 32 101 line (drawing ++ rest) e refl)))
 
 -- and a line that begins otherwise no box
-boxes_end : (boxes : List Corners) (line : List ℕ) (rest : List (List ℕ)) → (first line == 66) ≡ false → EndFrom (λ (s : ℕ). item_box) (λ _. zero) zero boxes (line ∷ rest)
+boxes_end : (boxes : List Corners) (line : List ℕ) (rest : List (List ℕ)) → (first line == 66) ≡ false →
+    EndFrom (λ (s : ℕ). item_box) (λ _. zero) zero boxes (line ∷ rest)
 unfolding first
-boxes_end boxes line rest h = ends_at_other first 66 (λ _. zero) (items_of_item item_box box_line IsRectangle box_item) (λ b. refl) zero boxes (line ∷ rest) (begins_other first (first line) 66 line rest refl h)
+boxes_end boxes line rest h = ends_at_other first 66 (λ _. zero) (items_of_item item_box box_line IsRectangle box_item)
+    (λ b. refl) zero boxes (line ∷ rest) (begins_other first (first line) 66 line rest refl h)
 
-mask_format : (name : List ℕ) (mask : ℕ) → IsFormat (read_mask name mask) (λ boxes. lines.mask_line name mask ∷ map box_line boxes) (AllByRecursion IsRectangle) (EndFrom (λ (s : ℕ). item_box) (λ _. zero) zero)
+mask_format : (name : List ℕ) (mask : ℕ) → IsFormat (read_mask name mask)
+    (λ boxes. lines.mask_line name mask ∷ map box_line boxes) (AllByRecursion IsRectangle)
+    (EndFrom (λ (s : ℕ). item_box) (λ _. zero) zero)
 unfolding read_mask
 mask_format name mask =
     refit (λ boxes. lines.mask_line name mask ∷ map box_line boxes) (AllByRecursion IsRectangle) (EndFrom (λ (s : ℕ). item_box) (λ _. zero) zero) (λ b. refl)
@@ -355,17 +390,26 @@ last_format : IsFormat read_last (λ _. lines.last_lines) (λ _. Unit {0}) Anywh
 unfolding read_last
 last_format =
     refit (λ _. lines.last_lines) (λ _. Unit {0}) Anywhere (λ _. refl) (λ _ f. tt) (λ _ f. (tt, (tt, tt))) (λ _ rest e. tt) (λ _ rest e. (tt, (tt, tt)))
-    (seen_format (λ _. tt) (λ _. (tt, (tt, tt))) (λ v. refl) (λ _. refl) (both_format (line_format (codes "DF;\n")) (λ _ _. both_format (line_format (codes "C 1;\n")) (λ _ _. line_format (codes "E\n")))))
+    (seen_format (λ _. tt) (λ _. (tt, (tt, tt))) (λ v. refl) (λ _. refl)
+    (both_format (line_format (codes "DF;\n")) (λ _ _. both_format (line_format (codes "C 1;\n"))
+    (λ _ _. line_format (codes "E\n")))))
 
 drawing_back : List Corners × List Corners → Unit {0} × (List Corners × (List Corners × Unit {0}))
 drawing_back v = (tt, (v.0, (v.1, tt)))
 
-drawing_format : (name : List ℕ) → IsFormat (read_drawing name) (λ v. drawing_lines name v.0 v.1) (λ v. AllByRecursion IsRectangle v.0 × AllByRecursion IsRectangle v.1) Anywhere
+drawing_format : (name : List ℕ) → IsFormat (read_drawing name) (λ v. drawing_lines name v.0 v.1)
+    (λ v. AllByRecursion IsRectangle v.0 × AllByRecursion IsRectangle v.1) Anywhere
 unfolding read_drawing drawing_back first
 drawing_format name =
     refit (λ v. drawing_lines name v.0 v.1) (λ v. AllByRecursion IsRectangle v.0 × AllByRecursion IsRectangle v.1) Anywhere (λ v. refl)
     (λ v f. (f.1.0, f.1.1.0)) (λ v f. (tt, (f.0, (f.1, tt)))) (λ v rest e. tt)
-    (λ v rest e. (tt, (boxes_end v.0 (lines.mask_line name 66) ((map box_line v.1 ++ lines.last_lines) ++ rest) refl, (boxes_end v.1 (codes "DF;\n") (codes "C 1;\n" ∷ codes "E\n" ∷ rest) refl, tt))))
+    (λ v rest e. (
+      tt,
+      (
+        boxes_end v.0 (lines.mask_line name 66) ((map box_line v.1 ++ lines.last_lines) ++ rest) refl,
+        (boxes_end v.1 (codes "DF;\n") (codes "C 1;\n" ∷ codes "E\n" ∷ rest) refl, tt),
+      ),
+    ))
     (seen_format (λ v. (v.1.0, v.1.1.0)) drawing_back (λ v. refl) (λ v. refl)
     (both_format (line_format lines.start_line) (λ _ _. both_format (mask_format name 65) (λ _ _. both_format (mask_format name 66) (λ _ _. last_format)))))
 

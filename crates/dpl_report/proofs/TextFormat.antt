@@ -1,5 +1,6 @@
 -- The text of a report is read as it was written.
-use Rattle.std.proofs.Common.{arith, ◌≡◌, ℕ, zero, ◌+◌, ◌-◌, Bool, true, false, List, [], ◌∷◌, ◌++◌, length, map, refl, sym, ap, ◌∙◌, codes, Option, None, Some, Ok, Err}
+use Rattle.std.proofs.Common.{arith, ◌≡◌, ℕ, zero, ◌+◌, ◌-◌, Bool, true, false, List, [], ◌∷◌, ◌++◌, length, map, refl}
+use Rattle.std.proofs.Common.{sym, ap, ◌∙◌, codes, Option, None, Some, Ok, Err}
 use Rattle.std.specs.Prelude.{pos, is_some}
 use Rattle.std.specs.List.{list_all, AllByRecursion}
 use Rattle.std.proofs.lemmas.Bool.Decides.{nat_tests}
@@ -14,7 +15,10 @@ use Rattle.dpl_form.specs.Readers.{FitFrom, whole, IsFirstWrong}
 use Rattle.dpl_form.proofs.TextLemmas.{IsLine, text_of-lines_in, lines_in-text_of}
 use Rattle.dpl_form.proofs.Formats.{Anywhere, whole_found, whole_again, whole_stops}
 use Rattle.dpl_report.specs.Plain.{PlainHead, PlainLists, PlainReport}
-use Rattle.dpl_report.specs.ReportLines.{letter, count_line, layer_line, keep_line, version_line, more_lines, masks_line, mask_line, broken_numbers, zone_numbers, cycle_numbers, cut_line, clash_line, aside_line, cycle_line, head_lines, lists_lines, drawing_lines, report_lines, report_text, last_lines}
+use Rattle.dpl_report.specs.ReportLines.{letter, count_line, layer_line, keep_line, version_line, more_lines}
+use Rattle.dpl_report.specs.ReportLines.{masks_line, mask_line, broken_numbers, zone_numbers, cycle_numbers, cut_line}
+use Rattle.dpl_report.specs.ReportLines.{clash_line, aside_line, cycle_line, head_lines, lists_lines, drawing_lines}
+use Rattle.dpl_report.specs.ReportLines.{report_lines, report_text, last_lines}
 use Rattle.dpl_report.specs.Valid.{IsCount, AreMore, IsHead, IsCycle, IsLists, IsReport, CutFits, ClashFits, AsideFits}
 use Rattle.dpl_options.specs.Options.{IsSplitLayer}
 use Rattle.dpl_report.specs.Reading.{read_report}
@@ -28,11 +32,14 @@ are-append : (xs ys : List (List ℕ)) → AllByRecursion IsLine xs → AllByRec
 are-append [] ys a b = b
 are-append (x ∷ xs) ys a b = (a.0, are-append xs ys a.1 b)
 
-are-map : {X : Type 0} (Fits : X → Type 0) (line : X → List ℕ) → ((x : X) → Fits x → IsLine (line x)) → (xs : List X) → AllByRecursion Fits xs → AllByRecursion IsLine (map line xs)
+are-map : {X : Type 0} (Fits : X → Type 0) (line : X → List ℕ) → ((x : X) → Fits x → IsLine (line x)) → (xs : List X) →
+    AllByRecursion Fits xs → AllByRecursion IsLine (map line xs)
 are-map Fits line h [] f = tt
 are-map Fits line h (x ∷ xs) f = (h x f.0, are-map Fits line h xs f.1)
 
-are-fit : {X : Type 0} (Fits : ℕ → X → Type 0) (after : X → ℕ) (line : X → List ℕ) → ((s : ℕ) (x : X) → Fits s x → IsLine (line x)) → (s : ℕ) (xs : List X) → FitFrom Fits after s xs → AllByRecursion IsLine (map line xs)
+are-fit : {X : Type 0} (Fits : ℕ → X → Type 0) (after : X → ℕ) (line : X → List ℕ) →
+    ((s : ℕ) (x : X) → Fits s x → IsLine (line x)) → (s : ℕ) (xs : List X) → FitFrom Fits after s xs →
+    AllByRecursion IsLine (map line xs)
 are-fit Fits after line h s [] f = tt
 are-fit Fits after line h s (x ∷ xs) f = (h s x f.0, are-fit Fits after line h (after x) xs f.1)
 
@@ -98,7 +105,13 @@ head_are_lines h f =
                           count_is_line (codes "clashes") h.counts.clashes refl k.clashes,
                           (
                             count_is_line (codes "excess") h.counts.excess refl k.excess,
-                            (count_is_line (codes "cost") h.cost refl f.cost, (count_is_line (codes "bound") h.bound refl f.bound, (masks_is_line h.colours, more_are_lines h.params.corner h.params.keep p.more))),
+                            (
+                              count_is_line (codes "cost") h.cost refl f.cost,
+                              (
+                                count_is_line (codes "bound") h.bound refl f.bound,
+                                (masks_is_line h.colours, more_are_lines h.params.corner h.params.keep p.more),
+                              ),
+                            ),
                           ),
                         ),
                       ),
@@ -117,7 +130,8 @@ lists_are_lines l f =
     are-append (map cut_line l.cuts) (map clash_line l.clashes ++ (map aside_line l.aside ++ map cycle_line l.cycles))
     (are-fit CutFits (λ z. z.at.edge + 1) cut_line (λ s z g. is_line-bracketed (codes "cut") (zone_numbers z) refl (zone_near z g.1)) zero l.cuts f.cuts)
     (are-append (map clash_line l.clashes) (map aside_line l.aside ++ map cycle_line l.cycles)
-    (are-fit ClashFits (λ b. b.edge + 1) clash_line (λ s b g. is_line-bracketed (codes "clash") (broken_numbers b) refl (near b.edge g.1.edge, (near b.a g.1.a, (near b.b g.1.b, tt)))) zero l.clashes f.clashes)
+    (are-fit ClashFits (λ b. b.edge + 1) clash_line (λ s b g. is_line-bracketed (codes "clash") (broken_numbers b) refl
+    (near b.edge g.1.edge, (near b.a g.1.a, (near b.b g.1.b, tt)))) zero l.clashes f.clashes)
     (are-append (map aside_line l.aside) (map cycle_line l.cycles)
     (are-fit AsideFits (λ e. e + 1) aside_line (λ s e g. is_line-bracketed (codes "aside") (pos e ∷ []) refl (near e g.1, tt)) zero l.aside f.aside)
     (are-map IsCycle cycle_line (λ c g. is_line-bracketed (codes "cycle") (cycle_numbers c) refl (cycle_near c g)) l.cycles f.cycles)))
@@ -125,7 +139,8 @@ lists_are_lines l f =
 boxes_are_lines : (boxes : List Corners) → AllByRecursion IsRectangle boxes → AllByRecursion IsLine (map box_line boxes)
 boxes_are_lines boxes f = are-map IsRectangle box_line (λ b r. is_line-box b (box_near b r)) boxes f
 
-drawing_are_lines : (name : List ℕ) (on_a on_b : List Corners) → IsSplitLayer name → AllByRecursion IsRectangle on_a → AllByRecursion IsRectangle on_b → AllByRecursion IsLine (drawing_lines name on_a on_b)
+drawing_are_lines : (name : List ℕ) (on_a on_b : List Corners) → IsSplitLayer name → AllByRecursion IsRectangle on_a →
+    AllByRecursion IsRectangle on_b → AllByRecursion IsLine (drawing_lines name on_a on_b)
 drawing_are_lines name on_a on_b f a b = (
   refl,
   (
@@ -138,7 +153,9 @@ drawing_are_lines name on_a on_b f a b = (
 report_are_lines : (r : PlainReport) → IsReport r → AllByRecursion IsLine (report_lines r)
 report_are_lines r f =
     are-append (head_lines r.head) (lists_lines r.lists ++ drawing_lines r.head.params.layer r.on_a r.on_b) (head_are_lines r.head f.head)
-    (are-append (lists_lines r.lists) (drawing_lines r.head.params.layer r.on_a r.on_b) (lists_are_lines r.lists f.lists) (drawing_are_lines r.head.params.layer r.on_a r.on_b f.head.params.layer f.on_a f.on_b))
+    (are-append (lists_lines r.lists) (drawing_lines r.head.params.layer r.on_a r.on_b)
+    (lists_are_lines r.lists f.lists) (drawing_are_lines r.head.params.layer r.on_a r.on_b f.head.params.layer
+    f.on_a f.on_b))
 
 -- ---- the text
 
@@ -148,9 +165,12 @@ text_is_found text r e =
     (f.0, sym (text_of-lines_in text) ∙ ap text_of f.1)
 
 pub text_is_read : (text : List ℕ) (r : PlainReport) → IsReport r → text ≡ report_text r → whole read_report (lines_in text) ≡ Ok r
-text_is_read text r f e = ap (whole read_report) (ap lines_in e ∙ lines_in-text_of (report_lines r) (report_are_lines r f)) ∙ whole_again read_report report_lines IsReport Anywhere report_format r f tt
+text_is_read text r f e = ap (whole read_report) (ap lines_in e ∙
+    lines_in-text_of (report_lines r) (report_are_lines r f)) ∙
+    whole_again read_report report_lines IsReport Anywhere report_format r f tt
 
-pub text_is_wrong : (text : List ℕ) (left : ℕ) → whole read_report (lines_in text) ≡ Err left → IsFirstWrong report_lines IsReport (lines_in text) (length (lines_in text) - left + 1)
+pub text_is_wrong : (text : List ℕ) (left : ℕ) → whole read_report (lines_in text) ≡ Err left →
+    IsFirstWrong report_lines IsReport (lines_in text) (length (lines_in text) - left + 1)
 text_is_wrong text left e = whole_stops read_report report_lines IsReport Anywhere report_format (λ r f. tt) (lines_in text) left e
 
 -- no two reports have the same text

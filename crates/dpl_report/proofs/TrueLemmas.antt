@@ -1,5 +1,7 @@
 -- A good report says the truth: each condition that does not fail is a fact.
-use Rattle.std.proofs.Common.{arith, ◌≡◌, ◌≤◌, ◌==◌, ℕ, ◌+◌, ◌*◌, inl, inr, Bool, true, false, not, List, [], ◌∷◌, ◌++◌, length, map, refl, sym, ap, subst, ◌∙◌, Option, None, Some, IfSome, All, append_assoc, append-nil}
+use Rattle.std.proofs.Common.{arith, ◌≡◌, ◌≤◌, ◌==◌, ℕ, ◌+◌, ◌*◌, inl, inr, Bool, true, false, not, List, [], ◌∷◌, ◌++◌}
+use Rattle.std.proofs.Common.{length, map, refl, sym, ap, subst, ◌∙◌, Option, None, Some, IfSome, All, append_assoc}
+use Rattle.std.proofs.Common.{append-nil}
 use Rattle.std.specs.Prelude.{pos, nat_lt, ◌&&◌, if◌then◌else◌}
 use Rattle.std.specs.List.{AllByRecursion, list_all}
 use Rattle.std.proofs.lemmas.Bool.{cases_Bool, cases_eq, eqb-true, and_parts}
@@ -28,9 +30,13 @@ use Rattle.dpl_report.specs.declared.refusals.Miss.{Miss}
 use Rattle.dpl_report.specs.declared.refusals.Refusal.{Refusal}
 use Rattle.dpl_report.specs.Plain.{PlainReport}
 use Rattle.dpl_report.specs.Misses.{miss, number_miss, name_miss, pair_miss, numbers_miss}
-use Rattle.dpl_report.specs.Conditions.{params_miss, AreAsked, corner_weight, counts_miss, bond_miss, bonds_miss, aside_miss, walks_miss, load_of, loads_miss, boxes_miss, drawing_miss, corner_numbers, cuts_from, clashes_from, cut_lines_miss, clash_lines_miss, cost_miss, broken_miss, packing_miss}
+use Rattle.dpl_report.specs.Conditions.{params_miss, AreAsked, corner_weight, counts_miss, bond_miss, bonds_miss}
+use Rattle.dpl_report.specs.Conditions.{aside_miss, walks_miss, load_of, loads_miss, boxes_miss, drawing_miss}
+use Rattle.dpl_report.specs.Conditions.{corner_numbers, cuts_from, clashes_from, cut_lines_miss, clash_lines_miss}
+use Rattle.dpl_report.specs.Conditions.{cost_miss, broken_miss, packing_miss}
 use Rattle.dpl_report.specs.MaskRects.{mask_of}
-use Rattle.dpl_report.specs.Verdicts.{refused, refusal_of, rects_of, counts_of_net, rects_refusal, packing_refusal, walks_refusal, aside_refusal, broken_refusal, bonds_refusal, counts_refusal}
+use Rattle.dpl_report.specs.Verdicts.{refused, refusal_of, rects_of, counts_of_net, rects_refusal, packing_refusal}
+use Rattle.dpl_report.specs.Verdicts.{walks_refusal, aside_refusal, broken_refusal, bonds_refusal, counts_refusal}
 use Rattle.dpl_report.specs.Truths.{SaysTrue}
 use Rattle.dpl_report.specs.Valid.{AreNames, AreMore, IsParams, IsReport, IsCycle}
 use Rattle.dpl_report.proofs.ListLaws.{or_none, pair_none, numbers_none, same_corners, lists_none, clash_lines_are, cut_lines_are}
@@ -79,7 +85,8 @@ layer_none : (place : ℕ) (a b : List ℕ) → is_name a ≡ true → is_name b
 layer_none place a b m n e = name_none place a b (name_bytes_each a (name_bytes a m)) (name_bytes_each b (name_bytes b n)) e
 
 -- no name is empty
-keep_none : (place : ℕ) (a b : Option (List ℕ)) → IfSome a (λ n. is_name n ≡ true) → IfSome b (λ n. is_name n ≡ true) → name_miss place (name_or_nothing a) (name_or_nothing b) ≡ None → a ≡ b
+keep_none : (place : ℕ) (a b : Option (List ℕ)) → IfSome a (λ n. is_name n ≡ true) → IfSome b (λ n. is_name n ≡ true) →
+    name_miss place (name_or_nothing a) (name_or_nothing b) ≡ None → a ≡ b
 keep_none place None None m n e = refl
 keep_none place None (Some b) m n e =
     let same : [] ≡ b = name_none place [] b tt (name_bytes_each b (name_bytes b n)) e in
@@ -188,7 +195,14 @@ loads_true g before (p ∷ ps) w n =
     let d = or_none (here (is_bond (edge_at g p.0).kind) p.0 limit (load_of before p.0 + p.1)) (loads_miss g (before ++ p ∷ []) ps) n in
     let fit = fits (is_bond (edge_at g p.0).kind) p.0 limit (load_of before p.0 + p.1) d.0 in
     let one : IsWithin g (before ++ p ∷ []) = λ x l b. elim (cases_eq p.0 x) [
-      | inl t ↦ omega (arith, load_push before p.0 p.1 x, at_same p.0 p.1 x t, fit (ap (λ z. is_bond (edge_at g z).kind) t ∙ b), ap (load before) t, ap (λ z. (edge_at g z).weight) t)
+      | inl t ↦ omega (
+        arith,
+        load_push before p.0 p.1 x,
+        at_same p.0 p.1 x t,
+        fit (ap (λ z. is_bond (edge_at g z).kind) t ∙ b),
+        ap (load before) t,
+        ap (λ z. (edge_at g z).weight) t,
+      )
       | inr t ↦ omega (arith, load_push before p.0 p.1 x, at_other p.0 p.1 x t, w x l b)
     ] in
     subst (IsWithin g) (append_assoc before (p ∷ []) ps) (loads_true g (before ++ p ∷ []) ps one d.1)
@@ -226,7 +240,8 @@ kept_name (Some n) h = h.0
 option_names : (o : PlainOptions) → AreOptions o → AreNames o.layer o.keep
 option_names o a = record { layer_is = a.layer.0; keep_is = kept_name o.keep a.keep }
 
-pub good_is_true : (o : PlainOptions) (f : Fragments) (net : Net) (r : PlainReport) → AreOptions o → IsReport r → refusal_of o f net r ≡ None → SaysTrue o f net r
+pub good_is_true : (o : PlainOptions) (f : Fragments) (net : Net) (r : PlainReport) → AreOptions o → IsReport r →
+    refusal_of o f net r ≡ None → SaysTrue o f net r
 good_is_true o f net r ranges v n =
     let g = net.graph in
     let c2 = either_none (refused 2 (params_miss r.head.params o)) (counts_refusal f net r) n in
@@ -241,8 +256,10 @@ good_is_true o f net r ranges v n =
     let bonds = bonds_true r.head.colours 0 g.edges (not_refused 4 _ c4.0) in
     let broken = or_none (cut_lines_miss r.lists.cuts (cuts_from r.head.colours 0 g.edges f.cuts)) _ (not_refused 5 (broken_miss f net r) c5.0) in
     let others = or_none (clash_lines_miss r.lists.clashes (clashes_from r.head.colours 0 g.edges)) (cost_miss net r.head.cost r.head.colours) broken.1 in
-    let packing = or_none (loads_miss g [] (passages r.lists.cycles)) (number_miss (length g.edges) (bound_of r.lists.cycles) r.head.bound) (not_refused 8 _ c8.0) in
-    let drawing = drawing_true r.on_a r.on_b (map corners_of (mask_of false f r.head.colours)) (map corners_of (mask_of true f r.head.colours)) (not_refused 9 (rects_of f r) c8.1) in
+    let packing = or_none (loads_miss g [] (passages r.lists.cycles))
+    (number_miss (length g.edges) (bound_of r.lists.cycles) r.head.bound) (not_refused 8 _ c8.0) in
+    let drawing = drawing_true r.on_a r.on_b (map corners_of (mask_of false f r.head.colours))
+    (map corners_of (mask_of true f r.head.colours)) (not_refused 9 (rects_of f r) c8.1) in
     record {
       params = params;
       counts = counts;
@@ -251,7 +268,13 @@ good_is_true o f net r ranges v n =
       clashes = (clash_lines_are _ _).0 others.0;
       cost = number_none (length g.edges) r.head.cost (cost_of g r.head.colours) others.1;
       aside = lists_none (λ e. e) (λ e w. None) edges_told r.lists.aside (aside_edges net) (not_refused 6 _ c6.0);
-      packing = record { halves = halves_some r.lists.cycles v.lists.cycles; odd = walks_true g 0 r.lists.cycles (not_refused 7 _ c7.0); within = loads_true g [] (passages r.lists.cycles) (nothing_within g) packing.0 };
+      packing = record {
+        halves = halves_some r.lists.cycles v.lists.cycles;
+        odd =
+            walks_true g 0 r.lists.cycles (not_refused 7 _ c7.0);
+        within =
+            loads_true g [] (passages r.lists.cycles) (nothing_within g) packing.0;
+      };
       bound = sym (number_none (length g.edges) (bound_of r.lists.cycles) r.head.bound packing.1);
       on_a = drawing.0;
       on_b = drawing.1;

@@ -52,30 +52,39 @@ end_goes g cycle start place v before e = ends (place == 1) (v == start) before 
   ends false true true a b e = (not_from_Decides (place == 1) (Decides-eqb place 1) a, eqb-true v start b, refl)
 
 one_goes : (g : Signed) (cycle start e : ℕ) (es : List ℕ) (place v : ℕ) (before : Bool)
-    → (walk_miss g cycle start es (place + 1) (across (edge_at g e) v) (parity_after (edge_at g e).kind before) ≡ None → Goes g start es (place + 1) (across (edge_at g e) v) (parity_after (edge_at g e).kind before) × (place + 1 + length es ≢ 1))
-    → (t : Bool) → leaves g e v ≡ t → walk_miss g cycle start (e ∷ es) place v before ≡ None → Goes g start (e ∷ es) place v before × (place + length (e ∷ es) ≢ 1)
+    → (walk_miss g cycle start es (place + 1) (across (edge_at g e) v) (parity_after (edge_at g e).kind before) ≡ None →
+    Goes g start es (place + 1) (across (edge_at g e) v) (parity_after (edge_at g e).kind before) ×
+    (place + 1 + length es ≢ 1))
+    → (t : Bool) → leaves g e v ≡ t → walk_miss g cycle start (e ∷ es) place v before ≡ None →
+    Goes g start (e ∷ es) place v before × (place + length (e ∷ es) ≢ 1)
 unfolding odd_after
 one_goes g cycle start e es place v before ih true f k =
     let d = ih (rw (f, walk_miss) at k) in
     (record { path = (f, d.0.path); odd = d.0.odd }, omega (arith, d.1))
 one_goes g cycle start e es place v before ih false f k = let bad = rw (f, walk_miss) at k in absurd (cc)
 
-walk_goes : (g : Signed) (cycle start : ℕ) (es : List ℕ) (place v : ℕ) (before : Bool) → walk_miss g cycle start es place v before ≡ None → Goes g start es place v before × (place + length es ≢ 1)
+walk_goes : (g : Signed) (cycle start : ℕ) (es : List ℕ) (place v : ℕ) (before : Bool) →
+    walk_miss g cycle start es place v before ≡ None → Goes g start es place v before × (place + length es ≢ 1)
 unfolding odd_after
 walk_goes g cycle start [] place v before e =
     let d = end_goes g cycle start place v before e in
     (record { path = d.1; odd = d.2 }, omega (arith, d.0))
-walk_goes g cycle start (e ∷ es) place v before h = one_goes g cycle start e es place v before (walk_goes g cycle start es (place + 1) (across (edge_at g e) v) (parity_after (edge_at g e).kind before)) (leaves g e v) refl h
+walk_goes g cycle start (e ∷ es) place v before h = one_goes g cycle start e es place v before
+    (walk_goes g cycle start es (place + 1) (across (edge_at g e) v) (parity_after (edge_at g e).kind before))
+    (leaves g e v) refl h
 
 not_equal : (place : ℕ) → place ≢ 1 → (place == 1) ≡ false
 not_equal place n = grind (arith, nat_tests)
 
-walk_again : (g : Signed) (cycle start : ℕ) (es : List ℕ) (place v : ℕ) (before : Bool) → IsPath g v es start → odd_after g before es ≡ true → place + length es ≢ 1 → walk_miss g cycle start es place v before ≡ None
+walk_again : (g : Signed) (cycle start : ℕ) (es : List ℕ) (place v : ℕ) (before : Bool) → IsPath g v es start →
+    odd_after g before es ≡ true → place + length es ≢ 1 → walk_miss g cycle start es place v before ≡ None
 unfolding odd_after
 walk_again g cycle start [] place v before p o n =
     let m : place ≢ 1 = omega (arith, n) in
     rw (not_equal place m, p, (Decides-eqb start start).1 refl, o) refl
-walk_again g cycle start (e ∷ es) place v before p o n = rw (p.0, walk_miss) (walk_again g cycle start es (place + 1) (across (edge_at g e) v) (parity_after (edge_at g e).kind before) p.1 o (omega (arith, n)))
+walk_again g cycle start (e ∷ es) place v before p o n =
+    rw (p.0, walk_miss) (walk_again g cycle start es (place + 1) (across (edge_at g e) v)
+    (parity_after (edge_at g e).kind before) p.1 o (omega (arith, n)))
 
 odd_bit : (b : Bool) → bit b ≡ 1 → b ≡ true
 unfolding bit
@@ -83,7 +92,9 @@ odd_bit true e = refl
 odd_bit false e = absurd (omega arith)
 
 -- no miss exactly at an odd walk
-pub walk_is_odd : (g : Signed) (cycle : ℕ) (w : Walk) → (walk_miss g cycle w.start w.edges 1 w.start false ≡ None → IsOddWalk g w) × (IsOddWalk g w → walk_miss g cycle w.start w.edges 1 w.start false ≡ None)
+pub walk_is_odd : (g : Signed) (cycle : ℕ) (w : Walk) →
+    (walk_miss g cycle w.start w.edges 1 w.start false ≡ None → IsOddWalk g w) ×
+    (IsOddWalk g w → walk_miss g cycle w.start w.edges 1 w.start false ≡ None)
 unfolding bit
 walk_is_odd g cycle w = (
   λ e.
@@ -93,6 +104,7 @@ walk_is_odd g cycle w = (
       record { closed = (some, d.0.path); odd = omega (arith, o) },
   λ o.
       let c = o.closed in
-      let b : bit (odd_after g false w.edges) ≡ 1 = sym (parity g false w.edges) ∙ (let k : 0 + clashes g w.edges ≡ clashes g w.edges = omega arith in ap (λ n. n % 2) k ∙ o.odd) in
+      let b : bit (odd_after g false w.edges) ≡ 1 = sym (parity g false w.edges) ∙
+      (let k : 0 + clashes g w.edges ≡ clashes g w.edges = omega arith in ap (λ n. n % 2) k ∙ o.odd) in
       walk_again g cycle w.start w.edges 1 w.start false c.1 (odd_bit (odd_after g false w.edges) b) (omega (arith, c.0)),
 )

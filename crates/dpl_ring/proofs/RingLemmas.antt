@@ -37,8 +37,11 @@ half xs ys i j a b p hi hj ea eb x h =
         | inr t ↦
             let e : get_or (set (set xs i b) j a) x 0 ≡ get_or xs x 0 = at_neither xs i j b a x t s in
             let na : get_or xs x 0 ≢ a = λ k. t (sym (p.inverse.back x h) ∙ ap (λ y. get_or ys y 0) (k ∙ sym ea) ∙ p.inverse.back i hi) in
-            let nb : get_or xs x 0 ≢ b = λ k. s (sym (p.inverse.back x h) ∙ ap (λ y. get_or ys y 0) (k ∙ sym eb) ∙ p.inverse.back j hj) in
-            (omega (arith, e, p.inverse.to x h), ap (λ y. get_or (set (set ys b i) a j) y 0) e ∙ at_neither ys b a i j (get_or xs x 0) nb na ∙ p.inverse.back x h)
+            let nb : get_or xs x 0 ≢ b = λ k. s (sym (p.inverse.back x h) ∙ ap (λ y. get_or ys y 0) (k ∙ sym eb) ∙ p.inverse.back j hj) in (
+              omega (arith, e, p.inverse.to x h),
+              ap (λ y. get_or (set (set ys b i) a j) y 0) e ∙
+                  at_neither ys b a i j (get_or xs x 0) nb na ∙ p.inverse.back x h,
+            )
       ]
     ]
 
@@ -54,14 +57,16 @@ turned_kept xs ys p = record {
   };
 }
 
-pub spliced : (xs ys : List ℕ) (i j a b : ℕ) → IsKept xs ys → i < length xs → j < length xs → get_or xs i 0 ≡ a → get_or xs j 0 ≡ b → IsKept (set (set xs i b) j a) (set (set ys b i) a j)
+pub spliced : (xs ys : List ℕ) (i j a b : ℕ) → IsKept xs ys → i < length xs → j < length xs → get_or xs i 0 ≡ a →
+    get_or xs j 0 ≡ b → IsKept (set (set xs i b) j a) (set (set ys b i) a j)
 spliced xs ys i j a b p hi hj ea eb =
     let l : length (set (set xs i b) j a) ≡ length xs = length-set (set xs i b) j a ∙ length-set xs i b in
     let l' : length (set (set ys b i) a j) ≡ length ys = length-set (set ys b i) a j ∙ length-set ys b i in
     let la : a < length ys = omega (arith, p.inverse.to i hi, ea, p.lengths) in
     let lb : b < length ys = omega (arith, p.inverse.to j hj, eb, p.lengths) in
     let one = half xs ys i j a b p hi hj ea eb in
-    let two = half ys xs b a j i (turned_kept xs ys p) lb la (ap (λ y. get_or ys y 0) (sym eb) ∙ p.inverse.back j hj) (ap (λ y. get_or ys y 0) (sym ea) ∙ p.inverse.back i hi) in
+    let two = half ys xs b a j i (turned_kept xs ys p) lb la (ap (λ y. get_or ys y 0) (sym eb) ∙ p.inverse.back j hj)
+    (ap (λ y. get_or ys y 0) (sym ea) ∙ p.inverse.back i hi) in
     record {
       lengths = l' ∙ p.lengths ∙ sym l;
       small = omega (arith, l, p.small);
@@ -80,9 +85,11 @@ swap_value xs i j hi hj ne x =
     let f = slice_index xs in
     let written = ap (λ (l : List ℕ). get_or l x 0) (sym (swap_is xs i j 0 hi hj)) in
     elim (cases_eq x i) [
-      | inl t ↦ written ∙ ap (λ y. get_or (set (set xs i (get_or xs j 0)) j (get_or xs i 0)) y 0) t ∙ at_first xs i j _ _ hi ne ∙ sym (ap (exchange f i j) t ∙ exchange_first f i j)
+      | inl t ↦ written ∙ ap (λ y. get_or (set (set xs i (get_or xs j 0)) j (get_or xs i 0)) y 0) t ∙
+          at_first xs i j _ _ hi ne ∙ sym (ap (exchange f i j) t ∙ exchange_first f i j)
       | inr t ↦ elim (cases_eq x j) [
-        | inl s ↦ written ∙ ap (λ y. get_or (set (set xs i (get_or xs j 0)) j (get_or xs i 0)) y 0) s ∙ at_second xs i j _ _ hj ∙ sym (ap (exchange f i j) s ∙ exchange_second f i j (λ k. ne (sym k)))
+        | inl s ↦ written ∙ ap (λ y. get_or (set (set xs i (get_or xs j 0)) j (get_or xs i 0)) y 0) s ∙
+            at_second xs i j _ _ hj ∙ sym (ap (exchange f i j) s ∙ exchange_second f i j (λ k. ne (sym k)))
         | inr s ↦ written ∙ at_neither xs i j _ _ x t s ∙ sym (exchange_other f i j x t s)
       ]
     ]
@@ -90,15 +97,18 @@ swap_value xs i j hi hj ne x =
 pub length_swap : (xs : List ℕ) (i j : ℕ) → i < length xs → j < length xs → length (swap xs i j) ≡ length xs
 length_swap xs i j hi hj = ap length (sym (swap_is xs i j 0 hi hj)) ∙ length-set (set xs i (get_or xs j 0)) j _ ∙ length-set xs i _
 
-pub cycle_count_swap : (xs ys zs : List ℕ) (i j : ℕ) → IsKept xs ys → i < length xs → j < length xs → i ≢ j → zs ≡ swap xs i j → cycle_count zs ≡ cycles (exchange (slice_index xs) i j) (length xs)
+pub cycle_count_swap : (xs ys zs : List ℕ) (i j : ℕ) → IsKept xs ys → i < length xs → j < length xs → i ≢ j →
+    zs ≡ swap xs i j → cycle_count zs ≡ cycles (exchange (slice_index xs) i j) (length xs)
 cycle_count_swap xs ys zs i j p hi hj ne e =
     ap cycle_count e ∙ ap (cycles (slice_index (swap xs i j))) (length_swap xs i j hi hj) ∙ cycles_same (length xs) _ _ (λ x h. swap_value xs i j hi hj ne x)
 
-pub swap_splits : (xs ys zs : List ℕ) (i j : ℕ) → IsKept xs ys → i < length xs → j < length xs → zs ≡ swap xs i j → i ≢ j → least_of xs i ≡ least_of xs j → cycle_count zs ≡ cycle_count xs + 1
+pub swap_splits : (xs ys zs : List ℕ) (i j : ℕ) → IsKept xs ys → i < length xs → j < length xs → zs ≡ swap xs i j →
+    i ≢ j → least_of xs i ≡ least_of xs j → cycle_count zs ≡ cycle_count xs + 1
 swap_splits xs ys zs i j p hi hj e ne k =
     cycle_count_swap xs ys zs i j p hi hj ne e ∙ (exchange_law (length xs) _ _ p.inverse i j hi hj ne).splits k
 
-pub swap_merges : (xs ys zs : List ℕ) (i j : ℕ) → IsKept xs ys → i < length xs → j < length xs → zs ≡ swap xs i j → i ≢ j → (least_of xs i ≡ least_of xs j → ⊥) → cycle_count zs + 1 ≡ cycle_count xs
+pub swap_merges : (xs ys zs : List ℕ) (i j : ℕ) → IsKept xs ys → i < length xs → j < length xs → zs ≡ swap xs i j →
+    i ≢ j → (least_of xs i ≡ least_of xs j → ⊥) → cycle_count zs + 1 ≡ cycle_count xs
 swap_merges xs ys zs i j p hi hj e ne k =
     ap (λ n. n + 1) (cycle_count_swap xs ys zs i j p hi hj ne e) ∙ (exchange_law (length xs) _ _ p.inverse i j hi hj ne).merges k
 

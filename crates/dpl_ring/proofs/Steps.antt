@@ -1,5 +1,30 @@
 -- The names that the walks cite, and the pair as an element of a row.
-pub use Rattle.std.proofs.Common.{◌≡◌, ℕ, ◌+◌, ◌*◌, ◌<◌, ◌≤◌, ◌^◌, List, [], ◌∷◌, length, set, get_or, refl, sym, ap, ◌∙◌, lit<, w64, arith, length-set, true, false, Bool}
+pub use Rattle.std.proofs.Common.{
+  ◌≡◌,
+  ℕ,
+  ◌+◌,
+  ◌*◌,
+  ◌<◌,
+  ◌≤◌,
+  ◌^◌,
+  List,
+  [],
+  ◌∷◌,
+  length,
+  set,
+  get_or,
+  refl,
+  sym,
+  ap,
+  ◌∙◌,
+  lit<,
+  w64,
+  arith,
+  length-set,
+  true,
+  false,
+  Bool,
+}
 pub use Rattle.std.proofs.raw_atomic.Walks.{proved, proved_at, leaves}
 pub use base.Fraction.{full_share}
 pub use base.Logic.{id⊢, never}
@@ -8,7 +33,33 @@ pub use mir.Syntax.{named, Ty}
 pub use mir.Val.{Val, vunit, vint, vptr}
 pub use contract.Monad.{fact}
 pub use contract.Running.{tables}
-pub use types.Kit.{‵, raw, ◌⊛◌, at_ret, ◌$◌, ◌∵◌, !, qed, done, move, keep, drop, use1, use2, use3, split, join, fsplit, fsplit3, fjoin, feq_i, rewrite, suffices, frame, group}
+pub use types.Kit.{
+  ‵,
+  raw,
+  ◌⊛◌,
+  at_ret,
+  ◌$◌,
+  ◌∵◌,
+  !,
+  qed,
+  done,
+  move,
+  keep,
+  drop,
+  use1,
+  use2,
+  use3,
+  split,
+  join,
+  fsplit,
+  fsplit3,
+  fjoin,
+  feq_i,
+  rewrite,
+  suffices,
+  frame,
+  group,
+}
 pub use types.Run.{enter, of_opd, lit, unit_lit, bin, addr, load, look, init, stop, fld, hop, assigns, assigns_last, first, blocks, exec, returns}
 pub use types.ByLocal.{alloc_all, pass_all, free_all, look_at, get, through, sets, sets_last, env}
 pub use types.Part.{whole, sub, look_in}

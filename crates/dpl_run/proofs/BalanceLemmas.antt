@@ -29,4 +29,5 @@ one_balance o text _ _ _ _ (done output p free) (done other q also) = refl
 pub balance_least : (o : PlainOptions) (text : List ℕ) (a : Status) (x : List ℕ) → IsBalanceDue o text a x → a ≡ Done → OnLayer o text (IsLeastOfCells o x)
 balance_least o text _ _ (refused e r) d = absurd (refused_not_done e d)
 balance_least o text _ _ (done output p free) d =
-    on_layer o text (IsBalancedOfCells o p.report) (IsLeastOfCells o output) (λ cells whole c. least_of o p.report output p.is cells whole c.of_cells) p.of_layer
+    on_layer o text (IsBalancedOfCells o p.report) (IsLeastOfCells o output)
+    (λ cells whole c. least_of o p.report output p.is cells whole c.of_cells) p.of_layer

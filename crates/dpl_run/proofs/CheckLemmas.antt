@@ -30,26 +30,32 @@ status_of_verdict (No reason place found wanted) = Rejected reason place found w
 
 pub one_check : (o : PlainOptions) (text report : List ℕ) (a b : Status) (x y : List ℕ) → IsCheckDue o text report a x → IsCheckDue o text report b y → a ≡ b
 one_check o text report _ _ _ _ (refused e r) (refused f q) = ap status_of (one_text_refusal o text e f r q)
-one_check o text report _ _ _ _ (refused e r) (rejected reason place found wanted w) = absurd (verdict_not_refused o text report e (No reason place found wanted) r w)
+one_check o text report _ _ _ _ (refused e r) (rejected reason place found wanted w) =
+    absurd (verdict_not_refused o text report e (No reason place found wanted) r w)
 one_check o text report _ _ _ _ (refused e r) (accepted cost bound w) = absurd (verdict_not_refused o text report e (Yes cost bound) r w)
-one_check o text report _ _ _ _ (rejected reason place found wanted v) (refused f q) = absurd (verdict_not_refused o text report f (No reason place found wanted) q v)
+one_check o text report _ _ _ _ (rejected reason place found wanted v) (refused f q) =
+    absurd (verdict_not_refused o text report f (No reason place found wanted) q v)
 one_check o text report _ _ _ _ (rejected reason place found wanted v) (rejected reason' place' found' wanted' w) =
     ap status_of_verdict (one_verdict o text report (No reason place found wanted) (No reason' place' found' wanted') v w)
-one_check o text report _ _ _ _ (rejected reason place found wanted v) (accepted cost bound w) = ap status_of_verdict (one_verdict o text report (No reason place found wanted) (Yes cost bound) v w)
+one_check o text report _ _ _ _ (rejected reason place found wanted v) (accepted cost bound w) =
+    ap status_of_verdict (one_verdict o text report (No reason place found wanted) (Yes cost bound) v w)
 one_check o text report _ _ _ _ (accepted cost bound v) (refused f q) = absurd (verdict_not_refused o text report f (Yes cost bound) q v)
-one_check o text report _ _ _ _ (accepted cost bound v) (rejected reason place found wanted w) = ap status_of_verdict (one_verdict o text report (Yes cost bound) (No reason place found wanted) v w)
+one_check o text report _ _ _ _ (accepted cost bound v) (rejected reason place found wanted w) =
+    ap status_of_verdict (one_verdict o text report (Yes cost bound) (No reason place found wanted) v w)
 one_check o text report _ _ _ _ (accepted cost bound v) (accepted cost' bound' w) = refl
 
 -- ---- what an accepted report means for every other pair of masks
 
-pub accepted_bound : (o : PlainOptions) (text report taken : List ℕ) (now : Option (List ℕ)) (a : Status) (x : List ℕ) → IsCheckDue o text report a x → a ≡ Done → now ≡ Some (taken ++ x) → WritesBound o text taken now
+pub accepted_bound : (o : PlainOptions) (text report taken : List ℕ) (now : Option (List ℕ)) (a : Status) (x : List ℕ) →
+    IsCheckDue o text report a x → a ≡ Done → now ≡ Some (taken ++ x) → WritesBound o text taken now
 accepted_bound o text report taken now _ _ (refused e r) d is = absurd (refused_not_done e d)
 accepted_bound o text report taken now _ _ (rejected reason place found wanted v) d is = absurd (cc)
 accepted_bound o text report taken now _ _ (accepted cost bound v) d is = (cost, bound, is, yes_bounds o text report (Ok (Yes cost bound)) v cost bound refl)
 
 -- ---- the masks of an accepted report
 
-pub accepted_masks : (o : PlainOptions) (text report : List ℕ) (a : Status) (x : List ℕ) → AreOptions o → IsCheckDue o text report a x → a ≡ Done → HasMasksOf o text report
+pub accepted_masks : (o : PlainOptions) (text report : List ℕ) (a : Status) (x : List ℕ) → AreOptions o →
+    IsCheckDue o text report a x → a ≡ Done → HasMasksOf o text report
 accepted_masks o text report _ _ ranges (refused e r) d = absurd (refused_not_done e d)
 accepted_masks o text report _ _ ranges (rejected reason place found wanted v) d = absurd (cc)
 accepted_masks o text report _ _ ranges (accepted cost bound v) d = yes_masks o text report (Ok (Yes cost bound)) ranges v cost bound refl

@@ -44,7 +44,8 @@ pub shows_crossing : (f : Fragments) (net : Net) (c : Option Crossing) → IfSom
 shows_crossing f net None some none = none refl
 shows_crossing f net (Some crossing) some none = some
 
-pub shows_bar : (net : Net) (b : Option Bar) → (b ≡ None ↔ aside_edges net ≡ []) → IfSome b (λ x. IsFirstAside net x.edge) → IfSome b (IsBar net) → ShowsBar net b
+pub shows_bar : (net : Net) (b : Option Bar) → (b ≡ None ↔ aside_edges net ≡ []) →
+    IfSome b (λ x. IsFirstAside net x.edge) → IfSome b (IsBar net) → ShowsBar net b
 shows_bar net None none least bar = none.0 refl
 shows_bar net (Some b) none least bar = (least, bar)
 

@@ -108,12 +108,14 @@ stop_ends c colouring following s n l _ _ (missing p) = (following, refl)
 stop_ends c colouring following s n l _ _ (over k m there p) =
     (over_limit c colouring (edited l s).options (content (edited l s).begun (edited l s).boxes) (edited l s).keep k m p, refl)
 
-edits_end : (c : PlainCommand) → colours c ≡ true → follows c ≡ true → (ls : List Line) (s : Edits) (n : ℕ) (a : Status) (x : List ℕ) → AreEditsDue s n ls a x → Ends c a x
+edits_end : (c : PlainCommand) → colours c ≡ true → follows c ≡ true →
+    (ls : List Line) (s : Edits) (n : ℕ) (a : Status) (x : List ℕ) → AreEditsDue s n ls a x → Ends c a x
 edits_end c colouring following [] s n a x d = subst (λ z. Ends c z x) (sym d.0) tt
 edits_end c colouring following (l ∷ ls) s n a x (inl p) = stop_ends c colouring following s n l a x p
 edits_end c colouring following (l ∷ ls) s n a x (inr q) = edits_end c colouring following ls (edited l s) (n + 1) a x q.1
 
-script_ends : (c : PlainCommand) → colours c ≡ true → follows c ≡ true → (s : Edits) (text : List ℕ) (a : Status) (x : List ℕ) → IsScriptDue s text a x → Ends c a x
+script_ends : (c : PlainCommand) → colours c ≡ true → follows c ≡ true →
+    (s : Edits) (text : List ℕ) (a : Status) (x : List ℕ) → IsScriptDue s text a x → Ends c a x
 script_ends c colouring following s text _ _ (bad_line n b) = (following, refl)
 script_ends c colouring following s text _ _ (applied ls is a x d) = edits_end c colouring following ls s 1 a x d
 
@@ -144,10 +146,13 @@ taken_within o prims keep result v is exact k n p = elim (exact (edit.Limit k n)
 pub begun_within : {T : Type 0} (o : PlainOptions) (d : Drawing) (result : Result T EditError) (v : T) → result ≡ Ok v
     → ((e : EditError) → Refuses o d.layer.prims d.keep.prims e → (result ≡ Err e) ⊎ (result ≡ Err edit.NoMemory)) → PassesNone (begun_with o d)
 begun_within o d result v is exact =
-    taken_within o (d.layer.prims ++ []) d.keep.prims result v is (subst (λ z. (e : EditError) → Refuses o z d.keep.prims e → (result ≡ Err e) ⊎ (result ≡ Err edit.NoMemory)) (sym (append-nil d.layer.prims)) exact)
+    taken_within o (d.layer.prims ++ []) d.keep.prims result v is
+    (subst (λ z. (e : EditError) → Refuses o z d.keep.prims e → (result ≡ Err e) ⊎ (result ≡ Err edit.NoMemory))
+    (sym (append-nil d.layer.prims)) exact)
 
 pub added_goes_on : {T : Type 0} (s : State) (rect : Rect) (result : Result T EditError) (v : T) → result ≡ Ok v
-    → ((e : EditError) → Refuses s.options (content s.begun (s.boxes ++ record { number = s.count; rect = rect } ∷ [])) s.keep e → (result ≡ Err e) ⊎ (result ≡ Err edit.NoMemory))
+    → ((e : EditError) → Refuses s.options (content s.begun (s.boxes ++ record { number = s.count; rect = rect } ∷ []))
+    s.keep e → (result ≡ Err e) ⊎ (result ≡ Err edit.NoMemory))
     → IsTaken (edits_of s) (Add rect)
 added_goes_on s rect result v is exact = record {
   there = λ p. p;
@@ -162,7 +167,8 @@ add_stops s rect edit.NoMemory status is h n = inl is
 add_stops s rect (edit.Limit k c) status is (inr r) n = inr (subst (λ z. StopsAt (edits_of s) n (Add rect) z []) (sym is) (over k c (λ p. p) r))
 
 removed_within : {T : Type 0} (s : State) (number : ℕ) (result : Result T RemoveError) (v : T) → result ≡ Ok v → HasBox number s.boxes
-    → ((e : RemoveError) → RefusesRemoval s number e → (result ≡ Err e) ⊎ (result ≡ Err removal.NoMemory)) → (k n : ℕ) → ¬ PassesLimit s.options (content s.begun (without number s.boxes)) s.keep k n
+    → ((e : RemoveError) → RefusesRemoval s number e → (result ≡ Err e) ⊎ (result ≡ Err removal.NoMemory)) → (k n : ℕ) →
+    ¬ PassesLimit s.options (content s.begun (without number s.boxes)) s.keep k n
 removed_within s number result v is there exact k n p = elim (exact (removal.Limit k n) (there, p)) [
   | inl a ↦ absurd (cc)
   | inr a ↦ absurd (cc)
@@ -172,7 +178,8 @@ pub removed_goes_on : {T : Type 0} (s : State) (number : ℕ) (result : Result T
     → ((e : RemoveError) → RefusesRemoval s number e → (result ≡ Err e) ⊎ (result ≡ Err removal.NoMemory)) → IsTaken (edits_of s) (Remove number)
 removed_goes_on s number result v is there exact = record { there = λ p. p there; within = removed_within s number result v is there exact }
 
-pub removal_stops : (s : State) (number n : ℕ) (e : RemoveError) (status : Status) → status ≡ of_removal n e → (e ≡ removal.NoMemory) ⊎ RefusesRemoval s number e
+pub removal_stops : (s : State) (number n : ℕ) (e : RemoveError) (status : Status) → status ≡ of_removal n e →
+    (e ≡ removal.NoMemory) ⊎ RefusesRemoval s number e
     → (status ≡ NoMemory) ⊎ StopsAt (edits_of s) n (Remove number) status []
 removal_stops s number n (removal.NoBox m) status is (inl h) = absurd (cc)
 removal_stops s number n (removal.Limit k c) status is (inl h) = absurd (cc)
@@ -187,9 +194,12 @@ removal_stops s number n (removal.Limit k c) status is (inr r) =
 abbrev pub LeadsTo : Edits → List Line → Edits → ℕ → List Line → Type 0
 LeadsTo s ls t n rest = (status : Status) (output : List ℕ) → AreEditsDue t n rest status output → AreEditsDue s 1 ls status output
 
-pub leads_on : (s t u : Edits) (ls rest others : List Line) (n m : ℕ) (line : Line) → LeadsTo s ls t n rest → rest ≡ line ∷ others → IsTaken t line → u ≡ edited line t → m ≡ n + 1 → LeadsTo s ls u m others
+pub leads_on : (s t u : Edits) (ls rest others : List Line) (n m : ℕ) (line : Line) → LeadsTo s ls t n rest →
+    rest ≡ line ∷ others → IsTaken t line → u ≡ edited line t → m ≡ n + 1 → LeadsTo s ls u m others
 leads_on s t u ls rest others n m line lead r g a e status output d =
-    let here : AreEditsDue (edited line t) (n + 1) others status output = subst (λ z. AreEditsDue z (n + 1) others status output) a (subst (λ z. AreEditsDue u z others status output) e d) in
+    let here : AreEditsDue (edited line t) (n + 1) others status output =
+    subst (λ z. AreEditsDue z (n + 1) others status output) a
+    (subst (λ z. AreEditsDue u z others status output) e d) in
     lead status output (subst (λ z. AreEditsDue t n z status output) (sym r) (inr (g, here)))
 
 pub leads_stop : (s t : Edits) (ls rest others : List Line) (n : ℕ) (line : Line) (status : Status) → LeadsTo s ls t n rest → rest ≡ line ∷ others
@@ -201,7 +211,8 @@ none_left : (ls : List Line) → length ls ≡ 0 → ls ≡ []
 none_left [] e = refl
 none_left (l ∷ ls) e = absurd (omega (arith, e))
 
-pub leads_end : (s t : Edits) (ls rest : List Line) (n : ℕ) → LeadsTo s ls t n rest → length rest ≡ 0 → (output : List ℕ) → Reports t output → AreEditsDue s 1 ls Done output
+pub leads_end : (s t : Edits) (ls rest : List Line) (n : ℕ) → LeadsTo s ls t n rest → length rest ≡ 0 →
+    (output : List ℕ) → Reports t output → AreEditsDue s 1 ls Done output
 leads_end s t ls rest n lead none output p = lead Done output (subst (λ z. AreEditsDue t n z Done output) (sym (none_left rest none)) (refl, p))
 
 pub count_after : (line : Line) (s t : Edits) → t ≡ edited line s → t.count ≤ s.count + 1
@@ -210,7 +221,8 @@ count_after (Remove number) s t e = let a = ap (λ (z : Edits). z.count) e in om
 
 -- ---- what the work answers
 
-pub worked_as : (Due Other : Status → List ℕ → Type 0) → ((a : Status) (x : List ℕ) → Due a x → Other a x) → (a : Status) (x : List ℕ) → IsWorked Due a x → IsWorked Other a x
+pub worked_as : (Due Other : Status → List ℕ → Type 0) → ((a : Status) (x : List ℕ) → Due a x → Other a x) →
+    (a : Status) (x : List ℕ) → IsWorked Due a x → IsWorked Other a x
 worked_as Due Other f Done x p = f Done x p
 worked_as Due Other f (Rejected reason place found wanted) x p = f (Rejected reason place found wanted) x p
 worked_as Due Other f (Usage kind) x p = f (Usage kind) x p
@@ -238,7 +250,8 @@ pub worked_bare_at : (Due : Status → List ℕ → Type 0) (a s : Status) (x : 
 worked_bare_at Due a s x h is none = subst (λ z. IsWorked Due z x) (sym is) (subst (IsWorked Due a) (sym none) (or_due Due a h))
 
 -- a session that was begun is followed
-pub begun_worked : {T : Type 0} (o p : PlainOptions) (text second : List ℕ) (d : Drawing) (result : Result T EditError) (v : T) (s : State) (a : Status) (x : List ℕ) → p ≡ o → IsDrawingOf o text d
+pub begun_worked : {T : Type 0} (o p : PlainOptions) (text second : List ℕ) (d : Drawing) (result : Result T EditError)
+    (v : T) (s : State) (a : Status) (x : List ℕ) → p ≡ o → IsDrawingOf o text d
     → result ≡ Ok v → ((e : EditError) → Refuses p d.layer.prims d.keep.prims e → (result ≡ Err e) ⊎ (result ≡ Err edit.NoMemory)) → IsBegun p d s
     → IsWorked (IsScriptDue (edits_of s) second) a x → IsWorked (IsEditDue o text second) a x
 begun_worked o p text second d result v s a x same is ok exact b w =
@@ -247,23 +260,29 @@ begun_worked o p text second d result v s a x same is ok exact b w =
     worked_as (IsScriptDue (edits_of s) second) (IsEditDue o text second)
     (λ c y due. begun d is within c y (subst (λ z. IsScriptDue z second c y) (of_begun o d s begins) due)) a x w
 
-too_much_due : (o : PlainOptions) (text second : List ℕ) (d : Drawing) (e : EditError) (a : Status) (x : List ℕ) → IsDrawingOf o text d → (e ≡ edit.NoMemory) ⊎ Refuses o d.layer.prims d.keep.prims e
+too_much_due : (o : PlainOptions) (text second : List ℕ) (d : Drawing) (e : EditError) (a : Status) (x : List ℕ) →
+    IsDrawingOf o text d → (e ≡ edit.NoMemory) ⊎ Refuses o d.layer.prims d.keep.prims e
     → a ≡ of_edit e → x ≡ [] → IsWorked (IsEditDue o text second) a x
 too_much_due o text second d (edit.Limit k n) a x is (inl m) e none = absurd (cc)
 too_much_due o text second d edit.NoMemory a x is h e none = worked_bare_at (IsEditDue o text second) NoMemory a x (inl refl) e none
 too_much_due o text second d (edit.Limit k n) a x is (inr r) e none =
-    worked_bare_at (IsEditDue o text second) (Limit k n) a x (inr (too_much d is k n (subst (λ z. PassesLimit o z d.keep.prims k n) (sym (append-nil d.layer.prims)) r))) e none
+    worked_bare_at (IsEditDue o text second) (Limit k n) a x
+    (inr (too_much d is k n (subst (λ z. PassesLimit o z d.keep.prims k n) (sym (append-nil d.layer.prims)) r))) e
+    none
 
 pub too_much_worked : (o p : PlainOptions) (text second : List ℕ) (d : Drawing) (e : EditError) (a : Status) (x : List ℕ) → p ≡ o → IsDrawingOf o text d
     → (e ≡ edit.NoMemory) ⊎ Refuses p d.layer.prims d.keep.prims e → a ≡ of_edit e → x ≡ [] → IsWorked (IsEditDue o text second) a x
-too_much_worked o p text second d e a x same is h = too_much_due o text second d e a x is (subst (λ z. (e ≡ edit.NoMemory) ⊎ Refuses z d.layer.prims d.keep.prims e) same h)
+too_much_worked o p text second d e a x same is h = too_much_due o text second d e a x is
+    (subst (λ z. (e ≡ edit.NoMemory) ⊎ Refuses z d.layer.prims d.keep.prims e) same h)
 
 pub no_script_worked : {T : Type 0} (s : Edits) (text : List ℕ) (result : Result T ScriptError) (e : ScriptError) (a : Status) (x : List ℕ) → result ≡ Err e
     → ((n : ℕ) → result ≡ Err (script.Bad n) → IsFirstBad text n) → a ≡ of_script e → x ≡ [] → IsWorked (IsScriptDue s text) a x
 no_script_worked s text result (script.Bad n) a x is bad e none = worked_bare_at (IsScriptDue s text) (Script n 1) a x (inr (bad_line n (bad n is))) e none
 no_script_worked s text result script.NoMemory a x is bad e none = worked_bare_at (IsScriptDue s text) NoMemory a x (inl refl) e none
 
-pub script_worked : (s : Edits) (text : List ℕ) (ls lines : List Line) (a : Status) (x : List ℕ) → IsScript text (map plain_line ls) → lines ≡ ls → IsWorked (AreEditsDue s 1 lines) a x → IsWorked (IsScriptDue s text) a x
+pub script_worked : (s : Edits) (text : List ℕ) (ls lines : List Line) (a : Status) (x : List ℕ) →
+    IsScript text (map plain_line ls) → lines ≡ ls → IsWorked (AreEditsDue s 1 lines) a x →
+    IsWorked (IsScriptDue s text) a x
 script_worked s text ls lines a x is same w =
     worked_as (AreEditsDue s 1 lines) (IsScriptDue s text) (λ b y d. applied ls is b y (subst (λ z. AreEditsDue s 1 z b y) same d)) a x w
 
@@ -273,6 +292,8 @@ pub same_weights : (w : PlainWeights) (stitch conflict corner : ℕ) → stitch 
     → ◌≡◌ {A = PlainWeights} (record { stitch = stitch; conflict = conflict; corner = corner }) w
 same_weights w stitch conflict corner a b c = rw (a, b, c) refl
 
-pub same_plain : (o : PlainOptions) (layer : List ℕ) (space overlap : ℕ) (weights : PlainWeights) (keep : Option (List ℕ)) → layer ≡ o.layer → space ≡ o.space → overlap ≡ o.overlap → weights ≡ o.weights → keep ≡ o.keep
+pub same_plain : (o : PlainOptions) (layer : List ℕ) (space overlap : ℕ) (weights : PlainWeights)
+    (keep : Option (List ℕ)) → layer ≡ o.layer → space ≡ o.space → overlap ≡ o.overlap → weights ≡ o.weights →
+    keep ≡ o.keep
     → ◌≡◌ {A = PlainOptions} (record { layer = layer; space = space; overlap = overlap; weights = weights; keep = keep }) o
 same_plain o layer space overlap weights keep a b c d e = rw (a, b, c, d, e) refl

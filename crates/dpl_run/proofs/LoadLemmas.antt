@@ -32,17 +32,20 @@ one_load o text _ _ _ _ (done report p free) (refused f q) = absurd (free f q)
 one_load o text _ _ _ _ (done report p free) (done other q also) = refl
 
 -- the line of a report is due, and want of memory is free
-pub load_told : (o : PlainOptions) (text made : List ℕ) (r : PlainReport) (s : Status) (x : List ℕ) → made ≡ text → o ≡ made_options → IsReportOf o made r → IsFree o made
+pub load_told : (o : PlainOptions) (text made : List ℕ) (r : PlainReport) (s : Status) (x : List ℕ) → made ≡ text →
+    o ≡ made_options → IsReportOf o made r → IsFree o made
     → (s ≡ Done → x ≡ loaded_line r) → (s ≡ Done) ⊎ ((s ≡ NoMemory) × (x ≡ [])) → IsWorked (IsLoadDue made_options text) s x
 load_told o text made r s x m same good free line (inl d) =
     let due : IsLoadDue o text Done (loaded_line r) = done r (subst (λ z. IsReportOf o z r) m good) (subst (IsFree o) m free) in
     subst (λ z. IsWorked (IsLoadDue z text) s x) same (subst (λ z. IsWorked (IsLoadDue o text) z x) (sym d) (subst (IsLoadDue o text Done) (sym (line d)) due))
 load_told o text made r s x m same good free line (inr d) = subst (λ z. IsWorked (IsLoadDue made_options text) z x) (sym d.0) d.1
 
-pub load_refused : (o : PlainOptions) (text made : List ℕ) (e : LayerError) (s : Status) (x : List ℕ) → made ≡ text → o ≡ made_options → (e ≡ refusal.NoMemory) ⊎ RefusesSplit o made e
+pub load_refused : (o : PlainOptions) (text made : List ℕ) (e : LayerError) (s : Status) (x : List ℕ) → made ≡ text →
+    o ≡ made_options → (e ≡ refusal.NoMemory) ⊎ RefusesSplit o made e
     → s ≡ status_of e → x ≡ [] → IsWorked (IsLoadDue made_options text) s x
 load_refused o text made e s x m same h is none =
-    subst (λ z. IsWorked (IsLoadDue z text) s x) same (refused_worked (IsLoadDue o text) (RefusesSplit o made) e s x (λ f r. refused f (subst (λ z. RefusesSplit o z f) m r)) h is none)
+    subst (λ z. IsWorked (IsLoadDue z text) s x) same (refused_worked (IsLoadDue o text) (RefusesSplit o made) e s x
+    (λ f r. refused f (subst (λ z. RefusesSplit o z f) m r)) h is none)
 
 -- the report of a text is valid
 pub valid_report : (o : PlainOptions) (text : List ℕ) (r : PlainReport) → IsReportOf o text r → IsReport r

@@ -50,7 +50,8 @@ one_split o text _ _ _ _ (done output p free) (done other q also) = refl
 
 -- ---- what a split means for every other pair of masks
 
-pub least_of : (o : PlainOptions) (r : PlainReport) (output : List ℕ) → output ≡ report_text r → (cells whole : Cells) → IsReportOfCells o r cells whole → IsLeastOfCells o output cells whole
+pub least_of : (o : PlainOptions) (r : PlainReport) (output : List ℕ) → output ≡ report_text r → (cells whole : Cells) →
+    IsReportOfCells o r cells whole → IsLeastOfCells o output cells whole
 least_of o r output e cells whole c = record {
   fragments = c.fragments;
   net = c.net;
@@ -64,4 +65,5 @@ least_of o r output e cells whole c = record {
 
 pub split_least : (o : PlainOptions) (text : List ℕ) (a : Status) (x : List ℕ) → IsSplitDue o text a x → a ≡ Done → OnLayer o text (IsLeastOfCells o x)
 split_least o text _ _ (refused e r) d = absurd (refused_not_done e d)
-split_least o text _ _ (done output p free) d = on_layer o text (IsReportOfCells o p.report) (IsLeastOfCells o output) (least_of o p.report output p.is) p.of_layer
+split_least o text _ _ (done output p free) d = on_layer o text (IsReportOfCells o p.report) (IsLeastOfCells o output)
+    (least_of o p.report output p.is) p.of_layer

@@ -1,6 +1,8 @@
 -- Nodes without an edge of a set.
-use Rattle.std.proofs.Common.{arith, ◌≡◌, ◌≢◌, ℕ, zero, suc, ◌+◌, ◌*◌, ◌/◌, ◌<◌, ◌==◌, ◌&&◌, ◌||◌, refl, sym, ap, ◌∙◌, Bool, true, false, not, cond, inl, inr, ◌⊎◌, length, eq-eqb}
-use Rattle.std.proofs.lemmas.Bool.{cases_eq, and_parts, and_from, or_cases, eqb-true, ne_eqb, cond-true, cond-false, true≢false, false≢true, or_left, or_right, not-false, not-true}
+use Rattle.std.proofs.Common.{arith, ◌≡◌, ◌≢◌, ℕ, zero, suc, ◌+◌, ◌*◌, ◌/◌, ◌<◌, ◌==◌, ◌&&◌, ◌||◌, refl, sym, ap, ◌∙◌}
+use Rattle.std.proofs.Common.{Bool, true, false, not, cond, inl, inr, ◌⊎◌, length, eq-eqb}
+use Rattle.std.proofs.lemmas.Bool.{cases_eq, and_parts, and_from, or_cases, eqb-true, ne_eqb, cond-true, cond-false}
+use Rattle.std.proofs.lemmas.Bool.{true≢false, false≢true, or_left, or_right, not-false, not-true}
 use Rattle.std.specs.Cmp.{both_ways}
 use Rattle.std.proofs.lemmas.Bool.{both_ways as contradict}
 use Rattle.dpl_cycle.proofs.MemberLemmas.{count_more}
@@ -41,7 +43,13 @@ met_is g p zero v h = absurd (false≢true h)
 met_is g p (suc n) v h = elim (or_cases _ _ h) [
   | inl k ↦
       let parts = and_parts _ _ k in
-      record { edge = n; inside = omega arith; chosen = parts.0; ends = elim (or_cases _ _ parts.1) [ inl a ↦ inl (eqb-true _ _ a) | inr b ↦ inr (eqb-true _ _ b) ] }
+      record {
+        edge = n;
+        inside = omega arith;
+        chosen = parts.0;
+        ends =
+            elim (or_cases _ _ parts.1) [ inl a ↦ inl (eqb-true _ _ a) | inr b ↦ inr (eqb-true _ _ b) ];
+      }
   | inr k ↦
       let rest = met_is g p n v k in
       record { edge = rest.edge; inside = omega (arith, rest.inside); chosen = rest.chosen; ends = rest.ends }
@@ -58,8 +66,20 @@ has_dart net p v h =
     let n = length net.graph.edges in
     let m = met_is net.graph p n v (not-false _ h) in
     elim m.ends [
-      | inl a ↦ record { dart = 2 * m.edge; set = record { inside = omega (arith, m.inside); chosen = ap p (first_half m.edge) ∙ m.chosen }; tail = first_tail net.graph m.edge ∙ a }
-      | inr b ↦ record { dart = 2 * m.edge + 1; set = record { inside = omega (arith, m.inside); chosen = ap p (second_half m.edge) ∙ m.chosen }; tail = second_tail net.graph m.edge ∙ b }
+      | inl a ↦ record {
+        dart = 2 * m.edge;
+        set = record
+            { inside = omega (arith, m.inside); chosen = ap p (first_half m.edge) ∙ m.chosen };
+        tail =
+            first_tail net.graph m.edge ∙ a;
+      }
+      | inr b ↦ record {
+        dart = 2 * m.edge + 1;
+        set = record
+            { inside = omega (arith, m.inside); chosen = ap p (second_half m.edge) ∙ m.chosen };
+        tail =
+            second_tail net.graph m.edge ∙ b;
+      }
     ]
 
 -- no edge of the set ends at a bare node
@@ -98,7 +118,9 @@ bare_elsewhere net p q e v k far =
 neither : (g : Signed) (e v : ℕ) → v ≢ (edge_at g e).a → v ≢ (edge_at g e).b → EndsAt g e v → ⊥
 neither g e v na nb h = elim h [ inl a ↦ na (sym a) | inr b ↦ nb (sym b) ]
 
-pub bare_none : (net : Net) (p q : ℕ → Bool) (e : ℕ) → IsOneMore net p q e → is_bare net.graph p (edge_at net.graph e).a ≡ false → is_bare net.graph p (edge_at net.graph e).b ≡ false → bare_count net.graph q ≡ bare_count net.graph p
+pub bare_none : (net : Net) (p q : ℕ → Bool) (e : ℕ) → IsOneMore net p q e →
+    is_bare net.graph p (edge_at net.graph e).a ≡ false → is_bare net.graph p (edge_at net.graph e).b ≡ false →
+    bare_count net.graph q ≡ bare_count net.graph p
 bare_none net p q e k ha hb =
     let g = net.graph in
     count_on_same g.nodes _ _ (λ v h. elim (cases_eq v (edge_at g e).a) [
@@ -109,18 +131,24 @@ bare_none net p q e k ha hb =
       ]
     ])
 
-pub bare_first : (net : Net) (p q : ℕ → Bool) (e : ℕ) → IsOneMore net p q e → is_bare net.graph p (edge_at net.graph e).a ≡ true → is_bare net.graph p (edge_at net.graph e).b ≡ false → bare_count net.graph p ≡ bare_count net.graph q + 1
+pub bare_first : (net : Net) (p q : ℕ → Bool) (e : ℕ) → IsOneMore net p q e →
+    is_bare net.graph p (edge_at net.graph e).a ≡ true → is_bare net.graph p (edge_at net.graph e).b ≡ false →
+    bare_count net.graph p ≡ bare_count net.graph q + 1
 bare_first net p q e k ha hb =
     let g = net.graph in
-    count_more g.nodes (is_bare g q) (is_bare g p) (edge_at g e).a (start_below g e k.inside) (bare_end net p q e _ k (inl refl)) ha (λ v h na. elim (cases_eq v (edge_at g e).b) [
+    count_more g.nodes (is_bare g q) (is_bare g p) (edge_at g e).a (start_below g e k.inside)
+    (bare_end net p q e _ k (inl refl)) ha (λ v h na. elim (cases_eq v (edge_at g e).b) [
       | inl r ↦ bare_end net p q e v k (inr (sym r)) ∙ sym (ap (is_bare g p) r ∙ hb)
       | inr nb ↦ bare_elsewhere net p q e v k (neither g e v na nb)
     ])
 
-pub bare_second : (net : Net) (p q : ℕ → Bool) (e : ℕ) → IsOneMore net p q e → is_bare net.graph p (edge_at net.graph e).a ≡ false → is_bare net.graph p (edge_at net.graph e).b ≡ true → bare_count net.graph p ≡ bare_count net.graph q + 1
+pub bare_second : (net : Net) (p q : ℕ → Bool) (e : ℕ) → IsOneMore net p q e →
+    is_bare net.graph p (edge_at net.graph e).a ≡ false → is_bare net.graph p (edge_at net.graph e).b ≡ true →
+    bare_count net.graph p ≡ bare_count net.graph q + 1
 bare_second net p q e k ha hb =
     let g = net.graph in
-    count_more g.nodes (is_bare g q) (is_bare g p) (edge_at g e).b (end_below g e k.inside) (bare_end net p q e _ k (inr refl)) hb (λ v h nb. elim (cases_eq v (edge_at g e).a) [
+    count_more g.nodes (is_bare g q) (is_bare g p) (edge_at g e).b (end_below g e k.inside)
+    (bare_end net p q e _ k (inr refl)) hb (λ v h nb. elim (cases_eq v (edge_at g e).a) [
       | inl r ↦ bare_end net p q e v k (inl (sym r)) ∙ sym (ap (is_bare g p) r ∙ ha)
       | inr na ↦ bare_elsewhere net p q e v k (neither g e v na nb)
     ])
@@ -137,15 +165,19 @@ taken_other : (p : ℕ → Bool) (a v : ℕ) → v ≢ a → taken p a v ≡ p v
 unfolding taken
 taken_other p a v h = cond-false (v == a) false (p v) (ne_eqb v a h)
 
-pub bare_both : (net : Net) (p q : ℕ → Bool) (e : ℕ) → IsOneMore net p q e → is_bare net.graph p (edge_at net.graph e).a ≡ true → is_bare net.graph p (edge_at net.graph e).b ≡ true → bare_count net.graph p ≡ bare_count net.graph q + 2
+pub bare_both : (net : Net) (p q : ℕ → Bool) (e : ℕ) → IsOneMore net p q e →
+    is_bare net.graph p (edge_at net.graph e).a ≡ true → is_bare net.graph p (edge_at net.graph e).b ≡ true →
+    bare_count net.graph p ≡ bare_count net.graph q + 2
 bare_both net p q e k ha hb =
     let g = net.graph in
     let a = (edge_at g e).a in
     let b = (edge_at g e).b in
     let t = taken (is_bare g p) a in
     let ne : b ≢ a = λ r. omega (arith, (edge_at g e).ordered, r) in
-    let one = count_more g.nodes t (is_bare g p) a (start_below g e k.inside) (taken_here (is_bare g p) a a refl) ha (λ v h na. taken_other (is_bare g p) a v na) in
-    let two = count_more g.nodes (is_bare g q) t b (end_below g e k.inside) (bare_end net p q e b k (inr refl)) (taken_other (is_bare g p) a b ne ∙ hb) (λ v h nb. elim (cases_eq v a) [
+    let one = count_more g.nodes t (is_bare g p) a (start_below g e k.inside) (taken_here (is_bare g p) a a refl) ha
+    (λ v h na. taken_other (is_bare g p) a v na) in
+    let two = count_more g.nodes (is_bare g q) t b (end_below g e k.inside) (bare_end net p q e b k (inr refl))
+    (taken_other (is_bare g p) a b ne ∙ hb) (λ v h nb. elim (cases_eq v a) [
       | inl r ↦ bare_end net p q e v k (inl (sym r)) ∙ sym (taken_here (is_bare g p) a v r)
       | inr na ↦ bare_elsewhere net p q e v k (neither g e v na nb) ∙ sym (taken_other (is_bare g p) a v na)
     ]) in

@@ -30,7 +30,8 @@ names_are g p (suc k) h =
     let rest = names_are g p k (omega arith) in
     elim (cases_Bool (p k)) [
       | inl t ↦
-          let more = join_names g.nodes (names_below g p k) rest (edge_at g k).a (edge_at g k).b (start_below g k (omega arith)) (end_below g k (omega arith)) in
+          let more = join_names g.nodes (names_below g p k) rest (edge_at g k).a (edge_at g k).b
+          (start_below g k (omega arith)) (end_below g k (omega arith)) in
           record {
             inside = λ v l. omega (arith, names_in g p k v t, more.inside v l);
             twice = λ v l. ap (names_below g p (suc k)) (names_in g p k v t) ∙ names_in g p k _ t ∙ more.twice v l ∙ sym (names_in g p k v t);
@@ -42,7 +43,9 @@ names_are g p (suc k) h =
     ]
 
 -- what the ends of each edge share, the nodes of a component share
-names_label : (g : Signed) (p : ℕ → Bool) (label : ℕ → ℕ) (k : ℕ) → ((j : ℕ) → j < k → p j ≡ true → label (edge_at g j).a ≡ label (edge_at g j).b) → (v : ℕ) → label (names_below g p k v) ≡ label v
+names_label : (g : Signed) (p : ℕ → Bool) (label : ℕ → ℕ) (k : ℕ) →
+    ((j : ℕ) → j < k → p j ≡ true → label (edge_at g j).a ≡ label (edge_at g j).b) → (v : ℕ) →
+    label (names_below g p k v) ≡ label v
 names_label g p label zero h v = refl
 names_label g p label (suc k) h v =
     let rest = names_label g p label k (λ j l t. h j (omega arith) t) in
@@ -78,7 +81,9 @@ names_joined g p (suc k) j h t = elim (cases_eq j k) [
       let here : p k ≡ true = ap p (sym e) ∙ t in
       let a = (edge_at g k).a in
       let b = (edge_at g k).b in
-      ap (λ x. names_below g p (suc k) (edge_at g x).a) e ∙ names_in g p k a here ∙ join_first s a b ∙ sym (join_second s a b) ∙ sym (names_in g p k b here) ∙ ap (λ x. names_below g p (suc k) (edge_at g x).b) (sym e)
+      ap (λ x. names_below g p (suc k) (edge_at g x).a) e ∙ names_in g p k a here ∙ join_first s a b ∙
+      sym (join_second s a b) ∙ sym (names_in g p k b here) ∙
+      ap (λ x. names_below g p (suc k) (edge_at g x).b) (sym e)
   | inr e ↦
       let rest = names_joined g p k j (omega arith) t in
       elim (cases_Bool (p k)) [
@@ -87,13 +92,16 @@ names_joined g p (suc k) j h t = elim (cases_eq j k) [
       ]
 ]
 
-pub component_joined : (g : Signed) (p : ℕ → Bool) (e : ℕ) → e < length g.edges → p e ≡ true → component_of g p (edge_at g e).a ≡ component_of g p (edge_at g e).b
+pub component_joined : (g : Signed) (p : ℕ → Bool) (e : ℕ) → e < length g.edges → p e ≡ true →
+    component_of g p (edge_at g e).a ≡ component_of g p (edge_at g e).b
 component_joined g p e h t = names_joined g p (length g.edges) e h t
 
 pub components_are : (g : Signed) (p : ℕ → Bool) → AreNames g.nodes (component_of g p)
 components_are g p = names_are g p (length g.edges) (omega arith)
 
-pub component_label : (g : Signed) (p : ℕ → Bool) (label : ℕ → ℕ) → ((e : ℕ) → e < length g.edges → p e ≡ true → label (edge_at g e).a ≡ label (edge_at g e).b) → (v : ℕ) → label (component_of g p v) ≡ label v
+pub component_label : (g : Signed) (p : ℕ → Bool) (label : ℕ → ℕ) →
+    ((e : ℕ) → e < length g.edges → p e ≡ true → label (edge_at g e).a ≡ label (edge_at g e).b) → (v : ℕ) →
+    label (component_of g p v) ≡ label v
 component_label g p label h v = names_label g p label (length g.edges) h v
 
 -- ---- one edge more
@@ -101,7 +109,9 @@ component_label g p label h v = names_label g p label (length g.edges) h v
 with_more : (net : Net) (p q : ℕ → Bool) (e : ℕ) → IsOneMore net p q e → (j : ℕ) → j < length net.graph.edges → p j ≡ true → q j ≡ true
 with_more net p q e k j h t = elim (cases_eq j e) [ inl r ↦ absurd (both_ways _ k.out (ap p (sym r) ∙ t)) | inr r ↦ sym (k.same j h r) ∙ t ]
 
-pub more_alike : (net : Net) (p q : ℕ → Bool) (e : ℕ) → IsOneMore net p q e → AreAlike net.graph.nodes (component_of net.graph q) (join (component_of net.graph p) (edge_at net.graph e).a (edge_at net.graph e).b)
+pub more_alike : (net : Net) (p q : ℕ → Bool) (e : ℕ) → IsOneMore net p q e →
+    AreAlike net.graph.nodes (component_of net.graph q)
+    (join (component_of net.graph p) (edge_at net.graph e).a (edge_at net.graph e).b)
 more_alike net p q e k =
     let g = net.graph in
     let s = component_of g q in
@@ -123,13 +133,20 @@ more_alike net p q e k =
       ]) v;
     }
 
-pub components_join : (net : Net) (p q : ℕ → Bool) (e : ℕ) → IsOneMore net p q e → component_of net.graph p (edge_at net.graph e).a ≢ component_of net.graph p (edge_at net.graph e).b →
+pub components_join : (net : Net) (p q : ℕ → Bool) (e : ℕ) → IsOneMore net p q e →
+    component_of net.graph p (edge_at net.graph e).a ≢ component_of net.graph p (edge_at net.graph e).b →
     component_count net.graph q + 1 ≡ component_count net.graph p
 components_join net p q e k ne =
     let g = net.graph in
-    omega (arith, count_alike g.nodes _ _ (more_alike net p q e k), join_less g.nodes (component_of g p) (components_are g p) (edge_at g e).a (edge_at g e).b (start_below g e k.inside) (end_below g e k.inside) ne)
+    omega (
+      arith,
+      count_alike g.nodes _ _ (more_alike net p q e k),
+      join_less g.nodes (component_of g p) (components_are g p) (edge_at g e).a (edge_at g e).b
+          (start_below g e k.inside) (end_below g e k.inside) ne,
+    )
 
-pub components_stay : (net : Net) (p q : ℕ → Bool) (e : ℕ) → IsOneMore net p q e → component_of net.graph p (edge_at net.graph e).a ≡ component_of net.graph p (edge_at net.graph e).b →
+pub components_stay : (net : Net) (p q : ℕ → Bool) (e : ℕ) → IsOneMore net p q e →
+    component_of net.graph p (edge_at net.graph e).a ≡ component_of net.graph p (edge_at net.graph e).b →
     component_count net.graph q ≡ component_count net.graph p
 components_stay net p q e k same =
     let g = net.graph in
@@ -144,7 +161,9 @@ components_stay net p q e k same =
 -- ---- bare nodes, and faces
 
 -- a node without an edge is a component of its own
-pub bare_component : (g : Signed) (p : ℕ → Bool) (u w : ℕ) → ((e : ℕ) → e < length g.edges → p e ≡ true → ((edge_at g e).a ≢ u) × ((edge_at g e).b ≢ u)) → component_of g p w ≡ component_of g p u → w ≡ u
+pub bare_component : (g : Signed) (p : ℕ → Bool) (u w : ℕ) →
+    ((e : ℕ) → e < length g.edges → p e ≡ true → ((edge_at g e).a ≢ u) × ((edge_at g e).b ≢ u)) →
+    component_of g p w ≡ component_of g p u → w ≡ u
 bare_component g p u w none same =
     let label = component_label g p (mark u) (λ e h t. mark_elsewhere u _ (none e h t).0 ∙ sym (mark_elsewhere u _ (none e h t).1)) in
     elim (cases_eq w u) [
@@ -153,7 +172,8 @@ bare_component g p u w none same =
     ]
 
 -- the two ends of a dart of the set are of one component
-dart_component : (net : Net) (p : ℕ → Bool) (d : ℕ) → InSet net p d → component_of net.graph p (tail_of net.graph (twin_of d)) ≡ component_of net.graph p (tail_of net.graph d)
+dart_component : (net : Net) (p : ℕ → Bool) (d : ℕ) → InSet net p d →
+    component_of net.graph p (tail_of net.graph (twin_of d)) ≡ component_of net.graph p (tail_of net.graph d)
 dart_component net p d h =
     let g = net.graph in
     let e = d / 2 in
@@ -161,12 +181,16 @@ dart_component net p d h =
     let first : tail_of g (2 * e) ≡ (edge_at g e).a = first_tail g e in
     let second : tail_of g (suc (2 * e)) ≡ (edge_at g e).b = ap (tail_of g) (omega arith) ∙ second_tail g e in
     elim (dart_cases d) [
-      | inl c ↦ ap (λ x. component_of g p (tail_of g x)) c.1 ∙ ap (component_of g p) second ∙ sym joined ∙ ap (component_of g p) (sym first) ∙ ap (λ x. component_of g p (tail_of g x)) (sym c.0)
-      | inr c ↦ ap (λ x. component_of g p (tail_of g x)) c.1 ∙ ap (component_of g p) first ∙ joined ∙ ap (component_of g p) (sym second) ∙ ap (λ x. component_of g p (tail_of g x)) (sym c.0)
+      | inl c ↦ ap (λ x. component_of g p (tail_of g x)) c.1 ∙ ap (component_of g p) second ∙ sym joined ∙
+          ap (component_of g p) (sym first) ∙ ap (λ x. component_of g p (tail_of g x)) (sym c.0)
+      | inr c ↦ ap (λ x. component_of g p (tail_of g x)) c.1 ∙ ap (component_of g p) first ∙ joined ∙
+          ap (component_of g p) (sym second) ∙ ap (λ x. component_of g p (tail_of g x)) (sym c.0)
     ]
 
 -- all nodes of a face are of one component
-pub face_component : (net : Net) (p : ℕ → Bool) (c d : ℕ) → c < dart_count net → d < dart_count net → face_of net p c ≡ face_of net p d → component_of net.graph p (tail_of net.graph c) ≡ component_of net.graph p (tail_of net.graph d)
+pub face_component : (net : Net) (p : ℕ → Bool) (c d : ℕ) → c < dart_count net → d < dart_count net →
+    face_of net p c ≡ face_of net p d → component_of net.graph p (tail_of net.graph c) ≡ component_of net.graph p
+    (tail_of net.graph d)
 face_component net p c d hc hd e =
     let n = dart_count net in
     let f = next_in_face net p in

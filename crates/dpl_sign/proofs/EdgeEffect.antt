@@ -44,7 +44,8 @@ put_other p c z h = cond-false (z == c) true (p z) (ne_eqb z c h)
 abbrev face_cycles : Net → (ℕ → Bool) → ℕ
 face_cycles net p = cycles_among (next_in_face net p) (members (λ d. p (d / 2)) (dart_count net))
 
-others_two : (net : Net) (p q : ℕ → Bool) (e : ℕ) → IsOneMore net p q e → others_count (λ d. q (d / 2)) (dart_count net) + 2 ≡ others_count (λ d. p (d / 2)) (dart_count net)
+others_two : (net : Net) (p q : ℕ → Bool) (e : ℕ) → IsOneMore net p q e →
+    others_count (λ d. q (d / 2)) (dart_count net) + 2 ≡ others_count (λ d. p (d / 2)) (dart_count net)
 others_two net p q e k =
     let n = dart_count net in
     let old : ℕ → Bool = λ d. p (d / 2) in
@@ -53,7 +54,9 @@ others_two net p q e k =
     let d = 2 * e + 1 in
     let mid = put old c in
     let one = others_less n old mid c (omega (arith, k.inside)) (ap p (first_half e) ∙ k.out) (put_here old c c refl) (λ z h ne. sym (put_other old c z ne)) in
-    let two = others_less n mid new d (omega (arith, k.inside)) (put_other old c d (λ r. omega (arith, r)) ∙ ap p (second_half e) ∙ k.out) (ap q (second_half e) ∙ k.chosen) (λ z h ne. elim (cases_eq z c) [
+    let two = others_less n mid new d (omega (arith, k.inside))
+    (put_other old c d (λ r. omega (arith, r)) ∙ ap p (second_half e) ∙ k.out) (ap q (second_half e) ∙ k.chosen)
+    (λ z h ne. elim (cases_eq z c) [
       | inl r ↦ put_here old c z r ∙ sym (ap (λ x. q (x / 2)) r ∙ ap q (first_half e) ∙ k.chosen)
       | inr r ↦ put_other old c z r ∙ k.same (z / 2) (omega arith) (λ s. omega (arith, s))
     ]) in
@@ -66,11 +69,14 @@ cycles_split net p = cycles_members (dart_count net) (λ d. p (d / 2)) _ _ (face
 
 pub record Effect (net : Net) (p q : ℕ → Bool) (e : ℕ) : Type 0 where
   pub joins : (AreEndsJoined net p e → ⊥) → (face_count net q + 1 ≡ face_count net p) × (component_count net.graph q + 1 ≡ component_count net.graph p)
-  pub splits : AreEndsJoined net p e → LiesInFace net p e → (face_count net q ≡ face_count net p + 1) × (component_count net.graph q ≡ component_count net.graph p)
-  pub crosses : AreEndsJoined net p e → (LiesInFace net p e → ⊥) → (face_count net q + 1 ≡ face_count net p) × (component_count net.graph q ≡ component_count net.graph p)
+  pub splits : AreEndsJoined net p e → LiesInFace net p e → (face_count net q ≡ face_count net p + 1) ×
+      (component_count net.graph q ≡ component_count net.graph p)
+  pub crosses : AreEndsJoined net p e → (LiesInFace net p e → ⊥) → (face_count net q + 1 ≡ face_count net p) ×
+      (component_count net.graph q ≡ component_count net.graph p)
 
 -- the ends are of two components
-apart_effect : (net : Net) (p q : ℕ → Bool) (e : ℕ) → IsOneMore net p q e → (AreEndsJoined net p e → ⊥) → face_count net q + 1 ≡ face_count net p → Effect net p q e
+apart_effect : (net : Net) (p q : ℕ → Bool) (e : ℕ) → IsOneMore net p q e → (AreEndsJoined net p e → ⊥) →
+    face_count net q + 1 ≡ face_count net p → Effect net p q e
 apart_effect net p q e k ne faces = record {
   joins = λ h. (faces, components_join net p q e k ne);
   splits = λ h r. absurd (ne h);
@@ -100,7 +106,8 @@ between_first net p q e k h =
     let d = has_dart net p _ h in
     between net p q e (2 * e) d.dart (news net p q e k).first d.set (d.tail ∙ sym (first_tail net.graph e))
 
-pub between_second : (net : Net) (p q : ℕ → Bool) (e : ℕ) → IsOneMore net p q e → is_bare net.graph p (edge_at net.graph e).b ≡ false → IsBetween net p q (2 * e + 1)
+pub between_second : (net : Net) (p q : ℕ → Bool) (e : ℕ) → IsOneMore net p q e →
+    is_bare net.graph p (edge_at net.graph e).b ≡ false → IsBetween net p q (2 * e + 1)
 between_second net p q e k h =
     let d = has_dart net p _ h in
     between net p q e (2 * e + 1) d.dart (news net p q e k).second d.set (d.tail ∙ sym (second_tail net.graph e))
@@ -124,7 +131,9 @@ face_joined net p q e bc bd h =
     let same = face_component net p (next_around net p (2 * e)) (next_around net p (2 * e + 1)) c.inside d.inside h in
     ap (component_of g p) (sym (c.tail ∙ first_tail g e)) ∙ same ∙ ap (component_of g p) (d.tail ∙ second_tail g e)
 
-both_used : (net : Net) (p q : ℕ → Bool) (e : ℕ) → IsOneMore net p q e → is_bare net.graph p (edge_at net.graph e).a ≡ false → is_bare net.graph p (edge_at net.graph e).b ≡ false → Effect net p q e
+both_used : (net : Net) (p q : ℕ → Bool) (e : ℕ) → IsOneMore net p q e →
+    is_bare net.graph p (edge_at net.graph e).a ≡ false → is_bare net.graph p (edge_at net.graph e).b ≡ false →
+    Effect net p q e
 both_used net p q e k ha hb =
     let n = news net p q e k in
     let bc = between_first net p q e k ha in

@@ -1,5 +1,7 @@
 -- The excess is even and never negative, and one edge more never lowers it.
-use Rattle.std.proofs.Common.{arith, ◌≡◌, ◌≢◌, ℕ, zero, suc, ◌+◌, ◌*◌, ◌/◌, ◌%◌, ◌<◌, ◌≤◌, refl, sym, ap, ◌∙◌, Bool, true, false, not, cond, inl, inr, ◌⊎◌, List, [], ◌∷◌, ◌++◌, length, ltb, eq-eqb, length-append}
+use Rattle.std.proofs.Common.{arith, ◌≡◌, ◌≢◌, ℕ, zero, suc, ◌+◌, ◌*◌, ◌/◌, ◌%◌, ◌<◌, ◌≤◌, refl, sym, ap, ◌∙◌, Bool}
+use Rattle.std.proofs.Common.{true, false, not, cond, inl, inr, ◌⊎◌, List, [], ◌∷◌, ◌++◌, length, ltb, eq-eqb}
+use Rattle.std.proofs.Common.{length-append}
 use Rattle.std.proofs.lemmas.Bool.{cases_eq, cases_Bool, cases_lt, cond-true, cond-false, lt-ltb, le-ltb, ltb-true, ltb-false, ne_eqb}
 use Rattle.dpl_cycle.specs.Among.{cycles_among, members}
 use Rattle.dpl_cycle.specs.Names.{name_count}
@@ -61,7 +63,8 @@ none_is e = refl
 none_balanced : (net : Net) → Balanced net none 0
 none_balanced net =
     let g = net.graph in
-    let cycles : cycles_among (next_in_face net none) (members (λ d. none (d / 2)) (dart_count net)) ≡ 0 = ap (cycles_among (next_in_face net none)) (no_members (dart_count net)) in
+    let cycles : cycles_among (next_in_face net none) (members (λ d. none (d / 2)) (dart_count net)) ≡ 0 =
+    ap (cycles_among (next_in_face net none)) (no_members (dart_count net)) in
     let bare : bare_count g none ≡ g.nodes = count_all (is_bare g none) g.nodes (λ v. ap not (never_met g (length g.edges) v)) in
     let parts : component_count g none ≡ g.nodes = name_count_same g.nodes _ (λ v. v) (λ v h. none_joined g (length g.edges) v) ∙ own_names g.nodes in
     let edges : edge_count net none ≡ 0 = count_none none (length g.edges) none_is in
@@ -71,7 +74,8 @@ balanced_same : (net : Net) (p q : ℕ → Bool) (half : ℕ) → ((e : ℕ) →
 balanced_same net p q half h b =
     let faces : face_count net p ≡ face_count net q = faces_same net p q h in
     let edges : edge_count net p ≡ edge_count net q = count_on_same (length net.graph.edges) p q h in
-    let parts : component_count net.graph p ≡ component_count net.graph q = name_count_same net.graph.nodes _ _ (λ v l. names_same net.graph p q (length net.graph.edges) v h) in
+    let parts : component_count net.graph p ≡ component_count net.graph q =
+    name_count_same net.graph.nodes _ _ (λ v l. names_same net.graph p q (length net.graph.edges) v h) in
     record { euler = omega (arith, b.euler, faces, edges, parts) }
 
 -- ---- one edge more
@@ -123,12 +127,23 @@ from_grows : (net : Net) (q : ℕ → Bool) (half : ℕ) → Grows net q half �
 from_grows net q half h = elim h [ inl b ↦ record { half = half; balance = b } | inr b ↦ record { half = half + 1; balance = b } ]
 
 balanced_below : (net : Net) (p : ℕ → Bool) (k : ℕ) → k ≤ length net.graph.edges → HasBalance net (below p k)
-balanced_below net p zero h = record { half = 0; balance = balanced_same net none (below p 0) 0 (λ e l. none_is e ∙ sym (below_out p 0 e (omega arith))) (none_balanced net) }
+balanced_below net p zero h = record {
+  half = 0;
+  balance =
+      balanced_same net none (below p 0) 0 (λ e l. none_is e ∙ sym (below_out p 0 e (omega arith))) (none_balanced net);
+}
 balanced_below net p (suc k) h =
     let rest = balanced_below net p k (omega arith) in
     elim (cases_Bool (p k)) [
       | inl t ↦
-          let more : IsOneMore net (below p k) (below p (suc k)) k = record { inside = omega arith; out = below_out p k k (omega arith); chosen = below_in p (suc k) k (omega arith) ∙ t; same = λ x l ne. below_more p k x ne } in
+          let more : IsOneMore net (below p k) (below p (suc k)) k =
+          record {
+            inside = omega arith;
+            out = below_out p k k (omega arith);
+            chosen =
+                below_in p (suc k) k (omega arith) ∙ t;
+            same = λ x l ne. below_more p k x ne;
+          } in
           from_grows net _ _ (balanced_more net _ _ k _ more rest.balance)
       | inr t ↦ record {
         half = rest.half;
@@ -142,7 +157,11 @@ balanced_below net p (suc k) h =
 pub balanced : (net : Net) (p : ℕ → Bool) → HasBalance net p
 balanced net p =
     let all = balanced_below net p (length net.graph.edges) (omega arith) in
-    record { half = all.half; balance = balanced_same net (below p (length net.graph.edges)) p all.half (λ e l. below_in p (length net.graph.edges) e l) all.balance }
+    record {
+      half = all.half;
+      balance = balanced_same net (below p (length net.graph.edges)) p all.half
+          (λ e l. below_in p (length net.graph.edges) e l) all.balance;
+    }
 
 -- ---- the laws
 
@@ -204,16 +223,20 @@ kept_more net kept h = record {
   same = λ x l ne. sym (in_front kept true x ne);
 }
 
-pub raises_from : (net : Net) (kept : List Bool) → length kept < length net.graph.edges → AreEndsJoined net (is_in kept) (length kept) → (LiesInFace net (is_in kept) (length kept) → ⊥) → raises_excess net kept ≡ true
+pub raises_from : (net : Net) (kept : List Bool) → length kept < length net.graph.edges →
+    AreEndsJoined net (is_in kept) (length kept) → (LiesInFace net (is_in kept) (length kept) → ⊥) →
+    raises_excess net kept ≡ true
 raises_from net kept h joined far = lt-ltb _ _ (omega (arith, (excess_effect net _ _ (length kept) (kept_more net kept h)).crosses joined far))
 
-pub raises_joined : (net : Net) (kept : List Bool) → length kept < length net.graph.edges → raises_excess net kept ≡ true → AreEndsJoined net (is_in kept) (length kept)
+pub raises_joined : (net : Net) (kept : List Bool) → length kept < length net.graph.edges →
+    raises_excess net kept ≡ true → AreEndsJoined net (is_in kept) (length kept)
 raises_joined net kept h r = elim (same_component net (is_in kept) (length kept)) [
   | inl j ↦ j
   | inr j ↦ absurd (omega (arith, ltb-true _ _ r, (excess_effect net _ _ (length kept) (kept_more net kept h)).joins j))
 ]
 
-pub raises_far : (net : Net) (kept : List Bool) → length kept < length net.graph.edges → raises_excess net kept ≡ true → LiesInFace net (is_in kept) (length kept) → ⊥
+pub raises_far : (net : Net) (kept : List Bool) → length kept < length net.graph.edges → raises_excess net kept ≡ true →
+    LiesInFace net (is_in kept) (length kept) → ⊥
 raises_far net kept h r f =
     let j = raises_joined net kept h r in
     omega (arith, ltb-true _ _ r, (excess_effect net _ _ (length kept) (kept_more net kept h)).splits j f)
@@ -233,6 +256,7 @@ kept_plane net (suc e) h =
         | inr r ↦ in_front kept _ x r
       ]) ∙ rest
       | inr t ↦
-          let same : excess net (is_in (kept ++ not (raises_excess net kept) ∷ [])) ≡ excess net (is_in (kept ++ true ∷ [])) = ap (λ b. excess net (is_in (kept ++ not b ∷ []))) t in
+          let same : excess net (is_in (kept ++ not (raises_excess net kept) ∷ [])) ≡ excess net
+          (is_in (kept ++ true ∷ [])) = ap (λ b. excess net (is_in (kept ++ not b ∷ []))) t in
           omega (arith, same, ltb-false _ _ t, rest)
     ]

@@ -35,7 +35,8 @@ pub not_new : (net : Net) (p q : ℕ → Bool) (e c z : ℕ) → IsNewDart net p
 not_new net p q e c z k h t = both_ways _ k.more.out (ap p (sym k.half ∙ ap (λ x. x / 2) (sym t)) ∙ h.chosen)
 
 -- a dart whose face step does not meet the new edge
-pub next_stays : (net : Net) (p q : ℕ → Bool) (e c d y : ℕ) → AreNew net p q e c d → InSet net p y → (tail_of net.graph y ≡ tail_of net.graph c → next_around net q y ≡ next_around net p y) →
+pub next_stays : (net : Net) (p q : ℕ → Bool) (e c d y : ℕ) → AreNew net p q e c d → InSet net p y →
+    (tail_of net.graph y ≡ tail_of net.graph c → next_around net q y ≡ next_around net p y) →
     (tail_of net.graph y ≡ tail_of net.graph d → next_around net q y ≡ next_around net p y) → next_around net q y ≡ next_around net p y
 next_stays net p q e c d y n h at_c at_d = elim (cases_eq (tail_of net.graph y) (tail_of net.graph c)) [
   | inl a ↦ at_c a
@@ -106,24 +107,32 @@ corner net p q e c n b =
       face = b.corner ∙ sym here;
     }
 
-pub stays_between : (net : Net) (p q : ℕ → Bool) (c z : ℕ) → IsBetween net p q c → z ≢ into net p c → InSet net p (twin_of z) → tail_of net.graph (twin_of z) ≡ tail_of net.graph c → next_around net q (twin_of z) ≡ next_around net p (twin_of z)
+pub stays_between : (net : Net) (p q : ℕ → Bool) (c z : ℕ) → IsBetween net p q c → z ≢ into net p c →
+    InSet net p (twin_of z) → tail_of net.graph (twin_of z) ≡ tail_of net.graph c →
+    next_around net q (twin_of z) ≡ next_around net p (twin_of z)
 stays_between net p q c z b ne h t = b.others (twin_of z) h t (λ k. ne (sym (twin_twin z) ∙ ap twin_of k))
 
 -- ---- the three cases
 
 -- both nodes were bare
-pub lone_is : (net : Net) (p q : ℕ → Bool) (e c d : ℕ) → AreNew net p q e c d → NoneAt net p c → NoneAt net p d → (z : ℕ) → z < dart_count net → next_in_face net q z ≡ paired net p c d z
+pub lone_is : (net : Net) (p q : ℕ → Bool) (e c d : ℕ) → AreNew net p q e c d → NoneAt net p c → NoneAt net p d →
+    (z : ℕ) → z < dart_count net → next_in_face net q z ≡ paired net p c d z
 lone_is net p q e c d n none_c none_d z h = elim (cases_eq z c) [
-  | inl a ↦ ap (next_in_face net q) a ∙ new_face net p q e c d n ∙ alone net p q e d n.second none_d ∙ sym (ap (paired net p c d) a ∙ paired_first net p q e c d n)
+  | inl a ↦ ap (next_in_face net q) a ∙ new_face net p q e c d n ∙ alone net p q e d n.second none_d ∙
+      sym (ap (paired net p c d) a ∙ paired_first net p q e c d n)
   | inr a ↦ elim (cases_eq z d) [
-    | inl b ↦ ap (next_in_face net q) b ∙ new_face net p q e d c (turned_new net p q e c d n) ∙ alone net p q e c n.first none_c ∙ sym (ap (paired net p c d) b ∙ paired_second net p q e c d n)
+    | inl b ↦ ap (next_in_face net q) b ∙ new_face net p q e d c (turned_new net p q e c d n) ∙
+        alone net p q e c n.first none_c ∙ sym (ap (paired net p c d) b ∙ paired_second net p q e c d n)
     | inr b ↦
-        face_stays net p q e c d z n h a b (λ k. next_stays net p q e c d (twin_of z) n k (λ t. absurd (none_c (twin_of z) k t)) (λ t. absurd (none_d (twin_of z) k t))) ∙ sym (exchange_other (next_in_face net p) c d z a b)
+        face_stays net p q e c d z n h a b (λ k. next_stays net p q e c d (twin_of z) n k
+        (λ t. absurd (none_c (twin_of z) k t)) (λ t. absurd (none_d (twin_of z) k t))) ∙
+        sym (exchange_other (next_in_face net p) c d z a b)
   ]
 ]
 
 -- the node of d was bare
-pub hung_is : (net : Net) (p q : ℕ → Bool) (e c d : ℕ) → AreNew net p q e c d → IsBetween net p q c → NoneAt net p d → (z : ℕ) → z < dart_count net → next_in_face net q z ≡ exchange (paired net p c d) (into net p c) d z
+pub hung_is : (net : Net) (p q : ℕ → Bool) (e c d : ℕ) → AreNew net p q e c d → IsBetween net p q c → NoneAt net p d →
+    (z : ℕ) → z < dart_count net → next_in_face net q z ≡ exchange (paired net p c d) (into net p c) d z
 hung_is net p q e c d n b none z h =
     let i = into net p c in
     let k = corner net p q e c n.first b in
@@ -135,18 +144,24 @@ hung_is net p q e c d n b none z h =
     elim (cases_eq z i) [
       | inl a ↦ ap (next_in_face net q) a ∙ k.to_new ∙ sym (ap (exchange f0 i d) a ∙ exchange_first f0 i d ∙ paired_second net p q e c d n)
       | inr zi ↦ elim (cases_eq z d) [
-        | inl a ↦ ap (next_in_face net q) a ∙ new_face net p q e d c (turned_new net p q e c d n) ∙ k.from_new ∙ sym (ap (exchange f0 i d) a ∙ exchange_second f0 i d (λ r. id (sym r)) ∙ f0i)
+        | inl a ↦ ap (next_in_face net q) a ∙ new_face net p q e d c (turned_new net p q e c d n) ∙ k.from_new ∙
+            sym (ap (exchange f0 i d) a ∙ exchange_second f0 i d (λ r. id (sym r)) ∙ f0i)
         | inr zd ↦ elim (cases_eq z c) [
           | inl a ↦
-              ap (next_in_face net q) a ∙ new_face net p q e c d n ∙ alone net p q e d n.second none ∙ sym (ap (exchange f0 i d) a ∙ exchange_other f0 i d c (λ r. ic (sym r)) cd ∙ paired_first net p q e c d n)
+              ap (next_in_face net q) a ∙ new_face net p q e c d n ∙ alone net p q e d n.second none ∙
+              sym (ap (exchange f0 i d) a ∙ exchange_other f0 i d c (λ r. ic (sym r)) cd ∙
+              paired_first net p q e c d n)
           | inr zc ↦
-              face_stays net p q e c d z n h zc zd (λ s. next_stays net p q e c d (twin_of z) n s (stays_between net p q c z b zi s) (λ t. absurd (none (twin_of z) s t))) ∙ sym (exchange_other f0 i d z zi zd ∙ exchange_other (next_in_face net p) c d z zc zd)
+              face_stays net p q e c d z n h zc zd (λ s. next_stays net p q e c d (twin_of z) n s
+              (stays_between net p q c z b zi s) (λ t. absurd (none (twin_of z) s t))) ∙
+              sym (exchange_other f0 i d z zi zd ∙ exchange_other (next_in_face net p) c d z zc zd)
         ]
       ]
     ]
 
 -- the places where a new edge leaves two nodes that have darts
-pub new_at : (net : Net) (p q : ℕ → Bool) (e c d : ℕ) → AreNew net p q e c d → IsBetween net p q c → IsBetween net p q d → IsNew (dart_count net) (paired net p c d) (into net p c) (into net p d) c d
+pub new_at : (net : Net) (p q : ℕ → Bool) (e c d : ℕ) → AreNew net p q e c d → IsBetween net p q c →
+    IsBetween net p q d → IsNew (dart_count net) (paired net p c d) (into net p c) (into net p d) c d
 new_at net p q e c d n bc bd =
     let i = into net p c in
     let j = into net p d in
@@ -161,7 +176,9 @@ new_at net p q e c d n bc bd =
       there = paired_first net p q e c d n;
       again = paired_second net p q e c d n;
       cd = cd;
-      ij = λ r. cd (tails_apart net.graph c d (n.first.half ∙ sym n.second.half) (sym bc.prev_tail ∙ ap (tail_of net.graph) (sym (twin_twin (prev_around net p c)) ∙ ap twin_of r ∙ twin_twin (prev_around net p d)) ∙ bd.prev_tail));
+      ij = λ r. cd (tails_apart net.graph c d (n.first.half ∙ sym n.second.half)
+          (sym bc.prev_tail ∙ ap (tail_of net.graph) (sym (twin_twin (prev_around net p c)) ∙ ap twin_of r ∙
+          twin_twin (prev_around net p d)) ∙ bd.prev_tail));
       ic = not_new net p q e c i n.first k.set;
       id = not_new net p q e d i n.second k.set;
       jc = not_new net p q e c j n.first l.set;
@@ -169,7 +186,9 @@ new_at net p q e c d n bc bd =
     }
 
 -- both nodes had darts
-pub added_is : (net : Net) (p q : ℕ → Bool) (e c d : ℕ) → AreNew net p q e c d → IsBetween net p q c → IsBetween net p q d → (z : ℕ) → z < dart_count net → next_in_face net q z ≡ added (paired net p c d) (into net p c) (into net p d) c d z
+pub added_is : (net : Net) (p q : ℕ → Bool) (e c d : ℕ) → AreNew net p q e c d → IsBetween net p q c →
+    IsBetween net p q d → (z : ℕ) → z < dart_count net →
+    next_in_face net q z ≡ added (paired net p c d) (into net p c) (into net p d) c d z
 added_is net p q e c d n bc bd z h =
     let m = dart_count net in
     let f = next_in_face net p in
@@ -188,9 +207,12 @@ added_is net p q e c d n bc bd z h =
         | inr zj ↦ elim (cases_eq z c) [
           | inl a ↦ ap (next_in_face net q) a ∙ new_face net p q e c d n ∙ l.from_new ∙ sym (ap (added f0 i j c d) a ∙ added_c m f0 i j c d new ∙ f0j)
           | inr zc ↦ elim (cases_eq z d) [
-            | inl a ↦ ap (next_in_face net q) a ∙ new_face net p q e d c (turned_new net p q e c d n) ∙ k.from_new ∙ sym (ap (added f0 i j c d) a ∙ added_d m f0 i j c d new ∙ f0i)
+            | inl a ↦ ap (next_in_face net q) a ∙ new_face net p q e d c (turned_new net p q e c d n) ∙ k.from_new ∙
+                sym (ap (added f0 i j c d) a ∙ added_d m f0 i j c d new ∙ f0i)
             | inr zd ↦
-                face_stays net p q e c d z n h zc zd (λ s. next_stays net p q e c d (twin_of z) n s (stays_between net p q c z bc zi s) (stays_between net p q d z bd zj s)) ∙ sym (added_other f0 i j c d z zi zj zc zd ∙ exchange_other f c d z zc zd)
+                face_stays net p q e c d z n h zc zd (λ s. next_stays net p q e c d (twin_of z) n s
+                (stays_between net p q c z bc zi s) (stays_between net p q d z bd zj s)) ∙
+                sym (added_other f0 i j c d z zi zj zc zd ∙ exchange_other f c d z zc zd)
           ]
         ]
       ]

@@ -45,7 +45,8 @@ alike : (net : Net) (p q : ℕ → Bool) (e c y : ℕ) → IsNewDart net p q e c
     next_around net q y ≡ next (rank_end net (tail_of net.graph c)) (rank_of net (tail_of net.graph c)) y (c ∷ around net p (tail_of net.graph c))
 alike net p q e c y k h t =
     let u = tail_of net.graph c in
-    next_is net q u y h.inside t ∙ next_alike (rank_end net u) (rank_of net u) y (around net q u) (c ∷ around net p u) (on_circle net q u) (around_from net q u y h t)
+    next_is net q u y h.inside t ∙ next_alike (rank_end net u) (rank_of net u) y (around net q u) (c ∷ around net p u)
+    (on_circle net q u) (around_from net q u y h t)
     (λ z m. elim (cases_eq (z / 2) e) [
       | inl a ↦ inl (tails_apart net.graph z c (a ∙ sym k.half) (around_tail net q u z m))
       | inr a ↦ inr (around_from net p u z (shrunk net p q e k.more z (around_set net q u z m) a) (around_tail net q u z m))
@@ -56,10 +57,13 @@ alike net p q e c y k h t =
     ])
 
 -- at the other nodes nothing changes
-pub next_elsewhere : (net : Net) (p q : ℕ → Bool) (e y : ℕ) → IsOneMore net p q e → InSet net p y → ((z : ℕ) → z < dart_count net → z / 2 ≡ e → tail_of net.graph y ≢ tail_of net.graph z) → next_around net q y ≡ next_around net p y
+pub next_elsewhere : (net : Net) (p q : ℕ → Bool) (e y : ℕ) → IsOneMore net p q e → InSet net p y →
+    ((z : ℕ) → z < dart_count net → z / 2 ≡ e → tail_of net.graph y ≢ tail_of net.graph z) →
+    next_around net q y ≡ next_around net p y
 next_elsewhere net p q e y k h far =
     let w = tail_of net.graph y in
-    next_is net q w y h.inside refl ∙ next_alike (rank_end net w) (rank_of net w) y (around net q w) (around net p w) (on_circle net q w) (around_from net q w y (grown net p q e k y h) refl)
+    next_is net q w y h.inside refl ∙ next_alike (rank_end net w) (rank_of net w) y (around net q w) (around net p w)
+    (on_circle net q w) (around_from net q w y (grown net p q e k y h) refl)
     (λ z m. elim (cases_eq (z / 2) e) [
       | inl a ↦ absurd (far z (around_set net q w z m).inside a (sym (around_tail net q w z m)))
       | inr a ↦ around_from net p w z (shrunk net p q e k z (around_set net q w z m) a) (around_tail net q w z m)
@@ -99,11 +103,14 @@ between net p q e c k n hk tk =
       from_new = alike net p q e c c n (new_dart_set net p q e c n) refl ∙ past ∙ sym inner;
       corner = next_is net p u c n.inside refl ∙ sym (next_itself m r c cs) ∙ past ∙ sym inner;
       others = λ y hy ty ne.
-          alike net p q e c y n (grown net p q e n.more y hy) ty ∙ next_more_other m r c cs circle y (around_from net p u y hy ty) hb new (λ a. ne (a ∙ sym is)) ∙ sym (next_is net p u y hy.inside ty);
+          alike net p q e c y n (grown net p q e n.more y hy) ty ∙
+          next_more_other m r c cs circle y (around_from net p u y hy ty) hb new (λ a. ne (a ∙ sym is)) ∙
+          sym (next_is net p u y hy.inside ty);
     }
 
 -- where it has none, the new dart is alone
-pub alone : (net : Net) (p q : ℕ → Bool) (e c : ℕ) → IsNewDart net p q e c → ((y : ℕ) → InSet net p y → tail_of net.graph y ≢ tail_of net.graph c) → next_around net q c ≡ c
+pub alone : (net : Net) (p q : ℕ → Bool) (e c : ℕ) → IsNewDart net p q e c →
+    ((y : ℕ) → InSet net p y → tail_of net.graph y ≢ tail_of net.graph c) → next_around net q c ≡ c
 alone net p q e c n none =
     let u = tail_of net.graph c in
     let m = rank_end net u in
@@ -113,4 +120,7 @@ alone net p q e c n none =
       | inl a ↦ inl (tails_apart net.graph z c (a ∙ sym n.half) (around_tail net q u z h))
       | inr a ↦ absurd (none z (shrunk net p q e n.more z (around_set net q u z h) a) (around_tail net q u z h))
     ])
-    (λ z h. elim h [ inl a ↦ mem_at z c (around net q u) a (around_from net q u c (new_dart_set net p q e c n) refl) | inr a ↦ absurd a ]) ∙ next_itself m r c []
+    (λ z h. elim h [
+      | inl a ↦ mem_at z c (around net q u) a (around_from net q u c (new_dart_set net p q e c n) refl)
+      | inr a ↦ absurd a
+    ]) ∙ next_itself m r c []

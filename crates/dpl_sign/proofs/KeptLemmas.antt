@@ -12,7 +12,8 @@ kept_at net (suc n) e h =
     let kept = kept_before net n in
     let size = kept_length net n in
     elim (cases_eq e n) [
-      | inl r ↦ ap (is_in (kept_before net (suc n))) (r ∙ sym size) ∙ at_end kept (not (raises_excess net kept)) ∙ ap (λ x. not (raises_excess net (kept_before net x))) (sym r)
+      | inl r ↦ ap (is_in (kept_before net (suc n))) (r ∙ sym size) ∙ at_end kept (not (raises_excess net kept)) ∙
+          ap (λ x. not (raises_excess net (kept_before net x))) (sym r)
       | inr r ↦ in_front kept (not (raises_excess net kept)) e (λ q. r (q ∙ size)) ∙ kept_at net n e (omega arith)
     ]
 

@@ -19,10 +19,12 @@ walk_load h (x ∷ es) e =
     let rest : load (map (λ y. (y, h)) es) e ≡ h * n = walk_load h es e in
     elim (cases_eq x e) [
       | inl t ↦
-          let one : count_by (λ y. y == e) (x ∷ es) ≡ 1 + n = (let z : cond (x == e) 1 0 ≡ 1 = cond-true {A = ℕ} (x == e) 1 0 (eq-eqb x e t) in omega (arith, c, z)) in
+          let one : count_by (λ y. y == e) (x ∷ es) ≡ 1 + n =
+          (let z : cond (x == e) 1 0 ≡ 1 = cond-true {A = ℕ} (x == e) 1 0 (eq-eqb x e t) in omega (arith, c, z)) in
           rw one (omega (arith, l, rest, at_same x h e t, once_more h n))
       | inr t ↦
-          let none : count_by (λ y. y == e) (x ∷ es) ≡ n = (let z : cond (x == e) 1 0 ≡ 0 = cond-false {A = ℕ} (x == e) 1 0 (ne_eqb x e t) in omega (arith, c, z)) in
+          let none : count_by (λ y. y == e) (x ∷ es) ≡ n =
+          (let z : cond (x == e) 1 0 ≡ 0 = cond-false {A = ℕ} (x == e) 1 0 (ne_eqb x e t) in omega (arith, c, z)) in
           rw none (omega (arith, l, rest, at_other x h e t))
     ]
 

@@ -1,5 +1,6 @@
 -- Sums over passages, by passage and by edge.
-use Rattle.std.proofs.Common.{arith, ◌≡◌, ◌≢◌, ℕ, zero, suc, ◌+◌, ◌*◌, ◌<◌, ◌≤◌, ◌==◌, refl, sym, ap, ◌∙◌, Bool, cond, inl, inr, List, [], ◌∷◌, ◌++◌, map, length, get_or, take, eq-eqb}
+use Rattle.std.proofs.Common.{arith, ◌≡◌, ◌≢◌, ℕ, zero, suc, ◌+◌, ◌*◌, ◌<◌, ◌≤◌, ◌==◌, refl, sym, ap, ◌∙◌, Bool, cond}
+use Rattle.std.proofs.Common.{inl, inr, List, [], ◌∷◌, ◌++◌, map, length, get_or, take, eq-eqb}
 use Rattle.std.specs.Prelude.{sum_by, count_by, All}
 use Rattle.std.proofs.lemmas.List.{take_all}
 use Rattle.std.proofs.lemmas.List.Sums.{sum_by-cons, sum_by-append, sum_by_more, sum_by_push}
@@ -100,7 +101,9 @@ passed_nil v = refl
 -- and by edge
 pub passed_by_edge : (v : ℕ → Bool) (n : ℕ) (ps : List (ℕ × ℕ)) → All (λ p. p.0 < n) ps → passed v ps ≡ sum_to (λ e. cond (v e) (load ps e) 0) n
 passed_by_edge v n [] h =
-    passed_nil v ∙ sym (sum_to_same (λ e. cond (v e) (load [] e) 0) (λ e. 0) n (λ k l. elim (cases_Bool (v k)) [ inl b ↦ cond-true (v k) _ 0 b | inr b ↦ cond-false (v k) _ 0 b ]) ∙ sum_to_zero n)
+    passed_nil v ∙ sym (sum_to_same (λ e. cond (v e) (load [] e) 0) (λ e. 0) n
+    (λ k l. elim (cases_Bool (v k)) [ inl b ↦ cond-true (v k) _ 0 b | inr b ↦ cond-false (v k) _ 0 b ]) ∙
+    sum_to_zero n)
 passed_by_edge v n (p ∷ ps) h =
     let rest = passed_by_edge v n ps (All-tail (λ q. q.0 < n) p ps h) in
     let first : p.0 < n = All-head (λ q. q.0 < n) p ps h in

@@ -1,7 +1,9 @@
 -- Components and the paths that join their nodes.
-use Rattle.std.proofs.Common.{arith, ◌≡◌, ℕ, zero, suc, ◌<◌, ◌≤◌, ◌==◌, ◌||◌, refl, sym, ap, ◌∙◌, Bool, true, false, inl, inr, List, [], ◌∷◌, ◌++◌, length, eq-eqb, subst}
+use Rattle.std.proofs.Common.{arith, ◌≡◌, ℕ, zero, suc, ◌<◌, ◌≤◌, ◌==◌, ◌||◌, refl, sym, ap, ◌∙◌, Bool, true, false}
+use Rattle.std.proofs.Common.{inl, inr, List, [], ◌∷◌, ◌++◌, length, eq-eqb, subst}
 use Rattle.std.specs.Prelude.{◌↔◌}
-use Rattle.std.proofs.lemmas.Bool.{cases_eq, cases_Bool, ne_eqb, lt-ltb, ltb-true, eqb-true, and_from, and_parts, cond-true, cond-false, true≢false, or_left, or_right}
+use Rattle.std.proofs.lemmas.Bool.{cases_eq, cases_Bool, ne_eqb, lt-ltb, ltb-true, eqb-true, and_from, and_parts}
+use Rattle.std.proofs.lemmas.Bool.{cond-true, cond-false, true≢false, or_left, or_right}
 use Rattle.std.specs.List.{AllByRecursion}
 use Rattle.std.proofs.lemmas.List.Elements.{All-from_recursion, recursion_from_All}
 use Rattle.dpl_cycle.proofs.JoinLemmas.{joined_merged}
@@ -35,7 +37,11 @@ each_join P [] fs p q = q
 each_join P (e ∷ es) fs p q = (p.0, each_join P es fs p.1 q)
 
 way_join : (g : Signed) (P : ℕ → Type 0) (u v w : ℕ) → IsWay g P u v → IsWay g P v w → IsWay g P u w
-way_join g P u v w s t = record { edges = s.edges ++ t.edges; path = path_join g s.edges t.edges u v w s.path t.path; each = each_join P s.edges t.edges s.each t.each }
+way_join g P u v w s t = record {
+  edges = s.edges ++ t.edges;
+  path = path_join g s.edges t.edges u v w s.path t.path;
+  each = each_join P s.edges t.edges s.each t.each;
+}
 
 -- one edge, in both directions
 way_there : (g : Signed) (P : ℕ → Type 0) (e : ℕ) → e < length g.edges → P e → IsWay g P (edge_at g e).a (edge_at g e).b
@@ -53,10 +59,12 @@ way_back g P e h p =
     record { edges = e ∷ []; path = (and_from _ _ (lt-ltb e (length g.edges) h) (or_right _ _ there), cond-false (a == b) b a other); each = (p, tt) }
 
 -- nodes of one component are joined
-pub component_way : (g : Signed) (p : ℕ → Bool) (P : ℕ → Type 0) (k : ℕ) → k ≤ length g.edges → ((e : ℕ) → e < k → p e ≡ true → P e) → (u v : ℕ) → names_below g p k u ≡ names_below g p k v → IsWay g P u v
+pub component_way : (g : Signed) (p : ℕ → Bool) (P : ℕ → Type 0) (k : ℕ) → k ≤ length g.edges →
+    ((e : ℕ) → e < k → p e ≡ true → P e) → (u v : ℕ) → names_below g p k u ≡ names_below g p k v → IsWay g P u v
 component_way g p P zero h all u v e = way_none g P u v e
 component_way g p P (suc k) h all u v e =
-    let rest : (x y : ℕ) → names_below g p k x ≡ names_below g p k y → IsWay g P x y = λ x y q. component_way g p P k (omega arith) (λ j l t. all j (omega arith) t) x y q in
+    let rest : (x y : ℕ) → names_below g p k x ≡ names_below g p k y → IsWay g P x y =
+    λ x y q. component_way g p P k (omega arith) (λ j l t. all j (omega arith) t) x y q in
     elim (cases_Bool (p k)) [
       | inl t ↦
           let r = names_below g p k in
@@ -97,7 +105,8 @@ step_joins g p e u l t =
           ap (component_of g p) (sym end) ∙ sym one ∙ ap (component_of g p) (sym there)
     ]
 
-path_joins : (g : Signed) (p : ℕ → Bool) (es : List ℕ) (u v : ℕ) → IsPath g u es v → AllByRecursion (λ e. p e ≡ true) es → component_of g p u ≡ component_of g p v
+path_joins : (g : Signed) (p : ℕ → Bool) (es : List ℕ) (u v : ℕ) → IsPath g u es v →
+    AllByRecursion (λ e. p e ≡ true) es → component_of g p u ≡ component_of g p v
 path_joins g p [] u v h all = ap (component_of g p) h
 path_joins g p (e ∷ es) u v h all = step_joins g p e u h.0 all.0 ∙ path_joins g p es (across (edge_at g e) u) v h.1 all.1
 

@@ -52,8 +52,14 @@ direction p corner = elim (cases_Bool (p.side % 4 == 0)) [
 
 flat : (p : Port) → is_corner p.side ≡ false → (rise p ≡ 0) × (run p ≡ 0)
 flat p side = elim (cases_Bool (p.side % 4 == 0)) [
-  | inl t ↦ (omega (arith, p.no_direction side, cond-true (p.side % 4 == 0) p.dy p.dx t), omega (arith, p.no_direction side, cond-true (p.side % 4 == 0) p.dx p.dy t))
-  | inr t ↦ (omega (arith, p.no_direction side, cond-false (p.side % 4 == 0) p.dy p.dx t), omega (arith, p.no_direction side, cond-false (p.side % 4 == 0) p.dx p.dy t))
+  | inl t ↦ (
+    omega (arith, p.no_direction side, cond-true (p.side % 4 == 0) p.dy p.dx t),
+    omega (arith, p.no_direction side, cond-true (p.side % 4 == 0) p.dx p.dy t),
+  )
+  | inr t ↦ (
+    omega (arith, p.no_direction side, cond-false (p.side % 4 == 0) p.dy p.dx t),
+    omega (arith, p.no_direction side, cond-false (p.side % 4 == 0) p.dx p.dy t),
+  )
 ]
 
 -- the fraction of a port's direction, and one for all ports on sides
@@ -64,7 +70,9 @@ fraction_at p (inr side) = record { top = 0; bottom = 1; some = lit< tt }
 fraction_of : Port → Fraction
 fraction_of p = fraction_at p (cases_Bool (is_corner p.side))
 
-slope_at : (p q : Port) (c : (is_corner p.side ≡ true) ⊎ (is_corner p.side ≡ false)) (d : (is_corner q.side ≡ true) ⊎ (is_corner q.side ≡ false)) → p.side ≡ q.side → compare (fraction_at p c) (fraction_at q d) ≡ slope_cmp p q
+slope_at : (p q : Port) (c : (is_corner p.side ≡ true) ⊎ (is_corner p.side ≡ false))
+    (d : (is_corner q.side ≡ true) ⊎ (is_corner q.side ≡ false)) → p.side ≡ q.side →
+    compare (fraction_at p c) (fraction_at q d) ≡ slope_cmp p q
 unfolding fraction_at
 slope_at p q (inl c) (inl d) e = refl
 slope_at p q (inl c) (inr d) e = absurd (both_ways _ d (ap is_corner (sym e) ∙ c))
@@ -84,10 +92,15 @@ abbrev Place : Type 0
 Place = Port × ℕ
 
 abbrev in_parts : Place → Place → Ordering
-in_parts = then_cmp (on (λ (x : Place). x.0.side) nat_cmp) (then_cmp (on (λ (x : Place). x.0.key) int_cmp) (then_cmp (on (λ (x : Place). fraction_of x.0) compare) (on (λ (x : Place). x.1) nat_cmp)))
+in_parts = then_cmp (on (λ (x : Place). x.0.side) nat_cmp)
+    (then_cmp (on (λ (x : Place). x.0.key) int_cmp) (then_cmp (on (λ (x : Place). fraction_of x.0) compare)
+    (on (λ (x : Place). x.1) nat_cmp)))
 
 parts_total : IsTotalOrder in_parts
-parts_total = then_total (on_total (λ (x : Place). x.0.side) nat_cmp_total) (then_total (on_total (λ (x : Place). x.0.key) int_cmp_total) (then_total (on_total (λ (x : Place). fraction_of x.0) fraction_total) (on_total (λ (x : Place). x.1) nat_cmp_total)))
+parts_total = then_total (on_total (λ (x : Place). x.0.side) nat_cmp_total)
+    (then_total (on_total (λ (x : Place). x.0.key) int_cmp_total)
+    (then_total (on_total (λ (x : Place). fraction_of x.0) fraction_total)
+    (on_total (λ (x : Place). x.1) nat_cmp_total)))
 
 parts_are : (x y : Place) → in_parts x y ≡ port_cmp x.0 x.1 y.0 y.1
 unfolding fraction_of

@@ -36,11 +36,13 @@ on_circle net set v =
     let r = ranked net v in
     record {
       below = λ k h. r.below k (around_set net set v k h).inside (around_tail net set v k h);
-      apart = λ k l h i e. r.apart k l (around_set net set v k h).inside (around_set net set v l i).inside (around_tail net set v k h) (around_tail net set v l i) e;
+      apart = λ k l h i e. r.apart k l (around_set net set v k h).inside (around_set net set v l i).inside
+          (around_tail net set v k h) (around_tail net set v l i) e;
     }
 
 -- with one more dart of the node
-pub on_circle_more : (net : Net) (set : ℕ → Bool) (v c : ℕ) → c < dart_count net → tail_of net.graph c ≡ v → OnCircle (rank_end net v) (rank_of net v) (c ∷ around net set v)
+pub on_circle_more : (net : Net) (set : ℕ → Bool) (v c : ℕ) → c < dart_count net → tail_of net.graph c ≡ v →
+    OnCircle (rank_end net v) (rank_of net v) (c ∷ around net set v)
 on_circle_more net set v c hc tc =
     let r = ranked net v in
     let inside : (k : ℕ) → Mem k (c ∷ around net set v) → (k < dart_count net) × (tail_of net.graph k ≡ v) = λ k h. elim h [
@@ -52,8 +54,10 @@ on_circle_more net set v c hc tc =
       apart = λ k l h i e. r.apart k l (inside k h).0 (inside l i).0 (inside k h).1 (inside l i).1 e;
     }
 
-pub next_is : (net : Net) (set : ℕ → Bool) (v d : ℕ) → d < dart_count net → tail_of net.graph d ≡ v → next_around net set d ≡ next (rank_end net v) (rank_of net v) d (around net set v)
-next_is net set v d h t = (next_near net set v (rank_end net v) (rank_of net v) (ranked net v) d (record { inside = h; tail = t }) (length net.graph.edges) (omega arith)).0
+pub next_is : (net : Net) (set : ℕ → Bool) (v d : ℕ) → d < dart_count net → tail_of net.graph d ≡ v →
+    next_around net set d ≡ next (rank_end net v) (rank_of net v) d (around net set v)
+next_is net set v d h t = (next_near net set v (rank_end net v) (rank_of net v) (ranked net v) d
+    (record { inside = h; tail = t }) (length net.graph.edges) (omega arith)).0
 
 pub in_set_at : (net : Net) (set : ℕ → Bool) (d c : ℕ) → c ≡ d → InSet net set c → InSet net set d
 in_set_at net set d c e h = let P : ℕ → Type 0 = λ x. InSet net set x in subst P e h
@@ -63,13 +67,15 @@ mem_at x y ds e h = let P : ℕ → Type 0 = λ z. Mem z ds in subst P (sym e) h
 
 -- the next dart around a node is one of the set that leaves the same node
 pub next_member : (net : Net) (set : ℕ → Bool) (v d : ℕ) → InSet net set d → tail_of net.graph d ≡ v → Mem (next_around net set d) (around net set v)
-next_member net set v d h t = mem_at _ _ (around net set v) (next_is net set v d h.inside t) (next_stays (rank_end net v) (rank_of net v) d (around net set v) (around_from net set v d h t))
+next_member net set v d h t = mem_at _ _ (around net set v) (next_is net set v d h.inside t)
+    (next_stays (rank_end net v) (rank_of net v) d (around net set v) (around_from net set v d h t))
 
 -- the dart before it
 pub prev_around : Net → (ℕ → Bool) → ℕ → ℕ
 prev_around net set d = let v = tail_of net.graph d in before (rank_end net v) (rank_of net v) d (around net set v)
 
-pub prev_is : (net : Net) (set : ℕ → Bool) (v d : ℕ) → tail_of net.graph d ≡ v → prev_around net set d ≡ before (rank_end net v) (rank_of net v) d (around net set v)
+pub prev_is : (net : Net) (set : ℕ → Bool) (v d : ℕ) → tail_of net.graph d ≡ v →
+    prev_around net set d ≡ before (rank_end net v) (rank_of net v) d (around net set v)
 unfolding prev_around
 prev_is net set v d t = ap (λ w. before (rank_end net w) (rank_of net w) d (around net set w)) t
 
@@ -102,7 +108,9 @@ next_prev net set d h =
     let hx : Mem x cs = prev_member net set v d h refl in
     let hn : Mem (next_around net set x) cs = next_member net set v x (around_set net set v x hx) (around_tail net set v x hx) in
     let same : x ≡ before m r d cs = prev_is net set v d refl in
-    let e : next_around net set x ≡ next m r (before m r d cs) cs = next_is net set v x (around_set net set v x hx).inside (around_tail net set v x hx) ∙ ap (λ y. next m r y cs) same in
+    let e : next_around net set x ≡ next m r (before m r d cs) cs =
+    next_is net set v x (around_set net set v x hx).inside (around_tail net set v x hx) ∙
+    ap (λ y. next m r y cs) same in
     e ∙ next_before m r cs (on_circle net set v) d (around_from net set v d h refl) (mem_at _ _ cs (sym same) hx) (mem_at _ _ cs (sym e) hn)
 
 -- ---- along the faces
@@ -123,7 +131,8 @@ face_set net set d h =
 
 -- the tail of the next dart of a face is the other end of this one
 pub face_tail : (net : Net) (set : ℕ → Bool) (d : ℕ) → InSet net set d → tail_of net.graph (next_in_face net set d) ≡ tail_of net.graph (twin_of d)
-face_tail net set d h = ap (tail_of net.graph) (face_in net set d h.chosen) ∙ around_tail net set _ _ (next_member net set _ (twin_of d) (twin_set net set d h) refl)
+face_tail net set d h = ap (tail_of net.graph) (face_in net set d h.chosen) ∙
+    around_tail net set _ _ (next_member net set _ (twin_of d) (twin_set net set d h) refl)
 
 pub face_back : Net → (ℕ → Bool) → ℕ → ℕ
 face_back net set d = cond (set (d / 2)) (twin_of (prev_around net set d)) d
@@ -155,13 +164,17 @@ face_permutes net set = record {
   back = λ d h. elim (cases_Bool (set (d / 2))) [
     | inl t ↦
         let k : InSet net set d = record { inside = h; chosen = t } in
-        back_in net set _ (face_set net set d k).chosen ∙ ap (λ x. twin_of (prev_around net set x)) (face_in net set d t) ∙ ap twin_of (prev_next net set (twin_of d) (twin_set net set d k)) ∙ twin_twin d
+        back_in net set _ (face_set net set d k).chosen ∙
+        ap (λ x. twin_of (prev_around net set x)) (face_in net set d t) ∙
+        ap twin_of (prev_next net set (twin_of d) (twin_set net set d k)) ∙ twin_twin d
     | inr t ↦ ap (face_back net set) (face_out net set d t) ∙ back_out net set d t
   ];
   forth = λ d h. elim (cases_Bool (set (d / 2))) [
     | inl t ↦
         let k : InSet net set d = record { inside = h; chosen = t } in
-        face_in net set _ (back_set net set d k).chosen ∙ ap (λ x. next_around net set (twin_of x)) (back_in net set d t) ∙ ap (next_around net set) (twin_twin (prev_around net set d)) ∙ next_prev net set d k
+        face_in net set _ (back_set net set d k).chosen ∙
+        ap (λ x. next_around net set (twin_of x)) (back_in net set d t) ∙
+        ap (next_around net set) (twin_twin (prev_around net set d)) ∙ next_prev net set d k
     | inr t ↦ ap (next_in_face net set) (back_out net set d t) ∙ face_out net set d t
   ];
 }

@@ -28,7 +28,9 @@ none_before net set v d x k l =
     let hx : Mem x cs = around_from net set v x (record { inside = l.inside; chosen = l.chosen }) l.tail in
     let hc : Mem c cs = next_member net set v d here k.tail in
     let near : turn m r d c ≤ turn m r d x = omega (arith, ap (turn m r d) (next_is net set v d k.inside k.tail), next_least m r d cs x hx) in
-    met_turn net v m r (ranked net v) d x c (record { inside = k.inside; tail = k.tail }) (record { inside = l.inside; tail = l.tail }) (record { inside = (around_set net set v c hc).inside; tail = around_tail net set v c hc }) ∙ le-ltb _ _ near
+    met_turn net v m r (ranked net v) d x c (record { inside = k.inside; tail = k.tail })
+    (record { inside = l.inside; tail = l.tail }) (record
+    { inside = (around_set net set v c hc).inside; tail = around_tail net set v c hc }) ∙ le-ltb _ _ near
 
 pub comes_next : (net : Net) (set : ℕ → Bool) (v d : ℕ) → Leaves net set v d → ComesNext net set v d (next_around net set d)
 comes_next net set v d k =

@@ -1,5 +1,6 @@
 -- The darts of one node in the order of their ports, and what is met first when turning.
-use Rattle.std.proofs.Common.{arith, ◌≡◌, ◌≢◌, ℕ, zero, suc, ◌+◌, ◌*◌, ◌/◌, ◌<◌, ◌≤◌, ◌==◌, ◌&&◌, ◌||◌, refl, sym, ap, ◌∙◌, Bool, true, false, inl, inr, List, ◌∷◌, ltb, nat_lt, eq-eqb, length, subst}
+use Rattle.std.proofs.Common.{arith, ◌≡◌, ◌≢◌, ℕ, zero, suc, ◌+◌, ◌*◌, ◌/◌, ◌<◌, ◌≤◌, ◌==◌, ◌&&◌, ◌||◌, refl, sym, ap}
+use Rattle.std.proofs.Common.{◌∙◌, Bool, true, false, inl, inr, List, ◌∷◌, ltb, nat_lt, eq-eqb, length, subst}
 use Rattle.std.proofs.lemmas.Bool.{cases_lt, cases_eq, cases_Bool, lt-ltb, le-ltb, ne_eqb, eqb-true, cond-true, cond-false, and_from, true≢false, false≢true}
 use Rattle.std.specs.Ordering.{is_lt}
 use Rattle.std.specs.declared.cmp.Ordering.{Ordering}
@@ -47,7 +48,8 @@ strict net v =
     let at = λ (d : ℕ) (h : Mem d (darts_of net v)). eqb-true (tail_of net.graph d) v (member_is (λ x. tail_of net.graph x == v) (dart_count net) d h).1 in
     record {
       irrefl = λ d h. no_less _ (not_itself (port_of net d) (d / 2));
-      trans = λ a b c ha hb hc s t. ap is_lt (before_trans (port_of net a) (port_of net b) (port_of net c) (a / 2) (b / 2) (c / 2) (is_lt_less _ s) (is_lt_less _ t));
+      trans = λ a b c ha hb hc s t. ap is_lt (before_trans (port_of net a) (port_of net b) (port_of net c) (a / 2)
+          (b / 2) (c / 2) (is_lt_less _ s) (is_lt_less _ t));
       total = λ a b ha hb ne s.
           let apart : a / 2 ≢ b / 2 = λ q. ne (tails_apart net.graph a b q (at a ha ∙ sym (at b hb))) in
           elim (before_total (port_of net a) (port_of net b) (a / 2) (b / 2) apart) [
@@ -89,7 +91,8 @@ pub record IsAt (net : Net) (v d : ℕ) : Type 0 where
   pub inside : d < dart_count net
   pub tail : tail_of net.graph d ≡ v
 
-pub met_turn : (net : Net) (v m : ℕ) (r : ℕ → ℕ) → IsRanked net v m r → (d c e : ℕ) → IsAt net v d → IsAt net v c → IsAt net v e → is_met_before net d c e ≡ nat_lt (turn m r d c) (turn m r d e)
+pub met_turn : (net : Net) (v m : ℕ) (r : ℕ → ℕ) → IsRanked net v m r → (d c e : ℕ) → IsAt net v d → IsAt net v c →
+    IsAt net v e → is_met_before net d c e ≡ nat_lt (turn m r d c) (turn m r d e)
 met_turn net v m r k d c e hd hc he =
     let dc = k.order d c hd.inside hc.inside hd.tail hc.tail in
     let ce = k.order c e hc.inside he.inside hc.tail he.tail in
@@ -113,7 +116,8 @@ is_near net set v d = set (d / 2) && (tail_of net.graph d == v)
 at_same : (net : Net) (v d c : ℕ) → c ≡ d → IsAt net v c → IsAt net v d
 at_same net v d c e h = let P : ℕ → Type 0 = λ x. IsAt net v x in subst P e h
 
-first_near : (net : Net) (set : ℕ → Bool) (v m : ℕ) (r : ℕ → ℕ) → IsRanked net v m r → (d c n : ℕ) → IsAt net v d → IsAt net v n → c < dart_count net → set (c / 2) ≡ true → n ≡ next m r d (members (is_near net set v) c) →
+first_near : (net : Net) (set : ℕ → Bool) (v m : ℕ) (r : ℕ → ℕ) → IsRanked net v m r → (d c n : ℕ) → IsAt net v d →
+    IsAt net v n → c < dart_count net → set (c / 2) ≡ true → n ≡ next m r d (members (is_near net set v) c) →
     (first_met net d c n ≡ next m r d (members (is_near net set v) (suc c))) × IsAt net v (first_met net d c n)
 first_near net set v m r k d c n hd hn lc sc e = elim (cases_eq (tail_of net.graph c) v) [
   | inl t ↦
@@ -125,11 +129,21 @@ first_near net set v m r k d c n hd hn lc sc e = elim (cases_eq (tail_of net.gra
       elim (cases_lt (turn m r d c) (turn m r d n)) [
         | inl lt ↦
             let pick : first_met net d c n ≡ c = cond-true _ c n (and_from _ _ here (b ∙ lt-ltb _ _ lt)) in
-            let same : nearer m r d c (next m r d (members (is_near net set v) c)) ≡ c = rw (lt-ltb (turn m r d c) (turn m r d (next m r d (members (is_near net set v) c))) (omega (arith, lt, ap (turn m r d) e)), nearer) in
+            let same : nearer m r d c (next m r d (members (is_near net set v) c)) ≡ c =
+            rw (
+              lt-ltb (turn m r d c) (turn m r d (next m r d (members (is_near net set v) c)))
+                  (omega (arith, lt, ap (turn m r d) e)),
+              nearer,
+            ) in
             (pick ∙ sym same ∙ ap (next m r d) (sym more), at_same net v _ c (sym pick) hc)
         | inr ge ↦
             let pick : first_met net d c n ≡ n = cond-false _ c n (rw (here, b, le-ltb (turn m r d c) (turn m r d n) ge) refl) in
-            let same : nearer m r d c (next m r d (members (is_near net set v) c)) ≡ next m r d (members (is_near net set v) c) = rw (le-ltb (turn m r d c) (turn m r d (next m r d (members (is_near net set v) c))) (omega (arith, ge, ap (turn m r d) e)), nearer) in
+            let same : nearer m r d c (next m r d (members (is_near net set v) c)) ≡ next m r d
+            (members (is_near net set v) c) = rw (
+              le-ltb (turn m r d c)
+                  (turn m r d (next m r d (members (is_near net set v) c))) (omega (arith, ge, ap (turn m r d) e)),
+              nearer,
+            ) in
             (pick ∙ e ∙ sym same ∙ ap (next m r d) (sym more), at_same net v _ n (sym pick) hn)
       ]
   | inr t ↦
@@ -153,10 +167,16 @@ next_near net set v m r q d hd (suc k) h =
     elim (cases_Bool (set k)) [
       | inl t ↦
           let one = first_near net set v m r q d (2 * k) (next_below net set k d) hd rest.1 (omega arith) (ap set (first_half k) ∙ t) rest.0 in
-          let two = first_near net set v m r q d (2 * k + 1) (first_met net d (2 * k) (next_below net set k d)) hd one.1 (omega arith) (ap set (second_half k) ∙ t) (one.0 ∙ ap (λ n. next m r d (members (is_near net set v) n)) (sym odd)) in
-          (next_in net set k d t ∙ two.0 ∙ ap (λ n. next m r d (members (is_near net set v) n)) (ap suc odd ∙ sym size), at_same net v _ _ (sym (next_in net set k d t)) two.1)
+          let two = first_near net set v m r q d (2 * k + 1) (first_met net d (2 * k) (next_below net set k d)) hd one.1
+          (omega arith) (ap set (second_half k) ∙ t)
+          (one.0 ∙ ap (λ n. next m r d (members (is_near net set v) n)) (sym odd)) in (
+            next_in net set k d t ∙ two.0 ∙ ap (λ n. next m r d (members (is_near net set v) n)) (ap suc odd ∙ sym size),
+            at_same net v _ _ (sym (next_in net set k d t)) two.1,
+          )
       | inr t ↦
           let none : members (is_near net set v) (2 * suc k) ≡ members (is_near net set v) (2 * k) =
-          ap (members (is_near net set v)) size ∙ members_out (is_near net set v) (suc (2 * k)) (near_out net set v (suc (2 * k)) (ap set (omega arith) ∙ t)) ∙ members_out (is_near net set v) (2 * k) (near_out net set v (2 * k) (ap set (first_half k) ∙ t)) in
+          ap (members (is_near net set v)) size ∙ members_out (is_near net set v) (suc (2 * k))
+          (near_out net set v (suc (2 * k)) (ap set (omega arith) ∙ t)) ∙
+          members_out (is_near net set v) (2 * k) (near_out net set v (2 * k) (ap set (first_half k) ∙ t)) in
           (next_out net set k d t ∙ rest.0 ∙ ap (next m r d) (sym none), at_same net v _ _ (sym (next_out net set k d t)) rest.1)
     ]

@@ -1,5 +1,6 @@
 -- Walks and colourings.
-use Rattle.std.proofs.Common.{arith, lit≤, ◌^◌, ◌≡◌, ◌≢◌, ℕ, zero, suc, ◌+◌, ◌*◌, ◌%◌, ◌<◌, ◌≤◌, refl, ap, Bool, true, false, cond, inl, inr, ◌⊎◌, List, [], ◌∷◌, length, eq-eqb, get_or, ◌∙◌}
+use Rattle.std.proofs.Common.{arith, lit≤, ◌^◌, ◌≡◌, ◌≢◌, ℕ, zero, suc, ◌+◌, ◌*◌, ◌%◌, ◌<◌, ◌≤◌, refl, ap, Bool, true}
+use Rattle.std.proofs.Common.{false, cond, inl, inr, ◌⊎◌, List, [], ◌∷◌, length, eq-eqb, get_or, ◌∙◌}
 use Rattle.std.specs.Prelude.{count_by, All}
 use Rattle.std.proofs.lemmas.List.Sums.{sum_by-cons}
 use Rattle.std.proofs.lemmas.List.Elements.{All-head, All-tail, All-cons, All-nil, All-append, All-map, All-get_or, All-weaker}
@@ -70,7 +71,9 @@ step_parity g colours k e v h =
     let l = leaves_ends g e v h in
     let edge = edge_at g e in
     let col = colour_of colours in
-    let same : is_bond edge.kind ≡ true → col edge.a ≡ col edge.b = λ b. All-get_or (λ x. is_bond x.kind ≡ true → colour_of colours x.a ≡ colour_of colours x.b) g.edges e no_edge l.inside k.bonds b in
+    let same : is_bond edge.kind ≡ true → col edge.a ≡ col edge.b =
+    λ b. All-get_or (λ x. is_bond x.kind ≡ true → colour_of colours x.a ≡ colour_of colours x.b) g.edges e no_edge
+    l.inside k.bonds b in
     let p = edge_parity edge.kind (col edge.a) (col edge.b) same in
     elim l.ends [
       | inl t ↦ omega (arith, p, ap (λ z. bit (col z)) t.0, ap (λ z. bit (col z)) t.1)
@@ -83,7 +86,8 @@ path_parity g colours k v [] w h = omega (arith, ap (λ z. bit (colour_of colour
 path_parity g colours k v (e ∷ es) w h =
     let rest = path_parity g colours k (across (edge_at g e) v) es w h.1 in
     let here = step_parity g colours k e v h.0 in
-    let b : count_by (breaks_at g colours) (e ∷ es) ≡ bit (breaks_at g colours e) + count_by (breaks_at g colours) es = sum_by-cons (λ x. cond (breaks_at g colours x) 1 0) e es in
+    let b : count_by (breaks_at g colours) (e ∷ es) ≡ bit (breaks_at g colours e) + count_by (breaks_at g colours) es =
+    sum_by-cons (λ x. cond (breaks_at g colours x) 1 0) e es in
     let c : clashes g (e ∷ es) ≡ bit (is_clash (edge_at g e).kind) + clashes g es = sum_by-cons (λ x. cond (is_clash (edge_at g x).kind) 1 0) e es in
     omega (arith, rest, here, b, c)
 
@@ -103,12 +107,15 @@ passages_inside g (c ∷ cs) h =
     (All-map (λ p. p.0 < length g.edges) (λ e. (e, c.half)) c.walk.edges (path_inside g c.walk.start c.walk.edges c.walk.start one.closed.1))
     (passages_inside g cs (All-tail (λ x. IsOddWalk g x.walk) c cs h))
 
-each_odd : (g : Signed) (v : ℕ → Bool) → ((c : Cycle) → IsOddWalk g c.walk → 1 ≤ count_by v c.walk.edges) → (cs : List Cycle) → All (λ c. IsOddWalk g c.walk) cs → All (λ c. 1 ≤ count_by v c.walk.edges) cs
+each_odd : (g : Signed) (v : ℕ → Bool) → ((c : Cycle) → IsOddWalk g c.walk → 1 ≤ count_by v c.walk.edges) →
+    (cs : List Cycle) → All (λ c. IsOddWalk g c.walk) cs → All (λ c. 1 ≤ count_by v c.walk.edges) cs
 each_odd g v one cs h = All-weaker (λ c. IsOddWalk g c.walk) (λ c. 1 ≤ count_by v c.walk.edges) one cs h
 
 -- where each odd walk passes one of some edges that are no bonds, the bound is at most twice their weight
-pub bound_by_edges : (g : Signed) (v : ℕ → Bool) → ((c : Cycle) → IsOddWalk g c.walk → 1 ≤ count_by v c.walk.edges) → ((e : ℕ) → v e ≡ true → is_bond (edge_at g e).kind ≡ false) →
-    (cs : List Cycle) → All (λ c. IsOddWalk g c.walk) cs → IsWithin g (passages cs) → bound_of cs ≤ 2 * sum_to (λ e. cond (v e) (edge_at g e).weight 0) (length g.edges)
+pub bound_by_edges : (g : Signed) (v : ℕ → Bool) → ((c : Cycle) → IsOddWalk g c.walk → 1 ≤ count_by v c.walk.edges) →
+    ((e : ℕ) → v e ≡ true → is_bond (edge_at g e).kind ≡ false) →
+    (cs : List Cycle) → All (λ c. IsOddWalk g c.walk) cs → IsWithin g (passages cs) →
+    bound_of cs ≤ 2 * sum_to (λ e. cond (v e) (edge_at g e).weight 0) (length g.edges)
 bound_by_edges g v one firm cs odd within =
     let n = length g.edges in
     let passing = bound_passed v cs (each_odd g v one cs odd) in

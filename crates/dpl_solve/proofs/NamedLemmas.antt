@@ -1,5 +1,6 @@
 -- The odd faces of a part by their numbers and by their names are as many.
-use Rattle.std.proofs.Common.{arith, ◌≡◌, ◌≢◌, ℕ, zero, suc, ◌+◌, ◌*◌, ◌/◌, ◌%◌, ◌<◌, ◌≤◌, ◌==◌, ◌&&◌, refl, sym, ap, ◌∙◌, subst, Bool, true, false, cond, inl, inr, List, [], ◌∷◌, length, get_or, map, eq-eqb}
+use Rattle.std.proofs.Common.{arith, ◌≡◌, ◌≢◌, ℕ, zero, suc, ◌+◌, ◌*◌, ◌/◌, ◌%◌, ◌<◌, ◌≤◌, ◌==◌, ◌&&◌, refl, sym, ap}
+use Rattle.std.proofs.Common.{◌∙◌, subst, Bool, true, false, cond, inl, inr, List, [], ◌∷◌, length, get_or, map, eq-eqb}
 use Rattle.std.specs.Prelude.{All, AllPairs, filter, slice_index, nat_eq, ◌↔◌}
 use Rattle.std.specs.List.{range_with_len}
 use Rattle.std.proofs.lemmas.Bool.{cases_eq, cases_Bool, cond-true, cond-false, eqb-true, ne_eqb, and_parts, and_from}
@@ -67,7 +68,9 @@ same_into h xs ys apart inside =
     omega (
       arith,
       count,
-      length-le_from_is_member nat_eq_equiv images ys distinct (λ q m. All-contains (λ z. is_member nat_eq ys z ≡ true) images q all ((is_member-Decides Decides-eqb images q).0 m)),
+      length-le_from_is_member nat_eq_equiv images ys distinct
+          (λ q m. All-contains (λ z. is_member nat_eq ys z ≡ true) images q all
+          ((is_member-Decides Decides-eqb images q).0 m)),
     )
 
 member_range : (n q : ℕ) → q < n → is_member nat_eq (range_with_len 0 n) q ≡ true
@@ -159,24 +162,32 @@ number_below net d h = (is_map net).inside d h.below h.kept
 
 -- the part of two darts' faces is one
 one_part : (net : Net) (d : Dual) → IsDual net.graph (view_of net) d → (a b : ℕ) → IsDart net a → IsDart net b →
-    ((slice_index d.part (face_at net a) ≡ slice_index d.part (face_at net b)) ↔ AreOfOnePart net (keeps net) (face_of net (keeps net) a) (face_of net (keeps net) b))
+    ((slice_index d.part (face_at net a) ≡ slice_index d.part (face_at net b)) ↔ AreOfOnePart net (keeps net)
+    (face_of net (keeps net) a) (face_of net (keeps net) b))
 one_part net d k a b ha hb =
     let ways = crosses_below net.graph (view_of net) (length net.graph.edges) in
-    let numbered : (slice_index d.part (face_at net a) ≡ slice_index d.part (face_at net b)) ↔ AreLinked d.crosses (face_at net a) (face_at net b) = k.part (face_at net a) (face_at net b) (number_below net a ha) (number_below net b hb) in
-    let linked : AreLinked ways (face_at net a) (face_at net b) ↔ AreOfOnePart net (keeps net) (face_of net (keeps net) a) (face_of net (keeps net) b) = parts_by_name net (view_of net) (is_built net) a b ha.below hb.below ha.kept hb.kept in
+    let numbered : (slice_index d.part (face_at net a) ≡ slice_index d.part (face_at net b)) ↔ AreLinked d.crosses
+    (face_at net a) (face_at net b) = k.part (face_at net a) (face_at net b) (number_below net a ha)
+    (number_below net b hb) in
+    let linked : AreLinked ways (face_at net a) (face_at net b) ↔ AreOfOnePart net (keeps net)
+    (face_of net (keeps net) a) (face_of net (keeps net) b) =
+    parts_by_name net (view_of net) (is_built net) a b ha.below hb.below ha.kept hb.kept in
     let P : List Cross → Type 0 = λ z. AreLinked z (face_at net a) (face_at net b) in
     (λ e. linked.0 (subst P k.crosses (numbered.0 e)), λ p. numbered.1 (subst P (sym k.crosses) (linked.1 p)))
 
 -- ---- the odd faces of a part
 
 -- the number of an odd face is among those of its part
-number_in : (net : Net) (d : Dual) → IsDual net.graph (view_of net) d → (f : ℕ) → is_odd_named net (keeps net) f ≡ true → is_member nat_eq d.odd (number net f) ≡ true
+number_in : (net : Net) (d : Dual) → IsDual net.graph (view_of net) d → (f : ℕ) →
+    is_odd_named net (keeps net) f ≡ true → is_member nat_eq d.odd (number net f) ≡ true
 unfolding number
 number_in net d k f h =
     let r = dart_of_name net f h in
     let c = named_dart net f in
     let odd : is_odd_face net.graph (view_of net) (face_at net c) ≡ true = odd_face net c r.0 ∙ ap (is_odd_named net (keeps net)) r.1 ∙ h in
-    subst (λ z. is_member nat_eq z (face_at net c) ≡ true) (sym k.odd) (member_filter (is_odd_face net.graph (view_of net)) (range_with_len 0 (view_of net).faces) (face_at net c) (member_range (view_of net).faces (face_at net c) (number_below net c r.0)) odd)
+    subst (λ z. is_member nat_eq z (face_at net c) ≡ true) (sym k.odd)
+    (member_filter (is_odd_face net.graph (view_of net)) (range_with_len 0 (view_of net).faces) (face_at net c)
+    (member_range (view_of net).faces (face_at net c) (number_below net c r.0)) odd)
 
 number_apart : (net : Net) (f g : ℕ) → is_odd_named net (keeps net) f ≡ true → is_odd_named net (keeps net) g ≡ true → number net f ≡ number net g → f ≡ g
 unfolding number
@@ -185,16 +196,20 @@ number_apart net f g hf hg e =
     let rg = dart_of_name net g hg in
     sym rf.1 ∙ (same_face net (named_dart net f) (named_dart net g) rf.0 rg.0).0 e ∙ rg.1
 
-number_part : (net : Net) (d : Dual) → IsDual net.graph (view_of net) d → (f g : ℕ) → is_odd_named net (keeps net) f ≡ true → is_odd_named net (keeps net) g ≡ true → AreOfOnePart net (keeps net) f g → slice_index d.part (number net f) ≡ slice_index d.part (number net g)
+number_part : (net : Net) (d : Dual) → IsDual net.graph (view_of net) d → (f g : ℕ) →
+    is_odd_named net (keeps net) f ≡ true → is_odd_named net (keeps net) g ≡ true → AreOfOnePart net (keeps net) f g →
+    slice_index d.part (number net f) ≡ slice_index d.part (number net g)
 unfolding number
 number_part net d k f g hf hg p =
     let rf = dart_of_name net f hf in
     let rg = dart_of_name net g hg in
     let P : ℕ → ℕ → Type 0 = λ x y. AreOfOnePart net (keeps net) x y in
-    (one_part net d k (named_dart net f) (named_dart net g) rf.0 rg.0).1 (subst (λ x. P x (face_of net (keeps net) (named_dart net g))) (sym rf.1) (subst (P f) (sym rg.1) p))
+    (one_part net d k (named_dart net f) (named_dart net g) rf.0 rg.0).1
+    (subst (λ x. P x (face_of net (keeps net) (named_dart net g))) (sym rf.1) (subst (P f) (sym rg.1) p))
 
 -- odd faces of one part are no more than those of some part by number
-pub together_most : (net : Net) (d : Dual) → IsDual net.graph (view_of net) d → (n : ℕ) → ((q : ℕ) → length (odd_of d q) ≤ n) → (faces : List ℕ) → AreOddTogether net faces → length faces ≤ n
+pub together_most : (net : Net) (d : Dual) → IsDual net.graph (view_of net) d → (n : ℕ) →
+    ((q : ℕ) → length (odd_of d q) ≤ n) → (faces : List ℕ) → AreOddTogether net faces → length faces ≤ n
 together_most net d k n most [] t = omega arith
 together_most net d k n most (f ∷ fs) t =
     let faces = f ∷ fs in
@@ -213,10 +228,13 @@ together_most net d k n most (f ∷ fs) t =
 
 -- and as many have names
 odd_apart : (net : Net) (d : Dual) → IsDual net.graph (view_of net) d → AllPairs (λ x y. x ≢ y) d.odd
-odd_apart net d k = subst (AllPairs (λ x y. x ≢ y)) (sym k.odd) (AllPairs-filter (λ x y. x ≢ y) (is_odd_face net.graph (view_of net)) (range_with_len 0 (view_of net).faces) (range_apart (view_of net).faces))
+odd_apart net d k = subst (AllPairs (λ x y. x ≢ y)) (sym k.odd)
+    (AllPairs-filter (λ x y. x ≢ y) (is_odd_face net.graph (view_of net)) (range_with_len 0 (view_of net).faces)
+    (range_apart (view_of net).faces))
 
 odd_all : (net : Net) (d : Dual) → IsDual net.graph (view_of net) d → All (λ x. is_odd_face net.graph (view_of net) x ≡ true) d.odd
-odd_all net d k = subst (All (λ x. is_odd_face net.graph (view_of net) x ≡ true)) (sym k.odd) (filter_passes (is_odd_face net.graph (view_of net)) (range_with_len 0 (view_of net).faces))
+odd_all net d k = subst (All (λ x. is_odd_face net.graph (view_of net) x ≡ true)) (sym k.odd)
+    (filter_passes (is_odd_face net.graph (view_of net)) (range_with_len 0 (view_of net).faces))
 
 name_odd : (net : Net) (x : ℕ) → is_odd_face net.graph (view_of net) x ≡ true → is_odd_named net (keeps net) (name net x) ≡ true
 unfolding name
@@ -224,14 +242,17 @@ name_odd net x h =
     let r = dart_of_number net x h in
     sym (odd_face net (numbered_dart net x) r.0) ∙ ap (is_odd_face net.graph (view_of net)) r.1 ∙ h
 
-name_apart : (net : Net) (x y : ℕ) → is_odd_face net.graph (view_of net) x ≡ true → is_odd_face net.graph (view_of net) y ≡ true → name net x ≡ name net y → x ≡ y
+name_apart : (net : Net) (x y : ℕ) → is_odd_face net.graph (view_of net) x ≡ true →
+    is_odd_face net.graph (view_of net) y ≡ true → name net x ≡ name net y → x ≡ y
 unfolding name
 name_apart net x y hx hy e =
     let rx = dart_of_number net x hx in
     let ry = dart_of_number net y hy in
     sym rx.1 ∙ (same_face net (numbered_dart net x) (numbered_dart net y) rx.0 ry.0).1 e ∙ ry.1
 
-name_part : (net : Net) (d : Dual) → IsDual net.graph (view_of net) d → (x y : ℕ) → is_odd_face net.graph (view_of net) x ≡ true → is_odd_face net.graph (view_of net) y ≡ true → slice_index d.part x ≡ slice_index d.part y → AreOfOnePart net (keeps net) (name net x) (name net y)
+name_part : (net : Net) (d : Dual) → IsDual net.graph (view_of net) d → (x y : ℕ) →
+    is_odd_face net.graph (view_of net) x ≡ true → is_odd_face net.graph (view_of net) y ≡ true →
+    slice_index d.part x ≡ slice_index d.part y → AreOfOnePart net (keeps net) (name net x) (name net y)
 unfolding name
 name_part net d k x y hx hy e =
     let rx = dart_of_number net x hx in
@@ -251,7 +272,8 @@ part_together net d k q =
       apart = λ i j e l m same.
           let hi : i < length xs = omega (arith, l, m, count) in
           let hj : j < length xs = omega (arith, m, count) in
-          apart i j 0 l hj (name_apart net (get_or xs i 0) (get_or xs j 0) (odd i 0 hi) (odd j 0 hj) (sym (get_or-map (name net) xs i 0 e hi) ∙ same ∙ get_or-map (name net) xs j 0 e hj));
+          apart i j 0 l hj (name_apart net (get_or xs i 0) (get_or xs j 0) (odd i 0 hi) (odd j 0 hj)
+          (sym (get_or-map (name net) xs i 0 e hi) ∙ same ∙ get_or-map (name net) xs j 0 e hj));
       linked = λ i j e l m.
           let hi : i < length xs = omega (arith, l, m, count) in
           let hj : j < length xs = omega (arith, m, count) in
@@ -260,7 +282,8 @@ part_together net d k q =
           let one = eqb-true (slice_index d.part x) q (parts i 0 hi) ∙ sym (eqb-true (slice_index d.part y) q (parts j 0 hj)) in
           let P : ℕ → ℕ → Type 0 = λ a b. AreOfOnePart net (keeps net) a b in
           let linked : P (name net x) (name net y) = name_part net d k x y (odd i 0 hi) (odd j 0 hj) one in
-          subst (λ a. P a (get_or (map (name net) xs) j e)) (sym (get_or-map (name net) xs i 0 e hi)) (subst (P (name net x)) (sym (get_or-map (name net) xs j 0 e hj)) linked);
+          subst (λ a. P a (get_or (map (name net) xs) j e)) (sym (get_or-map (name net) xs i 0 e hi))
+          (subst (P (name net x)) (sym (get_or-map (name net) xs j 0 e hj)) linked);
     }
 
 -- the greatest number of odd faces of a part
@@ -289,4 +312,5 @@ odd_named_most net d k =
     (λ i j e l m same. apart i j e l m (name_apart net (get_or d.odd i e) (get_or d.odd j e) (odd i e (omega (arith, l, m))) (odd j e m) same))
     (λ i e l.
     let x = get_or d.odd i e in
-    member_filter (is_odd_named net (keeps net)) (range_with_len 0 (dart_count net)) (name net x) (member_range (dart_count net) (name net x) (name_below net x (odd i e l))) (name_odd net x (odd i e l)))
+    member_filter (is_odd_named net (keeps net)) (range_with_len 0 (dart_count net)) (name net x)
+    (member_range (dart_count net) (name net x) (name_below net x (odd i e l))) (name_odd net x (odd i e l)))

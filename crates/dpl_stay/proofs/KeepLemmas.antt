@@ -1,5 +1,6 @@
 -- Old colours laid over new ones on the components that are taken.
-use Rattle.std.proofs.Common.{arith, rules, ◌≡◌, ◌≢◌, ℕ, zero, suc, ◌<◌, ◌==◌, inl, inr, Bool, true, false, List, [], ◌∷◌, length, map, refl, sym, ap, subst, ◌∙◌, slice_index_or, replicate}
+use Rattle.std.proofs.Common.{arith, rules, ◌≡◌, ◌≢◌, ℕ, zero, suc, ◌<◌, ◌==◌, inl, inr, Bool, true, false, List, []}
+use Rattle.std.proofs.Common.{◌∷◌, length, map, refl, sym, ap, subst, ◌∙◌, slice_index_or, replicate}
 use Rattle.std.specs.Prelude.{Option, Some, None, All, is_none, if◌then◌else◌}
 use Rattle.std.proofs.lemmas.Bool.{cases_Bool, both_ways, eq-eqb, eqb-true}
 use Rattle.std.proofs.lemmas.List.{length-map, length-set, get_or-replicate}
@@ -34,7 +35,8 @@ ends_long edges twins fine (suc k) = elim (cases_Bool (is_none (at twins k))) [
   | inr t ↦ rw t (ends_long edges twins fine k)
 ]
 
-pub partners_long : (edges : List Edge) (twins partners : List (Option ℕ)) (fine : List Bool) (k : ℕ) → length (without_partners edges twins partners fine k) ≡ length fine
+pub partners_long : (edges : List Edge) (twins partners : List (Option ℕ)) (fine : List Bool) (k : ℕ) →
+    length (without_partners edges twins partners fine k) ≡ length fine
 partners_long edges twins partners fine zero = refl
 partners_long edges twins partners fine (suc k) = elim (cases_Bool (is_none (at twins k))) [
   | inl t ↦
@@ -45,12 +47,14 @@ partners_long edges twins partners fine (suc k) = elim (cases_Bool (is_none (at 
 ]
 
 pub fine_long : (n m : Net) (ps qs ts us : List (Option ℕ)) → length (fine_of n m ps qs ts us) ≡ length ps
-fine_long n m ps qs ts us = partners_long m.graph.edges us qs _ (length m.graph.edges) ∙ ends_long n.graph.edges ts (map has_partner ps) (length n.graph.edges) ∙ length-map ps has_partner
+fine_long n m ps qs ts us = partners_long m.graph.edges us qs _ (length m.graph.edges) ∙
+    ends_long n.graph.edges ts (map has_partner ps) (length n.graph.edges) ∙ length-map ps has_partner
 
 -- ---- which nodes are taken
 
 -- the taken nodes are those of components all of whose nodes are fine
-pub record AreTaken (f g : List Rect) (n m : Net) (ps qs ts us : List (Option ℕ)) (fine : List Bool) (number : List ℕ) (count' : ℕ) (taken : List Bool) : Type 0 where
+pub record AreTaken (f g : List Rect) (n m : Net) (ps qs ts us : List (Option ℕ)) (fine : List Bool) (number : List ℕ)
+    (count' : ℕ) (taken : List Bool) : Type 0 where
   pub matched : AreMatched f g n m ps qs ts us
   pub components : AreComponents n number
   pub within : All (λ c. c < count') number
@@ -60,7 +64,8 @@ pub record AreTaken (f g : List Rect) (n m : Net) (ps qs ts us : List (Option �
   pub each : (u : ℕ) → u < length fine → is_taken taken u
       ≡ slice_index_or (without_spoiled fine number (replicate count' true) (length fine)) (slice_index_or number u 0) false
 
-module _ (f g : List Rect) (n m : Net) (ps qs ts us : List (Option ℕ)) (fine : List Bool) (number : List ℕ) (count' : ℕ) (taken : List Bool) (h : AreTaken f g n m ps qs ts us fine number count' taken) where
+module _ (f g : List Rect) (n m : Net) (ps qs ts us : List (Option ℕ)) (fine : List Bool) (number : List ℕ) (count' : ℕ)
+    (taken : List Bool) (h : AreTaken f g n m ps qs ts us fine number count' taken) where
   -- a taken node is fine
   pub taken_fine : (v : ℕ) → v < n.graph.nodes → is_taken taken v ≡ true → IsFine f g n m ps qs ts us v
   taken_fine v l t =
@@ -84,11 +89,13 @@ module _ (f g : List Rect) (n m : Net) (ps qs ts us : List (Option ℕ)) (fine :
   same_taken v w l s =
       let c : slice_index_or number v 0 < count' = h.within v 0 (let k = h.components.long in omega (arith, l, k)) in
       let i : v < length fine = let e = h.fine_size in omega (arith, l, e) in
-      h.each v i ∙ spoiled_stay fine number (replicate count' true) (length fine) (slice_index_or number v 0) (get_or-replicate count' (slice_index_or number v 0) true false c)
+      h.each v i ∙ spoiled_stay fine number (replicate count' true) (length fine) (slice_index_or number v 0)
+      (get_or-replicate count' (slice_index_or number v 0) true false c)
       (λ u k e.
       let low : u < n.graph.nodes = let z = h.fine_size in omega (arith, k, z) in
       ap (λ xs. slice_index_or xs u false) h.fine_is
-      ∙ fine_left f g n m ps qs ts us u (same_fine f g n m ps qs ts us h.matched v w s u (low, sym (one_number n number h.components v u l low) ∙ eq-eqb _ _ e)))
+      ∙ fine_left f g n m ps qs ts us u (same_fine f g n m ps qs ts us h.matched v w s u
+      (low, sym (one_number n number h.components v u l low) ∙ eq-eqb _ _ e)))
 
   -- what is taken stays
   pub are_staying : AreStaying f g n m ps taken
@@ -97,7 +104,10 @@ module _ (f g : List Rect) (n m : Net) (ps qs ts us : List (Option ℕ)) (fine :
     partners_long = h.matched.partners.long ∙ sym h.matched.nets.new_nodes;
     closed = taken_closed;
     partner = λ v l t. let k = taken_fine v l t in (k.partner, k.is);
-    part = λ part node edge p own. ((λ j. number_or_zero (at ts (edge j))), old_part f g n m ps qs ts us h.matched part node edge p (λ i l. taken_fine (node i) (p.nodes i l) (own i l)));
+    part = λ part node edge p own. (
+      (λ j. number_or_zero (at ts (edge j))),
+      old_part f g n m ps qs ts us h.matched part node edge p (λ i l. taken_fine (node i) (p.nodes i l) (own i l)),
+    );
     same = λ v w l k s e. (
       same_taken v w l s,
       partner_found f g ps h.matched.partners h.matched.nets.old_order v w
@@ -109,7 +119,8 @@ module _ (f g : List Rect) (n m : Net) (ps qs ts us : List (Option ℕ)) (fine :
 
 module _ (f g : List Rect) (n m : Net) (ps : List (Option ℕ)) (taken before after mixed : List Bool) (h : AreStaying f g n m ps taken)
     (each : (v : ℕ) → v < n.graph.nodes → colour_of mixed v ≡ chosen (is_taken taken v) (at ps v) before (colour_of after v)) where
-  pub kept_colour : (v w : ℕ) → v < n.graph.nodes → w < m.graph.nodes → AreSame f g n m v w → corners_at f v ≡ corners_at g w → colour_of mixed v ≡ colour_of before w
+  pub kept_colour : (v w : ℕ) → v < n.graph.nodes → w < m.graph.nodes → AreSame f g n m v w →
+      corners_at f v ≡ corners_at g w → colour_of mixed v ≡ colour_of before w
   kept_colour v w l k s e =
       let (t, p) = h.same v w l k s e in
       each v l ∙ ap (λ t. chosen t (at ps v) before (colour_of after v)) t ∙ ap (λ o. chosen true o before (colour_of after v)) p

@@ -1,5 +1,6 @@
 -- What is not taken out.
-use Rattle.std.proofs.Common.{arith, rules, ◌≡◌, ◌≢◌, ℕ, zero, suc, ◌<◌, inl, inr, Bool, true, false, List, length, refl, sym, ap, subst, ◌∙◌, slice_index_or, slice_set}
+use Rattle.std.proofs.Common.{arith, rules, ◌≡◌, ◌≢◌, ℕ, zero, suc, ◌<◌, inl, inr, Bool, true, false, List, length}
+use Rattle.std.proofs.Common.{refl, sym, ap, subst, ◌∙◌, slice_index_or, slice_set}
 use Rattle.std.specs.Prelude.{Option, Some, None, is_none, if◌then◌else◌}
 use Rattle.std.proofs.lemmas.Bool.{cases_eq, cases_lt, cases_Bool, both_ways}
 use Rattle.std.proofs.lemmas.List.{get_or-set_same, get_or-set_other, get_or_past, length-set}
@@ -48,10 +49,12 @@ ends_keep edges twins fine (suc k) v t = by_test (ends_keep edges twins fine k v
   Answer = (slice_index_or fine v false ≡ true) × ((e : ℕ) → e < suc k → is_none (at twins e) ≡ true → ((edge_in edges e).a ≢ v) × ((edge_in edges e).b ≢ v))
 
   Earlier : Type 0
-  Earlier = slice_index_or (without_ends edges twins fine k) v false ≡ true → (slice_index_or fine v false ≡ true) × ((e : ℕ) → e < k → is_none (at twins e) ≡ true → ((edge_in edges e).a ≢ v) × ((edge_in edges e).b ≢ v))
+  Earlier = slice_index_or (without_ends edges twins fine k) v false ≡ true → (slice_index_or fine v false ≡ true) ×
+      ((e : ℕ) → e < k → is_none (at twins e) ≡ true → ((edge_in edges e).a ≢ v) × ((edge_in edges e).b ≢ v))
 
   by_test : Earlier → (b : Bool) → is_none (at twins k) ≡ b
-      → slice_index_or (if b then slice_set (slice_set (without_ends edges twins fine k) (edge_in edges k).a false) (edge_in edges k).b false else without_ends edges twins fine k) v false ≡ true → Answer
+      → slice_index_or (if b then slice_set (slice_set (without_ends edges twins fine k) (edge_in edges k).a false)
+      (edge_in edges k).b false else without_ends edges twins fine k) v false ≡ true → Answer
   by_test earlier true is u =
       let (w, second) = set_keeps _ (edge_in edges k).b v u in
       let (x, first) = set_keeps _ (edge_in edges k).a v w in
@@ -72,28 +75,37 @@ ends_keep edges twins fine (suc k) v t = by_test (ends_keep edges twins fine k v
       )
 
 pub ends_stay : (edges : List Edge) (twins : List (Option ℕ)) (fine : List Bool) (k v : ℕ) → slice_index_or fine v false ≡ true
-    → ((e : ℕ) → e < k → is_none (at twins e) ≡ true → ((edge_in edges e).a ≢ v) × ((edge_in edges e).b ≢ v)) → slice_index_or (without_ends edges twins fine k) v false ≡ true
+    → ((e : ℕ) → e < k → is_none (at twins e) ≡ true → ((edge_in edges e).a ≢ v) × ((edge_in edges e).b ≢ v)) →
+    slice_index_or (without_ends edges twins fine k) v false ≡ true
 ends_stay edges twins fine zero v t h = t
 ends_stay edges twins fine (suc k) v t h = by_test (ends_stay edges twins fine k v t (λ e l. h e (omega (arith, l)))) (is_none (at twins k)) refl where
   by_test : slice_index_or (without_ends edges twins fine k) v false ≡ true → (b : Bool) → is_none (at twins k) ≡ b
-      → slice_index_or (if b then slice_set (slice_set (without_ends edges twins fine k) (edge_in edges k).a false) (edge_in edges k).b false else without_ends edges twins fine k) v false ≡ true
+      → slice_index_or (if b then slice_set (slice_set (without_ends edges twins fine k) (edge_in edges k).a false)
+      (edge_in edges k).b false else without_ends edges twins fine k) v false ≡ true
   by_test before true is = let (first, second) = h k (omega arith) is in set_stays _ _ v (set_stays _ _ v before first) second
   by_test before false is = before
 
 -- ---- the partners of such ends
 
-pub partners_keep : (edges : List Edge) (twins partners : List (Option ℕ)) (fine : List Bool) (k v : ℕ) → slice_index_or (without_partners edges twins partners fine k) v false ≡ true
-    → (slice_index_or fine v false ≡ true) × ((e : ℕ) → e < k → is_none (at twins e) ≡ true → (at partners (edge_in edges e).a ≢ Some v) × (at partners (edge_in edges e).b ≢ Some v))
+pub partners_keep : (edges : List Edge) (twins partners : List (Option ℕ)) (fine : List Bool) (k v : ℕ) →
+    slice_index_or (without_partners edges twins partners fine k) v false ≡ true
+    → (slice_index_or fine v false ≡ true) × ((e : ℕ) → e < k → is_none (at twins e) ≡ true →
+    (at partners (edge_in edges e).a ≢ Some v) × (at partners (edge_in edges e).b ≢ Some v))
 partners_keep edges twins partners fine zero v t = (t, λ e l. absurd (omega (arith, l)))
 partners_keep edges twins partners fine (suc k) v t = by_test (partners_keep edges twins partners fine k v) (is_none (at twins k)) refl t where
   Answer : Type 0
-  Answer = (slice_index_or fine v false ≡ true) × ((e : ℕ) → e < suc k → is_none (at twins e) ≡ true → (at partners (edge_in edges e).a ≢ Some v) × (at partners (edge_in edges e).b ≢ Some v))
+  Answer = (slice_index_or fine v false ≡ true) × ((e : ℕ) → e < suc k → is_none (at twins e) ≡ true →
+      (at partners (edge_in edges e).a ≢ Some v) × (at partners (edge_in edges e).b ≢ Some v))
 
   Earlier : Type 0
-  Earlier = slice_index_or (without_partners edges twins partners fine k) v false ≡ true → (slice_index_or fine v false ≡ true) × ((e : ℕ) → e < k → is_none (at twins e) ≡ true → (at partners (edge_in edges e).a ≢ Some v) × (at partners (edge_in edges e).b ≢ Some v))
+  Earlier = slice_index_or (without_partners edges twins partners fine k) v false ≡ true →
+      (slice_index_or fine v false ≡ true) × ((e : ℕ) → e < k → is_none (at twins e) ≡ true →
+      (at partners (edge_in edges e).a ≢ Some v) × (at partners (edge_in edges e).b ≢ Some v))
 
   by_test : Earlier → (b : Bool) → is_none (at twins k) ≡ b
-      → slice_index_or (if b then unset (unset (without_partners edges twins partners fine k) (at partners (edge_in edges k).a)) (at partners (edge_in edges k).b) else without_partners edges twins partners fine k) v false ≡ true → Answer
+      → slice_index_or (if b then unset (unset (without_partners edges twins partners fine k)
+      (at partners (edge_in edges k).a)) (at partners (edge_in edges k).b) else without_partners edges twins
+      partners fine k) v false ≡ true → Answer
   by_test earlier true is u =
       let (w, second) = unset_keeps _ (at partners (edge_in edges k).b) v u in
       let (x, first) = unset_keeps _ (at partners (edge_in edges k).a) v w in
@@ -114,13 +126,19 @@ partners_keep edges twins partners fine (suc k) v t = by_test (partners_keep edg
       )
 
 pub partners_stay : (edges : List Edge) (twins partners : List (Option ℕ)) (fine : List Bool) (k v : ℕ) → slice_index_or fine v false ≡ true
-    → ((e : ℕ) → e < k → is_none (at twins e) ≡ true → (at partners (edge_in edges e).a ≢ Some v) × (at partners (edge_in edges e).b ≢ Some v)) → slice_index_or (without_partners edges twins partners fine k) v false ≡ true
+    → ((e : ℕ) → e < k → is_none (at twins e) ≡ true → (at partners (edge_in edges e).a ≢ Some v) ×
+    (at partners (edge_in edges e).b ≢ Some v)) → slice_index_or (without_partners edges twins partners fine k) v
+    false ≡ true
 partners_stay edges twins partners fine zero v t h = t
-partners_stay edges twins partners fine (suc k) v t h = by_test (partners_stay edges twins partners fine k v t (λ e l. h e (omega (arith, l)))) (is_none (at twins k)) refl where
-  by_test : slice_index_or (without_partners edges twins partners fine k) v false ≡ true → (b : Bool) → is_none (at twins k) ≡ b
-      → slice_index_or (if b then unset (unset (without_partners edges twins partners fine k) (at partners (edge_in edges k).a)) (at partners (edge_in edges k).b) else without_partners edges twins partners fine k) v false ≡ true
-  by_test before true is = let (first, second) = h k (omega arith) is in unset_stays _ _ v (unset_stays _ _ v before first) second
-  by_test before false is = before
+partners_stay edges twins partners fine (suc k) v t h =
+    by_test (partners_stay edges twins partners fine k v t (λ e l. h e (omega (arith, l)))) (is_none (at twins k)) refl
+  where
+    by_test : slice_index_or (without_partners edges twins partners fine k) v false ≡ true → (b : Bool) → is_none (at twins k) ≡ b
+        → slice_index_or (if b then unset (unset (without_partners edges twins partners fine k)
+        (at partners (edge_in edges k).a)) (at partners (edge_in edges k).b) else without_partners edges twins
+        partners fine k) v false ≡ true
+    by_test before true is = let (first, second) = h k (omega arith) is in unset_stays _ _ v (unset_stays _ _ v before first) second
+    by_test before false is = before
 
 -- ---- the numbers of components
 
@@ -129,10 +147,13 @@ pub spoiled_keep : (fine : List Bool) (number : List ℕ) (whole : List Bool) (k
 spoiled_keep fine number whole zero c t v l of = absurd (omega (arith, l))
 spoiled_keep fine number whole (suc k) c t v l of = by_test (spoiled_keep fine number whole k c) (slice_index_or fine k false) refl t where
   Earlier : Type 0
-  Earlier = slice_index_or (without_spoiled fine number whole k) c false ≡ true → (v : ℕ) → v < k → slice_index_or number v 0 ≡ c → slice_index_or fine v false ≡ true
+  Earlier = slice_index_or (without_spoiled fine number whole k) c false ≡ true → (v : ℕ) → v < k →
+      slice_index_or number v 0 ≡ c → slice_index_or fine v false ≡ true
 
   by_test : Earlier → (b : Bool) → slice_index_or fine k false ≡ b
-      → slice_index_or (if b then without_spoiled fine number whole k else slice_set (without_spoiled fine number whole k) (slice_index_or number k 0) false) c false ≡ true → slice_index_or fine v false ≡ true
+      → slice_index_or (if b then without_spoiled fine number whole k else slice_set
+      (without_spoiled fine number whole k) (slice_index_or number k 0) false) c false ≡ true →
+      slice_index_or fine v false ≡ true
   by_test earlier true is u = elim (cases_eq v k) [
     | inl same ↦ ap (λ z. slice_index_or fine z false) same ∙ is
     | inr other ↦ earlier u v (omega (arith, l, other)) of
@@ -145,10 +166,13 @@ spoiled_keep fine number whole (suc k) c t v l of = by_test (spoiled_keep fine n
       ]
 
 pub spoiled_stay : (fine : List Bool) (number : List ℕ) (whole : List Bool) (k c : ℕ) → slice_index_or whole c false ≡ true
-    → ((v : ℕ) → v < k → slice_index_or number v 0 ≡ c → slice_index_or fine v false ≡ true) → slice_index_or (without_spoiled fine number whole k) c false ≡ true
+    → ((v : ℕ) → v < k → slice_index_or number v 0 ≡ c → slice_index_or fine v false ≡ true) →
+    slice_index_or (without_spoiled fine number whole k) c false ≡ true
 spoiled_stay fine number whole zero c t h = t
-spoiled_stay fine number whole (suc k) c t h = by_test (spoiled_stay fine number whole k c t (λ v l. h v (omega (arith, l)))) (slice_index_or fine k false) refl where
-  by_test : slice_index_or (without_spoiled fine number whole k) c false ≡ true → (b : Bool) → slice_index_or fine k false ≡ b
-      → slice_index_or (if b then without_spoiled fine number whole k else slice_set (without_spoiled fine number whole k) (slice_index_or number k 0) false) c false ≡ true
-  by_test before true is = before
-  by_test before false is = set_stays _ _ c before (λ e. both_ways _ is (h k (omega arith) e))
+spoiled_stay fine number whole (suc k) c t h = by_test
+    (spoiled_stay fine number whole k c t (λ v l. h v (omega (arith, l)))) (slice_index_or fine k false) refl where
+      by_test : slice_index_or (without_spoiled fine number whole k) c false ≡ true → (b : Bool) → slice_index_or fine k false ≡ b
+          → slice_index_or (if b then without_spoiled fine number whole k else slice_set
+          (without_spoiled fine number whole k) (slice_index_or number k 0) false) c false ≡ true
+      by_test before true is = before
+      by_test before false is = set_stays _ _ c before (λ e. both_ways _ is (h k (omega arith) e))

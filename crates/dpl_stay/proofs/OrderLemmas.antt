@@ -1,5 +1,6 @@
 -- The orders are strict, and what stands in order is found at one place.
-use Rattle.std.proofs.Common.{arith, rules, ◌≡◌, ℕ, zero, [], ◌∷◌, ◌<◌, ◌≤◌, ◌⊎◌, inl, inr, Bool, true, false, List, length, map, refl, sym, ap, subst, ◌∙◌, slice_index_or, ℤ, int_lt, ◌<ℤ◌, get_or}
+use Rattle.std.proofs.Common.{arith, rules, ◌≡◌, ℕ, zero, [], ◌∷◌, ◌<◌, ◌≤◌, ◌⊎◌, inl, inr, Bool, true, false, List}
+use Rattle.std.proofs.Common.{length, map, refl, sym, ap, subst, ◌∙◌, slice_index_or, ℤ, int_lt, ◌<ℤ◌, get_or}
 use Rattle.std.specs.Prelude.{AllPairs, nat_lt, if◌then◌else◌}
 use Rattle.std.proofs.lemmas.Int.{ints}
 use Rattle.std.proofs.lemmas.Bool.{cases_lt, cases_Bool, both_ways}

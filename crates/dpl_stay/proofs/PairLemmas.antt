@@ -18,15 +18,18 @@ some_one a b e = cc
 pub one_edge : (edges : List Edge) → AreEdgesInOrder edges → (d f : ℕ) → d < length edges → f < length edges
     → key_of (slice_index_or edges d no_edge) ≡ key_of (slice_index_or edges f no_edge) → d ≡ f
 one_edge edges up d f l m e = elim (cases_lt d f) [
-  | inl low ↦ absurd (both_ways _ (key_self (key_of (slice_index_or edges f no_edge))) (subst (λ k. key_before k (key_of (slice_index_or edges f no_edge)) ≡ true) e (up d f no_edge low m)))
+  | inl low ↦ absurd (both_ways _ (key_self (key_of (slice_index_or edges f no_edge)))
+      (subst (λ k. key_before k (key_of (slice_index_or edges f no_edge)) ≡ true) e (up d f no_edge low m)))
   | inr a ↦ elim (cases_lt f d) [
-    | inl low ↦ absurd (both_ways _ (key_self (key_of (slice_index_or edges f no_edge))) (subst (λ k. key_before (key_of (slice_index_or edges f no_edge)) k ≡ true) e (up f d no_edge low l)))
+    | inl low ↦ absurd (both_ways _ (key_self (key_of (slice_index_or edges f no_edge)))
+        (subst (λ k. key_before (key_of (slice_index_or edges f no_edge)) k ≡ true) e (up f d no_edge low l)))
     | inr b ↦ omega (arith, a, b)
   ]
 ]
 
 -- what is alike has the key that is looked for
-pub alike_key : (partners : List (Option ℕ)) (m : Net) (e : Edge) (p : Port × Port) (d a b : ℕ) → IsAlikeBy partners m e p d → at partners e.a ≡ Some a → at partners e.b ≡ Some b
+pub alike_key : (partners : List (Option ℕ)) (m : Net) (e : Edge) (p : Port × Port) (d a b : ℕ) →
+    IsAlikeBy partners m e p d → at partners e.a ≡ Some a → at partners e.b ≡ Some b
     → key_of (edge_at m.graph d) ≡ record { rank = rank_of e.kind; a = a; b = b }
 alike_key partners m e p d a b h ea eb =
     let x : (edge_at m.graph d).a ≡ a = some_one _ _ (sym h.first ∙ ea) in

@@ -1,5 +1,6 @@
 -- The components that are taken are a part of both nets, and each component that is the same is taken.
-use Rattle.std.proofs.Common.{arith, rules, ◌≡◌, ◌≢◌, ◌⊎◌, ℕ, zero, suc, ◌<◌, ◌==◌, inl, inr, Bool, true, false, List, length, map, refl, sym, ap, subst, ◌∙◌, slice_index_or, [], ◌∷◌, ◌+◌, ◌*◌}
+use Rattle.std.proofs.Common.{arith, rules, ◌≡◌, ◌≢◌, ◌⊎◌, ℕ, zero, suc, ◌<◌, ◌==◌, inl, inr, Bool, true, false, List}
+use Rattle.std.proofs.Common.{length, map, refl, sym, ap, subst, ◌∙◌, slice_index_or, [], ◌∷◌, ◌+◌, ◌*◌}
 use Rattle.std.specs.Prelude.{Option, Some, None, is_none, is_some}
 use Rattle.std.proofs.lemmas.Bool.{cases_eq, cases_lt, cases_Bool, both_ways, eq-eqb, eqb-true}
 use Rattle.std.proofs.lemmas.List.{get_or-map, length-map}
@@ -46,11 +47,13 @@ pub record IsFine (f g : List Rect) (n m : Net) (ps qs ts us : List (Option ℕ)
   pub partner : ℕ
   pub is : at ps v ≡ Some partner
   pub edges : (e : ℕ) → e < length n.graph.edges → ((edge_at n.graph e).a ≡ v) ⊎ ((edge_at n.graph e).b ≡ v) → (d : ℕ) × (at ts e ≡ Some d)
-  pub edges_back : (d : ℕ) → d < length m.graph.edges → (at qs (edge_at m.graph d).a ≡ Some v) ⊎ (at qs (edge_at m.graph d).b ≡ Some v) → (e : ℕ) × (at us d ≡ Some e)
+  pub edges_back : (d : ℕ) → d < length m.graph.edges → (at qs (edge_at m.graph d).a ≡ Some v) ⊎
+      (at qs (edge_at m.graph d).b ≡ Some v) → (e : ℕ) × (at us d ≡ Some e)
 
 -- the nodes that are left
 abbrev pub fine_of : Net → Net → List (Option ℕ) → List (Option ℕ) → List (Option ℕ) → List (Option ℕ) → List Bool
-fine_of n m ps qs ts us = without_partners m.graph.edges us qs (without_ends n.graph.edges ts (map has_partner ps) (length n.graph.edges)) (length m.graph.edges)
+fine_of n m ps qs ts us = without_partners m.graph.edges us qs
+    (without_ends n.graph.edges ts (map has_partner ps) (length n.graph.edges)) (length m.graph.edges)
 
 some_or_none : (o : Option ℕ) → ((v : ℕ) × (o ≡ Some v)) ⊎ (is_none o ≡ true)
 some_or_none None = inr refl
@@ -96,8 +99,16 @@ module _ (f g : List Rect) (n m : Net) (ps qs ts us : List (Option ℕ)) where
   pub fine_left : (v : ℕ) → IsFine f g n m ps qs ts us v → slice_index_or (fine_of n m ps qs ts us) v false ≡ true
   fine_left v k = partners_stay m.graph.edges us qs _ (length m.graph.edges) v
       (ends_stay n.graph.edges ts (map has_partner ps) (length n.graph.edges) v (partner_there ps v k.partner k.is)
-      (λ e l none. (λ x. let s = k.edges e l (inl x) in none_some (at ts e) s.0 none s.1, λ x. let s = k.edges e l (inr x) in none_some (at ts e) s.0 none s.1)))
-      (λ d l none. (λ x. let s = k.edges_back d l (inl x) in none_some (at us d) s.0 none s.1, λ x. let s = k.edges_back d l (inr x) in none_some (at us d) s.0 none s.1))
+      (λ e l none. (
+        λ x. let s = k.edges e l (inl x) in none_some (at ts e) s.0 none s.1,
+        λ x. let s =
+            k.edges e l (inr x) in none_some (at ts e) s.0 none s.1,
+      )))
+      (λ d l none. (
+        λ x. let s = k.edges_back d l (inl x) in none_some (at us d) s.0 none s.1,
+        λ x. let s =
+            k.edges_back d l (inr x) in none_some (at us d) s.0 none s.1,
+      ))
 
 -- ---- what partners and twins are
 
@@ -123,7 +134,8 @@ module _ (n m : Net) (ps ts : List (Option ℕ)) (h : AreTwinsBy ps n m ts) wher
   twin_is e d l is = subst (IsTwinBy ps m (edge_at n.graph e) (ports_at n e)) is (h.each e l)
 
   -- an edge has a twin where another is alike
-  pub twin_found : (e d : ℕ) → e < length n.graph.edges → d < length m.graph.edges → IsAlikeBy ps m (edge_at n.graph e) (ports_at n e) d → (x : ℕ) × (at ts e ≡ Some x)
+  pub twin_found : (e d : ℕ) → e < length n.graph.edges → d < length m.graph.edges →
+      IsAlikeBy ps m (edge_at n.graph e) (ports_at n e) d → (x : ℕ) × (at ts e ≡ Some x)
   twin_found e d l k a = elim (cases (at ts e)) [
     | inl s ↦ s
     | inr is ↦ absurd (subst (IsTwinBy ps m (edge_at n.graph e) (ports_at n e)) is (h.each e l) d k a)
@@ -177,13 +189,22 @@ module _ (f g : List Rect) (n m : Net) (ps qs ts us : List (Option ℕ)) (h : Ar
         | inl less ↦ less
         | inr x ↦ elim (cases_lt d' d) [
           | inl more ↦
-              let old : KeyBefore (key_of (edge_at m.graph d')) (key_of (edge_at m.graph d)) = key_from (key_of (edge_at m.graph d')) (key_of (edge_at m.graph d)) (h.nets.old_edges d' d no_edge more b) in
-              absurd (both_ways _ (key_self (key_of (edge_at n.graph e))) (key_down (key_of (edge_at n.graph e)) (key_of (edge_at n.graph e')) (key_of (edge_at n.graph e)) up (key_to (key_of (edge_at n.graph e')) (key_of (edge_at n.graph e)) (down a a' old))))
+              let old : KeyBefore (key_of (edge_at m.graph d')) (key_of (edge_at m.graph d)) =
+              key_from (key_of (edge_at m.graph d')) (key_of (edge_at m.graph d))
+              (h.nets.old_edges d' d no_edge more b) in
+              absurd (both_ways _ (key_self (key_of (edge_at n.graph e)))
+              (key_down (key_of (edge_at n.graph e)) (key_of (edge_at n.graph e')) (key_of (edge_at n.graph e)) up
+              (key_to (key_of (edge_at n.graph e')) (key_of (edge_at n.graph e)) (down a a' old))))
           | inr y ↦
               let same : d ≡ d' = omega (arith, x, y) in
-              let first : (edge_at n.graph e).a ≡ (edge_at n.graph e').a = one_partner _ _ (edge_at m.graph d).a (start_in e l) (start_in e' l') a.first (a'.first ∙ ap (λ z. Some (edge_at m.graph z).a) (sym same)) in
-              let second : (edge_at n.graph e).b ≡ (edge_at n.graph e').b = one_partner _ _ (edge_at m.graph d).b (end_in e l) (end_in e' l') a.second (a'.second ∙ ap (λ z. Some (edge_at m.graph z).b) (sym same)) in
-              let rank : rank_of (edge_at n.graph e).kind ≡ rank_of (edge_at n.graph e').kind = ap rank_of (sym a.kind ∙ ap (λ z. (edge_at m.graph z).kind) same ∙ a'.kind) in
+              let first : (edge_at n.graph e).a ≡ (edge_at n.graph e').a =
+              one_partner _ _ (edge_at m.graph d).a (start_in e l) (start_in e' l') a.first
+              (a'.first ∙ ap (λ z. Some (edge_at m.graph z).a) (sym same)) in
+              let second : (edge_at n.graph e).b ≡ (edge_at n.graph e').b =
+              one_partner _ _ (edge_at m.graph d).b (end_in e l) (end_in e' l') a.second
+              (a'.second ∙ ap (λ z. Some (edge_at m.graph z).b) (sym same)) in
+              let rank : rank_of (edge_at n.graph e).kind ≡ rank_of (edge_at n.graph e').kind =
+              ap rank_of (sym a.kind ∙ ap (λ z. (edge_at m.graph z).kind) same ∙ a'.kind) in
               let one : key_of (edge_at n.graph e) ≡ key_of (edge_at n.graph e') = rw (first, second, rank) refl in
               let z = one_edge n.graph.edges h.nets.new_edges e e' l l' one in
               absurd (omega (arith, z, low))
@@ -244,15 +265,19 @@ module _ (f g : List Rect) (n m : Net) (ps qs ts us : List (Option ℕ)) (h : Ar
     at_partner i l = let e = (fine i l).is in e ∙ ap (λ o. Some (number_or_zero o)) (sym e)
 
     at_twin : (j : ℕ) → j < length part.graph.edges → at ts (edge j) ≡ Some (number_or_zero (at ts (edge j)))
-    at_twin j l = let s = (fine (edge_at part.graph j).a (start_below part.graph j l)).edges (edge j) (p.edges j l) (inl (p.first j l)) in s.1 ∙ ap (λ o. Some (number_or_zero o)) (sym s.1)
+    at_twin j l = let s = (fine (edge_at part.graph j).a (start_below part.graph j l)).edges (edge j) (p.edges j l)
+        (inl (p.first j l)) in s.1 ∙ ap (λ o. Some (number_or_zero o)) (sym s.1)
 
-    alike : (j : ℕ) → j < length part.graph.edges → (number_or_zero (at ts (edge j)) < length m.graph.edges) × IsAlikeBy ps m (edge_at n.graph (edge j)) (ports_at n (edge j)) (number_or_zero (at ts (edge j)))
+    alike : (j : ℕ) → j < length part.graph.edges → (number_or_zero (at ts (edge j)) < length m.graph.edges) ×
+        IsAlikeBy ps m (edge_at n.graph (edge j)) (ports_at n (edge j)) (number_or_zero (at ts (edge j)))
     alike j l = twin_is n m ps ts h.twins (edge j) (number_or_zero (at ts (edge j))) (p.edges j l) (at_twin j l)
 
     pub old_part : IsPartOf part m (λ i. number_or_zero (at ps (node i))) (λ j. number_or_zero (at ts (edge j)))
     old_part = record {
       nodes = λ i l. let (b, same) = partner_is f g ps h.partners (node i) _ (node_in i l) (at_partner i l) in let k = h.nets.old_nodes in omega (arith, b, k);
-      apart = λ u v l k e. p.apart u v l k (one_partner f g n m ps qs ts us h (node u) (node v) (number_or_zero (at ps (node u))) (node_in u l) (node_in v k) (at_partner u l) (at_partner v k ∙ ap Some (sym e)));
+      apart = λ u v l k e. p.apart u v l k (one_partner f g n m ps qs ts us h (node u) (node v)
+          (number_or_zero (at ps (node u))) (node_in u l) (node_in v k) (at_partner u l)
+          (at_partner v k ∙ ap Some (sym e)));
       edges = λ j l. (alike j l).0;
       order = λ i j low l. let k : i < length part.graph.edges = omega (arith, low, l) in
           twins_rise f g n m ps qs ts us h (edge i) (edge j) _ _ (p.edges i k) (p.edges j l) (at_twin i k) (at_twin j l) (p.order i j low l);
@@ -286,9 +311,15 @@ one_back : (n : Net) (u v : ℕ) → are_one_component n u v ≡ true → are_on
 one_back n u v s = eq-eqb _ _ (sym (eqb-true _ _ s))
 
 module _ (f g : List Rect) (n m : Net) (ps qs ts us : List (Option ℕ)) (h : AreMatched f g n m ps qs ts us) (v w : ℕ) (s : AreSame f g n m v w) where
-  of_component : (n : Net) (v x e : ℕ) → e < length n.graph.edges → are_one_component n v x ≡ true → ((edge_at n.graph e).a ≡ x) ⊎ ((edge_at n.graph e).b ≡ x) → IsEdgeOf n v e
+  of_component : (n : Net) (v x e : ℕ) → e < length n.graph.edges → are_one_component n v x ≡ true →
+      ((edge_at n.graph e).a ≡ x) ⊎ ((edge_at n.graph e).b ≡ x) → IsEdgeOf n v e
   of_component n v x e l c (inl is) = (l, subst (λ z. are_one_component n v z ≡ true) (sym is) c)
-  of_component n v x e l c (inr is) = (l, one_chain n v (edge_at n.graph e).b (edge_at n.graph e).a (subst (λ z. are_one_component n v z ≡ true) (sym is) c) (one_back n (edge_at n.graph e).a (edge_at n.graph e).b (edge_joins n e l)))
+  of_component n v x e l c (inr is) = (
+    l,
+    one_chain n v (edge_at n.graph e).b (edge_at n.graph e).a
+        (subst (λ z. are_one_component n v z ≡ true) (sym is) c)
+        (one_back n (edge_at n.graph e).a (edge_at n.graph e).b (edge_joins n e l)),
+  )
 
   below_f : (x : ℕ) → x < n.graph.nodes → x < length f
   below_f x l = let k = h.nets.new_nodes in omega (arith, l, k)
@@ -304,8 +335,10 @@ module _ (f g : List Rect) (n m : Net) (ps qs ts us : List (Option ℕ)) (h : Ar
         edges = λ e l near.
             let (d, (ld, cd), a) = s.edges e (of_component n v x e l cx near) in
             twin_found n m ps ts h.twins e d l ld (record {
-              first = partner_found f g ps h.partners h.nets.old_order _ _ (below_f _ (start_below n.graph e l)) (below_g _ (start_below m.graph d ld)) (sym a.first);
-              second = partner_found f g ps h.partners h.nets.old_order _ _ (below_f _ (end_below n.graph e l)) (below_g _ (end_below m.graph d ld)) (sym a.second);
+              first = partner_found f g ps h.partners h.nets.old_order _ _ (below_f _ (start_below n.graph e l))
+                  (below_g _ (start_below m.graph d ld)) (sym a.first);
+              second = partner_found f g ps h.partners h.nets.old_order _ _ (below_f _ (end_below n.graph e l))
+                  (below_g _ (end_below m.graph d ld)) (sym a.second);
               kind = sym a.kind;
               weight = sym a.weight;
               ports = a.ports;

@@ -1,5 +1,6 @@
 -- Odd faces that are together in the whole are together in one part.
-use Rattle.std.proofs.Common.{arith, ◌≡◌, ℕ, zero, suc, ◌+◌, ◌/◌, ◌%◌, ◌<◌, ◌≤◌, ◌==◌, ◌&&◌, refl, sym, ap, subst, ◌∙◌, Bool, true, false, cond, inl, inr, List, [], ◌∷◌, length, map}
+use Rattle.std.proofs.Common.{arith, ◌≡◌, ℕ, zero, suc, ◌+◌, ◌/◌, ◌%◌, ◌<◌, ◌≤◌, ◌==◌, ◌&&◌, refl, sym, ap, subst, ◌∙◌}
+use Rattle.std.proofs.Common.{Bool, true, false, cond, inl, inr, List, [], ◌∷◌, length, map}
 use Rattle.std.specs.Prelude.{All, filter, slice_index_or}
 use Rattle.std.specs.List.{range_with_len}
 use Rattle.std.proofs.lemmas.Bool.{cases_eq, cases_lt, cases_Bool, cond-true, cond-false, ne_eqb, both_ways}
@@ -59,7 +60,8 @@ odd_name net set f t = elim (cases_eq (face_of net set f) f) [ inl e ↦ e | inr
 past_odd : (net : Net) (set : ℕ → Bool) (f : ℕ) → dart_count net ≤ f → is_odd_face net set f ≡ false
 past_odd net set f far =
     let m = dart_count net in
-    let none : passages_on_face net set (is_clash_edge net) f ≡ 0 = count_on_same m (λ d. set (d / 2) && (face_of net set d == f) && is_clash_edge net (d / 2)) (λ d. false) (λ d l.
+    let none : passages_on_face net set (is_clash_edge net) f ≡ 0 =
+    count_on_same m (λ d. set (d / 2) && (face_of net set d == f) && is_clash_edge net (d / 2)) (λ d. false) (λ d l.
     let r = ne_eqb (face_of net set d) f (λ e. let low = face_low net set d l in omega (arith, e, low, far)) in
     elim (cases_Bool (set (d / 2))) [ inl t ↦ rw (t, r) refl | inr t ↦ rw t refl ]) ∙ sums_to (λ d. false) (λ x. 1) m ∙ zeros m in
     ap (λ z. z % 2 == 1) none
@@ -74,38 +76,48 @@ module _ (p : Part) (whole : Net) (h : IsPartOf p.net whole p.node p.edge) where
   odd_is c l = odd_up p.net whole p.node p.edge h (keeps p.net) (keeps whole) (keeps_alike p.net whole p.node p.edge h) c l
 
   -- what is linked in the whole is linked in the part
-  link_down : (c d : ℕ) → c < dart_count p.net → d < dart_count p.net → face_at p.net c ≡ c → AreOfOnePart whole (keeps whole) (dart p.edge c) (dart p.edge d) → AreOfOnePart p.net (keeps p.net) c d
+  link_down : (c d : ℕ) → c < dart_count p.net → d < dart_count p.net → face_at p.net c ≡ c →
+      AreOfOnePart whole (keeps whole) (dart p.edge c) (dart p.edge d) → AreOfOnePart p.net (keeps p.net) c d
   link_down c d l m name linked =
       let up : face_at whole (dart p.edge c) ≡ dart p.edge c = face_name_up p whole h c l ∙ ap (dart p.edge) name in
-      let (x, lx, nx, way, at) = links_stay p.net whole p.node p.edge h c (dart p.edge d) l name (subst (λ z. AreOfOnePart whole (keeps whole) z (dart p.edge d)) (sym up) linked) in
+      let (x, lx, nx, way, at) = links_stay p.net whole p.node p.edge h c (dart p.edge d) l name
+      (subst (λ z. AreOfOnePart whole (keeps whole) z (dart p.edge d)) (sym up) linked) in
       let there : dart p.edge x ≡ dart p.edge d = ap (dart p.edge) (sym nx) ∙ sym (face_name_up p whole h x lx) ∙ at in
       subst (AreOfOnePart p.net (keeps p.net) c) (dart_apart p.net whole p.node p.edge h x d lx m there) way
 
-  link_up : (c d : ℕ) → c < dart_count p.net → d < dart_count p.net → face_at p.net c ≡ c → face_at p.net d ≡ d → AreOfOnePart p.net (keeps p.net) c d → AreOfOnePart whole (keeps whole) (dart p.edge c) (dart p.edge d)
+  link_up : (c d : ℕ) → c < dart_count p.net → d < dart_count p.net → face_at p.net c ≡ c → face_at p.net d ≡ d →
+      AreOfOnePart p.net (keeps p.net) c d → AreOfOnePart whole (keeps whole) (dart p.edge c) (dart p.edge d)
   link_up c d l m nc nd linked =
       let uc : face_at whole (dart p.edge c) ≡ dart p.edge c = face_name_up p whole h c l ∙ ap (dart p.edge) nc in
       let ud : face_at whole (dart p.edge d) ≡ dart p.edge d = face_name_up p whole h d m ∙ ap (dart p.edge) nd in
-      subst (λ z. AreOfOnePart whole (keeps whole) z (dart p.edge d)) uc (subst (AreOfOnePart whole (keeps whole) (face_at whole (dart p.edge c))) ud (links_alike p.net whole p.node p.edge h c d linked))
+      subst (λ z. AreOfOnePart whole (keeps whole) z (dart p.edge d)) uc
+      (subst (AreOfOnePart whole (keeps whole) (face_at whole (dart p.edge c))) ud
+      (links_alike p.net whole p.node p.edge h c d linked))
 
   -- odd faces of the part that are together are so in the whole
   pub together_up : (own : List ℕ) → AreOddTogether p.net own → AreOddTogether whole (map (dart p.edge) own)
   together_up own o =
       let f : ℕ → ℕ = dart p.edge in
       let size = length-map own f in
-      let low : (k d : ℕ) → k < length own → slice_index_or own k d < dart_count p.net = λ k d l. odd_low p.net (keeps p.net) (slice_index_or own k d) (o.odd k d l) in
-      let name : (k d : ℕ) → k < length own → face_at p.net (slice_index_or own k d) ≡ slice_index_or own k d = λ k d l. odd_name p.net (keeps p.net) (slice_index_or own k d) (o.odd k d l) in record {
+      let low : (k d : ℕ) → k < length own → slice_index_or own k d < dart_count p.net =
+      λ k d l. odd_low p.net (keeps p.net) (slice_index_or own k d) (o.odd k d l) in
+      let name : (k d : ℕ) → k < length own → face_at p.net (slice_index_or own k d) ≡ slice_index_or own k d =
+      λ k d l. odd_name p.net (keeps p.net) (slice_index_or own k d) (o.odd k d l) in record {
         odd = λ k d l.
             let m : k < length own = omega (arith, l, size) in
             ap (is_odd_face whole (keeps whole)) (get_or-map f own k 0 d m) ∙ odd_is (slice_index_or own k 0) (low k 0 m) ∙ o.odd k 0 m;
         apart = λ i j d s l.
             let m : j < length own = omega (arith, l, size) in
             let n : i < length own = omega (arith, m, s) in
-            λ e. o.apart i j 0 s m (dart_apart p.net whole p.node p.edge h _ _ (low i 0 n) (low j 0 m) (sym (get_or-map f own i 0 d n) ∙ e ∙ get_or-map f own j 0 d m));
+            λ e. o.apart i j 0 s m (dart_apart p.net whole p.node p.edge h _ _ (low i 0 n) (low j 0 m)
+            (sym (get_or-map f own i 0 d n) ∙ e ∙ get_or-map f own j 0 d m));
         linked = λ i j d s l.
             let m : j < length own = omega (arith, l, size) in
             let n : i < length own = omega (arith, m, s) in
             let up = link_up (slice_index_or own i 0) (slice_index_or own j 0) (low i 0 n) (low j 0 m) (name i 0 n) (name j 0 m) (o.linked i j 0 s m) in
-            subst (λ z. AreOfOnePart whole (keeps whole) z (slice_index_or (map f own) j d)) (sym (get_or-map f own i 0 d n)) (subst (AreOfOnePart whole (keeps whole) (f (slice_index_or own i 0))) (sym (get_or-map f own j 0 d m)) up);
+            subst (λ z. AreOfOnePart whole (keeps whole) z (slice_index_or (map f own) j d))
+            (sym (get_or-map f own i 0 d n)) (subst (AreOfOnePart whole (keeps whole) (f (slice_index_or own i 0)))
+            (sym (get_or-map f own j 0 d m)) up);
       }
 
   -- and those of the whole that are darts of the part are so in it
@@ -114,7 +126,9 @@ module _ (p : Part) (whole : Net) (h : IsPartOf p.net whole p.node p.edge) where
       let f : ℕ → ℕ = dart p.edge in
       let size = length-map own f in
       let odd : (k d : ℕ) → k < length own → is_odd_face p.net (keeps p.net) (slice_index_or own k d) ≡ true = λ k d l.
-      sym (odd_is (slice_index_or own k d) (low k d l)) ∙ ap (is_odd_face whole (keeps whole)) (sym (get_or-map f own k d (f d) l)) ∙ o.odd k (f d) (omega (arith, l, size)) in record {
+      sym (odd_is (slice_index_or own k d) (low k d l)) ∙
+      ap (is_odd_face whole (keeps whole)) (sym (get_or-map f own k d (f d) l)) ∙
+      o.odd k (f d) (omega (arith, l, size)) in record {
         odd = odd;
         apart = λ i j d s l.
             let n : i < length own = omega (arith, l, s) in
@@ -122,8 +136,11 @@ module _ (p : Part) (whole : Net) (h : IsPartOf p.net whole p.node p.edge) where
         linked = λ i j d s l.
             let n : i < length own = omega (arith, l, s) in
             let there = o.linked i j (f d) s (omega (arith, l, size)) in
-            link_down (slice_index_or own i d) (slice_index_or own j d) (low i d n) (low j d l) (odd_name p.net (keeps p.net) (slice_index_or own i d) (odd i d n))
-            (subst (λ z. AreOfOnePart whole (keeps whole) z (f (slice_index_or own j d))) (get_or-map f own i d (f d) n) (subst (AreOfOnePart whole (keeps whole) (slice_index_or (map f own) i (f d))) (get_or-map f own j d (f d) l) there));
+            link_down (slice_index_or own i d) (slice_index_or own j d) (low i d n) (low j d l)
+            (odd_name p.net (keeps p.net) (slice_index_or own i d) (odd i d n))
+            (subst (λ z. AreOfOnePart whole (keeps whole) z (f (slice_index_or own j d))) (get_or-map f own i d (f d) n)
+            (subst (AreOfOnePart whole (keeps whole) (slice_index_or (map f own) i (f d)))
+            (get_or-map f own j d (f d) l) there));
       }
 
 -- ---- the part that has them
@@ -175,7 +192,9 @@ in_one whole parts h f faces o =
       first_low p x l xs all (suc k) d m = all k d (omega (arith, m))
 
 -- no more odd faces are together in the whole than in some part
-pub most_sum : (whole : Net) (parts : List Part) → ShareOut whole parts → (n : ℕ) → All (λ p. (faces : List ℕ) → AreOddTogether p.net faces → length faces ≤ n) parts → (faces : List ℕ) → AreOddTogether whole faces → length faces ≤ n
+pub most_sum : (whole : Net) (parts : List Part) → ShareOut whole parts → (n : ℕ) →
+    All (λ p. (faces : List ℕ) → AreOddTogether p.net faces → length faces ≤ n) parts → (faces : List ℕ) →
+    AreOddTogether whole faces → length faces ≤ n
 most_sum whole parts h n each [] o = omega arith
 most_sum whole parts h n each (f ∷ faces) o =
     let s = in_one whole parts h f faces o in

@@ -28,7 +28,9 @@ itself net colours cycles = record { net = net; node = λ v. v; edge = λ e. e; 
 numbers_stay : (net : Net) (colours : List Bool) (all cs : List Cycle) → map (renumbered (itself net colours all)) cs ≡ cs
 numbers_stay net colours all [] = refl
 numbers_stay net colours all (c ∷ cs) =
-    let one : renumbered (itself net colours all) c ≡ c = ap (λ (es : List ℕ). record { half = c.half; walk = record { start = c.walk.start; edges = es } }) (map_same c.walk.edges) in
+    let one : renumbered (itself net colours all) c ≡ c =
+    ap (λ (es : List ℕ). record { half = c.half; walk = record { start = c.walk.start; edges = es } })
+    (map_same c.walk.edges) in
     ap (λ z. z ∷ map (renumbered (itself net colours all)) cs) one ∙ ap (λ zs. c ∷ zs) (numbers_stay net colours all cs)
 
 module _ (old new : Net) (same : AreSameNets old new) where
@@ -101,6 +103,8 @@ solved_stays old new same ec ey h =
     let s = solution_stays old.net new.net same old.colours _ _ _ old.cycles _ h in
     let between : Part = record { net = new.net; node = new.node; edge = new.edge; colours = old.colours; cycles = old.cycles } in
     let u = as_solved between _ _ _ _ s in
-    let P : List Bool → Type 0 = λ c. IsSolution new.net c (cost_of new.net.graph c) (aside_edges new.net) (excess new.net all_edges) old.cycles (bound_of old.cycles) in
-    let Q : List Cycle → Type 0 = λ y. IsSolution new.net new.colours (cost_of new.net.graph new.colours) (aside_edges new.net) (excess new.net all_edges) y (bound_of y) in
+    let P : List Bool → Type 0 = λ c. IsSolution new.net c (cost_of new.net.graph c) (aside_edges new.net)
+    (excess new.net all_edges) old.cycles (bound_of old.cycles) in
+    let Q : List Cycle → Type 0 = λ y. IsSolution new.net new.colours (cost_of new.net.graph new.colours)
+    (aside_edges new.net) (excess new.net all_edges) y (bound_of y) in
     subst Q (sym ey) (subst P (sym ec) u)

@@ -57,14 +57,19 @@ pub odd_faces_sum : (whole : Net) (parts : List Part) → ShareOut whole parts �
 odd_faces_sum whole parts h =
     odd_counted whole
     ∙ odd_sum whole parts h (keeps whole) (λ p. keeps p.net) (kept_alike whole parts h)
-    ∙ sym (sum_by_alike (λ p. length (odd_faces p.net)) (λ p. count_on (is_odd_face p.net (keeps p.net)) (dart_count p.net)) parts (λ k d l. let p = slice_index_or parts k d in odd_counted p.net))
+    ∙ sym (sum_by_alike (λ p. length (odd_faces p.net))
+    (λ p. count_on (is_odd_face p.net (keeps p.net)) (dart_count p.net)) parts
+    (λ k d l. let p = slice_index_or parts k d in odd_counted p.net))
 
-pub aside_sum : (whole : Net) (parts : List Part) → ShareOut whole parts → (colours : List Bool) → AgreeWith colours parts → aside_cost whole colours ≡ sum_by (λ p. aside_cost p.net p.colours) parts
+pub aside_sum : (whole : Net) (parts : List Part) → ShareOut whole parts → (colours : List Bool) →
+    AgreeWith colours parts → aside_cost whole colours ≡ sum_by (λ p. aside_cost p.net p.colours) parts
 aside_sum whole parts h colours agree =
     let all = cost_parted whole colours in
     let costs = cost_sum whole parts h colours agree in
     let kept : kept_cost whole colours ≡ sum_by (λ p. kept_cost p.net p.colours) parts = broken_sum whole parts h colours agree in
-    let each = sum_by_alike (λ p. cost_of p.net.graph p.colours) (λ p. kept_cost p.net p.colours + aside_cost p.net p.colours) parts (λ k d l. let p = slice_index_or parts k d in cost_parted p.net p.colours) in
+    let each = sum_by_alike (λ p. cost_of p.net.graph p.colours)
+    (λ p. kept_cost p.net p.colours + aside_cost p.net p.colours) parts
+    (λ k d l. let p = slice_index_or parts k d in cost_parted p.net p.colours) in
     let two = sum_by_two (λ p. kept_cost p.net p.colours) (λ p. aside_cost p.net p.colours) parts in
     omega (arith, all, costs, kept, each, two)
 
@@ -77,7 +82,9 @@ module _ (whole : Net) (parts : List Part) (h : ShareOut whole parts) (solved : 
       let o = slice_index_or p.cycles j c in
       let inside = walk_inside p.net o (s.packing.odd j c m) in
       let own = s.kept j c m in
-      All-map (λ e. keeps whole e ≡ true) p.edge o.walk.edges (λ i x b. keeps_alike p.net whole p.node p.edge (h.are k d l) (slice_index_or o.walk.edges i x) (inside i x b) ∙ own i x b))
+      All-map (λ e. keeps whole e ≡ true) p.edge o.walk.edges
+      (λ i x b. keeps_alike p.net whole p.node p.edge (h.are k d l) (slice_index_or o.walk.edges i x)
+      (inside i x b) ∙ own i x b))
 
   few_sum : length (all_cycles parts) ≤ face_count whole (keeps whole) + 2 * length (odd_faces whole)
   few_sum =
@@ -85,7 +92,8 @@ module _ (whole : Net) (parts : List Part) (h : ShareOut whole parts) (solved : 
       let each = sum_by_most (λ p. length p.cycles) (λ p. face_count p.net (keeps p.net) + 2 * length (odd_faces p.net)) parts (λ k d l. (solved k d l).few) in
       let two = sum_by_two (λ p. face_count p.net (keeps p.net)) (λ p. 2 * length (odd_faces p.net)) parts in
       let twice = sum_by_twice (λ p. length (odd_faces p.net)) parts in
-      let faces : face_count whole (keeps whole) ≡ sum_by (λ p. face_count p.net (keeps p.net)) parts = faces_sum whole parts h (keeps whole) (λ p. keeps p.net) (kept_alike whole parts h) in
+      let faces : face_count whole (keeps whole) ≡ sum_by (λ p. face_count p.net (keeps p.net)) parts =
+      faces_sum whole parts h (keeps whole) (λ p. keeps p.net) (kept_alike whole parts h) in
       let odd = odd_faces_sum whole parts h in
       omega (arith, n, each, two, twice, faces, odd)
 
@@ -115,7 +123,8 @@ module _ (whole : Net) (parts : List Part) (h : ShareOut whole parts) (solved : 
   }
 
 -- where a part is refused, and none has more odd faces in one part of its dual, the whole is refused so too
-pub refused_sum : (whole : Net) (parts : List Part) → ShareOut whole parts → (n : ℕ) → All (λ p. HasAtMost p.net n) parts → (p : Part) → Contains parts p → IsRefused p.net n → IsRefused whole n
+pub refused_sum : (whole : Net) (parts : List Part) → ShareOut whole parts → (n : ℕ) →
+    All (λ p. HasAtMost p.net n) parts → (p : Part) → Contains parts p → IsRefused p.net n → IsRefused whole n
 refused_sum whole parts h n each p among r = record {
   many = r.many;
   most = record {
@@ -127,7 +136,8 @@ refused_sum whole parts h n each p among r = record {
 }
 
 -- the same solution by numbers that are the same
-pub restated : (net : Net) (colours : List Bool) (cost cost' : ℕ) (aside aside' : List ℕ) (excess' excess'' : ℕ) (cycles cycles' : List Cycle) (bound bound' : ℕ)
+pub restated : (net : Net) (colours : List Bool) (cost cost' : ℕ) (aside aside' : List ℕ) (excess' excess'' : ℕ)
+    (cycles cycles' : List Cycle) (bound bound' : ℕ)
     → IsSolution net colours cost aside excess' cycles bound → cost' ≡ cost → aside' ≡ aside → excess'' ≡ excess' → cycles' ≡ cycles → bound' ≡ bound
     → IsSolution net colours cost' aside' excess'' cycles' bound'
 restated net colours cost cost' aside aside' excess' excess'' cycles cycles' bound bound' s ec ea ex ey eb =

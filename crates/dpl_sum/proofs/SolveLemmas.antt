@@ -1,5 +1,6 @@
 -- Parts solved one after another, and the net that they share out.
-use Rattle.std.proofs.Common.{arith, ◌≡◌, ◌⊎◌, ℕ, zero, suc, ◌-◌, ◌<◌, ◌≤◌, max, inl, inr, List, [], ◌∷◌, ◌++◌, length, map, refl, sym, ap, subst, ◌∙◌, length-append}
+use Rattle.std.proofs.Common.{arith, ◌≡◌, ◌⊎◌, ℕ, zero, suc, ◌-◌, ◌<◌, ◌≤◌, max, inl, inr, List, [], ◌∷◌, ◌++◌, length}
+use Rattle.std.proofs.Common.{map, refl, sym, ap, subst, ◌∙◌, length-append}
 use Rattle.std.specs.Prelude.{All, Contains, slice_index_or, IfOk, Result, Ok, Err}
 use Rattle.std.proofs.lemmas.Bool.{cases_eq, cases_lt}
 use Rattle.std.proofs.lemmas.List.{append-nil, append_assoc, map-append, length-map, get_or-map}
@@ -54,7 +55,8 @@ pick_at [] k l d = absurd (omega (arith, l))
 pick_at (x ∷ xs) zero l d = refl
 pick_at (x ∷ xs) (suc k) l d = pick_at xs k (omega (arith, l)) d
 
-pub edges_few : (whole : Net) (parts : List Gathered) (n : ℕ) → ShareOut whole (map part_of parts) → length whole.graph.edges ≤ n → All (λ p. length p.net.graph.edges ≤ n) parts
+pub edges_few : (whole : Net) (parts : List Gathered) (n : ℕ) → ShareOut whole (map part_of parts) →
+    length whole.graph.edges ≤ n → All (λ p. length p.net.graph.edges ≤ n) parts
 edges_few whole parts n h few k d l =
     let size = length-map parts part_of in
     let e : slice_index_or (map part_of parts) k (part_of d) ≡ part_of (slice_index_or parts k d) = get_or-map part_of parts k d (part_of d) l in
@@ -78,14 +80,22 @@ share_bare whole solved h =
     record {
       are = λ k d l.
           let low : k < length solved = omega (arith, l, m) in
-          let own : IsPartOf (bare_of (pick solved k low)).net whole (bare_of (pick solved k low)).node (bare_of (pick solved k low)).edge = subst (λ p. IsPartOf p.net whole p.node p.edge) (pick_is bare_of solved k low d) (h.are k d (omega (arith, low, n))) in
+          let own : IsPartOf (bare_of (pick solved k low)).net whole (bare_of (pick solved k low)).node
+          (bare_of (pick solved k low)).edge = subst (λ p. IsPartOf p.net whole p.node p.edge)
+          (pick_is bare_of solved k low d) (h.are k d (omega (arith, low, n))) in
           subst (λ p. IsPartOf p.net whole p.node p.edge) (sym (pick_is solved_part solved k low d)) own;
       apart = λ i j d s l.
           let low : j < length solved = omega (arith, l, m) in
           let under : i < length solved = omega (arith, low, s) in
-          let own : AreApart (bare_of (pick solved i under)) (bare_of (pick solved j low)) = subst (AreApart (bare_of (pick solved i under))) (pick_is bare_of solved j low d) (subst (λ p. AreApart p (slice_index_or (map bare_of solved) j d)) (pick_is bare_of solved i under d) (h.apart i j d s (omega (arith, low, n)))) in
+          let own : AreApart (bare_of (pick solved i under)) (bare_of (pick solved j low)) =
+          subst (AreApart (bare_of (pick solved i under))) (pick_is bare_of solved j low d)
+          (subst (λ p. AreApart p (slice_index_or (map bare_of solved) j d)) (pick_is bare_of solved i under d)
+          (h.apart i j d s (omega (arith, low, n)))) in
           let as_solved : AreApart (solved_part (pick solved i under)) (solved_part (pick solved j low)) = own in
-          subst (λ p. AreApart p (slice_index_or (map solved_part solved) j d)) (sym (pick_is solved_part solved i under d)) (subst (AreApart (solved_part (pick solved i under))) (sym (pick_is solved_part solved j low d)) as_solved);
+          subst (λ p. AreApart p (slice_index_or (map solved_part solved) j d))
+          (sym (pick_is solved_part solved i under d))
+          (subst (AreApart (solved_part (pick solved i under))) (sym (pick_is solved_part solved j low d))
+          as_solved);
       all = λ w l. in_solved w (h.all w l);
     } where
       in_solved : (w : ℕ) → IsInSome (map bare_of solved) w → IsInSome (map solved_part solved) w
@@ -99,9 +109,20 @@ share_bare whole solved h =
             let at : bare_of s ≡ i.part = sym (pick_is bare_of solved k low i.part) ∙ e in
             let b : i.own < (bare_of s).net.graph.nodes = subst (λ p. i.own < p.net.graph.nodes) (sym at) i.below in
             let is : (bare_of s).node i.own ≡ w = ap (λ (p : Part). p.node i.own) at ∙ i.is in
-            record { part = solved_part s; among = (k, omega (arith, low, m), pick_is solved_part solved k low (solved_part s)); own = i.own; below = b; is = is }
+            record {
+              part = solved_part s;
+              among = (
+                k,
+                omega (arith, low, m),
+                pick_is solved_part solved k low (solved_part s),
+              );
+              own = i.own;
+              below = b;
+              is = is;
+            }
 
-pub share_solved : (whole : Net) (parts : List Gathered) (solved : List SolvedPart) → ShareOut whole (map part_of parts) → map part_in solved ≡ parts → ShareOut whole (map solved_part solved)
+pub share_solved : (whole : Net) (parts : List Gathered) (solved : List SolvedPart) →
+    ShareOut whole (map part_of parts) → map part_in solved ≡ parts → ShareOut whole (map solved_part solved)
 share_solved whole parts solved h e = share_bare whole solved (subst (ShareOut whole) (ap (map part_of) (sym e) ∙ bare_map solved) h)
 
 pub all_solved : (solved : List SolvedPart) → All (λ s. IsSolved (solved_part s)) solved → All IsSolved (map solved_part solved)
@@ -112,7 +133,12 @@ refused_all whole parts n h r = found r.one.among where
   found : Contains parts r.one.part → IsRefused whole n
   found (k, l, e) =
       let size = length-map parts part_of in
-      refused_sum whole (map part_of parts) h n (All-map (λ p. HasAtMost p.net n) part_of parts r.at_most) (part_of r.one.part) (k, omega (arith, l, size), get_or-map part_of parts k r.one.part (part_of r.one.part) l ∙ ap part_of e) r.one.refused
+      refused_sum whole (map part_of parts) h n (All-map (λ p. HasAtMost p.net n) part_of parts r.at_most)
+      (part_of r.one.part) (
+        k,
+        omega (arith, l, size),
+        get_or-map part_of parts k r.one.part (part_of r.one.part) l ∙ ap part_of e,
+      ) r.one.refused
 
 -- ---- one part after another
 
@@ -140,7 +166,9 @@ at_end : {X : Type 0} (xs : List X) (x d : X) → slice_index_or (xs ++ x ∷ []
 at_end [] x d = refl
 at_end (y ∷ xs) x d = at_end xs x d
 
-pub one_solved : (parts : List Gathered) (solved new : List SolvedPart) (most : ℕ) (p : Gathered) (s : SolvedPart) → AreSolvedTo parts solved most → s.part ≡ p → IsSolved (solved_part s) → new ≡ solved ++ s ∷ [] → AreSolvedTo (parts ++ p ∷ []) new most
+pub one_solved : (parts : List Gathered) (solved new : List SolvedPart) (most : ℕ) (p : Gathered) (s : SolvedPart) →
+    AreSolvedTo parts solved most → s.part ≡ p → IsSolved (solved_part s) → new ≡ solved ++ s ∷ [] →
+    AreSolvedTo (parts ++ p ∷ []) new most
 one_solved parts solved new most p s h e own is = subst (λ zs. AreSolvedTo (parts ++ p ∷ []) zs most) (sym is) (record {
   each = All-push (λ z. IsSolved (solved_part z)) solved s h.each own;
   all = λ z. map-append part_in solved (s ∷ []) ∙ ap (λ zs. zs ++ part_in s ∷ []) (h.all z) ∙ ap (λ z. parts ++ z ∷ []) e;
@@ -150,7 +178,9 @@ one_solved parts solved new most p s h e own is = subst (λ zs. AreSolvedTo (par
   some = λ l. one_more parts p most (h.some l);
 })
 
-pub one_refused : (parts : List Gathered) (solved : List SolvedPart) (most new count : ℕ) (p : Gathered) → AreSolvedTo parts solved most → IsRefused p.net count → new ≡ max most count → AreSolvedTo (parts ++ p ∷ []) solved new
+pub one_refused : (parts : List Gathered) (solved : List SolvedPart) (most new count : ℕ) (p : Gathered) →
+    AreSolvedTo parts solved most → IsRefused p.net count → new ≡ max most count →
+    AreSolvedTo (parts ++ p ∷ []) solved new
 one_refused parts solved most new count p h r is =
     let many = r.many in record {
       each = h.each;
@@ -191,9 +221,12 @@ one_on xs rest more all y e r = append_assoc xs (y ∷ []) more ∙ ap (λ zs. x
 
 -- ---- refused exactly
 
-pub exact_again : (net : Net) (r : Result Solved SolveError) → IfOk r (λ s. IsSolution net s.solution.colours.items s.solution.cost s.solution.aside s.solution.excess s.solution.cycles s.solution.bound)
+pub exact_again : (net : Net) (r : Result Solved SolveError) →
+    IfOk r (λ s. IsSolution net s.solution.colours.items s.solution.cost s.solution.aside s.solution.excess
+    s.solution.cycles s.solution.bound)
     → ((n : ℕ) → r ≡ Err (OddFaces n) → IsRefused net n) → (n : ℕ) → IsRefused net n → (r ≡ Err (OddFaces n)) ⊎ (r ≡ Err NoMemory)
-exact_again net (Ok s) solved refused n h = let f = solved.parts h.most.faces h.most.are in let c = h.most.count in let m = h.many in absurd (omega (arith, m, f, c))
+exact_again net (Ok s) solved refused n h = let f = solved.parts h.most.faces h.most.are in let c = h.most.count in
+    let m = h.many in absurd (omega (arith, m, f, c))
 exact_again net (Err (OddFaces k)) solved refused n h =
     let o = refused k refl in
     let a = o.most.most h.most.faces h.most.are in

@@ -99,7 +99,8 @@ only a z w = let h = w.from in let g = w.to in omega signed
 at_only : (P : ℤ → Type 0) (a w : ℤ) → P a → w ≡ a → P w
 at_only P a w p e = rw e p
 
-start_of : (P : ℤ → Type 0) → ((z : ℤ) → P z ⊎ ¬ P z) → (low : ℤ) → ((z : ℤ) → z <ℤ low → ¬ P z) → (n : ℕ) (z : ℤ) → P z → z <ℤ (low +ℤ pos n) → (a : ℤ) × StartsAt P z a
+start_of : (P : ℤ → Type 0) → ((z : ℤ) → P z ⊎ ¬ P z) → (low : ℤ) → ((z : ℤ) → z <ℤ low → ¬ P z) → (n : ℕ) (z : ℤ) →
+    P z → z <ℤ (low +ℤ pos n) → (a : ℤ) × StartsAt P z a
 start_of P decide low none zero z p h = absurd (none z (omega signed) p)
 start_of P decide low none (suc n) z p h = elim (decide (z -ℤ pos 1)) [
   | inr q ↦ (z, record { from = omega signed; each = λ w v. at_only P z w p (only z w v); before = q })
@@ -108,13 +109,15 @@ start_of P decide low none (suc n) z p h = elim (decide (z -ℤ pos 1)) [
         a,
         record {
           from = omega signed;
-          each = λ w v. by_lt_z w z (λ g. s.each w (let i = v.from in record { from = i; to = omega signed })) (λ g. at_only P z w p (let i = v.to in omega signed));
+          each = λ w v. by_lt_z w z (λ g. s.each w (let i = v.from in record { from = i; to = omega signed }))
+              (λ g. at_only P z w p (let i = v.to in omega signed));
           before = s.before;
         },
       )
 ]
 
-end_of : (P : ℤ → Type 0) → ((z : ℤ) → P z ⊎ ¬ P z) → (high : ℤ) → ((z : ℤ) → high ≤ℤ z → ¬ P z) → (n : ℕ) (z : ℤ) → P z → high <ℤ (z +ℤ pos n) → (b : ℤ) × EndsAt P z b
+end_of : (P : ℤ → Type 0) → ((z : ℤ) → P z ⊎ ¬ P z) → (high : ℤ) → ((z : ℤ) → high ≤ℤ z → ¬ P z) → (n : ℕ) (z : ℤ) →
+    P z → high <ℤ (z +ℤ pos n) → (b : ℤ) × EndsAt P z b
 end_of P decide high none zero z p h = absurd (none z (omega signed) p)
 end_of P decide high none (suc n) z p h = elim (decide (z +ℤ pos 1)) [
   | inr q ↦ (z +ℤ pos 1, record { to = omega signed; each = λ w v. at_only P z w p (only z w v); after = q })
@@ -123,7 +126,8 @@ end_of P decide high none (suc n) z p h = elim (decide (z +ℤ pos 1)) [
         b,
         record {
           to = omega signed;
-          each = λ w v. by_lt_z z w (λ g. s.each w (let i = v.to in record { from = omega signed; to = i })) (λ g. at_only P z w p (let i = v.from in omega signed));
+          each = λ w v. by_lt_z z w (λ g. s.each w (let i = v.to in record { from = omega signed; to = i }))
+              (λ g. at_only P z w p (let i = v.from in omega signed));
           after = s.after;
         },
       )
@@ -132,7 +136,8 @@ end_of P decide high none (suc n) z p h = elim (decide (z +ℤ pos 1)) [
 distance : (a b : ℤ) → (n : ℕ) × (a <ℤ (b +ℤ pos n))
 distance a b = (unsigned_abs (a -ℤ b) + 1, omega signed)
 
-pub around : (P : ℤ → Type 0) → ((z : ℤ) → P z ⊎ ¬ P z) → (low high : ℤ) → ((z : ℤ) → z <ℤ low → ¬ P z) → ((z : ℤ) → high ≤ℤ z → ¬ P z) → (z : ℤ) → P z → (a : ℤ) × (b : ℤ) × IsAround P z a b
+pub around : (P : ℤ → Type 0) → ((z : ℤ) → P z ⊎ ¬ P z) → (low high : ℤ) → ((z : ℤ) → z <ℤ low → ¬ P z) →
+    ((z : ℤ) → high ≤ℤ z → ¬ P z) → (z : ℤ) → P z → (a : ℤ) × (b : ℤ) × IsAround P z a b
 around P decide low high none_low none_high z p =
     let (n, h) = distance z low in
     let (m, g) = distance high z in

@@ -1,5 +1,7 @@
 -- One cluster of corners: what it changes lies between the column that was passed before and the next one.
-use Rattle.std.proofs.Common.{arith, ◌≡◌, ◌⊎◌, ◌∙◌, ℕ, ◌<◌, ◌≤◌, ℤ, pos, ◌-ℤ◌, ◌<ℤ◌, ◌≤ℤ◌, List, length, get_or, reverse, All, Any, AllPairs, refl, sym, ap, inl, inr, [], ◌∷◌, ◌++◌, append_assoc, subst, Bool, true, false, IsTrue, Option, Some, None, IfSome, map}
+use Rattle.std.proofs.Common.{arith, ◌≡◌, ◌⊎◌, ◌∙◌, ℕ, ◌<◌, ◌≤◌, ℤ, pos, ◌-ℤ◌, ◌<ℤ◌, ◌≤ℤ◌, List, length, get_or}
+use Rattle.std.proofs.Common.{reverse, All, Any, AllPairs, refl, sym, ap, inl, inr, [], ◌∷◌, ◌++◌, append_assoc, subst}
+use Rattle.std.proofs.Common.{Bool, true, false, IsTrue, Option, Some, None, IfSome, map}
 use Rattle.std.specs.List.{AllZip}
 use Rattle.std.proofs.lemmas.Bool.{cases_lt}
 use Rattle.std.proofs.lemmas.Int.{by_lt_z}
@@ -55,8 +57,26 @@ end_of [] d2 = (d2, record { right = omega signed; holds = λ k d l. absurd (ome
 end_of (r ∷ rs) d2 = go (end_of rs d2) where
   go : (w : ℤ) × IsEnd rs d2 w → (w : ℤ) × IsEnd (r ∷ rs) d2 w
   go (w, e) = by_lt_z r.x2 w
-      (λ h. (w, record { right = e.right; holds = All-cons (λ r. r.x2 ≤ℤ w) r rs (omega signed) e.holds; is = elim e.is [ inl f ↦ inl f | inr a ↦ inr (any_tail (λ r. r.x2 ≡ w) r rs a) ] }))
-      (λ h. (r.x2, record { right = let f = e.right in omega signed; holds = All-cons (λ q. q.x2 ≤ℤ r.x2) r rs (omega signed) (All-weaker (λ q. q.x2 ≤ℤ w) (λ q. q.x2 ≤ℤ r.x2) (λ q i. omega signed) rs e.holds); is = inr (any_head (λ q. q.x2 ≡ r.x2) r rs refl) }))
+      (λ h. (
+        w,
+        record {
+          right = e.right;
+          holds = All-cons (λ r. r.x2 ≤ℤ w) r rs (omega signed) e.holds;
+          is =
+              elim e.is [ inl f ↦ inl f | inr a ↦ inr (any_tail (λ r. r.x2 ≡ w) r rs a) ];
+        },
+      ))
+      (λ h. (
+        r.x2,
+        record {
+          right = let f = e.right in omega signed;
+          holds =
+              All-cons (λ q. q.x2 ≤ℤ r.x2) r rs (omega signed)
+              (All-weaker (λ q. q.x2 ≤ℤ w) (λ q. q.x2 ≤ℤ r.x2) (λ q i. omega signed) rs e.holds);
+          is =
+              inr (any_head (λ q. q.x2 ≡ r.x2) r rs refl);
+        },
+      ))
 
 end_within : (near : List Rect) (d2 w b : ℤ) → IsEnd near d2 w → d2 ≤ℤ b → All (λ r. r.x2 ≤ℤ b) near → w ≤ℤ b
 end_within near d2 w b e h inside = elim e.is [
@@ -72,11 +92,17 @@ pub record IsMet (cells : ℤ → ℤ → Bool) (z : ℤ) (row : List Corner) (a
   pub parted : IsParted now d1 d2 left near right
   pub cluster : IsCluster row at to d1 d2 near
 
-pub met : (prims : List Primitive) (z : ℤ) (row : List Corner) (at to : ℕ) (d1 d2 : ℤ) (ended now left near right : List Rect) → AreChanges (is_cell (map outline_of prims)) z row → IsPassed (is_cell (map outline_of prims)) z row at ended now → IsParted now d1 d2 left near right → IsCluster row at to d1 d2 near
+pub met : (prims : List Primitive) (z : ℤ) (row : List Corner) (at to : ℕ) (d1 d2 : ℤ)
+    (ended now left near right : List Rect) → AreChanges (is_cell (map outline_of prims)) z row →
+    IsPassed (is_cell (map outline_of prims)) z row at ended now → IsParted now d1 d2 left near right →
+    IsCluster row at to d1 d2 near
     → IsMet (is_cell (map outline_of prims)) z row at to d1 d2 ended now left near right
-met prims z row at to d1 d2 ended now left near right changes before parted cluster = record { bound = bounded prims; changes = changes; before = before; parted = parted; cluster = cluster }
+met prims z row at to d1 d2 ended now left near right changes before parted cluster =
+    record { bound = bounded prims; changes = changes; before = before; parted = parted; cluster = cluster }
 
-module _ (cells : ℤ → ℤ → Bool) (z : ℤ) (row : List Corner) (at to : ℕ) (d1 d2 : ℤ) (ended now left near right : List Rect) (m : IsMet cells z row at to d1 d2 ended now left near right) (w : ℤ) (e : IsEnd near d2 w) where
+module _ (cells : ℤ → ℤ → Bool) (z : ℤ) (row : List Corner) (at to : ℕ) (d1 d2 : ℤ)
+    (ended now left near right : List Rect) (m : IsMet cells z row at to d1 d2 ended now left near right) (w : ℤ)
+    (e : IsEnd near d2 w) where
   -- the column that was passed before lies left of the cluster
   begins : m.before.column <ℤ d1
   begins =
@@ -96,7 +122,8 @@ module _ (cells : ℤ → ℤ → Bool) (z : ℤ) (row : List Corner) (at to : �
   behind_right : All (λ r. w <ℤ r.x1) (reverse right)
   behind_right k d l = right_of (get_or (reverse right) k d) (m.parted.right k d l) (λ i c h. at_place i c h) where
     at_place : (i : ℕ) (c : Rect) → i < length near → IsLeftOf (get_or near i c) (get_or (reverse right) k d)
-    at_place i c h = let f : get_or (reverse right) k c ≡ get_or (reverse right) k d = get_or_default (reverse right) k c d l in rw f at (across near (reverse right) ordered i k c h l)
+    at_place i c h = let f : get_or (reverse right) k c ≡ get_or (reverse right) k d =
+        get_or_default (reverse right) k c d l in rw f at (across near (reverse right) ordered i k c h l)
 
   -- no stack stands across the end
   sides : All (λ r. (r.x2 ≤ℤ w) ⊎ (w <ℤ r.x1)) now
@@ -107,12 +134,13 @@ module _ (cells : ℤ → ℤ → Bool) (z : ℤ) (row : List Corner) (at to : �
 
   -- the other corners stand left or right of all this
   corners_ahead : (k : ℕ) (d : Corner) → to ≤ k → k < length row → w <ℤ (get_or row k d).left
-  corners_ahead k d h l = let a = m.cluster.apart d (omega arith) in go (get_or row to d).left (get_or row k d).left (a.0) (a.1) (m.changes.ordered to k d h l) where
-    go : (a b : ℤ) → d2 <ℤ a → All (λ r. r.x2 <ℤ a) near → a ≤ℤ b → w <ℤ b
-    go a b i all j = elim e.is [
-      | inl f ↦ omega signed
-      | inr (n, q, g, f, is) ↦ let o : q.x2 <ℤ a = rw f at (all n q g) in omega signed
-    ]
+  corners_ahead k d h l = let a = m.cluster.apart d (omega arith) in
+      go (get_or row to d).left (get_or row k d).left (a.0) (a.1) (m.changes.ordered to k d h l) where
+        go : (a b : ℤ) → d2 <ℤ a → All (λ r. r.x2 <ℤ a) near → a ≤ℤ b → w <ℤ b
+        go a b i all j = elim e.is [
+          | inl f ↦ omega signed
+          | inr (n, q, g, f, is) ↦ let o : q.x2 <ℤ a = rw f at (all n q g) in omega signed
+        ]
 
   corners_left : (k : ℕ) (d : Corner) → at ≤ k → k < length row → d1 ≤ℤ (get_or row k d).left
   corners_left k d h l = let f = m.cluster.left d in let g = m.changes.ordered at k d h l in at_least _ _ f g where
@@ -163,11 +191,13 @@ module _ (cells : ℤ → ℤ → Bool) (z : ℤ) (row : List Corner) (at to : �
 
   change : IsChange (passed cells m.before.column) (passed cells w) z d1 d2
   change x (inl h) = passed_before x h ∙ sym (agrees x (let f = m.parted.some in let g = e.right in omega signed))
-  change x (inr h) = passed_behind x h ∙ by_lt_z x w (λ g. same_right x h (omega signed) ∙ sym (passed_left cells w x z g)) (λ g. sym (passed_right cells w x z g))
+  change x (inr h) = passed_behind x h ∙ by_lt_z x w (λ g. same_right x h (omega signed) ∙
+      sym (passed_left cells w x z g)) (λ g. sym (passed_right cells w x z g))
 
   -- ---- runs near the cluster lie in its window
 
-  stack_at : (x : ℤ) → IsTrue (passed cells m.before.column x z) → (x1 : ℤ) × (x2 : ℤ) × IsRun (passed cells m.before.column) x1 x2 z × IsWithin x1 x2 x × Any (HasColumns x1 x2) now
+  stack_at : (x : ℤ) → IsTrue (passed cells m.before.column x z) → (x1 : ℤ) × (x2 : ℤ) ×
+      IsRun (passed cells m.before.column) x1 x2 z × IsWithin x1 x2 x × Any (HasColumns x1 x2) now
   stack_at x t =
       let (x1, x2, run, at') = run_around (passed cells m.before.column) x z (λ y h. m.bound.left y _ h) (λ y h. m.bound.right y _ h) t in
       (x1, x2, run, at', m.before.step.step.all x1 x2 run)
@@ -200,21 +230,25 @@ module _ (cells : ℤ → ℤ → Bool) (z : ℤ) (row : List Corner) (at to : �
         further x i = let f = m.parted.some in omega signed
 
   row_starts : (a : ℤ) → a ≤ℤ d1 → All (λ r. a ≤ℤ r.x1) near → (x1 x2 : ℤ) → IsRun cells x1 x2 z → d1 ≤ℤ x2 → a ≤ℤ x1
-  row_starts a h holds x1 x2 run low = by_lt_z x1 d1 (λ g. go g (stack_at (d1 -ℤ pos 1) (rw (passed_before (d1 -ℤ pos 1) (omega signed)) (run.full (d1 -ℤ pos 1) (record { from = omega signed; to = omega signed }))))) (λ g. omega signed) where
-    places : All (λ r. (r.x2 <ℤ d1) ⊎ (a ≤ℤ r.x1)) now
-    places = near_or_past a h holds
+  row_starts a h holds x1 x2 run low = by_lt_z x1 d1 (λ g. go g
+      (stack_at (d1 -ℤ pos 1) (rw (passed_before (d1 -ℤ pos 1) (omega signed))
+      (run.full (d1 -ℤ pos 1) (record { from = omega signed; to = omega signed }))))) (λ g. omega signed) where
+        places : All (λ r. (r.x2 <ℤ d1) ⊎ (a ≤ℤ r.x1)) now
+        places = near_or_past a h holds
 
-    go : x1 <ℤ d1 → (y1 : ℤ) × (y2 : ℤ) × IsRun (passed cells m.before.column) y1 y2 z × IsWithin y1 y2 (d1 -ℤ pos 1) × Any (HasColumns y1 y2) now → a ≤ℤ x1
-    go g (y1, y2, was, at', (k, o, l, f, t)) = elim (on k o l f) [
-      | inl i ↦ absurd (let j = t.right in let n = at'.to in omega signed)
-      | inr i ↦ let j = t.left in let n = reaches in omega signed
-    ] where
-      on : (k : ℕ) (o : Rect) → k < length now → get_or now k o ≡ o → (o.x2 <ℤ d1) ⊎ (a ≤ℤ o.x1)
-      on k o l f = rw f at (places k o l)
+        go : x1 <ℤ d1 → (y1 : ℤ) × (y2 : ℤ) × IsRun (passed cells m.before.column) y1 y2 z × IsWithin y1 y2 (d1 -ℤ pos 1) × Any (HasColumns y1 y2) now → a ≤ℤ x1
+        go g (y1, y2, was, at', (k, o, l, f, t)) = elim (on k o l f) [
+          | inl i ↦ absurd (let j = t.right in let n = at'.to in omega signed)
+          | inr i ↦ let j = t.left in let n = reaches in omega signed
+        ] where
+          on : (k : ℕ) (o : Rect) → k < length now → get_or now k o ≡ o → (o.x2 <ℤ d1) ⊎ (a ≤ℤ o.x1)
+          on k o l f = rw f at (places k o l)
 
-      -- the row has cells from x1 up to the cluster, and so has the row before
-      reaches : y1 ≤ℤ x1
-      reaches = by_lt_z x1 y1 (λ i. absurd (was.left (let n = at'.from in rw (passed_before (y1 -ℤ pos 1) (omega signed)) (run.full (y1 -ℤ pos 1) (record { from = omega signed; to = omega signed }))))) (λ i. i)
+          -- the row has cells from x1 up to the cluster, and so has the row before
+          reaches : y1 ≤ℤ x1
+          reaches = by_lt_z x1 y1 (λ i. absurd (was.left (let n = at'.from in
+              rw (passed_before (y1 -ℤ pos 1) (omega signed))
+              (run.full (y1 -ℤ pos 1) (record { from = omega signed; to = omega signed }))))) (λ i. i)
 
   -- ---- no cell stands right beside the window
 
@@ -237,20 +271,26 @@ module _ (cells : ℤ → ℤ → Bool) (z : ℤ) (row : List Corner) (at to : �
       ] where
         on : (k : ℕ) (o : Rect) → k < length now → get_or now k o ≡ o → (o.x2 <ℤ d1) ⊎ (a ≤ℤ o.x1)
         on k o l g = rw g at (places k o l)
-    by_end t (inr (k, q, l, f, e)) = begun q (rw f at (near_all now d1 d2 left near right m.parted (λ r. IsRun (passed cells m.before.column) r.x1 r.x2 z) (λ k d l. (m.before.step.step.each k d l).0) k q l)) e where
-      begun : (q : Rect) → IsRun (passed cells m.before.column) q.x1 q.x2 z → q.x1 ≡ a → ⊥
-      begun q run g = run.left (rw g t)
+    by_end t (inr (k, q, l, f, e)) = begun q (rw f at (near_all now d1 d2 left near right m.parted
+        (λ r. IsRun (passed cells m.before.column) r.x1 r.x2 z) (λ k d l. (m.before.step.step.each k d l).0) k q l)) e
+      where
+        begun : (q : Rect) → IsRun (passed cells m.before.column) q.x1 q.x2 z → q.x1 ≡ a → ⊥
+        begun q run g = run.left (rw g t)
 
   near_passed : (runs : List Rect) → AreNearRuns cells z d1 d2 runs → AreNearRuns (passed cells w) z d1 d2 runs
   near_passed runs are = record {
-    each = λ k d l. let (run, near') = are.each k d l in let (f, g) = near_ends d1 d2 _ _ near' in (run_within cells (passed cells w) z w _ _ (λ x h. sym (agrees x h)) (row_ends _ _ run g) run, near');
-    all = λ x1 x2 run near'. let (f, g) = near_ends d1 d2 x1 x2 near' in are.all x1 x2 (run_within (passed cells w) cells z w x1 x2 agrees (passed_ends x1 x2 run g) run) near';
+    each = λ k d l. let (run, near') = are.each k d l in let (f, g) = near_ends d1 d2 _ _ near' in
+        (run_within cells (passed cells w) z w _ _ (λ x h. sym (agrees x h)) (row_ends _ _ run g) run, near');
+    all = λ x1 x2 run near'. let (f, g) = near_ends d1 d2 x1 x2 near' in
+        are.all x1 x2 (run_within (passed cells w) cells z w x1 x2 agrees (passed_ends x1 x2 run g) run) near';
     ordered = are.ordered;
   }
 
   -- ---- the step
 
-  window : (runs stacks closed : List Rect) → AreNearRuns cells z d1 d2 runs → AllZip (IsContinued near z) runs stacks → AllZip (IsClosed z) (ending runs near) closed → IsWindowStep (passed cells m.before.column) (passed cells w) z d1 d2 left near (reverse right) runs stacks closed
+  window : (runs stacks closed : List Rect) → AreNearRuns cells z d1 d2 runs → AllZip (IsContinued near z) runs stacks →
+      AllZip (IsClosed z) (ending runs near) closed → IsWindowStep (passed cells m.before.column) (passed cells w) z d1
+      d2 left near (reverse right) runs stacks closed
   window runs stacks closed are cont ends = record {
     change = change;
     some = m.parted.some;
@@ -265,7 +305,9 @@ module _ (cells : ℤ → ℤ → Bool) (z : ℤ) (row : List Corner) (at to : �
     now_runs : AreRuns (passed cells m.before.column) z now
     now_runs = record { each = λ k d l. (m.before.step.step.each k d l).0; all = m.before.step.step.all; ordered = m.before.step.step.ordered }
 
-  end_passed : (runs stacks closed next : List Rect) → AreNearRuns cells z d1 d2 runs → AllZip (IsContinued near z) runs stacks → AllZip (IsClosed z) (ending runs near) closed → next ≡ left ++ (stacks ++ reverse right) → IsPassed cells z row to (ended ++ closed) next
+  end_passed : (runs stacks closed next : List Rect) → AreNearRuns cells z d1 d2 runs →
+      AllZip (IsContinued near z) runs stacks → AllZip (IsClosed z) (ending runs near) closed →
+      next ≡ left ++ (stacks ++ reverse right) → IsPassed cells z row to (ended ++ closed) next
   end_passed runs stacks closed next are cont ends is = record {
     before = m.before.before;
     held = m.before.held;
@@ -290,20 +332,25 @@ module _ (cells : ℤ → ℤ → Bool) (z : ℤ) (row : List Corner) (at to : �
     chain x h = let f = e.right in omega signed
 
     stepped : IsStep (passed cells w) z now closed next
-    stepped = rw (m.parted.whole, is) (window_step (passed cells m.before.column) (passed cells w) z d1 d2 left near (reverse right) runs stacks closed (window runs stacks closed are cont ends))
+    stepped = rw (m.parted.whole, is) (window_step (passed cells m.before.column) (passed cells w) z d1 d2 left near
+        (reverse right) runs stacks closed (window runs stacks closed are cont ends))
 
-module _ (cells : ℤ → ℤ → Bool) (z : ℤ) (row : List Corner) (at to : ℕ) (d1 d2 : ℤ) (ended now left near right : List Rect) (m : IsMet cells z row at to d1 d2 ended now left near right) where
+module _ (cells : ℤ → ℤ → Bool) (z : ℤ) (row : List Corner) (at to : ℕ) (d1 d2 : ℤ)
+    (ended now left near right : List Rect) (m : IsMet cells z row at to d1 d2 ended now left near right) where
   -- each run that is not far from the cluster lies in the window
-  pub run_inside : (a b : ℤ) → a ≤ℤ d1 → d2 ≤ℤ b → All (λ r. (a ≤ℤ r.x1) × (r.x2 ≤ℤ b)) near → (x1 x2 : ℤ) → IsRun cells x1 x2 z → ¬ IsFar d1 d2 x1 x2 → (a ≤ℤ x1) × (x2 ≤ℤ b)
+  pub run_inside : (a b : ℤ) → a ≤ℤ d1 → d2 ≤ℤ b → All (λ r. (a ≤ℤ r.x1) × (r.x2 ≤ℤ b)) near → (x1 x2 : ℤ) →
+      IsRun cells x1 x2 z → ¬ IsFar d1 d2 x1 x2 → (a ≤ℤ x1) × (x2 ≤ℤ b)
   run_inside a b h g inside x1 x2 run near' = go (end_of near d2) (near_ends d1 d2 x1 x2 near') where
     go : (w : ℤ) × IsEnd near d2 w → (d1 ≤ℤ x2) × (x1 ≤ℤ d2) → (a ≤ℤ x1) × (x2 ≤ℤ b)
     go (w, e) (i, j) = (
       row_starts cells z row at to d1 d2 ended now left near right m w e a h (λ k d l. (inside k d l).0) x1 x2 run i,
-      let f = row_ends cells z row at to d1 d2 ended now left near right m w e x1 x2 run j in let n = end_within near d2 w b e g (λ k d l. (inside k d l).1) in omega signed,
+      let f = row_ends cells z row at to d1 d2 ended now left near right m w e x1 x2 run j in let n =
+          end_within near d2 w b e g (λ k d l. (inside k d l).1) in omega signed,
     )
 
   -- no cell of the row stands right beside the window
-  pub framed : (a b : ℤ) → a ≤ℤ d1 → d2 ≤ℤ b → All (λ r. (a ≤ℤ r.x1) × (r.x2 ≤ℤ b)) near → (a ≡ d1) ⊎ Any (λ r. r.x1 ≡ a) near → (b ≡ d2) ⊎ Any (λ r. r.x2 ≡ b) near → IsFramed cells z a b
+  pub framed : (a b : ℤ) → a ≤ℤ d1 → d2 ≤ℤ b → All (λ r. (a ≤ℤ r.x1) × (r.x2 ≤ℤ b)) near → (a ≡ d1) ⊎
+      Any (λ r. r.x1 ≡ a) near → (b ≡ d2) ⊎ Any (λ r. r.x2 ≡ b) near → IsFramed cells z a b
   framed a b h g inside first last = go (end_of near d2) where
     go : (w : ℤ) × IsEnd near d2 w → IsFramed cells z a b
     go (w, e) = record {
@@ -321,11 +368,13 @@ module _ (cells : ℤ → ℤ → Bool) (z : ℤ) (row : List Corner) (at to : �
       is_end = let f = end_within near d2 w b e g (λ k d l. (inside k d l).1) in let i = from in omega signed
 
   -- what a stack near it has outside the columns of the cluster are cells of the row
-  pub stays : (a b : ℤ) (s : Option Stretch) → IfSome s (λ s. (s.from ≤ℤ a) × (b ≤ℤ s.to) × Any (HasColumns s.from s.to) near) → IfSome s (IsStill cells z d1 d2 a b)
+  pub stays : (a b : ℤ) (s : Option Stretch) → IfSome s
+      (λ s. (s.from ≤ℤ a) × (b ≤ℤ s.to) × Any (HasColumns s.from s.to) near) → IfSome s (IsStill cells z d1 d2 a b)
   stays a b None h = h
   stays a b (Some s) (f, g, (k, r, l, e, columns)) = record { left = f; right = g; same = λ x i out. on (end_of near d2) x i out } where
     run : IsRun (passed cells m.before.column) r.x1 r.x2 z
-    run = rw e at (near_all now d1 d2 left near right m.parted (λ r. IsRun (passed cells m.before.column) r.x1 r.x2 z) (λ k d l. (m.before.step.step.each k d l).0) k r l)
+    run = rw e at (near_all now d1 d2 left near right m.parted (λ r. IsRun (passed cells m.before.column) r.x1 r.x2 z)
+        (λ k d l. (m.before.step.step.each k d l).0) k r l)
 
     on : (w : ℤ) × IsEnd near d2 w → (x : ℤ) → IsWithin s.from s.to x → IsOutside d1 d2 x → cells x z ≡ true
     on (w, is_end) x i out =
@@ -334,22 +383,29 @@ module _ (cells : ℤ → ℤ → Bool) (z : ℤ) (row : List Corner) (at to : �
         let t : passed cells m.before.column x z ≡ true = true_is _ (run.full x (record { from = omega signed; to = omega signed })) in
         elim out [
           | inl h ↦ sym (passed_before cells z row at to d1 d2 ended now left near right m w is_end x h) ∙ t
-          | inr h ↦ sym (passed_behind cells z row at to d1 d2 ended now left near right m w is_end x h ∙ same_right cells z row at to d1 d2 ended now left near right m w is_end x h (omega signed)) ∙ t
+          | inr h ↦ sym (passed_behind cells z row at to d1 d2 ended now left near right m w is_end x h ∙
+              same_right cells z row at to d1 d2 ended now left near right m w is_end x h (omega signed)) ∙ t
         ]
 
   -- the stacks near it begin below row z
   pub near_below : All (λ r. r.y1 <ℤ z) near
-  near_below k d l = go (get_or near k d) (m.parted.not_left k d l) (near_all now d1 d2 left near right m.parted (λ r. (r.x2 ≤ℤ m.before.column) ⊎ ((m.before.column <ℤ r.x1) × Any (λ o. IsSameStack o r) m.before.held)) m.before.step.apart k d l) where
-    go : (r : Rect) → d1 ≤ℤ r.x2 → (r.x2 ≤ℤ m.before.column) ⊎ ((m.before.column <ℤ r.x1) × Any (λ o. IsSameStack o r) m.before.held) → r.y1 <ℤ z
-    go r h (inl g) = absurd (on (end_of near d2)) where
-      on : (w : ℤ) × IsEnd near d2 w → ⊥
-      on (w, e) = let f = begins cells z row at to d1 d2 ended now left near right m w e in omega signed
-    go r h (inr (g, (i, o, j, f, t))) = let s = (m.before.swept.going.each i o j).start in let b = t.bottom in below f b s where
-      below : get_or m.before.held i o ≡ o → r.y1 ≡ o.y1 → (get_or m.before.held i o).y1 <ℤ z → r.y1 <ℤ z
-      below f b s = let s' : o.y1 <ℤ z = rw f at s in omega signed
+  near_below k d l = go (get_or near k d) (m.parted.not_left k d l)
+      (near_all now d1 d2 left near right m.parted (λ r. (r.x2 ≤ℤ m.before.column) ⊎
+      ((m.before.column <ℤ r.x1) × Any (λ o. IsSameStack o r) m.before.held)) m.before.step.apart k d l) where
+        go : (r : Rect) → d1 ≤ℤ r.x2 → (r.x2 ≤ℤ m.before.column) ⊎ ((m.before.column <ℤ r.x1) × Any (λ o. IsSameStack o r) m.before.held) → r.y1 <ℤ z
+        go r h (inl g) = absurd (on (end_of near d2)) where
+          on : (w : ℤ) × IsEnd near d2 w → ⊥
+          on (w, e) = let f = begins cells z row at to d1 d2 ended now left near right m w e in omega signed
+        go r h (inr (g, (i, o, j, f, t))) = let s = (m.before.swept.going.each i o j).start in let b = t.bottom in below f b s where
+          below : get_or m.before.held i o ≡ o → r.y1 ≡ o.y1 → (get_or m.before.held i o).y1 <ℤ z → r.y1 <ℤ z
+          below f b s = let s' : o.y1 <ℤ z = rw f at s in omega signed
 
   -- the row is passed up to the corner behind the cluster
-  pub cluster_passed : (new runs stacks next : List Rect) → AreNearRuns cells z d1 d2 runs → All (λ r. r.y1 ≡ z) runs → AllZip (λ run r. IsContinued near run.y1 run r) runs stacks → AddsClosed z (ending runs near) ended new → next ≡ left ++ stacks → IsPassed cells z row to new (next ++ reverse right)
+  pub cluster_passed : (new runs stacks next : List Rect) → AreNearRuns cells z d1 d2 runs → All (λ r. r.y1 ≡ z) runs →
+      AllZip (λ run r. IsContinued near run.y1 run r) runs stacks → AddsClosed z (ending runs near) ended new →
+      next ≡ left ++ stacks → IsPassed cells z row to new (next ++ reverse right)
   cluster_passed new runs stacks next are bottom cont a is = go (end_of near d2) where
     go : (w : ℤ) × IsEnd near d2 w → IsPassed cells z row to new (next ++ reverse right)
-    go (w, e) = rw a.added (end_passed cells z row at to d1 d2 ended now left near right m w e runs stacks a.closed (next ++ reverse right) are (continued_at near z runs stacks bottom cont) a.each (ap (λ xs. xs ++ reverse right) is ∙ append_assoc left stacks (reverse right)))
+    go (w, e) = rw a.added (end_passed cells z row at to d1 d2 ended now left near right m w e runs stacks a.closed
+        (next ++ reverse right) are (continued_at near z runs stacks bottom cont) a.each
+        (ap (λ xs. xs ++ reverse right) is ∙ append_assoc left stacks (reverse right)))

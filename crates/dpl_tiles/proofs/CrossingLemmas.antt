@@ -1,5 +1,7 @@
 -- Where the sides of a polygon cross a window of a row. Those in the window suffice where no cell stands right beside it.
-use Rattle.std.proofs.Common.{arith, ◌≡◌, ◌⊎◌, ℕ, zero, suc, ◌+◌, ◌%◌, ◌<◌, ◌≤◌, ℤ, pos, ◌-ℤ◌, ◌<ℤ◌, ◌≤ℤ◌, List, length, get_or, drop, ◌∙◌, All, Any, AllPairs, Contains, refl, sym, ap, subst, inl, inr, ◌∷◌, [], ◌++◌, Bool, true, false, ◌&&◌, ◌||◌, ◌==◌, int_le, map}
+use Rattle.std.proofs.Common.{arith, ◌≡◌, ◌⊎◌, ℕ, zero, suc, ◌+◌, ◌%◌, ◌<◌, ◌≤◌, ℤ, pos, ◌-ℤ◌, ◌<ℤ◌, ◌≤ℤ◌, List, length}
+use Rattle.std.proofs.Common.{get_or, drop, ◌∙◌, All, Any, AllPairs, Contains, refl, sym, ap, subst, inl, inr, ◌∷◌, []}
+use Rattle.std.proofs.Common.{◌++◌, Bool, true, false, ◌&&◌, ◌||◌, ◌==◌, int_le, map}
 use Rattle.std.specs.List.{sum_by}
 use Rattle.std.specs.List.Sorted.{IsPermutation}
 use Rattle.std.proofs.lemmas.Bool.{cases_lt, or_cases, or_right}
@@ -35,17 +37,26 @@ pub columns_none : (sides : List Side) (found : List ℕ) (y : ℤ) → ColumnsS
 columns_none sides found y = record { each = λ x d. omega arith; own = λ k d l. absurd (omega arith) }
 
 -- the side at the next number
-at_number : (sides : List Side) (found : List ℕ) (t : ℕ) (s d : Side) → get_or found t 0 < length sides → s ≡ get_or sides (get_or found t 0) s → get_or sides (get_or found t 0) d ≡ s
+at_number : (sides : List Side) (found : List ℕ) (t : ℕ) (s d : Side) → get_or found t 0 < length sides →
+    s ≡ get_or sides (get_or found t 0) s → get_or sides (get_or found t 0) d ≡ s
 at_number sides found t s d inside is = get_or_default sides (get_or found t 0) d s inside ∙ sym is
 
 in_row : (x y : ℤ) (s : Side) (b : Bool) → is_within s.low s.high y ≡ b → bit (stands x y s) ≡ bit (int_le s.column x && b)
 in_row x y s b e = ap (λ c. bit (int_le s.column x && c)) e
 
-pub columns_yes : (sides : List Side) (found : List ℕ) (y : ℤ) (t : ℕ) (s : Side) (columns new : List ℤ) → ColumnsSoFar sides found y t columns → t < length found → get_or found t 0 < length sides → s ≡ get_or sides (get_or found t 0) s
+pub columns_yes : (sides : List Side) (found : List ℕ) (y : ℤ) (t : ℕ) (s : Side) (columns new : List ℤ) →
+    ColumnsSoFar sides found y t columns → t < length found → get_or found t 0 < length sides →
+    s ≡ get_or sides (get_or found t 0) s
     → is_within s.low s.high y ≡ true → new ≡ columns ++ s.column ∷ [] → ColumnsSoFar sides found y (t + 1) new
 columns_yes sides found y t s columns new c within inside is e f = rw f (record {
   each = λ x d. rw left_push (omega (arith, c.each x d, sum_by-drop_more (stands_at sides x y d) found t 0 within, here x d));
-  own = All-push (λ z. Any (λ i. (d : Side) → (get_or sides i d).column ≡ z) found) columns s.column c.own (t, get_or found t 0, within, get_or_default found t _ 0 within, λ d. ap (λ (q : Side). q.column) (at_number sides found t s d inside is));
+  own = All-push (λ z. Any (λ i. (d : Side) → (get_or sides i d).column ≡ z) found) columns s.column c.own (
+    t,
+    get_or found t 0,
+    within,
+    get_or_default found t _ 0 within,
+    λ d. ap (λ (q : Side). q.column) (at_number sides found t s d inside is),
+  );
 }) where
   here : (x : ℤ) (d : Side) → stands_at sides x y d (get_or found t 0) ≡ bit (int_le s.column x)
   here x d = ap (λ (q : Side). bit (stands x y q)) (at_number sides found t s d inside is) ∙ in_row x y s true e ∙ ap bit (and_true (int_le s.column x)) where
@@ -53,7 +64,9 @@ columns_yes sides found y t s columns new c within inside is e f = rw f (record 
     and_true true = refl
     and_true false = refl
 
-pub columns_no : (sides : List Side) (found : List ℕ) (y : ℤ) (t : ℕ) (s : Side) (columns : List ℤ) → ColumnsSoFar sides found y t columns → t < length found → get_or found t 0 < length sides → s ≡ get_or sides (get_or found t 0) s
+pub columns_no : (sides : List Side) (found : List ℕ) (y : ℤ) (t : ℕ) (s : Side) (columns : List ℤ) →
+    ColumnsSoFar sides found y t columns → t < length found → get_or found t 0 < length sides →
+    s ≡ get_or sides (get_or found t 0) s
     → is_within s.low s.high y ≡ false → ColumnsSoFar sides found y (t + 1) columns
 columns_no sides found y t s columns c within inside is e = record {
   each = λ x d. omega (arith, c.each x d, sum_by-drop_more (stands_at sides x y d) found t 0 within, here x d);
@@ -65,7 +78,8 @@ columns_no sides found y t s columns c within inside is e = record {
     and_none true = refl
     and_none false = refl
 
-pub columns_all : (sides : List Side) (found : List ℕ) (y : ℤ) (t : ℕ) (columns : List ℤ) → length found ≤ t → ColumnsSoFar sides found y t columns → AreColumnsAmong sides found y columns
+pub columns_all : (sides : List Side) (found : List ℕ) (y : ℤ) (t : ℕ) (columns : List ℤ) → length found ≤ t →
+    ColumnsSoFar sides found y t columns → AreColumnsAmong sides found y columns
 columns_all sides found y t columns whole c = record { each = λ x d. omega (arith, c.each x d, at_end x d); own = c.own } where
   at_end : (x : ℤ) (d : Side) → sum_by (stands_at sides x y d) (drop t found) ≡ 0
   at_end x d = at_drop_all (sum_by (stands_at sides x y d)) found t whole
@@ -74,7 +88,13 @@ columns_all sides found y t columns whole c = record { each = λ x d. omega (ari
 
 sum_alike : (g h : ℕ → ℕ) (is : List ℕ) → All (λ i. g i ≡ h i) is → sum_by g is ≡ sum_by h is
 sum_alike g h [] a = refl
-sum_alike g h (i ∷ is) a = omega (arith, sum_by-cons g i is, sum_by-cons h i is, All-head (λ i. g i ≡ h i) i is a, sum_alike g h is (All-tail (λ i. g i ≡ h i) i is a))
+sum_alike g h (i ∷ is) a = omega (
+  arith,
+  sum_by-cons g i is,
+  sum_by-cons h i is,
+  All-head (λ i. g i ≡ h i) i is a,
+  sum_alike g h is (All-tail (λ i. g i ≡ h i) i is a),
+)
 
 -- the numbers, ascending, from n on of items; each other item counts for nothing
 record Counted (f : Side → ℕ) (h : ℕ → ℕ) (n : ℕ) (items : List Side) (found : List ℕ) : Type 0 where
@@ -84,7 +104,9 @@ record Counted (f : Side → ℕ) (h : ℕ → ℕ) (n : ℕ) (items : List Side
   high : (k d : ℕ) → k < length found → get_or found k d < n + length items
   all : (i : ℕ) → n ≤ i → i < n + length items → Contains found i ⊎ (h i ≡ 0)
 
-counted_next : (f : Side → ℕ) (h : ℕ → ℕ) (n : ℕ) (s : Side) (items : List Side) (found : List ℕ) → Counted f h n (s ∷ items) found → ((k d : ℕ) → k < length found → n < get_or found k d) → Counted f h (n + 1) items found
+counted_next : (f : Side → ℕ) (h : ℕ → ℕ) (n : ℕ) (s : Side) (items : List Side) (found : List ℕ) →
+    Counted f h n (s ∷ items) found → ((k d : ℕ) → k < length found → n < get_or found k d) →
+    Counted f h (n + 1) items found
 counted_next f h n s items found c past = record {
   at = λ k d l. ap h (omega arith) ∙ c.at (suc k) d (omega arith);
   ordered = c.ordered;
@@ -93,7 +115,8 @@ counted_next f h n s items found c past = record {
   all = λ i l m. c.all i (omega arith) (omega arith);
 }
 
-counted_tail : (f : Side → ℕ) (h : ℕ → ℕ) (n : ℕ) (s : Side) (items : List Side) (found : List ℕ) → Counted f h n (s ∷ items) (n ∷ found) → Counted f h (n + 1) items found
+counted_tail : (f : Side → ℕ) (h : ℕ → ℕ) (n : ℕ) (s : Side) (items : List Side) (found : List ℕ) →
+    Counted f h n (s ∷ items) (n ∷ found) → Counted f h (n + 1) items found
 counted_tail f h n s items found c = record {
   at = λ k d l. ap h (omega arith) ∙ c.at (suc k) d (omega arith);
   ordered = λ i j d l m. c.ordered (suc i) (suc j) d (omega arith) (omega arith);
@@ -110,14 +133,33 @@ counted f h n [] [] c = refl
 counted f h n [] (i ∷ is) c = absurd (let l = c.low 0 0 (omega arith) in let g = c.high 0 0 (omega arith) in omega arith)
 counted f h n (s ∷ items) [] c = elim (c.all n (omega arith) (omega arith)) [
   | inl (k, l, e) ↦ absurd (omega arith)
-  | inr e ↦ omega (arith, sum_by-cons f s items, first f h n s items [] c, counted f h (n + 1) items [] (counted_next f h n s items [] c (λ k d l. absurd (omega arith))))
+  | inr e ↦ omega (
+    arith,
+    sum_by-cons f s items,
+    first f h n s items [] c,
+    counted f h (n + 1) items [] (counted_next f h n s items [] c (λ k d l. absurd (omega arith))),
+  )
 ] where
   first : (f : Side → ℕ) (h : ℕ → ℕ) (n : ℕ) (s : Side) (items : List Side) (found : List ℕ) → Counted f h n (s ∷ items) found → h n ≡ f s
   first f h n s items found c = ap h (omega arith) ∙ c.at 0 s (omega arith)
 counted f h n (s ∷ items) (i ∷ is) c = elim (cases_lt n i) [
-  | inl l ↦ omega (arith, sum_by-cons f s items, first, none l, counted f h (n + 1) items (i ∷ is) (counted_next f h n s items (i ∷ is) c (λ k d m. past l k d m)))
+  | inl l ↦ omega (
+    arith,
+    sum_by-cons f s items,
+    first,
+    none l,
+    counted f h (n + 1) items (i ∷ is) (counted_next f h n s items (i ∷ is) c (λ k d m. past l k d m)),
+  )
   | inr l ↦ let e : i ≡ n = let g : n ≤ i = c.low 0 0 (omega arith) in omega arith in
-      omega (arith, sum_by-cons f s items, sum_by-cons h i is, first, ap h e, counted f h (n + 1) items is (counted_tail f h n s items is (subst (λ j. Counted f h n (s ∷ items) (j ∷ is)) e c)))
+      omega (
+        arith,
+        sum_by-cons f s items,
+        sum_by-cons h i is,
+        first,
+        ap h e,
+        counted f h (n + 1) items is (counted_tail f h n s items is
+            (subst (λ j. Counted f h n (s ∷ items) (j ∷ is)) e c)),
+      )
 ] where
   first : h n ≡ f s
   first = ap h (omega arith) ∙ c.at 0 s (omega arith)
@@ -155,7 +197,8 @@ split_at a c x false h = none (int_le c x) (int_le c (a -ℤ pos 1)) (int_le a c
   none false false true = refl
   none false false false = refl
 
-module _ (sides : List Side) (y a b : ℤ) (index : List Bounds) (found : List ℕ) (is : index ≡ map bounds_of_side sides) (m : AreMeeting index (record { left = a; right = b; low = y; high = y }) found) where
+module _ (sides : List Side) (y a b : ℤ) (index : List Bounds) (found : List ℕ) (is : index ≡ map bounds_of_side sides)
+    (m : AreMeeting index (record { left = a; right = b; low = y; high = y }) found) where
   bounds_at : (i : ℕ) (s : Side) (d : Bounds) → i < length sides → get_or index i d ≡ bounds_of_side (get_or sides i s)
   bounds_at i s d l = rw is (get_or-map bounds_of_side sides i s d l)
 
@@ -167,32 +210,50 @@ module _ (sides : List Side) (y a b : ℤ) (index : List Bounds) (found : List �
 
   -- the sides found stand in the window
   stood : (k d : ℕ) (s : Side) → k < length found → (a ≤ℤ (get_or sides (get_or found k d) s).column) × ((get_or sides (get_or found k d) s).column ≤ℤ b)
-  stood k d s l = go (subst (λ e. Meets e (record { left = a; right = b; low = y; high = y })) (bounds_at (get_or found k d) s (bounds_of_side s) (found_within k d l)) ((m.each k d l).meets (bounds_of_side s))) where
-    go : Meets (bounds_of_side (get_or sides (get_or found k d) s)) (record { left = a; right = b; low = y; high = y }) → (a ≤ℤ (get_or sides (get_or found k d) s).column) × ((get_or sides (get_or found k d) s).column ≤ℤ b)
-    go w = (w.right, w.left)
+  stood k d s l = go (subst (λ e. Meets e (record { left = a; right = b; low = y; high = y }))
+      (bounds_at (get_or found k d) s (bounds_of_side s) (found_within k d l))
+      ((m.each k d l).meets (bounds_of_side s))) where
+        go : Meets (bounds_of_side (get_or sides (get_or found k d) s))
+            (record { left = a; right = b; low = y; high = y }) → (a ≤ℤ (get_or sides (get_or found k d) s).column) ×
+            ((get_or sides (get_or found k d) s).column ≤ℤ b)
+        go w = (w.right, w.left)
 
   -- those that span the row up to a column of the window are found
   others : (x : ℤ) → x ≤ℤ b → (s : Side) (i : ℕ) → i < length sides → Contains found i ⊎ (from_to a x y (get_or sides i s) ≡ 0)
-  others x h s i l = by_test (get_or sides i s) (λ w. m.all i (record { within = let n = long in omega arith; meets = λ d. subst (λ e. Meets e (record { left = a; right = b; low = y; high = y })) (sym (bounds_at i s d l)) w })) where
-    by_test : (t : Side) → (Meets (bounds_of_side t) (record { left = a; right = b; low = y; high = y }) → Contains found i) → Contains found i ⊎ (from_to a x y t ≡ 0)
-    by_test t f = by_lt_z t.column a (λ g. inr (left_out g)) (λ g. by_lt_z x t.column (λ k. inr (right_out k)) (λ k. by_lt_z y t.low (λ n. inr (below n)) (λ n. by_lt_z y t.high (λ o. inl (f (record { left = omega signed; right = g; low = n; high = omega signed }))) (λ o. inr (above o))))) where
-      left_out : t.column <ℤ a → from_to a x y t ≡ 0
-      left_out g = grind (arith, ints)
+  others x h s i l = by_test (get_or sides i s) (λ w. m.all i
+      (record {
+        within = let n = long in omega arith;
+        meets =
+            λ d. subst (λ e. Meets e (record { left = a; right = b; low = y; high = y })) (sym (bounds_at i s d l)) w;
+      }))
+    where
+      by_test : (t : Side) → (Meets (bounds_of_side t) (record { left = a; right = b; low = y; high = y }) →
+          Contains found i) → Contains found i ⊎ (from_to a x y t ≡ 0)
+      by_test t f = by_lt_z t.column a (λ g. inr (left_out g))
+          (λ g. by_lt_z x t.column (λ k. inr (right_out k))
+          (λ k. by_lt_z y t.low (λ n. inr (below n)) (λ n. by_lt_z y t.high
+          (λ o. inl (f (record { left = omega signed; right = g; low = n; high = omega signed }))) (λ o. inr (above o)))))
+        where
+          left_out : t.column <ℤ a → from_to a x y t ≡ 0
+          left_out g = grind (arith, ints)
 
-      right_out : x <ℤ t.column → from_to a x y t ≡ 0
-      right_out g = grind (arith, ints)
+          right_out : x <ℤ t.column → from_to a x y t ≡ 0
+          right_out g = grind (arith, ints)
 
-      below : y <ℤ t.low → from_to a x y t ≡ 0
-      below g = grind (arith, ints)
+          below : y <ℤ t.low → from_to a x y t ≡ 0
+          below g = grind (arith, ints)
 
-      above : t.high ≤ℤ y → from_to a x y t ≡ 0
-      above g = grind (arith, ints)
+          above : t.high ≤ℤ y → from_to a x y t ≡ 0
+          above g = grind (arith, ints)
 
-module _ (sides : List Side) (y a b : ℤ) (index : List Bounds) (found : List ℕ) (columns : List ℤ) (is : index ≡ map bounds_of_side sides) (m : AreMeeting index (record { left = a; right = b; low = y; high = y }) found) (c : AreColumnsAmong sides found y columns) where
+module _ (sides : List Side) (y a b : ℤ) (index : List Bounds) (found : List ℕ) (columns : List ℤ)
+    (is : index ≡ map bounds_of_side sides) (m : AreMeeting index (record { left = a; right = b; low = y; high = y })
+    found) (c : AreColumnsAmong sides found y columns) where
   -- the column of a side that was found
   column_of : (k : ℕ) (d : ℤ) → k < length columns → (s : Side) × (s.column ≡ get_or columns k d) × (a ≤ℤ s.column) × (s.column ≤ℤ b)
   column_of k d l = go (c.own k d l) where
-    go : Any (λ i. (d' : Side) → (get_or sides i d').column ≡ get_or columns k d) found → (s : Side) × (s.column ≡ get_or columns k d) × (a ≤ℤ s.column) × (s.column ≤ℤ b)
+    go : Any (λ i. (d' : Side) → (get_or sides i d').column ≡ get_or columns k d) found → (s : Side) ×
+        (s.column ≡ get_or columns k d) × (a ≤ℤ s.column) × (s.column ≤ℤ b)
     go (j, i, g, e, f) =
         let inside : i < length sides = rw e at (found_within sides y a b index found is m j i g) in
         let s = some_of sides i inside in
@@ -200,20 +261,22 @@ module _ (sides : List Side) (y a b : ℤ) (index : List Bounds) (found : List �
         (get_or sides i s, f s, rw e at w.0, rw e at w.1)
 
   sum_found : (x : ℤ) → x ≤ℤ b → (s : Side) → at_or_left x columns ≡ sum_by (from_to a x y) sides
-  sum_found x h s = c.each x s ∙ sum_alike (stands_at sides x y s) (λ i. from_to a x y (get_or sides i s)) found (λ k d l. from_left (get_or sides (get_or found k d) s) (stood sides y a b index found is m k d s l).0) ∙ counted (from_to a x y) (λ i. from_to a x y (get_or sides i s)) 0 sides found (record {
-    at = λ k d l. ap (λ j. from_to a x y (get_or sides j s)) (from_none k) ∙ ap (from_to a x y) (get_or_default sides k s d l);
-    ordered = m.ordered;
-    low = λ k d l. omega arith;
-    high = λ k d l. let w = found_within sides y a b index found is m k d l in omega arith;
-    all = λ i l n. others sides y a b index found is m x h s i (omega arith);
-  }) where
-    from_none : (k : ℕ) → 0 + k ≡ k
-    from_none k = omega arith
+  sum_found x h s = c.each x s ∙ sum_alike (stands_at sides x y s) (λ i. from_to a x y (get_or sides i s)) found
+      (λ k d l. from_left (get_or sides (get_or found k d) s) (stood sides y a b index found is m k d s l).0) ∙
+      counted (from_to a x y) (λ i. from_to a x y (get_or sides i s)) 0 sides found (record {
+        at = λ k d l. ap (λ j. from_to a x y (get_or sides j s)) (from_none k) ∙ ap (from_to a x y) (get_or_default sides k s d l);
+        ordered = m.ordered;
+        low = λ k d l. omega arith;
+        high = λ k d l. let w = found_within sides y a b index found is m k d l in omega arith;
+        all = λ i l n. others sides y a b index found is m x h s i (omega arith);
+      }) where
+        from_none : (k : ℕ) → 0 + k ≡ k
+        from_none k = omega arith
 
-    from_left : (t : Side) → a ≤ℤ t.column → bit (stands x y t) ≡ from_to a x y t
-    from_left t g = ap (λ e. bit (e && stands x y t)) (sym (at_least g)) where
-      at_least : a ≤ℤ t.column → int_le a t.column ≡ true
-      at_least g = grind (arith, ints)
+        from_left : (t : Side) → a ≤ℤ t.column → bit (stands x y t) ≡ from_to a x y t
+        from_left t g = ap (λ e. bit (e && stands x y t)) (sym (at_least g)) where
+          at_least : a ≤ℤ t.column → int_le a t.column ≡ true
+          at_least g = grind (arith, ints)
 
   sum_any : (x : ℤ) → x ≤ℤ b → at_or_left x columns ≡ sum_by (from_to a x y) sides
   sum_any x h = go sides refl where
@@ -222,13 +285,16 @@ module _ (sides : List Side) (y a b : ℤ) (index : List Bounds) (found : List �
     go [] e = rw e (none columns refl) where
       none : (zs : List ℤ) → columns ≡ zs → at_or_left x columns ≡ 0
       none [] f = rw f refl
-      none (z ∷ zs) f = absurd (let (j, i, g, k, o) = c.own 0 z (rw f (omega arith)) in let w = found_within sides y a b index found is m j 0 g in let n : length sides ≡ 0 = rw e refl in omega arith)
+      none (z ∷ zs) f = absurd (let (j, i, g, k, o) = c.own 0 z (rw f (omega arith)) in let w =
+          found_within sides y a b index found is m j 0 g in let n : length sides ≡ 0 = rw e refl in omega arith)
 
   pub crossings_within : AreCrossingsWithin sides y a b columns
   crossings_within = record {
     range = λ k d l. let (s, e, w, v) = column_of k d l in subst IsInRange e (record { low = s.left; high = s.right });
     inside = λ k d l. let (s, e, w, v) = column_of k d l in subst (λ z. (a ≤ℤ z) × (z ≤ℤ b)) e (w, v);
-    each = λ x h g. sum_split (λ s. bit (stands x y s)) (λ s. bit (stands (a -ℤ pos 1) y s)) (from_to a x y) (λ s. split_at a s.column x (is_within s.low s.high y) h) sides ∙ ap (λ n. standing (a -ℤ pos 1) y sides + n) (sym (sum_any x g));
+    each = λ x h g. sum_split (λ s. bit (stands x y s)) (λ s. bit (stands (a -ℤ pos 1) y s)) (from_to a x y)
+        (λ s. split_at a s.column x (is_within s.low s.high y) h) sides ∙
+        ap (λ n. standing (a -ℤ pos 1) y sides + n) (sym (sum_any x g));
   }
 
 -- ---- the cells between these sides
@@ -260,9 +326,13 @@ module _ (sides : List Side) (y a b : ℤ) (columns : List ℤ) (frame : IsFrame
 
   sound_anywhere : (x : ℤ) → (at_or_left x columns % 2 == 1) ≡ true → is_between sides x y ≡ true
   sound_anywhere x t = by_lt_z x a
-      (λ h. absurd (let e : at_or_left x columns ≡ 0 = left_none x a columns h (All-weaker (λ z. (a ≤ℤ z) × (z ≤ℤ b)) (λ z. a ≤ℤ z) (λ z h. h.0) columns c.inside) in odd_not (at_or_left x columns) (omega (arith, e)) t))
+      (λ h. absurd (let e : at_or_left x columns ≡ 0 =
+      left_none x a columns h (All-weaker (λ z. (a ≤ℤ z) × (z ≤ℤ b)) (λ z. a ≤ℤ z) (λ z h. h.0) columns c.inside) in
+      odd_not (at_or_left x columns) (omega (arith, e)) t))
       (λ h. by_lt_z b x
-      (λ g. absurd (odd_not (at_or_left x columns) (let n = all_left x columns (All-weaker (λ z. (a ≤ℤ z) × (z ≤ℤ b)) (λ z. z ≤ℤ x) (λ z i. upto z i.1 g) columns c.inside) in omega (arith, n, even_within)) t))
+      (λ g. absurd (odd_not (at_or_left x columns) (let n =
+      all_left x columns (All-weaker (λ z. (a ≤ℤ z) × (z ≤ℤ b)) (λ z. z ≤ℤ x) (λ z i. upto z i.1 g) columns
+      c.inside) in omega (arith, n, even_within)) t))
       (λ g. sym (same_within x (omega signed) g) ∙ t)) where
         odd_not : (n : ℕ) → n % 2 ≡ 0 → (n % 2 == 1) ≡ true → ⊥
         odd_not n e f = grind arith
@@ -270,7 +340,8 @@ module _ (sides : List Side) (y a b : ℤ) (columns : List ℤ) (frame : IsFrame
         upto : (z : ℤ) → z ≤ℤ b → b <ℤ x → z ≤ℤ x
         upto z i g = omega signed
 
-  pub polygon_within : (sorted : List ℤ) (old new : List Stretch) → IsPermutation columns sorted → AddsPlaces (λ x. at_or_left x sorted % 2 == 1) old new → AddsWithin (is_between sides) y a b old new
+  pub polygon_within : (sorted : List ℤ) (old new : List Stretch) → IsPermutation columns sorted →
+      AddsPlaces (λ x. at_or_left x sorted % 2 == 1) old new → AddsWithin (is_between sides) y a b old new
   polygon_within sorted old new p adds = record {
     kept = λ x h. adds x ∙ ap (λ e. e || (at_or_left x sorted % 2 == 1)) h;
     sound = λ x h. elim (or_cases _ _ (sym (adds x) ∙ h)) [

@@ -1,5 +1,6 @@
 -- The runs near the columns that change, from stretches that are exact in a window.
-use Rattle.std.proofs.Common.{arith, ◌≡◌, ◌∙◌, ℕ, ℤ, pos, ◌-ℤ◌, ◌<ℤ◌, ◌≤ℤ◌, ◌<◌, ◌&&◌, List, length, get_or, filter, [], ◌∷◌, All, Any, refl, sym, inl, inr, Bool, true, false, ◌||◌, IsTrue, int_le}
+use Rattle.std.proofs.Common.{arith, ◌≡◌, ◌∙◌, ℕ, ℤ, pos, ◌-ℤ◌, ◌<ℤ◌, ◌≤ℤ◌, ◌<◌, ◌&&◌, List, length, get_or, filter, []}
+use Rattle.std.proofs.Common.{◌∷◌, All, Any, refl, sym, inl, inr, Bool, true, false, ◌||◌, IsTrue, int_le}
 use Rattle.std.specs.List.{AllZip}
 use Rattle.std.proofs.lemmas.List.{get_or_default}
 use Rattle.std.proofs.lemmas.List.Elements.{All-cons, All-filter, filter_passes}
@@ -47,7 +48,15 @@ module _ (cells : ℤ → ℤ → Bool) (z d1 d2 a b : ℤ) (ss : List Stretch) 
   around : (from to : ℤ) → IsRun (λ x y. is_in_stretches ss x) from to z → (x1 : ℤ) × (x2 : ℤ) × IsRun cells x1 x2 z × (x1 ≤ℤ from) × (to ≤ℤ x2)
   around from to run = go (cell_run cells from z bound (e.sound from (run.full from (record { from = omega signed; to = run.long })))) where
     go : (x1 : ℤ) × (x2 : ℤ) × IsRun cells x1 x2 z × IsWithin x1 x2 from → (x1 : ℤ) × (x2 : ℤ) × IsRun cells x1 x2 z × (x1 ≤ℤ from) × (to ≤ℤ x2)
-    go (x1, x2, r, w) = (x1, x2, r, w.from, by_lt_z x2 to (λ h. absurd (r.right (e.sound x2 (run.full x2 (record { from = let t = w.to in omega signed; to = h }))))) (λ h. h))
+    go (x1, x2, r, w) = (
+      x1,
+      x2,
+      r,
+      w.from,
+      by_lt_z x2 to
+          (λ h. absurd (r.right (e.sound x2 (run.full x2 (record { from = let t = w.to in omega signed; to = h })))))
+          (λ h. h),
+    )
 
   -- a stretch that is not far is a run
   pub stretch_run : (from to : ℤ) → IsRun (λ x y. is_in_stretches ss x) from to z → ¬ IsFar d1 d2 from to → IsRun cells from to z
@@ -60,7 +69,9 @@ module _ (cells : ℤ → ℤ → Bool) (z d1 d2 a b : ℤ) (ss : List Stretch) 
           long = run.long;
           full = λ x w. e.sound x (run.full x w);
           left = λ h. run.left (e.full (from -ℤ pos 1) (omega signed) (omega signed) h);
-          right = λ h. run.right (e.full to (omega signed) (by_lt_z to x2 (λ g. omega signed) (λ g. let same : to ≡ x2 = omega signed in absurd (r.right (rw same at h)))) h);
+          right = λ h. run.right (e.full to (omega signed)
+              (by_lt_z to x2 (λ g. omega signed) (λ g. let same : to ≡ x2 = omega signed in
+              absurd (r.right (rw same at h)))) h);
         }
 
   -- and each run that is not far is one of the stretches
@@ -75,7 +86,8 @@ module _ (cells : ℤ → ℤ → Bool) (z d1 d2 a b : ℤ) (ss : List Stretch) 
       })
 
   -- so the stretches that are not far are the runs that are not far
-  pub near_stretch : (k : ℕ) (d : Stretch) → k < length ss → ¬ IsFar d1 d2 (get_or ss k d).from (get_or ss k d).to → IsRun cells (get_or ss k d).from (get_or ss k d).to z
+  pub near_stretch : (k : ℕ) (d : Stretch) → k < length ss → ¬ IsFar d1 d2 (get_or ss k d).from (get_or ss k d).to →
+      IsRun cells (get_or ss k d).from (get_or ss k d).to z
   near_stretch k d l near = stretch_run _ _ (run_from_row (λ x y. is_in_stretches ss x) z ss own_row k d l) near
 
 near_test : (d1 d2 : ℤ) (s : Stretch) → ¬ IsFar d1 d2 s.from s.to → is_near d1 d2 s ≡ true
@@ -91,14 +103,19 @@ test_near d1 d2 s t = not_far d1 d2 s.from s.to (first s.from s.to t) (second s.
   second : (a b : ℤ) → int_le d1 b && int_le a d2 ≡ true → a ≤ℤ d2
   second a b t = grind (arith, ints)
 
-module _ (cells : ℤ → ℤ → Bool) (z high d1 d2 a b : ℤ) (ss : List Stretch) (runs : List Rect) (bound : IsBounded cells) (e : IsExactIn cells z d1 d2 a b ss) (zip : AllZip (IsOver z high) (filter (is_near d1 d2) ss) runs) where
+module _ (cells : ℤ → ℤ → Bool) (z high d1 d2 a b : ℤ) (ss : List Stretch) (runs : List Rect) (bound : IsBounded cells)
+    (e : IsExactIn cells z d1 d2 a b ss) (zip : AllZip (IsOver z high) (filter (is_near d1 d2) ss) runs) where
   over : (k : ℕ) (d : Rect) (s : Stretch) → k < length runs → IsOver z high (get_or (filter (is_near d1 d2) ss) k s) (get_or runs k d)
-  over k d s l = let n = zip_length (IsOver z high) (filter (is_near d1 d2) ss) runs zip in zip_at (IsOver z high) (filter (is_near d1 d2) ss) runs k s d zip (omega arith)
+  over k d s l = let n = zip_length (IsOver z high) (filter (is_near d1 d2) ss) runs zip in
+      zip_at (IsOver z high) (filter (is_near d1 d2) ss) runs k s d zip (omega arith)
 
   kept_run : All (λ s. IsRun cells s.from s.to z × (¬ IsFar d1 d2 s.from s.to)) (filter (is_near d1 d2) ss)
   kept_run k d l =
-      let t = test_near d1 d2 (get_or (filter (is_near d1 d2) ss) k d) (filter_passes (is_near d1 d2) ss k d l) in
-      (All-filter (is_near d1 d2) (λ s. ¬ IsFar d1 d2 s.from s.to → IsRun cells s.from s.to z) ss (λ m c h n. near_stretch cells z d1 d2 a b ss bound e m c h n) k d l t, t)
+      let t = test_near d1 d2 (get_or (filter (is_near d1 d2) ss) k d) (filter_passes (is_near d1 d2) ss k d l) in (
+        All-filter (is_near d1 d2) (λ s. ¬ IsFar d1 d2 s.from s.to → IsRun cells s.from s.to z) ss
+            (λ m c h n. near_stretch cells z d1 d2 a b ss bound e m c h n) k d l t,
+        t,
+      )
 
   some_stretch : (k : ℕ) → k < length (filter (is_near d1 d2) ss) → Stretch
   some_stretch k l = pick (filter (is_near d1 d2) ss) k l where
@@ -138,7 +155,9 @@ module _ (cells : ℤ → ℤ → Bool) (z high d1 d2 a b : ℤ) (ss : List Stre
             let o : IsOver z high s (get_or runs m d) = rw g at (over m d s h') in
             (m, get_or runs m d, h', get_or_default runs m (get_or runs m d) d h', record { left = o.left ∙ f; right = o.right ∙ t })
 
-pub exact_in : (cells : ℤ → ℤ → Bool) (z d1 d2 a b : ℤ) (parts sorted ss : List Stretch) → AreSeparate ss → ((x : ℤ) → is_in_stretches ss x ≡ is_in_stretches sorted x) → ((x : ℤ) → is_in_stretches sorted x ≡ is_in_stretches parts x)
+pub exact_in : (cells : ℤ → ℤ → Bool) (z d1 d2 a b : ℤ) (parts sorted ss : List Stretch) → AreSeparate ss →
+    ((x : ℤ) → is_in_stretches ss x ≡ is_in_stretches sorted x) →
+    ((x : ℤ) → is_in_stretches sorted x ≡ is_in_stretches parts x)
     → ((x : ℤ) → is_in_stretches parts x ≡ true → cells x z ≡ true) → ((x : ℤ) → (a -ℤ pos 1) ≤ℤ x → x ≤ℤ b → cells x z ≡ true → is_in_stretches parts x ≡ true)
     → ((x1 x2 : ℤ) → IsRun cells x1 x2 z → ¬ IsFar d1 d2 x1 x2 → (a ≤ℤ x1) × (x2 ≤ℤ b)) → IsExactIn cells z d1 d2 a b ss
 exact_in cells z d1 d2 a b parts sorted ss apart same same' sound full inside = record {
@@ -161,13 +180,21 @@ in_one s x = or_false (is_within s.from s.to x) where
   or_false false = refl
 
 -- one stretch that changes in covered columns alone
-pub alone_sound : (cells : ℤ → ℤ → Bool) (z d1 d2 a b : ℤ) (s : Stretch) (parts : List Stretch) → IsStill cells z d1 d2 a b s → ((x : ℤ) → IsWithin d1 d2 x → cells x z ≡ true) → parts ≡ s ∷ [] → (x : ℤ) → is_in_stretches parts x ≡ true → cells x z ≡ true
+pub alone_sound : (cells : ℤ → ℤ → Bool) (z d1 d2 a b : ℤ) (s : Stretch) (parts : List Stretch) →
+    IsStill cells z d1 d2 a b s → ((x : ℤ) → IsWithin d1 d2 x → cells x z ≡ true) → parts ≡ s ∷ [] → (x : ℤ) →
+    is_in_stretches parts x ≡ true → cells x z ≡ true
 alone_sound cells z d1 d2 a b s parts still covered e x t =
     let i : IsWithin s.from s.to x = test_within _ _ x (sym (in_one s x) ∙ (rw e at t)) in
     by_lt_z x d1 (λ h. still.same x i (inl h)) (λ h. by_lt_z x d2 (λ g. covered x (record { from = h; to = g })) (λ g. still.same x i (inr g)))
 
-pub alone_full : (cells : ℤ → ℤ → Bool) (z d1 d2 a b : ℤ) (s : Stretch) (parts : List Stretch) → IsStill cells z d1 d2 a b s → IsFramed cells z a b → parts ≡ s ∷ [] → (x : ℤ) → (a -ℤ pos 1) ≤ℤ x → x ≤ℤ b → cells x z ≡ true → is_in_stretches parts x ≡ true
+pub alone_full : (cells : ℤ → ℤ → Bool) (z d1 d2 a b : ℤ) (s : Stretch) (parts : List Stretch) →
+    IsStill cells z d1 d2 a b s → IsFramed cells z a b → parts ≡ s ∷ [] → (x : ℤ) → (a -ℤ pos 1) ≤ℤ x → x ≤ℤ b →
+    cells x z ≡ true → is_in_stretches parts x ≡ true
 alone_full cells z d1 d2 a b s parts still framed e x low high t = rw e (in_one s x ∙ within_test _ _ x (record {
-  from = let f = still.left in by_lt_z x a (λ h. absurd (let g : x ≡ a -ℤ pos 1 = omega signed in let n = framed.left in let u : cells (a -ℤ pos 1) z ≡ true = rw g at t in cc)) (λ h. omega signed);
-  to = let f = still.right in by_lt_z x b (λ h. omega signed) (λ h. absurd (let g : x ≡ b = omega signed in let n = framed.right in let u : cells b z ≡ true = rw g at t in cc));
+  from = let f = still.left in by_lt_z x a (λ h. absurd
+      (let g : x ≡ a -ℤ pos 1 = omega signed in let n = framed.left in let u : cells (a -ℤ pos 1) z ≡ true = rw g at t
+      in cc)) (λ h. omega signed);
+  to = let f = still.right in by_lt_z x b (λ h. omega signed)
+      (λ h. absurd (let g : x ≡ b = omega signed in let n = framed.right in let u : cells b z ≡ true = rw g at t in
+      cc));
 }))

@@ -16,18 +16,24 @@ pub corners_kept : (old new : List ℤ) (part : Primitive) → ((z : ℤ) → Co
 corners_kept old new (prim.Box r) f (a, b) = (f r.y1 a, f r.y2 b)
 corners_kept old new (prim.Poly ps) f h = λ k d l. f _ (h k d l)
 
-pub ordinates_more : (prims : List Primitive) (i : ℕ) (part : Primitive) (old new : List ℤ) → i < length prims → part ≡ get_or prims i part → AddsOrdinates part old new → HasOrdinates old (take i prims) → HasOrdinates new (take (i + 1) prims)
+pub ordinates_more : (prims : List Primitive) (i : ℕ) (part : Primitive) (old new : List ℤ) → i < length prims →
+    part ≡ get_or prims i part → AddsOrdinates part old new → HasOrdinates old (take i prims) →
+    HasOrdinates new (take (i + 1) prims)
 ordinates_more prims i part old new within is a h =
-    All-more (HasCorners new) prims i part within (All-weaker (HasCorners old) (HasCorners new) (λ p g. corners_kept old new p a.kept g) (take i prims) h) (let g = a.has in rw is at g)
+    All-more (HasCorners new) prims i part within (All-weaker (HasCorners old) (HasCorners new)
+    (λ p g. corners_kept old new p a.kept g) (take i prims) h) (let g = a.has in rw is at g)
 
 pub ordinates_moved : (prims : List Primitive) (old new : List ℤ) → IsPermutation old new → HasOrdinates old prims → HasOrdinates new prims
-ordinates_moved prims old new p h = All-weaker (HasCorners old) (HasCorners new) (λ q g. corners_kept old new q (λ z c. Contains-permutation old new z p c) g) prims h
+ordinates_moved prims old new p h = All-weaker (HasCorners old) (HasCorners new)
+    (λ q g. corners_kept old new q (λ z c. Contains-permutation old new z p c) g) prims h
 
 pub two_pushed : (r : Rect) (old mid new : List ℤ) → mid ≡ old ++ r.y1 ∷ [] → new ≡ mid ++ r.y2 ∷ [] → AddsOrdinates (prim.Box r) old new
 two_pushed r old mid new e f = rw (f, e) (record {
   kept = λ z c. Contains-append_left (old ++ r.y1 ∷ []) (r.y2 ∷ []) z (Contains-append_left old (r.y1 ∷ []) z c);
   has = (Contains-append_left (old ++ r.y1 ∷ []) (r.y2 ∷ []) r.y1 (Contains-push old r.y1), Contains-push (old ++ r.y1 ∷ []) r.y2);
-  range = λ a. All-push IsInRange (old ++ r.y1 ∷ []) r.y2 (All-push IsInRange old r.y1 a (record { low = r.below; high = low_high r })) (record { low = high_low r; high = r.above });
+  range = λ a. All-push IsInRange (old ++ r.y1 ∷ []) r.y2
+      (All-push IsInRange old r.y1 a (record { low = r.below; high = low_high r }))
+      (record { low = high_low r; high = r.above });
 }) where
   low_high : (r : Rect) → r.y1 ≤ℤ pos (2 ^ 30)
   low_high r = omega signed
@@ -41,7 +47,8 @@ pub record AddsCorners (points : List Point) (i : ℕ) (old new : List ℤ) : Ty
   pub has : All (λ p. Contains new p.y) (take i points)
   pub range : All IsInRange old → All IsInRange new
 
-pub corner_pushed : (points : List Point) (i : ℕ) (p : Point) (old mid new : List ℤ) → i < length points → p ≡ get_or points i p → AddsCorners points i old mid → new ≡ mid ++ p.y ∷ [] → AddsCorners points (i + 1) old new
+pub corner_pushed : (points : List Point) (i : ℕ) (p : Point) (old mid new : List ℤ) → i < length points →
+    p ≡ get_or points i p → AddsCorners points i old mid → new ≡ mid ++ p.y ∷ [] → AddsCorners points (i + 1) old new
 corner_pushed points i p old mid new within is a e = rw e (record {
   kept = λ z c. Contains-append_left mid (p.y ∷ []) z (a.kept z c);
   has = All-more (λ q. Contains (mid ++ p.y ∷ []) q.y) points i p within

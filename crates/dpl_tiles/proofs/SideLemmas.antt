@@ -1,5 +1,6 @@
 -- The sides of a polygon: how many of them span a row at or left of a column.
-use Rattle.std.proofs.Common.{arith, ◌≡◌, ℕ, ◌+◌, ◌%◌, ◌<◌, ◌≤◌, ℤ, List, length, get_or, drop, ◌∙◌, refl, sym, ap, ◌∷◌, [], ◌++◌, Bool, ◌==◌, cond, int_le, map}
+use Rattle.std.proofs.Common.{arith, ◌≡◌, ℕ, ◌+◌, ◌%◌, ◌<◌, ◌≤◌, ℤ, List, length, get_or, drop, ◌∙◌, refl, sym, ap, ◌∷◌}
+use Rattle.std.proofs.Common.{[], ◌++◌, Bool, ◌==◌, cond, int_le, map}
 use Rattle.std.specs.Int.{int_min, int_max}
 use Rattle.std.proofs.lemmas.Int.{ints, clamps}
 use Rattle.std.proofs.lemmas.List.{at_drop_more, at_drop_all}
@@ -40,7 +41,8 @@ pub record Round (first : Point) (rest : List Point) (i : ℕ) (before : Point) 
 pub round_none : (first : Point) (rest : List Point) → Round first rest 0 first []
 round_none first rest = record { each = λ x y. omega arith }
 
-stood : (x y : ℤ) (p q : ℤ × ℤ) (s : Side) (sides : List Side) → IsSideOf p q s → standing x y (sides ++ s ∷ []) ≡ standing x y sides + bit (is_left_side x y p q)
+stood : (x y : ℤ) (p q : ℤ × ℤ) (s : Side) (sides : List Side) → IsSideOf p q s →
+    standing x y (sides ++ s ∷ []) ≡ standing x y sides + bit (is_left_side x y p q)
 stood x y p q s sides i = sum_by_push (λ s. bit (stands x y s)) sides s ∙ ap (λ b. standing x y sides + bit b) (same i) where
   same : IsSideOf p q s → stands x y s ≡ is_left_side x y p q
   same i = rw (i.column, i.low, i.high) refl
@@ -48,19 +50,25 @@ stood x y p q s sides i = sum_by_push (λ s. bit (stands x y s)) sides s ∙ ap 
 step_sides : (x y : ℤ) (rest : List Point) (i : ℕ) (before p first : Point) → i < length rest → p ≡ get_or rest i p
     → left_to_go x y before (drop i rest) first ≡ bit (is_left_side x y (place_of before) (place_of p)) + left_to_go x y p (drop (i + 1) rest) first
 step_sides x y rest i before p first within is =
-    at_drop_more (λ ps. left_to_go x y before ps first) rest i p within ∙ ap (λ (q : Point). bit (is_left_side x y (place_of before) (place_of q)) + left_to_go x y q (drop (i + 1) rest) first) (sym is)
+    at_drop_more (λ ps. left_to_go x y before ps first) rest i p within ∙
+    ap (λ (q : Point). bit (is_left_side x y (place_of before) (place_of q)) + left_to_go x y q (drop (i + 1) rest)
+    first) (sym is)
 
-pub round_more : (first : Point) (rest : List Point) (i : ℕ) (before p : Point) (s : Side) (sides new : List Side) → Round first rest i before sides → i < length rest → p ≡ get_or rest i p
+pub round_more : (first : Point) (rest : List Point) (i : ℕ) (before p : Point) (s : Side) (sides new : List Side) →
+    Round first rest i before sides → i < length rest → p ≡ get_or rest i p
     → IsSideOf (place_of before) (place_of p) s → new ≡ sides ++ s ∷ [] → Round first rest (i + 1) p new
 round_more first rest i before p s sides new r within is side e = rw e (record {
   each = λ x y. omega (arith, stood x y (place_of before) (place_of p) s sides side, step_sides x y rest i before p first within is, r.each x y);
 })
 
-pub round_end : (first : Point) (rest : List Point) (i : ℕ) (before : Point) (s : Side) (sides new : List Side) → length rest ≤ i → Round first rest i before sides
+pub round_end : (first : Point) (rest : List Point) (i : ℕ) (before : Point) (s : Side) (sides new : List Side) →
+    length rest ≤ i → Round first rest i before sides
     → IsSideOf (place_of before) (place_of first) s → new ≡ sides ++ s ∷ [] → AreSidesOf (map place_of (first ∷ rest)) new
-round_end first rest i before s sides new whole r side e = λ x y. rw e (omega (arith, stood x y (place_of before) (place_of first) s sides side, last_side x y, r.each x y)) where
-  last_side : (x y : ℤ) → left_to_go x y before (drop i rest) first ≡ bit (is_left_side x y (place_of before) (place_of first))
-  last_side x y = at_drop_all (λ ps. left_to_go x y before ps first) rest i whole
+round_end first rest i before s sides new whole r side e =
+    λ x y. rw e (omega (arith, stood x y (place_of before) (place_of first) s sides side, last_side x y, r.each x y))
+  where
+    last_side : (x y : ℤ) → left_to_go x y before (drop i rest) first ≡ bit (is_left_side x y (place_of before) (place_of first))
+    last_side x y = at_drop_all (λ ps. left_to_go x y before ps first) rest i whole
 
 -- the cells of a polygon lie between its sides
 pub polygon_between : (points : List (ℤ × ℤ)) (sides : List Side) (x y : ℤ) → AreSidesOf points sides → is_between sides x y ≡ is_in_polygon points x y

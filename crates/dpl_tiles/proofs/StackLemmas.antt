@@ -27,10 +27,12 @@ pub goes_on_some : (pieces : List Rect) (r : Rect) → Any (HasColumns r.x1 r.x2
 goes_on_some pieces r (k, p, l, e, c) = list_any-from_Any (same_columns r) pieces (k, p, l, e, columns_test r p c)
 
 pub goes_on_none : (pieces : List Rect) (r : Rect) → ¬ Any (HasColumns r.x1 r.x2) pieces → goes_on pieces r ≡ false
-goes_on_none pieces r none = decide (goes_on pieces r) (λ t. let (k, p, l, e, s) = Any-from_list_any (same_columns r) pieces t in none (k, p, l, e, test_columns r p s)) where
-  decide : (b : Bool) → (b ≡ true → ⊥) → b ≡ false
-  decide true f = absurd (f refl)
-  decide false f = refl
+goes_on_none pieces r none = decide (goes_on pieces r)
+    (λ t. let (k, p, l, e, s) = Any-from_list_any (same_columns r) pieces t in none (k, p, l, e, test_columns r p s))
+  where
+    decide : (b : Bool) → (b ≡ true → ⊥) → b ≡ false
+    decide true f = absurd (f refl)
+    decide false f = refl
 
 pub some_goes_on : (pieces : List Rect) (r : Rect) → goes_on pieces r ≡ true → Any (HasColumns r.x1 r.x2) pieces
 some_goes_on pieces r t = let (k, p, l, e, s) = Any-from_list_any (same_columns r) pieces t in (k, p, l, e, test_columns r p s)
@@ -63,10 +65,13 @@ pub last_row : (low high : ℤ) → low <ℤ high → IsWithin low high (high -�
 last_row low high h = record { from = omega signed; to = omega signed }
 
 -- there is one stack with these columns at most
-pub one_place : (rects : List Rect) (i j : ℕ) (a b : Rect) (x : ℤ) → AllPairs IsLeftOf rects → i < length rects → j < length rects → get_or rects i a ≡ a → get_or rects j b ≡ b → a.x1 ≡ x → b.x1 ≡ x → a ≡ b
+pub one_place : (rects : List Rect) (i j : ℕ) (a b : Rect) (x : ℤ) → AllPairs IsLeftOf rects → i < length rects →
+    j < length rects → get_or rects i a ≡ a → get_or rects j b ≡ b → a.x1 ≡ x → b.x1 ≡ x → a ≡ b
 one_place rects i j a b x up l m e f g h = three i j
-    (λ n. absurd (let p : IsLeftOf (get_or rects i a) (get_or rects j a) = up i j a n m in let p' : IsLeftOf a b = rw (e, get_or_default rects j a b m ∙ f) at p in beside a b x g h p'))
+    (λ n. absurd (let p : IsLeftOf (get_or rects i a) (get_or rects j a) = up i j a n m in let p' : IsLeftOf a b =
+    rw (e, get_or_default rects j a b m ∙ f) at p in beside a b x g h p'))
     (λ n. sym e ∙ ap (λ k. get_or rects k a) n ∙ get_or_default rects j a b m ∙ f)
-    (λ n. absurd (let p : IsLeftOf (get_or rects j b) (get_or rects i b) = up j i b n l in let p' : IsLeftOf b a = rw (f, get_or_default rects i b a l ∙ e) at p in beside b a x h g p')) where
+    (λ n. absurd (let p : IsLeftOf (get_or rects j b) (get_or rects i b) = up j i b n l in let p' : IsLeftOf b a =
+    rw (f, get_or_default rects i b a l ∙ e) at p in beside b a x h g p')) where
       beside : (a b : Rect) (x : ℤ) → a.x1 ≡ x → b.x1 ≡ x → IsLeftOf a b → ⊥
       beside a b x e f h = let w = a.wide in omega signed

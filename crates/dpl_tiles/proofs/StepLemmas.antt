@@ -1,5 +1,6 @@
 -- A step of a sweep that looks at the stacks near the columns that change alone.
-use Rattle.std.proofs.Common.{arith, ◌≡◌, ◌⊎◌, ℕ, ◌+◌, ◌-◌, ◌<◌, ℤ, pos, ◌-ℤ◌, ◌<ℤ◌, ◌≤ℤ◌, List, length, get_or, length-append, All, Any, AllPairs, refl, sym, ap, ◌∙◌, inl, inr, ◌++◌, Bool, not}
+use Rattle.std.proofs.Common.{arith, ◌≡◌, ◌⊎◌, ℕ, ◌+◌, ◌-◌, ◌<◌, ℤ, pos, ◌-ℤ◌, ◌<ℤ◌, ◌≤ℤ◌, List, length, get_or}
+use Rattle.std.proofs.Common.{length-append, All, Any, AllPairs, refl, sym, ap, ◌∙◌, inl, inr, ◌++◌, Bool, not}
 use Rattle.std.specs.List.{AllZip}
 use Rattle.std.proofs.lemmas.Int.{by_lt_z}
 use Rattle.std.proofs.lemmas.Bool.{cases_lt}
@@ -39,7 +40,13 @@ part_ordered xs ys up = (
   (λ i j d h l. let n = length-append xs ys in
       let e : length xs + i - length xs ≡ i = omega arith in
       let f : length xs + j - length xs ≡ j = omega arith in
-      rw (get_or-append_right xs ys (length xs) (length xs + i) d refl (omega arith), e, get_or-append_right xs ys (length xs) (length xs + j) d refl (omega arith), f) at (up (length xs + i) (length xs + j) d (omega arith) (omega arith))),
+      rw (
+        get_or-append_right xs ys (length xs) (length xs + i) d refl (omega arith),
+        e,
+        get_or-append_right xs ys (length xs) (length xs + j) d refl (omega arith),
+        f,
+      ) at
+      (up (length xs + i) (length xs + j) d (omega arith) (omega arith))),
 )
 
 pub itself : (r : Rect) → IsSameStack r r
@@ -77,7 +84,8 @@ pub record IsWindowStep (old cells : ℤ → ℤ → Bool) (z d1 d2 : ℤ) (befo
   pub continued : AllZip (IsContinued near z) runs stacks
   pub closed_are : AllZip (IsClosed z) (ending runs near) closed
 
-module _ (old cells : ℤ → ℤ → Bool) (z d1 d2 : ℤ) (before near behind runs stacks closed : List Rect) (s : IsWindowStep old cells z d1 d2 before near behind runs stacks closed) where
+module _ (old cells : ℤ → ℤ → Bool) (z d1 d2 : ℤ) (before near behind runs stacks closed : List Rect)
+    (s : IsWindowStep old cells z d1 d2 before near behind runs stacks closed) where
   before_held : All (λ r. IsRun old r.x1 r.x2 z) before
   before_held = all_left (λ r. IsRun old r.x1 r.x2 z) before (near ++ behind) s.held.each
 
@@ -90,18 +98,28 @@ module _ (old cells : ℤ → ℤ → Bool) (z d1 d2 : ℤ) (before near behind 
   zipped : (k : ℕ) (d : Rect) → k < length stacks → IsContinued near z (get_or runs k d) (get_or stacks k d)
   zipped k d l = let n = zip_length (IsContinued near z) runs stacks s.continued in zip_at (IsContinued near z) runs stacks k d d s.continued (omega arith)
 
-  run_of : (k : ℕ) (d : Rect) → k < length stacks → IsRun cells (get_or runs k d).x1 (get_or runs k d).x2 z × (¬ IsFar d1 d2 (get_or runs k d).x1 (get_or runs k d).x2)
+  run_of : (k : ℕ) (d : Rect) → k < length stacks → IsRun cells (get_or runs k d).x1 (get_or runs k d).x2 z ×
+      (¬ IsFar d1 d2 (get_or runs k d).x1 (get_or runs k d).x2)
   run_of k d l = let n = zip_length (IsContinued near z) runs stacks s.continued in s.runs_are.each k d (omega arith)
 
   -- ---- the stacks afterwards
 
   before_kept : All (λ r. IsRun cells r.x1 r.x2 z × (Any (λ o. IsSameStack o r) (before ++ (near ++ behind)) ⊎ IsNew (before ++ (near ++ behind)) z r)) before
-  before_kept k d l = (far_run (get_or before k d) (inl (s.left k d l)) (before_held k d l), inl (any_left _ before (near ++ behind) (any_here (λ o. IsSameStack o (get_or before k d)) before k d l (itself _))))
+  before_kept k d l = (
+    far_run (get_or before k d) (inl (s.left k d l)) (before_held k d l),
+    inl (any_left _ before (near ++ behind) (any_here (λ o. IsSameStack o (get_or before k d)) before k d l
+        (itself _))),
+  )
 
   behind_kept : All (λ r. IsRun cells r.x1 r.x2 z × (Any (λ o. IsSameStack o r) (before ++ (near ++ behind)) ⊎ IsNew (before ++ (near ++ behind)) z r)) behind
-  behind_kept k d l = (far_run (get_or behind k d) (inr (s.right k d l)) (behind_held k d l), inl (any_right _ before (near ++ behind) (any_right _ near behind (any_here (λ o. IsSameStack o (get_or behind k d)) behind k d l (itself _)))))
+  behind_kept k d l = (
+    far_run (get_or behind k d) (inr (s.right k d l)) (behind_held k d l),
+    inl (any_right _ before (near ++ behind) (any_right _ near behind
+        (any_here (λ o. IsSameStack o (get_or behind k d)) behind k d l (itself _)))),
+  )
 
-  none_far : (p r : Rect) → ¬ IsFar d1 d2 p.x1 p.x2 → HasColumns p.x1 p.x2 r → ¬ Any (HasColumns p.x1 p.x2) near → ¬ Any (HasColumns r.x1 r.x2) (before ++ (near ++ behind))
+  none_far : (p r : Rect) → ¬ IsFar d1 d2 p.x1 p.x2 → HasColumns p.x1 p.x2 r → ¬ Any (HasColumns p.x1 p.x2) near →
+      ¬ Any (HasColumns r.x1 r.x2) (before ++ (near ++ behind))
   none_far p r far c none any = elim (any_split _ before (near ++ behind) any) [
     | inl (k, o, l, e, h) ↦ far (inl (left_of o h (rw e at (s.left k o l))))
     | inr more ↦ elim (any_split _ near behind more) [
@@ -115,11 +133,24 @@ module _ (old cells : ℤ → ℤ → Bool) (z d1 d2 : ℤ) (before near behind 
     right_of : (o : Rect) → HasColumns r.x1 r.x2 o → d2 <ℤ o.x1 → d2 <ℤ p.x1
     right_of o h g = let e = h.left in let f = c.left in omega signed
 
-  new_one : (p r : Rect) → IsContinued near z p r → IsRun cells p.x1 p.x2 z → ¬ IsFar d1 d2 p.x1 p.x2 → IsRun cells r.x1 r.x2 z × (Any (λ o. IsSameStack o r) (before ++ (near ++ behind)) ⊎ IsNew (before ++ (near ++ behind)) z r)
+  new_one : (p r : Rect) → IsContinued near z p r → IsRun cells p.x1 p.x2 z → ¬ IsFar d1 d2 p.x1 p.x2 →
+      IsRun cells r.x1 r.x2 z × (Any (λ o. IsSameStack o r) (before ++ (near ++ behind)) ⊎
+      IsNew (before ++ (near ++ behind)) z r)
   new_one p r g run far = (
     rw (g.columns.left, g.columns.right) run,
     elim g.bottom [
-      | inl (k, o, l, e, (c, f)) ↦ inl (any_right _ before (near ++ behind) (any_left _ near behind (k, o, l, e, record { columns = record { left = g.columns.left ∙ sym c.left; right = g.columns.right ∙ sym c.right }; bottom = f })))
+      | inl (k, o, l, e, (c, f)) ↦ inl (any_right _ before (near ++ behind)
+          (any_left _ near behind (
+            k,
+            o,
+            l,
+            e,
+            record {
+              columns =
+                  record { left = g.columns.left ∙ sym c.left; right = g.columns.right ∙ sym c.right };
+              bottom = f;
+            },
+          )))
       | inr (none, f) ↦ inr (record { bottom = f; none = none_far p r far g.columns none })
     ],
   )
@@ -137,9 +168,11 @@ module _ (old cells : ℤ → ℤ → Bool) (z d1 d2 : ℤ) (before near behind 
       any_here (HasColumns x1 x2) stacks k p l' (record { left = g.columns.left ∙ c.left; right = g.columns.right ∙ c.right })
 
   far_or_not : (x1 x2 : ℤ) → IsFar d1 d2 x1 x2 ⊎ (¬ IsFar d1 d2 x1 x2)
-  far_or_not x1 x2 = by_lt_z x2 d1 (λ h. inl (inl h)) (λ h. by_lt_z d2 x1 (λ g. inl (inr g)) (λ g. inr (λ f. elim f [ inl a ↦ absurd (omega signed) | inr a ↦ absurd (omega signed) ])))
+  far_or_not x1 x2 = by_lt_z x2 d1 (λ h. inl (inl h)) (λ h. by_lt_z d2 x1 (λ g. inl (inr g))
+      (λ g. inr (λ f. elim f [ inl a ↦ absurd (omega signed) | inr a ↦ absurd (omega signed) ])))
 
-  far_stack : (x1 x2 : ℤ) → x1 <ℤ x2 → IsFar d1 d2 x1 x2 → Any (HasColumns x1 x2) (before ++ (near ++ behind)) → Any (HasColumns x1 x2) (before ++ (stacks ++ behind))
+  far_stack : (x1 x2 : ℤ) → x1 <ℤ x2 → IsFar d1 d2 x1 x2 → Any (HasColumns x1 x2) (before ++ (near ++ behind)) →
+      Any (HasColumns x1 x2) (before ++ (stacks ++ behind))
   far_stack x1 x2 long far any = elim (any_split _ before (near ++ behind) any) [
     | inl a ↦ any_left _ before (stacks ++ behind) a
     | inr more ↦ elim (any_split _ near behind more) [
@@ -158,10 +191,14 @@ module _ (old cells : ℤ → ℤ → Bool) (z d1 d2 : ℤ) (before near behind 
 
   -- a run that ends left of the change and one that is not far have a column between
   gap_left : (a1 a2 b1 b2 : ℤ) → IsRun cells a1 a2 z → IsRun cells b1 b2 z → a2 <ℤ d1 → ¬ IsFar d1 d2 b1 b2 → a2 <ℤ b1
-  gap_left a1 a2 b1 b2 one two left far = by_lt_z a2 b1 (λ h. h) (λ h. by_lt_z b2 d1 (λ g. absurd (far (inl g))) (λ g. absurd (one.right (two.full a2 (record { from = h; to = omega signed })))))
+  gap_left a1 a2 b1 b2 one two left far = by_lt_z a2 b1 (λ h. h)
+      (λ h. by_lt_z b2 d1 (λ g. absurd (far (inl g))) (λ g. absurd
+      (one.right (two.full a2 (record { from = h; to = omega signed })))))
 
   gap_right : (a1 a2 b1 b2 : ℤ) → IsRun cells a1 a2 z → IsRun cells b1 b2 z → ¬ IsFar d1 d2 a1 a2 → d2 <ℤ b1 → a2 <ℤ b1
-  gap_right a1 a2 b1 b2 one two far right = by_lt_z a2 b1 (λ h. h) (λ h. by_lt_z d2 a1 (λ g. absurd (far (inr g))) (λ g. absurd (two.left (one.full (b1 -ℤ pos 1) (record { from = omega signed; to = omega signed })))))
+  gap_right a1 a2 b1 b2 one two far right = by_lt_z a2 b1 (λ h. h)
+      (λ h. by_lt_z d2 a1 (λ g. absurd (far (inr g))) (λ g. absurd
+      (two.left (one.full (b1 -ℤ pos 1) (record { from = omega signed; to = omega signed })))))
 
   stacks_ordered : AllPairs IsLeftOf stacks
   stacks_ordered i j d h l =
@@ -190,16 +227,21 @@ module _ (old cells : ℤ → ℤ → Bool) (z d1 d2 : ℤ) (before near behind 
       (all_pairs_append IsLeftOf stacks behind stacks_ordered (q.1) stack_behind)
       (λ i j d l m. elim (cases_lt j (length stacks)) [
         | inl h ↦ rw (get_or_append_left stacks behind d j h) (before_stack i j d l h)
-        | inr h ↦ let n = length-append stacks behind in rw (get_or-append_right stacks behind (length stacks) j d refl h) (before_behind (get_or before i d) (get_or behind (j - length stacks) d) (s.left i d l) (s.right (j - length stacks) d (omega arith)))
+        | inr h ↦ let n = length-append stacks behind in
+            rw (get_or-append_right stacks behind (length stacks) j d refl h)
+            (before_behind (get_or before i d) (get_or behind (j - length stacks) d) (s.left i d l)
+            (s.right (j - length stacks) d (omega arith)))
       ])
 
   -- ---- the stacks that end
 
   zipped_end : (k : ℕ) (d : Rect) → k < length closed → IsClosed z (get_or (ending runs near) k d) (get_or closed k d)
-  zipped_end k d l = let n = zip_length (IsClosed z) (ending runs near) closed s.closed_are in zip_at (IsClosed z) (ending runs near) closed k d d s.closed_are (omega arith)
+  zipped_end k d l = let n = zip_length (IsClosed z) (ending runs near) closed s.closed_are in
+      zip_at (IsClosed z) (ending runs near) closed k d d s.closed_are (omega arith)
 
   ending_near : All (λ o. Any (λ p. IsSameStack p o) near) (ending runs near)
-  ending_near = All-filter (λ o. not (goes_on runs o)) (λ o. Any (λ p. IsSameStack p o) near) near (λ k d l. any_here (λ p. IsSameStack p (get_or near k d)) near k d l (itself _))
+  ending_near = All-filter (λ o. not (goes_on runs o)) (λ o. Any (λ p. IsSameStack p o) near) near
+      (λ k d l. any_here (λ p. IsSameStack p (get_or near k d)) near k d l (itself _))
 
   ending_none : (k : ℕ) (d : Rect) → k < length (ending runs near) → ¬ IsRun cells (get_or (ending runs near) k d).x1 (get_or (ending runs near) k d).x2 z
   ending_none k d l run =
@@ -207,15 +249,31 @@ module _ (old cells : ℤ → ℤ → Bool) (z d1 d2 : ℤ) (before near behind 
       let far = All-filter (λ o. not (goes_on runs o)) (λ r. ¬ IsFar d1 d2 r.x1 r.x2) near s.between k d l in
       none_goes_on runs (get_or (ending runs near) k d) t (s.runs_are.all _ _ run far)
 
-  ended_one : (o c : Rect) → IsClosed z o c → ¬ IsRun cells o.x1 o.x2 z → Any (λ p. IsSameStack p o) near → (¬ IsRun cells c.x1 c.x2 z) × (c.y2 ≡ z) × Any (λ p. IsSameStack p c) (before ++ (near ++ behind))
+  ended_one : (o c : Rect) → IsClosed z o c → ¬ IsRun cells o.x1 o.x2 z → Any (λ p. IsSameStack p o) near →
+      (¬ IsRun cells c.x1 c.x2 z) × (c.y2 ≡ z) × Any (λ p. IsSameStack p c) (before ++ (near ++ behind))
   ended_one o c g none (k, p, l, e, h) = (
     (λ run. none (rw (g.columns.left, g.columns.right) at run)),
     g.top,
-    any_right _ before (near ++ behind) (any_left _ near behind (k, p, l, e, record { columns = record { left = g.columns.left ∙ h.columns.left; right = g.columns.right ∙ h.columns.right }; bottom = g.bottom ∙ h.bottom })),
+    any_right _ before (near ++ behind) (any_left _ near behind (
+      k,
+      p,
+      l,
+      e,
+      record {
+        columns = record {
+          left = g.columns.left ∙ h.columns.left;
+          right = g.columns.right ∙
+              h.columns.right;
+        };
+        bottom = g.bottom ∙ h.bottom;
+      },
+    )),
   )
 
   ends : All (λ r. (¬ IsRun cells r.x1 r.x2 z) × (r.y2 ≡ z) × Any (λ o. IsSameStack o r) (before ++ (near ++ behind))) closed
-  ends k d l = let n = zip_length (IsClosed z) (ending runs near) closed s.closed_are in ended_one (get_or (ending runs near) k d) (get_or closed k d) (zipped_end k d l) (ending_none k d (omega arith)) (ending_near k d (omega arith))
+  ends k d l = let n = zip_length (IsClosed z) (ending runs near) closed s.closed_are in
+      ended_one (get_or (ending runs near) k d) (get_or closed k d) (zipped_end k d l) (ending_none k d (omega arith))
+      (ending_near k d (omega arith))
 
   rising : AllPairs (λ a b. a.x1 <ℤ b.x1) closed
   rising i j d h l =
@@ -233,7 +291,8 @@ module _ (old cells : ℤ → ℤ → Bool) (z d1 d2 : ℤ) (before near behind 
   near_gone : (k : ℕ) (d : Rect) → k < length near → ¬ IsRun cells (get_or near k d).x1 (get_or near k d).x2 z → Any (IsSameStack (get_or near k d)) closed
   near_gone k d l none =
       let o = get_or near k d in
-      let t = goes_on_none runs o (λ (m, p, h, e, c). none (let r : IsRun cells p.x1 p.x2 z = rw e at ((s.runs_are.each m p h).0) in rw (c.left, c.right) at r)) in
+      let t = goes_on_none runs o (λ (m, p, h, e, c). none
+      (let r : IsRun cells p.x1 p.x2 z = rw e at ((s.runs_are.each m p h).0) in rw (c.left, c.right) at r)) in
       go o (kept_by (λ o. not (goes_on runs o)) near k o l (get_or_default near k o d l) (rw t refl)) where
         go : (o : Rect) → (m : ℕ) × (m < length (ending runs near)) × (get_or (ending runs near) m o ≡ o) → Any (IsSameStack o) closed
         go o (m, h, e) =
@@ -260,14 +319,23 @@ module _ (old cells : ℤ → ℤ → Bool) (z d1 d2 : ℤ) (before near behind 
 
   pub window_step : IsStep cells z (before ++ (near ++ behind)) closed (before ++ (stacks ++ behind))
   window_step = record {
-    each = All-append (λ r. IsRun cells r.x1 r.x2 z × (Any (λ o. IsSameStack o r) (before ++ (near ++ behind)) ⊎ IsNew (before ++ (near ++ behind)) z r)) before (stacks ++ behind) before_kept (All-append (λ r. IsRun cells r.x1 r.x2 z × (Any (λ o. IsSameStack o r) (before ++ (near ++ behind)) ⊎ IsNew (before ++ (near ++ behind)) z r)) stacks behind stacks_kept behind_kept);
+    each = All-append (λ r. IsRun cells r.x1 r.x2 z × (Any (λ o. IsSameStack o r) (before ++ (near ++ behind)) ⊎
+        IsNew (before ++ (near ++ behind)) z r)) before (stacks ++ behind) before_kept
+        (All-append (λ r. IsRun cells r.x1 r.x2 z × (Any (λ o. IsSameStack o r) (before ++ (near ++ behind)) ⊎
+        IsNew (before ++ (near ++ behind)) z r)) stacks behind stacks_kept behind_kept);
     all = all_runs;
     ordered = ordered;
     ends = ends;
-    gone = All-append (λ o. (¬ IsRun cells o.x1 o.x2 z) → Any (IsSameStack o) closed) before (near ++ behind) (λ k d l none. absurd (none (far_run (get_or before k d) (inl (s.left k d l)) (before_held k d l))))
-        (All-append (λ o. (¬ IsRun cells o.x1 o.x2 z) → Any (IsSameStack o) closed) near behind (λ k d l none. near_gone k d l none) (λ k d l none. absurd (none (far_run (get_or behind k d) (inr (s.right k d l)) (behind_held k d l)))));
-    kept = All-append (λ o. IsRun cells o.x1 o.x2 z → Any (IsSameStack o) (before ++ (stacks ++ behind))) before (near ++ behind) (λ k d l run. any_left _ before (stacks ++ behind) (any_here (IsSameStack (get_or before k d)) before k d l (itself _)))
-        (All-append (λ o. IsRun cells o.x1 o.x2 z → Any (IsSameStack o) (before ++ (stacks ++ behind))) near behind (λ k d l run. any_right _ before (stacks ++ behind) (any_left _ stacks behind (near_stays k d l run)))
+    gone = All-append (λ o. (¬ IsRun cells o.x1 o.x2 z) → Any (IsSameStack o) closed) before (near ++ behind)
+        (λ k d l none. absurd (none (far_run (get_or before k d) (inl (s.left k d l)) (before_held k d l))))
+        (All-append (λ o. (¬ IsRun cells o.x1 o.x2 z) → Any (IsSameStack o) closed) near behind
+        (λ k d l none. near_gone k d l none) (λ k d l none. absurd
+        (none (far_run (get_or behind k d) (inr (s.right k d l)) (behind_held k d l)))));
+    kept = All-append (λ o. IsRun cells o.x1 o.x2 z → Any (IsSameStack o) (before ++ (stacks ++ behind))) before
+        (near ++ behind) (λ k d l run. any_left _ before (stacks ++ behind)
+        (any_here (IsSameStack (get_or before k d)) before k d l (itself _)))
+        (All-append (λ o. IsRun cells o.x1 o.x2 z → Any (IsSameStack o) (before ++ (stacks ++ behind))) near behind
+        (λ k d l run. any_right _ before (stacks ++ behind) (any_left _ stacks behind (near_stays k d l run)))
         (λ k d l run. any_right _ before (stacks ++ behind) (any_right _ stacks behind (any_here (IsSameStack (get_or behind k d)) behind k d l (itself _)))));
     rising = rising;
   }

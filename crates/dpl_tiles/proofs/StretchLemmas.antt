@@ -44,45 +44,65 @@ merging_none first rest h = record {
   same = λ x. sym (or-false _);
 }
 
-pub merging_join : (first : Stretch) (rest : List Stretch) (i : ℕ) (merged : List Stretch) (last part next : Stretch) → Merging first rest i merged last → i < length rest → part ≡ get_or rest i part
-    → next.from ≡ last.from → ((x : ℤ) → is_within next.from next.to x ≡ (is_within last.from last.to x || is_within part.from part.to x)) → Merging first rest (i + 1) merged next
+pub merging_join : (first : Stretch) (rest : List Stretch) (i : ℕ) (merged : List Stretch) (last part next : Stretch) →
+    Merging first rest i merged last → i < length rest → part ≡ get_or rest i part
+    → next.from ≡ last.from → ((x : ℤ) → is_within next.from next.to
+    x ≡ (is_within last.from last.to x || is_within part.from part.to x)) → Merging first rest (i + 1) merged next
 merging_join first rest i merged last part next m within is e same = record {
   ahead = λ k d l n. rw e (m.ahead k d (omega arith) n);
   separate = m.separate;
   behind = All-weaker (λ t. t.to <ℤ last.from) (λ t. t.to <ℤ next.from) (λ t h. rw e h) merged m.behind;
-  same = λ x. ap (λ b. is_in_stretches merged x || b) (same x) ∙ sym (or_assoc (is_in_stretches merged x) _ _) ∙ ap (λ b. b || is_within part.from part.to x) (m.same x)
+  same = λ x. ap (λ b. is_in_stretches merged x || b) (same x) ∙ sym (or_assoc (is_in_stretches merged x) _ _) ∙
+      ap (λ b. b || is_within part.from part.to x) (m.same x)
       ∙ or_assoc (is_within first.from first.to x) _ _ ∙ ap (λ b. is_within first.from first.to x || b) (sym (more_places rest i part x within is));
 } where
-  more_places : (rest : List Stretch) (i : ℕ) (part : Stretch) (x : ℤ) → i < length rest → part ≡ get_or rest i part → is_in_stretches (take (i + 1) rest) x ≡ (is_in_stretches (take i rest) x || is_within part.from part.to x)
-  more_places rest i part x within is = list_any_more (λ s. is_within s.from s.to x) rest i part within ∙ ap (λ (s : Stretch). is_in_stretches (take i rest) x || is_within s.from s.to x) (sym is)
+  more_places : (rest : List Stretch) (i : ℕ) (part : Stretch) (x : ℤ) → i < length rest → part ≡ get_or rest i part →
+      is_in_stretches (take (i + 1) rest) x ≡ (is_in_stretches (take i rest) x || is_within part.from part.to x)
+  more_places rest i part x within is = list_any_more (λ s. is_within s.from s.to x) rest i part within ∙
+      ap (λ (s : Stretch). is_in_stretches (take i rest) x || is_within s.from s.to x) (sym is)
 
-pub merging_push : (first : Stretch) (rest : List Stretch) (i : ℕ) (merged : List Stretch) (last part : Stretch) → Ascends (λ s. s.from) rest → Merging first rest i merged last → i < length rest → part ≡ get_or rest i part
+pub merging_push : (first : Stretch) (rest : List Stretch) (i : ℕ) (merged : List Stretch) (last part : Stretch) →
+    Ascends (λ s. s.from) rest → Merging first rest i merged last → i < length rest → part ≡ get_or rest i part
     → last.to <ℤ part.from → Merging first rest (i + 1) (merged ++ last ∷ []) part
 merging_push first rest i merged last part sorted m within is h = record {
   ahead = λ k d l n. let s : (get_or rest i d).from ≤ℤ (get_or rest k d).from = sorted i k d (omega arith) n in rw (is ∙ get_or_default rest i part d within) s;
   separate = all_pairs_push (λ s t. s.to <ℤ t.from) merged last m.separate m.behind;
-  behind = All-push (λ t. t.to <ℤ part.from) merged last (All-weaker (λ t. t.to <ℤ last.from) (λ t. t.to <ℤ part.from) (λ t g. let w = last.wide in omega signed) merged m.behind) h;
+  behind = All-push (λ t. t.to <ℤ part.from) merged last
+      (All-weaker (λ t. t.to <ℤ last.from) (λ t. t.to <ℤ part.from) (λ t g. let w = last.wide in omega signed) merged
+      m.behind) h;
   same = λ x. ap (λ b. b || is_within part.from part.to x) (in_pushed merged last x ∙ m.same x)
-      ∙ or_assoc (is_within first.from first.to x) _ _ ∙ ap (λ b. is_within first.from first.to x || b) (sym (list_any_more (λ s. is_within s.from s.to x) rest i part within ∙ ap (λ (s : Stretch). is_in_stretches (take i rest) x || is_within s.from s.to x) (sym is)));
+      ∙ or_assoc (is_within first.from first.to x) _ _ ∙
+      ap (λ b. is_within first.from first.to x || b)
+      (sym (list_any_more (λ s. is_within s.from s.to x) rest i part within ∙
+      ap (λ (s : Stretch). is_in_stretches (take i rest) x || is_within s.from s.to x) (sym is)));
 }
 
-pub pushed_box : (parts new : List Stretch) (s : Stretch) (r : Corners) (y : ℤ) → new ≡ parts ++ s ∷ [] → s.from ≡ r.x1 → s.to ≡ r.x2 → r.y1 ≤ℤ y → y <ℤ r.y2 → AddsPlaces (λ x. is_in_box r x y) parts new
+pub pushed_box : (parts new : List Stretch) (s : Stretch) (r : Corners) (y : ℤ) → new ≡ parts ++ s ∷ [] →
+    s.from ≡ r.x1 → s.to ≡ r.x2 → r.y1 ≤ℤ y → y <ℤ r.y2 → AddsPlaces (λ x. is_in_box r x y) parts new
 pushed_box parts new s r y e f g low high = λ x.
     let h : is_within s.from s.to x ≡ is_in_box r x y = rw (f, g) (sym (box_in_row r x y low high)) in
     rw e (in_pushed parts s x ∙ ap (λ b. is_in_stretches parts x || b) h)
 
-pub merging_end : (first : Stretch) (rest : List Stretch) (i : ℕ) (merged new : List Stretch) (last : Stretch) → length rest ≤ i → Merging first rest i merged last → new ≡ merged ++ last ∷ []
+pub merging_end : (first : Stretch) (rest : List Stretch) (i : ℕ) (merged new : List Stretch) (last : Stretch) →
+    length rest ≤ i → Merging first rest i merged last → new ≡ merged ++ last ∷ []
     → (x : ℤ) → is_in_stretches new x ≡ (is_within first.from first.to x || is_in_stretches rest x)
-merging_end first rest i merged new last whole m e x = rw (e, in_pushed merged last x) (m.same x ∙ ap (λ (l : List Stretch). is_within first.from first.to x || is_in_stretches l x) (take_all i rest whole))
+merging_end first rest i merged new last whole m e x =
+    rw (e, in_pushed merged last x) (m.same x ∙ ap (λ (l : List Stretch). is_within first.from first.to x ||
+    is_in_stretches l x) (take_all i rest whole))
 
-pub merging_separate : (first : Stretch) (rest : List Stretch) (i : ℕ) (merged new : List Stretch) (last : Stretch) → Merging first rest i merged last → new ≡ merged ++ last ∷ [] → AreSeparate new
+pub merging_separate : (first : Stretch) (rest : List Stretch) (i : ℕ) (merged new : List Stretch) (last : Stretch) →
+    Merging first rest i merged last → new ≡ merged ++ last ∷ [] → AreSeparate new
 merging_separate first rest i merged new last m e = rw e (all_pairs_push (λ s t. s.to <ℤ t.from) merged last m.separate m.behind)
 
 pub in_parts : (prims : List Primitive) (x y : ℤ) → is_cell (map outline_of prims) x y ≡ list_any (λ p. is_in_outline x y (outline_of p)) prims
 in_parts prims x y = list_any-map (is_in_outline x y) outline_of prims
 
-pub row_more : (prims : List Primitive) (i : ℕ) (part : Primitive) (x y : ℤ) (old new : List Stretch) → i < length prims → part ≡ get_or prims i part → is_in_stretches old x ≡ is_cell (map outline_of (take i prims)) x y
-    → is_in_stretches new x ≡ (is_in_stretches old x || is_in_outline x y (outline_of part)) → is_in_stretches new x ≡ is_cell (map outline_of (take (i + 1) prims)) x y
+pub row_more : (prims : List Primitive) (i : ℕ) (part : Primitive) (x y : ℤ) (old new : List Stretch) →
+    i < length prims → part ≡ get_or prims i part → is_in_stretches old x ≡ is_cell (map outline_of (take i prims)) x y
+    → is_in_stretches new x ≡ (is_in_stretches old x || is_in_outline x y (outline_of part)) →
+    is_in_stretches new x ≡ is_cell (map outline_of (take (i + 1) prims)) x y
 row_more prims i part x y old new within is e f =
-    f ∙ ap (λ b. b || is_in_outline x y (outline_of part)) (e ∙ in_parts (take i prims) x y) ∙ ap (λ (p : Primitive). list_any (λ p. is_in_outline x y (outline_of p)) (take i prims) || is_in_outline x y (outline_of p)) is
+    f ∙ ap (λ b. b || is_in_outline x y (outline_of part)) (e ∙ in_parts (take i prims) x y) ∙
+    ap (λ (p : Primitive). list_any (λ p. is_in_outline x y (outline_of p)) (take i prims) || is_in_outline x y
+    (outline_of p)) is
     ∙ sym (list_any_more (λ p. is_in_outline x y (outline_of p)) prims i part within) ∙ sym (in_parts (take (i + 1) prims) x y)

@@ -1,5 +1,6 @@
 -- Each cell lies in exactly one tile.
-use Rattle.std.proofs.Common.{arith, rules, ◌≡◌, ℕ, zero, suc, ◌^◌, ℤ, pos, neg_ℤ, ◌+ℤ◌, ◌-ℤ◌, ◌<ℤ◌, ◌≤ℤ◌, List, Any, refl, inl, inr, ◌⊎◌, Bool, true, false, IsTrue}
+use Rattle.std.proofs.Common.{arith, rules, ◌≡◌, ℕ, zero, suc, ◌^◌, ℤ, pos, neg_ℤ, ◌+ℤ◌, ◌-ℤ◌, ◌<ℤ◌, ◌≤ℤ◌, List, Any}
+use Rattle.std.proofs.Common.{refl, inl, inr, ◌⊎◌, Bool, true, false, IsTrue}
 use Rattle.std.specs.Int.RustNames.{unsigned_abs}
 use Rattle.std.proofs.lemmas.Int.{by_lt_z}
 use Rattle.dpl_cell.specs.Places.{Corners}
@@ -59,9 +60,12 @@ run_or_not cells x1 x2 y long =
     ]
 
 -- a run around a cell of a row that ends on both sides
-pub run_around : (cells : ℤ → ℤ → Bool) (x y : ℤ) → ((z : ℤ) → z <ℤ neg_ℤ (pos (2 ^ 30)) → cells z y ≡ false) → ((z : ℤ) → pos (2 ^ 30) ≤ℤ z → cells z y ≡ false) → IsTrue (cells x y) → (x1 : ℤ) × (x2 : ℤ) × IsRun cells x1 x2 y × IsWithin x1 x2 x
+pub run_around : (cells : ℤ → ℤ → Bool) (x y : ℤ) → ((z : ℤ) → z <ℤ neg_ℤ (pos (2 ^ 30)) → cells z y ≡ false) →
+    ((z : ℤ) → pos (2 ^ 30) ≤ℤ z → cells z y ≡ false) → IsTrue (cells x y) → (x1 : ℤ) × (x2 : ℤ) × IsRun cells x1 x2 y ×
+    IsWithin x1 x2 x
 run_around cells x y left right t =
-    let (x1, x2, a) = around (λ x. IsTrue (cells x y)) (λ x. cell_or_not (cells x y)) (neg_ℤ (pos (2 ^ 30))) (pos (2 ^ 30)) (λ z h. no_cell (left z h)) (λ z h. no_cell (right z h)) x t in
+    let (x1, x2, a) = around (λ x. IsTrue (cells x y)) (λ x. cell_or_not (cells x y)) (neg_ℤ (pos (2 ^ 30)))
+    (pos (2 ^ 30)) (λ z h. no_cell (left z h)) (λ z h. no_cell (right z h)) x t in
     let f = a.inside.from in let g = a.inside.to in
     (x1, x2, record { long = omega signed; full = a.each; left = a.before; right = a.after }, a.inside)
 
@@ -71,7 +75,8 @@ cell_run cells x y b t = run_around cells x y (λ z h. b.left z y h) (λ z h. b.
 first_cell : (cells : ℤ → ℤ → Bool) (x1 x2 y : ℤ) → IsRun cells x1 x2 y → IsTrue (cells x1 y)
 first_cell cells x1 x2 y r = r.full x1 (record { from = let h = r.long in omega signed; to = r.long })
 
-run_tile : (cells : ℤ → ℤ → Bool) (x1 x2 y : ℤ) → IsBounded cells → IsRun cells x1 x2 y → (y1 : ℤ) × (y2 : ℤ) × IsTile cells (record { x1 = x1; y1 = y1; x2 = x2; y2 = y2 }) × IsWithin y1 y2 y
+run_tile : (cells : ℤ → ℤ → Bool) (x1 x2 y : ℤ) → IsBounded cells → IsRun cells x1 x2 y → (y1 : ℤ) × (y2 : ℤ) ×
+    IsTile cells (record { x1 = x1; y1 = y1; x2 = x2; y2 = y2 }) × IsWithin y1 y2 y
 run_tile cells x1 x2 y b r =
     let (y1, y2, a) = around (λ y. IsRun cells x1 x2 y) (λ y. run_or_not cells x1 x2 y r.long) (neg_ℤ (pos (2 ^ 30))) (pos (2 ^ 30))
     (λ z h. λ s. no_cell (b.below x1 z h) (first_cell cells x1 x2 z s)) (λ z h. λ s. no_cell (b.above x1 z h) (first_cell cells x1 x2 z s)) y r in
@@ -80,7 +85,8 @@ run_tile cells x1 x2 y b r =
 
 -- ---- the union
 
-cell_held : (cells : ℤ → ℤ → Bool) (tiles : List Corners) → IsBounded cells → AreTiles cells tiles → (x y : ℤ) → IsTrue (cells x y) → Any (λ r. IsIn r x y) tiles
+cell_held : (cells : ℤ → ℤ → Bool) (tiles : List Corners) → IsBounded cells → AreTiles cells tiles → (x y : ℤ) →
+    IsTrue (cells x y) → Any (λ r. IsIn r x y) tiles
 cell_held cells tiles b a x y t =
     let (x1, x2, r, w) = cell_run cells x y b t in
     let (y1, y2, s, v) = run_tile cells x1 x2 y b r in
@@ -95,12 +101,14 @@ held_cell cells tiles a x y (k, r, l, e, i) =
 -- two tiles that share a cell are the same
 shared : (cells : ℤ → ℤ → Bool) (a b : Corners) → IsTile cells a → IsTile cells b → SharesCell (IsIn a) (IsIn b) → a ≡ b
 shared cells a b s t c =
-    let (e, f) = one_maximal (λ x. IsTrue (cells x c.y)) a.x1 a.x2 b.x1 b.x2 c.x (s.rows c.y c.first.row) (t.rows c.y c.second.row) c.first.column c.second.column in
+    let (e, f) = one_maximal (λ x. IsTrue (cells x c.y)) a.x1 a.x2 b.x1 b.x2 c.x (s.rows c.y c.first.row)
+    (t.rows c.y c.second.row) c.first.column c.second.column in
     one_tile cells a b c.y s t e f c.first.row c.second.row
 
 pub shares_out : (cells : ℤ → ℤ → Bool) (tiles : List Corners) → IsBounded cells → AreTiles cells tiles → SharesOut cells tiles
 shares_out cells tiles b a = record {
   union = λ x y. ((λ t. cell_held cells tiles b a x y t), (λ h. held_cell cells tiles a x y h));
   apart = λ i j d h l. λ c. never_before _ _ (shared cells _ _ (a.each i d (omega arith)) (a.each j d l) c) (a.ordered i j d h l);
-  drawn = λ x y. both_ways _ _ (λ t. true_is _ (held_cell cells tiles a x y (drawn_any tiles x y t))) (λ t. any_drawn tiles x y (cell_held cells tiles b a x y (is_true t)));
+  drawn = λ x y. both_ways _ _ (λ t. true_is _ (held_cell cells tiles a x y (drawn_any tiles x y t)))
+      (λ t. any_drawn tiles x y (cell_held cells tiles b a x y (is_true t)));
 }

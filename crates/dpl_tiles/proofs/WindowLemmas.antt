@@ -21,7 +21,8 @@ far_column d1 d2 x1 x2 x (inr h) f t = inr (omega signed)
 pub run_up : (old new : ℤ → ℤ → Bool) (z d1 d2 x1 x2 : ℤ) → IsChange old new z d1 d2 → IsFar d1 d2 x1 x2 → IsRun old x1 x2 z → IsRun new x1 x2 z
 run_up old new z d1 d2 x1 x2 same far run = record {
   long = run.long;
-  full = λ x w. let e = same x (far_column d1 d2 x1 x2 x far (let f = w.from in omega signed) (let t = w.to in omega signed)) in let h : IsTrue (old x z) = run.full x w in rw e at h;
+  full = λ x w. let e = same x (far_column d1 d2 x1 x2 x far (let f = w.from in omega signed)
+      (let t = w.to in omega signed)) in let h : IsTrue (old x z) = run.full x w in rw e at h;
   left = let e = same (x1 -ℤ pos 1) (far_column d1 d2 x1 x2 (x1 -ℤ pos 1) far (omega signed) (let l = run.long in omega signed)) in λ h. run.left (rw e h);
   right = let e = same x2 (far_column d1 d2 x1 x2 x2 far (let l = run.long in omega signed) (omega signed)) in λ h. run.right (rw e h);
 }
@@ -52,6 +53,8 @@ pub at_most_on : (a b c : ℤ) → a ≤ℤ b → b ≤ℤ c → a ≤ℤ c
 at_most_on a b c h k = omega signed
 
 -- an end that stays or is that of one more stack
-pub reached : (end : Rect → ℤ) (near : List Rect) (i : ℕ) (r : Rect) (change old new : ℤ) → i < length near → r ≡ get_or near i r → (new ≡ old) ⊎ (new ≡ end r) → (old ≡ change) ⊎ Any (λ o. end o ≡ old) near → (new ≡ change) ⊎ Any (λ o. end o ≡ new) near
+pub reached : (end : Rect → ℤ) (near : List Rect) (i : ℕ) (r : Rect) (change old new : ℤ) → i < length near →
+    r ≡ get_or near i r → (new ≡ old) ⊎ (new ≡ end r) → (old ≡ change) ⊎ Any (λ o. end o ≡ old) near → (new ≡ change) ⊎
+    Any (λ o. end o ≡ new) near
 reached end near i r change old new l is (inl e) so = subst (λ z. (z ≡ change) ⊎ Any (λ o. end o ≡ z) near) (sym e) so
 reached end near i r change old new l is (inr e) so = inr (i, r, l, sym is, sym e)

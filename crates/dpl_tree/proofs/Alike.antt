@@ -22,7 +22,9 @@ zero_both false false x y e e' = refl
 pub loads_alike : (n : ℕ) (f g : Sets) → AreAlike n f g → (s t : ℕ) → s < n → t < n → loads n g s t ≡ loads n f s t
 loads_alike n f g a s t hs ht = sum_same (2 * n) _ _ (λ i hi. elim (a.sets i hi) [
   | inl z ↦ zero_both (differ (g.holds i s) (g.holds i t)) (differ (f.holds i s) (f.holds i t)) (g.value i) (f.value i) (a.value i hi ∙ z) z
-  | inr h ↦ ap (λ z. cond (differ z (g.holds i t)) (g.value i) 0) (h s hs) ∙ ap (λ z. cond (differ (f.holds i s) z) (g.value i) 0) (h t ht) ∙ ap (λ z. cond (differ (f.holds i s) (f.holds i t)) z 0) (a.value i hi)
+  | inr h ↦ ap (λ z. cond (differ z (g.holds i t)) (g.value i) 0) (h s hs) ∙
+      ap (λ z. cond (differ (f.holds i s) z) (g.value i) 0) (h t ht) ∙
+      ap (λ z. cond (differ (f.holds i s) (f.holds i t)) z 0) (a.value i hi)
 ])
 
 pub totals_alike : (n : ℕ) (f g : Sets) → AreAlike n f g → (s : ℕ) → s < n → totals n g s ≡ totals n f s
@@ -49,7 +51,8 @@ expanded_alike n f g set e none s = record {
   ];
 }
 
-pub pairs_alike : (n : ℕ) (f : Sets) (load load' dist : ℕ → ℕ → ℕ) (mate : ℕ → Option ℕ) → ((s t : ℕ) → s < n → t < n → load' s t ≡ load s t) → ArePairs n f load dist mate → ArePairs n f load' dist mate
+pub pairs_alike : (n : ℕ) (f : Sets) (load load' dist : ℕ → ℕ → ℕ) (mate : ℕ → Option ℕ) →
+    ((s t : ℕ) → s < n → t < n → load' s t ≡ load s t) → ArePairs n f load dist mate → ArePairs n f load' dist mate
 pairs_alike n f load load' dist mate e p = record {
   range = p.range;
   back = p.back;
@@ -58,7 +61,8 @@ pairs_alike n f load load' dist mate e p = record {
   alone = p.alone;
 }
 
-pub tree_alike : (n : ℕ) (f : Sets) (load load' dist : ℕ → ℕ → ℕ) (x : Forest) → ((s t : ℕ) → s < n → t < n → load' s t ≡ load s t) → IsTree n f load dist x → IsTree n f load' dist x
+pub tree_alike : (n : ℕ) (f : Sets) (load load' dist : ℕ → ℕ → ℕ) (x : Forest) →
+    ((s t : ℕ) → s < n → t < n → load' s t ≡ load s t) → IsTree n f load dist x → IsTree n f load' dist x
 tree_alike n f load load' dist x e t = record {
   tops = t.tops;
   root_outer = t.root_outer;

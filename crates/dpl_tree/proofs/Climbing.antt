@@ -7,13 +7,15 @@ use Rattle.dpl_tree.specs.Mates.{IsExit, ArePairs, Joins}
 use Rattle.dpl_tree.proofs.Growing.{outer_in, outer_inner_no}
 
 -- s and t, whose sets have no pair else, become mates
-pub joined_pairs : (n : ℕ) (f : Sets) (load dist : ℕ → ℕ → ℕ) (mate new : ℕ → Option ℕ) (s t : ℕ) → ArePairs n f load dist mate → s < n → t < n → f.top s ≢ f.top t → load s t ≡ dist s t → load t s ≡ dist t s →
+pub joined_pairs : (n : ℕ) (f : Sets) (load dist : ℕ → ℕ → ℕ) (mate new : ℕ → Option ℕ) (s t : ℕ) →
+    ArePairs n f load dist mate → s < n → t < n → f.top s ≢ f.top t → load s t ≡ dist s t → load t s ≡ dist t s →
     ((m u : ℕ) → IsExit n f mate (f.top s) m u → ⊥) → ((m u : ℕ) → IsExit n f mate (f.top t) m u → ⊥) → Joins mate s t new → ArePairs n f load dist new
 joined_pairs n f load dist mate new s t p hs ht apart tight tight' sfree tfree j =
     -- a member with an old mate is neither of the two, nor is its mate
     let ns = λ (m u : ℕ) (hm : m < n) (k : mate m ≡ Some u) (e : m ≡ s). sfree m u (record { below = hm; top = ap f.top e; paired = k }) in
     let nt = λ (m u : ℕ) (hm : m < n) (k : mate m ≡ Some u) (e : m ≡ t). tfree m u (record { below = hm; top = ap f.top e; paired = k }) in
-    let cases = λ (m u : ℕ) (k : new m ≡ Some u). (elim (cases_eq m s) as (λ _. ((m ≡ s) × (u ≡ t)) ⊎ (((m ≡ t) × (u ≡ s)) ⊎ ((m ≢ s) × (m ≢ t) × (mate m ≡ Some u)))) [
+    let cases = λ (m u : ℕ) (k : new m ≡ Some u). (elim (cases_eq m s) as
+    (λ _. ((m ≡ s) × (u ≡ t)) ⊎ (((m ≡ t) × (u ≡ s)) ⊎ ((m ≢ s) × (m ≢ t) × (mate m ≡ Some u)))) [
       | inl e ↦ inl (e, some_is (sym k ∙ ap new e ∙ j.first))
       | inr a ↦ elim (cases_eq m t) [
         | inl e ↦ inr (inl (e, some_is (sym k ∙ ap new e ∙ j.second)))
@@ -67,7 +69,8 @@ pub record Drops (mate : ℕ → Option ℕ) (ex b : ℕ) (new : ℕ → Option 
   pub second : new b ≡ None
   pub others : (i : ℕ) → i ≢ ex → i ≢ b → new i ≡ mate i
 
-pub dropped_pairs : (n : ℕ) (f : Sets) (load dist : ℕ → ℕ → ℕ) (mate new : ℕ → Option ℕ) (ex b : ℕ) → ArePairs n f load dist mate → ex < n → mate ex ≡ Some b → Drops mate ex b new → ArePairs n f load dist new
+pub dropped_pairs : (n : ℕ) (f : Sets) (load dist : ℕ → ℕ → ℕ) (mate new : ℕ → Option ℕ) (ex b : ℕ) →
+    ArePairs n f load dist mate → ex < n → mate ex ≡ Some b → Drops mate ex b new → ArePairs n f load dist new
 dropped_pairs n f load dist mate new ex b p hx xb d =
     let old = λ (m u : ℕ) (k : new m ≡ Some u). (elim (cases_eq m ex) as (λ _. (m ≢ ex) × (m ≢ b) × (mate m ≡ Some u)) [
       | inl e ↦ some_none (new m) u k (ap new e ∙ d.first)
@@ -88,8 +91,11 @@ dropped_pairs n f load dist mate new ex b p hx xb d =
     }
 
 -- one step of the climb
-pub climbed : (n : ℕ) (f : Sets) (load dist : ℕ → ℕ → ℕ) (x : Forest) (mate less new : ℕ → Option ℕ) (s t ex b : ℕ) → IsTree n f load dist x → ArePairs n f load dist x.mate → ((s t : ℕ) → load s t ≡ load t s) → ((s t : ℕ) → s < n → t < n → dist s t ≡ dist t s) →
-    IsClimb n f load dist x mate s t → IsExit n f mate (f.top s) ex b → Drops mate ex b less → Joins less s t new → IsClimb n f load dist x new (x.above (f.top b)) (x.entry (f.top b))
+pub climbed : (n : ℕ) (f : Sets) (load dist : ℕ → ℕ → ℕ) (x : Forest) (mate less new : ℕ → Option ℕ) (s t ex b : ℕ) →
+    IsTree n f load dist x → ArePairs n f load dist x.mate → ((s t : ℕ) → load s t ≡ load t s) →
+    ((s t : ℕ) → s < n → t < n → dist s t ≡ dist t s) →
+    IsClimb n f load dist x mate s t → IsExit n f mate (f.top s) ex b → Drops mate ex b less → Joins less s t new →
+    IsClimb n f load dist x new (x.above (f.top b)) (x.entry (f.top b))
 climbed n f load dist x mate less new s t ex b tree px ls ds c w d j =
     let i : ℕ = f.top b in
     let ps = outer_in c.s_outer in
@@ -146,14 +152,24 @@ climbed n f load dist x mate less new s t ex b tree px ls ds c w d j =
           | inl e ↦ (s, t, record { below = c.s_range; top = sym e; paired = j.first })
           | inr os ↦
               let v = c.has_pair o m u ot k in
-              let oi : o ≢ i = λ e. ne (e ∙ sym entry) in
-              (v.0, v.1, record { below = v.2.below; top = v.2.top; paired = same v.0 (λ e. os (sym v.2.top ∙ ap f.top e)) (λ e. ot (sym v.2.top ∙ ap f.top e)) (λ e. os (sym v.2.top ∙ ap f.top e ∙ w.top)) (λ e. oi (sym v.2.top ∙ ap f.top e)) ∙ v.2.paired })
+              let oi : o ≢ i = λ e. ne (e ∙ sym entry) in (
+                v.0,
+                v.1,
+                record {
+                  below = v.2.below;
+                  top = v.2.top;
+                  paired =
+                      same v.0 (λ e. os (sym v.2.top ∙ ap f.top e)) (λ e. ot (sym v.2.top ∙ ap f.top e))
+                      (λ e. os (sym v.2.top ∙ ap f.top e ∙ w.top)) (λ e. oi (sym v.2.top ∙ ap f.top e)) ∙ v.2.paired;
+                },
+              )
         ]
       ];
     }
 
 -- the end of the climb, at the root
-pub climb_ended : (n : ℕ) (f : Sets) (load dist : ℕ → ℕ → ℕ) (x : Forest) (mate new : ℕ → Option ℕ) (s t : ℕ) → IsClimb n f load dist x mate s t → ((m u : ℕ) → IsExit n f mate (f.top s) m u → ⊥) → Joins mate s t new →
+pub climb_ended : (n : ℕ) (f : Sets) (load dist : ℕ → ℕ → ℕ) (x : Forest) (mate new : ℕ → Option ℕ) (s t : ℕ) →
+    IsClimb n f load dist x mate s t → ((m u : ℕ) → IsExit n f mate (f.top s) m u → ⊥) → Joins mate s t new →
     ArePairs n f load dist new × ((i m u : ℕ) → IsExit n f x.mate i m u → (a : ℕ) × (c : ℕ) × IsExit n f new i a c) × IsExit n f new (f.top s) s t
 climb_ended n f load dist x mate new s t c none j = (
   joined_pairs n f load dist mate new s t c.pairs c.s_range c.t_range c.apart c.tight c.tight_back none c.t_free j,
@@ -162,15 +178,24 @@ climb_ended n f load dist x mate new s t c none j = (
     | inr it ↦ elim (cases_eq i (f.top s)) [
       | inl e ↦ (s, t, record { below = c.s_range; top = sym e; paired = j.first })
       | inr is ↦
-          let v = c.has_pair i m u it k in
-          (v.0, v.1, record { below = v.2.below; top = v.2.top; paired = j.others v.0 (λ e. is (sym v.2.top ∙ ap f.top e)) (λ e. it (sym v.2.top ∙ ap f.top e)) ∙ v.2.paired })
+          let v = c.has_pair i m u it k in (
+            v.0,
+            v.1,
+            record {
+              below = v.2.below;
+              top = v.2.top;
+              paired =
+                  j.others v.0 (λ e. is (sym v.2.top ∙ ap f.top e)) (λ e. it (sym v.2.top ∙ ap f.top e)) ∙ v.2.paired;
+            },
+          )
     ]
   ]),
   record { below = c.s_range; top = refl; paired = j.first },
 )
 
 -- the climb begins at a tight pair from an outer set to one with no pair outside of the tree
-pub climb_begun : (n : ℕ) (f : Sets) (load dist : ℕ → ℕ → ℕ) (x : Forest) (s t : ℕ) → ArePairs n f load dist x.mate → s < n → t < n → x.place (f.top s) ≡ outer → x.place (f.top t) ≡ free → load s t ≡ dist s t → load t s ≡ dist t s →
+pub climb_begun : (n : ℕ) (f : Sets) (load dist : ℕ → ℕ → ℕ) (x : Forest) (s t : ℕ) → ArePairs n f load dist x.mate →
+    s < n → t < n → x.place (f.top s) ≡ outer → x.place (f.top t) ≡ free → load s t ≡ dist s t → load t s ≡ dist t s →
     ((m u : ℕ) → IsExit n f x.mate (f.top t) m u → ⊥) → IsClimb n f load dist x x.mate s t
 climb_begun n f load dist x s t p hs ht ps pt tight tight' none = record {
   s_range = hs;

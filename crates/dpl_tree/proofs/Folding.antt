@@ -8,7 +8,8 @@ use Rattle.dpl_tree.specs.Mates.{IsExit, ArePairs, DropsInside}
 use Rattle.dpl_tree.proofs.Growing.{outer_in, inner_in, outer_inner_no, exit_back}
 
 -- what a new mate was before
-pub was_mate : (n : ℕ) (g : Sets) (mate new : ℕ → Option ℕ) → DropsInside n g mate new → (m t : ℕ) → m < n → new m ≡ Some t → (mate m ≡ Some t) × (g.top m ≢ g.top t)
+pub was_mate : (n : ℕ) (g : Sets) (mate new : ℕ → Option ℕ) → DropsInside n g mate new → (m t : ℕ) → m < n →
+    new m ≡ Some t → (mate m ≡ Some t) × (g.top m ≢ g.top t)
 was_mate n g mate new d m t hm k = elim (cases_Option (mate m)) [
   | inl none ↦ some_none (new m) t k (d.unpaired m hm none)
   | inr w ↦ elim (cases_eq (g.top m) (g.top w.0)) [
@@ -37,7 +38,9 @@ tops_of n f g cs set p q = record {
 }
 
 -- only the set where the ways meet keeps its pair
-pub only_meet : (n : ℕ) (f g : Sets) (x : Forest) (cs : List ℕ) (set meet m t : ℕ) → Gathers n f cs set g → IsCycle n f x cs meet → m < n → t < n → has cs (f.top m) ≡ true → x.mate m ≡ Some t → g.top m ≢ g.top t → (f.top m ≡ meet)
+pub only_meet : (n : ℕ) (f g : Sets) (x : Forest) (cs : List ℕ) (set meet m t : ℕ) → Gathers n f cs set g →
+    IsCycle n f x cs meet → m < n → t < n → has cs (f.top m) ≡ true → x.mate m ≡ Some t → g.top m ≢ g.top t →
+    (f.top m ≡ meet)
 only_meet n f g x cs set meet m t q c hm ht k e ne = elim (cases_eq (f.top m) meet) [
   | inl z ↦ z
   | inr z ↦
@@ -45,7 +48,9 @@ only_meet n f g x cs set meet m t q c hm ht k e ne = elim (cases_eq (f.top m) me
       absurd (ne (q.top_inside m hm k ∙ sym (q.top_inside t ht kt)))
 ]
 
-pub folded_pairs : (n : ℕ) (f g : Sets) (load dist : ℕ → ℕ → ℕ) (x : Forest) (new : ℕ → Option ℕ) (cs : List ℕ) (set meet : ℕ) → IsLaminar n f → Gathers n f cs set g → ArePairs n f load dist x.mate → IsCycle n f x cs meet → DropsInside n g x.mate new → ArePairs n g load dist new
+pub folded_pairs : (n : ℕ) (f g : Sets) (load dist : ℕ → ℕ → ℕ) (x : Forest) (new : ℕ → Option ℕ) (cs : List ℕ)
+    (set meet : ℕ) → IsLaminar n f → Gathers n f cs set g → ArePairs n f load dist x.mate → IsCycle n f x cs meet →
+    DropsInside n g x.mate new → ArePairs n g load dist new
 folded_pairs n f g load dist x new cs set meet lam q p c d =
     let ts = tops_of n f g cs set lam q in
     let was = λ (m t : ℕ) (hm : m < n) (k : new m ≡ Some t). was_mate n g x.mate new d m t hm k in
@@ -71,7 +76,9 @@ folded_pairs n f g load dist x new cs set meet lam q p c d =
           ];
     }
 
-pub folded : (n : ℕ) (f g : Sets) (load dist : ℕ → ℕ → ℕ) (x y : Forest) (cs : List ℕ) (set meet : ℕ) → IsLaminar n f → AreTops n f cs → Gathers n f cs set g → ArePairs n f load dist x.mate → IsTree n f load dist x → IsCycle n f x cs meet →
+pub folded : (n : ℕ) (f g : Sets) (load dist : ℕ → ℕ → ℕ) (x y : Forest) (cs : List ℕ) (set meet : ℕ) → IsLaminar n f →
+    AreTops n f cs → Gathers n f cs set g → ArePairs n f load dist x.mate → IsTree n f load dist x →
+    IsCycle n f x cs meet →
     DropsInside n g x.mate y.mate → Folds x cs meet set y → IsTree n g load dist y
 folded n f g load dist x y cs set meet lam at q p tree c d o =
     let ts = tops_of n f g cs set lam q in
@@ -113,7 +120,9 @@ folded n f g load dist x y cs set meet lam at q p tree c d o =
     let fm = only_meet n f g x cs set meet m t q c w.below ht (ts.inside m w.below w.top) v.0 v.1 in
     let r : IsExit n f x.mate meet m t = record { below = w.below; top = fm; paired = v.0 } in r) in
     -- where the top of a member of an outer set is now
-    let outer_now = λ (m : ℕ) (hm : m < n) (e : x.place (f.top m) ≡ outer). (elim (cases_Bool (has cs (f.top m))) as (λ _. (y.place (g.top m) ≡ outer) × (y.rank (g.top m) ≤ x.rank (f.top m))) [
+    let outer_now = λ (m : ℕ) (hm : m < n) (e : x.place (f.top m) ≡ outer).
+    (elim (cases_Bool (has cs (f.top m))) as (λ _. (y.place (g.top m) ≡ outer) ×
+    (y.rank (g.top m) ≤ x.rank (f.top m))) [
       | inl k ↦ (ap y.place (q.top_inside m hm k) ∙ o.place_set, omega (arith, ap y.rank (q.top_inside m hm k), o.rank_set, c.ranks (f.top m) k))
       | inr k ↦
           let gm = q.top_others m hm k in
@@ -202,9 +211,16 @@ folded n f g load dist x y cs set meet lam at q p tree c d o =
           ap (λ z. y.place (g.top z)) (o.above i (not_set i e)) ∙ (outer_now (x.above i) (tree.link_range i h.1).0 (tree.link_outer i h.1)).0;
       link_rank = λ i e.
           let h = inner_old i e in
-          omega (arith, ap (λ z. y.rank (g.top z)) (o.above i (not_set i e)), (outer_now (x.above i) (tree.link_range i h.1).0 (tree.link_outer i h.1)).1, tree.link_rank i h.1, o.rank_others i (not_set i e));
+          omega (
+            arith,
+            ap (λ z. y.rank (g.top z)) (o.above i (not_set i e)),
+            (outer_now (x.above i) (tree.link_range i h.1).0 (tree.link_outer i h.1)).1,
+            tree.link_rank i h.1,
+            o.rank_others i (not_set i e),
+          );
       link_tight = λ i e.
           let a = o.above i (not_set i e) in
           let b = o.entry i (not_set i e) in
-          ap (λ z. load z (y.entry i)) a ∙ ap (load (x.above i)) b ∙ tree.link_tight i (inner_old i e).1 ∙ sym (ap (λ z. dist z (y.entry i)) a ∙ ap (dist (x.above i)) b);
+          ap (λ z. load z (y.entry i)) a ∙ ap (load (x.above i)) b ∙ tree.link_tight i (inner_old i e).1 ∙
+          sym (ap (λ z. dist z (y.entry i)) a ∙ ap (dist (x.above i)) b);
     }

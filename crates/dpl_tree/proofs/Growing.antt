@@ -20,17 +20,20 @@ pub outer_inner_no : {P : Type 0} {a : Place} → a ≡ outer → a ≡ inner �
 outer_inner_no e z = let no : outer ≡ inner = sym e ∙ z in cc
 
 -- one exit a top
-pub exit_one : (n : ℕ) (f : Sets) (load dist : ℕ → ℕ → ℕ) (mate : ℕ → Option ℕ) → ArePairs n f load dist mate → (i m t s u : ℕ) → IsExit n f mate i m t → IsExit n f mate i s u → (m ≡ s) × (t ≡ u)
+pub exit_one : (n : ℕ) (f : Sets) (load dist : ℕ → ℕ → ℕ) (mate : ℕ → Option ℕ) → ArePairs n f load dist mate →
+    (i m t s u : ℕ) → IsExit n f mate i m t → IsExit n f mate i s u → (m ≡ s) × (t ≡ u)
 exit_one n f load dist mate p i m t s u a b =
     let e : m ≡ s = p.alone m s t u a.below b.below (a.top ∙ sym b.top) a.paired b.paired in
     (e, some_is (sym a.paired ∙ ap mate e ∙ b.paired))
 
 -- the other end of a pair
-pub exit_back : (n : ℕ) (f : Sets) (load dist : ℕ → ℕ → ℕ) (mate : ℕ → Option ℕ) → ArePairs n f load dist mate → (i m t : ℕ) → IsExit n f mate i m t → IsExit n f mate (f.top t) t m
+pub exit_back : (n : ℕ) (f : Sets) (load dist : ℕ → ℕ → ℕ) (mate : ℕ → Option ℕ) → ArePairs n f load dist mate →
+    (i m t : ℕ) → IsExit n f mate i m t → IsExit n f mate (f.top t) t m
 exit_back n f load dist mate p i m t a = record { below = p.range m t a.below a.paired; top = refl; paired = p.back m t a.below a.paired }
 
 -- the mate of a set outside of the tree is outside too
-pub mate_outside : (n : ℕ) (f : Sets) (load dist : ℕ → ℕ → ℕ) (x : Forest) → ArePairs n f load dist x.mate → IsTree n f load dist x → (i m t : ℕ) → x.place i ≡ free → IsExit n f x.mate i m t → x.place (f.top t) ≡ free
+pub mate_outside : (n : ℕ) (f : Sets) (load dist : ℕ → ℕ → ℕ) (x : Forest) → ArePairs n f load dist x.mate →
+    IsTree n f load dist x → (i m t : ℕ) → x.place i ≡ free → IsExit n f x.mate i m t → x.place (f.top t) ≡ free
 mate_outside n f load dist x p tree i m t e a =
     let b = exit_back n f load dist x.mate p i m t a in
     let at : x.place (f.top m) ≡ free = ap x.place a.top ∙ e in
@@ -41,8 +44,10 @@ mate_outside n f load dist x p tree i m t e a =
     ]
 
 -- a tight pair from an outer member to a set outside of the tree that has a mate: both are taken into the tree
-pub grown : (n : ℕ) (f : Sets) (load dist : ℕ → ℕ → ℕ) (x y : Forest) (s t m o : ℕ) → IsLaminar n f → ArePairs n f load dist x.mate → IsTree n f load dist x → s < n → t < n →
-    x.place (f.top s) ≡ outer → x.place (f.top t) ≡ free → load s t ≡ dist s t → IsExit n f x.mate (f.top t) m o → Grows n f x s t m o y → IsTree n f load dist y
+pub grown : (n : ℕ) (f : Sets) (load dist : ℕ → ℕ → ℕ) (x y : Forest) (s t m o : ℕ) → IsLaminar n f →
+    ArePairs n f load dist x.mate → IsTree n f load dist x → s < n → t < n →
+    x.place (f.top s) ≡ outer → x.place (f.top t) ≡ free → load s t ≡ dist s t → IsExit n f x.mate (f.top t) m o →
+    Grows n f x s t m o y → IsTree n f load dist y
 grown n f load dist x y s t m o lam p tree hs ht ps pt tight ex g =
     let po : x.place (f.top o) ≡ free = mate_outside n f load dist x p tree (f.top t) m o pt ex in
     let ho : o < n = p.range m o ex.below ex.paired in
@@ -53,8 +58,10 @@ grown n f load dist x y s t m o lam p tree hs ht ps pt tight ex g =
     let same = λ (i : ℕ) (k : x.place i ≢ free). g.place_others i (old i k).0 (old i k).1 in
     let rank = λ (i : ℕ) (k : x.place i ≢ free). g.rank_others i (old i k).0 (old i k).1 in
     let out_s = outer_in ps in
-    let was = λ (i a b : ℕ) (w : IsExit n f y.mate i a b). let r : IsExit n f x.mate i a b = record { below = w.below; top = w.top; paired = sym (g.mates a) ∙ w.paired } in r in
-    let now = λ (i a b : ℕ) (w : IsExit n f x.mate i a b). let r : IsExit n f y.mate i a b = record { below = w.below; top = w.top; paired = g.mates a ∙ w.paired } in r in
+    let was = λ (i a b : ℕ) (w : IsExit n f y.mate i a b). let r : IsExit n f x.mate i a b =
+    record { below = w.below; top = w.top; paired = sym (g.mates a) ∙ w.paired } in r in
+    let now = λ (i a b : ℕ) (w : IsExit n f x.mate i a b). let r : IsExit n f y.mate i a b =
+    record { below = w.below; top = w.top; paired = g.mates a ∙ w.paired } in r in
     record {
       tops = λ i k. elim (cases_eq i (f.top t)) [
         | inl e ↦ rw e (lam.tops.top_range t ht, lam.tops.top_live t ht, lam.tops.top_parent t ht)
@@ -107,7 +114,8 @@ grown n f load dist x y s t m o lam p tree hs ht ps pt tight ex g =
         | inl k ↦ (omega (arith, ap y.above k, g.above), omega (arith, ap y.entry k, g.entry))
         | inr k ↦ elim (cases_eq i (f.top o)) [
           | inl z ↦ outer_inner_no (ap y.place z ∙ g.place_outer) e
-          | inr z ↦ let v = tree.link_range i (sym (g.place_others i k z) ∙ e) in let l = g.link_others i k in (omega (arith, v.0, l.0), omega (arith, v.1, l.1))
+          | inr z ↦ let v = tree.link_range i (sym (g.place_others i k z) ∙ e) in let l = g.link_others i k in
+              (omega (arith, v.0, l.0), omega (arith, v.1, l.1))
         ]
       ];
       link_entry = λ i e. elim (cases_eq i (f.top t)) [
@@ -132,16 +140,25 @@ grown n f load dist x y s t m o lam p tree hs ht ps pt tight ex g =
           | inl z ↦ outer_inner_no (ap y.place z ∙ g.place_outer) e
           | inr z ↦
               let e' : x.place i ≡ inner = sym (g.place_others i k z) ∙ e in
-              omega (arith, ap (λ q. y.rank (f.top q)) (g.link_others i k).0, rank (f.top (x.above i)) (outer_in (tree.link_outer i e')), rank i (inner_in e'), tree.link_rank i e')
+              omega (
+                arith,
+                ap (λ q. y.rank (f.top q)) (g.link_others i k).0,
+                rank (f.top (x.above i)) (outer_in (tree.link_outer i e')),
+                rank i (inner_in e'),
+                tree.link_rank i e',
+              )
         ]
       ];
       link_tight = λ i e. elim (cases_eq i (f.top t)) [
-        | inl k ↦ ap (λ z. load z (y.entry i)) (ap y.above k ∙ g.above) ∙ ap (load s) (ap y.entry k ∙ g.entry) ∙ tight ∙ sym (ap (λ z. dist z (y.entry i)) (ap y.above k ∙ g.above) ∙ ap (dist s) (ap y.entry k ∙ g.entry))
+        | inl k ↦ ap (λ z. load z (y.entry i)) (ap y.above k ∙ g.above) ∙ ap (load s) (ap y.entry k ∙ g.entry) ∙ tight ∙
+            sym (ap (λ z. dist z (y.entry i)) (ap y.above k ∙ g.above) ∙ ap (dist s) (ap y.entry k ∙ g.entry))
         | inr k ↦ elim (cases_eq i (f.top o)) [
           | inl z ↦ outer_inner_no (ap y.place z ∙ g.place_outer) e
           | inr z ↦
               let l = g.link_others i k in
-              ap (λ q. load q (y.entry i)) l.0 ∙ ap (load (x.above i)) l.1 ∙ tree.link_tight i (sym (g.place_others i k z) ∙ e) ∙ sym (ap (λ q. dist q (y.entry i)) l.0 ∙ ap (dist (x.above i)) l.1)
+              ap (λ q. load q (y.entry i)) l.0 ∙ ap (load (x.above i)) l.1 ∙
+              tree.link_tight i (sym (g.place_others i k z) ∙ e) ∙
+              sym (ap (λ q. dist q (y.entry i)) l.0 ∙ ap (dist (x.above i)) l.1)
         ]
       ];
     }

@@ -1,5 +1,7 @@
 -- Two ways up to where they meet.
-use Rattle.std.proofs.Common.{arith, ◌≡◌, ◌≢◌, ℕ, zero, suc, ◌+◌, ◌*◌, ◌%◌, ◌<◌, ◌≤◌, ◌⊎◌, refl, sym, ap, ◌∙◌, subst, Bool, true, false, cond, inl, inr, eqb, eq-eqb, List, [], ◌∷◌, ◌++◌, map, reverse, length, get_or}
+use Rattle.std.proofs.Common.{arith, ◌≡◌, ◌≢◌, ℕ, zero, suc, ◌+◌, ◌*◌, ◌%◌, ◌<◌, ◌≤◌, ◌⊎◌, refl, sym, ap, ◌∙◌, subst}
+use Rattle.std.proofs.Common.{Bool, true, false, cond, inl, inr, eqb, eq-eqb, List, [], ◌∷◌, ◌++◌, map, reverse, length}
+use Rattle.std.proofs.Common.{get_or}
 use Rattle.std.proofs.lemmas.Bool.{cases_eq, cases_lt, ne_eqb, cond-true, cond-false}
 use Rattle.std.proofs.lemmas.List.{map-append, reverse-append, length-append, length-map, length-reverse, get_or-map, length_push}
 use Rattle.std.proofs.Math.Nat.{mod_self, mod-eq_of_lt}
@@ -64,25 +66,31 @@ once_apart (x ∷ xs) once (suc i) (suc j) h l e = once_apart xs (λ c. omega (a
 
 -- ---- ways
 
-pub way_append : (n : ℕ) (f : Sets) (load dist : ℕ → ℕ → ℕ) (a b c : ℕ) (xs ys : List (ℕ × ℕ)) → IsWay n f load dist a xs b → IsWay n f load dist b ys c → IsWay n f load dist a (xs ++ ys) c
+pub way_append : (n : ℕ) (f : Sets) (load dist : ℕ → ℕ → ℕ) (a b c : ℕ) (xs ys : List (ℕ × ℕ)) →
+    IsWay n f load dist a xs b → IsWay n f load dist b ys c → IsWay n f load dist a (xs ++ ys) c
 way_append n f load dist a b c [] ys p q = subst (λ (z : ℕ). IsWay n f load dist z ys c) (sym p) q
 way_append n f load dist a b c (x ∷ xs) ys p q = (p.0, p.1, p.2, p.3, way_append n f load dist (f.top x.1) b c xs ys p.4 q)
 
 -- the tops that a way leads from, with its end, are its start with those that it leads to
-pub way_times : (n : ℕ) (f : Sets) (load dist : ℕ → ℕ → ℕ) (a b : ℕ) (xs : List (ℕ × ℕ)) (c : ℕ) → IsWay n f load dist a xs b → times_in (tops_from f xs) c + cond (eqb b c) 1 0 ≡ cond (eqb a c) 1 0 + times_in (tops_to f xs) c
+pub way_times : (n : ℕ) (f : Sets) (load dist : ℕ → ℕ → ℕ) (a b : ℕ) (xs : List (ℕ × ℕ)) (c : ℕ) →
+    IsWay n f load dist a xs b → times_in (tops_from f xs) c + cond (eqb b c) 1 0 ≡ cond (eqb a c) 1 0 + times_in
+    (tops_to f xs) c
 way_times n f load dist a b [] c p = omega (arith, ap (λ z. one_if z c) p)
 way_times n f load dist a b (x ∷ xs) c p = omega (arith, ap (λ z. one_if z c) p.2, way_times n f load dist (f.top x.1) b xs c p.4)
 
-pub way_first : (n : ℕ) (f : Sets) (load dist : ℕ → ℕ → ℕ) (a b : ℕ) (xs : List (ℕ × ℕ)) → IsWay n f load dist a xs b → 0 < length xs → f.top (get_or xs 0 (0, 0)).0 ≡ a
+pub way_first : (n : ℕ) (f : Sets) (load dist : ℕ → ℕ → ℕ) (a b : ℕ) (xs : List (ℕ × ℕ)) → IsWay n f load dist a xs b →
+    0 < length xs → f.top (get_or xs 0 (0, 0)).0 ≡ a
 way_first n f load dist a b [] p h = absurd (omega (arith, h))
 way_first n f load dist a b (x ∷ xs) p h = p.2
 
-pub way_next : (n : ℕ) (f : Sets) (load dist : ℕ → ℕ → ℕ) (a b i : ℕ) (xs : List (ℕ × ℕ)) → IsWay n f load dist a xs b → suc i < length xs → f.top (get_or xs i (0, 0)).1 ≡ f.top (get_or xs (suc i) (0, 0)).0
+pub way_next : (n : ℕ) (f : Sets) (load dist : ℕ → ℕ → ℕ) (a b i : ℕ) (xs : List (ℕ × ℕ)) → IsWay n f load dist a xs b →
+    suc i < length xs → f.top (get_or xs i (0, 0)).1 ≡ f.top (get_or xs (suc i) (0, 0)).0
 way_next n f load dist a b i [] p h = absurd (omega (arith, h))
 way_next n f load dist a b zero (x ∷ xs) p h = sym (way_first n f load dist (f.top x.1) b xs p.4 (omega (arith, h)))
 way_next n f load dist a b (suc i) (x ∷ xs) p h = way_next n f load dist (f.top x.1) b i xs p.4 (omega (arith, h))
 
-pub way_last : (n : ℕ) (f : Sets) (load dist : ℕ → ℕ → ℕ) (a b i : ℕ) (xs : List (ℕ × ℕ)) → IsWay n f load dist a xs b → i + 1 ≡ length xs → f.top (get_or xs i (0, 0)).1 ≡ b
+pub way_last : (n : ℕ) (f : Sets) (load dist : ℕ → ℕ → ℕ) (a b i : ℕ) (xs : List (ℕ × ℕ)) → IsWay n f load dist a xs b →
+    i + 1 ≡ length xs → f.top (get_or xs i (0, 0)).1 ≡ b
 way_last n f load dist a b i [] p h = absurd (omega (arith, h))
 way_last n f load dist a b zero (x ∷ []) p h = p.4
 way_last n f load dist a b zero (x ∷ y ∷ xs) p h = absurd (omega (arith, h))
@@ -94,7 +102,8 @@ pub record IsStep (n : ℕ) (load dist : ℕ → ℕ → ℕ) (j : ℕ × ℕ) :
   pub to : j.1 < n
   pub tight : load j.0 j.1 ≡ dist j.0 j.1
 
-pub way_step : (n : ℕ) (f : Sets) (load dist : ℕ → ℕ → ℕ) (a b i : ℕ) (xs : List (ℕ × ℕ)) → IsWay n f load dist a xs b → i < length xs → IsStep n load dist (get_or xs i (0, 0))
+pub way_step : (n : ℕ) (f : Sets) (load dist : ℕ → ℕ → ℕ) (a b i : ℕ) (xs : List (ℕ × ℕ)) → IsWay n f load dist a xs b →
+    i < length xs → IsStep n load dist (get_or xs i (0, 0))
 way_step n f load dist a b i [] p h = absurd (omega (arith, h))
 way_step n f load dist a b zero (x ∷ xs) p h = record { from = p.0; to = p.1; tight = p.3 }
 way_step n f load dist a b (suc i) (x ∷ xs) p h = way_step n f load dist (f.top x.1) b i xs p.4 (omega (arith, h))
@@ -116,7 +125,8 @@ gathered_turned n f x a b met g = record {
 }
 
 -- the step from the outer set a over its pair (m, t)
-pub gathered_more : (n : ℕ) (f : Sets) (dist : ℕ → ℕ → ℕ) (x : Forest) (a b m t : ℕ) (met new : ℕ → ℕ) → IsStage n f dist x → AreGathered n f x a b met → a ≢ b → x.rank b ≤ x.rank a → IsExit n f x.mate a m t →
+pub gathered_more : (n : ℕ) (f : Sets) (dist : ℕ → ℕ → ℕ) (x : Forest) (a b m t : ℕ) (met new : ℕ → ℕ) →
+    IsStage n f dist x → AreGathered n f x a b met → a ≢ b → x.rank b ≤ x.rank a → IsExit n f x.mate a m t →
     ((c : ℕ) → new c ≡ met c + (cond (eqb a c) 1 0 + cond (eqb (f.top t) c) 1 0)) → AreGathered n f x (f.top (x.above (f.top t))) b new
 gathered_more n f dist x a b m t met new st g ne low ex e =
     let tree = st.tree in
@@ -162,7 +172,12 @@ gathered_more n f dist x a b m t met new st g ne low ex e =
       ];
       above = λ c h p. elim (cases c h) [
         | inl z ↦ let w = g.above c z p in (omega (arith, r1, r2, w.0), w.1, (λ y. omega (arith, r1, r2, w.0, ap x.rank y)), w.3)
-        | inr (inl z) ↦ (omega (arith, r1, r2, ap x.rank z), omega (arith, low, ap x.rank z), (λ y. omega (arith, r1, r2, ap x.rank (z ∙ y))), (λ y. ne (z ∙ y)))
+        | inr (inl z) ↦ (
+          omega (arith, r1, r2, ap x.rank z),
+          omega (arith, low, ap x.rank z),
+          (λ y. omega (arith, r1, r2, ap x.rank (z ∙ y))),
+          (λ y. ne (z ∙ y)),
+        )
         | inr (inr z) ↦ outer_inner_no p (ap x.place (sym z) ∙ o.0)
       ];
       ranks = λ c h. elim (cases c h) [
@@ -196,10 +211,14 @@ not_root n f dist x a b st pb ne low e = elim (cases_eq b x.root) [
 reverse_push : (xs : List (ℕ × ℕ)) (y : ℕ × ℕ) → reverse (xs ++ y ∷ []) ≡ y ∷ reverse xs
 reverse_push xs y = reverse-append xs (y ∷ [])
 
-times_two : (f : Sets) (g : ℕ × ℕ → ℕ) (xs : List (ℕ × ℕ)) (y z : ℕ × ℕ) (a i c : ℕ) → g y ≡ a → g z ≡ i → times_in (map g ((xs ++ y ∷ []) ++ z ∷ [])) c ≡ times_in (map g xs) c + (cond (eqb a c) 1 0 + cond (eqb i c) 1 0)
+times_two : (f : Sets) (g : ℕ × ℕ → ℕ) (xs : List (ℕ × ℕ)) (y z : ℕ × ℕ) (a i c : ℕ) → g y ≡ a → g z ≡ i →
+    times_in (map g ((xs ++ y ∷ []) ++ z ∷ [])) c ≡ times_in (map g xs) c + (cond (eqb a c) 1 0 + cond (eqb i c) 1 0)
 times_two f g xs y z a i c ey ez =
-    let e1 : times_in (map g ((xs ++ y ∷ []) ++ z ∷ [])) c ≡ times_in (map g (xs ++ y ∷ [])) c + times_in (map g (z ∷ [])) c = ap (λ w. times_in w c) (map-append g (xs ++ y ∷ []) (z ∷ [])) ∙ times_append (map g (xs ++ y ∷ [])) (map g (z ∷ [])) c in
-    let e2 : times_in (map g (xs ++ y ∷ [])) c ≡ times_in (map g xs) c + times_in (map g (y ∷ [])) c = ap (λ w. times_in w c) (map-append g xs (y ∷ [])) ∙ times_append (map g xs) (map g (y ∷ [])) c in
+    let e1 : times_in (map g ((xs ++ y ∷ []) ++ z ∷ [])) c ≡ times_in (map g (xs ++ y ∷ [])) c + times_in
+    (map g (z ∷ [])) c = ap (λ w. times_in w c) (map-append g (xs ++ y ∷ []) (z ∷ [])) ∙
+    times_append (map g (xs ++ y ∷ [])) (map g (z ∷ [])) c in
+    let e2 : times_in (map g (xs ++ y ∷ [])) c ≡ times_in (map g xs) c + times_in (map g (y ∷ [])) c =
+    ap (λ w. times_in w c) (map-append g xs (y ∷ [])) ∙ times_append (map g xs) (map g (y ∷ [])) c in
     let y1 : times_in (map g (y ∷ [])) c ≡ cond (eqb a c) 1 0 + 0 = ap (λ w. cond (eqb w c) 1 0 + 0) ey in
     let z1 : times_in (map g (z ∷ [])) c ≡ cond (eqb i c) 1 0 + 0 = ap (λ w. cond (eqb w c) 1 0 + 0) ez in
     omega (arith, e1, e2, y1, z1)
@@ -218,7 +237,8 @@ pub record IsStepUp (n : ℕ) (f : Sets) (dist : ℕ → ℕ → ℕ) (x : Fores
   pub tight_pair : loads n f m t ≡ dist m t
   pub tight_link : loads n f (x.above (f.top t)) (x.entry (f.top t)) ≡ dist (x.above (f.top t)) (x.entry (f.top t))
 
-pub step_of : (n : ℕ) (f : Sets) (dist : ℕ → ℕ → ℕ) (x : Forest) (a m t : ℕ) → IsStage n f dist x → x.place a ≡ outer → IsExit n f x.mate a m t → IsStepUp n f dist x a m t
+pub step_of : (n : ℕ) (f : Sets) (dist : ℕ → ℕ → ℕ) (x : Forest) (a m t : ℕ) → IsStage n f dist x → x.place a ≡ outer →
+    IsExit n f x.mate a m t → IsStepUp n f dist x a m t
 step_of n f dist x a m t st pa ex =
     let o = st.tree.outer_mate a m t pa ex in
     let ht : t < n = st.rest.pairs.range m t ex.below ex.paired in
@@ -233,40 +253,56 @@ step_of n f dist x a m t st pa ex =
       tight_link = st.tree.link_tight (f.top t) o.0;
     }
 
-pub climbing_left : (n : ℕ) (f : Sets) (dist : ℕ → ℕ → ℕ) (x : Forest) (s t : ℕ) (left right : List (ℕ × ℕ)) (a b m u : ℕ) → IsMetric n dist → IsStage n f dist x → AreClimbing n f dist x s t left right a b → a ≢ b → x.rank b ≤ x.rank a → IsExit n f x.mate a m u →
+pub climbing_left : (n : ℕ) (f : Sets) (dist : ℕ → ℕ → ℕ) (x : Forest) (s t : ℕ) (left right : List (ℕ × ℕ))
+    (a b m u : ℕ) → IsMetric n dist → IsStage n f dist x → AreClimbing n f dist x s t left right a b → a ≢ b →
+    x.rank b ≤ x.rank a → IsExit n f x.mate a m u →
     AreClimbing n f dist x s t ((left ++ (u, m) ∷ []) ++ (x.above (f.top u), x.entry (f.top u)) ∷ []) right (f.top (x.above (f.top u))) b
 climbing_left n f dist x s t left right a b m u me st c ne low ex =
     let w = step_of n f dist x a m u st c.sets.a_outer ex in
     let i : ℕ = f.top u in
     let link : ℕ × ℕ = (x.above i, x.entry i) in
-    let e : reverse ((left ++ (u, m) ∷ []) ++ link ∷ []) ≡ link ∷ (u, m) ∷ reverse left = reverse_push (left ++ (u, m) ∷ []) link ∙ ap (λ z. link ∷ z) (reverse_push left (u, m)) in
+    let e : reverse ((left ++ (u, m) ∷ []) ++ link ∷ []) ≡ link ∷ (u, m) ∷ reverse left =
+    reverse_push (left ++ (u, m) ∷ []) link ∙ ap (λ z. link ∷ z) (reverse_push left (u, m)) in
     let tight : loads n f u m ≡ dist u m = load_turned n f u m ∙ w.tight_pair ∙ me.symmetric m u w.hm w.ht in
-    let rest : IsWay n f (loads n f) dist (f.top m) (reverse left) (f.top s) = subst (λ (z : ℕ). IsWay n f (loads n f) dist z (reverse left) (f.top s)) (sym ex.top) c.way_left in
-    let way : IsWay n f (loads n f) dist (f.top (x.above i)) (link ∷ (u, m) ∷ reverse left) (f.top s) = (w.ha, w.he, refl, w.tight_link, (w.ht, w.hm, sym w.entry, tight, rest)) in
+    let rest : IsWay n f (loads n f) dist (f.top m) (reverse left) (f.top s) =
+    subst (λ (z : ℕ). IsWay n f (loads n f) dist z (reverse left) (f.top s)) (sym ex.top) c.way_left in
+    let way : IsWay n f (loads n f) dist (f.top (x.above i)) (link ∷ (u, m) ∷ reverse left) (f.top s) =
+    (w.ha, w.he, refl, w.tight_link, (w.ht, w.hm, sym w.entry, tight, rest)) in
     record {
       way_left = subst (λ (z : List (ℕ × ℕ)). IsWay n f (loads n f) dist (f.top (x.above i)) z (f.top s)) (sym e) way;
       way_right = c.way_right;
-      sets = gathered_more n f dist x a b m u (met_on f left right) _ st c.sets ne low ex (λ k. omega (arith, times_two f (λ j. f.top j.1) left (u, m) link a i k ex.top w.entry));
+      sets = gathered_more n f dist x a b m u (met_on f left right) _ st c.sets ne low ex
+          (λ k. omega (arith, times_two f (λ j. f.top j.1) left (u, m) link a i k ex.top w.entry));
       even = omega (arith, c.even, push_length left (u, m) link);
     }
 
-pub climbing_right : (n : ℕ) (f : Sets) (dist : ℕ → ℕ → ℕ) (x : Forest) (s t : ℕ) (left right : List (ℕ × ℕ)) (a b m u : ℕ) → IsMetric n dist → IsStage n f dist x → AreClimbing n f dist x s t left right a b → a ≢ b → x.rank a ≤ x.rank b → IsExit n f x.mate b m u →
+pub climbing_right : (n : ℕ) (f : Sets) (dist : ℕ → ℕ → ℕ) (x : Forest) (s t : ℕ) (left right : List (ℕ × ℕ))
+    (a b m u : ℕ) → IsMetric n dist → IsStage n f dist x → AreClimbing n f dist x s t left right a b → a ≢ b →
+    x.rank a ≤ x.rank b → IsExit n f x.mate b m u →
     AreClimbing n f dist x s t left ((right ++ (m, u) ∷ []) ++ (x.entry (f.top u), x.above (f.top u)) ∷ []) a (f.top (x.above (f.top u)))
 climbing_right n f dist x s t left right a b m u me st c ne low ex =
     let w = step_of n f dist x b m u st c.sets.b_outer ex in
     let i : ℕ = f.top u in
     let link : ℕ × ℕ = (x.entry i, x.above i) in
-    let tight : loads n f (x.entry i) (x.above i) ≡ dist (x.entry i) (x.above i) = load_turned n f (x.entry i) (x.above i) ∙ w.tight_link ∙ me.symmetric (x.above i) (x.entry i) w.ha w.he in
+    let tight : loads n f (x.entry i) (x.above i) ≡ dist (x.entry i) (x.above i) =
+    load_turned n f (x.entry i) (x.above i) ∙ w.tight_link ∙ me.symmetric (x.above i) (x.entry i) w.ha w.he in
     let first : IsWay n f (loads n f) dist b ((m, u) ∷ []) i = (w.hm, w.ht, ex.top, w.tight_pair, refl) in
     let second : IsWay n f (loads n f) dist i (link ∷ []) (f.top (x.above i)) = (w.he, w.ha, w.entry, tight, refl) in
     record {
       way_left = c.way_left;
-      way_right = way_append n f (loads n f) dist (f.top t) i (f.top (x.above i)) (right ++ (m, u) ∷ []) (link ∷ []) (way_append n f (loads n f) dist (f.top t) b i right ((m, u) ∷ []) c.way_right first) second;
-      sets = gathered_turned n f x (f.top (x.above i)) a _ (gathered_more n f dist x b a m u (met_on f left right) _ st (gathered_turned n f x a b _ c.sets) (λ z. ne (sym z)) low ex (λ k. omega (arith, times_two f (λ j. f.top j.0) right (m, u) link b i k ex.top w.entry)));
+      way_right = way_append n f (loads n f) dist (f.top t) i (f.top (x.above i)) (right ++ (m, u) ∷ []) (link ∷ [])
+          (way_append n f (loads n f) dist (f.top t) b i right ((m, u) ∷ []) c.way_right first) second;
+      sets = gathered_turned n f x (f.top (x.above i)) a _
+          (gathered_more n f dist x b a m u (met_on f left right) _ st (gathered_turned n f x a b _ c.sets)
+          (λ z. ne (sym z)) low ex (λ k. omega (
+            arith,
+            times_two f (λ j. f.top j.0) right (m, u) link b i k ex.top w.entry,
+          )));
       even = omega (arith, c.even, push_length right (m, u) link);
     }
 
-pub climbing_begun : (n : ℕ) (f : Sets) (dist : ℕ → ℕ → ℕ) (x : Forest) (s t : ℕ) → x.place (f.top s) ≡ outer → x.place (f.top t) ≡ outer → AreClimbing n f dist x s t [] [] (f.top s) (f.top t)
+pub climbing_begun : (n : ℕ) (f : Sets) (dist : ℕ → ℕ → ℕ) (x : Forest) (s t : ℕ) → x.place (f.top s) ≡ outer →
+    x.place (f.top t) ≡ outer → AreClimbing n f dist x s t [] [] (f.top s) (f.top t)
 climbing_begun n f dist x s t ps pt = record {
   way_left = refl;
   way_right = refl;
@@ -295,30 +331,59 @@ times_reversed : (f : Sets) (xs : List (ℕ × ℕ)) (c : ℕ) → times_in (top
 times_reversed f [] c = refl
 times_reversed f (y ∷ ys) c =
     let e : reverse (y ∷ ys) ≡ reverse ys ++ y ∷ [] = reverse-append (y ∷ []) ys in
-    let k : times_in (tops_to f (reverse ys ++ y ∷ [])) c ≡ times_in (tops_to f (reverse ys)) c + times_in (tops_to f (y ∷ [])) c = ap (λ w. times_in w c) (map-append (λ j. f.top j.1) (reverse ys) (y ∷ [])) ∙ times_append (tops_to f (reverse ys)) (tops_to f (y ∷ [])) c in
+    let k : times_in (tops_to f (reverse ys ++ y ∷ [])) c ≡ times_in (tops_to f (reverse ys)) c + times_in
+    (tops_to f (y ∷ [])) c = ap (λ w. times_in w c) (map-append (λ j. f.top j.1) (reverse ys) (y ∷ [])) ∙
+    times_append (tops_to f (reverse ys)) (tops_to f (y ∷ [])) c in
     omega (arith, ap (λ w. times_in (tops_to f w) c) e, k, times_reversed f ys c)
 
-some_met : (n : ℕ) (f : Sets) (dist : ℕ → ℕ → ℕ) (x : Forest) (s t meet : ℕ) (left right : List (ℕ × ℕ)) → IsStage n f dist x → f.top s ≢ f.top t → AreClimbing n f dist x s t left right meet meet → (k : ℕ) × (0 < met_on f left right k)
+some_met : (n : ℕ) (f : Sets) (dist : ℕ → ℕ → ℕ) (x : Forest) (s t meet : ℕ) (left right : List (ℕ × ℕ)) →
+    IsStage n f dist x → f.top s ≢ f.top t → AreClimbing n f dist x s t left right meet meet → (k : ℕ) ×
+    (0 < met_on f left right k)
 some_met n f dist x s t meet left right st apart c = elim (cases_eq meet (f.top t)) [
-  | inr ne ↦ (f.top t, omega (arith, way_times n f (loads n f) dist (f.top t) meet right (f.top t) c.way_right, bit_one (f.top t) (f.top t) refl, bit_none meet (f.top t) ne))
+  | inr ne ↦ (
+    f.top t,
+    omega (
+      arith,
+      way_times n f (loads n f) dist (f.top t) meet right (f.top t) c.way_right,
+      bit_one (f.top t) (f.top t) refl,
+      bit_none meet (f.top t) ne,
+    ),
+  )
   | inl e ↦
-      let ne : meet ≢ f.top s = λ z. apart (sym z ∙ e) in
-      (f.top s, omega (arith, way_times n f (loads n f) dist meet (f.top s) (reverse left) (f.top s) c.way_left, bit_one (f.top s) (f.top s) refl, bit_none meet (f.top s) ne, times_reversed f left (f.top s)))
+      let ne : meet ≢ f.top s = λ z. apart (sym z ∙ e) in (
+        f.top s,
+        omega (
+          arith,
+          way_times n f (loads n f) dist meet (f.top s) (reverse left) (f.top s) c.way_left,
+          bit_one (f.top s) (f.top s) refl,
+          bit_none meet (f.top s) ne,
+          times_reversed f left (f.top s),
+        ),
+      )
 ]
 
-inner_met : (n : ℕ) (f : Sets) (dist : ℕ → ℕ → ℕ) (x : Forest) (meet : ℕ) (met : ℕ → ℕ) (children : List ℕ) → IsStage n f dist x → AreGathered n f x meet meet met → (k : ℕ) × (0 < met k) → ((k : ℕ) → 0 < met k → has children k ≡ true) → (k : ℕ) × (has children k ≡ true) × (x.place k ≡ inner)
+inner_met : (n : ℕ) (f : Sets) (dist : ℕ → ℕ → ℕ) (x : Forest) (meet : ℕ) (met : ℕ → ℕ) (children : List ℕ) →
+    IsStage n f dist x → AreGathered n f x meet meet met → (k : ℕ) × (0 < met k) →
+    ((k : ℕ) → 0 < met k → has children k ≡ true) → (k : ℕ) × (has children k ≡ true) × (x.place k ≡ inner)
 inner_met n f dist x meet met children st g w here = elim (place_cases (x.place w.0)) [
   | inl z ↦ absurd (g.in_tree w.0 w.1 z)
   | inr (inr z) ↦ (w.0, here w.0 w.1, z)
   | inr (inl z) ↦
       let v = g.above w.0 w.1 z in
-      let root : w.0 ≢ x.root = λ e. absurd (omega (arith, root_lowest n f (loads n f) dist x st.tree (x.rank meet) meet (omega arith) g.a_outer (λ y. v.2 (e ∙ sym y)), v.0, ap x.rank e)) in
+      let root : w.0 ≢ x.root = λ e. absurd (omega (
+        arith,
+        root_lowest n f (loads n f) dist x st.tree (x.rank meet) meet (omega arith) g.a_outer (λ y. v.2 (e ∙ sym y)),
+        v.0,
+        ap x.rank e,
+      )) in
       let ex = st.tree.outer_pair w.0 z root in
       let o = st.tree.outer_mate w.0 ex.0 ex.1 z ex.2 in
       (f.top ex.1, here (f.top ex.1) (g.closed w.0 ex.0 ex.1 w.1 ex.2), o.0)
 ]
 
-pub climbing_whole : (n : ℕ) (f : Sets) (dist : ℕ → ℕ → ℕ) (x : Forest) (s t meet : ℕ) (left right : List (ℕ × ℕ)) → IsStage n f dist x → s < n → t < n → loads n f s t ≡ dist s t → f.top s ≢ f.top t → AreClimbing n f dist x s t left right meet meet →
+pub climbing_whole : (n : ℕ) (f : Sets) (dist : ℕ → ℕ → ℕ) (x : Forest) (s t meet : ℕ) (left right : List (ℕ × ℕ)) →
+    IsStage n f dist x → s < n → t < n → loads n f s t ≡ dist s t → f.top s ≢ f.top t →
+    AreClimbing n f dist x s t left right meet meet →
     IsFolding n f dist x (reverse left ++ (s, t) ∷ right) meet
 climbing_whole n f dist x s t meet left right st hs ht tight apart c =
     let joins : List (ℕ × ℕ) = reverse left ++ (s, t) ∷ right in
@@ -326,7 +391,10 @@ climbing_whole n f dist x s t meet left right st hs ht tight apart c =
     let met : ℕ → ℕ = met_on f left right in
     -- each child is the set where the ways meet, or was met
     let count = λ (k : ℕ). (
-    let a1 : times_in (tops_from f joins) k ≡ times_in (tops_from f (reverse left)) k + times_in (tops_from f ((s, t) ∷ right)) k = ap (λ w. times_in w k) (map-append (λ j. f.top j.0) (reverse left) ((s, t) ∷ right)) ∙ times_append (tops_from f (reverse left)) (tops_from f ((s, t) ∷ right)) k in
+    let a1 : times_in (tops_from f joins) k ≡ times_in (tops_from f (reverse left)) k + times_in
+    (tops_from f ((s, t) ∷ right)) k = ap (λ w. times_in w k)
+    (map-append (λ j. f.top j.0) (reverse left) ((s, t) ∷ right)) ∙
+    times_append (tops_from f (reverse left)) (tops_from f ((s, t) ∷ right)) k in
     let a2 = way_times n f (loads n f) dist meet (f.top s) (reverse left) k c.way_left in
     let a3 = times_reversed f left k in
     let r : times_in (tops_from f joins) k ≡ cond (eqb meet k) 1 0 + met k = omega (arith, a1, a2, a3) in r) in
@@ -380,7 +448,8 @@ climbing_whole n f dist x s t meet left right st hs ht tight apart c =
 -- ---- the joins all around are those of a new set
 
 -- there are more than one
-three : (n : ℕ) (f : Sets) (dist : ℕ → ℕ → ℕ) (x : Forest) (joins : List (ℕ × ℕ)) (meet : ℕ) → IsStage n f dist x → IsFolding n f dist x joins meet → 2 ≤ length joins
+three : (n : ℕ) (f : Sets) (dist : ℕ → ℕ → ℕ) (x : Forest) (joins : List (ℕ × ℕ)) (meet : ℕ) → IsStage n f dist x →
+    IsFolding n f dist x joins meet → 2 ≤ length joins
 three n f dist x [] meet st w = absurd (omega (arith, w.odd))
 three n f dist x (j ∷ []) meet st w =
     let e = w.way.2 in
@@ -391,7 +460,8 @@ three n f dist x (j ∷ []) meet st w =
     ]
 three n f dist x (j ∷ i ∷ js) meet st w = omega arith
 
-pub folding_tops : (n : ℕ) (f : Sets) (dist : ℕ → ℕ → ℕ) (x : Forest) (joins : List (ℕ × ℕ)) (meet : ℕ) → IsStage n f dist x → IsFolding n f dist x joins meet → AreTops n f (tops_from f joins)
+pub folding_tops : (n : ℕ) (f : Sets) (dist : ℕ → ℕ → ℕ) (x : Forest) (joins : List (ℕ × ℕ)) (meet : ℕ) →
+    IsStage n f dist x → IsFolding n f dist x joins meet → AreTops n f (tops_from f joins)
 folding_tops n f dist x joins meet st w =
     let len : length (tops_from f joins) ≡ length joins = length-map joins (λ j. f.top j.0) in
     let top = λ (c : ℕ) (h : has (tops_from f joins) c ≡ true). st.tree.tops c (w.cycle.in_tree c h) in
@@ -404,7 +474,9 @@ folding_tops n f dist x joins meet st w =
       distinct = once_apart (tops_from f joins) w.times;
     }
 
-pub folding_joined : (n : ℕ) (f : Sets) (dist : ℕ → ℕ → ℕ) (x : Forest) (joins : List (ℕ × ℕ)) (meet i : ℕ) → IsStage n f dist x → IsFolding n f dist x joins meet → i < length joins → IsTie f (get_or (tops_from f joins) i 0) (next_in (tops_from f joins) i) (get_or joins i (0, 0))
+pub folding_joined : (n : ℕ) (f : Sets) (dist : ℕ → ℕ → ℕ) (x : Forest) (joins : List (ℕ × ℕ)) (meet i : ℕ) →
+    IsStage n f dist x → IsFolding n f dist x joins meet → i < length joins →
+    IsTie f (get_or (tops_from f joins) i 0) (next_in (tops_from f joins) i) (get_or joins i (0, 0))
 folding_joined n f dist x joins meet i st w h =
     let lam = st.rest.laminar in
     let size = st.rest.size in
@@ -414,7 +486,9 @@ folding_joined n f dist x joins meet i st w h =
     let next : next_in (tops_from f joins) i ≡ f.top (get_or joins i (0, 0)).1 = elim (cases_eq (i + 1) (length joins)) [
       | inl last ↦
           let z : (i + 1) % length (tops_from f joins) ≡ 0 = ap (λ a. (i + 1) % a) (len ∙ sym last) ∙ mod_self (i + 1) in
-          ap (λ a. get_or (tops_from f joins) a 0) z ∙ at 0 (omega (arith, h)) ∙ way_first n f (loads n f) dist meet meet joins w.way (omega (arith, h)) ∙ sym (way_last n f (loads n f) dist meet meet i joins w.way last)
+          ap (λ a. get_or (tops_from f joins) a 0) z ∙ at 0 (omega (arith, h)) ∙
+          way_first n f (loads n f) dist meet meet joins w.way (omega (arith, h)) ∙
+          sym (way_last n f (loads n f) dist meet meet i joins w.way last)
       | inr more ↦
           let low : suc i < length joins = omega (arith, h, more) in
           let z : (i + 1) % length (tops_from f joins) ≡ suc i = mod-eq_of_lt (omega (arith, len, low)) ∙ omega arith in

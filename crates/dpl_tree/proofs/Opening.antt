@@ -8,9 +8,12 @@ use Rattle.dpl_tree.specs.Mates.{IsExit, ArePairs}
 use Rattle.dpl_tree.proofs.Growing.{place_cases, outer_in, inner_in, outer_inner_no, exit_one, exit_back}
 
 -- an inner set of the tree is taken away, and its child that the tree enters stands in its place
-pub opened : (n : ℕ) (f g : Sets) (load dist : ℕ → ℕ → ℕ) (x y : Forest) (set first m0 t0 room : ℕ) → IsLaminar n f → Releases n f set g → ArePairs n f load dist x.mate → IsTree n f load dist x → ArePairs n g load dist y.mate →
-    n ≤ set → x.place set ≡ inner → IsExit n f x.mate set m0 t0 → first < 2 * n → g.live first ≡ true → g.parent first ≡ None → f.parent first ≡ Some set → g.top (x.entry set) ≡ first →
-    ((m : ℕ) → m < n → f.top m ≢ set → y.mate m ≡ x.mate m) → ((m : ℕ) × (t : ℕ) × IsExit n g y.mate first m t) → Opens n f x set first room y → IsBroken n g load dist y first (f.top t0) room
+pub opened : (n : ℕ) (f g : Sets) (load dist : ℕ → ℕ → ℕ) (x y : Forest) (set first m0 t0 room : ℕ) → IsLaminar n f →
+    Releases n f set g → ArePairs n f load dist x.mate → IsTree n f load dist x → ArePairs n g load dist y.mate →
+    n ≤ set → x.place set ≡ inner → IsExit n f x.mate set m0 t0 → first < 2 * n → g.live first ≡ true →
+    g.parent first ≡ None → f.parent first ≡ Some set → g.top (x.entry set) ≡ first →
+    ((m : ℕ) → m < n → f.top m ≢ set → y.mate m ≡ x.mate m) → ((m : ℕ) × (t : ℕ) × IsExit n g y.mate first m t) →
+    Opens n f x set first room y → IsBroken n g load dist y first (f.top t0) room
 opened n f g load dist x y set first m0 t0 room lam q p tree pg ns ps ex fb fl fp fpar fe keep fexit o =
     let first_free : x.place first ≡ free = (elim (place_cases (x.place first)) [
       | inl z ↦ z
@@ -39,8 +42,15 @@ opened n f g load dist x y set first m0 t0 room lam q p tree pg ns ps ex fb fl f
     let fm : f.top m ≡ i = before m i w.below k w.top in
     let r : IsExit n f x.mate i m t = record { below = w.below; top = fm; paired = sym (keep m w.below (λ z. ne (sym fm ∙ z))) ∙ w.paired } in r) in
     let now = λ (i m t : ℕ) (ne : i ≢ set) (w : IsExit n f x.mate i m t). (
-    let r : IsExit n g y.mate i m t = record { below = w.below; top = keeps m i w.below ne w.top; paired = keep m w.below (λ z. ne (sym w.top ∙ z)) ∙ w.paired } in r) in
-    let rank = λ (i : ℕ) (k : x.place i ≢ free). (elim (cases_lt (x.rank set) (x.rank i)) as (λ _. ((y.rank i ≡ x.rank i + room) × (x.rank set < x.rank i)) ⊎ ((y.rank i ≡ x.rank i) × (x.rank i ≤ x.rank set))) [
+    let r : IsExit n g y.mate i m t = record {
+      below = w.below;
+      top = keeps m i w.below ne w.top;
+      paired =
+          keep m w.below (λ z. ne (sym w.top ∙ z)) ∙ w.paired;
+    } in r) in
+    let rank = λ (i : ℕ) (k : x.place i ≢ free). (elim (cases_lt (x.rank set) (x.rank i)) as
+    (λ _. ((y.rank i ≡ x.rank i + room) × (x.rank set < x.rank i)) ⊎
+    ((y.rank i ≡ x.rank i) × (x.rank i ≤ x.rank set))) [
       | inl h ↦ inl (o.rank_high i (not_first i k) h, h)
       | inr h ↦ inr (o.rank_low i (not_first i k) h, h)
     ]) in
@@ -88,7 +98,9 @@ opened n f g load dist x y set first m0 t0 room lam q p tree pg ns ps ex fb fl f
             (v.0, q.live_others i w.0 ∙ v.1, q.parent_others i nk ∙ v.2)
       ];
       root_outer = ap y.place o.root ∙ same x.root (outer_in tree.root_outer) (λ z. outer_inner_no tree.root_outer (ap x.place z ∙ ps)) ∙ tree.root_outer;
-      root_free = λ m t w. tree.root_free m t (was x.root m t (outer_in tree.root_outer) (λ z. outer_inner_no tree.root_outer (ap x.place z ∙ ps)) (record { below = w.below; top = w.top ∙ o.root; paired = w.paired }));
+      root_free = λ m t w. tree.root_free m t (was x.root m t (outer_in tree.root_outer)
+          (λ z. outer_inner_no tree.root_outer (ap x.place z ∙ ps))
+          (record { below = w.below; top = w.top ∙ o.root; paired = w.paired }));
       outer_pair = λ i e nr.
           let h = old_outer i e in
           let w = tree.outer_pair i h.1 (λ z. nr (z ∙ sym o.root)) in
@@ -137,16 +149,23 @@ opened n f g load dist x y set first m0 t0 room lam q p tree pg ns ps ex fb fl f
         | inr z ↦
             let h = old_inner i e z in
             let v = above_now i h.1 in
-            omega (arith, ap (λ a. y.rank (g.top a)) (o.link_others i z).0, ap y.rank v.0, rises (f.top (x.above i)) i (outer_in (tree.link_outer i h.1)) (inner_in h.1) (tree.link_rank i h.1))
+            omega (
+              arith,
+              ap (λ a. y.rank (g.top a)) (o.link_others i z).0,
+              ap y.rank v.0,
+              rises (f.top (x.above i)) i (outer_in (tree.link_outer i h.1)) (inner_in h.1) (tree.link_rank i h.1),
+            )
       ];
       link_tight = λ i e. elim (cases_eq i first) [
         | inl z ↦
             let a : y.above i ≡ x.above set = ap y.above z ∙ o.above_first in
             let b : y.entry i ≡ x.entry set = ap y.entry z ∙ o.entry_first in
-            ap (λ c. load c (y.entry i)) a ∙ ap (load (x.above set)) b ∙ tree.link_tight set ps ∙ sym (ap (λ c. dist c (y.entry i)) a ∙ ap (dist (x.above set)) b)
+            ap (λ c. load c (y.entry i)) a ∙ ap (load (x.above set)) b ∙ tree.link_tight set ps ∙
+            sym (ap (λ c. dist c (y.entry i)) a ∙ ap (dist (x.above set)) b)
         | inr z ↦
             let l = o.link_others i z in
-            ap (λ c. load c (y.entry i)) l.0 ∙ ap (load (x.above i)) l.1 ∙ tree.link_tight i (old_inner i e z).1 ∙ sym (ap (λ c. dist c (y.entry i)) l.0 ∙ ap (dist (x.above i)) l.1)
+            ap (λ c. load c (y.entry i)) l.0 ∙ ap (load (x.above i)) l.1 ∙ tree.link_tight i (old_inner i e z).1 ∙
+            sym (ap (λ c. dist c (y.entry i)) l.0 ∙ ap (dist (x.above i)) l.1)
       ];
       cur_inner = o.place_first;
       out_outer = y_out;
@@ -154,7 +173,9 @@ opened n f g load dist x y set first m0 t0 room lam q p tree pg ns ps ex fb fl f
     }
 
 -- where the mate of the last inner set is the outer set that was left out, the tree is whole
-pub healed : (n : ℕ) (f : Sets) (load dist : ℕ → ℕ → ℕ) (x : Forest) (cur out room m t : ℕ) → ArePairs n f load dist x.mate → IsBroken n f load dist x cur out room → IsExit n f x.mate cur m t → f.top t ≡ out → IsTree n f load dist x
+pub healed : (n : ℕ) (f : Sets) (load dist : ℕ → ℕ → ℕ) (x : Forest) (cur out room m t : ℕ) →
+    ArePairs n f load dist x.mate → IsBroken n f load dist x cur out room → IsExit n f x.mate cur m t → f.top t ≡ out →
+    IsTree n f load dist x
 healed n f load dist x cur out room m t p b ex e =
     let back = exit_back n f load dist x.mate p cur m t ex in
     record {
@@ -184,16 +205,23 @@ healed n f load dist x cur out room m t p b ex e =
     }
 
 -- one step along the ring
-pub walked : (n : ℕ) (f : Sets) (load dist : ℕ → ℕ → ℕ) (x y : Forest) (cur out room o next m t a b : ℕ) → ArePairs n f load dist x.mate → IsBroken n f load dist x cur out (room + 2) → IsExit n f x.mate cur m t → f.top t ≡ o →
-    x.place o ≡ free → x.place next ≡ free → o ≢ next → ((o < 2 * n) × (f.live o ≡ true) × (f.parent o ≡ None)) → ((next < 2 * n) × (f.live next ≡ true) × (f.parent next ≡ None)) →
-    a < n → b < n → f.top a ≡ o → f.top b ≡ next → load a b ≡ dist a b → ((s : ℕ) × (u : ℕ) × IsExit n f x.mate next s u) → Walks n f x cur o next a b y → IsBroken n f load dist y next out room
+pub walked : (n : ℕ) (f : Sets) (load dist : ℕ → ℕ → ℕ) (x y : Forest) (cur out room o next m t a b : ℕ) →
+    ArePairs n f load dist x.mate → IsBroken n f load dist x cur out (room + 2) → IsExit n f x.mate cur m t →
+    f.top t ≡ o →
+    x.place o ≡ free → x.place next ≡ free → o ≢ next → ((o < 2 * n) × (f.live o ≡ true) × (f.parent o ≡ None)) →
+    ((next < 2 * n) × (f.live next ≡ true) × (f.parent next ≡ None)) →
+    a < n → b < n → f.top a ≡ o → f.top b ≡ next → load a b ≡ dist a b →
+    ((s : ℕ) × (u : ℕ) × IsExit n f x.mate next s u) → Walks n f x cur o next a b y →
+    IsBroken n f load dist y next out room
 walked n f load dist x y cur out room o next m t a b p br ex to po pn on top_o top_n ha hb ta tb tight nexit w =
     let no = λ (i : ℕ) (k : x.place i ≢ free) (e : i ≡ o). k (ap x.place e ∙ po) in
     let nn = λ (i : ℕ) (k : x.place i ≢ free) (e : i ≡ next). k (ap x.place e ∙ pn) in
     let same = λ (i : ℕ) (k : x.place i ≢ free). w.place_others i (no i k) (nn i k) in
     let rank = λ (i : ℕ) (k : x.place i ≢ free). w.rank_others i (no i k) (nn i k) in
-    let was = λ (i s u : ℕ) (v : IsExit n f y.mate i s u). let r : IsExit n f x.mate i s u = record { below = v.below; top = v.top; paired = sym (w.mates s) ∙ v.paired } in r in
-    let now = λ (i s u : ℕ) (v : IsExit n f x.mate i s u). let r : IsExit n f y.mate i s u = record { below = v.below; top = v.top; paired = w.mates s ∙ v.paired } in r in
+    let was = λ (i s u : ℕ) (v : IsExit n f y.mate i s u). let r : IsExit n f x.mate i s u =
+    record { below = v.below; top = v.top; paired = sym (w.mates s) ∙ v.paired } in r in
+    let now = λ (i s u : ℕ) (v : IsExit n f x.mate i s u). let r : IsExit n f y.mate i s u =
+    record { below = v.below; top = v.top; paired = w.mates s ∙ v.paired } in r in
     let back = exit_back n f load dist x.mate p cur m t ex in
     let cur_in = inner_in br.cur_inner in
     let old_outer = λ (i : ℕ) (e : y.place i ≡ outer) (ne : i ≢ o). (
@@ -258,7 +286,13 @@ walked n f load dist x y cur out room o next m t a b p br ex to po pn on top_o t
         | inl z ↦ omega (arith, ap (λ c. y.rank (f.top c)) (ap y.above z ∙ w.above), ap y.rank ta, w.rank_outer, ap y.rank z, w.rank_inner)
         | inr z ↦
             let h = old_inner i e z in
-            omega (arith, ap (λ c. y.rank (f.top c)) (w.link_others i z).0, rank (f.top (x.above i)) (outer_in (br.link_outer i h)), rank i (inner_in h), br.link_rank i h)
+            omega (
+              arith,
+              ap (λ c. y.rank (f.top c)) (w.link_others i z).0,
+              rank (f.top (x.above i)) (outer_in (br.link_outer i h)),
+              rank i (inner_in h),
+              br.link_rank i h,
+            )
       ];
       link_tight = λ i e. elim (cases_eq i next) [
         | inl z ↦
@@ -267,7 +301,8 @@ walked n f load dist x y cur out room o next m t a b p br ex to po pn on top_o t
             ap (λ c. load c (y.entry i)) ea ∙ ap (load a) eb ∙ tight ∙ sym (ap (λ c. dist c (y.entry i)) ea ∙ ap (dist a) eb)
         | inr z ↦
             let l = w.link_others i z in
-            ap (λ c. load c (y.entry i)) l.0 ∙ ap (load (x.above i)) l.1 ∙ br.link_tight i (old_inner i e z) ∙ sym (ap (λ c. dist c (y.entry i)) l.0 ∙ ap (dist (x.above i)) l.1)
+            ap (λ c. load c (y.entry i)) l.0 ∙ ap (load (x.above i)) l.1 ∙ br.link_tight i (old_inner i e z) ∙
+            sym (ap (λ c. dist c (y.entry i)) l.0 ∙ ap (dist (x.above i)) l.1)
       ];
       cur_inner = w.place_inner;
       out_outer = same out (outer_in br.out_outer) ∙ br.out_outer;

@@ -24,12 +24,16 @@ sum_part (suc n) f a h = elim (cases_eq a n) [
 ]
 
 -- the tops of a tree are at most as many as the members
-pub tops_few : (n : ℕ) (f : Sets) (place : ℕ → Place) → IsLaminar n f → ((i : ℕ) → place i ≢ free → (i < 2 * n) × (f.live i ≡ true) × (f.parent i ≡ None)) → sum_below (2 * n) (λ i. drop_of (place i) + gain (place i)) ≤ n
+pub tops_few : (n : ℕ) (f : Sets) (place : ℕ → Place) → IsLaminar n f →
+    ((i : ℕ) → place i ≢ free → (i < 2 * n) × (f.live i ≡ true) × (f.parent i ≡ None)) →
+    sum_below (2 * n) (λ i. drop_of (place i) + gain (place i)) ≤ n
 tops_few n f place lam tops =
     let bits : ℕ → ℕ → ℕ = λ m i. cond (eqb (f.top m) i) 1 0 in
-    let each : sum_below (2 * n) (λ i. drop_of (place i) + gain (place i)) ≤ sum_below (2 * n) (λ i. sum_below n (λ m. bits m i)) = sum_most (2 * n) _ _ (λ i hi. one i hi) in
+    let each : sum_below (2 * n) (λ i. drop_of (place i) + gain (place i)) ≤ sum_below (2 * n)
+    (λ i. sum_below n (λ m. bits m i)) = sum_most (2 * n) _ _ (λ i hi. one i hi) in
     let turned : sum_below n (λ m. sum_below (2 * n) (bits m)) ≡ sum_below (2 * n) (λ i. sum_below n (λ m. bits m i)) = sum_turned n (2 * n) bits in
-    let rows : sum_below n (λ m. sum_below (2 * n) (bits m)) ≡ sum_below n (λ m. 1) = sum_same n _ _ (λ m h. sum_at (2 * n) (f.top m) (λ _. 1) (lam.tops.top_range m h)) in
+    let rows : sum_below n (λ m. sum_below (2 * n) (bits m)) ≡ sum_below n (λ m. 1) =
+    sum_same n _ _ (λ m h. sum_at (2 * n) (f.top m) (λ _. 1) (lam.tops.top_range m h)) in
     omega (arith, each, turned, rows, ones n)
   where
     most : (i : ℕ) → i < 2 * n → place i ≢ free → 1 ≤ sum_below n (λ m. cond (eqb (f.top m) i) 1 0)

@@ -1,5 +1,7 @@
 -- An inner set of value 0 gives way to its children, of which those on the way stay in the tree.
-use Rattle.std.proofs.Common.{arith, ◌≡◌, ◌≢◌, ℕ, zero, suc, ◌+◌, ◌-◌, ◌*◌, ◌/◌, ◌%◌, ◌<◌, ◌≤◌, ◌⊎◌, refl, sym, ap, ◌∙◌, subst, true, false, inl, inr, Option, Some, None, List, length, get_or, set, length-set, get_or-set_same, get_or-set_other}
+use Rattle.std.proofs.Common.{arith, ◌≡◌, ◌≢◌, ℕ, zero, suc, ◌+◌, ◌-◌, ◌*◌, ◌/◌, ◌%◌, ◌<◌, ◌≤◌, ◌⊎◌, refl, sym, ap, ◌∙◌}
+use Rattle.std.proofs.Common.{subst, true, false, inl, inr, Option, Some, None, List, length, get_or, set, length-set}
+use Rattle.std.proofs.Common.{get_or-set_same, get_or-set_other}
 use Rattle.std.proofs.lemmas.Bool.{cases_eq, cases_lt, cases_Bool}
 use Rattle.std.proofs.Math.Nat.{mod-eq_of_lt}
 use Rattle.dpl_laminar.specs.Families.{Sets, IsFamily, has, next_in}
@@ -33,7 +35,9 @@ step_long k l cur o next link a = record {
   links = length-set l.links next link ∙ a.links;
 }
 
-step_walks : (n : ℕ) (g : Sets) (k : ℕ) (l : Lists) (root : ℕ) (mate : ℕ → Option ℕ) (cur o next : ℕ) (link : ℕ × ℕ) → AreLong k l → o < k → next < k → o ≢ next → Walks n g (forest_in l root mate) cur o next link.0 link.1 (forest_in (step_in l cur o next link) root mate)
+step_walks : (n : ℕ) (g : Sets) (k : ℕ) (l : Lists) (root : ℕ) (mate : ℕ → Option ℕ) (cur o next : ℕ) (link : ℕ × ℕ) →
+    AreLong k l → o < k → next < k → o ≢ next → Walks n g (forest_in l root mate) cur o next link.0 link.1
+    (forest_in (step_in l cur o next link) root mate)
 step_walks n g k l root mate cur o next link a ho hn ne =
     let hl : next < length (set l.labels o Outer) = omega (arith, length-set l.labels o Outer, a.labels, hn) in
     let r1 : ℕ = get_or l.ranks cur 0 + 1 in
@@ -43,7 +47,8 @@ step_walks n g k l root mate cur o next link a ho hn ne =
     record {
       mates = λ i. refl;
       root = refl;
-      place_outer = ap place_of (get_or-set_other (set l.labels o Outer) next o Inner Free ne ∙ get_or-set_same l.labels o Outer Free (omega (arith, a.labels, ho)));
+      place_outer = ap place_of (get_or-set_other (set l.labels o Outer) next o Inner Free ne ∙
+          get_or-set_same l.labels o Outer Free (omega (arith, a.labels, ho)));
       place_inner = ap place_of (get_or-set_same (set l.labels o Outer) next Inner Free hl);
       place_others = λ i no nn. ap place_of (get_or-set_other (set l.labels o Outer) next i Inner Free nn ∙ get_or-set_other l.labels o i Outer Free no);
       rank_outer = get_or-set_other (set l.ranks o r1) next o r2 0 ne ∙ get_or-set_same l.ranks o r1 0 (omega (arith, a.ranks, ho));
@@ -65,16 +70,19 @@ pub record IsReadyRing (n : ℕ) (g : Sets) (load dist : ℕ → ℕ → ℕ) (s
   pub along : (i : ℕ) → i % 2 ≡ 0 → i < p → mate (get_or joins i (0, 0)).0 ≡ Some (get_or joins i (0, 0)).1
   pub place : p < length sets
 
-pub record IsWalked (n : ℕ) (g : Sets) (load dist : ℕ → ℕ → ℕ) (sets : List ℕ) (joins : List (ℕ × ℕ)) (p r : ℕ) (l m : Lists) (root out : ℕ) (mate : ℕ → Option ℕ) (bound : ℕ) : Type 0 where
+pub record IsWalked (n : ℕ) (g : Sets) (load dist : ℕ → ℕ → ℕ) (sets : List ℕ) (joins : List (ℕ × ℕ)) (p r : ℕ)
+    (l m : Lists) (root out : ℕ) (mate : ℕ → Option ℕ) (bound : ℕ) : Type 0 where
   pub long : AreLong (2 * n) m
   pub broken : IsBroken n g load dist (forest_in m root mate) (get_or sets (2 * r) 0) out (p - 2 * r)
   pub ahead : (j : ℕ) → 2 * r < j → j < length sets → place_in m.labels (get_or sets j 0) ≡ free
   pub others : (i : ℕ) → ((j : ℕ) → j < length sets → i ≢ get_or sets j 0) → place_in m.labels i ≡ place_in l.labels i
   pub ranked : (i : ℕ) → get_or m.ranks i 0 ≤ bound + 2 * r
 
-walk_more : (n : ℕ) (g : Sets) (load dist : ℕ → ℕ → ℕ) (sets : List ℕ) (joins : List (ℕ × ℕ)) (p r : ℕ) (l m : Lists) (root out : ℕ) (mate : ℕ → Option ℕ) (bound : ℕ) → IsReadyRing n g load dist sets joins p mate → 2 * r + 2 ≤ p →
+walk_more : (n : ℕ) (g : Sets) (load dist : ℕ → ℕ → ℕ) (sets : List ℕ) (joins : List (ℕ × ℕ)) (p r : ℕ) (l m : Lists)
+    (root out : ℕ) (mate : ℕ → Option ℕ) (bound : ℕ) → IsReadyRing n g load dist sets joins p mate → 2 * r + 2 ≤ p →
     IsWalked n g load dist sets joins p r l m root out mate bound →
-    IsWalked n g load dist sets joins p (suc r) l (step_in m (get_or sets (2 * r) 0) (get_or sets (2 * r + 1) 0) (get_or sets (2 * r + 2) 0) (get_or joins (2 * r + 1) (0, 0))) root out mate bound
+    IsWalked n g load dist sets joins p (suc r) l (step_in m (get_or sets (2 * r) 0) (get_or sets (2 * r + 1) 0)
+    (get_or sets (2 * r + 2) 0) (get_or joins (2 * r + 1) (0, 0))) root out mate bound
 walk_more n g load dist sets joins p r l m root out mate bound q le w =
     let cur : ℕ = get_or sets (2 * r) 0 in
     let o : ℕ = get_or sets (2 * r + 1) 0 in
@@ -93,14 +101,19 @@ walk_more n g load dist sets joins p r l m root out mate bound q le w =
     let t1 = q.row.to (2 * r + 1) (omega (arith, h2)) in
     let ex : IsExit n g mate cur first.0 first.1 = record { below = f0.0; top = f0.1; paired = q.along (2 * r) (omega arith) (omega (arith, le)) } in
     let room : p - 2 * r ≡ (p - 2 * suc r) + 2 = omega (arith, le) in
-    let b = walked n g load dist (forest_in m root mate) (forest_in (step_in m cur o next link) root mate) cur out (p - 2 * suc r) o next first.0 first.1 link.0 link.1 q.pairs
-    (subst (λ (z : ℕ). IsBroken n g load dist (forest_in m root mate) cur out z) room w.broken) ex t0.1 (w.ahead (2 * r + 1) (omega arith) h1) (w.ahead (2 * r + 2) (omega arith) h2) on (q.tops (2 * r + 1) h1) (q.tops (2 * r + 2) h2)
+    let b = walked n g load dist (forest_in m root mate) (forest_in (step_in m cur o next link) root mate) cur out
+    (p - 2 * suc r) o next first.0 first.1 link.0 link.1 q.pairs
+    (subst (λ (z : ℕ). IsBroken n g load dist (forest_in m root mate) cur out z) room w.broken) ex t0.1
+    (w.ahead (2 * r + 1) (omega arith) h1) (w.ahead (2 * r + 2) (omega arith) h2) on (q.tops (2 * r + 1) h1)
+    (q.tops (2 * r + 2) h2)
     f1.0 t1.0 f1.1 (t1.1 ∙ ap (λ z. get_or sets z 0) e2) (q.row.tight (2 * r + 1) (omega (arith, h2))) (q.exits (2 * r + 2) h2) step in
     let e3 : 2 * r + 2 ≡ 2 * suc r = omega arith in
     record {
       long = step_long (2 * n) m cur o next link w.long;
       broken = subst (λ (z : ℕ). IsBroken n g load dist (forest_in (step_in m cur o next link) root mate) (get_or sets z 0) out (p - 2 * suc r)) e3 b;
-      ahead = λ j lt h. step.place_others (get_or sets j 0) (λ z. q.row.distinct (2 * r + 1) j (omega (arith, lt)) h (sym z)) (λ z. q.row.distinct (2 * r + 2) j (omega (arith, lt)) h (sym z)) ∙ w.ahead j (omega (arith, lt)) h;
+      ahead = λ j lt h. step.place_others (get_or sets j 0)
+          (λ z. q.row.distinct (2 * r + 1) j (omega (arith, lt)) h (sym z))
+          (λ z. q.row.distinct (2 * r + 2) j (omega (arith, lt)) h (sym z)) ∙ w.ahead j (omega (arith, lt)) h;
       others = λ i none. step.place_others i (none (2 * r + 1) h1) (none (2 * r + 2) h2) ∙ w.others i none;
       ranked = λ i. elim (cases_eq i next) [
         | inl z ↦ omega (arith, ap (λ y. get_or (step_in m cur o next link).ranks y 0) z, step.rank_inner, w.ranked cur)
@@ -111,10 +124,14 @@ walk_more n g load dist sets joins p r l m root out mate bound q le w =
       ];
     }
 
-pub walk_all : (n : ℕ) (g : Sets) (load dist : ℕ → ℕ → ℕ) (sets : List ℕ) (joins : List (ℕ × ℕ)) (p : ℕ) (l : Lists) (root out : ℕ) (mate : ℕ → Option ℕ) (bound : ℕ) → IsReadyRing n g load dist sets joins p mate →
-    IsWalked n g load dist sets joins p 0 l l root out mate bound → (r : ℕ) → 2 * r ≤ p → IsWalked n g load dist sets joins p r l (walked_times l sets joins r) root out mate bound
+pub walk_all : (n : ℕ) (g : Sets) (load dist : ℕ → ℕ → ℕ) (sets : List ℕ) (joins : List (ℕ × ℕ)) (p : ℕ) (l : Lists)
+    (root out : ℕ) (mate : ℕ → Option ℕ) (bound : ℕ) → IsReadyRing n g load dist sets joins p mate →
+    IsWalked n g load dist sets joins p 0 l l root out mate bound → (r : ℕ) → 2 * r ≤ p →
+    IsWalked n g load dist sets joins p r l (walked_times l sets joins r) root out mate bound
 walk_all n g load dist sets joins p l root out mate bound q w zero h = w
-walk_all n g load dist sets joins p l root out mate bound q w (suc r) h = walk_more n g load dist sets joins p r l (walked_times l sets joins r) root out mate bound q (omega (arith, h)) (walk_all n g load dist sets joins p l root out mate bound q w r (omega (arith, h)))
+walk_all n g load dist sets joins p l root out mate bound q w (suc r) h =
+    walk_more n g load dist sets joins p r l (walked_times l sets joins r) root out mate bound q (omega (arith, h))
+    (walk_all n g load dist sets joins p l root out mate bound q w r (omega (arith, h)))
 
 -- ---- the whole
 
@@ -128,7 +145,8 @@ place_free n f dist x set c st e = elim (place_cases (x.place c)) [
   | inr (inr z) ↦ some_none (f.parent c) set e (st.tree.tops c (inner_in z)).2
 ]
 
-pub opening_row : (n : ℕ) (f g : Sets) (dist : ℕ → ℕ → ℕ) (set : ℕ) (sets : List ℕ) (joins : List (ℕ × ℕ)) → Releases n f set g → IsAround n f dist set sets joins → IsRow n g (loads n f) dist sets joins
+pub opening_row : (n : ℕ) (f g : Sets) (dist : ℕ → ℕ → ℕ) (set : ℕ) (sets : List ℕ) (joins : List (ℕ × ℕ)) →
+    Releases n f set g → IsAround n f dist set sets joins → IsRow n g (loads n f) dist sets joins
 opening_row n f g dist set sets joins q a = record {
   from = λ i h. let w = a.from i h in (w.0, q.top_inside (get_or sets i 0) _ w.0 (a.kids i h) w.1);
   to = λ i h.
@@ -139,9 +157,15 @@ opening_row n f g dist set sets joins q a = record {
   distinct = a.distinct;
 }
 
-pub opening_done : (n : ℕ) (f g : Sets) (dist : ℕ → ℕ → ℕ) (x : Forest) (set : ℕ) (sets : List ℕ) (joins : List (ℕ × ℕ)) (p m0 t0 : ℕ) (mates : List (Option ℕ)) (l : Lists) (bound : ℕ) → IsMetric n dist → length mates ≡ n → x.mate ≡ mate_in mates → IsStage n f dist x →
-    IsOpening n f dist x set sets joins p m0 t0 → IsExpanded f set g → IsFamily g → AreLong (2 * n) l → Opens n f x set (get_or sets 0 0) p (forest_in l x.root (mate_in (paired_times mates joins p (length joins / 2)))) → ((i : ℕ) → x.rank i ≤ bound) →
-    Advances n dist f x g (forest_in (walked_times l sets joins (p / 2)) x.root (mate_in (paired_times mates joins p (length joins / 2)))) × ((i : ℕ) → get_or (walked_times l sets joins (p / 2)).ranks i 0 ≤ bound + 2 * p)
+pub opening_done : (n : ℕ) (f g : Sets) (dist : ℕ → ℕ → ℕ) (x : Forest) (set : ℕ) (sets : List ℕ) (joins : List (ℕ × ℕ))
+    (p m0 t0 : ℕ) (mates : List (Option ℕ)) (l : Lists) (bound : ℕ) → IsMetric n dist → length mates ≡ n →
+    x.mate ≡ mate_in mates → IsStage n f dist x →
+    IsOpening n f dist x set sets joins p m0 t0 → IsExpanded f set g → IsFamily g → AreLong (2 * n) l →
+    Opens n f x set (get_or sets 0 0) p (forest_in l x.root
+    (mate_in (paired_times mates joins p (length joins / 2)))) → ((i : ℕ) → x.rank i ≤ bound) →
+    Advances n dist f x g (forest_in (walked_times l sets joins (p / 2)) x.root
+    (mate_in (paired_times mates joins p (length joins / 2)))) ×
+    ((i : ℕ) → get_or (walked_times l sets joins (p / 2)).ranks i 0 ≤ bound + 2 * p)
 opening_done n f g dist x set sets joins p m0 t0 mates l bound me len em st o ex fam long op ranked =
     let r = st.rest in
     let lam = r.laminar in
@@ -160,7 +184,8 @@ opening_done n f g dist x set sets joins p m0 t0 mates l bound me len em st o ex
       | inr z ↦ some_none (f.parent (get_or sets i 0)) set (kid i h).2 (ap f.parent (sym e ∙ q.top_others m hm z) ∙ lam.tops.top_parent m hm)
     ]) in
     let top0 : g.top m0 ≡ get_or sets p 0 = q.top_inside (get_or sets p 0) m0 o.exit.below (a.kids p o.place) o.leaves in
-    let apart = λ (i j : ℕ) (hi : i < length sets) (hj : j < length sets) (ne : i ≢ j) (e : get_or sets i 0 ≡ get_or sets j 0). (elim (cases_lt i j) as (λ _. ⊥) [
+    let apart = λ (i j : ℕ) (hi : i < length sets) (hj : j < length sets) (ne : i ≢ j)
+    (e : get_or sets i 0 ≡ get_or sets j 0). (elim (cases_lt i j) as (λ _. ⊥) [
       | inl lt ↦ a.distinct i j lt hj e
       | inr ge ↦ a.distinct j i (omega (arith, ge, ne)) hi (sym e)
     ]) in
@@ -187,12 +212,15 @@ opening_done n f g dist x set sets joins p m0 t0 mates l bound me len em st o ex
     let gtop = λ (i : ℕ) (h : i < length sets). (
     let k = kid i h in
     let ns : get_or sets i 0 ≢ set = λ e. some_none (f.parent (get_or sets i 0)) set k.2 (ap f.parent e ∙ at.2) in
-    let w : (get_or sets i 0 < 2 * n) × (g.live (get_or sets i 0) ≡ true) × (g.parent (get_or sets i 0) ≡ None) = (k.0, q.live_others (get_or sets i 0) ns ∙ k.1, q.parent_child (get_or sets i 0) (a.kids i h)) in w) in
+    let w : (get_or sets i 0 < 2 * n) × (g.live (get_or sets i 0) ≡ true) × (g.parent (get_or sets i 0) ≡ None) =
+    (k.0, q.live_others (get_or sets i 0) ns ∙ k.1, q.parent_child (get_or sets i 0) (a.kids i h)) in w) in
     let h0 : 0 < length sets = omega (arith, o.place) in
     let g0 = gtop 0 h0 in
     let y0 : Forest = forest_in l x.root new in
     let ent = st.tree.link_range set o.is_inner in
-    let broken = opened n f g load dist x y0 set (get_or sets 0 0) m0 t0 p lam q r.pairs st.tree pd.pairs o.above o.is_inner o.exit g0.0 g0.1 g0.2 (kid 0 h0).2 (q.top_inside (get_or sets 0 0) (x.entry set) ent.1 (a.kids 0 h0) o.enters) keep (exits 0 h0) op in
+    let broken = opened n f g load dist x y0 set (get_or sets 0 0) m0 t0 p lam q r.pairs st.tree pd.pairs o.above
+    o.is_inner o.exit g0.0 g0.1 g0.2 (kid 0 h0).2 (q.top_inside (get_or sets 0 0) (x.entry set) ent.1 (a.kids 0 h0)
+    o.enters) keep (exits 0 h0) op in
     let ring : IsReadyRing n g load dist sets joins p new = record {
       row = row;
       pairs = pd.pairs;
@@ -201,7 +229,8 @@ opening_done n f g dist x set sets joins p m0 t0 mates l bound me len em st o ex
       along = λ i z lp. pd.along i z lp (omega (arith, lp, o.place, eh)) (omega (arith, lp, o.place));
       place = o.place;
     } in
-    let free_in = λ (i : ℕ) (h : i < length sets). (elim (place_free n f dist x set (get_or sets i 0) st (kid i h).2) as (λ _. x.place (get_or sets i 0) ≡ free) [
+    let free_in = λ (i : ℕ) (h : i < length sets). (elim (place_free n f dist x set (get_or sets i 0) st (kid i h).2) as
+    (λ _. x.place (get_or sets i 0) ≡ free) [
       | inl z ↦ z
       | inr z ↦ absurd z
     ]) in
@@ -225,9 +254,12 @@ opening_done n f g dist x set sets joins p m0 t0 mates l bound me len em st o ex
     let y : Forest = forest_in (walked_times l sets joins (p / 2)) x.root new in
     let nt0 : f.top t0 ≢ set = λ e. r.pairs.leaves m0 t0 o.exit.below o.exit.paired (o.exit.top ∙ sym e) in
     let ht0 : t0 < n = r.pairs.range m0 t0 o.exit.below o.exit.paired in
-    let last : IsExit n g new (get_or sets (2 * (p / 2)) 0) m0 t0 = record { below = o.exit.below; top = top0 ∙ ap (λ z. get_or sets z 0) (sym ph); paired = kept0 } in
+    let last : IsExit n g new (get_or sets (2 * (p / 2)) 0) m0 t0 =
+    record { below = o.exit.below; top = top0 ∙ ap (λ z. get_or sets z 0) (sym ph); paired = kept0 } in
     let tree = healed n g load dist y (get_or sets (2 * (p / 2)) 0) (f.top t0) (p - 2 * (p / 2)) m0 t0 pd.pairs w.broken last (q.top_others t0 ht0 nt0) in
-    let outside = λ (i : ℕ) (k : has (f.children set) i ≡ false) (j : ℕ) (h : j < length sets) (e : i ≡ get_or sets j 0). true_false {P = ⊥} (has (f.children set) i) (ap (has (f.children set)) e ∙ a.kids j h) k in
+    let outside = λ (i : ℕ) (k : has (f.children set) i ≡ false) (j : ℕ) (h : j < length sets)
+    (e : i ≡ get_or sets j 0). true_false {P = ⊥} (has (f.children set) i)
+    (ap (has (f.children set)) e ∙ a.kids j h) k in
     let set_out : has (f.children set) set ≡ false = elim (cases_Bool (has (f.children set) set)) [
       | inl k ↦ some_none (f.parent set) set (lam.children.child set set at.0 k).2 at.2
       | inr k ↦ k

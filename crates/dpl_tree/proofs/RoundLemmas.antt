@@ -1,5 +1,7 @@
 -- Walking around the ring of a set.
-use Rattle.std.proofs.Common.{arith, ◌≡◌, ◌≢◌, ℕ, zero, suc, ◌+◌, ◌-◌, ◌*◌, ◌%◌, ◌<◌, ◌≤◌, refl, sym, ap, ◌∙◌, subst, inl, inr, Bool, true, false, cond, eq-eqb, List, [], ◌∷◌, ◌++◌, length, get_or, Option, Some, None}
+use Rattle.std.proofs.Common.{arith, ◌≡◌, ◌≢◌, ℕ, zero, suc, ◌+◌, ◌-◌, ◌*◌, ◌%◌, ◌<◌, ◌≤◌, refl, sym, ap, ◌∙◌, subst}
+use Rattle.std.proofs.Common.{inl, inr, Bool, true, false, cond, eq-eqb, List, [], ◌∷◌, ◌++◌, length, get_or, Option}
+use Rattle.std.proofs.Common.{Some, None}
 use Rattle.std.specs.Prelude.{option_and_then}
 use Rattle.std.proofs.lemmas.Bool.{cases_eq, cases_lt}
 use Rattle.std.proofs.lemmas.List.{length_push, get_or_append_left}
@@ -53,7 +55,13 @@ mod_differ e i j k he ij jk q = elim (cases_lt (e + i) k) [
       let y : ℕ = e + j - k in
       let s : e + i ≡ k + x = omega (arith, a) in
       let t : e + j ≡ k + y = omega (arith, a, ij) in
-      omega (arith, sym (ap (λ z. z % k) s ∙ mod_once k x (let z : x < k = omega (arith, he, jk, ij) in z)) ∙ q ∙ ap (λ z. z % k) t ∙ mod_once k y (let z : y < k = omega (arith, he, jk) in z), a, ij)
+      omega (
+        arith,
+        sym (ap (λ z. z % k) s ∙ mod_once k x (let z : x < k = omega (arith, he, jk, ij) in z)) ∙ q ∙
+            ap (λ z. z % k) t ∙ mod_once k y (let z : y < k = omega (arith, he, jk) in z),
+        a,
+        ij,
+      )
 ]
 
 -- ---- the loop
@@ -68,18 +76,25 @@ pub record IsGoing (f : Sets) (first : ℕ) (sets : List ℕ) (joins : List (ℕ
   pub short : length sets ≤ length (f.children parent)
   pub next : child ≡ get_or (f.children parent) ((at + length sets) % length (f.children parent)) 0
 
-pub parent_below : (f : Sets) (first p : ℕ) → IsFamily f → first < 2 * f.size → f.live first ≡ true → f.parent first ≡ Some p → (p < 2 * f.size) × (has (f.children p) first ≡ true)
+pub parent_below : (f : Sets) (first p : ℕ) → IsFamily f → first < 2 * f.size → f.live first ≡ true →
+    f.parent first ≡ Some p → (p < 2 * f.size) × (has (f.children p) first ≡ true)
 parent_below f first p fam low live e = let w = fam.laminar.children.parent_range first p low live e in (w.1, w.3)
 
 -- the child in hand is live and has the same parent
-pub going_child : (f : Sets) (first : ℕ) (sets : List ℕ) (joins : List (ℕ × ℕ)) (child : ℕ) → IsFamily f → first < 2 * f.size → f.live first ≡ true → (g : IsGoing f first sets joins child) → (child < 2 * f.size) × (f.live child ≡ true) × (f.parent child ≡ Some g.parent)
+pub going_child : (f : Sets) (first : ℕ) (sets : List ℕ) (joins : List (ℕ × ℕ)) (child : ℕ) → IsFamily f →
+    first < 2 * f.size → f.live first ≡ true → (g : IsGoing f first sets joins child) → (child < 2 * f.size) ×
+    (f.live child ≡ true) × (f.parent child ≡ Some g.parent)
 going_child f first sets joins child fam low live g =
     let w = parent_below f first g.parent fam low live g.is_parent in
     let cs : List ℕ = f.children g.parent in
-    fam.laminar.children.child g.parent child w.0 (ap (has cs) g.next ∙ has_at cs ((g.at + length sets) % length cs) (let z : (g.at + length sets) % length cs < length cs = omega (arith, g.some, g.short) in z))
+    fam.laminar.children.child g.parent child w.0 (ap (has cs) g.next ∙
+    has_at cs ((g.at + length sets) % length cs) (let z : (g.at + length sets) % length cs < length cs =
+    omega (arith, g.some, g.short) in z))
 
 -- where the child in hand is the first one, the round is whole
-pub going_whole : (f : Sets) (first : ℕ) (sets : List ℕ) (joins : List (ℕ × ℕ)) (child : ℕ) → IsFamily f → first < 2 * f.size → f.live first ≡ true → IsGoing f first sets joins child → child ≡ first → IsRingFrom f first sets joins
+pub going_whole : (f : Sets) (first : ℕ) (sets : List ℕ) (joins : List (ℕ × ℕ)) (child : ℕ) → IsFamily f →
+    first < 2 * f.size → f.live first ≡ true → IsGoing f first sets joins child → child ≡ first →
+    IsRingFrom f first sets joins
 going_whole f first sets joins child fam below live g e =
     let w = parent_below f first g.parent fam below live g.is_parent in
     let cs : List ℕ = f.children g.parent in
@@ -103,7 +118,9 @@ going_whole f first sets joins child fam below live g e =
     }
 
 -- one child more
-pub going_on : (f : Sets) (first : ℕ) (sets : List ℕ) (joins : List (ℕ × ℕ)) (child after : ℕ) (pair : ℕ × ℕ) → IsFamily f → first < 2 * f.size → f.live first ≡ true → (g : IsGoing f first sets joins child) → child ≢ first → IsNext f child after pair → IsGoing f first (sets ++ child ∷ []) (joins ++ pair ∷ []) after
+pub going_on : (f : Sets) (first : ℕ) (sets : List ℕ) (joins : List (ℕ × ℕ)) (child after : ℕ) (pair : ℕ × ℕ) →
+    IsFamily f → first < 2 * f.size → f.live first ≡ true → (g : IsGoing f first sets joins child) → child ≢ first →
+    IsNext f child after pair → IsGoing f first (sets ++ child ∷ []) (joins ++ pair ∷ []) after
 going_on f first sets joins child after pair fam below live g ne nx =
     let cs : List ℕ = f.children g.parent in
     let k : ℕ = length cs in
@@ -131,11 +148,13 @@ going_on f first sets joins child after pair fam below live g ne nx =
               ap (λ z. get_or (sets ++ child ∷ []) z 0) e ∙ get_or-append_seam sets child [] 0 ∙ g.next ∙ ap (λ z. get_or cs ((g.at + z) % k) 0) (sym e)
         ];
         each_join = λ i h. elim (cases_lt i l) [
-          | inl lt ↦ get_or_append_left joins (pair ∷ []) (0, 0) i (omega (arith, g.part.joins_length, lt)) ∙ g.part.each_join i lt ∙ ap f.join (sym (get_or_append_left sets (child ∷ []) 0 i lt))
+          | inl lt ↦ get_or_append_left joins (pair ∷ []) (0, 0) i (omega (arith, g.part.joins_length, lt)) ∙
+              g.part.each_join i lt ∙ ap f.join (sym (get_or_append_left sets (child ∷ []) 0 i lt))
           | inr ge ↦
               let e : i ≡ length joins = omega (arith, len, g.part.joins_length, h, ge) in
               let e' : i ≡ l = omega (arith, len, h, ge) in
-              ap (λ z. get_or (joins ++ pair ∷ []) z (0, 0)) e ∙ get_or-append_seam joins pair [] (0, 0) ∙ nx.join ∙ ap f.join (sym (ap (λ z. get_or (sets ++ child ∷ []) z 0) e' ∙ get_or-append_seam sets child [] 0))
+              ap (λ z. get_or (joins ++ pair ∷ []) z (0, 0)) e ∙ get_or-append_seam joins pair [] (0, 0) ∙ nx.join ∙
+              ap f.join (sym (ap (λ z. get_or (sets ++ child ∷ []) z 0) e' ∙ get_or-append_seam sets child [] 0))
         ];
       };
       some = omega (arith, len);
@@ -143,7 +162,8 @@ going_on f first sets joins child after pair fam below live g ne nx =
       next = step ∙ ap (λ z. get_or cs z 0) (mod_next g.at l k ∙ ap (λ z. (g.at + z) % k) (sym len));
     }
 
-pub going_begun : (f : Sets) (first after : ℕ) (pair : ℕ × ℕ) → IsFamily f → first < 2 * f.size → f.live first ≡ true → (f.parent first ≡ None → ⊥) → IsNext f first after pair → IsGoing f first (first ∷ []) (pair ∷ []) after
+pub going_begun : (f : Sets) (first after : ℕ) (pair : ℕ × ℕ) → IsFamily f → first < 2 * f.size → f.live first ≡ true →
+    (f.parent first ≡ None → ⊥) → IsNext f first after pair → IsGoing f first (first ∷ []) (pair ∷ []) after
 going_begun f first after pair fam below live ne nx = elim (cases_Option (f.parent first)) [
   | inl z ↦ absurd (ne z)
   | inr p ↦
@@ -160,8 +180,11 @@ going_begun f first after pair fam below live ne nx = elim (cases_Option (f.pare
         part = record {
           place = e.1;
           joins_length = refl;
-          each = λ i h. let z : i ≡ 0 = omega (arith, h) in ap (λ a. get_or (first ∷ []) a 0) z ∙ sym e.2 ∙ ap (λ a. get_or (f.children p.0) a 0) (sym here) ∙ ap (λ a. get_or (f.children p.0) ((e.0 + a) % length (f.children p.0)) 0) (sym z);
-          each_join = λ i h. let z : i ≡ 0 = omega (arith, h) in ap (λ a. get_or (pair ∷ []) a (0, 0)) z ∙ nx.join ∙ ap (λ a. f.join (get_or (first ∷ []) a 0)) (sym z);
+          each = λ i h. let z : i ≡ 0 = omega (arith, h) in ap (λ a. get_or (first ∷ []) a 0) z ∙ sym e.2 ∙
+              ap (λ a. get_or (f.children p.0) a 0) (sym here) ∙
+              ap (λ a. get_or (f.children p.0) ((e.0 + a) % length (f.children p.0)) 0) (sym z);
+          each_join = λ i h. let z : i ≡ 0 = omega (arith, h) in ap (λ a. get_or (pair ∷ []) a (0, 0)) z ∙ nx.join ∙
+              ap (λ a. f.join (get_or (first ∷ []) a 0)) (sym z);
         };
         some = omega arith;
         short = omega (arith, e.1);
@@ -170,14 +193,23 @@ going_begun f first after pair fam below live ne nx = elim (cases_Option (f.pare
 ]
 
 -- a ring is no longer than there are numbers
-pub going_short : (f : Sets) (first : ℕ) (sets : List ℕ) (joins : List (ℕ × ℕ)) (child : ℕ) → IsFamily f → first < 2 * f.size → f.live first ≡ true → IsGoing f first sets joins child → length sets ≤ 2 * f.size
+pub going_short : (f : Sets) (first : ℕ) (sets : List ℕ) (joins : List (ℕ × ℕ)) (child : ℕ) → IsFamily f →
+    first < 2 * f.size → f.live first ≡ true → IsGoing f first sets joins child → length sets ≤ 2 * f.size
 going_short f first sets joins child fam below live g =
     let w = parent_below f first g.parent fam below live g.is_parent in
-    omega (arith, g.short, ring_short (2 * f.size) (f.children g.parent) (λ i j h k. fam.laminar.children.distinct g.parent i j w.0 h k) (λ i h. (fam.laminar.children.child g.parent _ w.0 (has_at (f.children g.parent) i h)).0))
+    omega (
+      arith,
+      g.short,
+      ring_short (2 * f.size) (f.children g.parent)
+          (λ i j h k. fam.laminar.children.distinct g.parent i j w.0 h k)
+          (λ i h. (fam.laminar.children.child g.parent _ w.0 (has_at (f.children g.parent) i h)).0),
+    )
 
 -- ---- what a round is
 
-pub ring_around : (n : ℕ) (f : Sets) (dist : ℕ → ℕ → ℕ) (mate : ℕ → Option ℕ) (set first : ℕ) (sets : List ℕ) (joins : List (ℕ × ℕ)) → IsRest n f dist mate → n ≤ set → set < 2 * n → f.live set ≡ true → f.parent first ≡ Some set → IsRingFrom f first sets joins → IsAround n f dist set sets joins
+pub ring_around : (n : ℕ) (f : Sets) (dist : ℕ → ℕ → ℕ) (mate : ℕ → Option ℕ) (set first : ℕ) (sets : List ℕ)
+    (joins : List (ℕ × ℕ)) → IsRest n f dist mate → n ≤ set → set < 2 * n → f.live set ≡ true →
+    f.parent first ≡ Some set → IsRingFrom f first sets joins → IsAround n f dist set sets joins
 ring_around n f dist mate set first sets joins rest ns hs live ep ring =
     let lam = rest.laminar in
     let ps : ring.parent ≡ set = some_is (sym ring.is_parent ∙ ep) in
@@ -196,7 +228,8 @@ ring_around n f dist mate set first sets joins rest ns hs live ep ring =
     let r : f.after (get_or sets i 0) ≡ next_in sets i = a ∙ b ∙ (elim (cases_eq (i + 1) k) [
       | inl last ↦
           let z0 : (i + 1) % length sets ≡ 0 = ap (λ z. (i + 1) % z) (len ∙ sym last) ∙ mod_self (i + 1) in
-          let z1 : (e + (i + 1)) % k ≡ (e + 0) % k = ap (λ z. (e + z) % k) last ∙ turned e k he ∙ sym (mod-eq_of_lt he) ∙ ap (λ z. z % k) (let z : e ≡ e + 0 = omega arith in z) in
+          let z1 : (e + (i + 1)) % k ≡ (e + 0) % k = ap (λ z. (e + z) % k) last ∙ turned e k he ∙
+          sym (mod-eq_of_lt he) ∙ ap (λ z. z % k) (let z : e ≡ e + 0 = omega arith in z) in
           ap (λ z. get_or cs z 0) z1 ∙ sym (each 0 (omega (arith, h))) ∙ ap (λ z. get_or sets z 0) (sym z0)
       | inr more ↦
           let lt : i + 1 < length sets = omega (arith, h, len, more) in
@@ -232,35 +265,48 @@ ring_around n f dist mate set first sets joins rest ns hs live ep ring =
               | inl q ↦ mod_differ e i j k he ij (omega (arith, hj, len)) q
             ]
           ];
-      from = λ i h. let t = tie i h in (omega (arith, t.from_range, rest.size, ap (λ z. z.0) (join i h)), ap (λ z. f.holds (get_or sets i 0) z.0) (join i h) ∙ t.from);
-      to = λ i h. let t = tie i h in (omega (arith, t.to_range, rest.size, ap (λ z. z.1) (join i h)), ap (λ z. f.holds z (get_or joins i (0, 0)).1) (sym (after i h)) ∙ ap (λ z. f.holds (f.after (get_or sets i 0)) z.1) (join i h) ∙ t.to);
+      from = λ i h. let t = tie i h in (
+        omega (arith, t.from_range, rest.size, ap (λ z. z.0) (join i h)),
+        ap (λ z. f.holds (get_or sets i 0) z.0) (join i h) ∙ t.from,
+      );
+      to = λ i h. let t = tie i h in (
+        omega (arith, t.to_range, rest.size, ap (λ z. z.1) (join i h)),
+        ap (λ z. f.holds z (get_or joins i (0, 0)).1) (sym (after i h)) ∙
+            ap (λ z. f.holds (f.after (get_or sets i 0)) z.1) (join i h) ∙ t.to,
+      );
       tight = λ i h.
           let c = lam.children.child set (get_or sets i 0) hs (kid i h) in
           subst (λ (z : ℕ × ℕ). loads n f z.0 z.1 ≡ dist z.0 z.1) (sym (join i h)) (rest.joins (get_or sets i 0) set c.0 c.2);
     }
 
 -- the same the other way around
-pub around_turned : (n : ℕ) (f : Sets) (dist : ℕ → ℕ → ℕ) (set : ℕ) (sets sets' : List ℕ) (joins joins' : List (ℕ × ℕ)) → IsMetric n dist → IsAround n f dist set sets joins → IsTurned sets joins sets' joins' → IsAround n f dist set sets' joins'
+pub around_turned : (n : ℕ) (f : Sets) (dist : ℕ → ℕ → ℕ) (set : ℕ) (sets sets' : List ℕ)
+    (joins joins' : List (ℕ × ℕ)) → IsMetric n dist → IsAround n f dist set sets joins →
+    IsTurned sets joins sets' joins' → IsAround n f dist set sets' joins'
 around_turned n f dist set sets sets' joins joins' me a t =
     let k : ℕ = length sets in
     let some : 0 < k = omega (arith, a.odd) in
     let place : ℕ → ℕ = λ i. (k - i) % k in
     let low = λ (i : ℕ). let z : (k - i) % k < k = omega (arith, some) in z in
     let each = λ (i : ℕ) (h : i < k). (elim (cases_eq i 0) as (λ _. get_or sets' i 0 ≡ get_or sets ((k - i) % k) 0) [
-      | inl z ↦ ap (λ y. get_or sets' y 0) z ∙ t.first ∙ ap (λ y. get_or sets y 0) (sym (ap (λ y. (k - y) % k) z ∙ ap (λ y. y % k) (let y : k - 0 ≡ k = omega arith in y) ∙ mod_self k))
+      | inl z ↦ ap (λ y. get_or sets' y 0) z ∙ t.first ∙
+          ap (λ y. get_or sets y 0) (sym (ap (λ y. (k - y) % k) z ∙
+          ap (λ y. y % k) (let y : k - 0 ≡ k = omega arith in y) ∙ mod_self k))
       | inr z ↦ t.each i (omega (arith, z)) h ∙ ap (λ y. get_or sets y 0) (sym (mod-eq_of_lt (let y : k - i < k = omega (arith, z, some) in y)))
     ]) in
     let back = λ (i : ℕ) (h : i < k). let z : k - 1 - i < k = omega (arith, some) in z in
     -- where the join of a place leads back to
     let next_back = λ (i : ℕ) (h : i < k). (
-    let z : next_in sets (k - 1 - i) ≡ get_or sets ((k - i) % k) 0 = ap (λ y. get_or sets (y % k) 0) (let y : k - 1 - i + 1 ≡ k - i = omega (arith, h) in y) in z) in
+    let z : next_in sets (k - 1 - i) ≡ get_or sets ((k - i) % k) 0 =
+    ap (λ y. get_or sets (y % k) 0) (let y : k - 1 - i + 1 ≡ k - i = omega (arith, h) in y) in z) in
     let after = λ (i : ℕ) (h : i < k). (elim (cases_eq (i + 1) k) as (λ _. next_in sets' i ≡ get_or sets (k - 1 - i) 0) [
       | inl last ↦
           let z0 : (i + 1) % length sets' ≡ 0 = ap (λ z. (i + 1) % z) (t.sets_length ∙ sym last) ∙ mod_self (i + 1) in
           ap (λ z. get_or sets' z 0) z0 ∙ t.first ∙ ap (λ z. get_or sets z 0) (let z : 0 ≡ k - 1 - i = omega (arith, last) in z)
       | inr more ↦
           let lt : i + 1 < length sets' = omega (arith, h, more, t.sets_length) in
-          ap (λ z. get_or sets' z 0) (mod-eq_of_lt lt) ∙ t.each (i + 1) (omega arith) (omega (arith, h, more)) ∙ ap (λ z. get_or sets z 0) (let z : k - (i + 1) ≡ k - 1 - i = omega arith in z)
+          ap (λ z. get_or sets' z 0) (mod-eq_of_lt lt) ∙ t.each (i + 1) (omega arith) (omega (arith, h, more)) ∙
+          ap (λ z. get_or sets z 0) (let z : k - (i + 1) ≡ k - 1 - i = omega arith in z)
     ]) in
     let within = λ (i : ℕ) (h : i < length sets'). let z : i < k = omega (arith, h, t.sets_length) in z in
     record {
@@ -273,8 +319,12 @@ around_turned n f dist set sets sets' joins joins' me a t =
             | inl z ↦ (0, omega (arith, some, t.sets_length), t.first ∙ ap (λ y. get_or sets y 0) (sym z) ∙ v.2)
             | inr z ↦
                 let i : ℕ = k - v.0 in
-                let hi : i < k = omega (arith, z, v.1) in
-                (i, omega (arith, hi, t.sets_length), t.each i (omega (arith, v.1)) hi ∙ ap (λ y. get_or sets y 0) (let y : k - i ≡ v.0 = omega (arith, v.1) in y) ∙ v.2)
+                let hi : i < k = omega (arith, z, v.1) in (
+                  i,
+                  omega (arith, hi, t.sets_length),
+                  t.each i (omega (arith, v.1)) hi ∙
+                      ap (λ y. get_or sets y 0) (let y : k - i ≡ v.0 = omega (arith, v.1) in y) ∙ v.2,
+                )
           ];
       distinct = λ i j ij hj z.
           let hj' = within j hj in
@@ -286,19 +336,27 @@ around_turned n f dist set sets sets' joins joins' me a t =
           ];
       from = λ i h.
           let hi = within i h in
-          let w = a.to (k - 1 - i) (back i hi) in
-          (omega (arith, w.0, t.each_from i hi), ap (λ z. f.holds z (get_or joins' i (0, 0)).0) (each i hi) ∙ ap (f.holds (get_or sets ((k - i) % k) 0)) (t.each_from i hi) ∙ ap (λ z. f.holds z (get_or joins (k - 1 - i) (0, 0)).1) (sym (next_back i hi)) ∙ w.1);
+          let w = a.to (k - 1 - i) (back i hi) in (
+            omega (arith, w.0, t.each_from i hi),
+            ap (λ z. f.holds z (get_or joins' i (0, 0)).0) (each i hi) ∙
+                ap (f.holds (get_or sets ((k - i) % k) 0)) (t.each_from i hi) ∙
+                ap (λ z. f.holds z (get_or joins (k - 1 - i) (0, 0)).1) (sym (next_back i hi)) ∙ w.1,
+          );
       to = λ i h.
           let hi = within i h in
-          let w = a.from (k - 1 - i) (back i hi) in
-          (omega (arith, w.0, t.each_to i hi), ap (λ z. f.holds z (get_or joins' i (0, 0)).1) (after i hi) ∙ ap (f.holds (get_or sets (k - 1 - i) 0)) (t.each_to i hi) ∙ w.1);
+          let w = a.from (k - 1 - i) (back i hi) in (
+            omega (arith, w.0, t.each_to i hi),
+            ap (λ z. f.holds z (get_or joins' i (0, 0)).1) (after i hi) ∙
+                ap (f.holds (get_or sets (k - 1 - i) 0)) (t.each_to i hi) ∙ w.1,
+          );
       tight = λ i h.
           let hi = within i h in
           let b = back i hi in
           let x : ℕ = (get_or joins (k - 1 - i) (0, 0)).0 in
           let y : ℕ = (get_or joins (k - 1 - i) (0, 0)).1 in
           let e : loads n f y x ≡ dist y x = load_turned n f y x ∙ a.tight (k - 1 - i) b ∙ me.symmetric x y (a.from (k - 1 - i) b).0 (a.to (k - 1 - i) b).0 in
-          ap (λ z. loads n f z (get_or joins' i (0, 0)).1) (t.each_from i hi) ∙ ap (loads n f y) (t.each_to i hi) ∙ e ∙ sym (ap (λ z. dist z (get_or joins' i (0, 0)).1) (t.each_from i hi) ∙ ap (dist y) (t.each_to i hi));
+          ap (λ z. loads n f z (get_or joins' i (0, 0)).1) (t.each_from i hi) ∙ ap (loads n f y) (t.each_to i hi) ∙ e ∙
+          sym (ap (λ z. dist z (get_or joins' i (0, 0)).1) (t.each_from i hi) ∙ ap (dist y) (t.each_to i hi));
     }
 
 -- ---- from a member up to a set
@@ -325,9 +383,11 @@ climb_next : (f : Sets) (m k child : ℕ) → climb f m k ≡ Some child → cli
 climb_next f m k child e = ap (climb f m) (let z : k + 1 ≡ suc k = omega arith in z) ∙ ap (option_and_then f.parent) e
 
 pub rising_parent : (f : Sets) (set m k child : ℕ) → IsRising f set m k child → f.parent child ≢ None
-rising_parent f set m k child r e = some_none (climb f m r.reaches) set r.reached (climb_none f m (k + 1) r.reaches (climb_next f m k child r.steps ∙ e) (omega (arith, r.more)))
+rising_parent f set m k child r e = some_none (climb f m r.reaches) set r.reached
+    (climb_none f m (k + 1) r.reaches (climb_next f m k child r.steps ∙ e) (omega (arith, r.more)))
 
-pub rising_more : (f : Sets) (set m k child p : ℕ) → IsFamily f → m < f.size → IsRising f set m k child → f.parent child ≡ Some p → p ≢ set → IsRising f set m (k + 1) p
+pub rising_more : (f : Sets) (set m k child p : ℕ) → IsFamily f → m < f.size → IsRising f set m k child →
+    f.parent child ≡ Some p → p ≢ set → IsRising f set m (k + 1) p
 rising_more f set m k child p fam hm r e ne =
     let w = fam.laminar.children.parent_range child p r.below r.live e in
     record {
@@ -344,7 +404,8 @@ rising_more f set m k child p fam hm r e ne =
       held = fam.laminar.children.child_holds p child m w.1 hm w.3 r.held;
     }
 
-pub rising_begun : (f : Sets) (set m : ℕ) → IsFamily f → AreReached f → m < f.size → f.size ≤ set → set < 2 * f.size → f.live set ≡ true → f.holds set m ≡ true → IsRising f set m 0 m
+pub rising_begun : (f : Sets) (set m : ℕ) → IsFamily f → AreReached f → m < f.size → f.size ≤ set → set < 2 * f.size →
+    f.live set ≡ true → f.holds set m ≡ true → IsRising f set m 0 m
 rising_begun f set m fam all hm above below live held =
     let w = all set m below hm live held in
     record {

@@ -16,7 +16,9 @@ use Rattle.dpl_tree.proofs.Loads.{shift_tight, Balanced, both_free, outer_inner,
 balanced : (a b c d : Place) → a ≡ c → b ≡ d → Balanced c d → Balanced a b
 balanced a b c d e e' k = subst (λ (z : Place). Balanced z b) (sym e) (subst (λ (z : Place). Balanced c z) (sym e') k)
 
-pub shifted_pairs : (n : ℕ) (f : Sets) (dist : ℕ → ℕ → ℕ) (by : ℕ) (v v' : ℕ → ℕ) (x : Forest) → IsLaminar n f → Shifts (2 * n) f x.place by v v' → ArePairs n f (load_in (2 * n) v f.holds) dist x.mate → IsTree n f (load_in (2 * n) v f.holds) dist x → ArePairs n f (load_in (2 * n) v' f.holds) dist x.mate
+pub shifted_pairs : (n : ℕ) (f : Sets) (dist : ℕ → ℕ → ℕ) (by : ℕ) (v v' : ℕ → ℕ) (x : Forest) → IsLaminar n f →
+    Shifts (2 * n) f x.place by v v' → ArePairs n f (load_in (2 * n) v f.holds) dist x.mate →
+    IsTree n f (load_in (2 * n) v f.holds) dist x → ArePairs n f (load_in (2 * n) v' f.holds) dist x.mate
 shifted_pairs n f dist by v v' x lam sh p tree = record {
   range = p.range;
   back = p.back;
@@ -33,7 +35,9 @@ shifted_pairs n f dist by v v' x lam sh p tree = record {
   alone = p.alone;
 }
 
-pub shifted_tree : (n : ℕ) (f : Sets) (dist : ℕ → ℕ → ℕ) (by : ℕ) (v v' : ℕ → ℕ) (x : Forest) → IsLaminar n f → Shifts (2 * n) f x.place by v v' → IsTree n f (load_in (2 * n) v f.holds) dist x → IsTree n f (load_in (2 * n) v' f.holds) dist x
+pub shifted_tree : (n : ℕ) (f : Sets) (dist : ℕ → ℕ → ℕ) (by : ℕ) (v v' : ℕ → ℕ) (x : Forest) → IsLaminar n f →
+    Shifts (2 * n) f x.place by v v' → IsTree n f (load_in (2 * n) v f.holds) dist x →
+    IsTree n f (load_in (2 * n) v' f.holds) dist x
 shifted_tree n f dist by v v' x lam sh tree = record {
   tops = tree.tops;
   root_outer = tree.root_outer;
@@ -50,7 +54,9 @@ shifted_tree n f dist by v v' x lam sh tree = record {
       let r = tree.link_range i e in
       let pe : x.place (f.top (x.entry i)) ≡ inner = ap x.place (tree.link_entry i e) ∙ e in
       let po = tree.link_outer i e in
-      shift_tight n f lam x.place by v v' dist sh (x.above i) (x.entry i) r.0 r.1 (inr ((λ z. outer_inner_no po (ap x.place z ∙ pe)), balanced _ _ outer inner po pe outer_inner)) (tree.link_tight i e);
+      shift_tight n f lam x.place by v v' dist sh (x.above i) (x.entry i) r.0 r.1
+      (inr ((λ z. outer_inner_no po (ap x.place z ∙ pe)), balanced _ _ outer inner po pe outer_inner))
+      (tree.link_tight i e);
 }
 
 -- ---- what falls with each turn
@@ -82,28 +88,46 @@ weight_full free j ne = refl
 weight_full outer j ne = absurd (ne refl)
 weight_full inner j ne = refl
 
-pub grown_falls : (n : ℕ) (f : Sets) (load dist : ℕ → ℕ → ℕ) (x y : Forest) (s t m o : ℕ) → IsLaminar n f → ArePairs n f load dist x.mate → IsTree n f load dist x → x.place (f.top t) ≡ free → IsExit n f x.mate (f.top t) m o → Grows n f x s t m o y → potential n f y.place < potential n f x.place
+pub grown_falls : (n : ℕ) (f : Sets) (load dist : ℕ → ℕ → ℕ) (x y : Forest) (s t m o : ℕ) → IsLaminar n f →
+    ArePairs n f load dist x.mate → IsTree n f load dist x → x.place (f.top t) ≡ free →
+    IsExit n f x.mate (f.top t) m o → Grows n f x s t m o y → potential n f y.place < potential n f x.place
 grown_falls n f load dist x y s t m o lam p tree pt ex g =
     let po : x.place (f.top o) ≡ free = mate_outside n f load dist x p tree (f.top t) m o pt ex in
     let ho : o < n = p.range m o ex.below ex.paired in
     sum_less n _ _ o ho
-    (omega (arith, weight_outer (y.place (f.top o)) (1 + as_number (f.live (n + o))) g.place_outer, weight_full (x.place (f.top o)) (1 + as_number (f.live (n + o))) (λ z. outer_in z po)))
+    (omega (
+      arith,
+      weight_outer (y.place (f.top o)) (1 + as_number (f.live (n + o))) g.place_outer,
+      weight_full (x.place (f.top o)) (1 + as_number (f.live (n + o))) (λ z. outer_in z po),
+    ))
     (λ i h. elim (cases_eq (f.top i) (f.top o)) [
       | inl e ↦ omega (arith, weight_outer (y.place (f.top i)) (1 + as_number (f.live (n + i))) (ap y.place e ∙ g.place_outer))
       | inr ne ↦ elim (cases_eq (f.top i) (f.top t)) [
-        | inl e ↦ omega (arith, weight_most (y.place (f.top i)) (1 + as_number (f.live (n + i))), weight_full (x.place (f.top i)) (1 + as_number (f.live (n + i))) (λ z. outer_in z (ap x.place e ∙ pt)))
+        | inl e ↦ omega (
+          arith,
+          weight_most (y.place (f.top i)) (1 + as_number (f.live (n + i))),
+          weight_full (x.place (f.top i)) (1 + as_number (f.live (n + i))) (λ z. outer_in z (ap x.place e ∙ pt)),
+        )
         | inr ne' ↦ weight_same _ _ _ _ (g.place_others (f.top i) ne' ne) (omega arith)
       ]
     ])
 
-pub folded_falls : (n : ℕ) (f g : Sets) (load dist : ℕ → ℕ → ℕ) (x y : Forest) (cs : List ℕ) (set meet r c : ℕ) → IsLaminar n f → Gathers n f cs set g → IsTree n f load dist x → Folds x cs meet set y → set ≡ n + r → has cs (f.top r) ≡ true →
+pub folded_falls : (n : ℕ) (f g : Sets) (load dist : ℕ → ℕ → ℕ) (x y : Forest) (cs : List ℕ) (set meet r c : ℕ) →
+    IsLaminar n f → Gathers n f cs set g → IsTree n f load dist x → Folds x cs meet set y → set ≡ n + r →
+    has cs (f.top r) ≡ true →
     has cs c ≡ true → x.place c ≡ inner → potential n g y.place < potential n f x.place
 folded_falls n f g load dist x y cs set meet r c lam q tree o er hr hc pc =
     let ex = tree.inner_pair c pc in
     let m0 : ℕ = ex.0 in
-    let zero_at = λ (i : ℕ) (h : i < n) (k : has cs (f.top i) ≡ true). weight_outer (y.place (g.top i)) (1 + as_number (g.live (n + i))) (ap y.place (q.top_inside i h k) ∙ o.place_set) in
+    let zero_at = λ (i : ℕ) (h : i < n) (k : has cs (f.top i) ≡ true). weight_outer (y.place (g.top i))
+    (1 + as_number (g.live (n + i))) (ap y.place (q.top_inside i h k) ∙ o.place_set) in
     sum_less n _ _ m0 ex.2.below
-    (omega (arith, zero_at m0 ex.2.below (ap (has cs) ex.2.top ∙ hc), weight_full (x.place (f.top m0)) (1 + as_number (f.live (n + m0))) (λ z. outer_inner_no z (ap x.place ex.2.top ∙ pc))))
+    (omega (
+      arith,
+      zero_at m0 ex.2.below (ap (has cs) ex.2.top ∙ hc),
+      weight_full (x.place (f.top m0)) (1 + as_number (f.live (n + m0)))
+          (λ z. outer_inner_no z (ap x.place ex.2.top ∙ pc)),
+    ))
     (λ i h. elim (cases_Bool (has cs (f.top i))) [
       | inl k ↦ omega (arith, zero_at i h k)
       | inr k ↦
@@ -113,7 +137,8 @@ folded_falls n f g load dist x y cs set meet r c lam q tree o er hr hc pc =
           weight_same _ _ _ _ (ap y.place gi ∙ o.place_others (f.top i) ni k) (omega (arith, ap as_number (q.live_others (n + i) li)))
     ])
 
-pub opened_falls : (n : ℕ) (f g : Sets) (x y : Forest) (set r : ℕ) → IsLaminar n f → Releases n f set g → x.place set ≡ inner → f.live set ≡ true → set ≡ n + r → r < n → f.top r ≡ set →
+pub opened_falls : (n : ℕ) (f g : Sets) (x y : Forest) (set r : ℕ) → IsLaminar n f → Releases n f set g →
+    x.place set ≡ inner → f.live set ≡ true → set ≡ n + r → r < n → f.top r ≡ set →
     ((m : ℕ) → m < n → f.top m ≢ set → y.place (g.top m) ≡ x.place (f.top m)) → potential n g y.place < potential n f x.place
 opened_falls n f g x y set r lam q ps ls er hr tr same =
     let lives = λ (i : ℕ). (elim (cases_eq (n + i) set) as (λ _. as_number (g.live (n + i)) ≤ as_number (f.live (n + i))) [
@@ -131,7 +156,12 @@ opened_falls n f g x y set r lam q ps ls er hr tr same =
       ap as_number ls,
     ))
     (λ i h. elim (cases_eq (f.top i) set) [
-      | inl z ↦ omega (arith, weight_most (y.place (g.top i)) (1 + as_number (g.live (n + i))), weight_full (x.place (f.top i)) (1 + as_number (f.live (n + i))) (λ a. outer_inner_no a (ap x.place z ∙ ps)), lives i)
+      | inl z ↦ omega (
+        arith,
+        weight_most (y.place (g.top i)) (1 + as_number (g.live (n + i))),
+        weight_full (x.place (f.top i)) (1 + as_number (f.live (n + i))) (λ a. outer_inner_no a (ap x.place z ∙ ps)),
+        lives i,
+      )
       | inr z ↦ weight_same _ _ _ _ (same i h z) (omega (arith, lives i))
     ])
 

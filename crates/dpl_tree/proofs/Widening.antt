@@ -1,5 +1,6 @@
 -- Outer members stay outer through each event.
-use Rattle.std.proofs.Common.{arith, ◌≡◌, ◌≢◌, ℕ, zero, suc, ◌+◌, ◌*◌, ◌/◌, ◌<◌, refl, sym, ap, ◌∙◌, subst, inl, inr, Option, List, length, get_or, set, get_or-set_other}
+use Rattle.std.proofs.Common.{arith, ◌≡◌, ◌≢◌, ℕ, zero, suc, ◌+◌, ◌*◌, ◌/◌, ◌<◌, refl, sym, ap, ◌∙◌, subst, inl, inr}
+use Rattle.std.proofs.Common.{Option, List, length, get_or, set, get_or-set_other}
 use Rattle.std.proofs.lemmas.Bool.{cases_eq, cases_Bool}
 use Rattle.dpl_laminar.specs.Families.{Sets, has}
 use Rattle.dpl_laminar.specs.Changes.{Gathers, IsShrunk, IsExpanded}
@@ -27,7 +28,9 @@ grown_widens n f x y s t m o pt g = record {
 
 -- ---- a new set
 
-pub folded_widens : (n : ℕ) (f g : Sets) (dist : ℕ → ℕ → ℕ) (x y : Forest) (joins : List (ℕ × ℕ)) (cs ds : List ℕ) (meet set : ℕ) → IsStage n f dist x → cs ≡ ds → IsShrunk f cs joins set g → Folds x ds meet set y → Widens n f x.place g y.place
+pub folded_widens : (n : ℕ) (f g : Sets) (dist : ℕ → ℕ → ℕ) (x y : Forest) (joins : List (ℕ × ℕ)) (cs ds : List ℕ)
+    (meet set : ℕ) → IsStage n f dist x → cs ≡ ds → IsShrunk f cs joins set g → Folds x ds meet set y →
+    Widens n f x.place g y.place
 folded_widens n f g dist x y joins cs ds meet set st e sh d0 =
     let q : Gathers n f cs set g = subst (λ (z : ℕ). Gathers z f cs set g) st.rest.size sh.sets in
     let d : Folds x cs meet set y = subst (λ (z : List ℕ). Folds x z meet set y) (sym e) d0 in
@@ -46,7 +49,9 @@ folded_widens n f g dist x y joins cs ds meet set st e sh d0 =
 
 -- ---- a set that gives way
 
-walked_others : (l : Lists) (sets : List ℕ) (joins : List (ℕ × ℕ)) (i r : ℕ) → ((j : ℕ) → j < length sets → get_or sets j 0 ≢ i) → 2 * r < length sets → place_in (walked_times l sets joins r).labels i ≡ place_in l.labels i
+walked_others : (l : Lists) (sets : List ℕ) (joins : List (ℕ × ℕ)) (i r : ℕ) →
+    ((j : ℕ) → j < length sets → get_or sets j 0 ≢ i) → 2 * r < length sets →
+    place_in (walked_times l sets joins r).labels i ≡ place_in l.labels i
 walked_others l sets joins i zero none h = refl
 walked_others l sets joins i (suc r) none h =
     let m : Lists = walked_times l sets joins r in
@@ -54,23 +59,32 @@ walked_others l sets joins i (suc r) none h =
     let next : ℕ = get_or sets (2 * r + 2) 0 in
     let a : i ≢ o = λ z. none (2 * r + 1) (omega (arith, h)) (sym z) in
     let b : i ≢ next = λ z. none (2 * r + 2) (omega (arith, h)) (sym z) in
-    ap place_of (get_or-set_other (set m.labels o Outer) next i Inner Free b ∙ get_or-set_other m.labels o i Outer Free a) ∙ walked_others l sets joins i r none (omega (arith, h))
+    ap place_of (get_or-set_other (set m.labels o Outer) next i Inner Free b ∙
+    get_or-set_other m.labels o i Outer Free a) ∙ walked_others l sets joins i r none (omega (arith, h))
 
-pub given_widens : (n : ℕ) (f g : Sets) (dist : ℕ → ℕ → ℕ) (t0 t1 t2 : Tree) (mates new : List (Option ℕ)) (set : ℕ) (sets : List ℕ) (joins : List (ℕ × ℕ)) (p m0 u0 : ℕ) → IsStage n f dist (forest_of t0 mates) → IsOpening n f dist (forest_of t0 mates) set sets joins p m0 u0 → IsExpanded f set g →
-    Opens n f (forest_of t0 mates) set (get_or sets 0 0) p (forest_of t1 new) → lists_of t2 ≡ walked_times (lists_of t1) sets joins (p / 2) → Widens n f (place_in t0.labels.items) g (place_in t2.labels.items)
+pub given_widens : (n : ℕ) (f g : Sets) (dist : ℕ → ℕ → ℕ) (t0 t1 t2 : Tree) (mates new : List (Option ℕ)) (set : ℕ)
+    (sets : List ℕ) (joins : List (ℕ × ℕ)) (p m0 u0 : ℕ) → IsStage n f dist (forest_of t0 mates) →
+    IsOpening n f dist (forest_of t0 mates) set sets joins p m0 u0 → IsExpanded f set g →
+    Opens n f (forest_of t0 mates) set (get_or sets 0 0) p (forest_of t1 new) →
+    lists_of t2 ≡ walked_times (lists_of t1) sets joins (p / 2) →
+    Widens n f (place_in t0.labels.items) g (place_in t2.labels.items)
 given_widens n f g dist t0 t1 t2 mates new set sets joins p m0 u0 st o ex op el =
     let x : Forest = forest_of t0 mates in
     let lam = st.rest.laminar in
     let q = released_of n f g set st.rest.size ex in
     let at = st.tree.tops set (inner_in o.is_inner) in
     let apart = λ (a : ℕ) (p : x.place (f.top a) ≡ outer) (z : f.top a ≡ set). outer_inner_no {P = ⊥} p (ap x.place z ∙ o.is_inner) in
-    let others = λ (a : ℕ) (ha : a < n) (j : ℕ) (hj : j < length sets) (z : get_or sets j 0 ≡ f.top a). some_none {P = ⊥} (f.parent (get_or sets j 0)) set (lam.children.child set (get_or sets j 0) at.0 (o.around.kids j hj)).2 (ap f.parent z ∙ lam.tops.top_parent a ha) in
+    let others = λ (a : ℕ) (ha : a < n) (j : ℕ) (hj : j < length sets) (z : get_or sets j 0 ≡ f.top a). some_none
+    {P = ⊥} (f.parent (get_or sets j 0)) set (lam.children.child set (get_or sets j 0) at.0 (o.around.kids j hj)).2
+    (ap f.parent z ∙ lam.tops.top_parent a ha) in
     record {
       outer_stays = λ a ha po.
           let i : ℕ = f.top a in
-          let same : place_in (walked_times (lists_of t1) sets joins (p / 2)).labels i ≡ place_in t1.labels.items i = walked_others (lists_of t1) sets joins i (p / 2) (others a ha) (omega (arith, o.place)) in
+          let same : place_in (walked_times (lists_of t1) sets joins (p / 2)).labels i ≡ place_in t1.labels.items i =
+          walked_others (lists_of t1) sets joins i (p / 2) (others a ha) (omega (arith, o.place)) in
           let first : i ≢ get_or sets 0 0 = λ z. others a ha 0 (omega (arith, o.place)) (sym z) in
-          ap (place_in t2.labels.items) (q.top_others a ha (apart a po)) ∙ ap (λ (z : Lists). place_in z.labels i) el ∙ same ∙ op.place_others i (apart a po) first ∙ po;
+          ap (place_in t2.labels.items) (q.top_others a ha (apart a po)) ∙ ap (λ (z : Lists). place_in z.labels i) el ∙
+          same ∙ op.place_others i (apart a po) first ∙ po;
       together = λ a b ha hb po z. q.top_others a ha (apart a po) ∙ z ∙ sym (q.top_others b hb (λ y. apart a po (z ∙ y)));
     }
 

@@ -7,6 +7,7 @@ use Rattle.dpl_balance.proofs.adding.add_sides.Given as goal
 
 abbrev pub invariant-loop-v : goal.invariant-loop-v
 invariant-loop-v l =
-    ((c : ℕ) → c < length l.fn.sides → slice_index_or l.sides c 0 ≡ sum_on (λ v. (slice_index_or l.number v 0 == c) && agree (colour_of l.colours v) l.on_b) (area_at l.rects) l.v)
+    ((c : ℕ) → c < length l.fn.sides → slice_index_or l.sides c 0 ≡ sum_on
+    (λ v. (slice_index_or l.number v 0 == c) && agree (colour_of l.colours v) l.on_b) (area_at l.rects) l.v)
     × (((c : ℕ) → c < length l.fn.sides → slice_index_or l.sides c 0 ≤ l.v * 2 ^ 62)
     × (length l.sides ≡ length l.fn.sides))

@@ -5,7 +5,8 @@ use Rattle.dpl_balance.proofs.StayLemmas.{break_the_same, still_true}
 use Rattle.dpl_balance.proofs.balancing.balance.Goals as goal
 
 pub returns-clause-broken : goal.returns-clause-broken
-returns-clause-broken c = rw c.new.ensures (break_the_same c.args.net.now c.args.report.colours c.in_ok-colours.colours.items (rw c.as_slice.ensures at c.in_ok-colours.ensures.turned))
+returns-clause-broken c = rw c.new.ensures (break_the_same c.args.net.now c.args.report.colours
+    c.in_ok-colours.colours.items (rw c.as_slice.ensures at c.in_ok-colours.ensures.turned))
 
 pub returns-clause-truth : goal.returns-clause-truth
 returns-clause-truth c = λ options s.

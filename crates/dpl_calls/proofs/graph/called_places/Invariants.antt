@@ -5,4 +5,5 @@ use Rattle.dpl_calls.specs.Table.{part_of}
 use Rattle.dpl_calls.proofs.graph.called_places.Given as goal
 
 abbrev pub invariant-loop-entry : goal.invariant-loop-entry
-invariant-loop-entry l = l.places.items ++ called_places (keys l.table.definitions) (map part_of (drop l.entry-index l.entries)) ≡ called_places (keys l.table.definitions) (map part_of l.entries)
+invariant-loop-entry l = l.places.items ++ called_places (keys l.table.definitions)
+    (map part_of (drop l.entry-index l.entries)) ≡ called_places (keys l.table.definitions) (map part_of l.entries)

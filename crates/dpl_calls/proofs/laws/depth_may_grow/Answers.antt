@@ -5,4 +5,5 @@ use Rattle.dpl_calls.proofs.Depth.{deeper}
 use Rattle.dpl_calls.proofs.laws.depth_may_grow.Goals as goal
 
 pub returns : goal.returns
-returns c d = deeper c.args.table.now c.args.groups.now.labels c.args.groups.now.heads c.requires.groups c.requires.loops d unmoved (bodies_of c.args.table.now None)
+returns c d = deeper c.args.table.now c.args.groups.now.labels c.args.groups.now.heads c.requires.groups
+    c.requires.loops d unmoved (bodies_of c.args.table.now None)

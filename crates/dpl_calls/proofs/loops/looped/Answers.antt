@@ -9,5 +9,7 @@ use Rattle.dpl_calls.proofs.loops.looped.Goals as goal
 
 pub returns : goal.returns
 returns c =
-    let same : c.loop-number.first ≡ first_call (is_looped (length (keys c.args.table.now.definitions)) (bodies_of c.args.table.now)) c.args.table.now = search rules in
-    λ sites h. first_found c.args.table.now sites h (is_looped (length (keys c.args.table.now.definitions)) (bodies_of c.args.table.now)) Loop c.loop-number.first same
+    let same : c.loop-number.first ≡ first_call (is_looped (length (keys c.args.table.now.definitions))
+    (bodies_of c.args.table.now)) c.args.table.now = search rules in
+    λ sites h. first_found c.args.table.now sites h (is_looped (length (keys c.args.table.now.definitions))
+    (bodies_of c.args.table.now)) Loop c.loop-number.first same

@@ -6,4 +6,6 @@ use Rattle.dpl_calls.specs.Table.{bodies_of}
 use Rattle.dpl_calls.proofs.loops.looped_in.Given as goal
 
 abbrev pub invariant-loop-entry : goal.invariant-loop-entry
-invariant-loop-entry l = first_number (is_looped (length (keys l.table.definitions)) (bodies_of l.table)) (calls_in l.definition (drop l.entry-index l.entries)) ≡ first_number (is_looped (length (keys l.table.definitions)) (bodies_of l.table)) (calls_in l.definition l.entries)
+invariant-loop-entry l = first_number (is_looped (length (keys l.table.definitions)) (bodies_of l.table))
+    (calls_in l.definition (drop l.entry-index l.entries)) ≡ first_number
+    (is_looped (length (keys l.table.definitions)) (bodies_of l.table)) (calls_in l.definition l.entries)

@@ -5,4 +5,6 @@ use Rattle.dpl_calls.specs.Found.{calls_in, first_number}
 use Rattle.dpl_calls.proofs.loops.missing_in.Given as goal
 
 abbrev pub invariant-loop-entry : goal.invariant-loop-entry
-invariant-loop-entry l = first_number (is_missing (keys l.table.definitions)) (calls_in l.definition (drop l.entry-index l.entries)) ≡ first_number (is_missing (keys l.table.definitions)) (calls_in l.definition l.entries)
+invariant-loop-entry l = first_number (is_missing (keys l.table.definitions))
+    (calls_in l.definition (drop l.entry-index l.entries)) ≡ first_number (is_missing (keys l.table.definitions))
+    (calls_in l.definition l.entries)

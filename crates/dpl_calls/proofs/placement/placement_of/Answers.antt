@@ -29,10 +29,14 @@ loop-transformation-preserved c =
     let t : Transformation = get_or ts i none in
     let here : i < length ts = omega arith in
     let split : drop i ts ≡ t ∷ drop (i + 1) ts = drop_more ts i none here in
-    let bounds : list_all is_transformation_in_bounds (t ∷ drop (i + 1) ts) ≡ true = subst (λ (us : List Transformation). list_all is_transformation_in_bounds us ≡ true) split c.loop-transformation.invariant.bounds in
-    let near : IsNear (2 ^ 82 + i * 2 ^ 82) c.compose-placed.result = c.compose-placed.ensures.near _ _ c.single.ensures.near c.loop-transformation.invariant.near in record {
+    let bounds : list_all is_transformation_in_bounds (t ∷ drop (i + 1) ts) ≡ true =
+    subst (λ (us : List Transformation). list_all is_transformation_in_bounds us ≡ true) split
+    c.loop-transformation.invariant.bounds in
+    let near : IsNear (2 ^ 82 + i * 2 ^ 82) c.compose-placed.result =
+    c.compose-placed.ensures.near _ _ c.single.ensures.near c.loop-transformation.invariant.near in record {
       value = λ d.
-          (ap (λ (e : Corner). transformed_by c.args.scale (drop (i + 1) ts) e) (c.compose-placed.ensures.value d ∙ c.single.ensures.value (apply c.loop-transformation.placed d))
+          (ap (λ (e : Corner). transformed_by c.args.scale (drop (i + 1) ts) e)
+          (c.compose-placed.ensures.value d ∙ c.single.ensures.value (apply c.loop-transformation.placed d))
           ∙ sym (ap (λ (us : List Transformation). transformed_by c.args.scale us (apply c.loop-transformation.placed d)) split))
           ∙ c.loop-transformation.invariant.value d;
       bounds = (and_parts (is_transformation_in_bounds t) (list_all is_transformation_in_bounds (drop (i + 1) ts)) bounds).1;

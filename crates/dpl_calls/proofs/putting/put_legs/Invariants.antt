@@ -8,6 +8,8 @@ use Rattle.dpl_calls.proofs.putting.put_legs.Given as goal
 abbrev pub invariant-loop-spot : goal.invariant-loop-spot
 invariant-loop-spot l =
     record {
-      parts : map part_of l.body ++ map (rectangle l.scale) (legs_from l.width l.before (drop l.spot-index l.rest)) ≡ map part_of l.fn.body ++ map (rectangle l.scale) (legs l.width l.path);
+      parts : map part_of l.body ++ map (rectangle l.scale)
+          (legs_from l.width l.before (drop l.spot-index l.rest)) ≡ map part_of l.fn.body ++ map (rectangle l.scale)
+          (legs l.width l.path);
       calls : (place : Option ℕ) → calls_in place l.body ≡ calls_in place l.fn.body;
     }

@@ -20,5 +20,6 @@ returns c =
     ∙ ap (λ (ps : List Part). shown (sum_by (kept_total own (kept_of numbers c.in_ok-totals.totals.items)) ps)) top) in
     let deep : suc count ≡ count + 1 = omega arith in
     (value
-    ∙ top_right own c.args.table.now c.args.groups.now.labels c.args.groups.now.heads c.requires.groups c.requires.loops c.in_ok-totals.totals.items (bodies_of c.args.table.now None) (λ x h low. c.in_ok-totals.ensures.value x h))
+    ∙ top_right own c.args.table.now c.args.groups.now.labels c.args.groups.now.heads c.requires.groups c.requires.loops
+    c.in_ok-totals.totals.items (bodies_of c.args.table.now None) (λ x h low. c.in_ok-totals.ensures.value x h))
     ∙ ap (λ (n : ℕ). shown (total_of own n (bodies_of c.args.table.now) (bodies_of c.args.table.now None))) deep

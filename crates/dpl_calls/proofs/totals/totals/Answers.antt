@@ -24,7 +24,10 @@ loop-head-preserved c =
     c.entries_total.ensures.value
     ∙ (ap (λ (ts : List ℕ). shown (sum_by (kept_total own (kept_of numbers ts)) (map part_of c.body_at.result.now))) c.deref.ensures.value
     ∙ ap (λ (ps : List Part). shown (sum_by (kept_total own (kept_of numbers c.loop-head.totals.items)) ps)) body) in record {
-      right = step_right own c.args.table.now c.args.groups.now.labels c.args.groups.now.heads c.requires.groups c.requires.loops c.loop-head.head-index c.entries_total.result c.loop-head.totals.items _ (omega (arith, long, c.loop-head-test.true)) c.loop-head.invariant.len
+      right = step_right own c.args.table.now c.args.groups.now.labels c.args.groups.now.heads c.requires.groups
+          c.requires.loops c.loop-head.head-index c.entries_total.result c.loop-head.totals.items _
+          (omega (arith, long, c.loop-head-test.true)) c.loop-head.invariant.len
           (ap (λ (n : ℕ). set c.loop-head.totals.items n c.entries_total.result) same) value c.loop-head.invariant.right;
-      len = length-set c.loop-head.totals.items (get_or c.as_slice-head-items.result.now c.loop-head.head-index 0) c.entries_total.result ∙ c.loop-head.invariant.len;
+      len = length-set c.loop-head.totals.items (get_or c.as_slice-head-items.result.now c.loop-head.head-index 0)
+          c.entries_total.result ∙ c.loop-head.invariant.len;
     }

@@ -7,5 +7,6 @@ abbrev pub invariant-loop-p : goal.invariant-loop-p
 invariant-loop-p l =
     record {
       few : l.count ≤ l.p-index;
-      counted : l.count + left_sides l.x l.y (place_of l.before) (map place_of (drop l.p-index l.rest)) (place_of l.first) ≡ left_sides l.x l.y (place_of l.first) (map place_of l.rest) (place_of l.first);
+      counted : l.count + left_sides l.x l.y (place_of l.before) (map place_of (drop l.p-index l.rest))
+          (place_of l.first) ≡ left_sides l.x l.y (place_of l.first) (map place_of l.rest) (place_of l.first);
     }

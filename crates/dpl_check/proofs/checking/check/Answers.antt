@@ -12,7 +12,8 @@ pub returns-clause-exact : goal.returns-clause-exact
 returns-clause-exact c =
     let o = c.args.options.now in
     let text = c.args.text.now in
-    refusal_comes (IsVerdictOf o text c.args.report.now) (RefusesLayer o text) _ (one_text_refusal o text) (verdict_free o text c.args.report.now) c.check_parts.ensures.verdict c.check_parts.ensures.refused
+    refusal_comes (IsVerdictOf o text c.args.report.now) (RefusesLayer o text) _ (one_text_refusal o text)
+    (verdict_free o text c.args.report.now) c.check_parts.ensures.verdict c.check_parts.ensures.refused
 
 pub returns-clause-once : goal.returns-clause-once
 returns-clause-once c = verdict_comes c.args.options.now c.args.text.now c.args.report.now _ c.check_parts.ensures.verdict c.check_parts.ensures.refused

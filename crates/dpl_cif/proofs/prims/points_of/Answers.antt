@@ -12,6 +12,8 @@ point_of-requires c = place_low c.args.corners.now c.loop-corner.corner-index _ 
 
 pub unreachable-requires : goal.unreachable-requires
 unreachable-requires c =
-    let whole : map places.place_of c.loop-corner.points.items ≡ map place_of c.args.corners.now = c.loop-corner.invariant ∙ ap (λ (cs : List Corner). map place_of cs) (take_all c.loop-corner.corner-index c.args.corners.now c.loop-corner-test.false) in
+    let whole : map places.place_of c.loop-corner.points.items ≡ map place_of c.args.corners.now =
+    c.loop-corner.invariant ∙ ap (λ (cs : List Corner). map place_of cs)
+    (take_all c.loop-corner.corner-index c.args.corners.now c.loop-corner-test.false) in
     let straight : has_straight_sides (map places.place_of c.loop-corner.points.items) ≡ true = rw whole (sides_straight c.args.corners.now c.requires.sound) in
     not_chosen c.new.result (has_straight_sides (map places.place_of c.loop-corner.points.items)) c.loop-corner.points.items c.in-None.is c.new.ensures straight

@@ -24,5 +24,7 @@ unreachable-requires c =
     let gb : to_z w64 (of_z w64 c.narrow-2.result) ≡ c.args.e.now.y1 = to_z-of_z w64 c.narrow-2.result b ∙ eb in
     let gd : to_z w64 (of_z w64 c.narrow-3.result) ≡ c.args.e.now.x2 = to_z-of_z w64 c.narrow-3.result d ∙ ed in
     let gf : to_z w64 (of_z w64 c.narrow-4.result) ≡ c.args.e.now.y2 = to_z-of_z w64 c.narrow-4.result f ∙ ef in
-    let same : corners (to_z w64 (of_z w64 c.narrow.result)) (to_z w64 (of_z w64 c.narrow-2.result)) (to_z w64 (of_z w64 c.narrow-3.result)) (to_z w64 (of_z w64 c.narrow-4.result)) ≡ corners c.args.e.now.x1 c.args.e.now.y1 c.args.e.now.x2 c.args.e.now.y2 = rw (ga, gb, gd, gf) refl in
+    let same : corners (to_z w64 (of_z w64 c.narrow.result)) (to_z w64 (of_z w64 c.narrow-2.result))
+    (to_z w64 (of_z w64 c.narrow-3.result)) (to_z w64 (of_z w64 c.narrow-4.result)) ≡ corners c.args.e.now.x1
+    c.args.e.now.y1 c.args.e.now.x2 c.args.e.now.y2 = rw (ga, gb, gd, gf) refl in
     is_none c.new.result c.in-None.is (c.new.ensures.some.1 (subst IsRectangle (sym same) (rect_fits c.args.e.now c.requires.sound c.requires.near)))

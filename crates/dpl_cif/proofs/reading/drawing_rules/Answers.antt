@@ -17,5 +17,10 @@ one_more n = omega arith
 
 pub returns : goal.returns
 returns c = λ layer text short clean calm.
-    let kept = bodies_kept layer at_first [] 1 (forms_of text) (ending_of text) (first_none (rule_fault layer at_first [] 1 (forms_of text) (ending_of text)) _ clean) (record { some = omega arith; times = omega arith; over = omega arith }) (all_fit text (commands_of text).spans short) None in
-    ap (λ (n : ℕ). map drawn (figures_of n (bodies_in layer text) unmoved (bodies_in layer text None))) (one_more (length (numbers_from [] (forms_of text)))) ∙ all_drawn layer text (length (numbers_from [] (forms_of text))) kept calm
+    let kept = bodies_kept layer at_first [] 1 (forms_of text) (ending_of text)
+    (first_none (rule_fault layer at_first [] 1 (forms_of text) (ending_of text)) _ clean)
+    (record { some = omega arith; times = omega arith; over = omega arith })
+    (all_fit text (commands_of text).spans short) None in
+    ap (λ (n : ℕ). map drawn (figures_of n (bodies_in layer text) unmoved (bodies_in layer text None)))
+    (one_more (length (numbers_from [] (forms_of text)))) ∙
+    all_drawn layer text (length (numbers_from [] (forms_of text))) kept calm

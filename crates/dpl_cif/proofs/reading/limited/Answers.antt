@@ -8,5 +8,7 @@ use Rattle.dpl_cif.proofs.reading.limited.Goals as goal
 
 pub layout_of-requires-clause-sound : goal.layout_of-requires-clause-sound
 layout_of-requires-clause-sound c =
-    let same : c.deref-2.result.now ≡ figures_of c.args.depth (bodies_of c.args.table.now) unmoved (bodies_of c.args.table.now None) = c.deref-2.ensures.value ∙ c.in-Ok-unfold_table.ensures in
-    subst (All IsSound) (sym same) (figures_sound c.args.depth (bodies_of c.args.table.now) c.requires.kept unmoved (bodies_of c.args.table.now None) unmoved_rigid (c.requires.kept None))
+    let same : c.deref-2.result.now ≡ figures_of c.args.depth (bodies_of c.args.table.now) unmoved
+    (bodies_of c.args.table.now None) = c.deref-2.ensures.value ∙ c.in-Ok-unfold_table.ensures in
+    subst (All IsSound) (sym same) (figures_sound c.args.depth (bodies_of c.args.table.now) c.requires.kept unmoved
+    (bodies_of c.args.table.now None) unmoved_rigid (c.requires.kept None))

@@ -11,7 +11,9 @@ up-preserved c =
     record {
       falls = falls_short c.up.ups c.up.at _ v.falls v.inside refl;
       inside = rw length-set (omega arith);
-      ends = λ k e. let h = v.ends k e in let other : k ≢ c.up.at = λ m. c.up-test.true (ap (λ j. get_or c.up.ups j 0) (m-back c.up.at k m) ∙ h ∙ m) in rw (get_or-set_other c.up.ups c.up.at k _ 0 other) h;
+      ends = λ k e. let h = v.ends k e in let other : k ≢ c.up.at =
+          λ m. c.up-test.true (ap (λ j. get_or c.up.ups j 0) (m-back c.up.at k m) ∙ h ∙ m) in
+          rw (get_or-set_other c.up.ups c.up.at k _ 0 other) h;
       same = λ tops t. tops_short c.up.ups tops c.up.at _ v.inside refl (v.same tops t);
       top = λ tops t. top_step c.up.ups tops c.up.at _ c.args.of v.inside refl (v.same tops t) (v.top tops t);
     } where

@@ -12,7 +12,9 @@ pub report_is_of_the_layer-requires-clause-truth : goal.report_is_of_the_layer-r
 report_is_of_the_layer-requires-clause-truth c = c.in_ok-report.ensures.truth c.args.options.now c.requires.report.truth
 
 pub report_is_of_the_layer-requires-clause-tight : goal.report_is_of_the_layer-requires-clause-tight
-report_is_of_the_layer-requires-clause-tight c = still_tight c.args.layer.now.net c.args.report c.in_ok-report.report c.in_ok-report.ensures.rest c.in_ok-report.ensures.broken c.requires.report.tight
+report_is_of_the_layer-requires-clause-tight c = still_tight c.args.layer.now.net c.args.report c.in_ok-report.report
+    c.in_ok-report.ensures.rest c.in_ok-report.ensures.broken c.requires.report.tight
 
 pub report_is_of_the_layer-requires-clause-least : goal.report_is_of_the_layer-requires-clause-least
-report_is_of_the_layer-requires-clause-least c = still_least c.args.layer.now.net c.args.report c.in_ok-report.report c.in_ok-report.ensures.rest c.in_ok-report.ensures.broken c.requires.report.least
+report_is_of_the_layer-requires-clause-least c = still_least c.args.layer.now.net c.args.report c.in_ok-report.report
+    c.in_ok-report.ensures.rest c.in_ok-report.ensures.broken c.requires.report.least

@@ -12,7 +12,10 @@ use Rattle.dpl_core.proofs.RefusalLemmas.{one_split_refusal, odd_refuses, none_r
 use Rattle.dpl_core.proofs.making.make_commands.Goals as goal
 
 pub report_of_layer-requires : goal.report_of_layer-requires
-report_of_layer-requires c = record { layer = some_layer c.args.options.now c.args.text.now c.in_ok-layer.layer.fragments c.in_ok-layer.layer.net c.in_ok-layer.ensures.layer }
+report_of_layer-requires c = record {
+  layer = some_layer c.args.options.now c.args.text.now
+      c.in_ok-layer.layer.fragments c.in_ok-layer.layer.net c.in_ok-layer.ensures.layer;
+}
 
 pub returns-in_err-layer-clause-exact : goal.returns-in_err-layer-clause-exact
 returns-in_err-layer-clause-exact c =
@@ -42,8 +45,11 @@ returns-in_err-report-clause-exact c =
     one_comes (RefusesSplit o text) _ p.0 (one_split_refusal o text) p.1 (odd_refuses o text f n p.0 c.in_ok-layer.ensures.layer odd)
 
 pub returns-clause-made : goal.returns-clause-made
-returns-clause-made c = report_of_text c.args.options.now c.args.text.now c.in_ok-layer.layer.fragments c.in_ok-layer.layer.net _ c.in_ok-report.ensures.report c.in_ok-report.ensures.masks c.in_ok-layer.ensures.layer
+returns-clause-made c = report_of_text c.args.options.now c.args.text.now c.in_ok-layer.layer.fragments
+    c.in_ok-layer.layer.net _ c.in_ok-report.ensures.report c.in_ok-report.ensures.masks c.in_ok-layer.ensures.layer
 
 pub returns-clause-exact : goal.returns-clause-exact
 returns-clause-exact c =
-    λ e r. absurd (none_refuses c.args.options.now c.args.text.now c.in_ok-layer.layer.fragments c.in_ok-layer.layer.net c.in_ok-layer.ensures.layer (made_free c.in_ok-report.report (IsOddNet c.in_ok-layer.layer.net) c.in_ok-report.ensures.exact) e r)
+    λ e r. absurd (none_refuses c.args.options.now c.args.text.now c.in_ok-layer.layer.fragments c.in_ok-layer.layer.net
+    c.in_ok-layer.ensures.layer (made_free c.in_ok-report.report (IsOddNet c.in_ok-layer.layer.net)
+    c.in_ok-report.ensures.exact) e r)

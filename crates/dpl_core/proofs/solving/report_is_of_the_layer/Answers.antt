@@ -22,4 +22,5 @@ returns-clause-report c = record {
 }
 
 pub returns-clause-masks : goal.returns-clause-masks
-returns-clause-masks c = masks_of_layer c.args.options.now c.args.layer.now.fragments c.args.layer.now.net (plain_report c.args.report.now) c.masks_are_of_the_layer.ensures
+returns-clause-masks c = masks_of_layer c.args.options.now c.args.layer.now.fragments c.args.layer.now.net
+    (plain_report c.args.report.now) c.masks_are_of_the_layer.ensures

@@ -10,7 +10,8 @@ loop-k-init c = kept_none _ _ _
 pub loop-k-preserved : goal.loop-k-preserved
 loop-k-preserved c =
     let k = get_or c.args.kept.now c.loop-k.k-index 0 in
-    kept_more (map corners_of c.args.keep.now) (corners_of c.args.tile.now) (corners_of c.index-keep-k.result) c.args.kept.now c.loop-k.k-index k _ _ _ c.share_of.result c.loop-k-test.true
+    kept_more (map corners_of c.args.keep.now) (corners_of c.args.tile.now) (corners_of c.index-keep-k.result)
+    c.args.kept.now c.loop-k.k-index k _ _ _ c.share_of.result c.loop-k-test.true
     (get_or_default c.args.kept.now c.loop-k.k-index 0 k c.loop-k-test.true)
     (rect_is c.args.keep.now k c.index-keep-k.result (c.requires c.loop-k.k-index 0 c.loop-k-test.true) c.index-keep-k.is)
     c.share_of.ensures c.loop-k.invariant c.in_ok-push_some.ensures

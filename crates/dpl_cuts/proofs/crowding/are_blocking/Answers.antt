@@ -9,11 +9,18 @@ use Rattle.dpl_cuts.proofs.BlockLemmas.{nothing, none_left, rect_is}
 use Rattle.dpl_cuts.proofs.crowding.are_blocking.Goals as goal
 
 pub free_stretches-requires : goal.free_stretches-requires
-free_stretches-requires c = rw c.as_slice.ensures.value (ascends_from_sorted (λ (s : Stretch). s.from) _ (c.sort_unstable_by_key.ensures.sorted (λ (s : Stretch). s.from) (answers_always _ _ _ (λ f a r g k. search rules))))
+free_stretches-requires c = rw c.as_slice.ensures.value
+    (ascends_from_sorted (λ (s : Stretch). s.from) _ (c.sort_unstable_by_key.ensures.sorted (λ (s : Stretch). s.from)
+    (answers_always _ _ _ (λ f a r g k. search rules))))
 
 pub returns : goal.returns
 returns c = λ all.
-    let moved : (p : ℤ) → is_in_stretches c.as_slice.result.now p ≡ is_in_stretches c.in_ok-blocked.blocked.items p = λ p. ap (λ (l : List Stretch). is_in_stretches l p) c.as_slice.ensures.value ∙ sym (list_any-IsPermutation (λ (s : Stretch). is_within s.from s.to p) _ _ c.sort_unstable_by_key.ensures.permutation) in
+    let moved : (p : ℤ) → is_in_stretches c.as_slice.result.now p ≡ is_in_stretches c.in_ok-blocked.blocked.items p =
+    λ p. ap (λ (l : List Stretch). is_in_stretches l p) c.as_slice.ensures.value ∙
+    sym (list_any-IsPermutation (λ (s : Stretch). is_within s.from s.to p) _ _
+    c.sort_unstable_by_key.ensures.permutation) in
     let tile = rect_is c.args.tiles.now c.args.i c.index-tiles-i.result c.requires.within c.index-tiles-i.is in
     let n : length c.in_ok-free.free.items ≡ 0 = search rules in
-    none_left _ _ _ c.args.space c.args.i c.lane_of.result c.in_ok-blocked.blocked.items c.as_slice.result.now c.in_ok-free.free.items (c.lane_of.ensures.from ∙ ap first_of tile) (c.lane_of.ensures.to ∙ ap last_of tile) c.in_ok-blocked.ensures moved c.in_ok-free.ensures.same (nothing _ n)
+    none_left _ _ _ c.args.space c.args.i c.lane_of.result c.in_ok-blocked.blocked.items c.as_slice.result.now
+    c.in_ok-free.free.items (c.lane_of.ensures.from ∙ ap first_of tile) (c.lane_of.ensures.to ∙ ap last_of tile)
+    c.in_ok-blocked.ensures moved c.in_ok-free.ensures.same (nothing _ n)

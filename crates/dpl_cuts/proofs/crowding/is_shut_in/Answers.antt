@@ -14,10 +14,14 @@ pub are_blocking-requires-clause-long : goal.are_blocking-requires-clause-long
 are_blocking-requires-clause-long c = c.requires.shapes.1.long ∙ length-map c.args.tiles.now corners_of
 
 pub are_blocking-requires-clause-among : goal.are_blocking-requires-clause-among
-are_blocking-requires-clause-among c = rw c.as_slice.ensures.value (λ m k n. let h = (c.in_ok-near.ensures.each m k n).within in rw (c.requires.finder, length-map c.args.tiles.now corners_of) at h)
+are_blocking-requires-clause-among c = rw c.as_slice.ensures.value
+    (λ m k n. let h = (c.in_ok-near.ensures.each m k n).within in
+    rw (c.requires.finder, length-map c.args.tiles.now corners_of) at h)
 
 pub returns-then-shut : goal.returns-then-shut
 returns-then-shut c = λ e keep p free.
     let rects : List Corners = map corners_of c.args.tiles.now in
-    unblocked keep rects c.args.label.now c.as_slice.result.now c.requires.shapes.0 c.args.space c.args.i p c.requires.shapes.1 (rw (length-map c.args.tiles.now corners_of) c.requires.within)
-    (rw c.as_slice.ensures.value (λ m k n. let h = (c.in_ok-near.ensures.each m k n).within in rw c.requires.finder at h)) free (c.in_ok-shut.ensures c.if-shut.true p free.within)
+    unblocked keep rects c.args.label.now c.as_slice.result.now c.requires.shapes.0 c.args.space c.args.i p
+    c.requires.shapes.1 (rw (length-map c.args.tiles.now corners_of) c.requires.within)
+    (rw c.as_slice.ensures.value (λ m k n. let h = (c.in_ok-near.ensures.each m k n).within in
+    rw c.requires.finder at h)) free (c.in_ok-shut.ensures c.if-shut.true p free.within)

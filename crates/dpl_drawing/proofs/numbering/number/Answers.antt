@@ -21,7 +21,9 @@ mark-requires-clause-fresh c =
     let inside : c.loop-dart.dart < length c.loop-dart.numbers.items = omega (arith, here, c.loop-dart.invariant.lengths) in
     let read : c.index.result.now ≡ get_or c.loop-dart.numbers.items c.loop-dart.dart 0 = get_or_read _ _ _ inside c.index.ensures 0 in
     let size = c.loop-dart.invariant.lengths in
-    λ z hz e. rw c.deref_mut.ensures.value (numbered_fresh _ _ _ _ _ _ _ c.requires.ring.1 c.requires.stays here big c.loop-dart.invariant t (sym read ∙ eqb-true _ _ parts.1) z (omega (arith, size, ap length c.deref_mut.ensures.value)) e)
+    λ z hz e. rw c.deref_mut.ensures.value (numbered_fresh _ _ _ _ _ _ _ c.requires.ring.1 c.requires.stays here big
+    c.loop-dart.invariant t (sym read ∙ eqb-true _ _ parts.1) z
+    (omega (arith, size, ap length c.deref_mut.ensures.value)) e)
 
 pub loop-dart-preserved : goal.loop-dart-preserved
 loop-dart-preserved c =
@@ -34,9 +36,14 @@ loop-dart-preserved c =
           let parts = and_parts _ _ w.if-is_in-fresh.true in
           let t = sym c.is_in.ensures ∙ parts.0 in
           let marks = rw w.deref_mut.ensures.value at w.mark.ensures in
-          let whole = refill c.loop-dart.numbers.len w.mark.new.labels c.loop-dart.numbers.items c.loop-dart.numbers.ok.0 (w.mark.ensures.lengths ∙ ap length w.deref_mut.ensures.value) in
-          rw (w.numbers-is, w.count-is) (numbered_at _ _ _ _ _ _ _ whole (numbered_more _ _ _ _ _ _ _ _ c.requires.ring.1 here big c.loop-dart.invariant t (sym read ∙ eqb-true _ _ parts.1) marks))
-      | else-is_in-fresh w ↦ rw (w.numbers-is, w.count-is) (numbered_skip _ _ _ _ _ _ _ c.requires.ring.1 c.requires.stays here c.loop-dart.invariant (λ t e. both_ways _ w.if-is_in-fresh.false (and_from _ _ (c.is_in.ensures ∙ t) (eq-eqb _ _ (read ∙ e)))))
+          let whole = refill c.loop-dart.numbers.len w.mark.new.labels c.loop-dart.numbers.items
+          c.loop-dart.numbers.ok.0 (w.mark.ensures.lengths ∙ ap length w.deref_mut.ensures.value) in
+          rw (w.numbers-is, w.count-is) (numbered_at _ _ _ _ _ _ _ whole
+          (numbered_more _ _ _ _ _ _ _ _ c.requires.ring.1 here big c.loop-dart.invariant t
+          (sym read ∙ eqb-true _ _ parts.1) marks))
+      | else-is_in-fresh w ↦ rw (w.numbers-is, w.count-is)
+          (numbered_skip _ _ _ _ _ _ _ c.requires.ring.1 c.requires.stays here c.loop-dart.invariant
+          (λ t e. both_ways _ w.if-is_in-fresh.false (and_from _ _ (c.is_in.ensures ∙ t) (eq-eqb _ _ (read ∙ e)))))
     ])
 
 pub returns-clause-numbers : goal.returns-clause-numbers

@@ -6,7 +6,8 @@ use Rattle.dpl_drawing.proofs.LastLemmas.{last_first, last_second, lasts_drawn}
 use Rattle.dpl_drawing.proofs.whole.add_next.Goals as goal
 
 pub insert-requires-clause-apart : goal.insert-requires-clause-apart
-insert-requires-clause-apart c = λ e. next_apart c.args.net.now _ _ (length c.args.all.now) (kept_more c.args.net.now c.args.all.now c.requires.edge) (sym c.next_from-next.ensures.value ∙ e)
+insert-requires-clause-apart c = λ e. next_apart c.args.net.now _ _ (length c.args.all.now)
+    (kept_more c.args.net.now c.args.all.now c.requires.edge) (sym c.next_from-next.ensures.value ∙ e)
 
 pub next_from-next-requires-clause-last : goal.next_from-next-requires-clause-last
 next_from-next-requires-clause-last c =
@@ -21,7 +22,9 @@ next_from-next_twin-requires-clause-last c =
     last_second c.args.net.now _ _ (length c.args.all.now) _ _ c.requires.lasts c.requires.edge edge refl
 
 pub returns-clause-faces : goal.returns-clause-faces
-returns-clause-faces c = faces_more c.args.net.now _ _ (length c.args.all.now) _ _ _ _ (kept_more c.args.net.now c.args.all.now c.requires.edge) c.requires.faces c.next_from-next.ensures.value c.next_from-next_twin.ensures.value c.insert.ensures.value
+returns-clause-faces c = faces_more c.args.net.now _ _ (length c.args.all.now) _ _ _ _
+    (kept_more c.args.net.now c.args.all.now c.requires.edge) c.requires.faces c.next_from-next.ensures.value
+    c.next_from-next_twin.ensures.value c.insert.ensures.value
 
 pub returns-clause-lasts : goal.returns-clause-lasts
 returns-clause-lasts c =

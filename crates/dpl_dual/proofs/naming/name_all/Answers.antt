@@ -8,6 +8,8 @@ name-requires c = λ i l. omega (arith, reached_below _ _ _ _ _ (c.in_ok-reach.e
 
 pub loop-start-preserved : goal.loop-start-preserved
 loop-start-preserved c = elim c.if-names-start.branch [
-  | then-names-start+in_ok-reach w ↦ rw w.names-is (named_more _ _ _ c.loop-start.names _ _ c.loop-start-test.true c.loop-start.invariant (w.in_ok-reach.ensures.all refl) w.name.auto.names (rw w.reached.ensures at w.name.ensures))
+  | then-names-start+in_ok-reach w ↦ rw w.names-is (named_more _ _ _ c.loop-start.names _ _ c.loop-start-test.true
+      c.loop-start.invariant (w.in_ok-reach.ensures.all refl) w.name.auto.names
+      (rw w.reached.ensures at w.name.ensures))
   | else-names-start w ↦ rw w.names-is (named_skip _ _ _ _ c.loop-start-test.true c.loop-start.invariant w.if-names-start.false)
 ]

@@ -54,4 +54,7 @@ returns-clause-bar c =
     let read = c.as_slice.ensures.value in
     let f = edge_first net _ _ c.requires.aside c.requires.some c.index-edge.ensures in
     let ends = edge_is net.graph _ _ _ c.as_slice-2.ensures (omega (arith, f.inside, ap length c.as_slice-2.ensures)) c.index-as_slice-edge.is in
-    rw (c.new.ensures, c.new-2.ensures) (bar_is net _ _ _ _ _ _ _ (c.as_slice-kept.ensures.value ∙ c.requires.kept) (ap length read ∙ c.requires.corners.darts) (λ d h. ap (λ (xs : List ℕ). get_or xs d 0) read ∙ c.requires.corners.next d h) ends f c.next_around-corner.ensures.value c.in_ok-face.ensures c.in_ok-walk.ensures.path c.in_ok-walk.ensures.set)
+    rw (c.new.ensures, c.new-2.ensures) (bar_is net _ _ _ _ _ _ _ (c.as_slice-kept.ensures.value ∙ c.requires.kept)
+    (ap length read ∙ c.requires.corners.darts) (λ d h. ap (λ (xs : List ℕ). get_or xs d 0) read ∙
+    c.requires.corners.next d h) ends f c.next_around-corner.ensures.value c.in_ok-face.ensures
+    c.in_ok-walk.ensures.path c.in_ok-walk.ensures.set)

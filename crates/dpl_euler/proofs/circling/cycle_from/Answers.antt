@@ -5,7 +5,12 @@ use Rattle.dpl_euler.proofs.circling.cycle_from.Goals as goal
 
 pub loop-cycle-smaller : goal.loop-cycle-smaller
 loop-cycle-smaller c =
-    omega (arith, ap length c.in_ok-push.ensures.items, length-append c.loop-cycle.cycle.items (c.loop-cycle.place ∷ []), trail_short _ _ _ _ _ c.loop-cycle.invariant)
+    omega (
+      arith,
+      ap length c.in_ok-push.ensures.items,
+      length-append c.loop-cycle.cycle.items (c.loop-cycle.place ∷ []),
+      trail_short _ _ _ _ _ c.loop-cycle.invariant,
+    )
 
 pub loop-cycle-preserved : goal.loop-cycle-preserved
 loop-cycle-preserved c =

@@ -6,6 +6,7 @@ use Rattle.dpl_euler.proofs.crossings.first_fragment.Goals as goal
 
 pub loop-i-preserved : goal.loop-i-preserved
 loop-i-preserved c = λ i l. elim (cases_eq i c.loop-i.i) [
-  | inl t ↦ ap (λ z. crosses_fragment c.args.fragments.now c.args.net.now c.args.edge (slice_index c.args.found.now z)) t ∙ sym c.do_cross_fragment.ensures ∙ c.if-do_cross_fragment.false
+  | inl t ↦ ap (λ z. crosses_fragment c.args.fragments.now c.args.net.now c.args.edge (slice_index c.args.found.now z))
+      t ∙ sym c.do_cross_fragment.ensures ∙ c.if-do_cross_fragment.false
   | inr t ↦ c.loop-i.invariant i (omega (arith, l, t))
 ]

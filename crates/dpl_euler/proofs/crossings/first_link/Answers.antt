@@ -8,7 +8,8 @@ use Rattle.dpl_euler.proofs.crossings.first_link.Goals.{then-edge-other+else-do_
 pub loop-i-preserved : goal.loop-i-preserved
 loop-i-preserved c = λ i l h. elim (cases_eq i c.loop-i.i) [
   | inl t ↦ elim c.if-edge-other.branch [
-    | then-edge-other+else-do_cross w ↦ ap (λ z. links_cross c.args.fragments.now c.args.net.now c.args.edge (slice_index c.args.found.now z)) t ∙ sym w.do_cross.ensures ∙ w.if-do_cross.false
+    | then-edge-other+else-do_cross w ↦ ap (λ z. links_cross c.args.fragments.now c.args.net.now c.args.edge
+        (slice_index c.args.found.now z)) t ∙ sym w.do_cross.ensures ∙ w.if-do_cross.false
     | else-edge-other w ↦
         let less : c.args.edge < slice_index c.args.found.now c.loop-i.i = rw (← t) h in
         absurd (omega (arith, less, w.if-edge-other.false))

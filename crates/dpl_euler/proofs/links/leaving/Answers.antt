@@ -12,7 +12,8 @@ returns-then-from-to-clause-value c =
     let f : SFits w64 c.max-from.result = search rules in
     let g : SFits w64 c.min-to.result = search rules in
     let less : int_lt c.max-from.result c.min-to.result ≡ true = simp to_z-of_z at c.if-from-to.true in
-    leaving_shared c.args.a1 c.args.a2 c.args.b1 c.args.b2 _ _ from to less c.requires.low_a1 c.requires.high_a1 c.requires.low_a2 c.requires.high_a2 c.requires.low_b1 c.requires.high_b1 c.requires.low_b2 c.requires.high_b2
+    leaving_shared c.args.a1 c.args.a2 c.args.b1 c.args.b2 _ _ from to less c.requires.low_a1 c.requires.high_a1
+    c.requires.low_a2 c.requires.high_a2 c.requires.low_b1 c.requires.high_b1 c.requires.low_b2 c.requires.high_b2
 
 pub returns-then-a2-b1-clause-value : goal.returns-then-a2-b1-clause-value
 returns-then-a2-b1-clause-value c =

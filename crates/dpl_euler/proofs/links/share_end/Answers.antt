@@ -23,5 +23,6 @@ returns-else-ends_at c =
     let sx2 : SFits w64 s.x2 = coordinate_fits s.x2 s.low_x2 s.high_x2 in
     let sy2 : SFits w64 s.y2 = coordinate_fits s.y2 s.low_y2 s.high_y2 in
     let first : c.ends_at.result ≡ ends_at c.args.other.now (ends_of c.args.to.now) c.args.edge.now.a s.x1 s.y1 = simp to_z-of_z at c.ends_at.ensures in
-    let second : c.ends_at-else-ends_at.result ≡ ends_at c.args.other.now (ends_of c.args.to.now) c.args.edge.now.b s.x2 s.y2 = simp to_z-of_z at c.ends_at-else-ends_at.ensures in
+    let second : c.ends_at-else-ends_at.result ≡ ends_at c.args.other.now (ends_of c.args.to.now) c.args.edge.now.b s.x2
+    s.y2 = simp to_z-of_z at c.ends_at-else-ends_at.ensures in
     or_no _ _ _ _ first c.if-ends_at.false second

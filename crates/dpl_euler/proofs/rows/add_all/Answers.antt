@@ -9,7 +9,11 @@ loop-edge-preserved c =
     let inside : c.loop-edge.edge < length c.args.graph.now.edges = omega (arith, c.loop-edge-test.true, ap length c.as_slice.ensures) in
     elim c.if-is_in.branch [
       | then-is_in+in_ok-add+in_ok-add-2 w ↦
-          let ends = edge_is c.args.graph.now _ _ _ w.as_slice-then-is_in.ensures (omega (arith, inside, ap length w.as_slice-then-is_in.ensures)) w.index-as_slice-edge.is in
-          rw w.rows-is (rows_take c.args.graph.now c.args.set.now c.loop-edge.rows w.add.new.rows w.add-then-is_in.new.rows c.loop-edge.edge w.index-as_slice-edge.result inside ends (sym c.is_in.ensures ∙ w.if-is_in.true) w.in_ok-add.ensures w.in_ok-add-2.ensures c.loop-edge.invariant)
-      | else-is_in w ↦ rw w.rows-is (rows_skip c.args.graph.now c.args.set.now c.loop-edge.rows c.loop-edge.edge (sym c.is_in.ensures ∙ w.if-is_in.false) c.loop-edge.invariant)
+          let ends = edge_is c.args.graph.now _ _ _ w.as_slice-then-is_in.ensures
+          (omega (arith, inside, ap length w.as_slice-then-is_in.ensures)) w.index-as_slice-edge.is in
+          rw w.rows-is (rows_take c.args.graph.now c.args.set.now c.loop-edge.rows w.add.new.rows
+          w.add-then-is_in.new.rows c.loop-edge.edge w.index-as_slice-edge.result inside ends
+          (sym c.is_in.ensures ∙ w.if-is_in.true) w.in_ok-add.ensures w.in_ok-add-2.ensures c.loop-edge.invariant)
+      | else-is_in w ↦ rw w.rows-is (rows_skip c.args.graph.now c.args.set.now c.loop-edge.rows c.loop-edge.edge
+          (sym c.is_in.ensures ∙ w.if-is_in.false) c.loop-edge.invariant)
     ]

@@ -11,7 +11,8 @@ follow_each-requires-clause-row c =
     let node = (step_at c.loop-place.steps.items c.loop-place.place).node in
     let test : c.loop-place.place < length c.loop-place.steps.items = search rules in
     let read : c.index.result.now ≡ step_at c.loop-place.steps.items c.loop-place.place = get_or_read _ _ _ test c.index.ensures no_step in
-    let row : c.row_at-row.result.now ≡ slice_index_or c.args.rows.now node [] = c.row_at-row.ensures ∙ ap (λ (z : Step). slice_index_or c.args.rows.now z.node []) read in
+    let row : c.row_at-row.result.now ≡ slice_index_or c.args.rows.now node [] = c.row_at-row.ensures ∙
+    ap (λ (z : Step). slice_index_or c.args.rows.now z.node []) read in
     let P : List ℕ → Type 0 = λ xs. All (IsAt c.args.graph.now c.args.set.now node) xs in
     subst P (sym row) (c.requires.rows.only node)
 
@@ -30,9 +31,13 @@ loop-place-preserved c =
     let node = (step_at c.loop-place.steps.items c.loop-place.place).node in
     let test : c.loop-place.place < length c.loop-place.steps.items = search rules in
     let read : c.index.result.now ≡ step_at c.loop-place.steps.items c.loop-place.place = get_or_read _ _ _ test c.index.ensures no_step in
-    let row : c.row_at-row.result.now ≡ slice_index_or c.args.rows.now node [] = c.row_at-row.ensures ∙ ap (λ (z : Step). slice_index_or c.args.rows.now z.node []) read in
+    let row : c.row_at-row.result.now ≡ slice_index_or c.args.rows.now node [] = c.row_at-row.ensures ∙
+    ap (λ (z : Step). slice_index_or c.args.rows.now z.node []) read in
     record {
       steps = c.in_ok-follow_each.ensures.steps;
-      followed = followed_more c.args.graph.now c.args.set.now c.loop-place.steps.items c.follow_each.new.steps.items c.loop-place.places c.follow_each.new.places (slice_index_or c.args.rows.now node []) c.loop-place.place test c.in_ok-follow_each.ensures.goes_on c.loop-place.invariant.followed (λ e at. c.requires.rows.all node e at) (rw (← row) c.in_ok-follow_each.ensures.reached);
+      followed = followed_more c.args.graph.now c.args.set.now c.loop-place.steps.items c.follow_each.new.steps.items
+          c.loop-place.places c.follow_each.new.places (slice_index_or c.args.rows.now node []) c.loop-place.place test
+          c.in_ok-follow_each.ensures.goes_on c.loop-place.invariant.followed (λ e at. c.requires.rows.all node e at)
+          (rw (← row) c.in_ok-follow_each.ensures.reached);
       inside = omega (arith, test, c.in_ok-follow_each.ensures.goes_on.longer);
     }

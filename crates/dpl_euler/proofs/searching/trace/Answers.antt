@@ -10,4 +10,5 @@ back_from-requires-clause-place c =
 pub unreachable-requires : goal.unreachable-requires
 unreachable-requires c =
     let none : place_of c.follow_all.new.places c.args.from ≡ None = search rules in
-    all_reached c.args.graph.now c.args.set.now c.args.to c.args.from _ _ c.in_ok-follow_all.ensures.steps c.in_ok-follow_all.ensures.followed c.requires.joined none
+    all_reached c.args.graph.now c.args.set.now c.args.to c.args.from _ _ c.in_ok-follow_all.ensures.steps
+    c.in_ok-follow_all.ensures.followed c.requires.joined none

@@ -7,7 +7,8 @@ pub loop-node-preserved : goal.loop-node-preserved
 loop-node-preserved c = record {
   kept = c.in_ok-visit.ensures.walk;
   empty = c.in_ok-visit.ensures.empty;
-  seen = λ x h. seen_more (view c.loop-node.walk) (view c.visit.new.walk) c.loop-node.node x c.in_ok-visit.ensures.seen c.in_ok-visit.ensures.node c.loop-node.invariant.seen h;
+  seen = λ x h. seen_more (view c.loop-node.walk) (view c.visit.new.walk) c.loop-node.node x c.in_ok-visit.ensures.seen
+      c.in_ok-visit.ensures.node c.loop-node.invariant.seen h;
 }
 
 pub returns-clause-done : goal.returns-clause-done

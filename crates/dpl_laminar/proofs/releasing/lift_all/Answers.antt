@@ -12,7 +12,12 @@ pub bounds-rows-child : goal.bounds-rows-child
 bounds-rows-child c = omega (arith, ring_at _ _ _ _ c.loop.child c.loop-test.true c.loop.invariant.at, c.requires.below c.loop.counter c.loop-test.true)
 
 pub next-child-requires : goal.next-child-requires
-next-child-requires c = omega (arith, ring_at _ _ _ _ c.loop.child c.loop-test.true c.loop.invariant.at, c.requires.below c.loop.counter c.loop-test.true, c.requires.ring)
+next-child-requires c = omega (
+  arith,
+  ring_at _ _ _ _ c.loop.child c.loop-test.true c.loop.invariant.at,
+  c.requires.below c.loop.counter c.loop-test.true,
+  c.requires.ring,
+)
 
 pub loop-preserved : goal.loop-preserved
 loop-preserved c =
@@ -21,16 +26,24 @@ loop-preserved c =
     let here : get_or cs c.loop.counter 0 ≡ c.loop.child = ring_at _ _ _ _ c.loop.child c.loop-test.true c.loop.invariant.at in
     let short : c.loop.child < length c.args.rows.now = omega (arith, here, c.requires.below c.loop.counter c.loop-test.true) in
     let row : c.index-rows-child.result ≡ get_or c.args.rows.now c.loop.child [] = get_or_read _ _ _ short c.index-rows-child.is [] in
-    let lifted : (m : ℕ) → m < length c.args.tops.now → get_or c.lift.new.tops m 0 ≡ cond (table (get_or cs c.loop.counter 0) m) (get_or cs c.loop.counter 0) (get_or c.loop.tops m 0) =
-    λ m h. c.lift.ensures m (omega (arith, c.loop.auto.tops, h)) ∙ ap (λ z. cond (get_or z m false) c.loop.child (get_or c.loop.tops m 0)) row ∙ ap (λ z. cond (table z m) z (get_or c.loop.tops m 0)) (sym here) in
+    let lifted : (m : ℕ) → m < length c.args.tops.now →
+    get_or c.lift.new.tops m 0 ≡ cond (table (get_or cs c.loop.counter 0) m) (get_or cs c.loop.counter 0)
+    (get_or c.loop.tops m 0) =
+    λ m h. c.lift.ensures m (omega (arith, c.loop.auto.tops, h)) ∙
+    ap (λ z. cond (get_or z m false) c.loop.child (get_or c.loop.tops m 0)) row ∙
+    ap (λ z. cond (table z m) z (get_or c.loop.tops m 0)) (sym here) in
     record {
       at = ring_next c.args.ring.now c.args.first c.loop.counter c.loop.child c.next-child.result c.loop.invariant.at c.next-child.ensures.value;
-      lifted = lifted_more (length c.args.tops.now) table cs c.loop.counter c.args.tops.now c.loop.tops c.lift.new.tops (omega (arith, c.loop-test.true, length_ring c.args.ring.now c.args.first c.args.count)) c.requires.apart c.loop.invariant.lifted lifted;
+      lifted = lifted_more (length c.args.tops.now) table cs c.loop.counter c.args.tops.now c.loop.tops c.lift.new.tops
+          (omega (arith, c.loop-test.true, length_ring c.args.ring.now c.args.first c.args.count)) c.requires.apart
+          c.loop.invariant.lifted lifted;
       most = omega (arith, c.loop-test.true);
     }
 
 pub returns-clause-inside : goal.returns-clause-inside
-returns-clause-inside c = rw (← ring_whole c.args.ring.now c.args.first c.args.count c.loop.counter (omega (arith, c.loop-test.false))) c.loop.invariant.lifted.inside
+returns-clause-inside c = rw (← ring_whole c.args.ring.now c.args.first c.args.count c.loop.counter
+    (omega (arith, c.loop-test.false))) c.loop.invariant.lifted.inside
 
 pub returns-clause-outside : goal.returns-clause-outside
-returns-clause-outside c = rw (← ring_whole c.args.ring.now c.args.first c.args.count c.loop.counter (omega (arith, c.loop-test.false))) c.loop.invariant.lifted.outside
+returns-clause-outside c = rw (← ring_whole c.args.ring.now c.args.first c.args.count c.loop.counter
+    (omega (arith, c.loop-test.false))) c.loop.invariant.lifted.outside

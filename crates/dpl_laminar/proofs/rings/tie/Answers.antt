@@ -4,7 +4,8 @@ use Rattle.dpl_laminar.proofs.rings.tie.Goals as goal
 
 pub loop-i-preserved : goal.loop-i-preserved
 loop-i-preserved c = record {
-  tied = rw c.splice.ensures.value (tied_more _ _ _ c.loop-i.i (c.loop-i.i - 1) (omega (arith, c.loop-i.invariant.some)) c.loop-i-test.true c.requires.distinct c.requires.below c.loop-i.invariant.tied);
+  tied = rw c.splice.ensures.value (tied_more _ _ _ c.loop-i.i (c.loop-i.i - 1) (omega (arith, c.loop-i.invariant.some))
+      c.loop-i-test.true c.requires.distinct c.requires.below c.loop-i.invariant.tied);
   some = omega arith;
   most = λ _. omega (arith, c.loop-i-test.true);
 }

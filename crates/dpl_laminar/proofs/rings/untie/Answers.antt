@@ -13,10 +13,13 @@ splice-requires-clause-first c = omega (arith, circle_first _ _ _ c.requires.cir
 
 pub loop-preserved : goal.loop-preserved
 loop-preserved c = record {
-  untied = rw (c.splice.ensures.value, c.next-next.ensures.value) (circle_more _ _ _ c.loop.ring c.loop.counter c.requires.circle c.loop.invariant.some c.loop-test.true c.loop.invariant.untied);
+  untied = rw (c.splice.ensures.value, c.next-next.ensures.value)
+      (circle_more _ _ _ c.loop.ring c.loop.counter c.requires.circle c.loop.invariant.some c.loop-test.true
+      c.loop.invariant.untied);
   some = omega arith;
   most = omega (arith, c.loop-test.true);
 }
 
 pub returns-clause-alone : goal.returns-clause-alone
-returns-clause-alone c = circle_end _ _ _ c.loop.ring c.loop.counter c.requires.some (omega (arith, c.loop-test.false, c.loop.invariant.most)) c.loop.invariant.untied
+returns-clause-alone c = circle_end _ _ _ c.loop.ring c.loop.counter c.requires.some
+    (omega (arith, c.loop-test.false, c.loop.invariant.most)) c.loop.invariant.untied

@@ -8,4 +8,6 @@ pub returns-in_err-keep-clause-refused : goal.returns-in_err-keep-clause-refused
 returns-in_err-keep-clause-refused c =
     let p = err_from_is_err_and c.from_residual-in_err-keep.result c.from_residual-in_err-keep.ensures.1 in
     err_refuses c.from_residual-in_err-keep.result _ p.0 _ p.1 p.2
-    (kept_refuses c.args.options.now (cells_of c.args.drawing.now.layer) (cells_of c.args.drawing.now.keep) c.in_ok-tiles_there.tiles_there.items c.in_err-keep.field-0.0 c.in_ok-tiles_there.ensures.tiles c.in_ok-tiles_there.ensures.few (λ h. c.in_err-keep.ensures.many (ap Err h)))
+    (kept_refuses c.args.options.now (cells_of c.args.drawing.now.layer) (cells_of c.args.drawing.now.keep)
+    c.in_ok-tiles_there.tiles_there.items c.in_err-keep.field-0.0 c.in_ok-tiles_there.ensures.tiles
+    c.in_ok-tiles_there.ensures.few (λ h. c.in_err-keep.ensures.many (ap Err h)))

@@ -6,7 +6,8 @@ use Rattle.dpl_layer.proofs.RefusalLemmas.{cells_free, error_refuses, one_cells_
 use Rattle.dpl_layer.proofs.laying.layer_of.Goals as goal
 
 pub returns-clause-refused : goal.returns-clause-refused
-returns-clause-refused c = error_refuses (RefusesCells c.args.options.now (cells_of c.args.drawing.now.layer) (cells_of c.args.drawing.now.keep)) _ c.link_drawing.ensures.refused
+returns-clause-refused c = error_refuses (RefusesCells c.args.options.now (cells_of c.args.drawing.now.layer)
+    (cells_of c.args.drawing.now.keep)) _ c.link_drawing.ensures.refused
 
 pub returns-clause-exact : goal.returns-clause-exact
 returns-clause-exact c =
@@ -14,4 +15,6 @@ returns-clause-exact c =
     let cells = cells_of c.args.drawing.now.layer in
     let kept = cells_of c.args.drawing.now.keep in
     let L : Layer → Type 0 = λ l. IsLayer o cells kept l.fragments l.net in
-    refusal_comes L (RefusesCells o cells kept) _ (one_cells_refusal o cells kept) (λ l is. cells_free o cells kept l.fragments l.net is) c.link_drawing.ensures.layer c.link_drawing.ensures.refused
+    refusal_comes L (RefusesCells o cells kept) _ (one_cells_refusal o cells kept)
+    (λ l is. cells_free o cells kept l.fragments l.net is) c.link_drawing.ensures.layer
+    c.link_drawing.ensures.refused

@@ -27,14 +27,16 @@ pub returns-in_err-layer-clause-refused : goal.returns-in_err-layer-clause-refus
 returns-in_err-layer-clause-refused c =
     let p = err_from_is_err_and c.from_residual-in_err-layer.result c.from_residual-in_err-layer.ensures.1 in
     let R : LayerError → Type 0 = RefusesLayer c.args.options.now c.args.text.now in
-    let applies : (p.0 ≡ NoMemory) ⊎ R p.0 = rw p.2 (cells_text_refuse c.args.options.now c.args.text.now c.in_ok-drawing.drawing _ c.in_ok-drawing.ensures.drawing (search rules)) in
+    let applies : (p.0 ≡ NoMemory) ⊎ R p.0 = rw p.2 (cells_text_refuse c.args.options.now c.args.text.now
+    c.in_ok-drawing.drawing _ c.in_ok-drawing.ensures.drawing (search rules)) in
     only_comes R _ p.0 p.1 applies
 
 pub returns-in_err-layer-clause-exact : goal.returns-in_err-layer-clause-exact
 returns-in_err-layer-clause-exact c =
     let p = err_from_is_err_and c.from_residual-in_err-layer.result c.from_residual-in_err-layer.ensures.1 in
     let R : LayerError → Type 0 = RefusesLayer c.args.options.now c.args.text.now in
-    let applies : (p.0 ≡ NoMemory) ⊎ R p.0 = rw p.2 (cells_text_refuse c.args.options.now c.args.text.now c.in_ok-drawing.drawing _ c.in_ok-drawing.ensures.drawing (search rules)) in
+    let applies : (p.0 ≡ NoMemory) ⊎ R p.0 = rw p.2 (cells_text_refuse c.args.options.now c.args.text.now
+    c.in_ok-drawing.drawing _ c.in_ok-drawing.ensures.drawing (search rules)) in
     one_comes R _ p.0 (one_text_refusal c.args.options.now c.args.text.now) p.1 applies
 
 pub returns-clause-layer : goal.returns-clause-layer
@@ -45,4 +47,6 @@ returns-clause-layer c =
 pub returns-clause-exact : goal.returns-clause-exact
 returns-clause-exact c =
     let P : Cells → Cells → Type 0 = λ cells kept. IsLayer c.args.options.now cells kept c.in_ok-layer.layer.fragments c.in_ok-layer.layer.net in
-    λ e r. absurd (none_comes c.args.options.now c.args.text.now c.in_ok-layer.layer.fragments c.in_ok-layer.layer.net (on_drawing c.args.options.now c.args.text.now c.in_ok-drawing.drawing P c.in_ok-drawing.ensures.drawing c.in_ok-layer.ensures.layer) e r)
+    λ e r. absurd (none_comes c.args.options.now c.args.text.now c.in_ok-layer.layer.fragments c.in_ok-layer.layer.net
+    (on_drawing c.args.options.now c.args.text.now c.in_ok-drawing.drawing P c.in_ok-drawing.ensures.drawing
+    c.in_ok-layer.ensures.layer) e r)

@@ -1,4 +1,5 @@
-use Rattle.dpl_lex.proofs.CuttingRules.{blanks_are_skipped, end_ends, empty_is_cut, plain_is_cut, comment_is_cut, blanks_end, plain_rests, comment_rests, open_comment_rests}
+use Rattle.dpl_lex.proofs.CuttingRules.{blanks_are_skipped, end_ends, empty_is_cut, plain_is_cut, comment_is_cut}
+use Rattle.dpl_lex.proofs.CuttingRules.{blanks_end, plain_rests, comment_rests, open_comment_rests}
 use Rattle.dpl_lex.proofs.Within.{commands_within, commands_few}
 use Rattle.dpl_lex.proofs.cutting.cutting_rules.Goals as goal
 

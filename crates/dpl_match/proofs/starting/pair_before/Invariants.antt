@@ -6,4 +6,6 @@ use Rattle.dpl_tree.specs.Views.{mate_in}
 use Rattle.dpl_match.proofs.starting.pair_before.Given as goal
 
 abbrev pub invariant-loop-t : goal.invariant-loop-t
-invariant-loop-t l = (f : Sets) → AreAlone l.metric.size f l.sums → IsRest l.metric.size f (dist_of l.metric) (mate_in l.fn.mates) → IsRest l.metric.size f (dist_of l.metric) (mate_in l.mates)
+invariant-loop-t l = (f : Sets) → AreAlone l.metric.size f l.sums →
+    IsRest l.metric.size f (dist_of l.metric) (mate_in l.fn.mates) →
+    IsRest l.metric.size f (dist_of l.metric) (mate_in l.mates)

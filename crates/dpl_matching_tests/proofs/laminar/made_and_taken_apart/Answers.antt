@@ -92,10 +92,13 @@ pub expand-requires-clause-top : goal.expand-requires-clause-top
 expand-requires-clause-top g c = no_parent _ _ c.in-Ok.set (singles _ _ c.in_ok-family.ensures.singles c.raise.ensures.rest) c.in-Ok.ensures.ok
 
 pub value-requires-in-Err : goal.value-requires-in-Err
-value-requires-in-Err g c = ap (λ (z : Stored). get_or z.live 0 false) c.in-Err.ensures.err ∙ (singles _ _ c.in_ok-family.ensures.singles c.raise.ensures.rest).live 0 (omega arith)
+value-requires-in-Err g c = ap (λ (z : Stored). get_or z.live 0 false) c.in-Err.ensures.err ∙
+    (singles _ _ c.in_ok-family.ensures.singles c.raise.ensures.rest).live 0 (omega arith)
 
 pub value-requires-in-Err-2 : goal.value-requires-in-Err-2
-value-requires-in-Err-2 g c = ap (λ (z : Stored). get_or z.live 1 false) c.in-Err.ensures.err ∙ (singles _ _ c.in_ok-family.ensures.singles c.raise.ensures.rest).live 1 (omega arith)
+value-requires-in-Err-2 g c = ap (λ (z : Stored). get_or z.live 1 false) c.in-Err.ensures.err ∙
+    (singles _ _ c.in_ok-family.ensures.singles c.raise.ensures.rest).live 1 (omega arith)
 
 pub value-requires-in-Err-3 : goal.value-requires-in-Err-3
-value-requires-in-Err-3 g c = ap (λ (z : Stored). get_or z.live 2 false) c.in-Err.ensures.err ∙ (singles _ _ c.in_ok-family.ensures.singles c.raise.ensures.rest).live 2 (omega arith)
+value-requires-in-Err-3 g c = ap (λ (z : Stored). get_or z.live 2 false) c.in-Err.ensures.err ∙
+    (singles _ _ c.in_ok-family.ensures.singles c.raise.ensures.rest).live 2 (omega arith)

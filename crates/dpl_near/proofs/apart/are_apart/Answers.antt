@@ -10,7 +10,8 @@ pub returns-then-not-is_apart : goal.returns-then-not-is_apart
 returns-then-not-is_apart c = (
   (λ t. never t),
   (λ a. absurd (not_by_test _ c.if-not-is_apart.true c.is_apart.ensures.1
-      (apart_at c.args.rects.now c.firsts.i c.seconds.j c.index-rects-i.result c.index-rects-j.result c.firsts-test.true c.seconds-test.true c.index-rects-i.is c.index-rects-j.is a))),
+      (apart_at c.args.rects.now c.firsts.i c.seconds.j c.index-rects-i.result c.index-rects-j.result c.firsts-test.true
+      c.seconds-test.true c.index-rects-i.is c.index-rects-j.is a))),
 )
 
 pub seconds-preserved : goal.seconds-preserved

@@ -7,4 +7,5 @@ use Rattle.dpl_pack.specs.Traces.{is_seen}
 use Rattle.dpl_pack.proofs.walks.clear_darts.Given as goal
 
 abbrev pub invariant-loop-i : goal.invariant-loop-i
-invariant-loop-i l = (d : ℕ) → is_seen l.seen d ≡ true → (is_seen l.fn.seen d ≡ true) × ((f : ℕ) → has (take l.i l.faces) f ≡ true → has (row (view_of l.map) f) d ≡ false)
+invariant-loop-i l = (d : ℕ) → is_seen l.seen d ≡ true → (is_seen l.fn.seen d ≡ true) ×
+    ((f : ℕ) → has (take l.i l.faces) f ≡ true → has (row (view_of l.map) f) d ≡ false)

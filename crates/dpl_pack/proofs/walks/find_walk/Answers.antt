@@ -15,11 +15,18 @@ pub search-requires-clause-row : goal.search-requires-clause-row
 search-requires-clause-row c =
     let f = get_or c.args.faces.now c.loop-i.i 0 in
     let h : f < (view_of c.args.map.now).faces = c.requires.faces c.loop-i.i 0 c.loop-i-test.true in
-    let inside : get_or c.args.inside.now f false ≡ true = c.requires.written f (omega (arith, h, c.requires.places)) ∙ has_at c.args.faces.now c.loop-i.i c.loop-i-test.true in
-    row_active c.args.graph.now (view_of c.args.map.now) (map_of c.args.graph.now c.args.map.now c.requires.map) c.args.inside.now c.darts_of-row.result.now f h c.darts_of-row.ensures inside
+    let inside : get_or c.args.inside.now f false ≡ true = c.requires.written f (omega (arith, h, c.requires.places)) ∙
+    has_at c.args.faces.now c.loop-i.i c.loop-i-test.true in
+    row_active c.args.graph.now (view_of c.args.map.now) (map_of c.args.graph.now c.args.map.now c.requires.map)
+    c.args.inside.now c.darts_of-row.result.now f h c.darts_of-row.ensures inside
 
 pub loop-i-preserved : goal.loop-i-preserved
-loop-i-preserved c = face_searched c.args.graph.now (view_of c.args.map.now) (map_of c.args.graph.now c.args.map.now c.requires.map) c.args.inside.now c.loop-i.seen c.search.new.seen c.darts_of-row.result.now c.args.faces.now c.loop-i.i c.loop-i-test.true c.darts_of-row.ensures c.loop-i.invariant (rw c.in-None.is at c.in_ok-walk.ensures)
+loop-i-preserved c = face_searched c.args.graph.now (view_of c.args.map.now)
+    (map_of c.args.graph.now c.args.map.now c.requires.map) c.args.inside.now c.loop-i.seen c.search.new.seen
+    c.darts_of-row.result.now c.args.faces.now c.loop-i.i c.loop-i-test.true c.darts_of-row.ensures c.loop-i.invariant
+    (rw c.in-None.is at c.in_ok-walk.ensures)
 
 pub unreachable-requires : goal.unreachable-requires
-unreachable-requires c = some_odd c.args.graph.now (view_of c.args.map.now) (map_of c.args.graph.now c.args.map.now c.requires.map) c.args.faces.now c.args.inside.now _ c.loop-i.i c.loop-i-test.false c.requires.places c.requires.written c.requires.odd c.loop-i.invariant
+unreachable-requires c = some_odd c.args.graph.now (view_of c.args.map.now)
+    (map_of c.args.graph.now c.args.map.now c.requires.map) c.args.faces.now c.args.inside.now _ c.loop-i.i
+    c.loop-i-test.false c.requires.places c.requires.written c.requires.odd c.loop-i.invariant

@@ -8,6 +8,7 @@ loop-i-init c = rw c.new-faces.ensures.items (listed_none _)
 
 pub loop-i-preserved : goal.loop-i-preserved
 loop-i-preserved c = elim c.if-inside-i.branch [
-  | then-inside-i+in_ok-push w ↦ rw (ap (λ (z : Vec _ _). z.items) w.faces-is ∙ w.in_ok-push.ensures.items) (listed_in _ _ _ w.if-inside-i.true c.loop-i.invariant)
+  | then-inside-i+in_ok-push w ↦ rw (ap (λ (z : Vec _ _). z.items) w.faces-is ∙ w.in_ok-push.ensures.items)
+      (listed_in _ _ _ w.if-inside-i.true c.loop-i.invariant)
   | else-inside-i w ↦ rw (ap (λ (z : Vec _ _). z.items) w.faces-is) (listed_out _ _ _ w.if-inside-i.false c.loop-i.invariant)
 ]

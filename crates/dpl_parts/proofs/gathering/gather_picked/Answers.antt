@@ -32,7 +32,8 @@ gathered_pieces-requires-clause-within c = let h = c.requires in rw (c.as_slice-
     let m = c.args.net.now.piece_per_node in
     subst (λ z. z < length c.args.net.now.pieces) (get_or_default c.args.nodes.items k 0 d l) (omega (arith, t.0, n, m)))
 
-gathered_before : (c : goal.After-len) → AreGathered c.args.net.now c.requires.taken c.args.nodes.items c.args.place.now c.args.picks.items c.in_ok-found.found.items c.in_ok-ports.ports.items
+gathered_before : (c : goal.After-len) → AreGathered c.args.net.now c.requires.taken c.args.nodes.items c.args.place.now
+    c.args.picks.items c.in_ok-found.found.items c.in_ok-ports.ports.items
 gathered_before c = let h = c.requires in record {
   long = h.long;
   closed = h.closed;
@@ -58,7 +59,8 @@ assembled-net-requires-clause-graph c =
     let e : c.len.result ≡ length c.args.nodes.items = c.len.ensures ∙ c.args.nodes.ok.0 in
     subst (λ n. IsGraph n c.in_ok-found.found.items) (sym e) (gathered_graph c.args.net.now c.requires.taken _ _ _ _ _ (gathered_before c))
 
-gathered : (c : goal.After-assembled-net) → AreGathered c.args.net.now c.requires.taken c.args.nodes.items c.args.place.now c.args.picks.items c.in_ok-found.found.items c.in_ok-ports.ports.items
+gathered : (c : goal.After-assembled-net) → AreGathered c.args.net.now c.requires.taken c.args.nodes.items
+    c.args.place.now c.args.picks.items c.in_ok-found.found.items c.in_ok-ports.ports.items
 gathered c = let h = c.requires in record {
   long = h.long;
   closed = h.closed;

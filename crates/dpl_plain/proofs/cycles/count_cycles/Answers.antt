@@ -16,5 +16,6 @@ loop-dart-preserved c = elim c.else-is_in.branch [
       let same : length w.take_last.new.nexts ≡ length c.loop-dart.nexts = search rules in
       rw w.nexts-is (count_more _ c.loop-dart.nexts _ _ c.loop-dart.count c.loop-dart.dart c.loop-dart.invariant (omega arith) same w.take_last.ensures.without
       (sym c.is_in.ensures ∙ w.if-is_in.true) (eqb-false _ _ (sym w.take_last.ensures.alone ∙ w.if-take_last.false)))
-  | else-is_in-via-else-is_in w ↦ rw w.nexts-is (count_out _ c.loop-dart.nexts _ c.loop-dart.count c.loop-dart.dart c.loop-dart.invariant (omega arith) (sym c.is_in.ensures ∙ w.if-is_in.false))
+  | else-is_in-via-else-is_in w ↦ rw w.nexts-is (count_out _ c.loop-dart.nexts _ c.loop-dart.count c.loop-dart.dart
+      c.loop-dart.invariant (omega arith) (sym c.is_in.ensures ∙ w.if-is_in.false))
 ]

@@ -9,4 +9,6 @@ returns c =
     let clashed : c.in_ok-clashed.clashed ≡ passages_on_face c.args.net.now (is_in c.args.set.now) (is_clash_edge c.args.net.now) c.args.face =
     c.in_ok-clashed.ensures ∙ passages_same c.args.net.now (is_in c.args.set.now) (is_in c.deref.result.now) (is_clash_edge c.args.net.now) c.args.face
     (λ e h. ap (λ (xs : List Bool). is_in xs e) c.deref.ensures.value ∙ c.in_ok-test.ensures e h) in
-    ap (λ n. n % 2 == c.in_ok-clashed.clashed % 2) c.in_ok-passed.ensures ∙ ap (λ n. passages_on_face c.args.net.now (is_in c.args.set.now) (is_in c.args.chosen.now) c.args.face % 2 == n % 2) clashed
+    ap (λ n. n % 2 == c.in_ok-clashed.clashed % 2) c.in_ok-passed.ensures ∙
+    ap (λ n. passages_on_face c.args.net.now (is_in c.args.set.now) (is_in c.args.chosen.now) c.args.face % 2 ==
+    n % 2) clashed

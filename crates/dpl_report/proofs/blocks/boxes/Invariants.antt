@@ -6,7 +6,9 @@ use Rattle.dpl_report.specs.Reading.{item_box}
 use Rattle.dpl_report.proofs.blocks.boxes.Given as goal
 
 abbrev pub invariant-lines : goal.invariant-lines
-invariant-lines l = after_items (map corners_of l.found.items) (many (λ (s : ℕ). item_box) (λ _. zero) zero (lines_in l.rest)) ≡ many (λ (s : ℕ). item_box) (λ _. zero) zero (lines_in l.text)
+invariant-lines l = after_items (map corners_of l.found.items)
+    (many (λ (s : ℕ). item_box) (λ _. zero) zero (lines_in l.rest)) ≡ many (λ (s : ℕ). item_box) (λ _. zero) zero
+    (lines_in l.text)
 
 abbrev pub decreases-lines : goal.decreases-lines
 decreases-lines l = length l.rest

@@ -5,7 +5,8 @@ use Rattle.dpl_report.specs.Reading.{item_clash}
 use Rattle.dpl_report.proofs.blocks.clashes.Given as goal
 
 abbrev pub invariant-lines : goal.invariant-lines
-invariant-lines l = after_items l.found.items (many item_clash (λ b. b.edge + 1) l.least (lines_in l.rest)) ≡ many item_clash (λ b. b.edge + 1) zero (lines_in l.text)
+invariant-lines l = after_items l.found.items (many item_clash (λ b. b.edge + 1) l.least (lines_in l.rest)) ≡ many
+    item_clash (λ b. b.edge + 1) zero (lines_in l.text)
 
 abbrev pub decreases-lines : goal.decreases-lines
 decreases-lines l = length l.rest

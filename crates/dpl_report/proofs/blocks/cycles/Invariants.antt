@@ -5,7 +5,8 @@ use Rattle.dpl_report.specs.Reading.{item_cycle}
 use Rattle.dpl_report.proofs.blocks.cycles.Given as goal
 
 abbrev pub invariant-lines : goal.invariant-lines
-invariant-lines l = after_items l.found.items (many (λ (s : ℕ). item_cycle) (λ _. zero) zero (lines_in l.rest)) ≡ many (λ (s : ℕ). item_cycle) (λ _. zero) zero (lines_in l.text)
+invariant-lines l = after_items l.found.items (many (λ (s : ℕ). item_cycle) (λ _. zero) zero (lines_in l.rest)) ≡ many
+    (λ (s : ℕ). item_cycle) (λ _. zero) zero (lines_in l.text)
 
 abbrev pub decreases-lines : goal.decreases-lines
 decreases-lines l = length l.rest

@@ -6,4 +6,5 @@ use Rattle.dpl_report.proofs.goodness.true_reports_are_valid.Goals as goal
 pub returns : goal.returns
 returns c =
     let small : c.args.net.now.piece_count ≤ 1000000000000 = search rules in
-    true_is_valid c.args.options.now c.args.fragments.now c.args.net.now (plain_report c.args.report.now) c.requires.truth c.in_range.ensures c.requires.keep small c.requires.few
+    true_is_valid c.args.options.now c.args.fragments.now c.args.net.now (plain_report c.args.report.now)
+    c.requires.truth c.in_range.ensures c.requires.keep small c.requires.few

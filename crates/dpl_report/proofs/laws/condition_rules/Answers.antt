@@ -1,4 +1,6 @@
-use Rattle.dpl_report.proofs.ConditionLaws.{options_are_told, counts_are_told, bonds_are_told, cuts_are_told, clashes_are_told, cost_is_told, aside_is_told, walks_are_told, packing_is_told, masks_are_told}
+use Rattle.dpl_report.proofs.ConditionLaws.{options_are_told, counts_are_told, bonds_are_told, cuts_are_told}
+use Rattle.dpl_report.proofs.ConditionLaws.{clashes_are_told, cost_is_told, aside_is_told, walks_are_told}
+use Rattle.dpl_report.proofs.ConditionLaws.{packing_is_told, masks_are_told}
 use Rattle.dpl_report.proofs.laws.condition_rules.Goals as goal
 
 pub returns : goal.returns

@@ -5,4 +5,5 @@ use Rattle.dpl_report.specs.ReportLines.{cut_line}
 use Rattle.dpl_report.proofs.printing.push_cuts.Given as goal
 
 abbrev pub invariant-loop-zone : goal.invariant-loop-zone
-invariant-loop-zone l = l.out.items ++ text_of (map cut_line (map plain_zone (drop l.zone-index l.cuts))) ≡ l.initial.out.items ++ text_of (map cut_line (map plain_zone l.cuts))
+invariant-loop-zone l = l.out.items ++ text_of (map cut_line (map plain_zone (drop l.zone-index l.cuts)))
+    ≡ l.initial.out.items ++ text_of (map cut_line (map plain_zone l.cuts))

@@ -11,4 +11,6 @@ returns c =
     let o = c.args.out.now.items in
     let p = c.push_count.new.out.items in
     let q = c.push_count-2.new.out.items in
-    added o q c.push_count-3.new.out.items (a ∷ b ∷ []) d (added o p q (a ∷ []) b (begun o p a c.in_ok-push_count.ensures) c.in_ok-push_count-2.ensures) c.in_ok-push_count-3.ensures
+    added o q c.push_count-3.new.out.items (a ∷ b ∷ []) d
+    (added o p q (a ∷ []) b (begun o p a c.in_ok-push_count.ensures) c.in_ok-push_count-2.ensures)
+    c.in_ok-push_count-3.ensures

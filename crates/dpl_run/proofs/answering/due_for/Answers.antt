@@ -4,7 +4,10 @@ use Rattle.dpl_run.specs.Inputs.{opens}
 use Rattle.dpl_run.specs.Answer.{DueOf}
 use Rattle.dpl_run.proofs.EndLemmas.{worked_bare, worked_limit, worked_no_fault, worked_status}
 use Rattle.dpl_run.proofs.DueLemmas.{all_end}
-use Rattle.dpl_run.proofs.ReadingLemmas.{carried_due, layout_due, layout_fault, layout_limit, layout_no_limit, layout_no_script, layout_bare, layout_status, untouched, second_due, second_fault, second_limit, second_script, second_no_limit, second_bare, second_status}
+use Rattle.dpl_run.proofs.ReadingLemmas.{carried_due, layout_due, layout_fault, layout_limit, layout_no_limit}
+use Rattle.dpl_run.proofs.ReadingLemmas.{layout_no_script, layout_bare, layout_status, untouched, second_due}
+use Rattle.dpl_run.proofs.ReadingLemmas.{second_fault, second_limit, second_script, second_no_limit, second_bare}
+use Rattle.dpl_run.proofs.ReadingLemmas.{second_status}
 use Rattle.dpl_run.proofs.SteadyLemmas.{steady_ok, steady_stop}
 use Rattle.dpl_run.proofs.answering.due_for.Goals as goal
 
@@ -12,61 +15,90 @@ use Rattle.dpl_run.proofs.answering.due_for.Goals as goal
 
 pub returns-in-Err-clause-due : goal.returns-in-Err-clause-due
 returns-in-Err-clause-due g c = λ text other told.
-    layout_due (plain_command c.args.command.now) (g.S.Source.seen c.args.layout.now) (g.S.Source.seen c.layout_for.new.layout) text other c.in-Err.status _ _ (rw c.reads_layout.ensures at c.in-Err.ensures.stops) c.bare.ensures.status c.bare.ensures.output told.0
+    layout_due (plain_command c.args.command.now) (g.S.Source.seen c.args.layout.now)
+    (g.S.Source.seen c.layout_for.new.layout) text other c.in-Err.status _ _
+    (rw c.reads_layout.ensures at c.in-Err.ensures.stops) c.bare.ensures.status c.bare.ensures.output told.0
 
 pub returns-in-Err-clause-read : goal.returns-in-Err-clause-read
 returns-in-Err-clause-read g c =
-    layout_fault (plain_command c.args.command.now) (g.S.Source.seen c.args.layout.now) (g.S.Source.seen c.layout_for.new.layout) _ _ c.in-Err.status _ (rw c.reads_layout.ensures at c.in-Err.ensures.stops) c.bare.ensures.status
+    layout_fault (plain_command c.args.command.now) (g.S.Source.seen c.args.layout.now)
+    (g.S.Source.seen c.layout_for.new.layout) _ _ c.in-Err.status _
+    (rw c.reads_layout.ensures at c.in-Err.ensures.stops) c.bare.ensures.status
 
 pub returns-in-Err-clause-limit : goal.returns-in-Err-clause-limit
 returns-in-Err-clause-limit g c = λ count.
-    layout_limit (plain_command c.args.command.now) (g.S.Source.seen c.args.layout.now) (g.S.Source.seen c.layout_for.new.layout) c.in-Err.status _ count (rw c.reads_layout.ensures at c.in-Err.ensures.stops) c.bare.ensures.status
+    layout_limit (plain_command c.args.command.now) (g.S.Source.seen c.args.layout.now)
+    (g.S.Source.seen c.layout_for.new.layout) c.in-Err.status _ count
+    (rw c.reads_layout.ensures at c.in-Err.ensures.stops) c.bare.ensures.status
 
 pub returns-in-Err-clause-report_limit : goal.returns-in-Err-clause-report_limit
 returns-in-Err-clause-report_limit g c = λ count.
-    layout_no_limit (plain_command c.args.command.now) (g.S.Source.seen c.args.layout.now) (g.S.Source.seen c.layout_for.new.layout) c.in-Err.status _ count _ (rw c.reads_layout.ensures at c.in-Err.ensures.stops) c.bare.ensures.status
+    layout_no_limit (plain_command c.args.command.now) (g.S.Source.seen c.args.layout.now)
+    (g.S.Source.seen c.layout_for.new.layout) c.in-Err.status _ count _
+    (rw c.reads_layout.ensures at c.in-Err.ensures.stops) c.bare.ensures.status
 
 pub returns-in-Err-clause-script_limit : goal.returns-in-Err-clause-script_limit
 returns-in-Err-clause-script_limit g c = λ count.
-    layout_no_script (plain_command c.args.command.now) (g.S.Source.seen c.args.layout.now) (g.S.Source.seen c.layout_for.new.layout) c.in-Err.status _ count _ (rw c.reads_layout.ensures at c.in-Err.ensures.stops) c.bare.ensures.status
+    layout_no_script (plain_command c.args.command.now) (g.S.Source.seen c.args.layout.now)
+    (g.S.Source.seen c.layout_for.new.layout) c.in-Err.status _ count _
+    (rw c.reads_layout.ensures at c.in-Err.ensures.stops) c.bare.ensures.status
 
 pub returns-in-Err-clause-touched : goal.returns-in-Err-clause-touched
-returns-in-Err-clause-touched g c = (rw c.reads_layout.ensures at c.layout_for.ensures.touched, untouched (opens (plain_command c.args.command.now)) (g.F.Source.seen c.args.second.now))
+returns-in-Err-clause-touched g c = (
+  rw c.reads_layout.ensures at c.layout_for.ensures.touched,
+  untouched (opens (plain_command c.args.command.now)) (g.F.Source.seen c.args.second.now),
+)
 
 pub returns-in-Err-clause-steady : goal.returns-in-Err-clause-steady
 returns-in-Err-clause-steady g c = λ n m. (steady_stop _ _ c.in-Err.status _ c.in-Err.is c.bare.ensures.status c.layout_for.ensures.steady n m, refl)
 
 pub returns-in-Err-clause-bare : goal.returns-in-Err-clause-bare
 returns-in-Err-clause-bare g c =
-    layout_bare (plain_command c.args.command.now) (g.S.Source.seen c.args.layout.now) (g.S.Source.seen c.layout_for.new.layout) c.in-Err.status _ _ (rw c.reads_layout.ensures at c.in-Err.ensures.stops) c.bare.ensures.status c.bare.ensures.output
+    layout_bare (plain_command c.args.command.now) (g.S.Source.seen c.args.layout.now)
+    (g.S.Source.seen c.layout_for.new.layout) c.in-Err.status _ _
+    (rw c.reads_layout.ensures at c.in-Err.ensures.stops) c.bare.ensures.status c.bare.ensures.output
 
 pub returns-in-Err-clause-of_words : goal.returns-in-Err-clause-of_words
 returns-in-Err-clause-of_words g c =
-    layout_status (plain_command c.args.command.now) (g.S.Source.seen c.args.layout.now) (g.S.Source.seen c.layout_for.new.layout) c.in-Err.status _ (rw c.reads_layout.ensures at c.in-Err.ensures.stops) c.bare.ensures.status
+    layout_status (plain_command c.args.command.now) (g.S.Source.seen c.args.layout.now)
+    (g.S.Source.seen c.layout_for.new.layout) c.in-Err.status _
+    (rw c.reads_layout.ensures at c.in-Err.ensures.stops) c.bare.ensures.status
 
 -- ---- the second text was not read whole
 
 pub returns-clause-due : goal.returns-clause-due
 returns-clause-due g c = λ text other told.
-    second_due (plain_command c.args.command.now) (g.S.Source.seen c.args.layout.now) (g.S.Source.seen c.layout_for.new.layout) (g.F.Source.seen c.args.second.now) (g.F.Source.seen c.second_for.new.second) (g.F.Shelf.texts c.args.second.now) c.in-Ok.read.text.items text other
-    c.in-Err-second_for.status _ _ (rw c.reads_layout.ensures at c.in-Ok.ensures.whole) c.in-Err-second_for.ensures.stops c.bare-in-Err-second_for.ensures.status c.bare-in-Err-second_for.ensures.output told
+    second_due (plain_command c.args.command.now) (g.S.Source.seen c.args.layout.now)
+    (g.S.Source.seen c.layout_for.new.layout) (g.F.Source.seen c.args.second.now)
+    (g.F.Source.seen c.second_for.new.second) (g.F.Shelf.texts c.args.second.now) c.in-Ok.read.text.items text other
+    c.in-Err-second_for.status _ _ (rw c.reads_layout.ensures at c.in-Ok.ensures.whole)
+    c.in-Err-second_for.ensures.stops c.bare-in-Err-second_for.ensures.status
+    c.bare-in-Err-second_for.ensures.output told
 
 pub returns-clause-read : goal.returns-clause-read
 returns-clause-read g c =
-    second_fault (plain_command c.args.command.now) (g.S.Source.seen c.args.layout.now) (g.S.Source.seen c.layout_for.new.layout) (g.F.Source.seen c.args.second.now) (g.F.Source.seen c.second_for.new.second) (g.F.Shelf.texts c.args.second.now) c.in-Err-second_for.status _
+    second_fault (plain_command c.args.command.now) (g.S.Source.seen c.args.layout.now)
+    (g.S.Source.seen c.layout_for.new.layout) (g.F.Source.seen c.args.second.now)
+    (g.F.Source.seen c.second_for.new.second) (g.F.Shelf.texts c.args.second.now) c.in-Err-second_for.status _
     c.in-Err-second_for.ensures.stops c.bare-in-Err-second_for.ensures.status
 
 pub returns-clause-limit : goal.returns-clause-limit
 returns-clause-limit g c = λ count.
-    second_no_limit (plain_command c.args.command.now) (g.F.Source.seen c.args.second.now) (g.F.Source.seen c.second_for.new.second) (g.F.Shelf.texts c.args.second.now) c.in-Err-second_for.status _ count _ c.in-Err-second_for.ensures.stops c.bare-in-Err-second_for.ensures.status
+    second_no_limit (plain_command c.args.command.now) (g.F.Source.seen c.args.second.now)
+    (g.F.Source.seen c.second_for.new.second) (g.F.Shelf.texts c.args.second.now) c.in-Err-second_for.status _ count
+    _ c.in-Err-second_for.ensures.stops c.bare-in-Err-second_for.ensures.status
 
 pub returns-clause-report_limit : goal.returns-clause-report_limit
 returns-clause-report_limit g c = λ count.
-    second_limit (plain_command c.args.command.now) (g.F.Source.seen c.args.second.now) (g.F.Source.seen c.second_for.new.second) (g.F.Shelf.texts c.args.second.now) c.in-Err-second_for.status _ count c.in-Err-second_for.ensures.stops c.bare-in-Err-second_for.ensures.status
+    second_limit (plain_command c.args.command.now) (g.F.Source.seen c.args.second.now)
+    (g.F.Source.seen c.second_for.new.second) (g.F.Shelf.texts c.args.second.now) c.in-Err-second_for.status _ count
+    c.in-Err-second_for.ensures.stops c.bare-in-Err-second_for.ensures.status
 
 pub returns-clause-script_limit : goal.returns-clause-script_limit
 returns-clause-script_limit g c = λ count.
-    second_script (plain_command c.args.command.now) (g.F.Source.seen c.args.second.now) (g.F.Source.seen c.second_for.new.second) (g.F.Shelf.texts c.args.second.now) c.in-Err-second_for.status _ count c.in-Err-second_for.ensures.stops c.bare-in-Err-second_for.ensures.status
+    second_script (plain_command c.args.command.now) (g.F.Source.seen c.args.second.now)
+    (g.F.Source.seen c.second_for.new.second) (g.F.Shelf.texts c.args.second.now) c.in-Err-second_for.status _ count
+    c.in-Err-second_for.ensures.stops c.bare-in-Err-second_for.ensures.status
 
 pub returns-clause-touched : goal.returns-clause-touched
 returns-clause-touched g c = (rw c.reads_layout.ensures at c.layout_for.ensures.touched, c.second_for.ensures.touched)
@@ -79,42 +111,67 @@ returns-clause-steady g c = λ n m. (
 
 pub returns-clause-bare : goal.returns-clause-bare
 returns-clause-bare g c =
-    second_bare (plain_command c.args.command.now) (g.F.Source.seen c.args.second.now) (g.F.Source.seen c.second_for.new.second) (g.F.Shelf.texts c.args.second.now) c.in-Err-second_for.status _ _ c.in-Err-second_for.ensures.stops c.bare-in-Err-second_for.ensures.status c.bare-in-Err-second_for.ensures.output
+    second_bare (plain_command c.args.command.now) (g.F.Source.seen c.args.second.now)
+    (g.F.Source.seen c.second_for.new.second) (g.F.Shelf.texts c.args.second.now) c.in-Err-second_for.status _ _
+    c.in-Err-second_for.ensures.stops c.bare-in-Err-second_for.ensures.status
+    c.bare-in-Err-second_for.ensures.output
 
 pub returns-clause-of_words : goal.returns-clause-of_words
 returns-clause-of_words g c =
-    second_status (plain_command c.args.command.now) (g.F.Source.seen c.args.second.now) (g.F.Source.seen c.second_for.new.second) (g.F.Shelf.texts c.args.second.now) c.in-Err-second_for.status _ c.in-Err-second_for.ensures.stops c.bare-in-Err-second_for.ensures.status
+    second_status (plain_command c.args.command.now) (g.F.Source.seen c.args.second.now)
+    (g.F.Source.seen c.second_for.new.second) (g.F.Shelf.texts c.args.second.now) c.in-Err-second_for.status _
+    c.in-Err-second_for.ensures.stops c.bare-in-Err-second_for.ensures.status
 
 -- ---- the texts were read whole
 
 pub returns-in-Ok-second_for-clause-due : goal.returns-in-Ok-second_for-clause-due
 returns-in-Ok-second_for-clause-due g c = λ text other told.
-    carried_due (plain_command c.args.command.now) (g.S.Source.seen c.args.layout.now) (g.S.Source.seen c.layout_for.new.layout) (g.F.Shelf.texts c.args.second.now) c.in-Ok.read.text.items c.in-Ok-second_for.text.items text other _ _
-    (rw c.reads_layout.ensures at c.in-Ok.ensures.whole) c.in-Ok-second_for.ensures.read c.in-Ok-second_for.ensures.small (rw (c.as_slice.ensures.value, c.as_slice-in-Ok-second_for.ensures.value) at c.carry_out.ensures) told
+    carried_due (plain_command c.args.command.now) (g.S.Source.seen c.args.layout.now)
+    (g.S.Source.seen c.layout_for.new.layout) (g.F.Shelf.texts c.args.second.now) c.in-Ok.read.text.items
+    c.in-Ok-second_for.text.items text other _ _
+    (rw c.reads_layout.ensures at c.in-Ok.ensures.whole) c.in-Ok-second_for.ensures.read
+    c.in-Ok-second_for.ensures.small (rw (c.as_slice.ensures.value, c.as_slice-in-Ok-second_for.ensures.value) at
+    c.carry_out.ensures) told
 
 pub returns-in-Ok-second_for-clause-read : goal.returns-in-Ok-second_for-clause-read
 returns-in-Ok-second_for-clause-read g c = λ e.
-    absurd (worked_no_fault (plain_command c.args.command.now) (DueOf (plain_command c.args.command.now) c.as_slice.result.now c.as_slice-in-Ok-second_for.result.now) (all_end (plain_command c.args.command.now) c.as_slice.result.now c.as_slice-in-Ok-second_for.result.now) _ _ c.carry_out.ensures e)
+    absurd (worked_no_fault (plain_command c.args.command.now)
+    (DueOf (plain_command c.args.command.now) c.as_slice.result.now c.as_slice-in-Ok-second_for.result.now)
+    (all_end (plain_command c.args.command.now) c.as_slice.result.now c.as_slice-in-Ok-second_for.result.now) _ _
+    c.carry_out.ensures e)
 
 pub returns-in-Ok-second_for-clause-limit : goal.returns-in-Ok-second_for-clause-limit
 returns-in-Ok-second_for-clause-limit g c = λ count e.
-    let k = worked_limit (plain_command c.args.command.now) (DueOf (plain_command c.args.command.now) c.as_slice.result.now c.as_slice-in-Ok-second_for.result.now) (all_end (plain_command c.args.command.now) c.as_slice.result.now c.as_slice-in-Ok-second_for.result.now) _ _ 1 count c.carry_out.ensures e in
+    let k = worked_limit (plain_command c.args.command.now)
+    (DueOf (plain_command c.args.command.now) c.as_slice.result.now c.as_slice-in-Ok-second_for.result.now)
+    (all_end (plain_command c.args.command.now) c.as_slice.result.now c.as_slice-in-Ok-second_for.result.now) _ _ 1
+    count c.carry_out.ensures e in
     absurd (omega (arith, k.0))
 
 pub returns-in-Ok-second_for-clause-report_limit : goal.returns-in-Ok-second_for-clause-report_limit
 returns-in-Ok-second_for-clause-report_limit g c = λ count e.
-    let k = worked_limit (plain_command c.args.command.now) (DueOf (plain_command c.args.command.now) c.as_slice.result.now c.as_slice-in-Ok-second_for.result.now) (all_end (plain_command c.args.command.now) c.as_slice.result.now c.as_slice-in-Ok-second_for.result.now) _ _ 9 count c.carry_out.ensures e in
+    let k = worked_limit (plain_command c.args.command.now)
+    (DueOf (plain_command c.args.command.now) c.as_slice.result.now c.as_slice-in-Ok-second_for.result.now)
+    (all_end (plain_command c.args.command.now) c.as_slice.result.now c.as_slice-in-Ok-second_for.result.now) _ _ 9
+    count c.carry_out.ensures e in
     absurd (omega (arith, k.1))
 
 pub returns-in-Ok-second_for-clause-script_limit : goal.returns-in-Ok-second_for-clause-script_limit
 returns-in-Ok-second_for-clause-script_limit g c = λ count e.
-    let k = worked_limit (plain_command c.args.command.now) (DueOf (plain_command c.args.command.now) c.as_slice.result.now c.as_slice-in-Ok-second_for.result.now) (all_end (plain_command c.args.command.now) c.as_slice.result.now c.as_slice-in-Ok-second_for.result.now) _ _ 10 count c.carry_out.ensures e in
+    let k = worked_limit (plain_command c.args.command.now)
+    (DueOf (plain_command c.args.command.now) c.as_slice.result.now c.as_slice-in-Ok-second_for.result.now)
+    (all_end (plain_command c.args.command.now) c.as_slice.result.now c.as_slice-in-Ok-second_for.result.now) _ _ 10
+    count c.carry_out.ensures e in
     absurd (omega (arith, k.1))
 
 pub returns-in-Ok-second_for-clause-bare : goal.returns-in-Ok-second_for-clause-bare
 returns-in-Ok-second_for-clause-bare g c =
-    worked_bare (plain_command c.args.command.now) (DueOf (plain_command c.args.command.now) c.as_slice.result.now c.as_slice-in-Ok-second_for.result.now) (all_end (plain_command c.args.command.now) c.as_slice.result.now c.as_slice-in-Ok-second_for.result.now) _ _ c.carry_out.ensures
+    worked_bare (plain_command c.args.command.now) (DueOf (plain_command c.args.command.now) c.as_slice.result.now
+    c.as_slice-in-Ok-second_for.result.now) (all_end (plain_command c.args.command.now) c.as_slice.result.now
+    c.as_slice-in-Ok-second_for.result.now) _ _ c.carry_out.ensures
 
 pub returns-in-Ok-second_for-clause-of_words : goal.returns-in-Ok-second_for-clause-of_words
 returns-in-Ok-second_for-clause-of_words g c =
-    worked_status (plain_command c.args.command.now) (DueOf (plain_command c.args.command.now) c.as_slice.result.now c.as_slice-in-Ok-second_for.result.now) (all_end (plain_command c.args.command.now) c.as_slice.result.now c.as_slice-in-Ok-second_for.result.now) _ _ c.carry_out.ensures
+    worked_status (plain_command c.args.command.now) (DueOf (plain_command c.args.command.now) c.as_slice.result.now
+    c.as_slice-in-Ok-second_for.result.now) (all_end (plain_command c.args.command.now) c.as_slice.result.now
+    c.as_slice-in-Ok-second_for.result.now) _ _ c.carry_out.ensures

@@ -10,29 +10,41 @@ use Rattle.dpl_run.proofs.running.attempt.Goals as goal
 
 pub returns-in-Err-Usage-clause-answer : goal.returns-in-Err-Usage-clause-answer
 returns-in-Err-Usage-clause-answer g c = λ text report told.
-    subst (λ z. Answers (IsDue (map string_bytes c.args.words.now) text report) (g.O.Sink.taken c.args.out.now) (g.O.Sink.taken c.args.out.now) (Usage z)) (sym c.in-Err-Usage.kind-is)
-    (usage_answers (map string_bytes c.args.words.now) c.in-Err-Usage.kind (g.O.Sink.taken c.args.out.now) text report (rw c.in-Err-Usage.field-0-is at c.in-Err-Usage.ensures.answer))
+    subst (λ z. Answers (IsDue (map string_bytes c.args.words.now) text report) (g.O.Sink.taken c.args.out.now)
+    (g.O.Sink.taken c.args.out.now) (Usage z)) (sym c.in-Err-Usage.kind-is)
+    (usage_answers (map string_bytes c.args.words.now) c.in-Err-Usage.kind (g.O.Sink.taken c.args.out.now) text report
+    (rw c.in-Err-Usage.field-0-is at c.in-Err-Usage.ensures.answer))
 
 pub returns-clause-answer : goal.returns-clause-answer
 returns-clause-answer g c =
-    attempt_answers (map string_bytes c.args.words.now) (Ok (plain_command c.in-Ok.command)) (g.S.Source.seen c.args.layout.now).left (g.F.Shelf.texts c.args.second.now) (g.O.Sink.taken c.args.out.now) (g.O.Sink.taken c.tell.new.out) (g.O.Sink.faults c.args.out.now) (g.O.Sink.faults c.tell.new.out)
+    attempt_answers (map string_bytes c.args.words.now) (Ok (plain_command c.in-Ok.command))
+    (g.S.Source.seen c.args.layout.now).left (g.F.Shelf.texts c.args.second.now) (g.O.Sink.taken c.args.out.now)
+    (g.O.Sink.taken c.tell.new.out) (g.O.Sink.faults c.args.out.now) (g.O.Sink.faults c.tell.new.out)
     c.due_for-due.result.status c.due_for-due.result.output.items c.tell.result c.in-Ok.ensures.answer c.due_for-due.ensures.due c.tell.ensures
 
 pub returns-clause-quiet : goal.returns-clause-quiet
 returns-clause-quiet g c =
-    told_quiet c.due_for-due.result.status c.due_for-due.result.output.items (g.O.Sink.taken c.args.out.now) (g.O.Sink.taken c.tell.new.out) (g.O.Sink.faults c.args.out.now) (g.O.Sink.faults c.tell.new.out) c.tell.result c.due_for-due.ensures.bare c.tell.ensures
+    told_quiet c.due_for-due.result.status c.due_for-due.result.output.items (g.O.Sink.taken c.args.out.now)
+    (g.O.Sink.taken c.tell.new.out) (g.O.Sink.faults c.args.out.now) (g.O.Sink.faults c.tell.new.out) c.tell.result
+    c.due_for-due.ensures.bare c.tell.ensures
 
 pub returns-clause-write : goal.returns-clause-write
 returns-clause-write g c =
-    told_write c.due_for-due.result.status c.due_for-due.result.output.items (g.O.Sink.taken c.args.out.now) (g.O.Sink.taken c.tell.new.out) (g.O.Sink.faults c.args.out.now) (g.O.Sink.faults c.tell.new.out) c.tell.result c.due_for-due.ensures.bare c.tell.ensures
+    told_write c.due_for-due.result.status c.due_for-due.result.output.items (g.O.Sink.taken c.args.out.now)
+    (g.O.Sink.taken c.tell.new.out) (g.O.Sink.faults c.args.out.now) (g.O.Sink.faults c.tell.new.out) c.tell.result
+    c.due_for-due.ensures.bare c.tell.ensures
 
 pub returns-clause-steady : goal.returns-clause-steady
 returns-clause-steady g c =
-    told_steady _ _ c.due_for-due.result.status c.due_for-due.result.output.items (g.O.Sink.taken c.args.out.now) (g.O.Sink.taken c.tell.new.out) (g.O.Sink.faults c.args.out.now) (g.O.Sink.faults c.tell.new.out) c.tell.result c.tell.ensures c.due_for-due.ensures.steady
+    told_steady _ _ c.due_for-due.result.status c.due_for-due.result.output.items (g.O.Sink.taken c.args.out.now)
+    (g.O.Sink.taken c.tell.new.out) (g.O.Sink.faults c.args.out.now) (g.O.Sink.faults c.tell.new.out) c.tell.result
+    c.tell.ensures c.due_for-due.ensures.steady
 
 pub returns-clause-of_words : goal.returns-clause-of_words
 returns-clause-of_words g c =
-    told_status (map string_bytes c.args.words.now) (plain_command c.in-Ok.command) c.due_for-due.result.status c.due_for-due.result.output.items (g.O.Sink.taken c.args.out.now) (g.O.Sink.taken c.tell.new.out) (g.O.Sink.faults c.args.out.now) (g.O.Sink.faults c.tell.new.out) c.tell.result
+    told_status (map string_bytes c.args.words.now) (plain_command c.in-Ok.command) c.due_for-due.result.status
+    c.due_for-due.result.output.items (g.O.Sink.taken c.args.out.now) (g.O.Sink.taken c.tell.new.out)
+    (g.O.Sink.faults c.args.out.now) (g.O.Sink.faults c.tell.new.out) c.tell.result
     c.in-Ok.ensures.answer c.due_for-due.ensures.of_words c.tell.ensures
 
 pub returns-in-Err-Usage-clause-of_words : goal.returns-in-Err-Usage-clause-of_words

@@ -6,17 +6,25 @@ use Rattle.dpl_run.proofs.running.run.Goals as goal
 
 pub returns-clause-comes : goal.returns-clause-comes
 returns-clause-comes g c =
-    all_comes (map string_bytes c.args.words.now) (g.S.Source.seen c.args.layout.now).left (g.F.Shelf.texts c.args.second.now) (g.O.Sink.taken c.args.out.now) (g.O.Sink.taken c.attempt-status.new.out) c.attempt-status.result c.attempt-status.ensures.answer
+    all_comes (map string_bytes c.args.words.now) (g.S.Source.seen c.args.layout.now).left
+    (g.F.Shelf.texts c.args.second.now) (g.O.Sink.taken c.args.out.now) (g.O.Sink.taken c.attempt-status.new.out)
+    c.attempt-status.result c.attempt-status.ensures.answer
 
 pub returns-clause-least : goal.returns-clause-least
 returns-clause-least g c =
-    writes_least (map string_bytes c.args.words.now) (g.S.Source.seen c.args.layout.now).left (g.F.Shelf.texts c.args.second.now) (g.O.Sink.taken c.args.out.now) (g.O.Sink.taken c.attempt-status.new.out) c.attempt-status.result c.attempt-status.ensures.answer
+    writes_least (map string_bytes c.args.words.now) (g.S.Source.seen c.args.layout.now).left
+    (g.F.Shelf.texts c.args.second.now) (g.O.Sink.taken c.args.out.now) (g.O.Sink.taken c.attempt-status.new.out)
+    c.attempt-status.result c.attempt-status.ensures.answer
 
 pub returns-clause-bound : goal.returns-clause-bound
 returns-clause-bound g c =
-    writes_bound (map string_bytes c.args.words.now) (g.S.Source.seen c.args.layout.now).left (g.F.Shelf.texts c.args.second.now) (g.O.Sink.taken c.args.out.now) (g.O.Sink.taken c.attempt-status.new.out) c.attempt-status.result c.attempt-status.ensures.answer
+    writes_bound (map string_bytes c.args.words.now) (g.S.Source.seen c.args.layout.now).left
+    (g.F.Shelf.texts c.args.second.now) (g.O.Sink.taken c.args.out.now) (g.O.Sink.taken c.attempt-status.new.out)
+    c.attempt-status.result c.attempt-status.ensures.answer
 
 pub returns-clause-masks : goal.returns-clause-masks
 returns-clause-masks g c =
-    check_masks (map string_bytes c.args.words.now) (g.S.Source.seen c.args.layout.now).left (g.F.Shelf.texts c.args.second.now) (g.O.Sink.taken c.args.out.now) (g.O.Sink.taken c.attempt-status.new.out) c.attempt-status.result c.attempt-status.ensures.answer
+    check_masks (map string_bytes c.args.words.now) (g.S.Source.seen c.args.layout.now).left
+    (g.F.Shelf.texts c.args.second.now) (g.O.Sink.taken c.args.out.now) (g.O.Sink.taken c.attempt-status.new.out)
+    c.attempt-status.result c.attempt-status.ensures.answer
     c.attempt-status.ensures.ranges

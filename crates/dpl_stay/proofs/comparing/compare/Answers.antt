@@ -10,14 +10,20 @@ pub of_whole_components-requires-clause-long : goal.of_whole_components-requires
 of_whole_components-requires-clause-long c =
     let e = rw (c.as_slice-3.ensures.value, c.as_slice-4.ensures.value, c.as_slice-5.ensures.value, c.as_slice-6.ensures.value) at c.in_ok-fine.ensures in
     rw (c.as_slice-7.ensures.value, c.as_slice-8.ensures.value) (
-    c.in_ok-number.ensures.components.long ∙ c.requires.nodes ∙ sym c.in_ok-there.ensures.long ∙ sym (fine_long c.args.net.now c.args.old.now c.in_ok-there.there.items c.in_ok-back.back.items c.in_ok-twins_there.twins_there.items c.in_ok-twins_back.twins_back.items) ∙ sym (ap length e))
+    c.in_ok-number.ensures.components.long ∙ c.requires.nodes ∙ sym c.in_ok-there.ensures.long ∙
+    sym (fine_long c.args.net.now c.args.old.now c.in_ok-there.there.items c.in_ok-back.back.items
+    c.in_ok-twins_there.twins_there.items c.in_ok-twins_back.twins_back.items) ∙ sym (ap length e))
 
-taken_here : (c : goal.After-drop-back-2) → AreTaken c.args.rects.now c.args.old_rects.now c.args.net.now c.args.old.now c.in_ok-there.there.items c.in_ok-back.back.items c.in_ok-twins_there.twins_there.items c.in_ok-twins_back.twins_back.items
+taken_here : (c : goal.After-drop-back-2) → AreTaken c.args.rects.now c.args.old_rects.now c.args.net.now c.args.old.now
+    c.in_ok-there.there.items c.in_ok-back.back.items c.in_ok-twins_there.twins_there.items
+    c.in_ok-twins_back.twins_back.items
     c.in_ok-fine.fine.items c.in_ok-number.number.items c.in_ok-number.count c.in_ok-taken.taken.items
 taken_here c =
     let fine_is = rw (c.as_slice-3.ensures.value, c.as_slice-4.ensures.value, c.as_slice-5.ensures.value, c.as_slice-6.ensures.value) at c.in_ok-fine.ensures in
     let size : length c.in_ok-fine.fine.items ≡ c.args.net.now.graph.nodes = ap length fine_is
-    ∙ fine_long c.args.net.now c.args.old.now c.in_ok-there.there.items c.in_ok-back.back.items c.in_ok-twins_there.twins_there.items c.in_ok-twins_back.twins_back.items ∙ c.in_ok-there.ensures.long ∙ sym c.requires.nodes in
+    ∙ fine_long c.args.net.now c.args.old.now c.in_ok-there.there.items c.in_ok-back.back.items
+    c.in_ok-twins_there.twins_there.items c.in_ok-twins_back.twins_back.items ∙ c.in_ok-there.ensures.long ∙
+    sym c.requires.nodes in
     record {
       matched = record {
         nets = record {

@@ -13,14 +13,18 @@ use Rattle.dpl_stay.proofs.finding.node_at.Goals as goal
 pub returns-then-place-rects : goal.returns-then-place-rects
 returns-then-place-rects c =
     let r = corners_of c.args.rect.now in
-    let point = IsPartitionPoint-from_clause (λ (s : Rect). rect_before (corners_of s) r) _ _ c.partition_point-place.ensures.partitioned (parted_rects c.args.rects.now r c.requires.order) (λ a q f k. search rules) in
+    let point = IsPartitionPoint-from_clause (λ (s : Rect). rect_before (corners_of s) r) _ _
+    c.partition_point-place.ensures.partitioned (parted_rects c.args.rects.now r c.requires.order)
+    (λ a q f k. search rules) in
     λ w l e. let same = lone_node c.args.rects.now r c.partition_point-place.result w c.requires.order point l e in
     let past = c.if-place-rects.true in omega (arith, same, past, l)
 
 pub returns-then-not-are_equal : goal.returns-then-not-are_equal
 returns-then-not-are_equal c =
     let r = corners_of c.args.rect.now in
-    let point = IsPartitionPoint-from_clause (λ (s : Rect). rect_before (corners_of s) r) _ _ c.partition_point-place.ensures.partitioned (parted_rects c.args.rects.now r c.requires.order) (λ a q f k. search rules) in
+    let point = IsPartitionPoint-from_clause (λ (s : Rect). rect_before (corners_of s) r) _ _
+    c.partition_point-place.ensures.partitioned (parted_rects c.args.rects.now r c.requires.order)
+    (λ a q f k. search rules) in
     let far : c.are_equal.result ≡ false = search rules in
     λ w l e. let same = lone_node c.args.rects.now r c.partition_point-place.result w c.requires.order point l e in
     let here : corners_of c.index-rects-place.result ≡ r =

@@ -14,7 +14,8 @@ returns-then-as_slice-found c = λ d l h.
     let f = rw c.as_slice.ensures at c.in-Some-edge_with.ensures in
     let k = alike_key c.args.partners.now c.args.other.now c.args.edge.now c.args.ports.now d _ _ h c.in-Some.is c.in-Some-partners.is in
     let same : d ≡ c.in-Some-edge_with.found = one_edge c.args.other.now.graph.edges c.requires.order d _ l f.0 (k ∙ sym c.key_for-key.ensures ∙ sym f.1) in
-    let weight : (edge_at c.args.other.now.graph c.in-Some-edge_with.found).weight ≡ c.args.edge.now.weight = ap (λ i. (edge_at c.args.other.now.graph i).weight) (sym same) ∙ h.weight in
+    let weight : (edge_at c.args.other.now.graph c.in-Some-edge_with.found).weight ≡ c.args.edge.now.weight =
+    ap (λ i. (edge_at c.args.other.now.graph i).weight) (sym same) ∙ h.weight in
     c.if-as_slice-found.true (ap (λ es. (slice_index_or es c.in-Some-edge_with.found c.index-as_slice-found.result).weight) c.as_slice-2.ensures
     ∙ ap (λ (e : Edge). e.weight) (get_or_default c.args.other.now.graph.edges c.in-Some-edge_with.found c.index-as_slice-found.result no_edge f.0) ∙ weight)
 

@@ -5,4 +5,5 @@ use Rattle.dpl_stay.specs.Pairs.{at, IsTwinBy}
 use Rattle.dpl_stay.proofs.pairing.twins.Given as goal
 
 abbrev pub invariant-loop-e : goal.invariant-loop-e
-invariant-loop-e l = (length l.found.items ≡ l.e) × ((e : ℕ) → e < l.e → IsTwinBy l.partners l.other (edge_at l.net.graph e) (ports_at l.net e) (at l.found.items e))
+invariant-loop-e l = (length l.found.items ≡ l.e) × ((e : ℕ) → e < l.e →
+    IsTwinBy l.partners l.other (edge_at l.net.graph e) (ports_at l.net e) (at l.found.items e))

@@ -16,8 +16,10 @@ total-bound-requires c =
 
 pub returns : goal.returns
 returns c =
-    let s = solution_sum c.args.net.now (map solved_part c.args.parts.now) c.requires.share c.requires.solved c.in_ok-colours.colours.items c.in_ok-colours.ensures.long c.in_ok-colours.ensures.agree in
-    restated c.args.net.now c.in_ok-colours.colours.items _ c.cost-cost.result _ c.new.result _ c.in_ok-drawing.drawing.excess _ c.new-2.result _ c.total-bound.result s
+    let s = solution_sum c.args.net.now (map solved_part c.args.parts.now) c.requires.share c.requires.solved
+    c.in_ok-colours.colours.items c.in_ok-colours.ensures.long c.in_ok-colours.ensures.agree in
+    restated c.args.net.now c.in_ok-colours.colours.items _ c.cost-cost.result _ c.new.result _
+    c.in_ok-drawing.drawing.excess _ c.new-2.result _ c.total-bound.result s
     (c.cost-cost.ensures ∙ ap (cost_of c.args.net.now.graph) c.as_slice.ensures.value)
     (c.new.ensures ∙ c.in_ok-drawing.ensures.aside)
     c.in_ok-drawing.ensures.excess

@@ -18,7 +18,10 @@ loop-i-preserved c =
     let n = c.requires.nodes in
     let many = length-map parts solved_part in
     let low = c.loop-i-test.true in
-    agree_more c.args.net.now (map solved_part parts) c.requires.share c.loop-i.colours c.lay_part.new.colours c.loop-i.i (omega (arith, size, n)) (omega (arith, low, many)) c.loop-i.invariant (solved_part c.index-parts-i.result) (solved_at parts c.loop-i.i c.index-parts-i.result low c.index-parts-i.is) c.lay_part.ensures
+    agree_more c.args.net.now (map solved_part parts) c.requires.share c.loop-i.colours c.lay_part.new.colours
+    c.loop-i.i (omega (arith, size, n)) (omega (arith, low, many)) c.loop-i.invariant
+    (solved_part c.index-parts-i.result) (solved_at parts c.loop-i.i c.index-parts-i.result low c.index-parts-i.is)
+    c.lay_part.ensures
 
 pub returns : goal.returns
 returns c =

@@ -10,4 +10,5 @@ returns-in-Ok-clause-solved c = as_solved (solved_part (record { part = c.args.p
 pub returns-in-Err-OddFaces-clause-refused : goal.returns-in-Err-OddFaces-clause-refused
 returns-in-Err-OddFaces-clause-refused c = λ n e.
     let same : c.in-Err-OddFaces.count ≡ n = cc in
-    subst (IsRefused c.args.part.net) same (c.solve.ensures.refused c.in-Err-OddFaces.count (c.in-Err-OddFaces.is ∙ ap (λ z. Err z) c.in-Err-OddFaces.field-0-is))
+    subst (IsRefused c.args.part.net) same (c.solve.ensures.refused c.in-Err-OddFaces.count
+    (c.in-Err-OddFaces.is ∙ ap (λ z. Err z) c.in-Err-OddFaces.field-0-is))

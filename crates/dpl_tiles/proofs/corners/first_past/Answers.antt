@@ -7,11 +7,13 @@ use Rattle.dpl_tiles.proofs.corners.first_past.Goals as goal
 pub returns-clause-above : goal.returns-clause-above
 returns-clause-above c =
     let f : SFits w64 c.args.y = c.ranges.y in
-    let point = IsPartitionPoint-from_clause (λ r. int_le r.y c.args.y) _ _ c.partition_point.ensures.partitioned (parted_up_to _ c.args.y c.requires) (λ a r q k. search rules) in
+    let point = IsPartitionPoint-from_clause (λ r. int_le r.y c.args.y) _ _ c.partition_point.ensures.partitioned
+    (parted_up_to _ c.args.y c.requires) (λ a r q k. search rules) in
     λ k d h l. not_at_most _ _ (point.1 k d h l)
 
 pub returns-clause-others : goal.returns-clause-others
 returns-clause-others c =
     let f : SFits w64 c.args.y = c.ranges.y in
-    let point = IsPartitionPoint-from_clause (λ r. int_le r.y c.args.y) _ _ c.partition_point.ensures.partitioned (parted_up_to _ c.args.y c.requires) (λ a r q k. search rules) in
+    let point = IsPartitionPoint-from_clause (λ r. int_le r.y c.args.y) _ _ c.partition_point.ensures.partitioned
+    (parted_up_to _ c.args.y c.requires) (λ a r q k. search rules) in
     λ k d h. let w = c.partition_point.ensures.bound in is_at_most _ _ (point.0 k d (omega arith) h)

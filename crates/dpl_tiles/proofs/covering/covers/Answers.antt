@@ -7,4 +7,5 @@ use Rattle.dpl_tiles.proofs.covering.covers.Goals as goal
 pub returns-in-Box : goal.returns-in-Box
 returns-in-Box c =
     let f : SFits w64 c.args.y = c.ranges.y in
-    rw c.in-Box.is (covered_cells (corners_of c.in-Box.r) c.args.columns.now.left c.args.columns.now.right c.args.y c.has_row.result (simp to_z-of_z at c.has_row.ensures))
+    rw c.in-Box.is (covered_cells (corners_of c.in-Box.r) c.args.columns.now.left c.args.columns.now.right c.args.y
+    c.has_row.result (simp to_z-of_z at c.has_row.ensures))

@@ -15,15 +15,18 @@ push_pairs-requires-clause-sorted c = rw c.as_slice.ensures.value (ascends_from_
 pub push_pairs-requires-clause-even : goal.push_pairs-requires-clause-even
 push_pairs-requires-clause-even c =
     let f : SFits w64 c.args.y = c.ranges.y in
-    let k : AreCrossingsWithin c.args.sides.now c.args.y c.args.window.now.left c.args.window.now.right c.in_ok-columns.columns.items = simp to_z-of_z at c.in_ok-columns.ensures in
+    let k : AreCrossingsWithin c.args.sides.now c.args.y c.args.window.now.left c.args.window.now.right
+    c.in_ok-columns.columns.items = simp to_z-of_z at c.in_ok-columns.ensures in
     rw (c.as_slice.ensures.value, length_permutation _ _ c.sort_unstable.ensures.permutation) (even_within _ c.args.y _ _ _ c.requires k)
 
 pub push_pairs-requires-clause-range : goal.push_pairs-requires-clause-range
-push_pairs-requires-clause-range c = rw c.as_slice.ensures.value (All-permutation IsInRange _ _ c.sort_unstable.ensures.permutation c.in_ok-columns.ensures.range)
+push_pairs-requires-clause-range c = rw c.as_slice.ensures.value
+    (All-permutation IsInRange _ _ c.sort_unstable.ensures.permutation c.in_ok-columns.ensures.range)
 
 pub returns : goal.returns
 returns c =
     let f : SFits w64 c.args.y = c.ranges.y in
     let p : IsPermutation c.in_ok-columns.columns.items c.as_slice.result.now = rw c.as_slice.ensures.value c.sort_unstable.ensures.permutation in
-    let k : AreCrossingsWithin c.args.sides.now c.args.y c.args.window.now.left c.args.window.now.right c.in_ok-columns.columns.items = simp to_z-of_z at c.in_ok-columns.ensures in
+    let k : AreCrossingsWithin c.args.sides.now c.args.y c.args.window.now.left c.args.window.now.right
+    c.in_ok-columns.columns.items = simp to_z-of_z at c.in_ok-columns.ensures in
     IfOk-weaker c.push_pairs.result _ _ (λ _ a. polygon_within _ c.args.y _ _ _ c.requires k c.as_slice.result.now _ _ p a) c.push_pairs.ensures

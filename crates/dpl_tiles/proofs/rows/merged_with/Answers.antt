@@ -6,8 +6,11 @@ use Rattle.dpl_tiles.proofs.rows.merged_with.Goals.{then-part-last, else-part-la
 
 pub loop-part-preserved : goal.loop-part-preserved
 loop-part-preserved c = elim c.if-part-last.branch [
-  | then-part-last w ↦ rw (w.merged-is, w.last-is) (merging_join _ _ _ _ c.loop-part.last c.part-item.result _ c.loop-part.invariant c.loop-part-test.true c.part-item.is w.joined-last.ensures.from w.joined-last.ensures.same)
-  | else-part-last+in_ok-push w ↦ rw (w.merged-is, w.last-is, w.in_ok-push.ensures.items) (merging_push _ _ _ _ c.loop-part.last _ c.requires.sorted c.loop-part.invariant c.loop-part-test.true c.part-item.is (let h = w.if-part-last.false in grind (arith, ints)))
+  | then-part-last w ↦ rw (w.merged-is, w.last-is) (merging_join _ _ _ _ c.loop-part.last c.part-item.result _
+      c.loop-part.invariant c.loop-part-test.true c.part-item.is w.joined-last.ensures.from w.joined-last.ensures.same)
+  | else-part-last+in_ok-push w ↦ rw (w.merged-is, w.last-is, w.in_ok-push.ensures.items)
+      (merging_push _ _ _ _ c.loop-part.last _ c.requires.sorted c.loop-part.invariant c.loop-part-test.true
+      c.part-item.is (let h = w.if-part-last.false in grind (arith, ints)))
 ]
 
 pub returns-clause-separate : goal.returns-clause-separate

@@ -8,4 +8,6 @@ pub returns-in_ok-push : goal.returns-in_ok-push
 returns-in_ok-push c =
     let f : SFits w64 c.args.r.now.x1 = search rules in
     let g : SFits w64 c.args.r.now.x2 = search rules in
-    pushed_box _ _ c.new.result (corners_of c.args.r.now) c.args.y c.in_ok-push.ensures.items (simp to_z-of_z at c.new.ensures.from) (simp to_z-of_z at c.new.ensures.to) (grind (arith, ints)) (grind (arith, ints))
+    pushed_box _ _ c.new.result (corners_of c.args.r.now) c.args.y c.in_ok-push.ensures.items
+    (simp to_z-of_z at c.new.ensures.from) (simp to_z-of_z at c.new.ensures.to) (grind (arith, ints))
+    (grind (arith, ints))

@@ -15,8 +15,11 @@ loop-i-preserved c =
     elim c.if-spans.branch [
       | then-spans+in_ok-push w ↦
           let h : w.push.new.self.items ≡ c.loop-i.columns.items ++ c.index-sides-i.result.column ∷ [] = simp to_z-of_z at w.in_ok-push.ensures.items in
-          rw w.columns-is (simp to_z-of_z (columns_yes _ _ c.args.y _ c.index-sides-i.result _ _ so c.loop-i-test.true inside c.index-sides-i.is (sym e ∙ w.if-spans.true) h))
-      | else-spans w ↦ rw w.columns-is (simp to_z-of_z (columns_no _ _ c.args.y _ c.index-sides-i.result _ so c.loop-i-test.true inside c.index-sides-i.is (sym e ∙ w.if-spans.false)))
+          rw w.columns-is (simp to_z-of_z (columns_yes _ _ c.args.y _ c.index-sides-i.result _ _ so c.loop-i-test.true
+          inside c.index-sides-i.is (sym e ∙ w.if-spans.true) h))
+      | else-spans w ↦ rw w.columns-is (simp to_z-of_z
+          (columns_no _ _ c.args.y _ c.index-sides-i.result _ so c.loop-i-test.true inside c.index-sides-i.is
+          (sym e ∙ w.if-spans.false)))
     ]
 
 pub returns : goal.returns

@@ -7,11 +7,13 @@ use Rattle.dpl_tiles.proofs.sweeping.first_left.Goals as goal
 pub returns-clause-others : goal.returns-clause-others
 returns-clause-others c =
     let f : SFits w64 c.args.column = c.ranges.column in
-    let point = IsPartitionPoint-from_clause (λ r. int_le c.args.column r.x2) _ _ c.partition_point.ensures.partitioned (parted_left_back _ c.args.column c.requires) (λ a r q k. search rules) in
+    let point = IsPartitionPoint-from_clause (λ r. int_le c.args.column r.x2) _ _ c.partition_point.ensures.partitioned
+    (parted_left_back _ c.args.column c.requires) (λ a r q k. search rules) in
     λ k d h. let w = c.partition_point.ensures.bound in is_at_most _ _ (point.0 k d (omega arith) h)
 
 pub returns-clause-left : goal.returns-clause-left
 returns-clause-left c =
     let f : SFits w64 c.args.column = c.ranges.column in
-    let point = IsPartitionPoint-from_clause (λ r. int_le c.args.column r.x2) _ _ c.partition_point.ensures.partitioned (parted_left_back _ c.args.column c.requires) (λ a r q k. search rules) in
+    let point = IsPartitionPoint-from_clause (λ r. int_le c.args.column r.x2) _ _ c.partition_point.ensures.partitioned
+    (parted_left_back _ c.args.column c.requires) (λ a r q k. search rules) in
     λ k d h l. not_at_most _ _ (point.1 k d h l)

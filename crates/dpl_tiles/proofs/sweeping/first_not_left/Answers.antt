@@ -7,11 +7,13 @@ use Rattle.dpl_list.proofs.Integers.{not_less, is_less}
 pub returns-clause-left : goal.returns-clause-left
 returns-clause-left c =
     let f : SFits w64 c.args.column = c.ranges.column in
-    let point = IsPartitionPoint-from_clause (λ r. int_lt r.x2 c.args.column) _ _ c.partition_point.ensures.partitioned (parted_left _ c.args.column c.requires) (λ a r q k. search rules) in
+    let point = IsPartitionPoint-from_clause (λ r. int_lt r.x2 c.args.column) _ _ c.partition_point.ensures.partitioned
+    (parted_left _ c.args.column c.requires) (λ a r q k. search rules) in
     λ k d h. let w = c.partition_point.ensures.bound in is_less _ _ (point.0 k d (omega arith) h)
 
 pub returns-clause-others : goal.returns-clause-others
 returns-clause-others c =
     let f : SFits w64 c.args.column = c.ranges.column in
-    let point = IsPartitionPoint-from_clause (λ r. int_lt r.x2 c.args.column) _ _ c.partition_point.ensures.partitioned (parted_left _ c.args.column c.requires) (λ a r q k. search rules) in
+    let point = IsPartitionPoint-from_clause (λ r. int_lt r.x2 c.args.column) _ _ c.partition_point.ensures.partitioned
+    (parted_left _ c.args.column c.requires) (λ a r q k. search rules) in
     λ k d h l. not_less _ _ (point.1 k d h l)

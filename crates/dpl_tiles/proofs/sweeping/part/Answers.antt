@@ -9,20 +9,29 @@ first_not_left-from-requires c = rw c.as_slice.ensures.value (left_ordered c.arg
 
 pub first_left-count-requires : goal.first_left-count-requires
 first_left-count-requires c =
-    let one : AllPairs IsLeftOf (c.move_back.new.from.items ++ reverse c.move_back.new.to.items) = rw (to_right c.args.left.now.items c.args.right.now.items _ _ _ c.in_ok-move_back.ensures.from c.in_ok-move_back.ensures.to) c.requires.ordered in
+    let one : AllPairs IsLeftOf (c.move_back.new.from.items ++ reverse c.move_back.new.to.items) =
+    rw (to_right c.args.left.now.items c.args.right.now.items _ _ _ c.in_ok-move_back.ensures.from
+    c.in_ok-move_back.ensures.to) c.requires.ordered in
     rw c.as_slice-2.ensures.value (right_ordered c.move_back.new.from.items c.move_back.new.to.items one)
 
 pub first_not_right-count-requires : goal.first_not_right-count-requires
 first_not_right-count-requires c =
-    let one : AllPairs IsLeftOf (c.move_back.new.from.items ++ reverse c.move_back.new.to.items) = rw (to_right c.args.left.now.items c.args.right.now.items _ _ _ c.in_ok-move_back.ensures.from c.in_ok-move_back.ensures.to) c.requires.ordered in
-    let two : AllPairs IsLeftOf (c.move_back-2.new.to.items ++ reverse c.move_back-2.new.from.items) = rw (to_left c.move_back.new.from.items c.move_back.new.to.items _ _ _ c.in_ok-move_back-2.ensures.from c.in_ok-move_back-2.ensures.to) one in
+    let one : AllPairs IsLeftOf (c.move_back.new.from.items ++ reverse c.move_back.new.to.items) =
+    rw (to_right c.args.left.now.items c.args.right.now.items _ _ _ c.in_ok-move_back.ensures.from
+    c.in_ok-move_back.ensures.to) c.requires.ordered in
+    let two : AllPairs IsLeftOf (c.move_back-2.new.to.items ++ reverse c.move_back-2.new.from.items) =
+    rw (to_left c.move_back.new.from.items c.move_back.new.to.items _ _ _ c.in_ok-move_back-2.ensures.from
+    c.in_ok-move_back-2.ensures.to) one in
     rw c.as_slice-3.ensures.value (right_ordered c.move_back-2.new.to.items c.move_back-2.new.from.items two)
 
 pub returns : goal.returns
 returns c =
     let f : SFits w64 c.args.change.now.left = search rules in
     let g : SFits w64 c.args.change.now.right = search rules in
-    moved c.args.change.now.left c.args.change.now.right c.args.left.now.items c.args.right.now.items c.move_back.new.from.items c.move_back.new.to.items c.move_back-2.new.to.items c.move_back-2.new.from.items c.move_back-3.new.to.items c.move_back-3.new.from.items c.first_not_left-from.result c.first_left-count.result c.first_not_right-count.result (record {
+    moved c.args.change.now.left c.args.change.now.right c.args.left.now.items c.args.right.now.items
+    c.move_back.new.from.items c.move_back.new.to.items c.move_back-2.new.to.items c.move_back-2.new.from.items
+    c.move_back-3.new.to.items c.move_back-3.new.from.items c.first_not_left-from.result c.first_left-count.result
+    c.first_not_right-count.result (record {
       some = c.requires.some;
       is_left1 = c.in_ok-move_back.ensures.from;
       is_right1 = c.in_ok-move_back.ensures.to;
@@ -34,5 +43,6 @@ returns c =
       is_right3 = c.in_ok-move_back-3.ensures.from;
       is_near = rw c.new-near.ensures.items at c.in_ok-move_back-3.ensures.to;
       begins_right = λ k d h. rw c.as_slice-3.ensures.value at (simp to_z-of_z at (c.first_not_right-count.ensures.right k d h));
-      not_right = λ k d h l. rw c.as_slice-3.ensures.value at (simp to_z-of_z at (c.first_not_right-count.ensures.others k d h (rw c.as_slice-3.ensures.value l)));
+      not_right = λ k d h l. rw c.as_slice-3.ensures.value at
+          (simp to_z-of_z at (c.first_not_right-count.ensures.others k d h (rw c.as_slice-3.ensures.value l)));
     })

@@ -12,25 +12,33 @@ use Rattle.dpl_tiles.proofs.sweeping.pass.Goals as goal
 pub near_runs-requires-clause-inside : goal.near_runs-requires-clause-inside
 near_runs-requires-clause-inside c =
     let f : SFits w64 c.args.low = c.ranges.low in
-    let m = met c.args.prims.now c.args.low _ _ _ _ _ _ _ _ _ _ c.requires.changes c.requires.passed c.in_ok-cluster.ensures.parted c.in_ok-cluster.ensures.cluster in
-    simp to_z-of_z (run_inside _ c.args.low _ _ _ _ _ _ _ _ _ _ m _ _ c.window_of-window.ensures.left c.window_of-window.ensures.right (rw c.as_slice-near.ensures.value at c.window_of-window.ensures.holds))
+    let m = met c.args.prims.now c.args.low _ _ _ _ _ _ _ _ _ _ c.requires.changes c.requires.passed
+    c.in_ok-cluster.ensures.parted c.in_ok-cluster.ensures.cluster in
+    simp to_z-of_z (run_inside _ c.args.low _ _ _ _ _ _ _ _ _ _ m _ _ c.window_of-window.ensures.left
+    c.window_of-window.ensures.right (rw c.as_slice-near.ensures.value at c.window_of-window.ensures.holds))
 
 pub near_runs-requires-clause-framed : goal.near_runs-requires-clause-framed
 near_runs-requires-clause-framed c =
     let f : SFits w64 c.args.low = c.ranges.low in
-    let m = met c.args.prims.now c.args.low _ _ _ _ _ _ _ _ _ _ c.requires.changes c.requires.passed c.in_ok-cluster.ensures.parted c.in_ok-cluster.ensures.cluster in
-    simp to_z-of_z (framed _ c.args.low _ _ _ _ _ _ _ _ _ _ m _ _ c.window_of-window.ensures.left c.window_of-window.ensures.right (rw c.as_slice-near.ensures.value at c.window_of-window.ensures.holds) (rw c.as_slice-near.ensures.value at c.window_of-window.ensures.first) (rw c.as_slice-near.ensures.value at c.window_of-window.ensures.last))
+    let m = met c.args.prims.now c.args.low _ _ _ _ _ _ _ _ _ _ c.requires.changes c.requires.passed
+    c.in_ok-cluster.ensures.parted c.in_ok-cluster.ensures.cluster in
+    simp to_z-of_z (framed _ c.args.low _ _ _ _ _ _ _ _ _ _ m _ _ c.window_of-window.ensures.left
+    c.window_of-window.ensures.right (rw c.as_slice-near.ensures.value at c.window_of-window.ensures.holds)
+    (rw c.as_slice-near.ensures.value at c.window_of-window.ensures.first)
+    (rw c.as_slice-near.ensures.value at c.window_of-window.ensures.last))
 
 pub near_runs-requires-clause-still : goal.near_runs-requires-clause-still
 near_runs-requires-clause-still c =
     let f : SFits w64 c.args.low = c.ranges.low in
-    let m = met c.args.prims.now c.args.low _ _ _ _ _ _ _ _ _ _ c.requires.changes c.requires.passed c.in_ok-cluster.ensures.parted c.in_ok-cluster.ensures.cluster in
+    let m = met c.args.prims.now c.args.low _ _ _ _ _ _ _ _ _ _ c.requires.changes c.requires.passed
+    c.in_ok-cluster.ensures.parted c.in_ok-cluster.ensures.cluster in
     simp to_z-of_z (stays _ c.args.low _ _ _ _ _ _ _ _ _ _ m _ _ _ (rw c.as_slice-near.ensures.value at c.stack_across-still.ensures))
 
 pub push_closed-requires-clause-below : goal.push_closed-requires-clause-below
 push_closed-requires-clause-below c =
     let f : SFits w64 c.args.low = c.ranges.low in
-    let m = met c.args.prims.now c.args.low _ _ _ _ _ _ _ _ _ _ c.requires.changes c.requires.passed c.in_ok-cluster.ensures.parted c.in_ok-cluster.ensures.cluster in
+    let m = met c.args.prims.now c.args.low _ _ _ _ _ _ _ _ _ _ c.requires.changes c.requires.passed
+    c.in_ok-cluster.ensures.parted c.in_ok-cluster.ensures.cluster in
     simp to_z-of_z (rw c.as_slice-near.ensures.value (near_below _ c.args.low _ _ _ _ _ _ _ _ _ _ m))
 
 pub all_continued-requires : goal.all_continued-requires
@@ -39,9 +47,17 @@ all_continued-requires c = rw c.as_slice-near.ensures.value (near_ordered _ _ _ 
 pub returns-clause-passed : goal.returns-clause-passed
 returns-clause-passed c =
     let f : SFits w64 c.args.low = c.ranges.low in
-    let m = met c.args.prims.now c.args.low _ _ _ _ _ _ _ _ _ _ c.requires.changes c.requires.passed c.in_ok-cluster.ensures.parted c.in_ok-cluster.ensures.cluster in
-    let runs : AreNearRuns (is_cell (map outline_of c.args.prims.now)) c.args.low c.in_ok-cluster.cluster.change.left c.in_ok-cluster.cluster.change.right c.in_ok-runs.runs.items = simp to_z-of_z at c.in_ok-runs.ensures.runs in
+    let m = met c.args.prims.now c.args.low _ _ _ _ _ _ _ _ _ _ c.requires.changes c.requires.passed
+    c.in_ok-cluster.ensures.parted c.in_ok-cluster.ensures.cluster in
+    let runs : AreNearRuns (is_cell (map outline_of c.args.prims.now)) c.args.low c.in_ok-cluster.cluster.change.left
+    c.in_ok-cluster.cluster.change.right c.in_ok-runs.runs.items = simp to_z-of_z at c.in_ok-runs.ensures.runs in
     let bottom : All (λ r. r.y1 ≡ c.args.low) c.in_ok-runs.runs.items = simp to_z-of_z at c.in_ok-runs.ensures.bottom in
-    let stacks : AllZip (λ run r. IsContinued c.in_ok-cluster.cluster.near.items run.y1 run r) c.in_ok-runs.runs.items c.in_ok-stacks.stacks.items = rw (c.as_slice-near.ensures.value, c.as_slice-2.ensures.value) at c.in_ok-stacks.ensures in
-    let closed : AddsClosed c.args.low (ending c.in_ok-runs.runs.items c.in_ok-cluster.cluster.near.items) c.args.ended.now.items c.push_closed.new.ended.items = rw (c.as_slice-near.ensures.value, c.as_slice.ensures.value) at (simp to_z-of_z at c.in_ok-push_closed.ensures) in
-    cluster_passed _ c.args.low _ _ _ _ _ _ _ _ _ _ m _ c.in_ok-runs.runs.items c.in_ok-stacks.stacks.items _ runs bottom stacks closed (rw c.as_slice-3.ensures.value at c.in_ok-extend_from_slice.ensures.items)
+    let stacks : AllZip (λ run r. IsContinued c.in_ok-cluster.cluster.near.items run.y1 run r) c.in_ok-runs.runs.items
+    c.in_ok-stacks.stacks.items = rw (c.as_slice-near.ensures.value, c.as_slice-2.ensures.value) at
+    c.in_ok-stacks.ensures in
+    let closed : AddsClosed c.args.low (ending c.in_ok-runs.runs.items c.in_ok-cluster.cluster.near.items)
+    c.args.ended.now.items c.push_closed.new.ended.items =
+    rw (c.as_slice-near.ensures.value, c.as_slice.ensures.value) at (simp to_z-of_z at c.in_ok-push_closed.ensures)
+    in
+    cluster_passed _ c.args.low _ _ _ _ _ _ _ _ _ _ m _ c.in_ok-runs.runs.items c.in_ok-stacks.stacks.items _ runs
+    bottom stacks closed (rw c.as_slice-3.ensures.value at c.in_ok-extend_from_slice.ensures.items)

@@ -11,9 +11,14 @@ pub loop-stack-preserved : goal.loop-stack-preserved
 loop-stack-preserved c =
     let f : SFits w64 c.args.top = c.ranges.top in
     elim c.if-is_none.branch [
-      | then-is_none+in_ok-push w ↦ rw w.ended-is (simp to_z-of_z (closed_next c.args.top _ _ _ c.stack-item.result w.closed.result _ _ _ c.loop-stack-test.true c.stack-item.is (simp to_z-of_z at c.loop-stack.invariant)
-          (nothing_found _ _ c.find.result _ c.find.ensures c.is_none.ensures w.if-is_none.true) w.in_ok-push.ensures.items (simp to_z-of_z at w.closed.ensures)))
-      | else-is_none w ↦ rw w.ended-is (simp to_z-of_z (closed_same c.args.top _ _ _ c.stack-item.result _ _ c.loop-stack-test.true c.stack-item.is (simp to_z-of_z at c.loop-stack.invariant)
+      | then-is_none+in_ok-push w ↦ rw w.ended-is (simp to_z-of_z
+          (closed_next c.args.top _ _ _ c.stack-item.result w.closed.result _ _ _ c.loop-stack-test.true c.stack-item.is
+          (simp to_z-of_z at c.loop-stack.invariant)
+          (nothing_found _ _ c.find.result _ c.find.ensures c.is_none.ensures w.if-is_none.true)
+          w.in_ok-push.ensures.items (simp to_z-of_z at w.closed.ensures)))
+      | else-is_none w ↦ rw w.ended-is (simp to_z-of_z
+          (closed_same c.args.top _ _ _ c.stack-item.result _ _ c.loop-stack-test.true c.stack-item.is
+          (simp to_z-of_z at c.loop-stack.invariant)
           (one_found _ _ c.find.result _ c.find.ensures c.is_none.ensures w.if-is_none.false)))
     ]
 

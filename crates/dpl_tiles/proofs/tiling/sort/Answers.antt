@@ -6,4 +6,5 @@ use Rattle.dpl_cell.proofs.SortLemmas.{not_after}
 use Rattle.dpl_tiles.proofs.tiling.sort.Goals as goal
 
 pub returns-clause-sorted : goal.returns-clause-sorted
-returns-clause-sorted c = not_after corners_of _ (c.sort_unstable_by_key.ensures.sorted (λ (r : Rect). (r.y1, r.x1)) (answers_always _ _ _ (λ f a r g k. search rules)))
+returns-clause-sorted c = not_after corners_of _ (c.sort_unstable_by_key.ensures.sorted (λ (r : Rect). (r.y1, r.x1))
+    (answers_always _ _ _ (λ f a r g k. search rules)))

@@ -18,5 +18,7 @@ returns-clause-few c = rw (length_permutation _ _ c.sort.ensures.same) c.in_ok-t
 pub returns-clause-exact : goal.returns-clause-exact
 returns-clause-exact c = λ more.
     let all : AreAllTiles (cells_of c.args.layout.now) c.in_ok-tiles.tiles.items = rw c.as_slice-prims.ensures at c.in_ok-tiles.ensures.tiles in
-    let few : length (map corners_of c.sort.new.tiles.items) ≤ 100000 = rw (length-map c.sort.new.tiles.items corners_of, length_permutation _ _ c.sort.ensures.same) c.in_ok-tiles.ensures.few in
+    let few : length (map corners_of c.sort.new.tiles.items) ≤ 100000 =
+    rw (length-map c.sort.new.tiles.items corners_of, length_permutation _ _ c.sort.ensures.same)
+    c.in_ok-tiles.ensures.few in
     absurd (not_more _ _ 100000 (sorted_tiles _ _ _ all c.sort.ensures.same c.sort.ensures.sorted) few more)

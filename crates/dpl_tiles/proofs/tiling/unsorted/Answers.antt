@@ -30,8 +30,12 @@ loop-k-preserved c =
     let f : SFits w64 (get_or c.args.rows.now (c.loop-k.k - 1) (pos 0)) = search rules in
     let g : SFits w64 (get_or c.args.rows.now c.loop-k.k (pos 0)) = search rules in
     elim c.if-rows-k.branch [
-      | then-rows-k+in_ok-step+else-len-gt-MOST_TILES w ↦ rw (w.ended-is, w.left-is, w.right-is) (swept_next _ _ c.loop-k.k _ _ (simp to_z-of_z at w.in_ok-step.ensures))
-      | else-rows-k w ↦ rw (w.ended-is, w.left-is, w.right-is) (swept_still _ _ c.loop-k.k _ _ c.requires.sorted (omega arith) c.loop-k-test.true (let h = w.if-rows-k.false in grind (arith, ints)) c.loop-k.invariant)
+      | then-rows-k+in_ok-step+else-len-gt-MOST_TILES w ↦
+          rw (w.ended-is, w.left-is, w.right-is) (swept_next _ _ c.loop-k.k _ _
+          (simp to_z-of_z at w.in_ok-step.ensures))
+      | else-rows-k w ↦ rw (w.ended-is, w.left-is, w.right-is)
+          (swept_still _ _ c.loop-k.k _ _ c.requires.sorted (omega arith) c.loop-k-test.true
+          (let h = w.if-rows-k.false in grind (arith, ints)) c.loop-k.invariant)
     ]
 
 pub close_all-requires-clause-below : goal.close_all-requires-clause-below
@@ -44,13 +48,21 @@ pub returns-then-len-gt-MOST_TILES-2-clause-many : goal.returns-then-len-gt-MOST
 returns-then-len-gt-MOST_TILES-2-clause-many c = λ t.
     let f : SFits w64 c.top_of-top.result = search rules in
     let e = c.top_of-top.ensures.value ∙ last_row_is c.args.rows.now c.loop-k.k c.loop-k-test.false c.loop-k.auto.k-end in
-    let a : AddsClosed (get_or c.args.rows.now (c.loop-k.k - 1) (pos 0)) (ending [] (c.loop-k.left.items ++ reverse c.loop-k.right.items)) c.loop-k.ended.items c.close_all.new.ended.items = rw (← e) (rw (c.as_slice.ensures.value, c.in_ok-move_back.ensures.to) at (simp to_z-of_z at c.in_ok-close_all.ensures)) in
-    let done = swept_last _ _ _ _ _ (rows_top c.args.prims.now c.args.rows.now c.loop-k.k c.requires.sorted c.requires.all c.loop-k-test.false c.loop-k.auto.k-end) c.loop-k.invariant a in
+    let a : AddsClosed (get_or c.args.rows.now (c.loop-k.k - 1) (pos 0))
+    (ending [] (c.loop-k.left.items ++ reverse c.loop-k.right.items)) c.loop-k.ended.items
+    c.close_all.new.ended.items = rw (← e) (rw (c.as_slice.ensures.value, c.in_ok-move_back.ensures.to) at
+    (simp to_z-of_z at c.in_ok-close_all.ensures)) in
+    let done = swept_last _ _ _ _ _ (rows_top c.args.prims.now c.args.rows.now c.loop-k.k c.requires.sorted
+    c.requires.all c.loop-k-test.false c.loop-k.auto.k-end) c.loop-k.invariant a in
     more_tiles _ _ _ 100000 done.done (search rules)
 
 pub returns-clause-tiles : goal.returns-clause-tiles
 returns-clause-tiles c =
     let f : SFits w64 c.top_of-top.result = search rules in
     let e = c.top_of-top.ensures.value ∙ last_row_is c.args.rows.now c.loop-k.k c.loop-k-test.false c.loop-k.auto.k-end in
-    let a : AddsClosed (get_or c.args.rows.now (c.loop-k.k - 1) (pos 0)) (ending [] (c.loop-k.left.items ++ reverse c.loop-k.right.items)) c.loop-k.ended.items c.close_all.new.ended.items = rw (← e) (rw (c.as_slice.ensures.value, c.in_ok-move_back.ensures.to) at (simp to_z-of_z at c.in_ok-close_all.ensures)) in
-    all_swept _ _ _ _ _ (rows_top c.args.prims.now c.args.rows.now c.loop-k.k c.requires.sorted c.requires.all c.loop-k-test.false c.loop-k.auto.k-end) c.loop-k.invariant a
+    let a : AddsClosed (get_or c.args.rows.now (c.loop-k.k - 1) (pos 0))
+    (ending [] (c.loop-k.left.items ++ reverse c.loop-k.right.items)) c.loop-k.ended.items
+    c.close_all.new.ended.items = rw (← e) (rw (c.as_slice.ensures.value, c.in_ok-move_back.ensures.to) at
+    (simp to_z-of_z at c.in_ok-close_all.ensures)) in
+    all_swept _ _ _ _ _ (rows_top c.args.prims.now c.args.rows.now c.loop-k.k c.requires.sorted c.requires.all
+    c.loop-k-test.false c.loop-k.auto.k-end) c.loop-k.invariant a

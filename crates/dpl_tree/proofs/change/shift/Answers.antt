@@ -22,7 +22,9 @@ retotal-requires-clause-enough g c =
 pub returns-clause-totals : goal.returns-clause-totals
 returns-clause-totals g c =
     let e = values_kept (sets_of c.args.family.now) (sets_of c.lower.new.family) (sets_of c.lift.new.family) c.lower.ensures.rest c.lift.ensures.rest in
-    λ m h. subst (λ (z : ℕ). get_or c.retotal.new.totals m 0 + drop_of (place_in c.args.labels.now z) * c.args.by ≡ get_or c.args.totals.now m 0 + gain (place_in c.args.labels.now z) * c.args.by) (ap (λ (z : Sets). z.top m) e) (c.retotal.ensures m h)
+    λ m h. subst (λ (z : ℕ). get_or c.retotal.new.totals m 0 + drop_of
+    (place_in c.args.labels.now z) * c.args.by ≡ get_or c.args.totals.now m 0 + gain
+    (place_in c.args.labels.now z) * c.args.by) (ap (λ (z : Sets). z.top m) e) (c.retotal.ensures m h)
 
 pub returns-clause-steps : goal.returns-clause-steps
 returns-clause-steps g c =

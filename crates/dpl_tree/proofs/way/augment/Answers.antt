@@ -18,18 +18,37 @@ part-requires-clause-second c =
 pub climb-smaller : goal.climb-smaller
 climb-smaller c =
     let top = c.in-Some.ensures.1 ∙ c.tops.ensures.value in
-    rw (c.link-above.ensures, c.tops-in-Some.ensures.value) (way_falls c.args.metric.now.size (sets_of c.args.family.now) (dist_of c.args.metric.now) _ c.climb.mates c.climb.outer c.climb.other c.in-Some.exit c.in-Some.mate c.requires.stage c.climb.invariant (omega (arith, c.in-Some.ensures.0, c.requires.stage.rest.size)) top c.in-Some.ensures.2).1
+    rw (c.link-above.ensures, c.tops-in-Some.ensures.value)
+    (way_falls c.args.metric.now.size (sets_of c.args.family.now) (dist_of c.args.metric.now) _ c.climb.mates
+    c.climb.outer c.climb.other c.in-Some.exit c.in-Some.mate c.requires.stage c.climb.invariant
+    (omega (arith, c.in-Some.ensures.0, c.requires.stage.rest.size)) top c.in-Some.ensures.2).1
 
 pub climb-preserved : goal.climb-preserved
 climb-preserved c =
     let top = c.in-Some.ensures.1 ∙ c.tops.ensures.value in
-    rw (c.link-above.ensures, c.tops-in-Some.ensures.value, c.pair.ensures, c.part.ensures) (way_turned c.args.metric.now.size (sets_of c.args.family.now) (dist_of c.args.metric.now) _ c.climb.mates c.climb.outer c.climb.other c.in-Some.exit c.in-Some.mate c.size-size.ensures.table.metric (omega (arith, c.climb.auto.mates, c.requires.mates)) c.requires.stage c.climb.invariant (omega (arith, c.in-Some.ensures.0, c.requires.stage.rest.size)) top c.in-Some.ensures.2)
+    rw (c.link-above.ensures, c.tops-in-Some.ensures.value, c.pair.ensures, c.part.ensures)
+    (way_turned c.args.metric.now.size (sets_of c.args.family.now) (dist_of c.args.metric.now) _ c.climb.mates
+    c.climb.outer c.climb.other c.in-Some.exit c.in-Some.mate c.size-size.ensures.table.metric
+    (omega (arith, c.climb.auto.mates, c.requires.mates)) c.requires.stage c.climb.invariant
+    (omega (arith, c.in-Some.ensures.0, c.requires.stage.rest.size)) top c.in-Some.ensures.2)
 
 pub returns-in-None-clause-pairs : goal.returns-in-None-clause-pairs
-returns-in-None-clause-pairs c = rw c.pair-in-None.ensures (way_ended c.args.metric.now.size (sets_of c.args.family.now) (dist_of c.args.metric.now) (forest_of c.args.tree.now c.args.mates.now) c.climb.mates c.climb.outer c.climb.other (omega (arith, c.climb.auto.mates, c.requires.mates)) c.requires.stage c.climb.invariant (λ m h e. c.in-None.ensures m (omega (arith, h, c.requires.stage.rest.size)) (e ∙ sym c.tops.ensures.value))).pairs
+returns-in-None-clause-pairs c = rw c.pair-in-None.ensures
+    (way_ended c.args.metric.now.size (sets_of c.args.family.now) (dist_of c.args.metric.now)
+    (forest_of c.args.tree.now c.args.mates.now) c.climb.mates c.climb.outer c.climb.other
+    (omega (arith, c.climb.auto.mates, c.requires.mates)) c.requires.stage c.climb.invariant
+    (λ m h e. c.in-None.ensures m (omega (arith, h, c.requires.stage.rest.size)) (e ∙ sym c.tops.ensures.value))).pairs
 
 pub returns-in-None-clause-kept : goal.returns-in-None-clause-kept
-returns-in-None-clause-kept c = rw c.pair-in-None.ensures (way_ended c.args.metric.now.size (sets_of c.args.family.now) (dist_of c.args.metric.now) (forest_of c.args.tree.now c.args.mates.now) c.climb.mates c.climb.outer c.climb.other (omega (arith, c.climb.auto.mates, c.requires.mates)) c.requires.stage c.climb.invariant (λ m h e. c.in-None.ensures m (omega (arith, h, c.requires.stage.rest.size)) (e ∙ sym c.tops.ensures.value))).kept
+returns-in-None-clause-kept c = rw c.pair-in-None.ensures
+    (way_ended c.args.metric.now.size (sets_of c.args.family.now) (dist_of c.args.metric.now)
+    (forest_of c.args.tree.now c.args.mates.now) c.climb.mates c.climb.outer c.climb.other
+    (omega (arith, c.climb.auto.mates, c.requires.mates)) c.requires.stage c.climb.invariant
+    (λ m h e. c.in-None.ensures m (omega (arith, h, c.requires.stage.rest.size)) (e ∙ sym c.tops.ensures.value))).kept
 
 pub returns-in-None-clause-root : goal.returns-in-None-clause-root
-returns-in-None-clause-root c = rw c.pair-in-None.ensures (way_ended c.args.metric.now.size (sets_of c.args.family.now) (dist_of c.args.metric.now) (forest_of c.args.tree.now c.args.mates.now) c.climb.mates c.climb.outer c.climb.other (omega (arith, c.climb.auto.mates, c.requires.mates)) c.requires.stage c.climb.invariant (λ m h e. c.in-None.ensures m (omega (arith, h, c.requires.stage.rest.size)) (e ∙ sym c.tops.ensures.value))).root
+returns-in-None-clause-root c = rw c.pair-in-None.ensures
+    (way_ended c.args.metric.now.size (sets_of c.args.family.now) (dist_of c.args.metric.now)
+    (forest_of c.args.tree.now c.args.mates.now) c.climb.mates c.climb.outer c.climb.other
+    (omega (arith, c.climb.auto.mates, c.requires.mates)) c.requires.stage c.climb.invariant
+    (λ m h e. c.in-None.ensures m (omega (arith, h, c.requires.stage.rest.size)) (e ∙ sym c.tops.ensures.value))).root

@@ -23,7 +23,8 @@ returns-in_default-read-clause-exact c = λ n h.
     let (e, (f, (k, b))) = c.lines.invariant in
     let none : c.in-Ok.read ≡ None = search rules in
     let bad : IsNoLine c.in-Some.line.now = rw none at c.in-Ok.ensures in
-    let here = is_bad c.args.text.now c.lines.found.items c.lines.number c.in-Some.line.now (lines_in c.lines.rest.now) (lines_in c.in-Some.others.now) e c.in-Some.ensures.0 f k bad in
+    let here = is_bad c.args.text.now c.lines.found.items c.lines.number c.in-Some.line.now (lines_in c.lines.rest.now)
+    (lines_in c.in-Some.others.now) e c.in-Some.ensures.0 f k bad in
     inl (ap (λ (z : ℕ). Err (Bad z)) (bad_once c.args.text.now c.lines.number n here h))
 
 pub returns-clause-exact : goal.returns-clause-exact

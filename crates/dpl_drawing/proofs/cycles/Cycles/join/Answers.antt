@@ -5,7 +5,8 @@ use Rattle.dpl_drawing.proofs.cycles.Cycles.join.Goals as goal
 
 pub invariant_of-self : goal.invariant_of-self
 invariant_of-self c =
-    let whole = refill c.self.inside.names.len c.mark.new.labels c.self.inside.names.items c.self.inside.names.ok.0 (c.mark.ensures.lengths ∙ ap length c.deref_mut.ensures.value) in
+    let whole = refill c.self.inside.names.len c.mark.new.labels c.self.inside.names.items c.self.inside.names.ok.0
+    (c.mark.ensures.lengths ∙ ap length c.deref_mut.ensures.value) in
     let hi : c.args.i < length c.self.inside.ring = search rules in
     let hj : c.args.j < length c.self.inside.ring = search rules in
     let both = pair_below (length c.self.inside.ring) _ _ _ _ c.shorter_first-from.ensures.either hi hj in
@@ -13,4 +14,6 @@ invariant_of-self c =
     let marks = rw c.deref_mut.ensures.value at c.mark.ensures in
     let inside : c.shorter_first-from.result.1 < length c.self.inside.names.items = omega (arith, both.1, c.self.invariant.lengths) in
     let read : c.index-name.result.now ≡ get_or c.self.inside.names.items c.shorter_first-from.result.1 0 = get_or_read _ _ _ inside c.index-name.ensures 0 in
-    named_at _ _ _ _ whole (named_merge c.self.inside.ring _ _ _ c.args.i c.args.j _ c.shorter_first-from.result.1 _ c.shorter_first-from.ensures.ring c.self.invariant hi hj both.0 both.1 apart c.splice.ensures.value c.shorter_first-from.ensures.either (mark_at _ _ _ _ _ _ read marks))
+    named_at _ _ _ _ whole (named_merge c.self.inside.ring _ _ _ c.args.i c.args.j _ c.shorter_first-from.result.1 _
+    c.shorter_first-from.ensures.ring c.self.invariant hi hj both.0 both.1 apart c.splice.ensures.value
+    c.shorter_first-from.ensures.either (mark_at _ _ _ _ _ _ read marks))

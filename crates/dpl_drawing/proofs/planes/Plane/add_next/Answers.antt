@@ -9,10 +9,12 @@ use Rattle.dpl_drawing.proofs.LastLemmas.{ends_in, last_first, last_second, last
 use Rattle.dpl_drawing.proofs.planes.Plane.add_next.Goals as goal
 
 pub insert-requires-clause-apart : goal.insert-requires-clause-apart
-insert-requires-clause-apart c = λ e. next_apart c.args.net.now _ _ (length c.args.kept.now) (kept_more c.args.net.now c.args.kept.now c.requires.edge) (sym c.next_from-next.ensures.value ∙ e)
+insert-requires-clause-apart c = λ e. next_apart c.args.net.now _ _ (length c.args.kept.now)
+    (kept_more c.args.net.now c.args.kept.now c.requires.edge) (sym c.next_from-next.ensures.value ∙ e)
 
 pub insert-requires-2-clause-apart : goal.insert-requires-2-clause-apart
-insert-requires-2-clause-apart c = λ e. next_apart c.args.net.now _ _ (length c.args.kept.now) (kept_more c.args.net.now c.args.kept.now c.requires.edge) (sym c.next_from-next.ensures.value ∙ e)
+insert-requires-2-clause-apart c = λ e. next_apart c.args.net.now _ _ (length c.args.kept.now)
+    (kept_more c.args.net.now c.args.kept.now c.requires.edge) (sym c.next_from-next.ensures.value ∙ e)
 
 pub overflow_sub-self : goal.overflow_sub-self
 overflow_sub-self c =
@@ -28,8 +30,18 @@ returns-then-not-are_together-clause-kept c =
     let inside : length c.args.kept.now < length c.as_slice.result.now = search rules in
     let edge = edge_read c.args.net.now.graph _ _ _ c.as_slice.ensures inside c.index-as_slice-edge.is in
     let ends = ends_joined c.args.net.now _ _ (length c.args.kept.now) _ c.requires.drawn.are_parts c.requires.edge edge in
-    let look : IsLooked c.args.net.now c.args.kept.now _ _ _ _ _ = record { edge = c.requires.edge; drawn = c.requires.drawn; first = c.next_from-next.ensures.value; second = c.next_from-next_twin.ensures.value } in
-    (join_next c.args.net.now c.args.kept.now _ _ _ _ _ _ _ look (λ j. both_ways _ far (c.are_together.ensures.value.1 (ends.1 j))) c.are_together.ensures.ring c.insert.ensures.value (swap_read c.args.net.now.graph (length c.args.kept.now) _ _ _ edge c.splice.ensures.nexts)).0
+    let look : IsLooked c.args.net.now c.args.kept.now _ _ _ _ _ =
+    record {
+      edge = c.requires.edge;
+      drawn = c.requires.drawn;
+      first = c.next_from-next.ensures.value;
+      second =
+          c.next_from-next_twin.ensures.value;
+    } in
+    (join_next c.args.net.now c.args.kept.now _ _ _ _ _ _ _ look
+    (λ j. both_ways _ far (c.are_together.ensures.value.1 (ends.1 j))) c.are_together.ensures.ring
+    c.insert.ensures.value (swap_read c.args.net.now.graph (length c.args.kept.now) _ _ _ edge
+    c.splice.ensures.nexts)).0
 
 pub returns-then-not-are_together-clause-drawn : goal.returns-then-not-are_together-clause-drawn
 returns-then-not-are_together-clause-drawn c =
@@ -37,8 +49,18 @@ returns-then-not-are_together-clause-drawn c =
     let inside : length c.args.kept.now < length c.as_slice.result.now = search rules in
     let edge = edge_read c.args.net.now.graph _ _ _ c.as_slice.ensures inside c.index-as_slice-edge.is in
     let ends = ends_joined c.args.net.now _ _ (length c.args.kept.now) _ c.requires.drawn.are_parts c.requires.edge edge in
-    let look : IsLooked c.args.net.now c.args.kept.now _ _ _ _ _ = record { edge = c.requires.edge; drawn = c.requires.drawn; first = c.next_from-next.ensures.value; second = c.next_from-next_twin.ensures.value } in
-    (join_next c.args.net.now c.args.kept.now _ _ _ _ _ _ _ look (λ j. both_ways _ far (c.are_together.ensures.value.1 (ends.1 j))) c.are_together.ensures.ring c.insert.ensures.value (swap_read c.args.net.now.graph (length c.args.kept.now) _ _ _ edge c.splice.ensures.nexts)).1
+    let look : IsLooked c.args.net.now c.args.kept.now _ _ _ _ _ =
+    record {
+      edge = c.requires.edge;
+      drawn = c.requires.drawn;
+      first = c.next_from-next.ensures.value;
+      second =
+          c.next_from-next_twin.ensures.value;
+    } in
+    (join_next c.args.net.now c.args.kept.now _ _ _ _ _ _ _ look
+    (λ j. both_ways _ far (c.are_together.ensures.value.1 (ends.1 j))) c.are_together.ensures.ring
+    c.insert.ensures.value (swap_read c.args.net.now.graph (length c.args.kept.now) _ _ _ edge
+    c.splice.ensures.nexts)).1
 
 pub returns-then-not-are_together-2-clause-kept : goal.returns-then-not-are_together-2-clause-kept
 returns-then-not-are_together-2-clause-kept c =
@@ -47,8 +69,16 @@ returns-then-not-are_together-2-clause-kept c =
     let inside : length c.args.kept.now < length c.as_slice.result.now = search rules in
     let edge = edge_read c.args.net.now.graph _ _ _ c.as_slice.ensures inside c.index-as_slice-edge.is in
     let ends = ends_joined c.args.net.now _ _ (length c.args.kept.now) _ c.requires.drawn.are_parts c.requires.edge edge in
-    let look : IsLooked c.args.net.now c.args.kept.now _ _ _ _ _ = record { edge = c.requires.edge; drawn = c.requires.drawn; first = c.next_from-next.ensures.value; second = c.next_from-next_twin.ensures.value } in
-    (aside_next c.args.net.now c.args.kept.now _ _ _ _ _ look (ends.0 (c.are_together.ensures.value.0 near)) (λ e. both_ways _ far (c.are_together-2.ensures.value.1 e))).0
+    let look : IsLooked c.args.net.now c.args.kept.now _ _ _ _ _ =
+    record {
+      edge = c.requires.edge;
+      drawn = c.requires.drawn;
+      first = c.next_from-next.ensures.value;
+      second =
+          c.next_from-next_twin.ensures.value;
+    } in
+    (aside_next c.args.net.now c.args.kept.now _ _ _ _ _ look (ends.0 (c.are_together.ensures.value.0 near))
+    (λ e. both_ways _ far (c.are_together-2.ensures.value.1 e))).0
 
 pub returns-then-not-are_together-2-clause-drawn : goal.returns-then-not-are_together-2-clause-drawn
 returns-then-not-are_together-2-clause-drawn c =
@@ -57,8 +87,16 @@ returns-then-not-are_together-2-clause-drawn c =
     let inside : length c.args.kept.now < length c.as_slice.result.now = search rules in
     let edge = edge_read c.args.net.now.graph _ _ _ c.as_slice.ensures inside c.index-as_slice-edge.is in
     let ends = ends_joined c.args.net.now _ _ (length c.args.kept.now) _ c.requires.drawn.are_parts c.requires.edge edge in
-    let look : IsLooked c.args.net.now c.args.kept.now _ _ _ _ _ = record { edge = c.requires.edge; drawn = c.requires.drawn; first = c.next_from-next.ensures.value; second = c.next_from-next_twin.ensures.value } in
-    (aside_next c.args.net.now c.args.kept.now _ _ _ _ _ look (ends.0 (c.are_together.ensures.value.0 near)) (λ e. both_ways _ far (c.are_together-2.ensures.value.1 e))).1
+    let look : IsLooked c.args.net.now c.args.kept.now _ _ _ _ _ =
+    record {
+      edge = c.requires.edge;
+      drawn = c.requires.drawn;
+      first = c.next_from-next.ensures.value;
+      second =
+          c.next_from-next_twin.ensures.value;
+    } in
+    (aside_next c.args.net.now c.args.kept.now _ _ _ _ _ look (ends.0 (c.are_together.ensures.value.0 near))
+    (λ e. both_ways _ far (c.are_together-2.ensures.value.1 e))).1
 
 pub returns-clause-kept : goal.returns-clause-kept
 returns-clause-kept c =
@@ -67,8 +105,16 @@ returns-clause-kept c =
     let inside : length c.args.kept.now < length c.as_slice.result.now = search rules in
     let edge = edge_read c.args.net.now.graph _ _ _ c.as_slice.ensures inside c.index-as_slice-edge.is in
     let ends = ends_joined c.args.net.now _ _ (length c.args.kept.now) _ c.requires.drawn.are_parts c.requires.edge edge in
-    let look : IsLooked c.args.net.now c.args.kept.now _ _ _ _ _ = record { edge = c.requires.edge; drawn = c.requires.drawn; first = c.next_from-next.ensures.value; second = c.next_from-next_twin.ensures.value } in
-    (split_next c.args.net.now c.args.kept.now _ _ _ _ _ _ look (ends.0 (c.are_together.ensures.value.0 near)) (c.are_together-2.ensures.value.0 one) c.insert-2.ensures.value).0
+    let look : IsLooked c.args.net.now c.args.kept.now _ _ _ _ _ =
+    record {
+      edge = c.requires.edge;
+      drawn = c.requires.drawn;
+      first = c.next_from-next.ensures.value;
+      second =
+          c.next_from-next_twin.ensures.value;
+    } in
+    (split_next c.args.net.now c.args.kept.now _ _ _ _ _ _ look (ends.0 (c.are_together.ensures.value.0 near))
+    (c.are_together-2.ensures.value.0 one) c.insert-2.ensures.value).0
 
 pub returns-clause-drawn : goal.returns-clause-drawn
 returns-clause-drawn c =
@@ -77,15 +123,24 @@ returns-clause-drawn c =
     let inside : length c.args.kept.now < length c.as_slice.result.now = search rules in
     let edge = edge_read c.args.net.now.graph _ _ _ c.as_slice.ensures inside c.index-as_slice-edge.is in
     let ends = ends_joined c.args.net.now _ _ (length c.args.kept.now) _ c.requires.drawn.are_parts c.requires.edge edge in
-    let look : IsLooked c.args.net.now c.args.kept.now _ _ _ _ _ = record { edge = c.requires.edge; drawn = c.requires.drawn; first = c.next_from-next.ensures.value; second = c.next_from-next_twin.ensures.value } in
-    (split_next c.args.net.now c.args.kept.now _ _ _ _ _ _ look (ends.0 (c.are_together.ensures.value.0 near)) (c.are_together-2.ensures.value.0 one) c.insert-2.ensures.value).1
+    let look : IsLooked c.args.net.now c.args.kept.now _ _ _ _ _ =
+    record {
+      edge = c.requires.edge;
+      drawn = c.requires.drawn;
+      first = c.next_from-next.ensures.value;
+      second =
+          c.next_from-next_twin.ensures.value;
+    } in
+    (split_next c.args.net.now c.args.kept.now _ _ _ _ _ _ look (ends.0 (c.are_together.ensures.value.0 near))
+    (c.are_together-2.ensures.value.0 one) c.insert-2.ensures.value).1
 
 pub next_from-next-requires-clause-last : goal.next_from-next-requires-clause-last
 next_from-next-requires-clause-last c =
     let inside : length c.args.kept.now < length c.as_slice.result.now = search rules in
     let edge = edge_read c.args.net.now.graph _ _ _ c.as_slice.ensures inside c.index-as_slice-edge.is in
     let both = ends_in c.args.net.now _ _ (length c.args.kept.now) _ c.requires.lasts c.requires.edge edge in
-    let read : c.index-last.result.now ≡ get_or c.args.self.now.lasts.items c.index-as_slice-edge.result.a 0 = get_or_read _ _ _ both.0 c.index-last.ensures 0 in
+    let read : c.index-last.result.now ≡ get_or c.args.self.now.lasts.items c.index-as_slice-edge.result.a 0 =
+    get_or_read _ _ _ both.0 c.index-last.ensures 0 in
     last_first c.args.net.now _ _ (length c.args.kept.now) _ _ c.requires.lasts c.requires.edge edge read
 
 pub next_from-next_twin-requires-clause-last : goal.next_from-next_twin-requires-clause-last
@@ -93,7 +148,8 @@ next_from-next_twin-requires-clause-last c =
     let inside : length c.args.kept.now < length c.as_slice.result.now = search rules in
     let edge = edge_read c.args.net.now.graph _ _ _ c.as_slice.ensures inside c.index-as_slice-edge.is in
     let both = ends_in c.args.net.now _ _ (length c.args.kept.now) _ c.requires.lasts c.requires.edge edge in
-    let read : c.index-last_twin.result.now ≡ get_or c.args.self.now.lasts.items c.index-as_slice-edge.result.b 0 = get_or_read _ _ _ both.1 c.index-last_twin.ensures 0 in
+    let read : c.index-last_twin.result.now ≡ get_or c.args.self.now.lasts.items c.index-as_slice-edge.result.b 0 =
+    get_or_read _ _ _ both.1 c.index-last_twin.ensures 0 in
     last_second c.args.net.now _ _ (length c.args.kept.now) _ _ c.requires.lasts c.requires.edge edge read
 
 pub returns-then-not-are_together-clause-lasts : goal.returns-then-not-are_together-clause-lasts

@@ -11,8 +11,11 @@ returns-in-Ok-solve_edit-clause-exact c = λ e r.
     let k : c.self.inside.drawing.keep.prims ≡ c.args.self.now.keep = ap (λ (z : State). z.keep) c.self.view_is in
     let n : c.self.inside.count ≡ c.args.self.now.count = ap (λ (z : State). z.count) c.self.view_is in
     let old : c.deref.result.now ≡ c.args.self.now.boxes = c.deref.ensures.value ∙ ap (λ (z : State). z.boxes) c.self.view_is in
-    let boxes = c.deref-2.ensures.value ∙ c.in-Ok.ensures ∙ added c.deref.result.now c.args.self.now.boxes c.self.inside.count c.args.self.now.count c.args.rect old n in
-    absurd (ok_free _ _ _ _ _ _ (solved_of c.in-Ok-solve_edit.solved) (record { options = o; prims_are = content_is _ _ _ _ b boxes; keep_is = k }) c.in-Ok-solve_edit.ensures.solved e r)
+    let boxes = c.deref-2.ensures.value ∙ c.in-Ok.ensures ∙
+    added c.deref.result.now c.args.self.now.boxes c.self.inside.count c.args.self.now.count c.args.rect old n in
+    absurd (ok_free _ _ _ _ _ _ (solved_of c.in-Ok-solve_edit.solved)
+    (record { options = o; prims_are = content_is _ _ _ _ b boxes; keep_is = k }) c.in-Ok-solve_edit.ensures.solved
+    e r)
 
 pub returns-in-Err-solve_edit-clause-exact : goal.returns-in-Err-solve_edit-clause-exact
 returns-in-Err-solve_edit-clause-exact c = λ e r.
@@ -21,5 +24,8 @@ returns-in-Err-solve_edit-clause-exact c = λ e r.
     let k : c.self.inside.drawing.keep.prims ≡ c.args.self.now.keep = ap (λ (z : State). z.keep) c.self.view_is in
     let n : c.self.inside.count ≡ c.args.self.now.count = ap (λ (z : State). z.count) c.self.view_is in
     let old : c.deref.result.now ≡ c.args.self.now.boxes = c.deref.ensures.value ∙ ap (λ (z : State). z.boxes) c.self.view_is in
-    let boxes = c.deref-2.ensures.value ∙ c.in-Ok.ensures ∙ added c.deref.result.now c.args.self.now.boxes c.self.inside.count c.args.self.now.count c.args.rect old n in
-    elim (err_comes _ _ _ _ _ _ c.in-Err-solve_edit.error (record { options = o; prims_are = content_is _ _ _ _ b boxes; keep_is = k }) c.in-Err-solve_edit.ensures.refused e r) [ inl x ↦ inl (ap Err x) | inr x ↦ inr (ap Err x) ]
+    let boxes = c.deref-2.ensures.value ∙ c.in-Ok.ensures ∙
+    added c.deref.result.now c.args.self.now.boxes c.self.inside.count c.args.self.now.count c.args.rect old n in
+    elim (err_comes _ _ _ _ _ _ c.in-Err-solve_edit.error
+    (record { options = o; prims_are = content_is _ _ _ _ b boxes; keep_is = k })
+    c.in-Err-solve_edit.ensures.refused e r) [ inl x ↦ inl (ap Err x) | inr x ↦ inr (ap Err x) ]

@@ -8,6 +8,7 @@ returns-clause-bytes c =
     let at = c.self.inside.at in
     let n = c.min-count.result in
     let size : length c.copy_from_slice.new.self ≡ n = omega (arith, c.copy_from_slice.ensures.len, length-take {A = ℕ}) in (
-      left_after bytes c.copy_from_slice.new.self c.args.into.now _ at n (at + n - at) (ap (λ s. s.left) (sym c.self.view_is)) (search rules) (omega arith) (omega arith),
+      left_after bytes c.copy_from_slice.new.self c.args.into.now _ at n (at + n - at)
+          (ap (λ s. s.left) (sym c.self.view_is)) (search rules) (omega arith) (omega arith),
       ended_after bytes c.copy_from_slice.new.self c.args.into.now at n c.self.inside.piece size (search rules) (omega arith),
     )

@@ -11,7 +11,9 @@ returns-clause-view c =
     let path : c.truncate.new.self.items ≡ take c.args.place c.args.self.now.path.items = search rules in
     let starts : c.pop.new.self.items ≡ take (length c.args.self.now.starts.items - 1) c.args.self.now.starts.items = search rules in
     let stack : c.pop-2.new.self.items ≡ take (length c.args.self.now.stack.items - 1) c.args.self.now.stack.items = search rules in
-    let heads : c.push.new.self.items ≡ c.args.self.now.heads.items ++ get_or c.args.self.now.path.items c.args.place 0 ∷ [] = c.in_ok-push.ensures.items ∙ ap (λ (n : ℕ). c.args.self.now.heads.items ++ n ∷ []) (c.index.ensures ∙ get_or_default c.args.self.now.path.items c.args.place _ 0 c.requires.place) in
+    let heads : c.push.new.self.items ≡ c.args.self.now.heads.items ++ get_or c.args.self.now.path.items c.args.place
+    0 ∷ [] = c.in_ok-push.ensures.items ∙ ap (λ (n : ℕ). c.args.self.now.heads.items ++ n ∷ [])
+    (c.index.ensures ∙ get_or_default c.args.self.now.path.items c.args.place _ 0 c.requires.place) in
     closed_view c.args.self.now _ c.args.place c.requires.place c.shut.ensures.len
     (λ x. c.shut.ensures.value x ∙ ap (λ (l : ℕ). shut c.args.place l (get_or c.args.self.now.marks.items x New)) label)
     refl path starts stack heads

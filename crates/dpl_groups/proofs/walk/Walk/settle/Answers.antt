@@ -12,22 +12,32 @@ index-requires c =
 
 pub open-requires : goal.open-requires
 open-requires c =
-    let size : length c.args.self.now.marks.items ≡ length c.args.edges.now = marks_size c.args.edges.now c.args.self.now c.requires.walk in omega (arith, size, c.requires.next)
+    let size : length c.args.self.now.marks.items ≡ length c.args.edges.now =
+    marks_size c.args.edges.now c.args.self.now c.requires.walk in omega (arith, size, c.requires.next)
 
 pub returns-in-New-clause-settled : goal.returns-in-New-clause-settled
 returns-in-New-clause-settled c =
     let size : length c.args.self.now.marks.items ≡ length c.args.edges.now = marks_size c.args.edges.now c.args.self.now c.requires.walk in
-    let mark : (view c.args.self.now).mark c.args.next ≡ New = read_mark c.args.self.now c.args.next c.index.result.now (omega (arith, size, c.requires.next)) c.index.ensures ∙ c.in-New.is in
-    on_ok c.open.result (λ e. settle_new c.args.edges.now (view c.args.self.now) c.requires.walk c.args.node c.args.next c.requires.top c.requires.next c.requires.edge _ mark e) c.open.ensures.view
+    let mark : (view c.args.self.now).mark c.args.next ≡ New =
+    read_mark c.args.self.now c.args.next c.index.result.now (omega (arith, size, c.requires.next))
+    c.index.ensures ∙ c.in-New.is in
+    on_ok c.open.result (λ e. settle_new c.args.edges.now (view c.args.self.now) c.requires.walk c.args.node c.args.next
+    c.requires.top c.requires.next c.requires.edge _ mark e) c.open.ensures.view
 
 pub returns-in-Open-clause-settled : goal.returns-in-Open-clause-settled
 returns-in-Open-clause-settled c =
     let size : length c.args.self.now.marks.items ≡ length c.args.edges.now = marks_size c.args.edges.now c.args.self.now c.requires.walk in
-    let mark : (view c.args.self.now).mark c.args.next ≡ Open c.in-Open.place = read_mark c.args.self.now c.args.next c.index.result.now (omega (arith, size, c.requires.next)) c.index.ensures ∙ c.in-Open.is in
-    settle_open c.args.edges.now (view c.args.self.now) c.requires.walk c.args.node c.args.next c.requires.top c.requires.next c.requires.edge _ c.in-Open.place mark c.merge.ensures.merged
+    let mark : (view c.args.self.now).mark c.args.next ≡ Open c.in-Open.place =
+    read_mark c.args.self.now c.args.next c.index.result.now (omega (arith, size, c.requires.next))
+    c.index.ensures ∙ c.in-Open.is in
+    settle_open c.args.edges.now (view c.args.self.now) c.requires.walk c.args.node c.args.next c.requires.top
+    c.requires.next c.requires.edge _ c.in-Open.place mark c.merge.ensures.merged
 
 pub returns-in-Done-clause-settled : goal.returns-in-Done-clause-settled
 returns-in-Done-clause-settled c =
     let size : length c.args.self.now.marks.items ≡ length c.args.edges.now = marks_size c.args.edges.now c.args.self.now c.requires.walk in
-    let mark : (view c.args.self.now).mark c.args.next ≡ Done c.in-Done.field-0 = read_mark c.args.self.now c.args.next c.index.result.now (omega (arith, size, c.requires.next)) c.index.ensures ∙ c.in-Done.is in
-    settle_done c.args.edges.now (view c.args.self.now) c.requires.walk c.args.node c.args.next c.requires.top c.requires.next c.requires.edge c.in-Done.field-0 mark
+    let mark : (view c.args.self.now).mark c.args.next ≡ Done c.in-Done.field-0 =
+    read_mark c.args.self.now c.args.next c.index.result.now (omega (arith, size, c.requires.next))
+    c.index.ensures ∙ c.in-Done.is in
+    settle_done c.args.edges.now (view c.args.self.now) c.requires.walk c.args.node c.args.next c.requires.top
+    c.requires.next c.requires.edge c.in-Done.field-0 mark

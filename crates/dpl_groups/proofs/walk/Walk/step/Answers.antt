@@ -7,13 +7,17 @@ use Rattle.dpl_groups.proofs.walk.Walk.step.Goals as goal
 
 pub index-node-requires : goal.index-node-requires
 index-node-requires c =
-    let deep : c.args.place < length c.args.self.now.path.items = path_deep c.args.edges.now c.args.self.now c.args.place c.requires.walk c.requires.top in search rules
+    let deep : c.args.place < length c.args.self.now.path.items =
+    path_deep c.args.edges.now c.args.self.now c.args.place c.requires.walk c.requires.top in search rules
 
 pub index-requires : goal.index-requires
 index-requires c =
     let deep : c.args.place < length c.args.self.now.path.items = path_deep c.args.edges.now c.args.self.now c.args.place c.requires.walk c.requires.top in
-    let node : (view c.args.self.now).path c.args.place ≡ c.index-node.result.now = read_path c.args.self.now c.args.place c.index-node.result.now _ deep c.index-node.ensures in
-    let here : c.index-node.result.now < length c.args.edges.now = top_node c.args.edges.now (view c.args.self.now) c.index-node.result.now c.requires.walk (node_of_top (view c.args.self.now) c.args.place c.index-node.result.now c.requires.top node) in
+    let node : (view c.args.self.now).path c.args.place ≡ c.index-node.result.now =
+    read_path c.args.self.now c.args.place c.index-node.result.now _ deep c.index-node.ensures in
+    let here : c.index-node.result.now < length c.args.edges.now =
+    top_node c.args.edges.now (view c.args.self.now) c.index-node.result.now c.requires.walk
+    (node_of_top (view c.args.self.now) c.args.place c.index-node.result.now c.requires.top node) in
     let size : length c.args.self.now.left.items ≡ length c.args.edges.now = left_size c.args.edges.now c.args.self.now c.requires.walk in
     let within : c.index-node.result.now < length c.args.self.now.left.items = omega arith in
     search rules
@@ -21,8 +25,11 @@ index-requires c =
 pub look-requires-clause-top : goal.look-requires-clause-top
 look-requires-clause-top c =
     let deep : c.args.place < length c.args.self.now.path.items = path_deep c.args.edges.now c.args.self.now c.args.place c.requires.walk c.requires.top in
-    let node : (view c.args.self.now).path c.args.place ≡ c.index-node.result.now = read_path c.args.self.now c.args.place c.index-node.result.now _ deep c.index-node.ensures in
-    let here : c.index-node.result.now < length c.args.edges.now = top_node c.args.edges.now (view c.args.self.now) c.index-node.result.now c.requires.walk (node_of_top (view c.args.self.now) c.args.place c.index-node.result.now c.requires.top node) in
+    let node : (view c.args.self.now).path c.args.place ≡ c.index-node.result.now =
+    read_path c.args.self.now c.args.place c.index-node.result.now _ deep c.index-node.ensures in
+    let here : c.index-node.result.now < length c.args.edges.now =
+    top_node c.args.edges.now (view c.args.self.now) c.index-node.result.now c.requires.walk
+    (node_of_top (view c.args.self.now) c.args.place c.index-node.result.now c.requires.top node) in
     let size : length c.args.self.now.left.items ≡ length c.args.edges.now = left_size c.args.edges.now c.args.self.now c.requires.walk in
     let within : c.index-node.result.now < length c.args.self.now.left.items = omega arith in
     node_of_top (view c.args.self.now) c.args.place c.index-node.result.now c.requires.top node
@@ -30,11 +37,15 @@ look-requires-clause-top c =
 pub look-requires-clause-more : goal.look-requires-clause-more
 look-requires-clause-more c =
     let deep : c.args.place < length c.args.self.now.path.items = path_deep c.args.edges.now c.args.self.now c.args.place c.requires.walk c.requires.top in
-    let node : (view c.args.self.now).path c.args.place ≡ c.index-node.result.now = read_path c.args.self.now c.args.place c.index-node.result.now _ deep c.index-node.ensures in
-    let here : c.index-node.result.now < length c.args.edges.now = top_node c.args.edges.now (view c.args.self.now) c.index-node.result.now c.requires.walk (node_of_top (view c.args.self.now) c.args.place c.index-node.result.now c.requires.top node) in
+    let node : (view c.args.self.now).path c.args.place ≡ c.index-node.result.now =
+    read_path c.args.self.now c.args.place c.index-node.result.now _ deep c.index-node.ensures in
+    let here : c.index-node.result.now < length c.args.edges.now =
+    top_node c.args.edges.now (view c.args.self.now) c.index-node.result.now c.requires.walk
+    (node_of_top (view c.args.self.now) c.args.place c.index-node.result.now c.requires.top node) in
     let size : length c.args.self.now.left.items ≡ length c.args.edges.now = left_size c.args.edges.now c.args.self.now c.requires.walk in
     let within : c.index-node.result.now < length c.args.self.now.left.items = omega arith in
-    let count : c.index.result.now ≡ get_or c.args.self.now.left.items c.index-node.result.now 0 = c.index.ensures ∙ get_or_default c.args.self.now.left.items c.index-node.result.now _ 0 within in
+    let count : c.index.result.now ≡ get_or c.args.self.now.left.items c.index-node.result.now 0 = c.index.ensures ∙
+    get_or_default c.args.self.now.left.items c.index-node.result.now _ 0 within in
     omega (arith, count, c.if-index-gt0.true)
 
 pub close-requires-clause-path : goal.close-requires-clause-path
@@ -46,31 +57,44 @@ close-requires-clause-place c = path_deep c.args.edges.now c.args.self.now c.arg
 pub returns-then-begins_at-clause-walk : goal.returns-then-begins_at-clause-walk
 returns-then-begins_at-clause-walk c =
     let deep : c.args.place < length c.args.self.now.path.items = path_deep c.args.edges.now c.args.self.now c.args.place c.requires.walk c.requires.top in
-    let node : (view c.args.self.now).path c.args.place ≡ c.index-node.result.now = read_path c.args.self.now c.args.place c.index-node.result.now _ deep c.index-node.ensures in
-    let here : c.index-node.result.now < length c.args.edges.now = top_node c.args.edges.now (view c.args.self.now) c.index-node.result.now c.requires.walk (node_of_top (view c.args.self.now) c.args.place c.index-node.result.now c.requires.top node) in
+    let node : (view c.args.self.now).path c.args.place ≡ c.index-node.result.now =
+    read_path c.args.self.now c.args.place c.index-node.result.now _ deep c.index-node.ensures in
+    let here : c.index-node.result.now < length c.args.edges.now =
+    top_node c.args.edges.now (view c.args.self.now) c.index-node.result.now c.requires.walk
+    (node_of_top (view c.args.self.now) c.args.place c.index-node.result.now c.requires.top node) in
     let size : length c.args.self.now.left.items ≡ length c.args.edges.now = left_size c.args.edges.now c.args.self.now c.requires.walk in
     let within : c.index-node.result.now < length c.args.self.now.left.items = omega arith in
-    let count : c.index.result.now ≡ get_or c.args.self.now.left.items c.index-node.result.now 0 = c.index.ensures ∙ get_or_default c.args.self.now.left.items c.index-node.result.now _ 0 within in
-    let none : (view c.args.self.now).left c.index-node.result.now ≡ 0 = rw (left_at c.args.self.now c.index-node.result.now) (omega (arith, count, c.if-index-gt0.false)) in
+    let count : c.index.result.now ≡ get_or c.args.self.now.left.items c.index-node.result.now 0 = c.index.ensures ∙
+    get_or_default c.args.self.now.left.items c.index-node.result.now _ 0 within in
+    let none : (view c.args.self.now).left c.index-node.result.now ≡ 0 =
+    rw (left_at c.args.self.now c.index-node.result.now) (omega (arith, count, c.if-index-gt0.false)) in
     let begins : begins_at (view c.args.self.now) c.args.place ≡ true = sym c.begins_at.ensures ∙ c.if-begins_at.true in
-    on_ok c.close.result (λ e. close_kept c.args.edges.now (view c.args.self.now) c.requires.walk c.args.place c.index-node.result.now c.requires.top node none _ begins e) c.close.ensures.view
+    on_ok c.close.result (λ e. close_kept c.args.edges.now (view c.args.self.now) c.requires.walk c.args.place
+    c.index-node.result.now c.requires.top node none _ begins e) c.close.ensures.view
 
 pub returns-then-begins_at-clause-seen : goal.returns-then-begins_at-clause-seen
 returns-then-begins_at-clause-seen c = on_ok c.close.result (λ e. close_seen (view c.args.self.now) _ c.args.place e) c.close.ensures.view
 
 pub returns-then-begins_at-clause-smaller : goal.returns-then-begins_at-clause-smaller
 returns-then-begins_at-clause-smaller c =
-    on_both c.close.result (λ e l. lower (work c.args.self.now) (work c.close.new.self) (view c.args.self.now) (view c.close.new.self) c.requires.top.busy (ap (λ (v : View). v.height) e) (work_is c.args.self.now c.close.new.self l)) c.close.ensures.view c.close.ensures.left
+    on_both c.close.result (λ e l. lower (work c.args.self.now) (work c.close.new.self) (view c.args.self.now)
+    (view c.close.new.self) c.requires.top.busy (ap (λ (v : View). v.height) e)
+    (work_is c.args.self.now c.close.new.self l)) c.close.ensures.view c.close.ensures.left
 
 pub returns-clause-walk : goal.returns-clause-walk
 returns-clause-walk c =
     let deep : c.args.place < length c.args.self.now.path.items = path_deep c.args.edges.now c.args.self.now c.args.place c.requires.walk c.requires.top in
-    let node : (view c.args.self.now).path c.args.place ≡ c.index-node.result.now = read_path c.args.self.now c.args.place c.index-node.result.now _ deep c.index-node.ensures in
-    let here : c.index-node.result.now < length c.args.edges.now = top_node c.args.edges.now (view c.args.self.now) c.index-node.result.now c.requires.walk (node_of_top (view c.args.self.now) c.args.place c.index-node.result.now c.requires.top node) in
+    let node : (view c.args.self.now).path c.args.place ≡ c.index-node.result.now =
+    read_path c.args.self.now c.args.place c.index-node.result.now _ deep c.index-node.ensures in
+    let here : c.index-node.result.now < length c.args.edges.now =
+    top_node c.args.edges.now (view c.args.self.now) c.index-node.result.now c.requires.walk
+    (node_of_top (view c.args.self.now) c.args.place c.index-node.result.now c.requires.top node) in
     let size : length c.args.self.now.left.items ≡ length c.args.edges.now = left_size c.args.edges.now c.args.self.now c.requires.walk in
     let within : c.index-node.result.now < length c.args.self.now.left.items = omega arith in
-    let count : c.index.result.now ≡ get_or c.args.self.now.left.items c.index-node.result.now 0 = c.index.ensures ∙ get_or_default c.args.self.now.left.items c.index-node.result.now _ 0 within in
-    let none : (view c.args.self.now).left c.index-node.result.now ≡ 0 = rw (left_at c.args.self.now c.index-node.result.now) (omega (arith, count, c.if-index-gt0.false)) in
+    let count : c.index.result.now ≡ get_or c.args.self.now.left.items c.index-node.result.now 0 = c.index.ensures ∙
+    get_or_default c.args.self.now.left.items c.index-node.result.now _ 0 within in
+    let none : (view c.args.self.now).left c.index-node.result.now ≡ 0 =
+    rw (left_at c.args.self.now c.index-node.result.now) (omega (arith, count, c.if-index-gt0.false)) in
     let begins : begins_at (view c.args.self.now) c.args.place ≡ false = sym c.begins_at.ensures ∙ c.if-begins_at.false in
     pop_kept c.args.edges.now (view c.args.self.now) c.requires.walk c.args.place c.index-node.result.now c.requires.top node none _ begins c.pop.ensures.view
 
@@ -79,4 +103,5 @@ returns-clause-seen c = pop_seen (view c.args.self.now) _ c.pop.ensures.view
 
 pub returns-clause-smaller : goal.returns-clause-smaller
 returns-clause-smaller c =
-    lower (work c.args.self.now) (work c.pop.new.self) (view c.args.self.now) (view c.pop.new.self) c.requires.top.busy (ap (λ (v : View). v.height) c.pop.ensures.view) (work_is c.args.self.now c.pop.new.self c.pop.ensures.left)
+    lower (work c.args.self.now) (work c.pop.new.self) (view c.args.self.now) (view c.pop.new.self) c.requires.top.busy
+    (ap (λ (v : View). v.height) c.pop.ensures.view) (work_is c.args.self.now c.pop.new.self c.pop.ensures.left)

@@ -12,32 +12,62 @@ pub lift_all-requires-clause-below : goal.lift_all-requires-clause-below
 lift_all-requires-clause-below g c =
     let live = ap (λ (z : Stored). get_or z.live c.args.set false) c.self.view_is ∙ c.requires.live in
     let below = live_below _ c.args.set c.self.invariant live in
-    let first = get_or_read c.self.inside.firsts.items c.args.set _ (let z : c.args.set < length c.self.inside.firsts.items = omega (arith, below, c.self.invariant.firsts_length) in z) c.index-first.ensures 0 in
-    let count = get_or_read c.self.inside.counts.items c.args.set _ (let z : c.args.set < length c.self.inside.counts.items = omega (arith, below, c.self.invariant.counts_length) in z) c.index-count.ensures 0 in
-    rw (first, count) (λ i h. omega (arith, (kids_circle _ c.args.set c.self.invariant live).below i h, c.self.invariant.ring_length, c.self.invariant.rows_length, ap length c.deref.ensures.value))
+    let first = get_or_read c.self.inside.firsts.items c.args.set _
+    (let z : c.args.set < length c.self.inside.firsts.items = omega (arith, below, c.self.invariant.firsts_length)
+    in z) c.index-first.ensures 0 in
+    let count = get_or_read c.self.inside.counts.items c.args.set _
+    (let z : c.args.set < length c.self.inside.counts.items = omega (arith, below, c.self.invariant.counts_length)
+    in z) c.index-count.ensures 0 in
+    rw (first, count) (λ i h. omega (
+      arith,
+      (kids_circle _ c.args.set c.self.invariant live).below i h,
+      c.self.invariant.ring_length,
+      c.self.invariant.rows_length,
+      ap length c.deref.ensures.value,
+    ))
 
 pub lift_all-requires-clause-apart : goal.lift_all-requires-clause-apart
 lift_all-requires-clause-apart g c =
     let live = ap (λ (z : Stored). get_or z.live c.args.set false) c.self.view_is ∙ c.requires.live in
     let below = live_below _ c.args.set c.self.invariant live in
-    let first = get_or_read c.self.inside.firsts.items c.args.set _ (let z : c.args.set < length c.self.inside.firsts.items = omega (arith, below, c.self.invariant.firsts_length) in z) c.index-first.ensures 0 in
-    let count = get_or_read c.self.inside.counts.items c.args.set _ (let z : c.args.set < length c.self.inside.counts.items = omega (arith, below, c.self.invariant.counts_length) in z) c.index-count.ensures 0 in
-    rw (first, count) (λ a b m h ka kb ta tb. c.self.invariant.family.laminar.children.apart c.args.set a b m below (omega (arith, h, c.deref_mut.ensures.len, c.self.invariant.tops_length)) ka kb (rw c.deref.ensures.value at ta) (rw c.deref.ensures.value at tb))
+    let first = get_or_read c.self.inside.firsts.items c.args.set _
+    (let z : c.args.set < length c.self.inside.firsts.items = omega (arith, below, c.self.invariant.firsts_length)
+    in z) c.index-first.ensures 0 in
+    let count = get_or_read c.self.inside.counts.items c.args.set _
+    (let z : c.args.set < length c.self.inside.counts.items = omega (arith, below, c.self.invariant.counts_length)
+    in z) c.index-count.ensures 0 in
+    rw (first, count) (λ a b m h ka kb ta tb. c.self.invariant.family.laminar.children.apart c.args.set a b m below
+    (omega (arith, h, c.deref_mut.ensures.len, c.self.invariant.tops_length)) ka kb (rw c.deref.ensures.value at ta)
+    (rw c.deref.ensures.value at tb))
 
 pub orphan-requires-clause-below : goal.orphan-requires-clause-below
 orphan-requires-clause-below g c =
     let live = ap (λ (z : Stored). get_or z.live c.args.set false) c.self.view_is ∙ c.requires.live in
     let below = live_below _ c.args.set c.self.invariant live in
-    let first = get_or_read c.self.inside.firsts.items c.args.set _ (let z : c.args.set < length c.self.inside.firsts.items = omega (arith, below, c.self.invariant.firsts_length) in z) c.index-first.ensures 0 in
-    let count = get_or_read c.self.inside.counts.items c.args.set _ (let z : c.args.set < length c.self.inside.counts.items = omega (arith, below, c.self.invariant.counts_length) in z) c.index-count.ensures 0 in
-    rw (first, count) (λ i h. omega (arith, (kids_circle _ c.args.set c.self.invariant live).below i h, c.self.invariant.ring_length, c.self.invariant.parents_length, c.deref_mut-2.ensures.len))
+    let first = get_or_read c.self.inside.firsts.items c.args.set _
+    (let z : c.args.set < length c.self.inside.firsts.items = omega (arith, below, c.self.invariant.firsts_length)
+    in z) c.index-first.ensures 0 in
+    let count = get_or_read c.self.inside.counts.items c.args.set _
+    (let z : c.args.set < length c.self.inside.counts.items = omega (arith, below, c.self.invariant.counts_length)
+    in z) c.index-count.ensures 0 in
+    rw (first, count) (λ i h. omega (
+      arith,
+      (kids_circle _ c.args.set c.self.invariant live).below i h,
+      c.self.invariant.ring_length,
+      c.self.invariant.parents_length,
+      c.deref_mut-2.ensures.len,
+    ))
 
 pub untie-requires-clause-some : goal.untie-requires-clause-some
 untie-requires-clause-some g c =
     let live = ap (λ (z : Stored). get_or z.live c.args.set false) c.self.view_is ∙ c.requires.live in
     let below = live_below _ c.args.set c.self.invariant live in
-    let first = get_or_read c.self.inside.firsts.items c.args.set _ (let z : c.args.set < length c.self.inside.firsts.items = omega (arith, below, c.self.invariant.firsts_length) in z) c.index-first.ensures 0 in
-    let count = get_or_read c.self.inside.counts.items c.args.set _ (let z : c.args.set < length c.self.inside.counts.items = omega (arith, below, c.self.invariant.counts_length) in z) c.index-count.ensures 0 in
+    let first = get_or_read c.self.inside.firsts.items c.args.set _
+    (let z : c.args.set < length c.self.inside.firsts.items = omega (arith, below, c.self.invariant.firsts_length)
+    in z) c.index-first.ensures 0 in
+    let count = get_or_read c.self.inside.counts.items c.args.set _
+    (let z : c.args.set < length c.self.inside.counts.items = omega (arith, below, c.self.invariant.counts_length)
+    in z) c.index-count.ensures 0 in
     let least : c.self.inside.size ≤ c.args.set = omega (arith, ap (λ (z : Stored). z.size) c.self.view_is, c.requires.above) in
     omega (arith, count, kids_some _ c.args.set c.self.invariant least live)
 
@@ -45,13 +75,29 @@ pub untie-requires-clause-circle : goal.untie-requires-clause-circle
 untie-requires-clause-circle g c =
     let live = ap (λ (z : Stored). get_or z.live c.args.set false) c.self.view_is ∙ c.requires.live in
     let below = live_below _ c.args.set c.self.invariant live in
-    let first = get_or_read c.self.inside.firsts.items c.args.set _ (let z : c.args.set < length c.self.inside.firsts.items = omega (arith, below, c.self.invariant.firsts_length) in z) c.index-first.ensures 0 in
-    let count = get_or_read c.self.inside.counts.items c.args.set _ (let z : c.args.set < length c.self.inside.counts.items = omega (arith, below, c.self.invariant.counts_length) in z) c.index-count.ensures 0 in
+    let first = get_or_read c.self.inside.firsts.items c.args.set _
+    (let z : c.args.set < length c.self.inside.firsts.items = omega (arith, below, c.self.invariant.firsts_length)
+    in z) c.index-first.ensures 0 in
+    let count = get_or_read c.self.inside.counts.items c.args.set _
+    (let z : c.args.set < length c.self.inside.counts.items = omega (arith, below, c.self.invariant.counts_length)
+    in z) c.index-count.ensures 0 in
     rw (first, count) (kids_circle _ c.args.set c.self.invariant live)
 
 -- the lists as they were when the call began
 abbrev before : (g : given.Over) → goal.After-self-5-1 g → Stored
-before g c = record { size = c.self.inside.size; live = c.self.inside.live.items; rows = c.self.inside.rows.items; values = c.self.inside.values.items; parents = c.self.inside.parents.items; firsts = c.self.inside.firsts.items; counts = c.self.inside.counts.items; ring = c.self.inside.ring; joins = c.self.inside.joins.items; tops = c.self.inside.tops.items }
+before g c = record {
+  size = c.self.inside.size;
+  live = c.self.inside.live.items;
+  rows = c.self.inside.rows.items;
+  values = c.self.inside.values.items;
+  parents = c.self.inside.parents.items;
+  firsts = c.self.inside.firsts.items;
+  counts = c.self.inside.counts.items;
+  ring = c.self.inside.ring;
+  joins = c.self.inside.joins.items;
+  tops =
+      c.self.inside.tops.items;
+}
 
 -- the lists as they are when it ends
 abbrev after : (g : given.Over) → goal.After-self-5-1 g → Stored
@@ -63,8 +109,12 @@ answer : (g : given.Over) (c : goal.After-self-5-1 g) → IsKept (after g c) × 
 answer g c =
     let live = ap (λ (z : Stored). get_or z.live c.args.set false) c.self.view_is ∙ c.requires.live in
     let below = live_below _ c.args.set c.self.invariant live in
-    let first = get_or_read c.self.inside.firsts.items c.args.set _ (let z : c.args.set < length c.self.inside.firsts.items = omega (arith, below, c.self.invariant.firsts_length) in z) c.index-first.ensures 0 in
-    let count = get_or_read c.self.inside.counts.items c.args.set _ (let z : c.args.set < length c.self.inside.counts.items = omega (arith, below, c.self.invariant.counts_length) in z) c.index-count.ensures 0 in
+    let first = get_or_read c.self.inside.firsts.items c.args.set _
+    (let z : c.args.set < length c.self.inside.firsts.items = omega (arith, below, c.self.invariant.firsts_length)
+    in z) c.index-first.ensures 0 in
+    let count = get_or_read c.self.inside.counts.items c.args.set _
+    (let z : c.args.set < length c.self.inside.counts.items = omega (arith, below, c.self.invariant.counts_length)
+    in z) c.index-count.ensures 0 in
     let least : c.self.inside.size ≤ c.args.set = omega (arith, ap (λ (z : Stored). z.size) c.self.view_is, c.requires.above) in
     let top = ap (λ (z : Stored). get_or z.parents c.args.set None) c.self.view_is ∙ c.requires.top in
     let none = ap (λ (z : Stored). get_or z.values c.args.set 0) c.self.view_is ∙ c.requires.value in

@@ -1,7 +1,21 @@
 use Rattle.dpl_laminar.proofs.Keeping.{AreStart, start_kept, start_singles}
 use Rattle.dpl_laminar.proofs.family.Family.new.Goals as goal
 
-start : (c : goal.In_ok-tops) → AreStart (record { size = c.args.n; live = c.in_ok-live.live.items; rows = c.in_ok-rows.rows.items; values = c.in_ok-values.values.items; parents = c.in_ok-parents.parents.items; firsts = c.in_ok-firsts.firsts.items; counts = c.in_ok-counts.counts.items; ring = c.in_ok-ring.ring; joins = c.in_ok-joins.joins.items; tops = c.in_ok-tops.tops.items })
+start : (c : goal.In_ok-tops) → AreStart (record {
+  size = c.args.n;
+  live = c.in_ok-live.live.items;
+  rows =
+      c.in_ok-rows.rows.items;
+  values = c.in_ok-values.values.items;
+  parents = c.in_ok-parents.parents.items;
+  firsts =
+      c.in_ok-firsts.firsts.items;
+  counts = c.in_ok-counts.counts.items;
+  ring = c.in_ok-ring.ring;
+  joins =
+      c.in_ok-joins.joins.items;
+  tops = c.in_ok-tops.tops.items;
+})
 start c = record {
   live_length = c.in_ok-live.ensures.length;
   live = c.in_ok-live.ensures.each;

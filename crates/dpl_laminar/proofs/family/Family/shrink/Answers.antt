@@ -12,7 +12,9 @@ name_of-name-requires-clause-apart g c = λ m hm h.
     let j = subst (λ (z : Stored). AreJoined (sets_of z) c.args.children.now c.args.joins.now) (sym c.self.view_is) c.requires in
     let h0 = has_at c.args.children.now 0 (omega (arith, j.tops.several)) in
     let h1 = has_at c.args.children.now 1 (omega (arith, j.tops.several)) in
-    rw c.deref-2.ensures.value (tops_apart _ _ _ m c.self.invariant (j.tops.below _ h0) (j.tops.below _ h1) (j.tops.parentless _ h0) (j.tops.parentless _ h1) (j.tops.distinct 0 1 (omega arith) (omega (arith, j.tops.several))) hm (rw c.deref-2.ensures.value at h))
+    rw c.deref-2.ensures.value (tops_apart _ _ _ m c.self.invariant (j.tops.below _ h0) (j.tops.below _ h1)
+    (j.tops.parentless _ h0) (j.tops.parentless _ h1)
+    (j.tops.distinct 0 1 (omega arith) (omega (arith, j.tops.several))) hm (rw c.deref-2.ensures.value at h))
 
 pub adopt-requires : goal.adopt-requires
 adopt-requires g c = λ i h.
@@ -36,7 +38,19 @@ tie-requires-clause-alone g c = λ i h.
 
 -- the lists as they were when the call began
 abbrev before : (g : given.Over) → goal.After-self-7-1 g → Stored
-before g c = record { size = c.self.inside.size; live = c.self.inside.live.items; rows = c.self.inside.rows.items; values = c.self.inside.values.items; parents = c.self.inside.parents.items; firsts = c.self.inside.firsts.items; counts = c.self.inside.counts.items; ring = c.self.inside.ring; joins = c.self.inside.joins.items; tops = c.self.inside.tops.items }
+before g c = record {
+  size = c.self.inside.size;
+  live = c.self.inside.live.items;
+  rows = c.self.inside.rows.items;
+  values = c.self.inside.values.items;
+  parents = c.self.inside.parents.items;
+  firsts = c.self.inside.firsts.items;
+  counts = c.self.inside.counts.items;
+  ring = c.self.inside.ring;
+  joins = c.self.inside.joins.items;
+  tops =
+      c.self.inside.tops.items;
+}
 
 -- the lists as they are when it ends
 abbrev after : (g : given.Over) → goal.After-self-7-1 g → Stored
@@ -45,10 +59,14 @@ after g c = with_set (before g c) c.args.children.now (c.self.inside.size + c.na
     (take c.self.inside.joins.len (c.join.new.all ++ drop (length c.join.new.all) c.self.inside.joins.items))
     (take c.self.inside.tops.len (c.gather.new.tops ++ drop (length c.gather.new.tops) c.self.inside.tops.items))
 
-answer : (g : given.Over) (c : goal.After-self-7-1 g) → IsKept (after g c) × IsShrunk (sets_of (before g c)) c.args.children.now c.args.joins.now (c.self.inside.size + c.name_of-name.result) (sets_of (after g c))
+answer : (g : given.Over) (c : goal.After-self-7-1 g) → IsKept (after g c) ×
+    IsShrunk (sets_of (before g c)) c.args.children.now c.args.joins.now (c.self.inside.size + c.name_of-name.result)
+    (sets_of (after g c))
 answer g c =
     let j = subst (λ (z : Stored). AreJoined (sets_of z) c.args.children.now c.args.joins.now) (sym c.self.view_is) c.requires in
-    let written : AreWritten (before g c) c.args.children.now c.args.joins.now (c.self.inside.size + c.name_of-name.result) c.in_ok-members.members c.adopt.new.parents c.tie.new.ring c.join.new.all c.gather.new.tops = record {
+    let written : AreWritten (before g c) c.args.children.now c.args.joins.now
+    (c.self.inside.size + c.name_of-name.result) c.in_ok-members.members c.adopt.new.parents c.tie.new.ring
+    c.join.new.all c.gather.new.tops = record {
       members = c.in_ok-members.ensures ∙ ap (map (has c.args.children.now)) c.deref.ensures.value;
       parents_length = c.adopt.auto.parents ∙ ap length c.deref_mut-2.ensures.value;
       parents = rw c.deref_mut-2.ensures.value at c.adopt.ensures;
@@ -61,7 +79,8 @@ answer g c =
       tops_length = c.gather.auto.tops ∙ ap length c.deref_mut.ensures.value;
       tops = rw c.deref_mut.ensures.value at c.gather.ensures;
     } in
-    shrink_answer _ c.args.children.now c.args.joins.now c.name_of-name.result _ _ _ _ _ _ _ _ c.self.invariant j c.name_of-name.ensures.below (rw c.deref-2.ensures.value at c.name_of-name.ensures.name) written
+    shrink_answer _ c.args.children.now c.args.joins.now c.name_of-name.result _ _ _ _ _ _ _ _ c.self.invariant j
+    c.name_of-name.ensures.below (rw c.deref-2.ensures.value at c.name_of-name.ensures.name) written
     (kept_whole c.adopt.new.parents _ c.self.inside.parents.len (omega (arith, c.self.inside.parents.ok, written.parents_length)))
     (kept_whole c.join.new.all _ c.self.inside.joins.len (omega (arith, c.self.inside.joins.ok, written.joins_length)))
     (kept_whole c.gather.new.tops _ c.self.inside.tops.len (omega (arith, c.self.inside.tops.ok, written.tops_length)))

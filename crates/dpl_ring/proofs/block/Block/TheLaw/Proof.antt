@@ -28,7 +28,8 @@ module _ (R : RattleType) (L : RowLaws R) where
   slots_laws : (p : Ptr) (xs : List R.Denot) (fs : List Bool) → ShrLaws (slots_lent R p xs fs)
   slots_laws p [] fs = nothing_shr_laws
   slots_laws p (x ∷ xs) [] = nothing_shr_laws
-  slots_laws p (x ∷ xs) (f ∷ fs) = beside_shr_laws (slot_lent R f p x) (slots_lent R (p +ₚ bytes_of R) xs fs) (slot_laws f p x) (slots_laws (p +ₚ bytes_of R) xs fs)
+  slots_laws p (x ∷ xs) (f ∷ fs) = beside_shr_laws (slot_lent R f p x) (slots_lent R (p +ₚ bytes_of R) xs fs)
+      (slot_laws f p x) (slots_laws (p +ₚ bytes_of R) xs fs)
 
 module _ {M : Type 1} {𝓤 : Ura M} (𝓛 : Logic 𝓤) (R : RattleType) (l : Lft) (s : Shares 𝓛 R l) where
   Lends-slot : (f : Bool) (p : Ptr) (x : R.Denot) → Lends 𝓛 (slot R f p x) (slot_lent R f p x) l
@@ -39,7 +40,8 @@ module _ {M : Type 1} {𝓤 : Ura M} (𝓛 : Logic 𝓤) (R : RattleType) (l : L
   Lends-slots p [] fs = Lends-nothing 𝓛 ftrue l
   Lends-slots p (x ∷ xs) [] = Lends-nothing 𝓛 ftrue l
   Lends-slots p (x ∷ xs) (f ∷ fs) =
-      Lends-both 𝓛 (slot R f p x) (slots R (p +ₚ bytes_of R) xs fs) (slot_lent R f p x) (slots_lent R (p +ₚ bytes_of R) xs fs) l (Lends-slot f p x) (Lends-slots (p +ₚ bytes_of R) xs fs)
+      Lends-both 𝓛 (slot R f p x) (slots R (p +ₚ bytes_of R) xs fs) (slot_lent R f p x)
+      (slots_lent R (p +ₚ bytes_of R) xs fs) l (Lends-slot f p x) (Lends-slots (p +ₚ bytes_of R) xs fs)
 
   Lends-row : (p : Ptr) (xs : List R.Denot) (fs : List Bool) → Lends 𝓛 (in_block p (slots R p xs fs)) (slots_lent R p xs fs) l
   Lends-row (block_ptr b o) xs fs = Lends-slots (block_ptr b o) xs fs

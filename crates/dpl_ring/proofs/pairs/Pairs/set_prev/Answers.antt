@@ -5,4 +5,8 @@ use Rattle.dpl_ring.proofs.PairLemmas.{nexts_kept, prevs_set}
 use Rattle.dpl_ring.proofs.pairs.Pairs.set_prev.Goals as goal
 
 pub returns : goal.returns
-returns c = rw (← c.self.view_is) (λ j. ((ap nexts_of c.put.ensures.0 ∙ nexts_kept _ _ _ (ap (λ (p : Pair). p.next) c.get.ensures)) j, (ap prevs_of c.put.ensures.0 ∙ prevs_set _ _ _) j))
+returns c = rw (← c.self.view_is) (λ j. (
+  (ap nexts_of c.put.ensures.0 ∙
+      nexts_kept _ _ _ (ap (λ (p : Pair). p.next) c.get.ensures)) j,
+  (ap prevs_of c.put.ensures.0 ∙ prevs_set _ _ _) j,
+))

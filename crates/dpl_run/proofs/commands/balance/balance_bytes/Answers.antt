@@ -6,7 +6,9 @@ use Rattle.dpl_run.proofs.SplitLemmas.{free_of}
 use Rattle.dpl_run.proofs.commands.balance.balance_bytes.Goals as goal
 
 pub returns-in-Ok : goal.returns-in-Ok
-returns-in-Ok c = done c.in-Ok.output.items c.in-Ok.ensures.split (free_of c.args.options.now c.args.text.now c.balance_commands.result c.in-Ok.output c.in-Ok.is c.balance_commands.ensures.exact)
+returns-in-Ok c = done c.in-Ok.output.items c.in-Ok.ensures.split
+    (free_of c.args.options.now c.args.text.now c.balance_commands.result c.in-Ok.output c.in-Ok.is
+    c.balance_commands.ensures.exact)
 
 pub returns-in-Err : goal.returns-in-Err
 returns-in-Err c =

@@ -13,7 +13,13 @@ pub returns-in-Ok-No : goal.returns-in-Ok-No
 returns-in-Ok-No c =
     let f : SFits w64 c.in-Ok-No.found = search rules in
     let h : SFits w64 c.in-Ok-No.wanted = search rules in
-    rw (c.bare-in-Ok-No.ensures.status, c.bare-in-Ok-No.ensures.output, to_z-of_z w64 c.in-Ok-No.found f, to_z-of_z w64 c.in-Ok-No.wanted h) (rejected c.in-Ok-No.reason c.in-Ok-No.place c.in-Ok-No.found c.in-Ok-No.wanted (rw c.in-Ok-No.field-0-is at c.in-Ok-No.ensures.verdict))
+    rw (
+      c.bare-in-Ok-No.ensures.status,
+      c.bare-in-Ok-No.ensures.output,
+      to_z-of_z w64 c.in-Ok-No.found f,
+      to_z-of_z w64 c.in-Ok-No.wanted h,
+    ) (rejected c.in-Ok-No.reason c.in-Ok-No.place c.in-Ok-No.found
+    c.in-Ok-No.wanted (rw c.in-Ok-No.field-0-is at c.in-Ok-No.ensures.verdict))
 
 pub returns-in-Err : goal.returns-in-Err
 returns-in-Err c =

@@ -10,7 +10,13 @@ lines_of-requires c = nodes_are c.args.options.now c.args.text.now c.in-Ok.layer
 
 pub returns-in-Ok-lines_of : goal.returns-in-Ok-lines_of
 returns-in-Ok-lines_of c =
-    done c.in-Ok-lines_of.output.items (record { fragments = c.in-Ok.layer.fragments; net = c.in-Ok.layer.net; layer = c.in-Ok.ensures.layer; tells = c.in-Ok-lines_of.ensures })
+    done c.in-Ok-lines_of.output.items (record {
+      fragments = c.in-Ok.layer.fragments;
+      net = c.in-Ok.layer.net;
+      layer =
+          c.in-Ok.ensures.layer;
+      tells = c.in-Ok-lines_of.ensures;
+    })
     (clear_of c.args.options.now c.args.text.now c.layer_of_commands.result c.in-Ok.layer c.in-Ok.is c.layer_of_commands.ensures.exact)
 
 pub returns-in-Err : goal.returns-in-Err

@@ -16,10 +16,13 @@ follow-requires-clause-begun c = c.in-Ok-new.ensures.begun.count
 
 pub returns-in-Ok-new : goal.returns-in-Ok-new
 returns-in-Ok-new c =
-    begun_worked c.args.options.now c.same_options-options.result c.args.text.now c.args.script.now c.in-Ok.drawing c.new.result c.in-Ok-new.session c.in-Ok-new.session c.follow.result.status c.follow.result.output.items
+    begun_worked c.args.options.now c.same_options-options.result c.args.text.now c.args.script.now c.in-Ok.drawing
+    c.new.result c.in-Ok-new.session c.in-Ok-new.session c.follow.result.status c.follow.result.output.items
     c.same_options-options.ensures c.in-Ok.ensures.drawing c.in-Ok-new.is c.new.ensures.exact c.in-Ok-new.ensures.begun c.follow.ensures
 
 pub returns-in-Err-new : goal.returns-in-Err-new
 returns-in-Err-new c =
-    too_much_worked c.args.options.now c.same_options-options.result c.args.text.now c.args.script.now c.in-Ok.drawing c.in-Err-new.error c.bare.result.status c.bare.result.output.items
-    c.same_options-options.ensures c.in-Ok.ensures.drawing (c.new.ensures.refused c.in-Err-new.error c.in-Err-new.is) (c.bare.ensures.status ∙ c.of_edit.ensures) c.bare.ensures.output
+    too_much_worked c.args.options.now c.same_options-options.result c.args.text.now c.args.script.now c.in-Ok.drawing
+    c.in-Err-new.error c.bare.result.status c.bare.result.output.items
+    c.same_options-options.ensures c.in-Ok.ensures.drawing (c.new.ensures.refused c.in-Err-new.error c.in-Err-new.is)
+    (c.bare.ensures.status ∙ c.of_edit.ensures) c.bare.ensures.output

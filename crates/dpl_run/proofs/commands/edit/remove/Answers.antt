@@ -8,4 +8,5 @@ pub returns-in-Ok-clause-edits : goal.returns-in-Ok-clause-edits
 returns-in-Ok-clause-edits c = of_edited c.args.session.now c.remove.new.self _ _ c.in-Ok.ensures.removed.1
 
 pub returns-in-Err-clause-stops : goal.returns-in-Err-clause-stops
-returns-in-Err-clause-stops c = removal_stops c.args.session.now c.args.removed c.args.number c.in-Err.error _ c.of_removal.ensures (c.remove.ensures.refused c.in-Err.error c.in-Err.is).1
+returns-in-Err-clause-stops c = removal_stops c.args.session.now c.args.removed c.args.number c.in-Err.error _
+    c.of_removal.ensures (c.remove.ensures.refused c.in-Err.error c.in-Err.is).1
