@@ -9,6 +9,10 @@ pub record PlainWeights : Type 0 where
   pub conflict : ℕ
   pub corner : ℕ
 
+-- the weights where none is asked for
+abbrev pub usual_weights : PlainWeights
+usual_weights = record { stitch = 1; conflict = 10; corner = 10 }
+
 -- The layer, the spacing and the overlap in hundredths of a micron, the weights, and the layer where nothing is cut.
 pub record PlainOptions : Type 0 where
   pub layer : List ℕ

@@ -1,12 +1,12 @@
 // The weights of what is broken.
 ghost use Rattle.std.specs.Prelude.{◌≡◌, ◌≤◌};
 ghost use Rattle.dpl_limits.specs.declared.TheConstants.{MOST_WEIGHT};
-ghost use Rattle.dpl_options.specs.Options.{PlainWeights, AreWeights};
+ghost use Rattle.dpl_options.specs.Options.{PlainWeights, AreWeights, usual_weights};
 
 use std::marker::Model;
 
 /// What a broken stitch, a broken conflict between sides and one between corners weigh, each 1 to 1,000,000.
-#[derive(Drop)]
+#[derive(Clone, Copy, Drop)]
 pub struct Weights {
     stitch: u64,
     conflict: u64,
@@ -19,6 +19,8 @@ impl Model for Weights {
     ghost Value = { PlainWeights };
 
     ghost view = { λ w. record { stitch = w.stitch; conflict = w.conflict; corner = w.corner } };
+
+    ghost inverse = { λ v. record { stitch = v.stitch; conflict = v.conflict; corner = v.corner } };
 
     ghost invariant = { λ w. AreWeights (record { stitch = w.stitch; conflict = w.conflict; corner = w.corner }) };
 }
@@ -33,6 +35,13 @@ impl Weights {
             conflict,
             corner,
         }
+    }
+
+    /// Those of a split for which none is asked.
+    pub fn usual() -> Weights
+        ensures { result ≡ usual_weights }
+    {
+        Weights::new(1, 10, 10)
     }
 
     pub fn stitch(&self) -> u64

@@ -288,10 +288,6 @@ script_worked s text ls lines a x is same w =
 
 -- ---- options by their values
 
-pub same_weights : (w : PlainWeights) (stitch conflict corner : ℕ) → stitch ≡ w.stitch → conflict ≡ w.conflict → corner ≡ w.corner
-    → ◌≡◌ {A = PlainWeights} (record { stitch = stitch; conflict = conflict; corner = corner }) w
-same_weights w stitch conflict corner a b c = rw (a, b, c) refl
-
 pub same_plain : (o : PlainOptions) (layer : List ℕ) (space overlap : ℕ) (weights : PlainWeights)
     (keep : Option (List ℕ)) → layer ≡ o.layer → space ≡ o.space → overlap ≡ o.overlap → weights ≡ o.weights →
     keep ≡ o.keep

@@ -1,6 +1,6 @@
 -- What `load` answers for a made layout: why it has no report, or a line with the numbers of its report.
 use Rattle.std.specs.Prelude.{ℕ, ◌+◌, List, [], length, None, codes}
-use Rattle.dpl_options.specs.Options.{PlainOptions}
+use Rattle.dpl_options.specs.Options.{PlainOptions, usual_weights}
 use Rattle.dpl_report.specs.Plain.{PlainReport}
 use Rattle.dpl_layer.specs.declared.error.LayerError.{LayerError}
 use Rattle.dpl_core.specs.Reports.{IsReportOf}
@@ -17,7 +17,7 @@ made_options = record {
   layer = codes "M";
   space = 100;
   overlap = 20;
-  weights = record { stitch = 1; conflict = 10; corner = 10 };
+  weights = usual_weights;
   keep = None;
 }
 

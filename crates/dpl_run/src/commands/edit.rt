@@ -13,7 +13,7 @@ use dpl_edit::{EditError, RemoveError, Session};
 use dpl_layer::read_drawing;
 use dpl_lex::Name;
 use dpl_lex::types::Commands;
-use dpl_options::{Options, Weights};
+use dpl_options::Options;
 use dpl_report::print;
 use dpl_words::{Line, ScriptError, script as lines_of};
 use std::alloc::{AllocError, Global};
@@ -47,13 +47,11 @@ fn same_options(options: &Options) -> Options
     ensures { result ≡ options.now }
 {
     options.in_range();
-    let weights = options.weights();
-    let weights = Weights::new(weights.stitch(), weights.conflict(), weights.corner());
     Options::new(
         same_name(options.layer()),
         options.space(),
         options.overlap(),
-        weights,
+        *options.weights(),
         same_keep(options.keep()),
     )
 }

@@ -16,8 +16,7 @@ use dpl_options::{Options, Weights};
 use dpl_report::Report;
 use std::alloc::Global;
 
-/// What is due for a made layout: layer M, spacing 100, overlap 20, a stitch weighs 1 and a conflict 10, and nothing is
-/// kept.
+/// What is due for a made layout: layer M, spacing 100, overlap 20, the usual weights, and nothing is kept.
 pub fn load_made(alloc: Global, start: u64, rows: u32, columns: u32) -> Due
     requires start { start ≤ 10 ^ 12 }
     requires rows { (1 ≤ rows) × (rows ≤ 200) }
@@ -44,7 +43,7 @@ fn options_of_made() -> Options
         Some(layer) => layer,
         None => unreachable!(),
     };
-    Options::new(layer, 100, 20, Weights::new(1, 10, 10), None)
+    Options::new(layer, 100, 20, Weights::usual(), None)
 }
 
 /// The line of a report of a made layout.
