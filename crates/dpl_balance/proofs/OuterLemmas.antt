@@ -22,7 +22,7 @@ use Rattle.dpl_cuts.specs.declared.types.Fragments.{Fragments}
 use Rattle.dpl_cuts.specs.Positions.{nowhere, rect_at}
 use Rattle.dpl_cuts.specs.Fragments.{AreFragments, CameFromCut}
 use Rattle.dpl_cuts.proofs.AssembleLemmas.{came_apart}
-use Rattle.dpl_report.specs.MaskRects.{where_same, fragments_on, is_zone, zones_of, mask_of}
+use Rattle.dpl_good.specs.MaskRects.{where_same, fragments_on, is_zone, zones_of, mask_of}
 use Rattle.dpl_balance.specs.Areas.{area_of, area_at, fragments_area, half_zone, zones_area, all_fragments, mask_area}
 use Rattle.dpl_balance.specs.Cells.{HoldCell, HasCells}
 use Rattle.dpl_balance.proofs.ListedLemmas.{IsProper, apart_cells, same_cells}

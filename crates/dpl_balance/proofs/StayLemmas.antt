@@ -20,9 +20,9 @@ use Rattle.dpl_report.specs.declared.marks.Broken.{Broken}
 use Rattle.dpl_options.specs.Options.{PlainOptions}
 use Rattle.dpl_report.specs.declared.reports.Report.{Report}
 use Rattle.dpl_report.specs.Plain.{PlainZone, plain_report}
-use Rattle.dpl_report.specs.MaskRects.{mask_of}
-use Rattle.dpl_report.specs.Conditions.{is_stitch, where_zone, cuts_after, zone_here, cuts_from, where_broken, clashes_from}
-use Rattle.dpl_report.specs.Truths.{SaysTrue}
+use Rattle.dpl_good.specs.MaskRects.{mask_of}
+use Rattle.dpl_good.specs.Conditions.{is_stitch, where_zone, cuts_after, zone_here, cuts_from, where_broken, clashes_from}
+use Rattle.dpl_good.specs.Truths.{SaysTrue}
 use Rattle.dpl_parts.specs.Components.{are_one_component}
 use Rattle.dpl_balance.specs.Balance.{AreTurned, BreakTheSame}
 use Rattle.dpl_parts.proofs.JoinedLemmas.{edge_joins}

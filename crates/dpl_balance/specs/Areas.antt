@@ -9,7 +9,7 @@ use Rattle.dpl_sign.specs.Colourings.{agree, colour_of}
 use Rattle.dpl_cuts.specs.declared.types.Cut.{Cut}
 use Rattle.dpl_cuts.specs.declared.types.Fragments.{Fragments}
 use Rattle.dpl_cuts.specs.Positions.{rect_at}
-use Rattle.dpl_report.specs.MaskRects.{is_zone}
+use Rattle.dpl_good.specs.MaskRects.{is_zone}
 
 -- the number of cells of a rectangle
 abbrev pub area_of : Corners → ℕ

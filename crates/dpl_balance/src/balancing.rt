@@ -3,8 +3,8 @@ ghost use Rattle.std.specs.Prelude.{◌≡◌, ◌<◌, ◌≤◌, ◌^◌, ℕ,
 ghost use Rattle.dpl_sign.specs.Colourings.{colour_of};
 ghost use Rattle.dpl_options.specs.Options.{PlainOptions};
 ghost use Rattle.dpl_report.specs.Plain.{plain_report};
-ghost use Rattle.dpl_report.specs.MaskRects.{mask_of};
-ghost use Rattle.dpl_report.specs.Truths.{SaysTrue};
+ghost use Rattle.dpl_good.specs.MaskRects.{mask_of};
+ghost use Rattle.dpl_good.specs.Truths.{SaysTrue};
 ghost use Rattle.dpl_parts.specs.Components.{AreComponents};
 ghost use Rattle.dpl_balance.specs.Balance.{AreBalanced, AreTurned, BreakTheSame, turn};
 ghost use Rattle.dpl_balance.specs.Rest.{IsRestOf};
@@ -12,9 +12,10 @@ ghost use Rattle.dpl_balance.specs.Rest.{IsRestOf};
 use crate::adding::sides;
 use crate::turning::turned;
 use dpl_cuts::types::Fragments;
+use dpl_good::masks;
 use dpl_list::Items;
 use dpl_parts::counted_components;
-use dpl_report::{Report, masks};
+use dpl_report::Report;
 use dpl_sign::Net;
 use std::alloc::{AllocError as NoMemory, Global};
 

@@ -5,14 +5,14 @@ ghost use Rattle.dpl_limits.specs.Limits.{most_coordinate};
 ghost use Rattle.dpl_cell.specs.Places.{corners_of};
 ghost use Rattle.dpl_sign.specs.Colourings.{colour_of};
 ghost use Rattle.dpl_cuts.specs.Fragments.{CameFromCut};
-ghost use Rattle.dpl_report.specs.MaskRects.{mask_of};
+ghost use Rattle.dpl_good.specs.MaskRects.{mask_of};
 ghost use Rattle.dpl_balance.specs.Areas as spec;
 ghost use Rattle.dpl_balance.specs.Cells.{HoldCell, HasCells};
 
 use crate::types::Areas;
 use dpl_cell::Rect;
 use dpl_cuts::types::{Cut, Fragments};
-use dpl_report::colour_at;
+use dpl_good::colour_at;
 
 /// How many columns or rows go from `from` to `to`.
 fn extent(from: i64, to: i64) -> u64

@@ -2,9 +2,9 @@
 use Rattle.std.proofs.Common.{arith, ◌≡◌, ℕ, ◌+◌, List, [], ◌∷◌, ◌++◌, length, refl, sym, ap, ◌∙◌, Option, None, Some}
 use Rattle.dpl_cell.specs.Places.{Corners}
 use Rattle.dpl_rules.specs.Readers.{or_else}
-use Rattle.dpl_report.specs.declared.refusals.Miss.{Miss}
-use Rattle.dpl_report.specs.Misses.{numbers_miss}
-use Rattle.dpl_report.specs.Conditions.{corner_numbers, boxes_miss}
+use Rattle.dpl_good.specs.declared.refusals.Miss.{Miss}
+use Rattle.dpl_good.specs.Misses.{numbers_miss}
+use Rattle.dpl_good.specs.Conditions.{corner_numbers, boxes_miss}
 
 or_assoc : (a b c : Option Miss) → or_else (or_else a b) c ≡ or_else a (or_else b c)
 or_assoc None b c = refl

@@ -3,11 +3,11 @@ use Rattle.std.proofs.Common.{◌≡◌, ◌<◌, ◌⊎◌, inl, inr, ℕ, Bool
 use Rattle.std.specs.Prelude.{pos}
 use Rattle.std.proofs.lemmas.Bool.{ltb-true}
 use Rattle.dpl_rules.specs.Readers.{or_else}
-use Rattle.dpl_report.specs.declared.refusals.Miss.{Miss}
-use Rattle.dpl_report.specs.Misses.{miss}
-use Rattle.dpl_report.specs.Conditions.{edge_miss, lists_miss}
-use Rattle.dpl_report.specs.FirstDifferences.{FirstDifference}
-use Rattle.dpl_report.proofs.ListLaws.{AreTold, edge_none}
+use Rattle.dpl_good.specs.declared.refusals.Miss.{Miss}
+use Rattle.dpl_good.specs.Misses.{miss}
+use Rattle.dpl_good.specs.Conditions.{edge_miss, lists_miss}
+use Rattle.dpl_good.specs.FirstDifferences.{FirstDifference}
+use Rattle.dpl_good.proofs.ListLaws.{AreTold, edge_none}
 
 abbrev some_miss : Miss → Option Miss
 some_miss m = Some m

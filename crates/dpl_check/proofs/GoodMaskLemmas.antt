@@ -2,8 +2,8 @@
 use Rattle.std.proofs.Common.{◌≡◌, ℕ, List}
 use Rattle.std.specs.Prelude.{Result, Ok, IfOk}
 use Rattle.dpl_options.specs.Options.{PlainOptions, AreOptions}
-use Rattle.dpl_report.specs.MaskCells.{AreCutFrom}
-use Rattle.dpl_report.proofs.MaskCellLemmas.{masks_of_layer}
+use Rattle.dpl_good.specs.MaskCells.{AreCutFrom}
+use Rattle.dpl_good.proofs.MaskCellLemmas.{masks_of_layer}
 use Rattle.dpl_layer.specs.declared.error.LayerError.{LayerError}
 use Rattle.dpl_layer.specs.Drawings.{Cells}
 use Rattle.dpl_layer.proofs.TextLemmas.{on_layer}

@@ -4,7 +4,7 @@ use Rattle.std.specs.Prelude.{Option, None, Some, Result, Ok, Err, IfOk, IfErr}
 use Rattle.dpl_cuts.specs.declared.types.Fragments.{Fragments}
 use Rattle.dpl_sign.specs.declared.nets.Net.{Net}
 use Rattle.dpl_options.specs.Options.{PlainOptions}
-use Rattle.dpl_report.specs.declared.refusals.Refusal.{Refusal}
+use Rattle.dpl_good.specs.declared.refusals.Refusal.{Refusal}
 use Rattle.dpl_layer.specs.declared.error.LayerError.{LayerError}
 use Rattle.dpl_layer.specs.declared.error.LayerError.TheVariants.{NoMemory}
 use Rattle.dpl_layer.specs.Drawings.{Cells}

@@ -8,7 +8,7 @@ use Rattle.dpl_sign.specs.Colourings.{IsColouring, cost_of}
 use Rattle.dpl_options.specs.Options.{PlainOptions}
 use Rattle.dpl_report.specs.Plain.{PlainReport}
 use Rattle.dpl_report.specs.ReportLines.{report_text}
-use Rattle.dpl_report.specs.MaskCells.{AreMasksOf}
+use Rattle.dpl_good.specs.MaskCells.{AreMasksOf}
 use Rattle.dpl_layer.specs.Drawings.{Cells, OnLayer}
 use Rattle.dpl_layer.specs.Layers.{IsLayer}
 use Rattle.dpl_check.specs.declared.verdicts.Verdict.{Verdict}

@@ -3,14 +3,15 @@ ghost use Rattle.std.specs.Prelude.{◌≡◌, ◌≤◌, ◌<◌, ◌^◌, leng
 ghost use Rattle.dpl_cell.specs.Places.{corners_of};
 ghost use Rattle.dpl_report.specs.Plain.{plain_zone};
 ghost use Rattle.dpl_report.specs.Valid.{IsCounts, IsParams};
-ghost use Rattle.dpl_report.specs.declared.refusals.Miss.{Miss};
-ghost use Rattle.dpl_report.specs.FirstDifferences.{FirstDifference};
-ghost use Rattle.dpl_report.specs.Misses as misses;
-ghost use Rattle.dpl_report.specs.Conditions as conditions;
+ghost use Rattle.dpl_good.specs.declared.refusals.Miss.{Miss};
+ghost use Rattle.dpl_good.specs.FirstDifferences.{FirstDifference};
+ghost use Rattle.dpl_good.specs.Misses as misses;
+ghost use Rattle.dpl_good.specs.Conditions as conditions;
 
 use dpl_cell::Rect;
+use dpl_good::Miss;
 use dpl_options::{Options, name_bytes};
-use dpl_report::{Broken, Counts, Miss, Params, Zone};
+use dpl_report::{Broken, Counts, Params, Zone};
 
 /// Two numbers of a line that have to be the same.
 pub fn number_miss(place: u64, found: u64, wanted: u64) -> Option<Miss>

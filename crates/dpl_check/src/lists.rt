@@ -5,13 +5,13 @@ ghost use Rattle.dpl_rules.specs.Readers.{Reads};
 ghost use Rattle.dpl_sign.specs.Colourings.{colour_of, breaks};
 ghost use Rattle.dpl_sign.specs.Kinds.{is_bond, is_clash};
 ghost use Rattle.dpl_sign.specs.Walks.{across, leaves, edge_at, IsOddWalk};
-ghost use Rattle.dpl_report.specs.Misses as misses;
-ghost use Rattle.dpl_report.specs.Conditions as conditions;
+ghost use Rattle.dpl_good.specs.Misses as misses;
+ghost use Rattle.dpl_good.specs.Conditions as conditions;
 
 use crate::compare::{corners_miss, number_miss};
 use dpl_cell::Rect;
-use dpl_report::types::Masks;
-use dpl_report::{Miss, colour_at};
+use dpl_good::types::Masks;
+use dpl_good::{Miss, colour_at};
 use dpl_sign::{Cycle, Edge, Kind, Signed, Walk};
 
 fn bond_miss(colours: &[bool], e: u64, edge: &Edge) -> Option<Miss>

@@ -5,7 +5,7 @@ use Rattle.dpl_cuts.specs.declared.types.Fragments.{Fragments}
 use Rattle.dpl_sign.specs.declared.nets.Net.{Net}
 use Rattle.dpl_options.specs.Options.{PlainOptions}
 use Rattle.dpl_report.specs.Plain.{PlainReport}
-use Rattle.dpl_report.specs.MaskCells.{AreCutFrom, AreMasksOf}
+use Rattle.dpl_good.specs.MaskCells.{AreCutFrom, AreMasksOf}
 use Rattle.dpl_balance.specs.Balance.{AreBalanced}
 use Rattle.dpl_layer.specs.Drawings.{Cells, OnLayer}
 use Rattle.dpl_layer.specs.Layers.{IsLayer, IsLayerOfText}

@@ -11,9 +11,9 @@ use Rattle.dpl_options.specs.Options.{PlainOptions}
 use Rattle.dpl_report.specs.Plain.{PlainReport}
 use Rattle.dpl_report.specs.ReportLines.{report_text}
 use Rattle.dpl_report.specs.Valid.{IsReport}
-use Rattle.dpl_report.specs.Truths.{SaysTrue}
-use Rattle.dpl_report.specs.Verdicts.{refusal_of}
-use Rattle.dpl_report.specs.MaskCells.{AreMasksOf}
+use Rattle.dpl_good.specs.Truths.{SaysTrue}
+use Rattle.dpl_good.specs.Verdicts.{refusal_of}
+use Rattle.dpl_good.specs.MaskCells.{AreMasksOf}
 use Rattle.dpl_solve.specs.Named.{keeps, odd_faces}
 use Rattle.dpl_solve.specs.Solved.{kept_cost, aside_cost, KeepToKept, PassOnce}
 use Rattle.dpl_layer.specs.Drawings.{Cells, OnLayer}

@@ -2,18 +2,19 @@
 ghost use Rattle.std.specs.Prelude.{◌≡◌, ◌<◌, ◌^◌, length, count_by, IfOk};
 ghost use Rattle.dpl_sign.specs.Kinds.{is_bond, is_clash};
 ghost use Rattle.dpl_report.specs.Plain.{plain_report};
-ghost use Rattle.dpl_report.specs.Conditions.{params_of_options, is_stitch as is_stitch_edge};
-ghost use Rattle.dpl_report.specs.Verdicts.{counts_of_net};
-ghost use Rattle.dpl_report.specs.Truths.{SaysTrue};
+ghost use Rattle.dpl_good.specs.Conditions.{params_of_options, is_stitch as is_stitch_edge};
+ghost use Rattle.dpl_good.specs.Verdicts.{counts_of_net};
+ghost use Rattle.dpl_good.specs.Truths.{SaysTrue};
 ghost use Rattle.dpl_sign.specs.Excess.{excess as excess_of, all_edges};
 ghost use Rattle.dpl_solve.specs.Solved.{IsSolution};
 ghost use Rattle.dpl_core.specs.Reports.{IsTight, IsLeast};
 
 use dpl_cuts::types::Fragments;
+use dpl_good::{broken_clashes, broken_cuts, masks};
 use dpl_lex::Name;
 use dpl_list::Items;
 use dpl_options::Options;
-use dpl_report::{Counts, Params, Report, broken_clashes, broken_cuts, masks};
+use dpl_report::{Counts, Params, Report};
 use dpl_sign::{Edge, Kind, Net};
 use dpl_solve::Solution;
 use std::alloc::{AllocError as NoMemory, Global};

@@ -1,5 +1,5 @@
 -- The reader of a report gives back what its lines were written from.
-use Rattle.std.proofs.Common.{Option, None, Some, IfSome, cond, ◌+◌, ◌≡◌, ◌≢◌, ◌==◌, ℕ, zero, Bool, true, false, List}
+use Rattle.std.proofs.Common.{Option, None, Some, IfSome, ◌+◌, ◌≡◌, ◌≢◌, ◌==◌, ℕ, zero, Bool, true, false, List}
 use Rattle.std.proofs.Common.{[], ◌∷◌, ◌++◌, length, map, refl, sym, ap, ◌∙◌, append_assoc, codes, Ok}
 use Rattle.std.specs.List.{list_all, AllByRecursion}
 use Rattle.std.proofs.lemmas.Bool.Decides.{Decides-eqb, not_from_Decides}
@@ -15,9 +15,8 @@ use Rattle.dpl_form.proofs.Formats.{IsFormat, Anywhere, EndFrom, EndsOption, one
 use Rattle.dpl_form.proofs.Formats.{seen_as_format, done_format, optional_format, many_format, refit}
 use Rattle.dpl_form.proofs.Endings.{BeginsOther, ends_at_other, option_ends_at_other, other-map}
 use Rattle.dpl_report.specs.declared.marks.Broken.{Broken}
-use Rattle.dpl_report.specs.declared.params.Params.{Params}
-use Rattle.dpl_report.specs.declared.heads.Values.{Values}
-use Rattle.dpl_report.specs.declared.heads.More.{More}
+use Rattle.dpl_report.specs.declared.values.Values.{Values}
+use Rattle.dpl_report.specs.declared.values.More.{More}
 use Rattle.dpl_report.specs.declared.params.Counts.{Counts}
 use Rattle.dpl_report.specs.Plain.{PlainZone, PlainHead, PlainLists, PlainReport}
 use Rattle.dpl_report.specs.ReportLines as lines

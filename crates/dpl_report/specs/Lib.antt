@@ -2,14 +2,4 @@ pub mod Plain
 pub mod ReportLines
 pub mod Valid
 pub mod Reading
-pub mod Gives
-pub mod Tells
 pub mod Laws
-pub mod MaskRects
-pub mod Misses
-pub mod Conditions
-pub mod Verdicts
-pub mod FirstDifferences
-pub mod Truths
-pub mod MaskCells
-pub mod Facts

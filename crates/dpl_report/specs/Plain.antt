@@ -7,10 +7,8 @@ use Rattle.dpl_report.specs.declared.marks.Zone.{Zone}
 use Rattle.dpl_report.specs.declared.params.Params.{Params}
 use Rattle.dpl_report.specs.declared.params.Counts.{Counts}
 use Rattle.dpl_report.specs.declared.reports.Report.{Report}
-use Rattle.dpl_report.specs.declared.heads.Head.{Head}
-use Rattle.dpl_report.specs.declared.heads.Values.{Values}
-use Rattle.dpl_report.specs.declared.heads.More.{More}
-use Rattle.dpl_report.specs.declared.bodies.Lists.{Lists}
+use Rattle.dpl_report.specs.declared.values.Values.{Values}
+use Rattle.dpl_report.specs.declared.values.More.{More}
 
 -- a broken stitch with its overlap
 pub record PlainZone : Type 0 where
@@ -51,25 +49,6 @@ params_with v m = record {
   conflict = v.conflict;
   corner = m.corner;
   keep = m.keep;
-}
-
-abbrev pub plain_head : Head → PlainHead
-plain_head h = record {
-  params = h.params;
-  counts = h.counts;
-  cost = h.cost;
-  bound =
-      h.bound;
-  colours = h.colours;
-}
-
-abbrev pub plain_lists : Lists → PlainLists
-plain_lists l = record {
-  cuts = map plain_zone l.cuts;
-  clashes = l.clashes;
-  aside =
-      l.aside;
-  cycles = l.cycles;
 }
 
 abbrev pub plain_report : Report → PlainReport

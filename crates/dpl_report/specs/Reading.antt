@@ -9,8 +9,8 @@ use Rattle.dpl_sign.specs.declared.walks.Cycle.{Cycle}
 use Rattle.dpl_boxes.specs.Masks.{box_line}
 use Rattle.dpl_form.specs.Readers.{Reader, one, optional, many, both, seen}
 use Rattle.dpl_report.specs.declared.marks.Broken.{Broken}
-use Rattle.dpl_report.specs.declared.heads.Values.{Values}
-use Rattle.dpl_report.specs.declared.heads.More.{More}
+use Rattle.dpl_report.specs.declared.values.Values.{Values}
+use Rattle.dpl_report.specs.declared.values.More.{More}
 use Rattle.dpl_report.specs.declared.params.Counts.{Counts}
 use Rattle.dpl_report.specs.Plain.{PlainZone, PlainHead, PlainLists, PlainReport, params_with}
 use Rattle.dpl_report.specs.ReportLines as lines

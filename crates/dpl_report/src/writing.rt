@@ -1,4 +1,4 @@
-// The lines of a report, written.
+//! The lines of a report, written. Each function puts its line behind what is there.
 ghost use Rattle.std.specs.Prelude.{◌≡◌, ◌++◌, ◌∷◌, [], pos, map, codes, OnOk};
 ghost use Rattle.dpl_report.specs.Plain.{plain_zone};
 ghost use Rattle.dpl_report.specs.ReportLines.{numbered, broken_numbers, count_line, layer_line, keep_line, version_line as the_version_line, masks_line, letter, cut_line, clash_line, aside_line, cycle_line, mask_line};
@@ -28,6 +28,7 @@ fn push_edges(out: &mut Vec<u8>, edges: &[u32], end: &[u8]) -> Result<(), NoMemo
     out.extend_from_slice(end)
 }
 
+/// A line with a number behind a word.
 pub fn push_count(out: &mut Vec<u8>, word: &[u8], number: u64) -> Result<(), NoMemory>
     ensures { OnOk result (out.new.items ≡ out.old.items ++ count_line word.now number) }
 {
@@ -39,6 +40,7 @@ pub fn push_count(out: &mut Vec<u8>, word: &[u8], number: u64) -> Result<(), NoM
     out.extend_from_slice(b");\n")
 }
 
+/// The line that names the layer.
 pub fn push_layer(out: &mut Vec<u8>, name: &[u8]) -> Result<(), NoMemory>
     ensures { OnOk result (out.new.items ≡ out.old.items ++ layer_line name.now) }
 {
@@ -47,6 +49,7 @@ pub fn push_layer(out: &mut Vec<u8>, name: &[u8]) -> Result<(), NoMemory>
     out.extend_from_slice(b");\n")
 }
 
+/// The line that names the keep layer.
 pub fn push_keep(out: &mut Vec<u8>, name: &[u8]) -> Result<(), NoMemory>
     ensures { OnOk result (out.new.items ≡ out.old.items ++ keep_line name.now) }
 {
@@ -55,6 +58,7 @@ pub fn push_keep(out: &mut Vec<u8>, name: &[u8]) -> Result<(), NoMemory>
     out.extend_from_slice(b");\n")
 }
 
+/// The first line, by the version.
 pub fn version_line(second: bool) -> &'static [u8]
     ensures { result.now ≡ the_version_line second }
 {
@@ -76,6 +80,7 @@ fn push_letters(out: &mut Vec<u8>, colours: &[bool]) -> Result<(), NoMemory>
     Ok(())
 }
 
+/// The line with the mask of each fragment.
 pub fn push_masks(out: &mut Vec<u8>, colours: &[bool]) -> Result<(), NoMemory>
     ensures { OnOk result (out.new.items ≡ out.old.items ++ masks_line colours.now) }
 {
@@ -99,6 +104,7 @@ fn push_corners(out: &mut Vec<u8>, r: &Rect, end: &[u8]) -> Result<(), NoMemory>
     push_numbers(out, &[r.x1, r.y1, r.x2, r.y2], end)
 }
 
+/// The line of a broken stitch and its zone, in grid units.
 pub fn push_cut(out: &mut Vec<u8>, z: &Zone) -> Result<(), NoMemory>
     ensures { OnOk result (out.new.items ≡ out.old.items ++ cut_line (plain_zone z.now)) }
 {
@@ -107,6 +113,7 @@ pub fn push_cut(out: &mut Vec<u8>, z: &Zone) -> Result<(), NoMemory>
     push_corners(out, &z.rect, b");\n")
 }
 
+/// The line of a broken clash.
 pub fn push_clash(out: &mut Vec<u8>, b: &Broken) -> Result<(), NoMemory>
     ensures { OnOk result (out.new.items ≡ out.old.items ++ clash_line b.now) }
 {
@@ -114,6 +121,7 @@ pub fn push_clash(out: &mut Vec<u8>, b: &Broken) -> Result<(), NoMemory>
     push_ends(out, b, b");\n")
 }
 
+/// The line of an edge that is set aside.
 pub fn push_aside(out: &mut Vec<u8>, edge: u32) -> Result<(), NoMemory>
     ensures { OnOk result (out.new.items ≡ out.old.items ++ aside_line edge) }
 {
@@ -121,6 +129,7 @@ pub fn push_aside(out: &mut Vec<u8>, edge: u32) -> Result<(), NoMemory>
     push_numbers(out, &[i64::from(edge)], b");\n")
 }
 
+/// The line of a closed walk with its half weight.
 pub fn push_cycle(out: &mut Vec<u8>, c: &Cycle) -> Result<(), NoMemory>
     ensures { OnOk result (out.new.items ≡ out.old.items ++ cycle_line c.now) }
 {
@@ -131,6 +140,7 @@ pub fn push_cycle(out: &mut Vec<u8>, c: &Cycle) -> Result<(), NoMemory>
     push_edges(out, c.walk.edges.as_slice(), b");\n")
 }
 
+/// The line that begins the boxes of a mask.
 pub fn push_mask(out: &mut Vec<u8>, name: &[u8], mask: u8) -> Result<(), NoMemory>
     ensures { OnOk result (out.new.items ≡ out.old.items ++ mask_line name.now mask) }
 {

@@ -1,6 +1,6 @@
 use dpl_check::{NoMemory, Verdict, check};
 use dpl_options::{Options, Weights};
-use dpl_report::parse;
+use dpl_parse::parse;
 use std::alloc::Global;
 use std::test::Fail;
 

@@ -1,5 +1,6 @@
 use dpl_form::first_line;
-use dpl_report::{NoMemory, ReportError, parse, print};
+use dpl_parse::{ReportError, parse};
+use dpl_report::{NoMemory, print};
 use std::alloc::Global;
 use std::test::Fail;
 

@@ -1,5 +1,5 @@
 use Rattle.std.proofs.Common.{false, true, ap, sym, ◌∙◌}
-use Rattle.dpl_report.specs.MaskRects.{mask_of}
+use Rattle.dpl_good.specs.MaskRects.{mask_of}
 use Rattle.dpl_balance.specs.Balance.{AreTurned}
 use Rattle.dpl_balance.proofs.StayLemmas.{break_the_same, still_true}
 use Rattle.dpl_balance.proofs.balancing.balance.Goals as goal

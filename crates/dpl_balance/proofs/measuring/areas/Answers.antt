@@ -1,6 +1,6 @@
 use Rattle.std.proofs.Common.{arith, rules, ◌≡◌, ◌+◌, ℕ, false, true, map, sym, subst}
 use Rattle.dpl_cell.specs.Places.{corners_of}
-use Rattle.dpl_report.specs.MaskRects.{mask_of}
+use Rattle.dpl_good.specs.MaskRects.{mask_of}
 use Rattle.dpl_balance.specs.Areas.{mask_area}
 use Rattle.dpl_balance.specs.Cells.{HoldCell, HasCells}
 use Rattle.dpl_balance.proofs.OuterLemmas.{mask_cells}

@@ -1,7 +1,7 @@
 use Rattle.std.proofs.Common.{rules}
 use Rattle.dpl_cuts.specs.declared.types.Fragments.{Fragments}
 use Rattle.dpl_sign.specs.declared.nets.Net.{Net}
-use Rattle.dpl_report.proofs.ValidLemmas.{params_fit}
+use Rattle.dpl_good.proofs.ValidLemmas.{params_fit}
 use Rattle.dpl_check.specs.Judged.{IsVerdict}
 use Rattle.dpl_check.proofs.OnceLemmas.{verdict_of_text}
 use Rattle.dpl_check.proofs.checking.check_parts.Goals as goal

@@ -1,7 +1,7 @@
 use Rattle.std.proofs.Common.{◌∙◌, sym}
-use Rattle.dpl_report.proofs.ListLaws.{clash_lines_are, clashes_told}
+use Rattle.dpl_good.proofs.ListLaws.{clash_lines_are, clashes_told}
 use Rattle.dpl_check.proofs.FirstLaws.{lists_first}
-use Rattle.dpl_report.specs.Conditions.{ends_miss}
+use Rattle.dpl_good.specs.Conditions.{ends_miss}
 use Rattle.dpl_check.proofs.compare.clash_lines_miss.Goals as goal
 
 pub returns-clause-none : goal.returns-clause-none

@@ -1,6 +1,6 @@
 use Rattle.std.proofs.Common.{◌≡◌, drop, map}
 use Rattle.dpl_report.specs.Plain.{plain_zone}
-use Rattle.dpl_report.specs.Conditions as conditions
+use Rattle.dpl_good.specs.Conditions as conditions
 use Rattle.dpl_check.proofs.compare.cut_lines_miss.Given as goal
 
 abbrev pub invariant-loop-x : goal.invariant-loop-x

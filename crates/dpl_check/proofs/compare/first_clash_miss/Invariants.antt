@@ -1,5 +1,5 @@
 use Rattle.std.proofs.Common.{◌≡◌, drop}
-use Rattle.dpl_report.specs.Conditions as conditions
+use Rattle.dpl_good.specs.Conditions as conditions
 use Rattle.dpl_check.proofs.compare.first_clash_miss.Given as goal
 
 abbrev pub invariant-loop-x : goal.invariant-loop-x

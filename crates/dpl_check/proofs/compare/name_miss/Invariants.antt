@@ -1,5 +1,5 @@
 use Rattle.std.proofs.Common.{◌≡◌, drop}
-use Rattle.dpl_report.specs.Misses as misses
+use Rattle.dpl_good.specs.Misses as misses
 use Rattle.dpl_check.proofs.compare.name_miss.Given as goal
 
 abbrev pub invariant-loop-x : goal.invariant-loop-x

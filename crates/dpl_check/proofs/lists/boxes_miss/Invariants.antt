@@ -1,6 +1,6 @@
 use Rattle.std.proofs.Common.{◌≡◌, ◌+◌, drop, map}
 use Rattle.dpl_cell.specs.Places.{corners_of}
-use Rattle.dpl_report.specs.Conditions as conditions
+use Rattle.dpl_good.specs.Conditions as conditions
 use Rattle.dpl_check.proofs.lists.boxes_miss.Given as goal
 
 abbrev pub invariant-loop-x : goal.invariant-loop-x

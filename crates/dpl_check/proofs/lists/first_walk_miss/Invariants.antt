@@ -1,5 +1,5 @@
 use Rattle.std.proofs.Common.{◌≡◌, ◌+◌, drop, false}
-use Rattle.dpl_report.specs.Conditions as conditions
+use Rattle.dpl_good.specs.Conditions as conditions
 use Rattle.dpl_check.proofs.lists.first_walk_miss.Given as goal
 
 abbrev pub invariant-loop-e : goal.invariant-loop-e

@@ -1,5 +1,5 @@
 use Rattle.std.proofs.Common.{◌∙◌, sym}
-use Rattle.dpl_report.proofs.WalkLaws.{walk_is_odd}
+use Rattle.dpl_good.proofs.WalkLaws.{walk_is_odd}
 use Rattle.dpl_check.proofs.lists.walk_miss.Goals as goal
 
 pub returns-clause-odd : goal.returns-clause-odd

@@ -1,5 +1,5 @@
 use Rattle.std.proofs.Common.{◌≡◌, drop}
-use Rattle.dpl_report.specs.Conditions as conditions
+use Rattle.dpl_good.specs.Conditions as conditions
 use Rattle.dpl_check.proofs.lists.walks_miss.Given as goal
 
 abbrev pub invariant-loop-cycle : goal.invariant-loop-cycle

@@ -1,0 +1,12 @@
+pub mod MaskLemmas
+pub mod ListLaws
+pub mod ClashLemmas
+pub mod WalkLaws
+pub mod ZoneLemmas
+pub mod GoodLemmas
+pub mod ValidLemmas
+pub mod TrueLemmas
+pub mod BrokenLemmas
+pub mod MaskCellLemmas
+pub mod FactLemmas
+pub mod ConditionLaws

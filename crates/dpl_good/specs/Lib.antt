@@ -1,0 +1,9 @@
+pub mod Laws
+pub mod MaskRects
+pub mod Misses
+pub mod Conditions
+pub mod Verdicts
+pub mod FirstDifferences
+pub mod Truths
+pub mod MaskCells
+pub mod Facts

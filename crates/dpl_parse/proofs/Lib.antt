@@ -1,0 +1,3 @@
+pub mod NumberLoop
+pub mod BlockLemmas
+pub mod AnswerLemmas

@@ -1,0 +1,3 @@
+pub mod Pieces
+pub mod Gives
+pub mod Tells

@@ -1,0 +1,27 @@
+-- What parsing answers.
+use Rattle.std.specs.Prelude.{◌≡◌, ℕ, ◌+◌, ◌-◌, List, length, Result, Ok, Err}
+use Rattle.dpl_form.specs.Lines.{lines_in}
+use Rattle.dpl_form.specs.Readers.{whole}
+use Rattle.dpl_report.specs.declared.reports.Report.{Report}
+use Rattle.dpl_parse.specs.declared.reading.ReportError.{ReportError}
+use Rattle.dpl_parse.specs.declared.reading.ReportError.TheVariants.{NotReport, NoMemory}
+use Rattle.dpl_report.specs.Plain.{PlainReport, plain_report}
+use Rattle.dpl_report.specs.Reading.{read_report}
+
+-- the line before which so many lines of the text stand as reading leaves behind it
+pub record StopsAt (text : List ℕ) (n : ℕ) : Type 0 where
+  pub left : ℕ
+  pub read : whole read_report (lines_in text) ≡ Err left
+  pub number : n ≡ length (lines_in text) - left + 1
+
+-- the answer is what reading gives, unless memory ran out
+abbrev pub Tells : List ℕ → Result Report ReportError → Type 0
+Tells text (Ok r) = whole read_report (lines_in text) ≡ Ok (plain_report r)
+Tells text (Err NoMemory) = Unit {0}
+Tells text (Err (NotReport n)) = StopsAt text n
+
+-- the answer is this report, unless memory ran out
+abbrev pub Answers : PlainReport → Result Report ReportError → Type 0
+Answers r (Ok found) = plain_report found ≡ r
+Answers r (Err NoMemory) = Unit {0}
+Answers r (Err (NotReport n)) = ⊥

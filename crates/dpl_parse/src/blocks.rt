@@ -1,0 +1,110 @@
+// Blocks of lines of one kind, as long as they go on.
+ghost use Rattle.std.specs.Prelude.{◌≡◌, map, IfOk};
+ghost use Rattle.dpl_cell.specs.Places.{corners_of};
+ghost use Rattle.dpl_form.specs.Lines.{lines_in};
+ghost use Rattle.dpl_parse.specs.Gives.{Gives};
+ghost use Rattle.dpl_report.specs.Plain.{plain_zone};
+ghost use Rattle.dpl_report.specs.Reading as reading;
+
+use crate::items::{aside_in, box_in, clash_in, cut_in, cycle_in};
+use crate::stops::Stop;
+use dpl_cell::Rect;
+use dpl_form::first_line;
+use dpl_report::{Broken, Zone};
+use dpl_sign::Cycle;
+use std::alloc::Global;
+
+#[tactic(auto, unfolding(dpl_report::specs::Reading::read_cuts))]
+pub fn cuts(alloc: Global, text: &[u8]) -> Result<(Vec<Zone>, &[u8]), Stop>
+    ensures { Gives (λ x. (
+      map plain_zone x.0.items,
+      lines_in x.1.now,
+    )) result (reading.read_cuts (lines_in text.now)) }
+{
+    let mut found = Vec::new(alloc);
+    let mut rest = text;
+    let mut least = 0;
+    'lines: while let Some((line, others)) = first_line(rest) {
+        let Some(zone) = cut_in(alloc, least, line)? else {
+            return Ok((found, rest));
+        };
+        least = u64::from(zone.at.edge) + 1;
+        found.push(zone)?;
+        rest = others;
+    }
+    Ok((found, rest))
+}
+
+#[tactic(auto, unfolding(dpl_report::specs::Reading::read_clashes))]
+pub fn clashes(alloc: Global, text: &[u8]) -> Result<(Vec<Broken>, &[u8]), Stop>
+    ensures { Gives (λ x. (x.0.items, lines_in x.1.now)) result
+        (reading.read_clashes (lines_in text.now)) }
+{
+    let mut found = Vec::new(alloc);
+    let mut rest = text;
+    let mut least = 0;
+    'lines: while let Some((line, others)) = first_line(rest) {
+        let Some(broken) = clash_in(alloc, least, line)? else {
+            return Ok((found, rest));
+        };
+        least = u64::from(broken.edge) + 1;
+        found.push(broken)?;
+        rest = others;
+    }
+    Ok((found, rest))
+}
+
+#[tactic(auto, unfolding(dpl_report::specs::Reading::read_aside))]
+pub fn aside(alloc: Global, text: &[u8]) -> Result<(Vec<u32>, &[u8]), Stop>
+    ensures { Gives (λ x. (x.0.items, lines_in x.1.now)) result
+        (reading.read_aside (lines_in text.now)) }
+{
+    let mut found = Vec::new(alloc);
+    let mut rest = text;
+    let mut least = 0;
+    'lines: while let Some((line, others)) = first_line(rest) {
+        let Some(edge) = aside_in(alloc, least, line)? else {
+            return Ok((found, rest));
+        };
+        least = u64::from(edge) + 1;
+        found.push(edge)?;
+        rest = others;
+    }
+    Ok((found, rest))
+}
+
+#[tactic(auto, unfolding(dpl_report::specs::Reading::read_cycles))]
+pub fn cycles(alloc: Global, text: &[u8]) -> Result<(Vec<Cycle>, &[u8]), Stop>
+    ensures { Gives (λ x. (x.0.items, lines_in x.1.now)) result
+        (reading.read_cycles (lines_in text.now)) }
+{
+    let mut found = Vec::new(alloc);
+    let mut rest = text;
+    'lines: while let Some((line, others)) = first_line(rest) {
+        let Some(cycle) = cycle_in(alloc, line)? else {
+            return Ok((found, rest));
+        };
+        found.push(cycle)?;
+        rest = others;
+    }
+    Ok((found, rest))
+}
+
+#[tactic(auto, unfolding(dpl_report::specs::Reading::read_boxes))]
+pub fn boxes(alloc: Global, text: &[u8]) -> Result<(Vec<Rect>, &[u8]), Stop>
+    ensures { Gives (λ x. (
+      map corners_of x.0.items,
+      lines_in x.1.now,
+    )) result (reading.read_boxes (lines_in text.now)) }
+{
+    let mut found = Vec::new(alloc);
+    let mut rest = text;
+    'lines: while let Some((line, others)) = first_line(rest) {
+        let Some(rect) = box_in(alloc, line)? else {
+            return Ok((found, rest));
+        };
+        found.push(rect)?;
+        rest = others;
+    }
+    Ok((found, rest))
+}

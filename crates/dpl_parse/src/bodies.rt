@@ -1,0 +1,98 @@
+// The lists and the drawing of a report, read.
+ghost use Rattle.std.specs.Prelude.{◌≡◌, map, IfOk};
+ghost use Rattle.dpl_cell.specs.Places.{corners_of};
+ghost use Rattle.dpl_form.specs.Lines.{lines_in};
+ghost use Rattle.dpl_parse.specs.Gives.{Gives};
+ghost use Rattle.dpl_parse.specs.Pieces.{plain_lists};
+ghost use Rattle.dpl_report.specs.ReportLines.{mask_line};
+ghost use Rattle.dpl_report.specs.Reading as reading;
+
+use crate::blocks::{aside, boxes, clashes, cuts, cycles};
+use crate::parts::exactly;
+use crate::stops::Stop;
+use dpl_cell::Rect;
+use dpl_list::Items;
+use dpl_report::writing::push_mask;
+use dpl_report::{Broken, Zone};
+use dpl_sign::Cycle;
+use std::alloc::Global;
+
+/// What is broken, what is set aside, and the walks that show the bound.
+#[derive(Drop)]
+pub struct Lists {
+    pub cuts: Items<Zone>,
+    pub clashes: Items<Broken>,
+    pub aside: Items<u32>,
+    pub cycles: Items<Cycle>,
+}
+
+#[tactic(auto, unfolding(dpl_report::specs::Reading::read_lists))]
+pub fn lists_of(alloc: Global, text: &[u8]) -> Result<(Lists, &[u8]), Stop>
+    ensures { Gives (λ x. (plain_lists x.0, lines_in x.1.now)) result
+        (reading.read_lists (lines_in text.now)) }
+{
+    let (cuts, rest) = cuts(alloc, text)?;
+    let (clashes, rest) = clashes(alloc, rest)?;
+    let (aside, rest) = aside(alloc, rest)?;
+    let (cycles, rest) = cycles(alloc, rest)?;
+    let lists = Lists {
+        cuts: Items::new(cuts),
+        clashes: Items::new(clashes),
+        aside: Items::new(aside),
+        cycles: Items::new(cycles),
+    };
+    Ok((lists, rest))
+}
+
+/// The boxes behind the layer of a mask.
+#[tactic(auto, unfolding(dpl_report::specs::Reading::read_mask))]
+fn mask<'a>(
+    alloc: Global,
+    name: &[u8],
+    letter: u8,
+    text: &'a [u8],
+) -> Result<(Vec<Rect>, &'a [u8]), Stop>
+    ensures { Gives (λ x. (
+      map corners_of x.0.items,
+      lines_in x.1.now,
+    )) result (reading.read_mask name.now letter (lines_in text.now)) }
+{
+    let mut wanted = Vec::new(alloc);
+    push_mask(&mut wanted, name, letter)?;
+    let rest = exactly(wanted.as_slice(), text)?;
+    boxes(alloc, rest)
+}
+
+#[tactic(auto, unfolding(dpl_report::specs::Reading::read_last))]
+fn last(text: &[u8]) -> Result<&[u8], Stop>
+    ensures { Gives (λ x. (tt, lines_in x.now)) result (reading.read_last (lines_in text.now)) }
+{
+    let rest = exactly(b"DF;\n", text)?;
+    let rest = exactly(b"C 1;\n", rest)?;
+    exactly(b"E\n", rest)
+}
+
+/// Two masks.
+#[derive(Drop)]
+pub struct Drawing {
+    pub on_a: Vec<Rect>,
+    pub on_b: Vec<Rect>,
+}
+
+#[tactic(auto, unfolding(dpl_report::specs::Reading::read_drawing))]
+pub fn drawing_of<'a>(
+    alloc: Global,
+    name: &[u8],
+    text: &'a [u8],
+) -> Result<(Drawing, &'a [u8]), Stop>
+    ensures { Gives (λ x. (
+      (map corners_of x.0.on_a.items, map corners_of x.0.on_b.items),
+      lines_in x.1.now,
+    )) result (reading.read_drawing name.now (lines_in text.now)) }
+{
+    let rest = exactly(b"DS 1 1 4;\n", text)?;
+    let (on_a, rest) = mask(alloc, name, b'A', rest)?;
+    let (on_b, rest) = mask(alloc, name, b'B', rest)?;
+    let rest = last(rest)?;
+    Ok((Drawing { on_a, on_b }, rest))
+}

@@ -1,0 +1,198 @@
+// What the numbers of a line make.
+ghost use Rattle.std.specs.Prelude.{◌≡◌, ◌<◌, ◌^◌, pos, ◌+ℤ◌, ◌-ℤ◌, ◌*ℤ◌, unsigned_abs, int_div, IfOk};
+ghost use Rattle.dpl_cell.specs.Places.{corners_of};
+ghost use Rattle.dpl_rules.specs.Readers.{Reads};
+ghost use Rattle.dpl_report.specs.Plain.{plain_zone};
+ghost use Rattle.dpl_report.specs.Reading as reading;
+
+use dpl_cell::Rect;
+use dpl_list::Items;
+use dpl_report::{Broken, Zone};
+use dpl_sign::{Cycle, Walk};
+use std::alloc::{AllocError as NoMemory, Global};
+
+pub fn number_from(z: i64) -> Option<u32>
+    ensures { result ≡ reading.number_of z }
+{
+    if 0 <= z && z <= 4_294_967_295 {
+        Some(z as u32)
+    } else {
+        None
+    }
+}
+
+pub fn count_from(z: i64) -> Option<u64>
+    ensures { result ≡ reading.count_of z }
+{
+    if 0 <= z && z <= 1_000_000_000_000 {
+        Some(z as u64)
+    } else {
+        None
+    }
+}
+
+pub fn count_of(numbers: &[i64]) -> Option<u64>
+    ensures { result ≡ reading.count_from numbers.now }
+{
+    match numbers {
+        [number] => count_from(*number),
+        _ => None,
+    }
+}
+
+pub fn aside_of(numbers: &[i64]) -> Option<u32>
+    ensures { result ≡ reading.aside_from numbers.now }
+{
+    match numbers {
+        [edge] => number_from(*edge),
+        _ => None,
+    }
+}
+
+fn ends_of(edge: i64, a: i64, b: i64) -> Option<Broken>
+    ensures { result ≡ reading.ends_from edge a b }
+{
+    let edge = number_from(edge)?;
+    let a = number_from(a)?;
+    let b = number_from(b)?;
+    Some(Broken { edge, a, b })
+}
+
+pub fn broken_of(numbers: &[i64]) -> Option<Broken>
+    ensures { result ≡ reading.broken_from numbers.now }
+{
+    match numbers {
+        [edge, a, b] => ends_of(*edge, *a, *b),
+        _ => None,
+    }
+}
+
+#[tactic(auto, unfolding(dpl_report::specs::Reading::rectangle_of))]
+fn rectangle_of(x1: i64, y1: i64, x2: i64, y2: i64) -> Option<Rect>
+    ensures { Reads corners_of result (reading.rectangle_of (record {
+      x1 = x1;
+      y1 = y1;
+      x2 =
+          x2;
+      y2 = y2;
+    })) }
+{
+    Rect::new(x1, y1, x2, y2)
+}
+
+fn corners_from(numbers: &[i64]) -> Option<Rect>
+    ensures { Reads corners_of result (reading.corners_from numbers.now) }
+{
+    match numbers {
+        [x1, y1, x2, y2] => rectangle_of(*x1, *y1, *x2, *y2),
+        _ => None,
+    }
+}
+
+fn zone_with(at: Broken, numbers: &[i64]) -> Option<Zone>
+    ensures { Reads plain_zone result (reading.zone_with at numbers.now) }
+{
+    let rect = corners_from(numbers)?;
+    Some(Zone { at, rect })
+}
+
+pub fn zone_of(numbers: &[i64]) -> Option<Zone>
+    ensures { Reads plain_zone result (reading.zone_from numbers.now) }
+{
+    match numbers {
+        [edge, a, b, others @ ..] => {
+            let at = ends_of(*edge, *a, *b)?;
+            zone_with(at, others)
+        }
+        _ => None,
+    }
+}
+
+/// Four times the corner on the low side.
+fn less(middle: i64, length: i64) -> i128
+    ensures value { result ≡ (middle *ℤ pos 2) -ℤ length }
+    ensures small { unsigned_abs result < 2 ^ 65 }
+{
+    let double = i128::from(middle) * 2;
+    double - i128::from(length)
+}
+
+/// Four times the corner on the high side.
+fn more(middle: i64, length: i64) -> i128
+    ensures value { result ≡ (middle *ℤ pos 2) +ℤ length }
+    ensures small { unsigned_abs result < 2 ^ 65 }
+{
+    let double = i128::from(middle) * 2;
+    double + i128::from(length)
+}
+
+fn quarter(n: i128) -> i64
+    requires { unsigned_abs n < 2 ^ 65 }
+    ensures { result ≡ int_div n (pos 4) }
+{
+    let quarter = n / 4;
+    quarter as i64
+}
+
+fn box_by(length: i64, width: i64, x: i64, y: i64) -> Option<Rect>
+    ensures { Reads corners_of result (reading.box_by length width x y) }
+{
+    let x1 = quarter(less(x, length));
+    let y1 = quarter(less(y, width));
+    let x2 = quarter(more(x, length));
+    let y2 = quarter(more(y, width));
+    rectangle_of(x1, y1, x2, y2)
+}
+
+pub fn box_of(numbers: &[i64]) -> Option<Rect>
+    ensures { Reads corners_of result (reading.box_from numbers.now) }
+{
+    match numbers {
+        [length, width, x, y] => box_by(*length, *width, *x, *y),
+        _ => None,
+    }
+}
+
+fn edges_of(alloc: Global, numbers: &[i64]) -> Result<Option<Vec<u32>>, NoMemory>
+    ensures { IfOk result (λ o. Reads (λ v. v.items) o (reading.edges_of numbers.now)) }
+{
+    let mut edges = Vec::new(alloc);
+    for number in numbers {
+        let Some(edge) = number_from(*number) else {
+            return Ok(None);
+        };
+        edges.push(edge)?;
+    }
+    Ok(Some(edges))
+}
+
+pub fn cycle_of(alloc: Global, numbers: &[i64]) -> Result<Option<Cycle>, NoMemory>
+    ensures { IfOk result (λ o. o ≡ reading.cycle_from numbers.now) }
+{
+    match numbers {
+        [half, start, others @ ..] => {
+            let Some(half) = count_from(*half) else {
+                return Ok(None);
+            };
+            let Some(start) = number_from(*start) else {
+                return Ok(None);
+            };
+            let Some(edges) = edges_of(alloc, others)? else {
+                return Ok(None);
+            };
+            Ok(cycle_with(half, start, edges))
+        }
+        _ => Ok(None),
+    }
+}
+
+fn cycle_with(half: u64, start: u32, edges: Vec<u32>) -> Option<Cycle>
+    ensures { result ≡ reading.cycle_with half start edges.items }
+{
+    if edges.is_empty() || half == 0 {
+        return None;
+    }
+    let edges = Items::new(edges);
+    let walk = Walk { start, edges };
+    Some(Cycle { half, walk })
+}

@@ -1,0 +1,120 @@
+// One line of a report, read. A line counts where what was read from it is written so again.
+ghost use Rattle.std.specs.Prelude.{◌≡◌, IfOk};
+ghost use Rattle.dpl_cell.specs.Places.{corners_of};
+ghost use Rattle.dpl_rules.specs.Readers.{Reads};
+ghost use Rattle.dpl_report.specs.Plain.{plain_zone};
+ghost use Rattle.dpl_report.specs.Reading as reading;
+
+use crate::guesses::{aside_of, box_of, broken_of, count_of, cycle_of, zone_of};
+use crate::numbers::numbers_in;
+use dpl_boxes::push_box;
+use dpl_cell::Rect;
+use dpl_report::writing::{push_aside, push_clash, push_count, push_cut, push_cycle};
+use dpl_report::{Broken, Zone};
+use dpl_sign::Cycle;
+use std::alloc::{AllocError as NoMemory, Global};
+
+pub fn count_in(alloc: Global, word: &[u8], line: &[u8]) -> Result<Option<u64>, NoMemory>
+    ensures { IfOk result (λ o. o ≡ reading.item_count word.now line.now) }
+{
+    let numbers = numbers_in(alloc, line)?;
+    let Some(number) = count_of(&numbers) else {
+        return Ok(None);
+    };
+    let mut again = Vec::new(alloc);
+    push_count(&mut again, word, number)?;
+    Ok(if again.as_slice() == line {
+        Some(number)
+    } else {
+        None
+    })
+}
+
+pub fn cut_in(alloc: Global, least: u64, line: &[u8]) -> Result<Option<Zone>, NoMemory>
+    ensures { IfOk result (λ o. Reads plain_zone o (reading.item_cut least line.now)) }
+{
+    let numbers = numbers_in(alloc, line)?;
+    let Some(zone) = zone_of(&numbers) else {
+        return Ok(None);
+    };
+    if u64::from(zone.at.edge) < least {
+        return Ok(None);
+    }
+    let mut again = Vec::new(alloc);
+    push_cut(&mut again, &zone)?;
+    Ok(if again.as_slice() == line {
+        Some(zone)
+    } else {
+        None
+    })
+}
+
+pub fn clash_in(alloc: Global, least: u64, line: &[u8]) -> Result<Option<Broken>, NoMemory>
+    ensures { IfOk result (λ o. o ≡ reading.item_clash least line.now) }
+{
+    let numbers = numbers_in(alloc, line)?;
+    let Some(broken) = broken_of(&numbers) else {
+        return Ok(None);
+    };
+    if u64::from(broken.edge) < least {
+        return Ok(None);
+    }
+    let mut again = Vec::new(alloc);
+    push_clash(&mut again, &broken)?;
+    Ok(if again.as_slice() == line {
+        Some(broken)
+    } else {
+        None
+    })
+}
+
+pub fn aside_in(alloc: Global, least: u64, line: &[u8]) -> Result<Option<u32>, NoMemory>
+    ensures { IfOk result (λ o. o ≡ reading.item_aside least line.now) }
+{
+    let numbers = numbers_in(alloc, line)?;
+    let Some(edge) = aside_of(&numbers) else {
+        return Ok(None);
+    };
+    if u64::from(edge) < least {
+        return Ok(None);
+    }
+    let mut again = Vec::new(alloc);
+    push_aside(&mut again, edge)?;
+    Ok(if again.as_slice() == line {
+        Some(edge)
+    } else {
+        None
+    })
+}
+
+pub fn cycle_in(alloc: Global, line: &[u8]) -> Result<Option<Cycle>, NoMemory>
+    ensures { IfOk result (λ o. o ≡ reading.item_cycle line.now) }
+{
+    let numbers = numbers_in(alloc, line)?;
+    let Some(cycle) = cycle_of(alloc, &numbers)? else {
+        return Ok(None);
+    };
+    let mut again = Vec::new(alloc);
+    push_cycle(&mut again, &cycle)?;
+    Ok(if again.as_slice() == line {
+        Some(cycle)
+    } else {
+        None
+    })
+}
+
+pub fn box_in(alloc: Global, line: &[u8]) -> Result<Option<Rect>, NoMemory>
+    ensures { IfOk result (λ o. Reads corners_of o (reading.item_box line.now)) }
+{
+    let numbers = numbers_in(alloc, line)?;
+    let Some(rect) = box_of(&numbers) else {
+        return Ok(None);
+    };
+    let mut again = Vec::new(alloc);
+    push_box(&mut again, &rect)?;
+    Ok(if again.as_slice() == line {
+        Some(rect)
+    } else {
+        None
+    })
+}

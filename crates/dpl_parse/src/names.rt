@@ -1,0 +1,93 @@
+// The lines with a name or with masks, read.
+ghost use Rattle.std.specs.Prelude.{◌≡◌, ◌≤◌, ◌<◌, length, IfOk};
+ghost use Rattle.dpl_rules.specs.Readers.{Reads};
+ghost use Rattle.dpl_report.specs.Reading as reading;
+
+use dpl_lex::Name;
+use dpl_report::writing::{push_keep, push_layer, push_masks, version_line};
+use std::alloc::{AllocError as NoMemory, Global};
+
+/// What stands between so many bytes and three.
+fn between(front: usize, line: &[u8]) -> &[u8]
+    requires { front ≤ 7 }
+    ensures { result.now ≡ reading.between front line.now }
+{
+    if line.len() < front + 3 {
+        &[]
+    } else {
+        &line[front..line.len() - 3]
+    }
+}
+
+fn layer_from(bytes: &[u8]) -> Option<Name>
+    ensures { result ≡ reading.layer_from bytes.now }
+{
+    if bytes.len() > 31 {
+        return None;
+    }
+    Name::new(bytes)
+}
+
+pub fn layer_in(alloc: Global, line: &[u8]) -> Result<Option<Name>, NoMemory>
+    ensures { IfOk result (λ o. o ≡ reading.item_layer line.now) }
+{
+    let Some(name) = layer_from(between(7, line)) else {
+        return Ok(None);
+    };
+    let mut again = Vec::new(alloc);
+    push_layer(&mut again, name.bytes())?;
+    Ok(if again.as_slice() == line {
+        Some(name)
+    } else {
+        None
+    })
+}
+
+pub fn keep_in(alloc: Global, line: &[u8]) -> Result<Option<Name>, NoMemory>
+    ensures { IfOk result (λ o. o ≡ reading.item_keep line.now) }
+{
+    let Some(name) = layer_from(between(6, line)) else {
+        return Ok(None);
+    };
+    let mut again = Vec::new(alloc);
+    push_keep(&mut again, name.bytes())?;
+    Ok(if again.as_slice() == line {
+        Some(name)
+    } else {
+        None
+    })
+}
+
+pub fn version_in(line: &[u8]) -> Option<bool>
+    ensures { result ≡ reading.item_version line.now }
+{
+    if version_line(true) == line {
+        Some(true)
+    } else if version_line(false) == line {
+        Some(false)
+    } else {
+        None
+    }
+}
+
+fn colours_from(alloc: Global, letters: &[u8]) -> Result<Vec<bool>, NoMemory>
+    ensures { IfOk result (λ v. v.items ≡ reading.colours_from letters.now) }
+{
+    letters.iter().map(|b| *b == b'B').collect(alloc)
+}
+
+pub fn colours_in(alloc: Global, fragments: u64, line: &[u8]) -> Result<Option<Vec<bool>>, NoMemory>
+    ensures { IfOk result (λ o. Reads (λ v. v.items) o (reading.item_masks fragments line.now)) }
+{
+    let colours = colours_from(alloc, between(7, line))?;
+    if colours.len() as u64 != fragments {
+        return Ok(None);
+    }
+    let mut again = Vec::new(alloc);
+    push_masks(&mut again, &colours)?;
+    Ok(if again.as_slice() == line {
+        Some(colours)
+    } else {
+        None
+    })
+}

@@ -1,0 +1,93 @@
+// A whole report, read.
+ghost use Rattle.std.specs.Prelude.{◌≡◌, ◌≤◌, ℕ, length, Err, IfOk};
+ghost use Rattle.dpl_limits.specs.declared.TheConstants.{MOST_REPORT_BYTES};
+ghost use Rattle.dpl_form.specs.Lines.{lines_in};
+ghost use Rattle.dpl_form.specs.Readers.{whole, IsFirstWrong};
+ghost use Rattle.dpl_parse.specs.Gives.{Gives};
+ghost use Rattle.dpl_parse.specs.Tells.{Tells, Answers};
+ghost use Rattle.dpl_report.specs.Plain.{PlainReport, plain_report};
+ghost use Rattle.dpl_report.specs.ReportLines.{report_lines, report_text};
+ghost use Rattle.dpl_report.specs.Valid.{IsReport};
+ghost use Rattle.dpl_report.specs.Reading as reading;
+
+use crate::bodies::{drawing_of, lists_of};
+use crate::heads::head_of;
+use crate::stops::{Stop, stop_at};
+use dpl_form::{count_lines, first_line};
+use dpl_list::Items;
+use dpl_report::Report;
+use std::alloc::Global;
+
+/// Why a text is no report.
+#[derive(Debug, Drop)]
+pub enum ReportError {
+    /// The number of the first line that cannot stand where it does.
+    NotReport(u64),
+    NoMemory,
+}
+
+#[tactic(auto, unfolding(dpl_report::specs::Reading::read_report))]
+fn report_of(alloc: Global, text: &[u8]) -> Result<(Report, &[u8]), Stop>
+    ensures { Gives (λ x. (plain_report x.0, lines_in x.1.now)) result
+        (reading.read_report (lines_in text.now)) }
+{
+    let (head, rest) = head_of(alloc, text)?;
+    let (lists, rest) = lists_of(alloc, rest)?;
+    let (drawing, rest) = drawing_of(alloc, head.params.layer.bytes(), rest)?;
+    let report = Report {
+        params: head.params,
+        counts: head.counts,
+        cost: head.cost,
+        bound: head.bound,
+        colours: head.colours,
+        cuts: lists.cuts,
+        clashes: lists.clashes,
+        aside: lists.aside,
+        cycles: lists.cycles,
+        on_a: Items::new(drawing.on_a),
+        on_b: Items::new(drawing.on_b),
+    };
+    Ok((report, rest))
+}
+
+/// The same with nothing behind it.
+fn whole_report(alloc: Global, text: &[u8]) -> Result<Report, Stop>
+    ensures { Gives plain_report result (whole reading.read_report (lines_in text.now)) }
+{
+    let (report, rest) = report_of(alloc, text)?;
+    match first_line(rest) {
+        None => Ok(report),
+        Some(_) => Err(stop_at(rest)),
+    }
+}
+
+fn numbered(alloc: Global, text: &[u8]) -> Result<Report, ReportError>
+    requires { length text.now ≤ MOST_REPORT_BYTES }
+    ensures { Tells text.now result }
+{
+    match whole_report(alloc, text) {
+        Ok(report) => Ok(report),
+        Err(Stop::NoMemory) => Err(ReportError::NoMemory),
+        Err(Stop::Line(left)) => {
+            let before = count_lines(text).saturating_sub(left);
+            Err(ReportError::NotReport(before as u64 + 1))
+        }
+    }
+}
+
+/// The report whose text this is.
+pub fn parse(alloc: Global, text: &[u8]) -> Result<Report, ReportError>
+    requires { length text.now ≤ MOST_REPORT_BYTES }
+    // What reading gives.
+    ensures told { Tells text.now result }
+    // What is read is written so.
+    ensures found { IfOk result (λ r. IsReport (plain_report r) ×
+        (text.now ≡ report_text (plain_report r))) }
+    // What is written so is read, unless memory runs out.
+    ensures only { (r : PlainReport) → IsReport r → text.now ≡ report_text r → Answers r result }
+    // Which line cannot stand.
+    ensures wrong { (n : ℕ) → result ≡ Err (ReportError.NotReport n) →
+        IsFirstWrong report_lines IsReport (lines_in text.now) n }
+{
+    numbered(alloc, text)
+}

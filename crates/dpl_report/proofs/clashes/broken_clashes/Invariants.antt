@@ -1,9 +1,0 @@
-use Rattle.std.proofs.Common.{◌≡◌, ◌++◌, drop}
-use Rattle.dpl_report.specs.Conditions as conditions
-use Rattle.dpl_report.proofs.clashes.broken_clashes.Given as goal
-
-abbrev pub invariant-loop-edge : goal.invariant-loop-edge
-invariant-loop-edge l = record {
-  found : l.found.items ++ conditions.clashes_from l.colours l.e (drop l.edge-index l.edges) ≡ conditions.clashes_from l.colours 0 l.edges;
-  number : l.e ≡ l.edge-index;
-}

@@ -1,7 +1,0 @@
-use Rattle.dpl_report.specs.Plain.{plain_report}
-use Rattle.dpl_report.proofs.MaskCellLemmas.{masks_of_layer}
-use Rattle.dpl_report.proofs.goodness.masks_are_of_the_layer.Goals as goal
-
-pub returns : goal.returns
-returns c = λ cells tiles k. masks_of_layer c.args.options.now cells tiles c.args.fragments.now c.args.net.now
-    (plain_report c.args.report.now) c.in_range.ensures c.requires.valid c.requires.good c.requires.net k

@@ -1,6 +1,0 @@
-use Rattle.std.proofs.Common.{◌≡◌, ◌++◌, drop}
-use Rattle.dpl_report.specs.MaskRects.{fragments_on}
-use Rattle.dpl_report.proofs.masking.fragments_on.Given as goal
-
-abbrev pub invariant-loop-rect : goal.invariant-loop-rect
-invariant-loop-rect l = l.found.items ++ fragments_on l.on_b (drop l.rect-index l.rects) l.left ≡ fragments_on l.on_b l.rects l.colours
