@@ -14,7 +14,7 @@ use Rattle.dpl_check.specs.Checked.{HasMasksOf, HasMasksOfCells, IsVerdictOf, Is
 masks_of_cells : (o : PlainOptions) (report : List ℕ) (cost bound : ℕ) → AreOptions o → (cells kept : Cells)
     → IsVerdictOfCells o report (Yes cost bound) cells kept → HasMasksOfCells o report cells kept
 masks_of_cells o report cost bound ranges cells kept y =
-    let g = y.verdict in
+    let g = y.verdict.good in
     let a = y.layer.layer.fragments in
     let h = y.layer.shared a.tiles a.are_tiles in
     let from : AreCutFrom o cells a.tiles y.fragments = record {

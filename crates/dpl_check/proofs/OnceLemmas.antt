@@ -1,6 +1,6 @@
 -- A layout and a report have one verdict, and a layout that is refused has none.
 use Rattle.std.proofs.Common.{◌≡◌, ◌∙◌, ◌⊎◌, ℕ, List, ap, sym, subst, inl, inr}
-use Rattle.std.specs.Prelude.{Option, None, Some, Result, Ok, Err, IfOk, IfErr}
+use Rattle.std.specs.Prelude.{ℤ, Result, Ok, Err, IfOk, IfErr}
 use Rattle.dpl_cuts.specs.declared.types.Fragments.{Fragments}
 use Rattle.dpl_sign.specs.declared.nets.Net.{Net}
 use Rattle.dpl_options.specs.Options.{PlainOptions}
@@ -17,17 +17,21 @@ use Rattle.dpl_check.specs.declared.verdicts.Verdict.{Verdict}
 use Rattle.dpl_check.specs.declared.verdicts.Verdict.TheVariants.{Yes, No}
 use Rattle.dpl_check.specs.Judged.{IsVerdict}
 use Rattle.dpl_check.specs.Checked.{BoundsAll, BoundsCells, IsVerdictOf, IsVerdictOfCells}
+use Rattle.dpl_good.proofs.RefusalLemmas.{one_refusal}
 use Rattle.dpl_check.proofs.GoodLemmas.{good_only, good_bounds}
 
--- the verdict that a refusal is, and any where there is none
-abbrev verdict_from : Option Refusal → Verdict
-verdict_from None = Yes 0 0
-verdict_from (Some r) = No r.reason r.at.place r.at.found r.at.wanted
+-- the verdict that a refusal is
+abbrev verdict_from : Refusal → Verdict
+verdict_from r = No r.reason r.at.place r.at.found r.at.wanted
+
+abbrev refusal_at : ℕ → ℕ → ℤ → ℤ → Refusal
+refusal_at k p x y = record { reason = k; at = record { place = p; found = x; wanted = y } }
 
 same_verdict : (o : PlainOptions) (f : Fragments) (n : Net) (text : List ℕ) (v w : Verdict) → IsVerdict o f n text v → IsVerdict o f n text w → v ≡ w
 same_verdict o f n text (Yes cost bound) w a b = sym (good_only o f n text cost bound w a b)
 same_verdict o f n text (No k p x y) (Yes cost bound) a b = good_only o f n text cost bound (No k p x y) b a
-same_verdict o f n text (No k p x y) (No l q u z) a b = ap verdict_from (sym a ∙ b)
+same_verdict o f n text (No k p x y) (No l q u z) a b =
+    ap verdict_from (one_refusal o f n text (refusal_at k p x y) (refusal_at l q u z) a b)
 
 one_of_cells : (o : PlainOptions) (report : List ℕ) (v w : Verdict) (cells kept : Cells) →
     IsVerdictOfCells o report v cells kept → IsVerdictOfCells o report w cells kept → v ≡ w

@@ -1,7 +1,6 @@
 -- A text is good exactly where the nine facts hold of its report.
 use Rattle.std.proofs.Common.{arith, ◌≡◌, ◌≤◌, ◌<◌, ◌*◌, ◌↔◌, inl, inr, ℕ, zero, suc, Bool, true, false, List, [], ◌∷◌}
-use Rattle.std.proofs.Common.{◌++◌, length, refl, sym, ap, subst, ◌∙◌, All, Any, AllPairs, Contains, get_or, None}
-use Rattle.std.proofs.Common.{Result, Ok, Err}
+use Rattle.std.proofs.Common.{◌++◌, length, refl, sym, ap, subst, ◌∙◌, All, Any, AllPairs, Contains, get_or}
 use Rattle.std.specs.Prelude.{if◌then◌else◌}
 use Rattle.std.proofs.lemmas.Bool.{cases_lt}
 use Rattle.std.proofs.lemmas.List.{get_or_default}
@@ -18,17 +17,14 @@ use Rattle.dpl_cuts.specs.declared.types.Cut.{Cut}
 use Rattle.dpl_cuts.specs.declared.types.Fragments.{Fragments}
 use Rattle.dpl_cuts.specs.Fragments.{AreFragments}
 use Rattle.dpl_links.specs.Nets.{IsNet}
-use Rattle.dpl_form.specs.Lines.{lines_in}
-use Rattle.dpl_form.specs.Readers.{whole}
 use Rattle.dpl_report.specs.declared.marks.Broken.{Broken}
 use Rattle.dpl_options.specs.Options.{PlainOptions, AreOptions}
 use Rattle.dpl_report.specs.declared.params.Counts.{Counts}
 use Rattle.dpl_report.specs.Plain.{PlainZone, PlainReport}
 use Rattle.dpl_report.specs.ReportLines.{report_text}
-use Rattle.dpl_report.specs.Reading.{read_report}
 use Rattle.dpl_report.specs.Valid.{IsReport, AsideFits}
 use Rattle.dpl_good.specs.Conditions.{cuts_from, clashes_from}
-use Rattle.dpl_good.specs.Verdicts.{IsGood, refusal_of, refusal_from}
+use Rattle.dpl_good.specs.Verdicts.{IsGood}
 use Rattle.dpl_good.specs.Truths.{SaysTrue}
 use Rattle.dpl_good.specs.MaskCells.{IsBrokenEdge, NamesBroken, NameAllBroken}
 use Rattle.dpl_good.specs.Facts.{ShowsCut, NameAllAside, AreNineFacts}
@@ -36,7 +32,6 @@ use Rattle.dpl_good.proofs.ListLaws.{same_broken, same_zone}
 use Rattle.dpl_good.proofs.ValidLemmas.{aside_rises}
 use Rattle.dpl_good.proofs.GoodLemmas.{true_is_good}
 use Rattle.dpl_good.proofs.TrueLemmas.{good_is_true, halves_some}
-use Rattle.dpl_report.proofs.TextFormat.{text_is_found, text_is_read}
 use Rattle.dpl_good.proofs.BrokenLemmas.{TakeCuts, net_takes, zones_hold, clashes_rise, stitches_rise, fit_rises, clashes_are_named, stitches_are_named}
 use Rattle.dpl_list.proofs.Lists.{any_tail, pairs_tail, any_head}
 
@@ -248,24 +243,23 @@ truth_of_facts o f net text r take order n = record {
   on_b = n.on_b;
 }
 
-good_read : (o : PlainOptions) (f : Fragments) (net : Net) (text : List ℕ) (found : Result PlainReport ℕ) →
-    whole read_report (lines_in text) ≡ found → refusal_from o f net text found ≡ None → (r : PlainReport) ×
-    IsReport r × (text ≡ report_text r) × (refusal_of o f net r ≡ None)
-good_read o f net text (Ok r) e g = let d = text_is_found text r e in (r, d.0, d.1, g)
-good_read o f net text (Err n) e g = absurd (cc)
-
 pub good_has_facts : (o : PlainOptions) (f : Fragments) (net : Net) (text : List ℕ) → AreOptions o →
     TakeCuts net.graph.edges f.cuts → IsGood o f net text → (r : PlainReport) × AreNineFacts o f net text r
-good_has_facts o f net text ranges take g =
-    let (r, v, e, h) = good_read o f net text (whole read_report (lines_in text)) refl g in
-    (r, facts_of_truth o f net text r take v e (good_is_true o f net r ranges v h))
+good_has_facts o f net text ranges take g = (
+  g.report,
+  facts_of_truth o f net text g.report take g.valid g.written
+      (good_is_true o f net g.report ranges g.valid g.good),
+)
 
 pub facts_are_good : (o : PlainOptions) (f : Fragments) (net : Net) (text : List ℕ) (r : PlainReport) →
     TakeCuts net.graph.edges f.cuts → AllPairs (λ (c d : Cut). c.a < d.a) f.cuts → AreNineFacts o f net text r →
     IsGood o f net text
-facts_are_good o f net text r take order n =
-    let read : whole read_report (lines_in text) ≡ Ok r = text_is_read text r n.valid n.text_is in
-    ap (refusal_from o f net text) read ∙ true_is_good o f net r (truth_of_facts o f net text r take order n)
+facts_are_good o f net text r take order n = record {
+  report = r;
+  valid = n.valid;
+  written = n.text_is;
+  good = true_is_good o f net r (truth_of_facts o f net text r take order n);
+}
 
 pub good_exactly : (o : PlainOptions) (f : Fragments) (net : Net) (keep tiles : List Corners) (label text : List ℕ) →
     AreOptions o → IsNet f o.weights (2 * o.space) net → AreFragments keep (2 * o.space) (2 * o.overlap) tiles label f →

@@ -10,3 +10,5 @@ pub mod BrokenLemmas
 pub mod MaskCellLemmas
 pub mod FactLemmas
 pub mod ConditionLaws
+pub mod FirstWrong
+pub mod RefusalLemmas

@@ -1,15 +1,16 @@
 -- When a text is good for a layout: the first condition that fails, with its place and its two values.
-use Rattle.std.specs.Prelude.{◌≡◌, ℕ, ◌+◌, ◌-◌, pos, List, length, map, count_by, false, true, Option, None, Some, Result, Ok, Err}
+use Rattle.std.specs.Prelude.{◌≡◌, ◌≢◌, ◌⊎◌, ℕ, pos, List, map, count_by, false, true, Option, None, Some}
 use Rattle.dpl_cell.specs.Places.{corners_of}
 use Rattle.dpl_rules.specs.Readers.{or_else}
 use Rattle.dpl_sign.specs.declared.nets.Net.{Net}
 use Rattle.dpl_sign.specs.Kinds.{is_bond, is_clash}
 use Rattle.dpl_sign.specs.Excess.{excess, all_edges, aside_edges}
 use Rattle.dpl_form.specs.Lines.{lines_in}
-use Rattle.dpl_form.specs.Readers.{whole}
+use Rattle.dpl_form.specs.Readers.{IsFirstWrong}
 use Rattle.dpl_report.specs.declared.params.Counts.{Counts}
 use Rattle.dpl_report.specs.Plain.{PlainReport}
-use Rattle.dpl_report.specs.Reading.{read_report}
+use Rattle.dpl_report.specs.ReportLines.{report_lines, report_text}
+use Rattle.dpl_report.specs.Valid.{IsReport}
 use Rattle.dpl_cuts.specs.declared.types.Fragments.{Fragments}
 use Rattle.dpl_options.specs.Options.{PlainOptions}
 use Rattle.dpl_good.specs.declared.refusals.Miss.{Miss}
@@ -68,15 +69,27 @@ counts_refusal f net r =
 abbrev pub refusal_of : PlainOptions → Fragments → Net → PlainReport → Option Refusal
 refusal_of o f net r = or_else (refused 2 (params_miss r.head.params o)) (counts_refusal f net r)
 
--- condition 1, and then the others
-abbrev pub refusal_from : PlainOptions → Fragments → Net → List ℕ → Result PlainReport ℕ → Option Refusal
-refusal_from o f net text (Err left) =
-    refused 1 (Some (miss (length (lines_in text) - left + 1) (pos 0) (pos 0)))
-refusal_from o f net text (Ok r) = refusal_of o f net r
+-- condition 1 fails: the text is no report's, and this is the number of its first line that cannot stand
+pub record IsNoReport (text : List ℕ) (x : Refusal) : Type 0 where
+  pub none : (r : PlainReport) → IsReport r → text ≢ report_text r
+  pub place : ℕ
+  pub first : IsFirstWrong report_lines IsReport (lines_in text) place
+  pub told : x ≡ record { reason = 1; at = miss place (pos 0) (pos 0) }
 
-abbrev pub refusal : PlainOptions → Fragments → Net → List ℕ → Option Refusal
-refusal o f net text = refusal_from o f net text (whole read_report (lines_in text))
+-- the text is that of a report, of which a later condition fails first
+pub record FailsLater (o : PlainOptions) (f : Fragments) (net : Net) (text : List ℕ) (x : Refusal) : Type 0 where
+  pub report : PlainReport
+  pub valid : IsReport report
+  pub written : text ≡ report_text report
+  pub fails : refusal_of o f net report ≡ Some x
 
--- a good text: none of the nine fails
-abbrev pub IsGood : PlainOptions → Fragments → Net → List ℕ → Type 0
-IsGood o f net text = refusal o f net text ≡ None
+-- the first condition that fails, with its place and its two values
+abbrev pub IsRefusal : PlainOptions → Fragments → Net → List ℕ → Refusal → Type 0
+IsRefusal o f net text x = IsNoReport text x ⊎ FailsLater o f net text x
+
+-- the text is that of a report of which none of the nine conditions fails
+pub record IsGood (o : PlainOptions) (f : Fragments) (net : Net) (text : List ℕ) : Type 0 where
+  pub report : PlainReport
+  pub valid : IsReport report
+  pub written : text ≡ report_text report
+  pub good : refusal_of o f net report ≡ None
