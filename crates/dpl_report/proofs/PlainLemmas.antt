@@ -1,5 +1,5 @@
 -- Reports that say the same are the same.
-use Rattle.std.proofs.Common.{◌≡◌, List, ◌∷◌, refl, ap, ◌∙◌}
+use Rattle.std.proofs.Common.{◌≡◌, List, refl, ap, ◌∙◌}
 use Rattle.dpl_cell.specs.declared.rect.Rect.{Rect}
 use Rattle.dpl_cell.specs.Places.{corners_of}
 use Rattle.dpl_cell.proofs.Same.{same_corners}
