@@ -13,7 +13,7 @@ use Rattle.dpl_solve.specs.Named.{keeps, odd_faces}
 use Rattle.dpl_solve.specs.Solved.{kept_cost, aside_cost, KeepToKept, PassOnce}
 use Rattle.dpl_balance.specs.Balance.{BreakTheSame}
 use Rattle.dpl_balance.specs.Rest.{IsRestOf}
-use Rattle.dpl_core.specs.Reports.{IsTight, IsLeast}
+use Rattle.dpl_core.specs.Reports.{IsTight, CostsLeast}
 
 same_weight : (net : Net) (test : ℕ → Bool) (old new : List Bool) → BreakTheSame net old new → (e : ℕ) →
     e < length net.graph.edges → (test e && breaks new (edge_at net.graph e))
@@ -43,7 +43,7 @@ still_tight net old new r b t = record {
 }
 
 pub still_least : (net : Net) (old new : Report) → IsRestOf old new → BreakTheSame net old.colours new.colours →
-    IsLeast net (plain_report old) → IsLeast net (plain_report new)
+    CostsLeast net (plain_report old) → CostsLeast net (plain_report new)
 still_least net old new r b t = record {
   half = λ others k. let h = t.half others k in let e = r.bound in omega arith;
   kept = λ others k. let h = t.kept others k in let e = kept_same net old.colours new.colours b in omega arith;

@@ -23,7 +23,7 @@ use Rattle.dpl_balance.specs.Balance.{AreBalanced}
 -- What the report's bound and cost say of all colourings of the net: each costs at least half
 -- the bound, none breaks kept edges of a smaller weight, and where the drawing is plane, and so
 -- nothing is set aside, none costs less.
-pub record IsLeast (net : Net) (r : PlainReport) : Type 0 where
+pub record CostsLeast (net : Net) (r : PlainReport) : Type 0 where
   pub half : (colours : List Bool) → IsColouring net.graph colours
       → r.head.bound ≤ 2 * cost_of net.graph colours
   pub kept : (colours : List Bool) → IsColouring net.graph colours
@@ -50,7 +50,7 @@ pub record IsReportOfNet (o : PlainOptions) (f : Fragments) (net : Net) (r : Pla
   pub valid : IsReport r
   pub good : refusal_of o f net r ≡ None
   pub tight : IsTight net r
-  pub least : IsLeast net r
+  pub least : CostsLeast net r
 
 -- The masks of the report are those of the layer with these cells: together they are the layer,
 -- they overlap exactly at the listed stitches, they break the spacing only at the listed clashes,

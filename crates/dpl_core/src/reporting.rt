@@ -7,7 +7,7 @@ ghost use Rattle.dpl_good.specs.Verdicts.{counts_of_net};
 ghost use Rattle.dpl_good.specs.Truths.{SaysTrue};
 ghost use Rattle.dpl_sign.specs.Excess.{excess as excess_of, all_edges};
 ghost use Rattle.dpl_solve.specs.Solved.{IsSolution};
-ghost use Rattle.dpl_core.specs.Reports.{IsTight, IsLeast};
+ghost use Rattle.dpl_core.specs.Reports.{IsTight, CostsLeast};
 
 use dpl_cuts::types::Fragments;
 use dpl_good::{broken_clashes, broken_cuts, masks};
@@ -32,7 +32,7 @@ pub fn report_of(
     requires one { length solution.colours.items ≡ length fragments.now.rects }
     ensures truth { IfOk result (λ r. SaysTrue options.now fragments.now net.now (plain_report r)) }
     ensures tight { IfOk result (λ r. IsTight net.now (plain_report r)) }
-    ensures least { IfOk result (λ r. IsLeast net.now (plain_report r)) }
+    ensures least { IfOk result (λ r. CostsLeast net.now (plain_report r)) }
     ensures colours { IfOk result (λ r. r.colours ≡ solution.colours.items) }
 {
     let params = params_of(options);

@@ -6,7 +6,7 @@ ghost use Rattle.dpl_layer.specs.Layers.{IsLayer, IsSomeLayer};
 ghost use Rattle.dpl_report.specs.Plain.{plain_report};
 ghost use Rattle.dpl_good.specs.Truths.{SaysTrue};
 ghost use Rattle.dpl_solve.specs.Solved.{IsSolution, IsRefused};
-ghost use Rattle.dpl_core.specs.Reports.{HasMasks, IsLeast, IsReportOfNet, IsTight};
+ghost use Rattle.dpl_core.specs.Reports.{HasMasks, CostsLeast, IsReportOfNet, IsTight};
 ghost use Rattle.dpl_core.specs.Refusals.{IsOddNet};
 
 use crate::reporting::report_of;
@@ -50,7 +50,7 @@ pub fn report_is_of_the_layer(options: &Options, layer: &Layer, report: &Report)
     requires truth { SaysTrue options.now layer.now.fragments layer.now.net
         (plain_report report.now) }
     requires tight { IsTight layer.now.net (plain_report report.now) }
-    requires least { IsLeast layer.now.net (plain_report report.now) }
+    requires least { CostsLeast layer.now.net (plain_report report.now) }
     ensures report { IsReportOfNet options.now layer.now.fragments layer.now.net
         (plain_report report.now) }
     ensures masks { (cells kept : Cells) →

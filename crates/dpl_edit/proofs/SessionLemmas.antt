@@ -9,7 +9,7 @@ use Rattle.dpl_edit.specs.declared.errors.EditError.TheVariants.{Limit, NoMemory
 use Rattle.dpl_edit.specs.declared.errors.RemoveError.{RemoveError}
 use Rattle.dpl_edit.specs.declared.errors.RemoveError.TheVariants as removing
 use Rattle.dpl_edit.specs.Errors.{of_edit}
-use Rattle.dpl_edit.specs.Contents.{content, without, HasBox, Refuses}
+use Rattle.dpl_edit.specs.Contents.{content, boxes_without, HasBox, Refuses}
 use Rattle.dpl_edit.specs.Optima.{Optimum, IsSolvedContent}
 use Rattle.dpl_edit.specs.Sessions.{State, RefusesRemoval}
 use Rattle.dpl_edit.proofs.RefusalLemmas.{one_refusal, content_free}
@@ -59,7 +59,7 @@ none_behind prims begun boxes p q = ap (content begun) q ∙ append-nil begun �
 -- ---- removals
 
 pub edit_removes : (s : State) (number : ℕ) (e : EditError) → HasBox number s.boxes → (e ≡ NoMemory) ⊎
-    Refuses s.options (content s.begun (without number s.boxes)) s.keep e
+    Refuses s.options (content s.begun (boxes_without number s.boxes)) s.keep e
     → (of_edit e ≡ removing.NoMemory) ⊎ RefusesRemoval s number (of_edit e)
 edit_removes s number e b (inl m) = inl (ap of_edit m)
 edit_removes s number (Limit k c) b (inr h) = inr (b, h)
@@ -67,7 +67,7 @@ edit_removes s number NoMemory b (inr h) = absurd h
 
 -- a limit that the content without the box passes, as an answer of the edit
 pub removal_edits : (s : State) (number : ℕ) → HasBox number s.boxes → (r : RemoveError) → RefusesRemoval s number r →
-    (e : EditError) × (of_edit e ≡ r) × Refuses s.options (content s.begun (without number s.boxes)) s.keep e
+    (e : EditError) × (of_edit e ≡ r) × Refuses s.options (content s.begun (boxes_without number s.boxes)) s.keep e
 removal_edits s number b (removing.NoBox n) h = absurd (h.1 b)
 removal_edits s number b (removing.Limit k c) h = (Limit k c, refl, h.1)
 removal_edits s number b removing.NoMemory h = absurd h

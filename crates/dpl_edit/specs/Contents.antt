@@ -34,8 +34,8 @@ abbrev pub prim_count : List Primitive → ℕ
 prim_count prims = sum_by weight_of prims
 
 -- the boxes but the one with this number
-abbrev pub without : ℕ → List Placed → List Placed
-without number boxes = filter (λ b. not (b.number == number)) boxes
+abbrev pub boxes_without : ℕ → List Placed → List Placed
+boxes_without number boxes = filter (λ b. not (b.number == number)) boxes
 
 -- one of the boxes has this number
 abbrev pub has_number : ℕ → List Placed → Bool

@@ -1,6 +1,6 @@
 // The content of a session.
 ghost use Rattle.std.specs.Prelude.{◌≡◌, ◌∷◌, [], ◌++◌, length, take, IfOk, OnOk};
-ghost use Rattle.dpl_edit.specs.Contents.{content, without, has_number};
+ghost use Rattle.dpl_edit.specs.Contents.{content, boxes_without, has_number};
 
 use crate::placed::Placed;
 use dpl_cell::Prim;
@@ -16,7 +16,7 @@ pub fn with_box(alloc: Global, boxes: &[Placed], placed: Placed) -> Result<Vec<P
 }
 
 fn keep(kept: &mut Vec<Placed>, placed: Placed, number: u64) -> Result<(), NoMemory>
-    ensures { OnOk result (kept.new.items ≡ kept.old.items ++ without number (placed ∷ [])) }
+    ensures { OnOk result (kept.new.items ≡ kept.old.items ++ boxes_without number (placed ∷ [])) }
 {
     if placed.number != number {
         kept.push(placed)?;
@@ -27,7 +27,7 @@ fn keep(kept: &mut Vec<Placed>, placed: Placed, number: u64) -> Result<(), NoMem
 /// The boxes but the one with this number.
 #[tactic(auto, using(crate::proofs::ContentLemmas::one_box))]
 pub fn without_box(alloc: Global, boxes: &[Placed], number: u64) -> Result<Vec<Placed>, NoMemory>
-    ensures { IfOk result (λ v. v.items ≡ without number boxes.now) }
+    ensures { IfOk result (λ v. v.items ≡ boxes_without number boxes.now) }
 {
     let mut kept = Vec::new(alloc);
     for placed in boxes {

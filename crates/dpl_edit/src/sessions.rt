@@ -1,7 +1,7 @@
 //! A session.
 ghost use Rattle.std.specs.Prelude.{◌≡◌, ◌⊎◌, ◌+◌, ◌<◌, ◌^◌, ◌∷◌, [], ◌++◌, IfOk, OnOk, Err};
 ghost use Rattle.dpl_report.specs.Plain.{plain_report};
-ghost use Rattle.dpl_edit.specs.Contents.{content, without, HasBox, Refuses};
+ghost use Rattle.dpl_edit.specs.Contents.{content, boxes_without, HasBox, Refuses};
 ghost use Rattle.dpl_edit.specs.Optima.{KeepMasks};
 ghost use Rattle.dpl_edit.specs.Sessions.{IsReportOf, IsBegun, IsEdited, RefusesRemoval};
 
@@ -119,7 +119,7 @@ impl Session {
     /// Removes the box with this number.
     pub fn remove(&mut self, alloc: Global, number: u64) -> Result<(), RemoveError>
         ensures removed { OnOk result (HasBox number self.old.boxes ×
-            IsEdited self.old self.new (without number self.old.boxes) self.old.count) }
+            IsEdited self.old self.new (boxes_without number self.old.boxes) self.old.count) }
         ensures kept { OnOk result (KeepMasks self.old.solved self.new.solved) }
         ensures refused { (e : RemoveError) → result ≡ Err e → (self.new ≡ self.old) ×
             ((e ≡ RemoveError.NoMemory) ⊎ RefusesRemoval self.old number e) }

@@ -15,7 +15,7 @@ use Rattle.dpl_edit.specs.declared.errors.EditError.{EditError}
 use Rattle.dpl_edit.specs.declared.errors.EditError.TheVariants as edit
 use Rattle.dpl_edit.specs.declared.errors.RemoveError.{RemoveError}
 use Rattle.dpl_edit.specs.declared.errors.RemoveError.TheVariants as removal
-use Rattle.dpl_edit.specs.Contents.{content, without, HasBox, PassesLimit, Refuses}
+use Rattle.dpl_edit.specs.Contents.{content, boxes_without, HasBox, PassesLimit, Refuses}
 use Rattle.dpl_edit.specs.Sessions.{State, IsBegun, IsEdited, RefusesRemoval}
 use Rattle.dpl_edit.proofs.RefusalLemmas.{one_refusal}
 use Rattle.dpl_words.specs.Commands.{PlainCommand}
@@ -168,7 +168,7 @@ add_stops s rect (edit.Limit k c) status is (inr r) n = inr (subst (λ z. StopsA
 
 removed_within : {T : Type 0} (s : State) (number : ℕ) (result : Result T RemoveError) (v : T) → result ≡ Ok v → HasBox number s.boxes
     → ((e : RemoveError) → RefusesRemoval s number e → (result ≡ Err e) ⊎ (result ≡ Err removal.NoMemory)) → (k n : ℕ) →
-    ¬ PassesLimit s.options (content s.begun (without number s.boxes)) s.keep k n
+    ¬ PassesLimit s.options (content s.begun (boxes_without number s.boxes)) s.keep k n
 removed_within s number result v is there exact k n p = elim (exact (removal.Limit k n) (there, p)) [
   | inl a ↦ absurd (cc)
   | inr a ↦ absurd (cc)

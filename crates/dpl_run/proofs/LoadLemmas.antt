@@ -13,7 +13,7 @@ use Rattle.dpl_words.specs.Commands.{PlainCommand}
 use Rattle.dpl_run.specs.declared.status.Status.{Status}
 use Rattle.dpl_run.specs.declared.status.Status.TheVariants.{Done, NoMemory}
 use Rattle.dpl_run.specs.Inputs.{colours}
-use Rattle.dpl_run.specs.due.Split.{IsFree}
+use Rattle.dpl_run.specs.due.Split.{HasNoRefusal}
 use Rattle.dpl_run.specs.due.Load.{IsLoadDue, loaded_line, made_options}
 use Rattle.dpl_run.specs.due.Load.IsLoadDue.{refused, done}
 use Rattle.dpl_run.specs.Errors.{status_of}
@@ -33,10 +33,10 @@ one_load o text _ _ _ _ (done report p free) (done other q also) = refl
 
 -- the line of a report is due, and want of memory is free
 pub load_told : (o : PlainOptions) (text made : List ℕ) (r : PlainReport) (s : Status) (x : List ℕ) → made ≡ text →
-    o ≡ made_options → IsReportOf o made r → IsFree o made
+    o ≡ made_options → IsReportOf o made r → HasNoRefusal o made
     → (s ≡ Done → x ≡ loaded_line r) → (s ≡ Done) ⊎ ((s ≡ NoMemory) × (x ≡ [])) → IsWorked (IsLoadDue made_options text) s x
 load_told o text made r s x m same good free line (inl d) =
-    let due : IsLoadDue o text Done (loaded_line r) = done r (subst (λ z. IsReportOf o z r) m good) (subst (IsFree o) m free) in
+    let due : IsLoadDue o text Done (loaded_line r) = done r (subst (λ z. IsReportOf o z r) m good) (subst (HasNoRefusal o) m free) in
     subst (λ z. IsWorked (IsLoadDue z text) s x) same (subst (λ z. IsWorked (IsLoadDue o text) z x) (sym d) (subst (IsLoadDue o text Done) (sym (line d)) due))
 load_told o text made r s x m same good free line (inr d) = subst (λ z. IsWorked (IsLoadDue made_options text) z x) (sym d.0) d.1
 

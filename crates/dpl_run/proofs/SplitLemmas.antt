@@ -15,7 +15,7 @@ use Rattle.dpl_core.proofs.RefusalLemmas.{one_split_refusal, never_memory}
 use Rattle.dpl_words.specs.Commands.{PlainCommand}
 use Rattle.dpl_run.specs.declared.status.Status.{Status}
 use Rattle.dpl_run.specs.Inputs.{colours}
-use Rattle.dpl_run.specs.due.Split.{IsFree, IsSplitDue}
+use Rattle.dpl_run.specs.due.Split.{HasNoRefusal, IsSplitDue}
 use Rattle.dpl_run.specs.due.Split.IsSplitDue.{refused, done}
 use Rattle.dpl_run.specs.Consequences.{IsLeastOfCells}
 use Rattle.dpl_run.specs.Errors.{status_of}
@@ -32,7 +32,7 @@ refused_ends c colouring o text e r = error_ends c (RefusesSplit o text) (never_
 
 -- a text with a report is not refused
 pub free_of : {T : Type 0} (o : PlainOptions) (text : List ℕ) (result : Result T LayerError) (v : T) → result ≡ Ok v
-    → ((e : LayerError) → RefusesSplit o text e → (result ≡ Err e) ⊎ (result ≡ Err refusal.NoMemory)) → IsFree o text
+    → ((e : LayerError) → RefusesSplit o text e → (result ≡ Err e) ⊎ (result ≡ Err refusal.NoMemory)) → HasNoRefusal o text
 free_of o text result v h exact e r = elim (exact e r) [
   | inl a ↦ absurd (cc)
   | inr a ↦ absurd (cc)

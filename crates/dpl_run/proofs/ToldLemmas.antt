@@ -7,7 +7,7 @@ use Rattle.dpl_ext.specs.Device.{Texts, Rose}
 use Rattle.dpl_words.specs.Commands.{PlainCommand, command_of}
 use Rattle.dpl_run.specs.declared.status.Status.{Status}
 use Rattle.dpl_run.specs.declared.status.Status.TheVariants.{Done, Rejected, Usage, Layout, Limit, Script, ReadFault, WriteFault, NoMemory}
-use Rattle.dpl_run.specs.Answer.{Answers, IsAnswered, IsCut, IsDue, IsDueOf, IsQuiet, IsStatusOf}
+use Rattle.dpl_run.specs.Answer.{Answers, IsAnswered, IsCutShort, IsDue, IsDueOf, IsQuiet, IsStatusOf}
 use Rattle.dpl_run.specs.Devices.{AreTold}
 use Rattle.dpl_run.specs.Telling.{IsBare, IsDueOrFree, IsTold}
 use Rattle.dpl_run.proofs.EndLemmas.{IsFit}
@@ -136,7 +136,7 @@ usage_status words kind e = subst (λ z. IsStatusOf z (Usage kind)) (sym e) (inl
 
 -- ---- what a sink took that tells it
 
-pub cut_front : (Due : Status → List ℕ → Type 0) (taken now : List ℕ) → IsCut Due (Some taken) (Some now) →
+pub cut_front : (Due : Status → List ℕ → Type 0) (taken now : List ℕ) → IsCutShort Due (Some taken) (Some now) →
     (front : List ℕ) × (rest : List ℕ) × Due Done (front ++ rest) × (now ≡ taken ++ front)
 cut_front Due taken now cut =
     let count = cut.taken.0 in

@@ -71,7 +71,7 @@ pub record IsWritten (Due : Status → List ℕ → Type 0) (before now : Option
   pub taken : Appends before now output
 
 -- a front of an output was written that was due
-pub record IsCut (Due : Status → List ℕ → Type 0) (before now : Option (List ℕ)) : Type 0 where
+pub record IsCutShort (Due : Status → List ℕ → Type 0) (before now : Option (List ℕ)) : Type 0 where
   pub output : List ℕ
   pub due : Due Done output
   pub taken : AppendsFront before now output
@@ -79,7 +79,7 @@ pub record IsCut (Due : Status → List ℕ → Type 0) (before now : Option (Li
 -- what a run answers and writes; a failed read and want of memory may take the place of any answer
 abbrev pub Answers : (Status → List ℕ → Type 0) → Option (List ℕ) → Option (List ℕ) → Status →
     Type 0
-Answers Due before now WriteFault = IsCut Due before now
+Answers Due before now WriteFault = IsCutShort Due before now
 Answers Due before now ReadFault = ⊤
 Answers Due before now NoMemory = ⊤
 Answers Due before now status = IsWritten Due before now status

@@ -11,7 +11,7 @@ use Rattle.dpl_layer.specs.Drawings.{IsDrawingOf}
 use Rattle.dpl_layer.specs.Refusals.{RefusesDrawing}
 use Rattle.dpl_core.specs.Reports.{IsReportOfCells}
 use Rattle.dpl_edit.specs.declared.placed.Placed.{Placed}
-use Rattle.dpl_edit.specs.Contents.{content, cells_in, without, HasBox, PassesLimit}
+use Rattle.dpl_edit.specs.Contents.{content, cells_in, boxes_without, HasBox, PassesLimit}
 use Rattle.dpl_edit.specs.Sessions.{State}
 use Rattle.dpl_words.specs.declared.edits.Line.{Line}
 use Rattle.dpl_words.specs.declared.edits.Line.TheVariants.{Add, Remove}
@@ -64,7 +64,7 @@ edited (Remove number) s = record {
   options = s.options;
   begun = s.begun;
   keep = s.keep;
-  boxes = without number s.boxes;
+  boxes = boxes_without number s.boxes;
   count = s.count;
 }
 

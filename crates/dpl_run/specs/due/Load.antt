@@ -9,7 +9,7 @@ use Rattle.dpl_run.specs.declared.status.Status.{Status}
 use Rattle.dpl_run.specs.declared.status.Status.TheVariants.{Done}
 use Rattle.dpl_run.specs.Lines.{load_line}
 use Rattle.dpl_run.specs.Errors.{status_of}
-use Rattle.dpl_run.specs.due.Split.{IsFree}
+use Rattle.dpl_run.specs.due.Split.{HasNoRefusal}
 
 -- the options with which a made layout is split
 abbrev pub made_options : PlainOptions
@@ -28,5 +28,5 @@ loaded_line r = load_line r.head.counts.fragments (r.head.counts.bonds + r.head.
 
 pub data IsLoadDue (o : PlainOptions) (text : List ℕ) : Status → List ℕ → Type 0 where
   refused : (e : LayerError) → RefusesSplit o text e → IsLoadDue o text (status_of e) []
-  done : (r : PlainReport) → IsReportOf o text r → IsFree o text →
+  done : (r : PlainReport) → IsReportOf o text r → HasNoRefusal o text →
       IsLoadDue o text Done (loaded_line r)

@@ -9,9 +9,9 @@ use Rattle.dpl_run.specs.declared.status.Status.TheVariants.{Done}
 use Rattle.dpl_run.specs.Errors.{status_of}
 
 -- no refusal of a split applies
-abbrev pub IsFree : PlainOptions → List ℕ → Type 0
-IsFree o text = (e : LayerError) → ¬ RefusesSplit o text e
+abbrev pub HasNoRefusal : PlainOptions → List ℕ → Type 0
+HasNoRefusal o text = (e : LayerError) → ¬ RefusesSplit o text e
 
 pub data IsSplitDue (o : PlainOptions) (text : List ℕ) : Status → List ℕ → Type 0 where
   refused : (e : LayerError) → RefusesSplit o text e → IsSplitDue o text (status_of e) []
-  done : (output : List ℕ) → IsSplit o text output → IsFree o text → IsSplitDue o text Done output
+  done : (output : List ℕ) → IsSplit o text output → HasNoRefusal o text → IsSplitDue o text Done output

@@ -1,5 +1,5 @@
 use Rattle.std.proofs.Common.{rules, true, ◌≡◌, inl, inr, ◌∙◌, ap, sym, Err}
-use Rattle.dpl_edit.specs.Contents.{HasBox, has_number, without}
+use Rattle.dpl_edit.specs.Contents.{HasBox, has_number, boxes_without}
 use Rattle.dpl_edit.specs.Errors.{of_edit}
 use Rattle.dpl_edit.specs.Optima.{solved_of}
 use Rattle.dpl_edit.specs.Sessions.{State}
@@ -14,8 +14,8 @@ returns-in-Ok-solve_edit-clause-exact c = λ e r.
     let mine : c.self.inside.boxes.items ≡ c.args.self.now.boxes = ap (λ (z : State). z.boxes) c.self.view_is in
     let seen : c.has_box.result ≡ true = search rules in
     let has : HasBox c.args.number c.args.self.now.boxes = ap (has_number c.args.number) (sym (c.deref.ensures.value ∙ mine)) ∙ sym c.has_box.ensures ∙ seen in
-    let boxes : c.deref-3.result.now ≡ without c.args.number c.args.self.now.boxes = c.deref-3.ensures.value ∙
-    c.in-Ok.ensures ∙ ap (without c.args.number) (c.deref-2.ensures.value ∙ mine) in
+    let boxes : c.deref-3.result.now ≡ boxes_without c.args.number c.args.self.now.boxes = c.deref-3.ensures.value ∙
+    c.in-Ok.ensures ∙ ap (boxes_without c.args.number) (c.deref-2.ensures.value ∙ mine) in
     let (x, is, refuses) = removal_edits c.args.self.now c.args.number has e r in
     absurd (ok_free _ _ _ _ _ _ (solved_of c.in-Ok-solve_edit.solved)
     (record { options = o; prims_are = content_is _ _ _ _ b boxes; keep_is = k }) c.in-Ok-solve_edit.ensures.solved
@@ -29,8 +29,8 @@ returns-in-Err-solve_edit-clause-exact c = λ e r.
     let mine : c.self.inside.boxes.items ≡ c.args.self.now.boxes = ap (λ (z : State). z.boxes) c.self.view_is in
     let seen : c.has_box.result ≡ true = search rules in
     let has : HasBox c.args.number c.args.self.now.boxes = ap (has_number c.args.number) (sym (c.deref.ensures.value ∙ mine)) ∙ sym c.has_box.ensures ∙ seen in
-    let boxes : c.deref-3.result.now ≡ without c.args.number c.args.self.now.boxes = c.deref-3.ensures.value ∙
-    c.in-Ok.ensures ∙ ap (without c.args.number) (c.deref-2.ensures.value ∙ mine) in
+    let boxes : c.deref-3.result.now ≡ boxes_without c.args.number c.args.self.now.boxes = c.deref-3.ensures.value ∙
+    c.in-Ok.ensures ∙ ap (boxes_without c.args.number) (c.deref-2.ensures.value ∙ mine) in
     let (x, is, refuses) = removal_edits c.args.self.now c.args.number has e r in
     elim (err_comes _ _ _ _ _ _ c.in-Err-solve_edit.error
     (record { options = o; prims_are = content_is _ _ _ _ b boxes; keep_is = k })
