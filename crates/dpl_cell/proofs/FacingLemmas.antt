@@ -31,7 +31,7 @@ pub distances : (a b : Corners) (dx dy : ℕ) → (int_min a.x2 b.x2 ≤ℤ int_
     → IsDistance a.x1 a.x2 b.x1 b.x2 dx × IsDistance a.y1 a.y2 b.y1 b.y2 dy
 distances a b dx dy (h, g) l s m t = (distance _ _ _ _ dx h l s, distance _ _ _ _ dy g m t)
 
--- where one of two lengths is nothing and the first is not, the second is
+-- where one of two stretches is empty and the first is not, the second is
 pub other_side : (l r l' r' : ℤ) → (r ≤ℤ l) ⊎ (r' ≤ℤ l') → l <ℤ r → r' ≤ℤ l'
 other_side l r l' r' (inl h) g = absurd (omega signed)
 other_side l r l' r' (inr h) g = h

@@ -152,7 +152,7 @@ no_end-signed : (z : ℤ) → IsNear z → list_all is_no_end (signed_decimal z)
 no_end-signed (pos n) h = no_end-decimal n (omega arith)
 no_end-signed (negsuc n) h = no_end-decimal (suc n) (omega arith)
 
--- numbers in front do not change it either
+-- numbers in front of an end do not change whether it is one line
 pub is_line-numbered : (zs : List ℤ) (end : List ℕ) → AllByRecursion IsNear zs → is_line (numbered zs end) ≡ is_line end
 is_line-numbered [] end a = refl
 is_line-numbered (z ∷ zs) end a = is_line-append (signed_decimal z) (numbered zs end) (no_end-signed z a.0) ∙ is_line-numbered zs end a.1

@@ -148,7 +148,7 @@ pub layout_fault : (c : PlainCommand) (before now second second_now : Seen) (s t
 layout_fault c before now second second_now s t w e f =
     inl (fault_where (reads_layout c) before now w.0 (subst (StopsReading before now 1 16777216) (sym e ∙ f) w.1))
 
--- a layout that passes limit 1 has more bytes than are taken
+-- where limit 1 is passed, one byte more of the layout was read than is taken
 pub layout_limit : (c : PlainCommand) (before now : Seen) (s t : Status) (count : ℕ) → StopsLayout c before now s →
     t ≡ s → t ≡ Limit 1 count → PassesBytes 16777217 count before now
 layout_limit c before now s t count w e f = let p = subst (StopsReading before now 1 16777216) (sym e ∙ f) w.1 in (p.1, p.2)
@@ -292,12 +292,12 @@ no_limit_of_bytes : (count : ℕ) (before now : Seen) → PassesOpened 1 count b
 no_limit_of_bytes count before now (inl p) = omega (arith, p.0)
 no_limit_of_bytes count before now (inr p) = omega (arith, p.0)
 
--- a report that passes limit 9 has more bytes than are taken
+-- where limit 9 is passed, one byte more of the report was read than is taken
 pub second_limit : (c : PlainCommand) (before now : Seen) (texts : Option Texts) (s t : Status) (count : ℕ) →
     StopsOpening (opens c) before now texts s → t ≡ s → t ≡ Limit 9 count → PassesBytes 268435457 count before now
 second_limit c before now texts s t count w e f = limit_of_report count before now (stopped_limit c before now texts s t 9 count w e f)
 
--- a script that passes limit 10 has more bytes than are taken
+-- where limit 10 is passed, one byte more of the script was read than is taken
 pub second_script : (c : PlainCommand) (before now : Seen) (texts : Option Texts) (s t : Status) (count : ℕ) →
     StopsOpening (opens c) before now texts s → t ≡ s → t ≡ Limit 10 count → PassesBytes 65537 count before now
 second_script c before now texts s t count w e f = limit_of_script count before now (stopped_limit c before now texts s t 10 count w e f)
