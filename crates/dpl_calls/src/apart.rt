@@ -19,6 +19,7 @@ impl<T> Model for Apart<T> {
 }
 
 impl<T: Drop> Apart<T> {
+    /// This value in memory of its own. Its error is want of memory.
     pub fn new(alloc: Global, value: T) -> Result<Apart<T>, AllocError>
         ensures { IfOk result (λ a. a ≡ value) }
     {
@@ -26,6 +27,7 @@ impl<T: Drop> Apart<T> {
         Ok(Apart { value })
     }
 
+    /// The value.
     pub fn get(&self) -> &T
         ensures { result.now ≡ self.now }
     {

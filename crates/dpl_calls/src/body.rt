@@ -26,6 +26,7 @@ impl Model for Body {
 }
 
 impl Body {
+    /// A definition without an entry.
     pub fn new(alloc: Global) -> Body
         ensures { result ≡ [] }
     {
@@ -44,6 +45,7 @@ impl Body {
         Ok(())
     }
 
+    /// The entries in their order; none of their calls shifts by more than 2^106 grid units.
     pub fn as_slice(&self) -> &[Entry]
         ensures value { result.now ≡ self.now }
         ensures near { All IsEntryNear result.now }

@@ -25,6 +25,7 @@ impl Model for Move {
 }
 
 impl Move {
+    /// The move by this placement. Its error is want of memory.
     pub fn new(alloc: Global, placement: Placement) -> Result<Move, AllocError>
         ensures { IfOk result (λ m. m ≡ placement) }
     {

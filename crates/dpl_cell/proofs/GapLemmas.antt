@@ -22,6 +22,7 @@ close_by_gap one other n reach g l =
     let (x, y, x', y', c, e) = g.attained in
     record { x = x; y = y; x' = x'; y' = y'; cells = c; near = rw e l }
 
+-- the gap of close sets is less than the square of the reach
 pub gap_by_close : (one other : ℤ → ℤ → Type 0) (n reach : ℕ) → IsGap2 one other n → AreClose one other reach → n < reach * reach
 gap_by_close one other n reach g c =
     let l = g.least c.x c.y c.x' c.y' c.cells in

@@ -42,6 +42,7 @@ same_corners a b e =
     let P : Corners → Type 0 = λ c. (p : RectFacts c) → a ≡ rect_with c p in
     subst P e (λ p. ap (rect_with (corners_of a)) (RectFacts-prop (corners_of a) (rect_facts a) p)) (rect_facts b)
 
+-- rectangles with the same corners are the same
 pub same_rect : (a b : Rect) → a.x1 ≡ b.x1 → a.y1 ≡ b.y1 → a.x2 ≡ b.x2 → a.y2 ≡ b.y2 → a ≡ b
 same_rect a b e1 e2 e3 e4 = let e : corners_of a ≡ corners_of b = cc in same_corners a b e
 

@@ -69,6 +69,7 @@ pub record HasContact (left right low high : ℤ) : Type 0 where
   pub rows : low ≤ℤ high
   pub more : (left <ℤ right) ⊎ (low <ℤ high)
 
+-- rectangles whose columns and rows in common make a contact touch
 pub touch_by_contact : (a b : Corners) → HasCell a → HasCell b →
     HasContact (int_max a.x1 b.x1) (int_min a.x2 b.x2) (int_max a.y1 b.y1) (int_min a.y2 b.y2) → Touch (IsIn a) (IsIn b)
 touch_by_contact a b s t c =
@@ -93,6 +94,7 @@ contact_by_edge a b s =
       more = by_lt_z (int_max a.x1 b.x1) (int_min a.x2 b.x2) (λ columns. inl columns) (λ none. inr (omega signed));
     }
 
+-- rectangles that touch have columns and rows in common that make a contact
 pub contact_by_touch : (a b : Corners) → Touch (IsIn a) (IsIn b) → HasContact (int_max a.x1 b.x1) (int_min a.x2 b.x2) (int_max a.y1 b.y1) (int_min a.y2 b.y2)
 contact_by_touch a b (inl s) = contact_by_cell a b s
 contact_by_touch a b (inr s) = contact_by_edge a b s
@@ -104,6 +106,7 @@ apart_sides a b apart =
     (λ columns. by_lt_z (int_max a.y1 b.y1) (int_min a.y2 b.y2) (λ rows. absurd (apart (cell_in_both a b columns rows))) (λ h. inr h))
     (λ h. inl h)
 
+-- rectangles that meet at a column line, with rows in common, share edges along it
 pub upright_seam : (a b : Corners) (at low high : ℤ) → HasCell a → HasCell b → at ≡ int_max a.x1 b.x1 →
     at ≡ int_min a.x2 b.x2 → low ≡ int_max a.y1 b.y1 → high ≡ int_min a.y2 b.y2 → low <ℤ high →
     IsSeam a b (record { upright = true; at = at; from = low; to = high })
@@ -115,6 +118,7 @@ upright_seam a b at low high s t e1 e2 e3 e4 h = record {
   all = λ x y x' y' m. (y, search signed, search signed);
 }
 
+-- rectangles that meet at a row line, with columns in common, share edges along it
 pub level_seam : (a b : Corners) (at low high : ℤ) → HasCell a → HasCell b → at ≡ int_max a.y1 b.y1 →
     at ≡ int_min a.y2 b.y2 → low ≡ int_max a.x1 b.x1 → high ≡ int_min a.x2 b.x2 → low <ℤ high →
     IsSeam a b (record { upright = false; at = at; from = low; to = high })
@@ -126,6 +130,7 @@ level_seam a b at low high s t e1 e2 e3 e4 h = record {
   all = λ x y x' y' m. (x, search signed, search signed);
 }
 
+-- rectangles with no cell in common share no edge where they meet at no line with a row or a column in common
 pub no_edge : (a b : Corners) → AreApart a b → (int_max a.x1 b.x1 ≡ int_min a.x2 b.x2 →
     int_max a.y1 b.y1 <ℤ int_min a.y2 b.y2 → ⊥) → (int_max a.y1 b.y1 ≡ int_min a.y2 b.y2 →
     int_max a.x1 b.x1 <ℤ int_min a.x2 b.x2 → ⊥) → ¬ SharesEdge (IsIn a) (IsIn b)
@@ -137,6 +142,7 @@ no_edge a b apart p q s =
 abbrev pub is_contact : ℤ → ℤ → ℤ → ℤ → Bool
 is_contact left right low high = le_z left right && le_z low high && (lt_z left right || lt_z low high)
 
+-- what passes the test is a contact
 pub contact_by_test : (left right low high : ℤ) → is_contact left right low high ≡ true → HasContact left right low high
 contact_by_test left right low high t =
     let (p, q) = and_parts (le_z left right && le_z low high) (lt_z left right || lt_z low high) t in
@@ -147,6 +153,7 @@ contact_by_test left right low high t =
       more = elim (or_cases (lt_z left right) (lt_z low high) q) [ inl e ↦ inl (grind (arith, ints, e)) | inr e ↦ inr (grind (arith, ints, e)) ];
     }
 
+-- a contact passes the test
 pub test_by_contact : (left right low high : ℤ) → HasContact left right low high → is_contact left right low high ≡ true
 test_by_contact left right low high c =
     let h : le_z left right ≡ true = let g = c.columns in grind (arith, ints) in

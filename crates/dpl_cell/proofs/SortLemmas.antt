@@ -30,6 +30,7 @@ in_order a b Equal Equal m n e = inr (sym m, omega signed)
 in_order a b Equal Greater m n e = inr (sym m, omega signed)
 in_order a b Greater s m n e = inl m
 
+-- in a sorted list no lower left corner stands before an earlier one
 pub not_after : {X : Type 0} (at : X → Corners) (xs : List X) →
     IsSortedBy (λ p q. is_lt (ordering_then (int_cmp (at p).y1 (at q).y1) (int_cmp (at p).x1 (at q).x1))) xs →
     AllPairs (λ p q. IsNotAfter (at p) (at q)) xs
@@ -41,6 +42,7 @@ not_after at xs s i j d h l =
 
 -- ---- where no two have one lower left corner
 
+-- two rectangles have the same lower left corner
 abbrev pub BeginTogether : Corners → Corners → Type 0
 BeginTogether a b = (a.x1 ≡ b.x1) × (a.y1 ≡ b.y1)
 

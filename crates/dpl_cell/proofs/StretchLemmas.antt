@@ -11,9 +11,11 @@ use Rattle.dpl_cell.specs.Layers.{is_within}
 use Rattle.dpl_cell.specs.Stretches.{is_in_stretches, AreSeparate}
 use Rattle.dpl_cell.proofs.BoxLemmas.{test_within, within_test, three, equal_z, at_start}
 
+-- a stretch whose end is not above its start holds nothing
 pub within_none : (a b p : ℤ) → b ≤ℤ a → is_within a b p ≡ false
 within_none a b p h = grind (arith, ints)
 
+-- stretches with one more hold what they held, and what the new one holds
 pub in_pushed : (parts : List Stretch) (s : Stretch) (p : ℤ) → is_in_stretches (parts ++ s ∷ []) p ≡ (is_in_stretches parts p || is_within s.from s.to p)
 in_pushed parts s p = list_any-append (λ s. is_within s.from s.to p) parts (s ∷ []) ∙
     ap (λ b. is_in_stretches parts p || b) (or-false (is_within s.from s.to p))
@@ -30,6 +32,7 @@ same_to has a b c d p r s w v = by_lt_z d b (λ h. absurd (s.right (r.full d (in
   inside : (a b c d p : ℤ) → IsWithin a b p → IsWithin c d p → d <ℤ b → IsWithin a b d
   inside a b c d p w v h = let k = w.from in let l = v.to in record { from = omega signed; to = h }
 
+-- maximal stretches with a place in common are the same
 pub one_maximal : (has : ℤ → Type 0) (a b c d p : ℤ) → IsMaximal has a b → IsMaximal has c d → IsWithin a b p → IsWithin c d p → (a ≡ c) × (b ≡ d)
 one_maximal has a b c d p r s w v = (
   equal_z a c (same_from has c d a b p s r v w) (same_from has a b c d p r s w v),
@@ -47,6 +50,7 @@ pub record Covers (has : ℤ → Type 0) (ss : List Stretch) : Type 0 where
 place : (ss : List Stretch) (p : ℤ) → is_in_stretches ss p ≡ true → Any (λ s. IsWithin s.from s.to p) ss
 place ss p h = let (k, s, l, e, t) = Any-from_list_any (λ s. is_within s.from s.to p) ss h in (k, s, l, e, test_within _ _ p t)
 
+-- each of separate stretches that cover a property is a maximal stretch of it
 pub stretch_at : (has : ℤ → Type 0) (ss : List Stretch) → Covers has ss → (k : ℕ) (d : Stretch) → k < length ss →
     IsMaximal has (get_or ss k d).from (get_or ss k d).to
 stretch_at has ss row k d l = record {
@@ -79,6 +83,7 @@ stretch_at has ss row k d l = record {
   behind' : (b c d : ℤ) → b <ℤ c → IsWithin c d b → ⊥
   behind' b c d h w = omega signed
 
+-- each maximal stretch of a property is among the separate stretches that cover it
 pub stretch_among : (has : ℤ → Type 0) (ss : List Stretch) → Covers has ss → (a b : ℤ) → IsMaximal has a b → Any (λ s. (s.from ≡ a) × (s.to ≡ b)) ss
 stretch_among has ss row a b run =
     let start = at_start a b run.long in

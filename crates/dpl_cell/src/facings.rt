@@ -1,3 +1,4 @@
+// How two rectangles lie to each other, by the eight ports of the first.
 ghost use Rattle.std.specs.Prelude.{◌≤ℤ◌};
 ghost use Rattle.std.specs.Int.{int_max, int_min};
 ghost use Rattle.dpl_cell.specs.Places.{corners_of};

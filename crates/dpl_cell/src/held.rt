@@ -1,3 +1,4 @@
+// Which cells a layer holds: those of its boxes and, by the even-odd rule, of its polygons.
 ghost use Rattle.std.specs.Prelude.{◌≡◌, map};
 ghost use Rattle.std.specs.List.{list_any};
 ghost use Rattle.dpl_cell.specs.Places.{corners_of, place_of};

@@ -1,3 +1,5 @@
+//! What holds of gaps and of tiles, said without the steps that find them.
+
 ghost use Rattle.std.specs.Prelude.{◌≡◌, ◌↔◌, ◌<◌, ◌*◌, ℕ, ℤ, Bool, List};
 ghost use Rattle.dpl_cell.specs.Places.{Corners, corners_of};
 ghost use Rattle.dpl_cell.specs.Cells.{IsIn};

@@ -1,3 +1,4 @@
+// A layer and its primitives, boxes and polygons.
 use crate::points::Points;
 use crate::rect::Rect;
 use dpl_list::Items;

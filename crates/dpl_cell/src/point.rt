@@ -1,3 +1,4 @@
+// A corner of a polygon.
 ghost use Rattle.std.specs.Prelude.{ℤ, pos, neg_ℤ, ◌≤ℤ◌};
 ghost use Rattle.dpl_limits.specs.Limits.{most_coordinate};
 

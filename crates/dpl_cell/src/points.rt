@@ -1,3 +1,4 @@
+// The corners of a polygon whose sides are level or upright.
 ghost use Rattle.std.specs.Prelude.{◌≡◌, true, map};
 ghost use Rattle.dpl_cell.specs.Places.{place_of};
 ghost use Rattle.dpl_cell.specs.Ranges as ranges;
@@ -39,6 +40,7 @@ impl Points {
         }
     }
 
+    /// The corners in their order, in grid units.
     pub fn as_slice(&self) -> &[Point]
         ensures value { result.now ≡ self.now }
         ensures straight { ranges.has_straight_sides (map place_of self.now) ≡ true }

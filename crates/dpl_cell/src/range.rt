@@ -13,6 +13,8 @@ pub fn is_in_range(z: i64) -> bool
     low & high
 }
 
+/// Whether these are coordinates with at least one place from the first to the second, which is
+/// left out.
 pub fn is_stretch(from: i64, to: i64) -> bool
     ensures { IsTrue result ↔ IsStretch from to }
 {

@@ -1,3 +1,4 @@
+// A rectangle of cells.
 ghost use Rattle.std.specs.Prelude.{ℤ, pos, neg_ℤ, ◌<ℤ◌, ◌≤ℤ◌};
 ghost use Rattle.dpl_limits.specs.Limits.{most_coordinate};
 

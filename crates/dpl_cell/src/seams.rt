@@ -1,3 +1,4 @@
+// Whether two rectangles touch, and the line along which they share edges.
 ghost use Rattle.std.specs.Prelude.{◌≡◌, ◌↔◌, ℤ, ◌-ℤ◌, MatchOption, IsTrue};
 ghost use Rattle.std.specs.Int.{int_max, int_min};
 ghost use Rattle.dpl_cell.specs.Places.{corners_of};
@@ -17,6 +18,7 @@ pub struct Common {
     pub high: i64,
 }
 
+/// The columns and the rows that both rectangles have, in grid units.
 pub fn common_part(a: &Rect, b: &Rect) -> Common
     ensures left { result.left ≡ int_max a.now.x1 b.now.x1 }
     ensures right { result.right ≡ int_min a.now.x2 b.now.x2 }

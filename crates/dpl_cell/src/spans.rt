@@ -1,3 +1,4 @@
+// What lies in a stretch of places, and which stretches overlap.
 ghost use Rattle.std.specs.Prelude.{◌≡◌};
 ghost use Rattle.dpl_cell.specs.Layers.{is_within};
 ghost use Rattle.dpl_cell.specs.Gaps.{overlap};

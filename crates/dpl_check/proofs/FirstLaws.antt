@@ -60,6 +60,7 @@ both_first edge line_miss t x w xs ws m k None None f g e =
       differ = others.differ;
     }
 
+-- where lists of lines differ, what is told is the first difference
 pub lists_first : {X : Type 0} (edge : X → ℕ) (line_miss : X → X → Option Miss) → AreTold edge line_miss →
     (xs ws : List X) (m : Miss) → lists_miss edge line_miss xs ws ≡ Some m → FirstDifference edge line_miss xs ws m
 lists_first edge line_miss t [] [] m e = absurd (cc)

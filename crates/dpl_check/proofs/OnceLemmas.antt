@@ -41,16 +41,19 @@ one_of_cells o report v w cells kept a b =
     let q = subst (λ z. IsVerdict o a.fragments z report w) e.1 p in
     same_verdict o a.fragments a.net report v w a.verdict q
 
+-- a layout and a report have at most one verdict
 pub one_verdict : (o : PlainOptions) (text report : List ℕ) (v w : Verdict) → IsVerdictOf o text report v → IsVerdictOf o text report w → v ≡ w
 one_verdict o text report v w a b = with_layer o text (IsVerdictOfCells o report v) (IsVerdictOfCells o report w)
     (λ cells kept p q. one_of_cells o report v w cells kept p q) a b
 
+-- a layout with a verdict is not refused
 pub verdict_free : (o : PlainOptions) (text report : List ℕ) (v : Verdict) → IsVerdictOf o text report v → (e : LayerError) → ¬ RefusesLayer o text e
 verdict_free o text report v a e (inl r) = drawing_free o text (IsVerdictOfCells o report v) e a r
 verdict_free o text report v a e (inr r) = with_layer o text (IsVerdictOfCells o report v)
     (λ cells kept. RefusesCells o cells kept e) (λ cells kept p q. cells_free o cells kept p.fragments p.net p.layer e
     q) a r
 
+-- a layout that is refused has no verdict
 pub verdict_not_refused : (o : PlainOptions) (text report : List ℕ) (e : LayerError) (v : Verdict) → RefusesLayer o text e → IsVerdictOf o text report v → ⊥
 verdict_not_refused o text report e v r a = verdict_free o text report v a e r
 
@@ -62,6 +65,7 @@ verdict_of_text o text report f n v l is = on_layer o text (λ cells kept. IsLay
 
 -- ---- what an answer says of each due one
 
+-- the answer is the verdict on the layout and the report, but for want of memory
 pub verdict_comes : (o : PlainOptions) (text report : List ℕ) (result : Result Verdict LayerError) →
     IfOk result (λ v. IsVerdictOf o text report v) → IfErr result (λ e. (e ≡ NoMemory) ⊎ RefusesLayer o text e)
     → (v : Verdict) → IsVerdictOf o text report v → (result ≡ Ok v) ⊎ (result ≡ Err NoMemory)
@@ -79,6 +83,7 @@ yes_of_cells o report cost bound cells kept y = record {
       good_bounds o y.fragments y.net report cost bound y.verdict;
 }
 
+-- each colouring of the net of the layer costs at least half the bound of an accepted report
 pub yes_bounds : (o : PlainOptions) (text report : List ℕ) (result : Result Verdict LayerError) →
     IfOk result (λ v. IsVerdictOf o text report v) → (cost bound : ℕ) → result ≡ Ok (Yes cost bound) →
     BoundsAll o text bound

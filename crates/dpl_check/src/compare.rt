@@ -185,6 +185,8 @@ fn first_clash_miss(found: &[Broken], wanted: &[Broken]) -> Option<Miss>
     left.first().map(|y| not_listed(y.edge))
 }
 
+/// The first of the corners' numbers `x1`, `y1`, `x2` and `y2` that differs, in grid units, said at
+/// this place.
 pub fn corners_miss(place: u64, found: &Rect, wanted: &Rect) -> Option<Miss>
     ensures { result ≡ misses.numbers_miss place (conditions.corner_numbers (corners_of found.now))
         (conditions.corner_numbers (corners_of wanted.now)) }

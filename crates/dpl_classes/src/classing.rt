@@ -1,3 +1,4 @@
+// The classes of numbers under pairs.
 ghost use Rattle.std.specs.Prelude.{ℕ, ◌<◌, ◌^◌, All, IfOk};
 ghost use Rattle.dpl_classes.specs.Classes.{AreClasses};
 

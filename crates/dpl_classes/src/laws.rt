@@ -1,3 +1,5 @@
+//! What holds of classes, said without the steps that find them.
+
 ghost use Rattle.std.specs.Prelude.{◌≡◌, ℕ};
 ghost use Rattle.dpl_classes.specs.Classes.{AreClasses};
 

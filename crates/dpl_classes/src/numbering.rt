@@ -1,3 +1,4 @@
+// The numbers of classes, in the order of their roots.
 ghost use Rattle.std.specs.Prelude.{◌<◌, ◌^◌, length, IfOk};
 ghost use Rattle.dpl_classes.specs.Roots.{Falls, AreFixed, AreNumbers};
 

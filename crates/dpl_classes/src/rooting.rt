@@ -1,3 +1,4 @@
+// The root of each class, at the end of the ways up from its members.
 ghost use Rattle.std.specs.Prelude.{◌≡◌, ℕ, List, ◌<◌, ◌^◌, length, All, IfOk, slice_index_or};
 ghost use Rattle.dpl_classes.specs.Roots.{AreRoots, Falls};
 ghost use Rattle.dpl_classes.specs.Ways.{AreTops, IsUnited};

@@ -12,6 +12,7 @@ use Rattle.dpl_layer.specs.Layers.{IsLayer, IsLayerOfText}
 use Rattle.dpl_layer.proofs.TextLemmas.{on_layer}
 use Rattle.dpl_core.specs.Reports.{HasMasks, IsReportOfNet, IsReportOfCells, IsReportOf, IsBalancedOfCells}
 
+-- masks over fragments cut from the tiles of any cells are those of the cells of the layer
 pub masks_of_layer : (o : PlainOptions) (f : Fragments) (n : Net) (r : PlainReport) →
     ((cells : Cells) (tiles : List Corners) → AreCutFrom o cells tiles f → AreMasksOf o cells tiles f n r)
     → (cells kept : Cells) → IsLayer o cells kept f n → HasMasks o cells f n r
@@ -33,14 +34,17 @@ masks_of_layer o f n r law cells kept k =
 abbrev pub HaveMasks : PlainOptions → Fragments → Net → PlainReport → Type 0
 HaveMasks o f n r = (cells kept : Cells) → IsLayer o cells kept f n → HasMasks o cells f n r
 
+-- a report of the net of a layer is one of its cells
 pub report_of_cells : (o : PlainOptions) (f : Fragments) (n : Net) (r : PlainReport) → IsReportOfNet o f n r →
     HaveMasks o f n r → (cells kept : Cells) → IsLayer o cells kept f n → IsReportOfCells o r cells kept
 report_of_cells o f n r is masks cells kept l = record { fragments = f; net = n; layer = l; report = is; masks = masks cells kept l }
 
+-- a report of the net of a text's layer is one of the text
 pub report_of_text : (o : PlainOptions) (text : List ℕ) (f : Fragments) (n : Net) (r : PlainReport) →
     IsReportOfNet o f n r → HaveMasks o f n r → IsLayerOfText o text f n → IsReportOf o text r
 report_of_text o text f n r is masks l = on_layer o text (λ cells kept. IsLayer o cells kept f n) (IsReportOfCells o r) (report_of_cells o f n r is masks) l
 
+-- the same of a report whose masks cover about the same area
 pub balanced_of_text : (o : PlainOptions) (text : List ℕ) (f : Fragments) (n : Net) (r : PlainReport) →
     IsReportOfNet o f n r → HaveMasks o f n r → AreBalanced f n r.head.colours → IsLayerOfText o text f n →
     OnLayer o text (IsBalancedOfCells o r)

@@ -25,6 +25,7 @@ one_number net n m a b =
     let e = a.most.count in let f = b.most.count in
     omega arith
 
+-- a net has at most one refusal for its odd faces
 pub one_odd : (net : Net) (e f : LayerError) → IsOddNet net e → IsOddNet net f → e ≡ f
 one_odd net (Limit k n) (Limit l m) (p, a) (q, b) = let h = one_number net n m a b in rw (p, q, h) refl
 one_odd net (Layout c w) f a b = absurd a
@@ -32,6 +33,7 @@ one_odd net NoMemory f a b = absurd a
 one_odd net (Limit k n) (Layout c w) a b = absurd b
 one_odd net (Limit k n) NoMemory a b = absurd b
 
+-- a net of which no part has too many odd faces is not refused
 pub not_odd : (net : Net) → ((n : ℕ) → ¬ IsRefused net n) → (e : LayerError) → ¬ IsOddNet net e
 not_odd net free (Limit k m) h = free m h.1
 not_odd net free (Layout c w) h = h
@@ -51,6 +53,7 @@ within o text e f h (inl r) = layer.drawing_free o text (HasOddNet o e) f h r
 within o text e f h (inr r) = with_layer o text (HasOddNet o e) (λ cells kept. RefusesCells o cells kept f)
     (λ cells kept a b. layer.cells_free o cells kept a.fragments a.net a.layer f b) h r
 
+-- a text has at most one refusal of a split
 pub one_split_refusal : (o : PlainOptions) (text : List ℕ) (e f : LayerError) → RefusesSplit o text e → RefusesSplit o text f → e ≡ f
 one_split_refusal o text e f (inl a) (inl b) = layer.one_text_refusal o text e f a b
 one_split_refusal o text e f (inl a) (inr b) = absurd (within o text f e b a)

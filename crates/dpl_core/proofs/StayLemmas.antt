@@ -30,6 +30,7 @@ aside_same net old new b = sum_same (length net.graph.edges) (λ e. is_aside net
     (λ e. is_aside net e && breaks old (edge_at net.graph e)) (λ e. (edge_at net.graph e).weight)
     (λ e. (edge_at net.graph e).weight) (same_weight net (is_aside net) old new b) (λ e l. refl)
 
+-- a tight report stays tight with colours that break the same edges
 pub still_tight : (net : Net) (old new : Report) → IsRestOf old new → BreakTheSame net old.colours new.colours →
     IsTight net (plain_report old) → IsTight net (plain_report new)
 still_tight net old new r b t = record {
@@ -42,6 +43,7 @@ still_tight net old new r b t = record {
       ap (λ k. kept_cost net new.colours + k) (sym (aside_same net old.colours new.colours b));
 }
 
+-- what the report's bound and cost say of all colourings stays true with colours that break the same edges
 pub still_least : (net : Net) (old new : Report) → IsRestOf old new → BreakTheSame net old.colours new.colours →
     CostsLeast net (plain_report old) → CostsLeast net (plain_report new)
 still_least net old new r b t = record {

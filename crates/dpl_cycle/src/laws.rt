@@ -1,3 +1,4 @@
+// What holds of the cycles of a permutation and of sums around them.
 ghost use Rattle.std.specs.Prelude.{◌≡◌, ◌≢◌, ℕ, ◌+◌, ◌<◌, Bool, false};
 ghost use Rattle.dpl_cycle.specs.Cycles.{Permutes, SplitsOrMerges, cycles};
 ghost use Rattle.dpl_cycle.specs.Sums.{IsEvenAround, HasLabels};

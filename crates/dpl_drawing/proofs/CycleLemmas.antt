@@ -42,6 +42,7 @@ names_at xs names i j hi hj ne k x y hx hy =
     let ey = least_swap xs i j y hi hj ne in
     (λ e. ex ∙ both.0 e ∙ sym ey, λ e. both.1 (sym ex ∙ e ∙ ey))
 
+-- where an exchange splits a cycle and one half takes a new name, the names are those of the cycles
 pub named_split : (xs ys names next : List ℕ) (i j s fresh : ℕ) → IsRing xs → IsNamed xs names fresh → i < length xs →
     j < length xs → i ≢ j → least_of xs i ≡ least_of xs j → ys ≡ swap xs i j → (s ≡ i) ⊎ (s ≡ j) →
     MarksCycle ys s fresh names next → IsNamed ys next (fresh + 1)
@@ -70,6 +71,7 @@ named_split xs ys names next i j s fresh ring named hi hj ne together e side mar
           (λ q. at x ∙ both.0 q ∙ sym (at y), λ q. both.1 (sym (at x) ∙ q ∙ at y));
     }
 
+-- where an exchange joins two cycles and one takes the name of the other, the names are those of the cycles
 pub named_merge : (xs ys names next : List ℕ) (i j s t fresh : ℕ) → IsRing xs → IsNamed xs names fresh → i < length xs →
     j < length xs → s < length xs → t < length xs → least_of xs i ≢ least_of xs j → ys ≡ swap xs i j → IsPair i j s t →
     MarksCycle xs s (get_or names t 0) names next → IsNamed ys next fresh
@@ -94,15 +96,19 @@ named_merge xs ys names next i j s t fresh ring named hi hj hs ht apart e side m
 pub refill : (n : ℕ) (ws xs : List ℕ) → n ≡ length xs → length ws ≡ length xs → take n (ws ++ drop (length ws) xs) ≡ ws
 refill n ws xs l e = ap (λ k. take k (ws ++ drop (length ws) xs)) (l ∙ sym e) ∙ take-append_seam ws (drop (length ws) xs)
 
+-- the same names name the same cycles
 pub named_at : (nexts names next : List ℕ) (fresh : ℕ) → next ≡ names → IsNamed nexts names fresh → IsNamed nexts next fresh
 named_at nexts names next fresh e k = let P : List ℕ → Type 0 = λ xs. IsNamed nexts xs fresh in subst P (sym e) k
 
+-- the first of a pair is one of its two numbers
 pub first_of : (i j s t : ℕ) → IsPair i j s t → (s ≡ i) ⊎ (s ≡ j)
 first_of i j s t side = elim side [ inl q ↦ inl q.0 | inr q ↦ inr q.0 ]
 
+-- both of a pair are numbers of the ring
 pub pair_below : (n i j s t : ℕ) → IsPair i j s t → i < n → j < n → (s < n) × (t < n)
 pair_below n i j s t side hi hj = elim side [ inl q ↦ (omega (arith, q.0), omega (arith, q.1)) | inr q ↦ (omega (arith, q.0), omega (arith, q.1)) ]
 
+-- a cycle is marked with an equal label too
 pub mark_at : (ring : List ℕ) (start label other : ℕ) (old new : List ℕ) → label ≡ other →
     MarksCycle ring start label old new → MarksCycle ring start other old new
 mark_at ring start label other old new e k = let P : ℕ → Type 0 = λ x. MarksCycle ring start x old new in subst P e k

@@ -34,6 +34,7 @@ nothing_joined : (g : Signed) (k v : ℕ) → names_below g (is_in []) k v ≡ v
 nothing_joined g zero v = refl
 nothing_joined g (suc k) v = nothing_joined g k v
 
+-- before the first edge each dart leads to itself, and each node is a component of its own
 pub drawn_empty : (net : Net) (faces parts : List ℕ) (components : ℕ) → length faces ≡ dart_count net →
     length parts ≡ net.graph.nodes → components ≡ net.graph.nodes →
     ((k : ℕ) → k < length faces → get_or faces k 0 ≡ k) → ((k : ℕ) → k < length parts → get_or parts k 0 ≡ k) →
@@ -52,6 +53,7 @@ drawn_empty net faces parts components lf lp lc f p =
 
 -- ---- sets that agree
 
+-- a drawing is that of each set with the same edges
 pub drawn_same : (net : Net) (p q : ℕ → Bool) (faces parts : List ℕ) (components : ℕ) →
     ((e : ℕ) → e < length net.graph.edges → p e ≡ q e) → IsDrawn net p faces parts components →
     IsDrawn net q faces parts components
@@ -79,6 +81,7 @@ kept_false kept x = elim (cases_eq x (length kept)) [
 
 -- ---- the next edge
 
+-- the new darts of an edge do not follow one another before it is put in
 pub next_apart : (net : Net) (p q : ℕ → Bool) (e : ℕ) → IsOneMore net p q e → next_around net p (2 * e) ≢ 2 * e + 1
 next_apart net p q e k = elim (cases_Bool (is_bare net.graph p (edge_at net.graph e).a)) [
   | inl ha ↦ λ r. omega (arith, sym (bare_next net p (2 * e) (omega (arith, k.inside)) (none_first net p e ha)) ∙ r)
@@ -91,6 +94,7 @@ pub alone_first : (net : Net) (kept : List Bool) (faces : List ℕ) → length k
 alone_first net kept faces h k = k.next (2 * length kept) (omega arith) ∙
     face_out net (is_in kept) (2 * length kept) (ap (is_in kept) (first_half (length kept)) ∙ past_end kept)
 
+-- the second dart of the next edge leads to itself
 pub alone_second : (net : Net) (kept : List Bool) (faces : List ℕ) → length kept < length net.graph.edges →
     AreFaces net (is_in kept) faces → get_or faces (2 * length kept + 1) 0 ≡ 2 * length kept + 1
 alone_second net kept faces h k = k.next (2 * length kept + 1) (omega arith) ∙
@@ -164,6 +168,7 @@ join_next net kept faces parts components u v new joined k apart ring put e =
       },
     )
 
+-- where the next edge joins two components there is at least one
 pub some_component : (net : Net) (kept : List Bool) (components : ℕ) → length kept < length net.graph.edges →
     (AreEndsJoined net (is_in kept) (length kept) → ⊥) → components ≡ component_count net.graph (is_in kept) →
     1 ≤ components
@@ -183,6 +188,7 @@ ends_joined net p parts e edge k h same =
 pub edge_read : (g : Signed) (edges : List Edge) (e : ℕ) (edge : Edge) → edges ≡ g.edges → e < length edges → edge ≡ get_or edges e edge → edge ≡ edge_at g e
 edge_read g edges e edge same h is = get_or_read edges e edge h is no_edge ∙ ap (λ (xs : List Edge). get_or xs e no_edge) same
 
+-- the ring of components is exchanged at the ends of the edge that was read
 pub swap_read : (g : Signed) (e : ℕ) (edge : Edge) (parts joined : List ℕ) → edge ≡ edge_at g e →
     joined ≡ swap parts edge.a edge.b → joined ≡ swap parts (edge_at g e).a (edge_at g e).b
 swap_read g e edge parts joined same h = h ∙ ap (λ (x : Edge). swap parts x.a x.b) same

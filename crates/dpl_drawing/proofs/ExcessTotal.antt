@@ -44,6 +44,7 @@ ends_kept net e h =
           sym (old (edge_at g e).a) ∙ ap label here ∙ old (edge_at g e).b
     ]
 
+-- all edges have the components of the kept ones
 pub components_all : (net : Net) → component_count net.graph all_edges ≡ component_count net.graph (is_in (kept_edges net))
 components_all net =
     let g = net.graph in
@@ -70,6 +71,7 @@ bare_alone net e v h ends bare =
       | inr r ↦ omega (arith, order, r, bare_component g (is_in (kept_edges net)) v (edge_at g e).a none (ends_kept net e h ∙ ap label r))
     ]
 
+-- the nodes without an edge are those without a kept edge
 pub bare_all : (net : Net) → bare_count net.graph all_edges ≡ bare_count net.graph (is_in (kept_edges net))
 bare_all net =
     let g = net.graph in
@@ -103,6 +105,7 @@ excess_total net =
       aside_count net n,
     )
 
+-- sets that agree on the edges of a net have as many faces with darts
 pub drawn_faces_same : (net : Net) (p q : ℕ → Bool) → ((e : ℕ) → e < length net.graph.edges → p e ≡ q e) → drawn_faces net p ≡ drawn_faces net q
 drawn_faces_same net p q same =
     let n = dart_count net in

@@ -61,6 +61,7 @@ drawn_faces_are net p =
     let own = own_split n (least f n) test (λ d h t. least_fixed n f d (face_out net p d t)) in
     omega (arith, split, low, own)
 
+-- the faces are those with darts, and one for each bare node
 pub face_count_is : (net : Net) (p : ℕ → Bool) → face_count net p ≡ drawn_faces net p + bare_count net.graph p
 face_count_is net p = omega (arith, drawn_faces_are net p)
 
@@ -71,6 +72,7 @@ number_same n f f' set d same =
     ap (count_on (is_first f set n)) (low d) ∙ count_on_same (least f' n d) (is_first f set n) (is_first f' set n)
     (λ z h. ap (λ y. set (z / 2) && (y == z)) (low z))
 
+-- faces that agree have as many first darts in the set
 pub drawn_same_count : (n : ℕ) (f f' : ℕ → ℕ) (set : ℕ → Bool) → ((x : ℕ) → x < n → f x ≡ f' x) → count_on (is_first f set n) n ≡ count_on (is_first f' set n) n
 drawn_same_count n f f' set same = count_on_same n (is_first f set n) (is_first f' set n) (λ z h. ap (λ y. set (z / 2) && (y == z)) (least_same n f f' same z))
 
@@ -83,6 +85,7 @@ face_stays net p d h = elim (cases_Bool (p (d / 2))) [
 
 -- ---- the list of the corners
 
+-- a list that tells the next dart of each in its face is a permutation
 pub leads_back : (net : Net) (p : ℕ → Bool) (nexts : List ℕ) → length nexts ≡ dart_count net →
     ((d : ℕ) → d < dart_count net → get_or nexts d 0 ≡ next_in_face net p d) → LeadsBack nexts
 leads_back net p nexts l same =

@@ -21,6 +21,7 @@ use Rattle.dpl_cycle.proofs.Exchange.{exchange_turned}
 
 -- ---- lists that tell where a permutation leads
 
+-- the list gives for each number below n what f gives
 pub record Tells (n : ℕ) (xs : List ℕ) (f : ℕ → ℕ) : Type 0 where
   pub size : length xs ≡ n
   pub at : (z : ℕ) → z < n → get_or xs z 0 ≡ f z
@@ -36,6 +37,7 @@ exchange_alike n f f' i j hi hj same z h = elim (cases_eq z i) [
   ]
 ]
 
+-- an exchange in the list is an exchange of what it tells
 pub tells_swap : (n : ℕ) (xs ys : List ℕ) (f : ℕ → ℕ) (i j : ℕ) → Tells n xs f → i < n → j < n → i ≢ j → ys ≡ swap xs i j → Tells n ys (exchange f i j)
 tells_swap n xs ys f i j t hi hj ne e =
     let li : i < length xs = omega (arith, t.size) in
@@ -88,6 +90,7 @@ faces_from : (net : Net) (q : ℕ → Bool) (xs : List ℕ) (f : ℕ → ℕ) �
     ((z : ℕ) → z < dart_count net → next_in_face net q z ≡ f z) → AreFaces net q xs
 faces_from net q xs f t same = record { darts = t.size; next = λ d h. t.at d h ∙ sym (same d h) }
 
+-- where the darts of an edge are put in at their corners, the list tells the faces with the edge
 pub faces_more : (net : Net) (p q : ℕ → Bool) (e : ℕ) (xs ys : List ℕ) (u v : ℕ) → IsOneMore net p q e →
     AreFaces net p xs → u ≡ next_around net p (2 * e) → v ≡ next_around net p (2 * e + 1) → IsInserted xs e u v ys →
     AreFaces net q ys
@@ -168,6 +171,7 @@ attached_back xs ones mid c d u hc hd cd fc fd ud e a =
           exchange_other (slice_index ones) i d c ci cd ∙ first
     ]
 
+-- after an exchange the second number leads to the first, which had led to itself
 pub swapped_second : (xs ones : List ℕ) (c d : ℕ) → c < length xs → d < length xs → c ≢ d → get_or xs c 0 ≡ c → ones ≡ swap xs c d → get_or ones d 0 ≡ c
 swapped_second xs ones c d hc hd cd fc e = ap (λ (zs : List ℕ). get_or zs d 0) e ∙ swap_value xs c d hc hd cd d ∙
     exchange_second (slice_index xs) c d (λ k. cd (sym k)) ∙ fc

@@ -14,6 +14,7 @@ use Rattle.dpl_sign.proofs.ExcessLemmas.{kept_more, past_end}
 use Rattle.dpl_sign.specs.Rotations.{Leaves}
 use Rattle.dpl_drawing.specs.Drawn.{IsLast, AreLasts}
 
+-- before the first edge no node has a dart
 pub lasts_none : (net : Net) (lasts : List ℕ) → length lasts ≡ net.graph.nodes →
     ((k : ℕ) → k < length lasts → get_or lasts k 0 ≡ 4294967295) → AreLasts net (is_in []) lasts
 lasts_none net lasts l h = record {
@@ -21,6 +22,7 @@ lasts_none net lasts l h = record {
   each = λ v hv. record { bare = λ e d k. absurd (both_ways _ refl k.chosen); used = λ ne. absurd (ne (h v (omega (arith, l)))) };
 }
 
+-- the same darts are those of an equal list of kept edges
 pub lasts_list : (net : Net) (xs ys : List Bool) (lasts : List ℕ) → xs ≡ ys → AreLasts net (is_in ys) lasts → AreLasts net (is_in xs) lasts
 lasts_list net xs ys lasts e k = let P : List Bool → Type 0 = λ zs. AreLasts net (is_in zs) lasts in subst P (sym e) k
 
@@ -30,6 +32,7 @@ at_both net p a b c d e f k =
     let Q : ℕ → Type 0 = λ x. IsLast net p b x in
     subst Q (sym f) (subst P (sym e) k)
 
+-- the list has a place for both ends of an edge
 pub ends_in : (net : Net) (p : ℕ → Bool) (lasts : List ℕ) (e : ℕ) (edge : Edge) → AreLasts net p lasts →
     e < length net.graph.edges → edge ≡ edge_at net.graph e → (edge.a < length lasts) × (edge.b < length lasts)
 ends_in net p lasts e edge k h same =
@@ -37,6 +40,7 @@ ends_in net p lasts e edge k h same =
     let b : edge.b ≡ (edge_at net.graph e).b = ap (λ (x : Edge). x.b) same in
     (omega (arith, a, start_below net.graph e h, k.per_node), omega (arith, b, end_below net.graph e h, k.per_node))
 
+-- a dart of the set that leaves the node may stand for it
 pub is_last : (net : Net) (q : ℕ → Bool) (v last d : ℕ) → last ≡ d → d < 4294967295 → Leaves net q v d → IsLast net q v last
 is_last net q v last d e small l =
     let P : ℕ → Type 0 = λ x. IsLast net q v x in
@@ -51,6 +55,7 @@ last_first net p lasts e last edge k h same read =
     let v = (edge_at g e).a in
     at_both net p v _ _ last (first_tail g e) (read ∙ ap (λ (x : Edge). get_or lasts x.a 0) same) (k.each v (start_below g e h))
 
+-- what the list has at the second end stands for the node that the second dart leaves
 pub last_second : (net : Net) (p : ℕ → Bool) (lasts : List ℕ) (e last : ℕ) (edge : Edge) → AreLasts net p lasts →
     e < length net.graph.edges → edge ≡ edge_at net.graph e → last ≡ get_or lasts edge.b 0 →
     IsLast net p (tail_of net.graph (2 * e + 1)) last
@@ -129,6 +134,7 @@ lasts_more net p q e lasts more k =
       ];
     }
 
+-- after an edge is drawn its two darts may stand for its ends
 pub lasts_drawn : (net : Net) (kept : List Bool) (lasts new : List ℕ) (edge : Edge) →
     length kept < length net.graph.edges → edge ≡ edge_at net.graph (length kept) → AreLasts net (is_in kept) lasts →
     new ≡ set (set lasts edge.a (2 * length kept)) edge.b (2 * length kept + 1) →
@@ -140,6 +146,7 @@ lasts_drawn net kept lasts new edge h same k e =
     let P : List ℕ → Type 0 = λ xs. AreLasts net (is_in (kept ++ true ∷ [])) xs in
     subst P (sym here) (lasts_more net (is_in kept) (is_in (kept ++ true ∷ [])) (length kept) lasts (kept_more net kept h) k)
 
+-- after an edge is set aside the same darts stand for the nodes
 pub lasts_aside : (net : Net) (kept : List Bool) (lasts : List ℕ) →
     ((x : ℕ) → is_in kept x ≡ is_in (kept ++ false ∷ []) x) → AreLasts net (is_in kept) lasts →
     AreLasts net (is_in (kept ++ false ∷ [])) lasts
@@ -149,5 +156,6 @@ lasts_aside net kept lasts same k = lasts_same net (is_in kept) (is_in (kept ++ 
 pub fresh_first : (kept : List Bool) → is_in kept (2 * length kept / 2) ≡ false
 fresh_first kept = ap (is_in kept) (first_half (length kept)) ∙ past_end kept
 
+-- the second dart of the next edge is not in the set
 pub fresh_second : (kept : List Bool) → is_in kept ((2 * length kept + 1) / 2) ≡ false
 fresh_second kept = ap (is_in kept) (second_half (length kept)) ∙ past_end kept

@@ -27,6 +27,7 @@ pub record Walking (ring : List ℕ) (start label : ℕ) (old labels : List ℕ)
   pub before : (z : ℕ) → z < length ring → get_or ring z 0 ≡ place → place ≢ start → get_or labels z 0 ≡ label
   pub begun : (place ≡ start) ⊎ (get_or labels start 0 ≡ label)
 
+-- a walk begins where nothing of the cycle is labelled yet
 pub begins : (ring : List ℕ) (start label : ℕ) (old : List ℕ) → length old ≡ length ring → start < length ring →
     ((z : ℕ) → z < length old → On ring start z → get_or old z 0 ≢ label) →
     Walking ring start label old old start
@@ -54,6 +55,7 @@ marked ls place label z h c = elim (cases_eq z place) [
 unmarked : (ls : List ℕ) (place label z : ℕ) → get_or (set ls place label) z 0 ≡ label → (get_or ls z 0 ≡ label) ⊎ (z ≡ place)
 unmarked ls place label z e = elim (cases_eq z place) [ inl t ↦ inr t | inr t ↦ inl (sym (get_or-set_other ls place z label 0 t) ∙ e) ]
 
+-- a step of the walk labels a number and goes on to the next
 pub goes_on : (ring : List ℕ) (g : ℕ → ℕ) (start label : ℕ) (old ls : List ℕ) (place : ℕ) →
     Permutes (length ring) (slice_index ring) g → Walking ring start label old ls place → get_or ring place 0 ≢ start →
     Walking ring start label old (set ls place label) (get_or ring place 0)
@@ -103,6 +105,7 @@ lacks_off : (ring : List ℕ) (start label : ℕ) (ls : List ℕ) (z : ℕ) → 
 unfolding lacks
 lacks_off ring start label ls z o = rw (ne_eqb (least_of ring z) (least_of ring start) o, lacks)
 
+-- a walk that comes back to its start has labelled the whole cycle
 pub ends : (ring : List ℕ) (g : ℕ → ℕ) (start label : ℕ) (old ls : List ℕ) (place : ℕ) →
     Permutes (length ring) (slice_index ring) g → Walking ring start label old ls place → get_or ring place 0 ≡ start →
     MarksCycle ring start label old (set ls place label)

@@ -17,6 +17,7 @@ count_in p n h = omega (arith, cond-true {A = ℕ} (p n) 1 0 h)
 count_out : (p : ℕ → Bool) (n : ℕ) → p n ≡ false → count_on p (suc n) ≡ count_on p n
 count_out p n h = omega (arith, cond-false {A = ℕ} (p n) 1 0 h)
 
+-- a chosen number counts: there are fewer before it than in all
 pub count_lt : (p : ℕ → Bool) (n x : ℕ) → x < n → p x ≡ true → count_on p x < count_on p n
 count_lt p zero x h t = absurd (omega arith)
 count_lt p (suc n) x h t = elim (cases_eq x n) [
@@ -57,6 +58,7 @@ pub record AreNumbered (nexts : List ℕ) (set : ℕ → Bool) (numbers : List �
       get_or numbers z 0 ≡ cycle_number (slice_index nexts) set (length nexts) z
   pub left : (z : ℕ) → z < length nexts → set (z / 2) ≡ true → place ≤ least_of nexts z → get_or numbers z 0 ≡ none
 
+-- at first nothing is numbered
 pub none_numbered : (nexts : List ℕ) (set : ℕ → Bool) (numbers : List ℕ) (none : ℕ) → length numbers ≡ length nexts →
     ((z : ℕ) → z < length numbers → get_or numbers z 0 ≡ none) → AreNumbered nexts set numbers none 0 0
 none_numbered nexts set numbers none l h = record {
@@ -149,10 +151,12 @@ numbered_fresh nexts g set numbers none count place p stays h big k t fresh z hz
     let tz : set (z / 2) ≡ true = sym (stays_least n f g p test stays z hz) ∙ ap test e ∙ stays_least n f g p test stays place h ∙ t in
     omega (arith, k.left z hz tz (omega (arith, e, low)), same, count_below nexts set numbers none count place k, h, big)
 
+-- past the end the least number of each cycle is behind the place
 pub low_below : (nexts : List ℕ) (g : ℕ → ℕ) (place z : ℕ) → Permutes (length nexts) (slice_index nexts) g →
     z < length nexts → length nexts ≤ place → least_of nexts z < place
 low_below nexts g place z p h l = omega (arith, least_le (length nexts) _ g p z h)
 
+-- the same numbers in an equal list
 pub numbered_at : (nexts : List ℕ) (set : ℕ → Bool) (numbers other : List ℕ) (none count place : ℕ) → other ≡ numbers →
     AreNumbered nexts set numbers none count place → AreNumbered nexts set other none count place
 numbered_at nexts set numbers other none count place e k = let P : List ℕ → Type 0 = λ xs. AreNumbered nexts set xs none count place in subst P (sym e) k

@@ -14,6 +14,7 @@ use Rattle.dpl_drawing.specs.Drawn.{IsLast}
 use Rattle.dpl_drawing.proofs.InsertLemmas.{bare_next}
 use Rattle.dpl_drawing.proofs.FaceLists.{face_stays}
 
+-- a dart that leaves a node in the set is of the set
 pub in_set : (net : Net) (p : ℕ → Bool) (v d : ℕ) → Leaves net p v d → InSet net p d
 in_set net p v d k = record { inside = k.inside; chosen = k.chosen }
 
@@ -48,6 +49,7 @@ next_between m r c y cs k hy new lt =
           k.apart b a (inr hb) (inr ha) (turn_one m r c b a rc rb ra same)
     ]
 
+-- where a new dart is met, turning from y, before the one that follows y, that one follows it too
 pub between_next : (net : Net) (p : ℕ → Bool) (c y : ℕ) → c < dart_count net → p (c / 2) ≡ false →
     Leaves net p (tail_of net.graph c) y → is_met_before net y c (next_around net p y) ≡ true →
     next_around net p c ≡ next_around net p y
@@ -69,6 +71,7 @@ between_next net p c y h new k met =
 
 -- ---- what the list of the faces tells about turning
 
+-- behind the twin of a dart the list has the one next around its node
 pub after_is : (net : Net) (p : ℕ → Bool) (faces : List ℕ) (v y : ℕ) → AreFaces net p faces → Leaves net p v y →
     get_or faces (twin_of y) 0 ≡ next_around net p y
 after_is net p faces v y k l =
@@ -90,6 +93,7 @@ before_is net p faces v y x k l h e =
       sym (face_in net p x chosen) ∙ here,
     )
 
+-- at a bare node a new dart follows itself
 pub last_bare : (net : Net) (p : ℕ → Bool) (c last : ℕ) → c < dart_count net → IsLast net p (tail_of net.graph c) last →
     last ≡ 4294967295 → next_around net p c ≡ c
 last_bare net p c last h k e = bare_next net p c h (λ y s t. k.bare e y (record { inside = s.inside; chosen = s.chosen; tail = t }))
@@ -102,6 +106,7 @@ ahead_is net p faces v y t a k l e h = h ∙ ap (λ z. get_or faces z 0) e ∙ a
 leaves_at : (net : Net) (p : ℕ → Bool) (v d c : ℕ) → c ≡ d → Leaves net p v d → Leaves net p v c
 leaves_at net p v d c e k = let P : ℕ → Type 0 = λ x. Leaves net p v x in subst P (sym e) k
 
+-- the dart found next leaves the same node in the set
 pub ahead_in : (net : Net) (p : ℕ → Bool) (faces : List ℕ) (v y t a : ℕ) → AreFaces net p faces → Leaves net p v y →
     t ≡ twin_of y → a ≡ get_or faces t 0 → Leaves net p v a
 ahead_in net p faces v y t a k l e h = leaves_at net p v _ a (ahead_is net p faces v y t a k l e h) (leaves_next net p v y l)
@@ -119,6 +124,7 @@ pub back_in : (net : Net) (p : ℕ → Bool) (faces : List ℕ) (v y x t : ℕ) 
     x < dart_count net → get_or faces x 0 ≡ y → t ≡ twin_of x → Leaves net p v t
 back_in net p faces v y x t k l h e q = leaves_at net p v _ t q (before_is net p faces v y x k l h e).0
 
+-- a dart found by turning back is the one that follows the new dart
 pub found_back : (net : Net) (p : ℕ → Bool) (faces : List ℕ) (c y x t : ℕ) (b : Bool) → c < dart_count net →
     p (c / 2) ≡ false → AreFaces net p faces → Leaves net p (tail_of net.graph c) y → x < dart_count net →
     get_or faces x 0 ≡ y → t ≡ twin_of x → b ≡ is_met_before net t c y → b ≡ true → y ≡ next_around net p c

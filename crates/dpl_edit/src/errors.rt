@@ -1,3 +1,4 @@
+// Why an edit is refused.
 ghost use Rattle.std.specs.Prelude.{◌≡◌};
 ghost use Rattle.dpl_edit.specs.Errors.{of_edit, of_layer};
 

@@ -1,3 +1,4 @@
+// A box that was added to a session.
 use dpl_cell::Rect;
 
 /// A box that was added, and its number: the count of the boxes that were added before.

@@ -1,3 +1,5 @@
+//! A segment of the plane.
+
 ghost use Rattle.std.specs.Prelude.{pos, neg_ℤ, ◌≤ℤ◌, ◌^◌};
 
 /// A segment from one point to another, in doubled grid units.

@@ -18,6 +18,7 @@ pub struct ReadSource<R: Read> {
 }
 
 impl<R: Read> ReadSource<R> {
+    /// A source over this reader, of which nothing is counted yet.
     pub fn new(from: R) -> ReadSource<R>
         ensures reader { result.from ≡ from }
         ensures counts { (result.faults ≡ 0) × (result.given ≡ 0) × (result.reads ≡ 0) }
@@ -73,6 +74,7 @@ pub struct WriteSink<W: Write> {
 }
 
 impl<W: Write> WriteSink<W> {
+    /// A sink over this writer, without a fault yet.
     pub fn new(to: W) -> WriteSink<W>
         ensures writer { result.to ≡ to }
         ensures count { result.faults ≡ 0 }

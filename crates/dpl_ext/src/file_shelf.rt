@@ -26,6 +26,7 @@ pub struct FileShelf<'a, R: Files> {
 }
 
 impl<'a, R: Files> FileShelf<'a, R> {
+    /// A shelf that was asked for no name and has no file open; nothing is counted yet.
     pub fn new(rt: &'a R, alloc: Global) -> FileShelf<'a, R>
         ensures counts { (result.faults ≡ 0) × (result.given ≡ 0) × (result.reads ≡ 0) }
         ensures asked { result.asked.items ≡ [] }

@@ -48,6 +48,7 @@ fit_above Fits number least s (x ∷ xs) f =
     All-cons (λ y. s ≤ number y) x xs own (All-weaker (λ y. number x + 1 ≤ number y) (λ y. s ≤ number y)
     (λ y h. omega (arith, own, h)) xs (fit_above Fits number least (number x + 1) xs f.1))
 
+-- lines that fit one after another have rising numbers
 pub fit_rises : {X : Type 0} (Fits : ℕ → X → Type 0) (number : X → ℕ) → ((s : ℕ) (x : X) → Fits s x → s ≤ number x) →
     (s : ℕ) (xs : List X) → FitFrom Fits (λ x. number x + 1) s xs → AllPairs (λ x y. number x < number y) xs
 fit_rises Fits number least s [] f = λ i j d h l. absurd (omega (arith, l))
@@ -127,6 +128,7 @@ rises_where number false x xs a o = o
 from_number : (colours : List Bool) (kind : Kind) (e : ℕ) (edges : List Edge) (b : Broken) → NamesHere colours kind e edges b → e ≤ b.edge
 from_number colours kind e edges b n = let m = n.number in omega (arith, m)
 
+-- the broken clashes have rising edges
 pub clashes_rise : (colours : List Bool) (e : ℕ) (edges : List Edge) → AllPairs (λ (b c : Broken). b.edge < c.edge) (clashes_from colours e edges)
 clashes_rise colours e [] = λ i j d h l. absurd (omega (arith, l))
 clashes_rise colours e (edge ∷ edges) =
@@ -152,6 +154,7 @@ names_broken g colours kind b n =
 from_zero : {X : Type 0} (number : X → ℕ) (k : ℕ) (xs : List X) → Any (λ x. number x ≡ 0 + k) xs → Any (λ x. number x ≡ k) xs
 from_zero number k xs (i, x, l, m, p) = (i, x, l, m, omega (arith, p))
 
+-- the lines of the broken clashes name exactly these, each with its ends
 pub clashes_are_named : (g : Signed) (colours : List Bool) (lines : List Broken) →
     lines ≡ clashes_from colours 0 g.edges → AllPairs (λ b c. b.edge < c.edge) lines →
     NameAllBroken g colours Clash (λ b. b) lines
@@ -180,6 +183,7 @@ TakeCuts (edge ∷ edges) cuts = TakesCut edge cuts × TakeCuts edges (cuts_afte
 no_stitch : (edge : Edge) (kind : Kind) → edge.kind ≡ kind → not (is_bond kind || is_clash kind) ≡ false → is_stitch edge ≡ false
 no_stitch edge kind e f = rw e f
 
+-- the first edge makes the first tie, and the others make the others
 pub first_tie : (edge : Edge) (edges : List Edge) (t : Tie) (ts : List Tie) → map tie_of (edge ∷ edges) ≡ t ∷ ts → (tie_of edge ≡ t) × (map tie_of edges ≡ ts)
 first_tie edge edges t ts e = (cc, cc)
 
@@ -214,6 +218,7 @@ bonds_take stitch clash (edge ∷ edges) (p ∷ bonds) cuts links e =
       no_cut edge edges [] n r = (n, r)
       no_cut edge edges (c ∷ cs) n r = ((λ t. let bad = sym n ∙ t in absurd (cc)), rw n r)
 
+-- the edges of a net take up the cuts in their order
 pub net_takes : (weights : PlainWeights) (bonds : List (ℕ × ℕ)) (cuts : List Cut) (links : List Link)
     (edges : List Edge) → map tie_of edges ≡ ties_of weights bonds cuts links → TakeCuts edges cuts
 net_takes weights bonds cuts links edges e =
@@ -304,6 +309,7 @@ stitches_name colours e (edge ∷ edges) (c ∷ cs) =
     (λ z. one_before colours Stitch e edge edges z.at) (cuts_from colours (e + 1) edges left)
     (stitches_name colours (e + 1) edges left))
 
+-- the broken stitches have rising edges
 pub stitches_rise : (colours : List Bool) (e : ℕ) (edges : List Edge) (cuts : List Cut) →
     AllPairs (λ (y z : PlainZone). y.at.edge < z.at.edge) (cuts_from colours e edges cuts)
 stitches_rise colours e [] cuts = λ i j d h l. absurd (omega (arith, l))
@@ -340,6 +346,7 @@ stitches_all colours e (edge ∷ edges) (c ∷ cs) (suc k) t l f g =
     (cuts_from colours (e + 1) edges left) (moved_zones e k (cuts_from colours (e + 1) edges left)
     (stitches_all colours (e + 1) edges left k t.1 (omega (arith, l)) f g))
 
+-- the lines of the broken stitches name exactly these, each with its ends
 pub stitches_are_named : (g : Signed) (colours : List Bool) (cuts : List Cut) (lines : List PlainZone) →
     TakeCuts g.edges cuts → lines ≡ cuts_from colours 0 g.edges cuts → AllPairs (λ y z. y.at.edge < z.at.edge) lines →
     NameAllBroken g colours Stitch (λ z. z.at) lines

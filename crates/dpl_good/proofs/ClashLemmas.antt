@@ -7,5 +7,6 @@ where-append : (t : Bool) (b : Broken) (bs : List Broken) → where_broken t b [
 where-append true b bs = refl
 where-append false b bs = refl
 
+-- a clash put at the end where it is broken, and what follows it
 pub one_clash : (front : List Broken) (t : Bool) (b : Broken) (bs : List Broken) → (front ++ where_broken t b []) ++ bs ≡ front ++ where_broken t b bs
 one_clash front t b bs = append_assoc front (where_broken t b []) bs ∙ ap (λ xs. front ++ xs) (where-append t b bs)

@@ -243,6 +243,7 @@ truth_of_facts o f net text r take order n = record {
   on_b = n.on_b;
 }
 
+-- of the report of a good text the nine facts hold
 pub good_has_facts : (o : PlainOptions) (f : Fragments) (net : Net) (text : List ℕ) → AreOptions o →
     TakeCuts net.graph.edges f.cuts → IsGood o f net text → (r : PlainReport) × AreNineFacts o f net text r
 good_has_facts o f net text ranges take g = (
@@ -251,6 +252,7 @@ good_has_facts o f net text ranges take g = (
       (good_is_true o f net g.report ranges g.valid g.good),
 )
 
+-- a text of a report of which the nine facts hold is good
 pub facts_are_good : (o : PlainOptions) (f : Fragments) (net : Net) (text : List ℕ) (r : PlainReport) →
     TakeCuts net.graph.edges f.cuts → AllPairs (λ (c d : Cut). c.a < d.a) f.cuts → AreNineFacts o f net text r →
     IsGood o f net text
@@ -261,6 +263,7 @@ facts_are_good o f net text r take order n = record {
   good = true_is_good o f net r (truth_of_facts o f net text r take order n);
 }
 
+-- over the net of fragments a text is good exactly where they hold of its report
 pub good_exactly : (o : PlainOptions) (f : Fragments) (net : Net) (keep tiles : List Corners) (label text : List ℕ) →
     AreOptions o → IsNet f o.weights (2 * o.space) net → AreFragments keep (2 * o.space) (2 * o.overlap) tiles label f →
     IsGood o f net text ↔ ((r : PlainReport) × AreNineFacts o f net text r)

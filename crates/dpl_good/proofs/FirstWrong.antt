@@ -40,6 +40,7 @@ no_longer lines Fits ls m n p q l =
           append_assoc (p.front ++ k.next ∷ []) k.more q.before.more;
     })
 
+-- a text has at most one first line that cannot stand
 pub one_first_wrong : {X : Type 0} (lines : X → List (List ℕ)) (Fits : X → Type 0) (ls : List (List ℕ)) (m n : ℕ) →
     IsFirstWrong lines Fits ls m → IsFirstWrong lines Fits ls n → m ≡ n
 one_first_wrong lines Fits ls m n p q = by (cases_order (length p.front) (length q.front)) where

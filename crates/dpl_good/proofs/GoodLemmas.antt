@@ -33,12 +33,14 @@ use Rattle.dpl_sign.proofs.Loads.{load_append}
 use Rattle.dpl_good.proofs.ListLaws.{pair_same, numbers_same, AreTold, lists_same, clash_lines_are, cut_lines_are}
 use Rattle.dpl_good.proofs.WalkLaws.{walk_is_odd}
 
+-- where neither fails, none fails
 pub both_none : {X : Type 0} (a b : Option X) → a ≡ None → b ≡ None → or_else a b ≡ None
 both_none a b e f = rw (e, f) refl
 
 number_same : (place n : ℕ) → number_miss place n n ≡ None
 number_same place n = rw ((Decides-eqb n n).1 refl) refl
 
+-- equal numbers do not fail
 pub numbers_are : (place m n : ℕ) → m ≡ n → number_miss place m n ≡ None
 numbers_are place m n e = rw e (number_same place n)
 
@@ -52,6 +54,7 @@ names_are place xs ys e = rw e (name_same place ys)
 kept_are : (place : ℕ) (a b : Option (List ℕ)) → a ≡ b → name_miss place (name_or_nothing a) (name_or_nothing b) ≡ None
 kept_are place a b e = rw e (name_same place (name_or_nothing b))
 
+-- a report made with the options does not fail by them
 pub params_none : (p : Params) (o : PlainOptions) → AreAsked p o → params_miss p o ≡ None
 params_none p o a =
     both_none _ _ (names_are 2 p.layer o.layer a.layer)
@@ -59,11 +62,13 @@ params_none p o a =
     (both_none _ _ (numbers_are 5 _ _ a.stitch)
     (both_none _ _ (numbers_are 6 _ _ a.conflict) (both_none _ _ (numbers_are 16 _ _ a.corner) (kept_are 17 p.keep o.keep a.keep))))))
 
+-- equal counts do not fail
 pub counts_none : (k w : Counts) → k ≡ w → counts_miss k w ≡ None
 counts_none k w e = rw e (both_none _ _ (number_same 7 w.pieces)
     (both_none _ _ (number_same 8 w.fragments) (both_none _ _ (number_same 9 w.bonds)
     (both_none _ _ (number_same 10 w.stitches) (both_none _ _ (number_same 11 w.clashes) (number_same 12 w.excess))))))
 
+-- a colour agrees with itself
 pub agree_same : (b : Bool) → agree b b ≡ true
 agree_same true = refl
 agree_same false = refl
@@ -75,6 +80,7 @@ bond_none colours e edge h = by_kind (is_bond edge.kind) refl where
   by_kind true f = rw (f, h f, agree_same (colour_of colours edge.b)) refl
   by_kind false f = rw f refl
 
+-- where the ends of each bond have one colour, no bond fails
 pub bonds_none : (colours : List Bool) (e : ℕ) (edges : List Edge) →
     All (λ (d : Edge). is_bond d.kind ≡ true → colour_of colours d.a ≡ colour_of colours d.b) edges →
     bonds_miss colours e edges ≡ None
@@ -82,9 +88,11 @@ bonds_none colours e [] a = refl
 bonds_none colours e (edge ∷ edges) a = both_none _ _ (bond_none colours e edge (a 0 edge (omega arith)))
     (bonds_none colours (e + 1) edges (λ k d l. a (suc k) d (omega arith)))
 
+-- lines of one edge that is set aside are equal
 pub edges_told : AreTold {X = ℕ} (λ e. e) (λ e w. None)
 edges_told = record { told = λ x w e f. e; same = λ x. refl }
 
+-- where all walks are odd, none fails
 pub walks_none : (g : Signed) (cycle : ℕ) (cs : List Cycle) → All (λ (c : Cycle). IsOddWalk g c.walk) cs → walks_miss g cycle cs ≡ None
 walks_none g cycle [] a = refl
 walks_none g cycle (c ∷ cs) a = both_none _ _ ((walk_is_odd g cycle c.walk).1 (a 0 c (omega arith)))
@@ -122,6 +130,7 @@ one_load_none g before ps p w = by_kind (is_bond (edge_at g p.0).kind) refl wher
       low (load_of before p.0 + p.1) (2 * (edge_at g p.0).weight) (omega (arith, more, most)) in
       rw (f, small) refl
 
+-- where no edge is overloaded, no passage fails
 pub loads_none : (g : Signed) (before ps : List (ℕ × ℕ)) → IsWithin g (before ++ ps) → loads_miss g before ps ≡ None
 loads_none g before [] w = refl
 loads_none g before (p ∷ ps) w = both_none _ _ (one_load_none g before ps p w) (loads_none g (before ++ p ∷ []) ps (rw (append_assoc before (p ∷ []) ps) w))
@@ -130,6 +139,7 @@ boxes_none : (place : ℕ) (xs : List Corners) → boxes_miss place xs xs ≡ No
 boxes_none place [] = refl
 boxes_none place (x ∷ xs) = both_none _ _ (numbers_same place (corner_numbers x)) (boxes_none (place + 1) xs)
 
+-- equal masks do not fail
 pub drawing_none : (on_a on_b on_c on_d : List Corners) → on_a ≡ on_c → on_b ≡ on_d → drawing_miss on_a on_b on_c on_d ≡ None
 drawing_none on_a on_b on_c on_d e f = rw (e, f) (both_none _ _ (number_same 4294967296 (length on_c))
     (both_none _ _ (number_same 4294967297 (length on_d))
@@ -138,6 +148,7 @@ drawing_none on_a on_b on_c on_d e f = rw (e, f) (both_none _ _ (number_same 429
 none_refused : (reason : ℕ) (m : Option Miss) → m ≡ None → refused reason m ≡ None
 none_refused reason m e = rw e refl
 
+-- a report that says the truth fails by no condition
 pub true_is_good : (o : PlainOptions) (f : Fragments) (net : Net) (r : PlainReport) → SaysTrue o f net r → refusal_of o f net r ≡ None
 true_is_good o f net r t =
     let g = net.graph in

@@ -56,6 +56,7 @@ use Rattle.std.specs.Cmp.{both_ways}
 is_true : (b : Bool) → b ≡ true → IsTrue b
 is_true b e = search rules
 
+-- a list has as many items when each is seen as another thing
 pub map_size : {X Y : Type 0} (f : X → Y) (xs : List X) → length (map f xs) ≡ length xs
 map_size f [] = refl
 map_size f (x ∷ xs) = ap suc (map_size f xs)
@@ -535,6 +536,7 @@ wide n l = omega arith
 even : (n : ℕ) → 2 * n % 2 ≡ 0
 even n = omega arith
 
+-- the masks of a report that fails nowhere are those of the layer from which its fragments are cut
 pub masks_of_layer : (o : PlainOptions) (cells : ℤ → ℤ → Bool) (tiles : List Corners) (f : Fragments) (net : Net)
     (r : PlainReport) → AreOptions o → IsReport r → refusal_of o f net r ≡ None → IsNet f o.weights (2 * o.space) net →
     AreCutFrom o cells tiles f → AreMasksOf o cells tiles f net r

@@ -23,6 +23,7 @@ one_report text r s f d g e = same_text r s f g (sym d ∙ e)
 abbrev at_line : ℕ → Refusal
 at_line n = record { reason = 1; at = miss n (pos 0) (pos 0) }
 
+-- a text has at most one refusal
 pub one_refusal : (o : PlainOptions) (f : Fragments) (net : Net) (text : List ℕ) (x y : Refusal) →
     IsRefusal o f net text x → IsRefusal o f net text y → x ≡ y
 one_refusal o f net text x y (inl p) (inl q) =

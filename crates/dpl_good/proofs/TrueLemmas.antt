@@ -48,16 +48,19 @@ pub either_none : (a b : Option Refusal) → or_else a b ≡ None → (a ≡ Non
 either_none None b e = (refl, e)
 either_none (Some x) b e = absurd (cc)
 
+-- where no refusal comes, nothing fails
 pub not_refused : (reason : ℕ) (m : Option Miss) → refused reason m ≡ None → m ≡ None
 not_refused reason None e = refl
 not_refused reason (Some m) e = absurd (cc)
 
+-- numbers that do not fail are equal
 pub number_none : (place m n : ℕ) → number_miss place m n ≡ None → m ≡ n
 number_none place m n e = elim (cases_Bool (m == n)) [
   | inl t ↦ eqb-true m n t
   | inr t ↦ let bad = rw t at e in absurd (cc)
 ]
 
+-- a digit or an upper-case letter
 abbrev pub IsNameByte : ℕ → Type 0
 IsNameByte b = is_name_byte b ≡ true
 
@@ -98,6 +101,7 @@ keep_none place (Some a) None m n e =
     absurd (cc)
 keep_none place (Some a) (Some b) m n e = ap Some (layer_none place a b m n e)
 
+-- where the first condition does not fail, the report was made with the options
 pub params_true : (p : Params) (o : PlainOptions) → AreNames p.layer p.keep → AreNames o.layer o.keep → params_miss p o ≡ None → AreAsked p o
 params_true p o m n e =
     let a = or_none (name_miss 2 p.layer o.layer) _ e in
@@ -128,6 +132,7 @@ params_names p v = record { layer_is = v.layer.0; keep_is = more_names p.corner 
 counts_with : ℕ → ℕ → ℕ → ℕ → ℕ → ℕ → Counts
 counts_with p f b s c x = record { pieces = p; fragments = f; bonds = b; stitches = s; clashes = c; excess = x }
 
+-- counts that do not fail are equal
 pub counts_true : (k w : Counts) → counts_miss k w ≡ None → k ≡ w
 unfolding counts_with
 counts_true k w e =
@@ -140,6 +145,7 @@ counts_true k w e =
     rw (number_none 7 _ _ a.0, number_none 8 _ _ b.0, number_none 9 _ _ c.0, number_none 10 _ _ d.0, number_none 11 _ _ f.0, number_none 12 _ _ f.1) refl in
     h
 
+-- colours that agree are equal
 pub agree_none : (a b : Bool) → agree a b ≡ true → a ≡ b
 agree_none true true e = refl
 agree_none true false e = absurd (cc)
@@ -156,15 +162,18 @@ bond_true colours e edge n f = elim (cases_Bool (agree (colour_of colours edge.a
   | inr t ↦ let bad = rw (f, t) at n in absurd (cc)
 ]
 
+-- where no bond fails, the ends of each have one colour
 pub bonds_true : (colours : List Bool) (e : ℕ) (edges : List Edge) → bonds_miss colours e edges ≡ None → All (AgreesAt colours) edges
 bonds_true colours e [] n = All-nil (AgreesAt colours)
 bonds_true colours e (edge ∷ edges) n =
     let d = or_none (bond_miss colours e edge) (bonds_miss colours (e + 1) edges) n in
     All-cons (AgreesAt colours) edge edges (bond_true colours e edge d.0) (bonds_true colours (e + 1) edges d.1)
 
+-- a cycle is an odd walk of the graph
 abbrev pub IsOddIn : Signed → Cycle → Type 0
 IsOddIn g c = IsOddWalk g c.walk
 
+-- where no walk fails, all are odd
 pub walks_true : (g : Signed) (cycle : ℕ) (cs : List Cycle) → walks_miss g cycle cs ≡ None → All (IsOddIn g) cs
 walks_true g cycle [] n = All-nil (IsOddIn g)
 walks_true g cycle (c ∷ cs) n =
@@ -187,6 +196,7 @@ fits bond e limit carried n f = by_test (nat_lt limit carried) refl where
   by_test true g = let bad = rw (f, g) at n in absurd (cc)
   by_test false g = high carried limit g
 
+-- where no passage fails, no edge is overloaded
 pub loads_true : (g : Signed) (before ps : List (ℕ × ℕ)) → IsWithin g before → loads_miss g before ps ≡ None → IsWithin g (before ++ ps)
 unfolding here
 loads_true g before [] w n = subst (IsWithin g) (sym (append-nil before)) w
@@ -207,6 +217,7 @@ loads_true g before (p ∷ ps) w n =
     ] in
     subst (IsWithin g) (append_assoc before (p ∷ []) ps) (loads_true g (before ++ p ∷ []) ps one d.1)
 
+-- without a passage no edge is overloaded
 pub nothing_within : (g : Signed) → IsWithin g []
 nothing_within g e l b = omega arith
 
@@ -222,6 +233,7 @@ boxes_true place (x ∷ xs) (w ∷ ws) l n =
     let b = boxes_true (place + 1) xs ws (omega arith) d.1 in
     cc
 
+-- masks that do not fail are equal
 pub drawing_true : (on_a on_b on_c on_d : List Corners) → drawing_miss on_a on_b on_c on_d ≡ None → (on_a ≡ on_c) × (on_b ≡ on_d)
 drawing_true on_a on_b on_c on_d n =
     let a = or_none (number_miss 4294967296 (length on_a) (length on_c)) _ n in
@@ -229,6 +241,7 @@ drawing_true on_a on_b on_c on_d n =
     let c = or_none (boxes_miss 0 on_a on_c) (boxes_miss (length on_a) on_b on_d) b.1 in
     (boxes_true 0 on_a on_c (number_none 4294967296 _ _ a.0) c.0, boxes_true (length on_a) on_b on_d (number_none 4294967297 _ _ b.0) c.1)
 
+-- each half weight of a report is at least 1
 pub halves_some : (cs : List Cycle) → AllByRecursion IsCycle cs → All (λ (c : Cycle). 1 ≤ c.half) cs
 halves_some cs h = All-weaker IsCycle (λ (c : Cycle). 1 ≤ c.half) (λ c i. i.some) cs (All-from_recursion IsCycle cs h)
 
@@ -240,6 +253,7 @@ kept_name (Some n) h = h.0
 option_names : (o : PlainOptions) → AreOptions o → AreNames o.layer o.keep
 option_names o a = record { layer_is = a.layer.0; keep_is = kept_name o.keep a.keep }
 
+-- a report that fails by no condition says the truth
 pub good_is_true : (o : PlainOptions) (f : Fragments) (net : Net) (r : PlainReport) → AreOptions o → IsReport r →
     refusal_of o f net r ≡ None → SaysTrue o f net r
 good_is_true o f net r ranges v n =

@@ -133,6 +133,7 @@ unfolding AreBelow AreRising
 aside_fits net zero m = (tt, tt)
 aside_fits net (suc n) m = aside_next (is_aside net n) n (aside_before net n) (omega arith) (aside_fits net n (omega arith))
 
+-- the edges that are set aside have rising numbers, which fit in 32 bits
 pub aside_rises : (net : Net) (n : ℕ) → n ≤ 4294967295 → FitFrom AsideFits (λ (x : ℕ). x + 1) 0 (aside_before net n)
 unfolding AreRising
 aside_rises net n m = (aside_fits net n m).0
@@ -172,6 +173,7 @@ cycles_fit g (c ∷ cs) b l h o =
 
 -- ---- numbers
 
+-- a broken edge weighs at most 1,000,000
 pub weight_small : (colours : List Bool) (edge : Edge) → broken_weight colours edge ≤ 1000000
 weight_small colours edge = by_test (breaks colours edge) where
   by_test : (t : Bool) → (if t then edge.weight else 0) ≤ 1000000
@@ -196,9 +198,11 @@ asked_fit p o a n h = record {
   more = more_fits p.corner p.keep p.conflict o.weights.corner a.corner n.weights.most_corner (subst (λ k. IfSome k IsSplitLayer) (sym a.keep) n.keep) h;
 }
 
+-- what a report is made with from the options is what they ask for
 pub params_asked : (o : PlainOptions) → AreAsked (params_of_options o) o
 params_asked o = record { layer = refl; space = refl; overlap = refl; stitch = refl; conflict = refl; corner = refl; keep = refl }
 
+-- what a report is made with from the options is in its ranges
 pub params_fit : (o : PlainOptions) → AreOptions o → IsParams (params_of_options o)
 params_fit o n = asked_fit (params_of_options o) o (params_asked o) n (λ e. absurd (cc))
 
@@ -218,6 +222,7 @@ counts_fit net p l = record {
   );
 }
 
+-- a report that says the truth of a net within the limits is one that has a text
 pub true_is_valid : (o : PlainOptions) (f : Fragments) (net : Net) (r : PlainReport) → SaysTrue o f net r →
     AreOptions o → (r.head.params.corner ≡ None → r.head.params.keep ≡ None) → net.piece_count ≤ 1000000000000 →
     length net.graph.edges ≤ 400000 → IsReport r

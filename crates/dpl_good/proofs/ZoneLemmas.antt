@@ -16,6 +16,7 @@ here-append colours e edge [] zs = refl
 here-append colours e edge (cut ∷ cuts) zs = where-append (is_broken_stitch colours edge)
     (record { at = record { edge = e; a = edge.a; b = edge.b }; corners = corners_of cut.zone }) zs
 
+-- a zone put at the end where its stitch is broken, and what follows it
 pub one_zone : (front : List PlainZone) (colours : List Bool) (e : ℕ) (edge : Edge) (cuts : List Cut)
     (zs : List PlainZone) → (front ++ zone_here colours e edge cuts []) ++ zs ≡ front ++ zone_here colours e edge cuts
     zs

@@ -38,6 +38,7 @@ fn push_where(found: &mut Vec<Rect>, holds: bool, rect: Rect) -> Result<(), NoMe
     Ok(())
 }
 
+/// The colour of a node, `false` also where it has none.
 pub fn colour_at(colours: &[bool], node: u32) -> bool
     ensures { result ≡ colour_of colours.now node }
 {

@@ -22,6 +22,7 @@ impl Model for Members {
 }
 
 impl Members {
+    /// No member.
     pub fn none(alloc: Global) -> Members
         ensures { result ≡ [] }
     {
@@ -54,6 +55,7 @@ impl Members {
         Ok(Members { held })
     }
 
+    /// Whether a member is held.
     pub fn holds(&self, member: usize) -> bool
         ensures { result ≡ slice_index_or self.now member false }
     {
@@ -93,6 +95,7 @@ impl Members {
         unreachable!()
     }
 
+    /// Takes all members out.
     pub fn clear(&mut self)
         ensures { self.new ≡ [] }
     {

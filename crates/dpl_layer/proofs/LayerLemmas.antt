@@ -32,6 +32,7 @@ has_cell cells r t =
     let w : IsWithin r.y1 r.y2 r.y1 = record { from = omega (arith, ints); to = h } in
     ((t.rows r.y1 w).long, h)
 
+-- each tile has a cell
 pub have_cells : (cells : ℤ → ℤ → Bool) (tiles : List Corners) → AreTiles cells tiles → All HasCell tiles
 have_cells cells tiles a k d l = has_cell cells (get_or tiles k d) (a.each k d l)
 
@@ -72,6 +73,7 @@ few_tiles keep space over cells tiles label f t a =
 
 -- ---- fragments and nets
 
+-- cells and cells that are kept whole have one list of fragments
 pub fragments_same_of : (space over : ℕ) (cells kept : Cells) (f g : Fragments) →
     AreFragmentsOf space over cells kept f → AreFragmentsOf space over cells kept g → f ≡ g
 fragments_same_of space over cells kept f g a b =
@@ -84,6 +86,7 @@ fragments_same_of space over cells kept f g a b =
     let r = subst (λ z. AreFragments z space over a.tiles a.label g) k q in
     fragments_same a.keep space over a.tiles a.label f g a.are_fragments r
 
+-- they have one list of fragments and one net
 pub same_layer : (o : PlainOptions) (cells kept : Cells) (f g : Fragments) (n m : Net) → IsLayerOf o cells kept f n →
     IsLayerOf o cells kept g m → (f ≡ g) × (n ≡ m)
 same_layer o cells kept f g n m a b =

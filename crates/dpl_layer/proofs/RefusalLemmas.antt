@@ -54,6 +54,7 @@ not_over o cells kept f n l kind count' (inr (inr (inr (k, c, more)))) =
     let e : more.fragments ≡ f = fragments_same_of (2 * o.space) (2 * o.overlap) cells kept more.fragments f more.are_fragments l.layer.fragments in
     no_more_edges f o.weights (2 * o.space) n 400000 l.layer.net l.few_edges (subst (λ z. HasMoreEdges z (2 * o.space) 400000) e more.many)
 
+-- cells with a layer within the limits pass none
 pub cells_free : (o : PlainOptions) (cells kept : Cells) (f : Fragments) (n : Net) → IsLayer o cells kept f n → (e : LayerError) → ¬ RefusesCells o cells kept e
 cells_free o cells kept f n l (Layout k w) r = r
 cells_free o cells kept f n l (Limit k c) r = not_over o cells kept f n l k c r
@@ -89,6 +90,7 @@ one_limit o cells kept k c l d (inr (inr (inr (p, q, m)))) (inr (inr (inl (r, s,
     m.few_fragments n.are_tiles n.are_kept n.many)
 one_limit o cells kept k c l d (inr (inr (inr (p, q, m)))) (inr (inr (inr (r, s, n)))) = rw (p, q, r, s) refl
 
+-- cells pass at most one limit first
 pub one_cells_refusal : (o : PlainOptions) (cells kept : Cells) (e f : LayerError) → RefusesCells o cells kept e → RefusesCells o cells kept f → e ≡ f
 one_cells_refusal o cells kept (Layout k w) f a b = absurd a
 one_cells_refusal o cells kept NoMemory f a b = absurd a
@@ -121,6 +123,7 @@ one_reading_refusal read (Layout k w) (Limit l d) a b = absurd (fault_first read
 one_reading_refusal read (Limit k c) (Layout l v) a b = absurd (fault_first read l v k c b a)
 one_reading_refusal read (Limit k c) (Limit l d) a b = one_stop read k c l d a b
 
+-- a text without a drawing is refused for one reason
 pub one_drawing_refusal : (o : PlainOptions) (text : List ℕ) (e f : LayerError) → RefusesDrawing o text e → RefusesDrawing o text f → e ≡ f
 one_drawing_refusal o text e f a b = one_reading_refusal (joined_reading o text) e f a b
 
@@ -141,16 +144,19 @@ good_drawing_free o text d is e = drawing_free o text (λ cells kept. Unit {0}) 
 
 -- ---- both
 
+-- a text that has no drawing has no layer, for the same reason
 pub drawing_text_refuses : (o : PlainOptions) (text : List ℕ) (e : LayerError) → (e ≡ NoMemory) ⊎
     RefusesDrawing o text e → (e ≡ NoMemory) ⊎ RefusesLayer o text e
 drawing_text_refuses o text e (inl m) = inl m
 drawing_text_refuses o text e (inr r) = inr (inl r)
 
+-- a text of which the cells pass a limit has no layer, for the same reason
 pub cells_text_refuse : (o : PlainOptions) (text : List ℕ) (d : Drawing) (e : LayerError) → IsDrawingOf o text d →
     (e ≡ NoMemory) ⊎ RefusesCells o (cells_of d.layer) (cells_of d.keep) e → (e ≡ NoMemory) ⊎ RefusesLayer o text e
 cells_text_refuse o text d e is (inl m) = inl m
 cells_text_refuse o text d e is (inr r) = inr (inr (on_drawing o text d (λ cells kept. RefusesCells o cells kept e) is r))
 
+-- a text has at most one refusal
 pub one_text_refusal : (o : PlainOptions) (text : List ℕ) (e f : LayerError) → RefusesLayer o text e → RefusesLayer o text f → e ≡ f
 one_text_refusal o text e f (inl a) (inl b) = one_drawing_refusal o text e f a b
 one_text_refusal o text e f (inl a) (inr b) = absurd (drawing_free o text (λ cells kept. RefusesCells o cells kept f) e b a)
@@ -206,10 +212,12 @@ only_comes {T} R result f is h e comes =
     let d : f ≡ e = cc in
     subst (λ z. (z ≡ NoMemory) ⊎ R z) d h
 
+-- an error that is not want of memory refuses
 pub error_refuses : {T : Type 0} (R : LayerError → Type 0) (result : Result T LayerError) →
     IfErr result (λ e. (e ≡ NoMemory) ⊎ R e) → (e : LayerError) → result ≡ Err e → (e ≡ NoMemory) ⊎ R e
 error_refuses R result b e h = rw h at b
 
+-- where there is one refusal, it comes as the error, but for want of memory
 pub refusal_comes : {T : Type 0} (L : T → Type 0) (R : LayerError → Type 0) (result : Result T LayerError) →
     ((e g : LayerError) → R e → R g → e ≡ g) → ((t : T) → L t → (e : LayerError) → ¬ R e) → IfOk result L →
     IfErr result (λ e. (e ≡ NoMemory) ⊎ R e)
@@ -220,9 +228,11 @@ refusal_comes L R (Err f) one free a (inr q) e r = inl (ap Err (one f e q r))
 
 -- ---- what the steps answer
 
+-- an equal error refuses too
 pub err_refuses : {T : Type 0} (r : Result T LayerError) (Q : LayerError → Type 0) (e f : LayerError) → r ≡ Err e → e ≡ f → Q f → IfErr r Q
 err_refuses r Q e f a b q = rw (a, b) q
 
+-- an error of the reader of CIF refuses the text, but for want of memory
 pub reading_refuses : (read : Reading) (e : CifError) → Refuses e read → (of_reading e ≡ NoMemory) ⊎ RefusesReading read (of_reading e)
 reading_refuses read (cif.Fault k w) is = inr is
 reading_refuses read (cif.Limit Primitives n) is = inr (subst (λ z. RefusesReading z (Limit 2 n)) (sym is) (refl, refl))
@@ -230,6 +240,7 @@ reading_refuses read (cif.Limit Calls n) is = inr (subst (λ z. RefusesReading z
 reading_refuses read (cif.Limit Coordinate n) is = inr (subst (λ z. RefusesReading z (Limit 4 n)) (sym is) (refl, refl))
 reading_refuses read cif.NoMemory is = inl refl
 
+-- an error of the tiles that are kept whole passes the limit on tiles, but for want of memory
 pub kept_refuses : (o : PlainOptions) (cells kept : Cells) (v : List Rect) (e : TileError) →
     AreTiles cells (map corners_of v) → length v ≤ 100000 → (e ≡ tile.TooMany → HasMoreTiles kept 100000) →
     (of_tiles e ≡ NoMemory) ⊎ RefusesCells o cells kept (of_tiles e)
@@ -247,6 +258,7 @@ kept_refuses o cells kept v tile.TooMany t few many = inr
     )))
 kept_refuses o cells kept v tile.NoMemory t few many = inl refl
 
+-- an error of the net passes the limit on edges, but for want of memory
 pub net_refuses : (o : PlainOptions) (cells kept : Cells) (f : Fragments) (e : NetError)
     (a : AreFragmentsOf (2 * o.space) (2 * o.overlap) cells kept f) → length a.keep ≤ 100000 → length f.rects ≤ 100000 →
     (e ≡ net.TooMany → HasMoreEdges f (2 * o.space) 400000)

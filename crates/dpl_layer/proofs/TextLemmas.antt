@@ -61,10 +61,12 @@ with_layer o text P Q step h k = with_both (reading o.layer text) (keep_reading 
 pub of_layer : {R : Type 0} (o : PlainOptions) (text : List ℕ) (P : Cells → Cells → Type 0) → ((cells kept : Cells) → P cells kept → R) → OnLayer o text P → R
 of_layer o text P step h = with_layer o text P P (λ cells kept p q. step cells kept p) h h
 
+-- what follows for cells follows for the text that draws them
 pub on_layer : (o : PlainOptions) (text : List ℕ) (P Q : Cells → Cells → Type 0) →
     ((cells kept : Cells) → P cells kept → Q cells kept) → OnLayer o text P → OnLayer o text Q
 on_layer o text P Q step h = on_both (reading o.layer text) (keep_reading o.keep text) P Q step h
 
+-- a text of whose cells something holds is read without a fault
 pub layer_good : (o : PlainOptions) (text : List ℕ) (P : Cells → Cells → Type 0) → OnLayer o text P →
     (parts : List Outline) × (joined_reading o text ≡ Good parts)
 layer_good o text P h = both_good (reading o.layer text) (keep_reading o.keep text) P h
@@ -76,5 +78,6 @@ on_drawing o text d P is p = rw (is.layer, is.keep) p
 
 -- ---- the layer of a text
 
+-- the layer of a text is a layer of some cells
 pub some_layer : (o : PlainOptions) (text : List ℕ) (f : Fragments) (n : Net) → IsLayerOfText o text f n → IsSomeLayer o f n
 some_layer o text f n = of_layer o text (λ cells kept. IsLayer o cells kept f n) (λ cells kept l. record { cells = cells; kept = kept; is = l })

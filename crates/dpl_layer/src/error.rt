@@ -1,3 +1,4 @@
+// Why a text has no layer, and what the errors of the steps below become.
 use dpl_cif::{CifError, CifLimit, What};
 use dpl_cuts::CutError;
 use dpl_limits::Counted;

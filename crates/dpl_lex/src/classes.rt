@@ -3,12 +3,14 @@ ghost use Rattle.std.specs.Prelude.{◌≡◌};
 ghost use Rattle.dpl_lex.specs.Classes as classes;
 ghost use Rattle.dpl_lex.specs.Classes.{is_digit, is_upper, is_blank, is_separator, drop_while};
 
+/// `0` to `9`.
 pub fn is_digit_byte(b: u8) -> bool
     ensures { result ≡ is_digit b }
 {
     b.is_ascii_digit()
 }
 
+/// `A` to `Z`.
 pub fn is_upper_byte(b: u8) -> bool
     ensures { result ≡ is_upper b }
 {

@@ -41,6 +41,7 @@ impl Name {
         Some(Name { bytes: held, count })
     }
 
+    /// The bytes of the name: 1 to 32 digits and upper-case letters.
     pub fn bytes(&self) -> &[u8]
         ensures value { result.now ≡ self.now }
         ensures name { is_name self.now ≡ true }

@@ -32,6 +32,7 @@ impl<'a> Model for Numbers<'a> {
 }
 
 impl<'a> Numbers<'a> {
+    /// All bytes of a command are left.
     pub fn new(piece: &'a [u8]) -> Numbers<'a>
         ensures { result ≡ piece.entry.now }
     {

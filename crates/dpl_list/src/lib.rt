@@ -27,12 +27,14 @@ impl<T> Items<T> {
         Items { values }
     }
 
+    /// The items in their order.
     pub fn as_slice(&self) -> &[T]
         ensures { result.now ≡ self.now }
     {
         self.values.as_slice()
     }
 
+    /// The values again, in their order.
     pub fn into_vec(self) -> Vec<T>
         ensures { result.items ≡ self }
     {

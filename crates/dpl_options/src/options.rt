@@ -49,6 +49,7 @@ impl Options {
         }
     }
 
+    /// The layer that is split. Its name has at most 31 bytes.
     pub fn layer(&self) -> &Name
         ensures value { result.now ≡ self.now.layer }
         ensures split { IsSplitLayer self.now.layer }
@@ -92,6 +93,7 @@ impl Options {
         2 * self.overlap
     }
 
+    /// What a broken stitch and broken conflicts weigh.
     pub fn weights(&self) -> &Weights
         ensures { result.now ≡ self.now.weights }
     {

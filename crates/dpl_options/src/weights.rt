@@ -26,6 +26,7 @@ impl Model for Weights {
 }
 
 impl Weights {
+    /// These weights, each from 1 to 1,000,000.
     pub fn new(stitch: u64, conflict: u64, corner: u64) -> Weights
         requires { AreWeights (record { stitch = stitch; conflict = conflict; corner = corner }) }
         ensures { result ≡ record { stitch = stitch; conflict = conflict; corner = corner } }
@@ -44,6 +45,7 @@ impl Weights {
         Weights::new(1, 10, 10)
     }
 
+    /// What a broken stitch weighs, from 1 to 1,000,000.
     pub fn stitch(&self) -> u64
         ensures value { result ≡ self.now.stitch }
         ensures some { 1 ≤ result }
@@ -52,6 +54,7 @@ impl Weights {
         self.stitch
     }
 
+    /// What a broken conflict between sides weighs, from 1 to 1,000,000.
     pub fn conflict(&self) -> u64
         ensures value { result ≡ self.now.conflict }
         ensures some { 1 ≤ result }
@@ -60,6 +63,7 @@ impl Weights {
         self.conflict
     }
 
+    /// What a broken conflict between corners weighs, from 1 to 1,000,000.
     pub fn corner(&self) -> u64
         ensures value { result ≡ self.now.corner }
         ensures some { 1 ≤ result }

@@ -14,6 +14,8 @@ use dpl_report::{Broken, Zone};
 use dpl_sign::Cycle;
 use std::alloc::Global;
 
+/// The broken stitches with their zones, in grid units, of the cut lines at the front, whose edges
+/// rise, and what follows these lines. Its error is want of memory.
 #[tactic(auto, unfolding(dpl_report::specs::Reading::read_cuts))]
 pub fn cuts(alloc: Global, text: &[u8]) -> Result<(Vec<Zone>, &[u8]), Stop>
     ensures { Gives (λ x. (
@@ -35,6 +37,8 @@ pub fn cuts(alloc: Global, text: &[u8]) -> Result<(Vec<Zone>, &[u8]), Stop>
     Ok((found, rest))
 }
 
+/// The broken clashes of the clash lines at the front, whose edges rise, and what follows these
+/// lines. Its error is want of memory.
 #[tactic(auto, unfolding(dpl_report::specs::Reading::read_clashes))]
 pub fn clashes(alloc: Global, text: &[u8]) -> Result<(Vec<Broken>, &[u8]), Stop>
     ensures { Gives (λ x. (x.0.items, lines_in x.1.now)) result
@@ -54,6 +58,8 @@ pub fn clashes(alloc: Global, text: &[u8]) -> Result<(Vec<Broken>, &[u8]), Stop>
     Ok((found, rest))
 }
 
+/// The edges of the aside lines at the front, which rise, and what follows these lines. Its error
+/// is want of memory.
 #[tactic(auto, unfolding(dpl_report::specs::Reading::read_aside))]
 pub fn aside(alloc: Global, text: &[u8]) -> Result<(Vec<u32>, &[u8]), Stop>
     ensures { Gives (λ x. (x.0.items, lines_in x.1.now)) result
@@ -73,6 +79,8 @@ pub fn aside(alloc: Global, text: &[u8]) -> Result<(Vec<u32>, &[u8]), Stop>
     Ok((found, rest))
 }
 
+/// The walks with their half weights of the cycle lines at the front, and what follows these lines.
+/// Its error is want of memory.
 #[tactic(auto, unfolding(dpl_report::specs::Reading::read_cycles))]
 pub fn cycles(alloc: Global, text: &[u8]) -> Result<(Vec<Cycle>, &[u8]), Stop>
     ensures { Gives (λ x. (x.0.items, lines_in x.1.now)) result
@@ -90,6 +98,8 @@ pub fn cycles(alloc: Global, text: &[u8]) -> Result<(Vec<Cycle>, &[u8]), Stop>
     Ok((found, rest))
 }
 
+/// The rectangles, in grid units, of the box lines at the front, and what follows these lines. Its
+/// error is want of memory.
 #[tactic(auto, unfolding(dpl_report::specs::Reading::read_boxes))]
 pub fn boxes(alloc: Global, text: &[u8]) -> Result<(Vec<Rect>, &[u8]), Stop>
     ensures { Gives (λ x. (

@@ -26,6 +26,8 @@ pub struct Lists {
     pub cycles: Items<Cycle>,
 }
 
+/// What is broken, what is set aside and the walks, as far as lines of each kind go on in this
+/// order, and what follows them. Its error is want of memory.
 #[tactic(auto, unfolding(dpl_report::specs::Reading::read_lists))]
 pub fn lists_of(alloc: Global, text: &[u8]) -> Result<(Lists, &[u8]), Stop>
     ensures { Gives (λ x. (plain_lists x.0, lines_in x.1.now)) result
@@ -79,6 +81,9 @@ pub struct Drawing {
     pub on_b: Vec<Rect>,
 }
 
+/// The boxes of both masks, in grid units, drawn on the layers of this name with A and with B
+/// behind it, and what follows the drawing. Its error is the first line that cannot stand, or want
+/// of memory.
 #[tactic(auto, unfolding(dpl_report::specs::Reading::read_drawing))]
 pub fn drawing_of<'a>(
     alloc: Global,

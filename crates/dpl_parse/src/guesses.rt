@@ -11,6 +11,7 @@ use dpl_report::{Broken, Zone};
 use dpl_sign::{Cycle, Walk};
 use std::alloc::{AllocError as NoMemory, Global};
 
+/// A number of 32 bits, `None` where it is none.
 pub fn number_from(z: i64) -> Option<u32>
     ensures { result ≡ reading.number_of z }
 {
@@ -21,6 +22,7 @@ pub fn number_from(z: i64) -> Option<u32>
     }
 }
 
+/// A number from 0 to 1,000,000,000,000, `None` where it is none.
 pub fn count_from(z: i64) -> Option<u64>
     ensures { result ≡ reading.count_of z }
 {
@@ -31,6 +33,7 @@ pub fn count_from(z: i64) -> Option<u64>
     }
 }
 
+/// The count that these numbers make: there is one, from 0 to 1,000,000,000,000.
 pub fn count_of(numbers: &[i64]) -> Option<u64>
     ensures { result ≡ reading.count_from numbers.now }
 {
@@ -40,6 +43,7 @@ pub fn count_of(numbers: &[i64]) -> Option<u64>
     }
 }
 
+/// The edge that these numbers make: there is one, of 32 bits.
 pub fn aside_of(numbers: &[i64]) -> Option<u32>
     ensures { result ≡ reading.aside_from numbers.now }
 {
@@ -58,6 +62,7 @@ fn ends_of(edge: i64, a: i64, b: i64) -> Option<Broken>
     Some(Broken { edge, a, b })
 }
 
+/// The edge with its two ends that these numbers make: there are three, of 32 bits.
 pub fn broken_of(numbers: &[i64]) -> Option<Broken>
     ensures { result ≡ reading.broken_from numbers.now }
 {
@@ -96,6 +101,8 @@ fn zone_with(at: Broken, numbers: &[i64]) -> Option<Zone>
     Some(Zone { at, rect })
 }
 
+/// The edge with its two ends and its zone that these numbers make: behind three of 32 bits stand
+/// `x1`, `y1`, `x2` and `y2` in grid units, which hold a cell and are in range.
 pub fn zone_of(numbers: &[i64]) -> Option<Zone>
     ensures { Reads plain_zone result (reading.zone_from numbers.now) }
 {
@@ -144,6 +151,8 @@ fn box_by(length: i64, width: i64, x: i64, y: i64) -> Option<Rect>
     rectangle_of(x1, y1, x2, y2)
 }
 
+/// The rectangle in grid units that these numbers make: a length, a width and a centre `x` and `y`,
+/// in quarters of a hundredth of a micron, such that the corners hold a cell and are in range.
 pub fn box_of(numbers: &[i64]) -> Option<Rect>
     ensures { Reads corners_of result (reading.box_from numbers.now) }
 {
@@ -166,6 +175,8 @@ fn edges_of(alloc: Global, numbers: &[i64]) -> Result<Option<Vec<u32>>, NoMemory
     Ok(Some(edges))
 }
 
+/// The walk that these numbers make: its half weight, from 1 to 1,000,000,000,000, the node where
+/// it starts and at least one edge, of 32 bits. Its error is want of memory.
 pub fn cycle_of(alloc: Global, numbers: &[i64]) -> Result<Option<Cycle>, NoMemory>
     ensures { IfOk result (λ o. o ≡ reading.cycle_from numbers.now) }
 {

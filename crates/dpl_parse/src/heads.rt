@@ -105,6 +105,8 @@ fn counts(alloc: Global, text: &[u8]) -> Result<(Counts, &[u8]), Stop>
     Ok((counts, rest))
 }
 
+/// The lines before the lists, of either version, and what follows them. Its error is the first
+/// line that cannot stand, or want of memory.
 #[tactic(auto, unfolding(dpl_report::specs::Reading::read_head))]
 pub fn head_of(alloc: Global, text: &[u8]) -> Result<(Head, &[u8]), Stop>
     ensures { Gives (λ x. (plain_head x.0, lines_in x.1.now)) result

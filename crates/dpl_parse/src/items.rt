@@ -14,6 +14,7 @@ use dpl_report::{Broken, Zone};
 use dpl_sign::Cycle;
 use std::alloc::{AllocError as NoMemory, Global};
 
+/// The number in a line of this word, `None` where the line is none. Its error is want of memory.
 pub fn count_in(alloc: Global, word: &[u8], line: &[u8]) -> Result<Option<u64>, NoMemory>
     ensures { IfOk result (λ o. o ≡ reading.item_count word.now line.now) }
 {
@@ -30,6 +31,8 @@ pub fn count_in(alloc: Global, word: &[u8], line: &[u8]) -> Result<Option<u64>, 
     })
 }
 
+/// The broken stitch of a cut line and its zone, in grid units, `None` where the line is none or
+/// its edge is below `least`. Its error is want of memory.
 pub fn cut_in(alloc: Global, least: u64, line: &[u8]) -> Result<Option<Zone>, NoMemory>
     ensures { IfOk result (λ o. Reads plain_zone o (reading.item_cut least line.now)) }
 {
@@ -49,6 +52,8 @@ pub fn cut_in(alloc: Global, least: u64, line: &[u8]) -> Result<Option<Zone>, No
     })
 }
 
+/// The broken clash of a clash line, `None` where the line is none or its edge is below `least`.
+/// Its error is want of memory.
 pub fn clash_in(alloc: Global, least: u64, line: &[u8]) -> Result<Option<Broken>, NoMemory>
     ensures { IfOk result (λ o. o ≡ reading.item_clash least line.now) }
 {
@@ -68,6 +73,8 @@ pub fn clash_in(alloc: Global, least: u64, line: &[u8]) -> Result<Option<Broken>
     })
 }
 
+/// The edge of an aside line, `None` where the line is none or its edge is below `least`. Its error
+/// is want of memory.
 pub fn aside_in(alloc: Global, least: u64, line: &[u8]) -> Result<Option<u32>, NoMemory>
     ensures { IfOk result (λ o. o ≡ reading.item_aside least line.now) }
 {
@@ -87,6 +94,8 @@ pub fn aside_in(alloc: Global, least: u64, line: &[u8]) -> Result<Option<u32>, N
     })
 }
 
+/// The walk with its half weight of a cycle line, `None` where the line is none. Its error is want
+/// of memory.
 pub fn cycle_in(alloc: Global, line: &[u8]) -> Result<Option<Cycle>, NoMemory>
     ensures { IfOk result (λ o. o ≡ reading.item_cycle line.now) }
 {
@@ -103,6 +112,8 @@ pub fn cycle_in(alloc: Global, line: &[u8]) -> Result<Option<Cycle>, NoMemory>
     })
 }
 
+/// The rectangle of a box line, in grid units, `None` where the line is none. Its error is want of
+/// memory.
 pub fn box_in(alloc: Global, line: &[u8]) -> Result<Option<Rect>, NoMemory>
     ensures { IfOk result (λ o. Reads corners_of o (reading.item_box line.now)) }
 {

@@ -28,6 +28,8 @@ fn layer_from(bytes: &[u8]) -> Option<Name>
     Name::new(bytes)
 }
 
+/// The name in a layer line, of at most 31 bytes, `None` where the line is none. Its error is want
+/// of memory.
 pub fn layer_in(alloc: Global, line: &[u8]) -> Result<Option<Name>, NoMemory>
     ensures { IfOk result (λ o. o ≡ reading.item_layer line.now) }
 {
@@ -43,6 +45,8 @@ pub fn layer_in(alloc: Global, line: &[u8]) -> Result<Option<Name>, NoMemory>
     })
 }
 
+/// The name in a keep line, of at most 31 bytes, `None` where the line is none. Its error is want
+/// of memory.
 pub fn keep_in(alloc: Global, line: &[u8]) -> Result<Option<Name>, NoMemory>
     ensures { IfOk result (λ o. o ≡ reading.item_keep line.now) }
 {
@@ -58,6 +62,7 @@ pub fn keep_in(alloc: Global, line: &[u8]) -> Result<Option<Name>, NoMemory>
     })
 }
 
+/// Whether a version line tells the second version, `None` where the line is none.
 pub fn version_in(line: &[u8]) -> Option<bool>
     ensures { result ≡ reading.item_version line.now }
 {
@@ -76,6 +81,8 @@ fn colours_from(alloc: Global, letters: &[u8]) -> Result<Vec<bool>, NoMemory>
     letters.iter().map(|b| *b == b'B').collect(alloc)
 }
 
+/// A colour for each of so many fragments in a masks line, `true` for B, `None` where the line is
+/// none. Its error is want of memory.
 pub fn colours_in(alloc: Global, fragments: u64, line: &[u8]) -> Result<Option<Vec<bool>>, NoMemory>
     ensures { IfOk result (λ o. Reads (λ v. v.items) o (reading.item_masks fragments line.now)) }
 {

@@ -38,6 +38,8 @@ pub fn exactly<'a>(wanted: &[u8], text: &'a [u8]) -> Result<&'a [u8], Stop>
     }
 }
 
+/// The name in the layer line at the front, and what follows it. Its error is that the text begins
+/// otherwise, or want of memory.
 #[tactic(auto, unfolding(dpl_report::specs::Reading::read_layer))]
 pub fn layer(alloc: Global, text: &[u8]) -> Result<(Name, &[u8]), Stop>
     ensures { Gives (λ x. (x.0, lines_in x.1.now)) result (reading.read_layer (lines_in text.now)) }
@@ -51,6 +53,8 @@ pub fn layer(alloc: Global, text: &[u8]) -> Result<(Name, &[u8]), Stop>
     }
 }
 
+/// A colour for each of so many fragments, `true` for B, in the masks line at the front, and what
+/// follows it. Its error is that the text begins otherwise, or want of memory.
 #[tactic(auto, unfolding(dpl_report::specs::Reading::read_masks))]
 pub fn masks(alloc: Global, fragments: u64, text: &[u8]) -> Result<(Vec<bool>, &[u8]), Stop>
     ensures { Gives (λ x. (x.0.items, lines_in x.1.now)) result

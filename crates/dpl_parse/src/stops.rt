@@ -30,6 +30,7 @@ impl<T: Drop> From<AllocFailed<T>> for Stop {
     }
 }
 
+/// The first line of this text cannot stand.
 pub fn stop_at(text: &[u8]) -> Stop
     ensures { result ≡ Stop.Line (length (lines_in text.now)) }
 {

@@ -1,3 +1,4 @@
+// The edges that are set aside, each tried by the excess with it and without it.
 ghost use Rattle.std.specs.Prelude.{◌≡◌, IfOk};
 ghost use Rattle.dpl_sign.specs.Excess.{kept_edges as kept_of, aside_edges as aside_of};
 

@@ -1,3 +1,4 @@
+// The components of a set of edges, by a name for each node.
 ghost use Rattle.std.specs.Prelude.{◌≡◌, ◌<◌, ◌≤◌, ◌^◌, length, slice_index, IfOk, EachIndex, if◌then◌else◌};
 ghost use Rattle.dpl_cycle.specs.Names.{name_count, join as joined};
 ghost use Rattle.dpl_sign.specs.Drawings.{is_in as in_set};

@@ -1,3 +1,4 @@
+// The cycles of a permutation, from which the numbers are taken out, the greatest first.
 ghost use Rattle.std.specs.Prelude.{◌≡◌, ℕ, ◌/◌, ◌<◌, ◌≤◌, ◌==◌, ◌^◌, length, slice_index, EachIndex, if◌then◌else◌};
 ghost use Rattle.dpl_cycle.specs.Cycles.{without, least as least_on};
 ghost use Rattle.dpl_cycle.specs.Among.{cycles_among, members};

@@ -1,3 +1,4 @@
+// The excess of a set of edges: what Euler's formula lacks.
 ghost use Rattle.std.specs.Prelude.{◌≡◌, ℕ, ◌<◌, ◌≤◌, true, length, IfOk};
 ghost use Rattle.dpl_sign.specs.Drawings.{is_in as in_set};
 ghost use Rattle.dpl_sign.specs.Excess.{edge_count as edges_of, excess as excess_of, all_edges};

@@ -1,3 +1,4 @@
+// The faces of a set of edges: the cycles of the face rule, and one for each bare node.
 ghost use Rattle.std.specs.Prelude.{◌≡◌, ◌≤◌, ◌<◌, length, slice_index, IfOk, EachIndex};
 ghost use Rattle.dpl_sign.specs.Drawings.{dart_count, is_in as in_set, next_in_face as next_of_face, is_met_below, is_bare as bare, bare_count as bare_nodes, face_count as faces_of};
 

@@ -1,3 +1,4 @@
+// Faces on the two sides of a stitch or a clash, and chains of such faces.
 ghost use Rattle.std.specs.Prelude.{◌↔◌, ◌<◌, length, IfOk, IsTrue};
 ghost use Rattle.dpl_sign.specs.Drawings.{is_in as in_set};
 ghost use Rattle.dpl_sign.specs.Parity.{Separates, AreNeighbours, IsFacePath};

@@ -1,3 +1,4 @@
+// The clashes that faces pass: which faces are odd, and which sets of edges meet the faces.
 ghost use Rattle.std.specs.Prelude.{◌≡◌, ℕ, ◌%◌, ◌==◌, ◌<◌, ◌↔◌, true, length, IfOk, IsTrue};
 ghost use Rattle.dpl_sign.specs.Drawings.{dart_count, is_in as in_set, face_of};
 ghost use Rattle.dpl_sign.specs.Kinds.{is_clash as clash_test};

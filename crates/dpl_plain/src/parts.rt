@@ -1,3 +1,4 @@
+// The parts of a drawing: the classes of faces over stitches and clashes.
 ghost use Rattle.std.specs.Prelude.{◌≡◌, ℕ, ◌<◌, ◌*◌, ◌+◌, ◌⊎◌, ◌↔◌, length, slice_index, IfOk, EachIndex, IsTrue, if◌then◌else◌};
 ghost use Rattle.dpl_cycle.specs.Names.{join as joined};
 ghost use Rattle.dpl_sign.specs.Drawings.{dart_count, is_in as in_set, face_of};

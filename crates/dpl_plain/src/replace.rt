@@ -1,3 +1,4 @@
+// One number in the place of another.
 ghost use Rattle.std.specs.Prelude.{◌≡◌, ◌==◌, slice_index, EachIndex, if◌then◌else◌};
 
 /// Puts one number in the place of another, wherever it stands.

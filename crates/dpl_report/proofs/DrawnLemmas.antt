@@ -239,6 +239,7 @@ text_of-drawing name on_a on_b =
 
 -- ---- all of it
 
+-- the text of a report, read again as CIF, draws its two masks
 pub report_is_drawn : (r : PlainReport) → IsReport r → DrawsMasks r.head.params.layer r.on_a r.on_b (report_text r)
 report_is_drawn r f =
     let name = r.head.params.layer in

@@ -26,15 +26,18 @@ use Rattle.dpl_report.specs.Reading.{rectangle_of, corners_from, zone_from, item
 use Rattle.dpl_report.specs.Reading.{cycle_with, cycle_from, item_cycle, low_corner, high_corner, box_from, item_box}
 use Rattle.dpl_report.proofs.LineLemmas.{IsNear, numbers_in-bracketed, numbers_in-box, box_numbers}
 
+-- where two parts are read one after another, each is
 pub bind_some : {A B : Type 0} (o : Option A) (f : A → Option B) (y : B) → (o >>= f) ≡ Some y → (x : A) × (o ≡ Some x) × (f x ≡ Some y)
 bind_some None f y e = absurd (cc)
 bind_some (Some x) f y e = (x, refl, e)
 
+-- an item that counts was written as this line
 pub if_written_some : {X : Type 0} (text : X → List ℕ) (line : List ℕ) (x y : X) → if_written text line x ≡ Some y → (x ≡ y) × (line ≡ text y)
 if_written_some text line x y e =
     let d = cond_some (bytes_eq (text x) line) x y e in
     (d.1, rw (← d.1) (sym ((bytes_eq-Decides (text x) line).0 d.0)))
 
+-- an item counts in its own line
 pub if_written_same : {X : Type 0} (text : X → List ℕ) (x : X) → if_written text (text x) x ≡ Some x
 if_written_same text x = rw ((bytes_eq-Decides (text x) (text x)).1 refl) refl
 
@@ -43,6 +46,7 @@ pub record IsGuess {X : Type 0} (guess : List ℤ → Option X) (numbers : X →
   pub fits : (zs : List ℤ) (x : X) → guess zs ≡ Some x → Fits x
   pub again : (x : X) → Fits x → guess (numbers x) ≡ Some x
 
+-- an item whose numbers are read back from its line is an item of that line alone
 pub item_of_guess : {X : Type 0} (guess : List ℤ → Option X) (text : X → List ℕ) (numbers : X → List ℤ) (Fits : X → Type 0) → IsGuess guess numbers Fits
     → ((x : X) → Fits x → numbers_in (text x) ≡ numbers x) → (some : X) → Fits some → IsItem (item_by guess text) text Fits
 item_of_guess guess text numbers Fits g n some f = record {
@@ -99,6 +103,7 @@ count_guess = record { fits = fits; again = λ n l. up_to_again 1000000000000 n 
   fits (z ∷ []) n e = up_to_fits 1000000000000 z n e
   fits (z ∷ y ∷ zs) n e = absurd (cc)
 
+-- a count is read from the line of its word alone
 pub count_item : (word : List ℕ) → list_all is_separator word ≡ true → IsItem (item_count word) (count_line word) IsCount
 count_item word h = item_of_guess count_from (count_line word) (λ n. pos n ∷ []) IsCount count_guess
     (λ n l. numbers_in-bracketed word (pos n ∷ []) h (l, tt)) 0 (omega arith)
@@ -110,9 +115,11 @@ aside_guess = record { fits = fits; again = λ n l. up_to_again 4294967295 n l }
   fits (z ∷ []) n e = up_to_fits 4294967295 z n e
   fits (z ∷ y ∷ zs) n e = absurd (cc)
 
+-- a number of a report is one that a line can hold
 pub near : (n : ℕ) → IsNumber n → IsNear (pos n)
 near n l = omega arith
 
+-- an edge set aside, from a least one on, is read from its line alone
 pub aside_items : AreItems item_aside aside_line AsideFits
 aside_items = items_of_guess aside_from aside_line (λ e. pos e ∷ []) (λ e. e) IsNumber aside_guess
     (λ n l. numbers_in-bracketed (codes "aside") (pos n ∷ []) refl (near n l, tt))
@@ -166,6 +173,7 @@ rectangle_again : (c : Corners) → IsRectangle c → rectangle_of c ≡ Some c
 unfolding rectangle_of
 rectangle_again c r = rw (stretch_again c.x1 c.x2 r.columns, stretch_again c.y1 c.y2 r.rows) refl
 
+-- the same of a broken clash
 pub clash_items : AreItems item_clash clash_line ClashFits
 clash_items = items_of_guess broken_from clash_line broken_numbers (λ b. b.edge) IsBroken broken_guess
     (λ b f. numbers_in-bracketed (codes "clash") (broken_numbers b) refl (near b.edge f.edge, (near b.a f.a, (near b.b f.b, tt))))
@@ -199,9 +207,11 @@ AreNear c = AllByRecursion IsNear (c.x1 ∷ c.y1 ∷ c.x2 ∷ c.y2 ∷ [])
 corners_near : (c : Corners) → IsRectangle c → AreNear c
 corners_near c r = (omega (arith, ints), (omega (arith, ints), (omega (arith, ints), (omega (arith, ints), tt))))
 
+-- the numbers of a broken stitch with its zone are such that a line can hold
 pub zone_near : (z : PlainZone) → IsZone z → AllByRecursion IsNear (zone_numbers z)
 zone_near z f = (near z.at.edge f.ends.edge, (near z.at.a f.ends.a, (near z.at.b f.ends.b, corners_near z.corners f.corners)))
 
+-- the same of a broken stitch with its zone
 pub cut_items : AreItems item_cut cut_line CutFits
 cut_items = items_of_guess zone_from cut_line zone_numbers (λ z. z.at.edge) IsZone zone_guess
     (λ z f. numbers_in-bracketed (codes "cut") (zone_numbers z) refl (zone_near z f))
@@ -262,9 +272,11 @@ cycle_guess = record {
   ) (cycle_with_again c.half c.walk.start c.walk.edges f.some f.not_empty);
 }
 
+-- the numbers of a walk with its half weight are such that a line can hold
 pub cycle_near : (c : Cycle) → IsCycle c → AllByRecursion IsNear (cycle_numbers c)
 cycle_near c f = (f.half, (near c.walk.start f.start, edges_near c.walk.edges f.edges))
 
+-- a walk with its half weight is read from its line alone
 pub cycle_item : IsItem item_cycle cycle_line IsCycle
 cycle_item = item_of_guess cycle_from cycle_line cycle_numbers IsCycle cycle_guess
     (λ c f. numbers_in-bracketed (codes "cycle") (cycle_numbers c) refl (cycle_near c f))
@@ -308,9 +320,11 @@ box_guess = record {
       rw (low_again c.x1 c.x2, low_again c.y1 c.y2, high_again c.x1 c.x2, high_again c.y1 c.y2) (rectangle_again c r);
 }
 
+-- the numbers of a box are such that a line can hold
 pub box_near : (b : Corners) → IsRectangle b → AllByRecursion IsNear (box_numbers b)
 box_near b r = (omega (arith, ints), (omega (arith, ints), (omega (arith, ints), (omega (arith, ints), tt))))
 
+-- a box is read from its line alone
 pub box_item : IsItem item_box box_line IsRectangle
 box_item = item_of_guess box_from box_line box_numbers IsRectangle box_guess (λ b r. numbers_in-box b (box_near b r))
     (record { x1 = pos 0; y1 = pos 0; x2 = pos 1; y2 = pos 1 })

@@ -57,6 +57,7 @@ signed_of-word word rest h = rw (drop_while-append word rest h) (signed_any (wor
 
 -- ---- the numbers of a line
 
+-- a number that a line can hold: its magnitude is at most 10^12
 abbrev pub IsNear : ℤ → Type 0
 IsNear z = unsigned_abs z ≤ greatest
 
@@ -83,18 +84,22 @@ numbers_again (suc n) word (z ∷ zs) end e l h a =
     )
     (ap (λ ys. z ∷ ys) (numbers_again n [] zs end e k refl a.1))
 
+-- numbers take a byte each at least
 pub length-numbered : (zs : List ℤ) (end : List ℕ) → length zs ≤ length (numbered zs end)
 length-numbered [] end = omega arith
 length-numbered (z ∷ zs) end = omega (arith, length-numbered zs end, length-append (signed_decimal z) (numbered zs end))
 
+-- the numbers of a line behind a word are read back
 pub numbers_in-numbered : (first : ℕ) (word : List ℕ) (zs : List ℤ) (end : List ℕ) → IsEnd end →
     list_all is_separator word ≡ true → AllByRecursion IsNear zs → numbers_in (first ∷ (word ++ numbered zs end)) ≡ zs
 numbers_in-numbered first word zs end e h a =
     numbers_again (suc (length (word ++ numbered zs end))) word zs end e (omega (arith, length-append word (numbered zs end), length-numbered zs end)) h a
 
+-- the end of a comment ends the numbers
 pub closing_is_end : IsEnd (codes ");\n")
 closing_is_end = record { no_digit = refl; no_number = refl }
 
+-- the end of a box ends the numbers
 pub box_closing_is_end : IsEnd (codes ";\n")
 box_closing_is_end = record { no_digit = refl; no_number = refl }
 
@@ -102,6 +107,7 @@ box_closing_is_end = record { no_digit = refl; no_number = refl }
 pub numbers_in-bracketed : (word : List ℕ) (zs : List ℤ) → list_all is_separator word ≡ true → AllByRecursion IsNear zs → numbers_in (bracketed word zs) ≡ zs
 numbers_in-bracketed word zs h a = numbers_in-numbered 40 word zs (codes ");\n") closing_is_end h a
 
+-- the numbers of a box: its length, width and centre, in quarters of a hundredth of a micron
 abbrev pub box_numbers : Corners → List ℤ
 box_numbers b = ((b.x2 -ℤ b.x1) *ℤ pos 2) ∷ ((b.y2 -ℤ b.y1) *ℤ pos 2) ∷ (b.x1 +ℤ b.x2) ∷ (b.y1 +ℤ b.y2) ∷ []
 
@@ -109,15 +115,18 @@ four_parts : (a b c d : List ℕ) → ((((66 ∷ 32 ∷ a) ++ (32 ∷ b)) ++ (32
     (a ++ (32 ∷ (b ++ (32 ∷ (c ++ (32 ∷ (d ++ (59 ∷ 10 ∷ []))))))))
 four_parts a b c d = simp append_assoc
 
+-- the line of a box is made of these numbers
 pub box_line-numbered : (b : Corners) → box_line b ≡ 66 ∷ numbered (box_numbers b) (codes ";\n")
 box_line-numbered b = four_parts (signed_decimal ((b.x2 -ℤ b.x1) *ℤ pos 2)) (signed_decimal ((b.y2 -ℤ b.y1) *ℤ pos 2))
     (signed_decimal (b.x1 +ℤ b.x2)) (signed_decimal (b.y1 +ℤ b.y2))
 
+-- the numbers of a box are read back from its line
 pub numbers_in-box : (b : Corners) → AllByRecursion IsNear (box_numbers b) → numbers_in (box_line b) ≡ box_numbers b
 numbers_in-box b a = rw (box_line-numbered b) (numbers_in-numbered 66 [] (box_numbers b) (codes ";\n") box_closing_is_end refl a)
 
 -- ---- line ends
 
+-- a byte that does not end a line
 abbrev pub is_no_end : ℕ → Bool
 is_no_end b = not (b == 10)
 
@@ -126,6 +135,7 @@ line_by_test : (t : Bool) (bs rest : List ℕ) → not t ≡ true → is_line (b
 line_by_test true bs rest n h = absurd (cc)
 line_by_test false bs rest n h = h
 
+-- bytes without a line end in front of a text do not change whether it is one line
 pub is_line-append : (front rest : List ℕ) → list_all is_no_end front ≡ true → is_line (front ++ rest) ≡ is_line rest
 is_line-append [] rest h = refl
 is_line-append (b ∷ bs) rest h = let s = and_parts (is_no_end b) (list_all is_no_end bs) h in line_by_test (b == 10) bs rest s.0 (is_line-append bs rest s.1)
@@ -142,12 +152,15 @@ no_end-signed : (z : ℤ) → IsNear z → list_all is_no_end (signed_decimal z)
 no_end-signed (pos n) h = no_end-decimal n (omega arith)
 no_end-signed (negsuc n) h = no_end-decimal (suc n) (omega arith)
 
+-- numbers in front of an end do not change whether it is one line
 pub is_line-numbered : (zs : List ℤ) (end : List ℕ) → AllByRecursion IsNear zs → is_line (numbered zs end) ≡ is_line end
 is_line-numbered [] end a = refl
 is_line-numbered (z ∷ zs) end a = is_line-append (signed_decimal z) (numbered zs end) (no_end-signed z a.0) ∙ is_line-numbered zs end a.1
 
+-- a comment of a word and numbers is one line
 pub is_line-bracketed : (word : List ℕ) (zs : List ℤ) → list_all is_no_end word ≡ true → AllByRecursion IsNear zs → is_line (bracketed word zs) ≡ true
 is_line-bracketed word zs h a = is_line-append word (numbered zs (codes ");\n")) h ∙ is_line-numbered zs (codes ");\n") a
 
+-- a box is one line
 pub is_line-box : (b : Corners) → AllByRecursion IsNear (box_numbers b) → is_line (box_line b) ≡ true
 is_line-box b a = ap is_line (box_line-numbered b) ∙ is_line-numbered (box_numbers b) (codes ";\n") a

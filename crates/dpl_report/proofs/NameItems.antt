@@ -37,6 +37,7 @@ layer_fits name found e =
 layer_again : (name : List ℕ) → IsSplitLayer name → layer_from name ≡ Some name
 layer_again name f = rw (f.0, le-leb (length name) 31 f.1) refl
 
+-- the name of the layer is read from its line alone
 pub layer_item : IsItem item_layer layer_line IsSplitLayer
 layer_item = record {
   some = codes "M";
@@ -48,6 +49,7 @@ layer_item = record {
   again = λ x f. rw (between-layer x, layer_again x f) (if_written_same layer_line x);
 }
 
+-- the name of the layer where nothing is cut is read from its line alone
 pub keep_item : IsItem item_keep keep_line IsSplitLayer
 keep_item = record {
   some = codes "K";
@@ -65,6 +67,7 @@ version_by first true l x s f e = let d : true ≡ x = cc in s refl ∙ ap versi
 version_by true false l x s f e = let d : false ≡ x = cc in f refl ∙ ap version_line d
 version_by false false l x s f e = absurd (cc)
 
+-- the version is read from its line alone
 pub version_item : IsItem item_version version_line (λ _. Unit {0})
 version_item = record {
   some = true;
@@ -85,6 +88,7 @@ colours_again [] = refl
 colours_again (true ∷ cs) = ap (λ xs. true ∷ xs) (colours_again cs)
 colours_again (false ∷ cs) = ap (λ xs. false ∷ xs) (colours_again cs)
 
+-- so many colours are read from the line of the masks alone
 pub masks_item : (n : ℕ) → IsItem (item_masks n) masks_line (λ colours. length colours ≡ n)
 masks_item n = record {
   some = replicate n false;
@@ -97,6 +101,7 @@ masks_item n = record {
   again = λ x f. rw (between-masks x, colours_again x, f, (Decides-eqb n n).1 refl) (if_written_same masks_line x);
 }
 
+-- a line that is always the same is read as itself alone
 pub line_item : (wanted : List ℕ) → IsItem (item_line wanted) (λ _. wanted) (λ _. Unit {0})
 line_item wanted = record {
   some = tt;

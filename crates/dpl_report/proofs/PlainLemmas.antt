@@ -35,6 +35,7 @@ report_with p cuts on_a on_b = record {
   on_b = on_b;
 }
 
+-- reports that say the same are the same
 pub same_report : (r s : Report) → plain_report r ≡ plain_report s → r ≡ s
 unfolding report_with
 same_report r s e =

@@ -417,6 +417,7 @@ drawing_format name =
 report_back : PlainReport → PlainHead × (PlainLists × (List Corners × List Corners))
 report_back r = (r.head, (r.lists, (r.on_a, r.on_b)))
 
+-- the reader of a report gives back what its lines were written from
 pub report_format : IsFormat read_report report_lines IsReport Anywhere
 unfolding read_report report_back third
 report_format =

@@ -159,16 +159,19 @@ report_are_lines r f =
 
 -- ---- the text
 
+-- a text that is read as a report is the text of that report
 pub text_is_found : (text : List ℕ) (r : PlainReport) → whole read_report (lines_in text) ≡ Ok r → IsReport r × (text ≡ report_text r)
 text_is_found text r e =
     let f = whole_found read_report report_lines IsReport Anywhere report_format (lines_in text) r e in
     (f.0, sym (text_of-lines_in text) ∙ ap text_of f.1)
 
+-- the text of a report is read as that report
 pub text_is_read : (text : List ℕ) (r : PlainReport) → IsReport r → text ≡ report_text r → whole read_report (lines_in text) ≡ Ok r
 text_is_read text r f e = ap (whole read_report) (ap lines_in e ∙
     lines_in-text_of (report_lines r) (report_are_lines r f)) ∙
     whole_again read_report report_lines IsReport Anywhere report_format r f tt
 
+-- where reading stops, it names the first line that cannot stand
 pub text_is_wrong : (text : List ℕ) (left : ℕ) → whole read_report (lines_in text) ≡ Err left →
     IsFirstWrong report_lines IsReport (lines_in text) (length (lines_in text) - left + 1)
 text_is_wrong text left e = whole_stops read_report report_lines IsReport Anywhere report_format (λ r f. tt) (lines_in text) left e

@@ -1,3 +1,4 @@
+//! A permutation that splices change.
 ghost use Rattle.std.specs.Prelude.{◌≡◌, ◌≢◌, ◌+◌, ◌<◌, ◌^◌, length, slice_index, swap, IfOk, EachIndex};
 ghost use Rattle.dpl_ring.specs.Rings.{IsRing, IsKept, cycle_count, least_of};
 

@@ -112,6 +112,8 @@ pub fn leg(width: u64, p: &Spot, q: &Spot) -> Extent
     }
 }
 
+/// Whether the coordinates of a point, in hundredths of a micron before its scale, are whole grid
+/// units after it.
 pub fn is_spot_on_grid(scale: Scale, spot: &Spot) -> bool
     requires { IsScale scale }
     ensures { result ≡ figures.is_spot_on_grid scale spot.now }
@@ -119,6 +121,8 @@ pub fn is_spot_on_grid(scale: Scale, spot: &Spot) -> bool
     is_on_grid(scale, double(spot.x)) && is_on_grid(scale, double(spot.y))
 }
 
+/// Whether the corners of a rectangle, in grid units before its scale, are whole grid units after
+/// it.
 pub fn is_extent_on_grid(scale: Scale, e: Extent) -> bool
     requires scale { IsScale scale }
     requires near { IsExtentNear e }
@@ -179,6 +183,8 @@ pub fn slants_round(path: &[Spot]) -> bool
     is_slanted(before, first)
 }
 
+/// Whether all points of a path, in hundredths of a micron before their scale, are whole grid units
+/// after it.
 pub fn is_path_on_grid(scale: Scale, path: &[Spot]) -> bool
     requires { IsScale scale }
     ensures { result ≡ list_all (figures.is_spot_on_grid scale) path.now }

@@ -24,6 +24,8 @@ fn signed(bytes: &[u8]) -> Option<(i64, &[u8])>
     }
 }
 
+/// The next integer without a sign, and what follows it, `None` where there is none. 10^12 + 1
+/// stands for each greater one.
 pub fn unsigned(bytes: &[u8]) -> Option<(u64, &[u8])>
     ensures { Reads (λ r. (r.0, r.1.now)) result (unsigned_of bytes.now) }
 {
@@ -35,6 +37,8 @@ pub fn unsigned(bytes: &[u8]) -> Option<(u64, &[u8])>
     }
 }
 
+/// The next point, an integer for each coordinate, and what follows it, `None` where one is
+/// wanting. 10^12 + 1 stands for each integer of a magnitude beyond 10^12.
 pub fn spot(bytes: &[u8]) -> Option<(Spot, &[u8])>
     ensures { Reads (λ r. (r.0, r.1.now)) result (spot_of bytes.now) }
 {

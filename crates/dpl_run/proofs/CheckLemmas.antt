@@ -19,6 +19,7 @@ use Rattle.dpl_run.specs.Consequences.{WritesBound}
 use Rattle.dpl_run.specs.Errors.{status_of}
 use Rattle.dpl_run.proofs.EndLemmas.{AllEnd, error_ends, refused_not_done}
 
+-- what is due for check ends the work of a command that judges
 pub check_ends : (c : PlainCommand) → judges c ≡ true → (o : PlainOptions) (text report : List ℕ) → AllEnd c (IsCheckDue o text report)
 check_ends c judging o text report _ _ (refused e r) = error_ends c (RefusesLayer o text) (never_memory o text) (λ k n p. inl (layer_kind o text k n p)) e r
 check_ends c judging o text report _ _ (rejected reason place found wanted v) = (judging, refl)
@@ -28,6 +29,7 @@ abbrev status_of_verdict : Verdict → Status
 status_of_verdict (Yes cost bound) = Done
 status_of_verdict (No reason place found wanted) = Rejected reason place found wanted
 
+-- at most one status is due for check
 pub one_check : (o : PlainOptions) (text report : List ℕ) (a b : Status) (x y : List ℕ) → IsCheckDue o text report a x → IsCheckDue o text report b y → a ≡ b
 one_check o text report _ _ _ _ (refused e r) (refused f q) = ap status_of (one_text_refusal o text e f r q)
 one_check o text report _ _ _ _ (refused e r) (rejected reason place found wanted w) =
@@ -46,6 +48,7 @@ one_check o text report _ _ _ _ (accepted cost bound v) (accepted cost' bound' w
 
 -- ---- what an accepted report means for every other pair of masks
 
+-- where check is done, what was written is a cost and a bound of every pair of masks
 pub accepted_bound : (o : PlainOptions) (text report taken : List ℕ) (now : Option (List ℕ)) (a : Status) (x : List ℕ) →
     IsCheckDue o text report a x → a ≡ Done → now ≡ Some (taken ++ x) → WritesBound o text taken now
 accepted_bound o text report taken now _ _ (refused e r) d is = absurd (refused_not_done e d)
@@ -54,6 +57,7 @@ accepted_bound o text report taken now _ _ (accepted cost bound v) d is = (cost,
 
 -- ---- the masks of an accepted report
 
+-- where check is done, the masks of the report are those of the layer
 pub accepted_masks : (o : PlainOptions) (text report : List ℕ) (a : Status) (x : List ℕ) → AreOptions o →
     IsCheckDue o text report a x → a ≡ Done → HasMasksOf o text report
 accepted_masks o text report _ _ ranges (refused e r) d = absurd (refused_not_done e d)

@@ -22,10 +22,12 @@ use Rattle.dpl_run.specs.due.Cross.IsCrossDue.{refused, done}
 use Rattle.dpl_run.specs.Errors.{status_of}
 use Rattle.dpl_run.proofs.EndLemmas.{AllEnd, error_ends}
 
+-- what is due for cross ends the work of any command
 pub cross_ends : (c : PlainCommand) (o : PlainOptions) (text : List ℕ) → AllEnd c (IsCrossDue o text)
 cross_ends c o text _ _ (refused e r) = error_ends c (RefusesLayer o text) (never_memory o text) (λ k n p. inl (layer_kind o text k n p)) e r
 cross_ends c o text _ _ (done output p clear) = tt
 
+-- at most one status is due for cross
 pub one_cross : (o : PlainOptions) (text : List ℕ) (a b : Status) (x y : List ℕ) → IsCrossDue o text a x → IsCrossDue o text b y → a ≡ b
 one_cross o text _ _ _ _ (refused e r) (refused f q) = ap status_of (one_text_refusal o text e f r q)
 one_cross o text _ _ _ _ (refused e r) (done output p clear) = absurd (clear e r)
@@ -40,10 +42,12 @@ clear_of o text result v h exact e r = elim (exact e r) [
   | inr a ↦ absurd (cc)
 ]
 
+-- what was found of crossing links is what is to be shown
 pub shows_crossing : (f : Fragments) (net : Net) (c : Option Crossing) → IfSome c (IsCrossing f net) → (c ≡ None → HasNoCrossing f net) → ShowsCrossing f net c
 shows_crossing f net None some none = none refl
 shows_crossing f net (Some crossing) some none = some
 
+-- what was found of an edge set aside is what is to be shown
 pub shows_bar : (net : Net) (b : Option Bar) → (b ≡ None ↔ aside_edges net ≡ []) →
     IfSome b (λ x. IsFirstAside net x.edge) → IfSome b (IsBar net) → ShowsBar net b
 shows_bar net None none least bar = none.0 refl

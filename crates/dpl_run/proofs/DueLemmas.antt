@@ -16,6 +16,7 @@ use Rattle.dpl_run.proofs.LoadLemmas.{load_ends, one_load}
 use Rattle.dpl_run.proofs.CrossLemmas.{cross_ends, one_cross}
 use Rattle.dpl_run.proofs.EditLemmas.{edit_ends, one_edit}
 
+-- what is due for a command ends its work
 pub all_end : (c : PlainCommand) (text second : List ℕ) → AllEnd c (DueOf c text second)
 all_end (split options) text second = split_ends (split options) refl options text
 all_end (balance options) text second = balance_ends (balance options) refl options text
@@ -51,6 +52,7 @@ one_for c text second _ _ _ _ (carried_out a x s l d) (long_layout r m) = absurd
 one_for c text second _ _ _ _ (carried_out a x s l d) (long_second o e t m) = absurd (omega (arith, small_of o (opens c) second e l))
 one_for c text second _ _ _ _ (carried_out a x s l d) (carried_out b y t m g) = one_of c text second a b x y d g
 
+-- at most one status is due for words and texts
 pub one_due : (command : Result PlainCommand ℕ) (text second : List ℕ) (a b : Status) (x y : List ℕ) →
     IsDueOf command text second a x → IsDueOf command text second b y → a ≡ b
 one_due (Err kind) text second a b x y p q = p.0 ∙ sym q.0
@@ -61,6 +63,7 @@ fits_for c text second _ _ (long_layout r l) = refl
 fits_for c text second _ _ (long_second o e s l) = refl
 fits_for c text second _ _ (carried_out a x s l d) = ends_fit c a x (all_end c text second a x d)
 
+-- what is due is done, or refuses with nothing written
 pub fits : (command : Result PlainCommand ℕ) (text second : List ℕ) (a : Status) (x : List ℕ) → IsDueOf command text second a x → IsFit a x
 fits (Err kind) text second a x p = subst (λ z. IsFit z x) (sym p.0) p.1
 fits (Ok c) text second a x p = fits_for c text second a x p

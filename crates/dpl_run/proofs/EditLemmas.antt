@@ -75,6 +75,7 @@ same_start o text d e a b =
     let k : e.keep.prims ≡ d.keep.prims = prims_same e.keep.prims d.keep.prims (good_same _ _ (sym b.keep ∙ a.keep)) in
     rw (l, k) refl
 
+-- at most one status is due for edit
 pub one_edit : (o : PlainOptions) (text second : List ℕ) (a b : Status) (x y : List ℕ) → IsEditDue o text second a x → IsEditDue o text second b y → a ≡ b
 one_edit o text second _ _ _ _ (unread e r) (unread f q) = ap status_of (one_drawing_refusal o text e f r q)
 one_edit o text second _ _ _ _ (unread e r) (too_much d is k n p) = absurd (good_drawing_free o text d is e r)
@@ -119,6 +120,7 @@ script_ends : (c : PlainCommand) → colours c ≡ true → follows c ≡ true �
 script_ends c colouring following s text _ _ (bad_line n b) = (following, refl)
 script_ends c colouring following s text _ _ (applied ls is a x d) = edits_end c colouring following ls s 1 a x d
 
+-- what is due for edit ends the work of a command that colours and follows a script
 pub edit_ends : (c : PlainCommand) → colours c ≡ true → follows c ≡ true → (o : PlainOptions) (text second : List ℕ) → AllEnd c (IsEditDue o text second)
 edit_ends c colouring following o text second _ _ (unread e r) =
     error_ends c (RefusesDrawing o text) (λ p. p) (λ k n p. inl (layer_kind o text k n (inl p))) e r
@@ -128,10 +130,12 @@ edit_ends c colouring following o text second _ _ (begun d is w a x due) = scrip
 
 -- ---- a session
 
+-- after an edit the session has its new boxes and count, and all else as before
 pub of_edited : (old new : State) (boxes : List Placed) (count : ℕ) → IsEdited old new boxes count
     → edits_of new ≡ record { options = old.options; begun = old.begun; keep = old.keep; boxes = boxes; count = count }
 of_edited old new boxes count e = rw (e.options, e.begun, e.keep, e.boxes_are, e.count_is) refl
 
+-- a session that was begun is that of the drawing
 pub of_begun : (o : PlainOptions) (d : Drawing) (s : State) → IsBegun o d s → edits_of s ≡ begun_with o d
 of_begun o d s b = rw (b.options, b.begun, b.keep, b.boxes, b.count) refl
 
@@ -143,6 +147,7 @@ taken_within o prims keep result v is exact k n p = elim (exact (edit.Limit k n)
   | inr a ↦ absurd (cc)
 ]
 
+-- a session that was begun passes no limit
 pub begun_within : {T : Type 0} (o : PlainOptions) (d : Drawing) (result : Result T EditError) (v : T) → result ≡ Ok v
     → ((e : EditError) → Refuses o d.layer.prims d.keep.prims e → (result ≡ Err e) ⊎ (result ≡ Err edit.NoMemory)) → PassesNone (begun_with o d)
 begun_within o d result v is exact =
@@ -150,6 +155,7 @@ begun_within o d result v is exact =
     (subst (λ z. (e : EditError) → Refuses o z d.keep.prims e → (result ≡ Err e) ⊎ (result ≡ Err edit.NoMemory))
     (sym (append-nil d.layer.prims)) exact)
 
+-- a line is taken where its box was added
 pub added_goes_on : {T : Type 0} (s : State) (rect : Rect) (result : Result T EditError) (v : T) → result ≡ Ok v
     → ((e : EditError) → Refuses s.options (content s.begun (s.boxes ++ record { number = s.count; rect = rect } ∷ []))
     s.keep e → (result ≡ Err e) ⊎ (result ≡ Err edit.NoMemory))
@@ -159,6 +165,7 @@ added_goes_on s rect result v is exact = record {
   within = taken_within s.options (content s.begun (s.boxes ++ record { number = s.count; rect = rect } ∷ [])) s.keep result v is exact;
 }
 
+-- the script stops at a line whose box is refused, but for want of memory
 pub add_stops : (s : State) (rect : Rect) (e : EditError) (status : Status) → status ≡ of_edit e
     → (e ≡ edit.NoMemory) ⊎ Refuses s.options (content s.begun (s.boxes ++ record { number = s.count; rect = rect } ∷ [])) s.keep e
     → (n : ℕ) → (status ≡ NoMemory) ⊎ StopsAt (edits_of s) n (Add rect) status []
@@ -174,10 +181,12 @@ removed_within s number result v is there exact k n p = elim (exact (removal.Lim
   | inr a ↦ absurd (cc)
 ]
 
+-- a line is taken where its box was there and was removed
 pub removed_goes_on : {T : Type 0} (s : State) (number : ℕ) (result : Result T RemoveError) (v : T) → result ≡ Ok v → HasBox number s.boxes
     → ((e : RemoveError) → RefusesRemoval s number e → (result ≡ Err e) ⊎ (result ≡ Err removal.NoMemory)) → IsTaken (edits_of s) (Remove number)
 removed_goes_on s number result v is there exact = record { there = λ p. p there; within = removed_within s number result v is there exact }
 
+-- the script stops at a line whose removal is refused, but for want of memory
 pub removal_stops : (s : State) (number n : ℕ) (e : RemoveError) (status : Status) → status ≡ of_removal n e →
     (e ≡ removal.NoMemory) ⊎ RefusesRemoval s number e
     → (status ≡ NoMemory) ⊎ StopsAt (edits_of s) n (Remove number) status []
@@ -194,6 +203,7 @@ removal_stops s number n (removal.Limit k c) status is (inr r) =
 abbrev pub LeadsTo : Edits → List Line → Edits → ℕ → List Line → Type 0
 LeadsTo s ls t n rest = (status : Status) (output : List ℕ) → AreEditsDue t n rest status output → AreEditsDue s 1 ls status output
 
+-- a line that is taken leads one line further
 pub leads_on : (s t u : Edits) (ls rest others : List Line) (n m : ℕ) (line : Line) → LeadsTo s ls t n rest →
     rest ≡ line ∷ others → IsTaken t line → u ≡ edited line t → m ≡ n + 1 → LeadsTo s ls u m others
 leads_on s t u ls rest others n m line lead r g a e status output d =
@@ -202,6 +212,7 @@ leads_on s t u ls rest others n m line lead r g a e status output d =
     (subst (λ z. AreEditsDue u z others status output) e d) in
     lead status output (subst (λ z. AreEditsDue t n z status output) (sym r) (inr (g, here)))
 
+-- the status of the line at which a script stops is due, but for want of memory
 pub leads_stop : (s t : Edits) (ls rest others : List Line) (n : ℕ) (line : Line) (status : Status) → LeadsTo s ls t n rest → rest ≡ line ∷ others
     → (status ≡ NoMemory) ⊎ StopsAt t n line status [] → (status ≡ NoMemory) ⊎ AreEditsDue s 1 ls status []
 leads_stop s t ls rest others n line status lead r (inl m) = inl m
@@ -211,16 +222,19 @@ none_left : (ls : List Line) → length ls ≡ 0 → ls ≡ []
 none_left [] e = refl
 none_left (l ∷ ls) e = absurd (omega (arith, e))
 
+-- after the last line the report of the session is due
 pub leads_end : (s t : Edits) (ls rest : List Line) (n : ℕ) → LeadsTo s ls t n rest → length rest ≡ 0 →
     (output : List ℕ) → Reports t output → AreEditsDue s 1 ls Done output
 leads_end s t ls rest n lead none output p = lead Done output (subst (λ z. AreEditsDue t n z Done output) (sym (none_left rest none)) (refl, p))
 
+-- a line adds one box at most
 pub count_after : (line : Line) (s t : Edits) → t ≡ edited line s → t.count ≤ s.count + 1
 count_after (Add rect) s t e = let a = ap (λ (z : Edits). z.count) e in omega (arith, a)
 count_after (Remove number) s t e = let a = ap (λ (z : Edits). z.count) e in omega (arith, a)
 
 -- ---- what the work answers
 
+-- what was worked for one thing that is due was worked for all that follows from it
 pub worked_as : (Due Other : Status → List ℕ → Type 0) → ((a : Status) (x : List ℕ) → Due a x → Other a x) →
     (a : Status) (x : List ℕ) → IsWorked Due a x → IsWorked Other a x
 worked_as Due Other f Done x p = f Done x p
@@ -270,16 +284,19 @@ too_much_due o text second d (edit.Limit k n) a x is (inr r) e none =
     (inr (too_much d is k n (subst (λ z. PassesLimit o z d.keep.prims k n) (sym (append-nil d.layer.prims)) r))) e
     none
 
+-- where the drawing is refused, that status ends the work
 pub too_much_worked : (o p : PlainOptions) (text second : List ℕ) (d : Drawing) (e : EditError) (a : Status) (x : List ℕ) → p ≡ o → IsDrawingOf o text d
     → (e ≡ edit.NoMemory) ⊎ Refuses p d.layer.prims d.keep.prims e → a ≡ of_edit e → x ≡ [] → IsWorked (IsEditDue o text second) a x
 too_much_worked o p text second d e a x same is h = too_much_due o text second d e a x is
     (subst (λ z. (e ≡ edit.NoMemory) ⊎ Refuses z d.layer.prims d.keep.prims e) same h)
 
+-- where the text is no script, its first bad line ends the work
 pub no_script_worked : {T : Type 0} (s : Edits) (text : List ℕ) (result : Result T ScriptError) (e : ScriptError) (a : Status) (x : List ℕ) → result ≡ Err e
     → ((n : ℕ) → result ≡ Err (script.Bad n) → IsFirstBad text n) → a ≡ of_script e → x ≡ [] → IsWorked (IsScriptDue s text) a x
 no_script_worked s text result (script.Bad n) a x is bad e none = worked_bare_at (IsScriptDue s text) (Script n 1) a x (inr (bad_line n (bad n is))) e none
 no_script_worked s text result script.NoMemory a x is bad e none = worked_bare_at (IsScriptDue s text) NoMemory a x (inl refl) e none
 
+-- what ends the work on the lines of a script ends that on its text
 pub script_worked : (s : Edits) (text : List ℕ) (ls lines : List Line) (a : Status) (x : List ℕ) →
     IsScript text (map plain_line ls) → lines ≡ ls → IsWorked (AreEditsDue s 1 lines) a x →
     IsWorked (IsScriptDue s text) a x
@@ -288,6 +305,7 @@ script_worked s text ls lines a x is same w =
 
 -- ---- options by their values
 
+-- options with the same parts are the same
 pub same_plain : (o : PlainOptions) (layer : List ℕ) (space overlap : ℕ) (weights : PlainWeights)
     (keep : Option (List ℕ)) → layer ≡ o.layer → space ≡ o.space → overlap ≡ o.overlap → weights ≡ o.weights →
     keep ≡ o.keep

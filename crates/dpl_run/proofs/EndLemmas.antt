@@ -35,6 +35,7 @@ Ends c ReadFault x = ⊥
 Ends c WriteFault x = ⊥
 Ends c NoMemory x = ⊥
 
+-- the work ends done, or with a refusal and nothing written
 pub ends_fit : (c : PlainCommand) (a : Status) (x : List ℕ) → Ends c a x → IsFit a x
 ends_fit c Done x e = tt
 ends_fit c (Rejected reason place found wanted) x e = e.1
@@ -59,6 +60,7 @@ error_ends c P some f refusal.NoMemory p = absurd (some p)
 abbrev pub AllEnd : PlainCommand → (Status → List ℕ → Type 0) → Type 0
 AllEnd c Due = (a : Status) (x : List ℕ) → Due a x → Ends c a x
 
+-- what the work gives is due, but for want of memory
 pub worked_free : (c : PlainCommand) (Due : Status → List ℕ → Type 0) → AllEnd c Due → (a : Status) (x : List ℕ) → IsWorked Due a x → IsDueOrFree Due a x
 worked_free c Due all Done x p = p
 worked_free c Due all (Rejected reason place found wanted) x p = p
@@ -70,6 +72,7 @@ worked_free c Due all ReadFault x p = absurd (all ReadFault x p)
 worked_free c Due all WriteFault x p = p
 worked_free c Due all NoMemory x p = p
 
+-- only work that is done has an output
 pub worked_bare : (c : PlainCommand) (Due : Status → List ℕ → Type 0) → AllEnd c Due → (a : Status) (x : List ℕ) → IsWorked Due a x → IsBare a x
 worked_bare c Due all Done x p = tt
 worked_bare c Due all (Rejected reason place found wanted) x p = (all (Rejected reason place found wanted) x p).1
@@ -85,6 +88,7 @@ limit_of_work : (c : PlainCommand) (k : ℕ) → IsWorkLimit c k → IsLimitOf c
 limit_of_work c k (inl p) = inr (inl p)
 limit_of_work c k (inr p) = inr (inr (inl p))
 
+-- the work ends with a status of its command
 pub worked_status : (c : PlainCommand) (Due : Status → List ℕ → Type 0) → AllEnd c Due → (a : Status) (x : List ℕ) → IsWorked Due a x → IsStatusOf (Ok c) a
 worked_status c Due all Done x p = tt
 worked_status c Due all (Rejected reason place found wanted) x p = (all (Rejected reason place found wanted) x p).0
@@ -118,6 +122,7 @@ or_memory Due P (refusal.Limit kind count) f (inl h) = absurd (cc)
 or_memory Due P (refusal.Layout command what) f (inr h) = f (refusal.Layout command what) h
 or_memory Due P (refusal.Limit kind count) f (inr h) = f (refusal.Limit kind count) h
 
+-- an error ends the work where it is want of memory, or where its refusal is due
 pub refused_worked : (Due : Status → List ℕ → Type 0) (P : LayerError → Type 0) (e : LayerError) (s : Status)
     (x : List ℕ) → ((f : LayerError) → P f → Due (status_of f) []) → (e ≡ refusal.NoMemory) ⊎ P e
     → s ≡ status_of e → x ≡ [] → IsWorked Due s x

@@ -44,6 +44,7 @@ written words c text second taken before now result e answer done told =
 
 -- ---- a split
 
+-- where a split is done, every pair of masks costs at least half the written bound and breaks no less of kept edges
 pub writes_least : (words : List (List ℕ)) (left : Option (List ℕ)) (texts : Option Texts) (before now : Option (List ℕ)) (result : Status)
     → ((text second : List ℕ) → AreTold (command_of words) left texts text second → Answers (IsDue words text second) before now result)
     → (o : PlainOptions) (text taken : List ℕ) → AskForSplit (command_of words) o → left ≡ Some text →
@@ -59,6 +60,7 @@ writes_least words left texts before now result answer o text taken (inr e) told
 
 -- ---- an accepted report
 
+-- where a check is done, what was written is a cost and a bound of every pair of masks
 pub writes_bound : (words : List (List ℕ)) (left : Option (List ℕ)) (texts : Option Texts) (before now : Option (List ℕ)) (result : Status)
     → ((text second : List ℕ) → AreTold (command_of words) left texts text second → Answers (IsDue words text second) before now result)
     → (o : PlainOptions) (name text report taken : List ℕ) → command_of words ≡ Ok (check o name) →
@@ -68,6 +70,7 @@ writes_bound words left texts before now result answer o name text report taken 
     let w = written words (check o name) text report taken before now result e (answer text report told) done had in
     accepted_bound o text report taken now Done w.output w.due refl w.is
 
+-- where a check is done, the masks of the report are those of the layer
 pub check_masks : (words : List (List ℕ)) (left : Option (List ℕ)) (texts : Option Texts) (before now : Option (List ℕ)) (result : Status)
     → ((text second : List ℕ) → AreTold (command_of words) left texts text second → Answers (IsDue words text second) before now result)
     → ((o : PlainOptions) (name : List ℕ) → result ≡ Done → command_of words ≡ Ok (check o name) → AreOptions o)

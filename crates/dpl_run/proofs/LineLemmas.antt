@@ -77,6 +77,7 @@ edits_same (l ∷ ls) (m ∷ ms) e =
     let b : ls ≡ ms = edits_same ls ms (tail_same _ _ _ _ e) in
     rw (a, b) refl
 
+-- a text is a script of at most one list of lines
 pub one_script : (text : List ℕ) (ls ms : List Line) → IsScript text (map plain_line ls) → IsScript text (map plain_line ms) → ls ≡ ms
 one_script text ls ms a b = edits_same ls ms (lines_same (map plain_line ls) (map plain_line ms) a.fits b.fits (sym a.is ∙ b.is))
 
@@ -123,6 +124,7 @@ prim_same (Poly ps) (Poly qs) e = ap Poly (places_same ps qs (outline_poly ps qs
 prim_same (Box r) (Poly qs) e = absurd (cc)
 prim_same (Poly ps) (Box q) e = absurd (cc)
 
+-- primitives with the same outlines are the same
 pub prims_same : (xs ys : List Primitive) → map outline_of xs ≡ map outline_of ys → xs ≡ ys
 prims_same [] [] e = refl
 prims_same [] (y ∷ ys) e = absurd (cc)

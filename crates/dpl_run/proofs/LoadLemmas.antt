@@ -21,10 +21,12 @@ use Rattle.dpl_run.specs.Telling.{IsWorked}
 use Rattle.dpl_run.proofs.EndLemmas.{AllEnd, refused_worked}
 use Rattle.dpl_run.proofs.SplitLemmas.{refused_ends}
 
+-- what is due for load ends the work of a command that colours
 pub load_ends : (c : PlainCommand) → colours c ≡ true → (o : PlainOptions) (text : List ℕ) → AllEnd c (IsLoadDue o text)
 load_ends c colouring o text _ _ (refused e r) = refused_ends c colouring o text e r
 load_ends c colouring o text _ _ (done report p free) = tt
 
+-- at most one status is due for load
 pub one_load : (o : PlainOptions) (text : List ℕ) (a b : Status) (x y : List ℕ) → IsLoadDue o text a x → IsLoadDue o text b y → a ≡ b
 one_load o text _ _ _ _ (refused e r) (refused f q) = ap status_of (one_split_refusal o text e f r q)
 one_load o text _ _ _ _ (refused e r) (done report p free) = absurd (free e r)
@@ -40,6 +42,7 @@ load_told o text made r s x m same good free line (inl d) =
     subst (λ z. IsWorked (IsLoadDue z text) s x) same (subst (λ z. IsWorked (IsLoadDue o text) z x) (sym d) (subst (IsLoadDue o text Done) (sym (line d)) due))
 load_told o text made r s x m same good free line (inr d) = subst (λ z. IsWorked (IsLoadDue made_options text) z x) (sym d.0) d.1
 
+-- where the split of the made text is refused, that ends the work, but for want of memory
 pub load_refused : (o : PlainOptions) (text made : List ℕ) (e : LayerError) (s : Status) (x : List ℕ) → made ≡ text →
     o ≡ made_options → (e ≡ refusal.NoMemory) ⊎ RefusesSplit o made e
     → s ≡ status_of e → x ≡ [] → IsWorked (IsLoadDue made_options text) s x

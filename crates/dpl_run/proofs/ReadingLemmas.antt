@@ -129,6 +129,7 @@ stops_at Due before now text kind most WriteFault x w told none f = absurd w
 abbrev StopsLayout : PlainCommand → Seen → Seen → Status → Type 0
 StopsLayout c before now s = (reads_layout c ≡ true) × StopsReading before now 1 16777216 s
 
+-- where a layout stops the reading, its status is due or free
 pub layout_due : (c : PlainCommand) (before now : Seen) (text second : List ℕ) (s t : Status) (x : List ℕ) →
     StopsLayout c before now s → t ≡ s → x ≡ [] → IsLayoutTold (reads_layout c) before.left text
     → IsDueOrFree (IsDueFor c text second) t x
@@ -141,23 +142,28 @@ fault_where : (reads : Bool) (before now : Seen) → reads ≡ true → Rose bef
 fault_where true before now e r = r
 fault_where false before now e r = absurd (cc)
 
+-- a failed read of the layout is its fault
 pub layout_fault : (c : PlainCommand) (before now second second_now : Seen) (s t : Status) →
     StopsLayout c before now s → t ≡ s → t ≡ ReadFault → IsReadFault (Ok c) before now second second_now
 layout_fault c before now second second_now s t w e f =
     inl (fault_where (reads_layout c) before now w.0 (subst (StopsReading before now 1 16777216) (sym e ∙ f) w.1))
 
+-- where limit 1 is passed, one byte more of the layout was read than is taken
 pub layout_limit : (c : PlainCommand) (before now : Seen) (s t : Status) (count : ℕ) → StopsLayout c before now s →
     t ≡ s → t ≡ Limit 1 count → PassesBytes 16777217 count before now
 layout_limit c before now s t count w e f = let p = subst (StopsReading before now 1 16777216) (sym e ∙ f) w.1 in (p.1, p.2)
 
+-- a layout passes no limit of reports
 pub layout_no_limit : (c : PlainCommand) (before now : Seen) (s t : Status) (count : ℕ) (P : Type 0) →
     StopsLayout c before now s → t ≡ s → t ≡ Limit 9 count → P
 layout_no_limit c before now s t count P w e f = let p = subst (StopsReading before now 1 16777216) (sym e ∙ f) w.1 in absurd (omega (arith, p.0))
 
+-- a layout passes no limit of scripts
 pub layout_no_script : (c : PlainCommand) (before now : Seen) (s t : Status) (count : ℕ) (P : Type 0) →
     StopsLayout c before now s → t ≡ s → t ≡ Limit 10 count → P
 layout_no_script c before now s t count P w e f = let p = subst (StopsReading before now 1 16777216) (sym e ∙ f) w.1 in absurd (omega (arith, p.0))
 
+-- a shelf that nobody asks stays as it is
 pub untouched : (o : Option Opened) (before : Seen) → IsSecondTouched o before before
 untouched None before = refl
 untouched (Some opened) before = inl refl
@@ -173,6 +179,7 @@ reading_bare before now kind most (Rejected reason place found wanted) x w none 
 reading_bare before now kind most (Script line k) x w none = none
 reading_bare before now kind most WriteFault x w none = w
 
+-- nothing is written where a layout stops the reading
 pub layout_bare : (c : PlainCommand) (before now : Seen) (s t : Status) (x : List ℕ) → StopsLayout c before now s → t ≡ s → x ≡ [] → IsBare t x
 layout_bare c before now s t x w e none = subst (λ z. IsBare z x) (sym e) (reading_bare before now 1 16777216 s x w.1 none)
 
@@ -187,6 +194,7 @@ reading_status c before now (Rejected reason place found wanted) e w = absurd w
 reading_status c before now (Script line k) e w = absurd w
 reading_status c before now WriteFault e w = tt
 
+-- where a layout stops the reading, the status is one of the command
 pub layout_status : (c : PlainCommand) (before now : Seen) (s t : Status) → StopsLayout c before now s → t ≡ s → IsStatusOf (Ok c) t
 layout_status c before now s t w e = subst (IsStatusOf (Ok c)) (sym e) (reading_status c before now s w.0 w.1)
 
@@ -217,6 +225,7 @@ opening_at c None is before now texts text second s x w short told none = absurd
 opening_at c (Some o) is before now texts text second s x w short told none =
     second_at (IsDueFor c text second) o before now texts second s x w told none (λ long. long_second o is short long)
 
+-- where the second text stops the reading, its status is due or free
 pub second_due : (c : PlainCommand) (layout layout_now before now : Seen) (texts : Option Texts) (bytes text second : List ℕ) (s t : Status) (x : List ℕ)
     → (reads_layout c ≡ true → IsWhole layout layout_now bytes 16777216) → StopsOpening (opens c) before now texts s → t ≡ s → x ≡ []
     → IsLayoutTold (reads_layout c) layout.left text × IsSecondTold (opens c) texts second → IsDueOrFree (IsDueFor c text second) t x
@@ -228,6 +237,7 @@ opening_fault : (o : Option Opened) (before now : Seen) (texts : Option Texts) �
 opening_fault None before now texts w = w
 opening_fault (Some o) before now texts w = w
 
+-- a failed read of the second text is its fault
 pub second_fault : (c : PlainCommand) (layout layout_now before now : Seen) (texts : Option Texts) (s t : Status) →
     StopsOpening (opens c) before now texts s → t ≡ s → t ≡ ReadFault
     → IsReadFault (Ok c) layout layout_now before now
@@ -282,14 +292,17 @@ no_limit_of_bytes : (count : ℕ) (before now : Seen) → PassesOpened 1 count b
 no_limit_of_bytes count before now (inl p) = omega (arith, p.0)
 no_limit_of_bytes count before now (inr p) = omega (arith, p.0)
 
+-- where limit 9 is passed, one byte more of the report was read than is taken
 pub second_limit : (c : PlainCommand) (before now : Seen) (texts : Option Texts) (s t : Status) (count : ℕ) →
     StopsOpening (opens c) before now texts s → t ≡ s → t ≡ Limit 9 count → PassesBytes 268435457 count before now
 second_limit c before now texts s t count w e f = limit_of_report count before now (stopped_limit c before now texts s t 9 count w e f)
 
+-- where limit 10 is passed, one byte more of the script was read than is taken
 pub second_script : (c : PlainCommand) (before now : Seen) (texts : Option Texts) (s t : Status) (count : ℕ) →
     StopsOpening (opens c) before now texts s → t ≡ s → t ≡ Limit 10 count → PassesBytes 65537 count before now
 second_script c before now texts s t count w e f = limit_of_script count before now (stopped_limit c before now texts s t 10 count w e f)
 
+-- a second text passes no limit of layouts
 pub second_no_limit : (c : PlainCommand) (before now : Seen) (texts : Option Texts) (s t : Status) (count : ℕ)
     (P : Type 0) → StopsOpening (opens c) before now texts s → t ≡ s → t ≡ Limit 1 count → P
 second_no_limit c before now texts s t count P w e f = absurd (no_limit_of_bytes count before now (stopped_limit c before now texts s t 1 count w e f))
@@ -307,6 +320,7 @@ opening_bare (Some o) before now texts (Rejected reason place found wanted) x w 
 opening_bare (Some o) before now texts (Script line k) x w none = none
 opening_bare (Some o) before now texts WriteFault x w none = w
 
+-- nothing is written where the second text stops the reading
 pub second_bare : (c : PlainCommand) (before now : Seen) (texts : Option Texts) (s t : Status) (x : List ℕ) →
     StopsOpening (opens c) before now texts s → t ≡ s → x ≡ [] → IsBare t x
 second_bare c before now texts s t x w e none = subst (λ z. IsBare z x) (sym e) (opening_bare (opens c) before now texts s x w none)
@@ -324,12 +338,14 @@ opening_status c (Some o) is before now texts (Rejected reason place found wante
 opening_status c (Some o) is before now texts (Script line k) w = absurd w
 opening_status c (Some o) is before now texts WriteFault w = tt
 
+-- where the second text stops the reading, the status is one of the command
 pub second_status : (c : PlainCommand) (before now : Seen) (texts : Option Texts) (s t : Status) →
     StopsOpening (opens c) before now texts s → t ≡ s → IsStatusOf (Ok c) t
 second_status c before now texts s t w e = subst (IsStatusOf (Ok c)) (sym e) (opening_status c (opens c) refl before now texts s w)
 
 -- ---- names that are asked for
 
+-- what is asked for besides is nothing, or this name once
 pub asked_for : (name : List ℕ) (before now : Seen) (others : List (List ℕ)) → now.asked ≡ before.asked ++ others →
     AsksFor name before now ↔ ((others ≡ []) ⊎ (others ≡ name ∷ []))
 asked_for name before now others e = (there, back) where

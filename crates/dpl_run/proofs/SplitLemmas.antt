@@ -38,10 +38,12 @@ free_of o text result v h exact e r = elim (exact e r) [
   | inr a ↦ absurd (cc)
 ]
 
+-- what is due for split ends the work of a command that colours
 pub split_ends : (c : PlainCommand) → colours c ≡ true → (o : PlainOptions) (text : List ℕ) → AllEnd c (IsSplitDue o text)
 split_ends c colouring o text _ _ (refused e r) = refused_ends c colouring o text e r
 split_ends c colouring o text _ _ (done output p free) = tt
 
+-- at most one status is due for split
 pub one_split : (o : PlainOptions) (text : List ℕ) (a b : Status) (x y : List ℕ) → IsSplitDue o text a x → IsSplitDue o text b y → a ≡ b
 one_split o text _ _ _ _ (refused e r) (refused f q) = ap status_of (one_split_refusal o text e f r q)
 one_split o text _ _ _ _ (refused e r) (done output p free) = absurd (free e r)
@@ -50,6 +52,7 @@ one_split o text _ _ _ _ (done output p free) (done other q also) = refl
 
 -- ---- what a split means for every other pair of masks
 
+-- what a report of the cells says of the least cost holds of every pair of masks
 pub least_of : (o : PlainOptions) (r : PlainReport) (output : List ℕ) → output ≡ report_text r → (cells whole : Cells) →
     IsReportOfCells o r cells whole → IsLeastOfCells o output cells whole
 least_of o r output e cells whole c = record {
@@ -63,6 +66,7 @@ least_of o r output e cells whole c = record {
   plane = c.report.least.all;
 }
 
+-- where split is done, every pair of masks costs at least half its bound and breaks no less of kept edges
 pub split_least : (o : PlainOptions) (text : List ℕ) (a : Status) (x : List ℕ) → IsSplitDue o text a x → a ≡ Done → OnLayer o text (IsLeastOfCells o x)
 split_least o text _ _ (refused e r) d = absurd (refused_not_done e d)
 split_least o text _ _ (done output p free) d = on_layer o text (IsReportOfCells o p.report) (IsLeastOfCells o output)

@@ -45,6 +45,7 @@ some Due sound (Limit kind count) x p n = absurd (n (sound (Limit kind count) x 
 some Due sound (Layout command what) x p n = absurd (n (sound (Layout command what) x p))
 some Due sound (Script line kind) x p n = absurd (n (sound (Script line kind) x p))
 
+-- a status that is due or free, with its output told, answers
 pub told_answers : (Due : Status → List ℕ → Type 0) → IsSound Due → (before now : Option (List ℕ)) (f g : ℕ) (a : Status) (x : List ℕ) (result : Status)
     → IsDueOrFree Due a x → IsTold a x before now f g result → Answers Due before now result
 told_answers Due sound before now f g a x result p (inl w) = subst (Answers Due before now) (sym w.status_is) (whole Due sound before now a x p w.taken)
@@ -52,6 +53,7 @@ told_answers Due sound before now f g a x result p (inr w) =
     subst (Answers Due before now) (sym w.fault) (record
     { output = x; due = some Due sound a x p w.some; taken = w.taken })
 
+-- what is due comes, where no read failed
 pub comes : (Due : Status → List ℕ → Type 0) → IsOnce Due →
     (before now : Option (List ℕ)) (due result : Status) (x : List ℕ) → Answers Due before now result → Due due x →
     result ≢ ReadFault → IsAnswered due result
@@ -67,6 +69,7 @@ comes Due once before now due (Script line kind) x w p n = inl (once _ due w.out
 
 -- ---- for a command
 
+-- the status of an attempt, with its output told, answers the words and the texts
 pub attempt_answers : (words : List (List ℕ)) (command : Result PlainCommand ℕ) (left : Option (List ℕ))
     (texts : Option Texts) (before now : Option (List ℕ)) (f g : ℕ) (a : Status) (x : List ℕ) (result : Status)
     → command_of words ≡ command → ((text report : List ℕ) → AreTold command left texts text report →
@@ -81,6 +84,7 @@ appends_none : (x : Option (List ℕ)) → Appends x x []
 appends_none None = tt
 appends_none (Some xs) = sym (append-nil xs)
 
+-- wrong words are answered by their rule
 pub usage_answers : (words : List (List ℕ)) (kind : ℕ) (now : Option (List ℕ)) (text report : List ℕ) →
     command_of words ≡ Err kind → Answers (IsDue words text report) now now (Usage kind)
 usage_answers words kind now text report e =
@@ -102,16 +106,19 @@ quiet_of (Limit kind count) x before now b a = keeps_none before now (subst (App
 quiet_of (Layout command what) x before now b a = keeps_none before now (subst (Appends before now) b a)
 quiet_of (Script line kind) x before now b a = keeps_none before now (subst (Appends before now) b a)
 
+-- nothing is written but a whole output or a front of one
 pub told_quiet : (a : Status) (x : List ℕ) (before now : Option (List ℕ)) (f g : ℕ) (result : Status) → IsBare a x →
     IsTold a x before now f g result → IsQuiet before now result
 told_quiet a x before now f g result b (inl w) = subst (IsQuiet before now) (sym w.status_is) (quiet_of a x before now b w.taken)
 told_quiet a x before now f g result b (inr w) = subst (IsQuiet before now) (sym w.fault) tt
 
+-- where a write fails the count of faults rises
 pub told_write : (a : Status) (x : List ℕ) (before now : Option (List ℕ)) (f g : ℕ) (result : Status) → IsBare a x →
     IsTold a x before now f g result → result ≡ WriteFault → Rose f g
 told_write a x before now f g result b (inl w) e = absurd (subst (λ z. IsBare z x) (sym w.status_is ∙ e) b)
 told_write a x before now f g result b (inr w) e = w.rose
 
+-- what is due for words and texts comes, where no read failed
 pub all_comes : (words : List (List ℕ)) (left : Option (List ℕ)) (texts : Option Texts) (before now : Option (List ℕ)) (result : Status)
     → ((text report : List ℕ) → AreTold (command_of words) left texts text report → Answers (IsDue words text report) before now result)
     → (text report : List ℕ) → AreTold (command_of words) left texts text report → (due : Status) (output : List ℕ) →
@@ -121,21 +128,25 @@ all_comes words left texts before now result answer text report t due output d n
 
 -- ---- whatever the devices do
 
+-- a status of the command, with its output told, is one of the words
 pub told_status : (words : List (List ℕ)) (c : PlainCommand) (a : Status) (x : List ℕ) (before now : Option (List ℕ))
     (f g : ℕ) (result : Status) → command_of words ≡ Ok c → IsStatusOf (Ok c) a
     → IsTold a x before now f g result → IsStatusOf (command_of words) result
 told_status words c a x before now f g result e s (inl w) = subst (λ z. IsStatusOf z result) (sym e) (subst (IsStatusOf (Ok c)) (sym w.status_is) s)
 told_status words c a x before now f g result e s (inr w) = subst (λ z. IsStatusOf z result) (sym e) (subst (IsStatusOf (Ok c)) (sym w.fault) tt)
 
+-- want of memory is a status of all words
 pub memory_status : (command : Result PlainCommand ℕ) → IsStatusOf command NoMemory
 memory_status (Err kind) = inr refl
 memory_status (Ok c) = tt
 
+-- the rule that words break is a status of them
 pub usage_status : (words : List (List ℕ)) (kind : ℕ) → command_of words ≡ Err kind → IsStatusOf (command_of words) (Usage kind)
 usage_status words kind e = subst (λ z. IsStatusOf z (Usage kind)) (sym e) (inl refl)
 
 -- ---- what a sink took that tells it
 
+-- what was cut short is a front of an output that is due where all is done
 pub cut_front : (Due : Status → List ℕ → Type 0) (taken now : List ℕ) → IsCutShort Due (Some taken) (Some now) →
     (front : List ℕ) × (rest : List ℕ) × Due Done (front ++ rest) × (now ≡ taken ++ front)
 cut_front Due taken now cut =

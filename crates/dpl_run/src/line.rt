@@ -26,6 +26,7 @@ impl Model for Line {
 }
 
 impl Line {
+    /// The empty text.
     pub fn new() -> Line
         ensures { result ≡ [] }
     {
@@ -35,6 +36,7 @@ impl Line {
         }
     }
 
+    /// Puts a piece behind the text. Both together have at most 256 bytes.
     pub fn push(&mut self, piece: &[u8])
         requires { length self.old + length piece.now ≤ 256 }
         ensures { self.new ≡ self.old ++ piece.now }
@@ -44,6 +46,7 @@ impl Line {
         self.count = end;
     }
 
+    /// The text.
     pub fn bytes(&self) -> &[u8]
         ensures { result.now ≡ self.now }
     {

@@ -34,6 +34,7 @@ none_before : (net : Net) → excess net all_edges ≡ 0 → (n : ℕ) → n ≤
 none_before net plane zero h = refl
 none_before net plane (suc n) h = cond-false (is_aside net n) _ _ (ap not (all_kept net plane n (omega arith))) ∙ none_before net plane n (omega arith)
 
+-- nothing is set aside exactly where the whole drawing has no excess
 pub none_aside : (net : Net) → (aside_edges net ≡ [] ↔ excess net all_edges ≡ 0)
 none_aside net =
     let n = length net.graph.edges in (

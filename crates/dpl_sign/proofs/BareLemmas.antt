@@ -20,6 +20,7 @@ use Rattle.dpl_sign.proofs.ComponentLemmas.{start_below, end_below}
 abbrev pub EndsAt : Signed → ℕ → ℕ → Type 0
 EndsAt g e v = ((edge_at g e).a ≡ v) ⊎ ((edge_at g e).b ≡ v)
 
+-- a node at which an edge of the set ends is met
 pub met_from : (g : Signed) (p : ℕ → Bool) (n e v : ℕ) → e < n → p e ≡ true → EndsAt g e v → is_met_below g p n v ≡ true
 met_from g p zero e v h t k = absurd (omega arith)
 met_from g p (suc n) e v h t k = elim (cases_eq e n) [
@@ -32,12 +33,14 @@ met_from g p (suc n) e v h t k = elim (cases_eq e n) [
   | inr r ↦ or_right _ _ (met_from g p n e v (omega arith) t k)
 ]
 
+-- an edge of the set, below n, that ends at the node
 pub record IsMet (g : Signed) (p : ℕ → Bool) (n v : ℕ) : Type 0 where
   pub edge : ℕ
   pub inside : edge < n
   pub chosen : p edge ≡ true
   pub ends : EndsAt g edge v
 
+-- a node that is met has an edge of the set
 pub met_is : (g : Signed) (p : ℕ → Bool) (n v : ℕ) → is_met_below g p n v ≡ true → IsMet g p n v
 met_is g p zero v h = absurd (false≢true h)
 met_is g p (suc n) v h = elim (or_cases _ _ h) [
@@ -61,6 +64,7 @@ pub record HasDart (net : Net) (p : ℕ → Bool) (v : ℕ) : Type 0 where
   pub set : InSet net p dart
   pub tail : tail_of net.graph dart ≡ v
 
+-- a dart of the set leaves each node that is not bare
 pub has_dart : (net : Net) (p : ℕ → Bool) (v : ℕ) → is_bare net.graph p v ≡ false → HasDart net p v
 has_dart net p v h =
     let n = length net.graph.edges in
@@ -118,6 +122,7 @@ bare_elsewhere net p q e v k far =
 neither : (g : Signed) (e v : ℕ) → v ≢ (edge_at g e).a → v ≢ (edge_at g e).b → EndsAt g e v → ⊥
 neither g e v na nb h = elim h [ inl a ↦ na (sym a) | inr b ↦ nb (sym b) ]
 
+-- one edge more between nodes that are not bare leaves as many bare ones
 pub bare_none : (net : Net) (p q : ℕ → Bool) (e : ℕ) → IsOneMore net p q e →
     is_bare net.graph p (edge_at net.graph e).a ≡ false → is_bare net.graph p (edge_at net.graph e).b ≡ false →
     bare_count net.graph q ≡ bare_count net.graph p
@@ -131,6 +136,7 @@ bare_none net p q e k ha hb =
       ]
     ])
 
+-- one edge more takes one bare node where its first end alone was bare
 pub bare_first : (net : Net) (p q : ℕ → Bool) (e : ℕ) → IsOneMore net p q e →
     is_bare net.graph p (edge_at net.graph e).a ≡ true → is_bare net.graph p (edge_at net.graph e).b ≡ false →
     bare_count net.graph p ≡ bare_count net.graph q + 1
@@ -142,6 +148,7 @@ bare_first net p q e k ha hb =
       | inr nb ↦ bare_elsewhere net p q e v k (neither g e v na nb)
     ])
 
+-- one edge more takes one bare node where its second end alone was bare
 pub bare_second : (net : Net) (p q : ℕ → Bool) (e : ℕ) → IsOneMore net p q e →
     is_bare net.graph p (edge_at net.graph e).a ≡ false → is_bare net.graph p (edge_at net.graph e).b ≡ true →
     bare_count net.graph p ≡ bare_count net.graph q + 1
@@ -165,6 +172,7 @@ taken_other : (p : ℕ → Bool) (a v : ℕ) → v ≢ a → taken p a v ≡ p v
 unfolding taken
 taken_other p a v h = cond-false (v == a) false (p v) (ne_eqb v a h)
 
+-- one edge more takes two bare nodes where both its ends were bare
 pub bare_both : (net : Net) (p q : ℕ → Bool) (e : ℕ) → IsOneMore net p q e →
     is_bare net.graph p (edge_at net.graph e).a ≡ true → is_bare net.graph p (edge_at net.graph e).b ≡ true →
     bare_count net.graph p ≡ bare_count net.graph q + 2

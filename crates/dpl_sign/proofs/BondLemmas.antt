@@ -23,6 +23,7 @@ first_more edges n first h next j k d jk kn bond = elim (cases_eq k n) [
   | inr e ↦ first j k d jk (omega arith) bond
 ]
 
+-- the test of nodes and edges tells exactly whether they are those of a graph
 pub graph_test : (nodes : ℕ) (edges : List Edge) (inside first : Bool) → (IsTrue inside ↔ EndsBelow nodes edges) → (IsTrue first ↔ BondsFirst edges) →
     (IsTrue (((nat_lt nodes 2147483648 && nat_lt (length edges) 1073741824) && inside) && first) ↔ IsGraph nodes edges)
 graph_test nodes edges inside first below bonds = (

@@ -21,6 +21,7 @@ use Rattle.dpl_sign.proofs.Insert.{IsOneMore}
 pub end_below : (g : Signed) (e : ℕ) → e < length g.edges → (edge_at g e).b < g.nodes
 end_below g e h = All-get_or (λ x. x.b < g.nodes) g.edges e no_edge h g.inside
 
+-- the first end of an edge is a node
 pub start_below : (g : Signed) (e : ℕ) → e < length g.edges → (edge_at g e).a < g.nodes
 start_below g e h = omega (arith, end_below g e h, (edge_at g e).ordered)
 
@@ -66,6 +67,7 @@ join_first s a b = elim (cases_eq (s a) (s b)) [ inl q ↦ join_hit s a b a q | 
 join_second : (s : ℕ → ℕ) (a b : ℕ) → join s a b b ≡ s a
 join_second s a b = join_hit s a b b refl
 
+-- joining two components keeps together what was together
 pub join_of : (s : ℕ → ℕ) (a b v w : ℕ) → s v ≡ s w → join s a b v ≡ join s a b w
 join_of s a b v w e = elim (cases_eq (s v) (s b)) [
   | inl q ↦ join_hit s a b v q ∙ sym (join_hit s a b w (sym e ∙ q))
@@ -92,13 +94,16 @@ names_joined g p (suc k) j h t = elim (cases_eq j k) [
       ]
 ]
 
+-- the ends of an edge of the set are of one component
 pub component_joined : (g : Signed) (p : ℕ → Bool) (e : ℕ) → e < length g.edges → p e ≡ true →
     component_of g p (edge_at g e).a ≡ component_of g p (edge_at g e).b
 component_joined g p e h t = names_joined g p (length g.edges) e h t
 
+-- components are named by their members
 pub components_are : (g : Signed) (p : ℕ → Bool) → AreNames g.nodes (component_of g p)
 components_are g p = names_are g p (length g.edges) (omega arith)
 
+-- a label that agrees at the ends of each edge of the set is the same throughout a component
 pub component_label : (g : Signed) (p : ℕ → Bool) (label : ℕ → ℕ) →
     ((e : ℕ) → e < length g.edges → p e ≡ true → label (edge_at g e).a ≡ label (edge_at g e).b) → (v : ℕ) →
     label (component_of g p v) ≡ label v
@@ -109,6 +114,7 @@ component_label g p label h v = names_label g p label (length g.edges) h v
 with_more : (net : Net) (p q : ℕ → Bool) (e : ℕ) → IsOneMore net p q e → (j : ℕ) → j < length net.graph.edges → p j ≡ true → q j ≡ true
 with_more net p q e k j h t = elim (cases_eq j e) [ inl r ↦ absurd (both_ways _ k.out (ap p (sym r) ∙ t)) | inr r ↦ sym (k.same j h r) ∙ t ]
 
+-- with one edge more the components are those before, the two of its ends joined
 pub more_alike : (net : Net) (p q : ℕ → Bool) (e : ℕ) → IsOneMore net p q e →
     AreAlike net.graph.nodes (component_of net.graph q)
     (join (component_of net.graph p) (edge_at net.graph e).a (edge_at net.graph e).b)
@@ -133,6 +139,7 @@ more_alike net p q e k =
       ]) v;
     }
 
+-- one edge more between two components leaves one component less
 pub components_join : (net : Net) (p q : ℕ → Bool) (e : ℕ) → IsOneMore net p q e →
     component_of net.graph p (edge_at net.graph e).a ≢ component_of net.graph p (edge_at net.graph e).b →
     component_count net.graph q + 1 ≡ component_count net.graph p
@@ -145,6 +152,7 @@ components_join net p q e k ne =
           (start_below g e k.inside) (end_below g e k.inside) ne,
     )
 
+-- one edge more within a component leaves as many components
 pub components_stay : (net : Net) (p q : ℕ → Bool) (e : ℕ) → IsOneMore net p q e →
     component_of net.graph p (edge_at net.graph e).a ≡ component_of net.graph p (edge_at net.graph e).b →
     component_count net.graph q ≡ component_count net.graph p

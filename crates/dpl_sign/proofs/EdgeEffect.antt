@@ -20,6 +20,7 @@ use Rattle.dpl_sign.proofs.BareLemmas.{has_dart, bare_edges, bare_darts, bare_no
 
 -- ---- the darts of the new edge
 
+-- the two darts of the edge that is new
 pub news : (net : Net) (p q : ℕ → Bool) (e : ℕ) → IsOneMore net p q e → AreNew net p q e (2 * e) (2 * e + 1)
 news net p q e k = record {
   first = record { more = k; inside = omega (arith, k.inside); half = first_half e };
@@ -67,6 +68,7 @@ cycles_split net p = cycles_members (dart_count net) (λ d. p (d / 2)) _ _ (face
 
 -- ---- the cases
 
+-- what one edge more does to faces and components: it joins components, splits a face, or leads between two faces
 pub record Effect (net : Net) (p q : ℕ → Bool) (e : ℕ) : Type 0 where
   pub joins : (AreEndsJoined net p e → ⊥) → (face_count net q + 1 ≡ face_count net p) × (component_count net.graph q + 1 ≡ component_count net.graph p)
   pub splits : AreEndsJoined net p e → LiesInFace net p e → (face_count net q ≡ face_count net p + 1) ×
@@ -83,29 +85,35 @@ apart_effect net p q e k ne faces = record {
   crosses = λ h r. absurd (ne h);
 }
 
+-- where the first end of an edge is bare, the set does not join its ends
 pub first_apart : (net : Net) (p : ℕ → Bool) (e : ℕ) → is_bare net.graph p (edge_at net.graph e).a ≡ true → AreEndsJoined net p e → ⊥
 first_apart net p e bare h =
     let same : (edge_at net.graph e).b ≡ (edge_at net.graph e).a =
     bare_component net.graph p _ _ (λ x l t. (λ r. bare_edges net.graph p _ bare x l t (inl r), λ r. bare_edges net.graph p _ bare x l t (inr r))) (sym h) in
     omega (arith, same, (edge_at net.graph e).ordered)
 
+-- the same where the second end is bare
 pub second_apart : (net : Net) (p : ℕ → Bool) (e : ℕ) → is_bare net.graph p (edge_at net.graph e).b ≡ true → AreEndsJoined net p e → ⊥
 second_apart net p e bare h =
     let same : (edge_at net.graph e).a ≡ (edge_at net.graph e).b =
     bare_component net.graph p _ _ (λ x l t. (λ r. bare_edges net.graph p _ bare x l t (inl r), λ r. bare_edges net.graph p _ bare x l t (inr r))) h in
     omega (arith, same, (edge_at net.graph e).ordered)
 
+-- no dart of the set leaves the first end where it is bare
 pub none_first : (net : Net) (p : ℕ → Bool) (e : ℕ) → is_bare net.graph p (edge_at net.graph e).a ≡ true → NoneAt net p (2 * e)
 none_first net p e bare = λ y h t. bare_darts net p _ bare y h (t ∙ first_tail net.graph e)
 
+-- no dart of the set leaves the second end where it is bare
 pub none_second : (net : Net) (p : ℕ → Bool) (e : ℕ) → is_bare net.graph p (edge_at net.graph e).b ≡ true → NoneAt net p (2 * e + 1)
 none_second net p e bare = λ y h t. bare_darts net p _ bare y h (t ∙ second_tail net.graph e)
 
+-- where the first end is not bare, the new dart there comes after a dart of the set
 pub between_first : (net : Net) (p q : ℕ → Bool) (e : ℕ) → IsOneMore net p q e → is_bare net.graph p (edge_at net.graph e).a ≡ false → IsBetween net p q (2 * e)
 between_first net p q e k h =
     let d = has_dart net p _ h in
     between net p q e (2 * e) d.dart (news net p q e k).first d.set (d.tail ∙ sym (first_tail net.graph e))
 
+-- where the second end is not bare, the new dart there comes after a dart of the set
 pub between_second : (net : Net) (p q : ℕ → Bool) (e : ℕ) → IsOneMore net p q e →
     is_bare net.graph p (edge_at net.graph e).b ≡ false → IsBetween net p q (2 * e + 1)
 between_second net p q e k h =
@@ -117,6 +125,7 @@ pub record AtCorner (net : Net) (p : ℕ → Bool) (c : ℕ) : Type 0 where
   pub inside : next_around net p c < dart_count net
   pub tail : tail_of net.graph (next_around net p c) ≡ tail_of net.graph c
 
+-- the dart of the set that comes next after the new dart leaves the same node
 pub at_corner : (net : Net) (p q : ℕ → Bool) (c : ℕ) → IsBetween net p q c → AtCorner net p c
 at_corner net p q c b =
     let m = next_member net p _ _ b.prev_in b.prev_tail in
@@ -150,6 +159,7 @@ both_used net p q e k ha hb =
       crosses = λ h r. (less r, components_stay net p q e k h);
     }
 
+-- one edge more has that effect
 pub effect : (net : Net) (p q : ℕ → Bool) (e : ℕ) → IsOneMore net p q e → Effect net p q e
 effect net p q e k =
     let n = news net p q e k in
@@ -173,5 +183,6 @@ effect net p q e k =
       ]
     ]
 
+-- one edge more raises the number of edges by 1
 pub edges_more : (net : Net) (p q : ℕ → Bool) (e : ℕ) → IsOneMore net p q e → edge_count net q ≡ edge_count net p + 1
 edges_more net p q e k = count_more (length net.graph.edges) p q e k.inside k.out k.chosen k.same

@@ -25,6 +25,7 @@ edge_facts e = record { ordered = e.ordered; least = e.least; most = e.most }
 edge_parts : Edge → ℕ × ℕ × Kind × ℕ
 edge_parts e = (e.a, e.b, e.kind, e.weight)
 
+-- edges with the same ends, kind and weight are the same
 pub same_edge : (d e : Edge) → d.a ≡ e.a → d.b ≡ e.b → d.kind ≡ e.kind → d.weight ≡ e.weight → d ≡ e
 unfolding make_edge edge_facts edge_parts
 same_edge d e a b k w =
@@ -51,6 +52,7 @@ port_facts p = record { eight = p.eight; no_key = p.no_key; direction = p.direct
 port_parts : Port → ℕ × ℤ × ℕ × ℕ
 port_parts p = (p.side, p.key, p.dx, p.dy)
 
+-- ports with the same side, key and direction are the same
 pub same_port : (p q : Port) → p.side ≡ q.side → p.key ≡ q.key → p.dx ≡ q.dx → p.dy ≡ q.dy → p ≡ q
 unfolding make_port port_facts port_parts
 same_port p q s k x y =

@@ -21,6 +21,7 @@ use Rattle.dpl_sign.proofs.EdgeEffect.{effect, edges_more}
 pub record Balanced (net : Net) (p : ℕ → Bool) (half : ℕ) : Type 0 where
   pub euler : net.graph.nodes + face_count net p + 2 * half ≡ 2 * component_count net.graph p + edge_count net p
 
+-- a balanced set has that excess
 pub excess_is : (net : Net) (p : ℕ → Bool) (half : ℕ) → Balanced net p half → excess net p ≡ 2 * half
 excess_is net p half b = omega (arith, b.euler)
 
@@ -47,6 +48,7 @@ count_none : (p : ℕ → Bool) (n : ℕ) → ((v : ℕ) → p v ≡ false) → 
 count_none p zero h = refl
 count_none p (suc n) h = omega (arith, cond-false {A = ℕ} (p n) 1 0 (h n), count_none p n h)
 
+-- where each number names itself there are as many names as numbers
 pub own_names : (n : ℕ) → name_count (λ v. v) n ≡ n
 own_names zero = refl
 own_names (suc n) = count_in (λ v. v) n refl ∙ ap suc (own_names n)
@@ -80,9 +82,11 @@ balanced_same net p q half h b =
 
 -- ---- one edge more
 
+-- the ends of an edge are of one component, or they are not
 pub same_component : (net : Net) (p : ℕ → Bool) (e : ℕ) → AreEndsJoined net p e ⊎ (AreEndsJoined net p e → ⊥)
 same_component net p e = cases_eq _ _
 
+-- an edge lies in one face, or it does not
 pub one_face : (net : Net) (p : ℕ → Bool) (e : ℕ) → LiesInFace net p e ⊎ (LiesInFace net p e → ⊥)
 one_face net p e = cases_eq _ _
 
@@ -119,6 +123,7 @@ below_more p k e ne = elim (cases_lt e k) [
   | inr h ↦ below_out p k e h ∙ sym (below_out p (suc k) e (omega arith))
 ]
 
+-- the set is balanced, with some half of the excess
 pub record HasBalance (net : Net) (p : ℕ → Bool) : Type 0 where
   pub half : ℕ
   pub balance : Balanced net p half
@@ -154,6 +159,7 @@ balanced_below net p (suc k) h =
       }
     ]
 
+-- each set is balanced
 pub balanced : (net : Net) (p : ℕ → Bool) → HasBalance net p
 balanced net p =
     let all = balanced_below net p (length net.graph.edges) (omega arith) in
@@ -165,16 +171,19 @@ balanced net p =
 
 -- ---- the laws
 
+-- the excess is even
 pub excess_even : (net : Net) (p : ℕ → Bool) → excess net p % 2 ≡ 0
 excess_even net p =
     let b = balanced net p in
     omega (arith, excess_is net p b.half b.balance)
 
+-- the excess is what Euler's formula lacks
 pub excess_euler : (net : Net) (p : ℕ → Bool) → net.graph.nodes + face_count net p + excess net p ≡ 2 * component_count net.graph p + edge_count net p
 excess_euler net p =
     let b = balanced net p in
     omega (arith, b.balance.euler)
 
+-- a set with an edge put in has that edge more
 pub one_more : (net : Net) (p : ℕ → Bool) (e : ℕ) → e < length net.graph.edges → p e ≡ false → IsOneMore net p (with_edge p e) e
 one_more net p e h out = record {
   inside = h;
@@ -183,11 +192,13 @@ one_more net p e h out = record {
   same = λ x l ne. rw (ne_eqb x e ne) refl;
 }
 
+-- one edge more keeps the excess where it joins components or splits a face, and raises it by 2 otherwise
 pub record ExcessEffect (net : Net) (p q : ℕ → Bool) (e : ℕ) : Type 0 where
   pub joins : (AreEndsJoined net p e → ⊥) → excess net q ≡ excess net p
   pub splits : AreEndsJoined net p e → LiesInFace net p e → excess net q ≡ excess net p
   pub crosses : AreEndsJoined net p e → (LiesInFace net p e → ⊥) → excess net q ≡ excess net p + 2
 
+-- one edge more does that to the excess
 pub excess_effect : (net : Net) (p q : ℕ → Bool) (e : ℕ) → IsOneMore net p q e → ExcessEffect net p q e
 excess_effect net p q e k =
     let b = balanced net p in
@@ -201,20 +212,24 @@ excess_effect net p q e k =
 
 -- ---- which edges are set aside
 
+-- an entry at the end of a list changes nothing for the edges before it
 pub in_front : (xs : List Bool) (b : Bool) (x : ℕ) → x ≢ length xs → is_in (xs ++ b ∷ []) x ≡ is_in xs x
 in_front [] b zero ne = absurd (ne refl)
 in_front [] b (suc x) ne = refl
 in_front (y ∷ ys) b zero ne = refl
 in_front (y ∷ ys) b (suc x) ne = in_front ys b x (λ r. ne (ap suc r))
 
+-- an entry at the end tells whether the edge of that number is in
 pub at_end : (xs : List Bool) (b : Bool) → is_in (xs ++ b ∷ []) (length xs) ≡ b
 at_end [] b = refl
 at_end (y ∷ ys) b = at_end ys b
 
+-- the edge behind the last entry is not in
 pub past_end : (xs : List Bool) → is_in xs (length xs) ≡ false
 past_end [] = refl
 past_end (y ∷ ys) = past_end ys
 
+-- to keep the next edge gives the set that edge more
 pub kept_more : (net : Net) (kept : List Bool) → length kept < length net.graph.edges → IsOneMore net (is_in kept) (is_in (kept ++ true ∷ [])) (length kept)
 kept_more net kept h = record {
   inside = h;
@@ -223,11 +238,13 @@ kept_more net kept h = record {
   same = λ x l ne. sym (in_front kept true x ne);
 }
 
+-- the next edge raises the excess where it leads between two faces of one component
 pub raises_from : (net : Net) (kept : List Bool) → length kept < length net.graph.edges →
     AreEndsJoined net (is_in kept) (length kept) → (LiesInFace net (is_in kept) (length kept) → ⊥) →
     raises_excess net kept ≡ true
 raises_from net kept h joined far = lt-ltb _ _ (omega (arith, (excess_effect net _ _ (length kept) (kept_more net kept h)).crosses joined far))
 
+-- an edge that raises the excess has its ends in one component
 pub raises_joined : (net : Net) (kept : List Bool) → length kept < length net.graph.edges →
     raises_excess net kept ≡ true → AreEndsJoined net (is_in kept) (length kept)
 raises_joined net kept h r = elim (same_component net (is_in kept) (length kept)) [
@@ -235,16 +252,19 @@ raises_joined net kept h r = elim (same_component net (is_in kept) (length kept)
   | inr j ↦ absurd (omega (arith, ltb-true _ _ r, (excess_effect net _ _ (length kept) (kept_more net kept h)).joins j))
 ]
 
+-- an edge that raises the excess lies in no face
 pub raises_far : (net : Net) (kept : List Bool) → length kept < length net.graph.edges → raises_excess net kept ≡ true →
     LiesInFace net (is_in kept) (length kept) → ⊥
 raises_far net kept h r f =
     let j = raises_joined net kept h r in
     omega (arith, ltb-true _ _ r, (excess_effect net _ _ (length kept) (kept_more net kept h)).splits j f)
 
+-- what is kept of the edges before e is a list with an entry for each of them
 pub kept_length : (net : Net) (e : ℕ) → length (kept_before net e) ≡ e
 kept_length net zero = refl
 kept_length net (suc e) = omega (arith, length-append (kept_before net e) (not (raises_excess net (kept_before net e)) ∷ []), kept_length net e)
 
+-- what is kept of the first edges is drawn plane
 pub kept_plane : (net : Net) (e : ℕ) → e ≤ length net.graph.edges → excess net (is_in (kept_before net e)) ≡ 0
 kept_plane net zero h = excess_same net (is_in []) none (λ x l. sym (none_is x)) ∙ excess_is net none 0 (none_balanced net)
 kept_plane net (suc e) h =

@@ -51,6 +51,7 @@ one_bare net p q e c d n b none =
     (pair_apart m f0 _ p0 c d n.first.inside n.second.inside (paired_first net p q e c d n) (paired_second net p q e c d n) i k.set.inside ic id) in
     omega (arith, same, merged, paired_count net p q e c d n)
 
+-- the face at a corner is that of the dart that led there
 pub corner_least : (net : Net) (p q : ℕ → Bool) (c i : ℕ) → Corner net p q c i → corner_face net p c ≡ least (next_in_face net p) (dart_count net) i
 corner_least net p q c i k = ap (face_of net p) k.face ∙ least_step (dart_count net) _ _ (face_permutes net p) i k.set.inside
 
@@ -59,6 +60,7 @@ pub record Meets (net : Net) (p q : ℕ → Bool) (c d : ℕ) : Type 0 where
   pub splits : corner_face net p c ≡ corner_face net p d → cycles (next_in_face net q) (dart_count net) + 1 ≡ cycles (next_in_face net p) (dart_count net)
   pub merges : corner_face net p c ≢ corner_face net p d → cycles (next_in_face net q) (dart_count net) + 3 ≡ cycles (next_in_face net p) (dart_count net)
 
+-- how the cycles change where neither end of the new edge was bare
 pub none_bare : (net : Net) (p q : ℕ → Bool) (e c d : ℕ) → AreNew net p q e c d → IsBetween net p q c → IsBetween net p q d → Meets net p q c d
 none_bare net p q e c d n bc bd =
     let m = dart_count net in

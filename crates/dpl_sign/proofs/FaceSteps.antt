@@ -17,6 +17,7 @@ pair_cases z c h = elim (dart_cases z) [
   | inr a ↦ elim (dart_cases c) [ inl b ↦ inr (omega (arith, a.0, b.1, h)) | inr b ↦ inl (omega (arith, a.0, b.0, h)) ]
 ]
 
+-- no dart is its own twin
 pub twin_apart : (c : ℕ) → c ≢ twin_of c
 twin_apart c h = elim (dart_cases c) [ inl a ↦ omega (arith, a.0, a.1, h) | inr a ↦ omega (arith, a.0, a.1, h) ]
 
@@ -31,6 +32,7 @@ pub record AreNew (net : Net) (p q : ℕ → Bool) (e c d : ℕ) : Type 0 where
   pub twin : d ≡ twin_of c
   pub back : c ≡ twin_of d
 
+-- a dart of the set is not one of the new edge
 pub not_new : (net : Net) (p q : ℕ → Bool) (e c z : ℕ) → IsNewDart net p q e c → InSet net p z → z ≢ c
 not_new net p q e c z k h t = both_ways _ k.more.out (ap p (sym k.half ∙ ap (λ x. x / 2) (sym t)) ∙ h.chosen)
 
@@ -49,6 +51,7 @@ next_stays net p q e c d y n h at_c at_d = elim (cases_eq (tail_of net.graph y) 
   ]
 ]
 
+-- a dart whose next one around its far node is as before leads where it led in its face
 pub face_stays : (net : Net) (p q : ℕ → Bool) (e c d z : ℕ) → AreNew net p q e c d → z < dart_count net → z ≢ c → z ≢ d →
     (InSet net p (twin_of z) → next_around net q (twin_of z) ≡ next_around net p (twin_of z)) → next_in_face net q z ≡ next_in_face net p z
 face_stays net p q e c d z n hz zc zd stays =
@@ -61,21 +64,27 @@ face_stays net p q e c d z n hz zc zd stays =
 
 -- ---- the new edge as a face of its own
 
+-- without the new edge its dart leads to itself
 pub fixed : (net : Net) (p q : ℕ → Bool) (e c : ℕ) → IsNewDart net p q e c → next_in_face net p c ≡ c
 fixed net p q e c n = face_out net p c (ap p n.half ∙ n.more.out)
 
+-- the face rule without the edge, with its two darts made one cycle
 abbrev pub paired : Net → (ℕ → Bool) → ℕ → ℕ → ℕ → ℕ
 paired net p c d = exchange (next_in_face net p) c d
 
+-- the two new darts differ
 pub apart : (net : Net) (p q : ℕ → Bool) (e c d : ℕ) → AreNew net p q e c d → c ≢ d
 apart net p q e c d n h = twin_apart c (h ∙ n.twin)
 
+-- the first of the pair leads to the second
 pub paired_first : (net : Net) (p q : ℕ → Bool) (e c d : ℕ) → AreNew net p q e c d → paired net p c d c ≡ d
 paired_first net p q e c d n = exchange_first (next_in_face net p) c d ∙ fixed net p q e d n.second
 
+-- the second of the pair leads to the first
 pub paired_second : (net : Net) (p q : ℕ → Bool) (e c d : ℕ) → AreNew net p q e c d → paired net p c d d ≡ c
 paired_second net p q e c d n = exchange_second (next_in_face net p) c d (λ k. apart net p q e c d n (sym k)) ∙ fixed net p q e c n.first
 
+-- the new darts may be named the other way round
 pub turned_new : (net : Net) (p q : ℕ → Bool) (e c d : ℕ) → AreNew net p q e c d → AreNew net p q e d c
 turned_new net p q e c d n = record { first = n.second; second = n.first; twin = n.back; back = n.twin }
 
@@ -87,12 +96,14 @@ new_face net p q e c d n = face_in net q c (new_dart_set net p q e c n.first).ch
 abbrev pub into : Net → (ℕ → Bool) → ℕ → ℕ
 into net p c = twin_of (prev_around net p c)
 
+-- the corner at which a new dart leaves its node: i led there in its face, and leads to the new dart now
 pub record Corner (net : Net) (p q : ℕ → Bool) (c i : ℕ) : Type 0 where
   pub set : InSet net p i
   pub to_new : next_in_face net q i ≡ c
   pub from_new : next_around net q c ≡ next_in_face net p i
   pub face : next_around net p c ≡ next_in_face net p i
 
+-- where the set has darts at the node, a new dart has a corner
 pub corner : (net : Net) (p q : ℕ → Bool) (e c : ℕ) → IsNewDart net p q e c → IsBetween net p q c → Corner net p q c (into net p c)
 corner net p q e c n b =
     let x = prev_around net p c in
@@ -107,6 +118,7 @@ corner net p q e c n b =
       face = b.corner ∙ sym here;
     }
 
+-- all but the dart into the corner turn around the node as before
 pub stays_between : (net : Net) (p q : ℕ → Bool) (c z : ℕ) → IsBetween net p q c → z ≢ into net p c →
     InSet net p (twin_of z) → tail_of net.graph (twin_of z) ≡ tail_of net.graph c →
     next_around net q (twin_of z) ≡ next_around net p (twin_of z)

@@ -16,15 +16,18 @@ pub record IsOneMore (net : Net) (p q : ℕ → Bool) (e : ℕ) : Type 0 where
   pub chosen : q e ≡ true
   pub same : (x : ℕ) → x < length net.graph.edges → x ≢ e → p x ≡ q x
 
+-- each dart is of an edge of the net
 pub half_below : (net : Net) (d : ℕ) → d < dart_count net → d / 2 < length net.graph.edges
 half_below net d h = omega arith
 
+-- one edge more takes no dart from the set
 pub grown : (net : Net) (p q : ℕ → Bool) (e : ℕ) → IsOneMore net p q e → (d : ℕ) → InSet net p d → InSet net q d
 grown net p q e k d h = elim (cases_eq (d / 2) e) [
   | inl t ↦ absurd (both_ways _ k.out (ap p (sym t) ∙ h.chosen))
   | inr t ↦ record { inside = h.inside; chosen = sym (k.same (d / 2) (half_below net d h.inside) t) ∙ h.chosen }
 ]
 
+-- without the new edge a dart was in the set before
 pub shrunk : (net : Net) (p q : ℕ → Bool) (e : ℕ) → IsOneMore net p q e → (d : ℕ) → InSet net q d → d / 2 ≢ e → InSet net p d
 shrunk net p q e k d h t = record { inside = h.inside; chosen = k.same (d / 2) (half_below net d h.inside) t ∙ h.chosen }
 
@@ -34,6 +37,7 @@ pub record IsNewDart (net : Net) (p q : ℕ → Bool) (e c : ℕ) : Type 0 where
   pub inside : c < dart_count net
   pub half : c / 2 ≡ e
 
+-- a dart of the new edge is in the new set
 pub new_dart_set : (net : Net) (p q : ℕ → Bool) (e c : ℕ) → IsNewDart net p q e c → InSet net q c
 new_dart_set net p q e c k = record { inside = k.inside; chosen = ap q k.half ∙ k.more.chosen }
 
@@ -79,6 +83,7 @@ pub record IsBetween (net : Net) (p q : ℕ → Bool) (c : ℕ) : Type 0 where
   pub corner : next_around net p c ≡ next_around net p (prev_around net p c)
   pub others : (y : ℕ) → InSet net p y → tail_of net.graph y ≡ tail_of net.graph c → y ≢ prev_around net p c → next_around net q y ≡ next_around net p y
 
+-- where a dart of the set leaves the node of a new dart, that comes after one of them
 pub between : (net : Net) (p q : ℕ → Bool) (e c k : ℕ) → IsNewDart net p q e c → InSet net p k → tail_of net.graph k ≡ tail_of net.graph c → IsBetween net p q c
 between net p q e c k n hk tk =
     let u = tail_of net.graph c in

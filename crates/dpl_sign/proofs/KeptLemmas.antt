@@ -6,6 +6,7 @@ use Rattle.dpl_sign.specs.Drawings.{is_in}
 use Rattle.dpl_sign.specs.Excess.{raises_excess, kept_before}
 use Rattle.dpl_sign.proofs.ExcessLemmas.{kept_length, in_front, at_end}
 
+-- an edge is kept exactly where it does not raise the excess of what is kept before it
 pub kept_at : (net : Net) (n e : ℕ) → e < n → is_in (kept_before net n) e ≡ not (raises_excess net (kept_before net e))
 kept_at net zero e h = absurd (omega arith)
 kept_at net (suc n) e h =

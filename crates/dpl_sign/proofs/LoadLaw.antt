@@ -28,6 +28,7 @@ walk_load h (x ∷ es) e =
           rw none (omega (arith, l, rest, at_other x h e t))
     ]
 
+-- the load of an edge is the sum of half weights, each as often as its walk passes the edge
 pub loads_counted : (cs : List Cycle) (e : ℕ) → load (passages cs) e ≡ sum_by (λ c. c.half * count_by (λ x. x == e) c.walk.edges) cs
 loads_counted [] e = refl
 loads_counted (c ∷ cs) e =

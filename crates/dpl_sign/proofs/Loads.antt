@@ -14,22 +14,27 @@ abbrev pub sum_to : (ℕ → ℕ) → ℕ → ℕ
 sum_to f zero = 0
 sum_to f (suc n) = f n + sum_to f n
 
+-- a sum of parts that are no greater is no greater
 pub sum_to_le : (f g : ℕ → ℕ) (n : ℕ) → ((k : ℕ) → k < n → f k ≤ g k) → sum_to f n ≤ sum_to g n
 sum_to_le f g zero h = omega arith
 sum_to_le f g (suc n) h = omega (arith, h n (omega arith), sum_to_le f g n (λ k l. h k (omega arith)))
 
+-- sums of the same parts are the same
 pub sum_to_same : (f g : ℕ → ℕ) (n : ℕ) → ((k : ℕ) → k < n → f k ≡ g k) → sum_to f n ≡ sum_to g n
 sum_to_same f g zero h = refl
 sum_to_same f g (suc n) h = omega (arith, h n (omega arith), sum_to_same f g n (λ k l. h k (omega arith)))
 
+-- a sum of sums is the sum of both
 pub sum_to_two : (f g : ℕ → ℕ) (n : ℕ) → sum_to (λ k. f k + g k) n ≡ sum_to f n + sum_to g n
 sum_to_two f g zero = refl
 sum_to_two f g (suc n) = omega (arith, sum_to_two f g n)
 
+-- a sum of nothings is nothing
 pub sum_to_zero : (n : ℕ) → sum_to (λ k. 0) n ≡ 0
 sum_to_zero zero = refl
 sum_to_zero (suc n) = omega (arith, sum_to_zero n)
 
+-- a sum of doubles is the double of the sum
 pub sum_to_twice : (f : ℕ → ℕ) (n : ℕ) → sum_to (λ k. 2 * f k) n ≡ 2 * sum_to f n
 sum_to_twice f zero = refl
 sum_to_twice f (suc n) = omega (arith, sum_to_twice f n)
@@ -42,6 +47,7 @@ sum_by_front f xs d (suc n) h =
     let one : n + 1 ≡ suc n = omega arith in
     omega (arith, ap (λ k. sum_by f (take k xs)) one, more, sum_by_front f xs d n (omega arith))
 
+-- a sum over a list is that over its places
 pub sum_by_places : {X : Type 0} (f : X → ℕ) (xs : List X) (d : X) → sum_by f xs ≡ sum_to (λ k. f (get_or xs k d)) (length xs)
 sum_by_places f xs d = ap (sum_by f) (sym (take_all (length xs) xs (omega arith))) ∙ sum_by_front f xs d (length xs) (omega arith)
 
@@ -49,10 +55,12 @@ sum_by_places f xs d = ap (sum_by f) (sym (take_all (length xs) xs (omega arith)
 pub at : ℕ → ℕ → ℕ → ℕ
 at x h e = cond (x == e) h 0
 
+-- at its own place the value counts
 pub at_same : (x h e : ℕ) → x ≡ e → at x h e ≡ h
 unfolding at
 at_same x h e k = rw (eq-eqb x e k, at)
 
+-- at another place nothing counts
 pub at_other : (x h e : ℕ) → x ≢ e → at x h e ≡ 0
 unfolding at
 at_other x h e k = rw (ne_eqb x e k, at)
@@ -78,6 +86,7 @@ sum_at v x h (suc n) k = elim (cases_eq x n) [
       omega (arith, here, sum_at v x h n (omega arith))
 ]
 
+-- a passage in front adds its half weight to the load of its edge
 pub load_cons : (p : ℕ × ℕ) (ps : List (ℕ × ℕ)) (e : ℕ) → load (p ∷ ps) e ≡ at p.0 p.1 e + load ps e
 unfolding at
 load_cons p ps e = sum_by-cons (λ q. cond (q.0 == e) q.1 0) p ps
@@ -86,10 +95,12 @@ load_cons p ps e = sum_by-cons (λ q. cond (q.0 == e) q.1 0) p ps
 pub passed : (ℕ → Bool) → List (ℕ × ℕ) → ℕ
 passed v ps = sum_by (λ p. cond (v p.0) p.1 0) ps
 
+-- a passage in front adds its half weight where its edge is chosen
 pub passed_cons : (v : ℕ → Bool) (p : ℕ × ℕ) (ps : List (ℕ × ℕ)) → passed v (p ∷ ps) ≡ cond (v p.0) p.1 0 + passed v ps
 unfolding passed
 passed_cons v p ps = sum_by-cons (λ q. cond (v q.0) q.1 0) p ps
 
+-- the chosen passages of two lists add up
 pub passed_append : (v : ℕ → Bool) (ps qs : List (ℕ × ℕ)) → passed v (ps ++ qs) ≡ passed v ps + passed v qs
 unfolding passed
 passed_append v ps qs = sum_by-append (λ q. cond (v q.0) q.1 0) ps qs
@@ -134,9 +145,11 @@ bound_passed v (c ∷ cs) h =
     let one : c.half ≤ passed v (passages_of c) = passed_one v c.half c.walk.edges (All-head (λ x. 1 ≤ count_by v x.walk.edges) c cs h) in
     omega (arith, b, p, one, bound_passed v cs (All-tail (λ x. 1 ≤ count_by v x.walk.edges) c cs h))
 
+-- a passage at the end adds its half weight to the load of its edge
 pub load_push : (ps : List (ℕ × ℕ)) (x h e : ℕ) → load (ps ++ (x, h) ∷ []) e ≡ load ps e + at x h e
 unfolding at
 load_push ps x h e = sum_by_push (λ q. cond (q.0 == e) q.1 0) ps (x, h)
 
+-- the loads of two lists of passages add up
 pub load_append : (ps qs : List (ℕ × ℕ)) (e : ℕ) → load (ps ++ qs) e ≡ load ps e + load qs e
 load_append ps qs e = sum_by-append (λ q. cond (q.0 == e) q.1 0) ps qs

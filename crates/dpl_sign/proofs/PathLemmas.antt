@@ -26,6 +26,7 @@ path_join : (g : Signed) (es fs : List ℕ) (u v w : ℕ) → IsPath g u es v �
 path_join g [] fs u v w p q = rw p q
 path_join g (e ∷ es) fs u v w p q = (p.0, path_join g es fs (across (edge_at g e) u) v w p.1 q)
 
+-- a path goes on over an edge that leaves its last node
 pub path_more : (g : Signed) (v : ℕ) (es : List ℕ) (u e : ℕ) → IsPath g v es u → leaves g e u ≡ true → IsPath g v (es ++ e ∷ []) (across (edge_at g e) u)
 path_more g v [] u e p h =
     let P : ℕ → Type 0 = λ z. leaves g e z ≡ true in
@@ -110,6 +111,7 @@ path_joins : (g : Signed) (p : ℕ → Bool) (es : List ℕ) (u v : ℕ) → IsP
 path_joins g p [] u v h all = ap (component_of g p) h
 path_joins g p (e ∷ es) u v h all = step_joins g p e u h.0 all.0 ∙ path_joins g p es (across (edge_at g e) u) v h.1 all.1
 
+-- two nodes are of one component exactly where edges of the set lead from one to the other
 pub component_is : (g : Signed) (p : ℕ → Bool) (u v : ℕ) → (component_of g p u ≡ component_of g p v ↔ AreJoined g p u v)
 component_is g p u v = (
   λ e.

@@ -108,6 +108,7 @@ parts_are x y = then_same (nat_cmp x.0.side y.0.side) _ _ (λ o.
     let sides : x.0.side ≡ y.0.side = ranked _ _ Equal (sym o) in
     ap (λ s. ordering_then (int_cmp x.0.key y.0.key) (ordering_then s (nat_cmp x.1 y.1))) (slope_at x.0 y.0 _ _ sides))
 
+-- ports with the numbers of their edges are in a total order
 pub port_total : IsTotalOrder (λ (x : Place) (y : Place). port_cmp x.0 x.1 y.0 y.1)
 port_total = record {
   antisymm = λ x y. sym (parts_are x y) ∙ parts_total.antisymm x y ∙ ap ordering_reverse (parts_are y x);
@@ -115,11 +116,13 @@ port_total = record {
   congr = λ x y z h. sym (parts_are x z) ∙ parts_total.congr x y z (parts_are x y ∙ h) ∙ parts_are y z;
 }
 
+-- no port stands before itself
 pub not_itself : (p : Port) (e : ℕ) → StandsBefore p e p e → ⊥
 not_itself p e h =
     let k : port_cmp p e p e ≡ Equal = tied_itself port_total (p, e) in
     cc
 
+-- what stands before an earlier port stands before the later one
 pub before_trans : (p q r : Port) (e f g : ℕ) → StandsBefore p e q f → StandsBefore q f r g → StandsBefore p e r g
 before_trans p q r e f g h k = port_total.trans (p, e) (q, f) (r, g) h k
 
@@ -136,5 +139,6 @@ total_by p q e f ne Less h = inl h
 total_by p q e f ne Equal h = absurd (ne (tie_is_one p q e f h))
 total_by p q e f ne Greater h = inr (port_total.antisymm (q, f) (p, e) ∙ ap ordering_reverse h)
 
+-- of two edges at one node one stands before the other
 pub before_total : (p q : Port) (e f : ℕ) → e ≢ f → StandsBefore p e q f ⊎ StandsBefore q f p e
 before_total p q e f ne = total_by p q e f ne (port_cmp p e q f) refl

@@ -20,17 +20,21 @@ pub record InSet (net : Net) (set : ℕ → Bool) (d : ℕ) : Type 0 where
 abbrev pub around : Net → (ℕ → Bool) → ℕ → List ℕ
 around net set v = members (is_near net set v) (dart_count net)
 
+-- a dart of the set that leaves the node is among those around it
 pub around_from : (net : Net) (set : ℕ → Bool) (v d : ℕ) → InSet net set d → tail_of net.graph d ≡ v → Mem d (around net set v)
 around_from net set v d h t = member_from (is_near net set v) (dart_count net) d h.inside (and_from _ _ h.chosen (eq-eqb (tail_of net.graph d) v t))
 
+-- what is around a node is in the set
 pub around_set : (net : Net) (set : ℕ → Bool) (v d : ℕ) → Mem d (around net set v) → InSet net set d
 around_set net set v d h =
     let k = member_is (is_near net set v) (dart_count net) d h in
     record { inside = k.0; chosen = (and_parts _ _ k.1).0 }
 
+-- what is around a node leaves it
 pub around_tail : (net : Net) (set : ℕ → Bool) (v d : ℕ) → Mem d (around net set v) → tail_of net.graph d ≡ v
 around_tail net set v d h = eqb-true (tail_of net.graph d) v (and_parts _ _ (member_is (is_near net set v) (dart_count net) d h).1).1
 
+-- the darts around a node stand on a circle by their ranks
 pub on_circle : (net : Net) (set : ℕ → Bool) (v : ℕ) → OnCircle (rank_end net v) (rank_of net v) (around net set v)
 on_circle net set v =
     let r = ranked net v in
@@ -54,14 +58,17 @@ on_circle_more net set v c hc tc =
       apart = λ k l h i e. r.apart k l (inside k h).0 (inside l i).0 (inside k h).1 (inside l i).1 e;
     }
 
+-- the next dart around a node is the next one on its circle
 pub next_is : (net : Net) (set : ℕ → Bool) (v d : ℕ) → d < dart_count net → tail_of net.graph d ≡ v →
     next_around net set d ≡ next (rank_end net v) (rank_of net v) d (around net set v)
 next_is net set v d h t = (next_near net set v (rank_end net v) (rank_of net v) (ranked net v) d
     (record { inside = h; tail = t }) (length net.graph.edges) (omega arith)).0
 
+-- an equal dart is in the set too
 pub in_set_at : (net : Net) (set : ℕ → Bool) (d c : ℕ) → c ≡ d → InSet net set c → InSet net set d
 in_set_at net set d c e h = let P : ℕ → Type 0 = λ x. InSet net set x in subst P e h
 
+-- an equal dart is among them too
 pub mem_at : (x y : ℕ) (ds : List ℕ) → x ≡ y → Mem y ds → Mem x ds
 mem_at x y ds e h = let P : ℕ → Type 0 = λ z. Mem z ds in subst P (sym e) h
 
@@ -74,17 +81,20 @@ next_member net set v d h t = mem_at _ _ (around net set v) (next_is net set v d
 pub prev_around : Net → (ℕ → Bool) → ℕ → ℕ
 prev_around net set d = let v = tail_of net.graph d in before (rank_end net v) (rank_of net v) d (around net set v)
 
+-- the dart before around a node is the one before on its circle
 pub prev_is : (net : Net) (set : ℕ → Bool) (v d : ℕ) → tail_of net.graph d ≡ v →
     prev_around net set d ≡ before (rank_end net v) (rank_of net v) d (around net set v)
 unfolding prev_around
 prev_is net set v d t = ap (λ w. before (rank_end net w) (rank_of net w) d (around net set w)) t
 
+-- the dart before is around the same node
 pub prev_member : (net : Net) (set : ℕ → Bool) (v d : ℕ) → InSet net set d → tail_of net.graph d ≡ v → Mem (prev_around net set d) (around net set v)
 prev_member net set v d h t = mem_at _ _ (around net set v) (prev_is net set v d t) (elim (before_in (rank_end net v) (rank_of net v) d (around net set v)) [
   | inl e ↦ mem_at _ d (around net set v) e (around_from net set v d h t)
   | inr m ↦ m
 ])
 
+-- the dart before the next one is the dart itself
 pub prev_next : (net : Net) (set : ℕ → Bool) (d : ℕ) → InSet net set d → prev_around net set (next_around net set d) ≡ d
 prev_next net set d h =
     let v = tail_of net.graph d in
@@ -98,6 +108,7 @@ prev_next net set d h =
     let e : prev_around net set n ≡ before m r (next m r d cs) cs = prev_is net set v n (around_tail net set v n hn) ∙ ap (λ x. before m r x cs) same in
     e ∙ before_next m r cs (on_circle net set v) d (around_from net set v d h refl) (mem_at _ _ cs (sym same) hn) (mem_at _ _ cs (sym e) hp)
 
+-- the dart next to the one before is the dart itself
 pub next_prev : (net : Net) (set : ℕ → Bool) (d : ℕ) → InSet net set d → next_around net set (prev_around net set d) ≡ d
 next_prev net set d h =
     let v = tail_of net.graph d in
@@ -115,15 +126,19 @@ next_prev net set d h =
 
 -- ---- along the faces
 
+-- the twin of a dart of the set is in the set
 pub twin_set : (net : Net) (set : ℕ → Bool) (d : ℕ) → InSet net set d → InSet net set (twin_of d)
 twin_set net set d h = record { inside = twin_below d (length net.graph.edges) h.inside; chosen = ap set (twin_half d) ∙ h.chosen }
 
+-- a dart of the set leads in its face to the one next around its far node
 pub face_in : (net : Net) (set : ℕ → Bool) (d : ℕ) → set (d / 2) ≡ true → next_in_face net set d ≡ next_around net set (twin_of d)
 face_in net set d h = cond-true (set (d / 2)) _ d h
 
+-- a dart outside of the set leads to itself
 pub face_out : (net : Net) (set : ℕ → Bool) (d : ℕ) → set (d / 2) ≡ false → next_in_face net set d ≡ d
 face_out net set d h = cond-false (set (d / 2)) (next_around net set (twin_of d)) d h
 
+-- in a face the darts of the set lead to such darts
 pub face_set : (net : Net) (set : ℕ → Bool) (d : ℕ) → InSet net set d → InSet net set (next_in_face net set d)
 face_set net set d h =
     let t = twin_set net set d h in
@@ -134,6 +149,7 @@ pub face_tail : (net : Net) (set : ℕ → Bool) (d : ℕ) → InSet net set d �
 face_tail net set d h = ap (tail_of net.graph) (face_in net set d h.chosen) ∙
     around_tail net set _ _ (next_member net set _ (twin_of d) (twin_set net set d h) refl)
 
+-- the dart that leads to this one in its face
 pub face_back : Net → (ℕ → Bool) → ℕ → ℕ
 face_back net set d = cond (set (d / 2)) (twin_of (prev_around net set d)) d
 
@@ -151,6 +167,7 @@ prev_set net set d h = around_set net set _ _ (prev_member net set _ d h refl)
 back_set : (net : Net) (set : ℕ → Bool) (d : ℕ) → InSet net set d → InSet net set (face_back net set d)
 back_set net set d h = in_set_at net set _ _ (sym (back_in net set d h.chosen)) (twin_set net set _ (prev_set net set d h))
 
+-- the face rule permutes the darts
 pub face_permutes : (net : Net) (set : ℕ → Bool) → Permutes (dart_count net) (next_in_face net set) (face_back net set)
 face_permutes net set = record {
   to = λ d h. elim (cases_Bool (set (d / 2))) [

@@ -32,6 +32,7 @@ none_before net set v d x k l =
     (record { inside = l.inside; tail = l.tail }) (record
     { inside = (around_set net set v c hc).inside; tail = around_tail net set v c hc }) ∙ le-ltb _ _ near
 
+-- around a node each dart of a set leads to the one whose port comes next
 pub comes_next : (net : Net) (set : ℕ → Bool) (v d : ℕ) → Leaves net set v d → ComesNext net set v d (next_around net set d)
 comes_next net set v d k =
     let c = next_around net set d in

@@ -13,6 +13,7 @@ use Rattle.dpl_sign.specs.Components.{names_below, component_count}
 use Rattle.dpl_sign.specs.Excess.{edge_count, excess}
 use Rattle.dpl_sign.proofs.Unfold.{next_in, next_out, names_in, names_out}
 
+-- sets that agree below k have the same next darts by the edges below k
 pub next_same : (net : Net) (p q : ℕ → Bool) (k d : ℕ) → ((e : ℕ) → e < k → p e ≡ q e) → next_below net p k d ≡ next_below net q k d
 next_same net p q zero d h = refl
 next_same net p q (suc k) d h =
@@ -23,6 +24,7 @@ next_same net p q (suc k) d h =
       | inr t ↦ next_out net p k d t ∙ rest ∙ sym (next_out net q k d (sym (h k (omega arith)) ∙ t))
     ]
 
+-- sets that agree below k have the same components by the edges below k
 pub names_same : (g : Signed) (p q : ℕ → Bool) (k v : ℕ) → ((e : ℕ) → e < k → p e ≡ q e) → names_below g p k v ≡ names_below g q k v
 names_same g p q zero v h = refl
 names_same g p q (suc k) v h =
@@ -33,10 +35,12 @@ names_same g p q (suc k) v h =
       | inr t ↦ names_out g p k v t ∙ rest v ∙ sym (names_out g q k v (sym (h k (omega arith)) ∙ t))
     ]
 
+-- sets that agree below k meet the same nodes by the edges below k
 pub met_same : (g : Signed) (p q : ℕ → Bool) (k v : ℕ) → ((e : ℕ) → e < k → p e ≡ q e) → is_met_below g p k v ≡ is_met_below g q k v
 met_same g p q zero v h = refl
 met_same g p q (suc k) v h = rw (h k (omega arith), met_same g p q k v (λ e l. h e (omega arith))) refl
 
+-- sets that agree on the edges of a net have as many faces
 pub faces_same : (net : Net) (p q : ℕ → Bool) → ((e : ℕ) → e < length net.graph.edges → p e ≡ q e) → face_count net p ≡ face_count net q
 faces_same net p q h =
     let n = dart_count net in
@@ -50,6 +54,7 @@ faces_same net p q h =
     count_on_same net.graph.nodes _ _ (λ v l. ap not (met_same net.graph p q (length net.graph.edges) v h)) in
     omega (arith, cycles, bare)
 
+-- sets that agree on the edges of a net have the same excess
 pub excess_same : (net : Net) (p q : ℕ → Bool) → ((e : ℕ) → e < length net.graph.edges → p e ≡ q e) → excess net p ≡ excess net q
 excess_same net p q h =
     let faces : face_count net p ≡ face_count net q = faces_same net p q h in

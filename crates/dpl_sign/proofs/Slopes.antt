@@ -9,6 +9,7 @@ factor_left a b h = grind arith
 factor_right : (a b : ℕ) → 0 < a * b → 0 < b
 factor_right a b h = grind arith
 
+-- a fraction less than one that is less than a third is less than the third
 pub cross_trans : (a1 a2 b1 b2 c1 c2 : ℕ) → a1 * b2 < b1 * a2 → b1 * c2 < c1 * b2 → a1 * c2 < c1 * a2
 cross_trans a1 a2 b1 b2 c1 c2 h k =
     let pa : 0 < a2 = factor_right b1 a2 (omega arith) in

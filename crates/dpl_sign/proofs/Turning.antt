@@ -27,9 +27,11 @@ pub record IsRanked (net : Net) (v m : ℕ) (r : ℕ → ℕ) : Type 0 where
 abbrev pub darts_of : Net → ℕ → List ℕ
 darts_of net v = members (λ d. tail_of net.graph d == v) (dart_count net)
 
+-- the place of a dart among those that leave the node, in the order of their ports
 abbrev pub rank_of : Net → ℕ → ℕ → ℕ
 rank_of net v d = rank (is_before net) (darts_of net v) d
 
+-- one more than the number of darts that leave the node
 abbrev pub rank_end : Net → ℕ → ℕ
 rank_end net v = suc (length (darts_of net v))
 
@@ -58,6 +60,7 @@ strict net v =
           ];
     }
 
+-- these places are in the order of the ports
 pub ranked : (net : Net) (v : ℕ) → IsRanked net v (rank_end net v) (rank_of net v)
 ranked net v =
     let inside : (d : ℕ) → d < dart_count net → tail_of net.graph d ≡ v → Mem d (darts_of net v) = λ d h t.
@@ -91,6 +94,7 @@ pub record IsAt (net : Net) (v d : ℕ) : Type 0 where
   pub inside : d < dart_count net
   pub tail : tail_of net.graph d ≡ v
 
+-- a dart is met before another exactly where the turn to it is less
 pub met_turn : (net : Net) (v m : ℕ) (r : ℕ → ℕ) → IsRanked net v m r → (d c e : ℕ) → IsAt net v d → IsAt net v c →
     IsAt net v e → is_met_before net d c e ≡ nat_lt (turn m r d c) (turn m r d e)
 met_turn net v m r k d c e hd hc he =

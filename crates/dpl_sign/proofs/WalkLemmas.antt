@@ -41,12 +41,15 @@ pub record Leaves (g : Signed) (e v : ℕ) : Type 0 where
   pub inside : e < length g.edges
   pub ends : (((edge_at g e).a ≡ v) × (across (edge_at g e) v ≡ (edge_at g e).b)) ⊎ (((edge_at g e).b ≡ v) × (across (edge_at g e) v ≡ (edge_at g e).a))
 
+-- an edge leads from its first end to its second
 pub across_first : (e : Edge) (v : ℕ) → e.a ≡ v → across e v ≡ e.b
 across_first e v h = rw (eq-eqb e.a v h, across)
 
+-- an edge leads from its second end to its first
 pub across_second : (e : Edge) (v : ℕ) → e.a ≢ v → across e v ≡ e.a
 across_second e v h = rw (ne_eqb e.a v h, across)
 
+-- an edge that leaves a node is one of the graph that ends there
 pub leaves_ends : (g : Signed) (e v : ℕ) → leaves g e v ≡ true → Leaves g e v
 leaves_ends g e v h =
     let parts = and_parts _ _ h in
@@ -80,6 +83,7 @@ step_parity g colours k e v h =
       | inr t ↦ omega (arith, p, ap (λ z. bit (col z)) t.0, ap (λ z. bit (col z)) t.1)
     ]
 
+-- the colours at the ends of a path, its broken edges and its clashes make an even number
 pub path_parity : (g : Signed) (colours : List Bool) → IsColouring g colours → (v : ℕ) (es : List ℕ) (w : ℕ) → IsPath g v es w →
     (bit (colour_of colours v) + bit (colour_of colours w) + count_by (breaks_at g colours) es + clashes g es) % 2 ≡ 0
 path_parity g colours k v [] w h = omega (arith, ap (λ z. bit (colour_of colours z)) h)
@@ -95,10 +99,12 @@ path_parity g colours k v (e ∷ es) w h =
 pub odd_broken : (g : Signed) (colours : List Bool) → IsColouring g colours → (c : Cycle) → IsOddWalk g c.walk → 1 ≤ count_by (breaks_at g colours) c.walk.edges
 odd_broken g colours k c h = omega (arith, path_parity g colours k c.walk.start c.walk.edges c.walk.start h.closed.1, h.odd)
 
+-- a path passes edges of the graph alone
 pub path_inside : (g : Signed) (v : ℕ) (es : List ℕ) (w : ℕ) → IsPath g v es w → All (λ e. e < length g.edges) es
 path_inside g v [] w h = All-nil (λ e. e < length g.edges)
 path_inside g v (e ∷ es) w h = All-cons (λ x. x < length g.edges) e es (leaves_ends g e v h.0).inside (path_inside g (across (edge_at g e) v) es w h.1)
 
+-- odd walks pass edges of the graph alone
 pub passages_inside : (g : Signed) (cs : List Cycle) → All (λ c. IsOddWalk g c.walk) cs → All (λ p. p.0 < length g.edges) (passages cs)
 passages_inside g [] h = All-nil (λ p. p.0 < length g.edges)
 passages_inside g (c ∷ cs) h =
@@ -127,22 +133,26 @@ bound_by_edges g v one firm cs odd within =
     ]) in
     omega (arith, passing, by_edge, most, sum_to_twice (λ e. cond (v e) (edge_at g e).weight 0) n)
 
+-- what is broken is no bond
 pub broken_no_bond : (k : Kind) (x y : Bool) → is_broken k x y ≡ true → is_bond k ≡ false
 broken_no_bond Bond x y h = absurd (false≢true h)
 broken_no_bond Stitch x y h = refl
 broken_no_bond Clash x y h = refl
 
+-- a packing bounds the cost of every colouring
 pub packing_bounds : (g : Signed) (cs : List Cycle) (colours : List Bool) → IsPacking g cs → IsColouring g colours → bound_of cs ≤ 2 * cost_of g colours
 packing_bounds g cs colours p k =
     let b = bound_by_edges g (breaks_at g colours) (odd_broken g colours k) (λ e h. broken_no_bond _ _ _ h) cs p.odd p.within in
     let c : cost_of g colours ≡ sum_to (λ e. broken_weight colours (edge_at g e)) (length g.edges) = sum_by_places (broken_weight colours) g.edges no_edge in
     omega (arith, b, c)
 
+-- no kind of edge may weigh more than 1,000,000
 pub most_most : (k : Kind) → most_weight k ≤ 1000000
 most_most Bond = lit≤ tt
 most_most Stitch = lit≤ tt
 most_most Clash = lit≤ tt
 
+-- no edge weighs more than 1,000,000
 pub weight_most : (e : Edge) → e.weight ≤ 1000000
 weight_most e = omega (arith, e.most, most_most e.kind)
 
@@ -153,6 +163,7 @@ weights_most g v (suc n) = elim (cases_Bool (v n)) [
   | inr b ↦ omega (arith, cond-false (v n) (edge_at g n).weight 0 b, weights_most g v n)
 ]
 
+-- a clash is no bond
 pub clash_no_bond : (k : Kind) → is_clash k ≡ true → is_bond k ≡ false
 clash_no_bond Bond h = absurd (false≢true h)
 clash_no_bond Stitch h = refl

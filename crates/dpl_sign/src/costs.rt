@@ -1,3 +1,4 @@
+// What a colouring breaks, and what that costs.
 ghost use Rattle.std.specs.Prelude.{◌≡◌, length};
 ghost use Rattle.dpl_sign.specs.Colourings.{cost_of, is_broken};
 

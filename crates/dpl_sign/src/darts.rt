@@ -1,3 +1,4 @@
+// Sets of edges, and the two darts of each edge.
 ghost use Rattle.std.specs.Prelude.{◌≡◌, ◌+◌, ◌*◌, ◌^◌, ◌<◌, length};
 ghost use Rattle.dpl_sign.specs.Drawings.{dart_count, is_in as in_set, tail_of, twin_of, port_of};
 

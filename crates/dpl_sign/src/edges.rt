@@ -1,3 +1,4 @@
+// Edges of three kinds: bonds, stitches and clashes.
 ghost use Rattle.std.specs.Prelude.{◌≡◌, ◌<◌, ◌≤◌};
 ghost use Rattle.dpl_limits.specs.declared.TheConstants.{MOST_WEIGHT};
 ghost use Rattle.dpl_sign.specs.Weights.{least_weight, most_weight};

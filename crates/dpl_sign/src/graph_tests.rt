@@ -1,3 +1,4 @@
+// Which nodes and edges make a graph.
 ghost use Rattle.std.specs.Prelude.{◌≡◌, ◌↔◌, IsTrue};
 ghost use Rattle.dpl_sign.specs.Kinds.{IsGraph, EndsBelow, BondsFirst, is_bond as bond_test};
 

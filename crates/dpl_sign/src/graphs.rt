@@ -1,3 +1,4 @@
+// A graph whose edges ask something of the colours of their ends.
 ghost use Rattle.std.specs.Prelude.{◌<◌, ◌^◌, length};
 ghost use Rattle.dpl_sign.specs.Kinds.{EndsBelow, BondsFirst};
 

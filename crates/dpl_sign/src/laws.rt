@@ -1,3 +1,4 @@
+// What holds of ports, drawings, the excess and packings, said without the steps that find them.
 ghost use Rattle.std.specs.Prelude.{◌≡◌, ◌≢◌, ◌==◌, ℕ, ◌+◌, ◌*◌, ◌%◌, ◌<◌, ◌≤◌, ◌⊎◌, ◌↔◌, true, false, [], length, sum_by, count_by};
 ghost use Rattle.dpl_sign.specs.Drawings.{is_in, face_count, next_around};
 ghost use Rattle.dpl_sign.specs.Rotations.{Leaves, ComesNext};

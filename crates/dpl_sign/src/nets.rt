@@ -1,3 +1,4 @@
+// A graph that is drawn in the plane.
 ghost use Rattle.std.specs.Prelude.{◌≡◌, ◌<◌, length, All};
 
 use crate::graphs::Signed;

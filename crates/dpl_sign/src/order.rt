@@ -1,3 +1,4 @@
+// The order of the ports around a node.
 ghost use Rattle.std.specs.Prelude.{◌≡◌};
 ghost use Rattle.dpl_sign.specs.PortOrder.{rise as rise_of, run as run_of, slope_cmp, port_cmp};
 

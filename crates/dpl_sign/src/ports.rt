@@ -1,3 +1,4 @@
+// Where an edge leaves a node.
 ghost use Rattle.std.specs.Prelude.{◌≡◌, ◌+◌, ◌<◌, ◌≤◌, pos, true, false};
 ghost use Rattle.dpl_sign.specs.Sides.{is_corner};
 

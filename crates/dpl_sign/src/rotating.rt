@@ -1,3 +1,4 @@
+// The rotation: which dart comes next around a node.
 ghost use Rattle.std.specs.Prelude.{◌≡◌, ◌+◌, ◌*◌, ◌<◌, length, if◌then◌else◌};
 ghost use Rattle.dpl_sign.specs.Drawings.{dart_count, is_in as in_set, is_before as stands_before, is_met_before as met_before, first_met as met_first, next_around as next_of};
 

@@ -1,3 +1,4 @@
+// Walks, their half weights, and what these are said to sum to.
 use dpl_list::Items;
 
 /// A node, and the numbers of the edges of a walk from it.

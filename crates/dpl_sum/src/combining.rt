@@ -21,6 +21,7 @@ pub struct SolvedPart {
     pub solution: Solution,
 }
 
+/// The number at a place, 0 where there is none.
 pub fn number_at(numbers: &[u32], place: usize) -> u32
     ensures { result ≡ slice_index_or numbers.now place 0 }
 {
