@@ -1,7 +1,7 @@
 -- An inner set of value 0 gives way to its children, of which those on the way stay in the tree.
-use Rattle.std.proofs.Common.{arith, ◌≡◌, ◌≢◌, ℕ, zero, suc, ◌+◌, ◌-◌, ◌*◌, ◌/◌, ◌%◌, ◌<◌, ◌≤◌, ◌⊎◌, refl, sym, ap, ◌∙◌}
-use Rattle.std.proofs.Common.{subst, true, false, inl, inr, Option, Some, None, List, length, get_or, set, length-set}
-use Rattle.std.proofs.Common.{get_or-set_same, get_or-set_other}
+use Rattle.std.proofs.Common.{arith, ◌≡◌, ◌≢◌, ℕ, zero, suc, ◌+◌, ◌-◌, ◌*◌, ◌/◌, ◌%◌, ◌<◌, ◌≤◌, ◌⊎◌, refl, sym, ap}
+use Rattle.std.proofs.Common.{◌∙◌, subst, true, false, inl, inr, Option, Some, None, List, length, get_or, set}
+use Rattle.std.proofs.Common.{length-set, get_or-set_same, get_or-set_other}
 use Rattle.std.proofs.lemmas.Bool.{cases_eq, cases_lt, cases_Bool}
 use Rattle.std.proofs.Math.Nat.{mod-eq_of_lt}
 use Rattle.dpl_laminar.specs.Families.{Sets, IsFamily, has, next_in}

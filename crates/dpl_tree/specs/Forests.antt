@@ -10,6 +10,14 @@ pub data Place : Type 0 where
   outer : Place
   inner : Place
 
+-- an outer member and a member of another top that stands so
+pub record IsPair (n : ℕ) (f : Sets) (place : ℕ → Place) (want : Place) (s t : ℕ) : Type 0 where
+  pub from : s < n
+  pub to : t < n
+  pub apart : f.top s ≢ f.top t
+  pub from_outer : place (f.top s) ≡ outer
+  pub to_place : place (f.top t) ≡ want
+
 -- what the shifts add to a load and take from it
 abbrev pub gain : Place → ℕ
 gain free = 0

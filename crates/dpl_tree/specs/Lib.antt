@@ -6,3 +6,4 @@ pub mod Opened
 pub mod Rounds
 pub mod Stages
 pub mod Views
+pub mod steps

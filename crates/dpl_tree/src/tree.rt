@@ -44,6 +44,14 @@ impl Tree {
         })
     }
 
+    /// How a set stands in the tree.
+    pub fn label(&self, set: u32) -> Label
+        requires { set < length self.now.labels.items }
+        ensures { result ≡ slice_index_or self.now.labels.items set Label.Free }
+    {
+        self.labels[set as usize]
+    }
+
     /// The outer member and the own member that lead to an inner set.
     pub fn link(&self, set: u32) -> (u32, u32)
         requires { set < length self.now.links.items }

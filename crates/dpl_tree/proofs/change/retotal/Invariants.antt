@@ -7,7 +7,7 @@ use Rattle.dpl_tree.proofs.change.retotal.Given as goal
 abbrev pub invariant-loop-m : goal.invariant-loop-m
 invariant-loop-m l = record {
   done : (j : ℕ) → j < l.m → get_or l.totals j 0 + drop_of
-      (place_in l.labels ((sets_of l.family).top j)) * l.by ≡ get_or l.fn.totals j 0 + gain
-      (place_in l.labels ((sets_of l.family).top j)) * l.by;
+      (place_in l.tree.labels.items ((sets_of l.family).top j)) * l.by ≡ get_or l.fn.totals j 0 + gain
+      (place_in l.tree.labels.items ((sets_of l.family).top j)) * l.by;
   todo : (j : ℕ) → l.m ≤ j → get_or l.totals j 0 ≡ get_or l.fn.totals j 0;
 }
