@@ -8,7 +8,7 @@ use Rattle.dpl_laminar.proofs.Numbers.{true_false}
 use Rattle.dpl_tree.specs.Forests.{Forest, Folds}
 use Rattle.dpl_tree.specs.Mates.{DropsInside, loads}
 use Rattle.dpl_tree.specs.Stages.{IsStage, Advances, AreRanked}
-use Rattle.dpl_tree.specs.Joins.{tops_from, AreClimbing}
+use Rattle.dpl_tree.specs.Joins.{tops_from, AreClimbing, ways}
 use Rattle.dpl_tree.proofs.Alike.{totals_alike, shrunk_alike}
 use Rattle.dpl_tree.proofs.Events.{IsEvent, folded_stage, folded_ready}
 use Rattle.dpl_tree.proofs.Widening.{folded_widens}
@@ -33,7 +33,7 @@ folded_all n f g dist x y joins meet set st w sh fam d o =
     let q : Gathers n f cs set g = subst (λ (z : ℕ). Gathers z f cs set g) st.rest.size sh.sets in
     let r = folded_stage n f g dist x y cs joins set meet w.some_inner.0 st (folding_tops n f dist x joins meet st w) sh fam w.cycle d o
     (λ i h. subst (λ (z : ℕ × ℕ). loads n f z.0 z.1 ≡ dist z.0 z.1) (sym (sh.join_child i h))
-    (way_step n f (loads n f) dist meet meet i joins w.way (omega (arith, h, len))).tight)
+    (way_step n f dist meet meet i joins w.way (omega (arith, h, len))).tight)
     w.some_inner.1 w.some_inner.2 in
     record {
       stage = r.0;
@@ -57,7 +57,7 @@ free_outside n f g dist x joins meet set st w sh = elim (cases_Bool (has (tops_f
 
 -- the joins as they were put together, and read
 pub folding_of : {n : ℕ} {f : Sets} {dist : ℕ → ℕ → ℕ} {x : Forest} {s t meet : ℕ} {left right joins js : List (ℕ × ℕ)} →
-    IsStage n f dist x → s < n → t < n → loads n f s t ≡ dist s t → f.top s ≢ f.top t → AreClimbing n f dist x s t left right meet meet →
+    IsStage n f dist x → s < n → t < n → loads n f s t ≡ dist s t → f.top s ≢ f.top t → AreClimbing n f dist x (s, t) (ways left right meet meet) →
     joins ≡ reverse left ++ (s, t) ∷ right → js ≡ joins → IsFolding n f dist x js meet
 folding_of {n} {f} {dist} {x} {s} {t} {meet} {left} {right} st hs ht tight apart c e seen =
     subst (λ (z : List (ℕ × ℕ)). IsFolding n f dist x z meet) (sym (seen ∙ e)) (climbing_whole n f dist x s t meet left right st hs ht tight apart c)
@@ -65,7 +65,7 @@ folding_of {n} {f} {dist} {x} {s} {t} {meet} {left} {right} st hs ht tight apart
 -- each join leads from a member
 pub folding_from : {n : ℕ} {f : Sets} {dist : ℕ → ℕ → ℕ} {x : Forest} {js : List (ℕ × ℕ)} {meet : ℕ} →
     IsStage n f dist x → IsFolding n f dist x js meet → (i : ℕ) → i < length js → (get_or js i (0, 0)).0 < f.size
-folding_from {n} {f} {dist} {js = js} {meet = meet} st w i h = omega (arith, (way_step n f (loads n f) dist meet meet i js w.way h).from, st.rest.size)
+folding_from {n} {f} {dist} {js = js} {meet = meet} st w i h = omega (arith, (way_step n f dist meet meet i js w.way h).from, st.rest.size)
 
 -- the tops that the joins lead from, where the joins were read twice
 pub tops_seen : {n : ℕ} {f : Sets} {dist : ℕ → ℕ → ℕ} {x : Forest} {joins js ks : List (ℕ × ℕ)} {tops : List ℕ} {meet : ℕ} →

@@ -47,7 +47,7 @@ mate_outside n f load dist x p tree i m t e a =
 pub grown : (n : ℕ) (f : Sets) (load dist : ℕ → ℕ → ℕ) (x y : Forest) (s t m o : ℕ) → IsLaminar n f →
     ArePairs n f load dist x.mate → IsTree n f load dist x → s < n → t < n →
     x.place (f.top s) ≡ outer → x.place (f.top t) ≡ free → load s t ≡ dist s t → IsExit n f x.mate (f.top t) m o →
-    Grows n f x s t m o y → IsTree n f load dist y
+    Grows f x s t o y → IsTree n f load dist y
 grown n f load dist x y s t m o lam p tree hs ht ps pt tight ex g =
     let po : x.place (f.top o) ≡ free = mate_outside n f load dist x p tree (f.top t) m o pt ex in
     let ho : o < n = p.range m o ex.below ex.paired in

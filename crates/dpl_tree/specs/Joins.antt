@@ -5,11 +5,11 @@ use Rattle.dpl_tree.specs.Forests.{free, outer, Forest}
 use Rattle.dpl_tree.specs.Mates.{IsExit, loads}
 
 -- each join leads from a member of one top to one of the next, from the top a to the top b
-abbrev pub IsWay : ℕ → Sets → (ℕ → ℕ → ℕ) → (ℕ → ℕ → ℕ) → ℕ → List (ℕ × ℕ) → ℕ → Type 0
-IsWay n f load dist a [] b = a ≡ b
-IsWay n f load dist a (j ∷ js) b =
-    (j.0 < n) × (j.1 < n) × (f.top j.0 ≡ a) × (load j.0 j.1 ≡ dist j.0 j.1) ×
-    IsWay n f load dist (f.top j.1) js b
+abbrev pub IsWay : ℕ → Sets → (ℕ → ℕ → ℕ) → ℕ → List (ℕ × ℕ) → ℕ → Type 0
+IsWay n f dist a [] b = a ≡ b
+IsWay n f dist a (j ∷ js) b =
+    (j.0 < n) × (j.1 < n) × (f.top j.0 ≡ a) × (loads n f j.0 j.1 ≡ dist j.0 j.1) ×
+    IsWay n f dist (f.top j.1) js b
 
 -- how often a number stands in a list
 abbrev pub times_in : List ℕ → ℕ → ℕ
@@ -40,11 +40,20 @@ pub record AreGathered (n : ℕ) (f : Sets) (x : Forest) (a b : ℕ) (met : ℕ 
 abbrev pub met_on : Sets → List (ℕ × ℕ) → List (ℕ × ℕ) → ℕ → ℕ
 met_on f left right c = times_in (tops_to f left) c + times_in (tops_from f right) c
 
--- two ways up from the sets of s and t to a and b, the left one downwards with its last join first
-pub record AreClimbing (n : ℕ) (f : Sets) (dist : ℕ → ℕ → ℕ) (x : Forest) (s t : ℕ)
-    (left right : List (ℕ × ℕ))
-    (a b : ℕ) : Type 0 where
-  pub way_left : IsWay n f (loads n f) dist a (reverse left) (f.top s)
-  pub way_right : IsWay n f (loads n f) dist (f.top t) right b
-  pub sets : AreGathered n f x a b (met_on f left right)
-  pub even : (length left + length right) % 2 ≡ 0
+-- two ways up to the sets a and b, the left one downwards with its last join first
+pub record Ways : Type 0 where
+  pub left : List (ℕ × ℕ)
+  pub right : List (ℕ × ℕ)
+  pub a : ℕ
+  pub b : ℕ
+
+abbrev pub ways : List (ℕ × ℕ) → List (ℕ × ℕ) → ℕ → ℕ → Ways
+ways left right a b = record { left = left; right = right; a = a; b = b }
+
+-- two ways up from the sets of the members of a join
+pub record AreClimbing (n : ℕ) (f : Sets) (dist : ℕ → ℕ → ℕ) (x : Forest) (join : ℕ × ℕ)
+    (w : Ways) : Type 0 where
+  pub way_left : IsWay n f dist w.a (reverse w.left) (f.top join.0)
+  pub way_right : IsWay n f dist (f.top join.1) w.right w.b
+  pub sets : AreGathered n f x w.a w.b (met_on f w.left w.right)
+  pub even : (length w.left + length w.right) % 2 ≡ 0

@@ -5,7 +5,7 @@ ghost use Rattle.dpl_laminar.specs.Storing.{sets_of};
 ghost use Rattle.dpl_tree.specs.Forests.{inner};
 ghost use Rattle.dpl_tree.specs.steps.Growth.{AreListed, IsGrowing, IsNext};
 ghost use Rattle.dpl_tree.specs.Metrics.{dist_of};
-ghost use Rattle.dpl_tree.specs.Opened.{IsOpening};
+ghost use Rattle.dpl_tree.specs.Opened.{IsOpening, around};
 ghost use Rattle.dpl_tree.specs.Stages.{AreRanked};
 ghost use Rattle.dpl_tree.specs.Views.{forest_of, place_in};
 
@@ -39,9 +39,9 @@ pub fn path_through(
     requires above { metric.now.size ≤ set }
     requires is_inner { place_in tree.now.labels.items set ≡ inner }
     requires empty { (sets_of matching.now.family).value set ≡ 0 }
-    ensures { IfOk result (λ r. (m : ℕ) × (t : ℕ) ×
-        IsOpening metric.now.size (sets_of matching.now.family) (dist_of metric.now)
-        (forest_of tree.now matching.now.mates.items) set r.sets.items r.joins.items r.place m t) }
+    ensures { IfOk result (λ r. IsOpening metric.now.size (sets_of matching.now.family)
+        (dist_of metric.now) (forest_of tree.now matching.now.mates.items) set
+        (around r.sets.items r.joins.items r.place)) }
 {
     let _size = metric.size();
     let family = &matching.family;

@@ -7,7 +7,7 @@ ghost use Rattle.dpl_tree.specs.Metrics.{dist_of};
 ghost use Rattle.dpl_tree.specs.Forests.{outer, inner, free};
 ghost use Rattle.dpl_tree.specs.Mates.{IsExit, loads};
 ghost use Rattle.dpl_tree.specs.steps.Growth.{IsGrowing};
-ghost use Rattle.dpl_tree.specs.Joins.{AreClimbing, tops_from};
+ghost use Rattle.dpl_tree.specs.Joins.{AreClimbing, ways, tops_from};
 ghost use Rattle.dpl_tree.specs.Views.{mate_in, forest_of, place_in};
 
 use super::matching::Matching;
@@ -77,8 +77,8 @@ pub fn meet(
     requires s_outer { place_in tree.now.labels.items ((sets_of matching.now.family).top s) ≡ outer }
     requires t_outer { place_in tree.now.labels.items ((sets_of matching.now.family).top t) ≡ outer }
     ensures { IfOk result (λ r. AreClimbing metric.now.size (sets_of matching.now.family)
-        (dist_of metric.now) (forest_of tree.now matching.now.mates.items) s t r.left.items
-        r.right.items r.meet r.meet) }
+        (dist_of metric.now) (forest_of tree.now matching.now.mates.items) (s, t)
+        (ways r.left.items r.right.items r.meet r.meet)) }
 {
     let _size = metric.size();
     let mut left = Vec::new(alloc);

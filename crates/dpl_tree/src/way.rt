@@ -26,9 +26,8 @@ pub fn augment(
     requires sized { IsSized metric.now.size tree.now }
     requires stage { IsStage metric.now.size (sets_of family.now) (dist_of metric.now)
         (forest_of tree.now mates.old) }
-    requires begun { IsClimb metric.now.size (sets_of family.now)
-        (loads metric.now.size (sets_of family.now)) (dist_of metric.now)
-        (forest_of tree.now mates.old) (mate_in mates.old) s t }
+    requires begun { IsClimb metric.now.size (sets_of family.now) (dist_of metric.now)
+        (forest_of tree.now mates.old) (mate_in mates.old) (s, t) }
     ensures pairs { ArePairs metric.now.size (sets_of family.now)
         (loads metric.now.size (sets_of family.now)) (dist_of metric.now) (mate_in mates.new) }
     ensures kept { (i m u : ℕ) → IsExit metric.now.size (sets_of family.now) (mate_in mates.old) i m

@@ -19,11 +19,8 @@ returns-then-at-eq0 c =
     let first = c.child_with-first.ensures in
     let last = c.child_with-last.ensures in
     let k = giving_of q.growing.stage q.above q.is_inner q.empty c.in-Some.ensures c.link-entry.ensures first.parent first.held
-    last.parent last.held last.live last.below c.in_ok-round-in-Some.ensures in (
-      c.in-Some.exit,
-      c.in-Some.field-0-1,
-      opening_forward k c.deref.ensures.value c.place_of-at.ensures.below c.place_of-at.ensures.value c.if-at-eq0.true,
-    )
+    last.parent last.held last.live last.below c.in_ok-round-in-Some.ensures in
+    opening_forward k c.deref.ensures.value c.place_of-at.ensures.below c.place_of-at.ensures.value c.if-at-eq0.true
 
 pub unreachable-requires : goal.unreachable-requires
 unreachable-requires c =
@@ -36,10 +33,7 @@ returns c =
     let first = c.child_with-first.ensures in
     let last = c.child_with-last.ensures in
     let k = giving_of q.growing.stage q.above q.is_inner q.empty c.in-Some.ensures c.link-entry.ensures first.parent first.held
-    last.parent last.held last.live last.below c.in_ok-round-in-Some.ensures in (
-      c.in-Some.exit,
-      c.in-Some.field-0-1,
-      opening_backward c.size-size.ensures.table.metric k c.deref.ensures.value c.place_of-at.ensures.below c.place_of-at.ensures.value c.if-at-eq0.false
-          c.deref-in-Some.ensures.value c.deref-in-Some-2.ensures.value c.in_ok-other-in-Some.ensures
-          (omega (arith, ap length c.deref.ensures.value)),
-    )
+    last.parent last.held last.live last.below c.in_ok-round-in-Some.ensures in
+    opening_backward c.size-size.ensures.table.metric k c.deref.ensures.value c.place_of-at.ensures.below c.place_of-at.ensures.value c.if-at-eq0.false
+    c.deref-in-Some.ensures.value c.deref-in-Some-2.ensures.value c.in_ok-other-in-Some.ensures
+    (omega (arith, ap length c.deref.ensures.value))
