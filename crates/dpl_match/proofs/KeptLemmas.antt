@@ -5,9 +5,9 @@ use Rattle.dpl_tree.specs.declared.matching.Matching.{Matching}
 use Rattle.dpl_tree.specs.Metrics.{Table, dist_of}
 use Rattle.dpl_tree.specs.Views.{forest_of, place_in}
 use Rattle.dpl_match.specs.declared.stage.Stage.{Stage}
-use Rattle.dpl_match.specs.Going.{IsAtTurn}
-use Rattle.dpl_match.specs.Nearest.{near_in}
-use Rattle.dpl_match.specs.Scans.{members_of}
+use Rattle.dpl_match.specs.steps.Going.{IsAtTurn}
+use Rattle.dpl_match.specs.steps.Nearest.{near_in}
+use Rattle.dpl_match.specs.steps.Scans.{members_of}
 use Rattle.dpl_match.proofs.NearLemmas.{kept_some}
 use Rattle.dpl_match.proofs.TurnLemmas.{totals_within}
 

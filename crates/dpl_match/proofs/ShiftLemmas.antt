@@ -5,7 +5,7 @@ use Rattle.dpl_laminar.specs.Families.{Sets, IsFamily}
 use Rattle.dpl_laminar.specs.Storing.{sets_of}
 use Rattle.dpl_tree.specs.declared.matching.Matching.{Matching}
 use Rattle.dpl_tree.specs.declared.tree.Tree.{Tree}
-use Rattle.dpl_tree.specs.Forests.{Forest, inner, gain, drop_of}
+use Rattle.dpl_tree.specs.steps.Forests.{Forest, inner, gain, drop_of}
 use Rattle.dpl_tree.specs.Metrics.{Table, IsMetric, dist_of}
 use Rattle.dpl_tree.specs.Stages.{IsStage, Advances, Ends, potential}
 use Rattle.dpl_tree.specs.steps.Growth.{IsGrowing, IsNext}
@@ -13,10 +13,10 @@ use Rattle.dpl_tree.specs.Views.{forest_of, place_in}
 use Rattle.dpl_tree.proofs.Widening.{widens_back}
 use Rattle.dpl_match.specs.declared.scan.Event.{Event}
 use Rattle.dpl_match.specs.declared.stage.Stage.{Stage}
-use Rattle.dpl_match.specs.Going.{IsAtTurn}
-use Rattle.dpl_match.specs.Nearest.{AreNear}
-use Rattle.dpl_match.specs.Scans.{members_of}
-use Rattle.dpl_match.specs.Turns.{IsDueNow, IsChosen}
+use Rattle.dpl_match.specs.steps.Going.{IsAtTurn}
+use Rattle.dpl_match.specs.steps.Nearest.{AreNear}
+use Rattle.dpl_match.specs.steps.Scans.{members_of}
+use Rattle.dpl_match.specs.steps.Turns.{IsDueNow, IsChosen}
 use Rattle.dpl_match.proofs.NearLemmas.{moved}
 use Rattle.dpl_match.proofs.TurnLemmas.{totals_enough, turned_stage, turned_totals, advance_back, end_back, shifts_few}
 
@@ -46,6 +46,7 @@ pub record IsShifted (metric : Table) (m next : Matching) (s : Stage) (event : E
   pub nears : (last : Matching) (u : Tree) → IsNext metric next s.tree last u → last.sums ≡ next.sums →
       AreNear (members_of metric last) (place_in u.labels.items) s.table
 
+-- a change of values as the code makes it
 pub shifted : {metric : Table} {m next : Matching} {s : Stage} {by : ℕ} {event : Event} {before steps : ℕ} → IsMetric metric.size (dist_of metric) →
     IsAtTurn metric m s → IsChosen metric.size (sets_of m.family) (forest_of s.tree m.mates.items) (dist_of metric) by event →
     sets_of next.family ≡ record (sets_of m.family) { value = (sets_of next.family).value } →

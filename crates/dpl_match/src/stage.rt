@@ -1,8 +1,9 @@
 //! What a stage has beside the matching.
 
-ghost use Rattle.std.specs.Prelude.{◌≡◌, ℕ, ◌+◌, ◌*◌, ◌<◌, ◌≤◌, None, false, replicate, length, IfOk};
-ghost use Rattle.dpl_match.specs.Going.{IsStart};
-ghost use Rattle.dpl_match.specs.Nearest.{is_known, near_in};
+ghost use Rattle.std.specs.Prelude.{◌≡◌, ℕ, ◌+◌, ◌*◌, ◌<◌, ◌≤◌, None, false, replicate, length};
+ghost use Rattle.std.specs.Prelude.{IfOk};
+ghost use Rattle.dpl_match.specs.steps.Going.{IsStart};
+ghost use Rattle.dpl_match.specs.steps.Nearest.{is_known, near_in};
 
 use dpl_tree::Tree;
 use std::alloc::{AllocError, Global};

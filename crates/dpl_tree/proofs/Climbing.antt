@@ -2,7 +2,7 @@ use Rattle.std.proofs.Common.{arith, ◌≡◌, ◌≢◌, ℕ, ◌<◌, ◌⊎�
 use Rattle.std.proofs.lemmas.Bool.{cases_eq}
 use Rattle.dpl_laminar.proofs.Numbers.{some_is, some_none}
 use Rattle.dpl_laminar.specs.Families.{Sets}
-use Rattle.dpl_tree.specs.Forests.{free, outer, Forest, IsTree, IsClimb}
+use Rattle.dpl_tree.specs.steps.Forests.{free, outer, Forest, IsTree, IsClimb}
 use Rattle.dpl_tree.specs.Mates.{IsExit, ArePairs, Joins, loads}
 use Rattle.dpl_tree.proofs.Growing.{outer_in, outer_inner_no}
 
@@ -69,6 +69,7 @@ pub record Drops (mate : ℕ → Option ℕ) (ex b : ℕ) (new : ℕ → Option 
   pub second : new b ≡ None
   pub others : (i : ℕ) → i ≢ ex → i ≢ b → new i ≡ mate i
 
+-- the pairs without one of them
 pub dropped_pairs : (n : ℕ) (f : Sets) (load dist : ℕ → ℕ → ℕ) (mate new : ℕ → Option ℕ) (ex b : ℕ) →
     ArePairs n f load dist mate → ex < n → mate ex ≡ Some b → Drops mate ex b new → ArePairs n f load dist new
 dropped_pairs n f load dist mate new ex b p hx xb d =

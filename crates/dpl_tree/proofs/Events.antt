@@ -6,7 +6,7 @@ use Rattle.dpl_laminar.specs.Families.{Sets, IsFamily, has}
 use Rattle.dpl_laminar.specs.Changes.{Gathers, AreTops, IsShrunk}
 use Rattle.dpl_laminar.proofs.Sums.{sum_same}
 use Rattle.dpl_laminar.proofs.Numbers.{true_false, place_in}
-use Rattle.dpl_tree.specs.Forests.{free, outer, inner, Forest, IsTree, Grows, IsCycle, Folds}
+use Rattle.dpl_tree.specs.steps.Forests.{free, outer, inner, Forest, IsTree, Grows, IsCycle, Folds}
 use Rattle.dpl_tree.specs.Mates.{IsExit, DropsInside, total_in, loads, totals}
 use Rattle.dpl_tree.specs.Metrics.{IsMetric}
 use Rattle.dpl_tree.specs.Stages.{IsRest, IsStage, IsReady, potential, Advances, AreRanked, Widens}

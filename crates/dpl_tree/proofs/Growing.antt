@@ -2,7 +2,7 @@ use Rattle.std.proofs.Common.{arith, ◌≡◌, ◌≢◌, ℕ, ◌<◌, ◌⊎�
 use Rattle.std.proofs.lemmas.Bool.{cases_eq}
 use Rattle.dpl_laminar.proofs.Numbers.{some_is}
 use Rattle.dpl_laminar.specs.Families.{Sets, IsLaminar}
-use Rattle.dpl_tree.specs.Forests.{Place, free, outer, inner, Forest, IsTree, Grows}
+use Rattle.dpl_tree.specs.steps.Forests.{Place, free, outer, inner, Forest, IsTree, Grows}
 use Rattle.dpl_tree.specs.Mates.{IsExit, ArePairs}
 
 pub place_cases : (a : Place) → (a ≡ free) ⊎ ((a ≡ outer) ⊎ (a ≡ inner))

@@ -8,11 +8,11 @@ use Rattle.std.proofs.Math.Nat.{mod_self, mod-eq_of_lt}
 use Rattle.dpl_laminar.specs.Families.{Sets, has, IsTie, next_in}
 use Rattle.dpl_laminar.specs.Changes.{AreTops}
 use Rattle.dpl_laminar.proofs.Numbers.{has_head, has_tail}
-use Rattle.dpl_tree.specs.Forests.{outer, inner, Forest, IsCycle}
+use Rattle.dpl_tree.specs.steps.Forests.{outer, inner, Forest, IsCycle}
 use Rattle.dpl_tree.specs.Mates.{IsExit, loads}
 use Rattle.dpl_tree.specs.Metrics.{IsMetric}
 use Rattle.dpl_tree.specs.Stages.{IsStage}
-use Rattle.dpl_tree.specs.Joins.{IsWay, times_in, tops_from, tops_to, AreGathered, met_on, AreClimbing, ways}
+use Rattle.dpl_tree.specs.steps.Joins.{IsWay, times_in, tops_from, tops_to, AreGathered, met_on, AreClimbing, ways}
 use Rattle.dpl_tree.proofs.Growing.{place_cases, outer_in, inner_in, outer_inner_no, exit_one, exit_back}
 use Rattle.dpl_tree.proofs.Events.{root_lowest}
 use Rattle.dpl_tree.proofs.Ways.{load_turned}
@@ -22,6 +22,7 @@ one_if x c = cond (eqb x c) 1 0
 
 -- ---- how often
 
+-- how often a number stands in two lists
 pub times_append : (xs ys : List ℕ) (c : ℕ) → times_in (xs ++ ys) c ≡ times_in xs c + times_in ys c
 times_append [] ys c = omega arith
 times_append (x ∷ xs) ys c = omega (arith, times_append xs ys c)
@@ -32,12 +33,15 @@ bit_most x c = from (eqb x c) where
   from true = omega arith
   from false = omega arith
 
+-- a number stands once for itself
 pub bit_one : (x c : ℕ) → x ≡ c → one_if x c ≡ 1
 bit_one x c e = cond-true {A = ℕ} (eqb x c) 1 0 (eq-eqb x c e)
 
+-- and not for another one
 pub bit_none : (x c : ℕ) → x ≢ c → one_if x c ≡ 0
 bit_none x c ne = cond-false {A = ℕ} (eqb x c) 1 0 (ne_eqb x c ne)
 
+-- a number that stands in a list is counted
 pub times_has : (xs : List ℕ) (c : ℕ) → has xs c ≡ true → 0 < times_in xs c
 times_has [] c h = let bad : false ≡ true = h in cc
 times_has (x ∷ xs) c h = elim (cases_eq x c) [
@@ -45,6 +49,7 @@ times_has (x ∷ xs) c h = elim (cases_eq x c) [
   | inr ne ↦ omega (arith, times_has xs c (sym (has_tail x c xs ne) ∙ h))
 ]
 
+-- a number that is counted stands in the list
 pub has_times : (xs : List ℕ) (c : ℕ) → 0 < times_in xs c → has xs c ≡ true
 has_times [] c h = absurd (omega (arith, h))
 has_times (x ∷ xs) c h = elim (cases_eq x c) [
@@ -66,6 +71,7 @@ once_apart (x ∷ xs) once (suc i) (suc j) h l e = once_apart xs (λ c. omega (a
 
 -- ---- ways
 
+-- two ways that meet are one
 pub way_append : (n : ℕ) (f : Sets) (dist : ℕ → ℕ → ℕ) (a b c : ℕ) (xs ys : List (ℕ × ℕ)) →
     IsWay n f dist a xs b → IsWay n f dist b ys c → IsWay n f dist a (xs ++ ys) c
 way_append n f dist a b c [] ys p q = subst (λ (z : ℕ). IsWay n f dist z ys c) (sym p) q
@@ -78,17 +84,20 @@ pub way_times : (n : ℕ) (f : Sets) (dist : ℕ → ℕ → ℕ) (a b : ℕ) (x
 way_times n f dist a b [] c p = omega (arith, ap (λ z. one_if z c) p)
 way_times n f dist a b (x ∷ xs) c p = omega (arith, ap (λ z. one_if z c) p.2, way_times n f dist (f.top x.1) b xs c p.4)
 
+-- a way begins at its first top
 pub way_first : (n : ℕ) (f : Sets) (dist : ℕ → ℕ → ℕ) (a b : ℕ) (xs : List (ℕ × ℕ)) → IsWay n f dist a xs b →
     0 < length xs → f.top (get_or xs 0 (0, 0)).0 ≡ a
 way_first n f dist a b [] p h = absurd (omega (arith, h))
 way_first n f dist a b (x ∷ xs) p h = p.2
 
+-- each join leads to the top that the next one leads from
 pub way_next : (n : ℕ) (f : Sets) (dist : ℕ → ℕ → ℕ) (a b i : ℕ) (xs : List (ℕ × ℕ)) → IsWay n f dist a xs b →
     suc i < length xs → f.top (get_or xs i (0, 0)).1 ≡ f.top (get_or xs (suc i) (0, 0)).0
 way_next n f dist a b i [] p h = absurd (omega (arith, h))
 way_next n f dist a b zero (x ∷ xs) p h = sym (way_first n f dist (f.top x.1) b xs p.4 (omega (arith, h)))
 way_next n f dist a b (suc i) (x ∷ xs) p h = way_next n f dist (f.top x.1) b i xs p.4 (omega (arith, h))
 
+-- a way ends at its last top
 pub way_last : (n : ℕ) (f : Sets) (dist : ℕ → ℕ → ℕ) (a b i : ℕ) (xs : List (ℕ × ℕ)) → IsWay n f dist a xs b →
     i + 1 ≡ length xs → f.top (get_or xs i (0, 0)).1 ≡ b
 way_last n f dist a b i [] p h = absurd (omega (arith, h))
@@ -102,6 +111,7 @@ pub record IsStep (n : ℕ) (load dist : ℕ → ℕ → ℕ) (j : ℕ × ℕ) :
   pub to : j.1 < n
   pub tight : load j.0 j.1 ≡ dist j.0 j.1
 
+-- each join of a way is tight
 pub way_step : (n : ℕ) (f : Sets) (dist : ℕ → ℕ → ℕ) (a b i : ℕ) (xs : List (ℕ × ℕ)) → IsWay n f dist a xs b →
     i < length xs → IsStep n (loads n f) dist (get_or xs i (0, 0))
 way_step n f dist a b i [] p h = absurd (omega (arith, h))
@@ -110,6 +120,7 @@ way_step n f dist a b (suc i) (x ∷ xs) p h = way_step n f dist (f.top x.1) b i
 
 -- ---- one step up
 
+-- the two ends of the ways are alike
 pub gathered_turned : (n : ℕ) (f : Sets) (x : Forest) (a b : ℕ) (met : ℕ → ℕ) → AreGathered n f x a b met → AreGathered n f x b a met
 gathered_turned n f x a b met g = record {
   a_outer = g.b_outer;
@@ -237,6 +248,7 @@ pub record IsStepUp (n : ℕ) (f : Sets) (dist : ℕ → ℕ → ℕ) (x : Fores
   pub tight_pair : loads n f m t ≡ dist m t
   pub tight_link : loads n f (x.above (f.top t)) (x.entry (f.top t)) ≡ dist (x.above (f.top t)) (x.entry (f.top t))
 
+-- the step up from an outer set over its pair
 pub step_of : (n : ℕ) (f : Sets) (dist : ℕ → ℕ → ℕ) (x : Forest) (a m t : ℕ) → IsStage n f dist x → x.place a ≡ outer →
     IsExit n f x.mate a m t → IsStepUp n f dist x a m t
 step_of n f dist x a m t st pa ex =
@@ -253,6 +265,7 @@ step_of n f dist x a m t st pa ex =
       tight_link = st.tree.link_tight (f.top t) o.0;
     }
 
+-- the left way goes one step on
 pub climbing_left : (n : ℕ) (f : Sets) (dist : ℕ → ℕ → ℕ) (x : Forest) (s t : ℕ) (left right : List (ℕ × ℕ))
     (a b m u : ℕ) → IsMetric n dist → IsStage n f dist x → AreClimbing n f dist x (s, t) (ways left right a b) → a ≢ b →
     x.rank b ≤ x.rank a → IsExit n f x.mate a m u →
@@ -276,6 +289,7 @@ climbing_left n f dist x s t left right a b m u me st c ne low ex =
       even = omega (arith, c.even, push_length left (u, m) link);
     }
 
+-- the right way goes one step on
 pub climbing_right : (n : ℕ) (f : Sets) (dist : ℕ → ℕ → ℕ) (x : Forest) (s t : ℕ) (left right : List (ℕ × ℕ))
     (a b m u : ℕ) → IsMetric n dist → IsStage n f dist x → AreClimbing n f dist x (s, t) (ways left right a b) → a ≢ b →
     x.rank a ≤ x.rank b → IsExit n f x.mate b m u →
@@ -301,6 +315,7 @@ climbing_right n f dist x s t left right a b m u me st c ne low ex =
       even = omega (arith, c.even, push_length right (m, u) link);
     }
 
+-- two ways that have not begun
 pub climbing_begun : (n : ℕ) (f : Sets) (dist : ℕ → ℕ → ℕ) (x : Forest) (s t : ℕ) → x.place (f.top s) ≡ outer →
     x.place (f.top t) ≡ outer → AreClimbing n f dist x (s, t) (ways [] [] (f.top s) (f.top t))
 climbing_begun n f dist x s t ps pt = record {
@@ -381,6 +396,7 @@ inner_met n f dist x meet met children st g w here = elim (place_cases (x.place 
       (f.top ex.1, here (f.top ex.1) (g.closed w.0 ex.0 ex.1 w.1 ex.2), o.0)
 ]
 
+-- two ways that meet go all around with their join
 pub climbing_whole : (n : ℕ) (f : Sets) (dist : ℕ → ℕ → ℕ) (x : Forest) (s t meet : ℕ) (left right : List (ℕ × ℕ)) →
     IsStage n f dist x → s < n → t < n → loads n f s t ≡ dist s t → f.top s ≢ f.top t →
     AreClimbing n f dist x (s, t) (ways left right meet meet) →
@@ -460,6 +476,7 @@ three n f dist x (j ∷ []) meet st w =
     ]
 three n f dist x (j ∷ i ∷ js) meet st w = omega arith
 
+-- the tops all around can become one set
 pub folding_tops : (n : ℕ) (f : Sets) (dist : ℕ → ℕ → ℕ) (x : Forest) (joins : List (ℕ × ℕ)) (meet : ℕ) →
     IsStage n f dist x → IsFolding n f dist x joins meet → AreTops n f (tops_from f joins)
 folding_tops n f dist x joins meet st w =
@@ -474,6 +491,7 @@ folding_tops n f dist x joins meet st w =
       distinct = once_apart (tops_from f joins) w.times;
     }
 
+-- each join all around leads from one of them to the next
 pub folding_joined : (n : ℕ) (f : Sets) (dist : ℕ → ℕ → ℕ) (x : Forest) (joins : List (ℕ × ℕ)) (meet i : ℕ) →
     IsStage n f dist x → IsFolding n f dist x joins meet → i < length joins →
     IsTie f (get_or (tops_from f joins) i 0) (next_in (tops_from f joins) i) (get_or joins i (0, 0))

@@ -3,7 +3,7 @@ use Rattle.std.proofs.lemmas.Bool.{cases_eq, cases_lt, cases_Bool}
 use Rattle.dpl_laminar.proofs.Numbers.{some_none}
 use Rattle.dpl_laminar.specs.Changes.{Releases}
 use Rattle.dpl_laminar.specs.Families.{Sets, IsLaminar, has}
-use Rattle.dpl_tree.specs.Forests.{free, outer, inner, Forest, IsTree, IsBroken, Opens, Walks, gap}
+use Rattle.dpl_tree.specs.steps.Forests.{free, outer, inner, Forest, IsTree, IsBroken, Opens, Walks, gap}
 use Rattle.dpl_tree.specs.Mates.{IsExit, ArePairs}
 use Rattle.dpl_tree.proofs.Growing.{place_cases, outer_in, inner_in, outer_inner_no, exit_one, exit_back}
 

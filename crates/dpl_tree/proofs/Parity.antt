@@ -4,7 +4,7 @@ use Rattle.dpl_laminar.proofs.Numbers.{true_false}
 use Rattle.dpl_laminar.specs.Changes.{Gathers}
 use Rattle.dpl_laminar.specs.Families.{Sets, IsLaminar, has}
 use Rattle.dpl_laminar.specs.Loads.{load_in}
-use Rattle.dpl_tree.specs.Forests.{free, outer, Forest, IsTree, IsCycle, Folds, Grows}
+use Rattle.dpl_tree.specs.steps.Forests.{free, outer, Forest, IsTree, IsCycle, Folds, Grows}
 use Rattle.dpl_tree.specs.Mates.{IsExit, ArePairs, total_in}
 use Rattle.dpl_tree.specs.Metrics.{IsMetric}
 use Rattle.dpl_tree.specs.Stages.{HasParity}

@@ -8,12 +8,12 @@ use Rattle.dpl_laminar.specs.Families.{Sets, IsFamily, has, next_in}
 use Rattle.dpl_laminar.specs.Changes.{IsExpanded, Releases}
 use Rattle.dpl_laminar.proofs.Numbers.{true_false, some_none}
 use Rattle.dpl_tree.specs.declared.tree.Label.TheVariants.{Free, Outer, Inner}
-use Rattle.dpl_tree.specs.Forests.{free, Forest, IsBroken, Opens, Walks, gap}
+use Rattle.dpl_tree.specs.steps.Forests.{free, Forest, IsBroken, Opens, Walks, gap}
 use Rattle.dpl_tree.specs.Mates.{IsExit, ArePairs, loads}
 use Rattle.dpl_tree.specs.Metrics.{IsMetric}
 use Rattle.dpl_tree.specs.Stages.{IsStage, Advances}
 use Rattle.dpl_tree.specs.Views.{mate_in, place_in, place_of}
-use Rattle.dpl_tree.specs.Opened.{IsAround, IsOpening, around, Lists, forest_in, step_in, walked_times, paired_times}
+use Rattle.dpl_tree.specs.steps.Opened.{IsAround, IsOpening, around, Lists, forest_in, step_in, walked_times, paired_times}
 use Rattle.dpl_tree.proofs.Growing.{place_cases, outer_in, inner_in, exit_one}
 use Rattle.dpl_tree.proofs.Opening.{opened, walked, healed}
 use Rattle.dpl_tree.proofs.Refining.{refined_pairs}
@@ -124,6 +124,7 @@ walk_more n g load dist sets joins p r l m root out mate bound q le w =
       ];
     }
 
+-- so many steps of the walk
 pub walk_all : (n : ℕ) (g : Sets) (load dist : ℕ → ℕ → ℕ) (sets : List ℕ) (joins : List (ℕ × ℕ)) (p : ℕ) (l : Lists)
     (root out : ℕ) (mate : ℕ → Option ℕ) (bound : ℕ) → IsReadyRing n g load dist sets joins p mate →
     IsWalked n g load dist sets joins p 0 l l root out mate bound → (r : ℕ) → 2 * r ≤ p →
@@ -135,6 +136,7 @@ walk_all n g load dist sets joins p l root out mate bound q w (suc r) h =
 
 -- ---- the whole
 
+-- the next one around, but for the last
 pub next_of : (sets : List ℕ) (i : ℕ) → i + 1 < length sets → next_in sets i ≡ get_or sets (i + 1) 0
 next_of sets i h = ap (λ z. get_or sets z 0) (mod-eq_of_lt h)
 
@@ -145,6 +147,7 @@ place_free n f dist x set c st e = elim (place_cases (x.place c)) [
   | inr (inr z) ↦ some_none (f.parent c) set e (st.tree.tops c (inner_in z)).2
 ]
 
+-- the children of a set that was taken away, as tops
 pub opening_row : (n : ℕ) (f g : Sets) (dist : ℕ → ℕ → ℕ) (set : ℕ) (sets : List ℕ) (joins : List (ℕ × ℕ)) →
     Releases n f set g → IsAround n f dist set sets joins → IsRow n g (loads n f) dist sets joins
 opening_row n f g dist set sets joins q a = record {
@@ -157,6 +160,7 @@ opening_row n f g dist set sets joins q a = record {
   distinct = a.distinct;
 }
 
+-- an inner set has given way to the children of its ring
 pub opening_done : (n : ℕ) (f g : Sets) (dist : ℕ → ℕ → ℕ) (x : Forest) (set : ℕ) (sets : List ℕ) (joins : List (ℕ × ℕ))
     (p : ℕ) (mates : List (Option ℕ)) (l : Lists) (bound : ℕ) → IsMetric n dist → length mates ≡ n →
     x.mate ≡ mate_in mates → IsStage n f dist x →

@@ -15,8 +15,8 @@ use Rattle.dpl_laminar.proofs.Numbers.{has_at, place_in, cases_Option, some_is, 
 use Rattle.dpl_tree.specs.Mates.{loads}
 use Rattle.dpl_tree.specs.Metrics.{IsMetric}
 use Rattle.dpl_tree.specs.Stages.{IsRest}
-use Rattle.dpl_tree.specs.Opened.{IsAround}
-use Rattle.dpl_tree.specs.Rounds.{IsPart, IsRingFrom, IsTurned}
+use Rattle.dpl_tree.specs.steps.Opened.{IsAround}
+use Rattle.dpl_tree.specs.steps.Rounds.{IsPart, IsRingFrom, IsTurned}
 use Rattle.dpl_tree.proofs.Counting.{ring_short}
 use Rattle.dpl_tree.proofs.Ways.{load_turned}
 use Rattle.dpl_laminar.proofs.Reached.{size_most}

@@ -5,7 +5,7 @@ use Rattle.dpl_laminar.proofs.Sums.{sum_most}
 use Rattle.dpl_laminar.specs.Changes.{Gathers, Releases}
 use Rattle.dpl_laminar.specs.Families.{Sets, IsLaminar, has}
 use Rattle.dpl_laminar.specs.Loads.{sum_below, load_in}
-use Rattle.dpl_tree.specs.Forests.{Place, free, outer, inner, Forest, IsTree, Shifts, Grows, Folds}
+use Rattle.dpl_tree.specs.steps.Forests.{Place, free, outer, inner, Forest, IsTree, Shifts, Grows, Folds}
 use Rattle.dpl_tree.specs.Mates.{IsExit, ArePairs}
 use Rattle.dpl_tree.specs.Stages.{weight, as_number, potential}
 use Rattle.dpl_tree.proofs.Growing.{place_cases, outer_in, outer_inner_no, mate_outside}

@@ -5,13 +5,13 @@ use Rattle.dpl_laminar.specs.Families.{Sets, IsFamily}
 use Rattle.dpl_laminar.specs.Changes.{IsExpanded}
 use Rattle.dpl_laminar.proofs.Numbers.{some_none}
 use Rattle.dpl_tree.specs.declared.tree.Tree.{Tree}
-use Rattle.dpl_tree.specs.Forests.{Forest, Opens, inner}
+use Rattle.dpl_tree.specs.steps.Forests.{Forest, Opens, inner}
 use Rattle.dpl_tree.specs.Mates.{IsExit}
 use Rattle.dpl_tree.specs.Metrics.{IsMetric}
 use Rattle.dpl_tree.specs.Stages.{IsStage, Advances, AreRanked}
 use Rattle.dpl_tree.specs.Views.{mate_in, forest_of, IsSized}
-use Rattle.dpl_tree.specs.Opened.{IsAround, IsOpening, around, Lists, lists_of, forest_in, walked_times, paired_times}
-use Rattle.dpl_tree.specs.Rounds.{IsRingFrom, IsTurned}
+use Rattle.dpl_tree.specs.steps.Opened.{IsAround, IsOpening, around, Lists, lists_of, forest_in, walked_times, paired_times}
+use Rattle.dpl_tree.specs.steps.Rounds.{IsRingFrom, IsTurned}
 use Rattle.dpl_tree.proofs.Alike.{totals_alike, expanded_alike}
 use Rattle.dpl_tree.proofs.Events.{IsEvent}
 use Rattle.dpl_tree.proofs.Growing.{inner_in}
@@ -56,17 +56,20 @@ giving_of {f = f} {first = first} stage above is_inner empty e link first_parent
   ring = ring;
 }
 
+-- the ring of the set, with tight joins
 pub giving_around : {n : ℕ} {f : Sets} {dist : ℕ → ℕ → ℕ} {x : Forest} {set first last m0 t0 : ℕ} {sets : List ℕ} {joins : List (ℕ × ℕ)} →
     IsGiving n f dist x set first last m0 t0 sets joins → IsAround n f dist set sets joins
 giving_around {n} {f} {dist} {x} {set} {first} {sets = sets} {joins = joins} g =
     let at = g.stage.tree.tops set (inner_in g.is_inner) in
     ring_around n f dist x.mate set first sets joins g.stage.rest g.above at.0 at.1 g.first_parent g.ring
 
+-- the child that keeps the pair stands in the ring
 pub giving_place : {n : ℕ} {f : Sets} {dist : ℕ → ℕ → ℕ} {x : Forest} {set first last m0 t0 : ℕ} {sets : List ℕ} {joins : List (ℕ × ℕ)} →
     IsGiving n f dist x set first last m0 t0 sets joins → (i : ℕ) × (i < length sets) × (get_or sets i 0 ≡ last)
 giving_place {set = set} {last = last} g =
     (giving_around g).all last (g.stage.rest.laminar.children.parent_range last set g.last_below g.last_live g.last_parent).3
 
+-- the ring begins at the child that the tree enters
 pub starts_first : (f : Sets) (first : ℕ) (sets : List ℕ) (joins : List (ℕ × ℕ)) → 0 < length sets → IsRingFrom f first sets joins → get_or sets 0 0 ≡ first
 starts_first f first sets joins h r =
     let z : (r.at + 0) % length (f.children r.parent) ≡ r.at =
@@ -121,6 +124,7 @@ opening_backward {n} {f} {dist} {x} {set} {first} {last} {m0} {t0} {at} {count} 
       exit = g.exit;
     }
 
+-- the children around are few, and have small numbers
 pub around_few : {n : ℕ} {f : Sets} {dist : ℕ → ℕ → ℕ} {x : Forest} {set : ℕ} {sets : List ℕ} {joins : List (ℕ × ℕ)} {p : ℕ} →
     IsStage n f dist x → IsOpening n f dist x set (around sets joins p) → ((i : ℕ) → i < length sets → get_or sets i 0 < 2 * n) × (length sets ≤ 2 * n)
 around_few {n} {set = set} {sets = sets} st o =

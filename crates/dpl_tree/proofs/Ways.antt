@@ -7,7 +7,7 @@ use Rattle.dpl_laminar.specs.Loads.{differ}
 use Rattle.dpl_laminar.specs.Families.{Sets}
 use Rattle.dpl_laminar.proofs.Numbers.{some_none}
 use Rattle.dpl_laminar.proofs.Sums.{sum_same}
-use Rattle.dpl_tree.specs.Forests.{Forest, IsClimb, outer, inner}
+use Rattle.dpl_tree.specs.steps.Forests.{Forest, IsClimb, outer, inner}
 use Rattle.dpl_tree.specs.Mates.{IsExit, ArePairs, Joins, loads}
 use Rattle.dpl_tree.specs.Metrics.{IsMetric}
 use Rattle.dpl_tree.specs.Stages.{IsStage}
@@ -15,6 +15,7 @@ use Rattle.dpl_tree.specs.Views.{mate_in}
 use Rattle.dpl_tree.proofs.Growing.{outer_in}
 use Rattle.dpl_tree.proofs.Climbing.{Drops, climbed, climb_ended}
 
+-- a pair given up in a list
 pub drops_list : (xs : List (Option ℕ)) (a b : ℕ) → a < length xs → b < length xs → Drops (mate_in xs) a b (mate_in (set (set xs a None) b None))
 drops_list xs a b ha hb = record {
   first = elim (cases_eq a b) [
@@ -25,6 +26,7 @@ drops_list xs a b ha hb = record {
   others = λ i na nb. get_or-set_other (set xs a None) b i None None nb ∙ get_or-set_other xs a i None None na;
 }
 
+-- a pair made in a list
 pub joins_list : (xs : List (Option ℕ)) (s t : ℕ) → s < length xs → t < length xs → s ≢ t →
     Joins (mate_in xs) s t (mate_in (set (set xs s (Some t)) t (Some s)))
 joins_list xs s t hs ht ne = record {
@@ -39,6 +41,7 @@ differ_turned true false = refl
 differ_turned false true = refl
 differ_turned false false = refl
 
+-- a load is the same from both sides
 pub load_turned : (n : ℕ) (f : Sets) (s t : ℕ) → loads n f s t ≡ loads n f t s
 load_turned n f s t = sum_same (2 * n) _ _ (λ i h. ap (λ z. cond z (f.value i) 0) (differ_turned (f.holds i s) (f.holds i t)))
 
@@ -74,6 +77,7 @@ pub record IsWayEnded (n : ℕ) (f : Sets) (dist : ℕ → ℕ → ℕ) (x : For
   pub kept : (i m u : ℕ) → IsExit n f x.mate i m u → (a : ℕ) × (b : ℕ) × IsExit n f new i a b
   pub root : (a : ℕ) × (b : ℕ) × IsExit n f new x.root a b
 
+-- the end of the loop, where the outer set has no pair
 pub way_ended : (n : ℕ) (f : Sets) (dist : ℕ → ℕ → ℕ) (x : Forest) (mates : List (Option ℕ)) (s t : ℕ) →
     length mates ≡ n → IsStage n f dist x → IsClimb n f dist x (mate_in mates) (s, t) →
     ((m : ℕ) → m < n → f.top m ≡ f.top s → mate_in mates m ≡ None) →

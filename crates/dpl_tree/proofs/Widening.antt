@@ -7,16 +7,17 @@ use Rattle.dpl_laminar.specs.Changes.{Gathers, IsShrunk, IsExpanded}
 use Rattle.dpl_laminar.proofs.Numbers.{true_false, some_none}
 use Rattle.dpl_tree.specs.declared.tree.Tree.{Tree}
 use Rattle.dpl_tree.specs.declared.tree.Label.TheVariants.{Free, Outer, Inner}
-use Rattle.dpl_tree.specs.Forests.{Place, free, outer, Forest, Grows, Folds, Opens}
+use Rattle.dpl_tree.specs.steps.Forests.{Place, free, outer, Forest, Grows, Folds, Opens}
 use Rattle.dpl_tree.specs.Stages.{IsStage}
 use Rattle.dpl_tree.specs.Stages.{Widens}
 use Rattle.dpl_tree.specs.Views.{place_in, place_of, forest_of}
-use Rattle.dpl_tree.specs.Opened.{IsOpening, around, Lists, lists_of, walked_times}
+use Rattle.dpl_tree.specs.steps.Opened.{IsOpening, around, Lists, lists_of, walked_times}
 use Rattle.dpl_tree.proofs.Growing.{inner_in, outer_in, outer_inner_no}
 use Rattle.dpl_tree.proofs.Unfolding.{released_of}
 
 -- ---- growth
 
+-- growth keeps the outer members
 pub grown_widens : (n : ℕ) (f : Sets) (x y : Forest) (s t o : ℕ) → x.place (f.top t) ≡ free → Grows f x s t o y → Widens n f x.place f y.place
 grown_widens n f x y s t o pt g = record {
   outer_stays = λ a ha p. elim (cases_eq (f.top a) (f.top o)) [
@@ -28,6 +29,7 @@ grown_widens n f x y s t o pt g = record {
 
 -- ---- a new set
 
+-- a new outer set keeps the outer members
 pub folded_widens : (n : ℕ) (f g : Sets) (dist : ℕ → ℕ → ℕ) (x y : Forest) (joins : List (ℕ × ℕ)) (cs ds : List ℕ)
     (meet set : ℕ) → IsStage n f dist x → cs ≡ ds → IsShrunk f cs joins set g → Folds x ds meet set y →
     Widens n f x.place g y.place
@@ -62,6 +64,7 @@ walked_others l sets joins i (suc r) none h =
     ap place_of (get_or-set_other (set m.labels o Outer) next i Inner Free b ∙
     get_or-set_other m.labels o i Outer Free a) ∙ walked_others l sets joins i r none (omega (arith, h))
 
+-- a set that gives way keeps the outer members
 pub given_widens : (n : ℕ) (f g : Sets) (dist : ℕ → ℕ → ℕ) (t0 t1 t2 : Tree) (mates new : List (Option ℕ)) (set : ℕ)
     (sets : List ℕ) (joins : List (ℕ × ℕ)) (p : ℕ) → IsStage n f dist (forest_of t0 mates) →
     IsOpening n f dist (forest_of t0 mates) set (around sets joins p) → IsExpanded f set g →

@@ -1,10 +1,11 @@
 //! Changes of the values of the tree's tops.
 
-ghost use Rattle.std.specs.Prelude.{◌≡◌, ◌≢◌, ℕ, ◌+◌, ◌*◌, ◌<◌, ◌≤◌, ◌^◌, true, length, slice_index};
+ghost use Rattle.std.specs.Prelude.{◌≡◌, ◌≢◌, ℕ, ◌+◌, ◌*◌, ◌<◌, ◌≤◌, ◌^◌, true, length};
+ghost use Rattle.std.specs.Prelude.{slice_index};
 ghost use Rattle.dpl_laminar.specs.Loads.{sum_below};
 ghost use Rattle.dpl_laminar.specs.Families.{IsFamily};
 ghost use Rattle.dpl_laminar.specs.Storing.{sets_of};
-ghost use Rattle.dpl_tree.specs.Forests.{free, inner, outer, gain, drop_of};
+ghost use Rattle.dpl_tree.specs.steps.Forests.{free, inner, outer, gain, drop_of};
 ghost use Rattle.dpl_tree.specs.Views.{place_in, place_of};
 
 use super::matching::Matching;
@@ -40,10 +41,10 @@ fn lower<L: Ledger>(family: &mut Family, tree: &Tree, by: u64, steps: &mut Steps
     requires labels { length tree.now.labels.items ≡ 2 * (sets_of family.old).size }
     requires family { IsFamily (sets_of family.old) }
     requires by { by ≤ 2 ^ 50 }
-    requires live { (i : ℕ) → i < 2 * (sets_of family.old).size → place_in tree.now.labels.items i ≡ inner →
-        (sets_of family.old).live i ≡ true }
-    requires enough { (i : ℕ) → i < 2 * (sets_of family.old).size → place_in tree.now.labels.items i ≡ inner →
-        by ≤ (sets_of family.old).value i }
+    requires live { (i : ℕ) → i < 2 * (sets_of family.old).size →
+        place_in tree.now.labels.items i ≡ inner → (sets_of family.old).live i ≡ true }
+    requires enough { (i : ℕ) → i < 2 * (sets_of family.old).size →
+        place_in tree.now.labels.items i ≡ inner → by ≤ (sets_of family.old).value i }
     ensures rest { sets_of family.new ≡ record (sets_of family.old)
         { value = (sets_of family.new).value } }
     ensures values { (i : ℕ) → i < 2 * (sets_of family.old).size →
@@ -86,10 +87,10 @@ fn lift<L: Ledger>(family: &mut Family, tree: &Tree, by: u64, steps: &mut Steps<
     requires labels { length tree.now.labels.items ≡ 2 * (sets_of family.old).size }
     requires family { IsFamily (sets_of family.old) }
     requires by { by ≤ 2 ^ 50 }
-    requires live { (i : ℕ) → i < 2 * (sets_of family.old).size → place_in tree.now.labels.items i ≡ outer →
-        (sets_of family.old).live i ≡ true }
-    requires room { (i : ℕ) → i < 2 * (sets_of family.old).size → place_in tree.now.labels.items i ≡ outer →
-        (sets_of family.old).value i + by ≤ 2 ^ 50 }
+    requires live { (i : ℕ) → i < 2 * (sets_of family.old).size →
+        place_in tree.now.labels.items i ≡ outer → (sets_of family.old).live i ≡ true }
+    requires room { (i : ℕ) → i < 2 * (sets_of family.old).size →
+        place_in tree.now.labels.items i ≡ outer → (sets_of family.old).value i + by ≤ 2 ^ 50 }
     ensures rest { sets_of family.new ≡ record (sets_of family.old)
         { value = (sets_of family.new).value } }
     ensures values { (i : ℕ) → i < 2 * (sets_of family.old).size →
@@ -111,11 +112,14 @@ fn retotal(family: &Family, tree: &Tree, totals: &mut [u64], by: u64)
     requires small { length totals.old ≤ 2048 }
     requires by { by ≤ 2 ^ 50 }
     requires enough { (m : ℕ) → m < length totals.old →
-        place_in tree.now.labels.items ((sets_of family.now).top m) ≡ inner → by ≤ slice_index totals.old m }
+        place_in tree.now.labels.items ((sets_of family.now).top m) ≡ inner →
+        by ≤ slice_index totals.old m }
     requires most { (m : ℕ) → m < length totals.old → slice_index totals.old m ≤ 2 ^ 60 }
     ensures { (m : ℕ) → m < length totals.old →
-        slice_index totals.new m + drop_of (place_in tree.now.labels.items ((sets_of family.now).top m)) * by ≡
-        slice_index totals.old m + gain (place_in tree.now.labels.items ((sets_of family.now).top m)) * by }
+        slice_index totals.new m +
+        drop_of (place_in tree.now.labels.items ((sets_of family.now).top m)) * by ≡
+        slice_index totals.old m +
+        gain (place_in tree.now.labels.items ((sets_of family.now).top m)) * by }
 {
     for m in 0..totals.len() {
         match tree.label(family.tops(m as u32)) {
@@ -163,7 +167,8 @@ pub fn shift<L: Ledger>(matching: &mut Matching, tree: &Tree, by: u64, steps: &m
     ensures mates { matching.new.mates ≡ matching.old.mates }
     ensures count { length matching.new.sums.items ≡ length matching.old.sums.items }
     ensures steps { steps.new ≡ steps.old + sum_below (2 * (sets_of matching.old.family).size)
-        (λ i. drop_of (place_in tree.now.labels.items i) + gain (place_in tree.now.labels.items i)) }
+        (λ i. drop_of (place_in tree.now.labels.items i) +
+        gain (place_in tree.now.labels.items i)) }
 {
     lower(&mut matching.family, tree, by, steps);
     lift(&mut matching.family, tree, by, steps);

@@ -1,11 +1,12 @@
 //! An inner set of value 0 is taken away, and some of its children stay in the tree.
 
-ghost use Rattle.std.specs.Prelude.{◌≡◌, ◌≢◌, ℕ, ◌+◌, ◌*◌, ◌<◌, ◌≤◌, ◌^◌, length, slice_index, IfOk};
+ghost use Rattle.std.specs.Prelude.{◌≡◌, ◌≢◌, ℕ, ◌+◌, ◌*◌, ◌<◌, ◌≤◌, ◌^◌, length, slice_index};
+ghost use Rattle.std.specs.Prelude.{IfOk};
 ghost use Rattle.dpl_laminar.specs.Storing.{sets_of};
-ghost use Rattle.dpl_tree.specs.Forests.{inner};
+ghost use Rattle.dpl_tree.specs.steps.Forests.{inner};
 ghost use Rattle.dpl_tree.specs.steps.Growth.{AreListed, IsGrowing, IsNext};
 ghost use Rattle.dpl_tree.specs.Metrics.{dist_of};
-ghost use Rattle.dpl_tree.specs.Opened.{IsOpening, around};
+ghost use Rattle.dpl_tree.specs.steps.Opened.{IsOpening, around};
 ghost use Rattle.dpl_tree.specs.Stages.{AreRanked};
 ghost use Rattle.dpl_tree.specs.Views.{forest_of, place_in};
 

@@ -1,8 +1,10 @@
 //! An inner set of value 0 gives way to its children.
 
-ghost use Rattle.std.specs.Prelude.{◌≡◌, ◌≢◌, ℕ, ◌+◌, ◌*◌, ◌/◌, ◌%◌, ◌<◌, ◌≤◌, ◌^◌, List, Option, nat_lt, if◌then◌else◌, length, slice_index, slice_index_or, slice_set, IfOk};
-ghost use Rattle.dpl_tree.specs.Forests.{Opens};
-ghost use Rattle.dpl_tree.specs.Opened.{join_at, paired_times, lists_of, walked_times};
+ghost use Rattle.std.specs.Prelude.{◌≡◌, ◌≢◌, ℕ, ◌+◌, ◌*◌, ◌/◌, ◌%◌, ◌<◌, ◌≤◌, ◌^◌, List, Option};
+ghost use Rattle.std.specs.Prelude.{nat_lt, if◌then◌else◌, length, slice_index, slice_index_or};
+ghost use Rattle.std.specs.Prelude.{slice_set, IfOk};
+ghost use Rattle.dpl_tree.specs.steps.Forests.{Opens};
+ghost use Rattle.dpl_tree.specs.steps.Opened.{join_at, paired_times, lists_of, walked_times};
 ghost use Rattle.dpl_tree.specs.Views.{forest_of};
 
 use super::pairs::pair;

@@ -1,8 +1,9 @@
 //! Growth of the tree.
 
-ghost use Rattle.std.specs.Prelude.{◌≡◌, ◌≢◌, ℕ, ◌+◌, ◌*◌, ◌<◌, ◌≤◌, ◌^◌, List, Option, length, slice_index};
+ghost use Rattle.std.specs.Prelude.{◌≡◌, ◌≢◌, ℕ, ◌+◌, ◌*◌, ◌<◌, ◌≤◌, ◌^◌, List, Option, length};
+ghost use Rattle.std.specs.Prelude.{slice_index};
 ghost use Rattle.dpl_laminar.specs.Storing.{sets_of};
-ghost use Rattle.dpl_tree.specs.Forests.{Grows};
+ghost use Rattle.dpl_tree.specs.steps.Forests.{Grows};
 ghost use Rattle.dpl_tree.specs.Views.{forest_of, IsSized};
 
 use super::tree::{Label, Tree};

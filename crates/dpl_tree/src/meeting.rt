@@ -1,13 +1,15 @@
-//! Two ways to the root from a tight pair of outer members: the sets up to where they meet become one.
+//! Two ways to the root from a tight pair of outer members: the sets up to where they meet
+//! become one.
 
-ghost use Rattle.std.specs.Prelude.{◌≡◌, ◌≢◌, ℕ, ◌+◌, ◌*◌, ◌<◌, ◌≤◌, ◌++◌, ◌∷◌, true, length, slice_index, slice_index_or, if◌then◌else◌, IfOk, reverse};
+ghost use Rattle.std.specs.Prelude.{◌≡◌, ◌≢◌, ℕ, ◌+◌, ◌*◌, ◌<◌, ◌≤◌, ◌++◌, ◌∷◌, true, length};
+ghost use Rattle.std.specs.Prelude.{slice_index, slice_index_or, if◌then◌else◌, IfOk, reverse};
 ghost use Rattle.dpl_laminar.specs.Families.{has};
 ghost use Rattle.dpl_laminar.specs.Storing.{sets_of};
 ghost use Rattle.dpl_tree.specs.Metrics.{dist_of};
-ghost use Rattle.dpl_tree.specs.Forests.{outer, inner, free};
+ghost use Rattle.dpl_tree.specs.steps.Forests.{outer, inner, free};
 ghost use Rattle.dpl_tree.specs.Mates.{IsExit, loads};
 ghost use Rattle.dpl_tree.specs.steps.Growth.{IsGrowing};
-ghost use Rattle.dpl_tree.specs.Joins.{AreClimbing, ways, tops_from};
+ghost use Rattle.dpl_tree.specs.steps.Joins.{AreClimbing, ways, tops_from};
 ghost use Rattle.dpl_tree.specs.Views.{mate_in, forest_of, place_in};
 
 use super::matching::Matching;
@@ -74,8 +76,10 @@ pub fn meet(
     requires growing { IsGrowing metric.now matching.now tree.now }
     requires s { s < metric.now.size }
     requires t { t < metric.now.size }
-    requires s_outer { place_in tree.now.labels.items ((sets_of matching.now.family).top s) ≡ outer }
-    requires t_outer { place_in tree.now.labels.items ((sets_of matching.now.family).top t) ≡ outer }
+    requires s_outer { place_in tree.now.labels.items
+        ((sets_of matching.now.family).top s) ≡ outer }
+    requires t_outer { place_in tree.now.labels.items
+        ((sets_of matching.now.family).top t) ≡ outer }
     ensures { IfOk result (λ r. AreClimbing metric.now.size (sets_of matching.now.family)
         (dist_of metric.now) (forest_of tree.now matching.now.mates.items) (s, t)
         (ways r.left.items r.right.items r.meet r.meet)) }

@@ -1,6 +1,7 @@
 //! The alternating tree of one stage.
 
-ghost use Rattle.std.specs.Prelude.{◌≡◌, ◌<◌, length, replicate, slice_index, slice_index_or, slice_set, IfOk};
+ghost use Rattle.std.specs.Prelude.{◌≡◌, ◌<◌, length, replicate, slice_index, slice_index_or};
+ghost use Rattle.std.specs.Prelude.{slice_set, IfOk};
 
 use std::alloc::{AllocError, Global};
 

@@ -3,7 +3,7 @@
 ghost use Rattle.std.specs.Prelude.{◌≡◌, ◌≢◌, ℕ, ◌+◌, ◌*◌, ◌<◌, ◌≤◌, length};
 ghost use Rattle.dpl_laminar.specs.Storing.{sets_of};
 ghost use Rattle.dpl_tree.specs.Metrics.{dist_of};
-ghost use Rattle.dpl_tree.specs.Forests.{IsClimb};
+ghost use Rattle.dpl_tree.specs.steps.Forests.{IsClimb};
 ghost use Rattle.dpl_tree.specs.Mates.{ArePairs, IsExit, loads};
 ghost use Rattle.dpl_tree.specs.Stages.{IsStage};
 ghost use Rattle.dpl_tree.specs.Views.{mate_in, forest_of, IsSized};

@@ -1,5 +1,5 @@
 use Rattle.std.proofs.Common.{arith, ◌≡◌, ℕ, subst}
-use Rattle.dpl_match.specs.Scans.{members_of, IsFound}
+use Rattle.dpl_match.specs.steps.Scans.{members_of, IsFound}
 use Rattle.dpl_tree.specs.Views.{place_of, place_in}
 use Rattle.dpl_match.proofs.scan.nearest.Goals as goal
 

@@ -1,6 +1,6 @@
 use Rattle.std.proofs.Common.{◌≡◌, ℕ, ◌+◌, ◌*◌, ◌<◌, ◌≤◌, get_or}
 use Rattle.dpl_laminar.specs.Storing.{sets_of}
-use Rattle.dpl_tree.specs.Forests.{gain, drop_of}
+use Rattle.dpl_tree.specs.steps.Forests.{gain, drop_of}
 use Rattle.dpl_tree.specs.Views.{place_in}
 use Rattle.dpl_tree.proofs.change.retotal.Given as goal
 

@@ -4,7 +4,7 @@ use Rattle.dpl_laminar.specs.Loads.{sum_below}
 use Rattle.dpl_laminar.specs.Families.{Sets}
 use Rattle.dpl_laminar.specs.Storing.{sets_of}
 use Rattle.dpl_laminar.proofs.Sums.{sum_added}
-use Rattle.dpl_tree.specs.Forests.{gain, drop_of}
+use Rattle.dpl_tree.specs.steps.Forests.{gain, drop_of}
 use Rattle.dpl_tree.specs.Views.{place_in}
 use Rattle.dpl_tree.proofs.Growing.{outer_in}
 use Rattle.dpl_tree.proofs.MatchingLemmas.{refilled}
@@ -18,12 +18,14 @@ lift-requires-clause-live g c =
 
 pub retotal-requires-clause-enough : goal.retotal-requires-clause-enough
 retotal-requires-clause-enough g c =
-    let e = values_kept (sets_of c.args.matching.now.family) (sets_of c.lower.new.family) (sets_of c.lift.new.family) c.lower.ensures.rest c.lift.ensures.rest in
+    let e = values_kept (sets_of c.args.matching.now.family) (sets_of c.lower.new.family) (sets_of c.lift.new.family)
+    c.lower.ensures.rest c.lift.ensures.rest in
     rw c.deref_mut.ensures.value (λ m h p. c.requires.inner_totals m h (ap (λ (z : Sets). place_in c.args.tree.now.labels.items (z.top m)) (sym e) ∙ p))
 
 pub returns-clause-totals : goal.returns-clause-totals
 returns-clause-totals g c =
-    let e = values_kept (sets_of c.args.matching.now.family) (sets_of c.lower.new.family) (sets_of c.lift.new.family) c.lower.ensures.rest c.lift.ensures.rest in
+    let e = values_kept (sets_of c.args.matching.now.family) (sets_of c.lower.new.family) (sets_of c.lift.new.family)
+    c.lower.ensures.rest c.lift.ensures.rest in
     let sums : List ℕ = c.args.matching.now.sums.items in
     let labels : List Label = c.args.tree.now.labels.items in
     let total = rw c.deref_mut.ensures.value at c.retotal.ensures in
@@ -42,4 +44,10 @@ returns-clause-steps g c =
     let e = ap (λ (z : Sets). z.size) c.lower.ensures.rest in
     let up : ℕ → ℕ = λ i. gain (place_in c.args.tree.now.labels.items i) in
     let down : ℕ → ℕ = λ i. drop_of (place_in c.args.tree.now.labels.items i) in
-    omega (arith, c.lift.ensures.steps, c.lower.ensures.steps, sum_added (2 * (sets_of c.args.matching.now.family).size) down up, ap (λ (z : ℕ). sum_below (2 * z) up) e)
+    omega (
+      arith,
+      c.lift.ensures.steps,
+      c.lower.ensures.steps,
+      sum_added (2 * (sets_of c.args.matching.now.family).size) down up,
+      ap (λ (z : ℕ). sum_below (2 * z) up) e,
+    )

@@ -37,7 +37,8 @@ returns g c =
     let back = refilled {ws = c.pair_round.new.mates} c.args.matching.now.mates.items c.args.matching.now.mates.ok.0 size in
     let done = gave_way c.args.matching.now.mates.items _ c.size-size.ensures.table.metric q.growing.lists.mates_count q.growing.stage q.small
     c.in_ok-path.ensures c.expand.ensures.value c.expand.ensures.family q.growing.sized entered sized
-    c.deref.ensures.value (back ∙ rw c.deref_mut.ensures.value at c.pair_round.ensures) c.deref-2.ensures.value c.first_set-first.ensures c.enter.ensures.opens c.enter.ensures.root
+    c.deref.ensures.value (back ∙ rw c.deref_mut.ensures.value at c.pair_round.ensures) c.deref-2.ensures.value
+    c.first_set-first.ensures c.enter.ensures.opens c.enter.ensures.root
     c.deref-3.ensures.value c.deref-4.ensures.value c.walk.ensures.walked c.walk.ensures.root in
     record {
       next = event_next (λ bound. omega arith) done sized;

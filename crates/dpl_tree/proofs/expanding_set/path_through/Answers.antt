@@ -25,7 +25,8 @@ returns-then-at-eq0 c =
 pub unreachable-requires : goal.unreachable-requires
 unreachable-requires c =
     let w = c.requires.growing.stage.tree.inner_pair c.args.set c.requires.is_inner in
-    some_none (mate_in c.args.matching.now.mates.items w.0) w.1 w.2.paired (c.in-None.ensures w.0 (omega (arith, w.2.below, c.requires.growing.stage.rest.size)) w.2.top)
+    some_none (mate_in c.args.matching.now.mates.items w.0) w.1 w.2.paired
+    (c.in-None.ensures w.0 (omega (arith, w.2.below, c.requires.growing.stage.rest.size)) w.2.top)
 
 pub returns : goal.returns
 returns c =

@@ -9,7 +9,8 @@ use Rattle.dpl_tree.proofs.fold_up.fold.Goals as goal
 pub tops_of-requires : goal.tops_of-requires
 tops_of-requires g c =
     let q = c.requires in
-    folding_from q.growing.stage (folding_of q.growing.stage q.pair.from q.pair.to q.tight q.pair.apart c.in_ok-meeting.ensures c.in_ok-joins.ensures c.deref.ensures.value)
+    let w = folding_of q.growing.stage q.pair.from q.pair.to q.tight q.pair.apart c.in_ok-meeting.ensures c.in_ok-joins.ensures c.deref.ensures.value in
+    folding_from q.growing.stage w
 
 pub shrink-requires : goal.shrink-requires
 shrink-requires g c =

@@ -2,7 +2,7 @@ use Rattle.std.proofs.Common.{arith, ◌≡◌, ◌<◌, ◌≤◌, ℕ, sym, ap
 use Rattle.dpl_laminar.specs.Families.{Sets}
 use Rattle.dpl_laminar.specs.Storing.{sets_of}
 use Rattle.dpl_tree.specs.Metrics.{dist_of}
-use Rattle.dpl_tree.specs.Forests.{Forest}
+use Rattle.dpl_tree.specs.steps.Forests.{Forest}
 use Rattle.dpl_tree.specs.Views.{forest_of}
 use Rattle.dpl_tree.proofs.Meetings.{step_of, climbing_left, climbing_right, not_root}
 use Rattle.dpl_tree.proofs.meeting.meet.Goals as goal

@@ -1,7 +1,7 @@
 use Rattle.std.proofs.Common.{◌+◌, get_or}
 use Rattle.dpl_laminar.specs.Storing.{sets_of}
 use Rattle.dpl_tree.specs.Metrics.{dist_of}
-use Rattle.dpl_tree.specs.Joins.{AreClimbing, ways}
+use Rattle.dpl_tree.specs.steps.Joins.{AreClimbing, ways}
 use Rattle.dpl_tree.specs.Views.{forest_of}
 use Rattle.dpl_tree.proofs.meeting.meet.Given as goal
 

@@ -1,6 +1,6 @@
 use Rattle.std.proofs.Common.{ℕ, get_or}
 use Rattle.dpl_laminar.specs.Storing.{sets_of}
-use Rattle.dpl_tree.specs.Forests.{IsClimb}
+use Rattle.dpl_tree.specs.steps.Forests.{IsClimb}
 use Rattle.dpl_tree.specs.Metrics.{dist_of}
 use Rattle.dpl_tree.specs.Views.{mate_in, forest_of}
 use Rattle.dpl_tree.proofs.way.augment.Given as goal

@@ -1,7 +1,8 @@
 -- Ways along tight joins from top to top.
-use Rattle.std.specs.Prelude.{◌≡◌, ◌≢◌, ℕ, ◌+◌, ◌%◌, ◌<◌, ◌≤◌, ◌⊎◌, ◌==◌, if◌then◌else◌, List, [], ◌∷◌, length, map, reverse}
+use Rattle.std.specs.Prelude.{◌≡◌, ◌≢◌, ℕ, ◌+◌, ◌%◌, ◌<◌, ◌≤◌, ◌⊎◌, ◌==◌, if◌then◌else◌, List, []}
+use Rattle.std.specs.Prelude.{◌∷◌, length, map, reverse}
 use Rattle.dpl_laminar.specs.Families.{Sets}
-use Rattle.dpl_tree.specs.Forests.{free, outer, Forest}
+use Rattle.dpl_tree.specs.steps.Forests.{free, outer, Forest}
 use Rattle.dpl_tree.specs.Mates.{IsExit, loads}
 
 -- each join leads from a member of one top to one of the next, from the top a to the top b
@@ -23,8 +24,9 @@ tops_from f joins = map (λ j. f.top j.0) joins
 abbrev pub tops_to : Sets → List (ℕ × ℕ) → List ℕ
 tops_to f joins = map (λ j. f.top j.1) joins
 
--- The sets below a and b on two ways up, each as often as it was met: none twice, each with the set that it is paired
--- with, and no outer one among them has less rank than a or b, or is a or b.
+-- The sets below a and b on two ways up, each as often as it was met: none twice, each with the
+-- set that it is paired with, and no outer one among them has less rank than a or b, or is a or
+-- b.
 pub record AreGathered (n : ℕ) (f : Sets) (x : Forest) (a b : ℕ) (met : ℕ → ℕ) : Type 0 where
   pub a_outer : x.place a ≡ outer
   pub b_outer : x.place b ≡ outer

@@ -1,5 +1,5 @@
--- The alternating tree of one stage over the top sets of a family, and what each single step makes of it, after Edmonds
--- 1965, "Paths, trees, and flowers".
+-- The alternating tree of one stage over the top sets of a family, and what each single step
+-- makes of it, after Edmonds 1965, "Paths, trees, and flowers".
 use Rattle.std.specs.Prelude.{◌≡◌, ◌≢◌, ℕ, ◌+◌, ◌*◌, ◌<◌, ◌≤◌, true, false, Option, None, List}
 use Rattle.dpl_laminar.specs.Families.{Sets, has}
 use Rattle.dpl_tree.specs.Mates.{IsExit, ArePairs, loads}
@@ -34,8 +34,9 @@ pub record Shifts (k : ℕ) (f : Sets) (place : ℕ → Place) (by : ℕ) (old n
   pub tops : (i : ℕ) → i < k → place i ≢ free → f.parent i ≡ None
   pub each : (i : ℕ) → i < k → new i + drop_of (place i) * by ≡ old i + gain (place i) * by
 
--- the pairs between tops, and the tree: by the numbers of the sets how they stand in it, a rank that rises away from the
--- root, and for an inner set the outer member and its own member that lead to it
+-- the pairs between tops, and the tree: by the numbers of the sets how they stand in it, a rank
+-- that rises away from the root, and for an inner set the outer member and its own member that
+-- lead to it
 pub record Forest : Type 0 where
   pub mate : ℕ → Option ℕ
   pub place : ℕ → Place
@@ -77,9 +78,10 @@ pub record Grows (f : Sets) (x : Forest) (s t o : ℕ) (y : Forest) : Type 0 whe
   pub entry : y.entry (f.top t) ≡ t
   pub link_others : (i : ℕ) → i ≢ f.top t → (y.above i ≡ x.above i) × (y.entry i ≡ x.entry i)
 
--- On the way from a free set to the root: the first member of a join, in an outer set of the tree x, is to become the
--- mate of the second one, in a set with no pair. The sets of the tree up to the rank of the first one's set have their
--- pairs, and each set but the second one's has one that had one.
+-- On the way from a free set to the root: the first member of a join, in an outer set of the
+-- tree x, is to become the mate of the second one, in a set with no pair. The sets of the tree
+-- up to the rank of the first one's set have their pairs, and each set but the second one's has
+-- one that had one.
 pub record IsClimb (n : ℕ) (f : Sets) (dist : ℕ → ℕ → ℕ) (x : Forest) (mate : ℕ → Option ℕ)
     (join : ℕ × ℕ) : Type 0 where
   pub s_range : join.0 < n
@@ -118,7 +120,8 @@ pub record Folds (x : Forest) (children : List ℕ) (meet set : ℕ) (y : Forest
   pub root_in : has children x.root ≡ true → y.root ≡ set
   pub root_out : has children x.root ≡ false → y.root ≡ x.root
 
--- an inner set, an outer set, and how many ranks there are between them for what is still to come
+-- an inner set, an outer set, and how many ranks there are between them for what is still to
+-- come
 pub record Gap : Type 0 where
   pub cur : ℕ
   pub out : ℕ
@@ -149,7 +152,8 @@ pub record IsBroken (n : ℕ) (f : Sets) (load dist : ℕ → ℕ → ℕ) (x : 
   pub out_outer : x.place g.out ≡ outer
   pub room_left : x.rank g.cur + g.room < x.rank g.out
 
--- an inner set has given way to its child that the tree enters, and the ranks above it have made room
+-- an inner set has given way to its child that the tree enters, and the ranks above it have made
+-- room
 pub record Opens (x : Forest) (set first room : ℕ) (y : Forest) : Type 0 where
   pub root : y.root ≡ x.root
   pub place_set : y.place set ≡ free
@@ -162,7 +166,8 @@ pub record Opens (x : Forest) (set first room : ℕ) (y : Forest) : Type 0 where
   pub entry_first : y.entry first ≡ x.entry set
   pub link_others : (i : ℕ) → i ≢ first → (y.above i ≡ x.above i) × (y.entry i ≡ x.entry i)
 
--- two children more stand in the tree: one that is paired with the last inner one, and the next around
+-- two children more stand in the tree: one that is paired with the last inner one, and the next
+-- around
 pub record Walks (x : Forest) (cur o next : ℕ) (join : ℕ × ℕ) (y : Forest) : Type 0 where
   pub mates : (i : ℕ) → y.mate i ≡ x.mate i
   pub root : y.root ≡ x.root

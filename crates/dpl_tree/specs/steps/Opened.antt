@@ -1,10 +1,12 @@
 -- The children of a set around its ring, and what becomes of them when the set gives way to them.
-use Rattle.std.specs.Prelude.{◌≡◌, ◌≢◌, ℕ, ◌+◌, ◌*◌, ◌%◌, ◌<◌, ◌≤◌, zero, suc, true, nat_lt, if◌then◌else◌, Option, Some, List, length, slice_index, slice_index_or, slice_set}
+use Rattle.std.specs.Prelude.{◌≡◌, ◌≢◌, ℕ, ◌+◌, ◌*◌, ◌%◌, ◌<◌, ◌≤◌, zero, suc, true, nat_lt}
+use Rattle.std.specs.Prelude.{if◌then◌else◌, Option, Some, List, length, slice_index}
+use Rattle.std.specs.Prelude.{slice_index_or, slice_set}
 use Rattle.dpl_laminar.specs.Families.{Sets, has, next_in}
 use Rattle.dpl_tree.specs.declared.tree.Label.{Label}
 use Rattle.dpl_tree.specs.declared.tree.Label.TheVariants.{Outer, Inner}
 use Rattle.dpl_tree.specs.declared.tree.Tree.{Tree}
-use Rattle.dpl_tree.specs.Forests.{Forest, inner}
+use Rattle.dpl_tree.specs.steps.Forests.{Forest, inner}
 use Rattle.dpl_tree.specs.Mates.{IsExit, loads}
 use Rattle.dpl_tree.specs.Views.{place_in}
 
