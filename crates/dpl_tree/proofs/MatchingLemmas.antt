@@ -1,5 +1,5 @@
 -- A matching whose lists are changed in place, and what an event makes of it.
-use Rattle.std.proofs.Common.{arith, ◌≡◌, ℕ, ◌+◌, ◌*◌, ◌<◌, ◌≤◌, sym, ap, ◌∙◌, subst, List, length, take, drop, ◌++◌, get_or}
+use Rattle.std.proofs.Common.{arith, ◌≡◌, ℕ, ◌+◌, ◌*◌, ◌<◌, ◌≤◌, sym, ap, ◌∙◌, List, length, take, drop, ◌++◌, get_or}
 use Rattle.std.proofs.Math.Seq.{take-append_seam}
 use Rattle.dpl_laminar.specs.Storing.{sets_of}
 use Rattle.dpl_tree.specs.declared.matching.Matching.{Matching}
@@ -7,7 +7,7 @@ use Rattle.dpl_tree.specs.declared.tree.Tree.{Tree}
 use Rattle.dpl_tree.specs.Mates.{totals}
 use Rattle.dpl_tree.specs.Metrics.{Table, dist_of}
 use Rattle.dpl_tree.specs.Views.{forest_of, IsSized}
-use Rattle.dpl_tree.specs.steps.Growth.{AreListed, IsGrowing, IsNext}
+use Rattle.dpl_tree.specs.steps.Growth.{AreListed, IsNext}
 use Rattle.dpl_tree.proofs.Events.{IsEvent}
 
 -- a list that was written over in place, as long as it was

@@ -1,5 +1,5 @@
 -- Changes of values, one set after another.
-use Rattle.std.proofs.Common.{arith, ◌≡◌, ◌≢◌, ℕ, zero, suc, ◌+◌, ◌*◌, ◌<◌, ◌≤◌, refl, ap, ◌∙◌, true, cond, inl, inr, eqb, eq-eqb, None}
+use Rattle.std.proofs.Common.{arith, ◌≡◌, ◌≢◌, ℕ, zero, suc, ◌+◌, ◌*◌, ◌<◌, ◌≤◌, ap, ◌∙◌, true, cond, inl, inr, eqb, eq-eqb, None}
 use Rattle.std.proofs.lemmas.Bool.{cases_eq, cond-true}
 use Rattle.dpl_laminar.specs.Loads.{sum_below}
 use Rattle.dpl_laminar.specs.Families.{Sets, IsLaminar}

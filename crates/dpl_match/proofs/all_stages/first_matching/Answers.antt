@@ -1,7 +1,6 @@
 use Rattle.std.proofs.Common.{arith, ◌≡◌, ℕ, sym, ap, subst, ◌∙◌, Option, List, length, get_or}
 use Rattle.dpl_laminar.specs.Families.{Sets}
 use Rattle.dpl_laminar.specs.Storing.{sets_of}
-use Rattle.dpl_tree.specs.Mates.{totals}
 use Rattle.dpl_tree.specs.Metrics.{dist_of}
 use Rattle.dpl_tree.specs.Stages.{IsRest}
 use Rattle.dpl_tree.specs.Views.{mate_in}

@@ -1,4 +1,4 @@
-use Rattle.std.proofs.Common.{ℕ, get_or}
+use Rattle.std.proofs.Common.{get_or}
 use Rattle.dpl_laminar.specs.Storing.{sets_of}
 use Rattle.dpl_tree.specs.steps.Forests.{IsClimb}
 use Rattle.dpl_tree.specs.Metrics.{dist_of}
