@@ -1,75 +1,97 @@
 -- The change of values within a turn, and what is said after it of the state before it.
-use Rattle.std.proofs.Common.{arith, ◌≡◌, ℕ, ◌+◌, ◌*◌, ◌<◌, ◌≤◌, ap, Bool, Option, List, length, get_or}
+use Rattle.std.proofs.Common.{arith, ◌≡◌, ℕ, ◌+◌, ◌*◌, ◌<◌, ◌≤◌, sym, ap, subst, ◌∙◌, Option, List, length, get_or}
 use Rattle.dpl_laminar.specs.Loads.{sum_below}
 use Rattle.dpl_laminar.specs.Families.{Sets, IsFamily}
-use Rattle.dpl_tree.specs.declared.tree.Label.{Label}
+use Rattle.dpl_laminar.specs.Storing.{sets_of}
+use Rattle.dpl_tree.specs.declared.matching.Matching.{Matching}
 use Rattle.dpl_tree.specs.declared.tree.Tree.{Tree}
-use Rattle.dpl_tree.specs.Forests.{Forest, inner, gain, drop_of}
-use Rattle.dpl_tree.specs.Mates.{totals}
-use Rattle.dpl_tree.specs.Metrics.{IsMetric}
-use Rattle.dpl_tree.specs.Stages.{IsStage, Ends, potential}
+use Rattle.dpl_tree.specs.steps.Forests.{Forest, inner, gain, drop_of}
+use Rattle.dpl_tree.specs.Metrics.{Table, IsMetric, dist_of}
+use Rattle.dpl_tree.specs.Stages.{IsStage, Advances, Ends, potential}
+use Rattle.dpl_tree.specs.steps.Growth.{IsGrowing, IsNext}
 use Rattle.dpl_tree.specs.Views.{forest_of, place_in}
 use Rattle.dpl_tree.proofs.Widening.{widens_back}
 use Rattle.dpl_match.specs.declared.scan.Event.{Event}
-use Rattle.dpl_match.specs.Going.{IsAtTurn}
-use Rattle.dpl_match.specs.Nearest.{AreNear}
-use Rattle.dpl_match.specs.Scans.{members_by}
-use Rattle.dpl_match.specs.Turns.{IsDueNow, IsNext, IsChosen}
+use Rattle.dpl_match.specs.declared.stage.Stage.{Stage}
+use Rattle.dpl_match.specs.steps.Going.{IsAtTurn}
+use Rattle.dpl_match.specs.steps.Nearest.{AreNear}
+use Rattle.dpl_match.specs.steps.Scans.{members_of}
+use Rattle.dpl_match.specs.steps.Turns.{IsDueNow, IsChosen}
 use Rattle.dpl_match.proofs.NearLemmas.{moved}
 use Rattle.dpl_match.proofs.TurnLemmas.{totals_enough, turned_stage, turned_totals, advance_back, end_back, shifts_few}
 
 -- no total of an inner member falls below 0
-pub shift_enough : {n : ℕ} {dist : ℕ → ℕ → ℕ} {f : Sets} {t : Tree} {mates : List (Option ℕ)} {labels : List Label} {sums : List ℕ} {known : List Bool}
-    {near : List (Option ℕ)} {by : ℕ} {event : Event} → labels ≡ t.labels.items → IsAtTurn n dist f t mates sums known near →
-    IsChosen n f (forest_of t mates) dist by event → (m : ℕ) → m < length sums → place_in labels (f.top m) ≡ inner → by ≤ get_or sums m 0
-shift_enough {n} {f} {by} is start ch m h p =
-    let hm : m < n = omega (arith, h, start.sums_count) in
-    let tops = start.stage.rest.laminar.tops in
-    let r = tops.top_range m hm in
-    omega (arith, totals_enough n f m by hm r (tops.top_holds m hm) (ch.enough (f.top m) r (rw is at p)), start.sum m hm)
+pub shift_enough : {metric : Table} {m : Matching} {s : Stage} {by : ℕ} {event : Event} → IsAtTurn metric m s →
+    IsChosen metric.size (sets_of m.family) (forest_of s.tree m.mates.items) (dist_of metric) by event → (k : ℕ) →
+    k < length m.sums.items → place_in s.tree.labels.items ((sets_of m.family).top k) ≡ inner → by ≤ get_or m.sums.items k 0
+shift_enough {metric} {m} {by} start ch k h p =
+    let lists = start.growing.lists in
+    let hk : k < metric.size = omega (arith, h, lists.sums_count) in
+    let f : Sets = sets_of m.family in
+    let tops = start.growing.stage.rest.laminar.tops in
+    let r = tops.top_range k hk in
+    omega (arith, totals_enough metric.size f k by hk r (tops.top_holds k hk) (ch.enough (f.top k) r p), lists.sum k hk)
 
--- the sets f have become the sets g by a change of values: the event after it starts from this, and
+-- a matching has become the next one by a change of values: the event after it starts from this, and
 -- what holds after that event holds of the state before the change
-pub record IsShifted (n : ℕ) (dist : ℕ → ℕ → ℕ) (f g : Sets) (t : Tree) (mates : List (Option ℕ)) (sums : List ℕ) (known : List Bool)
-    (near : List (Option ℕ)) (event : Event) (before steps : ℕ) : Type 0 where
-  pub stage : IsStage n g dist (forest_of t mates)
-  pub due : IsDueNow n g (place_in t.labels.items) dist event
-  pub sum : (m : ℕ) → m < n → get_or sums m 0 ≡ totals n g m
-  pub few : steps ≤ before + n
-  pub left : potential n g (place_in t.labels.items) ≡ potential n f (place_in t.labels.items)
-  pub next : (h : Sets) (u : Tree) (new : List (Option ℕ)) → IsNext n dist g t mates h u new → IsNext n dist f t mates h u new
-  pub ends : (h : Sets) (new : ℕ → Option ℕ) → Ends n dist g (forest_of t mates) h new → Ends n dist f (forest_of t mates) h new
-  pub nears : (h : Sets) (u : Tree) (new : List (Option ℕ)) → IsNext n dist g t mates h u new →
-      AreNear (members_by n h (place_in u.labels.items) dist (λ m. get_or sums m 0)) known near
+pub record IsShifted (metric : Table) (m next : Matching) (s : Stage) (event : Event) (before steps : ℕ) : Type 0 where
+  pub growing : IsGrowing metric next s.tree
+  pub due : IsDueNow metric.size (sets_of next.family) (place_in s.tree.labels.items) (dist_of metric) event
+  pub few : steps ≤ before + metric.size
+  pub left : potential metric.size (sets_of next.family) (place_in s.tree.labels.items) ≡
+      potential metric.size (sets_of m.family) (place_in s.tree.labels.items)
+  pub on : (last : Matching) (u : Tree) → IsNext metric next s.tree last u → IsNext metric m s.tree last u
+  pub ends : (h : Sets) (new : ℕ → Option ℕ) → Ends metric.size (dist_of metric) (sets_of next.family) (forest_of s.tree next.mates.items) h new →
+      Ends metric.size (dist_of metric) (sets_of m.family) (forest_of s.tree m.mates.items) h new
+  pub nears : (last : Matching) (u : Tree) → IsNext metric next s.tree last u → last.sums ≡ next.sums →
+      AreNear (members_of metric last) (place_in u.labels.items) s.table
 
-pub shifted : {n : ℕ} {dist : ℕ → ℕ → ℕ} {f g : Sets} {t : Tree} {mates : List (Option ℕ)} {labels : List Label} {sums sums' : List ℕ} {known : List Bool}
-    {near : List (Option ℕ)} {by : ℕ} {event : Event} {before steps : ℕ} → labels ≡ t.labels.items → IsMetric n dist →
-    IsAtTurn n dist f t mates sums known near → IsChosen n f (forest_of t mates) dist by event → g ≡ record f { value = g.value } →
-    ((i : ℕ) → i < 2 * f.size → g.value i + drop_of (place_in labels i) * by ≡ f.value i + gain (place_in labels i) * by) → IsFamily g →
-    ((m : ℕ) → m < length sums →
-    get_or sums' m 0 + drop_of (place_in labels (f.top m)) * by ≡ get_or sums m 0 + gain (place_in labels (f.top m)) * by) →
-    steps ≡ before + sum_below (2 * f.size) (λ i. drop_of (place_in labels i) + gain (place_in labels i)) →
-    IsShifted n dist f g t mates sums' known near event before steps
-shifted {n} {dist} {f} {g} {t} {mates} {labels} {sums} {sums'} {known} {near} {by} {event} is me start ch same values fam sum count =
-    let x : Forest = forest_of t mates in
-    let size = start.stage.rest.size in
-    let each = λ (i : ℕ) (h : i < 2 * n). rw is at (values i (omega (arith, h, size))) in
-    let total = λ (m : ℕ) (h : m < n). rw is at (sum m (omega (arith, h, start.sums_count))) in
-    let after = turned_stage n f g dist x by event me start.stage ch same each fam in
-    let widens = λ (h : Sets) (u : Tree) (new : List (Option ℕ)) (w : IsNext n dist g t mates h u new). widens_back n f g h _ _ same w.widens in
+-- a change of values as the code makes it
+pub shifted : {metric : Table} {m next : Matching} {s : Stage} {by : ℕ} {event : Event} {before steps : ℕ} → IsMetric metric.size (dist_of metric) →
+    IsAtTurn metric m s → IsChosen metric.size (sets_of m.family) (forest_of s.tree m.mates.items) (dist_of metric) by event →
+    sets_of next.family ≡ record (sets_of m.family) { value = (sets_of next.family).value } →
+    ((i : ℕ) → i < 2 * (sets_of m.family).size → (sets_of next.family).value i + drop_of (place_in s.tree.labels.items i) * by ≡
+    (sets_of m.family).value i + gain (place_in s.tree.labels.items i) * by) → IsFamily (sets_of next.family) →
+    ((k : ℕ) → k < length m.sums.items → get_or next.sums.items k 0 + drop_of (place_in s.tree.labels.items ((sets_of m.family).top k)) * by ≡
+    get_or m.sums.items k 0 + gain (place_in s.tree.labels.items ((sets_of m.family).top k)) * by) →
+    next.mates ≡ m.mates → length next.sums.items ≡ length m.sums.items →
+    steps ≡ before + sum_below (2 * (sets_of m.family).size) (λ i. drop_of (place_in s.tree.labels.items i) + gain (place_in s.tree.labels.items i)) →
+    IsShifted metric m next s event before steps
+shifted {metric} {m} {next} {s} {by} {event} me start ch same values fam sum mates size_kept count =
+    let n : ℕ = metric.size in
+    let f : Sets = sets_of m.family in
+    let g : Sets = sets_of next.family in
+    let dist : ℕ → ℕ → ℕ = dist_of metric in
+    let x : Forest = forest_of s.tree m.mates.items in
+    let lists = start.growing.lists in
+    let st = start.growing.stage in
+    let size = st.rest.size in
+    let em : next.mates.items ≡ m.mates.items = ap (λ z. z.items) mates in
+    let each = λ (i : ℕ) (h : i < 2 * n). values i (omega (arith, h, size)) in
+    let total = λ (k : ℕ) (h : k < n). sum k (omega (arith, h, lists.sums_count)) in
+    let after = turned_stage n f g dist x by event me st ch same each fam in
+    let widens = λ (last : Matching) (u : Tree) (w : IsNext metric next s.tree last u). widens_back n f g (sets_of last.family) _ _ same w.widens in
     record {
-      stage = after.0;
+      growing = record {
+        lists = record {
+          mates_count = ap length em ∙ lists.mates_count;
+          sums_count = size_kept ∙ lists.sums_count;
+          sum = λ k h. omega (arith, turned_totals n f g dist x by st same each k h, total k h, lists.sum k h);
+        };
+        sized = start.growing.sized;
+        stage = subst (λ (z : List (Option ℕ)). IsStage n g dist (forest_of s.tree z)) (sym em) after.0;
+      };
       due = after.1;
-      sum = λ m h. omega (arith, turned_totals n f g dist x by start.stage same each m h, total m h, start.sum m h);
-      few = omega (arith, rw (size, is) at count, shifts_few n f dist x start.stage);
+      few = omega (arith, rw size at count, shifts_few n f dist x st);
       left = ap (λ (z : Sets). potential n z x.place) same;
-      next = λ h u new w. record {
-        advances = advance_back n f g h dist x (forest_of u new) same w.advances;
+      on = λ last u w. record {
+        advances = advance_back n f g (sets_of last.family) dist x (forest_of u last.mates.items) same
+            (subst (λ (z : List (Option ℕ)). Advances n dist g (forest_of s.tree z) (sets_of last.family) (forest_of u last.mates.items)) em w.advances);
         sized = w.sized;
         ranks = w.ranks;
-        widens = widens h u new w;
+        widens = widens last u w;
       };
-      ends = λ h new w. end_back n f g h dist x new same w;
-      nears = λ h u new w.
-          moved n f h x.place (forest_of u new).place dist _ (λ m. get_or sums' m 0) known near by start.nearest.near_outer (widens h u new w) total;
+      ends = λ h new w. end_back n f g h dist x new same (subst (λ (z : List (Option ℕ)). Ends n dist g (forest_of s.tree z) h new) em w);
+      nears = λ last u w e. rw e (moved n f (sets_of last.family) x.place (place_in u.labels.items) dist (λ k. get_or m.sums.items k 0)
+          (λ k. get_or next.sums.items k 0) s.table by start.nearest.near_outer (widens last u w) total);
     }

@@ -6,7 +6,7 @@ use Rattle.std.proofs.lemmas.Bool.{cases_eq}
 use Rattle.dpl_laminar.specs.Families.{Sets, IsFamily, IsLaminar}
 use Rattle.dpl_laminar.specs.Changes.{IsSingles}
 use Rattle.dpl_laminar.proofs.Numbers.{some_none}
-use Rattle.dpl_match.specs.Starting.{AreRaised, AreAlone}
+use Rattle.dpl_match.specs.steps.Starting.{AreRaised, AreAlone}
 use Rattle.dpl_tree.specs.Mates.{IsExit, loads, totals}
 use Rattle.dpl_tree.specs.Metrics.{IsMetric}
 use Rattle.dpl_tree.specs.Stages.{IsRest}

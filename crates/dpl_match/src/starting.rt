@@ -1,11 +1,12 @@
 //! The first values and pairs: each single member gets half the distance to its nearest one, and
 //! what is tight then is paired.
 
-ghost use Rattle.std.specs.Prelude.{◌≡◌, ◌≢◌, ℕ, ◌+◌, ◌*◌, ◌<◌, ◌≤◌, ◌^◌, None, true, false, replicate, length, slice_index};
+ghost use Rattle.std.specs.Prelude.{◌≡◌, ◌≢◌, ℕ, ◌+◌, ◌*◌, ◌<◌, ◌≤◌, ◌^◌, None, true, false};
+ghost use Rattle.std.specs.Prelude.{replicate, length, slice_index};
 ghost use Rattle.dpl_laminar.specs.Changes.{IsSingles};
 ghost use Rattle.dpl_laminar.specs.Families.{Sets, IsFamily};
 ghost use Rattle.dpl_laminar.specs.Storing.{sets_of};
-ghost use Rattle.dpl_match.specs.Starting.{AreRaised, AreAlone, first_steps};
+ghost use Rattle.dpl_match.specs.steps.Starting.{AreRaised, AreAlone, first_steps};
 ghost use Rattle.dpl_tree.specs.Mates.{totals};
 ghost use Rattle.dpl_tree.specs.Metrics.{dist_of};
 ghost use Rattle.dpl_tree.specs.Stages.{IsRest};

@@ -5,7 +5,7 @@ use Rattle.dpl_laminar.specs.Loads.{differ}
 use Rattle.dpl_laminar.specs.Families.{Sets}
 use Rattle.dpl_laminar.specs.Changes.{IsShrunk, IsExpanded}
 use Rattle.dpl_laminar.proofs.Sums.{sum_same}
-use Rattle.dpl_tree.specs.Forests.{Forest, IsTree}
+use Rattle.dpl_tree.specs.steps.Forests.{Forest, IsTree}
 use Rattle.dpl_tree.specs.Mates.{ArePairs, loads, totals}
 
 -- the values are the same, and so is each set that has one

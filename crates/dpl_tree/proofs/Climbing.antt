@@ -2,8 +2,8 @@ use Rattle.std.proofs.Common.{arith, ◌≡◌, ◌≢◌, ℕ, ◌<◌, ◌⊎�
 use Rattle.std.proofs.lemmas.Bool.{cases_eq}
 use Rattle.dpl_laminar.proofs.Numbers.{some_is, some_none}
 use Rattle.dpl_laminar.specs.Families.{Sets}
-use Rattle.dpl_tree.specs.Forests.{free, outer, Forest, IsTree, IsClimb}
-use Rattle.dpl_tree.specs.Mates.{IsExit, ArePairs, Joins}
+use Rattle.dpl_tree.specs.steps.Forests.{free, outer, Forest, IsTree, IsClimb}
+use Rattle.dpl_tree.specs.Mates.{IsExit, ArePairs, Joins, loads}
 use Rattle.dpl_tree.proofs.Growing.{outer_in, outer_inner_no}
 
 -- s and t, whose sets have no pair else, become mates
@@ -69,6 +69,7 @@ pub record Drops (mate : ℕ → Option ℕ) (ex b : ℕ) (new : ℕ → Option 
   pub second : new b ≡ None
   pub others : (i : ℕ) → i ≢ ex → i ≢ b → new i ≡ mate i
 
+-- the pairs without one of them
 pub dropped_pairs : (n : ℕ) (f : Sets) (load dist : ℕ → ℕ → ℕ) (mate new : ℕ → Option ℕ) (ex b : ℕ) →
     ArePairs n f load dist mate → ex < n → mate ex ≡ Some b → Drops mate ex b new → ArePairs n f load dist new
 dropped_pairs n f load dist mate new ex b p hx xb d =
@@ -91,12 +92,12 @@ dropped_pairs n f load dist mate new ex b p hx xb d =
     }
 
 -- one step of the climb
-pub climbed : (n : ℕ) (f : Sets) (load dist : ℕ → ℕ → ℕ) (x : Forest) (mate less new : ℕ → Option ℕ) (s t ex b : ℕ) →
-    IsTree n f load dist x → ArePairs n f load dist x.mate → ((s t : ℕ) → load s t ≡ load t s) →
+pub climbed : (n : ℕ) (f : Sets) (dist : ℕ → ℕ → ℕ) (x : Forest) (mate less new : ℕ → Option ℕ) (s t ex b : ℕ) →
+    IsTree n f (loads n f) dist x → ArePairs n f (loads n f) dist x.mate → ((s t : ℕ) → (loads n f) s t ≡ (loads n f) t s) →
     ((s t : ℕ) → s < n → t < n → dist s t ≡ dist t s) →
-    IsClimb n f load dist x mate s t → IsExit n f mate (f.top s) ex b → Drops mate ex b less → Joins less s t new →
-    IsClimb n f load dist x new (x.above (f.top b)) (x.entry (f.top b))
-climbed n f load dist x mate less new s t ex b tree px ls ds c w d j =
+    IsClimb n f dist x mate (s, t) → IsExit n f mate (f.top s) ex b → Drops mate ex b less → Joins less s t new →
+    IsClimb n f dist x new (x.above (f.top b), x.entry (f.top b))
+climbed n f dist x mate less new s t ex b tree px ls ds c w d j =
     let i : ℕ = f.top b in
     let ps = outer_in c.s_outer in
     let xb : x.mate ex ≡ Some b = sym (c.kept ex w.below (λ z. ps (ap x.place (sym w.top) ∙ z)) (omega (arith, ap x.rank w.top))) ∙ w.paired in
@@ -108,7 +109,7 @@ climbed n f load dist x mate less new s t ex b tree px ls ds c w d j =
     let above_rank = tree.link_rank i up.0 in
     let not_t : f.top t ≢ i = λ e. c.t_free b ex (record { below = hb; top = sym e; paired = bx }) in
     let not_s : f.top s ≢ i = λ e. outer_inner_no c.s_outer (ap x.place e ∙ up.0) in
-    let lp = dropped_pairs n f load dist mate less ex b c.pairs w.below w.paired d in
+    let lp = dropped_pairs n f (loads n f) dist mate less ex b c.pairs w.below w.paired d in
     let under = λ (m u : ℕ) (k : less m ≡ Some u). (elim (cases_eq m ex) as (λ _. mate m ≡ Some u) [
       | inl e ↦ some_none (less m) u k (ap less e ∙ d.first)
       | inr a ↦ elim (cases_eq m b) [
@@ -120,10 +121,10 @@ climbed n f load dist x mate less new s t ex b tree px ls ds c w d j =
     let e : m ≡ ex = c.pairs.alone m ex u b k.below w.below (k.top ∙ sym w.top) (under m u k.paired) w.paired in
     let r : ⊥ = some_none (less m) u k.paired (ap less e ∙ d.first) in r) in
     let t_free = λ (m u : ℕ) (k : IsExit n f less (f.top t) m u). c.t_free m u (record { below = k.below; top = k.top; paired = under m u k.paired }) in
-    let np = joined_pairs n f load dist less new s t lp c.s_range c.t_range c.apart c.tight c.tight_back s_free t_free j in
+    let np = joined_pairs n f (loads n f) dist less new s t lp c.s_range c.t_range c.apart c.tight c.tight_back s_free t_free j in
     -- what a member outside of the four has
     let same = λ (m : ℕ) (a : m ≢ s) (q : m ≢ t) (h : m ≢ ex) (k : m ≢ b). j.others m a q ∙ d.others m h k in
-    let tight : load (x.above i) (x.entry i) ≡ dist (x.above i) (x.entry i) = tree.link_tight i up.0 in
+    let tight : (loads n f) (x.above i) (x.entry i) ≡ dist (x.above i) (x.entry i) = tree.link_tight i up.0 in
     record {
       s_range = link.0;
       t_range = link.1;
@@ -168,11 +169,11 @@ climbed n f load dist x mate less new s t ex b tree px ls ds c w d j =
     }
 
 -- the end of the climb, at the root
-pub climb_ended : (n : ℕ) (f : Sets) (load dist : ℕ → ℕ → ℕ) (x : Forest) (mate new : ℕ → Option ℕ) (s t : ℕ) →
-    IsClimb n f load dist x mate s t → ((m u : ℕ) → IsExit n f mate (f.top s) m u → ⊥) → Joins mate s t new →
-    ArePairs n f load dist new × ((i m u : ℕ) → IsExit n f x.mate i m u → (a : ℕ) × (c : ℕ) × IsExit n f new i a c) × IsExit n f new (f.top s) s t
-climb_ended n f load dist x mate new s t c none j = (
-  joined_pairs n f load dist mate new s t c.pairs c.s_range c.t_range c.apart c.tight c.tight_back none c.t_free j,
+pub climb_ended : (n : ℕ) (f : Sets) (dist : ℕ → ℕ → ℕ) (x : Forest) (mate new : ℕ → Option ℕ) (s t : ℕ) →
+    IsClimb n f dist x mate (s, t) → ((m u : ℕ) → IsExit n f mate (f.top s) m u → ⊥) → Joins mate s t new →
+    ArePairs n f (loads n f) dist new × ((i m u : ℕ) → IsExit n f x.mate i m u → (a : ℕ) × (c : ℕ) × IsExit n f new i a c) × IsExit n f new (f.top s) s t
+climb_ended n f dist x mate new s t c none j = (
+  joined_pairs n f (loads n f) dist mate new s t c.pairs c.s_range c.t_range c.apart c.tight c.tight_back none c.t_free j,
   (λ i m u k. elim (cases_eq i (f.top t)) [
     | inl e ↦ (t, s, record { below = c.t_range; top = sym e; paired = j.second })
     | inr it ↦ elim (cases_eq i (f.top s)) [
@@ -194,10 +195,10 @@ climb_ended n f load dist x mate new s t c none j = (
 )
 
 -- the climb begins at a tight pair from an outer set to one with no pair outside of the tree
-pub climb_begun : (n : ℕ) (f : Sets) (load dist : ℕ → ℕ → ℕ) (x : Forest) (s t : ℕ) → ArePairs n f load dist x.mate →
-    s < n → t < n → x.place (f.top s) ≡ outer → x.place (f.top t) ≡ free → load s t ≡ dist s t → load t s ≡ dist t s →
-    ((m u : ℕ) → IsExit n f x.mate (f.top t) m u → ⊥) → IsClimb n f load dist x x.mate s t
-climb_begun n f load dist x s t p hs ht ps pt tight tight' none = record {
+pub climb_begun : (n : ℕ) (f : Sets) (dist : ℕ → ℕ → ℕ) (x : Forest) (s t : ℕ) → ArePairs n f (loads n f) dist x.mate →
+    s < n → t < n → x.place (f.top s) ≡ outer → x.place (f.top t) ≡ free → (loads n f) s t ≡ dist s t → (loads n f) t s ≡ dist t s →
+    ((m u : ℕ) → IsExit n f x.mate (f.top t) m u → ⊥) → IsClimb n f dist x x.mate (s, t)
+climb_begun n f dist x s t p hs ht ps pt tight tight' none = record {
   s_range = hs;
   t_range = ht;
   s_outer = ps;

@@ -6,7 +6,7 @@ use Rattle.dpl_laminar.specs.Families.{Sets, IsFamily, has}
 use Rattle.dpl_laminar.specs.Changes.{Gathers, AreTops, IsShrunk}
 use Rattle.dpl_laminar.proofs.Sums.{sum_same}
 use Rattle.dpl_laminar.proofs.Numbers.{true_false, place_in}
-use Rattle.dpl_tree.specs.Forests.{free, outer, inner, Forest, IsTree, Grows, IsCycle, Folds}
+use Rattle.dpl_tree.specs.steps.Forests.{free, outer, inner, Forest, IsTree, Grows, IsCycle, Folds}
 use Rattle.dpl_tree.specs.Mates.{IsExit, DropsInside, total_in, loads, totals}
 use Rattle.dpl_tree.specs.Metrics.{IsMetric}
 use Rattle.dpl_tree.specs.Stages.{IsRest, IsStage, IsReady, potential, Advances, AreRanked, Widens}
@@ -63,7 +63,7 @@ tree_ready n f load dist x tree k ne = elim (place_cases (x.place (f.top k))) [
 
 pub grown_stage : (n : ℕ) (f : Sets) (dist : ℕ → ℕ → ℕ) (x y : Forest) (s t m o : ℕ) → IsMetric n dist →
     IsStage n f dist x → IsRest n f dist y.mate → s < n → t < n → x.place (f.top s) ≡ outer → x.place (f.top t) ≡ free →
-    loads n f s t ≡ dist s t → IsExit n f x.mate (f.top t) m o → Grows n f x s t m o y →
+    loads n f s t ≡ dist s t → IsExit n f x.mate (f.top t) m o → Grows f x s t o y →
     IsStage n f dist y × (potential n f y.place < potential n f x.place)
 grown_stage n f dist x y s t m o me st rest hs ht ps pt tight ex g =
     let r = st.rest in

@@ -5,15 +5,16 @@ use Rattle.std.proofs.lemmas.Bool.{cases_eq, cases_Bool}
 use Rattle.dpl_laminar.specs.Families.{Sets, IsFamily, has}
 use Rattle.dpl_laminar.specs.Changes.{AreTops, AreJoined, IsShrunk, Gathers}
 use Rattle.dpl_laminar.proofs.Numbers.{true_false}
-use Rattle.dpl_tree.specs.Forests.{Forest, Folds}
+use Rattle.dpl_tree.specs.steps.Forests.{Forest, Folds}
 use Rattle.dpl_tree.specs.Mates.{DropsInside, loads}
 use Rattle.dpl_tree.specs.Stages.{IsStage, Advances, AreRanked}
-use Rattle.dpl_tree.specs.Joins.{tops_from, AreClimbing}
+use Rattle.dpl_tree.specs.steps.Joins.{tops_from, AreClimbing, ways}
 use Rattle.dpl_tree.proofs.Alike.{totals_alike, shrunk_alike}
 use Rattle.dpl_tree.proofs.Events.{IsEvent, folded_stage, folded_ready}
 use Rattle.dpl_tree.proofs.Widening.{folded_widens}
 use Rattle.dpl_tree.proofs.Meetings.{IsFolding, climbing_whole, folding_tops, folding_joined, way_step}
 
+-- what a new set asks of the family
 pub folding_asked : {n : ℕ} {f : Sets} {dist : ℕ → ℕ → ℕ} {x : Forest} {joins : List (ℕ × ℕ)} {meet : ℕ} →
     IsStage n f dist x → IsFolding n f dist x joins meet → AreJoined f (tops_from f joins) joins
 folding_asked {n} {f} {dist} {x} {joins} {meet} st w =
@@ -24,6 +25,7 @@ folding_asked {n} {f} {dist} {x} {joins} {meet} st w =
       tied = λ i h. folding_joined n f dist x joins meet i st w (omega (arith, h, len));
     }
 
+-- a new set comes nearer to the end
 pub folded_all : (n : ℕ) (f g : Sets) (dist : ℕ → ℕ → ℕ) (x y : Forest) (joins : List (ℕ × ℕ)) (meet set : ℕ) →
     IsStage n f dist x → IsFolding n f dist x joins meet → IsShrunk f (tops_from f joins) joins set g → IsFamily g →
     DropsInside n g x.mate y.mate → Folds x (tops_from f joins) meet set y → Advances n dist f x g y
@@ -33,7 +35,7 @@ folded_all n f g dist x y joins meet set st w sh fam d o =
     let q : Gathers n f cs set g = subst (λ (z : ℕ). Gathers z f cs set g) st.rest.size sh.sets in
     let r = folded_stage n f g dist x y cs joins set meet w.some_inner.0 st (folding_tops n f dist x joins meet st w) sh fam w.cycle d o
     (λ i h. subst (λ (z : ℕ × ℕ). loads n f z.0 z.1 ≡ dist z.0 z.1) (sym (sh.join_child i h))
-    (way_step n f (loads n f) dist meet meet i joins w.way (omega (arith, h, len))).tight)
+    (way_step n f dist meet meet i joins w.way (omega (arith, h, len))).tight)
     w.some_inner.1 w.some_inner.2 in
     record {
       stage = r.0;
@@ -41,6 +43,7 @@ folded_all n f g dist x y joins meet set st w sh fam d o =
       ready = λ k hk e. folded_ready n f g dist x y cs set meet k st r.0.tree q w.cycle d o hk e;
     }
 
+-- a new set raises no rank
 pub folded_ranked : (x y : Forest) (cs : List ℕ) (meet set bound : ℕ) → Folds x cs meet set y → AreRanked x bound → AreRanked y bound
 folded_ranked x y cs meet set bound o r = λ i. elim (cases_eq i set) [
   | inl e ↦ omega (arith, ap y.rank e, o.rank_set, r meet)
@@ -57,7 +60,7 @@ free_outside n f g dist x joins meet set st w sh = elim (cases_Bool (has (tops_f
 
 -- the joins as they were put together, and read
 pub folding_of : {n : ℕ} {f : Sets} {dist : ℕ → ℕ → ℕ} {x : Forest} {s t meet : ℕ} {left right joins js : List (ℕ × ℕ)} →
-    IsStage n f dist x → s < n → t < n → loads n f s t ≡ dist s t → f.top s ≢ f.top t → AreClimbing n f dist x s t left right meet meet →
+    IsStage n f dist x → s < n → t < n → loads n f s t ≡ dist s t → f.top s ≢ f.top t → AreClimbing n f dist x (s, t) (ways left right meet meet) →
     joins ≡ reverse left ++ (s, t) ∷ right → js ≡ joins → IsFolding n f dist x js meet
 folding_of {n} {f} {dist} {x} {s} {t} {meet} {left} {right} st hs ht tight apart c e seen =
     subst (λ (z : List (ℕ × ℕ)). IsFolding n f dist x z meet) (sym (seen ∙ e)) (climbing_whole n f dist x s t meet left right st hs ht tight apart c)
@@ -65,13 +68,14 @@ folding_of {n} {f} {dist} {x} {s} {t} {meet} {left} {right} st hs ht tight apart
 -- each join leads from a member
 pub folding_from : {n : ℕ} {f : Sets} {dist : ℕ → ℕ → ℕ} {x : Forest} {js : List (ℕ × ℕ)} {meet : ℕ} →
     IsStage n f dist x → IsFolding n f dist x js meet → (i : ℕ) → i < length js → (get_or js i (0, 0)).0 < f.size
-folding_from {n} {f} {dist} {js = js} {meet = meet} st w i h = omega (arith, (way_step n f (loads n f) dist meet meet i js w.way h).from, st.rest.size)
+folding_from {n} {f} {dist} {js = js} {meet = meet} st w i h = omega (arith, (way_step n f dist meet meet i js w.way h).from, st.rest.size)
 
 -- the tops that the joins lead from, where the joins were read twice
 pub tops_seen : {n : ℕ} {f : Sets} {dist : ℕ → ℕ → ℕ} {x : Forest} {joins js ks : List (ℕ × ℕ)} {tops : List ℕ} {meet : ℕ} →
     IsFolding n f dist x ks meet → tops ≡ tops_from f js → js ≡ joins → ks ≡ joins → tops ≡ tops_from f ks
 tops_seen {f = f} _ e ej ek = e ∙ ap (tops_from f) (ej ∙ sym ek)
 
+-- the same, by the tops as they were read
 pub free_outside_of : {n : ℕ} {f g : Sets} {dist : ℕ → ℕ → ℕ} {x : Forest} {joins : List (ℕ × ℕ)} {cs ds : List ℕ} {meet set : ℕ} →
     IsStage n f dist x → IsFolding n f dist x joins meet → cs ≡ tops_from f joins → ds ≡ tops_from f joins → IsShrunk f cs joins set g → has ds set ≡ false
 free_outside_of {n} {f} {g} {dist} {x} {joins} {meet = meet} {set = set} st w e e' sh =

@@ -3,7 +3,7 @@ use Rattle.std.proofs.lemmas.Bool.{cases_eq, cases_Bool}
 use Rattle.dpl_laminar.proofs.Numbers.{some_is, some_none, true_false, cases_Option}
 use Rattle.dpl_laminar.specs.Changes.{AreTops, Gathers}
 use Rattle.dpl_laminar.specs.Families.{Sets, IsLaminar, has}
-use Rattle.dpl_tree.specs.Forests.{free, outer, inner, Forest, IsTree, IsCycle, Folds}
+use Rattle.dpl_tree.specs.steps.Forests.{free, outer, inner, Forest, IsTree, IsCycle, Folds}
 use Rattle.dpl_tree.specs.Mates.{IsExit, ArePairs, DropsInside}
 use Rattle.dpl_tree.proofs.Growing.{outer_in, inner_in, outer_inner_no, exit_back}
 

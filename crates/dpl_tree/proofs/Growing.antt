@@ -2,7 +2,7 @@ use Rattle.std.proofs.Common.{arith, ◌≡◌, ◌≢◌, ℕ, ◌<◌, ◌⊎�
 use Rattle.std.proofs.lemmas.Bool.{cases_eq}
 use Rattle.dpl_laminar.proofs.Numbers.{some_is}
 use Rattle.dpl_laminar.specs.Families.{Sets, IsLaminar}
-use Rattle.dpl_tree.specs.Forests.{Place, free, outer, inner, Forest, IsTree, Grows}
+use Rattle.dpl_tree.specs.steps.Forests.{Place, free, outer, inner, Forest, IsTree, Grows}
 use Rattle.dpl_tree.specs.Mates.{IsExit, ArePairs}
 
 pub place_cases : (a : Place) → (a ≡ free) ⊎ ((a ≡ outer) ⊎ (a ≡ inner))
@@ -47,7 +47,7 @@ mate_outside n f load dist x p tree i m t e a =
 pub grown : (n : ℕ) (f : Sets) (load dist : ℕ → ℕ → ℕ) (x y : Forest) (s t m o : ℕ) → IsLaminar n f →
     ArePairs n f load dist x.mate → IsTree n f load dist x → s < n → t < n →
     x.place (f.top s) ≡ outer → x.place (f.top t) ≡ free → load s t ≡ dist s t → IsExit n f x.mate (f.top t) m o →
-    Grows n f x s t m o y → IsTree n f load dist y
+    Grows f x s t o y → IsTree n f load dist y
 grown n f load dist x y s t m o lam p tree hs ht ps pt tight ex g =
     let po : x.place (f.top o) ≡ free = mate_outside n f load dist x p tree (f.top t) m o pt ex in
     let ho : o < n = p.range m o ex.below ex.paired in

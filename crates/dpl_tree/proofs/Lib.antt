@@ -6,6 +6,7 @@ pub mod Folded
 pub mod Folding
 pub mod Growing
 pub mod Loads
+pub mod MatchingLemmas
 pub mod Meetings
 pub mod Opening
 pub mod Parity

@@ -3,7 +3,7 @@ use Rattle.std.proofs.lemmas.Bool.{cases_eq, cases_Bool, cond-true, cond-false, 
 use Rattle.dpl_laminar.proofs.Sums.{sum_same, sum_added, sum_at}
 use Rattle.dpl_laminar.specs.Families.{Sets, IsLaminar}
 use Rattle.dpl_laminar.specs.Loads.{sum_below, load_in, differ}
-use Rattle.dpl_tree.specs.Forests.{Place, free, outer, inner, Shifts, gain, drop_of}
+use Rattle.dpl_tree.specs.steps.Forests.{Place, free, outer, inner, Shifts, gain, drop_of}
 use Rattle.dpl_tree.specs.Mates.{total_in}
 use Rattle.dpl_tree.specs.Metrics.{IsMetric}
 use Rattle.dpl_tree.specs.Stages.{HasParity}

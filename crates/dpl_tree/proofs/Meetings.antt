@@ -1,18 +1,18 @@
 -- Two ways up to where they meet.
 use Rattle.std.proofs.Common.{arith, ◌≡◌, ◌≢◌, ℕ, zero, suc, ◌+◌, ◌*◌, ◌%◌, ◌<◌, ◌≤◌, ◌⊎◌, refl, sym, ap, ◌∙◌, subst}
-use Rattle.std.proofs.Common.{Bool, true, false, cond, inl, inr, eqb, eq-eqb, List, [], ◌∷◌, ◌++◌, map, reverse, length}
-use Rattle.std.proofs.Common.{get_or}
+use Rattle.std.proofs.Common.{Bool, true, false, cond, inl, inr, eqb, eq-eqb, List, [], ◌∷◌, ◌++◌, map, reverse}
+use Rattle.std.proofs.Common.{length, get_or}
 use Rattle.std.proofs.lemmas.Bool.{cases_eq, cases_lt, ne_eqb, cond-true, cond-false}
 use Rattle.std.proofs.lemmas.List.{map-append, reverse-append, length-append, length-map, length-reverse, get_or-map, length_push}
 use Rattle.std.proofs.Math.Nat.{mod_self, mod-eq_of_lt}
 use Rattle.dpl_laminar.specs.Families.{Sets, has, IsTie, next_in}
 use Rattle.dpl_laminar.specs.Changes.{AreTops}
 use Rattle.dpl_laminar.proofs.Numbers.{has_head, has_tail}
-use Rattle.dpl_tree.specs.Forests.{outer, inner, Forest, IsCycle}
+use Rattle.dpl_tree.specs.steps.Forests.{outer, inner, Forest, IsCycle}
 use Rattle.dpl_tree.specs.Mates.{IsExit, loads}
 use Rattle.dpl_tree.specs.Metrics.{IsMetric}
 use Rattle.dpl_tree.specs.Stages.{IsStage}
-use Rattle.dpl_tree.specs.Joins.{IsWay, times_in, tops_from, tops_to, AreGathered, met_on, AreClimbing}
+use Rattle.dpl_tree.specs.steps.Joins.{IsWay, times_in, tops_from, tops_to, AreGathered, met_on, AreClimbing, ways}
 use Rattle.dpl_tree.proofs.Growing.{place_cases, outer_in, inner_in, outer_inner_no, exit_one, exit_back}
 use Rattle.dpl_tree.proofs.Events.{root_lowest}
 use Rattle.dpl_tree.proofs.Ways.{load_turned}
@@ -22,6 +22,7 @@ one_if x c = cond (eqb x c) 1 0
 
 -- ---- how often
 
+-- how often a number stands in two lists
 pub times_append : (xs ys : List ℕ) (c : ℕ) → times_in (xs ++ ys) c ≡ times_in xs c + times_in ys c
 times_append [] ys c = omega arith
 times_append (x ∷ xs) ys c = omega (arith, times_append xs ys c)
@@ -32,12 +33,15 @@ bit_most x c = from (eqb x c) where
   from true = omega arith
   from false = omega arith
 
+-- a number stands once for itself
 pub bit_one : (x c : ℕ) → x ≡ c → one_if x c ≡ 1
 bit_one x c e = cond-true {A = ℕ} (eqb x c) 1 0 (eq-eqb x c e)
 
+-- and not for another one
 pub bit_none : (x c : ℕ) → x ≢ c → one_if x c ≡ 0
 bit_none x c ne = cond-false {A = ℕ} (eqb x c) 1 0 (ne_eqb x c ne)
 
+-- a number that stands in a list is counted
 pub times_has : (xs : List ℕ) (c : ℕ) → has xs c ≡ true → 0 < times_in xs c
 times_has [] c h = let bad : false ≡ true = h in cc
 times_has (x ∷ xs) c h = elim (cases_eq x c) [
@@ -45,6 +49,7 @@ times_has (x ∷ xs) c h = elim (cases_eq x c) [
   | inr ne ↦ omega (arith, times_has xs c (sym (has_tail x c xs ne) ∙ h))
 ]
 
+-- a number that is counted stands in the list
 pub has_times : (xs : List ℕ) (c : ℕ) → 0 < times_in xs c → has xs c ≡ true
 has_times [] c h = absurd (omega (arith, h))
 has_times (x ∷ xs) c h = elim (cases_eq x c) [
@@ -66,35 +71,39 @@ once_apart (x ∷ xs) once (suc i) (suc j) h l e = once_apart xs (λ c. omega (a
 
 -- ---- ways
 
-pub way_append : (n : ℕ) (f : Sets) (load dist : ℕ → ℕ → ℕ) (a b c : ℕ) (xs ys : List (ℕ × ℕ)) →
-    IsWay n f load dist a xs b → IsWay n f load dist b ys c → IsWay n f load dist a (xs ++ ys) c
-way_append n f load dist a b c [] ys p q = subst (λ (z : ℕ). IsWay n f load dist z ys c) (sym p) q
-way_append n f load dist a b c (x ∷ xs) ys p q = (p.0, p.1, p.2, p.3, way_append n f load dist (f.top x.1) b c xs ys p.4 q)
+-- two ways that meet are one
+pub way_append : (n : ℕ) (f : Sets) (dist : ℕ → ℕ → ℕ) (a b c : ℕ) (xs ys : List (ℕ × ℕ)) →
+    IsWay n f dist a xs b → IsWay n f dist b ys c → IsWay n f dist a (xs ++ ys) c
+way_append n f dist a b c [] ys p q = subst (λ (z : ℕ). IsWay n f dist z ys c) (sym p) q
+way_append n f dist a b c (x ∷ xs) ys p q = (p.0, p.1, p.2, p.3, way_append n f dist (f.top x.1) b c xs ys p.4 q)
 
 -- the tops that a way leads from, with its end, are its start with those that it leads to
-pub way_times : (n : ℕ) (f : Sets) (load dist : ℕ → ℕ → ℕ) (a b : ℕ) (xs : List (ℕ × ℕ)) (c : ℕ) →
-    IsWay n f load dist a xs b → times_in (tops_from f xs) c + cond (eqb b c) 1 0 ≡ cond (eqb a c) 1 0 + times_in
+pub way_times : (n : ℕ) (f : Sets) (dist : ℕ → ℕ → ℕ) (a b : ℕ) (xs : List (ℕ × ℕ)) (c : ℕ) →
+    IsWay n f dist a xs b → times_in (tops_from f xs) c + cond (eqb b c) 1 0 ≡ cond (eqb a c) 1 0 + times_in
     (tops_to f xs) c
-way_times n f load dist a b [] c p = omega (arith, ap (λ z. one_if z c) p)
-way_times n f load dist a b (x ∷ xs) c p = omega (arith, ap (λ z. one_if z c) p.2, way_times n f load dist (f.top x.1) b xs c p.4)
+way_times n f dist a b [] c p = omega (arith, ap (λ z. one_if z c) p)
+way_times n f dist a b (x ∷ xs) c p = omega (arith, ap (λ z. one_if z c) p.2, way_times n f dist (f.top x.1) b xs c p.4)
 
-pub way_first : (n : ℕ) (f : Sets) (load dist : ℕ → ℕ → ℕ) (a b : ℕ) (xs : List (ℕ × ℕ)) → IsWay n f load dist a xs b →
+-- a way begins at its first top
+pub way_first : (n : ℕ) (f : Sets) (dist : ℕ → ℕ → ℕ) (a b : ℕ) (xs : List (ℕ × ℕ)) → IsWay n f dist a xs b →
     0 < length xs → f.top (get_or xs 0 (0, 0)).0 ≡ a
-way_first n f load dist a b [] p h = absurd (omega (arith, h))
-way_first n f load dist a b (x ∷ xs) p h = p.2
+way_first n f dist a b [] p h = absurd (omega (arith, h))
+way_first n f dist a b (x ∷ xs) p h = p.2
 
-pub way_next : (n : ℕ) (f : Sets) (load dist : ℕ → ℕ → ℕ) (a b i : ℕ) (xs : List (ℕ × ℕ)) → IsWay n f load dist a xs b →
+-- each join leads to the top that the next one leads from
+pub way_next : (n : ℕ) (f : Sets) (dist : ℕ → ℕ → ℕ) (a b i : ℕ) (xs : List (ℕ × ℕ)) → IsWay n f dist a xs b →
     suc i < length xs → f.top (get_or xs i (0, 0)).1 ≡ f.top (get_or xs (suc i) (0, 0)).0
-way_next n f load dist a b i [] p h = absurd (omega (arith, h))
-way_next n f load dist a b zero (x ∷ xs) p h = sym (way_first n f load dist (f.top x.1) b xs p.4 (omega (arith, h)))
-way_next n f load dist a b (suc i) (x ∷ xs) p h = way_next n f load dist (f.top x.1) b i xs p.4 (omega (arith, h))
+way_next n f dist a b i [] p h = absurd (omega (arith, h))
+way_next n f dist a b zero (x ∷ xs) p h = sym (way_first n f dist (f.top x.1) b xs p.4 (omega (arith, h)))
+way_next n f dist a b (suc i) (x ∷ xs) p h = way_next n f dist (f.top x.1) b i xs p.4 (omega (arith, h))
 
-pub way_last : (n : ℕ) (f : Sets) (load dist : ℕ → ℕ → ℕ) (a b i : ℕ) (xs : List (ℕ × ℕ)) → IsWay n f load dist a xs b →
+-- a way ends at its last top
+pub way_last : (n : ℕ) (f : Sets) (dist : ℕ → ℕ → ℕ) (a b i : ℕ) (xs : List (ℕ × ℕ)) → IsWay n f dist a xs b →
     i + 1 ≡ length xs → f.top (get_or xs i (0, 0)).1 ≡ b
-way_last n f load dist a b i [] p h = absurd (omega (arith, h))
-way_last n f load dist a b zero (x ∷ []) p h = p.4
-way_last n f load dist a b zero (x ∷ y ∷ xs) p h = absurd (omega (arith, h))
-way_last n f load dist a b (suc i) (x ∷ xs) p h = way_last n f load dist (f.top x.1) b i xs p.4 (omega (arith, h))
+way_last n f dist a b i [] p h = absurd (omega (arith, h))
+way_last n f dist a b zero (x ∷ []) p h = p.4
+way_last n f dist a b zero (x ∷ y ∷ xs) p h = absurd (omega (arith, h))
+way_last n f dist a b (suc i) (x ∷ xs) p h = way_last n f dist (f.top x.1) b i xs p.4 (omega (arith, h))
 
 -- what holds of each join
 pub record IsStep (n : ℕ) (load dist : ℕ → ℕ → ℕ) (j : ℕ × ℕ) : Type 0 where
@@ -102,14 +111,16 @@ pub record IsStep (n : ℕ) (load dist : ℕ → ℕ → ℕ) (j : ℕ × ℕ) :
   pub to : j.1 < n
   pub tight : load j.0 j.1 ≡ dist j.0 j.1
 
-pub way_step : (n : ℕ) (f : Sets) (load dist : ℕ → ℕ → ℕ) (a b i : ℕ) (xs : List (ℕ × ℕ)) → IsWay n f load dist a xs b →
-    i < length xs → IsStep n load dist (get_or xs i (0, 0))
-way_step n f load dist a b i [] p h = absurd (omega (arith, h))
-way_step n f load dist a b zero (x ∷ xs) p h = record { from = p.0; to = p.1; tight = p.3 }
-way_step n f load dist a b (suc i) (x ∷ xs) p h = way_step n f load dist (f.top x.1) b i xs p.4 (omega (arith, h))
+-- each join of a way is tight
+pub way_step : (n : ℕ) (f : Sets) (dist : ℕ → ℕ → ℕ) (a b i : ℕ) (xs : List (ℕ × ℕ)) → IsWay n f dist a xs b →
+    i < length xs → IsStep n (loads n f) dist (get_or xs i (0, 0))
+way_step n f dist a b i [] p h = absurd (omega (arith, h))
+way_step n f dist a b zero (x ∷ xs) p h = record { from = p.0; to = p.1; tight = p.3 }
+way_step n f dist a b (suc i) (x ∷ xs) p h = way_step n f dist (f.top x.1) b i xs p.4 (omega (arith, h))
 
 -- ---- one step up
 
+-- the two ends of the ways are alike
 pub gathered_turned : (n : ℕ) (f : Sets) (x : Forest) (a b : ℕ) (met : ℕ → ℕ) → AreGathered n f x a b met → AreGathered n f x b a met
 gathered_turned n f x a b met g = record {
   a_outer = g.b_outer;
@@ -237,6 +248,7 @@ pub record IsStepUp (n : ℕ) (f : Sets) (dist : ℕ → ℕ → ℕ) (x : Fores
   pub tight_pair : loads n f m t ≡ dist m t
   pub tight_link : loads n f (x.above (f.top t)) (x.entry (f.top t)) ≡ dist (x.above (f.top t)) (x.entry (f.top t))
 
+-- the step up from an outer set over its pair
 pub step_of : (n : ℕ) (f : Sets) (dist : ℕ → ℕ → ℕ) (x : Forest) (a m t : ℕ) → IsStage n f dist x → x.place a ≡ outer →
     IsExit n f x.mate a m t → IsStepUp n f dist x a m t
 step_of n f dist x a m t st pa ex =
@@ -253,10 +265,11 @@ step_of n f dist x a m t st pa ex =
       tight_link = st.tree.link_tight (f.top t) o.0;
     }
 
+-- the left way goes one step on
 pub climbing_left : (n : ℕ) (f : Sets) (dist : ℕ → ℕ → ℕ) (x : Forest) (s t : ℕ) (left right : List (ℕ × ℕ))
-    (a b m u : ℕ) → IsMetric n dist → IsStage n f dist x → AreClimbing n f dist x s t left right a b → a ≢ b →
+    (a b m u : ℕ) → IsMetric n dist → IsStage n f dist x → AreClimbing n f dist x (s, t) (ways left right a b) → a ≢ b →
     x.rank b ≤ x.rank a → IsExit n f x.mate a m u →
-    AreClimbing n f dist x s t ((left ++ (u, m) ∷ []) ++ (x.above (f.top u), x.entry (f.top u)) ∷ []) right (f.top (x.above (f.top u))) b
+    AreClimbing n f dist x (s, t) (ways ((left ++ (u, m) ∷ []) ++ (x.above (f.top u), x.entry (f.top u)) ∷ []) right (f.top (x.above (f.top u))) b)
 climbing_left n f dist x s t left right a b m u me st c ne low ex =
     let w = step_of n f dist x a m u st c.sets.a_outer ex in
     let i : ℕ = f.top u in
@@ -264,34 +277,35 @@ climbing_left n f dist x s t left right a b m u me st c ne low ex =
     let e : reverse ((left ++ (u, m) ∷ []) ++ link ∷ []) ≡ link ∷ (u, m) ∷ reverse left =
     reverse_push (left ++ (u, m) ∷ []) link ∙ ap (λ z. link ∷ z) (reverse_push left (u, m)) in
     let tight : loads n f u m ≡ dist u m = load_turned n f u m ∙ w.tight_pair ∙ me.symmetric m u w.hm w.ht in
-    let rest : IsWay n f (loads n f) dist (f.top m) (reverse left) (f.top s) =
-    subst (λ (z : ℕ). IsWay n f (loads n f) dist z (reverse left) (f.top s)) (sym ex.top) c.way_left in
-    let way : IsWay n f (loads n f) dist (f.top (x.above i)) (link ∷ (u, m) ∷ reverse left) (f.top s) =
+    let rest : IsWay n f dist (f.top m) (reverse left) (f.top s) =
+    subst (λ (z : ℕ). IsWay n f dist z (reverse left) (f.top s)) (sym ex.top) c.way_left in
+    let way : IsWay n f dist (f.top (x.above i)) (link ∷ (u, m) ∷ reverse left) (f.top s) =
     (w.ha, w.he, refl, w.tight_link, (w.ht, w.hm, sym w.entry, tight, rest)) in
     record {
-      way_left = subst (λ (z : List (ℕ × ℕ)). IsWay n f (loads n f) dist (f.top (x.above i)) z (f.top s)) (sym e) way;
+      way_left = subst (λ (z : List (ℕ × ℕ)). IsWay n f dist (f.top (x.above i)) z (f.top s)) (sym e) way;
       way_right = c.way_right;
       sets = gathered_more n f dist x a b m u (met_on f left right) _ st c.sets ne low ex
           (λ k. omega (arith, times_two f (λ j. f.top j.1) left (u, m) link a i k ex.top w.entry));
       even = omega (arith, c.even, push_length left (u, m) link);
     }
 
+-- the right way goes one step on
 pub climbing_right : (n : ℕ) (f : Sets) (dist : ℕ → ℕ → ℕ) (x : Forest) (s t : ℕ) (left right : List (ℕ × ℕ))
-    (a b m u : ℕ) → IsMetric n dist → IsStage n f dist x → AreClimbing n f dist x s t left right a b → a ≢ b →
+    (a b m u : ℕ) → IsMetric n dist → IsStage n f dist x → AreClimbing n f dist x (s, t) (ways left right a b) → a ≢ b →
     x.rank a ≤ x.rank b → IsExit n f x.mate b m u →
-    AreClimbing n f dist x s t left ((right ++ (m, u) ∷ []) ++ (x.entry (f.top u), x.above (f.top u)) ∷ []) a (f.top (x.above (f.top u)))
+    AreClimbing n f dist x (s, t) (ways left ((right ++ (m, u) ∷ []) ++ (x.entry (f.top u), x.above (f.top u)) ∷ []) a (f.top (x.above (f.top u))))
 climbing_right n f dist x s t left right a b m u me st c ne low ex =
     let w = step_of n f dist x b m u st c.sets.b_outer ex in
     let i : ℕ = f.top u in
     let link : ℕ × ℕ = (x.entry i, x.above i) in
     let tight : loads n f (x.entry i) (x.above i) ≡ dist (x.entry i) (x.above i) =
     load_turned n f (x.entry i) (x.above i) ∙ w.tight_link ∙ me.symmetric (x.above i) (x.entry i) w.ha w.he in
-    let first : IsWay n f (loads n f) dist b ((m, u) ∷ []) i = (w.hm, w.ht, ex.top, w.tight_pair, refl) in
-    let second : IsWay n f (loads n f) dist i (link ∷ []) (f.top (x.above i)) = (w.he, w.ha, w.entry, tight, refl) in
+    let first : IsWay n f dist b ((m, u) ∷ []) i = (w.hm, w.ht, ex.top, w.tight_pair, refl) in
+    let second : IsWay n f dist i (link ∷ []) (f.top (x.above i)) = (w.he, w.ha, w.entry, tight, refl) in
     record {
       way_left = c.way_left;
-      way_right = way_append n f (loads n f) dist (f.top t) i (f.top (x.above i)) (right ++ (m, u) ∷ []) (link ∷ [])
-          (way_append n f (loads n f) dist (f.top t) b i right ((m, u) ∷ []) c.way_right first) second;
+      way_right = way_append n f dist (f.top t) i (f.top (x.above i)) (right ++ (m, u) ∷ []) (link ∷ [])
+          (way_append n f dist (f.top t) b i right ((m, u) ∷ []) c.way_right first) second;
       sets = gathered_turned n f x (f.top (x.above i)) a _
           (gathered_more n f dist x b a m u (met_on f left right) _ st (gathered_turned n f x a b _ c.sets)
           (λ z. ne (sym z)) low ex (λ k. omega (
@@ -301,8 +315,9 @@ climbing_right n f dist x s t left right a b m u me st c ne low ex =
       even = omega (arith, c.even, push_length right (m, u) link);
     }
 
+-- two ways that have not begun
 pub climbing_begun : (n : ℕ) (f : Sets) (dist : ℕ → ℕ → ℕ) (x : Forest) (s t : ℕ) → x.place (f.top s) ≡ outer →
-    x.place (f.top t) ≡ outer → AreClimbing n f dist x s t [] [] (f.top s) (f.top t)
+    x.place (f.top t) ≡ outer → AreClimbing n f dist x (s, t) (ways [] [] (f.top s) (f.top t))
 climbing_begun n f dist x s t ps pt = record {
   way_left = refl;
   way_right = refl;
@@ -321,7 +336,7 @@ climbing_begun n f dist x s t ps pt = record {
 -- ---- where the two ways meet
 
 pub record IsFolding (n : ℕ) (f : Sets) (dist : ℕ → ℕ → ℕ) (x : Forest) (joins : List (ℕ × ℕ)) (meet : ℕ) : Type 0 where
-  pub way : IsWay n f (loads n f) dist meet joins meet
+  pub way : IsWay n f dist meet joins meet
   pub times : (c : ℕ) → times_in (tops_from f joins) c ≤ 1
   pub odd : length joins % 2 ≡ 1
   pub cycle : IsCycle n f x (tops_from f joins) meet
@@ -337,14 +352,14 @@ times_reversed f (y ∷ ys) c =
     omega (arith, ap (λ w. times_in (tops_to f w) c) e, k, times_reversed f ys c)
 
 some_met : (n : ℕ) (f : Sets) (dist : ℕ → ℕ → ℕ) (x : Forest) (s t meet : ℕ) (left right : List (ℕ × ℕ)) →
-    IsStage n f dist x → f.top s ≢ f.top t → AreClimbing n f dist x s t left right meet meet → (k : ℕ) ×
+    IsStage n f dist x → f.top s ≢ f.top t → AreClimbing n f dist x (s, t) (ways left right meet meet) → (k : ℕ) ×
     (0 < met_on f left right k)
 some_met n f dist x s t meet left right st apart c = elim (cases_eq meet (f.top t)) [
   | inr ne ↦ (
     f.top t,
     omega (
       arith,
-      way_times n f (loads n f) dist (f.top t) meet right (f.top t) c.way_right,
+      way_times n f dist (f.top t) meet right (f.top t) c.way_right,
       bit_one (f.top t) (f.top t) refl,
       bit_none meet (f.top t) ne,
     ),
@@ -354,7 +369,7 @@ some_met n f dist x s t meet left right st apart c = elim (cases_eq meet (f.top 
         f.top s,
         omega (
           arith,
-          way_times n f (loads n f) dist meet (f.top s) (reverse left) (f.top s) c.way_left,
+          way_times n f dist meet (f.top s) (reverse left) (f.top s) c.way_left,
           bit_one (f.top s) (f.top s) refl,
           bit_none meet (f.top s) ne,
           times_reversed f left (f.top s),
@@ -381,9 +396,10 @@ inner_met n f dist x meet met children st g w here = elim (place_cases (x.place 
       (f.top ex.1, here (f.top ex.1) (g.closed w.0 ex.0 ex.1 w.1 ex.2), o.0)
 ]
 
+-- two ways that meet go all around with their join
 pub climbing_whole : (n : ℕ) (f : Sets) (dist : ℕ → ℕ → ℕ) (x : Forest) (s t meet : ℕ) (left right : List (ℕ × ℕ)) →
     IsStage n f dist x → s < n → t < n → loads n f s t ≡ dist s t → f.top s ≢ f.top t →
-    AreClimbing n f dist x s t left right meet meet →
+    AreClimbing n f dist x (s, t) (ways left right meet meet) →
     IsFolding n f dist x (reverse left ++ (s, t) ∷ right) meet
 climbing_whole n f dist x s t meet left right st hs ht tight apart c =
     let joins : List (ℕ × ℕ) = reverse left ++ (s, t) ∷ right in
@@ -395,7 +411,7 @@ climbing_whole n f dist x s t meet left right st hs ht tight apart c =
     (tops_from f ((s, t) ∷ right)) k = ap (λ w. times_in w k)
     (map-append (λ j. f.top j.0) (reverse left) ((s, t) ∷ right)) ∙
     times_append (tops_from f (reverse left)) (tops_from f ((s, t) ∷ right)) k in
-    let a2 = way_times n f (loads n f) dist meet (f.top s) (reverse left) k c.way_left in
+    let a2 = way_times n f dist meet (f.top s) (reverse left) k c.way_left in
     let a3 = times_reversed f left k in
     let r : times_in (tops_from f joins) k ≡ cond (eqb meet k) 1 0 + met k = omega (arith, a1, a2, a3) in r) in
     let meet_new : met meet ≡ 0 = elim (cases_lt 0 (met meet)) [
@@ -408,7 +424,7 @@ climbing_whole n f dist x s t meet left right st hs ht tight apart c =
     ]) in
     let here = λ (k : ℕ) (h : 0 < met k). has_times (tops_from f joins) k (omega (arith, count k, h)) in
     record {
-      way = way_append n f (loads n f) dist meet (f.top s) meet (reverse left) ((s, t) ∷ right) c.way_left (hs, ht, refl, tight, c.way_right);
+      way = way_append n f dist meet (f.top s) meet (reverse left) ((s, t) ∷ right) c.way_left (hs, ht, refl, tight, c.way_right);
       times = λ k. elim (cases_eq meet k) [
         | inl z ↦ omega (arith, count k, bit_one meet k z, ap met z, meet_new)
         | inr z ↦ omega (arith, count k, bit_none meet k z, g.once k)
@@ -460,6 +476,7 @@ three n f dist x (j ∷ []) meet st w =
     ]
 three n f dist x (j ∷ i ∷ js) meet st w = omega arith
 
+-- the tops all around can become one set
 pub folding_tops : (n : ℕ) (f : Sets) (dist : ℕ → ℕ → ℕ) (x : Forest) (joins : List (ℕ × ℕ)) (meet : ℕ) →
     IsStage n f dist x → IsFolding n f dist x joins meet → AreTops n f (tops_from f joins)
 folding_tops n f dist x joins meet st w =
@@ -474,6 +491,7 @@ folding_tops n f dist x joins meet st w =
       distinct = once_apart (tops_from f joins) w.times;
     }
 
+-- each join all around leads from one of them to the next
 pub folding_joined : (n : ℕ) (f : Sets) (dist : ℕ → ℕ → ℕ) (x : Forest) (joins : List (ℕ × ℕ)) (meet i : ℕ) →
     IsStage n f dist x → IsFolding n f dist x joins meet → i < length joins →
     IsTie f (get_or (tops_from f joins) i 0) (next_in (tops_from f joins) i) (get_or joins i (0, 0))
@@ -481,18 +499,18 @@ folding_joined n f dist x joins meet i st w h =
     let lam = st.rest.laminar in
     let size = st.rest.size in
     let len : length (tops_from f joins) ≡ length joins = length-map joins (λ j. f.top j.0) in
-    let s = way_step n f (loads n f) dist meet meet i joins w.way h in
+    let s = way_step n f dist meet meet i joins w.way h in
     let at = λ (k : ℕ) (hk : k < length joins). get_or-map (λ j. f.top j.0) joins k (0, 0) 0 hk in
     let next : next_in (tops_from f joins) i ≡ f.top (get_or joins i (0, 0)).1 = elim (cases_eq (i + 1) (length joins)) [
       | inl last ↦
           let z : (i + 1) % length (tops_from f joins) ≡ 0 = ap (λ a. (i + 1) % a) (len ∙ sym last) ∙ mod_self (i + 1) in
           ap (λ a. get_or (tops_from f joins) a 0) z ∙ at 0 (omega (arith, h)) ∙
-          way_first n f (loads n f) dist meet meet joins w.way (omega (arith, h)) ∙
-          sym (way_last n f (loads n f) dist meet meet i joins w.way last)
+          way_first n f dist meet meet joins w.way (omega (arith, h)) ∙
+          sym (way_last n f dist meet meet i joins w.way last)
       | inr more ↦
           let low : suc i < length joins = omega (arith, h, more) in
           let z : (i + 1) % length (tops_from f joins) ≡ suc i = mod-eq_of_lt (omega (arith, len, low)) ∙ omega arith in
-          ap (λ a. get_or (tops_from f joins) a 0) z ∙ at (suc i) low ∙ sym (way_next n f (loads n f) dist meet meet i joins w.way low)
+          ap (λ a. get_or (tops_from f joins) a 0) z ∙ at (suc i) low ∙ sym (way_next n f dist meet meet i joins w.way low)
     ] in
     record {
       from_range = omega (arith, s.from, size);

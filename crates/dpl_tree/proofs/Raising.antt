@@ -1,11 +1,11 @@
 -- Changes of values, one set after another.
-use Rattle.std.proofs.Common.{arith, ◌≡◌, ◌≢◌, ℕ, zero, suc, ◌+◌, ◌*◌, ◌<◌, ◌≤◌, refl, ap, ◌∙◌, true, cond, inl, inr, eqb, eq-eqb, None}
+use Rattle.std.proofs.Common.{arith, ◌≡◌, ◌≢◌, ℕ, zero, suc, ◌+◌, ◌*◌, ◌<◌, ◌≤◌, ap, ◌∙◌, true, cond, inl, inr, eqb, eq-eqb, None}
 use Rattle.std.proofs.lemmas.Bool.{cases_eq, cond-true}
 use Rattle.dpl_laminar.specs.Loads.{sum_below}
 use Rattle.dpl_laminar.specs.Families.{Sets, IsLaminar}
 use Rattle.dpl_laminar.proofs.Sums.{sum_same, sum_most, sum_at, sum_turned}
 use Rattle.dpl_laminar.proofs.Released.{some_member}
-use Rattle.dpl_tree.specs.Forests.{Place, free, gain, drop_of}
+use Rattle.dpl_tree.specs.steps.Forests.{Place, free, gain, drop_of}
 use Rattle.dpl_tree.proofs.Growing.{place_cases, outer_in, inner_in}
 use Rattle.dpl_tree.proofs.Counting.{ones}
 

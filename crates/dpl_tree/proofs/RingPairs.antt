@@ -5,7 +5,7 @@ use Rattle.std.proofs.lemmas.Bool.{cases_eq, cases_lt, lt-ltb, le-ltb}
 use Rattle.dpl_laminar.specs.Families.{Sets}
 use Rattle.dpl_tree.specs.Mates.{IsExit, ArePairs, Joins}
 use Rattle.dpl_tree.specs.Views.{mate_in}
-use Rattle.dpl_tree.specs.Opened.{pair_up, join_at, paired_times}
+use Rattle.dpl_tree.specs.steps.Opened.{pair_up, join_at, paired_times}
 use Rattle.dpl_tree.proofs.Climbing.{joined_pairs}
 use Rattle.dpl_tree.proofs.Ways.{joins_list}
 

@@ -1,19 +1,19 @@
 -- An inner set of value 0 gives way to its children, of which those on the way stay in the tree.
-use Rattle.std.proofs.Common.{arith, ◌≡◌, ◌≢◌, ℕ, zero, suc, ◌+◌, ◌-◌, ◌*◌, ◌/◌, ◌%◌, ◌<◌, ◌≤◌, ◌⊎◌, refl, sym, ap, ◌∙◌}
-use Rattle.std.proofs.Common.{subst, true, false, inl, inr, Option, Some, None, List, length, get_or, set, length-set}
-use Rattle.std.proofs.Common.{get_or-set_same, get_or-set_other}
+use Rattle.std.proofs.Common.{arith, ◌≡◌, ◌≢◌, ℕ, zero, suc, ◌+◌, ◌-◌, ◌*◌, ◌/◌, ◌%◌, ◌<◌, ◌≤◌, ◌⊎◌, refl, sym, ap}
+use Rattle.std.proofs.Common.{◌∙◌, subst, true, false, inl, inr, Option, Some, None, List, length, get_or, set}
+use Rattle.std.proofs.Common.{length-set, get_or-set_same, get_or-set_other}
 use Rattle.std.proofs.lemmas.Bool.{cases_eq, cases_lt, cases_Bool}
 use Rattle.std.proofs.Math.Nat.{mod-eq_of_lt}
 use Rattle.dpl_laminar.specs.Families.{Sets, IsFamily, has, next_in}
 use Rattle.dpl_laminar.specs.Changes.{IsExpanded, Releases}
 use Rattle.dpl_laminar.proofs.Numbers.{true_false, some_none}
 use Rattle.dpl_tree.specs.declared.tree.Label.TheVariants.{Free, Outer, Inner}
-use Rattle.dpl_tree.specs.Forests.{free, Forest, IsBroken, Opens, Walks}
+use Rattle.dpl_tree.specs.steps.Forests.{free, Forest, IsBroken, Opens, Walks, gap}
 use Rattle.dpl_tree.specs.Mates.{IsExit, ArePairs, loads}
 use Rattle.dpl_tree.specs.Metrics.{IsMetric}
 use Rattle.dpl_tree.specs.Stages.{IsStage, Advances}
 use Rattle.dpl_tree.specs.Views.{mate_in, place_in, place_of}
-use Rattle.dpl_tree.specs.Opened.{IsAround, IsOpening, Lists, forest_in, step_in, walked_times, paired_times}
+use Rattle.dpl_tree.specs.steps.Opened.{IsAround, IsOpening, around, Lists, forest_in, step_in, walked_times, paired_times}
 use Rattle.dpl_tree.proofs.Growing.{place_cases, outer_in, inner_in, exit_one}
 use Rattle.dpl_tree.proofs.Opening.{opened, walked, healed}
 use Rattle.dpl_tree.proofs.Refining.{refined_pairs}
@@ -36,7 +36,7 @@ step_long k l cur o next link a = record {
 }
 
 step_walks : (n : ℕ) (g : Sets) (k : ℕ) (l : Lists) (root : ℕ) (mate : ℕ → Option ℕ) (cur o next : ℕ) (link : ℕ × ℕ) →
-    AreLong k l → o < k → next < k → o ≢ next → Walks n g (forest_in l root mate) cur o next link.0 link.1
+    AreLong k l → o < k → next < k → o ≢ next → Walks (forest_in l root mate) cur o next link
     (forest_in (step_in l cur o next link) root mate)
 step_walks n g k l root mate cur o next link a ho hn ne =
     let hl : next < length (set l.labels o Outer) = omega (arith, length-set l.labels o Outer, a.labels, hn) in
@@ -73,7 +73,7 @@ pub record IsReadyRing (n : ℕ) (g : Sets) (load dist : ℕ → ℕ → ℕ) (s
 pub record IsWalked (n : ℕ) (g : Sets) (load dist : ℕ → ℕ → ℕ) (sets : List ℕ) (joins : List (ℕ × ℕ)) (p r : ℕ)
     (l m : Lists) (root out : ℕ) (mate : ℕ → Option ℕ) (bound : ℕ) : Type 0 where
   pub long : AreLong (2 * n) m
-  pub broken : IsBroken n g load dist (forest_in m root mate) (get_or sets (2 * r) 0) out (p - 2 * r)
+  pub broken : IsBroken n g load dist (forest_in m root mate) (gap (get_or sets (2 * r) 0) out (p - 2 * r))
   pub ahead : (j : ℕ) → 2 * r < j → j < length sets → place_in m.labels (get_or sets j 0) ≡ free
   pub others : (i : ℕ) → ((j : ℕ) → j < length sets → i ≢ get_or sets j 0) → place_in m.labels i ≡ place_in l.labels i
   pub ranked : (i : ℕ) → get_or m.ranks i 0 ≤ bound + 2 * r
@@ -103,14 +103,14 @@ walk_more n g load dist sets joins p r l m root out mate bound q le w =
     let room : p - 2 * r ≡ (p - 2 * suc r) + 2 = omega (arith, le) in
     let b = walked n g load dist (forest_in m root mate) (forest_in (step_in m cur o next link) root mate) cur out
     (p - 2 * suc r) o next first.0 first.1 link.0 link.1 q.pairs
-    (subst (λ (z : ℕ). IsBroken n g load dist (forest_in m root mate) cur out z) room w.broken) ex t0.1
+    (subst (λ (z : ℕ). IsBroken n g load dist (forest_in m root mate) (gap cur out z)) room w.broken) ex t0.1
     (w.ahead (2 * r + 1) (omega arith) h1) (w.ahead (2 * r + 2) (omega arith) h2) on (q.tops (2 * r + 1) h1)
     (q.tops (2 * r + 2) h2)
     f1.0 t1.0 f1.1 (t1.1 ∙ ap (λ z. get_or sets z 0) e2) (q.row.tight (2 * r + 1) (omega (arith, h2))) (q.exits (2 * r + 2) h2) step in
     let e3 : 2 * r + 2 ≡ 2 * suc r = omega arith in
     record {
       long = step_long (2 * n) m cur o next link w.long;
-      broken = subst (λ (z : ℕ). IsBroken n g load dist (forest_in (step_in m cur o next link) root mate) (get_or sets z 0) out (p - 2 * suc r)) e3 b;
+      broken = subst (λ (z : ℕ). IsBroken n g load dist (forest_in (step_in m cur o next link) root mate) (gap (get_or sets z 0) out (p - 2 * suc r))) e3 b;
       ahead = λ j lt h. step.place_others (get_or sets j 0)
           (λ z. q.row.distinct (2 * r + 1) j (omega (arith, lt)) h (sym z))
           (λ z. q.row.distinct (2 * r + 2) j (omega (arith, lt)) h (sym z)) ∙ w.ahead j (omega (arith, lt)) h;
@@ -124,6 +124,7 @@ walk_more n g load dist sets joins p r l m root out mate bound q le w =
       ];
     }
 
+-- so many steps of the walk
 pub walk_all : (n : ℕ) (g : Sets) (load dist : ℕ → ℕ → ℕ) (sets : List ℕ) (joins : List (ℕ × ℕ)) (p : ℕ) (l : Lists)
     (root out : ℕ) (mate : ℕ → Option ℕ) (bound : ℕ) → IsReadyRing n g load dist sets joins p mate →
     IsWalked n g load dist sets joins p 0 l l root out mate bound → (r : ℕ) → 2 * r ≤ p →
@@ -135,6 +136,7 @@ walk_all n g load dist sets joins p l root out mate bound q w (suc r) h =
 
 -- ---- the whole
 
+-- the next one around, but for the last
 pub next_of : (sets : List ℕ) (i : ℕ) → i + 1 < length sets → next_in sets i ≡ get_or sets (i + 1) 0
 next_of sets i h = ap (λ z. get_or sets z 0) (mod-eq_of_lt h)
 
@@ -145,6 +147,7 @@ place_free n f dist x set c st e = elim (place_cases (x.place c)) [
   | inr (inr z) ↦ some_none (f.parent c) set e (st.tree.tops c (inner_in z)).2
 ]
 
+-- the children of a set that was taken away, as tops
 pub opening_row : (n : ℕ) (f g : Sets) (dist : ℕ → ℕ → ℕ) (set : ℕ) (sets : List ℕ) (joins : List (ℕ × ℕ)) →
     Releases n f set g → IsAround n f dist set sets joins → IsRow n g (loads n f) dist sets joins
 opening_row n f g dist set sets joins q a = record {
@@ -157,21 +160,24 @@ opening_row n f g dist set sets joins q a = record {
   distinct = a.distinct;
 }
 
+-- an inner set has given way to the children of its ring
 pub opening_done : (n : ℕ) (f g : Sets) (dist : ℕ → ℕ → ℕ) (x : Forest) (set : ℕ) (sets : List ℕ) (joins : List (ℕ × ℕ))
-    (p m0 t0 : ℕ) (mates : List (Option ℕ)) (l : Lists) (bound : ℕ) → IsMetric n dist → length mates ≡ n →
+    (p : ℕ) (mates : List (Option ℕ)) (l : Lists) (bound : ℕ) → IsMetric n dist → length mates ≡ n →
     x.mate ≡ mate_in mates → IsStage n f dist x →
-    IsOpening n f dist x set sets joins p m0 t0 → IsExpanded f set g → IsFamily g → AreLong (2 * n) l →
-    Opens n f x set (get_or sets 0 0) p (forest_in l x.root
+    IsOpening n f dist x set (around sets joins p) → IsExpanded f set g → IsFamily g → AreLong (2 * n) l →
+    Opens x set (get_or sets 0 0) p (forest_in l x.root
     (mate_in (paired_times mates joins p (length joins / 2)))) → ((i : ℕ) → x.rank i ≤ bound) →
     Advances n dist f x g (forest_in (walked_times l sets joins (p / 2)) x.root
     (mate_in (paired_times mates joins p (length joins / 2)))) ×
     ((i : ℕ) → get_or (walked_times l sets joins (p / 2)).ranks i 0 ≤ bound + 2 * p)
-opening_done n f g dist x set sets joins p m0 t0 mates l bound me len em st o ex fam long op ranked =
+opening_done n f g dist x set sets joins p mates l bound me len em st o ex fam long op ranked =
+    let m0 : ℕ = o.from in
+    let t0 : ℕ = o.to in
     let r = st.rest in
     let lam = r.laminar in
     let q = released_of n f g set r.size ex in
     let at = st.tree.tops set (inner_in o.is_inner) in
-    let a = o.around in
+    let a = o.ring in
     let row = opening_row n f g dist set sets joins q a in
     let load : ℕ → ℕ → ℕ = loads n f in
     let new : ℕ → Option ℕ = mate_in (paired_times mates joins p (length joins / 2)) in
@@ -236,7 +242,7 @@ opening_done n f g dist x set sets joins p m0 t0 mates l bound me len em st o ex
     ]) in
     let w0 : IsWalked n g load dist sets joins p 0 l l x.root (f.top t0) new (bound + p) = record {
       long = long;
-      broken = subst (λ (z : ℕ). IsBroken n g load dist y0 (get_or sets 0 0) (f.top t0) z) (let z : p ≡ p - 2 * 0 = omega arith in z) broken;
+      broken = subst (λ (z : ℕ). IsBroken n g load dist y0 (gap (get_or sets 0 0) (f.top t0) z)) (let z : p ≡ p - 2 * 0 = omega arith in z) broken;
       ahead = λ j lt h.
           let ns : get_or sets j 0 ≢ set = λ e. some_none (f.parent (get_or sets j 0)) set (kid j h).2 (ap f.parent e ∙ at.2) in
           op.place_others (get_or sets j 0) ns (λ e. a.distinct 0 j (omega (arith, lt)) h (sym e)) ∙ free_in j h;

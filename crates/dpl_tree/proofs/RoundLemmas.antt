@@ -1,22 +1,20 @@
 -- Walking around the ring of a set.
 use Rattle.std.proofs.Common.{arith, ◌≡◌, ◌≢◌, ℕ, zero, suc, ◌+◌, ◌-◌, ◌*◌, ◌%◌, ◌<◌, ◌≤◌, refl, sym, ap, ◌∙◌, subst}
-use Rattle.std.proofs.Common.{inl, inr, Bool, true, false, cond, eq-eqb, List, [], ◌∷◌, ◌++◌, length, get_or, Option}
+use Rattle.std.proofs.Common.{inl, inr, true, eq-eqb, List, [], ◌∷◌, ◌++◌, length, get_or, Option}
 use Rattle.std.proofs.Common.{Some, None}
 use Rattle.std.specs.Prelude.{option_and_then}
 use Rattle.std.proofs.lemmas.Bool.{cases_eq, cases_lt}
 use Rattle.std.proofs.lemmas.List.{length_push, get_or_append_left}
 use Rattle.std.proofs.Math.Seq.{get_or-append_seam}
 use Rattle.std.proofs.Math.Nat.{mod-add-mod, mod_self, mod-eq_of_lt}
-use Rattle.dpl_laminar.specs.Loads.{sum_below, size_of}
 use Rattle.dpl_laminar.specs.Families.{Sets, IsFamily, has, next_in, climb, AreReached}
-use Rattle.dpl_laminar.proofs.Sums.{sum_most}
 use Rattle.dpl_laminar.specs.Changes.{IsNext}
 use Rattle.dpl_laminar.proofs.Numbers.{has_at, place_in, cases_Option, some_is, some_none}
 use Rattle.dpl_tree.specs.Mates.{loads}
 use Rattle.dpl_tree.specs.Metrics.{IsMetric}
 use Rattle.dpl_tree.specs.Stages.{IsRest}
-use Rattle.dpl_tree.specs.Opened.{IsAround}
-use Rattle.dpl_tree.specs.Rounds.{IsPart, IsRingFrom, IsTurned}
+use Rattle.dpl_tree.specs.steps.Opened.{IsAround}
+use Rattle.dpl_tree.specs.steps.Rounds.{IsPart, IsRingFrom, IsTurned}
 use Rattle.dpl_tree.proofs.Counting.{ring_short}
 use Rattle.dpl_tree.proofs.Ways.{load_turned}
 use Rattle.dpl_laminar.proofs.Reached.{size_most}

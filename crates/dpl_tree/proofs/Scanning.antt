@@ -2,7 +2,7 @@ use Rattle.std.proofs.Common.{arith, ◌≡◌, ◌≢◌, ℕ, ◌*◌, ◌<◌
 use Rattle.std.proofs.lemmas.Bool.{eqb-true}
 use Rattle.dpl_laminar.specs.Families.{Sets, IsLaminar}
 use Rattle.dpl_laminar.specs.Loads.{load_in}
-use Rattle.dpl_tree.specs.Forests.{free, outer, inner, Forest, IsTree}
+use Rattle.dpl_tree.specs.steps.Forests.{free, outer, inner, Forest, IsTree}
 use Rattle.dpl_tree.specs.Mates.{ArePairs, total_in}
 use Rattle.dpl_tree.specs.Metrics.{IsMetric}
 use Rattle.dpl_tree.specs.Stages.{IsChange}

@@ -7,7 +7,7 @@ use Rattle.dpl_laminar.specs.Families.{Sets, IsFamily, IsLaminar, has, next_in}
 use Rattle.dpl_laminar.proofs.Sums.{sum_same, sum_at}
 use Rattle.dpl_laminar.proofs.Numbers.{true_false, some_none, cases_Option, has_at, place_in}
 use Rattle.dpl_laminar.proofs.Released.{some_member, child_misses}
-use Rattle.dpl_tree.specs.Forests.{free, outer, inner, Forest, IsTree, Shifts}
+use Rattle.dpl_tree.specs.steps.Forests.{free, outer, inner, Forest, IsTree, Shifts}
 use Rattle.dpl_tree.specs.Mates.{IsExit, ArePairs, totals}
 use Rattle.dpl_tree.specs.Metrics.{IsMetric}
 use Rattle.dpl_tree.specs.Stages.{HasParity, IsStage}

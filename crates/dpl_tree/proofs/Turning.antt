@@ -5,7 +5,7 @@ use Rattle.dpl_laminar.proofs.Sums.{sum_most}
 use Rattle.dpl_laminar.specs.Changes.{Gathers, Releases}
 use Rattle.dpl_laminar.specs.Families.{Sets, IsLaminar, has}
 use Rattle.dpl_laminar.specs.Loads.{sum_below, load_in}
-use Rattle.dpl_tree.specs.Forests.{Place, free, outer, inner, Forest, IsTree, Shifts, Grows, Folds}
+use Rattle.dpl_tree.specs.steps.Forests.{Place, free, outer, inner, Forest, IsTree, Shifts, Grows, Folds}
 use Rattle.dpl_tree.specs.Mates.{IsExit, ArePairs}
 use Rattle.dpl_tree.specs.Stages.{weight, as_number, potential}
 use Rattle.dpl_tree.proofs.Growing.{place_cases, outer_in, outer_inner_no, mate_outside}
@@ -90,7 +90,7 @@ weight_full inner j ne = refl
 
 pub grown_falls : (n : ℕ) (f : Sets) (load dist : ℕ → ℕ → ℕ) (x y : Forest) (s t m o : ℕ) → IsLaminar n f →
     ArePairs n f load dist x.mate → IsTree n f load dist x → x.place (f.top t) ≡ free →
-    IsExit n f x.mate (f.top t) m o → Grows n f x s t m o y → potential n f y.place < potential n f x.place
+    IsExit n f x.mate (f.top t) m o → Grows f x s t o y → potential n f y.place < potential n f x.place
 grown_falls n f load dist x y s t m o lam p tree pt ex g =
     let po : x.place (f.top o) ≡ free = mate_outside n f load dist x p tree (f.top t) m o pt ex in
     let ho : o < n = p.range m o ex.below ex.paired in

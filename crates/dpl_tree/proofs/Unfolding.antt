@@ -4,7 +4,7 @@ use Rattle.std.proofs.lemmas.Bool.{cases_eq, cases_Bool}
 use Rattle.dpl_laminar.specs.Families.{Sets, IsFamily, IsLaminar, has}
 use Rattle.dpl_laminar.specs.Changes.{Releases, IsExpanded}
 use Rattle.dpl_laminar.proofs.Numbers.{some_none}
-use Rattle.dpl_tree.specs.Forests.{free, inner, Forest, IsTree}
+use Rattle.dpl_tree.specs.steps.Forests.{free, inner, Forest, IsTree}
 use Rattle.dpl_tree.specs.Mates.{IsExit, ArePairs, loads, totals}
 use Rattle.dpl_tree.specs.Stages.{IsRest, IsStage, IsCovered, IsReady, potential}
 use Rattle.dpl_tree.proofs.Growing.{inner_in}

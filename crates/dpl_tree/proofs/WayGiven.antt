@@ -5,13 +5,13 @@ use Rattle.dpl_laminar.specs.Families.{Sets, IsFamily}
 use Rattle.dpl_laminar.specs.Changes.{IsExpanded}
 use Rattle.dpl_laminar.proofs.Numbers.{some_none}
 use Rattle.dpl_tree.specs.declared.tree.Tree.{Tree}
-use Rattle.dpl_tree.specs.Forests.{Forest, Opens, inner}
+use Rattle.dpl_tree.specs.steps.Forests.{Forest, Opens, inner}
 use Rattle.dpl_tree.specs.Mates.{IsExit}
 use Rattle.dpl_tree.specs.Metrics.{IsMetric}
 use Rattle.dpl_tree.specs.Stages.{IsStage, Advances, AreRanked}
 use Rattle.dpl_tree.specs.Views.{mate_in, forest_of, IsSized}
-use Rattle.dpl_tree.specs.Opened.{IsAround, IsOpening, Lists, lists_of, forest_in, walked_times, paired_times}
-use Rattle.dpl_tree.specs.Rounds.{IsRingFrom, IsTurned}
+use Rattle.dpl_tree.specs.steps.Opened.{IsAround, IsOpening, around, Lists, lists_of, forest_in, walked_times, paired_times}
+use Rattle.dpl_tree.specs.steps.Rounds.{IsRingFrom, IsTurned}
 use Rattle.dpl_tree.proofs.Alike.{totals_alike, expanded_alike}
 use Rattle.dpl_tree.proofs.Events.{IsEvent}
 use Rattle.dpl_tree.proofs.Growing.{inner_in}
@@ -56,17 +56,20 @@ giving_of {f = f} {first = first} stage above is_inner empty e link first_parent
   ring = ring;
 }
 
+-- the ring of the set, with tight joins
 pub giving_around : {n : ℕ} {f : Sets} {dist : ℕ → ℕ → ℕ} {x : Forest} {set first last m0 t0 : ℕ} {sets : List ℕ} {joins : List (ℕ × ℕ)} →
     IsGiving n f dist x set first last m0 t0 sets joins → IsAround n f dist set sets joins
 giving_around {n} {f} {dist} {x} {set} {first} {sets = sets} {joins = joins} g =
     let at = g.stage.tree.tops set (inner_in g.is_inner) in
     ring_around n f dist x.mate set first sets joins g.stage.rest g.above at.0 at.1 g.first_parent g.ring
 
+-- the child that keeps the pair stands in the ring
 pub giving_place : {n : ℕ} {f : Sets} {dist : ℕ → ℕ → ℕ} {x : Forest} {set first last m0 t0 : ℕ} {sets : List ℕ} {joins : List (ℕ × ℕ)} →
     IsGiving n f dist x set first last m0 t0 sets joins → (i : ℕ) × (i < length sets) × (get_or sets i 0 ≡ last)
 giving_place {set = set} {last = last} g =
     (giving_around g).all last (g.stage.rest.laminar.children.parent_range last set g.last_below g.last_live g.last_parent).3
 
+-- the ring begins at the child that the tree enters
 pub starts_first : (f : Sets) (first : ℕ) (sets : List ℕ) (joins : List (ℕ × ℕ)) → 0 < length sets → IsRingFrom f first sets joins → get_or sets 0 0 ≡ first
 starts_first f first sets joins h r =
     let z : (r.at + 0) % length (f.children r.parent) ≡ r.at =
@@ -76,14 +79,16 @@ starts_first f first sets joins h r =
 -- the ring as it stands, where the place in the list as it was read is even
 pub opening_forward : {n : ℕ} {f : Sets} {dist : ℕ → ℕ → ℕ} {x : Forest} {set first last m0 t0 at : ℕ} {sets seen : List ℕ} {joins : List (ℕ × ℕ)} →
     IsGiving n f dist x set first last m0 t0 sets joins → seen ≡ sets → at < length seen → get_or seen at 0 ≡ last → at % 2 ≡ 0 →
-    IsOpening n f dist x set sets joins at m0 t0
-opening_forward {f = f} {x = x} {set = set} {first = first} {m0 = m0} {at = at} {sets = sets} {joins = joins} g seen below value even =
+    IsOpening n f dist x set (around sets joins at)
+opening_forward {f = f} {x = x} {set = set} {first = first} {m0 = m0} {t0 = t0} {at = at} {sets = sets} {joins = joins} g seen below value even =
     let h : at < length sets = omega (arith, ap length seen, below) in
     record {
+      from = m0;
+      to = t0;
       above = g.above;
       is_inner = g.is_inner;
       empty = g.empty;
-      around = giving_around g;
+      ring = giving_around g;
       even = even;
       place = h;
       enters = ap (λ z. f.holds z (x.entry set)) (starts_first f first sets joins (omega (arith, h)) g.ring) ∙ g.first_held;
@@ -95,7 +100,7 @@ opening_forward {f = f} {x = x} {set = set} {first = first} {m0 = m0} {at = at} 
 pub opening_backward : {n : ℕ} {f : Sets} {dist : ℕ → ℕ → ℕ} {x : Forest} {set first last m0 t0 at count : ℕ} {sets seen read sets' : List ℕ}
     {joins read_joins joins' : List (ℕ × ℕ)} → IsMetric n dist → IsGiving n f dist x set first last m0 t0 sets joins →
     seen ≡ sets → at < length seen → get_or seen at 0 ≡ last → at % 2 ≢ 0 →
-    read ≡ sets → read_joins ≡ joins → IsTurned read read_joins sets' joins' → count ≡ length sets → IsOpening n f dist x set sets' joins' (count - at) m0 t0
+    read ≡ sets → read_joins ≡ joins → IsTurned read read_joins sets' joins' → count ≡ length sets → IsOpening n f dist x set (around sets' joins' (count - at))
 opening_backward {n} {f} {dist} {x} {set} {first} {last} {m0} {t0} {at} {count} {sets} {seen} {read} {sets'} {joins} {read_joins} {joins'} me g
     es below value odd er ej turned ec =
     let a = giving_around g in
@@ -106,10 +111,12 @@ opening_backward {n} {f} {dist} {x} {set} {first} {last} {m0} {t0} {at} {count} 
     let back : get_or sets (length sets - (count - at)) 0 ≡ last =
     ap (λ z. get_or sets z 0) (let z : length sets - (count - at) ≡ at = omega (arith, h, ec) in z) ∙ ap (λ (z : List ℕ). get_or z at 0) (sym es) ∙ value in
     record {
+      from = m0;
+      to = t0;
       above = g.above;
       is_inner = g.is_inner;
       empty = g.empty;
-      around = around_turned n f dist set sets sets' joins joins' me a t;
+      ring = around_turned n f dist set sets sets' joins joins' me a t;
       even = omega (arith, a.odd, odd, h, ec);
       place = omega (arith, h, low, t.sets_length, ec);
       enters = ap (λ z. f.holds z (x.entry set)) (t.first ∙ starts_first f first sets joins (omega (arith, h)) g.ring) ∙ g.first_held;
@@ -117,32 +124,33 @@ opening_backward {n} {f} {dist} {x} {set} {first} {last} {m0} {t0} {at} {count} 
       exit = g.exit;
     }
 
-pub around_few : {n : ℕ} {f : Sets} {dist : ℕ → ℕ → ℕ} {x : Forest} {set : ℕ} {sets : List ℕ} {joins : List (ℕ × ℕ)} {p m0 t0 : ℕ} →
-    IsStage n f dist x → IsOpening n f dist x set sets joins p m0 t0 → ((i : ℕ) → i < length sets → get_or sets i 0 < 2 * n) × (length sets ≤ 2 * n)
+-- the children around are few, and have small numbers
+pub around_few : {n : ℕ} {f : Sets} {dist : ℕ → ℕ → ℕ} {x : Forest} {set : ℕ} {sets : List ℕ} {joins : List (ℕ × ℕ)} {p : ℕ} →
+    IsStage n f dist x → IsOpening n f dist x set (around sets joins p) → ((i : ℕ) → i < length sets → get_or sets i 0 < 2 * n) × (length sets ≤ 2 * n)
 around_few {n} {set = set} {sets = sets} st o =
     let at = st.tree.tops set (inner_in o.is_inner) in
-    let low = λ (i : ℕ) (h : i < length sets). (st.rest.laminar.children.child set (get_or sets i 0) at.0 (o.around.kids i h)).0 in
-    (low, ring_short (2 * n) sets o.around.distinct low)
+    let low = λ (i : ℕ) (h : i < length sets). (st.rest.laminar.children.child set (get_or sets i 0) at.0 (o.ring.kids i h)).0 in
+    (low, ring_short (2 * n) sets o.ring.distinct low)
 
 -- where the tree enters, as it was read
 pub opening_first : {n : ℕ} {f : Sets} {dist : ℕ → ℕ → ℕ} {x : Forest} {set first : ℕ} {sets seen : List ℕ} {joins : List (ℕ × ℕ)}
-    {p m0 t0 : ℕ} → IsStage n f dist x → IsOpening n f dist x set sets joins p m0 t0 → first ≡ get_or seen 0 0 → seen ≡ sets → (first < 2 * n) × (set ≢ first)
+    {p : ℕ} → IsStage n f dist x → IsOpening n f dist x set (around sets joins p) → first ≡ get_or seen 0 0 → seen ≡ sets → (first < 2 * n) × (set ≢ first)
 opening_first {n} {f} {set = set} {first = first} {sets = sets} st o is seen =
     let e : first ≡ get_or sets 0 0 = is ∙ ap (λ (z : List ℕ). get_or z 0 0) seen in
     let at = st.tree.tops set (inner_in o.is_inner) in
-    let k = st.rest.laminar.children.child set (get_or sets 0 0) at.0 (o.around.kids 0 (omega (arith, o.place))) in
+    let k = st.rest.laminar.children.child set (get_or sets 0 0) at.0 (o.ring.kids 0 (omega (arith, o.place))) in
     (omega (arith, e, k.0), λ z. some_none (f.parent (get_or sets 0 0)) set k.2 (ap f.parent (sym (z ∙ e)) ∙ at.2))
 
 -- an inner set gave way to its ring, by the lists as each step read them: js by the pairs, ss by the entry, ws and ks by the walk
-pub gave_way : {n : ℕ} {f g : Sets} {dist : ℕ → ℕ → ℕ} {t0 t1 t2 : Tree} {set first p m0 u0 : ℕ} {sets ss ws : List ℕ}
+pub gave_way : {n : ℕ} {f g : Sets} {dist : ℕ → ℕ → ℕ} {t0 t1 t2 : Tree} {set first p : ℕ} {sets ss ws : List ℕ}
     {joins js ks : List (ℕ × ℕ)} (mates new : List (Option ℕ)) → IsMetric n dist → length mates ≡ n →
     IsStage n f dist (forest_of t0 mates) → AreRanked (forest_of t0 mates) (2 ^ 60) →
-    IsOpening n f dist (forest_of t0 mates) set sets joins p m0 u0 → IsExpanded f set g → IsFamily g → IsSized n t0 → IsSized n t1 → IsSized n t2 →
+    IsOpening n f dist (forest_of t0 mates) set (around sets joins p) → IsExpanded f set g → IsFamily g → IsSized n t0 → IsSized n t1 → IsSized n t2 →
     js ≡ joins → new ≡ paired_times mates js p (length js / 2) → ss ≡ sets → first ≡ get_or ss 0 0 →
-    ((k : ℕ) (h : Sets) (ms ns : List (Option ℕ)) → Opens k h (forest_of t0 ms) set first p (forest_of t1 ns)) → t1.root ≡ t0.root →
+    ((ms ns : List (Option ℕ)) → Opens (forest_of t0 ms) set first p (forest_of t1 ns)) → t1.root ≡ t0.root →
     ws ≡ sets → ks ≡ joins → lists_of t2 ≡ walked_times (lists_of t1) ws ks (p / 2) → t2.root ≡ t1.root →
     IsEvent n dist (λ bound. bound + 4 * n) f (forest_of t0 mates) g (forest_of t2 new)
-gave_way {n} {f} {g} {dist} {t0} {t1} {t2} {set} {first} {p} {m0} {u0} {sets} {ss} {ws} {joins} {js} {ks}
+gave_way {n} {f} {g} {dist} {t0} {t1} {t2} {set} {first} {p} {sets} {ss} {ws} {joins} {js} {ks}
     mates new me len st small o ex fam _ size _ ej paired es is opens r1 ew ek walked r2 =
     let x : Forest = forest_of t0 mates in
     let l : Lists = lists_of t1 in
@@ -151,13 +159,13 @@ gave_way {n} {f} {g} {dist} {t0} {t1} {t2} {set} {first} {p} {m0} {u0} {sets} {s
     let en : new ≡ made = subst (λ (z : List (ℕ × ℕ)). new ≡ paired_times mates z p (length z / 2)) ej paired in
     let wk : lists_of t2 ≡ walked_times l sets ks (p / 2) = subst (λ (z : List ℕ). lists_of t2 ≡ walked_times l z ks (p / 2)) ew walked in
     let el : lists_of t2 ≡ walked_times l sets joins (p / 2) = subst (λ (z : List (ℕ × ℕ)). lists_of t2 ≡ walked_times l sets z (p / 2)) ek wk in
-    let op : Opens n f x set first_in p (forest_of t1 new) =
-    subst (λ (z : ℕ). Opens n f x set z p (forest_of t1 new)) (is ∙ ap (λ (z : List ℕ). get_or z 0 0) es) (opens n f mates new) in
-    let op1 : Opens n f x set first_in p (forest_in l t0.root (mate_in new)) =
-    subst (λ (z : ℕ). Opens n f x set first_in p (forest_in l z (mate_in new))) r1 op in
-    let op2 : Opens n f x set first_in p (forest_in l t0.root (mate_in made)) =
-    subst (λ (z : List (Option ℕ)). Opens n f x set first_in p (forest_in l t0.root (mate_in z))) en op1 in
-    let done = λ (bound : ℕ) (r : AreRanked x bound). opening_done n f g dist x set sets joins p m0 u0 mates l bound me len refl st o ex fam
+    let op : Opens x set first_in p (forest_of t1 new) =
+    subst (λ (z : ℕ). Opens x set z p (forest_of t1 new)) (is ∙ ap (λ (z : List ℕ). get_or z 0 0) es) (opens mates new) in
+    let op1 : Opens x set first_in p (forest_in l t0.root (mate_in new)) =
+    subst (λ (z : ℕ). Opens x set first_in p (forest_in l z (mate_in new))) r1 op in
+    let op2 : Opens x set first_in p (forest_in l t0.root (mate_in made)) =
+    subst (λ (z : List (Option ℕ)). Opens x set first_in p (forest_in l t0.root (mate_in z))) en op1 in
+    let done = λ (bound : ℕ) (r : AreRanked x bound). opening_done n f g dist x set sets joins p mates l bound me len refl st o ex fam
     (record { labels = size.labels; ranks = size.ranks; links = size.links }) op2 r in
     let back : forest_in (walked_times l sets joins (p / 2)) t0.root (mate_in made) ≡ forest_of t2 new =
     ap (λ (z : List (Option ℕ)). forest_in (walked_times l sets joins (p / 2)) t0.root (mate_in z)) (sym en) ∙
@@ -166,7 +174,7 @@ gave_way {n} {f} {g} {dist} {t0} {t1} {t2} {set} {first} {p} {m0} {u0} {sets} {s
       advances = subst (λ (z : Forest). Advances n dist f x g z) back (done (2 ^ 60) small).0;
       ranks = λ bound r i. omega (arith, (done bound r).1 i, ap (λ (z : Lists). get_or z.ranks i 0) el, (around_few st o).1, o.place);
       sums = totals_alike n f g (expanded_alike n f g set st.rest.size o.empty ex);
-      widens = given_widens n f g dist t0 t1 t2 mates new set sets joins p m0 u0 st o ex op el;
+      widens = given_widens n f g dist t0 t1 t2 mates new set sets joins p st o ex op el;
     }
 
 -- a step that keeps the lengths

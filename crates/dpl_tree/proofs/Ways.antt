@@ -7,7 +7,7 @@ use Rattle.dpl_laminar.specs.Loads.{differ}
 use Rattle.dpl_laminar.specs.Families.{Sets}
 use Rattle.dpl_laminar.proofs.Numbers.{some_none}
 use Rattle.dpl_laminar.proofs.Sums.{sum_same}
-use Rattle.dpl_tree.specs.Forests.{Forest, IsClimb, outer, inner}
+use Rattle.dpl_tree.specs.steps.Forests.{Forest, IsClimb, outer, inner}
 use Rattle.dpl_tree.specs.Mates.{IsExit, ArePairs, Joins, loads}
 use Rattle.dpl_tree.specs.Metrics.{IsMetric}
 use Rattle.dpl_tree.specs.Stages.{IsStage}
@@ -15,6 +15,7 @@ use Rattle.dpl_tree.specs.Views.{mate_in}
 use Rattle.dpl_tree.proofs.Growing.{outer_in}
 use Rattle.dpl_tree.proofs.Climbing.{Drops, climbed, climb_ended}
 
+-- a pair given up in a list
 pub drops_list : (xs : List (Option ℕ)) (a b : ℕ) → a < length xs → b < length xs → Drops (mate_in xs) a b (mate_in (set (set xs a None) b None))
 drops_list xs a b ha hb = record {
   first = elim (cases_eq a b) [
@@ -25,6 +26,7 @@ drops_list xs a b ha hb = record {
   others = λ i na nb. get_or-set_other (set xs a None) b i None None nb ∙ get_or-set_other xs a i None None na;
 }
 
+-- a pair made in a list
 pub joins_list : (xs : List (Option ℕ)) (s t : ℕ) → s < length xs → t < length xs → s ≢ t →
     Joins (mate_in xs) s t (mate_in (set (set xs s (Some t)) t (Some s)))
 joins_list xs s t hs ht ne = record {
@@ -39,19 +41,20 @@ differ_turned true false = refl
 differ_turned false true = refl
 differ_turned false false = refl
 
+-- a load is the same from both sides
 pub load_turned : (n : ℕ) (f : Sets) (s t : ℕ) → loads n f s t ≡ loads n f t s
 load_turned n f s t = sum_same (2 * n) _ _ (λ i h. ap (λ z. cond z (f.value i) 0) (differ_turned (f.holds i s) (f.holds i t)))
 
 -- a turn of the loop
 pub way_turned : (n : ℕ) (f : Sets) (dist : ℕ → ℕ → ℕ) (x : Forest) (mates : List (Option ℕ)) (s t ex b : ℕ) →
-    IsMetric n dist → length mates ≡ n → IsStage n f dist x → IsClimb n f (loads n f) dist x (mate_in mates) s t →
+    IsMetric n dist → length mates ≡ n → IsStage n f dist x → IsClimb n f dist x (mate_in mates) (s, t) →
     ex < n → f.top ex ≡ f.top s → mate_in mates ex ≡ Some b →
-    IsClimb n f (loads n f) dist x (mate_in (set (set (set (set mates ex None) b None) s (Some t)) t (Some s))) (x.above (f.top b)) (x.entry (f.top b))
+    IsClimb n f dist x (mate_in (set (set (set (set mates ex None) b None) s (Some t)) t (Some s))) (x.above (f.top b), x.entry (f.top b))
 way_turned n f dist x mates s t ex b m len st c hx top w =
     let hb : b < n = c.pairs.range ex b hx w in
     let less : List (Option ℕ) = set (set mates ex None) b None in
     let size : length less ≡ n = length-set (set mates ex None) b None ∙ length-set mates ex None ∙ len in
-    climbed n f (loads n f) dist x (mate_in mates) (mate_in less) _ s t ex b st.tree st.rest.pairs (load_turned n f)
+    climbed n f dist x (mate_in mates) (mate_in less) _ s t ex b st.tree st.rest.pairs (load_turned n f)
     m.symmetric c (record { below = hx; top = top; paired = w })
     (drops_list mates ex b (omega (arith, hx, len)) (omega (arith, hb, len)))
     (joins_list less s t (omega (arith, c.s_range, size)) (omega (arith, c.t_range, size))
@@ -59,7 +62,7 @@ way_turned n f dist x mates s t ex b m len st c hx top w =
 
 -- the set above has a lower rank
 pub way_falls : (n : ℕ) (f : Sets) (dist : ℕ → ℕ → ℕ) (x : Forest) (mates : List (Option ℕ)) (s t ex b : ℕ) →
-    IsStage n f dist x → IsClimb n f (loads n f) dist x (mate_in mates) s t → ex < n → f.top ex ≡ f.top s →
+    IsStage n f dist x → IsClimb n f dist x (mate_in mates) (s, t) → ex < n → f.top ex ≡ f.top s →
     mate_in mates ex ≡ Some b →
     (x.place (f.top b) ≡ inner) × (x.rank (f.top (x.above (f.top b))) < x.rank (f.top s))
 way_falls n f dist x mates s t ex b st c hx top w =
@@ -74,12 +77,13 @@ pub record IsWayEnded (n : ℕ) (f : Sets) (dist : ℕ → ℕ → ℕ) (x : For
   pub kept : (i m u : ℕ) → IsExit n f x.mate i m u → (a : ℕ) × (b : ℕ) × IsExit n f new i a b
   pub root : (a : ℕ) × (b : ℕ) × IsExit n f new x.root a b
 
+-- the end of the loop, where the outer set has no pair
 pub way_ended : (n : ℕ) (f : Sets) (dist : ℕ → ℕ → ℕ) (x : Forest) (mates : List (Option ℕ)) (s t : ℕ) →
-    length mates ≡ n → IsStage n f dist x → IsClimb n f (loads n f) dist x (mate_in mates) s t →
+    length mates ≡ n → IsStage n f dist x → IsClimb n f dist x (mate_in mates) (s, t) →
     ((m : ℕ) → m < n → f.top m ≡ f.top s → mate_in mates m ≡ None) →
     IsWayEnded n f dist x (mate_in (set (set mates s (Some t)) t (Some s)))
 way_ended n f dist x mates s t len st c none =
-    let r = climb_ended n f (loads n f) dist x (mate_in mates) (mate_in (set (set mates s (Some t)) t (Some s))) s t c
+    let r = climb_ended n f dist x (mate_in mates) (mate_in (set (set mates s (Some t)) t (Some s))) s t c
     (λ m u w. some_none (mate_in mates m) u w.paired (none m w.below w.top))
     (joins_list mates s t (omega (arith, c.s_range, len)) (omega (arith, c.t_range, len)) (λ q. c.apart (ap f.top q))) in
     record {

@@ -7,18 +7,19 @@ use Rattle.dpl_laminar.specs.Changes.{Gathers, IsShrunk, IsExpanded}
 use Rattle.dpl_laminar.proofs.Numbers.{true_false, some_none}
 use Rattle.dpl_tree.specs.declared.tree.Tree.{Tree}
 use Rattle.dpl_tree.specs.declared.tree.Label.TheVariants.{Free, Outer, Inner}
-use Rattle.dpl_tree.specs.Forests.{Place, free, outer, Forest, Grows, Folds, Opens}
+use Rattle.dpl_tree.specs.steps.Forests.{Place, free, outer, Forest, Grows, Folds, Opens}
 use Rattle.dpl_tree.specs.Stages.{IsStage}
 use Rattle.dpl_tree.specs.Stages.{Widens}
 use Rattle.dpl_tree.specs.Views.{place_in, place_of, forest_of}
-use Rattle.dpl_tree.specs.Opened.{IsOpening, Lists, lists_of, walked_times}
+use Rattle.dpl_tree.specs.steps.Opened.{IsOpening, around, Lists, lists_of, walked_times}
 use Rattle.dpl_tree.proofs.Growing.{inner_in, outer_in, outer_inner_no}
 use Rattle.dpl_tree.proofs.Unfolding.{released_of}
 
 -- ---- growth
 
-pub grown_widens : (n : ℕ) (f : Sets) (x y : Forest) (s t m o : ℕ) → x.place (f.top t) ≡ free → Grows n f x s t m o y → Widens n f x.place f y.place
-grown_widens n f x y s t m o pt g = record {
+-- growth keeps the outer members
+pub grown_widens : (n : ℕ) (f : Sets) (x y : Forest) (s t o : ℕ) → x.place (f.top t) ≡ free → Grows f x s t o y → Widens n f x.place f y.place
+grown_widens n f x y s t o pt g = record {
   outer_stays = λ a ha p. elim (cases_eq (f.top a) (f.top o)) [
     | inl e ↦ ap y.place e ∙ g.place_outer
     | inr off ↦ g.place_others (f.top a) (λ e. outer_in p (ap x.place e ∙ pt)) off ∙ p
@@ -28,6 +29,7 @@ grown_widens n f x y s t m o pt g = record {
 
 -- ---- a new set
 
+-- a new outer set keeps the outer members
 pub folded_widens : (n : ℕ) (f g : Sets) (dist : ℕ → ℕ → ℕ) (x y : Forest) (joins : List (ℕ × ℕ)) (cs ds : List ℕ)
     (meet set : ℕ) → IsStage n f dist x → cs ≡ ds → IsShrunk f cs joins set g → Folds x ds meet set y →
     Widens n f x.place g y.place
@@ -62,20 +64,21 @@ walked_others l sets joins i (suc r) none h =
     ap place_of (get_or-set_other (set m.labels o Outer) next i Inner Free b ∙
     get_or-set_other m.labels o i Outer Free a) ∙ walked_others l sets joins i r none (omega (arith, h))
 
+-- a set that gives way keeps the outer members
 pub given_widens : (n : ℕ) (f g : Sets) (dist : ℕ → ℕ → ℕ) (t0 t1 t2 : Tree) (mates new : List (Option ℕ)) (set : ℕ)
-    (sets : List ℕ) (joins : List (ℕ × ℕ)) (p m0 u0 : ℕ) → IsStage n f dist (forest_of t0 mates) →
-    IsOpening n f dist (forest_of t0 mates) set sets joins p m0 u0 → IsExpanded f set g →
-    Opens n f (forest_of t0 mates) set (get_or sets 0 0) p (forest_of t1 new) →
+    (sets : List ℕ) (joins : List (ℕ × ℕ)) (p : ℕ) → IsStage n f dist (forest_of t0 mates) →
+    IsOpening n f dist (forest_of t0 mates) set (around sets joins p) → IsExpanded f set g →
+    Opens (forest_of t0 mates) set (get_or sets 0 0) p (forest_of t1 new) →
     lists_of t2 ≡ walked_times (lists_of t1) sets joins (p / 2) →
     Widens n f (place_in t0.labels.items) g (place_in t2.labels.items)
-given_widens n f g dist t0 t1 t2 mates new set sets joins p m0 u0 st o ex op el =
+given_widens n f g dist t0 t1 t2 mates new set sets joins p st o ex op el =
     let x : Forest = forest_of t0 mates in
     let lam = st.rest.laminar in
     let q = released_of n f g set st.rest.size ex in
     let at = st.tree.tops set (inner_in o.is_inner) in
     let apart = λ (a : ℕ) (p : x.place (f.top a) ≡ outer) (z : f.top a ≡ set). outer_inner_no {P = ⊥} p (ap x.place z ∙ o.is_inner) in
     let others = λ (a : ℕ) (ha : a < n) (j : ℕ) (hj : j < length sets) (z : get_or sets j 0 ≡ f.top a). some_none
-    {P = ⊥} (f.parent (get_or sets j 0)) set (lam.children.child set (get_or sets j 0) at.0 (o.around.kids j hj)).2
+    {P = ⊥} (f.parent (get_or sets j 0)) set (lam.children.child set (get_or sets j 0) at.0 (o.ring.kids j hj)).2
     (ap f.parent z ∙ lam.tops.top_parent a ha) in
     record {
       outer_stays = λ a ha po.

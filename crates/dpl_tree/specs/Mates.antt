@@ -1,4 +1,5 @@
--- Pairs between the top sets of a family, and the sums of values that a member and a pair of members carry.
+-- Pairs between the top sets of a family, and the sums of values that a member and a pair of
+-- members carry.
 use Rattle.std.specs.Prelude.{◌≡◌, ◌≢◌, ℕ, ◌*◌, ◌<◌, Bool, if◌then◌else◌, Option, Some, None}
 use Rattle.dpl_laminar.specs.Families.{Sets}
 use Rattle.dpl_laminar.specs.Loads.{sum_below, load_in}

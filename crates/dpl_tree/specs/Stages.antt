@@ -1,11 +1,12 @@
--- What holds between two stages, and between two turns of a stage: the family overloads no pair, and pairs, joins and the
--- edges of the tree are tight.
-use Rattle.std.specs.Prelude.{◌≡◌, ◌≢◌, ℕ, ◌+◌, ◌*◌, ◌%◌, ◌<◌, ◌≤◌, ◌⊎◌, Bool, true, false, Option, Some}
+-- What holds between two stages, and between two turns of a stage: the family overloads no pair,
+-- and pairs, joins and the edges of the tree are tight.
+use Rattle.std.specs.Prelude.{◌≡◌, ◌≢◌, ℕ, ◌+◌, ◌*◌, ◌%◌, ◌<◌, ◌≤◌, ◌⊎◌, Bool, true, false}
+use Rattle.std.specs.Prelude.{Option, Some}
 use Rattle.dpl_laminar.specs.Families.{Sets, IsFamily, IsLaminar}
 use Rattle.dpl_laminar.specs.Loads.{sum_below}
 use Rattle.dpl_laminar.specs.Pairings.{AreWithin}
 use Rattle.dpl_tree.specs.Mates.{total_in, loads, totals, IsExit, ArePairs}
-use Rattle.dpl_tree.specs.Forests.{Place, free, outer, inner, Forest, IsTree}
+use Rattle.dpl_tree.specs.steps.Forests.{Place, free, outer, inner, Forest, IsTree}
 
 -- 0 for an outer set
 abbrev pub weight : Place → ℕ → ℕ
@@ -17,8 +18,8 @@ abbrev pub as_number : Bool → ℕ
 as_number true = 1
 as_number false = 0
 
--- What falls with each turn of a stage: each member counts once while its top set is not outer, and once more if it is
--- the one that gives a set its number.
+-- What falls with each turn of a stage: each member counts once while its top set is not outer,
+-- and once more if it is the one that gives a set its number.
 abbrev pub potential : ℕ → Sets → (ℕ → Place) → ℕ
 potential n f place = sum_below n (λ m. weight (place (f.top m)) (1 + as_number (f.live (n + m))))
 
@@ -29,7 +30,8 @@ pub record HasParity (n : ℕ) (f : Sets) (place : ℕ → Place) (v : ℕ → �
   pub in_tree : (s t : ℕ) → s < n → t < n → place (f.top s) ≢ free → place (f.top t) ≢ free →
       total_in (2 * n) v f.holds s % 2 ≡ total_in (2 * n) v f.holds t % 2
 
--- What holds between two stages: a family that overloads no pair, tight pairs between its tops, and tight joins.
+-- What holds between two stages: a family that overloads no pair, tight pairs between its tops,
+-- and tight joins.
 pub record IsRest (n : ℕ) (f : Sets) (dist : ℕ → ℕ → ℕ) (mate : ℕ → Option ℕ) : Type 0 where
   pub size : f.size ≡ n
   pub family : IsFamily f
@@ -79,7 +81,8 @@ pub record Widens (n : ℕ) (f : Sets) (place : ℕ → Place) (g : Sets)
   pub together : (s t : ℕ) → s < n → t < n → place (f.top s) ≡ outer → f.top s ≡ f.top t →
       g.top s ≡ g.top t
 
--- An amount that no candidate forbids: what the scan over the pairs and over the inner sets gives.
+-- An amount that no candidate forbids: what the scan over the pairs and over the inner sets
+-- gives.
 pub record IsChange (n : ℕ) (f : Sets) (x : Forest) (v : ℕ → ℕ) (dist : ℕ → ℕ → ℕ)
     (by : ℕ) : Type 0 where
   pub both_outer : (s t : ℕ) → s < n → t < n → f.top s ≢ f.top t → x.place (f.top s) ≡ outer →

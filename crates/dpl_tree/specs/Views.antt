@@ -1,9 +1,10 @@
 -- What the lists of a stage say.
-use Rattle.std.specs.Prelude.{◌≡◌, ℕ, ◌*◌, Bool, true, false, Option, None, List, length, slice_index, slice_index_or}
+use Rattle.std.specs.Prelude.{◌≡◌, ℕ, ◌*◌, Bool, true, false, Option, None, List, length}
+use Rattle.std.specs.Prelude.{slice_index, slice_index_or}
 use Rattle.dpl_tree.specs.declared.tree.Label.{Label}
 use Rattle.dpl_tree.specs.declared.tree.Label.TheVariants.{Free, Outer, Inner}
 use Rattle.dpl_tree.specs.declared.tree.Tree.{Tree}
-use Rattle.dpl_tree.specs.Forests.{Place, free, outer, inner, Forest}
+use Rattle.dpl_tree.specs.steps.Forests.{Place, free, outer, inner, Forest}
 
 abbrev pub place_of : Label → Place
 place_of Free = free

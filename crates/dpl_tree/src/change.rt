@@ -1,13 +1,15 @@
 //! Changes of the values of the tree's tops.
 
-ghost use Rattle.std.specs.Prelude.{◌≡◌, ◌≢◌, ℕ, ◌+◌, ◌*◌, ◌<◌, ◌≤◌, ◌^◌, true, length, slice_index};
+ghost use Rattle.std.specs.Prelude.{◌≡◌, ◌≢◌, ℕ, ◌+◌, ◌*◌, ◌<◌, ◌≤◌, ◌^◌, true, length};
+ghost use Rattle.std.specs.Prelude.{slice_index};
 ghost use Rattle.dpl_laminar.specs.Loads.{sum_below};
 ghost use Rattle.dpl_laminar.specs.Families.{IsFamily};
 ghost use Rattle.dpl_laminar.specs.Storing.{sets_of};
-ghost use Rattle.dpl_tree.specs.Forests.{free, inner, outer, gain, drop_of};
+ghost use Rattle.dpl_tree.specs.steps.Forests.{free, inner, outer, gain, drop_of};
 ghost use Rattle.dpl_tree.specs.Views.{place_in, place_of};
 
-use super::tree::Label;
+use super::matching::Matching;
+use super::tree::{Label, Tree};
 use dpl_laminar::{Family, Steps};
 use std::sync::ledger::Ledger;
 
@@ -35,25 +37,25 @@ fn lower_one<L: Ledger>(family: &mut Family, label: Label, set: u32, by: u64, st
 }
 
 /// Takes from the value of each inner set.
-fn lower<L: Ledger>(family: &mut Family, labels: &[Label], by: u64, steps: &mut Steps<L>)
-    requires labels { length labels.now ≡ 2 * (sets_of family.old).size }
+fn lower<L: Ledger>(family: &mut Family, tree: &Tree, by: u64, steps: &mut Steps<L>)
+    requires labels { length tree.now.labels.items ≡ 2 * (sets_of family.old).size }
     requires family { IsFamily (sets_of family.old) }
     requires by { by ≤ 2 ^ 50 }
-    requires live { (i : ℕ) → i < 2 * (sets_of family.old).size → place_in labels.now i ≡ inner →
-        (sets_of family.old).live i ≡ true }
-    requires enough { (i : ℕ) → i < 2 * (sets_of family.old).size → place_in labels.now i ≡ inner →
-        by ≤ (sets_of family.old).value i }
+    requires live { (i : ℕ) → i < 2 * (sets_of family.old).size →
+        place_in tree.now.labels.items i ≡ inner → (sets_of family.old).live i ≡ true }
+    requires enough { (i : ℕ) → i < 2 * (sets_of family.old).size →
+        place_in tree.now.labels.items i ≡ inner → by ≤ (sets_of family.old).value i }
     ensures rest { sets_of family.new ≡ record (sets_of family.old)
         { value = (sets_of family.new).value } }
     ensures values { (i : ℕ) → i < 2 * (sets_of family.old).size →
-        (sets_of family.new).value i + drop_of (place_in labels.now i) * by ≡
+        (sets_of family.new).value i + drop_of (place_in tree.now.labels.items i) * by ≡
         (sets_of family.old).value i }
     ensures family { IsFamily (sets_of family.new) }
     ensures steps { steps.new ≡ steps.old + sum_below (2 * (sets_of family.old).size)
-        (λ i. drop_of (place_in labels.now i)) }
+        (λ i. drop_of (place_in tree.now.labels.items i)) }
 {
-    for i in 0..labels.len() {
-        lower_one(family, labels[i], i as u32, by, steps);
+    for i in 0..tree.labels.len() {
+        lower_one(family, tree.label(i as u32), i as u32, by, steps);
     }
 }
 
@@ -81,43 +83,46 @@ fn lift_one<L: Ledger>(family: &mut Family, label: Label, set: u32, by: u64, ste
 }
 
 /// Adds to the value of each outer set.
-fn lift<L: Ledger>(family: &mut Family, labels: &[Label], by: u64, steps: &mut Steps<L>)
-    requires labels { length labels.now ≡ 2 * (sets_of family.old).size }
+fn lift<L: Ledger>(family: &mut Family, tree: &Tree, by: u64, steps: &mut Steps<L>)
+    requires labels { length tree.now.labels.items ≡ 2 * (sets_of family.old).size }
     requires family { IsFamily (sets_of family.old) }
     requires by { by ≤ 2 ^ 50 }
-    requires live { (i : ℕ) → i < 2 * (sets_of family.old).size → place_in labels.now i ≡ outer →
-        (sets_of family.old).live i ≡ true }
-    requires room { (i : ℕ) → i < 2 * (sets_of family.old).size → place_in labels.now i ≡ outer →
-        (sets_of family.old).value i + by ≤ 2 ^ 50 }
+    requires live { (i : ℕ) → i < 2 * (sets_of family.old).size →
+        place_in tree.now.labels.items i ≡ outer → (sets_of family.old).live i ≡ true }
+    requires room { (i : ℕ) → i < 2 * (sets_of family.old).size →
+        place_in tree.now.labels.items i ≡ outer → (sets_of family.old).value i + by ≤ 2 ^ 50 }
     ensures rest { sets_of family.new ≡ record (sets_of family.old)
         { value = (sets_of family.new).value } }
     ensures values { (i : ℕ) → i < 2 * (sets_of family.old).size →
         (sets_of family.new).value i ≡
-        (sets_of family.old).value i + gain (place_in labels.now i) * by }
+        (sets_of family.old).value i + gain (place_in tree.now.labels.items i) * by }
     ensures family { IsFamily (sets_of family.new) }
     ensures steps { steps.new ≡ steps.old + sum_below (2 * (sets_of family.old).size)
-        (λ i. gain (place_in labels.now i)) }
+        (λ i. gain (place_in tree.now.labels.items i)) }
 {
-    for i in 0..labels.len() {
-        lift_one(family, labels[i], i as u32, by, steps);
+    for i in 0..tree.labels.len() {
+        lift_one(family, tree.label(i as u32), i as u32, by, steps);
     }
 }
 
 /// Changes the totals of the members of the tree's tops.
-fn retotal(family: &Family, labels: &[Label], totals: &mut [u64], by: u64)
-    requires labels { length labels.now ≡ 2 * (sets_of family.now).size }
+fn retotal(family: &Family, tree: &Tree, totals: &mut [u64], by: u64)
+    requires labels { length tree.now.labels.items ≡ 2 * (sets_of family.now).size }
     requires totals { length totals.old ≡ (sets_of family.now).size }
     requires small { length totals.old ≤ 2048 }
     requires by { by ≤ 2 ^ 50 }
     requires enough { (m : ℕ) → m < length totals.old →
-        place_in labels.now ((sets_of family.now).top m) ≡ inner → by ≤ slice_index totals.old m }
+        place_in tree.now.labels.items ((sets_of family.now).top m) ≡ inner →
+        by ≤ slice_index totals.old m }
     requires most { (m : ℕ) → m < length totals.old → slice_index totals.old m ≤ 2 ^ 60 }
     ensures { (m : ℕ) → m < length totals.old →
-        slice_index totals.new m + drop_of (place_in labels.now ((sets_of family.now).top m)) * by ≡
-        slice_index totals.old m + gain (place_in labels.now ((sets_of family.now).top m)) * by }
+        slice_index totals.new m +
+        drop_of (place_in tree.now.labels.items ((sets_of family.now).top m)) * by ≡
+        slice_index totals.old m +
+        gain (place_in tree.now.labels.items ((sets_of family.now).top m)) * by }
 {
     for m in 0..totals.len() {
-        match labels[family.tops(m as u32) as usize] {
+        match tree.label(family.tops(m as u32)) {
             Label::Outer => {
                 totals[m] += by;
             }
@@ -131,39 +136,41 @@ fn retotal(family: &Family, labels: &[Label], totals: &mut [u64], by: u64)
 
 /// Adds an amount to the value of each outer set and takes it from each inner one. The inner ones
 /// are lowered first, so that no load is more than its distance in between.
-pub fn shift<L: Ledger>(
-    family: &mut Family,
-    labels: &[Label],
-    totals: &mut [u64],
-    by: u64,
-    steps: &mut Steps<L>,
-)
-    requires labels { length labels.now ≡ 2 * (sets_of family.old).size }
-    requires count { length totals.old ≡ (sets_of family.old).size }
-    requires family { IsFamily (sets_of family.old) }
+pub fn shift<L: Ledger>(matching: &mut Matching, tree: &Tree, by: u64, steps: &mut Steps<L>)
+    requires labels { length tree.now.labels.items ≡ 2 * (sets_of matching.old.family).size }
+    requires count { length matching.old.sums.items ≡ (sets_of matching.old.family).size }
+    requires family { IsFamily (sets_of matching.old.family) }
     requires by { by ≤ 2 ^ 50 }
-    requires live { (i : ℕ) → i < 2 * (sets_of family.old).size → place_in labels.now i ≢ free →
-        (sets_of family.old).live i ≡ true }
-    requires enough { (i : ℕ) → i < 2 * (sets_of family.old).size → place_in labels.now i ≡ inner →
-        by ≤ (sets_of family.old).value i }
-    requires room { (i : ℕ) → i < 2 * (sets_of family.old).size → place_in labels.now i ≡ outer →
-        (sets_of family.old).value i + by ≤ 2 ^ 50 }
-    requires inner_totals { (m : ℕ) → m < length totals.old →
-        place_in labels.now ((sets_of family.old).top m) ≡ inner → by ≤ slice_index totals.old m }
-    requires most { (m : ℕ) → m < length totals.old → slice_index totals.old m ≤ 2 ^ 60 }
-    ensures rest { sets_of family.new ≡ record (sets_of family.old)
-        { value = (sets_of family.new).value } }
-    ensures values { (i : ℕ) → i < 2 * (sets_of family.old).size →
-        (sets_of family.new).value i + drop_of (place_in labels.now i) * by ≡
-        (sets_of family.old).value i + gain (place_in labels.now i) * by }
-    ensures family { IsFamily (sets_of family.new) }
-    ensures totals { (m : ℕ) → m < length totals.old →
-        slice_index totals.new m + drop_of (place_in labels.now ((sets_of family.old).top m)) * by ≡
-        slice_index totals.old m + gain (place_in labels.now ((sets_of family.old).top m)) * by }
-    ensures steps { steps.new ≡ steps.old + sum_below (2 * (sets_of family.old).size)
-        (λ i. drop_of (place_in labels.now i) + gain (place_in labels.now i)) }
+    requires live { (i : ℕ) → i < 2 * (sets_of matching.old.family).size →
+        place_in tree.now.labels.items i ≢ free → (sets_of matching.old.family).live i ≡ true }
+    requires enough { (i : ℕ) → i < 2 * (sets_of matching.old.family).size →
+        place_in tree.now.labels.items i ≡ inner → by ≤ (sets_of matching.old.family).value i }
+    requires room { (i : ℕ) → i < 2 * (sets_of matching.old.family).size →
+        place_in tree.now.labels.items i ≡ outer →
+        (sets_of matching.old.family).value i + by ≤ 2 ^ 50 }
+    requires inner_totals { (m : ℕ) → m < length matching.old.sums.items →
+        place_in tree.now.labels.items ((sets_of matching.old.family).top m) ≡ inner →
+        by ≤ slice_index matching.old.sums.items m }
+    requires most { (m : ℕ) → m < length matching.old.sums.items →
+        slice_index matching.old.sums.items m ≤ 2 ^ 60 }
+    ensures rest { sets_of matching.new.family ≡ record (sets_of matching.old.family)
+        { value = (sets_of matching.new.family).value } }
+    ensures values { (i : ℕ) → i < 2 * (sets_of matching.old.family).size →
+        (sets_of matching.new.family).value i + drop_of (place_in tree.now.labels.items i) * by ≡
+        (sets_of matching.old.family).value i + gain (place_in tree.now.labels.items i) * by }
+    ensures family { IsFamily (sets_of matching.new.family) }
+    ensures totals { (m : ℕ) → m < length matching.old.sums.items →
+        slice_index matching.new.sums.items m +
+        drop_of (place_in tree.now.labels.items ((sets_of matching.old.family).top m)) * by ≡
+        slice_index matching.old.sums.items m +
+        gain (place_in tree.now.labels.items ((sets_of matching.old.family).top m)) * by }
+    ensures mates { matching.new.mates ≡ matching.old.mates }
+    ensures count { length matching.new.sums.items ≡ length matching.old.sums.items }
+    ensures steps { steps.new ≡ steps.old + sum_below (2 * (sets_of matching.old.family).size)
+        (λ i. drop_of (place_in tree.now.labels.items i) +
+        gain (place_in tree.now.labels.items i)) }
 {
-    lower(family, labels, by, steps);
-    lift(family, labels, by, steps);
-    retotal(family, labels, totals, by);
+    lower(&mut matching.family, tree, by, steps);
+    lift(&mut matching.family, tree, by, steps);
+    retotal(&matching.family, tree, &mut matching.sums, by);
 }

@@ -1,21 +1,21 @@
 //! An inner set of value 0 is taken away, and some of its children stay in the tree.
 
-ghost use Rattle.std.specs.Prelude.{◌≡◌, ◌≢◌, ℕ, ◌+◌, ◌*◌, ◌<◌, ◌≤◌, ◌^◌, length, slice_index, IfOk};
+ghost use Rattle.std.specs.Prelude.{◌≡◌, ◌≢◌, ℕ, ◌+◌, ◌*◌, ◌<◌, ◌≤◌, ◌^◌, length, slice_index};
+ghost use Rattle.std.specs.Prelude.{IfOk};
 ghost use Rattle.dpl_laminar.specs.Storing.{sets_of};
+ghost use Rattle.dpl_tree.specs.steps.Forests.{inner};
+ghost use Rattle.dpl_tree.specs.steps.Growth.{AreListed, IsGrowing, IsNext};
 ghost use Rattle.dpl_tree.specs.Metrics.{dist_of};
-ghost use Rattle.dpl_tree.specs.Stages.{Widens};
-ghost use Rattle.dpl_tree.specs.Forests.{inner};
-ghost use Rattle.dpl_tree.specs.Mates.{totals};
-ghost use Rattle.dpl_tree.specs.Stages.{IsStage, Advances, AreRanked};
-ghost use Rattle.dpl_tree.specs.Views.{forest_of, place_in, IsSized};
-ghost use Rattle.dpl_tree.specs.Opened.{IsOpening};
+ghost use Rattle.dpl_tree.specs.steps.Opened.{IsOpening, around};
+ghost use Rattle.dpl_tree.specs.Stages.{AreRanked};
+ghost use Rattle.dpl_tree.specs.Views.{forest_of, place_in};
 
 use super::giving_way::{enter, pair_round, walk};
+use super::matching::Matching;
 use super::metric::Metric;
-use super::pairs::exit_of;
 use super::ring::{child_with, place_of, round_from, turned};
 use super::tree::Tree;
-use dpl_laminar::{Family, Steps};
+use dpl_laminar::Steps;
 use std::alloc::{AllocError, Global};
 use std::sync::ledger::Ledger;
 
@@ -32,24 +32,21 @@ pub struct Path {
 pub fn path_through(
     alloc: Global,
     metric: &Metric,
-    family: &Family,
-    mates: &[Option<u32>],
+    matching: &Matching,
     tree: &Tree,
     set: u32,
 ) -> Result<Path, AllocError>
-    requires mates { length mates.now ≡ metric.now.size }
-    requires sized { IsSized metric.now.size tree.now }
-    requires stage { IsStage metric.now.size (sets_of family.now) (dist_of metric.now)
-        (forest_of tree.now mates.now) }
+    requires growing { IsGrowing metric.now matching.now tree.now }
     requires above { metric.now.size ≤ set }
     requires is_inner { place_in tree.now.labels.items set ≡ inner }
-    requires empty { (sets_of family.now).value set ≡ 0 }
-    ensures { IfOk result (λ r. (m : ℕ) × (t : ℕ) ×
-        IsOpening metric.now.size (sets_of family.now) (dist_of metric.now)
-        (forest_of tree.now mates.now) set r.sets.items r.joins.items r.place m t) }
+    requires empty { (sets_of matching.now.family).value set ≡ 0 }
+    ensures { IfOk result (λ r. IsOpening metric.now.size (sets_of matching.now.family)
+        (dist_of metric.now) (forest_of tree.now matching.now.mates.items) set
+        (around r.sets.items r.joins.items r.place)) }
 {
     let _size = metric.size();
-    match exit_of(family, mates, set) {
+    let family = &matching.family;
+    match matching.exit(set) {
         Some((exit, _)) => {
             let (_, entry) = tree.link(set);
             let first = child_with(family, set, entry);
@@ -88,37 +85,26 @@ fn first_set(sets: &[u32]) -> u32
 pub fn give_way<L: Ledger>(
     alloc: Global,
     metric: &Metric,
-    family: &mut Family,
-    mates: &mut [Option<u32>],
+    matching: &mut Matching,
     tree: &mut Tree,
     set: u32,
     steps: &mut Steps<L>,
 ) -> Result<(), AllocError>
-    requires mates { length mates.old ≡ metric.now.size }
-    requires sized { IsSized metric.now.size tree.old }
-    requires stage { IsStage metric.now.size (sets_of family.old) (dist_of metric.now)
-        (forest_of tree.old mates.old) }
+    requires growing { IsGrowing metric.now matching.old tree.old }
+    requires small { AreRanked (forest_of tree.old matching.old.mates.items) (2 ^ 60) }
     requires above { metric.now.size ≤ set }
     requires is_inner { place_in tree.old.labels.items set ≡ inner }
-    requires empty { (sets_of family.old).value set ≡ 0 }
-    requires small { AreRanked (forest_of tree.old mates.old) (2 ^ 60) }
-    ensures advances { IfOk result (λ _. Advances metric.now.size (dist_of metric.now)
-        (sets_of family.old) (forest_of tree.old mates.old) (sets_of family.new)
-        (forest_of tree.new mates.new)) }
-    ensures ranks { IfOk result (λ _. (bound : ℕ) → AreRanked (forest_of tree.old mates.old) bound →
-        AreRanked (forest_of tree.new mates.new) (bound + 4 * metric.now.size)) }
-    ensures totals { IfOk result (λ _. (m : ℕ) → m < metric.now.size →
-        totals metric.now.size (sets_of family.new) m ≡
-        totals metric.now.size (sets_of family.old) m) }
-    ensures sized { IfOk result (λ _. IsSized metric.now.size tree.new) }
-    ensures widens { IfOk result (λ _. Widens metric.now.size (sets_of family.old)
-        (place_in tree.old.labels.items) (sets_of family.new) (place_in tree.new.labels.items)) }
+    requires empty { (sets_of matching.old.family).value set ≡ 0 }
+    ensures next { IfOk result (λ _.
+        IsNext metric.now matching.old tree.old matching.new tree.new) }
+    ensures lists { IfOk result (λ _. AreListed metric.now matching.new) }
+    ensures sums { IfOk result (λ _. matching.new.sums ≡ matching.old.sums) }
     ensures steps { steps.new ≤ steps.old + 1 }
 {
     let _size = metric.size();
-    let path = path_through(alloc, metric, family, mates, tree, set)?;
-    family.expand(set, steps);
-    pair_round(mates, &path.joins, path.place);
+    let path = path_through(alloc, metric, matching, tree, set)?;
+    matching.family.expand(set, steps);
+    pair_round(&mut matching.mates, &path.joins, path.place);
     let first = first_set(&path.sets);
     enter(tree, set, first, path.place as u64);
     walk(tree, &path.sets, &path.joins, path.place);

@@ -1,9 +1,10 @@
 //! An inner set of value 0 gives way to its children.
 
-ghost use Rattle.std.specs.Prelude.{◌≡◌, ◌≢◌, ℕ, ◌+◌, ◌*◌, ◌/◌, ◌%◌, ◌<◌, ◌≤◌, ◌^◌, List, Option, nat_lt, if◌then◌else◌, length, slice_index, slice_index_or, slice_set, IfOk};
-ghost use Rattle.dpl_laminar.specs.Families.{Sets};
-ghost use Rattle.dpl_tree.specs.Forests.{Opens};
-ghost use Rattle.dpl_tree.specs.Opened.{join_at, paired_times, lists_of, walked_times};
+ghost use Rattle.std.specs.Prelude.{◌≡◌, ◌≢◌, ℕ, ◌+◌, ◌*◌, ◌/◌, ◌%◌, ◌<◌, ◌≤◌, ◌^◌, List, Option};
+ghost use Rattle.std.specs.Prelude.{nat_lt, if◌then◌else◌, length, slice_index, slice_index_or};
+ghost use Rattle.std.specs.Prelude.{slice_set, IfOk};
+ghost use Rattle.dpl_tree.specs.steps.Forests.{Opens};
+ghost use Rattle.dpl_tree.specs.steps.Opened.{join_at, paired_times, lists_of, walked_times};
 ghost use Rattle.dpl_tree.specs.Views.{forest_of};
 
 use super::pairs::pair;
@@ -57,8 +58,8 @@ pub fn enter(tree: &mut Tree, set: u32, first: u32, room: u64)
     requires links { length tree.old.links.items ≡ length tree.old.labels.items }
     requires small { (i : ℕ) → slice_index tree.old.ranks.items i ≤ 2 ^ 60 }
     requires room { room ≤ 4096 }
-    ensures opens { (n : ℕ) (f : Sets) (mates new : List (Option ℕ)) →
-        Opens n f (forest_of tree.old mates) set first room (forest_of tree.new new) }
+    ensures opens { (mates new : List (Option ℕ)) →
+        Opens (forest_of tree.old mates) set first room (forest_of tree.new new) }
     ensures labels { length tree.new.labels.items ≡ length tree.old.labels.items }
     ensures ranks { length tree.new.ranks.items ≡ length tree.old.labels.items }
     ensures links { length tree.new.links.items ≡ length tree.old.labels.items }

@@ -1,8 +1,9 @@
 //! Growth of the tree.
 
-ghost use Rattle.std.specs.Prelude.{◌≡◌, ◌≢◌, ℕ, ◌+◌, ◌*◌, ◌<◌, ◌≤◌, ◌^◌, List, Option, length, slice_index};
+ghost use Rattle.std.specs.Prelude.{◌≡◌, ◌≢◌, ℕ, ◌+◌, ◌*◌, ◌<◌, ◌≤◌, ◌^◌, List, Option, length};
+ghost use Rattle.std.specs.Prelude.{slice_index};
 ghost use Rattle.dpl_laminar.specs.Storing.{sets_of};
-ghost use Rattle.dpl_tree.specs.Forests.{Grows};
+ghost use Rattle.dpl_tree.specs.steps.Forests.{Grows};
 ghost use Rattle.dpl_tree.specs.Views.{forest_of, IsSized};
 
 use super::tree::{Label, Tree};
@@ -16,9 +17,8 @@ pub fn grow(family: &Family, tree: &mut Tree, s: u32, t: u32, o: u32)
     requires sized { IsSized (sets_of family.now).size tree.old }
     requires apart { (sets_of family.now).top t ≢ (sets_of family.now).top o }
     requires small { (i : ℕ) → slice_index tree.old.ranks.items i < 2 ^ 60 }
-    ensures grows { (mates : List (Option ℕ)) (m : ℕ) →
-        Grows (sets_of family.now).size (sets_of family.now) (forest_of tree.old mates)
-        s t m o (forest_of tree.new mates) }
+    ensures grows { (mates : List (Option ℕ)) →
+        Grows (sets_of family.now) (forest_of tree.old mates) s t o (forest_of tree.new mates) }
     ensures sized { IsSized (sets_of family.now).size tree.new }
 {
     let set = family.tops(t) as usize;

@@ -1,13 +1,18 @@
 //! The alternating tree of a perfect matching with blossoms, and its single steps.
 //!
-//! A `Metric` has the distances of an even number of members, and a family of `dpl_laminar` stands over them. A pair,
-//! a join or an edge of the tree is tight where its load equals its distance. Between two stages all pairs are tight
-//! and lead from one top of the family to another, and no load is more than its distance (`IsRest`). Within a stage
-//! there is a tree as well, whose tops are outer and inner by turns on each way from the root (`IsStage`).
+//! A `Metric` has the distances of an even number of members, and a family of `dpl_laminar`
+//! stands over them. A pair, a join or an edge of the tree is tight where its load equals its
+//! distance. Between two stages all pairs are tight and lead from one top of the family to
+//! another, and no load is more than its distance (`IsRest`). Within a stage there is a tree as
+//! well, whose tops are outer and inner by turns on each way from the root (`IsStage`).
 //!
-//! Each step takes one such state to the next and brings the stage nearer to its end (`Advances`): `grow` takes a pair
-//! into the tree, `fold` makes one set of the ways from two outer members, `give_way` takes an inner set of value 0
-//! away. `augment` ends the stage (`Ends`), and `shift` changes the values of all tops of the tree.
+//! A `Matching` is a family with the pairs between its tops and the sums over its members. With
+//! the `Tree` of a stage it is what the steps work on (`IsGrowing`).
+//!
+//! Each step takes one such state to the next and brings the stage nearer to its end
+//! (`IsNext`): `grow` takes a pair into the tree, `fold` makes one set of the ways from two
+//! outer members, `give_way` takes an inner set of value 0 away. `augment` ends the stage
+//! (`Ends`), and `shift` changes the values of all tops of the tree.
 #![tactic(auto)]
 
 mod change;
@@ -15,6 +20,7 @@ mod expanding_set;
 mod fold_up;
 mod giving_way;
 mod growth;
+mod matching;
 mod meeting;
 mod metric;
 mod pairs;
@@ -28,6 +34,7 @@ pub use expanding_set::give_way;
 pub use fold_up::fold;
 pub use giving_way::pair_round;
 pub use growth::grow;
+pub use matching::Matching;
 pub use metric::Metric;
 pub use pairs::{exit_of, pair};
 pub use ring::{Round, child_with, round_from};

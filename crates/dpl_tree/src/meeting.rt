@@ -1,21 +1,22 @@
-//! Two ways to the root from a tight pair of outer members: the sets up to where they meet become one.
+//! Two ways to the root from a tight pair of outer members: the sets up to where they meet
+//! become one.
 
-ghost use Rattle.std.specs.Prelude.{◌≡◌, ◌≢◌, ℕ, ◌+◌, ◌*◌, ◌<◌, ◌≤◌, ◌++◌, ◌∷◌, true, length, slice_index, slice_index_or, if◌then◌else◌, IfOk, reverse};
+ghost use Rattle.std.specs.Prelude.{◌≡◌, ◌≢◌, ℕ, ◌+◌, ◌*◌, ◌<◌, ◌≤◌, ◌++◌, ◌∷◌, true, length};
+ghost use Rattle.std.specs.Prelude.{slice_index, slice_index_or, if◌then◌else◌, IfOk, reverse};
 ghost use Rattle.dpl_laminar.specs.Families.{has};
 ghost use Rattle.dpl_laminar.specs.Storing.{sets_of};
 ghost use Rattle.dpl_tree.specs.Metrics.{dist_of};
-ghost use Rattle.dpl_tree.specs.Forests.{outer, inner, free};
+ghost use Rattle.dpl_tree.specs.steps.Forests.{outer, inner, free};
 ghost use Rattle.dpl_tree.specs.Mates.{IsExit, loads};
-ghost use Rattle.dpl_tree.specs.Stages.{IsStage, Advances, AreRanked};
-ghost use Rattle.dpl_tree.specs.Joins.{AreClimbing, tops_from};
-ghost use Rattle.dpl_tree.specs.Views.{mate_in, forest_of, place_in, IsSized};
+ghost use Rattle.dpl_tree.specs.steps.Growth.{IsGrowing};
+ghost use Rattle.dpl_tree.specs.steps.Joins.{AreClimbing, ways, tops_from};
+ghost use Rattle.dpl_tree.specs.Views.{mate_in, forest_of, place_in};
 
+use super::matching::Matching;
 use super::metric::Metric;
-use super::pairs::{drop_inside, exit_of};
 use super::tree::{Label, Tree};
-use dpl_laminar::{Family, Steps};
+use dpl_laminar::Family;
 use std::alloc::{AllocError, Global};
-use std::sync::ledger::Ledger;
 
 /// The joins of the tree's sets along a way up and down again, and the set at its top.
 #[derive(Drop)]
@@ -37,30 +38,21 @@ pub struct Climb {
 }
 
 /// The step up from an outer set that is not the root.
-pub fn step_up(
-    metric: &Metric,
-    family: &Family,
-    mates: &[Option<u32>],
-    tree: &Tree,
-    set: u32,
-) -> Climb
-    requires mates { length mates.now ≡ metric.now.size }
-    requires sized { IsSized metric.now.size tree.now }
-    requires stage { IsStage metric.now.size (sets_of family.now) (dist_of metric.now)
-        (forest_of tree.now mates.now) }
+pub fn step_up(metric: &Metric, matching: &Matching, tree: &Tree, set: u32) -> Climb
+    requires growing { IsGrowing metric.now matching.now tree.now }
     requires is_outer { place_in tree.now.labels.items set ≡ outer }
     requires below { set ≢ tree.now.root }
-    ensures exit { IsExit metric.now.size (sets_of family.now) (mate_in mates.now) set result.exit
-        result.mate }
-    ensures above { result.above ≡ (forest_of tree.now mates.now).above
-        ((sets_of family.now).top result.mate) }
-    ensures entry { result.entry ≡ (forest_of tree.now mates.now).entry
-        ((sets_of family.now).top result.mate) }
+    ensures exit { IsExit metric.now.size (sets_of matching.now.family)
+        (mate_in matching.now.mates.items) set result.exit result.mate }
+    ensures above { result.above ≡ (forest_of tree.now matching.now.mates.items).above
+        ((sets_of matching.now.family).top result.mate) }
+    ensures entry { result.entry ≡ (forest_of tree.now matching.now.mates.items).entry
+        ((sets_of matching.now.family).top result.mate) }
 {
     let _size = metric.size();
-    match exit_of(family, mates, set) {
+    match matching.exit(set) {
         Some((exit, mate)) => {
-            let (above, entry) = tree.link(family.tops(mate));
+            let (above, entry) = tree.link(matching.family.tops(mate));
             Climb {
                 exit,
                 mate,
@@ -76,29 +68,27 @@ pub fn step_up(
 pub fn meet(
     alloc: Global,
     metric: &Metric,
-    family: &Family,
-    mates: &[Option<u32>],
+    matching: &Matching,
     tree: &Tree,
     s: u32,
     t: u32,
 ) -> Result<Meeting, AllocError>
-    requires mates { length mates.now ≡ metric.now.size }
-    requires sized { IsSized metric.now.size tree.now }
-    requires stage { IsStage metric.now.size (sets_of family.now) (dist_of metric.now)
-        (forest_of tree.now mates.now) }
+    requires growing { IsGrowing metric.now matching.now tree.now }
     requires s { s < metric.now.size }
     requires t { t < metric.now.size }
-    requires s_outer { place_in tree.now.labels.items ((sets_of family.now).top s) ≡ outer }
-    requires t_outer { place_in tree.now.labels.items ((sets_of family.now).top t) ≡ outer }
-    ensures { IfOk result (λ r. AreClimbing metric.now.size (sets_of family.now)
-        (dist_of metric.now) (forest_of tree.now mates.now) s t r.left.items r.right.items r.meet
-        r.meet) }
+    requires s_outer { place_in tree.now.labels.items
+        ((sets_of matching.now.family).top s) ≡ outer }
+    requires t_outer { place_in tree.now.labels.items
+        ((sets_of matching.now.family).top t) ≡ outer }
+    ensures { IfOk result (λ r. AreClimbing metric.now.size (sets_of matching.now.family)
+        (dist_of metric.now) (forest_of tree.now matching.now.mates.items) (s, t)
+        (ways r.left.items r.right.items r.meet r.meet)) }
 {
     let _size = metric.size();
     let mut left = Vec::new(alloc);
     let mut right = Vec::new(alloc);
-    let mut a = family.tops(s);
-    let mut b = family.tops(t);
+    let mut a = matching.family.tops(s);
+    let mut b = matching.family.tops(t);
     'climb: loop {
         if a == b {
             return Ok(Meeting {
@@ -110,15 +100,15 @@ pub fn meet(
         let rank_a = tree.rank(a);
         let rank_b = tree.rank(b);
         if rank_a < rank_b {
-            let up = step_up(metric, family, mates, tree, b);
+            let up = step_up(metric, matching, tree, b);
             right.push((up.exit, up.mate))?;
             right.push((up.entry, up.above))?;
-            b = family.tops(up.above);
+            b = matching.family.tops(up.above);
         } else {
-            let up = step_up(metric, family, mates, tree, a);
+            let up = step_up(metric, matching, tree, a);
             left.push((up.mate, up.exit))?;
             left.push((up.above, up.entry))?;
-            a = family.tops(up.above);
+            a = matching.family.tops(up.above);
         }
     }
 }

@@ -1,8 +1,9 @@
 //! A new set takes the place of its children in the tree.
 
-ghost use Rattle.std.specs.Prelude.{◌≡◌, ◌≢◌, ℕ, ◌+◌, ◌*◌, ◌<◌, ◌≤◌, List, Option, true, false, length, slice_index, if◌then◌else◌};
+ghost use Rattle.std.specs.Prelude.{◌≡◌, ◌≢◌, ℕ, ◌+◌, ◌*◌, ◌<◌, ◌≤◌, List, Option, true, false};
+ghost use Rattle.std.specs.Prelude.{length, slice_index, if◌then◌else◌};
 ghost use Rattle.dpl_laminar.specs.Families.{has};
-ghost use Rattle.dpl_tree.specs.Forests.{Folds, free};
+ghost use Rattle.dpl_tree.specs.steps.Forests.{Folds, free};
 ghost use Rattle.dpl_tree.specs.Views.{forest_of, place_in, IsSized};
 
 use super::tree::{Label, Tree};

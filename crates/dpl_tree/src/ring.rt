@@ -1,8 +1,9 @@
 //! The children of a set around its ring.
 
-ghost use Rattle.std.specs.Prelude.{◌≡◌, ◌≢◌, ℕ, ◌+◌, ◌-◌, ◌*◌, ◌<◌, ◌≤◌, None, Some, true, length, slice_index, IfOk};
+ghost use Rattle.std.specs.Prelude.{◌≡◌, ◌≢◌, ℕ, ◌+◌, ◌-◌, ◌*◌, ◌<◌, ◌≤◌, None, Some, true};
+ghost use Rattle.std.specs.Prelude.{length, slice_index, IfOk};
 ghost use Rattle.dpl_laminar.specs.Storing.{sets_of};
-ghost use Rattle.dpl_tree.specs.Rounds.{IsRingFrom, IsTurned};
+ghost use Rattle.dpl_tree.specs.steps.Rounds.{IsRingFrom, IsTurned};
 
 use dpl_laminar::Family;
 use std::alloc::{AllocError, Global};

@@ -1,6 +1,7 @@
 //! The alternating tree of one stage.
 
-ghost use Rattle.std.specs.Prelude.{◌≡◌, ◌<◌, length, replicate, slice_index, slice_index_or, slice_set, IfOk};
+ghost use Rattle.std.specs.Prelude.{◌≡◌, ◌<◌, length, replicate, slice_index, slice_index_or};
+ghost use Rattle.std.specs.Prelude.{slice_set, IfOk};
 
 use std::alloc::{AllocError, Global};
 
@@ -42,6 +43,14 @@ impl Tree {
             links,
             root,
         })
+    }
+
+    /// How a set stands in the tree.
+    pub fn label(&self, set: u32) -> Label
+        requires { set < length self.now.labels.items }
+        ensures { result ≡ slice_index_or self.now.labels.items set Label.Free }
+    {
+        self.labels[set as usize]
     }
 
     /// The outer member and the own member that lead to an inner set.

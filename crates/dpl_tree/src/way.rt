@@ -3,7 +3,7 @@
 ghost use Rattle.std.specs.Prelude.{◌≡◌, ◌≢◌, ℕ, ◌+◌, ◌*◌, ◌<◌, ◌≤◌, length};
 ghost use Rattle.dpl_laminar.specs.Storing.{sets_of};
 ghost use Rattle.dpl_tree.specs.Metrics.{dist_of};
-ghost use Rattle.dpl_tree.specs.Forests.{IsClimb};
+ghost use Rattle.dpl_tree.specs.steps.Forests.{IsClimb};
 ghost use Rattle.dpl_tree.specs.Mates.{ArePairs, IsExit, loads};
 ghost use Rattle.dpl_tree.specs.Stages.{IsStage};
 ghost use Rattle.dpl_tree.specs.Views.{mate_in, forest_of, IsSized};
@@ -26,9 +26,8 @@ pub fn augment(
     requires sized { IsSized metric.now.size tree.now }
     requires stage { IsStage metric.now.size (sets_of family.now) (dist_of metric.now)
         (forest_of tree.now mates.old) }
-    requires begun { IsClimb metric.now.size (sets_of family.now)
-        (loads metric.now.size (sets_of family.now)) (dist_of metric.now)
-        (forest_of tree.now mates.old) (mate_in mates.old) s t }
+    requires begun { IsClimb metric.now.size (sets_of family.now) (dist_of metric.now)
+        (forest_of tree.now mates.old) (mate_in mates.old) (s, t) }
     ensures pairs { ArePairs metric.now.size (sets_of family.now)
         (loads metric.now.size (sets_of family.now)) (dist_of metric.now) (mate_in mates.new) }
     ensures kept { (i m u : ℕ) → IsExit metric.now.size (sets_of family.now) (mate_in mates.old) i m

@@ -1,5 +1,5 @@
 use Rattle.dpl_laminar.specs.Families.{Sets}
-use Rattle.dpl_match.specs.Starting.{AreAlone}
+use Rattle.dpl_match.specs.steps.Starting.{AreAlone}
 use Rattle.dpl_tree.specs.Metrics.{dist_of}
 use Rattle.dpl_tree.specs.Stages.{IsRest}
 use Rattle.dpl_tree.specs.Views.{mate_in}

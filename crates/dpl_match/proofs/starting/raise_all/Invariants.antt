@@ -1,6 +1,6 @@
 use Rattle.std.proofs.Common.{◌≡◌, ◌+◌}
 use Rattle.dpl_laminar.specs.Storing.{sets_of}
-use Rattle.dpl_match.specs.Starting.{AreRaised}
+use Rattle.dpl_match.specs.steps.Starting.{AreRaised}
 use Rattle.dpl_tree.specs.Metrics.{dist_of}
 use Rattle.dpl_match.proofs.starting.raise_all.Given as goal
 

@@ -2,7 +2,7 @@ use Rattle.std.proofs.Common.{arith, ℕ, ap, ◌∙◌, inl, inr}
 use Rattle.std.proofs.lemmas.Bool.{cases_eq}
 use Rattle.dpl_laminar.specs.Families.{Sets}
 use Rattle.dpl_laminar.specs.Storing.{sets_of}
-use Rattle.dpl_tree.specs.Forests.{gain}
+use Rattle.dpl_tree.specs.steps.Forests.{gain}
 use Rattle.dpl_tree.specs.Views.{place_in}
 use Rattle.dpl_tree.proofs.Raising.{sum_next, values_kept}
 use Rattle.dpl_tree.proofs.change.lift.Goals as goal
@@ -12,7 +12,7 @@ loop-i-preserved g c =
     let i : ℕ = c.loop-i.i in
     let f : Sets = sets_of c.loop-i.family in
     let h : Sets = sets_of c.lift_one.new.family in
-    let e = c.lift_one.ensures in
+    let e = rw c.label.ensures at c.lift_one.ensures in
     let k = c.loop-i.invariant in
     record {
       rest = values_kept (sets_of c.args.family.now) f h k.rest e.rest;
@@ -23,5 +23,5 @@ loop-i-preserved g c =
       todo = λ j low. e.others j (λ z. omega (arith, low, z)) ∙ k.todo j (omega (arith, low));
       alive = λ j low p. ap (λ (z : Sets). z.live j) e.rest ∙ k.alive j low p;
       family = e.family;
-      count = omega (arith, e.steps, k.count, sum_next i (λ j. gain (place_in c.args.labels.now j)));
+      count = omega (arith, e.steps, k.count, sum_next i (λ j. gain (place_in c.args.tree.now.labels.items j)));
     }

@@ -2,16 +2,16 @@ use Rattle.std.proofs.Common.{◌≡◌, ℕ, ◌+◌, ◌*◌, ◌<◌, ◌≤�
 use Rattle.dpl_laminar.specs.Loads.{sum_below}
 use Rattle.dpl_laminar.specs.Families.{IsFamily}
 use Rattle.dpl_laminar.specs.Storing.{sets_of}
-use Rattle.dpl_tree.specs.Forests.{outer, gain}
+use Rattle.dpl_tree.specs.steps.Forests.{outer, gain}
 use Rattle.dpl_tree.specs.Views.{place_in}
 use Rattle.dpl_tree.proofs.change.lift.Given as goal
 
 abbrev pub invariant-loop-i : goal.invariant-loop-i
 invariant-loop-i g l = record {
   rest : sets_of l.family ≡ record (sets_of l.fn.family) { value = (sets_of l.family).value };
-  done : (j : ℕ) → j < l.i → (sets_of l.family).value j ≡ (sets_of l.fn.family).value j + gain (place_in l.labels j) * l.by;
+  done : (j : ℕ) → j < l.i → (sets_of l.family).value j ≡ (sets_of l.fn.family).value j + gain (place_in l.tree.labels.items j) * l.by;
   todo : (j : ℕ) → l.i ≤ j → (sets_of l.family).value j ≡ (sets_of l.fn.family).value j;
-  alive : (j : ℕ) → j < 2 * (sets_of l.fn.family).size → place_in l.labels j ≡ outer → (sets_of l.family).live j ≡ true;
+  alive : (j : ℕ) → j < 2 * (sets_of l.fn.family).size → place_in l.tree.labels.items j ≡ outer → (sets_of l.family).live j ≡ true;
   family : IsFamily (sets_of l.family);
-  count : l.steps ≡ l.fn.steps + sum_below l.i (λ j. gain (place_in l.labels j));
+  count : l.steps ≡ l.fn.steps + sum_below l.i (λ j. gain (place_in l.tree.labels.items j));
 }

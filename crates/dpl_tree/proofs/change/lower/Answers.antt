@@ -2,7 +2,7 @@ use Rattle.std.proofs.Common.{arith, ◌+◌, ◌*◌, ℕ, ap, ◌∙◌, inl, 
 use Rattle.std.proofs.lemmas.Bool.{cases_eq}
 use Rattle.dpl_laminar.specs.Families.{Sets}
 use Rattle.dpl_laminar.specs.Storing.{sets_of}
-use Rattle.dpl_tree.specs.Forests.{drop_of}
+use Rattle.dpl_tree.specs.steps.Forests.{drop_of}
 use Rattle.dpl_tree.specs.Views.{place_in}
 use Rattle.dpl_tree.proofs.Raising.{sum_next, values_kept}
 use Rattle.dpl_tree.proofs.change.lower.Goals as goal
@@ -12,16 +12,16 @@ loop-i-preserved g c =
     let i : ℕ = c.loop-i.i in
     let f : Sets = sets_of c.loop-i.family in
     let h : Sets = sets_of c.lower_one.new.family in
-    let e = c.lower_one.ensures in
+    let e = rw c.label.ensures at c.lower_one.ensures in
     let k = c.loop-i.invariant in
     record {
       rest = values_kept (sets_of c.args.family.now) f h k.rest e.rest;
       done = λ j low. elim (cases_eq j i) [
         | inl z ↦ rw z (omega (arith, e.value, k.todo i (omega arith)))
-        | inr ne ↦ ap (λ a. a + drop_of (place_in c.args.labels.now j) * c.args.by) (e.others j ne) ∙ k.done j (omega (arith, low, ne))
+        | inr ne ↦ ap (λ a. a + drop_of (place_in c.args.tree.now.labels.items j) * c.args.by) (e.others j ne) ∙ k.done j (omega (arith, low, ne))
       ];
       todo = λ j low. e.others j (λ z. omega (arith, low, z)) ∙ k.todo j (omega (arith, low));
       alive = λ j low p. ap (λ (z : Sets). z.live j) e.rest ∙ k.alive j low p;
       family = e.family;
-      count = omega (arith, e.steps, k.count, sum_next i (λ j. drop_of (place_in c.args.labels.now j)));
+      count = omega (arith, e.steps, k.count, sum_next i (λ j. drop_of (place_in c.args.tree.now.labels.items j)));
     }

@@ -1,5 +1,5 @@
 use Rattle.std.proofs.Common.{◌≡◌}
-use Rattle.dpl_tree.specs.Opened.{paired_times}
+use Rattle.dpl_tree.specs.steps.Opened.{paired_times}
 use Rattle.dpl_tree.proofs.giving_way.pair_round.Given as goal
 
 abbrev pub invariant-loop-r : goal.invariant-loop-r

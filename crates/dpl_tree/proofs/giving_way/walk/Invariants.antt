@@ -1,5 +1,5 @@
 use Rattle.std.proofs.Common.{◌≡◌, ℕ, ◌+◌, ◌*◌, ◌^◌, ◌≤◌, get_or, length}
-use Rattle.dpl_tree.specs.Opened.{lists_of, walked_times}
+use Rattle.dpl_tree.specs.steps.Opened.{lists_of, walked_times}
 use Rattle.dpl_tree.proofs.giving_way.walk.Given as goal
 
 abbrev pub invariant-loop-r : goal.invariant-loop-r

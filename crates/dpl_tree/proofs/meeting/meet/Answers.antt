@@ -2,7 +2,7 @@ use Rattle.std.proofs.Common.{arith, ◌≡◌, ◌<◌, ◌≤◌, ℕ, sym, ap
 use Rattle.dpl_laminar.specs.Families.{Sets}
 use Rattle.dpl_laminar.specs.Storing.{sets_of}
 use Rattle.dpl_tree.specs.Metrics.{dist_of}
-use Rattle.dpl_tree.specs.Forests.{Forest}
+use Rattle.dpl_tree.specs.steps.Forests.{Forest}
 use Rattle.dpl_tree.specs.Views.{forest_of}
 use Rattle.dpl_tree.proofs.Meetings.{step_of, climbing_left, climbing_right, not_root}
 use Rattle.dpl_tree.proofs.meeting.meet.Goals as goal
@@ -11,38 +11,38 @@ pub step_up-up-requires-clause-below : goal.step_up-up-requires-clause-below
 step_up-up-requires-clause-below c =
     let low : get_or c.args.tree.now.ranks.items c.climb.a 0 < get_or c.args.tree.now.ranks.items c.climb.b 0 =
     omega (arith, c.if-rank_a-rank_b.true, c.rank-rank_a.ensures, c.rank-rank_b.ensures) in
-    not_root c.args.metric.now.size (sets_of c.args.family.now) (dist_of c.args.metric.now)
-    (forest_of c.args.tree.now c.args.mates.now) c.climb.b c.climb.a c.requires.stage c.climb.invariant.sets.a_outer
+    not_root c.args.metric.now.size (sets_of c.args.matching.now.family) (dist_of c.args.metric.now)
+    (forest_of c.args.tree.now c.args.matching.now.mates.items) c.climb.b c.climb.a c.requires.growing.stage c.climb.invariant.sets.a_outer
     (λ e. c.if-a-b.false (sym e)) (omega (arith, low))
 
 pub step_up-up-requires-else-rank_a-rank_b-clause-below : goal.step_up-up-requires-else-rank_a-rank_b-clause-below
 step_up-up-requires-else-rank_a-rank_b-clause-below c =
     let low : get_or c.args.tree.now.ranks.items c.climb.b 0 ≤ get_or c.args.tree.now.ranks.items c.climb.a 0 =
     omega (arith, c.if-rank_a-rank_b.false, c.rank-rank_a.ensures, c.rank-rank_b.ensures) in
-    not_root c.args.metric.now.size (sets_of c.args.family.now) (dist_of c.args.metric.now)
-    (forest_of c.args.tree.now c.args.mates.now) c.climb.a c.climb.b c.requires.stage c.climb.invariant.sets.b_outer
+    not_root c.args.metric.now.size (sets_of c.args.matching.now.family) (dist_of c.args.metric.now)
+    (forest_of c.args.tree.now c.args.matching.now.mates.items) c.climb.a c.climb.b c.requires.growing.stage c.climb.invariant.sets.b_outer
     c.if-a-b.false low
 
 pub tops-b-requires-then-rank_a-rank_b : goal.tops-b-requires-then-rank_a-rank_b
 tops-b-requires-then-rank_a-rank_b c =
-    let w = step_of c.args.metric.now.size (sets_of c.args.family.now) (dist_of c.args.metric.now)
-    (forest_of c.args.tree.now c.args.mates.now) c.climb.b _ _ c.requires.stage c.climb.invariant.sets.b_outer
+    let w = step_of c.args.metric.now.size (sets_of c.args.matching.now.family) (dist_of c.args.metric.now)
+    (forest_of c.args.tree.now c.args.matching.now.mates.items) c.climb.b _ _ c.requires.growing.stage c.climb.invariant.sets.b_outer
     c.step_up-up.ensures.exit in
-    omega (arith, w.ha, c.step_up-up.ensures.above, c.requires.stage.rest.size)
+    omega (arith, w.ha, c.step_up-up.ensures.above, c.requires.growing.stage.rest.size)
 
 pub tops-a-requires-else-rank_a-rank_b : goal.tops-a-requires-else-rank_a-rank_b
 tops-a-requires-else-rank_a-rank_b c =
-    let w = step_of c.args.metric.now.size (sets_of c.args.family.now) (dist_of c.args.metric.now)
-    (forest_of c.args.tree.now c.args.mates.now) c.climb.a _ _ c.requires.stage c.climb.invariant.sets.a_outer
+    let w = step_of c.args.metric.now.size (sets_of c.args.matching.now.family) (dist_of c.args.metric.now)
+    (forest_of c.args.tree.now c.args.matching.now.mates.items) c.climb.a _ _ c.requires.growing.stage c.climb.invariant.sets.a_outer
     c.step_up-up-else-rank_a-rank_b.ensures.exit in
-    omega (arith, w.ha, c.step_up-up-else-rank_a-rank_b.ensures.above, c.requires.stage.rest.size)
+    omega (arith, w.ha, c.step_up-up-else-rank_a-rank_b.ensures.above, c.requires.growing.stage.rest.size)
 
 pub climb-smaller-then-rank_a-rank_b : goal.climb-smaller-then-rank_a-rank_b
 climb-smaller-then-rank_a-rank_b c =
     let up = c.step_up-up.ensures in
-    let x : Forest = forest_of c.args.tree.now c.args.mates.now in
-    let f : Sets = sets_of c.args.family.now in
-    let t = c.requires.stage.tree in
+    let x : Forest = forest_of c.args.tree.now c.args.matching.now.mates.items in
+    let f : Sets = sets_of c.args.matching.now.family in
+    let t = c.requires.growing.stage.tree in
     let i : ℕ = f.top c.step_up-up.result.mate in
     let o = t.outer_mate c.climb.b _ _ c.climb.invariant.sets.b_outer up.exit in
     let r = t.link_rank i o.0 in
@@ -52,9 +52,9 @@ climb-smaller-then-rank_a-rank_b c =
 pub climb-smaller : goal.climb-smaller
 climb-smaller c =
     let up = c.step_up-up-else-rank_a-rank_b.ensures in
-    let x : Forest = forest_of c.args.tree.now c.args.mates.now in
-    let f : Sets = sets_of c.args.family.now in
-    let t = c.requires.stage.tree in
+    let x : Forest = forest_of c.args.tree.now c.args.matching.now.mates.items in
+    let f : Sets = sets_of c.args.matching.now.family in
+    let t = c.requires.growing.stage.tree in
     let i : ℕ = f.top c.step_up-up-else-rank_a-rank_b.result.mate in
     let o = t.outer_mate c.climb.a _ _ c.climb.invariant.sets.a_outer up.exit in
     let r = t.link_rank i o.0 in
@@ -72,9 +72,9 @@ climb-preserved-then-rank_a-rank_b c =
       c.step_up-up.ensures.above,
       c.step_up-up.ensures.entry,
     )
-    (climbing_right c.args.metric.now.size (sets_of c.args.family.now) (dist_of c.args.metric.now)
-    (forest_of c.args.tree.now c.args.mates.now) c.args.s c.args.t c.climb.left.items c.climb.right.items c.climb.a
-    c.climb.b c.step_up-up.result.exit c.step_up-up.result.mate c.size-size.ensures.table.metric c.requires.stage
+    (climbing_right c.args.metric.now.size (sets_of c.args.matching.now.family) (dist_of c.args.metric.now)
+    (forest_of c.args.tree.now c.args.matching.now.mates.items) c.args.s c.args.t c.climb.left.items c.climb.right.items c.climb.a
+    c.climb.b c.step_up-up.result.exit c.step_up-up.result.mate c.size-size.ensures.table.metric c.requires.growing.stage
     c.climb.invariant c.if-a-b.false low c.step_up-up.ensures.exit)
 
 pub climb-preserved : goal.climb-preserved
@@ -88,8 +88,8 @@ climb-preserved c =
       c.step_up-up-else-rank_a-rank_b.ensures.above,
       c.step_up-up-else-rank_a-rank_b.ensures.entry,
     )
-    (climbing_left c.args.metric.now.size (sets_of c.args.family.now) (dist_of c.args.metric.now)
-    (forest_of c.args.tree.now c.args.mates.now) c.args.s c.args.t c.climb.left.items c.climb.right.items c.climb.a
+    (climbing_left c.args.metric.now.size (sets_of c.args.matching.now.family) (dist_of c.args.metric.now)
+    (forest_of c.args.tree.now c.args.matching.now.mates.items) c.args.s c.args.t c.climb.left.items c.climb.right.items c.climb.a
     c.climb.b c.step_up-up-else-rank_a-rank_b.result.exit c.step_up-up-else-rank_a-rank_b.result.mate
-    c.size-size.ensures.table.metric c.requires.stage c.climb.invariant c.if-a-b.false low
+    c.size-size.ensures.table.metric c.requires.growing.stage c.climb.invariant c.if-a-b.false low
     c.step_up-up-else-rank_a-rank_b.ensures.exit)

@@ -1,7 +1,7 @@
 use Rattle.std.proofs.Common.{◌≡◌, ℕ, take}
 use Rattle.std.specs.Prelude.{if◌then◌else◌}
 use Rattle.dpl_laminar.specs.Families.{has}
-use Rattle.dpl_tree.specs.Forests.{free}
+use Rattle.dpl_tree.specs.steps.Forests.{free}
 use Rattle.dpl_tree.specs.Views.{place_in}
 use Rattle.dpl_tree.proofs.replacing.free_all.Given as goal
 

@@ -1,5 +1,6 @@
 -- The first values and pairs: each single member has half the distance to its nearest one.
-use Rattle.std.specs.Prelude.{◌≡◌, ◌≢◌, ℕ, ◌+◌, ◌*◌, ◌<◌, ◌≤◌, nat_lt, if◌then◌else◌, List, length, slice_index}
+use Rattle.std.specs.Prelude.{◌≡◌, ◌≢◌, ℕ, ◌+◌, ◌*◌, ◌<◌, ◌≤◌, nat_lt, if◌then◌else◌, List}
+use Rattle.std.specs.Prelude.{length, slice_index}
 use Rattle.dpl_laminar.specs.Families.{Sets, IsFamily}
 use Rattle.dpl_tree.specs.Mates.{loads}
 

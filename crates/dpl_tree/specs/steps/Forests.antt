@@ -1,14 +1,22 @@
--- The alternating tree of one stage over the top sets of a family, and what each single step makes of it, after Edmonds
--- 1965, "Paths, trees, and flowers".
+-- The alternating tree of one stage over the top sets of a family, and what each single step
+-- makes of it, after Edmonds 1965, "Paths, trees, and flowers".
 use Rattle.std.specs.Prelude.{◌≡◌, ◌≢◌, ℕ, ◌+◌, ◌*◌, ◌<◌, ◌≤◌, true, false, Option, None, List}
 use Rattle.dpl_laminar.specs.Families.{Sets, has}
-use Rattle.dpl_tree.specs.Mates.{IsExit, ArePairs}
+use Rattle.dpl_tree.specs.Mates.{IsExit, ArePairs, loads}
 
 -- how a top set stands in the tree
 pub data Place : Type 0 where
   free : Place
   outer : Place
   inner : Place
+
+-- an outer member and a member of another top that stands so
+pub record IsPair (n : ℕ) (f : Sets) (place : ℕ → Place) (want : Place) (s t : ℕ) : Type 0 where
+  pub from : s < n
+  pub to : t < n
+  pub apart : f.top s ≢ f.top t
+  pub from_outer : place (f.top s) ≡ outer
+  pub to_place : place (f.top t) ≡ want
 
 -- what the shifts add to a load and take from it
 abbrev pub gain : Place → ℕ
@@ -26,8 +34,9 @@ pub record Shifts (k : ℕ) (f : Sets) (place : ℕ → Place) (by : ℕ) (old n
   pub tops : (i : ℕ) → i < k → place i ≢ free → f.parent i ≡ None
   pub each : (i : ℕ) → i < k → new i + drop_of (place i) * by ≡ old i + gain (place i) * by
 
--- the pairs between tops, and the tree: by the numbers of the sets how they stand in it, a rank that rises away from the
--- root, and for an inner set the outer member and its own member that lead to it
+-- the pairs between tops, and the tree: by the numbers of the sets how they stand in it, a rank
+-- that rises away from the root, and for an inner set the outer member and its own member that
+-- lead to it
 pub record Forest : Type 0 where
   pub mate : ℕ → Option ℕ
   pub place : ℕ → Place
@@ -56,7 +65,7 @@ pub record IsTree (n : ℕ) (f : Sets) (load dist : ℕ → ℕ → ℕ) (x : Fo
       load (x.above i) (x.entry i) ≡ dist (x.above i) (x.entry i)
 
 -- what the place, the rank and the link of a set are after a pair of sets is taken into the tree
-pub record Grows (n : ℕ) (f : Sets) (x : Forest) (s t m o : ℕ) (y : Forest) : Type 0 where
+pub record Grows (f : Sets) (x : Forest) (s t o : ℕ) (y : Forest) : Type 0 where
   pub mates : (i : ℕ) → y.mate i ≡ x.mate i
   pub root : y.root ≡ x.root
   pub place_inner : y.place (f.top t) ≡ inner
@@ -69,22 +78,24 @@ pub record Grows (n : ℕ) (f : Sets) (x : Forest) (s t m o : ℕ) (y : Forest) 
   pub entry : y.entry (f.top t) ≡ t
   pub link_others : (i : ℕ) → i ≢ f.top t → (y.above i ≡ x.above i) × (y.entry i ≡ x.entry i)
 
--- On the way from a free set to the root: s, in an outer set of the tree x, is to become the mate of t, in a set with no
--- pair. The sets of the tree up to the rank of s's set have their pairs, and each set but t's has one that had one.
-pub record IsClimb (n : ℕ) (f : Sets) (load dist : ℕ → ℕ → ℕ) (x : Forest) (mate : ℕ → Option ℕ)
-    (s t : ℕ) : Type 0 where
-  pub s_range : s < n
-  pub t_range : t < n
-  pub s_outer : x.place (f.top s) ≡ outer
-  pub apart : f.top s ≢ f.top t
-  pub tight : load s t ≡ dist s t
-  pub tight_back : load t s ≡ dist t s
-  pub pairs : ArePairs n f load dist mate
-  pub t_free : (m u : ℕ) → IsExit n f mate (f.top t) m u → ⊥
-  pub t_rank : x.place (f.top t) ≢ free → x.rank (f.top s) < x.rank (f.top t)
-  pub kept : (m : ℕ) → m < n → x.place (f.top m) ≢ free → x.rank (f.top m) ≤ x.rank (f.top s) →
-      mate m ≡ x.mate m
-  pub has_pair : (i m u : ℕ) → i ≢ f.top t → IsExit n f x.mate i m u →
+-- On the way from a free set to the root: the first member of a join, in an outer set of the
+-- tree x, is to become the mate of the second one, in a set with no pair. The sets of the tree
+-- up to the rank of the first one's set have their pairs, and each set but the second one's has
+-- one that had one.
+pub record IsClimb (n : ℕ) (f : Sets) (dist : ℕ → ℕ → ℕ) (x : Forest) (mate : ℕ → Option ℕ)
+    (join : ℕ × ℕ) : Type 0 where
+  pub s_range : join.0 < n
+  pub t_range : join.1 < n
+  pub s_outer : x.place (f.top join.0) ≡ outer
+  pub apart : f.top join.0 ≢ f.top join.1
+  pub tight : loads n f join.0 join.1 ≡ dist join.0 join.1
+  pub tight_back : loads n f join.1 join.0 ≡ dist join.1 join.0
+  pub pairs : ArePairs n f (loads n f) dist mate
+  pub t_free : (m u : ℕ) → IsExit n f mate (f.top join.1) m u → ⊥
+  pub t_rank : x.place (f.top join.1) ≢ free → x.rank (f.top join.0) < x.rank (f.top join.1)
+  pub kept : (m : ℕ) → m < n → x.place (f.top m) ≢ free →
+      x.rank (f.top m) ≤ x.rank (f.top join.0) → mate m ≡ x.mate m
+  pub has_pair : (i m u : ℕ) → i ≢ f.top join.1 → IsExit n f x.mate i m u →
       (a : ℕ) × (c : ℕ) × IsExit n f mate i a c
 
 -- sets of the tree on two ways up to where they meet
@@ -109,18 +120,27 @@ pub record Folds (x : Forest) (children : List ℕ) (meet set : ℕ) (y : Forest
   pub root_in : has children x.root ≡ true → y.root ≡ set
   pub root_out : has children x.root ≡ false → y.root ≡ x.root
 
--- a tree in which the mate of one inner set, and of one outer set, need not stand in it
-pub record IsBroken (n : ℕ) (f : Sets) (load dist : ℕ → ℕ → ℕ) (x : Forest)
-    (cur out room : ℕ) : Type 0 where
+-- an inner set, an outer set, and how many ranks there are between them for what is still to
+-- come
+pub record Gap : Type 0 where
+  pub cur : ℕ
+  pub out : ℕ
+  pub room : ℕ
+
+abbrev pub gap : ℕ → ℕ → ℕ → Gap
+gap cur out room = record { cur = cur; out = out; room = room }
+
+-- a tree in which the mates of the two sets of a gap need not stand
+pub record IsBroken (n : ℕ) (f : Sets) (load dist : ℕ → ℕ → ℕ) (x : Forest) (g : Gap) : Type 0 where
   pub tops : (i : ℕ) → x.place i ≢ free → (i < 2 * n) × (f.live i ≡ true) × (f.parent i ≡ None)
   pub root_outer : x.place x.root ≡ outer
   pub root_free : (m t : ℕ) → IsExit n f x.mate x.root m t → ⊥
   pub outer_pair : (i : ℕ) → x.place i ≡ outer → i ≢ x.root →
       (m : ℕ) × (t : ℕ) × IsExit n f x.mate i m t
-  pub outer_mate : (i m t : ℕ) → x.place i ≡ outer → i ≢ out → IsExit n f x.mate i m t →
+  pub outer_mate : (i m t : ℕ) → x.place i ≡ outer → i ≢ g.out → IsExit n f x.mate i m t →
       (x.place (f.top t) ≡ inner) × (x.rank (f.top t) < x.rank i)
   pub inner_pair : (i : ℕ) → x.place i ≡ inner → (m : ℕ) × (t : ℕ) × IsExit n f x.mate i m t
-  pub inner_mate : (i m t : ℕ) → x.place i ≡ inner → i ≢ cur → IsExit n f x.mate i m t →
+  pub inner_mate : (i m t : ℕ) → x.place i ≡ inner → i ≢ g.cur → IsExit n f x.mate i m t →
       x.place (f.top t) ≡ outer
   pub link_range : (i : ℕ) → x.place i ≡ inner → (x.above i < n) × (x.entry i < n)
   pub link_entry : (i : ℕ) → x.place i ≡ inner → f.top (x.entry i) ≡ i
@@ -128,12 +148,13 @@ pub record IsBroken (n : ℕ) (f : Sets) (load dist : ℕ → ℕ → ℕ) (x : 
   pub link_rank : (i : ℕ) → x.place i ≡ inner → x.rank (f.top (x.above i)) < x.rank i
   pub link_tight : (i : ℕ) → x.place i ≡ inner →
       load (x.above i) (x.entry i) ≡ dist (x.above i) (x.entry i)
-  pub cur_inner : x.place cur ≡ inner
-  pub out_outer : x.place out ≡ outer
-  pub room_left : x.rank cur + room < x.rank out
+  pub cur_inner : x.place g.cur ≡ inner
+  pub out_outer : x.place g.out ≡ outer
+  pub room_left : x.rank g.cur + g.room < x.rank g.out
 
--- an inner set has given way to its child that the tree enters, and the ranks above it have made room
-pub record Opens (n : ℕ) (f : Sets) (x : Forest) (set first room : ℕ) (y : Forest) : Type 0 where
+-- an inner set has given way to its child that the tree enters, and the ranks above it have made
+-- room
+pub record Opens (x : Forest) (set first room : ℕ) (y : Forest) : Type 0 where
   pub root : y.root ≡ x.root
   pub place_set : y.place set ≡ free
   pub place_first : y.place first ≡ inner
@@ -145,8 +166,9 @@ pub record Opens (n : ℕ) (f : Sets) (x : Forest) (set first room : ℕ) (y : F
   pub entry_first : y.entry first ≡ x.entry set
   pub link_others : (i : ℕ) → i ≢ first → (y.above i ≡ x.above i) × (y.entry i ≡ x.entry i)
 
--- two children more stand in the tree: one that is paired with the last inner one, and the next around
-pub record Walks (n : ℕ) (f : Sets) (x : Forest) (cur o next a b : ℕ) (y : Forest) : Type 0 where
+-- two children more stand in the tree: one that is paired with the last inner one, and the next
+-- around
+pub record Walks (x : Forest) (cur o next : ℕ) (join : ℕ × ℕ) (y : Forest) : Type 0 where
   pub mates : (i : ℕ) → y.mate i ≡ x.mate i
   pub root : y.root ≡ x.root
   pub place_outer : y.place o ≡ outer
@@ -155,6 +177,6 @@ pub record Walks (n : ℕ) (f : Sets) (x : Forest) (cur o next a b : ℕ) (y : F
   pub rank_outer : y.rank o ≡ x.rank cur + 1
   pub rank_inner : y.rank next ≡ x.rank cur + 2
   pub rank_others : (i : ℕ) → i ≢ o → i ≢ next → y.rank i ≡ x.rank i
-  pub above : y.above next ≡ a
-  pub entry : y.entry next ≡ b
+  pub above : y.above next ≡ join.0
+  pub entry : y.entry next ≡ join.1
   pub link_others : (i : ℕ) → i ≢ next → (y.above i ≡ x.above i) × (y.entry i ≡ x.entry i)

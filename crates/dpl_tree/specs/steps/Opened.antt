@@ -1,10 +1,12 @@
 -- The children of a set around its ring, and what becomes of them when the set gives way to them.
-use Rattle.std.specs.Prelude.{◌≡◌, ◌≢◌, ℕ, ◌+◌, ◌*◌, ◌%◌, ◌<◌, ◌≤◌, zero, suc, true, nat_lt, if◌then◌else◌, Option, Some, List, length, slice_index, slice_index_or, slice_set}
+use Rattle.std.specs.Prelude.{◌≡◌, ◌≢◌, ℕ, ◌+◌, ◌*◌, ◌%◌, ◌<◌, ◌≤◌, zero, suc, true, nat_lt}
+use Rattle.std.specs.Prelude.{if◌then◌else◌, Option, Some, List, length, slice_index}
+use Rattle.std.specs.Prelude.{slice_index_or, slice_set}
 use Rattle.dpl_laminar.specs.Families.{Sets, has, next_in}
 use Rattle.dpl_tree.specs.declared.tree.Label.{Label}
 use Rattle.dpl_tree.specs.declared.tree.Label.TheVariants.{Outer, Inner}
 use Rattle.dpl_tree.specs.declared.tree.Tree.{Tree}
-use Rattle.dpl_tree.specs.Forests.{Forest, inner}
+use Rattle.dpl_tree.specs.steps.Forests.{Forest, inner}
 use Rattle.dpl_tree.specs.Mates.{IsExit, loads}
 use Rattle.dpl_tree.specs.Views.{place_in}
 
@@ -25,18 +27,29 @@ pub record IsAround (n : ℕ) (f : Sets) (dist : ℕ → ℕ → ℕ) (set : ℕ
       loads n f (slice_index_or joins i (0, 0)).0 (slice_index_or joins i (0, 0)).1 ≡
       dist (slice_index_or joins i (0, 0)).0 (slice_index_or joins i (0, 0)).1
 
--- an inner set, its round, and the place of the child that keeps the pair
-pub record IsOpening (n : ℕ) (f : Sets) (dist : ℕ → ℕ → ℕ) (x : Forest) (set : ℕ) (sets : List ℕ)
-    (joins : List (ℕ × ℕ)) (p m0 t0 : ℕ) : Type 0 where
+-- the children of a set around, with their joins and the place of the child that keeps the pair
+pub record Around : Type 0 where
+  pub sets : List ℕ
+  pub joins : List (ℕ × ℕ)
+  pub place : ℕ
+
+abbrev pub around : List ℕ → List (ℕ × ℕ) → ℕ → Around
+around sets joins place = record { sets = sets; joins = joins; place = place }
+
+-- an inner set, its round, and the place of the child that keeps the pair of these two members
+pub record IsOpening (n : ℕ) (f : Sets) (dist : ℕ → ℕ → ℕ) (x : Forest) (set : ℕ)
+    (r : Around) : Type 0 where
+  pub from : ℕ
+  pub to : ℕ
   pub above : n ≤ set
   pub is_inner : x.place set ≡ inner
   pub empty : f.value set ≡ 0
-  pub around : IsAround n f dist set sets joins
-  pub even : p % 2 ≡ 0
-  pub place : p < length sets
-  pub enters : f.holds (slice_index sets 0) (x.entry set) ≡ true
-  pub leaves : f.holds (slice_index sets p) m0 ≡ true
-  pub exit : IsExit n f x.mate set m0 t0
+  pub ring : IsAround n f dist set r.sets r.joins
+  pub even : r.place % 2 ≡ 0
+  pub place : r.place < length r.sets
+  pub enters : f.holds (slice_index r.sets 0) (x.entry set) ≡ true
+  pub leaves : f.holds (slice_index r.sets r.place) from ≡ true
+  pub exit : IsExit n f x.mate set from to
 
 -- two members become mates
 abbrev pub pair_up : List (Option ℕ) → ℕ × ℕ → List (Option ℕ)

@@ -1,0 +1,7 @@
+-- The states of a stage, and of what stands before and after all stages.
+pub mod Going
+pub mod Nearest
+pub mod Parted
+pub mod Scans
+pub mod Starting
+pub mod Turns
