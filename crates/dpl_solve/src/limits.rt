@@ -63,13 +63,27 @@ pub fn next_limit(limit: u64) -> u64
     (2 * limit).min(FULL_LIMIT)
 }
 
-/// How far a face is from the nearest other marked one.
-fn nearest_of(alloc: Global, dual: &Dual, marks: &[bool], from: u32) -> Result<u64, AllocError>
+/// An even number right beyond a distance.
+fn limit_beyond(far: u64) -> u64
+    ensures { IsLengthLimit result }
+{
+    2 * (far.min(1099511627776) / 2 + 1)
+}
+
+/// How far a face is from the nearest other marked one, by searches that begin with this limit.
+fn nearest_of(
+    alloc: Global,
+    dual: &Dual,
+    marks: &[bool],
+    from: u32,
+    first: u64,
+) -> Result<u64, AllocError>
     requires dual { CameFromDual dual.now }
     requires from { from < dual.now.faces }
+    requires first { IsLengthLimit first }
 {
     let tries: usize = 50;
-    let mut limit: u64 = 4;
+    let mut limit = first;
     for _try in 0..tries {
         let reach = distances_within(alloc, dual, from, limit)?;
         let near = nearest(&reach, marks, limit);
@@ -81,15 +95,17 @@ fn nearest_of(alloc: Global, dual: &Dual, marks: &[bool], from: u32) -> Result<u
     Ok(limit)
 }
 
-/// The greatest distance of a face from the nearest other one of the list.
+/// The greatest distance of a face from the nearest other one of the list. Faces that follow each other
+/// in the list are mostly near each other, and then about as far from others.
 fn farthest(alloc: Global, dual: &Dual, terminals: &[u32]) -> Result<u64, AllocError>
     requires dual { CameFromDual dual.now }
     requires faces { All (λ f. f < dual.now.faces) terminals.now }
 {
     let marks = marks_of(alloc, dual.faces, terminals)?;
+    let mut near: u64 = 0;
     let mut most: u64 = 0;
     for i in 0..terminals.len() {
-        let near = nearest_of(alloc, dual, &marks, terminals[i])?;
+        near = nearest_of(alloc, dual, &marks, terminals[i], limit_beyond(near))?;
         most = most.max(near);
     }
     Ok(most)
@@ -111,13 +127,6 @@ fn is_cheap(alloc: Global, dual: &Dual, terminals: &[u32], limit: u64) -> Result
         }
     }
     Ok(reached <= searches.saturating_mul(terminals.len()))
-}
-
-/// An even number right beyond a distance.
-fn limit_beyond(far: u64) -> u64
-    ensures { IsLengthLimit result }
-{
-    2 * (far.min(1099511627776) / 2 + 1)
 }
 
 /// The limit that is tried first.

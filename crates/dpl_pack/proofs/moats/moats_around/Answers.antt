@@ -3,7 +3,7 @@ use Rattle.std.specs.Prelude.{slice_index}
 use Rattle.dpl_dual.specs.declared.crosses.Dual.{Dual}
 use Rattle.dpl_pack.specs.Stacks.{AreLimited}
 use Rattle.dpl_laminar.specs.Storing.{sets_of}
-use Rattle.dpl_pack.proofs.TableLemmas.{table_rows, table_small}
+use Rattle.dpl_pack.proofs.TableLemmas.{table_members, table_inner, table_small}
 use Rattle.dpl_pack.proofs.MoatLemmas.{terminals_below, IsPart, part_faces, field_of, moats_are}
 use Rattle.dpl_pack.proofs.moats.moats_around.Goals as goal
 
@@ -11,7 +11,10 @@ pub surround-requires-clause-faces : goal.surround-requires-clause-faces
 surround-requires-clause-faces c = terminals_below _ _ c.requires.dual c.requires.terminals
 
 pub surround-requires-clause-members : goal.surround-requires-clause-members
-surround-requires-clause-members c = rw c.deref.ensures.value (table_rows _ _ _ _ c.in_ok-table.ensures.table c.requires.members)
+surround-requires-clause-members c = rw c.deref.ensures.value (table_members _ _ _ _ c.in_ok-table.ensures.table c.requires.members)
+
+pub surround-requires-clause-inner : goal.surround-requires-clause-inner
+surround-requires-clause-inner c = rw c.deref.ensures.value (table_inner _ _ _ c.in_ok-table.ensures.family c.in_ok-table.ensures.table)
 
 pub surround-requires-clause-small : goal.surround-requires-clause-small
 surround-requires-clause-small c = rw c.deref-2.ensures.value (table_small _ _ _ c.in_ok-table.ensures.family c.in_ok-table.ensures.table)
