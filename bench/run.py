@@ -18,6 +18,7 @@ MOST_BYTES = 16_777_216
 MOST_REPORT = 268_435_456
 OPTIONS = ["--layer", "M", "--space", "100", "--overlap", "20"]
 WIDE = ["--layer", "M", "--space", "10000", "--overlap", "20"]
+WIDEST = ["--layer", "M", "--space", "100000", "--overlap", "20"]
 
 
 # ---- texts
@@ -284,6 +285,8 @@ def single():
     yield "the same with 50,000 keep tiles", covered(contacts(40_000, 300), 50_000), [*OPTIONS, "--keep", "K"]
     yield "contacts at space 10,000, refused", contacts_far, WIDE
     yield "random boxes at space 10,000, refused", layout(random_boxes(40_000)), WIDE
+    yield "hanging comb at space 100,000, n = 24500", layout(hanging_comb(24_500)), WIDEST
+    yield "the same, n = 49000", layout(hanging_comb(49_000)), WIDEST
 
 
 def polygons():

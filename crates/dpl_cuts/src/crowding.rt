@@ -1,4 +1,4 @@
-// Tiles with many others near them, most of which need not be looked at.
+// Tiles with many others around them, most of which need not be looked at.
 ghost use Rattle.std.specs.Prelude.{◌≡◌, true, ℕ, ℤ, ◌<◌, ◌≤◌, List, length, All, IfOk, map};
 ghost use Rattle.dpl_limits.specs.declared.TheConstants.{MOST_REACH, MOST_TILES};
 ghost use Rattle.dpl_cell.specs.Places.{Corners, corners_of};
@@ -14,10 +14,10 @@ use crate::freeing::free_stretches;
 use crate::placing::cut_places;
 use crate::positions::lane_of;
 use dpl_cell::Rect;
-use dpl_near::Finder;
+use dpl_near::Surroundings;
 use std::alloc::{AllocError, Global};
 
-/// Of a tile with more near ones than so many it is asked first whether the nearest block all its positions.
+/// Of a tile with more around it than so many it is asked first whether the nearest block all its positions.
 const FEW: usize = 64;
 
 /// Where the tile `i` is cut, ascending. The kept rectangles that share cells with it have these numbers.
@@ -25,7 +25,7 @@ pub fn cuts_of<'a>(
     alloc: Global,
     tiles: &[Rect],
     label: &[u32],
-    finder: &Finder<'a>,
+    finder: &Surroundings<'a>,
     keep: &[Rect],
     kept: &[usize],
     i: usize,
@@ -38,13 +38,17 @@ pub fn cuts_of<'a>(
     requires few { length tiles.now ≤ MOST_TILES }
     requires within { i < length tiles.now }
     requires shapes { (n : ℕ) × AreShapes (map corners_of tiles.now) label.now n }
-    requires finder { finder.now ≡ record { rects = map corners_of tiles.now; reach = space } }
+    requires finder { finder.now ≡ record {
+      rects = map corners_of tiles.now;
+      shape = label.now;
+      reach = space;
+    } }
     requires kept { MayBeKept (map corners_of keep.now) (rect_at (map corners_of tiles.now) i)
         kept.now }
     ensures { IfOk result (λ v. AreCutPlaces (layer_of (map corners_of tiles.now))
         (map corners_of keep.now) space over (rect_at (map corners_of tiles.now) i) v.items) }
 {
-    match finder.few_near(alloc, i as u32, FEW)? {
+    match finder.few_around(alloc, i as u32, FEW)? {
         Some(near) => {
             let near = near.as_slice();
             cut_places(alloc, tiles, label, near, keep, kept, i, space, over)
@@ -53,12 +57,12 @@ pub fn cuts_of<'a>(
     }
 }
 
-/// The same. Many tiles are near.
+/// The same. Many tiles are around it.
 fn cuts_among_many<'a>(
     alloc: Global,
     tiles: &[Rect],
     label: &[u32],
-    finder: &Finder<'a>,
+    finder: &Surroundings<'a>,
     keep: &[Rect],
     kept: &[usize],
     i: usize,
@@ -71,7 +75,11 @@ fn cuts_among_many<'a>(
     requires few { length tiles.now ≤ MOST_TILES }
     requires within { i < length tiles.now }
     requires shapes { (n : ℕ) × AreShapes (map corners_of tiles.now) label.now n }
-    requires finder { finder.now ≡ record { rects = map corners_of tiles.now; reach = space } }
+    requires finder { finder.now ≡ record {
+      rects = map corners_of tiles.now;
+      shape = label.now;
+      reach = space;
+    } }
     requires kept { MayBeKept (map corners_of keep.now) (rect_at (map corners_of tiles.now) i)
         kept.now }
     ensures { IfOk result (λ v. AreCutPlaces (layer_of (map corners_of tiles.now))
@@ -81,7 +89,7 @@ fn cuts_among_many<'a>(
     if shut {
         return Ok(Vec::new(alloc));
     }
-    let near = finder.near(alloc, i as u32)?;
+    let near = finder.around(alloc, i as u32)?;
     let near = near.as_slice();
     cut_places(alloc, tiles, label, near, keep, kept, i, space, over)
 }
@@ -92,7 +100,7 @@ fn is_shut_in<'a>(
     alloc: Global,
     tiles: &[Rect],
     label: &[u32],
-    finder: &Finder<'a>,
+    finder: &Surroundings<'a>,
     i: usize,
     space: u64,
 ) -> Result<bool, AllocError>
@@ -100,14 +108,18 @@ fn is_shut_in<'a>(
     requires few { length tiles.now ≤ MOST_TILES }
     requires within { i < length tiles.now }
     requires shapes { (n : ℕ) × AreShapes (map corners_of tiles.now) label.now n }
-    requires finder { finder.now ≡ record { rects = map corners_of tiles.now; reach = space } }
+    requires finder { finder.now ≡ record {
+      rects = map corners_of tiles.now;
+      shape = label.now;
+      reach = space;
+    } }
     ensures { IfOk result (λ shut. shut ≡ true → (keep : List Corners) (p : ℤ) →
         ¬ IsFree (layer_of (map corners_of tiles.now)) keep space
         (rect_at (map corners_of tiles.now) i) p) }
 {
     let mut reach = 1;
     'wider: while reach < space {
-        let near = finder.nearer(alloc, i as u32, reach)?;
+        let near = finder.around_within(alloc, i as u32, reach)?;
         let shut = are_blocking(alloc, tiles, label, near.as_slice(), i, space)?;
         if shut {
             return Ok(true);

@@ -1,5 +1,5 @@
 -- Stops over items, as they are made and widened.
-use Rattle.std.proofs.Common.{arith, ◌≡◌, ◌≢◌, ℕ, ◌+◌, ◌<◌, ◌≤◌, pos, List, length, get_or, set, length-set, ◌∙◌}
+use Rattle.std.proofs.Common.{arith, None, ◌≡◌, ◌≢◌, ℕ, ◌+◌, ◌<◌, ◌≤◌, pos, List, length, get_or, set, length-set, ◌∙◌}
 use Rattle.std.proofs.Common.{Contains, refl, sym, ap, subst, inl, inr, ◌∷◌, [], ◌++◌, get_or-set_other}
 use Rattle.std.proofs.Common.{get_or-set_same}
 use Rattle.std.proofs.lemmas.Bool.{cases_lt, cases_eq}
@@ -156,4 +156,4 @@ absorb_keeps items stops k stop next new a s = record {
 
 -- a stop where a list has none
 abbrev pub blank : Stop
-blank = record { number = 0; rest = 0; bounds = record { left = pos 0; right = pos 0; low = pos 0; high = pos 0 } }
+blank = record { number = 0; rest = 0; bounds = record { left = pos 0; right = pos 0; low = pos 0; high = pos 0 }; kind = None }

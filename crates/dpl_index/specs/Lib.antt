@@ -1,3 +1,4 @@
 pub mod Holds
+pub mod Kinds
 pub mod Meetings
 pub mod Stops

@@ -39,7 +39,7 @@ impl Index {
     pub fn new(alloc: Global, bounds: Vec<Bounds>) -> Result<Index, NoMemory>
         ensures { IfOk result (λ index. index ≡ bounds.items) }
     {
-        let stops = stops_of(alloc, bounds.as_slice())?;
+        let stops = stops_of(alloc, bounds.as_slice(), &[])?;
         Ok(Index { bounds, stops })
     }
 

@@ -1,15 +1,19 @@
 //! Items by their bounds.
 //!
 //! An `Index` answers which of its items have bounds that meet others: exactly those, by number, ascending. It looks at
-//! few of them, since the bounds of items that lie near one another are taken together.
+//! few of them, since the bounds of items that lie near one another are taken together. A `KindIndex` has a kind for each
+//! item too, and is asked for those of other kinds, and for those of one's own kind within narrower bounds.
 #![tactic(auto)]
 
 mod bounds;
 mod curve;
 mod index;
+mod kinded;
+mod kinds;
 mod order;
 mod stops;
 
 pub use bounds::Bounds;
 pub use index::Index;
+pub use kinded::{Ask, KindIndex};
 pub use std::alloc::AllocError as NoMemory;

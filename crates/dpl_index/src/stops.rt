@@ -1,29 +1,36 @@
-// Stops over items: each has bounds that hold its item and those of the stops right behind it.
+// Stops over items: each has bounds that hold its item and those of the stops right behind it, and their kind if they
+// have one.
 ghost use Rattle.std.specs.Prelude.{◌≡◌, ℕ, ◌+◌, ◌<◌, length, slice_index_or, IfOk};
 ghost use Rattle.dpl_index.specs.declared.stops.Stop.{Stop};
+ghost use Rattle.dpl_index.specs.Kinds.{HasKinds};
 ghost use Rattle.dpl_index.specs.Stops.{IsIndex, NamesAll};
 
 use crate::bounds::{Bounds, around};
 use crate::curve::place_of;
+use crate::kinds::{common, kind_at};
 use std::alloc::{AllocError as NoMemory, Global};
 
-/// An item by its number, and bounds that hold it and the items of the next `rest` stops.
+/// An item by its number, bounds that hold it and the items of the next `rest` stops, and the kind of all these items,
+/// if they have one.
 #[derive(Clone, Copy, Debug)]
 pub struct Stop {
     pub number: usize,
     pub rest: usize,
     pub bounds: Bounds,
+    pub kind: Option<u32>,
 }
 
-/// A stop for each item, so that a walk which leaves out the stops behind one whose bounds are far looks at few.
-pub fn stops_of(alloc: Global, items: &[Bounds]) -> Result<Vec<Stop>, NoMemory>
-    ensures { IfOk result (λ v. IsIndex items.now v.items) }
+/// A stop for each item, so that a walk which leaves out the stops behind one whose bounds are far looks at few. Items
+/// that are given no kind have the kind 0.
+pub fn stops_of(alloc: Global, items: &[Bounds], kinds: &[u32]) -> Result<Vec<Stop>, NoMemory>
+    ensures index { IfOk result (λ v. IsIndex items.now v.items) }
+    ensures kinds { IfOk result (λ v. HasKinds kinds.now v.items) }
 {
     let mut places = places(alloc, items)?;
     sort(&mut places);
-    let mut stops = singles(alloc, items, places.as_slice())?;
+    let mut stops = singles(alloc, items, kinds, places.as_slice())?;
     let sizes = sizes(alloc, places.as_slice())?;
-    gather(items, stops.as_mut_slice(), &sizes);
+    gather(items, kinds, stops.as_mut_slice(), &sizes);
     Ok(stops)
 }
 
@@ -44,10 +51,16 @@ fn sort(places: &mut Vec<(u64, usize)>)
     places.sort_unstable_by_key(|p| p.0);
 }
 
-/// A stop for each place, with the bounds of its item alone.
-fn singles(alloc: Global, items: &[Bounds], places: &[(u64, usize)]) -> Result<Vec<Stop>, NoMemory>
+/// A stop for each place, with the bounds and the kind of its item alone.
+fn singles(
+    alloc: Global,
+    items: &[Bounds],
+    kinds: &[u32],
+    places: &[(u64, usize)],
+) -> Result<Vec<Stop>, NoMemory>
     requires { NamesAll (length items.now) places.now }
-    ensures { IfOk result (λ v. IsIndex items.now v.items) }
+    ensures index { IfOk result (λ v. IsIndex items.now v.items) }
+    ensures kinds { IfOk result (λ v. HasKinds kinds.now v.items) }
 {
     let mut stops = Vec::with_capacity(alloc, places.len())?;
     for p in places {
@@ -56,6 +69,7 @@ fn singles(alloc: Global, items: &[Bounds], places: &[(u64, usize)]) -> Result<V
             number,
             rest: 0,
             bounds: items[number],
+            kind: Some(kind_at(kinds, number)),
         })?;
     }
     Ok(stops)
@@ -108,36 +122,42 @@ fn size_at(sizes: &[usize], k: usize) -> usize {
 }
 
 /// Widens the bounds of the stops, from the last to the first.
-fn gather(items: &[Bounds], stops: &mut [Stop], sizes: &[usize])
+fn gather(items: &[Bounds], kinds: &[u32], stops: &mut [Stop], sizes: &[usize])
     requires index { IsIndex items.now stops.old }
+    requires kinds { HasKinds kinds.now stops.old }
     ensures index { IsIndex items.now stops.new }
+    ensures kinds { HasKinds kinds.now stops.new }
 {
     let mut k = stops.len();
     'back: while k > 0 {
         k -= 1;
-        widen(items, stops, k, size_at(sizes, k));
+        widen(items, kinds, stops, k, size_at(sizes, k));
     }
 }
 
 /// Takes the stops right behind a stop into its bounds, until it holds so many.
-fn widen(items: &[Bounds], stops: &mut [Stop], k: usize, size: usize)
+fn widen(items: &[Bounds], kinds: &[u32], stops: &mut [Stop], k: usize, size: usize)
     requires index { IsIndex items.now stops.old }
+    requires kinds { HasKinds kinds.now stops.old }
     requires within { k < length stops.old }
     ensures index { IsIndex items.now stops.new }
+    ensures kinds { HasKinds kinds.now stops.new }
 {
     let mut rest = stops[k].rest;
     'more: while rest + 1 < size && k + rest + 1 < stops.len() {
-        rest = absorb(items, stops, k);
+        rest = absorb(items, kinds, stops, k);
     }
 }
 
 /// Takes the next stop, with those within its bounds, into the bounds of a stop, and gives how many these then hold
 /// behind it.
-fn absorb(items: &[Bounds], stops: &mut [Stop], k: usize) -> usize
+fn absorb(items: &[Bounds], kinds: &[u32], stops: &mut [Stop], k: usize) -> usize
     requires index { IsIndex items.now stops.old }
+    requires kinds { HasKinds kinds.now stops.old }
     requires within { k < length stops.old }
     requires more { (d : Stop) → k + (slice_index_or stops.old k d).rest + 1 < length stops.old }
     ensures index { IsIndex items.now stops.new }
+    ensures kinds { HasKinds kinds.now stops.new }
     ensures value { (d : Stop) → result ≡ (slice_index_or stops.new k d).rest }
     ensures more { (d : Stop) → (slice_index_or stops.old k d).rest < result }
     ensures low { k + result < length stops.old }
@@ -149,6 +169,7 @@ fn absorb(items: &[Bounds], stops: &mut [Stop], k: usize) -> usize
         number: stop.number,
         rest,
         bounds: around(&stop.bounds, &next.bounds),
+        kind: common(stop.kind, next.kind),
     };
     rest
 }

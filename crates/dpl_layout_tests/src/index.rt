@@ -1,4 +1,4 @@
-use dpl_index::{Bounds, Index, NoMemory};
+use dpl_index::{Ask, Bounds, Index, KindIndex, NoMemory};
 use std::test::Fail;
 
 fn index_of(rt: &HostRuntime, all: &[Bounds]) -> Result<Index, NoMemory> {
@@ -94,6 +94,31 @@ fn only_where_few_are_found(rt: HostRuntime) -> Result<(), Fail> {
         None => assert!(rt; false),
     }
     assert!(rt; index.few_meeting(rt.alloc(), &inner, 3)?.is_none());
+    Ok(())
+}
+
+/// Two squares side by side of one kind, and one of another kind above each of them.
+#[test]
+fn of_other_kinds_and_of_one_kind_nearby(rt: HostRuntime) -> Result<(), Fail> {
+    let all = [
+        bounds((0, 2), (0, 2)),
+        bounds((4, 6), (0, 2)),
+        bounds((0, 2), (4, 6)),
+        bounds((4, 6), (4, 6)),
+    ];
+    let items = Vec::from_slice(rt.alloc(), &all)?;
+    let kinds = Vec::from_slice(rt.alloc(), &[7u32, 7, 8, 9])?;
+    let index = KindIndex::new(rt.alloc(), items, kinds)?;
+    let ask = Ask {
+        near: bounds((-1, 3), (-1, 3)),
+        far: bounds((-3, 5), (-3, 5)),
+        kind: 7,
+    };
+    let mut found = index.asked(rt.alloc(), &ask)?;
+    found.sort_unstable();
+    assert_eq!(rt; found.as_slice(), [0, 2, 3].as_slice());
+    assert!(rt; index.few_asked(rt.alloc(), &ask, 2)?.is_none());
+    assert!(rt; index.few_asked(rt.alloc(), &ask, 3)?.is_some());
     Ok(())
 }
 

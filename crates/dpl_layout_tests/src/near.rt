@@ -1,6 +1,6 @@
 use dpl_cell::Rect;
 use dpl_near::types::Shapes;
-use dpl_near::{Finder, NoMemory, are_apart, shapes};
+use dpl_near::{Finder, NoMemory, Surroundings, are_apart, shapes};
 use std::alloc::Global;
 use std::test::Fail;
 
@@ -96,6 +96,38 @@ fn the_boundary_of_the_reach(rt: HostRuntime) -> Result<(), Fail> {
         Some(few) => assert_eq!(rt; few.as_slice(), [2, 4, 5].as_slice()),
         None => assert!(rt; false),
     }
+    Ok(())
+}
+
+/// Number 1 touches number 0, number 2 is near it and of its shape, number 3 near and of another one, number 4 far.
+#[test]
+fn around_a_rectangle(rt: HostRuntime) -> Result<(), Fail> {
+    let rects = rects_of(
+        &rt,
+        &[
+            (0, 0, 200, 200),
+            (200, 0, 400, 200),
+            (0, 300, 200, 500),
+            (-150, 0, -100, 200),
+            (-900, 0, -800, 200),
+        ],
+    )?;
+    let shape: &[u32] = &[0, 0, 0, 1, 2];
+    assert!(rt; rects.len() == 5);
+    assert!(rt; shape.len() == 5);
+    let finder = Surroundings::new(rt.alloc(), rects.as_slice(), shape, 200)?;
+    let mut near = finder.around(rt.alloc(), 0)?;
+    near.sort_unstable();
+    assert_eq!(rt; near.as_slice(), [1, 3].as_slice());
+    let mut near = finder.around(rt.alloc(), 3)?;
+    near.sort_unstable();
+    assert_eq!(rt; near.as_slice(), [0, 2].as_slice());
+    assert_eq!(rt;
+        finder.around_within(rt.alloc(), 0, 50)?.as_slice(),
+        [1].as_slice()
+    );
+    assert!(rt; finder.few_around(rt.alloc(), 0, 1)?.is_none());
+    assert!(rt; finder.few_around(rt.alloc(), 0, 2)?.is_some());
     Ok(())
 }
 

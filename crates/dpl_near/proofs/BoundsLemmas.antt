@@ -58,7 +58,7 @@ wider_fit r reach h = (
 
 -- ---- what meets the widened bounds may be near
 
-bounds_at : (rects : List Rect) (j : ℕ) (r : Rect) (d : Bounds) (e : Corners) → j < length rects →
+pub bounds_at : (rects : List Rect) (j : ℕ) (r : Rect) (d : Bounds) (e : Corners) → j < length rects →
     get_or (map (λ q. bounds_of (corners_of q)) rects) j d ≡ bounds_of (get_or (map corners_of rects) j e)
 bounds_at rects j r d e l = rw (get_or-map (λ q. bounds_of (corners_of q)) rects j r d l, get_or-map corners_of rects j r e l) refl
 

@@ -1,3 +1,4 @@
+pub mod AroundLemmas
 pub mod NearLemmas
 pub mod BoundsLemmas
 pub mod JoinLemmas

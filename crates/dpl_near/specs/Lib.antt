@@ -1,4 +1,5 @@
 pub mod Near
+pub mod Around
 pub mod Bounds
 pub mod Joins
 pub mod Shapes

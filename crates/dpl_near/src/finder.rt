@@ -121,7 +121,7 @@ fn near_among(
 }
 
 /// Adds a rectangle if it is near another.
-fn push_near(
+pub fn push_near(
     found: &mut Vec<u32>,
     rects: &[Rect],
     reach: u64,

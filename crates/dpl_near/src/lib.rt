@@ -2,7 +2,8 @@
 //!
 //! `joins` gives the pairs of rectangles that share an edge, and `shapes` for each rectangle the number of its shape
 //! too: the class of its cells under walks over shared edges. A `Finder` gives the rectangles that are closer to one of
-//! them than a reach. `are_apart` tells whether no two rectangles share a cell, which `shapes` asks for.
+//! them than a reach, and `Surroundings` those of other shapes and those that touch it. `are_apart` tells whether no two
+//! rectangles share a cell, which `shapes` asks for.
 #![tactic(auto)]
 
 mod apart;
@@ -11,6 +12,7 @@ mod finder;
 mod joining;
 pub mod laws;
 mod shaping;
+mod surroundings;
 pub mod types;
 
 pub use apart::are_apart;
@@ -19,3 +21,4 @@ pub use finder::Finder;
 pub use joining::joins;
 pub use shaping::shapes;
 pub use std::alloc::AllocError as NoMemory;
+pub use surroundings::Surroundings;

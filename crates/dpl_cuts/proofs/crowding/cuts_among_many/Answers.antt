@@ -3,8 +3,8 @@ use Rattle.dpl_cell.specs.Places.{corners_of}
 use Rattle.dpl_cuts.proofs.BlockLemmas.{no_cuts}
 use Rattle.dpl_cuts.proofs.crowding.cuts_among_many.Goals as goal
 
-pub near-requires : goal.near-requires
-near-requires c = rw (c.requires.finder, length-map c.args.tiles.now corners_of) c.requires.within
+pub around-requires : goal.around-requires
+around-requires c = rw (c.requires.finder, length-map c.args.tiles.now corners_of) c.requires.within
 
 pub cut_places-requires-clause-near : goal.cut_places-requires-clause-near
 cut_places-requires-clause-near c = rw (c.as_slice-near.ensures.value, ← c.requires.finder) c.in_ok-near.ensures

@@ -4,11 +4,11 @@ use Rattle.dpl_cell.specs.Places.{Corners, corners_of}
 use Rattle.dpl_cuts.proofs.BlockLemmas.{unblocked}
 use Rattle.dpl_cuts.proofs.crowding.is_shut_in.Goals as goal
 
-pub nearer-requires-clause-within : goal.nearer-requires-clause-within
-nearer-requires-clause-within c = rw (c.requires.finder, length-map c.args.tiles.now corners_of) c.requires.within
+pub around_within-requires-clause-within : goal.around_within-requires-clause-within
+around_within-requires-clause-within c = rw (c.requires.finder, length-map c.args.tiles.now corners_of) c.requires.within
 
-pub nearer-requires-clause-shorter : goal.nearer-requires-clause-shorter
-nearer-requires-clause-shorter c = let h = c.wider-test.true in rw c.requires.finder (omega arith)
+pub around_within-requires-clause-shorter : goal.around_within-requires-clause-shorter
+around_within-requires-clause-shorter c = let h = c.wider-test.true in rw c.requires.finder (omega arith)
 
 pub are_blocking-requires-clause-long : goal.are_blocking-requires-clause-long
 are_blocking-requires-clause-long c = c.requires.shapes.1.long ∙ length-map c.args.tiles.now corners_of

@@ -1,0 +1,199 @@
+-- The kinds of items at their stops, and the walk over the stops for those that are asked for.
+use Rattle.std.proofs.Common.{
+  arith,
+  ◌≡◌,
+  ◌≢◌,
+  ◌⊎◌,
+  ℕ,
+  ◌+◌,
+  ◌<◌,
+  ◌≤◌,
+  List,
+  length,
+  get_or,
+  set,
+  length-set,
+  ◌∙◌,
+  All,
+  Contains,
+  refl,
+  sym,
+  ap,
+  subst,
+  inl,
+  inr,
+  ◌∷◌,
+  [],
+  ◌++◌,
+  Some,
+  get_or-set_other,
+  get_or-set_same,
+}
+use Rattle.std.proofs.lemmas.Bool.{cases_lt, cases_eq}
+use Rattle.std.proofs.lemmas.List.{get_or_default, get_or_append_left, get_or_push, length_push}
+use Rattle.std.proofs.lemmas.List.Elements.{All-push, Contains-push, Contains-append_left}
+use Rattle.dpl_index.specs.declared.bounds.Bounds.{Bounds}
+use Rattle.dpl_index.specs.declared.kinded.Ask.{Ask}
+use Rattle.dpl_index.specs.declared.stops.Stop.{Stop}
+use Rattle.dpl_index.specs.Holds.{Holds}
+use Rattle.dpl_index.specs.Kinds.{Kinded, kind_of, HasKinds, IsAsked, HasAsked, AddsAsked}
+use Rattle.dpl_index.specs.Meetings.{Meets}
+use Rattle.dpl_index.specs.Stops.{IsIndex}
+use Rattle.dpl_index.proofs.StopLemmas.{Absorbs}
+use Rattle.dpl_index.proofs.MeetingLemmas.{meets_outer}
+
+-- ---- a stop for each place
+
+pub record SinglesOf (kinds : List ℕ) (n : ℕ) (stops : List Stop) : Type 0 where
+  pub long : length stops ≡ n
+  pub rest : (k : ℕ) (d : Stop) → k < n → (get_or stops k d).rest ≡ 0
+  pub kind : (k : ℕ) (d : Stop) → k < n → (get_or stops k d).kind ≡ Some (kind_of kinds (get_or stops k d).number)
+
+pub kinds_none : (kinds : List ℕ) → SinglesOf kinds 0 []
+kinds_none kinds = record { long = refl; rest = λ k d l. absurd (omega arith); kind = λ k d l. absurd (omega arith) }
+
+pub kinds_more : (kinds : List ℕ) (n : ℕ) (stops new : List Stop) (s : Stop) → new ≡ stops ++ s ∷ [] → s.rest ≡ 0 →
+    s.kind ≡ Some (kind_of kinds s.number) → SinglesOf kinds n stops → SinglesOf kinds (n + 1) new
+kinds_more kinds n stops new s e rest kind so = rw e (record {
+  long = rw length_push (let l = so.long in omega arith);
+  rest = λ k d l. at k d (λ t. t.rest ≡ 0) l (λ h. so.rest k d h) (λ f. rest);
+  kind = λ k d l. at k d (λ t. t.kind ≡ Some (kind_of kinds t.number)) l (λ h. so.kind k d h) (λ f. kind);
+}) where
+  at : (k : ℕ) (d : Stop) (P : Stop → Type 0) → k < n + 1 → (k < n → P (get_or stops k d)) → (k ≡ n → P s) → P (get_or (stops ++ s ∷ []) k d)
+  at k d P l f g = let long = so.long in elim (cases_lt k n) [
+    | inl h ↦ subst P (sym (get_or_append_left stops (s ∷ []) d k (omega arith))) (f h)
+    | inr h ↦ subst P (sym (get_or_push stops s d k (omega arith))) (g (omega arith))
+  ]
+
+pub same_kind : (a b : ℕ) → Some a ≡ Some b → a ≡ b
+same_kind a b e = cc
+
+pub kinds_all : (kinds : List ℕ) (n : ℕ) (stops : List Stop) → SinglesOf kinds n stops → HasKinds kinds stops
+kinds_all kinds n stops so = let long = so.long in record {
+  one = λ k m d kind l low high e. let r = so.rest k d (omega arith) in let f : m ≡ k = omega arith in
+      rw f (same_kind _ _ (sym (so.kind k d (omega arith)) ∙ e));
+}
+
+-- ---- a stop takes in the next
+
+pub kinds_absorbed : (kinds : List ℕ) (stops : List Stop) (k : ℕ) (stop next new : Stop) →
+    Absorbs stops k stop next new → ((kind : ℕ) → new.kind ≡ Some kind → stop.kind ≡ Some kind) →
+    ((kind : ℕ) → new.kind ≡ Some kind → next.kind ≡ Some kind) → HasKinds kinds stops →
+    HasKinds kinds (set stops k new)
+kinds_absorbed kinds stops k stop next new a first second s = record {
+  one = λ j m d kind l low high e. rw (same_number m d) (one j m d kind (shorter j l) low high e);
+} where
+  within : k < length stops
+  within = let m = a.more in omega arith
+
+  shorter : (m : ℕ) → m < length (set stops k new) → m < length stops
+  shorter m l = let e = length-set stops k new in omega arith
+
+  at : (m : ℕ) (d : Stop) (P : Stop → Type 0) → (m ≡ k → P new) → (m ≢ k → P (get_or stops m d)) → P (get_or (set stops k new) m d)
+  at m d P f g = elim (cases_eq m k) [
+    | inl e ↦ let Q : ℕ → Type 0 = λ j. P (get_or (set stops k new) j d) in subst Q (sym e) (subst P (sym (get_or-set_same stops k new d within)) (f e))
+    | inr n ↦ subst P (sym (get_or-set_other stops k m new d n)) (g n)
+  ]
+
+  same_number : (m : ℕ) (d : Stop) → (get_or (set stops k new) m d).number ≡ (get_or stops m d).number
+  same_number m d = at m d (λ t. t.number ≡ (get_or stops m d).number)
+      (λ e. a.number ∙ ap (λ (t : Stop). t.number) (sym (a.stop_is d) ∙ ap (λ j. get_or stops j d) (sym e))) (λ n. refl)
+
+  here : (m : ℕ) (d : Stop) (kind : ℕ) → k ≤ m → m ≤ k + new.rest → new.kind ≡ Some kind → kind_of kinds (get_or stops m d).number ≡ kind
+  here m d kind low high e = let r = a.rest in elim (cases_lt m (k + stop.rest + 1)) [
+    | inl h ↦ let f = ap (λ (t : Stop). t.rest) (a.stop_is d) in
+        s.one k m d kind within low (omega arith) (ap (λ (t : Stop). t.kind) (a.stop_is d) ∙ first kind e)
+    | inr h ↦ let f = ap (λ (t : Stop). t.rest) (a.next_is d) in
+        s.one (k + stop.rest + 1) m d kind a.more h (omega arith) (ap (λ (t : Stop). t.kind) (a.next_is d) ∙ second kind e)
+  ]
+
+  one : (j m : ℕ) (d : Stop) (kind : ℕ) → j < length stops → j ≤ m → m ≤ j + (get_or (set stops k new) j d).rest →
+      (get_or (set stops k new) j d).kind ≡ Some kind → kind_of kinds (get_or stops m d).number ≡ kind
+  one j m d kind l low = at j d (λ t. m ≤ j + t.rest → t.kind ≡ Some kind → kind_of kinds (get_or stops m d).number ≡ kind)
+      (λ e high f. here m d kind (omega arith) (omega arith) f) (λ n high f. s.one j m d kind l low high f)
+
+-- ---- the walk
+
+-- those that are asked for at the stops before a place are found
+pub record Asked (x : Kinded) (ask : Ask) (stops : List Stop) (at : ℕ) (found : List ℕ) : Type 0 where
+  pub each : All (λ i. i < length x.items) found
+  pub all : (m : ℕ) (d : Stop) → m < at → m < length stops → IsAsked x ask (get_or stops m d).number → Contains found (get_or stops m d).number
+
+pub asked_begins : (x : Kinded) (ask : Ask) (stops : List Stop) → Asked x ask stops 0 []
+asked_begins x ask stops = record { each = λ k d l. absurd (omega arith); all = λ m d l. absurd (omega arith) }
+
+-- a stop is looked at
+pub asked_on : (x : Kinded) (ask : Ask) (stops : List Stop) (at : ℕ) (found new : List ℕ) (stop : Stop) →
+    ((d : Stop) → get_or stops at d ≡ stop) → stop.number < length x.items → AddsAsked x ask stop.number found new →
+    Asked x ask stops at found → Asked x ask stops (at + 1) new
+asked_on x ask stops at found new stop is inside (inl e) w = rw e (record {
+  each = All-push (λ i. i < length x.items) found stop.number w.each inside;
+  all = λ m d l h n. elim (cases_lt m at) [
+    | inl g ↦ Contains-append_left found (stop.number ∷ []) _ (w.all m d g h n)
+    | inr g ↦ let f : m ≡ at = omega arith in rw (f, is d) (Contains-push found stop.number)
+  ];
+})
+asked_on x ask stops at found new stop is inside (inr (none, e)) w = rw e (record {
+  each = w.each;
+  all = λ m d l h n. elim (cases_lt m at) [
+    | inl g ↦ w.all m d g h n
+    | inr g ↦ let f : m ≡ at = omega arith in let P : Stop → Type 0 = λ t. IsAsked x ask t.number in
+        absurd (none (subst P (ap (λ j. get_or stops j d) f ∙ is d) n))
+  ];
+})
+
+-- the stops that hold nothing of what is asked for are left out
+pub asked_past : (x : Kinded) (ask : Ask) (stops : List Stop) (at : ℕ) (found : List ℕ) (stop : Stop) →
+    ((d : Stop) → get_or stops at d ≡ stop) → at < length stops →
+    (¬ Meets stop.bounds ask.far) ⊎ ((stop.kind ≡ Some ask.kind) × (¬ Meets stop.bounds ask.near)) →
+    IsIndex x.items stops → HasKinds x.kinds stops → Asked x ask stops at found →
+    Asked x ask stops (at + stop.rest + 1) found
+asked_past x ask stops at found stop is within none i k w = record {
+  each = w.each;
+  all = λ m d h l n. elim (cases_lt m at) [
+    | inl g ↦ w.all m d g l n
+    | inr g ↦ absurd (not_asked m d g h n)
+  ];
+} where
+  outer : (m : ℕ) (d : Stop) → at ≤ m → m < at + stop.rest + 1 → Holds stop.bounds (get_or x.items (get_or stops m d).number stop.bounds)
+  outer m d low high = let r : (get_or stops at d).rest ≡ stop.rest = ap (λ (t : Stop). t.rest) (is d) in
+      rw (is d) at (i.covers at m d stop.bounds within low (omega arith))
+
+  own : (m : ℕ) (d : Stop) → at ≤ m → m < at + stop.rest + 1 → stop.kind ≡ Some ask.kind → kind_of x.kinds (get_or stops m d).number ≡ ask.kind
+  own m d low high e = let r : (get_or stops at d).rest ≡ stop.rest = ap (λ (t : Stop). t.rest) (is d) in
+      k.one at m d ask.kind within low (omega arith) (ap (λ (t : Stop). t.kind) (is d) ∙ e)
+
+  not_asked : (m : ℕ) (d : Stop) → at ≤ m → m < at + stop.rest + 1 → ¬ IsAsked x ask (get_or stops m d).number
+  not_asked m d low high n = elim none [
+    | inl far ↦ far (meets_outer _ _ ask.far (outer m d low high) (n.far stop.bounds))
+    | inr (e, near) ↦ elim n.near [
+      | inl other ↦ other (own m d low high e)
+      | inr meets ↦ near (meets_outer _ _ ask.near (outer m d low high) (meets stop.bounds))
+    ]
+  ]
+
+some_of : (stops : List Stop) (k : ℕ) → k < length stops → Stop
+some_of [] k l = absurd (omega arith)
+some_of (s ∷ ss) k l = s
+
+pub asked_ends : (x : Kinded) (ask : Ask) (stops : List Stop) (at : ℕ) (found : List ℕ) → length stops ≤ at →
+    IsIndex x.items stops → Asked x ask stops at found → HasAsked x ask found
+asked_ends x ask stops at found whole i w = record {
+  each = w.each;
+  all = λ j n. let (k, l, e) = i.all j n.within in all_at j n k l e;
+} where
+  all_at : (j : ℕ) → IsAsked x ask j → (k : ℕ) → k < length stops → ((d : Stop) → (get_or stops k d).number ≡ j) → Contains found j
+  all_at j n k l e =
+      let d : Stop = some_of stops k l in
+      let P : ℕ → Type 0 = IsAsked x ask in
+      let Q : ℕ → Type 0 = Contains found in
+      subst Q (e d) (w.all k d (omega arith) l (subst P (sym (e d)) n))
+
+-- ---- one item
+
+pub asked_not_far : (x : Kinded) (ask : Ask) (i : ℕ) (b : Bounds) → b ≡ get_or x.items i b → ¬ Meets b ask.far → ¬ IsAsked x ask i
+asked_not_far x ask i b e none n = none (rw (← e) at (n.far b))
+
+pub asked_not_near : (x : Kinded) (ask : Ask) (i : ℕ) (b : Bounds) → b ≡ get_or x.items i b →
+    kind_of x.kinds i ≡ ask.kind → ¬ Meets b ask.near → ¬ IsAsked x ask i
+asked_not_near x ask i b e own none n = elim n.near [ inl other ↦ other own | inr meets ↦ none (rw (← e) at (meets b)) ]

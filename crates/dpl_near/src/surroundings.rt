@@ -1,0 +1,189 @@
+// Rectangles of shapes: what is near of other shapes, and what touches.
+ghost use Rattle.std.specs.Prelude.{◌≡◌, ℕ, ◌≤◌, ◌<◌, length, IfOk, map};
+ghost use Rattle.dpl_limits.specs.declared.TheConstants.{MOST_REACH, MOST_TILES};
+ghost use Rattle.dpl_index.specs.Meetings.{Meets};
+ghost use Rattle.dpl_cell.specs.Places.{Corners, corners_of};
+ghost use Rattle.dpl_cell.specs.Cells.{IsIn};
+ghost use Rattle.dpl_cell.specs.Gaps.{AreClose};
+ghost use Rattle.dpl_near.specs.Around.{AreAround, MayBeAround};
+ghost use Rattle.dpl_near.specs.Bounds.{bounds_of};
+
+use crate::bounds::{all_bounds, within_reach};
+use crate::finder::push_near;
+use dpl_cell::Rect;
+use dpl_index::{Ask, KindIndex};
+use std::alloc::{AllocError as NoMemory, Global};
+use std::marker::Model;
+
+/// Finds what stands around one of some rectangles, whose shapes are known. Of its own shape only what touches it is
+/// found, so a large shape costs no more than its edges.
+#[derive(Drop)]
+pub struct Surroundings<'a> {
+    rects: &'a [Rect],
+    shape: &'a [u32],
+    reach: u64,
+    index: KindIndex,
+}
+
+impl<'a> Model for Surroundings<'a> {
+    ghost use Rattle.std.specs.Prelude.{◌≡◌, ℕ, ◌≤◌, length, map};
+    ghost use Rattle.dpl_limits.specs.declared.TheConstants.{MOST_REACH, MOST_TILES};
+    ghost use Rattle.dpl_cell.specs.Places.{corners_of};
+    ghost use Rattle.dpl_near.specs.Around.{Shaped};
+    ghost use Rattle.dpl_near.specs.Bounds.{bounds_of};
+
+    ghost Value = { Shaped };
+
+    ghost view = { λ f. record {
+      rects = map corners_of f.rects.now;
+      shape = f.shape.now;
+      reach = f.reach;
+    } };
+
+    ghost invariant = { λ f. record {
+      few : length f.rects.now ≤ MOST_TILES;
+      near : f.reach ≤ MOST_REACH;
+      long : length f.shape.now ≡ length f.rects.now;
+      bounds : f.index ≡ record {
+        items = map (λ r. bounds_of (corners_of r)) f.rects.now;
+        kinds = f.shape.now;
+      };
+    } };
+}
+
+impl<'a> Surroundings<'a> {
+    ghost use Rattle.std.specs.Prelude.{◌≡◌, ℕ, ◌≤◌, ◌<◌, length, IfOk, IfSome, map};
+    ghost use Rattle.dpl_limits.specs.declared.TheConstants.{MOST_REACH, MOST_TILES};
+    ghost use Rattle.dpl_cell.specs.Places.{corners_of};
+    ghost use Rattle.dpl_near.specs.Around.{AreAround, Shaped};
+
+    /// A finder over these rectangles, which are of these shapes. `reach` is in grid units.
+    pub fn new(
+        alloc: Global,
+        rects: &'a [Rect],
+        shape: &'a [u32],
+        reach: u64,
+    ) -> Result<Surroundings<'a>, NoMemory>
+        requires few { length rects.now ≤ MOST_TILES }
+        requires long { length shape.now ≡ length rects.now }
+        requires near { reach ≤ MOST_REACH }
+        ensures { IfOk result (λ s. s ≡
+            record { rects = map corners_of rects.now; shape = shape.now; reach = reach }) }
+    {
+        let bounds = all_bounds(alloc, rects)?;
+        let kinds = Vec::from_slice(alloc, shape)?;
+        let index = KindIndex::new(alloc, bounds, kinds)?;
+        Ok(Surroundings {
+            rects,
+            shape,
+            reach,
+            index,
+        })
+    }
+
+    /// What stands around the rectangle `i`.
+    pub fn around(&self, alloc: Global, i: u32) -> Result<Vec<u32>, NoMemory>
+        requires { i < length self.now.rects }
+        ensures { IfOk result (λ v. AreAround self.now i v.items) }
+    {
+        let i = i as usize;
+        let ask = ask_around(&self.rects[i], self.shape[i], self.reach);
+        let found = self.index.asked(alloc, &ask)?;
+        let near = close_among(
+            alloc,
+            self.rects,
+            self.shape,
+            self.reach,
+            i,
+            found.as_slice(),
+        )?;
+        Ok(near)
+    }
+
+    /// The same, or `None` where more than `most` may be.
+    pub fn few_around(
+        &self,
+        alloc: Global,
+        i: u32,
+        most: usize,
+    ) -> Result<Option<Vec<u32>>, NoMemory>
+        requires { i < length self.now.rects }
+        ensures { IfOk result (λ few. IfSome few (λ v. AreAround self.now i v.items)) }
+    {
+        let i = i as usize;
+        let ask = ask_around(&self.rects[i], self.shape[i], self.reach);
+        match self.index.few_asked(alloc, &ask, most)? {
+            None => Ok(None),
+            Some(found) => {
+                let found = found.as_slice();
+                let near = close_among(alloc, self.rects, self.shape, self.reach, i, found)?;
+                Ok(Some(near))
+            }
+        }
+    }
+
+    /// What stands around the rectangle `i` within another reach.
+    pub fn around_within(&self, alloc: Global, i: u32, reach: u64) -> Result<Vec<u32>, NoMemory>
+        requires within { i < length self.now.rects }
+        requires shorter { reach ≤ self.now.reach }
+        ensures { IfOk result (λ v. AreAround (record {
+          rects = self.now.rects;
+          shape = self.now.shape;
+          reach = reach;
+        }) i v.items) }
+    {
+        let i = i as usize;
+        let ask = ask_around(&self.rects[i], self.shape[i], reach);
+        let found = self.index.asked(alloc, &ask)?;
+        let near = close_among(alloc, self.rects, self.shape, reach, i, found.as_slice())?;
+        Ok(near)
+    }
+}
+
+/// What is asked for around a rectangle of a shape: what meets it widened by the reach, and of its own shape by one.
+fn ask_around(rect: &Rect, shape: u32, reach: u64) -> Ask
+    requires { reach ≤ MOST_REACH }
+    ensures kind { result.kind ≡ shape }
+    ensures near { (other : Corners) →
+        AreClose (IsIn (corners_of rect.now)) (IsIn other) 1 → Meets (bounds_of other) result.near }
+    ensures far { (other : Corners) →
+        AreClose (IsIn (corners_of rect.now)) (IsIn other) reach → Meets (bounds_of other) result.far }
+{
+    let near = within_reach(rect, 1);
+    let far = within_reach(rect, reach);
+    Ask {
+        near,
+        far,
+        kind: shape,
+    }
+}
+
+/// The rectangles around one, among those that may be.
+fn close_among(
+    alloc: Global,
+    rects: &[Rect],
+    shape: &[u32],
+    reach: u64,
+    i: usize,
+    found: &[usize],
+) -> Result<Vec<u32>, NoMemory>
+    requires few { length rects.now ≤ MOST_TILES }
+    requires near { reach ≤ MOST_REACH }
+    requires within { i < length rects.now }
+    requires found { MayBeAround (record {
+      rects = map corners_of rects.now;
+      shape = shape.now;
+      reach = reach;
+    }) i found.now }
+    ensures { IfOk result (λ v. AreAround (record {
+      rects = map corners_of rects.now;
+      shape = shape.now;
+      reach = reach;
+    }) i v.items) }
+{
+    let mut near = Vec::with_capacity(alloc, found.len())?;
+    for j in found {
+        push_near(&mut near, rects, reach, i, *j)?;
+    }
+    Ok(near)
+}
