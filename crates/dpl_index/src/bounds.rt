@@ -1,3 +1,4 @@
+// Ranges of columns and rows that bound items: whether they meet or hold others.
 ghost use Rattle.std.specs.Prelude.{◌↔◌, ℤ, ◌≤ℤ◌, IsTrue};
 ghost use Rattle.dpl_index.specs.Meetings.{Meets};
 ghost use Rattle.dpl_index.specs.Holds.{Holds};

@@ -1,3 +1,4 @@
+// The curve of Morton through the plane, along which items near one another come together.
 use crate::bounds::Bounds;
 
 /// The place of the middle of bounds on the curve of Morton: the bits of its column and of its row by turns. Places that

@@ -1,3 +1,4 @@
+// Items found by their bounds.
 ghost use Rattle.std.specs.Prelude.{ℕ, ◌<◌, ◌≤◌, length, IfOk, OnOk, MatchOption};
 ghost use Rattle.dpl_index.specs.Meetings.{AddsMeeting, HasMeeting, IsHolding};
 ghost use Rattle.dpl_index.specs.Stops.{IsIndex};

@@ -1,3 +1,4 @@
+// Items found by their bounds and their kinds.
 ghost use Rattle.std.specs.Prelude.{◌≡◌, ◌⊎◌, false, ℕ, ◌<◌, ◌≤◌, length, IfOk, OnOk, Some};
 ghost use Rattle.dpl_index.specs.Kinds.{AddsAsked, HasAsked, HasKinds};
 ghost use Rattle.dpl_index.specs.Meetings.{Meets};

@@ -1,3 +1,4 @@
+// Numbers of items in order.
 ghost use Rattle.std.specs.Prelude.{◌↔◌, ℕ, ◌<◌, AllPairs, Contains};
 
 /// Puts numbers into ascending order, each once.

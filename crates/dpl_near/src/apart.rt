@@ -1,3 +1,4 @@
+// Whether rectangles share no cell.
 ghost use Rattle.std.specs.Prelude.{◌↔◌, AllPairs, IsTrue, map};
 ghost use Rattle.dpl_cell.specs.Places.{corners_of};
 ghost use Rattle.dpl_cell.specs.Cells.{AreApart};

@@ -1,3 +1,4 @@
+// The bounds of rectangles, and bounds that those of all rectangles near one meet.
 ghost use Rattle.std.specs.Prelude.{◌≡◌, ◌≤◌, IfOk, map};
 ghost use Rattle.dpl_limits.specs.declared.TheConstants.{MOST_REACH};
 ghost use Rattle.dpl_index.specs.Meetings.{Meets};

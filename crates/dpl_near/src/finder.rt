@@ -1,3 +1,4 @@
+// Rectangles near one of them, of whatever shapes.
 ghost use Rattle.std.specs.Prelude.{ℕ, ◌≤◌, ◌<◌, length, IfOk, OnOk, map};
 ghost use Rattle.dpl_limits.specs.declared.TheConstants.{MOST_REACH, MOST_TILES};
 ghost use Rattle.dpl_cell.specs.Places.{corners_of};

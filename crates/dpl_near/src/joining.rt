@@ -1,3 +1,4 @@
+// Pairs of rectangles that share an edge.
 ghost use Rattle.std.specs.Prelude.{ℕ, ◌+◌, ◌≤◌, ◌<◌, length, AllPairs, IfOk, OnOk, map};
 ghost use Rattle.dpl_limits.specs.declared.TheConstants.{MOST_TILES};
 ghost use Rattle.dpl_cell.specs.Places.{corners_of};

@@ -1,3 +1,5 @@
+//! What holds of shapes, said without the steps that find them.
+
 ghost use Rattle.std.specs.Prelude.{◌≡◌, ℕ, List, map};
 ghost use Rattle.dpl_cell.specs.Places.{corners_of};
 ghost use Rattle.dpl_near.specs.Shapes.{AreShapes};

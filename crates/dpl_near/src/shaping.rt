@@ -1,3 +1,4 @@
+// The shapes of rectangles: their classes under shared edges.
 ghost use Rattle.std.specs.Prelude.{ℕ, ◌≤◌, length, AllPairs, IfOk, map};
 ghost use Rattle.dpl_limits.specs.declared.TheConstants.{MOST_TILES};
 ghost use Rattle.dpl_cell.specs.Places.{corners_of};
