@@ -17,6 +17,7 @@ pub struct Places {
     pub to: usize,
 }
 
+/// The lesser of two numbers.
 pub fn lesser(a: i64, b: i64) -> i64
     ensures first { result ≤ℤ a }
     ensures second { result ≤ℤ b }
@@ -25,6 +26,7 @@ pub fn lesser(a: i64, b: i64) -> i64
     if a < b { a } else { b }
 }
 
+/// The greater of two numbers.
 pub fn greater(a: i64, b: i64) -> i64
     ensures first { a ≤ℤ result }
     ensures second { b ≤ℤ result }

@@ -1,3 +1,4 @@
+// The cells of a polygon in one row: they lie between its sides, taken in pairs.
 ghost use Rattle.std.specs.Prelude.{◌≡◌, OnOk, ◌==◌, ◌%◌, length, All};
 ghost use Rattle.dpl_cell.specs.Ranges.{IsInRange};
 ghost use Rattle.dpl_list.specs.Order.{Ascends};

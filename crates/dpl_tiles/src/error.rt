@@ -1,3 +1,4 @@
+// Why a layout has no tiles.
 use std::alloc::{AllocError, AllocFailed};
 use thiserror::Error;
 

@@ -20,6 +20,7 @@ impl Finder {
     ghost use Rattle.std.specs.Prelude.{IfOk};
     ghost use Rattle.dpl_tiles.specs.Finders.{IsFinderOf};
 
+    /// A finder over these primitives, with the sides of each. `AllocError` where memory runs out.
     pub fn new(alloc: Global, prims: &[Prim]) -> Result<Finder, AllocError>
         ensures { IfOk result (λ finder. IsFinderOf prims.now finder) }
     {

@@ -1,3 +1,4 @@
+// What holds of the tiles of a layout, said without the steps that find them.
 ghost use Rattle.std.specs.Prelude.{List};
 ghost use Rattle.dpl_cell.specs.Places.{Corners};
 ghost use Rattle.dpl_cell.specs.Layers.{cells_of};

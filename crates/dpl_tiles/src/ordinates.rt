@@ -1,3 +1,4 @@
+// The rows at which the corners of primitives stand. Rows between neighbours have the same cells.
 ghost use Rattle.std.specs.Prelude.{◌≡◌, ℤ, IfOk, OnOk, All};
 ghost use Rattle.dpl_cell.specs.declared.layout.Primitive.TheVariants as prim;
 ghost use Rattle.dpl_cell.specs.Ranges.{IsInRange};

@@ -1,3 +1,4 @@
+// The cells of primitives in one row, as stretches.
 ghost use Rattle.std.specs.Prelude.{◌≡◌, ℤ, ◌≤ℤ◌, IfOk, OnOk, ◌||◌, All};
 ghost use Rattle.dpl_cell.specs.Places.{corners_of};
 ghost use Rattle.dpl_cell.specs.Outlines.{outline_of};
@@ -44,6 +45,7 @@ fn push_box(parts: &mut Vec<Stretch>, r: &Rect, y: i64) -> Result<(), AllocError
     Ok(())
 }
 
+/// Puts stretches in the order of their first places. They hold the same places as before.
 pub fn sort(parts: &mut Vec<Stretch>)
     ensures same { (x : ℤ) → is_in_stretches parts.new.items x ≡ is_in_stretches parts.old.items x }
     ensures sorted { Ascends (λ s. s.from) parts.new.items }

@@ -1,3 +1,4 @@
+// A side of a polygon as a value.
 ghost use Rattle.std.specs.Prelude.{ℤ, pos, neg_ℤ, ◌≤ℤ◌};
 ghost use Rattle.dpl_limits.specs.Limits.{most_coordinate};
 

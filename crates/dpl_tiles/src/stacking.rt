@@ -1,3 +1,4 @@
+// Runs and stacks found by their columns.
 ghost use Rattle.std.specs.Prelude.{AllPairs, Any, MatchOption};
 ghost use Rattle.dpl_tiles.specs.Bands.{HasColumns, IsLeftOf};
 ghost use Rattle.dpl_tiles.specs.Stacks.{IsPlaceOf};

@@ -1,3 +1,4 @@
+// From the primitives of a layout to its tiles, from the lowest row up.
 ghost use Rattle.std.specs.Prelude.{◌≡◌, ◌⊎◌, ◌≤◌, ◌-◌, ◌≤ℤ◌, pos, slice_index_or, All, AllPairs, IsPermutation, IfOk, length, map};
 ghost use Rattle.dpl_limits.specs.Limits.{most_coordinate};
 ghost use Rattle.dpl_limits.specs.declared.TheConstants.{MOST_TILES};
