@@ -34,6 +34,7 @@ impl<'a> Keeper<'a> {
     ghost use Rattle.dpl_cell.specs.Places.{corners_of};
     ghost use Rattle.dpl_cuts.specs.Blocks.{MayBeKept};
 
+    /// A keeper of these rectangles, which may overlap. `AllocError` where memory runs out.
     pub fn new(alloc: Global, rects: &'a [Rect]) -> Result<Keeper<'a>, AllocError>
         ensures { IfOk result (λ k. k ≡ map corners_of rects.now) }
     {
