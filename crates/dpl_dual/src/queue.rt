@@ -163,6 +163,7 @@ impl Model for Waiting {
 }
 
 impl Waiting {
+    /// No label waits yet.
     pub fn new(alloc: Global) -> Waiting
         ensures { result ≡ [] }
     {

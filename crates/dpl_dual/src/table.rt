@@ -96,6 +96,7 @@ impl Model for Table {
 }
 
 impl Table {
+    /// A table of no reached faces.
     pub fn new(alloc: Global) -> Table
         ensures { (f : ℕ) → reach_at result f ≡ None }
     {
@@ -105,6 +106,7 @@ impl Table {
         }
     }
 
+    /// How a face is reached, or `None` where it is not.
     pub fn get(&self, face: u32) -> Option<Reach>
         ensures { result ≡ reach_at self.now face }
     {

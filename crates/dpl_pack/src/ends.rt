@@ -20,6 +20,7 @@ impl Model for Ends {
 }
 
 impl Ends {
+    /// A list of no members.
     pub fn new(alloc: Global) -> Ends
         ensures { result ≡ [] }
     {
@@ -28,6 +29,7 @@ impl Ends {
         }
     }
 
+    /// Adds a member and its values at the end. `AllocError` where memory runs out.
     pub fn push(&mut self, end: (u32, u64)) -> Result<(), AllocError>
         ensures { OnOk result (self.new ≡ self.old ++ end ∷ []) }
     {
@@ -35,6 +37,7 @@ impl Ends {
         Ok(())
     }
 
+    /// The members with their values, in the order in which they were added.
     pub fn as_slice(&self) -> &[(u32, u64)]
         ensures { result.now ≡ self.now }
     {
