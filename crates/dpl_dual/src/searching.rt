@@ -38,6 +38,21 @@ pub fn has_length(search: &Search, face: u32, length: u64) -> bool
     }
 }
 
+/// Gives a face another label, whose ways are not to be tried.
+pub fn note(search: &mut Search, face: u32, reach: Reach, known: bool) -> Result<(), AllocError>
+    requires { known ≡ is_some (labels search.old face) }
+    ensures label { OnOk result (IsLabelled (labels search.old) (labels search.new) face reach) }
+    ensures reached { OnOk result (AreReachedAlso (labels search.old face) face
+        search.old.reached.items search.new.reached.items) }
+    ensures queue { search.new.queue ≡ search.old.queue }
+{
+    search.table.insert(face, reach)?;
+    if !known {
+        search.reached.push(face)?;
+    }
+    Ok(())
+}
+
 /// Gives a face another label, over a way of this length.
 pub fn label(
     search: &mut Search,
@@ -53,11 +68,7 @@ pub fn label(
     ensures queue { OnOk result (WaitsAlso reach.length face search.old search.new) }
 {
     search.queue.push(way, (reach.length, face))?;
-    search.table.insert(face, reach)?;
-    if !known {
-        search.reached.push(face)?;
-    }
-    Ok(())
+    note(search, face, reach, known)
 }
 
 /// A search that has reached the first face alone.
