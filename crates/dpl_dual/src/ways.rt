@@ -1,3 +1,4 @@
+// A row of the dual: the ways at one face.
 ghost use Rattle.std.specs.Prelude.{◌≡◌, ◌++◌, ◌∷◌, [], OnOk};
 
 use crate::crosses::Cross;
@@ -20,6 +21,7 @@ impl Model for Ways {
 }
 
 impl Ways {
+    /// No ways.
     pub fn new(alloc: Global) -> Ways
         ensures { result ≡ [] }
     {
@@ -28,6 +30,7 @@ impl Ways {
         }
     }
 
+    /// Puts a way behind the others.
     pub fn push(&mut self, way: Cross) -> Result<(), AllocError>
         ensures { OnOk result (self.new ≡ self.old ++ way ∷ []) }
     {
@@ -35,6 +38,7 @@ impl Ways {
         Ok(())
     }
 
+    /// The ways, in the order in which they were put in.
     pub fn as_slice(&self) -> &[Cross]
         ensures { result.now ≡ self.now }
     {
