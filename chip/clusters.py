@@ -9,11 +9,16 @@ MANY = 1 << 22
 def clusters(boxes, space):
     """A number for each box, the same for all boxes of a cluster: the place of its first box."""
     roots = numpy.arange(len(boxes))
+    for first, second in close(boxes, space):
+        join(roots, first, second)
+    return roots
+
+
+def close(boxes, space):
+    """The pairs of boxes that are nearer than the spacing along both axes, some of them more than once."""
     if len(boxes):
         along, up = Rows(boxes, 0, space), Rows(boxes, 1, space)
-        for first, second in (along if along.many() < up.many() else up).close():
-            join(roots, first, second)
-    return roots
+        yield from (along if along.many() < up.many() else up).close()
 
 
 def join(roots, first, second):

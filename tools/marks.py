@@ -32,7 +32,7 @@ class Mark(NamedTuple):
     lines: list
 
 
-def marks(report, kinds=KINDS, divide=1):
+def marks(report, kinds=KINDS, divide=1, edges_of=edges_of):
     """All marks of these kinds, kind by kind; what they say of lengths is made smaller by `divide`."""
     edges = edges_of(report) if {"aside", "cycle"} & set(kinds) else None
     of = {
@@ -142,15 +142,26 @@ def values(mark, divide):
             yield f"path: ({';'.join(microns(point, divide) for point in points)}) w=0 bx=0 ex=0 r=false"
 
 
-def database(found, cell, said, divide=1):
-    """The lines of a marker database with the marks, in a cell, `said` being what it says of itself."""
+def item(mark, cell, divide=1):
+    lines = "".join(f"<value>{escape(line)}</value>" for line in values(mark, divide))
+    return f"<item><category>{mark.kind}</category><cell>{escape(cell)}</cell><values>{lines}</values></item>"
+
+
+def head(cell, said, kinds=KINDS):
+    """The lines before the items of a database; kinds are told with what they mean."""
     yield '<?xml version="1.0" encoding="utf-8"?>'
     yield f"<report-database><description>{escape(said)}</description><generator>dpl</generator>"
     yield f"<top-cell>{escape(cell)}</top-cell><categories>"
-    for kind, meaning in KINDS.items():
+    for kind, meaning in kinds.items():
         yield f"<category><name>{kind}</name><description>{escape(meaning)}</description></category>"
     yield f"</categories><cells><cell><name>{escape(cell)}</name></cell></cells><items>"
-    for mark in found:
-        lines = "".join(f"<value>{escape(line)}</value>" for line in values(mark, divide))
-        yield f"<item><category>{mark.kind}</category><cell>{escape(cell)}</cell><values>{lines}</values></item>"
-    yield "</items></report-database>"
+
+
+END = "</items></report-database>"
+
+
+def database(found, cell, said, divide=1):
+    """The lines of a marker database with the marks, in a cell, `said` being what it says of itself."""
+    yield from head(cell, said)
+    yield from (item(mark, cell, divide) for mark in found)
+    yield END

@@ -12,7 +12,7 @@ from typing import NamedTuple
 from cif import Unreadable
 
 HEADS = (b"(dpl 1);\n", b"(dpl 2);\n")
-BOX = re.compile(rb"^B (\d+) (\d+) (-?\d+) (-?\d+);$")
+BOX = re.compile(rb"^B (\d+) (\d+) (-?\d+) (-?\d+);$", re.MULTILINE)
 
 
 class Cut(NamedTuple):
@@ -56,21 +56,15 @@ class Report:
             raise Unreadable("this is no report of dpl: its first line is not (dpl 2);")
         self.values, self.cuts, self.clashes, self.aside, self.cycles = {}, [], [], [], []
         self.layer = self.keep = self.letters = ""
-        boxes = {"A": [], "B": []}
-        mask = "A"
-        for number, line in enumerate(text.splitlines(), 1):
+        claims, *masks = text.split(b"\nL ")
+        for number, line in enumerate(claims.splitlines(), 1):
             try:
-                found = BOX.match(line)
-                if found:
-                    length, width, x, y = map(int, found.groups())
-                    boxes[mask].append(((2 * x - length) // 4, (2 * y - width) // 4, (2 * x + length) // 4, (2 * y + width) // 4))
-                elif line.startswith(b"L "):
-                    mask = line.decode()[-2]
-                elif line.startswith(b"("):
+                if line.startswith(b"("):
                     self.note(line.decode().strip("();").split())
             except (IndexError, KeyError, ValueError) as error:
                 raise Unreadable(f"line {number} is none of a report") from error
-        self.place(boxes)
+        # behind `L ` stand the name of the layer, the letter of the mask and a semicolon
+        self.place({mask.split(b";", 1)[0][-1:].decode(): boxes_in(mask) for mask in masks})
 
     def note(self, parts):
         word, rest = parts[0], parts[1:]
@@ -95,13 +89,10 @@ class Report:
 
     def place(self, boxes):
         """Each mask has its fragments in their order first, and the overlaps of the cuts behind them."""
-        at = {"A": 0, "B": 0}
-        self.fragments = []
-        for letter in self.letters:
-            if letter not in at or at[letter] == len(boxes[letter]):
-                raise Unreadable("the report has fewer boxes than letters")
-            self.fragments.append(boxes[letter][at[letter]])
-            at[letter] += 1
+        left, none = {letter: iter(found) for letter, found in boxes.items()}, iter(())
+        self.fragments = [next(left.get(letter, none), None) for letter in self.letters]
+        if None in self.fragments:
+            raise Unreadable("the report has fewer boxes than letters")
         if "space" not in self.values:
             raise Unreadable("the report has no line of its spacing")
 
@@ -109,6 +100,12 @@ class Report:
         """The boxes of a mask: its fragments, and the overlaps of the cuts."""
         own = [box for box, mask in zip(self.fragments, self.letters) if mask == letter]
         return own + [cut.zone for cut in self.cuts]
+
+
+def boxes_in(text):
+    """The corners of the boxes of a text."""
+    quarters = (map(int, found) for found in BOX.findall(text))
+    return [((2 * x - length) // 4, (2 * y - width) // 4, (2 * x + length) // 4, (2 * y + width) // 4) for length, width, x, y in quarters]
 
 
 class Classes:
