@@ -1,15 +1,14 @@
 #!/usr/bin/env python3
-"""Tries the command `edit` on random scripts, at the limits, and for time: bench/edits.py [BINARY] [LAYOUT:LAYER:SPACE:OVERLAP..].
+"""Tries the command `edit` on random scripts and at the limits: bench/edits.py [BINARY] [--scripts N] [--from SEED].
 
-For each of --scripts random scripts (200) every prefix of its lines is run. Where a line is bad or removes a box that
-is not there, the answer must name it; otherwise the report must be good for the layout with its boxes drawn behind it,
-and have the bound of its split, and its cost where nothing is set aside. Each component that is the same in two
-neighbouring prefixes, by its rectangles and its edges, must have the same masks in both reports. How often a split alone
-would have changed them is counted beside it.
+For each of N random scripts (200), numbered from SEED (0), every prefix of its lines is run. Where a line is bad or
+removes a box that is not there, the answer must name it; otherwise the report must be good for the layout with its boxes
+drawn behind it, and have the bound of its split, and its cost where nothing is set aside. Each component that is the same
+in two neighbouring prefixes, by its rectangles and its edges, must have the same masks in both reports. How often a split
+alone would have changed them is counted beside it.
 
-Then scripts that pass a limit, by a box that comes or one that goes. Then processor time: a script of N lines less the
-empty one, over N, beside a split, on a made layout and on each that is named. Ends with 1 where something is wrong. No
-part of the gate.
+Then scripts that pass a limit, by a box that comes or one that goes. Ends with 1 where something is wrong. bench/run.py
+has the time of an edit. No part of the gate.
 """
 
 import argparse
@@ -21,9 +20,7 @@ import sys
 import tempfile
 from collections import Counter
 
-TOP = os.path.dirname(os.path.dirname(os.path.abspath(__file__)))
-sys.path.insert(0, os.path.join(TOP, "bench"))
-sys.path.insert(0, os.path.join(TOP, "tools"))
+sys.path.insert(0, os.path.dirname(os.path.abspath(__file__)))
 import run
 from cif import commands
 from net import Classes, Report, edges_of, weight
@@ -51,28 +48,6 @@ def with_boxes(layout, boxes, layer="M"):
     return layout[:end] + ("DS %d" % number + drawn(boxes, layer) + "C %d;E" % number).encode()
 
 
-def made(rows, columns, state=7):
-    """The made layout of `load`, by the rule of dpl_gen; these numbers are hundredths of a micron."""
-    lines = ["L M;"]
-    for row in range(rows):
-        for column in range(columns):
-            state = (state * 6364136223846793005 + 1442695040888963407) % 2**64
-            draw = state // 2**33
-            length = 100 + 50 * (draw % 5)
-            left = 3200 * (column // 8) + 350 * (column % 8) + 10 * (draw // 5 % 6)
-            bottom = 1400 * (row // 8) + 150 * (row % 8)
-            lines.append("B %d 100 %d %d;" % (length, left + length // 2, bottom + 50))
-    return "\n".join([*lines, "E"]).encode()
-
-
-def add(rect):
-    return "add %d %d %d %d" % rect
-
-
-def lines_of(edits):
-    return "".join(line + "\n" for line in edits).encode()
-
-
 # ---- running
 
 
@@ -88,15 +63,6 @@ class Program:
                 file.write(second)
         ran = subprocess.run([self.binary, *words], input=layout, capture_output=True, check=False)
         return ran.returncode, ran.stdout, ran.stderr.decode()
-
-    def seconds(self, words, layout, script=None):
-        """Processor time of one run, and its exit status."""
-        if script is not None:
-            words = [*words, "--script", self.second]
-            with open(self.second, "wb") as file:
-                file.write(script)
-        took, _, code = run.timed([self.binary, *words], layout, 600)
-        return took, code
 
 
 # ---- components
@@ -150,7 +116,7 @@ def some_script(chance, side):
             rect = chance.choice(added) if added and chance.random() < 0.15 else some_box(chance, side)
             there.append(len(added))
             added.append(rect)
-            lines.append(add(rect))
+            lines.append(run.add(rect))
     return lines
 
 
@@ -232,8 +198,8 @@ def judged(program, case, boxes, text, told):
 
 def try_script(program, case, seen):
     """What is wrong with the answers to the prefixes of a script."""
-    told, before, chopped = [], None, lines_of(case.lines)[:-1]
-    for script in [*(lines_of(case.lines[:k]) for k in range(len(case.lines) + 1)), *([chopped] if chopped else [])]:
+    told, before, chopped = [], None, run.lines_of(case.lines)[:-1]
+    for script in [*(run.lines_of(case.lines[:k]) for k in range(len(case.lines) + 1)), *([chopped] if chopped else [])]:
         status, text, errors = program.run(["edit", *case.words], case.layout, script)
         boxes = content_of(script)
         seen["runs"] += 1
@@ -256,14 +222,14 @@ def try_script(program, case, seen):
     return told
 
 
-def try_scripts(program, count):
+def try_scripts(program, seeds):
     seen, wrong = Counter(), 0
-    for seed in range(count):
+    for seed in seeds:
         case = Case(seed)
         for what in try_script(program, case, seen):
             wrong += 1
             print("seed %d: %s" % (seed, what))
-    print("%d scripts, %d runs, %d of them refused, %d wrong" % (count, seen["runs"], seen["refused"], wrong))
+    print("%d scripts, %d runs, %d of them refused, %d wrong" % (len(seeds), seen["runs"], seen["refused"], wrong))
     print("%d components stayed; a split would have changed %d of them" % (seen["same"], seen["other in a split"]))
     return wrong
 
@@ -283,88 +249,43 @@ def level_wires(n):
 def limits():
     """A name, words, boxes, the lines and the error line that is due."""
     near, far = (300, 0, 500, 200), (1_000_000, 0, 1_000_200, 200)
-    yield "a primitive too many", SPACING, [(0, 0, 200, 200)] * 50_000, [add(near)], "limit 2 count 50001"
-    yield "as many primitives as may be", SPACING, [(0, 0, 200, 200)] * 49_999, [add(near), "remove 0", add(near)], None
+    yield "a primitive too many", SPACING, [(0, 0, 200, 200)] * 50_000, [run.add(near)], "limit 2 count 50001"
+    yield "as many primitives as may be", SPACING, [(0, 0, 200, 200)] * 49_999, [run.add(near), "remove 0", run.add(near)], None
     small = ["--layer", "M", "--space", "10", "--overlap", "5"]
     upright, beside = (5, 0, 15, 40 * 33_400), (30, 0, 40, 40 * 33_400)
     wires = [*level_wires(33_400), (5, 0, 7, 40 * 33_400)]
-    yield "tiles by a box that comes", [*small[:-1], "50"], wires, [add((10, 0, 12, 40 * 33_400))], "limit 5 count 100001"
-    yield "fragments by a box that goes", small, level_wires(33_400), [add(beside), add(upright), "remove 0"], "limit 6 count 100001"
-    yield "fragments by a box that comes", small, level_wires(33_400), [add(upright)], "limit 6 count 100001"
+    yield "tiles by a box that comes", [*small[:-1], "50"], wires, [run.add((10, 0, 12, 40 * 33_400))], "limit 5 count 100001"
+    yield "fragments by a box that goes", small, level_wires(33_400), [run.add(beside), run.add(upright), "remove 0"], "limit 6 count 100001"
+    yield "fragments by a box that comes", small, level_wires(33_400), [run.add(upright)], "limit 6 count 100001"
     units = halves(run.unit_boxes(895))
-    yield "edges by a box that comes", SPACING, units[:-1], [add(units[-1])], "limit 7 count 400001"
+    yield "edges by a box that comes", SPACING, units[:-1], [run.add(units[-1])], "limit 7 count 400001"
     strip = halves(run.strip(2_051))
     x, y, _, _ = strip[2_049]
     joint = (x, y - 100, x + 50, y)
-    yield "odd faces by a box that comes", SPACING, strip[:-1], [add(strip[-1])], "limit 8 count 2050"
-    yield "odd faces by a box that goes", SPACING, strip[:-1], [add(joint), add(strip[-1]), "remove 0"], "limit 8 count 2050"
-    yield "a box far away", SPACING, strip[:-1], [add(far), "remove 0"], None
+    yield "odd faces by a box that comes", SPACING, strip[:-1], [run.add(strip[-1])], "limit 8 count 2050"
+    yield "odd faces by a box that goes", SPACING, strip[:-1], [run.add(joint), run.add(strip[-1]), "remove 0"], "limit 8 count 2050"
+    yield "a box far away", SPACING, strip[:-1], [run.add(far), "remove 0"], None
 
 
 def try_limits(program):
     wrong = 0
     for name, words, boxes, lines, due in limits():
-        status, _, errors = program.run(["edit", *words], layout_of(boxes), lines_of(lines))
+        status, _, errors = program.run(["edit", *words], layout_of(boxes), run.lines_of(lines))
         right = (status, errors) == ((0, "") if due is None else (4, "dpl: %s\n" % due))
         wrong += not right
         print("%-32s %s" % (name, "right" if right else "WRONG: %d %r, %r is due" % (status, errors, due)))
     return wrong
 
 
-# ---- time
-
-
-def near_edits(report, count):
-    """Lines that put a small box beside a rectangle of the layer and take it away, all over the layer."""
-    rects = report.fragments
-    for k in range(count // 2):
-        x, y, _, _ = rects[k * 7919 % len(rects)]
-        yield add((x - 80, y - 80, x - 40, y - 40))
-        yield "remove %d" % k
-
-
-def far_edits(report, count):
-    """The same off the layer."""
-    right = max(rect[2] for rect in report.fragments) + 10_000
-    for k in range(count // 2):
-        yield add((right, 0, right + 200, 200))
-        yield "remove %d" % k
-
-
-def time_edits(program, name, layout, words, count):
-    status, text, errors = program.run(["split", *words], layout)
-    if status != 0:
-        print("%-32s %s" % (name, errors.strip()))
-        return 1
-    report = Report(text)
-    split, _ = program.seconds(["split", *words], layout)
-    begin, _ = program.seconds(["edit", *words], layout, b"")
-    shown = []
-    for lines in (near_edits(report, count), far_edits(report, count)):
-        took, code = program.seconds(["edit", *words], layout, lines_of(lines))
-        shown.append("%9.4f" % ((took - begin) / count) if code == "0" else "%9s" % ("status " + code))
-    print("%-32s %9d %9.3f %9.3f %s" % (name, len(report.fragments), split, begin, " ".join(shown)), flush=True)
-    return 0
-
-
 def main():
-    asked = argparse.ArgumentParser(description="Tries the command `edit`, and times it.")
-    asked.add_argument("binary", nargs="?", default=os.path.join(TOP, "crates", "dpl", "out", "dpl"))
-    asked.add_argument("layouts", nargs="*", metavar="LAYOUT:LAYER:SPACE:OVERLAP")
+    asked = argparse.ArgumentParser(description="Tries the command `edit` on random scripts and at the limits.")
+    asked.add_argument("binary", nargs="?", default=os.path.join(run.TOP, "crates", "dpl", "out", "dpl"))
     asked.add_argument("--scripts", type=int, default=200)
-    asked.add_argument("--lines", type=int, default=20)
-    asked = asked.parse_intermixed_args()
+    asked.add_argument("--from", type=int, default=0, dest="first")
+    asked = asked.parse_args()
     with tempfile.TemporaryDirectory() as folder:
         program = Program(asked.binary, folder)
-        wrong = try_scripts(program, asked.scripts) + try_limits(program)
-        print("%-32s %9s %9s %9s %9s %9s" % ("seconds", "fragments", "split", "no line", "a near", "a far"))
-        wrong += time_edits(program, "made, 100 by 100", made(100, 100), SPACING, asked.lines)
-        for named in asked.layouts:
-            path, layer, space, overlap = named.rsplit(":", 3)
-            with open(path, "rb") as file:
-                layout = file.read()
-            words = ["--layer", layer, "--space", space, "--overlap", overlap]
-            wrong += time_edits(program, ":".join([os.path.basename(path), layer, space, overlap]), layout, words, asked.lines)
+        wrong = try_scripts(program, range(asked.first, asked.first + asked.scripts)) + try_limits(program)
     return 1 if wrong else 0
 
 

@@ -1,18 +1,25 @@
 #!/usr/bin/env python3
-"""Times the built program on large texts and layouts: bench/run.py [BINARY] [--only WORD] [--seconds N].
+"""Times the built program on large texts and layouts, and edits: bench/run.py [BINARY] [LAYOUT:LAYER:SPACE:OVERLAP..].
 
 First the texts, then two large reports, then layouts at n and at 2n: seconds of processor time, megabytes of input a
-second, peak memory, exit status, and for the second of a pair how many times as long it took as the first. A run is
-stopped after N seconds (120), and its status is then `late`. With --only, cases whose names hold WORD. No part of the
-gate.
+second, peak memory, exit status, and for the second of a pair how many times as long it took as the first. Then edits of
+made layouts and of each that is named: a split, and one edit, out of a script of 21 lines less its first line, where the
+boxes lie beside those of the layout and where they lie off it. --runs N takes the least of N runs (1). A run is stopped
+after --seconds N (120), and its status is then `late`. With --only WORD, cases whose names hold it. No part of the gate.
 """
 
 import argparse
+import itertools
 import os
 import random
 import subprocess
+import sys
 import tempfile
 import threading
+
+TOP = os.path.dirname(os.path.dirname(os.path.abspath(__file__)))
+sys.path.insert(0, os.path.join(TOP, "tools"))
+from net import Report
 
 MOST_BYTES = 16_777_216
 MOST_REPORT = 268_435_456
@@ -295,6 +302,57 @@ def polygons():
     yield "stairs as one polygon", 24_000, stairs_polygon
 
 
+# ---- edits; corners are in grid units of half a hundredth
+
+
+def made(rows, columns, state=7):
+    """The made layout of `load`, by the rule of dpl_gen; these numbers are hundredths of a micron."""
+    lines = ["L M;"]
+    for row in range(rows):
+        for column in range(columns):
+            state = (state * 6364136223846793005 + 1442695040888963407) % 2**64
+            draw = state // 2**33
+            length = 100 + 50 * (draw % 5)
+            left = 3200 * (column // 8) + 350 * (column % 8) + 10 * (draw // 5 % 6)
+            bottom = 1400 * (row // 8) + 150 * (row % 8)
+            lines.append("B %d 100 %d %d;" % (length, left + length // 2, bottom + 50))
+    return "\n".join([*lines, "E"]).encode()
+
+
+def add(rect):
+    return "add %d %d %d %d" % rect
+
+
+def lines_of(edits):
+    return "".join(line + "\n" for line in edits).encode()
+
+
+def near_edits(rects):
+    """Lines without end that put a small box beside a rectangle of the layer and take it away, all over the layer."""
+    for k in itertools.count():
+        x, y, _, _ = rects[k * 7919 % len(rects)]
+        yield add((x - 80, y - 80, x - 40, y - 40))
+        yield "remove %d" % k
+
+
+def far_edits(rects):
+    """The same off the layer."""
+    right = max(rect[2] for rect in rects) + 10_000
+    for k in itertools.count():
+        yield add((right, 0, right + 200, 200))
+        yield "remove %d" % k
+
+
+def edited(named):
+    """Each with its options, and how many lines are timed."""
+    yield "made, 100 by 100", made(100, 100), OPTIONS, 20
+    yield "a strip of 512 odd faces, 1,000 edits", layout(strip(514)), OPTIONS, 1_000
+    for one in named:
+        path, layer, space, overlap = one.rsplit(":", 3)
+        with open(path, "rb") as file:
+            yield os.path.basename(one), file.read(), ["--layer", layer, "--space", space, "--overlap", overlap], 20
+
+
 # ---- running
 
 
@@ -333,24 +391,52 @@ def pair(asked, name, size, text_of):
     before = None
     for n in (size, 2 * size):
         text = text_of(n)
-        run = timed([asked.binary, "split", *OPTIONS], text, asked.seconds)
+        run = least(asked, ["split", *OPTIONS], text)
         report("%s, n = %d" % (name, n), len(text), run, "" if before is None else "%.1f" % (run[0] / before))
         before = max(run[0], 1e-3)
         if run[2] == "late":
             break
 
 
+def least(asked, words, text):
+    """The run that took least, of as many as are asked for."""
+    return min(timed([asked.binary, *words], text, asked.seconds) for _ in range(asked.runs))
+
+
+def time_edits(asked, name, text, options, count):
+    """A split, and one edit of so many."""
+    split = subprocess.run([asked.binary, "split", *options], input=text, capture_output=True, check=False)
+    if split.returncode:
+        print("%-42s %s" % (name, split.stderr.decode().strip()))
+        return
+    rects = Report(split.stdout).fragments
+    shown = [least(asked, ["split", *options], text)[0]]
+    for lines in (near_edits(rects), far_edits(rects)):
+        script = list(itertools.islice(lines, count + 1))
+        first, all_of_them = (scripted(asked, lines_of(script[:k]), text, options) for k in (1, count + 1))
+        shown.append((all_of_them[0] - first[0]) / count if all_of_them[2] == "0" else float("nan"))
+    print("%-42s %9.3f %9.4f %9.4f %6.2f" % (name, *shown, shown[1] / shown[0]), flush=True)
+
+
+def scripted(asked, script, text, options):
+    with tempfile.NamedTemporaryFile() as second:
+        second.write(script)
+        second.flush()
+        return least(asked, ["edit", *options, "--script", second.name], text)
+
+
 def main():
-    top = os.path.dirname(os.path.dirname(os.path.abspath(__file__)))
-    words = argparse.ArgumentParser(description="Times the built program on large texts and layouts.")
-    words.add_argument("binary", nargs="?", default=os.path.join(top, "crates", "dpl", "out", "dpl"))
+    words = argparse.ArgumentParser(description="Times the built program on large texts and layouts, and edits.")
+    words.add_argument("binary", nargs="?", default=os.path.join(TOP, "crates", "dpl", "out", "dpl"))
+    words.add_argument("layouts", nargs="*", metavar="LAYOUT:LAYER:SPACE:OVERLAP")
     words.add_argument("--only", default="")
     words.add_argument("--seconds", type=float, default=120)
-    asked = words.parse_args()
+    words.add_argument("--runs", type=int, default=1)
+    asked = words.parse_intermixed_args()
     print("%-42s %9s %7s %8s %6s %6s" % ("case", "seconds", "MB/s", "peak MB", "status", "times"))
     for name, text in texts():
         if asked.only in name:
-            report(name, len(text), timed([asked.binary, "split", *OPTIONS], text, asked.seconds))
+            report(name, len(text), least(asked, ["split", *OPTIONS], text))
     for name, size in (("a report of 268 MB of spaces", MOST_REPORT), ("one more space, refused", MOST_REPORT + 1)):
         if asked.only in name:
             report(name, size, check_spaces(asked.binary, asked.seconds, size))
@@ -359,10 +445,14 @@ def main():
             pair(asked, name, size, lambda n: layout(boxes(n)))
     for name, text, options in single():
         if asked.only in name:
-            report(name, len(text), timed([asked.binary, "split", *options], text, asked.seconds))
+            report(name, len(text), least(asked, ["split", *options], text))
     for name, size, points in polygons():
         if asked.only in name:
             pair(asked, name, size, lambda n: polygon(points(n)))
+    print("%-42s %9s %9s %9s %6s" % ("seconds", "split", "a near", "a far", "times"))
+    for name, *case in edited(asked.layouts):
+        if asked.only in name:
+            time_edits(asked, name, *case)
 
 
 if __name__ == "__main__":
