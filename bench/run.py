@@ -1,11 +1,12 @@
 #!/usr/bin/env python3
 """Times the built program on large texts and layouts, and edits: bench/run.py [BINARY] [LAYOUT:LAYER:SPACE:OVERLAP..].
 
-First the texts, then two large reports, then layouts at n and at 2n: seconds of processor time, megabytes of input a
-second, peak memory, exit status, and for the second of a pair how many times as long it took as the first. Then edits of
-made layouts and of each that is named: a split, and one edit, out of a script of 21 lines less its first line, where the
-boxes lie beside those of the layout and where they lie off it. --runs N takes the least of N runs (1). A run is stopped
-after --seconds N (120), and its status is then `late`. With --only WORD, cases whose names hold it. No part of the gate.
+First made layouts by `load`, then `split`, `check` and `balance` of each layout that is named, the texts, two large
+reports, and layouts at n and at 2n: seconds of processor time, megabytes of input a second, peak memory, exit status, and
+for the second of a pair how many times as long it took as the first. Then edits of made layouts and of each that is named:
+a split, and one edit, out of a script of 21 lines less its first line, where the boxes lie beside those of the layout and
+where they lie off it. --runs N takes the least of N runs (1). A run is stopped after --seconds N (120), and its status is
+then `late`. With --only WORD, cases whose names hold it. No part of the gate.
 """
 
 import argparse
@@ -212,10 +213,10 @@ def close_wires(n):
     yield from ((0, 30 * i, 100_000, 30 * i + 10) for i in range(n))
 
 
-def random_boxes(n):
-    """n boxes of up to 60 by 60, spread so that few are close."""
+def random_boxes(n, pitch=300):
+    """n boxes of up to 60 by 60, spread so that at a pitch of 300 few are close."""
     source = random.Random(7)
-    size = int(300 * n**0.5)
+    size = int(pitch * n**0.5)
     for _ in range(n):
         x, y = source.randrange(size), source.randrange(size)
         yield (2 * x, 2 * y, 2 * x + 2 * source.randrange(1, 30), 2 * y + 2 * source.randrange(1, 30))
@@ -288,12 +289,21 @@ def single():
     contacts_far = layout(contacts(40_000, 300))
     yield "contacts, boxes in 120 places: 480 odd faces", layout(boxes_between(40_000, 120)), OPTIONS
     yield "contacts, boxes in 500 places: 2,000 odd faces", layout(boxes_between(40_000, 500)), OPTIONS
+    yield "3,000 random boxes, many close: 1,138 odd faces", layout(random_boxes(3_000, 50)), OPTIONS
     yield "contacts, none close, no keep layer", contacts_far, OPTIONS
     yield "the same with 50,000 keep tiles", covered(contacts(40_000, 300), 50_000), [*OPTIONS, "--keep", "K"]
     yield "contacts at space 10,000, refused", contacts_far, WIDE
     yield "random boxes at space 10,000, refused", layout(random_boxes(40_000)), WIDE
     yield "hanging comb at space 100,000, n = 24500", layout(hanging_comb(24_500)), WIDEST
     yield "the same, n = 49000", layout(hanging_comb(49_000)), WIDEST
+
+
+def layers(named):
+    """The layouts named LAYOUT:LAYER:SPACE:OVERLAP, each with its options."""
+    for one in named:
+        path, layer, space, overlap = one.rsplit(":", 3)
+        with open(path, "rb") as file:
+            yield os.path.basename(one), file.read(), ["--layer", layer, "--space", space, "--overlap", overlap]
 
 
 def polygons():
@@ -347,10 +357,7 @@ def edited(named):
     """Each with its options, and how many lines are timed."""
     yield "made, 100 by 100", made(100, 100), OPTIONS, 20
     yield "a strip of 512 odd faces, 1,000 edits", layout(strip(514)), OPTIONS, 1_000
-    for one in named:
-        path, layer, space, overlap = one.rsplit(":", 3)
-        with open(path, "rb") as file:
-            yield os.path.basename(one), file.read(), ["--layer", layer, "--space", space, "--overlap", overlap], 20
+    yield from ((*case, 20) for case in layers(named))
 
 
 # ---- running
@@ -376,14 +383,23 @@ def report(name, size, run, times=""):
           flush=True)
 
 
-def check_spaces(binary, limit, size):
+def check_spaces(asked, size):
     """A check of a report of so many spaces."""
     with tempfile.NamedTemporaryFile() as second:
         for _ in range(size >> 20):
             second.write(b" " * (1 << 20))
         second.write(b" " * (size % (1 << 20)))
         second.flush()
-        return timed([binary, "check", *OPTIONS, "--report", second.name], b"E", limit)
+        return least(asked, ["check", *OPTIONS, "--report", second.name], b"E")
+
+
+def time_layer(asked, name, text, options):
+    """A split of a layer, a check of its report, and a balanced split."""
+    report(f"{name}, split", len(text), least(asked, ["split", *options], text))
+    with tempfile.NamedTemporaryFile() as second:
+        subprocess.run([asked.binary, "split", *options], input=text, stdout=second, stderr=subprocess.DEVNULL, check=False)
+        report(f"{name}, check", len(text), least(asked, ["check", *options, "--report", second.name], text))
+    report(f"{name}, balance", len(text), least(asked, ["balance", *options], text))
 
 
 def pair(asked, name, size, text_of):
@@ -434,12 +450,18 @@ def main():
     words.add_argument("--runs", type=int, default=1)
     asked = words.parse_intermixed_args()
     print("%-42s %9s %7s %8s %6s %6s" % ("case", "seconds", "MB/s", "peak MB", "status", "times"))
+    for side in (40, 100, 200):
+        if asked.only in (name := f"made, {side} by {side}"):
+            report(name, 0, least(asked, ["load", "--start", "7", "--rows", str(side), "--columns", str(side)], b""))
+    for name, *case in layers(asked.layouts):
+        if asked.only in name:
+            time_layer(asked, name, *case)
     for name, text in texts():
         if asked.only in name:
             report(name, len(text), least(asked, ["split", *OPTIONS], text))
     for name, size in (("a report of 268 MB of spaces", MOST_REPORT), ("one more space, refused", MOST_REPORT + 1)):
         if asked.only in name:
-            report(name, size, check_spaces(asked.binary, asked.seconds, size))
+            report(name, size, check_spaces(asked, size))
     for name, size, boxes in layouts():
         if asked.only in name:
             pair(asked, name, size, lambda n: layout(boxes(n)))
