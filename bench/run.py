@@ -6,13 +6,14 @@ reports, and layouts at n and at 2n: seconds of processor time, megabytes of inp
 for the second of a pair how many times as long it took as the first. Then edits of made layouts and of each that is named:
 a split, and one edit, out of a script of 21 lines less its first line, where the boxes lie beside those of the layout and
 where they lie off it. --runs N takes the least of N runs (1). A run is stopped after --seconds N (120), and its status is
-then `late`. With --only WORD, cases whose names hold it. No part of the gate.
+then `late`. With --only WORD, cases whose names hold it. The package `time` is needed. No part of the gate.
 """
 
 import argparse
 import itertools
 import os
 import random
+import signal
 import subprocess
 import sys
 import tempfile
@@ -364,17 +365,20 @@ def edited(named):
 
 
 def timed(words, text, limit):
-    """Seconds of processor time, peak megabytes and exit status of one run."""
-    with tempfile.TemporaryFile() as source:
+    """Seconds of processor time, peak megabytes and exit status of one run. The memory is told by GNU time, which is
+    small itself: a program that Python starts has Python's own memory for a peak."""
+    with tempfile.TemporaryFile() as source, tempfile.NamedTemporaryFile() as told:
         source.write(text)
         source.seek(0)
-        process = subprocess.Popen(words, stdin=source, stdout=subprocess.DEVNULL, stderr=subprocess.DEVNULL)
-        late = threading.Timer(limit, process.kill)
+        words = ["time", "--quiet", f"--output={told.name}", "--format=%M", *words]
+        process = subprocess.Popen(words, stdin=source, stdout=subprocess.DEVNULL, stderr=subprocess.DEVNULL, start_new_session=True)
+        late = threading.Timer(limit, os.killpg, (process.pid, signal.SIGKILL))
         late.start()
         _, status, usage = os.wait4(process.pid, 0)
         late.cancel()
+        peak = int(told.read() or 0) / 1000
     code = "late" if os.WIFSIGNALED(status) else "%d" % os.WEXITSTATUS(status)
-    return usage.ru_utime + usage.ru_stime, usage.ru_maxrss / 1024, code
+    return usage.ru_utime + usage.ru_stime, peak, code
 
 
 def report(name, size, run, times=""):

@@ -4,7 +4,10 @@ import hashlib
 import os
 import re
 
+import numpy
+
 BODY = b"DS 1 1 4;\n"
+BOX = re.compile(rb"^B (\d+ \d+ -?\d+ -?\d+);$", re.MULTILINE)
 LINE = re.compile(rb"^\((\w+) ([^)]*)\);$", re.MULTILINE)
 
 
@@ -41,14 +44,17 @@ class Report:
 
     def fragments(self):
         """The corners of each fragment in grid units. Each mask lists its fragments first, in their order."""
-        first, second = self.body.split(b"\nL ")[1:3]
-        boxes = {65: boxes_of(first), 66: boxes_of(second)}
-        return [next(boxes[letter]) for letter in self.letters]
+        letters = numpy.frombuffer(self.letters, numpy.uint8)
+        rects = numpy.zeros((len(letters), 4), numpy.int64)
+        for letter, lines in zip(b"AB", self.body.split(b"\nL ")[1:3]):
+            found = boxes_of(lines)
+            own = numpy.flatnonzero(letters == letter)[: len(found)]
+            rects[own] = found[: len(own)]
+        return rects
 
 
 def boxes_of(lines):
-    for line in lines.splitlines()[1:]:
-        if not line.startswith(b"B "):
-            return
-        length, width, x, y = map(int, line[2:-1].split())
-        yield (2 * x - length) // 4, (2 * y - width) // 4, (2 * x + length) // 4, (2 * y + width) // 4
+    """The corners of the boxes of a text."""
+    numbers = numpy.fromstring(b" ".join(BOX.findall(lines)), numpy.int64, sep=" ")
+    length, width, x, y = numbers.reshape(-1, 4).T
+    return numpy.array((2 * x - length, 2 * y - width, 2 * x + length, 2 * y + width)).T // 4

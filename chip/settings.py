@@ -21,7 +21,7 @@ DEFAULTS = {
     "balance": False,
     "size": 20000,
     "bands": 4,
-    "batch": 25,
+    "batch": 12,
     "masks": "masks.oas",
     "markers": "conflict,stitch,overlap,aside,cycle",
     "dpl": None,

@@ -7,7 +7,9 @@ shape may be as close as they like.
 from functools import lru_cache
 from typing import NamedTuple
 
-from classes import Classes
+import numpy
+
+from fragments import classes, pairs, sides
 from grid import Grid
 from reports import Report
 
@@ -55,8 +57,7 @@ def key(letter, pair):
 class Item(NamedTuple):
     """A box of a mask, and the fragment that it shows or, as a zone, goes on with."""
 
-    rect: tuple
-    letter: str
+    rect: list
     fragment: int
 
 
@@ -64,33 +65,29 @@ class Net:
     """The boxes of a report, the pieces and shapes of its fragments, and the pairs of pieces that its conflicts tell."""
 
     def __init__(self, report):
-        rects, letters = report.fragments(), report.letters.decode()
-        self.items = [Item(rect, letter, i) for i, (rect, letter) in enumerate(zip(rects, letters))]
-        self.items += [Item(tuple(cut[3:7]), letters[i], i) for cut in report.cuts for i in cut[1:3]]
-        self.grid = Grid([item.rect for item in self.items])
-        self.pieces, self.shapes = Classes(len(rects)), Classes(len(rects))
-        for i, rect in enumerate(rects):
-            for j in self.grid.meeting(rect):
-                if i < j < len(rects):
-                    self.touch(i, j, rect, rects[j])
-        self.told = {frozenset(self.pieces.root(k) for k in clash[1:3]) for clash in report.clashes}
-
-    def touch(self, i, j, r, s):
-        across = min(r[2], s[2]) - max(r[0], s[0])
-        up = min(r[3], s[3]) - max(r[1], s[1])
-        if across + up > 0 and across >= 0 and up >= 0:
-            self.shapes.join(i, j)
-            if across > 0 and (r[0], r[2]) != (s[0], s[2]):
-                self.pieces.join(i, j)
+        rects = report.fragments()
+        goes_on = [(*cut[3:7], fragment) for cut in report.cuts for fragment in cut[1:3]]
+        own = numpy.column_stack((rects, numpy.arange(len(rects))))
+        *corners, fragments = numpy.concatenate((own, numpy.array(goes_on, numpy.int64).reshape(-1, 5))).T
+        self.corners, self.fragments = numpy.ascontiguousarray(corners), fragments.copy()
+        self.letters = numpy.frombuffer(report.letters, numpy.uint8)[self.fragments]
+        first, second = pairs(rects, 1)
+        bonds, stitches = sides(rects[first], rects[second])
+        self.pieces = classes(len(rects), first[bonds], second[bonds])
+        self.shapes = classes(len(rects), first[bonds | stitches], second[bonds | stitches])
+        self.told = {frozenset(self.pieces[clash[1:3]]) for clash in report.clashes}
 
     def at(self, letter, box):
-        return [self.items[k] for k in self.grid.meeting(box) if self.items[k].letter == letter]
+        """The boxes of a mask that meet a box."""
+        left, bottom, right, top = self.corners
+        near = (self.letters == ord(letter)) & (left <= box[2]) & (box[0] <= right) & (bottom <= box[3]) & (box[1] <= top)
+        return list(map(Item, self.corners[:, near].T.tolist(), self.fragments[near].tolist()))
 
     def of_one_shape(self, first, second):
-        return self.shapes.root(first.fragment) == self.shapes.root(second.fragment)
+        return self.shapes[first.fragment] == self.shapes[second.fragment]
 
     def tells(self, first, second):
-        return frozenset(self.pieces.root(item.fragment) for item in (first, second)) in self.told
+        return frozenset((self.pieces[first.fragment], self.pieces[second.fragment])) in self.told
 
 
 def gap2(r, s):
