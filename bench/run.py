@@ -275,7 +275,7 @@ def layouts():
     yield "stairs", 24_500, stairs
     yield "boxes in one row", 24_500, row
     yield "upright wires beside boxes", 20_000, wires_beside_boxes
-    yield "upright wires between boxes", 6_000, wires_between_boxes
+    yield "upright wires between boxes", 24_000, wires_between_boxes
     yield "level wires", 24_500, level_wires
     yield "random boxes", 20_000, random_boxes
     yield "level wires, six close to each", 250, close_wires
