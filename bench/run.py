@@ -281,7 +281,7 @@ def layouts():
     yield "level wires, six close to each", 250, close_wires
     yield "a strip of odd faces", 1_025, strip
     yield "uprights under a cover", 24_500, under_a_cover
-    yield "boxes laid over each other", 3_000, laid_over
+    yield "boxes laid over each other", 24_500, laid_over
     yield "crossing wires of n tiles", 49_000, lambda n: crossing(int((n / 2) ** 0.5))
 
 
