@@ -126,8 +126,8 @@ fn around_a_rectangle(rt: HostRuntime) -> Result<(), Fail> {
         finder.around_within(rt.alloc(), 0, 50)?.as_slice(),
         [1].as_slice()
     );
-    assert!(rt; finder.few_around(rt.alloc(), 0, 1)?.is_none());
-    assert!(rt; finder.few_around(rt.alloc(), 0, 2)?.is_some());
+    assert!(rt; finder.few_around(rt.alloc(), 0, 2)?.is_none());
+    assert!(rt; finder.few_around(rt.alloc(), 0, 3)?.is_some());
     Ok(())
 }
 

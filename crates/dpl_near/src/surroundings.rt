@@ -100,7 +100,7 @@ impl<'a> Surroundings<'a> {
         Ok(near)
     }
 
-    /// The same, or `None` where more than `most` may be.
+    /// The same, or `None` where with the rectangle itself there may be more than `most`.
     pub fn few_around(
         &self,
         alloc: Global,
