@@ -1,5 +1,5 @@
 use dpl_cell::{Layout, Prim, Rect};
-use dpl_edit::{EditError, RemoveError, Session};
+use dpl_edit::{EditError, Session};
 use dpl_layer::Drawing;
 use dpl_lex::Name;
 use dpl_list::Items;
@@ -93,22 +93,44 @@ fn remove(alloc: Global, session: &mut Session, number: u64) -> Option<Figures> 
     figures_of(alloc, session)
 }
 
+/// A box to add, or the number of one to remove.
+#[derive(Clone, Copy)]
+enum Step {
+    Add(i64, i64, i64, i64),
+    Remove(u64),
+}
+
+/// What one step leaves, nothing where it is refused.
+fn figures_by(alloc: Global, session: &mut Session, step: Step) -> Option<Figures> {
+    match step {
+        Step::Add(x1, y1, x2, y2) => add(alloc, session, Rect::new(x1, y1, x2, y2)?),
+        Step::Remove(number) => remove(alloc, session, number),
+    }
+}
+
+/// The figures at the start and after each step.
+fn figures_after(alloc: Global, prims: Vec<Prim>, steps: &[Step]) -> Option<Vec<Option<Figures>>> {
+    let mut session = begin(alloc, prims)?;
+    let mut found = Vec::new(alloc);
+    found.push(figures_of(alloc, &session)).ok()?;
+    for step in steps {
+        found.push(figures_by(alloc, &mut session, *step)).ok()?;
+    }
+    Some(found)
+}
+
 #[test]
 fn a_triangle_comes_and_goes(rt: HostRuntime) -> Result<(), Fail> {
-    let alloc = rt.alloc();
-    let prims = pair(alloc).ok_or("no boxes")?;
-    let mut session = begin(alloc, prims).ok_or("refused")?;
-    assert_eq!(rt; figures_of(alloc, &session), are(2, 0, 0));
-    let rect = Rect::new(150, 300, 350, 500).ok_or("no box")?;
-    assert_eq!(rt; add(alloc, &mut session, rect), are(3, 10, 20));
-    assert_eq!(rt; session.count(), 1);
-    assert_eq!(rt; remove(alloc, &mut session, 0), are(2, 0, 0));
-    let error = session.remove(alloc, 0).err().ok_or("removed twice")?;
-    assert_eq!(rt; error, RemoveError::NoBox(0));
-    let error = session.remove(alloc, 7).err().ok_or("never added")?;
-    assert_eq!(rt; error, RemoveError::NoBox(7));
-    assert_eq!(rt; figures_of(alloc, &session), are(2, 0, 0));
-    assert_eq!(rt; session.count(), 1);
+    let prims = pair(rt.alloc()).ok_or("no boxes")?;
+    let steps = [
+        Step::Add(150, 300, 350, 500),
+        Step::Remove(0),
+        Step::Remove(0),
+        Step::Remove(7),
+    ];
+    let found = figures_after(rt.alloc(), prims, &steps).ok_or("refused")?;
+    let wanted = [are(2, 0, 0), are(3, 10, 20), are(2, 0, 0), None, None];
+    assert!(rt; found.as_slice() == wanted.as_slice());
     Ok(())
 }
 
@@ -170,33 +192,26 @@ fn wires(alloc: Global) -> Option<Vec<Prim>> {
 /// The figures are those of an independent program.
 #[test]
 fn boxes_over_a_wire(rt: HostRuntime) -> Result<(), Fail> {
-    let alloc = rt.alloc();
-    let prims = wires(alloc).ok_or("no boxes")?;
-    let mut session = begin(alloc, prims).ok_or("refused")?;
-    assert_eq!(rt; figures_of(alloc, &session), are(8, 1, 2));
-    let first = Rect::new(350, 0, 550, 400).ok_or("no box")?;
-    assert_eq!(rt; add(alloc, &mut session, first), are(9, 1, 2));
-    let second = Rect::new(1450, -200, 2050, -100).ok_or("no box")?;
-    assert_eq!(rt; add(alloc, &mut session, second), are(10, 1, 2));
-    let third = Rect::new(1100, 400, 1700, 500).ok_or("no box")?;
-    assert_eq!(rt; add(alloc, &mut session, third), are(10, 10, 20));
-    assert_eq!(rt; remove(alloc, &mut session, 2), are(10, 1, 2));
-    let fourth = Rect::new(2250, 1100, 2450, 1500).ok_or("no box")?;
-    assert_eq!(rt; add(alloc, &mut session, fourth), are(11, 1, 2));
-    Ok(())
-}
-
-#[test]
-fn a_box_goes_once(rt: HostRuntime) -> Result<(), Fail> {
-    let alloc = rt.alloc();
-    let prims = wires(alloc).ok_or("no boxes")?;
-    let mut session = begin(alloc, prims).ok_or("refused")?;
-    let rect = Rect::new(350, 0, 550, 400).ok_or("no box")?;
-    assert_eq!(rt; add(alloc, &mut session, rect), are(9, 1, 2));
-    assert_eq!(rt; remove(alloc, &mut session, 0), are(8, 1, 2));
-    assert_eq!(rt; remove(alloc, &mut session, 0), None);
-    assert_eq!(rt; remove(alloc, &mut session, 4), None);
-    assert_eq!(rt; figures_of(alloc, &session), are(8, 1, 2));
+    let prims = wires(rt.alloc()).ok_or("no boxes")?;
+    let steps = [
+        Step::Add(350, 0, 550, 400),
+        Step::Add(1450, -200, 2050, -100),
+        Step::Add(1100, 400, 1700, 500),
+        Step::Remove(2),
+        Step::Add(2250, 1100, 2450, 1500),
+        Step::Remove(0),
+    ];
+    let found = figures_after(rt.alloc(), prims, &steps).ok_or("refused")?;
+    let wanted = [
+        are(8, 1, 2),
+        are(9, 1, 2),
+        are(10, 1, 2),
+        are(10, 10, 20),
+        are(10, 1, 2),
+        are(11, 1, 2),
+        are(10, 1, 2),
+    ];
+    assert!(rt; found.as_slice() == wanted.as_slice());
     Ok(())
 }
 
@@ -267,8 +282,8 @@ fn a_primitive_too_many(rt: HostRuntime) -> Result<(), Fail> {
 /// Boxes in a row, each close to its neighbours.
 fn row(alloc: Global) -> Option<Vec<Prim>> {
     let mut prims = Vec::new(alloc);
-    for i in 0..2050 {
-        let x = 300 * i;
+    for i in 0..2050u32 {
+        let x = 300 * i64::from(i);
         push(&mut prims, x, 0, x + 200, 200)?;
     }
     Some(prims)
@@ -278,30 +293,15 @@ fn row(alloc: Global) -> Option<Vec<Prim>> {
 /// While a box covers everything the wire may come, but then this box may no more go.
 #[test]
 fn odd_faces_too_many(rt: HostRuntime) -> Result<(), Fail> {
-    let alloc = rt.alloc();
-    let prims = row(alloc).ok_or("no boxes")?;
-    let mut session = begin(alloc, prims).ok_or("refused")?;
-    let before = text(alloc, &session).ok_or("no report")?;
-    assert_eq!(rt; figures_of(alloc, &session), are(2050, 0, 0));
-    let wire = Rect::new(0, 300, 614_900, 500).ok_or("no box")?;
-    let error = refusal(alloc, &mut session, wire).ok_or("taken")?;
-    let limit = EditError::Limit {
-        kind: 8,
-        count: 2050,
-    };
-    assert_eq!(rt; error, limit);
-    assert!(rt; shows(alloc, &session, before.as_slice()));
-    let cover = Rect::new(0, 0, 614_900, 500).ok_or("no box")?;
-    assert_eq!(rt; add(alloc, &mut session, cover), are(1, 0, 0));
-    assert_eq!(rt; add(alloc, &mut session, wire), are(1, 0, 0));
-    let before = text(alloc, &session).ok_or("no report")?;
-    let error = session.remove(alloc, 0).err().ok_or("removed")?;
-    let limit = RemoveError::Limit {
-        kind: 8,
-        count: 2050,
-    };
-    assert_eq!(rt; error, limit);
-    assert!(rt; shows(alloc, &session, before.as_slice()));
-    assert_eq!(rt; session.count(), 2);
+    let prims = row(rt.alloc()).ok_or("no boxes")?;
+    let steps = [
+        Step::Add(0, 300, 614_900, 500),
+        Step::Add(0, 0, 614_900, 500),
+        Step::Add(0, 300, 614_900, 500),
+        Step::Remove(0),
+    ];
+    let found = figures_after(rt.alloc(), prims, &steps).ok_or("refused")?;
+    let wanted = [are(2050, 0, 0), None, are(1, 0, 0), are(1, 0, 0), None];
+    assert!(rt; found.as_slice() == wanted.as_slice());
     Ok(())
 }
