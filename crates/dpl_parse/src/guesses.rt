@@ -23,7 +23,7 @@ pub fn number_from(z: i64) -> Option<u32>
 }
 
 /// A number from 0 to 1,000,000,000,000, `None` where it is none.
-pub fn count_from(z: i64) -> Option<u64>
+pub fn count_of(z: i64) -> Option<u64>
     ensures { result ≡ reading.count_of z }
 {
     if 0 <= z && z <= 1_000_000_000_000 {
@@ -34,11 +34,11 @@ pub fn count_from(z: i64) -> Option<u64>
 }
 
 /// The count that these numbers make: there is one, from 0 to 1,000,000,000,000.
-pub fn count_of(numbers: &[i64]) -> Option<u64>
+pub fn count_from(numbers: &[i64]) -> Option<u64>
     ensures { result ≡ reading.count_from numbers.now }
 {
     match numbers {
-        [number] => count_from(*number),
+        [number] => count_of(*number),
         _ => None,
     }
 }
@@ -182,7 +182,7 @@ pub fn cycle_of(alloc: Global, numbers: &[i64]) -> Result<Option<Cycle>, NoMemor
 {
     match numbers {
         [half, start, others @ ..] => {
-            let Some(half) = count_from(*half) else {
+            let Some(half) = count_of(*half) else {
                 return Ok(None);
             };
             let Some(start) = number_from(*start) else {

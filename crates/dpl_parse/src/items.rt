@@ -5,7 +5,7 @@ ghost use Rattle.dpl_rules.specs.Readers.{Reads};
 ghost use Rattle.dpl_report.specs.Plain.{plain_zone};
 ghost use Rattle.dpl_report.specs.Reading as reading;
 
-use crate::guesses::{aside_of, box_of, broken_of, count_of, cycle_of, zone_of};
+use crate::guesses::{aside_of, box_of, broken_of, count_from, cycle_of, zone_of};
 use crate::numbers::numbers_in;
 use dpl_boxes::push_box;
 use dpl_cell::Rect;
@@ -19,7 +19,7 @@ pub fn count_in(alloc: Global, word: &[u8], line: &[u8]) -> Result<Option<u64>, 
     ensures { IfOk result (λ o. o ≡ reading.item_count word.now line.now) }
 {
     let numbers = numbers_in(alloc, line)?;
-    let Some(number) = count_of(&numbers) else {
+    let Some(number) = count_from(&numbers) else {
         return Ok(None);
     };
     let mut again = Vec::new(alloc);
