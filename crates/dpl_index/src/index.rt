@@ -33,7 +33,7 @@ impl Model for Index {
 }
 
 impl Index {
-    ghost use Rattle.std.specs.Prelude.{◌≡◌, ℕ, IfOk, IfSome, MatchOption};
+    ghost use Rattle.std.specs.Prelude.{◌≡◌, ℕ, IfOk, MatchOption};
     ghost use Rattle.dpl_index.specs.Meetings.{AreMeeting, IsHolding};
 
     /// An index of items with these bounds. It takes about n log n steps for n of them.
@@ -52,24 +52,6 @@ impl Index {
         let mut found = gather(alloc, bounds, stops, window, usize::MAX)?;
         put_in_order(&mut found);
         Ok(found)
-    }
-
-    /// The same, or `None` as soon as more than `most` are found.
-    pub fn few_meeting(
-        &self,
-        alloc: Global,
-        window: &Bounds,
-        most: usize,
-    ) -> Result<Option<Vec<usize>>, NoMemory>
-        ensures { IfOk result (λ few. IfSome few (λ v. AreMeeting self.now window.now v.items)) }
-    {
-        let (bounds, stops) = (self.bounds.as_slice(), self.stops.as_slice());
-        let mut found = gather(alloc, bounds, stops, window, most)?;
-        if found.len() > most {
-            return Ok(None);
-        }
-        put_in_order(&mut found);
-        Ok(Some(found))
     }
 
     /// An item whose bounds hold these, if there is one.

@@ -85,18 +85,6 @@ fn an_empty_index(rt: HostRuntime) -> Result<(), Fail> {
     Ok(())
 }
 
-#[test]
-fn only_where_few_are_found(rt: HostRuntime) -> Result<(), Fail> {
-    let index = grid(&rt)?;
-    let inner = bounds((5, 9), (5, 9));
-    match index.few_meeting(rt.alloc(), &inner, 4)? {
-        Some(found) => assert_eq!(rt; found.as_slice(), [5, 6, 9, 10].as_slice()),
-        None => assert!(rt; false),
-    }
-    assert!(rt; index.few_meeting(rt.alloc(), &inner, 3)?.is_none());
-    Ok(())
-}
-
 /// Two squares side by side of one kind, and one of another kind above each of them.
 #[test]
 fn of_other_kinds_and_of_one_kind_nearby(rt: HostRuntime) -> Result<(), Fail> {

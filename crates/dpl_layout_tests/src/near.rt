@@ -87,15 +87,6 @@ fn the_boundary_of_the_reach(rt: HostRuntime) -> Result<(), Fail> {
         [2, 4, 5].as_slice()
     );
     assert_eq!(rt; finder.near(rt.alloc(), 2)?.as_slice(), [0].as_slice());
-    assert_eq!(rt;
-        finder.nearer(rt.alloc(), 0, 199)?.as_slice(),
-        [5].as_slice()
-    );
-    assert!(rt; finder.few_near(rt.alloc(), 0, 2)?.is_none());
-    match finder.few_near(rt.alloc(), 0, 6)? {
-        Some(few) => assert_eq!(rt; few.as_slice(), [2, 4, 5].as_slice()),
-        None => assert!(rt; false),
-    }
     Ok(())
 }
 

@@ -37,7 +37,7 @@ impl<'a> Model for Finder<'a> {
 }
 
 impl<'a> Finder<'a> {
-    ghost use Rattle.std.specs.Prelude.{◌≡◌, ℕ, ◌≤◌, ◌<◌, length, IfOk, IfSome, map};
+    ghost use Rattle.std.specs.Prelude.{◌≡◌, ℕ, ◌≤◌, ◌<◌, length, IfOk, map};
     ghost use Rattle.dpl_cell.specs.Places.{corners_of};
     ghost use Rattle.dpl_near.specs.Near.{Search, AreNear};
 
@@ -65,35 +65,6 @@ impl<'a> Finder<'a> {
         let window = within_reach(&self.rects[i as usize], self.reach);
         let found = self.index.meeting(alloc, &window)?;
         let near = near_among(alloc, self.rects, self.reach, i as usize, found.as_slice())?;
-        Ok(near)
-    }
-
-    /// The same, or `None` where the bounds of more than `most` are near.
-    pub fn few_near(&self, alloc: Global, i: u32, most: usize) -> Result<Option<Vec<u32>>, NoMemory>
-        requires { i < length self.now.rects }
-        ensures { IfOk result (λ few. IfSome few (λ v. AreNear self.now i v.items)) }
-    {
-        let window = within_reach(&self.rects[i as usize], self.reach);
-        match self.index.few_meeting(alloc, &window, most)? {
-            None => Ok(None),
-            Some(found) => {
-                let found = found.as_slice();
-                let near = near_among(alloc, self.rects, self.reach, i as usize, found)?;
-                Ok(Some(near))
-            }
-        }
-    }
-
-    /// The numbers of the other rectangles whose gap to this one is less than another reach, ascending.
-    pub fn nearer(&self, alloc: Global, i: u32, reach: u64) -> Result<Vec<u32>, NoMemory>
-        requires within { i < length self.now.rects }
-        requires shorter { reach ≤ self.now.reach }
-        ensures { IfOk result (λ v.
-            AreNear (record { rects = self.now.rects; reach = reach }) i v.items) }
-    {
-        let window = within_reach(&self.rects[i as usize], reach);
-        let found = self.index.meeting(alloc, &window)?;
-        let near = near_among(alloc, self.rects, reach, i as usize, found.as_slice())?;
         Ok(near)
     }
 }
