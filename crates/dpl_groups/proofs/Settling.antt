@@ -9,15 +9,11 @@ use Rattle.dpl_groups.specs.declared.walk.Mark.TheVariants.{New, Open, Done}
 use Rattle.dpl_groups.specs.Walk.{View, view, IsSettled, IsWalk, IsTopNode, IsTop, opened, looked, popped, closed, AreMerged, Settles, StaySeen, begins_at}
 use Rattle.std.proofs.lemmas.List.{get_or_default}
 use Rattle.dpl_groups.specs.declared.walk.Walk.{Walk}
-use Rattle.dpl_groups.proofs.Views.{left_size, left_few}
+use Rattle.dpl_groups.proofs.Views.{left_size, left_few, read_path, path_deep}
 use Rattle.dpl_groups.proofs.Reach.{set_same, set_other}
 use Rattle.dpl_groups.proofs.Walks.{open_new, top, start_low, opened_kept}
 use Rattle.dpl_groups.proofs.Steps.{merged_none, merged_kept, looked_kept, popped_kept}
 use Rattle.dpl_groups.proofs.Closing.{shut_new, closed_kept}
-
-pub on_ok : {A E P Q : Type 0} (r : Result A E) → (P → Q) → OnOk r P → OnOk r Q
-on_ok (Ok a) f p = f p
-on_ok (Err e) f p = tt
 
 pub on_both : {A E P Q R : Type 0} (r : Result A E) → (P → Q → R) → OnOk r P → OnOk r Q → OnOk r R
 on_both (Ok a) f p q = f p q
@@ -42,6 +38,22 @@ top_node g v x I t = let b : 0 < v.height = t.busy in subst (λ (n : ℕ). n < l
 
 pub node_of_top : (v : View) (i x : ℕ) → IsTop v i → v.path i ≡ x → IsTopNode v x
 node_of_top v i x t e = record { busy = t.busy; node = ap v.path t.top ∙ e }
+
+-- the node at the top of the stack, as the lists of the walk give it
+pub record IsRead (w : Walk) (place n : ℕ) : Type 0 where
+  pub node : (view w).path place ≡ n
+  pub top : IsTopNode (view w) n
+  pub within : n < length w.left.items
+
+-- what was read at the top of the path is that node
+pub top_read : (g : Graph) (w : Walk) (place n d : ℕ) → IsWalk g (view w) → IsTop (view w) place →
+    n ≡ get_or w.path.items place d → IsRead w place n
+top_read g w place n d walk top e =
+    let node = read_path w place n d (path_deep g w place walk top) e in
+    let at = node_of_top (view w) place n top node in
+    let here = top_node g (view w) n walk at in
+    let size = left_size g w walk in
+    record { node = node; top = at; within = omega (arith, here, size) }
 
 pub close_seen : (v w : View) (i : ℕ) → w ≡ closed v i → StaySeen v w
 close_seen v w i e = subst (StaySeen v) (sym e) (λ x n m. n (shut_new i v.count (v.mark x) m))

@@ -1,6 +1,6 @@
 -- Facts of integers that are searched for, and the test of one against another with the fact that it tells.
-use Rattle.std.proofs.Common.{◌≡◌, ℤ, ◌<ℤ◌, ◌≤ℤ◌, true, false, int_lt, arith}
-use Rattle.std.proofs.lemmas.Int.{ints, clamps}
+use Rattle.std.proofs.Common.{◌≡◌, ◌≢◌, ◌⊎◌, inl, inr, ℤ, ◌<ℤ◌, ◌≤ℤ◌, true, false, int_lt, int_le, arith}
+use Rattle.std.proofs.lemmas.Int.{ints, clamps, by_lt_z}
 
 pub ruleset signed = (arith, ints, clamps)
 
@@ -15,3 +15,16 @@ no_less_test a b h = grind (arith, ints)
 
 pub not_less : (a b : ℤ) → int_lt a b ≡ false → b ≤ℤ a
 not_less a b e = grind (arith, ints)
+
+-- a test that one is at most another tells that it is
+pub is_at_most : (a b : ℤ) → int_le a b ≡ true → a ≤ℤ b
+is_at_most a b e = grind (arith, ints)
+
+-- and what is at most another passes that test
+pub at_most_test : (a b : ℤ) → a ≤ℤ b → int_le a b ≡ true
+at_most_test a b h = grind (arith, ints)
+
+-- two are the same or they differ
+pub same_or_not : (a b : ℤ) → (a ≡ b) ⊎ (a ≢ b)
+same_or_not a b = by_lt_z a b (λ l. inr (λ e. omega (arith, ints, l, e)))
+    (λ l. by_lt_z b a (λ m. inr (λ e. omega (arith, ints, m, e))) (λ m. inl (omega (arith, ints, l, m))))

@@ -1,20 +1,14 @@
 -- Facts about all, some and all pairs of the items of a list.
-use Rattle.std.proofs.Common.{arith, ◌≡◌, ℕ, zero, suc, ◌+◌, ◌-◌, ◌<◌, ◌≤◌, List, length, get_or, ◌∙◌, All, AllPairs}
+use Rattle.std.proofs.Common.{arith, ◌≡◌, ℕ, zero, suc, ◌+◌, ◌-◌, ◌<◌, ◌≤◌, List, length, get_or, ◌∙◌, All, AllPairs, subst, take, drop, replicate}
 use Rattle.std.proofs.Common.{Any, Contains, refl, sym, ap, inl, inr, ◌⊎◌, ◌∷◌, [], ◌++◌, Bool, true, false, cond}
 use Rattle.std.proofs.Common.{filter, length-append, map}
 use Rattle.std.specs.List.{remove}
 use Rattle.std.specs.List.Sorted.{IsPermutation}
 use Rattle.std.proofs.lemmas.Bool.{cases_lt}
-use Rattle.std.proofs.lemmas.List.{get_or_append_left, get_or-append_right, get_or-append-add, get_or-map, length-map}
+use Rattle.std.proofs.lemmas.List.{get_or_append_left, get_or-append_right, get_or-append-add, get_or-map, length-map, take_at}
 use Rattle.std.proofs.lemmas.List.Sorted.{IsPermutation-remove, Contains-permutation, length_permutation}
 
 -- ---- the first item and the others
-
-pub all_head : {X : Type 0} (P : X → Type 0) (x : X) (xs : List X) → All P (x ∷ xs) → P x
-all_head P x xs a = a 0 x (omega arith)
-
-pub all_tail : {X : Type 0} (P : X → Type 0) (x : X) (xs : List X) → All P (x ∷ xs) → All P xs
-all_tail P x xs a k d l = a (suc k) d (omega arith)
 
 pub pairs_head : {X : Type 0} (R : X → X → Type 0) (x : X) (xs : List X) → AllPairs R (x ∷ xs) → All (R x) xs
 pairs_head R x xs a k d l = a 0 (suc k) d (omega arith) (omega arith)
@@ -49,6 +43,13 @@ any_left P xs ys (k, x, l, e, p) = (k, x, rw length-append (omega arith), get_or
 pub any_right : {X : Type 0} (P : X → Type 0) (xs ys : List X) → Any P ys → Any P (xs ++ ys)
 any_right P xs ys (k, x, l, e, p) = (length xs + k, x, rw length-append (omega arith), get_or-append-add xs ys k x ∙ e, p)
 
+-- what holds of some item of two lists holds of one of the first or of one of the second
+pub any_split : {X : Type 0} (P : X → Type 0) (xs ys : List X) → Any P (xs ++ ys) → Any P xs ⊎ Any P ys
+any_split P xs ys (k, x, l, e, p) = let n = length-append xs ys in elim (cases_lt k (length xs)) [
+  | inl h ↦ inl (k, x, h, sym (get_or_append_left xs ys x k h) ∙ e, p)
+  | inr h ↦ inr (k - length xs, x, omega arith, sym (get_or-append_right xs ys (length xs) k x refl h) ∙ e, p)
+]
+
 pub all_pairs_append : {X : Type 0} (R : X → X → Type 0) (xs ys : List X) → AllPairs R xs → AllPairs R ys
     → ((i j : ℕ) (d : X) → i < length xs → j < length ys → R (get_or xs i d) (get_or ys j d)) → AllPairs R (xs ++ ys)
 all_pairs_append R xs ys a b c i j d h l =
@@ -72,12 +73,29 @@ pub some_of : {X : Type 0} (xs : List X) (k : ℕ) → k < length xs → X
 some_of [] k l = absurd (omega arith)
 some_of (x ∷ xs) k l = x
 
+-- a list that was written over from its front, as long as it was
+pub refilled : {X : Type 0} (n : ℕ) (ws xs : List X) → n ≡ length xs → length ws ≡ length xs → take n (ws ++ drop (length ws) xs) ≡ ws
+refilled n ws xs l e = take_at ws (drop (length ws) xs) n (e ∙ sym l)
+
+-- in a list of one thing each place gives it, and so does a place behind its end
+pub repeated : {X : Type 0} (n k : ℕ) (d : X) → get_or (replicate n d) k d ≡ d
+repeated zero k d = refl
+repeated (suc n) zero d = refl
+repeated (suc n) (suc k) d = repeated n k d
+
 pub all_pairs_map : {X Y : Type 0} (f : X → Y) (R : Y → Y → Type 0) (xs : List X) → AllPairs (λ a b. R (f a) (f b)) xs → AllPairs R (map f xs)
 all_pairs_map f R xs a i j d h l =
     let n : length (map f xs) ≡ length xs = length-map xs f in
     let l' : j < length xs = omega arith in
     let s = some_of xs j l' in
     rw (get_or-map f xs i s d (omega arith), get_or-map f xs j s d l') (a i j s h l')
+
+-- pairs that are related once each is seen as another thing are related so themselves
+pub all_pairs_of_map : {X Y : Type 0} (f : X → Y) (R : Y → Y → Type 0) (xs : List X) → AllPairs R (map f xs) → AllPairs (λ a b. R (f a) (f b)) xs
+all_pairs_of_map f R xs a i j d h l =
+    let n = length-map xs f in
+    subst (λ z. R z (f (get_or xs j d))) (get_or-map f xs i d (f d) (omega (arith, h, l)))
+    (subst (λ z. R (get_or (map f xs) i (f d)) z) (get_or-map f xs j d (f d) l) (a i j (f d) h (omega (arith, l, n))))
 
 pub contains_map : {X Y : Type 0} (f : X → Y) (xs : List X) (x : X) (y : Y) → Contains xs x → f x ≡ y → Contains (map f xs) y
 contains_map f xs x y (k, l, e) g = (k, rw (length-map xs f) l, get_or-map f xs k x y l ∙ ap f e ∙ g)

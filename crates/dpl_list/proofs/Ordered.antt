@@ -1,5 +1,5 @@
 -- Lists are the same where they have the same items in order, place by place, or under a map.
-use Rattle.std.proofs.Common.{arith, ◌≡◌, ◌<◌, ◌⊎◌, inl, inr, ℕ, zero, suc, List, [], ◌∷◌, length, map, refl, sym, ◌∙◌, subst, All, AllPairs, Contains, get_or}
+use Rattle.std.proofs.Common.{arith, ◌≡◌, ◌<◌, ◌⊎◌, inl, inr, ℕ, suc, List, [], ◌∷◌, length, map, refl, sym, ◌∙◌, subst, AllPairs, Contains, get_or}
 use Rattle.dpl_list.proofs.Lists.{none_in, in_cons, in_head, in_tail, pairs_tail}
 
 -- what stands behind the first
@@ -32,10 +32,6 @@ ordered_same {X} R asym (x ∷ xs) (y ∷ ys) p q f g =
     back : x ≡ y → (z : X) → Contains ys z → (x ≡ z) ⊎ Contains xs z → Contains xs z
     back e z c (inr d) = d
     back e z c (inl d) = let r = subst (λ w. R y w) (sym (sym e ∙ d)) (behind_first R y z ys q c) in absurd (asym y y r r)
-
--- what holds of all items of a list holds of one that it contains
-pub has_all : {X : Type 0} (P : X → Type 0) (xs : List X) (z : X) → All P xs → Contains xs z → P z
-has_all P xs z a (k, l, e) = subst P e (a k z l)
 
 -- lists with the same item at each place
 pub lists_same : {X : Type 0} (xs ys : List X) (d : X) → length xs ≡ length ys → ((k : ℕ) → k < length xs → get_or xs k d ≡ get_or ys k d) → xs ≡ ys

@@ -1,8 +1,12 @@
-//! A list of values that contracts see as the list of its items.
+//! Lists of values that contracts see as the lists of their items: `Items`, and `Grouped`, which has them in rows by
+//! their keys.
 #![tactic(auto)]
+
+mod rows;
 
 ghost use Rattle.std.specs.Prelude.{◌≡◌};
 
+pub use rows::Grouped;
 use std::marker::Model;
 
 /// Items in their order. It is made from a `Vec` and gives it back, and neither takes memory.

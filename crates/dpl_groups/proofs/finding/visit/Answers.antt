@@ -1,8 +1,8 @@
 use Rattle.std.proofs.Common.{◌≡◌, ◌∙◌, ◌<◌, sym, length, arith, rules}
+use Rattle.std.proofs.lemmas.Result.{on_ok_weaker}
 use Rattle.dpl_groups.specs.declared.walk.Mark.TheVariants.{New}
 use Rattle.dpl_groups.specs.Walk.{view}
 use Rattle.dpl_groups.proofs.Views.{marks_size, read_mark}
-use Rattle.dpl_groups.proofs.Settling.{on_ok}
 use Rattle.dpl_groups.proofs.AllDone.{is_new, is_seen, opened_first, opened_seen, opened_node}
 use Rattle.dpl_groups.proofs.finding.visit.Goals as goal
 
@@ -36,9 +36,9 @@ returns-then-not-is_new-clause-node c =
     (sym c.is_new.ensures ∙ c.if-not-is_new.true)
 
 pub returns-clause-seen : goal.returns-clause-seen
-returns-clause-seen c = on_ok c.finish.result (λ s. λ x n. s x
+returns-clause-seen c = on_ok_weaker c.finish.result (λ s. λ x n. s x
     (opened_seen c.args.walk.now c.open.new.self c.args.node x c.in_ok-open.ensures.view n)) c.finish.ensures.seen
 
 pub returns-clause-node : goal.returns-clause-node
-returns-clause-node c = on_ok c.finish.result (λ s. s c.args.node
+returns-clause-node c = on_ok_weaker c.finish.result (λ s. s c.args.node
     (opened_node c.args.walk.now c.open.new.self c.args.node c.in_ok-open.ensures.view)) c.finish.ensures.seen

@@ -1,8 +1,9 @@
 use Rattle.std.proofs.Common.{◌≡◌, ◌∙◌, ◌<◌, length, arith, rules}
+use Rattle.std.proofs.lemmas.Result.{on_ok_weaker}
 use Rattle.dpl_groups.specs.declared.walk.Mark.TheVariants.{New, Open, Done}
 use Rattle.dpl_groups.specs.Walk.{view}
 use Rattle.dpl_groups.proofs.Views.{read_mark, marks_size}
-use Rattle.dpl_groups.proofs.Settling.{on_ok, settle_new, settle_open, settle_done}
+use Rattle.dpl_groups.proofs.Settling.{settle_new, settle_open, settle_done}
 use Rattle.dpl_groups.proofs.walk.Walk.settle.Goals as goal
 
 pub index-requires : goal.index-requires
@@ -21,7 +22,7 @@ returns-in-New-clause-settled c =
     let mark : (view c.args.self.now).mark c.args.next ≡ New =
     read_mark c.args.self.now c.args.next c.index.result.now (omega (arith, size, c.requires.next))
     c.index.ensures ∙ c.in-New.is in
-    on_ok c.open.result (λ e. settle_new c.args.edges.now (view c.args.self.now) c.requires.walk c.args.node c.args.next
+    on_ok_weaker c.open.result (λ e. settle_new c.args.edges.now (view c.args.self.now) c.requires.walk c.args.node c.args.next
     c.requires.top c.requires.next c.requires.edge _ mark e) c.open.ensures.view
 
 pub returns-in-Open-clause-settled : goal.returns-in-Open-clause-settled

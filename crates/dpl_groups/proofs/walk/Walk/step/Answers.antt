@@ -1,8 +1,9 @@
 use Rattle.std.proofs.Common.{◌≡◌, ◌∙◌, ◌<◌, ap, sym, length, get_or, arith, rules, true, false}
 use Rattle.std.proofs.lemmas.List.{get_or_default}
+use Rattle.std.proofs.lemmas.Result.{on_ok_weaker}
 use Rattle.dpl_groups.specs.Walk.{View, view, work, begins_at}
-use Rattle.dpl_groups.proofs.Views.{path_deep, read_path, left_size, left_at, on_path, work_is}
-use Rattle.dpl_groups.proofs.Settling.{on_ok, on_both, top_node, node_of_top, close_kept, pop_kept, close_seen, pop_seen, lower}
+use Rattle.dpl_groups.proofs.Views.{path_deep, left_at, on_path, work_is}
+use Rattle.dpl_groups.proofs.Settling.{on_both, top_read, close_kept, pop_kept, close_seen, pop_seen, lower}
 use Rattle.dpl_groups.proofs.walk.Walk.step.Goals as goal
 
 pub index-node-requires : goal.index-node-requires
@@ -12,40 +13,20 @@ index-node-requires c =
 
 pub index-requires : goal.index-requires
 index-requires c =
-    let deep : c.args.place < length c.args.self.now.path.items = path_deep c.args.edges.now c.args.self.now c.args.place c.requires.walk c.requires.top in
-    let node : (view c.args.self.now).path c.args.place ≡ c.index-node.result.now =
-    read_path c.args.self.now c.args.place c.index-node.result.now _ deep c.index-node.ensures in
-    let here : c.index-node.result.now < length c.args.edges.now =
-    top_node c.args.edges.now (view c.args.self.now) c.index-node.result.now c.requires.walk
-    (node_of_top (view c.args.self.now) c.args.place c.index-node.result.now c.requires.top node) in
-    let size : length c.args.self.now.left.items ≡ length c.args.edges.now = left_size c.args.edges.now c.args.self.now c.requires.walk in
-    let within : c.index-node.result.now < length c.args.self.now.left.items = omega arith in
+    let at = top_read c.args.edges.now c.args.self.now c.args.place c.index-node.result.now _ c.requires.walk c.requires.top c.index-node.ensures in
+    let within : c.index-node.result.now < length c.args.self.now.left.items = at.within in
     search rules
 
 pub look-requires-clause-top : goal.look-requires-clause-top
 look-requires-clause-top c =
-    let deep : c.args.place < length c.args.self.now.path.items = path_deep c.args.edges.now c.args.self.now c.args.place c.requires.walk c.requires.top in
-    let node : (view c.args.self.now).path c.args.place ≡ c.index-node.result.now =
-    read_path c.args.self.now c.args.place c.index-node.result.now _ deep c.index-node.ensures in
-    let here : c.index-node.result.now < length c.args.edges.now =
-    top_node c.args.edges.now (view c.args.self.now) c.index-node.result.now c.requires.walk
-    (node_of_top (view c.args.self.now) c.args.place c.index-node.result.now c.requires.top node) in
-    let size : length c.args.self.now.left.items ≡ length c.args.edges.now = left_size c.args.edges.now c.args.self.now c.requires.walk in
-    let within : c.index-node.result.now < length c.args.self.now.left.items = omega arith in
-    node_of_top (view c.args.self.now) c.args.place c.index-node.result.now c.requires.top node
+    let at = top_read c.args.edges.now c.args.self.now c.args.place c.index-node.result.now _ c.requires.walk c.requires.top c.index-node.ensures in
+    at.top
 
 pub look-requires-clause-more : goal.look-requires-clause-more
 look-requires-clause-more c =
-    let deep : c.args.place < length c.args.self.now.path.items = path_deep c.args.edges.now c.args.self.now c.args.place c.requires.walk c.requires.top in
-    let node : (view c.args.self.now).path c.args.place ≡ c.index-node.result.now =
-    read_path c.args.self.now c.args.place c.index-node.result.now _ deep c.index-node.ensures in
-    let here : c.index-node.result.now < length c.args.edges.now =
-    top_node c.args.edges.now (view c.args.self.now) c.index-node.result.now c.requires.walk
-    (node_of_top (view c.args.self.now) c.args.place c.index-node.result.now c.requires.top node) in
-    let size : length c.args.self.now.left.items ≡ length c.args.edges.now = left_size c.args.edges.now c.args.self.now c.requires.walk in
-    let within : c.index-node.result.now < length c.args.self.now.left.items = omega arith in
+    let at = top_read c.args.edges.now c.args.self.now c.args.place c.index-node.result.now _ c.requires.walk c.requires.top c.index-node.ensures in
     let count : c.index.result.now ≡ get_or c.args.self.now.left.items c.index-node.result.now 0 = c.index.ensures ∙
-    get_or_default c.args.self.now.left.items c.index-node.result.now _ 0 within in
+    get_or_default c.args.self.now.left.items c.index-node.result.now _ 0 at.within in
     omega (arith, count, c.if-index-gt0.true)
 
 pub close-requires-clause-path : goal.close-requires-clause-path
@@ -56,24 +37,17 @@ close-requires-clause-place c = path_deep c.args.edges.now c.args.self.now c.arg
 
 pub returns-then-begins_at-clause-walk : goal.returns-then-begins_at-clause-walk
 returns-then-begins_at-clause-walk c =
-    let deep : c.args.place < length c.args.self.now.path.items = path_deep c.args.edges.now c.args.self.now c.args.place c.requires.walk c.requires.top in
-    let node : (view c.args.self.now).path c.args.place ≡ c.index-node.result.now =
-    read_path c.args.self.now c.args.place c.index-node.result.now _ deep c.index-node.ensures in
-    let here : c.index-node.result.now < length c.args.edges.now =
-    top_node c.args.edges.now (view c.args.self.now) c.index-node.result.now c.requires.walk
-    (node_of_top (view c.args.self.now) c.args.place c.index-node.result.now c.requires.top node) in
-    let size : length c.args.self.now.left.items ≡ length c.args.edges.now = left_size c.args.edges.now c.args.self.now c.requires.walk in
-    let within : c.index-node.result.now < length c.args.self.now.left.items = omega arith in
+    let at = top_read c.args.edges.now c.args.self.now c.args.place c.index-node.result.now _ c.requires.walk c.requires.top c.index-node.ensures in
     let count : c.index.result.now ≡ get_or c.args.self.now.left.items c.index-node.result.now 0 = c.index.ensures ∙
-    get_or_default c.args.self.now.left.items c.index-node.result.now _ 0 within in
+    get_or_default c.args.self.now.left.items c.index-node.result.now _ 0 at.within in
     let none : (view c.args.self.now).left c.index-node.result.now ≡ 0 =
     rw (left_at c.args.self.now c.index-node.result.now) (omega (arith, count, c.if-index-gt0.false)) in
     let begins : begins_at (view c.args.self.now) c.args.place ≡ true = sym c.begins_at.ensures ∙ c.if-begins_at.true in
-    on_ok c.close.result (λ e. close_kept c.args.edges.now (view c.args.self.now) c.requires.walk c.args.place
-    c.index-node.result.now c.requires.top node none _ begins e) c.close.ensures.view
+    on_ok_weaker c.close.result (λ e. close_kept c.args.edges.now (view c.args.self.now) c.requires.walk c.args.place
+    c.index-node.result.now c.requires.top at.node none _ begins e) c.close.ensures.view
 
 pub returns-then-begins_at-clause-seen : goal.returns-then-begins_at-clause-seen
-returns-then-begins_at-clause-seen c = on_ok c.close.result (λ e. close_seen (view c.args.self.now) _ c.args.place e) c.close.ensures.view
+returns-then-begins_at-clause-seen c = on_ok_weaker c.close.result (λ e. close_seen (view c.args.self.now) _ c.args.place e) c.close.ensures.view
 
 pub returns-then-begins_at-clause-smaller : goal.returns-then-begins_at-clause-smaller
 returns-then-begins_at-clause-smaller c =
@@ -83,20 +57,14 @@ returns-then-begins_at-clause-smaller c =
 
 pub returns-clause-walk : goal.returns-clause-walk
 returns-clause-walk c =
-    let deep : c.args.place < length c.args.self.now.path.items = path_deep c.args.edges.now c.args.self.now c.args.place c.requires.walk c.requires.top in
-    let node : (view c.args.self.now).path c.args.place ≡ c.index-node.result.now =
-    read_path c.args.self.now c.args.place c.index-node.result.now _ deep c.index-node.ensures in
-    let here : c.index-node.result.now < length c.args.edges.now =
-    top_node c.args.edges.now (view c.args.self.now) c.index-node.result.now c.requires.walk
-    (node_of_top (view c.args.self.now) c.args.place c.index-node.result.now c.requires.top node) in
-    let size : length c.args.self.now.left.items ≡ length c.args.edges.now = left_size c.args.edges.now c.args.self.now c.requires.walk in
-    let within : c.index-node.result.now < length c.args.self.now.left.items = omega arith in
+    let at = top_read c.args.edges.now c.args.self.now c.args.place c.index-node.result.now _ c.requires.walk c.requires.top c.index-node.ensures in
     let count : c.index.result.now ≡ get_or c.args.self.now.left.items c.index-node.result.now 0 = c.index.ensures ∙
-    get_or_default c.args.self.now.left.items c.index-node.result.now _ 0 within in
+    get_or_default c.args.self.now.left.items c.index-node.result.now _ 0 at.within in
     let none : (view c.args.self.now).left c.index-node.result.now ≡ 0 =
     rw (left_at c.args.self.now c.index-node.result.now) (omega (arith, count, c.if-index-gt0.false)) in
     let begins : begins_at (view c.args.self.now) c.args.place ≡ false = sym c.begins_at.ensures ∙ c.if-begins_at.false in
-    pop_kept c.args.edges.now (view c.args.self.now) c.requires.walk c.args.place c.index-node.result.now c.requires.top node none _ begins c.pop.ensures.view
+    pop_kept c.args.edges.now (view c.args.self.now) c.requires.walk c.args.place c.index-node.result.now c.requires.top
+    at.node none _ begins c.pop.ensures.view
 
 pub returns-clause-seen : goal.returns-clause-seen
 returns-clause-seen c = pop_seen (view c.args.self.now) _ c.pop.ensures.view
