@@ -1,5 +1,5 @@
 -- The bands between ordinates in order.
-use Rattle.std.proofs.Common.{arith, ◌≡◌, ℕ, ◌+◌, ◌-◌, ◌<◌, ◌≤◌, ℤ, pos, ◌<ℤ◌, ◌≤ℤ◌, List, length, get_or, All, subst}
+use Rattle.std.proofs.Common.{arith, ◌≡◌, ℕ, ◌+◌, ◌-◌, ◌<◌, ◌≤◌, ◌^◌, ℤ, pos, neg_ℤ, ◌<ℤ◌, ◌≤ℤ◌, List, length, get_or, All, subst}
 use Rattle.std.proofs.Common.{ap, refl, sym, ◌∷◌, ◌∙◌, inl, inr, [], Bool, true, false, map}
 use Rattle.std.proofs.lemmas.Bool.{cases_lt}
 use Rattle.std.proofs.lemmas.List.{get_or_default}
@@ -9,6 +9,7 @@ use Rattle.dpl_cell.specs.declared.layout.Primitive.{Primitive}
 use Rattle.dpl_cell.specs.declared.layout.Primitive.TheVariants as prim
 use Rattle.dpl_cell.specs.Places.{place_of}
 use Rattle.dpl_cell.specs.Cells.{IsWithin}
+use Rattle.dpl_cell.specs.Ranges.{IsInRange}
 use Rattle.dpl_cell.specs.Outlines.{outline_of}
 use Rattle.dpl_cell.specs.Layers.{is_cell}
 use Rattle.dpl_list.specs.Order.{Ascends}
@@ -128,3 +129,8 @@ pub last_row_is : (rows : List ℤ) (k : ℕ) → length rows ≤ k → (1 ≤ l
     get_or rows (length rows - 1) (pos 0) ≡ get_or rows (k - 1) (pos 0)
 last_row_is [] k whole upto = refl
 last_row_is (z ∷ rows) k whole upto = let e : length (z ∷ rows) ≡ k = omega arith in ap (λ n. get_or (z ∷ rows) (n - 1) (pos 0)) e
+
+-- the row below all others is not above the first of some rows
+pub least_first : (rows : List ℤ) → All IsInRange rows → neg_ℤ (pos (2 ^ 63)) ≤ℤ get_or rows 0 (pos 0)
+least_first [] r = omega signed
+least_first (z ∷ zs) r = let l = (r 0 z (omega arith)).low in omega (signed, l)

@@ -1,5 +1,5 @@
 -- Which columns of a row can differ from the row below it: those of the sides that end there.
-use Rattle.std.proofs.Common.{arith, ◌≡◌, ◌≢◌, ◌⊎◌, ◌∙◌, refl, sym, ap, inl, inr, ℕ, ◌+◌, ◌%◌, ◌==◌, ℤ, pos, ◌-ℤ◌, ◌≤ℤ◌}
+use Rattle.std.proofs.Common.{arith, ◌≡◌, ◌≢◌, ◌∙◌, refl, sym, ap, inl, inr, ℕ, ◌+◌, ◌%◌, ◌==◌, ℤ, pos, ◌-ℤ◌, ◌≤ℤ◌}
 use Rattle.std.proofs.Common.{int_le, Bool, true, false, cond, ◌&&◌, ◌||◌, List, [], ◌∷◌, get_or, map, All, Any}
 use Rattle.std.proofs.Common.{Contains}
 use Rattle.std.proofs.lemmas.Int.{by_lt_z}
@@ -18,7 +18,7 @@ use Rattle.dpl_tiles.specs.Bounds.{SpansColumns}
 use Rattle.dpl_tiles.specs.Corners.{IsCornerOf, SpansSide, IsEndOf, HasSides, HasCornersOf, AreCorners, AreCornersAt}
 use Rattle.dpl_tiles.specs.Clusters.{AreChanges}
 use Rattle.dpl_cell.proofs.BoxLemmas.{equal_z}
-use Rattle.dpl_list.proofs.Integers.{signed}
+use Rattle.dpl_list.proofs.Integers.{signed, same_or_not}
 use Rattle.dpl_tiles.proofs.SideLemmas.{bit, spans, spans_parity}
 use Rattle.dpl_tiles.proofs.OutlineLemmas.{AllColumns, Agrees, Lies, side_same, outline_same, outline_past, at_most, above}
 
@@ -27,9 +27,6 @@ agrees : (z c : ℤ) → c ≢ z → Agrees (z -ℤ pos 1) z c
 agrees z c n = by_lt_z c z
     (λ h. at_most c (z -ℤ pos 1) (omega signed) ∙ sym (at_most c z (omega signed)))
     (λ h. by_lt_z z c (λ g. above c (z -ℤ pos 1) (omega signed) ∙ sym (above c z g)) (λ g. absurd (n (equal_z c z g h))))
-
-equal_or_not : (c z : ℤ) → (c ≡ z) ⊎ (c ≢ z)
-equal_or_not c z = by_lt_z c z (λ h. inr (λ e. absurd (omega signed))) (λ h. by_lt_z z c (λ g. inr (λ e. absurd (omega signed))) (λ g. inl (equal_z c z g h)))
 
 -- a primitive has no cell in a column outside those of its corners
 pub columns_past : (left right x : ℤ) (p : Primitive) → SpansColumns left right p → IsOutside left right x → (b : Bool) × AllColumns (Lies b x) (outline_of p)
@@ -95,9 +92,9 @@ past_side x z p q (b, e, f) = one_side x z (place_of p) (place_of q) b e f
 side_turns : (x z : ℤ) (p q : Point) → IsAsideAt x z p q →
     (bit (is_left_side x (z -ℤ pos 1) (place_of p) (place_of q)) + bit
     (is_left_side x z (place_of p) (place_of q)) + turn x z (place_of p) + turn x z (place_of q)) % 2 ≡ 0
-side_turns x z p q (f, g) = elim (equal_or_not p.y z) [
+side_turns x z p q (f, g) = elim (same_or_not p.y z) [
   | inl e ↦ past_side x z p q (f e)
-  | inr n ↦ elim (equal_or_not q.y z) [ inl e ↦ past_side x z p q (g e) | inr m ↦ no_end x z (place_of p) (place_of q) n m ]
+  | inr n ↦ elim (same_or_not q.y z) [ inl e ↦ past_side x z p q (g e) | inr m ↦ no_end x z (place_of p) (place_of q) n m ]
 ]
 
 -- each side with an end at row z, from one point through the list and on to the last
@@ -150,9 +147,9 @@ box_same x z r out = let (b, a) = columns_past r.x1 r.x2 x (prim.Box r) (itself 
 -- one primitive
 same_cell : (x z : ℤ) (corners : List Corner) (p : Primitive) → All (IsPast x z) corners → HasCornersOf corners p →
     is_in_outline x (z -ℤ pos 1) (outline_of p) ≡ is_in_outline x z (outline_of p)
-same_cell x z corners (prim.Box r) a (g, h) = elim (equal_or_not r.y1 z) [
+same_cell x z corners (prim.Box r) a (g, h) = elim (same_or_not r.y1 z) [
   | inl e ↦ box_same x z r (box_past x z r.y1 r corners a g e)
-  | inr n ↦ elim (equal_or_not r.y2 z) [
+  | inr n ↦ elim (same_or_not r.y2 z) [
     | inl e ↦ box_same x z r (box_past x z r.y2 r corners a h e)
     | inr m ↦ outline_same x (z -ℤ pos 1) z (outline_of (prim.Box r)) (agrees z r.y1 n, agrees z r.y2 m)
   ]

@@ -3,7 +3,7 @@ use Rattle.std.proofs.Common.{arith, ◌≡◌, ◌⊎◌, ◌∙◌, ℕ, ◌<�
 use Rattle.std.proofs.Common.{reverse, All, Any, AllPairs, refl, sym, ap, inl, inr, [], ◌∷◌, ◌++◌, append_assoc, subst}
 use Rattle.std.proofs.Common.{Bool, true, false, IsTrue, Option, Some, None, IfSome, map}
 use Rattle.std.specs.List.{AllZip}
-use Rattle.std.proofs.lemmas.Bool.{cases_lt}
+use Rattle.std.proofs.lemmas.Bool.{cases_lt, false_from_ne_true}
 use Rattle.std.proofs.lemmas.Int.{by_lt_z}
 use Rattle.std.proofs.lemmas.List.{get_or_default}
 use Rattle.std.proofs.lemmas.List.Elements.{All-append, All-cons, All-weaker}
@@ -39,10 +39,6 @@ run_within old new z w x1 x2 same h run = record {
   left = let e = same (x1 -ℤ pos 1) (let l = run.long in omega signed) in λ f. run.left (rw e f);
   right = let e = same x2 h in λ f. run.right (rw e f);
 }
-
-not_true : (t : Bool) → (t ≡ true → ⊥) → t ≡ false
-not_true true f = absurd (f refl)
-not_true false f = refl
 
 -- ---- the end of a cluster
 
@@ -254,11 +250,11 @@ module _ (cells : ℤ → ℤ → Bool) (z : ℤ) (row : List Corner) (at to : �
 
   -- the right end is no cell of the row
   end_free : cells w z ≡ false
-  end_free = not_true (cells w z) (λ t. missed (passed_behind w e.right ∙ same_right w e.right (omega signed) ∙ t))
+  end_free = false_from_ne_true (cells w z) (λ t. missed (passed_behind w e.right ∙ same_right w e.right (omega signed) ∙ t))
 
   -- left of the stack where the window begins, or of the cluster, there is none
   start_free : (a : ℤ) → a ≤ℤ d1 → All (λ r. a ≤ℤ r.x1) near → (a ≡ d1) ⊎ Any (λ r. r.x1 ≡ a) near → cells (a -ℤ pos 1) z ≡ false
-  start_free a h holds which = not_true (cells (a -ℤ pos 1) z) (λ t. by_end (passed_before (a -ℤ pos 1) (omega signed) ∙ t) which) where
+  start_free a h holds which = false_from_ne_true (cells (a -ℤ pos 1) z) (λ t. by_end (passed_before (a -ℤ pos 1) (omega signed) ∙ t) which) where
     by_end : passed cells m.before.column (a -ℤ pos 1) z ≡ true → (a ≡ d1) ⊎ Any (λ r. r.x1 ≡ a) near → ⊥
     by_end t (inl f) = go (stack_at (a -ℤ pos 1) t) where
       places : All (λ r. (r.x2 <ℤ d1) ⊎ (a ≤ℤ r.x1)) now

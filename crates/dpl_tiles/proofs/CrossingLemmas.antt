@@ -20,6 +20,7 @@ use Rattle.dpl_tiles.specs.declared.side.Side.{Side}
 use Rattle.dpl_tiles.specs.Sides.{AreColumnsAmong, AreCrossingsWithin, standing, stands, is_between, at_or_left, bounds_of_side}
 use Rattle.dpl_list.proofs.Integers.{signed}
 use Rattle.dpl_list.proofs.Lists.{some_of}
+use Rattle.dpl_list.proofs.Sums.{sum_by_alike}
 use Rattle.dpl_tiles.proofs.SideLemmas.{bit, left_cons, left_push}
 use Rattle.dpl_tiles.proofs.PairLemmas.{left_none}
 
@@ -85,16 +86,6 @@ columns_all sides found y t columns whole c = record { each = λ x d. omega (ari
   at_end x d = at_drop_all (sum_by (stands_at sides x y d)) found t whole
 
 -- ---- a sum over items is that over the numbers of those that count
-
-sum_alike : (g h : ℕ → ℕ) (is : List ℕ) → All (λ i. g i ≡ h i) is → sum_by g is ≡ sum_by h is
-sum_alike g h [] a = refl
-sum_alike g h (i ∷ is) a = omega (
-  arith,
-  sum_by-cons g i is,
-  sum_by-cons h i is,
-  All-head (λ i. g i ≡ h i) i is a,
-  sum_alike g h is (All-tail (λ i. g i ≡ h i) i is a),
-)
 
 -- the numbers, ascending, from n on of items; each other item counts for nothing
 record Counted (f : Side → ℕ) (h : ℕ → ℕ) (n : ℕ) (items : List Side) (found : List ℕ) : Type 0 where
@@ -261,7 +252,7 @@ module _ (sides : List Side) (y a b : ℤ) (index : List Bounds) (found : List �
         (get_or sides i s, f s, rw e at w.0, rw e at w.1)
 
   sum_found : (x : ℤ) → x ≤ℤ b → (s : Side) → at_or_left x columns ≡ sum_by (from_to a x y) sides
-  sum_found x h s = c.each x s ∙ sum_alike (stands_at sides x y s) (λ i. from_to a x y (get_or sides i s)) found
+  sum_found x h s = c.each x s ∙ sum_by_alike (stands_at sides x y s) (λ i. from_to a x y (get_or sides i s)) found
       (λ k d l. from_left (get_or sides (get_or found k d) s) (stood sides y a b index found is m k d s l).0) ∙
       counted (from_to a x y) (λ i. from_to a x y (get_or sides i s)) 0 sides found (record {
         at = λ k d l. ap (λ j. from_to a x y (get_or sides j s)) (from_none k) ∙ ap (from_to a x y) (get_or_default sides k s d l);

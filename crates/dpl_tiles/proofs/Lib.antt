@@ -20,7 +20,6 @@ pub mod ChangeLemmas
 pub mod PartLemmas
 pub mod EndLemmas
 pub mod CornerLemmas
-pub mod CoverLemmas
 pub mod PlaceLemmas
 pub mod PassLemmas
 pub mod ClusterLemmas

@@ -1,6 +1,6 @@
 -- The runs near the columns that change, from stretches that are exact in a window.
 use Rattle.std.proofs.Common.{arith, ◌≡◌, ◌∙◌, ℕ, ℤ, pos, ◌-ℤ◌, ◌<ℤ◌, ◌≤ℤ◌, ◌<◌, ◌&&◌, List, length, get_or, filter, []}
-use Rattle.std.proofs.Common.{◌∷◌, All, Any, refl, sym, inl, inr, Bool, true, false, ◌||◌, IsTrue, int_le}
+use Rattle.std.proofs.Common.{◌∷◌, All, Any, refl, sym, inl, inr, Bool, true, IsTrue, int_le}
 use Rattle.std.specs.List.{AllZip}
 use Rattle.std.proofs.lemmas.List.{get_or_default}
 use Rattle.std.proofs.lemmas.List.Elements.{All-cons, All-filter, filter_passes}
@@ -11,11 +11,10 @@ use Rattle.dpl_cell.specs.Cells.{IsWithin}
 use Rattle.dpl_cell.specs.Tiles.{IsRun}
 use Rattle.dpl_cell.specs.declared.stretch.Stretch.{Stretch}
 use Rattle.dpl_cell.specs.Stretches.{is_in_stretches, AreSeparate}
-use Rattle.dpl_cell.specs.Layers.{is_within}
-use Rattle.dpl_tiles.specs.Stretches.{IsRow, IsFramed}
+use Rattle.dpl_tiles.specs.Stretches.{IsRow}
 use Rattle.dpl_tiles.specs.Bands.{HasColumns, IsOver}
-use Rattle.dpl_tiles.specs.Windows.{IsFar, AreNearRuns, IsStill, is_near}
-use Rattle.dpl_cell.proofs.BoxLemmas.{is_true, true_is, test_within, within_test}
+use Rattle.dpl_tiles.specs.Windows.{IsFar, AreNearRuns, is_near}
+use Rattle.dpl_cell.proofs.BoxLemmas.{is_true, true_is}
 use Rattle.dpl_list.proofs.Integers.{signed}
 use Rattle.dpl_list.proofs.Zips.{zip_at, zip_length}
 use Rattle.dpl_list.proofs.Lists.{kept_by}
@@ -172,29 +171,3 @@ over_bottom z high [] [] a = λ k d l. absurd (omega arith)
 over_bottom z high [] (r ∷ rs) a = elim a [ ]
 over_bottom z high (s ∷ ss) [] a = elim a [ ]
 over_bottom z high (s ∷ ss) (r ∷ rs) a = All-cons (λ r. r.y1 ≡ z) r rs a.0.bottom (over_bottom z high ss rs a.1)
-
-in_one : (s : Stretch) (x : ℤ) → is_in_stretches (s ∷ []) x ≡ is_within s.from s.to x
-in_one s x = or_false (is_within s.from s.to x) where
-  or_false : (b : Bool) → (b || false) ≡ b
-  or_false true = refl
-  or_false false = refl
-
--- one stretch that changes in covered columns alone
-pub alone_sound : (cells : ℤ → ℤ → Bool) (z d1 d2 a b : ℤ) (s : Stretch) (parts : List Stretch) →
-    IsStill cells z d1 d2 a b s → ((x : ℤ) → IsWithin d1 d2 x → cells x z ≡ true) → parts ≡ s ∷ [] → (x : ℤ) →
-    is_in_stretches parts x ≡ true → cells x z ≡ true
-alone_sound cells z d1 d2 a b s parts still covered e x t =
-    let i : IsWithin s.from s.to x = test_within _ _ x (sym (in_one s x) ∙ (rw e at t)) in
-    by_lt_z x d1 (λ h. still.same x i (inl h)) (λ h. by_lt_z x d2 (λ g. covered x (record { from = h; to = g })) (λ g. still.same x i (inr g)))
-
-pub alone_full : (cells : ℤ → ℤ → Bool) (z d1 d2 a b : ℤ) (s : Stretch) (parts : List Stretch) →
-    IsStill cells z d1 d2 a b s → IsFramed cells z a b → parts ≡ s ∷ [] → (x : ℤ) → (a -ℤ pos 1) ≤ℤ x → x ≤ℤ b →
-    cells x z ≡ true → is_in_stretches parts x ≡ true
-alone_full cells z d1 d2 a b s parts still framed e x low high t = rw e (in_one s x ∙ within_test _ _ x (record {
-  from = let f = still.left in by_lt_z x a (λ h. absurd
-      (let g : x ≡ a -ℤ pos 1 = omega signed in let n = framed.left in let u : cells (a -ℤ pos 1) z ≡ true = rw g at t
-      in cc)) (λ h. omega signed);
-  to = let f = still.right in by_lt_z x b (λ h. omega signed)
-      (λ h. absurd (let g : x ≡ b = omega signed in let n = framed.right in let u : cells b z ≡ true = rw g at t in
-      cc));
-}))

@@ -12,9 +12,8 @@ use Rattle.std.proofs.lemmas.List.Elements.{All-append, All-drop}
 use Rattle.dpl_cell.specs.declared.rect.Rect.{Rect}
 use Rattle.dpl_tiles.specs.Bands.{IsLeftOf}
 use Rattle.dpl_tiles.specs.Windows.{IsParted, IsFar, IsContinued}
-use Rattle.dpl_tiles.proofs.WindowLemmas.{is_at_most, at_most_test}
 use Rattle.dpl_tiles.proofs.StepLemmas.{all_left, all_right, part_ordered}
-use Rattle.dpl_list.proofs.Integers.{signed, is_less, less_test}
+use Rattle.dpl_list.proofs.Integers.{signed, is_less, less_test, is_at_most, at_most_test}
 
 -- ---- lists from the right
 

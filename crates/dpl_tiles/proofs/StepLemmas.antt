@@ -15,15 +15,9 @@ use Rattle.dpl_tiles.specs.Sweeps.{IsHeld, AreHeld, IsSameStack, IsNew, IsStep}
 use Rattle.dpl_tiles.specs.Windows.{IsChange, IsFar, AreNearRuns, IsContinued, IsClosed}
 use Rattle.dpl_list.proofs.Integers.{signed}
 use Rattle.dpl_list.proofs.Zips.{zip_at, zip_length}
-use Rattle.dpl_list.proofs.Lists.{any_left, any_right, all_pairs_append, kept_by}
+use Rattle.dpl_list.proofs.Lists.{any_left, any_right, all_pairs_append, kept_by, any_split}
 use Rattle.dpl_tiles.proofs.StackLemmas.{goes_on_none, none_goes_on, one_place, run_same}
 use Rattle.dpl_tiles.proofs.WindowLemmas.{run_up, run_down}
-
-pub any_split : {X : Type 0} (P : X → Type 0) (xs ys : List X) → Any P (xs ++ ys) → Any P xs ⊎ Any P ys
-any_split P xs ys (k, x, l, e, p) = let n = length-append xs ys in elim (cases_lt k (length xs)) [
-  | inl h ↦ inl (k, x, h, sym (get_or_append_left xs ys x k h) ∙ e, p)
-  | inr h ↦ inr (k - length xs, x, omega arith, sym (get_or-append_right xs ys (length xs) k x refl h) ∙ e, p)
-]
 
 pub all_left : {X : Type 0} (P : X → Type 0) (xs ys : List X) → All P (xs ++ ys) → All P xs
 all_left P xs ys a k d l = let n = length-append xs ys in rw (get_or_append_left xs ys d k l) at (a k d (omega arith))

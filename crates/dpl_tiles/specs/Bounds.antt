@@ -1,5 +1,5 @@
 -- The bounds of primitives, for an index.
-use Rattle.std.specs.Prelude.{ℤ, ◌≤ℤ◌, List, All}
+use Rattle.std.specs.Prelude.{◌≡◌, ℤ, ◌≤ℤ◌, List, All, ◌++◌, ◌∷◌, []}
 use Rattle.std.specs.List.{AllZip}
 use Rattle.dpl_index.specs.declared.bounds.Bounds.{Bounds}
 use Rattle.dpl_cell.specs.declared.layout.Primitive.{Primitive}
@@ -23,3 +23,8 @@ pub record HoldsCorners (p : Primitive) (b : Bounds) : Type 0 where
 -- the second list has, for each primitive, bounds that hold its corners
 abbrev pub AreBoundsOf : List Primitive → List Bounds → Type 0
 AreBoundsOf prims bounds = AllZip HoldsCorners prims bounds
+
+-- the list grew by bounds of the primitive, where that is a polygon
+abbrev pub AddsBounds : Primitive → List Bounds → List Bounds → Type 0
+AddsBounds (prim.Box r) old new = new ≡ old
+AddsBounds (prim.Poly points) old new = (b : Bounds) × HoldsCorners (prim.Poly points) b × (new ≡ old ++ b ∷ [])

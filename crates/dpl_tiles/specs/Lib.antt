@@ -9,5 +9,4 @@ pub mod Stacks
 pub mod Windows
 pub mod Sweeps
 pub mod Corners
-pub mod Covers
 pub mod Clusters

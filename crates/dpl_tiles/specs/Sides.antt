@@ -1,11 +1,13 @@
 -- Where the upright sides of a polygon stand that span a row.
-use Rattle.std.specs.Prelude.{◌≡◌, ℕ, ◌+◌, ℤ, pos, ◌-ℤ◌, ◌≤ℤ◌, ◌%◌, ◌==◌, ◌&&◌, List, Bool, ⊤, All, Any, slice_index_or, [], ◌∷◌, sum_by, int_le, if◌then◌else◌, map}
+use Rattle.std.specs.Prelude.{◌≡◌, ◌⊎◌, true, ◌++◌, Contains, ℕ, ◌+◌, ℤ, pos, ◌-ℤ◌, ◌≤ℤ◌, ◌%◌, ◌==◌, ◌&&◌, List, Bool, ⊤, All, Any, slice_index_or, [], ◌∷◌, sum_by, int_le, if◌then◌else◌, map}
 use Rattle.std.specs.Int.{int_min, int_max}
 use Rattle.dpl_index.specs.declared.bounds.Bounds.{Bounds}
 use Rattle.dpl_cell.specs.declared.layout.Primitive.{Primitive}
 use Rattle.dpl_cell.specs.declared.layout.Primitive.TheVariants as prim
 use Rattle.dpl_cell.specs.Places.{place_of}
 use Rattle.dpl_cell.specs.Ranges.{IsInRange}
+use Rattle.dpl_cell.specs.declared.stretch.Stretch.{Stretch}
+use Rattle.dpl_cell.specs.Stretches.{is_in_stretches}
 use Rattle.dpl_cell.specs.Layers.{is_within, left_sides}
 use Rattle.dpl_tiles.specs.declared.side.Side.{Side}
 
@@ -61,3 +63,17 @@ pub record AreCrossingsWithin (sides : List Side) (y a b : ℤ) (columns : List 
   pub inside : All (λ z. (a ≤ℤ z) × (z ≤ℤ b)) columns
   pub each : (x : ℤ) → (a -ℤ pos 1) ≤ℤ x → x ≤ℤ b →
       standing x y sides ≡ standing (a -ℤ pos 1) y sides + at_or_left x columns
+
+-- the list grew by the sides of the primitive, where that is a polygon
+abbrev pub AddsSidesOf : Primitive → List (List Side) → List (List Side) → Type 0
+AddsSidesOf (prim.Box r) old new = new ≡ old
+AddsSidesOf (prim.Poly points) old new = (sides : List Side) × AreSidesOf (map place_of points) sides ×
+    (new ≡ old ++ sides ∷ [])
+
+-- the first list grew by stretches that hold cells of polygons alone, and in the window all of those with these numbers
+pub record AddsBetween (sides : List (List Side)) (found : List ℕ) (y a b : ℤ) (old new : List Stretch) : Type 0 where
+  pub kept : (x : ℤ) → is_in_stretches old x ≡ true → is_in_stretches new x ≡ true
+  pub sound : (x : ℤ) → is_in_stretches new x ≡ true →
+      (is_in_stretches old x ≡ true) ⊎ Any (λ s. is_between s x y ≡ true) sides
+  pub full : (x : ℤ) (i : ℕ) → (a -ℤ pos 1) ≤ℤ x → x ≤ℤ b → Contains found i →
+      is_between (slice_index_or sides i []) x y ≡ true → is_in_stretches new x ≡ true

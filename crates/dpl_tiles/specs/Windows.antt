@@ -2,10 +2,12 @@
 use Rattle.std.specs.Prelude.{◌≡◌, ◌⊎◌, ℤ, ◌<ℤ◌, ◌≤ℤ◌, ◌&&◌, ◌++◌, List, Bool, true, All, Any, AllPairs, int_le, reverse}
 use Rattle.std.specs.List.{AllZip}
 use Rattle.dpl_cell.specs.declared.rect.Rect.{Rect}
-use Rattle.dpl_cell.specs.Cells.{IsWithin}
 use Rattle.dpl_cell.specs.Tiles.{IsRun}
 use Rattle.dpl_cell.specs.declared.stretch.Stretch.{Stretch}
 use Rattle.dpl_tiles.specs.Bands.{HasColumns, IsLeftOf}
+use Rattle.dpl_cell.specs.Cells.{IsWithin}
+use Rattle.dpl_cell.specs.Places.{Corners}
+use Rattle.dpl_cell.specs.Layers.{is_within}
 
 -- the column lies outside the columns from d1 to d2, d2 left out
 abbrev pub IsOutside : ℤ → ℤ → ℤ → Type 0
@@ -55,6 +57,14 @@ pub record AddsClosed (z : ℤ) (ending old new : List Rect) : Type 0 where
 -- the stretch is not far from the columns from d1 to d2
 abbrev pub is_near : ℤ → ℤ → Stretch → Bool
 is_near d1 d2 s = int_le d1 s.to && int_le s.from d2
+
+-- the rectangle has the columns from a to b
+abbrev pub has_columns : Corners → ℤ → ℤ → Bool
+has_columns r a b = int_le r.x1 a && int_le b r.x2
+
+-- column x is in the stretch, and one of those from a to b, b left out
+abbrev pub is_shared : Stretch → ℤ → ℤ → ℤ → Bool
+is_shared s a b x = is_within s.from s.to x && is_within a b x
 
 -- the stretch holds the columns from a to b, and outside those from d1 to d2 its columns are cells of row z
 pub record IsStill (cells : ℤ → ℤ → Bool) (z d1 d2 a b : ℤ) (s : Stretch) : Type 0 where

@@ -1,35 +1,34 @@
-// The bounds of primitives, for an index that tells which of them can have cells in a part of a row.
-ghost use Rattle.std.specs.Prelude.{◌≤ℤ◌, All, IfOk};
-ghost use Rattle.dpl_tiles.specs.Bounds.{AreBoundsOf, LiesIn, SpansColumns};
+// The bounds of polygons, for an index that tells which of them can have cells in a part of a row.
+ghost use Rattle.std.specs.Prelude.{◌≤ℤ◌, All, IfOk, OnOk, filter};
+ghost use Rattle.dpl_tiles.specs.Bounds.{AddsBounds, AreBoundsOf};
+ghost use Rattle.dpl_tiles.specs.Finders.{is_polygon};
 
 use crate::columns::{greater, lesser};
 use dpl_cell::{Point, Prim};
 use dpl_index::Bounds;
 use std::alloc::{AllocError, Global};
 
-/// The bounds of each primitive.
+/// The bounds of each polygon.
 pub fn all_bounds(alloc: Global, prims: &[Prim]) -> Result<Vec<Bounds>, AllocError>
-    ensures { IfOk result (λ v. AreBoundsOf prims.now v.items) }
+    ensures { IfOk result (λ v. AreBoundsOf (filter is_polygon prims.now) v.items) }
 {
     let mut bounds = Vec::new(alloc);
     for prim in prims {
-        bounds.push(bounds_of(prim))?;
+        push_bounds(&mut bounds, prim)?;
     }
     Ok(bounds)
 }
 
-fn bounds_of(prim: &Prim) -> Bounds
-    ensures lies { LiesIn result.low result.high prim.now }
-    ensures spans { SpansColumns result.left result.right prim.now }
+/// Adds the bounds of a polygon.
+fn push_bounds(bounds: &mut Vec<Bounds>, prim: &Prim) -> Result<(), AllocError>
+    ensures { OnOk result (AddsBounds prim.now bounds.old.items bounds.new.items) }
 {
     match prim {
-        Prim::Box(r) => Bounds {
-            left: r.x1,
-            right: r.x2,
-            low: r.y1,
-            high: r.y2,
-        },
-        Prim::Poly(points) => bounds_of_points(points.as_slice()),
+        Prim::Box(_) => Ok(()),
+        Prim::Poly(points) => {
+            bounds.push(bounds_of_points(points.as_slice()))?;
+            Ok(())
+        }
     }
 }
 

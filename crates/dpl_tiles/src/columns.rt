@@ -46,10 +46,3 @@ pub fn row_within(window: &Columns, y: i64) -> Bounds
         high: y,
     }
 }
-
-/// The columns of a window in one row and in the next.
-pub fn row_over(window: &Columns, y: i64) -> Bounds {
-    let mut rows = row_within(window, y);
-    rows.high = y.wrapping_add(1);
-    rows
-}

@@ -8,7 +8,6 @@
 mod bounds;
 mod columns;
 mod corners;
-mod covering;
 mod crossing;
 mod error;
 mod finder;
@@ -19,6 +18,7 @@ mod rows;
 mod side;
 mod sides;
 mod stacking;
+mod still;
 mod sweeping;
 mod tiling;
 

@@ -2,15 +2,13 @@
 ghost use Rattle.std.specs.Prelude.{◌≡◌, ◌⊎◌, true, ℕ, ℤ, ◌-ℤ◌, ◌<ℤ◌, ◌≤ℤ◌, ◌<◌, ◌≤◌, ◌++◌, neg_ℤ, pos, length, slice_index_or, All, AllPairs, Any, Contains, IfOk, IfSome, OnOk, IsTrue, map, filter, take, drop, reverse, [], ◌∷◌};
 ghost use Rattle.std.specs.List.{AllZip};
 ghost use Rattle.dpl_limits.specs.Limits.{most_coordinate};
-ghost use Rattle.dpl_cell.specs.declared.layout.Primitive.{Primitive};
 ghost use Rattle.dpl_cell.specs.declared.rect.Rect.{Rect};
 ghost use Rattle.dpl_cell.specs.Cells.{IsWithin};
 ghost use Rattle.dpl_cell.specs.Outlines.{outline_of};
-ghost use Rattle.dpl_cell.specs.Layers.{is_cell, is_in_outline};
+ghost use Rattle.dpl_cell.specs.Layers.{is_cell};
 ghost use Rattle.dpl_cell.specs.Tiles.{IsRun};
 ghost use Rattle.dpl_tiles.specs.Bands.{IsLeftOf, IsOver};
 ghost use Rattle.dpl_tiles.specs.Finders.{IsFinderOf};
-ghost use Rattle.dpl_tiles.specs.Sides.{AreSides};
 ghost use Rattle.dpl_tiles.specs.Stretches.{IsFramed};
 ghost use Rattle.dpl_tiles.specs.Corners.{AreCorners};
 ghost use Rattle.dpl_tiles.specs.Stacks.{ending};
@@ -21,13 +19,13 @@ ghost use Rattle.dpl_tiles.specs.Windows.{AddsClosed, AreNearRuns, IsClosed, IsC
 
 use crate::columns::{Columns, greater, lesser, row_within};
 use crate::corners::{Corner, corners_at};
-use crate::covering::{are_covered, stack_across};
 use crate::finder::Finder;
 use crate::gathering::gather;
-use crate::rows::{merged, push_prim, sort};
-use crate::sides::Sides;
+use crate::rows::push_polygons;
 use crate::stacking::find;
+use crate::still::{parts_beside, stack_across};
 use dpl_cell::{Prim, Rect, Stretch};
+use dpl_cover::{merged, sort};
 use std::alloc::{AllocError, Global};
 
 /// Goes on by one band: closes the stacks that end at row `low`, and begins those that are new there. The stacks stand in
@@ -44,6 +42,7 @@ pub fn step(
     high: i64,
 ) -> Result<(), AllocError>
     requires finder { IsFinderOf prims.now finder.now }
+    requires row { finder.now.cover.row ≡ low }
     requires cornered { AreCorners prims.now corners.now }
     requires high { low <ℤ high }
     requires below { neg_ℤ (pos most_coordinate) ≤ℤ low }
@@ -77,6 +76,7 @@ fn pass(
     high: i64,
 ) -> Result<usize, AllocError>
     requires finder { IsFinderOf prims.now finder.now }
+    requires row { finder.now.cover.row ≡ low }
     requires high { low <ℤ high }
     requires below { neg_ℤ (pos most_coordinate) ≤ℤ low }
     requires above { high ≤ℤ pos most_coordinate }
@@ -229,7 +229,7 @@ fn with_stack(columns: &Columns, r: &Rect) -> Columns
 }
 
 /// The runs of row `low` that are not far from the columns that change, each in all rows up to `high`. The window may lie
-/// in a stretch that does not change elsewhere.
+/// in a stack that does not change elsewhere.
 fn near_runs(
     alloc: Global,
     prims: &[Prim],
@@ -241,6 +241,7 @@ fn near_runs(
     high: i64,
 ) -> Result<Vec<Rect>, AllocError>
     requires finder { IsFinderOf prims.now finder.now }
+    requires row { finder.now.cover.row ≡ low }
     requires high { low <ℤ high }
     requires below { neg_ℤ (pos most_coordinate) ≤ℤ low }
     requires above { high ≤ℤ pos most_coordinate }
@@ -309,8 +310,8 @@ fn is_near_to(s: &Stretch, change: &Columns) -> bool
     change.left <= s.to && s.from <= change.right
 }
 
-/// Cells of one row in parts: all of those in the window and right beside it, and perhaps others. They are not asked for
-/// where the window lies in a stretch that does not change elsewhere, and a box covers the change.
+/// Cells of one row in parts: all of those in the window and right beside it, and perhaps others. Where the window lies in
+/// a stack that does not change elsewhere, and there are no polygons, only what changes is looked at.
 fn parts_near(
     alloc: Global,
     prims: &[Prim],
@@ -321,6 +322,7 @@ fn parts_near(
     y: i64,
 ) -> Result<Vec<Stretch>, AllocError>
     requires finder { IsFinderOf prims.now finder.now }
+    requires row { finder.now.cover.row ≡ y }
     requires framed { IsFramed (is_cell (map outline_of prims.now)) y window.now.left
         window.now.right }
     requires still { IfSome still (IsStill (is_cell (map outline_of prims.now)) y change.now.left
@@ -333,22 +335,14 @@ fn parts_near(
 {
     match still {
         None => parts_within(alloc, prims, finder, window, y),
-        Some(stretch) => {
-            if are_covered(prims, finder, change, y) {
-                alone(alloc, stretch)
+        Some(stack) => {
+            if finder.sides.is_empty() {
+                parts_beside(alloc, prims, finder, change, &stack, y)
             } else {
                 parts_within(alloc, prims, finder, window, y)
             }
         }
     }
-}
-
-fn alone(alloc: Global, stretch: Stretch) -> Result<Vec<Stretch>, AllocError>
-    ensures { IfOk result (λ v. v.items ≡ stretch ∷ []) }
-{
-    let mut parts = Vec::new(alloc);
-    parts.push(stretch)?;
-    Ok(parts)
 }
 
 /// Cells of one row in parts: all of those in the window and right beside it, and perhaps others.
@@ -360,6 +354,7 @@ fn parts_within(
     y: i64,
 ) -> Result<Vec<Stretch>, AllocError>
     requires finder { IsFinderOf prims.now finder.now }
+    requires row { finder.now.cover.row ≡ y }
     requires framed { IsFramed (is_cell (map outline_of prims.now)) y window.now.left
         window.now.right }
     ensures sound { IfOk result (λ v. (x : ℤ) → is_in_stretches v.items x ≡ true →
@@ -368,42 +363,16 @@ fn parts_within(
         x ≤ℤ window.now.right → is_cell (map outline_of prims.now) x y ≡ true →
         is_in_stretches v.items x ≡ true) }
 {
-    let found = finder.prims.meeting(alloc, &row_within(window, y))?;
-    let parts = parts_of(
+    let mut parts = finder.cover.stretches(alloc, window.left, window.right)?;
+    let found = finder.polygons.meeting(alloc, &row_within(window, y))?;
+    push_polygons(
         alloc,
-        prims,
+        &mut parts,
         finder.sides.as_slice(),
         found.as_slice(),
         window,
         y,
     )?;
-    Ok(parts)
-}
-
-/// Cells of some primitives in one row in parts: all of those in the window and right beside it, and perhaps others.
-fn parts_of(
-    alloc: Global,
-    prims: &[Prim],
-    sides: &[Sides],
-    found: &[usize],
-    window: &Columns,
-    y: i64,
-) -> Result<Vec<Stretch>, AllocError>
-    requires sides { AllZip AreSides prims.now sides.now }
-    requires found { All (λ i. i < length prims.now) found.now }
-    requires framed { IsFramed (is_cell (map outline_of prims.now)) y window.now.left
-        window.now.right }
-    ensures sound { IfOk result (λ v. (x : ℤ) → is_in_stretches v.items x ≡ true →
-        is_cell (map outline_of prims.now) x y ≡ true) }
-    ensures full { IfOk result (λ v. (x : ℤ) (i : ℕ) (e : Primitive) →
-        (window.now.left -ℤ pos 1) ≤ℤ x → x ≤ℤ window.now.right → Contains found.now i →
-        is_in_outline x y (outline_of (slice_index_or prims.now i e)) ≡ true →
-        is_in_stretches v.items x ≡ true) }
-{
-    let mut parts = Vec::new(alloc);
-    for i in found {
-        push_prim(alloc, &mut parts, &prims[*i], &sides[*i], window, y)?;
-    }
     Ok(parts)
 }
 

@@ -12,6 +12,7 @@ ghost use Rattle.dpl_list.specs.Order.{Ascends};
 ghost use Rattle.dpl_tiles.specs.Bands.{HasOrdinates};
 ghost use Rattle.dpl_tiles.specs.Stacks.{AreAllTiles};
 ghost use Rattle.dpl_tiles.specs.Corners.{AreCorners};
+ghost use Rattle.dpl_cover.specs.Covers.{least_row};
 ghost use Rattle.dpl_tiles.specs.Finders.{IsFinderOf};
 
 use crate::corners::{Corner, corners_of};
@@ -39,7 +40,7 @@ pub fn tiles(alloc: Global, layout: &Layout) -> Result<Vec<Rect>, TileError>
     let rows = ordinates(alloc, prims)?;
     let finder = Finder::new(alloc, prims)?;
     let corners = corners_of(alloc, prims)?;
-    let mut tiles = unsorted(alloc, prims, &finder, corners.as_slice(), rows.as_slice())?;
+    let mut tiles = unsorted(alloc, prims, finder, corners.as_slice(), rows.as_slice())?;
     sort(&mut tiles);
     Ok(tiles)
 }
@@ -48,11 +49,12 @@ pub fn tiles(alloc: Global, layout: &Layout) -> Result<Vec<Rect>, TileError>
 fn unsorted(
     alloc: Global,
     prims: &[Prim],
-    finder: &Finder,
+    mut finder: Finder,
     corners: &[Corner],
     rows: &[i64],
 ) -> Result<Vec<Rect>, TileError>
-    requires finder { IsFinderOf prims.now finder.now }
+    requires finder { IsFinderOf prims.now finder }
+    requires low { finder.cover.row ≡ least_row }
     requires cornered { AreCorners prims.now corners.now }
     requires sorted { Ascends (λ z. z) rows.now }
     requires range { All IsInRange rows.now }
@@ -67,13 +69,14 @@ fn unsorted(
     let mut right = Vec::new(alloc);
     for k in 1..rows.len() {
         if rows[k - 1] < rows[k] {
+            finder.cover.rise(rows[k - 1]);
             step(
                 alloc,
                 &mut ended,
                 &mut left,
                 &mut right,
                 prims,
-                finder,
+                &finder,
                 corners,
                 rows[k - 1],
                 rows[k],

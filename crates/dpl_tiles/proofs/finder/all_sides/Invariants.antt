@@ -1,7 +1,8 @@
-use Rattle.std.proofs.Common.{take}
+use Rattle.std.proofs.Common.{take, filter}
 use Rattle.std.specs.List.{AllZip}
+use Rattle.dpl_tiles.specs.Finders.{is_polygon}
 use Rattle.dpl_tiles.specs.Sides.{AreSides}
 use Rattle.dpl_tiles.proofs.finder.all_sides.Given as goal
 
 abbrev pub invariant-loop-prim : goal.invariant-loop-prim
-invariant-loop-prim l = AllZip AreSides (take l.prim-index l.prims) l.all.items
+invariant-loop-prim l = AllZip AreSides (filter is_polygon (take l.prim-index l.prims)) l.all.items

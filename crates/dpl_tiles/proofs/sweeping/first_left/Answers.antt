@@ -1,8 +1,9 @@
 use Rattle.std.proofs.Common.{arith, rules, int_le, SFits, w64}
 use Rattle.std.proofs.lemmas.List.Sorted.{IsPartitionPoint-from_clause}
 use Rattle.dpl_tiles.proofs.PlaceLemmas.{parted_left_back}
-use Rattle.dpl_tiles.proofs.WindowLemmas.{is_at_most, not_at_most}
+use Rattle.dpl_tiles.proofs.WindowLemmas.{not_at_most}
 use Rattle.dpl_tiles.proofs.sweeping.first_left.Goals as goal
+use Rattle.dpl_list.proofs.Integers.{is_at_most}
 
 pub returns-clause-others : goal.returns-clause-others
 returns-clause-others c =

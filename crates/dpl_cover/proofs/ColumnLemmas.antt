@@ -1,0 +1,93 @@
+-- The columns at which boxes end.
+use Rattle.std.proofs.Common.{arith, ◌≡◌, ◌⊎◌, inl, inr, sym, subst, ℕ, ◌+◌, ◌-◌, ◌<◌, ◌≤◌, ◌^◌, ℤ, pos, neg_ℤ, ◌<ℤ◌, ◌≤ℤ◌, List, length, get_or}
+use Rattle.std.proofs.Common.{take, All, Contains, ◌∷◌, [], ◌++◌, refl, true, int_lt, int_le}
+use Rattle.std.specs.Ordering.{int_cmp, int_eq}
+use Rattle.std.specs.List.Sorted.{IsPermutation, IsSorted, IsPartitionedBy}
+use Rattle.std.specs.List.{dedup}
+use Rattle.std.proofs.lemmas.Cmp.{int_cmp_total, int_eq_equiv}
+use Rattle.std.proofs.lemmas.List.{take_all, get_or_default}
+use Rattle.std.proofs.lemmas.List.Elements.{All-push, All-weaker, All-more, Contains-append_left, Contains-push}
+use Rattle.std.proofs.lemmas.List.Filters.{All-dedup}
+use Rattle.std.proofs.lemmas.List.Kept.{IsStrictlySortedBy-dedup, Contains-dedup}
+use Rattle.std.proofs.lemmas.List.Sorted.{Contains-permutation, All-permutation}
+use Rattle.std.proofs.lemmas.Int.{ints}
+use Rattle.std.proofs.lemmas.Map.Keys.{Less-from_sorted}
+use Rattle.dpl_list.proofs.Integers.{signed}
+use Rattle.dpl_list.proofs.OrderLemmas.{less_by_order}
+use Rattle.dpl_cell.specs.declared.rect.Rect.{Rect}
+use Rattle.dpl_cell.specs.Ranges.{IsInRange}
+use Rattle.dpl_cover.specs.Columns.{AddsEnds, AreColumns, AreRising, HasEnds}
+
+ends_kept : (old new : List ℤ) (r : Rect) → ((z : ℤ) → Contains old z → Contains new z) → HasEnds old r → HasEnds new r
+ends_kept old new r f h = record { left = f r.x1 h.left; right = f r.x2 h.right }
+
+pub ends_pushed : (r : Rect) (old mid new : List ℤ) → mid ≡ old ++ r.x1 ∷ [] → new ≡ mid ++ r.x2 ∷ [] → AddsEnds r old new
+ends_pushed r old mid new e f = rw (f, e) (record {
+  kept = λ z c. Contains-append_left (old ++ r.x1 ∷ []) (r.x2 ∷ []) z (Contains-append_left old (r.x1 ∷ []) z c);
+  has = record {
+    left = Contains-append_left (old ++ r.x1 ∷ []) (r.x2 ∷ []) r.x1 (Contains-push old r.x1);
+    right = Contains-push (old ++ r.x1 ∷ []) r.x2;
+  };
+  range = λ a. All-push IsInRange (old ++ r.x1 ∷ []) r.x2
+      (All-push IsInRange old r.x1 a (record { low = r.left; high = left_high r }))
+      (record { low = right_low r; high = r.right });
+}) where
+  left_high : (r : Rect) → r.x1 ≤ℤ pos (2 ^ 30)
+  left_high r = omega signed
+
+  right_low : (r : Rect) → neg_ℤ (pos (2 ^ 30)) ≤ℤ r.x2
+  right_low r = omega signed
+
+pub ends_more : (boxes : List Rect) (i : ℕ) (r : Rect) (old new : List ℤ) → i < length boxes →
+    r ≡ get_or boxes i r → AddsEnds r old new → All (HasEnds old) (take i boxes) → All (HasEnds new) (take (i + 1) boxes)
+ends_more boxes i r old new within is a h =
+    All-more (HasEnds new) boxes i r within (All-weaker (HasEnds old) (HasEnds new)
+    (λ p g. ends_kept old new p a.kept g) (take i boxes) h) (let g = a.has in rw is at g)
+
+pub ends_all : (boxes : List Rect) (i : ℕ) (ends : List ℤ) → length boxes ≤ i → All (HasEnds ends) (take i boxes) → All (HasEnds ends) boxes
+ends_all boxes i ends whole h = rw (take_all i boxes whole) at h
+
+-- sorted, each once
+pub columns_once : (boxes : List Rect) (ends sorted columns : List ℤ) → columns ≡ dedup int_eq sorted →
+    IsPermutation ends sorted → IsSorted int_cmp sorted → All (HasEnds ends) boxes → All IsInRange ends → AreColumns boxes columns
+columns_once boxes ends sorted columns is moved order has range = record {
+  rising = λ i j l h. rw is (less_by_order _ _ (Less-from_sorted int_cmp (dedup int_eq sorted) i j (pos 0)
+      (IsStrictlySortedBy-dedup int_cmp_total (λ x y. refl) sorted order) l (rw is at h)));
+  all = All-weaker (HasEnds ends) (HasEnds columns) (λ r h. ends_kept ends columns r kept h) boxes has;
+  range = rw is (All-dedup int_eq IsInRange sorted (All-permutation IsInRange ends sorted moved range));
+}
+  where
+    same_by_test : (x y : ℤ) → int_eq x y ≡ true → x ≡ y
+    same_by_test x y e = grind (arith, ints)
+
+    kept : (z : ℤ) → Contains ends z → Contains columns z
+    kept z h = rw is (Contains-dedup int_eq_equiv same_by_test sorted z (Contains-permutation ends sorted z moved h))
+
+equal_or_less : (i j : ℕ) → i ≤ j → (i ≡ j) ⊎ (i < j)
+equal_or_less i j h = search arith
+
+rising_at : (columns : List ℤ) → AreRising columns → (i j : ℕ) (d : ℤ) → i < j → j < length columns
+    → get_or columns i d <ℤ get_or columns j d
+rising_at columns up i j d s l = let u = up i j s l in
+    rw (get_or_default columns i (pos 0) d (omega (arith, s, l)), get_or_default columns j (pos 0) d l) at u
+
+pub parted_left : (columns : List ℤ) (x : ℤ) → AreRising columns → IsPartitionedBy (λ z. int_lt z x) columns
+parted_left columns x up i j d le l e = elim (equal_or_less i j le) [
+  | inl s ↦ subst (λ k. int_lt (get_or columns k d) x ≡ true) (sym s) e
+  | inr s ↦ less _ _ (rising_at columns up i j d s l) e
+]
+  where
+    less : (a b : ℤ) → a <ℤ b → int_lt b x ≡ true → int_lt a x ≡ true
+    less a b h e = grind (arith, ints)
+
+pub parted_up_to : (columns : List ℤ) (x : ℤ) → AreRising columns → IsPartitionedBy (λ z. int_le z x) columns
+parted_up_to columns x up i j d le l e = elim (equal_or_less i j le) [
+  | inl s ↦ subst (λ k. int_le (get_or columns k d) x ≡ true) (sym s) e
+  | inr s ↦ less _ _ (rising_at columns up i j d s l) e
+]
+  where
+    less : (a b : ℤ) → a <ℤ b → int_le b x ≡ true → int_le a x ≡ true
+    less a b h e = grind (arith, ints)
+
+pub last_of_those : (n k : ℕ) → k ≡ n - 1 → (k ≡ 0) ⊎ (k < n)
+last_of_those n k e = search arith

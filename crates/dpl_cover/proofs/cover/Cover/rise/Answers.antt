@@ -1,0 +1,63 @@
+use Rattle.std.proofs.Common.{arith, rules, ◌≡◌, ◌+◌, ◌++◌, ◌^◌, length, take, drop, SFits, w64}
+use Rattle.std.proofs.lemmas.Int.{to_z-of_z}
+use Rattle.dpl_cover.proofs.TallyLemmas.{wider}
+use Rattle.dpl_cover.proofs.CoverLemmas.{passed_more, few_counted, few_between, all_few, refilled}
+use Rattle.dpl_cover.proofs.cover.Cover.rise.Goals as goal
+
+pub between-begun-requires-clause-order : goal.between-begun-requires-clause-order
+between-begun-requires-clause-order c =
+    let f : SFits w64 c.args.row = c.ranges.row in
+    passed_more (λ r. r.y1) c.args.self.now.begins.items _ c.args.row _ _ c.requires.up c.requires.cover.begun
+    (rw c.as_slice.ensures.value at (simp to_z-of_z at c.begun_at-began.ensures))
+
+pub between-closed-requires-clause-order : goal.between-closed-requires-clause-order
+between-closed-requires-clause-order c =
+    let f : SFits w64 c.args.row = c.ranges.row in
+    passed_more (λ r. r.y2) c.args.self.now.ends.items _ c.args.row _ _ c.requires.up c.requires.cover.closed
+    (rw c.as_slice-2.ensures.value at (simp to_z-of_z at c.closed_at-ended.ensures))
+
+pub count_both-requires-clause-small : goal.count_both-requires-clause-small
+count_both-requires-clause-small c = λ k.
+    let n = few_counted c.args.self.now c.requires.cover in
+    rw c.as_mut_slice.ensures.value (wider (length (take c.args.self.now.began c.args.self.now.begins.items)
+    + length (take c.args.self.now.ended c.args.self.now.ends.items)) (2 ^ 57) _ (omega (arith, n)) (c.requires.cover.counted.small k))
+
+pub count_both-requires-clause-tame : goal.count_both-requires-clause-tame
+count_both-requires-clause-tame c = λ j.
+    let n = few_counted c.args.self.now c.requires.cover in
+    rw c.as_mut_slice-2.ensures.value (wider (length (take c.args.self.now.began c.args.self.now.begins.items)
+    + length (take c.args.self.now.ended c.args.self.now.ends.items)) (2 ^ 57) _ (omega (arith, n)) (c.requires.cover.counted.tame j))
+
+pub count_both-requires-clause-few : goal.count_both-requires-clause-few
+count_both-requires-clause-few c =
+    let n = few_between c.between-begun.result.now c.args.self.now.begins.items _ _ (2 ^ 40)
+    (rw c.as_slice-3.ensures.value at c.between-begun.ensures) c.requires.cover.few in omega (arith, n)
+
+pub count_both-requires-clause-few_closed : goal.count_both-requires-clause-few_closed
+count_both-requires-clause-few_closed c =
+    let n = few_between c.between-closed.result.now c.args.self.now.ends.items _ _ (2 ^ 40)
+    (rw c.as_slice-4.ensures.value at c.between-closed.ensures) (all_few c.args.self.now c.requires.cover) in omega (arith, n)
+
+pub returns-clause-cover : goal.returns-clause-cover
+returns-clause-cover c =
+    let f : SFits w64 c.args.row = c.ranges.row in
+    let cover = c.requires.cover in
+    let up : take c.begun_at-began.result c.args.self.now.begins.items ≡ take c.args.self.now.began c.args.self.now.begins.items
+    ++ c.between-begun.result.now = rw c.as_slice-3.ensures.value at c.between-begun.ensures in
+    let down : take c.closed_at-ended.result c.args.self.now.ends.items ≡ take c.args.self.now.ended c.args.self.now.ends.items
+    ++ c.between-closed.result.now = rw c.as_slice-4.ensures.value at c.between-closed.ensures in
+    let each : take c.args.self.now.each.len (c.count_both.new.each ++ drop (length c.count_both.new.each) c.args.self.now.each.items)
+    ≡ c.count_both.new.each = refilled _ _ _ c.args.self.now.each.ok.0 (search rules) in
+    let blocks : take c.args.self.now.blocks.len (c.count_both.new.blocks ++ drop (length c.count_both.new.blocks) c.args.self.now.blocks.items)
+    ≡ c.count_both.new.blocks = refilled _ _ _ c.args.self.now.blocks.ok.0 (search rules) in
+    simp to_z-of_z (record {
+      few = cover.few;
+      same = cover.same;
+      rising = cover.rising;
+      closing = cover.closing;
+      columns = cover.columns;
+      begun = rw c.as_slice.ensures.value at (simp to_z-of_z at c.begun_at-began.ensures);
+      closed = rw c.as_slice-2.ensures.value at (simp to_z-of_z at c.closed_at-ended.ensures);
+      counted = rw (up, down, each, blocks) ((rw (c.as_slice-5.ensures.value, c.as_mut_slice.ensures.value, c.as_mut_slice-2.ensures.value) at
+          c.count_both.ensures) _ _ cover.counted);
+    })

@@ -1,0 +1,54 @@
+// The columns at which boxes end.
+ghost use Rattle.std.specs.Prelude.{◌≡◌, ◌⊎◌, ◌<◌, ◌≤◌, ℕ, ◌<ℤ◌, ◌≤ℤ◌, length, All, IfOk, OnOk};
+ghost use Rattle.dpl_cell.specs.Ranges.{IsInRange};
+ghost use Rattle.dpl_cover.specs.Columns.{AddsEnds, AreColumns, AreRising, HasEnds, column_at};
+
+use dpl_cell::Rect;
+use std::alloc::{AllocError, Global};
+
+/// The columns at which boxes end, from the left, each once.
+pub fn columns_of(alloc: Global, boxes: &[Rect]) -> Result<Vec<i64>, AllocError>
+    ensures { IfOk result (λ v. AreColumns boxes.now v.items) }
+{
+    let mut ends = ends_of(alloc, boxes)?;
+    ends.sort_unstable();
+    ends.dedup();
+    Ok(ends)
+}
+
+fn ends_of(alloc: Global, boxes: &[Rect]) -> Result<Vec<i64>, AllocError>
+    ensures has { IfOk result (λ v. All (HasEnds v.items) boxes.now) }
+    ensures range { IfOk result (λ v. All IsInRange v.items) }
+{
+    let mut ends = Vec::new(alloc);
+    for r in boxes {
+        push_ends(&mut ends, r)?;
+    }
+    Ok(ends)
+}
+
+fn push_ends(ends: &mut Vec<i64>, r: &Rect) -> Result<(), AllocError>
+    ensures { OnOk result (AddsEnds r.now ends.old.items ends.new.items) }
+{
+    ends.push(r.x1)?;
+    ends.push(r.x2)?;
+    Ok(())
+}
+
+/// The place of the first column that is not left of one.
+pub fn place_from(columns: &[i64], x: i64) -> usize
+    requires { AreRising columns.now }
+    ensures within { result ≤ length columns.now }
+    ensures left { (k : ℕ) → k < result → column_at columns.now k <ℤ x }
+    ensures others { (k : ℕ) → result ≤ k → k < length columns.now → x ≤ℤ column_at columns.now k }
+{
+    columns.partition_point(|c| *c < x)
+}
+
+/// The place of the last column that is not right of one; the first where there is none.
+pub fn last_place(columns: &[i64], x: i64) -> usize
+    requires { AreRising columns.now }
+    ensures { (result ≡ 0) ⊎ ((result < length columns.now) × (column_at columns.now result ≤ℤ x)) }
+{
+    columns.partition_point(|c| *c <= x).saturating_sub(1)
+}
