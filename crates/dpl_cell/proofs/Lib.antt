@@ -7,3 +7,4 @@ pub mod OrderLemmas
 pub mod Same
 pub mod StretchLemmas
 pub mod SortLemmas
+pub mod ImageLemmas

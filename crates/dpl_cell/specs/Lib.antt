@@ -10,3 +10,4 @@ pub mod Layers
 pub mod Tiles
 pub mod Shapes
 pub mod Stretches
+pub mod Images

@@ -3,6 +3,7 @@ use Rattle.std.proofs.Common.{arith, ◌≡◌, ◌↔◌, ℕ, zero, suc, ◌+�
 use Rattle.std.proofs.lemmas.Bool.{cases_lt}
 use Rattle.std.proofs.lemmas.List.{take_all, length-take-le, get_or-take, ext_get_or}
 use Rattle.std.proofs.lemmas.List.Sums.{fold-append}
+use Rattle.std.proofs.Common.{fold, All, subst}
 use Rattle.dpl_classes.specs.Classes.{IsNumbered, next_label, AreClasses}
 
 -- a number before place i is this one
@@ -37,6 +38,20 @@ used label n h (suc i) v l = elim (cases_lt i (length label)) [
       let m : v < next_label (take i label) = rw b (rw a at l) in
       later label i v (used label n h i v m)
 ]
+
+-- the next label grows with each label
+label_grows : (xs : List ℕ) (m : ℕ) → m ≤ fold (λ m l. max m (l + 1)) m xs
+label_grows [] m = omega arith
+label_grows (x ∷ xs) m = omega (arith, label_grows xs (max m (x + 1)))
+
+label_below : (xs : List ℕ) (m : ℕ) → All (λ l. l < fold (λ m l. max m (l + 1)) m xs) xs
+label_below [] m k d l = absurd (omega (arith, l))
+label_below (x ∷ xs) m zero d l = omega (arith, label_grows xs (max m (x + 1)))
+label_below (x ∷ xs) m (suc k) d l = label_below xs (max m (x + 1)) k d (omega (arith, l))
+
+-- each label of classes is below their number
+pub labels_below : (pairs : List (ℕ × ℕ)) (n : ℕ) (label : List ℕ) (count' : ℕ) → AreClasses pairs n label count' → All (λ l. l < count') label
+labels_below pairs n label count' a = subst (λ m. All (λ (l : ℕ). l < m) label) (sym a.numbered.count) (label_below label 0)
 
 -- two lists of numbers are equal at the same places
 abbrev pub AreTied : List ℕ → List ℕ → Type 0

@@ -32,6 +32,7 @@ use Rattle.std.proofs.Common.{
 use Rattle.std.proofs.lemmas.Bool.{cases_lt, cases_eq}
 use Rattle.std.proofs.lemmas.List.{get_or_default, get_or_append_left, get_or_push, length_push}
 use Rattle.std.proofs.lemmas.List.Elements.{All-push, Contains-push, Contains-append_left}
+use Rattle.std.proofs.lemmas.Option.{same_Some}
 use Rattle.dpl_index.specs.declared.bounds.Bounds.{Bounds}
 use Rattle.dpl_index.specs.declared.kinded.Ask.{Ask}
 use Rattle.dpl_index.specs.declared.stops.Stop.{Stop}
@@ -41,6 +42,7 @@ use Rattle.dpl_index.specs.Meetings.{Meets}
 use Rattle.dpl_index.specs.Stops.{IsIndex}
 use Rattle.dpl_index.proofs.StopLemmas.{Absorbs}
 use Rattle.dpl_index.proofs.MeetingLemmas.{meets_outer}
+use Rattle.dpl_list.proofs.Lists.{some_of}
 
 -- ---- a stop for each place
 
@@ -65,13 +67,10 @@ kinds_more kinds n stops new s e rest kind so = rw e (record {
     | inr h ↦ subst P (sym (get_or_push stops s d k (omega arith))) (g (omega arith))
   ]
 
-pub same_kind : (a b : ℕ) → Some a ≡ Some b → a ≡ b
-same_kind a b e = cc
-
 pub kinds_all : (kinds : List ℕ) (n : ℕ) (stops : List Stop) → SinglesOf kinds n stops → HasKinds kinds stops
 kinds_all kinds n stops so = let long = so.long in record {
   one = λ k m d kind l low high e. let r = so.rest k d (omega arith) in let f : m ≡ k = omega arith in
-      rw f (same_kind _ _ (sym (so.kind k d (omega arith)) ∙ e));
+      rw f (same_Some _ _ (sym (so.kind k d (omega arith)) ∙ e));
 }
 
 -- ---- a stop takes in the next
@@ -171,10 +170,6 @@ asked_past x ask stops at found stop is within none i k w = record {
       | inr meets ↦ near (meets_outer _ _ ask.near (outer m d low high) (meets stop.bounds))
     ]
   ]
-
-some_of : (stops : List Stop) (k : ℕ) → k < length stops → Stop
-some_of [] k l = absurd (omega arith)
-some_of (s ∷ ss) k l = s
 
 pub asked_ends : (x : Kinded) (ask : Ask) (stops : List Stop) (at : ℕ) (found : List ℕ) → length stops ≤ at →
     IsIndex x.items stops → Asked x ask stops at found → HasAsked x ask found

@@ -6,10 +6,11 @@ use Rattle.std.proofs.lemmas.List.{get_or_default}
 use Rattle.std.proofs.lemmas.List.Elements.{All-push, Contains-push, Contains-append_left}
 use Rattle.dpl_index.specs.declared.bounds.Bounds.{Bounds}
 use Rattle.dpl_index.specs.declared.stops.Stop.{Stop}
-use Rattle.dpl_index.specs.Meetings.{Meets, IsMeeting, AreMeeting, HasMeeting, AddsMeeting, IsHolding}
+use Rattle.dpl_index.specs.Meetings.{Meets, IsMeeting, AreMeeting, HasMeeting, AddsMeeting}
 use Rattle.dpl_index.specs.Holds.{Holds}
 use Rattle.dpl_index.specs.Stops.{IsIndex}
 use Rattle.dpl_list.proofs.Integers.{signed}
+use Rattle.dpl_list.proofs.Lists.{some_of}
 use Rattle.dpl_index.proofs.StopLemmas.{holds_on}
 
 -- what meets bounds meets all that hold them
@@ -38,13 +39,6 @@ meeting_in_order items window found sorted h ordered same = record {
 } where
   go : (x : ℕ) → Contains found x → IsMeeting items window x
   go x (k, l, e) = let m : IsMeeting items window (get_or found k x) = h.each k x l in rw e at m
-
-pub holding_yes : (items : List Bounds) (inner : Bounds) (i : ℕ) (b : Bounds) → i < length items →
-    b ≡ get_or items i b → Holds b inner → IsHolding items inner i
-holding_yes items inner i b l e h = record { within = l; holds = λ d. rw (get_or_default items i d b l, ← e) h }
-
-pub holding_no : (items : List Bounds) (inner : Bounds) (i : ℕ) (b : Bounds) → b ≡ get_or items i b → ¬ Holds b inner → ¬ IsHolding items inner i
-holding_no items inner i b e none holding = none (rw (← e) at (holding.holds b))
 
 -- ---- the walk
 
@@ -93,10 +87,6 @@ walk_past items window stops at found stop is within far x w = record {
       let h : Holds stop.bounds (get_or items (get_or stops m d).number stop.bounds) = rw (is d) at (x.covers at m d stop.bounds within low (omega arith)) in
       meets_outer _ _ window h (n.meets stop.bounds)
 
-some_of : (stops : List Stop) (k : ℕ) → k < length stops → Stop
-some_of [] k l = absurd (omega arith)
-some_of (s ∷ ss) k l = s
-
 pub walk_ends : (items : List Bounds) (window : Bounds) (stops : List Stop) (at : ℕ) (found : List ℕ) →
     length stops ≤ at → IsIndex items stops → Walked items window stops at found → HasMeeting items window found
 walk_ends items window stops at found whole x w = record {
@@ -109,65 +99,6 @@ walk_ends items window stops at found whole x w = record {
       let P : ℕ → Type 0 = IsMeeting items window in
       let Q : ℕ → Type 0 = Contains found in
       subst Q (e d) (w.all k d (omega arith) l (subst P (sym (e d)) n))
-
--- ---- the walk for one that holds others
-
--- no item of the stops before a place holds the bounds
-pub record NoneHolds (items : List Bounds) (inner : Bounds) (stops : List Stop) (at : ℕ) : Type 0 where
-  pub none : (m : ℕ) (d : Stop) → m < at → m < length stops → ¬ IsHolding items inner (get_or stops m d).number
-
-pub search_begins : (items : List Bounds) (inner : Bounds) (stops : List Stop) → NoneHolds items inner stops 0
-search_begins items inner stops = record { none = λ m d l. absurd (omega arith) }
-
--- a stop is looked at
-pub search_on : (items : List Bounds) (inner : Bounds) (stops : List Stop) (at : ℕ) (stop : Stop) →
-    ((d : Stop) → get_or stops at d ≡ stop) → ¬ IsHolding items inner stop.number → NoneHolds items inner stops at →
-    NoneHolds items inner stops (at + 1)
-search_on items inner stops at stop is not_it w = record {
-  none = λ m d l h n. elim (cases_lt m at) [
-    | inl g ↦ w.none m d g h n
-    | inr g ↦ let f : m ≡ at = omega arith in let P : Stop → Type 0 = λ t. IsHolding items inner t.number in
-        not_it (subst P (ap (λ j. get_or stops j d) f ∙ is d) n)
-  ];
-}
-
--- the stops within bounds that do not hold them are left out
-pub search_past : (items : List Bounds) (inner : Bounds) (stops : List Stop) (at : ℕ) (stop : Stop) →
-    ((d : Stop) → get_or stops at d ≡ stop) → at < length stops → ¬ Holds stop.bounds inner → IsIndex items stops →
-    NoneHolds items inner stops at → NoneHolds items inner stops (at + stop.rest + 1)
-search_past items inner stops at stop is within far x w = record {
-  none = λ m d h k n. elim (cases_lt m at) [
-    | inl g ↦ w.none m d g k n
-    | inr g ↦ far (held m d g h n)
-  ];
-} where
-  held : (m : ℕ) (d : Stop) → at ≤ m → m < at + stop.rest + 1 → IsHolding items inner (get_or stops m d).number → Holds stop.bounds inner
-  held m d low high n =
-      let r : (get_or stops at d).rest ≡ stop.rest = ap (λ (t : Stop). t.rest) (is d) in
-      let h : Holds stop.bounds (get_or items (get_or stops m d).number stop.bounds) = rw (is d) at (x.covers at m d stop.bounds within low (omega arith)) in
-      holds_on _ _ inner h (n.holds stop.bounds)
-
-pub search_ends : (items : List Bounds) (inner : Bounds) (stops : List Stop) (at : ℕ) → length stops ≤ at →
-    IsIndex items stops → NoneHolds items inner stops at → (i : ℕ) → ¬ IsHolding items inner i
-search_ends items inner stops at whole x w i n =
-    let (k, l, e) = x.all i n.within in
-    let d : Stop = some_of stops k l in
-    let P : ℕ → Type 0 = IsHolding items inner in
-    w.none k d (omega arith) l (subst P (sym (e d)) n)
-
-pub not_held : (test : Bool) (a b : Bounds) → test ≡ false → (Holds a b → IsTrue test) → ¬ Holds a b
-not_held test a b e f h = let t : IsTrue false = rw e at (f h) in search rules
-
--- bounds hold others where their columns and their rows do
-pub holds_both : (a b : Bounds) (columns rows : Bool) → columns ≡ true →
-    (IsTrue columns ↔ (a.left ≤ℤ b.left) × (b.right ≤ℤ a.right)) →
-    (IsTrue rows ↔ (a.low ≤ℤ b.low) × (b.high ≤ℤ a.high)) → IsTrue rows ↔ Holds a b
-holds_both a b columns rows e f g = (
-  (λ t. let p = f.0 (is_true columns e) in let q = g.0 t in record { left = p.0; right = p.1; low = q.0; high = q.1 }),
-  (λ h. g.1 (h.low, h.high)),
-) where
-  is_true : (test : Bool) → test ≡ true → IsTrue test
-  is_true test h = search rules
 
 -- what a test that failed leaves
 pub not_met : (test : Bool) (a b : Bounds) → test ≡ false → (Meets a b → IsTrue test) → ¬ Meets a b

@@ -108,6 +108,27 @@ pub record Absorbs (stops : List Stop) (k : ℕ) (stop next new : Stop) : Type 0
   pub first : Holds new.bounds stop.bounds
   pub second : Holds new.bounds next.bounds
 
+-- a stop where a list has none
+abbrev pub blank : Stop
+blank = record { number = 0; rest = 0; bounds = record { left = pos 0; right = pos 0; low = pos 0; high = pos 0 }; kind = None }
+
+-- what a stop and the next one make
+pub absorbed : (stops : List Stop) (k : ℕ) (new : Stop) → k < length stops → k + (get_or stops k blank).rest + 1 < length stops →
+    new.number ≡ (get_or stops k blank).number →
+    new.rest ≡ (get_or stops k blank).rest + (get_or stops (k + (get_or stops k blank).rest + 1) blank).rest + 1 →
+    Holds new.bounds (get_or stops k blank).bounds →
+    Holds new.bounds (get_or stops (k + (get_or stops k blank).rest + 1) blank).bounds →
+    Absorbs stops k (get_or stops k blank) (get_or stops (k + (get_or stops k blank).rest + 1) blank) new
+absorbed stops k new within more number rest first second = record {
+  stop_is = λ d. get_or_default stops k d blank within;
+  more = more;
+  next_is = λ d. get_or_default stops (k + (get_or stops k blank).rest + 1) d blank more;
+  number = number;
+  rest = rest;
+  first = first;
+  second = second;
+}
+
 pub absorb_keeps : (items : List Bounds) (stops : List Stop) (k : ℕ) (stop next new : Stop) →
     Absorbs stops k stop next new → IsIndex items stops → IsIndex items (set stops k new)
 absorb_keeps items stops k stop next new a s = record {
@@ -153,7 +174,3 @@ absorb_keeps items stops k stop next new a s = record {
               rw (a.next_is d) at (s.covers (k + stop.rest + 1) m d c a.more h (omega arith)) in
               holds_on _ _ _ a.second g
         ]
-
--- a stop where a list has none
-abbrev pub blank : Stop
-blank = record { number = 0; rest = 0; bounds = record { left = pos 0; right = pos 0; low = pos 0; high = pos 0 }; kind = None }

@@ -1,7 +1,6 @@
 -- The items whose bounds meet others.
 use Rattle.std.specs.Prelude.{◌≡◌, ◌⊎◌, ℕ, ◌<◌, ◌≤ℤ◌, List, [], ◌∷◌, ◌++◌, All, AllPairs, Contains, length, slice_index_or}
 use Rattle.dpl_index.specs.declared.bounds.Bounds.{Bounds}
-use Rattle.dpl_index.specs.Holds.{Holds}
 
 -- the bounds have a column and a row in common, where each has one
 pub record Meets (a b : Bounds) : Type 0 where
@@ -31,8 +30,3 @@ abbrev pub AddsMeeting : List Bounds → Bounds → ℕ → List ℕ → List �
 AddsMeeting items window i found new =
     (IsMeeting items window i × (new ≡ found ++ i ∷ [])) ⊎
     ((¬ IsMeeting items window i) × (new ≡ found))
-
--- the number of an item whose bounds hold these
-pub record IsHolding (items : List Bounds) (inner : Bounds) (i : ℕ) : Type 0 where
-  pub within : i < length items
-  pub holds : (d : Bounds) → Holds (slice_index_or items i d) inner

@@ -1,5 +1,5 @@
-// Ranges of columns and rows that bound items: whether they meet or hold others.
-ghost use Rattle.std.specs.Prelude.{◌↔◌, ℤ, ◌≤ℤ◌, IsTrue};
+// Ranges of columns and rows that bound items: whether they meet, and what holds two of them.
+ghost use Rattle.std.specs.Prelude.{◌↔◌, ◌≤ℤ◌, IsTrue};
 ghost use Rattle.dpl_index.specs.Meetings.{Meets};
 ghost use Rattle.dpl_index.specs.Holds.{Holds};
 
@@ -17,21 +17,6 @@ pub fn do_meet(a: &Bounds, b: &Bounds) -> bool
     ensures { IsTrue result ↔ Meets a.now b.now }
 {
     overlap(a.left, a.right, b.left, b.right) && overlap(a.low, a.high, b.low, b.high)
-}
-
-/// Whether bounds hold others.
-pub fn do_hold(outer: &Bounds, inner: &Bounds) -> bool
-    ensures { IsTrue result ↔ Holds outer.now inner.now }
-{
-    lies_in(outer.left, outer.right, inner.left, inner.right)
-        && lies_in(outer.low, outer.high, inner.low, inner.high)
-}
-
-/// Whether the second range lies in the first.
-fn lies_in(a1: i64, a2: i64, b1: i64, b2: i64) -> bool
-    ensures { IsTrue result ↔ (a1 ≤ℤ b1) × (b2 ≤ℤ a2) }
-{
-    a1 <= b1 && b2 <= a2
 }
 
 /// Whether two ranges have a number in common.

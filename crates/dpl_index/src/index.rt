@@ -1,9 +1,9 @@
 // Items found by their bounds.
-ghost use Rattle.std.specs.Prelude.{ℕ, ◌<◌, ◌≤◌, length, IfOk, OnOk, MatchOption};
-ghost use Rattle.dpl_index.specs.Meetings.{AddsMeeting, HasMeeting, IsHolding};
+ghost use Rattle.std.specs.Prelude.{ℕ, ◌<◌, ◌≤◌, length, IfOk, OnOk};
+ghost use Rattle.dpl_index.specs.Meetings.{AddsMeeting, HasMeeting};
 ghost use Rattle.dpl_index.specs.Stops.{IsIndex};
 
-use crate::bounds::{Bounds, do_hold, do_meet};
+use crate::bounds::{Bounds, do_meet};
 use crate::order::put_in_order;
 use crate::stops::{Stop, stops_of};
 use std::alloc::{AllocError as NoMemory, Global};
@@ -33,8 +33,8 @@ impl Model for Index {
 }
 
 impl Index {
-    ghost use Rattle.std.specs.Prelude.{◌≡◌, ℕ, IfOk, MatchOption};
-    ghost use Rattle.dpl_index.specs.Meetings.{AreMeeting, IsHolding};
+    ghost use Rattle.std.specs.Prelude.{◌≡◌, IfOk};
+    ghost use Rattle.dpl_index.specs.Meetings.{AreMeeting};
 
     /// An index of items with these bounds. It takes about n log n steps for n of them.
     pub fn new(alloc: Global, bounds: Vec<Bounds>) -> Result<Index, NoMemory>
@@ -53,35 +53,6 @@ impl Index {
         put_in_order(&mut found);
         Ok(found)
     }
-
-    /// An item whose bounds hold these, if there is one.
-    pub fn holding(&self, inner: &Bounds) -> Option<usize>
-        ensures { MatchOption result ((i : ℕ) → ¬ IsHolding self.now inner.now i)
-            (IsHolding self.now inner.now) }
-    {
-        first_holding(self.bounds.as_slice(), self.stops.as_slice(), inner)
-    }
-}
-
-/// The first item, stop by stop, whose bounds hold these.
-fn first_holding(items: &[Bounds], stops: &[Stop], inner: &Bounds) -> Option<usize>
-    requires { IsIndex items.now stops.now }
-    ensures { MatchOption result ((i : ℕ) → ¬ IsHolding items.now inner.now i)
-        (IsHolding items.now inner.now) }
-{
-    let mut k = 0;
-    'stops: while k < stops.len() {
-        let stop = stops[k];
-        if do_hold(&stop.bounds, inner) {
-            if do_hold(&items[stop.number], inner) {
-                return Some(stop.number);
-            }
-            k += 1;
-        } else {
-            k += stop.rest + 1;
-        }
-    }
-    None
 }
 
 /// The numbers of the items whose bounds meet these, in any order; where there are more than `enough`, one more than that.

@@ -3,15 +3,14 @@ use Rattle.std.proofs.Common.{arith, ◌≡◌, ℕ, ◌+◌, ◌*◌, ◌<◌, 
 use Rattle.std.proofs.Common.{length, get_or, map, refl, inl, inr, rules, SFits, w64}
 use Rattle.std.proofs.lemmas.Bool.{cases_lt}
 use Rattle.std.proofs.lemmas.Int.{ints}
-use Rattle.std.proofs.lemmas.List.{get_or-map, length-map}
+use Rattle.std.proofs.lemmas.List.{get_or-map}
 use Rattle.dpl_index.specs.declared.bounds.Bounds.{Bounds}
-use Rattle.dpl_index.specs.Meetings.{Meets, IsMeeting, AreMeeting}
+use Rattle.dpl_index.specs.Meetings.{Meets}
 use Rattle.dpl_cell.specs.declared.rect.Rect.{Rect}
 use Rattle.dpl_cell.specs.Places.{Corners, corners_of}
 use Rattle.dpl_cell.specs.Cells.{IsIn}
 use Rattle.dpl_cell.specs.Gaps.{between, AreClose}
 use Rattle.dpl_near.specs.Bounds.{bounds_of}
-use Rattle.dpl_near.specs.Near.{IsNear, MayBeNear}
 use Rattle.dpl_list.proofs.Integers.{signed}
 use Rattle.dpl_list.proofs.Naturals.{square_le}
 
@@ -56,32 +55,8 @@ wider_fit r reach h = (
   more : (z : ℤ) → neg_ℤ (pos (2 ^ 30)) ≤ℤ z → z ≤ℤ pos (2 ^ 30) → SFits w64 (z +ℤ pos reach)
   more z f g = search (rules, ints)
 
--- ---- what meets the widened bounds may be near
+-- ---- bounds by number
 
 pub bounds_at : (rects : List Rect) (j : ℕ) (r : Rect) (d : Bounds) (e : Corners) → j < length rects →
     get_or (map (λ q. bounds_of (corners_of q)) rects) j d ≡ bounds_of (get_or (map corners_of rects) j e)
 bounds_at rects j r d e l = rw (get_or-map (λ q. bounds_of (corners_of q)) rects j r d l, get_or-map corners_of rects j r e l) refl
-
-pub may_be_near : (rects : List Rect) (reach i : ℕ) (r : Rect) (items : List Bounds) (window : Bounds)
-    (found : List ℕ) → items ≡ map (λ q. bounds_of (corners_of q)) rects → i < length rects → r ≡ get_or rects i r
-    → ((other : Corners) → AreClose (IsIn (corners_of r)) (IsIn other) reach → Meets (bounds_of other) window) →
-    AreMeeting items window found → MayBeNear (record { rects = map corners_of rects; reach = reach }) i found
-may_be_near rects reach i r items window found e l is close m = record {
-  each = λ k d h. let w = (m.each k d h).within in within_rects _ w;
-  all = λ j n. m.all j (meeting j n);
-  ordered = m.ordered;
-} where
-  sizes : length items ≡ length (map corners_of rects)
-  sizes = rw (e, length-map rects corners_of, length-map rects (λ q. bounds_of (corners_of q))) refl
-
-  within_rects : (j : ℕ) → j < length items → j < length (map corners_of rects)
-  within_rects j h = let s = sizes in omega arith
-
-  meeting : (j : ℕ) → IsNear (record { rects = map corners_of rects; reach = reach }) i j → IsMeeting items window j
-  meeting j n = record {
-    within = let s = sizes in let w = n.within in omega arith;
-    meets = λ d. rw (e, bounds_at rects j r d (corners_of r) (let w = n.within in let s = length-map rects corners_of in omega arith)) (close _ (here j n));
-  } where
-    here : (j : ℕ) → IsNear (record { rects = map corners_of rects; reach = reach }) i j →
-        AreClose (IsIn (corners_of r)) (IsIn (get_or (map corners_of rects) j (corners_of r))) reach
-    here j n = rw (get_or-map corners_of rects i r (corners_of r) l, ← is) at (n.close (corners_of r))

@@ -1,8 +1,10 @@
 pub mod AroundLemmas
 pub mod NearLemmas
 pub mod BoundsLemmas
+pub mod BorderLemmas
 pub mod JoinLemmas
 pub mod WalkLemmas
 pub mod ShapeLemmas
 pub mod ApartLemmas
 pub mod LawLemmas
+pub mod MovedLemmas

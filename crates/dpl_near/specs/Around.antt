@@ -1,5 +1,5 @@
 -- What stands around a rectangle of a shape: what is near of other shapes, and what it touches.
-use Rattle.std.specs.Prelude.{◌≡◌, ◌≢◌, ◌⊎◌, ℕ, ◌<◌, List, All, Contains, length, slice_index_or}
+use Rattle.std.specs.Prelude.{◌≢◌, ℕ, ◌<◌, List, All, Contains, length, slice_index_or}
 use Rattle.dpl_near.specs.Near.{Search, IsNear}
 use Rattle.dpl_cell.specs.Places.{Corners}
 

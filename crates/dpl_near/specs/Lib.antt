@@ -1,5 +1,6 @@
 pub mod Near
 pub mod Around
 pub mod Bounds
+pub mod Borders
 pub mod Joins
 pub mod Shapes

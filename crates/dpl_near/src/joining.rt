@@ -1,13 +1,14 @@
 // Pairs of rectangles that share an edge.
-ghost use Rattle.std.specs.Prelude.{ℕ, ◌+◌, ◌≤◌, ◌<◌, length, AllPairs, IfOk, OnOk, map};
+ghost use Rattle.std.specs.Prelude.{◌↔◌, ℕ, ◌+◌, ◌<◌, ◌≤◌, true, false, IfOk, OnOk};
+ghost use Rattle.std.specs.Prelude.{length, AllPairs, Contains, map};
 ghost use Rattle.dpl_limits.specs.declared.TheConstants.{MOST_TILES};
 ghost use Rattle.dpl_cell.specs.Places.{corners_of};
 ghost use Rattle.dpl_cell.specs.Cells.{AreApart};
-ghost use Rattle.dpl_near.specs.Joins.{AreJoins, AreJoinsBefore};
-ghost use Rattle.dpl_near.specs.Near.{AreNear};
+ghost use Rattle.dpl_near.specs.Borders.{AreBorders, AreInOrder};
+ghost use Rattle.dpl_near.specs.Joins.{AreJoins, HasJoinsOf, IsFirst};
 
-use crate::finder::Finder;
-use dpl_cell::{Rect, touch};
+use crate::borders::{Border, first_borders, last_border, push_along};
+use dpl_cell::Rect;
 use std::alloc::{AllocError as NoMemory, Global};
 
 /// The pairs of rectangles that share an edge, of which no two share a cell.
@@ -16,46 +17,46 @@ pub fn joins(alloc: Global, rects: &[Rect]) -> Result<Vec<(u32, u32)>, NoMemory>
     requires few { length rects.now ≤ MOST_TILES }
     ensures { IfOk result (λ v. AreJoins (map corners_of rects.now) v.items) }
 {
-    let finder = Finder::new(alloc, rects, 1)?;
-    let mut joins = Vec::new(alloc);
+    let lower = first_borders(alloc, false, rects)?;
+    let left = first_borders(alloc, true, rects)?;
+    let mut joins = Vec::with_capacity(alloc, rects.len())?;
     for i in 0..rects.len() {
-        let found = finder.near(alloc, i as u32)?;
-        push_joins(&mut joins, rects, i, found.as_slice())?;
+        push_joins(&mut joins, rects, i, lower.as_slice(), left.as_slice())?;
     }
+    put_in_order(&mut joins);
     Ok(joins)
 }
 
-/// Adds the pairs of one rectangle and a later one, which is among those at no distance from it.
+/// Adds the pairs of a rectangle and those that begin where it ends: at its right, and above it.
 fn push_joins(
     joins: &mut Vec<(u32, u32)>,
     rects: &[Rect],
     i: usize,
-    found: &[u32],
+    lower: &[Border],
+    left: &[Border],
 ) -> Result<(), NoMemory>
-    requires apart { AllPairs AreApart (map corners_of rects.now) }
     requires few { length rects.now ≤ MOST_TILES }
     requires within { i < length rects.now }
-    requires found { AreNear (record { rects = map corners_of rects.now; reach = 1 }) i found.now }
-    requires before { AreJoinsBefore (map corners_of rects.now) i 0 joins.old.items }
-    ensures { OnOk result (AreJoinsBefore (map corners_of rects.now) (i + 1) 0 joins.new.items) }
+    requires lower { AreBorders false (map corners_of rects.now) lower.now }
+    requires left { AreBorders true (map corners_of rects.now) left.now }
+    requires lower_order { AreInOrder lower.now }
+    requires left_order { AreInOrder left.now }
+    requires joins { HasJoinsOf (map corners_of rects.now) i joins.old.items }
+    ensures { OnOk result (HasJoinsOf (map corners_of rects.now) (i + 1) joins.new.items) }
 {
-    for j in found {
-        push_join(joins, rects, i, *j)?;
-    }
+    let rect = &rects[i];
+    let right = last_border(true, rect, i as u32);
+    push_along(joins, &right, left)?;
+    let upper = last_border(false, rect, i as u32);
+    push_along(joins, &upper, lower)?;
     Ok(())
 }
 
-/// Adds the pair of two rectangles if the second is a later one and they share an edge.
-fn push_join(joins: &mut Vec<(u32, u32)>, rects: &[Rect], i: usize, j: u32) -> Result<(), NoMemory>
-    requires apart { AllPairs AreApart (map corners_of rects.now) }
-    requires few { length rects.now ≤ MOST_TILES }
-    requires within { i < length rects.now }
-    requires other { j < length rects.now }
-    requires before { AreJoinsBefore (map corners_of rects.now) i j joins.old.items }
-    ensures { OnOk result (AreJoinsBefore (map corners_of rects.now) i (j + 1) joins.new.items) }
+/// Puts pairs into ascending order, each once.
+fn put_in_order(pairs: &mut Vec<(u32, u32)>)
+    ensures ordered { AllPairs IsFirst pairs.new.items }
+    ensures same { (p : ℕ × ℕ) → Contains pairs.new.items p ↔ Contains pairs.old.items p }
 {
-    if i < j as usize && touch(&rects[i], &rects[j as usize]) {
-        joins.push((i as u32, j))?;
-    }
-    Ok(())
+    pairs.sort_unstable();
+    pairs.dedup();
 }

@@ -1,5 +1,5 @@
 // Rectangles of shapes: what is near of other shapes, and what touches.
-ghost use Rattle.std.specs.Prelude.{◌≡◌, ℕ, ◌≤◌, ◌<◌, length, IfOk, map};
+ghost use Rattle.std.specs.Prelude.{◌≡◌, ℕ, ◌≤◌, ◌<◌, length, IfOk, OnOk, map};
 ghost use Rattle.dpl_limits.specs.declared.TheConstants.{MOST_REACH, MOST_TILES};
 ghost use Rattle.dpl_index.specs.Meetings.{Meets};
 ghost use Rattle.dpl_cell.specs.Places.{Corners, corners_of};
@@ -7,10 +7,10 @@ ghost use Rattle.dpl_cell.specs.Cells.{IsIn};
 ghost use Rattle.dpl_cell.specs.Gaps.{AreClose};
 ghost use Rattle.dpl_near.specs.Around.{AreAround, MayBeAround};
 ghost use Rattle.dpl_near.specs.Bounds.{bounds_of};
+ghost use Rattle.dpl_near.specs.Near.{AddsNear};
 
 use crate::bounds::{all_bounds, within_reach};
-use crate::finder::push_near;
-use dpl_cell::Rect;
+use dpl_cell::{Rect, are_close};
 use dpl_index::{Ask, KindIndex};
 use std::alloc::{AllocError as NoMemory, Global};
 use std::marker::Model;
@@ -186,4 +186,25 @@ fn close_among(
         push_near(&mut near, rects, reach, i, *j)?;
     }
     Ok(near)
+}
+
+/// Adds a rectangle if it is near another.
+fn push_near(
+    found: &mut Vec<u32>,
+    rects: &[Rect],
+    reach: u64,
+    i: usize,
+    j: usize,
+) -> Result<(), NoMemory>
+    requires few { length rects.now ≤ MOST_TILES }
+    requires near { reach ≤ MOST_REACH }
+    requires within { i < length rects.now }
+    requires other { j < length rects.now }
+    ensures { OnOk result (AddsNear (record { rects = map corners_of rects.now; reach = reach })
+        i j found.old.items found.new.items) }
+{
+    if j != i && are_close(&rects[i], &rects[j], reach) {
+        found.push(j as u32)?;
+    }
+    Ok(())
 }

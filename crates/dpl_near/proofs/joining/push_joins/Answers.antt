@@ -1,22 +1,14 @@
-use Rattle.std.proofs.Common.{sym}
+use Rattle.std.proofs.Common.{◌<◌, length, map}
 use Rattle.std.proofs.lemmas.List.{length-map}
 use Rattle.dpl_cell.specs.Places.{corners_of}
-use Rattle.dpl_near.proofs.JoinLemmas.{among_begin, among_at, among_more, among_end}
+use Rattle.dpl_cell.proofs.BoxLemmas.{rects_have}
+use Rattle.dpl_near.proofs.JoinLemmas.{corners_at, joins_more}
 use Rattle.dpl_near.proofs.joining.push_joins.Goals as goal
 
-pub loop-j-init : goal.loop-j-init
-loop-j-init c = among_begin _ _ _ _ c.requires.before
-
-pub push_join-requires-clause-other : goal.push_join-requires-clause-other
-push_join-requires-clause-other c =
-    let n = c.requires.found.each c.loop-j.j-index 0 c.loop-j-test.true in let w = n.within in
-    rw (sym (length-map c.args.rects.now corners_of)) w
-
-pub push_join-requires-clause-before : goal.push_join-requires-clause-before
-push_join-requires-clause-before c = among_at _ _ _ _ _ c.loop-j-test.true c.requires.found c.loop-j.invariant
-
-pub loop-j-preserved : goal.loop-j-preserved
-loop-j-preserved c = among_more _ _ _ _ c.loop-j.joins.items _ c.loop-j-test.true c.requires.found c.in_ok-push_join.ensures
-
 pub returns : goal.returns
-returns c = among_end _ _ _ c.loop-j.j-index _ c.loop-j-test.false c.requires.found c.loop-j.invariant
+returns c =
+    let within : c.args.i < length (map corners_of c.args.rects.now) = rw (length-map c.args.rects.now corners_of) c.requires.within in
+    joins_more (map corners_of c.args.rects.now) c.args.i (corners_of c.index-rects-i.result) c.args.left.now c.args.lower.now _ _ _
+    (rects_have c.args.rects.now) within (corners_at c.args.rects.now c.args.i c.index-rects-i.result c.requires.within c.index-rects-i.is)
+    c.requires.left c.requires.lower (rw c.last_border-right.ensures at c.in_ok-push_along.ensures)
+    (rw c.last_border-upper.ensures at c.in_ok-push_along-2.ensures) c.requires.joins

@@ -4,8 +4,8 @@ use Rattle.dpl_cell.specs.Places.{corners_of}
 use Rattle.dpl_cell.proofs.BoxLemmas.{not_by_test}
 use Rattle.dpl_near.proofs.JoinLemmas.{corners_at}
 use Rattle.dpl_near.proofs.NearLemmas.{near_no, near_yes, near_itself}
-use Rattle.dpl_near.proofs.finder.push_near.Goals as goal
-use Rattle.dpl_near.proofs.finder.push_near.Goals.{else-j-i-via-then-j-i+else-are_close, else-j-i-via-else-j-i}
+use Rattle.dpl_near.proofs.surroundings.push_near.Goals as goal
+use Rattle.dpl_near.proofs.surroundings.push_near.Goals.{else-j-i-via-then-j-i+else-are_close, else-j-i-via-else-j-i}
 
 pub returns-else-j-i : goal.returns-else-j-i
 returns-else-j-i c =
