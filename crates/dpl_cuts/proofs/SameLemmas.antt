@@ -2,6 +2,7 @@
 use Rattle.std.proofs.Common.{arith, ◌≡◌, ◌<◌, ◌≤◌, inl, inr, ℕ, zero, suc, List, [], ◌∷◌, length, map, sym, ap, ◌∙◌, subst, AllPairs, Contains, get_or}
 use Rattle.std.proofs.lemmas.Bool.{cases_lt}
 use Rattle.std.proofs.lemmas.List.{get_or_default, length-map}
+use Rattle.std.proofs.lemmas.List.Elements.{All-contains}
 use Rattle.dpl_cell.specs.Places.{Corners, corners_of}
 use Rattle.dpl_cell.specs.Tiles.{IsBefore}
 use Rattle.dpl_cell.proofs.Same.{same_corners}
@@ -10,7 +11,7 @@ use Rattle.dpl_cuts.specs.declared.types.Fragments.{Fragments}
 use Rattle.dpl_cuts.specs.Positions.{nowhere, rect_at, end_of}
 use Rattle.dpl_cuts.specs.Cuts.{zone_at}
 use Rattle.dpl_cuts.specs.Fragments.{IsFragmentOf, AreParts, IsCut, AreCuts, AreFragments, HasMoreFragments}
-use Rattle.dpl_list.proofs.Ordered.{maps_same, has_all, ordered_same, lists_same}
+use Rattle.dpl_list.proofs.Ordered.{maps_same, ordered_same, lists_same}
 use Rattle.dpl_cell.proofs.OrderLemmas.{before_once}
 use Rattle.dpl_list.proofs.Lists.{no_more}
 
@@ -73,7 +74,7 @@ cut_same c d e f g =
 cut_found : (over : ℕ) (tiles rects : List Corners) (tile : List ℕ) (a b : List Cut) → AreCuts over tiles rects tile a →
     AreCuts over tiles rects tile b → (c : Cut) → Contains a c → Contains b c
 cut_found over tiles rects tile a b s t c m =
-    let x = has_all (λ (c : Cut). IsCut over tiles rects tile c.a c.b (corners_of c.zone)) a c s.each m in
+    let x = All-contains (λ (c : Cut). IsCut over tiles rects tile c.a c.b (corners_of c.zone)) a c s.each m in
     let (k, d, l, e, (f, g)) = t.all c.a c.b (corners_of c.zone) x in
     let y : IsCut over tiles rects tile d.a d.b (corners_of d.zone) = let P : Cut → Type 0 =
     λ c. IsCut over tiles rects tile c.a c.b (corners_of c.zone) in subst P e (t.each k d l) in

@@ -7,13 +7,14 @@ ghost use Rattle.dpl_near.specs.Shapes.{AreShapes};
 ghost use Rattle.dpl_cuts.specs.Positions.{first_of, last_of, layer_of, rect_at};
 ghost use Rattle.dpl_cuts.specs.Free.{IsFree};
 ghost use Rattle.dpl_cuts.specs.Blocks.{IsBlocked, MayBeKept};
+ghost use Rattle.dpl_cuts.specs.Tilings.{IsTiling, kept_of, surroundings_of, tiles_of};
 ghost use Rattle.dpl_cuts.specs.Cuts.{AreCutPlaces};
 
 use crate::blocking::blocks;
 use crate::freeing::free_stretches;
 use crate::placing::cut_places;
 use crate::positions::lane_of;
-use dpl_cell::Rect;
+use crate::tiling::Tiling;
 use dpl_near::Surroundings;
 use std::alloc::{AllocError, Global};
 
@@ -23,104 +24,54 @@ const FEW: usize = 64;
 /// Where the tile `i` is cut, ascending. The kept rectangles that share cells with it have these numbers.
 pub fn cuts_of<'a>(
     alloc: Global,
-    tiles: &[Rect],
-    label: &[u32],
+    tiling: &Tiling<'a>,
     finder: &Surroundings<'a>,
-    keep: &[Rect],
     kept: &[usize],
     i: usize,
-    space: u64,
-    over: u64,
 ) -> Result<Vec<i64>, AllocError>
-    requires some { 1 ≤ space }
-    requires space { space ≤ MOST_REACH }
-    requires over { over ≤ MOST_REACH }
-    requires few { length tiles.now ≤ MOST_TILES }
-    requires within { i < length tiles.now }
-    requires shapes { (n : ℕ) × AreShapes (map corners_of tiles.now) label.now n }
-    requires finder { finder.now ≡ record {
-      rects = map corners_of tiles.now;
-      shape = label.now;
-      reach = space;
-    } }
-    requires kept { MayBeKept (map corners_of keep.now) (rect_at (map corners_of tiles.now) i)
-        kept.now }
-    ensures { IfOk result (λ v. AreCutPlaces (layer_of (map corners_of tiles.now))
-        (map corners_of keep.now) space over (rect_at (map corners_of tiles.now) i) v.items) }
+    requires tiling { IsTiling tiling.now }
+    requires within { i < length tiling.now.tiles.now }
+    requires finder { finder.now ≡ surroundings_of tiling.now }
+    requires kept { MayBeKept (kept_of tiling.now) (rect_at (tiles_of tiling.now) i) kept.now }
+    ensures { IfOk result (λ v. AreCutPlaces (layer_of (tiles_of tiling.now)) (kept_of tiling.now)
+        tiling.now.space tiling.now.over (rect_at (tiles_of tiling.now) i) v.items) }
 {
     match finder.few_around(alloc, i as u32, FEW)? {
         Some(near) => {
             let near = near.as_slice();
-            cut_places(alloc, tiles, label, near, keep, kept, i, space, over)
+            cut_places(alloc, tiling, near, kept, i)
         }
-        None => cuts_among_many(alloc, tiles, label, finder, keep, kept, i, space, over),
+        None => {
+            let shut = is_shut_in(alloc, tiling, finder, i)?;
+            if shut {
+                return Ok(Vec::new(alloc));
+            }
+            let near = finder.around(alloc, i as u32)?;
+            let near = near.as_slice();
+            cut_places(alloc, tiling, near, kept, i)
+        }
     }
-}
-
-/// The same. Many tiles are around it.
-fn cuts_among_many<'a>(
-    alloc: Global,
-    tiles: &[Rect],
-    label: &[u32],
-    finder: &Surroundings<'a>,
-    keep: &[Rect],
-    kept: &[usize],
-    i: usize,
-    space: u64,
-    over: u64,
-) -> Result<Vec<i64>, AllocError>
-    requires some { 1 ≤ space }
-    requires space { space ≤ MOST_REACH }
-    requires over { over ≤ MOST_REACH }
-    requires few { length tiles.now ≤ MOST_TILES }
-    requires within { i < length tiles.now }
-    requires shapes { (n : ℕ) × AreShapes (map corners_of tiles.now) label.now n }
-    requires finder { finder.now ≡ record {
-      rects = map corners_of tiles.now;
-      shape = label.now;
-      reach = space;
-    } }
-    requires kept { MayBeKept (map corners_of keep.now) (rect_at (map corners_of tiles.now) i)
-        kept.now }
-    ensures { IfOk result (λ v. AreCutPlaces (layer_of (map corners_of tiles.now))
-        (map corners_of keep.now) space over (rect_at (map corners_of tiles.now) i) v.items) }
-{
-    let shut = is_shut_in(alloc, tiles, label, finder, i, space)?;
-    if shut {
-        return Ok(Vec::new(alloc));
-    }
-    let near = finder.around(alloc, i as u32)?;
-    let near = near.as_slice();
-    cut_places(alloc, tiles, label, near, keep, kept, i, space, over)
 }
 
 /// Whether near tiles leave no position of the tile `i` free. Those within a small reach are asked first, and then those
 /// within twice the reach, since few of all that are near do in most cases.
 fn is_shut_in<'a>(
     alloc: Global,
-    tiles: &[Rect],
-    label: &[u32],
+    tiling: &Tiling<'a>,
     finder: &Surroundings<'a>,
     i: usize,
-    space: u64,
 ) -> Result<bool, AllocError>
-    requires space { space ≤ MOST_REACH }
-    requires few { length tiles.now ≤ MOST_TILES }
-    requires within { i < length tiles.now }
-    requires shapes { (n : ℕ) × AreShapes (map corners_of tiles.now) label.now n }
-    requires finder { finder.now ≡ record {
-      rects = map corners_of tiles.now;
-      shape = label.now;
-      reach = space;
-    } }
+    requires tiling { IsTiling tiling.now }
+    requires within { i < length tiling.now.tiles.now }
+    requires finder { finder.now ≡ surroundings_of tiling.now }
     ensures { IfOk result (λ shut. shut ≡ true → (keep : List Corners) (p : ℤ) →
-        ¬ IsFree (layer_of (map corners_of tiles.now)) keep space
-        (rect_at (map corners_of tiles.now) i) p) }
+        ¬ IsFree (layer_of (tiles_of tiling.now)) keep tiling.now.space
+        (rect_at (tiles_of tiling.now) i) p) }
 {
     let mut reach = 1;
-    'wider: while reach < space {
+    'wider: while reach < tiling.space {
         let near = finder.around_within(alloc, i as u32, reach)?;
-        let shut = are_blocking(alloc, tiles, label, near.as_slice(), i, space)?;
+        let shut = are_blocking(alloc, tiling, near.as_slice(), i)?;
         if shut {
             return Ok(true);
         }
@@ -132,22 +83,20 @@ fn is_shut_in<'a>(
 /// Whether the tiles with these numbers block all positions of the tile `i`.
 fn are_blocking(
     alloc: Global,
-    tiles: &[Rect],
-    label: &[u32],
+    tiling: &Tiling<'_>,
     near: &[u32],
     i: usize,
-    space: u64,
 ) -> Result<bool, AllocError>
-    requires space { space ≤ MOST_REACH }
-    requires within { i < length tiles.now }
-    requires long { length label.now ≡ length tiles.now }
-    requires among { All (λ k. k < length tiles.now) near.now }
+    requires tiling { IsTiling tiling.now }
+    requires within { i < length tiling.now.tiles.now }
+    requires among { All (λ k. k < length tiling.now.tiles.now) near.now }
     ensures { IfOk result (λ all. all ≡ true → (p : ℤ) →
-        IsWithin (first_of (rect_at (map corners_of tiles.now) i))
-        (last_of (rect_at (map corners_of tiles.now) i)) p →
-        IsBlocked (map corners_of tiles.now) label.now space i near.now p) }
+        IsWithin (first_of (rect_at (tiles_of tiling.now) i))
+        (last_of (rect_at (tiles_of tiling.now) i)) p →
+        IsBlocked (tiles_of tiling.now) tiling.now.label.now tiling.now.space i near.now p) }
 {
-    let mut blocked = blocks(alloc, tiles, label, near, i, space)?;
+    let tiles = tiling.tiles;
+    let mut blocked = blocks(alloc, tiling, near, i)?;
     blocked.sort_unstable_by_key(|s| s.from);
     let free = free_stretches(alloc, &lane_of(&tiles[i]), blocked.as_slice())?;
     Ok(free.is_empty())

@@ -1,5 +1,5 @@
 -- Sums over numbers that a permutation moves.
-use Rattle.std.proofs.Common.{◌≤◌, arith, ◌≡◌, ◌≢◌, ℕ, zero, suc, ◌+◌, ◌*◌, ◌%◌, ◌<◌, refl, sym, ap, ◌∙◌, Bool, cond, inl, inr}
+use Rattle.std.proofs.Common.{◌≤◌, arith, ◌≡◌, ◌≢◌, ℕ, zero, suc, ◌+◌, ◌*◌, ◌%◌, ◌<◌, refl, sym, ap, ◌∙◌, Bool, cond, inl, inr, true, false}
 use Rattle.std.proofs.lemmas.Bool.{cases_Bool, cond-true, cond-false, cases_eq}
 use Rattle.dpl_cycle.specs.Cycles.{without, Permutes}
 use Rattle.dpl_cycle.specs.Sums.{sum_on, count_on}
@@ -86,3 +86,11 @@ count_on_le p (suc n) = elim (cases_Bool (p n)) [
   | inl t ↦ omega (arith, cond-true {A = ℕ} (p n) 1 0 t, count_on_le p n)
   | inr t ↦ omega (arith, cond-false {A = ℕ} (p n) 1 0 t, count_on_le p n)
 ]
+
+-- a number that passes counts
+pub count_on_yes : (p : ℕ → Bool) (n : ℕ) → p n ≡ true → count_on p (suc n) ≡ suc (count_on p n)
+count_on_yes p n h = omega (arith, cond-true {A = ℕ} (p n) 1 0 h)
+
+-- and one that does not pass does not
+pub count_on_no : (p : ℕ → Bool) (n : ℕ) → p n ≡ false → count_on p (suc n) ≡ count_on p n
+count_on_no p n h = omega (arith, cond-false {A = ℕ} (p n) 1 0 h)

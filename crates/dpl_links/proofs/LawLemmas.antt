@@ -30,7 +30,7 @@ use Rattle.dpl_links.specs.Links.{piece_of, IsLink, IsLeast, AreAlike, AreClashe
 use Rattle.dpl_links.specs.Nets.{scene, Tie, tie_of, bond_tie, stitch_tie, clash_tie, ties_of, IsNet}
 use Rattle.dpl_links.specs.Spacing.{AreTooClose, IsClashOf, HoldTooClose, AreAllClashes, AreWithinShapes}
 use Rattle.dpl_links.proofs.NetLemmas.{all_edges, edges_length, two_of_two, min_turned, max_turned}
-use Rattle.dpl_list.proofs.Lists.{some_of}
+use Rattle.dpl_list.proofs.Lists.{some_of, all_pairs_map, all_pairs_of_map}
 
 -- ---- pieces
 
@@ -247,26 +247,6 @@ pairs_behind {X} R xs ys f g i j d h l = elim (cases_lt i (length xs)) [
       subst P (sym e) (subst Q (sym k) r)
 ]
 
-pairs_map : {X Y : Type 0} (R : Y → Y → Type 0) (f : X → Y) (xs : List X) → AllPairs (λ x y. R (f x) (f y)) xs → AllPairs R (map f xs)
-pairs_map {X} {Y} R f xs g i j d h l =
-    let n = length-map xs f in
-    let m : j < length xs = omega arith in
-    let x = some_of xs j m in
-    let e : get_or (map f xs) i d ≡ f (get_or xs i x) = get_or-map f xs i x d (omega arith) in
-    let k : get_or (map f xs) j d ≡ f (get_or xs j x) = get_or-map f xs j x d m in
-    let P : Y → Type 0 = λ z. R z (get_or (map f xs) j d) in
-    let Q : Y → Type 0 = λ z. R (f (get_or xs i x)) z in
-    subst P (sym e) (subst Q (sym k) (g i j x h m))
-
-pairs_back : {X Y : Type 0} (R : Y → Y → Type 0) (f : X → Y) (xs : List X) → AllPairs R (map f xs) → AllPairs (λ x y. R (f x) (f y)) xs
-pairs_back {X} {Y} R f xs g i j d h l =
-    let n = length-map xs f in
-    let e : get_or (map f xs) i (f d) ≡ f (get_or xs i d) = get_or-map f xs i d (f d) (omega arith) in
-    let k : get_or (map f xs) j (f d) ≡ f (get_or xs j d) = get_or-map f xs j d (f d) l in
-    let P : Y → Type 0 = λ z. R z (f (get_or xs j d)) in
-    let Q : Y → Type 0 = λ z. R (get_or (map f xs) i (f d)) z in
-    subst P e (subst Q k (g i j (f d) h (omega arith)))
-
 -- the first of two ties, where both are clashes, is none of the pieces of the second
 abbrev AreOther : List ℕ → Tie → Tie → Type 0
 AreOther pieces d e = e.kind ≡ Clash → d.kind ≡ Clash
@@ -296,7 +276,7 @@ other_ties s pieces weights bonds cuts links c = pairs_behind (AreOther pieces)
     (All-append (λ (t : Tie). (u : Tie) → AreOther pieces t u) (map bond_tie bonds) (map (stitch_tie weights.stitch) cuts)
     (All-map (λ (t : Tie). (u : Tie) → AreOther pieces t u) bond_tie bonds (λ k d l u e f. absurd (no_bond f)))
     (All-map (λ (t : Tie). (u : Tie) → AreOther pieces t u) (stitch_tie weights.stitch) cuts (λ k d l u e f. absurd (no_stitch f))))
-    (pairs_map (AreOther pieces) (clash_tie weights) links
+    (all_pairs_map (clash_tie weights) (AreOther pieces) links
     (λ i j d h l e f t. c.one i j d h l (ends_alike s pieces (get_or links i d) (get_or links j d) (c.each i d (omega arith)).link (c.each j d l).link t)))
 
 one_clash : (f : Fragments) (weights : PlainWeights) (space : ℕ) (net : Net) → IsNet f weights space net →
@@ -305,7 +285,7 @@ one_clash f weights space net n i j d h l e c =
     let ties : AllPairs (AreOther net.pieces) (map tie_of net.graph.edges) = let P : List Tie → Type 0 =
     AllPairs (AreOther net.pieces) in subst P (sym n.edges)
     (other_ties (scene f space) net.pieces weights n.bonds f.cuts n.links n.are_clashes) in
-    pairs_back (AreOther net.pieces) tie_of net.graph.edges ties i j d h l e c.kind c.ends
+    all_pairs_of_map tie_of (AreOther net.pieces) net.graph.edges ties i j d h l e c.kind c.ends
 
 -- ---- all of it
 

@@ -7,6 +7,7 @@ use Rattle.std.specs.List.{AllZip}
 use Rattle.std.specs.Ordering.{nat_cmp}
 use Rattle.std.proofs.lemmas.Cmp.{ranked}
 use Rattle.std.proofs.lemmas.List.{get_or_default, length-map}
+use Rattle.std.proofs.lemmas.List.Elements.{All-contains}
 use Rattle.dpl_cell.specs.declared.types.Facing.{Facing}
 use Rattle.dpl_cell.specs.declared.types.Facing.TheVariants.{Side, Corner}
 use Rattle.dpl_cell.specs.Places.{Corners, corners_of}
@@ -34,7 +35,7 @@ use Rattle.dpl_cell.proofs.BoxLemmas.{at_start, equal_z, HasCell, rects_have}
 use Rattle.dpl_list.proofs.Integers.{signed}
 use Rattle.dpl_links.proofs.GatherLemmas.{same_link}
 use Rattle.dpl_links.proofs.NetLemmas.{edges_length, not_more_edges}
-use Rattle.dpl_list.proofs.Ordered.{maps_same, has_all, ordered_same}
+use Rattle.dpl_list.proofs.Ordered.{maps_same, ordered_same}
 use Rattle.dpl_classes.proofs.NumberLemmas.{numbers_same, count_same}
 use Rattle.dpl_cuts.proofs.SortLemmas.{both_equal}
 
@@ -49,8 +50,8 @@ first_once p q (inr h) (inr k) = absurd (omega (arith, h.1, k.1))
 -- a property has one list of pairs
 pub pairs_same : (has : ℕ → ℕ → Type 0) (a b : List (ℕ × ℕ)) → ArePairs has a → ArePairs has b → a ≡ b
 pairs_same has a b s t = ordered_same IsFirst first_once a b s.ordered t.ordered
-    (λ z c. t.all z.0 z.1 (has_all (λ p. has p.0 p.1) a z s.each c))
-    (λ z c. s.all z.0 z.1 (has_all (λ p. has p.0 p.1) b z t.each c))
+    (λ z c. t.all z.0 z.1 (All-contains (λ p. has p.0 p.1) a z s.each c))
+    (λ z c. s.all z.0 z.1 (All-contains (λ p. has p.0 p.1) b z t.each c))
 
 -- pairs have one list of classes
 pub classes_same : (joins : List (ℕ × ℕ)) (n : ℕ) (a b : List ℕ) (m k : ℕ) → AreClasses joins n a m → AreClasses joins n b k → a ≡ b
@@ -77,7 +78,7 @@ upto_same l m f g =
 
 clash_found : (s : Scene) (pieces : List ℕ) (a b : List Link) → AreClashes s pieces a → AreClashes s pieces b → (l : Link) → Contains a l → Contains b l
 clash_found s pieces a b f g l c =
-    let x : IsLeast s pieces l = has_all (IsLeast s pieces) a l f.each c in
+    let x : IsLeast s pieces l = All-contains (IsLeast s pieces) a l f.each c in
     let (k, m, h, e, alike) = g.all l x.link in
     let y : IsLeast s pieces m = let P : Link → Type 0 = IsLeast s pieces in subst P e (g.each k m h) in
     let (u, v) = upto_same m l (y.least l x.link alike) (x.least m y.link (sym alike.0, sym alike.1)) in

@@ -1,11 +1,12 @@
 -- What the edges of a net weigh.
-use Rattle.std.proofs.Common.{◌≡◌, ◌⊎◌, inl, inr, ℕ, ℤ, ◌<ℤ◌, ◌≤ℤ◌, Bool, true, false, List, length, map, refl, sym, subst, ◌∙◌, ap, All}
+use Rattle.std.proofs.Common.{◌≡◌, inl, inr, ℕ, ℤ, ◌<ℤ◌, ◌≤ℤ◌, Bool, true, false, List, map, refl, sym, subst, All}
 use Rattle.std.specs.Int.{int_max, int_min}
-use Rattle.std.specs.Prelude.{◌||◌, if◌then◌else◌}
+use Rattle.std.specs.Prelude.{◌||◌}
 use Rattle.std.proofs.lemmas.List.Elements.{All-weaker}
+use Rattle.std.proofs.lemmas.Bool.{or_left, or_right}
 use Rattle.dpl_cell.specs.Places.{Corners, corners_of}
 use Rattle.dpl_cell.specs.Cells.{IsIn, IsWithin}
-use Rattle.dpl_cell.specs.Gaps.{CellPair, AreClose, overlap}
+use Rattle.dpl_cell.specs.Gaps.{AreClose, overlap}
 use Rattle.dpl_list.proofs.Integers.{signed, is_less, not_less}
 use Rattle.dpl_sign.specs.declared.edges.Edge.{Edge}
 use Rattle.dpl_sign.specs.declared.nets.Net.{Net}
@@ -16,7 +17,7 @@ use Rattle.dpl_links.specs.declared.linking.Link.{Link}
 use Rattle.dpl_links.specs.Pairs.{Scene, are_facing}
 use Rattle.dpl_links.specs.Links.{IsLink, IsLeast}
 use Rattle.dpl_links.specs.Nets.{scene, tie_of, clash_tie, IsNet}
-use Rattle.dpl_links.specs.Weighing.{FaceEachOther, AreFacing, HasWeight}
+use Rattle.dpl_links.specs.Weighing.{FaceEachOther, HasWeight}
 use Rattle.dpl_links.proofs.NetLemmas.{all_edges}
 
 -- a place of two stretches is one that they have in common, and stretches that overlap have one
@@ -32,19 +33,12 @@ from_first a b c d e = let l : int_max a c <ℤ int_min b d = is_less _ _ e in r
 from_second : (a b c d : ℤ) → overlap a b c d ≡ true → IsWithin c d (int_max a c)
 from_second a b c d e = let l : int_max a c <ℤ int_min b d = is_less _ _ e in record { from = omega signed; to = omega signed }
 
-or_first : (p q : Bool) → p ≡ true → (p || q) ≡ true
-or_first p q e = rw e refl
-
-or_second : (p q : Bool) → q ≡ true → (p || q) ≡ true
-or_second true q e = refl
-or_second false q e = e
-
 -- rectangles face each other where some of their cells do
 facing_cells : (a b : Corners) → FaceEachOther (IsIn a) (IsIn b) → are_facing a b ≡ true
 facing_cells a b f = elim f.line [
-  | inl e ↦ or_first (overlap a.x1 a.x2 b.x1 b.x2) (overlap a.y1 a.y2 b.y1 b.y2)
+  | inl e ↦ or_left (overlap a.x1 a.x2 b.x1 b.x2) (overlap a.y1 a.y2 b.y1 b.y2)
       (in_both a.x1 a.x2 b.x1 b.x2 f.x f.cells.first.column (subst (IsWithin b.x1 b.x2) (sym e) f.cells.second.column))
-  | inr e ↦ or_second (overlap a.x1 a.x2 b.x1 b.x2) (overlap a.y1 a.y2 b.y1 b.y2)
+  | inr e ↦ or_right (overlap a.x1 a.x2 b.x1 b.x2) (overlap a.y1 a.y2 b.y1 b.y2)
       (in_both a.y1 a.y2 b.y1 b.y2 f.y f.cells.first.row (subst (IsWithin b.y1 b.y2) (sym e) f.cells.second.row))
 ]
 

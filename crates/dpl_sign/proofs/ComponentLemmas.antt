@@ -17,13 +17,17 @@ use Rattle.dpl_sign.proofs.DartLemmas.{dart_cases, first_tail, second_tail}
 use Rattle.dpl_sign.proofs.Rotation.{InSet, face_out, face_tail, face_permutes}
 use Rattle.dpl_sign.proofs.Insert.{IsOneMore}
 
--- both ends of an edge are nodes
+-- the second end of an edge is a node
 pub end_below : (g : Signed) (e : ℕ) → e < length g.edges → (edge_at g e).b < g.nodes
 end_below g e h = All-get_or (λ x. x.b < g.nodes) g.edges e no_edge h g.inside
 
 -- the first end of an edge is a node
 pub start_below : (g : Signed) (e : ℕ) → e < length g.edges → (edge_at g e).a < g.nodes
 start_below g e h = omega (arith, end_below g e h, (edge_at g e).ordered)
+
+-- both ends of an edge are nodes
+pub ends_below : (g : Signed) (e : ℕ) → e < length g.edges → ((edge_at g e).a < g.nodes) × ((edge_at g e).b < g.nodes)
+ends_below g e h = (start_below g e h, end_below g e h)
 
 names_are : (g : Signed) (p : ℕ → Bool) (k : ℕ) → k ≤ length g.edges → AreNames g.nodes (names_below g p k)
 names_are g p zero h = record { inside = λ v l. l; twice = λ v l. refl }

@@ -82,7 +82,7 @@ slope_at p q (inr c) (inr d) e =
     let two = flat q d in
     nat_cmp_is (rise p * run q) (rise q * run p) Equal (omega (arith, ap (λ x. x * run q) one.0, ap (λ x. x * run p) two.0))
 
-then_same : (o a b : Ordering) → (o ≡ Equal → a ≡ b) → ordering_then o a ≡ ordering_then o b
+pub then_same : (o a b : Ordering) → (o ≡ Equal → a ≡ b) → ordering_then o a ≡ ordering_then o b
 then_same Less a b h = refl
 then_same Equal a b h = h refl
 then_same Greater a b h = refl

@@ -6,8 +6,9 @@ use Rattle.dpl_cycle.specs.Among.{members}
 use Rattle.dpl_cycle.proofs.MemberLemmas.{member_from, member_is}
 use Rattle.dpl_cycle.proofs.Turns.{next, before, Mem}
 use Rattle.dpl_cycle.proofs.TurnLemmas.{OnCircle, next_stays, before_in, before_next, next_before}
+use Rattle.dpl_cycle.proofs.Least.{least_le}
 use Rattle.dpl_sign.specs.declared.nets.Net.{Net}
-use Rattle.dpl_sign.specs.Drawings.{tail_of, twin_of, dart_count, next_around, next_in_face}
+use Rattle.dpl_sign.specs.Drawings.{tail_of, twin_of, dart_count, next_around, next_in_face, face_of}
 use Rattle.dpl_sign.proofs.DartLemmas.{twin_half, twin_below, twin_twin}
 use Rattle.dpl_sign.proofs.Turning.{ranked, rank_of, rank_end, is_near, next_near}
 
@@ -195,3 +196,7 @@ face_permutes net set = record {
     | inr t ↦ ap (next_in_face net set) (back_out net set d t) ∙ face_out net set d t
   ];
 }
+
+-- the name of a face is a dart
+pub face_below : (net : Net) (set : ℕ → Bool) (d : ℕ) → d < dart_count net → face_of net set d < dart_count net
+face_below net set d h = omega (arith, least_le _ _ _ (face_permutes net set) d h, h)

@@ -14,7 +14,7 @@ use Rattle.dpl_sign.specs.Kinds.{is_bond, is_clash}
 use Rattle.dpl_sign.specs.Weights.{most_weight}
 use Rattle.dpl_sign.specs.Colourings.{is_broken, colour_of, breaks, broken_weight, cost_of, IsColouring}
 use Rattle.dpl_sign.specs.Walks.{no_edge, edge_at, across, leaves, IsPath, clashes, IsOddWalk}
-use Rattle.dpl_sign.specs.Packings.{passages, passages_of, load, IsWithin, IsPacking, bound_of}
+use Rattle.dpl_sign.specs.Packings.{passages, passages_of, load, OverloadsNoEdge, IsPacking, bound_of}
 use Rattle.dpl_sign.proofs.Loads.{sum_to, sum_to_le, sum_to_twice, sum_by_places, passed_by_edge, bound_passed}
 use Rattle.std.proofs.lemmas.List.{get_or_read}
 
@@ -120,7 +120,7 @@ each_odd g v one cs h = All-weaker (λ c. IsOddWalk g c.walk) (λ c. 1 ≤ count
 -- where each odd walk passes one of some edges that are no bonds, the bound is at most twice their weight
 pub bound_by_edges : (g : Signed) (v : ℕ → Bool) → ((c : Cycle) → IsOddWalk g c.walk → 1 ≤ count_by v c.walk.edges) →
     ((e : ℕ) → v e ≡ true → is_bond (edge_at g e).kind ≡ false) →
-    (cs : List Cycle) → All (λ c. IsOddWalk g c.walk) cs → IsWithin g (passages cs) →
+    (cs : List Cycle) → All (λ c. IsOddWalk g c.walk) cs → OverloadsNoEdge g (passages cs) →
     bound_of cs ≤ 2 * sum_to (λ e. cond (v e) (edge_at g e).weight 0) (length g.edges)
 bound_by_edges g v one firm cs odd within =
     let n = length g.edges in
@@ -170,7 +170,7 @@ clash_no_bond Stitch h = refl
 clash_no_bond Clash h = refl
 
 -- odd walks that overload nothing have a small bound, since each passes a clash
-pub bound_small : (g : Signed) (cs : List Cycle) → All (λ c. IsOddWalk g c.walk) cs → IsWithin g (passages cs) → bound_of cs < 2 ^ 52
+pub bound_small : (g : Signed) (cs : List Cycle) → All (λ c. IsOddWalk g c.walk) cs → OverloadsNoEdge g (passages cs) → bound_of cs < 2 ^ 52
 bound_small g cs odd within =
     let v : ℕ → Bool = λ e. is_clash (edge_at g e).kind in
     let b = bound_by_edges g v (λ c h. omega (arith, h.odd)) (λ e h. clash_no_bond _ h) cs odd within in

@@ -11,3 +11,4 @@ pub mod Components
 pub mod Excess
 pub mod Parity
 pub mod Pieces
+pub mod Redrawn

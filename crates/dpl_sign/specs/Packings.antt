@@ -19,15 +19,15 @@ abbrev pub load : List (ℕ × ℕ) → ℕ → ℕ
 load ps e = sum_by (λ p. if p.0 == e then p.1 else 0) ps
 
 -- no stitch and no clash has more than twice its weight
-abbrev pub IsWithin : Signed → List (ℕ × ℕ) → Type 0
-IsWithin g ps = (e : ℕ) → e < length g.edges → is_bond (edge_at g e).kind ≡ false →
+abbrev pub OverloadsNoEdge : Signed → List (ℕ × ℕ) → Type 0
+OverloadsNoEdge g ps = (e : ℕ) → e < length g.edges → is_bond (edge_at g e).kind ≡ false →
     load ps e ≤ 2 * (edge_at g e).weight
 
 -- odd walks, each with a half weight of at least 1, that overload nothing
 pub record IsPacking (g : Signed) (cs : List Cycle) : Type 0 where
   pub halves : All (λ c. 1 ≤ c.half) cs
   pub odd : All (λ c. IsOddWalk g c.walk) cs
-  pub within : IsWithin g (passages cs)
+  pub within : OverloadsNoEdge g (passages cs)
 
 -- the sum of the half weights
 abbrev pub bound_of : List Cycle → ℕ

@@ -23,9 +23,11 @@ pub use darts::{is_in, tail, twin};
 pub use edges::{Edge, Kind};
 pub use graphs::Signed;
 pub use laws::{
-    components_are_joined, edges_aside_cross, edges_never_lower_the_excess, excess_is_even,
+    aside_is_by_the_excess, components_are_joined, drawings_are_alike, drawings_are_opposite,
+    edges_aside_cross, edges_aside_raise_the_excess, edges_never_lower_the_excess, excess_is_even,
     excess_never_falls, kept_edges_are_plane, loads_count_passages, nothing_is_aside_where_plane,
-    packing_bounds, ports_are_in_order, rotation_follows_ports,
+    packing_bounds, ports_are_in_order, ports_may_be_mirrored, ports_may_be_moved,
+    rotation_follows_ports,
 };
 pub use nets::Net;
 pub use order::port_order;

@@ -1,6 +1,7 @@
 // A graph that is drawn in the plane.
 ghost use Rattle.std.specs.Prelude.{◌≡◌, ◌<◌, length, All};
 
+use crate::edges::Edge;
 use crate::graphs::Signed;
 use crate::ports::Port;
 use dpl_list::Items;
@@ -20,6 +21,7 @@ pub struct Net {
 
 impl Net {
     ghost use Rattle.std.specs.Prelude.{◌↔◌, IsSome, IfSome};
+    ghost use Rattle.dpl_sign.specs.Kinds.{IsGraph};
     ghost use Rattle.dpl_sign.specs.Pieces.{FitGraph};
 
     /// The drawing of a graph at these ports, if there is one pair for each edge, and one of the
@@ -52,6 +54,35 @@ impl Net {
             })
         } else {
             None
+        }
+    }
+
+    /// The same of edges and ports that are known to fit.
+    pub fn assembled(
+        nodes: u32,
+        edges: Vec<Edge>,
+        ports: Vec<(Port, Port)>,
+        pieces: Vec<u32>,
+        piece_count: u32,
+    ) -> Net
+        requires graph { IsGraph nodes edges.items }
+        requires net { FitGraph nodes (length edges.items) (length ports.items) pieces.items
+            piece_count }
+        ensures nodes { result.graph.nodes ≡ nodes }
+        ensures edges { result.graph.edges ≡ edges.items }
+        ensures ports { result.ports ≡ ports.items }
+        ensures pieces { result.pieces ≡ pieces.items }
+        ensures count { result.piece_count ≡ piece_count }
+    {
+        let edges = Items::new(edges);
+        let graph = Signed { nodes, edges };
+        let ports = Items::new(ports);
+        let pieces = Items::new(pieces);
+        Net {
+            graph,
+            ports,
+            pieces,
+            piece_count,
         }
     }
 }

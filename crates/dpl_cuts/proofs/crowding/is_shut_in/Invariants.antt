@@ -5,4 +5,4 @@ abbrev pub invariant-wider : goal.invariant-wider
 invariant-wider l = 1 ≤ l.reach
 
 abbrev pub decreases-wider : goal.decreases-wider
-decreases-wider l = l.space - l.reach
+decreases-wider l = l.tiling.space - l.reach
