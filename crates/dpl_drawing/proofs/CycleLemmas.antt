@@ -1,6 +1,5 @@
 -- Rings with names before and after an exchange.
-use Rattle.std.proofs.Common.{arith, ◌≡◌, ◌≢◌, ℕ, ◌+◌, ◌<◌, sym, ap, ◌∙◌, inl, inr, ◌⊎◌, List, length, get_or, take, drop, ◌++◌, subst}
-use Rattle.std.proofs.Math.Seq.{take-append_seam}
+use Rattle.std.proofs.Common.{arith, ◌≡◌, ◌≢◌, ℕ, ◌+◌, ◌<◌, sym, ap, ◌∙◌, inl, inr, ◌⊎◌, List, length, get_or, subst}
 use Rattle.std.specs.Prelude.{slice_index, swap}
 use Rattle.std.proofs.lemmas.Bool.{cases_eq}
 use Rattle.dpl_cycle.specs.Cycles.{least, exchange}
@@ -91,10 +90,6 @@ named_merge xs ys names next i j s t fresh ring named hi hj hs ht apart e side m
           let at : (z : ℕ) → least_of ys z ≡ least_of (swap xs i j) z = λ z. ap (λ (zs : List ℕ). least_of zs z) e in
           (λ q. at x ∙ both.0 q ∙ sym (at y), λ q. both.1 (sym (at x) ∙ q ∙ at y));
     }
-
--- a vector after all of it is written as a slice
-pub refill : (n : ℕ) (ws xs : List ℕ) → n ≡ length xs → length ws ≡ length xs → take n (ws ++ drop (length ws) xs) ≡ ws
-refill n ws xs l e = ap (λ k. take k (ws ++ drop (length ws) xs)) (l ∙ sym e) ∙ take-append_seam ws (drop (length ws) xs)
 
 -- the same names name the same cycles
 pub named_at : (nexts names next : List ℕ) (fresh : ℕ) → next ≡ names → IsNamed nexts names fresh → IsNamed nexts next fresh

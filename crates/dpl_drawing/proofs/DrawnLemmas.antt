@@ -111,6 +111,12 @@ pub record IsLooked (net : Net) (kept : List Bool) (faces parts : List ℕ) (com
   pub first : u ≡ next_around net (is_in kept) (2 * length kept)
   pub second : v ≡ next_around net (is_in kept) (2 * length kept + 1)
 
+-- all of it at once
+pub looked : (net : Net) (kept : List Bool) (faces parts : List ℕ) (components u v : ℕ) → length kept < length net.graph.edges →
+    IsDrawn net (is_in kept) faces parts components → u ≡ next_around net (is_in kept) (2 * length kept) →
+    v ≡ next_around net (is_in kept) (2 * length kept + 1) → IsLooked net kept faces parts components u v
+looked net kept faces parts components u v l d a b = record { edge = l; drawn = d; first = a; second = b }
+
 one_face : (net : Net) (kept : List Bool) (faces parts : List ℕ) (components u v : ℕ) →
     IsLooked net kept faces parts components u v → (least_of faces u ≡ least_of faces v ↔ LiesInFace net (is_in kept)
     (length kept))

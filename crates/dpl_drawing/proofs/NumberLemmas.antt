@@ -2,20 +2,14 @@
 use Rattle.std.proofs.Common.{arith, ◌≡◌, ◌≢◌, ℕ, zero, suc, ◌+◌, ◌/◌, ◌<◌, ◌≤◌, refl, sym, ap, ◌∙◌, Bool, true, false}
 use Rattle.std.proofs.Common.{inl, inr, List, length, get_or, eq-eqb, subst}
 use Rattle.std.specs.Prelude.{slice_index}
-use Rattle.std.proofs.lemmas.Bool.{cases_eq, cases_Bool, cond-true, cond-false, and_from, and_left, and_right, ne_eqb}
+use Rattle.std.proofs.lemmas.Bool.{cases_eq, cases_Bool, and_from, and_left, and_right, ne_eqb}
 use Rattle.dpl_cycle.specs.Cycles.{least, Permutes}
 use Rattle.dpl_cycle.specs.Sums.{count_on}
 use Rattle.dpl_cycle.proofs.Least.{least_step, least_le, label_least}
-use Rattle.dpl_cycle.proofs.SumLemmas.{count_on_le}
+use Rattle.dpl_cycle.proofs.SumLemmas.{count_on_le, count_on_yes, count_on_no}
 use Rattle.dpl_ring.specs.Rings.{least_of}
 use Rattle.dpl_drawing.specs.Marks.{MarksCycle}
 use Rattle.dpl_drawing.specs.Faces.{is_first, cycle_number}
-
-count_in : (p : ℕ → Bool) (n : ℕ) → p n ≡ true → count_on p (suc n) ≡ suc (count_on p n)
-count_in p n h = omega (arith, cond-true {A = ℕ} (p n) 1 0 h)
-
-count_out : (p : ℕ → Bool) (n : ℕ) → p n ≡ false → count_on p (suc n) ≡ count_on p n
-count_out p n h = omega (arith, cond-false {A = ℕ} (p n) 1 0 h)
 
 -- a chosen number counts: there are fewer before it than in all
 pub count_lt : (p : ℕ → Bool) (n x : ℕ) → x < n → p x ≡ true → count_on p x < count_on p n
@@ -23,10 +17,10 @@ count_lt p zero x h t = absurd (omega arith)
 count_lt p (suc n) x h t = elim (cases_eq x n) [
   | inl e ↦
       let here : count_on p x ≡ count_on p n = ap (count_on p) e in
-      omega (arith, here, count_in p n (ap p (sym e) ∙ t))
+      omega (arith, here, count_on_yes p n (ap p (sym e) ∙ t))
   | inr e ↦ elim (cases_Bool (p n)) [
-    | inl q ↦ omega (arith, count_in p n q, count_lt p n x (omega arith) t)
-    | inr q ↦ omega (arith, count_out p n q, count_lt p n x (omega arith) t)
+    | inl q ↦ omega (arith, count_on_yes p n q, count_lt p n x (omega arith) t)
+    | inr q ↦ omega (arith, count_on_no p n q, count_lt p n x (omega arith) t)
   ]
 ]
 
@@ -87,7 +81,7 @@ numbered_skip nexts g set numbers none count place p stays h k passed =
     over there (ap (least f n) (sym e) ∙ least_least n f g p z hz ∙ e) in
     record {
       lengths = k.lengths;
-      counted = omega (arith, k.counted, count_out (is_first f set n) place off);
+      counted = omega (arith, k.counted, count_on_no (is_first f set n) place off);
       done = λ z hz t q. k.done z hz t (omega (arith, no z hz t));
       left = λ z hz t q. k.left z hz t (omega (arith, q));
     }
@@ -110,7 +104,7 @@ numbered_more nexts g set numbers next none count place p h big k t fresh marks 
     let on : first place ≡ true = and_from _ _ t (eq-eqb (least f n place) place low) in
     record {
       lengths = marks.lengths ∙ k.lengths;
-      counted = omega (arith, k.counted, count_in first place on);
+      counted = omega (arith, k.counted, count_on_yes first place on);
       done = λ z hz tz q. elim (cases_eq (least f n z) (least f n place)) [
         | inl e ↦ marks.marked z hz e ∙ k.counted ∙ ap (count_on first) (sym (e ∙ low))
         | inr e ↦ marks.others z hz e ∙ k.done z hz tz (omega (arith, q, low))

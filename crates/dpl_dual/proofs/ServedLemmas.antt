@@ -1,76 +1,116 @@
 -- Rows of ways at the faces, of which those are left out that others serve as well.
-use Rattle.std.proofs.Common.{arith, ◌≡◌, ◌≢◌, ℕ, ◌+◌, ◌<◌, ◌≤◌, ◌⊎◌, refl, sym, ap, ◌∙◌, subst}
-use Rattle.std.proofs.Common.{inl, inr, List, [], ◌∷◌, ◌++◌, length, get_or, set, length-set, Option}
-use Rattle.std.specs.Prelude.{Contains}
+use Rattle.std.proofs.Common.{arith, ◌≡◌, ◌≢◌, ℕ, zero, suc, ◌+◌, ◌<◌, ◌≤◌, ◌==◌, ◌⊎◌, refl, sym, ap, ◌∙◌, subst, Bool, true, false, cond}
+use Rattle.std.proofs.Common.{inl, inr, List, [], ◌∷◌, ◌++◌, length, length-append, get_or, Option, eq-eqb}
+use Rattle.std.specs.Prelude.{Contains, All}
 use Rattle.std.proofs.lemmas.Bool.{cases_eq}
-use Rattle.std.proofs.lemmas.List.{get_or-set_same, get_or-set_other, get_or_default}
-use Rattle.std.proofs.lemmas.List.Elements.{Contains-push, Contains-push_cases, Contains-append_left}
+use Rattle.std.proofs.lemmas.List.{get_or_default}
+use Rattle.std.proofs.lemmas.List.Elements.{Contains-push, Contains-push_cases, Contains-append_left, All-append}
 use Rattle.dpl_dual.specs.declared.crosses.Cross.{Cross}
 use Rattle.dpl_dual.specs.declared.reach.Reach.{Reach}
 use Rattle.dpl_dual.specs.Chains.{beyond, no_cross, IsAt}
+use Rattle.dpl_list.specs.Rows.{of_key, rows_by}
+use Rattle.dpl_list.proofs.Grouping.{of_key_yes, of_key_no, rows_by_at, rows_by_length}
 use Rattle.dpl_dual.specs.Duals.{row_of, AreRows, IsServed, way_at}
-use Rattle.dpl_dual.specs.Rows.{AreRowsBelow, IsTaken}
-use Rattle.dpl_dual.specs.Searches.{IsShort}
+use Rattle.dpl_dual.specs.Rows.{AreRowsBelow, AreTaken}
+use Rattle.dpl_dual.specs.Searches.{IsShort, AreWays}
 
--- ---- one row
+-- ---- one way more
 
-pub taken_added : (rows new : List (List Cross)) (f : ℕ) (x : Cross) → f < length rows →
-    new ≡ set rows f (get_or rows f [] ++ x ∷ []) → IsTaken f x rows new
-taken_added rows new f x h e =
-    let at : row_of new f ≡ row_of rows f ++ x ∷ [] = ap (λ z. get_or z f []) e ∙ get_or-set_same rows f (get_or rows f [] ++ x ∷ []) [] h in
-    let other : (g : ℕ) → g ≢ f → row_of new g ≡ row_of rows g = λ g n. ap (λ z. get_or z g []) e ∙
-    get_or-set_other rows f g (get_or rows f [] ++ x ∷ []) [] n in
+pub taken_added : (faces faces' : List ℕ) (listed listed' : List Cross) (f : ℕ) (x : Cross) → length faces ≡ length listed →
+    faces' ≡ faces ++ f ∷ [] → listed' ≡ listed ++ x ∷ [] → AreTaken f x faces listed faces' listed'
+taken_added faces faces' listed listed' f x n ef el =
+    let at : (g : ℕ) → of_key g faces' listed' ≡ of_key g (faces ++ f ∷ []) (listed ++ x ∷ []) = λ g.
+    ap (λ z. of_key g z listed') ef ∙ ap (λ z. of_key g (faces ++ f ∷ []) z) el in
+    let yes : (g : ℕ) → f ≡ g → of_key g faces' listed' ≡ of_key g faces listed ++ x ∷ [] = λ g t. at g ∙ of_key_yes g f x faces listed n t in
+    let no : (g : ℕ) → f ≢ g → of_key g faces' listed' ≡ of_key g faces listed = λ g t. at g ∙ of_key_no g f x faces listed n t in
     let In : Cross → List Cross → Type 0 = λ y z. Contains z y in
     record {
-      sizes = ap length e ∙ length-set rows f (get_or rows f [] ++ x ∷ []);
-      kept = λ g y c. elim (cases_eq g f) [
-        | inl t ↦
-            let same : row_of new g ≡ row_of rows g ++ x ∷ [] = ap (row_of new) t ∙ at ∙ ap (λ z. row_of rows z ++ x ∷ []) (sym t) in
-            subst (In y) (sym same) (Contains-append_left (row_of rows g) (x ∷ []) y c)
-        | inr t ↦ subst (In y) (sym (other g t)) c
+      sizes = omega (
+        arith,
+        n,
+        ap length ef,
+        ap length el,
+        length-append faces (f ∷ []),
+        length-append listed (x ∷ []),
+      );
+      kept = λ g y c. elim (cases_eq f g) [
+        | inl t ↦ subst (In y) (sym (yes g t)) (Contains-append_left (of_key g faces listed) (x ∷ []) y c)
+        | inr t ↦ subst (In y) (sym (no g t)) c
       ];
-      here = (x, subst (In x) (sym at) (Contains-push (row_of rows f) x), refl, omega arith);
-      only = λ g y c. elim (cases_eq g f) [
-        | inl t ↦
-            let same : row_of new g ≡ row_of rows g ++ x ∷ [] = ap (row_of new) t ∙ at ∙ ap (λ z. row_of rows z ++ x ∷ []) (sym t) in
-            elim (Contains-push_cases (row_of rows g) x y (subst (In y) same c)) [
-              | inl a ↦ inl a
-              | inr a ↦ inr (t, sym a)
-            ]
-        | inr t ↦ inl (subst (In y) (other g t) c)
+      here = (x, subst (In x) (sym (yes f refl)) (Contains-push (of_key f faces listed) x), refl, omega arith);
+      only = λ g y c. elim (cases_eq f g) [
+        | inl t ↦ elim (Contains-push_cases (of_key g faces listed) x y (subst (In y) (yes g t) c)) [
+          | inl a ↦ inl a
+          | inr a ↦ inr (sym t, sym a)
+        ]
+        | inr t ↦ inl (subst (In y) (no g t) c)
       ];
+      below = λ count h a.
+          let Q : List ℕ → Type 0 = λ z. All (λ g. g < count) z in
+          subst Q (sym ef) (All-append (λ g. g < count) faces (f ∷ []) a (one count h));
     }
+  where
+    one : (count : ℕ) → f < count → All (λ g. g < count) (f ∷ [])
+    one count h zero d l = h
+    one count h (suc k) d l = absurd (omega (arith, l))
 
-pub taken_served : (rows : List (List Cross)) (f : ℕ) (x : Cross) → IsServed (get_or rows f []) f x → IsTaken f x rows rows
-taken_served rows f x s = record { sizes = refl; kept = λ g y k. k; here = s; only = λ g y k. inl k }
+pub taken_served : (faces : List ℕ) (listed : List Cross) (f : ℕ) (x : Cross) → length faces ≡ length listed →
+    IsServed (of_key f faces listed) f x → AreTaken f x faces listed faces listed
+taken_served faces listed f x n s = record { sizes = n; kept = λ g y k. k; here = s; only = λ g y k. inl k; below = λ count h a. a }
 
--- ---- all rows
+-- what stands at a place whose key is k is of that key
+has_key : {X : Type 0} (k : ℕ) (keys : List ℕ) (items : List X) (i : ℕ) (y : X) → length keys ≡ length items → i < length keys →
+    get_or keys i 0 ≡ k → get_or items i y ≡ y → Contains (of_key k keys items) y
+has_key k [] items i y n h e q = absurd (omega (arith, h))
+has_key k (a ∷ keys) [] i y n h e q = absurd (omega (arith, n))
+has_key k (a ∷ keys) (b ∷ items) zero y n h e q = rw (eq-eqb a k e) (0, omega arith, q)
+has_key {X} k (a ∷ keys) (b ∷ items) (suc i) y n h e q = later (a == k) (has_key k keys items i y (omega (arith, n)) (omega (arith, h)) e q) where
+  later : (t : Bool) → Contains (of_key k keys items) y → Contains (cond t (b ∷ of_key k keys items) (of_key k keys items)) y
+  later true (m, l, f) = (suc m, omega arith, f)
+  later false c = c
+
+-- a way that serves, where it stands
+served_at : (faces : List ℕ) (ways : List Cross) (place face : ℕ) (way other : Cross) (key : ℕ) → length faces ≡ length ways → place < length faces →
+    get_or faces place key ≡ face → way ≡ get_or ways place way → beyond way face ≡ beyond other face → way.length ≤ other.length →
+    IsServed (of_key face faces ways) face other
+served_at faces ways place face way other key n h e q b le =
+    (way, has_key face faces ways place way n h (get_or_default faces place 0 key h ∙ e) (sym q), b, le)
+
+pub served_read : (faces : List ℕ) (ways : List Cross) (place face key : ℕ) (d other : Cross) → length faces ≡ length ways → place < length faces →
+    get_or faces place key ≡ face → (beyond (get_or ways place d) face ≡ beyond other face) × ((get_or ways place d).length ≤ other.length) →
+    IsServed (of_key face faces ways) face other
+served_read faces ways place face key d other n h e s =
+    let way = get_or ways place d in
+    served_at faces ways place face way other key n h e (get_or_default ways place d way (omega (arith, n, h))) s.0 s.1
+
+-- ---- all ways
 
 nothing_there : (y : Cross) (xs : List Cross) → xs ≡ [] → Contains xs y → ⊥
 nothing_there y xs e c = omega (arith, c.1, ap length e)
 
-pub below_none : (ways : List Cross) (rows : List (List Cross)) → ((f : ℕ) → get_or rows f [] ≡ []) → AreRowsBelow (length rows) ways 0 rows
-below_none ways rows h = record {
+pub below_none : (ways : List Cross) → AreRowsBelow ways 0 [] []
+below_none ways = record {
   sizes = refl;
-  each = λ f j hf hj. absurd (omega (arith, hj));
-  only = λ f y hf c. absurd (nothing_there y (row_of rows f) (h f) c);
+  each = λ f j hj. absurd (omega (arith, hj));
+  only = λ f y c. absurd (nothing_there y [] refl c);
+  below = λ count h k d l. absurd (omega (arith, l));
 }
 
 way_in : (ways : List Cross) (i : ℕ) → i < length ways → Contains ways (way_at ways i)
 way_in ways i h = (i, h, get_or_default ways i (way_at ways i) no_cross h)
 
-pub below_more : (faces : ℕ) (ways : List Cross) (rows mid new : List (List Cross)) (i : ℕ) (way : Cross) → i < length ways →
-    way ≡ way_at ways i → AreRowsBelow faces ways i rows → IsTaken way.f way rows mid →
-    IsTaken way.g way mid new → AreRowsBelow faces ways (i + 1) new
-below_more faces ways rows mid new i way hi is w a b =
-    let P : ℕ → Cross → Type 0 = λ x y. IsServed (row_of new x) x y in
+pub below_more : (ways : List Cross) (faces mid new : List ℕ) (listed mids news : List Cross) (i : ℕ) (way : Cross) → i < length ways →
+    way ≡ way_at ways i → AreRowsBelow ways i faces listed → AreTaken way.f way faces listed mid mids →
+    AreTaken way.g way mid mids new news → AreRowsBelow ways (i + 1) new news
+below_more ways faces mid new listed mids news i way hi is w a b =
+    let P : ℕ → Cross → Type 0 = λ x y. IsServed (of_key x new news) x y in
     let first : P way.f way = (a.here.0, b.kept way.f a.here.0 a.here.1, a.here.2, a.here.3) in
     let Q : ℕ → Cross → Type 0 = λ f y. Contains ways y × IsAt y f in
     let C : Cross → Type 0 = λ y. Contains ways y in
     let inside : Contains ways way = subst C (sym is) (way_in ways i hi) in
     record {
-      sizes = b.sizes ∙ a.sizes ∙ w.sizes;
-      each = λ f j hf hj q. elim (cases_eq j i) [
+      sizes = b.sizes;
+      each = λ f j hj q. elim (cases_eq j i) [
         | inl t ↦
             let same : way_at ways j ≡ way = ap (way_at ways) t ∙ sym is in
             elim q [
@@ -78,24 +118,41 @@ below_more faces ways rows mid new i way hi is w a b =
               | inr u ↦ subst (P f) (sym same) (subst (λ x. P x way) (ap (λ (z : Cross). z.g) (sym same) ∙ u) b.here)
             ]
         | inr t ↦
-            let s = w.each f j hf (omega (arith, hj, t)) q in
+            let s = w.each f j (omega (arith, hj, t)) q in
             (s.0, b.kept f s.0 (a.kept f s.0 s.1), s.2, s.3)
       ];
-      only = λ f y hf c. elim (b.only f y c) [
+      only = λ f y c. elim (b.only f y c) [
         | inr u ↦ subst (Q f) (sym u.1) (inside, inr (sym u.0))
         | inl u ↦ elim (a.only f y u) [
           | inr v ↦ subst (Q f) (sym v.1) (inside, inl (sym v.0))
-          | inl v ↦ w.only f y hf v
+          | inl v ↦ w.only f y v
         ]
       ];
+      below = λ count h.
+          let D : Cross → Type 0 = λ x. (x.f < count) × (x.g < count) in
+          let ends : D way = subst D (sym is) (h i no_cross hi) in
+          b.below count ends.1 (a.below count ends.0 (w.below count h));
     }
 
-pub below_all : (faces n : ℕ) (ways : List Cross) (rows : List (List Cross)) → n ≡ length ways → AreRowsBelow faces ways n rows → AreRows faces ways rows
-below_all faces n ways rows e w = record {
-  sizes = w.sizes;
-  each = λ f j hf hj q. w.each f j hf (omega (arith, hj, e)) q;
-  only = w.only;
-}
+pub faces_below : (count : ℕ) (ways listed : List Cross) (n : ℕ) (faces : List ℕ) → AreWays count ways → AreRowsBelow ways n faces listed →
+    All (λ f. f < count) faces
+faces_below count ways listed n faces a w = w.below count (λ k d l. let q = a k d l in (q.0, q.1))
+
+pub rows_are : (count : ℕ) (ways listed : List Cross) (faces : List ℕ) (rows : List (List Cross)) → rows ≡ rows_by faces listed count →
+    AreRowsBelow ways (length ways) faces listed → AreRows count ways rows
+rows_are count ways listed faces rows e w =
+    let at : (f : ℕ) → f < count → row_of rows f ≡ of_key f faces listed = λ f h.
+    ap (λ (z : List (List Cross)). row_of z f) e ∙ rows_by_at faces listed count f h in
+    record {
+      sizes = ap (λ (z : List (List Cross)). length z) e ∙ rows_by_length faces listed count;
+      each = λ f j hf hj q.
+          let s = w.each f j hj q in
+          let In : List Cross → Type 0 = λ z. Contains z s.0 in
+          (s.0, subst In (sym (at f hf)) s.1, s.2, s.3);
+      only = λ f y hf c.
+          let In : List Cross → Type 0 = λ z. Contains z y in
+          w.only f y (subst In (at f hf) c);
+    }
 
 -- what is short over a way is so over each that it serves
 pub short_served : (limit : ℕ) (e : ℕ → Option Reach) (f : ℕ) (x y : Cross) → IsShort limit e f y →

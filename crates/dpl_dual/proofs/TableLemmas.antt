@@ -1,6 +1,7 @@
 -- Lists read with a default: one more of it changes nothing.
 use Rattle.std.proofs.Common.{◌≡◌, ℕ, zero, suc, ◌∙◌, refl, ap, List, [], ◌∷◌, ◌++◌, get_or, replicate, take, length, ◌≤◌}
 use Rattle.std.proofs.lemmas.List.{take_all}
+use Rattle.dpl_list.proofs.Lists.{repeated}
 
 blank : {X : Type 0} (xs : List X) (d : X) (i : ℕ) → get_or (xs ++ d ∷ []) i d ≡ get_or xs i d
 blank [] d zero = refl
@@ -11,13 +12,8 @@ blank (x ∷ xs) d (suc i) = blank xs d i
 pub pushed : {X : Type 0} (xs : List X) (y d : X) (i : ℕ) → y ≡ d → get_or (xs ++ y ∷ []) i d ≡ get_or xs i d
 pushed xs y d i e = ap (λ z. get_or (xs ++ z ∷ []) i d) e ∙ blank xs d i
 
-repeated : {X : Type 0} (d : X) (n i : ℕ) → get_or (replicate n d) i d ≡ d
-repeated d zero i = refl
-repeated d (suc n) zero = refl
-repeated d (suc n) (suc i) = repeated d n i
-
 behind : {X : Type 0} (xs : List X) (d : X) (n i : ℕ) → get_or (xs ++ replicate n d) i d ≡ get_or xs i d
-behind [] d n i = repeated d n i
+behind [] d n i = repeated n i d
 behind (x ∷ xs) d n zero = refl
 behind (x ∷ xs) d n (suc i) = behind xs d n i
 

@@ -8,7 +8,7 @@ ghost use Rattle.dpl_dual.specs.Parities.{AreNamed};
 
 use crate::crosses::Cross;
 use crate::measuring::measure;
-use crate::ways::Ways;
+use dpl_list::Grouped;
 use std::alloc::{AllocError, Global};
 
 /// Gives these faces a name.
@@ -26,7 +26,7 @@ fn name(names: &mut [u32], faces: &[u32], name: u32)
 fn name_all(
     alloc: Global,
     ways: &[Cross],
-    rows: &[Ways],
+    rows: &Grouped<Cross>,
     faces: u32,
     names: &mut [u32],
 ) -> Result<(), AllocError>
@@ -49,7 +49,7 @@ fn name_all(
 pub fn parts(
     alloc: Global,
     ways: &[Cross],
-    rows: &[Ways],
+    rows: &Grouped<Cross>,
     faces: u32,
 ) -> Result<Vec<u32>, AllocError>
     requires ways { AreWays faces ways.now }

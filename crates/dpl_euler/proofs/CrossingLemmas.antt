@@ -1,7 +1,6 @@
 -- What the search for a crossing may leave out: links and fragments whose bounds do not meet.
 use Rattle.std.proofs.Common.{arith, ◌≡◌, ℕ, ◌+◌, ◌<◌, sym, ap, ◌∙◌, subst, true, false, not, ◌&&◌, inl, inr, List, []}
-use Rattle.std.proofs.Common.{◌∷◌, ◌++◌, zero, suc, refl, length, length-append, get_or, map, ℤ, ◌≤ℤ◌}
-use Rattle.std.specs.Prelude.{int_le}
+use Rattle.std.proofs.Common.{◌∷◌, ◌++◌, zero, suc, refl, length, length-append, get_or, map}
 use Rattle.std.proofs.lemmas.Bool.{cases_eq, cases_Bool, cond-true, cond-false, and_parts, true≢false}
 use Rattle.std.proofs.lemmas.List.{get_or_append_left, get_or-append-add, get_or_default, get_or-map, length-map}
 use Rattle.dpl_index.specs.declared.bounds.Bounds.{Bounds}
@@ -13,7 +12,7 @@ use Rattle.dpl_cuts.specs.Positions.{rect_at}
 use Rattle.dpl_sign.specs.declared.edges.Edge.{Edge}
 use Rattle.dpl_sign.specs.declared.nets.Net.{Net}
 use Rattle.dpl_sign.specs.Walks.{edge_at}
-use Rattle.dpl_list.proofs.Integers.{signed}
+use Rattle.dpl_list.proofs.Integers.{is_at_most}
 use Rattle.dpl_euler.specs.declared.segment.Segment.{Segment}
 use Rattle.dpl_euler.specs.declared.types.With.{With}
 use Rattle.dpl_euler.specs.declared.types.With.TheVariants.{Link, Fragment}
@@ -38,19 +37,16 @@ links_more f net links k x l at = record {
 
 -- ---- what crosses has bounds that meet
 
-le_from : (x y : ℤ) → int_le x y ≡ true → x ≤ℤ y
-le_from x y h = search signed
-
 pub bounds_from : (s t : Ends) → bounds_meet s t ≡ true → Meets (bounds_around t) (bounds_around s)
 bounds_from s t h =
     let parts = and_parts (spans_meet s.x1 s.x2 t.x1 t.x2) (spans_meet s.y1 s.y2 t.y1 t.y2) h in
     let columns = and_parts _ _ parts.0 in
     let rows = and_parts _ _ parts.1 in
     record {
-      left = le_from _ _ columns.1;
-      right = le_from _ _ columns.0;
-      low = le_from _ _ rows.1;
-      high = le_from _ _ rows.0;
+      left = is_at_most _ _ columns.1;
+      right = is_at_most _ _ columns.0;
+      low = is_at_most _ _ rows.1;
+      high = is_at_most _ _ rows.0;
     }
 
 cross_meets : (a : Edge) (s : Ends) (b : Edge) (t : Ends) → cross a s b t ≡ true → Meets (bounds_around t) (bounds_around s)

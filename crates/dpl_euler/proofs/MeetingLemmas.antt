@@ -7,7 +7,8 @@ use Rattle.dpl_euler.proofs.ProductLemmas.{mul_comm, add_mul, sub_mul, mul_swap,
 use Rattle.dpl_euler.proofs.PointLemmas.{turn_to, turn_of, rule_x, rule_y, end_point, turn_end, flat_x, flat_y}
 use Rattle.dpl_euler.proofs.PointLemmas.{turn_flip_to, dot_on, not_left, not_right, on_line, within_bounds, turn_step}
 use Rattle.dpl_euler.proofs.PointLemmas.{turn_other, turn_zero, weighed_on, on_line_x, on_segment, back, on_back, flip}
-use Rattle.dpl_euler.proofs.PointLemmas.{flip_point, on_flip, abs_is, over_positive, same_or_not}
+use Rattle.dpl_euler.proofs.PointLemmas.{flip_point, on_flip, abs_is, over_positive}
+use Rattle.dpl_list.proofs.Integers.{same_or_not}
 
 pub record Common (s t : Ends) : Type 0 where
   pub point : Point

@@ -5,8 +5,9 @@ use Rattle.std.proofs.lemmas.Int.{ints, clamps, by_lt_z}
 use Rattle.dpl_euler.specs.Points.{Ends, Point, IsAt, IsOn}
 use Rattle.dpl_euler.proofs.ProductLemmas.{mul_comm, mul_moved, mul_le, same_from_mul, zero_from_mul}
 use Rattle.dpl_euler.proofs.PointLemmas.{turn_to, turn_of, turn_step, turn_other, turn_first, turn_second}
-use Rattle.dpl_euler.proofs.PointLemmas.{over_positive, within_bounds, on_line, turns_balance, same_or_not}
+use Rattle.dpl_euler.proofs.PointLemmas.{over_positive, within_bounds, on_line, turns_balance}
 use Rattle.dpl_euler.proofs.MeetingLemmas.{DoMeet, shared, middle_columns, middle_rows, along}
+use Rattle.dpl_list.proofs.Integers.{same_or_not}
 
 abbrev pub DoSpansOverlap : ℤ → ℤ → ℤ → ℤ → Type 0
 DoSpansOverlap a1 a2 b1 b2 = int_max (int_min a1 a2) (int_min b1 b2) <ℤ int_min (int_max a1 a2) (int_max b1 b2)

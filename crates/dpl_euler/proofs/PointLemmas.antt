@@ -1,11 +1,11 @@
 -- Which points of the plane a segment has: those on its line and within its bounds.
-use Rattle.std.proofs.Common.{arith, ◌≡◌, ◌≢◌, ℕ, ◌+◌, ◌<◌, ℤ, pos, ◌≤ℤ◌, ◌<ℤ◌, ◌+ℤ◌, ◌-ℤ◌, ◌*ℤ◌, sym, ap, ◌∙◌, unsigned_abs, ◌⊎◌, inl, inr, true}
+use Rattle.std.proofs.Common.{arith, ◌≡◌, ◌≢◌, ℕ, ◌+◌, ◌<◌, ℤ, pos, ◌≤ℤ◌, ◌<ℤ◌, ◌+ℤ◌, ◌-ℤ◌, ◌*ℤ◌, sym, ap, ◌∙◌, unsigned_abs, inl, inr, true}
 use Rattle.std.proofs.lemmas.Bool.{false_from_ne_true, or_parts, or_from, true≢false, not-true, not_from_false}
 use Rattle.std.specs.Int.{int_max, int_min}
 use Rattle.std.proofs.lemmas.Int.{ints, clamps, by_lt_z}
 use Rattle.dpl_euler.specs.Points.{Ends, Point, IsOn}
 use Rattle.dpl_euler.specs.Segments.{is_left, is_right, is_on}
-use Rattle.dpl_list.proofs.Integers.{less_test, is_less}
+use Rattle.dpl_list.proofs.Integers.{less_test, is_less, same_or_not}
 use Rattle.dpl_euler.proofs.ProductLemmas.{mul_comm, sub_mul, mul_sub, mul_moved, mul_pos, zero_from_mul}
 use Rattle.dpl_euler.proofs.TurnLemmas.{cramer_x, cramer_y, mean_above, mean_below, turn_mean, mean_not_zero, mean_not_zero_below, mean_along, mean_across}
 
@@ -275,10 +275,6 @@ on_dot s p ex ey w = record {
         let most : int_max a b ≡ a = omega (arith, ints, clamps, e) in
         let sum : ((pos 1 *ℤ a) +ℤ (pos 0 *ℤ b)) ≡ a = omega (arith, ints) in
         omega (arith, ints, low, high, ap (λ z. o *ℤ z) least, ap (λ z. o *ℤ z) most, ap (λ z. o *ℤ z) sum)
-
-pub same_or_not : (a b : ℤ) → (a ≡ b) ⊎ (a ≢ b)
-same_or_not a b = by_lt_z a b (λ l. inr (λ e. omega (arith, ints, l, e)))
-    (λ l. by_lt_z b a (λ m. inr (λ e. omega (arith, ints, m, e))) (λ m. inl (omega (arith, ints, l, m))))
 
 pub on_segment : (s : Ends) (p : Point) → turn_at s p ≡ pos 0 → IsWithin s p → IsOn s p
 on_segment s p zero w = elim (same_or_not s.x1 s.x2) [

@@ -1,43 +1,46 @@
 -- The edges of a set at each node, as they are put into rows.
 use Rattle.std.proofs.Common.{arith, ◌≡◌, ◌≢◌, ℕ, ◌+◌, ◌<◌, ◌==◌, ◌||◌, ◌⊎◌, refl, sym, ap, ◌∙◌, subst, Bool, true}
-use Rattle.std.proofs.Common.{false, inl, inr, List, [], ◌∷◌, ◌++◌, length, get_or, set, length-set, get_or-set_same}
-use Rattle.std.proofs.Common.{get_or-set_other, eq-eqb}
+use Rattle.std.proofs.Common.{false, inl, inr, List, [], ◌∷◌, ◌++◌, length, length-append, get_or, eq-eqb}
 use Rattle.std.specs.Prelude.{All, Contains}
-use Rattle.std.proofs.lemmas.Bool.{cases_eq, and_from, and_parts, or_left, or_right, lt-ltb, ltb-true, true≢false, or_cases, eqb-true}
+use Rattle.std.proofs.lemmas.Bool.{cases_eq, cases_lt, and_from, and_parts, or_left, or_right, lt-ltb, ltb-true, true≢false, or_cases, eqb-true}
 use Rattle.std.proofs.lemmas.List.Elements.{All-push, All-nil, All-get_or, Contains-append_left, Contains-push}
 use Rattle.dpl_sign.specs.declared.graphs.Signed.{Signed}
 use Rattle.dpl_sign.specs.Walks.{edge_at, leaves, no_edge}
 use Rattle.dpl_sign.specs.declared.edges.Edge.{Edge}
 use Rattle.dpl_sign.specs.Drawings.{is_in}
+use Rattle.std.proofs.lemmas.List.{get_or_past}
+use Rattle.dpl_list.specs.Rows.{of_key, rows_by}
+use Rattle.dpl_list.proofs.Grouping.{of_key_yes, of_key_no, rows_by_at, rows_by_length}
 use Rattle.dpl_euler.specs.Searches.{IsAt, AreRows}
+use Rattle.dpl_euler.specs.Rows.{AreListed}
 
--- the rows of the edges below k
-pub record AreRowsBelow (g : Signed) (chosen : List Bool) (rows : List (List ℕ)) (k : ℕ) : Type 0 where
-  pub sizes : length rows ≡ g.nodes
-  pub only : (v : ℕ) → All (IsAt g chosen v) (get_or rows v [])
-  pub all : (v e : ℕ) → e < k → IsAt g chosen v e → Contains (get_or rows v []) e
+pub ends_inside : (g : Signed) (k : ℕ) → k < length g.edges → ((edge_at g k).a < g.nodes) × ((edge_at g k).b < g.nodes)
+ends_inside g k h =
+    let b : (edge_at g k).b < g.nodes = All-get_or (λ (x : Edge). x.b < g.nodes) g.edges k no_edge h g.inside in
+    (omega (arith, (edge_at g k).ordered, b), b)
 
-pub rows_begin : (g : Signed) (chosen : List Bool) (rows : List (List ℕ)) → length rows ≡ g.nodes →
-    ((v : ℕ) → get_or rows v [] ≡ []) → AreRowsBelow g chosen rows 0
-rows_begin g chosen rows size blank = record {
-  sizes = size;
-  only = λ v.
-      let P : List ℕ → Type 0 = λ xs. All (IsAt g chosen v) xs in
-      subst P (sym (blank v)) (All-nil (IsAt g chosen v));
+-- an end of an edge is a node
+end_below : (g : Signed) (v e : ℕ) → e < length g.edges → (((edge_at g e).a == v) || ((edge_at g e).b == v)) ≡ true → v < g.nodes
+end_below g v e h q =
+    let low = ends_inside g e h in
+    elim (or_cases _ _ q) [
+      | inl t ↦ omega (arith, eqb-true (edge_at g e).a v t, low.0)
+      | inr t ↦ omega (arith, eqb-true (edge_at g e).b v t, low.1)
+    ]
+
+pub listed_none : (g : Signed) (chosen : List Bool) → AreListed g chosen 0 [] []
+listed_none g chosen = record {
+  sizes = refl;
+  below = All-nil (λ v. v < g.nodes);
+  only = λ v. All-nil (IsAt g chosen v);
   all = λ v e h at. absurd (omega (arith, h));
 }
 
-pub rows_whole : (g : Signed) (chosen : List Bool) (rows : List (List ℕ)) → AreRowsBelow g chosen rows (length g.edges) → AreRows g chosen rows
-rows_whole g chosen rows r = record {
+pub listed_skip : (g : Signed) (chosen : List Bool) (nodes edges : List ℕ) (k : ℕ) → is_in chosen k ≡ false →
+    AreListed g chosen k nodes edges → AreListed g chosen (k + 1) nodes edges
+listed_skip g chosen nodes edges k out r = record {
   sizes = r.sizes;
-  only = r.only;
-  all = λ v e at. r.all v e (ltb-true e (length g.edges) (and_parts _ _ at.0).0) at;
-}
-
-pub rows_skip : (g : Signed) (chosen : List Bool) (rows : List (List ℕ)) (k : ℕ) → is_in chosen k ≡ false →
-    AreRowsBelow g chosen rows k → AreRowsBelow g chosen rows (k + 1)
-rows_skip g chosen rows k out r = record {
-  sizes = r.sizes;
+  below = r.below;
   only = r.only;
   all = λ v e h at. elim (cases_eq e k) [
     | inl t ↦ absurd (true≢false (sym at.1 ∙ ap (is_in chosen) t ∙ out))
@@ -45,48 +48,58 @@ rows_skip g chosen rows k out r = record {
   ];
 }
 
--- ---- one edge more in the row of a node
+pub rows_whole : (g : Signed) (chosen : List Bool) (nodes edges : List ℕ) (rows : List (List ℕ)) → rows ≡ rows_by nodes edges g.nodes →
+    AreListed g chosen (length g.edges) nodes edges → AreRows g chosen rows
+rows_whole g chosen nodes edges rows e r =
+    let at : (v : ℕ) → v < g.nodes → get_or rows v [] ≡ of_key v nodes edges = λ v h.
+    ap (λ (z : List (List ℕ)). get_or z v []) e ∙ rows_by_at nodes edges g.nodes v h in
+    let size : length rows ≡ g.nodes = ap (λ (z : List (List ℕ)). length z) e ∙ rows_by_length nodes edges g.nodes in
+    record {
+      sizes = size;
+      only = λ v.
+          let P : List ℕ → Type 0 = λ xs. All (IsAt g chosen v) xs in
+          elim (cases_lt v g.nodes) [
+            | inl h ↦ subst P (sym (at v h)) (r.only v)
+            | inr h ↦ subst P (sym (get_or_past rows v [] (omega (arith, h, size)))) (All-nil (IsAt g chosen v))
+          ];
+      all = λ v e q.
+          let inside = ltb-true e (length g.edges) (and_parts _ _ q.0).0 in
+          let P : List ℕ → Type 0 = λ xs. Contains xs e in
+          subst P (sym (at v (end_below g v e inside (and_parts _ _ q.0).1))) (r.all v e inside q);
+    }
 
-more : List (List ℕ) → ℕ → ℕ → List (List ℕ)
-more rows u x = set rows u (get_or rows u [] ++ x ∷ [])
+-- ---- one edge more at a node
 
-more_here : (rows : List (List ℕ)) (u x : ℕ) → u < length rows → get_or (more rows u x) u [] ≡ get_or rows u [] ++ x ∷ []
-unfolding more
-more_here rows u x h = get_or-set_same rows u (get_or rows u [] ++ x ∷ []) [] h
-
-more_other : (rows : List (List ℕ)) (u x v : ℕ) → v ≢ u → get_or (more rows u x) v [] ≡ get_or rows v []
-unfolding more
-more_other rows u x v ne = get_or-set_other rows u v (get_or rows u [] ++ x ∷ []) [] ne
-
-more_size : (rows : List (List ℕ)) (u x : ℕ) → length (more rows u x) ≡ length rows
-unfolding more
-more_size rows u x = length-set rows u (get_or rows u [] ++ x ∷ [])
-
-more_only : (P : ℕ → Type 0) (rows : List (List ℕ)) (u x v : ℕ) → u < length rows → All P (get_or rows v []) →
-    (v ≡ u → P x) → All P (get_or (more rows u x) v [])
-more_only P rows u x v h old new =
+more_only : (P : ℕ → Type 0) (nodes edges : List ℕ) (u x v : ℕ) → length nodes ≡ length edges → All P (of_key v nodes edges) →
+    (v ≡ u → P x) → All P (of_key v (nodes ++ u ∷ []) (edges ++ x ∷ []))
+more_only P nodes edges u x v n old new =
     let Q : List ℕ → Type 0 = λ xs. All P xs in
-    elim (cases_eq v u) [
-      | inl t ↦
-          let here : All P (get_or rows u []) = subst (λ z. Q (get_or rows z [])) t old in
-          subst (λ z. Q (get_or (more rows u x) z [])) (sym t) (subst Q (sym (more_here rows u x h)) (All-push P (get_or rows u []) x here (new t)))
-      | inr t ↦ subst Q (sym (more_other rows u x v t)) old
+    elim (cases_eq u v) [
+      | inl t ↦ subst Q (sym (of_key_yes v u x nodes edges n t)) (All-push P (of_key v nodes edges) x old (new (sym t)))
+      | inr t ↦ subst Q (sym (of_key_no v u x nodes edges n t)) old
     ]
 
-more_kept : (rows : List (List ℕ)) (u x v y : ℕ) → u < length rows → Contains (get_or rows v []) y → Contains (get_or (more rows u x) v []) y
-more_kept rows u x v y h old =
+more_kept : (nodes edges : List ℕ) (u x v y : ℕ) → length nodes ≡ length edges → Contains (of_key v nodes edges) y →
+    Contains (of_key v (nodes ++ u ∷ []) (edges ++ x ∷ [])) y
+more_kept nodes edges u x v y n old =
     let Q : List ℕ → Type 0 = λ xs. Contains xs y in
-    elim (cases_eq v u) [
-      | inl t ↦
-          let here : Contains (get_or rows u []) y = subst (λ z. Q (get_or rows z [])) t old in
-          subst (λ z. Q (get_or (more rows u x) z [])) (sym t) (subst Q (sym (more_here rows u x h)) (Contains-append_left (get_or rows u []) (x ∷ []) y here))
-      | inr t ↦ subst Q (sym (more_other rows u x v t)) old
+    elim (cases_eq u v) [
+      | inl t ↦ subst Q (sym (of_key_yes v u x nodes edges n t)) (Contains-append_left (of_key v nodes edges) (x ∷ []) y old)
+      | inr t ↦ subst Q (sym (of_key_no v u x nodes edges n t)) old
     ]
 
-more_has : (rows : List (List ℕ)) (u x : ℕ) → u < length rows → Contains (get_or (more rows u x) u []) x
-more_has rows u x h =
+more_has : (nodes edges : List ℕ) (u x : ℕ) → length nodes ≡ length edges → Contains (of_key u (nodes ++ u ∷ []) (edges ++ x ∷ [])) x
+more_has nodes edges u x n =
     let Q : List ℕ → Type 0 = λ xs. Contains xs x in
-    subst Q (sym (more_here rows u x h)) (Contains-push (get_or rows u []) x)
+    subst Q (sym (of_key_yes u u x nodes edges n refl)) (Contains-push (of_key u nodes edges) x)
+
+more_size : (nodes edges : List ℕ) (u x : ℕ) → length nodes ≡ length edges → length (nodes ++ u ∷ []) ≡ length (edges ++ x ∷ [])
+more_size nodes edges u x n = omega (
+  arith,
+  n,
+  length-append nodes (u ∷ []),
+  length-append edges (x ∷ []),
+)
 
 -- ---- an edge of the set in the rows of its two ends
 
@@ -96,49 +109,45 @@ first_end g e h = and_from _ _ (lt-ltb e (length g.edges) h) (or_left _ _ (eq-eq
 second_end : (g : Signed) (e : ℕ) → e < length g.edges → leaves g e (edge_at g e).b ≡ true
 second_end g e h = and_from _ _ (lt-ltb e (length g.edges) h) (or_right _ _ (eq-eqb (edge_at g e).b (edge_at g e).b refl))
 
-both : (g : Signed) (chosen : List Bool) (rows : List (List ℕ)) (k : ℕ) → k < length g.edges →
-    (edge_at g k).a < length rows → (edge_at g k).b < length rows → is_in chosen k ≡ true →
-    AreRowsBelow g chosen rows k → AreRowsBelow g chosen (more (more rows (edge_at g k).a k) (edge_at g k).b k) (k + 1)
-both g chosen rows k h ha hb in_set r =
+both : (g : Signed) (chosen : List Bool) (nodes edges : List ℕ) (k : ℕ) → k < length g.edges → is_in chosen k ≡ true →
+    AreListed g chosen k nodes edges →
+    AreListed g chosen (k + 1) ((nodes ++ (edge_at g k).a ∷ []) ++ (edge_at g k).b ∷ []) ((edges ++ k ∷ []) ++ k ∷ [])
+both g chosen nodes edges k h in_set r =
     let a = (edge_at g k).a in
     let b = (edge_at g k).b in
-    let mid = more rows a k in
-    let wide : b < length mid = omega (arith, hb, more_size rows a k) in
+    let low = ends_inside g k h in
+    let ns = nodes ++ a ∷ [] in
+    let es = edges ++ k ∷ [] in
+    let n = more_size nodes edges a k r.sizes in
     let at_a : (v : ℕ) → v ≡ a → IsAt g chosen v k = λ v e. (ap (leaves g k) e ∙ first_end g k h, in_set) in
     let at_b : (v : ℕ) → v ≡ b → IsAt g chosen v k = λ v e. (ap (leaves g k) e ∙ second_end g k h, in_set) in
     record {
-      sizes = more_size mid b k ∙ more_size rows a k ∙ r.sizes;
-      only = λ v. more_only (IsAt g chosen v) mid b k v wide (more_only (IsAt g chosen v) rows a k v ha (r.only v) (at_a v)) (at_b v);
+      sizes = more_size ns es b k n;
+      below = All-push (λ v. v < g.nodes) ns b (All-push (λ v. v < g.nodes) nodes a r.below low.0) low.1;
+      only = λ v. more_only (IsAt g chosen v) ns es b k v n (more_only (IsAt g chosen v) nodes edges a k v r.sizes (r.only v) (at_a v)) (at_b v);
       all = λ v e l at. elim (cases_eq e k) [
         | inl t ↦
-            let P : ℕ → Type 0 = λ z. Contains (get_or (more mid b k) v []) z in
-            let Q : ℕ → Type 0 = λ z. Contains (get_or (more mid b k) z []) k in
+            let P : ℕ → Type 0 = λ z. Contains (of_key v (ns ++ b ∷ []) (es ++ k ∷ [])) z in
+            let Q : ℕ → Type 0 = λ z. Contains (of_key z (ns ++ b ∷ []) (es ++ k ∷ [])) k in
             let ends = (and_parts _ _ at.0).1 in
             let there : ((edge_at g k).a == v) ≡ true ⊎ ((edge_at g k).b == v) ≡ true =
             or_cases _ _ (ap (λ z. ((edge_at g z).a == v) || ((edge_at g z).b == v)) (sym t) ∙ ends) in
             subst P (sym t) (elim there [
-              | inl q ↦ subst Q (eqb-true a v q) (more_kept mid b k a k wide (more_has rows a k ha))
-              | inr q ↦ subst Q (eqb-true b v q) (more_has mid b k wide)
+              | inl q ↦ subst Q (eqb-true a v q) (more_kept ns es b k a k n (more_has nodes edges a k r.sizes))
+              | inr q ↦ subst Q (eqb-true b v q) (more_has ns es b k n)
             ])
-        | inr t ↦ more_kept mid b k v e wide (more_kept rows a k v e ha (r.all v e (omega (arith, l, t)) at))
+        | inr t ↦ more_kept ns es b k v e n (more_kept nodes edges a k v e r.sizes (r.all v e (omega (arith, l, t)) at))
       ];
     }
 
-pub ends_inside : (g : Signed) (k : ℕ) → k < length g.edges → ((edge_at g k).a < g.nodes) × ((edge_at g k).b < g.nodes)
-ends_inside g k h =
-    let b : (edge_at g k).b < g.nodes = All-get_or (λ (x : Edge). x.b < g.nodes) g.edges k no_edge h g.inside in
-    (omega (arith, (edge_at g k).ordered, b), b)
-
-pub rows_take : (g : Signed) (chosen : List Bool) (rows mid new : List (List ℕ)) (k : ℕ) (ends : Edge) →
+pub listed_take : (g : Signed) (chosen : List Bool) (nodes mid new edges edges_mid edges_new : List ℕ) (k : ℕ) (ends : Edge) →
     k < length g.edges → ends ≡ edge_at g k → is_in chosen k ≡ true →
-    mid ≡ set rows ends.a (get_or rows ends.a [] ++ k ∷ []) → new ≡ set mid ends.b (get_or mid ends.b [] ++ k ∷ []) →
-    AreRowsBelow g chosen rows k → AreRowsBelow g chosen new (k + 1)
-unfolding more
-rows_take g chosen rows mid new k ends h e in_set em en r =
-    let ea : ends.a ≡ (edge_at g k).a = ap (λ (z : Edge). z.a) e in
-    let eb : ends.b ≡ (edge_at g k).b = ap (λ (z : Edge). z.b) e in
-    let low = ends_inside g k h in
-    let P : List (List ℕ) → Type 0 = λ z. AreRowsBelow g chosen z (k + 1) in
-    let first : mid ≡ more rows (edge_at g k).a k = em ∙ ap (λ z. more rows z k) ea in
-    let second : new ≡ more (more rows (edge_at g k).a k) (edge_at g k).b k = en ∙ ap (λ z. more mid z k) eb ∙ ap (λ z. more z (edge_at g k).b k) first in
-    subst P (sym second) (both g chosen rows k h (omega (arith, low.0, r.sizes)) (omega (arith, low.1, r.sizes)) in_set r)
+    mid ≡ nodes ++ ends.a ∷ [] → edges_mid ≡ edges ++ k ∷ [] → new ≡ mid ++ ends.b ∷ [] → edges_new ≡ edges_mid ++ k ∷ [] →
+    AreListed g chosen k nodes edges → AreListed g chosen (k + 1) new edges_new
+listed_take g chosen nodes mid new edges edges_mid edges_new k ends h e in_set em fm en fn r =
+    let N : List ℕ → List ℕ → Type 0 = λ x y. AreListed g chosen (k + 1) x y in
+    let first : mid ≡ nodes ++ (edge_at g k).a ∷ [] = em ∙ ap (λ (z : Edge). nodes ++ z.a ∷ []) e in
+    let second : new ≡ (nodes ++ (edge_at g k).a ∷ []) ++ (edge_at g k).b ∷ [] = en ∙ ap (λ (z : Edge). mid ++ z.b ∷ []) e ∙
+    ap (λ (z : List ℕ). z ++ (edge_at g k).b ∷ []) first in
+    let edges_are : edges_new ≡ (edges ++ k ∷ []) ++ k ∷ [] = fn ∙ ap (λ (z : List ℕ). z ++ k ∷ []) fm in
+    subst (N new) (sym edges_are) (subst (λ z. N z ((edges ++ k ∷ []) ++ k ∷ [])) (sym second) (both g chosen nodes edges k h in_set r))

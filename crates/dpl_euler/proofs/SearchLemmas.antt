@@ -1,13 +1,14 @@
 -- A search breadth first.
-use Rattle.std.proofs.Common.{arith, ◌≡◌, ◌≢◌, ℕ, suc, ◌+◌, ◌<◌, ◌≤◌, refl, sym, ap, ◌∙◌, subst, Bool, true, false, inl}
+use Rattle.std.proofs.Common.{arith, ◌≡◌, ◌≢◌, ℕ, ◌+◌, ◌<◌, ◌≤◌, refl, sym, ap, ◌∙◌, subst, Bool, true, false, inl}
 use Rattle.std.proofs.Common.{inr, List, [], ◌∷◌, ◌++◌, length, length-append, get_or, set, map, length-set}
 use Rattle.std.proofs.Common.{get_or-set_same, get_or-set_other, eq-eqb, ◌==◌, Option, Some, None}
 use Rattle.std.specs.Prelude.{All, AllPairs, Contains, is_some, nat_lt, ◌||◌}
 use Rattle.std.specs.List.{AllByRecursion}
 use Rattle.std.proofs.lemmas.Bool.{cases_eq, cases_lt, true≢false, false≢true, and_parts, and_from, or_left, or_right}
 use Rattle.std.proofs.lemmas.Bool.{or_cases, cond-true, cond-false, ne_eqb, eqb-true}
-use Rattle.std.proofs.lemmas.List.{get_or_append_left, get_or-append-add, get_or_default, get_or-map}
+use Rattle.std.proofs.lemmas.List.{get_or_append_left, get_or-append-add, get_or_default, get_or-map, length-map}
 use Rattle.std.proofs.lemmas.List.Elements.{All-push, recursion_from_All}
+use Rattle.std.proofs.lemmas.Option.{same_Some}
 use Rattle.dpl_sign.specs.declared.graphs.Signed.{Signed}
 use Rattle.dpl_sign.specs.Walks.{edge_at, across, leaves, IsPath}
 use Rattle.dpl_sign.specs.Components.{AreJoined}
@@ -19,14 +20,6 @@ use Rattle.dpl_euler.proofs.CircleLemmas.{few_distinct}
 
 -- ---- options
 
-value : Option ℕ → ℕ
-value None = 0
-value (Some x) = x
-
-some_same : (a b : ℕ) → Some a ≡ Some b → a ≡ b
-unfolding value
-some_same a b e = ap value e
-
 no_some : (a : ℕ) → Some a ≡ None → ⊥
 no_some a e = true≢false (ap is_some e)
 
@@ -36,22 +29,18 @@ some_of (Some p) h = (p, refl)
 
 -- ---- no more steps than nodes
 
-map_size : {X Y : Type 0} (f : X → Y) (xs : List X) → length (map f xs) ≡ length xs
-map_size f [] = refl
-map_size f (x ∷ xs) = ap suc (map_size f xs)
-
 pub few_steps : (g : Signed) (chosen : List Bool) (goal : ℕ) (steps : List Step) (places : List (Option ℕ)) →
     AreSteps g chosen goal steps places → length steps ≤ g.nodes
 few_steps g chosen goal steps places s =
     let node : Step → ℕ = λ x. x.node in
     let nodes = map node steps in
-    let size : length nodes ≡ length steps = map_size node steps in
+    let size : length nodes ≡ length steps = length-map steps node in
     let at : (i d : ℕ) → i < length steps → get_or nodes i d ≡ (step_at steps i).node = λ i d h. get_or-map node steps i no_step d h in
     let once : AllPairs (λ c d. c ≢ d) nodes = λ i j d l h e.
     let hj : j < length steps = omega (arith, h, size) in
     let hi : i < length steps = omega (arith, hj, l) in
     let same : (step_at steps i).node ≡ (step_at steps j).node = sym (at i d hi) ∙ e ∙ at j d hj in
-    omega (arith, l, some_same i j (sym (s.noted i hi) ∙ ap (place_of places) same ∙ s.noted j hj)) in
+    omega (arith, l, same_Some i j (sym (s.noted i hi) ∙ ap (place_of places) same ∙ s.noted j hj)) in
     omega (arith, size, few_distinct nodes g.nodes once (λ i h. omega (arith, at i 0 (omega (arith, h, size)), s.nodes i (omega (arith, h, size)))))
 
 -- ---- one step more
@@ -92,7 +81,7 @@ taken g chosen goal steps places step low none back s =
       ];
       found = λ v p e. elim (cases_eq v step.node) [
         | inl t ↦
-            let q : n ≡ p = some_same n p (sym (get_or-set_same places step.node (Some n) None
+            let q : n ≡ p = same_Some n p (sym (get_or-set_same places step.node (Some n) None
             (omega (arith, s.sizes, low))) ∙ ap (place_of later) (sym t) ∙ e) in
             (omega (arith, q, size), ap (λ z. (step_at new z).node) (sym q) ∙ ap node end ∙ sym t)
         | inr t ↦

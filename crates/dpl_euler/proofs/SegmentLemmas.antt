@@ -1,5 +1,6 @@
 -- Numbers of the code that are coordinates, and tests joined.
-use Rattle.std.proofs.Common.{rules, ◌≡◌, ◌^◌, ℤ, pos, neg_ℤ, ◌≤ℤ◌, ◌+ℤ◌, ◌*ℤ◌, sym, ap, ◌∙◌, Bool, true, false, ◌&&◌, ◌||◌, refl, ◌<ℤ◌, SFits, w64, to_z, of_z}
+use Rattle.std.proofs.Common.{rules, ◌≡◌, ◌^◌, ℤ, pos, neg_ℤ, ◌≤ℤ◌, ◌+ℤ◌, ◌-ℤ◌, ◌*ℤ◌, sym, ap, ◌∙◌}
+use Rattle.std.proofs.Common.{Bool, true, false, ◌&&◌, ◌||◌, refl, ◌<ℤ◌, SFits, w64, to_z, of_z}
 use Rattle.std.proofs.lemmas.Int.{ints}
 use Rattle.std.proofs.lemmas.Bool.{cond-true, cond-false}
 use Rattle.std.proofs.lemmas.Int.{to_z-of_z}
@@ -8,6 +9,7 @@ use Rattle.std.specs.Int.{int_max, int_min}
 use Rattle.dpl_list.proofs.Integers.{signed}
 use Rattle.dpl_cell.specs.declared.rect.Rect.{Rect}
 use Rattle.dpl_cell.specs.Places.{corners_of}
+use Rattle.dpl_euler.specs.declared.segment.Segment.{Segment}
 use Rattle.dpl_euler.specs.Points.{Ends}
 use Rattle.dpl_euler.specs.Crossings.{leaving, link_between}
 use Rattle.dpl_euler.specs.Tests.{diagonal, other_diagonal}
@@ -27,10 +29,49 @@ or_yes p a b e t = t ∙ ap (λ z. z || b) (sym t ∙ e)
 pub or_no : (p q a b : Bool) → p ≡ a → p ≡ false → q ≡ b → q ≡ (a || b)
 or_no p q a b e t h = h ∙ ap (λ z. z || b) (sym t ∙ e)
 
--- ---- the places where links leave
+-- ---- coordinates of segments, as the code passes them on
 
 plain : (z : ℤ) → neg_ℤ (pos (2 ^ 31)) ≤ℤ z → z ≤ℤ pos (2 ^ 31) → to_z w64 (of_z w64 z) ≡ z
 plain z f g = to_z-of_z w64 z (coordinate_fits z f g)
+
+four_plain : (f : ℤ → ℤ → ℤ → ℤ → Bool) (a b c d p q r s : ℤ) → a ≡ p → b ≡ q → c ≡ r → d ≡ s → f a b c d ≡ f p q r s
+four_plain f a b c d p q r s e g h k = rw (e, g, h, k) refl
+
+-- the columns of two segments
+pub columns_plain : (f : ℤ → ℤ → ℤ → ℤ → Bool) (s t : Segment) →
+    f (to_z w64 (of_z w64 s.x1)) (to_z w64 (of_z w64 s.x2)) (to_z w64 (of_z w64 t.x1)) (to_z w64 (of_z w64 t.x2)) ≡ f s.x1 s.x2 t.x1 t.x2
+columns_plain f s t = four_plain f _ _ _ _ _ _ _ _ (plain s.x1 s.low_x1 s.high_x1) (plain s.x2 s.low_x2 s.high_x2)
+    (plain t.x1 t.low_x1 t.high_x1) (plain t.x2 t.low_x2 t.high_x2)
+
+-- and their rows
+pub rows_plain : (f : ℤ → ℤ → ℤ → ℤ → Bool) (s t : Segment) →
+    f (to_z w64 (of_z w64 s.y1)) (to_z w64 (of_z w64 s.y2)) (to_z w64 (of_z w64 t.y1)) (to_z w64 (of_z w64 t.y2)) ≡ f s.y1 s.y2 t.y1 t.y2
+rows_plain f s t = four_plain f _ _ _ _ _ _ _ _ (plain s.y1 s.low_y1 s.high_y1) (plain s.y2 s.low_y2 s.high_y2)
+    (plain t.y1 t.low_y1 t.high_y1) (plain t.y2 t.low_y2 t.high_y2)
+
+product_plain : (a b c d m n p : ℤ) → SFits w64 a → SFits w64 b → SFits w64 c → SFits w64 d → SFits w64 m → SFits w64 n →
+    m ≡ (to_z w64 (of_z w64 a) -ℤ to_z w64 (of_z w64 b)) → n ≡ (to_z w64 (of_z w64 c) -ℤ to_z w64 (of_z w64 d)) →
+    p ≡ (to_z w64 (of_z w64 m) *ℤ to_z w64 (of_z w64 n)) → p ≡ ((a -ℤ b) *ℤ (c -ℤ d))
+product_plain a b c d m n p fa fb fc fd fm fn em en ep =
+    let e : m ≡ (a -ℤ b) = simp to_z-of_z at em in
+    let g : n ≡ (c -ℤ d) = simp to_z-of_z at en in
+    rw (← e, ← g) (simp to_z-of_z at ep)
+
+-- how far a segment rises, times how far a column lies behind its first end
+pub rise_plain : (s : Segment) (x m n p : ℤ) → SFits w64 x → SFits w64 m → SFits w64 n →
+    m ≡ (to_z w64 (of_z w64 s.y2) -ℤ to_z w64 (of_z w64 s.y1)) → n ≡ (to_z w64 (of_z w64 x) -ℤ to_z w64 (of_z w64 s.x1)) →
+    p ≡ (to_z w64 (of_z w64 m) *ℤ to_z w64 (of_z w64 n)) → p ≡ ((s.y2 -ℤ s.y1) *ℤ (x -ℤ s.x1))
+rise_plain s x m n p f fm fn em en ep = product_plain s.y2 s.y1 x s.x1 m n p (coordinate_fits s.y2 s.low_y2 s.high_y2)
+    (coordinate_fits s.y1 s.low_y1 s.high_y1) f (coordinate_fits s.x1 s.low_x1 s.high_x1) fm fn em en ep
+
+-- how far it runs, times how far a row lies above its first end
+pub run_plain : (s : Segment) (y m n p : ℤ) → SFits w64 y → SFits w64 m → SFits w64 n →
+    m ≡ (to_z w64 (of_z w64 s.x2) -ℤ to_z w64 (of_z w64 s.x1)) → n ≡ (to_z w64 (of_z w64 y) -ℤ to_z w64 (of_z w64 s.y1)) →
+    p ≡ (to_z w64 (of_z w64 m) *ℤ to_z w64 (of_z w64 n)) → p ≡ ((s.x2 -ℤ s.x1) *ℤ (y -ℤ s.y1))
+run_plain s y m n p f fm fn em en ep = product_plain s.x2 s.x1 y s.y1 m n p (coordinate_fits s.x2 s.low_x2 s.high_x2)
+    (coordinate_fits s.x1 s.low_x1 s.high_x1) f (coordinate_fits s.y1 s.low_y1 s.high_y1) fm fn em en ep
+
+-- ---- the places where links leave
 
 small_plain : (z : ℤ) → neg_ℤ (pos (2 ^ 30)) ≤ℤ z → z ≤ℤ pos (2 ^ 30) → to_z w64 (of_z w64 z) ≡ z
 small_plain z f g = plain z (omega signed) (omega signed)

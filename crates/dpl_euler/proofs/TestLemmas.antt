@@ -9,7 +9,7 @@ use Rattle.std.proofs.lemmas.Bool.{not_from_false, true≢false, false_from_ne_t
 use Rattle.std.proofs.lemmas.Bool.{eqb-true}
 use Rattle.std.proofs.lemmas.Bool.Decides.{Decides-int_eq}
 use Rattle.std.proofs.lemmas.Int.{ints}
-use Rattle.dpl_list.proofs.Integers.{signed, less_test, is_less}
+use Rattle.dpl_list.proofs.Integers.{less_test, is_less, is_at_most, at_most_test}
 use Rattle.dpl_cell.specs.declared.rect.Rect.{Rect}
 use Rattle.dpl_cell.specs.Places.{Corners, corners_of}
 use Rattle.dpl_cuts.specs.declared.types.Fragments.{Fragments}
@@ -30,22 +30,16 @@ use Rattle.dpl_euler.proofs.MeetingLemmas.{DoSpansMeet, IsAcross, DoMeet, common
 use Rattle.dpl_euler.proofs.OverlapLemmas.{DoOverlap, IsEndOf, inner_from, overlap_from}
 use Rattle.dpl_euler.proofs.RectangleLemmas.{rect_from, rect_to}
 
-le_is : (x y : ℤ) → int_le x y ≡ true → x ≤ℤ y
-le_is x y h = search signed
-
-le_test : (x y : ℤ) → x ≤ℤ y → int_le x y ≡ true
-le_test x y h = grind (arith, ints)
-
 -- ---- segments that meet
 
 spans_is : (a1 a2 b1 b2 : ℤ) → spans_meet a1 a2 b1 b2 ≡ true → DoSpansMeet a1 a2 b1 b2
 spans_is a1 a2 b1 b2 h =
     let parts = and_parts (int_le (int_min a1 a2) (int_max b1 b2)) (int_le (int_min b1 b2) (int_max a1 a2)) h in
-    record { first = le_is _ _ parts.0; second = le_is _ _ parts.1 }
+    record { first = is_at_most _ _ parts.0; second = is_at_most _ _ parts.1 }
 
 spans_test : (a1 a2 b1 b2 : ℤ) → DoSpansMeet a1 a2 b1 b2 → spans_meet a1 a2 b1 b2 ≡ true
 spans_test a1 a2 b1 b2 m = and_from (int_le (int_min a1 a2) (int_max b1 b2)) (int_le (int_min b1 b2) (int_max a1 a2))
-    (le_test _ _ m.first) (le_test _ _ m.second)
+    (at_most_test _ _ m.first) (at_most_test _ _ m.second)
 
 across_is : (s t : Ends) → is_beside s t ≡ false → IsAcross s t
 across_is s t h =

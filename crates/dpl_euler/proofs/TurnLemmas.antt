@@ -26,16 +26,13 @@ pub cramer_y : (sx sy tx ty u v : ℤ) → ((((sx *ℤ ty) -ℤ (sy *ℤ tx)) *�
 cramer_y sx sy tx ty u v = omega (
   arith,
   ints,
+  cramer_x sy sx ty tx v u,
   sub_mul (sx *ℤ ty) (sy *ℤ tx) v,
+  sub_mul (sy *ℤ tx) (sx *ℤ ty) v,
   sub_mul (tx *ℤ v) (ty *ℤ u) sy,
+  sub_mul (ty *ℤ u) (tx *ℤ v) sy,
   sub_mul (sx *ℤ v) (sy *ℤ u) ty,
-  mul_swap sx ty v,
-  mul_swap sy tx v,
-  ap (λ z. z *ℤ v) (mul_comm sy tx),
-  mul_swap tx sy v,
-  mul_swap ty u sy,
-  ap (λ z. z *ℤ u) (mul_comm ty sy),
-  mul_swap sy ty u,
+  sub_mul (sy *ℤ u) (sx *ℤ v) ty,
 )
 
 -- ---- means of two places

@@ -161,32 +161,38 @@ fn first_fragment(
     None
 }
 
+/// Finds links and diagonals of fragments by their bounds.
+#[derive(Drop)]
+struct Bounded {
+    links: Index,
+    diagonals: Index,
+}
+
 /// What the link of an edge crosses, if it is the link of a larger edge or a third fragment.
 fn crossed(
     alloc: Global,
     fragments: &Fragments,
     net: &Net,
     links: &[Segment],
-    by_link: &Index,
-    by_rect: &Index,
+    bounded: &Bounded,
     edge: usize,
 ) -> Result<Option<With>, AllocError>
     requires nodes { net.now.graph.nodes ≡ length fragments.now.rects }
     requires links { AreLinks fragments.now net.now links.now (length net.now.graph.edges) }
-    requires by_link { by_link.now ≡ map (λ s. bounds_around (ends_of s)) links.now }
-    requires by_rect { by_rect.now ≡
+    requires bounded { bounded.now.links ≡ map (λ s. bounds_around (ends_of s)) links.now }
+    requires diagonals { bounded.now.diagonals ≡
         map (λ r. bounds_around (the_diagonal (corners_of r))) fragments.now.rects }
     requires edge { edge < length net.now.graph.edges }
     ensures some { IfOk result (λ w. IfSome w (IsWith fragments.now net.now edge)) }
     ensures none { result ≡ Ok None → (w : With) → ¬ IsWith fragments.now net.now edge w }
 {
     let window = bounds_of(&links[edge]);
-    let found = by_link.meeting(alloc, &window)?;
+    let found = bounded.links.meeting(alloc, &window)?;
     match first_link(fragments, net, links, edge, found.as_slice()) {
         Some(other) => return Ok(Some(With::Link(other))),
         None => {}
     }
-    let also = by_rect.meeting(alloc, &window)?;
+    let also = bounded.diagonals.meeting(alloc, &window)?;
     match first_fragment(fragments, net, links, edge, also.as_slice()) {
         Some(fragment) => Ok(Some(With::Fragment(fragment))),
         None => Ok(None),
@@ -206,11 +212,13 @@ pub fn crossing(
 {
     let links = links_of(alloc, fragments, net)?;
     let links = links.as_slice();
-    let by_link = Index::new(alloc, all_bounds(alloc, links)?)?;
     let rects = all_bounds_of_rects(alloc, fragments.rects.as_slice())?;
-    let by_rect = Index::new(alloc, rects)?;
+    let bounded = Bounded {
+        links: Index::new(alloc, all_bounds(alloc, links)?)?,
+        diagonals: Index::new(alloc, rects)?,
+    };
     for edge in 0..links.len() {
-        match crossed(alloc, fragments, net, links, &by_link, &by_rect, edge)? {
+        match crossed(alloc, fragments, net, links, &bounded, edge)? {
             Some(other) => {
                 let edge = edge as u32;
                 return Ok(Some(Crossing { edge, other }));

@@ -1,5 +1,5 @@
 -- A face of a part passes in the whole what it passes in the part.
-use Rattle.std.proofs.Common.{arith, ◌≡◌, ◌↔◌, ◌≢◌, ℕ, zero, suc, ◌/◌, ◌%◌, ◌<◌, ◌==◌, ◌&&◌, refl, sym, ap, ◌∙◌, Bool, inl, inr, length, eq-eqb}
+use Rattle.std.proofs.Common.{arith, ◌≡◌, ◌↔◌, ◌≢◌, ℕ, suc, ◌/◌, ◌%◌, ◌<◌, ◌==◌, ◌&&◌, refl, sym, ap, ◌∙◌, Bool, inl, inr, length, eq-eqb}
 use Rattle.std.specs.Prelude.{if◌then◌else◌}
 use Rattle.std.proofs.lemmas.Bool.{cases_eq, cases_Bool, ne_eqb}
 use Rattle.dpl_cycle.proofs.Least.{label_least}
@@ -9,15 +9,12 @@ use Rattle.dpl_sign.specs.Excess.{kept_edges}
 use Rattle.dpl_sign.specs.Kinds.{is_clash}
 use Rattle.dpl_sign.specs.Parity.{passages_on_face, is_clash_edge, is_odd_face}
 use Rattle.dpl_sign.proofs.Rotation.{face_back, face_permutes}
+use Rattle.dpl_sign.proofs.Loads.{sum_to_zero, sum_to_same}
 use Rattle.dpl_parts.specs.Parts.{IsPartOf, dart, face_at}
 use Rattle.dpl_parts.proofs.Kept.{keeps_alike}
 use Rattle.dpl_parts.proofs.Darts.{dart_half, dart_below, dart_apart}
 use Rattle.dpl_parts.proofs.Faces.{seek, seek_hit, seek_miss, label_along, face_there, face_here}
-use Rattle.dpl_parts.proofs.Sums.{sum_to, sums_to, sum_alike, sum_part}
-
-pub zeros : (n : ℕ) → sum_to (λ e. 0) n ≡ 0
-zeros zero = refl
-zeros (suc n) = let r = zeros n in omega (arith, r)
+use Rattle.dpl_parts.proofs.Sums.{sums_to, sum_part}
 
 module _ (part whole : Net) (node edge : ℕ → ℕ) (h : IsPartOf part whole node edge) (p q : ℕ → Bool)
     (alike : (e : ℕ) → e < length part.graph.edges → q (edge e) ≡ p e) where
@@ -63,9 +60,9 @@ module _ (part whole : Net) (node edge : ℕ → ℕ) (h : IsPartOf part whole n
       rw (t, u, v) refl in
       let a = sums_to (λ d. q (d / 2) && (face_of whole q d == face_of whole q (dart edge c)) && test' (d / 2)) (λ x. 1) n in
       let b = sums_to (λ d. p (d / 2) && (face_of part p d == face_of part p c) && test (d / 2)) (λ x. 1) m in
-      let w = sum_alike (λ d. f (dart edge d)) k m on in
-      let z = zeros n in
-      let y = zeros m in
+      let w = sum_to_same (λ d. f (dart edge d)) k m on in
+      let z = sum_to_zero n in
+      let y = sum_to_zero m in
       omega (arith, s, a, b, w, z, y)
 
   -- so it is odd there where it is odd in the part

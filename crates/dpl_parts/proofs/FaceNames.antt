@@ -1,7 +1,6 @@
 -- The faces of a part are faces of the whole, each named by its least dart, and how many there are.
 use Rattle.std.proofs.Common.{arith, ◌≡◌, ℕ, zero, suc, ◌+◌, ◌/◌, ◌<◌, ◌≤◌, ◌==◌, ◌&&◌, refl, sym, ap, ◌∙◌, Bool, true, false, inl, inr, length, eq-eqb}
-use Rattle.std.specs.Prelude.{if◌then◌else◌}
-use Rattle.std.proofs.lemmas.Bool.{cases_eq, cases_Bool, ne_eqb, cond-true, cond-false}
+use Rattle.std.proofs.lemmas.Bool.{cases_eq, cases_Bool, ne_eqb}
 use Rattle.dpl_cycle.specs.Cycles.{Permutes, cycles, least, without}
 use Rattle.dpl_cycle.specs.Sums.{count_on}
 use Rattle.dpl_cycle.specs.Among.{others_count}
@@ -9,24 +8,18 @@ use Rattle.dpl_cycle.proofs.Steps.{cycles_alone, cycles_more, least_alone, least
 use Rattle.dpl_cycle.proofs.Shorter.{shorter}
 use Rattle.dpl_cycle.proofs.Least.{least_le}
 use Rattle.dpl_cycle.proofs.Fixed.{least_fixed}
-use Rattle.dpl_cycle.proofs.SumLemmas.{count_on_same}
+use Rattle.dpl_cycle.proofs.SumLemmas.{count_on_same, count_on_yes, count_on_no}
 use Rattle.dpl_cycle.proofs.AmongLemmas.{cycles_members, others_in, others_out}
 use Rattle.dpl_sign.specs.declared.nets.Net.{Net}
 use Rattle.dpl_sign.specs.Drawings.{dart_count, next_in_face, face_of, face_count, bare_count}
-use Rattle.dpl_sign.proofs.Rotation.{face_back, face_permutes, face_out}
+use Rattle.dpl_sign.proofs.Rotation.{face_back, face_permutes, face_out, face_below}
 use Rattle.dpl_parts.specs.Parts.{IsPartOf, dart}
 use Rattle.dpl_parts.proofs.Darts.{dart_below, dart_apart}
 use Rattle.dpl_parts.proofs.Faces.{face_here}
 use Rattle.dpl_parts.proofs.Counted.{dart_order}
-use Rattle.dpl_parts.proofs.Linked.{face_name, face_low, from_dart, up_is}
+use Rattle.dpl_parts.proofs.Linked.{face_name, from_dart, up_is}
 
 -- ---- cycles by their least numbers
-
-one_more : (p : ℕ → Bool) (n : ℕ) → p n ≡ true → count_on p (suc n) ≡ suc (count_on p n)
-one_more p n t = let w : (if p n then 1 else 0) ≡ 1 = cond-true {A = ℕ} (p n) 1 0 t in omega (arith, w)
-
-no_more : (p : ℕ → Bool) (n : ℕ) → p n ≡ false → count_on p (suc n) ≡ count_on p n
-no_more p n t = let w : (if p n then 1 else 0) ≡ 0 = cond-false {A = ℕ} (p n) 1 0 t in omega (arith, w)
 
 -- there are as many cycles as numbers that are the least of theirs
 least_count : (n : ℕ) (f g : ℕ → ℕ) → Permutes n f g → cycles f n ≡ count_on (λ d. least f n d == d) n
@@ -39,14 +32,14 @@ least_count (suc n) f g p =
     elim (cases_eq (f n) n) [
       | inl a ↦
           let c = cycles_alone f n a in
-          let s = one_more (λ d. least f (suc n) d == d) n (eq-eqb _ _ (least_alone f n a)) in
+          let s = count_on_yes (λ d. least f (suc n) d == d) n (eq-eqb _ _ (least_alone f n a)) in
           omega (arith, r, same, c, s)
       | inr a ↦
           let c = cycles_more f n a in
           let low : f n < n = let t = p.to n (omega arith) in omega arith in
           let t = least_top f n a in
           let m = least_le n (without n f) (without n g) q (f n) low in
-          let s = no_more (λ d. least f (suc n) d == d) n (ne_eqb _ _ (λ e. omega (arith, e, t, m, low))) in
+          let s = count_on_no (λ d. least f (suc n) d == d) n (ne_eqb _ _ (λ e. omega (arith, e, t, m, low))) in
           omega (arith, r, same, c, s)
     ]
 
@@ -60,14 +53,14 @@ split_count p t (suc n) h =
           let o = others_in p n a in
           let s : (p n && t n) ≡ t n = rw a refl in
           elim (cases_Bool (t n)) [
-            | inl b ↦ let x = one_more t n b in let y = one_more (λ d. p d && t d) n (s ∙ b) in omega (arith, r, o, x, y)
-            | inr b ↦ let x = no_more t n b in let y = no_more (λ d. p d && t d) n (s ∙ b) in omega (arith, r, o, x, y)
+            | inl b ↦ let x = count_on_yes t n b in let y = count_on_yes (λ d. p d && t d) n (s ∙ b) in omega (arith, r, o, x, y)
+            | inr b ↦ let x = count_on_no t n b in let y = count_on_no (λ d. p d && t d) n (s ∙ b) in omega (arith, r, o, x, y)
           ]
       | inr a ↦
           let o = others_out p n a in
           let s : (p n && t n) ≡ false = rw a refl in
-          let x = one_more t n (h n (omega arith) a) in
-          let y = no_more (λ d. p d && t d) n s in
+          let x = count_on_yes t n (h n (omega arith) a) in
+          let y = count_on_no (λ d. p d && t d) n s in
           omega (arith, r, o, x, y)
     ]
 
@@ -98,9 +91,9 @@ module _ (part whole : Net) (node edge : ℕ → ℕ) (h : IsPartOf part whole n
       let high = dart_below part whole node edge h c l in
       let y = face_of whole q (dart edge c) in
       let f = face_of part p c in
-      let f_low = face_low part p c l in
+      let f_low = face_below part p c l in
       let name : face_of whole q y ≡ y = face_name whole q (dart edge c) high in
-      let (x, lx, rx) = from_dart part whole node edge h p q alike c y l (face_low whole q (dart edge c) high) name in
+      let (x, lx, rx) = from_dart part whole node edge h p q alike c y l (face_below whole q (dart edge c) high) name in
       let same : face_of part p x ≡ f = face_here part whole node edge h p q alike x c lx l (ap (face_of whole q) rx ∙ name) in
       let below : face_of part p x ≤ x = least_le (dart_count part) (next_in_face part p) (face_back part p) (face_permutes part p) x lx in
       let up : face_of whole q (dart edge f) ≡ y = up_is part whole node edge h p q alike c l in
@@ -119,7 +112,7 @@ module _ (part whole : Net) (node edge : ℕ → ℕ) (h : IsPartOf part whole n
       let up = face_up c l in
       let own : (face_of whole q (dart edge c) == dart edge c) ≡ (face_of part p c == c) = elim (cases_eq (face_of part p c) c) [
         | inl e ↦ eq-eqb _ _ (up ∙ ap (dart edge) e) ∙ sym (eq-eqb _ _ e)
-        | inr e ↦ ne_eqb _ _ (λ s. e (one_dart (face_of part p c) c (face_low part p c l) l (sym up ∙ s))) ∙ sym (ne_eqb _ _ e)
+        | inr e ↦ ne_eqb _ _ (λ s. e (one_dart (face_of part p c) c (face_below part p c l) l (sym up ∙ s))) ∙ sym (ne_eqb _ _ e)
       ] in
       rw (half, own) refl where
         one_dart : (c d : ℕ) → c < dart_count part → d < dart_count part → dart edge c ≡ dart edge d → c ≡ d

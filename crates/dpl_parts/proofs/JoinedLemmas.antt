@@ -1,6 +1,6 @@
 -- Fragments that a chain of pairs of ends joins are those that edges join.
-use Rattle.std.proofs.Common.{arith, ◌≡◌, ◌+◌, ◌<◌, ◌≤◌, ◌==◌, ◌⊎◌, inl, inr, ℕ, zero, suc, true, false, List, [], ◌∷◌}
-use Rattle.std.proofs.Common.{length, map, refl, sym, ap, subst, ◌∙◌, All, Contains, get_or, max, fold}
+use Rattle.std.proofs.Common.{arith, ◌≡◌, ◌<◌, ◌==◌, ◌⊎◌, inl, inr, ℕ, true, false, List, [], ◌∷◌}
+use Rattle.std.proofs.Common.{length, map, refl, sym, ap, subst, ◌∙◌, All, Contains, get_or}
 use Rattle.std.proofs.lemmas.Bool.{cases_Bool, eq-eqb, eqb-true, ne_eqb, and_from, and_parts, or_left, or_right}
 use Rattle.std.proofs.lemmas.Bool.{or_cases, lt-ltb, ltb-true, cond-true, cond-false, both_ways}
 use Rattle.std.proofs.lemmas.List.{get_or-map, length-map}
@@ -98,18 +98,6 @@ path_chain g v (k ∷ es) w (l, more) =
     (across (edge_at g k) v ∷ js, (edge_step g k v l, chain))
 
 -- ---- the classes of the pairs are the components
-
-grows : (xs : List ℕ) (m : ℕ) → m ≤ fold (λ m l. max m (l + 1)) m xs
-grows [] m = omega arith
-grows (x ∷ xs) m = let g = grows xs (max m (x + 1)) in omega (arith, g)
-
-below : (xs : List ℕ) (m : ℕ) → All (λ l. l < fold (λ m l. max m (l + 1)) m xs) xs
-below [] m k d l = absurd (omega (arith, l))
-below (x ∷ xs) m zero d l = let g = grows xs (max m (x + 1)) in omega (arith, g)
-below (x ∷ xs) m (suc k) d l = below xs (max m (x + 1)) k d (omega (arith, l))
-
-pub labels_below : (pairs : List (ℕ × ℕ)) (n : ℕ) (label : List ℕ) (count' : ℕ) → AreClasses pairs n label count' → All (λ l. l < count') label
-labels_below pairs n label count' a = let P : ℕ → Type 0 = λ m. All (λ l. l < m) label in subst P (sym a.numbered.count) (below label 0)
 
 pub are_components : (net : Net) (label : List ℕ) (count' : ℕ) → AreClasses (pairs_of net.graph) net.graph.nodes label count' → AreComponents net label
 are_components net label count' a = record {

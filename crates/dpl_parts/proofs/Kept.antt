@@ -1,6 +1,6 @@
 -- The whole keeps the edges of a part that the part keeps by itself.
-use Rattle.std.proofs.Common.{arith, ◌≡◌, ℕ, zero, suc, ◌+◌, ◌*◌, ◌<◌, refl, sym, ap, ◌∙◌, Bool, true, false, not, inl, inr, length, subst}
-use Rattle.std.proofs.lemmas.Bool.{cases_lt, cases_eq, cases_Bool, both_ways}
+use Rattle.std.proofs.Common.{arith, ◌≡◌, ℕ, zero, suc, ◌+◌, ◌*◌, ◌<◌, sym, ap, ◌∙◌, Bool, true, false, not, inl, inr, length, subst}
+use Rattle.std.proofs.lemmas.Bool.{cases_lt, cases_eq, cases_Bool, both_ways, false_from_ne_true}
 use Rattle.dpl_sign.specs.declared.nets.Net.{Net}
 use Rattle.dpl_sign.specs.Drawings.{is_in, dart_count, next_around, face_of}
 use Rattle.dpl_sign.specs.Components.{component_of}
@@ -36,10 +36,6 @@ crosses_raises net e l j far =
     let size : length kept ≡ e = kept_length net e in
     let low : length kept < length net.graph.edges = omega arith in
     raises_from net kept low (subst (AreEndsJoined net (is_in kept)) (sym size) j) (λ f. far (subst (LiesInFace net (is_in kept)) size f))
-
-false_from : (b : Bool) → (b ≡ true → ⊥) → b ≡ false
-false_from true n = absurd (n refl)
-false_from false n = refl
 
 module _ (part whole : Net) (node edge : ℕ → ℕ) (h : IsPartOf part whole node edge) where
   module _ (p q : ℕ → Bool) (alike : (e : ℕ) → e < length part.graph.edges → q (edge e) ≡ p e) where
@@ -80,14 +76,14 @@ module _ (part whole : Net) (node edge : ℕ → ℕ) (h : IsPartOf part whole n
       let alike : (x : ℕ) → x < length part.graph.edges → q (edge x) ≡ p x = λ x m. elim (cases_lt x e) [
         | inl r ↦ kept_at whole (edge e) (edge x) (h.order x e r l) ∙ ap not (raise_alike k x (omega arith) m) ∙ sym (kept_at part e x r)
         | inr r ↦
-            let first : q (edge x) ≡ false = false_from _
+            let first : q (edge x) ≡ false = false_from_ne_true _
             (λ t. let i = kept_inside whole (edge e) (edge x) t in
             elim (cases_eq x e) [
               | inl z ↦ let w : edge x ≡ edge e = ap edge z in omega arith
               | inr z ↦ let w =
                   h.order e x (omega arith) m in omega arith
             ]) in
-            let second : p x ≡ false = false_from _ (λ t. let i = kept_inside part e x t in omega arith) in
+            let second : p x ≡ false = false_from_ne_true _ (λ t. let i = kept_inside part e x t in omega arith) in
             first ∙ sym second
       ] in
       let m = h.edges e l in
@@ -95,7 +91,7 @@ module _ (part whole : Net) (node edge : ℕ → ℕ) (h : IsPartOf part whole n
         | inl t ↦
             let (j, far) = raises_crosses part e l t in
             crosses_raises whole (edge e) m (ends_there p q alike e l j) (λ f. far (lies_here p q alike e l f)) ∙ sym t
-        | inr t ↦ false_from _ (λ r.
+        | inr t ↦ false_from_ne_true _ (λ r.
             let (j, far) = raises_crosses whole (edge e) m r in
             both_ways _ t (crosses_raises part e l (ends_here p q alike e l j) (λ f. far (lies_there p q alike e l f)))) ∙ sym t
       ]

@@ -7,8 +7,9 @@ use Rattle.dpl_sign.specs.Walks.{edge_at}
 use Rattle.dpl_sign.specs.Drawings.{is_in}
 use Rattle.dpl_sign.specs.Excess.{kept_edges}
 use Rattle.dpl_sign.proofs.ComponentLemmas.{start_below, end_below}
+use Rattle.dpl_sign.proofs.Loads.{sum_to_same, sum_to}
 use Rattle.dpl_parts.specs.Parts.{IsPartOf, broken_on, IsMixed}
-use Rattle.dpl_parts.proofs.Sums.{sum_to, sums_to, sum_alike, sum_part}
+use Rattle.dpl_parts.proofs.Sums.{sums_to, sum_part}
 use Rattle.dpl_parts.proofs.Kept.{keeps_alike}
 
 -- ---- a mixed colouring
@@ -53,9 +54,9 @@ module _ (part whole : Net) (node edge : ℕ → ℕ) (h : IsPartOf part whole n
       rw (a, b) refl in
       let s = sum_part edge (length part.graph.edges) (length whole.graph.edges) (record { inside = h.edges; order = h.order }) f g same in
       let fa : sum_to (λ x. f (edge x)) (length part.graph.edges) ≡ part_cost part tint =
-      sum_alike _ _ (length part.graph.edges) (on_part mixed tint m.inside) in
+      sum_to_same _ _ (length part.graph.edges) (on_part mixed tint m.inside) in
       let ga : sum_to (λ x. g (edge x)) (length part.graph.edges) ≡ part_cost part (λ v. colour_of colours (node v)) =
-      sum_alike _ _ (length part.graph.edges) (on_part colours (λ v. colour_of colours (node v)) (λ v l. refl)) in
+      sum_to_same _ _ (length part.graph.edges) (on_part colours (λ v. colour_of colours (node v)) (λ v l. refl)) in
       let fw : broken_on whole mixed ≡ sum_to f (length whole.graph.edges) =
       sums_to (λ e. is_in (kept_edges whole) e && breaks mixed (edge_at whole.graph e))
       (λ e. (edge_at whole.graph e).weight) (length whole.graph.edges) in

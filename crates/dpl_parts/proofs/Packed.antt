@@ -18,8 +18,9 @@ use Rattle.dpl_parts.specs.Parts.{IsPartOf}
 use Rattle.dpl_parts.specs.Shares.{Part, ShareOut, renumbered, all_cycles}
 use Rattle.dpl_parts.proofs.Faces.{found}
 use Rattle.dpl_parts.proofs.Darts.{edge_apart}
-use Rattle.dpl_parts.proofs.Places.{AreShares, sum_by_alike, shares_rest}
+use Rattle.dpl_parts.proofs.Places.{AreShares, shares_rest}
 use Rattle.dpl_parts.proofs.Shared.{edges_in, edge_shares}
+use Rattle.dpl_list.proofs.Sums.{sum_by_alike}
 
 sum_by_map : {X Y : Type 0} (f : Y → ℕ) (g : X → Y) (xs : List X) → sum_by f (map g xs) ≡ sum_by (λ x. f (g x)) xs
 sum_by_map f g [] = refl

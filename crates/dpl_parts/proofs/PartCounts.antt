@@ -11,9 +11,9 @@ use Rattle.dpl_sign.specs.Drawings.{is_met_below, is_bare}
 use Rattle.dpl_sign.specs.Components.{component_of, component_count}
 use Rattle.dpl_sign.proofs.BareLemmas.{EndsAt, met_from, met_is}
 use Rattle.dpl_sign.proofs.ComponentLemmas.{components_are, component_label, start_below, end_below}
+use Rattle.dpl_sign.proofs.Loads.{sum_to_same, sum_to}
 use Rattle.dpl_parts.specs.Parts.{IsPartOf}
 use Rattle.dpl_parts.proofs.Faces.{found, seek, seek_hit, seek_miss, one_label, joined_there, joined_here}
-use Rattle.dpl_parts.proofs.Sums.{sum_to, sum_alike}
 
 -- the numbers that name themselves
 pub names_counted : (names : ℕ → ℕ) (n : ℕ) → name_count names n ≡ sum_to (λ v. if names v == v then 1 else 0) n
@@ -122,7 +122,7 @@ module _ (part whole : Net) (node edge : ℕ → ℕ) (h : IsPartOf part whole n
         there = λ v l. name_of_one (own v) v (own_names.inside v l) l (joined_there part whole node edge h p q alike (own v) v (own_names.twice v l));
       }) in
       let c = names_counted name_in n in
-      let s = sum_alike (λ v. if name_in v == v then 1 else 0) (λ v. if component_of whole.graph q (node v) == node v then 1 else 0) n (λ v l.
+      let s = sum_to_same (λ v. if name_in v == v then 1 else 0) (λ v. if component_of whole.graph q (node v) == node v then 1 else 0) n (λ v l.
       let (a, ra) = name_in_is v l in
       ap (λ b. if b then 1 else 0) (elim (cases_eq (name_in v) v) [
         | inl e ↦ eq-eqb _ _ e ∙ sym (eq-eqb _ _ (sym ra ∙ ap node e))

@@ -3,8 +3,9 @@ use Rattle.std.proofs.Common.{arith, ◌≡◌, ◌≢◌, ◌⊎◌, ℕ, zero,
 use Rattle.std.specs.Prelude.{if◌then◌else◌, All, AllPairs, Contains, sum_by, slice_index_or}
 use Rattle.std.proofs.lemmas.Bool.{cases_eq, ne_eqb, cond-true, cond-false}
 use Rattle.std.proofs.lemmas.List.Sums.{sum_by-cons}
-use Rattle.dpl_parts.proofs.Sums.{sum_to, sum_alike}
 use Rattle.dpl_parts.proofs.Faces.{found}
+use Rattle.dpl_list.proofs.Sums.{sum_by_alike}
+use Rattle.dpl_sign.proofs.Loads.{sum_to_same, sum_to}
 
 -- the same numbers, but 0 at one place
 abbrev out : ℕ → (ℕ → ℕ) → ℕ → ℕ
@@ -22,7 +23,7 @@ sum_out y (suc n) f l = elim (cases_eq y n) [
   | inl e ↦
       let a = out_here y n f e in
       let b : f y ≡ f n = ap f e in
-      let s = sum_alike (out y f) f n (λ x k. out_other y x f (λ r. omega (arith, e, r, k))) in
+      let s = sum_to_same (out y f) f n (λ x k. out_other y x f (λ r. omega (arith, e, r, k))) in
       omega (arith, a, b, s)
   | inr e ↦ let r = sum_out y n f (omega arith) in let o = out_other y n f e in omega (arith, r, o)
 ]
@@ -53,15 +54,6 @@ sum_cleared place f (suc m) n inside one =
     let o = sum_out (place m) n (cleared place f m) (inside m (omega arith)) in
     let c = cleared_away place f m (place m) (λ i l e. let z = one i m (omega arith) (omega arith) e in omega (arith, z, l)) in
     omega (arith, r, o, c)
-
-pub sum_by_alike : {X : Type 0} (f g : X → ℕ) (xs : List X) → All (λ x. f x ≡ g x) xs → sum_by f xs ≡ sum_by g xs
-sum_by_alike f g [] h = refl
-sum_by_alike f g (x ∷ xs) h =
-    let a = sum_by-cons f x xs in
-    let b = sum_by-cons g x xs in
-    let here : f x ≡ g x = h 0 x (omega arith) in
-    let rest = sum_by_alike f g xs (λ k d l. h (suc k) d (omega (arith, l))) in
-    omega (arith, a, b, here, rest)
 
 -- each of the lists has its numbers at places of its own
 pub record AreShares {X : Type 0} (size : X → ℕ) (place : X → ℕ → ℕ) (n : ℕ) (xs : List X) : Type 0 where
@@ -111,7 +103,7 @@ module _ {X : Type 0} (size : X → ℕ) (place : X → ℕ → ℕ) (n : ℕ) w
         ]
       ]) in
       let same = sum_by_alike (λ z. sum_to (λ i. g (place z i)) (size z)) (λ z. sum_to (λ i. f (place z i)) (size z)) xs (λ k d l.
-      sum_alike _ _ (size (slice_index_or xs k d)) (λ j m. cleared_away (place x) f (size x)
+      sum_to_same _ _ (size (slice_index_or xs k d)) (λ j m. cleared_away (place x) f (size x)
       (place (slice_index_or xs k d) j) (λ i b. h.apart 0 (suc k) d (omega arith) (omega (arith, l)) i j b m))) in
       let c = sum_by-cons (λ z. sum_to (λ i. f (place z i)) (size z)) x xs in
       omega (arith, s, rest, same, c)

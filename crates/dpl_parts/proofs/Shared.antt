@@ -15,30 +15,23 @@ use Rattle.dpl_sign.specs.Drawings.{is_in, is_bare, bare_count, dart_count, face
 use Rattle.dpl_sign.specs.Components.{component_of, component_count}
 use Rattle.dpl_sign.specs.Excess.{edge_count, excess, kept_edges}
 use Rattle.dpl_sign.specs.Parity.{passages_on_face, is_clash_edge, is_odd_face}
-use Rattle.dpl_sign.proofs.Loads as loads
+use Rattle.dpl_sign.proofs.Loads.{sum_by_places, sum_to_zero, sum_to_same, sum_to}
 use Rattle.dpl_sign.proofs.ComponentLemmas.{start_below, end_below}
 use Rattle.dpl_sign.proofs.ExcessLemmas.{excess_euler}
+use Rattle.dpl_sign.proofs.Rotation.{face_below}
 use Rattle.dpl_parts.specs.Parts.{IsPartOf, dart, broken_on}
 use Rattle.dpl_parts.specs.Shares.{Part, ShareOut, AgreeWith}
-use Rattle.dpl_parts.proofs.Sums.{sum_to, sums_to, sum_alike}
-use Rattle.dpl_parts.proofs.Places.{AreShares, IsHeld, sum_shared, sum_by_alike}
+use Rattle.dpl_parts.proofs.Sums.{sums_to}
+use Rattle.dpl_parts.proofs.Places.{AreShares, IsHeld, sum_shared}
 use Rattle.dpl_parts.proofs.Darts.{dart_below, dart_apart, edge_apart}
 use Rattle.dpl_parts.proofs.Kept.{keeps_alike}
-use Rattle.dpl_parts.proofs.Counted.{zeros, odd_alike}
-use Rattle.dpl_parts.proofs.Linked.{face_name, face_low}
+use Rattle.dpl_parts.proofs.Counted.{odd_alike}
+use Rattle.dpl_parts.proofs.Linked.{face_name}
 use Rattle.dpl_parts.proofs.FaceNames.{names_face, faces_counted, names_alike, face_up}
 use Rattle.dpl_parts.proofs.PartCounts.{names_counted, bare_alike, components_alike}
+use Rattle.dpl_list.proofs.Sums.{sum_by_alike, sum_by_two}
 
 -- ---- sums over lists
-
-pub sum_by_two : {X : Type 0} (f g : X → ℕ) (xs : List X) → sum_by (λ x. f x + g x) xs ≡ sum_by f xs + sum_by g xs
-sum_by_two f g [] = refl
-sum_by_two f g (x ∷ xs) =
-    let a = sum_by-cons (λ z. f z + g z) x xs in
-    let b = sum_by-cons f x xs in
-    let c = sum_by-cons g x xs in
-    let r = sum_by_two f g xs in
-    omega (arith, a, b, c, r)
 
 pub sum_by_twice : {X : Type 0} (f : X → ℕ) (xs : List X) → sum_by (λ x. 2 * f x) xs ≡ 2 * sum_by f xs
 sum_by_twice f [] = refl
@@ -52,10 +45,6 @@ ones : (n : ℕ) → sum_to (λ x. 1) n ≡ n
 ones zero = refl
 ones (suc n) = let r = ones n in omega (arith, r)
 
-one_sum : (f : ℕ → ℕ) (n : ℕ) → loads.sum_to f n ≡ sum_to f n
-one_sum f zero = refl
-one_sum f (suc n) = let r = one_sum f n in omega (arith, r)
-
 -- ---- odd faces
 
 -- what is not the least dart of a face is no odd face
@@ -65,7 +54,7 @@ not_odd net set f n =
     let none : passages_on_face net set (is_clash_edge net) f ≡ 0 =
     count_on_same m (λ d. set (d / 2) && (face_of net set d == f) && is_clash_edge net (d / 2)) (λ d. false) (λ d l.
     let r = ne_eqb (face_of net set d) f (λ e. n (ap (face_of net set) (sym e) ∙ face_name net set d l ∙ e)) in
-    elim (cases_Bool (set (d / 2))) [ inl t ↦ rw (t, r) refl | inr t ↦ rw t refl ]) ∙ sums_to (λ d. false) (λ x. 1) m ∙ zeros m in
+    elim (cases_Bool (set (d / 2))) [ inl t ↦ rw (t, r) refl | inr t ↦ rw t refl ]) ∙ sums_to (λ d. false) (λ x. 1) m ∙ sum_to_zero m in
     ap (λ z. z % 2 == 1) none
 
 pub odd_up : (part whole : Net) (node edge : ℕ → ℕ) → IsPartOf part whole node edge → (p q : ℕ → Bool) →
@@ -77,7 +66,7 @@ odd_up part whole node edge h p q alike c l =
       | inl e ↦ ap (is_odd_face whole q) (sym (up ∙ ap (dart edge) e)) ∙ odd_alike part whole node edge h p q alike c l ∙ ap (is_odd_face part p) e
       | inr e ↦
           let away : face_of whole q (dart edge c) ≢ dart edge c =
-          λ s. e (dart_apart part whole node edge h (face_of part p c) c (face_low part p c l) l (sym up ∙ s)) in
+          λ s. e (dart_apart part whole node edge h (face_of part p c) c (face_below part p c l) l (sym up ∙ s)) in
           not_odd whole q (dart edge c) away ∙ sym (not_odd part p c e)
     ]
 
@@ -110,7 +99,7 @@ module _ (part whole : Net) (node edge : ℕ → ℕ) (h : IsPartOf part whole n
       rw (k, kind, weight, a, b) refl
 
 cost_by_places : (g : Signed) (colours : List Bool) → cost_of g colours ≡ sum_to (λ e. broken_weight colours (edge_at g e)) (length g.edges)
-cost_by_places g colours = loads.sum_by_places (broken_weight colours) g.edges no_edge ∙ one_sum (λ e. broken_weight colours (edge_at g e)) (length g.edges)
+cost_by_places g colours = sum_by_places (broken_weight colours) g.edges no_edge
 
 -- ---- parts that share out a net
 
@@ -193,7 +182,7 @@ module _ (whole : Net) (parts : List Part) (h : ShareOut whole parts) where
       ∙ sum_by_alike (λ p. sum_to (λ i. broken_weight colours (edge_at whole.graph (p.edge i))) (edges_in p))
       (λ p. cost_of p.net.graph p.colours) parts (λ k d l.
       let p = slice_index_or parts k d in
-      sum_alike (λ i. broken_weight colours (edge_at whole.graph (p.edge i)))
+      sum_to_same (λ i. broken_weight colours (edge_at whole.graph (p.edge i)))
       (λ e. broken_weight p.colours (edge_at p.net.graph e)) (edges_in p)
       (weight_alike p.net whole p.node p.edge (h.are k d l) colours p.colours (agree k d l))
       ∙ sym (cost_by_places p.net.graph p.colours))
@@ -206,7 +195,7 @@ module _ (whole : Net) (parts : List Part) (h : ShareOut whole parts) where
       breaks colours (edge_at whole.graph (p.edge i)) then (edge_at whole.graph (p.edge i)).weight else 0)
       (edges_in p)) (λ p. broken_on p.net p.colours) parts (λ k d l.
       let p = slice_index_or parts k d in
-      sum_alike _ (λ e. if is_in (kept_edges p.net) e &&
+      sum_to_same _ (λ e. if is_in (kept_edges p.net) e &&
       breaks p.colours (edge_at p.net.graph e) then (edge_at p.net.graph e).weight else 0) (edges_in p)
       (kept_weight_alike p.net whole p.node p.edge (h.are k d l) colours p.colours (agree k d l))
       ∙ sym (sums_to (λ e. is_in (kept_edges p.net) e && breaks p.colours (edge_at p.net.graph e)) (λ e. (edge_at p.net.graph e).weight) (edges_in p)))
@@ -221,7 +210,7 @@ module _ (whole : Net) (parts : List Part) (h : ShareOut whole parts) where
       ∙ dart_sum (λ d. if t d then 1 else 0)
       ∙ sum_by_alike (λ p. sum_to (λ i. if t (dart p.edge i) then 1 else 0) (darts_in p)) (λ p. count_on (own p) (darts_in p)) parts (λ k d l.
       let p = slice_index_or parts k d in
-      sum_alike (λ i. if t (dart p.edge i) then 1 else 0) (λ i. if own p i then 1 else 0) (darts_in p)
+      sum_to_same (λ i. if t (dart p.edge i) then 1 else 0) (λ i. if own p i then 1 else 0) (darts_in p)
       (λ c m. ap (λ b. if b then 1 else 0) (same k d l c m)) ∙ sym (sums_to (own p) (λ x. 1) (darts_in p)))
 
   node_count_sum : (t : ℕ → Bool) (own : Part → ℕ → Bool) →
@@ -232,7 +221,7 @@ module _ (whole : Net) (parts : List Part) (h : ShareOut whole parts) where
       ∙ node_sum (λ d. if t d then 1 else 0)
       ∙ sum_by_alike (λ p. sum_to (λ i. if t (p.node i) then 1 else 0) (nodes_in p)) (λ p. count_on (own p) (nodes_in p)) parts (λ k d l.
       let p = slice_index_or parts k d in
-      sum_alike (λ i. if t (p.node i) then 1 else 0) (λ i. if own p i then 1 else 0) (nodes_in p)
+      sum_to_same (λ i. if t (p.node i) then 1 else 0) (λ i. if own p i then 1 else 0) (nodes_in p)
       (λ c m. ap (λ b. if b then 1 else 0) (same k d l c m)) ∙ sym (sums_to (own p) (λ x. 1) (nodes_in p)))
 
   edge_count_sum : (t : ℕ → Bool) (own : Part → ℕ → Bool) → AreAlikeIn t own parts → edge_count whole t ≡ sum_by (λ p. edge_count p.net (own p)) parts
@@ -241,7 +230,7 @@ module _ (whole : Net) (parts : List Part) (h : ShareOut whole parts) where
       ∙ edge_sum (λ d. if t d then 1 else 0)
       ∙ sum_by_alike (λ p. sum_to (λ i. if t (p.edge i) then 1 else 0) (edges_in p)) (λ p. count_on (own p) (edges_in p)) parts (λ k d l.
       let p = slice_index_or parts k d in
-      sum_alike (λ i. if t (p.edge i) then 1 else 0) (λ i. if own p i then 1 else 0) (edges_in p)
+      sum_to_same (λ i. if t (p.edge i) then 1 else 0) (λ i. if own p i then 1 else 0) (edges_in p)
       (λ c m. ap (λ b. if b then 1 else 0) (same k d l c m)) ∙ sym (sums_to (own p) (λ x. 1) (edges_in p)))
 
   module _ (q : ℕ → Bool) (set : Part → ℕ → Bool) (alike : AreAlikeIn q set parts) where

@@ -3,19 +3,11 @@ use Rattle.std.proofs.Common.{arith, ◌≡◌, ◌≢◌, ℕ, zero, suc, ◌+�
 use Rattle.std.specs.Prelude.{if◌then◌else◌}
 use Rattle.std.proofs.lemmas.Bool.{cases_lt, cases_eq}
 use Rattle.dpl_cycle.specs.Sums.{sum_on}
-
--- the sum of all numbers below n
-abbrev pub sum_to : (ℕ → ℕ) → ℕ → ℕ
-sum_to f zero = 0
-sum_to f (suc n) = f n + sum_to f n
+use Rattle.dpl_sign.proofs.Loads.{sum_to_same, sum_to}
 
 pub sums_to : (p : ℕ → Bool) (w : ℕ → ℕ) (n : ℕ) → sum_on p w n ≡ sum_to (λ e. if p e then w e else 0) n
 sums_to p w zero = refl
 sums_to p w (suc n) = let r = sums_to p w n in omega (arith, r)
-
-pub sum_alike : (f g : ℕ → ℕ) (n : ℕ) → ((e : ℕ) → e < n → f e ≡ g e) → sum_to f n ≡ sum_to g n
-sum_alike f g zero h = refl
-sum_alike f g (suc n) h = let r = sum_alike f g n (λ e l. h e (omega arith)) in let s = h n (omega arith) in omega (arith, r, s)
 
 -- two sums over a stretch in which they agree differ as they did before it
 sum_stretch : (f g : ℕ → ℕ) (from n : ℕ) → ((e : ℕ) → from ≤ e → e < from + n → f e ≡ g e) →
@@ -76,7 +68,7 @@ module _ (place : ℕ → ℕ) (m n : ℕ) (h : AreAmong place m n) (f g : ℕ �
   pub sum_part : sum_to f (n) + sum_to (λ x. g (place x)) (m) ≡ sum_to g (n) + sum_to (λ x. f (place x)) (m)
   sum_part = elim (cases_eq (m) 0) [
     | inl z ↦
-        let s : sum_to f (n) ≡ sum_to g (n) = sum_alike f g (n) (λ e l. same e l (λ x c r. absurd (omega arith))) in
+        let s : sum_to f (n) ≡ sum_to g (n) = sum_to_same f g (n) (λ e l. same e l (λ x c r. absurd (omega arith))) in
         let a : sum_to (λ x. g (place x)) (m) ≡ 0 = ap (sum_to (λ x. g (place x))) z in
         let b : sum_to (λ x. f (place x)) (m) ≡ 0 = ap (sum_to (λ x. f (place x))) z in
         omega (arith, s, a, b)

@@ -9,11 +9,12 @@ use Rattle.dpl_sign.specs.Walks.{edge_at}
 use Rattle.dpl_sign.specs.Drawings.{is_in, dart_count}
 use Rattle.dpl_sign.specs.Excess.{kept_edges}
 use Rattle.dpl_sign.proofs.ComponentLemmas.{start_below, end_below}
+use Rattle.dpl_sign.proofs.Rotation.{face_below}
 use Rattle.dpl_parts.specs.Parts.{IsPartOf, dart, face_at, AreOfOneKeptPart}
 use Rattle.dpl_parts.specs.Shares.{Part, ShareOut, AgreeWith, AreTogether}
 use Rattle.dpl_parts.proofs.Darts.{dart_apart}
 use Rattle.dpl_parts.proofs.Kept.{keeps_alike}
-use Rattle.dpl_parts.proofs.Linked.{face_low, links_stay}
+use Rattle.dpl_parts.proofs.Linked.{links_stay}
 use Rattle.dpl_parts.proofs.FaceNames.{face_up}
 use Rattle.dpl_parts.proofs.Stays.{bond_at, bonds_from}
 use Rattle.dpl_parts.proofs.Shared.{edge_held, dart_held}
@@ -46,7 +47,7 @@ face_name_up p whole h c l = face_up p.net whole p.node p.edge h (is_in (kept_ed
 pub face_name_down : (p : Part) (whole : Net) → IsPartOf p.net whole p.node p.edge → (c : ℕ) → c < dart_count p.net →
     face_at whole (dart p.edge c) ≡ dart p.edge c → face_at p.net c ≡ c
 face_name_down p whole h c l name = dart_apart p.net whole p.node p.edge h (face_at p.net c) c
-    (face_low p.net (is_in (kept_edges p.net)) c l) l (sym (face_name_up p whole h c l) ∙ name)
+    (face_below p.net (is_in (kept_edges p.net)) c l) l (sym (face_name_up p whole h c l) ∙ name)
 
 pub are_together : (whole : Net) (parts : List Part) → ShareOut whole parts → (f g : ℕ) → f < dart_count whole →
     face_at whole f ≡ f → AreOfOneKeptPart whole f g → AreTogether parts f g

@@ -2,13 +2,10 @@
 ghost use Rattle.std.specs.Prelude.{◌≡◌, ◌<◌, ◌^◌, ℕ, true, length, slice_index_or, All, IfOk, OnOk, [], ◌∷◌, ◌++◌, if◌then◌else◌};
 ghost use Rattle.dpl_sign.specs.Drawings.{no_port};
 ghost use Rattle.dpl_sign.specs.Walks.{no_edge};
-ghost use Rattle.dpl_sign.specs.Kinds.{IsGraph};
-ghost use Rattle.dpl_sign.specs.Pieces.{FitGraph};
 ghost use Rattle.dpl_parts.specs.Parts.{IsPartOf};
 ghost use Rattle.dpl_parts.specs.Picks.{is_taken, AreClosed, ArePicked, picked_below, is_edge_taken, place_in, IsRenumbered, HasPlaces};
 
-use dpl_list::Items;
-use dpl_sign::{Edge, Net, Port, Signed};
+use dpl_sign::{Edge, Net, Port};
 use std::alloc::{AllocError as NoMemory, Global};
 
 /// The net of some components of another net, and the numbers that its nodes and its edges have there.
@@ -148,32 +145,6 @@ fn gathered_pieces(
     Ok(found)
 }
 
-fn assembled(
-    nodes: u32,
-    edges: Vec<Edge>,
-    ports: Vec<(Port, Port)>,
-    pieces: Vec<u32>,
-    piece_count: u32,
-) -> Net
-    requires graph { IsGraph nodes edges.items }
-    requires net { FitGraph nodes (length edges.items) (length ports.items) pieces.items
-        piece_count }
-    ensures nodes { result.graph.nodes ≡ nodes }
-    ensures edges { result.graph.edges ≡ edges.items }
-    ensures ports { result.ports ≡ ports.items }
-{
-    let edges = Items::new(edges);
-    let graph = Signed { nodes, edges };
-    let ports = Items::new(ports);
-    let pieces = Items::new(pieces);
-    Net {
-        graph,
-        ports,
-        pieces,
-        piece_count,
-    }
-}
-
 /// The net of the picked nodes and the picked edges between them.
 pub fn gather_picked(
     alloc: Global,
@@ -197,7 +168,7 @@ pub fn gather_picked(
         nodes.as_slice(),
         net.piece_count,
     )?;
-    let net = assembled(nodes.len() as u32, found, ports, pieces, net.piece_count);
+    let net = Net::assembled(nodes.len() as u32, found, ports, pieces, net.piece_count);
     Ok(Gathered {
         net,
         nodes,

@@ -4,15 +4,11 @@ use Rattle.std.specs.Prelude.{if◌then◌else◌, ◌⊎◌, ◌↔◌, IsTrue,
 use Rattle.std.proofs.lemmas.Bool.{cases_eq, cases_Bool, both_ways, cond-true, cond-false}
 use Rattle.dpl_cycle.specs.Names.{join}
 use Rattle.dpl_cycle.proofs.NameLemmas.{join_hit, join_miss}
-use Rattle.dpl_cycle.proofs.Least.{least_le}
 use Rattle.dpl_sign.specs.declared.nets.Net.{Net}
 use Rattle.dpl_sign.specs.Drawings.{dart_count, face_of}
 use Rattle.dpl_sign.specs.Parity.{is_crossable, AreNeighbours, IsFacePath, AreOfOnePart}
-use Rattle.dpl_sign.proofs.Rotation.{face_permutes}
+use Rattle.dpl_sign.proofs.Rotation.{face_below}
 use Rattle.dpl_sign.proofs.ComponentLemmas.{join_of}
-
-pub face_below : (net : Net) (set : ℕ → Bool) (d : ℕ) → d < dart_count net → face_of net set d < dart_count net
-face_below net set d h = omega (arith, least_le _ _ _ (face_permutes net set) d h, h)
 
 -- ---- parts are classes
 

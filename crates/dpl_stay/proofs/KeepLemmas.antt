@@ -1,8 +1,8 @@
 -- Old colours laid over new ones on the components that are taken.
-use Rattle.std.proofs.Common.{arith, rules, ◌≡◌, ◌≢◌, ℕ, zero, suc, ◌<◌, ◌==◌, inl, inr, Bool, true, false, List, []}
-use Rattle.std.proofs.Common.{◌∷◌, length, map, refl, sym, ap, subst, ◌∙◌, slice_index_or, replicate}
-use Rattle.std.specs.Prelude.{Option, Some, None, All, is_none, if◌then◌else◌}
-use Rattle.std.proofs.lemmas.Bool.{cases_Bool, both_ways, eq-eqb, eqb-true}
+use Rattle.std.proofs.Common.{arith, ◌≡◌, ℕ, zero, suc, ◌<◌, inl, inr, Bool, true, false, List}
+use Rattle.std.proofs.Common.{length, map, refl, sym, ap, ◌∙◌, slice_index_or, replicate}
+use Rattle.std.specs.Prelude.{Option, Some, None, All, is_none}
+use Rattle.std.proofs.lemmas.Bool.{cases_Bool, eq-eqb, eqb-true}
 use Rattle.std.proofs.lemmas.List.{length-map, length-set, get_or-replicate}
 use Rattle.dpl_cell.specs.declared.rect.Rect.{Rect}
 use Rattle.dpl_sign.specs.declared.edges.Edge.{Edge}
@@ -14,7 +14,7 @@ use Rattle.dpl_parts.specs.Components.{AreComponents, are_one_component}
 use Rattle.dpl_parts.specs.Parts.{IsPartOf, IsMixed}
 use Rattle.dpl_parts.specs.Picks.{is_taken, AreClosed}
 use Rattle.dpl_parts.proofs.JoinedLemmas.{one_number, edge_joins}
-use Rattle.dpl_stay.specs.Same.{corners_at, AreSame, IsNodeOf}
+use Rattle.dpl_stay.specs.Same.{corners_at, AreSame}
 use Rattle.dpl_stay.specs.Pairs.{at}
 use Rattle.dpl_stay.specs.Marks.{has_partner, edge_in, without_ends, unset, without_partners, without_spoiled}
 use Rattle.dpl_stay.specs.Laying.{chosen}

@@ -1,9 +1,10 @@
 -- What is not taken out.
-use Rattle.std.proofs.Common.{arith, rules, ◌≡◌, ◌≢◌, ℕ, zero, suc, ◌<◌, inl, inr, Bool, true, false, List, length}
+use Rattle.std.proofs.Common.{arith, ◌≡◌, ◌≢◌, ℕ, zero, suc, ◌<◌, inl, inr, Bool, true, false, List, length}
 use Rattle.std.proofs.Common.{refl, sym, ap, subst, ◌∙◌, slice_index_or, slice_set}
 use Rattle.std.specs.Prelude.{Option, Some, None, is_none, if◌then◌else◌}
-use Rattle.std.proofs.lemmas.Bool.{cases_eq, cases_lt, cases_Bool, both_ways}
+use Rattle.std.proofs.lemmas.Bool.{cases_eq, cases_lt, both_ways}
 use Rattle.std.proofs.lemmas.List.{get_or-set_same, get_or-set_other, get_or_past, length-set}
+use Rattle.std.proofs.lemmas.Option.{same_Some}
 use Rattle.dpl_sign.specs.declared.edges.Edge.{Edge}
 use Rattle.dpl_stay.specs.Pairs.{at}
 use Rattle.dpl_stay.specs.Marks.{edge_in, without_ends, unset, without_partners, without_spoiled}
@@ -28,12 +29,9 @@ set_keeps xs i v t = elim (cases_eq i v) [
 pub set_stays : (xs : List Bool) (i v : ℕ) → slice_index_or xs v false ≡ true → i ≢ v → slice_index_or (slice_set xs i false) v false ≡ true
 set_stays xs i v t other = set_there xs i v other ∙ t
 
-some_same : (v w : ℕ) → Some v ≡ Some w → v ≡ w
-some_same v w e = cc
-
 unset_keeps : (xs : List Bool) (o : Option ℕ) (v : ℕ) → slice_index_or (unset xs o) v false ≡ true → (slice_index_or xs v false ≡ true) × (o ≢ Some v)
 unset_keeps xs None v t = (t, λ e. absurd (cc))
-unset_keeps xs (Some i) v t = let (u, other) = set_keeps xs i v t in (u, λ e. other (some_same i v e))
+unset_keeps xs (Some i) v t = let (u, other) = set_keeps xs i v t in (u, λ e. other (same_Some i v e))
 
 unset_stays : (xs : List Bool) (o : Option ℕ) (v : ℕ) → slice_index_or xs v false ≡ true → o ≢ Some v → slice_index_or (unset xs o) v false ≡ true
 unset_stays xs None v t other = t

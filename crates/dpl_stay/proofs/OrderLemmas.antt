@@ -1,14 +1,16 @@
 -- The orders are strict, and what stands in order is found at one place.
-use Rattle.std.proofs.Common.{arith, rules, ◌≡◌, ℕ, zero, [], ◌∷◌, ◌<◌, ◌≤◌, ◌⊎◌, inl, inr, Bool, true, false, List}
-use Rattle.std.proofs.Common.{length, map, refl, sym, ap, subst, ◌∙◌, slice_index_or, ℤ, int_lt, ◌<ℤ◌, get_or}
-use Rattle.std.specs.Prelude.{AllPairs, nat_lt, if◌then◌else◌}
+use Rattle.std.proofs.Common.{arith, ◌≡◌, ℕ, [], ◌∷◌, ◌<◌, ◌⊎◌, inl, inr, Bool, true, false, List}
+use Rattle.std.proofs.Common.{length, sym, ap, subst, ◌∙◌, slice_index_or}
+use Rattle.std.specs.Prelude.{AllPairs}
 use Rattle.std.proofs.lemmas.Int.{ints}
-use Rattle.std.proofs.lemmas.Bool.{cases_lt, cases_Bool, both_ways}
-use Rattle.std.proofs.lemmas.List.{get_or-map, get_or_default}
+use Rattle.std.proofs.lemmas.Bool.{cases_lt, both_ways}
+use Rattle.std.proofs.lemmas.List.{get_or-map}
 use Rattle.std.specs.List.Sorted.{IsPartitionedBy, IsPartitionPoint}
 use Rattle.dpl_cell.specs.declared.rect.Rect.{Rect}
 use Rattle.dpl_cell.specs.Places.{Corners, corners_of}
 use Rattle.dpl_cell.specs.Tiles.{IsBefore}
+use Rattle.dpl_cell.proofs.BoxLemmas.{never_before}
+use Rattle.dpl_cell.proofs.OrderLemmas.{before_once}
 use Rattle.dpl_cuts.specs.Positions.{nowhere}
 use Rattle.dpl_sign.specs.declared.edges.Edge.{Edge}
 use Rattle.dpl_sign.specs.Walks.{no_edge}
@@ -109,17 +111,11 @@ rects_rise (q ∷ qs) v w up l m =
     let b = corners_are rects w q m in
     subst (λ c. IsBefore c (corners_at rects w)) (sym a) (subst (λ c. IsBefore (corners_of (slice_index_or rects v q)) c) (sym b) (up v w q l m))
 
-not_both : (a b : Corners) → IsBefore a b → IsBefore b a → ⊥
-not_both a b h k = both_ways _ (before_self a) (before_down a b a h (before_from b a k))
-
-not_itself : (a b : Corners) → IsBefore a b → a ≡ b → ⊥
-not_itself a b h e = not_both a a (subst (IsBefore a) (sym e) h) (subst (IsBefore a) (sym e) h)
-
 pub one_node : (rects : List Rect) → AreRectsInOrder rects → (v w : ℕ) → v < length rects → w < length rects → corners_at rects v ≡ corners_at rects w → v ≡ w
 one_node rects up v w l m e = elim (cases_lt v w) [
-  | inl low ↦ absurd (not_itself _ _ (rects_rise rects v w up low m) e)
+  | inl low ↦ absurd (never_before _ _ e (rects_rise rects v w up low m))
   | inr a ↦ elim (cases_lt w v) [
-    | inl low ↦ absurd (not_itself _ _ (rects_rise rects w v up low l) (sym e))
+    | inl low ↦ absurd (never_before _ _ (sym e) (rects_rise rects w v up low l))
     | inr b ↦ omega (arith, a, b)
   ]
 ]
@@ -130,10 +126,10 @@ pub same_order : (f g : List Rect) → AreRectsInOrder f → AreRectsInOrder g �
 same_order f g uf ug v v' w w' lv lv' lw lw' e e' low = elim (cases_lt w w') [
   | inl less ↦ less
   | inr a ↦ elim (cases_lt w' w) [
-    | inl more ↦ absurd (not_both (corners_at f v) (corners_at f v') (rects_rise f v v' uf low lv')
+    | inl more ↦ absurd (before_once (corners_at f v) (corners_at f v') (rects_rise f v v' uf low lv')
         (subst (λ c. IsBefore c (corners_at f v)) e' (subst (λ c. IsBefore (corners_at g w') c) e (rects_rise g w' w ug more lw))))
     | inr b ↦
         let same : w ≡ w' = omega (arith, a, b) in
-        absurd (not_itself _ _ (rects_rise f v v' uf low lv') (sym e ∙ ap (corners_at g) same ∙ e'))
+        absurd (never_before _ _ (sym e ∙ ap (corners_at g) same ∙ e') (rects_rise f v v' uf low lv'))
   ]
 ]

@@ -1,18 +1,15 @@
 -- What is alike is alone.
-use Rattle.std.proofs.Common.{arith, rules, ◌≡◌, ℕ, ◌<◌, inl, inr, true, false, List, length, refl, sym, ap, subst, ◌∙◌, slice_index_or}
-use Rattle.std.specs.Prelude.{Option, Some, None}
+use Rattle.std.proofs.Common.{arith, ◌≡◌, ℕ, ◌<◌, inl, inr, true, List, length, refl, sym, ap, subst, ◌∙◌, slice_index_or}
+use Rattle.std.specs.Prelude.{Option, Some}
 use Rattle.std.proofs.lemmas.Bool.{cases_lt, both_ways}
+use Rattle.std.proofs.lemmas.Option.{same_Some}
 use Rattle.dpl_sign.specs.declared.edges.Edge.{Edge}
 use Rattle.dpl_sign.specs.declared.nets.Net.{Net}
 use Rattle.dpl_sign.specs.declared.ports.Port.{Port}
 use Rattle.dpl_sign.specs.Walks.{no_edge, edge_at}
-use Rattle.dpl_stay.specs.declared.finding.Key.{Key}
 use Rattle.dpl_stay.specs.Order.{rank_of, key_of, key_before, AreEdgesInOrder}
 use Rattle.dpl_stay.specs.Pairs.{at, IsAlikeBy}
 use Rattle.dpl_stay.proofs.OrderLemmas.{key_self}
-
-pub some_one : (a b : ℕ) → Some a ≡ Some b → a ≡ b
-some_one a b e = cc
 
 -- no two edges have one key
 pub one_edge : (edges : List Edge) → AreEdgesInOrder edges → (d f : ℕ) → d < length edges → f < length edges
@@ -32,7 +29,7 @@ pub alike_key : (partners : List (Option ℕ)) (m : Net) (e : Edge) (p : Port ×
     IsAlikeBy partners m e p d → at partners e.a ≡ Some a → at partners e.b ≡ Some b
     → key_of (edge_at m.graph d) ≡ record { rank = rank_of e.kind; a = a; b = b }
 alike_key partners m e p d a b h ea eb =
-    let x : (edge_at m.graph d).a ≡ a = some_one _ _ (sym h.first ∙ ea) in
-    let y : (edge_at m.graph d).b ≡ b = some_one _ _ (sym h.second ∙ eb) in
+    let x : (edge_at m.graph d).a ≡ a = same_Some _ _ (sym h.first ∙ ea) in
+    let y : (edge_at m.graph d).b ≡ b = same_Some _ _ (sym h.second ∙ eb) in
     let z : rank_of (edge_at m.graph d).kind ≡ rank_of e.kind = ap rank_of h.kind in
     rw (x, y, z) refl

@@ -1,28 +1,23 @@
 -- The components that are taken are a part of both nets, and each component that is the same is taken.
-use Rattle.std.proofs.Common.{arith, rules, ◌≡◌, ◌≢◌, ◌⊎◌, ℕ, zero, suc, ◌<◌, ◌==◌, inl, inr, Bool, true, false, List}
-use Rattle.std.proofs.Common.{length, map, refl, sym, ap, subst, ◌∙◌, slice_index_or, [], ◌∷◌, ◌+◌, ◌*◌}
+use Rattle.std.proofs.Common.{arith, ◌≡◌, ◌⊎◌, ℕ, zero, suc, ◌<◌, inl, inr, Bool, true, false, List}
+use Rattle.std.proofs.Common.{length, map, refl, sym, ap, subst, ◌∙◌, slice_index_or, [], ◌∷◌}
 use Rattle.std.specs.Prelude.{Option, Some, None, is_none, is_some}
-use Rattle.std.proofs.lemmas.Bool.{cases_eq, cases_lt, cases_Bool, both_ways, eq-eqb, eqb-true}
-use Rattle.std.proofs.lemmas.List.{get_or-map, length-map}
+use Rattle.std.proofs.lemmas.Bool.{cases_lt, both_ways, eq-eqb, eqb-true}
+use Rattle.std.proofs.lemmas.Option.{same_Some}
 use Rattle.dpl_cell.specs.declared.rect.Rect.{Rect}
-use Rattle.dpl_sign.specs.declared.edges.Edge.{Edge}
 use Rattle.dpl_sign.specs.declared.nets.Net.{Net}
-use Rattle.dpl_sign.specs.Colourings.{colour_of}
-use Rattle.dpl_sign.specs.Components.{component_of}
-use Rattle.dpl_sign.specs.Excess.{all_edges}
-use Rattle.dpl_sign.specs.Drawings.{no_port}
 use Rattle.dpl_sign.specs.Walks.{no_edge, edge_at}
 use Rattle.dpl_sign.proofs.ComponentLemmas.{start_below, end_below}
-use Rattle.dpl_parts.specs.Components.{AreComponents, are_one_component}
-use Rattle.dpl_parts.specs.Parts.{IsPartOf, IsMixed}
-use Rattle.dpl_parts.proofs.JoinedLemmas.{one_number, edge_joins}
-use Rattle.dpl_stay.specs.Same.{corners_at, ports_at, AreAlike, IsNodeOf, IsEdgeOf, AreSame}
+use Rattle.dpl_parts.specs.Components.{are_one_component}
+use Rattle.dpl_parts.specs.Parts.{IsPartOf}
+use Rattle.dpl_parts.proofs.JoinedLemmas.{edge_joins}
+use Rattle.dpl_stay.specs.Same.{corners_at, ports_at, IsNodeOf, IsEdgeOf, AreSame}
 use Rattle.dpl_stay.specs.Order.{rank_of, key_of, key_before, AreRectsInOrder, AreEdgesInOrder}
 use Rattle.dpl_stay.specs.Pairs.{at, IsNodeAt, ArePartners, IsAlikeBy, IsTwinBy, AreTwinsBy}
-use Rattle.dpl_stay.specs.Marks.{has_partner, edge_in, without_ends, without_partners}
+use Rattle.dpl_stay.specs.Marks.{has_partner, without_ends, without_partners}
 use Rattle.dpl_stay.specs.Staying.{number_or_zero}
 use Rattle.dpl_stay.proofs.OrderLemmas.{one_node, same_order, KeyBefore, key_from, key_to, key_down, key_self}
-use Rattle.dpl_stay.proofs.PairLemmas.{one_edge, some_one}
+use Rattle.dpl_stay.proofs.PairLemmas.{one_edge}
 use Rattle.dpl_stay.proofs.MarkLemmas.{ends_keep, ends_stay, partners_keep, partners_stay}
 
 -- two nets, f and n the new one, g and m the old one
@@ -63,13 +58,10 @@ none_some : (o : Option ℕ) (v : ℕ) → is_none o ≡ true → o ≡ Some v �
 none_some None v e s = absurd (cc)
 none_some (Some w) v e s = absurd (cc)
 
-has_some : (o : Option ℕ) → is_some o ≡ true → (v : ℕ) × (o ≡ Some v)
-has_some None e = absurd (cc)
-has_some (Some v) e = (v, refl)
-
 partner_at : (ps : List (Option ℕ)) (v : ℕ) → slice_index_or (map has_partner ps) v false ≡ true → (w : ℕ) × (at ps v ≡ Some w)
 partner_at [] v t = absurd (cc)
-partner_at (p ∷ ps) zero t = has_some p t
+partner_at (None ∷ ps) zero t = absurd (cc)
+partner_at (Some v ∷ ps) zero t = (v, refl)
 partner_at (p ∷ ps) (suc v) t = partner_at ps v t
 
 partner_there : (ps : List (Option ℕ)) (v w : ℕ) → at ps v ≡ Some w → slice_index_or (map has_partner ps) v false ≡ true
@@ -152,7 +144,7 @@ module _ (f g : List Rect) (n m : Net) (ps qs ts us : List (Option ℕ)) (h : Ar
       partner_found g f qs h.back h.nets.new_order w v low l (sym same)
 
   one_partner : (v v' w : ℕ) → v < length f → v' < length f → at ps v ≡ Some w → at ps v' ≡ Some w → v ≡ v'
-  one_partner v v' w l l' e e' = some_one _ _ (sym (partner_back v w l e) ∙ partner_back v' w l' e')
+  one_partner v v' w l l' e e' = same_Some _ _ (sym (partner_back v w l e) ∙ partner_back v' w l' e')
 
   -- partners stand in the same order
   partners_rise : (v v' w w' : ℕ) → v < length f → v' < length f → at ps v ≡ Some w → at ps v' ≡ Some w' → v < v' → w < w'
@@ -168,7 +160,7 @@ module _ (f g : List Rect) (n m : Net) (ps qs ts us : List (Option ℕ)) (h : Ar
       | inl more ↦ let r = partners_rise v' v w' w l' l e' e more in absurd (omega (arith, r, low))
       | inr b ↦
           let same : v ≡ v' = omega (arith, a, b) in
-          let s : w ≡ w' = some_one _ _ (sym e ∙ ap (at ps) same ∙ e') in
+          let s : w ≡ w' = same_Some _ _ (sym e ∙ ap (at ps) same ∙ e') in
           absurd (omega (arith, s, low))
     ]
   ]
@@ -245,8 +237,8 @@ module _ (f g : List Rect) (n m : Net) (ps qs ts us : List (Option ℕ)) (h : Ar
       let (lx, own) = twin_is n m ps ts h.twins e x le te in
       let a_in : (edge_at m.graph d).a < length g = let b = start_below m.graph d ld in let k = h.nets.old_nodes in omega (arith, b, k) in
       let b_in : (edge_at m.graph d).b < length g = let b = end_below m.graph d ld in let k = h.nets.old_nodes in omega (arith, b, k) in
-      let first : (edge_at m.graph x).a ≡ (edge_at m.graph d).a = some_one _ _ (sym own.first ∙ partner_forth _ _ a_in back.first) in
-      let second : (edge_at m.graph x).b ≡ (edge_at m.graph d).b = some_one _ _ (sym own.second ∙ partner_forth _ _ b_in back.second) in
+      let first : (edge_at m.graph x).a ≡ (edge_at m.graph d).a = same_Some _ _ (sym own.first ∙ partner_forth _ _ a_in back.first) in
+      let second : (edge_at m.graph x).b ≡ (edge_at m.graph d).b = same_Some _ _ (sym own.second ∙ partner_forth _ _ b_in back.second) in
       let rank : rank_of (edge_at m.graph x).kind ≡ rank_of (edge_at m.graph d).kind = ap rank_of (own.kind ∙ back.kind) in
       let one : key_of (edge_at m.graph x) ≡ key_of (edge_at m.graph d) = rw (first, second, rank) refl in
       one_edge m.graph.edges h.nets.old_edges x d lx ld one
@@ -281,8 +273,8 @@ module _ (f g : List Rect) (n m : Net) (ps qs ts us : List (Option ℕ)) (h : Ar
       edges = λ j l. (alike j l).0;
       order = λ i j low l. let k : i < length part.graph.edges = omega (arith, low, l) in
           twins_rise f g n m ps qs ts us h (edge i) (edge j) _ _ (p.edges i k) (p.edges j l) (at_twin i k) (at_twin j l) (p.order i j low l);
-      first = λ j l. some_one _ _ (sym (alike j l).1.first ∙ ap (at ps) (p.first j l) ∙ at_partner _ (start_below part.graph j l));
-      second = λ j l. some_one _ _ (sym (alike j l).1.second ∙ ap (at ps) (p.second j l) ∙ at_partner _ (end_below part.graph j l));
+      first = λ j l. same_Some _ _ (sym (alike j l).1.first ∙ ap (at ps) (p.first j l) ∙ at_partner _ (start_below part.graph j l));
+      second = λ j l. same_Some _ _ (sym (alike j l).1.second ∙ ap (at ps) (p.second j l) ∙ at_partner _ (end_below part.graph j l));
       kind = λ j l. (alike j l).1.kind ∙ p.kind j l;
       weight = λ j l. (alike j l).1.weight ∙ p.weight j l;
       ports = λ j l. sym (alike j l).1.ports ∙ p.ports j l;
@@ -296,8 +288,8 @@ module _ (f g : List Rect) (n m : Net) (ps qs ts us : List (Option ℕ)) (h : Ar
           let s = (fine v k).edges_back d l (elim near [ inl e ↦ inl (ap (at qs) e ∙ back) | inr e ↦ inr (ap (at qs) e ∙ back) ]) in
           let (le, a) = twin_is m n qs us h.twins_back d s.0 l s.1 in
           let c = p.closed s.0 v le k (elim near [
-            | inl e ↦ inl (some_one _ _ (sym a.first ∙ ap (at qs) e ∙ back))
-            | inr e ↦ inr (some_one _ _ (sym a.second ∙ ap (at qs) e ∙ back))
+            | inl e ↦ inl (same_Some _ _ (sym a.first ∙ ap (at qs) e ∙ back))
+            | inr e ↦ inr (same_Some _ _ (sym a.second ∙ ap (at qs) e ∙ back))
           ]) in
           let te : at ts s.0 ≡ Some (number_or_zero (at ts (edge c.0))) = ap (at ts) (sym c.2) ∙ at_twin c.0 c.1 in
           (c.0, c.1, twin_forth d s.0 _ l le s.1 te)

@@ -1,5 +1,5 @@
 -- Nodes that are taken out, one after another.
-use Rattle.std.specs.Prelude.{ℕ, zero, suc, Bool, true, false, List, length, slice_index_or, slice_set, Option, Some, None, is_none, is_some, if◌then◌else◌}
+use Rattle.std.specs.Prelude.{ℕ, zero, suc, Bool, false, List, slice_index_or, slice_set, Option, Some, None, is_none, is_some, if◌then◌else◌}
 use Rattle.dpl_sign.specs.declared.edges.Edge.{Edge}
 use Rattle.dpl_sign.specs.Walks.{no_edge}
 use Rattle.dpl_stay.specs.Pairs.{at}

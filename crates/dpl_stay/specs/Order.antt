@@ -1,11 +1,12 @@
 -- The order of rectangles and of edges.
-use Rattle.std.specs.Prelude.{◌≡◌, ℕ, Bool, true, false, nat_lt, int_lt, List, AllPairs, if◌then◌else◌}
+use Rattle.std.specs.Prelude.{◌≡◌, ℕ, Bool, true, false, nat_lt, int_lt, List, length, AllPairs, if◌then◌else◌}
 use Rattle.dpl_cell.specs.declared.rect.Rect.{Rect}
 use Rattle.dpl_cell.specs.Places.{Corners, corners_of}
 use Rattle.dpl_cell.specs.Tiles.{IsBefore}
 use Rattle.dpl_sign.specs.declared.edges.Kind.{Kind}
 use Rattle.dpl_sign.specs.declared.edges.Kind.TheVariants.{Bond, Stitch, Clash}
 use Rattle.dpl_sign.specs.declared.edges.Edge.{Edge}
+use Rattle.dpl_sign.specs.declared.nets.Net.{Net}
 use Rattle.dpl_stay.specs.declared.finding.Key.{Key}
 
 -- lower, or at one height and further left
@@ -34,3 +35,9 @@ AreRectsInOrder rects = AllPairs (λ r s. IsBefore (corners_of r) (corners_of s)
 -- the edges stand in order, no two of one kind with the same ends
 abbrev pub AreEdgesInOrder : List Edge → Type 0
 AreEdgesInOrder edges = AllPairs (λ e f. key_before (key_of e) (key_of f) ≡ true) edges
+
+-- rectangles in order, and a net of as many nodes with its edges in order
+pub record IsInOrder (rects : List Rect) (net : Net) : Type 0 where
+  pub order : AreRectsInOrder rects
+  pub edges : AreEdgesInOrder net.graph.edges
+  pub nodes : net.graph.nodes ≡ length rects

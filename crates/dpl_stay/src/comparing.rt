@@ -1,6 +1,6 @@
 // Which components stay.
 ghost use Rattle.std.specs.Prelude.{◌≡◌, ◌<◌, ℕ, length, map, IfOk};
-ghost use Rattle.dpl_stay.specs.Order.{AreRectsInOrder, AreEdgesInOrder};
+ghost use Rattle.dpl_stay.specs.Order.{IsInOrder};
 ghost use Rattle.dpl_stay.specs.Marks.{has_partner, without_ends, without_partners};
 ghost use Rattle.dpl_stay.specs.Staying.{AreStaying};
 
@@ -26,12 +26,8 @@ pub fn compare(
     rects: &[Rect],
     net: &Net,
 ) -> Result<Staying, NoMemory>
-    requires old_order { AreRectsInOrder old_rects.now }
-    requires old_edges { AreEdgesInOrder old.now.graph.edges }
-    requires old_nodes { old.now.graph.nodes ≡ length old_rects.now }
-    requires order { AreRectsInOrder rects.now }
-    requires edges { AreEdgesInOrder net.now.graph.edges }
-    requires nodes { net.now.graph.nodes ≡ length rects.now }
+    requires old { IsInOrder old_rects.now old.now }
+    requires new { IsInOrder rects.now net.now }
     ensures { IfOk result (λ s.
         AreStaying rects.now old_rects.now net.now old.now s.partners.items s.taken.items) }
 {
@@ -39,15 +35,17 @@ pub fn compare(
     let back = partners(alloc, old_rects, rects)?;
     let twins_there = twins(alloc, net, there.as_slice(), old)?;
     let twins_back = twins(alloc, old, back.as_slice(), net)?;
-    let fine = fine_nodes(
-        alloc,
+    let here = Matched {
         net,
-        there.as_slice(),
-        twins_there.as_slice(),
-        old,
-        back.as_slice(),
-        twins_back.as_slice(),
-    )?;
+        partners: there.as_slice(),
+        twins: twins_there.as_slice(),
+    };
+    let before = Matched {
+        net: old,
+        partners: back.as_slice(),
+        twins: twins_back.as_slice(),
+    };
+    let fine = fine_nodes(alloc, &here, &before)?;
     let (number, count) = counted_components(alloc, net)?;
     let taken = of_whole_components(alloc, fine.as_slice(), number.as_slice(), count)?;
     Ok(Staying {
@@ -56,32 +54,36 @@ pub fn compare(
     })
 }
 
+/// A net, with what stands for its nodes and its edges in another.
+#[derive(Clone, Copy)]
+struct Matched<'a> {
+    net: &'a Net,
+    partners: &'a [Option<u32>],
+    twins: &'a [Option<u32>],
+}
+
 /// Which nodes have a partner, and all their edges and the edges at the partner a twin.
-fn fine_nodes(
-    alloc: Global,
-    net: &Net,
-    there: &[Option<u32>],
-    twins_there: &[Option<u32>],
-    old: &Net,
-    back: &[Option<u32>],
-    twins_back: &[Option<u32>],
-) -> Result<Vec<bool>, NoMemory>
-    requires nodes { length there.now ≡ net.now.graph.nodes }
-    requires old_nodes { length back.now ≡ old.now.graph.nodes }
-    requires edges { length twins_there.now ≡ length net.now.graph.edges }
-    requires old_edges { length twins_back.now ≡ length old.now.graph.edges }
-    ensures { IfOk result (λ v. v.items ≡
-        without_partners old.now.graph.edges twins_back.now back.now
-        (without_ends net.now.graph.edges twins_there.now (map has_partner there.now)
-        (length net.now.graph.edges)) (length old.now.graph.edges)) }
+fn fine_nodes(alloc: Global, new: &Matched<'_>, old: &Matched<'_>) -> Result<Vec<bool>, NoMemory>
+    requires nodes { length new.now.partners.now ≡ new.now.net.now.graph.nodes }
+    requires old_nodes { length old.now.partners.now ≡ old.now.net.now.graph.nodes }
+    requires edges { length new.now.twins.now ≡ length new.now.net.now.graph.edges }
+    requires old_edges { length old.now.twins.now ≡ length old.now.net.now.graph.edges }
+    ensures { IfOk result (λ v. v.items ≡ without_partners old.now.net.now.graph.edges
+        old.now.twins.now old.now.partners.now (without_ends new.now.net.now.graph.edges
+        new.now.twins.now (map has_partner new.now.partners.now)
+        (length new.now.net.now.graph.edges)) (length old.now.net.now.graph.edges)) }
 {
-    let mut fine = with_partner(alloc, there)?;
-    take_ends(fine.as_mut_slice(), net.graph.edges.as_slice(), twins_there);
+    let mut fine = with_partner(alloc, new.partners)?;
+    take_ends(
+        fine.as_mut_slice(),
+        new.net.graph.edges.as_slice(),
+        new.twins,
+    );
     take_partners(
         fine.as_mut_slice(),
-        old.graph.edges.as_slice(),
-        twins_back,
-        back,
+        old.net.graph.edges.as_slice(),
+        old.twins,
+        old.partners,
     );
     Ok(fine)
 }

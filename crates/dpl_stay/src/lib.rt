@@ -8,6 +8,6 @@ mod laying;
 mod marking;
 mod pairing;
 
-pub use keeping::keep_colours;
+pub use keeping::{Coloured, keep_colours};
 pub use pairing::partners;
 pub use std::alloc::AllocError as NoMemory;

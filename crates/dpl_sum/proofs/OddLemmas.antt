@@ -11,12 +11,13 @@ use Rattle.dpl_cycle.proofs.SumLemmas.{count_on_same}
 use Rattle.dpl_sign.specs.declared.nets.Net.{Net}
 use Rattle.dpl_sign.specs.Drawings.{dart_count, face_of}
 use Rattle.dpl_sign.specs.Parity.{passages_on_face, is_clash_edge, is_odd_face, AreOfOnePart}
+use Rattle.dpl_sign.proofs.Rotation.{face_below}
+use Rattle.dpl_sign.proofs.Loads.{sum_to_zero}
 use Rattle.dpl_parts.specs.Parts.{IsPartOf, dart, face_at}
 use Rattle.dpl_parts.specs.Shares.{Part, ShareOut}
-use Rattle.dpl_parts.proofs.Counted.{zeros}
 use Rattle.dpl_parts.proofs.Darts.{dart_apart}
 use Rattle.dpl_parts.proofs.Kept.{keeps_alike}
-use Rattle.dpl_parts.proofs.Linked.{face_low, links_alike, links_stay}
+use Rattle.dpl_parts.proofs.Linked.{links_alike, links_stay}
 use Rattle.dpl_parts.proofs.Shared.{dart_held, not_odd, odd_up}
 use Rattle.dpl_parts.proofs.Sums.{sums_to}
 use Rattle.dpl_parts.proofs.Together.{face_name_up, face_name_down}
@@ -62,8 +63,8 @@ past_odd net set f far =
     let m = dart_count net in
     let none : passages_on_face net set (is_clash_edge net) f ≡ 0 =
     count_on_same m (λ d. set (d / 2) && (face_of net set d == f) && is_clash_edge net (d / 2)) (λ d. false) (λ d l.
-    let r = ne_eqb (face_of net set d) f (λ e. let low = face_low net set d l in omega (arith, e, low, far)) in
-    elim (cases_Bool (set (d / 2))) [ inl t ↦ rw (t, r) refl | inr t ↦ rw t refl ]) ∙ sums_to (λ d. false) (λ x. 1) m ∙ zeros m in
+    let r = ne_eqb (face_of net set d) f (λ e. let low = face_below net set d l in omega (arith, e, low, far)) in
+    elim (cases_Bool (set (d / 2))) [ inl t ↦ rw (t, r) refl | inr t ↦ rw t refl ]) ∙ sums_to (λ d. false) (λ x. 1) m ∙ sum_to_zero m in
     ap (λ z. z % 2 == 1) none
 
 odd_low : (net : Net) (set : ℕ → Bool) (f : ℕ) → is_odd_face net set f ≡ true → f < dart_count net

@@ -17,8 +17,7 @@ use Rattle.dpl_sign.proofs.WalkLemmas.{bound_small}
 use Rattle.dpl_parts.specs.Parts.{IsPartOf, dart, broken_on}
 use Rattle.dpl_parts.specs.Shares.{Part, ShareOut, AgreeWith, all_cycles}
 use Rattle.dpl_parts.proofs.Kept.{keeps_alike}
-use Rattle.dpl_parts.proofs.Places.{sum_by_alike}
-use Rattle.dpl_parts.proofs.Shared.{sum_by_two, sum_by_twice, cost_sum, broken_sum, faces_sum, odd_sum, kept_alike}
+use Rattle.dpl_parts.proofs.Shared.{sum_by_twice, cost_sum, broken_sum, faces_sum, odd_sum, kept_alike}
 use Rattle.dpl_parts.proofs.Packed.{walk_inside, all_have, bound_sum, count_sum, packing_sum, once_sum}
 use Rattle.dpl_parts.proofs.Together.{colouring_sum}
 use Rattle.dpl_solve.specs.Named.{keeps, odd_faces, AreOddTogether}
@@ -26,6 +25,7 @@ use Rattle.dpl_solve.specs.Solved.{IsSolution, IsRefused, KeepToKept, kept_cost,
 use Rattle.dpl_solve.proofs.FinishLemmas.{cost_parted}
 use Rattle.dpl_sum.specs.Solved.{IsSolved, HasAtMost, IsRefusedIn}
 use Rattle.dpl_sum.proofs.OddLemmas.{odd_counted, together_up, in_one, most_sum}
+use Rattle.dpl_list.proofs.Sums.{sum_by_alike, sum_by_two}
 
 -- a solution says its own numbers
 pub as_solved : (p : Part) (cost : ℕ) (aside : List ℕ) (excess' bound : ℕ) → IsSolution p.net p.colours cost aside excess' p.cycles bound → IsSolved p

@@ -3,7 +3,7 @@ use Rattle.std.proofs.Common.{arith, ◌≡◌, ◌⊎◌, ℕ, zero, suc, ◌-�
 use Rattle.std.proofs.Common.{map, refl, sym, ap, subst, ◌∙◌, length-append}
 use Rattle.std.specs.Prelude.{All, Contains, slice_index_or, IfOk, Result, Ok, Err}
 use Rattle.std.proofs.lemmas.Bool.{cases_eq, cases_lt}
-use Rattle.std.proofs.lemmas.List.{append-nil, append_assoc, map-append, length-map, get_or-map}
+use Rattle.std.proofs.lemmas.List.{append-nil, append_assoc, map-append, length-map, get_or-map, get_or_push}
 use Rattle.std.proofs.lemmas.List.Elements.{All-map, All-push}
 use Rattle.dpl_sign.specs.declared.nets.Net.{Net}
 use Rattle.dpl_parts.specs.declared.gathering.Gathered.{Gathered}
@@ -162,10 +162,6 @@ one_more parts p n r = found r.among where
       let size = length-append parts (p ∷ []) in
       record { part = r.part; among = (k, omega (arith, l, size), front_at parts (p ∷ []) k r.part l ∙ e); refused = r.refused }
 
-at_end : {X : Type 0} (xs : List X) (x d : X) → slice_index_or (xs ++ x ∷ []) (length xs) d ≡ x
-at_end [] x d = refl
-at_end (y ∷ xs) x d = at_end xs x d
-
 pub one_solved : (parts : List Gathered) (solved new : List SolvedPart) (most : ℕ) (p : Gathered) (s : SolvedPart) →
     AreSolvedTo parts solved most → s.part ≡ p → IsSolved (solved_part s) → new ≡ solved ++ s ∷ [] →
     AreSolvedTo (parts ++ p ∷ []) new most
@@ -192,7 +188,8 @@ one_refused parts solved most new count p h r is =
         | inl low ↦
             let same : count ≡ new = omega (arith, is, low) in
             let size = length-append parts (p ∷ []) in
-            let r' : IsOneRefused (parts ++ p ∷ []) count = record { part = p; among = (length parts, omega (arith, size), at_end parts p p); refused = r } in
+            let end = get_or_push parts p p (length parts) refl in
+            let r' : IsOneRefused (parts ++ p ∷ []) count = record { part = p; among = (length parts, omega (arith, size), end); refused = r } in
             subst (IsOneRefused (parts ++ p ∷ [])) same r'
         | inr far ↦
             let same : most ≡ new = omega (arith, is, far) in

@@ -2,10 +2,10 @@ use Rattle.std.proofs.Common.{arith, rules, ◌≡◌, ◌<◌, sym, ap, ◌∙�
 use Rattle.std.proofs.lemmas.Bool.{both_ways, and_parts, and_from, eqb-true}
 use Rattle.std.proofs.Common.{eq-eqb}
 use Rattle.std.proofs.lemmas.List.{get_or_read}
-use Rattle.dpl_drawing.proofs.CycleLemmas.{refill}
 use Rattle.dpl_drawing.proofs.NumberLemmas.{numbered_skip, numbered_more, numbered_fresh, numbered_at, count_below, low_below}
 use Rattle.dpl_drawing.proofs.numbering.number.Goals.{then-is_in-fresh, else-is_in-fresh}
 use Rattle.dpl_drawing.proofs.numbering.number.Goals as goal
+use Rattle.dpl_list.proofs.Lists.{refilled}
 
 pub overflow_add-count : goal.overflow_add-count
 overflow_add-count c =
@@ -36,7 +36,7 @@ loop-dart-preserved c =
           let parts = and_parts _ _ w.if-is_in-fresh.true in
           let t = sym c.is_in.ensures ∙ parts.0 in
           let marks = rw w.deref_mut.ensures.value at w.mark.ensures in
-          let whole = refill c.loop-dart.numbers.len w.mark.new.labels c.loop-dart.numbers.items
+          let whole = refilled c.loop-dart.numbers.len w.mark.new.labels c.loop-dart.numbers.items
           c.loop-dart.numbers.ok.0 (w.mark.ensures.lengths ∙ ap length w.deref_mut.ensures.value) in
           rw (w.numbers-is, w.count-is) (numbered_at _ _ _ _ _ _ _ whole
           (numbered_more _ _ _ _ _ _ _ _ c.requires.ring.1 here big c.loop-dart.invariant t

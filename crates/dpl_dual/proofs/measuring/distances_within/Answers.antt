@@ -5,4 +5,4 @@ pub measure-requires-clause-ways : goal.measure-requires-clause-ways
 measure-requires-clause-ways c = rw c.as_slice.ensures (dual_ways _ c.requires.dual)
 
 pub measure-requires-clause-rows : goal.measure-requires-clause-rows
-measure-requires-clause-rows c = rw (c.as_slice.ensures, c.as_slice-2.ensures) (dual_rows _ c.requires.dual)
+measure-requires-clause-rows c = rw c.as_slice.ensures (dual_rows _ c.requires.dual)

@@ -1,6 +1,6 @@
-use Rattle.std.proofs.lemmas.Result.{on_ok_weaker}
-use Rattle.dpl_dual.proofs.ServedLemmas.{taken_added, taken_served}
+use Rattle.dpl_dual.proofs.ServedLemmas.{taken_added}
 use Rattle.dpl_dual.proofs.rows.take.Goals as goal
 
 pub returns : goal.returns
-returns c = on_ok_weaker c.add.result (λ e. taken_added _ _ c.args.face _ c.requires e) c.add.ensures
+returns c = taken_added c.args.listed.now.faces.items _ c.args.listed.now.ways.items _ c.args.face c.args.way c.requires.sizes
+    c.in_ok-add.ensures.faces c.in_ok-add.ensures.ways

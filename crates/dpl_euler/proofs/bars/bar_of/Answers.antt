@@ -1,9 +1,9 @@
 use Rattle.std.proofs.Common.{arith, ℕ, List, ap, ◌∙◌, length, get_or}
 use Rattle.dpl_sign.proofs.WalkLemmas.{edge_is}
+use Rattle.dpl_sign.proofs.ComponentLemmas.{ends_below}
 use Rattle.dpl_drawing.proofs.FaceLists.{leads_back}
 use Rattle.dpl_map.specs.Maps.{is_kept}
 use Rattle.dpl_euler.proofs.BarLemmas.{edge_first, joined_in, bar_is}
-use Rattle.dpl_euler.proofs.RowLemmas.{ends_inside}
 use Rattle.dpl_euler.proofs.bars.bar_of.Goals as goal
 
 pub overflow_mul-edge : goal.overflow_mul-edge
@@ -31,13 +31,13 @@ pub walk-requires-clause-from : goal.walk-requires-clause-from
 walk-requires-clause-from c =
     let f = edge_first c.args.net.now _ _ c.requires.aside c.requires.some c.index-edge.ensures in
     let ends = edge_is c.args.net.now.graph _ _ _ c.as_slice-2.ensures (omega (arith, f.inside, ap length c.as_slice-2.ensures)) c.index-as_slice-edge.is in
-    rw ends (ends_inside c.args.net.now.graph _ f.inside).0
+    rw ends (ends_below c.args.net.now.graph _ f.inside).0
 
 pub walk-requires-clause-to : goal.walk-requires-clause-to
 walk-requires-clause-to c =
     let f = edge_first c.args.net.now _ _ c.requires.aside c.requires.some c.index-edge.ensures in
     let ends = edge_is c.args.net.now.graph _ _ _ c.as_slice-2.ensures (omega (arith, f.inside, ap length c.as_slice-2.ensures)) c.index-as_slice-edge.is in
-    rw ends (ends_inside c.args.net.now.graph _ f.inside).1
+    rw ends (ends_below c.args.net.now.graph _ f.inside).1
 
 pub walk-requires-clause-joined : goal.walk-requires-clause-joined
 walk-requires-clause-joined c =

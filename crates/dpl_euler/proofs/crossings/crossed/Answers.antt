@@ -13,9 +13,9 @@ returns-in-Some-first_fragment-clause-some c = found_is c.args.fragments.now c.a
 
 pub returns-clause-none : goal.returns-clause-none
 returns-clause-none c = λ _ w with.
-    nothing_crossed c.args.fragments.now c.args.net.now c.args.links.now c.args.by_link.now c.args.by_rect.now
+    nothing_crossed c.args.fragments.now c.args.net.now c.args.links.now c.args.bounded.now.links c.args.bounded.now.diagonals
     c.bounds_of-window.result c.in_ok-found.found.items c.in_ok-also.also.items c.args.edge
-    c.index-links-edge.result c.requires.links c.requires.by_link c.requires.by_rect c.requires.edge
+    c.index-links-edge.result c.requires.links c.requires.bounded c.requires.diagonals c.requires.edge
     c.index-links-edge.is c.bounds_of-window.ensures c.in_ok-found.ensures c.in_ok-also.ensures
     (rw (← c.as_slice.ensures.value) (c.in-None.ensures.none refl))
     (rw (← c.as_slice-2.ensures.value) (c.in-None-first_fragment.ensures.none refl)) w

@@ -1,6 +1,6 @@
 use Rattle.std.proofs.Common.{arith, ◌<◌, sym, ap, ◌∙◌, length}
 use Rattle.dpl_sign.proofs.WalkLemmas.{edge_is}
-use Rattle.dpl_euler.proofs.RowLemmas.{rows_take, rows_skip}
+use Rattle.dpl_euler.proofs.RowLemmas.{listed_take, listed_skip}
 use Rattle.dpl_euler.proofs.rows.add_all.Goals as goal
 use Rattle.dpl_euler.proofs.rows.add_all.Goals.{then-is_in+in_ok-add+in_ok-add-2, else-is_in}
 
@@ -11,9 +11,9 @@ loop-edge-preserved c =
       | then-is_in+in_ok-add+in_ok-add-2 w ↦
           let ends = edge_is c.args.graph.now _ _ _ w.as_slice-then-is_in.ensures
           (omega (arith, inside, ap length w.as_slice-then-is_in.ensures)) w.index-as_slice-edge.is in
-          rw w.rows-is (rows_take c.args.graph.now c.args.set.now c.loop-edge.rows w.add.new.rows
-          w.add-then-is_in.new.rows c.loop-edge.edge w.index-as_slice-edge.result inside ends
-          (sym c.is_in.ensures ∙ w.if-is_in.true) w.in_ok-add.ensures w.in_ok-add-2.ensures c.loop-edge.invariant)
-      | else-is_in w ↦ rw w.rows-is (rows_skip c.args.graph.now c.args.set.now c.loop-edge.rows c.loop-edge.edge
+          rw (w.nodes-is, w.edges-is) (listed_take c.args.graph.now c.args.set.now _ _ _ _ _ _ c.loop-edge.edge w.index-as_slice-edge.result inside ends
+          (sym c.is_in.ensures ∙ w.if-is_in.true) w.in_ok-add.ensures.nodes w.in_ok-add.ensures.edges w.in_ok-add-2.ensures.nodes
+          w.in_ok-add-2.ensures.edges c.loop-edge.invariant)
+      | else-is_in w ↦ rw (w.nodes-is, w.edges-is) (listed_skip c.args.graph.now c.args.set.now _ _ c.loop-edge.edge
           (sym c.is_in.ensures ∙ w.if-is_in.false) c.loop-edge.invariant)
     ]

@@ -7,8 +7,8 @@ use Rattle.dpl_euler.proofs.searching.back_from.Given as goal
 
 abbrev pub invariant-loop-at : goal.invariant-loop-at
 invariant-loop-at l = record {
-  path : IsPath l.graph (step_at l.steps l.place).node l.edges.items (step_at l.steps l.at).node;
-  chosen : All (λ e. is_in l.set e ≡ true) l.edges.items;
+  path : IsPath l.search.graph.now (step_at l.steps l.place).node l.edges.items (step_at l.steps l.at).node;
+  chosen : All (λ e. is_in l.search.set.now e ≡ true) l.edges.items;
   inside : l.at < length l.steps;
 }
 

@@ -4,10 +4,10 @@ use Rattle.dpl_euler.proofs.searching.follow_all.Given as goal
 
 abbrev pub invariant-loop-place : goal.invariant-loop-place
 invariant-loop-place l = record {
-  steps : AreSteps l.graph l.set l.goal l.steps.items l.places;
-  followed : AreFollowed l.graph l.set l.steps.items l.places l.place;
+  steps : AreSteps l.search.graph.now l.search.set.now l.search.goal l.steps.items l.places;
+  followed : AreFollowed l.search.graph.now l.search.set.now l.steps.items l.places l.place;
   inside : l.place ≤ length l.steps.items;
 }
 
 abbrev pub decreases-loop-place : goal.decreases-loop-place
-decreases-loop-place l = l.graph.nodes - l.place
+decreases-loop-place l = l.search.graph.now.nodes - l.place

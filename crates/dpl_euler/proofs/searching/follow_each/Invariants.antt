@@ -6,7 +6,7 @@ use Rattle.dpl_euler.proofs.searching.follow_each.Given as goal
 
 abbrev pub invariant-loop-i : goal.invariant-loop-i
 invariant-loop-i l = record {
-  steps : AreSteps l.graph l.set l.goal l.steps.items l.places;
+  steps : AreSteps l.search.graph.now l.search.set.now l.search.goal l.steps.items l.places;
   goes_on : GoesOn l.fn.steps.items l.steps.items l.fn.places l.places;
-  reached : (i : ℕ) → i < l.i → is_reached l.places (across (edge_at l.graph (slice_index l.row i)) (step_at l.fn.steps.items l.place).node) ≡ true;
+  reached : (i : ℕ) → i < l.i → is_reached l.places (across (edge_at l.search.graph.now (slice_index l.row i)) (step_at l.fn.steps.items l.place).node) ≡ true;
 }

@@ -5,7 +5,7 @@ use Rattle.dpl_euler.proofs.searching.trace.Goals as goal
 
 pub back_from-requires-clause-place : goal.back_from-requires-clause-place
 back_from-requires-clause-place c =
-    omega (arith, ap length c.as_slice-in-Some.ensures.value, (c.in_ok-follow_all.ensures.steps.found _ _ c.in-Some.is).0)
+    omega (arith, ap length c.as_slice.ensures.value, (c.in_ok-follow_all.ensures.steps.found _ _ c.in-Some.is).0)
 
 pub unreachable-requires : goal.unreachable-requires
 unreachable-requires c =

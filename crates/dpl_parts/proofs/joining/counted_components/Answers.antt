@@ -1,5 +1,6 @@
-use Rattle.dpl_parts.proofs.JoinedLemmas.{ends_within, are_components, labels_below}
+use Rattle.dpl_parts.proofs.JoinedLemmas.{ends_within, are_components}
 use Rattle.dpl_parts.proofs.joining.counted_components.Goals as goal
+use Rattle.dpl_classes.proofs.NumberLemmas.{labels_below}
 
 pub classes-requires-clause-within : goal.classes-requires-clause-within
 classes-requires-clause-within c = rw (c.as_slice-2.ensures.value, c.in_ok-ends.ensures, c.as_slice.ensures) (ends_within c.args.net.now.graph)

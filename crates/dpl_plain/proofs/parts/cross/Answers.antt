@@ -1,6 +1,6 @@
 use Rattle.std.proofs.Common.{arith, ◌+◌, ◌*◌}
 use Rattle.dpl_sign.specs.Drawings.{is_in}
-use Rattle.dpl_plain.proofs.PartLemmas.{face_below}
+use Rattle.dpl_sign.proofs.Rotation.{face_below}
 use Rattle.dpl_plain.proofs.parts.cross.Goals as goal
 
 pub bounds-names-there : goal.bounds-names-there

@@ -1,8 +1,4 @@
-use Rattle.std.proofs.Common.{arith, rules, ◌≡◌, ◌<◌, ℕ, true, false, length, List, Bool, sym, ap, subst, ◌∙◌, slice_index_or, replicate}
-use Rattle.std.specs.Prelude.{All}
-use Rattle.dpl_parts.specs.Picks.{is_taken, AreClosed}
-use Rattle.dpl_stay.specs.Marks.{without_spoiled}
-use Rattle.dpl_stay.proofs.StayLemmas.{AreNets, AreMatched, fine_of}
+use Rattle.std.proofs.Common.{◌≡◌, length, sym, ap, ◌∙◌}
 use Rattle.dpl_stay.proofs.KeepLemmas.{AreTaken, fine_long, are_staying}
 use Rattle.dpl_stay.proofs.comparing.compare.Goals as goal
 
@@ -10,7 +6,7 @@ pub of_whole_components-requires-clause-long : goal.of_whole_components-requires
 of_whole_components-requires-clause-long c =
     let e = rw (c.as_slice-3.ensures.value, c.as_slice-4.ensures.value, c.as_slice-5.ensures.value, c.as_slice-6.ensures.value) at c.in_ok-fine.ensures in
     rw (c.as_slice-7.ensures.value, c.as_slice-8.ensures.value) (
-    c.in_ok-number.ensures.components.long ∙ c.requires.nodes ∙ sym c.in_ok-there.ensures.long ∙
+    c.in_ok-number.ensures.components.long ∙ c.requires.new.nodes ∙ sym c.in_ok-there.ensures.long ∙
     sym (fine_long c.args.net.now c.args.old.now c.in_ok-there.there.items c.in_ok-back.back.items
     c.in_ok-twins_there.twins_there.items c.in_ok-twins_back.twins_back.items) ∙ sym (ap length e))
 
@@ -23,16 +19,16 @@ taken_here c =
     let size : length c.in_ok-fine.fine.items ≡ c.args.net.now.graph.nodes = ap length fine_is
     ∙ fine_long c.args.net.now c.args.old.now c.in_ok-there.there.items c.in_ok-back.back.items
     c.in_ok-twins_there.twins_there.items c.in_ok-twins_back.twins_back.items ∙ c.in_ok-there.ensures.long ∙
-    sym c.requires.nodes in
+    sym c.requires.new.nodes in
     record {
       matched = record {
         nets = record {
-          new_order = c.requires.order;
-          old_order = c.requires.old_order;
-          new_edges = c.requires.edges;
-          old_edges = c.requires.old_edges;
-          new_nodes = c.requires.nodes;
-          old_nodes = c.requires.old_nodes;
+          new_order = c.requires.new.order;
+          old_order = c.requires.old.order;
+          new_edges = c.requires.new.edges;
+          old_edges = c.requires.old.edges;
+          new_nodes = c.requires.new.nodes;
+          old_nodes = c.requires.old.nodes;
         };
         partners = c.in_ok-there.ensures;
         back = c.in_ok-back.ensures;

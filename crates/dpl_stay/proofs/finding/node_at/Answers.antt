@@ -1,10 +1,8 @@
-use Rattle.std.proofs.Common.{arith, rules, ◌≡◌, ◌<◌, length, ℕ, true, false, sym, ap, ◌∙◌, subst}
+use Rattle.std.proofs.Common.{arith, rules, ◌≡◌, false, sym, ap, ◌∙◌}
 use Rattle.std.proofs.lemmas.Bool.{both_ways}
 use Rattle.std.proofs.lemmas.List.Sorted.{IsPartitionPoint-from_clause}
-use Rattle.std.specs.List.Sorted.{IsPartitionPoint}
 use Rattle.dpl_cell.specs.declared.rect.Rect.{Rect}
 use Rattle.dpl_cell.specs.Places.{corners_of}
-use Rattle.std.specs.Prelude.{IsTrue}
 use Rattle.dpl_stay.specs.Same.{corners_at}
 use Rattle.dpl_stay.specs.Order.{rect_before}
 use Rattle.dpl_stay.proofs.OrderLemmas.{parted_rects, lone_node, corners_are}

@@ -1,5 +1,4 @@
-use Rattle.std.proofs.Common.{◌≡◌, ◌<◌, ℕ, false, length, slice_index_or, map, take}
-use Rattle.dpl_stay.specs.Marks.{has_partner, without_ends, without_partners, without_spoiled}
+use Rattle.std.proofs.Common.{◌≡◌, ◌<◌, ℕ, false, length, slice_index_or}
 use Rattle.dpl_stay.proofs.marking.looked_up.Given as goal
 
 abbrev pub invariant-loop-component : goal.invariant-loop-component

@@ -1,5 +1,5 @@
-use Rattle.std.proofs.Common.{◌≡◌, ◌<◌, ℕ, false, length, slice_index_or, map, take}
-use Rattle.dpl_stay.specs.Marks.{has_partner, without_ends, without_partners, without_spoiled}
+use Rattle.std.proofs.Common.{◌≡◌}
+use Rattle.dpl_stay.specs.Marks.{without_partners}
 use Rattle.dpl_stay.proofs.marking.take_partners.Given as goal
 
 abbrev pub invariant-loop-e : goal.invariant-loop-e

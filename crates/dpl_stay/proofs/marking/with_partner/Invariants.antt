@@ -1,5 +1,5 @@
-use Rattle.std.proofs.Common.{◌≡◌, ◌<◌, ℕ, false, length, slice_index_or, map, take}
-use Rattle.dpl_stay.specs.Marks.{has_partner, without_ends, without_partners, without_spoiled}
+use Rattle.std.proofs.Common.{◌≡◌, map, take}
+use Rattle.dpl_stay.specs.Marks.{has_partner}
 use Rattle.dpl_stay.proofs.marking.with_partner.Given as goal
 
 abbrev pub invariant-loop-partner : goal.invariant-loop-partner

@@ -1,11 +1,10 @@
-use Rattle.std.proofs.Common.{arith, rules, ◌≡◌, ◌<◌, length, ℕ, true, false, sym, ap, ◌∙◌, subst, slice_index_or}
+use Rattle.std.proofs.Common.{arith, ◌≡◌, sym, ap, ◌∙◌, slice_index_or}
 use Rattle.std.proofs.lemmas.Bool.{both_ways}
 use Rattle.std.proofs.lemmas.List.{get_or_default}
 use Rattle.dpl_sign.specs.declared.edges.Edge.{Edge}
 use Rattle.dpl_sign.specs.Drawings.{no_port}
 use Rattle.dpl_sign.specs.Walks.{no_edge, edge_at}
 use Rattle.dpl_stay.specs.Same.{ports_at}
-use Rattle.dpl_stay.specs.Order.{key_of}
 use Rattle.dpl_stay.proofs.PairLemmas.{one_edge, alike_key}
 use Rattle.dpl_stay.proofs.pairing.twin.Goals as goal
 

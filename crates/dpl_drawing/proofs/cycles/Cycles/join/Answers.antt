@@ -1,11 +1,12 @@
 use Rattle.std.proofs.Common.{◌≡◌, ◌<◌, length, ap, ◌∙◌, rules, arith, get_or}
 use Rattle.std.proofs.lemmas.List.{get_or_read}
-use Rattle.dpl_drawing.proofs.CycleLemmas.{named_merge, refill, named_at, mark_at, pair_below}
+use Rattle.dpl_drawing.proofs.CycleLemmas.{named_merge, named_at, mark_at, pair_below}
 use Rattle.dpl_drawing.proofs.cycles.Cycles.join.Goals as goal
+use Rattle.dpl_list.proofs.Lists.{refilled}
 
 pub invariant_of-self : goal.invariant_of-self
 invariant_of-self c =
-    let whole = refill c.self.inside.names.len c.mark.new.labels c.self.inside.names.items c.self.inside.names.ok.0
+    let whole = refilled c.self.inside.names.len c.mark.new.labels c.self.inside.names.items c.self.inside.names.ok.0
     (c.mark.ensures.lengths ∙ ap length c.deref_mut.ensures.value) in
     let hi : c.args.i < length c.self.inside.ring = search rules in
     let hj : c.args.j < length c.self.inside.ring = search rules in

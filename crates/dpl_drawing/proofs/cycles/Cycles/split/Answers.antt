@@ -1,10 +1,11 @@
 use Rattle.std.proofs.Common.{◌<◌, length, ap, ◌∙◌, rules}
-use Rattle.dpl_drawing.proofs.CycleLemmas.{named_split, refill, named_at, first_of}
+use Rattle.dpl_drawing.proofs.CycleLemmas.{named_split, named_at, first_of}
 use Rattle.dpl_drawing.proofs.cycles.Cycles.split.Goals as goal
+use Rattle.dpl_list.proofs.Lists.{refilled}
 
 pub invariant_of-self : goal.invariant_of-self
 invariant_of-self c =
-    let whole = refill c.self.inside.names.len c.mark.new.labels c.self.inside.names.items c.self.inside.names.ok.0
+    let whole = refilled c.self.inside.names.len c.mark.new.labels c.self.inside.names.items c.self.inside.names.ok.0
     (c.mark.ensures.lengths ∙ ap length c.deref_mut.ensures.value) in
     let hi : c.args.i < length c.self.inside.ring = search rules in
     let hj : c.args.j < length c.self.inside.ring = search rules in

@@ -1,7 +1,7 @@
 use Rattle.std.proofs.Common.{rules, ◌≡◌, ◌<◌, sym, ◌∙◌, true, false, length}
 use Rattle.std.proofs.lemmas.Bool.{both_ways}
 use Rattle.dpl_sign.proofs.ExcessLemmas.{kept_more}
-use Rattle.dpl_drawing.proofs.DrawnLemmas.{next_apart, some_component, ends_joined, edge_read, IsLooked, aside_next, split_next, join_next, swap_read}
+use Rattle.dpl_drawing.proofs.DrawnLemmas.{next_apart, some_component, ends_joined, edge_read, looked, aside_next, split_next, join_next, swap_read}
 use Rattle.std.proofs.Common.{get_or, refl}
 use Rattle.std.proofs.lemmas.List.{get_or_read}
 use Rattle.dpl_drawing.proofs.DrawnLemmas.{kept_false}
@@ -30,14 +30,7 @@ returns-then-not-are_together-clause-kept c =
     let inside : length c.args.kept.now < length c.as_slice.result.now = search rules in
     let edge = edge_read c.args.net.now.graph _ _ _ c.as_slice.ensures inside c.index-as_slice-edge.is in
     let ends = ends_joined c.args.net.now _ _ (length c.args.kept.now) _ c.requires.drawn.are_parts c.requires.edge edge in
-    let look : IsLooked c.args.net.now c.args.kept.now _ _ _ _ _ =
-    record {
-      edge = c.requires.edge;
-      drawn = c.requires.drawn;
-      first = c.next_from-next.ensures.value;
-      second =
-          c.next_from-next_twin.ensures.value;
-    } in
+    let look = looked _ _ _ _ _ _ _ c.requires.edge c.requires.drawn c.next_from-next.ensures.value c.next_from-next_twin.ensures.value in
     (join_next c.args.net.now c.args.kept.now _ _ _ _ _ _ _ look
     (λ j. both_ways _ far (c.are_together.ensures.value.1 (ends.1 j))) c.are_together.ensures.ring
     c.insert.ensures.value (swap_read c.args.net.now.graph (length c.args.kept.now) _ _ _ edge
@@ -49,14 +42,7 @@ returns-then-not-are_together-clause-drawn c =
     let inside : length c.args.kept.now < length c.as_slice.result.now = search rules in
     let edge = edge_read c.args.net.now.graph _ _ _ c.as_slice.ensures inside c.index-as_slice-edge.is in
     let ends = ends_joined c.args.net.now _ _ (length c.args.kept.now) _ c.requires.drawn.are_parts c.requires.edge edge in
-    let look : IsLooked c.args.net.now c.args.kept.now _ _ _ _ _ =
-    record {
-      edge = c.requires.edge;
-      drawn = c.requires.drawn;
-      first = c.next_from-next.ensures.value;
-      second =
-          c.next_from-next_twin.ensures.value;
-    } in
+    let look = looked _ _ _ _ _ _ _ c.requires.edge c.requires.drawn c.next_from-next.ensures.value c.next_from-next_twin.ensures.value in
     (join_next c.args.net.now c.args.kept.now _ _ _ _ _ _ _ look
     (λ j. both_ways _ far (c.are_together.ensures.value.1 (ends.1 j))) c.are_together.ensures.ring
     c.insert.ensures.value (swap_read c.args.net.now.graph (length c.args.kept.now) _ _ _ edge
@@ -69,14 +55,7 @@ returns-then-not-are_together-2-clause-kept c =
     let inside : length c.args.kept.now < length c.as_slice.result.now = search rules in
     let edge = edge_read c.args.net.now.graph _ _ _ c.as_slice.ensures inside c.index-as_slice-edge.is in
     let ends = ends_joined c.args.net.now _ _ (length c.args.kept.now) _ c.requires.drawn.are_parts c.requires.edge edge in
-    let look : IsLooked c.args.net.now c.args.kept.now _ _ _ _ _ =
-    record {
-      edge = c.requires.edge;
-      drawn = c.requires.drawn;
-      first = c.next_from-next.ensures.value;
-      second =
-          c.next_from-next_twin.ensures.value;
-    } in
+    let look = looked _ _ _ _ _ _ _ c.requires.edge c.requires.drawn c.next_from-next.ensures.value c.next_from-next_twin.ensures.value in
     (aside_next c.args.net.now c.args.kept.now _ _ _ _ _ look (ends.0 (c.are_together.ensures.value.0 near))
     (λ e. both_ways _ far (c.are_together-2.ensures.value.1 e))).0
 
@@ -87,14 +66,7 @@ returns-then-not-are_together-2-clause-drawn c =
     let inside : length c.args.kept.now < length c.as_slice.result.now = search rules in
     let edge = edge_read c.args.net.now.graph _ _ _ c.as_slice.ensures inside c.index-as_slice-edge.is in
     let ends = ends_joined c.args.net.now _ _ (length c.args.kept.now) _ c.requires.drawn.are_parts c.requires.edge edge in
-    let look : IsLooked c.args.net.now c.args.kept.now _ _ _ _ _ =
-    record {
-      edge = c.requires.edge;
-      drawn = c.requires.drawn;
-      first = c.next_from-next.ensures.value;
-      second =
-          c.next_from-next_twin.ensures.value;
-    } in
+    let look = looked _ _ _ _ _ _ _ c.requires.edge c.requires.drawn c.next_from-next.ensures.value c.next_from-next_twin.ensures.value in
     (aside_next c.args.net.now c.args.kept.now _ _ _ _ _ look (ends.0 (c.are_together.ensures.value.0 near))
     (λ e. both_ways _ far (c.are_together-2.ensures.value.1 e))).1
 
@@ -105,14 +77,7 @@ returns-clause-kept c =
     let inside : length c.args.kept.now < length c.as_slice.result.now = search rules in
     let edge = edge_read c.args.net.now.graph _ _ _ c.as_slice.ensures inside c.index-as_slice-edge.is in
     let ends = ends_joined c.args.net.now _ _ (length c.args.kept.now) _ c.requires.drawn.are_parts c.requires.edge edge in
-    let look : IsLooked c.args.net.now c.args.kept.now _ _ _ _ _ =
-    record {
-      edge = c.requires.edge;
-      drawn = c.requires.drawn;
-      first = c.next_from-next.ensures.value;
-      second =
-          c.next_from-next_twin.ensures.value;
-    } in
+    let look = looked _ _ _ _ _ _ _ c.requires.edge c.requires.drawn c.next_from-next.ensures.value c.next_from-next_twin.ensures.value in
     (split_next c.args.net.now c.args.kept.now _ _ _ _ _ _ look (ends.0 (c.are_together.ensures.value.0 near))
     (c.are_together-2.ensures.value.0 one) c.insert-2.ensures.value).0
 
@@ -123,14 +88,7 @@ returns-clause-drawn c =
     let inside : length c.args.kept.now < length c.as_slice.result.now = search rules in
     let edge = edge_read c.args.net.now.graph _ _ _ c.as_slice.ensures inside c.index-as_slice-edge.is in
     let ends = ends_joined c.args.net.now _ _ (length c.args.kept.now) _ c.requires.drawn.are_parts c.requires.edge edge in
-    let look : IsLooked c.args.net.now c.args.kept.now _ _ _ _ _ =
-    record {
-      edge = c.requires.edge;
-      drawn = c.requires.drawn;
-      first = c.next_from-next.ensures.value;
-      second =
-          c.next_from-next_twin.ensures.value;
-    } in
+    let look = looked _ _ _ _ _ _ _ c.requires.edge c.requires.drawn c.next_from-next.ensures.value c.next_from-next_twin.ensures.value in
     (split_next c.args.net.now c.args.kept.now _ _ _ _ _ _ look (ends.0 (c.are_together.ensures.value.0 near))
     (c.are_together-2.ensures.value.0 one) c.insert-2.ensures.value).1
 
