@@ -1,20 +1,41 @@
--- The nodes of each name in a row. No public clause speaks of this.
-use Rattle.std.specs.Prelude.{◌≡◌, ◌≢◌, ℕ, ◌<◌, List, length, slice_index, slice_index_or, [], ◌++◌, take, All}
+-- The nodes of each name in a list, of which each leads to the next. No public clause speaks of this.
+use Rattle.std.specs.Prelude.{◌≡◌, ℕ, ◌+◌, ◌<◌, List, length, slice_index}
 
-abbrev pub IsListed : List ℕ → ℕ → Type 0
-IsListed row v = (j : ℕ) × (j < length row) × (slice_index row j ≡ v)
+-- the node that has the name itself comes first
+abbrev pub IsFirst : List ℕ → (ℕ → ℕ) → ℕ → Type 0
+IsFirst names places f = (f < length names) × (slice_index names f ≡ f) × (places f ≡ 0)
 
--- each node stands in the row of its name, and each row holds nodes alone
-pub record AreListed (names : List ℕ) (rows : List (List ℕ)) : Type 0 where
-  pub sizes : length rows ≡ length names
-  pub below : (v : ℕ) → v < length names → slice_index names v < length names
-  pub listed : (v : ℕ) → v < length names →
-      IsListed (slice_index_or rows (slice_index names v) []) v
-  pub nodes : (f : ℕ) → All (λ v. v < length names) (slice_index_or rows f [])
+-- a node has the name of another one, and the place behind it
+abbrev pub IsBehind : List ℕ → (ℕ → ℕ) → ℕ → ℕ → Type 0
+IsBehind names places v w = (slice_index names w ≡ slice_index names v) × (places w ≡ places v + 1)
 
--- the first items of one row stand at the end of another too
-pub record IsAppended (rows : List (List ℕ)) (from to i : ℕ) (rows' : List (List ℕ)) : Type 0 where
-  pub sizes : length rows' ≡ length rows
-  pub other : (f : ℕ) → f ≢ to → slice_index_or rows' f [] ≡ slice_index_or rows f []
-  pub here : slice_index_or rows' to [] ≡ slice_index_or rows to []
-      ++ take i (slice_index_or rows from [])
+-- a node has the last place of its name
+abbrev pub IsLast : List ℕ → (ℕ → ℕ) → (ℕ → ℕ) → ℕ → ℕ → Type 0
+IsLast names counts places f l =
+    (l < length names) × (slice_index names l ≡ f) × (places l + 1 ≡ counts f)
+
+-- the nodes of a name have its places, one each, and all but the last lead to the node behind them
+pub record ArePlaced (names next : List ℕ) (counts places : ℕ → ℕ) : Type 0 where
+  pub sizes : length next ≡ length names
+  pub first : (v : ℕ) → v < length names → IsFirst names places (slice_index names v)
+  pub inside : (v : ℕ) → v < length names → places v < counts (slice_index names v)
+  pub below : (v : ℕ) → v < length names → slice_index next v < length names
+  pub behind : (v : ℕ) → v < length names → places v + 1 < counts (slice_index names v) →
+      IsBehind names places v (slice_index next v)
+  pub once : (v w : ℕ) → v < length names → w < length names →
+      slice_index names v ≡ slice_index names w → places v ≡ places w → v ≡ w
+
+pub record AreLinked (names next : List ℕ) : Type 0 where
+  pub counts : ℕ → ℕ
+  pub places : ℕ → ℕ
+  pub placed : ArePlaced names next counts places
+
+-- each name has its last node besides, and a length that no proof reads
+pub record AreListed (names next last lengths : List ℕ) : Type 0 where
+  pub counts : ℕ → ℕ
+  pub places : ℕ → ℕ
+  pub placed : ArePlaced names next counts places
+  pub lasts : length last ≡ length names
+  pub sizes : length lengths ≡ length names
+  pub ends : (v : ℕ) → v < length names →
+      IsLast names counts places (slice_index names v) (slice_index last (slice_index names v))

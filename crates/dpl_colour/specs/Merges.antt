@@ -60,13 +60,13 @@ pub record IsMoved (names : List ℕ) (colours : List Bool) (from to : ℕ) (fli
   pub now : slice_index names' v ≡ to
   pub colour : slice_index_or colours' v false ≡ differ flip (slice_index_or colours v false)
 
--- the first nodes of a row that have one name have the other now
+-- of the nodes of one name those at the first places have the other now
 pub record IsMerging (names : List ℕ) (colours : List Bool) (from to : ℕ) (flip : Bool)
-    (row : List ℕ) (i : ℕ)
+    (places : ℕ → ℕ) (i : ℕ)
     (names' : List ℕ) (colours' : List Bool) : Type 0 where
   pub lengths : length names' ≡ length names
   pub sizes : length colours' ≡ length colours
-  pub each : (v : ℕ) →
-      IsSame names colours names' colours' v ⊎ IsMoved names colours from to flip names' colours' v
-  pub done : (j : ℕ) → j < i → slice_index names (slice_index row j) ≡ from →
-      slice_index names' (slice_index row j) ≡ to
+  pub each : (v : ℕ) → IsSame names colours names' colours' v ⊎
+      (IsMoved names colours from to flip names' colours' v × (places v < i))
+  pub done : (v : ℕ) → v < length names → slice_index names v ≡ from → places v < i →
+      slice_index names' v ≡ to

@@ -1,28 +1,16 @@
 //! A colouring from a set of edges.
 
-ghost use Rattle.std.specs.Prelude.{◌≡◌, length, IfOk, EachIndex, slice_index};
+ghost use Rattle.std.specs.Prelude.{◌≡◌, length, IfOk};
 ghost use Rattle.dpl_sign.specs.Colourings.{IsColouring};
 ghost use Rattle.dpl_map.specs.Views.{view_of};
 ghost use Rattle.dpl_map.specs.Built.{IsMapOf};
 ghost use Rattle.dpl_colour.specs.Meets.{MeetsFaces, BreaksJoined};
 
+use crate::lists::{ascending, singles};
 use crate::merging::settle;
-use crate::rows::singles;
 use dpl_map::Map;
 use dpl_sign::Signed;
 use std::alloc::{AllocError, Global};
-
-/// The numbers below n in order.
-fn ascending(alloc: Global, n: u32) -> Result<Vec<u32>, AllocError>
-    ensures length { IfOk result (λ v. length v.items ≡ n) }
-    ensures each { IfOk result (λ v. EachIndex v.items (λ k. slice_index v.items k ≡ k)) }
-{
-    let mut v = Vec::new(alloc);
-    for i in 0..n {
-        v.push(i)?;
-    }
-    Ok(v)
-}
 
 /// A colouring that breaks, among the kept edges, just the joined ones. The set of joined edges has
 /// a place for each edge, and meets the faces of the map.
@@ -43,7 +31,7 @@ pub fn colour(
 {
     let mut colours = vec![in alloc; false; graph.nodes as usize]?;
     let mut names = ascending(alloc, graph.nodes)?;
-    let mut rows = singles(alloc, graph.nodes)?;
+    let mut lists = singles(alloc, graph.nodes)?;
     for i in 0..graph.edges.as_slice().len() {
         settle(
             map,
@@ -51,9 +39,9 @@ pub fn colour(
             joined,
             i as u32,
             &mut names,
-            &mut rows,
+            &mut lists,
             &mut colours,
-        )?;
+        );
     }
     Ok(colours)
 }

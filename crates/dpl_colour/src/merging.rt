@@ -1,34 +1,32 @@
 //! Names of nodes, of which the two of an edge become one.
 
-ghost use Rattle.std.specs.Prelude.{◌≡◌, ◌≢◌, ◌<◌, ◌+◌, length, OnOk, EachIndex, All, slice_index};
+ghost use Rattle.std.specs.Prelude.{◌≡◌, ◌≢◌, ◌<◌, ◌+◌, length, slice_index};
 ghost use Rattle.dpl_sign.specs.Kinds.{is_clash};
 ghost use Rattle.dpl_map.specs.Views.{view_of};
 ghost use Rattle.dpl_map.specs.Planes.{IsPlane};
 ghost use Rattle.dpl_map.specs.Sides.{differ};
-ghost use Rattle.dpl_colour.specs.Lists.{IsListed, AreListed};
+ghost use Rattle.dpl_colour.specs.Lists.{AreLinked, AreListed};
 ghost use Rattle.dpl_colour.specs.Merges.{IsMerged, IsColoured};
 
-use crate::rows::{append, shorter_first};
-use dpl_map::{Map, Row};
+use crate::lists::{Lists, append, shorter_first};
+use dpl_map::Map;
 use dpl_sign::{Kind, Signed};
-use std::alloc::AllocError;
 
-/// Gives the nodes of one name, all of which stand in a row, another, and exchanges their colours
+/// Gives the nodes of one name, each of which leads to the next, another, and exchanges their colours
 /// where `flip` asks it.
-fn merge(names: &mut [u32], colours: &mut [bool], row: &[u32], from: u32, to: u32, flip: bool)
+fn merge(names: &mut [u32], colours: &mut [bool], next: &[u32], from: u32, to: u32, flip: bool)
     requires sizes { length names.old ≡ length colours.old }
     requires apart { from ≢ to }
-    requires nodes { All (λ v. v < length names.old) row.now }
-    requires listed { EachIndex names.old (λ v.
-        slice_index names.old v ≡ from → IsListed row.now v) }
+    requires inside { from < length names.old }
+    requires first { slice_index names.old from ≡ from }
+    requires linked { AreLinked names.old next.now }
     ensures { IsMerged names.old colours.old from to flip (length names.old) names.new colours.new }
 {
-    for i in 0..row.len() {
-        let v = row[i] as usize;
-        if names[v] == from {
-            names[v] = to;
-            colours[v] = colours[v] != flip;
-        }
+    let mut node = from as usize;
+    'nodes: while names[node] == from {
+        names[node] = to;
+        colours[node] = colours[node] != flip;
+        node = next[node] as usize;
     }
 }
 
@@ -50,26 +48,28 @@ pub fn settle(
     joined: &[bool],
     i: u32,
     names: &mut [u32],
-    rows: &mut [Row],
+    lists: &mut Lists,
     colours: &mut [bool],
-) -> Result<(), AllocError>
+)
     requires map { IsPlane graph.now (view_of map.now) }
     requires places { length joined.now ≡ length graph.now.edges }
     requires inside { i < length graph.now.edges }
     requires coloured { IsColoured graph.now (view_of map.now) joined.now i names.old colours.old }
-    requires listed { AreListed names.old rows.old }
-    ensures coloured { OnOk result
-        (IsColoured graph.now (view_of map.now) joined.now (i + 1) names.new colours.new) }
-    ensures listed { OnOk result (AreListed names.new rows.new) }
+    requires listed { AreListed names.old lists.old.next.items lists.old.last.items
+        lists.old.lengths.items }
+    ensures coloured { IsColoured graph.now (view_of map.now) joined.now (i + 1) names.new
+        colours.new }
+    ensures listed { AreListed names.new lists.new.next.items lists.new.last.items
+        lists.new.lengths.items }
 {
     if !map.kept(i) {
-        return Ok(());
+        return;
     }
     let edge = graph.edges.as_slice()[i as usize];
     let a = names[edge.a as usize];
     let b = names[edge.b as usize];
     if a == b {
-        return Ok(());
+        return;
     }
     let flip = flips(
         edge.kind,
@@ -77,14 +77,7 @@ pub fn settle(
         colours[edge.a as usize],
         colours[edge.b as usize],
     );
-    let (from, to) = shorter_first(rows, a, b);
-    merge(
-        names,
-        colours,
-        rows[from as usize].as_slice(),
-        from,
-        to,
-        flip,
-    );
-    append(rows, from, to)
+    let (from, to) = shorter_first(&lists.lengths, a, b);
+    merge(names, colours, &lists.next, from, to, flip);
+    append(lists, from, to);
 }

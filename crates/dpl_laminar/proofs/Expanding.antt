@@ -4,10 +4,11 @@ use Rattle.std.proofs.Common.{cond, inl, inr, List, [], length, get_or, set, len
 use Rattle.std.proofs.Common.{get_or-set_other, Option, Some, None}
 use Rattle.std.proofs.lemmas.Bool.{cases_eq, cases_lt, cases_Bool, cond-true, cond-false}
 use Rattle.std.proofs.lemmas.List.{get_or_past}
+use Rattle.std.proofs.lemmas.Option.{same_Some}
 use Rattle.dpl_laminar.specs.Families.{Sets, IsTie, has}
 use Rattle.dpl_laminar.specs.Changes.{IsExpanded}
 use Rattle.dpl_laminar.specs.Storing.{Stored, sets_of, walk, IsKept, IsCircle}
-use Rattle.dpl_laminar.proofs.Numbers.{has_at, place_in, true_false, some_is, some_none}
+use Rattle.dpl_laminar.proofs.Numbers.{has_at, place_in, true_false, some_none}
 use Rattle.dpl_laminar.proofs.Walks.{walk_same, length_walk}
 use Rattle.dpl_laminar.proofs.Lifting.{AreLifted}
 use Rattle.dpl_laminar.proofs.Released.{released}
@@ -65,7 +66,7 @@ without_set s r ps rg ts = record s { live = set s.live r false; rows = set s.ro
 not_kid : (s : Stored) (r d c : ℕ) → IsKept s → r < 2 * s.size → d < 2 * s.size → d ≢ r →
     has ((sets_of s).children d) c ≡ true → has ((sets_of s).children r) c ≡ false
 not_kid s r d c p hr hd ne k = elim (cases_Bool (has ((sets_of s).children r) c)) [
-  | inl t ↦ absurd (ne (some_is (sym (p.family.laminar.children.child d c hd k).2 ∙ (p.family.laminar.children.child r c hr t).2)))
+  | inl t ↦ absurd (ne (same_Some _ _ (sym (p.family.laminar.children.child d c hd k).2 ∙ (p.family.laminar.children.child r c hr t).2)))
   | inr t ↦ t
 ]
 

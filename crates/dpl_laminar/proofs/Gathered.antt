@@ -2,11 +2,12 @@
 use Rattle.std.proofs.Common.{arith, ◌≡◌, ◌≢◌, ℕ, suc, ◌+◌, ◌*◌, ◌%◌, ◌<◌, refl, sym, ap, ◌∙◌, Bool, true, false, cond}
 use Rattle.std.proofs.Common.{inl, inr, eqb, List, [], ◌∷◌, length, get_or, Some, None, eq-eqb}
 use Rattle.std.proofs.lemmas.Bool.{cases_eq, cases_Bool, ne_eqb}
+use Rattle.std.proofs.lemmas.Option.{same_Some}
 use Rattle.dpl_laminar.specs.Loads.{size_of}
 use Rattle.dpl_laminar.specs.Families.{Sets, IsLaminar, has}
 use Rattle.dpl_laminar.specs.Changes.{AreTops, Gathers}
 use Rattle.dpl_laminar.proofs.Sums.{sum_same, sum_added, sum_zero}
-use Rattle.dpl_laminar.proofs.Numbers.{has_head, has_tail, place_in, true_false, some_is, some_none}
+use Rattle.dpl_laminar.proofs.Numbers.{has_head, has_tail, place_in, true_false, some_none}
 
 -- ---- how many members a union of apart sets has
 
@@ -174,7 +175,7 @@ gathered n f g cs set p t q r er x y hx hy xr a ar ya =
         ];
         parent_range = λ i d hi l e. elim (cases_Bool (has cs i)) [
           | inl k ↦
-              let ds : d ≡ set = some_is (sym e ∙ q.parent_child i k) in (
+              let ds : d ≡ set = same_Some _ _ (sym e ∙ q.parent_child i k) in (
                 omega (arith, ds, q.at_least),
                 omega (arith, ds, q.below),
                 ap g.live ds ∙ q.live_set,

@@ -1,14 +1,31 @@
 -- The lists of a family after each of its calls.
 use Rattle.std.proofs.Common.{arith, ◌≡◌, ◌≢◌, ℕ, ◌*◌, ◌<◌, ◌≤◌, ◌^◌, refl, sym, ap, ◌∙◌, subst, true, false, inl, inr}
-use Rattle.std.proofs.Common.{eqb, ltb, [], length, get_or, set, length-set, get_or-set_same, get_or-set_other, None}
+use Rattle.std.proofs.Common.{eqb, ltb, List, Bool, Option, [], length, get_or, set, length-set, get_or-set_same, get_or-set_other, None}
 use Rattle.std.specs.Prelude.{replicate}
 use Rattle.std.proofs.lemmas.Bool.{cases_eq, cases_lt, ne_eqb, lt-ltb}
-use Rattle.std.proofs.lemmas.List.{get_or_past, length-replicate, get_or-replicate}
+use Rattle.std.proofs.lemmas.List.{get_or_past, get_or_read, length-replicate}
 use Rattle.dpl_laminar.specs.Families.{Sets, IsLaminar, IsTie}
 use Rattle.dpl_laminar.specs.Changes.{IsSingles, IsNext}
 use Rattle.dpl_laminar.specs.Storing.{Stored, sets_of, walk, IsKept}
 use Rattle.dpl_laminar.proofs.Numbers.{true_false, cases_Option}
 use Rattle.dpl_laminar.proofs.Singles.{singles_family}
+use Rattle.dpl_list.proofs.Lists.{repeated}
+
+-- lists that keep sets
+abbrev pub stored : (size : ℕ) (live : List Bool) (rows : List (List Bool)) (values : List ℕ) (parents : List (Option ℕ))
+    (firsts counts ring : List ℕ) (joins : List (ℕ × ℕ)) (tops : List ℕ) → Stored
+stored size live rows values parents firsts counts ring joins tops = record {
+  size = size;
+  live = live;
+  rows = rows;
+  values = values;
+  parents = parents;
+  firsts = firsts;
+  counts = counts;
+  ring = ring;
+  joins = joins;
+  tops = tops;
+}
 
 -- a live set stands at a place of the lists
 pub live_below : (s : Stored) (i : ℕ) → IsKept s → get_or s.live i false ≡ true → i < 2 * s.size
@@ -17,13 +34,15 @@ live_below s i p h = elim (cases_lt i (length s.live)) [
   | inr past ↦ true_false (get_or s.live i false) h (get_or_past s.live i false past)
 ]
 
--- ---- single members
+-- what was read at a live set is one of its children
+pub first_read : (s : Stored) (i x : ℕ) → IsKept s → get_or s.live i false ≡ true → x ≡ get_or s.firsts i x → x ≡ get_or s.firsts i 0
+first_read s i x p h e = get_or_read s.firsts i x (omega (arith, live_below s i p h, p.firsts_length)) e 0
 
-pub same_items : {A : Type 0} (n k : ℕ) (d : A) → get_or (replicate n d) k d ≡ d
-same_items n k d = elim (cases_lt k n) [
-  | inl lt ↦ get_or-replicate n k d d lt
-  | inr past ↦ get_or_past (replicate n d) k d (omega (arith, length-replicate n d))
-]
+-- and how many it has
+pub count_read : (s : Stored) (i x : ℕ) → IsKept s → get_or s.live i false ≡ true → x ≡ get_or s.counts i x → x ≡ get_or s.counts i 0
+count_read s i x p h e = get_or_read s.counts i x (omega (arith, live_below s i p h, p.counts_length)) e 0
+
+-- ---- single members
 
 -- what the lists of single members are
 pub record AreStart (s : Stored) : Type 0 where
@@ -50,9 +69,9 @@ start_singles s p = record {
     | inl lt ↦ p.row_single i m lt hm
     | inr le ↦ ap (λ z. get_or z m false) (p.row_none i le) ∙ sym (ne_eqb i m (λ e. omega arith))
   ];
-  value = λ i. ap (λ z. get_or z i 0) p.values ∙ same_items (2 * s.size) i 0;
-  parent = λ i. ap (λ z. get_or z i None) p.parents ∙ same_items (2 * s.size) i None;
-  children = λ i. ap (λ z. walk (λ c. get_or s.ring c 0) (get_or s.firsts i 0) z) (ap (λ z. get_or z i 0) p.counts ∙ same_items (2 * s.size) i 0);
+  value = λ i. ap (λ z. get_or z i 0) p.values ∙ repeated (2 * s.size) i 0;
+  parent = λ i. ap (λ z. get_or z i None) p.parents ∙ repeated (2 * s.size) i None;
+  children = λ i. ap (λ z. walk (λ c. get_or s.ring c 0) (get_or s.firsts i 0) z) (ap (λ z. get_or z i 0) p.counts ∙ repeated (2 * s.size) i 0);
   after = λ i h. p.ring i (omega (arith, p.ring_length));
   top = p.tops;
 }

@@ -8,9 +8,6 @@ use Rattle.dpl_laminar.specs.Families.{has}
 pub true_false : {P : Type 0} (b : Bool) → b ≡ true → b ≡ false → P
 true_false b t f = let no : true ≡ false = sym t ∙ f in cc
 
-pub some_is : {a b : ℕ} → Some a ≡ Some b → a ≡ b
-some_is e = cc
-
 pub some_none : {P : Type 0} (o : Option ℕ) (p : ℕ) → o ≡ Some p → o ≡ None → P
 some_none o p s n = let no : Some p ≡ None = sym s ∙ n in cc
 

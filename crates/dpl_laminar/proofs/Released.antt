@@ -2,11 +2,12 @@
 use Rattle.std.proofs.Common.{arith, ◌≡◌, ◌≢◌, ℕ, zero, suc, ◌+◌, ◌-◌, ◌*◌, ◌%◌, ◌<◌, ◌≤◌, sym, ap, ◌∙◌, Bool, true}
 use Rattle.std.proofs.Common.{false, cond, inl, inr, length, get_or, Some, None}
 use Rattle.std.proofs.lemmas.Bool.{cases_eq, cases_Bool}
+use Rattle.std.proofs.lemmas.Option.{same_Some}
 use Rattle.dpl_laminar.specs.Loads.{size_of}
 use Rattle.dpl_laminar.specs.Families.{Sets, IsLaminar, has}
 use Rattle.dpl_laminar.specs.Changes.{Releases}
 use Rattle.dpl_laminar.proofs.Sums.{sum_same}
-use Rattle.dpl_laminar.proofs.Numbers.{has_at, true_false, some_none, some_is, cases_Option}
+use Rattle.dpl_laminar.proofs.Numbers.{has_at, true_false, some_none, cases_Option}
 
 -- a set of odd size has a member
 pub some_member : (n : ℕ) (set : ℕ → Bool) → size_of n set % 2 ≡ 1 → (m : ℕ) × (m < n) × (set m ≡ true)
@@ -158,7 +159,7 @@ released n f g set p ns hs live top q =
           | inr e ↦
               let w = p.children.child d c hd (sym (ap (λ z. has z c) (q.children_others d e)) ∙ k) in
               let nk : has kids c ≡ false = elim (cases_Bool (has kids c)) [
-                | inl t ↦ absurd (e (some_is (sym w.2 ∙ (p.children.child set c hs t).2)))
+                | inl t ↦ absurd (e (same_Some _ _ (sym w.2 ∙ (p.children.child set c hs t).2)))
                 | inr t ↦ t
               ] in
               (w.0, q.live_others c (not_top c d w.2) ∙ w.1, q.parent_others c nk ∙ w.2)

@@ -1,10 +1,9 @@
 -- The lists of a family after a new top is made.
 use Rattle.std.proofs.Common.{arith, ◌≡◌, ◌≢◌, ℕ, ◌+◌, ◌*◌, ◌%◌, ◌<◌, ◌≤◌, ◌⊎◌, refl, sym, ap, ◌∙◌, subst, Bool, true}
-use Rattle.std.proofs.Common.{false, cond, inl, inr, List, [], ◌++◌, take, map, length, get_or, set, length-set}
+use Rattle.std.proofs.Common.{false, cond, inl, inr, List, [], map, length, get_or, set, length-set}
 use Rattle.std.proofs.Common.{get_or-set_same, get_or-set_other, Option, Some, None}
 use Rattle.std.proofs.lemmas.Bool.{cases_eq, cases_lt, cases_Bool, cond-true, cond-false}
 use Rattle.std.proofs.lemmas.List.{get_or_past, get_or-map}
-use Rattle.std.proofs.Math.Seq.{take-append_seam}
 use Rattle.dpl_laminar.specs.Families.{Sets, IsLaminar, IsTie, has}
 use Rattle.dpl_laminar.specs.Changes.{AreJoined, IsShrunk}
 use Rattle.dpl_laminar.specs.Storing.{Stored, sets_of, walk, IsKept, IsNameOf}
@@ -238,9 +237,6 @@ shrunk_kept s cs js q row ps rg jn ts p j lt name w t =
     }
 
 -- ---- the lists as the code leaves them
-
-pub kept_whole : {A : Type 0} (xs ys : List A) (n : ℕ) → n ≡ length xs → take n (xs ++ ys) ≡ xs
-kept_whole {A} xs ys n e = let F : ℕ → List A = λ z. take z (xs ++ ys) in ap F e ∙ take-append_seam xs ys
 
 pub row_fits : (s : Stored) (cs : List ℕ) (js : List (ℕ × ℕ)) (i : ℕ) → AreJoined (sets_of s) cs js → i < length cs → get_or cs i 0 < 2 * s.size
 row_fits s cs js i j h = j.tops.below _ (has_at cs i h)

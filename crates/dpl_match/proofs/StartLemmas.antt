@@ -16,7 +16,7 @@ use Rattle.dpl_tree.proofs.Loads.{load_totals}
 use Rattle.dpl_tree.proofs.Raising.{values_kept}
 use Rattle.dpl_tree.proofs.Stages.{laminar_sized, single_total}
 use Rattle.dpl_tree.proofs.Ways.{joins_list, load_turned}
-use Rattle.dpl_laminar.proofs.Keeping.{same_items}
+use Rattle.dpl_list.proofs.Lists.{repeated}
 
 pub raised_begun : (n : ℕ) (dist : ℕ → ℕ → ℕ) (f : Sets) (sums : List ℕ) → IsSingles n f → IsFamily f → length sums ≡ n → AreRaised n dist f f sums 0
 raised_begun n dist f sums s fam e = record {
@@ -79,7 +79,7 @@ raised_alone n dist f g sums s r = record {
 pub raised_rest : (n : ℕ) (dist : ℕ → ℕ → ℕ) (f g : Sets) (sums : List ℕ) (mates : List (Option ℕ)) → IsMetric n dist →
     IsSingles n f → AreRaised n dist f g sums n → mates ≡ replicate n None → IsRest n g dist (mate_in mates)
 raised_rest n dist f g sums mates metric s r e =
-    let none = λ (m : ℕ). let z : mate_in mates m ≡ None = ap (λ (y : List (Option ℕ)). get_or y m None) e ∙ same_items n m None in z in
+    let none = λ (m : ℕ). let z : mate_in mates m ≡ None = ap (λ (y : List (Option ℕ)). get_or y m None) e ∙ repeated n m None in z in
     let no = λ (m t : ℕ) (k : mate_in mates m ≡ Some t). some_none {P = ⊥} (mate_in mates m) t k (none m) in
     let alone = raised_alone n dist f g sums s r in
     record {

@@ -4,8 +4,9 @@ use Rattle.std.proofs.Common.{true, false, cond, inl, inr, Some, eq-eqb}
 use Rattle.std.specs.Prelude.{option_and_then}
 use Rattle.std.proofs.lemmas.Bool.{cases_eq, cases_lt, cases_Bool, cond-true, cond-false, and_parts, and_from, and_left}
 use Rattle.std.proofs.lemmas.Bool.{and_right, ne_eqb, false_from_ne_true, true≢false}
+use Rattle.std.proofs.lemmas.Option.{same_Some}
 use Rattle.dpl_laminar.specs.Families.{Sets, IsFamily, climb}
-use Rattle.dpl_laminar.proofs.Numbers.{some_is, some_none, cases_Option}
+use Rattle.dpl_laminar.proofs.Numbers.{some_none, cases_Option}
 use Rattle.dpl_laminar.proofs.Sums.{sum_same, sum_zero, sum_added, sum_at}
 use Rattle.dpl_laminar.proofs.Reached.{size_less, all_reached}
 use Rattle.dpl_laminar.proofs.Released.{child_misses}
@@ -40,7 +41,7 @@ single_climbed f fam t h = record {
 pub climb_is : (f : Sets) → IsFamily f → (t c k : ℕ) → t < f.size → climb f t c ≡ Some k → IsClimbed f t k
 climb_is f fam t zero k h e =
     let P : ℕ → Type 0 = λ z. IsClimbed f t z in
-    subst P (some_is e) (single_climbed f fam t h)
+    subst P (same_Some _ _ e) (single_climbed f fam t h)
 climb_is f fam t (suc c) k h e =
     let r = climbed_from f t c k e in
     parent_climbed f fam t r.0 k h (climb_is f fam t c r.0 h r.1) r.2
@@ -59,7 +60,7 @@ chain_grows f fam t c (suc d) j k h less a b =
     let last = parent_larger f fam r.0 k w.below w.live r.2 in
     elim (cases_eq c d) [
       | inl e ↦
-          let same : j ≡ r.0 = some_is (sym a ∙ ap (climb f t) e ∙ r.1) in
+          let same : j ≡ r.0 = same_Some _ _ (sym a ∙ ap (climb f t) e ∙ r.1) in
           omega (arith, last, ap (size f) same)
       | inr ne ↦ omega (arith, last, chain_grows f fam t c d j r.0 h (omega arith) a r.1)
     ]
@@ -85,7 +86,7 @@ inner_single f fam t h = sum_same (2 * f.size) (λ j. cond (comes_before f j t &
     let q = and_parts (comes_before f j t) (f.holds j t) both in
     let r = place_of f fam j t hj h q.1 in
     elim (cases_eq r.0 0) [
-      | inl e ↦ not_itself f j t q.0 (some_is (sym r.1 ∙ ap (climb f t) e))
+      | inl e ↦ not_itself f j t q.0 (same_Some _ _ (sym r.1 ∙ ap (climb f t) e))
       | inr ne ↦ not_larger f j t q.0 (chain_grows f fam t 0 r.0 t j h (omega arith) refl r.1)
     ]))) ∙ sum_zero (2 * f.size)
 
@@ -98,9 +99,9 @@ before_parent f fam t c j k p ht hj held at up ne b =
     elim (cases_lt r.0 c) [
       | inl less ↦ before_from f j k (inl (chain_grows f fam t r.0 c j k ht less r.1 at))
       | inr more ↦ elim (cases_eq r.0 c) [
-        | inl e ↦ absurd (ne (some_is (sym r.1 ∙ ap (climb f t) e ∙ at)))
+        | inl e ↦ absurd (ne (same_Some _ _ (sym r.1 ∙ ap (climb f t) e ∙ at)))
         | inr apart ↦ elim (cases_eq r.0 (suc c)) [
-          | inl e ↦ absurd (not_itself f j p b (some_is (sym r.1 ∙ ap (climb f t) e ∙ above)))
+          | inl e ↦ absurd (not_itself f j p b (same_Some _ _ (sym r.1 ∙ ap (climb f t) e ∙ above)))
           | inr far ↦ absurd (not_larger f j p b (chain_grows f fam t (suc c) r.0 p j ht (omega arith) above r.1))
         ]
       ]

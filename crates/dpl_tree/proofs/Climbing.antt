@@ -1,6 +1,7 @@
 use Rattle.std.proofs.Common.{arith, ◌≡◌, ◌≢◌, ℕ, ◌<◌, ◌⊎◌, refl, sym, ap, ◌∙◌, inl, inr, Option, Some, None}
 use Rattle.std.proofs.lemmas.Bool.{cases_eq}
-use Rattle.dpl_laminar.proofs.Numbers.{some_is, some_none}
+use Rattle.std.proofs.lemmas.Option.{same_Some}
+use Rattle.dpl_laminar.proofs.Numbers.{some_none}
 use Rattle.dpl_laminar.specs.Families.{Sets}
 use Rattle.dpl_tree.specs.steps.Forests.{free, outer, Forest, IsTree, IsClimb}
 use Rattle.dpl_tree.specs.Mates.{IsExit, ArePairs, Joins, loads}
@@ -16,9 +17,9 @@ joined_pairs n f load dist mate new s t p hs ht apart tight tight' sfree tfree j
     let nt = λ (m u : ℕ) (hm : m < n) (k : mate m ≡ Some u) (e : m ≡ t). tfree m u (record { below = hm; top = ap f.top e; paired = k }) in
     let cases = λ (m u : ℕ) (k : new m ≡ Some u). (elim (cases_eq m s) as
     (λ _. ((m ≡ s) × (u ≡ t)) ⊎ (((m ≡ t) × (u ≡ s)) ⊎ ((m ≢ s) × (m ≢ t) × (mate m ≡ Some u)))) [
-      | inl e ↦ inl (e, some_is (sym k ∙ ap new e ∙ j.first))
+      | inl e ↦ inl (e, same_Some _ _ (sym k ∙ ap new e ∙ j.first))
       | inr a ↦ elim (cases_eq m t) [
-        | inl e ↦ inr (inl (e, some_is (sym k ∙ ap new e ∙ j.second)))
+        | inl e ↦ inr (inl (e, same_Some _ _ (sym k ∙ ap new e ∙ j.second)))
         | inr b ↦ inr (inr (a, b, sym (j.others m a b) ∙ k))
       ]
     ]) in
@@ -85,7 +86,7 @@ dropped_pairs n f load dist mate new ex b p hx xb d =
       back = λ m u hm k.
           let w = old m u k in
           let q = p.back m u hm w.2 in
-          d.others u (λ e. w.1 (some_is (sym q ∙ ap mate e ∙ xb))) (λ e. w.0 (some_is (sym q ∙ ap mate e ∙ p.back ex b hx xb))) ∙ q;
+          d.others u (λ e. w.1 (same_Some _ _ (sym q ∙ ap mate e ∙ xb))) (λ e. w.0 (same_Some _ _ (sym q ∙ ap mate e ∙ p.back ex b hx xb))) ∙ q;
       leaves = λ m u hm k. p.leaves m u hm (old m u k).2;
       tight = λ m u hm k. p.tight m u hm (old m u k).2;
       alone = λ m a u c hm ha e k l. p.alone m a u c hm ha e (old m u k).2 (old a c l).2;

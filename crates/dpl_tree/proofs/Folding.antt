@@ -1,6 +1,7 @@
 use Rattle.std.proofs.Common.{arith, ◌≡◌, ◌≢◌, ℕ, ◌<◌, ◌≤◌, refl, sym, ap, ◌∙◌, true, false, inl, inr, Option, Some, List}
 use Rattle.std.proofs.lemmas.Bool.{cases_eq, cases_Bool}
-use Rattle.dpl_laminar.proofs.Numbers.{some_is, some_none, true_false, cases_Option}
+use Rattle.std.proofs.lemmas.Option.{same_Some}
+use Rattle.dpl_laminar.proofs.Numbers.{some_none, true_false, cases_Option}
 use Rattle.dpl_laminar.specs.Changes.{AreTops, Gathers}
 use Rattle.dpl_laminar.specs.Families.{Sets, IsLaminar, has}
 use Rattle.dpl_tree.specs.steps.Forests.{free, outer, inner, Forest, IsTree, IsCycle, Folds}
@@ -15,7 +16,7 @@ was_mate n g mate new d m t hm k = elim (cases_Option (mate m)) [
   | inr w ↦ elim (cases_eq (g.top m) (g.top w.0)) [
     | inl e ↦ some_none (new m) t k (d.inside m w.0 hm w.1 e)
     | inr ne ↦
-        let e : w.0 ≡ t = some_is (sym (d.outside m w.0 hm w.1 ne) ∙ k) in
+        let e : w.0 ≡ t = same_Some _ _ (sym (d.outside m w.0 hm w.1 ne) ∙ k) in
         (w.1 ∙ ap Some e, λ z. ne (z ∙ ap g.top (sym e)))
   ]
 ]

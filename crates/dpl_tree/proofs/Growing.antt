@@ -1,6 +1,6 @@
 use Rattle.std.proofs.Common.{arith, ◌≡◌, ◌≢◌, ℕ, ◌<◌, ◌⊎◌, refl, sym, ap, ◌∙◌, inl, inr, Option}
 use Rattle.std.proofs.lemmas.Bool.{cases_eq}
-use Rattle.dpl_laminar.proofs.Numbers.{some_is}
+use Rattle.std.proofs.lemmas.Option.{same_Some}
 use Rattle.dpl_laminar.specs.Families.{Sets, IsLaminar}
 use Rattle.dpl_tree.specs.steps.Forests.{Place, free, outer, inner, Forest, IsTree, Grows}
 use Rattle.dpl_tree.specs.Mates.{IsExit, ArePairs}
@@ -24,7 +24,7 @@ pub exit_one : (n : ℕ) (f : Sets) (load dist : ℕ → ℕ → ℕ) (mate : �
     (i m t s u : ℕ) → IsExit n f mate i m t → IsExit n f mate i s u → (m ≡ s) × (t ≡ u)
 exit_one n f load dist mate p i m t s u a b =
     let e : m ≡ s = p.alone m s t u a.below b.below (a.top ∙ sym b.top) a.paired b.paired in
-    (e, some_is (sym a.paired ∙ ap mate e ∙ b.paired))
+    (e, same_Some _ _ (sym a.paired ∙ ap mate e ∙ b.paired))
 
 -- the other end of a pair
 pub exit_back : (n : ℕ) (f : Sets) (load dist : ℕ → ℕ → ℕ) (mate : ℕ → Option ℕ) → ArePairs n f load dist mate →

@@ -1,6 +1,5 @@
 -- A matching whose lists are changed in place, and what an event makes of it.
-use Rattle.std.proofs.Common.{arith, ◌≡◌, ℕ, ◌+◌, ◌*◌, ◌<◌, ◌≤◌, sym, ap, ◌∙◌, List, length, take, drop, ◌++◌, get_or}
-use Rattle.std.proofs.Math.Seq.{take-append_seam}
+use Rattle.std.proofs.Common.{arith, ◌≡◌, ℕ, ◌+◌, ◌*◌, ◌<◌, ◌≤◌, ap, ◌∙◌, length, get_or}
 use Rattle.dpl_laminar.specs.Storing.{sets_of}
 use Rattle.dpl_tree.specs.declared.matching.Matching.{Matching}
 use Rattle.dpl_tree.specs.declared.tree.Tree.{Tree}
@@ -9,10 +8,6 @@ use Rattle.dpl_tree.specs.Metrics.{Table, dist_of}
 use Rattle.dpl_tree.specs.Views.{forest_of, IsSized}
 use Rattle.dpl_tree.specs.steps.Growth.{AreListed, IsNext}
 use Rattle.dpl_tree.proofs.Events.{IsEvent}
-
--- a list that was written over in place, as long as it was
-pub refilled : {X : Type 0} {n : ℕ} {ws : List X} (xs : List X) → n ≡ length xs → length ws ≡ length xs → take n (ws ++ drop (length ws) xs) ≡ ws
-refilled {n} {ws} xs l e = ap (λ k. take k (ws ++ drop (length ws) xs)) (l ∙ sym e) ∙ take-append_seam ws (drop (length ws) xs)
 
 -- an event takes a growing matching to the next one
 pub event_next : {metric : Table} {m next : Matching} {t grown : Tree} {after : ℕ → ℕ} → ((bound : ℕ) → after bound ≤ bound + 4 * metric.size) →

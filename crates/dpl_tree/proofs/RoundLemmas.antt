@@ -7,9 +7,10 @@ use Rattle.std.proofs.lemmas.Bool.{cases_eq, cases_lt}
 use Rattle.std.proofs.lemmas.List.{length_push, get_or_append_left}
 use Rattle.std.proofs.Math.Seq.{get_or-append_seam}
 use Rattle.std.proofs.Math.Nat.{mod-add-mod, mod_self, mod-eq_of_lt}
+use Rattle.std.proofs.lemmas.Option.{same_Some}
 use Rattle.dpl_laminar.specs.Families.{Sets, IsFamily, has, next_in, climb, AreReached}
 use Rattle.dpl_laminar.specs.Changes.{IsNext}
-use Rattle.dpl_laminar.proofs.Numbers.{has_at, place_in, cases_Option, some_is, some_none}
+use Rattle.dpl_laminar.proofs.Numbers.{has_at, place_in, cases_Option, some_none}
 use Rattle.dpl_tree.specs.Mates.{loads}
 use Rattle.dpl_tree.specs.Metrics.{IsMetric}
 use Rattle.dpl_tree.specs.Stages.{IsRest}
@@ -210,7 +211,7 @@ pub ring_around : (n : ℕ) (f : Sets) (dist : ℕ → ℕ → ℕ) (mate : ℕ 
     f.parent first ≡ Some set → IsRingFrom f first sets joins → IsAround n f dist set sets joins
 ring_around n f dist mate set first sets joins rest ns hs live ep ring =
     let lam = rest.laminar in
-    let ps : ring.parent ≡ set = some_is (sym ring.is_parent ∙ ep) in
+    let ps : ring.parent ≡ set = same_Some _ _ (sym ring.is_parent ∙ ep) in
     let cs : List ℕ = f.children set in
     let k : ℕ = length cs in
     let e : ℕ = ring.at in
@@ -393,7 +394,7 @@ rising_more f set m k child p fam hm r e ne =
       steps = climb_next f m k child r.steps ∙ e;
       reached = r.reached;
       more = elim (cases_eq (k + 1) r.reaches) [
-        | inl z ↦ absurd (ne (some_is (sym (climb_next f m k child r.steps ∙ e) ∙ ap (climb f m) z ∙ r.reached)))
+        | inl z ↦ absurd (ne (same_Some _ _ (sym (climb_next f m k child r.steps ∙ e) ∙ ap (climb f m) z ∙ r.reached)))
         | inr z ↦ omega (arith, r.more, z)
       ];
       few = r.few;
@@ -411,7 +412,7 @@ rising_begun f set m fam all hm above below live held =
       steps = refl;
       reached = w.2;
       more = elim (cases_eq w.0 0) [
-        | inl z ↦ absurd (omega (arith, some_is (ap (climb f m) (sym z) ∙ w.2), hm, above))
+        | inl z ↦ absurd (omega (arith, same_Some _ _ (ap (climb f m) (sym z) ∙ w.2), hm, above))
         | inr z ↦ omega (arith, z)
       ];
       few = omega (arith, w.1, size_most f.size (f.holds set));

@@ -25,9 +25,6 @@ change_room n f x v dist by p m within c =
 self : (i : ℕ) → eqb i i ≡ true
 self i = eq-eqb i i refl
 
-one : (i q : ℕ) → eqb i q ≡ true → i ≡ q
-one i q h = eqb-true i q h
-
 -- the inner tops have enough: the sets by the scan, the single members by the triangle rule
 pub single_enough : (n : ℕ) (f : Sets) (x : Forest) (v : ℕ → ℕ) (dist : ℕ → ℕ → ℕ) (by i : ℕ) → IsLaminar n f →
     IsMetric n dist → ArePairs n f (load_in (2 * n) v f.holds) dist x.mate →
@@ -40,7 +37,7 @@ single_enough n f x v dist by i p m pairs tree c hi e tot =
     let ti : f.top i ≡ i = p.tops.top_alone i i (omega arith) hi (tree.tops i (inner_in e)).2 (p.sets.single i i hi hi ∙ self i) in
     -- the only member of the set is i
     let only = λ (q : ℕ) (hq : q < n) (t : f.top q ≡ i).
-    (let z : i ≡ q = one i q (sym (p.sets.single i q hi hq) ∙ ap (λ a. f.holds a q) (sym t) ∙ p.tops.top_holds q hq)
+    (let z : i ≡ q = eqb-true i q (sym (p.sets.single i q hi hq) ∙ ap (λ a. f.holds a q) (sym t) ∙ p.tops.top_holds q hq)
     in z) in
     let ee : i ≡ x.entry i = only (x.entry i) k.1 ent in
     let em : i ≡ ex.0 = only ex.0 ex.2.below ex.2.top in

@@ -9,7 +9,8 @@ loop-i-init c = record {
   coloured = coloured_from c.args.graph.now _ _ _ _ (plane_of c.args.graph.now c.args.map.now c.requires.map)
       c.requires.meets c.in_ok-names.ensures.length (c.in_ok-colours.ensures.items_if_clones_equal (λ y h. h))
       c.in_ok-names.ensures.each;
-  listed = listed_from c.args.graph.now.nodes _ _ c.in_ok-names.ensures.length c.in_ok-rows.ensures.length c.in_ok-names.ensures.each c.in_ok-rows.ensures.each;
+  listed = listed_from c.args.graph.now.nodes _ _ _ _ c.in_ok-names.ensures.length c.in_ok-lists.ensures.nexts c.in_ok-lists.ensures.lasts
+      c.in_ok-lists.ensures.lengths c.in_ok-names.ensures.each c.in_ok-lists.ensures.next c.in_ok-lists.ensures.last;
 }
 
 pub returns-clause-colouring : goal.returns-clause-colouring

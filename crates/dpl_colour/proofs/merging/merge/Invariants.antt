@@ -1,5 +1,8 @@
-use Rattle.dpl_colour.specs.Merges.{IsMerging}
+use Rattle.dpl_colour.proofs.ListedLemmas.{IsWalked, named}
 use Rattle.dpl_colour.proofs.merging.merge.Given as goal
 
-abbrev pub invariant-loop-i : goal.invariant-loop-i
-invariant-loop-i l = IsMerging l.fn.names l.fn.colours l.from l.to l.flip l.row l.i l.names l.colours
+abbrev pub invariant-nodes : goal.invariant-nodes
+invariant-nodes l = IsWalked l.fn.names l.fn.colours l.next l.from l.to l.flip l.node l.names l.colours
+
+abbrev pub decreases-nodes : goal.decreases-nodes
+decreases-nodes l = named l.from l.names

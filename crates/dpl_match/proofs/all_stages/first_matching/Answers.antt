@@ -4,8 +4,8 @@ use Rattle.dpl_laminar.specs.Storing.{sets_of}
 use Rattle.dpl_tree.specs.Metrics.{dist_of}
 use Rattle.dpl_tree.specs.Stages.{IsRest}
 use Rattle.dpl_tree.specs.Views.{mate_in}
-use Rattle.dpl_tree.proofs.MatchingLemmas.{refilled}
 use Rattle.dpl_match.proofs.all_stages.first_matching.Goals as goal
+use Rattle.dpl_list.proofs.Lists.{refilled}
 
 pub returns-in_ok-sums-in-Ok-clause-between : goal.returns-in_ok-sums-in-Ok-clause-between
 returns-in_ok-sums-in-Ok-clause-between g c =
@@ -15,8 +15,8 @@ returns-in_ok-sums-in-Ok-clause-between g c =
     let sums = c.in_ok-sums-in-Ok.sums in
     let mates_size = c.begin.auto.mates ∙ ap length c.deref_mut.ensures.value in
     let sums_size = c.begin.auto.sums ∙ ap length c.deref_mut-in-Ok.ensures.value in
-    let same_mates = refilled {ws = c.begin.new.mates} mates.items mates.ok.0 mates_size in
-    let same_sums = refilled {ws = c.begin.new.sums} sums.items sums.ok.0 sums_size in
+    let same_mates = refilled _ c.begin.new.mates mates.items mates.ok.0 mates_size in
+    let same_sums = refilled _ c.begin.new.sums sums.items sums.ok.0 sums_size in
     let mates_many : length mates.items ≡ n = omega (arith, c.in_ok-mates-in-Ok.ensures.len, mates.ok.0, c.size-n.ensures.value) in
     let sums_many : length sums.items ≡ n = omega (arith, c.in_ok-sums-in-Ok.ensures.len, sums.ok.0, c.size-n.ensures.value) in
     let e = c.begin.ensures in

@@ -11,13 +11,13 @@ pub surround-requires-clause-faces : goal.surround-requires-clause-faces
 surround-requires-clause-faces c = terminals_below _ _ c.requires.dual c.requires.terminals
 
 pub surround-requires-clause-members : goal.surround-requires-clause-members
-surround-requires-clause-members c = rw c.deref.ensures.value (table_members _ _ _ _ c.in_ok-table.ensures.table c.requires.members)
+surround-requires-clause-members c = table_members _ _ _ _ c.in_ok-table.ensures.table c.requires.members
 
 pub surround-requires-clause-inner : goal.surround-requires-clause-inner
-surround-requires-clause-inner c = rw c.deref.ensures.value (table_inner _ _ _ c.in_ok-table.ensures.family c.in_ok-table.ensures.table)
+surround-requires-clause-inner c = table_inner _ _ _ c.in_ok-table.ensures.family c.in_ok-table.ensures.table
 
 pub surround-requires-clause-small : goal.surround-requires-clause-small
-surround-requires-clause-small c = rw c.deref-2.ensures.value (table_small _ _ _ c.in_ok-table.ensures.family c.in_ok-table.ensures.table)
+surround-requires-clause-small c = rw c.deref.ensures.value (table_small _ _ _ c.in_ok-table.ensures.family c.in_ok-table.ensures.table)
 
 pub returns : goal.returns
 returns c =
@@ -37,5 +37,5 @@ returns c =
       values = limited.values;
       faces_are = refl;
     } in
-    let stacked = rw (c.deref.ensures.value, c.deref-2.ensures.value) at c.in_ok-moats.ensures in
+    let stacked = rw c.deref.ensures.value at c.in_ok-moats.ensures in
     moats_are _ _ _ _ _ _ part (stacked (sets_of c.args.family.now) limited.measured.points faces c.in_ok-table.ensures.table (field_of _ _ _ _ _ part))

@@ -1,1 +1,0 @@
-use Rattle.dpl_solve.proofs.pairing.are_near.Goals as goal

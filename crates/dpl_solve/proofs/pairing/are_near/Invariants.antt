@@ -1,4 +1,3 @@
-use Rattle.std.proofs.Common.{ℕ, ◌<◌}
 use Rattle.std.specs.Prelude.{slice_index}
 use Rattle.dpl_tree.specs.Metrics.{dist_of}
 use Rattle.dpl_solve.specs.Metrics.{AreNearer}

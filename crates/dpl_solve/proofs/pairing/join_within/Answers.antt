@@ -1,4 +1,4 @@
-use Rattle.std.proofs.Common.{arith, refl, ap, sym, subst, ◌∙◌, ℕ, List, length, ◌≡◌, ◌<◌, ◌≤◌}
+use Rattle.std.proofs.Common.{arith, refl, sym, subst, ℕ, List, length, ◌<◌}
 use Rattle.std.specs.Prelude.{slice_index}
 use Rattle.dpl_map.specs.Views.{view_of}
 use Rattle.dpl_dual.specs.Duals.{CameFromDual}

@@ -7,9 +7,9 @@ use Rattle.dpl_laminar.proofs.Sums.{sum_added}
 use Rattle.dpl_tree.specs.steps.Forests.{gain, drop_of}
 use Rattle.dpl_tree.specs.Views.{place_in}
 use Rattle.dpl_tree.proofs.Growing.{outer_in}
-use Rattle.dpl_tree.proofs.MatchingLemmas.{refilled}
 use Rattle.dpl_tree.proofs.Raising.{values_kept}
 use Rattle.dpl_tree.proofs.change.shift.Goals as goal
+use Rattle.dpl_list.proofs.Lists.{refilled}
 
 pub lift-requires-clause-live : goal.lift-requires-clause-live
 lift-requires-clause-live g c =
@@ -31,12 +31,12 @@ returns-clause-totals g c =
     let total = rw c.deref_mut.ensures.value at c.retotal.ensures in
     λ m h. subst (λ (z : List ℕ). get_or z m 0 + drop_of (place_in labels ((sets_of c.args.matching.now.family).top m)) * c.args.by ≡
     get_or sums m 0 + gain (place_in labels ((sets_of c.args.matching.now.family).top m)) * c.args.by)
-    (sym (refilled sums c.args.matching.now.sums.ok.0 (c.retotal.auto.totals ∙ ap length c.deref_mut.ensures.value)))
+    (sym (refilled _ _ sums c.args.matching.now.sums.ok.0 (c.retotal.auto.totals ∙ ap length c.deref_mut.ensures.value)))
     (subst (λ (z : ℕ). get_or c.retotal.new.totals m 0 + drop_of (place_in labels z) * c.args.by ≡
     get_or sums m 0 + gain (place_in labels z) * c.args.by) (ap (λ (z : Sets). z.top m) e) (total m h))
 
 pub returns-clause-count : goal.returns-clause-count
-returns-clause-count g c = ap length (refilled c.args.matching.now.sums.items c.args.matching.now.sums.ok.0
+returns-clause-count g c = ap length (refilled _ _ c.args.matching.now.sums.items c.args.matching.now.sums.ok.0
     (c.retotal.auto.totals ∙ ap length c.deref_mut.ensures.value)) ∙ c.retotal.auto.totals ∙ ap length c.deref_mut.ensures.value
 
 pub returns-clause-steps : goal.returns-clause-steps

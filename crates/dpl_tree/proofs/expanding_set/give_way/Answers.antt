@@ -1,7 +1,8 @@
 use Rattle.std.proofs.Common.{arith, refl, ap, ◌∙◌, length}
-use Rattle.dpl_tree.proofs.MatchingLemmas.{refilled, event_next, event_lists}
+use Rattle.dpl_tree.proofs.MatchingLemmas.{event_next, event_lists}
 use Rattle.dpl_tree.proofs.WayGiven.{around_few, opening_first, gave_way, sized_on}
 use Rattle.dpl_tree.proofs.expanding_set.give_way.Goals as goal
+use Rattle.dpl_list.proofs.Lists.{refilled}
 
 pub pair_round-requires-clause-small : goal.pair_round-requires-clause-small
 pair_round-requires-clause-small g c =
@@ -34,7 +35,7 @@ returns g c =
     let entered = sized_on c.enter.new.tree q.growing.sized c.enter.ensures.labels c.enter.ensures.ranks c.enter.ensures.links in
     let sized = sized_on c.walk.new.tree entered c.walk.ensures.labels c.walk.ensures.ranks c.walk.ensures.links in
     let size = c.pair_round.auto.mates ∙ ap length c.deref_mut.ensures.value in
-    let back = refilled {ws = c.pair_round.new.mates} c.args.matching.now.mates.items c.args.matching.now.mates.ok.0 size in
+    let back = refilled _ c.pair_round.new.mates c.args.matching.now.mates.items c.args.matching.now.mates.ok.0 size in
     let done = gave_way c.args.matching.now.mates.items _ c.size-size.ensures.table.metric q.growing.lists.mates_count q.growing.stage q.small
     c.in_ok-path.ensures c.expand.ensures.value c.expand.ensures.family q.growing.sized entered sized
     c.deref.ensures.value (back ∙ rw c.deref_mut.ensures.value at c.pair_round.ensures) c.deref-2.ensures.value

@@ -2,9 +2,10 @@ use Rattle.std.proofs.Common.{arith, rules, ℕ, refl, sym, ap, subst, ◌∙◌
 use Rattle.dpl_laminar.specs.Storing.{sets_of}
 use Rattle.dpl_tree.specs.Mates.{DropsInside}
 use Rattle.dpl_tree.specs.Views.{mate_in}
-use Rattle.dpl_tree.proofs.MatchingLemmas.{refilled, event_next, event_lists}
+use Rattle.dpl_tree.proofs.MatchingLemmas.{event_next, event_lists}
 use Rattle.dpl_tree.proofs.Folded.{folding_of, folding_from, folding_asked, tops_seen, free_outside_of, folded_up}
 use Rattle.dpl_tree.proofs.fold_up.fold.Goals as goal
+use Rattle.dpl_list.proofs.Lists.{refilled}
 
 pub tops_of-requires : goal.tops_of-requires
 tops_of-requires g c =
@@ -31,7 +32,7 @@ returns g c =
     let w = folding_of q.growing.stage q.pair.from q.pair.to q.tight q.pair.apart c.in_ok-meeting.ensures c.in_ok-joins.ensures c.deref-3.ensures.value in
     let tops = tops_seen w c.in_ok-children.ensures c.deref.ensures.value c.deref-3.ensures.value in
     let size = c.drop_inside.auto.mates ∙ ap length c.deref_mut.ensures.value in
-    let back = sym (refilled {ws = c.drop_inside.new.mates} c.args.matching.now.mates.items c.args.matching.now.mates.ok.0 size) in
+    let back = sym (refilled _ c.drop_inside.new.mates c.args.matching.now.mates.items c.args.matching.now.mates.ok.0 size) in
     let drops = subst (λ (z : List (Option ℕ)). DropsInside (length c.args.matching.now.mates.items) (sets_of c.shrink.new.self)
     (mate_in c.args.matching.now.mates.items) (mate_in z)) back (rw c.deref_mut.ensures.value at c.drop_inside.ensures) in
     let done = folded_up q.growing.stage w (c.deref-2.ensures.value ∙ tops) (c.deref-4.ensures.value ∙ tops) c.in_ok-set.ensures.ok c.shrink.ensures.family

@@ -1,9 +1,11 @@
 use Rattle.std.proofs.Common.{arith, ◌+◌, sym, ap, ◌∙◌, subst, length, map, ◌++◌, take, drop}
+use Rattle.std.proofs.lemmas.List.{take_at}
 use Rattle.dpl_laminar.specs.Changes.{AreJoined, IsShrunk}
 use Rattle.dpl_laminar.specs.Storing.{Stored, sets_of, IsKept}
 use Rattle.dpl_laminar.specs.Families.{has}
 use Rattle.dpl_laminar.proofs.Numbers.{has_at}
-use Rattle.dpl_laminar.proofs.Shrinking.{AreWritten, with_set, tops_apart, row_fits, kept_whole, shrink_answer}
+use Rattle.dpl_laminar.proofs.Keeping.{stored}
+use Rattle.dpl_laminar.proofs.Shrinking.{AreWritten, with_set, tops_apart, row_fits, shrink_answer}
 use Rattle.dpl_laminar.proofs.family.Family.shrink.Given as given
 use Rattle.dpl_laminar.proofs.family.Family.shrink.Goals as goal
 
@@ -38,19 +40,9 @@ tie-requires-clause-alone g c = λ i h.
 
 -- the lists as they were when the call began
 abbrev before : (g : given.Over) → goal.After-self-7-1 g → Stored
-before g c = record {
-  size = c.self.inside.size;
-  live = c.self.inside.live.items;
-  rows = c.self.inside.rows.items;
-  values = c.self.inside.values.items;
-  parents = c.self.inside.parents.items;
-  firsts = c.self.inside.firsts.items;
-  counts = c.self.inside.counts.items;
-  ring = c.self.inside.ring;
-  joins = c.self.inside.joins.items;
-  tops =
-      c.self.inside.tops.items;
-}
+before g c = stored c.self.inside.size c.self.inside.live.items c.self.inside.rows.items c.self.inside.values.items
+    c.self.inside.parents.items c.self.inside.firsts.items c.self.inside.counts.items c.self.inside.ring
+    c.self.inside.joins.items c.self.inside.tops.items
 
 -- the lists as they are when it ends
 abbrev after : (g : given.Over) → goal.After-self-7-1 g → Stored
@@ -81,9 +73,9 @@ answer g c =
     } in
     shrink_answer _ c.args.children.now c.args.joins.now c.name_of-name.result _ _ _ _ _ _ _ _ c.self.invariant j
     c.name_of-name.ensures.below (rw c.deref-2.ensures.value at c.name_of-name.ensures.name) written
-    (kept_whole c.adopt.new.parents _ c.self.inside.parents.len (omega (arith, c.self.inside.parents.ok, written.parents_length)))
-    (kept_whole c.join.new.all _ c.self.inside.joins.len (omega (arith, c.self.inside.joins.ok, written.joins_length)))
-    (kept_whole c.gather.new.tops _ c.self.inside.tops.len (omega (arith, c.self.inside.tops.ok, written.tops_length)))
+    (take_at c.adopt.new.parents _ c.self.inside.parents.len (omega (arith, c.self.inside.parents.ok, written.parents_length)))
+    (take_at c.join.new.all _ c.self.inside.joins.len (omega (arith, c.self.inside.joins.ok, written.joins_length)))
+    (take_at c.gather.new.tops _ c.self.inside.tops.len (omega (arith, c.self.inside.tops.ok, written.tops_length)))
 
 pub invariant_of-self : goal.invariant_of-self
 invariant_of-self g c = (answer g c).0

@@ -1,5 +1,5 @@
 use Rattle.std.proofs.Common.{◌≡◌, ℕ, ◌<◌, length, get_or}
-use Rattle.dpl_colour.proofs.colours.ascending.Given as goal
+use Rattle.dpl_colour.proofs.lists.ascending.Given as goal
 
 abbrev pub invariant-loop-i : goal.invariant-loop-i
 invariant-loop-i l = (length l.v.items ≡ l.i) × ((k : ℕ) → k < l.i → get_or l.v.items k 0 ≡ k)
