@@ -14,7 +14,7 @@ use Rattle.dpl_lex.proofs.CuttingRules.{plain_is_cut, comment_is_cut}
 use Rattle.dpl_rules.specs.declared.command.Command.{Command}
 use Rattle.dpl_rules.specs.declared.command.Command.TheVariants.{Idle, Layer, Finish}
 use Rattle.dpl_rules.specs.Bounds.{command_of, is_command_in_bounds}
-use Rattle.dpl_rules.specs.Forms.{form_of, comment_of, layer_of}
+use Rattle.dpl_rules.specs.Forms.{form_of, comment_of, layer_command}
 use Rattle.dpl_boxes.specs.Lines.{IsRead, is_flat, CommentsAreRead}
 use Rattle.dpl_boxes.specs.MaskLines.{start_line, finish_line, call_line, LayersAreRead}
 use Rattle.dpl_boxes.proofs.NumberLemmas.{list_all-weaker}
@@ -87,11 +87,11 @@ prefix_len-all (b ∷ bs) h =
     let s = and_parts (is_name_byte b) (list_all is_name_byte bs) h in
     rw (s.0, prefix_len-all bs s.1) (omega arith)
 
-layer_of-name : (name : List ℕ) → is_name name ≡ true → layer_of (32 ∷ name) ≡ Some (Layer name)
-layer_of-name name h =
+layer_command-name : (name : List ℕ) → is_name name ≡ true → layer_command (32 ∷ name) ≡ Some (Layer name)
+layer_command-name name h =
     let all = name_bytes name h in
     rw (drop_while-name name all, prefix_len-all name all, take-length name, drop-length name, h) refl
 
 pub layer_is_read : LayersAreRead
 layer_is_read name h = plain_is_read 76 (32 ∷ name) (Layer name) refl
-    (list_all-weaker is_name_byte is_inside name_byte_is_inside name (name_bytes name h)) (layer_of-name name h) refl
+    (list_all-weaker is_name_byte is_inside name_byte_is_inside name (name_bytes name h)) (layer_command-name name h) refl

@@ -1,5 +1,5 @@
 -- Small cases.
-use Rattle.std.proofs.Common.{◌≡◌, ◌⊎◌, inl, inr, ℕ, zero, suc, Bool, true, false, ◌==◌, List, [], ◌∷◌, map, refl, sym, ◌∙◌, get_or}
+use Rattle.std.proofs.Common.{◌≡◌, inl, inr, ℕ, zero, suc, true, false, ◌==◌, List, [], ◌∷◌, map, refl, sym, ◌∙◌, get_or}
 use Rattle.std.proofs.lemmas.Bool.Decides.{eqb_tells}
 
 pub of_eq : (a b : ℕ) → (a == b) ≡ true → a ≡ b
@@ -7,10 +7,6 @@ of_eq a b h = elim (eqb_tells a b) [ inl e ↦ e.1 | inr e ↦ let f : false ≡
 
 pub to_eq : (a b : ℕ) → a ≡ b → (a == b) ≡ true
 to_eq a b h = elim (eqb_tells a b) [ inl e ↦ e.0 | inr e ↦ absurd (e.1 h) ]
-
-pub bool_cases : (b : Bool) → (b ≡ true) ⊎ (b ≡ false)
-bool_cases true = inl refl
-bool_cases false = inr refl
 
 -- a read of a list of images
 pub get_map : {X Y : Type 0} (f : X → Y) (xs : List X) (i : ℕ) (d : X) → get_or (map f xs) i (f d) ≡ f (get_or xs i d)

@@ -7,7 +7,7 @@ use Rattle.std.specs.Int.{int_min, int_max}
 use Rattle.std.proofs.Math.IntN.{negsuc}
 use Rattle.std.proofs.lemmas.Int.{ints}
 use Rattle.std.proofs.lemmas.Grind.{common_steps}
-use Rattle.std.proofs.lemmas.List.Elements.{All-append}
+use Rattle.std.proofs.lemmas.List.Elements.{All-append, All-nil, All-cons}
 use Rattle.dpl_lex.specs.declared.types.Ending.{Ending}
 use Rattle.dpl_rules.specs.declared.command.Spot.{Spot}
 use Rattle.dpl_rules.specs.declared.command.BoxForm.{BoxForm}
@@ -29,7 +29,7 @@ use Rattle.dpl_calls.specs.Parts.{Part, is_same, where_true, scaled_extent, scal
 use Rattle.dpl_calls.specs.Kept.{IsLevel, AreLevel, HasLevelSides, IsSound, IsPartKept}
 use Rattle.dpl_calls.proofs.Cases.{of_eq}
 use Rattle.dpl_calls.proofs.Nearness.{in_bounds_le}
-use Rattle.dpl_calls.proofs.FarParts.{all_cons, all_nil, path_near, leg_near, box_near}
+use Rattle.dpl_calls.proofs.FarParts.{path_near, leg_near, box_near}
 use Rattle.dpl_calls.proofs.Few.{AllFit}
 use Rattle.dpl_calls.proofs.Rigid.{transformations_rigid}
 use Rattle.dpl_calls.proofs.Scaling.{scaled_apart}
@@ -132,10 +132,10 @@ polygon_sound s (p ∷ ps) h =
 
 where_kept : (b : Bool) (ps : List Part) → (b ≡ true → All IsPartKept ps) → All IsPartKept (where_true b ps)
 where_kept true ps h = h refl
-where_kept false ps h = all_nil IsPartKept
+where_kept false ps h = All-nil IsPartKept
 
 one : (p : Part) → IsPartKept p → All IsPartKept (p ∷ [])
-one p h = all_cons IsPartKept p [] h (all_nil IsPartKept)
+one p h = All-cons IsPartKept p [] h (All-nil IsPartKept)
 
 leg_kept : (s : Scale) (w : ℕ) (p q : Spot) → IsScale s → w ≤ 10 ^ 12 → 0 < w → is_spot_in_bounds p ≡ true →
     is_spot_in_bounds q ≡ true → is_extent_on_grid s (leg w p q) ≡ true → IsPartKept (rectangle s (leg w p q))
@@ -147,17 +147,17 @@ leg_kept s w p q sc hw some hp hq grid = (
 legs_kept : (s : Scale) (w : ℕ) (p : Spot) (ps : List Spot) → IsScale s → w ≤ 10 ^ 12 → 0 < w →
     is_spot_in_bounds p ≡ true → list_all is_spot_in_bounds ps ≡ true →
     list_all (is_extent_on_grid s) (legs_from w p ps) ≡ true → All IsPartKept (map (rectangle s) (legs_from w p ps))
-legs_kept s w p [] sc hw some hp h grid = all_nil IsPartKept
+legs_kept s w p [] sc hw some hp h grid = All-nil IsPartKept
 legs_kept s w p (q ∷ qs) sc hw some hp h grid =
     let f = and_parts (is_spot_in_bounds q) (list_all is_spot_in_bounds qs) h in
     let k = and_parts (is_extent_on_grid s (leg w p q)) (list_all (is_extent_on_grid s) (legs_from w q qs)) grid in
-    all_cons IsPartKept (rectangle s (leg w p q)) (map (rectangle s) (legs_from w q qs))
+    All-cons IsPartKept (rectangle s (leg w p q)) (map (rectangle s) (legs_from w q qs))
     (leg_kept s w p q sc hw some hp f.0 k.0) (legs_kept s w q qs sc hw some f.0 f.1 k.1)
 
 wire_kept : (s : Scale) (w : ℕ) (ps : List Spot) → IsScale s → w ≤ 10 ^ 12 → 0 < w →
     list_all is_spot_in_bounds ps ≡ true → list_all (is_extent_on_grid s) (legs w ps) ≡ true →
     All IsPartKept (map (rectangle s) (legs w ps))
-wire_kept s w [] sc hw some h grid = all_nil IsPartKept
+wire_kept s w [] sc hw some h grid = All-nil IsPartKept
 wire_kept s w (p ∷ []) sc hw some h grid =
     let f = and_parts (is_spot_in_bounds p) true h in
     let k = and_parts (is_extent_on_grid s (leg w p p)) true grid in
@@ -175,7 +175,7 @@ no_slant true slant h k = h
 no_slant false slant h k = cc
 
 pub parts_kept : (s : Scope) (c : Command) → IsScale s.scale → is_command_in_bounds c ≡ true → Clean s c → All IsPartKept (parts_of s c)
-parts_kept s Idle sc h k = all_nil IsPartKept
+parts_kept s Idle sc h k = All-nil IsPartKept
 parts_kept s (Polygon path) sc h k = where_kept (is_chosen s.layer) _
     (λ on. one _ (
       path_near s.scale path sc h,
@@ -196,11 +196,11 @@ parts_kept s (Wire width path) sc h k = where_kept (is_chosen s.layer && not (wi
     let g = and_parts (is_in_bounds width) (list_all is_spot_in_bounds path) h in
     wire_kept s.scale width path sc (in_bounds_le width g.0) (positive width (not-true (width == 0) f.1)) g.1
     (on_grid (is_chosen s.layer) (list_all (is_extent_on_grid s.scale) (legs width path)) k.grid f.0))
-parts_kept s (Flash d p) sc h k = all_nil IsPartKept
-parts_kept s (Layer name) sc h k = all_nil IsPartKept
-parts_kept s (Start n scale) sc h k = all_nil IsPartKept
-parts_kept s Finish sc h k = all_nil IsPartKept
-parts_kept s (Delete n) sc h k = all_nil IsPartKept
+parts_kept s (Flash d p) sc h k = All-nil IsPartKept
+parts_kept s (Layer name) sc h k = All-nil IsPartKept
+parts_kept s (Start n scale) sc h k = All-nil IsPartKept
+parts_kept s Finish sc h k = All-nil IsPartKept
+parts_kept s (Delete n) sc h k = All-nil IsPartKept
 parts_kept s (Call n ts) sc h k = one _ (transformations_rigid s.scale ts)
 
 start_scale : (n : ℕ) (scale : Scale) → (eqb scale.times 0 || eqb scale.over 0) ≡ false → is_command_in_bounds (Start n scale) ≡ true → IsScale scale
@@ -224,7 +224,7 @@ or_none at (Some w) later h = cc
 pub bodies_kept : (chosen : List ℕ) (s : Scope) (seen : List ℕ) (at : ℕ) (rest : List (Result Command What))
     (ending : Ending) → rule_fault chosen s seen at rest ending ≡ None → IsScale s.scale → AllFit rest →
     (place : Option ℕ) → All IsPartKept (parts_from chosen s rest place)
-bodies_kept chosen s seen at [] ending r sc fit place = all_nil IsPartKept
+bodies_kept chosen s seen at [] ending r sc fit place = All-nil IsPartKept
 bodies_kept chosen s seen at (Err w ∷ rest) ending r sc fit place = cc
 bodies_kept chosen s seen at (Ok c ∷ rest) ending r sc fit place =
     let split = or_none at (broken_rule s (breaks_twice seen c) c) (rule_fault chosen (after chosen s c) (with_start c seen) (at + 1) rest ending) r in

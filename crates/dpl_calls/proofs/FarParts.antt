@@ -1,5 +1,5 @@
 -- The figures of a command in bounds are near.
-use Rattle.std.proofs.Common.{◌≡◌, ℕ, zero, suc, ◌≤◌, ◌^◌, ℤ, unsigned_abs, Bool, true, false, cond, ◌&&◌, ◌==◌, List, [], ◌∷◌, map, All, arith}
+use Rattle.std.proofs.Common.{◌≡◌, ℕ, ◌≤◌, ◌^◌, ℤ, unsigned_abs, Bool, true, false, cond, ◌&&◌, ◌==◌, List, [], ◌∷◌, map, All}
 use Rattle.std.specs.List.{list_all}
 use Rattle.std.specs.Int.{int_min, int_max}
 use Rattle.dpl_rules.specs.declared.command.Spot.{Spot}
@@ -15,19 +15,13 @@ use Rattle.dpl_calls.specs.Placement.{IsCornerNear}
 use Rattle.dpl_calls.specs.Kept.{IsFigureNear}
 use Rattle.dpl_calls.proofs.Nearness.{min_near, max_near, less_near, more_near, scaled_near, in_bounds_le, spot_near}
 use Rattle.std.proofs.lemmas.Bool.{and_parts}
-
-pub all_cons : {X : Type 0} (P : X → Type 0) (x : X) (xs : List X) → P x → All P xs → All P (x ∷ xs)
-all_cons P x xs p h zero d lt = p
-all_cons P x xs p h (suc k) d lt = h k d (omega arith)
-
-pub all_nil : {X : Type 0} (P : X → Type 0) → All P []
-all_nil P k d lt = absurd (omega arith)
+use Rattle.std.proofs.lemmas.List.Elements.{All-nil, All-cons}
 
 pub path_near : (s : Scale) (ps : List Spot) → IsScale s → list_all is_spot_in_bounds ps ≡ true → All IsCornerNear (map (scaled_corner s) ps)
-path_near s [] sc h = all_nil IsCornerNear
+path_near s [] sc h = All-nil IsCornerNear
 path_near s (p ∷ ps) sc h =
     let f = and_parts (is_spot_in_bounds p) (list_all is_spot_in_bounds ps) h in
-    all_cons IsCornerNear (scaled_corner s p) (map (scaled_corner s) ps) (spot_near s p sc f.0) (path_near s ps sc f.1)
+    All-cons IsCornerNear (scaled_corner s p) (map (scaled_corner s) ps) (spot_near s p sc f.0) (path_near s ps sc f.1)
 
 around_near : (s : Scale) (x : ℤ) (across : ℕ) (y : ℤ) (along : ℕ) → IsScale s → unsigned_abs x ≤ 10 ^ 12 →
     unsigned_abs y ≤ 10 ^ 12 → across ≤ 10 ^ 12 → along ≤ 10 ^ 12 →

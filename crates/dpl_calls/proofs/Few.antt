@@ -121,17 +121,17 @@ on_flash bytes = on_bind (unsigned_of bytes) (λ d. spot_of d.1 >>= λ c. comple
 on_delete : (bytes : List ℕ) → OnSome (f.delete_of bytes)
 on_delete bytes = on_bind (unsigned_of bytes) (λ n. complete (Delete n.0) n.1) (λ n. on_complete (Delete n.0) n.1 tt)
 
-on_start : (bytes : List ℕ) → OnSome (f.start_of bytes)
+on_start : (bytes : List ℕ) → OnSome (f.start_command bytes)
 on_start bytes = on_bind (unsigned_of bytes) (λ n. complete (Start n.0 (f.scale_of (f.ratio_of n.1) n.1).0)
     (f.scale_of (f.ratio_of n.1) n.1).1) (λ n. on_complete (Start n.0 (f.scale_of (f.ratio_of n.1) n.1).0)
     (f.scale_of (f.ratio_of n.1) n.1).1 tt)
 
 on_definition : (bytes : List ℕ) → OnSome (f.definition_of bytes)
-on_definition bytes = on_when (letter 83 bytes) f.start_of (f.where_there (letter 70 bytes) (complete Finish) (letter 68 bytes >>= f.delete_of)) on_start
+on_definition bytes = on_when (letter 83 bytes) f.start_command (f.where_there (letter 70 bytes) (complete Finish) (letter 68 bytes >>= f.delete_of)) on_start
     (on_when (letter 70 bytes) (complete Finish) (letter 68 bytes >>= f.delete_of) (λ r. on_complete Finish r tt)
     (on_bind (letter 68 bytes) f.delete_of on_delete))
 
-on_layer : (bytes : List ℕ) → OnSome (f.layer_of bytes)
+on_layer : (bytes : List ℕ) → OnSome (f.layer_command bytes)
 on_layer bytes =
     let rest : List ℕ = drop_while is_blank bytes in
     let n : ℕ = prefix_len is_name_byte rest in
@@ -189,7 +189,7 @@ on_form (b ∷ bytes) h =
     (on_if (b == 66) (f.box_of bytes) _ (on_box bytes)
     (on_if (b == 87) (f.wire_of bytes) _ (on_wire bytes)
     (on_if (b == 82) (f.flash_of bytes) _ (on_flash bytes)
-    (on_if (b == 76) (f.layer_of bytes) _ (on_layer bytes)
+    (on_if (b == 76) (f.layer_command bytes) _ (on_layer bytes)
     (on_if (b == 68) (f.definition_of bytes) _ (on_definition bytes)
     (on_if (b == 67) (f.call_of bytes) None (on_call bytes (omega arith)) tt))))))))
 

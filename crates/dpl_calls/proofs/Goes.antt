@@ -1,9 +1,9 @@
 -- The turns of an unfolding.
-use Rattle.std.proofs.Common.{◌≡◌, ℕ, zero, suc, ◌≤◌, ◌<◌, ◌+◌, ◌*◌, ◌^◌, List, [], ◌∷◌, ◌++◌, length, map, None, Some}
+use Rattle.std.proofs.Common.{◌≡◌, ℕ, suc, ◌≤◌, ◌<◌, ◌+◌, ◌*◌, ◌^◌, List, [], ◌∷◌, ◌++◌, length, map, None, Some}
 use Rattle.std.proofs.Common.{sum_by, refl, sym, ◌∙◌, ap, subst, arith, append_assoc, All, get_or}
 use Rattle.std.proofs.lemmas.List.{append-nil, nil_from_length, length_push, get_or_append_left, get_or_push}
 use Rattle.std.proofs.lemmas.List.Sums.{sum_by_push, sum_by-append, sum_by-cons}
-use Rattle.std.proofs.lemmas.List.Elements.{All-append}
+use Rattle.std.proofs.lemmas.List.Elements.{All-append, All-head, All-tail, All-push}
 use mathlib.Core.Path.{fun_ext}
 use Rattle.dpl_calls.specs.declared.figure.Corner.{Corner}
 use Rattle.dpl_calls.specs.declared.figure.Figure.{Figure}
@@ -21,11 +21,6 @@ use Rattle.dpl_calls.specs.Table.{part_of}
 use Rattle.dpl_calls.specs.Kept.{IsFigureNear, IsPartKept}
 use Rattle.dpl_calls.specs.Stack.{left, frame_figures, pending, part_turns, turns_of, frame_turns, turns_left, frame_calls, calls_left, IsFrameNear, Goes}
 use Rattle.dpl_calls.proofs.Pending.{pending_push, pending_append, called_figures, called_calls, called_turns}
-use Rattle.dpl_list.proofs.Lists.{all_tail, all_head}
-
-all_push : {X : Type 0} (P : X → Type 0) (xs : List X) (x : X) → All P xs → P x → All P (xs ++ x ∷ [])
-all_push P xs x h p = All-append P xs (x ∷ []) h (λ k d lt. elim k as (λ j. j < 1 → P (get_or (x ∷ []) j d))
-    [ zero ↦ λ _. p | suc j ↦ λ bad. absurd (omega arith) ] lt)
 
 all_popped : {X : Type 0} (P : X → Type 0) (xs : List X) (x : X) → All P (xs ++ x ∷ []) → All P xs × P x
 all_popped P xs x h =
@@ -57,7 +52,7 @@ goes_on b all t s fs f n xs gs k es ec near h =
     }
 
 one_near : (n : ℕ) (g : Frame) → IsFrameNear n g → All (IsFrameNear n) (g ∷ [])
-one_near n g h = all_push (IsFrameNear n) [] g (λ k d lt. absurd (omega arith)) h
+one_near n g h = All-push (IsFrameNear n) [] g (λ k d lt. absurd (omega arith)) h
 
 -- the last frame of a stack is near
 last_near : (b : Bodies) (all : List Figure) (t : ℕ) (s : List Figure) (fs : List Frame) (f : Frame) (n : ℕ) → Goes b all t s (fs ++ f ∷ []) n → IsFrameNear n f
@@ -76,8 +71,8 @@ module _ (b : Bodies) (f g : Frame) (e : Entry) (split : f.rest.now ≡ e ∷ g.
   rest_near n m le h =
       let parts : left f ≡ part_of e ∷ left g = ap (λ (es : List Entry). map part_of es) split in record {
         place = subst (IsNear (m * 2 ^ 106)) (sym place) (near_more n m f le h).place;
-        entries = all_tail IsEntryNear e g.rest.now (subst (All IsEntryNear) split h.entries);
-        parts = all_tail IsPartKept (part_of e) (left g) (subst (All IsPartKept) parts h.parts);
+        entries = All-tail IsEntryNear e g.rest.now (subst (All IsEntryNear) split h.entries);
+        parts = All-tail IsPartKept (part_of e) (left g) (subst (All IsPartKept) parts h.parts);
       }
 
   front_figures : frame_figures b f ≡ part_figures b (figures_of f.below b) (apply f.place) (part_of e) ++ frame_figures b g
@@ -125,7 +120,7 @@ module _ (b : Bodies) (f g : Frame) (e : Entry) (split : f.rest.now ≡ e ∷ g.
         let calls : frame_calls b f ≡ part_total own_calls b (total_of own_calls f.below b) (Called m (apply p)) + frame_calls b g = front_calls ∙ rw ee refl in
         let r : Goes b all t (s ++ []) (fs ++ gs) (n + 1) = goes_on b all t s fs f n [] gs 1 figures
         (omega (arith, calls, counted))
-        (all_push (IsFrameNear (n + 1)) (g ∷ []) c (one_near (n + 1) g (rest_after (n + 1) (omega arith))) near)
+        (All-push (IsFrameNear (n + 1)) (g ∷ []) c (one_near (n + 1) g (rest_after (n + 1) (omega arith))) near)
         h in
         rw (append-nil s, ← append_assoc fs (g ∷ []) (c ∷ [])) at r
 
@@ -147,14 +142,14 @@ module _ (b : Bodies) (f g : Frame) (e : Entry) (split : f.rest.now ≡ e ∷ g.
   -- a call in the last frame
   called_near : (n at m : ℕ) (p : Placement) → e ≡ entry.Called at m p → IsFrameNear n f → IsNear (2 ^ 106) p
   called_near n at m p ee h =
-      let first : IsEntryNear e = all_head IsEntryNear e g.rest.now (subst (All IsEntryNear) split h.entries) in
+      let first : IsEntryNear e = All-head IsEntryNear e g.rest.now (subst (All IsEntryNear) split h.entries) in
       subst IsEntryNear ee first
 
   -- a figure in the last frame
   drawn_near : (n : ℕ) (figure : Figure) → e ≡ entry.Drawn figure → IsFrameNear n f → IsFigureNear figure
   drawn_near n figure ee h =
       let parts : left f ≡ part_of e ∷ left g = ap (λ (es : List Entry). map part_of es) split in
-      let first : IsPartKept (part_of e) = all_head IsPartKept (part_of e) (left g) (subst (All IsPartKept) parts h.parts) in
+      let first : IsPartKept (part_of e) = All-head IsPartKept (part_of e) (left g) (subst (All IsPartKept) parts h.parts) in
       let kept : IsPartKept (Drawn figure) = subst (λ (x : Entry). IsPartKept (part_of x)) ee first in
       kept.0
 

@@ -13,7 +13,7 @@ use Rattle.dpl_calls.specs.declared.figure.Corner.{Corner}
 use Rattle.dpl_calls.specs.declared.figure.Figure.{Figure}
 use Rattle.dpl_calls.specs.declared.figure.Figure.TheVariants.{Rectangle, Polygon}
 use Rattle.dpl_calls.specs.Parts.{corner, turned, transformed, transformed_by}
-use Rattle.dpl_calls.specs.Unfolding.{between, placed}
+use Rattle.dpl_calls.specs.Unfolding.{extent_between, placed}
 
 pub points_joined : (s : Scale) (inner outer : List Transformation) (c : Corner) →
     transformed_by s (inner ++ outer) c ≡ transformed_by s outer (transformed_by s inner c)
@@ -24,7 +24,8 @@ points_joined s (t ∷ ts) outer c = points_joined s ts outer (transformed s t c
 
 -- the corners of the least rectangle of two points go where it goes
 abbrev IsBoxed : (Corner → Corner) → Type 0
-IsBoxed f = (a b : Corner) → between (f (corner (int_min a.x b.x) (int_min a.y b.y))) (f (corner (int_max a.x b.x) (int_max a.y b.y))) ≡ between (f a) (f b)
+IsBoxed f = (a b : Corner) → extent_between (f (corner (int_min a.x b.x) (int_min a.y b.y))) (f (corner (int_max a.x b.x) (int_max a.y b.y)))
+  ≡ extent_between (f a) (f b)
 
 ends : (P : ℤ → ℤ → Type 0) (a b : ℤ) → P a b → P b a → P (int_min a b) (int_max a b)
 ends P a b p q = by_lt_z b a
@@ -57,7 +58,7 @@ crossed u v a b = same_extent _ _ _ _ _ _ _ _ (min_ends u a.y b.y) (min_ends v a
 
 -- where the corners of a rectangle go
 abbrev gone : (Corner → Corner) → Extent → Extent
-gone f e = between (f (corner e.x1 e.y1)) (f (corner e.x2 e.y2))
+gone f e = extent_between (f (corner e.x1 e.y1)) (f (corner e.x2 e.y2))
 
 composed : (f h : Corner → Corner) → IsBoxed f → IsBoxed h → IsBoxed (λ c. f (h c))
 composed f h F H a b =

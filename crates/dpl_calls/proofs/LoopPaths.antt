@@ -9,8 +9,9 @@ use Rattle.dpl_calls.specs.Parts.Part.{Drawn, Called}
 use Rattle.dpl_calls.specs.Loops.{part_leads, leads_to, is_looped, names, calls, Path, LeadsBack}
 use Rattle.dpl_calls.specs.Loops.Path.{once, more}
 use Rattle.dpl_calls.specs.Places.{place_of, one_further}
-use Rattle.dpl_calls.proofs.Cases.{of_eq, to_eq, bool_cases}
-use Rattle.std.proofs.lemmas.Bool.{or_left, or_right, or_cases}
+use Rattle.dpl_calls.proofs.Cases.{of_eq, to_eq}
+use Rattle.std.proofs.lemmas.Bool.{or_left, or_right, or_cases, cases_Bool}
+use Rattle.std.proofs.lemmas.List.{length-map}
 
 -- these parts lead there
 pub record Out (b : Bodies) (to : ℕ) (parts : List Part) : Type 0 where
@@ -140,7 +141,7 @@ grows f h m (k ∷ ks) = by (f k) (h k) (m k) (grows f h m ks)
 
 pub placed_key : (n i : ℕ) (ks : List ℕ) → place_of n ks ≡ Some i → (i < length ks) × (get_or ks i 0 ≡ n)
 placed_key n i [] h = cc
-placed_key n i (k ∷ ks) h = elim (bool_cases (n == k)) [
+placed_key n i (k ∷ ks) h = elim (cases_Bool (n == k)) [
   | inl e ↦ let z : Some 0 ≡ Some i = subst (λ (b : Bool). cond b (Some 0) (one_further (place_of n ks)) ≡ Some i) e h in let q : 0 ≡ i = cc in
       subst (λ (j : ℕ). (j < length (k ∷ ks)) × (get_or (k ∷ ks) j 0 ≡ n)) q (omega arith, sym (of_eq n k e))
   | inr e ↦ later i (λ j q. placed_key n j ks q) (place_of n ks) refl (subst (λ (b : Bool). cond b (Some 0) (one_further (place_of n ks)) ≡ Some i) e h)
@@ -158,10 +159,6 @@ map_at : (f h : ℕ → Bool) (ks : List ℕ) (i : ℕ) → map f ks ≡ map h k
 map_at f h [] i e l = absurd (omega arith)
 map_at f h (k ∷ ks) zero e l = cc
 map_at f h (k ∷ ks) (suc i) e l = let tail : map f ks ≡ map h ks = cc in map_at f h ks i tail (omega arith)
-
-length_images : (f : ℕ → Bool) (ks : List ℕ) → length (map f ks) ≡ length ks
-length_images f [] = refl
-length_images f (k ∷ ks) = ap suc (length_images f ks)
 
 module _ (b : Bodies) (to : ℕ) (ks : List ℕ) (only : (n : ℕ) → place_of n ks ≡ None → b (Some n) ≡ []) where
   abbrev led : ℕ → ℕ → Bool
@@ -210,7 +207,7 @@ module _ (b : Bodies) (to : ℕ) (ks : List ℕ) (only : (n : ℕ) → place_of 
   settled = elim (rises (suc (length ks))) [
     | inl s ↦ s
     | inr h ↦ let l : trues (map (led (suc (length ks))) ks) ≤ length (map (led (suc (length ks))) ks) = trues_le (map (led (suc (length ks))) ks) in
-        let e : length (map (led (suc (length ks))) ks) ≡ length ks = length_images (led (suc (length ks))) ks in absurd (omega arith)
+        let e : length (map (led (suc (length ks))) ks) ≡ length ks = length-map ks (led (suc (length ks))) in absurd (omega arith)
   ]
 
   -- as many calls as there are definitions find what any number finds

@@ -5,7 +5,7 @@ use Rattle.std.specs.List.{flat_map}
 use Rattle.std.specs.Int.{int_min, int_max}
 use Rattle.std.proofs.Math.IntN.{neg_ℤ}
 use Rattle.std.proofs.lemmas.Int.{ints}
-use Rattle.std.proofs.lemmas.List.Elements.{All-append}
+use Rattle.std.proofs.lemmas.List.Elements.{All-append, All-head, All-tail, All-nil, All-cons}
 use Rattle.std.specs.Prelude.{int_lt}
 use Rattle.dpl_rules.specs.declared.command.Spot.{Spot}
 use Rattle.dpl_rules.specs.declared.command.Scale.{Scale}
@@ -18,8 +18,6 @@ use Rattle.dpl_calls.specs.Parts.{corner, Part, Bodies, turned, transformed, tra
 use Rattle.dpl_calls.specs.Parts.Part.{Drawn, Called}
 use Rattle.dpl_calls.specs.Unfolding.{placed, unmoved, part_figures, figures_of}
 use Rattle.dpl_calls.specs.Kept.{AreLevel, IsSound, IsRigid, IsPartKept, AreKept}
-use Rattle.dpl_calls.proofs.FarParts.{all_cons, all_nil}
-use Rattle.dpl_list.proofs.Lists.{all_tail, all_head}
 
 neg_back : (a b : ℤ) → neg_ℤ a ≡ neg_ℤ b → a ≡ b
 neg_back a b e = omega (arith, ints)
@@ -92,7 +90,7 @@ placed_sound f (Polygon []) F h = tt
 placed_sound f (Polygon (p ∷ ps)) F h = levels_placed f F p ps p h
 
 all_one : {X : Type 0} (P : X → Type 0) (x : X) → P x → All P (x ∷ [])
-all_one P x p = all_cons P x [] p (all_nil P)
+all_one P x p = All-cons P x [] p (All-nil P)
 
 module _ (bodies : Bodies) (inner : (Corner → Corner) → List Part → List Figure)
     (ih : (f : Corner → Corner) (n : ℕ) → IsRigid f → All IsSound (inner f (bodies (Some n)))) where
@@ -101,14 +99,14 @@ module _ (bodies : Bodies) (inner : (Corner → Corner) → List Part → List F
   part_sound f (Called n moves) F h = ih (λ c. f (moves c)) n (composed_rigid f moves F h)
 
   parts_sound : (f : Corner → Corner) (ps : List Part) → IsRigid f → All IsPartKept ps → All IsSound (flat_map (part_figures bodies inner f) ps)
-  parts_sound f [] F h = all_nil IsSound
+  parts_sound f [] F h = All-nil IsSound
   parts_sound f (p ∷ ps) F h = All-append IsSound (part_figures bodies inner f p)
-      (flat_map (part_figures bodies inner f) ps) (part_sound f p F (all_head IsPartKept p ps h))
-      (parts_sound f ps F (all_tail IsPartKept p ps h))
+      (flat_map (part_figures bodies inner f) ps) (part_sound f p F (All-head IsPartKept p ps h))
+      (parts_sound f ps F (All-tail IsPartKept p ps h))
 
 -- all figures of a layout are sound
 pub figures_sound : (depth : ℕ) (bodies : Bodies) → AreKept bodies → (f : Corner → Corner) (ps : List Part) →
     IsRigid f → All IsPartKept ps → All IsSound (figures_of depth bodies f ps)
-figures_sound zero bodies K f ps F h = all_nil IsSound
+figures_sound zero bodies K f ps F h = All-nil IsSound
 figures_sound (suc depth) bodies K f ps F h = parts_sound bodies (figures_of depth bodies)
     (λ q n Q. figures_sound depth bodies K q (bodies (Some n)) Q (K (Some n))) f ps F h

@@ -21,11 +21,11 @@ use Rattle.dpl_calls.specs.Table.{bodies_of}
 use Rattle.dpl_calls.specs.Places.{place_of, one_further, body_at, graph_of}
 use Rattle.dpl_calls.specs.Counted.{HasNoLoop}
 use Rattle.dpl_calls.specs.Scanned.{IsScanned}
-use Rattle.dpl_calls.proofs.Cases.{of_eq, to_eq, bool_cases}
+use Rattle.dpl_calls.proofs.Cases.{of_eq, to_eq}
 use Rattle.dpl_calls.proofs.Edges.{is_graph, edge_names, Named, graph_size, body_placed}
 use Rattle.dpl_calls.proofs.Sites.{is_from, calls_are_sites}
 use Rattle.dpl_calls.proofs.Groups.{same_group}
-use Rattle.std.proofs.lemmas.Bool.{and_parts, or_cases}
+use Rattle.std.proofs.lemmas.Bool.{and_parts, or_cases, cases_Bool}
 use Rattle.dpl_groups.proofs.Reach.{cases_le}
 
 some_same : (d : ℕ) (o : Option ℕ) → is_same (Some d) o ≡ true → o ≡ Some d
@@ -73,7 +73,7 @@ place_of_key (k ∷ ks) (suc x) d h =
     differs P (k ∷ ks) (suc x) a h = differs P ks x a.1 (omega arith)
 
     flip : (n k : ℕ) → (k == n) ≡ false → (n == k) ≡ false
-    flip n k h = elim (bool_cases (n == k)) [ inl e ↦ let bad : true ≡ false = sym (to_eq k n (sym (of_eq n k e))) ∙ h in cc | inr e ↦ e ]
+    flip n k h = elim (cases_Bool (n == k)) [ inl e ↦ let bad : true ≡ false = sym (to_eq k n (sym (of_eq n k e))) ∙ h in cc | inr e ↦ e ]
 
 module _ (chosen : List ℕ) (all : List (Result Command What)) (ending : Ending) (t : Table) (s : IsScanned chosen all ending t) where
   pub bodies_same : bodies_of t ≡ parts_from chosen at_first all

@@ -1,10 +1,13 @@
 -- One command more.
-use Rattle.std.proofs.Common.{◌≡◌, ℕ, ◌+◌, arith, Bool, true, false, cond, List, [], ◌∷◌, ◌++◌, Option, None, Some}
+use Rattle.std.proofs.Common.{◌≡◌, ℕ, ◌+◌, ◌≤◌, arith, Bool, true, false, cond, List, [], ◌∷◌, ◌++◌, Option, None, Some}
 use Rattle.std.proofs.Common.{Result, Ok, Err, refl, sym, ◌∙◌, ap, append_assoc, slice_range, length, subst}
 use Rattle.std.proofs.lemmas.List.{append-nil, nil_from_length}
 use Rattle.indexmap.specs.IndexMap.{keys}
 use Rattle.dpl_lex.specs.declared.types.Ending.{Ending}
 use Rattle.dpl_lex.specs.declared.types.Span.{Span}
+use Rattle.dpl_lex.specs.declared.types.Commands.{Commands}
+use Rattle.dpl_lex.specs.CuttingLaws.{AreWithin}
+use Rattle.dpl_rules.specs.Figures.{IsScale}
 use Rattle.dpl_rules.specs.declared.command.Command.{Command}
 use Rattle.dpl_rules.specs.declared.command.Command.TheVariants.{Idle, Polygon, Box, Wire, Flash, Layer, Start, Finish, Delete, Call}
 use Rattle.dpl_rules.specs.Bounds.{command_of, read_commands}
@@ -16,10 +19,11 @@ use Rattle.dpl_calls.specs.declared.table.Table.{Table}
 use Rattle.dpl_calls.specs.Parts.{is_same, parts_of, parts_from}
 use Rattle.dpl_calls.specs.Loops.{sites_of, sites_from}
 use Rattle.dpl_calls.specs.Table.{entries_of, bodies_of}
-use Rattle.dpl_calls.specs.Put.{put_at, site_in}
+use Rattle.dpl_calls.specs.Put.{put_at, site_in, IsKnown}
 use Rattle.dpl_calls.specs.Found.{calls_at, standing, AreRising}
 use Rattle.dpl_calls.specs.Scanned.{Scans, IsScanned}
 use Rattle.dpl_calls.proofs.Cases.{of_eq}
+use Rattle.dpl_calls.proofs.Few.{AllFit}
 use Rattle.dpl_calls.proofs.FirstCalls.{rising_more}
 use Rattle.std.proofs.lemmas.List.Elements.{filter-append}
 
@@ -122,6 +126,37 @@ scans_first chosen all rest ending t er et ed = record {
     empty : (t : Table) (place : Option ℕ) → t.top ≡ [] → t.definitions.entries ≡ [] → entries_of t place ≡ []
     empty t None et ed = et
     empty t (Some n) et ed = rw ed refl
+
+-- how far a scan has come: what is left of the commands, and what was made of the others
+pub record IsUnderWay (layer text : List ℕ) (commands : Commands) (table : Table) (scope : Scope) (at : ℕ) (rest : List Span) : Type 0 where
+  pub scans : Scans layer (read_commands text commands.spans) (read_commands text rest) commands.ending table scope at
+  pub within : AreWithin (length text) rest
+  pub fit : AllFit (read_commands text rest)
+  pub count : at + length rest ≤ 16777217
+  pub scale : IsScale scope.scale
+  pub known : IsKnown table scope.definition
+
+-- one command more is taken
+pub way_on : (layer text : List ℕ) (commands : Commands) (t t' : Table) (s s' : Scope) (at : ℕ) (span : Span)
+    (others rest : List Span) (c : Command) → rest ≡ span ∷ others → length others + 1 ≡ length rest →
+    command_of (slice_range text span.start span.end) ≡ Ok c →
+    broken_rule s (breaks_twice (keys t.definitions) c) c ≡ None → s' ≡ after layer s c →
+    ((place : Option ℕ) → bodies_of t' place ≡ put_at s.definition (bodies_of t) (parts_of s c) place) →
+    keys t'.definitions ≡ with_start c (keys t.definitions) →
+    ((place : Option ℕ) → calls_at t' place ≡ put_at s.definition (calls_at t) (site_in place at c) place) →
+    IsScale s'.scale → IsKnown t' s'.definition → IsUnderWay layer text commands t s at rest →
+    IsUnderWay layer text commands t' s' (at + 1) others
+way_on layer text commands t t' s s' at span others rest c split longer reads clean es bodies numbers calls scale known w =
+    let next = read_next text span others rest c split reads in
+    let within : AreWithin (length text) (span ∷ others) = subst (AreWithin (length text)) split w.within in
+    let fit : AllFit (Ok c ∷ read_commands text others) = subst AllFit next w.fit in record {
+      scans = scans_next _ _ _ _ _ _ _ _ _ _ c next clean es bodies numbers calls w.scans;
+      within = within.2;
+      fit = fit.2;
+      count = omega (arith, w.count, longer);
+      scale = scale;
+      known = known;
+    }
 
 -- no command is left, and the end breaks no rule
 pub scanned : (chosen : List ℕ) (text : List ℕ) (all : List (Result Command What)) (rest : List Span) (ending : Ending)

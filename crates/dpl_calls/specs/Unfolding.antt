@@ -10,8 +10,8 @@ use Rattle.dpl_calls.specs.Parts.{corner, Part, Bodies}
 use Rattle.dpl_calls.specs.Parts.Part.{Drawn, Called}
 
 -- the rectangle between two opposite corners
-abbrev pub between : Corner → Corner → Extent
-between a b = record {
+abbrev pub extent_between : Corner → Corner → Extent
+extent_between a b = record {
   x1 = int_min a.x b.x;
   y1 = int_min a.y b.y;
   x2 = int_max a.x b.x;
@@ -22,7 +22,7 @@ between a b = record {
 -- a figure where its points go
 abbrev pub placed : (Corner → Corner) → Figure → Figure
 placed place (Rectangle e) =
-    Rectangle (between (place (corner e.x1 e.y1)) (place (corner e.x2 e.y2)))
+    Rectangle (extent_between (place (corner e.x1 e.y1)) (place (corner e.x2 e.y2)))
 placed place (Polygon corners) = Polygon (map place corners)
 
 abbrev pub unmoved : Corner → Corner

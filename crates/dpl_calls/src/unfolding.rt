@@ -27,7 +27,7 @@ pub struct Frame<'a> {
 }
 
 fn between(a: Corner, b: Corner) -> Extent
-    ensures { result ≡ unfolds.between a b }
+    ensures { result ≡ unfolds.extent_between a b }
 {
     Extent {
         x1: a.x.min(b.x),

@@ -13,7 +13,7 @@ use Rattle.dpl_calls.specs.declared.figure.Figure.TheVariants.{Rectangle, Polygo
 use Rattle.dpl_calls.specs.Kept.{IsSound, IsLevel, AreLevel, HasLevelSides}
 use Rattle.dpl_cell.specs.Places.{Corners}
 use Rattle.dpl_cell.specs.Ranges.{IsInRange, IsStretch, IsRectangle, is_straight, are_straight, has_straight_sides}
-use Rattle.dpl_cif.specs.Drawn.{drawn, place_of, place_reach, places_reach, outline_reach, reach}
+use Rattle.dpl_cif.specs.Drawn.{drawn, corner_place, place_reach, places_reach, outline_reach, reach}
 use Rattle.std.proofs.lemmas.Bool.{and_from}
 
 abbrev pub corners : ℤ → ℤ → ℤ → ℤ → Corners
@@ -32,14 +32,14 @@ rect_fits e s h =
       rows = record { some = s.1; low = (in_range e.y1 y1).low; high = (in_range e.y2 y2).high };
     }
 
-pub place_fits : (c : Corner) → place_reach (place_of c) ≤ 2 ^ 30 → IsInRange c.x × IsInRange c.y
+pub place_fits : (c : Corner) → place_reach (corner_place c) ≤ 2 ^ 30 → IsInRange c.x × IsInRange c.y
 place_fits c h =
     let x : unsigned_abs c.x ≤ 2 ^ 30 = omega (arith, h) in
     let y : unsigned_abs c.y ≤ 2 ^ 30 = omega (arith, h) in
     (in_range c.x x, in_range c.y y)
 
-pub place_low : (cs : List Corner) (i : ℕ) (d : Corner) (n : ℕ) → i < length cs → places_reach (map place_of cs) ≤ n →
-    place_reach (place_of (get_or cs i d)) ≤ n
+pub place_low : (cs : List Corner) (i : ℕ) (d : Corner) (n : ℕ) → i < length cs → places_reach (map corner_place cs) ≤ n →
+    place_reach (corner_place (get_or cs i d)) ≤ n
 place_low [] i d n l h = absurd (omega arith)
 place_low (c ∷ cs) zero d n l h = omega (arith, h)
 place_low (c ∷ cs) (suc i) d n l h = place_low cs i d n (omega arith) (omega (arith, h))
@@ -52,7 +52,7 @@ figure_low (f ∷ fs) (suc i) d n l h = figure_low fs i d n (omega arith) (omega
 int_same : (a b : ℤ) → a ≡ b → int_eq a b ≡ true
 int_same a b e = subst (λ (z : ℤ). int_eq a z ≡ true) e (int_eq_equiv.refl a)
 
-level_straight : (p q : Corner) → IsLevel p q → is_straight (place_of p) (place_of q) ≡ true
+level_straight : (p q : Corner) → IsLevel p q → is_straight (corner_place p) (corner_place q) ≡ true
 level_straight p q (inl e) = by (int_eq p.x q.x) (int_eq p.y q.y) (int_same p.x q.x e)
   where
     by : (a b : Bool) → a ≡ true → (a || b) ≡ true
@@ -64,13 +64,14 @@ level_straight p q (inr e) = by (int_eq p.x q.x) (int_eq p.y q.y) (int_same p.y 
     by true b h = refl
     by false b h = h
 
-levels_straight : (p : Corner) (ps : List Corner) (last : Corner) → AreLevel p ps last → are_straight (place_of p) (map place_of ps) (place_of last) ≡ true
+levels_straight : (p : Corner) (ps : List Corner) (last : Corner) → AreLevel p ps last
+  → are_straight (corner_place p) (map corner_place ps) (corner_place last) ≡ true
 levels_straight p [] last h = level_straight p last h
-levels_straight p (q ∷ qs) last h = and_from (is_straight (place_of p) (place_of q))
-    (are_straight (place_of q) (map place_of qs) (place_of last)) (level_straight p q h.0)
+levels_straight p (q ∷ qs) last h = and_from (is_straight (corner_place p) (corner_place q))
+    (are_straight (corner_place q) (map corner_place qs) (corner_place last)) (level_straight p q h.0)
     (levels_straight q qs last h.1)
 
-pub sides_straight : (cs : List Corner) → HasLevelSides cs → has_straight_sides (map place_of cs) ≡ true
+pub sides_straight : (cs : List Corner) → HasLevelSides cs → has_straight_sides (map corner_place cs) ≡ true
 sides_straight [] h = refl
 sides_straight (c ∷ cs) h = levels_straight c cs c h
 

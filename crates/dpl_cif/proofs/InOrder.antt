@@ -20,9 +20,9 @@ use Rattle.dpl_calls.specs.declared.figure.Figure.{Figure}
 use Rattle.dpl_calls.specs.declared.figure.Figure.TheVariants as figure
 use Rattle.dpl_calls.specs.Parts.{Part, Bodies, corner, is_same, where_true, parts_of, parts_from, rectangle, scaled_corner}
 use Rattle.dpl_calls.specs.Parts.Part.{Drawn, Called}
-use Rattle.dpl_calls.specs.Unfolding.{placed, unmoved, part_figures, figures_of, between}
+use Rattle.dpl_calls.specs.Unfolding.{placed, unmoved, part_figures, figures_of, extent_between}
 use Rattle.dpl_calls.specs.Kept.{IsSound, IsPartKept}
-use Rattle.dpl_cif.specs.Drawn.{drawn, place_of}
+use Rattle.dpl_cif.specs.Drawn.{drawn, corner_place}
 use Rattle.dpl_cif.specs.Reading.{forms_of}
 use Rattle.dpl_cif.specs.Laws.{is_no_call, own_outlines, outside, drawn_in_order}
 use Rattle.std.proofs.lemmas.Bool.{and_parts}

@@ -6,13 +6,13 @@ use Rattle.dpl_calls.specs.declared.figure.Figure.{Figure}
 use Rattle.dpl_calls.specs.declared.figure.Figure.TheVariants as figure
 
 -- where a corner lies
-abbrev pub place_of : Corner → ℤ × ℤ
-place_of c = (c.x, c.y)
+abbrev pub corner_place : Corner → ℤ × ℤ
+corner_place c = (c.x, c.y)
 
 -- the part of the layer that a figure is
 abbrev pub drawn : Figure → Outline
 drawn (figure.Rectangle e) = Box (record { x1 = e.x1; y1 = e.y1; x2 = e.x2; y2 = e.y2 })
-drawn (figure.Polygon corners) = Polygon (map place_of corners)
+drawn (figure.Polygon corners) = Polygon (map corner_place corners)
 
 -- the greater magnitude of two coordinates
 abbrev pub place_reach : ℤ × ℤ → ℕ

@@ -5,7 +5,7 @@ ghost use Rattle.dpl_cell.specs.Places as places;
 ghost use Rattle.dpl_cell.specs.Places.{corners_of};
 ghost use Rattle.dpl_cell.specs.Outlines.{outline_of};
 ghost use Rattle.dpl_calls.specs.Kept.{IsSound, HasLevelSides};
-ghost use Rattle.dpl_cif.specs.Drawn.{drawn, place_of, place_reach, places_reach, outline_reach, reach};
+ghost use Rattle.dpl_cif.specs.Drawn.{drawn, corner_place, place_reach, places_reach, outline_reach, reach};
 
 use dpl_calls::figure::{Corner, Figure};
 use dpl_cell::{Layout, Point, Points, Prim, Rect};
@@ -38,8 +38,8 @@ fn rect_of(e: &Extent) -> Rect
 }
 
 fn point_of(corner: &Corner) -> Point
-    requires { place_reach (place_of corner.now) ≤ most_coordinate }
-    ensures { places.place_of result ≡ place_of corner.now }
+    requires { place_reach (corner_place corner.now) ≤ most_coordinate }
+    ensures { places.place_of result ≡ corner_place corner.now }
 {
     match Point::new(narrow(corner.x), narrow(corner.y)) {
         Some(point) => point,
@@ -49,8 +49,8 @@ fn point_of(corner: &Corner) -> Point
 
 fn points_of(alloc: Global, corners: &[Corner]) -> Result<Points, AllocError>
     requires sound { HasLevelSides corners.now }
-    requires near { places_reach (map place_of corners.now) ≤ most_coordinate }
-    ensures { IfOk result (λ p. map places.place_of p ≡ map place_of corners.now) }
+    requires near { places_reach (map corner_place corners.now) ≤ most_coordinate }
+    ensures { IfOk result (λ p. map places.place_of p ≡ map corner_place corners.now) }
 {
     let mut points = Vec::new(alloc);
     for corner in corners {

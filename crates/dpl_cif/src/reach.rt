@@ -1,7 +1,7 @@
 // How far figures reach.
 ghost use Rattle.std.specs.Prelude.{◌≡◌, map};
 ghost use Rattle.dpl_cif.specs.Drawn as drawings;
-ghost use Rattle.dpl_cif.specs.Drawn.{drawn, place_of};
+ghost use Rattle.dpl_cif.specs.Drawn.{drawn, corner_place};
 
 use dpl_calls::figure::{Corner, Figure};
 use dpl_rules::figures::Extent;
@@ -19,7 +19,7 @@ fn extent_reach(e: &Extent) -> u128
 }
 
 fn corners_reach(corners: &[Corner]) -> u128
-    ensures { result ≡ drawings.places_reach (map place_of corners.now) }
+    ensures { result ≡ drawings.places_reach (map corner_place corners.now) }
 {
     let mut most = 0u128;
     for corner in corners {

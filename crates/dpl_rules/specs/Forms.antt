@@ -54,8 +54,8 @@ flash_of bytes = do
   complete (Flash diameter.0 centre.0) centre.1
 
 -- behind `L`
-abbrev pub layer_of : List ℕ → Option Command
-layer_of bytes =
+abbrev pub layer_command : List ℕ → Option Command
+layer_command bytes =
     let rest = drop_while is_blank bytes in
     let n = prefix_len is_name_byte rest in
     if is_name (take n rest) then complete (Layer (take n rest)) (drop n rest) else None
@@ -112,8 +112,8 @@ scale_of None rest = (record { times = 1; over = 1 }, rest)
 scale_of (Some found) rest = found
 
 -- behind `D S`
-abbrev pub start_of : List ℕ → Option Command
-start_of bytes = do
+abbrev pub start_command : List ℕ → Option Command
+start_command bytes = do
   n ← unsigned_of bytes
   let scale = scale_of (ratio_of n.1) n.1
   complete (Start n.0 scale.0) scale.1
@@ -130,7 +130,7 @@ where_there (Some x) f otherwise = f x
 
 -- behind `D`: a start, an end or a deletion
 abbrev pub definition_of : List ℕ → Option Command
-definition_of bytes = where_there (letter 83 bytes) start_of
+definition_of bytes = where_there (letter 83 bytes) start_command
     (where_there (letter 70 bytes) (complete Finish) (letter 68 bytes >>= delete_of))
 
 -- behind `(`, in depth more parentheses: to the one that closes the comment
@@ -151,7 +151,7 @@ form_of (b ∷ bytes) =
     else if b == 66 then box_of bytes
     else if b == 87 then wire_of bytes
     else if b == 82 then flash_of bytes
-    else if b == 76 then layer_of bytes
+    else if b == 76 then layer_command bytes
     else if b == 68 then definition_of bytes
     else if b == 67 then call_of bytes
     else None

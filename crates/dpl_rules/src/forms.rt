@@ -70,7 +70,7 @@ fn name_length(bytes: &[u8]) -> usize
 }
 
 fn layer(bytes: &[u8]) -> Option<Command>
-    ensures { result ≡ forms.layer_of bytes.now }
+    ensures { result ≡ forms.layer_command bytes.now }
 {
     let rest = skip_blanks(bytes);
     let count = name_length(rest);
@@ -162,7 +162,7 @@ fn ratio(bytes: &[u8]) -> Option<(Scale, &[u8])>
 }
 
 fn start(bytes: &[u8]) -> Option<Command>
-    ensures { result ≡ forms.start_of bytes.now }
+    ensures { result ≡ forms.start_command bytes.now }
 {
     let (number, rest) = unsigned(bytes)?;
     let (scale, rest) = ratio(rest).unwrap_or((Scale { times: 1, over: 1 }, rest));

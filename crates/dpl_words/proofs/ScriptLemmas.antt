@@ -5,6 +5,7 @@ use Rattle.std.specs.Prelude.{ℤ, pos, unsigned_abs, true, codes, All}
 use Rattle.std.specs.Str.{bytes_eq}
 use Rattle.std.proofs.lemmas.Int.{ints}
 use Rattle.std.proofs.lemmas.Slice.Eq.{bytes_eq-Decides}
+use Rattle.std.proofs.lemmas.List.Elements.{All-head, All-tail}
 use Rattle.dpl_cell.specs.Places.{Corners}
 use Rattle.dpl_cell.specs.Ranges.{IsStretch, IsRectangle}
 use Rattle.dpl_lex.specs.Number.{greatest, signed_at}
@@ -95,27 +96,21 @@ tail_is x y xs ys e = cc
 not_empty : (x : List ℕ) (xs : List (List ℕ)) → ◌≡◌ {A = List (List ℕ)} [] (x ∷ xs) → ⊥
 not_empty x xs e = absurd (cc)
 
-head_fits : (l : PlainLine) (ls : List PlainLine) → All Fits (l ∷ ls) → Fits l
-head_fits l ls h = h zero l (omega arith)
-
-tail_fits : (l : PlainLine) (ls : List PlainLine) → All Fits (l ∷ ls) → All Fits ls
-tail_fits l ls h k d b = h (suc k) d (omega (arith, b))
-
 -- lines of the form have no line among them that is not
 none_bad : (ls front : List PlainLine) (line : List ℕ) (behind' : List (List ℕ)) → All Fits ls → IsNoLine line →
     map line_text ls ≡ map line_text front ++ line ∷ behind' → ⊥
 none_bad [] [] line behind' h bad e = not_empty line behind' e
 none_bad [] (f ∷ fs) line behind' h bad e = not_empty (line_text f) (map line_text fs ++ line ∷ behind') e
-none_bad (l ∷ ls) [] line behind' h bad e = bad l (head_fits l ls h) (head_is _ _ _ _ e)
-none_bad (l ∷ ls) (f ∷ fs) line behind' h bad e = none_bad ls fs line behind' (tail_fits l ls h) bad (tail_is _ _ _ _ e)
+none_bad (l ∷ ls) [] line behind' h bad e = bad l (All-head Fits l ls h) (head_is _ _ _ _ e)
+none_bad (l ∷ ls) (f ∷ fs) line behind' h bad e = none_bad ls fs line behind' (All-tail Fits l ls h) bad (tail_is _ _ _ _ e)
 
 -- the first line that is not of the form has one number
 one_front : (fs gs : List PlainLine) (x y : List ℕ) (xs ys : List (List ℕ)) → All Fits fs → All Fits gs → IsNoLine x →
     IsNoLine y → map line_text fs ++ x ∷ xs ≡ map line_text gs ++ y ∷ ys → length fs ≡ length gs
 one_front [] [] x y xs ys a b p q e = refl
-one_front [] (g ∷ gs) x y xs ys a b p q e = absurd (p g (head_fits g gs b) (sym (head_is _ _ _ _ e)))
-one_front (f ∷ fs) [] x y xs ys a b p q e = absurd (q f (head_fits f fs a) (head_is _ _ _ _ e))
-one_front (f ∷ fs) (g ∷ gs) x y xs ys a b p q e = ap suc (one_front fs gs x y xs ys (tail_fits f fs a) (tail_fits g gs b) p q (tail_is _ _ _ _ e))
+one_front [] (g ∷ gs) x y xs ys a b p q e = absurd (p g (All-head Fits g gs b) (sym (head_is _ _ _ _ e)))
+one_front (f ∷ fs) [] x y xs ys a b p q e = absurd (q f (All-head Fits f fs a) (head_is _ _ _ _ e))
+one_front (f ∷ fs) (g ∷ gs) x y xs ys a b p q e = ap suc (one_front fs gs x y xs ys (All-tail Fits f fs a) (All-tail Fits g gs b) p q (tail_is _ _ _ _ e))
 
 pub bad_once : (text : List ℕ) (m n : ℕ) → IsFirstBad text m → IsFirstBad text n → m ≡ n
 bad_once text m n a b =

@@ -5,7 +5,7 @@ use Rattle.dpl_cell.specs.Places.{Corners}
 use Rattle.dpl_lex.specs.Number.{signed_at}
 use Rattle.dpl_lex.specs.declared.number.Num.{Num}
 use Rattle.dpl_lex.specs.declared.number.Num.TheVariants.{Value, Big, Nothing}
-use Rattle.dpl_words.specs.Commands.{◌>>=◌}
+use Rattle.dpl_rules.specs.Readers.{◌>>=◌}
 
 abbrev pub value_of : Num × List ℕ → Option (ℤ × List ℕ)
 value_of (Value z, rest) = Some (z, rest)
