@@ -3,6 +3,7 @@ use Rattle.std.proofs.Common.{arith, ◌≡◌, ◌+◌, ◌<◌, ◌≤◌, ◌
 use Rattle.std.specs.Prelude.{◌&&◌}
 use Rattle.std.proofs.lemmas.Bool.{eqb-true, and_left}
 use Rattle.dpl_cycle.proofs.SumLemmas.{sum_same}
+use Rattle.dpl_cycle.proofs.LabelLemmas.{sum_none}
 use Rattle.dpl_sign.specs.declared.nets.Net.{Net}
 use Rattle.dpl_sign.specs.Colourings.{agree, colour_of}
 use Rattle.dpl_cuts.specs.declared.types.Fragments.{Fragments}
@@ -11,7 +12,7 @@ use Rattle.dpl_parts.specs.Components.{are_one_component, AreComponents}
 use Rattle.dpl_balance.specs.Balance.{difference, mask_difference, AreBalanced, turn, AreTurned}
 use Rattle.dpl_balance.specs.Sides.{component_area}
 use Rattle.dpl_balance.specs.Parts.{part_at, cells_by, total_after, AreEven}
-use Rattle.dpl_balance.proofs.SumLemmas.{sum_none, some_passes}
+use Rattle.dpl_balance.proofs.SumLemmas.{some_passes}
 use Rattle.dpl_balance.proofs.ShareLemmas.{sum_shared, turn_same, turned_side}
 use Rattle.dpl_parts.proofs.JoinedLemmas.{one_number}
 

@@ -7,9 +7,9 @@ use Rattle.std.specs.Int.RustNames.{unsigned_abs}
 use Rattle.std.proofs.lemmas.Int.{by_lt_z}
 use Rattle.std.proofs.lemmas.List.Sums.{sum_by-cons}
 use Rattle.std.proofs.lemmas.List.Kept.{AllPairs-cons}
-use Rattle.std.proofs.lemmas.List.Elements.{All-nil, Contains-get_or, Contains-append_left, Contains-append_right, Contains-append_cases}
+use Rattle.std.proofs.lemmas.List.Elements.{All-nil, Contains-get_or, Contains-append_left, Contains-append_right, Contains-append_cases, All-head, All-tail}
 use Rattle.dpl_list.proofs.Integers.{signed}
-use Rattle.dpl_list.proofs.Lists.{all_head, all_tail, pairs_head, pairs_tail, any_head, any_tail, in_cons, in_head, in_tail, none_in, all_pairs_append}
+use Rattle.dpl_list.proofs.Lists.{pairs_head, pairs_tail, any_head, any_tail, in_cons, in_head, in_tail, none_in, all_pairs_append}
 use Rattle.dpl_cell.specs.Places.{Corners}
 use Rattle.dpl_cell.specs.Cells.{IsWithin, IsIn, AreApart}
 use Rattle.dpl_balance.specs.Areas.{area_of}
@@ -159,8 +159,8 @@ held_cells : (rs : List Corners) (p : Cell) → All IsProper rs → Contains (al
 unfolding all_cells
 held_cells [] p h c = none_in p c
 held_cells (r ∷ rs) p h c = elim (Contains-append_cases (cells_of r) (all_cells rs) p c) [
-  | inl d ↦ any_head (λ s. IsIn s p.0 p.1) r rs (in_cells r p (all_head IsProper r rs h) d)
-  | inr d ↦ any_tail (λ s. IsIn s p.0 p.1) r rs (held_cells rs p (all_tail IsProper r rs h) d)
+  | inl d ↦ any_head (λ s. IsIn s p.0 p.1) r rs (in_cells r p (All-head IsProper r rs h) d)
+  | inr d ↦ any_tail (λ s. IsIn s p.0 p.1) r rs (held_cells rs p (All-tail IsProper r rs h) d)
 ]
 
 cells_held : (rs : List Corners) (a b : ℤ) → All IsProper rs → HoldCell rs a b → Contains (all_cells rs) (a, b)
@@ -168,18 +168,18 @@ unfolding all_cells
 cells_held [] a b h (k, s, l, e, i) = absurd (omega (arith, l))
 cells_held (r ∷ rs) a b h (zero, s, l, e, i) =
     let P : Corners → Type 0 = λ s. IsIn s a b in
-    Contains-append_left (cells_of r) (all_cells rs) (a, b) (cells_have r a b (all_head IsProper r rs h) (subst P (sym e) i))
+    Contains-append_left (cells_of r) (all_cells rs) (a, b) (cells_have r a b (All-head IsProper r rs h) (subst P (sym e) i))
 cells_held (r ∷ rs) a b h (suc k, s, l, e, i) = Contains-append_right (cells_of r) (all_cells rs) (a, b)
-    (cells_held rs a b (all_tail IsProper r rs h) (k, s, omega (arith, l), e, i))
+    (cells_held rs a b (All-tail IsProper r rs h) (k, s, omega (arith, l), e, i))
 
 cells_once : (rs : List Corners) → All IsProper rs → AllPairs AreApart rs → AllPairs Differ (all_cells rs)
 unfolding all_cells cells_of
 cells_once [] h a = λ i j d l m. absurd (omega (arith, m))
 cells_once (r ∷ rs) h a = apart_lists (cells_of r) (all_cells rs) (block_once r.x1 r.y1 _ _)
-    (cells_once rs (all_tail IsProper r rs h) (pairs_tail AreApart r rs a))
+    (cells_once rs (All-tail IsProper r rs h) (pairs_tail AreApart r rs a))
     (λ p c d.
-    let one = in_cells r p (all_head IsProper r rs h) c in
-    let (k, s, l, e, other) = held_cells rs p (all_tail IsProper r rs h) d in
+    let one = in_cells r p (All-head IsProper r rs h) c in
+    let (k, s, l, e, other) = held_cells rs p (All-tail IsProper r rs h) d in
     let away : AreApart r s = let P : Corners → Type 0 = AreApart r in subst P e (pairs_head AreApart r rs a k s l) in
     away (record { x = p.0; y = p.1; first = one; second = other }))
 

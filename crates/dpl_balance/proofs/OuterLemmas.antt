@@ -1,16 +1,16 @@
 -- A mask has its fragments, and besides the halves of zones that lie in the other fragments: no two of these share a
 -- cell, so the cells of a mask are as many as their sizes sum to.
 use Rattle.std.proofs.Common.{arith, ◌≡◌, ◌↔◌, ◌+◌, ◌/◌, ◌<◌, ◌≤◌, ◌⊎◌, inl, inr, ℕ, zero, suc, ℤ, ◌<ℤ◌, ◌≤ℤ◌, Bool}
-use Rattle.std.proofs.Common.{true, false, cond, List, [], ◌∷◌, ◌++◌, length, map, refl, sym, ap, subst, ◌∙◌, All, Any}
+use Rattle.std.proofs.Common.{true, false, cond, List, [], ◌∷◌, ◌++◌, length, map, refl, sym, ap, subst, ◌∙◌, All}
 use Rattle.std.proofs.Common.{AllPairs, get_or}
 use Rattle.std.specs.Prelude.{sum_by, not, ◌&&◌, if◌then◌else◌}
 use Rattle.std.proofs.lemmas.Bool.{true≢false, false≢true}
 use Rattle.std.proofs.lemmas.List.{length-map, map-append}
 use Rattle.std.proofs.lemmas.List.Sums.{sum_by-cons, sum_by-append}
 use Rattle.std.proofs.lemmas.List.Kept.{AllPairs-cons}
-use Rattle.std.proofs.lemmas.List.Elements.{All-nil, All-cons, All-append, All-map, All-weaker}
+use Rattle.std.proofs.lemmas.List.Elements.{All-nil, All-cons, All-append, All-map, All-weaker, All-head, All-tail}
 use Rattle.dpl_list.proofs.Integers.{signed}
-use Rattle.dpl_list.proofs.Lists.{all_head, all_tail, pairs_head, pairs_tail, any_head, any_tail, any_left, any_right, all_pairs_append}
+use Rattle.dpl_list.proofs.Lists.{pairs_head, pairs_tail, any_head, any_tail, any_left, any_right, all_pairs_append, any_split}
 use Rattle.dpl_cycle.specs.Sums.{sum_on}
 use Rattle.dpl_cycle.proofs.SumLemmas.{sum_same}
 use Rattle.dpl_cell.specs.declared.rect.Rect.{Rect}
@@ -39,9 +39,9 @@ all_kept : (P : Corners → Type 0) (on_b : Bool) (rects : List Rect) (colours :
 unfolding own_rects
 all_kept P on_b [] colours a = All-nil P
 all_kept P on_b (r ∷ rs) [] a = All-nil P
-all_kept P on_b (r ∷ rs) (c ∷ cs) a = by_test (agree c on_b) (all_kept P on_b rs cs (all_tail P (corners_of r) (map corners_of rs) a)) where
+all_kept P on_b (r ∷ rs) (c ∷ cs) a = by_test (agree c on_b) (all_kept P on_b rs cs (All-tail P (corners_of r) (map corners_of rs) a)) where
   by_test : (t : Bool) → All P (own_rects on_b rs cs) → All P (map corners_of (where_same t r (fragments_on on_b rs cs)))
-  by_test true others = All-cons P (corners_of r) (own_rects on_b rs cs) (all_head P (corners_of r) (map corners_of rs) a) others
+  by_test true others = All-cons P (corners_of r) (own_rects on_b rs cs) (All-head P (corners_of r) (map corners_of rs) a) others
   by_test false others = others
 
 own_apart : (on_b : Bool) (rects : List Rect) (colours : List Bool) → AllPairs AreApart (map corners_of rects) →
@@ -176,12 +176,12 @@ unfolding outers put_where
 all_outers P over tiles f on_b colours [] a = All-nil P
 all_outers P over tiles f on_b colours (c ∷ cs) a =
     by_test (all_outers P over tiles f on_b colours cs
-    (all_tail (λ (c : Cut). is_zone colours c ≡ true → P (outer over tiles f on_b colours c)) c cs a))
+    (All-tail (λ (c : Cut). is_zone colours c ≡ true → P (outer over tiles f on_b colours c)) c cs a))
     (is_zone colours c) refl where
       by_test : All P (outers over tiles f on_b colours cs) → (t : Bool) → is_zone colours c ≡ t →
           All P (put_where t (outer over tiles f on_b colours c) (outers over tiles f on_b colours cs))
       by_test others true e = All-cons P (outer over tiles f on_b colours c) (outers over tiles f on_b colours cs)
-          (all_head (λ (c : Cut). is_zone colours c ≡ true → P (outer over tiles f on_b colours c)) c cs a e) others
+          (All-head (λ (c : Cut). is_zone colours c ≡ true → P (outer over tiles f on_b colours c)) c cs a e) others
       by_test others false e = others
 
 outers_apart : (keep : List Corners) (space over : ℕ) (tiles : List Corners) (f : Fragments) (on_b : Bool)
@@ -190,12 +190,12 @@ outers_apart : (keep : List Corners) (space over : ℕ) (tiles : List Corners) (
 unfolding outers put_where outer
 outers_apart keep space over tiles f on_b colours [] a all ordered = λ i j d l m. absurd (omega (arith, m))
 outers_apart keep space over tiles f on_b colours (c ∷ cs) a all ordered =
-    by_test (outers_apart keep space over tiles f on_b colours cs a (all_tail (IsCutOf over tiles f) c cs all)
+    by_test (outers_apart keep space over tiles f on_b colours cs a (All-tail (IsCutOf over tiles f) c cs all)
     (pairs_tail (λ (c d : Cut). c.a < d.a) c cs ordered)) (is_zone colours c) where
       here_apart : All (AreApart (outer over tiles f on_b colours c)) (outers over tiles f on_b colours cs)
       here_apart = all_outers (AreApart (outer over tiles f on_b colours c)) over tiles f on_b colours cs
           (λ k d l e. halves_apart keep space over tiles f a c (get_or cs k d)
-          (all_head (IsCutOf over tiles f) c cs all) (all_tail (IsCutOf over tiles f) c cs all k d l)
+          (All-head (IsCutOf over tiles f) c cs all) (All-tail (IsCutOf over tiles f) c cs all k d l)
           (pairs_head (λ (c d : Cut). c.a < d.a) c cs ordered k d l) (agree (colour_of colours c.a) on_b)
           (agree (colour_of colours (get_or cs k d).a) on_b))
 
@@ -210,10 +210,10 @@ outers_area : (over : ℕ) (tiles : List Corners) (f : Fragments) (on_b : Bool) 
 unfolding outers put_where outer
 outers_area over tiles f on_b colours [] all = refl
 outers_area over tiles f on_b colours (c ∷ cs) all =
-    by_test (outers_area over tiles f on_b colours cs (all_tail (IsCutOf over tiles f) c cs all)) (is_zone colours c)
+    by_test (outers_area over tiles f on_b colours cs (All-tail (IsCutOf over tiles f) c cs all)) (is_zone colours c)
     refl ∙ sym (sum_by-cons (half_zone all_fragments colours) c cs) where
       size : area_of (outer over tiles f on_b colours c) ≡ area_of (corners_of c.zone) / 2
-      size = half_of_area over tiles f c (all_head (IsCutOf over tiles f) c cs all) (agree (colour_of colours c.a) on_b)
+      size = half_of_area over tiles f c (All-head (IsCutOf over tiles f) c cs all) (agree (colour_of colours c.a) on_b)
 
       by_test : sum_by area_of (outers over tiles f on_b colours cs) ≡ zones_area cs all_fragments colours →
           (t : Bool) → is_zone colours c ≡ t → sum_by area_of
@@ -235,7 +235,7 @@ outers_on_zones : (over : ℕ) (tiles : List Corners) (f : Fragments) (on_b : Bo
 unfolding outers put_where outer zone_rects
 outers_on_zones over tiles f on_b colours [] all x y (k, s, l, e, i) = absurd (omega (arith, l))
 outers_on_zones over tiles f on_b colours (c ∷ cs) all x y h =
-    by_test (outers_on_zones over tiles f on_b colours cs (all_tail (IsCutOf over tiles f) c cs all) x y)
+    by_test (outers_on_zones over tiles f on_b colours cs (All-tail (IsCutOf over tiles f) c cs all) x y)
     (is_zone colours c) h where
       either : (HoldCell (outers over tiles f on_b colours cs) x y → HoldCell (zone_rects colours cs) x y) →
           HoldCell (outer over tiles f on_b colours c ∷ outers over tiles f on_b colours cs) x y →
@@ -243,7 +243,7 @@ outers_on_zones over tiles f on_b colours (c ∷ cs) all x y h =
       either others (zero, s, l, e, i) =
           let P : Corners → Type 0 = λ s. IsIn s x y in
           any_head (λ r. IsIn r x y) (corners_of c.zone) (zone_rects colours cs)
-          (half_in_zone over tiles f c (all_head (IsCutOf over tiles f) c cs all) (agree (colour_of colours c.a) on_b) x
+          (half_in_zone over tiles f c (All-head (IsCutOf over tiles f) c cs all) (agree (colour_of colours c.a) on_b) x
           y (subst P (sym e) i))
       either others (suc k, s, l, e, i) = any_tail (λ r. IsIn r x y) (corners_of c.zone) (zone_rects colours cs) (others (k, s, omega (arith, l), e, i))
 
@@ -260,13 +260,13 @@ zones_on_mask : (keep : List Corners) (space over : ℕ) (tiles : List Corners) 
 unfolding outers put_where outer zone_rects
 zones_on_mask keep space over tiles f on_b colours [] n a all x y (k, s, l, e, i) = absurd (omega (arith, l))
 zones_on_mask keep space over tiles f on_b colours (c ∷ cs) n a all x y h =
-    by_test (zones_on_mask keep space over tiles f on_b colours cs n a (all_tail (IsCutOf over tiles f) c cs all) x y)
+    by_test (zones_on_mask keep space over tiles f on_b colours cs n a (All-tail (IsCutOf over tiles f) c cs all) x y)
     (is_zone colours c) refl h where
       Later : Type 0
       Later = HoldCell (zone_rects colours cs) x y → HoldCell (own_rects on_b f.rects colours) x y ⊎ HoldCell (outers over tiles f on_b colours cs) x y
 
       cut : IsCutOf over tiles f c
-      cut = all_head (IsCutOf over tiles f) c cs all
+      cut = All-head (IsCutOf over tiles f) c cs all
 
       -- the half in the fragment of this mask, or the other one
       by_half : is_zone colours c ≡ true → (b own : Bool) → agree (colour_of colours c.a) on_b ≡ own →
@@ -310,14 +310,6 @@ zones_on_mask keep space over tiles f on_b colours (c ∷ cs) n a all x y h =
       by_test others false e h = others h
 
 -- ---- the mask
-
-any_cases : {X : Type 0} (P : X → Type 0) (xs ys : List X) → Any P (xs ++ ys) → Any P xs ⊎ Any P ys
-any_cases P [] ys a = inr a
-any_cases P (x ∷ xs) ys (zero, y, l, e, p) = inl (zero, y, omega arith, e, p)
-any_cases P (x ∷ xs) ys (suc k, y, l, e, p) = elim (any_cases P xs ys (k, y, omega (arith, l), e, p)) [
-  | inl a ↦ inl (any_tail P x xs a)
-  | inr a ↦ inr a
-]
 
 rect_proper : (r : Rect) → IsProper (corners_of r)
 rect_proper r = let w = r.wide in let h = r.high in record { wide = omega signed; high = omega signed }
@@ -387,11 +379,11 @@ parts_same keep space over tiles f on_b colours n a all x y =
     let outside = outers over tiles f on_b colours f.cuts in
     let zones = zone_rects colours f.cuts in
     let P : List Corners → Type 0 = λ rs. HoldCell rs x y in (
-      λ h. subst P (sym (mask_is f on_b colours)) (elim (any_cases C own outside h) [
+      λ h. subst P (sym (mask_is f on_b colours)) (elim (any_split C own outside h) [
         | inl o ↦ any_left C own zones o
         | inr o ↦ any_right C own zones (outers_on_zones over tiles f on_b colours f.cuts all x y o)
       ]),
-      λ h. elim (any_cases C own zones (subst P (mask_is f on_b colours) h)) [
+      λ h. elim (any_split C own zones (subst P (mask_is f on_b colours) h)) [
         | inl o ↦ any_left C own outside o
         | inr z ↦ elim (zones_on_mask keep space over tiles f on_b colours f.cuts n a all x y z) [
           | inl o ↦ any_left C own outside o

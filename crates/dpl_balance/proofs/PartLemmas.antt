@@ -1,10 +1,9 @@
 -- The list of all components, in any order.
 use Rattle.std.proofs.Common.{arith, inl, inr, ◌≡◌, ◌<◌, ◌≤◌, ◌==◌, ℕ, zero, suc, Bool, true, false, List, [], ◌∷◌}
-use Rattle.std.proofs.Common.{◌++◌, length, refl, sym, ap, subst, ◌∙◌, All, length-append, take, drop}
+use Rattle.std.proofs.Common.{length, refl, sym, ap, subst, ◌∙◌, All, length-append}
 use Rattle.std.specs.Prelude.{sum_by, IsPermutation}
 use Rattle.std.specs.List.{IsDistinct, list_any}
 use Rattle.std.proofs.lemmas.Bool.{cases_Bool, eqb-true, eq-eqb, ne_eqb, both_ways}
-use Rattle.std.proofs.Math.Seq.{take-append_seam}
 use Rattle.std.proofs.lemmas.List.Sums.{sum_by_push}
 use Rattle.std.proofs.lemmas.List.Elements.{All-nil, All-push}
 use Rattle.std.proofs.lemmas.List.Sorted.{All-permutation, length_permutation, sum_by-IsPermutation}
@@ -78,7 +77,3 @@ even_in_order a b parts turned p even most each =
     let D : ℕ → Type 0 = λ z. difference z (total_after a b turned true) ≤ most in
     let E : ℕ → Type 0 = λ z. difference (sum_by (cells_by turned false) parts) z ≤ most in
     subst D l (subst E r (even most (moved_all a b (length a) parts (IsUnlike most) p each)))
-
--- a list that was written over from its front, as long as it was
-pub refilled : {X : Type 0} (n : ℕ) (ws xs : List X) → n ≡ length xs → length ws ≡ length xs → take n (ws ++ drop (length ws) xs) ≡ ws
-refilled n ws xs l e = ap (λ k. take k (ws ++ drop (length ws) xs)) (l ∙ sym e) ∙ take-append_seam ws (drop (length ws) xs)

@@ -4,9 +4,10 @@ use Rattle.std.specs.Prelude.{◌&&◌, ltb}
 use Rattle.std.proofs.lemmas.Bool.{cases_order, cases_Bool, lt-ltb, le-ltb, eq-eqb, eqb-true, ne_eqb, and_left}
 use Rattle.dpl_cycle.specs.Sums.{sum_on}
 use Rattle.dpl_cycle.proofs.SumLemmas.{sum_same}
+use Rattle.dpl_cycle.proofs.LabelLemmas.{sum_none}
 use Rattle.dpl_sign.specs.Colourings.{agree}
 use Rattle.dpl_balance.specs.Balance.{turn}
-use Rattle.dpl_balance.proofs.SumLemmas.{sum_split, sum_none}
+use Rattle.dpl_balance.proofs.SumLemmas.{sum_split}
 
 -- ---- a sum shared out by labels
 

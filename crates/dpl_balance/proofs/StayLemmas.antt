@@ -23,6 +23,8 @@ use Rattle.dpl_report.specs.Plain.{PlainZone, plain_report}
 use Rattle.dpl_good.specs.MaskRects.{mask_of}
 use Rattle.dpl_good.specs.Conditions.{is_stitch, where_zone, cuts_after, zone_here, cuts_from, where_broken, clashes_from}
 use Rattle.dpl_good.specs.Truths.{SaysTrue}
+use Rattle.dpl_good.proofs.TrueLemmas.{agree_none}
+use Rattle.dpl_good.proofs.GoodLemmas.{agree_same}
 use Rattle.dpl_parts.specs.Components.{are_one_component}
 use Rattle.dpl_balance.specs.Balance.{AreTurned, BreakTheSame}
 use Rattle.dpl_parts.proofs.JoinedLemmas.{edge_joins}
@@ -50,16 +52,6 @@ same_broken : (kind : Kind) (a b a' b' : Bool) → agree a' b' ≡ agree a b →
 same_broken Bond a b a' b' e = refl
 same_broken Stitch a b a' b' e = ap not e
 same_broken Clash a b a' b' e = e
-
-same_colour : (a b : Bool) → agree a b ≡ true → a ≡ b
-same_colour true true e = refl
-same_colour true false e = absurd (false≢true e)
-same_colour false true e = absurd (false≢true e)
-same_colour false false e = refl
-
-agree_self : (a : Bool) → agree a a ≡ true
-agree_self true = refl
-agree_self false = refl
 
 -- the two ends of an edge agree as they did
 ends_agree : (net : Net) (old new : List Bool) → AreTurned net old new → (e : Edge) (k : ℕ) →
@@ -120,9 +112,9 @@ colouring_stays net old new t c = record {
   bonds = λ k d l bond.
       let e = get_or net.graph.edges k d in
       let was : colour_of old e.a ≡ colour_of old e.b = c.bonds k d l bond in
-      same_colour (colour_of new e.a) (colour_of new e.b)
+      agree_none (colour_of new e.a) (colour_of new e.b)
       (ends_agree net old new t e k l (get_or_default net.graph.edges k no_edge d l) ∙
-      ap (agree (colour_of old e.a)) (sym was) ∙ agree_self (colour_of old e.a));
+      ap (agree (colour_of old e.a)) (sym was) ∙ agree_same (colour_of old e.a));
 }
 
 -- a report with other colours and masks

@@ -13,10 +13,6 @@ pub sum_split : (n : ℕ) (p a b : ℕ → Bool) (w : ℕ → ℕ) → ((v : ℕ
 sum_split zero p a b w e = refl
 sum_split (suc n) p a b w e = omega (arith, e n (omega arith), sum_split n p a b w (λ v l. e v (omega arith)))
 
-pub sum_none : (n : ℕ) (p : ℕ → Bool) (w : ℕ → ℕ) → ((v : ℕ) → v < n → p v ≡ false) → sum_on p w n ≡ 0
-sum_none zero p w e = refl
-sum_none (suc n) p w e = omega (arith, ap (λ b. cond {A = ℕ} b (w n) 0) (e n (omega arith)), sum_none n p w (λ v l. e v (omega arith)))
-
 -- a number that passes a test, if there is one
 pub some_passes : (n : ℕ) (p : ℕ → Bool) → ((u : ℕ) × (u < n) × (p u ≡ true)) ⊎ ((v : ℕ) → v < n → p v ≡ false)
 some_passes zero p = inr (λ v l. absurd (omega arith))

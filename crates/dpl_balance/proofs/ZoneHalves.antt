@@ -16,7 +16,8 @@ use Rattle.dpl_cuts.specs.Positions.{nowhere, lies_along_x, position_of, start_o
 use Rattle.dpl_cuts.specs.Free.{IsFree}
 use Rattle.dpl_cuts.specs.Cuts.{middle, IsCutAt, zone_at}
 use Rattle.dpl_cuts.specs.Fragments.{IsBetweenCuts, IsFragment, IsCut, AreFragments}
-use Rattle.dpl_cuts.proofs.PartLemmas.{start_part, end_part, half_room, half_room', maximal_inside, cut_before}
+use Rattle.dpl_cuts.proofs.PartLemmas.{start_part, end_part, half_room, half_room', maximal_inside}
+use Rattle.dpl_cuts.proofs.ZoneLemmas.{in_middle, meets_cut}
 use Rattle.dpl_balance.specs.Areas.{area_of}
 use Rattle.dpl_balance.proofs.ListedLemmas.{IsProper}
 
@@ -45,9 +46,6 @@ cell_at tile a b c d x y p = by_way (lies_along_x tile) refl where
   by_way false e = rw e (λ i w. (x, p, record { column = i.column; row = w }, refl))
 
 -- ---- two cuts of one tile leave each other room
-
-in_middle : (a b : ℤ) → a <ℤ b → IsWithin a b (middle a b)
-in_middle a b h = record { from = omega signed; to = omega signed }
 
 rooms_apart : (cells : ℤ → ℤ → Bool) (keep : List Corners) (space over : ℕ) (tile : Corners) (c d : ℤ) →
     IsCutAt cells keep space over tile c → IsCutAt cells keep space over tile d → c <ℤ d →
@@ -108,20 +106,6 @@ room_behind cells keep space over tile at to f t = elim f.high [
 
   nearer : (a b : ℤ) (h : ℕ) → (a +ℤ pos h) ≤ℤ (b -ℤ pos h) → (a +ℤ pos h) ≤ℤ b
   nearer a b h g = omega signed
-
--- the fragment behind another one begins at a cut
-meets_cut : (cells : ℤ → ℤ → Bool) (keep : List Corners) (space over : ℕ) (tile r s : Corners) → 2 ≤ over →
-    (f : IsFragment cells keep space over tile r) (g : IsFragment cells keep space over tile s) → f.to ≡ g.from →
-    IsCutAt cells keep space over tile f.to
-meets_cut cells keep space over tile r s wide f g e = elim f.between.high [
-  | inr c ↦ c
-  | inl q ↦ absurd (elim g.between.high [
-    | inl h ↦ let k = g.between.some in turn f.to g.from g.to _ e q k h
-    | inr c ↦ let k = g.between.some in let l = cut_before cells keep space over tile g.to wide c in past f.to g.from g.to _ e q k l
-  ])
-] where
-  turn : (a b c l : ℤ) → a ≡ b → a ≡ l → b <ℤ c → c ≡ l → ⊥
-  turn a b c l e f h g = omega signed
 
   past : (a b c l : ℤ) → a ≡ b → a ≡ l → b <ℤ c → c <ℤ l → ⊥
   past a b c l e f h g = omega signed

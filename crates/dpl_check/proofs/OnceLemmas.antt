@@ -7,18 +7,22 @@ use Rattle.dpl_options.specs.Options.{PlainOptions}
 use Rattle.dpl_good.specs.declared.refusals.Refusal.{Refusal}
 use Rattle.dpl_layer.specs.declared.error.LayerError.{LayerError}
 use Rattle.dpl_layer.specs.declared.error.LayerError.TheVariants.{NoMemory}
-use Rattle.dpl_layer.specs.Drawings.{Cells}
-use Rattle.dpl_layer.specs.Layers.{IsLayer, IsLayerOfText}
-use Rattle.dpl_layer.specs.Refusals.{RefusesCells, RefusesLayer}
+use Rattle.dpl_cell.specs.Layers.{is_cell}
+use Rattle.dpl_cif.specs.Reading.{primitives_of}
+use Rattle.dpl_layer.specs.Reasons.{FirstOf, NoneOf}
+use Rattle.dpl_layer.specs.Drawings.{Cells, kept_of, drawing_reasons}
+use Rattle.dpl_layer.specs.Layers.{IsCutLayer, IsLayerOfText}
+use Rattle.dpl_layer.specs.Refusals.{cells_reasons, layer_reasons}
 use Rattle.dpl_layer.proofs.LayerLemmas.{same_layer}
 use Rattle.dpl_layer.proofs.TextLemmas.{on_layer, with_layer}
-use Rattle.dpl_layer.proofs.RefusalLemmas.{cells_free, drawing_free}
+use Rattle.dpl_layer.proofs.ReasonLemmas.{none_both}
+use Rattle.dpl_layer.proofs.RefusalLemmas.{cells_free}
 use Rattle.dpl_check.specs.declared.verdicts.Verdict.{Verdict}
 use Rattle.dpl_check.specs.declared.verdicts.Verdict.TheVariants.{Yes, No}
 use Rattle.dpl_check.specs.Judged.{IsVerdict}
-use Rattle.dpl_check.specs.Checked.{BoundsAll, BoundsCells, IsVerdictOf, IsVerdictOfCells}
+use Rattle.dpl_check.specs.Checked.{IsVerdictOf, IsVerdictOfCells}
 use Rattle.dpl_good.proofs.RefusalLemmas.{one_refusal}
-use Rattle.dpl_check.proofs.GoodLemmas.{good_only, good_bounds}
+use Rattle.dpl_check.proofs.GoodLemmas.{good_only}
 
 -- the verdict that a refusal is
 abbrev verdict_from : Refusal → Verdict
@@ -47,46 +51,29 @@ one_verdict o text report v w a b = with_layer o text (IsVerdictOfCells o report
     (λ cells kept p q. one_of_cells o report v w cells kept p q) a b
 
 -- a layout with a verdict is not refused
-pub verdict_free : (o : PlainOptions) (text report : List ℕ) (v : Verdict) → IsVerdictOf o text report v → (e : LayerError) → ¬ RefusesLayer o text e
-verdict_free o text report v a e (inl r) = drawing_free o text (IsVerdictOfCells o report v) e a r
-verdict_free o text report v a e (inr r) = with_layer o text (IsVerdictOfCells o report v)
-    (λ cells kept. RefusesCells o cells kept e) (λ cells kept p q. cells_free o cells kept p.fragments p.net p.layer e
-    q) a r
+pub verdict_free : (o : PlainOptions) (text report : List ℕ) (v : Verdict) → IsVerdictOf o text report v → NoneOf (layer_reasons o text)
+verdict_free o text report v a =
+    let cells = is_cell (primitives_of o.layer text) in
+    let kept = is_cell (kept_of o.keep text) in
+    none_both (drawing_reasons o text) (cells_reasons o cells kept) a.0 (cells_free o cells kept a.1.fragments a.1.net a.1.layer)
 
 -- a layout that is refused has no verdict
-pub verdict_not_refused : (o : PlainOptions) (text report : List ℕ) (e : LayerError) (v : Verdict) → RefusesLayer o text e → IsVerdictOf o text report v → ⊥
+pub verdict_not_refused : (o : PlainOptions) (text report : List ℕ) (e : LayerError) (v : Verdict) →
+    FirstOf (layer_reasons o text) e → IsVerdictOf o text report v → ⊥
 verdict_not_refused o text report e v r a = verdict_free o text report v a e r
 
 -- the verdict for the layer of a text is that on the text
 pub verdict_of_text : (o : PlainOptions) (text report : List ℕ) (f : Fragments) (n : Net) (v : Verdict) →
     IsLayerOfText o text f n → IsVerdict o f n report v → IsVerdictOf o text report v
-verdict_of_text o text report f n v l is = on_layer o text (λ cells kept. IsLayer o cells kept f n)
-    (IsVerdictOfCells o report v) (λ cells kept k. record { fragments = f; net = n; layer = k; verdict = is }) l
+verdict_of_text o text report f n v l is = on_layer o text (λ cells kept. IsCutLayer o cells kept f n)
+    (IsVerdictOfCells o report v) (λ cells kept k. record { fragments = f; net = n; layer = k.is; verdict = is }) l
 
 -- ---- what an answer says of each due one
 
 -- the answer is the verdict on the layout and the report, but for want of memory
 pub verdict_comes : (o : PlainOptions) (text report : List ℕ) (result : Result Verdict LayerError) →
-    IfOk result (λ v. IsVerdictOf o text report v) → IfErr result (λ e. (e ≡ NoMemory) ⊎ RefusesLayer o text e)
+    IfOk result (λ v. IsVerdictOf o text report v) → IfErr result (λ e. (e ≡ NoMemory) ⊎ FirstOf (layer_reasons o text) e)
     → (v : Verdict) → IsVerdictOf o text report v → (result ≡ Ok v) ⊎ (result ≡ Err NoMemory)
 verdict_comes o text report (Ok w) a b v d = inl (ap Ok (one_verdict o text report w v a d))
 verdict_comes o text report (Err f) a (inl n) v d = inr (ap Err n)
 verdict_comes o text report (Err f) a (inr q) v d = absurd (verdict_not_refused o text report f v q d)
-
-yes_of_cells : (o : PlainOptions) (report : List ℕ) (cost bound : ℕ) (cells kept : Cells) →
-    IsVerdictOfCells o report (Yes cost bound) cells kept → BoundsCells o bound cells kept
-yes_of_cells o report cost bound cells kept y = record {
-  fragments = y.fragments;
-  net = y.net;
-  layer = y.layer;
-  bounds =
-      good_bounds o y.fragments y.net report cost bound y.verdict;
-}
-
--- each colouring of the net of the layer costs at least half the bound of an accepted report
-pub yes_bounds : (o : PlainOptions) (text report : List ℕ) (result : Result Verdict LayerError) →
-    IfOk result (λ v. IsVerdictOf o text report v) → (cost bound : ℕ) → result ≡ Ok (Yes cost bound) →
-    BoundsAll o text bound
-yes_bounds o text report result a cost bound h =
-    let y = rw h at a in
-    on_layer o text (IsVerdictOfCells o report (Yes cost bound)) (BoundsCells o bound) (yes_of_cells o report cost bound) y

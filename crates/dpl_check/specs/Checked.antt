@@ -1,7 +1,5 @@
 -- The verdict on a report text against the text of a layout.
 use Rattle.std.specs.Prelude.{◌≡◌, ℕ, ◌*◌, ◌≤◌, Bool, List}
-use Rattle.dpl_cell.specs.Places.{Corners}
-use Rattle.dpl_cell.specs.Tiles.{AreTiles}
 use Rattle.dpl_cuts.specs.declared.types.Fragments.{Fragments}
 use Rattle.dpl_sign.specs.declared.nets.Net.{Net}
 use Rattle.dpl_sign.specs.Colourings.{IsColouring, cost_of}
@@ -25,30 +23,20 @@ pub record IsVerdictOfCells (o : PlainOptions) (report : List ℕ) (v : Verdict)
 abbrev pub IsVerdictOf : PlainOptions → List ℕ → List ℕ → Verdict → Type 0
 IsVerdictOf o text report v = OnLayer o text (IsVerdictOfCells o report v)
 
--- each colouring of the net of the layer of these cells costs at least half of this
-pub record BoundsCells (o : PlainOptions) (bound : ℕ) (cells kept : Cells) : Type 0 where
-  pub fragments : Fragments
-  pub net : Net
-  pub layer : IsLayer o cells kept fragments net
-  pub bounds : (colours : List Bool) → IsColouring net.graph colours →
-      bound ≤ 2 * cost_of net.graph colours
-
--- each colouring of the net of the layer costs at least half of this
-abbrev pub BoundsAll : PlainOptions → List ℕ → ℕ → Type 0
-BoundsAll o text bound = OnLayer o text (BoundsCells o bound)
-
--- The masks of the report are those of the layer with these cells: together they are the layer, they overlap exactly at
--- the listed stitches, they break the spacing only at the listed clashes, and the text read as CIF draws them.
-pub record HasMasksOfCells (o : PlainOptions) (text : List ℕ) (cells kept : Cells) : Type 0 where
+-- What an accepted report of this bound means for the layer with these cells. Each colouring of its net costs at least half
+-- of the bound. The masks are those of the layer: together they are the layer, they overlap exactly at the listed
+-- stitches, they break the spacing only at the listed clashes, and the text read as CIF draws them.
+pub record IsAcceptedOfCells (o : PlainOptions) (text : List ℕ) (bound : ℕ)
+    (cells kept : Cells) : Type 0 where
   pub fragments : Fragments
   pub net : Net
   pub layer : IsLayer o cells kept fragments net
   pub report : PlainReport
   pub written : text ≡ report_text report
-  pub tiles : List Corners
-  pub are_tiles : AreTiles cells tiles
-  pub masks : AreMasksOf o cells tiles fragments net report
+  pub bounds : (colours : List Bool) → IsColouring net.graph colours →
+      bound ≤ 2 * cost_of net.graph colours
+  pub masks : AreMasksOf o cells layer.layer.fragments.tiles fragments net report
 
--- the masks of the report are those of the layer of the text
-abbrev pub HasMasksOf : PlainOptions → List ℕ → List ℕ → Type 0
-HasMasksOf o text report = OnLayer o text (HasMasksOfCells o report)
+-- the same for the layer of a text
+abbrev pub IsAcceptedOf : PlainOptions → List ℕ → List ℕ → ℕ → Type 0
+IsAcceptedOf o text report bound = OnLayer o text (IsAcceptedOfCells o report bound)

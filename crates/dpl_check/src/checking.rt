@@ -1,8 +1,9 @@
 // A report text against the text of a layout.
 ghost use Rattle.std.specs.Prelude.{◌≡◌, ◌⊎◌, ◌≤◌, ℕ, length, IfOk, IfErr, Ok, Err};
 ghost use Rattle.dpl_limits.specs.declared.TheConstants.{MOST_LAYOUT_BYTES, MOST_REPORT_BYTES};
-ghost use Rattle.dpl_layer.specs.Refusals.{RefusesLayer};
-ghost use Rattle.dpl_check.specs.Checked.{BoundsAll, HasMasksOf, IsVerdictOf};
+ghost use Rattle.dpl_layer.specs.Reasons.{FirstOf};
+ghost use Rattle.dpl_layer.specs.Refusals.{layer_reasons};
+ghost use Rattle.dpl_check.specs.Checked.{IsAcceptedOf, IsVerdictOf};
 
 use crate::judging::judge;
 use crate::verdicts::Verdict;
@@ -22,18 +23,15 @@ pub fn check(
     requires report { length report.now ≤ MOST_REPORT_BYTES }
     ensures verdict { IfOk result (λ v. IsVerdictOf options.now text.now report.now v) }
     ensures refused { (e : LayerError) → result ≡ Err e →
-        (e ≡ LayerError.NoMemory) ⊎ RefusesLayer options.now text.now e }
-    ensures exact { (e : LayerError) → RefusesLayer options.now text.now e →
+        (e ≡ LayerError.NoMemory) ⊎ FirstOf (layer_reasons options.now text.now) e }
+    ensures exact { (e : LayerError) → FirstOf (layer_reasons options.now text.now) e →
         (result ≡ Err e) ⊎ (result ≡ Err LayerError.NoMemory) }
     // A good report is accepted, unless memory runs out, and no other is.
     ensures once { (v : Verdict) → IsVerdictOf options.now text.now report.now v →
         (result ≡ Ok v) ⊎ (result ≡ Err LayerError.NoMemory) }
-    // Every colouring costs at least half the bound of an accepted report.
-    ensures bounds { (cost bound : ℕ) → result ≡ Ok (Verdict.Yes cost bound) →
-        BoundsAll options.now text.now bound }
-    // Its masks are those of the layer.
-    ensures masks { (cost bound : ℕ) → result ≡ Ok (Verdict.Yes cost bound) →
-        HasMasksOf options.now text.now report.now }
+    // Every colouring costs at least half the bound of an accepted report, and its masks are those of the layer.
+    ensures accepted { (cost bound : ℕ) → result ≡ Ok (Verdict.Yes cost bound) →
+        IsAcceptedOf options.now text.now report.now bound }
 {
     options.in_range();
     check_parts(alloc, text, options, report)
@@ -50,7 +48,7 @@ fn check_parts(
     requires report { length report.now ≤ MOST_REPORT_BYTES }
     ensures verdict { IfOk result (λ v. IsVerdictOf options.now text.now report.now v) }
     ensures refused { IfErr result (λ e. (e ≡ LayerError.NoMemory) ⊎
-        RefusesLayer options.now text.now e) }
+        FirstOf (layer_reasons options.now text.now) e) }
 {
     options.in_range();
     let layer = read_layer(alloc, text, options)?;

@@ -1,23 +1,26 @@
 -- The masks of a report of a layer, and the report of a layer of a text.
-use Rattle.std.proofs.Common.{ℕ, List}
+use Rattle.std.proofs.Common.{ℕ, List, refl}
 use Rattle.dpl_cell.specs.Places.{Corners}
 use Rattle.dpl_cuts.specs.declared.types.Fragments.{Fragments}
 use Rattle.dpl_sign.specs.declared.nets.Net.{Net}
 use Rattle.dpl_options.specs.Options.{PlainOptions}
 use Rattle.dpl_report.specs.Plain.{PlainReport}
+use Rattle.dpl_report.specs.ReportLines.{report_text}
 use Rattle.dpl_good.specs.MaskCells.{AreCutFrom, AreMasksOf}
+use Rattle.dpl_good.proofs.BrokenLemmas.{net_takes}
+use Rattle.dpl_good.proofs.FactLemmas.{facts_of_truth}
 use Rattle.dpl_balance.specs.Balance.{AreBalanced}
 use Rattle.dpl_layer.specs.Drawings.{Cells, OnLayer}
-use Rattle.dpl_layer.specs.Layers.{IsLayer, IsLayerOfText}
+use Rattle.dpl_layer.specs.Layers.{IsCutLayer, IsLayerOfText}
 use Rattle.dpl_layer.proofs.TextLemmas.{on_layer}
-use Rattle.dpl_core.specs.Reports.{HasMasks, IsReportOfNet, IsReportOfCells, IsReportOf, IsBalancedOfCells}
+use Rattle.dpl_core.specs.Reports.{HaveMasks, IsReportOfNet, IsReportOfCells, IsReportOf, IsBalancedOfCells}
 
 -- masks over fragments cut from the tiles of any cells are those of the cells of the layer
 pub masks_of_layer : (o : PlainOptions) (f : Fragments) (n : Net) (r : PlainReport) →
     ((cells : Cells) (tiles : List Corners) → AreCutFrom o cells tiles f → AreMasksOf o cells tiles f n r)
-    → (cells kept : Cells) → IsLayer o cells kept f n → HasMasks o cells f n r
+    → HaveMasks o f n r
 masks_of_layer o f n r law cells kept k =
-    let a = k.layer.fragments in
+    let a = k.is.layer.fragments in
     let h = k.shared a.tiles a.are_tiles in
     let from : AreCutFrom o cells a.tiles f = record {
       keep = a.keep;
@@ -28,21 +31,27 @@ masks_of_layer o f n r law cells kept k =
       shapes = a.are_shapes;
       fragments = a.are_fragments;
     } in
-    record { tiles = a.tiles; are_tiles = a.are_tiles; masks = law cells a.tiles from }
-
--- the masks of a layer's report are those of whatever cells the layer is of
-abbrev pub HaveMasks : PlainOptions → Fragments → Net → PlainReport → Type 0
-HaveMasks o f n r = (cells kept : Cells) → IsLayer o cells kept f n → HasMasks o cells f n r
+    law cells a.tiles from
 
 -- a report of the net of a layer is one of its cells
 pub report_of_cells : (o : PlainOptions) (f : Fragments) (n : Net) (r : PlainReport) → IsReportOfNet o f n r →
-    HaveMasks o f n r → (cells kept : Cells) → IsLayer o cells kept f n → IsReportOfCells o r cells kept
-report_of_cells o f n r is masks cells kept l = record { fragments = f; net = n; layer = l; report = is; masks = masks cells kept l }
+    HaveMasks o f n r → (cells kept : Cells) → IsCutLayer o cells kept f n → IsReportOfCells o r cells kept
+report_of_cells o f n r is masks cells kept l =
+    let net = l.is.layer.net in
+    record {
+      fragments = f;
+      net = n;
+      layer = l.is;
+      facts = facts_of_truth o f n (report_text r) r (net_takes o.weights net.bonds f.cuts net.links n.graph.edges net.edges) is.valid refl is.truth;
+      tight = is.tight;
+      least = is.least;
+      masks = masks cells kept l;
+    }
 
 -- a report of the net of a text's layer is one of the text
 pub report_of_text : (o : PlainOptions) (text : List ℕ) (f : Fragments) (n : Net) (r : PlainReport) →
     IsReportOfNet o f n r → HaveMasks o f n r → IsLayerOfText o text f n → IsReportOf o text r
-report_of_text o text f n r is masks l = on_layer o text (λ cells kept. IsLayer o cells kept f n) (IsReportOfCells o r) (report_of_cells o f n r is masks) l
+report_of_text o text f n r is masks l = on_layer o text (λ cells kept. IsCutLayer o cells kept f n) (IsReportOfCells o r) (report_of_cells o f n r is masks) l
 
 -- the same of a report whose masks cover about the same area
 pub balanced_of_text : (o : PlainOptions) (text : List ℕ) (f : Fragments) (n : Net) (r : PlainReport) →
@@ -50,5 +59,5 @@ pub balanced_of_text : (o : PlainOptions) (text : List ℕ) (f : Fragments) (n :
     OnLayer o text (IsBalancedOfCells o r)
 unfolding report_of_cells
 balanced_of_text o text f n r is masks even l =
-    on_layer o text (λ cells kept. IsLayer o cells kept f n) (IsBalancedOfCells o r)
+    on_layer o text (λ cells kept. IsCutLayer o cells kept f n) (IsBalancedOfCells o r)
     (λ cells kept k. record { of_cells = report_of_cells o f n r is masks cells kept k; even = even }) l

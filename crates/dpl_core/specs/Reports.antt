@@ -1,7 +1,5 @@
 -- The report of a layer of a text, and what its bound proves.
 use Rattle.std.specs.Prelude.{◌≡◌, ◌↔◌, ◌+◌, ◌*◌, ◌≤◌, ℕ, Bool, true, List, [], length, None, is_some}
-use Rattle.dpl_cell.specs.Places.{Corners}
-use Rattle.dpl_cell.specs.Tiles.{AreTiles}
 use Rattle.dpl_sign.specs.declared.nets.Net.{Net}
 use Rattle.dpl_sign.specs.Colourings.{IsColouring, cost_of}
 use Rattle.dpl_sign.specs.Drawings.{face_count}
@@ -11,13 +9,14 @@ use Rattle.dpl_options.specs.Options.{PlainOptions}
 use Rattle.dpl_report.specs.Plain.{PlainReport}
 use Rattle.dpl_report.specs.ReportLines.{report_text}
 use Rattle.dpl_report.specs.Valid.{IsReport}
+use Rattle.dpl_good.specs.Facts.{AreNineFacts}
 use Rattle.dpl_good.specs.Truths.{SaysTrue}
 use Rattle.dpl_good.specs.Verdicts.{refusal_of}
 use Rattle.dpl_good.specs.MaskCells.{AreMasksOf}
 use Rattle.dpl_solve.specs.Named.{keeps, odd_faces}
 use Rattle.dpl_solve.specs.Solved.{kept_cost, aside_cost, KeepToKept, PassOnce}
 use Rattle.dpl_layer.specs.Drawings.{Cells, OnLayer}
-use Rattle.dpl_layer.specs.Layers.{IsLayer}
+use Rattle.dpl_layer.specs.Layers.{IsLayer, IsCutLayer}
 use Rattle.dpl_balance.specs.Balance.{AreBalanced}
 
 -- What the report's bound and cost say of all colourings of the net: each costs at least half
@@ -43,6 +42,42 @@ pub record IsTight (net : Net) (r : PlainReport) : Type 0 where
   pub tight : r.head.bound ≡ 2 * kept_cost net r.head.colours
   pub rest : r.head.cost ≡ kept_cost net r.head.colours + aside_cost net r.head.colours
 
+-- The report of the layer of these cells, of which some are kept whole. The nine facts hold of it, so it is good; it is tight,
+-- so its colouring is the least; and its masks are those of the layer: together they are the layer, they overlap exactly
+-- at the listed stitches, they break the spacing only at the listed clashes, and the text read as CIF draws them.
+pub record IsReportOfCells (o : PlainOptions) (r : PlainReport) (cells kept : Cells) : Type 0 where
+  pub fragments : Fragments
+  pub net : Net
+  pub layer : IsLayer o cells kept fragments net
+  pub facts : AreNineFacts o fragments net (report_text r) r
+  pub tight : IsTight net r
+  pub least : CostsLeast net r
+  pub masks : AreMasksOf o cells layer.layer.fragments.tiles fragments net r
+
+-- such a report, whose two masks differ in area by no more than they differ within one component
+pub record IsBalancedOfCells (o : PlainOptions) (r : PlainReport) (cells kept : Cells) : Type 0 where
+  pub of_cells : IsReportOfCells o r cells kept
+  pub even : AreBalanced of_cells.fragments of_cells.net r.head.colours
+
+-- the output is the text of such a report
+pub record IsTextOf (P : PlainReport → Type 0) (output : List ℕ) : Type 0 where
+  pub report : PlainReport
+  pub has : P report
+  pub is : output ≡ report_text report
+
+-- the report of the layer of the text, with its masks
+abbrev pub IsReportOf : PlainOptions → List ℕ → PlainReport → Type 0
+IsReportOf o text r = OnLayer o text (IsReportOfCells o r)
+
+abbrev pub IsSplit : PlainOptions → List ℕ → List ℕ → Type 0
+IsSplit o text output = IsTextOf (IsReportOf o text) output
+
+-- its masks cover about the same area
+abbrev pub IsBalancedSplit : PlainOptions → List ℕ → List ℕ → Type 0
+IsBalancedSplit o text output = IsTextOf (λ r. OnLayer o text (IsBalancedOfCells o r)) output
+
+-- ---- words of the steps
+
 -- The report says the truth of these fragments and this net, so it is valid, and the checker finds it good; and it is
 -- tight, so its colouring is the least.
 pub record IsReportOfNet (o : PlainOptions) (f : Fragments) (net : Net) (r : PlainReport) : Type 0 where
@@ -52,40 +87,7 @@ pub record IsReportOfNet (o : PlainOptions) (f : Fragments) (net : Net) (r : Pla
   pub tight : IsTight net r
   pub least : CostsLeast net r
 
--- The masks of the report are those of the layer with these cells: together they are the layer,
--- they overlap exactly at the listed stitches, they break the spacing only at the listed clashes,
--- and the text read as CIF draws them.
-pub record HasMasks (o : PlainOptions) (cells : Cells) (f : Fragments) (net : Net)
-    (r : PlainReport) : Type 0 where
-  pub tiles : List Corners
-  pub are_tiles : AreTiles cells tiles
-  pub masks : AreMasksOf o cells tiles f net r
-
--- the report of the layer of these cells, of which some are kept whole, and its masks
-pub record IsReportOfCells (o : PlainOptions) (r : PlainReport) (cells kept : Cells) : Type 0 where
-  pub fragments : Fragments
-  pub net : Net
-  pub layer : IsLayer o cells kept fragments net
-  pub report : IsReportOfNet o fragments net r
-  pub masks : HasMasks o cells fragments net r
-
--- such a report, whose two masks differ in area by no more than they differ within one component
-pub record IsBalancedOfCells (o : PlainOptions) (r : PlainReport) (cells kept : Cells) : Type 0 where
-  pub of_cells : IsReportOfCells o r cells kept
-  pub even : AreBalanced of_cells.fragments of_cells.net r.head.colours
-
--- the report of the layer of the text, with its masks
-abbrev pub IsReportOf : PlainOptions → List ℕ → PlainReport → Type 0
-IsReportOf o text r = OnLayer o text (IsReportOfCells o r)
-
--- the output is the text of such a report
-pub record IsSplit (o : PlainOptions) (text output : List ℕ) : Type 0 where
-  pub report : PlainReport
-  pub of_layer : IsReportOf o text report
-  pub is : output ≡ report_text report
-
--- the output is the text of such a report, whose masks cover about the same area
-pub record IsBalancedSplit (o : PlainOptions) (text output : List ℕ) : Type 0 where
-  pub report : PlainReport
-  pub of_layer : OnLayer o text (IsBalancedOfCells o report)
-  pub is : output ≡ report_text report
+-- the masks of a layer's report are those of whatever cells the layer is of
+abbrev pub HaveMasks : PlainOptions → Fragments → Net → PlainReport → Type 0
+HaveMasks o f n r = (cells kept : Cells) (l : IsCutLayer o cells kept f n) →
+    AreMasksOf o cells l.is.layer.fragments.tiles f n r

@@ -2,12 +2,12 @@
 ghost use Rattle.std.specs.Prelude.{◌≡◌, ◌⊎◌, ◌≤◌, length, IfOk, Err};
 ghost use Rattle.dpl_limits.specs.declared.TheConstants.{MOST_LAYOUT_BYTES};
 ghost use Rattle.dpl_lex.specs.Cutting.{commands_of};
-ghost use Rattle.dpl_layer.specs.Drawings.{Cells};
-ghost use Rattle.dpl_layer.specs.Layers.{IsLayer, IsSomeLayer};
+ghost use Rattle.dpl_layer.specs.Layers.{IsSomeLayer};
+ghost use Rattle.dpl_layer.specs.Reasons.{FirstOf};
 ghost use Rattle.dpl_report.specs.Plain.{plain_report};
 ghost use Rattle.dpl_balance.specs.Balance.{AreBalanced};
-ghost use Rattle.dpl_core.specs.Reports.{HasMasks, IsBalancedSplit, IsReportOfNet};
-ghost use Rattle.dpl_core.specs.Refusals.{RefusesSplit};
+ghost use Rattle.dpl_core.specs.Reports.{HaveMasks, IsBalancedSplit, IsReportOfNet};
+ghost use Rattle.dpl_core.specs.Refusals.{split_reasons};
 
 use crate::making::{Made, make_commands};
 use crate::solving::report_is_of_the_layer;
@@ -30,8 +30,8 @@ pub fn balance_commands(
     requires commands { commands.now ≡ commands_of text.now }
     ensures split { IfOk result (λ v. IsBalancedSplit options.now text.now v.items) }
     ensures refused { (e : LayerError) → result ≡ Err e →
-        (e ≡ LayerError.NoMemory) ⊎ RefusesSplit options.now text.now e }
-    ensures exact { (e : LayerError) → RefusesSplit options.now text.now e →
+        (e ≡ LayerError.NoMemory) ⊎ FirstOf (split_reasons options.now text.now) e }
+    ensures exact { (e : LayerError) → FirstOf (split_reasons options.now text.now) e →
         (result ≡ Err e) ⊎ (result ≡ Err LayerError.NoMemory) }
 {
     let Made { layer, report } = make_commands(alloc, text, commands, options)?;
@@ -52,9 +52,8 @@ fn balanced(
         (plain_report report) }
     ensures report { IfOk result (λ r.
         IsReportOfNet options.now layer.now.fragments layer.now.net (plain_report r)) }
-    ensures masks { IfOk result (λ r. (cells kept : Cells) →
-        IsLayer options.now cells kept layer.now.fragments layer.now.net →
-        HasMasks options.now cells layer.now.fragments layer.now.net (plain_report r)) }
+    ensures masks { IfOk result (λ r.
+        HaveMasks options.now layer.now.fragments layer.now.net (plain_report r)) }
     ensures even { IfOk result (λ r. AreBalanced layer.now.fragments layer.now.net r.colours) }
 {
     let report = balance(alloc, report, &layer.fragments, &layer.net)?;

@@ -1,12 +1,11 @@
 // From a layer to its report.
 ghost use Rattle.std.specs.Prelude.{◌≡◌, ◌⊎◌, ◌≤◌, ℕ, length, IfOk, IfErr, Err};
 ghost use Rattle.dpl_limits.specs.declared.TheConstants.{MOST_EDGES};
-ghost use Rattle.dpl_layer.specs.Drawings.{Cells};
-ghost use Rattle.dpl_layer.specs.Layers.{IsLayer, IsSomeLayer};
+ghost use Rattle.dpl_layer.specs.Layers.{IsSomeLayer};
 ghost use Rattle.dpl_report.specs.Plain.{plain_report};
 ghost use Rattle.dpl_good.specs.Truths.{SaysTrue};
 ghost use Rattle.dpl_solve.specs.Solved.{IsSolution, IsRefused};
-ghost use Rattle.dpl_core.specs.Reports.{HasMasks, CostsLeast, IsReportOfNet, IsTight};
+ghost use Rattle.dpl_core.specs.Reports.{HaveMasks, CostsLeast, IsReportOfNet, IsTight};
 ghost use Rattle.dpl_core.specs.Refusals.{IsOddNet};
 
 use crate::reporting::report_of;
@@ -29,9 +28,8 @@ pub fn report_of_layer(
     requires layer { IsSomeLayer options.now layer.now.fragments layer.now.net }
     ensures report { IfOk result (λ r.
         IsReportOfNet options.now layer.now.fragments layer.now.net (plain_report r)) }
-    ensures masks { IfOk result (λ r. (cells kept : Cells) →
-        IsLayer options.now cells kept layer.now.fragments layer.now.net →
-        HasMasks options.now cells layer.now.fragments layer.now.net (plain_report r)) }
+    ensures masks { IfOk result (λ r.
+        HaveMasks options.now layer.now.fragments layer.now.net (plain_report r)) }
     ensures refused { (e : LayerError) → result ≡ Err e →
         (e ≡ LayerError.NoMemory) ⊎ IsOddNet layer.now.net e }
     ensures exact { (e : LayerError) → IsOddNet layer.now.net e →
@@ -53,9 +51,8 @@ pub fn report_is_of_the_layer(options: &Options, layer: &Layer, report: &Report)
     requires least { CostsLeast layer.now.net (plain_report report.now) }
     ensures report { IsReportOfNet options.now layer.now.fragments layer.now.net
         (plain_report report.now) }
-    ensures masks { (cells kept : Cells) →
-        IsLayer options.now cells kept layer.now.fragments layer.now.net →
-        HasMasks options.now cells layer.now.fragments layer.now.net (plain_report report.now) }
+    ensures masks { HaveMasks options.now layer.now.fragments layer.now.net
+        (plain_report report.now) }
 {
     true_reports_are_good(options, &layer.fragments, &layer.net, report);
     true_reports_are_valid(options, &layer.fragments, &layer.net, report);

@@ -1,7 +1,6 @@
 -- The fragments and the edges of a layer stand in order.
 use Rattle.std.proofs.Common.{arith, ◌≡◌, inl, inr, ◌<◌, ℕ, zero, suc, true, List, [], ◌∷◌, ◌++◌, length, map, refl, sym, subst, slice_index_or}
 use Rattle.std.specs.Prelude.{All, AllPairs}
-use Rattle.std.proofs.lemmas.List.{get_or-map, length-map}
 use Rattle.std.proofs.lemmas.List.Elements.{All-append, All-map}
 use Rattle.std.proofs.lemmas.List.Kept.{AllPairs-cons}
 use Rattle.dpl_cell.specs.Places.{corners_of}
@@ -18,22 +17,9 @@ use Rattle.dpl_layer.specs.Layers.{IsLayerOf}
 use Rattle.dpl_stay.specs.declared.finding.Key.{Key}
 use Rattle.dpl_stay.specs.Order.{rank_of, key_before, AreRectsInOrder, AreEdgesInOrder}
 use Rattle.dpl_stay.proofs.OrderLemmas.{key_to}
+use Rattle.dpl_list.proofs.Lists.{all_pairs_of_map, all_pairs_map}
 
 -- ---- pairs of a list
-
-pairs_of_map : {A B : Type 0} (f : A → B) (R : B → B → Type 0) (xs : List A) → AllPairs R (map f xs) → AllPairs (λ x y. R (f x) (f y)) xs
-pairs_of_map f R xs h i j d low l =
-    let n = length-map xs f in
-    subst (λ z. R z (f (slice_index_or xs j d))) (get_or-map f xs i d (f d) (omega (arith, low, l)))
-    (subst (λ z. R (slice_index_or (map f xs) i (f d)) z) (get_or-map f xs j d (f d) l) (h i j (f d) low (omega (arith, l, n))))
-
-pairs_to_map : {A B : Type 0} (f : A → B) (R : B → B → Type 0) (xs : List A) → AllPairs (λ x y. R (f x) (f y)) xs → AllPairs R (map f xs)
-pairs_to_map f R [] h i j d low l = absurd (omega (arith, low, l))
-pairs_to_map f R (x ∷ xs) h i j d low l =
-    let n = length-map (x ∷ xs) f in
-    let k : j < length (x ∷ xs) = omega (arith, l, n) in
-    subst (λ z. R z (slice_index_or (map f (x ∷ xs)) j d)) (sym (get_or-map f (x ∷ xs) i x d (omega (arith, low, k))))
-    (subst (λ z. R (f (slice_index_or (x ∷ xs) i x)) z) (sym (get_or-map f (x ∷ xs) j x d k)) (h i j x low k))
 
 pairs_join : {A : Type 0} (R : A → A → Type 0) (xs ys : List A) → AllPairs R xs → AllPairs R ys → All (λ x. All (R x) ys) xs → AllPairs R (xs ++ ys)
 pairs_join R [] ys a b c = b
@@ -67,13 +53,13 @@ ties_in_order w bonds cuts links a b c =
     let x = map bond_tie bonds in
     let y = map (stitch_tie w.stitch) cuts in
     let z = map (clash_tie w) links in
-    let bonds_in = pairs_to_map bond_tie IsTieBefore bonds
+    let bonds_in = all_pairs_map bond_tie IsTieBefore bonds
     (λ i j d low l. key_to (key_tie (bond_tie (slice_index_or bonds i d)))
     (key_tie (bond_tie (slice_index_or bonds j d))) (inr (refl, a i j d low l))) in
-    let cuts_in = pairs_to_map (stitch_tie w.stitch) IsTieBefore cuts
+    let cuts_in = all_pairs_map (stitch_tie w.stitch) IsTieBefore cuts
     (λ i j d low l. key_to (key_tie (stitch_tie w.stitch (slice_index_or cuts i d)))
     (key_tie (stitch_tie w.stitch (slice_index_or cuts j d))) (inr (refl, inl (b i j d low l)))) in
-    let links_in = pairs_to_map (clash_tie w) IsTieBefore links
+    let links_in = all_pairs_map (clash_tie w) IsTieBefore links
     (λ i j d low l. key_to (key_tie (clash_tie w (slice_index_or links i d)))
     (key_tie (clash_tie w (slice_index_or links j d))) (inr (refl, c i j d low l))) in
     let rx : All (λ (t : Tie). rank_of t.kind ≡ 0) x = All-map (λ (t : Tie). rank_of t.kind ≡ 0) bond_tie bonds (λ k d l. refl) in
@@ -85,12 +71,12 @@ ties_in_order w bonds cuts links a b c =
 -- ---- of a layer
 
 pub rects_in_order : (o : PlainOptions) (cells kept : Cells) (f : Fragments) (n : Net) → IsLayerOf o cells kept f n → AreRectsInOrder f.rects
-rects_in_order o cells kept f n h = pairs_of_map corners_of IsBefore f.rects h.fragments.are_fragments.parts.ordered
+rects_in_order o cells kept f n h = all_pairs_of_map corners_of IsBefore f.rects h.fragments.are_fragments.parts.ordered
 
 pub edges_in_order : (o : PlainOptions) (cells kept : Cells) (f : Fragments) (n : Net) → IsLayerOf o cells kept f n → AreEdgesInOrder n.graph.edges
 unfolding IsTieBefore key_tie
 edges_in_order o cells kept f n h =
-    pairs_of_map tie_of IsTieBefore n.graph.edges (subst (AllPairs IsTieBefore) (sym h.net.edges)
+    all_pairs_of_map tie_of IsTieBefore n.graph.edges (subst (AllPairs IsTieBefore) (sym h.net.edges)
     (ties_in_order o.weights h.net.bonds f.cuts h.net.links h.net.are_bonds.ordered h.fragments.are_fragments.cuts.ordered h.net.are_clashes.ordered))
 
 pub nodes_are : (o : PlainOptions) (cells kept : Cells) (f : Fragments) (n : Net) → IsLayerOf o cells kept f n → n.graph.nodes ≡ length f.rects

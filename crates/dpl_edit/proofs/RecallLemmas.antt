@@ -8,8 +8,8 @@ use Rattle.dpl_edit.proofs.OrderLemmas.{rects_in_order}
 
 old_known : (o : PlainOptions) (s : Optimum) (parts : List SolvedPart) → IsSomeOptimum o s → AreSolved parts → AreKnown s.fragments.rects parts
 old_known o s parts h k = record {
-  order = rects_in_order _ _ _ _ _ h.is.layer.layer;
-  few = let few : length s.fragments.rects ≤ 100000 = h.is.layer.few_fragments in omega (arith, few);
+  order = rects_in_order _ _ _ _ _ h.is.layer.is.layer;
+  few = let few : length s.fragments.rects ≤ 100000 = h.is.layer.is.few_fragments in omega (arith, few);
   solved = k;
 }
 

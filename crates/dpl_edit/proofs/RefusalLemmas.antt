@@ -1,74 +1,88 @@
 -- A content has at most one refusal, and none where it has an optimum.
-use Rattle.std.proofs.Common.{arith, ◌≡◌, ◌⊎◌, inl, inr, ◌≤◌, ℕ, List, Result, Ok, Err, IfOk, IfErr, refl, sym, ap, subst}
+use Rattle.std.proofs.Common.{arith, ◌≡◌, ◌⊎◌, inl, inr, ◌<◌, ◌≤◌, ◌∷◌, [], ◌++◌, ℕ, List, Result, Ok, Err, IfOk, IfErr, refl, sym, ap, subst, ◌∙◌}
+use Rattle.dpl_limits.specs.Limits.{number_of}
+use Rattle.dpl_limits.specs.declared.counted.Counted.TheVariants as Counted
 use Rattle.dpl_calls.specs.Totals.{shown}
 use Rattle.dpl_cell.specs.declared.layout.Primitive.{Primitive}
 use Rattle.dpl_options.specs.Options.{PlainOptions}
 use Rattle.dpl_layer.specs.declared.error.LayerError.{LayerError}
 use Rattle.dpl_layer.specs.declared.error.LayerError.TheVariants as layer
 use Rattle.dpl_layer.specs.Drawings.{Cells}
-use Rattle.dpl_layer.proofs.LayerLemmas.{same_layer}
-use Rattle.dpl_layer.proofs.RefusalLemmas.{cells_free, one_cells_refusal}
-use Rattle.dpl_core.specs.Refusals.{IsOddNet, HasOddNet}
-use Rattle.dpl_core.proofs.RefusalLemmas.{one_odd, not_odd}
+use Rattle.dpl_layer.specs.Reasons.{FirstOf, NoneOf, IsOver}
+use Rattle.dpl_layer.specs.Refusals.{cells_reasons}
+use Rattle.dpl_layer.proofs.ReasonLemmas.{IsOnce, AllHave, first, later, none_cons, in_front, first_once, first_has}
+use Rattle.dpl_layer.proofs.RefusalLemmas.{HasKind, kind_of, over_once}
+use Rattle.dpl_core.specs.Refusals.{HasOddNet, report_reasons}
+use Rattle.dpl_core.proofs.RefusalLemmas.{not_odd, report_free, report_kinds, report_once}
 use Rattle.dpl_edit.specs.declared.errors.EditError.{EditError}
 use Rattle.dpl_edit.specs.declared.errors.EditError.TheVariants.{Limit, NoMemory}
 use Rattle.dpl_edit.specs.Errors.{of_layer}
-use Rattle.dpl_edit.specs.Contents.{RefusesDrawn, Refuses, prim_count, cells_in}
-use Rattle.dpl_edit.specs.Optima.{Optimum, IsSolved, IsSolvedContent}
-
--- ---- of cells
-
-odd_alike : (o : PlainOptions) (cells kept : Cells) (e f : LayerError) → HasOddNet o e cells kept → HasOddNet o f cells kept → e ≡ f
-odd_alike o cells kept e f a b =
-    let s = same_layer o cells kept a.fragments b.fragments a.net b.net a.layer.layer b.layer.layer in
-    one_odd a.net e f a.odd (subst (λ z. IsOddNet z f) (sym s.1) b.odd)
-
-one_drawn : (o : PlainOptions) (cells kept : Cells) (e f : LayerError) → RefusesDrawn o cells kept e → RefusesDrawn o cells kept f → e ≡ f
-one_drawn o cells kept e f (inl a) (inl b) = one_cells_refusal o cells kept e f a b
-one_drawn o cells kept e f (inl a) (inr b) = absurd (cells_free o cells kept b.fragments b.net b.layer e a)
-one_drawn o cells kept e f (inr a) (inl b) = absurd (cells_free o cells kept a.fragments a.net a.layer f b)
-one_drawn o cells kept e f (inr a) (inr b) = odd_alike o cells kept e f a b
-
--- cells with an optimum are not refused
-drawn_free : (o : PlainOptions) (cells kept : Cells) (s : Optimum) → IsSolved o cells kept s → (e : LayerError) → ¬ RefusesDrawn o cells kept e
-drawn_free o cells kept s h e (inl a) = cells_free o cells kept s.fragments s.net h.layer e a
-drawn_free o cells kept s h e (inr a) =
-    let k = same_layer o cells kept a.fragments s.fragments a.net s.net a.layer.layer h.layer.layer in
-    not_odd s.net h.small e (subst (λ z. IsOddNet z e) k.1 a.odd)
+use Rattle.dpl_edit.specs.Contents.{Refuses, content_reasons, prim_count, cells_in}
+use Rattle.dpl_edit.specs.Optima.{Optimum, IsSolvedContent}
 
 -- ---- of a content
 
-limits_once : (o : PlainOptions) (prims keep : List Primitive) (k c l d : ℕ) → Refuses o prims keep (Limit k c) →
-    Refuses o prims keep (Limit l d) → Limit k c ≡ Limit l d
-limits_once o prims keep k c l d (inl (m, p, q)) (inl (n, r, s)) = rw (p, q, r, s) refl
-limits_once o prims keep k c l d (inl (m, p, q)) (inr (few, h)) = absurd (omega (arith, m, few))
-limits_once o prims keep k c l d (inr (few, h)) (inl (m, p, q)) = absurd (omega (arith, m, few))
-limits_once o prims keep k c l d (inr (few, h)) (inr (also, g)) =
-    ap of_layer (one_drawn o (cells_in prims) (cells_in keep) (layer.Limit k c) (layer.Limit l d) h g)
+pub content_once : (o : PlainOptions) (prims keep : List Primitive) → IsOnce (FirstOf (content_reasons o prims keep))
+content_once o prims keep = first_once (content_reasons o prims keep)
+    (over_once Counted.Primitives (prim_count prims), report_once o (cells_in prims) (cells_in keep))
 
 pub one_refusal : (o : PlainOptions) (prims keep : List Primitive) (e f : EditError) → Refuses o prims keep e → Refuses o prims keep f → e ≡ f
-one_refusal o prims keep (Limit k c) (Limit l d) a b = limits_once o prims keep k c l d a b
+one_refusal o prims keep (Limit k c) (Limit l d) a b = ap of_layer (content_once o prims keep (layer.Limit k c) (layer.Limit l d) a b)
 one_refusal o prims keep NoMemory f a b = absurd a
 one_refusal o prims keep (Limit k c) NoMemory a b = absurd b
 
+few_free : (prims : List Primitive) → prim_count prims ≤ 50000 → (e : LayerError) → ¬ IsOver Counted.Primitives (prim_count prims) e
+few_free prims few e p = let more = p.0 in omega (arith, few, more)
+
+content_none : (o : PlainOptions) (prims keep : List Primitive) (s : Optimum) → IsSolvedContent o prims keep s → NoneOf (content_reasons o prims keep)
+content_none o prims keep s h =
+    none_cons (IsOver Counted.Primitives (prim_count prims)) (report_reasons o (cells_in prims) (cells_in keep)) (few_free prims h.few)
+    (report_free o (cells_in prims) (cells_in keep) s.fragments s.net h.solved.layer.is (not_odd s.net h.solved.small))
+
 -- a content with an optimum is not refused
 pub content_free : (o : PlainOptions) (prims keep : List Primitive) (s : Optimum) → IsSolvedContent o prims keep s → (e : EditError) → ¬ Refuses o prims keep e
-content_free o prims keep s h (Limit k c) (inl (m, p, q)) = let few = h.few in omega (arith, m, few)
-content_free o prims keep s h (Limit k c) (inr (few, r)) = drawn_free o (cells_in prims) (cells_in keep) s h.solved (layer.Limit k c) r
+content_free o prims keep s h (Limit k c) r = content_none o prims keep s h (layer.Limit k c) r
 content_free o prims keep s h NoMemory r = r
+
+-- what refuses a content is a limit with a number from 2 to 8
+pub content_kind : (o : PlainOptions) (prims keep : List Primitive) (e : LayerError) → FirstOf (content_reasons o prims keep) e → HasKind ⊥ 8 e
+content_kind o prims keep e r = first_has (HasKind ⊥ 8) (content_reasons o prims keep) e (
+  (λ x p. kind_of ⊥ 8 x 2 (shown (prim_count prims)) p.1 (omega arith) (omega arith)),
+  report_kinds ⊥ 8 (omega arith) o (cells_in prims) (cells_in keep),
+) r
+
+-- ---- what the steps answer
+
+-- what refuses the layer of cells refuses their report
+pub cells_refuse : (o : PlainOptions) (cells kept : Cells) (e : LayerError) → (e ≡ layer.NoMemory) ⊎ FirstOf (cells_reasons o cells kept) e →
+    (e ≡ layer.NoMemory) ⊎ FirstOf (report_reasons o cells kept) e
+cells_refuse o cells kept e (inl m) = inl m
+cells_refuse o cells kept e (inr r) = inr (in_front (cells_reasons o cells kept) (HasOddNet o cells kept ∷ []) e r)
+
+-- too many primitives refuse a content
+pub many_refuse : (o : PlainOptions) (prims keep : List Primitive) (kind count : ℕ) → 50000 < prim_count prims →
+    kind ≡ number_of Counted.Primitives → count ≡ shown (prim_count prims) → Refuses o prims keep (Limit kind count)
+many_refuse o prims keep kind count many k c =
+    first (IsOver Counted.Primitives (prim_count prims)) (report_reasons o (cells_in prims) (cells_in keep)) (layer.Limit kind count)
+    (many, ap (λ z. layer.Limit z count) k ∙ ap (layer.Limit 2) c)
 
 -- what refuses the cells refuses a content with few primitives
 pub drawn_refuses : (o : PlainOptions) (prims keep : List Primitive) (e : LayerError) → prim_count prims ≤ 50000 →
-    (e ≡ layer.NoMemory) ⊎ RefusesDrawn o (cells_in prims) (cells_in keep) e
+    (e ≡ layer.NoMemory) ⊎ FirstOf (report_reasons o (cells_in prims) (cells_in keep)) e
     → (of_layer e ≡ NoMemory) ⊎ Refuses o prims keep (of_layer e)
 drawn_refuses o prims keep e few (inl m) = inl (ap of_layer m)
 drawn_refuses o prims keep (layer.Layout c w) few (inr h) = inl refl
-drawn_refuses o prims keep (layer.Limit k c) few (inr h) = inr (inr (few, h))
+drawn_refuses o prims keep (layer.Limit k c) few (inr h) =
+    inr (later (IsOver Counted.Primitives (prim_count prims)) (report_reasons o (cells_in prims) (cells_in keep)) (layer.Limit k c) (few_free prims few) h)
 drawn_refuses o prims keep layer.NoMemory few (inr h) = inl refl
 
 -- counts up to the limit are shown as they are
 pub few_shown : (n : ℕ) → shown n ≤ 50000 → n ≤ 50000
 few_shown n h = omega (arith, h)
+
+-- counts beyond the limit are beyond it as they are shown
+pub many_shown : (n : ℕ) → 50000 < shown n → 50000 < n
+many_shown n h = omega (arith, h)
 
 -- ---- when each answer comes
 

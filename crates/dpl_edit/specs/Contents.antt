@@ -1,9 +1,7 @@
 -- The content of a session, and which limits it passes. That boxes come and go one after another is this project's own.
-use Rattle.std.specs.Prelude.{◌≡◌, ◌⊎◌, ◌<◌, ◌≤◌, ◌==◌, ℕ, Bool, not, List, ◌++◌, length, map, filter, sum_by, true}
+use Rattle.std.specs.Prelude.{◌≡◌, ◌==◌, ℕ, Bool, not, List, ◌∷◌, ◌++◌, length, map, filter, sum_by, true}
 use Rattle.std.specs.List.{list_any}
-use Rattle.dpl_limits.specs.Limits.{number_of, most_of}
 use Rattle.dpl_limits.specs.declared.counted.Counted.TheVariants as Counted
-use Rattle.dpl_calls.specs.Totals.{shown}
 use Rattle.dpl_cell.specs.declared.layout.Primitive.{Primitive}
 use Rattle.dpl_cell.specs.declared.layout.Primitive.TheVariants.{Box, Poly}
 use Rattle.dpl_cell.specs.Outlines.{outline_of}
@@ -12,8 +10,8 @@ use Rattle.dpl_options.specs.Options.{PlainOptions}
 use Rattle.dpl_layer.specs.Drawings.{Cells}
 use Rattle.dpl_layer.specs.declared.error.LayerError.{LayerError}
 use Rattle.dpl_layer.specs.declared.error.LayerError.TheVariants as layer
-use Rattle.dpl_layer.specs.Refusals.{RefusesCells}
-use Rattle.dpl_core.specs.Refusals.{HasOddNet}
+use Rattle.dpl_layer.specs.Reasons.{FirstOf, IsOver}
+use Rattle.dpl_core.specs.Refusals.{report_reasons}
 use Rattle.dpl_edit.specs.declared.placed.Placed.{Placed}
 use Rattle.dpl_edit.specs.declared.errors.EditError.{EditError}
 use Rattle.dpl_edit.specs.declared.errors.EditError.TheVariants.{Limit, NoMemory}
@@ -44,21 +42,14 @@ has_number number boxes = list_any (λ b. b.number == number) boxes
 abbrev pub HasBox : ℕ → List Placed → Type 0
 HasBox number boxes = has_number number boxes ≡ true
 
--- of the limits on these cells, beside those that are kept whole, this one is the first that is passed: on tiles,
--- fragments and edges, then on the odd faces of one part of the net
-abbrev pub RefusesDrawn : PlainOptions → Cells → Cells → LayerError → Type 0
-RefusesDrawn o cells kept e = RefusesCells o cells kept e ⊎ HasOddNet o e cells kept
-
--- Of all limits on a content this one is the first that is passed, with this count. The first is that on primitives; the
--- others are on the cells of the content and of the keep layer.
-abbrev pub PassesLimit : PlainOptions → List Primitive → List Primitive → ℕ → ℕ → Type 0
-PassesLimit o prims keep kind count =
-    ((most_of Counted.Primitives < prim_count prims)
-    × (kind ≡ number_of Counted.Primitives) × (count ≡ shown (prim_count prims)))
-    ⊎ ((prim_count prims ≤ most_of Counted.Primitives)
-    × RefusesDrawn o (cells_in prims) (cells_in keep) (layer.Limit kind count))
+-- why a content has no report: it has too many primitives, or its cells have none
+abbrev pub content_reasons : PlainOptions → List Primitive → List Primitive →
+    List (LayerError → Type 0)
+content_reasons o prims keep = IsOver Counted.Primitives (prim_count prims)
+    ∷ report_reasons o (cells_in prims) (cells_in keep)
 
 -- the content is refused with this answer
 abbrev pub Refuses : PlainOptions → List Primitive → List Primitive → EditError → Type 0
-Refuses o prims keep (Limit kind count) = PassesLimit o prims keep kind count
+Refuses o prims keep (Limit kind count) =
+    FirstOf (content_reasons o prims keep) (layer.Limit kind count)
 Refuses o prims keep NoMemory = ⊥

@@ -11,7 +11,7 @@ use Rattle.dpl_cuts.specs.declared.types.Fragments.{Fragments}
 use Rattle.dpl_options.specs.Options.{PlainOptions}
 use Rattle.dpl_solve.specs.Solved.{IsSolution, IsRefused}
 use Rattle.dpl_layer.specs.Drawings.{Cells}
-use Rattle.dpl_layer.specs.Layers.{IsLayer}
+use Rattle.dpl_layer.specs.Layers.{IsCutLayer}
 use Rattle.dpl_stay.specs.Order.{AreRectsInOrder}
 use Rattle.dpl_stay.specs.Same.{corners_at, AreSame}
 use Rattle.dpl_sum.specs.declared.combining.SolvedPart.{SolvedPart}
@@ -45,7 +45,7 @@ solved_of s = record {
 
 -- the layer of these cells beside those that are kept whole, within the limits, and an optimum of its net
 pub record IsSolved (o : PlainOptions) (cells kept : Cells) (s : Optimum) : Type 0 where
-  pub layer : IsLayer o cells kept s.fragments s.net
+  pub layer : IsCutLayer o cells kept s.fragments s.net
   pub optimum : IsSolution s.net s.colours s.cost s.aside s.excess s.cycles s.bound
   pub small : (n : ℕ) → ¬ IsRefused s.net n
 

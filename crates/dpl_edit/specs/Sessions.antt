@@ -6,9 +6,10 @@ use Rattle.dpl_report.specs.Plain.{PlainReport}
 use Rattle.dpl_layer.specs.declared.drawing.Drawing.{Drawing}
 use Rattle.dpl_core.specs.Reports.{IsReportOfCells}
 use Rattle.dpl_edit.specs.declared.placed.Placed.{Placed}
+use Rattle.dpl_edit.specs.declared.errors.EditError.TheVariants as edit
 use Rattle.dpl_edit.specs.declared.errors.RemoveError.{RemoveError}
 use Rattle.dpl_edit.specs.declared.errors.RemoveError.TheVariants.{NoBox, Limit, NoMemory}
-use Rattle.dpl_edit.specs.Contents.{content, cells_in, boxes_without, HasBox, PassesLimit}
+use Rattle.dpl_edit.specs.Contents.{content, cells_in, boxes_without, HasBox, Refuses}
 use Rattle.dpl_edit.specs.Optima.{Optimum, IsSolvedContent}
 
 -- a session: the options, the primitives that it began with, those of the keep layer, the boxes that were added and not
@@ -48,7 +49,8 @@ pub record IsEdited (before after : State) (boxes : List Placed) (count : ℕ) :
 abbrev pub RefusesRemoval : State → ℕ → RemoveError → Type 0
 RefusesRemoval s number (NoBox n) = (n ≡ number) × ¬ HasBox number s.boxes
 RefusesRemoval s number (Limit kind count) = HasBox number s.boxes
-    × PassesLimit s.options (content s.begun (boxes_without number s.boxes)) s.keep kind count
+    × Refuses s.options (content s.begun (boxes_without number s.boxes)) s.keep
+    (edit.Limit kind count)
 RefusesRemoval s number NoMemory = ⊥
 
 -- a report of the content, good and tight, that shows the session's masks

@@ -11,7 +11,7 @@ use dpl_layer::Drawing;
 use dpl_options::Options;
 use dpl_sign::cost;
 use dpl_solve::Solution;
-use dpl_stay::keep_colours;
+use dpl_stay::{Coloured, keep_colours};
 use std::alloc::{AllocError as NoMemory, Global};
 
 /// The new optimum with the old masks on each component that is the same as one before.
@@ -35,15 +35,17 @@ fn keep_masks(
         solution,
         parts,
     } = new;
-    let colours = keep_colours(
-        alloc,
-        old.layer.fragments.rects.as_slice(),
-        &old.layer.net,
-        old.solution.colours.as_slice(),
-        layer.fragments.rects.as_slice(),
-        &layer.net,
-        solution.colours.as_slice(),
-    )?;
+    let before = Coloured {
+        rects: old.layer.fragments.rects.as_slice(),
+        net: &old.layer.net,
+        colours: old.solution.colours.as_slice(),
+    };
+    let after = Coloured {
+        rects: layer.fragments.rects.as_slice(),
+        net: &layer.net,
+        colours: solution.colours.as_slice(),
+    };
+    let colours = keep_colours(alloc, &before, &after)?;
     let cost = cost(&layer.net.graph, colours.as_slice());
     let solution = Solution {
         colours,

@@ -3,7 +3,9 @@ ghost use Rattle.std.specs.Prelude.{◌≡◌, ◌⊎◌, ◌≤◌, ℕ, length
 ghost use Rattle.dpl_limits.specs.declared.TheConstants.{MOST_EDGES};
 ghost use Rattle.dpl_cell.specs.Layers.{cells_of};
 ghost use Rattle.dpl_solve.specs.Solved.{IsSolution, IsRefused};
-ghost use Rattle.dpl_edit.specs.Contents.{content, Refuses, RefusesDrawn};
+ghost use Rattle.dpl_layer.specs.Reasons.{FirstOf};
+ghost use Rattle.dpl_core.specs.Refusals.{report_reasons};
+ghost use Rattle.dpl_edit.specs.Contents.{content, Refuses};
 ghost use Rattle.dpl_edit.specs.Optima.{IsSolved, IsSolvedContent, AreSolved, AreKnown, solved_of};
 
 use crate::contents::push_boxes;
@@ -67,7 +69,8 @@ fn solve_drawing(
         (cells_of drawing.now.keep) (solved_of s)) }
     ensures parts { IfOk result (λ s. AreSolved s.parts.items) }
     ensures refused { IfErr result (λ e. (e ≡ LayerError.NoMemory) ⊎
-        RefusesDrawn options.now (cells_of drawing.now.layer) (cells_of drawing.now.keep) e) }
+        FirstOf (report_reasons options.now (cells_of drawing.now.layer)
+        (cells_of drawing.now.keep)) e) }
 {
     let layer = match layer_of(alloc, drawing, options) {
         Ok(layer) => layer,

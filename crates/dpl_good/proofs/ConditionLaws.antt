@@ -3,7 +3,7 @@ use Rattle.std.proofs.Common.{◌≡◌, ℕ, List, length, [], sym, None}
 use Rattle.dpl_sign.specs.declared.graphs.Signed.{Signed}
 use Rattle.dpl_sign.specs.declared.walks.Cycle.{Cycle}
 use Rattle.dpl_sign.specs.Colourings.{cost_of}
-use Rattle.dpl_sign.specs.Packings.{IsWithin, passages, bound_of}
+use Rattle.dpl_sign.specs.Packings.{OverloadsNoEdge, passages, bound_of}
 use Rattle.dpl_good.specs.Misses.{number_miss}
 use Rattle.dpl_good.specs.Conditions.{loads_miss, packing_miss}
 use Rattle.dpl_good.specs.Laws.{OptionsAreTold, CountsAreTold, BondsAreTold, CutsAreTold, ClashesAreTold, CostIsTold}
@@ -47,7 +47,7 @@ aside_is_told xs ws = (lists_none (λ e. e) (λ e w. None) edges_told xs ws, λ 
 pub walks_are_told : WalksAreTold
 walks_are_told g cs = (walks_true g 0 cs, walks_none g 0 cs)
 
-fits : (g : Signed) (bound : ℕ) (cs : List Cycle) → packing_miss g bound cs ≡ None → IsWithin g (passages cs) × (bound ≡ bound_of cs)
+fits : (g : Signed) (bound : ℕ) (cs : List Cycle) → packing_miss g bound cs ≡ None → OverloadsNoEdge g (passages cs) × (bound ≡ bound_of cs)
 fits g bound cs e =
     let d = or_none (loads_miss g [] (passages cs)) (number_miss (length g.edges) (bound_of cs) bound) e in
     (loads_true g [] (passages cs) (nothing_within g) d.0, sym (number_none (length g.edges) (bound_of cs) bound d.1))

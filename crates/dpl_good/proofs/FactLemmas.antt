@@ -4,7 +4,7 @@ use Rattle.std.proofs.Common.{◌++◌, length, refl, sym, ap, subst, ◌∙◌,
 use Rattle.std.specs.Prelude.{if◌then◌else◌}
 use Rattle.std.proofs.lemmas.Bool.{cases_lt}
 use Rattle.std.proofs.lemmas.List.{get_or_default}
-use Rattle.std.proofs.lemmas.List.Elements.{All-nil, All-head, All-tail, All-weaker, All-push}
+use Rattle.std.proofs.lemmas.List.Elements.{All-nil, All-head, All-tail, All-weaker, All-push, Contains-push}
 use Rattle.dpl_cell.specs.Places.{Corners, corners_of}
 use Rattle.dpl_sign.specs.declared.edges.Kind.{Kind}
 use Rattle.dpl_sign.specs.declared.edges.Kind.TheVariants.{Stitch, Clash}
@@ -137,16 +137,12 @@ contains_more [] n e (k, l, f) = absurd (omega (arith, l))
 contains_more (x ∷ xs) n e (zero, l, f) = (0, omega arith, f)
 contains_more (x ∷ xs) n e (suc k, l, f) = let h = contains_more xs n e (k, omega (arith, l), f) in (suc h.0, omega (arith, h.1), h.2)
 
-contains_last : (xs : List ℕ) (n : ℕ) → Contains (xs ++ n ∷ []) n
-contains_last [] n = (0, omega arith, refl)
-contains_last (x ∷ xs) n = let h = contains_last xs n in (suc h.0, omega (arith, h.1), h.2)
-
 contains_if : (t : Bool) (xs : List ℕ) (n e : ℕ) → Contains xs e → Contains (if t then xs ++ n ∷ [] else xs) e
 contains_if true xs n e c = contains_more xs n e c
 contains_if false xs n e c = c
 
 last_if : (t : Bool) (xs : List ℕ) (n : ℕ) → t ≡ true → Contains (if t then xs ++ n ∷ [] else xs) n
-last_if true xs n e = contains_last xs n
+last_if true xs n e = Contains-push xs n
 last_if false xs n e = absurd (cc)
 
 abbrev IsAsideBelow : Net → ℕ → ℕ → Type 0
@@ -196,7 +192,7 @@ same_aside net xs ys a b =
 
 -- ---- all nine
 
-facts_of_truth : (o : PlainOptions) (f : Fragments) (net : Net) (text : List ℕ) (r : PlainReport) →
+pub facts_of_truth : (o : PlainOptions) (f : Fragments) (net : Net) (text : List ℕ) (r : PlainReport) →
     TakeCuts net.graph.edges f.cuts → IsReport r → text ≡ report_text r → SaysTrue o f net r →
     AreNineFacts o f net text r
 facts_of_truth o f net text r take v e t = record {
@@ -221,7 +217,7 @@ facts_of_truth o f net text r take v e t = record {
   on_b = t.on_b;
 }
 
-truth_of_facts : (o : PlainOptions) (f : Fragments) (net : Net) (text : List ℕ) (r : PlainReport) →
+pub truth_of_facts : (o : PlainOptions) (f : Fragments) (net : Net) (text : List ℕ) (r : PlainReport) →
     TakeCuts net.graph.edges f.cuts → AllPairs (λ (c d : Cut). c.a < d.a) f.cuts → AreNineFacts o f net text r →
     SaysTrue o f net r
 truth_of_facts o f net text r take order n = record {

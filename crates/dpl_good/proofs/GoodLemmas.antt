@@ -15,7 +15,7 @@ use Rattle.dpl_sign.specs.declared.walks.Cycle.{Cycle}
 use Rattle.dpl_sign.specs.Kinds.{is_bond}
 use Rattle.dpl_sign.specs.Walks.{edge_at, no_edge, IsOddWalk}
 use Rattle.dpl_sign.specs.Colourings.{agree, colour_of}
-use Rattle.dpl_sign.specs.Packings.{load, IsWithin, passages}
+use Rattle.dpl_sign.specs.Packings.{load, OverloadsNoEdge, passages}
 use Rattle.dpl_sign.specs.Excess.{aside_edges}
 use Rattle.dpl_cuts.specs.declared.types.Fragments.{Fragments}
 use Rattle.dpl_options.specs.Options.{PlainOptions, name_or_nothing}
@@ -25,7 +25,7 @@ use Rattle.dpl_report.specs.Plain.{PlainReport}
 use Rattle.dpl_good.specs.declared.refusals.Miss.{Miss}
 use Rattle.dpl_good.specs.Misses.{miss, number_miss, name_miss}
 use Rattle.dpl_good.specs.Conditions.{params_miss, AreAsked, counts_miss, bond_miss, bonds_miss, broken_miss}
-use Rattle.dpl_good.specs.Conditions.{aside_miss, walks_miss, load_of, loads_miss, packing_miss, boxes_miss}
+use Rattle.dpl_good.specs.Conditions.{aside_miss, walks_miss, loads_miss, packing_miss, boxes_miss}
 use Rattle.dpl_good.specs.Conditions.{drawing_miss, corner_numbers}
 use Rattle.dpl_good.specs.Verdicts.{refused, refusal_of, rects_of}
 use Rattle.dpl_good.specs.Truths.{SaysTrue}
@@ -98,7 +98,7 @@ walks_none g cycle [] a = refl
 walks_none g cycle (c ∷ cs) a = both_none _ _ ((walk_is_odd g cycle c.walk).1 (a 0 c (omega arith)))
     (walks_none g (cycle + 1) cs (λ k d l. a (suc k) d (omega arith)))
 
-load_more : (before ps : List (ℕ × ℕ)) (e h : ℕ) → load_of before e + h ≤ load (before ++ (e, h) ∷ ps) e
+load_more : (before ps : List (ℕ × ℕ)) (e h : ℕ) → load before e + h ≤ load (before ++ (e, h) ∷ ps) e
 load_more before ps e h =
     let own : cond (e == e) h 0 ≡ h = cond-true {A = ℕ} (e == e) h 0 ((Decides-eqb e e).1 refl) in
     let all = load_append before ((e, h) ∷ ps) e in
@@ -112,26 +112,26 @@ no_bond_inside g e f = by_place (cases_lt e (length g.edges)) where
   by_place (inl l) = l
   by_place (inr l) = let same : edge_at g e ≡ no_edge = get_or_past g.edges e no_edge l in let bad = rw same at f in absurd (cc)
 
-one_load_none : (g : Signed) (before ps : List (ℕ × ℕ)) (p : ℕ × ℕ) → IsWithin g (before ++ p ∷ ps) →
-    (if not (is_bond (edge_at g p.0).kind) && nat_lt (2 * (edge_at g p.0).weight) (load_of before p.0 + p.1) then Some
-    (miss p.0 (pos (load_of before p.0 + p.1)) (pos (2 * (edge_at g p.0).weight))) else None) ≡ None
+one_load_none : (g : Signed) (before ps : List (ℕ × ℕ)) (p : ℕ × ℕ) → OverloadsNoEdge g (before ++ p ∷ ps) →
+    (if not (is_bond (edge_at g p.0).kind) && nat_lt (2 * (edge_at g p.0).weight) (load before p.0 + p.1) then Some
+    (miss p.0 (pos (load before p.0 + p.1)) (pos (2 * (edge_at g p.0).weight))) else None) ≡ None
 one_load_none g before ps p w = by_kind (is_bond (edge_at g p.0).kind) refl where
   low : (a b : ℕ) → a ≤ b → nat_lt b a ≡ false
   low a b l = grind (arith, nat_tests)
 
   by_kind : (t : Bool) → is_bond (edge_at g p.0).kind ≡ t →
-      (if not (is_bond (edge_at g p.0).kind) && nat_lt (2 * (edge_at g p.0).weight) (load_of before p.0 + p.1) then Some
-      (miss p.0 (pos (load_of before p.0 + p.1)) (pos (2 * (edge_at g p.0).weight))) else None) ≡ None
+      (if not (is_bond (edge_at g p.0).kind) && nat_lt (2 * (edge_at g p.0).weight) (load before p.0 + p.1) then Some
+      (miss p.0 (pos (load before p.0 + p.1)) (pos (2 * (edge_at g p.0).weight))) else None) ≡ None
   by_kind true f = rw f refl
   by_kind false f =
       let most = w p.0 (no_bond_inside g p.0 f) f in
       let more = load_more before ps p.0 p.1 in
-      let small : nat_lt (2 * (edge_at g p.0).weight) (load_of before p.0 + p.1) ≡ false =
-      low (load_of before p.0 + p.1) (2 * (edge_at g p.0).weight) (omega (arith, more, most)) in
+      let small : nat_lt (2 * (edge_at g p.0).weight) (load before p.0 + p.1) ≡ false =
+      low (load before p.0 + p.1) (2 * (edge_at g p.0).weight) (omega (arith, more, most)) in
       rw (f, small) refl
 
 -- where no edge is overloaded, no passage fails
-pub loads_none : (g : Signed) (before ps : List (ℕ × ℕ)) → IsWithin g (before ++ ps) → loads_miss g before ps ≡ None
+pub loads_none : (g : Signed) (before ps : List (ℕ × ℕ)) → OverloadsNoEdge g (before ++ ps) → loads_miss g before ps ≡ None
 loads_none g before [] w = refl
 loads_none g before (p ∷ ps) w = both_none _ _ (one_load_none g before ps p w) (loads_none g (before ++ p ∷ []) ps (rw (append_assoc before (p ∷ []) ps) w))
 

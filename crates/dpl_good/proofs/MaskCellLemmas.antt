@@ -1,10 +1,10 @@
 -- The masks of a good report are the layer, overlap in the zones of its cut lines, and tell what is too close.
-use Rattle.std.proofs.Common.{arith, rules, ◌≡◌, ◌≤◌, ◌<◌, ◌*◌, ◌%◌, ◌⊎◌, inl, inr, ℕ, zero, suc, ℤ, Bool, true, false}
+use Rattle.std.proofs.Common.{arith, ◌≡◌, ◌≤◌, ◌<◌, ◌*◌, ◌%◌, ◌⊎◌, inl, inr, ℕ, zero, suc, ℤ, Bool, true, false}
 use Rattle.std.proofs.Common.{List, [], ◌∷◌, ◌++◌, length, map, refl, sym, ap, subst, ◌∙◌, All, Any, AllPairs, Contains}
 use Rattle.std.proofs.Common.{append_assoc, IsTrue, None}
 use Rattle.std.specs.Prelude.{◌&&◌, ◌||◌, if◌then◌else◌}
 use Rattle.std.proofs.lemmas.Bool.{cases_lt, and_parts, or_left, or_right, or_cases, and_from}
-use Rattle.std.proofs.lemmas.List.{map-append, get_or_default}
+use Rattle.std.proofs.lemmas.List.{map-append, get_or_default, length-map}
 use Rattle.std.proofs.lemmas.List.Folds.{list_any-append}
 use Rattle.std.proofs.lemmas.List.Elements.{All-nil, All-cons, All-head, All-tail, All-weaker}
 use Rattle.dpl_cell.specs.declared.rect.Rect.{Rect}
@@ -47,19 +47,11 @@ use Rattle.dpl_good.proofs.TrueLemmas.{agree_none, AgreesAt, good_is_true}
 use Rattle.dpl_good.proofs.BrokenLemmas.{TakeCuts, net_takes, zones_are, zones_hold, fit_rises, first_tie, clashes_are_named, stitches_are_named}
 use Rattle.dpl_report.proofs.DrawnLemmas.{report_is_drawn}
 use Rattle.std.proofs.Math.Path.{fun_ext}
-use Rattle.dpl_cell.proofs.BoxLemmas.{true_is, box_in, in_box}
+use Rattle.dpl_cell.proofs.BoxLemmas.{true_is, box_in, in_box, is_true}
 use Rattle.dpl_good.proofs.GoodLemmas.{agree_same}
 use Rattle.std.specs.Cmp.{both_ways}
 
 -- ---- tests
-
-is_true : (b : Bool) → b ≡ true → IsTrue b
-is_true b e = search rules
-
--- a list has as many items when each is seen as another thing
-pub map_size : {X Y : Type 0} (f : X → Y) (xs : List X) → length (map f xs) ≡ length xs
-map_size f [] = refl
-map_size f (x ∷ xs) = ap suc (map_size f xs)
 
 -- ---- the cells of a mask
 
@@ -248,7 +240,7 @@ zone_is_on o tiles f net r on_b x y k h = ap (λ bs. is_in_boxes bs x y) (boxes_
 in_layer : (tiles : List Corners) (rects : List Rect) (i : ℕ) (x y : ℤ) → HoldLayer tiles (map corners_of rects) →
     i < length rects → IsIn (rect_at (map corners_of rects) i) x y → IsTrue (layer_of tiles x y)
 in_layer tiles rects i x y h l g =
-    let m : i < length (map corners_of rects) = let n = map_size corners_of rects in omega arith in
+    let m : i < length (map corners_of rects) = let n = length-map rects corners_of in omega arith in
     (h x y).1 (i, rect_at (map corners_of rects) i, m, get_or_default (map corners_of rects) i _ nowhere m, g)
 
 fragment_cell : (o : PlainOptions) (tiles : List Corners) (f : Fragments) (net : Net) (r : PlainReport) (on_b : Bool)
@@ -277,7 +269,7 @@ zone_cell : (o : PlainOptions) (tiles : List Corners) (f : Fragments) (net : Net
     IsKnown o tiles f net r → IsOnZone r.head.colours f.cuts x y → IsTrue (layer_of tiles x y)
 zone_cell o tiles f net r x y k h =
     let z = zone_here o tiles f net r x y k h in
-    let n = map_size corners_of f.rects in
+    let n = length-map f.rects corners_of in
     let b : z.cut.b < length f.rects = let l = z.is.within in omega arith in
     let a : z.cut.a < length f.rects = let m = z.is.rising in omega arith in
     elim (z.good.inside x y z.holds) [
@@ -299,7 +291,7 @@ cell_on_fragment : (tiles : List Corners) (rects : List Rect) (colours : List Bo
     IsOnFragment rects colours on_b x y
 cell_on_fragment tiles rects colours x y h c =
     let (i, q, l, e, g) = (h x y).0 c in
-    let m : i < length rects = let n = map_size corners_of rects in omega arith in
+    let m : i < length rects = let n = length-map rects corners_of in omega arith in
     let g' : IsIn (rect_at (map corners_of rects) i) x y = let P : Corners → Type 0 = λ z. IsIn z x y in
     subst P (sym (get_or_default (map corners_of rects) i nowhere q l ∙ e)) g in
     (colour_of colours i, record { i = i; within = m; own = refl; holds = g' })
@@ -317,7 +309,7 @@ unfolding mask_boxes
 masks_together o tiles f net r k x y = both_ways (is_in_boxes r.on_a x y || is_in_boxes r.on_b x y) (layer_of tiles x y)
     (λ e. elim (or_cases (is_in_boxes r.on_a x y) (is_in_boxes r.on_b x y) e)
     [ inl g ↦ mask_cell o tiles f net r false x y k g | inr g ↦ mask_cell o tiles f net r true x y k g ])
-    (λ e. let h = cell_on_fragment tiles f.rects r.head.colours x y k.hold (is_true (layer_of tiles x y) e) in some_mask o tiles f net r x y k h.0 h.1)
+    (λ e. let h = cell_on_fragment tiles f.rects r.head.colours x y k.hold (is_true e) in some_mask o tiles f net r x y k h.0 h.1)
 
 -- ---- overlap
 
@@ -329,7 +321,7 @@ not_on_both : (o : PlainOptions) (tiles : List Corners) (f : Fragments) (net : N
     IsKnown o tiles f net r → IsOnFragment f.rects r.head.colours false x y →
     IsOnFragment f.rects r.head.colours true x y → ⊥
 not_on_both o tiles f net r x y k g h =
-    let n = map_size corners_of f.rects in
+    let n = length-map f.rects corners_of in
     let i : g.i < length (map corners_of f.rects) = let w = g.within in omega arith in
     let j : h.i < length (map corners_of f.rects) = let w = h.within in omega arith in
     elim (cases_lt g.i h.i) [
@@ -441,7 +433,7 @@ told_on : (o : PlainOptions) (tiles : List Corners) (f : Fragments) (net : Net) 
 told_on o tiles f net r on_b x y x' y' k named c p q =
     let g = first_fragment o tiles f net r on_b x y x' y' k c p in
     let h = second_fragment o tiles f net r on_b x y x' y' k c q in
-    let n = map_size corners_of f.rects in
+    let n = length-map f.rects corners_of in
     let i : g.i < length (map corners_of f.rects) = let w = g.within in omega arith in
     let j : h.i < length (map corners_of f.rects) = let w = h.within in omega arith in
     let (m, e, l, s, is) = k.clashes.all g.i h.i x y x' y' i j g.holds h.holds c in
@@ -470,12 +462,12 @@ one_mask : (o : PlainOptions) (tiles : List Corners) (f : Fragments) (net : Net)
     IsOnFragment f.rects r.head.colours on_b x' y' → AreOnOneMask r x y x' y'
 unfolding mask_boxes
 one_mask o tiles f net r false x y x' y' k g h = inl (
-  is_true _ (fragment_is_on o tiles f net r false x y k g),
-  is_true _ (fragment_is_on o tiles f net r false x' y' k h),
+  is_true (fragment_is_on o tiles f net r false x y k g),
+  is_true (fragment_is_on o tiles f net r false x' y' k h),
 )
 one_mask o tiles f net r true x y x' y' k g h = inr (
-  is_true _ (fragment_is_on o tiles f net r true x y k g),
-  is_true _ (fragment_is_on o tiles f net r true x' y' k h),
+  is_true (fragment_is_on o tiles f net r true x y k g),
+  is_true (fragment_is_on o tiles f net r true x' y' k h),
 )
 
 line_tells : (o : PlainOptions) (tiles : List Corners) (f : Fragments) (net : Net) (r : PlainReport) (b : Broken) →

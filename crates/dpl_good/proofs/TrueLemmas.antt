@@ -19,7 +19,7 @@ use Rattle.dpl_sign.specs.declared.walks.Cycle.{Cycle}
 use Rattle.dpl_sign.specs.Kinds.{is_bond}
 use Rattle.dpl_sign.specs.Walks.{edge_at, IsOddWalk}
 use Rattle.dpl_sign.specs.Colourings.{agree, colour_of, cost_of}
-use Rattle.dpl_sign.specs.Packings.{load, IsWithin, passages, bound_of}
+use Rattle.dpl_sign.specs.Packings.{load, OverloadsNoEdge, passages, bound_of}
 use Rattle.dpl_sign.specs.Excess.{aside_edges}
 use Rattle.dpl_sign.proofs.Loads.{load_push, at_same, at_other}
 use Rattle.dpl_cuts.specs.declared.types.Fragments.{Fragments}
@@ -31,7 +31,7 @@ use Rattle.dpl_good.specs.declared.refusals.Refusal.{Refusal}
 use Rattle.dpl_report.specs.Plain.{PlainReport}
 use Rattle.dpl_good.specs.Misses.{miss, number_miss, name_miss, pair_miss, numbers_miss}
 use Rattle.dpl_good.specs.Conditions.{params_miss, AreAsked, corner_weight, counts_miss, bond_miss, bonds_miss}
-use Rattle.dpl_good.specs.Conditions.{aside_miss, walks_miss, load_of, loads_miss, boxes_miss, drawing_miss}
+use Rattle.dpl_good.specs.Conditions.{aside_miss, walks_miss, loads_miss, boxes_miss, drawing_miss}
 use Rattle.dpl_good.specs.Conditions.{corner_numbers, cuts_from, clashes_from, cut_lines_miss, clash_lines_miss}
 use Rattle.dpl_good.specs.Conditions.{cost_miss, broken_miss, packing_miss}
 use Rattle.dpl_good.specs.MaskRects.{mask_of}
@@ -197,14 +197,14 @@ fits bond e limit carried n f = by_test (nat_lt limit carried) refl where
   by_test false g = high carried limit g
 
 -- where no passage fails, no edge is overloaded
-pub loads_true : (g : Signed) (before ps : List (ℕ × ℕ)) → IsWithin g before → loads_miss g before ps ≡ None → IsWithin g (before ++ ps)
+pub loads_true : (g : Signed) (before ps : List (ℕ × ℕ)) → OverloadsNoEdge g before → loads_miss g before ps ≡ None → OverloadsNoEdge g (before ++ ps)
 unfolding here
-loads_true g before [] w n = subst (IsWithin g) (sym (append-nil before)) w
+loads_true g before [] w n = subst (OverloadsNoEdge g) (sym (append-nil before)) w
 loads_true g before (p ∷ ps) w n =
     let limit = 2 * (edge_at g p.0).weight in
-    let d = or_none (here (is_bond (edge_at g p.0).kind) p.0 limit (load_of before p.0 + p.1)) (loads_miss g (before ++ p ∷ []) ps) n in
-    let fit = fits (is_bond (edge_at g p.0).kind) p.0 limit (load_of before p.0 + p.1) d.0 in
-    let one : IsWithin g (before ++ p ∷ []) = λ x l b. elim (cases_eq p.0 x) [
+    let d = or_none (here (is_bond (edge_at g p.0).kind) p.0 limit (load before p.0 + p.1)) (loads_miss g (before ++ p ∷ []) ps) n in
+    let fit = fits (is_bond (edge_at g p.0).kind) p.0 limit (load before p.0 + p.1) d.0 in
+    let one : OverloadsNoEdge g (before ++ p ∷ []) = λ x l b. elim (cases_eq p.0 x) [
       | inl t ↦ omega (
         arith,
         load_push before p.0 p.1 x,
@@ -215,10 +215,10 @@ loads_true g before (p ∷ ps) w n =
       )
       | inr t ↦ omega (arith, load_push before p.0 p.1 x, at_other p.0 p.1 x t, w x l b)
     ] in
-    subst (IsWithin g) (append_assoc before (p ∷ []) ps) (loads_true g (before ++ p ∷ []) ps one d.1)
+    subst (OverloadsNoEdge g) (append_assoc before (p ∷ []) ps) (loads_true g (before ++ p ∷ []) ps one d.1)
 
 -- without a passage no edge is overloaded
-pub nothing_within : (g : Signed) → IsWithin g []
+pub nothing_within : (g : Signed) → OverloadsNoEdge g []
 nothing_within g e l b = omega arith
 
 -- ---- boxes

@@ -1,5 +1,5 @@
 -- The conditions of a good report, each as the first place at which it fails.
-use Rattle.std.specs.Prelude.{◌≡◌, ℕ, ◌+◌, ◌*◌, ℤ, pos, ◌==◌, ◌||◌, ◌&&◌, nat_lt, Bool, true, false, not, List, [], ◌∷◌, ◌++◌, length, sum_by, Option, None, Some, if◌then◌else◌}
+use Rattle.std.specs.Prelude.{◌≡◌, ℕ, ◌+◌, ◌*◌, ℤ, pos, ◌==◌, ◌||◌, ◌&&◌, nat_lt, Bool, true, false, not, List, [], ◌∷◌, ◌++◌, length, Option, None, Some, if◌then◌else◌}
 use Rattle.dpl_cell.specs.Places.{Corners, corners_of}
 use Rattle.dpl_rules.specs.Readers.{or_else}
 use Rattle.dpl_sign.specs.declared.edges.Kind.{Kind}
@@ -10,7 +10,7 @@ use Rattle.dpl_sign.specs.declared.walks.Cycle.{Cycle}
 use Rattle.dpl_sign.specs.Kinds.{is_bond, is_clash}
 use Rattle.dpl_sign.specs.Walks.{edge_at, across, leaves}
 use Rattle.dpl_sign.specs.Colourings.{agree, colour_of, breaks, cost_of}
-use Rattle.dpl_sign.specs.Packings.{passages, bound_of}
+use Rattle.dpl_sign.specs.Packings.{load, passages, bound_of}
 use Rattle.dpl_report.specs.declared.marks.Broken.{Broken}
 use Rattle.dpl_report.specs.declared.params.Params.{Params}
 use Rattle.dpl_report.specs.declared.params.Counts.{Counts}
@@ -225,18 +225,14 @@ walks_miss g cycle (c ∷ cs) =
 
 -- ---- 8: nothing is loaded beyond twice its weight, and the half weights sum to the bound
 
--- the half weights that an edge has from these passages
-abbrev pub load_of : List (ℕ × ℕ) → ℕ → ℕ
-load_of ps e = sum_by (λ p. if p.0 == e then p.1 else 0) ps
-
 -- the first passage after which its edge, that is no bond, is loaded too much
 abbrev pub loads_miss : Signed → List (ℕ × ℕ) → List (ℕ × ℕ) → Option Miss
 loads_miss g before [] = None
 loads_miss g before (p ∷ ps) =
-    let load = load_of before p.0 + p.1 in
+    let carried = load before p.0 + p.1 in
     let limit = 2 * (edge_at g p.0).weight in
-    or_else (if not (is_bond (edge_at g p.0).kind) && nat_lt limit load
-    then Some (miss p.0 (pos load) (pos limit)) else None) (loads_miss g (before ++ p ∷ []) ps)
+    or_else (if not (is_bond (edge_at g p.0).kind) && nat_lt limit carried
+    then Some (miss p.0 (pos carried) (pos limit)) else None) (loads_miss g (before ++ p ∷ []) ps)
 
 abbrev pub packing_miss : Signed → ℕ → List Cycle → Option Miss
 packing_miss g bound cs =

@@ -6,7 +6,7 @@ use Rattle.dpl_sign.specs.declared.nets.Net.{Net}
 use Rattle.dpl_sign.specs.Kinds.{is_bond}
 use Rattle.dpl_sign.specs.Walks.{IsOddWalk}
 use Rattle.dpl_sign.specs.Colourings.{colour_of, cost_of}
-use Rattle.dpl_sign.specs.Packings.{IsWithin, passages, bound_of}
+use Rattle.dpl_sign.specs.Packings.{OverloadsNoEdge, passages, bound_of}
 use Rattle.dpl_sign.specs.Excess.{is_aside}
 use Rattle.dpl_cuts.specs.declared.types.Fragments.{Fragments}
 use Rattle.dpl_options.specs.Options.{PlainOptions}
@@ -51,7 +51,7 @@ pub record AreNineFacts (o : PlainOptions) (f : Fragments) (net : Net) (text : L
   -- 7: each cycle line is an odd walk
   pub walks : All (λ c. IsOddWalk net.graph c.walk) r.lists.cycles
   -- 8: no stitch and no clash is loaded beyond twice its weight, and the half weights sum to the bound
-  pub loads : IsWithin net.graph (passages r.lists.cycles)
+  pub loads : OverloadsNoEdge net.graph (passages r.lists.cycles)
   pub bound : r.head.bound ≡ bound_of r.lists.cycles
   -- 9: the boxes of each mask are its fragments and then the zones of its broken stitches, in order
   pub on_a : r.on_a ≡ map corners_of (mask_of false f r.head.colours)

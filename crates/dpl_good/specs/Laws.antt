@@ -8,7 +8,7 @@ use Rattle.dpl_sign.specs.declared.walks.Cycle.{Cycle}
 use Rattle.dpl_sign.specs.Kinds.{is_bond}
 use Rattle.dpl_sign.specs.Walks.{IsOddWalk}
 use Rattle.dpl_sign.specs.Colourings.{colour_of, cost_of}
-use Rattle.dpl_sign.specs.Packings.{IsWithin, passages, bound_of}
+use Rattle.dpl_sign.specs.Packings.{OverloadsNoEdge, passages, bound_of}
 use Rattle.dpl_report.specs.declared.marks.Broken.{Broken}
 use Rattle.dpl_options.specs.Options.{PlainOptions}
 use Rattle.dpl_report.specs.declared.params.Params.{Params}
@@ -54,7 +54,7 @@ WalksAreTold = (g : Signed) (cycles : List Cycle) →
 abbrev pub PackingIsTold : Type 0
 PackingIsTold = (g : Signed) (bound : ℕ) (cycles : List Cycle) →
     (packing_miss g bound cycles ≡ None) ↔
-    (IsWithin g (passages cycles) × (bound ≡ bound_of cycles))
+    (OverloadsNoEdge g (passages cycles) × (bound ≡ bound_of cycles))
 
 abbrev pub MasksAreTold : Type 0
 MasksAreTold = (on_a on_b wanted_a wanted_b : List Corners) →

@@ -34,6 +34,46 @@ counts_of_net net = record {
   excess = excess net all_edges;
 }
 
+-- conditions 2 to 9 of a report, of which the first that fails is told
+abbrev pub refusal_of : PlainOptions → Fragments → Net → PlainReport → Option Refusal
+refusal_of o f net r =
+    or_else (refused 2 (params_miss r.head.params o))
+    (or_else (refused 3 (counts_miss r.head.counts (counts_of_net net)))
+    (or_else (refused 4 (bonds_miss r.head.colours 0 net.graph.edges))
+    (or_else (refused 5 (broken_miss f net r))
+    (or_else (refused 6 (aside_miss r.lists.aside (aside_edges net)))
+    (or_else (refused 7 (walks_miss net.graph 0 r.lists.cycles))
+    (or_else (refused 8 (packing_miss net.graph r.head.bound r.lists.cycles))
+    (refused 9 (drawing_miss r.on_a r.on_b (map corners_of (mask_of false f r.head.colours))
+    (map corners_of (mask_of true f r.head.colours))))))))))
+
+-- condition 1 fails: the text is no report's, and this is the number of its first line that cannot stand
+pub record IsNoReport (text : List ℕ) (x : Refusal) : Type 0 where
+  pub none : (r : PlainReport) → IsReport r → text ≢ report_text r
+  pub place : ℕ
+  pub first : IsFirstWrong report_lines IsReport (lines_in text) place
+  pub told : x ≡ record { reason = 1; at = miss place (pos 0) (pos 0) }
+
+-- the text is that of a report, of which a later condition fails first
+pub record FailsLater (o : PlainOptions) (f : Fragments) (net : Net) (text : List ℕ) (x : Refusal) : Type 0 where
+  pub report : PlainReport
+  pub valid : IsReport report
+  pub written : text ≡ report_text report
+  pub fails : refusal_of o f net report ≡ Some x
+
+-- the first condition that fails, with its place and its two values
+abbrev pub IsRefusal : PlainOptions → Fragments → Net → List ℕ → Refusal → Type 0
+IsRefusal o f net text x = IsNoReport text x ⊎ FailsLater o f net text x
+
+-- the text is that of a report of which none of the nine conditions fails
+pub record IsGood (o : PlainOptions) (f : Fragments) (net : Net) (text : List ℕ) : Type 0 where
+  pub report : PlainReport
+  pub valid : IsReport report
+  pub written : text ≡ report_text report
+  pub good : refusal_of o f net report ≡ None
+
+-- ---- words of the steps
+
 abbrev pub rects_of : Fragments → PlainReport → Option Miss
 rects_of f r = drawing_miss r.on_a r.on_b (map corners_of (mask_of false f r.head.colours))
     (map corners_of (mask_of true f r.head.colours))
@@ -64,32 +104,3 @@ bonds_refusal f net r = or_else (refused 4 (bonds_miss r.head.colours 0 net.grap
 abbrev pub counts_refusal : Fragments → Net → PlainReport → Option Refusal
 counts_refusal f net r =
     or_else (refused 3 (counts_miss r.head.counts (counts_of_net net))) (bonds_refusal f net r)
-
--- conditions 2 to 9 of a report, in order
-abbrev pub refusal_of : PlainOptions → Fragments → Net → PlainReport → Option Refusal
-refusal_of o f net r = or_else (refused 2 (params_miss r.head.params o)) (counts_refusal f net r)
-
--- condition 1 fails: the text is no report's, and this is the number of its first line that cannot stand
-pub record IsNoReport (text : List ℕ) (x : Refusal) : Type 0 where
-  pub none : (r : PlainReport) → IsReport r → text ≢ report_text r
-  pub place : ℕ
-  pub first : IsFirstWrong report_lines IsReport (lines_in text) place
-  pub told : x ≡ record { reason = 1; at = miss place (pos 0) (pos 0) }
-
--- the text is that of a report, of which a later condition fails first
-pub record FailsLater (o : PlainOptions) (f : Fragments) (net : Net) (text : List ℕ) (x : Refusal) : Type 0 where
-  pub report : PlainReport
-  pub valid : IsReport report
-  pub written : text ≡ report_text report
-  pub fails : refusal_of o f net report ≡ Some x
-
--- the first condition that fails, with its place and its two values
-abbrev pub IsRefusal : PlainOptions → Fragments → Net → List ℕ → Refusal → Type 0
-IsRefusal o f net text x = IsNoReport text x ⊎ FailsLater o f net text x
-
--- the text is that of a report of which none of the nine conditions fails
-pub record IsGood (o : PlainOptions) (f : Fragments) (net : Net) (text : List ℕ) : Type 0 where
-  pub report : PlainReport
-  pub valid : IsReport report
-  pub written : text ≡ report_text report
-  pub good : refusal_of o f net report ≡ None

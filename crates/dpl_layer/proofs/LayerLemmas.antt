@@ -1,10 +1,10 @@
 -- Cells, and cells that are kept whole, have one list of fragments and one net.
-use Rattle.std.proofs.Common.{arith, ◌≡◌, ◌<◌, ◌≤◌, ◌*◌, ◌+◌, ℕ, zero, suc, Bool, true, false, List, length, sym, ◌∙◌, subst, All, get_or}
+use Rattle.std.proofs.Common.{arith, ◌≡◌, ◌<◌, ◌≤◌, ◌*◌, ℕ, Bool, true, false, List, length, sym, ◌∙◌, subst, All, get_or}
 use Rattle.std.specs.Prelude.{ℤ, if◌then◌else◌}
 use Rattle.std.specs.List.{range_with_len}
 use Rattle.std.proofs.lemmas.Int.{ints}
 use Rattle.std.proofs.lemmas.List.{length-map, get_or_default}
-use Rattle.std.proofs.lemmas.List.FromFn.{length-range_with_len}
+use Rattle.std.proofs.lemmas.List.FromFn.{length-range_with_len, get_or-range_with_len}
 use Rattle.dpl_cell.specs.Places.{Corners, corners_of}
 use Rattle.dpl_cell.specs.Cells.{IsWithin}
 use Rattle.dpl_cell.specs.Tiles.{IsTile, AreTiles}
@@ -45,11 +45,6 @@ within_first r (w, h) = elim (lies_along_x r) as (λ b. IsWithin (if b then r.x1
 
 -- ---- the numbers below n
 
-range_at : (a n k d : ℕ) → k < n → get_or (range_with_len a n) k d ≡ a + k
-range_at a zero k d l = absurd (omega arith)
-range_at a (suc n) zero d l = omega arith
-range_at a (suc n) (suc k) d l = let e = range_at (a + 1) n k d (omega arith) in omega arith
-
 -- each tile has a fragment, so there are no more tiles than fragments
 pub few_tiles : (keep : List Corners) (space over : ℕ) (cells : ℤ → ℤ → Bool) (tiles : List Corners) (label : List ℕ)
     (f : Fragments) → AreTiles cells tiles → AreFragments keep space over tiles label f → length tiles ≤ length f.rects
@@ -58,10 +53,10 @@ few_tiles keep space over cells tiles label f t a =
     let numbers = range_with_len 0 n in
     let long : length numbers ≡ n = length-range_with_len 0 n in
     let h : length numbers ≤ length f.tile = no_more numbers f.tile
-    (λ i j d k l e. let p = range_at 0 n i d (omega arith) in let q = range_at 0 n j d (omega arith) in absurd (omega arith))
+    (λ i j d k l e. let p = get_or-range_with_len 0 n i d (omega arith) in let q = get_or-range_with_len 0 n j d (omega arith) in absurd (omega arith))
     (λ i d l.
     let m : i < n = omega arith in
-    let e : get_or numbers i d ≡ i = let r = range_at 0 n i d m in omega arith in
+    let e : get_or numbers i d ≡ i = let r = get_or-range_with_len 0 n i d m in omega arith in
     let full = have_cells cells tiles t i nowhere m in
     let (k, held) = a.parts.cover i (first_of (rect_at tiles i)) m (within_first (rect_at tiles i) full) in
     let w = held.within in let o = held.own in let z = a.parts.tile_long in

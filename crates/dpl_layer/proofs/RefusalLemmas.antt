@@ -1,199 +1,249 @@
 -- A text has at most one refusal, and none where it has a layer within the limits.
-use Rattle.std.proofs.Common.{arith, ◌≡◌, ◌⊎◌, inl, inr, ◌≤◌, ◌*◌, ℕ, List, Result, Err, IfOk, IfErr, map, length, refl, sym, ap, ◌∙◌, subst}
-use Rattle.std.specs.Prelude.{Ok}
+use Rattle.std.proofs.Common.{arith, ◌≡◌, ◌⊎◌, inl, inr, ◌≤◌, ◌*◌, ℕ, List, [], ◌∷◌, ◌++◌, Result, Err, IfOk, IfErr, map, length, refl, sym, ap, ◌∙◌, subst}
+use Rattle.std.specs.Prelude.{Ok, Option, Some, option_to_list}
 use Rattle.std.proofs.lemmas.List.{length-map}
+use Rattle.dpl_limits.specs.Limits.{number_of, most_of}
+use Rattle.dpl_limits.specs.declared.counted.Counted.{Counted}
+use Rattle.dpl_limits.specs.declared.counted.Counted.TheVariants as Counted
 use Rattle.dpl_cell.specs.declared.rect.Rect.{Rect}
-use Rattle.dpl_cell.specs.Places.{corners_of}
-use Rattle.dpl_cell.specs.Outlines.{Outline}
-use Rattle.dpl_cell.specs.Layers.{cells_of}
+use Rattle.dpl_cell.specs.Places.{Corners, corners_of}
+use Rattle.dpl_cell.specs.Outlines.{outline_of}
+use Rattle.dpl_cell.specs.Layers.{is_cell, cells_of}
 use Rattle.dpl_cell.specs.Tiles.{AreTiles}
 use Rattle.dpl_tiles.proofs.TileLemmas.{not_more}
 use Rattle.dpl_tiles.specs.Counts.{HasMoreTiles}
 use Rattle.dpl_tiles.specs.declared.error.TileError.{TileError}
 use Rattle.dpl_tiles.specs.declared.error.TileError.TheVariants as tile
+use Rattle.dpl_cuts.specs.declared.error.CutError.{CutError}
+use Rattle.dpl_cuts.specs.declared.error.CutError.TheVariants as cut
 use Rattle.dpl_links.specs.declared.error.NetError.{NetError}
 use Rattle.dpl_links.specs.declared.error.NetError.TheVariants as net
+use Rattle.dpl_calls.specs.Totals.{shown}
+use Rattle.dpl_rules.specs.Rules.{Fault}
+use Rattle.dpl_cif.specs.Drawn.{reach}
 use Rattle.dpl_cif.specs.declared.error.CifError.{CifError}
-use Rattle.dpl_cif.specs.declared.error.CifError.TheVariants as cif
-use Rattle.dpl_cif.specs.declared.error.CifLimit.TheVariants.{Primitives, Calls, Coordinate}
-use Rattle.dpl_rules.specs.declared.what.What.{What}
-use Rattle.dpl_rules.specs.Rules.{fault}
+use Rattle.dpl_cif.specs.Gives.{Refuses}
+use Rattle.dpl_cif.specs.Reading.{reading, primitives_of, primitive_count, call_count}
+use Rattle.dpl_cif.specs.Reading.Reading.{Good}
 use Rattle.dpl_cuts.specs.declared.types.Fragments.{Fragments}
+use Rattle.dpl_cuts.specs.Fragments.{HasMoreFragments}
 use Rattle.dpl_sign.specs.declared.nets.Net.{Net}
 use Rattle.dpl_links.specs.Nets.{HasMoreEdges}
 use Rattle.dpl_links.proofs.SameLemmas.{no_more_edges}
-use Rattle.dpl_cif.specs.Reading.{Reading}
-use Rattle.dpl_cif.specs.Reading.Reading.{Faulty, TooMany, TooManyCalls, TooFar, Good}
-use Rattle.dpl_cif.specs.Gives.{Refuses}
 use Rattle.dpl_options.specs.Options.{PlainOptions}
 use Rattle.dpl_layer.specs.declared.error.LayerError.{LayerError}
 use Rattle.dpl_layer.specs.declared.error.LayerError.TheVariants.{Layout, Limit, NoMemory}
-use Rattle.dpl_layer.specs.Errors.{of_reading, of_tiles, of_net}
+use Rattle.dpl_layer.specs.Errors.{of_reading, of_tiles, of_cuts, of_net, passed}
 use Rattle.dpl_layer.specs.declared.drawing.Drawing.{Drawing}
-use Rattle.dpl_layer.specs.Drawings.{Cells, OnLayer, joined_reading, IsDrawingOf}
+use Rattle.dpl_layer.specs.Reasons.{FirstOf, NoneOf, IsOver, IsPassed}
+use Rattle.dpl_layer.specs.Drawings.{Cells, HasFault, PassesLimit, kept_of, drawing_reasons, IsDrawingOf}
 use Rattle.dpl_layer.specs.Layers.{AreFragmentsOf, IsLayer, IsLayerOfText}
-use Rattle.dpl_layer.specs.Refusals.{HasTooManyEdges, IsOverLimit, RefusesCells, RefusesReading, RefusesDrawing, RefusesLayer}
+use Rattle.dpl_layer.specs.Refusals.{HasTooManyFragments, HasTooManyEdges, cells_reasons, layer_reasons}
 use Rattle.dpl_layer.proofs.LayerLemmas.{fragments_same_of, within_fragments, tiles_within}
-use Rattle.dpl_layer.proofs.TextLemmas.{with_layer, of_layer, layer_good, on_drawing}
+use Rattle.dpl_layer.proofs.ReasonLemmas.{Reason, IsFree, IsOnce, AllOnce, AllHave, first, later, no_first}
+use Rattle.dpl_layer.proofs.ReasonLemmas.{none_cons, none_both, in_front, behind, first_once, once_both, first_has, have_both}
+use Rattle.dpl_layer.specs.Steps.{keep_reading, joined}
+use Rattle.dpl_layer.proofs.ReadingLemmas.{refusal_answers, joined_tells, both_free, good_is, keep_is}
+use Rattle.dpl_layer.proofs.TextLemmas.{drawn_cells}
 
--- ---- limits on the cells
+-- ---- each reason has one answer
 
--- a limit on the cells excludes a layer within the limits
-not_over : (o : PlainOptions) (cells kept : Cells) (f : Fragments) (n : Net) → IsLayer o cells kept f n →
-    (kind count' : ℕ) → ¬ IsOverLimit o cells kept kind count'
-not_over o cells kept f n l kind count' (inl (k, c, more)) =
-    let a = l.layer.fragments in
-    not_more cells a.tiles 100000 a.are_tiles (tiles_within (2 * o.space) (2 * o.overlap) cells kept f a l.few_fragments) more
-not_over o cells kept f n l kind count' (inr (inl (k, c, more))) =
-    let a = l.layer.fragments in
-    not_more kept a.keep 100000 a.are_kept l.few_kept more.many
-not_over o cells kept f n l kind count' (inr (inr (inl (k, c, more)))) =
-    within_fragments (2 * o.space) (2 * o.overlap) cells kept f more.tiles more.keep 100000 l.layer.fragments
-    l.few_fragments more.are_tiles more.are_kept more.many
-not_over o cells kept f n l kind count' (inr (inr (inr (k, c, more)))) =
-    let e : more.fragments ≡ f = fragments_same_of (2 * o.space) (2 * o.overlap) cells kept more.fragments f more.are_fragments l.layer.fragments in
-    no_more_edges f o.weights (2 * o.space) n 400000 l.layer.net l.few_edges (subst (λ z. HasMoreEdges z (2 * o.space) 400000) e more.many)
+fault_once : (text layer : List ℕ) → IsOnce (HasFault text layer)
+fault_once text layer e f (k, p, a) (l, q, b) =
+    let both : ◌≡◌ {A = Option Fault} (Some k) (Some l) = sym p ∙ q in
+    let same : k ≡ l = cc in
+    a ∙ ap (λ (x : Fault). Layout x.command x.what) same ∙ sym b
 
--- cells with a layer within the limits pass none
-pub cells_free : (o : PlainOptions) (cells kept : Cells) (f : Fragments) (n : Net) → IsLayer o cells kept f n → (e : LayerError) → ¬ RefusesCells o cells kept e
-cells_free o cells kept f n l (Layout k w) r = r
-cells_free o cells kept f n l (Limit k c) r = not_over o cells kept f n l k c r
-cells_free o cells kept f n l NoMemory r = r
+pub over_once : (counted : Counted) (n : ℕ) → IsOnce (IsOver counted n)
+over_once counted n e f a b = a.1 ∙ sym b.1
 
-edges_within : (o : PlainOptions) (cells kept : Cells) (m : HasTooManyEdges o cells kept) → length m.are_fragments.tiles ≤ 100000
-edges_within o cells kept m = tiles_within (2 * o.space) (2 * o.overlap) cells kept m.fragments m.are_fragments m.few_fragments
+pub passed_once : (counted : Counted) (cause : Type 0) → IsOnce (IsPassed counted cause)
+passed_once counted cause e f a b = a.1 ∙ sym b.1
 
--- the first limit that is passed is one
-one_limit : (o : PlainOptions) (cells kept : Cells) (k c l d : ℕ) → IsOverLimit o cells kept k c → IsOverLimit o cells kept l d → Limit k c ≡ Limit l d
-one_limit o cells kept k c l d (inl (p, q, m)) (inl (r, s, n)) = rw (p, q, r, s) refl
-one_limit o cells kept k c l d (inl (p, q, m)) (inr (inl (r, s, n))) = rw (p, q, r, s) refl
-one_limit o cells kept k c l d (inl (p, q, m)) (inr (inr (inl (r, s, n)))) = absurd (not_more cells n.tiles 100000 n.are_tiles n.few_tiles m)
-one_limit o cells kept k c l d (inl (p, q, m)) (inr (inr (inr (r, s, n)))) =
-    absurd (not_more cells n.are_fragments.tiles 100000 n.are_fragments.are_tiles (edges_within o cells kept n) m)
-one_limit o cells kept k c l d (inr (inl (p, q, m))) (inl (r, s, n)) = rw (p, q, r, s) refl
-one_limit o cells kept k c l d (inr (inl (p, q, m))) (inr (inl (r, s, n))) = rw (p, q, r, s) refl
-one_limit o cells kept k c l d (inr (inl (p, q, m))) (inr (inr (inl (r, s, n)))) = absurd (not_more kept n.keep 100000 n.are_kept n.few_kept m.many)
-one_limit o cells kept k c l d (inr (inl (p, q, m))) (inr (inr (inr (r, s, n)))) =
-    absurd (not_more kept n.are_fragments.keep 100000 n.are_fragments.are_kept n.few_kept m.many)
-one_limit o cells kept k c l d (inr (inr (inl (p, q, m)))) (inl (r, s, n)) = absurd (not_more cells m.tiles 100000 m.are_tiles m.few_tiles n)
-one_limit o cells kept k c l d (inr (inr (inl (p, q, m)))) (inr (inl (r, s, n))) = absurd (not_more kept m.keep 100000 m.are_kept m.few_kept n.many)
-one_limit o cells kept k c l d (inr (inr (inl (p, q, m)))) (inr (inr (inl (r, s, n)))) = rw (p, q, r, s) refl
-one_limit o cells kept k c l d (inr (inr (inl (p, q, m)))) (inr (inr (inr (r, s, n)))) =
-    absurd (within_fragments (2 * o.space) (2 * o.overlap) cells kept n.fragments m.tiles m.keep 100000 n.are_fragments
-    n.few_fragments m.are_tiles m.are_kept m.many)
-one_limit o cells kept k c l d (inr (inr (inr (p, q, m)))) (inl (r, s, n)) =
-    absurd (not_more cells m.are_fragments.tiles 100000 m.are_fragments.are_tiles (edges_within o cells kept m) n)
-one_limit o cells kept k c l d (inr (inr (inr (p, q, m)))) (inr (inl (r, s, n))) =
-    absurd (not_more kept m.are_fragments.keep 100000 m.are_fragments.are_kept m.few_kept n.many)
-one_limit o cells kept k c l d (inr (inr (inr (p, q, m)))) (inr (inr (inl (r, s, n)))) =
-    absurd (within_fragments (2 * o.space) (2 * o.overlap) cells kept m.fragments n.tiles n.keep 100000 m.are_fragments
-    m.few_fragments n.are_tiles n.are_kept n.many)
-one_limit o cells kept k c l d (inr (inr (inr (p, q, m)))) (inr (inr (inr (r, s, n)))) = rw (p, q, r, s) refl
+limit_once : (text layer : List ℕ) → IsOnce (PassesLimit text layer)
+limit_once text layer = first_once
+    (IsOver Counted.Primitives (primitive_count layer text) ∷ IsOver Counted.Calls (call_count layer text)
+    ∷ IsOver Counted.Coordinates (reach (primitives_of layer text)) ∷ []) (
+      over_once Counted.Primitives (primitive_count layer text),
+      (
+        over_once Counted.Calls (call_count layer text),
+        (over_once Counted.Coordinates (reach (primitives_of layer text)), tt),
+      ),
+    )
 
--- cells pass at most one limit first
-pub one_cells_refusal : (o : PlainOptions) (cells kept : Cells) (e f : LayerError) → RefusesCells o cells kept e → RefusesCells o cells kept f → e ≡ f
-one_cells_refusal o cells kept (Layout k w) f a b = absurd a
-one_cells_refusal o cells kept NoMemory f a b = absurd a
-one_cells_refusal o cells kept (Limit k c) (Layout l v) a b = absurd b
-one_cells_refusal o cells kept (Limit k c) NoMemory a b = absurd b
-one_cells_refusal o cells kept (Limit k c) (Limit l d) a b = one_limit o cells kept k c l d a b
+all_once : (text : List ℕ) (R : List ℕ → Reason) → ((layer : List ℕ) → IsOnce (R layer)) → (layers : List (List ℕ)) → AllOnce (map R layers)
+all_once text R each [] = tt
+all_once text R each (l ∷ ls) = (each l, all_once text R each ls)
 
--- ---- what was read
+pub drawing_once : (o : PlainOptions) (text : List ℕ) → AllOnce (drawing_reasons o text)
+drawing_once o text =
+    let layers = o.layer ∷ option_to_list o.keep in
+    once_both (map (HasFault text) layers) (map (PassesLimit text) layers)
+    (all_once text (HasFault text) (fault_once text) layers) (all_once text (PassesLimit text) (limit_once text) layers)
 
-same_fault : (read : Reading) (k l : ℕ) (w v : What) → read ≡ Faulty (fault k w) → read ≡ Faulty (fault l v) → Layout k w ≡ Layout l v
-same_fault read k l w v e f = let g : fault k w ≡ fault l v = cc in let h : k ≡ l = ap (λ x. x.command) g in
-    let i : w ≡ v = ap (λ x. x.what) g in rw (h, i) refl
-
-fault_first : (read : Reading) (j : ℕ) (w : What) (k c : ℕ) → read ≡ Faulty (fault j w) → RefusesReading read (Limit k c) → ⊥
-fault_first read j w k c e h = subst (λ z. RefusesReading z (Limit k c)) e h
-
-one_stop : (read : Reading) (k c l d : ℕ) → RefusesReading read (Limit k c) → RefusesReading read (Limit l d) → Limit k c ≡ Limit l d
-one_stop (TooMany n) k c l d (p, q) (r, s) = rw (p, q, r, s) refl
-one_stop (TooManyCalls n) k c l d (p, q) (r, s) = rw (p, q, r, s) refl
-one_stop (TooFar n) k c l d (p, q) (r, s) = rw (p, q, r, s) refl
-one_stop (Faulty f) k c l d a b = absurd a
-one_stop (Good parts) k c l d a b = absurd a
-
-one_reading_refusal : (read : Reading) (e f : LayerError) → RefusesReading read e → RefusesReading read f → e ≡ f
-one_reading_refusal read NoMemory f a b = absurd a
-one_reading_refusal read (Layout k w) NoMemory a b = absurd b
-one_reading_refusal read (Limit k c) NoMemory a b = absurd b
-one_reading_refusal read (Layout k w) (Layout l v) a b = same_fault read k l w v a b
-one_reading_refusal read (Layout k w) (Limit l d) a b = absurd (fault_first read k w l d a b)
-one_reading_refusal read (Limit k c) (Layout l v) a b = absurd (fault_first read l v k c b a)
-one_reading_refusal read (Limit k c) (Limit l d) a b = one_stop read k c l d a b
+pub cells_once : (o : PlainOptions) (cells kept : Cells) → AllOnce (cells_reasons o cells kept)
+cells_once o cells kept = (
+  passed_once Counted.Tiles (HasMoreTiles cells 100000),
+  (
+    passed_once Counted.Tiles (HasMoreTiles kept 100000),
+    (passed_once Counted.Fragments (HasTooManyFragments o cells kept), (passed_once Counted.Edges (HasTooManyEdges o cells kept), tt)),
+  ),
+)
 
 -- a text without a drawing is refused for one reason
-pub one_drawing_refusal : (o : PlainOptions) (text : List ℕ) (e f : LayerError) → RefusesDrawing o text e → RefusesDrawing o text f → e ≡ f
-one_drawing_refusal o text e f a b = one_reading_refusal (joined_reading o text) e f a b
+pub one_drawing_refusal : (o : PlainOptions) (text : List ℕ) → IsOnce (FirstOf (drawing_reasons o text))
+one_drawing_refusal o text = first_once (drawing_reasons o text) (drawing_once o text)
 
-good_free : (read : Reading) (parts : List Outline) (e : LayerError) → read ≡ Good parts → ¬ RefusesReading read e
-good_free read parts (Layout k w) is r = absurd (cc)
-good_free read parts (Limit k c) is r = subst (λ z. RefusesReading z (Limit k c)) is r
-good_free read parts NoMemory is r = r
+-- cells pass at most one limit first
+pub one_cells_refusal : (o : PlainOptions) (cells kept : Cells) → IsOnce (FirstOf (cells_reasons o cells kept))
+one_cells_refusal o cells kept = first_once (cells_reasons o cells kept) (cells_once o cells kept)
 
--- a text with a property of its cells was read
-pub drawing_free : (o : PlainOptions) (text : List ℕ) (P : Cells → Cells → Type 0) (e : LayerError) → OnLayer o text P → ¬ RefusesDrawing o text e
-drawing_free o text P e h r =
-    let (parts, is) = layer_good o text P h in
-    good_free (joined_reading o text) parts e is r
+pub layer_once : (o : PlainOptions) (text : List ℕ) → AllOnce (layer_reasons o text)
+layer_once o text =
+    let cells = is_cell (primitives_of o.layer text) in
+    let kept = is_cell (kept_of o.keep text) in
+    once_both (drawing_reasons o text) (cells_reasons o cells kept) (drawing_once o text) (cells_once o cells kept)
 
--- a text with a drawing was read
-pub good_drawing_free : (o : PlainOptions) (text : List ℕ) (d : Drawing) → IsDrawingOf o text d → (e : LayerError) → ¬ RefusesDrawing o text e
-good_drawing_free o text d is e = drawing_free o text (λ cells kept. Unit {0}) e (on_drawing o text d (λ cells kept. Unit {0}) is tt)
+-- a text has at most one refusal
+pub one_text_refusal : (o : PlainOptions) (text : List ℕ) → IsOnce (FirstOf (layer_reasons o text))
+one_text_refusal o text = first_once (layer_reasons o text) (layer_once o text)
 
--- ---- both
+-- ---- a layer within the limits passes none
+
+-- cells with a layer within the limits pass none
+pub cells_free : (o : PlainOptions) (cells kept : Cells) (f : Fragments) (n : Net) → IsLayer o cells kept f n → NoneOf (cells_reasons o cells kept)
+cells_free o cells kept f n l =
+    let T : Reason = IsPassed Counted.Tiles (HasMoreTiles cells 100000) in
+    let K : Reason = IsPassed Counted.Tiles (HasMoreTiles kept 100000) in
+    let F : Reason = IsPassed Counted.Fragments (HasTooManyFragments o cells kept) in
+    let E : Reason = IsPassed Counted.Edges (HasTooManyEdges o cells kept) in
+    none_cons T (K ∷ F ∷ E ∷ []) no_tiles (none_cons K (F ∷ E ∷ []) no_kept
+    (none_cons F (E ∷ []) no_fragments (none_cons E [] no_edges no_first))) where
+      no_tiles : IsFree (IsPassed Counted.Tiles (HasMoreTiles cells 100000))
+      no_tiles e r =
+          let a = l.layer.fragments in
+          not_more cells a.tiles 100000 a.are_tiles (tiles_within (2 * o.space) (2 * o.overlap) cells kept f a l.few_fragments) r.0
+
+      no_kept : IsFree (IsPassed Counted.Tiles (HasMoreTiles kept 100000))
+      no_kept e r =
+          let a = l.layer.fragments in
+          not_more kept a.keep 100000 a.are_kept l.few_kept r.0
+
+      no_fragments : IsFree (IsPassed Counted.Fragments (HasTooManyFragments o cells kept))
+      no_fragments e r =
+          let m = r.0 in
+          within_fragments (2 * o.space) (2 * o.overlap) cells kept f m.tiles m.keep 100000 l.layer.fragments
+          l.few_fragments m.are_tiles m.are_kept m.many
+
+      no_edges : IsFree (IsPassed Counted.Edges (HasTooManyEdges o cells kept))
+      no_edges e r =
+          let m = r.0 in
+          let same : m.fragments ≡ f = fragments_same_of (2 * o.space) (2 * o.overlap) cells kept m.fragments f m.are_fragments l.layer.fragments in
+          no_more_edges f o.weights (2 * o.space) n 400000 l.layer.net l.few_edges (subst (λ z. HasMoreEdges z (2 * o.space) 400000) same m.many)
+
+-- no refusal applies to a text with a layer within the limits
+pub none_comes : (o : PlainOptions) (text : List ℕ) (f : Fragments) (n : Net) → IsLayerOfText o text f n → NoneOf (layer_reasons o text)
+none_comes o text f n l =
+    let cells = is_cell (primitives_of o.layer text) in
+    let kept = is_cell (kept_of o.keep text) in
+    none_both (drawing_reasons o text) (cells_reasons o cells kept) l.0 (cells_free o cells kept f n l.1.is)
+
+-- ---- a text and its drawing
 
 -- a text that has no drawing has no layer, for the same reason
 pub drawing_text_refuses : (o : PlainOptions) (text : List ℕ) (e : LayerError) → (e ≡ NoMemory) ⊎
-    RefusesDrawing o text e → (e ≡ NoMemory) ⊎ RefusesLayer o text e
+    FirstOf (drawing_reasons o text) e → (e ≡ NoMemory) ⊎ FirstOf (layer_reasons o text) e
 drawing_text_refuses o text e (inl m) = inl m
-drawing_text_refuses o text e (inr r) = inr (inl r)
+drawing_text_refuses o text e (inr r) =
+    inr (in_front (drawing_reasons o text) (cells_reasons o (is_cell (primitives_of o.layer text)) (is_cell (kept_of o.keep text))) e r)
 
 -- a text of which the cells pass a limit has no layer, for the same reason
 pub cells_text_refuse : (o : PlainOptions) (text : List ℕ) (d : Drawing) (e : LayerError) → IsDrawingOf o text d →
-    (e ≡ NoMemory) ⊎ RefusesCells o (cells_of d.layer) (cells_of d.keep) e → (e ≡ NoMemory) ⊎ RefusesLayer o text e
+    (e ≡ NoMemory) ⊎ FirstOf (cells_reasons o (cells_of d.layer) (cells_of d.keep)) e → (e ≡ NoMemory) ⊎ FirstOf (layer_reasons o text) e
 cells_text_refuse o text d e is (inl m) = inl m
-cells_text_refuse o text d e is (inr r) = inr (inr (on_drawing o text d (λ cells kept. RefusesCells o cells kept e) is r))
+cells_text_refuse o text d e is (inr r) =
+    inr (behind (drawing_reasons o text) (cells_reasons o (is_cell (primitives_of o.layer text)) (is_cell (kept_of o.keep text))) e
+    is.taken (drawn_cells o text d (λ cells kept. FirstOf (cells_reasons o cells kept) e) is r))
 
--- a text has at most one refusal
-pub one_text_refusal : (o : PlainOptions) (text : List ℕ) (e f : LayerError) → RefusesLayer o text e → RefusesLayer o text f → e ≡ f
-one_text_refusal o text e f (inl a) (inl b) = one_drawing_refusal o text e f a b
-one_text_refusal o text e f (inl a) (inr b) = absurd (drawing_free o text (λ cells kept. RefusesCells o cells kept f) e b a)
-one_text_refusal o text e f (inr a) (inl b) = absurd (drawing_free o text (λ cells kept. RefusesCells o cells kept e) f a b)
-one_text_refusal o text e f (inr a) (inr b) = with_layer o text (λ cells kept. RefusesCells o cells kept e)
-    (λ cells kept. RefusesCells o cells kept f) (λ cells kept p q. one_cells_refusal o cells kept e f p q) a b
+-- what stops the reading of both layers refuses the text, but for want of memory
+pub reading_refuses : (o : PlainOptions) (text : List ℕ) (e : CifError) → Refuses e (joined (reading o.layer text) (keep_reading o.keep text)) →
+    (of_reading e ≡ NoMemory) ⊎ FirstOf (drawing_reasons o text) (of_reading e)
+reading_refuses o text e r = elim (refusal_answers (joined (reading o.layer text) (keep_reading o.keep text)) e r) [
+  | inl m ↦ inl m
+  | inr is ↦ inr (joined_tells text o.layer o.keep (of_reading e) is)
+]
 
--- no refusal applies to a text with a layer within the limits
-pub none_comes : (o : PlainOptions) (text : List ℕ) (f : Fragments) (n : Net) → IsLayerOfText o text f n → (e : LayerError) → ¬ RefusesLayer o text e
-none_comes o text f n l e (inl r) = drawing_free o text (λ cells kept. IsLayer o cells kept f n) e l r
-none_comes o text f n l e (inr r) = with_layer o text (λ cells kept. IsLayer o cells kept f n)
-    (λ cells kept. RefusesCells o cells kept e) (λ cells kept p q. cells_free o cells kept f n p e q) l r
-
--- want of memory is no refusal of a text
-pub never_memory : (o : PlainOptions) (text : List ℕ) → ¬ RefusesLayer o text NoMemory
-never_memory o text (inl r) = r
-never_memory o text (inr r) = of_layer o text (λ cells kept. RefusesCells o cells kept NoMemory) (λ cells kept p. p) r
+-- where both layers are read, they are what is drawn
+pub drawing_is : (o : PlainOptions) (text : List ℕ) (d : Drawing) → reading o.layer text ≡ Good (map outline_of d.layer.prims) →
+    keep_reading o.keep text ≡ Good (map outline_of d.keep.prims) → IsDrawingOf o text d
+drawing_is o text d a b = record {
+  taken = both_free text o.layer o.keep (map outline_of d.layer.prims) (map outline_of d.keep.prims) a b;
+  layer = good_is text o.layer (map outline_of d.layer.prims) a;
+  keep = keep_is text o.keep (map outline_of d.keep.prims) b;
+}
 
 -- ---- the limits by number
 
-stop_kind : (read : Reading) (k c : ℕ) → RefusesReading read (Limit k c) → (2 ≤ k) × (k ≤ 7)
-stop_kind (TooMany n) k c r = (omega (arith, r.0), omega (arith, r.0))
-stop_kind (TooManyCalls n) k c r = (omega (arith, r.0), omega (arith, r.0))
-stop_kind (TooFar n) k c r = (omega (arith, r.0), omega (arith, r.0))
-stop_kind (Faulty f) k c r = absurd r
-stop_kind (Good parts) k c r = absurd r
+-- a broken rule, where one may be, or a limit with a number from 2 to this one
+abbrev pub HasKind : Type 0 → ℕ → LayerError → Type 0
+HasKind rule most (Layout command what) = rule
+HasKind rule most (Limit kind count) = (2 ≤ kind) × (kind ≤ most)
+HasKind rule most NoMemory = ⊥
 
-over_kind : (o : PlainOptions) (cells kept : Cells) (k c : ℕ) → IsOverLimit o cells kept k c → (2 ≤ k) × (k ≤ 7)
-over_kind o cells kept k c (inl p) = (omega (arith, p.0), omega (arith, p.0))
-over_kind o cells kept k c (inr (inl p)) = (omega (arith, p.0), omega (arith, p.0))
-over_kind o cells kept k c (inr (inr (inl p))) = (omega (arith, p.0), omega (arith, p.0))
-over_kind o cells kept k c (inr (inr (inr p))) = (omega (arith, p.0), omega (arith, p.0))
+fault_kind : (most : ℕ) (text layer : List ℕ) (e : LayerError) → HasFault text layer e → HasKind (Unit {0}) most e
+fault_kind most text layer e (f, p, is) = subst (HasKind (Unit {0}) most) (sym is) tt
+
+pub kind_of : (rule : Type 0) (most : ℕ) (e : LayerError) (kind count : ℕ) → e ≡ Limit kind count → 2 ≤ kind → kind ≤ most → HasKind rule most e
+kind_of rule most e kind count is low high = subst (HasKind rule most) (sym is) (low, high)
+
+limit_kind : (most : ℕ) → 7 ≤ most → (text layer : List ℕ) (e : LayerError) → PassesLimit text layer e → HasKind (Unit {0}) most e
+limit_kind most room text layer e r = first_has (HasKind (Unit {0}) most)
+    (IsOver Counted.Primitives (primitive_count layer text) ∷ IsOver Counted.Calls (call_count layer text)
+    ∷ IsOver Counted.Coordinates (reach (primitives_of layer text)) ∷ []) e (
+      (λ x p. kind_of (Unit {0}) most x 2 (shown (primitive_count layer text)) p.1 (omega arith) (omega (arith, room))),
+      (
+        (λ x p. kind_of (Unit {0}) most x 3 (shown (call_count layer text)) p.1 (omega arith) (omega (arith, room))),
+        ((λ x p. kind_of (Unit {0}) most x 4 (shown (reach (primitives_of layer text))) p.1 (omega arith) (omega (arith, room))), tt),
+      ),
+    ) r
+
+all_kinds : (most : ℕ) (R : List ℕ → Reason) → ((layer : List ℕ) (e : LayerError) → R layer e → HasKind (Unit {0}) most e) →
+    (layers : List (List ℕ)) → AllHave (HasKind (Unit {0}) most) (map R layers)
+all_kinds most R each [] = tt
+all_kinds most R each (l ∷ ls) = (each l, all_kinds most R each ls)
+
+pub drawing_kinds : (most : ℕ) → 7 ≤ most → (o : PlainOptions) (text : List ℕ) → AllHave (HasKind (Unit {0}) most) (drawing_reasons o text)
+drawing_kinds most room o text =
+    let layers = o.layer ∷ option_to_list o.keep in
+    have_both (HasKind (Unit {0}) most) (map (HasFault text) layers) (map (PassesLimit text) layers)
+    (all_kinds most (HasFault text) (fault_kind most text) layers) (all_kinds most (PassesLimit text) (limit_kind most room text) layers)
+
+pub cells_kinds : (rule : Type 0) (most : ℕ) → 7 ≤ most → (o : PlainOptions) (cells kept : Cells) → AllHave (HasKind rule most) (cells_reasons o cells kept)
+cells_kinds rule most room o cells kept = (
+  (λ e p. kind_of rule most e 5 100001 p.1 (omega arith) (omega (arith, room))),
+  (
+    (λ e p. kind_of rule most e 5 100001 p.1 (omega arith) (omega (arith, room))),
+    (
+      (λ e p. kind_of rule most e 6 100001 p.1 (omega arith) (omega (arith, room))),
+      ((λ e p. kind_of rule most e 7 400001 p.1 (omega arith) (omega (arith, room))), tt),
+    ),
+  ),
+)
+
+pub layer_kinds : (most : ℕ) → 7 ≤ most → (o : PlainOptions) (text : List ℕ) → AllHave (HasKind (Unit {0}) most) (layer_reasons o text)
+layer_kinds most room o text =
+    let cells = is_cell (primitives_of o.layer text) in
+    let kept = is_cell (kept_of o.keep text) in
+    have_both (HasKind (Unit {0}) most) (drawing_reasons o text) (cells_reasons o cells kept) (drawing_kinds most room o text)
+    (cells_kinds (Unit {0}) most room o cells kept)
 
 -- the limits that refuse a layer have the numbers 2 to 7
-pub layer_kind : (o : PlainOptions) (text : List ℕ) (k c : ℕ) → RefusesLayer o text (Limit k c) → (2 ≤ k) × (k ≤ 7)
-layer_kind o text k c (inl r) = stop_kind (joined_reading o text) k c r
-layer_kind o text k c (inr r) = of_layer o text (λ cells kept. RefusesCells o cells kept (Limit k c)) (λ cells kept p. over_kind o cells kept k c p) r
+pub layer_kind : (o : PlainOptions) (text : List ℕ) (k c : ℕ) → FirstOf (layer_reasons o text) (Limit k c) → (2 ≤ k) × (k ≤ 7)
+layer_kind o text k c r = first_has (HasKind (Unit {0}) 7) (layer_reasons o text) (Limit k c) (layer_kinds 7 (omega arith) o text) r
+
+-- want of memory is no refusal of a text
+pub never_memory : (o : PlainOptions) (text : List ℕ) → ¬ FirstOf (layer_reasons o text) NoMemory
+never_memory o text r = first_has (HasKind (Unit {0}) 7) (layer_reasons o text) NoMemory (layer_kinds 7 (omega arith) o text) r
 
 -- ---- when each answer comes, where at most one refusal applies
 
@@ -232,47 +282,74 @@ refusal_comes L R (Err f) one free a (inr q) e r = inl (ap Err (one f e q r))
 pub err_refuses : {T : Type 0} (r : Result T LayerError) (Q : LayerError → Type 0) (e f : LayerError) → r ≡ Err e → e ≡ f → Q f → IfErr r Q
 err_refuses r Q e f a b q = rw (a, b) q
 
--- an error of the reader of CIF refuses the text, but for want of memory
-pub reading_refuses : (read : Reading) (e : CifError) → Refuses e read → (of_reading e ≡ NoMemory) ⊎ RefusesReading read (of_reading e)
-reading_refuses read (cif.Fault k w) is = inr is
-reading_refuses read (cif.Limit Primitives n) is = inr (subst (λ z. RefusesReading z (Limit 2 n)) (sym is) (refl, refl))
-reading_refuses read (cif.Limit Calls n) is = inr (subst (λ z. RefusesReading z (Limit 3 n)) (sym is) (refl, refl))
-reading_refuses read (cif.Limit Coordinate n) is = inr (subst (λ z. RefusesReading z (Limit 4 n)) (sym is) (refl, refl))
-reading_refuses read cif.NoMemory is = inl refl
+-- no tile of the cells, and none of those that are kept whole, is one too many
+few_tiles : (o : PlainOptions) (cells kept : Cells) (ts ks : List Corners) (e : LayerError) → AreTiles cells ts → AreTiles kept ks →
+    length ts ≤ 100000 → length ks ≤ 100000 →
+    FirstOf (IsPassed Counted.Fragments (HasTooManyFragments o cells kept) ∷ IsPassed Counted.Edges (HasTooManyEdges o cells kept) ∷ []) e →
+    FirstOf (cells_reasons o cells kept) e
+few_tiles o cells kept ts ks e t u few also r =
+    let T : Reason = IsPassed Counted.Tiles (HasMoreTiles cells 100000) in
+    let K : Reason = IsPassed Counted.Tiles (HasMoreTiles kept 100000) in
+    let F : Reason = IsPassed Counted.Fragments (HasTooManyFragments o cells kept) in
+    let E : Reason = IsPassed Counted.Edges (HasTooManyEdges o cells kept) in
+    later T (K ∷ F ∷ E ∷ []) e (λ x p. not_more cells ts 100000 t few p.0)
+    (later K (F ∷ E ∷ []) e (λ x p. not_more kept ks 100000 u also p.0) r)
+
+-- an error of the tiles passes the limit on tiles, but for want of memory
+pub tiles_refuse : (o : PlainOptions) (cells kept : Cells) (e : TileError) → (e ≡ tile.TooMany → HasMoreTiles cells 100000) →
+    (of_tiles e ≡ NoMemory) ⊎ FirstOf (cells_reasons o cells kept) (of_tiles e)
+tiles_refuse o cells kept tile.TooMany many = inr (first (IsPassed Counted.Tiles (HasMoreTiles cells 100000))
+    (IsPassed Counted.Tiles (HasMoreTiles kept 100000) ∷ IsPassed Counted.Fragments (HasTooManyFragments o cells kept)
+    ∷ IsPassed Counted.Edges (HasTooManyEdges o cells kept) ∷ []) (passed Counted.Tiles) (many refl, refl))
+tiles_refuse o cells kept tile.NoMemory many = inl refl
 
 -- an error of the tiles that are kept whole passes the limit on tiles, but for want of memory
 pub kept_refuses : (o : PlainOptions) (cells kept : Cells) (v : List Rect) (e : TileError) →
     AreTiles cells (map corners_of v) → length v ≤ 100000 → (e ≡ tile.TooMany → HasMoreTiles kept 100000) →
-    (of_tiles e ≡ NoMemory) ⊎ RefusesCells o cells kept (of_tiles e)
-kept_refuses o cells kept v tile.TooMany t few many = inr
-    (inr (inl (
-      refl,
-      refl,
+    (of_tiles e ≡ NoMemory) ⊎ FirstOf (cells_reasons o cells kept) (of_tiles e)
+kept_refuses o cells kept v tile.TooMany t few many =
+    let T : Reason = IsPassed Counted.Tiles (HasMoreTiles cells 100000) in
+    let K : Reason = IsPassed Counted.Tiles (HasMoreTiles kept 100000) in
+    let F : Reason = IsPassed Counted.Fragments (HasTooManyFragments o cells kept) in
+    let E : Reason = IsPassed Counted.Edges (HasTooManyEdges o cells kept) in
+    let small : length (map corners_of v) ≤ 100000 = rw (length-map v corners_of) few in
+    inr (later T (K ∷ F ∷ E ∷ []) (passed Counted.Tiles) (λ x p. not_more cells (map corners_of v) 100000 t small p.0)
+    (first K (F ∷ E ∷ []) (passed Counted.Tiles) (many refl, refl)))
+kept_refuses o cells kept v tile.NoMemory t few many = inl refl
+
+-- an error of the cuts passes the limit on fragments, but for want of memory
+pub cuts_refuse : (o : PlainOptions) (cells kept : Cells) (v w : List Rect) (e : CutError) →
+    AreTiles cells (map corners_of v) → AreTiles kept (map corners_of w) → length v ≤ 100000 → length w ≤ 100000 →
+    (e ≡ cut.TooMany → HasMoreFragments (map corners_of w) (2 * o.space) (2 * o.overlap) (map corners_of v) 100000) →
+    (of_cuts e ≡ NoMemory) ⊎ FirstOf (cells_reasons o cells kept) (of_cuts e)
+cuts_refuse o cells kept v w cut.TooMany t u few also many =
+    let small : length (map corners_of v) ≤ 100000 = rw (length-map v corners_of) few in
+    let least : length (map corners_of w) ≤ 100000 = rw (length-map w corners_of) also in
+    inr (few_tiles o cells kept (map corners_of v) (map corners_of w) (passed Counted.Fragments) t u small least
+    (first (IsPassed Counted.Fragments (HasTooManyFragments o cells kept)) (IsPassed Counted.Edges (HasTooManyEdges o cells kept) ∷ [])
+    (passed Counted.Fragments) (
       record {
         tiles = map corners_of v;
+        keep = map corners_of w;
         are_tiles = t;
-        few_tiles =
-            rw (length-map v corners_of) few;
+        are_kept = u;
         many = many refl;
       },
+      refl,
     )))
-kept_refuses o cells kept v tile.NoMemory t few many = inl refl
+cuts_refuse o cells kept v w cut.NoMemory t u few also many = inl refl
 
 -- an error of the net passes the limit on edges, but for want of memory
 pub net_refuses : (o : PlainOptions) (cells kept : Cells) (f : Fragments) (e : NetError)
     (a : AreFragmentsOf (2 * o.space) (2 * o.overlap) cells kept f) → length a.keep ≤ 100000 → length f.rects ≤ 100000 →
     (e ≡ net.TooMany → HasMoreEdges f (2 * o.space) 400000)
-    → (of_net e ≡ NoMemory) ⊎ RefusesCells o cells kept (of_net e)
+    → (of_net e ≡ NoMemory) ⊎ FirstOf (cells_reasons o cells kept) (of_net e)
 net_refuses o cells kept f net.TooMany a few_kept few many =
-    inr (inr (inr (inr (
-      refl,
-      refl,
-      record {
-        fragments = f;
-        are_fragments = a;
-        few_kept = few_kept;
-        few_fragments = few;
-        many = many refl;
-      },
-    ))))
+    let F : Reason = IsPassed Counted.Fragments (HasTooManyFragments o cells kept) in
+    let E : Reason = IsPassed Counted.Edges (HasTooManyEdges o cells kept) in
+    inr (few_tiles o cells kept a.tiles a.keep (passed Counted.Edges) a.are_tiles a.are_kept
+    (tiles_within (2 * o.space) (2 * o.overlap) cells kept f a few) few_kept
+    (later F (E ∷ []) (passed Counted.Edges)
+    (λ x p. within_fragments (2 * o.space) (2 * o.overlap) cells kept f p.0.tiles p.0.keep 100000 a few p.0.are_tiles p.0.are_kept p.0.many)
+    (first E [] (passed Counted.Edges) (record { fragments = f; are_fragments = a; many = many refl }, refl))))
 net_refuses o cells kept f net.NoMemory a few_kept few many = inl refl

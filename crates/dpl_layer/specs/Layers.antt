@@ -31,18 +31,19 @@ pub record IsLayerOf (o : PlainOptions) (cells kept : Cells) (f : Fragments) (n 
   pub fragments : AreFragmentsOf (2 * o.space) (2 * o.overlap) cells kept f
   pub net : IsNet f o.weights (2 * o.space) n
 
--- each of these cells lies in exactly one tile, and no other cell lies in any
-abbrev pub TilesShareOut : Cells → Type 0
-TilesShareOut cells = (tiles : List Corners) → AreTiles cells tiles → SharesOut cells tiles
-
--- the layer of these cells, cut from the tiles that share them out, and within the limits
+-- the layer of these cells within the limits
 pub record IsLayer (o : PlainOptions) (cells kept : Cells) (f : Fragments) (n : Net) : Type 0 where
   pub layer : IsLayerOf o cells kept f n
-  pub shared : TilesShareOut cells
-  pub cut : CameFromCut (2 * o.space) f
   pub few_kept : length layer.fragments.keep ≤ most_of Counted.Tiles
   pub few_fragments : length f.rects ≤ most_of Counted.Fragments
   pub few_edges : length n.graph.edges ≤ most_of Counted.Edges
+
+-- the same, cut from the tiles that share these cells out: each of them lies in exactly one tile, and no other cell in any
+pub record IsCutLayer (o : PlainOptions) (cells kept : Cells) (f : Fragments)
+    (n : Net) : Type 0 where
+  pub is : IsLayer o cells kept f n
+  pub shared : (tiles : List Corners) → AreTiles cells tiles → SharesOut cells tiles
+  pub cut : CameFromCut (2 * o.space) f
 
 -- the layer of some cells
 pub record IsSomeLayer (o : PlainOptions) (f : Fragments) (n : Net) : Type 0 where
@@ -52,4 +53,4 @@ pub record IsSomeLayer (o : PlainOptions) (f : Fragments) (n : Net) : Type 0 whe
 
 -- the layer of the cells that the text draws
 abbrev pub IsLayerOfText : PlainOptions → List ℕ → Fragments → Net → Type 0
-IsLayerOfText o text f n = OnLayer o text (λ cells kept. IsLayer o cells kept f n)
+IsLayerOfText o text f n = OnLayer o text (λ cells kept. IsCutLayer o cells kept f n)

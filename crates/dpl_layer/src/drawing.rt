@@ -6,8 +6,9 @@ ghost use Rattle.dpl_cell.specs.Outlines.{outline_of};
 ghost use Rattle.dpl_cif.specs.Gives.{Gives, Refuses};
 ghost use Rattle.dpl_cif.specs.Reading.{reading};
 ghost use Rattle.dpl_cif.specs.Reading.Reading.{Good};
-ghost use Rattle.dpl_layer.specs.Drawings.{keep_reading, joined, IsDrawingOf};
-ghost use Rattle.dpl_layer.specs.Refusals.{RefusesDrawing};
+ghost use Rattle.dpl_layer.specs.Reasons.{FirstOf};
+ghost use Rattle.dpl_layer.specs.Drawings.{drawing_reasons, IsDrawingOf};
+ghost use Rattle.dpl_layer.specs.Steps.{keep_reading, joined};
 
 use crate::error::LayerError;
 use dpl_cell::Layout;
@@ -39,8 +40,8 @@ pub fn read_drawing(
     requires commands { commands.now ≡ commands_of text.now }
     ensures drawing { IfOk result (λ d. IsDrawingOf options.now text.now d) }
     ensures refused { (e : LayerError) → result ≡ Err e →
-        (e ≡ LayerError.NoMemory) ⊎ RefusesDrawing options.now text.now e }
-    ensures exact { (e : LayerError) → RefusesDrawing options.now text.now e →
+        (e ≡ LayerError.NoMemory) ⊎ FirstOf (drawing_reasons options.now text.now) e }
+    ensures exact { (e : LayerError) → FirstOf (drawing_reasons options.now text.now) e →
         (result ≡ Err e) ⊎ (result ≡ Err LayerError.NoMemory) }
 {
     let drawing = read_both(alloc, text, commands, options.layer(), options.keep())?;

@@ -5,8 +5,9 @@ ghost use Rattle.dpl_cell.specs.Places.{corners_of};
 ghost use Rattle.dpl_cell.specs.Layers.{cells_of};
 ghost use Rattle.dpl_cell.specs.Tiles.{AreTiles};
 ghost use Rattle.dpl_cuts.specs.Fragments.{CameFromCut};
-ghost use Rattle.dpl_layer.specs.Layers.{AreFragmentsOf, IsLayer};
-ghost use Rattle.dpl_layer.specs.Refusals.{RefusesCells};
+ghost use Rattle.dpl_layer.specs.Layers.{AreFragmentsOf, IsCutLayer};
+ghost use Rattle.dpl_layer.specs.Reasons.{FirstOf};
+ghost use Rattle.dpl_layer.specs.Refusals.{cells_reasons};
 
 use crate::drawing::Drawing;
 use crate::error::LayerError;
@@ -30,12 +31,14 @@ pub struct Layer {
 
 /// The fragments and the net of the chosen layer of a drawing. Nothing is cut in a cell of its keep layer.
 pub fn layer_of(alloc: Global, drawing: &Drawing, options: &Options) -> Result<Layer, LayerError>
-    ensures layer { IfOk result (λ l. IsLayer options.now (cells_of drawing.now.layer)
+    ensures layer { IfOk result (λ l. IsCutLayer options.now (cells_of drawing.now.layer)
         (cells_of drawing.now.keep) l.fragments l.net) }
     ensures refused { (e : LayerError) → result ≡ Err e → (e ≡ LayerError.NoMemory) ⊎
-        RefusesCells options.now (cells_of drawing.now.layer) (cells_of drawing.now.keep) e }
+        FirstOf (cells_reasons options.now (cells_of drawing.now.layer)
+        (cells_of drawing.now.keep)) e }
     ensures exact { (e : LayerError) →
-        RefusesCells options.now (cells_of drawing.now.layer) (cells_of drawing.now.keep) e →
+        FirstOf (cells_reasons options.now (cells_of drawing.now.layer)
+        (cells_of drawing.now.keep)) e →
         (result ≡ Err e) ⊎ (result ≡ Err LayerError.NoMemory) }
 {
     link_drawing(alloc, drawing, options)
@@ -43,10 +46,11 @@ pub fn layer_of(alloc: Global, drawing: &Drawing, options: &Options) -> Result<L
 
 /// The same; of refusals it is said that one comes where it applies.
 fn link_drawing(alloc: Global, drawing: &Drawing, options: &Options) -> Result<Layer, LayerError>
-    ensures layer { IfOk result (λ l. IsLayer options.now (cells_of drawing.now.layer)
+    ensures layer { IfOk result (λ l. IsCutLayer options.now (cells_of drawing.now.layer)
         (cells_of drawing.now.keep) l.fragments l.net) }
     ensures refused { IfErr result (λ e. (e ≡ LayerError.NoMemory) ⊎
-        RefusesCells options.now (cells_of drawing.now.layer) (cells_of drawing.now.keep) e) }
+        FirstOf (cells_reasons options.now (cells_of drawing.now.layer)
+        (cells_of drawing.now.keep)) e) }
 {
     tiles_share_out(&drawing.layer);
     let fragments = cut_drawing(alloc, drawing, options)?;
@@ -63,7 +67,8 @@ fn cut_drawing(alloc: Global, drawing: &Drawing, options: &Options) -> Result<Fr
     ensures cut { IfOk result (λ f. CameFromCut (2 * options.now.space) f) }
     ensures few { IfOk result (λ f. length f.rects ≤ MOST_FRAGMENTS) }
     ensures refused { IfErr result (λ e. (e ≡ LayerError.NoMemory) ⊎
-        RefusesCells options.now (cells_of drawing.now.layer) (cells_of drawing.now.keep) e) }
+        FirstOf (cells_reasons options.now (cells_of drawing.now.layer)
+        (cells_of drawing.now.keep)) e) }
 {
     let tiles_there = tiles(alloc, &drawing.layer)?;
     let keep = tiles(alloc, &drawing.keep)?;
@@ -95,7 +100,8 @@ fn cut_tiles(
     ensures cut { IfOk result (λ f. CameFromCut (2 * options.now.space) f) }
     ensures few { IfOk result (λ f. length f.rects ≤ MOST_FRAGMENTS) }
     ensures refused { IfErr result (λ e. (e ≡ LayerError.NoMemory) ⊎
-        RefusesCells options.now (cells_of drawing.now.layer) (cells_of drawing.now.keep) e) }
+        FirstOf (cells_reasons options.now (cells_of drawing.now.layer)
+        (cells_of drawing.now.keep)) e) }
 {
     tiles_share_out(&drawing.layer);
     let shapes = shapes(alloc, tiles)?;

@@ -15,6 +15,6 @@ mod reading;
 
 pub use drawing::{Drawing, read_drawing};
 pub use error::LayerError;
-pub use laws::one_layer;
+pub use laws::{layers_may_be_moved, layers_share_out, one_layer};
 pub use laying::{Layer, layer_of};
 pub use reading::{layer_of_commands, read_layer};

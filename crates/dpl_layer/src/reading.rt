@@ -3,7 +3,8 @@ ghost use Rattle.std.specs.Prelude.{◌≡◌, ◌⊎◌, ◌≤◌, length, IfO
 ghost use Rattle.dpl_limits.specs.declared.TheConstants.{MOST_LAYOUT_BYTES};
 ghost use Rattle.dpl_lex.specs.Cutting.{commands_of};
 ghost use Rattle.dpl_layer.specs.Layers.{IsLayerOfText};
-ghost use Rattle.dpl_layer.specs.Refusals.{RefusesLayer};
+ghost use Rattle.dpl_layer.specs.Reasons.{FirstOf};
+ghost use Rattle.dpl_layer.specs.Refusals.{layer_reasons};
 
 use crate::drawing::read_drawing;
 use crate::error::LayerError;
@@ -20,8 +21,8 @@ pub fn read_layer(alloc: Global, text: &[u8], options: &Options) -> Result<Layer
     requires { length text.now ≤ MOST_LAYOUT_BYTES }
     ensures layer { IfOk result (λ l. IsLayerOfText options.now text.now l.fragments l.net) }
     ensures refused { (e : LayerError) → result ≡ Err e →
-        (e ≡ LayerError.NoMemory) ⊎ RefusesLayer options.now text.now e }
-    ensures exact { (e : LayerError) → RefusesLayer options.now text.now e →
+        (e ≡ LayerError.NoMemory) ⊎ FirstOf (layer_reasons options.now text.now) e }
+    ensures exact { (e : LayerError) → FirstOf (layer_reasons options.now text.now) e →
         (result ≡ Err e) ⊎ (result ≡ Err LayerError.NoMemory) }
 {
     let Ok(commands) = commands(alloc, text) else {
@@ -41,8 +42,8 @@ pub fn layer_of_commands(
     requires commands { commands.now ≡ commands_of text.now }
     ensures layer { IfOk result (λ l. IsLayerOfText options.now text.now l.fragments l.net) }
     ensures refused { (e : LayerError) → result ≡ Err e →
-        (e ≡ LayerError.NoMemory) ⊎ RefusesLayer options.now text.now e }
-    ensures exact { (e : LayerError) → RefusesLayer options.now text.now e →
+        (e ≡ LayerError.NoMemory) ⊎ FirstOf (layer_reasons options.now text.now) e }
+    ensures exact { (e : LayerError) → FirstOf (layer_reasons options.now text.now) e →
         (result ≡ Err e) ⊎ (result ≡ Err LayerError.NoMemory) }
 {
     let drawing = read_drawing(alloc, text, commands, options)?;

@@ -1,6 +1,6 @@
 -- The lines of a name, of the masks, and lines that are always the same.
-use Rattle.std.proofs.Common.{arith, ◌≡◌, ℕ, ◌-◌, cond, Bool, true, false, ◌&&◌, ◌==◌, nat_le, List, [], ◌∷◌, ◌++◌}
-use Rattle.std.proofs.Common.{length, map, take, replicate, refl, sym, ap, ◌∙◌, length-append, Option, None, Some}
+use Rattle.std.proofs.Common.{arith, ◌≡◌, ℕ, ◌-◌, cond, Bool, true, false, ◌&&◌, ◌==◌, nat_le, List, [], ◌∷◌}
+use Rattle.std.proofs.Common.{length, map, replicate, refl, sym, ap, ◌∙◌, length-append, Option, None, Some}
 use Rattle.std.proofs.Common.{codes}
 use Rattle.std.specs.Str.{bytes_eq}
 use Rattle.std.proofs.lemmas.Option.{cond_some}
@@ -15,18 +15,15 @@ use Rattle.dpl_options.specs.Options.{IsSplitLayer}
 use Rattle.dpl_report.specs.Reading.{if_written, between, layer_from, item_layer, item_keep, item_version, colours_from, of_length, item_masks, item_line}
 use Rattle.dpl_report.proofs.ItemLemmas.{bind_some, if_written_some, if_written_same}
 
-between_seam : (middle end : List ℕ) (n : ℕ) → n ≡ length middle → take n (middle ++ end) ≡ middle
-between_seam middle end n e = take_at middle end n (sym e)
-
 between-layer : (name : List ℕ) → between 7 (layer_line name) ≡ name
-between-layer name = between_seam name (codes ");\n") (length (layer_line name) - 10) (omega (arith, length-append name (codes ");\n")))
+between-layer name = take_at name (codes ");\n") (length (layer_line name) - 10) (omega (arith, length-append name (codes ");\n")))
 
 between-masks : (colours : List Bool) → between 7 (masks_line colours) ≡ map letter colours
-between-masks colours = between_seam (map letter colours) (codes ");\n") (length (masks_line colours) - 10)
+between-masks colours = take_at (map letter colours) (codes ");\n") (length (masks_line colours) - 10)
     (omega (arith, length-append (map letter colours) (codes ");\n")))
 
 between-keep : (name : List ℕ) → between 6 (keep_line name) ≡ name
-between-keep name = between_seam name (codes ");\n") (length (keep_line name) - 9) (omega (arith, length-append name (codes ");\n")))
+between-keep name = take_at name (codes ");\n") (length (keep_line name) - 9) (omega (arith, length-append name (codes ");\n")))
 
 layer_fits : (name found : List ℕ) → layer_from name ≡ Some found → IsSplitLayer found
 layer_fits name found e =

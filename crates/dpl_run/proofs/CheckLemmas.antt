@@ -2,13 +2,13 @@
 use Rattle.std.proofs.Common.{◌≡◌, ℕ, List, ◌++◌, Option, Some, true, refl, ap, inl}
 use Rattle.std.specs.Prelude.{Ok}
 use Rattle.dpl_options.specs.Options.{PlainOptions, AreOptions}
-use Rattle.dpl_layer.specs.Refusals.{RefusesLayer}
+use Rattle.dpl_layer.specs.Reasons.{FirstOf}
+use Rattle.dpl_layer.specs.Refusals.{layer_reasons}
 use Rattle.dpl_layer.proofs.RefusalLemmas.{layer_kind, never_memory, one_text_refusal}
 use Rattle.dpl_check.specs.declared.verdicts.Verdict.{Verdict}
 use Rattle.dpl_check.specs.declared.verdicts.Verdict.TheVariants.{Yes, No}
-use Rattle.dpl_check.specs.Checked.{HasMasksOf}
-use Rattle.dpl_check.proofs.GoodMaskLemmas.{yes_masks}
-use Rattle.dpl_check.proofs.OnceLemmas.{verdict_not_refused, one_verdict, yes_bounds}
+use Rattle.dpl_check.proofs.GoodMaskLemmas.{yes_accepts}
+use Rattle.dpl_check.proofs.OnceLemmas.{verdict_not_refused, one_verdict}
 use Rattle.dpl_words.specs.Commands.{PlainCommand}
 use Rattle.dpl_run.specs.declared.status.Status.{Status}
 use Rattle.dpl_run.specs.declared.status.Status.TheVariants.{Done, Rejected}
@@ -21,7 +21,8 @@ use Rattle.dpl_run.proofs.EndLemmas.{AllEnd, error_ends, refused_not_done}
 
 -- what is due for check ends the work of a command that judges
 pub check_ends : (c : PlainCommand) → judges c ≡ true → (o : PlainOptions) (text report : List ℕ) → AllEnd c (IsCheckDue o text report)
-check_ends c judging o text report _ _ (refused e r) = error_ends c (RefusesLayer o text) (never_memory o text) (λ k n p. inl (layer_kind o text k n p)) e r
+check_ends c judging o text report _ _ (refused e r) =
+    error_ends c (FirstOf (layer_reasons o text)) (never_memory o text) (λ k n p. inl (layer_kind o text k n p)) e r
 check_ends c judging o text report _ _ (rejected reason place found wanted v) = (judging, refl)
 check_ends c judging o text report _ _ (accepted cost bound v) = tt
 
@@ -46,20 +47,12 @@ one_check o text report _ _ _ _ (accepted cost bound v) (rejected reason place f
     ap status_of_verdict (one_verdict o text report (Yes cost bound) (No reason place found wanted) v w)
 one_check o text report _ _ _ _ (accepted cost bound v) (accepted cost' bound' w) = refl
 
--- ---- what an accepted report means for every other pair of masks
+-- ---- what an accepted report means
 
--- where check is done, what was written is a cost and a bound of every pair of masks
-pub accepted_bound : (o : PlainOptions) (text report taken : List ℕ) (now : Option (List ℕ)) (a : Status) (x : List ℕ) →
-    IsCheckDue o text report a x → a ≡ Done → now ≡ Some (taken ++ x) → WritesBound o text taken now
-accepted_bound o text report taken now _ _ (refused e r) d is = absurd (refused_not_done e d)
-accepted_bound o text report taken now _ _ (rejected reason place found wanted v) d is = absurd (cc)
-accepted_bound o text report taken now _ _ (accepted cost bound v) d is = (cost, bound, is, yes_bounds o text report (Ok (Yes cost bound)) v cost bound refl)
-
--- ---- the masks of an accepted report
-
--- where check is done, the masks of the report are those of the layer
-pub accepted_masks : (o : PlainOptions) (text report : List ℕ) (a : Status) (x : List ℕ) → AreOptions o →
-    IsCheckDue o text report a x → a ≡ Done → HasMasksOf o text report
-accepted_masks o text report _ _ ranges (refused e r) d = absurd (refused_not_done e d)
-accepted_masks o text report _ _ ranges (rejected reason place found wanted v) d = absurd (cc)
-accepted_masks o text report _ _ ranges (accepted cost bound v) d = yes_masks o text report (Ok (Yes cost bound)) ranges v cost bound refl
+-- where check is done, what was written is a cost and a bound with which the report is accepted
+pub accepted_bound : (o : PlainOptions) (text report taken : List ℕ) (now : Option (List ℕ)) (a : Status) (x : List ℕ) → AreOptions o →
+    IsCheckDue o text report a x → a ≡ Done → now ≡ Some (taken ++ x) → WritesBound o text report taken now
+accepted_bound o text report taken now _ _ ranges (refused e r) d is = absurd (refused_not_done e d)
+accepted_bound o text report taken now _ _ ranges (rejected reason place found wanted v) d is = absurd (cc)
+accepted_bound o text report taken now _ _ ranges (accepted cost bound v) d is =
+    (cost, bound, is, yes_accepts o text report (Ok (Yes cost bound)) ranges v cost bound refl)

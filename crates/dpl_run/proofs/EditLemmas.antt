@@ -3,21 +3,22 @@ use Rattle.std.proofs.Common.{arith, ◌≡◌, ◌⊎◌, ◌∙◌, ◌+◌, �
 use Rattle.std.specs.Prelude.{Result, Ok, Err}
 use Rattle.dpl_cell.specs.declared.rect.Rect.{Rect}
 use Rattle.dpl_cell.specs.declared.layout.Primitive.{Primitive}
-use Rattle.dpl_cell.specs.Outlines.{Outline}
-use Rattle.dpl_cif.specs.Reading.Reading.{Good}
 use Rattle.dpl_options.specs.Options.{PlainOptions, PlainWeights}
 use Rattle.dpl_layer.specs.declared.drawing.Drawing.{Drawing}
-use Rattle.dpl_layer.specs.Drawings.{Cells, IsDrawingOf}
-use Rattle.dpl_layer.specs.Refusals.{IsOverLimit, RefusesDrawing}
-use Rattle.dpl_layer.proofs.RefusalLemmas.{layer_kind, one_drawing_refusal, good_drawing_free}
+use Rattle.dpl_layer.specs.declared.error.LayerError.{LayerError}
+use Rattle.dpl_layer.specs.declared.error.LayerError.TheVariants as refusal
+use Rattle.dpl_layer.specs.Reasons.{FirstOf, NoneOf}
+use Rattle.dpl_layer.specs.Drawings.{IsDrawingOf, drawing_reasons}
+use Rattle.dpl_layer.proofs.ReasonLemmas.{IsOnce, first_has}
+use Rattle.dpl_layer.proofs.RefusalLemmas.{HasKind, drawing_kinds, one_drawing_refusal}
 use Rattle.dpl_edit.specs.declared.placed.Placed.{Placed}
 use Rattle.dpl_edit.specs.declared.errors.EditError.{EditError}
 use Rattle.dpl_edit.specs.declared.errors.EditError.TheVariants as edit
 use Rattle.dpl_edit.specs.declared.errors.RemoveError.{RemoveError}
 use Rattle.dpl_edit.specs.declared.errors.RemoveError.TheVariants as removal
-use Rattle.dpl_edit.specs.Contents.{content, boxes_without, HasBox, PassesLimit, Refuses}
+use Rattle.dpl_edit.specs.Contents.{content, boxes_without, content_reasons, HasBox, Refuses}
 use Rattle.dpl_edit.specs.Sessions.{State, IsBegun, IsEdited, RefusesRemoval}
-use Rattle.dpl_edit.proofs.RefusalLemmas.{one_refusal}
+use Rattle.dpl_edit.proofs.RefusalLemmas.{content_kind, content_once}
 use Rattle.dpl_words.specs.Commands.{PlainCommand}
 use Rattle.dpl_words.specs.declared.edits.Line.{Line}
 use Rattle.dpl_words.specs.declared.edits.Line.TheVariants.{Add, Remove}
@@ -28,29 +29,30 @@ use Rattle.dpl_words.proofs.ScriptLemmas.{bad_once, script_free}
 use Rattle.dpl_run.specs.declared.status.Status.{Status}
 use Rattle.dpl_run.specs.declared.status.Status.TheVariants.{Done, Rejected, Usage, Layout, Limit, Script, ReadFault, WriteFault, NoMemory}
 use Rattle.dpl_run.specs.Inputs.{colours, follows}
-use Rattle.dpl_run.specs.due.Edit.{Edits, begun_with, edits_of, edited, IsOver, PassesNone, Reports, StopsAt, IsTaken, AreEditsDue, IsScriptDue, IsEditDue}
+use Rattle.dpl_run.specs.due.Edit.{Edits, begun_with, edits_of, edited, edits_reasons, Reports, StopsAt, IsTaken, AreEditsDue, IsScriptDue, IsEditDue}
 use Rattle.dpl_run.specs.due.Edit.StopsAt.{missing, over}
 use Rattle.dpl_run.specs.due.Edit.IsScriptDue.{bad_line, applied}
 use Rattle.dpl_run.specs.due.Edit.IsEditDue.{unread, too_much, begun}
 use Rattle.dpl_run.specs.Errors.{status_of, of_edit, of_removal, of_script}
 use Rattle.dpl_run.specs.Telling.{IsWorked}
-use Rattle.dpl_run.proofs.EndLemmas.{AllEnd, Ends, IsWorkLimit, error_ends}
+use Rattle.dpl_run.proofs.EndLemmas.{AllEnd, Ends, error_ends}
+use Rattle.dpl_run.proofs.MadeLemmas.{work_limit}
 use Rattle.dpl_run.proofs.LineLemmas.{one_script, prims_same}
 
 -- ---- one answer at most
 
-one_over : (s : Edits) (k n l m : ℕ) → IsOver s k n → IsOver s l m → Limit k n ≡ Limit l m
-one_over s k n l m a b = ap of_edit (one_refusal s.options (content s.begun s.boxes) s.keep (edit.Limit k n) (edit.Limit l m) a b)
+one_over : (s : Edits) → IsOnce (FirstOf (edits_reasons s))
+one_over s = content_once s.options (content s.begun s.boxes) s.keep
 
 one_stop : (s : Edits) (n : ℕ) (l : Line) (a b : Status) (x y : List ℕ) → StopsAt s n l a x → StopsAt s n l b y → a ≡ b
 one_stop s n l _ _ _ _ (missing p) (missing q) = refl
-one_stop s n l _ _ _ _ (missing p) (over k c there q) = absurd (there p)
-one_stop s n l _ _ _ _ (over k c there p) (missing q) = absurd (there q)
-one_stop s n l _ _ _ _ (over k c there p) (over j d here q) = one_over (edited l s) k c j d p q
+one_stop s n l _ _ _ _ (missing p) (over e there q) = absurd (there p)
+one_stop s n l _ _ _ _ (over e there p) (missing q) = absurd (there q)
+one_stop s n l _ _ _ _ (over e there p) (over f here q) = ap status_of (one_over (edited l s) e f p q)
 
 stops_alone : (s : Edits) (n : ℕ) (l : Line) (a : Status) (x : List ℕ) → StopsAt s n l a x → IsTaken s l → ⊥
 stops_alone s n l _ _ (missing p) g = g.there p
-stops_alone s n l _ _ (over k c there p) g = g.within k c p
+stops_alone s n l _ _ (over e there p) g = g.within e p
 
 one_edits : (ls : List Line) (s : Edits) (n : ℕ) (a b : Status) (x y : List ℕ) → AreEditsDue s n ls a x → AreEditsDue s n ls b y → a ≡ b
 one_edits [] s n a b x y p q = p.0 ∙ sym q.0
@@ -66,48 +68,40 @@ one_script_due s text _ _ _ _ (applied ls is a x d) (bad_line n q) = absurd (scr
 one_script_due s text _ _ _ _ (applied ls is a x d) (applied ms also b y g) =
     one_edits ls s 1 a b x y d (subst (λ z. AreEditsDue s 1 z b y) (sym (one_script text ls ms is also)) g)
 
-good_same : (xs ys : List Outline) → Good xs ≡ Good ys → xs ≡ ys
-good_same xs ys e = cc
-
 same_start : (o : PlainOptions) (text : List ℕ) (d e : Drawing) → IsDrawingOf o text d → IsDrawingOf o text e → begun_with o e ≡ begun_with o d
 same_start o text d e a b =
-    let l : e.layer.prims ≡ d.layer.prims = prims_same e.layer.prims d.layer.prims (good_same _ _ (sym b.layer ∙ a.layer)) in
-    let k : e.keep.prims ≡ d.keep.prims = prims_same e.keep.prims d.keep.prims (good_same _ _ (sym b.keep ∙ a.keep)) in
+    let l : e.layer.prims ≡ d.layer.prims = prims_same e.layer.prims d.layer.prims (b.layer ∙ sym a.layer) in
+    let k : e.keep.prims ≡ d.keep.prims = prims_same e.keep.prims d.keep.prims (b.keep ∙ sym a.keep) in
     rw (l, k) refl
 
 -- at most one status is due for edit
 pub one_edit : (o : PlainOptions) (text second : List ℕ) (a b : Status) (x y : List ℕ) → IsEditDue o text second a x → IsEditDue o text second b y → a ≡ b
 one_edit o text second _ _ _ _ (unread e r) (unread f q) = ap status_of (one_drawing_refusal o text e f r q)
-one_edit o text second _ _ _ _ (unread e r) (too_much d is k n p) = absurd (good_drawing_free o text d is e r)
-one_edit o text second _ _ _ _ (unread e r) (begun d is w b y due) = absurd (good_drawing_free o text d is e r)
-one_edit o text second _ _ _ _ (too_much d is k n p) (unread f q) = absurd (good_drawing_free o text d is f q)
-one_edit o text second _ _ _ _ (too_much d is k n p) (too_much g also l m q) =
-    one_over (begun_with o d) k n l m p (subst (λ z. IsOver z l m) (same_start o text d g is also) q)
-one_edit o text second _ _ _ _ (too_much d is k n p) (begun g also w b y due) =
-    absurd (subst PassesNone (same_start o text d g is also) w k n p)
-one_edit o text second _ _ _ _ (begun d is w a x due) (unread f q) = absurd (good_drawing_free o text d is f q)
-one_edit o text second _ _ _ _ (begun d is w a x due) (too_much g also l m q) =
-    absurd (w l m (subst (λ z. IsOver z l m) (same_start o text d g is also) q))
+one_edit o text second _ _ _ _ (unread e r) (too_much d is f p) = absurd (is.taken e r)
+one_edit o text second _ _ _ _ (unread e r) (begun d is w b y due) = absurd (is.taken e r)
+one_edit o text second _ _ _ _ (too_much d is e p) (unread f q) = absurd (is.taken f q)
+one_edit o text second _ _ _ _ (too_much d is e p) (too_much g also f q) =
+    ap status_of (one_over (begun_with o d) e f p (subst (λ z. FirstOf (edits_reasons z) f) (same_start o text d g is also) q))
+one_edit o text second _ _ _ _ (too_much d is e p) (begun g also w b y due) =
+    absurd (subst (λ z. NoneOf (edits_reasons z)) (same_start o text d g is also) w e p)
+one_edit o text second _ _ _ _ (begun d is w a x due) (unread f q) = absurd (is.taken f q)
+one_edit o text second _ _ _ _ (begun d is w a x due) (too_much g also f q) =
+    absurd (w f (subst (λ z. FirstOf (edits_reasons z) f) (same_start o text d g is also) q))
 one_edit o text second _ _ _ _ (begun d is w a x due) (begun g also v b y other) =
     one_script_due (begun_with o d) second a b x y due (subst (λ z. IsScriptDue z second b y) (same_start o text d g is also) other)
 
 -- ---- the end of the work
 
-over_kind : (o : PlainOptions) (cells kept : Cells) (k c : ℕ) → IsOverLimit o cells kept k c → (2 ≤ k) × (k ≤ 7)
-over_kind o cells kept k c (inl p) = (omega (arith, p.0), omega (arith, p.0))
-over_kind o cells kept k c (inr (inl p)) = (omega (arith, p.0), omega (arith, p.0))
-over_kind o cells kept k c (inr (inr (inl p))) = (omega (arith, p.0), omega (arith, p.0))
-over_kind o cells kept k c (inr (inr (inr p))) = (omega (arith, p.0), omega (arith, p.0))
-
-over_limit : (c : PlainCommand) → colours c ≡ true → (o : PlainOptions) (prims keep : List Primitive) (k n : ℕ) → PassesLimit o prims keep k n → IsWorkLimit c k
-over_limit c colouring o prims keep k n (inl (many, kind, count)) = inl (omega (arith, kind), omega (arith, kind))
-over_limit c colouring o prims keep k n (inr (few, inl r)) = inl (over_kind o _ _ k n r)
-over_limit c colouring o prims keep k n (inr (few, inr h)) = inr (h.odd.0, colouring)
+over_ends : (c : PlainCommand) → colours c ≡ true → (s : Edits) (e : LayerError) → FirstOf (edits_reasons s) e → Ends c (status_of e) []
+over_ends c colouring s e r = by_kind e (content_kind s.options (content s.begun s.boxes) s.keep e r) where
+  by_kind : (e : LayerError) → HasKind ⊥ 8 e → Ends c (status_of e) []
+  by_kind (refusal.Limit k n) h = (work_limit c colouring k h, refl)
+  by_kind (refusal.Layout command what) h = absurd h
+  by_kind refusal.NoMemory h = absurd h
 
 stop_ends : (c : PlainCommand) → colours c ≡ true → follows c ≡ true → (s : Edits) (n : ℕ) (l : Line) (a : Status) (x : List ℕ) → StopsAt s n l a x → Ends c a x
 stop_ends c colouring following s n l _ _ (missing p) = (following, refl)
-stop_ends c colouring following s n l _ _ (over k m there p) =
-    (over_limit c colouring (edited l s).options (content (edited l s).begun (edited l s).boxes) (edited l s).keep k m p, refl)
+stop_ends c colouring following s n l _ _ (over e there p) = over_ends c colouring (edited l s) e p
 
 edits_end : (c : PlainCommand) → colours c ≡ true → follows c ≡ true →
     (ls : List Line) (s : Edits) (n : ℕ) (a : Status) (x : List ℕ) → AreEditsDue s n ls a x → Ends c a x
@@ -123,9 +117,10 @@ script_ends c colouring following s text _ _ (applied ls is a x d) = edits_end c
 -- what is due for edit ends the work of a command that colours and follows a script
 pub edit_ends : (c : PlainCommand) → colours c ≡ true → follows c ≡ true → (o : PlainOptions) (text second : List ℕ) → AllEnd c (IsEditDue o text second)
 edit_ends c colouring following o text second _ _ (unread e r) =
-    error_ends c (RefusesDrawing o text) (λ p. p) (λ k n p. inl (layer_kind o text k n (inl p))) e r
-edit_ends c colouring following o text second _ _ (too_much d is k n p) =
-    (over_limit c colouring o (content d.layer.prims []) d.keep.prims k n p, refl)
+    let K : (f : LayerError) → FirstOf (drawing_reasons o text) f → HasKind (Unit {0}) 7 f =
+    λ f q. first_has (HasKind (Unit {0}) 7) (drawing_reasons o text) f (drawing_kinds 7 (omega arith) o text) q in
+    error_ends c (FirstOf (drawing_reasons o text)) (K refusal.NoMemory) (λ k n p. inl (K (refusal.Limit k n) p)) e r
+edit_ends c colouring following o text second _ _ (too_much d is e p) = over_ends c colouring (begun_with o d) e p
 edit_ends c colouring following o text second _ _ (begun d is w a x due) = script_ends c colouring following (begun_with o d) second a x due
 
 -- ---- a session
@@ -139,17 +134,25 @@ of_edited old new boxes count e = rw (e.options, e.begun, e.keep, e.boxes_are, e
 pub of_begun : (o : PlainOptions) (d : Drawing) (s : State) → IsBegun o d s → edits_of s ≡ begun_with o d
 of_begun o d s b = rw (b.options, b.begun, b.keep, b.boxes, b.count) refl
 
--- a content that was taken passes no limit
+-- a content of which no limit refuses it is not refused
+limits_free : (o : PlainOptions) (prims keep : List Primitive) → ((k n : ℕ) → ¬ Refuses o prims keep (edit.Limit k n)) → NoneOf (content_reasons o prims keep)
+limits_free o prims keep none e r = by_kind e r (content_kind o prims keep e r) where
+  by_kind : (e : LayerError) → FirstOf (content_reasons o prims keep) e → HasKind ⊥ 8 e → ⊥
+  by_kind (refusal.Limit k n) q h = none k n q
+  by_kind (refusal.Layout command what) q h = h
+  by_kind refusal.NoMemory q h = h
+
+-- a content that was taken is not refused
 taken_within : {T : Type 0} (o : PlainOptions) (prims keep : List Primitive) (result : Result T EditError) (v : T) → result ≡ Ok v
-    → ((e : EditError) → Refuses o prims keep e → (result ≡ Err e) ⊎ (result ≡ Err edit.NoMemory)) → (k n : ℕ) → ¬ PassesLimit o prims keep k n
-taken_within o prims keep result v is exact k n p = elim (exact (edit.Limit k n) p) [
+    → ((e : EditError) → Refuses o prims keep e → (result ≡ Err e) ⊎ (result ≡ Err edit.NoMemory)) → NoneOf (content_reasons o prims keep)
+taken_within o prims keep result v is exact = limits_free o prims keep (λ k n p. elim (exact (edit.Limit k n) p) [
   | inl a ↦ absurd (cc)
   | inr a ↦ absurd (cc)
-]
+])
 
 -- a session that was begun passes no limit
 pub begun_within : {T : Type 0} (o : PlainOptions) (d : Drawing) (result : Result T EditError) (v : T) → result ≡ Ok v
-    → ((e : EditError) → Refuses o d.layer.prims d.keep.prims e → (result ≡ Err e) ⊎ (result ≡ Err edit.NoMemory)) → PassesNone (begun_with o d)
+    → ((e : EditError) → Refuses o d.layer.prims d.keep.prims e → (result ≡ Err e) ⊎ (result ≡ Err edit.NoMemory)) → NoneOf (edits_reasons (begun_with o d))
 begun_within o d result v is exact =
     taken_within o (d.layer.prims ++ []) d.keep.prims result v is
     (subst (λ z. (e : EditError) → Refuses o z d.keep.prims e → (result ≡ Err e) ⊎ (result ≡ Err edit.NoMemory))
@@ -171,15 +174,16 @@ pub add_stops : (s : State) (rect : Rect) (e : EditError) (status : Status) → 
     → (n : ℕ) → (status ≡ NoMemory) ⊎ StopsAt (edits_of s) n (Add rect) status []
 add_stops s rect (edit.Limit k c) status is (inl m) n = absurd (cc)
 add_stops s rect edit.NoMemory status is h n = inl is
-add_stops s rect (edit.Limit k c) status is (inr r) n = inr (subst (λ z. StopsAt (edits_of s) n (Add rect) z []) (sym is) (over k c (λ p. p) r))
+add_stops s rect (edit.Limit k c) status is (inr r) n = inr (subst (λ z. StopsAt (edits_of s) n (Add rect) z []) (sym is) (over (refusal.Limit k c) (λ p. p) r))
 
 removed_within : {T : Type 0} (s : State) (number : ℕ) (result : Result T RemoveError) (v : T) → result ≡ Ok v → HasBox number s.boxes
-    → ((e : RemoveError) → RefusesRemoval s number e → (result ≡ Err e) ⊎ (result ≡ Err removal.NoMemory)) → (k n : ℕ) →
-    ¬ PassesLimit s.options (content s.begun (boxes_without number s.boxes)) s.keep k n
-removed_within s number result v is there exact k n p = elim (exact (removal.Limit k n) (there, p)) [
-  | inl a ↦ absurd (cc)
-  | inr a ↦ absurd (cc)
-]
+    → ((e : RemoveError) → RefusesRemoval s number e → (result ≡ Err e) ⊎ (result ≡ Err removal.NoMemory)) →
+    NoneOf (content_reasons s.options (content s.begun (boxes_without number s.boxes)) s.keep)
+removed_within s number result v is there exact =
+    limits_free s.options (content s.begun (boxes_without number s.boxes)) s.keep (λ k n p. elim (exact (removal.Limit k n) (there, p)) [
+      | inl a ↦ absurd (cc)
+      | inr a ↦ absurd (cc)
+    ])
 
 -- a line is taken where its box was there and was removed
 pub removed_goes_on : {T : Type 0} (s : State) (number : ℕ) (result : Result T RemoveError) (v : T) → result ≡ Ok v → HasBox number s.boxes
@@ -195,7 +199,7 @@ removal_stops s number n (removal.Limit k c) status is (inl h) = absurd (cc)
 removal_stops s number n removal.NoMemory status is h = inl is
 removal_stops s number n (removal.NoBox m) status is (inr r) = inr (subst (λ z. StopsAt (edits_of s) n (Remove number) z []) (sym is) (missing r.1))
 removal_stops s number n (removal.Limit k c) status is (inr r) =
-    inr (subst (λ z. StopsAt (edits_of s) n (Remove number) z []) (sym is) (over k c (λ p. p r.0) r.1))
+    inr (subst (λ z. StopsAt (edits_of s) n (Remove number) z []) (sym is) (over (refusal.Limit k c) (λ p. p r.0) r.1))
 
 -- ---- the lines in order
 
@@ -269,7 +273,7 @@ pub begun_worked : {T : Type 0} (o p : PlainOptions) (text second : List ℕ) (d
     → result ≡ Ok v → ((e : EditError) → Refuses p d.layer.prims d.keep.prims e → (result ≡ Err e) ⊎ (result ≡ Err edit.NoMemory)) → IsBegun p d s
     → IsWorked (IsScriptDue (edits_of s) second) a x → IsWorked (IsEditDue o text second) a x
 begun_worked o p text second d result v s a x same is ok exact b w =
-    let within : PassesNone (begun_with o d) = subst (λ z. PassesNone (begun_with z d)) same (begun_within p d result v ok exact) in
+    let within : NoneOf (edits_reasons (begun_with o d)) = subst (λ z. NoneOf (edits_reasons (begun_with z d))) same (begun_within p d result v ok exact) in
     let begins : IsBegun o d s = subst (λ z. IsBegun z d s) same b in
     worked_as (IsScriptDue (edits_of s) second) (IsEditDue o text second)
     (λ c y due. begun d is within c y (subst (λ z. IsScriptDue z second c y) (of_begun o d s begins) due)) a x w
@@ -281,7 +285,7 @@ too_much_due o text second d (edit.Limit k n) a x is (inl m) e none = absurd (cc
 too_much_due o text second d edit.NoMemory a x is h e none = worked_bare_at (IsEditDue o text second) NoMemory a x (inl refl) e none
 too_much_due o text second d (edit.Limit k n) a x is (inr r) e none =
     worked_bare_at (IsEditDue o text second) (Limit k n) a x
-    (inr (too_much d is k n (subst (λ z. PassesLimit o z d.keep.prims k n) (sym (append-nil d.layer.prims)) r))) e
+    (inr (too_much d is (refusal.Limit k n) (subst (λ z. Refuses o z d.keep.prims (edit.Limit k n)) (sym (append-nil d.layer.prims)) r))) e
     none
 
 -- where the drawing is refused, that status ends the work

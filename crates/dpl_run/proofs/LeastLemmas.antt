@@ -3,18 +3,21 @@ use Rattle.std.proofs.Common.{◌≡◌, ◌∙◌, ℕ, List, [], ◌++◌, Opt
 use Rattle.std.specs.Prelude.{Ok}
 use Rattle.std.specs.Io.KnownBytes.{Appends}
 use Rattle.dpl_options.specs.Options.{PlainOptions, AreOptions}
-use Rattle.dpl_check.specs.Checked.{HasMasksOf}
+use Rattle.dpl_layer.specs.Reasons.{FirstOf}
+use Rattle.dpl_layer.proofs.TextLemmas.{on_layer}
+use Rattle.dpl_core.specs.Refusals.{split_reasons}
+use Rattle.dpl_core.specs.Reports.{IsBalancedOfCells, IsBalancedSplit, IsReportOfCells, IsSplit}
 use Rattle.dpl_ext.specs.Device.{Texts}
 use Rattle.dpl_words.specs.Commands.{PlainCommand, split, check, balance, command_of}
 use Rattle.dpl_run.specs.declared.status.Status.{Status}
 use Rattle.dpl_run.specs.declared.status.Status.TheVariants.{Done}
 use Rattle.dpl_run.specs.Answer.{Answers, DueOf, IsDue, IsDueFor, IsDueOf}
-use Rattle.dpl_run.specs.Answer.IsDueFor.{long_layout, long_second, carried_out}
+use Rattle.dpl_run.specs.Answer.IsDueFor.{too_long, carried_out}
 use Rattle.dpl_run.specs.Consequences.{AskForSplit, WritesBound, WritesLeast}
 use Rattle.dpl_run.specs.Devices.{AreTold}
-use Rattle.dpl_run.proofs.SplitLemmas.{split_least}
-use Rattle.dpl_run.proofs.BalanceLemmas.{balance_least}
-use Rattle.dpl_run.proofs.CheckLemmas.{accepted_bound, accepted_masks}
+use Rattle.dpl_run.proofs.EndLemmas.{refused_not_done}
+use Rattle.dpl_run.proofs.MadeLemmas.{made_done}
+use Rattle.dpl_run.proofs.CheckLemmas.{accepted_bound}
 
 -- ---- what was written where the run is done
 
@@ -24,9 +27,8 @@ appended (Some x) None taken output e a = absurd a
 appended (Some x) (Some y) taken output e a = let same : x ≡ taken = cc in ap Some (a ∙ ap (λ z. z ++ output) same)
 
 due_for_done : (c : PlainCommand) (text second : List ℕ) (a : Status) (x : List ℕ) → IsDueFor c text second a x → a ≡ Done → DueOf c text second Done x
-due_for_done c text second _ _ (long_layout r l) e = absurd (cc)
-due_for_done c text second _ _ (long_second o is s l) e = absurd (cc)
-due_for_done c text second _ _ (carried_out a x s l d) e = subst (λ z. DueOf c text second z x) e d
+due_for_done c text second _ _ (too_long e r) d = absurd (refused_not_done e d)
+due_for_done c text second _ _ (carried_out a x none d) e = subst (λ z. DueOf c text second z x) e d
 
 -- the output of a command that is done
 record Written (c : PlainCommand) (text second taken : List ℕ) (now : Option (List ℕ)) : Type 0 where
@@ -44,6 +46,14 @@ written words c text second taken before now result e answer done told =
 
 -- ---- a split
 
+-- a split whose masks cover about the same area is a split
+as_split : (o : PlainOptions) (text output : List ℕ) → IsBalancedSplit o text output → IsSplit o text output
+as_split o text output p = record {
+  report = p.report;
+  has = on_layer o text (IsBalancedOfCells o p.report) (IsReportOfCells o p.report) (λ cells kept c. c.of_cells) p.has;
+  is = p.is;
+}
+
 -- where a split is done, every pair of masks costs at least half the written bound and breaks no less of kept edges
 pub writes_least : (words : List (List ℕ)) (left : Option (List ℕ)) (texts : Option Texts) (before now : Option (List ℕ)) (result : Status)
     → ((text second : List ℕ) → AreTold (command_of words) left texts text second → Answers (IsDue words text second) before now result)
@@ -52,31 +62,25 @@ pub writes_least : (words : List (List ℕ)) (left : Option (List ℕ)) (texts :
 writes_least words left texts before now result answer o text taken (inl e) told had done =
     let w = written words (split o) text [] taken before now result e
     (answer text [] (subst (λ z. AreTold z left texts text []) (sym e) (told, tt))) done had in
-    (w.output, w.is, split_least o text Done w.output w.due refl)
+    (w.output, w.is, made_done (FirstOf (split_reasons o text)) (IsSplit o text) Done w.output w.due refl)
 writes_least words left texts before now result answer o text taken (inr e) told had done =
     let w = written words (balance o) text [] taken before now result e
-    (answer text [] (subst (λ z. AreTold z left texts text []) (sym e) (told, tt))) done had in
-    (w.output, w.is, balance_least o text Done w.output w.due refl)
+    (answer text [] (subst (λ z. AreTold z left texts text []) (sym e) (told, tt))) done had in (
+      w.output,
+      w.is,
+      as_split o text w.output
+          (made_done (FirstOf (split_reasons o text)) (IsBalancedSplit o text) Done w.output w.due refl),
+    )
 
 -- ---- an accepted report
 
--- where a check is done, what was written is a cost and a bound of every pair of masks
+-- where a check is done, what was written is a cost and a bound with which the report is accepted
 pub writes_bound : (words : List (List ℕ)) (left : Option (List ℕ)) (texts : Option Texts) (before now : Option (List ℕ)) (result : Status)
-    → ((text second : List ℕ) → AreTold (command_of words) left texts text second → Answers (IsDue words text second) before now result)
-    → (o : PlainOptions) (name text report taken : List ℕ) → command_of words ≡ Ok (check o name) →
-    AreTold (command_of words) left texts text report → before ≡ Some taken → result ≡ Done
-    → WritesBound o text taken now
-writes_bound words left texts before now result answer o name text report taken e told had done =
-    let w = written words (check o name) text report taken before now result e (answer text report told) done had in
-    accepted_bound o text report taken now Done w.output w.due refl w.is
-
--- where a check is done, the masks of the report are those of the layer
-pub check_masks : (words : List (List ℕ)) (left : Option (List ℕ)) (texts : Option Texts) (before now : Option (List ℕ)) (result : Status)
     → ((text second : List ℕ) → AreTold (command_of words) left texts text second → Answers (IsDue words text second) before now result)
     → ((o : PlainOptions) (name : List ℕ) → result ≡ Done → command_of words ≡ Ok (check o name) → AreOptions o)
     → (o : PlainOptions) (name text report taken : List ℕ) → command_of words ≡ Ok (check o name) →
     AreTold (command_of words) left texts text report → before ≡ Some taken → result ≡ Done
-    → HasMasksOf o text report
-check_masks words left texts before now result answer ranges o name text report taken e told had done =
+    → WritesBound o text report taken now
+writes_bound words left texts before now result answer ranges o name text report taken e told had done =
     let w = written words (check o name) text report taken before now result e (answer text report told) done had in
-    accepted_masks o text report Done w.output (ranges o name done e) w.due refl
+    accepted_bound o text report taken now Done w.output (ranges o name done e) w.due refl w.is

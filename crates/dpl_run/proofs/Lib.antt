@@ -1,6 +1,5 @@
 pub mod EndLemmas
-pub mod SplitLemmas
-pub mod BalanceLemmas
+pub mod MadeLemmas
 pub mod CheckLemmas
 pub mod LoadLemmas
 pub mod CrossLemmas

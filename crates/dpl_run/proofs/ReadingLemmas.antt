@@ -8,15 +8,19 @@ use Rattle.dpl_ext.specs.Device.{Seen, Texts, Rose, RoseBy}
 use Rattle.dpl_ext.specs.Reading.{IsWhole}
 use Rattle.dpl_gen.specs.Layout.{layout}
 use Rattle.dpl_words.specs.Commands.{PlainCommand, split, check, load, cross, edit, balance}
+use Rattle.dpl_layer.specs.declared.error.LayerError.{LayerError}
+use Rattle.dpl_layer.specs.Errors.{passed}
+use Rattle.dpl_layer.specs.Reasons.{NoneOf, IsPassed}
+use Rattle.dpl_layer.proofs.ReasonLemmas.{Reason, first, later, no_first, none_cons}
 use Rattle.dpl_run.specs.declared.status.Status.{Status}
 use Rattle.dpl_run.specs.declared.status.Status.TheVariants.{Done, Rejected, Usage, Layout, Limit, Script, ReadFault, WriteFault, NoMemory}
-use Rattle.dpl_limits.specs.declared.counted.Counted.TheVariants.{ReportBytes, ScriptBytes}
+use Rattle.dpl_limits.specs.declared.counted.Counted.TheVariants.{LayoutBytes, ReportBytes, ScriptBytes}
 use Rattle.dpl_limits.specs.Limits.{number_of, most_of}
 use Rattle.dpl_run.specs.Inputs.{Opened, opens, reads_layout}
 use Rattle.dpl_run.specs.Devices.{AsksFor, IsLayoutTold, IsSecondTold, IsLayoutFault, IsSecondFault, IsReadFault, IsSecondTouched, PassesBytes}
-use Rattle.dpl_run.specs.Answer.{DueOf, IsDueFor, IsShort, IsSmall, IsStatusOf}
-use Rattle.dpl_run.specs.Answer.IsDueFor.{long_layout, long_second, carried_out}
-use Rattle.dpl_run.specs.Telling.{IsBare, IsDueOrFree, IsSecondRead, IsWorked, StopsOpening, StopsReading, StopsSecond}
+use Rattle.dpl_run.specs.Answer.{DueOf, IsDueFor, IsOpenedLong, IsStatusOf, bytes_reasons}
+use Rattle.dpl_run.specs.Answer.IsDueFor.{too_long, carried_out}
+use Rattle.dpl_run.specs.Telling.{IsBare, IsDueOrFree, IsSecondRead, IsShort, IsSmall, IsWorked, StopsOpening, StopsReading, StopsSecond}
 use Rattle.dpl_run.proofs.EndLemmas.{worked_free}
 use Rattle.dpl_run.proofs.DueLemmas.{all_end}
 
@@ -66,6 +70,33 @@ report_named name = record { name = name; counted = ReportBytes }
 abbrev script_named : List ℕ → Opened
 script_named name = record { name = name; counted = ScriptBytes }
 
+-- texts within their limits refuse nothing
+bytes_free : (c : PlainCommand) (text second : List ℕ) → IsShort (reads_layout c) text → IsSmall (opens c) second → NoneOf (bytes_reasons c text second)
+bytes_free c text second short small =
+    let L : Reason = IsPassed LayoutBytes ((reads_layout c ≡ true) × (16777216 < length text)) in
+    none_cons L (IsOpenedLong (opens c) second ∷ []) (λ e r. let few = short r.0.0 in let many = r.0.1 in omega (arith, few, many))
+    (none_cons (IsOpenedLong (opens c) second) [] (λ e q. few_second (opens c) q.0 q.1 small q.2.0) no_first) where
+      few_second : (x : Option Opened) (o : Opened) → x ≡ Some o → IsSmall x second → most_of o.counted < length second → ⊥
+      few_second None o is s many = absurd (cc)
+      few_second (Some p) o is s many =
+          let same : p ≡ o = cc in
+          let few : length second ≤ most_of o.counted = subst (λ (z : Opened). length second ≤ most_of z.counted) same s in
+          omega (arith, few, many)
+
+-- a layout that is too long is refused
+long_layout : (c : PlainCommand) (text second : List ℕ) → reads_layout c ≡ true → 16777216 < length text → IsDueFor c text second (Limit 1 16777217) []
+long_layout c text second r long = too_long (passed LayoutBytes)
+    (first (IsPassed LayoutBytes ((reads_layout c ≡ true) × (16777216 < length text))) (IsOpenedLong (opens c) second ∷ [])
+    (passed LayoutBytes) ((r, long), refl))
+
+-- and so is a text that is opened
+long_second : (c : PlainCommand) (text second : List ℕ) (o : Opened) → opens c ≡ Some o → IsShort (reads_layout c) text →
+    most_of o.counted < length second → IsDueFor c text second (Limit (number_of o.counted) (most_of o.counted + 1)) []
+long_second c text second o is short long = too_long (passed o.counted)
+    (later (IsPassed LayoutBytes ((reads_layout c ≡ true) × (16777216 < length text))) (IsOpenedLong (opens c) second ∷ [])
+    (passed o.counted) (λ e r. let few = short r.0.0 in let many = r.0.1 in omega (arith, few, many))
+    (first (IsOpenedLong (opens c) second) [] (passed o.counted) (o, is, (long, refl))))
+
 -- what a command does not read makes no difference
 same_due : (c : PlainCommand) (text bytes second others : List ℕ) → (reads_layout c ≡ true → text ≡ bytes) → ((p : Opened) → opens c ≡ Some p → second ≡ others)
     → (a : Status) (x : List ℕ) → DueOf c bytes others a x → DueOf c text second a x
@@ -101,7 +132,7 @@ carried_due c layout layout_now texts bytes others text second a x whole read sm
     let few = small_second (opens c) texts others second read told.1 small in
     let same = same_due c text bytes second others (same_layout (reads_layout c) layout layout_now bytes text whole
     told.0) (same_second (opens c) texts others second read told.1) in
-    free_map (DueOf c bytes others) (IsDueFor c text second) (λ b y d. carried_out b y short few (same b y d)) a x
+    free_map (DueOf c bytes others) (IsDueFor c text second) (λ b y d. carried_out b y (bytes_free c text second short few) (same b y d)) a x
     (worked_free c (DueOf c bytes others) (all_end c bytes others) a x worked)
 
 -- ---- the layout was not read whole
@@ -136,7 +167,7 @@ pub layout_due : (c : PlainCommand) (before now : Seen) (text second : List ℕ)
 layout_due c before now text second s t x w e none told =
     subst (λ z. IsDueOrFree (IsDueFor c text second) z x) (sym e)
     (stops_at (IsDueFor c text second) before now text 1 16777216 s x w.1
-    (told_where (reads_layout c) before.left text told w.0) none (λ long. long_layout w.0 long))
+    (told_where (reads_layout c) before.left text told w.0) none (λ long. long_layout c text second w.0 long))
 
 fault_where : (reads : Bool) (before now : Seen) → reads ≡ true → Rose before.faults now.faults → IsLayoutFault reads before now
 fault_where true before now e r = r
@@ -223,7 +254,7 @@ opening_at : (c : PlainCommand) (o : Option Opened) → opens c ≡ o →
     → IsShort (reads_layout c) text → IsSecondTold o texts second → x ≡ [] → IsDueOrFree (IsDueFor c text second) s x
 opening_at c None is before now texts text second s x w short told none = absurd w
 opening_at c (Some o) is before now texts text second s x w short told none =
-    second_at (IsDueFor c text second) o before now texts second s x w told none (λ long. long_second o is short long)
+    second_at (IsDueFor c text second) o before now texts second s x w told none (λ long. long_second c text second o is short long)
 
 -- where the second text stops the reading, its status is due or free
 pub second_due : (c : PlainCommand) (layout layout_now before now : Seen) (texts : Option Texts) (bytes text second : List ℕ) (s t : Status) (x : List ℕ)

@@ -1,57 +1,60 @@
 -- What the program answers, in the order in which its answers are tried: words, layout, second text, the work.
-use Rattle.std.specs.Prelude.{◌≡◌, ◌⊎◌, ⊤, ℕ, ◌+◌, ◌≤◌, ◌<◌, List, [], length, Bool, true, Option, Some, None, Result, Ok, Err}
+use Rattle.std.specs.Prelude.{◌≡◌, ◌⊎◌, ⊤, ℕ, ◌≤◌, ◌<◌, List, [], ◌∷◌, length, true, Option, Some, None, Result, Ok, Err}
 use Rattle.std.specs.Io.KnownBytes.{Appends, Keeps}
 use Rattle.dpl_limits.specs.declared.TheConstants.{MOST_LAYOUT_BYTES}
-use Rattle.dpl_limits.specs.declared.counted.Counted.{Counted}
 use Rattle.dpl_limits.specs.declared.counted.Counted.TheVariants.{LayoutBytes}
 use Rattle.dpl_limits.specs.Limits.{number_of, most_of}
 use Rattle.dpl_ext.specs.Device.{AppendsFront}
 use Rattle.dpl_gen.specs.Layout.{layout}
+use Rattle.dpl_layer.specs.declared.error.LayerError.{LayerError}
+use Rattle.dpl_layer.specs.Reasons.{FirstOf, NoneOf, IsPassed}
+use Rattle.dpl_layer.specs.Refusals.{layer_reasons}
+use Rattle.dpl_core.specs.Refusals.{split_reasons}
+use Rattle.dpl_core.specs.Reports.{IsSplit, IsBalancedSplit}
 use Rattle.dpl_words.specs.Commands.{PlainCommand, split, check, load, cross, edit, balance, command_of}
 use Rattle.dpl_run.specs.declared.status.Status.{Status}
 use Rattle.dpl_run.specs.declared.status.Status.TheVariants.{Done, Rejected, Usage, Limit, Script, ReadFault, WriteFault, NoMemory}
 use Rattle.dpl_run.specs.Inputs.{Opened, reads_layout, opens, judges, follows, colours}
-use Rattle.dpl_run.specs.due.Split.{IsSplitDue}
-use Rattle.dpl_run.specs.due.Balance.{IsBalanceDue}
+use Rattle.dpl_run.specs.Errors.{status_of}
+use Rattle.dpl_run.specs.due.Made.{IsMade}
 use Rattle.dpl_run.specs.due.Check.{IsCheckDue}
-use Rattle.dpl_run.specs.due.Load.{IsLoadDue, made_options}
-use Rattle.dpl_run.specs.due.Cross.{IsCrossDue}
+use Rattle.dpl_run.specs.due.Load.{IsLoaded, made_options}
+use Rattle.dpl_run.specs.due.Cross.{IsCrossed}
 use Rattle.dpl_run.specs.due.Edit.{IsEditDue}
 
 -- ---- what is due
 
 -- for a command whose texts are within their limits
 abbrev pub DueOf : PlainCommand → List ℕ → List ℕ → Status → List ℕ → Type 0
-DueOf (split options) text second = IsSplitDue options text
+DueOf (split options) text second =
+    IsMade (FirstOf (split_reasons options text)) (IsSplit options text)
 DueOf (check options name) text second = IsCheckDue options text second
 DueOf (load start rows columns) text second =
-    IsLoadDue made_options (layout start rows columns)
-DueOf (cross options) text second = IsCrossDue options text
+    IsMade (FirstOf (split_reasons made_options (layout start rows columns)))
+    (IsLoaded made_options (layout start rows columns))
+DueOf (cross options) text second =
+    IsMade (FirstOf (layer_reasons options text)) (IsCrossed options text)
 DueOf (edit options name) text second = IsEditDue options text second
-DueOf (balance options) text second = IsBalanceDue options text
+DueOf (balance options) text second =
+    IsMade (FirstOf (split_reasons options text)) (IsBalancedSplit options text)
 
--- the layout is within its limit, where it is read
-abbrev pub IsShort : Bool → List ℕ → Type 0
-IsShort reads text = reads ≡ true → length text ≤ MOST_LAYOUT_BYTES
+-- what is opened has more bytes than are taken
+abbrev pub IsOpenedLong : Option Opened → List ℕ → LayerError → Type 0
+IsOpenedLong asked second e = (opened : Opened) × (asked ≡ Some opened)
+    × IsPassed opened.counted (most_of opened.counted < length second) e
 
--- the text that is opened is within its limit
-abbrev pub IsSmall : Option Opened → List ℕ → Type 0
-IsSmall None second = ⊤
-IsSmall (Some opened) second = length second ≤ most_of opened.counted
+-- why a command is not carried out: its layout has more bytes than are taken, or what it opens
+abbrev pub bytes_reasons : PlainCommand → List ℕ → List ℕ → List (LayerError → Type 0)
+bytes_reasons c text second =
+    IsPassed LayoutBytes ((reads_layout c ≡ true) × (MOST_LAYOUT_BYTES < length text))
+    ∷ IsOpenedLong (opens c) second ∷ []
 
--- one byte more than the limit takes: what is beyond is not counted
-abbrev pub passed : Counted → Status
-passed counted = Limit (number_of counted) (most_of counted + 1)
-
--- the layout passes its limit, or the second text passes its own, or the command is carried out
+-- a text has too many bytes, or the command is carried out
 pub data IsDueFor (c : PlainCommand) (text second : List ℕ) : Status → List ℕ → Type 0 where
-  long_layout : reads_layout c ≡ true → MOST_LAYOUT_BYTES < length text →
-      IsDueFor c text second (passed LayoutBytes) []
-  long_second : (opened : Opened) → opens c ≡ Some opened → IsShort (reads_layout c) text →
-      most_of opened.counted < length second → IsDueFor c text second (passed opened.counted) []
-  carried_out : (status : Status) (output : List ℕ) → IsShort (reads_layout c) text →
-      IsSmall (opens c) second → DueOf c text second status output →
-      IsDueFor c text second status output
+  too_long : (e : LayerError) → FirstOf (bytes_reasons c text second) e →
+      IsDueFor c text second (status_of e) []
+  carried_out : (status : Status) (output : List ℕ) → NoneOf (bytes_reasons c text second) →
+      DueOf c text second status output → IsDueFor c text second status output
 
 -- the status and the output that are due for a command, a layout and a second text
 abbrev pub IsDueOf : Result PlainCommand ℕ → List ℕ → List ℕ → Status → List ℕ → Type 0

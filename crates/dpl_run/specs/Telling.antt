@@ -1,9 +1,10 @@
 -- What is due or free, and what writing it answers.
-use Rattle.std.specs.Prelude.{◌≡◌, ◌≢◌, ◌⊎◌, ◌+◌, ◌<◌, ⊤, ℕ, ◌∷◌, ◌++◌, List, [], length, Option, Some, None, IfSome}
+use Rattle.std.specs.Prelude.{◌≡◌, ◌≢◌, ◌⊎◌, ◌+◌, ◌<◌, ◌≤◌, ⊤, ℕ, Bool, true, ◌∷◌, ◌++◌, List, [], length, Option, Some, None, IfSome}
 use Rattle.std.specs.Io.KnownBytes.{Appends}
 use Rattle.dpl_ext.specs.Device.{AppendsFront, Rose, RoseBy, Seen, Texts, first_text}
 use Rattle.dpl_run.specs.declared.status.Status.{Status}
 use Rattle.dpl_run.specs.declared.status.Status.TheVariants.{Done, Limit, ReadFault, WriteFault, NoMemory}
+use Rattle.dpl_limits.specs.declared.TheConstants.{MOST_LAYOUT_BYTES}
 use Rattle.dpl_limits.specs.Limits.{number_of, most_of}
 use Rattle.dpl_run.specs.Inputs.{Opened}
 
@@ -75,3 +76,12 @@ abbrev pub IsSecondRead : Option Opened → Option Texts → List ℕ → Type 0
 IsSecondRead None texts second = ⊤
 IsSecondRead (Some opened) texts second =
     (ts : Texts) → texts ≡ Some ts → first_text opened.name ts ≡ Some second
+
+-- the layout is within its limit, where it is read
+abbrev pub IsShort : Bool → List ℕ → Type 0
+IsShort reads text = reads ≡ true → length text ≤ MOST_LAYOUT_BYTES
+
+-- the text that is opened is within its limit
+abbrev pub IsSmall : Option Opened → List ℕ → Type 0
+IsSmall None second = ⊤
+IsSmall (Some opened) second = length second ≤ most_of opened.counted

@@ -4,8 +4,8 @@ ghost use Rattle.dpl_limits.specs.declared.TheConstants.{MOST_LAYOUT_BYTES};
 ghost use Rattle.dpl_lex.specs.Cutting.{commands_of};
 ghost use Rattle.dpl_words.specs.Views.{plain_command, IsInRange};
 ghost use Rattle.dpl_run.specs.Inputs.{opens};
-ghost use Rattle.dpl_run.specs.Answer.{DueOf, IsSmall};
-ghost use Rattle.dpl_run.specs.Telling.{IsWorked};
+ghost use Rattle.dpl_run.specs.Answer.{DueOf};
+ghost use Rattle.dpl_run.specs.Telling.{IsSmall, IsWorked};
 
 mod balance;
 mod check;

@@ -6,8 +6,7 @@ ghost use Rattle.dpl_ext.specs.Reading.{IsWhole};
 ghost use Rattle.dpl_words.specs.Views.{plain_command};
 ghost use Rattle.dpl_run.specs.Inputs.{reads_layout as do_read_layout, opens};
 ghost use Rattle.dpl_run.specs.Devices.{IsLayoutTouched, IsSecondTouched};
-ghost use Rattle.dpl_run.specs.Answer.{IsSmall};
-ghost use Rattle.dpl_run.specs.Telling.{IsSecondRead, StopsOpening, StopsReading};
+ghost use Rattle.dpl_run.specs.Telling.{IsSecondRead, IsSmall, StopsOpening, StopsReading};
 
 use crate::status::Status;
 use crate::texts::{Lexed, layout_of, no_layout, second_of};

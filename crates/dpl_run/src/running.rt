@@ -4,7 +4,6 @@ ghost use Rattle.std.specs.Io.KnownBytes.{Appends};
 ghost use Rattle.dpl_limits.specs.declared.TheConstants.{MOST_LAYOUT_BYTES, MOST_REPORT_BYTES, MOST_SCRIPT_BYTES};
 ghost use Rattle.dpl_ext.specs.Device.{Rose, AppendsFront};
 ghost use Rattle.dpl_options.specs.Options.{AreOptions, PlainOptions};
-ghost use Rattle.dpl_check.specs.Checked.{HasMasksOf};
 ghost use Rattle.dpl_words.specs.Commands.{check, command_of};
 ghost use Rattle.dpl_words.specs.Views.{plain_command};
 ghost use Rattle.dpl_run.specs.Answer.{Answers, IsAnswered, IsDue, IsQuiet, IsStatusOf};
@@ -53,17 +52,12 @@ pub fn run<S: Source, F: Shelf, O: Sink, E: Sink>(
         AskForSplit (command_of (map string_bytes words.now)) o
         → (S.seen layout.old).left ≡ Some text → O.taken out.old ≡ Some taken
         → result ≡ Status.Done → WritesLeast o text taken (O.taken out.new) }
-    ensures bound { (o : PlainOptions) (name text report taken : List ℕ) →
+    ensures accepted { (o : PlainOptions) (name text report taken : List ℕ) →
         command_of (map string_bytes words.now) ≡ Ok (check o name)
         → AreTold (command_of (map string_bytes words.now)) (S.seen layout.old).left
         (F.texts second.old) text report
         → O.taken out.old ≡ Some taken → result ≡ Status.Done →
-        WritesBound o text taken (O.taken out.new) }
-    ensures masks { (o : PlainOptions) (name text report taken : List ℕ) →
-        command_of (map string_bytes words.now) ≡ Ok (check o name)
-        → AreTold (command_of (map string_bytes words.now)) (S.seen layout.old).left
-        (F.texts second.old) text report
-        → O.taken out.old ≡ Some taken → result ≡ Status.Done → HasMasksOf o text report }
+        WritesBound o text report taken (O.taken out.new) }
 
     // When a device is to blame, how much was read, and which devices were not touched.
     ensures read { result ≡ Status.ReadFault →

@@ -1,20 +1,16 @@
--- What `cross` answers for a layout: why it has no layer, or what keeps its drawing from being plane.
+-- What is due for `cross`: the excess, a crossing and a bar.
 use Rattle.std.specs.Prelude.{◌≡◌, ℕ, List, [], Option, None, Some}
 use Rattle.dpl_cuts.specs.declared.types.Fragments.{Fragments}
 use Rattle.dpl_sign.specs.declared.nets.Net.{Net}
 use Rattle.dpl_sign.specs.Excess.{excess, all_edges, aside_edges}
 use Rattle.dpl_options.specs.Options.{PlainOptions}
-use Rattle.dpl_layer.specs.declared.error.LayerError.{LayerError}
-use Rattle.dpl_layer.specs.Layers.{IsLayerOfText}
-use Rattle.dpl_layer.specs.Refusals.{RefusesLayer}
+use Rattle.dpl_layer.specs.Drawings.{Cells, OnLayer}
+use Rattle.dpl_layer.specs.Layers.{IsLayer}
 use Rattle.dpl_euler.specs.declared.types.Bar.{Bar}
 use Rattle.dpl_euler.specs.declared.types.Crossing.{Crossing}
 use Rattle.dpl_euler.specs.Bars.{IsBar, IsFirstAside}
 use Rattle.dpl_euler.specs.Crossings.{HasNoCrossing, IsCrossing}
-use Rattle.dpl_run.specs.declared.status.Status.{Status}
-use Rattle.dpl_run.specs.declared.status.Status.TheVariants.{Done}
 use Rattle.dpl_run.specs.Lines.{cross_lines}
-use Rattle.dpl_run.specs.Errors.{status_of}
 
 -- an edge and what its link crosses, or nothing where no link crosses a link or a third fragment
 abbrev pub ShowsCrossing : Fragments → Net → Option Crossing → Type 0
@@ -34,14 +30,13 @@ pub record TellsDrawing (f : Fragments) (net : Net) (output : List ℕ) : Type 0
   pub bars : ShowsBar net bar
   pub is : output ≡ cross_lines (excess net all_edges) crossing bar
 
--- the output tells of the drawing of the layer of the text
-pub record IsCrossed (o : PlainOptions) (text output : List ℕ) : Type 0 where
+-- the output tells of the drawing of the layer of these cells
+pub record CrossesCells (o : PlainOptions) (output : List ℕ) (cells kept : Cells) : Type 0 where
   pub fragments : Fragments
   pub net : Net
-  pub layer : IsLayerOfText o text fragments net
+  pub layer : IsLayer o cells kept fragments net
   pub tells : TellsDrawing fragments net output
 
-pub data IsCrossDue (o : PlainOptions) (text : List ℕ) : Status → List ℕ → Type 0 where
-  refused : (e : LayerError) → RefusesLayer o text e → IsCrossDue o text (status_of e) []
-  done : (output : List ℕ) → IsCrossed o text output → ((e : LayerError) → ¬ RefusesLayer o text e)
-      → IsCrossDue o text Done output
+-- the output tells of the drawing of the layer of the text
+abbrev pub IsCrossed : PlainOptions → List ℕ → List ℕ → Type 0
+IsCrossed o text output = OnLayer o text (CrossesCells o output)

@@ -2,7 +2,10 @@
 ghost use Rattle.std.specs.Prelude.{◌≡◌, ◌≤◌, length};
 ghost use Rattle.dpl_limits.specs.declared.TheConstants.{MOST_LAYOUT_BYTES};
 ghost use Rattle.dpl_lex.specs.Cutting.{commands_of};
-ghost use Rattle.dpl_run.specs.due.Balance.{IsBalanceDue};
+ghost use Rattle.dpl_layer.specs.Reasons.{FirstOf};
+ghost use Rattle.dpl_core.specs.Refusals.{split_reasons};
+ghost use Rattle.dpl_core.specs.Reports.{IsBalancedSplit};
+ghost use Rattle.dpl_run.specs.due.Made.{IsMade};
 ghost use Rattle.dpl_run.specs.Telling.{IsWorked};
 
 use crate::due::{Due, refused};
@@ -16,7 +19,8 @@ use std::alloc::Global;
 pub fn balance_bytes(alloc: Global, options: &Options, text: &[u8], commands: &Commands) -> Due
     requires short { length text.now ≤ MOST_LAYOUT_BYTES }
     requires commands { commands.now ≡ commands_of text.now }
-    ensures { IsWorked (IsBalanceDue options.now text.now) result.status result.output.items }
+    ensures { IsWorked (IsMade (FirstOf (split_reasons options.now text.now))
+        (IsBalancedSplit options.now text.now)) result.status result.output.items }
 {
     match balance_commands(alloc, text, commands, options) {
         Ok(output) => Due {

@@ -2,7 +2,10 @@
 ghost use Rattle.std.specs.Prelude.{◌≡◌, ◌≤◌, length, IfOk};
 ghost use Rattle.dpl_limits.specs.declared.TheConstants.{MOST_LAYOUT_BYTES};
 ghost use Rattle.dpl_lex.specs.Cutting.{commands_of};
-ghost use Rattle.dpl_run.specs.due.Cross.{IsCrossDue, TellsDrawing};
+ghost use Rattle.dpl_layer.specs.Reasons.{FirstOf};
+ghost use Rattle.dpl_layer.specs.Refusals.{layer_reasons};
+ghost use Rattle.dpl_run.specs.due.Cross.{IsCrossed, TellsDrawing};
+ghost use Rattle.dpl_run.specs.due.Made.{IsMade};
 ghost use Rattle.dpl_run.specs.Telling.{IsWorked};
 
 use crate::due::{Due, bare, refused};
@@ -18,7 +21,8 @@ use std::alloc::{AllocError, Global};
 pub fn cross_bytes(alloc: Global, options: &Options, text: &[u8], commands: &Commands) -> Due
     requires short { length text.now ≤ MOST_LAYOUT_BYTES }
     requires commands { commands.now ≡ commands_of text.now }
-    ensures { IsWorked (IsCrossDue options.now text.now) result.status result.output.items }
+    ensures { IsWorked (IsMade (FirstOf (layer_reasons options.now text.now))
+        (IsCrossed options.now text.now)) result.status result.output.items }
 {
     let layer = match layer_of_commands(alloc, text, commands, options) {
         Ok(layer) => layer,

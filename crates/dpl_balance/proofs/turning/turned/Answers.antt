@@ -1,8 +1,9 @@
 use Rattle.std.proofs.Common.{rules, ◌≡◌, ◌<◌, List, Bool, length, sym, ap, subst, ◌∙◌}
 use Rattle.dpl_balance.specs.Parts.{AreEven, IsWithinRoom}
 use Rattle.dpl_balance.specs.declared.turning.Part.{Part}
-use Rattle.dpl_balance.proofs.PartLemmas.{moved_distinct, moved_long, moved_all, even_in_order, refilled}
+use Rattle.dpl_balance.proofs.PartLemmas.{moved_distinct, moved_long, moved_all, even_in_order}
 use Rattle.dpl_balance.proofs.turning.turned.Goals as goal
+use Rattle.dpl_list.proofs.Lists.{refilled}
 
 pub settle-requires-clause-few : goal.settle-requires-clause-few
 settle-requires-clause-few c = rw (

@@ -10,7 +10,7 @@ balanced-requires-clause-layer c = some_layer c.args.options.now c.args.text.now
 pub returns-clause-split : goal.returns-clause-split
 returns-clause-split c = record {
   report = plain_report c.in_ok-report.report;
-  of_layer = balanced_of_text c.args.options.now c.args.text.now c.in_ok-layer.field-0.layer.fragments
+  has = balanced_of_text c.args.options.now c.args.text.now c.in_ok-layer.field-0.layer.fragments
       c.in_ok-layer.field-0.layer.net (plain_report c.in_ok-report.report) c.in_ok-report.ensures.report
       c.in_ok-report.ensures.masks c.in_ok-report.ensures.even c.in_ok-layer.ensures.layer;
   is = c.in_ok-written.ensures.text;

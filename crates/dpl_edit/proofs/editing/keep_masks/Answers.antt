@@ -1,4 +1,4 @@
-use Rattle.std.proofs.Common.{sym, ap, subst, ◌∙◌}
+use Rattle.std.proofs.Common.{rules, sym, ap, subst, ◌∙◌}
 use Rattle.dpl_sign.specs.Colourings.{cost_of}
 use Rattle.dpl_stay.specs.Order.{AreRectsInOrder}
 use Rattle.dpl_edit.specs.Optima.{solved_of}
@@ -6,17 +6,19 @@ use Rattle.dpl_edit.proofs.OrderLemmas.{rects_in_order, edges_in_order}
 use Rattle.dpl_edit.proofs.KeepLemmas.{is_best, recoloured}
 use Rattle.dpl_edit.proofs.editing.keep_masks.Goals as goal
 
-pub keep_colours-requires-clause-old_order : goal.keep_colours-requires-clause-old_order
-keep_colours-requires-clause-old_order c = subst AreRectsInOrder (sym c.as_slice.ensures) (rects_in_order _ _ _ _ _ c.requires.old.is.layer.layer)
+pub keep_colours-requires-clause-old : goal.keep_colours-requires-clause-old
+keep_colours-requires-clause-old c = record {
+  order = subst AreRectsInOrder (sym c.as_slice.ensures) (rects_in_order _ _ _ _ _ c.requires.old.is.layer.is.layer);
+  edges = edges_in_order _ _ _ _ _ c.requires.old.is.layer.is.layer;
+  nodes = search rules;
+}
 
-pub keep_colours-requires-clause-old_edges : goal.keep_colours-requires-clause-old_edges
-keep_colours-requires-clause-old_edges c = edges_in_order _ _ _ _ _ c.requires.old.is.layer.layer
-
-pub keep_colours-requires-clause-order : goal.keep_colours-requires-clause-order
-keep_colours-requires-clause-order c = subst AreRectsInOrder (sym c.as_slice-3.ensures) (rects_in_order _ _ _ _ _ c.requires.new.is.layer.layer)
-
-pub keep_colours-requires-clause-edges : goal.keep_colours-requires-clause-edges
-keep_colours-requires-clause-edges c = edges_in_order _ _ _ _ _ c.requires.new.is.layer.layer
+pub keep_colours-requires-clause-new : goal.keep_colours-requires-clause-new
+keep_colours-requires-clause-new c = record {
+  order = subst AreRectsInOrder (sym c.as_slice-3.ensures) (rects_in_order _ _ _ _ _ c.requires.new.is.layer.is.layer);
+  edges = edges_in_order _ _ _ _ _ c.requires.new.is.layer.is.layer;
+  nodes = search rules;
+}
 
 pub returns-clause-solved : goal.returns-clause-solved
 returns-clause-solved c = λ cells kept h.

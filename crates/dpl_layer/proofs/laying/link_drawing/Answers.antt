@@ -15,14 +15,16 @@ returns-in_err-net-clause-refused c =
 
 pub returns-clause-layer : goal.returns-clause-layer
 returns-clause-layer c = record {
-  layer = record {
-    fragments = c.in_ok-fragments.ensures.fragments.0;
-    net =
-        rw (c.weights.ensures, c.space_in_units-space.ensures.value) at c.in_ok-net.ensures.net;
+  is = record {
+    layer = record {
+      fragments = c.in_ok-fragments.ensures.fragments.0;
+      net =
+          rw (c.weights.ensures, c.space_in_units-space.ensures.value) at c.in_ok-net.ensures.net;
+    };
+    few_kept = c.in_ok-fragments.ensures.fragments.1;
+    few_fragments = c.in_ok-fragments.ensures.few;
+    few_edges = c.in_ok-net.ensures.few;
   };
   shared = c.tiles_share_out.ensures;
   cut = c.in_ok-fragments.ensures.cut;
-  few_kept = c.in_ok-fragments.ensures.fragments.1;
-  few_fragments = c.in_ok-fragments.ensures.few;
-  few_edges = c.in_ok-net.ensures.few;
 }

@@ -1,7 +1,7 @@
 use Rattle.std.proofs.Common.{map}
 use Rattle.std.specs.Prelude.{string_bytes}
 use Rattle.dpl_run.proofs.ToldLemmas.{all_comes}
-use Rattle.dpl_run.proofs.LeastLemmas.{writes_least, writes_bound, check_masks}
+use Rattle.dpl_run.proofs.LeastLemmas.{writes_least, writes_bound}
 use Rattle.dpl_run.proofs.running.run.Goals as goal
 
 pub returns-clause-comes : goal.returns-clause-comes
@@ -16,15 +16,9 @@ returns-clause-least g c =
     (g.F.Shelf.texts c.args.second.now) (g.O.Sink.taken c.args.out.now) (g.O.Sink.taken c.attempt-status.new.out)
     c.attempt-status.result c.attempt-status.ensures.answer
 
-pub returns-clause-bound : goal.returns-clause-bound
-returns-clause-bound g c =
+pub returns-clause-accepted : goal.returns-clause-accepted
+returns-clause-accepted g c =
     writes_bound (map string_bytes c.args.words.now) (g.S.Source.seen c.args.layout.now).left
-    (g.F.Shelf.texts c.args.second.now) (g.O.Sink.taken c.args.out.now) (g.O.Sink.taken c.attempt-status.new.out)
-    c.attempt-status.result c.attempt-status.ensures.answer
-
-pub returns-clause-masks : goal.returns-clause-masks
-returns-clause-masks g c =
-    check_masks (map string_bytes c.args.words.now) (g.S.Source.seen c.args.layout.now).left
     (g.F.Shelf.texts c.args.second.now) (g.O.Sink.taken c.args.out.now) (g.O.Sink.taken c.attempt-status.new.out)
     c.attempt-status.result c.attempt-status.ensures.answer
     c.attempt-status.ensures.ranges

@@ -1,6 +1,7 @@
 use Rattle.std.proofs.Common.{rules, SFits, w64}
 use Rattle.std.proofs.lemmas.Int.{to_z-of_z}
-use Rattle.dpl_layer.specs.Refusals.{RefusesLayer}
+use Rattle.dpl_layer.specs.Reasons.{FirstOf}
+use Rattle.dpl_layer.specs.Refusals.{layer_reasons}
 use Rattle.dpl_run.specs.due.Check.{IsCheckDue}
 use Rattle.dpl_run.specs.due.Check.IsCheckDue.{refused, rejected, accepted}
 use Rattle.dpl_run.proofs.EndLemmas.{refused_worked}
@@ -23,5 +24,6 @@ returns-in-Ok-No c =
 
 pub returns-in-Err : goal.returns-in-Err
 returns-in-Err c =
-    refused_worked (IsCheckDue c.args.options.now c.args.text.now c.args.report.now) (RefusesLayer c.args.options.now c.args.text.now) c.in-Err.error _ _
+    refused_worked (IsCheckDue c.args.options.now c.args.text.now c.args.report.now)
+    (FirstOf (layer_reasons c.args.options.now c.args.text.now)) c.in-Err.error _ _
     refused (c.check.ensures.refused c.in-Err.error c.in-Err.is) c.refused.ensures.status c.refused.ensures.output

@@ -1,5 +1,6 @@
 use Rattle.std.proofs.Common.{◌∙◌}
-use Rattle.dpl_layer.specs.Refusals.{RefusesDrawing}
+use Rattle.dpl_layer.specs.Reasons.{FirstOf}
+use Rattle.dpl_layer.specs.Drawings.{drawing_reasons}
 use Rattle.dpl_run.specs.due.Edit.{IsEditDue}
 use Rattle.dpl_run.specs.due.Edit.IsEditDue.{unread}
 use Rattle.dpl_run.proofs.EndLemmas.{refused_worked}
@@ -8,7 +9,8 @@ use Rattle.dpl_run.proofs.commands.edit.edit_bytes.Goals as goal
 
 pub returns-in-Err : goal.returns-in-Err
 returns-in-Err c =
-    refused_worked (IsEditDue c.args.options.now c.args.text.now c.args.script.now) (RefusesDrawing c.args.options.now c.args.text.now) c.in-Err.error _ _
+    refused_worked (IsEditDue c.args.options.now c.args.text.now c.args.script.now)
+    (FirstOf (drawing_reasons c.args.options.now c.args.text.now)) c.in-Err.error _ _
     unread (c.read_drawing.ensures.refused c.in-Err.error c.in-Err.is) c.refused.ensures.status c.refused.ensures.output
 
 pub follow-requires-clause-begun : goal.follow-requires-clause-begun

@@ -1,16 +1,19 @@
-use Rattle.dpl_core.specs.Refusals.{RefusesSplit}
-use Rattle.dpl_run.specs.due.Split.{IsSplitDue}
-use Rattle.dpl_run.specs.due.Split.IsSplitDue.{refused, done}
+use Rattle.dpl_layer.specs.Reasons.{FirstOf}
+use Rattle.dpl_core.specs.Refusals.{split_reasons}
+use Rattle.dpl_core.specs.Reports.{IsSplit}
+use Rattle.dpl_run.specs.due.Made.{IsMade}
+use Rattle.dpl_run.specs.due.Made.IsMade.{refused, done}
 use Rattle.dpl_run.proofs.EndLemmas.{refused_worked}
-use Rattle.dpl_run.proofs.SplitLemmas.{free_of}
+use Rattle.dpl_run.proofs.MadeLemmas.{free_of}
 use Rattle.dpl_run.proofs.commands.split.split_bytes.Goals as goal
 
 pub returns-in-Ok : goal.returns-in-Ok
 returns-in-Ok c = done c.in-Ok.output.items c.in-Ok.ensures.split
-    (free_of c.args.options.now c.args.text.now c.split_commands.result c.in-Ok.output c.in-Ok.is
+    (free_of (FirstOf (split_reasons c.args.options.now c.args.text.now)) c.split_commands.result c.in-Ok.output c.in-Ok.is
     c.split_commands.ensures.exact)
 
 pub returns-in-Err : goal.returns-in-Err
 returns-in-Err c =
-    refused_worked (IsSplitDue c.args.options.now c.args.text.now) (RefusesSplit c.args.options.now c.args.text.now) c.in-Err.error _ _
+    let R = FirstOf (split_reasons c.args.options.now c.args.text.now) in
+    refused_worked (IsMade R (IsSplit c.args.options.now c.args.text.now)) R c.in-Err.error _ _
     refused (c.split_commands.ensures.refused c.in-Err.error c.in-Err.is) c.refused.ensures.status c.refused.ensures.output
