@@ -1,4 +1,4 @@
-//! Tests of the crates that draw, measure and colour a net, a file for each crate.
+//! Tests of the crates that list, draw, measure and colour a net, a file for each crate.
 //!
 //! A crate with tests is proved once for itself and once with them, so these stand above what they test.
 #![tactic(auto)]
@@ -9,6 +9,8 @@ mod colour;
 mod drawing;
 #[cfg(test)]
 mod euler;
+#[cfg(test)]
+mod list;
 #[cfg(test)]
 mod map;
 #[cfg(test)]

@@ -110,16 +110,6 @@ fn of_other_kinds_and_of_one_kind_nearby(rt: HostRuntime) -> Result<(), Fail> {
     Ok(())
 }
 
-#[test]
-fn one_that_holds_others(rt: HostRuntime) -> Result<(), Fail> {
-    let index = grid(&rt)?;
-    assert_eq!(rt; index.holding(&bounds((4, 5), (9, 10))), Some(9));
-    assert_eq!(rt; index.holding(&bounds((6, 6), (8, 8))), Some(9));
-    assert_eq!(rt; index.holding(&bounds((6, 7), (8, 8))), None);
-    assert_eq!(rt; index.holding(&bounds((0, 14), (0, 0))), None);
-    Ok(())
-}
-
 /// Bounds of many sizes around few places, so that places on the curve agree in many bits or in all.
 #[test]
 fn all_that_meet_a_window_among_many(rt: HostRuntime) -> Result<(), Fail> {

@@ -12,6 +12,8 @@ mod cif;
 #[cfg(test)]
 mod classes;
 #[cfg(test)]
+mod cover;
+#[cfg(test)]
 mod cuts;
 #[cfg(test)]
 mod groups;

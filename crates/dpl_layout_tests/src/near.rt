@@ -1,6 +1,6 @@
 use dpl_cell::Rect;
 use dpl_near::types::Shapes;
-use dpl_near::{Finder, NoMemory, Surroundings, are_apart, shapes};
+use dpl_near::{NoMemory, Surroundings, are_apart, shapes};
 use std::alloc::Global;
 use std::test::Fail;
 
@@ -81,12 +81,13 @@ fn the_boundary_of_the_reach(rt: HostRuntime) -> Result<(), Fail> {
         ],
     )?;
     assert!(rt; rects.len() == 6);
-    let finder = Finder::new(rt.alloc(), rects.as_slice(), 200)?;
-    assert_eq!(rt;
-        finder.near(rt.alloc(), 0)?.as_slice(),
-        [2, 4, 5].as_slice()
-    );
-    assert_eq!(rt; finder.near(rt.alloc(), 2)?.as_slice(), [0].as_slice());
+    let shape: &[u32] = &[0, 1, 2, 3, 4, 5];
+    assert!(rt; shape.len() == 6);
+    let finder = Surroundings::new(rt.alloc(), rects.as_slice(), shape, 200)?;
+    let mut near = finder.around(rt.alloc(), 0)?;
+    near.sort_unstable();
+    assert_eq!(rt; near.as_slice(), [2, 4, 5].as_slice());
+    assert_eq!(rt; finder.around(rt.alloc(), 2)?.as_slice(), [0].as_slice());
     Ok(())
 }
 

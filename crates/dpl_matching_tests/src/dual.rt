@@ -1,7 +1,7 @@
 ghost use Rattle.std.specs.Prelude.{IfOk};
 ghost use Rattle.dpl_dual.specs.Duals.{CameFromDual};
 
-use dpl_dual::{Dual, distances, dual};
+use dpl_dual::{Dual, distances, distances_within, dual};
 use dpl_map::build;
 use dpl_sign::{Edge, Net, Port, Signed};
 use std::alloc::Global;
@@ -62,8 +62,9 @@ fn way(dual: &Dual, i: usize) -> Result<(u32, u32, u32, u64), Fail> {
 }
 
 /// Three clashes around a triangle.
-#[test]
-fn odd_triangle(rt: HostRuntime) -> Result<(), Fail> {
+fn triangle(alloc: Global) -> Result<Dual, Fail>
+    ensures { IfOk result (λ d. CameFromDual d) }
+{
     let links = [
         (
             Edge::clash(0, 1, 10),
@@ -81,7 +82,13 @@ fn odd_triangle(rt: HostRuntime) -> Result<(), Fail> {
             Port::on_side(3, 0),
         ),
     ];
-    let dual = drawn_dual(rt.alloc(), 3, &links)?;
+    let dual = drawn_dual(alloc, 3, &links)?;
+    Ok(dual)
+}
+
+#[test]
+fn odd_triangle(rt: HostRuntime) -> Result<(), Fail> {
+    let dual = triangle(rt.alloc())?;
     assert_eq!(rt; dual.faces, 2);
     assert_eq!(rt; dual.odd.as_slice(), [0, 1].as_slice());
     assert_eq!(rt; dual.part.as_slice(), [0, 0].as_slice());
@@ -89,6 +96,32 @@ fn odd_triangle(rt: HostRuntime) -> Result<(), Fail> {
     assert_eq!(rt; way(&dual, 2)?, (0, 1, 2, 20));
     assert_eq!(rt; distance(rt.alloc(), &dual, 0, 1)?, (Some(20), 1));
     assert_eq!(rt; distance(rt.alloc(), &dual, 1, 1)?, (Some(0), 0));
+    Ok(())
+}
+
+/// The least length up to a limit from the first face to the second, and whether it is less.
+fn within(alloc: Global, dual: &Dual, limit: u64) -> Result<(Option<u64>, u64), Fail>
+    requires { CameFromDual dual.now }
+{
+    if limit == 0 || dual.faces == 0 {
+        return Err("no such limit or face")?;
+    }
+    let reach = distances_within(alloc, dual, 0, limit)?;
+    Ok((reach.to(1), reach.up_to(1, limit)))
+}
+
+/// A limit of 20 does not reach the face that is 20 away, and one of 21 does.
+#[test]
+fn nearer_than_a_limit(rt: HostRuntime) -> Result<(), Fail> {
+    let dual = triangle(rt.alloc())?;
+    for (limit, to, up_to) in [
+        (1, None, 1),
+        (20, None, 20),
+        (21, Some(20), 20),
+        (50, Some(20), 20),
+    ] {
+        assert_eq!(rt; within(rt.alloc(), &dual, limit)?, (to, up_to), "{limit}");
+    }
     Ok(())
 }
 

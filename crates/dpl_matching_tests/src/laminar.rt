@@ -58,3 +58,30 @@ fn made_and_taken_apart<L: Ledger, R: Abort>(
         }
     }
 }
+
+#[test]
+fn a_set_loads_its_border(rt: HostRuntime) -> Result<(), NoMemory> {
+    one_set_with_a_value::<Brand, _>(&rt, rt.alloc(), Blank::new(1))
+}
+
+/// A set of three members with a value is a load of one of them and the fourth member, and not of two of its own.
+fn one_set_with_a_value<L: Ledger, R: Abort>(
+    rt: &R,
+    alloc: Global,
+    blank: Blank,
+) -> Result<(), NoMemory>
+    requires name { blank.name ≡ L.name }
+    requires parts { blank.parts ≡ L.parts }
+    requires some { 0 < L.parts }
+{
+    let (book, share) = blank.open::<L>();
+    let mut steps = Steps::new(book, share);
+    let mut family = Family::new(alloc, 4)?;
+    let joins = [(0, 1), (1, 2), (2, 0)];
+    let set = family.shrink(alloc, &[0, 1, 2], &joins, &mut steps)?;
+    if family.value(set) == 0 {
+        family.raise(set, 6, &mut steps);
+    }
+    assert_eq!(rt; (family.load(0, 1), family.load(0, 3)), (0, 6));
+    Ok(())
+}

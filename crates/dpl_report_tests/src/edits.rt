@@ -178,6 +178,28 @@ fn what_is_not_touched_keeps_its_masks(rt: HostRuntime) -> Result<(), Fail> {
     Ok(())
 }
 
+/// The edges of an odd cycle, ascending.
+fn cycle(alloc: Global, session: &Session, number: usize) -> Option<Vec<u32>> {
+    let report = session.report(alloc).ok()?;
+    let cycle = report.cycles.as_slice().get(number)?;
+    let mut edges = Vec::from_slice(alloc, cycle.walk.edges.as_slice()).ok()?;
+    edges.sort_unstable_by_key(|edge| *edge);
+    Some(edges)
+}
+
+/// Each triangle has one odd cycle. Its edges are numbered among those of both triangles, by their fragments: 0, 1 and 4
+/// are those of the first triangle, 2, 3 and 5 those of the second.
+#[test]
+fn cycles_have_the_numbers_of_the_whole(rt: HostRuntime) -> Result<(), Fail> {
+    let prims = triangles(rt.alloc()).ok_or("no boxes")?;
+    let session = begin(rt.alloc(), prims).ok_or("refused")?;
+    let first = cycle(rt.alloc(), &session, 0).ok_or("no cycle")?;
+    assert_eq!(rt; first.as_slice(), [0, 1, 2].as_slice());
+    let second = cycle(rt.alloc(), &session, 1).ok_or("no cycle")?;
+    assert_eq!(rt; second.as_slice(), [3, 4, 5].as_slice());
+    Ok(())
+}
+
 /// A wire with two boxes above its ends and two wires above them: the wire is cut once.
 fn wires(alloc: Global) -> Option<Vec<Prim>> {
     let mut prims = Vec::new(alloc);

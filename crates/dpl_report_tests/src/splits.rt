@@ -249,18 +249,19 @@ fn an_odd_number_of_triangles(rt: HostRuntime) -> Result<(), Fail> {
     Ok(())
 }
 
-/// The same of 514 boxes and 512 triangles.
+/// The same of 2,050 boxes and 2,048 triangles, as many odd faces as one part may have.
 #[test]
 fn most_odd_faces(rt: HostRuntime) -> Result<(), Fail> {
     let layout =
         b"DS 1; L M; B 100 100 50 50; B 100 100 125 200; DF; DS 2; C 1; C 1 T 150 0; DF; DS 3; C 2; C \
       2 T 300 0; DF; DS 4; C 3; C 3 T 600 0; DF; DS 5; C 4; C 4 T 1200 0; DF; DS 6; C 5; C 5 T \
       2400 0; DF; DS 7; C 6; C 6 T 4800 0; DF; DS 8; C 7; C 7 T 9600 0; DF; DS 9; C 8; C 8 T 19200 \
-      0; DF; C 9; C 1 T 38400 0; E";
+      0; DF; DS 10; C 9; C 9 T 38400 0; DF; DS 11; C 10; C 10 T 76800 0; DF; C 11; C 1 T 153600 0; \
+      E";
     let report = report(rt.alloc(), layout.as_slice()).ok_or("refused")?;
-    assert_eq!(rt; report.counts.clashes, 1025);
-    assert_eq!(rt; report.cost, 2560);
-    assert_eq!(rt; report.bound, 5120);
+    assert_eq!(rt; report.counts.clashes, 4097);
+    assert_eq!(rt; report.cost, 10240);
+    assert_eq!(rt; report.bound, 20480);
     Ok(())
 }
 
