@@ -1,7 +1,7 @@
 #!/usr/bin/env python3
-"""Times the tests of dpl_match over many members, one run each: bench/matching.py [BINARY].
+"""Times the tests of the matching over many members, one run each: bench/matching.py [BINARY].
 
-`rt test` in crates/dpl_match leaves the binary. Prints user seconds and peak memory of each test. Every test first looks
+`rt test` in crates/dpl_matching_tests leaves the binary. Prints user seconds and peak memory of each test. Every test first looks
 at all ways over a third member, which takes the time of the line `alone`. No part of the gate.
 """
 
@@ -16,14 +16,14 @@ def timed(binary, test):
     child = os.fork()
     if child == 0:
         os.dup2(os.open(os.devnull, os.O_WRONLY), 1)
-        os.execv(binary, [binary, "tests::" + test])
+        os.execv(binary, [binary, "matching::" + test])
     _, status, usage = os.wait4(child, 0)
     return usage.ru_utime, usage.ru_maxrss / 1024, status == 0
 
 
 def main():
     top = os.path.dirname(os.path.dirname(os.path.abspath(__file__)))
-    binary = sys.argv[1] if len(sys.argv) > 1 else os.path.join(top, "crates", "dpl_match", "out", "dpl_match_tests")
+    binary = sys.argv[1] if len(sys.argv) > 1 else os.path.join(top, "crates", "dpl_matching_tests", "out", "dpl_matching_tests_tests")
     for test in TESTS:
         seconds, megabytes, passed = timed(binary, test)
         print("%-12s %7.2f s %6.0f MB %s" % (test, seconds, megabytes, "ok" if passed else "failed"))

@@ -1,6 +1,7 @@
 """Where the program, its sources and the kit are."""
 
 import os
+import shutil
 import subprocess
 import time
 from contextlib import contextmanager
@@ -9,7 +10,7 @@ TOP = os.path.dirname(os.path.dirname(os.path.realpath(__file__)))
 HOME = os.path.join(TOP, "crates", "dpl")
 BINARY = os.path.join(HOME, "out", "dpl")
 
-# of the launcher; those of the program go from 0 to 7
+# of the launcher; those of the program go from 0 to 8
 FAILED = 70
 
 
@@ -59,14 +60,16 @@ def libraries():
     return found
 
 
+def find_kit():
+    """Fails where the kit is not here, before anything is said of what it does."""
+    if not shutil.which("rt"):
+        raise Failed("the Rattle kit is not here: there is no command rt, which builds the program")
+
+
 @contextmanager
 def rt(words, **how):
     """Runs the kit's command in the program's folder; it ends when the launcher does."""
-    try:
-        process = subprocess.Popen(["rt", *words], cwd=HOME, **how)
-    except FileNotFoundError as error:
-        raise Failed("the Rattle kit is not here: there is no command rt, which builds the program") from error
-    with process:
+    with subprocess.Popen(["rt", *words], cwd=HOME, **how) as process:
         try:
             yield process
         except BaseException:

@@ -89,7 +89,8 @@ def tell(words, line, is_empty, layout):
 def watched(words):
     """Runs the program and lets its output through; its status, its line, whether a split is empty, and the layout."""
     begins = place_of_input()
-    with subprocess.Popen([BINARY, *words], stdout=subprocess.PIPE, stderr=subprocess.PIPE) as process:
+    # a file may be named by its number, as /dev/fd/63
+    with subprocess.Popen([BINARY, *words], stdout=subprocess.PIPE, stderr=subprocess.PIPE, close_fds=False) as process:
         head, is_taken = passed_on(process)
         line = process.stderr.read().decode(errors="replace")
     status = process.returncode if process.returncode >= 0 else 128 - process.returncode
@@ -144,6 +145,7 @@ def unproved(words):
     wrong = command_line.wrong_in(words)
     if wrong:
         return 2, f"dpl: usage {wrong.kind}\n", False, None
+    kit.find_kit()
     kit.tell(f"{UNPROVED}\n")
     try:
         status, out, told, layout = trying.answer(words, kit.Line())

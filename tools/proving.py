@@ -84,9 +84,10 @@ class Progress:
 
 def build():
     """Proves and builds; the old program stays until the new one stands."""
+    kit.find_kit()
     progress, line, last = Progress(), kit.Line(), []
     counted = f"{len(progress.below)} crates, {len(progress.done)} of which are kept"
-    line.say(f"dpl: proving and building the {counted}; on four processors all take about half an hour")
+    line.say(f"dpl: proving and building the {counted}; on four processors all take half an hour to an hour")
     line.say("dpl: when this is stopped, dpl build goes on from what the kit has kept")
     with kit.rt(["run", "--", *TRIAL], stdin=subprocess.DEVNULL, stdout=subprocess.PIPE, stderr=subprocess.STDOUT) as process:
         for text in lines_of(process.stdout, lambda: line.tell(progress.said(line.minutes()))):

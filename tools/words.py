@@ -105,7 +105,7 @@ def wrong_options(name, command, words):
     names = [option for option, _ in given]
     for option in names:
         if option not in command.options:
-            return Wrong(1, f"{name} has no option --{option}{like(option, command.options)}")
+            return Wrong(1, f"{name} has no option --{option}{like(option, command.options, '--')}")
         if names.count(option) > 1:
             return Wrong(1, f"--{option} is given twice")
     missing = [option for option in command.needed if option not in names]
@@ -146,9 +146,9 @@ def listed(names):
     return f"{', '.join(first)} and {last}" if first else last
 
 
-def like(word, names):
+def like(word, names, before=""):
     close = difflib.get_close_matches(word, names, 1)
-    return f"; did you mean {close[0]}?" if close else ""
+    return f"; did you mean {before}{close[0]}?" if close else ""
 
 
 # ---- telling
