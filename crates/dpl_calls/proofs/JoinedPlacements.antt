@@ -25,7 +25,7 @@ points_joined s (t ∷ ts) outer c = points_joined s ts outer (transformed s t c
 -- the corners of the least rectangle of two points go where it goes
 abbrev IsBoxed : (Corner → Corner) → Type 0
 IsBoxed f = (a b : Corner) → extent_between (f (corner (int_min a.x b.x) (int_min a.y b.y))) (f (corner (int_max a.x b.x) (int_max a.y b.y)))
-  ≡ extent_between (f a) (f b)
+    ≡ extent_between (f a) (f b)
 
 ends : (P : ℤ → ℤ → Type 0) (a b : ℤ) → P a b → P b a → P (int_min a b) (int_max a b)
 ends P a b p q = by_lt_z b a

@@ -65,7 +65,7 @@ level_straight p q (inr e) = by (int_eq p.x q.x) (int_eq p.y q.y) (int_same p.y 
     by false b h = h
 
 levels_straight : (p : Corner) (ps : List Corner) (last : Corner) → AreLevel p ps last
-  → are_straight (corner_place p) (map corner_place ps) (corner_place last) ≡ true
+    → are_straight (corner_place p) (map corner_place ps) (corner_place last) ≡ true
 levels_straight p [] last h = level_straight p last h
 levels_straight p (q ∷ qs) last h = and_from (is_straight (corner_place p) (corner_place q))
     (are_straight (corner_place q) (map corner_place qs) (corner_place last)) (level_straight p q h.0)

@@ -12,7 +12,7 @@ returns-clause-best c = λ kb ka bb ba.
     let n = c.requires.one in
     let each : (v : ℕ) → v < c.args.new.now.net.now.graph.nodes → colour_of c.in_ok-found.found.items v
     ≡ chosen (is_taken c.in_ok-stay.stay.taken.items v)
-      (at c.in_ok-stay.stay.partners.items v) c.args.old.now.colours.now (colour_of c.args.new.now.colours.now v) =
+    (at c.in_ok-stay.stay.partners.items v) c.args.old.now.colours.now (colour_of c.args.new.now.colours.now v) =
     λ v l. (rw (c.as_slice-2.ensures.value, c.as_slice-3.ensures.value) at c.in_ok-found.ensures.each) v (omega (arith, l, n)) in
     let taken = rw c.as_slice.ensures.value at c.in_ok-_part.ensures.taken in
     let all = rw c.as_slice.ensures.value at c.in_ok-_part.ensures.all in
@@ -20,5 +20,5 @@ returns-clause-best c = λ kb ka bb ba.
     c.optima_stay.ensures c.in_ok-_part._part.net c.args.old.now.net.now c.args.new.now.net.now _ old.0 _ _ old.1 c.in_ok-_part.ensures.part
     c.args.old.now.colours.now c.args.new.now.colours.now c.in_ok-found.found.items kb ka bb ba (c.in_ok-found.ensures.long ∙ n)
     (are_mixed c.args.new.now.rects.now c.args.old.now.rects.now c.args.new.now.net.now c.args.old.now.net.now
-      c.in_ok-stay.stay.partners.items c.in_ok-stay.stay.taken.items
+    c.in_ok-stay.stay.partners.items c.in_ok-stay.stay.taken.items
     c.args.old.now.colours.now c.args.new.now.colours.now c.in_ok-found.found.items stay each c.in_ok-_part._part.net _ _ c.in_ok-_part.ensures.part taken all)
