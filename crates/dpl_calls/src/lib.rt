@@ -17,8 +17,6 @@ mod placement;
 mod putting;
 mod scanning;
 pub mod table;
-#[cfg(test)]
-mod tests;
 mod totals;
 mod unfolding;
 

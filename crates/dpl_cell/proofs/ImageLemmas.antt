@@ -292,7 +292,7 @@ turned_in r x y i = record { column = i.row; row = i.column }
 turned_out : (r : Corners) (x y : ℤ) → IsIn (transposed r) x y → IsIn r y x
 turned_out r x y i = record { column = i.row; row = i.column }
 
-turned_sum : (m n : ℕ) → m + n ≡ n + m
+pub turned_sum : (m n : ℕ) → m + n ≡ n + m
 turned_sum m n = omega arith
 
 turned_gap : (x y x' y' : ℤ) → cell_gap2 x y x' y' ≡ cell_gap2 y x y' x'

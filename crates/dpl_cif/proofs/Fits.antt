@@ -19,7 +19,7 @@ use Rattle.std.proofs.lemmas.Bool.{and_from}
 abbrev pub corners : ℤ → ℤ → ℤ → ℤ → Corners
 corners x1 y1 x2 y2 = record { x1 = x1; y1 = y1; x2 = x2; y2 = y2 }
 
-in_range : (z : ℤ) → unsigned_abs z ≤ 2 ^ 30 → IsInRange z
+pub in_range : (z : ℤ) → unsigned_abs z ≤ 2 ^ 30 → IsInRange z
 in_range z h = record { low = omega (arith, ints, h); high = omega (arith, ints, h) }
 
 pub rect_fits : (e : Extent) → IsSound (Rectangle e) → outline_reach (drawn (Rectangle e)) ≤ 2 ^ 30 → IsRectangle (corners e.x1 e.y1 e.x2 e.y2)

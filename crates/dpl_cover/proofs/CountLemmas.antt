@@ -9,7 +9,7 @@ use Rattle.dpl_cover.specs.declared.blocks.Block.{Block}
 use Rattle.dpl_cover.specs.Counts.{AreCounts, AreOwnSmall, AreTame, IsBeside, IsChange, IsGrown, IsRenewed, IsWholeGrown, IsUpTo, IsUnit, block_at}
 use Rattle.dpl_cover.specs.Counts.{is_counted, own_at}
 
-less_or_not : (i j : ℕ) → (i < j) ⊎ (j ≤ i)
+pub less_or_not : (i j : ℕ) → (i < j) ⊎ (j ≤ i)
 less_or_not i j = search arith
 
 same_or_not : (i j : ℕ) → (i ≡ j) ⊎ (i ≢ j)

@@ -7,7 +7,7 @@ use Rattle.std.proofs.lemmas.List.{length-take, length-append}
 use Rattle.std.proofs.Math.Seq.{take-append_seam}
 use Rattle.std.proofs.lemmas.List.Sorted.{length_permutation}
 use Rattle.dpl_list.specs.Order.{Ascends}
-use Rattle.dpl_list.proofs.Integers.{signed, is_at_most}
+use Rattle.dpl_list.proofs.Integers.{signed, is_at_most, not_at_most}
 use Rattle.dpl_cell.specs.declared.rect.Rect.{Rect}
 use Rattle.dpl_cover.specs.declared.cover.Cover.{Cover}
 use Rattle.dpl_cover.specs.Covers.{IsCover, IsPassed}
@@ -19,16 +19,13 @@ parted_by key boxes row up i j d le l e = less _ _ (up i j d le l) e where
   less : (a b : ℤ) → a ≤ℤ b → int_le b row ≡ true → int_le a row ≡ true
   less a b h e = grind (arith, ints)
 
-more_than : (a b : ℤ) → int_le a b ≡ false → b <ℤ a
-more_than a b e = grind (arith, ints)
-
 pub are_passed : (key : Rect → ℤ) (boxes : List Rect) (row : ℤ) (n : ℕ) → n ≤ length boxes →
     ((k : ℕ) (d : Rect) → k < n → int_le (key (get_or boxes k d)) row ≡ true) →
     ((k : ℕ) (d : Rect) → n ≤ k → k < length boxes → int_le (key (get_or boxes k d)) row ≡ false) → IsPassed key row boxes n
 are_passed key boxes row n within before behind = record {
   within = within;
   up_to = λ k d h. is_at_most _ _ (before k d h);
-  beyond = λ k d h l. more_than _ _ (behind k d h l);
+  beyond = λ k d h l. not_at_most _ _ (behind k d h l);
 }
 
 pub passed_more : (key : Rect → ℤ) (boxes : List Rect) (low high : ℤ) (m n : ℕ) → low ≤ℤ high →
@@ -59,10 +56,6 @@ few_between boxes all m n k e few =
 
 pub all_few : (c : Cover) → IsCover c → length c.ends.items ≤ 2 ^ 40
 all_few c s = let e = length_permutation c.begins.items c.ends.items s.same in omega (arith, e, s.few)
-
--- a list that was handed out and came back with new items
-pub refilled : {X : Type 0} (n : ℕ) (new old : List X) → n ≡ length old → length new ≡ length old → take n (new ++ drop (length new) old) ≡ new
-refilled {X} n new old e l = ap (λ k. take k (new ++ drop (length new) old)) (e ∙ sym l) ∙ take-append_seam new (drop (length new) old)
 
 -- ---- below all boxes
 

@@ -10,9 +10,7 @@ use Rattle.dpl_cover.specs.declared.blocks.Block.{Block}
 use Rattle.dpl_cover.specs.Columns.{AreRising, IsAt, column_at}
 use Rattle.dpl_cover.specs.Counts.{is_counted}
 use Rattle.dpl_cover.specs.Parts.{HasCounted}
-
-less_or_not : (i j : ℕ) → (i < j) ⊎ (j ≤ i)
-less_or_not i j = search arith
+use Rattle.dpl_cover.proofs.CountLemmas.{less_or_not}
 
 left_or_from : (x y : ℤ) → (x <ℤ y) ⊎ (y ≤ℤ x)
 left_or_from x y = search signed
@@ -123,6 +121,3 @@ all_looked_at columns to at up stop x k l i = elim (less_or_not k at) [
 
 pub no_parts : (parts : List Stretch) (x : ℤ) → parts ≡ [] → is_in_stretches parts x ≡ true → ⊥
 no_parts parts x e h = true≢false (sym (rw e at h))
-
-pub not_right_of : (a b : ℤ) → int_lt a b ≡ false → b ≤ℤ a
-not_right_of a b e = not_less a b e

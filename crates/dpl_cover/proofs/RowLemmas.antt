@@ -22,6 +22,7 @@ use Rattle.dpl_cover.specs.Tallies.{having}
 use Rattle.dpl_cover.specs.Covers.{IsCover, IsPassed, is_covered}
 use Rattle.dpl_cover.proofs.TallyLemmas.{times_one, times_less}
 use Rattle.dpl_cover.proofs.PartLemmas.{not_left, place_between}
+use Rattle.dpl_cover.proofs.CountLemmas.{less_or_not}
 
 -- ---- sums over boxes up to a row
 
@@ -138,9 +139,6 @@ place_counted c s k l =
 same_columns : (columns : List ℤ) (r : Rect) (k : ℕ) (x : ℤ) → AreRising columns → HasEnds columns r → IsAt columns k x →
     is_within r.x1 r.x2 x ≡ is_within r.x1 r.x2 (column_at columns k)
 same_columns columns r k x up e i = by (is_within r.x1 r.x2 x) (is_within r.x1 r.x2 (column_at columns k)) refl refl where
-  less_or_not : (i j : ℕ) → (i < j) ⊎ (j ≤ i)
-  less_or_not i j = search arith
-
   left_or_from : (x y : ℤ) → (x <ℤ y) ⊎ (y ≤ℤ x)
   left_or_from x y = search signed
 
@@ -193,9 +191,6 @@ counted_covers c s x h = covered_alike c s h.place x h.is_at ∙
 
 pub covered_counts : (c : Cover) → IsCover c → (x : ℤ) → is_covered c x ≡ true → HasCounted c.columns.items c.each.items c.blocks.items x
 covered_counts c s x h = found (Any-from_list_any (λ r. is_in_box (corners_of r) x c.row) c.begins.items h) where
-  less_or_not : (i j : ℕ) → (i < j) ⊎ (j ≤ i)
-  less_or_not i j = search arith
-
   both : (a b : Bool) → (a && b) ≡ true → a ≡ true
   both true b e = refl
   both false b e = e

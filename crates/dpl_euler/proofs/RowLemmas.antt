@@ -8,21 +8,17 @@ use Rattle.dpl_sign.specs.declared.graphs.Signed.{Signed}
 use Rattle.dpl_sign.specs.Walks.{edge_at, leaves, no_edge}
 use Rattle.dpl_sign.specs.declared.edges.Edge.{Edge}
 use Rattle.dpl_sign.specs.Drawings.{is_in}
+use Rattle.dpl_sign.proofs.ComponentLemmas.{ends_below}
 use Rattle.std.proofs.lemmas.List.{get_or_past}
 use Rattle.dpl_list.specs.Rows.{of_key, rows_by}
 use Rattle.dpl_list.proofs.Grouping.{of_key_yes, of_key_no, rows_by_at, rows_by_length}
 use Rattle.dpl_euler.specs.Searches.{IsAt, AreRows}
 use Rattle.dpl_euler.specs.Rows.{AreListed}
 
-pub ends_inside : (g : Signed) (k : ℕ) → k < length g.edges → ((edge_at g k).a < g.nodes) × ((edge_at g k).b < g.nodes)
-ends_inside g k h =
-    let b : (edge_at g k).b < g.nodes = All-get_or (λ (x : Edge). x.b < g.nodes) g.edges k no_edge h g.inside in
-    (omega (arith, (edge_at g k).ordered, b), b)
-
 -- an end of an edge is a node
 end_below : (g : Signed) (v e : ℕ) → e < length g.edges → (((edge_at g e).a == v) || ((edge_at g e).b == v)) ≡ true → v < g.nodes
 end_below g v e h q =
-    let low = ends_inside g e h in
+    let low = ends_below g e h in
     elim (or_cases _ _ q) [
       | inl t ↦ omega (arith, eqb-true (edge_at g e).a v t, low.0)
       | inr t ↦ omega (arith, eqb-true (edge_at g e).b v t, low.1)
@@ -115,7 +111,7 @@ both : (g : Signed) (chosen : List Bool) (nodes edges : List ℕ) (k : ℕ) → 
 both g chosen nodes edges k h in_set r =
     let a = (edge_at g k).a in
     let b = (edge_at g k).b in
-    let low = ends_inside g k h in
+    let low = ends_below g k h in
     let ns = nodes ++ a ∷ [] in
     let es = edges ++ k ∷ [] in
     let n = more_size nodes edges a k r.sizes in

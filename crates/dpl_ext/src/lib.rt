@@ -28,8 +28,3 @@ pub use reading::{ReadEnd, read_all, read_each};
 pub use std::alloc::AllocError as NoMemory;
 pub use taking::Taker;
 pub use writing::write_all;
-
-#[cfg(test)]
-mod shelf_tests;
-#[cfg(test)]
-mod tests;

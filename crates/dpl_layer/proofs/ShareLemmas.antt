@@ -14,7 +14,8 @@ use Rattle.dpl_cell.specs.Tiles.{AreTiles}
 use Rattle.dpl_calls.specs.Totals.{shown}
 use Rattle.dpl_tiles.specs.Union.{SharesOut}
 use Rattle.dpl_tiles.proofs.OutlineLemmas.{AllRows, AllColumns, Lies, no_row, no_column, at_most, above}
-use Rattle.dpl_tiles.proofs.BoundLemmas.{IsBounded}
+use Rattle.dpl_tiles.proofs.BoundLemmas.{IsBounded, far_left, far_right}
+use Rattle.dpl_cif.proofs.Fits.{in_range}
 use Rattle.dpl_tiles.proofs.UnionLemmas.{shares_out}
 use Rattle.dpl_cif.specs.Drawn.{place_reach, places_reach, outline_reach, reach}
 use Rattle.dpl_cif.specs.Reading.{primitives_of, primitive_count, call_count}
@@ -26,15 +27,6 @@ use Rattle.dpl_layer.specs.Drawings.{HasFault, PassesLimit, drawing_reasons}
 use Rattle.dpl_layer.proofs.ReasonLemmas.{Reason, in_front, behind, none_head, none_tail}
 
 -- ---- parts within reach
-
-in_range : (z : ℤ) → unsigned_abs z ≤ 2 ^ 30 → IsInRange z
-in_range z h = record { low = omega (signed, h); high = omega (signed, h) }
-
-far_left : (x c : ℤ) → x <ℤ neg_ℤ (pos (2 ^ 30)) → IsInRange c → Lies false x c
-far_left x c h r = above c x (let g = r.low in omega signed)
-
-far_right : (x c : ℤ) → pos (2 ^ 30) ≤ℤ x → IsInRange c → Lies true x c
-far_right x c h r = at_most c x (let g = r.high in omega signed)
 
 points : (C : ℤ → Type 0) → ((c : ℤ) → IsInRange c → C c) → (ps : List (ℤ × ℤ)) → places_reach ps ≤ 2 ^ 30 → All (λ p. C p.0) ps × All (λ p. C p.1) ps
 points C f [] h = (All-nil (λ p. C p.0), All-nil (λ p. C p.1))

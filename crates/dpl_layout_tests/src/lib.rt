@@ -6,6 +6,8 @@
 #[cfg(test)]
 mod boxes;
 #[cfg(test)]
+mod calls;
+#[cfg(test)]
 mod cell;
 #[cfg(test)]
 mod cif;

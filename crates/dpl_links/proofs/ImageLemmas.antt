@@ -29,7 +29,8 @@ use Rattle.dpl_links.specs.Ports.{IsPortTo}
 use Rattle.dpl_links.specs.Nets.{scene, Tie, tie_of, bond_tie, stitch_tie, clash_tie, HasPorts, IsNet}
 use Rattle.dpl_links.specs.Moving.{key_shift}
 use Rattle.dpl_links.proofs.ImagePorts.{moved_port, mirrored_port_to, transposed_port_to, moved_stretch, flipped_stretch}
-use Rattle.dpl_links.proofs.ImagePorts.{moved_overlap, flipped_overlap, gap_alike, rank_of, rank_alike, sum_over, or_over}
+use Rattle.dpl_links.proofs.ImagePorts.{moved_overlap, flipped_overlap, gap_alike, rank_of, rank_alike, or_over}
+use Rattle.dpl_cell.proofs.ImageLemmas.{turned_sum}
 
 -- ---- what images of rectangles keep
 
@@ -87,7 +88,7 @@ pub transposition_keeps : Keeps transposed IsTransposedPort
 transposition_keeps = record {
   edge = λ a b. (transposed_edge a b, transposed_edge (transposed a) (transposed b));
   close = λ a b reach. (transposed_close a b reach, transposed_close (transposed a) (transposed b) reach);
-  gap = λ a b. sum_over (stretch_gap a.y1 a.y2 b.y1 b.y2 * stretch_gap a.y1 a.y2 b.y1 b.y2) (stretch_gap a.x1 a.x2 b.x1 b.x2 * stretch_gap a.x1 a.x2 b.x1 b.x2);
+  gap = λ a b. turned_sum (stretch_gap a.y1 a.y2 b.y1 b.y2 * stretch_gap a.y1 a.y2 b.y1 b.y2) (stretch_gap a.x1 a.x2 b.x1 b.x2 * stretch_gap a.x1 a.x2 b.x1 b.x2);
   corner = λ a b. ap (λ (z : Bool). rank_of z) (or_over (overlap a.y1 a.y2 b.y1 b.y2) (overlap a.x1 a.x2 b.x1 b.x2));
   port = λ a b p q m t. transposed_port_to a b p q m t;
 }

@@ -174,9 +174,6 @@ rank_of b = if b then 0 else 1
 pub rank_alike : (p q r s : Bool) → p ≡ r → q ≡ s → rank_of (p || q) ≡ rank_of (r || s)
 rank_alike p q r s e f = ap (λ z. rank_of (z || q)) e ∙ ap (λ z. rank_of (r || z)) f
 
-pub sum_over : (m n : ℕ) → m + n ≡ n + m
-sum_over m n = omega arith
-
 pub or_over : (p q : Bool) → (p || q) ≡ (q || p)
 or_over true true = refl
 or_over true false = refl

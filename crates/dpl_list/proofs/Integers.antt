@@ -16,6 +16,9 @@ no_less_test a b h = grind (arith, ints)
 pub not_less : (a b : ℤ) → int_lt a b ≡ false → b ≤ℤ a
 not_less a b e = grind (arith, ints)
 
+pub not_at_most : (a b : ℤ) → int_le a b ≡ false → b <ℤ a
+not_at_most a b e = grind (arith, ints)
+
 -- a test that one is at most another tells that it is
 pub is_at_most : (a b : ℤ) → int_le a b ≡ true → a ≤ℤ b
 is_at_most a b e = grind (arith, ints)

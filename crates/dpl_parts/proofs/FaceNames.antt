@@ -17,7 +17,8 @@ use Rattle.dpl_parts.specs.Parts.{IsPartOf, dart}
 use Rattle.dpl_parts.proofs.Darts.{dart_below, dart_apart}
 use Rattle.dpl_parts.proofs.Faces.{face_here}
 use Rattle.dpl_parts.proofs.Counted.{dart_order}
-use Rattle.dpl_parts.proofs.Linked.{face_name, from_dart, up_is}
+use Rattle.dpl_sign.proofs.OddCounts.{face_twice}
+use Rattle.dpl_parts.proofs.Linked.{from_dart, up_is}
 
 -- ---- cycles by their least numbers
 
@@ -92,7 +93,7 @@ module _ (part whole : Net) (node edge : ℕ → ℕ) (h : IsPartOf part whole n
       let y = face_of whole q (dart edge c) in
       let f = face_of part p c in
       let f_low = face_below part p c l in
-      let name : face_of whole q y ≡ y = face_name whole q (dart edge c) high in
+      let name : face_of whole q y ≡ y = face_twice whole q (dart edge c) high in
       let (x, lx, rx) = from_dart part whole node edge h p q alike c y l (face_below whole q (dart edge c) high) name in
       let same : face_of part p x ≡ f = face_here part whole node edge h p q alike x c lx l (ap (face_of whole q) rx ∙ name) in
       let below : face_of part p x ≤ x = least_le (dart_count part) (next_in_face part p) (face_back part p) (face_permutes part p) x lx in

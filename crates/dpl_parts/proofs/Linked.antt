@@ -5,6 +5,7 @@ use Rattle.dpl_sign.specs.declared.nets.Net.{Net}
 use Rattle.dpl_sign.specs.Drawings.{is_in, dart_count, next_in_face, face_of}
 use Rattle.dpl_sign.specs.Excess.{kept_edges}
 use Rattle.dpl_sign.specs.Parity.{Separates, AreNeighbours, IsFacePath, AreOfOnePart, is_crossable}
+use Rattle.dpl_sign.proofs.OddCounts.{face_twice}
 use Rattle.dpl_sign.proofs.Rotation.{face_back, face_permutes, face_below}
 use Rattle.dpl_parts.specs.Parts.{IsPartOf, dart, face_at, AreOfOneKeptPart}
 use Rattle.dpl_parts.proofs.Darts.{dart_first, dart_second}
@@ -12,16 +13,10 @@ use Rattle.dpl_parts.proofs.Faces.{found, face_there, face_here}
 use Rattle.dpl_parts.proofs.Kept.{keeps_alike}
 use Rattle.dpl_parts.proofs.Counted.{not_away}
 
--- a face is named by a dart on it
-pub face_name : (net : Net) (p : ℕ → Bool) (c : ℕ) → c < dart_count net → face_of net p (face_of net p c) ≡ face_of net p c
-face_name net p c l = label_least (dart_count net) (next_in_face net p) (face_back net p) (face_permutes net p)
-    (face_of net p) (λ x k. least_step (dart_count net) (next_in_face net p) (face_back net p) (face_permutes net p) x
-    k) c l
-
 module _ (part whole : Net) (node edge : ℕ → ℕ) (h : IsPartOf part whole node edge) (p q : ℕ → Bool)
     (alike : (e : ℕ) → e < length part.graph.edges → q (edge e) ≡ p e) where
   pub up_is : (c : ℕ) → c < dart_count part → face_of whole q (dart edge (face_of part p c)) ≡ face_of whole q (dart edge c)
-  up_is c l = face_there part whole node edge h p q alike (face_of part p c) c (face_below part p c l) l (face_name part p c l)
+  up_is c l = face_there part whole node edge h p q alike (face_of part p c) c (face_below part p c l) l (face_twice part p c l)
 
   first_up : (e f : ℕ) → e < length part.graph.edges → face_of part p (2 * e) ≡ f → face_of whole q (2 * edge e) ≡ face_of whole q (dart edge f)
   first_up e f l r = ap (face_of whole q) (sym (dart_first edge e)) ∙ sym (up_is (2 * e) (omega arith)) ∙ ap (λ z. face_of whole q (dart edge z)) r
@@ -77,7 +72,7 @@ module _ (part whole : Net) (node edge : ℕ → ℕ) (h : IsPartOf part whole n
       let g = face_of part p (2 * e + 1) in (
         g,
         face_below part p (2 * e + 1) (omega arith),
-        face_name part p (2 * e + 1) (omega arith),
+        face_twice part p (2 * e + 1) (omega arith),
         (
           e,
           record {
@@ -105,7 +100,7 @@ module _ (part whole : Net) (node edge : ℕ → ℕ) (h : IsPartOf part whole n
       let g = face_of part p (2 * e) in (
         g,
         face_below part p (2 * e) (omega arith),
-        face_name part p (2 * e) (omega arith),
+        face_twice part p (2 * e) (omega arith),
         (
           e,
           record {

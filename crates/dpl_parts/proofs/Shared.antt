@@ -26,7 +26,7 @@ use Rattle.dpl_parts.proofs.Places.{AreShares, IsHeld, sum_shared}
 use Rattle.dpl_parts.proofs.Darts.{dart_below, dart_apart, edge_apart}
 use Rattle.dpl_parts.proofs.Kept.{keeps_alike}
 use Rattle.dpl_parts.proofs.Counted.{odd_alike}
-use Rattle.dpl_parts.proofs.Linked.{face_name}
+use Rattle.dpl_sign.proofs.OddCounts.{face_twice}
 use Rattle.dpl_parts.proofs.FaceNames.{names_face, faces_counted, names_alike, face_up}
 use Rattle.dpl_parts.proofs.PartCounts.{names_counted, bare_alike, components_alike}
 use Rattle.dpl_list.proofs.Sums.{sum_by_alike, sum_by_two}
@@ -53,7 +53,7 @@ not_odd net set f n =
     let m = dart_count net in
     let none : passages_on_face net set (is_clash_edge net) f ≡ 0 =
     count_on_same m (λ d. set (d / 2) && (face_of net set d == f) && is_clash_edge net (d / 2)) (λ d. false) (λ d l.
-    let r = ne_eqb (face_of net set d) f (λ e. n (ap (face_of net set) (sym e) ∙ face_name net set d l ∙ e)) in
+    let r = ne_eqb (face_of net set d) f (λ e. n (ap (face_of net set) (sym e) ∙ face_twice net set d l ∙ e)) in
     elim (cases_Bool (set (d / 2))) [ inl t ↦ rw (t, r) refl | inr t ↦ rw t refl ]) ∙ sums_to (λ d. false) (λ x. 1) m ∙ sum_to_zero m in
     ap (λ z. z % 2 == 1) none
 

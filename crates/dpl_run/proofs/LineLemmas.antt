@@ -1,7 +1,7 @@
 -- A text is a script of one list of lines, which is no longer than the text, and two drawings of one text are the same.
 use Rattle.std.proofs.Common.{arith, ◌≡◌, ◌∙◌, ◌+◌, ◌≤◌, ◌<◌, ◌^◌, ℕ, suc, zero, Bool, true, false, List, [], ◌∷◌, length, map, refl, sym, ap}
 use Rattle.std.specs.Prelude.{codes, All, if◌then◌else◌, ◌==◌}
-use Rattle.dpl_form.specs.Lines.{lines_in, to_first}
+use Rattle.dpl_form.proofs.TextLemmas.{lines_in-short}
 use Rattle.dpl_cell.specs.declared.point.Point.{Point}
 use Rattle.dpl_cell.specs.declared.rect.Rect.{Rect}
 use Rattle.dpl_cell.specs.declared.layout.Primitive.{Primitive}
@@ -83,19 +83,10 @@ one_script text ls ms a b = edits_same ls ms (lines_same (map plain_line ls) (ma
 
 -- ---- their number
 
-byte_length : (t : Bool) (b : ℕ) (ls : List (List ℕ)) (n : ℕ) → length ls ≤ n → length (if t then (10 ∷ []) ∷ ls else to_first b ls) ≤ suc n
-byte_length true b ls n h = omega (arith, h)
-byte_length false b [] n h = omega arith
-byte_length false b (l ∷ ls) n h = omega (arith, h)
-
-lines_length : (bs : List ℕ) → length (lines_in bs) ≤ length bs
-lines_length [] = omega arith
-lines_length (b ∷ bs) = byte_length (b == 10) b (lines_in bs) (length bs) (lines_length bs)
-
 -- a session can take all lines of a script
 pub few_lines : (text : List ℕ) (ls : List Line) (count : ℕ) → count ≡ 0 → length text ≤ 65536 → IsScript text (map plain_line ls) → count + length ls < 2 ^ 32
 few_lines text ls count none short s =
-    let a = lines_length text in
+    let a = lines_in-short text in
     let b = ap length s.is in
     let c = map_size line_text (map plain_line ls) in
     let d = map_size plain_line ls in

@@ -22,8 +22,3 @@ mod texts;
 
 pub use running::run;
 pub use status::Status;
-
-#[cfg(test)]
-mod edit_tests;
-#[cfg(test)]
-mod tests;

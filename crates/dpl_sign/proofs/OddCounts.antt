@@ -13,7 +13,7 @@ use Rattle.dpl_sign.specs.Drawings.{dart_count, twin_of, next_in_face, face_of}
 use Rattle.dpl_sign.specs.Parity.{is_clash_edge, is_odd_face}
 use Rattle.dpl_sign.specs.Redrawn.{AreOpposite}
 use Rattle.dpl_sign.proofs.DartLemmas.{twin_below, twin_twin}
-use Rattle.dpl_sign.proofs.Rotation.{face_back, face_permutes}
+use Rattle.dpl_sign.proofs.Rotation.{face_back, face_permutes, face_below}
 use Rattle.dpl_sign.proofs.RedrawnNets.{same_darts}
 use Rattle.dpl_sign.proofs.OppositeNets.{faces_opposite, odd_opposite, count_twins}
 
@@ -89,16 +89,12 @@ classes_alike n q s t a by_s by_t =
 
 -- ---- odd faces
 
-face_twice : (net : Net) (set : ℕ → Bool) (d : ℕ) → d < dart_count net → face_of net set (face_of net set d) ≡ face_of net set d
+-- a face is named by a dart on it
+pub face_twice : (net : Net) (set : ℕ → Bool) (d : ℕ) → d < dart_count net → face_of net set (face_of net set d) ≡ face_of net set d
 face_twice net set d l =
     let p = face_permutes net set in
     label_least (dart_count net) (next_in_face net set) (face_back net set) p (face_of net set)
     (least_step (dart_count net) (next_in_face net set) (face_back net set) p) d l
-
-face_inside : (net : Net) (set : ℕ → Bool) (d : ℕ) → d < dart_count net → face_of net set d < dart_count net
-face_inside net set d l =
-    let h = least_le (dart_count net) (next_in_face net set) (face_back net set) (face_permutes net set) d l in
-    omega (arith, h)
 
 count_none : (p : ℕ → Bool) (n : ℕ) → ((x : ℕ) → x < n → p x ≡ false) → count_on p n ≡ 0
 count_none p zero h = refl
@@ -143,7 +139,7 @@ odd_counts n m o set =
     let below = λ (x : ℕ) (l : x < 2 * k). twin_below x k l in
     let at_m : (x : ℕ) → x < 2 * k → face_of m set (twin_of x) < 2 * k = λ x l.
     let b = below x l in
-    let h = face_inside m set (twin_of x) (omega arith) in
+    let h = face_below m set (twin_of x) (omega arith) in
     omega arith in
     let twice_m : (x : ℕ) → x < 2 * k → face_of m set (face_of m set (twin_of x)) ≡ face_of m set (twin_of x) = λ x l.
     let b = below x l in
@@ -152,9 +148,9 @@ odd_counts n m o set =
     (faces_opposite n m o set (t x) x (below (face_of m set (twin_of x)) (at_m x l)) l).1
     (ap (face_of m set) (twin_twin (face_of m set (twin_of x))) ∙ twice_m x l) in
     let t_of_s : (x : ℕ) → x < 2 * k → t (s x) ≡ t x = λ x l.
-    ap twin_of ((faces_opposite n m o set (s x) x (face_inside n set x l) l).0 (face_twice n set x l)) in
+    ap twin_of ((faces_opposite n m o set (s x) x (face_below n set x l) l).0 (face_twice n set x l)) in
     let alike : AreAlike (2 * k) s t = record {
-      first = record { inside = λ x l. face_inside n set x l; twice = λ x l. face_twice n set x l };
+      first = record { inside = λ x l. face_below n set x l; twice = λ x l. face_twice n set x l };
       second = record {
         inside = λ x l. below (face_of m set (twin_of x)) (at_m x l);
         twice = λ x l. ap twin_of (ap (face_of m set) (twin_twin (face_of m set (twin_of x))) ∙ twice_m x l);

@@ -60,10 +60,10 @@ all_columns C prims f = All-map (AllColumns C) outline_of prims (λ k d l. colum
 all_rows : (C : ℤ → Type 0) (prims : List Primitive) → ((c : ℤ) → IsInRange c → C c) → All (AllRows C) (map outline_of prims)
 all_rows C prims f = All-map (AllRows C) outline_of prims (λ k d l. rows_weaker IsInRange C f _ (part_rows _))
 
-far_left : (x c : ℤ) → x <ℤ neg_ℤ (pos (2 ^ 30)) → IsInRange c → Lies false x c
+pub far_left : (x c : ℤ) → x <ℤ neg_ℤ (pos (2 ^ 30)) → IsInRange c → Lies false x c
 far_left x c h r = above c x (let g = r.low in omega signed)
 
-far_right : (x c : ℤ) → pos (2 ^ 30) ≤ℤ x → IsInRange c → Lies true x c
+pub far_right : (x c : ℤ) → pos (2 ^ 30) ≤ℤ x → IsInRange c → Lies true x c
 far_right x c h r = at_most c x (let g = r.high in omega signed)
 
 pub bounded : (prims : List Primitive) → IsBounded (is_cell (map outline_of prims))

@@ -12,6 +12,7 @@ use Rattle.dpl_cell.specs.Tiles.{IsRun, IsTile, IsBefore, IsNotAfter, AreTiles}
 use Rattle.dpl_tiles.specs.Stacks.{EndsBefore, AreEnded, AreAllTiles}
 use Rattle.dpl_tiles.specs.Counts.{HasMoreTiles}
 use Rattle.dpl_cell.proofs.BoxLemmas.{equal_z, at_start}
+use Rattle.dpl_cell.proofs.ImageLemmas.{same_corners}
 use Rattle.dpl_cell.proofs.StretchLemmas.{one_maximal}
 use Rattle.dpl_cell.proofs.SortLemmas.{BeginTogether, before_sorted}
 use Rattle.dpl_list.proofs.Integers.{signed}
@@ -35,12 +36,6 @@ upper_edge cells a b y s t e f w v = by_lt_z b.y2 a.y2
     (λ h. h) where
       inside : (a b c d y : ℤ) → IsWithin a b y → IsWithin c d y → d <ℤ b → IsWithin a b d
       inside a b c d y w v h = let k = w.from in let l = v.to in record { from = omega signed; to = h }
-
-abbrev rectangle : ℤ → ℤ → ℤ → ℤ → Corners
-rectangle x1 y1 x2 y2 = record { x1 = x1; y1 = y1; x2 = x2; y2 = y2 }
-
-same_corners : (a b : Corners) → a.x1 ≡ b.x1 → a.y1 ≡ b.y1 → a.x2 ≡ b.x2 → a.y2 ≡ b.y2 → a ≡ b
-same_corners a b e1 e2 e3 e4 = let e : rectangle a.x1 a.y1 a.x2 a.y2 ≡ rectangle b.x1 b.y1 b.x2 b.y2 = cc in e
 
 pub one_tile : (cells : ℤ → ℤ → Bool) (a b : Corners) (y : ℤ) → IsTile cells a → IsTile cells b → a.x1 ≡ b.x1 →
     a.x2 ≡ b.x2 → IsWithin a.y1 a.y2 y → IsWithin b.y1 b.y2 y → a ≡ b

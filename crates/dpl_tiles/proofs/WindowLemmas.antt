@@ -32,9 +32,6 @@ run_down old new z d1 d2 x1 x2 same far run = run_up new old z d1 d2 x1 x2 (λ x
 
 -- ---- the places of the stacks near the columns that change
 
-pub not_at_most : (a b : ℤ) → int_le a b ≡ false → b <ℤ a
-not_at_most a b e = grind (arith, ints)
-
 pub parted_left : (held : List Rect) (c : ℤ) → AllPairs IsLeftOf held → IsPartitionedBy (λ r. int_lt r.x2 c) held
 parted_left held c up i j d le l e = elim (cases_lt i j) [
   | inl h ↦ step (get_or held i d) (get_or held j d) (up i j d h l) e

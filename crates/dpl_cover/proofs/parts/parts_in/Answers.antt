@@ -1,9 +1,10 @@
 use Rattle.std.proofs.Common.{rules, ◌∙◌, ◌<◌, ◌≤ℤ◌, length, SFits, w64}
 use Rattle.std.proofs.lemmas.Int.{to_z-of_z}
 use Rattle.dpl_cover.specs.Columns.{column_at}
-use Rattle.dpl_cover.proofs.PartLemmas.{none_before, sound_more, full_more, full_past, ends_before, all_looked_at, no_parts, not_right_of}
+use Rattle.dpl_cover.proofs.PartLemmas.{none_before, sound_more, full_more, full_past, ends_before, all_looked_at, no_parts}
 use Rattle.dpl_cover.proofs.parts.parts_in.Goals as goal
 use Rattle.dpl_cover.proofs.parts.parts_in.Goals.{then-loop-at-test+else-columns-at, else-loop-at-test}
+use Rattle.dpl_list.proofs.Integers.{not_less}
 
 pub loop-at-init : goal.loop-at-init
 loop-at-init c =
@@ -52,7 +53,7 @@ returns-clause-full c = λ x k l h i t.
     let g : SFits w64 c.args.to = c.ranges.to in
     let stop : c.loop-at.at < length c.args.columns.now → c.args.to ≤ℤ column_at c.args.columns.now c.loop-at.at =
     elim c.loop-at-test.branch [
-      | then-loop-at-test+else-columns-at w ↦ λ n. not_right_of _ _ (search rules)
+      | then-loop-at-test+else-columns-at w ↦ λ n. not_less _ _ (search rules)
       | else-loop-at-test w ↦ λ n. absurd (search rules)
     ] in
     (simp to_z-of_z at c.loop-at.invariant.full) x k l (all_looked_at c.args.columns.now c.args.to c.loop-at.at c.requires.columns stop x k h i) i t

@@ -1,6 +1,6 @@
 use Rattle.std.proofs.Common.{arith, rules, int_le, SFits, w64}
 use Rattle.std.proofs.lemmas.List.Sorted.{IsPartitionPoint-from_clause}
-use Rattle.dpl_tiles.proofs.WindowLemmas.{not_at_most}
+use Rattle.dpl_list.proofs.Integers.{not_at_most}
 use Rattle.dpl_tiles.proofs.CornerLemmas.{parted_up_to}
 use Rattle.dpl_tiles.proofs.corners.first_past.Goals as goal
 use Rattle.dpl_list.proofs.Integers.{is_at_most}

@@ -1,7 +1,8 @@
 use Rattle.std.proofs.Common.{arith, rules, ◌≡◌, ◌+◌, ◌++◌, ◌^◌, length, take, drop, SFits, w64}
 use Rattle.std.proofs.lemmas.Int.{to_z-of_z}
 use Rattle.dpl_cover.proofs.TallyLemmas.{wider}
-use Rattle.dpl_cover.proofs.CoverLemmas.{passed_more, few_counted, few_between, all_few, refilled}
+use Rattle.dpl_cover.proofs.CoverLemmas.{passed_more, few_counted, few_between, all_few}
+use Rattle.dpl_list.proofs.Lists.{refilled}
 use Rattle.dpl_cover.proofs.cover.Cover.rise.Goals as goal
 
 pub between-begun-requires-clause-order : goal.between-begun-requires-clause-order

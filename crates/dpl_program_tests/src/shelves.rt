@@ -1,4 +1,4 @@
-use crate::{FileShelf, MemShelf, OpenEnd, ReadEnd, Shelf, Source, read_all};
+use dpl_ext::{FileShelf, MemShelf, OpenEnd, ReadEnd, Shelf, Source, read_all};
 use std::fs;
 use std::test::Fail;
 

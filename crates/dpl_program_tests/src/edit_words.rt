@@ -1,4 +1,4 @@
-use crate::{Command, Line, ScriptError, UsageError, parse, script};
+use dpl_words::{Command, Line, ScriptError, UsageError, parse, script};
 use std::alloc::Global;
 use std::test::Fail;
 

@@ -1,7 +1,5 @@
-use crate::entry::Entry;
-use crate::{groups_of, looped, missing, scan};
+use dpl_calls::{groups_of, looped, missing, scan};
 use dpl_lex::{Name, commands};
-use std::mem::size_of;
 use std::test::Fail;
 
 #[test]
@@ -15,12 +13,5 @@ fn definitions_and_calls_are_found(rt: HostRuntime) -> Result<(), Fail> {
     let groups = groups_of(rt.alloc(), &table)?;
     assert_eq!(rt; groups.labels.as_slice(), [1, 0, 0].as_slice());
     assert_eq!(rt; looped(&table, &groups), Some(5));
-    Ok(())
-}
-
-/// A million calls without transformations take 32 MB in their definitions, and are kept nowhere else.
-#[test]
-fn a_call_is_small(rt: HostRuntime) -> Result<(), Fail> {
-    assert_eq!(rt; size_of::<Entry>(), 32);
     Ok(())
 }

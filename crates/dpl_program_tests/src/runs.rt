@@ -1,4 +1,4 @@
-use crate::{Status, run};
+use dpl_run::{Status, run};
 use dpl_ext::{MemShelf, MemSink, MemSource};
 use dpl_rules::What;
 use std::alloc::Global;
