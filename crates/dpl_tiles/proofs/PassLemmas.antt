@@ -6,14 +6,14 @@ use Rattle.std.proofs.lemmas.List.Elements.{All-append, All-cons, All-weaker}
 use Rattle.dpl_cell.specs.declared.rect.Rect.{Rect}
 use Rattle.dpl_cell.specs.Tiles.{IsRun}
 use Rattle.dpl_tiles.specs.declared.corners.Corner.{Corner}
-use Rattle.dpl_tiles.specs.Bands.{HasColumns}
+use Rattle.dpl_tiles.specs.Bands.{AreAlike, HasColumns}
 use Rattle.dpl_tiles.specs.Sweeps.{AreHeld, AreSwept, IsSameStack, IsNew, IsStep}
 use Rattle.dpl_tiles.specs.Windows.{IsChange, IsFar}
 use Rattle.dpl_tiles.specs.Clusters.{passed, AreChanges, IsStepUpTo, IsPassed}
 use Rattle.dpl_list.proofs.Integers.{less_test, no_less_test}
 use Rattle.dpl_list.proofs.Lists.{any_left, any_right, all_pairs_append}
 use Rattle.dpl_list.proofs.Integers.{signed}
-use Rattle.dpl_tiles.proofs.StackLemmas.{AreAlike, run_same}
+use Rattle.dpl_tiles.proofs.StackLemmas.{run_same}
 use Rattle.dpl_tiles.proofs.UnionLemmas.{run_or_not}
 use Rattle.dpl_tiles.proofs.WindowLemmas.{run_up, run_down}
 use Rattle.dpl_tiles.proofs.SweepLemmas.{swept_more}

@@ -7,7 +7,7 @@ use Rattle.std.proofs.lemmas.List.Folds.{list_any-from_Any, Any-from_list_any}
 use Rattle.dpl_cell.specs.declared.rect.Rect.{Rect}
 use Rattle.dpl_cell.specs.Cells.{IsWithin}
 use Rattle.dpl_cell.specs.Tiles.{IsRun}
-use Rattle.dpl_tiles.specs.Bands.{HasColumns, IsLeftOf}
+use Rattle.dpl_tiles.specs.Bands.{AreAlike, HasColumns, IsLeftOf}
 use Rattle.dpl_tiles.specs.Stacks.{goes_on}
 use Rattle.dpl_list.proofs.Integers.{signed}
 use Rattle.dpl_cell.proofs.BoxLemmas.{three}
@@ -49,11 +49,6 @@ run_same cells cells' y y' x1 x2 same run = record {
   left = rw (same (x1 -ℤ pos 1)) at run.left;
   right = rw (same x2) at run.right;
 }
-
--- all rows from low to high have the same cells
-pub record AreAlike (cells : ℤ → ℤ → Bool) (low high : ℤ) : Type 0 where
-  pub some : low <ℤ high
-  pub same : (x y : ℤ) → IsWithin low high y → cells x low ≡ cells x y
 
 pub up : (cells : ℤ → ℤ → Bool) (low high y x1 x2 : ℤ) → AreAlike cells low high → IsWithin low high y → IsRun cells x1 x2 low → IsRun cells x1 x2 y
 up cells low high y x1 x2 a w run = run_same cells cells low y x1 x2 (λ x. a.same x y w) run

@@ -6,12 +6,12 @@ use Rattle.dpl_cell.specs.declared.rect.Rect.{Rect}
 use Rattle.dpl_cell.specs.Places.{corners_of}
 use Rattle.dpl_cell.specs.Cells.{IsWithin}
 use Rattle.dpl_cell.specs.Tiles.{IsRun, IsTile}
-use Rattle.dpl_tiles.specs.Bands.{HasColumns}
+use Rattle.dpl_tiles.specs.Bands.{AreAlike, HasColumns}
 use Rattle.dpl_tiles.specs.Stacks.{IsPieceAt, EndsBefore, AreEnded}
 use Rattle.dpl_tiles.specs.Sweeps.{IsHeld, AreHeld, HoldsRun, AreSwept, IsSameStack, IsNew, IsStep}
 use Rattle.dpl_list.proofs.Integers.{signed}
 use Rattle.dpl_list.proofs.Lists.{any_left, any_right, all_pairs_append}
-use Rattle.dpl_tiles.proofs.StackLemmas.{AreAlike, up, down, last_row}
+use Rattle.dpl_tiles.proofs.StackLemmas.{up, down, last_row}
 use Rattle.dpl_tiles.proofs.UnionLemmas.{run_or_not}
 
 -- ---- the stacks that go on

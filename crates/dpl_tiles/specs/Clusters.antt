@@ -3,7 +3,8 @@ use Rattle.std.specs.Prelude.{◌≡◌, ◌⊎◌, ℕ, ◌≤◌, ◌<◌, ℤ
 use Rattle.dpl_cell.specs.declared.rect.Rect.{Rect}
 use Rattle.dpl_tiles.specs.declared.corners.Corner.{Corner}
 use Rattle.dpl_list.specs.Order.{Ascends}
-use Rattle.dpl_tiles.specs.Sweeps.{AreSwept, IsSameStack, IsStep}
+use Rattle.dpl_tiles.specs.declared.sweep.Sweep.{Sweep}
+use Rattle.dpl_tiles.specs.Sweeps.{AreSwept, IsSameStack, IsStep, stacks_of}
 use Rattle.dpl_tiles.specs.Windows.{IsOutside}
 
 -- in each row the cells of this row left of the column, and from there on those of the row below it
@@ -41,3 +42,7 @@ pub record IsPassed (cells : ℤ → ℤ → Bool) (z : ℤ) (row : List Corner)
   pub behind : (k : ℕ) (d : Corner) → k < at → k < length row → (slice_index_or row k d).right ≤ℤ column
   pub ahead : (k : ℕ) (d : Corner) → at ≤ k → k < length row → column <ℤ (slice_index_or row k d).left
   pub step : IsStepUpTo cells z column held closed now
+
+-- a sweep that has passed row z up to the corner at a place
+abbrev pub HasPassed : (ℤ → ℤ → Bool) → ℤ → List Corner → ℕ → Sweep → Type 0
+HasPassed cells z row at s = IsPassed cells z row at s.ended.items (stacks_of s.stacks)

@@ -1,8 +1,10 @@
 -- Stacks of equal runs in a sweep from the bottom to the top, which touches only the stacks that change. A stack that goes on is kept with its columns and its lowest row; its top is the row that is reached.
-use Rattle.std.specs.Prelude.{◌≡◌, ◌⊎◌, ℤ, pos, ◌-ℤ◌, ◌<ℤ◌, ◌≤ℤ◌, List, Bool, All, Any, AllPairs}
+use Rattle.std.specs.Prelude.{◌≡◌, ◌⊎◌, ℤ, pos, ◌-ℤ◌, ◌<ℤ◌, ◌≤ℤ◌, List, ◌++◌, reverse, Bool, All, Any, AllPairs}
 use Rattle.dpl_cell.specs.declared.rect.Rect.{Rect}
 use Rattle.dpl_cell.specs.Cells.{IsWithin}
 use Rattle.dpl_cell.specs.Tiles.{IsRun}
+use Rattle.dpl_tiles.specs.declared.sweep.Stacks.{Stacks}
+use Rattle.dpl_tiles.specs.declared.sweep.Sweep.{Sweep}
 use Rattle.dpl_tiles.specs.Bands.{HasColumns, IsLeftOf}
 use Rattle.dpl_tiles.specs.Stacks.{IsPieceAt, AreEnded}
 
@@ -29,6 +31,14 @@ pub record AreSwept (cells : ℤ → ℤ → Bool) (z : ℤ) (ended held : List 
   pub going : AreHeld cells z held
   pub whole : (x1 x2 y : ℤ) → y <ℤ z → IsRun cells x1 x2 y →
       Any (IsPieceAt x1 x2 y) ended ⊎ Any (HoldsRun x1 x2 y) held
+
+-- the stacks that go on, from the left
+abbrev pub stacks_of : Stacks → List Rect
+stacks_of s = s.left.items ++ reverse s.right.items
+
+-- a sweep over all runs below row z
+abbrev pub HasReached : (ℤ → ℤ → Bool) → ℤ → Sweep → Type 0
+HasReached cells z s = AreSwept cells z s.ended.items (stacks_of s.stacks)
 
 -- the second is the first stack, perhaps with another top
 pub record IsSameStack (o r : Rect) : Type 0 where

@@ -1,13 +1,15 @@
 // Corners of a row with no stack between them, and the stacks near them.
-ghost use Rattle.std.specs.Prelude.{◌≡◌, true, false, ℤ, ◌<ℤ◌, ◌≤ℤ◌, ◌<◌, ◌++◌, length, slice_index_or, List, All, AllPairs, Any, IfOk, OnOk, reverse};
+ghost use Rattle.std.specs.Prelude.{◌≡◌, true, false, ℤ, ◌<ℤ◌, ◌≤ℤ◌, ◌<◌, length, slice_index_or, List, All, AllPairs, Any, IfOk, OnOk, reverse};
 ghost use Rattle.dpl_cell.specs.declared.rect.Rect.{Rect};
 ghost use Rattle.dpl_tiles.specs.declared.corners.Corner.{Corner};
 ghost use Rattle.dpl_tiles.specs.Bands.{IsLeftOf};
+ghost use Rattle.dpl_tiles.specs.Sweeps.{stacks_of};
 ghost use Rattle.dpl_tiles.specs.Windows.{IsParted};
 ghost use Rattle.dpl_tiles.specs.Clusters.{IsCluster};
 
 use crate::columns::Columns;
 use crate::corners::{Corner, columns_of, widened};
+use crate::sweep::Stacks;
 use crate::sweeping::{first_not_right, move_back, part};
 use dpl_cell::Rect;
 use std::alloc::{AllocError, Global};
@@ -23,24 +25,23 @@ pub struct Cluster {
 /// Takes out the stacks near the corners from a place on, up to one that begins behind a stack that is not near them.
 pub fn gather(
     alloc: Global,
-    left: &mut Vec<Rect>,
-    right: &mut Vec<Rect>,
+    stacks: &mut Stacks,
     corners: &[Corner],
     at: usize,
 ) -> Result<Cluster, AllocError>
-    requires ordered { AllPairs IsLeftOf (left.old.items ++ reverse right.old.items) }
+    requires ordered { AllPairs IsLeftOf (stacks_of stacks.old) }
     requires inside { at < length corners.now }
-    ensures parted { IfOk result (λ v. IsParted (left.old.items ++ reverse right.old.items)
-        v.change.left v.change.right left.new.items v.near.items right.new.items) }
+    ensures parted { IfOk result (λ v. IsParted (stacks_of stacks.old) v.change.left v.change.right
+        stacks.new.left.items v.near.items stacks.new.right.items) }
     ensures cluster { IfOk result (λ v.
         IsCluster corners.now at v.to v.change.left v.change.right v.near.items) }
 {
     let mut change = columns_of(&corners[at]);
-    let mut near = part(alloc, left, right, &change)?;
+    let mut near = part(alloc, stacks, &change)?;
     let mut to = at + 1;
-    'wider: while goes_on(corners, to, right.as_slice()) {
+    'wider: while goes_on(corners, to, stacks.right.as_slice()) {
         change = widened(&change, &corners[to]);
-        take_near(right, &mut near, change.right)?;
+        take_near(&mut stacks.right, &mut near, change.right)?;
         to += 1;
     }
     Ok(Cluster { change, near, to })

@@ -5,6 +5,7 @@
 //! `tiles_share_out` is the law that each cell of a layout lies in exactly one of its tiles.
 #![tactic(auto)]
 
+mod band;
 mod bounds;
 mod columns;
 mod corners;
@@ -19,6 +20,7 @@ mod side;
 mod sides;
 mod stacking;
 mod still;
+mod sweep;
 mod sweeping;
 mod tiling;
 

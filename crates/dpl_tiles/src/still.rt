@@ -1,17 +1,14 @@
 // Rows that change within one stack.
-ghost use Rattle.std.specs.Prelude.{◌≡◌, [], true, ℤ, ◌≤ℤ◌, ◌||◌, Any, IfOk, IfSome, OnOk, map};
+ghost use Rattle.std.specs.Prelude.{◌≡◌, [], true, ℤ, ◌≤ℤ◌, ◌||◌, Any, IfOk, IfSome, OnOk};
 ghost use Rattle.dpl_cell.specs.Cells.{IsWithin};
-ghost use Rattle.dpl_cell.specs.Layers.{is_cell};
-ghost use Rattle.dpl_cell.specs.Outlines.{outline_of};
 ghost use Rattle.dpl_cell.specs.Places.{corners_of};
 ghost use Rattle.dpl_cell.specs.Stretches.{is_in_stretches};
-ghost use Rattle.dpl_tiles.specs.Bands.{HasColumns};
-ghost use Rattle.dpl_tiles.specs.Finders.{IsFinderOf};
+ghost use Rattle.dpl_tiles.specs.Bands.{HasColumns, IsBand, cells_in};
 ghost use Rattle.dpl_tiles.specs.Windows.{IsOutside, has_columns, is_shared};
 
+use crate::band::Band;
 use crate::columns::{Columns, greater, lesser};
-use crate::finder::Finder;
-use dpl_cell::{Prim, Rect, Stretch};
+use dpl_cell::{Rect, Stretch};
 use std::alloc::{AllocError, Global};
 
 /// The columns of a stack, if the first one holds all columns of a window.
@@ -38,27 +35,24 @@ fn has_columns(r: &Rect, columns: &Columns) -> bool
     r.x1 <= columns.left && columns.right <= r.x2
 }
 
-/// The cells of one row in the columns of a stack, where all that stand outside some columns are cells. There are no
-/// polygons.
+/// The cells of a band's lowest row in the columns of a stack, where all that stand outside some
+/// columns are cells. There are no polygons.
 pub fn parts_beside(
     alloc: Global,
-    prims: &[Prim],
-    finder: &Finder,
+    band: &Band<'_>,
     change: &Columns,
     stack: &Stretch,
-    y: i64,
 ) -> Result<Vec<Stretch>, AllocError>
-    requires finder { IsFinderOf prims.now finder.now }
-    requires row { finder.now.cover.row ≡ y }
-    requires boxes { finder.now.sides.items ≡ [] }
+    requires band { IsBand band.now }
+    requires boxes { band.now.finder.now.sides.items ≡ [] }
     requires same { (x : ℤ) → IsWithin stack.now.from stack.now.to x →
-        IsOutside change.now.left change.now.right x →
-        is_cell (map outline_of prims.now) x y ≡ true }
+        IsOutside change.now.left change.now.right x → cells_in band.now x band.now.low ≡ true }
     ensures sound { IfOk result (λ v. (x : ℤ) → is_in_stretches v.items x ≡ true →
-        is_cell (map outline_of prims.now) x y ≡ true) }
+        cells_in band.now x band.now.low ≡ true) }
     ensures full { IfOk result (λ v. (x : ℤ) → IsWithin stack.now.from stack.now.to x →
-        is_cell (map outline_of prims.now) x y ≡ true → is_in_stretches v.items x ≡ true) }
+        cells_in band.now x band.now.low ≡ true → is_in_stretches v.items x ≡ true) }
 {
+    let finder = band.finder;
     let mut parts = finder.cover.stretches(alloc, change.left, change.right)?;
     push_between(&mut parts, stack, stack.from, change.left)?;
     push_between(&mut parts, stack, change.right, stack.to)?;

@@ -1,133 +1,94 @@
 // A sweep that touches only the stacks near the columns that change.
-ghost use Rattle.std.specs.Prelude.{◌≡◌, ◌⊎◌, true, ℕ, ℤ, ◌-ℤ◌, ◌<ℤ◌, ◌≤ℤ◌, ◌<◌, ◌≤◌, ◌++◌, neg_ℤ, pos, length, slice_index_or, All, AllPairs, Any, Contains, IfOk, IfSome, OnOk, IsTrue, map, filter, take, drop, reverse, [], ◌∷◌};
+ghost use Rattle.std.specs.Prelude.{◌≡◌, ◌⊎◌, true, ℕ, ℤ, ◌-ℤ◌, ◌<ℤ◌, ◌≤ℤ◌, ◌<◌, ◌≤◌, ◌++◌, pos, length, slice_index_or, All, AllPairs, Any, IfOk, IfSome, OnOk, filter, take, drop, reverse, []};
 ghost use Rattle.std.specs.List.{AllZip};
 ghost use Rattle.dpl_limits.specs.Limits.{most_coordinate};
 ghost use Rattle.dpl_cell.specs.declared.rect.Rect.{Rect};
-ghost use Rattle.dpl_cell.specs.Cells.{IsWithin};
-ghost use Rattle.dpl_cell.specs.Outlines.{outline_of};
-ghost use Rattle.dpl_cell.specs.Layers.{is_cell};
 ghost use Rattle.dpl_cell.specs.Tiles.{IsRun};
-ghost use Rattle.dpl_tiles.specs.Bands.{IsLeftOf, IsOver};
-ghost use Rattle.dpl_tiles.specs.Finders.{IsFinderOf};
+ghost use Rattle.dpl_tiles.specs.Bands.{IsBand, IsLeftOf, IsOver, cells_in};
 ghost use Rattle.dpl_tiles.specs.Stretches.{IsFramed};
 ghost use Rattle.dpl_tiles.specs.Corners.{AreCorners};
 ghost use Rattle.dpl_tiles.specs.Stacks.{ending};
-ghost use Rattle.dpl_cell.specs.Stretches.{AreSeparate, is_in_stretches};
-ghost use Rattle.dpl_tiles.specs.Sweeps.{AreSwept};
-ghost use Rattle.dpl_tiles.specs.Clusters.{AreChanges, IsPassed};
+ghost use Rattle.dpl_cell.specs.Stretches.{is_in_stretches};
+ghost use Rattle.dpl_tiles.specs.Sweeps.{HasReached, stacks_of};
+ghost use Rattle.dpl_tiles.specs.Clusters.{AreChanges, HasPassed};
 ghost use Rattle.dpl_tiles.specs.Windows.{AddsClosed, AreNearRuns, IsClosed, IsContinued, IsFar, IsParted, IsStill, is_near};
 
+use crate::band::Band;
 use crate::columns::{Columns, greater, lesser, row_within};
 use crate::corners::{Corner, corners_at};
-use crate::finder::Finder;
 use crate::gathering::gather;
 use crate::rows::push_polygons;
 use crate::stacking::find;
 use crate::still::{parts_beside, stack_across};
-use dpl_cell::{Prim, Rect, Stretch};
+use crate::sweep::{Stacks, Sweep};
+use dpl_cell::{Rect, Stretch};
 use dpl_cover::{merged, sort};
 use std::alloc::{AllocError, Global};
 
-/// Goes on by one band: closes the stacks that end at row `low`, and begins those that are new there. The stacks stand in
-/// two lists, which meet where columns changed last: from the left up to there, and from the right.
+/// Goes on by one band: closes the stacks that end at its lowest row, and begins those that are new
+/// there.
 pub fn step(
     alloc: Global,
-    ended: &mut Vec<Rect>,
-    left: &mut Vec<Rect>,
-    right: &mut Vec<Rect>,
-    prims: &[Prim],
-    finder: &Finder,
+    sweep: &mut Sweep,
+    band: &Band<'_>,
     corners: &[Corner],
-    low: i64,
-    high: i64,
 ) -> Result<(), AllocError>
-    requires finder { IsFinderOf prims.now finder.now }
-    requires row { finder.now.cover.row ≡ low }
-    requires cornered { AreCorners prims.now corners.now }
-    requires high { low <ℤ high }
-    requires below { neg_ℤ (pos most_coordinate) ≤ℤ low }
-    requires above { high ≤ℤ pos most_coordinate }
-    requires swept { AreSwept (is_cell (map outline_of prims.now)) low ended.old.items
-        (left.old.items ++ reverse right.old.items) }
-    requires alike { (x y : ℤ) → IsWithin low high y →
-        is_cell (map outline_of prims.now) x low ≡ is_cell (map outline_of prims.now) x y }
-    ensures { OnOk result (AreSwept (is_cell (map outline_of prims.now)) high ended.new.items
-        (left.new.items ++ reverse right.new.items)) }
+    requires band { IsBand band.now }
+    requires cornered { AreCorners band.now.prims.now corners.now }
+    requires swept { HasReached (cells_in band.now) band.now.low sweep.old }
+    ensures { OnOk result (HasReached (cells_in band.now) band.now.high sweep.new) }
 {
-    let row = corners_at(corners, low);
+    let row = corners_at(corners, band.low);
     let mut at = 0;
     'clusters: while at < row.len() {
-        at = pass(alloc, ended, left, right, prims, finder, row, at, low, high)?;
+        at = pass(alloc, sweep, band, row, at)?;
     }
     Ok(())
 }
 
-/// Passes a cluster of the corners of a row, from one place on, and gives the place behind it.
+/// Passes a cluster of the corners of a band's lowest row, from one place on, and gives the place
+/// behind it.
 fn pass(
     alloc: Global,
-    ended: &mut Vec<Rect>,
-    left: &mut Vec<Rect>,
-    right: &mut Vec<Rect>,
-    prims: &[Prim],
-    finder: &Finder,
+    sweep: &mut Sweep,
+    band: &Band<'_>,
     row: &[Corner],
     at: usize,
-    low: i64,
-    high: i64,
 ) -> Result<usize, AllocError>
-    requires finder { IsFinderOf prims.now finder.now }
-    requires row { finder.now.cover.row ≡ low }
-    requires high { low <ℤ high }
-    requires below { neg_ℤ (pos most_coordinate) ≤ℤ low }
-    requires above { high ≤ℤ pos most_coordinate }
-    requires changes { AreChanges (is_cell (map outline_of prims.now)) low row.now }
+    requires band { IsBand band.now }
+    requires changes { AreChanges (cells_in band.now) band.now.low row.now }
     requires inside { at < length row.now }
-    requires passed { IsPassed (is_cell (map outline_of prims.now)) low row.now at ended.old.items
-        (left.old.items ++ reverse right.old.items) }
+    requires passed { HasPassed (cells_in band.now) band.now.low row.now at sweep.old }
     ensures further { IfOk result (λ to. at < to) }
-    ensures passed { IfOk result (λ to. IsPassed (is_cell (map outline_of prims.now)) low row.now
-        to ended.new.items (left.new.items ++ reverse right.new.items)) }
+    ensures passed { IfOk result (λ to.
+        HasPassed (cells_in band.now) band.now.low row.now to sweep.new) }
 {
-    let cluster = gather(alloc, left, right, row, at)?;
+    let cluster = gather(alloc, &mut sweep.stacks, row, at)?;
     let near = cluster.near.as_slice();
     let window = window_of(near, &cluster.change);
     let still = stack_across(near, &window);
-    let runs = near_runs(
-        alloc,
-        prims,
-        finder,
-        &cluster.change,
-        &window,
-        still,
-        low,
-        high,
-    )?;
-    push_closed(ended, near, runs.as_slice(), low)?;
+    let runs = near_runs(alloc, band, &cluster.change, &window, still)?;
+    push_closed(&mut sweep.ended, near, runs.as_slice(), band.low)?;
     let stacks = all_continued(alloc, near, runs.as_slice())?;
-    left.extend_from_slice(stacks.as_slice())?;
+    sweep.stacks.left.extend_from_slice(stacks.as_slice())?;
     Ok(cluster.to)
 }
 
 /// Takes out the stacks near the columns that change; those left of them stand in one list, those right of them in the
 /// other.
-pub fn part(
-    alloc: Global,
-    left: &mut Vec<Rect>,
-    right: &mut Vec<Rect>,
-    change: &Columns,
-) -> Result<Vec<Rect>, AllocError>
-    requires ordered { AllPairs IsLeftOf (left.old.items ++ reverse right.old.items) }
+pub fn part(alloc: Global, stacks: &mut Stacks, change: &Columns) -> Result<Vec<Rect>, AllocError>
+    requires ordered { AllPairs IsLeftOf (stacks_of stacks.old) }
     requires some { change.now.left ≤ℤ change.now.right }
-    ensures { IfOk result (λ near. IsParted (left.old.items ++ reverse right.old.items)
-        change.now.left change.now.right left.new.items near.items right.new.items) }
+    ensures { IfOk result (λ near. IsParted (stacks_of stacks.old) change.now.left change.now.right
+        stacks.new.left.items near.items stacks.new.right.items) }
 {
     let mut near = Vec::new(alloc);
-    let from = first_not_left(left.as_slice(), change.left);
-    move_back(left, right, from)?;
-    let count = first_left(right.as_slice(), change.left);
-    move_back(right, left, count)?;
-    let count = first_not_right(right.as_slice(), change.right);
-    move_back(right, &mut near, count)?;
+    let from = first_not_left(stacks.left.as_slice(), change.left);
+    move_back(&mut stacks.left, &mut stacks.right, from)?;
+    let count = first_left(stacks.right.as_slice(), change.left);
+    move_back(&mut stacks.right, &mut stacks.left, count)?;
+    let count = first_not_right(stacks.right.as_slice(), change.right);
+    move_back(&mut stacks.right, &mut near, count)?;
     Ok(near)
 }
 
@@ -228,78 +189,63 @@ fn with_stack(columns: &Columns, r: &Rect) -> Columns
     Columns { left, right }
 }
 
-/// The runs of row `low` that are not far from the columns that change, each in all rows up to `high`. The window may lie
-/// in a stack that does not change elsewhere.
+/// The runs of a band that are not far from the columns that change, each in all its rows. The
+/// window may lie in a stack that does not change elsewhere.
 fn near_runs(
     alloc: Global,
-    prims: &[Prim],
-    finder: &Finder,
+    band: &Band<'_>,
     change: &Columns,
     window: &Columns,
     still: Option<Stretch>,
-    low: i64,
-    high: i64,
 ) -> Result<Vec<Rect>, AllocError>
-    requires finder { IsFinderOf prims.now finder.now }
-    requires row { finder.now.cover.row ≡ low }
-    requires high { low <ℤ high }
-    requires below { neg_ℤ (pos most_coordinate) ≤ℤ low }
-    requires above { high ≤ℤ pos most_coordinate }
-    requires inside { (x1 x2 : ℤ) → IsRun (is_cell (map outline_of prims.now)) x1 x2 low →
+    requires band { IsBand band.now }
+    requires inside { (x1 x2 : ℤ) → IsRun (cells_in band.now) x1 x2 band.now.low →
         ¬ IsFar change.now.left change.now.right x1 x2 →
         (window.now.left ≤ℤ x1) × (x2 ≤ℤ window.now.right) }
-    requires framed { IsFramed (is_cell (map outline_of prims.now)) low window.now.left
-        window.now.right }
-    requires still { IfSome still (IsStill (is_cell (map outline_of prims.now)) low change.now.left
+    requires framed { IsFramed (cells_in band.now) band.now.low window.now.left window.now.right }
+    requires still { IfSome still (IsStill (cells_in band.now) band.now.low change.now.left
         change.now.right window.now.left window.now.right) }
     ensures runs { IfOk result (λ v.
-        AreNearRuns (is_cell (map outline_of prims.now)) low change.now.left change.now.right
-        v.items) }
-    ensures bottom { IfOk result (λ v. All (λ r. r.y1 ≡ low) v.items) }
+        AreNearRuns (cells_in band.now) band.now.low change.now.left change.now.right v.items) }
+    ensures bottom { IfOk result (λ v. All (λ r. r.y1 ≡ band.now.low) v.items) }
 {
-    let mut parts = parts_near(alloc, prims, finder, change, window, still, low)?;
+    let mut parts = parts_near(alloc, band, change, window, still)?;
     sort(&mut parts);
     let stretches = merged(alloc, parts.as_slice())?;
-    let runs = raised_near(alloc, stretches.as_slice(), change, low, high)?;
+    let runs = raised_near(alloc, stretches.as_slice(), change, band)?;
     Ok(runs)
 }
 
-/// The stretches that are not far from some columns, each in all rows from `low` to `high`.
+/// The stretches that are not far from some columns, each in all rows of a band.
 fn raised_near(
     alloc: Global,
     stretches: &[Stretch],
     change: &Columns,
-    low: i64,
-    high: i64,
+    band: &Band<'_>,
 ) -> Result<Vec<Rect>, AllocError>
-    requires high { low <ℤ high }
-    requires below { neg_ℤ (pos most_coordinate) ≤ℤ low }
-    requires above { high ≤ℤ pos most_coordinate }
-    ensures { IfOk result (λ v.
-        AllZip (IsOver low high) (filter (is_near change.now.left change.now.right) stretches.now)
-        v.items) }
+    requires { IsBand band.now }
+    ensures { IfOk result (λ v. AllZip (IsOver band.now.low band.now.high)
+        (filter (is_near change.now.left change.now.right) stretches.now) v.items) }
 {
     let mut runs = Vec::new(alloc);
     for s in stretches {
         if is_near_to(s, change) {
-            runs.push(piece_over(s, low, high))?;
+            runs.push(piece_over(s, band))?;
         }
     }
     Ok(runs)
 }
 
-/// A stretch in all rows from `low` to `high`.
-fn piece_over(s: &Stretch, low: i64, high: i64) -> Rect
-    requires high { low <ℤ high }
-    requires below { neg_ℤ (pos most_coordinate) ≤ℤ low }
-    requires above { high ≤ℤ pos most_coordinate }
-    ensures { IsOver low high s.now result }
+/// A stretch in all rows of a band.
+fn piece_over(s: &Stretch, band: &Band<'_>) -> Rect
+    requires { IsBand band.now }
+    ensures { IsOver band.now.low band.now.high s.now result }
 {
     Rect {
         x1: s.from,
-        y1: low,
+        y1: band.low,
         x2: s.to,
-        y2: high,
+        y2: band.high,
     }
 }
 
@@ -310,68 +256,65 @@ fn is_near_to(s: &Stretch, change: &Columns) -> bool
     change.left <= s.to && s.from <= change.right
 }
 
-/// Cells of one row in parts: all of those in the window and right beside it, and perhaps others. Where the window lies in
-/// a stack that does not change elsewhere, and there are no polygons, only what changes is looked at.
+/// Cells of a band's lowest row in parts: all of those in the window and right beside it, and
+/// perhaps others. Where the window lies in a stack that does not change elsewhere, and there are no
+/// polygons, only what changes is looked at.
 fn parts_near(
     alloc: Global,
-    prims: &[Prim],
-    finder: &Finder,
+    band: &Band<'_>,
     change: &Columns,
     window: &Columns,
     still: Option<Stretch>,
-    y: i64,
 ) -> Result<Vec<Stretch>, AllocError>
-    requires finder { IsFinderOf prims.now finder.now }
-    requires row { finder.now.cover.row ≡ y }
-    requires framed { IsFramed (is_cell (map outline_of prims.now)) y window.now.left
-        window.now.right }
-    requires still { IfSome still (IsStill (is_cell (map outline_of prims.now)) y change.now.left
+    requires band { IsBand band.now }
+    requires framed { IsFramed (cells_in band.now) band.now.low window.now.left window.now.right }
+    requires still { IfSome still (IsStill (cells_in band.now) band.now.low change.now.left
         change.now.right window.now.left window.now.right) }
     ensures sound { IfOk result (λ v. (x : ℤ) → is_in_stretches v.items x ≡ true →
-        is_cell (map outline_of prims.now) x y ≡ true) }
+        cells_in band.now x band.now.low ≡ true) }
     ensures full { IfOk result (λ v. (x : ℤ) → (window.now.left -ℤ pos 1) ≤ℤ x →
-        x ≤ℤ window.now.right → is_cell (map outline_of prims.now) x y ≡ true →
+        x ≤ℤ window.now.right → cells_in band.now x band.now.low ≡ true →
         is_in_stretches v.items x ≡ true) }
 {
     match still {
-        None => parts_within(alloc, prims, finder, window, y),
+        None => parts_within(alloc, band, window),
         Some(stack) => {
-            if finder.sides.is_empty() {
-                parts_beside(alloc, prims, finder, change, &stack, y)
+            if band.finder.sides.is_empty() {
+                parts_beside(alloc, band, change, &stack)
             } else {
-                parts_within(alloc, prims, finder, window, y)
+                parts_within(alloc, band, window)
             }
         }
     }
 }
 
-/// Cells of one row in parts: all of those in the window and right beside it, and perhaps others.
+/// Cells of a band's lowest row in parts: all of those in the window and right beside it, and
+/// perhaps others.
 fn parts_within(
     alloc: Global,
-    prims: &[Prim],
-    finder: &Finder,
+    band: &Band<'_>,
     window: &Columns,
-    y: i64,
 ) -> Result<Vec<Stretch>, AllocError>
-    requires finder { IsFinderOf prims.now finder.now }
-    requires row { finder.now.cover.row ≡ y }
-    requires framed { IsFramed (is_cell (map outline_of prims.now)) y window.now.left
-        window.now.right }
+    requires band { IsBand band.now }
+    requires framed { IsFramed (cells_in band.now) band.now.low window.now.left window.now.right }
     ensures sound { IfOk result (λ v. (x : ℤ) → is_in_stretches v.items x ≡ true →
-        is_cell (map outline_of prims.now) x y ≡ true) }
+        cells_in band.now x band.now.low ≡ true) }
     ensures full { IfOk result (λ v. (x : ℤ) → (window.now.left -ℤ pos 1) ≤ℤ x →
-        x ≤ℤ window.now.right → is_cell (map outline_of prims.now) x y ≡ true →
+        x ≤ℤ window.now.right → cells_in band.now x band.now.low ≡ true →
         is_in_stretches v.items x ≡ true) }
 {
+    let finder = band.finder;
     let mut parts = finder.cover.stretches(alloc, window.left, window.right)?;
-    let found = finder.polygons.meeting(alloc, &row_within(window, y))?;
+    let found = finder
+        .polygons
+        .meeting(alloc, &row_within(window, band.low))?;
     push_polygons(
         alloc,
         &mut parts,
         finder.sides.as_slice(),
         found.as_slice(),
         window,
-        y,
+        band.low,
     )?;
     Ok(parts)
 }

@@ -15,10 +15,12 @@ ghost use Rattle.dpl_tiles.specs.Corners.{AreCorners};
 ghost use Rattle.dpl_cover.specs.Covers.{least_row};
 ghost use Rattle.dpl_tiles.specs.Finders.{IsFinderOf};
 
+use crate::band::Band;
 use crate::corners::{Corner, corners_of};
 use crate::error::TileError;
 use crate::finder::Finder;
 use crate::ordinates::ordinates;
+use crate::sweep::{Stacks, Sweep};
 use crate::sweeping::{close_all, move_back, step};
 use dpl_cell::{Layout, Prim, Rect};
 use dpl_limits::MOST_TILES;
@@ -64,35 +66,35 @@ fn unsorted(
     ensures many { result ≡ Err TileError.TooMany →
         HasMoreTiles (is_cell (map outline_of prims.now)) MOST_TILES }
 {
-    let mut ended = Vec::new(alloc);
-    let mut left = Vec::new(alloc);
-    let mut right = Vec::new(alloc);
+    let mut sweep = Sweep {
+        ended: Vec::new(alloc),
+        stacks: Stacks {
+            left: Vec::new(alloc),
+            right: Vec::new(alloc),
+        },
+    };
     for k in 1..rows.len() {
         if rows[k - 1] < rows[k] {
             finder.cover.rise(rows[k - 1]);
-            step(
-                alloc,
-                &mut ended,
-                &mut left,
-                &mut right,
+            let band = Band {
                 prims,
-                &finder,
-                corners,
-                rows[k - 1],
-                rows[k],
-            )?;
-            if ended.len() > MOST_TILES {
+                finder: &finder,
+                low: rows[k - 1],
+                high: rows[k],
+            };
+            step(alloc, &mut sweep, &band, corners)?;
+            if sweep.ended.len() > MOST_TILES {
                 return Err(TileError::TooMany);
             }
         }
     }
     let top = top_of(rows);
-    move_back(&mut right, &mut left, 0)?;
-    close_all(&mut ended, left.as_slice(), top)?;
-    if ended.len() > MOST_TILES {
+    move_back(&mut sweep.stacks.right, &mut sweep.stacks.left, 0)?;
+    close_all(&mut sweep.ended, sweep.stacks.left.as_slice(), top)?;
+    if sweep.ended.len() > MOST_TILES {
         return Err(TileError::TooMany);
     }
-    Ok(ended)
+    Ok(sweep.ended)
 }
 
 /// The last of the rows; where there is none, any row.

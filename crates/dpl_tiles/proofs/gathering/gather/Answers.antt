@@ -18,7 +18,7 @@ wider-preserved c =
     let blank : Corner = record { y = pos 0; left = pos 0; right = pos 0 } in
     record {
       parted = rw c.widened-change.ensures.left (simp to_z-of_z at
-          (c.in_ok-take_near.ensures _ c.part.new.left.items c.wider.change.left c.wider.change.right
+          (c.in_ok-take_near.ensures _ c.wider.stacks.left.items c.wider.change.left c.wider.change.right
           c.wider.invariant.parted (simp to_z-of_z c.widened-change.ensures.right)));
       gathered = more_gathered c.args.corners.now c.args.at c.wider.to c.wider.change.left _ c.wider.change.right _
           c.wider.invariant.gathered (c.goes_on.ensures.some c.wider-test.true) c.widened-change.ensures.left

@@ -5,19 +5,19 @@ use Rattle.dpl_tiles.proofs.PlaceLemmas.{moved, to_right, to_left, left_ordered,
 use Rattle.dpl_tiles.proofs.sweeping.part.Goals as goal
 
 pub first_not_left-from-requires : goal.first_not_left-from-requires
-first_not_left-from-requires c = rw c.as_slice.ensures.value (left_ordered c.args.left.now.items c.args.right.now.items c.requires.ordered)
+first_not_left-from-requires c = rw c.as_slice.ensures.value (left_ordered c.args.stacks.now.left.items c.args.stacks.now.right.items c.requires.ordered)
 
 pub first_left-count-requires : goal.first_left-count-requires
 first_left-count-requires c =
     let one : AllPairs IsLeftOf (c.move_back.new.from.items ++ reverse c.move_back.new.to.items) =
-    rw (to_right c.args.left.now.items c.args.right.now.items _ _ _ c.in_ok-move_back.ensures.from
+    rw (to_right c.args.stacks.now.left.items c.args.stacks.now.right.items _ _ _ c.in_ok-move_back.ensures.from
     c.in_ok-move_back.ensures.to) c.requires.ordered in
     rw c.as_slice-2.ensures.value (right_ordered c.move_back.new.from.items c.move_back.new.to.items one)
 
 pub first_not_right-count-requires : goal.first_not_right-count-requires
 first_not_right-count-requires c =
     let one : AllPairs IsLeftOf (c.move_back.new.from.items ++ reverse c.move_back.new.to.items) =
-    rw (to_right c.args.left.now.items c.args.right.now.items _ _ _ c.in_ok-move_back.ensures.from
+    rw (to_right c.args.stacks.now.left.items c.args.stacks.now.right.items _ _ _ c.in_ok-move_back.ensures.from
     c.in_ok-move_back.ensures.to) c.requires.ordered in
     let two : AllPairs IsLeftOf (c.move_back-2.new.to.items ++ reverse c.move_back-2.new.from.items) =
     rw (to_left c.move_back.new.from.items c.move_back.new.to.items _ _ _ c.in_ok-move_back-2.ensures.from
@@ -28,7 +28,7 @@ pub returns : goal.returns
 returns c =
     let f : SFits w64 c.args.change.now.left = search rules in
     let g : SFits w64 c.args.change.now.right = search rules in
-    moved c.args.change.now.left c.args.change.now.right c.args.left.now.items c.args.right.now.items
+    moved c.args.change.now.left c.args.change.now.right c.args.stacks.now.left.items c.args.stacks.now.right.items
     c.move_back.new.from.items c.move_back.new.to.items c.move_back-2.new.to.items c.move_back-2.new.from.items
     c.move_back-3.new.to.items c.move_back-3.new.from.items c.first_not_left-from.result c.first_left-count.result
     c.first_not_right-count.result (record {

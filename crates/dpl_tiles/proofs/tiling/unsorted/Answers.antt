@@ -1,6 +1,7 @@
-use Rattle.std.proofs.Common.{rules, arith, ◌-◌, ◌∙◌, ◌++◌, reverse, refl, sym, subst, [], get_or, pos, SFits, w64}
+use Rattle.std.proofs.Common.{rules, arith, ◌-◌, ◌∙◌, refl, sym, subst, [], get_or, pos, SFits, w64}
 use Rattle.std.proofs.lemmas.Int.{ints, to_z-of_z}
 use Rattle.dpl_tiles.specs.Stacks.{ending}
+use Rattle.dpl_tiles.specs.Sweeps.{stacks_of}
 use Rattle.dpl_tiles.specs.Windows.{AddsClosed}
 use Rattle.dpl_tiles.proofs.BandLemmas.{least_first, swept_next, swept_still, rows_alike, swept_first, rows_top, last_row_is}
 use Rattle.dpl_tiles.proofs.EndLemmas.{swept_last, all_swept}
@@ -14,21 +15,31 @@ use Rattle.dpl_tiles.proofs.tiling.unsorted.Goals.{then-rows-k+in_ok-step+else-l
 
 pub loop-k-init : goal.loop-k-init
 loop-k-init c = record {
-  swept = swept_first _ _ _ _ c.new-ended.ensures.items (rw (c.new-left.ensures.items, c.new-right.ensures.items) refl) c.requires.sorted c.requires.all;
+  reached = swept_first _ _ _ _ c.new.ensures.items (rw (c.new-2.ensures.items, c.new-3.ensures.items) refl) c.requires.sorted c.requires.all;
   finder = c.requires.finder;
   below = rw c.requires.low (least_first c.args.rows.now c.requires.range);
 }
 
+pub step-requires-clause-band : goal.step-requires-clause-band
+step-requires-clause-band c =
+    let f : SFits w64 (get_or c.args.rows.now (c.loop-k.k - 1) (pos 0)) = search rules in
+    let g : SFits w64 (get_or c.args.rows.now c.loop-k.k (pos 0)) = search rules in
+    simp to_z-of_z (record {
+      alike = record {
+        some = let h = c.if-rows-k.true in search rules;
+        same = λ x y w. rows_alike _ _ c.loop-k.k x y c.requires.sorted c.requires.all (omega arith) c.loop-k-test.true w;
+      };
+      below = search rules;
+      above = search rules;
+      finder = risen_finder c.args.prims.now c.loop-k.finder _ c.rise.new.self c.loop-k.invariant.finder
+          c.rise.ensures.cover c.rise.ensures.same refl;
+      row = simp to_z-of_z at c.rise.ensures.row;
+    })
+
 pub step-requires-clause-swept : goal.step-requires-clause-swept
 step-requires-clause-swept c =
     let f : SFits w64 (get_or c.args.rows.now (c.loop-k.k - 1) (pos 0)) = search rules in
-    simp to_z-of_z c.loop-k.invariant.swept
-
-pub step-requires-clause-alike : goal.step-requires-clause-alike
-step-requires-clause-alike c = λ x y w.
-    let f : SFits w64 (get_or c.args.rows.now (c.loop-k.k - 1) (pos 0)) = search rules in
-    let g : SFits w64 (get_or c.args.rows.now c.loop-k.k (pos 0)) = search rules in
-    simp to_z-of_z (rows_alike _ _ c.loop-k.k x y c.requires.sorted c.requires.all (omega arith) c.loop-k-test.true (simp to_z-of_z at w))
+    simp to_z-of_z c.loop-k.invariant.reached
 
 pub returns-then-len-gt-MOST_TILES-clause-many : goal.returns-then-len-gt-MOST_TILES-clause-many
 returns-then-len-gt-MOST_TILES-clause-many c = λ e. more_tiles _ _ _ 100000 c.in_ok-step.ensures.done (search rules)
@@ -39,16 +50,16 @@ loop-k-preserved c =
     let g : SFits w64 (get_or c.args.rows.now c.loop-k.k (pos 0)) = search rules in
     elim c.if-rows-k.branch [
       | then-rows-k+in_ok-step+else-len-gt-MOST_TILES w ↦
-          rw (w.ended-is, w.left-is, w.right-is) (record {
-            swept = swept_next _ _ c.loop-k.k _ _ (simp to_z-of_z at w.in_ok-step.ensures);
+          rw w.sweep-is (record {
+            reached = swept_next _ _ c.loop-k.k _ _ (simp to_z-of_z at w.in_ok-step.ensures);
             finder = risen_finder c.args.prims.now c.loop-k.finder _ w.rise.new.self c.loop-k.invariant.finder
                 w.rise.ensures.cover w.rise.ensures.same w.finder-is;
             below = risen_row c.args.rows.now c.loop-k.k _ c.requires.sorted c.loop-k-test.true
                 (rw (w.finder-is, simp to_z-of_z at w.rise.ensures.row) (omega signed));
           })
-      | else-rows-k w ↦ rw (w.ended-is, w.left-is, w.right-is) (record {
-        swept = swept_still _ _ c.loop-k.k _ _ c.requires.sorted (omega arith) c.loop-k-test.true
-            (let h = w.if-rows-k.false in grind (arith, ints)) c.loop-k.invariant.swept;
+      | else-rows-k w ↦ rw w.sweep-is (record {
+        reached = swept_still _ _ c.loop-k.k _ _ c.requires.sorted (omega arith) c.loop-k-test.true
+            (let h = w.if-rows-k.false in grind (arith, ints)) c.loop-k.invariant.reached;
         finder = subst (λ (z : Finder). IsFinderOf c.args.prims.now z) (sym w.finder-is) c.loop-k.invariant.finder;
         below = risen_row c.args.rows.now c.loop-k.k _ c.requires.sorted c.loop-k-test.true
             (rw w.finder-is c.loop-k.invariant.below);
@@ -59,18 +70,18 @@ pub close_all-requires-clause-below : goal.close_all-requires-clause-below
 close_all-requires-clause-below c =
     let f : SFits w64 c.top_of-top.result = search rules in
     let e = c.top_of-top.ensures.value ∙ last_row_is c.args.rows.now c.loop-k.k c.loop-k-test.false c.loop-k.auto.k-end in
-    simp to_z-of_z (rw (c.as_slice.ensures.value, c.in_ok-move_back.ensures.to, e) (λ k d l. (c.loop-k.invariant.swept.going.each k d l).start))
+    simp to_z-of_z (rw (c.as_slice.ensures.value, c.in_ok-move_back.ensures.to, e) (λ k d l. (c.loop-k.invariant.reached.going.each k d l).start))
 
 pub returns-then-len-gt-MOST_TILES-2-clause-many : goal.returns-then-len-gt-MOST_TILES-2-clause-many
 returns-then-len-gt-MOST_TILES-2-clause-many c = λ t.
     let f : SFits w64 c.top_of-top.result = search rules in
     let e = c.top_of-top.ensures.value ∙ last_row_is c.args.rows.now c.loop-k.k c.loop-k-test.false c.loop-k.auto.k-end in
     let a : AddsClosed (get_or c.args.rows.now (c.loop-k.k - 1) (pos 0))
-    (ending [] (c.loop-k.left.items ++ reverse c.loop-k.right.items)) c.loop-k.ended.items
+    (ending [] (stacks_of c.loop-k.sweep.stacks)) c.loop-k.sweep.ended.items
     c.close_all.new.ended.items = rw (← e) (rw (c.as_slice.ensures.value, c.in_ok-move_back.ensures.to) at
     (simp to_z-of_z at c.in_ok-close_all.ensures)) in
     let done = swept_last _ _ _ _ _ (rows_top c.args.prims.now c.args.rows.now c.loop-k.k c.requires.sorted
-    c.requires.all c.loop-k-test.false c.loop-k.auto.k-end) c.loop-k.invariant.swept a in
+    c.requires.all c.loop-k-test.false c.loop-k.auto.k-end) c.loop-k.invariant.reached a in
     more_tiles _ _ _ 100000 done.done (search rules)
 
 pub returns-clause-tiles : goal.returns-clause-tiles
@@ -78,8 +89,8 @@ returns-clause-tiles c =
     let f : SFits w64 c.top_of-top.result = search rules in
     let e = c.top_of-top.ensures.value ∙ last_row_is c.args.rows.now c.loop-k.k c.loop-k-test.false c.loop-k.auto.k-end in
     let a : AddsClosed (get_or c.args.rows.now (c.loop-k.k - 1) (pos 0))
-    (ending [] (c.loop-k.left.items ++ reverse c.loop-k.right.items)) c.loop-k.ended.items
+    (ending [] (stacks_of c.loop-k.sweep.stacks)) c.loop-k.sweep.ended.items
     c.close_all.new.ended.items = rw (← e) (rw (c.as_slice.ensures.value, c.in_ok-move_back.ensures.to) at
     (simp to_z-of_z at c.in_ok-close_all.ensures)) in
     all_swept _ _ _ _ _ (rows_top c.args.prims.now c.args.rows.now c.loop-k.k c.requires.sorted c.requires.all
-    c.loop-k-test.false c.loop-k.auto.k-end) c.loop-k.invariant.swept a
+    c.loop-k-test.false c.loop-k.auto.k-end) c.loop-k.invariant.reached a
