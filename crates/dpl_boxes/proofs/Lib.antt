@@ -13,3 +13,4 @@ pub mod FormLemmas
 pub mod CommandLemmas
 pub mod WrittenLemmas
 pub mod LayoutLemmas
+pub mod PlainLemmas

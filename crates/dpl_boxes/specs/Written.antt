@@ -2,7 +2,7 @@
 use Rattle.std.specs.Prelude.{◌≡◌, ◌≢◌, ◌+◌, ◌^◌, ◌&&◌, ◌==◌, ℕ, ℤ, pos, negsuc, Bool, true, false, nat_le, unsigned_abs, List, [], ◌∷◌, ◌++◌, length, map, flat_map, replicate, codes, Ok, if◌then◌else◌}
 use Rattle.std.specs.Ordering.{int_eq}
 use Rattle.std.specs.List.{list_all}
-use Rattle.std.specs.Fmt.{decimal}
+use Rattle.std.specs.Fmt.{decimal, signed_decimal}
 use Rattle.dpl_lex.specs.Classes.{is_blank, is_digit, is_separator}
 use Rattle.dpl_lex.specs.Name.{is_name}
 use Rattle.dpl_lex.specs.CuttingLaws.{is_inside, IsNested}
@@ -134,3 +134,20 @@ CommandsAreRead = (c : Command) (bytes : List ℕ) → can_be_written c ≡ true
 abbrev pub LayoutsAreRead : Type 0
 LayoutsAreRead = (cs : List Command) (text : List ℕ) → list_all can_be_written cs ≡ true →
     IsLayout cs text → (forms_of text ≡ map (λ c. Ok c) cs) × (ending_of text ≡ End)
+
+abbrev pub plain_word : Word → List ℕ
+plain_word (Letters letters) = letters
+plain_word (Integer z) = signed_decimal z
+
+-- words with a space between them
+abbrev pub spaced : List Word → List ℕ
+spaced [] = []
+spaced (w ∷ ws) = plain_word w ++ flat_map (λ v. codes " " ++ plain_word v) ws
+
+-- commands in their full spelling, each in a line of its own
+abbrev pub plain_layout : List Command → List ℕ
+plain_layout cs = flat_map (λ c. spaced (words_of false c) ++ codes ";\n") cs ++ codes "E"
+
+-- a law: that is a layout
+abbrev pub PlainLayoutsAreLayouts : Type 0
+PlainLayoutsAreLayouts = (cs : List Command) → IsLayout cs (plain_layout cs)
