@@ -3,11 +3,10 @@ use Rattle.std.proofs.Common.{arith, ◌≡◌, ℕ, suc, ◌<◌, Bool, true, f
 use Rattle.std.proofs.Common.{append-nil, Option, None, Some, All, if◌then◌else◌}
 use Rattle.std.specs.Prelude.{ℤ, pos, ◌<ℤ◌, ◌-ℤ◌, ◌*ℤ◌, codes, unsigned_abs, nat_eq}
 use Rattle.std.specs.List.{flat_map}
-use Rattle.std.specs.Int.{int_min, int_max}
 use Rattle.std.specs.Str.{bytes_eq}
 use Rattle.std.proofs.lemmas.Bool.Decides.{nat_tests}
 use Rattle.std.proofs.lemmas.Grind.{flat_map-append}
-use Rattle.std.proofs.lemmas.Int.{ints, clamps}
+use Rattle.std.proofs.lemmas.Int.{ints}
 use Rattle.std.proofs.lemmas.List.{map-append}
 use Rattle.std.proofs.lemmas.List.Elements.{All-head, All-tail}
 use Rattle.dpl_cell.specs.Places.{Corners}

@@ -6,3 +6,11 @@ pub mod TextLemmas
 pub mod QuarterLemmas
 pub mod CleanLemmas
 pub mod DrawingLemmas
+pub mod BlankLemmas
+pub mod WordLemmas
+pub mod PartLemmas
+pub mod FormLemmas
+pub mod CommandLemmas
+pub mod WrittenLemmas
+pub mod LayoutLemmas
+pub mod PlainLemmas

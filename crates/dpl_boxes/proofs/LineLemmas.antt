@@ -11,7 +11,7 @@ use Rattle.dpl_boxes.specs.Lines as lines
 use Rattle.dpl_boxes.specs.Lines.{Line, line_text, lines_text, IsRead, said}
 
 -- the part between two others
-between_parts : (front part behind : List ℕ) → slice_range (front ++ (part ++ behind)) (length front) (length front + length part) ≡ part
+pub between_parts : (front part behind : List ℕ) → slice_range (front ++ (part ++ behind)) (length front) (length front + length part) ≡ part
 between_parts front part behind =
     let n : length front + length part - length front ≡ length part = omega arith in
     rw (drop-append_seam front (part ++ behind), n) (take-append_seam part behind)

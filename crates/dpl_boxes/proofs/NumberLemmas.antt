@@ -1,6 +1,6 @@
 -- A printed number is read back.
-use Rattle.std.proofs.Common.{arith, ◌≡◌, ◌==◌, ℕ, suc, ◌+◌, ◌-◌, ◌*◌, ◌/◌, ◌%◌, ◌<◌, ◌≤◌, ◌^◌, Bool, true, false, not, ◌&&◌, List, [], ◌∷◌, ◌++◌, refl, Some}
-use Rattle.std.specs.Prelude.{ℤ, pos, negsuc, ◌-ℤ◌, unsigned_abs, nat_lt}
+use Rattle.std.proofs.Common.{arith, ◌≡◌, ◌==◌, ℕ, zero, suc, ◌+◌, ◌-◌, ◌*◌, ◌/◌, ◌%◌, ◌<◌, ◌≤◌, ◌^◌, Bool, true, false, not, List, [], ◌∷◌, ◌++◌, refl, Some}
+use Rattle.std.specs.Prelude.{ℤ, pos, negsuc, ◌-ℤ◌, unsigned_abs, nat_lt, replicate}
 use Rattle.std.specs.List.{list_all}
 use Rattle.std.specs.Fmt.{decimal, signed_decimal}
 use Rattle.std.proofs.lemmas.Fmt.{decimal_by_steps}
@@ -19,15 +19,15 @@ has_no_digit [] = true
 has_no_digit (b ∷ bs) = not (is_digit b)
 
 -- a digit stands at the front
-abbrev begins_with_digit : List ℕ → Bool
+abbrev pub begins_with_digit : List ℕ → Bool
 begins_with_digit [] = false
 begins_with_digit (b ∷ bs) = is_digit b
 
 -- the digits of a number
-record AreDigitsOf (n : ℕ) (ds : List ℕ) : Type 0 where
-  some : begins_with_digit ds ≡ true
-  all : list_all is_digit ds ≡ true
-  value : digits_value 0 ds ≡ n
+pub record AreDigitsOf (n : ℕ) (ds : List ℕ) : Type 0 where
+  pub some : begins_with_digit ds ≡ true
+  pub all : list_all is_digit ds ≡ true
+  pub value : digits_value 0 ds ≡ n
 
 digit : (n : ℕ) → n < 10 → is_digit (48 + n) ≡ true
 digit n l = grind (arith, nat_tests)
@@ -90,18 +90,28 @@ digit_is_no_separator b e = grind (arith, nat_tests)
 digit_is_no_minus : (b : ℕ) → is_digit b ≡ true → (b == 45) ≡ false
 digit_is_no_minus b e = grind (arith, nat_tests)
 
--- digits behind a space
-unsigned_at-digits : (bs : List ℕ) → begins_with_digit bs ≡ true → unsigned_at (32 ∷ bs) ≡ (of_magnitude (digits_value 0 bs), drop_while is_digit bs)
-unsigned_at-digits [] h = absurd (cc)
-unsigned_at-digits (b ∷ bs) h = rw (digit_is_no_separator b h, h) refl
+-- what passes a test is dropped before the rest is looked at
+pub drop_while-gap : (p : ℕ → Bool) (gap bs : List ℕ) → list_all p gap ≡ true → drop_while p (gap ++ bs) ≡ drop_while p bs
+drop_while-gap p [] bs h = refl
+drop_while-gap p (b ∷ gap) bs h =
+    let s = and_parts (p b) (list_all p gap) h in
+    rw (s.0) (drop_while-gap p gap bs s.1)
 
-signed_at-digits : (bs : List ℕ) → begins_with_digit bs ≡ true → signed_at (32 ∷ bs) ≡ (of_magnitude (digits_value 0 bs), drop_while is_digit bs)
-signed_at-digits [] h = absurd (cc)
-signed_at-digits (b ∷ bs) h = rw (digit_is_no_separator b h, digit_is_no_minus b h, h) refl
+-- digits behind separators
+unsigned_at-digits : (gap bs : List ℕ) → list_all is_separator gap ≡ true → begins_with_digit bs ≡ true
+    → unsigned_at (gap ++ bs) ≡ (of_magnitude (digits_value 0 bs), drop_while is_digit bs)
+unsigned_at-digits gap [] s h = absurd (cc)
+unsigned_at-digits gap (b ∷ bs) s h = rw (drop_while-gap is_separator gap (b ∷ bs) s, digit_is_no_separator b h, h) refl
 
-signed_at-minus : (bs : List ℕ) → begins_with_digit bs ≡ true → signed_at (32 ∷ 45 ∷ bs) ≡ (of_negated (digits_value 0 bs), drop_while is_digit bs)
-signed_at-minus [] h = absurd (cc)
-signed_at-minus (b ∷ bs) h = rw h refl
+signed_at-digits : (gap bs : List ℕ) → list_all is_separator gap ≡ true → begins_with_digit bs ≡ true
+    → signed_at (gap ++ bs) ≡ (of_magnitude (digits_value 0 bs), drop_while is_digit bs)
+signed_at-digits gap [] s h = absurd (cc)
+signed_at-digits gap (b ∷ bs) s h = rw (drop_while-gap is_separator gap (b ∷ bs) s, digit_is_no_separator b h, digit_is_no_minus b h, h) refl
+
+signed_at-minus : (gap bs : List ℕ) → list_all is_separator gap ≡ true → begins_with_digit bs ≡ true
+    → signed_at (gap ++ 45 ∷ bs) ≡ (of_negated (digits_value 0 bs), drop_while is_digit bs)
+signed_at-minus gap [] s h = absurd (cc)
+signed_at-minus gap (b ∷ bs) s h = rw (drop_while-gap is_separator gap (45 ∷ b ∷ bs) s, h) refl
 
 in_bounds : (n : ℕ) → n ≤ greatest → nat_lt greatest n ≡ false
 in_bounds n l = grind (arith, nat_tests)
@@ -109,60 +119,65 @@ in_bounds n l = grind (arith, nat_tests)
 negated : (n : ℕ) → pos 0 -ℤ pos (suc n) ≡ negsuc n
 negated n = omega (arith, ints)
 
--- an integer without a sign, and what follows it
-pub unsigned_of-decimal : (n : ℕ) (rest : List ℕ) → n ≤ greatest → has_no_digit rest ≡ true → unsigned_of (32 ∷ (decimal n ++ rest)) ≡ Some (n, rest)
-unsigned_of-decimal n rest l e =
-    let small : n < 2 ^ 64 = omega arith in
-    let d = digits_of-decimal n small in
+-- zeros in front change nothing
+zero_before : (n : ℕ) (ds : List ℕ) → AreDigitsOf n ds → AreDigitsOf n (48 ∷ ds)
+zero_before n ds d = record { some = refl; all = d.all; value = d.value }
+
+pub digits_with_zeros : (zeros n : ℕ) → n ≤ greatest → AreDigitsOf n (replicate zeros 48 ++ decimal n)
+digits_with_zeros zero n l = digits_of-decimal n (omega arith)
+digits_with_zeros (suc zeros) n l = zero_before n (replicate zeros 48 ++ decimal n) (digits_with_zeros zeros n l)
+
+-- an integer without a sign behind separators, and what follows it
+pub unsigned_of-digits : (gap : List ℕ) (n : ℕ) (ds rest : List ℕ) → list_all is_separator gap ≡ true → n ≤ greatest →
+    AreDigitsOf n ds → has_no_digit rest ≡ true → unsigned_of (gap ++ (ds ++ rest)) ≡ Some (n, rest)
+unsigned_of-digits gap n ds rest s l d e =
     rw (
-      unsigned_at-digits (decimal n ++ rest) (begins-append (decimal n) rest d.some),
-      digits_value-behind 0 (decimal n) rest d.all e,
+      unsigned_at-digits gap (ds ++ rest) s (begins-append ds rest d.some),
+      digits_value-behind 0 ds rest d.all e,
       d.value,
-      drop_while-digits (decimal n) rest d.all e,
+      drop_while-digits ds rest d.all e,
       in_bounds n l,
     ) refl
 
-signed_of-decimal : (n : ℕ) (rest : List ℕ) → n ≤ greatest → has_no_digit rest ≡ true → signed_of (32 ∷ (decimal n ++ rest)) ≡ Some (pos n, rest)
-signed_of-decimal n rest l e =
-    let small : n < 2 ^ 64 = omega arith in
-    let d = digits_of-decimal n small in
+pub signed_of-digits : (gap : List ℕ) (n : ℕ) (ds rest : List ℕ) → list_all is_separator gap ≡ true → n ≤ greatest →
+    AreDigitsOf n ds → has_no_digit rest ≡ true → signed_of (gap ++ (ds ++ rest)) ≡ Some (pos n, rest)
+signed_of-digits gap n ds rest s l d e =
     rw (
-      signed_at-digits (decimal n ++ rest) (begins-append (decimal n) rest d.some),
-      digits_value-behind 0 (decimal n) rest d.all e,
+      signed_at-digits gap (ds ++ rest) s (begins-append ds rest d.some),
+      digits_value-behind 0 ds rest d.all e,
       d.value,
-      drop_while-digits (decimal n) rest d.all e,
+      drop_while-digits ds rest d.all e,
       in_bounds n l,
     ) refl
 
-signed_of-minus : (n : ℕ) (rest : List ℕ) → suc n ≤ greatest → has_no_digit rest ≡ true →
-    signed_of (32 ∷ 45 ∷ (decimal (suc n) ++ rest)) ≡ Some (negsuc n, rest)
-signed_of-minus n rest l e =
-    let small : suc n < 2 ^ 64 = omega arith in
-    let d = digits_of-decimal (suc n) small in
+pub signed_of-minus : (gap : List ℕ) (n : ℕ) (ds rest : List ℕ) → list_all is_separator gap ≡ true → suc n ≤ greatest →
+    AreDigitsOf (suc n) ds → has_no_digit rest ≡ true → signed_of (gap ++ 45 ∷ (ds ++ rest)) ≡ Some (negsuc n, rest)
+signed_of-minus gap n ds rest s l d e =
     rw (
-      signed_at-minus (decimal (suc n) ++ rest) (begins-append (decimal (suc n)) rest d.some),
-      digits_value-behind 0 (decimal (suc n)) rest d.all e,
+      signed_at-minus gap (ds ++ rest) s (begins-append ds rest d.some),
+      digits_value-behind 0 ds rest d.all e,
       d.value,
-      drop_while-digits (decimal (suc n)) rest d.all e,
+      drop_while-digits ds rest d.all e,
       in_bounds (suc n) l,
       negated n,
     ) refl
 
--- an integer with a sign or without, and what follows it
+-- a decimal behind a space
+pub unsigned_of-decimal : (n : ℕ) (rest : List ℕ) → n ≤ greatest → has_no_digit rest ≡ true → unsigned_of (32 ∷ (decimal n ++ rest)) ≡ Some (n, rest)
+unsigned_of-decimal n rest l e = unsigned_of-digits (32 ∷ []) n (decimal n) rest refl l (digits_with_zeros 0 n l) e
+
 pub signed_of-signed_decimal : (z : ℤ) (rest : List ℕ) → unsigned_abs z ≤ greatest → has_no_digit rest ≡ true →
     signed_of (32 ∷ (signed_decimal z ++ rest)) ≡ Some (z, rest)
-signed_of-signed_decimal (pos n) rest l e = signed_of-decimal n rest l e
-signed_of-signed_decimal (negsuc n) rest l e = signed_of-minus n rest l e
+signed_of-signed_decimal (pos n) rest l e = signed_of-digits (32 ∷ []) n (decimal n) rest refl l (digits_with_zeros 0 n l) e
+signed_of-signed_decimal (negsuc n) rest l e = signed_of-minus (32 ∷ []) n (decimal (suc n)) rest refl l (digits_with_zeros 0 (suc n) l) e
 
 digit_is_inside : (b : ℕ) → is_digit b ≡ true → is_inside b ≡ true
 digit_is_inside b e = grind (arith, nat_tests)
 
-inside_digits : (n : ℕ) → n ≤ greatest → list_all is_inside (decimal n) ≡ true
-inside_digits n l =
-    let small : n < 2 ^ 64 = omega arith in
-    list_all-weaker is_digit is_inside digit_is_inside (decimal n) (digits_of-decimal n small).all
+pub inside_digits : (n : ℕ) (ds : List ℕ) → AreDigitsOf n ds → list_all is_inside ds ≡ true
+inside_digits n ds d = list_all-weaker is_digit is_inside digit_is_inside ds d.all
 
 -- no semicolon stands in a number
 pub is_inside-signed_decimal : (z : ℤ) → unsigned_abs z ≤ greatest → list_all is_inside (signed_decimal z) ≡ true
-is_inside-signed_decimal (pos n) l = inside_digits n l
-is_inside-signed_decimal (negsuc n) l = inside_digits (suc n) l
+is_inside-signed_decimal (pos n) l = inside_digits n (decimal n) (digits_with_zeros 0 n l)
+is_inside-signed_decimal (negsuc n) l = inside_digits (suc n) (decimal (suc n)) (digits_with_zeros 0 (suc n) l)

@@ -45,7 +45,7 @@ comment_of-flat [] h = refl
 comment_of-flat (b ∷ bs) h = let s = and_parts (is_flat b) (list_all is_flat bs) h in grind (arith, nat_tests, comment_of-flat bs s.1)
 
 -- a form whose numbers are in bounds is the command
-command_of-form : (bytes : List ℕ) (command : Command) → form_of bytes ≡ Some command → is_command_in_bounds command ≡ true → command_of bytes ≡ Ok command
+pub command_of-form : (bytes : List ℕ) (command : Command) → form_of bytes ≡ Some command → is_command_in_bounds command ≡ true → command_of bytes ≡ Ok command
 command_of-form bytes command f b = rw (f, command_of, b) refl
 
 -- a line that is no comment
@@ -71,7 +71,7 @@ call_is_read = plain_is_read 67 (codes " 1") call_line.command refl refl refl re
 name_byte_is_no_blank : (b : ℕ) → is_name_byte b ≡ true → is_blank b ≡ false
 name_byte_is_no_blank b e = grind (arith, nat_tests)
 
-name_byte_is_inside : (b : ℕ) → is_name_byte b ≡ true → is_inside b ≡ true
+pub name_byte_is_inside : (b : ℕ) → is_name_byte b ≡ true → is_inside b ≡ true
 name_byte_is_inside b e = grind (arith, nat_tests)
 
 pub name_bytes : (name : List ℕ) → is_name name ≡ true → list_all is_name_byte name ≡ true

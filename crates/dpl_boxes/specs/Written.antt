@@ -1,0 +1,153 @@
+-- Layouts by the grammar of CIF 2.0 (Mead and Conway 1980, section 4.5): the words of each command, and what stands between them.
+use Rattle.std.specs.Prelude.{◌≡◌, ◌≢◌, ◌+◌, ◌^◌, ◌&&◌, ◌==◌, ℕ, ℤ, pos, negsuc, Bool, true, false, nat_le, unsigned_abs, List, [], ◌∷◌, ◌++◌, length, map, flat_map, replicate, codes, Ok, if◌then◌else◌}
+use Rattle.std.specs.Ordering.{int_eq}
+use Rattle.std.specs.List.{list_all}
+use Rattle.std.specs.Fmt.{decimal, signed_decimal}
+use Rattle.dpl_lex.specs.Classes.{is_blank, is_digit, is_separator}
+use Rattle.dpl_lex.specs.Name.{is_name}
+use Rattle.dpl_lex.specs.CuttingLaws.{is_inside, IsNested}
+use Rattle.dpl_lex.specs.declared.types.Ending.TheVariants.{End}
+use Rattle.dpl_rules.specs.declared.command.Spot.{Spot}
+use Rattle.dpl_rules.specs.declared.command.Scale.{Scale}
+use Rattle.dpl_rules.specs.declared.command.Transformation.{Transformation}
+use Rattle.dpl_rules.specs.declared.command.Transformation.TheVariants.{Shift, MirrorX, MirrorY, Rotate}
+use Rattle.dpl_rules.specs.declared.command.Command.{Command}
+use Rattle.dpl_rules.specs.declared.command.Command.TheVariants.{Idle, Polygon, Box, Wire, Flash, Layer, Start, Finish, Delete, Call}
+use Rattle.dpl_rules.specs.Bounds.{command_of}
+use Rattle.dpl_cif.specs.Reading.{forms_of, ending_of}
+
+-- letters and digits as they stand there, or an integer
+pub data Word : Type 0 where
+  Letters : List ℕ → Word
+  Integer : ℤ → Word
+
+abbrev pub natural : ℕ → Word
+natural n = Integer (pos n)
+
+abbrev pub spot_words : Spot → List Word
+spot_words s = Integer s.x ∷ Integer s.y ∷ []
+
+-- a short spelling leaves the direction (1, 0) out
+abbrev pub direction_words : Bool → Spot → List Word
+direction_words short d =
+    if short && int_eq d.x (pos 1) && int_eq d.y (pos 0) then [] else spot_words d
+
+-- a short spelling leaves the scale 1/1 out
+abbrev pub scale_words : Bool → Scale → List Word
+scale_words short s =
+    if short && s.times == 1 && s.over == 1 then [] else natural s.times ∷ natural s.over ∷ []
+
+abbrev pub transformation_words : Transformation → List Word
+transformation_words (Shift by) = Letters (codes "T") ∷ spot_words by
+transformation_words MirrorX = Letters (codes "M") ∷ Letters (codes "X") ∷ []
+transformation_words MirrorY = Letters (codes "M") ∷ Letters (codes "Y") ∷ []
+transformation_words (Rotate to) = Letters (codes "R") ∷ spot_words to
+
+-- the words of a command in a short or a full spelling
+abbrev pub words_of : Bool → Command → List Word
+words_of short Idle = []
+words_of short (Polygon path) = Letters (codes "P") ∷ flat_map spot_words path
+words_of short (Box b) = Letters (codes "B") ∷ natural b.length ∷ natural b.width
+    ∷ (spot_words b.centre ++ direction_words short b.direction)
+words_of short (Wire width path) =
+    Letters (codes "W") ∷ natural width ∷ flat_map spot_words path
+words_of short (Flash diameter centre) =
+    Letters (codes "R") ∷ natural diameter ∷ spot_words centre
+words_of short (Layer name) = Letters (codes "L") ∷ Letters name ∷ []
+words_of short (Start n scale) =
+    Letters (codes "D") ∷ Letters (codes "S") ∷ natural n ∷ scale_words short scale
+words_of short Finish = Letters (codes "D") ∷ Letters (codes "F") ∷ []
+words_of short (Delete n) = Letters (codes "D") ∷ Letters (codes "D") ∷ natural n ∷ []
+words_of short (Call n transformations) =
+    Letters (codes "C") ∷ natural n ∷ flat_map transformation_words transformations
+
+-- a magnitude of at most 1,000,000,000,000
+abbrev pub is_moderate : Word → Bool
+is_moderate (Letters bytes) = true
+is_moderate (Integer z) = nat_le (unsigned_abs z) (10 ^ 12)
+
+-- a path has a point, and the name of a layer is one
+abbrev pub is_whole : Command → Bool
+is_whole (Polygon path) = nat_le 1 (length path)
+is_whole (Wire width path) = nat_le 1 (length path)
+is_whole (Layer name) = is_name name
+is_whole c = true
+
+-- commands that can be written
+abbrev pub can_be_written : Command → Bool
+can_be_written c = is_whole c && list_all is_moderate (words_of false c)
+
+-- the bytes of a word: an integer in decimal, with any zeros in front, and behind a `-` where it is negative
+abbrev pub IsSpelled : Word → List ℕ → Type 0
+IsSpelled (Letters letters) bytes = bytes ≡ letters
+IsSpelled (Integer (pos n)) bytes =
+    (zeros : ℕ) × (bytes ≡ replicate zeros 48 ++ decimal n)
+IsSpelled (Integer (negsuc n)) bytes =
+    (zeros : ℕ) × (bytes ≡ codes "-" ++ (replicate zeros 48 ++ decimal (n + 1)))
+
+abbrev pub AreBlanks : List ℕ → Type 0
+AreBlanks gap = list_all is_blank gap ≡ true
+
+-- what may stand between two words: blanks, before an integer separators, and between two integers at least one
+abbrev pub IsGap : Word → Word → List ℕ → Type 0
+IsGap v (Letters letters) gap = AreBlanks gap
+IsGap (Letters letters) (Integer z) gap = list_all is_separator gap ≡ true
+IsGap (Integer y) (Integer z) gap = (list_all is_separator gap ≡ true) × (gap ≢ [])
+
+-- what stands behind a word: these words, each behind a gap, and maybe blanks
+abbrev pub AreBehind : Word → List Word → List ℕ → Type 0
+AreBehind v [] text = AreBlanks text
+AreBehind v (w ∷ ws) text = (gap bytes rest : List ℕ) × IsGap v w gap × IsSpelled w bytes
+    × (text ≡ gap ++ (bytes ++ rest)) × AreBehind w ws rest
+
+-- words from the first one on
+abbrev pub AreWords : List Word → List ℕ → Type 0
+AreWords [] text = text ≡ []
+AreWords (w ∷ ws) text = (bytes rest : List ℕ) × IsSpelled w bytes
+    × (text ≡ bytes ++ rest) × AreBehind w ws rest
+
+-- what does nothing: an empty command, a comment, a user extension
+pub data IsIdle : List ℕ → Type 0 where
+  empty : IsIdle []
+  comment : (inner gap : List ℕ) → IsNested inner → AreBlanks gap →
+      IsIdle (codes "(" ++ (inner ++ (codes ")" ++ gap)))
+  extension : (digit : ℕ) (others : List ℕ) → is_digit digit ≡ true →
+      list_all is_inside others ≡ true → IsIdle (digit ∷ others)
+
+-- the bytes of a command without its semicolon
+abbrev pub HasForm : Command → List ℕ → Type 0
+HasForm Idle bytes = IsIdle bytes
+HasForm c bytes = (short : Bool) × AreWords (words_of short c) bytes
+
+-- commands, each behind blanks and before a semicolon, and the end command, behind which anything may stand
+abbrev pub IsLayout : List Command → List ℕ → Type 0
+IsLayout [] text = (gap rest : List ℕ) × AreBlanks gap × (text ≡ gap ++ (codes "E" ++ rest))
+IsLayout (c ∷ cs) text = (gap bytes rest : List ℕ) × AreBlanks gap × HasForm c bytes
+    × (text ≡ gap ++ (bytes ++ (codes ";" ++ rest))) × IsLayout cs rest
+
+-- a law: a command that is written is read again
+abbrev pub CommandsAreRead : Type 0
+CommandsAreRead = (c : Command) (bytes : List ℕ) → can_be_written c ≡ true → HasForm c bytes
+    → command_of bytes ≡ Ok c
+
+-- a law: the commands of a layout are those that were written, and it ends with its end command
+abbrev pub LayoutsAreRead : Type 0
+LayoutsAreRead = (cs : List Command) (text : List ℕ) → list_all can_be_written cs ≡ true →
+    IsLayout cs text → (forms_of text ≡ map (λ c. Ok c) cs) × (ending_of text ≡ End)
+
+abbrev pub plain_word : Word → List ℕ
+plain_word (Letters letters) = letters
+plain_word (Integer z) = signed_decimal z
+
+-- words with a space between them
+abbrev pub spaced : List Word → List ℕ
+spaced [] = []
+spaced (w ∷ ws) = plain_word w ++ flat_map (λ v. codes " " ++ plain_word v) ws
+
+-- commands in their full spelling, each in a line of its own
+abbrev pub plain_layout : List Command → List ℕ
+plain_layout cs = flat_map (λ c. spaced (words_of false c) ++ codes ";\n") cs ++ codes "E"
+
+-- a law: that is a layout
+abbrev pub PlainLayoutsAreLayouts : Type 0
+PlainLayoutsAreLayouts = (cs : List Command) → IsLayout cs (plain_layout cs)
