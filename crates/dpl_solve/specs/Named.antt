@@ -1,6 +1,6 @@
 -- The odd faces of the kept edges, each named by the least of its darts. They are the nodes of odd degree that the
 -- conflict graphs of Xu and Chu 2010 pair, the terminals of a T-join in the dual graph.
-use Rattle.std.specs.Prelude.{◌≡◌, ◌≢◌, ℕ, ◌<◌, ◌≤◌, Bool, true, List, length, filter, All, AllPairs}
+use Rattle.std.specs.Prelude.{◌≡◌, ◌≢◌, ℕ, ◌≤◌, Bool, true, List, length, filter, All, AllPairs}
 use Rattle.std.specs.List.{range_with_len}
 use Rattle.dpl_sign.specs.declared.nets.Net.{Net}
 use Rattle.dpl_sign.specs.Drawings.{is_in, dart_count}

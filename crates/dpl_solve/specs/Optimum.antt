@@ -3,10 +3,12 @@ use Rattle.std.specs.Prelude.{◌≡◌, ℕ, ◌+◌, ◌*◌, ◌%◌, ◌<◌
 use Rattle.dpl_sign.specs.declared.graphs.Signed.{Signed}
 use Rattle.dpl_sign.specs.declared.walks.Cycle.{Cycle}
 use Rattle.dpl_sign.specs.Packings.{IsPacking, bound_of}
-use Rattle.dpl_map.specs.Views.{MapView}
+use Rattle.dpl_map.specs.Views.{MapView, view_of}
 use Rattle.dpl_map.specs.Planes.{joined_bit}
 use Rattle.dpl_colour.specs.Meets.{MeetsFaces}
 use Rattle.dpl_dual.specs.declared.crosses.Dual.{Dual}
+use Rattle.dpl_solve.specs.declared.drawn.Drawn.{Drawn}
+use Rattle.dpl_solve.specs.declared.work.Work.{Work}
 use Rattle.dpl_solve.specs.Joins.{all_ways, times}
 use Rattle.dpl_solve.specs.Parts.{Part, IsPart, IsPaired, all_cycles, all_chains, odd_of}
 use Rattle.dpl_solve.specs.Groups.{numbers_of}
@@ -14,15 +16,14 @@ use Rattle.dpl_solve.specs.Tight.{PassKept, joined_weight}
 use Rattle.dpl_solve.specs.Solved.{PassOnce}
 
 -- the parts of the first n groups are solved
-pub record AreSolved (g : Signed) (m : MapView) (d : Dual) (groups : List (List ℕ)) (n : ℕ)
-    (joined : List Bool) (cycles : List Cycle) : Type 0 where
+pub record AreSolved (w : Drawn) (groups : List (List ℕ)) (n : ℕ) (work : Work) : Type 0 where
   pub parts : List Part
-  pub numbers : map (λ p. p.part) parts ≡ numbers_of d (take n groups)
-  pub are : All (IsPart g m d) parts
-  pub paired : All (IsPaired d) parts
-  pub cycles_are : cycles ≡ all_cycles parts
-  pub places : length joined ≡ length g.edges
-  pub joins : (e : ℕ) → e < length g.edges → joined_bit joined e % 2
+  pub numbers : map (λ p. p.part) parts ≡ numbers_of w.dual.now (take n groups)
+  pub are : All (IsPart w.graph.now (view_of w.map.now) w.dual.now) parts
+  pub paired : All (IsPaired w.dual.now) parts
+  pub cycles_are : work.cycles.items ≡ all_cycles parts
+  pub places : length work.joined.items ≡ length w.graph.now.edges
+  pub joins : (e : ℕ) → e < length w.graph.now.edges → joined_bit work.joined.items e % 2
       ≡ times (all_ways (all_chains parts)) e % 2
 
 -- joined edges that meet the faces, and a packing of no smaller weight

@@ -1,55 +1,44 @@
 //! The pairing of the odd faces of a part, by distances up to a limit.
 
 ghost use Rattle.std.specs.Prelude.{◌≡◌, ℕ, ◌<◌, ◌≤◌, length, slice_index, IfOk, MatchBool, MatchOption};
-ghost use Rattle.dpl_limits.specs.declared.TheConstants.{MOST_EDGES};
 ghost use Rattle.dpl_laminar.specs.Pairings.{IsPairing};
 ghost use Rattle.dpl_laminar.specs.Storing.{sets_of};
-ghost use Rattle.dpl_map.specs.Views.{view_of};
-ghost use Rattle.dpl_map.specs.Built.{IsMapOf};
-ghost use Rattle.dpl_dual.specs.Duals.{IsDual};
 ghost use Rattle.dpl_dual.specs.Distances.{IsDistanceUpTo};
 ghost use Rattle.dpl_pack.specs.Moats.{AreTerminals};
 ghost use Rattle.dpl_pack.specs.Stacks.{AreMeasured};
 ghost use Rattle.dpl_tree.specs.Metrics.{dist_of};
 ghost use Rattle.dpl_solve.specs.Matches.{AreJoinedBy};
 ghost use Rattle.dpl_solve.specs.Metrics.{IsLengthLimit, AreNearer, full_limit};
+ghost use Rattle.dpl_solve.specs.Works.{IsDrawn};
 
+use crate::drawn::Drawn;
 use crate::joins::{join_pairs, mate_of};
 use crate::limits::{FULL_LIMIT, first_limit, next_limit};
 use crate::metrics::all_rows;
-use dpl_dual::Dual;
 use dpl_laminar::{Family, Steps};
-use dpl_map::Map;
 use dpl_match::{Matched, Metric};
-use dpl_sign::Signed;
 use std::alloc::{AllocError, Global};
 use std::sync::ledger::Ledger;
 
 /// The distances of the odd faces of a part, up to a limit.
 fn metric_of(
     alloc: Global,
-    map: &Map,
-    graph: &Signed,
-    dual: &Dual,
+    drawn: &Drawn<'_>,
     terminals: &[u32],
     limit: u64,
 ) -> Result<Metric, AllocError>
-    requires map { IsMapOf graph.now map.now }
-    requires dual { IsDual graph.now (view_of map.now) dual.now }
-    requires terminals { AreTerminals dual.now terminals.now }
+    requires drawn { IsDrawn drawn.now }
+    requires terminals { AreTerminals drawn.now.dual.now terminals.now }
     requires few { length terminals.now ≤ 2048 }
-    requires edges { length graph.now.edges ≤ MOST_EDGES }
     requires limit { IsLengthLimit limit }
     ensures size { IfOk result (λ m. m.size ≡ length terminals.now) }
     ensures each { IfOk result (λ m. (s u : ℕ) → s < length terminals.now →
-        u < length terminals.now → IsDistanceUpTo dual.now.crosses limit
+        u < length terminals.now → IsDistanceUpTo drawn.now.dual.now.crosses limit
         (slice_index terminals.now s) (slice_index terminals.now u) (dist_of m s u)) }
     ensures measured { IfOk result (λ _.
-        AreMeasured dual.now terminals.now limit (length terminals.now)) }
+        AreMeasured drawn.now.dual.now terminals.now limit (length terminals.now)) }
 {
-    let _map = map;
-    let _graph = graph;
-    let rows = all_rows(alloc, dual, terminals, limit)?;
+    let rows = all_rows(alloc, drawn.dual, terminals, limit)?;
     Ok(Metric::new(terminals.len() as u32, rows))
 }
 
@@ -72,25 +61,21 @@ fn are_near(metric: &Metric, mate: &[u32], limit: u64) -> bool
 /// a family weighs. None where the pairs of least length are not so near.
 fn join_within<L: Ledger>(
     alloc: Global,
-    map: &Map,
-    graph: &Signed,
-    dual: &Dual,
+    drawn: &Drawn<'_>,
     terminals: &[u32],
     limit: u64,
     joined: &mut [bool],
     steps: &mut Steps<L>,
 ) -> Result<Option<Family>, AllocError>
-    requires map { IsMapOf graph.now map.now }
-    requires dual { IsDual graph.now (view_of map.now) dual.now }
-    requires terminals { AreTerminals dual.now terminals.now }
+    requires drawn { IsDrawn drawn.now }
+    requires terminals { AreTerminals drawn.now.dual.now terminals.now }
     requires few { length terminals.now ≤ 2048 }
-    requires edges { length graph.now.edges ≤ MOST_EDGES }
-    requires places { length joined.old ≡ length graph.now.edges }
+    requires places { length joined.old ≡ length drawn.now.graph.now.edges }
     requires limit { IsLengthLimit limit }
     ensures { IfOk result (λ o. MatchOption o ((joined.new ≡ joined.old) × (limit < full_limit))
-        (λ f. AreJoinedBy dual.now terminals.now (sets_of f) joined.old joined.new)) }
+        (λ f. AreJoinedBy drawn.now.dual.now terminals.now (sets_of f) joined.old joined.new)) }
 {
-    let metric = metric_of(alloc, map, graph, dual, terminals, limit)?;
+    let metric = metric_of(alloc, drawn, terminals, limit)?;
     let Matched { mate, family } = match dpl_match::solve(alloc, &metric, steps) {
         Ok(matched) => matched,
         Err(no_memory) => return Err(no_memory),
@@ -98,7 +83,7 @@ fn join_within<L: Ledger>(
     if !are_near(&metric, &mate, limit) {
         return Ok(None);
     }
-    join_pairs(alloc, dual, terminals, &metric, &mate, joined)?;
+    join_pairs(alloc, drawn.dual, terminals, &metric, &mate, joined)?;
     Ok(Some(family))
 }
 
@@ -108,34 +93,28 @@ fn join_within<L: Ledger>(
 /// faces near each odd one, and the square of the number of odd faces in memory.
 pub fn join_all<L: Ledger>(
     alloc: Global,
-    map: &Map,
-    graph: &Signed,
-    dual: &Dual,
+    drawn: &Drawn<'_>,
     terminals: &[u32],
     joined: &mut [bool],
     steps: &mut Steps<L>,
 ) -> Result<Family, AllocError>
-    requires map { IsMapOf graph.now map.now }
-    requires dual { IsDual graph.now (view_of map.now) dual.now }
-    requires terminals { AreTerminals dual.now terminals.now }
+    requires drawn { IsDrawn drawn.now }
+    requires terminals { AreTerminals drawn.now.dual.now terminals.now }
     requires few { length terminals.now ≤ 2048 }
-    requires edges { length graph.now.edges ≤ MOST_EDGES }
-    requires places { length joined.old ≡ length graph.now.edges }
+    requires places { length joined.old ≡ length drawn.now.graph.now.edges }
     ensures { IfOk result (λ f.
-        AreJoinedBy dual.now terminals.now (sets_of f) joined.old joined.new) }
+        AreJoinedBy drawn.now.dual.now terminals.now (sets_of f) joined.old joined.new) }
 {
     let tries: usize = 50;
-    let mut limit = first_limit(alloc, dual, terminals)?;
+    let mut limit = first_limit(alloc, drawn.dual, terminals)?;
     for _try in 0..tries {
-        match join_within(alloc, map, graph, dual, terminals, limit, joined, steps)? {
+        match join_within(alloc, drawn, terminals, limit, joined, steps)? {
             Some(family) => return Ok(family),
             None => {}
         }
         limit = next_limit(limit);
     }
-    match join_within(
-        alloc, map, graph, dual, terminals, FULL_LIMIT, joined, steps,
-    )? {
+    match join_within(alloc, drawn, terminals, FULL_LIMIT, joined, steps)? {
         Some(family) => Ok(family),
         None => unreachable!(),
     }

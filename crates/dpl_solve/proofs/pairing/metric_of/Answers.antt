@@ -6,8 +6,8 @@ use Rattle.dpl_solve.proofs.pairing.metric_of.Goals as goal
 
 pub new-requires : goal.new-requires
 new-requires c =
-    let even = even_terminals c.args.graph.now (view_of c.args.map.now)
-    (map_of c.args.graph.now c.args.map.now c.requires.map) c.args.dual.now c.requires.dual c.args.terminals.now
+    let even = even_terminals c.args.drawn.now.graph.now (view_of c.args.drawn.now.map.now)
+    (map_of c.args.drawn.now.graph.now c.args.drawn.now.map.now c.requires.drawn.map) c.args.drawn.now.dual.now c.requires.drawn.dual c.args.terminals.now
     c.requires.terminals in
-    rows_table c.args.graph.now (view_of c.args.map.now) c.args.dual.now c.requires.dual c.args.limit c.requires.limit
+    rows_table c.args.drawn.now.graph.now (view_of c.args.drawn.now.map.now) c.args.drawn.now.dual.now c.requires.drawn.dual c.args.limit c.requires.limit
     c.args.terminals.now c.in_ok-rows.rows.items c.requires.few even c.in_ok-rows.ensures.rows
