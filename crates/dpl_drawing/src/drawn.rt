@@ -38,7 +38,7 @@ fn keep(alloc: Global, net: &Net) -> Result<Kept, AllocError>
         k.plane.faces.nexts k.plane.parts.nexts k.plane.components) }
 {
     let mut plane = Plane::new(alloc, net)?;
-    let mut edges = Vec::new(alloc);
+    let mut edges = Vec::with_capacity(alloc, net.graph.edges.as_slice().len())?;
     for _edge in 0..net.graph.edges.as_slice().len() as u32 {
         let drawn = plane.add_next(net, &edges);
         edges.push(drawn)?;

@@ -43,10 +43,7 @@ pub fn filled(alloc: Global, count: usize, value: u32) -> Result<Vec<u32>, Alloc
     ensures length { IfOk result (λ v. length v.items ≡ count) }
     ensures each { IfOk result (λ v. EachIndex v.items (λ k. slice_index v.items k ≡ value)) }
 {
-    let mut list = Vec::new(alloc);
-    for _place in 0..count {
-        list.push(value)?;
-    }
+    let list = vec![in alloc; value; count]?;
     Ok(list)
 }
 
@@ -57,7 +54,7 @@ pub fn listed(alloc: Global, ring: &Ring, count: u32) -> Result<Vec<u32>, AllocE
     ensures each { IfOk result (λ v.
         EachIndex v.items (λ d. slice_index v.items d ≡ slice_index ring.now d)) }
 {
-    let mut nexts = Vec::new(alloc);
+    let mut nexts = Vec::with_capacity(alloc, count as usize)?;
     for number in 0..count {
         nexts.push(ring.next(number))?;
     }

@@ -1,10 +1,17 @@
 use Rattle.std.proofs.Common.{arith, ◌≡◌, ℕ, subst}
 use Rattle.dpl_match.specs.steps.Scans.{members_of, IsFound}
-use Rattle.dpl_tree.specs.Views.{place_of, place_in}
+use Rattle.dpl_tree.specs.steps.Forests.{free, outer}
+use Rattle.dpl_tree.specs.Views.{place_in}
 use Rattle.dpl_match.proofs.scan.nearest.Goals as goal
 
-pub returns : goal.returns
-returns c =
+pub returns-clause-free : goal.returns-clause-free
+returns-clause-free c =
     let e : c.loop-t.t ≡ c.args.metric.now.size = omega (arith, c.loop-t-test.false, c.loop-t.auto.t-end, c.size-n.ensures.value) in
     subst (λ (z : ℕ). IsFound (members_of c.args.metric.now c.args.matching.now) (place_in c.args.stage.now.tree.labels.items)
-    (place_of c.args.want) z c.loop-t.best) e c.loop-t.invariant
+    free z c.loop-t.free) e c.loop-t.invariant.0
+
+pub returns-clause-outer : goal.returns-clause-outer
+returns-clause-outer c =
+    let e : c.loop-t.t ≡ c.args.metric.now.size = omega (arith, c.loop-t-test.false, c.loop-t.auto.t-end, c.size-n.ensures.value) in
+    subst (λ (z : ℕ). IsFound (members_of c.args.metric.now c.args.matching.now) (place_in c.args.stage.now.tree.labels.items)
+    outer z c.loop-t.outer) e c.loop-t.invariant.1
