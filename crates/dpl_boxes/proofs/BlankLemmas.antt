@@ -1,14 +1,13 @@
 -- What stands between words.
-use Rattle.std.proofs.Common.{arith, ◌≡◌, ◌≢◌, ℕ, ◌+◌, ◌≤◌, ◌<◌, Bool, true, false, not, List, [], ◌∷◌, ◌++◌, length, refl, length-append, None}
-use Rattle.std.specs.Prelude.{ℤ}
+use Rattle.std.proofs.Common.{arith, ◌≡◌, ℕ, ◌+◌, ◌≤◌, ◌<◌, Bool, true, false, List, [], ◌∷◌, ◌++◌, length, refl, length-append, None}
 use Rattle.std.specs.List.{list_all}
 use Rattle.std.proofs.lemmas.Bool.{and_parts}
 use Rattle.std.proofs.lemmas.Bool.Decides.{nat_tests}
 use Rattle.dpl_lex.specs.Classes.{is_blank, is_digit, is_separator, drop_while}
 use Rattle.dpl_lex.specs.CuttingLaws.{is_inside}
 use Rattle.dpl_rules.specs.Readers.{letter, signed_of, unsigned_of, spot_of}
-use Rattle.dpl_boxes.specs.Written.{Word, IsSpelled, AreBlanks, IsGap, AreBehind}
-use Rattle.dpl_boxes.specs.Written.Word.{Letters, Integer}
+use Rattle.dpl_boxes.specs.Written.{Word, IsSpelled, AreBlanks, IsGap, has_no_digit, is_apart, AreBehind}
+use Rattle.dpl_boxes.specs.Written.Word.{Letters, Number, Integer}
 use Rattle.dpl_boxes.proofs.NumberLemmas.{list_all-weaker, has_no_digit}
 
 blank_is_separator : (b : ℕ) → is_blank b ≡ true → is_separator b ≡ true
@@ -29,25 +28,21 @@ separators_are_inside gap h = list_all-weaker is_separator is_inside separator_i
 pub blanks_are_inside : (gap : List ℕ) → AreBlanks gap → list_all is_inside gap ≡ true
 blanks_are_inside gap h = separators_are_inside gap (blanks_are_separators gap h)
 
-separators_in_gap : (v w : Word) (gap : List ℕ) → IsGap v w gap → list_all is_separator gap ≡ true
-separators_in_gap (Letters letters) (Letters others) gap h = blanks_are_separators gap h
-separators_in_gap (Integer y) (Letters others) gap h = blanks_are_separators gap h
-separators_in_gap (Letters letters) (Integer z) gap h = h
-separators_in_gap (Integer y) (Integer z) gap h = h.0
-
-pub blanks_in_gap : (v : Word) (letters gap : List ℕ) → IsGap v (Letters letters) gap → AreBlanks gap
-blanks_in_gap (Letters others) letters gap h = h
-blanks_in_gap (Integer y) letters gap h = h
+separators_in_gap : (w : Word) (gap : List ℕ) → IsGap w gap → list_all is_separator gap ≡ true
+separators_in_gap (Letters letters) gap h = blanks_are_separators gap h
+separators_in_gap (Number n) gap h = h
+separators_in_gap (Integer z) gap h = h
 
 -- the first of some words, behind a gap
 pub record Begins (v w : Word) (ws : List Word) (text : List ℕ) : Type 0 where
   pub gap : List ℕ
   pub bytes : List ℕ
   pub rest : List ℕ
-  pub between : IsGap v w gap
+  pub between : IsGap w gap
   pub separators : list_all is_separator gap ≡ true
   pub spelled : IsSpelled w bytes
   pub is : text ≡ gap ++ (bytes ++ rest)
+  pub apart : is_apart v text ≡ true
   pub behind : AreBehind w ws rest
 
 pub begins : (v w : Word) (ws : List Word) (text : List ℕ) → AreBehind v (w ∷ ws) text → Begins v w ws text
@@ -56,10 +51,11 @@ begins v w ws text h = record {
   bytes = h.1;
   rest = h.2;
   between = h.3;
-  separators = separators_in_gap v w h.0 h.3;
+  separators = separators_in_gap w h.0 h.3;
   spelled = h.4;
   is = h.5;
-  behind = h.6;
+  apart = h.6;
+  behind = h.7;
 }
 
 -- a word with bytes makes the text shorter
@@ -76,36 +72,20 @@ drop_while-all p (b ∷ bs) h =
     let s = and_parts (p b) (list_all p bs) h in
     rw (s.0) (drop_while-all p bs s.1)
 
--- what may follow an integer at once
-abbrev pub starts_apart : List Word → Bool
-starts_apart [] = true
-starts_apart (Integer z ∷ ws) = true
-starts_apart (Letters [] ∷ ws) = false
-starts_apart (Letters (b ∷ bs) ∷ ws) = not (is_digit b)
-
-no_digit_before : (gap rest : List ℕ) → list_all is_separator gap ≡ true → has_no_digit rest ≡ true → has_no_digit (gap ++ rest) ≡ true
-no_digit_before [] rest h n = n
-no_digit_before (b ∷ gap) rest h n = rw (separator_is_no_digit b (and_parts (is_separator b) (list_all is_separator gap) h).0) refl
-
-no_digit_in_gap : (gap rest : List ℕ) → list_all is_separator gap ≡ true → gap ≢ [] → has_no_digit (gap ++ rest) ≡ true
-no_digit_in_gap [] rest h n = absurd (n refl)
-no_digit_in_gap (b ∷ gap) rest h n = rw (separator_is_no_digit b (and_parts (is_separator b) (list_all is_separator gap) h).0) refl
-
 no_digit_in_blanks : (gap : List ℕ) → AreBlanks gap → has_no_digit gap ≡ true
 no_digit_in_blanks [] h = refl
 no_digit_in_blanks (b ∷ gap) h =
     rw (separator_is_no_digit b (blank_is_separator b (and_parts (is_blank b) (list_all is_blank gap) h).0)) refl
 
--- so what stands behind an integer begins with no digit
-pub no_digit_behind : (y : ℤ) (ws : List Word) (text : List ℕ) → starts_apart ws ≡ true → AreBehind (Integer y) ws text → has_no_digit text ≡ true
-no_digit_behind y [] text s h = no_digit_in_blanks text h
-no_digit_behind y (Integer z ∷ ws) text s h =
-    let t = begins (Integer y) (Integer z) ws text h in
-    rw (t.is) (no_digit_in_gap t.gap (t.bytes ++ t.rest) t.separators t.between.1)
-no_digit_behind y (Letters [] ∷ ws) text s h = absurd (cc)
-no_digit_behind y (Letters (b ∷ bs) ∷ ws) text s h =
-    let t = begins (Integer y) (Letters (b ∷ bs)) ws text h in
-    rw (t.is, t.spelled) (no_digit_before t.gap (b ∷ (bs ++ t.rest)) t.separators s)
+apart_in_blanks : (v : Word) (text : List ℕ) → AreBlanks text → is_apart v text ≡ true
+apart_in_blanks (Letters letters) text h = refl
+apart_in_blanks (Number n) text h = no_digit_in_blanks text h
+apart_in_blanks (Integer z) text h = no_digit_in_blanks text h
+
+-- what stands behind a number begins with no digit
+pub apart_behind : (v : Word) (ws : List Word) (text : List ℕ) → AreBehind v ws text → is_apart v text ≡ true
+apart_behind v [] text h = apart_in_blanks v text h
+apart_behind v (w ∷ ws) text h = (begins v w ws text h).apart
 
 -- blanks alone hold no part
 pub no_number_in_blanks : (text : List ℕ) → AreBlanks text → signed_of text ≡ None

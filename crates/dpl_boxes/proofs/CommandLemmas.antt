@@ -1,6 +1,6 @@
 -- The words of a command are within the bounds, and hold no semicolon.
-use Rattle.std.proofs.Common.{◌≡◌, ℕ, suc, add-one, Bool, true, false, List, [], ◌∷◌, ◌++◌, refl}
-use Rattle.std.specs.Prelude.{pos, negsuc, replicate, flat_map}
+use Rattle.std.proofs.Common.{◌≡◌, ℕ, Bool, true, false, List, [], ◌∷◌, ◌++◌, refl, ℤ}
+use Rattle.std.specs.Prelude.{replicate, flat_map}
 use Rattle.std.specs.List.{list_all}
 use Rattle.std.specs.Fmt.{decimal}
 use Rattle.std.proofs.lemmas.Bool.{and_parts}
@@ -14,11 +14,12 @@ use Rattle.dpl_rules.specs.declared.command.Transformation.TheVariants.{Shift, M
 use Rattle.dpl_rules.specs.declared.command.Command.{Command}
 use Rattle.dpl_rules.specs.declared.command.Command.TheVariants.{Idle, Polygon, Box, Wire, Flash, Layer, Start, Finish, Delete, Call}
 use Rattle.dpl_rules.specs.Bounds.{is_spot_in_bounds, is_transformation_in_bounds, is_command_in_bounds}
-use Rattle.dpl_boxes.specs.Written.{Word, IsSpelled, natural, spot_words, transformation_words, direction_words, scale_words, words_of, is_moderate, AreBehind}
-use Rattle.dpl_boxes.specs.Written.Word.{Letters, Integer}
+use Rattle.dpl_boxes.specs.Written.{Word, AreDigits, IsSigned, IsSpelled, spot_words, transformation_words, direction_words, scale_words, words_of, is_moderate, AreBehind}
+use Rattle.dpl_boxes.specs.Written.Word.{Letters, Number, Integer}
+use Rattle.dpl_boxes.specs.Written.IsSigned.{plain, minus}
 use Rattle.dpl_boxes.proofs.NumberLemmas.{digits_with_zeros, inside_digits}
 use Rattle.dpl_boxes.proofs.BlankLemmas.{Begins, begins, separators_are_inside, blanks_are_inside}
-use Rattle.dpl_boxes.proofs.WordLemmas.{moderate}
+use Rattle.dpl_boxes.proofs.WordLemmas.{moderate, same_magnitude}
 use Rattle.dpl_boxes.proofs.PartLemmas.{both_moderate, shorter_direction, shorter_scale}
 
 -- numbers are in bounds
@@ -49,16 +50,16 @@ bounded_transformations (t ∷ ts) m =
 
 bounded_box : (b : BoxForm) → list_all is_moderate (words_of false (Box b)) ≡ true → is_command_in_bounds (Box b) ≡ true
 bounded_box b m =
-    let p = and_parts (is_moderate (natural b.length)) _ m in
-    let q = and_parts (is_moderate (natural b.width)) _ p.1 in
+    let p = and_parts (is_moderate (Number b.length)) _ m in
+    let q = and_parts (is_moderate (Number b.width)) _ p.1 in
     let r = both_moderate (spot_words b.centre) (spot_words b.direction) q.1 in
     rw (p.0, q.0, bounded_spot b.centre r.0, bounded_spot b.direction r.1) refl
 
 bounded_start : (n : ℕ) (scale : Scale) → list_all is_moderate (words_of false (Start n scale)) ≡ true → is_command_in_bounds (Start n scale) ≡ true
 bounded_start n scale m =
-    let p = and_parts (is_moderate (natural n)) (list_all is_moderate (scale_words false scale)) m in
-    let q = and_parts (is_moderate (natural scale.times)) (list_all is_moderate (natural scale.over ∷ [])) p.1 in
-    let r = and_parts (is_moderate (natural scale.over)) true q.1 in
+    let p = and_parts (is_moderate (Number n)) (list_all is_moderate (scale_words false scale)) m in
+    let q = and_parts (is_moderate (Number scale.times)) (list_all is_moderate (Number scale.over ∷ [])) p.1 in
+    let r = and_parts (is_moderate (Number scale.over)) true q.1 in
     rw (p.0, q.0, r.0) refl
 
 pub moderate_is_bounded : (c : Command) → list_all is_moderate (words_of false c) ≡ true → is_command_in_bounds c ≡ true
@@ -66,32 +67,38 @@ moderate_is_bounded Idle m = refl
 moderate_is_bounded (Polygon path) m = bounded_path path m
 moderate_is_bounded (Box b) m = bounded_box b m
 moderate_is_bounded (Wire width path) m =
-    let p = and_parts (is_moderate (natural width)) (list_all is_moderate (flat_map spot_words path)) m in
+    let p = and_parts (is_moderate (Number width)) (list_all is_moderate (flat_map spot_words path)) m in
     rw (p.0, bounded_path path p.1) refl
 moderate_is_bounded (Flash diameter centre) m =
-    let p = and_parts (is_moderate (natural diameter)) (list_all is_moderate (spot_words centre)) m in
+    let p = and_parts (is_moderate (Number diameter)) (list_all is_moderate (spot_words centre)) m in
     rw (p.0, bounded_spot centre p.1) refl
 moderate_is_bounded (Layer name) m = refl
 moderate_is_bounded (Start n scale) m = bounded_start n scale m
 moderate_is_bounded Finish m = refl
-moderate_is_bounded (Delete n) m = (and_parts (is_moderate (natural n)) true m).0
+moderate_is_bounded (Delete n) m = (and_parts (is_moderate (Number n)) true m).0
 moderate_is_bounded (Call n ts) m =
-    let p = and_parts (is_moderate (natural n)) (list_all is_moderate (flat_map transformation_words ts)) m in
+    let p = and_parts (is_moderate (Number n)) (list_all is_moderate (flat_map transformation_words ts)) m in
     rw (p.0, bounded_transformations ts p.1) refl
 
 -- no semicolon stands behind the first word of a command
 
 -- a word without a semicolon, and within the bounds
 abbrev pub is_plain_word : Word → Bool
-is_plain_word (Letters bytes) = list_all is_inside bytes
+is_plain_word (Letters letters) = list_all is_inside letters
+is_plain_word (Number n) = is_moderate (Number n)
 is_plain_word (Integer z) = is_moderate (Integer z)
+
+inside_number : (n : ℕ) (digits : List ℕ) → is_moderate (Number n) ≡ true → AreDigits n digits → list_all is_inside digits ≡ true
+inside_number n digits h d = rw (d.1) (inside_digits n (replicate d.0 48 ++ decimal n) (digits_with_zeros d.0 n (moderate n h)))
+
+inside_integer : (z : ℤ) (bytes : List ℕ) → is_moderate (Integer z) ≡ true → IsSigned z bytes → list_all is_inside bytes ≡ true
+inside_integer _ _ h (plain n digits d) = inside_number n digits h d
+inside_integer _ _ h (minus n digits d) = inside_number n digits (same_magnitude n h) d
 
 inside_word : (w : Word) (bytes : List ℕ) → is_plain_word w ≡ true → IsSpelled w bytes → list_all is_inside bytes ≡ true
 inside_word (Letters letters) bytes h s = rw s h
-inside_word (Integer (pos n)) bytes h s =
-    rw (s.1) (inside_digits n (replicate s.0 48 ++ decimal n) (digits_with_zeros s.0 n (moderate n h)))
-inside_word (Integer (negsuc n)) bytes h s =
-    rw (s.1, add-one) (inside_digits (suc n) (replicate s.0 48 ++ decimal (suc n)) (digits_with_zeros s.0 (suc n) (moderate (suc n) h)))
+inside_word (Number n) bytes h s = inside_number n bytes h s
+inside_word (Integer z) bytes h s = inside_integer z bytes h s
 
 inside_from : (v w : Word) (ws : List Word) (text : List ℕ) (t : Begins v w ws text) → is_plain_word w ≡ true →
     list_all is_inside t.rest ≡ true → list_all is_inside text ≡ true
@@ -134,8 +141,8 @@ plain_transformations (t ∷ ts) m =
 
 pub plain_box : (short : Bool) (b : BoxForm) → list_all is_moderate (words_of false (Box b)) ≡ true → list_all is_plain_word (words_of short (Box b)) ≡ true
 plain_box short b m =
-    let p = and_parts (is_moderate (natural b.length)) _ m in
-    let q = and_parts (is_moderate (natural b.width)) _ p.1 in
+    let p = and_parts (is_moderate (Number b.length)) _ m in
+    let q = and_parts (is_moderate (Number b.width)) _ p.1 in
     let r = both_moderate (spot_words b.centre) (spot_words b.direction) q.1 in
     rw (p.0, q.0, list_all-append is_plain_word (spot_words b.centre) (direction_words short b.direction))
     (let c : list_all is_plain_word (spot_words b.centre) ≡ true = r.0 in
@@ -143,5 +150,5 @@ plain_box short b m =
 
 pub plain_start : (short : Bool) (n : ℕ) (scale : Scale) → list_all is_moderate (words_of false (Start n scale)) ≡ true → list_all is_plain_word (words_of short (Start n scale)) ≡ true
 plain_start short n scale m =
-    let p = and_parts (is_moderate (natural n)) (list_all is_moderate (scale_words false scale)) m in
+    let p = and_parts (is_moderate (Number n)) (list_all is_moderate (scale_words false scale)) m in
     rw (p.0) (shorter_scale (list_all is_plain_word) short scale refl p.1)

@@ -1,5 +1,5 @@
 -- A printed number is read back.
-use Rattle.std.proofs.Common.{arith, ◌≡◌, ◌==◌, ℕ, zero, suc, ◌+◌, ◌-◌, ◌*◌, ◌/◌, ◌%◌, ◌<◌, ◌≤◌, ◌^◌, Bool, true, false, not, List, [], ◌∷◌, ◌++◌, refl, Some}
+use Rattle.std.proofs.Common.{arith, ◌≡◌, ◌==◌, ℕ, zero, suc, ◌+◌, ◌-◌, ◌*◌, ◌/◌, ◌%◌, ◌<◌, ◌≤◌, ◌^◌, Bool, true, false, List, [], ◌∷◌, ◌++◌, refl, Some}
 use Rattle.std.specs.Prelude.{ℤ, pos, negsuc, ◌-ℤ◌, unsigned_abs, nat_lt, replicate}
 use Rattle.std.specs.List.{list_all}
 use Rattle.std.specs.Fmt.{decimal, signed_decimal}
@@ -10,13 +10,9 @@ use Rattle.std.proofs.lemmas.Int.{ints}
 use Rattle.dpl_lex.specs.Classes.{is_digit, is_separator, drop_while}
 use Rattle.dpl_lex.specs.Number.{greatest, digits_value, of_magnitude, of_negated, unsigned_at, signed_at}
 use Rattle.dpl_lex.specs.CuttingLaws.{is_inside}
+pub use Rattle.dpl_boxes.specs.Written.{has_no_digit}
 use Rattle.dpl_rules.specs.Readers.{unsigned_of, signed_of}
 use Rattle.std.proofs.lemmas.Bool.{and_parts}
-
--- no digit stands at the front
-abbrev pub has_no_digit : List ℕ → Bool
-has_no_digit [] = true
-has_no_digit (b ∷ bs) = not (is_digit b)
 
 -- a digit stands at the front
 abbrev pub begins_with_digit : List ℕ → Bool
@@ -116,7 +112,7 @@ signed_at-minus gap (b ∷ bs) s h = rw (drop_while-gap is_separator gap (45 ∷
 in_bounds : (n : ℕ) → n ≤ greatest → nat_lt greatest n ≡ false
 in_bounds n l = grind (arith, nat_tests)
 
-negated : (n : ℕ) → pos 0 -ℤ pos (suc n) ≡ negsuc n
+pub negated : (n : ℕ) → pos 0 -ℤ pos (suc n) ≡ negsuc n
 negated n = omega (arith, ints)
 
 -- zeros in front change nothing
@@ -150,16 +146,15 @@ signed_of-digits gap n ds rest s l d e =
       in_bounds n l,
     ) refl
 
-pub signed_of-minus : (gap : List ℕ) (n : ℕ) (ds rest : List ℕ) → list_all is_separator gap ≡ true → suc n ≤ greatest →
-    AreDigitsOf (suc n) ds → has_no_digit rest ≡ true → signed_of (gap ++ 45 ∷ (ds ++ rest)) ≡ Some (negsuc n, rest)
+pub signed_of-minus : (gap : List ℕ) (n : ℕ) (ds rest : List ℕ) → list_all is_separator gap ≡ true → n ≤ greatest →
+    AreDigitsOf n ds → has_no_digit rest ≡ true → signed_of (gap ++ 45 ∷ (ds ++ rest)) ≡ Some (pos 0 -ℤ pos n, rest)
 signed_of-minus gap n ds rest s l d e =
     rw (
       signed_at-minus gap (ds ++ rest) s (begins-append ds rest d.some),
       digits_value-behind 0 ds rest d.all e,
       d.value,
       drop_while-digits ds rest d.all e,
-      in_bounds (suc n) l,
-      negated n,
+      in_bounds n l,
     ) refl
 
 -- a decimal behind a space
@@ -169,7 +164,8 @@ unsigned_of-decimal n rest l e = unsigned_of-digits (32 ∷ []) n (decimal n) re
 pub signed_of-signed_decimal : (z : ℤ) (rest : List ℕ) → unsigned_abs z ≤ greatest → has_no_digit rest ≡ true →
     signed_of (32 ∷ (signed_decimal z ++ rest)) ≡ Some (z, rest)
 signed_of-signed_decimal (pos n) rest l e = signed_of-digits (32 ∷ []) n (decimal n) rest refl l (digits_with_zeros 0 n l) e
-signed_of-signed_decimal (negsuc n) rest l e = signed_of-minus (32 ∷ []) n (decimal (suc n)) rest refl l (digits_with_zeros 0 (suc n) l) e
+signed_of-signed_decimal (negsuc n) rest l e =
+    rw (← negated n) (signed_of-minus (32 ∷ []) (suc n) (decimal (suc n)) rest refl l (digits_with_zeros 0 (suc n) l) e)
 
 digit_is_inside : (b : ℕ) → is_digit b ≡ true → is_inside b ≡ true
 digit_is_inside b e = grind (arith, nat_tests)

@@ -9,37 +9,24 @@ use Rattle.std.proofs.lemmas.List.Folds.{list_all-append}
 use Rattle.std.proofs.lemmas.Bool.Decides.{Decides-int_eq}
 use Rattle.dpl_rules.specs.declared.command.Spot.{Spot}
 use Rattle.dpl_rules.specs.declared.command.Scale.{Scale}
-use Rattle.dpl_rules.specs.declared.command.Transformation.{Transformation}
-use Rattle.dpl_rules.specs.declared.command.Transformation.TheVariants.{Shift, MirrorX, MirrorY, Rotate}
 use Rattle.dpl_rules.specs.Readers.{spot, spot_of, repeated}
 use Rattle.dpl_rules.specs.Forms.{transformation_of, direction_of, ratio_of, scale_of}
-use Rattle.dpl_boxes.specs.Written.{Word, natural, spot_words, transformation_words, direction_words, scale_words, is_moderate, AreBlanks, AreBehind}
-use Rattle.dpl_boxes.proofs.BlankLemmas.{starts_apart, no_count_in_blanks, no_spot_in_blanks}
+use Rattle.dpl_boxes.specs.Written.{Word, spot_words, transformation_words, direction_words, scale_words, is_moderate, AreBlanks, AreBehind}
+use Rattle.dpl_boxes.specs.Written.Word.{Number}
+use Rattle.dpl_boxes.proofs.BlankLemmas.{no_count_in_blanks, no_spot_in_blanks}
 use Rattle.dpl_boxes.proofs.WordLemmas.{Took, unsigned_taken, spot_taken, transformation_taken, no_transformation_in_blanks}
 
 -- what reads a part from its words, and nothing from blanks
 pub record TakesParts {X : Type 0} (read : List ℕ → Option (X × List ℕ)) (words : X → List Word) : Type 0 where
   pub part : (v : Word) (x : X) (ws : List Word) (text : List ℕ) → list_all is_moderate (words x) ≡ true →
-      starts_apart ws ≡ true → AreBehind v (words x ++ ws) text → Took text (read text) x ws
+      AreBehind v (words x ++ ws) text → Took text (read text) x ws
   pub stop : (text : List ℕ) → AreBlanks text → read text ≡ None
-  pub apart : (x : X) (ws : List Word) → starts_apart (words x ++ ws) ≡ true
 
 pub takes_spots : TakesParts spot_of spot_words
-takes_spots = record { part = spot_taken; stop = no_spot_in_blanks; apart = λ s ws. refl }
-
-starts_transformation : (t : Transformation) (ws : List Word) → starts_apart (transformation_words t ++ ws) ≡ true
-starts_transformation (Shift by) ws = refl
-starts_transformation MirrorX ws = refl
-starts_transformation MirrorY ws = refl
-starts_transformation (Rotate to) ws = refl
+takes_spots = record { part = spot_taken; stop = no_spot_in_blanks }
 
 pub takes_transformations : TakesParts transformation_of transformation_words
-takes_transformations = record { part = transformation_taken; stop = no_transformation_in_blanks; apart = starts_transformation }
-
-pub apart_before : {X : Type 0} → (read : List ℕ → Option (X × List ℕ)) (words : X → List Word) → TakesParts read words →
-    (xs : List X) → starts_apart (flat_map words xs) ≡ true
-apart_before read words r [] = refl
-apart_before read words r (x ∷ xs) = r.apart x (flat_map words xs)
+takes_transformations = record { part = transformation_taken; stop = no_transformation_in_blanks }
 
 repeated_none : {X : Type 0} → (read : List ℕ → Option (X × List ℕ)) (n : ℕ) (text : List ℕ) → read text ≡ None → repeated read n text ≡ ([], text)
 repeated_none read zero text r = refl
@@ -60,7 +47,7 @@ first_taken : {X : Type 0} → (read : List ℕ → Option (X × List ℕ)) (wor
     (v : Word) (x : X) (xs : List X) (text : List ℕ) → list_all is_moderate (flat_map words (x ∷ xs)) ≡ true →
     AreBehind v (flat_map words (x ∷ xs)) text → Took text (read text) x (flat_map words xs)
 first_taken read words r v x xs text m h =
-    r.part v x (flat_map words xs) text (both_moderate (words x) (flat_map words xs) m).0 (apart_before read words r xs) h
+    r.part v x (flat_map words xs) text (both_moderate (words x) (flat_map words xs) m).0 h
 
 pub repeated_taken : {X : Type 0} → (read : List ℕ → Option (X × List ℕ)) (words : X → List Word) → TakesParts read words →
     (v : Word) (xs : List X) (n : ℕ) (text : List ℕ) → length text ≤ n → list_all is_moderate (flat_map words xs) ≡ true →
@@ -90,7 +77,7 @@ pub shorter_direction : (p : List Word → Bool) (short : Bool) (d : Spot) → p
 shorter_direction p short d none h = shortened p (short && int_eq d.x (pos 1) && int_eq d.y (pos 0)) (spot_words d) none h
 
 pub shorter_scale : (p : List Word → Bool) (short : Bool) (s : Scale) → p [] ≡ true → p (scale_words false s) ≡ true → p (scale_words short s) ≡ true
-shorter_scale p short s none h = shortened p (short && s.times == 1 && s.over == 1) (natural s.times ∷ natural s.over ∷ []) none h
+shorter_scale p short s none h = shortened p (short && s.times == 1 && s.over == 1) (Number s.times ∷ Number s.over ∷ []) none h
 
 -- a direction
 
@@ -104,7 +91,7 @@ along_x d e =
 told_direction : (v : Word) (d : Spot) (text : List ℕ) → list_all is_moderate (spot_words d) ≡ true →
     AreBehind v (spot_words d) text → TookLast (direction_of (spot_of text) text) d
 told_direction v d text m h =
-    let s = spot_taken v d [] text m refl h in
+    let s = spot_taken v d [] text m h in
     record { rest = s.rest; is = rw (s.is) refl; blanks = s.behind }
 
 no_direction : (d : Spot) (text : List ℕ) → spot (pos 1) (pos 0) ≡ d → AreBlanks text →
@@ -141,16 +128,16 @@ no_scale s text e h = record { rest = text; is = rw (no_count_in_blanks text h, 
 told_scale : (v : Word) (s : Scale) (text : List ℕ) → list_all is_moderate (scale_words false s) ≡ true →
     AreBehind v (scale_words false s) text → TookLast (scale_of (ratio_of text) text) s
 told_scale v s text m h =
-    let p = and_parts (is_moderate (natural s.times)) (list_all is_moderate (natural s.over ∷ [])) m in
-    let q = and_parts (is_moderate (natural s.over)) true p.1 in
-    let times = unsigned_taken v s.times (natural s.over ∷ []) text p.0 refl h in
-    let over = unsigned_taken times.last s.over [] times.rest q.0 refl times.behind in
+    let p = and_parts (is_moderate (Number s.times)) (list_all is_moderate (Number s.over ∷ [])) m in
+    let q = and_parts (is_moderate (Number s.over)) true p.1 in
+    let times = unsigned_taken v s.times (Number s.over ∷ []) text p.0 h in
+    let over = unsigned_taken times.last s.over [] times.rest q.0 times.behind in
     record { rest = over.rest; is = rw (times.is, over.is) refl; blanks = over.behind }
 
 pub scale_taken : (short : Bool) (v : Word) (s : Scale) (text : List ℕ) → list_all is_moderate (scale_words false s) ≡ true →
     AreBehind v (scale_words short s) text → TookLast (scale_of (ratio_of text) text) s
 scale_taken false v s text m h = told_scale v s text m h
 scale_taken true v s text m h = (elim ((s.times == 1) && (s.over == 1)) as
-    (λ b. (s.times == 1) && (s.over == 1) ≡ b → AreBehind v (if b then [] else (natural s.times ∷ natural s.over ∷ [])) text
+    (λ b. (s.times == 1) && (s.over == 1) ≡ b → AreBehind v (if b then [] else (Number s.times ∷ Number s.over ∷ [])) text
     → TookLast (scale_of (ratio_of text) text) s)
     [ true ↦ λ e g. no_scale s text (unscaled s e) g | false ↦ λ e g. told_scale v s text m g ]) refl h

@@ -1,26 +1,32 @@
 -- Commands that are written with a space between their words.
-use Rattle.std.proofs.Common.{◌≡◌, ◌≢◌, ℕ, false, List, [], ◌∷◌, ◌++◌, refl, add-one, append_assoc}
+use Rattle.std.proofs.Common.{◌≡◌, ℕ, false, List, [], ◌∷◌, ◌++◌, refl, append_assoc, true, suc, subst}
 use Rattle.std.specs.Prelude.{pos, negsuc, flat_map, codes}
+use Rattle.std.specs.Fmt.{decimal}
 use Rattle.dpl_rules.specs.declared.command.Command.{Command}
 use Rattle.dpl_rules.specs.declared.command.Command.TheVariants.{Idle, Polygon, Box, Wire, Flash, Layer, Start, Finish, Delete, Call}
+use Rattle.dpl_boxes.proofs.NumberLemmas.{negated}
 use Rattle.dpl_boxes.specs.Written as written
-use Rattle.dpl_boxes.specs.Written.{Word, words_of, IsSpelled, AreBlanks, IsGap, AreBehind, AreWords, HasForm, IsLayout, plain_word, spaced, plain_layout}
-use Rattle.dpl_boxes.specs.Written.Word.{Letters, Integer}
+use Rattle.dpl_boxes.specs.Written.{Word, words_of, IsSigned, IsSpelled, AreBlanks, IsGap, is_apart, AreBehind, AreWords, HasForm, IsLayout, plain_word, spaced, plain_layout}
+use Rattle.dpl_boxes.specs.Written.Word.{Letters, Number, Integer}
+use Rattle.dpl_boxes.specs.Written.IsSigned.{plain, minus}
 use Rattle.dpl_boxes.specs.Written.IsIdle.{empty}
 
 plain_is_spelled : (w : Word) → IsSpelled w (plain_word w)
 plain_is_spelled (Letters letters) = refl
-plain_is_spelled (Integer (pos n)) = (0, refl)
-plain_is_spelled (Integer (negsuc n)) = (0, rw add-one refl)
+plain_is_spelled (Number n) = (0, refl)
+plain_is_spelled (Integer (pos n)) = plain n (decimal n) (0, refl)
+plain_is_spelled (Integer (negsuc n)) =
+    subst (λ z. IsSigned z (45 ∷ decimal (suc n))) (negated n) (minus (suc n) (decimal (suc n)) (0, refl))
 
-some_byte : (b : ℕ) → b ∷ [] ≢ []
-some_byte b e = absurd (cc)
+space_is_gap : (w : Word) → IsGap w (32 ∷ [])
+space_is_gap (Letters letters) = refl
+space_is_gap (Number n) = refl
+space_is_gap (Integer z) = refl
 
-space_is_gap : (v w : Word) → IsGap v w (32 ∷ [])
-space_is_gap (Letters letters) (Letters others) = refl
-space_is_gap (Integer y) (Letters others) = refl
-space_is_gap (Letters letters) (Integer z) = refl
-space_is_gap (Integer y) (Integer z) = (refl, some_byte 32)
+space_is_apart : (v : Word) (text : List ℕ) → is_apart v (32 ∷ text) ≡ true
+space_is_apart (Letters letters) text = refl
+space_is_apart (Number n) text = refl
+space_is_apart (Integer z) text = refl
 
 -- words behind a space each
 abbrev spaced_behind : List Word → List ℕ
@@ -28,8 +34,16 @@ spaced_behind ws = flat_map (λ v. codes " " ++ plain_word v) ws
 
 spaced_are_behind : (v : Word) (ws : List Word) → AreBehind v ws (spaced_behind ws)
 spaced_are_behind v [] = refl
-spaced_are_behind v (w ∷ ws) =
-    (32 ∷ [], plain_word w, spaced_behind ws, space_is_gap v w, plain_is_spelled w, refl, spaced_are_behind w ws)
+spaced_are_behind v (w ∷ ws) = (
+  32 ∷ [],
+  plain_word w,
+  spaced_behind ws,
+  space_is_gap w,
+  plain_is_spelled w,
+  refl,
+  space_is_apart v (plain_word w ++ spaced_behind ws),
+  spaced_are_behind w ws,
+)
 
 spaced_are_words : (ws : List Word) → AreWords ws (spaced ws)
 spaced_are_words [] = refl

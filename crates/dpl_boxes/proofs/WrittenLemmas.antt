@@ -15,8 +15,8 @@ use Rattle.dpl_rules.specs.declared.command.Command.TheVariants.{Idle, Polygon, 
 use Rattle.dpl_rules.specs.Forms.{form_of, comment_of}
 use Rattle.dpl_boxes.specs.Lines.{IsRead}
 use Rattle.dpl_boxes.specs.Written as written
-use Rattle.dpl_boxes.specs.Written.{Word, natural, spot_words, transformation_words, direction_words, scale_words, words_of, is_moderate, is_whole, can_be_written, AreBlanks, IsIdle, HasForm}
-use Rattle.dpl_boxes.specs.Written.Word.{Letters}
+use Rattle.dpl_boxes.specs.Written.{Word, spot_words, transformation_words, direction_words, scale_words, words_of, is_moderate, is_whole, can_be_written, AreBlanks, IsIdle, HasForm}
+use Rattle.dpl_boxes.specs.Written.Word.{Letters, Number}
 use Rattle.dpl_boxes.specs.Written.IsIdle.{empty, comment, extension}
 use Rattle.dpl_boxes.proofs.NumberLemmas.{list_all-weaker}
 use Rattle.dpl_boxes.proofs.BlankLemmas.{blanks_are_inside}
@@ -93,23 +93,23 @@ words_are_read (Polygon path) short bytes w m h =
       form = polygon_taken (Letters (codes "P")) path h.1 w m h.4;
     })
 words_are_read (Box b) short bytes w m h =
-    let others = natural b.length ∷ natural b.width ∷ (spot_words b.centre ++ direction_words short b.direction) in
+    let others = Number b.length ∷ Number b.width ∷ (spot_words b.centre ++ direction_words short b.direction) in
     form_is_read (Box b) 66 h.1 bytes m (first_word (codes "B") h.0 h.1 bytes h.2 h.3) (record {
       begins = refl;
       inside = plain_is_inside (Letters (codes "B")) others h.1 (plain_box short b m) h.4;
       form = box_taken (Letters (codes "B")) short b h.1 m h.4;
     })
 words_are_read (Wire width path) short bytes w m h =
-    let p = and_parts (is_moderate (natural width)) (list_all is_moderate (flat_map spot_words path)) m in
+    let p = and_parts (is_moderate (Number width)) (list_all is_moderate (flat_map spot_words path)) m in
     form_is_read (Wire width path) 87 h.1 bytes m (first_word (codes "W") h.0 h.1 bytes h.2 h.3) (record {
       begins = refl;
-      inside = plain_is_inside (Letters (codes "W")) (natural width ∷ flat_map spot_words path) h.1 (rw (p.0) (plain_path path p.1)) h.4;
+      inside = plain_is_inside (Letters (codes "W")) (Number width ∷ flat_map spot_words path) h.1 (rw (p.0) (plain_path path p.1)) h.4;
       form = wire_taken (Letters (codes "W")) width path h.1 w m h.4;
     })
 words_are_read (Flash diameter centre) short bytes w m h =
     form_is_read (Flash diameter centre) 82 h.1 bytes m (first_word (codes "R") h.0 h.1 bytes h.2 h.3) (record {
       begins = refl;
-      inside = plain_is_inside (Letters (codes "R")) (natural diameter ∷ spot_words centre) h.1 m h.4;
+      inside = plain_is_inside (Letters (codes "R")) (Number diameter ∷ spot_words centre) h.1 m h.4;
       form = flash_taken (Letters (codes "R")) diameter centre h.1 m h.4;
     })
 words_are_read (Layer name) short bytes w m h =
@@ -120,7 +120,7 @@ words_are_read (Layer name) short bytes w m h =
       form = layer_taken (Letters (codes "L")) name h.1 w h.4;
     })
 words_are_read (Start n scale) short bytes w m h =
-    let others = Letters (codes "S") ∷ natural n ∷ scale_words short scale in
+    let others = Letters (codes "S") ∷ Number n ∷ scale_words short scale in
     form_is_read (Start n scale) 68 h.1 bytes m (first_word (codes "D") h.0 h.1 bytes h.2 h.3) (record {
       begins = refl;
       inside = plain_is_inside (Letters (codes "D")) others h.1 (plain_start short n scale m) h.4;
@@ -135,14 +135,14 @@ words_are_read Finish short bytes w m h =
 words_are_read (Delete n) short bytes w m h =
     form_is_read (Delete n) 68 h.1 bytes m (first_word (codes "D") h.0 h.1 bytes h.2 h.3) (record {
       begins = refl;
-      inside = plain_is_inside (Letters (codes "D")) (Letters (codes "D") ∷ natural n ∷ []) h.1 m h.4;
+      inside = plain_is_inside (Letters (codes "D")) (Letters (codes "D") ∷ Number n ∷ []) h.1 m h.4;
       form = delete_taken (Letters (codes "D")) n h.1 m h.4;
     })
 words_are_read (Call n ts) short bytes w m h =
-    let p = and_parts (is_moderate (natural n)) (list_all is_moderate (flat_map transformation_words ts)) m in
+    let p = and_parts (is_moderate (Number n)) (list_all is_moderate (flat_map transformation_words ts)) m in
     form_is_read (Call n ts) 67 h.1 bytes m (first_word (codes "C") h.0 h.1 bytes h.2 h.3) (record {
       begins = refl;
-      inside = plain_is_inside (Letters (codes "C")) (natural n ∷ flat_map transformation_words ts) h.1 (rw (p.0) (plain_transformations ts p.1)) h.4;
+      inside = plain_is_inside (Letters (codes "C")) (Number n ∷ flat_map transformation_words ts) h.1 (rw (p.0) (plain_transformations ts p.1)) h.4;
       form = call_taken (Letters (codes "C")) n ts h.1 m h.4;
     })
 

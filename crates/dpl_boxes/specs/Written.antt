@@ -1,5 +1,5 @@
 -- Layouts by the grammar of CIF 2.0 (Mead and Conway 1980, section 4.5): the words of each command, and what stands between them.
-use Rattle.std.specs.Prelude.{◌≡◌, ◌≢◌, ◌+◌, ◌^◌, ◌&&◌, ◌==◌, ℕ, ℤ, pos, negsuc, Bool, true, false, nat_le, unsigned_abs, List, [], ◌∷◌, ◌++◌, length, map, flat_map, replicate, codes, Ok, if◌then◌else◌}
+use Rattle.std.specs.Prelude.{◌≡◌, ◌-ℤ◌, ◌^◌, ◌&&◌, ◌==◌, ℕ, ℤ, pos, Bool, true, false, not, nat_le, unsigned_abs, List, [], ◌∷◌, ◌++◌, length, map, flat_map, replicate, codes, Ok, if◌then◌else◌}
 use Rattle.std.specs.Ordering.{int_eq}
 use Rattle.std.specs.List.{list_all}
 use Rattle.std.specs.Fmt.{decimal, signed_decimal}
@@ -16,13 +16,11 @@ use Rattle.dpl_rules.specs.declared.command.Command.TheVariants.{Idle, Polygon, 
 use Rattle.dpl_rules.specs.Bounds.{command_of}
 use Rattle.dpl_cif.specs.Reading.{forms_of, ending_of}
 
--- letters and digits as they stand there, or an integer
+-- letters and digits as they stand there, a number without a sign, or an integer, which may have one
 pub data Word : Type 0 where
   Letters : List ℕ → Word
+  Number : ℕ → Word
   Integer : ℤ → Word
-
-abbrev pub natural : ℕ → Word
-natural n = Integer (pos n)
 
 abbrev pub spot_words : Spot → List Word
 spot_words s = Integer s.x ∷ Integer s.y ∷ []
@@ -35,7 +33,7 @@ direction_words short d =
 -- a short spelling leaves the scale 1/1 out
 abbrev pub scale_words : Bool → Scale → List Word
 scale_words short s =
-    if short && s.times == 1 && s.over == 1 then [] else natural s.times ∷ natural s.over ∷ []
+    if short && s.times == 1 && s.over == 1 then [] else Number s.times ∷ Number s.over ∷ []
 
 abbrev pub transformation_words : Transformation → List Word
 transformation_words (Shift by) = Letters (codes "T") ∷ spot_words by
@@ -47,23 +45,24 @@ transformation_words (Rotate to) = Letters (codes "R") ∷ spot_words to
 abbrev pub words_of : Bool → Command → List Word
 words_of short Idle = []
 words_of short (Polygon path) = Letters (codes "P") ∷ flat_map spot_words path
-words_of short (Box b) = Letters (codes "B") ∷ natural b.length ∷ natural b.width
+words_of short (Box b) = Letters (codes "B") ∷ Number b.length ∷ Number b.width
     ∷ (spot_words b.centre ++ direction_words short b.direction)
 words_of short (Wire width path) =
-    Letters (codes "W") ∷ natural width ∷ flat_map spot_words path
+    Letters (codes "W") ∷ Number width ∷ flat_map spot_words path
 words_of short (Flash diameter centre) =
-    Letters (codes "R") ∷ natural diameter ∷ spot_words centre
+    Letters (codes "R") ∷ Number diameter ∷ spot_words centre
 words_of short (Layer name) = Letters (codes "L") ∷ Letters name ∷ []
 words_of short (Start n scale) =
-    Letters (codes "D") ∷ Letters (codes "S") ∷ natural n ∷ scale_words short scale
+    Letters (codes "D") ∷ Letters (codes "S") ∷ Number n ∷ scale_words short scale
 words_of short Finish = Letters (codes "D") ∷ Letters (codes "F") ∷ []
-words_of short (Delete n) = Letters (codes "D") ∷ Letters (codes "D") ∷ natural n ∷ []
+words_of short (Delete n) = Letters (codes "D") ∷ Letters (codes "D") ∷ Number n ∷ []
 words_of short (Call n transformations) =
-    Letters (codes "C") ∷ natural n ∷ flat_map transformation_words transformations
+    Letters (codes "C") ∷ Number n ∷ flat_map transformation_words transformations
 
 -- a magnitude of at most 1,000,000,000,000
 abbrev pub is_moderate : Word → Bool
-is_moderate (Letters bytes) = true
+is_moderate (Letters letters) = true
+is_moderate (Number n) = nat_le n (10 ^ 12)
 is_moderate (Integer z) = nat_le (unsigned_abs z) (10 ^ 12)
 
 -- a path has a point, and the name of a layer is one
@@ -77,28 +76,44 @@ is_whole c = true
 abbrev pub can_be_written : Command → Bool
 can_be_written c = is_whole c && list_all is_moderate (words_of false c)
 
--- the bytes of a word: an integer in decimal, with any zeros in front, and behind a `-` where it is negative
+-- a number in decimal, with any zeros in front
+abbrev pub AreDigits : ℕ → List ℕ → Type 0
+AreDigits n digits = (zeros : ℕ) × (digits ≡ replicate zeros 48 ++ decimal n)
+
+-- the same, or its negative behind a `-`
+pub data IsSigned : ℤ → List ℕ → Type 0 where
+  plain : (n : ℕ) (digits : List ℕ) → AreDigits n digits → IsSigned (pos n) digits
+  minus : (n : ℕ) (digits : List ℕ) → AreDigits n digits
+      → IsSigned (pos 0 -ℤ pos n) (codes "-" ++ digits)
+
+-- the bytes of a word
 abbrev pub IsSpelled : Word → List ℕ → Type 0
 IsSpelled (Letters letters) bytes = bytes ≡ letters
-IsSpelled (Integer (pos n)) bytes =
-    (zeros : ℕ) × (bytes ≡ replicate zeros 48 ++ decimal n)
-IsSpelled (Integer (negsuc n)) bytes =
-    (zeros : ℕ) × (bytes ≡ codes "-" ++ (replicate zeros 48 ++ decimal (n + 1)))
+IsSpelled (Number n) bytes = AreDigits n bytes
+IsSpelled (Integer z) bytes = IsSigned z bytes
 
 abbrev pub AreBlanks : List ℕ → Type 0
 AreBlanks gap = list_all is_blank gap ≡ true
 
--- what may stand between two words: blanks, before an integer separators, and between two integers at least one
-abbrev pub IsGap : Word → Word → List ℕ → Type 0
-IsGap v (Letters letters) gap = AreBlanks gap
-IsGap (Letters letters) (Integer z) gap = list_all is_separator gap ≡ true
-IsGap (Integer y) (Integer z) gap = (list_all is_separator gap ≡ true) × (gap ≢ [])
+-- what stands before a word: blanks before letters, separators before a number
+abbrev pub IsGap : Word → List ℕ → Type 0
+IsGap (Letters letters) gap = AreBlanks gap
+IsGap w gap = list_all is_separator gap ≡ true
 
--- what stands behind a word: these words, each behind a gap, and maybe blanks
+abbrev pub has_no_digit : List ℕ → Bool
+has_no_digit [] = true
+has_no_digit (b ∷ bytes) = not (is_digit b)
+
+-- no digit stands right behind a number
+abbrev pub is_apart : Word → List ℕ → Bool
+is_apart (Letters letters) text = true
+is_apart w text = has_no_digit text
+
+-- what stands behind a word: these words, each behind its gap, and maybe blanks
 abbrev pub AreBehind : Word → List Word → List ℕ → Type 0
 AreBehind v [] text = AreBlanks text
-AreBehind v (w ∷ ws) text = (gap bytes rest : List ℕ) × IsGap v w gap × IsSpelled w bytes
-    × (text ≡ gap ++ (bytes ++ rest)) × AreBehind w ws rest
+AreBehind v (w ∷ ws) text = (gap bytes rest : List ℕ) × IsGap w gap × IsSpelled w bytes
+    × (text ≡ gap ++ (bytes ++ rest)) × (is_apart v text ≡ true) × AreBehind w ws rest
 
 -- words from the first one on
 abbrev pub AreWords : List Word → List ℕ → Type 0
@@ -137,6 +152,7 @@ LayoutsAreRead = (cs : List Command) (text : List ℕ) → list_all can_be_writt
 
 abbrev pub plain_word : Word → List ℕ
 plain_word (Letters letters) = letters
+plain_word (Number n) = decimal n
 plain_word (Integer z) = signed_decimal z
 
 -- words with a space between them
