@@ -7,7 +7,7 @@ ghost use Rattle.dpl_map.specs.Built.{IsMapOf};
 ghost use Rattle.dpl_colour.specs.Meets.{MeetsFaces, BreaksJoined};
 
 use crate::lists::{ascending, singles};
-use crate::merging::settle;
+use crate::merging::{Wanted, settle};
 use dpl_map::Map;
 use dpl_sign::Signed;
 use std::alloc::{AllocError, Global};
@@ -29,19 +29,12 @@ pub fn colour(
     ensures broken { IfOk result (λ c.
         BreaksJoined graph.now (view_of map.now) joined.now c.items) }
 {
+    let wanted = Wanted { graph, map, joined };
     let mut colours = vec![in alloc; false; graph.nodes as usize]?;
     let mut names = ascending(alloc, graph.nodes)?;
     let mut lists = singles(alloc, graph.nodes)?;
     for i in 0..graph.edges.as_slice().len() {
-        settle(
-            map,
-            graph,
-            joined,
-            i as u32,
-            &mut names,
-            &mut lists,
-            &mut colours,
-        );
+        settle(&wanted, i as u32, &mut names, &mut lists, &mut colours);
     }
     Ok(colours)
 }

@@ -24,5 +24,5 @@ returns-clause-broken c = breaks_joined c.args.graph.now _ _ _ _ c.requires.meet
     (all_done _ _ _ _ _ _ _ (ap (λ (z : List _). length z) c.as_slice-i-end.ensures) c.loop-i-test.false
     c.loop-i.invariant.coloured)
 
-pub settle-requires-clause-map : goal.settle-requires-clause-map
-settle-requires-clause-map c = plane_of c.args.graph.now c.args.map.now c.requires.map
+pub settle-requires-clause-wanted : goal.settle-requires-clause-wanted
+settle-requires-clause-wanted c = record { map = plane_of c.args.graph.now c.args.map.now c.requires.map; places = c.requires.places }
