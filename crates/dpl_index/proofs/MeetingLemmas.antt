@@ -11,7 +11,6 @@ use Rattle.dpl_index.specs.Holds.{Holds}
 use Rattle.dpl_index.specs.Stops.{IsIndex}
 use Rattle.dpl_list.proofs.Integers.{signed}
 use Rattle.dpl_list.proofs.Lists.{some_of}
-use Rattle.dpl_index.proofs.StopLemmas.{holds_on}
 
 -- what meets bounds meets all that hold them
 pub meets_outer : (outer inner window : Bounds) → Holds outer inner → Meets inner window → Meets outer window

@@ -76,24 +76,31 @@ fn singles(
 }
 
 /// How many stops each stop is to hold, itself among them: the first holds all. The stops behind one, as far as it holds
-/// them, are held by two: those in one half of a square or of a half of one, and those in the other.
+/// them, are held by four: those in each quarter of a square or of a half of one.
 fn sizes(alloc: Global, places: &[(u64, usize)]) -> Result<Vec<usize>, NoMemory> {
     let count = places.len();
     let mut sizes = vec![in alloc; 0usize; count]?;
     set(&mut sizes, 0, count);
     for k in 0..count {
-        let behind = size_at(&sizes, k).wrapping_sub(1);
         let from = k.wrapping_add(1);
-        let to = from.wrapping_add(behind);
-        let half = first_half(places.get(from..to).unwrap_or(&[]));
-        set(&mut sizes, from, half);
-        set(
-            &mut sizes,
-            from.wrapping_add(half),
-            behind.wrapping_sub(half),
-        );
+        let to = k.wrapping_add(size_at(&sizes, k));
+        let middle = middle_of(places, from, to);
+        set_halves(&mut sizes, places, from, middle);
+        set_halves(&mut sizes, places, middle, to);
     }
     Ok(sizes)
+}
+
+/// Sets two sizes for the stops from one on up to another.
+fn set_halves(sizes: &mut [usize], places: &[(u64, usize)], from: usize, to: usize) {
+    let middle = middle_of(places, from, to);
+    set(sizes, from, middle.wrapping_sub(from));
+    set(sizes, middle, to.wrapping_sub(middle));
+}
+
+/// Where the second half begins of the places from one on up to another.
+fn middle_of(places: &[(u64, usize)], from: usize, to: usize) -> usize {
+    from.wrapping_add(first_half(places.get(from..to).unwrap_or(&[])))
 }
 
 /// How many places, of some in order, agree with the first of them in more bits than with the last.
