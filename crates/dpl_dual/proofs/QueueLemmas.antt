@@ -1,5 +1,5 @@
 -- A label more or less in one of several queues.
-use Rattle.std.proofs.Common.{arith, Option, Some, None, ◌≤◌, ◌≡◌, ℕ, zero, suc, ◌<◌, refl, sym, ap, ◌∙◌, subst, List}
+use Rattle.std.proofs.Common.{arith, Option, Some, None, ◌≡◌, ℕ, zero, suc, ◌<◌, refl, sym, ap, ◌∙◌, subst, List}
 use Rattle.std.proofs.Common.{[], ◌∷◌, ◌++◌, append_assoc, length, get_or}
 use Rattle.std.specs.Prelude.{slice_set, MatchOption}
 use Rattle.std.specs.List.Sorted.{IsPermutation}

@@ -1,12 +1,12 @@
 //! What a search for distances keeps.
 
-ghost use Rattle.std.specs.Prelude.{◌≡◌, ℕ, ◌<◌, is_some, option_map, false, OnOk, IfOk, MatchBool, List};
-ghost use Rattle.dpl_dual.specs.declared.crosses.Cross.{Cross};
+ghost use Rattle.std.specs.Prelude.{◌≡◌, ℕ, ◌<◌, is_some, option_map, false, OnOk, IfOk, MatchBool};
 ghost use Rattle.dpl_dual.specs.Searches.{IsLabelled};
 ghost use Rattle.dpl_dual.specs.Labels.{labels, IsFar, IsUnderWay, AreReachedAlso, WaitsAlso};
 
 use crate::queue::Waiting;
 use crate::reach::Reach;
+use crate::sought::Sought;
 use crate::table::Table;
 use std::alloc::{AllocError, Global};
 
@@ -72,22 +72,20 @@ pub fn label(
 }
 
 /// A search that has reached the first face alone.
-pub fn begin(alloc: Global, from: u32, faces: u32, limit: u64) -> Result<Search, AllocError>
-    requires from { from < faces }
-    requires some { 0 < limit }
-    ensures { IfOk result (λ s. (ways : List Cross) →
-        IsUnderWay ways faces from limit (λ f. false) s) }
+pub fn begin(alloc: Global, sought: &Sought<'_>) -> Result<Search, AllocError>
+    requires from { sought.now.from < sought.now.faces }
+    requires some { 0 < sought.now.limit }
+    ensures { IfOk result (λ s. IsUnderWay sought.now (λ f. false) s) }
 {
     let mut search = Search {
         table: Table::new(alloc),
         reached: Vec::new(alloc),
         queue: Waiting::new(alloc),
     };
-    let _within = (faces, limit);
     let reach = Reach {
         length: 0,
         last: None,
     };
-    label(&mut search, 0, from, reach, false)?;
+    label(&mut search, 0, sought.from, reach, false)?;
     Ok(search)
 }
