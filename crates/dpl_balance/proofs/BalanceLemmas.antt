@@ -28,8 +28,8 @@ pub record AreTurnedBy (f : Fragments) (net : Net) (old new : List Bool) (number
 number_at : List ℕ → ℕ → ℕ
 number_at number v = get_or number v 0
 
-pub whole_components : (f : Fragments) (net : Net) (old new : List Bool) (number : List ℕ) (turned : List Bool) →
-    AreTurnedBy f net old new number turned → AreTurned net old new
+pub whole_components : (f : Fragments) (net : Net) (old new : List Bool) (number : List ℕ) (turned : List Bool)
+    → AreTurnedBy f net old new number turned → AreTurned net old new
 whole_components f net old new number turned t = record {
   long = t.long;
   whole = λ u v l m e.
@@ -53,20 +53,20 @@ difference_turned true g = flip (g true) (g false) where
 difference_turned false g = refl
 
 -- what a component has on a mask after it was turned over or not
-new_side : (f : Fragments) (net : Net) (old new : List Bool) (number : List ℕ) (turned : List Bool) →
-    AreTurnedBy f net old new number turned → (c : ℕ) (b : Bool) →
-    component_area f.rects number c b new ≡ component_area f.rects number c (turn (get_or turned c false) b) old
+new_side : (f : Fragments) (net : Net) (old new : List Bool) (number : List ℕ) (turned : List Bool)
+    → AreTurnedBy f net old new number turned → (c : ℕ) (b : Bool)
+    → component_area f.rects number c b new ≡ component_area f.rects number c (turn (get_or turned c false) b) old
 new_side f net old new number turned t c b =
     let o = t.one in
     turned_side (length f.rects) c (λ v. get_or number v 0) (colour_of old) (colour_of new) (λ c. get_or turned c false)
     (area_at f.rects) b (λ v l. t.each v (omega arith))
 
 -- what all components have on a mask
-pub all_sides : (f : Fragments) (net : Net) (old new : List Bool) (number : List ℕ) (turned : List Bool)
-    (on_a on_b : List ℕ) → AreTurnedBy f net old new number turned → length on_a ≡ length turned
-    → ((c : ℕ) → c < length on_a → get_or on_a c 0 ≡ component_area f.rects number c false old) →
-    ((c : ℕ) → c < length on_a → get_or on_b c 0 ≡ component_area f.rects number c true old)
-    → (b : Bool) → total_after on_a on_b turned b ≡ fragments_area f.rects all_fragments b new
+pub all_sides : (f : Fragments) (net : Net) (old new : List Bool) (number : List ℕ) (turned : List Bool) (on_a on_b : List ℕ)
+    → AreTurnedBy f net old new number turned → length on_a ≡ length turned
+    → ((c : ℕ) → c < length on_a → get_or on_a c 0 ≡ component_area f.rects number c false old)
+    → ((c : ℕ) → c < length on_a → get_or on_b c 0 ≡ component_area f.rects number c true old) → (b : Bool)
+    → total_after on_a on_b turned b ≡ fragments_area f.rects all_fragments b new
 all_sides f net old new number turned on_a on_b t long a_is b_is b =
     sum_same (length on_a) (λ c. true) (λ c. true) (λ c. cells_by turned b (part_at on_a on_b c)) (λ c. component_area f.rects number c b new) (λ c l. refl)
     (λ c l. part_is (turn (get_or turned c false) b) c l ∙ sym (new_side f net old new number turned t c b))
@@ -78,8 +78,9 @@ all_sides f net old new number turned on_a on_b t long a_is b_is b =
       part_is false c l = a_is c l
 
 -- the difference of a component is that of its two sides
-one_side : (f : Fragments) (net : Net) (old new : List Bool) (number : List ℕ) (turned : List Bool) →
-    AreTurnedBy f net old new number turned → (u c : ℕ) → u < net.graph.nodes → get_or number u 0 ≡ c → (b : Bool)
+one_side : (f : Fragments) (net : Net) (old new : List Bool) (number : List ℕ) (turned : List Bool)
+    → AreTurnedBy f net old new number turned → (u c : ℕ) → u < net.graph.nodes → get_or number u 0 ≡ c
+    → (b : Bool)
     → fragments_area f.rects (are_one_component net u) b new ≡ component_area f.rects number c (turn (get_or turned c false) b) old
 one_side f net old new number turned t u c l e b =
     let n = t.nodes in
@@ -89,10 +90,10 @@ one_side f net old new number turned t u c l e b =
     ap (λ z. get_or number v 0 == z) e)) (λ v m. refl)
     ∙ new_side f net old new number turned t c b
 
-side_difference : (f : Fragments) (net : Net) (old new : List Bool) (number : List ℕ) (turned : List Bool) →
-    AreTurnedBy f net old new number turned → (most : ℕ)
-    → ((u : ℕ) → u < net.graph.nodes → mask_difference f (are_one_component net u) new ≤ most) → (c : ℕ) →
-    difference (component_area f.rects number c false old) (component_area f.rects number c true old) ≤ most
+side_difference : (f : Fragments) (net : Net) (old new : List Bool) (number : List ℕ) (turned : List Bool)
+    → AreTurnedBy f net old new number turned → (most : ℕ)
+    → ((u : ℕ) → u < net.graph.nodes → mask_difference f (are_one_component net u) new ≤ most) → (c : ℕ)
+    → difference (component_area f.rects number c false old) (component_area f.rects number c true old) ≤ most
 side_difference f net old new number turned t most each c = elim (some_passes (length f.rects) (λ v. get_or number v 0 == c)) [
   | inl (u, l, e) ↦
       let n = t.nodes in
@@ -117,10 +118,10 @@ side_difference f net old new number turned t most each c = elim (some_passes (l
   nothing x y most e f = omega arith
 
 -- the areas of the masks are about the same
-pub balanced_by : (f : Fragments) (net : Net) (old new : List Bool) (number : List ℕ) (turned : List Bool)
-    (on_a on_b : List ℕ) → AreTurnedBy f net old new number turned → length on_a ≡ length turned
-    → ((c : ℕ) → c < length on_a → get_or on_a c 0 ≡ component_area f.rects number c false old) →
-    ((c : ℕ) → c < length on_a → get_or on_b c 0 ≡ component_area f.rects number c true old)
+pub balanced_by : (f : Fragments) (net : Net) (old new : List Bool) (number : List ℕ) (turned : List Bool) (on_a on_b : List ℕ)
+    → AreTurnedBy f net old new number turned → length on_a ≡ length turned
+    → ((c : ℕ) → c < length on_a → get_or on_a c 0 ≡ component_area f.rects number c false old)
+    → ((c : ℕ) → c < length on_a → get_or on_b c 0 ≡ component_area f.rects number c true old)
     → AreEven on_a on_b turned → AreBalanced f net new
 balanced_by f net old new number turned on_a on_b t long a_is b_is even most each =
     let sides = all_sides f net old new number turned on_a on_b t long a_is b_is in

@@ -44,8 +44,8 @@ all_kept P on_b (r ∷ rs) (c ∷ cs) a = by_test (agree c on_b) (all_kept P on_
   by_test true others = All-cons P (corners_of r) (own_rects on_b rs cs) (All-head P (corners_of r) (map corners_of rs) a) others
   by_test false others = others
 
-own_apart : (on_b : Bool) (rects : List Rect) (colours : List Bool) → AllPairs AreApart (map corners_of rects) →
-    AllPairs AreApart (own_rects on_b rects colours)
+own_apart : (on_b : Bool) (rects : List Rect) (colours : List Bool) → AllPairs AreApart (map corners_of rects)
+    → AllPairs AreApart (own_rects on_b rects colours)
 unfolding own_rects
 own_apart on_b [] colours a = λ i j d l m. absurd (omega (arith, m))
 own_apart on_b (r ∷ rs) [] a = λ i j d l m. absurd (omega (arith, m))
@@ -79,9 +79,9 @@ own_are on_b (r ∷ rs) (c ∷ cs) = by_test (agree c on_b) refl
       by_test false e others = others
 
 -- a cell of a fragment of this colour is on the mask
-own_held : (on_b : Bool) (rects : List Rect) (colours : List Bool) (i : ℕ) (x y : ℤ) → length colours ≡ length rects →
-    i < length rects → agree (colour_of colours i) on_b ≡ true → IsIn (rect_at (map corners_of rects) i) x y →
-    HoldCell (own_rects on_b rects colours) x y
+own_held : (on_b : Bool) (rects : List Rect) (colours : List Bool) (i : ℕ) (x y : ℤ)
+    → length colours ≡ length rects → i < length rects → agree (colour_of colours i) on_b ≡ true
+    → IsIn (rect_at (map corners_of rects) i) x y → HoldCell (own_rects on_b rects colours) x y
 unfolding own_rects
 own_held on_b [] colours i x y n l o h = absurd (omega (arith, l))
 own_held on_b (r ∷ rs) [] i x y n l o h = absurd (omega (arith, n))
@@ -100,8 +100,8 @@ sum_first : (n : ℕ) (p : ℕ → Bool) (w : ℕ → ℕ) → sum_on p w (suc n
 sum_first zero p w = omega arith
 sum_first (suc n) p w = omega (arith, sum_first n p w)
 
-own_area : (on_b : Bool) (rects : List Rect) (colours : List Bool) → length colours ≡ length rects →
-    sum_by area_of (own_rects on_b rects colours) ≡ fragments_area rects all_fragments on_b colours
+own_area : (on_b : Bool) (rects : List Rect) (colours : List Bool) → length colours ≡ length rects
+    → sum_by area_of (own_rects on_b rects colours) ≡ fragments_area rects all_fragments on_b colours
 unfolding own_rects
 own_area on_b [] colours n = refl
 own_area on_b (r ∷ rs) [] n = absurd (omega (arith, n))
@@ -127,8 +127,8 @@ outers : ℕ → List Corners → Fragments → Bool → List Bool → List Cut 
 outers over tiles f on_b colours [] = []
 outers over tiles f on_b colours (c ∷ cs) = put_where (is_zone colours c) (outer over tiles f on_b colours c) (outers over tiles f on_b colours cs)
 
-outer_colour : (c : Cut) (colours : List Bool) (on_b : Bool) → is_zone colours c ≡ true →
-    agree (colour_of colours (owner c (agree (colour_of colours c.a) on_b))) on_b ≡ false
+outer_colour : (c : Cut) (colours : List Bool) (on_b : Bool) → is_zone colours c ≡ true
+    → agree (colour_of colours (owner c (agree (colour_of colours c.a) on_b))) on_b ≡ false
 outer_colour c colours on_b e = by_colours (colour_of colours c.a) refl (colour_of colours c.b) refl on_b e where
   by_colours : (a : Bool) → colour_of colours c.a ≡ a → (b : Bool) → colour_of colours c.b ≡ b → (on_b : Bool) →
       not (agree a b) ≡ true → agree (colour_of colours (owner c (agree a on_b))) on_b ≡ false
@@ -139,8 +139,8 @@ outer_colour c colours on_b e = by_colours (colour_of colours c.a) refl (colour_
   by_colours false f true g true e = ap (λ z. agree z true) f
   by_colours false f true g false e = ap (λ z. agree z false) g
 
-inner_colour : (c : Cut) (colours : List Bool) (on_b : Bool) → is_zone colours c ≡ true →
-    agree (colour_of colours (owner c (not (agree (colour_of colours c.a) on_b)))) on_b ≡ true
+inner_colour : (c : Cut) (colours : List Bool) (on_b : Bool) → is_zone colours c ≡ true
+    → agree (colour_of colours (owner c (not (agree (colour_of colours c.a) on_b)))) on_b ≡ true
 inner_colour c colours on_b e = by_colours (colour_of colours c.a) refl (colour_of colours c.b) refl on_b e where
   by_colours : (a : Bool) → colour_of colours c.a ≡ a → (b : Bool) → colour_of colours c.b ≡ b → (on_b : Bool) →
       not (agree a b) ≡ true → agree (colour_of colours (owner c (not (agree a on_b)))) on_b ≡ true
@@ -158,9 +158,9 @@ record IsOuter (f : Fragments) (on_b : Bool) (colours : List Bool) (q : Corners)
   colour : agree (colour_of colours number) on_b ≡ false
   inside : (x y : ℤ) → IsIn q x y → IsIn (rect_at (rects_of f) number) x y
 
-outer_is : (keep : List Corners) (space over : ℕ) (tiles : List Corners) (f : Fragments) (on_b : Bool)
-    (colours : List Bool) (c : Cut) → AreHere keep space over tiles f → IsCutOf over tiles f c →
-    is_zone colours c ≡ true → IsOuter f on_b colours (outer over tiles f on_b colours c)
+outer_is : (keep : List Corners) (space over : ℕ) (tiles : List Corners) (f : Fragments) (on_b : Bool) (colours : List Bool) (c : Cut)
+    → AreHere keep space over tiles f → IsCutOf over tiles f c → is_zone colours c ≡ true
+    → IsOuter f on_b colours (outer over tiles f on_b colours c)
 unfolding outer
 outer_is keep space over tiles f on_b colours c a i e = record {
   number = owner c (agree (colour_of colours c.a) on_b);
@@ -184,9 +184,9 @@ all_outers P over tiles f on_b colours (c ∷ cs) a =
           (All-head (λ (c : Cut). is_zone colours c ≡ true → P (outer over tiles f on_b colours c)) c cs a e) others
       by_test others false e = others
 
-outers_apart : (keep : List Corners) (space over : ℕ) (tiles : List Corners) (f : Fragments) (on_b : Bool)
-    (colours : List Bool) (cuts : List Cut) → AreHere keep space over tiles f → All (IsCutOf over tiles f) cuts →
-    AllPairs (λ (c d : Cut). c.a < d.a) cuts → AllPairs AreApart (outers over tiles f on_b colours cuts)
+outers_apart : (keep : List Corners) (space over : ℕ) (tiles : List Corners) (f : Fragments) (on_b : Bool) (colours : List Bool) (cuts : List Cut)
+    → AreHere keep space over tiles f → All (IsCutOf over tiles f) cuts
+    → AllPairs (λ (c d : Cut). c.a < d.a) cuts → AllPairs AreApart (outers over tiles f on_b colours cuts)
 unfolding outers put_where outer
 outers_apart keep space over tiles f on_b colours [] a all ordered = λ i j d l m. absurd (omega (arith, m))
 outers_apart keep space over tiles f on_b colours (c ∷ cs) a all ordered =
@@ -204,9 +204,9 @@ outers_apart keep space over tiles f on_b colours (c ∷ cs) a all ordered =
       by_test others true = AllPairs-cons AreApart (outer over tiles f on_b colours c) (outers over tiles f on_b colours cs) here_apart others
       by_test others false = others
 
-outers_area : (over : ℕ) (tiles : List Corners) (f : Fragments) (on_b : Bool) (colours : List Bool) (cuts : List Cut) →
-    All (IsCutOf over tiles f) cuts → sum_by area_of (outers over tiles f on_b colours cuts) ≡ zones_area cuts
-    all_fragments colours
+outers_area : (over : ℕ) (tiles : List Corners) (f : Fragments) (on_b : Bool) (colours : List Bool) (cuts : List Cut)
+    → All (IsCutOf over tiles f) cuts
+    → sum_by area_of (outers over tiles f on_b colours cuts) ≡ zones_area cuts all_fragments colours
 unfolding outers put_where outer
 outers_area over tiles f on_b colours [] all = refl
 outers_area over tiles f on_b colours (c ∷ cs) all =
@@ -229,9 +229,9 @@ outers_area over tiles f on_b colours (c ∷ cs) all =
 zone_rects : List Bool → List Cut → List Corners
 zone_rects colours cuts = map corners_of (zones_of colours cuts)
 
-outers_on_zones : (over : ℕ) (tiles : List Corners) (f : Fragments) (on_b : Bool) (colours : List Bool)
-    (cuts : List Cut) → All (IsCutOf over tiles f) cuts → (x y : ℤ) →
-    HoldCell (outers over tiles f on_b colours cuts) x y → HoldCell (zone_rects colours cuts) x y
+outers_on_zones : (over : ℕ) (tiles : List Corners) (f : Fragments) (on_b : Bool) (colours : List Bool) (cuts : List Cut)
+    → All (IsCutOf over tiles f) cuts → (x y : ℤ) → HoldCell (outers over tiles f on_b colours cuts) x y
+    → HoldCell (zone_rects colours cuts) x y
 unfolding outers put_where outer zone_rects
 outers_on_zones over tiles f on_b colours [] all x y (k, s, l, e, i) = absurd (omega (arith, l))
 outers_on_zones over tiles f on_b colours (c ∷ cs) all x y h =
@@ -253,10 +253,10 @@ outers_on_zones over tiles f on_b colours (c ∷ cs) all x y h =
       by_test others true h = either others h
       by_test others false h = others h
 
-zones_on_mask : (keep : List Corners) (space over : ℕ) (tiles : List Corners) (f : Fragments) (on_b : Bool)
-    (colours : List Bool) (cuts : List Cut) → length colours ≡ length f.rects → AreHere keep space over tiles f →
-    All (IsCutOf over tiles f) cuts → (x y : ℤ)
-    → HoldCell (zone_rects colours cuts) x y → HoldCell (own_rects on_b f.rects colours) x y ⊎ HoldCell (outers over tiles f on_b colours cuts) x y
+zones_on_mask : (keep : List Corners) (space over : ℕ) (tiles : List Corners) (f : Fragments) (on_b : Bool) (colours : List Bool) (cuts : List Cut)
+    → length colours ≡ length f.rects → AreHere keep space over tiles f → All (IsCutOf over tiles f) cuts
+    → (x y : ℤ) → HoldCell (zone_rects colours cuts) x y
+    → HoldCell (own_rects on_b f.rects colours) x y ⊎ HoldCell (outers over tiles f on_b colours cuts) x y
 unfolding outers put_where outer zone_rects
 zones_on_mask keep space over tiles f on_b colours [] n a all x y (k, s, l, e, i) = absurd (omega (arith, l))
 zones_on_mask keep space over tiles f on_b colours (c ∷ cs) n a all x y h =
@@ -324,9 +324,9 @@ colours_differ a on_b e g = true≢false (sym e ∙ g)
 mask_parts : ℕ → List Corners → Fragments → Bool → List Bool → List Corners
 mask_parts over tiles f on_b colours = own_rects on_b f.rects colours ++ outers over tiles f on_b colours f.cuts
 
-parts_proper : (keep : List Corners) (space over : ℕ) (tiles : List Corners) (f : Fragments) (on_b : Bool)
-    (colours : List Bool) → AreHere keep space over tiles f → All (IsCutOf over tiles f) f.cuts →
-    All IsProper (mask_parts over tiles f on_b colours)
+parts_proper : (keep : List Corners) (space over : ℕ) (tiles : List Corners) (f : Fragments) (on_b : Bool) (colours : List Bool)
+    → AreHere keep space over tiles f → All (IsCutOf over tiles f) f.cuts
+    → All IsProper (mask_parts over tiles f on_b colours)
 unfolding mask_parts outer
 parts_proper keep space over tiles f on_b colours a all = All-append IsProper (own_rects on_b f.rects colours) (outers over tiles f on_b colours f.cuts)
     (all_kept IsProper on_b f.rects colours (rects_proper f))
@@ -336,9 +336,9 @@ parts_proper keep space over tiles f on_b colours a all = All-append IsProper (o
     let m : c.a < length (rects_of f) = let r = i.rising in let w = i.within in omega arith in
     half_proper keep space over tiles f c (a.cut c i) (rects_proper f c.a nowhere m) (agree (colour_of colours c.a) on_b)))
 
-parts_apart : (keep : List Corners) (space over : ℕ) (tiles : List Corners) (f : Fragments) (on_b : Bool)
-    (colours : List Bool) → AreHere keep space over tiles f → All (IsCutOf over tiles f) f.cuts →
-    AllPairs (λ (c d : Cut). c.a < d.a) f.cuts → AllPairs AreApart (mask_parts over tiles f on_b colours)
+parts_apart : (keep : List Corners) (space over : ℕ) (tiles : List Corners) (f : Fragments) (on_b : Bool) (colours : List Bool)
+    → AreHere keep space over tiles f → All (IsCutOf over tiles f) f.cuts
+    → AllPairs (λ (c d : Cut). c.a < d.a) f.cuts → AllPairs AreApart (mask_parts over tiles f on_b colours)
 unfolding mask_parts
 parts_apart keep space over tiles f on_b colours a all ordered =
     all_pairs_append AreApart (own_rects on_b f.rects colours) (outers over tiles f on_b colours f.cuts)
@@ -356,21 +356,21 @@ parts_apart keep space over tiles f on_b colours a all ordered =
       outers_are = all_outers (IsOuter f on_b colours) over tiles f on_b colours f.cuts
           (λ k d l e. outer_is keep space over tiles f on_b colours (get_or f.cuts k d) a (all k d l) e)
 
-parts_area : (over : ℕ) (tiles : List Corners) (f : Fragments) (on_b : Bool) (colours : List Bool) →
-    length colours ≡ length f.rects → All (IsCutOf over tiles f) f.cuts →
-    sum_by area_of (mask_parts over tiles f on_b colours) ≡ mask_area f on_b colours
+parts_area : (over : ℕ) (tiles : List Corners) (f : Fragments) (on_b : Bool) (colours : List Bool)
+    → length colours ≡ length f.rects → All (IsCutOf over tiles f) f.cuts
+    → sum_by area_of (mask_parts over tiles f on_b colours) ≡ mask_area f on_b colours
 unfolding mask_parts
 parts_area over tiles f on_b colours n all = sum_by-append area_of (own_rects on_b f.rects colours) (outers over tiles f on_b colours f.cuts)
     ∙ omega (arith, own_area on_b f.rects colours n, outers_area over tiles f on_b colours f.cuts all)
 
-mask_is : (f : Fragments) (on_b : Bool) (colours : List Bool) →
-    map corners_of (mask_of on_b f colours) ≡ own_rects on_b f.rects colours ++ zone_rects colours f.cuts
+mask_is : (f : Fragments) (on_b : Bool) (colours : List Bool)
+    → map corners_of (mask_of on_b f colours) ≡ own_rects on_b f.rects colours ++ zone_rects colours f.cuts
 unfolding own_rects zone_rects
 mask_is f on_b colours = map-append corners_of (fragments_on on_b f.rects colours) (zones_of colours f.cuts)
 
-parts_same : (keep : List Corners) (space over : ℕ) (tiles : List Corners) (f : Fragments) (on_b : Bool)
-    (colours : List Bool) → length colours ≡ length f.rects → AreHere keep space over tiles f →
-    All (IsCutOf over tiles f) f.cuts → (x y : ℤ)
+parts_same : (keep : List Corners) (space over : ℕ) (tiles : List Corners) (f : Fragments) (on_b : Bool) (colours : List Bool)
+    → length colours ≡ length f.rects → AreHere keep space over tiles f → All (IsCutOf over tiles f) f.cuts
+    → (x y : ℤ)
     → HoldCell (mask_parts over tiles f on_b colours) x y ↔ HoldCell (map corners_of (mask_of on_b f colours)) x y
 unfolding mask_parts
 parts_same keep space over tiles f on_b colours n a all x y =
@@ -393,8 +393,9 @@ parts_same keep space over tiles f on_b colours n a all x y =
     )
 
 -- a mask of fragments that came from tiles has as many cells as its area says
-pub mask_cells : (space : ℕ) (f : Fragments) (on_b : Bool) (colours : List Bool) → length colours ≡ length f.rects →
-    CameFromCut space f → HasCells (HoldCell (map corners_of (mask_of on_b f colours))) (mask_area f on_b colours)
+pub mask_cells : (space : ℕ) (f : Fragments) (on_b : Bool) (colours : List Bool)
+    → length colours ≡ length f.rects → CameFromCut space f
+    → HasCells (HoldCell (map corners_of (mask_of on_b f colours))) (mask_area f on_b colours)
 mask_cells space f on_b colours n came =
     let a : AreHere came.keep space came.over came.tiles f =
     record {

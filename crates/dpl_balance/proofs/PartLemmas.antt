@@ -59,18 +59,19 @@ moved_distinct a b k parts p = IsDistinct-IsPermutation have_one_number flips (p
 pub moved_long : (a b : List ℕ) (k : ℕ) (parts : List Part) → IsPermutation (parts_below a b k) parts → length parts ≡ k
 moved_long a b k parts p = length_permutation (parts_below a b k) parts p ∙ parts_long a b k
 
-pub moved_all : (a b : List ℕ) (k : ℕ) (parts : List Part) (P : Part → Type 0) →
-    IsPermutation (parts_below a b k) parts → ((c : ℕ) → c < k → P (part_at a b c)) → All P parts
+pub moved_all : (a b : List ℕ) (k : ℕ) (parts : List Part) (P : Part → Type 0)
+    → IsPermutation (parts_below a b k) parts → ((c : ℕ) → c < k → P (part_at a b c)) → All P parts
 moved_all a b k parts P p each = All-permutation P (parts_below a b k) parts p (all_parts a b P k each)
 
-pub moved_sum : (a b : List ℕ) (k : ℕ) (parts : List Part) (f : Part → ℕ) → IsPermutation (parts_below a b k) parts →
-    sum_by f parts ≡ sum_on (λ c. true) (λ c. f (part_at a b c)) k
+pub moved_sum : (a b : List ℕ) (k : ℕ) (parts : List Part) (f : Part → ℕ)
+    → IsPermutation (parts_below a b k) parts → sum_by f parts ≡ sum_on (λ c. true) (λ c. f (part_at a b c)) k
 moved_sum a b k parts f p = sum_by-IsPermutation f (parts_below a b k) parts p ∙ sum_parts a b f k
 
 -- what settling the parts in some order leaves of the components
-pub even_in_order : (a b : List ℕ) (parts : List Part) (turned : List Bool) → IsPermutation (parts_below a b (length a)) parts
-    → ((most : ℕ) → All (IsUnlike most) parts → difference (sum_by (cells_by turned false) parts)
-    (sum_by (cells_by turned true) parts) ≤ most) → AreEven a b turned
+pub even_in_order : (a b : List ℕ) (parts : List Part) (turned : List Bool)
+    → IsPermutation (parts_below a b (length a)) parts
+    → ((most : ℕ) → All (IsUnlike most) parts → difference (sum_by (cells_by turned false) parts) (sum_by (cells_by turned true) parts) ≤ most)
+    → AreEven a b turned
 even_in_order a b parts turned p even most each =
     let l : sum_by (cells_by turned false) parts ≡ total_after a b turned false = moved_sum a b (length a) parts (cells_by turned false) p in
     let r : sum_by (cells_by turned true) parts ≡ total_after a b turned true = moved_sum a b (length a) parts (cells_by turned true) p in

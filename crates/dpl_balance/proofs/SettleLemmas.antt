@@ -49,9 +49,9 @@ unfolding IsDistinct
 no_other p ps d = d.0
 
 -- what others have does not change
-others_stay : (turned : List Bool) (p : Part) (t b : Bool) (done : List Part) →
-    AllByRecursion (λ q. have_one_number p q ≡ false) done →
-    sum_by (cells_by (set turned p.number t) b) done ≡ sum_by (cells_by turned b) done
+others_stay : (turned : List Bool) (p : Part) (t b : Bool) (done : List Part)
+    → AllByRecursion (λ q. have_one_number p q ≡ false) done
+    → sum_by (cells_by (set turned p.number t) b) done ≡ sum_by (cells_by turned b) done
 others_stay turned p t b [] apart = refl
 others_stay turned p t b (q ∷ qs) apart =
     let one : is_turned (set turned p.number t) q ≡ is_turned turned q =
@@ -60,17 +60,17 @@ others_stay turned p t b (q ∷ qs) apart =
     sum_by-cons (cells_by (set turned p.number t) b) q qs ∙ omega (arith, first, others_stay turned p t b qs apart.1) ∙
     sym (sum_by-cons (cells_by turned b) q qs)
 
-one_more : (turned : List Bool) (p : Part) (t b : Bool) (done : List Part) (on : ℕ) → p.number < length turned →
-    AllByRecursion (λ q. have_one_number p q ≡ false) done → on ≡ sum_by (cells_by turned b) done →
-    on + cells_after t b p ≡ sum_by (cells_by (set turned p.number t) b) (p ∷ done)
+one_more : (turned : List Bool) (p : Part) (t b : Bool) (done : List Part) (on : ℕ) → p.number < length turned
+    → AllByRecursion (λ q. have_one_number p q ≡ false) done → on ≡ sum_by (cells_by turned b) done
+    → on + cells_after t b p ≡ sum_by (cells_by (set turned p.number t) b) (p ∷ done)
 one_more turned p t b done on l apart e =
     let own : is_turned (set turned p.number t) p ≡ t = get_or-set_same turned p.number t false l in
     let first : cells_by (set turned p.number t) b p ≡ cells_after t b p = ap (λ z. cells_after z b p) own in
     omega (arith, e, first, others_stay turned p t b done apart) ∙ sym (sum_by-cons (cells_by (set turned p.number t) b) p done)
 
 -- the heavier side on the lighter mask: the masks differ by no more than they did, or than the component does
-evens : (on : Areas) (p : Part) (most : ℕ) → difference on.a on.b ≤ most → difference p.on_a p.on_b ≤ most →
-    difference (on.a + cells_after (lightens on p) false p) (on.b + cells_after (lightens on p) true p) ≤ most
+evens : (on : Areas) (p : Part) (most : ℕ) → difference on.a on.b ≤ most → difference p.on_a p.on_b ≤ most
+    → difference (on.a + cells_after (lightens on p) false p) (on.b + cells_after (lightens on p) true p) ≤ most
 evens on p most d e = by_tests (nat_le on.a on.b) refl (nat_le p.on_b p.on_a) refl where
   by_tests : (x : Bool) → nat_le on.a on.b ≡ x → (y : Bool) → nat_le p.on_b p.on_a ≡ y →
       difference (on.a + cells_after (not (agree x y)) false p) (on.b + cells_after (not (agree x y)) true p) ≤ most
@@ -88,10 +88,10 @@ within_room false false p r = r.a
 more_room : (on cells n m : ℕ) → on ≤ n * 2 ^ 94 → cells ≤ 2 ^ 94 → m ≡ suc n → on + cells ≤ m * 2 ^ 94
 more_room on cells n m h k e = omega arith
 
-pub settled_more : (parts rest others : List Part) (turned : List Bool) (on : Areas) (p : Part) (on_a on_b : ℕ) →
-    IsSettled parts rest turned on.a on.b → rest ≡ others ++ p ∷ [] → IsDistinct have_one_number parts →
-    p.number < length turned → IsWithinRoom p
-    → on_a ≡ on.a + cells_after (lightens on p) false p → on_b ≡ on.b + cells_after (lightens on p) true p
+pub settled_more : (parts rest others : List Part) (turned : List Bool) (on : Areas) (p : Part) (on_a on_b : ℕ)
+    → IsSettled parts rest turned on.a on.b → rest ≡ others ++ p ∷ [] → IsDistinct have_one_number parts
+    → p.number < length turned → IsWithinRoom p → on_a ≡ on.a + cells_after (lightens on p) false p
+    → on_b ≡ on.b + cells_after (lightens on p) true p
     → IsSettled parts others (set turned p.number (lightens on p)) on_a on_b
 settled_more parts rest others turned on p on_a on_b s e distinct l room f g =
     let t = lightens on p in
@@ -123,10 +123,11 @@ part_of parts rest done others p split e =
     let P : List Part → Type 0 = λ z. Contains z p in
     subst P (sym (split ∙ ap (λ z. z ++ done) e ∙ append_assoc others (p ∷ []) done)) (Contains-append_right others (p ∷ done) p (0, omega arith, refl))
 
-pub settled_by : (parts rest others : List Part) (turned start : List Bool) (on : Areas) (p : Part) (t : Bool)
-    (on_a on_b : ℕ) → IsSettled parts rest turned on.a on.b × (length turned ≡ length start) → rest ≡ others ++ p ∷ [] →
-    IsDistinct have_one_number parts → All (λ (q : Part). q.number < length start) parts → All IsWithinRoom parts
-    → t ≡ lightens on p → on_a ≡ on.a + cells_after t false p → on_b ≡ on.b + cells_after t true p
+pub settled_by : (parts rest others : List Part) (turned start : List Bool) (on : Areas) (p : Part) (t : Bool) (on_a on_b : ℕ)
+    → IsSettled parts rest turned on.a on.b × (length turned ≡ length start) → rest ≡ others ++ p ∷ []
+    → IsDistinct have_one_number parts → All (λ (q : Part). q.number < length start) parts
+    → All IsWithinRoom parts → t ≡ lightens on p → on_a ≡ on.a + cells_after t false p
+    → on_b ≡ on.b + cells_after t true p
     → IsSettled parts others (set turned p.number t) on_a on_b × (length (set turned p.number t) ≡ length start)
 settled_by parts rest others turned start on p t on_a on_b (s, n) e distinct within room h f g =
     let there = part_of parts rest s.done others p s.split e in
@@ -137,9 +138,9 @@ settled_by parts rest others turned start on p t on_a on_b (s, n) e distinct wit
     (subst P (sym h) (λ f g. settled_more parts rest others turned on p on_a on_b s e distinct (omega arith) r f g) f g, length-set turned p.number t ∙ n)
 
 -- at the end all were settled
-pub all_settled : (parts : List Part) (turned : List Bool) (on_a on_b : ℕ) → IsSettled parts [] turned on_a on_b →
-    (most : ℕ) → All (IsUnlike most) parts → difference (sum_by (cells_by turned false) parts)
-    (sum_by (cells_by turned true) parts) ≤ most
+pub all_settled : (parts : List Part) (turned : List Bool) (on_a on_b : ℕ)
+    → IsSettled parts [] turned on_a on_b → (most : ℕ) → All (IsUnlike most) parts
+    → difference (sum_by (cells_by turned false) parts) (sum_by (cells_by turned true) parts) ≤ most
 all_settled parts turned on_a on_b s most all =
     let D : ℕ → Type 0 = λ z. difference z (sum_by (cells_by turned true) parts) ≤ most in
     let E : ℕ → Type 0 = λ z. difference on_a z ≤ most in
@@ -147,8 +148,8 @@ all_settled parts turned on_a on_b s most all =
     (subst E (s.b ∙ ap (λ z. sum_by (cells_by turned true) z) (sym s.split)) (s.even most all))
 
 -- the sums so far fit
-pub room_left : (parts rest : List Part) (turned : List Bool) (on_a on_b : ℕ) → IsSettled parts rest turned on_a on_b →
-    length parts < 2 ^ 32 → (on_a ≤ 2 ^ 126) × (on_b ≤ 2 ^ 126)
+pub room_left : (parts rest : List Part) (turned : List Bool) (on_a on_b : ℕ)
+    → IsSettled parts rest turned on_a on_b → length parts < 2 ^ 32 → (on_a ≤ 2 ^ 126) × (on_b ≤ 2 ^ 126)
 room_left parts rest turned on_a on_b s few =
     let n : length parts ≡ length rest + length s.done = ap length s.split ∙ length-append rest s.done in
     let a = s.room_a in let b = s.room_b in

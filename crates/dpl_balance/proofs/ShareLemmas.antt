@@ -18,8 +18,8 @@ one_share x k b z = elim (cases_order x k) [
   | inr (inr m) ↦ rw (le-ltb x (suc k) (omega arith), ne_eqb x k (λ e. omega arith), le-ltb x k (omega arith)) refl
 ]
 
-shared_below : (n k : ℕ) (label : ℕ → ℕ) (q : ℕ → Bool) (w : ℕ → ℕ) →
-    sum_on (λ c. true) (λ c. sum_on (λ v. (label v == c) && q v) w n) k ≡ sum_on (λ v. ltb (label v) k && q v) w n
+shared_below : (n k : ℕ) (label : ℕ → ℕ) (q : ℕ → Bool) (w : ℕ → ℕ)
+    → sum_on (λ c. true) (λ c. sum_on (λ v. (label v == c) && q v) w n) k ≡ sum_on (λ v. ltb (label v) k && q v) w n
 shared_below n zero label q w = sym (sum_none n (λ v. ltb (label v) 0 && q v) w (λ v l. and_left _ _ (le-ltb (label v) 0 (omega arith))))
 shared_below n (suc k) label q w =
     let rest = shared_below n k label q w in
@@ -28,8 +28,8 @@ shared_below n (suc k) label q w =
     omega (arith, rest, split)
 
 -- all of a sum is the sum of what has each label
-pub sum_shared : (n k : ℕ) (label : ℕ → ℕ) (q : ℕ → Bool) (w : ℕ → ℕ) → ((v : ℕ) → v < n → label v < k) →
-    sum_on (λ c. true) (λ c. sum_on (λ v. (label v == c) && q v) w n) k ≡ sum_on q w n
+pub sum_shared : (n k : ℕ) (label : ℕ → ℕ) (q : ℕ → Bool) (w : ℕ → ℕ) → ((v : ℕ) → v < n → label v < k)
+    → sum_on (λ c. true) (λ c. sum_on (λ v. (label v == c) && q v) w n) k ≡ sum_on q w n
 sum_shared n k label q w below =
     shared_below n k label q w ∙ sum_same n (λ v. ltb (label v) k && q v) q w w (λ v l. ap (λ b. b && q v) (lt-ltb (label v) k (below v l))) (λ v l. refl)
 
@@ -49,10 +49,9 @@ turn_same false true = refl
 turn_same false false = refl
 
 -- what a component has on one mask after it was turned over or not
-pub turned_side : (n c : ℕ) (label : ℕ → ℕ) (old new turned : ℕ → Bool) (w : ℕ → ℕ) (b : Bool) →
-    ((v : ℕ) → v < n → new v ≡ turn (turned (label v)) (old v)) →
-    sum_on (λ v. (label v == c) && agree (new v) b) w n ≡ sum_on
-    (λ v. (label v == c) && agree (old v) (turn (turned c) b)) w n
+pub turned_side : (n c : ℕ) (label : ℕ → ℕ) (old new turned : ℕ → Bool) (w : ℕ → ℕ) (b : Bool)
+    → ((v : ℕ) → v < n → new v ≡ turn (turned (label v)) (old v))
+    → sum_on (λ v. (label v == c) && agree (new v) b) w n ≡ sum_on (λ v. (label v == c) && agree (old v) (turn (turned c) b)) w n
 turned_side n c label old new turned w b is = sum_same n (λ v. (label v == c) && agree (new v) b)
     (λ v. (label v == c) && agree (old v) (turn (turned c) b)) w w (λ v l. one v l) (λ v l. refl) where
       one : (v : ℕ) → v < n → ((label v == c) && agree (new v) b) ≡ ((label v == c) && agree (old v) (turn (turned c) b))

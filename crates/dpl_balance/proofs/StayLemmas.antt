@@ -54,9 +54,9 @@ same_broken Stitch a b a' b' e = ap not e
 same_broken Clash a b a' b' e = e
 
 -- the two ends of an edge agree as they did
-ends_agree : (net : Net) (old new : List Bool) → AreTurned net old new → (e : Edge) (k : ℕ) →
-    k < length net.graph.edges → edge_at net.graph k ≡ e →
-    agree (colour_of new e.a) (colour_of new e.b) ≡ agree (colour_of old e.a) (colour_of old e.b)
+ends_agree : (net : Net) (old new : List Bool) → AreTurned net old new → (e : Edge) (k : ℕ)
+    → k < length net.graph.edges → edge_at net.graph k ≡ e
+    → agree (colour_of new e.a) (colour_of new e.b) ≡ agree (colour_of old e.a) (colour_of old e.b)
 ends_agree net old new t e k l is =
     let g = net.graph in
     let b : e.b < g.nodes = let P : Edge → Type 0 = λ e. e.b < g.nodes in subst P is (g.inside k no_edge l) in
@@ -75,14 +75,14 @@ break_the_same net old new t k d l =
 abbrev AreAlike : List Bool → List Bool → Edge → Type 0
 AreAlike old new e = breaks new e ≡ breaks old e
 
-zone_same : (old new : List Bool) (n : ℕ) (e : Edge) (cuts : List Cut) (others : List PlainZone) → AreAlike old new e →
-    zone_here old n e cuts others ≡ zone_here new n e cuts others
+zone_same : (old new : List Bool) (n : ℕ) (e : Edge) (cuts : List Cut) (others : List PlainZone)
+    → AreAlike old new e → zone_here old n e cuts others ≡ zone_here new n e cuts others
 zone_same old new n e [] others same = refl
 zone_same old new n e (cut ∷ cuts) others same = ap (λ b. where_zone (is_stitch e && b)
     (record { at = record { edge = n; a = e.a; b = e.b }; corners = corners_of cut.zone }) others) (sym same)
 
-cuts_same : (old new : List Bool) (n : ℕ) (edges : List Edge) (cuts : List Cut) → All (AreAlike old new) edges →
-    cuts_from old n edges cuts ≡ cuts_from new n edges cuts
+cuts_same : (old new : List Bool) (n : ℕ) (edges : List Edge) (cuts : List Cut) → All (AreAlike old new) edges
+    → cuts_from old n edges cuts ≡ cuts_from new n edges cuts
 cuts_same old new n [] cuts a = refl
 cuts_same old new n (e ∷ edges) cuts a =
     zone_same old new n e cuts (cuts_from old (n + 1) edges (cuts_after e cuts)) (All-head (AreAlike old new) e edges a)
@@ -133,8 +133,8 @@ with_masks r colours on_a on_b = record {
   on_b = on_b;
 }
 
-pub still_true : (o : PlainOptions) (f : Fragments) (net : Net) (r : Report) (new : List Bool) (on_a on_b : List Rect) →
-    AreTurned net r.colours new → on_a ≡ mask_of false f new → on_b ≡ mask_of true f new
+pub still_true : (o : PlainOptions) (f : Fragments) (net : Net) (r : Report) (new : List Bool) (on_a on_b : List Rect)
+    → AreTurned net r.colours new → on_a ≡ mask_of false f new → on_b ≡ mask_of true f new
     → SaysTrue o f net (plain_report r) → SaysTrue o f net (plain_report (with_masks r new on_a on_b))
 still_true o f net r new on_a on_b t a b s =
     let alike : All (AreAlike r.colours new) net.graph.edges = break_the_same net r.colours new t in

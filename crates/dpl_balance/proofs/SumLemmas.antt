@@ -8,8 +8,8 @@ abbrev pub share : (ℕ → Bool) → (ℕ → ℕ) → ℕ → ℕ
 share p w v = cond {A = ℕ} (p v) (w v) 0
 
 -- two tests of which each number passes as many as it passes of a third
-pub sum_split : (n : ℕ) (p a b : ℕ → Bool) (w : ℕ → ℕ) → ((v : ℕ) → v < n → share p w v ≡ share a w v + share b w v) →
-    sum_on p w n ≡ sum_on a w n + sum_on b w n
+pub sum_split : (n : ℕ) (p a b : ℕ → Bool) (w : ℕ → ℕ)
+    → ((v : ℕ) → v < n → share p w v ≡ share a w v + share b w v) → sum_on p w n ≡ sum_on a w n + sum_on b w n
 sum_split zero p a b w e = refl
 sum_split (suc n) p a b w e = omega (arith, e n (omega arith), sum_split n p a b w (λ v l. e v (omega arith)))
 

@@ -37,8 +37,8 @@ other_part tile a b c d x y = by_way (lies_along_x tile) refl where
   by_way false e = rw e (λ i w. record { column = i.column; row = w })
 
 -- the cell of a tile at another position, in the same row or column
-cell_at : (tile : Corners) (a b c d x y p : ℤ) → IsIn (part_of tile a b) x y → IsWithin c d p → (x' : ℤ) × (y' : ℤ) ×
-    IsIn (part_of tile c d) x' y' × (position_of tile x' y' ≡ p)
+cell_at : (tile : Corners) (a b c d x y p : ℤ) → IsIn (part_of tile a b) x y → IsWithin c d p
+    → (x' : ℤ) × (y' : ℤ) × IsIn (part_of tile c d) x' y' × (position_of tile x' y' ≡ p)
 cell_at tile a b c d x y p = by_way (lies_along_x tile) refl where
   by_way : (along : Bool) → lies_along_x tile ≡ along → IsIn (part_of tile a b) x y → IsWithin c d p → (x' : ℤ) ×
       (y' : ℤ) × IsIn (part_of tile c d) x' y' × (position_of tile x' y' ≡ p)
@@ -47,9 +47,9 @@ cell_at tile a b c d x y p = by_way (lies_along_x tile) refl where
 
 -- ---- two cuts of one tile leave each other room
 
-rooms_apart : (cells : ℤ → ℤ → Bool) (keep : List Corners) (space over : ℕ) (tile : Corners) (c d : ℤ) →
-    IsCutAt cells keep space over tile c → IsCutAt cells keep space over tile d → c <ℤ d →
-    (c +ℤ pos (over / 2)) ≤ℤ (d -ℤ pos (over / 2))
+rooms_apart : (cells : ℤ → ℤ → Bool) (keep : List Corners) (space over : ℕ) (tile : Corners) (c d : ℤ)
+    → IsCutAt cells keep space over tile c → IsCutAt cells keep space over tile d → c <ℤ d
+    → (c +ℤ pos (over / 2)) ≤ℤ (d -ℤ pos (over / 2))
 rooms_apart cells keep space over tile c d s t l =
     let low : t.from ≤ℤ (d -ℤ pos (over / 2)) = rw t.at (half_room t.from t.to over t.long) in
     let high : (c +ℤ pos (over / 2)) ≤ℤ s.to = rw s.at (half_room' s.from s.to over s.long) in
@@ -75,9 +75,9 @@ rooms_apart cells keep space over tile c d s t l =
       chain a b c d h g k = omega signed
 
 -- the fragment before a cut has room for half of the zone, and so has the one behind
-room_before : (cells : ℤ → ℤ → Bool) (keep : List Corners) (space over : ℕ) (tile : Corners) (from at : ℤ) →
-    IsBetweenCuts cells keep space over tile from at → IsCutAt cells keep space over tile at →
-    from ≤ℤ (at -ℤ pos (over / 2))
+room_before : (cells : ℤ → ℤ → Bool) (keep : List Corners) (space over : ℕ) (tile : Corners) (from at : ℤ)
+    → IsBetweenCuts cells keep space over tile from at → IsCutAt cells keep space over tile at
+    → from ≤ℤ (at -ℤ pos (over / 2))
 room_before cells keep space over tile from at f t = elim f.low [
   | inl e ↦
       let (l, r) = maximal_inside cells keep space tile t.from t.to t.free in
@@ -91,9 +91,9 @@ room_before cells keep space over tile from at f t = elim f.low [
   nearer : (a b : ℤ) (h : ℕ) → (a +ℤ pos h) ≤ℤ (b -ℤ pos h) → a ≤ℤ (b -ℤ pos h)
   nearer a b h g = omega signed
 
-room_behind : (cells : ℤ → ℤ → Bool) (keep : List Corners) (space over : ℕ) (tile : Corners) (at to : ℤ) →
-    IsBetweenCuts cells keep space over tile at to → IsCutAt cells keep space over tile at →
-    (at +ℤ pos (over / 2)) ≤ℤ to
+room_behind : (cells : ℤ → ℤ → Bool) (keep : List Corners) (space over : ℕ) (tile : Corners) (at to : ℤ)
+    → IsBetweenCuts cells keep space over tile at to → IsCutAt cells keep space over tile at
+    → (at +ℤ pos (over / 2)) ≤ℤ to
 room_behind cells keep space over tile at to f t = elim f.high [
   | inl e ↦
       let (l, r) = maximal_inside cells keep space tile t.from t.to t.free in
@@ -146,8 +146,9 @@ pub record IsHere (keep : List Corners) (space over : ℕ) (tiles : List Corners
 abbrev pub IsCutOf : ℕ → List Corners → Fragments → Cut → Type 0
 IsCutOf over tiles f c = IsCut over tiles (map corners_of f.rects) f.tile c.a c.b (corners_of c.zone)
 
-pub here : (keep : List Corners) (space over : ℕ) (tiles : List Corners) (label : List ℕ) (f : Fragments) (c : Cut) →
-    2 ≤ over → AreFragments keep space over tiles label f → IsCutOf over tiles f c → IsHere keep space over tiles f c
+pub here : (keep : List Corners) (space over : ℕ) (tiles : List Corners) (label : List ℕ) (f : Fragments) (c : Cut)
+    → 2 ≤ over → AreFragments keep space over tiles label f → IsCutOf over tiles f c
+    → IsHere keep space over tiles f c
 unfolding tile_of place_of
 here keep space over tiles label f c wide a i =
     let t = rect_at tiles (get_or f.tile c.a 0) in
@@ -169,9 +170,9 @@ here keep space over tiles label f c wide a i =
 within_ends : (a b c d p : ℤ) → c ≤ℤ a → b ≤ℤ d → IsWithin a b p → IsWithin c d p
 within_ends a b c d p h g w = let k = w.from in let l = w.to in record { from = omega signed; to = omega signed }
 
-pub half_in_fragment : (keep : List Corners) (space over : ℕ) (tiles : List Corners) (f : Fragments) (c : Cut) →
-    IsHere keep space over tiles f c → (behind : Bool) (x y : ℤ) → IsIn (half_of over tiles f c behind) x y →
-    IsIn (rect_at (rects_of f) (owner c behind)) x y
+pub half_in_fragment : (keep : List Corners) (space over : ℕ) (tiles : List Corners) (f : Fragments) (c : Cut)
+    → IsHere keep space over tiles f c → (behind : Bool) (x y : ℤ) → IsIn (half_of over tiles f c behind) x y
+    → IsIn (rect_at (rects_of f) (owner c behind)) x y
 unfolding half_of half_at
 half_in_fragment keep space over tiles f c h true x y i =
     let t = tile_of tiles f c in let at = place_of tiles f c in
@@ -196,13 +197,13 @@ half_in_fragment keep space over tiles f c h false x y i =
       self : (z : ℤ) → z ≤ℤ z
       self z = omega signed
 
-zone_is : (over : ℕ) (tiles : List Corners) (f : Fragments) (c : Cut) → IsCutOf over tiles f c →
-    corners_of c.zone ≡ zone_at over (tile_of tiles f c) (place_of tiles f c)
+zone_is : (over : ℕ) (tiles : List Corners) (f : Fragments) (c : Cut) → IsCutOf over tiles f c
+    → corners_of c.zone ≡ zone_at over (tile_of tiles f c) (place_of tiles f c)
 unfolding tile_of place_of
 zone_is over tiles f c i = i.overlap
 
-pub half_in_zone : (over : ℕ) (tiles : List Corners) (f : Fragments) (c : Cut) → IsCutOf over tiles f c →
-    (behind : Bool) (x y : ℤ) → IsIn (half_of over tiles f c behind) x y → IsIn (corners_of c.zone) x y
+pub half_in_zone : (over : ℕ) (tiles : List Corners) (f : Fragments) (c : Cut) → IsCutOf over tiles f c
+    → (behind : Bool) (x y : ℤ) → IsIn (half_of over tiles f c behind) x y → IsIn (corners_of c.zone) x y
 unfolding half_of half_at
 half_in_zone over tiles f c i behind x y j =
     let R : Corners → Type 0 = λ z. IsIn z x y in
@@ -228,8 +229,9 @@ half_in_zone over tiles f c i behind x y j =
       by_half false j = other_part t (at -ℤ pos (over / 2)) at (at -ℤ pos (over / 2)) (at +ℤ pos (over / 2)) x y j
           (within_ends _ _ _ _ _ (same _) (high (over / 2) at) (in_part t _ _ x y j))
 
-pub zone_in_halves : (over : ℕ) (tiles : List Corners) (f : Fragments) (c : Cut) → IsCutOf over tiles f c → (x y : ℤ) →
-    IsIn (corners_of c.zone) x y → IsIn (half_of over tiles f c false) x y ⊎ IsIn (half_of over tiles f c true) x y
+pub zone_in_halves : (over : ℕ) (tiles : List Corners) (f : Fragments) (c : Cut) → IsCutOf over tiles f c
+    → (x y : ℤ) → IsIn (corners_of c.zone) x y
+    → IsIn (half_of over tiles f c false) x y ⊎ IsIn (half_of over tiles f c true) x y
 unfolding half_of half_at
 zone_in_halves over tiles f c i x y j =
     let t = tile_of tiles f c in let at = place_of tiles f c in
@@ -266,8 +268,8 @@ half_area over tile at behind = by_way (lies_along_x tile) refl behind where
   by_way false e true = rw (e, (one (over / 2) at).1, both (over / 2) at) (sym (halves' (over / 2) (unsigned_abs (tile.x2 -ℤ tile.x1))))
   by_way false e false = rw (e, (one (over / 2) at).0, both (over / 2) at) (sym (halves' (over / 2) (unsigned_abs (tile.x2 -ℤ tile.x1))))
 
-pub half_of_area : (over : ℕ) (tiles : List Corners) (f : Fragments) (c : Cut) → IsCutOf over tiles f c →
-    (behind : Bool) → area_of (half_of over tiles f c behind) ≡ area_of (corners_of c.zone) / 2
+pub half_of_area : (over : ℕ) (tiles : List Corners) (f : Fragments) (c : Cut) → IsCutOf over tiles f c
+    → (behind : Bool) → area_of (half_of over tiles f c behind) ≡ area_of (corners_of c.zone) / 2
 unfolding half_of
 half_of_area over tiles f c i behind = half_area over (tile_of tiles f c) (place_of tiles f c) behind ∙ ap (λ z. area_of z / 2) (sym (zone_is over tiles f c i))
 
@@ -278,9 +280,9 @@ proper_part tile a b c d = by_way (lies_along_x tile) refl where
   by_way true e = rw e (λ p l. record { wide = l; high = p.high })
   by_way false e = rw e (λ p l. record { wide = p.wide; high = l })
 
-pub half_proper : (keep : List Corners) (space over : ℕ) (tiles : List Corners) (f : Fragments) (c : Cut) →
-    IsHere keep space over tiles f c → IsProper (rect_at (rects_of f) c.a) → (behind : Bool) →
-    IsProper (half_of over tiles f c behind)
+pub half_proper : (keep : List Corners) (space over : ℕ) (tiles : List Corners) (f : Fragments) (c : Cut)
+    → IsHere keep space over tiles f c → IsProper (rect_at (rects_of f) c.a) → (behind : Bool)
+    → IsProper (half_of over tiles f c behind)
 unfolding half_of half_at
 half_proper keep space over tiles f c h p behind = by_half behind where
   own : IsProper (part_of (tile_of tiles f c) h.first.from h.first.to)
@@ -305,10 +307,10 @@ pub record AreHere (keep : List Corners) (space over : ℕ) (tiles : List Corner
   pub cut : (c : Cut) → IsCutOf over tiles f c → IsHere keep space over tiles f c
 
 -- the fragment before one cut and behind another: the other cut stands there where the fragment begins
-high_low : (keep : List Corners) (space over : ℕ) (tiles : List Corners) (f : Fragments) (c d : Cut) (t : Corners) →
-    IsHere keep space over tiles f c → IsHere keep space over tiles f d → tile_of tiles f c ≡ t →
-    tile_of tiles f d ≡ t → c.b ≡ d.a
-    → (x y : ℤ) → IsIn (half_of over tiles f c true) x y → IsIn (half_of over tiles f d false) x y → ⊥
+high_low : (keep : List Corners) (space over : ℕ) (tiles : List Corners) (f : Fragments) (c d : Cut) (t : Corners)
+    → IsHere keep space over tiles f c → IsHere keep space over tiles f d → tile_of tiles f c ≡ t
+    → tile_of tiles f d ≡ t → c.b ≡ d.a → (x y : ℤ) → IsIn (half_of over tiles f c true) x y
+    → IsIn (half_of over tiles f d false) x y → ⊥
 unfolding half_of half_at
 high_low keep space over tiles f c d t h k e g same x y i j =
     let P : Corners → Type 0 = λ z. IsWithin (place_of tiles f c) (place_of tiles f c +ℤ pos (over / 2)) (position_of z x y) in
@@ -335,10 +337,10 @@ high_low keep space over tiles f c d t h k e g same x y i j =
       crossed a b p h l m = omega signed
 
 -- two cuts behind which one fragment begins have one fragment before them
-high_high : (keep : List Corners) (space over : ℕ) (tiles : List Corners) (f : Fragments) (c d : Cut) (t : Corners) →
-    2 ≤ over → IsHere keep space over tiles f c → IsHere keep space over tiles f d → tile_of tiles f c ≡ t →
-    tile_of tiles f d ≡ t → c.b ≡ d.b
-    → (x y : ℤ) → IsIn (half_of over tiles f c true) x y → SharesCell (IsIn (rect_at (rects_of f) c.a)) (IsIn (rect_at (rects_of f) d.a))
+high_high : (keep : List Corners) (space over : ℕ) (tiles : List Corners) (f : Fragments) (c d : Cut) (t : Corners)
+    → 2 ≤ over → IsHere keep space over tiles f c → IsHere keep space over tiles f d → tile_of tiles f c ≡ t
+    → tile_of tiles f d ≡ t → c.b ≡ d.b → (x y : ℤ) → IsIn (half_of over tiles f c true) x y
+    → SharesCell (IsIn (rect_at (rects_of f) c.a)) (IsIn (rect_at (rects_of f) d.a))
 unfolding half_of half_at
 high_high keep space over tiles f c d t wide h k e g same x y i =
     let at = place_of tiles f c in
@@ -366,9 +368,9 @@ high_high keep space over tiles f c d t wide h k e g same x y i =
         back at h l = omega signed
 
 -- the fragments of two numbers share no cell
-pub numbers_apart : (f : Fragments) → AllPairs AreApart (rects_of f) → (i j : ℕ) → i < length (rects_of f) →
-    j < length (rects_of f) → (i ≡ j → ⊥) → (x y : ℤ) → IsIn (rect_at (rects_of f) i) x y →
-    IsIn (rect_at (rects_of f) j) x y → ⊥
+pub numbers_apart : (f : Fragments) → AllPairs AreApart (rects_of f) → (i j : ℕ) → i < length (rects_of f)
+    → j < length (rects_of f) → (i ≡ j → ⊥) → (x y : ℤ) → IsIn (rect_at (rects_of f) i) x y
+    → IsIn (rect_at (rects_of f) j) x y → ⊥
 numbers_apart f apart i j l m differ x y a b = three i j
     (λ h. apart i j nowhere h m (record { x = x; y = y; first = a; second = b }))
     differ
@@ -378,9 +380,9 @@ pub owner_within : (over : ℕ) (tiles : List Corners) (f : Fragments) (c : Cut)
 owner_within over tiles f c i true = i.within
 owner_within over tiles f c i false = let r = i.rising in let w = i.within in omega arith
 
-pub halves_apart : (keep : List Corners) (space over : ℕ) (tiles : List Corners) (f : Fragments) →
-    AreHere keep space over tiles f → (c d : Cut) → IsCutOf over tiles f c → IsCutOf over tiles f d → c.a < d.a →
-    (s t : Bool) → AreApart (half_of over tiles f c s) (half_of over tiles f d t)
+pub halves_apart : (keep : List Corners) (space over : ℕ) (tiles : List Corners) (f : Fragments)
+    → AreHere keep space over tiles f → (c d : Cut) → IsCutOf over tiles f c → IsCutOf over tiles f d
+    → c.a < d.a → (s t : Bool) → AreApart (half_of over tiles f c s) (half_of over tiles f d t)
 unfolding tile_of
 halves_apart keep space over tiles f a c d i j l s t shared = elim (cases_eq (owner c s) (owner d t)) [
   | inr differ ↦ numbers_apart f a.apart (owner c s) (owner d t) (owner_within over tiles f c i s) (owner_within over tiles f d j t) differ shared.x shared.y

@@ -54,9 +54,8 @@ box_of-four a b c d p q n =
       signed_of-signed_decimal d [] n.y refl,
     ) refl
 
-inside_four : (a b c d : ℤ) → AreNear a b c d → list_all is_inside
-    (32 ∷ (signed_decimal a ++ (32 ∷ (signed_decimal b ++
-    (32 ∷ (signed_decimal c ++ (32 ∷ (signed_decimal d ++ [])))))))) ≡ true
+inside_four : (a b c d : ℤ) → AreNear a b c d
+    → list_all is_inside (32 ∷ (signed_decimal a ++ (32 ∷ (signed_decimal b ++ (32 ∷ (signed_decimal c ++ (32 ∷ (signed_decimal d ++ [])))))))) ≡ true
 inside_four a b c d n =
     rw (
       list_all-append is_inside (signed_decimal a) (32 ∷ (signed_decimal b ++ (32 ∷ (signed_decimal c ++ (32 ∷ (signed_decimal d ++ [])))))),
@@ -72,14 +71,8 @@ inside_four a b c d n =
 near_numbers : (b : Corners) → IsRectangle b → AreNear ((b.x2 -ℤ b.x1) *ℤ pos 2) ((b.y2 -ℤ b.y1) *ℤ pos 2) (b.x1 +ℤ b.x2) (b.y1 +ℤ b.y2)
 near_numbers b r = record { length = omega (arith, ints); width = omega (arith, ints); x = omega (arith, ints); y = omega (arith, ints) }
 
-four_in_bounds : (a b c d : ℤ) → AreNear a b c d → is_command_in_bounds
-    (Box (record {
-      length = unsigned_abs a;
-      width = unsigned_abs b;
-      centre = spot c d;
-      direction =
-          spot (pos 1) (pos 0);
-    })) ≡ true
+four_in_bounds : (a b c d : ℤ) → AreNear a b c d
+    → is_command_in_bounds (Box (record { length = unsigned_abs a; width = unsigned_abs b; centre = spot c d; direction = spot (pos 1) (pos 0) })) ≡ true
 four_in_bounds a b c d n = rw (within (unsigned_abs a) n.length, within (unsigned_abs b) n.width, within (unsigned_abs c) n.x, within (unsigned_abs d) n.y) refl
 
 four_are_read : (a b c d : ℤ) → pos 0 ≤ℤ a → pos 0 ≤ℤ b → AreNear a b c d

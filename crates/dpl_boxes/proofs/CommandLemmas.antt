@@ -14,7 +14,8 @@ use Rattle.dpl_rules.specs.declared.command.Transformation.TheVariants.{Shift, M
 use Rattle.dpl_rules.specs.declared.command.Command.{Command}
 use Rattle.dpl_rules.specs.declared.command.Command.TheVariants.{Idle, Polygon, Box, Wire, Flash, Layer, Start, Finish, Delete, Call}
 use Rattle.dpl_rules.specs.Bounds.{is_spot_in_bounds, is_transformation_in_bounds, is_command_in_bounds}
-use Rattle.dpl_boxes.specs.Written.{Word, AreDigits, IsSigned, IsSpelled, spot_words, transformation_words, direction_words, scale_words, words_of, is_moderate, AreBehind}
+use Rattle.dpl_boxes.specs.Written.{Word, AreDigits, IsSigned, IsSpelled, spot_words, transformation_words}
+use Rattle.dpl_boxes.specs.Written.{direction_words, scale_words, words_of, is_moderate, AreBehind}
 use Rattle.dpl_boxes.specs.Written.Word.{Letters, Number, Integer}
 use Rattle.dpl_boxes.specs.Written.IsSigned.{plain, minus}
 use Rattle.dpl_boxes.proofs.NumberLemmas.{digits_with_zeros, inside_digits}
@@ -42,7 +43,8 @@ bounded_transformation MirrorX m = refl
 bounded_transformation MirrorY m = refl
 bounded_transformation (Rotate to) m = bounded_spot to m
 
-bounded_transformations : (ts : List Transformation) → list_all is_moderate (flat_map transformation_words ts) ≡ true → list_all is_transformation_in_bounds ts ≡ true
+bounded_transformations : (ts : List Transformation)
+    → list_all is_moderate (flat_map transformation_words ts) ≡ true → list_all is_transformation_in_bounds ts ≡ true
 bounded_transformations [] m = refl
 bounded_transformations (t ∷ ts) m =
     let p = both_moderate (transformation_words t) (flat_map transformation_words ts) m in
@@ -100,8 +102,8 @@ inside_word (Letters letters) bytes h s = rw s h
 inside_word (Number n) bytes h s = inside_number n bytes h s
 inside_word (Integer z) bytes h s = inside_integer z bytes h s
 
-inside_from : (v w : Word) (ws : List Word) (text : List ℕ) (t : Begins v w ws text) → is_plain_word w ≡ true →
-    list_all is_inside t.rest ≡ true → list_all is_inside text ≡ true
+inside_from : (v w : Word) (ws : List Word) (text : List ℕ) (t : Begins v w ws text) → is_plain_word w ≡ true
+    → list_all is_inside t.rest ≡ true → list_all is_inside text ≡ true
 inside_from v w ws text t p r = rw (
   t.is,
   list_all-append is_inside t.gap (t.bytes ++ t.rest),
@@ -137,7 +139,11 @@ pub plain_transformations : (ts : List Transformation) → list_all is_moderate 
 plain_transformations [] m = refl
 plain_transformations (t ∷ ts) m =
     let p = both_moderate (transformation_words t) (flat_map transformation_words ts) m in
-    rw (list_all-append is_plain_word (transformation_words t) (flat_map transformation_words ts), plain_transformation t p.0, plain_transformations ts p.1) refl
+    rw (
+      list_all-append is_plain_word (transformation_words t) (flat_map transformation_words ts),
+      plain_transformation t p.0,
+      plain_transformations ts p.1,
+    ) refl
 
 pub plain_box : (short : Bool) (b : BoxForm) → list_all is_moderate (words_of false (Box b)) ≡ true → list_all is_plain_word (words_of short (Box b)) ≡ true
 plain_box short b m =
@@ -148,7 +154,8 @@ plain_box short b m =
     (let c : list_all is_plain_word (spot_words b.centre) ≡ true = r.0 in
     let d = shorter_direction (list_all is_plain_word) short b.direction refl r.1 in rw (c, d) refl)
 
-pub plain_start : (short : Bool) (n : ℕ) (scale : Scale) → list_all is_moderate (words_of false (Start n scale)) ≡ true → list_all is_plain_word (words_of short (Start n scale)) ≡ true
+pub plain_start : (short : Bool) (n : ℕ) (scale : Scale)
+    → list_all is_moderate (words_of false (Start n scale)) ≡ true → list_all is_plain_word (words_of short (Start n scale)) ≡ true
 plain_start short n scale m =
     let p = and_parts (is_moderate (Number n)) (list_all is_moderate (scale_words false scale)) m in
     rw (p.0) (shorter_scale (list_all is_plain_word) short scale refl p.1)

@@ -50,9 +50,8 @@ parts_of_boxes chosen false (b ∷ boxes) rest h = parts_of_boxes chosen false b
 parts_of_boxes chosen true (b ∷ boxes) rest h = rw (box_is_part true b (All-head IsRectangle b boxes h))
     (ap (λ ps. box_part b ∷ ps) (parts_of_boxes chosen true boxes rest (All-tail IsRectangle b boxes h)))
 
-parts_of_comments : (chosen : List ℕ) (comments : List (List ℕ)) (rest : List Line) (place : Option ℕ) →
-    parts_from chosen at_first (map said (map comment_line comments ++ rest)) place ≡ parts_from chosen at_first
-    (map said rest) place
+parts_of_comments : (chosen : List ℕ) (comments : List (List ℕ)) (rest : List Line) (place : Option ℕ)
+    → parts_from chosen at_first (map said (map comment_line comments ++ rest)) place ≡ parts_from chosen at_first (map said rest) place
 parts_of_comments chosen [] rest place = refl
 parts_of_comments chosen (k ∷ ks) rest None = parts_of_comments chosen ks rest None
 parts_of_comments chosen (k ∷ ks) rest (Some n) = parts_of_comments chosen ks rest (Some n)
@@ -70,16 +69,14 @@ parts_of_masks chosen comments layer on_a on_b a b =
     ∙ parts_of_boxes chosen one on_a (lines_of_mask (layer ++ codes "B") on_b ++ last_lines) a
     ∙ ap (λ ps. where_true one (map box_part on_a) ++ ps) (second ∙ append-nil (where_true other (map box_part on_b)))
 
-outside_boxes : (chosen : List ℕ) (layer : Bool) (boxes : List Corners) (rest : List Line) →
-    parts_from chosen (inside (Some layer)) (map said (map box_line boxes ++ rest)) None ≡ parts_from chosen
-    (inside (Some layer)) (map said rest) None
+outside_boxes : (chosen : List ℕ) (layer : Bool) (boxes : List Corners) (rest : List Line)
+    → parts_from chosen (inside (Some layer)) (map said (map box_line boxes ++ rest)) None ≡ parts_from chosen (inside (Some layer)) (map said rest) None
 outside_boxes chosen layer [] rest = refl
 outside_boxes chosen layer (b ∷ boxes) rest = outside_boxes chosen layer boxes rest
 
 -- outside definitions there is one call
-call_of_masks : (chosen : List ℕ) (comments : List (List ℕ)) (layer : List ℕ) (on_a on_b : List Corners) →
-    parts_from chosen at_first (map said (lines_of_masks comments layer on_a on_b)) None ≡ Called 1
-    (transformed_by one_to_one []) ∷ []
+call_of_masks : (chosen : List ℕ) (comments : List (List ℕ)) (layer : List ℕ) (on_a on_b : List Corners)
+    → parts_from chosen at_first (map said (lines_of_masks comments layer on_a on_b)) None ≡ Called 1 (transformed_by one_to_one []) ∷ []
 call_of_masks chosen comments layer on_a on_b =
     let one = bytes_eq (layer ++ codes "A") chosen in
     let other = bytes_eq (layer ++ codes "B") chosen in
@@ -98,17 +95,17 @@ outline-still b r = rw (min_is b.x1 b.x2 r.columns.some, min_is b.y1 b.y2 r.rows
 abbrev pub boxes_where : Bool → List Corners → List Outline
 boxes_where t boxes = if t then map outlines.Box boxes else []
 
-outlines_of_boxes : (bodies : Bodies) (inner : (Corner → Corner) → List Part → List Figure) (boxes : List Corners) →
-    All IsRectangle boxes → map cif.drawn (flat_map (part_figures bodies inner still) (map box_part boxes)) ≡ map
-    outlines.Box boxes
+outlines_of_boxes : (bodies : Bodies) (inner : (Corner → Corner) → List Part → List Figure) (boxes : List Corners)
+    → All IsRectangle boxes
+    → map cif.drawn (flat_map (part_figures bodies inner still) (map box_part boxes)) ≡ map outlines.Box boxes
 outlines_of_boxes bodies inner [] h = refl
 outlines_of_boxes bodies inner (b ∷ boxes) h =
     ap (λ o. o ∷ map cif.drawn (flat_map (part_figures bodies inner still) (map box_part boxes))) (outline-still b (All-head IsRectangle b boxes h))
     ∙ ap (λ os. outlines.Box b ∷ os) (outlines_of_boxes bodies inner boxes (All-tail IsRectangle b boxes h))
 
-outlines_where : (bodies : Bodies) (inner : (Corner → Corner) → List Part → List Figure) (t : Bool)
-    (boxes : List Corners) → All IsRectangle boxes → map cif.drawn
-    (flat_map (part_figures bodies inner still) (where_true t (map box_part boxes))) ≡ boxes_where t boxes
+outlines_where : (bodies : Bodies) (inner : (Corner → Corner) → List Part → List Figure) (t : Bool) (boxes : List Corners)
+    → All IsRectangle boxes
+    → map cif.drawn (flat_map (part_figures bodies inner still) (where_true t (map box_part boxes))) ≡ boxes_where t boxes
 outlines_where bodies inner true boxes h = outlines_of_boxes bodies inner boxes h
 outlines_where bodies inner false boxes h = refl
 

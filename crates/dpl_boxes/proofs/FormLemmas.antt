@@ -27,20 +27,21 @@ path_there : (path : List Spot) → nat_le 1 (length path) ≡ true → not_empt
 path_there [] h = absurd (cc)
 path_there (s ∷ path) h = refl
 
-path_taken : (make : List Spot → Command) (v : Word) (path : List Spot) (text : List ℕ) → nat_le 1 (length path) ≡ true →
-    list_all is_moderate (flat_map spot_words path) ≡ true → AreBehind v (flat_map spot_words path) text → path_of make text ≡ Some (make path)
+path_taken : (make : List Spot → Command) (v : Word) (path : List Spot) (text : List ℕ)
+    → nat_le 1 (length path) ≡ true → list_all is_moderate (flat_map spot_words path) ≡ true
+    → AreBehind v (flat_map spot_words path) text → path_of make text ≡ Some (make path)
 path_taken make v path text s m h =
     let all = repeated_taken spot_of spot_words takes_spots v path (length text) text (omega arith) m h in
     rw (all.is, path_there path s, all.blanks) refl
 
-pub polygon_taken : (v : Word) (path : List Spot) (text : List ℕ) → nat_le 1 (length path) ≡ true →
-    list_all is_moderate (flat_map spot_words path) ≡ true → AreBehind v (flat_map spot_words path) text
+pub polygon_taken : (v : Word) (path : List Spot) (text : List ℕ) → nat_le 1 (length path) ≡ true
+    → list_all is_moderate (flat_map spot_words path) ≡ true → AreBehind v (flat_map spot_words path) text
     → path_of Polygon text ≡ Some (Polygon path)
 polygon_taken v path text s m h = path_taken Polygon v path text s m h
 
-pub wire_taken : (v : Word) (width : ℕ) (path : List Spot) (text : List ℕ) → nat_le 1 (length path) ≡ true →
-    list_all is_moderate (Number width ∷ flat_map spot_words path) ≡ true → AreBehind v (Number width ∷ flat_map spot_words path) text
-    → wire_of text ≡ Some (Wire width path)
+pub wire_taken : (v : Word) (width : ℕ) (path : List Spot) (text : List ℕ) → nat_le 1 (length path) ≡ true
+    → list_all is_moderate (Number width ∷ flat_map spot_words path) ≡ true
+    → AreBehind v (Number width ∷ flat_map spot_words path) text → wire_of text ≡ Some (Wire width path)
 wire_taken v width path text s m h =
     let p = and_parts (is_moderate (Number width)) (list_all is_moderate (flat_map spot_words path)) m in
     let w = unsigned_taken v width (flat_map spot_words path) text p.0 h in
@@ -52,8 +53,8 @@ box_form : ℕ → ℕ → Spot → Spot → Command
 box_form length width centre direction = Box (record { length = length; width = width; centre = centre; direction = direction })
 
 pub box_taken : (v : Word) (short : Bool) (b : BoxForm) (text : List ℕ)
-    → list_all is_moderate (Number b.length ∷ Number b.width ∷ (spot_words b.centre ++ spot_words b.direction)) ≡ true →
-    AreBehind v (Number b.length ∷ Number b.width ∷ (spot_words b.centre ++ direction_words short b.direction)) text
+    → list_all is_moderate (Number b.length ∷ Number b.width ∷ (spot_words b.centre ++ spot_words b.direction)) ≡ true
+    → AreBehind v (Number b.length ∷ Number b.width ∷ (spot_words b.centre ++ direction_words short b.direction)) text
     → box_of text ≡ Some (Box b)
 box_taken v short b text m h =
     let direction = direction_words short b.direction in
@@ -68,8 +69,9 @@ box_taken v short b text m h =
 
 -- a round flash
 
-pub flash_taken : (v : Word) (diameter : ℕ) (centre : Spot) (text : List ℕ) → list_all is_moderate (Number diameter ∷ spot_words centre) ≡ true →
-    AreBehind v (Number diameter ∷ spot_words centre) text → flash_of text ≡ Some (Flash diameter centre)
+pub flash_taken : (v : Word) (diameter : ℕ) (centre : Spot) (text : List ℕ)
+    → list_all is_moderate (Number diameter ∷ spot_words centre) ≡ true
+    → AreBehind v (Number diameter ∷ spot_words centre) text → flash_of text ≡ Some (Flash diameter centre)
 flash_taken v diameter centre text m h =
     let p = and_parts (is_moderate (Number diameter)) (list_all is_moderate (spot_words centre)) m in
     let d = unsigned_taken v diameter (spot_words centre) text p.0 h in
@@ -79,16 +81,19 @@ flash_taken v diameter centre text m h =
 -- definitions
 
 -- behind `D`, `S`
-start_numbers : (v : Word) (short : Bool) (n : ℕ) (scale : Scale) (text : List ℕ) → list_all is_moderate (Number n ∷ scale_words false scale) ≡ true →
-    AreBehind v (Number n ∷ scale_words short scale) text → start_command text ≡ Some (Start n scale)
+start_numbers : (v : Word) (short : Bool) (n : ℕ) (scale : Scale) (text : List ℕ)
+    → list_all is_moderate (Number n ∷ scale_words false scale) ≡ true
+    → AreBehind v (Number n ∷ scale_words short scale) text → start_command text ≡ Some (Start n scale)
 start_numbers v short n scale text m h =
     let p = and_parts (is_moderate (Number n)) (list_all is_moderate (scale_words false scale)) m in
     let k = unsigned_taken v n (scale_words short scale) text p.0 h in
     let s = scale_taken short k.last scale k.rest p.1 k.behind in
     rw (k.is, s.is, s.blanks) refl
 
-pub start_taken : (v : Word) (short : Bool) (n : ℕ) (scale : Scale) (text : List ℕ) → list_all is_moderate (Number n ∷ scale_words false scale) ≡ true →
-    AreBehind v (Letters (codes "S") ∷ Number n ∷ scale_words short scale) text → definition_of text ≡ Some (Start n scale)
+pub start_taken : (v : Word) (short : Bool) (n : ℕ) (scale : Scale) (text : List ℕ)
+    → list_all is_moderate (Number n ∷ scale_words false scale) ≡ true
+    → AreBehind v (Letters (codes "S") ∷ Number n ∷ scale_words short scale) text
+    → definition_of text ≡ Some (Start n scale)
 start_taken v short n scale text m h =
     let l = letter_taken v 83 (Number n ∷ scale_words short scale) text refl h in
     rw (l.is) (start_numbers (Letters (codes "S")) short n scale l.rest m l.behind)
@@ -99,8 +104,8 @@ finish_taken v text h =
     let l = letter_taken v 70 [] text refl h in
     rw (no_s, l.is, l.behind) refl
 
-pub delete_taken : (v : Word) (n : ℕ) (text : List ℕ) → list_all is_moderate (Number n ∷ []) ≡ true →
-    AreBehind v (Letters (codes "D") ∷ Number n ∷ []) text → definition_of text ≡ Some (Delete n)
+pub delete_taken : (v : Word) (n : ℕ) (text : List ℕ) → list_all is_moderate (Number n ∷ []) ≡ true
+    → AreBehind v (Letters (codes "D") ∷ Number n ∷ []) text → definition_of text ≡ Some (Delete n)
 delete_taken v n text m h =
     let no_s = letter_missed v 83 68 (Number n ∷ []) text refl refl h in
     let no_f = letter_missed v 70 68 (Number n ∷ []) text refl refl h in
@@ -111,8 +116,9 @@ delete_taken v n text m h =
 
 -- a call
 
-pub call_taken : (v : Word) (n : ℕ) (ts : List Transformation) (text : List ℕ) → list_all is_moderate (Number n ∷ flat_map transformation_words ts) ≡ true →
-    AreBehind v (Number n ∷ flat_map transformation_words ts) text → call_of text ≡ Some (Call n ts)
+pub call_taken : (v : Word) (n : ℕ) (ts : List Transformation) (text : List ℕ)
+    → list_all is_moderate (Number n ∷ flat_map transformation_words ts) ≡ true
+    → AreBehind v (Number n ∷ flat_map transformation_words ts) text → call_of text ≡ Some (Call n ts)
 call_taken v n ts text m h =
     let p = and_parts (is_moderate (Number n)) (list_all is_moderate (flat_map transformation_words ts)) m in
     let k = unsigned_taken v n (flat_map transformation_words ts) text p.0 h in

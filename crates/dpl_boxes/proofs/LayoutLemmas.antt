@@ -41,16 +41,17 @@ one_cut front gap bytes others c b r =
     rw (length-longer front gap bytes) (blanks_are_skipped gap (bytes ++ (59 ∷ others)) (length front) b
     ∙ r.cut_out others (length front + length gap))
 
-command_stands : (front gap bytes others : List ℕ) → slice_range (front ++ (gap ++ (bytes ++ (59 ∷ others))))
-    (length front + length gap) (length front + length gap + length bytes) ≡ bytes
+command_stands : (front gap bytes others : List ℕ)
+    → slice_range (front ++ (gap ++ (bytes ++ (59 ∷ others)))) (length front + length gap) (length front + length gap + length bytes) ≡ bytes
 command_stands front gap bytes others =
     let split : front ++ (gap ++ (bytes ++ (59 ∷ others))) ≡ (front ++ gap) ++ (bytes ++ (59 ∷ others)) = simp append_assoc in
     let size : length front + length gap ≡ length (front ++ gap) = rw length-append refl in
     rw (split, size) (between_parts (front ++ gap) bytes (59 ∷ others))
 
-command_goes : (text front gap bytes others : List ℕ) (c : Command) (cs : List Command) → AreBlanks gap → Reads c bytes →
-    text ≡ front ++ (gap ++ (bytes ++ (59 ∷ others))) → Goes text (longer front gap bytes) others cs →
-    Goes text front (gap ++ (bytes ++ (59 ∷ others))) (c ∷ cs)
+command_goes : (text front gap bytes others : List ℕ) (c : Command) (cs : List Command) → AreBlanks gap
+    → Reads c bytes → text ≡ front ++ (gap ++ (bytes ++ (59 ∷ others)))
+    → Goes text (longer front gap bytes) others cs
+    → Goes text front (gap ++ (bytes ++ (59 ∷ others))) (c ∷ cs)
 command_goes text front gap bytes others c cs b r e g =
     let cut_first = one_cut front gap bytes others c b r in
     let part : slice_range text (length front + length gap) (length front + length gap + length bytes) ≡ bytes =

@@ -26,8 +26,8 @@ record Goes (text front : List ℕ) (ls : List Line) : Type 0 where
   ending : (cut Between (length front) (lines_text ls)).ending ≡ End
 
 -- with one more line before
-goes_on : (text front : List ℕ) (l : Line) (ls : List Line) → IsRead l → text ≡ front ++ lines_text (l ∷ ls) →
-    Goes text (front ++ (l.bytes ++ (59 ∷ 10 ∷ []))) ls → Goes text front (l ∷ ls)
+goes_on : (text front : List ℕ) (l : Line) (ls : List Line) → IsRead l → text ≡ front ++ lines_text (l ∷ ls)
+    → Goes text (front ++ (l.bytes ++ (59 ∷ 10 ∷ []))) ls → Goes text front (l ∷ ls)
 goes_on text front l ls r e g =
     let size : length (front ++ (l.bytes ++ (59 ∷ 10 ∷ []))) ≡ length front + length l.bytes + 1 + 1 = simp length-append (omega arith) in
     let cut_first : cut Between (length front) (lines_text (l ∷ ls)) ≡ with_span

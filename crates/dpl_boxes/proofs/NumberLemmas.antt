@@ -39,8 +39,8 @@ list_all-weaker p q w (b ∷ bs) h =
     let s = and_parts (p b) (list_all p bs) h in
     rw (w b s.0) (list_all-weaker p q w bs s.1)
 
-digits_value-append : (m : ℕ) (ds : List ℕ) (d : ℕ) → list_all is_digit ds ≡ true → is_digit d ≡ true →
-    digits_value m (ds ++ d ∷ []) ≡ 10 * digits_value m ds + (d - 48)
+digits_value-append : (m : ℕ) (ds : List ℕ) (d : ℕ) → list_all is_digit ds ≡ true → is_digit d ≡ true
+    → digits_value m (ds ++ d ∷ []) ≡ 10 * digits_value m ds + (d - 48)
 digits_value-append m [] d h e = rw e refl
 digits_value-append m (x ∷ ds) d h e =
     let p = and_parts (is_digit x) (list_all is_digit ds) h in
@@ -124,8 +124,9 @@ digits_with_zeros zero n l = digits_of-decimal n (omega arith)
 digits_with_zeros (suc zeros) n l = zero_before n (replicate zeros 48 ++ decimal n) (digits_with_zeros zeros n l)
 
 -- an integer without a sign behind separators, and what follows it
-pub unsigned_of-digits : (gap : List ℕ) (n : ℕ) (ds rest : List ℕ) → list_all is_separator gap ≡ true → n ≤ greatest →
-    AreDigitsOf n ds → has_no_digit rest ≡ true → unsigned_of (gap ++ (ds ++ rest)) ≡ Some (n, rest)
+pub unsigned_of-digits : (gap : List ℕ) (n : ℕ) (ds rest : List ℕ) → list_all is_separator gap ≡ true
+    → n ≤ greatest → AreDigitsOf n ds → has_no_digit rest ≡ true
+    → unsigned_of (gap ++ (ds ++ rest)) ≡ Some (n, rest)
 unsigned_of-digits gap n ds rest s l d e =
     rw (
       unsigned_at-digits gap (ds ++ rest) s (begins-append ds rest d.some),
@@ -135,8 +136,9 @@ unsigned_of-digits gap n ds rest s l d e =
       in_bounds n l,
     ) refl
 
-pub signed_of-digits : (gap : List ℕ) (n : ℕ) (ds rest : List ℕ) → list_all is_separator gap ≡ true → n ≤ greatest →
-    AreDigitsOf n ds → has_no_digit rest ≡ true → signed_of (gap ++ (ds ++ rest)) ≡ Some (pos n, rest)
+pub signed_of-digits : (gap : List ℕ) (n : ℕ) (ds rest : List ℕ) → list_all is_separator gap ≡ true
+    → n ≤ greatest → AreDigitsOf n ds → has_no_digit rest ≡ true
+    → signed_of (gap ++ (ds ++ rest)) ≡ Some (pos n, rest)
 signed_of-digits gap n ds rest s l d e =
     rw (
       signed_at-digits gap (ds ++ rest) s (begins-append ds rest d.some),
@@ -146,8 +148,9 @@ signed_of-digits gap n ds rest s l d e =
       in_bounds n l,
     ) refl
 
-pub signed_of-minus : (gap : List ℕ) (n : ℕ) (ds rest : List ℕ) → list_all is_separator gap ≡ true → n ≤ greatest →
-    AreDigitsOf n ds → has_no_digit rest ≡ true → signed_of (gap ++ 45 ∷ (ds ++ rest)) ≡ Some (pos 0 -ℤ pos n, rest)
+pub signed_of-minus : (gap : List ℕ) (n : ℕ) (ds rest : List ℕ) → list_all is_separator gap ≡ true
+    → n ≤ greatest → AreDigitsOf n ds → has_no_digit rest ≡ true
+    → signed_of (gap ++ 45 ∷ (ds ++ rest)) ≡ Some (pos 0 -ℤ pos n, rest)
 signed_of-minus gap n ds rest s l d e =
     rw (
       signed_at-minus gap (ds ++ rest) s (begins-append ds rest d.some),
@@ -161,8 +164,8 @@ signed_of-minus gap n ds rest s l d e =
 pub unsigned_of-decimal : (n : ℕ) (rest : List ℕ) → n ≤ greatest → has_no_digit rest ≡ true → unsigned_of (32 ∷ (decimal n ++ rest)) ≡ Some (n, rest)
 unsigned_of-decimal n rest l e = unsigned_of-digits (32 ∷ []) n (decimal n) rest refl l (digits_with_zeros 0 n l) e
 
-pub signed_of-signed_decimal : (z : ℤ) (rest : List ℕ) → unsigned_abs z ≤ greatest → has_no_digit rest ≡ true →
-    signed_of (32 ∷ (signed_decimal z ++ rest)) ≡ Some (z, rest)
+pub signed_of-signed_decimal : (z : ℤ) (rest : List ℕ) → unsigned_abs z ≤ greatest → has_no_digit rest ≡ true
+    → signed_of (32 ∷ (signed_decimal z ++ rest)) ≡ Some (z, rest)
 signed_of-signed_decimal (pos n) rest l e = signed_of-digits (32 ∷ []) n (decimal n) rest refl l (digits_with_zeros 0 n l) e
 signed_of-signed_decimal (negsuc n) rest l e =
     rw (← negated n) (signed_of-minus (32 ∷ []) (suc n) (decimal (suc n)) rest refl l (digits_with_zeros 0 (suc n) l) e)

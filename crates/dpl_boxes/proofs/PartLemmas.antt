@@ -43,15 +43,17 @@ both_moderate us ws m =
     let both : list_all is_moderate us && list_all is_moderate ws ≡ true = rw list_all-append at m in
     and_parts (list_all is_moderate us) (list_all is_moderate ws) both
 
-first_taken : {X : Type 0} → (read : List ℕ → Option (X × List ℕ)) (words : X → List Word) → TakesParts read words →
-    (v : Word) (x : X) (xs : List X) (text : List ℕ) → list_all is_moderate (flat_map words (x ∷ xs)) ≡ true →
-    AreBehind v (flat_map words (x ∷ xs)) text → Took text (read text) x (flat_map words xs)
+first_taken : {X : Type 0} → (read : List ℕ → Option (X × List ℕ)) (words : X → List Word)
+    → TakesParts read words → (v : Word) (x : X) (xs : List X) (text : List ℕ)
+    → list_all is_moderate (flat_map words (x ∷ xs)) ≡ true → AreBehind v (flat_map words (x ∷ xs)) text
+    → Took text (read text) x (flat_map words xs)
 first_taken read words r v x xs text m h =
     r.part v x (flat_map words xs) text (both_moderate (words x) (flat_map words xs) m).0 h
 
-pub repeated_taken : {X : Type 0} → (read : List ℕ → Option (X × List ℕ)) (words : X → List Word) → TakesParts read words →
-    (v : Word) (xs : List X) (n : ℕ) (text : List ℕ) → length text ≤ n → list_all is_moderate (flat_map words xs) ≡ true →
-    AreBehind v (flat_map words xs) text → TookAll (repeated read n text) xs
+pub repeated_taken : {X : Type 0} → (read : List ℕ → Option (X × List ℕ)) (words : X → List Word)
+    → TakesParts read words → (v : Word) (xs : List X) (n : ℕ) (text : List ℕ) → length text ≤ n
+    → list_all is_moderate (flat_map words xs) ≡ true → AreBehind v (flat_map words xs) text
+    → TookAll (repeated read n text) xs
 repeated_taken read words r v [] n text l m h = record { rest = text; is = repeated_none read n text (r.stop text h); blanks = h }
 repeated_taken read words r v (x ∷ xs) zero text l m h =
     let first = first_taken read words r v x xs text m h in
@@ -88,19 +90,20 @@ along_x d e =
     let y : d.y ≡ pos 0 = (Decides-int_eq d.y (pos 0)).0 p.1 in
     λ i. spot (sym x i) (sym y i)
 
-told_direction : (v : Word) (d : Spot) (text : List ℕ) → list_all is_moderate (spot_words d) ≡ true →
-    AreBehind v (spot_words d) text → TookLast (direction_of (spot_of text) text) d
+told_direction : (v : Word) (d : Spot) (text : List ℕ) → list_all is_moderate (spot_words d) ≡ true
+    → AreBehind v (spot_words d) text → TookLast (direction_of (spot_of text) text) d
 told_direction v d text m h =
     let s = spot_taken v d [] text m h in
     record { rest = s.rest; is = rw (s.is) refl; blanks = s.behind }
 
-no_direction : (d : Spot) (text : List ℕ) → spot (pos 1) (pos 0) ≡ d → AreBlanks text →
-    TookLast (direction_of (spot_of text) text) d
+no_direction : (d : Spot) (text : List ℕ) → spot (pos 1) (pos 0) ≡ d → AreBlanks text
+    → TookLast (direction_of (spot_of text) text) d
 no_direction d text e h = record { rest = text; is = rw (no_spot_in_blanks text h, e) refl; blanks = h }
 
 -- it is there, or is left out
-pub direction_taken : (short : Bool) (v : Word) (d : Spot) (text : List ℕ) → list_all is_moderate (spot_words d) ≡ true →
-    AreBehind v (direction_words short d) text → TookLast (direction_of (spot_of text) text) d
+pub direction_taken : (short : Bool) (v : Word) (d : Spot) (text : List ℕ)
+    → list_all is_moderate (spot_words d) ≡ true → AreBehind v (direction_words short d) text
+    → TookLast (direction_of (spot_of text) text) d
 direction_taken false v d text m h = told_direction v d text m h
 direction_taken true v d text m h = (elim (int_eq d.x (pos 1) && int_eq d.y (pos 0)) as
     (λ b. int_eq d.x (pos 1) && int_eq d.y (pos 0) ≡ b → AreBehind v (if b then [] else spot_words d) text
@@ -125,8 +128,8 @@ unscaled s e =
 no_scale : (s : Scale) (text : List ℕ) → scale 1 1 ≡ s → AreBlanks text → TookLast (scale_of (ratio_of text) text) s
 no_scale s text e h = record { rest = text; is = rw (no_count_in_blanks text h, e) refl; blanks = h }
 
-told_scale : (v : Word) (s : Scale) (text : List ℕ) → list_all is_moderate (scale_words false s) ≡ true →
-    AreBehind v (scale_words false s) text → TookLast (scale_of (ratio_of text) text) s
+told_scale : (v : Word) (s : Scale) (text : List ℕ) → list_all is_moderate (scale_words false s) ≡ true
+    → AreBehind v (scale_words false s) text → TookLast (scale_of (ratio_of text) text) s
 told_scale v s text m h =
     let p = and_parts (is_moderate (Number s.times)) (list_all is_moderate (Number s.over ∷ [])) m in
     let q = and_parts (is_moderate (Number s.over)) true p.1 in
@@ -134,8 +137,9 @@ told_scale v s text m h =
     let over = unsigned_taken times.last s.over [] times.rest q.0 times.behind in
     record { rest = over.rest; is = rw (times.is, over.is) refl; blanks = over.behind }
 
-pub scale_taken : (short : Bool) (v : Word) (s : Scale) (text : List ℕ) → list_all is_moderate (scale_words false s) ≡ true →
-    AreBehind v (scale_words short s) text → TookLast (scale_of (ratio_of text) text) s
+pub scale_taken : (short : Bool) (v : Word) (s : Scale) (text : List ℕ)
+    → list_all is_moderate (scale_words false s) ≡ true → AreBehind v (scale_words short s) text
+    → TookLast (scale_of (ratio_of text) text) s
 scale_taken false v s text m h = told_scale v s text m h
 scale_taken true v s text m h = (elim ((s.times == 1) && (s.over == 1)) as
     (λ b. (s.times == 1) && (s.over == 1) ≡ b → AreBehind v (if b then [] else (Number s.times ∷ Number s.over ∷ [])) text

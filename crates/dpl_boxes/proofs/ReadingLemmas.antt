@@ -49,9 +49,9 @@ pub command_of-form : (bytes : List ℕ) (command : Command) → form_of bytes �
 command_of-form bytes command f b = rw (f, command_of, b) refl
 
 -- a line that is no comment
-pub plain_is_read : (first : ℕ) (body : List ℕ) (command : Command) → begins_plain first ≡ true →
-    list_all is_inside body ≡ true → form_of (first ∷ body) ≡ Some command → is_command_in_bounds command ≡ true
-    → IsRead (record { bytes = first ∷ body; command = command })
+pub plain_is_read : (first : ℕ) (body : List ℕ) (command : Command) → begins_plain first ≡ true
+    → list_all is_inside body ≡ true → form_of (first ∷ body) ≡ Some command
+    → is_command_in_bounds command ≡ true → IsRead (record { bytes = first ∷ body; command = command })
 plain_is_read first body command b h f n = record { cut_out = plain_cut first body b h; read = command_of-form (first ∷ body) command f n }
 
 pub comment_is_read : CommentsAreRead

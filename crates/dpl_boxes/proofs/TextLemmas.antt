@@ -36,9 +36,9 @@ mask_is_read : (name : List ℕ) (boxes : List Corners) → is_name name ≡ tru
 mask_is_read name boxes h r = All-cons IsRead _ _ (layer_is_read name h)
     (All-map IsRead box_line boxes (All-weaker IsRectangle (λ b. IsRead (box_line b)) box_is_read boxes r))
 
-masks_are_read : (comments : List (List ℕ)) (layer : List ℕ) (on_a on_b : List Corners) → All IsFlat comments →
-    is_name layer ≡ true → length layer ≤ 31 → All IsRectangle on_a → All IsRectangle on_b →
-    All IsRead (lines_of_masks comments layer on_a on_b)
+masks_are_read : (comments : List (List ℕ)) (layer : List ℕ) (on_a on_b : List Corners) → All IsFlat comments
+    → is_name layer ≡ true → length layer ≤ 31 → All IsRectangle on_a → All IsRectangle on_b
+    → All IsRead (lines_of_masks comments layer on_a on_b)
 masks_are_read comments layer on_a on_b c h l a b =
     let on_first = lines_of_mask (layer ++ codes "A") on_a in
     let on_second = lines_of_mask (layer ++ codes "B") on_b in
@@ -73,9 +73,9 @@ cells_of_boxes (b ∷ boxes) x y = ap (λ t. is_in_box b x y || t) (cells_of_box
 has_boxes : (name : List ℕ) (boxes : List Corners) (text : List ℕ) → primitives_of name text ≡ map Box boxes → HasBoxes name boxes text
 has_boxes name boxes text e = record { boxes_in_order = e; cells = λ x y. ap (λ ps. is_cell ps x y) e ∙ cells_of_boxes boxes x y }
 
-masks_are_drawn : (comments : List (List ℕ)) (layer : List ℕ) (on_a on_b : List Corners) (text : List ℕ) →
-    All IsRectangle on_a → All IsRectangle on_b → Says text (lines_of_masks comments layer on_a on_b) →
-    DrawsMasks layer on_a on_b text
+masks_are_drawn : (comments : List (List ℕ)) (layer : List ℕ) (on_a on_b : List Corners) (text : List ℕ)
+    → All IsRectangle on_a → All IsRectangle on_b → Says text (lines_of_masks comments layer on_a on_b)
+    → DrawsMasks layer on_a on_b text
 masks_are_drawn comments layer on_a on_b text a b s =
     let on_first = layer ++ codes "A" in
     let on_second = layer ++ codes "B" in

@@ -16,7 +16,8 @@ use Rattle.dpl_rules.specs.Forms.{transformation_of}
 use Rattle.dpl_boxes.specs.Written.{Word, spot_words, transformation_words, is_moderate, AreDigits, IsSigned, AreBlanks, AreBehind}
 use Rattle.dpl_boxes.specs.Written.Word.{Letters, Number, Integer}
 use Rattle.dpl_boxes.specs.Written.IsSigned.{plain, minus}
-use Rattle.dpl_boxes.proofs.NumberLemmas.{begins_with_digit, has_no_digit, digits_with_zeros, unsigned_of-digits, signed_of-digits, signed_of-minus, drop_while-gap}
+use Rattle.dpl_boxes.proofs.NumberLemmas.{begins_with_digit, has_no_digit, digits_with_zeros, unsigned_of-digits}
+use Rattle.dpl_boxes.proofs.NumberLemmas.{signed_of-digits, signed_of-minus, drop_while-gap}
 use Rattle.dpl_boxes.proofs.BlankLemmas.{Begins, begins, shorter, apart_behind, no_letter_in_blanks}
 
 -- a part was read, and behind its last word stand these words
@@ -54,8 +55,9 @@ some_byte _ _ m (minus n digits d) = omega arith
 pub same_magnitude : (n : ℕ) → is_moderate (Integer (pos 0 -ℤ pos n)) ≡ true → is_moderate (Number n) ≡ true
 same_magnitude n m = let e : unsigned_abs (pos 0 -ℤ pos n) ≡ n = omega (arith, ints) in rw e at m
 
-signed_at_word : (z : ℤ) (gap bytes rest : List ℕ) → is_moderate (Integer z) ≡ true → list_all is_separator gap ≡ true →
-    IsSigned z bytes → has_no_digit rest ≡ true → signed_of (gap ++ (bytes ++ rest)) ≡ Some (z, rest)
+signed_at_word : (z : ℤ) (gap bytes rest : List ℕ) → is_moderate (Integer z) ≡ true
+    → list_all is_separator gap ≡ true → IsSigned z bytes → has_no_digit rest ≡ true
+    → signed_of (gap ++ (bytes ++ rest)) ≡ Some (z, rest)
 signed_at_word _ gap _ rest m g (plain n digits d) e =
     let l = moderate n m in
     rw (d.1) (signed_of-digits gap n (replicate d.0 48 ++ decimal n) rest g l (digits_with_zeros d.0 n l) e)
@@ -63,8 +65,8 @@ signed_at_word _ gap _ rest m g (minus n digits d) e =
     let l = moderate n (same_magnitude n m) in
     rw (d.1) (signed_of-minus gap n (replicate d.0 48 ++ decimal n) rest g l (digits_with_zeros d.0 n l) e)
 
-signed_from : (v : Word) (z : ℤ) (ws : List Word) (text : List ℕ) → is_moderate (Integer z) ≡ true →
-    Begins v (Integer z) ws text → Took text (signed_of text) z ws
+signed_from : (v : Word) (z : ℤ) (ws : List Word) (text : List ℕ) → is_moderate (Integer z) ≡ true
+    → Begins v (Integer z) ws text → Took text (signed_of text) z ws
 signed_from v z ws text m t = record {
   rest = t.rest;
   last = Integer z;
@@ -73,18 +75,19 @@ signed_from v z ws text m t = record {
   behind = t.behind;
 }
 
-pub signed_taken : (v : Word) (z : ℤ) (ws : List Word) (text : List ℕ) → is_moderate (Integer z) ≡ true →
-    AreBehind v (Integer z ∷ ws) text → Took text (signed_of text) z ws
+pub signed_taken : (v : Word) (z : ℤ) (ws : List Word) (text : List ℕ) → is_moderate (Integer z) ≡ true
+    → AreBehind v (Integer z ∷ ws) text → Took text (signed_of text) z ws
 signed_taken v z ws text m h = signed_from v z ws text m (begins v (Integer z) ws text h)
 
-unsigned_at_word : (n : ℕ) (gap bytes rest : List ℕ) → is_moderate (Number n) ≡ true → list_all is_separator gap ≡ true →
-    AreDigits n bytes → has_no_digit rest ≡ true → unsigned_of (gap ++ (bytes ++ rest)) ≡ Some (n, rest)
+unsigned_at_word : (n : ℕ) (gap bytes rest : List ℕ) → is_moderate (Number n) ≡ true
+    → list_all is_separator gap ≡ true → AreDigits n bytes → has_no_digit rest ≡ true
+    → unsigned_of (gap ++ (bytes ++ rest)) ≡ Some (n, rest)
 unsigned_at_word n gap bytes rest m g s e =
     let l = moderate n m in
     rw (s.1) (unsigned_of-digits gap n (replicate s.0 48 ++ decimal n) rest g l (digits_with_zeros s.0 n l) e)
 
-unsigned_from : (v : Word) (n : ℕ) (ws : List Word) (text : List ℕ) → is_moderate (Number n) ≡ true →
-    Begins v (Number n) ws text → Took text (unsigned_of text) n ws
+unsigned_from : (v : Word) (n : ℕ) (ws : List Word) (text : List ℕ) → is_moderate (Number n) ≡ true
+    → Begins v (Number n) ws text → Took text (unsigned_of text) n ws
 unsigned_from v n ws text m t = record {
   rest = t.rest;
   last = Number n;
@@ -93,12 +96,13 @@ unsigned_from v n ws text m t = record {
   behind = t.behind;
 }
 
-pub unsigned_taken : (v : Word) (n : ℕ) (ws : List Word) (text : List ℕ) → is_moderate (Number n) ≡ true →
-    AreBehind v (Number n ∷ ws) text → Took text (unsigned_of text) n ws
+pub unsigned_taken : (v : Word) (n : ℕ) (ws : List Word) (text : List ℕ) → is_moderate (Number n) ≡ true
+    → AreBehind v (Number n ∷ ws) text → Took text (unsigned_of text) n ws
 unsigned_taken v n ws text m h = unsigned_from v n ws text m (begins v (Number n) ws text h)
 
-pub spot_taken : (v : Word) (s : Spot) (ws : List Word) (text : List ℕ) → list_all is_moderate (spot_words s) ≡ true →
-    AreBehind v (spot_words s ++ ws) text → Took text (spot_of text) s ws
+pub spot_taken : (v : Word) (s : Spot) (ws : List Word) (text : List ℕ)
+    → list_all is_moderate (spot_words s) ≡ true → AreBehind v (spot_words s ++ ws) text
+    → Took text (spot_of text) s ws
 spot_taken v s ws text m h =
     let p = and_parts (is_moderate (Integer s.x)) (list_all is_moderate (Integer s.y ∷ [])) m in
     let q = and_parts (is_moderate (Integer s.y)) true p.1 in
@@ -108,8 +112,8 @@ spot_taken v s ws text m h =
 
 -- letters
 
-letter_from : (v : Word) (b : ℕ) (ws : List Word) (text : List ℕ) → is_blank b ≡ false →
-    Begins v (Letters (b ∷ [])) ws text → TookLetter b text (letter b text) ws
+letter_from : (v : Word) (b : ℕ) (ws : List Word) (text : List ℕ) → is_blank b ≡ false
+    → Begins v (Letters (b ∷ [])) ws text → TookLetter b text (letter b text) ws
 letter_from v b ws text n t = record {
   rest = t.rest;
   is = rw (t.is, t.spelled, drop_while-gap is_blank t.gap (b ∷ t.rest) t.between, n) (grind (arith, nat_tests));
@@ -117,25 +121,25 @@ letter_from v b ws text n t = record {
   behind = t.behind;
 }
 
-pub letter_taken : (v : Word) (b : ℕ) (ws : List Word) (text : List ℕ) → is_blank b ≡ false →
-    AreBehind v (Letters (b ∷ []) ∷ ws) text → TookLetter b text (letter b text) ws
+pub letter_taken : (v : Word) (b : ℕ) (ws : List Word) (text : List ℕ) → is_blank b ≡ false
+    → AreBehind v (Letters (b ∷ []) ∷ ws) text → TookLetter b text (letter b text) ws
 letter_taken v b ws text n h = letter_from v b ws text n (begins v (Letters (b ∷ [])) ws text h)
 
-missed_from : (v : Word) (b c : ℕ) (ws : List Word) (text : List ℕ) → is_blank c ≡ false → (c == b) ≡ false →
-    Begins v (Letters (c ∷ [])) ws text → letter b text ≡ None
+missed_from : (v : Word) (b c : ℕ) (ws : List Word) (text : List ℕ) → is_blank c ≡ false → (c == b) ≡ false
+    → Begins v (Letters (c ∷ [])) ws text → letter b text ≡ None
 missed_from v b c ws text n d t =
     rw (t.is, t.spelled, drop_while-gap is_blank t.gap (c ∷ t.rest) t.between, n, d) refl
 
 -- another letter stands there
-pub letter_missed : (v : Word) (b c : ℕ) (ws : List Word) (text : List ℕ) → is_blank c ≡ false → (c == b) ≡ false →
-    AreBehind v (Letters (c ∷ []) ∷ ws) text → letter b text ≡ None
+pub letter_missed : (v : Word) (b c : ℕ) (ws : List Word) (text : List ℕ) → is_blank c ≡ false
+    → (c == b) ≡ false → AreBehind v (Letters (c ∷ []) ∷ ws) text → letter b text ≡ None
 letter_missed v b c ws text n d h = missed_from v b c ws text n d (begins v (Letters (c ∷ [])) ws text h)
 
 -- transformations
 
-pub transformation_taken : (v : Word) (t : Transformation) (ws : List Word) (text : List ℕ) →
-    list_all is_moderate (transformation_words t) ≡ true →
-    AreBehind v (transformation_words t ++ ws) text → Took text (transformation_of text) t ws
+pub transformation_taken : (v : Word) (t : Transformation) (ws : List Word) (text : List ℕ)
+    → list_all is_moderate (transformation_words t) ≡ true → AreBehind v (transformation_words t ++ ws) text
+    → Took text (transformation_of text) t ws
 transformation_taken v (Shift by) ws text m h =
     let l = letter_taken v 84 (spot_words by ++ ws) text refl h in
     let s = spot_taken (Letters (codes "T")) by ws l.rest m l.behind in

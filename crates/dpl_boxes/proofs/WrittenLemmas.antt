@@ -1,5 +1,6 @@
 -- A command that is written is read again.
-use Rattle.std.proofs.Common.{arith, ◌≡◌, ◌==◌, ℕ, suc, ◌+◌, Bool, true, false, not, List, [], ◌∷◌, ◌++◌, length, refl, sym, ap, ◌∙◌, subst, add-zero, append_assoc, length-append, Some}
+use Rattle.std.proofs.Common.{arith, ◌≡◌, ◌==◌, ℕ, suc, ◌+◌, Bool, true, false, not, List, [], ◌∷◌, ◌++◌, length, refl}
+use Rattle.std.proofs.Common.{sym, ap, ◌∙◌, subst, add-zero, append_assoc, length-append, Some}
 use Rattle.std.specs.Prelude.{◌||◌, flat_map, codes}
 use Rattle.std.specs.List.{list_all}
 use Rattle.std.proofs.lemmas.Bool.{and_parts}
@@ -15,7 +16,8 @@ use Rattle.dpl_rules.specs.declared.command.Command.TheVariants.{Idle, Polygon, 
 use Rattle.dpl_rules.specs.Forms.{form_of, comment_of}
 use Rattle.dpl_boxes.specs.Lines.{IsRead}
 use Rattle.dpl_boxes.specs.Written as written
-use Rattle.dpl_boxes.specs.Written.{Word, spot_words, transformation_words, direction_words, scale_words, words_of, is_moderate, is_whole, can_be_written, AreBlanks, IsIdle, HasForm}
+use Rattle.dpl_boxes.specs.Written.{Word, spot_words, transformation_words, direction_words, scale_words, words_of}
+use Rattle.dpl_boxes.specs.Written.{is_moderate, is_whole, can_be_written, AreBlanks, IsIdle, HasForm}
 use Rattle.dpl_boxes.specs.Written.Word.{Letters, Number}
 use Rattle.dpl_boxes.specs.Written.IsIdle.{empty, comment, extension}
 use Rattle.dpl_boxes.proofs.NumberLemmas.{list_all-weaker}
@@ -75,16 +77,18 @@ record IsForm (c : Command) (first : ℕ) (body : List ℕ) : Type 0 where
   inside : list_all is_inside body ≡ true
   form : form_of (first ∷ body) ≡ Some c
 
-form_is_read : (c : Command) (first : ℕ) (body bytes : List ℕ) → list_all is_moderate (words_of false c) ≡ true →
-    bytes ≡ first ∷ body → IsForm c first body → Reads c bytes
+form_is_read : (c : Command) (first : ℕ) (body bytes : List ℕ)
+    → list_all is_moderate (words_of false c) ≡ true → bytes ≡ first ∷ body → IsForm c first body
+    → Reads c bytes
 form_is_read c first body bytes m e f = subst (Reads c) (sym e) (plain_is_read first body c f.begins f.inside f.form (moderate_is_bounded c m))
 
 first_word : (letters bytes rest text : List ℕ) → bytes ≡ letters → text ≡ bytes ++ rest → text ≡ letters ++ rest
 first_word letters bytes rest text e t = rw (← e) t
 
 -- each form, by its letter and the words behind it
-words_are_read : (c : Command) (short : Bool) (bytes : List ℕ) → is_whole c ≡ true → list_all is_moderate (words_of false c) ≡ true →
-    written.AreWords (words_of short c) bytes → Reads c bytes
+words_are_read : (c : Command) (short : Bool) (bytes : List ℕ) → is_whole c ≡ true
+    → list_all is_moderate (words_of false c) ≡ true → written.AreWords (words_of short c) bytes
+    → Reads c bytes
 words_are_read Idle short bytes w m h = subst (Reads Idle) (sym h) (idle_is_read [] empty)
 words_are_read (Polygon path) short bytes w m h =
     form_is_read (Polygon path) 80 h.1 bytes m (first_word (codes "P") h.0 h.1 bytes h.2 h.3) (record {

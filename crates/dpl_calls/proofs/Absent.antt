@@ -10,8 +10,9 @@ pub absent : (n : ℕ) (es : List (ℕ × List Entry)) → list_any (λ m. eqb m
 absent n [] h = refl
 absent n (e ∷ es) h = grind (arith, common_steps, absent n es)
 
-pub keys_put : (n : ℕ) (body : List Entry) (es : List (ℕ × List Entry)) → list_any (λ m. eqb m n) (keys_of es) ≡ false →
-    keys_of (insert_entry nat_eq es n body) ≡ keys_of es ++ n ∷ []
+pub keys_put : (n : ℕ) (body : List Entry) (es : List (ℕ × List Entry))
+    → list_any (λ m. eqb m n) (keys_of es) ≡ false
+    → keys_of (insert_entry nat_eq es n body) ≡ keys_of es ++ n ∷ []
 keys_put n body [] h = refl
 keys_put n body (e ∷ es) h = grind (arith, common_steps, keys_put n body es)
 

@@ -18,23 +18,25 @@ use Rattle.dpl_calls.specs.Found.{IsSite, call_in, calls_in}
 use Rattle.dpl_calls.proofs.Cases.{to_eq}
 
 -- a command that is no call adds none
-pub no_call : {E : Type 0} (r : Result (Unit {0}) E) (before after : List Entry) (at : ℕ) (c : Command) → ((place : Option ℕ) → site_in place at c ≡ [])
-    → OnOk r ((place : Option ℕ) → calls_in place after ≡ calls_in place before) →
-    OnOk r ((place : Option ℕ) → calls_in place after ≡ calls_in place before ++ site_in place at c)
+pub no_call : {E : Type 0} (r : Result (Unit {0}) E) (before after : List Entry) (at : ℕ) (c : Command)
+    → ((place : Option ℕ) → site_in place at c ≡ [])
+    → OnOk r ((place : Option ℕ) → calls_in place after ≡ calls_in place before)
+    → OnOk r ((place : Option ℕ) → calls_in place after ≡ calls_in place before ++ site_in place at c)
 no_call (Ok u) before after at c none h = λ place. h place ∙
     (sym (append-nil (calls_in place before)) ∙ ap (λ (ss : List CallSite). calls_in place before ++ ss)
     (sym (none place)))
 no_call (Err e) before after at c none h = tt
 
-named_in : (es : List Entry) (k : ℕ) (x : Entry) (at n : ℕ) (p : Placement) → k < length es →
-    get_or es k x ≡ Called at n p → list_any (names n) (map part_of es) ≡ true
+named_in : (es : List Entry) (k : ℕ) (x : Entry) (at n : ℕ) (p : Placement) → k < length es
+    → get_or es k x ≡ Called at n p → list_any (names n) (map part_of es) ≡ true
 named_in [] k x at n p h e = absurd (omega arith)
 named_in (y ∷ es) zero x at n p h e = rw e (or_left (n == n) (list_any (names n) (map part_of es)) (to_eq n n refl))
 named_in (y ∷ es) (suc k) x at n p h e = or_right (names n (part_of y)) (list_any (names n) (map part_of es)) (named_in es k x at n p (omega arith) e)
 
 -- an entry that is a call is one of its definition
-pub entry_fits : (t : Table) (definition : Option ℕ) (k : ℕ) (x : Entry) → k < length (entries_of t definition) →
-    All (IsSite (bodies_of t)) (call_in definition (get_or (entries_of t definition) k x))
+pub entry_fits : (t : Table) (definition : Option ℕ) (k : ℕ) (x : Entry)
+    → k < length (entries_of t definition)
+    → All (IsSite (bodies_of t)) (call_in definition (get_or (entries_of t definition) k x))
 entry_fits t definition k x h = by (get_or (entries_of t definition) k x) refl
   where
     by : (e : Entry) → get_or (entries_of t definition) k x ≡ e → All (IsSite (bodies_of t)) (call_in definition e)

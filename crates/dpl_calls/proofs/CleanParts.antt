@@ -38,9 +38,9 @@ use Rattle.std.proofs.lemmas.Bool.{and_parts, not-false, not-true, or_parts}
 -- ---- which rules were tried
 
 -- no rule of nine is broken
-nine : (a b c d e f g h i : Bool) (w1 w2 w3 w4 w5 w6 w7 w8 w9 : What) →
-    first_of ((a, w1) ∷ (b, w2) ∷ (c, w3) ∷ (d, w4) ∷ (e, w5) ∷ (f, w6) ∷ (g, w7) ∷ (h, w8) ∷ (i, w9) ∷ []) ≡ None →
-    (e ≡ false) × (f ≡ false) × (i ≡ false)
+nine : (a b c d e f g h i : Bool) (w1 w2 w3 w4 w5 w6 w7 w8 w9 : What)
+    → first_of ((a, w1) ∷ (b, w2) ∷ (c, w3) ∷ (d, w4) ∷ (e, w5) ∷ (f, w6) ∷ (g, w7) ∷ (h, w8) ∷ (i, w9) ∷ []) ≡ None
+    → (e ≡ false) × (f ≡ false) × (i ≡ false)
 nine true b c d e f g h i w1 w2 w3 w4 w5 w6 w7 w8 w9 n = cc
 nine false true c d e f g h i w1 w2 w3 w4 w5 w6 w7 w8 w9 n = cc
 nine false false true d e f g h i w1 w2 w3 w4 w5 w6 w7 w8 w9 n = cc
@@ -76,8 +76,8 @@ legs_apart a b n h =
     let le : int_min a b <ℤ (int_max a b +ℤ pos 1) = grind (arith, ints) in
     omega (arith, ints, h, le)
 
-extent_sound : (s : Scale) (e : Extent) → IsScale s → is_extent_on_grid s e ≡ true → e.x1 <ℤ e.x2 → e.y1 <ℤ e.y2 →
-    IsSound (figure.Rectangle (scaled_extent s e))
+extent_sound : (s : Scale) (e : Extent) → IsScale s → is_extent_on_grid s e ≡ true → e.x1 <ℤ e.x2
+    → e.y1 <ℤ e.y2 → IsSound (figure.Rectangle (scaled_extent s e))
 extent_sound s e sc h x y =
     let f = and_parts (is_on_grid s e.x1 && is_on_grid s e.y1 && is_on_grid s e.x2) (is_on_grid s e.y2) h in
     let g = and_parts (is_on_grid s e.x1 && is_on_grid s e.y1) (is_on_grid s e.x2) f.0 in
@@ -114,9 +114,9 @@ level s p q h = elim (and_false (eq_z p.x q.x) (eq_z p.y q.y) h) [
   | inr e ↦ inr (ap (λ (z : ℤ). scaled s (double z)) (eq_of p.y q.y e))
 ]
 
-levels : (s : Scale) (p : Spot) (ps : List Spot) (last : Spot) → slants_from p ps ≡ false →
-    is_slanted (last_of p ps) last ≡ false → AreLevel (scaled_corner s p) (map (scaled_corner s) ps)
-    (scaled_corner s last)
+levels : (s : Scale) (p : Spot) (ps : List Spot) (last : Spot) → slants_from p ps ≡ false
+    → is_slanted (last_of p ps) last ≡ false
+    → AreLevel (scaled_corner s p) (map (scaled_corner s) ps) (scaled_corner s last)
 levels s p [] last h k = level s p last k
 levels s p (q ∷ qs) last h k =
     let f = or_parts (is_slanted p q) (slants_from q qs) h in
@@ -137,16 +137,18 @@ where_kept false ps h = All-nil IsPartKept
 one : (p : Part) → IsPartKept p → All IsPartKept (p ∷ [])
 one p h = All-cons IsPartKept p [] h (All-nil IsPartKept)
 
-leg_kept : (s : Scale) (w : ℕ) (p q : Spot) → IsScale s → w ≤ 10 ^ 12 → 0 < w → is_spot_in_bounds p ≡ true →
-    is_spot_in_bounds q ≡ true → is_extent_on_grid s (leg w p q) ≡ true → IsPartKept (rectangle s (leg w p q))
+leg_kept : (s : Scale) (w : ℕ) (p q : Spot) → IsScale s → w ≤ 10 ^ 12 → 0 < w → is_spot_in_bounds p ≡ true
+    → is_spot_in_bounds q ≡ true → is_extent_on_grid s (leg w p q) ≡ true
+    → IsPartKept (rectangle s (leg w p q))
 leg_kept s w p q sc hw some hp hq grid = (
   leg_near s w p q sc hw hp hq,
   extent_sound s (leg w p q) sc grid (legs_apart p.x q.x w some) (legs_apart p.y q.y w some),
 )
 
-legs_kept : (s : Scale) (w : ℕ) (p : Spot) (ps : List Spot) → IsScale s → w ≤ 10 ^ 12 → 0 < w →
-    is_spot_in_bounds p ≡ true → list_all is_spot_in_bounds ps ≡ true →
-    list_all (is_extent_on_grid s) (legs_from w p ps) ≡ true → All IsPartKept (map (rectangle s) (legs_from w p ps))
+legs_kept : (s : Scale) (w : ℕ) (p : Spot) (ps : List Spot) → IsScale s → w ≤ 10 ^ 12 → 0 < w
+    → is_spot_in_bounds p ≡ true → list_all is_spot_in_bounds ps ≡ true
+    → list_all (is_extent_on_grid s) (legs_from w p ps) ≡ true
+    → All IsPartKept (map (rectangle s) (legs_from w p ps))
 legs_kept s w p [] sc hw some hp h grid = All-nil IsPartKept
 legs_kept s w p (q ∷ qs) sc hw some hp h grid =
     let f = and_parts (is_spot_in_bounds q) (list_all is_spot_in_bounds qs) h in
@@ -154,9 +156,9 @@ legs_kept s w p (q ∷ qs) sc hw some hp h grid =
     All-cons IsPartKept (rectangle s (leg w p q)) (map (rectangle s) (legs_from w q qs))
     (leg_kept s w p q sc hw some hp f.0 k.0) (legs_kept s w q qs sc hw some f.0 f.1 k.1)
 
-wire_kept : (s : Scale) (w : ℕ) (ps : List Spot) → IsScale s → w ≤ 10 ^ 12 → 0 < w →
-    list_all is_spot_in_bounds ps ≡ true → list_all (is_extent_on_grid s) (legs w ps) ≡ true →
-    All IsPartKept (map (rectangle s) (legs w ps))
+wire_kept : (s : Scale) (w : ℕ) (ps : List Spot) → IsScale s → w ≤ 10 ^ 12 → 0 < w
+    → list_all is_spot_in_bounds ps ≡ true → list_all (is_extent_on_grid s) (legs w ps) ≡ true
+    → All IsPartKept (map (rectangle s) (legs w ps))
 wire_kept s w [] sc hw some h grid = All-nil IsPartKept
 wire_kept s w (p ∷ []) sc hw some h grid =
     let f = and_parts (is_spot_in_bounds p) true h in
@@ -221,9 +223,9 @@ or_none at None later h = (refl, h)
 or_none at (Some w) later h = cc
 
 -- so are the parts of a layout without a broken rule
-pub bodies_kept : (chosen : List ℕ) (s : Scope) (seen : List ℕ) (at : ℕ) (rest : List (Result Command What))
-    (ending : Ending) → rule_fault chosen s seen at rest ending ≡ None → IsScale s.scale → AllFit rest →
-    (place : Option ℕ) → All IsPartKept (parts_from chosen s rest place)
+pub bodies_kept : (chosen : List ℕ) (s : Scope) (seen : List ℕ) (at : ℕ) (rest : List (Result Command What)) (ending : Ending)
+    → rule_fault chosen s seen at rest ending ≡ None → IsScale s.scale → AllFit rest → (place : Option ℕ)
+    → All IsPartKept (parts_from chosen s rest place)
 bodies_kept chosen s seen at [] ending r sc fit place = All-nil IsPartKept
 bodies_kept chosen s seen at (Err w ∷ rest) ending r sc fit place = cc
 bodies_kept chosen s seen at (Ok c ∷ rest) ending r sc fit place =

@@ -22,10 +22,9 @@ use Rattle.dpl_calls.proofs.Edges.{body_placed, body_absent}
 use Rattle.dpl_calls.proofs.Stable.{callee_low, label_few}
 
 -- figures are the same where they are the same of what is called
-figures_same : (b : Bodies) (inner other : (Corner → Corner) → List Part → List Figure) (place : Corner → Corner)
-    (parts : List Part) → ((m : ℕ) → list_any (names m) parts ≡ true → (f : Corner → Corner) →
-    inner f (b (Some m)) ≡ other f (b (Some m))) → flat_map (part_figures b inner place) parts ≡ flat_map
-    (part_figures b other place) parts
+figures_same : (b : Bodies) (inner other : (Corner → Corner) → List Part → List Figure) (place : Corner → Corner) (parts : List Part)
+    → ((m : ℕ) → list_any (names m) parts ≡ true → (f : Corner → Corner) → inner f (b (Some m)) ≡ other f (b (Some m)))
+    → flat_map (part_figures b inner place) parts ≡ flat_map (part_figures b other place) parts
 figures_same b inner other place [] same = refl
 figures_same b inner other place (Drawn x ∷ ps) same =
     ap (λ (fs : List Figure). (placed place x ∷ []) ++ fs)

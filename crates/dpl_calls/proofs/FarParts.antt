@@ -23,16 +23,16 @@ path_near s (p ∷ ps) sc h =
     let f = and_parts (is_spot_in_bounds p) (list_all is_spot_in_bounds ps) h in
     All-cons IsCornerNear (scaled_corner s p) (map (scaled_corner s) ps) (spot_near s p sc f.0) (path_near s ps sc f.1)
 
-around_near : (s : Scale) (x : ℤ) (across : ℕ) (y : ℤ) (along : ℕ) → IsScale s → unsigned_abs x ≤ 10 ^ 12 →
-    unsigned_abs y ≤ 10 ^ 12 → across ≤ 10 ^ 12 → along ≤ 10 ^ 12 →
-    IsFigureNear (Rectangle (scaled_extent s (around x across y along)))
+around_near : (s : Scale) (x : ℤ) (across : ℕ) (y : ℤ) (along : ℕ) → IsScale s → unsigned_abs x ≤ 10 ^ 12
+    → unsigned_abs y ≤ 10 ^ 12 → across ≤ 10 ^ 12 → along ≤ 10 ^ 12
+    → IsFigureNear (Rectangle (scaled_extent s (around x across y along)))
 around_near s x across y along sc hx hy ha hl = (
   record { x = scaled_near s (less x across) sc (less_near x across hx ha); y = scaled_near s (less y along) sc (less_near y along hy hl) },
   record { x = scaled_near s (more x across) sc (more_near x across hx ha); y = scaled_near s (more y along) sc (more_near y along hy hl) },
 )
 
-pub leg_near : (s : Scale) (w : ℕ) (p q : Spot) → IsScale s → w ≤ 10 ^ 12 → is_spot_in_bounds p ≡ true →
-    is_spot_in_bounds q ≡ true → IsFigureNear (Rectangle (scaled_extent s (leg w p q)))
+pub leg_near : (s : Scale) (w : ℕ) (p q : Spot) → IsScale s → w ≤ 10 ^ 12 → is_spot_in_bounds p ≡ true
+    → is_spot_in_bounds q ≡ true → IsFigureNear (Rectangle (scaled_extent s (leg w p q)))
 leg_near s w p q sc hw hp hq =
     let f = and_parts (is_in_bounds (unsigned_abs p.x)) (is_in_bounds (unsigned_abs p.y)) hp in
     let g = and_parts (is_in_bounds (unsigned_abs q.x)) (is_in_bounds (unsigned_abs q.y)) hq in
@@ -54,8 +54,8 @@ leg_near s w p q sc hw hp hq =
       },
     )
 
-chosen_near : (t : Bool) (s : Scale) (p q : Extent) → IsFigureNear (Rectangle (scaled_extent s p)) →
-    IsFigureNear (Rectangle (scaled_extent s q)) → IsFigureNear (Rectangle (scaled_extent s (cond t p q)))
+chosen_near : (t : Bool) (s : Scale) (p q : Extent) → IsFigureNear (Rectangle (scaled_extent s p))
+    → IsFigureNear (Rectangle (scaled_extent s q)) → IsFigureNear (Rectangle (scaled_extent s (cond t p q)))
 chosen_near true s p q h k = h
 chosen_near false s p q h k = k
 

@@ -54,8 +54,8 @@ on_bind : {A : Type 0} (o : Option A) (f : A → Option Command) → ((x : A) �
 on_bind None f h = tt
 on_bind (Some x) f h = h x
 
-on_when : {A : Type 0} (o : Option A) (then : A → Option Command) (other : Option Command) →
-    ((x : A) → OnSome (then x)) → OnSome other → OnSome (f.where_there o then other)
+on_when : {A : Type 0} (o : Option A) (then : A → Option Command) (other : Option Command)
+    → ((x : A) → OnSome (then x)) → OnSome other → OnSome (f.where_there o then other)
 on_when None then other h k = k
 on_when (Some x) then other h k = h x
 
@@ -66,8 +66,8 @@ on_if : (b : Bool) (x y : Option Command) → OnSome x → OnSome y → OnSome (
 on_if true x y h k = h
 on_if false x y h k = k
 
-one_more : {X : Type 0} (o : Option (X × List ℕ)) (bytes : List ℕ) (n : ℕ) (more : List ℕ → List X × List ℕ) →
-    ((bs : List ℕ) → length (more bs).0 ≤ n) → length (and_repeated o bytes more).0 ≤ suc n
+one_more : {X : Type 0} (o : Option (X × List ℕ)) (bytes : List ℕ) (n : ℕ) (more : List ℕ → List X × List ℕ)
+    → ((bs : List ℕ) → length (more bs).0 ≤ n) → length (and_repeated o bytes more).0 ≤ suc n
 one_more None bytes n more h = omega arith
 one_more (Some x) bytes n more h = omega (arith, h x.1)
 
@@ -88,9 +88,8 @@ unsigned_le : (bytes : List ℕ) → LeIf (length bytes) (unsigned_of bytes)
 unsigned_le bytes = taken_le (unsigned_at bytes).0 (unsigned_at bytes).1 (length bytes)
     (digits_left of_magnitude bytes (drop_while is_separator bytes) (dropped is_separator bytes))
 
-call_few : (o : Option (ℕ × List ℕ)) (m : ℕ) → m ≤ 2 ^ 24 → LeIf m o →
-    OnSome (o >>= λ n. complete (Call n.0 (repeated transformation_of (length n.1) n.1).0)
-    (repeated transformation_of (length n.1) n.1).1)
+call_few : (o : Option (ℕ × List ℕ)) (m : ℕ) → m ≤ 2 ^ 24 → LeIf m o
+    → OnSome (o >>= λ n. complete (Call n.0 (repeated transformation_of (length n.1) n.1).0) (repeated transformation_of (length n.1) n.1).1)
 call_few None m h k = tt
 call_few (Some n) m h k =
     let found : List Transformation × List ℕ = repeated transformation_of (length n.1) n.1 in
@@ -197,14 +196,14 @@ fit_case : (t : Bool) (d c : Command) → is_command_in_bounds d ≡ t → IsFew
 fit_case true d c f few e = let same : d ≡ c = cc in (subst (λ (x : Command). is_command_in_bounds x ≡ true) same f, subst IsFew same few)
 fit_case false d c f few e = cc
 
-fit_of : (o : Option Command) (c : Command) → OnSome o →
-    (elim o as (λ x. Result Command What) [ None ↦ Err Syntax | Some d ↦ bounded d ]) ≡ Ok c →
-    (is_command_in_bounds c ≡ true) × IsFew c
+fit_of : (o : Option Command) (c : Command) → OnSome o
+    → (elim o as (λ x. Result Command What) [ None ↦ Err Syntax | Some d ↦ bounded d ]) ≡ Ok c
+    → (is_command_in_bounds c ≡ true) × IsFew c
 fit_of None c h e = cc
 fit_of (Some d) c h e = fit_case (is_command_in_bounds d) d c refl h e
 
-fit_cons : (r : Result Command What) (rest : List (Result Command What)) →
-    ((c : Command) → r ≡ Ok c → (is_command_in_bounds c ≡ true) × IsFew c) → AllFit rest → AllFit (r ∷ rest)
+fit_cons : (r : Result Command What) (rest : List (Result Command What))
+    → ((c : Command) → r ≡ Ok c → (is_command_in_bounds c ≡ true) × IsFew c) → AllFit rest → AllFit (r ∷ rest)
 fit_cons (Err w) rest h k = k
 fit_cons (Ok c) rest h k = let f = h c refl in (f.0, f.1, k)
 

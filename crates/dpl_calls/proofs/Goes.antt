@@ -36,10 +36,10 @@ all_near_more : (n m : ℕ) (fs : List Frame) → n ≤ m → All (IsFrameNear n
 all_near_more n m fs le h k d lt = near_more n m (get_or fs k d) le (h k d lt)
 
 -- the last frame gives way to others, with these figures and so many calls done
-goes_on : (b : Bodies) (all : List Figure) (t : ℕ) (s : List Figure) (fs : List Frame) (f : Frame) (n : ℕ)
-    (xs : List Figure) (gs : List Frame) (k : ℕ) → frame_figures b f ≡ xs ++ pending b gs →
-    frame_calls b f ≡ k + calls_left b gs → All (IsFrameNear (n + k)) gs → Goes b all t s (fs ++ f ∷ []) n →
-    Goes b all t (s ++ xs) (fs ++ gs) (n + k)
+goes_on : (b : Bodies) (all : List Figure) (t : ℕ) (s : List Figure) (fs : List Frame) (f : Frame) (n : ℕ) (xs : List Figure) (gs : List Frame) (k : ℕ)
+    → frame_figures b f ≡ xs ++ pending b gs → frame_calls b f ≡ k + calls_left b gs
+    → All (IsFrameNear (n + k)) gs → Goes b all t s (fs ++ f ∷ []) n
+    → Goes b all t (s ++ xs) (fs ++ gs) (n + k)
 goes_on b all t s fs f n xs gs k es ec near h =
     let new : pending b (fs ++ gs) ≡ pending b gs ++ pending b fs = pending_append b fs gs in
     let old : pending b (fs ++ f ∷ []) ≡ (xs ++ pending b gs) ++ pending b fs = pending_push b fs f ∙ ap (λ (x : List Figure). x ++ pending b fs) es in
@@ -58,8 +58,8 @@ one_near n g h = All-push (IsFrameNear n) [] g (λ k d lt. absurd (omega arith))
 last_near : (b : Bodies) (all : List Figure) (t : ℕ) (s : List Figure) (fs : List Frame) (f : Frame) (n : ℕ) → Goes b all t s (fs ++ f ∷ []) n → IsFrameNear n f
 last_near b all t s fs f n h = (all_popped (IsFrameNear n) fs f h.near).1
 
-goes_empty : (b : Bodies) (all : List Figure) (t : ℕ) (s : List Figure) (fs : List Frame) (f : Frame) (n : ℕ) →
-    f.rest.now ≡ [] → Goes b all t s (fs ++ f ∷ []) n → Goes b all t s fs n
+goes_empty : (b : Bodies) (all : List Figure) (t : ℕ) (s : List Figure) (fs : List Frame) (f : Frame) (n : ℕ)
+    → f.rest.now ≡ [] → Goes b all t s (fs ++ f ∷ []) n → Goes b all t s fs n
 goes_empty b all t s fs f n e h =
     let g : Goes b all t (s ++ []) (fs ++ []) (n + 0) = goes_on b all t s fs f n [] [] 0 (rw e refl) (rw e refl) (λ k d lt. absurd (omega arith)) h in
     let z : n + 0 ≡ n = omega arith in
@@ -153,10 +153,10 @@ module _ (b : Bodies) (f g : Frame) (e : Entry) (split : f.rest.now ≡ e ∷ g.
       let kept : IsPartKept (Drawn figure) = subst (λ (x : Entry). IsPartKept (part_of x)) ee first in
       kept.0
 
-pub goes_start : (b : Bodies) (depth : ℕ) (f : Frame) (s : List Figure) (fs : List Frame) → s ≡ [] → fs ≡ f ∷ [] →
-    depth ≡ suc f.below → left f ≡ b None → ((c : Corner) → apply f.place c ≡ unmoved c) → IsNear 0 f.place →
-    All IsEntryNear f.rest.now → All IsPartKept (b None) →
-    Goes b (figures_of depth b unmoved (b None)) (total_of own_calls depth b (b None)) s fs 0
+pub goes_start : (b : Bodies) (depth : ℕ) (f : Frame) (s : List Figure) (fs : List Frame) → s ≡ []
+    → fs ≡ f ∷ [] → depth ≡ suc f.below → left f ≡ b None → ((c : Corner) → apply f.place c ≡ unmoved c)
+    → IsNear 0 f.place → All IsEntryNear f.rest.now → All IsPartKept (b None)
+    → Goes b (figures_of depth b unmoved (b None)) (total_of own_calls depth b (b None)) s fs 0
 goes_start b depth f s fs es efs ed er place near entries parts =
     let same : apply f.place ≡ unmoved = fun_ext place in
     let zero_near : IsNear (0 * 2 ^ 106) f.place = record { x = omega (arith, near.x); y = omega (arith, near.y) } in record {
@@ -167,8 +167,8 @@ goes_start b depth f s fs es efs ed er place near entries parts =
 
 -- ---- the same at the names of a loop
 
-pub empty_at : (b : Bodies) (all : List Figure) (t : ℕ) (s : List Figure) (fs stack : List Frame) (f : Frame) (n : ℕ) →
-    stack ≡ fs ++ f ∷ [] → length f.rest.now ≡ 0 → Goes b all t s stack n → Goes b all t s fs n
+pub empty_at : (b : Bodies) (all : List Figure) (t : ℕ) (s : List Figure) (fs stack : List Frame) (f : Frame) (n : ℕ)
+    → stack ≡ fs ++ f ∷ [] → length f.rest.now ≡ 0 → Goes b all t s stack n → Goes b all t s fs n
 empty_at b all t s fs stack f n ek e h = goes_empty b all t s fs f n (nil_from_length f.rest.now e) (rw ek at h)
 
 module _ (b : Bodies) (all : List Figure) (t : ℕ) (s : List Figure) (fs stack : List Frame) (f g : Frame) (n : ℕ)
@@ -205,9 +205,9 @@ module _ (b : Bodies) (all : List Figure) (t : ℕ) (s : List Figure) (fs stack 
   drawn_at figure ee = drawn_near b f g e split place below n figure ee frame_near
 
 -- the frame of a call
-pub child_near : (n : ℕ) (f c : Frame) (p : Placement) →
-    ((a b : ℕ) → IsNear a f.place → IsNear b p → IsNear (a + b) c.place) → IsNear (2 ^ 106) p → IsFrameNear n f →
-    All IsEntryNear c.rest.now → All IsPartKept (left c) → IsFrameNear (n + 1) c
+pub child_near : (n : ℕ) (f c : Frame) (p : Placement)
+    → ((a b : ℕ) → IsNear a f.place → IsNear b p → IsNear (a + b) c.place) → IsNear (2 ^ 106) p
+    → IsFrameNear n f → All IsEntryNear c.rest.now → All IsPartKept (left c) → IsFrameNear (n + 1) c
 child_near n f c p place near h entries parts =
     let q : IsNear (n * 2 ^ 106 + 2 ^ 106) c.place = place (n * 2 ^ 106) (2 ^ 106) h.place near in
     record { place = record { x = omega (arith, q.x); y = omega (arith, q.y) }; entries = entries; parts = parts }

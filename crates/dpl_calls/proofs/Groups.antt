@@ -83,9 +83,9 @@ nowhere t s d e site h =
     let bad : None ≡ Some p.place = sym h ∙ p.there in cc
 
 -- a call of what is not there leads nowhere
-pub called_nowhere : (t : Table) (s : CallSite) (d x : ℕ) → s.definition ≡ Some d →
-    place_of d (keys t.definitions) ≡ Some x → place_of s.called (keys t.definitions) ≡ None →
-    false ≡ is_looped (length (keys t.definitions)) (bodies_of t) s
+pub called_nowhere : (t : Table) (s : CallSite) (d x : ℕ) → s.definition ≡ Some d
+    → place_of d (keys t.definitions) ≡ Some x → place_of s.called (keys t.definitions) ≡ None
+    → false ≡ is_looped (length (keys t.definitions)) (bodies_of t) s
 called_nowhere t s d x e hx hn = not_true (is_looped (length (keys t.definitions)) (bodies_of t) s) (λ h.
     let here : (s.called ≡ d) ⊎ Path (bodies_of t) s.called d =
     subst (λ (o : Option ℕ). MatchOption o ⊥ (λ d. (s.called ≡ d) ⊎ Path (bodies_of t) s.called d)) e

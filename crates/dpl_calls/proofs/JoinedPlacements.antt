@@ -15,8 +15,8 @@ use Rattle.dpl_calls.specs.declared.figure.Figure.TheVariants.{Rectangle, Polygo
 use Rattle.dpl_calls.specs.Parts.{corner, turned, transformed, transformed_by}
 use Rattle.dpl_calls.specs.Unfolding.{extent_between, placed}
 
-pub points_joined : (s : Scale) (inner outer : List Transformation) (c : Corner) →
-    transformed_by s (inner ++ outer) c ≡ transformed_by s outer (transformed_by s inner c)
+pub points_joined : (s : Scale) (inner outer : List Transformation) (c : Corner)
+    → transformed_by s (inner ++ outer) c ≡ transformed_by s outer (transformed_by s inner c)
 points_joined s [] outer c = refl
 points_joined s (t ∷ ts) outer c = points_joined s ts outer (transformed s t c)
 
@@ -44,8 +44,8 @@ min_ends u a b = ends (λ x y. int_min (u x) (u y) ≡ int_min (u a) (u b)) a b 
 max_ends : (u : ℤ → ℤ) (a b : ℤ) → int_max (u (int_min a b)) (u (int_max a b)) ≡ int_max (u a) (u b)
 max_ends u a b = ends (λ x y. int_max (u x) (u y) ≡ int_max (u a) (u b)) a b refl (max_turns (u a) (u b))
 
-same_extent : (a b c d x y z w : ℤ) → a ≡ x → b ≡ y → c ≡ z → d ≡ w →
-    ◌≡◌ {A = Extent} (record { x1 = a; y1 = b; x2 = c; y2 = d }) (record { x1 = x; y1 = y; x2 = z; y2 = w })
+same_extent : (a b c d x y z w : ℤ) → a ≡ x → b ≡ y → c ≡ z → d ≡ w
+    → ◌≡◌ {A = Extent} (record { x1 = a; y1 = b; x2 = c; y2 = d }) (record { x1 = x; y1 = y; x2 = z; y2 = w })
 same_extent a b c d x y z w e f g h = rw (e, f, g, h) refl
 
 -- a map of each coordinate alone
@@ -87,14 +87,13 @@ transformations_boxed s (t ∷ ts) = composed (transformed_by s ts) (transformed
 
 -- ---- figures
 
-corners_joined : (s : Scale) (inner outer : List Transformation) (cs : List Corner) →
-    map (transformed_by s (inner ++ outer)) cs ≡ map (transformed_by s outer) (map (transformed_by s inner) cs)
+corners_joined : (s : Scale) (inner outer : List Transformation) (cs : List Corner)
+    → map (transformed_by s (inner ++ outer)) cs ≡ map (transformed_by s outer) (map (transformed_by s inner) cs)
 corners_joined s inner outer [] = refl
 corners_joined s inner outer (c ∷ cs) = rw (points_joined s inner outer c, corners_joined s inner outer cs) refl
 
-pub figures_joined : (s : Scale) (inner outer : List Transformation) (figure : Figure) →
-    placed (transformed_by s (inner ++ outer)) figure ≡ placed (transformed_by s outer)
-    (placed (transformed_by s inner) figure)
+pub figures_joined : (s : Scale) (inner outer : List Transformation) (figure : Figure)
+    → placed (transformed_by s (inner ++ outer)) figure ≡ placed (transformed_by s outer) (placed (transformed_by s inner) figure)
 figures_joined s inner outer (Rectangle e) =
     let p = corner e.x1 e.y1 in
     let q = corner e.x2 e.y2 in

@@ -52,8 +52,9 @@ abbrev NotIn : ℕ → Option ℕ → Type 0
 NotIn n o = is_same (Some n) o ≡ false
 
 -- what no definition has as its number has no parts
-none_there : (chosen : List ℕ) (n : ℕ) (s : Scope) (seen : List ℕ) (commands : List (Result Command What)) →
-    NotIn n s.definition → place_of n (numbers_from seen commands) ≡ None → parts_from chosen s commands (Some n) ≡ []
+none_there : (chosen : List ℕ) (n : ℕ) (s : Scope) (seen : List ℕ) (commands : List (Result Command What))
+    → NotIn n s.definition → place_of n (numbers_from seen commands) ≡ None
+    → parts_from chosen s commands (Some n) ≡ []
 none_there chosen n s seen [] out h = refl
 none_there chosen n s seen (Err w ∷ rest) out h = none_there chosen n s seen rest out h
 none_there chosen n s seen (Ok c ∷ rest) out h =

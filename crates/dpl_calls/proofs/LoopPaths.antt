@@ -22,9 +22,9 @@ pub record Out (b : Bodies) (to : ℕ) (parts : List Part) : Type 0 where
 out_later : (b : Bodies) (to : ℕ) (p : Part) (parts : List Part) → Out b to parts → Out b to (p ∷ parts)
 out_later b to p parts o = record { n = o.n; named = or_right (names o.n p) (list_any (names o.n) parts) o.named; on = o.on }
 
-out_parts : (b : Bodies) (to : ℕ) (inner : List Part → Bool) →
-    ((n : ℕ) → inner (b (Some n)) ≡ true → Out b to (b (Some n))) → (parts : List Part) →
-    list_any (part_leads b inner to) parts ≡ true → Out b to parts
+out_parts : (b : Bodies) (to : ℕ) (inner : List Part → Bool)
+    → ((n : ℕ) → inner (b (Some n)) ≡ true → Out b to (b (Some n))) → (parts : List Part)
+    → list_any (part_leads b inner to) parts ≡ true → Out b to parts
 out_parts b to inner ih [] h = cc
 out_parts b to inner ih (Drawn f ∷ ps) h = out_later b to (Drawn f) ps (out_parts b to inner ih ps h)
 out_parts b to inner ih (Called n moves ∷ ps) h =
@@ -47,8 +47,8 @@ pub leads_out : (k : ℕ) (b : Bodies) (to : ℕ) (parts : List Part) → leads_
 leads_out zero b to parts h = cc
 leads_out (suc k) b to parts h = out_parts b to (leads_to k b to) (λ n l. leads_out k b to (b (Some n)) l) parts h
 
-in_parts : (b : Bodies) (to n : ℕ) (inner : List Part → Bool) → (n == to || inner (b (Some n))) ≡ true →
-    (parts : List Part) → list_any (names n) parts ≡ true → list_any (part_leads b inner to) parts ≡ true
+in_parts : (b : Bodies) (to n : ℕ) (inner : List Part → Bool) → (n == to || inner (b (Some n))) ≡ true
+    → (parts : List Part) → list_any (names n) parts ≡ true → list_any (part_leads b inner to) parts ≡ true
 in_parts b to n inner h [] named = cc
 in_parts b to n inner h (Drawn f ∷ ps) named = in_parts b to n inner h ps named
 in_parts b to n inner h (Called m moves ∷ ps) named =
@@ -80,15 +80,15 @@ unfolding up
 up_is k zero = omega arith
 up_is k (suc m) = omega (arith, up_is k m)
 
-parts_same : (b : Bodies) (to : ℕ) (t u : List Part → Bool) → ((n : ℕ) → t (b (Some n)) ≡ u (b (Some n))) →
-    (parts : List Part) → list_any (part_leads b t to) parts ≡ list_any (part_leads b u to) parts
+parts_same : (b : Bodies) (to : ℕ) (t u : List Part → Bool) → ((n : ℕ) → t (b (Some n)) ≡ u (b (Some n)))
+    → (parts : List Part) → list_any (part_leads b t to) parts ≡ list_any (part_leads b u to) parts
 parts_same b to t u same [] = refl
 parts_same b to t u same (Drawn f ∷ ps) = parts_same b to t u same ps
 parts_same b to t u same (Called n moves ∷ ps) = rw (same n, parts_same b to t u same ps) refl
 
-parts_more : (b : Bodies) (to : ℕ) (t u : List Part → Bool) →
-    ((n : ℕ) → t (b (Some n)) ≡ true → u (b (Some n)) ≡ true) → (parts : List Part) →
-    list_any (part_leads b t to) parts ≡ true → list_any (part_leads b u to) parts ≡ true
+parts_more : (b : Bodies) (to : ℕ) (t u : List Part → Bool)
+    → ((n : ℕ) → t (b (Some n)) ≡ true → u (b (Some n)) ≡ true) → (parts : List Part)
+    → list_any (part_leads b t to) parts ≡ true → list_any (part_leads b u to) parts ≡ true
 parts_more b to t u h [] l = l
 parts_more b to t u h (Drawn f ∷ ps) l = parts_more b to t u h ps l
 parts_more b to t u h (Called n moves ∷ ps) l =

@@ -105,8 +105,8 @@ module _ (bodies : Bodies) (inner : (Corner → Corner) → List Part → List F
       (parts_sound f ps F (All-tail IsPartKept p ps h))
 
 -- all figures of a layout are sound
-pub figures_sound : (depth : ℕ) (bodies : Bodies) → AreKept bodies → (f : Corner → Corner) (ps : List Part) →
-    IsRigid f → All IsPartKept ps → All IsSound (figures_of depth bodies f ps)
+pub figures_sound : (depth : ℕ) (bodies : Bodies) → AreKept bodies → (f : Corner → Corner) (ps : List Part)
+    → IsRigid f → All IsPartKept ps → All IsSound (figures_of depth bodies f ps)
 figures_sound zero bodies K f ps F h = All-nil IsSound
 figures_sound (suc depth) bodies K f ps F h = parts_sound bodies (figures_of depth bodies)
     (λ q n Q. figures_sound depth bodies K q (bodies (Some n)) Q (K (Some n))) f ps F h

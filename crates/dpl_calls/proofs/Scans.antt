@@ -39,8 +39,8 @@ pub record FromSites (d e : ℕ) (sites : List CallSite) (test : CallSite → Bo
   pub passes : test site ≡ false
 
 -- a call among those of which none passes a test
-none_first : (test : CallSite → Bool) (what : What) (d e : ℕ) (sites : List CallSite) →
-    first_site test what sites ≡ None → list_any (is_from d e) sites ≡ true → FromSites d e sites test
+none_first : (test : CallSite → Bool) (what : What) (d e : ℕ) (sites : List CallSite)
+    → first_site test what sites ≡ None → list_any (is_from d e) sites ≡ true → FromSites d e sites test
 none_first test what d e [] h f = cc
 none_first test what d e (s ∷ ss) h f = by (test s) refl h (λ q g. none_first test what d e ss q g)
   where

@@ -42,8 +42,8 @@ nothing_in true = refl
 nothing_in false = refl
 
 -- the call that a command is, seen from another place
-site_standing : (place : Option ℕ) (s : Scope) (at : ℕ) (c : Command) →
-    standing place (sites_of s at c) ≡ cond (is_same place s.definition) (site_in place at c) []
+site_standing : (place : Option ℕ) (s : Scope) (at : ℕ) (c : Command)
+    → standing place (sites_of s at c) ≡ cond (is_same place s.definition) (site_in place at c) []
 site_standing place s at Idle = nothing_in (is_same place s.definition)
 site_standing place s at (Polygon path) = nothing_in (is_same place s.definition)
 site_standing place s at (Box b) = nothing_in (is_same place s.definition)
@@ -79,17 +79,18 @@ sites_rising chosen s at (Ok c ∷ rest) = site_rising s at c (sites_from chosen
     (sites_rising chosen (after chosen s c) (at + 1) rest)
 
 -- the first command that is left
-pub read_next : (text : List ℕ) (s : Span) (others rest : List Span) (c : Command) → rest ≡ s ∷ others →
-    command_of (slice_range text s.start s.end) ≡ Ok c → read_commands text rest ≡ Ok c ∷ read_commands text others
+pub read_next : (text : List ℕ) (s : Span) (others rest : List Span) (c : Command) → rest ≡ s ∷ others
+    → command_of (slice_range text s.start s.end) ≡ Ok c
+    → read_commands text rest ≡ Ok c ∷ read_commands text others
 read_next text s others rest c e r = ap (λ (ss : List Span). read_commands text ss) e ∙ ap (λ (x : Result Command What). x ∷ read_commands text others) r
 
-pub scans_next : (chosen : List ℕ) (all before rest : List (Result Command What)) (ending : Ending) (t t' : Table)
-    (s s' : Scope) (at : ℕ) (c : Command) → before ≡ Ok c ∷ rest →
-    broken_rule s (breaks_twice (keys t.definitions) c) c ≡ None → s' ≡ after chosen s c →
-    ((place : Option ℕ) → bodies_of t' place ≡ put_at s.definition (bodies_of t) (parts_of s c) place) →
-    keys t'.definitions ≡ with_start c (keys t.definitions) →
-    ((place : Option ℕ) → calls_at t' place ≡ put_at s.definition (calls_at t) (site_in place at c) place) →
-    Scans chosen all before ending t s at → Scans chosen all rest ending t' s' (at + 1)
+pub scans_next : (chosen : List ℕ) (all before rest : List (Result Command What)) (ending : Ending) (t t' : Table) (s s' : Scope) (at : ℕ) (c : Command)
+    → before ≡ Ok c ∷ rest → broken_rule s (breaks_twice (keys t.definitions) c) c ≡ None
+    → s' ≡ after chosen s c
+    → ((place : Option ℕ) → bodies_of t' place ≡ put_at s.definition (bodies_of t) (parts_of s c) place)
+    → keys t'.definitions ≡ with_start c (keys t.definitions)
+    → ((place : Option ℕ) → calls_at t' place ≡ put_at s.definition (calls_at t) (site_in place at c) place)
+    → Scans chosen all before ending t s at → Scans chosen all rest ending t' s' (at + 1)
 scans_next chosen all before rest ending t t' s s' at c eb clean es bodies numbers calls h0 =
     let h : Scans chosen all (Ok c ∷ rest) ending t s at = rw eb at h0 in
     let rule : or_later at (broken_rule s (breaks_twice (keys t.definitions) c) c)
@@ -114,8 +115,8 @@ scans_next chosen all before rest ending t t' s s' at c eb clean es bodies numbe
         sym (filter-append (λ (x : CallSite). is_same place x.definition) (sites_of s at c)
         (sites_from chosen (after chosen s c) (at + 1) rest))
 
-pub scans_first : (chosen : List ℕ) (all rest : List (Result Command What)) (ending : Ending) (t : Table) → rest ≡ all →
-    t.top ≡ [] → t.definitions.entries ≡ [] → Scans chosen all rest ending t at_first 1
+pub scans_first : (chosen : List ℕ) (all rest : List (Result Command What)) (ending : Ending) (t : Table)
+    → rest ≡ all → t.top ≡ [] → t.definitions.entries ≡ [] → Scans chosen all rest ending t at_first 1
 scans_first chosen all rest ending t er et ed = record {
   rule = rw (er, ed) refl;
   bodies = λ place. rw (er, empty t place et ed) refl;
@@ -137,15 +138,15 @@ pub record IsUnderWay (layer text : List ℕ) (commands : Commands) (table : Tab
   pub known : IsKnown table scope.definition
 
 -- one command more is taken
-pub way_on : (layer text : List ℕ) (commands : Commands) (t t' : Table) (s s' : Scope) (at : ℕ) (span : Span)
-    (others rest : List Span) (c : Command) → rest ≡ span ∷ others → length others + 1 ≡ length rest →
-    command_of (slice_range text span.start span.end) ≡ Ok c →
-    broken_rule s (breaks_twice (keys t.definitions) c) c ≡ None → s' ≡ after layer s c →
-    ((place : Option ℕ) → bodies_of t' place ≡ put_at s.definition (bodies_of t) (parts_of s c) place) →
-    keys t'.definitions ≡ with_start c (keys t.definitions) →
-    ((place : Option ℕ) → calls_at t' place ≡ put_at s.definition (calls_at t) (site_in place at c) place) →
-    IsScale s'.scale → IsKnown t' s'.definition → IsUnderWay layer text commands t s at rest →
-    IsUnderWay layer text commands t' s' (at + 1) others
+pub way_on : (layer text : List ℕ) (commands : Commands) (t t' : Table) (s s' : Scope) (at : ℕ) (span : Span) (others rest : List Span) (c : Command)
+    → rest ≡ span ∷ others → length others + 1 ≡ length rest
+    → command_of (slice_range text span.start span.end) ≡ Ok c
+    → broken_rule s (breaks_twice (keys t.definitions) c) c ≡ None → s' ≡ after layer s c
+    → ((place : Option ℕ) → bodies_of t' place ≡ put_at s.definition (bodies_of t) (parts_of s c) place)
+    → keys t'.definitions ≡ with_start c (keys t.definitions)
+    → ((place : Option ℕ) → calls_at t' place ≡ put_at s.definition (calls_at t) (site_in place at c) place)
+    → IsScale s'.scale → IsKnown t' s'.definition → IsUnderWay layer text commands t s at rest
+    → IsUnderWay layer text commands t' s' (at + 1) others
 way_on layer text commands t t' s s' at span others rest c split longer reads clean es bodies numbers calls scale known w =
     let next = read_next text span others rest c split reads in
     let within : AreWithin (length text) (span ∷ others) = subst (AreWithin (length text)) split w.within in
@@ -159,10 +160,10 @@ way_on layer text commands t t' s s' at span others rest c split longer reads cl
     }
 
 -- no command is left, and the end breaks no rule
-pub scanned : (chosen : List ℕ) (text : List ℕ) (all : List (Result Command What)) (rest : List Span) (ending : Ending)
-    (t : Table) (s : Scope) (at : ℕ) (broken : Option What) → length rest ≡ 0 →
-    ((n : ℕ) → fault_at_end s n ending ≡ or_later n broken None) → broken ≡ None →
-    Scans chosen all (read_commands text rest) ending t s at → IsScanned chosen all ending t
+pub scanned : (chosen : List ℕ) (text : List ℕ) (all : List (Result Command What)) (rest : List Span)
+    → (ending : Ending) (t : Table) (s : Scope) (at : ℕ) (broken : Option What) → length rest ≡ 0
+    → ((n : ℕ) → fault_at_end s n ending ≡ or_later n broken None) → broken ≡ None
+    → Scans chosen all (read_commands text rest) ending t s at → IsScanned chosen all ending t
 scanned chosen text all rest ending t s at broken e fe eb h =
     let none : rest ≡ [] = nil_from_length rest e in
     let h' : Scans chosen all [] ending t s at = subst (λ (ss : List Span). Scans chosen all (read_commands text ss) ending t s at) none h in

@@ -28,17 +28,16 @@ where_none : (e : ℕ) (b : Bool) (parts : List Part) → list_any (names e) par
 where_none e true parts h = h
 where_none e false parts h = refl
 
-none_in : (d e : ℕ) (s : Scope) (parts : List Part) → list_any (names e) parts ≡ false →
-    list_any (names e) (where_true (is_same (Some d) s.definition) parts) ≡ false
+none_in : (d e : ℕ) (s : Scope) (parts : List Part) → list_any (names e) parts ≡ false
+    → list_any (names e) (where_true (is_same (Some d) s.definition) parts) ≡ false
 none_in d e s parts h = where_none e (is_same (Some d) s.definition) parts h
 
 one_site : (t q : Bool) (e : ℕ) (parts : List Part) → list_any (names e) parts ≡ (q || false) → list_any (names e) (where_true t parts) ≡ ((t && q) || false)
 one_site true q e parts h = h
 one_site false q e parts h = refl
 
-command_calls : (d e : ℕ) (s : Scope) (at : ℕ) (c : Command) →
-    list_any (names e) (where_true (is_same (Some d) s.definition) (parts_of s c)) ≡ list_any (is_from d e)
-    (sites_of s at c)
+command_calls : (d e : ℕ) (s : Scope) (at : ℕ) (c : Command)
+    → list_any (names e) (where_true (is_same (Some d) s.definition) (parts_of s c)) ≡ list_any (is_from d e) (sites_of s at c)
 command_calls d e s at Idle = none_in d e s [] refl
 command_calls d e s at (Polygon path) = none_in d e s (parts_of s (Polygon path))
     (where_none e (is_chosen s.layer) (Drawn (figure.Polygon (map (scaled_corner s.scale) path)) ∷ []) refl)
@@ -56,9 +55,8 @@ command_calls d e s at (Delete n) = none_in d e s [] refl
 command_calls d e s at (Call n ts) = one_site (is_same (Some d) s.definition) (n == e) e (parts_of s (Call n ts)) refl
 
 -- definition d has a call of e exactly where one of the calls stands in d and names e
-pub calls_are_sites : (chosen : List ℕ) (d e : ℕ) (s : Scope) (at : ℕ) (commands : List (Result Command What)) →
-    list_any (names e) (parts_from chosen s commands (Some d)) ≡ list_any (is_from d e)
-    (sites_from chosen s at commands)
+pub calls_are_sites : (chosen : List ℕ) (d e : ℕ) (s : Scope) (at : ℕ) (commands : List (Result Command What))
+    → list_any (names e) (parts_from chosen s commands (Some d)) ≡ list_any (is_from d e) (sites_from chosen s at commands)
 calls_are_sites chosen d e s at [] = refl
 calls_are_sites chosen d e s at (Err w ∷ rest) = calls_are_sites chosen d e s (at + 1) rest
 calls_are_sites chosen d e s at (Ok c ∷ rest) =

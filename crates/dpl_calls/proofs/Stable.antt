@@ -24,9 +24,9 @@ use Rattle.dpl_calls.proofs.LoopPaths.{placed_key}
 use Rattle.dpl_calls.proofs.Edges.{body_placed, body_absent, next_is, edge_in, At, graph_size, is_graph}
 
 -- sums that agree on what is called agree
-pub sums_same : (own : Part → ℕ) (b : Bodies) (f h : List Part → ℕ) (parts : List Part) →
-    ((m : ℕ) → list_any (names m) parts ≡ true → f (b (Some m)) ≡ h (b (Some m))) →
-    sum_by (part_total own b f) parts ≡ sum_by (part_total own b h) parts
+pub sums_same : (own : Part → ℕ) (b : Bodies) (f h : List Part → ℕ) (parts : List Part)
+    → ((m : ℕ) → list_any (names m) parts ≡ true → f (b (Some m)) ≡ h (b (Some m)))
+    → sum_by (part_total own b f) parts ≡ sum_by (part_total own b h) parts
 sums_same own b f h [] same = refl
 sums_same own b f h (Drawn x ∷ ps) same =
     let rest : sum_by (part_total own b f) ps ≡ sum_by (part_total own b h) ps =
@@ -39,9 +39,9 @@ sums_same own b f h (Called n moves ∷ ps) same =
     omega (arith, sum_by-cons (part_total own b f) (Called n moves) ps, sum_by-cons (part_total own b h) (Called n moves) ps)
 
 -- what is kept is as good as what it stands for
-pub kept_same : (own : Part → ℕ) (b : Bodies) (kept : ℕ → ℕ) (f : List Part → ℕ) (parts : List Part) →
-    ((m : ℕ) → list_any (names m) parts ≡ true → shown (kept m) ≡ shown (f (b (Some m)))) →
-    shown (sum_by (kept_total own kept) parts) ≡ shown (sum_by (part_total own b f) parts)
+pub kept_same : (own : Part → ℕ) (b : Bodies) (kept : ℕ → ℕ) (f : List Part → ℕ) (parts : List Part)
+    → ((m : ℕ) → list_any (names m) parts ≡ true → shown (kept m) ≡ shown (f (b (Some m))))
+    → shown (sum_by (kept_total own kept) parts) ≡ shown (sum_by (part_total own b f) parts)
 kept_same own b kept f [] same = refl
 kept_same own b kept f (Drawn x ∷ ps) same =
     let rest : shown (sum_by (kept_total own kept) ps) ≡ shown (sum_by (part_total own b f) ps) =

@@ -41,15 +41,9 @@ composed_swapped o i c x y s ex ey = rw (
   signed_other o.negate_y i.negate_x (cond i.swap c.y c.x) i.x o.y,
 ) refl
 
-pub composed_plain : (o i : Placement) (c : Corner) (x y : ℤ) → o.swap ≡ false → x ≡ o.x +ℤ signed o.negate_x i.x →
-    y ≡ o.y +ℤ signed o.negate_y i.y → apply (record {
-      swap = i.swap;
-      negate_x = other o.negate_x i.negate_x;
-      negate_y =
-          other o.negate_y i.negate_y;
-      x = x;
-      y = y;
-    }) c ≡ apply o (apply i c)
+pub composed_plain : (o i : Placement) (c : Corner) (x y : ℤ) → o.swap ≡ false
+    → x ≡ o.x +ℤ signed o.negate_x i.x → y ≡ o.y +ℤ signed o.negate_y i.y
+    → apply (record { swap = i.swap; negate_x = other o.negate_x i.negate_x; negate_y = other o.negate_y i.negate_y; x = x; y = y }) c ≡ apply o (apply i c)
 composed_plain o i c x y s ex ey = rw (
   s,
   ex,

@@ -19,9 +19,9 @@ ahead a1 a2 b1 b2 h s t l x y w v = let p = w.to in let q = v.from in let r = w.
 pub behind : (a1 a2 b1 b2 : ℤ) → int_min a2 b2 ≤ℤ int_max a1 b1 → a1 <ℤ a2 → b1 <ℤ b2 → b1 <ℤ a1 → IsAhead b1 b2 a1 a2
 behind a1 a2 b1 b2 h s t l x y w v = let p = w.to in let q = v.from in let r = w.from in omega signed
 
-distance : (a1 a2 b1 b2 : ℤ) (n : ℕ) → int_min a2 b2 ≤ℤ int_max a1 b1 →
-    ((x y : ℤ) → IsWithin a1 a2 x → IsWithin b1 b2 y → n ≤ between x y) → IsBetween a1 a2 b1 b2 n →
-    IsDistance a1 a2 b1 b2 n
+distance : (a1 a2 b1 b2 : ℤ) (n : ℕ) → int_min a2 b2 ≤ℤ int_max a1 b1
+    → ((x y : ℤ) → IsWithin a1 a2 x → IsWithin b1 b2 y → n ≤ between x y) → IsBetween a1 a2 b1 b2 n
+    → IsDistance a1 a2 b1 b2 n
 distance a1 a2 b1 b2 n h l t = record { none = λ k w v. omega signed; least = l; attained = t }
 
 -- how far apart two rectangles are that have neither columns nor rows in common

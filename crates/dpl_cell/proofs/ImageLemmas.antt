@@ -76,9 +76,9 @@ within_at a b x y e w = let P : ℤ → Type 0 = λ z. IsWithin a b z in subst P
 
 -- ---- stretches
 
-common_image : (f g : ℤ → ℤ) (from to a1 a2 b1 b2 from' to' a1' a2' b1' b2' : ℤ) → Carries f g →
-    IsImage f g from to from' to' → IsImage f g a1 a2 a1' a2' → IsImage f g b1 b2 b1' b2' → from' <ℤ to' →
-    IsCommon from to a1 a2 b1 b2 → IsCommon from' to' a1' a2' b1' b2'
+common_image : (f g : ℤ → ℤ) (from to a1 a2 b1 b2 from' to' a1' a2' b1' b2' : ℤ) → Carries f g
+    → IsImage f g from to from' to' → IsImage f g a1 a2 a1' a2' → IsImage f g b1 b2 b1' b2' → from' <ℤ to'
+    → IsCommon from to a1 a2 b1 b2 → IsCommon from' to' a1' a2' b1' b2'
 common_image f g from to a1 a2 b1 b2 from' to' a1' a2' b1' b2' c r p q some t = record {
   some = some;
   each = λ k. (
@@ -89,20 +89,23 @@ common_image f g from to a1 a2 b1 b2 from' to' a1' a2' b1' b2' c r p q some t = 
   );
 }
 
-distance_image : (f g : ℤ → ℤ) (a1 a2 b1 b2 a1' a2' b1' b2' : ℤ) (n : ℕ) → Carries f g → IsImage f g a1 a2 a1' a2' →
-    IsImage f g b1 b2 b1' b2' → IsDistance a1 a2 b1 b2 n → IsDistance a1' a2' b1' b2' n
+distance_image : (f g : ℤ → ℤ) (a1 a2 b1 b2 a1' a2' b1' b2' : ℤ) (n : ℕ) → Carries f g
+    → IsImage f g a1 a2 a1' a2' → IsImage f g b1 b2 b1' b2' → IsDistance a1 a2 b1 b2 n
+    → IsDistance a1' a2' b1' b2' n
 distance_image f g a1 a2 b1 b2 a1' a2' b1' b2' n c p q d = record {
   none = λ k w v. d.none (g k) (p.from k w) (q.from k v);
   least = λ x y w v. let l : n ≤ between (g x) (g y) = d.least (g x) (g y) (p.from x w) (q.from y v) in rw (far_back f g c x y) at l;
   attained = let (x, y, w, v, e) = d.attained in (f x, f y, p.to x w, q.to y v, rw (c.far x y) e);
 }
 
-ahead_image : (f g : ℤ → ℤ) (a1 a2 b1 b2 a1' a2' b1' b2' : ℤ) → IsImage f g a1 a2 a1' a2' → IsImage f g b1 b2 b1' b2' →
-    ((x y : ℤ) → g x <ℤ g y → x <ℤ y) → IsAhead a1 a2 b1 b2 → IsAhead a1' a2' b1' b2'
+ahead_image : (f g : ℤ → ℤ) (a1 a2 b1 b2 a1' a2' b1' b2' : ℤ) → IsImage f g a1 a2 a1' a2'
+    → IsImage f g b1 b2 b1' b2' → ((x y : ℤ) → g x <ℤ g y → x <ℤ y) → IsAhead a1 a2 b1 b2
+    → IsAhead a1' a2' b1' b2'
 ahead_image f g a1 a2 b1 b2 a1' a2' b1' b2' p q rises t x y w v = rises x y (t (g x) (g y) (p.from x w) (q.from y v))
 
-ahead_turned : (f g : ℤ → ℤ) (a1 a2 b1 b2 a1' a2' b1' b2' : ℤ) → IsImage f g a1 a2 a1' a2' → IsImage f g b1 b2 b1' b2' →
-    ((x y : ℤ) → g y <ℤ g x → x <ℤ y) → IsAhead a1 a2 b1 b2 → IsAhead b1' b2' a1' a2'
+ahead_turned : (f g : ℤ → ℤ) (a1 a2 b1 b2 a1' a2' b1' b2' : ℤ) → IsImage f g a1 a2 a1' a2'
+    → IsImage f g b1 b2 b1' b2' → ((x y : ℤ) → g y <ℤ g x → x <ℤ y) → IsAhead a1 a2 b1 b2
+    → IsAhead b1' b2' a1' a2'
 ahead_turned f g a1 a2 b1 b2 a1' a2' b1' b2' p q falls t x y w v = falls x y (t (g y) (g x) (p.from y v) (q.from x w))
 
 shift_rises : (by x y : ℤ) → unshift by x <ℤ unshift by y → x <ℤ y
@@ -134,8 +137,9 @@ carried_back f g h k a a' p = record {
   rows = record { to = p.rows.from; from = p.rows.to };
 }
 
-pub gap_image : (f g h k : ℤ → ℤ) (a b a' b' : Corners) (n : ℕ) → Carries f g → Carries h k → AreCarried f g h k a a' →
-    AreCarried f g h k b b' → IsGap2 (IsIn a) (IsIn b) n → IsGap2 (IsIn a') (IsIn b') n
+pub gap_image : (f g h k : ℤ → ℤ) (a b a' b' : Corners) (n : ℕ) → Carries f g → Carries h k
+    → AreCarried f g h k a a' → AreCarried f g h k b b' → IsGap2 (IsIn a) (IsIn b) n
+    → IsGap2 (IsIn a') (IsIn b') n
 gap_image f g h k a b a' b' n c d p q t = record {
   least = λ x y x' y' w.
       let l : n ≤ cell_gap2 (g x) (k y) (g x') (k y') = t.least (g x) (k y) (g x') (k y') (record {
@@ -156,8 +160,9 @@ gap_image f g h k a b a' b' n c d p q t = record {
       );
 }
 
-pub close_image : (f g h k : ℤ → ℤ) (a b a' b' : Corners) (reach : ℕ) → Carries f g → Carries h k → AreCarried f g h k a a' →
-    AreCarried f g h k b b' → AreClose (IsIn a) (IsIn b) reach → AreClose (IsIn a') (IsIn b') reach
+pub close_image : (f g h k : ℤ → ℤ) (a b a' b' : Corners) (reach : ℕ) → Carries f g → Carries h k
+    → AreCarried f g h k a a' → AreCarried f g h k b b' → AreClose (IsIn a) (IsIn b) reach
+    → AreClose (IsIn a') (IsIn b') reach
 close_image f g h k a b a' b' reach c d p q t = record {
   x = f t.x;
   y = h t.y;
@@ -170,8 +175,8 @@ close_image f g h k a b a' b' reach c d p q t = record {
   near = rw (c.far t.x t.x', d.far t.y t.y') t.near;
 }
 
-pub edge_image : (f g h k : ℤ → ℤ) (a b a' b' : Corners) → Carries f g → Carries h k → AreCarried f g h k a a' →
-    AreCarried f g h k b b' → SharesEdge (IsIn a) (IsIn b) → SharesEdge (IsIn a') (IsIn b')
+pub edge_image : (f g h k : ℤ → ℤ) (a b a' b' : Corners) → Carries f g → Carries h k → AreCarried f g h k a a'
+    → AreCarried f g h k b b' → SharesEdge (IsIn a) (IsIn b) → SharesEdge (IsIn a') (IsIn b')
 edge_image f g h k a b a' b' c d p q t = record {
   x = f t.x;
   y = h t.y;
@@ -189,8 +194,8 @@ edge_image f g h k a b a' b' c d p q t = record {
 pub moves : (right up : ℤ) (r : Corners) → AreCarried (shift right) (unshift right) (shift up) (unshift up) r (moved right up r)
 moves right up r = record { columns = shifted right r.x1 r.x2; rows = shifted up r.y1 r.y2 }
 
-pub moved_level : (right up : ℤ) (a b : Corners) (port : ℕ) (from to : ℤ) → FacesLevel a b port from to →
-    FacesLevel (moved right up a) (moved right up b) port (from +ℤ right) (to +ℤ right)
+pub moved_level : (right up : ℤ) (a b : Corners) (port : ℕ) (from to : ℤ) → FacesLevel a b port from to
+    → FacesLevel (moved right up a) (moved right up b) port (from +ℤ right) (to +ℤ right)
 moved_level right up a b port from to f = record {
   columns = common_image (shift right) (unshift right) from to a.x1 a.x2 b.x1 b.x2 _ _ _ _ _ _ (shifts right) (shifted right from to)
       (shifted right a.x1 a.x2) (shifted right b.x1 b.x2) (let s = f.columns.some in omega signed) f.columns;
@@ -200,8 +205,8 @@ moved_level right up a b port from to f = record {
   ];
 }
 
-pub moved_upright : (right up : ℤ) (a b : Corners) (port : ℕ) (from to : ℤ) → FacesUpright a b port from to →
-    FacesUpright (moved right up a) (moved right up b) port (from +ℤ up) (to +ℤ up)
+pub moved_upright : (right up : ℤ) (a b : Corners) (port : ℕ) (from to : ℤ) → FacesUpright a b port from to
+    → FacesUpright (moved right up a) (moved right up b) port (from +ℤ up) (to +ℤ up)
 moved_upright right up a b port from to f = record {
   rows = common_image (shift up) (unshift up) from to a.y1 a.y2 b.y1 b.y2 _ _ _ _ _ _ (shifts up) (shifted up from to)
       (shifted up a.y1 a.y2) (shifted up b.y1 b.y2) (let s = f.rows.some in omega signed) f.rows;
@@ -223,8 +228,8 @@ corners_image port l r b a (inr (inl (e, s, t))) = inr (inl (e, r s, b t))
 corners_image port l r b a (inr (inr (inl (e, s, t)))) = inr (inr (inl (e, r s, a t)))
 corners_image port l r b a (inr (inr (inr (e, s, t)))) = inr (inr (inr (e, l s, a t)))
 
-pub moved_corner : (right up : ℤ) (a b : Corners) (port dx dy : ℕ) → IsOffCorner a b port dx dy →
-    IsOffCorner (moved right up a) (moved right up b) port dx dy
+pub moved_corner : (right up : ℤ) (a b : Corners) (port dx dy : ℕ) → IsOffCorner a b port dx dy
+    → IsOffCorner (moved right up a) (moved right up b) port dx dy
 moved_corner right up a b port dx dy f = record {
   columns = distance_image (shift right) (unshift right) a.x1 a.x2 b.x1 b.x2 _ _ _ _ dx (shifts right) (shifted right a.x1 a.x2)
       (shifted right b.x1 b.x2) f.columns;
@@ -248,16 +253,16 @@ mirrors r = record { columns = flipped r.x1 r.x2; rows = stayed r.y1 r.y2 }
 mirrored_left : (a b : Corners) → IsLeft a b → IsLeft (mirrored b) (mirrored a)
 mirrored_left a b h = ahead_turned flip flip a.x1 a.x2 b.x1 b.x2 _ _ _ _ (flipped a.x1 a.x2) (flipped b.x1 b.x2) flip_falls h
 
-pub mirrored_level : (a b : Corners) (port : ℕ) (from to : ℤ) → FacesLevel a b port from to →
-    FacesLevel (mirrored a) (mirrored b) (mirrored_port port) (neg_ℤ to) (neg_ℤ from)
+pub mirrored_level : (a b : Corners) (port : ℕ) (from to : ℤ) → FacesLevel a b port from to
+    → FacesLevel (mirrored a) (mirrored b) (mirrored_port port) (neg_ℤ to) (neg_ℤ from)
 mirrored_level a b port from to f = record {
   columns = common_image flip flip from to a.x1 a.x2 b.x1 b.x2 _ _ _ _ _ _ flips (flipped from to) (flipped a.x1 a.x2)
       (flipped b.x1 b.x2) (let s = f.columns.some in omega signed) f.columns;
   side = elim f.side [ inl s ↦ inl (rw s.0 refl, s.1) | inr s ↦ inr (rw s.0 refl, s.1) ];
 }
 
-pub mirrored_upright : (a b : Corners) (port : ℕ) (from to : ℤ) → FacesUpright a b port from to →
-    FacesUpright (mirrored a) (mirrored b) (mirrored_port port) from to
+pub mirrored_upright : (a b : Corners) (port : ℕ) (from to : ℤ) → FacesUpright a b port from to
+    → FacesUpright (mirrored a) (mirrored b) (mirrored_port port) from to
 mirrored_upright a b port from to f = record {
   rows = f.rows;
   side = elim f.side [
@@ -269,15 +274,14 @@ mirrored_upright a b port from to f = record {
 -- four corners, of which west and east are exchanged
 corners_turned : {L R B A L' R' : Type 0} (port : ℕ) → (L → L') → (R → R')
     → ((port ≡ 0) × L × B) ⊎ (((port ≡ 2) × R × B) ⊎ (((port ≡ 4) × R × A) ⊎ ((port ≡ 6) × L × A)))
-    → ((mirrored_port port ≡ 0) × R' × B) ⊎ (((mirrored_port port ≡ 2) × L' × B) ⊎
-    (((mirrored_port port ≡ 4) × L' × A) ⊎ ((mirrored_port port ≡ 6) × R' × A)))
+    → ((mirrored_port port ≡ 0) × R' × B) ⊎ (((mirrored_port port ≡ 2) × L' × B) ⊎ (((mirrored_port port ≡ 4) × L' × A) ⊎ ((mirrored_port port ≡ 6) × R' × A)))
 corners_turned port l r (inl (e, s, t)) = inr (inl (rw e refl, l s, t))
 corners_turned port l r (inr (inl (e, s, t))) = inl (rw e refl, r s, t)
 corners_turned port l r (inr (inr (inl (e, s, t)))) = inr (inr (inr (rw e refl, r s, t)))
 corners_turned port l r (inr (inr (inr (e, s, t)))) = inr (inr (inl (rw e refl, l s, t)))
 
-pub mirrored_corner : (a b : Corners) (port dx dy : ℕ) → IsOffCorner a b port dx dy →
-    IsOffCorner (mirrored a) (mirrored b) (mirrored_port port) dx dy
+pub mirrored_corner : (a b : Corners) (port dx dy : ℕ) → IsOffCorner a b port dx dy
+    → IsOffCorner (mirrored a) (mirrored b) (mirrored_port port) dx dy
 mirrored_corner a b port dx dy f = record {
   columns = distance_image flip flip a.x1 a.x2 b.x1 b.x2 _ _ _ _ dx flips (flipped a.x1 a.x2) (flipped b.x1 b.x2) f.columns;
   rows = f.rows;
@@ -334,22 +338,22 @@ transposed_edge a b t = record {
   neighbours = turned_sum (unsigned_abs (t.y -ℤ t.y')) (unsigned_abs (t.x -ℤ t.x')) ∙ t.neighbours;
 }
 
-pub transposed_level : (a b : Corners) (port : ℕ) (from to : ℤ) → FacesLevel a b port from to →
-    FacesUpright (transposed a) (transposed b) (transposed_port port) from to
+pub transposed_level : (a b : Corners) (port : ℕ) (from to : ℤ) → FacesLevel a b port from to
+    → FacesUpright (transposed a) (transposed b) (transposed_port port) from to
 transposed_level a b port from to f = record {
   rows = f.columns;
   side = elim f.side [ inl s ↦ inr (rw s.0 refl, s.1) | inr s ↦ inl (rw s.0 refl, s.1) ];
 }
 
-pub transposed_upright : (a b : Corners) (port : ℕ) (from to : ℤ) → FacesUpright a b port from to →
-    FacesLevel (transposed a) (transposed b) (transposed_port port) from to
+pub transposed_upright : (a b : Corners) (port : ℕ) (from to : ℤ) → FacesUpright a b port from to
+    → FacesLevel (transposed a) (transposed b) (transposed_port port) from to
 transposed_upright a b port from to f = record {
   columns = f.rows;
   side = elim f.side [ inl s ↦ inr (rw s.0 refl, s.1) | inr s ↦ inl (rw s.0 refl, s.1) ];
 }
 
-pub transposed_corner : (a b : Corners) (port dx dy : ℕ) → IsOffCorner a b port dx dy →
-    IsOffCorner (transposed a) (transposed b) (transposed_port port) dy dx
+pub transposed_corner : (a b : Corners) (port dx dy : ℕ) → IsOffCorner a b port dx dy
+    → IsOffCorner (transposed a) (transposed b) (transposed_port port) dy dx
 transposed_corner a b port dx dy f = record {
   columns = f.rows;
   rows = f.columns;
@@ -366,9 +370,10 @@ transposed_corner a b port dx dy f = record {
 -- ---- walks from cell to cell
 
 -- f and h take the cells of one set to those of another
-pub walk_image : (f g h k : ℤ → ℤ) (cells other : ℤ → ℤ → Bool) → Carries f g → Carries h k →
-    ((x y : ℤ) → IsTrue (cells x y) → IsTrue (other (f x) (h y))) → (x y : ℤ) (cs : List (ℤ × ℤ)) (x' y' : ℤ) →
-    IsWalk cells x y cs x' y' → IsWalk other (f x) (h y) (map (λ (c : ℤ × ℤ). (f c.0, h c.1)) cs) (f x') (h y')
+pub walk_image : (f g h k : ℤ → ℤ) (cells other : ℤ → ℤ → Bool) → Carries f g → Carries h k
+    → ((x y : ℤ) → IsTrue (cells x y) → IsTrue (other (f x) (h y)))
+    → (x y : ℤ) (cs : List (ℤ × ℤ)) (x' y' : ℤ) → IsWalk cells x y cs x' y'
+    → IsWalk other (f x) (h y) (map (λ (c : ℤ × ℤ). (f c.0, h c.1)) cs) (f x') (h y')
 walk_image f g h k cells other c d there x y [] x' y' (t, e, e') = (there x y t, ap f e, ap h e')
 walk_image f g h k cells other c d there x y (p ∷ cs) x' y' (t, n, w) = (
   there x y t,
@@ -377,9 +382,9 @@ walk_image f g h k cells other c d there x y (p ∷ cs) x' y' (t, n, w) = (
 )
 
 -- the images of cells of one shape are of one shape
-pub shape_image : (f g h k : ℤ → ℤ) (cells other : ℤ → ℤ → Bool) → Carries f g → Carries h k →
-    ((x y : ℤ) → IsTrue (cells x y) → IsTrue (other (f x) (h y))) → (x y x' y' : ℤ) → AreOneShape cells x y x' y' →
-    AreOneShape other (f x) (h y) (f x') (h y')
+pub shape_image : (f g h k : ℤ → ℤ) (cells other : ℤ → ℤ → Bool) → Carries f g → Carries h k
+    → ((x y : ℤ) → IsTrue (cells x y) → IsTrue (other (f x) (h y))) → (x y x' y' : ℤ)
+    → AreOneShape cells x y x' y' → AreOneShape other (f x) (h y) (f x') (h y')
 shape_image f g h k cells other c d there x y x' y' (cs, w) =
     (map (λ (p : ℤ × ℤ). (f p.0, h p.1)) cs, walk_image f g h k cells other c d there x y cs x' y' w)
 
@@ -390,17 +395,17 @@ same_cell cells x y x' y' e f t =
     let Q : ℤ → Type 0 = λ z. IsTrue (cells x' z) in
     subst Q f (subst P e t)
 
-pub moved_cell : (right up : ℤ) (cells : ℤ → ℤ → Bool) (x y : ℤ) → IsTrue (cells x y) →
-    IsTrue (moved_cells right up cells (x +ℤ right) (y +ℤ up))
+pub moved_cell : (right up : ℤ) (cells : ℤ → ℤ → Bool) (x y : ℤ) → IsTrue (cells x y)
+    → IsTrue (moved_cells right up cells (x +ℤ right) (y +ℤ up))
 moved_cell right up cells x y t = same_cell cells x y ((x +ℤ right) -ℤ right) ((y +ℤ up) -ℤ up) (omega signed) (omega signed) t
 
-pub moved_shape : (right up : ℤ) (cells : ℤ → ℤ → Bool) (x y x' y' : ℤ) → AreOneShape cells x y x' y' →
-    AreOneShape (moved_cells right up cells) (x +ℤ right) (y +ℤ up) (x' +ℤ right) (y' +ℤ up)
+pub moved_shape : (right up : ℤ) (cells : ℤ → ℤ → Bool) (x y x' y' : ℤ) → AreOneShape cells x y x' y'
+    → AreOneShape (moved_cells right up cells) (x +ℤ right) (y +ℤ up) (x' +ℤ right) (y' +ℤ up)
 moved_shape right up cells x y x' y' s = shape_image (shift right) (unshift right) (shift up) (unshift up) cells
     (moved_cells right up cells) (shifts right) (shifts up) (moved_cell right up cells) x y x' y' s
 
-pub mirrored_shape : (cells : ℤ → ℤ → Bool) (x y x' y' : ℤ) → AreOneShape cells x y x' y' →
-    AreOneShape (mirrored_cells cells) (flip x) y (flip x') y'
+pub mirrored_shape : (cells : ℤ → ℤ → Bool) (x y x' y' : ℤ) → AreOneShape cells x y x' y'
+    → AreOneShape (mirrored_cells cells) (flip x) y (flip x') y'
 mirrored_shape cells x y x' y' s = shape_image flip flip same same cells (mirrored_cells cells) flips stays
     (λ a b t. same_cell cells a b (flip (flip a)) b (omega signed) refl t) x y x' y' s
 
@@ -478,8 +483,8 @@ before_moved right up a b (inl h) = inl (omega signed)
 before_moved right up a b (inr (e, h)) = inr (ap (λ z. z +ℤ up) e, omega signed)
 
 -- cells that are moved have the same tiles, moved
-pub moved_tiles : (right up : ℤ) (cells : ℤ → ℤ → Bool) (tiles : List Corners) → AreTiles cells tiles →
-    AreTiles (moved_cells right up cells) (map (moved right up) tiles)
+pub moved_tiles : (right up : ℤ) (cells : ℤ → ℤ → Bool) (tiles : List Corners) → AreTiles cells tiles
+    → AreTiles (moved_cells right up cells) (map (moved right up) tiles)
 moved_tiles right up cells tiles s = record {
   each = All-map (IsTile (moved_cells right up cells)) (moved right up) tiles (λ k d l. tile_moved right up cells (get_or tiles k d) (s.each k d l));
   all = λ r t. contains_map (moved right up) tiles (moved_back right up r) r
@@ -525,8 +530,9 @@ tile_turned cells r t = record {
 }
 
 -- the mirror image of cells has the mirror images of their tiles
-pub mirrored_tiles : (cells : ℤ → ℤ → Bool) (tiles others : List Corners) → AreTiles cells tiles →
-    AreTiles (mirrored_cells cells) others → (r : Corners) → (Contains tiles r ↔ Contains others (mirrored r))
+pub mirrored_tiles : (cells : ℤ → ℤ → Bool) (tiles others : List Corners) → AreTiles cells tiles
+    → AreTiles (mirrored_cells cells) others → (r : Corners)
+    → (Contains tiles r ↔ Contains others (mirrored r))
 mirrored_tiles cells tiles others s t r = (
   (λ c. t.all (mirrored r) (tile_mirrored cells r (All-contains (IsTile cells) tiles r s.each c))),
   (λ c. s.all r (tile_turned cells r (All-contains (IsTile (mirrored_cells cells)) others (mirrored r) t.each c))),
@@ -535,8 +541,8 @@ mirrored_tiles cells tiles others s t r = (
 -- ---- layers of rectangles
 
 -- a cell of a layer of rectangles is, moved, a cell of the layer of the moved rectangles
-pub layer_moved : (right up : ℤ) (rects : List Corners) (x y : ℤ) → IsTrue (is_cell (map Box rects) x y) →
-    IsTrue (is_cell (map Box (map (moved right up) rects)) (x +ℤ right) (y +ℤ up))
+pub layer_moved : (right up : ℤ) (rects : List Corners) (x y : ℤ) → IsTrue (is_cell (map Box rects) x y)
+    → IsTrue (is_cell (map Box (map (moved right up) rects)) (x +ℤ right) (y +ℤ up))
 layer_moved right up rects x y t =
     let (k, r, l, e, i) = holder rects x y t in
     is_true (any_drawn (map (moved right up) rects) (x +ℤ right) (y +ℤ up) (
@@ -547,8 +553,9 @@ layer_moved right up rects x y t =
       carried_to (shift right) (unshift right) (shift up) (unshift up) r (moved right up r) (moves right up r) x y i,
     ))
 
-pub layer_back : (right up : ℤ) (rects : List Corners) (x y : ℤ) → IsTrue (is_cell (map Box (map (moved right up) rects)) x y) →
-    IsTrue (is_cell (map Box rects) (x -ℤ right) (y -ℤ up))
+pub layer_back : (right up : ℤ) (rects : List Corners) (x y : ℤ)
+    → IsTrue (is_cell (map Box (map (moved right up) rects)) x y)
+    → IsTrue (is_cell (map Box rects) (x -ℤ right) (y -ℤ up))
 layer_back right up rects x y t =
     let (k, r, l, e, i) = holder (map (moved right up) rects) x y t in
     let m : k < length rects = let n = length-map rects (moved right up) in omega arith in
@@ -560,14 +567,15 @@ layer_back right up rects x y t =
     (moves right up (get_or rects k s)) x y (subst P f i))
 
 -- cells of one shape of a layer of rectangles are of one shape where these are moved, and of no other
-pub layer_shape : (right up : ℤ) (rects : List Corners) (x y x' y' : ℤ) → AreOneShape (is_cell (map Box rects)) x y x' y' →
-    AreOneShape (is_cell (map Box (map (moved right up) rects))) (x +ℤ right) (y +ℤ up) (x' +ℤ right) (y' +ℤ up)
+pub layer_shape : (right up : ℤ) (rects : List Corners) (x y x' y' : ℤ)
+    → AreOneShape (is_cell (map Box rects)) x y x' y'
+    → AreOneShape (is_cell (map Box (map (moved right up) rects))) (x +ℤ right) (y +ℤ up) (x' +ℤ right) (y' +ℤ up)
 layer_shape right up rects x y x' y' s = shape_image (shift right) (unshift right) (shift up) (unshift up) (is_cell (map Box rects))
     (is_cell (map Box (map (moved right up) rects))) (shifts right) (shifts up) (layer_moved right up rects) x y x' y' s
 
-pub layer_shape_back : (right up : ℤ) (rects : List Corners) (x y x' y' : ℤ) →
-    AreOneShape (is_cell (map Box (map (moved right up) rects))) x y x' y' →
-    AreOneShape (is_cell (map Box rects)) (x -ℤ right) (y -ℤ up) (x' -ℤ right) (y' -ℤ up)
+pub layer_shape_back : (right up : ℤ) (rects : List Corners) (x y x' y' : ℤ)
+    → AreOneShape (is_cell (map Box (map (moved right up) rects))) x y x' y'
+    → AreOneShape (is_cell (map Box rects)) (x -ℤ right) (y -ℤ up) (x' -ℤ right) (y' -ℤ up)
 layer_shape_back right up rects x y x' y' s = shape_image (unshift right) (shift right) (unshift up) (shift up)
     (is_cell (map Box (map (moved right up) rects))) (is_cell (map Box rects)) (carries_back (shift right) (unshift right) (shifts right))
     (carries_back (shift up) (unshift up) (shifts up)) (layer_back right up rects) x y x' y' s

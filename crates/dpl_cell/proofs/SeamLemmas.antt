@@ -17,8 +17,8 @@ cell_in_both : (a b : Corners) → int_max a.x1 b.x1 <ℤ int_min a.x2 b.x2 → 
 cell_in_both a b columns rows = record { x = int_max a.x1 b.x1; y = int_max a.y1 b.y1; first = search signed; second = search signed }
 
 -- rectangles that meet at a column line, with a row in common, share an edge
-edge_upright : (a b : Corners) → HasCell a → HasCell b → int_max a.x1 b.x1 ≡ int_min a.x2 b.x2 →
-    int_max a.y1 b.y1 <ℤ int_min a.y2 b.y2 → SharesEdge (IsIn a) (IsIn b)
+edge_upright : (a b : Corners) → HasCell a → HasCell b → int_max a.x1 b.x1 ≡ int_min a.x2 b.x2
+    → int_max a.y1 b.y1 <ℤ int_min a.y2 b.y2 → SharesEdge (IsIn a) (IsIn b)
 edge_upright a b s t e rows =
     by_lt_z a.x1 b.x1
     (λ before. record {
@@ -40,8 +40,8 @@ edge_upright a b s t e rows =
       neighbours = omega signed;
     })
 
-edge_level : (a b : Corners) → HasCell a → HasCell b → int_max a.y1 b.y1 ≡ int_min a.y2 b.y2 →
-    int_max a.x1 b.x1 <ℤ int_min a.x2 b.x2 → SharesEdge (IsIn a) (IsIn b)
+edge_level : (a b : Corners) → HasCell a → HasCell b → int_max a.y1 b.y1 ≡ int_min a.y2 b.y2
+    → int_max a.x1 b.x1 <ℤ int_min a.x2 b.x2 → SharesEdge (IsIn a) (IsIn b)
 edge_level a b s t e columns =
     by_lt_z a.y1 b.y1
     (λ before. record {
@@ -70,8 +70,9 @@ pub record HasContact (left right low high : ℤ) : Type 0 where
   pub more : (left <ℤ right) ⊎ (low <ℤ high)
 
 -- rectangles whose columns and rows in common make a contact touch
-pub touch_by_contact : (a b : Corners) → HasCell a → HasCell b →
-    HasContact (int_max a.x1 b.x1) (int_min a.x2 b.x2) (int_max a.y1 b.y1) (int_min a.y2 b.y2) → Touch (IsIn a) (IsIn b)
+pub touch_by_contact : (a b : Corners) → HasCell a → HasCell b
+    → HasContact (int_max a.x1 b.x1) (int_min a.x2 b.x2) (int_max a.y1 b.y1) (int_min a.y2 b.y2)
+    → Touch (IsIn a) (IsIn b)
 touch_by_contact a b s t c =
     by_lt_z (int_max a.x1 b.x1) (int_min a.x2 b.x2)
     (λ columns. by_lt_z (int_max a.y1 b.y1) (int_min a.y2 b.y2)
@@ -107,9 +108,9 @@ apart_sides a b apart =
     (λ h. inl h)
 
 -- rectangles that meet at a column line, with rows in common, share edges along it
-pub upright_seam : (a b : Corners) (at low high : ℤ) → HasCell a → HasCell b → at ≡ int_max a.x1 b.x1 →
-    at ≡ int_min a.x2 b.x2 → low ≡ int_max a.y1 b.y1 → high ≡ int_min a.y2 b.y2 → low <ℤ high →
-    IsSeam a b (record { upright = true; at = at; from = low; to = high })
+pub upright_seam : (a b : Corners) (at low high : ℤ) → HasCell a → HasCell b → at ≡ int_max a.x1 b.x1
+    → at ≡ int_min a.x2 b.x2 → low ≡ int_max a.y1 b.y1 → high ≡ int_min a.y2 b.y2 → low <ℤ high
+    → IsSeam a b (record { upright = true; at = at; from = low; to = high })
 upright_seam a b at low high s t e1 e2 e3 e4 h = record {
   long = h;
   each = λ k w. by_lt_z a.x1 b.x1
@@ -119,9 +120,9 @@ upright_seam a b at low high s t e1 e2 e3 e4 h = record {
 }
 
 -- rectangles that meet at a row line, with columns in common, share edges along it
-pub level_seam : (a b : Corners) (at low high : ℤ) → HasCell a → HasCell b → at ≡ int_max a.y1 b.y1 →
-    at ≡ int_min a.y2 b.y2 → low ≡ int_max a.x1 b.x1 → high ≡ int_min a.x2 b.x2 → low <ℤ high →
-    IsSeam a b (record { upright = false; at = at; from = low; to = high })
+pub level_seam : (a b : Corners) (at low high : ℤ) → HasCell a → HasCell b → at ≡ int_max a.y1 b.y1
+    → at ≡ int_min a.y2 b.y2 → low ≡ int_max a.x1 b.x1 → high ≡ int_min a.x2 b.x2 → low <ℤ high
+    → IsSeam a b (record { upright = false; at = at; from = low; to = high })
 level_seam a b at low high s t e1 e2 e3 e4 h = record {
   long = h;
   each = λ k w. by_lt_z a.y1 b.y1
@@ -131,9 +132,10 @@ level_seam a b at low high s t e1 e2 e3 e4 h = record {
 }
 
 -- rectangles with no cell in common share no edge where they meet at no line with a row or a column in common
-pub no_edge : (a b : Corners) → AreApart a b → (int_max a.x1 b.x1 ≡ int_min a.x2 b.x2 →
-    int_max a.y1 b.y1 <ℤ int_min a.y2 b.y2 → ⊥) → (int_max a.y1 b.y1 ≡ int_min a.y2 b.y2 →
-    int_max a.x1 b.x1 <ℤ int_min a.x2 b.x2 → ⊥) → ¬ SharesEdge (IsIn a) (IsIn b)
+pub no_edge : (a b : Corners) → AreApart a b
+    → (int_max a.x1 b.x1 ≡ int_min a.x2 b.x2 → int_max a.y1 b.y1 <ℤ int_min a.y2 b.y2 → ⊥)
+    → (int_max a.y1 b.y1 ≡ int_min a.y2 b.y2 → int_max a.x1 b.x1 <ℤ int_min a.x2 b.x2 → ⊥)
+    → ¬ SharesEdge (IsIn a) (IsIn b)
 no_edge a b apart p q s =
     let f = s.cells.first in let g = s.cells.second in let n = s.neighbours in
     elim (apart_sides a b apart) [ inl h ↦ p (omega signed) (omega signed) | inr h ↦ q (omega signed) (omega signed) ]
@@ -165,8 +167,8 @@ test_by_contact left right low high c =
     ])
 
 -- the test answers whether two rectangles touch
-pub touch_test : (a b : Corners) (left right low high : ℤ) → HasCell a → HasCell b → left ≡ int_max a.x1 b.x1 →
-    right ≡ int_min a.x2 b.x2 → low ≡ int_max a.y1 b.y1 → high ≡ int_min a.y2 b.y2
+pub touch_test : (a b : Corners) (left right low high : ℤ) → HasCell a → HasCell b → left ≡ int_max a.x1 b.x1
+    → right ≡ int_min a.x2 b.x2 → low ≡ int_max a.y1 b.y1 → high ≡ int_min a.y2 b.y2
     → (is_contact left right low high ≡ true → Touch (IsIn a) (IsIn b)) × (Touch (IsIn a) (IsIn b) → is_contact left right low high ≡ true)
 touch_test a b left right low high s t e1 e2 e3 e4 = rw (e1, e2, e3, e4) (
   (λ h. touch_by_contact a b s t (contact_by_test _ _ _ _ h)),

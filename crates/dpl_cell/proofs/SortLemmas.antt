@@ -22,8 +22,9 @@ by_corner_total : IsTotalOrder by_corner
 unfolding by_corner
 by_corner_total = then_total (on_total (λ (r : Corners). r.y1) int_cmp_total) (on_total (λ (r : Corners). r.x1) int_cmp_total)
 
-in_order : (a b : Corners) (r s : Ordering) → MatchOrdering r (b.y1 <ℤ a.y1) (b.y1 ≡ a.y1) (a.y1 <ℤ b.y1) →
-    MatchOrdering s (b.x1 <ℤ a.x1) (b.x1 ≡ a.x1) (a.x1 <ℤ b.x1) → is_lt (ordering_then r s) ≡ false → IsNotAfter a b
+in_order : (a b : Corners) (r s : Ordering) → MatchOrdering r (b.y1 <ℤ a.y1) (b.y1 ≡ a.y1) (a.y1 <ℤ b.y1)
+    → MatchOrdering s (b.x1 <ℤ a.x1) (b.x1 ≡ a.x1) (a.x1 <ℤ b.x1) → is_lt (ordering_then r s) ≡ false
+    → IsNotAfter a b
 in_order a b Less s m n e = cc
 in_order a b Equal Less m n e = cc
 in_order a b Equal Equal m n e = inr (sym m, omega signed)
@@ -31,9 +32,9 @@ in_order a b Equal Greater m n e = inr (sym m, omega signed)
 in_order a b Greater s m n e = inl m
 
 -- in a sorted list no lower left corner stands before an earlier one
-pub not_after : {X : Type 0} (at : X → Corners) (xs : List X) →
-    IsSortedBy (λ p q. is_lt (ordering_then (int_cmp (at p).y1 (at q).y1) (int_cmp (at p).x1 (at q).x1))) xs →
-    AllPairs (λ p q. IsNotAfter (at p) (at q)) xs
+pub not_after : {X : Type 0} (at : X → Corners) (xs : List X)
+    → IsSortedBy (λ p q. is_lt (ordering_then (int_cmp (at p).y1 (at q).y1) (int_cmp (at p).x1 (at q).x1))) xs
+    → AllPairs (λ p q. IsNotAfter (at p) (at q)) xs
 unfolding by_corner
 not_after at xs s i j d h l =
     let a = at (get_or xs i d) in let b = at (get_or xs j d) in
@@ -66,9 +67,9 @@ before a b (inl h) n = inl h
 before a b (inr (e, h)) n = inr (e, by_lt_z a.x1 b.x1 (λ g. g) (λ g. absurd (n (equal_z a.x1 b.x1 h g, e))))
 
 -- each stands before the next once they are sorted
-pub before_sorted : {X : Type 0} (at : X → Corners) (xs sorted : List X) →
-    AllPairs (λ p q. ¬ BeginTogether (at p) (at q)) xs → IsPermutation xs sorted →
-    AllPairs (λ p q. IsNotAfter (at p) (at q)) sorted → AllPairs (λ p q. IsBefore (at p) (at q)) sorted
+pub before_sorted : {X : Type 0} (at : X → Corners) (xs sorted : List X)
+    → AllPairs (λ p q. ¬ BeginTogether (at p) (at q)) xs → IsPermutation xs sorted
+    → AllPairs (λ p q. IsNotAfter (at p) (at q)) sorted → AllPairs (λ p q. IsBefore (at p) (at q)) sorted
 before_sorted at xs sorted apart p up i j d h l =
     let same : IsDistinct (λ p q. begins_with (at p) (at q)) xs =
     IsDistinct-from_apart (λ p q. begins_with (at p) (at q)) xs (λ i j d h l. begins_test _ _ (apart i j d h l)) in

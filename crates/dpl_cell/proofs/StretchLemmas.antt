@@ -51,8 +51,8 @@ place : (ss : List Stretch) (p : ℤ) → is_in_stretches ss p ≡ true → Any 
 place ss p h = let (k, s, l, e, t) = Any-from_list_any (λ s. is_within s.from s.to p) ss h in (k, s, l, e, test_within _ _ p t)
 
 -- each of separate stretches that cover a property is a maximal stretch of it
-pub stretch_at : (has : ℤ → Type 0) (ss : List Stretch) → Covers has ss → (k : ℕ) (d : Stretch) → k < length ss →
-    IsMaximal has (get_or ss k d).from (get_or ss k d).to
+pub stretch_at : (has : ℤ → Type 0) (ss : List Stretch) → Covers has ss → (k : ℕ) (d : Stretch)
+    → k < length ss → IsMaximal has (get_or ss k d).from (get_or ss k d).to
 stretch_at has ss row k d l = record {
   long = (get_or ss k d).wide;
   full = λ x w. row.only x (list_any_at (λ s. is_within s.from s.to x) ss k d l (within_test _ _ x w));

@@ -11,8 +11,8 @@ or_assoc None b c = refl
 or_assoc (Some x) b c = refl
 
 -- lists of boxes in two parts, of which the first are as many, differ where one of the parts does
-pub boxes_miss-append : (place : ℕ) (xs ys vs ws : List Corners) → length xs ≡ length vs →
-    boxes_miss place (xs ++ ys) (vs ++ ws) ≡ or_else (boxes_miss place xs vs) (boxes_miss (place + length xs) ys ws)
+pub boxes_miss-append : (place : ℕ) (xs ys vs ws : List Corners) → length xs ≡ length vs
+    → boxes_miss place (xs ++ ys) (vs ++ ws) ≡ or_else (boxes_miss place xs vs) (boxes_miss (place + length xs) ys ws)
 boxes_miss-append place [] ys [] ws e = let k : place + 0 ≡ place = omega arith in rw k refl
 boxes_miss-append place [] ys (v ∷ vs) ws e = absurd (omega arith)
 boxes_miss-append place (x ∷ xs) ys [] ws e = absurd (omega arith)

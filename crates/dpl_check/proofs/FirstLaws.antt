@@ -22,12 +22,12 @@ edge_some x w m e = by_tests (nat_lt x w) (nat_lt w x) refl refl where
   by_tests false true f g = inr (ltb-true w x g, sym (some_is (miss w (pos 0) (pos 1)) m (rw (f, g) at e)))
   by_tests false false f g = let bad = rw (f, g) at e in absurd (cc)
 
-both_first : {X : Type 0} (edge : X → ℕ) (line_miss : X → X → Option Miss) → AreTold edge line_miss →
-    (x w : X) (xs ws : List X) (m : Miss) → (lists_miss edge line_miss xs ws ≡ Some m →
-    FirstDifference edge line_miss xs ws m)
-    → (a b : Option Miss) → edge_miss (edge x) (edge w) ≡ a → line_miss x w ≡ b →
-    or_else a (or_else b (lists_miss edge line_miss xs ws)) ≡ Some m →
-    FirstDifference edge line_miss (x ∷ xs) (w ∷ ws) m
+both_first : {X : Type 0} (edge : X → ℕ) (line_miss : X → X → Option Miss) → AreTold edge line_miss
+    → (x w : X) (xs ws : List X) (m : Miss)
+    → (lists_miss edge line_miss xs ws ≡ Some m → FirstDifference edge line_miss xs ws m)
+    → (a b : Option Miss) → edge_miss (edge x) (edge w) ≡ a → line_miss x w ≡ b
+    → or_else a (or_else b (lists_miss edge line_miss xs ws)) ≡ Some m
+    → FirstDifference edge line_miss (x ∷ xs) (w ∷ ws) m
 both_first edge line_miss t x w xs ws m k (Some n) b f g e =
     let n-is : n ≡ m = some_is n m e in
     let d = edge_some (edge x) (edge w) m (f ∙ e) in
@@ -61,8 +61,9 @@ both_first edge line_miss t x w xs ws m k None None f g e =
     }
 
 -- where lists of lines differ, what is told is the first difference
-pub lists_first : {X : Type 0} (edge : X → ℕ) (line_miss : X → X → Option Miss) → AreTold edge line_miss →
-    (xs ws : List X) (m : Miss) → lists_miss edge line_miss xs ws ≡ Some m → FirstDifference edge line_miss xs ws m
+pub lists_first : {X : Type 0} (edge : X → ℕ) (line_miss : X → X → Option Miss) → AreTold edge line_miss
+    → (xs ws : List X) (m : Miss) → lists_miss edge line_miss xs ws ≡ Some m
+    → FirstDifference edge line_miss xs ws m
 lists_first edge line_miss t [] [] m e = absurd (cc)
 lists_first edge line_miss t [] (w ∷ ws) m e = record {
   same = [];

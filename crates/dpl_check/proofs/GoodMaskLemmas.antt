@@ -17,8 +17,8 @@ use Rattle.dpl_check.specs.declared.verdicts.Verdict.TheVariants.{Yes}
 use Rattle.dpl_check.specs.Checked.{IsAcceptedOf, IsAcceptedOfCells, IsVerdictOf, IsVerdictOfCells}
 use Rattle.dpl_check.proofs.GoodLemmas.{good_bounds}
 
-accepted_of_cells : (o : PlainOptions) (report : List ℕ) (cost bound : ℕ) → AreOptions o → (cells kept : Cells) →
-    ((tiles : List Corners) → AreTiles cells tiles → SharesOut cells tiles)
+accepted_of_cells : (o : PlainOptions) (report : List ℕ) (cost bound : ℕ) → AreOptions o
+    → (cells kept : Cells) → ((tiles : List Corners) → AreTiles cells tiles → SharesOut cells tiles)
     → IsVerdictOfCells o report (Yes cost bound) cells kept → IsAcceptedOfCells o report bound cells kept
 accepted_of_cells o report cost bound ranges cells kept shared y =
     let g = y.verdict.good in

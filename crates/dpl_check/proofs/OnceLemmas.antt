@@ -37,8 +37,8 @@ same_verdict o f n text (No k p x y) (Yes cost bound) a b = good_only o f n text
 same_verdict o f n text (No k p x y) (No l q u z) a b =
     ap verdict_from (one_refusal o f n text (refusal_at k p x y) (refusal_at l q u z) a b)
 
-one_of_cells : (o : PlainOptions) (report : List ℕ) (v w : Verdict) (cells kept : Cells) →
-    IsVerdictOfCells o report v cells kept → IsVerdictOfCells o report w cells kept → v ≡ w
+one_of_cells : (o : PlainOptions) (report : List ℕ) (v w : Verdict) (cells kept : Cells)
+    → IsVerdictOfCells o report v cells kept → IsVerdictOfCells o report w cells kept → v ≡ w
 one_of_cells o report v w cells kept a b =
     let e = same_layer o cells kept b.fragments a.fragments b.net a.net b.layer.layer a.layer.layer in
     let p = subst (λ z. IsVerdict o z b.net report w) e.0 b.verdict in
@@ -58,22 +58,23 @@ verdict_free o text report v a =
     none_both (drawing_reasons o text) (cells_reasons o cells kept) a.0 (cells_free o cells kept a.1.fragments a.1.net a.1.layer)
 
 -- a layout that is refused has no verdict
-pub verdict_not_refused : (o : PlainOptions) (text report : List ℕ) (e : LayerError) (v : Verdict) →
-    FirstOf (layer_reasons o text) e → IsVerdictOf o text report v → ⊥
+pub verdict_not_refused : (o : PlainOptions) (text report : List ℕ) (e : LayerError) (v : Verdict)
+    → FirstOf (layer_reasons o text) e → IsVerdictOf o text report v → ⊥
 verdict_not_refused o text report e v r a = verdict_free o text report v a e r
 
 -- the verdict for the layer of a text is that on the text
-pub verdict_of_text : (o : PlainOptions) (text report : List ℕ) (f : Fragments) (n : Net) (v : Verdict) →
-    IsLayerOfText o text f n → IsVerdict o f n report v → IsVerdictOf o text report v
+pub verdict_of_text : (o : PlainOptions) (text report : List ℕ) (f : Fragments) (n : Net) (v : Verdict)
+    → IsLayerOfText o text f n → IsVerdict o f n report v → IsVerdictOf o text report v
 verdict_of_text o text report f n v l is = on_layer o text (λ cells kept. IsCutLayer o cells kept f n)
     (IsVerdictOfCells o report v) (λ cells kept k. record { fragments = f; net = n; layer = k.is; verdict = is }) l
 
 -- ---- what an answer says of each due one
 
 -- the answer is the verdict on the layout and the report, but for want of memory
-pub verdict_comes : (o : PlainOptions) (text report : List ℕ) (result : Result Verdict LayerError) →
-    IfOk result (λ v. IsVerdictOf o text report v) → IfErr result (λ e. (e ≡ NoMemory) ⊎ FirstOf (layer_reasons o text) e)
-    → (v : Verdict) → IsVerdictOf o text report v → (result ≡ Ok v) ⊎ (result ≡ Err NoMemory)
+pub verdict_comes : (o : PlainOptions) (text report : List ℕ) (result : Result Verdict LayerError)
+    → IfOk result (λ v. IsVerdictOf o text report v)
+    → IfErr result (λ e. (e ≡ NoMemory) ⊎ FirstOf (layer_reasons o text) e) → (v : Verdict)
+    → IsVerdictOf o text report v → (result ≡ Ok v) ⊎ (result ≡ Err NoMemory)
 verdict_comes o text report (Ok w) a b v d = inl (ap Ok (one_verdict o text report w v a d))
 verdict_comes o text report (Err f) a (inl n) v d = inr (ap Err n)
 verdict_comes o text report (Err f) a (inr q) v d = absurd (verdict_not_refused o text report f v q d)

@@ -38,8 +38,8 @@ place_fits c h =
     let y : unsigned_abs c.y ≤ 2 ^ 30 = omega (arith, h) in
     (in_range c.x x, in_range c.y y)
 
-pub place_low : (cs : List Corner) (i : ℕ) (d : Corner) (n : ℕ) → i < length cs → places_reach (map corner_place cs) ≤ n →
-    place_reach (corner_place (get_or cs i d)) ≤ n
+pub place_low : (cs : List Corner) (i : ℕ) (d : Corner) (n : ℕ) → i < length cs
+    → places_reach (map corner_place cs) ≤ n → place_reach (corner_place (get_or cs i d)) ≤ n
 place_low [] i d n l h = absurd (omega arith)
 place_low (c ∷ cs) zero d n l h = omega (arith, h)
 place_low (c ∷ cs) (suc i) d n l h = place_low cs i d n (omega arith) (omega (arith, h))

@@ -47,9 +47,9 @@ abbrev pub is_drawn : Part → Bool
 is_drawn (Drawn f) = true
 is_drawn (Called n moves) = false
 
-own_figures : (bodies : Bodies) (inner : (Corner → Corner) → List Part → List Figure) (ps : List Part) →
-    list_all is_drawn ps ≡ true → All IsPartKept ps → map drawn
-    (flat_map (part_figures bodies inner unmoved) ps) ≡ own_outlines ps
+own_figures : (bodies : Bodies) (inner : (Corner → Corner) → List Part → List Figure) (ps : List Part)
+    → list_all is_drawn ps ≡ true → All IsPartKept ps
+    → map drawn (flat_map (part_figures bodies inner unmoved) ps) ≡ own_outlines ps
 own_figures bodies inner [] d k = refl
 own_figures bodies inner (Drawn f ∷ ps) d k =
     rw (stays f (k 0 (Drawn f) (omega arith)).1) (ap (λ (os : List Outline). drawn f ∷ os) (own_figures bodies inner ps d (λ i x h. k (suc i) x (omega arith))))
@@ -64,8 +64,8 @@ where_outside : (o : Option ℕ) (ps : List Part) → own_outlines (where_true (
 where_outside None ps = refl
 where_outside (Some n) ps = refl
 
-in_order : (layer : List ℕ) (s : Scope) (commands : List (Result Command What)) →
-    own_outlines (parts_from layer s commands None) ≡ drawn_in_order layer s commands
+in_order : (layer : List ℕ) (s : Scope) (commands : List (Result Command What))
+    → own_outlines (parts_from layer s commands None) ≡ drawn_in_order layer s commands
 in_order layer s [] = refl
 in_order layer s (Err w ∷ rest) = in_order layer s rest
 in_order layer s (Ok c ∷ rest) = rw (
@@ -103,8 +103,8 @@ command_drawn s Finish h = refl
 command_drawn s (Delete n) h = refl
 command_drawn s (Call n ts) h = cc
 
-commands_drawn : (layer : List ℕ) (s : Scope) (commands : List (Result Command What)) →
-    list_all is_no_call commands ≡ true → list_all is_drawn (parts_from layer s commands None) ≡ true
+commands_drawn : (layer : List ℕ) (s : Scope) (commands : List (Result Command What))
+    → list_all is_no_call commands ≡ true → list_all is_drawn (parts_from layer s commands None) ≡ true
 commands_drawn layer s [] h = refl
 commands_drawn layer s (Err w ∷ rest) h = commands_drawn layer s rest h
 commands_drawn layer s (Ok c ∷ rest) h =

@@ -2,8 +2,8 @@
 use Rattle.std.proofs.Common.{◌≡◌, ℕ, List, Contains, refl, sym, subst, inl, inr, ◌⊎◌, ◌∷◌, [], ◌++◌}
 use Rattle.dpl_classes.specs.Chains.{IsChain, AreLinked}
 
-chain_append : (pairs : List (ℕ × ℕ)) (i : ℕ) (js : List ℕ) (j : ℕ) (ks : List ℕ) (k : ℕ) → IsChain pairs i js j →
-    IsChain pairs j ks k → IsChain pairs i (js ++ ks) k
+chain_append : (pairs : List (ℕ × ℕ)) (i : ℕ) (js : List ℕ) (j : ℕ) (ks : List ℕ) (k : ℕ)
+    → IsChain pairs i js j → IsChain pairs j ks k → IsChain pairs i (js ++ ks) k
 chain_append pairs i [] j ks k e t = let P : ℕ → Type 0 = λ n. IsChain pairs n ks k in subst P (sym e) t
 chain_append pairs i (m ∷ js) j ks k (h, s) t = (h, chain_append pairs m js j ks k s t)
 

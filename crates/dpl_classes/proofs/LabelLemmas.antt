@@ -43,9 +43,9 @@ numbered_push label x n h l = record {
 push_before : (label : List ℕ) (x k : ℕ) → k < length label → get_or (label ++ x ∷ []) k 0 ≡ get_or label k 0
 push_before label x k l = get_or_append_left label (x ∷ []) 0 k l
 
-pub numbered_new : (roots : List ℕ) (i : ℕ) (label new : List ℕ) (n : ℕ) →
-    ((k : ℕ) → k < length roots → get_or roots k 0 ≤ k) → i < length roots → get_or roots i 0 ≡ i → new ≡ label ++ n ∷
-    [] → Numbered roots i label n → Numbered roots (i + 1) new (n + 1)
+pub numbered_new : (roots : List ℕ) (i : ℕ) (label new : List ℕ) (n : ℕ)
+    → ((k : ℕ) → k < length roots → get_or roots k 0 ≤ k) → i < length roots → get_or roots i 0 ≡ i
+    → new ≡ label ++ n ∷ [] → Numbered roots i label n → Numbered roots (i + 1) new (n + 1)
 numbered_new roots i label new n low within own e s = rw e (record {
   long = rw length_push (let l = s.long in omega arith);
   few = let f = s.few in omega arith;
@@ -72,11 +72,11 @@ numbered_new roots i label new n low within own e s = rw e (record {
       subst P m (numbered_push label n n s.numbered (omega arith));
 })
 
-pub numbered_old : (roots : List ℕ) (i : ℕ) (label new : List ℕ) (n x : ℕ) →
-    ((k : ℕ) → k < length roots → get_or roots k 0 ≤ k) →
-    ((k : ℕ) → k < length roots → get_or roots (get_or roots k 0) 0 ≡ get_or roots k 0) → i < length roots →
-    get_or roots i 0 ≢ i → x ≡ get_or label (get_or roots i 0) x → new ≡ label ++ x ∷ [] → Numbered roots i label n →
-    Numbered roots (i + 1) new n
+pub numbered_old : (roots : List ℕ) (i : ℕ) (label new : List ℕ) (n x : ℕ)
+    → ((k : ℕ) → k < length roots → get_or roots k 0 ≤ k)
+    → ((k : ℕ) → k < length roots → get_or roots (get_or roots k 0) 0 ≡ get_or roots k 0) → i < length roots
+    → get_or roots i 0 ≢ i → x ≡ get_or label (get_or roots i 0) x → new ≡ label ++ x ∷ []
+    → Numbered roots i label n → Numbered roots (i + 1) new n
 numbered_old roots i label new n x low fixed within own read e s =
     let lo = low i within in let long = s.long in
     let under : get_or roots i 0 < i = omega (arith, own) in
@@ -103,10 +103,10 @@ numbered_old roots i label new n x low fixed within own read e s =
           subst P m (numbered_push label x n s.numbered (omega arith));
     })
 
-pub numbered_all : (roots : List ℕ) (i : ℕ) (label : List ℕ) (n : ℕ) → i ≡ length roots →
-    ((k : ℕ) → k < length roots → get_or roots k 0 ≤ k) →
-    ((k : ℕ) → k < length roots → get_or roots (get_or roots k 0) 0 ≡ get_or roots k 0) → Numbered roots i label n →
-    AreNumbers roots label n
+pub numbered_all : (roots : List ℕ) (i : ℕ) (label : List ℕ) (n : ℕ) → i ≡ length roots
+    → ((k : ℕ) → k < length roots → get_or roots k 0 ≤ k)
+    → ((k : ℕ) → k < length roots → get_or roots (get_or roots k 0) 0 ≡ get_or roots k 0)
+    → Numbered roots i label n → AreNumbers roots label n
 numbered_all roots i label n whole low fixed s = record {
   long = s.long ∙ whole;
   same = λ k l p q. (
@@ -117,8 +117,8 @@ numbered_all roots i label n whole low fixed s = record {
   numbered = s.numbered;
 }
 
-pub classes_are : (pairs : List (ℕ × ℕ)) (n : ℕ) (roots label : List ℕ) (count' : ℕ) → AreRoots pairs n roots →
-    AreNumbers roots label count' → AreClasses pairs n label count'
+pub classes_are : (pairs : List (ℕ × ℕ)) (n : ℕ) (roots label : List ℕ) (count' : ℕ) → AreRoots pairs n roots
+    → AreNumbers roots label count' → AreClasses pairs n label count'
 classes_are pairs n roots label count' r s = record {
   long = s.long ∙ r.long;
   same = λ i j l m.

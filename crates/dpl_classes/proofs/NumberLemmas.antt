@@ -63,8 +63,9 @@ takes_same a b i n l f =
     let q : length (take i b) ≡ i = length-take-le i b (omega arith) in
     ext_get_or 0 (take i a) (take i b) (p ∙ sym q) (λ k m. let c : k < i = omega arith in get_or-take i a k 0 c ∙ f k c ∙ sym (get_or-take i b k 0 c))
 
-pub number_same : (a b : List ℕ) (m n i : ℕ) → length a ≡ length b → i < length a → AreTied a b → IsNumbered a m →
-    IsNumbered b n → ((k : ℕ) → k < i → get_or a k 0 ≡ get_or b k 0) → get_or a i 0 ≡ get_or b i 0
+pub number_same : (a b : List ℕ) (m n i : ℕ) → length a ≡ length b → i < length a → AreTied a b
+    → IsNumbered a m → IsNumbered b n → ((k : ℕ) → k < i → get_or a k 0 ≡ get_or b k 0)
+    → get_or a i 0 ≡ get_or b i 0
 number_same a b m n i long l tied g h f =
     let e : next_label (take i a) ≡ next_label (take i b) = ap next_label (takes_same a b i long (omega arith) f) in
     let u = g.grows i l in
@@ -84,8 +85,8 @@ number_same a b m n i long l tied g h f =
       ]
     ]
 
-pub numbers_before : (a b : List ℕ) (m n : ℕ) → length a ≡ length b → AreTied a b → IsNumbered a m → IsNumbered b n →
-    (i : ℕ) → i ≤ length a → (k : ℕ) → k < i → get_or a k 0 ≡ get_or b k 0
+pub numbers_before : (a b : List ℕ) (m n : ℕ) → length a ≡ length b → AreTied a b → IsNumbered a m
+    → IsNumbered b n → (i : ℕ) → i ≤ length a → (k : ℕ) → k < i → get_or a k 0 ≡ get_or b k 0
 numbers_before a b m n long tied g h zero l k c = absurd (omega arith)
 numbers_before a b m n long tied g h (suc i) l k c =
     let f = numbers_before a b m n long tied g h i (omega arith) in

@@ -49,17 +49,19 @@ move_cases pairs roots new p q from to k m l f g = elim (cases_eq (get_or roots 
   | inr h ↦ g h (m.each k l ∙ moved_no from to _ h)
 ]
 
-move_same : (pairs : List (ℕ × ℕ)) (roots new : List ℕ) (p q from to i j : ℕ) → IsMove pairs roots new p q from to →
-    i < length roots → j < length roots → get_or roots i 0 ≡ get_or roots j 0 → get_or new i 0 ≡ get_or new j 0
+move_same : (pairs : List (ℕ × ℕ)) (roots new : List ℕ) (p q from to i j : ℕ)
+    → IsMove pairs roots new p q from to → i < length roots → j < length roots
+    → get_or roots i 0 ≡ get_or roots j 0 → get_or new i 0 ≡ get_or new j 0
 move_same pairs roots new p q from to i j m l l' e = m.each i l ∙ ap (λ r. cond (r == from) to r) e ∙ sym (m.each j l')
 
 -- an end's new root
-move_end : (pairs : List (ℕ × ℕ)) (roots new : List ℕ) (p q from to k : ℕ) → IsMove pairs roots new p q from to →
-    k < length roots → (get_or roots k 0 ≡ from) ⊎ (get_or roots k 0 ≡ to) → get_or new k 0 ≡ to
+move_end : (pairs : List (ℕ × ℕ)) (roots new : List ℕ) (p q from to k : ℕ)
+    → IsMove pairs roots new p q from to → k < length roots
+    → (get_or roots k 0 ≡ from) ⊎ (get_or roots k 0 ≡ to) → get_or new k 0 ≡ to
 move_end pairs roots new p q from to k m l h = move_cases pairs roots new p q from to k m l (λ e f. f) (λ n f. elim h [ inl e ↦ absurd (n e) | inr e ↦ f ∙ e ])
 
-move_bridge : (pairs : List (ℕ × ℕ)) (n t : ℕ) (roots new : List ℕ) (p q from to : ℕ) → Rooted pairs n t roots →
-    IsMove pairs roots new p q from to → AreLinked pairs from to
+move_bridge : (pairs : List (ℕ × ℕ)) (n t : ℕ) (roots new : List ℕ) (p q from to : ℕ) → Rooted pairs n t roots
+    → IsMove pairs roots new p q from to → AreLinked pairs from to
 move_bridge pairs n t roots new p q from to r m =
     let a = r.linked p (rw (← r.long) m.first) in
     let b = r.linked q (rw (← r.long) m.second) in
@@ -69,22 +71,23 @@ move_bridge pairs n t roots new p q from to r m =
       | inr e ↦ link_on pairs from q to (link_back pairs q from (rw e.1 at b)) (link_on pairs q p to (link_back pairs p q c) (rw e.0 at a))
     ]
 
-to_fixed : (pairs : List (ℕ × ℕ)) (n t : ℕ) (roots new : List ℕ) (p q from to : ℕ) → Rooted pairs n t roots →
-    IsMove pairs roots new p q from to → get_or roots to 0 ≡ to
+to_fixed : (pairs : List (ℕ × ℕ)) (n t : ℕ) (roots new : List ℕ) (p q from to : ℕ) → Rooted pairs n t roots
+    → IsMove pairs roots new p q from to → get_or roots to 0 ≡ to
 to_fixed pairs n t roots new p q from to r m = elim m.ends [
   | inl e ↦ rw e.1 at (r.fixed q (rw (← r.long) m.second))
   | inr e ↦ rw e.0 at (r.fixed p (rw (← r.long) m.first))
 ]
 
-to_within : (pairs : List (ℕ × ℕ)) (n t : ℕ) (roots new : List ℕ) (p q from to : ℕ) → Rooted pairs n t roots →
-    IsMove pairs roots new p q from to → to < length roots
+to_within : (pairs : List (ℕ × ℕ)) (n t : ℕ) (roots new : List ℕ) (p q from to : ℕ) → Rooted pairs n t roots
+    → IsMove pairs roots new p q from to → to < length roots
 to_within pairs n t roots new p q from to r m = elim m.ends [
   | inl e ↦ let l = r.low q (rw (← r.long) m.second) in let s = m.second in omega arith
   | inr e ↦ let l = r.low p (rw (← r.long) m.first) in let s = m.first in omega arith
 ]
 
-move_fixed : (pairs : List (ℕ × ℕ)) (n t : ℕ) (roots new : List ℕ) (p q from to i : ℕ) → Rooted pairs n t roots →
-    IsMove pairs roots new p q from to → i < n → get_or new (get_or new i 0) 0 ≡ get_or new i 0
+move_fixed : (pairs : List (ℕ × ℕ)) (n t : ℕ) (roots new : List ℕ) (p q from to i : ℕ)
+    → Rooted pairs n t roots → IsMove pairs roots new p q from to → i < n
+    → get_or new (get_or new i 0) 0 ≡ get_or new i 0
 move_fixed pairs n t roots new p q from to i r m l =
     let l' : i < length roots = rw r.long l in
     move_cases pairs roots new p q from to i m l'
@@ -96,9 +99,9 @@ move_fixed pairs n t roots new p q from to i r m l =
     (λ e k. absurd (n' (sym own ∙ e)))
     (λ e k. ap (λ j. get_or new j 0) f ∙ k ∙ own ∙ sym f))
 
-pub rooted_more : (pairs : List (ℕ × ℕ)) (n t : ℕ) (roots new : List ℕ) (p : ℕ × ℕ) (from to : ℕ) →
-    All (λ p. (p.0 < n) × (p.1 < n)) pairs → t < length pairs → p ≡ get_or pairs t p → Rooted pairs n t roots →
-    IsMove pairs roots new p.0 p.1 from to → Rooted pairs n (t + 1) new
+pub rooted_more : (pairs : List (ℕ × ℕ)) (n t : ℕ) (roots new : List ℕ) (p : ℕ × ℕ) (from to : ℕ)
+    → All (λ p. (p.0 < n) × (p.1 < n)) pairs → t < length pairs → p ≡ get_or pairs t p
+    → Rooted pairs n t roots → IsMove pairs roots new p.0 p.1 from to → Rooted pairs n (t + 1) new
 rooted_more pairs n t roots new p from to inside within is r m = record {
   long = m.long ∙ r.long;
   low = λ i l. let g = r.low i l in let f = m.falls in move_cases pairs roots new p.0 p.1 from to i m (rw r.long l) (λ e h. omega arith) (λ e h. omega arith);
@@ -116,12 +119,12 @@ rooted_more pairs n t roots new p from to inside within is r m = record {
   ];
 }
 
-done_pair : (pairs : List (ℕ × ℕ)) (n t : ℕ) (roots : List ℕ) (i j : ℕ) → length pairs ≤ t → Rooted pairs n t roots →
-    Contains pairs (i, j) → get_or roots i 0 ≡ get_or roots j 0
+done_pair : (pairs : List (ℕ × ℕ)) (n t : ℕ) (roots : List ℕ) (i j : ℕ) → length pairs ≤ t
+    → Rooted pairs n t roots → Contains pairs (i, j) → get_or roots i 0 ≡ get_or roots j 0
 done_pair pairs n t roots i j whole r (k, l, e) = let d : ℕ × ℕ = (i, j) in let h = r.done k d (omega arith) l in rw e at h
 
-along : (pairs : List (ℕ × ℕ)) (n t : ℕ) (roots : List ℕ) → length pairs ≤ t → Rooted pairs n t roots →
-    (i : ℕ) (js : List ℕ) (k : ℕ) → IsChain pairs i js k → get_or roots i 0 ≡ get_or roots k 0
+along : (pairs : List (ℕ × ℕ)) (n t : ℕ) (roots : List ℕ) → length pairs ≤ t → Rooted pairs n t roots
+    → (i : ℕ) (js : List ℕ) (k : ℕ) → IsChain pairs i js k → get_or roots i 0 ≡ get_or roots k 0
 along pairs n t roots whole r i [] k e = ap (λ m. get_or roots m 0) e
 along pairs n t roots whole r i (m ∷ js) k (h, s) =
     elim h [ inl c ↦ done_pair pairs n t roots i m whole r c | inr c ↦ sym (done_pair pairs n t roots m i whole r c) ] ∙ along pairs n t roots whole r m js k s
@@ -138,11 +141,12 @@ rooted_all pairs n t roots whole r = record {
 }
 
 -- the move at a pair, from what the code computes
-pub move_at : (pairs : List (ℕ × ℕ)) (n t : ℕ) (roots new : List ℕ) (p : ℕ × ℕ) (from to : ℕ) →
-    All (λ p. (p.0 < n) × (p.1 < n)) pairs → t < length pairs → p ≡ get_or pairs t p → length roots ≡ n →
-    length new ≡ length roots
-    → from ≡ max (get_or roots p.0 0) (get_or roots p.1 0) → to ≡ min (get_or roots p.0 0) (get_or roots p.1 0)
-    → ((k : ℕ) → k < length roots → get_or new k 0 ≡ cond (get_or roots k 0 == from) to (get_or roots k 0)) → IsMove pairs roots new p.0 p.1 from to
+pub move_at : (pairs : List (ℕ × ℕ)) (n t : ℕ) (roots new : List ℕ) (p : ℕ × ℕ) (from to : ℕ)
+    → All (λ p. (p.0 < n) × (p.1 < n)) pairs → t < length pairs → p ≡ get_or pairs t p → length roots ≡ n
+    → length new ≡ length roots → from ≡ max (get_or roots p.0 0) (get_or roots p.1 0)
+    → to ≡ min (get_or roots p.0 0) (get_or roots p.1 0)
+    → ((k : ℕ) → k < length roots → get_or new k 0 ≡ cond (get_or roots k 0 == from) to (get_or roots k 0))
+    → IsMove pairs roots new p.0 p.1 from to
 move_at pairs n t roots new p from to inside within is long long' e f each =
     let P : ℕ × ℕ → Type 0 = λ q. (q.0 < n) × (q.1 < n) in
     let w : P p = subst P (sym is) (inside t p within) in record {

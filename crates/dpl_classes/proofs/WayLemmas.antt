@@ -45,8 +45,8 @@ tops_short ups tops at next within e t = record {
   shorter i l = let g = length-set ups at next in omega arith
 
 -- the end of the way from the place `at` is that of the way from `of`
-pub top_step : (ups tops : List ℕ) (at next of : ℕ) → at < length ups → next ≡ get_or ups (get_or ups at 0) 0 →
-    AreTops ups tops → get_or tops at 0 ≡ get_or tops of 0 → get_or tops next 0 ≡ get_or tops of 0
+pub top_step : (ups tops : List ℕ) (at next of : ℕ) → at < length ups → next ≡ get_or ups (get_or ups at 0) 0
+    → AreTops ups tops → get_or tops at 0 ≡ get_or tops of 0 → get_or tops next 0 ≡ get_or tops of 0
 top_step ups tops at next of within e t h = let a = t.falls at within in rw e (t.same (get_or ups at 0) (omega arith) ∙ t.same at within ∙ h)
 
 -- ---- one end is led to another
@@ -60,8 +60,8 @@ led_at from to tops k l = get_or-map (λ r. cond (r == from) to r) tops k 0 0 l
 led_end : (from to : ℕ) → cond (to == from) to to ≡ to
 led_end from to = elim (cases_eq to from) [ inl e ↦ moved_yes from to to e | inr n ↦ moved_no from to to n ]
 
-pub tops_led : (ups tops : List ℕ) (from to : ℕ) → from < length ups → to ≤ from → get_or ups from 0 ≡ from →
-    get_or ups to 0 ≡ to → AreTops ups tops → AreTops (set ups from to) (led from to tops)
+pub tops_led : (ups tops : List ℕ) (from to : ℕ) → from < length ups → to ≤ from → get_or ups from 0 ≡ from
+    → get_or ups to 0 ≡ to → AreTops ups tops → AreTops (set ups from to) (led from to tops)
 tops_led ups tops from to within falls e f t = record {
   long = length-map tops (λ r. cond (r == from) to r) ∙ t.long ∙ sym (length-set ups from to);
   falls = λ i l. elim (cases_eq i from) [
@@ -99,9 +99,9 @@ pub record UnitedSoFar (pairs : List (ℕ × ℕ)) (n t : ℕ) (ups : List ℕ) 
 pub united_none : (pairs : List (ℕ × ℕ)) (ups : List ℕ) → ((k : ℕ) → k < length ups → get_or ups k 0 ≡ k) → UnitedSoFar pairs (length ups) 0 ups
 united_none pairs ups h = record { tops = ups; are = tops_none ups h; rooted = rooted_none pairs ups h }
 
-pub united_more : (pairs : List (ℕ × ℕ)) (n t : ℕ) (ups short : List ℕ) (p : ℕ × ℕ) (a b from to : ℕ) →
-    All (λ p. (p.0 < n) × (p.1 < n)) pairs → t < length pairs → p ≡ get_or pairs t p
-    → from ≡ max a b → to ≡ min a b → a < length short → b < length short → get_or short a 0 ≡ a → get_or short b 0 ≡ b
+pub united_more : (pairs : List (ℕ × ℕ)) (n t : ℕ) (ups short : List ℕ) (p : ℕ × ℕ) (a b from to : ℕ)
+    → All (λ p. (p.0 < n) × (p.1 < n)) pairs → t < length pairs → p ≡ get_or pairs t p → from ≡ max a b
+    → to ≡ min a b → a < length short → b < length short → get_or short a 0 ≡ a → get_or short b 0 ≡ b
     → ((tops : List ℕ) → AreTops ups tops → AreTops short tops × (a ≡ get_or tops p.0 0) × (b ≡ get_or tops p.1 0))
     → UnitedSoFar pairs n t ups → UnitedSoFar pairs n (t + 1) (set short from to)
 united_more pairs n t ups short p a b from to inside within is e f la lb ea eb h u =
@@ -137,8 +137,8 @@ pub record FlatSoFar (i : ℕ) (ups tops : List ℕ) : Type 0 where
 pub flat_none : (ups tops : List ℕ) → AreTops ups tops → FlatSoFar 0 ups tops
 flat_none ups tops t = record { are = t; flat = λ k l. absurd (omega arith) }
 
-pub flat_more : (i : ℕ) (ups tops : List ℕ) (next : ℕ) → i < length ups → next ≡ get_or ups (get_or ups i 0) 0 →
-    FlatSoFar i ups tops → FlatSoFar (i + 1) (set ups i next) tops
+pub flat_more : (i : ℕ) (ups tops : List ℕ) (next : ℕ) → i < length ups → next ≡ get_or ups (get_or ups i 0) 0
+    → FlatSoFar i ups tops → FlatSoFar (i + 1) (set ups i next) tops
 flat_more i ups tops next within e s = record {
   are = tops_short ups tops i next within e s.are;
   flat = λ k l. elim (cases_lt k i) [

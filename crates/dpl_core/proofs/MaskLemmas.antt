@@ -16,8 +16,8 @@ use Rattle.dpl_layer.proofs.TextLemmas.{on_layer}
 use Rattle.dpl_core.specs.Reports.{HaveMasks, IsReportOfNet, IsReportOfCells, IsReportOf, IsBalancedOfCells}
 
 -- masks over fragments cut from the tiles of any cells are those of the cells of the layer
-pub masks_of_layer : (o : PlainOptions) (f : Fragments) (n : Net) (r : PlainReport) →
-    ((cells : Cells) (tiles : List Corners) → AreCutFrom o cells tiles f → AreMasksOf o cells tiles f n r)
+pub masks_of_layer : (o : PlainOptions) (f : Fragments) (n : Net) (r : PlainReport)
+    → ((cells : Cells) (tiles : List Corners) → AreCutFrom o cells tiles f → AreMasksOf o cells tiles f n r)
     → HaveMasks o f n r
 masks_of_layer o f n r law cells kept k =
     let a = k.is.layer.fragments in
@@ -34,8 +34,8 @@ masks_of_layer o f n r law cells kept k =
     law cells a.tiles from
 
 -- a report of the net of a layer is one of its cells
-pub report_of_cells : (o : PlainOptions) (f : Fragments) (n : Net) (r : PlainReport) → IsReportOfNet o f n r →
-    HaveMasks o f n r → (cells kept : Cells) → IsCutLayer o cells kept f n → IsReportOfCells o r cells kept
+pub report_of_cells : (o : PlainOptions) (f : Fragments) (n : Net) (r : PlainReport) → IsReportOfNet o f n r
+    → HaveMasks o f n r → (cells kept : Cells) → IsCutLayer o cells kept f n → IsReportOfCells o r cells kept
 report_of_cells o f n r is masks cells kept l =
     let net = l.is.layer.net in
     record {
@@ -49,14 +49,14 @@ report_of_cells o f n r is masks cells kept l =
     }
 
 -- a report of the net of a text's layer is one of the text
-pub report_of_text : (o : PlainOptions) (text : List ℕ) (f : Fragments) (n : Net) (r : PlainReport) →
-    IsReportOfNet o f n r → HaveMasks o f n r → IsLayerOfText o text f n → IsReportOf o text r
+pub report_of_text : (o : PlainOptions) (text : List ℕ) (f : Fragments) (n : Net) (r : PlainReport)
+    → IsReportOfNet o f n r → HaveMasks o f n r → IsLayerOfText o text f n → IsReportOf o text r
 report_of_text o text f n r is masks l = on_layer o text (λ cells kept. IsCutLayer o cells kept f n) (IsReportOfCells o r) (report_of_cells o f n r is masks) l
 
 -- the same of a report whose masks cover about the same area
-pub balanced_of_text : (o : PlainOptions) (text : List ℕ) (f : Fragments) (n : Net) (r : PlainReport) →
-    IsReportOfNet o f n r → HaveMasks o f n r → AreBalanced f n r.head.colours → IsLayerOfText o text f n →
-    OnLayer o text (IsBalancedOfCells o r)
+pub balanced_of_text : (o : PlainOptions) (text : List ℕ) (f : Fragments) (n : Net) (r : PlainReport)
+    → IsReportOfNet o f n r → HaveMasks o f n r → AreBalanced f n r.head.colours → IsLayerOfText o text f n
+    → OnLayer o text (IsBalancedOfCells o r)
 unfolding report_of_cells
 balanced_of_text o text f n r is masks even l =
     on_layer o text (λ cells kept. IsCutLayer o cells kept f n) (IsBalancedOfCells o r)

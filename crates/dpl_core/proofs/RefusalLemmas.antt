@@ -55,15 +55,15 @@ pub report_once : (o : PlainOptions) (cells kept : Cells) → AllOnce (report_re
 report_once o cells kept = once_both (cells_reasons o cells kept) (HasOddNet o cells kept ∷ []) (cells_once o cells kept) (odd_once o cells kept, tt)
 
 -- a layer whose net has too many odd faces refuses the cells
-pub odd_cells_refuse : (o : PlainOptions) (cells kept : Cells) (f : Fragments) (n : Net) (e : LayerError) →
-    IsLayer o cells kept f n → IsOddNet n e → FirstOf (report_reasons o cells kept) e
+pub odd_cells_refuse : (o : PlainOptions) (cells kept : Cells) (f : Fragments) (n : Net) (e : LayerError)
+    → IsLayer o cells kept f n → IsOddNet n e → FirstOf (report_reasons o cells kept) e
 odd_cells_refuse o cells kept f n e l h =
     behind (cells_reasons o cells kept) (HasOddNet o cells kept ∷ []) e (cells_free o cells kept f n l)
     (first (HasOddNet o cells kept) [] e (record { fragments = f; net = n; layer = l.layer; odd = h }))
 
 -- a layer whose net has not too many odd faces leaves no refusal
-pub report_free : (o : PlainOptions) (cells kept : Cells) (f : Fragments) (n : Net) → IsLayer o cells kept f n →
-    ((e : LayerError) → ¬ IsOddNet n e) → NoneOf (report_reasons o cells kept)
+pub report_free : (o : PlainOptions) (cells kept : Cells) (f : Fragments) (n : Net) → IsLayer o cells kept f n
+    → ((e : LayerError) → ¬ IsOddNet n e) → NoneOf (report_reasons o cells kept)
 report_free o cells kept f n l free =
     none_both (cells_reasons o cells kept) (HasOddNet o cells kept ∷ []) (cells_free o cells kept f n l)
     (none_cons (HasOddNet o cells kept) [] alike no_first) where
@@ -110,8 +110,8 @@ pub split_kind : (o : PlainOptions) (text : List ℕ) (k n : ℕ) → FirstOf (s
 split_kind o text k n r = first_has (HasKind (Unit {0}) 8) (split_reasons o text) (Limit k n) (split_kinds o text) r
 
 -- a text that has no layer has no report, for the same reason
-pub layer_refuses : (o : PlainOptions) (text : List ℕ) (e : LayerError) → (e ≡ NoMemory) ⊎ FirstOf (layer_reasons o text) e →
-    (e ≡ NoMemory) ⊎ FirstOf (split_reasons o text) e
+pub layer_refuses : (o : PlainOptions) (text : List ℕ) (e : LayerError)
+    → (e ≡ NoMemory) ⊎ FirstOf (layer_reasons o text) e → (e ≡ NoMemory) ⊎ FirstOf (split_reasons o text) e
 layer_refuses o text e (inl m) = inl m
 layer_refuses o text e (inr r) =
     let cells = is_cell (primitives_of o.layer text) in
@@ -127,8 +127,9 @@ layer_refuses o text e (inr r) =
 -- ---- of a text with a layer
 
 -- a layer whose net has too many odd faces refuses the text
-pub odd_refuses : (o : PlainOptions) (text : List ℕ) (f : Fragments) (n : Net) (e : LayerError) →
-    IsLayerOfText o text f n → (e ≡ NoMemory) ⊎ IsOddNet n e → (e ≡ NoMemory) ⊎ FirstOf (split_reasons o text) e
+pub odd_refuses : (o : PlainOptions) (text : List ℕ) (f : Fragments) (n : Net) (e : LayerError)
+    → IsLayerOfText o text f n → (e ≡ NoMemory) ⊎ IsOddNet n e
+    → (e ≡ NoMemory) ⊎ FirstOf (split_reasons o text) e
 odd_refuses o text f n e l (inl m) = inl m
 odd_refuses o text f n e l (inr h) =
     let cells = is_cell (primitives_of o.layer text) in
@@ -136,15 +137,15 @@ odd_refuses o text f n e l (inr h) =
     inr (behind (drawing_reasons o text) (report_reasons o cells kept) e l.0 (odd_cells_refuse o cells kept f n e l.1.is h))
 
 -- a layer whose net has not too many odd faces leaves no refusal
-pub none_refuses : (o : PlainOptions) (text : List ℕ) (f : Fragments) (n : Net) → IsLayerOfText o text f n →
-    ((e : LayerError) → ¬ IsOddNet n e) → NoneOf (split_reasons o text)
+pub none_refuses : (o : PlainOptions) (text : List ℕ) (f : Fragments) (n : Net) → IsLayerOfText o text f n
+    → ((e : LayerError) → ¬ IsOddNet n e) → NoneOf (split_reasons o text)
 none_refuses o text f n l free =
     let cells = is_cell (primitives_of o.layer text) in
     let kept = is_cell (kept_of o.keep text) in
     none_both (drawing_reasons o text) (report_reasons o cells kept) l.0 (report_free o cells kept f n l.1.is free)
 
 -- where each refusal that applies is answered, none applies to what was made
-pub made_free : {T : Type 0} (x : T) (R : LayerError → Type 0) →
-    ((e : LayerError) → R e → (◌≡◌ {A = Result T LayerError} (Ok x) (Err e)) ⊎
-    (◌≡◌ {A = Result T LayerError} (Ok x) (Err NoMemory))) → (e : LayerError) → ¬ R e
+pub made_free : {T : Type 0} (x : T) (R : LayerError → Type 0)
+    → ((e : LayerError) → R e → (◌≡◌ {A = Result T LayerError} (Ok x) (Err e)) ⊎ (◌≡◌ {A = Result T LayerError} (Ok x) (Err NoMemory)))
+    → (e : LayerError) → ¬ R e
 made_free x R exact e r = elim (exact e r) [ inl a ↦ absurd (cc) | inr a ↦ absurd (cc) ]

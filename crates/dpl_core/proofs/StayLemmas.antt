@@ -15,9 +15,9 @@ use Rattle.dpl_balance.specs.Balance.{BreakTheSame}
 use Rattle.dpl_balance.specs.Rest.{IsRestOf}
 use Rattle.dpl_core.specs.Reports.{IsTight, CostsLeast}
 
-same_weight : (net : Net) (test : ℕ → Bool) (old new : List Bool) → BreakTheSame net old new → (e : ℕ) →
-    e < length net.graph.edges → (test e && breaks new (edge_at net.graph e))
-    ≡ (test e && breaks old (edge_at net.graph e))
+same_weight : (net : Net) (test : ℕ → Bool) (old new : List Bool) → BreakTheSame net old new → (e : ℕ)
+    → e < length net.graph.edges
+    → (test e && breaks new (edge_at net.graph e)) ≡ (test e && breaks old (edge_at net.graph e))
 same_weight net test old new b e l = ap (λ t. test e && t) (b e no_edge l)
 
 kept_same : (net : Net) (old new : List Bool) → BreakTheSame net old new → kept_cost net new ≡ kept_cost net old
@@ -31,8 +31,8 @@ aside_same net old new b = sum_same (length net.graph.edges) (λ e. is_aside net
     (λ e. (edge_at net.graph e).weight) (same_weight net (is_aside net) old new b) (λ e l. refl)
 
 -- a tight report stays tight with colours that break the same edges
-pub still_tight : (net : Net) (old new : Report) → IsRestOf old new → BreakTheSame net old.colours new.colours →
-    IsTight net (plain_report old) → IsTight net (plain_report new)
+pub still_tight : (net : Net) (old new : Report) → IsRestOf old new → BreakTheSame net old.colours new.colours
+    → IsTight net (plain_report old) → IsTight net (plain_report new)
 still_tight net old new r b t = record {
   corner = subst (λ p. is_some p.corner ≡ true) (sym r.params) t.corner;
   kept = subst (KeepToKept net) (sym r.cycles) t.kept;
@@ -44,8 +44,8 @@ still_tight net old new r b t = record {
 }
 
 -- what the report's bound and cost say of all colourings stays true with colours that break the same edges
-pub still_least : (net : Net) (old new : Report) → IsRestOf old new → BreakTheSame net old.colours new.colours →
-    CostsLeast net (plain_report old) → CostsLeast net (plain_report new)
+pub still_least : (net : Net) (old new : Report) → IsRestOf old new → BreakTheSame net old.colours new.colours
+    → CostsLeast net (plain_report old) → CostsLeast net (plain_report new)
 still_least net old new r b t = record {
   half = λ others k. let h = t.half others k in let e = r.bound in omega arith;
   kept = λ others k. let h = t.kept others k in let e = kept_same net old.colours new.colours b in omega arith;

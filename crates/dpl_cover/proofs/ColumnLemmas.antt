@@ -38,8 +38,9 @@ ends_pushed r old mid new e f = rw (f, e) (record {
   right_low : (r : Rect) → neg_ℤ (pos (2 ^ 30)) ≤ℤ r.x2
   right_low r = omega signed
 
-pub ends_more : (boxes : List Rect) (i : ℕ) (r : Rect) (old new : List ℤ) → i < length boxes →
-    r ≡ get_or boxes i r → AddsEnds r old new → All (HasEnds old) (take i boxes) → All (HasEnds new) (take (i + 1) boxes)
+pub ends_more : (boxes : List Rect) (i : ℕ) (r : Rect) (old new : List ℤ) → i < length boxes
+    → r ≡ get_or boxes i r → AddsEnds r old new → All (HasEnds old) (take i boxes)
+    → All (HasEnds new) (take (i + 1) boxes)
 ends_more boxes i r old new within is a h =
     All-more (HasEnds new) boxes i r within (All-weaker (HasEnds old) (HasEnds new)
     (λ p g. ends_kept old new p a.kept g) (take i boxes) h) (let g = a.has in rw is at g)
@@ -48,8 +49,9 @@ pub ends_all : (boxes : List Rect) (i : ℕ) (ends : List ℤ) → length boxes 
 ends_all boxes i ends whole h = rw (take_all i boxes whole) at h
 
 -- sorted, each once
-pub columns_once : (boxes : List Rect) (ends sorted columns : List ℤ) → columns ≡ dedup int_eq sorted →
-    IsPermutation ends sorted → IsSorted int_cmp sorted → All (HasEnds ends) boxes → All IsInRange ends → AreColumns boxes columns
+pub columns_once : (boxes : List Rect) (ends sorted columns : List ℤ) → columns ≡ dedup int_eq sorted
+    → IsPermutation ends sorted → IsSorted int_cmp sorted → All (HasEnds ends) boxes → All IsInRange ends
+    → AreColumns boxes columns
 columns_once boxes ends sorted columns is moved order has range = record {
   rising = λ i j l h. rw is (less_by_order _ _ (Less-from_sorted int_cmp (dedup int_eq sorted) i j (pos 0)
       (IsStrictlySortedBy-dedup int_cmp_total (λ x y. refl) sorted order) l (rw is at h)));

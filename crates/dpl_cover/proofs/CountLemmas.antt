@@ -15,8 +15,8 @@ less_or_not i j = search arith
 same_or_not : (i j : ℕ) → (i ≡ j) ⊎ (i ≢ j)
 same_or_not i j = search arith
 
-pub grown_more : (from k : ℕ) (by : ℤ) (old now : List ℤ) (x : ℤ) → from ≤ k → k < length old →
-    x ≡ own_at now k +ℤ by → IsGrown from k by old now → IsGrown from (k + 1) by old (set now k x)
+pub grown_more : (from k : ℕ) (by : ℤ) (old now : List ℤ) (x : ℤ) → from ≤ k → k < length old
+    → x ≡ own_at now k +ℤ by → IsGrown from k by old now → IsGrown from (k + 1) by old (set now k x)
 grown_more from k by old now x order within is g = record {
   long = length-set now k x ∙ g.long;
   inside = λ j a b. elim (same_or_not j k) [
@@ -48,8 +48,8 @@ up_by_unit n z y by (inr u) e s = (omega (signed, u, e, s.0), omega (signed, u, 
 up_as_before : (n : ℕ) (z y : ℤ) → y ≡ z → IsUpTo n z → IsUpTo (n + 1) y
 up_as_before n z y e s = (omega (signed, e, s.0), omega (signed, e, s.1))
 
-pub grown_up : (a b : ℕ) (by : ℤ) (old new : List ℤ) (k n : ℕ) → IsUnit by → IsGrown a b by old new →
-    IsUpTo n (own_at old k) → IsUpTo (n + 1) (own_at new k)
+pub grown_up : (a b : ℕ) (by : ℤ) (old new : List ℤ) (k n : ℕ) → IsUnit by → IsGrown a b by old new
+    → IsUpTo n (own_at old k) → IsUpTo (n + 1) (own_at new k)
 grown_up a b by old new k n u g s = elim (place_or_beside a b k) [
   | inl i ↦ up_by_unit n _ _ by u (g.inside k i.0 i.1) s
   | inr o ↦ up_as_before n _ _ (g.beside k o) s
@@ -62,9 +62,9 @@ place_or_beside : (a b k : ℕ) → ((a ≤ k) × (k < b)) ⊎ IsBeside a b k
 place_or_beside a b k = search arith
 
 -- a whole block was counted once more or less
-pub whole_changed : (a c b : ℕ) (by : ℤ) (each : List ℤ) (blocks blocks' : List Block) → IsUnit by →
-    a < c → a ≡ b * BLOCK → c ≤ b * BLOCK + BLOCK → (c ≡ b * BLOCK + BLOCK) ⊎ (c ≡ length each) →
-    AreCounts each blocks → IsWholeGrown b by blocks blocks' → IsChange a c by each blocks each blocks'
+pub whole_changed : (a c b : ℕ) (by : ℤ) (each : List ℤ) (blocks blocks' : List Block) → IsUnit by → a < c
+    → a ≡ b * BLOCK → c ≤ b * BLOCK + BLOCK → (c ≡ b * BLOCK + BLOCK) ⊎ (c ≡ length each)
+    → AreCounts each blocks → IsWholeGrown b by blocks blocks' → IsChange a c by each blocks each blocks'
 whole_changed a c b by each blocks blocks' u order start end full counts g = record {
   counts = record {
     enough = λ k l. rw g.long (counts.enough k l);
@@ -102,10 +102,10 @@ whole_changed a c b by each blocks blocks' u order start end full counts g = rec
 }
 
 -- the own counts of some places of a block were changed, and its numbers looked up again
-pub some_changed : (a c b d : ℕ) (by : ℤ) (each each' : List ℤ) (blocks blocks' : List Block) → IsUnit by →
-    a < c → b * BLOCK ≤ a → c ≤ d → d ≤ b * BLOCK + BLOCK → (d ≡ b * BLOCK + BLOCK) ⊎ (d ≡ length each) → b < length blocks →
-    AreCounts each blocks → IsGrown a c by each each' → IsRenewed b (b * BLOCK) d each' blocks blocks' →
-    IsChange a c by each blocks each' blocks'
+pub some_changed : (a c b d : ℕ) (by : ℤ) (each each' : List ℤ) (blocks blocks' : List Block) → IsUnit by
+    → a < c → b * BLOCK ≤ a → c ≤ d → d ≤ b * BLOCK + BLOCK → (d ≡ b * BLOCK + BLOCK) ⊎ (d ≡ length each)
+    → b < length blocks → AreCounts each blocks → IsGrown a c by each each'
+    → IsRenewed b (b * BLOCK) d each' blocks blocks' → IsChange a c by each blocks each' blocks'
 some_changed a c b d by each each' blocks blocks' u order from up to full has counts g r = record {
   counts = record {
     enough = λ k l. rw r.long (counts.enough k (rw (← g.long) l));
@@ -151,9 +151,9 @@ some_changed a c b d by each each' blocks blocks' u order from up to full has co
     ]
 
 -- two changes side by side, the second from where a block begins
-pub joined_changes : (a m j c : ℕ) (by : ℤ) (e0 : List ℤ) (b0 : List Block) (e1 : List ℤ) (b1 : List Block)
-    (e2 : List ℤ) (b2 : List Block) → a ≤ m → m ≤ c → c ≤ length e0 → m ≡ j * BLOCK → IsChange a m by e0 b0 e1 b1 → IsChange m c by e1 b1 e2 b2 →
-    IsChange a c by e0 b0 e2 b2
+pub joined_changes : (a m j c : ℕ) (by : ℤ) (e0 : List ℤ) (b0 : List Block) (e1 : List ℤ) (b1 : List Block) (e2 : List ℤ) (b2 : List Block)
+    → a ≤ m → m ≤ c → c ≤ length e0 → m ≡ j * BLOCK → IsChange a m by e0 b0 e1 b1
+    → IsChange m c by e1 b1 e2 b2 → IsChange a c by e0 b0 e2 b2
 joined_changes a m j c by e0 b0 e1 b1 e2 b2 low high top at first second = record {
   counts = second.counts;
   long = second.long ∙ first.long;
@@ -190,24 +190,24 @@ joined_changes a m j c by e0 b0 e1 b1 e2 b2 low high top at first second = recor
     beside_first k (inr h) = inr (omega (arith, h, high))
 
 -- all places of a block from one on are counted, or none is
-pub all_counted : (each : List ℤ) (blocks : List Block) (a c b : ℕ) → AreCounts each blocks → a / BLOCK ≡ b →
-    c ≤ b * BLOCK + BLOCK → c ≤ length each → neg_ℤ (block_at blocks b).whole <ℤ (block_at blocks b).low →
-    (k : ℕ) → a ≤ k → k < c → is_counted each blocks k ≡ true
+pub all_counted : (each : List ℤ) (blocks : List Block) (a c b : ℕ) → AreCounts each blocks → a / BLOCK ≡ b
+    → c ≤ b * BLOCK + BLOCK → c ≤ length each → neg_ℤ (block_at blocks b).whole <ℤ (block_at blocks b).low
+    → (k : ℕ) → a ≤ k → k < c → is_counted each blocks k ≡ true
 all_counted each blocks a c b counts at up within more k l h =
     let e : k / BLOCK ≡ b = block_of b k (omega (arith, at, l, block_from a)) (omega (arith, h, up)) in
     rw e (less_test (pos 0) (own_at each k +ℤ (block_at blocks b).whole)
     (omega (signed, more, rw e at (counts.low k (omega (arith, h, within))))))
 
-pub none_counted : (each : List ℤ) (blocks : List Block) (a c b : ℕ) → AreCounts each blocks → a / BLOCK ≡ b →
-    c ≤ b * BLOCK + BLOCK → c ≤ length each → (block_at blocks b).high ≤ℤ neg_ℤ (block_at blocks b).whole →
-    (k : ℕ) → a ≤ k → k < c → is_counted each blocks k ≡ false
+pub none_counted : (each : List ℤ) (blocks : List Block) (a c b : ℕ) → AreCounts each blocks → a / BLOCK ≡ b
+    → c ≤ b * BLOCK + BLOCK → c ≤ length each → (block_at blocks b).high ≤ℤ neg_ℤ (block_at blocks b).whole
+    → (k : ℕ) → a ≤ k → k < c → is_counted each blocks k ≡ false
 none_counted each blocks a c b counts at up within less k l h =
     let e : k / BLOCK ≡ b = block_of b k (omega (arith, at, l, block_from a)) (omega (arith, h, up)) in
     rw e (no_less_test (pos 0) (own_at each k +ℤ (block_at blocks b).whole)
     (omega (signed, less, rw e at (counts.high k (omega (arith, h, within))))))
 
-pub one_counted : (each : List ℤ) (blocks : List Block) (a : ℕ) (counted : Bool) → is_counted each blocks a ≡ counted →
-    (k : ℕ) → a ≤ k → k < a + 1 → is_counted each blocks k ≡ counted
+pub one_counted : (each : List ℤ) (blocks : List Block) (a : ℕ) (counted : Bool)
+    → is_counted each blocks a ≡ counted → (k : ℕ) → a ≤ k → k < a + 1 → is_counted each blocks k ≡ counted
 one_counted each blocks a counted is k l h =
     let e : a ≡ k = omega (arith, l, h) in subst (λ z. is_counted each blocks z ≡ counted) e is
 
@@ -218,12 +218,12 @@ pub sum_fits : (z y : ℤ) → IsUpTo (2 ^ 60) z → IsUpTo (2 ^ 60) y → SFits
 sum_fits z y a b = search (arith, ints)
 
 -- one change leaves the counts small
-pub small_still : (a b : ℕ) (by : ℤ) (e0 : List ℤ) (b0 : List Block) (e1 : List ℤ) (b1 : List Block) →
-    IsChange a b by e0 b0 e1 b1 → AreOwnSmall (2 ^ 59) e0 → AreOwnSmall (2 ^ 60) e1
+pub small_still : (a b : ℕ) (by : ℤ) (e0 : List ℤ) (b0 : List Block) (e1 : List ℤ) (b1 : List Block)
+    → IsChange a b by e0 b0 e1 b1 → AreOwnSmall (2 ^ 59) e0 → AreOwnSmall (2 ^ 60) e1
 small_still a b by e0 b0 e1 b1 g s k = wider (own_at e1 k) (g.grown k (2 ^ 59) (s k))
 
-pub tame_still : (a b : ℕ) (by : ℤ) (e0 : List ℤ) (b0 : List Block) (e1 : List ℤ) (b1 : List Block) →
-    IsChange a b by e0 b0 e1 b1 → AreTame (2 ^ 59) b0 → AreTame (2 ^ 60) b1
+pub tame_still : (a b : ℕ) (by : ℤ) (e0 : List ℤ) (b0 : List Block) (e1 : List ℤ) (b1 : List Block)
+    → IsChange a b by e0 b0 e1 b1 → AreTame (2 ^ 59) b0 → AreTame (2 ^ 60) b1
 tame_still a b by e0 b0 e1 b1 g s j = wider (block_at b1 j).whole (g.whole j (2 ^ 59) (s j))
 
 -- the next place is where a block begins, or the last one

@@ -19,17 +19,18 @@ parted_by key boxes row up i j d le l e = less _ _ (up i j d le l) e where
   less : (a b : ℤ) → a ≤ℤ b → int_le b row ≡ true → int_le a row ≡ true
   less a b h e = grind (arith, ints)
 
-pub are_passed : (key : Rect → ℤ) (boxes : List Rect) (row : ℤ) (n : ℕ) → n ≤ length boxes →
-    ((k : ℕ) (d : Rect) → k < n → int_le (key (get_or boxes k d)) row ≡ true) →
-    ((k : ℕ) (d : Rect) → n ≤ k → k < length boxes → int_le (key (get_or boxes k d)) row ≡ false) → IsPassed key row boxes n
+pub are_passed : (key : Rect → ℤ) (boxes : List Rect) (row : ℤ) (n : ℕ) → n ≤ length boxes
+    → ((k : ℕ) (d : Rect) → k < n → int_le (key (get_or boxes k d)) row ≡ true)
+    → ((k : ℕ) (d : Rect) → n ≤ k → k < length boxes → int_le (key (get_or boxes k d)) row ≡ false)
+    → IsPassed key row boxes n
 are_passed key boxes row n within before behind = record {
   within = within;
   up_to = λ k d h. is_at_most _ _ (before k d h);
   beyond = λ k d h l. not_at_most _ _ (behind k d h l);
 }
 
-pub passed_more : (key : Rect → ℤ) (boxes : List Rect) (low high : ℤ) (m n : ℕ) → low ≤ℤ high →
-    IsPassed key low boxes m → IsPassed key high boxes n → m ≤ n
+pub passed_more : (key : Rect → ℤ) (boxes : List Rect) (low high : ℤ) (m n : ℕ) → low ≤ℤ high
+    → IsPassed key low boxes m → IsPassed key high boxes n → m ≤ n
 passed_more key [] low high m n up a b = let w = a.within in omega (arith, w)
 passed_more key (d ∷ ds) low high m n up a b = elim (less_or_not n m) [
   | inl h ↦ absurd (beyond _ (a.up_to n d h) (b.beyond n d (omega arith) (omega (arith, h, a.within))))

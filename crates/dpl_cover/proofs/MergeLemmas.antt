@@ -32,10 +32,10 @@ merging_none first rest h = record {
   same = λ x. sym (or-false _);
 }
 
-pub merging_join : (first : Stretch) (rest : List Stretch) (i : ℕ) (merged : List Stretch) (last part next : Stretch) →
-    Merging first rest i merged last → i < length rest → part ≡ get_or rest i part
-    → next.from ≡ last.from → ((x : ℤ) → is_within next.from next.to
-    x ≡ (is_within last.from last.to x || is_within part.from part.to x)) → Merging first rest (i + 1) merged next
+pub merging_join : (first : Stretch) (rest : List Stretch) (i : ℕ) (merged : List Stretch) (last part next : Stretch)
+    → Merging first rest i merged last → i < length rest → part ≡ get_or rest i part → next.from ≡ last.from
+    → ((x : ℤ) → is_within next.from next.to x ≡ (is_within last.from last.to x || is_within part.from part.to x))
+    → Merging first rest (i + 1) merged next
 merging_join first rest i merged last part next m within is e same = record {
   ahead = λ k d l n. rw e (m.ahead k d (omega arith) n);
   separate = m.separate;
@@ -49,9 +49,9 @@ merging_join first rest i merged last part next m within is e same = record {
   more_places rest i part x within is = list_any_more (λ s. is_within s.from s.to x) rest i part within ∙
       ap (λ (s : Stretch). is_in_stretches (take i rest) x || is_within s.from s.to x) (sym is)
 
-pub merging_push : (first : Stretch) (rest : List Stretch) (i : ℕ) (merged : List Stretch) (last part : Stretch) →
-    Ascends (λ s. s.from) rest → Merging first rest i merged last → i < length rest → part ≡ get_or rest i part
-    → last.to <ℤ part.from → Merging first rest (i + 1) (merged ++ last ∷ []) part
+pub merging_push : (first : Stretch) (rest : List Stretch) (i : ℕ) (merged : List Stretch) (last part : Stretch)
+    → Ascends (λ s. s.from) rest → Merging first rest i merged last → i < length rest
+    → part ≡ get_or rest i part → last.to <ℤ part.from → Merging first rest (i + 1) (merged ++ last ∷ []) part
 merging_push first rest i merged last part sorted m within is h = record {
   ahead = λ k d l n. let s : (get_or rest i d).from ≤ℤ (get_or rest k d).from = sorted i k d (omega arith) n in rw (is ∙ get_or_default rest i part d within) s;
   separate = all_pairs_push (λ s t. s.to <ℤ t.from) merged last m.separate m.behind;
@@ -65,13 +65,13 @@ merging_push first rest i merged last part sorted m within is h = record {
       ap (λ (s : Stretch). is_in_stretches (take i rest) x || is_within s.from s.to x) (sym is)));
 }
 
-pub merging_end : (first : Stretch) (rest : List Stretch) (i : ℕ) (merged new : List Stretch) (last : Stretch) →
-    length rest ≤ i → Merging first rest i merged last → new ≡ merged ++ last ∷ []
-    → (x : ℤ) → is_in_stretches new x ≡ (is_within first.from first.to x || is_in_stretches rest x)
+pub merging_end : (first : Stretch) (rest : List Stretch) (i : ℕ) (merged new : List Stretch) (last : Stretch)
+    → length rest ≤ i → Merging first rest i merged last → new ≡ merged ++ last ∷ [] → (x : ℤ)
+    → is_in_stretches new x ≡ (is_within first.from first.to x || is_in_stretches rest x)
 merging_end first rest i merged new last whole m e x =
     rw (e, in_pushed merged last x) (m.same x ∙ ap (λ (l : List Stretch). is_within first.from first.to x ||
     is_in_stretches l x) (take_all i rest whole))
 
-pub merging_separate : (first : Stretch) (rest : List Stretch) (i : ℕ) (merged new : List Stretch) (last : Stretch) →
-    Merging first rest i merged last → new ≡ merged ++ last ∷ [] → AreSeparate new
+pub merging_separate : (first : Stretch) (rest : List Stretch) (i : ℕ) (merged new : List Stretch) (last : Stretch)
+    → Merging first rest i merged last → new ≡ merged ++ last ∷ [] → AreSeparate new
 merging_separate first rest i merged new last m e = rw e (all_pairs_push (λ s t. s.to <ℤ t.from) merged last m.separate m.behind)

@@ -28,8 +28,8 @@ pub record IsPlaceOf (columns : List ℤ) (a b : ℕ) (x : ℤ) : Type 0 where
   pub below : place < b
   pub is_at : IsAt columns place x
 
-pub place_between : (columns : List ℤ) (a b : ℕ) (x : ℤ) → a ≤ b → b < length columns → column_at columns a ≤ℤ x →
-    x <ℤ column_at columns b → IsPlaceOf columns a b x
+pub place_between : (columns : List ℤ) (a b : ℕ) (x : ℤ) → a ≤ b → b < length columns
+    → column_at columns a ≤ℤ x → x <ℤ column_at columns b → IsPlaceOf columns a b x
 place_between columns a zero x l w from to = let e : a ≡ zero = omega (arith, l) in
     absurd (backwards _ _ (subst (λ k. column_at columns k ≤ℤ x) e from) to)
   where
@@ -49,19 +49,19 @@ place_between columns a (suc n) x l w from to = elim (less_or_not n a) [
     backwards y z h i = omega (signed, h, i)
 
 -- no place before the first that is looked at has a column from `from` on
-pub none_before : (columns : List ℤ) (from : ℤ) (at : ℕ) → AreRising columns →
-    (at ≡ 0) ⊎ ((at < length columns) × (column_at columns at ≤ℤ from)) →
-    (x : ℤ) (k : ℕ) → from ≤ℤ x → k < at → IsAt columns k x → ⊥
+pub none_before : (columns : List ℤ) (from : ℤ) (at : ℕ) → AreRising columns
+    → (at ≡ 0) ⊎ ((at < length columns) × (column_at columns at ≤ℤ from)) → (x : ℤ) (k : ℕ) → from ≤ℤ x
+    → k < at → IsAt columns k x → ⊥
 none_before columns from at up (inl e) x k l h i = omega (arith, e, h)
 none_before columns from at up (inr s) x k l h i =
     let n = not_left columns (k + 1) at up (omega (arith, h)) s.0 in let t = i.to in omega (signed, n, t, l, s.1)
 
 -- a part whose places are all counted was added
-pub sound_more : (columns each : List ℤ) (blocks : List Block) (old new : List Stretch) (a b : ℕ) → a < b → b < length columns →
-    ((k : ℕ) → a ≤ k → k < b → is_counted each blocks k ≡ true) →
-    ((x : ℤ) → is_in_stretches new x ≡ (is_in_stretches old x || is_within (column_at columns a) (column_at columns b) x)) →
-    ((x : ℤ) → is_in_stretches old x ≡ true → HasCounted columns each blocks x) →
-    (x : ℤ) → is_in_stretches new x ≡ true → HasCounted columns each blocks x
+pub sound_more : (columns each : List ℤ) (blocks : List Block) (old new : List Stretch) (a b : ℕ) → a < b
+    → b < length columns → ((k : ℕ) → a ≤ k → k < b → is_counted each blocks k ≡ true)
+    → ((x : ℤ) → is_in_stretches new x ≡ (is_in_stretches old x || is_within (column_at columns a) (column_at columns b) x))
+    → ((x : ℤ) → is_in_stretches old x ≡ true → HasCounted columns each blocks x) → (x : ℤ)
+    → is_in_stretches new x ≡ true → HasCounted columns each blocks x
 sound_more columns each blocks old new a b order within all added sound x h = by_old (is_in_stretches old x) refl where
   by_part : is_within (column_at columns a) (column_at columns b) x ≡ true → HasCounted columns each blocks x
   by_part t = let w = test_within (column_at columns a) (column_at columns b) x t in
@@ -72,11 +72,12 @@ sound_more columns each blocks old new a b order within all added sound x h = by
   by_old true e = sound x e
   by_old false e = by_part (ap (λ t. t || is_within (column_at columns a) (column_at columns b) x) (sym e) ∙ sym (added x) ∙ h)
 
-pub full_more : (columns each : List ℤ) (blocks : List Block) (old new : List Stretch) (from : ℤ) (a b : ℕ) → AreRising columns →
-    b < length columns →
-    ((x : ℤ) → is_in_stretches new x ≡ (is_in_stretches old x || is_within (column_at columns a) (column_at columns b) x)) →
-    ((x : ℤ) (k : ℕ) → from ≤ℤ x → k < a → IsAt columns k x → is_counted each blocks k ≡ true → is_in_stretches old x ≡ true) →
-    (x : ℤ) (k : ℕ) → from ≤ℤ x → k < b → IsAt columns k x → is_counted each blocks k ≡ true → is_in_stretches new x ≡ true
+pub full_more : (columns each : List ℤ) (blocks : List Block) (old new : List Stretch) (from : ℤ) (a b : ℕ)
+    → AreRising columns → b < length columns
+    → ((x : ℤ) → is_in_stretches new x ≡ (is_in_stretches old x || is_within (column_at columns a) (column_at columns b) x))
+    → ((x : ℤ) (k : ℕ) → from ≤ℤ x → k < a → IsAt columns k x → is_counted each blocks k ≡ true → is_in_stretches old x ≡ true)
+    → (x : ℤ) (k : ℕ) → from ≤ℤ x → k < b → IsAt columns k x → is_counted each blocks k ≡ true
+    → is_in_stretches new x ≡ true
 full_more columns each blocks old new from a b up within added full x k l h i c = elim (less_or_not k a) [
   | inl s ↦ added x ∙ ap (λ t. t || is_within (column_at columns a) (column_at columns b) x) (full x k l s i c)
   | inr s ↦
@@ -91,26 +92,29 @@ full_more columns each blocks old new from a b up within added full x k l h i c 
     or_true false = refl
 
 -- none of the places of a part is counted
-pub full_past : (columns each : List ℤ) (blocks : List Block) (parts : List Stretch) (from : ℤ) (a b : ℕ) (counted : Bool) →
-    counted ≡ false → ((k : ℕ) → a ≤ k → k < b → is_counted each blocks k ≡ counted) →
-    ((x : ℤ) (k : ℕ) → from ≤ℤ x → k < a → IsAt columns k x → is_counted each blocks k ≡ true → is_in_stretches parts x ≡ true) →
-    (x : ℤ) (k : ℕ) → from ≤ℤ x → k < b → IsAt columns k x → is_counted each blocks k ≡ true → is_in_stretches parts x ≡ true
+pub full_past : (columns each : List ℤ) (blocks : List Block) (parts : List Stretch) (from : ℤ) (a b : ℕ) (counted : Bool)
+    → counted ≡ false → ((k : ℕ) → a ≤ k → k < b → is_counted each blocks k ≡ counted)
+    → ((x : ℤ) (k : ℕ) → from ≤ℤ x → k < a → IsAt columns k x → is_counted each blocks k ≡ true → is_in_stretches parts x ≡ true)
+    → (x : ℤ) (k : ℕ) → from ≤ℤ x → k < b → IsAt columns k x → is_counted each blocks k ≡ true
+    → is_in_stretches parts x ≡ true
 full_past columns each blocks parts from a b counted n all full x k l h i c = elim (less_or_not k a) [
   | inl s ↦ full x k l s i c
   | inr s ↦ absurd (true≢false (sym c ∙ all k s h ∙ n))
 ]
 
 -- a part that is counted ends before the last column
-pub ends_before : (each : List ℤ) (blocks : List Block) (n a b : ℕ) (counted : Bool) → counted ≡ true → a < b → b ≤ n →
-    ((k : ℕ) → a ≤ k → k < b → is_counted each blocks k ≡ counted) → ((k : ℕ) → k + 1 ≡ n → is_counted each blocks k ≡ false) → b < n
+pub ends_before : (each : List ℤ) (blocks : List Block) (n a b : ℕ) (counted : Bool) → counted ≡ true → a < b
+    → b ≤ n → ((k : ℕ) → a ≤ k → k < b → is_counted each blocks k ≡ counted)
+    → ((k : ℕ) → k + 1 ≡ n → is_counted each blocks k ≡ false) → b < n
 ends_before each blocks n a b counted t order within all last = elim (less_or_not b n) [
   | inl h ↦ h
   | inr h ↦ absurd (true≢false (sym t ∙ sym (all (b - 1) (omega (arith, order)) (omega (arith, order))) ∙ last (b - 1) (omega (arith, order, h, within))))
 ]
 
 -- all places were looked at, or the next column is not left of `to`
-pub all_looked_at : (columns : List ℤ) (to : ℤ) (at : ℕ) → AreRising columns → (at < length columns → to ≤ℤ column_at columns at) →
-    (x : ℤ) (k : ℕ) → x <ℤ to → IsAt columns k x → k < at
+pub all_looked_at : (columns : List ℤ) (to : ℤ) (at : ℕ) → AreRising columns
+    → (at < length columns → to ≤ℤ column_at columns at) → (x : ℤ) (k : ℕ) → x <ℤ to → IsAt columns k x
+    → k < at
 all_looked_at columns to at up stop x k l i = elim (less_or_not k at) [
   | inl h ↦ h
   | inr h ↦

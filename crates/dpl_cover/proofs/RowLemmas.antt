@@ -36,8 +36,9 @@ more_test a b h = grind (arith, ints)
 sum_two : (m n : ℕ) → m ≡ 0 → n ≡ 0 → m + n ≡ 0
 sum_two m n a b = omega arith
 
-none_up_to : (key : Rect → ℤ) (row : ℤ) (f : Rect → ℕ) (boxes : List Rect) →
-    ((k : ℕ) (d : Rect) → k < length boxes → row <ℤ key (get_or boxes k d)) → sum_by (up_to key row f) boxes ≡ 0
+none_up_to : (key : Rect → ℤ) (row : ℤ) (f : Rect → ℕ) (boxes : List Rect)
+    → ((k : ℕ) (d : Rect) → k < length boxes → row <ℤ key (get_or boxes k d))
+    → sum_by (up_to key row f) boxes ≡ 0
 none_up_to key row f [] h = refl
 none_up_to key row f (r ∷ rs) h =
     let e = none_up_to key row f rs (λ k d l. h (suc k) d (omega (arith, l))) in
@@ -51,8 +52,8 @@ tail_passed key row r rs n p = record {
   beyond = λ k d h l. p.beyond (suc k) d (omega (arith, h)) (omega (arith, l));
 }
 
-sum_passed : (key : Rect → ℤ) (row : ℤ) (f : Rect → ℕ) (boxes : List Rect) (n : ℕ) → IsPassed key row boxes n →
-    sum_by f (take n boxes) ≡ sum_by (up_to key row f) boxes
+sum_passed : (key : Rect → ℤ) (row : ℤ) (f : Rect → ℕ) (boxes : List Rect) (n : ℕ) → IsPassed key row boxes n
+    → sum_by f (take n boxes) ≡ sum_by (up_to key row f) boxes
 sum_passed key row f [] zero p = refl
 sum_passed key row f [] (suc n) p = refl
 sum_passed key row f (r ∷ rs) zero p = sym (none_up_to key row f (r ∷ rs) (λ k d l. p.beyond k d (omega arith) l))
@@ -66,8 +67,8 @@ sum_parts f g h each [] = refl
 sum_parts f g h each (r ∷ rs) = let e = sum_parts f g h each rs in let d = each r in
     let a = sum_by-cons f r rs in let b = sum_by-cons g r rs in let c = sum_by-cons h r rs in omega (arith, e, d, a, b, c)
 
-bits : (a b w : Bool) → (b ≡ true → a ≡ true) →
-    (if a then (if w then 1 else 0) else 0) ≡ (if b then (if w then 1 else 0) else 0) + (if w && (a && not b) then 1 else 0)
+bits : (a b w : Bool) → (b ≡ true → a ≡ true)
+    → (if a then (if w then 1 else 0) else 0) ≡ (if b then (if w then 1 else 0) else 0) + (if w && (a && not b) then 1 else 0)
 bits true true true h = refl
 bits true true false h = refl
 bits true false true h = refl
@@ -91,9 +92,9 @@ in_row r x row =
     lower : int_le r.y2 row ≡ true → r.y1 ≤ℤ row
     lower h = let t = is_at_most r.y2 row h in let s = r.high in omega (signed, t, s)
 
-any_more : (p : Rect → Bool) (r : Rect) (rs : List Rect) (t : Bool) → p r ≡ t →
-    int_lt (pos 0) (pos (sum_by (λ r. if p r then 1 else 0) rs)) ≡ list_any p rs →
-    int_lt (pos 0) (pos (sum_by (λ r. if p r then 1 else 0) (r ∷ rs))) ≡ (p r || list_any p rs)
+any_more : (p : Rect → Bool) (r : Rect) (rs : List Rect) (t : Bool) → p r ≡ t
+    → int_lt (pos 0) (pos (sum_by (λ r. if p r then 1 else 0) rs)) ≡ list_any p rs
+    → int_lt (pos 0) (pos (sum_by (λ r. if p r then 1 else 0) (r ∷ rs))) ≡ (p r || list_any p rs)
 any_more p r rs true e h =
     let a : sum_by (λ r. if p r then 1 else 0) (r ∷ rs) ≡ 1 + sum_by (λ r. if p r then 1 else 0) rs =
     sum_by-cons (λ r. if p r then 1 else 0) r rs ∙ ap (λ t. (if t then 1 else 0) + sum_by (λ r. if p r then 1 else 0) rs) e in
@@ -110,8 +111,8 @@ any_counted p (r ∷ rs) = any_more p r rs (p r) refl (any_counted p rs)
 
 -- ---- the counts
 
-pub place_counted : (c : Cover) → IsCover c → (k : ℕ) → k < length c.columns.items →
-    is_counted c.each.items c.blocks.items k ≡ is_covered c (column_at c.columns.items k)
+pub place_counted : (c : Cover) → IsCover c → (k : ℕ) → k < length c.columns.items
+    → is_counted c.each.items c.blocks.items k ≡ is_covered c (column_at c.columns.items k)
 place_counted c s k l =
     let x = column_at c.columns.items k in
     let has : Rect → ℕ = λ r. if is_within r.x1 r.x2 (column_at c.columns.items k) then 1 else 0 in
@@ -136,8 +137,8 @@ place_counted c s k l =
 
 -- ---- the columns of one place
 
-same_columns : (columns : List ℤ) (r : Rect) (k : ℕ) (x : ℤ) → AreRising columns → HasEnds columns r → IsAt columns k x →
-    is_within r.x1 r.x2 x ≡ is_within r.x1 r.x2 (column_at columns k)
+same_columns : (columns : List ℤ) (r : Rect) (k : ℕ) (x : ℤ) → AreRising columns → HasEnds columns r
+    → IsAt columns k x → is_within r.x1 r.x2 x ≡ is_within r.x1 r.x2 (column_at columns k)
 same_columns columns r k x up e i = by (is_within r.x1 r.x2 x) (is_within r.x1 r.x2 (column_at columns k)) refl refl where
   left_or_from : (x y : ℤ) → (x <ℤ y) ⊎ (y ≤ℤ x)
   left_or_from x y = search signed

@@ -43,19 +43,20 @@ not_within a b x n = by (is_within a b x) refl where
   by true e = absurd (n (test_within a b x e))
   by false e = e
 
-have_more : (x : ℤ) (boxes : List Rect) (i : ℕ) (r : Rect) → i < length boxes → r ≡ get_or boxes i r →
-    having x (take (i + 1) boxes) ≡ having x (take i boxes) + (if is_within r.x1 r.x2 x then 1 else 0)
+have_more : (x : ℤ) (boxes : List Rect) (i : ℕ) (r : Rect) → i < length boxes → r ≡ get_or boxes i r
+    → having x (take (i + 1) boxes) ≡ having x (take i boxes) + (if is_within r.x1 r.x2 x then 1 else 0)
 have_more x boxes i r within is =
     let f : Rect → ℕ = λ q. if is_within q.x1 q.x2 x then 1 else 0 in
     sum_by_more f boxes i r within ∙ ap (λ q. sum_by f (take i boxes) + f q) (sym is)
 
 -- ---- one box
 
-pub box_counted : (columns : List ℤ) (r : Rect) (by : ℤ) (a b : ℕ) (e0 : List ℤ) (b0 : List Block) (e1 : List ℤ) (b1 : List Block) →
-    length e0 ≡ length columns → ((k : ℕ) → k < a → column_at columns k <ℤ r.x1) →
-    ((k : ℕ) → a ≤ k → k < length columns → r.x1 ≤ℤ column_at columns k) → ((k : ℕ) → k < b → column_at columns k <ℤ r.x2) →
-    ((k : ℕ) → b ≤ k → k < length columns → r.x2 ≤ℤ column_at columns k) → IsChange a b by e0 b0 e1 b1 →
-    IsCountedMore columns r by e0 b0 e1 b1
+pub box_counted : (columns : List ℤ) (r : Rect) (by : ℤ) (a b : ℕ) (e0 : List ℤ) (b0 : List Block) (e1 : List ℤ) (b1 : List Block)
+    → length e0 ≡ length columns → ((k : ℕ) → k < a → column_at columns k <ℤ r.x1)
+    → ((k : ℕ) → a ≤ k → k < length columns → r.x1 ≤ℤ column_at columns k)
+    → ((k : ℕ) → k < b → column_at columns k <ℤ r.x2)
+    → ((k : ℕ) → b ≤ k → k < length columns → r.x2 ≤ℤ column_at columns k) → IsChange a b by e0 b0 e1 b1
+    → IsCountedMore columns r by e0 b0 e1 b1
 box_counted columns r by a b e0 b0 e1 b1 long left from right to g = record {
   counts = g.counts;
   long = g.long;
@@ -87,10 +88,10 @@ box_counted columns r by a b e0 b0 e1 b1 long left from right to g = record {
         below x y h l = omega (signed, h, l)
 
 -- a box that has no place
-pub nothing_counted : (columns : List ℤ) (r : Rect) (by : ℤ) (a b : ℕ) (e : List ℤ) (bs : List Block) →
-    length e ≡ length columns → b ≤ a → ((k : ℕ) → k < a → column_at columns k <ℤ r.x1) →
-    ((k : ℕ) → b ≤ k → k < length columns → r.x2 ≤ℤ column_at columns k) → AreCounts e bs →
-    IsCountedMore columns r by e bs e bs
+pub nothing_counted : (columns : List ℤ) (r : Rect) (by : ℤ) (a b : ℕ) (e : List ℤ) (bs : List Block)
+    → length e ≡ length columns → b ≤ a → ((k : ℕ) → k < a → column_at columns k <ℤ r.x1)
+    → ((k : ℕ) → b ≤ k → k < length columns → r.x2 ≤ℤ column_at columns k) → AreCounts e bs
+    → IsCountedMore columns r by e bs e bs
 nothing_counted columns r by a b e bs long order left to counts = record {
   counts = counts;
   long = refl;
@@ -120,10 +121,10 @@ none_tallied columns by e bs counts = record {
   whole = λ j n s. (omega (signed, s.0), omega (signed, s.1));
 }
 
-pub tallied_more : (columns : List ℤ) (by : ℤ) (boxes : List Rect) (i : ℕ) (r : Rect) (e0 : List ℤ) (b0 : List Block)
-    (e1 : List ℤ) (b1 : List Block) (e2 : List ℤ) (b2 : List Block) → i < length boxes → r ≡ get_or boxes i r →
-    AreTallied columns by (take i boxes) e0 b0 e1 b1 → IsCountedMore columns r by e1 b1 e2 b2 →
-    AreTallied columns by (take (i + 1) boxes) e0 b0 e2 b2
+pub tallied_more : (columns : List ℤ) (by : ℤ) (boxes : List Rect) (i : ℕ) (r : Rect) (e0 : List ℤ)
+    → (b0 : List Block) (e1 : List ℤ) (b1 : List Block) (e2 : List ℤ) (b2 : List Block) → i < length boxes
+    → r ≡ get_or boxes i r → AreTallied columns by (take i boxes) e0 b0 e1 b1
+    → IsCountedMore columns r by e1 b1 e2 b2 → AreTallied columns by (take (i + 1) boxes) e0 b0 e2 b2
 tallied_more columns by boxes i r e0 b0 e1 b1 e2 b2 within is t m = record {
   counts = m.counts;
   long = m.long ∙ t.long;
@@ -149,16 +150,17 @@ tallied_more columns by boxes i r e0 b0 e1 b1 e2 b2 within is t m = record {
         let e : having (column_at columns k) (take (i + 1) boxes) ≡ having (column_at columns k) (take i boxes) = omega (arith, h) in
         rw e (omega (signed, a, b))
 
-pub all_tallied : (columns : List ℤ) (by : ℤ) (boxes : List Rect) (i : ℕ) (e0 : List ℤ) (b0 : List Block) (e1 : List ℤ) (b1 : List Block) →
-    length boxes ≤ i → AreTallied columns by (take i boxes) e0 b0 e1 b1 → AreTallied columns by boxes e0 b0 e1 b1
+pub all_tallied : (columns : List ℤ) (by : ℤ) (boxes : List Rect) (i : ℕ) (e0 : List ℤ) (b0 : List Block) (e1 : List ℤ) (b1 : List Block)
+    → length boxes ≤ i → AreTallied columns by (take i boxes) e0 b0 e1 b1
+    → AreTallied columns by boxes e0 b0 e1 b1
 all_tallied columns by boxes i e0 b0 e1 b1 whole t = subst (λ (xs : List Rect). AreTallied columns by xs e0 b0 e1 b1) (take_all i boxes whole) t
 
 -- ---- boxes that begin and boxes that end
 
-pub both_counted : (columns : List ℤ) (up begun down closed : List Rect) (e0 : List ℤ) (b0 : List Block) (e1 : List ℤ) (b1 : List Block)
-    (e2 : List ℤ) (b2 : List Block) → AreTallied columns (pos 1) begun e0 b0 e1 b1 →
-    AreTallied columns (neg_ℤ (pos 1)) closed e1 b1 e2 b2 → IsCounted columns e0 b0 up down →
-    IsCounted columns e2 b2 (up ++ begun) (down ++ closed)
+pub both_counted : (columns : List ℤ) (up begun down closed : List Rect) (e0 : List ℤ) (b0 : List Block)
+    → (e1 : List ℤ) (b1 : List Block) (e2 : List ℤ) (b2 : List Block)
+    → AreTallied columns (pos 1) begun e0 b0 e1 b1 → AreTallied columns (neg_ℤ (pos 1)) closed e1 b1 e2 b2
+    → IsCounted columns e0 b0 up down → IsCounted columns e2 b2 (up ++ begun) (down ++ closed)
 both_counted columns up begun down closed e0 b0 e1 b1 e2 b2 s t c = record {
   counts = t.counts;
   long = t.long ∙ s.long ∙ c.long;

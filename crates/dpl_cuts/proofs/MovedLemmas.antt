@@ -51,8 +51,8 @@ start_moved right up tile r = ap (λ b. if b then r.x1 +ℤ right else r.y1 +ℤ
 end_moved : (right up : ℤ) (tile r : Corners) → end_of (moved right up tile) (moved right up r) ≡ end_of tile r +ℤ along right up tile
 end_moved right up tile r = ap (λ b. if b then r.x2 +ℤ right else r.y2 +ℤ up) (along_same right up tile) ∙ if_moved (lies_along_x tile) r.x2 r.y2 right up
 
-position_back : (right up : ℤ) (tile : Corners) (x y : ℤ) →
-    position_of tile (x -ℤ right) (y -ℤ up) ≡ position_of (moved right up tile) x y -ℤ along right up tile
+position_back : (right up : ℤ) (tile : Corners) (x y : ℤ)
+    → position_of tile (x -ℤ right) (y -ℤ up) ≡ position_of (moved right up tile) x y -ℤ along right up tile
 position_back right up tile x y = if_back (lies_along_x tile) x y right up ∙
     ap (λ b. (if b then x else y) -ℤ along right up tile) (sym (along_same right up tile))
 
@@ -75,8 +75,8 @@ part_if : (c : Bool) (right up a b : ℤ) (tile : Corners) → (if c then record
 part_if true right up a b tile = refl
 part_if false right up a b tile = refl
 
-part_moved : (right up : ℤ) (tile : Corners) (a b : ℤ) →
-    part_of (moved right up tile) (a +ℤ along right up tile) (b +ℤ along right up tile) ≡ moved right up (part_of tile a b)
+part_moved : (right up : ℤ) (tile : Corners) (a b : ℤ)
+    → part_of (moved right up tile) (a +ℤ along right up tile) (b +ℤ along right up tile) ≡ moved right up (part_of tile a b)
 part_moved right up tile a b =
     let s = along right up tile in
     let at : Bool → Corners = λ c. if c then record { x1 = a +ℤ s; y1 = tile.y1 +ℤ up; x2 = b +ℤ s; y2 = tile.y2 +ℤ up } else record {
@@ -99,8 +99,9 @@ within_at a b p a' b' p' e f g w =
 
 -- ---- free positions
 
-clear_moved : (right up : ℤ) (tiles : List Corners) (space : ℕ) (x y : ℤ) → IsClear (layer_of tiles) space (x -ℤ right) (y -ℤ up) →
-    IsClear (layer_of (map (moved right up) tiles)) space x y
+clear_moved : (right up : ℤ) (tiles : List Corners) (space : ℕ) (x y : ℤ)
+    → IsClear (layer_of tiles) space (x -ℤ right) (y -ℤ up)
+    → IsClear (layer_of (map (moved right up) tiles)) space x y
 clear_moved right up tiles space x y c x' y' t n =
     let f : between x x' ≡ between (x -ℤ right) (x' -ℤ right) = omega signed in
     let g : between y y' ≡ between (y -ℤ up) (y' -ℤ up) = omega signed in
@@ -122,8 +123,9 @@ bare_if true right up p y1 y2 tiles h = (
 )
 bare_if false right up p y1 y2 tiles h = tt
 
-free_moved : (right up : ℤ) (tiles keep : List Corners) (space : ℕ) (tile : Corners) (p : ℤ) → IsFree (layer_of tiles) keep space tile p →
-    IsFree (layer_of (map (moved right up) tiles)) (map (moved right up) keep) space (moved right up tile) (p +ℤ along right up tile)
+free_moved : (right up : ℤ) (tiles keep : List Corners) (space : ℕ) (tile : Corners) (p : ℤ)
+    → IsFree (layer_of tiles) keep space tile p
+    → IsFree (layer_of (map (moved right up) tiles)) (map (moved right up) keep) space (moved right up tile) (p +ℤ along right up tile)
 free_moved right up tiles keep space tile p f =
     let s = along right up tile in
     let back = λ (x y : ℤ) (i : IsIn (moved right up tile) x y). carried_from (shift right) (unshift right) (shift up) (unshift up) tile
@@ -176,16 +178,16 @@ before_move right up Q tiles keep tile q h =
     let P4 : ℤ → Type 0 = λ z. Q tiles keep tile z in
     subst P4 (along_back right up tile q) (subst P3 (undone right up tile) (subst P2 (all_undone right up keep) (subst P1 (all_undone right up tiles) h)))
 
-free_back : (right up : ℤ) (tiles keep : List Corners) (space : ℕ) (tile : Corners) (q : ℤ) →
-    IsFree (layer_of (map (moved right up) tiles)) (map (moved right up) keep) space (moved right up tile) q →
-    IsFree (layer_of tiles) keep space tile (q -ℤ along right up tile)
+free_back : (right up : ℤ) (tiles keep : List Corners) (space : ℕ) (tile : Corners) (q : ℤ)
+    → IsFree (layer_of (map (moved right up) tiles)) (map (moved right up) keep) space (moved right up tile) q
+    → IsFree (layer_of tiles) keep space tile (q -ℤ along right up tile)
 free_back right up tiles keep space tile q f = before_move right up (λ ts ks t z. IsFree (layer_of ts) ks space t z) tiles keep tile q
     (free_moved (neg_ℤ right) (neg_ℤ up) (map (moved right up) tiles) (map (moved right up) keep) space (moved right up tile) q f)
 
 -- ---- cuts
 
-free_at : (cells : ℤ → ℤ → Bool) (keep : List Corners) (space : ℕ) (tile : Corners) (p q : ℤ) → p ≡ q → IsFree cells keep space tile p →
-    IsFree cells keep space tile q
+free_at : (cells : ℤ → ℤ → Bool) (keep : List Corners) (space : ℕ) (tile : Corners) (p q : ℤ) → p ≡ q
+    → IsFree cells keep space tile p → IsFree cells keep space tile q
 free_at cells keep space tile p q e f = let P : ℤ → Type 0 = λ z. IsFree cells keep space tile z in subst P e f
 
 maximal_moved : (right up : ℤ) (tiles keep : List Corners) (space : ℕ) (tile : Corners) (a b : ℤ) →
@@ -220,8 +222,9 @@ beside_if : (c : Bool) (right up x y p x1 y1 x2 y2 : ℤ) → MatchBool c ((x �
 beside_if true right up x y p x1 y1 x2 y2 h = (ap (λ z. z +ℤ right) h.0, (shifted up y1 y2).to y h.1)
 beside_if false right up x y p x1 y1 x2 y2 h = (ap (λ z. z +ℤ up) h.0, (shifted right x1 x2).to x h.1)
 
-goes_on_moved : (right up : ℤ) (tiles : List Corners) (tile : Corners) (p : ℤ) → GoesOn (layer_of tiles) tile p →
-    GoesOn (layer_of (map (moved right up) tiles)) (moved right up tile) (p +ℤ along right up tile)
+goes_on_moved : (right up : ℤ) (tiles : List Corners) (tile : Corners) (p : ℤ)
+    → GoesOn (layer_of tiles) tile p
+    → GoesOn (layer_of (map (moved right up) tiles)) (moved right up tile) (p +ℤ along right up tile)
 goes_on_moved right up tiles tile p g = record {
   x = g.x +ℤ right;
   y = g.y +ℤ up;
@@ -246,8 +249,9 @@ middle_moved a b s =
       turn : (a s m : ℤ) → (a +ℤ s) +ℤ m ≡ (a +ℤ m) +ℤ s
       turn a s m = omega signed
 
-cut_moved : (right up : ℤ) (tiles keep : List Corners) (space over : ℕ) (tile : Corners) (c : ℤ) → IsCutAt (layer_of tiles) keep space over tile c →
-    IsCutAt (layer_of (map (moved right up) tiles)) (map (moved right up) keep) space over (moved right up tile) (c +ℤ along right up tile)
+cut_moved : (right up : ℤ) (tiles keep : List Corners) (space over : ℕ) (tile : Corners) (c : ℤ)
+    → IsCutAt (layer_of tiles) keep space over tile c
+    → IsCutAt (layer_of (map (moved right up) tiles)) (map (moved right up) keep) space over (moved right up tile) (c +ℤ along right up tile)
 cut_moved right up tiles keep space over tile c k =
     let s = along right up tile in
     record {
@@ -271,9 +275,9 @@ cut_moved right up tiles keep space over tile c k =
       less_moved : (a s : ℤ) → (a -ℤ pos 1) +ℤ s ≡ (a +ℤ s) -ℤ pos 1
       less_moved a s = omega signed
 
-cut_back : (right up : ℤ) (tiles keep : List Corners) (space over : ℕ) (tile : Corners) (q : ℤ) →
-    IsCutAt (layer_of (map (moved right up) tiles)) (map (moved right up) keep) space over (moved right up tile) q →
-    IsCutAt (layer_of tiles) keep space over tile (q -ℤ along right up tile)
+cut_back : (right up : ℤ) (tiles keep : List Corners) (space over : ℕ) (tile : Corners) (q : ℤ)
+    → IsCutAt (layer_of (map (moved right up) tiles)) (map (moved right up) keep) space over (moved right up tile) q
+    → IsCutAt (layer_of tiles) keep space over tile (q -ℤ along right up tile)
 cut_back right up tiles keep space over tile q k = before_move right up (λ ts ks t z. IsCutAt (layer_of ts) ks space over t z) tiles keep tile q
     (cut_moved (neg_ℤ right) (neg_ℤ up) (map (moved right up) tiles) (map (moved right up) keep) space over (moved right up tile) q k)
 
@@ -306,9 +310,9 @@ between_moved right up tiles keep space over tile from to b =
       high_back : (b c s : ℤ) → c <ℤ (b +ℤ s) → (c -ℤ s) <ℤ b
       high_back b c s h = omega signed
 
-fragment_moved : (right up : ℤ) (keep : List Corners) (space over : ℕ) (tiles : List Corners) (i : ℕ) (part : Corners) →
-    IsFragmentOf keep space over tiles i part →
-    IsFragmentOf (map (moved right up) keep) space over (map (moved right up) tiles) i (moved right up part)
+fragment_moved : (right up : ℤ) (keep : List Corners) (space over : ℕ) (tiles : List Corners) (i : ℕ) (part : Corners)
+    → IsFragmentOf keep space over tiles i part
+    → IsFragmentOf (map (moved right up) keep) space over (map (moved right up) tiles) i (moved right up part)
 fragment_moved right up keep space over tiles i part f =
     let tile = rect_at tiles i in
     let g = f.fragment in
@@ -324,9 +328,9 @@ fragment_moved right up keep space over tiles i part f =
       });
     }
 
-fragment_back : (right up : ℤ) (keep : List Corners) (space over : ℕ) (tiles : List Corners) (i : ℕ) (part : Corners) →
-    IsFragmentOf (map (moved right up) keep) space over (map (moved right up) tiles) i part →
-    IsFragmentOf keep space over tiles i (moved (neg_ℤ right) (neg_ℤ up) part)
+fragment_back : (right up : ℤ) (keep : List Corners) (space over : ℕ) (tiles : List Corners) (i : ℕ) (part : Corners)
+    → IsFragmentOf (map (moved right up) keep) space over (map (moved right up) tiles) i part
+    → IsFragmentOf keep space over tiles i (moved (neg_ℤ right) (neg_ℤ up) part)
 fragment_back right up keep space over tiles i part f =
     let P : List Corners → Type 0 = λ z. IsFragmentOf z space over (map (moved (neg_ℤ right) (neg_ℤ up)) (map (moved right up) tiles)) i
     (moved (neg_ℤ right) (neg_ℤ up) part) in
@@ -334,9 +338,9 @@ fragment_back right up keep space over tiles i part f =
     subst Q (all_undone right up tiles) (subst P (all_undone right up keep)
     (fragment_moved (neg_ℤ right) (neg_ℤ up) (map (moved right up) keep) space over (map (moved right up) tiles) i part f))
 
-parts_moved : (right up : ℤ) (keep : List Corners) (space over : ℕ) (tiles : List Corners) (label : List ℕ) (rects : List Corners)
-    (tile shape : List ℕ) → AreParts keep space over tiles label rects tile shape →
-    AreParts (map (moved right up) keep) space over (map (moved right up) tiles) label (map (moved right up) rects) tile shape
+parts_moved : (right up : ℤ) (keep : List Corners) (space over : ℕ) (tiles : List Corners) (label : List ℕ) (rects : List Corners) (tile shape : List ℕ)
+    → AreParts keep space over tiles label rects tile shape
+    → AreParts (map (moved right up) keep) space over (map (moved right up) tiles) label (map (moved right up) rects) tile shape
 parts_moved right up keep space over tiles label rects tile shape p =
     let move = moved right up in
     let size = length-map rects move in
@@ -381,8 +385,8 @@ parts_moved right up keep space over tiles label rects tile shape p =
 
 -- ---- cuts between fragments
 
-zone_moved : (right up : ℤ) (over : ℕ) (tile : Corners) (c : ℤ) →
-    zone_at over (moved right up tile) (c +ℤ along right up tile) ≡ moved right up (zone_at over tile c)
+zone_moved : (right up : ℤ) (over : ℕ) (tile : Corners) (c : ℤ)
+    → zone_at over (moved right up tile) (c +ℤ along right up tile) ≡ moved right up (zone_at over tile c)
 zone_moved right up over tile c =
     let s = along right up tile in
     let h = pos (over / 2) in
@@ -394,9 +398,9 @@ zone_moved right up over tile c =
       high : (c s h : ℤ) → (c +ℤ s) +ℤ h ≡ (c +ℤ h) +ℤ s
       high c s h = omega signed
 
-pair_moved : (right up : ℤ) (over : ℕ) (tiles rects : List Corners) (tile : List ℕ) (a b : ℕ) (zone : Corners) →
-    (a < length rects → get_or tile a 0 < length tiles) → IsCut over tiles rects tile a b zone →
-    IsCut over (map (moved right up) tiles) (map (moved right up) rects) tile a b (moved right up zone)
+pair_moved : (right up : ℤ) (over : ℕ) (tiles rects : List Corners) (tile : List ℕ) (a b : ℕ) (zone : Corners)
+    → (a < length rects → get_or tile a 0 < length tiles) → IsCut over tiles rects tile a b zone
+    → IsCut over (map (moved right up) tiles) (map (moved right up) rects) tile a b (moved right up zone)
 pair_moved right up over tiles rects tile a b zone owned c =
     let move = moved right up in
     let size = length-map rects move in
@@ -421,10 +425,10 @@ pair_moved right up over tiles rects tile a b zone owned c =
           ap (λ z. zone_at over z (end_of t (rect_at rects a) +ℤ s)) (sym e) ∙ ap (λ z. zone_at over (rect_at (map move tiles) i) z) (sym ends);
     }
 
-pair_back : (right up : ℤ) (over : ℕ) (tiles rects : List Corners) (tile : List ℕ) (a b : ℕ) (zone : Corners) →
-    (a < length rects → get_or tile a 0 < length tiles) →
-    IsCut over (map (moved right up) tiles) (map (moved right up) rects) tile a b zone →
-    IsCut over tiles rects tile a b (zone_at over (rect_at tiles (get_or tile a 0)) (end_of (rect_at tiles (get_or tile a 0)) (rect_at rects a)))
+pair_back : (right up : ℤ) (over : ℕ) (tiles rects : List Corners) (tile : List ℕ) (a b : ℕ) (zone : Corners)
+    → (a < length rects → get_or tile a 0 < length tiles)
+    → IsCut over (map (moved right up) tiles) (map (moved right up) rects) tile a b zone
+    → IsCut over tiles rects tile a b (zone_at over (rect_at tiles (get_or tile a 0)) (end_of (rect_at tiles (get_or tile a 0)) (rect_at rects a)))
 pair_back right up over tiles rects tile a b zone owned c =
     let move = moved right up in
     let size = length-map rects move in
@@ -450,9 +454,10 @@ pair_back right up over tiles rects tile a b zone owned c =
       overlap = refl;
     }
 
-cuts_moved : (right up : ℤ) (over : ℕ) (tiles rects : List Corners) (tile : List ℕ) (cuts others : List Cut) →
-    ((a : ℕ) → a < length rects → get_or tile a 0 < length tiles) → AllZip (IsCutImage (moved right up)) cuts others →
-    AreCuts over tiles rects tile cuts → AreCuts over (map (moved right up) tiles) (map (moved right up) rects) tile others
+cuts_moved : (right up : ℤ) (over : ℕ) (tiles rects : List Corners) (tile : List ℕ) (cuts others : List Cut)
+    → ((a : ℕ) → a < length rects → get_or tile a 0 < length tiles)
+    → AllZip (IsCutImage (moved right up)) cuts others → AreCuts over tiles rects tile cuts
+    → AreCuts over (map (moved right up) tiles) (map (moved right up) rects) tile others
 cuts_moved right up over tiles rects tile cuts others owned z c =
     let move = moved right up in
     let size = zip_length (IsCutImage move) cuts others z in
@@ -492,9 +497,9 @@ cuts_moved right up over tiles rects tile cuts others owned z c =
       again xs k l d = get_or_default xs k (get_or xs k d) d l
 
 -- tiles that are moved have the fragments that are moved
-pub fragments_moved : (right up : ℤ) (keep : List Corners) (space over : ℕ) (tiles : List Corners) (label : List ℕ) (f g : Fragments) →
-    AreImages (moved right up) f g → AreFragments keep space over tiles label f →
-    AreFragments (map (moved right up) keep) space over (map (moved right up) tiles) label g
+pub fragments_moved : (right up : ℤ) (keep : List Corners) (space over : ℕ) (tiles : List Corners) (label : List ℕ) (f g : Fragments)
+    → AreImages (moved right up) f g → AreFragments keep space over tiles label f
+    → AreFragments (map (moved right up) keep) space over (map (moved right up) tiles) label g
 fragments_moved right up keep space over tiles label f g i a =
     let move = moved right up in
     let old = map corners_of f.rects in

@@ -18,9 +18,9 @@ use Rattle.dpl_list.proofs.Lists.{no_more}
 -- ---- fragments
 
 -- the first list of fragments has each of the second
-found : (keep : List Corners) (space over : ℕ) (tiles : List Corners) (label l : List ℕ) (a b : List Corners)
-    (tile shape t s : List ℕ) → AreParts keep space over tiles label a tile shape →
-    AreParts keep space over tiles l b t s → (z : Corners) → Contains a z → Contains b z
+found : (keep : List Corners) (space over : ℕ) (tiles : List Corners) (label l : List ℕ) (a b : List Corners) (tile shape t s : List ℕ)
+    → AreParts keep space over tiles label a tile shape → AreParts keep space over tiles l b t s
+    → (z : Corners) → Contains a z → Contains b z
 found keep space over tiles label l a b tile shape t s p q z c =
     let i = get_or tile c.0 0 in
     let own : rect_at a c.0 ≡ z = get_or_default a c.0 _ z c.1 ∙ c.2 in
@@ -29,9 +29,8 @@ found keep space over tiles label l a b tile shape t s p q z c =
     (k.0, k.1.within, get_or_default b k.0 z _ k.1.within ∙ k.1.is)
 
 -- tiles have one list of fragments
-pub parts_same : (keep : List Corners) (space over : ℕ) (tiles : List Corners) (label l : List ℕ) (a b : List Corners)
-    (tile shape t s : List ℕ) → AreParts keep space over tiles label a tile shape →
-    AreParts keep space over tiles l b t s → a ≡ b
+pub parts_same : (keep : List Corners) (space over : ℕ) (tiles : List Corners) (label l : List ℕ) (a b : List Corners) (tile shape t s : List ℕ)
+    → AreParts keep space over tiles label a tile shape → AreParts keep space over tiles l b t s → a ≡ b
 parts_same keep space over tiles label l a b tile shape t s p q = ordered_same IsBefore before_once a b p.ordered q.ordered
     (λ z c. found keep space over tiles label l a b tile shape t s p q z c)
     (λ z c. found keep space over tiles l label b a t s tile shape q p z c)
@@ -49,9 +48,9 @@ one_place rects i j up h l e = elim (cases_lt i j) [
   never r s f b = let P : Corners → Type 0 = λ c. IsBefore r c in let Q : Corners → Type 0 = λ c. IsBefore c r in
       before_once r r (subst P (sym f) b) (subst P (sym f) b)
 
-pub tile_same : (keep : List Corners) (space over : ℕ) (tiles : List Corners) (label l : List ℕ) (rects : List Corners)
-    (tile shape t s : List ℕ) → AreParts keep space over tiles label rects tile shape →
-    AreParts keep space over tiles l rects t s → tile ≡ t
+pub tile_same : (keep : List Corners) (space over : ℕ) (tiles : List Corners) (label l : List ℕ) (rects : List Corners) (tile shape t s : List ℕ)
+    → AreParts keep space over tiles label rects tile shape → AreParts keep space over tiles l rects t s
+    → tile ≡ t
 tile_same keep space over tiles label l rects tile shape t s p q = lists_same tile t 0 (p.tile_long ∙ sym q.tile_long)
     (λ k h.
     let w : k < length rects = let e = p.tile_long in omega arith in
@@ -59,9 +58,9 @@ tile_same keep space over tiles label l rects tile shape t s p q = lists_same ti
     let e : m ≡ k = one_place rects m k p.ordered n.within w n.is in
     sym n.own ∙ ap (λ i. get_or t i 0) e)
 
-pub shape_same : (keep : List Corners) (space over : ℕ) (tiles : List Corners) (label : List ℕ) (rects : List Corners)
-    (tile shape s : List ℕ) → AreParts keep space over tiles label rects tile shape →
-    AreParts keep space over tiles label rects tile s → shape ≡ s
+pub shape_same : (keep : List Corners) (space over : ℕ) (tiles : List Corners) (label : List ℕ) (rects : List Corners) (tile shape s : List ℕ)
+    → AreParts keep space over tiles label rects tile shape
+    → AreParts keep space over tiles label rects tile s → shape ≡ s
 shape_same keep space over tiles label rects tile shape s p q = lists_same shape s 0 (p.shape_long ∙ sym q.shape_long)
     (λ k h. let w : k < length rects = let e = p.shape_long in omega arith in p.shapes k w ∙ sym (q.shapes k w))
 
@@ -71,8 +70,9 @@ cut_same c d e f g =
     let h : c.zone ≡ d.zone = same_corners c.zone d.zone g in
     let r : ◌≡◌ {A = Cut} (record { a = c.a; b = c.b; zone = c.zone }) (record { a = d.a; b = d.b; zone = d.zone }) = cc in r
 
-cut_found : (over : ℕ) (tiles rects : List Corners) (tile : List ℕ) (a b : List Cut) → AreCuts over tiles rects tile a →
-    AreCuts over tiles rects tile b → (c : Cut) → Contains a c → Contains b c
+cut_found : (over : ℕ) (tiles rects : List Corners) (tile : List ℕ) (a b : List Cut)
+    → AreCuts over tiles rects tile a → AreCuts over tiles rects tile b → (c : Cut) → Contains a c
+    → Contains b c
 cut_found over tiles rects tile a b s t c m =
     let x = All-contains (λ (c : Cut). IsCut over tiles rects tile c.a c.b (corners_of c.zone)) a c s.each m in
     let (k, d, l, e, (f, g)) = t.all c.a c.b (corners_of c.zone) x in
@@ -84,8 +84,8 @@ cut_found over tiles rects tile a b s t c m =
       zone_of : ℕ → List Corners → List Corners → List ℕ → ℕ → Corners
       zone_of over tiles rects tile i = zone_at over (rect_at tiles (get_or tile i 0)) (end_of (rect_at tiles (get_or tile i 0)) (rect_at rects i))
 
-pub cuts_same : (over : ℕ) (tiles rects : List Corners) (tile : List ℕ) (a b : List Cut) →
-    AreCuts over tiles rects tile a → AreCuts over tiles rects tile b → a ≡ b
+pub cuts_same : (over : ℕ) (tiles rects : List Corners) (tile : List ℕ) (a b : List Cut)
+    → AreCuts over tiles rects tile a → AreCuts over tiles rects tile b → a ≡ b
 cuts_same over tiles rects tile a b s t = ordered_same (λ (c : Cut) d. c.a < d.a) (λ x y h l. omega (arith, h, l)) a b s.ordered t.ordered
     (cut_found over tiles rects tile a b s t) (cut_found over tiles rects tile b a t s)
 
@@ -95,8 +95,8 @@ lists_joined f g d e h i = let r : ◌≡◌ {A = Fragments}
     (record { rects = g.rects; tile = g.tile; shape = g.shape; cuts = g.cuts }) = cc in r
 
 -- tiles with their shapes have one list of fragments with their cuts
-pub fragments_same : (keep : List Corners) (space over : ℕ) (tiles : List Corners) (label : List ℕ) (f g : Fragments) →
-    AreFragments keep space over tiles label f → AreFragments keep space over tiles label g → f ≡ g
+pub fragments_same : (keep : List Corners) (space over : ℕ) (tiles : List Corners) (label : List ℕ) (f g : Fragments)
+    → AreFragments keep space over tiles label f → AreFragments keep space over tiles label g → f ≡ g
 fragments_same keep space over tiles label f g a b =
     let c : map corners_of f.rects ≡ map corners_of g.rects =
     parts_same keep space over tiles label label (map corners_of f.rects) (map corners_of g.rects) f.tile f.shape
@@ -126,17 +126,17 @@ zipped_long [] rs = omega arith
 zipped_long (i ∷ is) [] = omega arith
 zipped_long (i ∷ is) (r ∷ rs) = let h = zipped_long is rs in omega arith
 
-in_zipped : (is : List ℕ) (rs : List Corners) (k : ℕ) (p : ℕ × Corners) → k < length is → k < length rs →
-    get_or is k 0 ≡ p.0 → rect_at rs k ≡ p.1 → Contains (zipped is rs) p
+in_zipped : (is : List ℕ) (rs : List Corners) (k : ℕ) (p : ℕ × Corners) → k < length is → k < length rs
+    → get_or is k 0 ≡ p.0 → rect_at rs k ≡ p.1 → Contains (zipped is rs) p
 in_zipped [] rs k p l m e f = absurd (omega arith)
 in_zipped (i ∷ is) [] k p l m e f = absurd (omega arith)
 in_zipped (i ∷ is) (r ∷ rs) zero p l m e f = let g : ◌≡◌ {A = ℕ × Corners} (i, r) (p.0, p.1) = cc in (0, omega arith, g)
 in_zipped (i ∷ is) (r ∷ rs) (suc k) p l m e f = let c = in_zipped is rs k p (omega arith) (omega arith) e f in let h = c.1 in (suc c.0, omega (arith, h), c.2)
 
 -- where there are no more than n fragments, no list of different ones is longer
-pub no_more_fragments : (keep : List Corners) (space over : ℕ) (tiles : List Corners) (label : List ℕ) (f : Fragments)
-    (n : ℕ) → AreFragments keep space over tiles label f → length f.rects ≤ n →
-    ¬ HasMoreFragments keep space over tiles n
+pub no_more_fragments : (keep : List Corners) (space over : ℕ) (tiles : List Corners) (label : List ℕ) (f : Fragments) (n : ℕ)
+    → AreFragments keep space over tiles label f → length f.rects ≤ n
+    → ¬ HasMoreFragments keep space over tiles n
 no_more_fragments keep space over tiles label f n a few more =
     let rects = map corners_of f.rects in
     let long : length rects ≡ length f.rects = length-map f.rects corners_of in

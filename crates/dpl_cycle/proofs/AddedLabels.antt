@@ -12,8 +12,8 @@ abbrev pub Labels : (ℕ → ℕ) → (ℕ → ℕ) → (ℕ → ℕ) → ℕ �
 Labels f w h n = (z : ℕ) → z < n → h (f z) % 2 ≡ (h z + w z) % 2
 
 -- labels of the new faces that fit the new edge are labels of the old ones
-pub labels_without : (n : ℕ) (f w h : ℕ → ℕ) (i j c d : ℕ) → IsNew n f i j c d → w c ≡ w d →
-    Labels (added f i j c d) w h n → h d % 2 ≡ (h c + w c) % 2 → Labels f w h n
+pub labels_without : (n : ℕ) (f w h : ℕ → ℕ) (i j c d : ℕ) → IsNew n f i j c d → w c ≡ w d
+    → Labels (added f i j c d) w h n → h d % 2 ≡ (h c + w c) % 2 → Labels f w h n
 labels_without n f w h i j c d q ww l fit = λ z k.
     let at_i : h c % 2 ≡ (h i + w i) % 2 = sym (ap (λ y. h y % 2) (added_i n f i j c d q)) ∙ l i q.i_in in
     let at_j : h d % 2 ≡ (h j + w j) % 2 = sym (ap (λ y. h y % 2) (added_j n f i j c d q)) ∙ l j q.j_in in
@@ -46,8 +46,9 @@ unfolding shifted
 shifted_out f n h d v z e = rw (ne_eqb (least f n z) (least f n d) e, shifted)
 
 -- where c and d are on two faces, one of them can be turned over so that the labels fit
-pub labels_fit : (n : ℕ) (f g w h : ℕ → ℕ) (c d : ℕ) → Permutes n f g → c < n → d < n → least f n c ≢ least f n d →
-    Labels f w h n → (h' : ℕ → ℕ) × Labels f w h' n × (h' d % 2 ≡ (h' c + w c) % 2)
+pub labels_fit : (n : ℕ) (f g w h : ℕ → ℕ) (c d : ℕ) → Permutes n f g → c < n → d < n
+    → least f n c ≢ least f n d → Labels f w h n
+    → (h' : ℕ → ℕ) × Labels f w h' n × (h' d % 2 ≡ (h' c + w c) % 2)
 labels_fit n f g w h c d p hc hd apart l =
     let v = h c + w c + h d in
     let h' = shifted f n h d v in (
@@ -71,8 +72,9 @@ sum_alike_parity (suc n) p a b e = elim (cases_Bool (p n)) [
 ]
 
 -- sums that agree but at one place
-sum_parity : (n : ℕ) (p : ℕ → Bool) (a b : ℕ → ℕ) (m : ℕ) → m < n → p m ≡ true →
-    ((z : ℕ) → z < n → p z ≡ true → z ≢ m → a z % 2 ≡ b z % 2) → (sum_on p a n + b m) % 2 ≡ (sum_on p b n + a m) % 2
+sum_parity : (n : ℕ) (p : ℕ → Bool) (a b : ℕ → ℕ) (m : ℕ) → m < n → p m ≡ true
+    → ((z : ℕ) → z < n → p z ≡ true → z ≢ m → a z % 2 ≡ b z % 2)
+    → (sum_on p a n + b m) % 2 ≡ (sum_on p b n + a m) % 2
 sum_parity zero p a b m h pm e = absurd (omega arith)
 sum_parity (suc n) p a b m h pm e = elim (cases_eq n m) [
   | inl t ↦

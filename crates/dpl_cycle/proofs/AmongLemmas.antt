@@ -39,8 +39,8 @@ among_same (suc n) p f f' e =
     ]
 
 -- where each other number leads to itself, the cycles are those through the members and one for each other
-pub cycles_members : (n : ℕ) (p : ℕ → Bool) (f g : ℕ → ℕ) → Permutes n f g → ((x : ℕ) → x < n → p x ≡ false → f x ≡ x) →
-    cycles f n ≡ cycles_among f (members p n) + others_count p n
+pub cycles_members : (n : ℕ) (p : ℕ → Bool) (f g : ℕ → ℕ) → Permutes n f g
+    → ((x : ℕ) → x < n → p x ≡ false → f x ≡ x) → cycles f n ≡ cycles_among f (members p n) + others_count p n
 cycles_members zero p f g q fixed = refl
 cycles_members (suc n) p f g q fixed =
     let still : (x : ℕ) → x < n → p x ≡ false → without n f x ≡ x = λ x h o.

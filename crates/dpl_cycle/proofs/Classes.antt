@@ -24,8 +24,8 @@ unfolding exchange_back
 back_other f g i j y k h = rw (ne_eqb y (f j) k, ne_eqb y (f i) h, exchange_back)
 
 -- f at one place
-forms : (f : ℕ → ℕ) (i j x : ℕ) → i ≢ j → ((x ≡ i) × (exchange f i j x ≡ f j)) ⊎
-    (((x ≡ j) × (exchange f i j x ≡ f i)) ⊎ ((x ≢ i) × (x ≢ j) × (exchange f i j x ≡ f x)))
+forms : (f : ℕ → ℕ) (i j x : ℕ) → i ≢ j
+    → ((x ≡ i) × (exchange f i j x ≡ f j)) ⊎ (((x ≡ j) × (exchange f i j x ≡ f i)) ⊎ ((x ≢ i) × (x ≢ j) × (exchange f i j x ≡ f x)))
 forms f i j x ne = elim (cases_eq x i) [
   | inl a ↦ inl (a, ap (exchange f i j) a ∙ exchange_first f i j)
   | inr a ↦ elim (cases_eq x j) [
@@ -84,8 +84,8 @@ cycles_twice : (n : ℕ) (f : ℕ → ℕ) (i j : ℕ) → i ≢ j → cycles (e
 cycles_twice n f i j ne = cycles_same n _ _ (λ x h. exchange_twice f i j x ne)
 
 -- after a merge the two are on one cycle
-pub merged_together : (n : ℕ) (f g : ℕ → ℕ) → Permutes n f g → (i j : ℕ) → i < n → j < n → i ≢ j →
-    (least f n i ≢ least f n j) → least (exchange f i j) n i ≡ least (exchange f i j) n j
+pub merged_together : (n : ℕ) (f g : ℕ → ℕ) → Permutes n f g → (i j : ℕ) → i < n → j < n → i ≢ j
+    → (least f n i ≢ least f n j) → least (exchange f i j) n i ≡ least (exchange f i j) n j
 merged_together n f g p i j hi hj ne apart =
     let there = exchange_law n f g p i j hi hj ne in
     let back = exchange_law n (exchange f i j) (exchange_back f g i j) (exchange_permutes n f g p i j hi hj ne) i j hi hj ne in
@@ -95,17 +95,17 @@ merged_together n f g p i j hi hj ne apart =
     ]
 
 -- after a split they are on two
-pub split_apart : (n : ℕ) (f g : ℕ → ℕ) → Permutes n f g → (i j : ℕ) → i < n → j < n → i ≢ j →
-    least f n i ≡ least f n j → least (exchange f i j) n i ≢ least (exchange f i j) n j
+pub split_apart : (n : ℕ) (f g : ℕ → ℕ) → Permutes n f g → (i j : ℕ) → i < n → j < n → i ≢ j
+    → least f n i ≡ least f n j → least (exchange f i j) n i ≢ least (exchange f i j) n j
 split_apart n f g p i j hi hj ne e k =
     let there = exchange_law n f g p i j hi hj ne in
     let back = exchange_law n (exchange f i j) (exchange_back f g i j) (exchange_permutes n f g p i j hi hj ne) i j hi hj ne in
     omega (arith, there.splits e, back.splits k, cycles_twice n f i j ne)
 
 -- a merge keeps together what was together
-pub merge_keeps : (n : ℕ) (f g : ℕ → ℕ) → Permutes n f g → (i j : ℕ) → i < n → j < n → i ≢ j →
-    (least f n i ≢ least f n j) → (x y : ℕ) → x < n → y < n → least f n x ≡ least f n y →
-    least (exchange f i j) n x ≡ least (exchange f i j) n y
+pub merge_keeps : (n : ℕ) (f g : ℕ → ℕ) → Permutes n f g → (i j : ℕ) → i < n → j < n → i ≢ j
+    → (least f n i ≢ least f n j) → (x y : ℕ) → x < n → y < n → least f n x ≡ least f n y
+    → least (exchange f i j) n x ≡ least (exchange f i j) n y
 merge_keeps n f g p i j hi hj ne apart x y hx hy e =
     let f' = exchange f i j in
     let p' = exchange_permutes n f g p i j hi hj ne in

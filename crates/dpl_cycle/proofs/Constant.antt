@@ -7,9 +7,10 @@ use Rattle.dpl_cycle.proofs.AddedLabels.{Labels}
 
 -- Along a face the labels of the darts and of the nodes differ by one constant, so that where i and j are on one
 -- face the two differences at them are one. `tail` gives a dart's node, and `kept` says which darts are drawn.
-pub face_constant : (n : ℕ) (f g w h nodes : ℕ → ℕ) (kept : ℕ → Bool) → Permutes n f g → Labels f w h n → ((z : ℕ) → z < n → kept (f z) ≡ kept z) →
-    ((z : ℕ) → z < n → kept z ≡ true → nodes (f z) % 2 ≡ (nodes z + w z) % 2) → (i j : ℕ) → i < n → j < n →
-    kept i ≡ true → kept j ≡ true → least f n i ≡ least f n j → (h i + nodes i) % 2 ≡ (h j + nodes j) % 2
+pub face_constant : (n : ℕ) (f g w h nodes : ℕ → ℕ) (kept : ℕ → Bool) → Permutes n f g → Labels f w h n
+    → ((z : ℕ) → z < n → kept (f z) ≡ kept z)
+    → ((z : ℕ) → z < n → kept z ≡ true → nodes (f z) % 2 ≡ (nodes z + w z) % 2) → (i j : ℕ) → i < n → j < n
+    → kept i ≡ true → kept j ≡ true → least f n i ≡ least f n j → (h i + nodes i) % 2 ≡ (h j + nodes j) % 2
 face_constant n f g w h nodes kept p l stays fits i j hi hj ki kj e =
     let label : ℕ → ℕ = λ z. cond (kept z) ((h z + nodes z) % 2) 2 in
     let along : (z : ℕ) → z < n → label (f z) ≡ label z = λ z k. elim (cases_Bool (kept z)) [

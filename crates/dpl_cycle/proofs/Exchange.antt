@@ -8,8 +8,8 @@ use Rattle.dpl_cycle.proofs.Shorter.{shorter, cycles_same}
 use Rattle.dpl_cycle.proofs.Least.{least_step, least_le}
 
 -- neither is the greatest number
-exchange_below : (n : ℕ) (f g : ℕ → ℕ) → Permutes (suc n) f g → (i j : ℕ) → i < n → j < n → i ≢ j →
-    SplitsOrMerges n (without n f) i j → SplitsOrMerges (suc n) f i j
+exchange_below : (n : ℕ) (f g : ℕ → ℕ) → Permutes (suc n) f g → (i j : ℕ) → i < n → j < n → i ≢ j
+    → SplitsOrMerges n (without n f) i j → SplitsOrMerges (suc n) f i j
 exchange_below n f g p i j hi hj ne law =
     let top : exchange f i j n ≡ f n = exchange_other f i j n (λ k. omega arith) (λ k. omega arith) in
     let same : cycles (without n (exchange f i j)) n ≡ cycles (exchange (without n f) i j) n =
@@ -58,8 +58,8 @@ exchange_below n f g p i j hi hj ne law =
     ]
 
 -- the second is the greatest number
-exchange_top : (n : ℕ) (f g : ℕ → ℕ) → Permutes (suc n) f g → (i : ℕ) → i < n →
-    ((m : ℕ) → m < n → i ≢ m → SplitsOrMerges n (without n f) i m) → SplitsOrMerges (suc n) f i n
+exchange_top : (n : ℕ) (f g : ℕ → ℕ) → Permutes (suc n) f g → (i : ℕ) → i < n
+    → ((m : ℕ) → m < n → i ≢ m → SplitsOrMerges n (without n f) i m) → SplitsOrMerges (suc n) f i n
 exchange_top n f g p i hi law =
     let e = exchange f i n in
     let first : e i ≡ f n = exchange_first f i n in

@@ -67,8 +67,8 @@ even_alone n f g p w even alone =
     )
 
 -- the greatest number is on a longer cycle: its weight goes to the one before it
-even_more : (n : ℕ) (f g : ℕ → ℕ) → Permutes (suc n) f g → (w : ℕ → ℕ) → IsEvenAround f w (suc n) → f n ≢ n → g n < n →
-    IsEvenAround (without n f) (bump (g n) (w n) w) n
+even_more : (n : ℕ) (f g : ℕ → ℕ) → Permutes (suc n) f g → (w : ℕ → ℕ) → IsEvenAround f w (suc n) → f n ≢ n
+    → g n < n → IsEvenAround (without n f) (bump (g n) (w n) w) n
 even_more n f g p w even more lt = λ x h.
     let q = shorter n f g p in
     let m = g n in

@@ -39,8 +39,8 @@ least_le (suc n) f g p x h =
     ]
 
 -- what is constant along f is constant on each cycle
-pub label_least : (n : ℕ) (f g : ℕ → ℕ) → Permutes n f g → (label : ℕ → ℕ) → ((x : ℕ) → x < n → label (f x) ≡ label x) →
-    (x : ℕ) → x < n → label (least f n x) ≡ label x
+pub label_least : (n : ℕ) (f g : ℕ → ℕ) → Permutes n f g → (label : ℕ → ℕ)
+    → ((x : ℕ) → x < n → label (f x) ≡ label x) → (x : ℕ) → x < n → label (least f n x) ≡ label x
 label_least zero f g p label e x h = absurd (omega arith)
 label_least (suc n) f g p label e x h =
     let q = shorter n f g p in

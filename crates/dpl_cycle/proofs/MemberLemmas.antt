@@ -46,8 +46,8 @@ others_same (suc n) p q e =
     ]
 
 -- one number more passes the test
-pub others_less : (n : ℕ) (p q : ℕ → Bool) (m : ℕ) → m < n → p m ≡ false → q m ≡ true →
-    ((x : ℕ) → x < n → x ≢ m → p x ≡ q x) → others_count q n + 1 ≡ others_count p n
+pub others_less : (n : ℕ) (p q : ℕ → Bool) (m : ℕ) → m < n → p m ≡ false → q m ≡ true
+    → ((x : ℕ) → x < n → x ≢ m → p x ≡ q x) → others_count q n + 1 ≡ others_count p n
 others_less zero p q m h pm qm e = absurd (omega arith)
 others_less (suc n) p q m h pm qm e = elim (cases_eq n m) [
   | inl t ↦

@@ -26,8 +26,9 @@ count_same (suc k) s t to from =
     ]
 
 -- names of which one number names itself no more
-count_less : (k : ℕ) (s t : ℕ → ℕ) (m : ℕ) → m < k → s m ≡ m → t m ≢ m → ((v : ℕ) → v < k → v ≢ m → s v ≡ v → t v ≡ v) →
-    ((v : ℕ) → v < k → t v ≡ v → s v ≡ v) → name_count t k + 1 ≡ name_count s k
+count_less : (k : ℕ) (s t : ℕ → ℕ) (m : ℕ) → m < k → s m ≡ m → t m ≢ m
+    → ((v : ℕ) → v < k → v ≢ m → s v ≡ v → t v ≡ v) → ((v : ℕ) → v < k → t v ≡ v → s v ≡ v)
+    → name_count t k + 1 ≡ name_count s k
 count_less zero s t m h sm tm to from = absurd (omega arith)
 count_less (suc k) s t m h sm tm to from = elim (cases_eq k m) [
   | inl q ↦
@@ -44,8 +45,8 @@ count_less (suc k) s t m h sm tm to from = elim (cases_eq k m) [
 ]
 
 -- joining two classes leaves one less
-pub join_less : (n : ℕ) (names : ℕ → ℕ) → AreNames n names → (a b : ℕ) → a < n → b < n → names a ≢ names b →
-    name_count (join names a b) n + 1 ≡ name_count names n
+pub join_less : (n : ℕ) (names : ℕ → ℕ) → AreNames n names → (a b : ℕ) → a < n → b < n → names a ≢ names b
+    → name_count (join names a b) n + 1 ≡ name_count names n
 join_less n names p a b ha hb ne =
     let m = names b in
     count_less n names (join names a b) m (p.inside b hb) (p.twice b hb)

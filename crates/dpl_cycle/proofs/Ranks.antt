@@ -22,8 +22,8 @@ rank_le R d e (c ∷ cs) h = elim (cases_Bool (R c d)) [
   | inr q ↦ omega (arith, cond-false {A = ℕ} (R c d) 1 0 q, rank_le R d e cs (λ x m. h x (inr m)))
 ]
 
-rank_lt : (R : ℕ → ℕ → Bool) (d e : ℕ) (cs : List ℕ) → ((c : ℕ) → Mem c cs → R c d ≡ true → R c e ≡ true) → Mem d cs →
-    R d d ≡ false → R d e ≡ true → rank R cs d < rank R cs e
+rank_lt : (R : ℕ → ℕ → Bool) (d e : ℕ) (cs : List ℕ) → ((c : ℕ) → Mem c cs → R c d ≡ true → R c e ≡ true)
+    → Mem d cs → R d d ≡ false → R d e ≡ true → rank R cs d < rank R cs e
 unfolding rank
 rank_lt R d e [] h m i t = absurd m
 rank_lt R d e (c ∷ cs) h m i t = elim m [

@@ -18,8 +18,8 @@ sum_alike zero p a b e = refl
 sum_alike (suc n) p a b e = omega (arith, ap (λ z. cond (p n) z 0) (e n (omega arith)), sum_alike n p a b (λ d k. e d (omega arith)))
 
 -- two weights that differ at one place
-sum_differ : (n : ℕ) (p : ℕ → Bool) (a b : ℕ → ℕ) (m : ℕ) → m < n → ((d : ℕ) → d < n → d ≢ m → a d ≡ b d) →
-    sum_on p a n + cond (p m) (b m) 0 ≡ sum_on p b n + cond (p m) (a m) 0
+sum_differ : (n : ℕ) (p : ℕ → Bool) (a b : ℕ → ℕ) (m : ℕ) → m < n → ((d : ℕ) → d < n → d ≢ m → a d ≡ b d)
+    → sum_on p a n + cond (p m) (b m) 0 ≡ sum_on p b n + cond (p m) (a m) 0
 sum_differ zero p a b m h e = absurd (omega arith)
 sum_differ (suc n) p a b m h e = elim (cases_eq n m) [
   | inl t ↦
@@ -68,8 +68,8 @@ sum_moved (suc n) f g q p keeps w = elim (cases_eq (f n) n) [
 ]
 
 -- the weights of two darts of each edge sum to an even number
-pub sum_pairs : (e : ℕ) (p : ℕ → Bool) (w : ℕ → ℕ) → ((k : ℕ) → k < e → p (suc (2 * k)) ≡ p (2 * k)) →
-    ((k : ℕ) → k < e → w (suc (2 * k)) ≡ w (2 * k)) → sum_on p w (2 * e) % 2 ≡ 0
+pub sum_pairs : (e : ℕ) (p : ℕ → Bool) (w : ℕ → ℕ) → ((k : ℕ) → k < e → p (suc (2 * k)) ≡ p (2 * k))
+    → ((k : ℕ) → k < e → w (suc (2 * k)) ≡ w (2 * k)) → sum_on p w (2 * e) % 2 ≡ 0
 sum_pairs zero p w a b = refl
 sum_pairs (suc e) p w a b =
     let n = 2 * e in

@@ -41,15 +41,15 @@ turn_add_back m r a b c ha hb hc h = grind (arith, turn_forms m r a c, turn_form
 
 -- ---- the next and the one before
 
-nearer_forms : (m : ℕ) (r : ℕ → ℕ) (d c e : ℕ) → ((turn m r d c < turn m r d e) × (nearer m r d c e ≡ c)) ⊎
-    ((turn m r d e ≤ turn m r d c) × (nearer m r d c e ≡ e))
+nearer_forms : (m : ℕ) (r : ℕ → ℕ) (d c e : ℕ)
+    → ((turn m r d c < turn m r d e) × (nearer m r d c e ≡ c)) ⊎ ((turn m r d e ≤ turn m r d c) × (nearer m r d c e ≡ e))
 nearer_forms m r d c e = elim (cases_lt (turn m r d c) (turn m r d e)) [
   | inl h ↦ inl (h, rw (lt-ltb (turn m r d c) (turn m r d e) h, nearer))
   | inr h ↦ inr (h, rw (le-ltb (turn m r d c) (turn m r d e) h, nearer))
 ]
 
-later_forms : (m : ℕ) (r : ℕ → ℕ) (d c e : ℕ) → ((turn m r c d < turn m r e d) × (later m r d c e ≡ c)) ⊎
-    ((turn m r e d ≤ turn m r c d) × (later m r d c e ≡ e))
+later_forms : (m : ℕ) (r : ℕ → ℕ) (d c e : ℕ)
+    → ((turn m r c d < turn m r e d) × (later m r d c e ≡ c)) ⊎ ((turn m r e d ≤ turn m r c d) × (later m r d c e ≡ e))
 later_forms m r d c e = elim (cases_lt (turn m r c d) (turn m r e d)) [
   | inl h ↦ inl (h, rw (lt-ltb (turn m r c d) (turn m r e d) h, later))
   | inr h ↦ inr (h, rw (le-ltb (turn m r c d) (turn m r e d) h, later))
@@ -115,8 +115,8 @@ pub record OnCircle (m : ℕ) (r : ℕ → ℕ) (cs : List ℕ) : Type 0 where
   pub apart : (k l : ℕ) → Mem k cs → Mem l cs → r k ≡ r l → k ≡ l
 
 -- next and before lead back
-pub before_next : (m : ℕ) (r : ℕ → ℕ) (cs : List ℕ) → OnCircle m r cs → (d : ℕ) → Mem d cs → Mem (next m r d cs) cs →
-    Mem (before m r (next m r d cs) cs) cs → before m r (next m r d cs) cs ≡ d
+pub before_next : (m : ℕ) (r : ℕ → ℕ) (cs : List ℕ) → OnCircle m r cs → (d : ℕ) → Mem d cs
+    → Mem (next m r d cs) cs → Mem (before m r (next m r d cs) cs) cs → before m r (next m r d cs) cs ≡ d
 before_next m r cs p d hd hn hb =
     let n = next m r d cs in
     let x = before m r n cs in
@@ -129,8 +129,8 @@ before_next m r cs p d hd hn hb =
       | inr ge ↦ p.apart x d hb hd (turn_one_back m r x d n (p.below x hb) (p.below d hd) (p.below n hn) (omega (arith, le, ge)))
     ]
 
-pub next_before : (m : ℕ) (r : ℕ → ℕ) (cs : List ℕ) → OnCircle m r cs → (d : ℕ) → Mem d cs → Mem (before m r d cs) cs →
-    Mem (next m r (before m r d cs) cs) cs → next m r (before m r d cs) cs ≡ d
+pub next_before : (m : ℕ) (r : ℕ → ℕ) (cs : List ℕ) → OnCircle m r cs → (d : ℕ) → Mem d cs
+    → Mem (before m r d cs) cs → Mem (next m r (before m r d cs) cs) cs → next m r (before m r d cs) cs ≡ d
 next_before m r cs p d hd hb hn =
     let x = before m r d cs in
     let n = next m r x cs in
@@ -146,8 +146,8 @@ next_before m r cs p d hd hb hn =
 -- ---- one more on the circle
 
 -- a new number c comes after the one before it, and after no other
-pub next_more_other : (m : ℕ) (r : ℕ → ℕ) (c : ℕ) (cs : List ℕ) → OnCircle m r (c ∷ cs) → (y : ℕ) → Mem y cs →
-    Mem (before m r c cs) cs → (Mem c cs → ⊥) → y ≢ before m r c cs → next m r y (c ∷ cs) ≡ next m r y cs
+pub next_more_other : (m : ℕ) (r : ℕ → ℕ) (c : ℕ) (cs : List ℕ) → OnCircle m r (c ∷ cs) → (y : ℕ) → Mem y cs
+    → Mem (before m r c cs) cs → (Mem c cs → ⊥) → y ≢ before m r c cs → next m r y (c ∷ cs) ≡ next m r y cs
 next_more_other m r c cs p y hy hx new ne =
     let x = before m r c cs in
     let rx : r x < m = p.below x (inr hx) in
@@ -162,8 +162,9 @@ next_more_other m r c cs p y hy hx new ne =
       | inr f ↦ f.1
     ]
 
-pub next_more_before : (m : ℕ) (r : ℕ → ℕ) (c : ℕ) (cs : List ℕ) → OnCircle m r (c ∷ cs) → Mem (before m r c cs) cs →
-    Mem (next m r (before m r c cs) cs) cs → (Mem c cs → ⊥) → next m r (before m r c cs) (c ∷ cs) ≡ c
+pub next_more_before : (m : ℕ) (r : ℕ → ℕ) (c : ℕ) (cs : List ℕ) → OnCircle m r (c ∷ cs)
+    → Mem (before m r c cs) cs → Mem (next m r (before m r c cs) cs) cs → (Mem c cs → ⊥)
+    → next m r (before m r c cs) (c ∷ cs) ≡ c
 next_more_before m r c cs p hx hn new =
     let x = before m r c cs in
     let n = next m r x cs in
@@ -185,8 +186,8 @@ pub next_stays : (m : ℕ) (r : ℕ → ℕ) (d : ℕ) (cs : List ℕ) → Mem d
 next_stays m r d cs h = elim (next_in m r d cs) [ inl e ↦ (let P : ℕ → Type 0 = λ z. Mem z cs in subst P (sym e) h) | inr q ↦ q ]
 
 -- the new number leads where the one before it led
-pub next_more_new : (m : ℕ) (r : ℕ → ℕ) (c : ℕ) (cs : List ℕ) → OnCircle m r (c ∷ cs) → Mem (before m r c cs) cs →
-    (Mem c cs → ⊥) → next m r c (c ∷ cs) ≡ next m r (before m r c cs) cs
+pub next_more_new : (m : ℕ) (r : ℕ → ℕ) (c : ℕ) (cs : List ℕ) → OnCircle m r (c ∷ cs)
+    → Mem (before m r c cs) cs → (Mem c cs → ⊥) → next m r c (c ∷ cs) ≡ next m r (before m r c cs) cs
 next_more_new m r c cs p hx new =
     let x = before m r c cs in
     let n = next m r x cs in
@@ -215,8 +216,8 @@ next_more_new m r c cs p hx new =
     ]
 
 -- what is met first depends on the members alone
-pub next_alike : (m : ℕ) (r : ℕ → ℕ) (d : ℕ) (cs ds : List ℕ) → OnCircle m r cs → Mem d cs →
-    ((k : ℕ) → Mem k cs → Mem k ds) → ((k : ℕ) → Mem k ds → Mem k cs) → next m r d cs ≡ next m r d ds
+pub next_alike : (m : ℕ) (r : ℕ → ℕ) (d : ℕ) (cs ds : List ℕ) → OnCircle m r cs → Mem d cs
+    → ((k : ℕ) → Mem k cs → Mem k ds) → ((k : ℕ) → Mem k ds → Mem k cs) → next m r d cs ≡ next m r d ds
 next_alike m r d cs ds p hd to from =
     let n = next m r d cs in
     let k = next m r d ds in

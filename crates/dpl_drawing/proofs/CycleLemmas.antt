@@ -12,9 +12,9 @@ use Rattle.dpl_drawing.specs.Marks.{MarksCycle}
 use Rattle.dpl_drawing.proofs.ExchangeNames.{AreNamesOf, IsPair, names_split, names_merge}
 
 -- each number alone, named by itself
-pub named_alone : (nexts names : List ℕ) (n : ℕ) → length nexts ≡ n → length names ≡ n →
-    ((k : ℕ) → k < length nexts → get_or nexts k 0 ≡ k) → ((k : ℕ) → k < length names → get_or names k 0 ≡ k) →
-    IsNamed nexts names n
+pub named_alone : (nexts names : List ℕ) (n : ℕ) → length nexts ≡ n → length names ≡ n
+    → ((k : ℕ) → k < length nexts → get_or nexts k 0 ≡ k)
+    → ((k : ℕ) → k < length names → get_or names k 0 ≡ k) → IsNamed nexts names n
 named_alone nexts names n l m alone own =
     let low : (x : ℕ) → x < length nexts → least_of nexts x ≡ x = λ x h. least_fixed (length nexts) (slice_index nexts) x (alone x h) in
     record {
@@ -27,13 +27,14 @@ named_alone nexts names n l m alone own =
     }
 
 -- the cycles of the list after an exchange are those of the exchanged permutation
-pub least_swap : (xs : List ℕ) (i j x : ℕ) → i < length xs → j < length xs → i ≢ j →
-    least_of (swap xs i j) x ≡ least (exchange (slice_index xs) i j) (length xs) x
+pub least_swap : (xs : List ℕ) (i j x : ℕ) → i < length xs → j < length xs → i ≢ j
+    → least_of (swap xs i j) x ≡ least (exchange (slice_index xs) i j) (length xs) x
 least_swap xs i j x hi hj ne = ap (λ n. least (slice_index (swap xs i j)) n x) (length_swap xs i j hi hj) ∙
     least_same (length xs) _ _ (λ z h. swap_value xs i j hi hj ne z) x
 
-names_at : (xs names : List ℕ) (i j : ℕ) → i < length xs → j < length xs → i ≢ j →
-    AreNamesOf (length xs) (exchange (slice_index xs) i j) (slice_index names) → AreNames (swap xs i j) names
+names_at : (xs names : List ℕ) (i j : ℕ) → i < length xs → j < length xs → i ≢ j
+    → AreNamesOf (length xs) (exchange (slice_index xs) i j) (slice_index names)
+    → AreNames (swap xs i j) names
 names_at xs names i j hi hj ne k x y hx hy =
     let l = length_swap xs i j hi hj in
     let both = k x y (omega (arith, l)) (omega (arith, l)) in
@@ -42,9 +43,9 @@ names_at xs names i j hi hj ne k x y hx hy =
     (λ e. ex ∙ both.0 e ∙ sym ey, λ e. both.1 (sym ex ∙ e ∙ ey))
 
 -- where an exchange splits a cycle and one half takes a new name, the names are those of the cycles
-pub named_split : (xs ys names next : List ℕ) (i j s fresh : ℕ) → IsRing xs → IsNamed xs names fresh → i < length xs →
-    j < length xs → i ≢ j → least_of xs i ≡ least_of xs j → ys ≡ swap xs i j → (s ≡ i) ⊎ (s ≡ j) →
-    MarksCycle ys s fresh names next → IsNamed ys next (fresh + 1)
+pub named_split : (xs ys names next : List ℕ) (i j s fresh : ℕ) → IsRing xs → IsNamed xs names fresh
+    → i < length xs → j < length xs → i ≢ j → least_of xs i ≡ least_of xs j → ys ≡ swap xs i j
+    → (s ≡ i) ⊎ (s ≡ j) → MarksCycle ys s fresh names next → IsNamed ys next (fresh + 1)
 named_split xs ys names next i j s fresh ring named hi hj ne together e side marks =
     let l : length ys ≡ length xs = ap length e ∙ length_swap xs i j hi hj in
     let low : (z : ℕ) → least_of ys z ≡ least (exchange (slice_index xs) i j) (length xs) z =
@@ -71,9 +72,10 @@ named_split xs ys names next i j s fresh ring named hi hj ne together e side mar
     }
 
 -- where an exchange joins two cycles and one takes the name of the other, the names are those of the cycles
-pub named_merge : (xs ys names next : List ℕ) (i j s t fresh : ℕ) → IsRing xs → IsNamed xs names fresh → i < length xs →
-    j < length xs → s < length xs → t < length xs → least_of xs i ≢ least_of xs j → ys ≡ swap xs i j → IsPair i j s t →
-    MarksCycle xs s (get_or names t 0) names next → IsNamed ys next fresh
+pub named_merge : (xs ys names next : List ℕ) (i j s t fresh : ℕ) → IsRing xs → IsNamed xs names fresh
+    → i < length xs → j < length xs → s < length xs → t < length xs → least_of xs i ≢ least_of xs j
+    → ys ≡ swap xs i j → IsPair i j s t → MarksCycle xs s (get_or names t 0) names next
+    → IsNamed ys next fresh
 named_merge xs ys names next i j s t fresh ring named hi hj hs ht apart e side marks =
     let ne : i ≢ j = λ q. apart (ap (least_of xs) q) in
     let l : length ys ≡ length xs = ap length e ∙ length_swap xs i j hi hj in
@@ -104,6 +106,6 @@ pub pair_below : (n i j s t : ℕ) → IsPair i j s t → i < n → j < n → (s
 pair_below n i j s t side hi hj = elim side [ inl q ↦ (omega (arith, q.0), omega (arith, q.1)) | inr q ↦ (omega (arith, q.0), omega (arith, q.1)) ]
 
 -- a cycle is marked with an equal label too
-pub mark_at : (ring : List ℕ) (start label other : ℕ) (old new : List ℕ) → label ≡ other →
-    MarksCycle ring start label old new → MarksCycle ring start other old new
+pub mark_at : (ring : List ℕ) (start label other : ℕ) (old new : List ℕ) → label ≡ other
+    → MarksCycle ring start label old new → MarksCycle ring start other old new
 mark_at ring start label other old new e k = let P : ℕ → Type 0 = λ x. MarksCycle ring start x old new in subst P e k

@@ -35,10 +35,10 @@ nothing_joined g zero v = refl
 nothing_joined g (suc k) v = nothing_joined g k v
 
 -- before the first edge each dart leads to itself, and each node is a component of its own
-pub drawn_empty : (net : Net) (faces parts : List ℕ) (components : ℕ) → length faces ≡ dart_count net →
-    length parts ≡ net.graph.nodes → components ≡ net.graph.nodes →
-    ((k : ℕ) → k < length faces → get_or faces k 0 ≡ k) → ((k : ℕ) → k < length parts → get_or parts k 0 ≡ k) →
-    IsDrawn net (is_in []) faces parts components
+pub drawn_empty : (net : Net) (faces parts : List ℕ) (components : ℕ) → length faces ≡ dart_count net
+    → length parts ≡ net.graph.nodes → components ≡ net.graph.nodes
+    → ((k : ℕ) → k < length faces → get_or faces k 0 ≡ k)
+    → ((k : ℕ) → k < length parts → get_or parts k 0 ≡ k) → IsDrawn net (is_in []) faces parts components
 drawn_empty net faces parts components lf lp lc f p =
     let alone : (v : ℕ) → component_of net.graph (is_in []) v ≡ v = λ v. nothing_joined net.graph (length net.graph.edges) v in
     let low : (v : ℕ) → v < net.graph.nodes → least_of parts v ≡ v = λ v h. least_fixed (length parts) (slice_index parts) v (p v (omega (arith, lp))) in
@@ -54,9 +54,9 @@ drawn_empty net faces parts components lf lp lc f p =
 -- ---- sets that agree
 
 -- a drawing is that of each set with the same edges
-pub drawn_same : (net : Net) (p q : ℕ → Bool) (faces parts : List ℕ) (components : ℕ) →
-    ((e : ℕ) → e < length net.graph.edges → p e ≡ q e) → IsDrawn net p faces parts components →
-    IsDrawn net q faces parts components
+pub drawn_same : (net : Net) (p q : ℕ → Bool) (faces parts : List ℕ) (components : ℕ)
+    → ((e : ℕ) → e < length net.graph.edges → p e ≡ q e) → IsDrawn net p faces parts components
+    → IsDrawn net q faces parts components
 drawn_same net p q faces parts components same k =
     let names : (v : ℕ) → component_of net.graph p v ≡ component_of net.graph q v = λ v. names_same net.graph p q (length net.graph.edges) v same in
     let next : (d : ℕ) → d < dart_count net → next_in_face net p d ≡ next_in_face net q d =
@@ -89,14 +89,14 @@ next_apart net p q e k = elim (cases_Bool (is_bare net.graph p (edge_at net.grap
 ]
 
 -- a dart of an edge that is not drawn leads to itself
-pub alone_first : (net : Net) (kept : List Bool) (faces : List ℕ) → length kept < length net.graph.edges →
-    AreFaces net (is_in kept) faces → get_or faces (2 * length kept) 0 ≡ 2 * length kept
+pub alone_first : (net : Net) (kept : List Bool) (faces : List ℕ) → length kept < length net.graph.edges
+    → AreFaces net (is_in kept) faces → get_or faces (2 * length kept) 0 ≡ 2 * length kept
 alone_first net kept faces h k = k.next (2 * length kept) (omega arith) ∙
     face_out net (is_in kept) (2 * length kept) (ap (is_in kept) (first_half (length kept)) ∙ past_end kept)
 
 -- the second dart of the next edge leads to itself
-pub alone_second : (net : Net) (kept : List Bool) (faces : List ℕ) → length kept < length net.graph.edges →
-    AreFaces net (is_in kept) faces → get_or faces (2 * length kept + 1) 0 ≡ 2 * length kept + 1
+pub alone_second : (net : Net) (kept : List Bool) (faces : List ℕ) → length kept < length net.graph.edges
+    → AreFaces net (is_in kept) faces → get_or faces (2 * length kept + 1) 0 ≡ 2 * length kept + 1
 alone_second net kept faces h k = k.next (2 * length kept + 1) (omega arith) ∙
     face_out net (is_in kept) (2 * length kept + 1) (ap (is_in kept) (second_half (length kept)) ∙ past_end kept)
 
@@ -112,14 +112,15 @@ pub record IsLooked (net : Net) (kept : List Bool) (faces parts : List ℕ) (com
   pub second : v ≡ next_around net (is_in kept) (2 * length kept + 1)
 
 -- all of it at once
-pub looked : (net : Net) (kept : List Bool) (faces parts : List ℕ) (components u v : ℕ) → length kept < length net.graph.edges →
-    IsDrawn net (is_in kept) faces parts components → u ≡ next_around net (is_in kept) (2 * length kept) →
-    v ≡ next_around net (is_in kept) (2 * length kept + 1) → IsLooked net kept faces parts components u v
+pub looked : (net : Net) (kept : List Bool) (faces parts : List ℕ) (components u v : ℕ)
+    → length kept < length net.graph.edges → IsDrawn net (is_in kept) faces parts components
+    → u ≡ next_around net (is_in kept) (2 * length kept)
+    → v ≡ next_around net (is_in kept) (2 * length kept + 1) → IsLooked net kept faces parts components u v
 looked net kept faces parts components u v l d a b = record { edge = l; drawn = d; first = a; second = b }
 
-one_face : (net : Net) (kept : List Bool) (faces parts : List ℕ) (components u v : ℕ) →
-    IsLooked net kept faces parts components u v → (least_of faces u ≡ least_of faces v ↔ LiesInFace net (is_in kept)
-    (length kept))
+one_face : (net : Net) (kept : List Bool) (faces parts : List ℕ) (components u v : ℕ)
+    → IsLooked net kept faces parts components u v
+    → (least_of faces u ≡ least_of faces v ↔ LiesInFace net (is_in kept) (length kept))
 one_face net kept faces parts components u v k =
     let at : (z y : ℕ) → z ≡ y → least_of faces z ≡ face_of net (is_in kept) y =
     λ z y e. least_faces net (is_in kept) faces z k.drawn.are_faces ∙ ap (face_of net (is_in kept)) e in
@@ -128,10 +129,10 @@ one_face net kept faces parts components u v k =
     (λ e. sym a ∙ e ∙ b, λ e. a ∙ e ∙ sym b)
 
 -- the edge is set aside
-pub aside_next : (net : Net) (kept : List Bool) (faces parts : List ℕ) (components u v : ℕ) →
-    IsLooked net kept faces parts components u v → AreEndsJoined net (is_in kept) (length kept) →
-    least_of faces u ≢ least_of faces v →
-    (false ≡ not (raises_excess net kept)) × IsDrawn net (is_in (kept ++ false ∷ [])) faces parts components
+pub aside_next : (net : Net) (kept : List Bool) (faces parts : List ℕ) (components u v : ℕ)
+    → IsLooked net kept faces parts components u v → AreEndsJoined net (is_in kept) (length kept)
+    → least_of faces u ≢ least_of faces v
+    → (false ≡ not (raises_excess net kept)) × IsDrawn net (is_in (kept ++ false ∷ [])) faces parts components
 aside_next net kept faces parts components u v k joined far = (
   sym (ap not (raises_from net kept k.edge joined (λ r. far ((one_face net kept faces parts components u v k).1 r)))),
   drawn_same net (is_in kept) (is_in (kept ++ false ∷ [])) faces parts components (λ e h. kept_false kept e) k.drawn,
@@ -141,10 +142,10 @@ stays_low : (net : Net) (kept : List Bool) → (raises_excess net kept ≡ true 
 stays_low net kept h = elim (cases_Bool (raises_excess net kept)) [ inl t ↦ absurd (h t) | inr t ↦ sym (ap not t) ]
 
 -- the edge splits a face
-pub split_next : (net : Net) (kept : List Bool) (faces parts : List ℕ) (components u v : ℕ) (new : List ℕ) →
-    IsLooked net kept faces parts components u v → AreEndsJoined net (is_in kept) (length kept) →
-    least_of faces u ≡ least_of faces v → IsInserted faces (length kept) u v new →
-    (true ≡ not (raises_excess net kept)) × IsDrawn net (is_in (kept ++ true ∷ [])) new parts components
+pub split_next : (net : Net) (kept : List Bool) (faces parts : List ℕ) (components u v : ℕ) (new : List ℕ)
+    → IsLooked net kept faces parts components u v → AreEndsJoined net (is_in kept) (length kept)
+    → least_of faces u ≡ least_of faces v → IsInserted faces (length kept) u v new
+    → (true ≡ not (raises_excess net kept)) × IsDrawn net (is_in (kept ++ true ∷ [])) new parts components
 split_next net kept faces parts components u v new k joined near put =
     let more = kept_more net kept k.edge in
     let lies = (one_face net kept faces parts components u v k).0 near in
@@ -158,11 +159,11 @@ split_next net kept faces parts components u v new k joined near put =
     )
 
 -- the edge joins two components
-pub join_next : (net : Net) (kept : List Bool) (faces parts : List ℕ) (components u v : ℕ) (new joined : List ℕ) →
-    IsLooked net kept faces parts components u v → (AreEndsJoined net (is_in kept) (length kept) → ⊥) → IsRing parts →
-    IsInserted faces (length kept) u v new →
-    joined ≡ swap parts (edge_at net.graph (length kept)).a (edge_at net.graph (length kept)).b →
-    (true ≡ not (raises_excess net kept)) × IsDrawn net (is_in (kept ++ true ∷ [])) new joined (components - 1)
+pub join_next : (net : Net) (kept : List Bool) (faces parts : List ℕ) (components u v : ℕ) (new joined : List ℕ)
+    → IsLooked net kept faces parts components u v → (AreEndsJoined net (is_in kept) (length kept) → ⊥)
+    → IsRing parts → IsInserted faces (length kept) u v new
+    → joined ≡ swap parts (edge_at net.graph (length kept)).a (edge_at net.graph (length kept)).b
+    → (true ≡ not (raises_excess net kept)) × IsDrawn net (is_in (kept ++ true ∷ [])) new joined (components - 1)
 join_next net kept faces parts components u v new joined k apart ring put e =
     let more = kept_more net kept k.edge in
     let counts = ((effect net _ _ (length kept) more).joins apart).1 in (
@@ -175,15 +176,15 @@ join_next net kept faces parts components u v new joined k apart ring put e =
     )
 
 -- where the next edge joins two components there is at least one
-pub some_component : (net : Net) (kept : List Bool) (components : ℕ) → length kept < length net.graph.edges →
-    (AreEndsJoined net (is_in kept) (length kept) → ⊥) → components ≡ component_count net.graph (is_in kept) →
-    1 ≤ components
+pub some_component : (net : Net) (kept : List Bool) (components : ℕ) → length kept < length net.graph.edges
+    → (AreEndsJoined net (is_in kept) (length kept) → ⊥) → components ≡ component_count net.graph (is_in kept)
+    → 1 ≤ components
 some_component net kept components h apart e = omega (arith, e, ((effect net _ _ (length kept) (kept_more net kept h)).joins apart).1)
 
 -- the ends of an edge are on one cycle of the list exactly where they are joined
-pub ends_joined : (net : Net) (p : ℕ → Bool) (parts : List ℕ) (e : ℕ) (edge : Edge) → AreParts net p parts →
-    e < length net.graph.edges → edge ≡ edge_at net.graph e →
-    (least_of parts edge.a ≡ least_of parts edge.b ↔ AreEndsJoined net p e)
+pub ends_joined : (net : Net) (p : ℕ → Bool) (parts : List ℕ) (e : ℕ) (edge : Edge) → AreParts net p parts
+    → e < length net.graph.edges → edge ≡ edge_at net.graph e
+    → (least_of parts edge.a ≡ least_of parts edge.b ↔ AreEndsJoined net p e)
 ends_joined net p parts e edge k h same =
     let both = k.joined (edge_at net.graph e).a (edge_at net.graph e).b (start_below net.graph e h) (end_below net.graph e h) in
     let a : least_of parts edge.a ≡ least_of parts (edge_at net.graph e).a = ap (λ (x : Edge). least_of parts x.a) same in
@@ -195,6 +196,6 @@ pub edge_read : (g : Signed) (edges : List Edge) (e : ℕ) (edge : Edge) → edg
 edge_read g edges e edge same h is = get_or_read edges e edge h is no_edge ∙ ap (λ (xs : List Edge). get_or xs e no_edge) same
 
 -- the ring of components is exchanged at the ends of the edge that was read
-pub swap_read : (g : Signed) (e : ℕ) (edge : Edge) (parts joined : List ℕ) → edge ≡ edge_at g e →
-    joined ≡ swap parts edge.a edge.b → joined ≡ swap parts (edge_at g e).a (edge_at g e).b
+pub swap_read : (g : Signed) (e : ℕ) (edge : Edge) (parts joined : List ℕ) → edge ≡ edge_at g e
+    → joined ≡ swap parts edge.a edge.b → joined ≡ swap parts (edge_at g e).a (edge_at g e).b
 swap_read g e edge parts joined same h = h ∙ ap (λ (x : Edge). swap parts x.a x.b) same

@@ -22,9 +22,8 @@ use Rattle.dpl_drawing.proofs.KeptLemmas.{aside_count}
 use Rattle.dpl_drawing.proofs.FaceLists.{face_count_is}
 
 -- kept edges join the ends of every edge
-pub ends_kept : (net : Net) (e : ℕ) → e < length net.graph.edges →
-    component_of net.graph (is_in (kept_edges net)) (edge_at net.graph e).a ≡ component_of net.graph
-    (is_in (kept_edges net)) (edge_at net.graph e).b
+pub ends_kept : (net : Net) (e : ℕ) → e < length net.graph.edges
+    → component_of net.graph (is_in (kept_edges net)) (edge_at net.graph e).a ≡ component_of net.graph (is_in (kept_edges net)) (edge_at net.graph e).b
 ends_kept net e h =
     let g = net.graph in
     let label = component_of g (is_in (kept_edges net)) in

@@ -36,8 +36,8 @@ cycles_least (suc n) f g p =
     ]
 
 -- names that tell themselves outside a set
-own_split : (n : ℕ) (s : ℕ → ℕ) (p : ℕ → Bool) → ((d : ℕ) → d < n → p d ≡ false → s d ≡ d) →
-    name_count s n ≡ count_on (λ d. p d && (s d == d)) n + others_count p n
+own_split : (n : ℕ) (s : ℕ → ℕ) (p : ℕ → Bool) → ((d : ℕ) → d < n → p d ≡ false → s d ≡ d)
+    → name_count s n ≡ count_on (λ d. p d && (s d == d)) n + others_count p n
 own_split zero s p h = refl
 own_split (suc n) s p h =
     let rest = own_split n s p (λ d k. h d (omega arith)) in
@@ -86,8 +86,8 @@ face_stays net p d h = elim (cases_Bool (p (d / 2))) [
 -- ---- the list of the corners
 
 -- a list that tells the next dart of each in its face is a permutation
-pub leads_back : (net : Net) (p : ℕ → Bool) (nexts : List ℕ) → length nexts ≡ dart_count net →
-    ((d : ℕ) → d < dart_count net → get_or nexts d 0 ≡ next_in_face net p d) → LeadsBack nexts
+pub leads_back : (net : Net) (p : ℕ → Bool) (nexts : List ℕ) → length nexts ≡ dart_count net
+    → ((d : ℕ) → d < dart_count net → get_or nexts d 0 ≡ next_in_face net p d) → LeadsBack nexts
 leads_back net p nexts l same =
     let q = face_permutes net p in (
       face_back net p,
@@ -100,10 +100,12 @@ leads_back net p nexts l same =
     )
 
 -- the count of the cycles of a list that tells the faces
-pub count_is : (net : Net) (p : ℕ → Bool) (corners read : List ℕ) (set_read : List Bool) (r : ℕ) →
-    length corners ≡ dart_count net → ((z : ℕ) → z < dart_count net → get_or corners z 0 ≡ next_in_face net p z) →
-    read ≡ corners → ((x : ℕ) → is_in set_read x ≡ p x) →
-    r ≡ count_on (is_first (slice_index read) (is_in set_read) (length read)) (length read) → r ≡ drawn_faces net p
+pub count_is : (net : Net) (p : ℕ → Bool) (corners read : List ℕ) (set_read : List Bool) (r : ℕ)
+    → length corners ≡ dart_count net
+    → ((z : ℕ) → z < dart_count net → get_or corners z 0 ≡ next_in_face net p z) → read ≡ corners
+    → ((x : ℕ) → is_in set_read x ≡ p x)
+    → r ≡ count_on (is_first (slice_index read) (is_in set_read) (length read)) (length read)
+    → r ≡ drawn_faces net p
 count_is net p corners read set_read r l same er es h =
     let n = dart_count net in
     h ∙ ap (λ (xs : List ℕ). count_on (is_first (slice_index xs) (is_in set_read) (length xs)) (length xs)) er ∙

@@ -71,10 +71,10 @@ used_next net p q e c z n b k =
 -- ---- the cases
 
 -- the exchange at the corner of c is that of the dart that leads into it
-attached_used : (net : Net) (p q : ℕ → Bool) (e c : ℕ) (xs ys : List ℕ) (f : ℕ → ℕ) (u twin : ℕ) →
-    IsNewDart net p q e c → IsBetween net p q c → Tells (dart_count net) xs f → u ≡ next_around net p c →
-    f (into net p c) ≡ next_in_face net p (into net p c) → IsAttached xs c u twin ys →
-    ys ≡ swap xs (into net p c) twin
+attached_used : (net : Net) (p q : ℕ → Bool) (e c : ℕ) (xs ys : List ℕ) (f : ℕ → ℕ) (u twin : ℕ)
+    → IsNewDart net p q e c → IsBetween net p q c → Tells (dart_count net) xs f → u ≡ next_around net p c
+    → f (into net p c) ≡ next_in_face net p (into net p c) → IsAttached xs c u twin ys
+    → ys ≡ swap xs (into net p c) twin
 attached_used net p q e c xs ys f u twin n b t hu fi a =
     let k = corner net p q e c n b in
     let i = into net p c in
@@ -82,18 +82,18 @@ attached_used net p q e c xs ys f u twin n b t hu fi a =
     let leads : get_or xs i 0 ≡ u = t.at i k.set.inside ∙ fi ∙ sym k.face ∙ sym hu in
     move.1.swapped ∙ ap (λ x. swap xs x twin) (sym (move.1.only i (omega (arith, t.size, k.set.inside)) leads))
 
-attached_bare : (net : Net) (p : ℕ → Bool) (c : ℕ) (xs ys : List ℕ) (u twin : ℕ) → c < dart_count net → NoneAt net p c →
-    u ≡ next_around net p c → IsAttached xs c u twin ys → ys ≡ xs
+attached_bare : (net : Net) (p : ℕ → Bool) (c : ℕ) (xs ys : List ℕ) (u twin : ℕ) → c < dart_count net
+    → NoneAt net p c → u ≡ next_around net p c → IsAttached xs c u twin ys → ys ≡ xs
 attached_bare net p c xs ys u twin h none hu a = a.stays (hu ∙ bare_next net p c h none)
 
-faces_from : (net : Net) (q : ℕ → Bool) (xs : List ℕ) (f : ℕ → ℕ) → Tells (dart_count net) xs f →
-    ((z : ℕ) → z < dart_count net → next_in_face net q z ≡ f z) → AreFaces net q xs
+faces_from : (net : Net) (q : ℕ → Bool) (xs : List ℕ) (f : ℕ → ℕ) → Tells (dart_count net) xs f
+    → ((z : ℕ) → z < dart_count net → next_in_face net q z ≡ f z) → AreFaces net q xs
 faces_from net q xs f t same = record { darts = t.size; next = λ d h. t.at d h ∙ sym (same d h) }
 
 -- where the darts of an edge are put in at their corners, the list tells the faces with the edge
-pub faces_more : (net : Net) (p q : ℕ → Bool) (e : ℕ) (xs ys : List ℕ) (u v : ℕ) → IsOneMore net p q e →
-    AreFaces net p xs → u ≡ next_around net p (2 * e) → v ≡ next_around net p (2 * e + 1) → IsInserted xs e u v ys →
-    AreFaces net q ys
+pub faces_more : (net : Net) (p q : ℕ → Bool) (e : ℕ) (xs ys : List ℕ) (u v : ℕ) → IsOneMore net p q e
+    → AreFaces net p xs → u ≡ next_around net p (2 * e) → v ≡ next_around net p (2 * e + 1)
+    → IsInserted xs e u v ys → AreFaces net q ys
 faces_more net p q e xs ys u v k faces hu hv (mid, one, two) =
     let m = dart_count net in
     let f = next_in_face net p in
@@ -152,8 +152,9 @@ faces_more net p q e xs ys u v k faces hu hv (mid, one, two) =
     ]
 
 -- after the first dart is put in, it still leads to its twin
-pub attached_back : (xs ones mid : List ℕ) (c d u : ℕ) → c < length xs → d < length xs → c ≢ d → get_or xs c 0 ≡ c →
-    get_or xs d 0 ≡ d → u ≢ d → ones ≡ swap xs c d → IsAttached ones c u d mid → get_or mid c 0 ≡ d
+pub attached_back : (xs ones mid : List ℕ) (c d u : ℕ) → c < length xs → d < length xs → c ≢ d
+    → get_or xs c 0 ≡ c → get_or xs d 0 ≡ d → u ≢ d → ones ≡ swap xs c d → IsAttached ones c u d mid
+    → get_or mid c 0 ≡ d
 attached_back xs ones mid c d u hc hd cd fc fd ud e a =
     let l : length ones ≡ length xs = ap length e ∙ length_swap xs c d hc hd in
     let at : (z : ℕ) → get_or ones z 0 ≡ exchange (slice_index xs) c d z = λ z. ap (λ (zs : List ℕ). get_or zs z 0) e ∙ swap_value xs c d hc hd cd z in

@@ -9,15 +9,16 @@ use Rattle.dpl_sign.proofs.ExcessLemmas.{kept_length}
 use Rattle.dpl_drawing.specs.Drawn.{IsDrawn}
 
 -- the entry of the next edge tells whether it is kept
-pub kept_step : (net : Net) (kept slice new : List Bool) (n : ℕ) (drawn : Bool) → kept ≡ kept_before net n →
-    slice ≡ kept → drawn ≡ not (raises_excess net slice) → new ≡ kept ++ drawn ∷ [] → new ≡ kept_before net (suc n)
+pub kept_step : (net : Net) (kept slice new : List Bool) (n : ℕ) (drawn : Bool) → kept ≡ kept_before net n
+    → slice ≡ kept → drawn ≡ not (raises_excess net slice) → new ≡ kept ++ drawn ∷ []
+    → new ≡ kept_before net (suc n)
 kept_step net kept slice new n drawn same es h e =
     e ∙ ap (λ (xs : List Bool). xs ++ drawn ∷ []) same ∙
     ap (λ b. kept_before net n ++ b ∷ []) (h ∙ ap (λ (xs : List Bool). not (raises_excess net xs)) (es ∙ same))
 
 -- a drawing of an equal list of kept edges is the same
-pub drawn_at : (net : Net) (xs ys : List Bool) (faces parts : List ℕ) (components : ℕ) → xs ≡ ys →
-    IsDrawn net (is_in ys) faces parts components → IsDrawn net (is_in xs) faces parts components
+pub drawn_at : (net : Net) (xs ys : List Bool) (faces parts : List ℕ) (components : ℕ) → xs ≡ ys
+    → IsDrawn net (is_in ys) faces parts components → IsDrawn net (is_in xs) faces parts components
 drawn_at net xs ys faces parts components e k = let P : List Bool → Type 0 = λ zs. IsDrawn net (is_in zs) faces parts components in subst P (sym e) k
 
 -- after n edges the list has n entries

@@ -15,8 +15,8 @@ use Rattle.dpl_sign.specs.Rotations.{Leaves}
 use Rattle.dpl_drawing.specs.Drawn.{IsLast, AreLasts}
 
 -- before the first edge no node has a dart
-pub lasts_none : (net : Net) (lasts : List ℕ) → length lasts ≡ net.graph.nodes →
-    ((k : ℕ) → k < length lasts → get_or lasts k 0 ≡ 4294967295) → AreLasts net (is_in []) lasts
+pub lasts_none : (net : Net) (lasts : List ℕ) → length lasts ≡ net.graph.nodes
+    → ((k : ℕ) → k < length lasts → get_or lasts k 0 ≡ 4294967295) → AreLasts net (is_in []) lasts
 lasts_none net lasts l h = record {
   per_node = l;
   each = λ v hv. record { bare = λ e d k. absurd (both_ways _ refl k.chosen); used = λ ne. absurd (ne (h v (omega (arith, l)))) };
@@ -33,8 +33,9 @@ at_both net p a b c d e f k =
     subst Q (sym f) (subst P (sym e) k)
 
 -- the list has a place for both ends of an edge
-pub ends_in : (net : Net) (p : ℕ → Bool) (lasts : List ℕ) (e : ℕ) (edge : Edge) → AreLasts net p lasts →
-    e < length net.graph.edges → edge ≡ edge_at net.graph e → (edge.a < length lasts) × (edge.b < length lasts)
+pub ends_in : (net : Net) (p : ℕ → Bool) (lasts : List ℕ) (e : ℕ) (edge : Edge) → AreLasts net p lasts
+    → e < length net.graph.edges → edge ≡ edge_at net.graph e
+    → (edge.a < length lasts) × (edge.b < length lasts)
 ends_in net p lasts e edge k h same =
     let a : edge.a ≡ (edge_at net.graph e).a = ap (λ (x : Edge). x.a) same in
     let b : edge.b ≡ (edge_at net.graph e).b = ap (λ (x : Edge). x.b) same in
@@ -47,18 +48,18 @@ is_last net q v last d e small l =
     subst P (sym e) (record { bare = λ r. absurd (omega (arith, r)); used = λ ne. l })
 
 -- what is read for the first node of the next edge
-pub last_first : (net : Net) (p : ℕ → Bool) (lasts : List ℕ) (e last : ℕ) (edge : Edge) → AreLasts net p lasts →
-    e < length net.graph.edges → edge ≡ edge_at net.graph e → last ≡ get_or lasts edge.a 0 →
-    IsLast net p (tail_of net.graph (2 * e)) last
+pub last_first : (net : Net) (p : ℕ → Bool) (lasts : List ℕ) (e last : ℕ) (edge : Edge) → AreLasts net p lasts
+    → e < length net.graph.edges → edge ≡ edge_at net.graph e → last ≡ get_or lasts edge.a 0
+    → IsLast net p (tail_of net.graph (2 * e)) last
 last_first net p lasts e last edge k h same read =
     let g = net.graph in
     let v = (edge_at g e).a in
     at_both net p v _ _ last (first_tail g e) (read ∙ ap (λ (x : Edge). get_or lasts x.a 0) same) (k.each v (start_below g e h))
 
 -- what the list has at the second end stands for the node that the second dart leaves
-pub last_second : (net : Net) (p : ℕ → Bool) (lasts : List ℕ) (e last : ℕ) (edge : Edge) → AreLasts net p lasts →
-    e < length net.graph.edges → edge ≡ edge_at net.graph e → last ≡ get_or lasts edge.b 0 →
-    IsLast net p (tail_of net.graph (2 * e + 1)) last
+pub last_second : (net : Net) (p : ℕ → Bool) (lasts : List ℕ) (e last : ℕ) (edge : Edge)
+    → AreLasts net p lasts → e < length net.graph.edges → edge ≡ edge_at net.graph e
+    → last ≡ get_or lasts edge.b 0 → IsLast net p (tail_of net.graph (2 * e + 1)) last
 last_second net p lasts e last edge k h same read =
     let g = net.graph in
     let v = (edge_at g e).b in
@@ -79,8 +80,9 @@ lasts_same net p q lasts same k = record {
 }
 
 -- an edge more, whose darts are now the last of their nodes
-lasts_more : (net : Net) (p q : ℕ → Bool) (e : ℕ) (lasts : List ℕ) → IsOneMore net p q e → AreLasts net p lasts →
-    AreLasts net q (set (set lasts (edge_at net.graph e).a (2 * e)) (edge_at net.graph e).b (2 * e + 1))
+lasts_more : (net : Net) (p q : ℕ → Bool) (e : ℕ) (lasts : List ℕ) → IsOneMore net p q e
+    → AreLasts net p lasts
+    → AreLasts net q (set (set lasts (edge_at net.graph e).a (2 * e)) (edge_at net.graph e).b (2 * e + 1))
 lasts_more net p q e lasts more k =
     let g = net.graph in
     let a = (edge_at g e).a in
@@ -135,10 +137,11 @@ lasts_more net p q e lasts more k =
     }
 
 -- after an edge is drawn its two darts may stand for its ends
-pub lasts_drawn : (net : Net) (kept : List Bool) (lasts new : List ℕ) (edge : Edge) →
-    length kept < length net.graph.edges → edge ≡ edge_at net.graph (length kept) → AreLasts net (is_in kept) lasts →
-    new ≡ set (set lasts edge.a (2 * length kept)) edge.b (2 * length kept + 1) →
-    AreLasts net (is_in (kept ++ true ∷ [])) new
+pub lasts_drawn : (net : Net) (kept : List Bool) (lasts new : List ℕ) (edge : Edge)
+    → length kept < length net.graph.edges → edge ≡ edge_at net.graph (length kept)
+    → AreLasts net (is_in kept) lasts
+    → new ≡ set (set lasts edge.a (2 * length kept)) edge.b (2 * length kept + 1)
+    → AreLasts net (is_in (kept ++ true ∷ [])) new
 lasts_drawn net kept lasts new edge h same k e =
     let n = 2 * length kept in
     let here : new ≡ set (set lasts (edge_at net.graph (length kept)).a n) (edge_at net.graph (length kept)).b (n + 1) =
@@ -147,9 +150,9 @@ lasts_drawn net kept lasts new edge h same k e =
     subst P (sym here) (lasts_more net (is_in kept) (is_in (kept ++ true ∷ [])) (length kept) lasts (kept_more net kept h) k)
 
 -- after an edge is set aside the same darts stand for the nodes
-pub lasts_aside : (net : Net) (kept : List Bool) (lasts : List ℕ) →
-    ((x : ℕ) → is_in kept x ≡ is_in (kept ++ false ∷ []) x) → AreLasts net (is_in kept) lasts →
-    AreLasts net (is_in (kept ++ false ∷ [])) lasts
+pub lasts_aside : (net : Net) (kept : List Bool) (lasts : List ℕ)
+    → ((x : ℕ) → is_in kept x ≡ is_in (kept ++ false ∷ []) x) → AreLasts net (is_in kept) lasts
+    → AreLasts net (is_in (kept ++ false ∷ [])) lasts
 lasts_aside net kept lasts same k = lasts_same net (is_in kept) (is_in (kept ++ false ∷ [])) lasts (λ e h. same e) k
 
 -- the next edge is not drawn yet

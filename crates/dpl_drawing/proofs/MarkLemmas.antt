@@ -28,9 +28,9 @@ pub record Walking (ring : List ℕ) (start label : ℕ) (old labels : List ℕ)
   pub begun : (place ≡ start) ⊎ (get_or labels start 0 ≡ label)
 
 -- a walk begins where nothing of the cycle is labelled yet
-pub begins : (ring : List ℕ) (start label : ℕ) (old : List ℕ) → length old ≡ length ring → start < length ring →
-    ((z : ℕ) → z < length old → On ring start z → get_or old z 0 ≢ label) →
-    Walking ring start label old old start
+pub begins : (ring : List ℕ) (start label : ℕ) (old : List ℕ) → length old ≡ length ring → start < length ring
+    → ((z : ℕ) → z < length old → On ring start z → get_or old z 0 ≢ label)
+    → Walking ring start label old old start
 begins ring start label old e h fresh = record {
   lengths = refl;
   sizes = e;
@@ -56,9 +56,9 @@ unmarked : (ls : List ℕ) (place label z : ℕ) → get_or (set ls place label)
 unmarked ls place label z e = elim (cases_eq z place) [ inl t ↦ inr t | inr t ↦ inl (sym (get_or-set_other ls place z label 0 t) ∙ e) ]
 
 -- a step of the walk labels a number and goes on to the next
-pub goes_on : (ring : List ℕ) (g : ℕ → ℕ) (start label : ℕ) (old ls : List ℕ) (place : ℕ) →
-    Permutes (length ring) (slice_index ring) g → Walking ring start label old ls place → get_or ring place 0 ≢ start →
-    Walking ring start label old (set ls place label) (get_or ring place 0)
+pub goes_on : (ring : List ℕ) (g : ℕ → ℕ) (start label : ℕ) (old ls : List ℕ) (place : ℕ)
+    → Permutes (length ring) (slice_index ring) g → Walking ring start label old ls place
+    → get_or ring place 0 ≢ start → Walking ring start label old (set ls place label) (get_or ring place 0)
 goes_on ring g start label old ls place p w ne =
     let inside : place < length ls = omega (arith, w.sizes, w.inside) in
     let next = get_or ring place 0 in
@@ -106,9 +106,9 @@ unfolding lacks
 lacks_off ring start label ls z o = rw (ne_eqb (least_of ring z) (least_of ring start) o, lacks)
 
 -- a walk that comes back to its start has labelled the whole cycle
-pub ends : (ring : List ℕ) (g : ℕ → ℕ) (start label : ℕ) (old ls : List ℕ) (place : ℕ) →
-    Permutes (length ring) (slice_index ring) g → Walking ring start label old ls place → get_or ring place 0 ≡ start →
-    MarksCycle ring start label old (set ls place label)
+pub ends : (ring : List ℕ) (g : ℕ → ℕ) (start label : ℕ) (old ls : List ℕ) (place : ℕ)
+    → Permutes (length ring) (slice_index ring) g → Walking ring start label old ls place
+    → get_or ring place 0 ≡ start → MarksCycle ring start label old (set ls place label)
 ends ring g start label old ls place p w back_at =
     let inside : place < length ls = omega (arith, w.sizes, w.inside) in
     let new = set ls place label in

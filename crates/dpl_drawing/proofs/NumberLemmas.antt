@@ -39,8 +39,8 @@ bit_same true false e = absurd (omega arith)
 bit_same false true e = absurd (omega arith)
 
 -- what stays along the cycles is that of the least
-pub stays_least : (n : ℕ) (f g : ℕ → ℕ) → Permutes n f g → (kept : ℕ → Bool) → ((d : ℕ) → d < n → kept (f d) ≡ kept d) →
-    (x : ℕ) → x < n → kept (least f n x) ≡ kept x
+pub stays_least : (n : ℕ) (f g : ℕ → ℕ) → Permutes n f g → (kept : ℕ → Bool)
+    → ((d : ℕ) → d < n → kept (f d) ≡ kept d) → (x : ℕ) → x < n → kept (least f n x) ≡ kept x
 stays_least n f g p kept stays x h =
     bit_same _ _ (label_least n f g p (λ z. bit (kept z)) (λ y k. ap bit (stays y k)) x h)
 
@@ -53,8 +53,9 @@ pub record AreNumbered (nexts : List ℕ) (set : ℕ → Bool) (numbers : List �
   pub left : (z : ℕ) → z < length nexts → set (z / 2) ≡ true → place ≤ least_of nexts z → get_or numbers z 0 ≡ none
 
 -- at first nothing is numbered
-pub none_numbered : (nexts : List ℕ) (set : ℕ → Bool) (numbers : List ℕ) (none : ℕ) → length numbers ≡ length nexts →
-    ((z : ℕ) → z < length numbers → get_or numbers z 0 ≡ none) → AreNumbered nexts set numbers none 0 0
+pub none_numbered : (nexts : List ℕ) (set : ℕ → Bool) (numbers : List ℕ) (none : ℕ)
+    → length numbers ≡ length nexts → ((z : ℕ) → z < length numbers → get_or numbers z 0 ≡ none)
+    → AreNumbered nexts set numbers none 0 0
 none_numbered nexts set numbers none l h = record {
   lengths = l;
   counted = refl;
@@ -63,11 +64,12 @@ none_numbered nexts set numbers none l h = record {
 }
 
 -- a place with a number, or outside the set, is not the least of its cycle
-pub numbered_skip : (nexts : List ℕ) (g : ℕ → ℕ) (set : ℕ → Bool) (numbers : List ℕ) (none count place : ℕ) →
-    Permutes (length nexts) (slice_index nexts) g → ((d : ℕ) → d < length nexts →
-    set (get_or nexts d 0 / 2) ≡ set (d / 2)) → place < length nexts →
-    AreNumbered nexts set numbers none count place → (set (place / 2) ≡ true → get_or numbers place 0 ≢ none) →
-    AreNumbered nexts set numbers none count (suc place)
+pub numbered_skip : (nexts : List ℕ) (g : ℕ → ℕ) (set : ℕ → Bool) (numbers : List ℕ) (none count place : ℕ)
+    → Permutes (length nexts) (slice_index nexts) g
+    → ((d : ℕ) → d < length nexts → set (get_or nexts d 0 / 2) ≡ set (d / 2)) → place < length nexts
+    → AreNumbered nexts set numbers none count place
+    → (set (place / 2) ≡ true → get_or numbers place 0 ≢ none)
+    → AreNumbered nexts set numbers none count (suc place)
 numbered_skip nexts g set numbers none count place p stays h k passed =
     let n = length nexts in
     let f = slice_index nexts in
@@ -87,10 +89,10 @@ numbered_skip nexts g set numbers none count place p stays h k passed =
     }
 
 -- the least of a cycle gives it its number
-pub numbered_more : (nexts : List ℕ) (g : ℕ → ℕ) (set : ℕ → Bool) (numbers next : List ℕ) (none count place : ℕ) →
-    Permutes (length nexts) (slice_index nexts) g → place < length nexts → length nexts < none →
-    AreNumbered nexts set numbers none count place → set (place / 2) ≡ true → get_or numbers place 0 ≡ none →
-    MarksCycle nexts place count numbers next → AreNumbered nexts set next none (count + 1) (suc place)
+pub numbered_more : (nexts : List ℕ) (g : ℕ → ℕ) (set : ℕ → Bool) (numbers next : List ℕ) (none count place : ℕ)
+    → Permutes (length nexts) (slice_index nexts) g → place < length nexts → length nexts < none
+    → AreNumbered nexts set numbers none count place → set (place / 2) ≡ true → get_or numbers place 0 ≡ none
+    → MarksCycle nexts place count numbers next → AreNumbered nexts set next none (count + 1) (suc place)
 numbered_more nexts g set numbers next none count place p h big k t fresh marks =
     let n = length nexts in
     let f = slice_index nexts in
@@ -117,10 +119,10 @@ pub count_below : (nexts : List ℕ) (set : ℕ → Bool) (numbers : List ℕ) (
 count_below nexts set numbers none count place k = omega (arith, k.counted, count_on_le (is_first (slice_index nexts) set (length nexts)) place)
 
 -- a fresh place of the set is the least of its cycle
-fresh_low : (nexts : List ℕ) (g : ℕ → ℕ) (set : ℕ → Bool) (numbers : List ℕ) (none count place : ℕ) →
-    Permutes (length nexts) (slice_index nexts) g → place < length nexts → length nexts < none →
-    AreNumbered nexts set numbers none count place → set (place / 2) ≡ true → get_or numbers place 0 ≡ none →
-    least_of nexts place ≡ place
+fresh_low : (nexts : List ℕ) (g : ℕ → ℕ) (set : ℕ → Bool) (numbers : List ℕ) (none count place : ℕ)
+    → Permutes (length nexts) (slice_index nexts) g → place < length nexts → length nexts < none
+    → AreNumbered nexts set numbers none count place → set (place / 2) ≡ true → get_or numbers place 0 ≡ none
+    → least_of nexts place ≡ place
 fresh_low nexts g set numbers none count place p h big k t fresh =
     let n = length nexts in
     let f = slice_index nexts in
@@ -132,11 +134,12 @@ fresh_low nexts g set numbers none count place p h big k t fresh =
     ]
 
 -- and none on its cycle has a number yet
-pub numbered_fresh : (nexts : List ℕ) (g : ℕ → ℕ) (set : ℕ → Bool) (numbers : List ℕ) (none count place : ℕ) →
-    Permutes (length nexts) (slice_index nexts) g → ((d : ℕ) → d < length nexts →
-    set (get_or nexts d 0 / 2) ≡ set (d / 2)) → place < length nexts → length nexts < none →
-    AreNumbered nexts set numbers none count place → set (place / 2) ≡ true → get_or numbers place 0 ≡ none → (z : ℕ) →
-    z < length nexts → least_of nexts z ≡ least_of nexts place → get_or numbers z 0 ≢ count
+pub numbered_fresh : (nexts : List ℕ) (g : ℕ → ℕ) (set : ℕ → Bool) (numbers : List ℕ) (none count place : ℕ)
+    → Permutes (length nexts) (slice_index nexts) g
+    → ((d : ℕ) → d < length nexts → set (get_or nexts d 0 / 2) ≡ set (d / 2)) → place < length nexts
+    → length nexts < none → AreNumbered nexts set numbers none count place → set (place / 2) ≡ true
+    → get_or numbers place 0 ≡ none → (z : ℕ) → z < length nexts → least_of nexts z ≡ least_of nexts place
+    → get_or numbers z 0 ≢ count
 numbered_fresh nexts g set numbers none count place p stays h big k t fresh z hz e same =
     let n = length nexts in
     let f = slice_index nexts in
@@ -146,11 +149,12 @@ numbered_fresh nexts g set numbers none count place p stays h big k t fresh z hz
     omega (arith, k.left z hz tz (omega (arith, e, low)), same, count_below nexts set numbers none count place k, h, big)
 
 -- past the end the least number of each cycle is behind the place
-pub low_below : (nexts : List ℕ) (g : ℕ → ℕ) (place z : ℕ) → Permutes (length nexts) (slice_index nexts) g →
-    z < length nexts → length nexts ≤ place → least_of nexts z < place
+pub low_below : (nexts : List ℕ) (g : ℕ → ℕ) (place z : ℕ) → Permutes (length nexts) (slice_index nexts) g
+    → z < length nexts → length nexts ≤ place → least_of nexts z < place
 low_below nexts g place z p h l = omega (arith, least_le (length nexts) _ g p z h)
 
 -- the same numbers in an equal list
-pub numbered_at : (nexts : List ℕ) (set : ℕ → Bool) (numbers other : List ℕ) (none count place : ℕ) → other ≡ numbers →
-    AreNumbered nexts set numbers none count place → AreNumbered nexts set other none count place
+pub numbered_at : (nexts : List ℕ) (set : ℕ → Bool) (numbers other : List ℕ) (none count place : ℕ)
+    → other ≡ numbers → AreNumbered nexts set numbers none count place
+    → AreNumbered nexts set other none count place
 numbered_at nexts set numbers other none count place e k = let P : List ℕ → Type 0 = λ xs. AreNumbered nexts set xs none count place in subst P (sym e) k

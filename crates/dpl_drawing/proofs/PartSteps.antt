@@ -17,8 +17,9 @@ use Rattle.dpl_drawing.proofs.ExchangeNames.{merge_cases}
 use Rattle.dpl_drawing.proofs.CycleLemmas.{least_swap}
 
 -- the components with one edge more
-pub component_merged : (net : Net) (p q : ℕ → Bool) (e : ℕ) → IsOneMore net p q e → (u v : ℕ) → u < net.graph.nodes → v < net.graph.nodes →
-    (component_of net.graph q u ≡ component_of net.graph q v ↔ AreMerged (component_of net.graph p) (edge_at net.graph e).a (edge_at net.graph e).b u v)
+pub component_merged : (net : Net) (p q : ℕ → Bool) (e : ℕ) → IsOneMore net p q e → (u v : ℕ)
+    → u < net.graph.nodes → v < net.graph.nodes
+    → (component_of net.graph q u ≡ component_of net.graph q v ↔ AreMerged (component_of net.graph p) (edge_at net.graph e).a (edge_at net.graph e).b u v)
 component_merged net p q e k u v hu hv =
     let s = component_of net.graph q in
     let t = join (component_of net.graph p) (edge_at net.graph e).a (edge_at net.graph e).b in
@@ -42,15 +43,15 @@ parts_stay net p q e xs k parts joined = record {
 }
 
 -- what is merged by one label is merged by another that tells the same apart
-merged_map : (n : ℕ) (s t : ℕ → ℕ) (a b u v : ℕ) → a < n → b < n → u < n → v < n →
-    ((x y : ℕ) → x < n → y < n → s x ≡ s y → t x ≡ t y) → AreMerged s a b u v → AreMerged t a b u v
+merged_map : (n : ℕ) (s t : ℕ → ℕ) (a b u v : ℕ) → a < n → b < n → u < n → v < n
+    → ((x y : ℕ) → x < n → y < n → s x ≡ s y → t x ≡ t y) → AreMerged s a b u v → AreMerged t a b u v
 merged_map n s t a b u v ha hb hu hv same h =
     let one : (z : ℕ) → z < n → OnEither s a b z → OnEither t a b z = λ z hz o. elim o [ inl k ↦ inl (same z a hz ha k) | inr k ↦ inr (same z b hz hb k) ] in
     elim h [ inl k ↦ inl (same u v hu hv k) | inr k ↦ inr (one u hu k.0, one v hv k.1) ]
 
-merged_least : (xs : List ℕ) (a b u v : ℕ) → IsRing xs → a < length xs → b < length xs → u < length xs → v < length xs →
-    least_of xs a ≢ least_of xs b → (least_of (swap xs a b) u ≡ least_of (swap xs a b) v ↔ AreMerged (least_of xs) a b u
-    v)
+merged_least : (xs : List ℕ) (a b u v : ℕ) → IsRing xs → a < length xs → b < length xs → u < length xs
+    → v < length xs → least_of xs a ≢ least_of xs b
+    → (least_of (swap xs a b) u ≡ least_of (swap xs a b) v ↔ AreMerged (least_of xs) a b u v)
 merged_least xs a b u v ring ha hb hu hv apart =
     let n = length xs in
     let f = slice_index xs in
@@ -70,9 +71,9 @@ merged_least xs a b u v ring ha hb hu hv apart =
     )
 
 -- an edge whose ends are not joined makes one component of two
-pub parts_join : (net : Net) (p q : ℕ → Bool) (e : ℕ) (xs ys : List ℕ) → IsOneMore net p q e → IsRing xs →
-    AreParts net p xs → (AreEndsJoined net p e → ⊥) → ys ≡ swap xs (edge_at net.graph e).a (edge_at net.graph e).b →
-    AreParts net q ys
+pub parts_join : (net : Net) (p q : ℕ → Bool) (e : ℕ) (xs ys : List ℕ) → IsOneMore net p q e → IsRing xs
+    → AreParts net p xs → (AreEndsJoined net p e → ⊥)
+    → ys ≡ swap xs (edge_at net.graph e).a (edge_at net.graph e).b → AreParts net q ys
 parts_join net p q e xs ys k ring parts apart eq =
     let a = (edge_at net.graph e).a in
     let b = (edge_at net.graph e).b in

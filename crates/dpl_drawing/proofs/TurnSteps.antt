@@ -26,8 +26,8 @@ leaves_next net p v d k =
     record { inside = s.inside; chosen = s.chosen; tail = around_tail net p v _ m }
 
 -- on a circle what is met after c, where c is met from y before the next one
-next_between : (m : ℕ) (r : ℕ → ℕ) (c y : ℕ) (cs : List ℕ) → OnCircle m r (c ∷ cs) → Mem y cs → (Mem c cs → ⊥) →
-    turn m r y c < turn m r y (next m r y cs) → next m r c cs ≡ next m r y cs
+next_between : (m : ℕ) (r : ℕ → ℕ) (c y : ℕ) (cs : List ℕ) → OnCircle m r (c ∷ cs) → Mem y cs → (Mem c cs → ⊥)
+    → turn m r y c < turn m r y (next m r y cs) → next m r c cs ≡ next m r y cs
 next_between m r c y cs k hy new lt =
     let a = next m r y cs in
     let b = next m r c cs in
@@ -50,9 +50,9 @@ next_between m r c y cs k hy new lt =
     ]
 
 -- where a new dart is met, turning from y, before the one that follows y, that one follows it too
-pub between_next : (net : Net) (p : ℕ → Bool) (c y : ℕ) → c < dart_count net → p (c / 2) ≡ false →
-    Leaves net p (tail_of net.graph c) y → is_met_before net y c (next_around net p y) ≡ true →
-    next_around net p c ≡ next_around net p y
+pub between_next : (net : Net) (p : ℕ → Bool) (c y : ℕ) → c < dart_count net → p (c / 2) ≡ false
+    → Leaves net p (tail_of net.graph c) y → is_met_before net y c (next_around net p y) ≡ true
+    → next_around net p c ≡ next_around net p y
 between_next net p c y h new k met =
     let v = tail_of net.graph c in
     let m = rank_end net v in
@@ -72,15 +72,16 @@ between_next net p c y h new k met =
 -- ---- what the list of the faces tells about turning
 
 -- behind the twin of a dart the list has the one next around its node
-pub after_is : (net : Net) (p : ℕ → Bool) (faces : List ℕ) (v y : ℕ) → AreFaces net p faces → Leaves net p v y →
-    get_or faces (twin_of y) 0 ≡ next_around net p y
+pub after_is : (net : Net) (p : ℕ → Bool) (faces : List ℕ) (v y : ℕ) → AreFaces net p faces → Leaves net p v y
+    → get_or faces (twin_of y) 0 ≡ next_around net p y
 after_is net p faces v y k l =
     let inside = twin_below y (length net.graph.edges) l.inside in
     k.next (twin_of y) inside ∙ face_in net p (twin_of y) (ap p (twin_half y) ∙ l.chosen) ∙ ap (next_around net p) (twin_twin y)
 
 -- what leads to a dart of the set is the twin of the dart before it
-pub before_is : (net : Net) (p : ℕ → Bool) (faces : List ℕ) (v y x : ℕ) → AreFaces net p faces → Leaves net p v y →
-    x < dart_count net → get_or faces x 0 ≡ y → Leaves net p v (twin_of x) × (next_around net p (twin_of x) ≡ y)
+pub before_is : (net : Net) (p : ℕ → Bool) (faces : List ℕ) (v y x : ℕ) → AreFaces net p faces
+    → Leaves net p v y → x < dart_count net → get_or faces x 0 ≡ y
+    → Leaves net p v (twin_of x) × (next_around net p (twin_of x) ≡ y)
 before_is net p faces v y x k l h e =
     let here : next_in_face net p x ≡ y = sym (k.next x h) ∙ e in
     let chosen : p (x / 2) ≡ true = sym (face_stays net p x h) ∙ ap (λ z. p (z / 2)) here ∙ l.chosen in
@@ -94,40 +95,40 @@ before_is net p faces v y x k l h e =
     )
 
 -- at a bare node a new dart follows itself
-pub last_bare : (net : Net) (p : ℕ → Bool) (c last : ℕ) → c < dart_count net → IsLast net p (tail_of net.graph c) last →
-    last ≡ 4294967295 → next_around net p c ≡ c
+pub last_bare : (net : Net) (p : ℕ → Bool) (c last : ℕ) → c < dart_count net
+    → IsLast net p (tail_of net.graph c) last → last ≡ 4294967295 → next_around net p c ≡ c
 last_bare net p c last h k e = bare_next net p c h (λ y s t. k.bare e y (record { inside = s.inside; chosen = s.chosen; tail = t }))
 
 -- one step ahead
-pub ahead_is : (net : Net) (p : ℕ → Bool) (faces : List ℕ) (v y t a : ℕ) → AreFaces net p faces → Leaves net p v y →
-    t ≡ twin_of y → a ≡ get_or faces t 0 → a ≡ next_around net p y
+pub ahead_is : (net : Net) (p : ℕ → Bool) (faces : List ℕ) (v y t a : ℕ) → AreFaces net p faces
+    → Leaves net p v y → t ≡ twin_of y → a ≡ get_or faces t 0 → a ≡ next_around net p y
 ahead_is net p faces v y t a k l e h = h ∙ ap (λ z. get_or faces z 0) e ∙ after_is net p faces v y k l
 
 leaves_at : (net : Net) (p : ℕ → Bool) (v d c : ℕ) → c ≡ d → Leaves net p v d → Leaves net p v c
 leaves_at net p v d c e k = let P : ℕ → Type 0 = λ x. Leaves net p v x in subst P (sym e) k
 
 -- the dart found next leaves the same node in the set
-pub ahead_in : (net : Net) (p : ℕ → Bool) (faces : List ℕ) (v y t a : ℕ) → AreFaces net p faces → Leaves net p v y →
-    t ≡ twin_of y → a ≡ get_or faces t 0 → Leaves net p v a
+pub ahead_in : (net : Net) (p : ℕ → Bool) (faces : List ℕ) (v y t a : ℕ) → AreFaces net p faces
+    → Leaves net p v y → t ≡ twin_of y → a ≡ get_or faces t 0 → Leaves net p v a
 ahead_in net p faces v y t a k l e h = leaves_at net p v _ a (ahead_is net p faces v y t a k l e h) (leaves_next net p v y l)
 
 -- the new dart is met there
-pub found_ahead : (net : Net) (p : ℕ → Bool) (faces : List ℕ) (c y t a : ℕ) (b : Bool) → c < dart_count net →
-    p (c / 2) ≡ false → AreFaces net p faces → Leaves net p (tail_of net.graph c) y → t ≡ twin_of y →
-    a ≡ get_or faces t 0 → b ≡ is_met_before net y c a → b ≡ true → a ≡ next_around net p c
+pub found_ahead : (net : Net) (p : ℕ → Bool) (faces : List ℕ) (c y t a : ℕ) (b : Bool) → c < dart_count net
+    → p (c / 2) ≡ false → AreFaces net p faces → Leaves net p (tail_of net.graph c) y → t ≡ twin_of y
+    → a ≡ get_or faces t 0 → b ≡ is_met_before net y c a → b ≡ true → a ≡ next_around net p c
 found_ahead net p faces c y t a b h new k l e q met agrees =
     let here = ahead_is net p faces (tail_of net.graph c) y t a k l e q in
     here ∙ sym (between_next net p c y h new l (ap (is_met_before net y c) (sym here) ∙ sym met ∙ agrees))
 
 -- one step back
-pub back_in : (net : Net) (p : ℕ → Bool) (faces : List ℕ) (v y x t : ℕ) → AreFaces net p faces → Leaves net p v y →
-    x < dart_count net → get_or faces x 0 ≡ y → t ≡ twin_of x → Leaves net p v t
+pub back_in : (net : Net) (p : ℕ → Bool) (faces : List ℕ) (v y x t : ℕ) → AreFaces net p faces
+    → Leaves net p v y → x < dart_count net → get_or faces x 0 ≡ y → t ≡ twin_of x → Leaves net p v t
 back_in net p faces v y x t k l h e q = leaves_at net p v _ t q (before_is net p faces v y x k l h e).0
 
 -- a dart found by turning back is the one that follows the new dart
-pub found_back : (net : Net) (p : ℕ → Bool) (faces : List ℕ) (c y x t : ℕ) (b : Bool) → c < dart_count net →
-    p (c / 2) ≡ false → AreFaces net p faces → Leaves net p (tail_of net.graph c) y → x < dart_count net →
-    get_or faces x 0 ≡ y → t ≡ twin_of x → b ≡ is_met_before net t c y → b ≡ true → y ≡ next_around net p c
+pub found_back : (net : Net) (p : ℕ → Bool) (faces : List ℕ) (c y x t : ℕ) (b : Bool) → c < dart_count net
+    → p (c / 2) ≡ false → AreFaces net p faces → Leaves net p (tail_of net.graph c) y → x < dart_count net
+    → get_or faces x 0 ≡ y → t ≡ twin_of x → b ≡ is_met_before net t c y → b ≡ true → y ≡ next_around net p c
 found_back net p faces c y x t b h new k l hx e q met agrees =
     let step = before_is net p faces (tail_of net.graph c) y x k l hx e in
     let test : is_met_before net (twin_of x) c (next_around net p (twin_of x)) ≡ true =

@@ -6,16 +6,16 @@ use Rattle.std.specs.List.Sorted.{IsPermutation}
 use Rattle.std.proofs.lemmas.List.Sorted.{IsPermutation-refl, IsPermutation-sym, IsPermutation-trans, IsPermutation-middle, IsPermutation-append_right}
 use Rattle.dpl_dual.specs.Queues.{all_of}
 
-pub added : (lanes : List (List (ℕ × ℕ))) (k : ℕ) (x : ℕ × ℕ) → k < length lanes →
-    IsPermutation (x ∷ all_of lanes) (all_of (slice_set lanes k (get_or lanes k [] ++ x ∷ [])))
+pub added : (lanes : List (List (ℕ × ℕ))) (k : ℕ) (x : ℕ × ℕ) → k < length lanes
+    → IsPermutation (x ∷ all_of lanes) (all_of (slice_set lanes k (get_or lanes k [] ++ x ∷ [])))
 added [] k x h = absurd (omega (arith, h))
 added (l ∷ ls) zero x h = subst (λ z. IsPermutation (x ∷ (l ++ all_of ls)) z)
     (sym (append_assoc l (x ∷ []) (all_of ls))) (IsPermutation-sym _ _ (IsPermutation-middle l x (all_of ls)))
 added (l ∷ ls) (suc k) x h = IsPermutation-trans _ _ _ (IsPermutation-sym _ _ (IsPermutation-middle l x (all_of ls)))
     (IsPermutation-append_right l _ _ (added ls k x (omega (arith, h))))
 
-pub taken : (lanes : List (List (ℕ × ℕ))) (k : ℕ) (x : ℕ × ℕ) (rest : List (ℕ × ℕ)) → k < length lanes →
-    get_or lanes k [] ≡ x ∷ rest → IsPermutation (all_of lanes) (x ∷ all_of (slice_set lanes k rest))
+pub taken : (lanes : List (List (ℕ × ℕ))) (k : ℕ) (x : ℕ × ℕ) (rest : List (ℕ × ℕ)) → k < length lanes
+    → get_or lanes k [] ≡ x ∷ rest → IsPermutation (all_of lanes) (x ∷ all_of (slice_set lanes k rest))
 taken [] k x rest h e = absurd (omega (arith, h))
 taken (l ∷ ls) zero x rest h e = subst (λ z. IsPermutation (z ++ all_of ls) (x ∷ (rest ++ all_of ls))) (sym e) (IsPermutation-refl _)
 taken (l ∷ ls) (suc k) x rest h e = IsPermutation-trans _ _ _
@@ -31,19 +31,20 @@ one_lane_more [] = refl
 one_lane_more (l ∷ ls) = ap (λ z. l ++ z) (one_lane_more ls)
 
 -- the first label of a queue that is not empty is taken
-pub popped : (old new : List (List (ℕ × ℕ))) (view : List (ℕ × ℕ)) (k : ℕ) (r : Option (ℕ × ℕ)) → view ≡ all_of old →
-    k < length old → 0 < length (get_or old k []) →
-    MatchOption r (get_or old k [] ≡ []) (λ x. get_or old k [] ≡ x ∷ get_or new k []) → new ≡ slice_set old k (get_or new k []) →
-    MatchOption r ((view ≡ []) × (all_of new ≡ [])) (λ x. IsPermutation view (x ∷ all_of new))
+pub popped : (old new : List (List (ℕ × ℕ))) (view : List (ℕ × ℕ)) (k : ℕ) (r : Option (ℕ × ℕ))
+    → view ≡ all_of old → k < length old → 0 < length (get_or old k [])
+    → MatchOption r (get_or old k [] ≡ []) (λ x. get_or old k [] ≡ x ∷ get_or new k [])
+    → new ≡ slice_set old k (get_or new k [])
+    → MatchOption r ((view ≡ []) × (all_of new ≡ [])) (λ x. IsPermutation view (x ∷ all_of new))
 popped old new view k None v h some first rest = absurd (omega (arith, some, ap length first))
 popped old new view k (Some x) v h some first rest =
     let P : List (List (ℕ × ℕ)) → Type 0 = λ z. IsPermutation (all_of old) (x ∷ all_of z) in
     subst (λ z. IsPermutation z (x ∷ all_of new)) (sym v) (subst P (sym rest) (taken old k x (get_or new k []) h first))
 
 -- a label is put into a queue, after a new queue was made where it was wanted
-pub pushed : (old mid new : List (List (ℕ × ℕ))) (view : List (ℕ × ℕ)) (k : ℕ) (x : ℕ × ℕ) → all_of old ≡ view →
-    all_of mid ≡ all_of old → k < length mid → new ≡ slice_set mid k (get_or mid k [] ++ x ∷ []) →
-    IsPermutation (x ∷ view) (all_of new)
+pub pushed : (old mid new : List (List (ℕ × ℕ))) (view : List (ℕ × ℕ)) (k : ℕ) (x : ℕ × ℕ) → all_of old ≡ view
+    → all_of mid ≡ all_of old → k < length mid → new ≡ slice_set mid k (get_or mid k [] ++ x ∷ [])
+    → IsPermutation (x ∷ view) (all_of new)
 pushed old mid new view k x v same h e =
     let P : List (List (ℕ × ℕ)) → Type 0 = λ z. IsPermutation (x ∷ all_of mid) (all_of z) in
     subst (λ z. IsPermutation (x ∷ z) (all_of new)) (same ∙ v) (subst P (sym e) (added mid k x h))

@@ -16,8 +16,9 @@ use Rattle.dpl_dual.specs.Searches.{IsShort, AreWays}
 
 -- ---- one way more
 
-pub taken_added : (faces faces' : List ℕ) (listed listed' : List Cross) (f : ℕ) (x : Cross) → length faces ≡ length listed →
-    faces' ≡ faces ++ f ∷ [] → listed' ≡ listed ++ x ∷ [] → AreTaken f x faces listed faces' listed'
+pub taken_added : (faces faces' : List ℕ) (listed listed' : List Cross) (f : ℕ) (x : Cross)
+    → length faces ≡ length listed → faces' ≡ faces ++ f ∷ [] → listed' ≡ listed ++ x ∷ []
+    → AreTaken f x faces listed faces' listed'
 taken_added faces faces' listed listed' f x n ef el =
     let at : (g : ℕ) → of_key g faces' listed' ≡ of_key g (faces ++ f ∷ []) (listed ++ x ∷ []) = λ g.
     ap (λ z. of_key g z listed') ef ∙ ap (λ z. of_key g (faces ++ f ∷ []) z) el in
@@ -54,13 +55,13 @@ taken_added faces faces' listed listed' f x n ef el =
     one count h zero d l = h
     one count h (suc k) d l = absurd (omega (arith, l))
 
-pub taken_served : (faces : List ℕ) (listed : List Cross) (f : ℕ) (x : Cross) → length faces ≡ length listed →
-    IsServed (of_key f faces listed) f x → AreTaken f x faces listed faces listed
+pub taken_served : (faces : List ℕ) (listed : List Cross) (f : ℕ) (x : Cross) → length faces ≡ length listed
+    → IsServed (of_key f faces listed) f x → AreTaken f x faces listed faces listed
 taken_served faces listed f x n s = record { sizes = n; kept = λ g y k. k; here = s; only = λ g y k. inl k; below = λ count h a. a }
 
 -- what stands at a place whose key is k is of that key
-has_key : {X : Type 0} (k : ℕ) (keys : List ℕ) (items : List X) (i : ℕ) (y : X) → length keys ≡ length items → i < length keys →
-    get_or keys i 0 ≡ k → get_or items i y ≡ y → Contains (of_key k keys items) y
+has_key : {X : Type 0} (k : ℕ) (keys : List ℕ) (items : List X) (i : ℕ) (y : X) → length keys ≡ length items
+    → i < length keys → get_or keys i 0 ≡ k → get_or items i y ≡ y → Contains (of_key k keys items) y
 has_key k [] items i y n h e q = absurd (omega (arith, h))
 has_key k (a ∷ keys) [] i y n h e q = absurd (omega (arith, n))
 has_key k (a ∷ keys) (b ∷ items) zero y n h e q = rw (eq-eqb a k e) (0, omega arith, q)
@@ -70,15 +71,17 @@ has_key {X} k (a ∷ keys) (b ∷ items) (suc i) y n h e q = later (a == k) (has
   later false c = c
 
 -- a way that serves, where it stands
-served_at : (faces : List ℕ) (ways : List Cross) (place face : ℕ) (way other : Cross) (key : ℕ) → length faces ≡ length ways → place < length faces →
-    get_or faces place key ≡ face → way ≡ get_or ways place way → beyond way face ≡ beyond other face → way.length ≤ other.length →
-    IsServed (of_key face faces ways) face other
+served_at : (faces : List ℕ) (ways : List Cross) (place face : ℕ) (way other : Cross) (key : ℕ)
+    → length faces ≡ length ways → place < length faces → get_or faces place key ≡ face
+    → way ≡ get_or ways place way → beyond way face ≡ beyond other face → way.length ≤ other.length
+    → IsServed (of_key face faces ways) face other
 served_at faces ways place face way other key n h e q b le =
     (way, has_key face faces ways place way n h (get_or_default faces place 0 key h ∙ e) (sym q), b, le)
 
-pub served_read : (faces : List ℕ) (ways : List Cross) (place face key : ℕ) (d other : Cross) → length faces ≡ length ways → place < length faces →
-    get_or faces place key ≡ face → (beyond (get_or ways place d) face ≡ beyond other face) × ((get_or ways place d).length ≤ other.length) →
-    IsServed (of_key face faces ways) face other
+pub served_read : (faces : List ℕ) (ways : List Cross) (place face key : ℕ) (d other : Cross)
+    → length faces ≡ length ways → place < length faces → get_or faces place key ≡ face
+    → (beyond (get_or ways place d) face ≡ beyond other face) × ((get_or ways place d).length ≤ other.length)
+    → IsServed (of_key face faces ways) face other
 served_read faces ways place face key d other n h e s =
     let way = get_or ways place d in
     served_at faces ways place face way other key n h e (get_or_default ways place d way (omega (arith, n, h))) s.0 s.1
@@ -99,9 +102,10 @@ below_none ways = record {
 way_in : (ways : List Cross) (i : ℕ) → i < length ways → Contains ways (way_at ways i)
 way_in ways i h = (i, h, get_or_default ways i (way_at ways i) no_cross h)
 
-pub below_more : (ways : List Cross) (faces mid new : List ℕ) (listed mids news : List Cross) (i : ℕ) (way : Cross) → i < length ways →
-    way ≡ way_at ways i → AreRowsBelow ways i faces listed → AreTaken way.f way faces listed mid mids →
-    AreTaken way.g way mid mids new news → AreRowsBelow ways (i + 1) new news
+pub below_more : (ways : List Cross) (faces mid new : List ℕ) (listed mids news : List Cross) (i : ℕ) (way : Cross)
+    → i < length ways → way ≡ way_at ways i → AreRowsBelow ways i faces listed
+    → AreTaken way.f way faces listed mid mids → AreTaken way.g way mid mids new news
+    → AreRowsBelow ways (i + 1) new news
 below_more ways faces mid new listed mids news i way hi is w a b =
     let P : ℕ → Cross → Type 0 = λ x y. IsServed (of_key x new news) x y in
     let first : P way.f way = (a.here.0, b.kept way.f a.here.0 a.here.1, a.here.2, a.here.3) in
@@ -134,12 +138,13 @@ below_more ways faces mid new listed mids news i way hi is w a b =
           b.below count ends.1 (a.below count ends.0 (w.below count h));
     }
 
-pub faces_below : (count : ℕ) (ways listed : List Cross) (n : ℕ) (faces : List ℕ) → AreWays count ways → AreRowsBelow ways n faces listed →
-    All (λ f. f < count) faces
+pub faces_below : (count : ℕ) (ways listed : List Cross) (n : ℕ) (faces : List ℕ) → AreWays count ways
+    → AreRowsBelow ways n faces listed → All (λ f. f < count) faces
 faces_below count ways listed n faces a w = w.below count (λ k d l. let q = a k d l in (q.0, q.1))
 
-pub rows_are : (count : ℕ) (ways listed : List Cross) (faces : List ℕ) (rows : List (List Cross)) → rows ≡ rows_by faces listed count →
-    AreRowsBelow ways (length ways) faces listed → AreRows count ways rows
+pub rows_are : (count : ℕ) (ways listed : List Cross) (faces : List ℕ) (rows : List (List Cross))
+    → rows ≡ rows_by faces listed count → AreRowsBelow ways (length ways) faces listed
+    → AreRows count ways rows
 rows_are count ways listed faces rows e w =
     let at : (f : ℕ) → f < count → row_of rows f ≡ of_key f faces listed = λ f h.
     ap (λ (z : List (List Cross)). row_of z f) e ∙ rows_by_at faces listed count f h in
@@ -155,8 +160,8 @@ rows_are count ways listed faces rows e w =
     }
 
 -- what is short over a way is so over each that it serves
-pub short_served : (limit : ℕ) (e : ℕ → Option Reach) (f : ℕ) (x y : Cross) → IsShort limit e f y →
-    beyond y f ≡ beyond x f → y.length ≤ x.length → IsShort limit e f x
+pub short_served : (limit : ℕ) (e : ℕ → Option Reach) (f : ℕ) (x y : Cross) → IsShort limit e f y
+    → beyond y f ≡ beyond x f → y.length ≤ x.length → IsShort limit e f x
 short_served limit e f x y h b le r q near =
     let s = h r q (omega (arith, near, le)) in
     (s.0, ap e (sym b) ∙ s.1, omega (arith, s.2, le))

@@ -19,6 +19,6 @@ without_next number b bs = elim (not (b.number == number)) as
     [ true ↦ refl | false ↦ refl ]
 
 -- one box more is looked at
-pub one_box : (front : List Placed) (number : ℕ) (b : Placed) (bs : List Placed) →
-    (front ++ boxes_without number (b ∷ [])) ++ boxes_without number bs ≡ front ++ boxes_without number (b ∷ bs)
+pub one_box : (front : List Placed) (number : ℕ) (b : Placed) (bs : List Placed)
+    → (front ++ boxes_without number (b ∷ [])) ++ boxes_without number bs ≡ front ++ boxes_without number (b ∷ bs)
 one_box front number b bs = append_assoc front (boxes_without number (b ∷ [])) (boxes_without number bs) ∙ ap (λ xs. front ++ xs) (without_next number b bs)

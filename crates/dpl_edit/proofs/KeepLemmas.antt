@@ -24,9 +24,10 @@ coloured s colours cost = record {
   bound = s.bound;
 }
 
-pub recoloured : (o : PlainOptions) (cells kept : Cells) (s : Optimum) (colours : List Bool) (cost : ℕ) →
-    IsSolved o cells kept s → IsColouring s.net.graph colours → broken_on s.net colours ≡ broken_on s.net s.colours
-    → cost ≡ cost_of s.net.graph colours → IsSolved o cells kept (coloured s colours cost)
+pub recoloured : (o : PlainOptions) (cells kept : Cells) (s : Optimum) (colours : List Bool) (cost : ℕ)
+    → IsSolved o cells kept s → IsColouring s.net.graph colours
+    → broken_on s.net colours ≡ broken_on s.net s.colours → cost ≡ cost_of s.net.graph colours
+    → IsSolved o cells kept (coloured s colours cost)
 recoloured o cells kept s colours cost h k same is = record {
   layer = h.layer;
   optimum = record {

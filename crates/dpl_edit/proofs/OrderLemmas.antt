@@ -45,9 +45,10 @@ ranks_apart r s xs ys low a b i d l j e m =
     let less : (key_tie (slice_index_or xs i d)).rank < (key_tie (slice_index_or ys j e)).rank = omega (arith, low, p, q) in
     key_to (key_tie (slice_index_or xs i d)) (key_tie (slice_index_or ys j e)) (inl less)
 
-ties_in_order : (w : PlainWeights) (bonds : List (ℕ × ℕ)) (cuts : List Cut) (links : List Link) →
-    AllPairs IsFirst bonds → AllPairs (λ (c d : Cut). c.a < d.a) cuts
-    → AllPairs (λ (l m : Link). IsFirst (l.a, l.b) (m.a, m.b)) links → AllPairs IsTieBefore (ties_of w bonds cuts links)
+ties_in_order : (w : PlainWeights) (bonds : List (ℕ × ℕ)) (cuts : List Cut) (links : List Link)
+    → AllPairs IsFirst bonds → AllPairs (λ (c d : Cut). c.a < d.a) cuts
+    → AllPairs (λ (l m : Link). IsFirst (l.a, l.b) (m.a, m.b)) links
+    → AllPairs IsTieBefore (ties_of w bonds cuts links)
 unfolding IsTieBefore key_tie
 ties_in_order w bonds cuts links a b c =
     let x = map bond_tie bonds in

@@ -54,21 +54,24 @@ content_kind o prims keep e r = first_has (HasKind ⊥ 8) (content_reasons o pri
 -- ---- what the steps answer
 
 -- what refuses the layer of cells refuses their report
-pub cells_refuse : (o : PlainOptions) (cells kept : Cells) (e : LayerError) → (e ≡ layer.NoMemory) ⊎ FirstOf (cells_reasons o cells kept) e →
-    (e ≡ layer.NoMemory) ⊎ FirstOf (report_reasons o cells kept) e
+pub cells_refuse : (o : PlainOptions) (cells kept : Cells) (e : LayerError)
+    → (e ≡ layer.NoMemory) ⊎ FirstOf (cells_reasons o cells kept) e
+    → (e ≡ layer.NoMemory) ⊎ FirstOf (report_reasons o cells kept) e
 cells_refuse o cells kept e (inl m) = inl m
 cells_refuse o cells kept e (inr r) = inr (in_front (cells_reasons o cells kept) (HasOddNet o cells kept ∷ []) e r)
 
 -- too many primitives refuse a content
-pub many_refuse : (o : PlainOptions) (prims keep : List Primitive) (kind count : ℕ) → 50000 < prim_count prims →
-    kind ≡ number_of Counted.Primitives → count ≡ shown (prim_count prims) → Refuses o prims keep (Limit kind count)
+pub many_refuse : (o : PlainOptions) (prims keep : List Primitive) (kind count : ℕ) → 50000 < prim_count prims
+    → kind ≡ number_of Counted.Primitives → count ≡ shown (prim_count prims)
+    → Refuses o prims keep (Limit kind count)
 many_refuse o prims keep kind count many k c =
     first (IsOver Counted.Primitives (prim_count prims)) (report_reasons o (cells_in prims) (cells_in keep)) (layer.Limit kind count)
     (many, ap (λ z. layer.Limit z count) k ∙ ap (layer.Limit 2) c)
 
 -- what refuses the cells refuses a content with few primitives
-pub drawn_refuses : (o : PlainOptions) (prims keep : List Primitive) (e : LayerError) → prim_count prims ≤ 50000 →
-    (e ≡ layer.NoMemory) ⊎ FirstOf (report_reasons o (cells_in prims) (cells_in keep)) e
+pub drawn_refuses : (o : PlainOptions) (prims keep : List Primitive) (e : LayerError)
+    → prim_count prims ≤ 50000
+    → (e ≡ layer.NoMemory) ⊎ FirstOf (report_reasons o (cells_in prims) (cells_in keep)) e
     → (of_layer e ≡ NoMemory) ⊎ Refuses o prims keep (of_layer e)
 drawn_refuses o prims keep e few (inl m) = inl (ap of_layer m)
 drawn_refuses o prims keep (layer.Layout c w) few (inr h) = inl refl

@@ -20,26 +20,29 @@ pub record AreOne (o o' : PlainOptions) (prims prims' keep keep' : List Primitiv
   pub prims_are : prims ≡ prims'
   pub keep_is : keep ≡ keep'
 
-pub refuses_there : (o o' : PlainOptions) (prims prims' keep keep' : List Primitive) →
-    AreOne o o' prims prims' keep keep' → (e : EditError) → Refuses o prims keep e → Refuses o' prims' keep' e
+pub refuses_there : (o o' : PlainOptions) (prims prims' keep keep' : List Primitive)
+    → AreOne o o' prims prims' keep keep' → (e : EditError) → Refuses o prims keep e
+    → Refuses o' prims' keep' e
 refuses_there o o' prims prims' keep keep' h e r =
     subst (λ z. Refuses o' prims' z e) h.keep_is (subst (λ z. Refuses o' z keep e) h.prims_are (subst (λ z. Refuses z prims keep e) h.options r))
 
-pub refuses_here : (o o' : PlainOptions) (prims prims' keep keep' : List Primitive) →
-    AreOne o o' prims prims' keep keep' → (e : EditError) → Refuses o' prims' keep' e → Refuses o prims keep e
+pub refuses_here : (o o' : PlainOptions) (prims prims' keep keep' : List Primitive)
+    → AreOne o o' prims prims' keep keep' → (e : EditError) → Refuses o' prims' keep' e
+    → Refuses o prims keep e
 refuses_here o o' prims prims' keep keep' h e r =
     subst (λ z. Refuses z prims keep e) (sym h.options)
     (subst (λ z. Refuses o' z keep e) (sym h.prims_are) (subst (λ z. Refuses o' prims' z e) (sym h.keep_is) r))
 
 -- where a content has an optimum no refusal applies
-pub ok_free : (o o' : PlainOptions) (prims prims' keep keep' : List Primitive) (s : Optimum) →
-    AreOne o o' prims prims' keep keep' → IsSolvedContent o prims keep s → (e : EditError) → ¬ Refuses o' prims' keep' e
+pub ok_free : (o o' : PlainOptions) (prims prims' keep keep' : List Primitive) (s : Optimum)
+    → AreOne o o' prims prims' keep keep' → IsSolvedContent o prims keep s → (e : EditError)
+    → ¬ Refuses o' prims' keep' e
 ok_free o o' prims prims' keep keep' s h solved e r = content_free o prims keep s solved e (refuses_here o o' prims prims' keep keep' h e r)
 
 -- where a content is refused this comes, or want of memory
-pub err_comes : (o o' : PlainOptions) (prims prims' keep keep' : List Primitive) (f : EditError) →
-    AreOne o o' prims prims' keep keep' → (f ≡ NoMemory) ⊎ Refuses o prims keep f
-    → (e : EditError) → Refuses o' prims' keep' e → (f ≡ e) ⊎ (f ≡ NoMemory)
+pub err_comes : (o o' : PlainOptions) (prims prims' keep keep' : List Primitive) (f : EditError)
+    → AreOne o o' prims prims' keep keep' → (f ≡ NoMemory) ⊎ Refuses o prims keep f → (e : EditError)
+    → Refuses o' prims' keep' e → (f ≡ e) ⊎ (f ≡ NoMemory)
 err_comes o o' prims prims' keep keep' f h (inl m) e r = inr m
 err_comes o o' prims prims' keep keep' f h (inr q) e r = inl (one_refusal o prims keep f e q (refuses_here o o' prims prims' keep keep' h e r))
 
@@ -58,16 +61,17 @@ none_behind prims begun boxes p q = ap (content begun) q ∙ append-nil begun �
 
 -- ---- removals
 
-pub edit_removes : (s : State) (number : ℕ) (e : EditError) → HasBox number s.boxes → (e ≡ NoMemory) ⊎
-    Refuses s.options (content s.begun (boxes_without number s.boxes)) s.keep e
+pub edit_removes : (s : State) (number : ℕ) (e : EditError) → HasBox number s.boxes
+    → (e ≡ NoMemory) ⊎ Refuses s.options (content s.begun (boxes_without number s.boxes)) s.keep e
     → (of_edit e ≡ removing.NoMemory) ⊎ RefusesRemoval s number (of_edit e)
 edit_removes s number e b (inl m) = inl (ap of_edit m)
 edit_removes s number (Limit k c) b (inr h) = inr (b, h)
 edit_removes s number NoMemory b (inr h) = absurd h
 
 -- a limit that the content without the box passes, as an answer of the edit
-pub removal_edits : (s : State) (number : ℕ) → HasBox number s.boxes → (r : RemoveError) → RefusesRemoval s number r →
-    (e : EditError) × (of_edit e ≡ r) × Refuses s.options (content s.begun (boxes_without number s.boxes)) s.keep e
+pub removal_edits : (s : State) (number : ℕ) → HasBox number s.boxes → (r : RemoveError)
+    → RefusesRemoval s number r
+    → (e : EditError) × (of_edit e ≡ r) × Refuses s.options (content s.begun (boxes_without number s.boxes)) s.keep e
 removal_edits s number b (removing.NoBox n) h = absurd (h.1 b)
 removal_edits s number b (removing.Limit k c) h = (Limit k c, refl, h.1)
 removal_edits s number b removing.NoMemory h = absurd h

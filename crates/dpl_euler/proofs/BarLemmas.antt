@@ -69,15 +69,16 @@ excess_two net e h aside =
     omega (arith, effect.crosses (ends_joined net e h aside) (corners_apart net e h aside), kept_plane net (length net.graph.edges) (omega arith))
 
 -- the kept edges lead from its larger end to its smaller one
-pub ends_led : (net : Net) (e : ℕ) → e < length net.graph.edges → is_kept net e ≡ false →
-    AreJoined net.graph (is_kept net) (edge_at net.graph e).b (edge_at net.graph e).a
+pub ends_led : (net : Net) (e : ℕ) → e < length net.graph.edges → is_kept net e ≡ false
+    → AreJoined net.graph (is_kept net) (edge_at net.graph e).b (edge_at net.graph e).a
 ends_led net e h aside = (component_is net.graph (is_kept net) (edge_at net.graph e).b (edge_at net.graph e).a).0 (sym (ends_joined net e h aside))
 
 -- ---- the face at its first corner
 
 -- all numbers of a cycle have one least number
-on_cycle : (n : ℕ) (f g : ℕ → ℕ) (start : ℕ) (cycle : List ℕ) → Permutes n f g → start < n → IsCycleFrom f start cycle →
-    (i : ℕ) → i < length cycle → (get_or cycle i 0 < n) × (least f n (get_or cycle i 0) ≡ least f n start)
+on_cycle : (n : ℕ) (f g : ℕ → ℕ) (start : ℕ) (cycle : List ℕ) → Permutes n f g → start < n
+    → IsCycleFrom f start cycle → (i : ℕ) → i < length cycle
+    → (get_or cycle i 0 < n) × (least f n (get_or cycle i 0) ≡ least f n start)
 on_cycle n f g start cycle p h c zero l = (omega (arith, c.first, h), ap (least f n) c.first)
 on_cycle n f g start cycle p h c (suc i) l =
     let before = on_cycle n f g start cycle p h c i (omega (arith, l)) in
@@ -85,17 +86,19 @@ on_cycle n f g start cycle p h c (suc i) l =
     (omega (arith, step, p.to (get_or cycle i 0) before.0), ap (least f n) step ∙ least_step n f g p (get_or cycle i 0) before.0 ∙ before.1)
 
 -- it does not have the other corner
-pub face_apart : (net : Net) (e : ℕ) (face : List ℕ) → e < length net.graph.edges → is_kept net e ≡ false →
-    corner_at net (2 * e) < dart_count net → IsCycleFrom (next_in_face net (is_kept net)) (corner_at net (2 * e)) face →
-    ¬ Contains face (corner_at net (2 * e + 1))
+pub face_apart : (net : Net) (e : ℕ) (face : List ℕ) → e < length net.graph.edges → is_kept net e ≡ false
+    → corner_at net (2 * e) < dart_count net
+    → IsCycleFrom (next_in_face net (is_kept net)) (corner_at net (2 * e)) face
+    → ¬ Contains face (corner_at net (2 * e + 1))
 face_apart net e face h aside inside c has =
     let at : get_or face has.0 0 ≡ corner_at net (2 * e + 1) = get_or_default face has.0 0 (corner_at net (2 * e + 1)) has.1 ∙ has.2 in
     let one = (on_cycle (dart_count net) (next_in_face net (is_kept net)) _ _ face (face_permutes net (is_kept net)) inside c has.0 has.1).1 in
     corners_apart net e h aside (sym one ∙ ap (face_of net (is_kept net)) at)
 
 -- its darts are all of kept edges, as the first is
-pub face_drawn : (net : Net) (start : ℕ) (face : List ℕ) → start < dart_count net → is_kept net (start / 2) ≡ true →
-    IsCycleFrom (next_in_face net (is_kept net)) start face → All (λ d. is_kept net (d / 2) ≡ true) face
+pub face_drawn : (net : Net) (start : ℕ) (face : List ℕ) → start < dart_count net
+    → is_kept net (start / 2) ≡ true → IsCycleFrom (next_in_face net (is_kept net)) start face
+    → All (λ d. is_kept net (d / 2) ≡ true) face
 face_drawn net start face inside kept c = All-from_get_or (λ d. is_kept net (d / 2) ≡ true) face 0 (λ i l. at i l)
   where
     at : (i : ℕ) → i < length face → is_kept net (get_or face i 0 / 2) ≡ true
@@ -107,8 +110,8 @@ face_drawn net start face inside kept c = All-from_get_or (λ d. is_kept net (d 
         ap (λ d. is_kept net (d / 2)) step ∙ face_stays net (is_kept net) (get_or face i 0) low ∙ at i (omega (arith, l))
 
 -- a permutation that is the same below n has the same cycles
-pub cycle_same : (n : ℕ) (f h g : ℕ → ℕ) (start : ℕ) (cycle : List ℕ) → Permutes n f g → ((x : ℕ) → x < n → h x ≡ f x) →
-    start < n → IsCycleFrom h start cycle → IsCycleFrom f start cycle
+pub cycle_same : (n : ℕ) (f h g : ℕ → ℕ) (start : ℕ) (cycle : List ℕ) → Permutes n f g
+    → ((x : ℕ) → x < n → h x ≡ f x) → start < n → IsCycleFrom h start cycle → IsCycleFrom f start cycle
 cycle_same n f h g start cycle p same low c =
     record {
       some = c.some;
@@ -155,19 +158,19 @@ edge_first net aside e same some at =
     ap (λ (xs : List ℕ). get_or xs 0 0) same in
     subst P (sym first) (first_aside net some)
 
-pub joined_in : (net : Net) (kept : List Bool) (e : ℕ) (ends : Edge) → kept ≡ kept_edges net →
-    ends ≡ edge_at net.graph e → e < length net.graph.edges → is_kept net e ≡ false →
-    AreJoined net.graph (is_in kept) ends.b ends.a
+pub joined_in : (net : Net) (kept : List Bool) (e : ℕ) (ends : Edge) → kept ≡ kept_edges net
+    → ends ≡ edge_at net.graph e → e < length net.graph.edges → is_kept net e ≡ false
+    → AreJoined net.graph (is_in kept) ends.b ends.a
 joined_in net kept e ends same at h aside =
     let P : List Bool → Edge → Type 0 = λ ks z. AreJoined net.graph (is_in ks) z.b z.a in
     subst (λ ks. P ks ends) (sym same) (subst (P (kept_edges net)) (sym at) (ends_led net e h aside))
 
-pub bar_is : (net : Net) (kept : List Bool) (corners : List ℕ) (e corner : ℕ) (ends : Edge) (face walk : List ℕ) →
-    kept ≡ kept_edges net → length corners ≡ dart_count net →
-    ((d : ℕ) → d < dart_count net → get_or corners d 0 ≡ next_in_face net (is_kept net) d) →
-    ends ≡ edge_at net.graph e → IsFirstAside net e → corner ≡ next_around net (is_in kept) (2 * e) →
-    IsCycleFrom (slice_index corners) corner face → IsPath net.graph ends.a walk ends.b →
-    All (λ x. is_in kept x ≡ true) walk → IsBar net (record { edge = e; face = face; walk = walk })
+pub bar_is : (net : Net) (kept : List Bool) (corners : List ℕ) (e corner : ℕ) (ends : Edge) (face walk : List ℕ)
+    → kept ≡ kept_edges net → length corners ≡ dart_count net
+    → ((d : ℕ) → d < dart_count net → get_or corners d 0 ≡ next_in_face net (is_kept net) d)
+    → ends ≡ edge_at net.graph e → IsFirstAside net e → corner ≡ next_around net (is_in kept) (2 * e)
+    → IsCycleFrom (slice_index corners) corner face → IsPath net.graph ends.a walk ends.b
+    → All (λ x. is_in kept x ≡ true) walk → IsBar net (record { edge = e; face = face; walk = walk })
 bar_is net kept corners e corner ends face walk same size next at first ec cycle path all =
     let P : ℕ → Type 0 = λ z. IsCycleFrom (next_in_face net (is_kept net)) z face in
     let Q : Edge → Type 0 = λ z. IsPath net.graph z.a walk z.b in

@@ -33,8 +33,8 @@ trail_begins f n start h = record {
 }
 
 -- the next number is new, unless it is the first
-next_new : (f g : ℕ → ℕ) (n start place : ℕ) (trail : List ℕ) → Permutes n f g → IsTrail f n start place trail →
-    f place ≢ start → (k : ℕ) → k < length trail → get_or trail k 0 ≢ f place
+next_new : (f g : ℕ → ℕ) (n start place : ℕ) (trail : List ℕ) → Permutes n f g → IsTrail f n start place trail
+    → f place ≢ start → (k : ℕ) → k < length trail → get_or trail k 0 ≢ f place
 next_new f g n start place trail p t ne zero h e = ne (sym e ∙ t.first)
 next_new f g n start place trail p t ne (suc k) h e =
     let last = length trail - 1 in
@@ -44,8 +44,8 @@ next_new f g n start place trail p t ne (suc k) h e =
     let same : get_or trail k 0 ≡ place = sym (p.back (get_or trail k 0) low) ∙ ap g (sym step ∙ e) ∙ p.back place there in
     t.once k last 0 (omega (arith, h)) (omega (arith, t.some)) (same ∙ sym t.here)
 
-pub trail_goes_on : (f g : ℕ → ℕ) (n start place : ℕ) (trail : List ℕ) → Permutes n f g →
-    IsTrail f n start place trail → f place ≢ start → IsTrail f n start (f place) (trail ++ f place ∷ [])
+pub trail_goes_on : (f g : ℕ → ℕ) (n start place : ℕ) (trail : List ℕ) → Permutes n f g
+    → IsTrail f n start place trail → f place ≢ start → IsTrail f n start (f place) (trail ++ f place ∷ [])
 trail_goes_on f g n start place trail p t ne =
     let y = f place in
     let size : length (trail ++ y ∷ []) ≡ length trail + 1 = length-append trail (y ∷ []) in

@@ -24,8 +24,8 @@ use Rattle.dpl_euler.specs.Links.{AreLinks}
 
 -- ---- the links in a list
 
-pub links_more : (f : Fragments) (net : Net) (links : List Segment) (k : ℕ) (x : Segment) → AreLinks f net links k →
-    ends_of x ≡ link_at f net k → AreLinks f net (links ++ x ∷ []) (k + 1)
+pub links_more : (f : Fragments) (net : Net) (links : List Segment) (k : ℕ) (x : Segment)
+    → AreLinks f net links k → ends_of x ≡ link_at f net k → AreLinks f net (links ++ x ∷ []) (k + 1)
 links_more f net links k x l at = record {
   sizes = omega (arith, length-append links (x ∷ []), l.sizes);
   each = λ e d h. elim (cases_eq e k) [
@@ -69,12 +69,11 @@ meets_at a b c d e f m =
 found_at : (found : List ℕ) (k x : ℕ) → k < length found → get_or found k x ≡ x → get_or found k 0 ≡ x
 found_at found k x h e = get_or_default found k 0 x h ∙ e
 
-link_apart : (f : Fragments) (net : Net) (links : List Segment) (by_link : List Bounds) (window : Bounds)
-    (found : List ℕ) (e : ℕ) (s : Segment) → AreLinks f net links (length net.graph.edges) →
-    by_link ≡ map (λ x. bounds_around (ends_of x)) links → window ≡ bounds_around (link_at f net e) →
-    AreMeeting by_link window found →
-    ((i : ℕ) → i < length found → e < get_or found i 0 → links_cross f net e (get_or found i 0) ≡ false) → (d : ℕ) →
-    e < d → d < length net.graph.edges → links_cross f net e d ≡ true → ⊥
+link_apart : (f : Fragments) (net : Net) (links : List Segment) (by_link : List Bounds) (window : Bounds) (found : List ℕ) (e : ℕ) (s : Segment)
+    → AreLinks f net links (length net.graph.edges) → by_link ≡ map (λ x. bounds_around (ends_of x)) links
+    → window ≡ bounds_around (link_at f net e) → AreMeeting by_link window found
+    → ((i : ℕ) → i < length found → e < get_or found i 0 → links_cross f net e (get_or found i 0) ≡ false)
+    → (d : ℕ) → e < d → d < length net.graph.edges → links_cross f net e d ≡ true → ⊥
 link_apart f net links by_link window found e s l eb ew m none d le hd crosses =
     let size : length by_link ≡ length links = ap length eb ∙ length-map links (λ x. bounds_around (ends_of x)) in
     let bounds : (z : Bounds) → get_or by_link d z ≡ bounds_around (link_at f net d) =
@@ -89,10 +88,11 @@ link_apart f net links by_link window found e s l eb ew m none d le hd crosses =
     let at : get_or found has.0 0 ≡ d = found_at found has.0 d has.1 has.2 in
     true≢false (sym crosses ∙ ap (links_cross f net e) (sym at) ∙ none has.0 has.1 (omega (arith, le, at)))
 
-fragment_apart : (f : Fragments) (net : Net) (by_rect : List Bounds) (window : Bounds) (also : List ℕ) (e : ℕ) →
-    by_rect ≡ map (λ r. bounds_around (diagonal (corners_of r))) f.rects → window ≡ bounds_around (link_at f net e) →
-    AreMeeting by_rect window also →
-    ((i : ℕ) → i < length also → crosses_fragment f net e (get_or also i 0) ≡ false) → (v : ℕ) → v < length f.rects → crosses_fragment f net e v ≡ true → ⊥
+fragment_apart : (f : Fragments) (net : Net) (by_rect : List Bounds) (window : Bounds) (also : List ℕ) (e : ℕ)
+    → by_rect ≡ map (λ r. bounds_around (diagonal (corners_of r))) f.rects
+    → window ≡ bounds_around (link_at f net e) → AreMeeting by_rect window also
+    → ((i : ℕ) → i < length also → crosses_fragment f net e (get_or also i 0) ≡ false) → (v : ℕ)
+    → v < length f.rects → crosses_fragment f net e v ≡ true → ⊥
 fragment_apart f net by_rect window also e eb ew m none v hv crosses =
     let size : length by_rect ≡ length f.rects = ap length eb ∙ length-map f.rects (λ r. bounds_around (diagonal (corners_of r))) in
     let rect = rect_at (map corners_of f.rects) v in
@@ -116,14 +116,14 @@ fragment_apart f net by_rect window also e eb ew m none v hv crosses =
     rect_bounds (r ∷ rs) (suc v) z h = rect_bounds rs v z (omega (arith, h))
 
 pub nothing_crossed : (f : Fragments) (net : Net) (links : List Segment) (by_link by_rect : List Bounds)
-    (window : Bounds) (found also : List ℕ) (e : ℕ) (s : Segment) → AreLinks f net links (length net.graph.edges) →
-    by_link ≡ map (λ x. bounds_around (ends_of x)) links →
-    by_rect ≡ map (λ r. bounds_around (diagonal (corners_of r))) f.rects → e < length net.graph.edges →
-    s ≡ get_or links e s → window ≡ bounds_around (ends_of s) →
-    AreMeeting by_link window found → AreMeeting by_rect window also →
-    ((i : ℕ) → i < length found → e < get_or found i 0 → links_cross f net e (get_or found i 0) ≡ false) →
-    ((i : ℕ) → i < length also → crosses_fragment f net e (get_or also i 0) ≡ false) → (w : With) →
-    ¬ IsFound f net e w
+    → (window : Bounds) (found also : List ℕ) (e : ℕ) (s : Segment)
+    → AreLinks f net links (length net.graph.edges) → by_link ≡ map (λ x. bounds_around (ends_of x)) links
+    → by_rect ≡ map (λ r. bounds_around (diagonal (corners_of r))) f.rects → e < length net.graph.edges
+    → s ≡ get_or links e s → window ≡ bounds_around (ends_of s) → AreMeeting by_link window found
+    → AreMeeting by_rect window also
+    → ((i : ℕ) → i < length found → e < get_or found i 0 → links_cross f net e (get_or found i 0) ≡ false)
+    → ((i : ℕ) → i < length also → crosses_fragment f net e (get_or also i 0) ≡ false) → (w : With)
+    → ¬ IsFound f net e w
 nothing_crossed f net links by_link by_rect window found also e s l el er he es ew m n none never (Link d) is =
     link_apart f net links by_link window found e s l el (ew ∙ ap bounds_around (ap ends_of es ∙ l.each e s he)) m none d is.0 is.1 is.2
 nothing_crossed f net links by_link by_rect window found also e s l el er he es ew m n none never (Fragment v) is =

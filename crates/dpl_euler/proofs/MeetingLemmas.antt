@@ -32,8 +32,9 @@ mean_on s n m hn hm h =
 
 -- ---- lines that are not parallel
 
-same_mean : (n m k l w a1 a2 b1 b2 : ℤ) → (n +ℤ m) ≡ w → (k +ℤ l) ≡ w →
-    ((w *ℤ (a1 -ℤ b1)) +ℤ (m *ℤ (a2 -ℤ a1))) ≡ (l *ℤ (b2 -ℤ b1)) → ((n *ℤ a1) +ℤ (m *ℤ a2)) ≡ ((k *ℤ b1) +ℤ (l *ℤ b2))
+same_mean : (n m k l w a1 a2 b1 b2 : ℤ) → (n +ℤ m) ≡ w → (k +ℤ l) ≡ w
+    → ((w *ℤ (a1 -ℤ b1)) +ℤ (m *ℤ (a2 -ℤ a1))) ≡ (l *ℤ (b2 -ℤ b1))
+    → ((n *ℤ a1) +ℤ (m *ℤ a2)) ≡ ((k *ℤ b1) +ℤ (l *ℤ b2))
 same_mean n m k l w a1 a2 b1 b2 whole total h = mean n m w a1 a2 whole ∙ join w a1 b1 m (a2 -ℤ a1) l (b2 -ℤ b1) h ∙ sym (mean k l w b1 b2 total)
   where
     mean : (n m w a b : ℤ) → (n +ℤ m) ≡ w → ((n *ℤ a) +ℤ (m *ℤ b)) ≡ ((w *ℤ a) +ℤ (m *ℤ (b -ℤ a)))
@@ -43,9 +44,9 @@ same_mean n m k l w a1 a2 b1 b2 whole total h = mean n m w a1 a2 whole ∙ join 
     join w a b m d l e h = omega (arith, ints, h, mul_sub w a b)
 
 -- a mean of the ends of one segment that is one of the ends of the other
-both_on : (s t : Ends) (n m k l : ℤ) → pos 0 ≤ℤ n → pos 0 ≤ℤ m → pos 0 ≤ℤ k → pos 0 ≤ℤ l → pos 0 <ℤ (n +ℤ m) →
-    (k +ℤ l) ≡ (n +ℤ m) → ((n *ℤ s.x1) +ℤ (m *ℤ s.x2)) ≡ ((k *ℤ t.x1) +ℤ (l *ℤ t.x2)) →
-    ((n *ℤ s.y1) +ℤ (m *ℤ s.y2)) ≡ ((k *ℤ t.y1) +ℤ (l *ℤ t.y2)) → Common s t
+both_on : (s t : Ends) (n m k l : ℤ) → pos 0 ≤ℤ n → pos 0 ≤ℤ m → pos 0 ≤ℤ k → pos 0 ≤ℤ l → pos 0 <ℤ (n +ℤ m)
+    → (k +ℤ l) ≡ (n +ℤ m) → ((n *ℤ s.x1) +ℤ (m *ℤ s.x2)) ≡ ((k *ℤ t.x1) +ℤ (l *ℤ t.x2))
+    → ((n *ℤ s.y1) +ℤ (m *ℤ s.y2)) ≡ ((k *ℤ t.y1) +ℤ (l *ℤ t.y2)) → Common s t
 both_on s t n m k l hn hm hk hl h e x y = record {
   point = mean_point s n m h;
   first = mean_on s n m hn hm h;
@@ -57,8 +58,8 @@ both_on s t n m k l hn hm hk hl h e x y = record {
     across a b f = ap (λ z. (k +ℤ l) *ℤ z) f ∙ ap (λ z. z *ℤ b) (e ∙ sym (abs_is (n +ℤ m) (omega (arith, ints, h))))
 
 -- the other turns the first way: the line of each leaves the other's ends on its two sides
-cross_up : (s t : Ends) → pos 0 <ℤ turn_of s t → turn_to s t.x1 t.y1 ≤ℤ pos 0 → pos 0 ≤ℤ turn_to s t.x2 t.y2 →
-    pos 0 ≤ℤ turn_to t s.x1 s.y1 → turn_to t s.x2 s.y2 ≤ℤ pos 0 → Common s t
+cross_up : (s t : Ends) → pos 0 <ℤ turn_of s t → turn_to s t.x1 t.y1 ≤ℤ pos 0 → pos 0 ≤ℤ turn_to s t.x2 t.y2
+    → pos 0 ≤ℤ turn_to t s.x1 s.y1 → turn_to t s.x2 s.y2 ≤ℤ pos 0 → Common s t
 cross_up s t up low high high_s low_s =
     let whole : ((pos 0 -ℤ turn_to t s.x2 s.y2) +ℤ turn_to t s.x1 s.y1) ≡ turn_of s t = omega (arith, ints, turn_step t s, turn_other s t) in
     let total : (turn_to s t.x2 t.y2 +ℤ (pos 0 -ℤ turn_to s t.x1 t.y1)) ≡ turn_of s t = omega (arith, ints, turn_step s t) in
@@ -77,9 +78,9 @@ pub record Middle (s t : Ends) (w : ℤ) : Type 0 where
   pub second : IsOn t point
   pub middle : (pos 2 *ℤ point.x) ≡ (pos point.over *ℤ w)
 
-middle_up : (s t : Ends) (w : ℤ) → s.x1 <ℤ s.x2 → t.x1 ≢ t.x2 → turn_to t s.x1 s.y1 ≡ pos 0 →
-    turn_to t s.x2 s.y2 ≡ pos 0 → (pos 2 *ℤ s.x1) ≤ℤ w → w ≤ℤ (pos 2 *ℤ s.x2) → (pos 2 *ℤ int_min t.x1 t.x2) ≤ℤ w →
-    w ≤ℤ (pos 2 *ℤ int_max t.x1 t.x2) → Middle s t w
+middle_up : (s t : Ends) (w : ℤ) → s.x1 <ℤ s.x2 → t.x1 ≢ t.x2 → turn_to t s.x1 s.y1 ≡ pos 0
+    → turn_to t s.x2 s.y2 ≡ pos 0 → (pos 2 *ℤ s.x1) ≤ℤ w → w ≤ℤ (pos 2 *ℤ s.x2)
+    → (pos 2 *ℤ int_min t.x1 t.x2) ≤ℤ w → w ≤ℤ (pos 2 *ℤ int_max t.x1 t.x2) → Middle s t w
 middle_up s t w up apart zero1 zero2 low high low_t high_t =
     let n : ℤ = (pos 2 *ℤ s.x2) -ℤ w in
     let m : ℤ = w -ℤ (pos 2 *ℤ s.x1) in
@@ -120,9 +121,9 @@ middle_up s t w up apart zero1 zero2 low high low_t high_t =
 middle_back : (s t : Ends) (w : ℤ) → Middle (back s) t w → Middle s t w
 middle_back s t w m = record { point = m.point; first = on_back s m.point m.first; second = m.second; middle = m.middle }
 
-pub middle_x : (s t : Ends) (w : ℤ) → s.x1 ≢ s.x2 → t.x1 ≢ t.x2 → turn_to t s.x1 s.y1 ≡ pos 0 →
-    turn_to t s.x2 s.y2 ≡ pos 0 → (pos 2 *ℤ int_min s.x1 s.x2) ≤ℤ w → w ≤ℤ (pos 2 *ℤ int_max s.x1 s.x2) →
-    (pos 2 *ℤ int_min t.x1 t.x2) ≤ℤ w → w ≤ℤ (pos 2 *ℤ int_max t.x1 t.x2) → Middle s t w
+pub middle_x : (s t : Ends) (w : ℤ) → s.x1 ≢ s.x2 → t.x1 ≢ t.x2 → turn_to t s.x1 s.y1 ≡ pos 0
+    → turn_to t s.x2 s.y2 ≡ pos 0 → (pos 2 *ℤ int_min s.x1 s.x2) ≤ℤ w → w ≤ℤ (pos 2 *ℤ int_max s.x1 s.x2)
+    → (pos 2 *ℤ int_min t.x1 t.x2) ≤ℤ w → w ≤ℤ (pos 2 *ℤ int_max t.x1 t.x2) → Middle s t w
 middle_x s t w some apart zero1 zero2 low high low_t high_t = by_lt_z s.x1 s.x2
     (λ l. middle_up s t w l apart zero1 zero2 (omega (arith, ints, clamps, l, low)) (omega (arith, ints, clamps, l, high)) low_t high_t)
     (λ l. let m : s.x2 <ℤ s.x1 = omega (arith, ints, l, some) in
@@ -135,9 +136,9 @@ pub record MiddleRow (s t : Ends) (w : ℤ) : Type 0 where
   pub second : IsOn t point
   pub middle : (pos 2 *ℤ point.y) ≡ (pos point.over *ℤ w)
 
-pub middle_y : (s t : Ends) (w : ℤ) → s.y1 ≢ s.y2 → t.y1 ≢ t.y2 → turn_to t s.x1 s.y1 ≡ pos 0 →
-    turn_to t s.x2 s.y2 ≡ pos 0 → (pos 2 *ℤ int_min s.y1 s.y2) ≤ℤ w → w ≤ℤ (pos 2 *ℤ int_max s.y1 s.y2) →
-    (pos 2 *ℤ int_min t.y1 t.y2) ≤ℤ w → w ≤ℤ (pos 2 *ℤ int_max t.y1 t.y2) → MiddleRow s t w
+pub middle_y : (s t : Ends) (w : ℤ) → s.y1 ≢ s.y2 → t.y1 ≢ t.y2 → turn_to t s.x1 s.y1 ≡ pos 0
+    → turn_to t s.x2 s.y2 ≡ pos 0 → (pos 2 *ℤ int_min s.y1 s.y2) ≤ℤ w → w ≤ℤ (pos 2 *ℤ int_max s.y1 s.y2)
+    → (pos 2 *ℤ int_min t.y1 t.y2) ≤ℤ w → w ≤ℤ (pos 2 *ℤ int_max t.y1 t.y2) → MiddleRow s t w
 middle_y s t w some apart zero1 zero2 low high low_t high_t =
     let m = middle_x (flip s) (flip t) w some apart (turn_flip_to t s.x1 s.y1 ∙ omega (arith, ints, zero1))
     (turn_flip_to t s.x2 s.y2 ∙ omega (arith, ints, zero2)) low high low_t high_t in
@@ -242,14 +243,14 @@ shared_in a1 a2 b1 b2 m =
       omega (arith, ints, clamps, a, b, c, d),
     )
 
-pub middle_columns : (s t : Ends) → DoSpansMeet s.x1 s.x2 t.x1 t.x2 → s.x1 ≢ s.x2 → t.x1 ≢ t.x2 →
-    turn_to t s.x1 s.y1 ≡ pos 0 → turn_to t s.x2 s.y2 ≡ pos 0 → Middle s t (shared s.x1 s.x2 t.x1 t.x2)
+pub middle_columns : (s t : Ends) → DoSpansMeet s.x1 s.x2 t.x1 t.x2 → s.x1 ≢ s.x2 → t.x1 ≢ t.x2
+    → turn_to t s.x1 s.y1 ≡ pos 0 → turn_to t s.x2 s.y2 ≡ pos 0 → Middle s t (shared s.x1 s.x2 t.x1 t.x2)
 middle_columns s t m some apart zero1 zero2 =
     let w = shared_in s.x1 s.x2 t.x1 t.x2 m in
     middle_x s t (shared s.x1 s.x2 t.x1 t.x2) some apart zero1 zero2 w.0 w.1 w.2 w.3
 
-pub middle_rows : (s t : Ends) → DoSpansMeet s.y1 s.y2 t.y1 t.y2 → s.y1 ≢ s.y2 → t.y1 ≢ t.y2 →
-    turn_to t s.x1 s.y1 ≡ pos 0 → turn_to t s.x2 s.y2 ≡ pos 0 → MiddleRow s t (shared s.y1 s.y2 t.y1 t.y2)
+pub middle_rows : (s t : Ends) → DoSpansMeet s.y1 s.y2 t.y1 t.y2 → s.y1 ≢ s.y2 → t.y1 ≢ t.y2
+    → turn_to t s.x1 s.y1 ≡ pos 0 → turn_to t s.x2 s.y2 ≡ pos 0 → MiddleRow s t (shared s.y1 s.y2 t.y1 t.y2)
 middle_rows s t m some apart zero1 zero2 =
     let w = shared_in s.y1 s.y2 t.y1 t.y2 m in
     middle_y s t (shared s.y1 s.y2 t.y1 t.y2) some apart zero1 zero2 w.0 w.1 w.2 w.3
@@ -279,8 +280,8 @@ common_from s t m = by_lt_z (pos 0) (turn_of s t) (λ l. meet_up s t m l) (λ l.
 
 -- ---- the other way
 
-pub spans_from : (o p a1 a2 b1 b2 : ℤ) → pos 0 <ℤ o → (o *ℤ int_min a1 a2) ≤ℤ p → p ≤ℤ (o *ℤ int_max a1 a2) →
-    (o *ℤ int_min b1 b2) ≤ℤ p → p ≤ℤ (o *ℤ int_max b1 b2) → DoSpansMeet a1 a2 b1 b2
+pub spans_from : (o p a1 a2 b1 b2 : ℤ) → pos 0 <ℤ o → (o *ℤ int_min a1 a2) ≤ℤ p → p ≤ℤ (o *ℤ int_max a1 a2)
+    → (o *ℤ int_min b1 b2) ≤ℤ p → p ≤ℤ (o *ℤ int_max b1 b2) → DoSpansMeet a1 a2 b1 b2
 spans_from o p a1 a2 b1 b2 ho f g h k = record {
   first = le_from_mul o (int_min a1 a2) (int_max b1 b2) ho (omega (arith, ints, f, k));
   second = le_from_mul o (int_min b1 b2) (int_max a1 a2) ho (omega (arith, ints, h, g));

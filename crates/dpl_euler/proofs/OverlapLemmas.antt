@@ -26,8 +26,8 @@ pub record Inner (s t : Ends) : Type 0 where
   pub not_first : ¬ IsAt point s.x1 s.y1
   pub not_second : ¬ IsAt point s.x2 s.y2
 
-overlap_apart : (a1 a2 b1 b2 : ℤ) → DoSpansOverlap a1 a2 b1 b2 → (a1 ≢ a2) × (b1 ≢ b2) ×
-    (shared a1 a2 b1 b2 ≢ (pos 2 *ℤ a1)) × (shared a1 a2 b1 b2 ≢ (pos 2 *ℤ a2))
+overlap_apart : (a1 a2 b1 b2 : ℤ) → DoSpansOverlap a1 a2 b1 b2
+    → (a1 ≢ a2) × (b1 ≢ b2) × (shared a1 a2 b1 b2 ≢ (pos 2 *ℤ a1)) × (shared a1 a2 b1 b2 ≢ (pos 2 *ℤ a2))
 overlap_apart a1 a2 b1 b2 h =
     let low : int_min a1 a2 <ℤ int_max a1 a2 = omega (arith, ints, clamps, h) in
     let low_b : int_min b1 b2 <ℤ int_max b1 b2 = omega (arith, ints, clamps, h) in
@@ -85,9 +85,9 @@ abbrev pub IsEndOf : Ends → ℤ → ℤ → Type 0
 IsEndOf s x y = ((s.x1 ≡ x) × (s.y1 ≡ y)) ⊎ ((s.x2 ≡ x) × (s.y2 ≡ y))
 
 -- two different points of which one is an end of both
-overlap_spans : (o p x a1 a2 b1 b2 : ℤ) → pos 0 <ℤ o → p ≢ (o *ℤ x) → (a1 ≡ x) ⊎ (a2 ≡ x) → (b1 ≡ x) ⊎ (b2 ≡ x) →
-    (o *ℤ int_min a1 a2) ≤ℤ p → p ≤ℤ (o *ℤ int_max a1 a2) → (o *ℤ int_min b1 b2) ≤ℤ p → p ≤ℤ (o *ℤ int_max b1 b2) →
-    DoSpansOverlap a1 a2 b1 b2
+overlap_spans : (o p x a1 a2 b1 b2 : ℤ) → pos 0 <ℤ o → p ≢ (o *ℤ x) → (a1 ≡ x) ⊎ (a2 ≡ x)
+    → (b1 ≡ x) ⊎ (b2 ≡ x) → (o *ℤ int_min a1 a2) ≤ℤ p → p ≤ℤ (o *ℤ int_max a1 a2) → (o *ℤ int_min b1 b2) ≤ℤ p
+    → p ≤ℤ (o *ℤ int_max b1 b2) → DoSpansOverlap a1 a2 b1 b2
 overlap_spans o p x a1 a2 b1 b2 ho apart ea eb f g h k =
     let ia = in_range a1 a2 ea in
     let ib = in_range b1 b2 eb in
@@ -153,8 +153,8 @@ end_on_line s x y e = elim e [
 ]
 
 -- the line through two points of the other segment goes through both its ends
-ends_along : (s t : Ends) (p : Point) (x y : ℤ) → IsOn s p → IsOn t p → IsEndOf s x y → IsEndOf t x y → ¬ IsAt p x y →
-    (turn_to s t.x1 t.y1 ≡ pos 0) × (turn_to s t.x2 t.y2 ≡ pos 0)
+ends_along : (s t : Ends) (p : Point) (x y : ℤ) → IsOn s p → IsOn t p → IsEndOf s x y → IsEndOf t x y
+    → ¬ IsAt p x y → (turn_to s t.x1 t.y1 ≡ pos 0) × (turn_to s t.x2 t.y2 ≡ pos 0)
 ends_along s t p x y i j es et apart =
     let zero = end_on_line s x y es in
     let sum = turns_balance s t p j (on_line s p i) in

@@ -65,9 +65,8 @@ weighed : (n m : ℕ) (z w : ℤ) → (pos (n + m) *ℤ z) ≡ w → ((pos n +�
 weighed n m z w h = ap (λ k. k *ℤ z) (sym (weights n m)) ∙ h
 
 -- the turn to it, by those to the ends
-pub turn_on : (s t : Ends) (p : Point) (i : IsOn t p) →
-    ((pos i.first +ℤ pos i.second) *ℤ turn_at s p) ≡ (pos p.over *ℤ
-    ((pos i.first *ℤ turn_to s t.x1 t.y1) +ℤ (pos i.second *ℤ turn_to s t.x2 t.y2)))
+pub turn_on : (s t : Ends) (p : Point) (i : IsOn t p)
+    → ((pos i.first +ℤ pos i.second) *ℤ turn_at s p) ≡ (pos p.over *ℤ ((pos i.first *ℤ turn_to s t.x1 t.y1) +ℤ (pos i.second *ℤ turn_to s t.x2 t.y2)))
 unfolding turn_at turn turn_to
 turn_on s t p i = turn_mean (s.x2 -ℤ s.x1) (s.y2 -ℤ s.y1) s.x1 s.y1 (pos i.first) (pos i.second) (pos p.over) p.x p.y
     t.x1 t.y1 t.x2 t.y2 (weighed i.first i.second p.x _ i.x) (weighed i.first i.second p.y _ i.y)
@@ -87,8 +86,8 @@ pub on_line : (s : Ends) (p : Point) → IsOn s p → turn_at s p ≡ pos 0
 on_line s p i = turn_zero s s p i (turn_first s) (turn_second s)
 
 -- the mean of the turns to the ends of a segment with a point on the line is 0
-pub turns_balance : (s t : Ends) (p : Point) (i : IsOn t p) → turn_at s p ≡ pos 0 →
-    ((pos i.first *ℤ turn_to s t.x1 t.y1) +ℤ (pos i.second *ℤ turn_to s t.x2 t.y2)) ≡ pos 0
+pub turns_balance : (s t : Ends) (p : Point) (i : IsOn t p) → turn_at s p ≡ pos 0
+    → ((pos i.first *ℤ turn_to s t.x1 t.y1) +ℤ (pos i.second *ℤ turn_to s t.x2 t.y2)) ≡ pos 0
 turns_balance s t p i h = zero_from_mul (pos p.over) ((pos i.first *ℤ turn_to s t.x1 t.y1)
     +ℤ (pos i.second *ℤ turn_to s t.x2 t.y2)) (omega (arith, ints, over_positive p))
     (omega (arith, ints, turn_on s t p i, ap (λ z. (pos i.first +ℤ pos i.second) *ℤ z) h))
@@ -143,9 +142,9 @@ pub abs_is : (z : ℤ) → pos 0 ≤ℤ z → pos (unsigned_abs z) ≡ z
 abs_is z h = omega (arith, ints)
 
 -- a point from weights that are not negative
-pub weighed_on : (s : Ends) (p : Point) (n m : ℤ) → pos 0 ≤ℤ n → pos 0 ≤ℤ m → pos 0 <ℤ (n +ℤ m) →
-    ((n +ℤ m) *ℤ p.x) ≡ (pos p.over *ℤ ((n *ℤ s.x1) +ℤ (m *ℤ s.x2))) →
-    ((n +ℤ m) *ℤ p.y) ≡ (pos p.over *ℤ ((n *ℤ s.y1) +ℤ (m *ℤ s.y2))) → IsOn s p
+pub weighed_on : (s : Ends) (p : Point) (n m : ℤ) → pos 0 ≤ℤ n → pos 0 ≤ℤ m → pos 0 <ℤ (n +ℤ m)
+    → ((n +ℤ m) *ℤ p.x) ≡ (pos p.over *ℤ ((n *ℤ s.x1) +ℤ (m *ℤ s.x2)))
+    → ((n +ℤ m) *ℤ p.y) ≡ (pos p.over *ℤ ((n *ℤ s.y1) +ℤ (m *ℤ s.y2))) → IsOn s p
 weighed_on s p n m hn hm hw hx hy =
     let en = abs_is n hn in
     let em = abs_is m hm in
@@ -210,8 +209,8 @@ turn_back s o x y = reversed s.x1 s.x2 s.y1 s.y2 (y -ℤ (o *ℤ s.y2)) (x -ℤ 
         ((d *ℤ (y -ℤ (o *ℤ y2))) -ℤ (e *ℤ (x -ℤ (o *ℤ x2)))) ≡ ((d *ℤ (y -ℤ (o *ℤ y1))) -ℤ (e *ℤ (x -ℤ (o *ℤ x1))))
     moved d e x1 y1 x2 y2 o x y h = omega (arith, ints, nearer d y o y1 y2, nearer e x o x1 x2, ap (λ z. o *ℤ z) h)
 
-pub on_line_x : (s : Ends) (p : Point) → s.x1 ≢ s.x2 → turn_at s p ≡ pos 0 → (pos p.over *ℤ int_min s.x1 s.x2) ≤ℤ p.x →
-    p.x ≤ℤ (pos p.over *ℤ int_max s.x1 s.x2) → IsOn s p
+pub on_line_x : (s : Ends) (p : Point) → s.x1 ≢ s.x2 → turn_at s p ≡ pos 0
+    → (pos p.over *ℤ int_min s.x1 s.x2) ≤ℤ p.x → p.x ≤ℤ (pos p.over *ℤ int_max s.x1 s.x2) → IsOn s p
 unfolding turn_at
 on_line_x s p apart zero low high = by_lt_z s.x1 s.x2
     (λ l. on_line_up s p l zero (lower (pos p.over) p.x s.x1 s.x2 l low) (upper (pos p.over) p.x s.x1 s.x2 l high))
@@ -254,8 +253,8 @@ turn_flip s o x y = flipped ((s.y2 -ℤ s.y1) *ℤ (x -ℤ (o *ℤ s.x1))) ((s.x
     flipped : (a b : ℤ) → (a -ℤ b) ≡ (pos 0 -ℤ (b -ℤ a))
     flipped a b = omega (arith, ints)
 
-pub on_line_y : (s : Ends) (p : Point) → s.y1 ≢ s.y2 → turn_at s p ≡ pos 0 → (pos p.over *ℤ int_min s.y1 s.y2) ≤ℤ p.y →
-    p.y ≤ℤ (pos p.over *ℤ int_max s.y1 s.y2) → IsOn s p
+pub on_line_y : (s : Ends) (p : Point) → s.y1 ≢ s.y2 → turn_at s p ≡ pos 0
+    → (pos p.over *ℤ int_min s.y1 s.y2) ≤ℤ p.y → p.y ≤ℤ (pos p.over *ℤ int_max s.y1 s.y2) → IsOn s p
 unfolding turn_at
 on_line_y s p apart zero low high = on_flip s p (on_line_x (flip s) (flip_point p) apart
     (turn_flip s (pos p.over) p.x p.y ∙ omega (arith, ints, zero)) low high)

@@ -28,8 +28,8 @@ pub record DoesMeetRect (s : Ends) (x1 y1 x2 y2 : ℤ) : Type 0 where
 
 -- ---- from a point
 
-by_signs : {P : Type 0} (d e : ℤ) → (pos 0 ≤ℤ d → pos 0 ≤ℤ e → P) → (pos 0 ≤ℤ d → e ≤ℤ pos 0 → P) →
-    (d ≤ℤ pos 0 → pos 0 ≤ℤ e → P) → (d ≤ℤ pos 0 → e ≤ℤ pos 0 → P) → P
+by_signs : {P : Type 0} (d e : ℤ) → (pos 0 ≤ℤ d → pos 0 ≤ℤ e → P) → (pos 0 ≤ℤ d → e ≤ℤ pos 0 → P)
+    → (d ≤ℤ pos 0 → pos 0 ≤ℤ e → P) → (d ≤ℤ pos 0 → e ≤ℤ pos 0 → P) → P
 by_signs d e f g h k = by_lt_z d (pos 0)
     (λ l. by_lt_z e (pos 0) (λ m. k (omega (arith, ints, l)) (omega (arith, ints, m))) (λ m. h (omega (arith, ints, l)) m))
     (λ l. by_lt_z e (pos 0) (λ m. g l (omega (arith, ints, m))) (λ m. f l m))
@@ -113,8 +113,8 @@ reach_now a d l h b e m n f g p q = record {
 }
 
 -- where the first place comes to l
-reach_first : (a d l h b e m n : ℤ) → a <ℤ l → l ≤ℤ (a +ℤ d) → l ≤ℤ h → (e *ℤ (l -ℤ a)) ≤ℤ (d *ℤ (n -ℤ b)) →
-    (d *ℤ (m -ℤ b)) ≤ℤ (e *ℤ (l -ℤ a)) → Reach a d l h b e m n
+reach_first : (a d l h b e m n : ℤ) → a <ℤ l → l ≤ℤ (a +ℤ d) → l ≤ℤ h → (e *ℤ (l -ℤ a)) ≤ℤ (d *ℤ (n -ℤ b))
+    → (d *ℤ (m -ℤ b)) ≤ℤ (e *ℤ (l -ℤ a)) → Reach a d l h b e m n
 reach_first a d l h b e m n f g p q r =
     let pd : pos 0 ≤ℤ d = omega (arith, ints, f, g) in
     let at : ((d *ℤ a) +ℤ ((l -ℤ a) *ℤ d)) ≡ (d *ℤ l) = omega (arith, ints, sub_mul l a d, mul_comm d l, mul_comm d a) in
@@ -206,11 +206,12 @@ end : (a d l h : ℤ) → l ≤ℤ h → d ≤ℤ pos 0 → DoSpansMeet a (a +�
 end a d l h o u c = (omega (arith, ints, clamps, o, u, c.first), omega (arith, ints, clamps, o, u, c.second))
 
 -- the ways by their signs; each pair of conditions says that two opposite corners lie on different sides
-reach : (a d l h b e m n : ℤ) → l ≤ℤ h → m ≤ℤ n → DoSpansMeet a (a +ℤ d) l h → DoSpansMeet b (b +ℤ e) m n →
-    (pos 0 ≤ℤ d → pos 0 ≤ℤ e → ((e *ℤ (l -ℤ a)) ≤ℤ (d *ℤ (n -ℤ b))) × ((d *ℤ (m -ℤ b)) ≤ℤ (e *ℤ (h -ℤ a)))) →
-    (pos 0 ≤ℤ d → e ≤ℤ pos 0 → ((d *ℤ (m -ℤ b)) ≤ℤ (e *ℤ (l -ℤ a))) × ((e *ℤ (h -ℤ a)) ≤ℤ (d *ℤ (n -ℤ b)))) →
-    (d ≤ℤ pos 0 → pos 0 ≤ℤ e → ((d *ℤ (n -ℤ b)) ≤ℤ (e *ℤ (h -ℤ a))) × ((e *ℤ (l -ℤ a)) ≤ℤ (d *ℤ (m -ℤ b)))) →
-    (d ≤ℤ pos 0 → e ≤ℤ pos 0 → ((e *ℤ (h -ℤ a)) ≤ℤ (d *ℤ (m -ℤ b))) × ((d *ℤ (n -ℤ b)) ≤ℤ (e *ℤ (l -ℤ a)))) → Reach a d l h b e m n
+reach : (a d l h b e m n : ℤ) → l ≤ℤ h → m ≤ℤ n → DoSpansMeet a (a +ℤ d) l h → DoSpansMeet b (b +ℤ e) m n
+    → (pos 0 ≤ℤ d → pos 0 ≤ℤ e → ((e *ℤ (l -ℤ a)) ≤ℤ (d *ℤ (n -ℤ b))) × ((d *ℤ (m -ℤ b)) ≤ℤ (e *ℤ (h -ℤ a))))
+    → (pos 0 ≤ℤ d → e ≤ℤ pos 0 → ((d *ℤ (m -ℤ b)) ≤ℤ (e *ℤ (l -ℤ a))) × ((e *ℤ (h -ℤ a)) ≤ℤ (d *ℤ (n -ℤ b))))
+    → (d ≤ℤ pos 0 → pos 0 ≤ℤ e → ((d *ℤ (n -ℤ b)) ≤ℤ (e *ℤ (h -ℤ a))) × ((e *ℤ (l -ℤ a)) ≤ℤ (d *ℤ (m -ℤ b))))
+    → (d ≤ℤ pos 0 → e ≤ℤ pos 0 → ((e *ℤ (h -ℤ a)) ≤ℤ (d *ℤ (m -ℤ b))) × ((d *ℤ (n -ℤ b)) ≤ℤ (e *ℤ (l -ℤ a))))
+    → Reach a d l h b e m n
 reach a d l h b e m n lh mn columns rows pp pn np nn = by_signs d e
     (λ u v. let t = pp u v in reach_up a d l h b e m n u v lh mn (start a d l h lh u columns).0
     (start a d l h lh u columns).1 (start b e m n mn v rows).0 (start b e m n mn v rows).1 t.0 t.1)

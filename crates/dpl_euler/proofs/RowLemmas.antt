@@ -32,8 +32,8 @@ listed_none g chosen = record {
   all = λ v e h at. absurd (omega (arith, h));
 }
 
-pub listed_skip : (g : Signed) (chosen : List Bool) (nodes edges : List ℕ) (k : ℕ) → is_in chosen k ≡ false →
-    AreListed g chosen k nodes edges → AreListed g chosen (k + 1) nodes edges
+pub listed_skip : (g : Signed) (chosen : List Bool) (nodes edges : List ℕ) (k : ℕ) → is_in chosen k ≡ false
+    → AreListed g chosen k nodes edges → AreListed g chosen (k + 1) nodes edges
 listed_skip g chosen nodes edges k out r = record {
   sizes = r.sizes;
   below = r.below;
@@ -44,8 +44,9 @@ listed_skip g chosen nodes edges k out r = record {
   ];
 }
 
-pub rows_whole : (g : Signed) (chosen : List Bool) (nodes edges : List ℕ) (rows : List (List ℕ)) → rows ≡ rows_by nodes edges g.nodes →
-    AreListed g chosen (length g.edges) nodes edges → AreRows g chosen rows
+pub rows_whole : (g : Signed) (chosen : List Bool) (nodes edges : List ℕ) (rows : List (List ℕ))
+    → rows ≡ rows_by nodes edges g.nodes → AreListed g chosen (length g.edges) nodes edges
+    → AreRows g chosen rows
 rows_whole g chosen nodes edges rows e r =
     let at : (v : ℕ) → v < g.nodes → get_or rows v [] ≡ of_key v nodes edges = λ v h.
     ap (λ (z : List (List ℕ)). get_or z v []) e ∙ rows_by_at nodes edges g.nodes v h in
@@ -75,8 +76,8 @@ more_only P nodes edges u x v n old new =
       | inr t ↦ subst Q (sym (of_key_no v u x nodes edges n t)) old
     ]
 
-more_kept : (nodes edges : List ℕ) (u x v y : ℕ) → length nodes ≡ length edges → Contains (of_key v nodes edges) y →
-    Contains (of_key v (nodes ++ u ∷ []) (edges ++ x ∷ [])) y
+more_kept : (nodes edges : List ℕ) (u x v y : ℕ) → length nodes ≡ length edges
+    → Contains (of_key v nodes edges) y → Contains (of_key v (nodes ++ u ∷ []) (edges ++ x ∷ [])) y
 more_kept nodes edges u x v y n old =
     let Q : List ℕ → Type 0 = λ xs. Contains xs y in
     elim (cases_eq u v) [
@@ -105,9 +106,9 @@ first_end g e h = and_from _ _ (lt-ltb e (length g.edges) h) (or_left _ _ (eq-eq
 second_end : (g : Signed) (e : ℕ) → e < length g.edges → leaves g e (edge_at g e).b ≡ true
 second_end g e h = and_from _ _ (lt-ltb e (length g.edges) h) (or_right _ _ (eq-eqb (edge_at g e).b (edge_at g e).b refl))
 
-both : (g : Signed) (chosen : List Bool) (nodes edges : List ℕ) (k : ℕ) → k < length g.edges → is_in chosen k ≡ true →
-    AreListed g chosen k nodes edges →
-    AreListed g chosen (k + 1) ((nodes ++ (edge_at g k).a ∷ []) ++ (edge_at g k).b ∷ []) ((edges ++ k ∷ []) ++ k ∷ [])
+both : (g : Signed) (chosen : List Bool) (nodes edges : List ℕ) (k : ℕ) → k < length g.edges
+    → is_in chosen k ≡ true → AreListed g chosen k nodes edges
+    → AreListed g chosen (k + 1) ((nodes ++ (edge_at g k).a ∷ []) ++ (edge_at g k).b ∷ []) ((edges ++ k ∷ []) ++ k ∷ [])
 both g chosen nodes edges k h in_set r =
     let a = (edge_at g k).a in
     let b = (edge_at g k).b in
@@ -136,10 +137,10 @@ both g chosen nodes edges k h in_set r =
       ];
     }
 
-pub listed_take : (g : Signed) (chosen : List Bool) (nodes mid new edges edges_mid edges_new : List ℕ) (k : ℕ) (ends : Edge) →
-    k < length g.edges → ends ≡ edge_at g k → is_in chosen k ≡ true →
-    mid ≡ nodes ++ ends.a ∷ [] → edges_mid ≡ edges ++ k ∷ [] → new ≡ mid ++ ends.b ∷ [] → edges_new ≡ edges_mid ++ k ∷ [] →
-    AreListed g chosen k nodes edges → AreListed g chosen (k + 1) new edges_new
+pub listed_take : (g : Signed) (chosen : List Bool) (nodes mid new edges edges_mid edges_new : List ℕ) (k : ℕ) (ends : Edge)
+    → k < length g.edges → ends ≡ edge_at g k → is_in chosen k ≡ true → mid ≡ nodes ++ ends.a ∷ []
+    → edges_mid ≡ edges ++ k ∷ [] → new ≡ mid ++ ends.b ∷ [] → edges_new ≡ edges_mid ++ k ∷ []
+    → AreListed g chosen k nodes edges → AreListed g chosen (k + 1) new edges_new
 listed_take g chosen nodes mid new edges edges_mid edges_new k ends h e in_set em fm en fn r =
     let N : List ℕ → List ℕ → Type 0 = λ x y. AreListed g chosen (k + 1) x y in
     let first : mid ≡ nodes ++ (edge_at g k).a ∷ [] = em ∙ ap (λ (z : Edge). nodes ++ z.a ∷ []) e in

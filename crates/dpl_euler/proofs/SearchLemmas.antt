@@ -29,8 +29,8 @@ some_of (Some p) h = (p, refl)
 
 -- ---- no more steps than nodes
 
-pub few_steps : (g : Signed) (chosen : List Bool) (goal : ℕ) (steps : List Step) (places : List (Option ℕ)) →
-    AreSteps g chosen goal steps places → length steps ≤ g.nodes
+pub few_steps : (g : Signed) (chosen : List Bool) (goal : ℕ) (steps : List Step) (places : List (Option ℕ))
+    → AreSteps g chosen goal steps places → length steps ≤ g.nodes
 few_steps g chosen goal steps places s =
     let node : Step → ℕ = λ x. x.node in
     let nodes = map node steps in
@@ -45,16 +45,17 @@ few_steps g chosen goal steps places s =
 
 -- ---- one step more
 
-still_back : (g : Signed) (chosen : List Bool) (steps new : List Step) (p n : ℕ) (x y : Step) → x ≡ y → p ≤ n →
-    ((q : ℕ) → q < n → step_at new q ≡ step_at steps q) → LeadsBack g chosen steps p x → LeadsBack g chosen new p y
+still_back : (g : Signed) (chosen : List Bool) (steps new : List Step) (p n : ℕ) (x y : Step) → x ≡ y → p ≤ n
+    → ((q : ℕ) → q < n → step_at new q ≡ step_at steps q) → LeadsBack g chosen steps p x
+    → LeadsBack g chosen new p y
 still_back g chosen steps new p n x y e h same b =
     let P : Step → Type 0 = λ z. LeadsBack g chosen new p z in
     subst P e (record { earlier = b.earlier; at = b.at; there = b.there ∙ ap (λ (z : Step). z.node) (sym (same x.from (omega (arith, b.earlier, h)))) })
 
-pub taken : (g : Signed) (chosen : List Bool) (goal : ℕ) (steps : List Step) (places : List (Option ℕ)) (step : Step) →
-    step.node < g.nodes → place_of places step.node ≡ None → LeadsBack g chosen steps (length steps) step →
-    AreSteps g chosen goal steps places →
-    AreSteps g chosen goal (steps ++ step ∷ []) (set places step.node (Some (length steps)))
+pub taken : (g : Signed) (chosen : List Bool) (goal : ℕ) (steps : List Step) (places : List (Option ℕ)) (step : Step)
+    → step.node < g.nodes → place_of places step.node ≡ None → LeadsBack g chosen steps (length steps) step
+    → AreSteps g chosen goal steps places
+    → AreSteps g chosen goal (steps ++ step ∷ []) (set places step.node (Some (length steps)))
 taken g chosen goal steps places step low none back s =
     let new = steps ++ step ∷ [] in
     let n = length steps in
@@ -105,8 +106,8 @@ goes_nowhere steps places = record { longer = omega arith; same = λ p h. refl; 
 pub now_reached : (places : List (Option ℕ)) (v n : ℕ) → v < length places → is_reached (set places v (Some n)) v ≡ true
 now_reached places v n h = ap is_some (get_or-set_same places v (Some n) None h)
 
-pub taken_goes : (steps : List Step) (places : List (Option ℕ)) (step : Step) (v n : ℕ) → v < length places →
-    GoesOn steps (steps ++ step ∷ []) places (set places v (Some n))
+pub taken_goes : (steps : List Step) (places : List (Option ℕ)) (step : Step) (v n : ℕ) → v < length places
+    → GoesOn steps (steps ++ step ∷ []) places (set places v (Some n))
 taken_goes steps places step v n h = record {
   longer = omega (arith, length-append steps (step ∷ []));
   same = λ p l. get_or_append_left steps (step ∷ []) no_step p l;
@@ -125,11 +126,11 @@ goes_further a b c x y z g h = record {
 
 -- ---- the steps that were followed
 
-pub followed_more : (g : Signed) (chosen : List Bool) (steps new : List Step) (places later : List (Option ℕ))
-    (row : List ℕ) (k : ℕ) → k < length steps → GoesOn steps new places later → AreFollowed g chosen steps places k →
-    ((e : ℕ) → IsAt g chosen (step_at steps k).node e → Contains row e) →
-    ((i : ℕ) → i < length row → is_reached later (across (edge_at g (get_or row i 0)) (step_at steps k).node)
-    ≡ true) → AreFollowed g chosen new later (k + 1)
+pub followed_more : (g : Signed) (chosen : List Bool) (steps new : List Step) (places later : List (Option ℕ)) (row : List ℕ) (k : ℕ)
+    → k < length steps → GoesOn steps new places later → AreFollowed g chosen steps places k
+    → ((e : ℕ) → IsAt g chosen (step_at steps k).node e → Contains row e)
+    → ((i : ℕ) → i < length row → is_reached later (across (edge_at g (get_or row i 0)) (step_at steps k).node) ≡ true)
+    → AreFollowed g chosen new later (k + 1)
 followed_more g chosen steps new places later row k inside goes old all reached p h = elim (cases_eq p k) [
   | inl t ↦ λ e at.
       let P : ℕ → Type 0 = λ z. IsAt g chosen z e in
@@ -146,10 +147,10 @@ followed_more g chosen steps new places later row k inside goes old all reached 
 ]
 
 -- each node that edges of the set join with a node that was reached is reached
-along : (g : Signed) (chosen : List Bool) (goal : ℕ) (steps : List Step) (places : List (Option ℕ)) →
-    AreSteps g chosen goal steps places → AreFollowed g chosen steps places (length steps) → (es : List ℕ) (v w : ℕ) →
-    is_reached places v ≡ true → IsPath g v es w → AllByRecursion (λ e. is_in chosen e ≡ true) es →
-    is_reached places w ≡ true
+along : (g : Signed) (chosen : List Bool) (goal : ℕ) (steps : List Step) (places : List (Option ℕ))
+    → AreSteps g chosen goal steps places → AreFollowed g chosen steps places (length steps)
+    → (es : List ℕ) (v w : ℕ) → is_reached places v ≡ true → IsPath g v es w
+    → AllByRecursion (λ e. is_in chosen e ≡ true) es → is_reached places w ≡ true
 along g chosen goal steps places s f [] v w r p all = ap (is_reached places) (sym p) ∙ r
 along g chosen goal steps places s f (e ∷ es) v w r p all =
     let at = some_of (place_of places v) r in
@@ -158,9 +159,9 @@ along g chosen goal steps places s f (e ∷ es) v w r p all =
     let closed : IsClosed g chosen places v = subst P found.1 (f at.0 found.0) in
     along g chosen goal steps places s f es (across (edge_at g e) v) w (closed e (p.0, all.0)) p.1 all.1
 
-pub all_reached : (g : Signed) (chosen : List Bool) (goal v : ℕ) (steps : List Step) (places : List (Option ℕ)) →
-    AreSteps g chosen goal steps places → AreFollowed g chosen steps places (length steps) →
-    AreJoined g (is_in chosen) goal v → place_of places v ≡ None → ⊥
+pub all_reached : (g : Signed) (chosen : List Bool) (goal v : ℕ) (steps : List Step) (places : List (Option ℕ))
+    → AreSteps g chosen goal steps places → AreFollowed g chosen steps places (length steps)
+    → AreJoined g (is_in chosen) goal v → place_of places v ≡ None → ⊥
 all_reached g chosen goal v steps places s f j none =
     let begun : is_reached places goal ≡ true = ap (is_reached places) (sym s.first) ∙ ap is_some (s.noted 0 s.some) in
     true≢false (sym (along g chosen goal steps places s f j.0 goal v begun j.1 (recursion_from_All _ _ j.2)) ∙ ap is_some none)
@@ -171,11 +172,12 @@ none_of : (o : Option ℕ) → is_some o ≡ false → o ≡ None
 none_of None h = refl
 none_of (Some p) h = absurd (true≢false h)
 
-pub take_step : (g : Signed) (chosen : List Bool) (goal : ℕ) (steps : List Step) (places : List (Option ℕ))
-    (place edge node : ℕ) → AreSteps g chosen goal steps places → place < length steps →
-    IsAt g chosen (step_at steps place).node edge → node ≡ across (edge_at g edge) (step_at steps place).node →
-    node < g.nodes → is_reached places node ≡ false →
-    AreSteps g chosen goal (steps ++ record { node = node; edge = edge; from = place } ∷ []) (set places node (Some (length steps)))
+pub take_step : (g : Signed) (chosen : List Bool) (goal : ℕ) (steps : List Step) (places : List (Option ℕ)) (place edge node : ℕ)
+    → AreSteps g chosen goal steps places → place < length steps
+    → IsAt g chosen (step_at steps place).node edge
+    → node ≡ across (edge_at g edge) (step_at steps place).node → node < g.nodes
+    → is_reached places node ≡ false
+    → AreSteps g chosen goal (steps ++ record { node = node; edge = edge; from = place } ∷ []) (set places node (Some (length steps)))
 take_step g chosen goal steps places place edge node s inside at there low new =
     let back = over_back g chosen steps (step_at steps place).node edge at in
     taken g chosen goal steps places (record { node = node; edge = edge; from = place }) low (none_of _ new)
@@ -207,14 +209,14 @@ take_step g chosen goal steps places place edge node s inside at there low new =
               (and_from _ _ parts.0 (or_left _ _ (eq-eqb a _ (sym there))), ap (across (edge_at g e)) there ∙ cond-true (a == a) b a (eq-eqb a a refl) ∙ end)
         ]
 
-pub path_back : (g : Signed) (chosen : List Bool) (steps : List Step) (v : ℕ) (edges : List ℕ) (p : ℕ) →
-    LeadsBack g chosen steps p (step_at steps p) → IsPath g v edges (step_at steps p).node →
-    IsPath g v (edges ++ (step_at steps p).edge ∷ []) (step_at steps (step_at steps p).from).node
+pub path_back : (g : Signed) (chosen : List Bool) (steps : List Step) (v : ℕ) (edges : List ℕ) (p : ℕ)
+    → LeadsBack g chosen steps p (step_at steps p) → IsPath g v edges (step_at steps p).node
+    → IsPath g v (edges ++ (step_at steps p).edge ∷ []) (step_at steps (step_at steps p).from).node
 path_back g chosen steps v edges p back path =
     let P : ℕ → Type 0 = λ z. IsPath g v (edges ++ (step_at steps p).edge ∷ []) z in
     subst P back.there (path_more g v edges (step_at steps p).node (step_at steps p).edge path back.at.0)
 
-pub edges_back : (g : Signed) (chosen : List Bool) (steps : List Step) (edges : List ℕ) (p : ℕ) →
-    LeadsBack g chosen steps p (step_at steps p) → All (λ e. is_in chosen e ≡ true) edges →
-    All (λ e. is_in chosen e ≡ true) (edges ++ (step_at steps p).edge ∷ [])
+pub edges_back : (g : Signed) (chosen : List Bool) (steps : List Step) (edges : List ℕ) (p : ℕ)
+    → LeadsBack g chosen steps p (step_at steps p) → All (λ e. is_in chosen e ≡ true) edges
+    → All (λ e. is_in chosen e ≡ true) (edges ++ (step_at steps p).edge ∷ [])
 edges_back g chosen steps edges p back all = All-push (λ e. is_in chosen e ≡ true) edges (step_at steps p).edge all back.at.1

@@ -38,16 +38,16 @@ cramer_y sx sy tx ty u v = omega (
 -- ---- means of two places
 
 -- seen from another place
-pub seen_from : (n m o p a b c : ℤ) → ((n +ℤ m) *ℤ p) ≡ (o *ℤ ((n *ℤ a) +ℤ (m *ℤ b))) →
-    ((n +ℤ m) *ℤ (p -ℤ (o *ℤ c))) ≡ (o *ℤ ((n *ℤ (a -ℤ c)) +ℤ (m *ℤ (b -ℤ c))))
+pub seen_from : (n m o p a b c : ℤ) → ((n +ℤ m) *ℤ p) ≡ (o *ℤ ((n *ℤ a) +ℤ (m *ℤ b)))
+    → ((n +ℤ m) *ℤ (p -ℤ (o *ℤ c))) ≡ (o *ℤ ((n *ℤ (a -ℤ c)) +ℤ (m *ℤ (b -ℤ c))))
 seen_from n m o p a b c h =
     let inner : ((n *ℤ (a -ℤ c)) +ℤ (m *ℤ (b -ℤ c))) ≡ (((n *ℤ a) +ℤ (m *ℤ b)) -ℤ ((n +ℤ m) *ℤ c)) =
     omega (arith, ints, mul_sub n a c, mul_sub m b c, add_mul n m c) in
     omega (arith, ints, h, mul_sub (n +ℤ m) p (o *ℤ c), ap (λ z. o *ℤ z) inner, mul_sub o ((n *ℤ a) +ℤ (m *ℤ b)) ((n +ℤ m) *ℤ c), mul_moved (n +ℤ m) o c)
 
 -- a mean lies between
-pub mean_above : (n m o p a b low : ℤ) → pos 0 ≤ℤ n → pos 0 ≤ℤ m → pos 0 <ℤ (n +ℤ m) → pos 0 <ℤ o →
-    ((n +ℤ m) *ℤ p) ≡ (o *ℤ ((n *ℤ a) +ℤ (m *ℤ b))) → low ≤ℤ a → low ≤ℤ b → (o *ℤ low) ≤ℤ p
+pub mean_above : (n m o p a b low : ℤ) → pos 0 ≤ℤ n → pos 0 ≤ℤ m → pos 0 <ℤ (n +ℤ m) → pos 0 <ℤ o
+    → ((n +ℤ m) *ℤ p) ≡ (o *ℤ ((n *ℤ a) +ℤ (m *ℤ b))) → low ≤ℤ a → low ≤ℤ b → (o *ℤ low) ≤ℤ p
 mean_above n m o p a b low hn hm hw ho h ha hb =
     let inner : ((n +ℤ m) *ℤ low) ≤ℤ ((n *ℤ a) +ℤ (m *ℤ b)) = omega (arith, ints, add_mul n m low, mul_le n low a hn ha, mul_le m low b hm hb) in
     le_from_mul (n +ℤ m) (o *ℤ low) p hw (omega (
@@ -58,8 +58,8 @@ mean_above n m o p a b low hn hm hw ho h ha hb =
       mul_le o ((n +ℤ m) *ℤ low) ((n *ℤ a) +ℤ (m *ℤ b)) (omega (arith, ints, ho)) inner,
     ))
 
-pub mean_below : (n m o p a b high : ℤ) → pos 0 ≤ℤ n → pos 0 ≤ℤ m → pos 0 <ℤ (n +ℤ m) → pos 0 <ℤ o →
-    ((n +ℤ m) *ℤ p) ≡ (o *ℤ ((n *ℤ a) +ℤ (m *ℤ b))) → a ≤ℤ high → b ≤ℤ high → p ≤ℤ (o *ℤ high)
+pub mean_below : (n m o p a b high : ℤ) → pos 0 ≤ℤ n → pos 0 ≤ℤ m → pos 0 <ℤ (n +ℤ m) → pos 0 <ℤ o
+    → ((n +ℤ m) *ℤ p) ≡ (o *ℤ ((n *ℤ a) +ℤ (m *ℤ b))) → a ≤ℤ high → b ≤ℤ high → p ≤ℤ (o *ℤ high)
 mean_below n m o p a b high hn hm hw ho h ha hb =
     let inner : ((n *ℤ a) +ℤ (m *ℤ b)) ≤ℤ ((n +ℤ m) *ℤ high) = omega (arith, ints, add_mul n m high, mul_le n a high hn ha, mul_le m b high hm hb) in
     le_from_mul (n +ℤ m) p (o *ℤ high) hw (omega (
@@ -73,8 +73,8 @@ mean_below n m o p a b high hn hm hw ho h ha hb =
 -- ---- turns of ways
 
 -- to a sum of ways
-turn_sum : (d e n m a1 b1 a2 b2 : ℤ) → ((d *ℤ ((n *ℤ b1) +ℤ (m *ℤ b2))) -ℤ (e *ℤ ((n *ℤ a1) +ℤ (m *ℤ a2))))
-    ≡ ((n *ℤ ((d *ℤ b1) -ℤ (e *ℤ a1))) +ℤ (m *ℤ ((d *ℤ b2) -ℤ (e *ℤ a2))))
+turn_sum : (d e n m a1 b1 a2 b2 : ℤ)
+    → ((d *ℤ ((n *ℤ b1) +ℤ (m *ℤ b2))) -ℤ (e *ℤ ((n *ℤ a1) +ℤ (m *ℤ a2)))) ≡ ((n *ℤ ((d *ℤ b1) -ℤ (e *ℤ a1))) +ℤ (m *ℤ ((d *ℤ b2) -ℤ (e *ℤ a2))))
 turn_sum d e n m a1 b1 a2 b2 = omega (
   arith,
   ints,
@@ -136,9 +136,9 @@ mean_along o p a b =
     ap (λ z. z *ℤ p) whole ∙ mul_swap o (b -ℤ a) p ∙ mul_assoc o p (b -ℤ a) ∙ ap (λ z. o *ℤ z) (sym inner)
 
 -- along the other
-pub mean_across : (o px py a1 b1 a2 b2 : ℤ) → (((a2 -ℤ a1) *ℤ (py -ℤ (o *ℤ b1))) -ℤ ((b2 -ℤ b1) *ℤ (px -ℤ (o *ℤ a1))))
-    ≡ pos 0 → ((((o *ℤ a2) -ℤ px) +ℤ (px -ℤ (o *ℤ a1))) *ℤ py)
-    ≡ (o *ℤ ((((o *ℤ a2) -ℤ px) *ℤ b1) +ℤ ((px -ℤ (o *ℤ a1)) *ℤ b2)))
+pub mean_across : (o px py a1 b1 a2 b2 : ℤ)
+    → (((a2 -ℤ a1) *ℤ (py -ℤ (o *ℤ b1))) -ℤ ((b2 -ℤ b1) *ℤ (px -ℤ (o *ℤ a1)))) ≡ pos 0
+    → ((((o *ℤ a2) -ℤ px) +ℤ (px -ℤ (o *ℤ a1))) *ℤ py) ≡ (o *ℤ ((((o *ℤ a2) -ℤ px) *ℤ b1) +ℤ ((px -ℤ (o *ℤ a1)) *ℤ b2)))
 mean_across o px py a1 b1 a2 b2 h =
     let d : ℤ = a2 -ℤ a1 in
     let f : ℤ = px -ℤ (o *ℤ a1) in

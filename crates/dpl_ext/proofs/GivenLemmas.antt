@@ -23,8 +23,8 @@ Gave-append a b c xs ys p q = record {
   same = q.same ∙ p.same;
 }
 
-pub IsWhole-end : (a b c : Seen) (old new : List ℕ) (limit : ℕ) (ended : Bool) → Gave a b old → b.faults ≡ a.faults →
-    GivesPiece b c old new limit ended → ended ≡ true → IsWhole a c new limit
+pub IsWhole-end : (a b c : Seen) (old new : List ℕ) (limit : ℕ) (ended : Bool) → Gave a b old
+    → b.faults ≡ a.faults → GivesPiece b c old new limit ended → ended ≡ true → IsWhole a c new limit
 IsWhole-end a b c old new limit ended p same q e = record {
   gave = rw q.added (Gave-append a b c old q.piece p q.gave);
   at_end = q.at_end e;
@@ -38,8 +38,8 @@ length-more b c old new limit ended q e = rw (q.added, length-append) (omega (ar
 pub Gave-more : (a b c : Seen) (old new : List ℕ) (limit : ℕ) (ended : Bool) → Gave a b old → GivesPiece b c old new limit ended → Gave a c new
 Gave-more a b c old new limit ended p q = rw q.added (Gave-append a b c old q.piece p q.gave)
 
-pub Refuses-stop : (a b c : Seen) (old : List ℕ) (limit : ℕ) (error : ReadEnd) → Gave a b old → b.faults ≡ a.faults →
-    StopsPiece b c old limit error → Refuses a c limit error
+pub Refuses-stop : (a b c : Seen) (old : List ℕ) (limit : ℕ) (error : ReadEnd) → Gave a b old
+    → b.faults ≡ a.faults → StopsPiece b c old limit error → Refuses a c limit error
 Refuses-stop a b c old limit Fault p same q = record {
   taken = old ++ q.piece;
   gave = Gave-append a b c old q.piece p q.gave;
@@ -57,8 +57,9 @@ Refuses-stop a b c old limit NoMemory p same q = record {
 }
 
 -- the taker has what came before a read that stopped
-pub TookFront-stop : (a b c : Seen) (old : List ℕ) (limit : ℕ) (error : ReadEnd) (got got_now : List ℕ) → Gave a b old →
-    StopsPiece b c old limit error → got_now ≡ got ++ old → length old ≤ limit → TookFront a c limit got got_now
+pub TookFront-stop : (a b c : Seen) (old : List ℕ) (limit : ℕ) (error : ReadEnd) (got got_now : List ℕ)
+    → Gave a b old → StopsPiece b c old limit error → got_now ≡ got ++ old → length old ≤ limit
+    → TookFront a c limit got got_now
 TookFront-stop a b c old limit error got got_now p q e w = record {
   front = old;
   rest = q.piece;
@@ -68,13 +69,13 @@ TookFront-stop a b c old limit error got got_now p q e w = record {
 }
 
 -- the taker refused a piece
-pub Refuses-piece : (a b c : Seen) (old new : List ℕ) (limit : ℕ) (ended : Bool) → Gave a b old →
-    GivesPiece b c old new limit ended → Refuses a c limit NoMemory
+pub Refuses-piece : (a b c : Seen) (old new : List ℕ) (limit : ℕ) (ended : Bool) → Gave a b old
+    → GivesPiece b c old new limit ended → Refuses a c limit NoMemory
 Refuses-piece a b c old new limit ended p q = record { taken = new; gave = Gave-more a b c old new limit ended p q; means = q.within }
 
-pub TookFront-piece : (a b c : Seen) (old new : List ℕ) (limit : ℕ) (ended : Bool) (got got_now : List ℕ) →
-    Gave a b old → GivesPiece b c old new limit ended → got_now ≡ got ++ old → length old ≤ limit →
-    TookFront a c limit got got_now
+pub TookFront-piece : (a b c : Seen) (old new : List ℕ) (limit : ℕ) (ended : Bool) (got got_now : List ℕ)
+    → Gave a b old → GivesPiece b c old new limit ended → got_now ≡ got ++ old → length old ≤ limit
+    → TookFront a c limit got got_now
 TookFront-piece a b c old new limit ended got got_now p q e w = record {
   front = old;
   rest = q.piece;
@@ -84,9 +85,9 @@ TookFront-piece a b c old new limit ended got got_now p q e w = record {
 }
 
 -- the taker got the piece behind the bytes so far
-pub got_more : (b c : Seen) (old new : List ℕ) (limit : ℕ) (ended : Bool) (first got got_now : List ℕ) →
-    GivesPiece b c old new limit ended → got ≡ first ++ old → got_now ≡ got ++ drop (length old) new →
-    got_now ≡ first ++ new
+pub got_more : (b c : Seen) (old new : List ℕ) (limit : ℕ) (ended : Bool) (first got got_now : List ℕ)
+    → GivesPiece b c old new limit ended → got ≡ first ++ old → got_now ≡ got ++ drop (length old) new
+    → got_now ≡ first ++ new
 got_more b c old new limit ended first got got_now q e f =
     let d : drop (length old) new ≡ q.piece = rw q.added (drop-append_seam old q.piece) in
     rw (f, d, e, q.added) (append_assoc first old q.piece)
@@ -97,15 +98,16 @@ IfSome-each None P each = tt
 IfSome-each (Some x) P each = each x
 
 -- where no call failed, a refusal is TooLong or NoMemory
-refused_without_fault : {T : Type 0} (r : Result T ReadEnd) (a c : Seen) (limit : ℕ) (error : ReadEnd) → r ≡ Err error →
-    Refuses a c limit error → ¬ Rose a.faults c.faults → (r ≡ Err TooLong) ⊎ (r ≡ Err NoMemory)
+refused_without_fault : {T : Type 0} (r : Result T ReadEnd) (a c : Seen) (limit : ℕ) (error : ReadEnd)
+    → r ≡ Err error → Refuses a c limit error → ¬ Rose a.faults c.faults
+    → (r ≡ Err TooLong) ⊎ (r ≡ Err NoMemory)
 refused_without_fault r a c limit Fault e p none = absurd (none p.means.0)
 refused_without_fault r a c limit TooLong e p none = inl e
 refused_without_fault r a c limit NoMemory e p none = inr e
 
-pub long_refused : {T : Type 0} (r : Result T ReadEnd) (a c : Seen) (limit : ℕ) (error : ReadEnd) → r ≡ Err error →
-    Refuses a c limit error → IfSome a.left (λ xs. limit < length xs → ¬ Rose a.faults c.faults → (r ≡ Err TooLong) ⊎
-    (r ≡ Err NoMemory))
+pub long_refused : {T : Type 0} (r : Result T ReadEnd) (a c : Seen) (limit : ℕ) (error : ReadEnd)
+    → r ≡ Err error → Refuses a c limit error
+    → IfSome a.left (λ xs. limit < length xs → ¬ Rose a.faults c.faults → (r ≡ Err TooLong) ⊎ (r ≡ Err NoMemory))
 long_refused r a c limit error e p = IfSome-each a.left
     (λ xs. limit < length xs → ¬ Rose a.faults c.faults → (r ≡ Err TooLong) ⊎ (r ≡ Err NoMemory))
     (λ xs longer none. refused_without_fault r a c limit error e p none)

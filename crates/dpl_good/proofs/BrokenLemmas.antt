@@ -40,8 +40,9 @@ any_first : {X : Type 0} (P : X → Type 0) (t : Bool) (x : X) (xs : List X) →
 any_first P t x xs e p = rw e (any_head P x xs p)
 
 -- items that fit one after another rise
-fit_above : {X : Type 0} (Fits : ℕ → X → Type 0) (number : X → ℕ) → ((s : ℕ) (x : X) → Fits s x → s ≤ number x) →
-    (s : ℕ) (xs : List X) → FitFrom Fits (λ x. number x + 1) s xs → All (λ x. s ≤ number x) xs
+fit_above : {X : Type 0} (Fits : ℕ → X → Type 0) (number : X → ℕ)
+    → ((s : ℕ) (x : X) → Fits s x → s ≤ number x) → (s : ℕ) (xs : List X)
+    → FitFrom Fits (λ x. number x + 1) s xs → All (λ x. s ≤ number x) xs
 fit_above Fits number least s [] f = All-nil (λ x. s ≤ number x)
 fit_above Fits number least s (x ∷ xs) f =
     let own = least s x f.0 in
@@ -49,8 +50,9 @@ fit_above Fits number least s (x ∷ xs) f =
     (λ y h. omega (arith, own, h)) xs (fit_above Fits number least (number x + 1) xs f.1))
 
 -- lines that fit one after another have rising numbers
-pub fit_rises : {X : Type 0} (Fits : ℕ → X → Type 0) (number : X → ℕ) → ((s : ℕ) (x : X) → Fits s x → s ≤ number x) →
-    (s : ℕ) (xs : List X) → FitFrom Fits (λ x. number x + 1) s xs → AllPairs (λ x y. number x < number y) xs
+pub fit_rises : {X : Type 0} (Fits : ℕ → X → Type 0) (number : X → ℕ)
+    → ((s : ℕ) (x : X) → Fits s x → s ≤ number x) → (s : ℕ) (xs : List X)
+    → FitFrom Fits (λ x. number x + 1) s xs → AllPairs (λ x y. number x < number y) xs
 fit_rises Fits number least s [] f = λ i j d h l. absurd (omega (arith, l))
 fit_rises Fits number least s (x ∷ xs) f =
     AllPairs-cons (λ y z. number y < number z) x xs (All-weaker (λ y. number x + 1 ≤ number y)
@@ -81,14 +83,15 @@ record NamesHere (colours : List Bool) (kind : Kind) (e : ℕ) (edges : List Edg
   first : b.a ≡ (get_or edges k no_edge).a
   second : b.b ≡ (get_or edges k no_edge).b
 
-one_before : (colours : List Bool) (kind : Kind) (e : ℕ) (edge : Edge) (edges : List Edge) (b : Broken) →
-    NamesHere colours kind (e + 1) edges b → NamesHere colours kind e (edge ∷ edges) b
+one_before : (colours : List Bool) (kind : Kind) (e : ℕ) (edge : Edge) (edges : List Edge) (b : Broken)
+    → NamesHere colours kind (e + 1) edges b → NamesHere colours kind e (edge ∷ edges) b
 one_before colours kind e edge edges b n =
     let l = n.within in let m = n.number in
     record { k = suc n.k; within = omega arith; number = omega arith; is = n.is; broken = n.broken; first = n.first; second = n.second }
 
-clash_here : (colours : List Bool) (e : ℕ) (edge : Edge) (edges : List Edge) → is_broken_clash colours edge ≡ true →
-    NamesHere colours Clash e (edge ∷ edges) (record { edge = e; a = edge.a; b = edge.b })
+clash_here : (colours : List Bool) (e : ℕ) (edge : Edge) (edges : List Edge)
+    → is_broken_clash colours edge ≡ true
+    → NamesHere colours Clash e (edge ∷ edges) (record { edge = e; a = edge.a; b = edge.b })
 clash_here colours e edge edges t =
     let d = and_parts (is_clash edge.kind) (breaks colours edge) t in
     record { k = 0; within = omega arith; number = omega arith; is = clash_kind edge.kind d.0; broken = d.1; first = refl; second = refl }
@@ -106,9 +109,9 @@ clashes_name colours e (edge ∷ edges) =
 moved : (e k : ℕ) (bs : List Broken) → Any (λ b. b.edge ≡ e + 1 + k) bs → Any (λ b. b.edge ≡ e + suc k) bs
 moved e k bs (i, b, l, m, p) = (i, b, l, m, omega (arith, p))
 
-clashes_all : (colours : List Bool) (e : ℕ) (edges : List Edge) (k : ℕ) → k < length edges →
-    (get_or edges k no_edge).kind ≡ Clash → breaks colours (get_or edges k no_edge) ≡ true →
-    Any (λ b. b.edge ≡ e + k) (clashes_from colours e edges)
+clashes_all : (colours : List Bool) (e : ℕ) (edges : List Edge) (k : ℕ) → k < length edges
+    → (get_or edges k no_edge).kind ≡ Clash → breaks colours (get_or edges k no_edge) ≡ true
+    → Any (λ b. b.edge ≡ e + k) (clashes_from colours e edges)
 clashes_all colours e [] k l f g = absurd (omega (arith, l))
 clashes_all colours e (edge ∷ edges) zero l f g =
     let t : is_broken_clash colours edge ≡ true = and_from (is_clash edge.kind) (breaks colours edge) (ap is_clash f) g in
@@ -119,8 +122,9 @@ clashes_all colours e (edge ∷ edges) (suc k) l f g =
     (clashes_from colours (e + 1) edges) (moved e k (clashes_from colours (e + 1) edges)
     (clashes_all colours (e + 1) edges k (omega (arith, l)) f g))
 
-rises_where : {X : Type 0} (number : X → ℕ) (t : Bool) (x : X) (xs : List X) → All (λ y. number x + 1 ≤ number y) xs →
-    AllPairs (λ y z. number y < number z) xs → AllPairs (λ y z. number y < number z) (if t then x ∷ xs else xs)
+rises_where : {X : Type 0} (number : X → ℕ) (t : Bool) (x : X) (xs : List X)
+    → All (λ y. number x + 1 ≤ number y) xs → AllPairs (λ y z. number y < number z) xs
+    → AllPairs (λ y z. number y < number z) (if t then x ∷ xs else xs)
 rises_where number true x xs a o = AllPairs-cons (λ y z. number y < number z) x xs
     (All-weaker (λ y. number x + 1 ≤ number y) (λ y. number x < number y) (λ y h. omega (arith, h)) xs a) o
 rises_where number false x xs a o = o
@@ -155,9 +159,9 @@ from_zero : {X : Type 0} (number : X → ℕ) (k : ℕ) (xs : List X) → Any (�
 from_zero number k xs (i, x, l, m, p) = (i, x, l, m, omega (arith, p))
 
 -- the lines of the broken clashes name exactly these, each with its ends
-pub clashes_are_named : (g : Signed) (colours : List Bool) (lines : List Broken) →
-    lines ≡ clashes_from colours 0 g.edges → AllPairs (λ b c. b.edge < c.edge) lines →
-    NameAllBroken g colours Clash (λ b. b) lines
+pub clashes_are_named : (g : Signed) (colours : List Bool) (lines : List Broken)
+    → lines ≡ clashes_from colours 0 g.edges → AllPairs (λ b c. b.edge < c.edge) lines
+    → NameAllBroken g colours Clash (λ b. b) lines
 clashes_are_named g colours lines e o = subst (NameAllBroken g colours Clash (λ b. b)) (sym e) (record {
   each = All-weaker (NamesHere colours Clash 0 g.edges) (NamesBroken g colours Clash) (names_broken g colours Clash)
       (clashes_from colours 0 g.edges) (clashes_name colours 0 g.edges);
@@ -194,8 +198,8 @@ clashes_take weights (edge ∷ edges) (l ∷ links) e =
     let d = first_tie edge edges (clash_tie weights l) (map (clash_tie weights) links) e in
     (no_stitch edge Clash (ap (λ (t : Tie). t.kind) d.0) refl, clashes_take weights edges links d.1)
 
-stitches_take : (stitch : ℕ) (clash : PlainWeights) (edges : List Edge) (cuts : List Cut) (links : List Link) →
-    map tie_of edges ≡ map (stitch_tie stitch) cuts ++ map (clash_tie clash) links → TakeCuts edges cuts
+stitches_take : (stitch : ℕ) (clash : PlainWeights) (edges : List Edge) (cuts : List Cut) (links : List Link)
+    → map tie_of edges ≡ map (stitch_tie stitch) cuts ++ map (clash_tie clash) links → TakeCuts edges cuts
 stitches_take stitch clash edges [] links e = clashes_take clash edges links e
 stitches_take stitch clash [] (c ∷ cuts) links e = absurd (cc)
 stitches_take stitch clash (edge ∷ edges) (c ∷ cuts) links e =
@@ -204,9 +208,9 @@ stitches_take stitch clash (edge ∷ edges) (c ∷ cuts) links e =
     let is = stitch_is edge kind in
     ((λ t. (ap (λ (t : Tie). t.a) d.0, ap (λ (t : Tie). t.b) d.0)), rw is (stitches_take stitch clash edges cuts links d.1))
 
-bonds_take : (stitch : ℕ) (clash : PlainWeights) (edges : List Edge) (bonds : List (ℕ × ℕ)) (cuts : List Cut)
-    (links : List Link) → map tie_of edges ≡ map bond_tie bonds ++
-    (map (stitch_tie stitch) cuts ++ map (clash_tie clash) links) → TakeCuts edges cuts
+bonds_take : (stitch : ℕ) (clash : PlainWeights) (edges : List Edge) (bonds : List (ℕ × ℕ)) (cuts : List Cut) (links : List Link)
+    → map tie_of edges ≡ map bond_tie bonds ++ (map (stitch_tie stitch) cuts ++ map (clash_tie clash) links)
+    → TakeCuts edges cuts
 bonds_take stitch clash edges [] cuts links e = stitches_take stitch clash edges cuts links e
 bonds_take stitch clash [] (p ∷ bonds) cuts links e = absurd (cc)
 bonds_take stitch clash (edge ∷ edges) (p ∷ bonds) cuts links e =
@@ -219,20 +223,20 @@ bonds_take stitch clash (edge ∷ edges) (p ∷ bonds) cuts links e =
       no_cut edge edges (c ∷ cs) n r = ((λ t. let bad = sym n ∙ t in absurd (cc)), rw n r)
 
 -- the edges of a net take up the cuts in their order
-pub net_takes : (weights : PlainWeights) (bonds : List (ℕ × ℕ)) (cuts : List Cut) (links : List Link)
-    (edges : List Edge) → map tie_of edges ≡ ties_of weights bonds cuts links → TakeCuts edges cuts
+pub net_takes : (weights : PlainWeights) (bonds : List (ℕ × ℕ)) (cuts : List Cut) (links : List Link) (edges : List Edge)
+    → map tie_of edges ≡ ties_of weights bonds cuts links → TakeCuts edges cuts
 net_takes weights bonds cuts links edges e =
     bonds_take weights.stitch weights edges bonds cuts links
     (e ∙ append_assoc (map bond_tie bonds) (map (stitch_tie weights.stitch) cuts) (map (clash_tie weights) links))
 
 -- a stitch that is broken and the cut that it takes
-stitch_breaks : (colours : List Bool) (edge : Edge) (c : Cut) → is_stitch edge ≡ true → (edge.a ≡ c.a) ×
-    (edge.b ≡ c.b) → is_broken_stitch colours edge ≡ is_zone colours c
+stitch_breaks : (colours : List Bool) (edge : Edge) (c : Cut) → is_stitch edge ≡ true
+    → (edge.a ≡ c.a) × (edge.b ≡ c.b) → is_broken_stitch colours edge ≡ is_zone colours c
 stitch_breaks colours edge c t ends = rw (t, stitch_kind edge.kind t, ends.0, ends.1) refl
 
 -- the zones of the lines are those of the broken cuts
-pub zones_are : (colours : List Bool) (e : ℕ) (edges : List Edge) (cuts : List Cut) → TakeCuts edges cuts →
-    map (λ (z : PlainZone). z.corners) (cuts_from colours e edges cuts) ≡ map corners_of (zones_of colours cuts)
+pub zones_are : (colours : List Bool) (e : ℕ) (edges : List Edge) (cuts : List Cut) → TakeCuts edges cuts
+    → map (λ (z : PlainZone). z.corners) (cuts_from colours e edges cuts) ≡ map corners_of (zones_of colours cuts)
 zones_are colours e [] cuts t = rw t refl
 zones_are colours e (edge ∷ edges) [] t = zones_are colours (e + 1) edges [] t.1
 zones_are colours e (edge ∷ edges) (c ∷ cs) t = by_kind (is_stitch edge) refl t.1 (zones_are colours (e + 1) edges cs)
@@ -261,9 +265,9 @@ zones_are colours e (edge ∷ edges) (c ∷ cs) t = by_kind (is_stitch edge) ref
           rw f (left r')
 
 -- what holds of all cuts holds of the lines
-pub zones_hold : (P : ℕ → ℕ → Corners → Type 0) (colours : List Bool) (e : ℕ) (edges : List Edge) (cuts : List Cut) →
-    TakeCuts edges cuts → All (λ (c : Cut). P c.a c.b (corners_of c.zone)) cuts →
-    All (λ (z : PlainZone). P z.at.a z.at.b z.corners) (cuts_from colours e edges cuts)
+pub zones_hold : (P : ℕ → ℕ → Corners → Type 0) (colours : List Bool) (e : ℕ) (edges : List Edge) (cuts : List Cut)
+    → TakeCuts edges cuts → All (λ (c : Cut). P c.a c.b (corners_of c.zone)) cuts
+    → All (λ (z : PlainZone). P z.at.a z.at.b z.corners) (cuts_from colours e edges cuts)
 zones_hold P colours e [] cuts t a = All-nil (λ (z : PlainZone). P z.at.a z.at.b z.corners)
 zones_hold P colours e (edge ∷ edges) [] t a = zones_hold P colours (e + 1) edges [] t.1 a
 zones_hold P colours e (edge ∷ edges) (c ∷ cs) t a = by_kind (is_stitch edge) refl t.1
@@ -285,14 +289,15 @@ zones_hold P colours e (edge ∷ edges) (c ∷ cs) t a = by_kind (is_stitch edge
           let r' : TakeCuts edges (c ∷ cs) = rw f at r in
           rw f (left r')
 
-stitch_here : (colours : List Bool) (e : ℕ) (edge : Edge) (edges : List Edge) → is_broken_stitch colours edge ≡ true →
-    NamesHere colours Stitch e (edge ∷ edges) (record { edge = e; a = edge.a; b = edge.b })
+stitch_here : (colours : List Bool) (e : ℕ) (edge : Edge) (edges : List Edge)
+    → is_broken_stitch colours edge ≡ true
+    → NamesHere colours Stitch e (edge ∷ edges) (record { edge = e; a = edge.a; b = edge.b })
 stitch_here colours e edge edges t =
     let d = and_parts (is_stitch edge) (breaks colours edge) t in
     record { k = 0; within = omega arith; number = omega arith; is = stitch_kind edge.kind d.0; broken = d.1; first = refl; second = refl }
 
-stitches_name : (colours : List Bool) (e : ℕ) (edges : List Edge) (cuts : List Cut) →
-    All (λ (z : PlainZone). NamesHere colours Stitch e edges z.at) (cuts_from colours e edges cuts)
+stitches_name : (colours : List Bool) (e : ℕ) (edges : List Edge) (cuts : List Cut)
+    → All (λ (z : PlainZone). NamesHere colours Stitch e edges z.at) (cuts_from colours e edges cuts)
 stitches_name colours e [] cuts = All-nil (λ (z : PlainZone). NamesHere colours Stitch e [] z.at)
 stitches_name colours e (edge ∷ edges) [] =
     All-weaker (λ (z : PlainZone). NamesHere colours Stitch (e + 1) edges z.at)
@@ -310,8 +315,8 @@ stitches_name colours e (edge ∷ edges) (c ∷ cs) =
     (stitches_name colours (e + 1) edges left))
 
 -- the broken stitches have rising edges
-pub stitches_rise : (colours : List Bool) (e : ℕ) (edges : List Edge) (cuts : List Cut) →
-    AllPairs (λ (y z : PlainZone). y.at.edge < z.at.edge) (cuts_from colours e edges cuts)
+pub stitches_rise : (colours : List Bool) (e : ℕ) (edges : List Edge) (cuts : List Cut)
+    → AllPairs (λ (y z : PlainZone). y.at.edge < z.at.edge) (cuts_from colours e edges cuts)
 stitches_rise colours e [] cuts = λ i j d h l. absurd (omega (arith, l))
 stitches_rise colours e (edge ∷ edges) [] = stitches_rise colours (e + 1) edges []
 stitches_rise colours e (edge ∷ edges) (c ∷ cs) =
@@ -326,9 +331,10 @@ stitches_rise colours e (edge ∷ edges) (c ∷ cs) =
 moved_zones : (e k : ℕ) (zs : List PlainZone) → Any (λ z. z.at.edge ≡ e + 1 + k) zs → Any (λ z. z.at.edge ≡ e + suc k) zs
 moved_zones e k zs (i, z, l, m, p) = (i, z, l, m, omega (arith, p))
 
-stitches_all : (colours : List Bool) (e : ℕ) (edges : List Edge) (cuts : List Cut) (k : ℕ) → TakeCuts edges cuts →
-    k < length edges → (get_or edges k no_edge).kind ≡ Stitch → breaks colours (get_or edges k no_edge) ≡ true →
-    Any (λ (z : PlainZone). z.at.edge ≡ e + k) (cuts_from colours e edges cuts)
+stitches_all : (colours : List Bool) (e : ℕ) (edges : List Edge) (cuts : List Cut) (k : ℕ)
+    → TakeCuts edges cuts → k < length edges → (get_or edges k no_edge).kind ≡ Stitch
+    → breaks colours (get_or edges k no_edge) ≡ true
+    → Any (λ (z : PlainZone). z.at.edge ≡ e + k) (cuts_from colours e edges cuts)
 stitches_all colours e [] cuts k t l f g = absurd (omega (arith, l))
 stitches_all colours e (edge ∷ edges) [] zero t l f g = let bad : is_stitch edge ≡ true = stitch_is edge f in let worse = sym t.0 ∙ bad in absurd (cc)
 stitches_all colours e (edge ∷ edges) [] (suc k) t l f g =
@@ -347,9 +353,9 @@ stitches_all colours e (edge ∷ edges) (c ∷ cs) (suc k) t l f g =
     (stitches_all colours (e + 1) edges left k t.1 (omega (arith, l)) f g))
 
 -- the lines of the broken stitches name exactly these, each with its ends
-pub stitches_are_named : (g : Signed) (colours : List Bool) (cuts : List Cut) (lines : List PlainZone) →
-    TakeCuts g.edges cuts → lines ≡ cuts_from colours 0 g.edges cuts → AllPairs (λ y z. y.at.edge < z.at.edge) lines →
-    NameAllBroken g colours Stitch (λ z. z.at) lines
+pub stitches_are_named : (g : Signed) (colours : List Bool) (cuts : List Cut) (lines : List PlainZone)
+    → TakeCuts g.edges cuts → lines ≡ cuts_from colours 0 g.edges cuts
+    → AllPairs (λ y z. y.at.edge < z.at.edge) lines → NameAllBroken g colours Stitch (λ z. z.at) lines
 stitches_are_named g colours cuts lines t e o = subst (NameAllBroken g colours Stitch (λ z. z.at)) (sym e) (record {
   each = All-weaker (λ (z : PlainZone). NamesHere colours Stitch 0 g.edges z.at)
       (λ (z : PlainZone). NamesBroken g colours Stitch z.at) (λ z. names_broken g colours Stitch z.at)

@@ -37,8 +37,8 @@ use Rattle.dpl_list.proofs.Lists.{any_tail, pairs_tail, any_head}
 
 -- ---- lists by the numbers of their elements
 
-no_smaller : {X : Type 0} (number : X → ℕ) (x : X) (xs : List X) (n : ℕ) →
-    AllPairs (λ y z. number y < number z) (x ∷ xs) → Any (λ y. number y ≡ n) (x ∷ xs) → number x ≤ n
+no_smaller : {X : Type 0} (number : X → ℕ) (x : X) (xs : List X) (n : ℕ)
+    → AllPairs (λ y z. number y < number z) (x ∷ xs) → Any (λ y. number y ≡ n) (x ∷ xs) → number x ≤ n
 no_smaller number x xs n a (zero, y, l, e, p) = let f = ap number e in omega (arith, f, p)
 no_smaller number x xs n a (suc k, y, l, e, p) = let f = ap number e in let h = a 0 (suc k) y (omega arith) l in omega (arith, f, p, h)
 
@@ -71,28 +71,28 @@ same_list number P Q same (x ∷ xs) (y ∷ ys) p q a b there back =
 
 -- ---- broken edges
 
-named_in : {X : Type 0} (g : Signed) (colours : List Bool) (kind : Kind) (at : X → Broken) (xs ys : List X) →
-    NameAllBroken g colours kind at xs → NameAllBroken g colours kind at ys → (n : ℕ) → Any (λ x. (at x).edge ≡ n) xs →
-    Any (λ x. (at x).edge ≡ n) ys
+named_in : {X : Type 0} (g : Signed) (colours : List Bool) (kind : Kind) (at : X → Broken) (xs ys : List X)
+    → NameAllBroken g colours kind at xs → NameAllBroken g colours kind at ys → (n : ℕ)
+    → Any (λ x. (at x).edge ≡ n) xs → Any (λ x. (at x).edge ≡ n) ys
 named_in g colours kind at xs ys a b n (k, x, l, e, p) =
     let names : NamesBroken g colours kind (at x) = subst (λ z. NamesBroken g colours kind (at z)) e (a.each k x l) in
     b.all n (subst (IsBrokenEdge g colours kind) p names.edge)
 
-same_names : (g : Signed) (colours : List Bool) (kind : Kind) (b c : Broken) → NamesBroken g colours kind b →
-    NamesBroken g colours kind c → b.edge ≡ c.edge → b ≡ c
+same_names : (g : Signed) (colours : List Bool) (kind : Kind) (b c : Broken) → NamesBroken g colours kind b
+    → NamesBroken g colours kind c → b.edge ≡ c.edge → b ≡ c
 same_names g colours kind b c m n e =
     same_broken b c e (m.first ∙ ap (λ k. (edge_at g k).a) e ∙ sym n.first) (m.second ∙ ap (λ k. (edge_at g k).b) e ∙ sym n.second)
 
-same_clashes : (g : Signed) (colours : List Bool) (xs ys : List Broken) → NameAllBroken g colours Clash (λ b. b) xs →
-    NameAllBroken g colours Clash (λ b. b) ys → xs ≡ ys
+same_clashes : (g : Signed) (colours : List Bool) (xs ys : List Broken)
+    → NameAllBroken g colours Clash (λ b. b) xs → NameAllBroken g colours Clash (λ b. b) ys → xs ≡ ys
 same_clashes g colours xs ys a b =
     same_list (λ (c : Broken). c.edge) (NamesBroken g colours Clash) (NamesBroken g colours Clash)
     (same_names g colours Clash) xs ys a.each b.each a.ordered b.ordered
     (named_in g colours Clash (λ c. c) xs ys a b) (named_in g colours Clash (λ c. c) ys xs b a)
 
 -- no two cuts have one first fragment
-one_cut : (cuts : List Cut) (k m : ℕ) (c d : Cut) → AllPairs (λ (c d : Cut). c.a < d.a) cuts → k < length cuts →
-    m < length cuts → get_or cuts k c ≡ c → get_or cuts m d ≡ d → c.a ≡ d.a → c ≡ d
+one_cut : (cuts : List Cut) (k m : ℕ) (c d : Cut) → AllPairs (λ (c d : Cut). c.a < d.a) cuts → k < length cuts
+    → m < length cuts → get_or cuts k c ≡ c → get_or cuts m d ≡ d → c.a ≡ d.a → c ≡ d
 one_cut cuts k m c d o l h e f same =
     let f' : get_or cuts m c ≡ d = get_or_default cuts m c d h ∙ f in
     elim (cases_lt k m) [
@@ -106,8 +106,8 @@ one_cut cuts k m c d o l h e f same =
 abbrev IsLine : Signed → List Bool → Fragments → PlainZone → Type 0
 IsLine g colours f z = NamesBroken g colours Stitch z.at × ShowsCut f z
 
-same_line : (g : Signed) (colours : List Bool) (f : Fragments) → AllPairs (λ (c d : Cut). c.a < d.a) f.cuts →
-    (y z : PlainZone) → IsLine g colours f y → IsLine g colours f z → y.at.edge ≡ z.at.edge → y ≡ z
+same_line : (g : Signed) (colours : List Bool) (f : Fragments) → AllPairs (λ (c d : Cut). c.a < d.a) f.cuts
+    → (y z : PlainZone) → IsLine g colours f y → IsLine g colours f z → y.at.edge ≡ z.at.edge → y ≡ z
 same_line g colours f o y z (m, (k, c, l, e, p)) (n, (i, d, h, w, q)) same =
     let at : y.at ≡ z.at = same_names g colours Stitch y.at z.at m n same in
     let cut : c ≡ d = one_cut f.cuts k i c d o l h e w (p.0 ∙ ap (λ (b : Broken). b.a) at ∙ sym q.0) in
@@ -116,9 +116,9 @@ same_line g colours f o y z (m, (k, c, l, e, p)) (n, (i, d, h, w, q)) same =
 all_both : {X : Type 0} (P Q : X → Type 0) (xs : List X) → All P xs → All Q xs → All (λ x. P x × Q x) xs
 all_both P Q xs a b k d l = (a k d l, b k d l)
 
-same_cuts : (g : Signed) (colours : List Bool) (f : Fragments) (xs ys : List PlainZone) →
-    AllPairs (λ (c d : Cut). c.a < d.a) f.cuts → NameAllBroken g colours Stitch (λ z. z.at) xs →
-    NameAllBroken g colours Stitch (λ z. z.at) ys → All (ShowsCut f) xs → All (ShowsCut f) ys → xs ≡ ys
+same_cuts : (g : Signed) (colours : List Bool) (f : Fragments) (xs ys : List PlainZone)
+    → AllPairs (λ (c d : Cut). c.a < d.a) f.cuts → NameAllBroken g colours Stitch (λ z. z.at) xs
+    → NameAllBroken g colours Stitch (λ z. z.at) ys → All (ShowsCut f) xs → All (ShowsCut f) ys → xs ≡ ys
 same_cuts g colours f xs ys o a b p q =
     same_list (λ (z : PlainZone). z.at.edge) (IsLine g colours f) (IsLine g colours f) (same_line g colours f o) xs ys
     (all_both (λ z. NamesBroken g colours Stitch z.at) (ShowsCut f) xs a.each p)
@@ -148,8 +148,8 @@ last_if false xs n e = absurd (cc)
 abbrev IsAsideBelow : Net → ℕ → ℕ → Type 0
 IsAsideBelow net n e = (e < n) × (is_aside net e ≡ true)
 
-each_if : (net : Net) (n : ℕ) (t : Bool) (xs : List ℕ) → is_aside net n ≡ t → All (IsAsideBelow net n) xs →
-    All (IsAsideBelow net (suc n)) (if t then xs ++ n ∷ [] else xs)
+each_if : (net : Net) (n : ℕ) (t : Bool) (xs : List ℕ) → is_aside net n ≡ t → All (IsAsideBelow net n) xs
+    → All (IsAsideBelow net (suc n)) (if t then xs ++ n ∷ [] else xs)
 each_if net n true xs e a = All-push (IsAsideBelow net (suc n)) xs n
     (All-weaker (IsAsideBelow net n) (IsAsideBelow net (suc n)) (λ k h. (omega (arith, h.0), h.1)) xs a)
     (omega arith, e)
@@ -192,9 +192,9 @@ same_aside net xs ys a b =
 
 -- ---- all nine
 
-pub facts_of_truth : (o : PlainOptions) (f : Fragments) (net : Net) (text : List ℕ) (r : PlainReport) →
-    TakeCuts net.graph.edges f.cuts → IsReport r → text ≡ report_text r → SaysTrue o f net r →
-    AreNineFacts o f net text r
+pub facts_of_truth : (o : PlainOptions) (f : Fragments) (net : Net) (text : List ℕ) (r : PlainReport)
+    → TakeCuts net.graph.edges f.cuts → IsReport r → text ≡ report_text r → SaysTrue o f net r
+    → AreNineFacts o f net text r
 facts_of_truth o f net text r take v e t = record {
   valid = v;
   text_is = e;
@@ -217,9 +217,9 @@ facts_of_truth o f net text r take v e t = record {
   on_b = t.on_b;
 }
 
-pub truth_of_facts : (o : PlainOptions) (f : Fragments) (net : Net) (text : List ℕ) (r : PlainReport) →
-    TakeCuts net.graph.edges f.cuts → AllPairs (λ (c d : Cut). c.a < d.a) f.cuts → AreNineFacts o f net text r →
-    SaysTrue o f net r
+pub truth_of_facts : (o : PlainOptions) (f : Fragments) (net : Net) (text : List ℕ) (r : PlainReport)
+    → TakeCuts net.graph.edges f.cuts → AllPairs (λ (c d : Cut). c.a < d.a) f.cuts
+    → AreNineFacts o f net text r → SaysTrue o f net r
 truth_of_facts o f net text r take order n = record {
   params = n.options;
   counts = n.counts;
@@ -240,8 +240,8 @@ truth_of_facts o f net text r take order n = record {
 }
 
 -- of the report of a good text the nine facts hold
-pub good_has_facts : (o : PlainOptions) (f : Fragments) (net : Net) (text : List ℕ) → AreOptions o →
-    TakeCuts net.graph.edges f.cuts → IsGood o f net text → (r : PlainReport) × AreNineFacts o f net text r
+pub good_has_facts : (o : PlainOptions) (f : Fragments) (net : Net) (text : List ℕ) → AreOptions o
+    → TakeCuts net.graph.edges f.cuts → IsGood o f net text → (r : PlainReport) × AreNineFacts o f net text r
 good_has_facts o f net text ranges take g = (
   g.report,
   facts_of_truth o f net text g.report take g.valid g.written
@@ -249,9 +249,9 @@ good_has_facts o f net text ranges take g = (
 )
 
 -- a text of a report of which the nine facts hold is good
-pub facts_are_good : (o : PlainOptions) (f : Fragments) (net : Net) (text : List ℕ) (r : PlainReport) →
-    TakeCuts net.graph.edges f.cuts → AllPairs (λ (c d : Cut). c.a < d.a) f.cuts → AreNineFacts o f net text r →
-    IsGood o f net text
+pub facts_are_good : (o : PlainOptions) (f : Fragments) (net : Net) (text : List ℕ) (r : PlainReport)
+    → TakeCuts net.graph.edges f.cuts → AllPairs (λ (c d : Cut). c.a < d.a) f.cuts
+    → AreNineFacts o f net text r → IsGood o f net text
 facts_are_good o f net text r take order n = record {
   report = r;
   valid = n.valid;
@@ -260,9 +260,10 @@ facts_are_good o f net text r take order n = record {
 }
 
 -- over the net of fragments a text is good exactly where they hold of its report
-pub good_exactly : (o : PlainOptions) (f : Fragments) (net : Net) (keep tiles : List Corners) (label text : List ℕ) →
-    AreOptions o → IsNet f o.weights (2 * o.space) net → AreFragments keep (2 * o.space) (2 * o.overlap) tiles label f →
-    IsGood o f net text ↔ ((r : PlainReport) × AreNineFacts o f net text r)
+pub good_exactly : (o : PlainOptions) (f : Fragments) (net : Net) (keep tiles : List Corners) (label text : List ℕ)
+    → AreOptions o → IsNet f o.weights (2 * o.space) net
+    → AreFragments keep (2 * o.space) (2 * o.overlap) tiles label f
+    → IsGood o f net text ↔ ((r : PlainReport) × AreNineFacts o f net text r)
 good_exactly o f net keep tiles label text ranges n a =
     let take = net_takes o.weights n.bonds f.cuts n.links net.graph.edges n.edges in
     (good_has_facts o f net text ranges take, λ h. facts_are_good o f net text h.0 take a.cuts.ordered h.1)

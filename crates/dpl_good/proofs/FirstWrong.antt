@@ -28,8 +28,9 @@ continues (y ∷ a) b (x ∷ c) d e l =
       front = ap (λ z. z ∷ c) first ∙ ap (λ z. y ∷ z) k.front;
     }
 
-no_longer : {X : Type 0} (lines : X → List (List ℕ)) (Fits : X → Type 0) (ls : List (List ℕ)) (m n : ℕ)
-    (p : IsFirstWrong lines Fits ls m) (q : IsFirstWrong lines Fits ls n) → length p.front < length q.front → ⊥
+no_longer : {X : Type 0} (lines : X → List (List ℕ)) (Fits : X → Type 0) (ls : List (List ℕ))
+    → (m n : ℕ) (p : IsFirstWrong lines Fits ls m) (q : IsFirstWrong lines Fits ls n)
+    → length p.front < length q.front → ⊥
 no_longer lines Fits ls m n p q l =
     let k = continues p.front p.behind q.front q.behind (sym p.split ∙ q.split) l in
     p.here k.next k.rest k.behind (record {
@@ -41,8 +42,8 @@ no_longer lines Fits ls m n p q l =
     })
 
 -- a text has at most one first line that cannot stand
-pub one_first_wrong : {X : Type 0} (lines : X → List (List ℕ)) (Fits : X → Type 0) (ls : List (List ℕ)) (m n : ℕ) →
-    IsFirstWrong lines Fits ls m → IsFirstWrong lines Fits ls n → m ≡ n
+pub one_first_wrong : {X : Type 0} (lines : X → List (List ℕ)) (Fits : X → Type 0) (ls : List (List ℕ)) (m n : ℕ)
+    → IsFirstWrong lines Fits ls m → IsFirstWrong lines Fits ls n → m ≡ n
 one_first_wrong lines Fits ls m n p q = by (cases_order (length p.front) (length q.front)) where
   by : (length p.front ≡ length q.front) ⊎ ((length p.front < length q.front) ⊎ (length q.front < length p.front)) →
       m ≡ n

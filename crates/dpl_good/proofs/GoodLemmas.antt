@@ -73,17 +73,18 @@ pub agree_same : (b : Bool) → agree b b ≡ true
 agree_same true = refl
 agree_same false = refl
 
-bond_none : (colours : List Bool) (e : ℕ) (edge : Edge) →
-    (is_bond edge.kind ≡ true → colour_of colours edge.a ≡ colour_of colours edge.b) → bond_miss colours e edge ≡ None
+bond_none : (colours : List Bool) (e : ℕ) (edge : Edge)
+    → (is_bond edge.kind ≡ true → colour_of colours edge.a ≡ colour_of colours edge.b)
+    → bond_miss colours e edge ≡ None
 bond_none colours e edge h = by_kind (is_bond edge.kind) refl where
   by_kind : (t : Bool) → is_bond edge.kind ≡ t → bond_miss colours e edge ≡ None
   by_kind true f = rw (f, h f, agree_same (colour_of colours edge.b)) refl
   by_kind false f = rw f refl
 
 -- where the ends of each bond have one colour, no bond fails
-pub bonds_none : (colours : List Bool) (e : ℕ) (edges : List Edge) →
-    All (λ (d : Edge). is_bond d.kind ≡ true → colour_of colours d.a ≡ colour_of colours d.b) edges →
-    bonds_miss colours e edges ≡ None
+pub bonds_none : (colours : List Bool) (e : ℕ) (edges : List Edge)
+    → All (λ (d : Edge). is_bond d.kind ≡ true → colour_of colours d.a ≡ colour_of colours d.b) edges
+    → bonds_miss colours e edges ≡ None
 bonds_none colours e [] a = refl
 bonds_none colours e (edge ∷ edges) a = both_none _ _ (bond_none colours e edge (a 0 edge (omega arith)))
     (bonds_none colours (e + 1) edges (λ k d l. a (suc k) d (omega arith)))

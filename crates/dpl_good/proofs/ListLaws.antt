@@ -56,8 +56,8 @@ pub record AreTold {X : Type 0} (edge : X → ℕ) (line_miss : X → X → Opti
   pub same : (x : X) → line_miss x x ≡ None
 
 -- nothing differs only where the lists are the same
-pub lists_none : {X : Type 0} (edge : X → ℕ) (line_miss : X → X → Option Miss) → AreTold edge line_miss →
-    (xs ws : List X) → lists_miss edge line_miss xs ws ≡ None → xs ≡ ws
+pub lists_none : {X : Type 0} (edge : X → ℕ) (line_miss : X → X → Option Miss) → AreTold edge line_miss
+    → (xs ws : List X) → lists_miss edge line_miss xs ws ≡ None → xs ≡ ws
 lists_none edge line_miss t [] [] e = refl
 lists_none edge line_miss t [] (w ∷ ws) e = absurd (cc)
 lists_none edge line_miss t (x ∷ xs) [] e = absurd (cc)

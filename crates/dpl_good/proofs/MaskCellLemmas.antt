@@ -69,8 +69,10 @@ HoldsZone colours x y c = (is_zone colours c ≡ true) × IsIn (corners_of c.zon
 abbrev IsOnZone : List Bool → List Cut → ℤ → ℤ → Type 0
 IsOnZone colours cuts x y = Any (HoldsZone colours x y) cuts
 
-fragments_hold : (on_b : Bool) (rects : List Rect) (colours : List Bool) (x y : ℤ) → length colours ≡ length rects →
-    is_in_boxes (map corners_of (fragments_on on_b rects colours)) x y ≡ true → IsOnFragment rects colours on_b x y
+fragments_hold : (on_b : Bool) (rects : List Rect) (colours : List Bool) (x y : ℤ)
+    → length colours ≡ length rects
+    → is_in_boxes (map corners_of (fragments_on on_b rects colours)) x y ≡ true
+    → IsOnFragment rects colours on_b x y
 fragments_hold on_b [] colours x y l e = absurd (cc)
 fragments_hold on_b (r ∷ rs) [] x y l e = absurd (omega (arith, l))
 fragments_hold on_b (r ∷ rs) (d ∷ ds) x y l e = by_test (agree d on_b) refl (fragments_hold on_b rs ds x y (omega (arith, l))) e where
@@ -92,8 +94,8 @@ fragments_hold on_b (r ∷ rs) (d ∷ ds) x y l e = by_test (agree d on_b) refl 
   by_test false f others g = later (others g)
   by_test true f others g = either f others (or_cases (is_in_box (corners_of r) x y) (is_in_boxes (map corners_of (fragments_on on_b rs ds)) x y) g)
 
-with_rect : (t : Bool) (r : Rect) (rs : List Rect) (x y : ℤ) → is_in_boxes (map corners_of rs) x y ≡ true →
-    is_in_boxes (map corners_of (where_same t r rs)) x y ≡ true
+with_rect : (t : Bool) (r : Rect) (rs : List Rect) (x y : ℤ) → is_in_boxes (map corners_of rs) x y ≡ true
+    → is_in_boxes (map corners_of (where_same t r rs)) x y ≡ true
 with_rect true r rs x y e = or_right (is_in_box (corners_of r) x y) (is_in_boxes (map corners_of rs) x y) e
 with_rect false r rs x y e = e
 
@@ -101,9 +103,9 @@ first_rect : (t : Bool) (r : Rect) (rs : List Rect) (x y : ℤ) → t ≡ true �
 first_rect true r rs x y e h = or_left (is_in_box (corners_of r) x y) (is_in_boxes (map corners_of rs) x y) (box_in (corners_of r) x y h)
 first_rect false r rs x y e h = absurd (cc)
 
-fragments_held : (on_b : Bool) (rects : List Rect) (colours : List Bool) (x y : ℤ) (i : ℕ) → i < length rects →
-    length colours ≡ length rects → colour_of colours i ≡ on_b → IsIn (rect_at (map corners_of rects) i) x y →
-    is_in_boxes (map corners_of (fragments_on on_b rects colours)) x y ≡ true
+fragments_held : (on_b : Bool) (rects : List Rect) (colours : List Bool) (x y : ℤ) (i : ℕ) → i < length rects
+    → length colours ≡ length rects → colour_of colours i ≡ on_b → IsIn (rect_at (map corners_of rects) i) x y
+    → is_in_boxes (map corners_of (fragments_on on_b rects colours)) x y ≡ true
 fragments_held on_b [] colours x y i l w o h = absurd (omega (arith, l))
 fragments_held on_b (r ∷ rs) [] x y i l w o h = absurd (omega (arith, w))
 fragments_held on_b (r ∷ rs) (d ∷ ds) x y zero l w o h =
@@ -138,28 +140,29 @@ zones_in colours (d ∷ ds) x y e = by_test (is_zone colours d) refl (zones_in c
   by_test false f others g = later (others g)
   by_test true f others g = either f others (or_cases (is_in_box (corners_of d.zone) x y) (is_in_boxes (map corners_of (zones_of colours ds)) x y) g)
 
-in_append : (rs more : List Rect) (x y : ℤ) → is_in_boxes (map corners_of (rs ++ more)) x
-    y ≡ (is_in_boxes (map corners_of rs) x y || is_in_boxes (map corners_of more) x y)
+in_append : (rs more : List Rect) (x y : ℤ)
+    → is_in_boxes (map corners_of (rs ++ more)) x y ≡ (is_in_boxes (map corners_of rs) x y || is_in_boxes (map corners_of more) x y)
 in_append rs more x y = ap (λ cs. is_in_boxes cs x y) (map-append corners_of rs more) ∙
     list_any-append (λ b. is_in_box b x y) (map corners_of rs) (map corners_of more)
 
-mask_holds : (on_b : Bool) (f : Fragments) (colours : List Bool) (x y : ℤ) → length colours ≡ length f.rects →
-    is_in_boxes (map corners_of (mask_of on_b f colours)) x y ≡ true → IsOnFragment f.rects colours on_b x y ⊎
-    IsOnZone colours f.cuts x y
+mask_holds : (on_b : Bool) (f : Fragments) (colours : List Bool) (x y : ℤ) → length colours ≡ length f.rects
+    → is_in_boxes (map corners_of (mask_of on_b f colours)) x y ≡ true
+    → IsOnFragment f.rects colours on_b x y ⊎ IsOnZone colours f.cuts x y
 mask_holds on_b f colours x y l e = elim (or_cases _ _ (sym (in_append (fragments_on on_b f.rects colours) (zones_of colours f.cuts) x y) ∙ e)) [
   | inl g ↦ inl (fragments_hold on_b f.rects colours x y l g)
   | inr g ↦ inr (zones_in colours f.cuts x y g)
 ]
 
-fragment_on_mask : (on_b : Bool) (f : Fragments) (colours : List Bool) (x y : ℤ) → length colours ≡ length f.rects →
-    IsOnFragment f.rects colours on_b x y → is_in_boxes (map corners_of (mask_of on_b f colours)) x y ≡ true
+fragment_on_mask : (on_b : Bool) (f : Fragments) (colours : List Bool) (x y : ℤ)
+    → length colours ≡ length f.rects → IsOnFragment f.rects colours on_b x y
+    → is_in_boxes (map corners_of (mask_of on_b f colours)) x y ≡ true
 fragment_on_mask on_b f colours x y l h =
     in_append (fragments_on on_b f.rects colours) (zones_of colours f.cuts) x y ∙
     or_left _ (is_in_boxes (map corners_of (zones_of colours f.cuts)) x y)
     (fragments_held on_b f.rects colours x y h.i h.within l h.own h.holds)
 
-zone_on_mask : (on_b : Bool) (f : Fragments) (colours : List Bool) (x y : ℤ) → IsOnZone colours f.cuts x y →
-    is_in_boxes (map corners_of (mask_of on_b f colours)) x y ≡ true
+zone_on_mask : (on_b : Bool) (f : Fragments) (colours : List Bool) (x y : ℤ) → IsOnZone colours f.cuts x y
+    → is_in_boxes (map corners_of (mask_of on_b f colours)) x y ≡ true
 zone_on_mask on_b f colours x y h =
     in_append (fragments_on on_b f.rects colours) (zones_of colours f.cuts) x y ∙
     or_right (is_in_boxes (map corners_of (fragments_on on_b f.rects colours)) x y) _
@@ -167,9 +170,9 @@ zone_on_mask on_b f colours x y h =
 
 -- ---- pieces have one colour
 
-pairs_agree : (colours : List Bool) (edges : List Edge) (bonds : List (ℕ × ℕ)) (rest : List Tie) →
-    map tie_of edges ≡ map bond_tie bonds ++ rest → All (AgreesAt colours) edges →
-    All (λ (p : ℕ × ℕ). colour_of colours p.0 ≡ colour_of colours p.1) bonds
+pairs_agree : (colours : List Bool) (edges : List Edge) (bonds : List (ℕ × ℕ)) (rest : List Tie)
+    → map tie_of edges ≡ map bond_tie bonds ++ rest → All (AgreesAt colours) edges
+    → All (λ (p : ℕ × ℕ). colour_of colours p.0 ≡ colour_of colours p.1) bonds
 pairs_agree colours edges [] rest e a = All-nil (λ (p : ℕ × ℕ). colour_of colours p.0 ≡ colour_of colours p.1)
 pairs_agree colours [] (p ∷ bonds) rest e a = absurd (cc)
 pairs_agree colours (edge ∷ edges) (p ∷ bonds) rest e a =
@@ -181,14 +184,14 @@ pairs_agree colours (edge ∷ edges) (p ∷ bonds) rest e a =
     All-cons (λ (p : ℕ × ℕ). colour_of colours p.0 ≡ colour_of colours p.1) p bonds own
     (pairs_agree colours edges bonds rest d.1 (All-tail (AgreesAt colours) edge edges a))
 
-pair_agrees : (colours : List Bool) (bonds : List (ℕ × ℕ)) (i j : ℕ) →
-    All (λ (p : ℕ × ℕ). colour_of colours p.0 ≡ colour_of colours p.1) bonds → Contains bonds (i, j) →
-    colour_of colours i ≡ colour_of colours j
+pair_agrees : (colours : List Bool) (bonds : List (ℕ × ℕ)) (i j : ℕ)
+    → All (λ (p : ℕ × ℕ). colour_of colours p.0 ≡ colour_of colours p.1) bonds → Contains bonds (i, j)
+    → colour_of colours i ≡ colour_of colours j
 pair_agrees colours bonds i j a (k, l, e) = let P : ℕ × ℕ → Type 0 = λ p. colour_of colours p.0 ≡ colour_of colours p.1 in subst P e (a k (i, j) l)
 
-chain_agrees : (colours : List Bool) (bonds : List (ℕ × ℕ)) →
-    All (λ (p : ℕ × ℕ). colour_of colours p.0 ≡ colour_of colours p.1) bonds → (i : ℕ) (js : List ℕ) (k : ℕ) →
-    IsChain bonds i js k → colour_of colours i ≡ colour_of colours k
+chain_agrees : (colours : List Bool) (bonds : List (ℕ × ℕ))
+    → All (λ (p : ℕ × ℕ). colour_of colours p.0 ≡ colour_of colours p.1) bonds → (i : ℕ) (js : List ℕ) (k : ℕ)
+    → IsChain bonds i js k → colour_of colours i ≡ colour_of colours k
 chain_agrees colours bonds a i [] k e = ap (colour_of colours) e
 chain_agrees colours bonds a i (j ∷ js) k (c, r) =
     let e : colour_of colours i ≡ colour_of colours j =
@@ -215,36 +218,37 @@ record IsKnown (o : PlainOptions) (tiles : List Corners) (f : Fragments) (net : 
 mask_boxes : PlainReport → Bool → List Corners
 mask_boxes r on_b = if on_b then r.on_b else r.on_a
 
-boxes_are : (o : PlainOptions) (f : Fragments) (net : Net) (r : PlainReport) (on_b : Bool) → SaysTrue o f net r →
-    mask_boxes r on_b ≡ map corners_of (mask_of on_b f r.head.colours)
+boxes_are : (o : PlainOptions) (f : Fragments) (net : Net) (r : PlainReport) (on_b : Bool)
+    → SaysTrue o f net r → mask_boxes r on_b ≡ map corners_of (mask_of on_b f r.head.colours)
 unfolding mask_boxes
 boxes_are o f net r true t = t.on_b
 boxes_are o f net r false t = t.on_a
 
-on_mask : (o : PlainOptions) (tiles : List Corners) (f : Fragments) (net : Net) (r : PlainReport) (on_b : Bool)
-    (x y : ℤ) → IsKnown o tiles f net r → is_in_boxes (mask_boxes r on_b) x y ≡ true →
-    IsOnFragment f.rects r.head.colours on_b x y ⊎ IsOnZone r.head.colours f.cuts x y
+on_mask : (o : PlainOptions) (tiles : List Corners) (f : Fragments) (net : Net) (r : PlainReport) (on_b : Bool) (x y : ℤ)
+    → IsKnown o tiles f net r → is_in_boxes (mask_boxes r on_b) x y ≡ true
+    → IsOnFragment f.rects r.head.colours on_b x y ⊎ IsOnZone r.head.colours f.cuts x y
 on_mask o tiles f net r on_b x y k e = mask_holds on_b f r.head.colours x y k.long (sym (ap (λ bs. is_in_boxes bs x y) (boxes_are o f net r on_b k.truth)) ∙ e)
 
-fragment_is_on : (o : PlainOptions) (tiles : List Corners) (f : Fragments) (net : Net) (r : PlainReport) (on_b : Bool)
-    (x y : ℤ) → IsKnown o tiles f net r → IsOnFragment f.rects r.head.colours on_b x y →
-    is_in_boxes (mask_boxes r on_b) x y ≡ true
+fragment_is_on : (o : PlainOptions) (tiles : List Corners) (f : Fragments) (net : Net) (r : PlainReport) (on_b : Bool) (x y : ℤ)
+    → IsKnown o tiles f net r → IsOnFragment f.rects r.head.colours on_b x y
+    → is_in_boxes (mask_boxes r on_b) x y ≡ true
 fragment_is_on o tiles f net r on_b x y k h = ap (λ bs. is_in_boxes bs x y) (boxes_are o f net r on_b k.truth) ∙
     fragment_on_mask on_b f r.head.colours x y k.long h
 
-zone_is_on : (o : PlainOptions) (tiles : List Corners) (f : Fragments) (net : Net) (r : PlainReport) (on_b : Bool)
-    (x y : ℤ) → IsKnown o tiles f net r → IsOnZone r.head.colours f.cuts x y →
-    is_in_boxes (mask_boxes r on_b) x y ≡ true
+zone_is_on : (o : PlainOptions) (tiles : List Corners) (f : Fragments) (net : Net) (r : PlainReport) (on_b : Bool) (x y : ℤ)
+    → IsKnown o tiles f net r → IsOnZone r.head.colours f.cuts x y
+    → is_in_boxes (mask_boxes r on_b) x y ≡ true
 zone_is_on o tiles f net r on_b x y k h = ap (λ bs. is_in_boxes bs x y) (boxes_are o f net r on_b k.truth) ∙ zone_on_mask on_b f r.head.colours x y h
 
-in_layer : (tiles : List Corners) (rects : List Rect) (i : ℕ) (x y : ℤ) → HoldLayer tiles (map corners_of rects) →
-    i < length rects → IsIn (rect_at (map corners_of rects) i) x y → IsTrue (layer_of tiles x y)
+in_layer : (tiles : List Corners) (rects : List Rect) (i : ℕ) (x y : ℤ)
+    → HoldLayer tiles (map corners_of rects) → i < length rects → IsIn (rect_at (map corners_of rects) i) x y
+    → IsTrue (layer_of tiles x y)
 in_layer tiles rects i x y h l g =
     let m : i < length (map corners_of rects) = let n = length-map rects corners_of in omega arith in
     (h x y).1 (i, rect_at (map corners_of rects) i, m, get_or_default (map corners_of rects) i _ nowhere m, g)
 
-fragment_cell : (o : PlainOptions) (tiles : List Corners) (f : Fragments) (net : Net) (r : PlainReport) (on_b : Bool)
-    (x y : ℤ) → IsKnown o tiles f net r → IsOnFragment f.rects r.head.colours on_b x y → IsTrue (layer_of tiles x y)
+fragment_cell : (o : PlainOptions) (tiles : List Corners) (f : Fragments) (net : Net) (r : PlainReport) (on_b : Bool) (x y : ℤ)
+    → IsKnown o tiles f net r → IsOnFragment f.rects r.head.colours on_b x y → IsTrue (layer_of tiles x y)
 fragment_cell o tiles f net r on_b x y k h = in_layer tiles f.rects h.i x y k.hold h.within h.holds
 
 -- what is known of the zone that holds a cell
@@ -255,8 +259,8 @@ record IsZoneHere (o : PlainOptions) (tiles : List Corners) (f : Fragments) (x y
   is : IsCut (2 * o.overlap) tiles (map corners_of f.rects) f.tile cut.a cut.b (corners_of cut.zone)
   holds : IsIn (corners_of cut.zone) x y
 
-zone_here : (o : PlainOptions) (tiles : List Corners) (f : Fragments) (net : Net) (r : PlainReport) (x y : ℤ) →
-    IsKnown o tiles f net r → IsOnZone r.head.colours f.cuts x y → IsZoneHere o tiles f x y
+zone_here : (o : PlainOptions) (tiles : List Corners) (f : Fragments) (net : Net) (r : PlainReport) (x y : ℤ)
+    → IsKnown o tiles f net r → IsOnZone r.head.colours f.cuts x y → IsZoneHere o tiles f x y
 zone_here o tiles f net r x y k (i, c, l, e, p) = record {
   cut = c;
   keep = k.keep;
@@ -265,8 +269,8 @@ zone_here o tiles f net r x y k (i, c, l, e, p) = record {
   holds = p.1;
 }
 
-zone_cell : (o : PlainOptions) (tiles : List Corners) (f : Fragments) (net : Net) (r : PlainReport) (x y : ℤ) →
-    IsKnown o tiles f net r → IsOnZone r.head.colours f.cuts x y → IsTrue (layer_of tiles x y)
+zone_cell : (o : PlainOptions) (tiles : List Corners) (f : Fragments) (net : Net) (r : PlainReport) (x y : ℤ)
+    → IsKnown o tiles f net r → IsOnZone r.head.colours f.cuts x y → IsTrue (layer_of tiles x y)
 zone_cell o tiles f net r x y k h =
     let z = zone_here o tiles f net r x y k h in
     let n = length-map f.rects corners_of in
@@ -277,8 +281,8 @@ zone_cell o tiles f net r x y k h =
       | inr g ↦ in_layer tiles f.rects z.cut.b x y k.hold b g
     ]
 
-mask_cell : (o : PlainOptions) (tiles : List Corners) (f : Fragments) (net : Net) (r : PlainReport) (on_b : Bool)
-    (x y : ℤ) → IsKnown o tiles f net r → is_in_boxes (mask_boxes r on_b) x y ≡ true → layer_of tiles x y ≡ true
+mask_cell : (o : PlainOptions) (tiles : List Corners) (f : Fragments) (net : Net) (r : PlainReport) (on_b : Bool) (x y : ℤ)
+    → IsKnown o tiles f net r → is_in_boxes (mask_boxes r on_b) x y ≡ true → layer_of tiles x y ≡ true
 mask_cell o tiles f net r on_b x y k e = elim (on_mask o tiles f net r on_b x y k e) [
   | inl h ↦ true_is (layer_of tiles x y) (fragment_cell o tiles f net r on_b x y k h)
   | inr h ↦ true_is (layer_of tiles x y) (zone_cell o tiles f net r x y k h)
@@ -286,9 +290,9 @@ mask_cell o tiles f net r on_b x y k e = elim (on_mask o tiles f net r on_b x y 
 
 -- ---- together
 
-cell_on_fragment : (tiles : List Corners) (rects : List Rect) (colours : List Bool) (x y : ℤ) →
-    HoldLayer tiles (map corners_of rects) → IsTrue (layer_of tiles x y) → (on_b : Bool) ×
-    IsOnFragment rects colours on_b x y
+cell_on_fragment : (tiles : List Corners) (rects : List Rect) (colours : List Bool) (x y : ℤ)
+    → HoldLayer tiles (map corners_of rects) → IsTrue (layer_of tiles x y)
+    → (on_b : Bool) × IsOnFragment rects colours on_b x y
 cell_on_fragment tiles rects colours x y h c =
     let (i, q, l, e, g) = (h x y).0 c in
     let m : i < length rects = let n = length-map rects corners_of in omega arith in
@@ -296,15 +300,15 @@ cell_on_fragment tiles rects colours x y h c =
     subst P (sym (get_or_default (map corners_of rects) i nowhere q l ∙ e)) g in
     (colour_of colours i, record { i = i; within = m; own = refl; holds = g' })
 
-some_mask : (o : PlainOptions) (tiles : List Corners) (f : Fragments) (net : Net) (r : PlainReport) (x y : ℤ) →
-    IsKnown o tiles f net r → (on_b : Bool) → IsOnFragment f.rects r.head.colours on_b x y →
-    (is_in_boxes r.on_a x y || is_in_boxes r.on_b x y) ≡ true
+some_mask : (o : PlainOptions) (tiles : List Corners) (f : Fragments) (net : Net) (r : PlainReport) (x y : ℤ)
+    → IsKnown o tiles f net r → (on_b : Bool) → IsOnFragment f.rects r.head.colours on_b x y
+    → (is_in_boxes r.on_a x y || is_in_boxes r.on_b x y) ≡ true
 unfolding mask_boxes
 some_mask o tiles f net r x y k true h = or_right (is_in_boxes r.on_a x y) (is_in_boxes r.on_b x y) (fragment_is_on o tiles f net r true x y k h)
 some_mask o tiles f net r x y k false h = or_left (is_in_boxes r.on_a x y) (is_in_boxes r.on_b x y) (fragment_is_on o tiles f net r false x y k h)
 
-masks_together : (o : PlainOptions) (tiles : List Corners) (f : Fragments) (net : Net) (r : PlainReport) →
-    IsKnown o tiles f net r → HoldTogether (layer_of tiles) r
+masks_together : (o : PlainOptions) (tiles : List Corners) (f : Fragments) (net : Net) (r : PlainReport)
+    → IsKnown o tiles f net r → HoldTogether (layer_of tiles) r
 unfolding mask_boxes
 masks_together o tiles f net r k x y = both_ways (is_in_boxes r.on_a x y || is_in_boxes r.on_b x y) (layer_of tiles x y)
     (λ e. elim (or_cases (is_in_boxes r.on_a x y) (is_in_boxes r.on_b x y) e)
@@ -313,13 +317,13 @@ masks_together o tiles f net r k x y = both_ways (is_in_boxes r.on_a x y || is_i
 
 -- ---- overlap
 
-never_both : (rects : List Corners) (i j : ℕ) (x y : ℤ) → AllPairs AreApart rects → i < j → j < length rects →
-    IsIn (rect_at rects i) x y → IsIn (rect_at rects j) x y → ⊥
+never_both : (rects : List Corners) (i j : ℕ) (x y : ℤ) → AllPairs AreApart rects → i < j → j < length rects
+    → IsIn (rect_at rects i) x y → IsIn (rect_at rects j) x y → ⊥
 never_both rects i j x y a l m f g = a i j nowhere l m (record { x = x; y = y; first = f; second = g })
 
-not_on_both : (o : PlainOptions) (tiles : List Corners) (f : Fragments) (net : Net) (r : PlainReport) (x y : ℤ) →
-    IsKnown o tiles f net r → IsOnFragment f.rects r.head.colours false x y →
-    IsOnFragment f.rects r.head.colours true x y → ⊥
+not_on_both : (o : PlainOptions) (tiles : List Corners) (f : Fragments) (net : Net) (r : PlainReport) (x y : ℤ)
+    → IsKnown o tiles f net r → IsOnFragment f.rects r.head.colours false x y
+    → IsOnFragment f.rects r.head.colours true x y → ⊥
 not_on_both o tiles f net r x y k g h =
     let n = length-map f.rects corners_of in
     let i : g.i < length (map corners_of f.rects) = let w = g.within in omega arith in
@@ -332,14 +336,14 @@ not_on_both o tiles f net r x y k g h =
       ]
     ]
 
-line_zones : (o : PlainOptions) (tiles : List Corners) (f : Fragments) (net : Net) (r : PlainReport) →
-    IsKnown o tiles f net r → map (λ (z : PlainZone). z.corners) r.lists.cuts ≡ map corners_of
-    (zones_of r.head.colours f.cuts)
+line_zones : (o : PlainOptions) (tiles : List Corners) (f : Fragments) (net : Net) (r : PlainReport)
+    → IsKnown o tiles f net r
+    → map (λ (z : PlainZone). z.corners) r.lists.cuts ≡ map corners_of (zones_of r.head.colours f.cuts)
 line_zones o tiles f net r k = ap (map (λ (z : PlainZone). z.corners)) k.truth.cuts ∙ zones_are r.head.colours 0 net.graph.edges f.cuts k.take
 
-on_zone : (o : PlainOptions) (tiles : List Corners) (f : Fragments) (net : Net) (r : PlainReport) (x y : ℤ) →
-    IsKnown o tiles f net r → is_in_boxes r.on_a x y ≡ true → is_in_boxes r.on_b x y ≡ true →
-    IsOnZone r.head.colours f.cuts x y
+on_zone : (o : PlainOptions) (tiles : List Corners) (f : Fragments) (net : Net) (r : PlainReport) (x y : ℤ)
+    → IsKnown o tiles f net r → is_in_boxes r.on_a x y ≡ true → is_in_boxes r.on_b x y ≡ true
+    → IsOnZone r.head.colours f.cuts x y
 unfolding mask_boxes
 on_zone o tiles f net r x y k a b = elim (on_mask o tiles f net r false x y k a) [
   | inr z ↦ z
@@ -363,8 +367,8 @@ masks_overlap o tiles f net r k x y =
     (zone_is_on o tiles f net r true x y k z))
 
 -- each cut line shows the zone of its cut
-show_zones : (o : PlainOptions) (tiles : List Corners) (f : Fragments) (net : Net) (r : PlainReport) →
-    IsKnown o tiles f net r → All (ShowsZone (2 * o.overlap) tiles f) r.lists.cuts
+show_zones : (o : PlainOptions) (tiles : List Corners) (f : Fragments) (net : Net) (r : PlainReport)
+    → IsKnown o tiles f net r → All (ShowsZone (2 * o.overlap) tiles f) r.lists.cuts
 show_zones o tiles f net r k =
     let P : ℕ → ℕ → Corners → Type 0 = λ a b c. ShowsZone (2 * o.overlap) tiles f (record { at = record { edge = 0; a = a; b = b }; corners = c }) in
     let each : All (λ (c : Cut). P c.a c.b (corners_of c.zone)) f.cuts =
@@ -378,17 +382,17 @@ show_zones o tiles f net r k =
 -- ---- what is too close
 
 -- a cell that is too close to another one lies in no zone
-first_fragment : (o : PlainOptions) (tiles : List Corners) (f : Fragments) (net : Net) (r : PlainReport) (on_b : Bool)
-    (x y x' y' : ℤ) → IsKnown o tiles f net r → AreTooClose (layer_of tiles) (2 * o.space) x y x' y' →
-    is_in_boxes (mask_boxes r on_b) x y ≡ true → IsOnFragment f.rects r.head.colours on_b x y
+first_fragment : (o : PlainOptions) (tiles : List Corners) (f : Fragments) (net : Net) (r : PlainReport) (on_b : Bool) (x y x' y' : ℤ)
+    → IsKnown o tiles f net r → AreTooClose (layer_of tiles) (2 * o.space) x y x' y'
+    → is_in_boxes (mask_boxes r on_b) x y ≡ true → IsOnFragment f.rects r.head.colours on_b x y
 first_fragment o tiles f net r on_b x y x' y' k c e = elim (on_mask o tiles f net r on_b x y k e) [
   | inl h ↦ h
   | inr h ↦ let z = zone_here o tiles f net r x y k h in absurd (c.other (z.good.clear x y z.holds x' y' c.second c.near))
 ]
 
-second_fragment : (o : PlainOptions) (tiles : List Corners) (f : Fragments) (net : Net) (r : PlainReport) (on_b : Bool)
-    (x y x' y' : ℤ) → IsKnown o tiles f net r → AreTooClose (layer_of tiles) (2 * o.space) x y x' y' →
-    is_in_boxes (mask_boxes r on_b) x' y' ≡ true → IsOnFragment f.rects r.head.colours on_b x' y'
+second_fragment : (o : PlainOptions) (tiles : List Corners) (f : Fragments) (net : Net) (r : PlainReport) (on_b : Bool) (x y x' y' : ℤ)
+    → IsKnown o tiles f net r → AreTooClose (layer_of tiles) (2 * o.space) x y x' y'
+    → is_in_boxes (mask_boxes r on_b) x' y' ≡ true → IsOnFragment f.rects r.head.colours on_b x' y'
 second_fragment o tiles f net r on_b x y x' y' k c e = elim (on_mask o tiles f net r on_b x' y' k e) [
   | inl h ↦ h
   | inr h ↦ let z = zone_here o tiles f net r x' y' k h in
@@ -397,10 +401,10 @@ second_fragment o tiles f net r on_b x y x' y' k c e = elim (on_mask o tiles f n
 ]
 
 -- a clash whose pieces are those of two fragments of one colour is broken
-clash_breaks : (o : PlainOptions) (tiles : List Corners) (f : Fragments) (net : Net) (r : PlainReport) (on_b : Bool)
-    (i j n : ℕ) (e : Edge) → IsKnown o tiles f net r → i < length f.rects → j < length f.rects →
-    colour_of r.head.colours i ≡ on_b → colour_of r.head.colours j ≡ on_b → n < length net.graph.edges →
-    edge_at net.graph n ≡ e → IsClashOf net.pieces i j e → IsBrokenEdge net.graph r.head.colours Clash n
+clash_breaks : (o : PlainOptions) (tiles : List Corners) (f : Fragments) (net : Net) (r : PlainReport) (on_b : Bool) (i j n : ℕ) (e : Edge)
+    → IsKnown o tiles f net r → i < length f.rects → j < length f.rects → colour_of r.head.colours i ≡ on_b
+    → colour_of r.head.colours j ≡ on_b → n < length net.graph.edges → edge_at net.graph n ≡ e
+    → IsClashOf net.pieces i j e → IsBrokenEdge net.graph r.head.colours Clash n
 clash_breaks o tiles f net r on_b i j n e k l m ci cj w is c =
     let b : e.b < length f.rects = subst (λ (d : Edge). d.b < length f.rects) is (k.ends n no_edge w) in
     let a : e.a < length f.rects = let h = e.ordered in omega arith in
@@ -415,8 +419,9 @@ clash_breaks o tiles f net r on_b i j n e k l m ci cj w is c =
       broken = ap (breaks r.head.colours) is ∙ broken;
     }
 
-joins : (net : Net) (colours : List Bool) (i j n : ℕ) (e : Edge) (b : Broken) → edge_at net.graph n ≡ e → b.edge ≡ n →
-    NamesBroken net.graph colours Clash b → IsClashOf net.pieces i j e → JoinsPieces net.pieces i j b
+joins : (net : Net) (colours : List Bool) (i j n : ℕ) (e : Edge) (b : Broken) → edge_at net.graph n ≡ e
+    → b.edge ≡ n → NamesBroken net.graph colours Clash b → IsClashOf net.pieces i j e
+    → JoinsPieces net.pieces i j b
 joins net colours i j n e b is same names c =
     let at : edge_at net.graph b.edge ≡ e = ap (edge_at net.graph) same ∙ is in
     let first : piece_of net.pieces b.a ≡ piece_of net.pieces e.a = ap (piece_of net.pieces) (names.first ∙ ap (λ (d : Edge). d.a) at) in
@@ -426,10 +431,10 @@ joins net colours i j n e b is same names c =
       | inr p ↦ inr (first ∙ p.0, second ∙ p.1)
     ]
 
-told_on : (o : PlainOptions) (tiles : List Corners) (f : Fragments) (net : Net) (r : PlainReport) (on_b : Bool)
-    (x y x' y' : ℤ) → IsKnown o tiles f net r → NameAllBroken net.graph r.head.colours Clash (λ b. b) r.lists.clashes →
-    AreTooClose (layer_of tiles) (2 * o.space) x y x' y' → is_in_boxes (mask_boxes r on_b) x y ≡ true →
-    is_in_boxes (mask_boxes r on_b) x' y' ≡ true → AreToldClose f net r x y x' y'
+told_on : (o : PlainOptions) (tiles : List Corners) (f : Fragments) (net : Net) (r : PlainReport) (on_b : Bool) (x y x' y' : ℤ)
+    → IsKnown o tiles f net r → NameAllBroken net.graph r.head.colours Clash (λ b. b) r.lists.clashes
+    → AreTooClose (layer_of tiles) (2 * o.space) x y x' y' → is_in_boxes (mask_boxes r on_b) x y ≡ true
+    → is_in_boxes (mask_boxes r on_b) x' y' ≡ true → AreToldClose f net r x y x' y'
 told_on o tiles f net r on_b x y x' y' k named c p q =
     let g = first_fragment o tiles f net r on_b x y x' y' k c p in
     let h = second_fragment o tiles f net r on_b x y x' y' k c q in
@@ -448,18 +453,19 @@ told_on o tiles f net r on_b x y x' y' k named c p q =
       told = (v, b, w, t, joins net r.head.colours g.i h.i m e b at same names is);
     }
 
-masks_told : (o : PlainOptions) (tiles : List Corners) (f : Fragments) (net : Net) (r : PlainReport) →
-    IsKnown o tiles f net r → NameAllBroken net.graph r.head.colours Clash (λ b. b) r.lists.clashes → (x y x' y' : ℤ) →
-    AreTooClose (layer_of tiles) (2 * o.space) x y x' y' → AreOnOneMask r x y x' y' → AreToldClose f net r x y x' y'
+masks_told : (o : PlainOptions) (tiles : List Corners) (f : Fragments) (net : Net) (r : PlainReport)
+    → IsKnown o tiles f net r → NameAllBroken net.graph r.head.colours Clash (λ b. b) r.lists.clashes
+    → (x y x' y' : ℤ) → AreTooClose (layer_of tiles) (2 * o.space) x y x' y' → AreOnOneMask r x y x' y'
+    → AreToldClose f net r x y x' y'
 unfolding mask_boxes
 masks_told o tiles f net r k named x y x' y' c m = elim m [
   | inl p ↦ told_on o tiles f net r false x y x' y' k named c (true_is _ p.0) (true_is _ p.1)
   | inr p ↦ told_on o tiles f net r true x y x' y' k named c (true_is _ p.0) (true_is _ p.1)
 ]
 
-one_mask : (o : PlainOptions) (tiles : List Corners) (f : Fragments) (net : Net) (r : PlainReport) (on_b : Bool)
-    (x y x' y' : ℤ) → IsKnown o tiles f net r → IsOnFragment f.rects r.head.colours on_b x y →
-    IsOnFragment f.rects r.head.colours on_b x' y' → AreOnOneMask r x y x' y'
+one_mask : (o : PlainOptions) (tiles : List Corners) (f : Fragments) (net : Net) (r : PlainReport) (on_b : Bool) (x y x' y' : ℤ)
+    → IsKnown o tiles f net r → IsOnFragment f.rects r.head.colours on_b x y
+    → IsOnFragment f.rects r.head.colours on_b x' y' → AreOnOneMask r x y x' y'
 unfolding mask_boxes
 one_mask o tiles f net r false x y x' y' k g h = inl (
   is_true (fragment_is_on o tiles f net r false x y k g),
@@ -470,9 +476,9 @@ one_mask o tiles f net r true x y x' y' k g h = inr (
   is_true (fragment_is_on o tiles f net r true x' y' k h),
 )
 
-line_tells : (o : PlainOptions) (tiles : List Corners) (f : Fragments) (net : Net) (r : PlainReport) (b : Broken) →
-    IsKnown o tiles f net r → NamesBroken net.graph r.head.colours Clash b →
-    TellsClose (layer_of tiles) (2 * o.space) f r b
+line_tells : (o : PlainOptions) (tiles : List Corners) (f : Fragments) (net : Net) (r : PlainReport) (b : Broken)
+    → IsKnown o tiles f net r → NamesBroken net.graph r.head.colours Clash b
+    → TellsClose (layer_of tiles) (2 * o.space) f r b
 line_tells o tiles f net r b k names =
     let e = edge_at net.graph b.edge in
     let w = names.edge.within in
@@ -506,8 +512,8 @@ clash_numbers r v = fit_rises ClashFits (λ (b : Broken). b.edge) (λ s b h. h.0
 cut_numbers : (r : PlainReport) → IsReport r → AllPairs (λ (y z : PlainZone). y.at.edge < z.at.edge) r.lists.cuts
 cut_numbers r v = fit_rises CutFits (λ (z : PlainZone). z.at.edge) (λ s z h. h.0) 0 r.lists.cuts v.lists.cuts
 
-known_masks : (o : PlainOptions) (tiles : List Corners) (f : Fragments) (net : Net) (r : PlainReport) →
-    IsKnown o tiles f net r → AreMasksOf o (layer_of tiles) tiles f net r
+known_masks : (o : PlainOptions) (tiles : List Corners) (f : Fragments) (net : Net) (r : PlainReport)
+    → IsKnown o tiles f net r → AreMasksOf o (layer_of tiles) tiles f net r
 known_masks o tiles f net r k =
     let named = clashes_are_named net.graph r.head.colours r.lists.clashes k.truth.clashes (clash_numbers r k.valid) in
     record {
@@ -529,9 +535,9 @@ even : (n : ℕ) → 2 * n % 2 ≡ 0
 even n = omega arith
 
 -- the masks of a report that fails nowhere are those of the layer from which its fragments are cut
-pub masks_of_layer : (o : PlainOptions) (cells : ℤ → ℤ → Bool) (tiles : List Corners) (f : Fragments) (net : Net)
-    (r : PlainReport) → AreOptions o → IsReport r → refusal_of o f net r ≡ None → IsNet f o.weights (2 * o.space) net →
-    AreCutFrom o cells tiles f → AreMasksOf o cells tiles f net r
+pub masks_of_layer : (o : PlainOptions) (cells : ℤ → ℤ → Bool) (tiles : List Corners) (f : Fragments) (net : Net) (r : PlainReport)
+    → AreOptions o → IsReport r → refusal_of o f net r ≡ None → IsNet f o.weights (2 * o.space) net
+    → AreCutFrom o cells tiles f → AreMasksOf o cells tiles f net r
 masks_of_layer o cells tiles f net r ranges v good n c =
     let t = good_is_true o f net r ranges v good in
     let a = c.fragments in

@@ -15,8 +15,8 @@ use Rattle.dpl_good.specs.Verdicts.{IsRefusal, refusal_of}
 use Rattle.dpl_good.proofs.FirstWrong.{one_first_wrong}
 
 -- a text is that of one report
-pub one_report : (text : List ℕ) (r s : PlainReport) → IsReport r → text ≡ report_text r → IsReport s →
-    text ≡ report_text s → r ≡ s
+pub one_report : (text : List ℕ) (r s : PlainReport) → IsReport r → text ≡ report_text r → IsReport s
+    → text ≡ report_text s → r ≡ s
 one_report text r s f d g e = same_text r s f g (sym d ∙ e)
 
 -- condition 1 at this line
@@ -24,8 +24,8 @@ abbrev at_line : ℕ → Refusal
 at_line n = record { reason = 1; at = miss n (pos 0) (pos 0) }
 
 -- a text has at most one refusal
-pub one_refusal : (o : PlainOptions) (f : Fragments) (net : Net) (text : List ℕ) (x y : Refusal) →
-    IsRefusal o f net text x → IsRefusal o f net text y → x ≡ y
+pub one_refusal : (o : PlainOptions) (f : Fragments) (net : Net) (text : List ℕ) (x y : Refusal)
+    → IsRefusal o f net text x → IsRefusal o f net text y → x ≡ y
 one_refusal o f net text x y (inl p) (inl q) =
     p.told ∙ ap at_line (one_first_wrong report_lines IsReport (lines_in text) p.place q.place p.first q.first) ∙
     sym q.told

@@ -88,8 +88,9 @@ layer_none : (place : ℕ) (a b : List ℕ) → is_name a ≡ true → is_name b
 layer_none place a b m n e = name_none place a b (name_bytes_each a (name_bytes a m)) (name_bytes_each b (name_bytes b n)) e
 
 -- no name is empty
-keep_none : (place : ℕ) (a b : Option (List ℕ)) → IfSome a (λ n. is_name n ≡ true) → IfSome b (λ n. is_name n ≡ true) →
-    name_miss place (name_or_nothing a) (name_or_nothing b) ≡ None → a ≡ b
+keep_none : (place : ℕ) (a b : Option (List ℕ)) → IfSome a (λ n. is_name n ≡ true)
+    → IfSome b (λ n. is_name n ≡ true) → name_miss place (name_or_nothing a) (name_or_nothing b) ≡ None
+    → a ≡ b
 keep_none place None None m n e = refl
 keep_none place None (Some b) m n e =
     let same : [] ≡ b = name_none place [] b tt (name_bytes_each b (name_bytes b n)) e in
@@ -254,8 +255,8 @@ option_names : (o : PlainOptions) → AreOptions o → AreNames o.layer o.keep
 option_names o a = record { layer_is = a.layer.0; keep_is = kept_name o.keep a.keep }
 
 -- a report that fails by no condition says the truth
-pub good_is_true : (o : PlainOptions) (f : Fragments) (net : Net) (r : PlainReport) → AreOptions o → IsReport r →
-    refusal_of o f net r ≡ None → SaysTrue o f net r
+pub good_is_true : (o : PlainOptions) (f : Fragments) (net : Net) (r : PlainReport) → AreOptions o
+    → IsReport r → refusal_of o f net r ≡ None → SaysTrue o f net r
 good_is_true o f net r ranges v n =
     let g = net.graph in
     let c2 = either_none (refused 2 (params_miss r.head.params o)) (counts_refusal f net r) n in

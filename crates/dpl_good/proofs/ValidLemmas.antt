@@ -57,16 +57,16 @@ zone_fits e n edge cut m k b = record {
   corners = rectangle cut.zone;
 }
 
-with_zone : (t : Bool) (least e : ℕ) (z : PlainZone) (zs : List PlainZone) → least ≤ e → z.at.edge ≡ e → IsZone z →
-    FitFrom CutFits (λ (y : PlainZone). y.at.edge + 1) (e + 1) zs →
-    FitFrom CutFits (λ (y : PlainZone). y.at.edge + 1) least zs →
-    FitFrom CutFits (λ (y : PlainZone). y.at.edge + 1) least (where_zone t z zs)
+with_zone : (t : Bool) (least e : ℕ) (z : PlainZone) (zs : List PlainZone) → least ≤ e → z.at.edge ≡ e
+    → IsZone z → FitFrom CutFits (λ (y : PlainZone). y.at.edge + 1) (e + 1) zs
+    → FitFrom CutFits (λ (y : PlainZone). y.at.edge + 1) least zs
+    → FitFrom CutFits (λ (y : PlainZone). y.at.edge + 1) least (where_zone t z zs)
 with_zone true least e z zs l s i f g = ((omega (arith, l, s), i), rw s f)
 with_zone false least e z zs l s i f g = g
 
-cuts_fit : (colours : List Bool) (least e n : ℕ) (edges : List Edge) (cuts : List Cut) → least ≤ e →
-    e + length edges ≤ 400000 → n < 2 ^ 31 → All (λ (d : Edge). d.b < n) edges →
-    FitFrom CutFits (λ (y : PlainZone). y.at.edge + 1) least (cuts_from colours e edges cuts)
+cuts_fit : (colours : List Bool) (least e n : ℕ) (edges : List Edge) (cuts : List Cut) → least ≤ e
+    → e + length edges ≤ 400000 → n < 2 ^ 31 → All (λ (d : Edge). d.b < n) edges
+    → FitFrom CutFits (λ (y : PlainZone). y.at.edge + 1) least (cuts_from colours e edges cuts)
 unfolding zone_of
 cuts_fit colours least e n [] cuts l m k b = tt
 cuts_fit colours least e n (edge ∷ edges) [] l m k b =
@@ -80,17 +80,17 @@ cuts_fit colours least e n (edge ∷ edges) (cut ∷ cuts) l m k b =
     (cuts_fit colours (e + 1) (e + 1) n edges left (omega arith) (omega arith) k tail)
     (cuts_fit colours least (e + 1) n edges left (omega arith) (omega arith) k tail)
 
-with_clash : (t : Bool) (least e n : ℕ) (edge : Edge) (bs : List Broken) → least ≤ e → e ≤ 400000 → n < 2 ^ 31 →
-    edge.b < n → FitFrom ClashFits (λ (b : Broken). b.edge + 1) (e + 1) bs →
-    FitFrom ClashFits (λ (b : Broken). b.edge + 1) least bs →
-    FitFrom ClashFits (λ (b : Broken). b.edge + 1) least (where_broken t (broken_of e edge) bs)
+with_clash : (t : Bool) (least e n : ℕ) (edge : Edge) (bs : List Broken) → least ≤ e → e ≤ 400000 → n < 2 ^ 31
+    → edge.b < n → FitFrom ClashFits (λ (b : Broken). b.edge + 1) (e + 1) bs
+    → FitFrom ClashFits (λ (b : Broken). b.edge + 1) least bs
+    → FitFrom ClashFits (λ (b : Broken). b.edge + 1) least (where_broken t (broken_of e edge) bs)
 unfolding broken_of
 with_clash true least e n edge bs l m k b f g = ((l, record { edge = omega (arith, m); a = omega (arith, edge.ordered, b, k); b = omega (arith, b, k) }), f)
 with_clash false least e n edge bs l m k b f g = g
 
-clashes_fit : (colours : List Bool) (least e n : ℕ) (edges : List Edge) → least ≤ e → e + length edges ≤ 400000 →
-    n < 2 ^ 31 → All (λ (d : Edge). d.b < n) edges → FitFrom ClashFits (λ (b : Broken). b.edge + 1) least
-    (clashes_from colours e edges)
+clashes_fit : (colours : List Bool) (least e n : ℕ) (edges : List Edge) → least ≤ e
+    → e + length edges ≤ 400000 → n < 2 ^ 31 → All (λ (d : Edge). d.b < n) edges
+    → FitFrom ClashFits (λ (b : Broken). b.edge + 1) least (clashes_from colours e edges)
 unfolding broken_of
 clashes_fit colours least e n [] l m k b = tt
 clashes_fit colours least e n (edge ∷ edges) l m k b =
@@ -123,8 +123,8 @@ unfolding AreBelow
 below_push n [] b = (omega arith, tt)
 below_push n (x ∷ xs) b = (omega (arith, b.0), below_push n xs b.1)
 
-aside_next : (t : Bool) (n : ℕ) (xs : List ℕ) → n ≤ 4294967295 → AreRising 0 xs × AreBelow n xs →
-    AreRising 0 (if t then xs ++ n ∷ [] else xs) × AreBelow (suc n) (if t then xs ++ n ∷ [] else xs)
+aside_next : (t : Bool) (n : ℕ) (xs : List ℕ) → n ≤ 4294967295 → AreRising 0 xs × AreBelow n xs
+    → AreRising 0 (if t then xs ++ n ∷ [] else xs) × AreBelow (suc n) (if t then xs ++ n ∷ [] else xs)
 aside_next true n xs m h = (rising_push 0 n xs (omega arith) m h.1 h.0, below_push n xs h.1)
 aside_next false n xs m h = (h.0, below_more n xs h.1)
 
@@ -155,8 +155,9 @@ start_fits g v w (e ∷ es) s p =
       | inr t ↦ omega (arith, below, t.0, g.few_nodes)
     ]
 
-cycles_fit : (g : Signed) (cs : List Cycle) → bound_of cs ≤ 1000000000000 → length g.edges ≤ 400000 →
-    All (λ (c : Cycle). 1 ≤ c.half) cs → All (λ (c : Cycle). IsOddWalk g c.walk) cs → AllByRecursion IsCycle cs
+cycles_fit : (g : Signed) (cs : List Cycle) → bound_of cs ≤ 1000000000000 → length g.edges ≤ 400000
+    → All (λ (c : Cycle). 1 ≤ c.half) cs → All (λ (c : Cycle). IsOddWalk g c.walk) cs
+    → AllByRecursion IsCycle cs
 cycles_fit g [] b l h o = tt
 cycles_fit g (c ∷ cs) b l h o =
     let split = sum_by-cons (λ (x : Cycle). x.half) c cs in
@@ -183,8 +184,8 @@ weight_small colours edge = by_test (breaks colours edge) where
 cost_small : (g : Signed) (colours : List Bool) → length g.edges ≤ 400000 → cost_of g colours ≤ 400000000000
 cost_small g colours l = omega (arith, sum_by-le (broken_weight colours) 1000000 g.edges (λ k d m. weight_small colours (get_or g.edges k d)), l)
 
-more_fits : (c : Option ℕ) (k : Option (List ℕ)) (conflict corner : ℕ) → corner_weight c conflict ≡ corner →
-    corner ≤ 1000000 → IfSome k IsSplitLayer → (c ≡ None → k ≡ None) → AreMore c k
+more_fits : (c : Option ℕ) (k : Option (List ℕ)) (conflict corner : ℕ) → corner_weight c conflict ≡ corner
+    → corner ≤ 1000000 → IfSome k IsSplitLayer → (c ≡ None → k ≡ None) → AreMore c k
 more_fits None k conflict corner e m f h = h refl
 more_fits (Some n) k conflict corner e m f h = (omega (arith, e, m), f)
 
@@ -223,9 +224,9 @@ counts_fit net p l = record {
 }
 
 -- a report that says the truth of a net within the limits is one that has a text
-pub true_is_valid : (o : PlainOptions) (f : Fragments) (net : Net) (r : PlainReport) → SaysTrue o f net r →
-    AreOptions o → (r.head.params.corner ≡ None → r.head.params.keep ≡ None) → net.piece_count ≤ 1000000000000 →
-    length net.graph.edges ≤ 400000 → IsReport r
+pub true_is_valid : (o : PlainOptions) (f : Fragments) (net : Net) (r : PlainReport) → SaysTrue o f net r
+    → AreOptions o → (r.head.params.corner ≡ None → r.head.params.keep ≡ None)
+    → net.piece_count ≤ 1000000000000 → length net.graph.edges ≤ 400000 → IsReport r
 true_is_valid o f net r t n h p l =
     let g = net.graph in
     let small = cost_small g r.head.colours l in

@@ -63,8 +63,9 @@ one_goes g cycle start e es place v before ih true f k =
     (record { path = (f, d.0.path); odd = d.0.odd }, omega (arith, d.1))
 one_goes g cycle start e es place v before ih false f k = let bad = rw (f, walk_miss) at k in absurd (cc)
 
-walk_goes : (g : Signed) (cycle start : ℕ) (es : List ℕ) (place v : ℕ) (before : Bool) →
-    walk_miss g cycle start es place v before ≡ None → Goes g start es place v before × (place + length es ≢ 1)
+walk_goes : (g : Signed) (cycle start : ℕ) (es : List ℕ) (place v : ℕ) (before : Bool)
+    → walk_miss g cycle start es place v before ≡ None
+    → Goes g start es place v before × (place + length es ≢ 1)
 unfolding odd_after
 walk_goes g cycle start [] place v before e =
     let d = end_goes g cycle start place v before e in
@@ -76,8 +77,8 @@ walk_goes g cycle start (e ∷ es) place v before h = one_goes g cycle start e e
 not_equal : (place : ℕ) → place ≢ 1 → (place == 1) ≡ false
 not_equal place n = grind (arith, nat_tests)
 
-walk_again : (g : Signed) (cycle start : ℕ) (es : List ℕ) (place v : ℕ) (before : Bool) → IsPath g v es start →
-    odd_after g before es ≡ true → place + length es ≢ 1 → walk_miss g cycle start es place v before ≡ None
+walk_again : (g : Signed) (cycle start : ℕ) (es : List ℕ) (place v : ℕ) (before : Bool) → IsPath g v es start
+    → odd_after g before es ≡ true → place + length es ≢ 1 → walk_miss g cycle start es place v before ≡ None
 unfolding odd_after
 walk_again g cycle start [] place v before p o n =
     let m : place ≢ 1 = omega (arith, n) in
@@ -92,9 +93,8 @@ odd_bit true e = refl
 odd_bit false e = absurd (omega arith)
 
 -- no miss exactly at an odd walk
-pub walk_is_odd : (g : Signed) (cycle : ℕ) (w : Walk) →
-    (walk_miss g cycle w.start w.edges 1 w.start false ≡ None → IsOddWalk g w) ×
-    (IsOddWalk g w → walk_miss g cycle w.start w.edges 1 w.start false ≡ None)
+pub walk_is_odd : (g : Signed) (cycle : ℕ) (w : Walk)
+    → (walk_miss g cycle w.start w.edges 1 w.start false ≡ None → IsOddWalk g w) × (IsOddWalk g w → walk_miss g cycle w.start w.edges 1 w.start false ≡ None)
 unfolding bit
 walk_is_odd g cycle w = (
   λ e.

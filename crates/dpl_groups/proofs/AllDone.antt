@@ -21,8 +21,8 @@ pub last_top : (w : Walk) (i : ℕ) → 0 < length w.stack.items → i ≡ get_o
 unfolding view
 last_top w i h e = record { busy = h; top = sym e }
 
-pub opened_first : (g : Graph) (a b : Walk) (y : ℕ) → IsWalk g (view a) → y < length g → (view a).mark y ≡ New →
-    a.stack.items ≡ [] → view b ≡ opened (view a) y → IsWalk g (view b)
+pub opened_first : (g : Graph) (a b : Walk) (y : ℕ) → IsWalk g (view a) → y < length g → (view a).mark y ≡ New
+    → a.stack.items ≡ [] → view b ≡ opened (view a) y → IsWalk g (view b)
 opened_first g a b y I h new empty e = subst (IsWalk g) (sym e) (opened_kept g (view a) I y h new (inl (empty_height a empty)))
 
 pub opened_seen : (a b : Walk) (y x : ℕ) → view b ≡ opened (view a) y → (view a).mark x ≢ New → (view b).mark x ≢ New
@@ -36,8 +36,8 @@ opened_node a b y e = subst (λ (v : View). v.mark y ≢ New) (sym e)
     (λ m. open_new (view a).depth (sym (set_same (view a).mark y y (Open (view a).depth) refl) ∙ m))
 
 -- all nodes are done once all were visited
-pub all_done : (g : Graph) (w : Walk) (n : ℕ) → IsWalk g (view w) → w.stack.items ≡ [] → length g ≤ n →
-    ((x : ℕ) → x < n → (view w).mark x ≢ New) → AreDone w.marks.items
+pub all_done : (g : Graph) (w : Walk) (n : ℕ) → IsWalk g (view w) → w.stack.items ≡ [] → length g ≤ n
+    → ((x : ℕ) → x < n → (view w).mark x ≢ New) → AreDone w.marks.items
 unfolding view
 all_done g w n I empty all seen x h = by (get_or w.marks.items x New) refl
   where
@@ -52,8 +52,8 @@ label_at [] x l e = cc
 label_at (m ∷ ms) zero l e = ap label_of e
 label_at (m ∷ ms) (suc x) l e = label_at ms x l e
 
-pub are_groups : (g : Graph) (w : Walk) (labels heads : List ℕ) → IsWalk g (view w) → AreDone w.marks.items →
-    labels ≡ map label_of w.marks.items → heads ≡ w.heads.items → AreGroups g labels heads
+pub are_groups : (g : Graph) (w : Walk) (labels heads : List ℕ) → IsWalk g (view w) → AreDone w.marks.items
+    → labels ≡ map label_of w.marks.items → heads ≡ w.heads.items → AreGroups g labels heads
 unfolding view
 are_groups g w labels heads I done el eh =
     let size : length w.marks.items ≡ length g = I.size in

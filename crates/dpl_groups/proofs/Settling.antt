@@ -19,8 +19,8 @@ pub on_both : {A E P Q R : Type 0} (r : Result A E) → (P → Q → R) → OnOk
 on_both (Ok a) f p q = f p q
 on_both (Err e) f p q = tt
 
-pub look_edge : (g : Graph) (x : ℕ) (list : List ℕ) (left : ℕ) → list ≡ next_of g x → 0 < left → left ≤ length list →
-    IsEdge g x (get_or list (length list - left) 0)
+pub look_edge : (g : Graph) (x : ℕ) (list : List ℕ) (left : ℕ) → list ≡ next_of g x → 0 < left
+    → left ≤ length list → IsEdge g x (get_or list (length list - left) 0)
 look_edge g x list left e more few =
     let long : length list ≡ length (next_of g x) = ap (λ (xs : List ℕ). length xs) e in record {
       k = length list - left;
@@ -28,8 +28,8 @@ look_edge g x list left e more few =
       there = ap (λ (xs : List ℕ). get_or xs (length list - left) 0) (sym e);
     }
 
-pub same_next : (g : Graph) (x : ℕ) (list : List ℕ) (left l : ℕ) → list ≡ next_of g x → left ≡ l →
-    get_or list (length list - left) 0 ≡ get_or (next_of g x) (length (next_of g x) - l) 0
+pub same_next : (g : Graph) (x : ℕ) (list : List ℕ) (left l : ℕ) → list ≡ next_of g x → left ≡ l
+    → get_or list (length list - left) 0 ≡ get_or (next_of g x) (length (next_of g x) - l) 0
 same_next g x list left l e el = rw (e, el) refl
 
 pub top_node : (g : Graph) (v : View) (x : ℕ) → IsWalk g v → IsTopNode v x → x < length g
@@ -46,8 +46,8 @@ pub record IsRead (w : Walk) (place n : ℕ) : Type 0 where
   pub within : n < length w.left.items
 
 -- what was read at the top of the path is that node
-pub top_read : (g : Graph) (w : Walk) (place n d : ℕ) → IsWalk g (view w) → IsTop (view w) place →
-    n ≡ get_or w.path.items place d → IsRead w place n
+pub top_read : (g : Graph) (w : Walk) (place n d : ℕ) → IsWalk g (view w) → IsTop (view w) place
+    → n ≡ get_or w.path.items place d → IsRead w place n
 top_read g w place n d walk top e =
     let node = read_path w place n d (path_deep g w place walk top) e in
     let at = node_of_top (view w) place n top node in
@@ -120,8 +120,8 @@ module _ (g : Graph) (v : View) (I : IsWalk g v) (x y : ℕ) (t : IsTopNode v x)
   }
 
 -- the settled edge was the next one
-pub look_kept : (g : Graph) (v v' w : View) (x y : ℕ) → Settles g v v' x y → 0 < v.left x →
-    y ≡ get_or (next_of g x) (length (next_of g x) - v.left x) 0 → w ≡ looked v' x → IsWalk g w
+pub look_kept : (g : Graph) (v v' w : View) (x y : ℕ) → Settles g v v' x y → 0 < v.left x
+    → y ≡ get_or (next_of g x) (length (next_of g x) - v.left x) 0 → w ≡ looked v' x → IsWalk g w
 look_kept g v v' w x y s more ey ew =
     let same : v'.left x ≡ v.left x = ap (λ (f : ℕ → ℕ). f x) s.left in
     let seen : IsSettled v' s.at (get_or (next_of g x) (length (next_of g x) - v'.left x) 0) = rw same (subst (IsSettled v' s.at) ey s.settled) in
@@ -168,9 +168,9 @@ pub record Looking (g : Graph) (w : Walk) (x : ℕ) (list : List ℕ) (left : �
   pub more : 0 < left
   pub few : left ≤ length list
 
-pub looking : (g : Graph) (w : Walk) (x : ℕ) (list entry : List ℕ) (left : ℕ) → IsWalk g (view w) →
-    IsTopNode (view w) x → 0 < get_or w.left.items x 0 → list ≡ entry → entry ≡ get_or g x entry →
-    left ≡ get_or w.left.items x left → Looking g w x list left
+pub looking : (g : Graph) (w : Walk) (x : ℕ) (list entry : List ℕ) (left : ℕ) → IsWalk g (view w)
+    → IsTopNode (view w) x → 0 < get_or w.left.items x 0 → list ≡ entry → entry ≡ get_or g x entry
+    → left ≡ get_or w.left.items x left → Looking g w x list left
 looking g w x list entry left I t more el ee eq =
     let size : length w.left.items ≡ length g = left_size g w I in
     let here : x < length g = top_node g (view w) x I t in

@@ -48,11 +48,11 @@ take_view xs n = fun_ext (λ i. elim (cases_le n i) [
     past : (i : ℕ) → n ≤ i → below (λ k. get_or xs k 0) n i ≡ 0
     past i le = grind (arith, common_steps)
 
-pub opened_view : (a b : Walk) (y : ℕ) → y < length a.marks.items →
-    b.marks.items ≡ set a.marks.items y (Open (length a.path.items)) → b.left.items ≡ a.left.items →
-    b.path.items ≡ a.path.items ++ y ∷ [] → b.starts.items ≡ a.starts.items ++ length a.path.items ∷ [] →
-    b.stack.items ≡ a.stack.items ++ length a.path.items ∷ [] → b.heads.items ≡ a.heads.items →
-    view b ≡ opened (view a) y
+pub opened_view : (a b : Walk) (y : ℕ) → y < length a.marks.items
+    → b.marks.items ≡ set a.marks.items y (Open (length a.path.items)) → b.left.items ≡ a.left.items
+    → b.path.items ≡ a.path.items ++ y ∷ [] → b.starts.items ≡ a.starts.items ++ length a.path.items ∷ []
+    → b.stack.items ≡ a.stack.items ++ length a.path.items ∷ [] → b.heads.items ≡ a.heads.items
+    → view b ≡ opened (view a) y
 unfolding view
 opened_view a b y h em el ep es ek eh =
     let place : ℕ = length a.path.items in
@@ -85,8 +85,9 @@ get_count (e ∷ g) zero = refl
 get_count (e ∷ g) (suc x) = get_count g x
 
 -- nothing has been seen
-unseen : (g : Graph) (v : View) → v.size ≡ length g → v.lefts ≡ length g → ((x : ℕ) → v.mark x ≡ New) →
-    ((x : ℕ) → v.left x ≡ length (next_of g x)) → v.depth ≡ 0 → v.tops ≡ 0 → v.height ≡ 0 → v.count ≡ 0 → IsWalk g v
+unseen : (g : Graph) (v : View) → v.size ≡ length g → v.lefts ≡ length g → ((x : ℕ) → v.mark x ≡ New)
+    → ((x : ℕ) → v.left x ≡ length (next_of g x)) → v.depth ≡ 0 → v.tops ≡ 0 → v.height ≡ 0 → v.count ≡ 0
+    → IsWalk g v
 unseen g v size lefts new left depth tops height count = record {
   size = size;
   lefts = lefts;
@@ -113,9 +114,9 @@ unseen g v size lefts new left depth tops height count = record {
   own = λ l h. absurd (omega arith);
 }
 
-pub new_walk : (g : Graph) (w : Walk) → w.marks.items ≡ replicate (length g) New →
-    w.left.items ≡ map (λ e. length e) g → w.path.items ≡ [] → w.starts.items ≡ [] → w.stack.items ≡ [] →
-    w.heads.items ≡ [] → IsWalk g (view w)
+pub new_walk : (g : Graph) (w : Walk) → w.marks.items ≡ replicate (length g) New
+    → w.left.items ≡ map (λ e. length e) g → w.path.items ≡ [] → w.starts.items ≡ [] → w.stack.items ≡ []
+    → w.heads.items ≡ [] → IsWalk g (view w)
 unfolding view
 new_walk g w em el ep es ek eh = unseen g (view w)
     (rw em (length-replicate (length g) New))
@@ -124,22 +125,22 @@ new_walk g w em el ep es ek eh = unseen g (view w)
     (λ x. rw el (get_count g x))
     (rw ep refl) (rw es refl) (rw ek refl) (rw eh refl)
 
-pub popped_view : (a b : Walk) → b.marks.items ≡ a.marks.items → b.left.items ≡ a.left.items →
-    b.path.items ≡ a.path.items → b.starts.items ≡ a.starts.items →
-    b.stack.items ≡ take (length a.stack.items - 1) a.stack.items → b.heads.items ≡ a.heads.items →
-    view b ≡ popped (view a)
+pub popped_view : (a b : Walk) → b.marks.items ≡ a.marks.items → b.left.items ≡ a.left.items
+    → b.path.items ≡ a.path.items → b.starts.items ≡ a.starts.items
+    → b.stack.items ≡ take (length a.stack.items - 1) a.stack.items → b.heads.items ≡ a.heads.items
+    → view b ≡ popped (view a)
 unfolding view
 popped_view a b em el ep es ek eh =
     let short : length (take (length a.stack.items - 1) a.stack.items) ≡ length a.stack.items - 1 =
     length_of_take a.stack.items (length a.stack.items - 1) (omega arith) in
     rw (em, el, ep, es, ek, eh, short, take_view a.stack.items (length a.stack.items - 1)) refl
 
-pub closed_view : (a b : Walk) (i : ℕ) → i < length a.path.items → length b.marks.items ≡ length a.marks.items →
-    ((x : ℕ) → get_or b.marks.items x New ≡ shut i (length a.heads.items) (get_or a.marks.items x New)) →
-    b.left.items ≡ a.left.items → b.path.items ≡ take i a.path.items →
-    b.starts.items ≡ take (length a.starts.items - 1) a.starts.items →
-    b.stack.items ≡ take (length a.stack.items - 1) a.stack.items →
-    b.heads.items ≡ a.heads.items ++ get_or a.path.items i 0 ∷ [] → view b ≡ closed (view a) i
+pub closed_view : (a b : Walk) (i : ℕ) → i < length a.path.items → length b.marks.items ≡ length a.marks.items
+    → ((x : ℕ) → get_or b.marks.items x New ≡ shut i (length a.heads.items) (get_or a.marks.items x New))
+    → b.left.items ≡ a.left.items → b.path.items ≡ take i a.path.items
+    → b.starts.items ≡ take (length a.starts.items - 1) a.starts.items
+    → b.stack.items ≡ take (length a.stack.items - 1) a.stack.items
+    → b.heads.items ≡ a.heads.items ++ get_or a.path.items i 0 ∷ [] → view b ≡ closed (view a) i
 unfolding view
 closed_view a b i h size marks el ep es ek eh =
     let mark : (λ x. get_or b.marks.items x New) ≡ (λ x. shut i (length a.heads.items) (get_or a.marks.items x New)) = fun_ext marks in
@@ -183,9 +184,10 @@ starts_same : (a b : Walk) (m : ℕ) → length (take m a.starts.items) ≡ m �
 unfolding view
 starts_same a b m short e = rw (e, short, take_view a.starts.items m) refl
 
-pub merged_view : (a b : Walk) (j : ℕ) → Rises (view a) → b.marks.items ≡ a.marks.items → b.left.items ≡ a.left.items →
-    b.path.items ≡ a.path.items → b.stack.items ≡ a.stack.items → b.heads.items ≡ a.heads.items →
-    DropsAbove j a.starts.items b.starts.items → AreMerged (view a) (view b) j
+pub merged_view : (a b : Walk) (j : ℕ) → Rises (view a) → b.marks.items ≡ a.marks.items
+    → b.left.items ≡ a.left.items → b.path.items ≡ a.path.items → b.stack.items ≡ a.stack.items
+    → b.heads.items ≡ a.heads.items → DropsAbove j a.starts.items b.starts.items
+    → AreMerged (view a) (view b) j
 unfolding view
 merged_view a b j rises em el ep ek eh d =
     let m : ℕ = length b.starts.items in
@@ -210,17 +212,17 @@ merged_view a b j rises em el ep ek eh d =
       same = rw (em, el, ep, ek, eh) (starts_same a b m short d.front);
     }
 
-pub looked_view : (a b : Walk) (x n : ℕ) → x < length a.left.items → n ≡ get_or a.left.items x 0 - 1 →
-    b.marks.items ≡ a.marks.items → b.left.items ≡ set a.left.items x n → b.path.items ≡ a.path.items →
-    b.starts.items ≡ a.starts.items → b.stack.items ≡ a.stack.items → b.heads.items ≡ a.heads.items →
-    view b ≡ looked (view a) x
+pub looked_view : (a b : Walk) (x n : ℕ) → x < length a.left.items → n ≡ get_or a.left.items x 0 - 1
+    → b.marks.items ≡ a.marks.items → b.left.items ≡ set a.left.items x n → b.path.items ≡ a.path.items
+    → b.starts.items ≡ a.starts.items → b.stack.items ≡ a.stack.items → b.heads.items ≡ a.heads.items
+    → view b ≡ looked (view a) x
 unfolding view
 looked_view a b x n h en em el ep es ek eh =
     let same : length (set a.left.items x n) ≡ length a.left.items = length-set a.left.items x n in
     rw (em, el, ep, es, ek, eh, same, set_view a.left.items x n 0 h, en) refl
 
-pub looked_work : (a b : Walk) (x n : ℕ) → x < length a.left.items → n + 1 ≡ get_or a.left.items x 0 →
-    b.left.items ≡ set a.left.items x n → b.stack.items ≡ a.stack.items → work b + 2 ≡ work a
+pub looked_work : (a b : Walk) (x n : ℕ) → x < length a.left.items → n + 1 ≡ get_or a.left.items x 0
+    → b.left.items ≡ set a.left.items x n → b.stack.items ≡ a.stack.items → work b + 2 ≡ work a
 unfolding work
 looked_work a b x n h en el ek =
     let s : sum_by (λ m. m) (set a.left.items x n) + get_or a.left.items x 0 ≡ sum_by (λ m. m) a.left.items + n = sum_by-set (λ m. m) a.left.items x n 0 h in
@@ -269,9 +271,9 @@ pub left_few : (g : Graph) (w : Walk) (x : ℕ) → IsWalk g (view w) → get_or
 unfolding view
 left_few g w x I = I.few x
 
-pub looked_lower : (o a b : Walk) (x n : ℕ) → x < length a.left.items → n + 1 ≡ get_or a.left.items x 0 →
-    a.left.items ≡ o.left.items → (view a).height ≤ (view o).height + 1 → b.left.items ≡ set a.left.items x n →
-    b.stack.items ≡ a.stack.items → work b < work o
+pub looked_lower : (o a b : Walk) (x n : ℕ) → x < length a.left.items → n + 1 ≡ get_or a.left.items x 0
+    → a.left.items ≡ o.left.items → (view a).height ≤ (view o).height + 1
+    → b.left.items ≡ set a.left.items x n → b.stack.items ≡ a.stack.items → work b < work o
 looked_lower o a b x n h en eo high el ek =
     let less : work b + 2 ≡ work a = looked_work a b x n h en el ek in
     let same : work a + (view o).height ≡ work o + (view a).height = work_is o a eo in

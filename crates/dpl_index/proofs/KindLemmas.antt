@@ -54,8 +54,9 @@ pub record SinglesOf (kinds : List ℕ) (n : ℕ) (stops : List Stop) : Type 0 w
 pub kinds_none : (kinds : List ℕ) → SinglesOf kinds 0 []
 kinds_none kinds = record { long = refl; rest = λ k d l. absurd (omega arith); kind = λ k d l. absurd (omega arith) }
 
-pub kinds_more : (kinds : List ℕ) (n : ℕ) (stops new : List Stop) (s : Stop) → new ≡ stops ++ s ∷ [] → s.rest ≡ 0 →
-    s.kind ≡ Some (kind_of kinds s.number) → SinglesOf kinds n stops → SinglesOf kinds (n + 1) new
+pub kinds_more : (kinds : List ℕ) (n : ℕ) (stops new : List Stop) (s : Stop) → new ≡ stops ++ s ∷ []
+    → s.rest ≡ 0 → s.kind ≡ Some (kind_of kinds s.number) → SinglesOf kinds n stops
+    → SinglesOf kinds (n + 1) new
 kinds_more kinds n stops new s e rest kind so = rw e (record {
   long = rw length_push (let l = so.long in omega arith);
   rest = λ k d l. at k d (λ t. t.rest ≡ 0) l (λ h. so.rest k d h) (λ f. rest);
@@ -75,10 +76,10 @@ kinds_all kinds n stops so = let long = so.long in record {
 
 -- ---- a stop takes in the next
 
-pub kinds_absorbed : (kinds : List ℕ) (stops : List Stop) (k : ℕ) (stop next new : Stop) →
-    Absorbs stops k stop next new → ((kind : ℕ) → new.kind ≡ Some kind → stop.kind ≡ Some kind) →
-    ((kind : ℕ) → new.kind ≡ Some kind → next.kind ≡ Some kind) → HasKinds kinds stops →
-    HasKinds kinds (set stops k new)
+pub kinds_absorbed : (kinds : List ℕ) (stops : List Stop) (k : ℕ) (stop next new : Stop)
+    → Absorbs stops k stop next new → ((kind : ℕ) → new.kind ≡ Some kind → stop.kind ≡ Some kind)
+    → ((kind : ℕ) → new.kind ≡ Some kind → next.kind ≡ Some kind) → HasKinds kinds stops
+    → HasKinds kinds (set stops k new)
 kinds_absorbed kinds stops k stop next new a first second s = record {
   one = λ j m d kind l low high e. rw (same_number m d) (one j m d kind (shorter j l) low high e);
 } where
@@ -122,9 +123,9 @@ pub asked_begins : (x : Kinded) (ask : Ask) (stops : List Stop) → Asked x ask 
 asked_begins x ask stops = record { each = λ k d l. absurd (omega arith); all = λ m d l. absurd (omega arith) }
 
 -- a stop is looked at
-pub asked_on : (x : Kinded) (ask : Ask) (stops : List Stop) (at : ℕ) (found new : List ℕ) (stop : Stop) →
-    ((d : Stop) → get_or stops at d ≡ stop) → stop.number < length x.items → AddsAsked x ask stop.number found new →
-    Asked x ask stops at found → Asked x ask stops (at + 1) new
+pub asked_on : (x : Kinded) (ask : Ask) (stops : List Stop) (at : ℕ) (found new : List ℕ) (stop : Stop)
+    → ((d : Stop) → get_or stops at d ≡ stop) → stop.number < length x.items
+    → AddsAsked x ask stop.number found new → Asked x ask stops at found → Asked x ask stops (at + 1) new
 asked_on x ask stops at found new stop is inside (inl e) w = rw e (record {
   each = All-push (λ i. i < length x.items) found stop.number w.each inside;
   all = λ m d l h n. elim (cases_lt m at) [
@@ -142,11 +143,11 @@ asked_on x ask stops at found new stop is inside (inr (none, e)) w = rw e (recor
 })
 
 -- the stops that hold nothing of what is asked for are left out
-pub asked_past : (x : Kinded) (ask : Ask) (stops : List Stop) (at : ℕ) (found : List ℕ) (stop : Stop) →
-    ((d : Stop) → get_or stops at d ≡ stop) → at < length stops →
-    (¬ Meets stop.bounds ask.far) ⊎ ((stop.kind ≡ Some ask.kind) × (¬ Meets stop.bounds ask.near)) →
-    IsIndex x.items stops → HasKinds x.kinds stops → Asked x ask stops at found →
-    Asked x ask stops (at + stop.rest + 1) found
+pub asked_past : (x : Kinded) (ask : Ask) (stops : List Stop) (at : ℕ) (found : List ℕ) (stop : Stop)
+    → ((d : Stop) → get_or stops at d ≡ stop) → at < length stops
+    → (¬ Meets stop.bounds ask.far) ⊎ ((stop.kind ≡ Some ask.kind) × (¬ Meets stop.bounds ask.near))
+    → IsIndex x.items stops → HasKinds x.kinds stops → Asked x ask stops at found
+    → Asked x ask stops (at + stop.rest + 1) found
 asked_past x ask stops at found stop is within none i k w = record {
   each = w.each;
   all = λ m d h l n. elim (cases_lt m at) [
@@ -171,8 +172,8 @@ asked_past x ask stops at found stop is within none i k w = record {
     ]
   ]
 
-pub asked_ends : (x : Kinded) (ask : Ask) (stops : List Stop) (at : ℕ) (found : List ℕ) → length stops ≤ at →
-    IsIndex x.items stops → Asked x ask stops at found → HasAsked x ask found
+pub asked_ends : (x : Kinded) (ask : Ask) (stops : List Stop) (at : ℕ) (found : List ℕ) → length stops ≤ at
+    → IsIndex x.items stops → Asked x ask stops at found → HasAsked x ask found
 asked_ends x ask stops at found whole i w = record {
   each = w.each;
   all = λ j n. let (k, l, e) = i.all j n.within in all_at j n k l e;
@@ -189,6 +190,6 @@ asked_ends x ask stops at found whole i w = record {
 pub asked_not_far : (x : Kinded) (ask : Ask) (i : ℕ) (b : Bounds) → b ≡ get_or x.items i b → ¬ Meets b ask.far → ¬ IsAsked x ask i
 asked_not_far x ask i b e none n = none (rw (← e) at (n.far b))
 
-pub asked_not_near : (x : Kinded) (ask : Ask) (i : ℕ) (b : Bounds) → b ≡ get_or x.items i b →
-    kind_of x.kinds i ≡ ask.kind → ¬ Meets b ask.near → ¬ IsAsked x ask i
+pub asked_not_near : (x : Kinded) (ask : Ask) (i : ℕ) (b : Bounds) → b ≡ get_or x.items i b
+    → kind_of x.kinds i ≡ ask.kind → ¬ Meets b ask.near → ¬ IsAsked x ask i
 asked_not_near x ask i b e own none n = elim n.near [ inl other ↦ other own | inr meets ↦ none (rw (← e) at (meets b)) ]

@@ -21,16 +21,17 @@ meets_outer outer inner window h m = record {
   high = let p = h.high in let q = m.high in omega signed;
 }
 
-pub meeting_yes : (items : List Bounds) (window : Bounds) (i : ℕ) (b : Bounds) → i < length items →
-    b ≡ get_or items i b → Meets b window → IsMeeting items window i
+pub meeting_yes : (items : List Bounds) (window : Bounds) (i : ℕ) (b : Bounds) → i < length items
+    → b ≡ get_or items i b → Meets b window → IsMeeting items window i
 meeting_yes items window i b l e m = record { within = l; meets = λ d. rw (get_or_default items i d b l, ← e) m }
 
 pub meeting_no : (items : List Bounds) (window : Bounds) (i : ℕ) (b : Bounds) → b ≡ get_or items i b → ¬ Meets b window → ¬ IsMeeting items window i
 meeting_no items window i b e none meeting = none (rw (← e) at (meeting.meets b))
 
 -- in ascending order
-pub meeting_in_order : (items : List Bounds) (window : Bounds) (found sorted : List ℕ) → HasMeeting items window found →
-    AllPairs (λ i j. i < j) sorted → ((x : ℕ) → Contains sorted x ↔ Contains found x) → AreMeeting items window sorted
+pub meeting_in_order : (items : List Bounds) (window : Bounds) (found sorted : List ℕ)
+    → HasMeeting items window found → AllPairs (λ i j. i < j) sorted
+    → ((x : ℕ) → Contains sorted x ↔ Contains found x) → AreMeeting items window sorted
 meeting_in_order items window found sorted h ordered same = record {
   each = λ k d l. go _ ((same _).0 (k, l, get_or_default sorted k _ d l));
   all = λ i m. (same i).1 (h.all i m);
@@ -50,9 +51,9 @@ pub walk_begins : (items : List Bounds) (window : Bounds) (stops : List Stop) �
 walk_begins items window stops = record { each = λ k d l. absurd (omega arith); all = λ m d l. absurd (omega arith) }
 
 -- a stop is looked at
-pub walk_on : (items : List Bounds) (window : Bounds) (stops : List Stop) (at : ℕ) (found new : List ℕ) (stop : Stop) →
-    ((d : Stop) → get_or stops at d ≡ stop) → AddsMeeting items window stop.number found new →
-    Walked items window stops at found → Walked items window stops (at + 1) new
+pub walk_on : (items : List Bounds) (window : Bounds) (stops : List Stop) (at : ℕ) (found new : List ℕ) (stop : Stop)
+    → ((d : Stop) → get_or stops at d ≡ stop) → AddsMeeting items window stop.number found new
+    → Walked items window stops at found → Walked items window stops (at + 1) new
 walk_on items window stops at found new stop is (inl (meets, e)) w = rw e (record {
   each = All-push (IsMeeting items window) found stop.number w.each meets;
   all = λ m d l h n. elim (cases_lt m at) [
@@ -70,9 +71,10 @@ walk_on items window stops at found new stop is (inr (none, e)) w = rw e (record
 })
 
 -- the stops within bounds that do not meet the window are left out
-pub walk_past : (items : List Bounds) (window : Bounds) (stops : List Stop) (at : ℕ) (found : List ℕ) (stop : Stop) →
-    ((d : Stop) → get_or stops at d ≡ stop) → at < length stops → ¬ Meets stop.bounds window → IsIndex items stops →
-    Walked items window stops at found → Walked items window stops (at + stop.rest + 1) found
+pub walk_past : (items : List Bounds) (window : Bounds) (stops : List Stop) (at : ℕ) (found : List ℕ) (stop : Stop)
+    → ((d : Stop) → get_or stops at d ≡ stop) → at < length stops → ¬ Meets stop.bounds window
+    → IsIndex items stops → Walked items window stops at found
+    → Walked items window stops (at + stop.rest + 1) found
 walk_past items window stops at found stop is within far x w = record {
   each = w.each;
   all = λ m d h k n. elim (cases_lt m at) [
@@ -86,8 +88,9 @@ walk_past items window stops at found stop is within far x w = record {
       let h : Holds stop.bounds (get_or items (get_or stops m d).number stop.bounds) = rw (is d) at (x.covers at m d stop.bounds within low (omega arith)) in
       meets_outer _ _ window h (n.meets stop.bounds)
 
-pub walk_ends : (items : List Bounds) (window : Bounds) (stops : List Stop) (at : ℕ) (found : List ℕ) →
-    length stops ≤ at → IsIndex items stops → Walked items window stops at found → HasMeeting items window found
+pub walk_ends : (items : List Bounds) (window : Bounds) (stops : List Stop) (at : ℕ) (found : List ℕ)
+    → length stops ≤ at → IsIndex items stops → Walked items window stops at found
+    → HasMeeting items window found
 walk_ends items window stops at found whole x w = record {
   each = w.each;
   all = λ i n. let (k, l, e) = x.all i n.within in all_at i n k l e;
@@ -104,9 +107,9 @@ pub not_met : (test : Bool) (a b : Bounds) → test ≡ false → (Meets a b →
 not_met test a b e f m = let t : IsTrue false = rw e at (f m) in search rules
 
 -- bounds meet where their columns do and their rows do
-pub meets_both : (a b : Bounds) (columns rows : Bool) → columns ≡ true →
-    (IsTrue columns ↔ (a.left ≤ℤ b.right) × (b.left ≤ℤ a.right)) →
-    (IsTrue rows ↔ (a.low ≤ℤ b.high) × (b.low ≤ℤ a.high)) → IsTrue rows ↔ Meets a b
+pub meets_both : (a b : Bounds) (columns rows : Bool) → columns ≡ true
+    → (IsTrue columns ↔ (a.left ≤ℤ b.right) × (b.left ≤ℤ a.right))
+    → (IsTrue rows ↔ (a.low ≤ℤ b.high) × (b.low ≤ℤ a.high)) → IsTrue rows ↔ Meets a b
 meets_both a b columns rows e f g = (
   (λ t. let p = f.0 (is_true columns e) in let q = g.0 t in record { left = p.0; right = p.1; low = q.0; high = q.1 }),
   (λ m. g.1 (m.low, m.high)),

@@ -66,10 +66,10 @@ singles_none items places = record {
   bounds = λ k d c l. absurd (omega arith);
 }
 
-pub singles_more : (items : List Bounds) (places : List (ℕ × ℕ)) (n : ℕ) (stops new : List Stop) (s : Stop) →
-    new ≡ stops ++ s ∷ [] → s.number ≡ (get_or places n (0, 0)).1 → s.rest ≡ 0 →
-    ((c : Bounds) → s.bounds ≡ get_or items s.number c) → SinglesSoFar items places n stops →
-    SinglesSoFar items places (n + 1) new
+pub singles_more : (items : List Bounds) (places : List (ℕ × ℕ)) (n : ℕ) (stops new : List Stop) (s : Stop)
+    → new ≡ stops ++ s ∷ [] → s.number ≡ (get_or places n (0, 0)).1 → s.rest ≡ 0
+    → ((c : Bounds) → s.bounds ≡ get_or items s.number c) → SinglesSoFar items places n stops
+    → SinglesSoFar items places (n + 1) new
 singles_more items places n stops new s e number rest bounds so = rw e (record {
   long = rw length_push (let l = so.long in omega arith);
   number = λ k d l. at k d (λ t. t.number ≡ (get_or places k (0, 0)).1) l (λ h. so.number k d h) (λ f. rw f number);
@@ -82,8 +82,9 @@ singles_more items places n stops new s e number rest bounds so = rw e (record {
     | inr h ↦ subst P (sym (get_or_push stops s d k (omega arith))) (g (omega arith))
   ]
 
-pub singles_all : (items : List Bounds) (places : List (ℕ × ℕ)) (n : ℕ) (stops : List Stop) → n ≡ length places →
-    NamesAll (length items) places → SinglesSoFar items places n stops → IsIndex items stops
+pub singles_all : (items : List Bounds) (places : List (ℕ × ℕ)) (n : ℕ) (stops : List Stop)
+    → n ≡ length places → NamesAll (length items) places → SinglesSoFar items places n stops
+    → IsIndex items stops
 singles_all items places n stops whole names so = let long = so.long in let full = names.long in record {
   inside = λ k d l. rw (so.number k d (omega arith)) (names.each k (0, 0) (omega arith));
   all = λ i l. named i (names.all i l);
@@ -113,12 +114,12 @@ abbrev pub blank : Stop
 blank = record { number = 0; rest = 0; bounds = record { left = pos 0; right = pos 0; low = pos 0; high = pos 0 }; kind = None }
 
 -- what a stop and the next one make
-pub absorbed : (stops : List Stop) (k : ℕ) (new : Stop) → k < length stops → k + (get_or stops k blank).rest + 1 < length stops →
-    new.number ≡ (get_or stops k blank).number →
-    new.rest ≡ (get_or stops k blank).rest + (get_or stops (k + (get_or stops k blank).rest + 1) blank).rest + 1 →
-    Holds new.bounds (get_or stops k blank).bounds →
-    Holds new.bounds (get_or stops (k + (get_or stops k blank).rest + 1) blank).bounds →
-    Absorbs stops k (get_or stops k blank) (get_or stops (k + (get_or stops k blank).rest + 1) blank) new
+pub absorbed : (stops : List Stop) (k : ℕ) (new : Stop) → k < length stops
+    → k + (get_or stops k blank).rest + 1 < length stops → new.number ≡ (get_or stops k blank).number
+    → new.rest ≡ (get_or stops k blank).rest + (get_or stops (k + (get_or stops k blank).rest + 1) blank).rest + 1
+    → Holds new.bounds (get_or stops k blank).bounds
+    → Holds new.bounds (get_or stops (k + (get_or stops k blank).rest + 1) blank).bounds
+    → Absorbs stops k (get_or stops k blank) (get_or stops (k + (get_or stops k blank).rest + 1) blank) new
 absorbed stops k new within more number rest first second = record {
   stop_is = λ d. get_or_default stops k d blank within;
   more = more;
@@ -129,8 +130,8 @@ absorbed stops k new within more number rest first second = record {
   second = second;
 }
 
-pub absorb_keeps : (items : List Bounds) (stops : List Stop) (k : ℕ) (stop next new : Stop) →
-    Absorbs stops k stop next new → IsIndex items stops → IsIndex items (set stops k new)
+pub absorb_keeps : (items : List Bounds) (stops : List Stop) (k : ℕ) (stop next new : Stop)
+    → Absorbs stops k stop next new → IsIndex items stops → IsIndex items (set stops k new)
 absorb_keeps items stops k stop next new a s = record {
   inside = λ m d l. rw (same_number m d) (s.inside m d (shorter m l));
   all = λ i l. let (m, h, e) = s.all i l in (m, rw length-set h, (λ d. same_number m d ∙ e d));

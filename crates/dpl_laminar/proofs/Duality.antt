@@ -78,21 +78,21 @@ leaving_parity n mate p set =
 
 -- ---- the loads of the pairs
 
-one_load : (k : ℕ) (value : ℕ → ℕ) (d : ℕ → Bool) (t : Bool) →
-    cond t (sum_below k (λ i. cond (d i) (value i) 0)) 0 ≡ sum_below k (λ i. cond t (cond (d i) 1 0) 0 * value i)
+one_load : (k : ℕ) (value : ℕ → ℕ) (d : ℕ → Bool) (t : Bool)
+    → cond t (sum_below k (λ i. cond (d i) (value i) 0)) 0 ≡ sum_below k (λ i. cond t (cond (d i) 1 0) 0 * value i)
 one_load k value d true = sum_same k _ _ (λ i h. one_value (d i) (value i))
 one_load k value d false = sym (sum_times_none k value)
 
 -- the loads of all pairs are the values, each taken as often as a pair leaves its set
-pub loads_of_pairs : (n k : ℕ) (value : ℕ → ℕ) (holds : ℕ → ℕ → Bool) (mate : ℕ → ℕ) →
-    pairs_sum n mate (load_in k value holds) ≡ sum_below k (λ i. leaving n mate (holds i) * value i)
+pub loads_of_pairs : (n k : ℕ) (value : ℕ → ℕ) (holds : ℕ → ℕ → Bool) (mate : ℕ → ℕ)
+    → pairs_sum n mate (load_in k value holds) ≡ sum_below k (λ i. leaving n mate (holds i) * value i)
 loads_of_pairs n k value holds mate =
     sum_same n _ _ (λ m h. one_load k value (λ i. differ (holds i m) (holds i (mate m))) (ltb m (mate m))) ∙
     sum_turned n k _ ∙
     sum_same k _ _ (λ i h. sum_times n _ (value i))
 
-pub pairs_most : (n : ℕ) (mate : ℕ → ℕ) (v w : ℕ → ℕ → ℕ) → IsPairing n mate →
-    ((s t : ℕ) → s < n → t < n → s ≢ t → v s t ≤ w s t) → pairs_sum n mate v ≤ pairs_sum n mate w
+pub pairs_most : (n : ℕ) (mate : ℕ → ℕ) (v w : ℕ → ℕ → ℕ) → IsPairing n mate
+    → ((s t : ℕ) → s < n → t < n → s ≢ t → v s t ≤ w s t) → pairs_sum n mate v ≤ pairs_sum n mate w
 pairs_most n mate v w p h = sum_most n _ _ (λ m l. elim (cases_Bool (ltb m (mate m))) [
   | inl t ↦ omega (arith, cond-true _ (v m (mate m)) 0 t, cond-true _ (w m (mate m)) 0 t, h m (mate m) l (p.range m l) (λ q. p.apart m l (sym q)))
   | inr t ↦ omega (arith, cond-false _ (v m (mate m)) 0 t, cond-false _ (w m (mate m)) 0 t)

@@ -63,15 +63,16 @@ abbrev pub without_set : Stored → ℕ → List (Option ℕ) → List ℕ → L
 without_set s r ps rg ts = record s { live = set s.live r false; rows = set s.rows r []; parents = ps; counts = set s.counts r 0; ring = rg; tops = ts }
 
 -- a child of another set is no child of this one
-not_kid : (s : Stored) (r d c : ℕ) → IsKept s → r < 2 * s.size → d < 2 * s.size → d ≢ r →
-    has ((sets_of s).children d) c ≡ true → has ((sets_of s).children r) c ≡ false
+not_kid : (s : Stored) (r d c : ℕ) → IsKept s → r < 2 * s.size → d < 2 * s.size → d ≢ r
+    → has ((sets_of s).children d) c ≡ true → has ((sets_of s).children r) c ≡ false
 not_kid s r d c p hr hd ne k = elim (cases_Bool (has ((sets_of s).children r) c)) [
   | inl t ↦ absurd (ne (same_Some _ _ (sym (p.family.laminar.children.child d c hd k).2 ∙ (p.family.laminar.children.child r c hr t).2)))
   | inr t ↦ t
 ]
 
-children_left : (s : Stored) (r : ℕ) (ps : List (Option ℕ)) (rg : List ℕ) (ts : List ℕ) → IsKept s → r < 2 * s.size →
-    AreCleared s r ps rg ts → (i : ℕ) → i ≢ r → (sets_of (without_set s r ps rg ts)).children i ≡ (sets_of s).children i
+children_left : (s : Stored) (r : ℕ) (ps : List (Option ℕ)) (rg : List ℕ) (ts : List ℕ) → IsKept s
+    → r < 2 * s.size → AreCleared s r ps rg ts → (i : ℕ) → i ≢ r
+    → (sets_of (without_set s r ps rg ts)).children i ≡ (sets_of s).children i
 children_left s r ps rg ts p hr w i ne =
     let after : ℕ → ℕ = λ c. get_or rg c 0 in
     let old : ℕ → ℕ = λ c. get_or s.ring c 0 in
@@ -83,9 +84,9 @@ children_left s r ps rg ts p hr w i ne =
     ] in
     ap (λ z. walk after first z) count ∙ moved
 
-pub expanded : (s : Stored) (r : ℕ) (ps : List (Option ℕ)) (rg : List ℕ) (ts : List ℕ) → IsKept s → s.size ≤ r →
-    get_or s.live r false ≡ true → get_or s.parents r None ≡ None →
-    AreCleared s r ps rg ts → IsExpanded (sets_of s) r (sets_of (without_set s r ps rg ts))
+pub expanded : (s : Stored) (r : ℕ) (ps : List (Option ℕ)) (rg : List ℕ) (ts : List ℕ) → IsKept s → s.size ≤ r
+    → get_or s.live r false ≡ true → get_or s.parents r None ≡ None → AreCleared s r ps rg ts
+    → IsExpanded (sets_of s) r (sets_of (without_set s r ps rg ts))
 expanded s r ps rg ts p least live top w =
     let f : Sets = sets_of s in
     let below : r < 2 * s.size = live_below s r p live in
@@ -131,9 +132,10 @@ after_parent s c d p e =
     let next : f.after c ≡ get_or (f.children d) ((v.0 + 1) % length (f.children d)) 0 = ap f.after (sym v.2) ∙ p.family.around d v.0 v.1 in
     ap f.parent next ∙ (p.family.laminar.children.child d _ up.1 (has_at (f.children d) ((v.0 + 1) % length (f.children d)) (omega (arith, v.1)))).2
 
-pub expanded_kept : (s : Stored) (r : ℕ) (ps : List (Option ℕ)) (rg : List ℕ) (ts : List ℕ) → IsKept s → s.size ≤ r →
-    get_or s.live r false ≡ true → get_or s.parents r None ≡ None → get_or s.values r 0 ≡ 0 →
-    AreCleared s r ps rg ts → IsExpanded (sets_of s) r (sets_of (without_set s r ps rg ts)) → IsKept (without_set s r ps rg ts)
+pub expanded_kept : (s : Stored) (r : ℕ) (ps : List (Option ℕ)) (rg : List ℕ) (ts : List ℕ) → IsKept s
+    → s.size ≤ r → get_or s.live r false ≡ true → get_or s.parents r None ≡ None → get_or s.values r 0 ≡ 0
+    → AreCleared s r ps rg ts → IsExpanded (sets_of s) r (sets_of (without_set s r ps rg ts))
+    → IsKept (without_set s r ps rg ts)
 expanded_kept s r ps rg ts p least live top none w t =
     let f : Sets = sets_of s in
     let g : Sets = sets_of (without_set s r ps rg ts) in
@@ -196,9 +198,10 @@ expanded_kept s r ps rg ts p least live top none w t =
 
 -- ---- the lists as the code leaves them
 
-pub expand_answer : (s : Stored) (r : ℕ) (ps ps' : List (Option ℕ)) (rg : List ℕ) (ts ts' : List ℕ) → IsKept s →
-    s.size ≤ r → get_or s.live r false ≡ true → get_or s.parents r None ≡ None → get_or s.values r 0 ≡ 0 →
-    AreCleared s r ps rg ts → ps' ≡ ps → ts' ≡ ts → IsKept (without_set s r ps' rg ts') × IsExpanded (sets_of s) r (sets_of (without_set s r ps' rg ts'))
+pub expand_answer : (s : Stored) (r : ℕ) (ps ps' : List (Option ℕ)) (rg : List ℕ) (ts ts' : List ℕ) → IsKept s
+    → s.size ≤ r → get_or s.live r false ≡ true → get_or s.parents r None ≡ None → get_or s.values r 0 ≡ 0
+    → AreCleared s r ps rg ts → ps' ≡ ps → ts' ≡ ts
+    → IsKept (without_set s r ps' rg ts') × IsExpanded (sets_of s) r (sets_of (without_set s r ps' rg ts'))
 expand_answer s r ps ps' rg ts ts' p least live top none w ep et =
     let P : List (Option ℕ) → List ℕ → Type 0 = λ a b. IsKept (without_set s r a rg b) × IsExpanded (sets_of s) r (sets_of (without_set s r a rg b)) in
     let t = expanded s r ps rg ts p least live top w in

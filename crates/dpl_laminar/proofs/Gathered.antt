@@ -23,8 +23,10 @@ one_more c cs x new = elim (cases_eq c x) [
   | inr ne ↦ omega (arith, same_bit _ _ (has_tail c x cs ne), same_bit _ false (ne_eqb c x ne))
 ]
 
-size_gathered : (n : ℕ) (top : ℕ → ℕ) (cs : List ℕ) → ((i j : ℕ) → i < j → j < length cs → get_or cs i 0 ≢ get_or cs j 0) →
-    ((c : ℕ) → has cs c ≡ true → size_of n (λ m. eqb c (top m)) % 2 ≡ 1) → size_of n (λ m. has cs (top m)) % 2 ≡ length cs % 2
+size_gathered : (n : ℕ) (top : ℕ → ℕ) (cs : List ℕ)
+    → ((i j : ℕ) → i < j → j < length cs → get_or cs i 0 ≢ get_or cs j 0)
+    → ((c : ℕ) → has cs c ≡ true → size_of n (λ m. eqb c (top m)) % 2 ≡ 1)
+    → size_of n (λ m. has cs (top m)) % 2 ≡ length cs % 2
 size_gathered n top [] apart odd = ap (λ z. z % 2) (sum_zero n)
 size_gathered n top (c ∷ cs) apart odd =
     let new : has cs c ≡ false = elim (cases_Bool (has cs c)) [
@@ -42,8 +44,9 @@ size_gathered n top (c ∷ cs) apart odd =
 
 -- ---- a new set of tops
 
-pub gathered : (n : ℕ) (f g : Sets) (cs : List ℕ) (set : ℕ) → IsLaminar n f → AreTops n f cs → Gathers n f cs set g →
-    (r : ℕ) → set ≡ n + r → (x y : ℕ) → has cs x ≡ true → has cs y ≡ true → f.holds x r ≡ true → (a : ℕ) → a < r → f.holds y a ≡ true → IsLaminar n g
+pub gathered : (n : ℕ) (f g : Sets) (cs : List ℕ) (set : ℕ) → IsLaminar n f → AreTops n f cs
+    → Gathers n f cs set g → (r : ℕ) → set ≡ n + r → (x y : ℕ) → has cs x ≡ true → has cs y ≡ true
+    → f.holds x r ≡ true → (a : ℕ) → a < r → f.holds y a ≡ true → IsLaminar n g
 gathered n f g cs set p t q r er x y hx hy xr a ar ya =
     let rn : r < n = omega (arith, er, q.below) in
     let old = λ (i : ℕ) (l : f.live i ≡ true) (e : i ≡ set). true_false {P = ⊥} (f.live set) (ap f.live (sym e) ∙ l) q.was_free in

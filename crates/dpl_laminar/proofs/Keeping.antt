@@ -12,8 +12,9 @@ use Rattle.dpl_laminar.proofs.Singles.{singles_family}
 use Rattle.dpl_list.proofs.Lists.{repeated}
 
 -- lists that keep sets
-abbrev pub stored : (size : ℕ) (live : List Bool) (rows : List (List Bool)) (values : List ℕ) (parents : List (Option ℕ))
-    (firsts counts ring : List ℕ) (joins : List (ℕ × ℕ)) (tops : List ℕ) → Stored
+abbrev pub stored : (size : ℕ) (live : List Bool) (rows : List (List Bool)) (values : List ℕ)
+    → (parents : List (Option ℕ)) (firsts counts ring : List ℕ) (joins : List (ℕ × ℕ)) → (tops : List ℕ)
+    → Stored
 stored size live rows values parents firsts counts ring joins tops = record {
   size = size;
   live = live;
@@ -171,8 +172,8 @@ child_below s i p inner = elim (cases_lt i (length s.parents)) [
   | inr past ↦ absurd (inner (get_or_past s.parents i None past))
 ]
 
-pub next_is : (s : Stored) (child next : ℕ) (pair : ℕ × ℕ) → IsKept s → get_or s.parents child None ≢ None →
-    next ≡ get_or s.ring child 0 → pair ≡ get_or s.joins child (0, 0) → IsNext (sets_of s) child next pair
+pub next_is : (s : Stored) (child next : ℕ) (pair : ℕ × ℕ) → IsKept s → get_or s.parents child None ≢ None
+    → next ≡ get_or s.ring child 0 → pair ≡ get_or s.joins child (0, 0) → IsNext (sets_of s) child next pair
 next_is s child next pair p inner en ep = record {
   next = λ d i e hi k. en ∙ ap (λ z. get_or s.ring z 0) (sym k) ∙ p.family.around d i hi;
   join = ep;

@@ -10,11 +10,12 @@ pub record AreLifted (size : ℕ) (table : ℕ → ℕ → Bool) (some : List �
   pub inside : (c m : ℕ) → m < size → has some c ≡ true → table c m ≡ true → get_or tops m 0 ≡ c
   pub outside : (m : ℕ) → m < size → ((c : ℕ) → has some c ≡ true → table c m ≡ false) → get_or tops m 0 ≡ get_or old m 0
 
-pub lifted_more : (size : ℕ) (table : ℕ → ℕ → Bool) (xs : List ℕ) (i : ℕ) (old tops new : List ℕ) → i < length xs →
-    ((c d m : ℕ) → m < size → has xs c ≡ true → has xs d ≡ true → table c m ≡ true → table d m ≡ true → c ≡ d) →
-    AreLifted size table (take i xs) old tops → ((m : ℕ) → m < size →
-    get_or new m 0 ≡ cond (table (get_or xs i 0) m) (get_or xs i 0) (get_or tops m 0)) →
-    AreLifted size table (take (i + 1) xs) old new
+pub lifted_more : (size : ℕ) (table : ℕ → ℕ → Bool) (xs : List ℕ) (i : ℕ) (old tops new : List ℕ)
+    → i < length xs
+    → ((c d m : ℕ) → m < size → has xs c ≡ true → has xs d ≡ true → table c m ≡ true → table d m ≡ true → c ≡ d)
+    → AreLifted size table (take i xs) old tops
+    → ((m : ℕ) → m < size → get_or new m 0 ≡ cond (table (get_or xs i 0) m) (get_or xs i 0) (get_or tops m 0))
+    → AreLifted size table (take (i + 1) xs) old new
 lifted_more size table xs i old tops new h apart r e =
     let x : ℕ = get_or xs i 0 in
     record {
@@ -38,10 +39,10 @@ lifted_none size table old = record {
 
 -- ---- children that lose their parent, one after another
 
-pub orphaned_more : (xs : List ℕ) (j : ℕ) (old parents : List (Option ℕ)) → j < length xs →
-    get_or xs j 0 < length parents → ((i : ℕ) → get_or parents i None ≡ cond (has (take j xs) i) None
-    (get_or old i None)) →
-    (i : ℕ) → get_or (set parents (get_or xs j 0) None) i None ≡ cond (has (take (j + 1) xs) i) None (get_or old i None)
+pub orphaned_more : (xs : List ℕ) (j : ℕ) (old parents : List (Option ℕ)) → j < length xs
+    → get_or xs j 0 < length parents
+    → ((i : ℕ) → get_or parents i None ≡ cond (has (take j xs) i) None (get_or old i None)) → (i : ℕ)
+    → get_or (set parents (get_or xs j 0) None) i None ≡ cond (has (take (j + 1) xs) i) None (get_or old i None)
 orphaned_more xs j old parents h below p i = elim (cases_eq i (get_or xs j 0)) [
   | inl e ↦
       ap (λ z. get_or (set parents (get_or xs j 0) None) z None) e ∙ get_or-set_same parents (get_or xs j 0) None None below ∙

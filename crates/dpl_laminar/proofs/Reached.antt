@@ -36,8 +36,9 @@ size_most (suc n) p = omega (arith, size_most n p, bit (p n))
     bit true = omega arith
     bit false = omega arith
 
-reached : (f : Sets) → IsFamily f → (bound i m : ℕ) → size_of f.size (f.holds i) ≤ bound → i < 2 * f.size → m < f.size →
-    f.live i ≡ true → f.holds i m ≡ true → (k : ℕ) × (k < size_of f.size (f.holds i)) × (climb f m k ≡ Some i)
+reached : (f : Sets) → IsFamily f → (bound i m : ℕ) → size_of f.size (f.holds i) ≤ bound → i < 2 * f.size
+    → m < f.size → f.live i ≡ true → f.holds i m ≡ true
+    → (k : ℕ) × (k < size_of f.size (f.holds i)) × (climb f m k ≡ Some i)
 reached f p zero i m small hi hm live h = absurd (omega (arith, small, p.laminar.sets.odd i hi live))
 reached f p (suc bound) i m small hi hm live h = elim (cases_lt i f.size) [
   | inl single ↦ (0, omega (arith, p.laminar.sets.odd i hi live), ap Some (sym (eqb-true i m (sym (p.laminar.sets.single i m single hm) ∙ h))))

@@ -21,8 +21,8 @@ some_member (suc n) set odd = elim (cases_Bool (set n)) [
 ]
 
 -- a set has members that a child of it does not hold
-pub child_misses : (n : ℕ) (f : Sets) → IsLaminar n f → (d c : ℕ) → n ≤ d → d < 2 * n → f.live d ≡ true →
-    has (f.children d) c ≡ true → (x : ℕ) × (x < n) × (f.holds d x ≡ true) × (f.holds c x ≡ false)
+pub child_misses : (n : ℕ) (f : Sets) → IsLaminar n f → (d c : ℕ) → n ≤ d → d < 2 * n → f.live d ≡ true
+    → has (f.children d) c ≡ true → (x : ℕ) × (x < n) × (f.holds d x ≡ true) × (f.holds c x ≡ false)
 child_misses n f p d c nd hd live k =
     let i = d - n in
     let e : n + i ≡ d = omega arith in
@@ -42,8 +42,8 @@ child_misses n f p d c nd hd live k =
       | inr ne ↦ from (get_or (f.children d) 0 0) (has_at (f.children d) 0 (omega arith)) ne
     ]
 
-pub released : (n : ℕ) (f g : Sets) (set : ℕ) → IsLaminar n f → n ≤ set → set < 2 * n → f.live set ≡ true →
-    f.parent set ≡ None → Releases n f set g → IsLaminar n g
+pub released : (n : ℕ) (f g : Sets) (set : ℕ) → IsLaminar n f → n ≤ set → set < 2 * n → f.live set ≡ true
+    → f.parent set ≡ None → Releases n f set g → IsLaminar n g
 released n f g set p ns hs live top q =
     let kids = f.children set in
     let single_out = λ (i : ℕ) (h : i < n) (e : i ≡ set). let z : ⊥ = absurd (omega arith) in z in

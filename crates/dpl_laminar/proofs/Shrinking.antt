@@ -12,17 +12,17 @@ use Rattle.dpl_laminar.proofs.Walks.{walk_is, walk_same, length_walk, around_nex
 use Rattle.dpl_laminar.proofs.Gathered.{gathered}
 
 -- two tops have no common member
-pub tops_apart : (s : Stored) (x y m : ℕ) → IsKept s → x < 2 * s.size → y < 2 * s.size →
-    get_or s.parents x None ≡ None → get_or s.parents y None ≡ None → x ≢ y → m < s.size →
-    get_or (get_or s.rows x []) m false ≡ true → get_or (get_or s.rows y []) m false ≡ false
+pub tops_apart : (s : Stored) (x y m : ℕ) → IsKept s → x < 2 * s.size → y < 2 * s.size
+    → get_or s.parents x None ≡ None → get_or s.parents y None ≡ None → x ≢ y → m < s.size
+    → get_or (get_or s.rows x []) m false ≡ true → get_or (get_or s.rows y []) m false ≡ false
 tops_apart s x y m p hx hy tx ty ne hm h = elim (cases_Bool (get_or (get_or s.rows y []) m false)) [
   | inl k ↦ absurd (ne (sym (p.family.laminar.tops.top_alone x m hx hm tx h) ∙ p.family.laminar.tops.top_alone y m hy hm ty k))
   | inr k ↦ k
 ]
 
 -- the number that a new set gets is free
-name_free : (s : Stored) (q x y : ℕ) → IsKept s → IsNameOf s.size (sets_of s).holds q x y → x < 2 * s.size →
-    get_or s.parents x None ≡ None → get_or s.live (s.size + q) false ≡ false
+name_free : (s : Stored) (q x y : ℕ) → IsKept s → IsNameOf s.size (sets_of s).holds q x y → x < 2 * s.size
+    → get_or s.parents x None ≡ None → get_or s.live (s.size + q) false ≡ false
 name_free s q x y p w hx tx =
     let f : Sets = sets_of s in
     let lam = p.family.laminar in
@@ -40,8 +40,8 @@ name_free s q x y p w hx tx =
 abbrev pub IsName : Stored → List ℕ → ℕ → Type 0
 IsName s cs q = (IsNameOf s.size (sets_of s).holds q (get_or cs 0 0) (get_or cs 1 0)) ⊎ (IsNameOf s.size (sets_of s).holds q (get_or cs 1 0) (get_or cs 0 0))
 
-pub shrunk_free : (s : Stored) (cs : List ℕ) (js : List (ℕ × ℕ)) (q : ℕ) → IsKept s → AreJoined (sets_of s) cs js →
-    IsName s cs q → get_or s.live (s.size + q) false ≡ false
+pub shrunk_free : (s : Stored) (cs : List ℕ) (js : List (ℕ × ℕ)) (q : ℕ) → IsKept s
+    → AreJoined (sets_of s) cs js → IsName s cs q → get_or s.live (s.size + q) false ≡ false
 shrunk_free s cs js q p j (inl w) = let k = has_at cs 0 (omega (arith, j.tops.several)) in name_free s q _ _ p w (j.tops.below _ k) (j.tops.parentless _ k)
 shrunk_free s cs js q p j (inr w) = let k = has_at cs 1 (omega (arith, j.tops.several)) in name_free s q _ _ p w (j.tops.below _ k) (j.tops.parentless _ k)
 
@@ -74,8 +74,8 @@ with_set s cs r row ps rg jn ts = record s {
 }
 
 -- a child of a set is none of these tops
-no_top : (s : Stored) (cs : List ℕ) (js : List (ℕ × ℕ)) (d c : ℕ) → IsKept s → AreJoined (sets_of s) cs js →
-    d < 2 * s.size → has ((sets_of s).children d) c ≡ true → has cs c ≡ false
+no_top : (s : Stored) (cs : List ℕ) (js : List (ℕ × ℕ)) (d c : ℕ) → IsKept s → AreJoined (sets_of s) cs js
+    → d < 2 * s.size → has ((sets_of s).children d) c ≡ true → has cs c ≡ false
 no_top s cs js d c p j hd k = elim (cases_Bool (has cs c)) [
   | inl t ↦ some_none (get_or s.parents c None) d (p.family.laminar.children.child d c hd k).2 (j.tops.parentless c t)
   | inr t ↦ t
@@ -85,10 +85,9 @@ no_top s cs js d c p j hd k = elim (cases_Bool (has cs c)) [
 pub childless_past : (s : Stored) (d : ℕ) → IsKept s → 2 * s.size ≤ d → get_or s.counts d 0 ≡ 0
 childless_past s d p h = get_or_past s.counts d 0 (omega (arith, p.counts_length))
 
-children_kept : (s : Stored) (cs : List ℕ) (js : List (ℕ × ℕ)) (r : ℕ) (row : List Bool) (ps : List (Option ℕ))
-    (rg : List ℕ) (jn : List (ℕ × ℕ)) (ts : List ℕ) → IsKept s → AreJoined (sets_of s) cs js →
-    AreWritten s cs js r row ps rg jn ts →
-    (i : ℕ) → i ≢ r → (sets_of (with_set s cs r row ps rg jn ts)).children i ≡ (sets_of s).children i
+children_kept : (s : Stored) (cs : List ℕ) (js : List (ℕ × ℕ)) (r : ℕ) (row : List Bool) (ps : List (Option ℕ)) (rg : List ℕ) (jn : List (ℕ × ℕ)) (ts : List ℕ)
+    → IsKept s → AreJoined (sets_of s) cs js → AreWritten s cs js r row ps rg jn ts → (i : ℕ) → i ≢ r
+    → (sets_of (with_set s cs r row ps rg jn ts)).children i ≡ (sets_of s).children i
 children_kept s cs js r row ps rg jn ts p j w i ne =
     let after : ℕ → ℕ = λ c. get_or rg c 0 in
     let old : ℕ → ℕ = λ c. get_or s.ring c 0 in
@@ -101,10 +100,9 @@ children_kept s cs js r row ps rg jn ts p j w i ne =
     ] in
     ap (λ z. walk after z (get_or (set s.counts r (length cs)) i 0)) first ∙ ap (λ z. walk after (get_or s.firsts i 0) z) count ∙ moved
 
-children_made : (s : Stored) (cs : List ℕ) (js : List (ℕ × ℕ)) (r : ℕ) (row : List Bool) (ps : List (Option ℕ))
-    (rg : List ℕ) (jn : List (ℕ × ℕ)) (ts : List ℕ) → IsKept s → r < 2 * s.size → 3 ≤ length cs →
-    AreWritten s cs js r row ps rg jn ts →
-    (sets_of (with_set s cs r row ps rg jn ts)).children r ≡ cs
+children_made : (s : Stored) (cs : List ℕ) (js : List (ℕ × ℕ)) (r : ℕ) (row : List Bool) (ps : List (Option ℕ)) (rg : List ℕ) (jn : List (ℕ × ℕ)) (ts : List ℕ)
+    → IsKept s → r < 2 * s.size → 3 ≤ length cs → AreWritten s cs js r row ps rg jn ts
+    → (sets_of (with_set s cs r row ps rg jn ts)).children r ≡ cs
 children_made s cs js r row ps rg jn ts p below several w =
     let after : ℕ → ℕ = λ c. get_or rg c 0 in
     let first : get_or (set s.firsts r (get_or cs 0 0)) r 0 ≡ get_or cs 0 0 = get_or-set_same s.firsts r (get_or cs 0 0) 0 (omega (arith, p.firsts_length)) in
@@ -112,10 +110,10 @@ children_made s cs js r row ps rg jn ts p below several w =
     ap (λ z. walk after z (get_or (set s.counts r (length cs)) r 0)) first ∙ ap (λ z. walk after (get_or cs 0 0) z) count ∙
     walk_is after cs (omega (arith, several)) (λ i h. w.circle i (omega arith) ∙ ap (λ z. get_or cs z 0) (around_next i (length cs) h))
 
-pub shrunk : (s : Stored) (cs : List ℕ) (js : List (ℕ × ℕ)) (r : ℕ) (row : List Bool) (ps : List (Option ℕ))
-    (rg : List ℕ) (jn : List (ℕ × ℕ)) (ts : List ℕ) → IsKept s → AreJoined (sets_of s) cs js → s.size ≤ r →
-    r < 2 * s.size → get_or s.live r false ≡ false →
-    AreWritten s cs js r row ps rg jn ts → IsShrunk (sets_of s) cs js r (sets_of (with_set s cs r row ps rg jn ts))
+pub shrunk : (s : Stored) (cs : List ℕ) (js : List (ℕ × ℕ)) (r : ℕ) (row : List Bool) (ps : List (Option ℕ)) (rg : List ℕ) (jn : List (ℕ × ℕ)) (ts : List ℕ)
+    → IsKept s → AreJoined (sets_of s) cs js → s.size ≤ r → r < 2 * s.size → get_or s.live r false ≡ false
+    → AreWritten s cs js r row ps rg jn ts
+    → IsShrunk (sets_of s) cs js r (sets_of (with_set s cs r row ps rg jn ts))
 shrunk s cs js r row ps rg jn ts p j least below free w =
     let held : (m : ℕ) → m < s.size → m < length s.tops = λ m h. omega (arith, p.tops_length) in
     record {
@@ -146,19 +144,20 @@ shrunk s cs js r row ps rg jn ts p j least below free w =
     }
 
 -- what holds a member is no free number
-held_still : (s : Stored) (r : ℕ) (row : List Bool) (i m : ℕ) → IsKept s → get_or s.live r false ≡ false →
-    get_or (get_or s.rows i []) m false ≡ true → get_or (get_or (set s.rows r row) i []) m false ≡ true
+held_still : (s : Stored) (r : ℕ) (row : List Bool) (i m : ℕ) → IsKept s → get_or s.live r false ≡ false
+    → get_or (get_or s.rows i []) m false ≡ true → get_or (get_or (set s.rows r row) i []) m false ≡ true
 held_still s r row i m p free h = elim (cases_eq i r) [
   | inl e ↦ true_false (get_or (get_or s.rows i []) m false) h
       (ap (λ z. get_or (get_or s.rows z []) m false) e ∙ ap (λ z. get_or z m false) (p.row_dead r free))
   | inr ne ↦ ap (λ z. get_or z m false) (get_or-set_other s.rows r i row [] ne) ∙ h
 ]
 
-pub shrunk_kept : (s : Stored) (cs : List ℕ) (js : List (ℕ × ℕ)) (q : ℕ) (row : List Bool) (ps : List (Option ℕ))
-    (rg : List ℕ) (jn : List (ℕ × ℕ)) (ts : List ℕ) → IsKept s → AreJoined (sets_of s) cs js → q < s.size →
-    IsName s cs q →
-    AreWritten s cs js (s.size + q) row ps rg jn ts → IsShrunk (sets_of s) cs js (s.size + q)
-    (sets_of (with_set s cs (s.size + q) row ps rg jn ts)) → IsKept (with_set s cs (s.size + q) row ps rg jn ts)
+pub shrunk_kept : (s : Stored) (cs : List ℕ) (js : List (ℕ × ℕ)) (q : ℕ) (row : List Bool)
+    → (ps : List (Option ℕ)) (rg : List ℕ) (jn : List (ℕ × ℕ)) (ts : List ℕ) → IsKept s
+    → AreJoined (sets_of s) cs js → q < s.size → IsName s cs q
+    → AreWritten s cs js (s.size + q) row ps rg jn ts
+    → IsShrunk (sets_of s) cs js (s.size + q) (sets_of (with_set s cs (s.size + q) row ps rg jn ts))
+    → IsKept (with_set s cs (s.size + q) row ps rg jn ts)
 shrunk_kept s cs js q row ps rg jn ts p j lt name w t =
     let r : ℕ = s.size + q in
     let new : Stored = with_set s cs r row ps rg jn ts in
@@ -241,11 +240,11 @@ shrunk_kept s cs js q row ps rg jn ts p j lt name w t =
 pub row_fits : (s : Stored) (cs : List ℕ) (js : List (ℕ × ℕ)) (i : ℕ) → AreJoined (sets_of s) cs js → i < length cs → get_or cs i 0 < 2 * s.size
 row_fits s cs js i j h = j.tops.below _ (has_at cs i h)
 
-pub shrink_answer : (s : Stored) (cs : List ℕ) (js : List (ℕ × ℕ)) (q : ℕ) (row : List Bool) (ps ps' : List (Option ℕ))
-    (rg : List ℕ) (jn jn' : List (ℕ × ℕ)) (ts ts' : List ℕ) → IsKept s → AreJoined (sets_of s) cs js → q < s.size →
-    IsName s cs q →
-    AreWritten s cs js (s.size + q) row ps rg jn ts → ps' ≡ ps → jn' ≡ jn → ts' ≡ ts →
-    IsKept (with_set s cs (s.size + q) row ps' rg jn' ts') × IsShrunk (sets_of s) cs js (s.size + q) (sets_of (with_set s cs (s.size + q) row ps' rg jn' ts'))
+pub shrink_answer : (s : Stored) (cs : List ℕ) (js : List (ℕ × ℕ)) (q : ℕ) (row : List Bool)
+    → (ps ps' : List (Option ℕ)) (rg : List ℕ) (jn jn' : List (ℕ × ℕ)) (ts ts' : List ℕ) → IsKept s
+    → AreJoined (sets_of s) cs js → q < s.size → IsName s cs q
+    → AreWritten s cs js (s.size + q) row ps rg jn ts → ps' ≡ ps → jn' ≡ jn → ts' ≡ ts
+    → IsKept (with_set s cs (s.size + q) row ps' rg jn' ts') × IsShrunk (sets_of s) cs js (s.size + q) (sets_of (with_set s cs (s.size + q) row ps' rg jn' ts'))
 shrink_answer s cs js q row ps ps' rg jn jn' ts ts' p j lt name w ep ej et =
     let r : ℕ = s.size + q in
     let P : List (Option ℕ) → List (ℕ × ℕ) → List ℕ → Type 0 = λ a b c. IsKept (with_set s cs r row a rg b c) ×

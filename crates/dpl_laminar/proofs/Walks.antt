@@ -30,14 +30,16 @@ walk_same f g x (suc k) h =
     let rest : walk f (f x) k ≡ walk g (f x) k = walk_same f g (f x) k (λ c e. h c (has_more x c (walk f (f x) k) e)) in
     ap (λ z. x ∷ z) (rest ∙ ap (λ z. walk g z k) one)
 
-from_head : (f : ℕ → ℕ) (c : ℕ) (cs : List ℕ) → ((i : ℕ) → i + 1 < length (c ∷ cs) →
-    f (get_or (c ∷ cs) i 0) ≡ get_or (c ∷ cs) (suc i) 0) → walk f c (length (c ∷ cs)) ≡ c ∷ cs
+from_head : (f : ℕ → ℕ) (c : ℕ) (cs : List ℕ)
+    → ((i : ℕ) → i + 1 < length (c ∷ cs) → f (get_or (c ∷ cs) i 0) ≡ get_or (c ∷ cs) (suc i) 0)
+    → walk f c (length (c ∷ cs)) ≡ c ∷ cs
 from_head f c [] h = refl
 from_head f c (d ∷ ds) h = ap (λ z. c ∷ z) (ap (λ z. walk f z (length (d ∷ ds))) (h 0 (omega arith)) ∙ from_head f d ds (λ i l. h (suc i) (omega arith)))
 
 -- where each number of a list leads to the next one, the list is a walk
-pub walk_is : (f : ℕ → ℕ) (cs : List ℕ) → 0 < length cs →
-    ((i : ℕ) → i + 1 < length cs → f (get_or cs i 0) ≡ get_or cs (i + 1) 0) → walk f (get_or cs 0 0) (length cs) ≡ cs
+pub walk_is : (f : ℕ → ℕ) (cs : List ℕ) → 0 < length cs
+    → ((i : ℕ) → i + 1 < length cs → f (get_or cs i 0) ≡ get_or cs (i + 1) 0)
+    → walk f (get_or cs 0 0) (length cs) ≡ cs
 walk_is f [] some h = absurd (omega arith)
 walk_is f (c ∷ cs) some h = from_head f c cs (λ i l. h i l ∙ ap (λ z. get_or (c ∷ cs) z 0) (let z : i + 1 ≡ suc i = omega arith in z))
 
@@ -57,8 +59,8 @@ at_walk f x (suc k) (suc i) h = at_walk f (f x) k i (omega arith) ∙ step_inner
 
 -- ---- an exchange
 
-swap_written : (xs : List ℕ) (i j x : ℕ) → i < length xs → j < length xs →
-    get_or (swap xs i j) x 0 ≡ get_or (set (set xs i (get_or xs j 0)) j (get_or xs i 0)) x 0
+swap_written : (xs : List ℕ) (i j x : ℕ) → i < length xs → j < length xs
+    → get_or (swap xs i j) x 0 ≡ get_or (set (set xs i (get_or xs j 0)) j (get_or xs i 0)) x 0
 swap_written xs i j x hi hj = ap (λ (l : List ℕ). get_or l x 0) (sym (swap_is xs i j 0 hi hj))
 
 pub swap_second : (xs : List ℕ) (i j : ℕ) → i < length xs → j < length xs → get_or (swap xs i j) j 0 ≡ get_or xs i 0
@@ -103,9 +105,9 @@ differ_at cs i j d hi hj ne = elim (cases_eq i j) [
 not_in : (cs : List ℕ) (c i : ℕ) → has cs c ≡ false → i < length cs → c ≢ get_or cs i 0
 not_in cs c i h hi e = true_false (has cs c) (ap (has cs) e ∙ has_at cs i hi) h
 
-pub tied_more : (cs old new : List ℕ) (j k : ℕ) → j ≡ k + 1 → j < length cs → AreDistinct cs →
-    ((i : ℕ) → i < length cs → get_or cs i 0 < length old) → AreTied cs old new j →
-    AreTied cs old (swap new (get_or cs k 0) (get_or cs j 0)) (j + 1)
+pub tied_more : (cs old new : List ℕ) (j k : ℕ) → j ≡ k + 1 → j < length cs → AreDistinct cs
+    → ((i : ℕ) → i < length cs → get_or cs i 0 < length old) → AreTied cs old new j
+    → AreTied cs old (swap new (get_or cs k 0) (get_or cs j 0)) (j + 1)
 tied_more cs old new j k e hj d below t =
     let a = get_or cs k 0 in
     let b = get_or cs j 0 in
@@ -128,8 +130,9 @@ tied_more cs old new j k e hj d below t =
       others = λ c h. swap_other new a b c la lb (not_in cs c k h hk) (not_in cs c j h hj) ∙ t.others c h;
     }
 
-pub tied_all : (cs old new : List ℕ) (j : ℕ) → AreTied cs old new j → length cs ≤ j → (0 < length cs → j ≤ length cs) →
-    (i : ℕ) → i < length cs → get_or new (get_or cs i 0) 0 ≡ get_or cs ((i + 1) % length cs) 0
+pub tied_all : (cs old new : List ℕ) (j : ℕ) → AreTied cs old new j → length cs ≤ j
+    → (0 < length cs → j ≤ length cs) → (i : ℕ) → i < length cs
+    → get_or new (get_or cs i 0) 0 ≡ get_or cs ((i + 1) % length cs) 0
 tied_all cs old new j t least most i h = elim (cases_eq (i + 1) (length cs)) [
   | inl e ↦ t.last i (omega (arith, most (omega arith))) h ∙ ap (λ z. get_or cs z 0) (sym (around_last i (length cs) e))
   | inr ne ↦ t.done i (omega arith) (omega arith) ∙ ap (λ z. get_or cs z 0) (sym (around_next i (length cs) (omega arith)))
@@ -144,9 +147,9 @@ pub record AreUntied (cs old new : List ℕ) (j : ℕ) : Type 0 where
   pub rest : (i : ℕ) → j ≤ i → i < length cs → get_or new (get_or cs i 0) 0 ≡ get_or cs ((i + 1) % length cs) 0
   pub others : (c : ℕ) → has cs c ≡ false → get_or new c 0 ≡ get_or old c 0
 
-pub untied_more : (cs old new : List ℕ) (j : ℕ) → 1 ≤ j → j < length cs → AreDistinct cs →
-    ((i : ℕ) → i < length cs → get_or cs i 0 < length old) → AreUntied cs old new j →
-    AreUntied cs old (swap new (get_or cs 0 0) (get_or new (get_or cs 0 0) 0)) (j + 1)
+pub untied_more : (cs old new : List ℕ) (j : ℕ) → 1 ≤ j → j < length cs → AreDistinct cs
+    → ((i : ℕ) → i < length cs → get_or cs i 0 < length old) → AreUntied cs old new j
+    → AreUntied cs old (swap new (get_or cs 0 0) (get_or new (get_or cs 0 0) 0)) (j + 1)
 untied_more cs old new j least hj d below t =
     let a = get_or cs 0 0 in
     let b = get_or cs j 0 in
@@ -200,9 +203,9 @@ circle_start ring first count p some =
       others = λ c h. refl;
     }
 
-pub circle_more : (ring : List ℕ) (first count : ℕ) (new : List ℕ) (j : ℕ) → IsCircle ring first count → 1 ≤ j →
-    j < count → AreUntied (circle_of ring first count) ring new j →
-    AreUntied (circle_of ring first count) ring (swap new first (get_or new first 0)) (j + 1)
+pub circle_more : (ring : List ℕ) (first count : ℕ) (new : List ℕ) (j : ℕ) → IsCircle ring first count → 1 ≤ j
+    → j < count → AreUntied (circle_of ring first count) ring new j
+    → AreUntied (circle_of ring first count) ring (swap new first (get_or new first 0)) (j + 1)
 circle_more ring first count new j p least h t =
     let cs = circle_of ring first count in
     let l : length cs ≡ count = length_ring ring first count in
@@ -212,22 +215,22 @@ circle_more ring first count new j p least h t =
     (λ i hi. p.below i (omega arith)) t in
     subst (λ z. AreUntied cs ring (swap new z (get_or new z 0)) (j + 1)) is next
 
-pub circle_end : (ring : List ℕ) (first count : ℕ) (new : List ℕ) (j : ℕ) → 0 < count → j ≡ count →
-    AreUntied (circle_of ring first count) ring new j → (c : ℕ) → has (circle_of ring first count) c ≡ true →
-    get_or new c 0 ≡ c
+pub circle_end : (ring : List ℕ) (first count : ℕ) (new : List ℕ) (j : ℕ) → 0 < count → j ≡ count
+    → AreUntied (circle_of ring first count) ring new j → (c : ℕ) → has (circle_of ring first count) c ≡ true
+    → get_or new c 0 ≡ c
 circle_end ring first count new j some e t = untied_all (circle_of ring first count) ring new j
     (omega (arith, length_ring ring first count)) t (e ∙ sym (length_ring ring first count))
 
 -- the place of a walk that so many steps lead to
-pub ring_at : (ring : List ℕ) (first count j child : ℕ) → j < count → child ≡ step (λ c. get_or ring c 0) first j →
-    get_or (circle_of ring first count) j 0 ≡ child
+pub ring_at : (ring : List ℕ) (first count j child : ℕ) → j < count
+    → child ≡ step (λ c. get_or ring c 0) first j → get_or (circle_of ring first count) j 0 ≡ child
 ring_at ring first count j child h e = at_walk _ first count j h ∙ sym e
 
 pub ring_whole : (ring : List ℕ) (first count j : ℕ) → count ≤ j → take j (circle_of ring first count) ≡ circle_of ring first count
 ring_whole ring first count j h = take_all j (circle_of ring first count) (omega (arith, length_ring ring first count))
 
-pub ring_next : (ring : List ℕ) (first j child next : ℕ) → child ≡ step (λ c. get_or ring c 0) first j →
-    next ≡ get_or ring child 0 → next ≡ step (λ c. get_or ring c 0) first (j + 1)
+pub ring_next : (ring : List ℕ) (first j child next : ℕ) → child ≡ step (λ c. get_or ring c 0) first j
+    → next ≡ get_or ring child 0 → next ≡ step (λ c. get_or ring c 0) first (j + 1)
 ring_next ring first j child next e h =
     let f : ℕ → ℕ = λ c. get_or ring c 0 in
     h ∙ ap f e ∙ ap (step f first) (let z : suc j ≡ j + 1 = omega arith in z)

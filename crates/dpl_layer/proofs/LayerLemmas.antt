@@ -46,8 +46,8 @@ within_first r (w, h) = elim (lies_along_x r) as (λ b. IsWithin (if b then r.x1
 -- ---- the numbers below n
 
 -- each tile has a fragment, so there are no more tiles than fragments
-pub few_tiles : (keep : List Corners) (space over : ℕ) (cells : ℤ → ℤ → Bool) (tiles : List Corners) (label : List ℕ)
-    (f : Fragments) → AreTiles cells tiles → AreFragments keep space over tiles label f → length tiles ≤ length f.rects
+pub few_tiles : (keep : List Corners) (space over : ℕ) (cells : ℤ → ℤ → Bool) (tiles : List Corners) (label : List ℕ) (f : Fragments)
+    → AreTiles cells tiles → AreFragments keep space over tiles label f → length tiles ≤ length f.rects
 few_tiles keep space over cells tiles label f t a =
     let n = length tiles in
     let numbers = range_with_len 0 n in
@@ -69,8 +69,8 @@ few_tiles keep space over cells tiles label f t a =
 -- ---- fragments and nets
 
 -- cells and cells that are kept whole have one list of fragments
-pub fragments_same_of : (space over : ℕ) (cells kept : Cells) (f g : Fragments) →
-    AreFragmentsOf space over cells kept f → AreFragmentsOf space over cells kept g → f ≡ g
+pub fragments_same_of : (space over : ℕ) (cells kept : Cells) (f g : Fragments)
+    → AreFragmentsOf space over cells kept f → AreFragmentsOf space over cells kept g → f ≡ g
 fragments_same_of space over cells kept f g a b =
     let t : b.tiles ≡ a.tiles = tiles_same cells b.tiles a.tiles b.are_tiles a.are_tiles in
     let k : b.keep ≡ a.keep = tiles_same kept b.keep a.keep b.are_kept a.are_kept in
@@ -82,8 +82,8 @@ fragments_same_of space over cells kept f g a b =
     fragments_same a.keep space over a.tiles a.label f g a.are_fragments r
 
 -- they have one list of fragments and one net
-pub same_layer : (o : PlainOptions) (cells kept : Cells) (f g : Fragments) (n m : Net) → IsLayerOf o cells kept f n →
-    IsLayerOf o cells kept g m → (f ≡ g) × (n ≡ m)
+pub same_layer : (o : PlainOptions) (cells kept : Cells) (f g : Fragments) (n m : Net)
+    → IsLayerOf o cells kept f n → IsLayerOf o cells kept g m → (f ≡ g) × (n ≡ m)
 same_layer o cells kept f g n m a b =
     let e : g ≡ f = fragments_same_of (2 * o.space) (2 * o.overlap) cells kept g f b.fragments a.fragments in
     let p = subst (λ z. IsNet z o.weights (2 * o.space) m) e b.net in
@@ -92,8 +92,8 @@ same_layer o cells kept f g n m a b =
 -- ---- how many
 
 -- the tiles of cells with no more than n fragments have no more
-pub within_fragments : (space over : ℕ) (cells kept : Cells) (f : Fragments) (tiles keep : List Corners) (n : ℕ) →
-    AreFragmentsOf space over cells kept f → length f.rects ≤ n → AreTiles cells tiles → AreTiles kept keep
+pub within_fragments : (space over : ℕ) (cells kept : Cells) (f : Fragments) (tiles keep : List Corners) (n : ℕ)
+    → AreFragmentsOf space over cells kept f → length f.rects ≤ n → AreTiles cells tiles → AreTiles kept keep
     → ¬ HasMoreFragments keep space over tiles n
 within_fragments space over cells kept f tiles keep n a few t u more =
     let e : tiles ≡ a.tiles = tiles_same cells tiles a.tiles t a.are_tiles in
@@ -102,8 +102,8 @@ within_fragments space over cells kept f tiles keep n a few t u more =
     no_more_fragments a.keep space over a.tiles a.label f n a.are_fragments few (subst (λ z. HasMoreFragments z space over a.tiles n) d m)
 
 -- the tiles of fragments are no more than these
-pub tiles_within : (space over : ℕ) (cells kept : Cells) (f : Fragments) (a : AreFragmentsOf space over cells kept f) →
-    length f.rects ≤ 100000 → length a.tiles ≤ 100000
+pub tiles_within : (space over : ℕ) (cells kept : Cells) (f : Fragments) (a : AreFragmentsOf space over cells kept f)
+    → length f.rects ≤ 100000 → length a.tiles ≤ 100000
 tiles_within space over cells kept f a few =
     let h = few_tiles a.keep space over cells a.tiles a.label f a.are_tiles a.are_fragments in
     omega arith

@@ -15,9 +15,9 @@ use Rattle.dpl_layer.specs.Drawings.{Cells}
 use Rattle.dpl_layer.specs.Layers.{IsLayerOf}
 
 -- cells that are moved have the layer with fragments and ports that are moved
-pub moved_layer : (o : PlainOptions) (right up : ℤ) (cells kept : Cells) (f g : Fragments) (n m : Net) → AreImages (moved right up) f g →
-    IsRedrawn (IsMovedPort (key_shift right up)) n m → IsLayerOf o cells kept f n →
-    IsLayerOf o (moved_cells right up cells) (moved_cells right up kept) g m
+pub moved_layer : (o : PlainOptions) (right up : ℤ) (cells kept : Cells) (f g : Fragments) (n m : Net)
+    → AreImages (moved right up) f g → IsRedrawn (IsMovedPort (key_shift right up)) n m
+    → IsLayerOf o cells kept f n → IsLayerOf o (moved_cells right up cells) (moved_cells right up kept) g m
 moved_layer o right up cells kept f g n m i r l =
     let t = l.fragments in
     record {

@@ -151,8 +151,8 @@ limit_first : (F L G M : Reason) (x e : LayerError) → IsFree F → IsFree G �
 limit_first F L G M x e free also is p =
     later F (G ∷ L ∷ M ∷ []) e free (later G (L ∷ M ∷ []) e also (first L (M ∷ []) e (as_told L x e is p)))
 
-limit_second : (F L G M : Reason) (x e : LayerError) → IsFree F → IsFree G → IsFree L →
-    ◌≡◌ {A = Option LayerError} (Some x) (Some e) → M x → FirstOf (F ∷ G ∷ L ∷ M ∷ []) e
+limit_second : (F L G M : Reason) (x e : LayerError) → IsFree F → IsFree G → IsFree L
+    → ◌≡◌ {A = Option LayerError} (Some x) (Some e) → M x → FirstOf (F ∷ G ∷ L ∷ M ∷ []) e
 limit_second F L G M x e free also few is p =
     later F (G ∷ L ∷ M ∷ []) e free (later G (L ∷ M ∷ []) e also (later L (M ∷ []) e few (first M [] e (as_told M x e is p))))
 
@@ -177,8 +177,9 @@ two_say F L G M _ _ (good os free few) (far n also q) e is = limit_second F L G 
 two_say F L G M _ _ (good os free few) (good ps also none) e is = absurd (cc)
 
 -- what stops the reading of two layers is the first reason that applies
-pub joined_tells : (text layer : List ℕ) (keep : Option (List ℕ)) (e : LayerError) →
-    answer_of (joined (reading layer text) (keep_reading keep text)) ≡ Some e → FirstOf (reasons_in (layer ∷ option_to_list keep) text) e
+pub joined_tells : (text layer : List ℕ) (keep : Option (List ℕ)) (e : LayerError)
+    → answer_of (joined (reading layer text) (keep_reading keep text)) ≡ Some e
+    → FirstOf (reasons_in (layer ∷ option_to_list keep) text) e
 joined_tells text layer None e is =
     one_says (HasFault text layer) (PassesLimit text layer) (reading layer text) (layer_says text layer) e is
 joined_tells text layer (Some name) e is =
@@ -186,8 +187,9 @@ joined_tells text layer (Some name) e is =
     (reading layer text) (reading name text) (layer_says text layer) (layer_says text name) e is
 
 -- where both readings are good, no reason applies
-pub both_free : (text layer : List ℕ) (keep : Option (List ℕ)) (xs ys : List Outline) → reading layer text ≡ Good xs →
-    keep_reading keep text ≡ Good ys → NoneOf (reasons_in (layer ∷ option_to_list keep) text)
+pub both_free : (text layer : List ℕ) (keep : Option (List ℕ)) (xs ys : List Outline)
+    → reading layer text ≡ Good xs → keep_reading keep text ≡ Good ys
+    → NoneOf (reasons_in (layer ∷ option_to_list keep) text)
 both_free text layer None xs ys a b =
     let F : Reason = HasFault text layer in
     let L : Reason = PassesLimit text layer in

@@ -151,31 +151,34 @@ none_comes o text f n l =
 -- ---- a text and its drawing
 
 -- a text that has no drawing has no layer, for the same reason
-pub drawing_text_refuses : (o : PlainOptions) (text : List ℕ) (e : LayerError) → (e ≡ NoMemory) ⊎
-    FirstOf (drawing_reasons o text) e → (e ≡ NoMemory) ⊎ FirstOf (layer_reasons o text) e
+pub drawing_text_refuses : (o : PlainOptions) (text : List ℕ) (e : LayerError)
+    → (e ≡ NoMemory) ⊎ FirstOf (drawing_reasons o text) e → (e ≡ NoMemory) ⊎ FirstOf (layer_reasons o text) e
 drawing_text_refuses o text e (inl m) = inl m
 drawing_text_refuses o text e (inr r) =
     inr (in_front (drawing_reasons o text) (cells_reasons o (is_cell (primitives_of o.layer text)) (is_cell (kept_of o.keep text))) e r)
 
 -- a text of which the cells pass a limit has no layer, for the same reason
-pub cells_text_refuse : (o : PlainOptions) (text : List ℕ) (d : Drawing) (e : LayerError) → IsDrawingOf o text d →
-    (e ≡ NoMemory) ⊎ FirstOf (cells_reasons o (cells_of d.layer) (cells_of d.keep)) e → (e ≡ NoMemory) ⊎ FirstOf (layer_reasons o text) e
+pub cells_text_refuse : (o : PlainOptions) (text : List ℕ) (d : Drawing) (e : LayerError)
+    → IsDrawingOf o text d → (e ≡ NoMemory) ⊎ FirstOf (cells_reasons o (cells_of d.layer) (cells_of d.keep)) e
+    → (e ≡ NoMemory) ⊎ FirstOf (layer_reasons o text) e
 cells_text_refuse o text d e is (inl m) = inl m
 cells_text_refuse o text d e is (inr r) =
     inr (behind (drawing_reasons o text) (cells_reasons o (is_cell (primitives_of o.layer text)) (is_cell (kept_of o.keep text))) e
     is.taken (drawn_cells o text d (λ cells kept. FirstOf (cells_reasons o cells kept) e) is r))
 
 -- what stops the reading of both layers refuses the text, but for want of memory
-pub reading_refuses : (o : PlainOptions) (text : List ℕ) (e : CifError) → Refuses e (joined (reading o.layer text) (keep_reading o.keep text)) →
-    (of_reading e ≡ NoMemory) ⊎ FirstOf (drawing_reasons o text) (of_reading e)
+pub reading_refuses : (o : PlainOptions) (text : List ℕ) (e : CifError)
+    → Refuses e (joined (reading o.layer text) (keep_reading o.keep text))
+    → (of_reading e ≡ NoMemory) ⊎ FirstOf (drawing_reasons o text) (of_reading e)
 reading_refuses o text e r = elim (refusal_answers (joined (reading o.layer text) (keep_reading o.keep text)) e r) [
   | inl m ↦ inl m
   | inr is ↦ inr (joined_tells text o.layer o.keep (of_reading e) is)
 ]
 
 -- where both layers are read, they are what is drawn
-pub drawing_is : (o : PlainOptions) (text : List ℕ) (d : Drawing) → reading o.layer text ≡ Good (map outline_of d.layer.prims) →
-    keep_reading o.keep text ≡ Good (map outline_of d.keep.prims) → IsDrawingOf o text d
+pub drawing_is : (o : PlainOptions) (text : List ℕ) (d : Drawing)
+    → reading o.layer text ≡ Good (map outline_of d.layer.prims)
+    → keep_reading o.keep text ≡ Good (map outline_of d.keep.prims) → IsDrawingOf o text d
 drawing_is o text d a b = record {
   taken = both_free text o.layer o.keep (map outline_of d.layer.prims) (map outline_of d.keep.prims) a b;
   layer = good_is text o.layer (map outline_of d.layer.prims) a;
@@ -207,8 +210,9 @@ limit_kind most room text layer e r = first_has (HasKind (Unit {0}) most)
       ),
     ) r
 
-all_kinds : (most : ℕ) (R : List ℕ → Reason) → ((layer : List ℕ) (e : LayerError) → R layer e → HasKind (Unit {0}) most e) →
-    (layers : List (List ℕ)) → AllHave (HasKind (Unit {0}) most) (map R layers)
+all_kinds : (most : ℕ) (R : List ℕ → Reason)
+    → ((layer : List ℕ) (e : LayerError) → R layer e → HasKind (Unit {0}) most e) → (layers : List (List ℕ))
+    → AllHave (HasKind (Unit {0}) most) (map R layers)
 all_kinds most R each [] = tt
 all_kinds most R each (l ∷ ls) = (each l, all_kinds most R each ls)
 
@@ -248,9 +252,9 @@ never_memory o text r = first_has (HasKind (Unit {0}) 7) (layer_reasons o text) 
 -- ---- when each answer comes, where at most one refusal applies
 
 -- the refusal that applies is the one that comes
-pub one_comes : {T : Type 0} (R : LayerError → Type 0) (result : Result T LayerError) (f : LayerError) →
-    ((e g : LayerError) → R e → R g → e ≡ g) → result ≡ Err f → (f ≡ NoMemory) ⊎ R f
-    → (e : LayerError) → R e → (result ≡ Err e) ⊎ (result ≡ Err NoMemory)
+pub one_comes : {T : Type 0} (R : LayerError → Type 0) (result : Result T LayerError) (f : LayerError)
+    → ((e g : LayerError) → R e → R g → e ≡ g) → result ≡ Err f → (f ≡ NoMemory) ⊎ R f → (e : LayerError)
+    → R e → (result ≡ Err e) ⊎ (result ≡ Err NoMemory)
 one_comes R result f one is (inl m) e r = inr (is ∙ ap Err m)
 one_comes R result f one is (inr s) e r = inl (is ∙ ap Err (one f e s r))
 
@@ -263,15 +267,15 @@ only_comes {T} R result f is h e comes =
     subst (λ z. (z ≡ NoMemory) ⊎ R z) d h
 
 -- an error that is not want of memory refuses
-pub error_refuses : {T : Type 0} (R : LayerError → Type 0) (result : Result T LayerError) →
-    IfErr result (λ e. (e ≡ NoMemory) ⊎ R e) → (e : LayerError) → result ≡ Err e → (e ≡ NoMemory) ⊎ R e
+pub error_refuses : {T : Type 0} (R : LayerError → Type 0) (result : Result T LayerError)
+    → IfErr result (λ e. (e ≡ NoMemory) ⊎ R e) → (e : LayerError) → result ≡ Err e → (e ≡ NoMemory) ⊎ R e
 error_refuses R result b e h = rw h at b
 
 -- where there is one refusal, it comes as the error, but for want of memory
-pub refusal_comes : {T : Type 0} (L : T → Type 0) (R : LayerError → Type 0) (result : Result T LayerError) →
-    ((e g : LayerError) → R e → R g → e ≡ g) → ((t : T) → L t → (e : LayerError) → ¬ R e) → IfOk result L →
-    IfErr result (λ e. (e ≡ NoMemory) ⊎ R e)
-    → (e : LayerError) → R e → (result ≡ Err e) ⊎ (result ≡ Err NoMemory)
+pub refusal_comes : {T : Type 0} (L : T → Type 0) (R : LayerError → Type 0) (result : Result T LayerError)
+    → ((e g : LayerError) → R e → R g → e ≡ g) → ((t : T) → L t → (e : LayerError) → ¬ R e) → IfOk result L
+    → IfErr result (λ e. (e ≡ NoMemory) ⊎ R e) → (e : LayerError) → R e
+    → (result ≡ Err e) ⊎ (result ≡ Err NoMemory)
 refusal_comes L R (Ok t) one free a b e r = absurd (free t a e r)
 refusal_comes L R (Err f) one free a (inl n) e r = inr (ap Err n)
 refusal_comes L R (Err f) one free a (inr q) e r = inl (ap Err (one f e q r))
@@ -283,10 +287,10 @@ pub err_refuses : {T : Type 0} (r : Result T LayerError) (Q : LayerError → Typ
 err_refuses r Q e f a b q = rw (a, b) q
 
 -- no tile of the cells, and none of those that are kept whole, is one too many
-few_tiles : (o : PlainOptions) (cells kept : Cells) (ts ks : List Corners) (e : LayerError) → AreTiles cells ts → AreTiles kept ks →
-    length ts ≤ 100000 → length ks ≤ 100000 →
-    FirstOf (IsPassed Counted.Fragments (HasTooManyFragments o cells kept) ∷ IsPassed Counted.Edges (HasTooManyEdges o cells kept) ∷ []) e →
-    FirstOf (cells_reasons o cells kept) e
+few_tiles : (o : PlainOptions) (cells kept : Cells) (ts ks : List Corners) (e : LayerError)
+    → AreTiles cells ts → AreTiles kept ks → length ts ≤ 100000 → length ks ≤ 100000
+    → FirstOf (IsPassed Counted.Fragments (HasTooManyFragments o cells kept) ∷ IsPassed Counted.Edges (HasTooManyEdges o cells kept) ∷ []) e
+    → FirstOf (cells_reasons o cells kept) e
 few_tiles o cells kept ts ks e t u few also r =
     let T : Reason = IsPassed Counted.Tiles (HasMoreTiles cells 100000) in
     let K : Reason = IsPassed Counted.Tiles (HasMoreTiles kept 100000) in
@@ -296,17 +300,18 @@ few_tiles o cells kept ts ks e t u few also r =
     (later K (F ∷ E ∷ []) e (λ x p. not_more kept ks 100000 u also p.0) r)
 
 -- an error of the tiles passes the limit on tiles, but for want of memory
-pub tiles_refuse : (o : PlainOptions) (cells kept : Cells) (e : TileError) → (e ≡ tile.TooMany → HasMoreTiles cells 100000) →
-    (of_tiles e ≡ NoMemory) ⊎ FirstOf (cells_reasons o cells kept) (of_tiles e)
+pub tiles_refuse : (o : PlainOptions) (cells kept : Cells) (e : TileError)
+    → (e ≡ tile.TooMany → HasMoreTiles cells 100000)
+    → (of_tiles e ≡ NoMemory) ⊎ FirstOf (cells_reasons o cells kept) (of_tiles e)
 tiles_refuse o cells kept tile.TooMany many = inr (first (IsPassed Counted.Tiles (HasMoreTiles cells 100000))
     (IsPassed Counted.Tiles (HasMoreTiles kept 100000) ∷ IsPassed Counted.Fragments (HasTooManyFragments o cells kept)
     ∷ IsPassed Counted.Edges (HasTooManyEdges o cells kept) ∷ []) (passed Counted.Tiles) (many refl, refl))
 tiles_refuse o cells kept tile.NoMemory many = inl refl
 
 -- an error of the tiles that are kept whole passes the limit on tiles, but for want of memory
-pub kept_refuses : (o : PlainOptions) (cells kept : Cells) (v : List Rect) (e : TileError) →
-    AreTiles cells (map corners_of v) → length v ≤ 100000 → (e ≡ tile.TooMany → HasMoreTiles kept 100000) →
-    (of_tiles e ≡ NoMemory) ⊎ FirstOf (cells_reasons o cells kept) (of_tiles e)
+pub kept_refuses : (o : PlainOptions) (cells kept : Cells) (v : List Rect) (e : TileError)
+    → AreTiles cells (map corners_of v) → length v ≤ 100000 → (e ≡ tile.TooMany → HasMoreTiles kept 100000)
+    → (of_tiles e ≡ NoMemory) ⊎ FirstOf (cells_reasons o cells kept) (of_tiles e)
 kept_refuses o cells kept v tile.TooMany t few many =
     let T : Reason = IsPassed Counted.Tiles (HasMoreTiles cells 100000) in
     let K : Reason = IsPassed Counted.Tiles (HasMoreTiles kept 100000) in
@@ -318,10 +323,11 @@ kept_refuses o cells kept v tile.TooMany t few many =
 kept_refuses o cells kept v tile.NoMemory t few many = inl refl
 
 -- an error of the cuts passes the limit on fragments, but for want of memory
-pub cuts_refuse : (o : PlainOptions) (cells kept : Cells) (v w : List Rect) (e : CutError) →
-    AreTiles cells (map corners_of v) → AreTiles kept (map corners_of w) → length v ≤ 100000 → length w ≤ 100000 →
-    (e ≡ cut.TooMany → HasMoreFragments (map corners_of w) (2 * o.space) (2 * o.overlap) (map corners_of v) 100000) →
-    (of_cuts e ≡ NoMemory) ⊎ FirstOf (cells_reasons o cells kept) (of_cuts e)
+pub cuts_refuse : (o : PlainOptions) (cells kept : Cells) (v w : List Rect) (e : CutError)
+    → AreTiles cells (map corners_of v) → AreTiles kept (map corners_of w) → length v ≤ 100000
+    → length w ≤ 100000
+    → (e ≡ cut.TooMany → HasMoreFragments (map corners_of w) (2 * o.space) (2 * o.overlap) (map corners_of v) 100000)
+    → (of_cuts e ≡ NoMemory) ⊎ FirstOf (cells_reasons o cells kept) (of_cuts e)
 cuts_refuse o cells kept v w cut.TooMany t u few also many =
     let small : length (map corners_of v) ≤ 100000 = rw (length-map v corners_of) few in
     let least : length (map corners_of w) ≤ 100000 = rw (length-map w corners_of) also in
@@ -340,9 +346,9 @@ cuts_refuse o cells kept v w cut.TooMany t u few also many =
 cuts_refuse o cells kept v w cut.NoMemory t u few also many = inl refl
 
 -- an error of the net passes the limit on edges, but for want of memory
-pub net_refuses : (o : PlainOptions) (cells kept : Cells) (f : Fragments) (e : NetError)
-    (a : AreFragmentsOf (2 * o.space) (2 * o.overlap) cells kept f) → length a.keep ≤ 100000 → length f.rects ≤ 100000 →
-    (e ≡ net.TooMany → HasMoreEdges f (2 * o.space) 400000)
+pub net_refuses : (o : PlainOptions) (cells kept : Cells) (f : Fragments) (e : NetError) (a : AreFragmentsOf (2 * o.space) (2 * o.overlap) cells kept f)
+    → length a.keep ≤ 100000 → length f.rects ≤ 100000
+    → (e ≡ net.TooMany → HasMoreEdges f (2 * o.space) 400000)
     → (of_net e ≡ NoMemory) ⊎ FirstOf (cells_reasons o cells kept) (of_net e)
 net_refuses o cells kept f net.TooMany a few_kept few many =
     let F : Reason = IsPassed Counted.Fragments (HasTooManyFragments o cells kept) in

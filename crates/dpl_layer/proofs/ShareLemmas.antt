@@ -83,8 +83,9 @@ no_limit o text none =
     let limits : NoneOf (PassesLimit text o.layer ∷ L) = λ e r. none e (behind F (PassesLimit text o.layer ∷ L) e free r) in
     none_head (PassesLimit text o.layer) L limits
 
-pub text_shares_out : (o : PlainOptions) (text : List ℕ) → NoneOf (drawing_reasons o text) → (tiles : List Corners) →
-    AreTiles (is_cell (primitives_of o.layer text)) tiles → SharesOut (is_cell (primitives_of o.layer text)) tiles
+pub text_shares_out : (o : PlainOptions) (text : List ℕ) → NoneOf (drawing_reasons o text)
+    → (tiles : List Corners) → AreTiles (is_cell (primitives_of o.layer text)) tiles
+    → SharesOut (is_cell (primitives_of o.layer text)) tiles
 text_shares_out o text none tiles a =
     let os = primitives_of o.layer text in
     shares_out (is_cell os) tiles (bounded_parts os (within_reach text o.layer (no_limit o text none))) a

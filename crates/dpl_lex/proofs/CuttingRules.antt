@@ -29,9 +29,8 @@ pub empty_is_cut : laws.EmptyIsCut
 empty_is_cut rest at = refl
 
 -- in a command, up to its semicolon
-inside : (body rest : List ℕ) (start at : ℕ) → list_all is_inside body ≡ true →
-    cut (Inside start) at (body ++ 59 ∷ rest) ≡ with_span (Some (span start (at + length body)))
-    (cut Between (at + length body + 1) rest)
+inside : (body rest : List ℕ) (start at : ℕ) → list_all is_inside body ≡ true
+    → cut (Inside start) at (body ++ 59 ∷ rest) ≡ with_span (Some (span start (at + length body))) (cut Between (at + length body + 1) rest)
 inside [] rest start at h = rw add-zero refl
 inside (b ∷ bs) rest start at h = grind (arith, common_steps, inside bs rest start (at + 1))
 
@@ -47,8 +46,8 @@ pub plain_rests : laws.PlainRests
 plain_rests first body at b h = grind (arith, common_steps, unfinished body at (at + 1))
 
 -- what is nested leaves the depth as it is
-nested : (bs : List ℕ) → IsNested bs → (rest : List ℕ) (start depth at : ℕ) →
-    cut (Comment start depth) at (bs ++ rest) ≡ cut (Comment start depth) (at + length bs) rest
+nested : (bs : List ℕ) → IsNested bs → (rest : List ℕ) (start depth at : ℕ)
+    → cut (Comment start depth) at (bs ++ rest) ≡ cut (Comment start depth) (at + length bs) rest
 nested _ nothing rest start depth at = rw add-zero refl
 nested _ (byte b bs h n) rest start depth at = grind (arith, common_steps, nested bs n rest start depth (at + 1))
 nested _ (pair inner bs m n) rest start depth at =

@@ -30,13 +30,13 @@ next_started (Comment s d) at b h = chosen (IsStarted (at + 1)) (eqb b 40) _ _ (
     (omega arith))
 next_started Ended at b h = tt
 
-maybe_within : (b : Bool) (start at most : ℕ) (c : Commands) → start ≤ at → at ≤ most → AreWithin most c.spans →
-    AreWithin most (with_span (cond b (Some (span start at)) None) c).spans
+maybe_within : (b : Bool) (start at most : ℕ) (c : Commands) → start ≤ at → at ≤ most → AreWithin most c.spans
+    → AreWithin most (with_span (cond b (Some (span start at)) None) c).spans
 maybe_within true start at most c h k w = (h, k, w)
 maybe_within false start at most c h k w = w
 
-finished_within : (p : Place) (at b most : ℕ) (c : Commands) → IsStarted at p → at ≤ most → AreWithin most c.spans →
-    AreWithin most (with_span (finished p at b) c).spans
+finished_within : (p : Place) (at b most : ℕ) (c : Commands) → IsStarted at p → at ≤ most
+    → AreWithin most c.spans → AreWithin most (with_span (finished p at b) c).spans
 finished_within Between at b most c h k w = maybe_within (eqb b 59) at at most c (omega arith) k w
 finished_within (Inside s) at b most c h k w = maybe_within (eqb b 59) s at most c h k w
 finished_within (Comment s d) at b most c h k w = w

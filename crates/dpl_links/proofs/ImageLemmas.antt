@@ -88,7 +88,8 @@ pub transposition_keeps : Keeps transposed IsTransposedPort
 transposition_keeps = record {
   edge = λ a b. (transposed_edge a b, transposed_edge (transposed a) (transposed b));
   close = λ a b reach. (transposed_close a b reach, transposed_close (transposed a) (transposed b) reach);
-  gap = λ a b. turned_sum (stretch_gap a.y1 a.y2 b.y1 b.y2 * stretch_gap a.y1 a.y2 b.y1 b.y2) (stretch_gap a.x1 a.x2 b.x1 b.x2 * stretch_gap a.x1 a.x2 b.x1 b.x2);
+  gap = λ a b. turned_sum (stretch_gap a.y1 a.y2 b.y1 b.y2 * stretch_gap a.y1 a.y2 b.y1 b.y2) (stretch_gap a.x1
+      a.x2 b.x1 b.x2 * stretch_gap a.x1 a.x2 b.x1 b.x2);
   corner = λ a b. ap (λ (z : Bool). rank_of z) (or_over (overlap a.y1 a.y2 b.y1 b.y2) (overlap a.x1 a.x2 b.x1 b.x2));
   port = λ a b p q m t. transposed_port_to a b p q m t;
 }

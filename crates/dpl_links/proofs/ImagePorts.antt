@@ -22,13 +22,13 @@ use Rattle.dpl_links.specs.Moving.{key_shift}
 
 -- ---- moved
 
-level_key : (port : ℕ) (from to right up : ℤ) → (port ≡ 1) ⊎ (port ≡ 5) →
-    side_key port from to +ℤ key_shift right up port ≡ side_key port (from +ℤ right) (to +ℤ right)
+level_key : (port : ℕ) (from to right up : ℤ) → (port ≡ 1) ⊎ (port ≡ 5)
+    → side_key port from to +ℤ key_shift right up port ≡ side_key port (from +ℤ right) (to +ℤ right)
 level_key port from to right up (inl e) = rw e (omega signed)
 level_key port from to right up (inr e) = rw e (omega signed)
 
-upright_key : (port : ℕ) (from to right up : ℤ) → (port ≡ 3) ⊎ (port ≡ 7) →
-    side_key port from to +ℤ key_shift right up port ≡ side_key port (from +ℤ up) (to +ℤ up)
+upright_key : (port : ℕ) (from to right up : ℤ) → (port ≡ 3) ⊎ (port ≡ 7)
+    → side_key port from to +ℤ key_shift right up port ≡ side_key port (from +ℤ up) (to +ℤ up)
 upright_key port from to right up (inl e) = rw e (omega signed)
 upright_key port from to right up (inr e) = rw e (omega signed)
 
@@ -36,12 +36,13 @@ either_side : {A B C D : Type 0} → (A × C) ⊎ (B × D) → A ⊎ B
 either_side (inl h) = inl h.0
 either_side (inr h) = inr h.0
 
-moved_key : (right up : ℤ) (p q : Port) (port : ℕ) (x y : ℤ) → IsMovedPort (key_shift right up) p q → p.side ≡ port → p.key ≡ x →
-    x +ℤ key_shift right up port ≡ y → q.key ≡ y
+moved_key : (right up : ℤ) (p q : Port) (port : ℕ) (x y : ℤ) → IsMovedPort (key_shift right up) p q
+    → p.side ≡ port → p.key ≡ x → x +ℤ key_shift right up port ≡ y → q.key ≡ y
 moved_key right up p q port x y m s k e = m.key ∙ ap (λ z. p.key +ℤ key_shift right up z) s ∙ ap (λ z. z +ℤ key_shift right up port) k ∙ e
 
-moved_lies : (right up : ℤ) (a b : Corners) (p q : Port) (lies : Facing) → IsMovedPort (key_shift right up) p q →
-    IsFacing a b lies → IsPort lies p → IsPortTo (moved right up a) (moved right up b) q
+moved_lies : (right up : ℤ) (a b : Corners) (p q : Port) (lies : Facing)
+    → IsMovedPort (key_shift right up) p q → IsFacing a b lies → IsPort lies p
+    → IsPortTo (moved right up a) (moved right up b) q
 moved_lies right up a b p q (Side port from to) m (inl f) i = record {
   lies = Side port (from +ℤ right) (to +ℤ right);
   facing = inl (moved_level right up a b port from to f);
@@ -66,8 +67,8 @@ moved_lies right up a b p q (Corner port dx dy) m f i = record {
   port = (m.side ∙ i.0, m.dx ∙ i.1, m.dy ∙ i.2);
 }
 
-pub moved_port : (right up : ℤ) (a b : Corners) (p q : Port) → IsMovedPort (key_shift right up) p q → IsPortTo a b p →
-    IsPortTo (moved right up a) (moved right up b) q
+pub moved_port : (right up : ℤ) (a b : Corners) (p q : Port) → IsMovedPort (key_shift right up) p q
+    → IsPortTo a b p → IsPortTo (moved right up a) (moved right up b) q
 moved_port right up a b p q m t = moved_lies right up a b p q t.lies m t.facing t.port
 
 -- ---- mirrored
@@ -80,8 +81,8 @@ upright_turned : (port : ℕ) (from to : ℤ) → (port ≡ 3) ⊎ (port ≡ 7) 
 upright_turned port from to (inl e) = rw e (omega signed)
 upright_turned port from to (inr e) = rw e (omega signed)
 
-mirrored_lies : (a b : Corners) (p q : Port) (lies : Facing) → IsMirroredPort p q → IsFacing a b lies → IsPort lies p →
-    IsPortTo (mirrored a) (mirrored b) q
+mirrored_lies : (a b : Corners) (p q : Port) (lies : Facing) → IsMirroredPort p q → IsFacing a b lies
+    → IsPort lies p → IsPortTo (mirrored a) (mirrored b) q
 mirrored_lies a b p q (Side port from to) m (inl f) i = record {
   lies = Side (mirrored_port port) (neg_ℤ to) (neg_ℤ from);
   facing = inl (mirrored_level a b port from to f);
@@ -111,8 +112,8 @@ upright_over : (port : ℕ) (from to : ℤ) → (port ≡ 3) ⊎ (port ≡ 7) �
 upright_over port from to (inl e) = rw e (omega signed)
 upright_over port from to (inr e) = rw e (omega signed)
 
-transposed_lies : (a b : Corners) (p q : Port) (lies : Facing) → IsTransposedPort p q → IsFacing a b lies → IsPort lies p →
-    IsPortTo (transposed a) (transposed b) q
+transposed_lies : (a b : Corners) (p q : Port) (lies : Facing) → IsTransposedPort p q → IsFacing a b lies
+    → IsPort lies p → IsPortTo (transposed a) (transposed b) q
 transposed_lies a b p q (Side port from to) m (inl f) i = record {
   lies = Side (transposed_port port) from to;
   facing = inr (transposed_level a b port from to f);

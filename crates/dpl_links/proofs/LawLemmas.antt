@@ -37,12 +37,12 @@ use Rattle.dpl_list.proofs.Lists.{some_of, all_pairs_map, all_pairs_of_map}
 in_layer : (tiles rects : List Corners) (k : ℕ) (x y : ℤ) → HoldLayer tiles rects → k < length rects → IsIn (rect_at rects k) x y → IsTrue (layer_of tiles x y)
 in_layer tiles rects k x y h l i = (h x y).1 (k, rect_at rects k, l, get_or_default rects k _ nowhere l, i)
 
-one_step : (cells : ℤ → ℤ → Bool) (one other : ℤ → ℤ → Type 0) (e : SharesEdge one other) → IsTrue (cells e.x e.y) →
-    IsTrue (cells e.x' e.y') → AreOneShape cells e.x e.y e.x' e.y'
+one_step : (cells : ℤ → ℤ → Bool) (one other : ℤ → ℤ → Type 0) (e : SharesEdge one other)
+    → IsTrue (cells e.x e.y) → IsTrue (cells e.x' e.y') → AreOneShape cells e.x e.y e.x' e.y'
 one_step cells one other e f g = ((e.x', e.y') ∷ [], (f, e.neighbours, (g, refl, refl)))
 
-bond_shape : (tiles : List Corners) (s : Scene) (i j : ℕ) → HoldLayer tiles s.rects → TellShapes tiles s.rects s.shape →
-    IsBond s i j → get_or s.shape i 0 ≡ get_or s.shape j 0
+bond_shape : (tiles : List Corners) (s : Scene) (i j : ℕ) → HoldLayer tiles s.rects
+    → TellShapes tiles s.rects s.shape → IsBond s i j → get_or s.shape i 0 ≡ get_or s.shape j 0
 bond_shape tiles s i j h t b =
     let e = b.edge in
     let r = b.rising in let w = b.within in
@@ -54,9 +54,9 @@ bond_shape tiles s i j h t b =
 pair_bond : (s : Scene) (bonds : List (ℕ × ℕ)) (i j : ℕ) → ArePairs (IsBond s) bonds → Contains bonds (i, j) → IsBond s i j
 pair_bond s bonds i j a (k, l, e) = let P : ℕ × ℕ → Type 0 = λ p. IsBond s p.0 p.1 in subst P e (a.each k (i, j) l)
 
-trail_shape : (tiles : List Corners) (s : Scene) (bonds : List (ℕ × ℕ)) → HoldLayer tiles s.rects →
-    TellShapes tiles s.rects s.shape → ArePairs (IsBond s) bonds → (i : ℕ) (js : List ℕ) (k : ℕ) →
-    IsChain bonds i js k → get_or s.shape i 0 ≡ get_or s.shape k 0
+trail_shape : (tiles : List Corners) (s : Scene) (bonds : List (ℕ × ℕ)) → HoldLayer tiles s.rects
+    → TellShapes tiles s.rects s.shape → ArePairs (IsBond s) bonds → (i : ℕ) (js : List ℕ) (k : ℕ)
+    → IsChain bonds i js k → get_or s.shape i 0 ≡ get_or s.shape k 0
 trail_shape tiles s bonds h t a i [] k e = ap (λ z. get_or s.shape z 0) e
 trail_shape tiles s bonds h t a i (j ∷ js) k (c, r) =
     let e : get_or s.shape i 0 ≡ get_or s.shape j 0 = elim c [
@@ -66,9 +66,9 @@ trail_shape tiles s bonds h t a i (j ∷ js) k (c, r) =
     ] in
     e ∙ trail_shape tiles s bonds h t a j js k r
 
-pub within_shapes : (tiles : List Corners) (f : Fragments) (weights : PlainWeights) (space : ℕ) (net : Net) →
-    HoldLayer tiles (map corners_of f.rects) → TellShapes tiles (map corners_of f.rects) f.shape →
-    IsNet f weights space net → AreWithinShapes net.pieces f.shape
+pub within_shapes : (tiles : List Corners) (f : Fragments) (weights : PlainWeights) (space : ℕ) (net : Net)
+    → HoldLayer tiles (map corners_of f.rects) → TellShapes tiles (map corners_of f.rects) f.shape
+    → IsNet f weights space net → AreWithinShapes net.pieces f.shape
 within_shapes tiles f weights space net h t n i j l m e =
     let w = n.are_pieces.long in
     let r = (n.are_pieces.same i j (omega arith) (omega arith)).0 e in
@@ -76,8 +76,8 @@ within_shapes tiles f weights space net h t n i j l m e =
 
 -- ---- the two fragments of a clash
 
-other_cells : (tiles : List Corners) (s : Scene) (i j : ℕ) → HoldLayer tiles s.rects →
-    TellShapes tiles s.rects s.shape → IsConflict s i j → HoldTooClose tiles s.rects s.space i j
+other_cells : (tiles : List Corners) (s : Scene) (i j : ℕ) → HoldLayer tiles s.rects
+    → TellShapes tiles s.rects s.shape → IsConflict s i j → HoldTooClose tiles s.rects s.space i j
 other_cells tiles s i j h t c =
     let e = c.close in
     let r = c.rising in let w = c.within in
@@ -104,16 +104,16 @@ no_stitch : Stitch ≡ Clash → ⊥
 no_stitch e = cc
 
 -- what holds of the fragments of all links holds of those of all clashes
-pub clash_edges : (P : ℕ → ℕ → Type 0) (weights : PlainWeights) (bonds : List (ℕ × ℕ)) (cuts : List Cut)
-    (links : List Link) (edges : List Edge) → map tie_of edges ≡ ties_of weights bonds cuts links →
-    All (λ (l : Link). P l.a l.b) links → All (λ (e : Edge). e.kind ≡ Clash → P e.a e.b) edges
+pub clash_edges : (P : ℕ → ℕ → Type 0) (weights : PlainWeights) (bonds : List (ℕ × ℕ)) (cuts : List Cut) (links : List Link) (edges : List Edge)
+    → map tie_of edges ≡ ties_of weights bonds cuts links → All (λ (l : Link). P l.a l.b) links
+    → All (λ (e : Edge). e.kind ≡ Clash → P e.a e.b) edges
 clash_edges P weights bonds cuts links edges e f = all_edges (λ (t : Tie). t.kind ≡ Clash → P t.a t.b) weights bonds cuts links edges e
     (λ k d l g. absurd (no_bond g)) (λ k d l g. absurd (no_stitch g)) (λ k d l g. f k d l)
 
-each_clash : (tiles : List Corners) (f : Fragments) (weights : PlainWeights) (space : ℕ) (net : Net) →
-    HoldLayer tiles (map corners_of f.rects) → TellShapes tiles (map corners_of f.rects) f.shape →
-    IsNet f weights space net → All (λ (e : Edge). e.kind ≡ Clash →
-    HoldTooClose tiles (map corners_of f.rects) space e.a e.b) net.graph.edges
+each_clash : (tiles : List Corners) (f : Fragments) (weights : PlainWeights) (space : ℕ) (net : Net)
+    → HoldLayer tiles (map corners_of f.rects) → TellShapes tiles (map corners_of f.rects) f.shape
+    → IsNet f weights space net
+    → All (λ (e : Edge). e.kind ≡ Clash → HoldTooClose tiles (map corners_of f.rects) space e.a e.b) net.graph.edges
 each_clash tiles f weights space net h t n = clash_edges (HoldTooClose tiles (map corners_of f.rects) space) weights
     n.bonds f.cuts n.links net.graph.edges n.edges
     (All-weaker (IsLeast (scene f space) net.pieces) (λ (l : Link). HoldTooClose tiles (map corners_of f.rects) space
@@ -127,9 +127,9 @@ turned_gap x y x' y' n h =
     let b : between y y' ≡ between y' y = omega (arith, ints) in
     rw (← a, ← b) h
 
-conflict_of : (tiles : List Corners) (s : Scene) (i j : ℕ) (x y x' y' : ℤ) → TellShapes tiles s.rects s.shape → i < j →
-    j < length s.rects → IsIn (rect_at s.rects i) x y → IsIn (rect_at s.rects j) x' y' →
-    AreTooClose (layer_of tiles) s.space x y x' y' → IsConflict s i j
+conflict_of : (tiles : List Corners) (s : Scene) (i j : ℕ) (x y x' y' : ℤ) → TellShapes tiles s.rects s.shape
+    → i < j → j < length s.rects → IsIn (rect_at s.rects i) x y → IsIn (rect_at s.rects j) x' y'
+    → AreTooClose (layer_of tiles) s.space x y x' y' → IsConflict s i j
 conflict_of tiles s i j x y x' y' t r l f g c = record {
   rising = r;
   within = l;
@@ -154,9 +154,9 @@ unfolding link_between
 link_between_is s pieces i j c = record { conflict = c; low = refl; high = refl; gap = refl; corner = refl }
 
 -- the clash of a link stands among the edges
-clash_at : (weights : PlainWeights) (bonds : List (ℕ × ℕ)) (cuts : List Cut) (links : List Link) (edges : List Edge)
-    (k : ℕ) (l : Link) (d : Edge) → map tie_of edges ≡ ties_of weights bonds cuts links → k < length links →
-    get_or links k l ≡ l → tie_of (get_or edges (length bonds + length cuts + k) d) ≡ clash_tie weights l
+clash_at : (weights : PlainWeights) (bonds : List (ℕ × ℕ)) (cuts : List Cut) (links : List Link) (edges : List Edge) (k : ℕ) (l : Link) (d : Edge)
+    → map tie_of edges ≡ ties_of weights bonds cuts links → k < length links → get_or links k l ≡ l
+    → tie_of (get_or edges (length bonds + length cuts + k) d) ≡ clash_tie weights l
 clash_at weights bonds cuts links edges k l d e h f =
     let b = map bond_tie bonds in let s = map (stitch_tie weights.stitch) cuts in let c = map (clash_tie weights) links in
     let n : length (b ++ s) ≡ length bonds + length cuts = length-append b s ∙
@@ -177,8 +177,9 @@ alike_ends : (s : Scene) (pieces : List ℕ) (l m : Link) → IsLink s pieces l 
 alike_ends s pieces l m f g (h, k) = two_of_two _ _ _ _ (sym g.low ∙ h ∙ f.low) (sym g.high ∙ k ∙ f.high)
 
 -- the conflict of two fragments lies in a clash of their pieces
-clash_of : (f : Fragments) (weights : PlainWeights) (space : ℕ) (net : Net) (i j : ℕ) → IsNet f weights space net →
-    IsConflict (scene f space) i j → Any (IsClashOf net.pieces i j) net.graph.edges
+clash_of : (f : Fragments) (weights : PlainWeights) (space : ℕ) (net : Net) (i j : ℕ)
+    → IsNet f weights space net → IsConflict (scene f space) i j
+    → Any (IsClashOf net.pieces i j) net.graph.edges
 unfolding link_between
 clash_of f weights space net i j n c =
     let s = scene f space in
@@ -210,15 +211,15 @@ clash_of f weights space net i j n c =
 turned_clash : (pieces : List ℕ) (i j : ℕ) (edges : List Edge) → Any (IsClashOf pieces i j) edges → Any (IsClashOf pieces j i) edges
 turned_clash pieces i j edges (k, e, l, g, c) = (k, e, l, g, record { kind = c.kind; ends = elim c.ends [ inl u ↦ inr u | inr u ↦ inl u ] })
 
-turned_close : (cells : ℤ → ℤ → Bool) (space : ℕ) (x y x' y' : ℤ) → ¬ AreOneShape cells x' y' x y →
-    AreTooClose cells space x y x' y' → AreTooClose cells space x' y' x y
+turned_close : (cells : ℤ → ℤ → Bool) (space : ℕ) (x y x' y' : ℤ) → ¬ AreOneShape cells x' y' x y
+    → AreTooClose cells space x y x' y' → AreTooClose cells space x' y' x y
 turned_close cells space x y x' y' o c = record { first = c.second; second = c.first; other = o; near = turned_gap x y x' y' (space * space) c.near }
 
-all_clashes : (tiles : List Corners) (f : Fragments) (weights : PlainWeights) (space : ℕ) (net : Net) →
-    TellShapes tiles (map corners_of f.rects) f.shape → IsNet f weights space net
-    → (i j : ℕ) (x y x' y' : ℤ) → i < length (map corners_of f.rects) → j < length (map corners_of f.rects) →
-    IsIn (rect_at (map corners_of f.rects) i) x y → IsIn (rect_at (map corners_of f.rects) j) x' y' →
-    AreTooClose (layer_of tiles) space x y x' y' → Any (IsClashOf net.pieces i j) net.graph.edges
+all_clashes : (tiles : List Corners) (f : Fragments) (weights : PlainWeights) (space : ℕ) (net : Net)
+    → TellShapes tiles (map corners_of f.rects) f.shape → IsNet f weights space net
+    → (i j : ℕ) (x y x' y' : ℤ) → i < length (map corners_of f.rects) → j < length (map corners_of f.rects)
+    → IsIn (rect_at (map corners_of f.rects) i) x y → IsIn (rect_at (map corners_of f.rects) j) x' y'
+    → AreTooClose (layer_of tiles) space x y x' y' → Any (IsClashOf net.pieces i j) net.graph.edges
 all_clashes tiles f weights space net t n i j x y x' y' l m g h c =
     let s = scene f space in
     let back : ¬ AreOneShape (layer_of tiles) x' y' x y = λ o. c.other ((t i j x y x' y' l m g h).0 (sym ((t j i x' y' x y m l h g).1 o))) in
@@ -269,8 +270,8 @@ ends_alike s pieces l m f g (inr (u, v)) = (
       ap (λ z. max z (piece_of pieces l.b)) u ∙ ap (λ z. max (piece_of pieces m.b) z) v ∙ max_turned _ _ ∙ sym g.high,
 )
 
-other_ties : (s : Scene) (pieces : List ℕ) (weights : PlainWeights) (bonds : List (ℕ × ℕ)) (cuts : List Cut)
-    (links : List Link) → AreClashes s pieces links → AllPairs (AreOther pieces) (ties_of weights bonds cuts links)
+other_ties : (s : Scene) (pieces : List ℕ) (weights : PlainWeights) (bonds : List (ℕ × ℕ)) (cuts : List Cut) (links : List Link)
+    → AreClashes s pieces links → AllPairs (AreOther pieces) (ties_of weights bonds cuts links)
 other_ties s pieces weights bonds cuts links c = pairs_behind (AreOther pieces)
     (map bond_tie bonds ++ map (stitch_tie weights.stitch) cuts) (map (clash_tie weights) links)
     (All-append (λ (t : Tie). (u : Tie) → AreOther pieces t u) (map bond_tie bonds) (map (stitch_tie weights.stitch) cuts)
@@ -279,8 +280,8 @@ other_ties s pieces weights bonds cuts links c = pairs_behind (AreOther pieces)
     (all_pairs_map (clash_tie weights) (AreOther pieces) links
     (λ i j d h l e f t. c.one i j d h l (ends_alike s pieces (get_or links i d) (get_or links j d) (c.each i d (omega arith)).link (c.each j d l).link t)))
 
-one_clash : (f : Fragments) (weights : PlainWeights) (space : ℕ) (net : Net) → IsNet f weights space net →
-    AllPairs (λ (d : Edge) (e : Edge). e.kind ≡ Clash → ¬ IsClashOf net.pieces e.a e.b d) net.graph.edges
+one_clash : (f : Fragments) (weights : PlainWeights) (space : ℕ) (net : Net) → IsNet f weights space net
+    → AllPairs (λ (d : Edge) (e : Edge). e.kind ≡ Clash → ¬ IsClashOf net.pieces e.a e.b d) net.graph.edges
 one_clash f weights space net n i j d h l e c =
     let ties : AllPairs (AreOther net.pieces) (map tie_of net.graph.edges) = let P : List Tie → Type 0 =
     AllPairs (AreOther net.pieces) in subst P (sym n.edges)
@@ -289,17 +290,18 @@ one_clash f weights space net n i j d h l e c =
 
 -- ---- all of it
 
-pub net_within_shapes : (keep : List Corners) (space over : ℕ) (tiles : List Corners) (label : List ℕ) (count' : ℕ)
-    (f : Fragments) (weights : PlainWeights) (net : Net) → 2 ≤ over → AreShapes tiles label count' →
-    AreFragments keep space over tiles label f → IsNet f weights space net → AreWithinShapes net.pieces f.shape
+pub net_within_shapes : (keep : List Corners) (space over : ℕ) (tiles : List Corners) (label : List ℕ)
+    → (count' : ℕ) (f : Fragments) (weights : PlainWeights) (net : Net) → 2 ≤ over
+    → AreShapes tiles label count' → AreFragments keep space over tiles label f → IsNet f weights space net
+    → AreWithinShapes net.pieces f.shape
 net_within_shapes keep space over tiles label count' f weights net wide s a n = within_shapes tiles f weights space net
     (hold_layer keep space over tiles label (map corners_of f.rects) f.tile f.shape wide a.parts)
     (tell_shapes keep space over tiles label count' (map corners_of f.rects) f.tile f.shape wide s a.parts) n
 
-pub net_clashes : (keep : List Corners) (space over : ℕ) (tiles : List Corners) (label : List ℕ) (count' : ℕ)
-    (f : Fragments) (weights : PlainWeights) (net : Net) → 2 ≤ over → AreShapes tiles label count' →
-    AreFragments keep space over tiles label f → IsNet f weights space net →
-    AreAllClashes tiles (map corners_of f.rects) space net.pieces net.graph.edges
+pub net_clashes : (keep : List Corners) (space over : ℕ) (tiles : List Corners) (label : List ℕ)
+    → (count' : ℕ) (f : Fragments) (weights : PlainWeights) (net : Net) → 2 ≤ over
+    → AreShapes tiles label count' → AreFragments keep space over tiles label f → IsNet f weights space net
+    → AreAllClashes tiles (map corners_of f.rects) space net.pieces net.graph.edges
 net_clashes keep space over tiles label count' f weights net wide s a n =
     let h = hold_layer keep space over tiles label (map corners_of f.rects) f.tile f.shape wide a.parts in
     let t = tell_shapes keep space over tiles label count' (map corners_of f.rects) f.tile f.shape wide s a.parts in

@@ -32,16 +32,18 @@ key_down port from to (inl e) = rw e refl
 key_down port from to (inr e) = rw e refl
 
 -- at south and east from the left to the right and upwards
-pub sides_rise : (p q : Port) (e f port : ℕ) (from to from' to' : ℤ) → (port ≡ 1) ⊎ (port ≡ 3) → IsPort (Side port from to) p →
-    IsPort (Side port from' to') q → from ≤ℤ from' → to <ℤ to' → StandsBefore p e q f
+pub sides_rise : (p q : Port) (e f port : ℕ) (from to from' to' : ℤ) → (port ≡ 1) ⊎ (port ≡ 3)
+    → IsPort (Side port from to) p → IsPort (Side port from' to') q → from ≤ℤ from' → to <ℤ to'
+    → StandsBefore p e q f
 sides_rise p q e f port from to from' to' at i j low high =
     let x : p.key ≡ from +ℤ to = i.1 ∙ key_up port from to at in
     let y : q.key ≡ from' +ℤ to' = j.1 ∙ key_up port from' to' at in
     by_key p q e f (i.0 ∙ sym j.0) (omega signed)
 
 -- at north and west from the right to the left and downwards
-pub sides_fall : (p q : Port) (e f port : ℕ) (from to from' to' : ℤ) → (port ≡ 5) ⊎ (port ≡ 7) → IsPort (Side port from to) p →
-    IsPort (Side port from' to') q → from' ≤ℤ from → to' <ℤ to → StandsBefore p e q f
+pub sides_fall : (p q : Port) (e f port : ℕ) (from to from' to' : ℤ) → (port ≡ 5) ⊎ (port ≡ 7)
+    → IsPort (Side port from to) p → IsPort (Side port from' to') q → from' ≤ℤ from → to' <ℤ to
+    → StandsBefore p e q f
 sides_fall p q e f port from to from' to' at i j low high =
     let x : p.key ≡ neg_ℤ (from +ℤ to) = i.1 ∙ key_down port from to at in
     let y : q.key ≡ neg_ℤ (from' +ℤ to') = j.1 ∙ key_down port from' to' at in
@@ -60,8 +62,9 @@ steeper : (a b c d : ℕ) → a < c → d < b → a * d < c * b
 steeper a b c d h k = grind arith
 
 -- at south-west and north-east from the level to the upright
-pub corners_rise : (p q : Port) (e f port dx dy dx' dy' : ℕ) → (port ≡ 0) ⊎ (port ≡ 4) → IsPort (Corner port dx dy) p →
-    IsPort (Corner port dx' dy') q → dx' < dx → dy < dy' → StandsBefore p e q f
+pub corners_rise : (p q : Port) (e f port dx dy dx' dy' : ℕ) → (port ≡ 0) ⊎ (port ≡ 4)
+    → IsPort (Corner port dx dy) p → IsPort (Corner port dx' dy') q → dx' < dx → dy < dy'
+    → StandsBefore p e q f
 corners_rise p q e f port dx dy dx' dy' at i j closer further =
     let px : p.dx ≡ dx = i.1 ∙ given dx dy dx (omega arith) in
     let py : p.dy ≡ dy = i.2 ∙ given dx dy dy (omega arith) in
@@ -85,8 +88,9 @@ corners_rise p q e f port dx dy dx' dy' at i j closer further =
       less a b c d h k l = omega arith
 
 -- at south-east and north-west from the upright to the level
-pub corners_fall : (p q : Port) (e f port dx dy dx' dy' : ℕ) → (port ≡ 2) ⊎ (port ≡ 6) → IsPort (Corner port dx dy) p →
-    IsPort (Corner port dx' dy') q → dx < dx' → dy' < dy → StandsBefore p e q f
+pub corners_fall : (p q : Port) (e f port dx dy dx' dy' : ℕ) → (port ≡ 2) ⊎ (port ≡ 6)
+    → IsPort (Corner port dx dy) p → IsPort (Corner port dx' dy') q → dx < dx' → dy' < dy
+    → StandsBefore p e q f
 corners_fall p q e f port dx dy dx' dy' at i j further closer =
     let px : p.dx ≡ dx = i.1 ∙ given dx dy dx (omega arith) in
     let py : p.dy ≡ dy = i.2 ∙ given dx dy dy (omega arith) in

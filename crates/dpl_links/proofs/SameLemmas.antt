@@ -147,15 +147,17 @@ distance_same a1 a2 b1 b2 m n d e =
       no_less : (m n b c : ℕ) → b ≡ m → c ≡ n → n ≤ b → m ≤ c → m ≡ n
       no_less m n b c e f g h = omega arith
 
-level_port : (a b : Corners) (p q : ℕ) → HasCell a → HasCell b → ((p ≡ 1) × IsBelow b a) ⊎ ((p ≡ 5) × IsBelow a b) →
-    ((q ≡ 1) × IsBelow b a) ⊎ ((q ≡ 5) × IsBelow a b) → p ≡ q
+level_port : (a b : Corners) (p q : ℕ) → HasCell a → HasCell b
+    → ((p ≡ 1) × IsBelow b a) ⊎ ((p ≡ 5) × IsBelow a b) → ((q ≡ 1) × IsBelow b a) ⊎ ((q ≡ 5) × IsBelow a b)
+    → p ≡ q
 level_port a b p q f g (inl s) (inl t) = s.0 ∙ sym t.0
 level_port a b p q f g (inl s) (inr t) = absurd (one_ahead a.y1 a.y2 b.y1 b.y2 f.1 g.1 t.1 s.1)
 level_port a b p q f g (inr s) (inl t) = absurd (one_ahead a.y1 a.y2 b.y1 b.y2 f.1 g.1 s.1 t.1)
 level_port a b p q f g (inr s) (inr t) = s.0 ∙ sym t.0
 
-upright_port : (a b : Corners) (p q : ℕ) → HasCell a → HasCell b → ((p ≡ 3) × IsLeft a b) ⊎ ((p ≡ 7) × IsLeft b a) →
-    ((q ≡ 3) × IsLeft a b) ⊎ ((q ≡ 7) × IsLeft b a) → p ≡ q
+upright_port : (a b : Corners) (p q : ℕ) → HasCell a → HasCell b
+    → ((p ≡ 3) × IsLeft a b) ⊎ ((p ≡ 7) × IsLeft b a) → ((q ≡ 3) × IsLeft a b) ⊎ ((q ≡ 7) × IsLeft b a)
+    → p ≡ q
 upright_port a b p q f g (inl s) (inl t) = s.0 ∙ sym t.0
 upright_port a b p q f g (inl s) (inr t) = absurd (one_ahead a.x1 a.x2 b.x1 b.x2 f.0 g.0 s.1 t.1)
 upright_port a b p q f g (inr s) (inl t) = absurd (one_ahead a.x1 a.x2 b.x1 b.x2 f.0 g.0 t.1 s.1)
@@ -206,9 +208,9 @@ at_number p n b e f = ap is_corner e ∙ f
 key_same : (m n : ℕ) (x y u v : ℤ) → m ≡ n → x ≡ u → y ≡ v → side_key m x y ≡ side_key n u v
 key_same m n x y u v e f g = ap (λ i. side_key i x y) e ∙ ap (λ i. side_key n i y) f ∙ ap (λ i. side_key n u i) g
 
-sides_same : (a b : Corners) (p q : Port) (m n : ℕ) (x y u v : ℤ) → HasCell a → HasCell b → FacesLevel a b m x y ⊎
-    FacesUpright a b m x y → FacesLevel a b n u v ⊎ FacesUpright a b n u v → IsPort (Side m x y) p →
-    IsPort (Side n u v) q → p ≡ q
+sides_same : (a b : Corners) (p q : Port) (m n : ℕ) (x y u v : ℤ) → HasCell a → HasCell b
+    → FacesLevel a b m x y ⊎ FacesUpright a b m x y → FacesLevel a b n u v ⊎ FacesUpright a b n u v
+    → IsPort (Side m x y) p → IsPort (Side n u v) q → p ≡ q
 sides_same a b p q m n x y u v f g (inl s) (inl t) i j =
     let e : m ≡ n = level_port a b m n f g s.side t.side in
     let (h, l) = stretch_same x y u v a.x1 a.x2 b.x1 b.x2 s.columns t.columns in
@@ -251,8 +253,9 @@ lies_same a b p q (Corner m x y) (Corner n u v) f g s t i j =
 pub port_same : (a b : Corners) (p q : Port) → HasCell a → HasCell b → IsPortTo a b p → IsPortTo a b q → p ≡ q
 port_same a b p q f g s t = lies_same a b p q s.lies t.lies f g s.facing t.facing s.port t.port
 
-ports_same : (rects : List Corners) (edges : List Edge) (a b : List (Port × Port)) → All HasCell rects →
-    All (λ e. e.b < length rects) edges → AllZip (HasPorts rects) edges a → AllZip (HasPorts rects) edges b → a ≡ b
+ports_same : (rects : List Corners) (edges : List Edge) (a b : List (Port × Port)) → All HasCell rects
+    → All (λ e. e.b < length rects) edges → AllZip (HasPorts rects) edges a → AllZip (HasPorts rects) edges b
+    → a ≡ b
 ports_same rects [] [] [] full in_it s t = refl
 ports_same rects [] [] (y ∷ ys) full in_it s t = elim t [ ]
 ports_same rects [] (x ∷ xs) b full in_it s t = elim s [ ]
@@ -283,8 +286,8 @@ record NetFacts (nodes : ℕ) (edges : List Edge) (ports : List (Port × Port)) 
   piece_per_node : length pieces ≡ nodes
   piece_numbers : All (λ p. p < count') pieces
 
-NetFacts-prop : (nodes : ℕ) (edges : List Edge) (ports : List (Port × Port)) (pieces : List ℕ) (count' : ℕ)
-    (p q : NetFacts nodes edges ports pieces count') → p ≡ q
+NetFacts-prop : (nodes : ℕ) (edges : List Edge) (ports : List (Port × Port)) (pieces : List ℕ) (count' : ℕ) (p q : NetFacts nodes edges ports pieces count')
+    → p ≡ q
 NetFacts-prop nodes edges ports pieces count' = hlevel props
 
 record NetParts : Type 0 where
@@ -320,8 +323,8 @@ net_parts : Net → NetParts
 net_parts n = record { nodes = n.graph.nodes; edges = n.graph.edges; ports = n.ports; pieces = n.pieces; count' = n.piece_count }
 
 -- nets with the same lists are the same
-pub same_net : (m n : Net) → m.graph.nodes ≡ n.graph.nodes → m.graph.edges ≡ n.graph.edges → m.ports ≡ n.ports →
-    m.pieces ≡ n.pieces → m.piece_count ≡ n.piece_count → m ≡ n
+pub same_net : (m n : Net) → m.graph.nodes ≡ n.graph.nodes → m.graph.edges ≡ n.graph.edges → m.ports ≡ n.ports
+    → m.pieces ≡ n.pieces → m.piece_count ≡ n.piece_count → m ≡ n
 unfolding make_net net_facts net_parts
 same_net m n a b c d e =
     let parts : net_parts m ≡ net_parts n = cc in
@@ -352,8 +355,8 @@ net_same f weights space m n s t =
     same_net m n nodes edges ports pieces count'
 
 -- where the net has no more than n edges, there are no more
-pub no_more_edges : (f : Fragments) (weights : PlainWeights) (space : ℕ) (net : Net) (n : ℕ) →
-    IsNet f weights space net → length net.graph.edges ≤ n → ¬ HasMoreEdges f space n
+pub no_more_edges : (f : Fragments) (weights : PlainWeights) (space : ℕ) (net : Net) (n : ℕ)
+    → IsNet f weights space net → length net.graph.edges ≤ n → ¬ HasMoreEdges f space n
 no_more_edges f weights space net n s few =
     let e = edges_length weights s.bonds f.cuts s.links net.graph.edges s.edges in
     not_more_edges f space s.bonds net.pieces net.piece_count s.links n s.are_bonds s.are_pieces s.are_clashes (omega arith)

@@ -84,8 +84,8 @@ clash_weighs s pieces weights l f = record {
   corner = λ e t. rw (f.corner, corner_cells (rect_at s.rects l.a) (rect_at s.rects l.b) s.space f.conflict.close t) refl;
 }
 
-pub edges_weigh : (f : Fragments) (weights : PlainWeights) (space : ℕ) (net : Net) → IsNet f weights space net →
-    All (λ (e : Edge). HasWeight weights (map corners_of f.rects) (tie_of e)) net.graph.edges
+pub edges_weigh : (f : Fragments) (weights : PlainWeights) (space : ℕ) (net : Net) → IsNet f weights space net
+    → All (λ (e : Edge). HasWeight weights (map corners_of f.rects) (tie_of e)) net.graph.edges
 edges_weigh f weights space net n =
     all_edges (HasWeight weights (map corners_of f.rects)) weights n.bonds f.cuts n.links net.graph.edges n.edges
     (λ k d l. record { bond = λ e. refl; stitch = λ e. absurd (cc); side = λ e t. absurd (cc); corner = λ e t. absurd (cc) })

@@ -12,8 +12,9 @@ use Rattle.dpl_match.proofs.NearLemmas.{kept_some}
 use Rattle.dpl_match.proofs.TurnLemmas.{totals_within}
 
 -- the sums of a member and of the one that is kept for it are within their distance
-pub kept_within : {metric : Table} {m : Matching} {s : Stage} → IsAtTurn metric m s → (t a : ℕ) → t < metric.size →
-    near_in s.table.near.items t ≡ Some a → (a < metric.size) × (get_or m.sums.items a 0 + get_or m.sums.items t 0 ≤ dist_of metric a t)
+pub kept_within : {metric : Table} {m : Matching} {s : Stage} → IsAtTurn metric m s → (t a : ℕ)
+    → t < metric.size → near_in s.table.near.items t ≡ Some a
+    → (a < metric.size) × (get_or m.sums.items a 0 + get_or m.sums.items t 0 ≤ dist_of metric a t)
 kept_within {metric} {m} {s} start t a ht is =
     let lists = start.growing.lists in
     let below = (kept_some (members_of metric m) (place_in s.tree.labels.items) s.table t a start.nearest ht is).below in

@@ -21,9 +21,10 @@ use Rattle.dpl_match.proofs.NearLemmas.{moved}
 use Rattle.dpl_match.proofs.TurnLemmas.{totals_enough, turned_stage, turned_totals, advance_back, end_back, shifts_few}
 
 -- no total of an inner member falls below 0
-pub shift_enough : {metric : Table} {m : Matching} {s : Stage} {by : ℕ} {event : Event} → IsAtTurn metric m s →
-    IsChosen metric.size (sets_of m.family) (forest_of s.tree m.mates.items) (dist_of metric) by event → (k : ℕ) →
-    k < length m.sums.items → place_in s.tree.labels.items ((sets_of m.family).top k) ≡ inner → by ≤ get_or m.sums.items k 0
+pub shift_enough : {metric : Table} {m : Matching} {s : Stage} {by : ℕ} {event : Event} → IsAtTurn metric m s
+    → IsChosen metric.size (sets_of m.family) (forest_of s.tree m.mates.items) (dist_of metric) by event
+    → (k : ℕ) → k < length m.sums.items → place_in s.tree.labels.items ((sets_of m.family).top k) ≡ inner
+    → by ≤ get_or m.sums.items k 0
 shift_enough {metric} {m} {by} start ch k h p =
     let lists = start.growing.lists in
     let hk : k < metric.size = omega (arith, h, lists.sums_count) in

@@ -28,10 +28,10 @@ raised_begun n dist f sums s fam e = record {
   high = λ k h. s.value k;
 }
 
-pub raised_more : (n : ℕ) (dist : ℕ → ℕ → ℕ) (f g h : Sets) (sums : List ℕ) (m by : ℕ) → m < n →
-    AreRaised n dist f g sums m → h ≡ record g { value = h.value } → IsFamily h → h.value m ≡ by →
-    ((i : ℕ) → i ≢ m → h.value i ≡ g.value i) →
-    ((t : ℕ) → t < n → t ≢ m → 2 * by ≤ dist m t) → AreRaised n dist f h (set sums m by) (m + 1)
+pub raised_more : (n : ℕ) (dist : ℕ → ℕ → ℕ) (f g h : Sets) (sums : List ℕ) (m by : ℕ) → m < n
+    → AreRaised n dist f g sums m → h ≡ record g { value = h.value } → IsFamily h → h.value m ≡ by
+    → ((i : ℕ) → i ≢ m → h.value i ≡ g.value i) → ((t : ℕ) → t < n → t ≢ m → 2 * by ≤ dist m t)
+    → AreRaised n dist f h (set sums m by) (m + 1)
 raised_more n dist f g h sums m by hm r e fam value others half =
     let here : get_or (set sums m by) m 0 ≡ by = get_or-set_same sums m by 0 (omega (arith, hm, r.count)) in
     let there = λ (k : ℕ) (ne : k ≢ m). let w : get_or (set sums m by) k 0 ≡ get_or sums k 0 = get_or-set_other sums m k by 0 ne in w in
@@ -59,8 +59,8 @@ raised_top n dist f g sums k s r h = ap (λ (z : Sets). z.top k) r.rest ∙ s.to
 raised_laminar : (n : ℕ) (dist : ℕ → ℕ → ℕ) (f g : Sets) (sums : List ℕ) → IsSingles n f → AreRaised n dist f g sums n → IsLaminar n g
 raised_laminar n dist f g sums s r = laminar_sized n g (ap (λ (z : Sets). z.size) r.rest ∙ s.size) r.family
 
-pub raised_sums : (n : ℕ) (dist : ℕ → ℕ → ℕ) (f g : Sets) (sums : List ℕ) → IsSingles n f →
-    AreRaised n dist f g sums n → (m : ℕ) → m < n → get_or sums m 0 ≡ totals n g m
+pub raised_sums : (n : ℕ) (dist : ℕ → ℕ → ℕ) (f g : Sets) (sums : List ℕ) → IsSingles n f
+    → AreRaised n dist f g sums n → (m : ℕ) → m < n → get_or sums m 0 ≡ totals n g m
 raised_sums n dist f g sums s r m h = sym (single_total n g (raised_laminar n dist f g sums s r) m h (raised_top n dist f g sums m s r h) ∙ r.low m h)
 
 pub raised_alone : (n : ℕ) (dist : ℕ → ℕ → ℕ) (f g : Sets) (sums : List ℕ) → IsSingles n f → AreRaised n dist f g sums n → AreAlone n g sums
@@ -76,8 +76,9 @@ raised_alone n dist f g sums s r = record {
       );
 }
 
-pub raised_rest : (n : ℕ) (dist : ℕ → ℕ → ℕ) (f g : Sets) (sums : List ℕ) (mates : List (Option ℕ)) → IsMetric n dist →
-    IsSingles n f → AreRaised n dist f g sums n → mates ≡ replicate n None → IsRest n g dist (mate_in mates)
+pub raised_rest : (n : ℕ) (dist : ℕ → ℕ → ℕ) (f g : Sets) (sums : List ℕ) (mates : List (Option ℕ))
+    → IsMetric n dist → IsSingles n f → AreRaised n dist f g sums n → mates ≡ replicate n None
+    → IsRest n g dist (mate_in mates)
 raised_rest n dist f g sums mates metric s r e =
     let none = λ (m : ℕ). let z : mate_in mates m ≡ None = ap (λ (y : List (Option ℕ)). get_or y m None) e ∙ repeated n m None in z in
     let no = λ (m t : ℕ) (k : mate_in mates m ≡ Some t). some_none {P = ⊥} (mate_in mates m) t k (none m) in
@@ -101,10 +102,10 @@ raised_rest n dist f g sums mates metric s r e =
     }
 
 -- two members without mates whose pair is tight become mates
-pub tight_rest : (n : ℕ) (f : Sets) (dist : ℕ → ℕ → ℕ) (sums : List ℕ) (mates : List (Option ℕ)) (s t : ℕ) →
-    IsMetric n dist → AreAlone n f sums → IsRest n f dist (mate_in mates) → length mates ≡ n → s < n → t < s →
-    mate_in mates s ≡ None → mate_in mates t ≡ None →
-    dist s t ≤ get_or sums s 0 + get_or sums t 0 → IsRest n f dist (mate_in (set (set mates s (Some t)) t (Some s)))
+pub tight_rest : (n : ℕ) (f : Sets) (dist : ℕ → ℕ → ℕ) (sums : List ℕ) (mates : List (Option ℕ)) (s t : ℕ)
+    → IsMetric n dist → AreAlone n f sums → IsRest n f dist (mate_in mates) → length mates ≡ n → s < n → t < s
+    → mate_in mates s ≡ None → mate_in mates t ≡ None → dist s t ≤ get_or sums s 0 + get_or sums t 0
+    → IsRest n f dist (mate_in (set (set mates s (Some t)) t (Some s)))
 tight_rest n f dist sums mates s t metric alone r len hs ht ns nt tight =
     let hn : t < n = omega (arith, hs, ht) in
     let ne : s ≢ t = λ q. omega (arith, ht, q) in

@@ -48,8 +48,9 @@ below_none rects = record { each = λ k l d h g. absurd (omega arith) }
 pub from_none : (rects : List Rect) (j : ℕ) → ApartBelow rects j → ApartFrom rects 0 j
 from_none rects j b = record { below = b; each = λ k d h. absurd (omega arith) }
 
-pub from_more : (rects : List Rect) (i j : ℕ) (a b : Rect) → i < j → j < length rects → a ≡ get_or rects i a →
-    b ≡ get_or rects j b → AreApart (corners_of a) (corners_of b) → ApartFrom rects i j → ApartFrom rects (i + 1) j
+pub from_more : (rects : List Rect) (i j : ℕ) (a b : Rect) → i < j → j < length rects → a ≡ get_or rects i a
+    → b ≡ get_or rects j b → AreApart (corners_of a) (corners_of b) → ApartFrom rects i j
+    → ApartFrom rects (i + 1) j
 from_more rects i j a b h l e f apart s = record {
   below = s.below;
   each = λ k d g. elim (cases_lt k i) [
@@ -76,8 +77,8 @@ all_apart rects j whole s k l d h g =
     let r = some_of rects l m in
     rw (corners_in rects k r d (omega arith), corners_in rects l r d m) (s.each k l r h (omega arith))
 
-pub apart_at : (rects : List Rect) (i j : ℕ) (a b : Rect) → i < j → j < length rects → a ≡ get_or rects i a →
-    b ≡ get_or rects j b → AllPairs AreApart (map corners_of rects) → AreApart (corners_of a) (corners_of b)
+pub apart_at : (rects : List Rect) (i j : ℕ) (a b : Rect) → i < j → j < length rects → a ≡ get_or rects i a
+    → b ≡ get_or rects j b → AllPairs AreApart (map corners_of rects) → AreApart (corners_of a) (corners_of b)
 apart_at rects i j a b h l e f all =
     let r = all i j (corners_of a) h (rw (length-map rects corners_of) l) in
     rw (corners_in rects i a (corners_of a) (omega arith), corners_in rects j b (corners_of a) l, ← e, ← f) at r

@@ -48,8 +48,9 @@ pub record CloseAmong (s : Search) (i : ℕ) (found : List ℕ) (t : ℕ) (near 
 pub close_none : (s : Search) (i : ℕ) (found : List ℕ) → CloseAmong s i found 0 []
 close_none s i found = record { each = λ k d l. absurd (omega arith); all = λ k l. absurd (omega arith) }
 
-pub close_more : (s : Search) (i : ℕ) (found : List ℕ) (t : ℕ) (near new : List ℕ) →
-    AddsNear s i (get_or found t 0) near new → CloseAmong s i found t near → CloseAmong s i found (t + 1) new
+pub close_more : (s : Search) (i : ℕ) (found : List ℕ) (t : ℕ) (near new : List ℕ)
+    → AddsNear s i (get_or found t 0) near new → CloseAmong s i found t near
+    → CloseAmong s i found (t + 1) new
 close_more s i found t near new (inl (is, e)) a = rw e (record {
   each = All-push (IsNear s i) near (get_or found t 0) a.each is;
   all = λ k l n. elim (cases_lt k t) [
@@ -65,8 +66,8 @@ close_more s i found t near new (inr (none, e)) a = rw e (record {
   ];
 })
 
-pub close_all : (s : Shaped) (i : ℕ) (found : List ℕ) (t : ℕ) (near : List ℕ) → length found ≤ t →
-    MayBeAround s i found → CloseAmong (within s s.reach) i found t near → AreAround s i near
+pub close_all : (s : Shaped) (i : ℕ) (found : List ℕ) (t : ℕ) (near : List ℕ) → length found ≤ t
+    → MayBeAround s i found → CloseAmong (within s s.reach) i found t near → AreAround s i near
 close_all s i found t near whole may a = record {
   each = a.each;
   others = λ j n other. go j n (may.others j n other);
@@ -81,13 +82,13 @@ close_all s i found t near whole may a = record {
 
 -- ---- what is asked for may be around
 
-pub may_be_around : (rects : List Rect) (shape : List ℕ) (reach i : ℕ) (r : Rect) (x : Kinded) (ask : Ask)
-    (found : List ℕ) → x ≡ record { items = map (λ q. bounds_of (corners_of q)) rects; kinds = shape } →
-    i < length rects → r ≡ get_or rects i r → ask.kind ≡ get_or shape i 0 →
-    ((other : Corners) → AreClose (IsIn (corners_of r)) (IsIn other) 1 → Meets (bounds_of other) ask.near) →
-    ((other : Corners) → AreClose (IsIn (corners_of r)) (IsIn other) reach → Meets (bounds_of other) ask.far) →
-    HasAsked x ask found →
-    MayBeAround (record { rects = map corners_of rects; shape = shape; reach = reach }) i found
+pub may_be_around : (rects : List Rect) (shape : List ℕ) (reach i : ℕ) (r : Rect) (x : Kinded) (ask : Ask) (found : List ℕ)
+    → x ≡ record { items = map (λ q. bounds_of (corners_of q)) rects; kinds = shape } → i < length rects
+    → r ≡ get_or rects i r → ask.kind ≡ get_or shape i 0
+    → ((other : Corners) → AreClose (IsIn (corners_of r)) (IsIn other) 1 → Meets (bounds_of other) ask.near)
+    → ((other : Corners) → AreClose (IsIn (corners_of r)) (IsIn other) reach → Meets (bounds_of other) ask.far)
+    → HasAsked x ask found
+    → MayBeAround (record { rects = map corners_of rects; shape = shape; reach = reach }) i found
 may_be_around rects shape reach i r x ask found e l is kind near far h = record {
   each = λ k d m. within_rects _ (has.each k d m);
   others = λ j n other. has.all j (asked j n (inl (λ g. other (g ∙ kind))));

@@ -65,15 +65,16 @@ no_along : (a b : Border) → along_test a b ≡ false → ¬ AreAlong a b
 unfolding along_test
 no_along a b t w = let e = w.line in let f = w.above in let g = w.below in grind (arith, ints)
 
-next_before : (a b : Border) → a.from <ℤ a.to → b.from <ℤ b.to → ¬ AreAlong a b →
-    (a.line <ℤ b.line) ⊎ ((a.line ≡ b.line) × (a.from ≤ℤ b.from)) → StandsBefore a b
+next_before : (a b : Border) → a.from <ℤ a.to → b.from <ℤ b.to → ¬ AreAlong a b
+    → (a.line <ℤ b.line) ⊎ ((a.line ≡ b.line) × (a.from ≤ℤ b.from)) → StandsBefore a b
 next_before a b l m n (inl h) = inl h
 next_before a b l m n (inr (e, h)) = inr (e, by_lt_z b.from a.to (λ g. absurd (n (record { line = e; above = omega signed; below = g }))) (λ g. g))
 
 -- borders that are sorted by their lines and where they begin, and of which none lies along another
-pub sorted_in_order : (borders sorted : List Border) → All (λ b. b.from <ℤ b.to) borders →
-    AllPairs (λ a b. ¬ AreAlong a b) borders → IsPermutation borders sorted →
-    IsSortedBy (λ a b. is_lt (ordering_then (int_cmp a.line b.line) (int_cmp a.from b.from))) sorted → AreInOrder sorted
+pub sorted_in_order : (borders sorted : List Border) → All (λ b. b.from <ℤ b.to) borders
+    → AllPairs (λ a b. ¬ AreAlong a b) borders → IsPermutation borders sorted
+    → IsSortedBy (λ a b. is_lt (ordering_then (int_cmp a.line b.line) (int_cmp a.from b.from))) sorted
+    → AreInOrder sorted
 unfolding corner_of
 sorted_in_order borders sorted long apart p up =
     let longs : All (λ b. b.from <ℤ b.to) sorted = All-permutation (λ b. b.from <ℤ b.to) borders sorted p long in
@@ -96,9 +97,9 @@ pub record FirstSoFar (upright : Bool) (rects : List Corners) (n : ℕ) (borders
 pub first_none : (upright : Bool) (rects : List Corners) → FirstSoFar upright rects 0 []
 first_none upright rects = record { long = refl; is = λ k d e l. absurd (omega arith) }
 
-pub first_more : (upright : Bool) (rects : List Corners) (n : ℕ) (borders new : List Border) (b : Border) (r : Corners) →
-    new ≡ borders ++ b ∷ [] → b ≡ first_border upright r n → r ≡ get_or rects n r → n < length rects →
-    FirstSoFar upright rects n borders → FirstSoFar upright rects (n + 1) new
+pub first_more : (upright : Bool) (rects : List Corners) (n : ℕ) (borders new : List Border) (b : Border) (r : Corners)
+    → new ≡ borders ++ b ∷ [] → b ≡ first_border upright r n → r ≡ get_or rects n r → n < length rects
+    → FirstSoFar upright rects n borders → FirstSoFar upright rects (n + 1) new
 first_more upright rects n borders new b r e is at within so = rw e (record {
   long = rw length_push (let l = so.long in omega arith);
   is = λ k d f l. let long = so.long in elim (cases_lt k n) [
@@ -114,27 +115,29 @@ first_long : (upright : Bool) (r : Corners) (n : ℕ) → HasCell r → (first_b
 first_long true r n h = h.1
 first_long false r n h = h.0
 
-first_apart : (upright : Bool) (a b : Corners) (m n : ℕ) → HasCell a → HasCell b → AreApart a b →
-    ¬ AreAlong (first_border upright a m) (first_border upright b n)
+first_apart : (upright : Bool) (a b : Corners) (m n : ℕ) → HasCell a → HasCell b → AreApart a b
+    → ¬ AreAlong (first_border upright a m) (first_border upright b n)
 first_apart true a b m n h g apart w = let e = w.line in let f = w.above in let k = w.below in
     elim (apart_sides a b apart) [ inl s ↦ absurd (omega signed) | inr s ↦ absurd (omega signed) ]
 first_apart false a b m n h g apart w = let e = w.line in let f = w.above in let k = w.below in
     elim (apart_sides a b apart) [ inl s ↦ absurd (omega signed) | inr s ↦ absurd (omega signed) ]
 
-pub first_longs : (upright : Bool) (rects : List Corners) (n : ℕ) (borders : List Border) → n ≤ length rects → All HasCell rects →
-    FirstSoFar upright rects n borders → All (λ b. b.from <ℤ b.to) borders
+pub first_longs : (upright : Bool) (rects : List Corners) (n : ℕ) (borders : List Border) → n ≤ length rects
+    → All HasCell rects → FirstSoFar upright rects n borders → All (λ b. b.from <ℤ b.to) borders
 first_longs upright rects n borders short have so k e l = let long = so.long in let d : Corners = corner_of e in
     rw (so.is k d e (omega arith)) (first_long upright (get_or rects k d) k (have k d (omega arith)))
 
-pub first_aparts : (upright : Bool) (rects : List Corners) (n : ℕ) (borders : List Border) → n ≤ length rects → All HasCell rects →
-    AllPairs AreApart rects → FirstSoFar upright rects n borders → AllPairs (λ a b. ¬ AreAlong a b) borders
+pub first_aparts : (upright : Bool) (rects : List Corners) (n : ℕ) (borders : List Border) → n ≤ length rects
+    → All HasCell rects → AllPairs AreApart rects → FirstSoFar upright rects n borders
+    → AllPairs (λ a b. ¬ AreAlong a b) borders
 first_aparts upright rects n borders short have apart so i j e h l = let long = so.long in let d : Corners = corner_of e in
     rw (so.is i d e (omega arith), so.is j d e (omega arith)) (first_apart upright (get_or rects i d) (get_or rects j d) i j
     (have i d (omega arith)) (have j d (omega arith)) (apart i j d h (omega arith)))
 
 -- all first borders, in whatever order
-pub first_all : (upright : Bool) (rects : List Corners) (n : ℕ) (borders sorted : List Border) → n ≤ length rects → length rects ≤ n →
-    FirstSoFar upright rects n borders → IsPermutation borders sorted → AreBorders upright rects sorted
+pub first_all : (upright : Bool) (rects : List Corners) (n : ℕ) (borders sorted : List Border)
+    → n ≤ length rects → length rects ≤ n → FirstSoFar upright rects n borders → IsPermutation borders sorted
+    → AreBorders upright rects sorted
 first_all upright rects n borders sorted short whole so p = let long = so.long in record {
   each = λ b c. let (k, l, e) = Contains-permutation sorted borders b (IsPermutation-sym borders sorted p) c in
       (k, omega arith, λ d. sym e ∙ so.is k d b (omega arith));
@@ -162,17 +165,19 @@ pub record AlongUpTo (border : Border) (borders : List Border) (k : ℕ) (pairs 
   pub each : (p : ℕ × ℕ) → Contains new p → Contains pairs p ⊎
       ((b : Border) × Contains borders b × AreAlong border b × (p ≡ pair_of border b))
 
-pub along_start : (border : Border) (borders : List Border) (k : ℕ) (pairs : List (ℕ × ℕ)) →
-    ((m : ℕ) (d : Border) → m < k → is_before (get_or borders m d) border ≡ true) → AlongUpTo border borders k pairs pairs
+pub along_start : (border : Border) (borders : List Border) (k : ℕ) (pairs : List (ℕ × ℕ))
+    → ((m : ℕ) (d : Border) → m < k → is_before (get_or borders m d) border ≡ true)
+    → AlongUpTo border borders k pairs pairs
 along_start border borders k pairs before = record {
   kept = λ p c. c;
   all = λ m d l w. absurd (before_misses (get_or borders m d) border (stands_before (get_or borders m d) border (before m d l)) w);
   each = λ p c. inl c;
 }
 
-pub along_more : (border : Border) (borders : List Border) (k : ℕ) (pairs so new : List (ℕ × ℕ)) (b : Border) →
-    k < length borders → ((d : Border) → get_or borders k d ≡ b) → AreAlong border b → new ≡ so ++ pair_of border b ∷ [] →
-    AlongUpTo border borders k pairs so → AlongUpTo border borders (k + 1) pairs new
+pub along_more : (border : Border) (borders : List Border) (k : ℕ) (pairs so new : List (ℕ × ℕ)) (b : Border)
+    → k < length borders → ((d : Border) → get_or borders k d ≡ b) → AreAlong border b
+    → new ≡ so ++ pair_of border b ∷ [] → AlongUpTo border borders k pairs so
+    → AlongUpTo border borders (k + 1) pairs new
 along_more border borders k pairs so new b l at w e a = rw e (record {
   kept = λ p c. Contains-append_left so (pair_of border b ∷ []) p (a.kept p c);
   all = λ m d h v. elim (cases_lt m k) [
@@ -195,17 +200,18 @@ none_behind border a b n m long (inr (e, h)) w = let f = w.line in let g = w.bel
     (λ l. absurd (m (record { line = f ∙ sym e; above = l; below = omega signed })))
     (λ l. absurd (n (inr (e ∙ sym f, l))))
 
-pub along_all : (border : Border) (borders : List Border) (k : ℕ) (pairs new : List (ℕ × ℕ)) → length borders ≤ k →
-    AlongUpTo border borders k pairs new → AddsAlong border borders pairs new
+pub along_all : (border : Border) (borders : List Border) (k : ℕ) (pairs new : List (ℕ × ℕ))
+    → length borders ≤ k → AlongUpTo border borders k pairs new → AddsAlong border borders pairs new
 along_all border borders k pairs new whole a = record {
   kept = a.kept;
   all = λ b (m, l, e) w. subst (λ c. Contains new (pair_of border c)) e (a.all m b (omega arith) (subst (λ c. AreAlong border c) (sym e) w));
   each = a.each;
 }
 
-pub along_end : (border : Border) (borders : List Border) (k : ℕ) (pairs new : List (ℕ × ℕ)) (c : Border) → AreInOrder borders →
-    k < length borders → ((d : Border) → get_or borders k d ≡ c) → is_before c border ≡ false → ¬ AreAlong border c →
-    AlongUpTo border borders k pairs new → AddsAlong border borders pairs new
+pub along_end : (border : Border) (borders : List Border) (k : ℕ) (pairs new : List (ℕ × ℕ)) (c : Border)
+    → AreInOrder borders → k < length borders → ((d : Border) → get_or borders k d ≡ c)
+    → is_before c border ≡ false → ¬ AreAlong border c → AlongUpTo border borders k pairs new
+    → AddsAlong border borders pairs new
 along_end border borders k pairs new c o within at before misses a = record {
   kept = a.kept;
   all = λ b (m, l, e) w. elim (cases_lt m k) [

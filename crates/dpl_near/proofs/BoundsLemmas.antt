@@ -37,8 +37,8 @@ close_meets r other reach c =
     }
 
 -- the widened ends are numbers of the code
-pub wider_fit : (r : Rect) (reach : ℕ) → reach ≤ 200000 → SFits w64 (r.x1 -ℤ pos reach) ×
-    (SFits w64 (r.x2 +ℤ pos reach) × (SFits w64 (r.y1 -ℤ pos reach) × SFits w64 (r.y2 +ℤ pos reach)))
+pub wider_fit : (r : Rect) (reach : ℕ) → reach ≤ 200000
+    → SFits w64 (r.x1 -ℤ pos reach) × (SFits w64 (r.x2 +ℤ pos reach) × (SFits w64 (r.y1 -ℤ pos reach) × SFits w64 (r.y2 +ℤ pos reach)))
 wider_fit r reach h = (
   less r.x1 r.left (below _ _ r.wide r.right),
   (more r.x2 (above _ _ r.wide r.left) r.right, (less r.y1 r.below (below _ _ r.high r.above), more r.y2 (above _ _ r.high r.below) r.above)),
@@ -57,6 +57,6 @@ wider_fit r reach h = (
 
 -- ---- bounds by number
 
-pub bounds_at : (rects : List Rect) (j : ℕ) (r : Rect) (d : Bounds) (e : Corners) → j < length rects →
-    get_or (map (λ q. bounds_of (corners_of q)) rects) j d ≡ bounds_of (get_or (map corners_of rects) j e)
+pub bounds_at : (rects : List Rect) (j : ℕ) (r : Rect) (d : Bounds) (e : Corners) → j < length rects
+    → get_or (map (λ q. bounds_of (corners_of q)) rects) j d ≡ bounds_of (get_or (map corners_of rects) j e)
 bounds_at rects j r d e l = rw (get_or-map (λ q. bounds_of (corners_of q)) rects j r d l, get_or-map corners_of rects j r e l) refl

@@ -34,14 +34,14 @@ pub joins_within : (rects : List Corners) (joins : List (ℕ × ℕ)) → AreJoi
 joins_within rects joins a k d l = let j = a.each k d l in let r = j.rising in let w = j.within in (omega arith, w)
 
 -- a rectangle of a list, by its corners
-pub corners_at : (rects : List Rect) (i : ℕ) (r : Rect) → i < length rects → r ≡ get_or rects i r →
-    corners_of r ≡ get_or (map corners_of rects) i (corners_of r)
+pub corners_at : (rects : List Rect) (i : ℕ) (r : Rect) → i < length rects → r ≡ get_or rects i r
+    → corners_of r ≡ get_or (map corners_of rects) i (corners_of r)
 corners_at rects i r l e = ap corners_of e ∙ sym (get_or-map corners_of rects i r (corners_of r) l)
 
 -- ---- borders that lie along one another, and edges
 
-edge_along : (upright : Bool) (a b : Corners) (m n : ℕ) → HasCell a → HasCell b →
-    AreAlong (last_border upright a m) (first_border upright b n) → SharesEdge (IsIn a) (IsIn b)
+edge_along : (upright : Bool) (a b : Corners) (m n : ℕ) → HasCell a → HasCell b
+    → AreAlong (last_border upright a m) (first_border upright b n) → SharesEdge (IsIn a) (IsIn b)
 edge_along true a b m n h g w = let e = w.line in let f = w.above in let k = w.below in record {
   x = a.x2 -ℤ pos 1;
   y = int_max a.y1 b.y1;
@@ -77,22 +77,24 @@ AlongOneWay : Bool → Corners → Corners → ℕ → ℕ → Type 0
 AlongOneWay upright a b m n =
     AreAlong (last_border upright a m) (first_border upright b n) ⊎ AreAlong (last_border upright b n) (first_border upright a m)
 
-along_upright : (a b : Corners) (m n : ℕ) → HasCell a → HasCell b → int_min a.x2 b.x2 ≤ℤ int_max a.x1 b.x1 →
-    int_max a.x1 b.x1 ≤ℤ int_min a.x2 b.x2 → int_max a.y1 b.y1 <ℤ int_min a.y2 b.y2 → AlongOneWay true a b m n
+along_upright : (a b : Corners) (m n : ℕ) → HasCell a → HasCell b → int_min a.x2 b.x2 ≤ℤ int_max a.x1 b.x1
+    → int_max a.x1 b.x1 ≤ℤ int_min a.x2 b.x2 → int_max a.y1 b.y1 <ℤ int_min a.y2 b.y2
+    → AlongOneWay true a b m n
 unfolding AlongOneWay
 along_upright a b m n h g e f rows = by_lt_z a.x1 b.x1
     (λ l. inl (record { line = omega signed; above = omega signed; below = omega signed }))
     (λ l. inr (record { line = omega signed; above = omega signed; below = omega signed }))
 
-along_level : (a b : Corners) (m n : ℕ) → HasCell a → HasCell b → int_min a.y2 b.y2 ≤ℤ int_max a.y1 b.y1 →
-    int_max a.y1 b.y1 ≤ℤ int_min a.y2 b.y2 → int_max a.x1 b.x1 <ℤ int_min a.x2 b.x2 → AlongOneWay false a b m n
+along_level : (a b : Corners) (m n : ℕ) → HasCell a → HasCell b → int_min a.y2 b.y2 ≤ℤ int_max a.y1 b.y1
+    → int_max a.y1 b.y1 ≤ℤ int_min a.y2 b.y2 → int_max a.x1 b.x1 <ℤ int_min a.x2 b.x2
+    → AlongOneWay false a b m n
 unfolding AlongOneWay
 along_level a b m n h g e f columns = by_lt_z a.y1 b.y1
     (λ l. inl (record { line = omega signed; above = omega signed; below = omega signed }))
     (λ l. inr (record { line = omega signed; above = omega signed; below = omega signed }))
 
-along_edge : (a b : Corners) (m n : ℕ) → HasCell a → HasCell b → AreApart a b → SharesEdge (IsIn a) (IsIn b) →
-    (upright : Bool) × AlongOneWay upright a b m n
+along_edge : (a b : Corners) (m n : ℕ) → HasCell a → HasCell b → AreApart a b → SharesEdge (IsIn a) (IsIn b)
+    → (upright : Bool) × AlongOneWay upright a b m n
 along_edge a b m n h g apart s =
     let c = contact_by_touch a b (inr s) in let columns = c.columns in let rows = c.rows in
     elim (apart_sides a b apart) [
@@ -102,8 +104,9 @@ along_edge a b m n h g apart s =
 
 -- ---- rectangles that follow one another share an edge, and the other way round
 
-join_of_edge : (rects : List Corners) (i j : ℕ) → i < length rects → j < length rects → i ≢ j →
-    ((d : Corners) → SharesEdge (IsIn (get_or rects i d)) (IsIn (get_or rects j d))) → IsJoin rects (min i j) (max i j)
+join_of_edge : (rects : List Corners) (i j : ℕ) → i < length rects → j < length rects → i ≢ j
+    → ((d : Corners) → SharesEdge (IsIn (get_or rects i d)) (IsIn (get_or rects j d)))
+    → IsJoin rects (min i j) (max i j)
 join_of_edge rects i j l m n edge = three i j
     (λ h. let e : min i j ≡ i = omega arith in let f : max i j ≡ j = omega arith in
     rw (e, f) (record { rising = h; within = m; edge = edge }))
@@ -111,8 +114,8 @@ join_of_edge rects i j l m n edge = three i j
     (λ h. let e : min i j ≡ j = omega arith in let f : max i j ≡ i = omega arith in
     rw (e, f) (record { rising = h; within = l; edge = λ d. edge_back (get_or rects i d) (get_or rects j d) (edge d) }))
 
-follows_join : (upright : Bool) (rects : List Corners) (i j : ℕ) → All HasCell rects → i < length rects →
-    Follows upright rects i j → IsJoin rects (min i j) (max i j)
+follows_join : (upright : Bool) (rects : List Corners) (i j : ℕ) → All HasCell rects → i < length rects
+    → Follows upright rects i j → IsJoin rects (min i j) (max i j)
 follows_join upright rects i j have l f = let m = f.within in
     join_of_edge rects i j l m
     (λ e. let d : Corners = record { x1 = pos 0; y1 = pos 0; x2 = pos 0; y2 = pos 0 } in
@@ -121,15 +124,17 @@ follows_join upright rects i j have l f = let m = f.within in
     not_along_itself upright (get_or rects i d) i j (have i d l) w)
     (λ d. edge_along upright (get_or rects i d) (get_or rects j d) i j (have i d l) (have j d m) (f.along d))
 
-follows_at : (upright : Bool) (rects : List Corners) (i j : ℕ) (d : Corners) → i < length rects → j < length rects →
-    AreAlong (last_border upright (get_or rects i d) i) (first_border upright (get_or rects j d) j) → Follows upright rects i j
+follows_at : (upright : Bool) (rects : List Corners) (i j : ℕ) (d : Corners) → i < length rects
+    → j < length rects
+    → AreAlong (last_border upright (get_or rects i d) i) (first_border upright (get_or rects j d) j)
+    → Follows upright rects i j
 follows_at upright rects i j d l m w = record {
   within = m;
   along = λ e. rw (get_or_default rects i e d l, get_or_default rects j e d m) w;
 }
 
-join_follows : (rects : List Corners) (i j : ℕ) → All HasCell rects → AllPairs AreApart rects → IsJoin rects i j →
-    (upright : Bool) × (Follows upright rects i j ⊎ Follows upright rects j i)
+join_follows : (rects : List Corners) (i j : ℕ) → All HasCell rects → AllPairs AreApart rects
+    → IsJoin rects i j → (upright : Bool) × (Follows upright rects i j ⊎ Follows upright rects j i)
 unfolding AlongOneWay
 join_follows rects i j have apart join =
     let d : Corners = record { x1 = pos 0; y1 = pos 0; x2 = pos 0; y2 = pos 0 } in
@@ -150,10 +155,11 @@ pair_is : (upright : Bool) (a b : Corners) (m n : ℕ) → pair_of (last_border 
 pair_is true a b m n = refl
 pair_is false a b m n = refl
 
-one_more : (upright : Bool) (rects : List Corners) (n : ℕ) (r : Corners) (borders : List Border) (pairs new : List (ℕ × ℕ)) →
-    All HasCell rects → n < length rects → r ≡ get_or rects n r → AreBorders upright rects borders →
-    AddsAlong (last_border upright r n) borders pairs new → ((p : ℕ × ℕ) → Contains pairs p → IsJoin rects p.0 p.1) →
-    (p : ℕ × ℕ) → Contains new p → IsJoin rects p.0 p.1
+one_more : (upright : Bool) (rects : List Corners) (n : ℕ) (r : Corners) (borders : List Border) (pairs new : List (ℕ × ℕ))
+    → All HasCell rects → n < length rects → r ≡ get_or rects n r → AreBorders upright rects borders
+    → AddsAlong (last_border upright r n) borders pairs new
+    → ((p : ℕ × ℕ) → Contains pairs p → IsJoin rects p.0 p.1) → (p : ℕ × ℕ) → Contains new p
+    → IsJoin rects p.0 p.1
 one_more upright rects n r borders pairs new have l at all adds each p c = elim (adds.each p c) [
   | inl h ↦ each p h
   | inr (b, h, w, e) ↦ let (j, m, is) = all.each b h in
@@ -165,18 +171,20 @@ one_more upright rects n r borders pairs new have l at all adds each p c = elim 
       subst (λ (q : ℕ × ℕ). IsJoin rects q.0 q.1) (sym same) (follows_join upright rects n j have l (follows_at upright rects n j r l m along))
 ]
 
-one_found : (upright : Bool) (rects : List Corners) (n j : ℕ) (r : Corners) (borders : List Border) (pairs new : List (ℕ × ℕ)) →
-    r ≡ get_or rects n r → AreBorders upright rects borders → AddsAlong (last_border upright r n) borders pairs new →
-    Follows upright rects n j → Contains new (min n j, max n j)
+one_found : (upright : Bool) (rects : List Corners) (n j : ℕ) (r : Corners) (borders : List Border) (pairs new : List (ℕ × ℕ))
+    → r ≡ get_or rects n r → AreBorders upright rects borders
+    → AddsAlong (last_border upright r n) borders pairs new → Follows upright rects n j
+    → Contains new (min n j, max n j)
 one_found upright rects n j r borders pairs new at all adds f =
     let b : Border = first_border upright (get_or rects j r) j in
     let w : AreAlong (last_border upright r n) b = subst (λ x. AreAlong (last_border upright x n) b) (sym at) (f.along r) in
     subst (Contains new) (pair_is upright r (get_or rects j r) n j) (adds.all b (all.all j r f.within) w)
 
-pub joins_more : (rects : List Corners) (n : ℕ) (r : Corners) (left lower : List Border) (pairs mid new : List (ℕ × ℕ)) →
-    All HasCell rects → n < length rects → r ≡ get_or rects n r → AreBorders true rects left → AreBorders false rects lower →
-    AddsAlong (last_border true r n) left pairs mid → AddsAlong (last_border false r n) lower mid new →
-    HasJoinsOf rects n pairs → HasJoinsOf rects (n + 1) new
+pub joins_more : (rects : List Corners) (n : ℕ) (r : Corners) (left lower : List Border) (pairs mid new : List (ℕ × ℕ))
+    → All HasCell rects → n < length rects → r ≡ get_or rects n r → AreBorders true rects left
+    → AreBorders false rects lower → AddsAlong (last_border true r n) left pairs mid
+    → AddsAlong (last_border false r n) lower mid new → HasJoinsOf rects n pairs
+    → HasJoinsOf rects (n + 1) new
 joins_more rects n r left lower pairs mid new have l at lefts lowers first second so = record {
   each = one_more false rects n r lower mid new have l at lowers second (one_more true rects n r left pairs mid have l at lefts first so.each);
   all = λ upright i j h f. elim (cases_lt i n) [
@@ -189,9 +197,9 @@ joins_more rects n r left lower pairs mid new have l at lefts lowers first secon
   found true j f = second.kept _ (one_found true rects n j r left pairs mid at lefts first f)
   found false j f = one_found false rects n j r lower mid new at lowers second f
 
-pub joins_all : (rects : List Corners) (n : ℕ) (pairs new : List (ℕ × ℕ)) → All HasCell rects → AllPairs AreApart rects →
-    length rects ≤ n → HasJoinsOf rects n pairs → AllPairs IsFirst new →
-    ((p : ℕ × ℕ) → Contains new p ↔ Contains pairs p) → AreJoins rects new
+pub joins_all : (rects : List Corners) (n : ℕ) (pairs new : List (ℕ × ℕ)) → All HasCell rects
+    → AllPairs AreApart rects → length rects ≤ n → HasJoinsOf rects n pairs → AllPairs IsFirst new
+    → ((p : ℕ × ℕ) → Contains new p ↔ Contains pairs p) → AreJoins rects new
 joins_all rects n pairs new have apart whole so up same = record {
   each = λ k d l. so.each (get_or new k d) ((same (get_or new k d)).0 (All-contains_itself new k d l));
   all = λ i j join. (same (i, j)).1 (found i j join);
@@ -213,8 +221,8 @@ joins_all rects n pairs new have apart whole so up same = record {
 abbrev pub pair_cmp : ℕ × ℕ → ℕ × ℕ → Ordering
 pair_cmp p q = ordering_then (nat_cmp p.0 q.0) (nat_cmp p.1 q.1)
 
-first_by : (p q : ℕ × ℕ) (r s : Ordering) → MatchOrdering r (p.0 < q.0) (p.0 ≡ q.0) (q.0 < p.0) →
-    MatchOrdering s (p.1 < q.1) (p.1 ≡ q.1) (q.1 < p.1) → ordering_then r s ≡ Less → IsFirst p q
+first_by : (p q : ℕ × ℕ) (r s : Ordering) → MatchOrdering r (p.0 < q.0) (p.0 ≡ q.0) (q.0 < p.0)
+    → MatchOrdering s (p.1 < q.1) (p.1 ≡ q.1) (q.1 < p.1) → ordering_then r s ≡ Less → IsFirst p q
 first_by p q Less s h g e = inl h
 first_by p q Equal Less h g e = inr (h, g)
 first_by p q Equal Equal h g e = absurd (cc)

@@ -11,8 +11,8 @@ use Rattle.dpl_cell.specs.Images.{moved}
 use Rattle.dpl_cell.proofs.ImageLemmas.{shift, unshift, moves, carried_from, layer_shape, layer_shape_back}
 use Rattle.dpl_near.specs.Shapes.{AreShapes}
 
-pub same_place : (cells : ℤ → ℤ → Bool) (x y x' y' a b a' b' : ℤ) → x ≡ a → y ≡ b → x' ≡ a' → y' ≡ b' → AreOneShape cells x y x' y' →
-    AreOneShape cells a b a' b'
+pub same_place : (cells : ℤ → ℤ → Bool) (x y x' y' a b a' b' : ℤ) → x ≡ a → y ≡ b → x' ≡ a' → y' ≡ b'
+    → AreOneShape cells x y x' y' → AreOneShape cells a b a' b'
 same_place cells x y x' y' a b a' b' e f g h s =
     let P : ℤ → Type 0 = λ z. AreOneShape cells z y x' y' in
     let Q : ℤ → Type 0 = λ z. AreOneShape cells a z x' y' in
@@ -21,8 +21,8 @@ same_place cells x y x' y' a b a' b' e f g h s =
     subst S h (subst R g (subst Q f (subst P e s)))
 
 -- rectangles that are moved have the same shapes
-pub moved_shapes : (right up : ℤ) (rects : List Corners) (label : List ℕ) (count' : ℕ) → AreShapes rects label count' →
-    AreShapes (map (moved right up) rects) label count'
+pub moved_shapes : (right up : ℤ) (rects : List Corners) (label : List ℕ) (count' : ℕ)
+    → AreShapes rects label count' → AreShapes (map (moved right up) rects) label count'
 moved_shapes right up rects label count' s =
     let size = length-map rects (moved right up) in
     record {

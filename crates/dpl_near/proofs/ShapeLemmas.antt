@@ -20,8 +20,9 @@ use Rattle.dpl_near.proofs.WalkLemmas.{walk_start, joined_on, joined_step, joine
 
 -- ---- walks within rectangles
 
-row_ordered : (rects : List Corners) (i : ℕ) (d : Corners) (x x' y : ℤ) → i < length rects → x ≤ℤ x' →
-    IsIn (get_or rects i d) x y → IsIn (get_or rects i d) x' y → AreOneShape (is_cell (map Box rects)) x y x' y
+row_ordered : (rects : List Corners) (i : ℕ) (d : Corners) (x x' y : ℤ) → i < length rects → x ≤ℤ x'
+    → IsIn (get_or rects i d) x y → IsIn (get_or rects i d) x' y
+    → AreOneShape (is_cell (map Box rects)) x y x' y
 row_ordered rects i d x x' y l h p q = let (n, e) = steps x x' h in
     rw e (along_row (is_cell (map Box rects)) n x y (λ k f t. held rects i d k y l
     (between_in (get_or rects i d) x x' y k p q f (rw e t)))) where
@@ -30,8 +31,9 @@ row_ordered rects i d x x' y l h p q = let (n, e) = steps x x' h in
         mid : (a b x x' k : ℤ) → IsWithin a b x → IsWithin a b x' → x ≤ℤ k → k ≤ℤ x' → IsWithin a b k
         mid a b x x' k p q f t = record { from = omega signed; to = omega signed }
 
-column_ordered : (rects : List Corners) (i : ℕ) (d : Corners) (x y y' : ℤ) → i < length rects → y ≤ℤ y' →
-    IsIn (get_or rects i d) x y → IsIn (get_or rects i d) x y' → AreOneShape (is_cell (map Box rects)) x y x y'
+column_ordered : (rects : List Corners) (i : ℕ) (d : Corners) (x y y' : ℤ) → i < length rects → y ≤ℤ y'
+    → IsIn (get_or rects i d) x y → IsIn (get_or rects i d) x y'
+    → AreOneShape (is_cell (map Box rects)) x y x y'
 column_ordered rects i d x y y' l h p q = let (n, e) = steps y y' h in
     rw e (along_column (is_cell (map Box rects)) n x y
     (λ k f t. held rects i d x k l (between_in (get_or rects i d) x y y' k p q f (rw e t)))) where
@@ -44,8 +46,9 @@ pub le_of_lt : (a b : ℤ) → a <ℤ b → a ≤ℤ b
 le_of_lt a b h = omega signed
 
 -- two cells of one rectangle
-pub joined_within : (rects : List Corners) (i : ℕ) (d : Corners) (x y x' y' : ℤ) → i < length rects →
-    IsIn (get_or rects i d) x y → IsIn (get_or rects i d) x' y' → AreOneShape (is_cell (map Box rects)) x y x' y'
+pub joined_within : (rects : List Corners) (i : ℕ) (d : Corners) (x y x' y' : ℤ) → i < length rects
+    → IsIn (get_or rects i d) x y → IsIn (get_or rects i d) x' y'
+    → AreOneShape (is_cell (map Box rects)) x y x' y'
 joined_within rects i d x y x' y' l p q =
     let m : IsIn (get_or rects i d) x' y = record { column = q.column; row = p.row } in
     joined_on (is_cell (map Box rects)) x y x' y x' y'
@@ -55,9 +58,10 @@ joined_within rects i d x y x' y' l p q =
     (λ h. joined_back (is_cell (map Box rects)) x' y' x' y (column_ordered rects i d x' y' y l h q m)))
 
 -- two cells of rectangles that share an edge
-pub joined_across : (rects : List Corners) (i j : ℕ) (d : Corners) (x y x' y' : ℤ) → i < length rects →
-    j < length rects → SharesEdge (IsIn (get_or rects i d)) (IsIn (get_or rects j d)) → IsIn (get_or rects i d) x y →
-    IsIn (get_or rects j d) x' y' → AreOneShape (is_cell (map Box rects)) x y x' y'
+pub joined_across : (rects : List Corners) (i j : ℕ) (d : Corners) (x y x' y' : ℤ) → i < length rects
+    → j < length rects → SharesEdge (IsIn (get_or rects i d)) (IsIn (get_or rects j d))
+    → IsIn (get_or rects i d) x y → IsIn (get_or rects j d) x' y'
+    → AreOneShape (is_cell (map Box rects)) x y x' y'
 joined_across rects i j d x y x' y' l m t p q =
     let cells : ℤ → ℤ → Bool = is_cell (map Box rects) in
     joined_on cells x y t.x t.y x' y' (joined_within rects i d x y t.x t.y l p t.cells.first)
@@ -70,9 +74,10 @@ joined_across rects i j d x y x' y' l m t p q =
 join_of : (rects : List Corners) (joins : List (ℕ × ℕ)) (i j : ℕ) → AreJoins rects joins → Contains joins (i, j) → IsJoin rects i j
 join_of rects joins i j a (k, l, e) = let d : ℕ × ℕ = (i, j) in let h = a.each k d l in rw e at h
 
-joined_along : (rects : List Corners) (joins : List (ℕ × ℕ)) → AreJoins rects joins →
-    (i : ℕ) (js : List ℕ) (k : ℕ) (d : Corners) (x y x' y' : ℤ) → IsChain joins i js k → i < length rects →
-    IsIn (get_or rects i d) x y → IsIn (get_or rects k d) x' y' → AreOneShape (is_cell (map Box rects)) x y x' y'
+joined_along : (rects : List Corners) (joins : List (ℕ × ℕ)) → AreJoins rects joins
+    → (i : ℕ) (js : List ℕ) (k : ℕ) (d : Corners) (x y x' y' : ℤ) → IsChain joins i js k → i < length rects
+    → IsIn (get_or rects i d) x y → IsIn (get_or rects k d) x' y'
+    → AreOneShape (is_cell (map Box rects)) x y x' y'
 joined_along rects joins a i [] k d x y x' y' e l p q = joined_within rects i d x y x' y' l p (rw e q)
 joined_along rects joins a i (m ∷ js) k d x y x' y' (h, s) l p q =
     let cells : ℤ → ℤ → Bool = is_cell (map Box rects) in
@@ -88,16 +93,16 @@ joined_along rects joins a i (m ∷ js) k d x y x' y' (h, s) l p q =
 
 -- ---- from walks to links
 
-same_holder : (rects : List Corners) (i j : ℕ) (d : Corners) (x y : ℤ) → AllPairs AreApart rects → i < length rects →
-    j < length rects → IsIn (get_or rects i d) x y → IsIn (get_or rects j d) x y → i ≡ j
+same_holder : (rects : List Corners) (i j : ℕ) (d : Corners) (x y : ℤ) → AllPairs AreApart rects
+    → i < length rects → j < length rects → IsIn (get_or rects i d) x y → IsIn (get_or rects j d) x y → i ≡ j
 same_holder rects i j d x y apart l m p q = elim (cases_lt i j) [
   | inl h ↦ absurd (apart i j d h m (record { x = x; y = y; first = p; second = q }))
   | inr h ↦ elim (cases_eq i j) [ inl e ↦ e | inr n ↦ absurd (apart j i d (omega (arith, n)) l (record { x = x; y = y; first = q; second = p })) ]
 ]
 
-edge_at : (rects : List Corners) (i j : ℕ) (d : Corners) (x y x' y' : ℤ) → i < length rects → j < length rects →
-    IsIn (get_or rects i d) x y → IsIn (get_or rects j d) x' y' → AreNeighbours x y x' y' → (e : Corners) →
-    SharesEdge (IsIn (get_or rects i e)) (IsIn (get_or rects j e))
+edge_at : (rects : List Corners) (i j : ℕ) (d : Corners) (x y x' y' : ℤ) → i < length rects → j < length rects
+    → IsIn (get_or rects i d) x y → IsIn (get_or rects j d) x' y' → AreNeighbours x y x' y' → (e : Corners)
+    → SharesEdge (IsIn (get_or rects i e)) (IsIn (get_or rects j e))
 edge_at rects i j d x y x' y' l m p q n e = record {
   x = x;
   y = y;
@@ -109,9 +114,9 @@ edge_at rects i j d x y x' y' l m p q n e = record {
       n;
 }
 
-step_link : (rects : List Corners) (joins : List (ℕ × ℕ)) (i j : ℕ) (d : Corners) (x y x' y' : ℤ) →
-    AreJoins rects joins → i < length rects → j < length rects → IsIn (get_or rects i d) x y →
-    IsIn (get_or rects j d) x' y' → AreNeighbours x y x' y' → AreLinked joins i j
+step_link : (rects : List Corners) (joins : List (ℕ × ℕ)) (i j : ℕ) (d : Corners) (x y x' y' : ℤ)
+    → AreJoins rects joins → i < length rects → j < length rects → IsIn (get_or rects i d) x y
+    → IsIn (get_or rects j d) x' y' → AreNeighbours x y x' y' → AreLinked joins i j
 step_link rects joins i j d x y x' y' a l m p q n = elim (cases_lt i j) [
   | inl h ↦ link_pair joins i j (a.all i j (record { rising = h; within = m; edge = edge_at rects i j d x y x' y' l m p q n }))
   | inr h ↦ elim (cases_eq i j) [
@@ -126,10 +131,10 @@ step_link rects joins i j d x y x' y' a l m p q n = elim (cases_lt i j) [
   ]
 ]
 
-linked_along : (rects : List Corners) (joins : List (ℕ × ℕ)) → AllPairs AreApart rects → AreJoins rects joins →
-    (i j : ℕ) (d : Corners) (x y : ℤ) (cs : List (ℤ × ℤ)) (x' y' : ℤ) → i < length rects → j < length rects →
-    IsIn (get_or rects i d) x y → IsIn (get_or rects j d) x' y' → IsWalk (is_cell (map Box rects)) x y cs x' y' →
-    AreLinked joins i j
+linked_along : (rects : List Corners) (joins : List (ℕ × ℕ)) → AllPairs AreApart rects → AreJoins rects joins
+    → (i j : ℕ) (d : Corners) (x y : ℤ) (cs : List (ℤ × ℤ)) (x' y' : ℤ) → i < length rects → j < length rects
+    → IsIn (get_or rects i d) x y → IsIn (get_or rects j d) x' y'
+    → IsWalk (is_cell (map Box rects)) x y cs x' y' → AreLinked joins i j
 linked_along rects joins apart a i j d x y [] x' y' l m p q (h, e, f) = link_here joins i j (same_holder rects i j d x y apart l m p (rw (e, f) q))
 linked_along rects joins apart a i j d x y (c ∷ cs) x' y' l m p q (h, n, w) =
     let (k, r, g, e, s) = holder rects c.0 c.1 (walk_start (is_cell (map Box rects)) c.0 c.1 cs x' y' w) in
@@ -138,8 +143,9 @@ linked_along rects joins apart a i j d x y (c ∷ cs) x' y' l m p q (h, n, w) =
 
 -- ---- the shapes
 
-pub are_shapes : (rects : List Corners) (joins : List (ℕ × ℕ)) (label : List ℕ) (count' : ℕ) → AllPairs AreApart rects →
-    AreJoins rects joins → AreClasses joins (length rects) label count' → AreShapes rects label count'
+pub are_shapes : (rects : List Corners) (joins : List (ℕ × ℕ)) (label : List ℕ) (count' : ℕ)
+    → AllPairs AreApart rects → AreJoins rects joins → AreClasses joins (length rects) label count'
+    → AreShapes rects label count'
 are_shapes rects joins label count' apart a r = record {
   long = r.long;
   same = λ i j d x y x' y' l m p q.

@@ -9,8 +9,8 @@ pub walk_start : (cells : ℤ → ℤ → Bool) (x y : ℤ) (cs : List (ℤ × �
 walk_start cells x y [] x' y' (h, e, f) = h
 walk_start cells x y (c ∷ cs) x' y' (h, n, w) = h
 
-walk_on : (cells : ℤ → ℤ → Bool) (x y : ℤ) (cs : List (ℤ × ℤ)) (x' y' : ℤ) (ds : List (ℤ × ℤ)) (x'' y'' : ℤ) →
-    IsWalk cells x y cs x' y' → IsWalk cells x' y' ds x'' y'' → IsWalk cells x y (cs ++ ds) x'' y''
+walk_on : (cells : ℤ → ℤ → Bool) (x y : ℤ) (cs : List (ℤ × ℤ)) (x' y' : ℤ) (ds : List (ℤ × ℤ)) (x'' y'' : ℤ)
+    → IsWalk cells x y cs x' y' → IsWalk cells x' y' ds x'' y'' → IsWalk cells x y (cs ++ ds) x'' y''
 walk_on cells x y [] x' y' ds x'' y'' (h, e, f) w = rw (e, f) w
 walk_on cells x y (c ∷ cs) x' y' ds x'' y'' (h, n, v) w = (h, n, walk_on cells c.0 c.1 cs x' y' ds x'' y'' v w)
 

@@ -32,8 +32,9 @@ cleared_none places marks x = both (get_or marks x false)
     both true = refl
     both false = refl
 
-pub cleared_more : (places : List ℕ) (old now : List Bool) (i x : ℕ) → i < length places → x ≡ get_or places i 0 →
-    x < length now → AreCleared (take i places) old now → AreCleared (take (i + 1) places) old (set now x false)
+pub cleared_more : (places : List ℕ) (old now : List Bool) (i x : ℕ) → i < length places
+    → x ≡ get_or places i 0 → x < length now → AreCleared (take i places) old now
+    → AreCleared (take (i + 1) places) old (set now x false)
 cleared_more places old now i x h e l c z = elim (cases_eq x z) [
   | inl t ↦
       let here : has (take (i + 1) places) z ≡ true = ap (has (take (i + 1) places)) (sym t ∙ e) ∙ taken_has places i h in
@@ -46,8 +47,8 @@ pub cleared_all : (places : List ℕ) (old now : List Bool) (i : ℕ) → length
 cleared_all places old now i h c x = c x ∙ ap (λ z. get_or old x false && not (has z x)) (take_all i places h)
 
 -- what was written is cleared
-pub written_cleared : (places : List ℕ) (old now new : List Bool) → AreClear old → length now ≡ length old →
-    length new ≡ length now → IsWritten places now → AreCleared places now new → AreClear new
+pub written_cleared : (places : List ℕ) (old now new : List Bool) → AreClear old → length now ≡ length old
+    → length new ≡ length now → IsWritten places now → AreCleared places now new → AreClear new
 written_cleared places old now new c s t w d x = elim (cases_lt x (length now)) [
   | inl l ↦ d x ∙ ap (λ b. b && not (has places x)) (w x l) ∙ none (has places x)
   | inr l ↦ get_or_past new x false (omega (arith, l, t))
@@ -91,8 +92,8 @@ pub sum_alike : (n : ℕ) (p q : ℕ → Bool) → ((f : ℕ) → f < n → p f 
 sum_alike zero p q h = refl
 sum_alike (suc n) p q h = omega (arith, sum_alike n p q (λ f l. h f (omega arith)), ap (λ b. cond {A = ℕ} b 1 0) (h n (omega arith)))
 
-pub odd_inside : (g : Signed) (m : MapView) (faces : List ℕ) (inside : List Bool) → length inside ≡ m.faces →
-    IsWritten faces inside → count_by (has faces) (odd_list g m) % 2 ≡ 1 → odd_faces_in g m inside % 2 ≡ 1
+pub odd_inside : (g : Signed) (m : MapView) (faces : List ℕ) (inside : List Bool) → length inside ≡ m.faces
+    → IsWritten faces inside → count_by (has faces) (odd_list g m) % 2 ≡ 1 → odd_faces_in g m inside % 2 ≡ 1
 odd_inside g m faces inside size w h =
     omega (
       arith,
@@ -104,8 +105,8 @@ odd_inside g m faces inside size w h =
 
 -- ---- a walk around what was written
 
-pub around_of : (g : Signed) (m : MapView) → IsMap g m → (faces : List ℕ) (inside : List Bool) (w : Walk) →
-    length inside ≡ m.faces → IsWritten faces inside → IsRoundWalk g m inside w → IsAround g m faces w
+pub around_of : (g : Signed) (m : MapView) → IsMap g m → (faces : List ℕ) (inside : List Bool) (w : Walk)
+    → length inside ≡ m.faces → IsWritten faces inside → IsRoundWalk g m inside w → IsAround g m faces w
 around_of g m k faces inside w size written r = record {
   odd = r.odd;
   leaves = λ i d l.
@@ -134,9 +135,10 @@ around_of g m k faces inside w size written r = record {
 
 -- ---- the darts that were seen are those of the faces
 
-pub darts_cleared : (g : Signed) (m : MapView) → IsMap g m → (faces : List ℕ) (inside seen new : List Bool) →
-    length inside ≡ m.faces → IsWritten faces inside → AreWhole g m inside seen →
-    ((d : ℕ) → is_seen new d ≡ true → (is_seen seen d ≡ true) × ((f : ℕ) → has faces f ≡ true → has (row m f) d ≡ false)) → AreClear new
+pub darts_cleared : (g : Signed) (m : MapView) → IsMap g m → (faces : List ℕ) (inside seen new : List Bool)
+    → length inside ≡ m.faces → IsWritten faces inside → AreWhole g m inside seen
+    → ((d : ℕ) → is_seen new d ≡ true → (is_seen seen d ≡ true) × ((f : ℕ) → has faces f ≡ true → has (row m f) d ≡ false))
+    → AreClear new
 darts_cleared g m k faces inside seen new size w whole left d = false_from_ne_true (is_seen new d) (λ t.
     let was = left d t in
     let below : d < 2 * length g.edges = elim (cases_lt d (2 * length g.edges)) [
@@ -148,14 +150,15 @@ darts_cleared g m k faces inside seen new size w whole left d = false_from_ne_tr
     true≢false (sym (k.all d below active.0) ∙ was.1 (face m d) listed))
 
 -- the darts of one face more are cleared
-pub darts_none : (m : MapView) (faces : List ℕ) (seen : List Bool) → (d : ℕ) → is_seen seen d ≡ true →
-    (is_seen seen d ≡ true) × ((f : ℕ) → has (take 0 faces) f ≡ true → has (row m f) d ≡ false)
+pub darts_none : (m : MapView) (faces : List ℕ) (seen : List Bool) → (d : ℕ) → is_seen seen d ≡ true
+    → (is_seen seen d ≡ true) × ((f : ℕ) → has (take 0 faces) f ≡ true → has (row m f) d ≡ false)
 darts_none m faces seen d t = (t, λ f q. absurd (false≢true q))
 
-pub darts_more : (m : MapView) (faces : List ℕ) (old now new : List Bool) (places : List ℕ) (i : ℕ) → i < length faces →
-    places ≡ m.rows (get_or faces i 0) → AreCleared places now new →
-    ((d : ℕ) → is_seen now d ≡ true → (is_seen old d ≡ true) × ((f : ℕ) → has (take i faces) f ≡ true → has (row m f) d ≡ false)) →
-    (d : ℕ) → is_seen new d ≡ true → (is_seen old d ≡ true) × ((f : ℕ) → has (take (i + 1) faces) f ≡ true → has (row m f) d ≡ false)
+pub darts_more : (m : MapView) (faces : List ℕ) (old now new : List Bool) (places : List ℕ) (i : ℕ)
+    → i < length faces → places ≡ m.rows (get_or faces i 0) → AreCleared places now new
+    → ((d : ℕ) → is_seen now d ≡ true → (is_seen old d ≡ true) × ((f : ℕ) → has (take i faces) f ≡ true → has (row m f) d ≡ false))
+    → (d : ℕ) → is_seen new d ≡ true
+    → (is_seen old d ≡ true) × ((f : ℕ) → has (take (i + 1) faces) f ≡ true → has (row m f) d ≡ false)
 darts_more m faces old now new places i hi e c before d t =
     let parts = and_parts (is_seen now d) (not (has places d)) (sym (c d) ∙ t) in
     let was = before d parts.0 in (
@@ -166,10 +169,10 @@ darts_more m faces old now new places i hi e c before d t =
       ],
     )
 
-pub darts_done : (m : MapView) (faces : List ℕ) (old now : List Bool) (i : ℕ) → length faces ≤ i →
-    ((d : ℕ) → is_seen now d ≡ true → (is_seen old d ≡ true) ×
-    ((f : ℕ) → has (take i faces) f ≡ true → has (row m f) d ≡ false)) →
-    (d : ℕ) → is_seen now d ≡ true → (is_seen old d ≡ true) × ((f : ℕ) → has faces f ≡ true → has (row m f) d ≡ false)
+pub darts_done : (m : MapView) (faces : List ℕ) (old now : List Bool) (i : ℕ) → length faces ≤ i
+    → ((d : ℕ) → is_seen now d ≡ true → (is_seen old d ≡ true) × ((f : ℕ) → has (take i faces) f ≡ true → has (row m f) d ≡ false))
+    → (d : ℕ) → is_seen now d ≡ true
+    → (is_seen old d ≡ true) × ((f : ℕ) → has faces f ≡ true → has (row m f) d ≡ false)
 darts_done m faces old now i h before d t =
     let was = before d t in
     (was.0, λ f q. was.1 f (ap (λ z. has z f) (take_all i faces h) ∙ q))
@@ -179,8 +182,8 @@ darts_done m faces old now i h before d t =
 pub listed_none : (marks : List Bool) → IsListed marks 0 []
 listed_none marks = record { below = All-nil (λ x. x < 0); each = λ x l. absurd (omega (arith, l)) }
 
-pub listed_in : (marks : List Bool) (n : ℕ) (places : List ℕ) → get_or marks n false ≡ true → IsListed marks n places →
-    IsListed marks (n + 1) (places ++ n ∷ [])
+pub listed_in : (marks : List Bool) (n : ℕ) (places : List ℕ) → get_or marks n false ≡ true
+    → IsListed marks n places → IsListed marks (n + 1) (places ++ n ∷ [])
 listed_in marks n places h k = record {
   below = All-push (λ x. x < n + 1) places n (All-weaker (λ x. x < n) (λ x. x < n + 1) (λ x l. omega (arith, l)) places k.below) (omega arith);
   each = λ x l. elim (cases_eq n x) [

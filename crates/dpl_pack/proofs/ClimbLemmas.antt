@@ -91,8 +91,9 @@ inner_single f fam t h = sum_same (2 * f.size) (λ j. cond (comes_before f j t &
     ]))) ∙ sum_zero (2 * f.size)
 
 -- what comes before the parent of a set is the set, or comes before it
-before_parent : (f : Sets) → IsFamily f → (t c j k p : ℕ) → t < f.size → j < 2 * f.size → f.holds j t ≡ true →
-    climb f t c ≡ Some k → f.parent k ≡ Some p → j ≢ k → comes_before f j p ≡ true → comes_before f j k ≡ true
+before_parent : (f : Sets) → IsFamily f → (t c j k p : ℕ) → t < f.size → j < 2 * f.size → f.holds j t ≡ true
+    → climb f t c ≡ Some k → f.parent k ≡ Some p → j ≢ k → comes_before f j p ≡ true
+    → comes_before f j k ≡ true
 before_parent f fam t c j k p ht hj held at up ne b =
     let r = place_of f fam j t hj ht held in
     let above : climb f t (suc c) ≡ Some p = ap (option_and_then f.parent) at ∙ up in
@@ -107,9 +108,9 @@ before_parent f fam t c j k p ht hj held at up ne b =
       ]
     ]
 
-before_step : (f : Sets) → IsFamily f → (t c k p : ℕ) → t < f.size → climb f t c ≡ Some k → f.parent k ≡ Some p →
-    (j : ℕ) → j < 2 * f.size → cond (comes_before f j p && f.holds j t) (f.value j) 0
-    ≡ cond (comes_before f j k && f.holds j t) (f.value j) 0 + cond (k == j) (f.value j) 0
+before_step : (f : Sets) → IsFamily f → (t c k p : ℕ) → t < f.size → climb f t c ≡ Some k
+    → f.parent k ≡ Some p → (j : ℕ) → j < 2 * f.size
+    → cond (comes_before f j p && f.holds j t) (f.value j) 0 ≡ cond (comes_before f j k && f.holds j t) (f.value j) 0 + cond (k == j) (f.value j) 0
 before_step f fam t c k p ht at up j hj =
     let w = climb_is f fam t c k ht at in
     let first : comes_before f k p ≡ true = before_from f k p (inl (parent_larger f fam k p w.below w.live up)) in
@@ -139,8 +140,8 @@ before_step f fam t c k p ht at up j hj =
           omega (arith, ap (λ b. cond b (f.value j) 0) same, cond-false (k == j) (f.value j) 0 (ne_eqb k j ne))
     ]
 
-pub inner_parent : (f : Sets) → IsFamily f → (t c k p : ℕ) → t < f.size → climb f t c ≡ Some k → f.parent k ≡ Some p →
-    inner_of f p t ≡ inner_of f k t + f.value k
+pub inner_parent : (f : Sets) → IsFamily f → (t c k p : ℕ) → t < f.size → climb f t c ≡ Some k
+    → f.parent k ≡ Some p → inner_of f p t ≡ inner_of f k t + f.value k
 inner_parent f fam t c k p ht at up =
     let w = climb_is f fam t c k ht at in
     let own : ℕ → ℕ = λ j. cond (k == j) (f.value j) 0 in

@@ -19,21 +19,20 @@ use Rattle.dpl_pack.proofs.CodeLemmas.{pushed_same, pushed_old, least_none, leas
 
 -- ---- distances up to a limit
 
-up_to_by : (ways : List Cross) (from limit g : ℕ) (v : DistancesView) (e : Option Reach) →
-    MatchOption e ((xs : List Cross) → Leads ways from xs g → limit ≤ length_of xs)
-    (λ r. IsShortest ways from g r.length (edges_to v g) × (r.length < limit)) →
-    IsDistanceUpTo ways limit from g (length_up_to limit e)
+up_to_by : (ways : List Cross) (from limit g : ℕ) (v : DistancesView) (e : Option Reach)
+    → MatchOption e ((xs : List Cross) → Leads ways from xs g → limit ≤ length_of xs) (λ r. IsShortest ways from g r.length (edges_to v g) × (r.length < limit))
+    → IsDistanceUpTo ways limit from g (length_up_to limit e)
 up_to_by ways from limit g v None m = record { most = omega arith; shorter = m; met = inl refl }
 up_to_by ways from limit g v (Some r) m = record { most = omega (arith, m.1); shorter = m.0.shorter; met = inr (m.0.chain, m.0.leads, m.0.length_is) }
 
-pub up_to_is : (ways : List Cross) (faces from limit g : ℕ) (v : DistancesView) →
-    AreDistancesWithin ways faces from limit v → g < faces →
-    IsDistanceUpTo ways limit from g (length_up_to limit (entry_at v g))
+pub up_to_is : (ways : List Cross) (faces from limit g : ℕ) (v : DistancesView)
+    → AreDistancesWithin ways faces from limit v → g < faces
+    → IsDistanceUpTo ways limit from g (length_up_to limit (entry_at v g))
 up_to_is ways faces from limit g v a h = up_to_by ways from limit g v (entry_at v g) (a.entry g h)
 
 -- up to a smaller limit
-pub up_to_less : (ways : List Cross) (from g limit less x y : ℕ) → less ≤ limit → IsDistanceUpTo ways limit from g x →
-    IsDistanceUpTo ways less from g y → y ≡ min x less
+pub up_to_less : (ways : List Cross) (from g limit less x y : ℕ) → less ≤ limit
+    → IsDistanceUpTo ways limit from g x → IsDistanceUpTo ways less from g y → y ≡ min x less
 up_to_less ways from g limit less x y h a b =
     let most : y ≤ x = elim a.met [
       | inl e ↦ omega (arith, e, b.most, h)
@@ -44,9 +43,9 @@ up_to_less ways from g limit less x y h a b =
       | inr c ↦ omega (arith, most, b.most, c.2, a.shorter c.0 c.1)
     ]
 
-linked_by : (ways : List Cross) (from limit g : ℕ) (v : DistancesView) (e : Option Reach) →
-    MatchOption e ((xs : List Cross) → Leads ways from xs g → limit ≤ length_of xs)
-    (λ r. IsShortest ways from g r.length (edges_to v g) × (r.length < limit)) → IsSome e → AreLinked ways from g
+linked_by : (ways : List Cross) (from limit g : ℕ) (v : DistancesView) (e : Option Reach)
+    → MatchOption e ((xs : List Cross) → Leads ways from xs g → limit ≤ length_of xs) (λ r. IsShortest ways from g r.length (edges_to v g) × (r.length < limit))
+    → IsSome e → AreLinked ways from g
 linked_by ways from limit g v None m s = absurd (false≢true s)
 linked_by ways from limit g v (Some r) m s = (m.0.chain, m.0.leads)
 
@@ -56,8 +55,8 @@ no_entry (Some r) limit h = absurd (h refl)
 
 -- ---- one face
 
-pub note_known : (face x known least : ℕ) (old : List ℕ) → face < length old → known ≡ get_or old face 0 →
-    least ≡ min known x → IsNoted face x old (set old face least)
+pub note_known : (face x known least : ℕ) (old : List ℕ) → face < length old → known ≡ get_or old face 0
+    → least ≡ min known x → IsNoted face x old (set old face least)
 note_known face x known least old h e m = record {
   size = length-set old face least;
   here = get_or-set_same old face least no_depth h ∙ omega (arith, m, e, get_or_default old face 0 no_depth h);
@@ -71,8 +70,8 @@ note_first face x old h small none = record {
   others = λ g n. get_or-set_other old face g x no_depth (λ q. n (sym q));
 }
 
-pub listed_known : (face least : ℕ) (old near : List ℕ) → get_or old face 0 < no_depth → face < length old →
-    AreListed old near → AreListed (set old face least) near
+pub listed_known : (face least : ℕ) (old near : List ℕ) → get_or old face 0 < no_depth → face < length old
+    → AreListed old near → AreListed (set old face least) near
 listed_known face least old near known h l g = elim (cases_eq face g) [
   | inl e ↦ elim (l g) [
     | inl a ↦ absurd (omega (arith, a, known, ap (λ z. get_or old z no_depth) e, get_or_default old face 0 no_depth h))
@@ -92,9 +91,9 @@ listed_first face x old near l g = elim (cases_eq face g) [
 pub noted_none : (faces : List ℕ) (depth : ℕ → ℕ) (old : List ℕ) → AreNoted (take 0 faces) depth old old
 noted_none faces depth old = record { size = refl; each = λ g. refl }
 
-pub noted_more : (faces : List ℕ) (depth : ℕ → ℕ) (i x y : ℕ) (old now new : List ℕ) → i < length faces →
-    x ≡ get_or faces i 0 → y ≡ depth x → AreNoted (take i faces) depth old now → IsNoted x y now new →
-    AreNoted (take (i + 1) faces) depth old new
+pub noted_more : (faces : List ℕ) (depth : ℕ → ℕ) (i x y : ℕ) (old now new : List ℕ) → i < length faces
+    → x ≡ get_or faces i 0 → y ≡ depth x → AreNoted (take i faces) depth old now → IsNoted x y now new
+    → AreNoted (take (i + 1) faces) depth old new
 noted_more faces depth i x y old now new h ex ey a n = record {
   size = n.size ∙ a.size;
   each = λ g. elim (cases_eq x g) [
@@ -111,15 +110,16 @@ noted_more faces depth i x y old now new h ex ey a n = record {
   ];
 }
 
-pub noted_all : (faces : List ℕ) (depth : ℕ → ℕ) (i : ℕ) (old new : List ℕ) → length faces ≤ i →
-    AreNoted (take i faces) depth old new → AreNoted faces depth old new
+pub noted_all : (faces : List ℕ) (depth : ℕ → ℕ) (i : ℕ) (old new : List ℕ) → length faces ≤ i
+    → AreNoted (take i faces) depth old new → AreNoted faces depth old new
 noted_all faces depth i old new h a = subst (λ z. AreNoted z depth old new) (take_all i faces h) a
 
 pub gains_none : (faces old : List ℕ) → GainsOf faces old old
 gains_none faces old g h = inl h
 
-pub gains_more : (faces : List ℕ) (i x : ℕ) (old now new : List ℕ) → i < length faces → x ≡ get_or faces i 0 →
-    GainsOf faces old now → ((g : ℕ) → has new g ≡ true → (has now g ≡ true) ⊎ (x ≡ g)) → GainsOf faces old new
+pub gains_more : (faces : List ℕ) (i x : ℕ) (old now new : List ℕ) → i < length faces → x ≡ get_or faces i 0
+    → GainsOf faces old now → ((g : ℕ) → has new g ≡ true → (has now g ≡ true) ⊎ (x ≡ g))
+    → GainsOf faces old new
 gains_more faces i x old now new h ex a n g q = elim (n g q) [
   | inl u ↦ a g u
   | inr u ↦ inr (ap (has faces) (sym u ∙ ex) ∙ has_at faces i h)
@@ -134,14 +134,14 @@ depth_step value inner limit p q a e f = omega (arith, e, f)
 depth_same : (value inner limit p a : ℕ) → limit ≡ inner + value → limit ≡ min p limit → min value a ≡ min (min value a) (p - inner)
 depth_same value inner limit p a e f = omega (arith, e, f)
 
-pub near_step : (d : Dual) (terminals : List ℕ) (value : ℕ) (ends : List (ℕ × ℕ)) (i terminal inner limit from : ℕ)
-    (v : DistancesView) (deep near deep' near' : List ℕ) → i < length ends →
-    terminal ≡ (get_or ends i (0, 0)).0 → inner ≡ (get_or ends i (0, 0)).1 → terminal < length terminals →
-    limit ≡ inner + value → from ≡ get_or terminals terminal 0 →
-    AreDistancesWithin d.crosses d.faces from limit v → AreNear d terminals value ends i deep near →
-    AreNoted v.reached (λ g. length_up_to limit (entry_at v g) - inner) deep deep' →
-    (AreListed deep near → AreListed deep' near') → GainsOf v.reached near near' →
-    AreNear d terminals value ends (i + 1) deep' near'
+pub near_step : (d : Dual) (terminals : List ℕ) (value : ℕ) (ends : List (ℕ × ℕ))
+    → (i terminal inner limit from : ℕ) (v : DistancesView) (deep near deep' near' : List ℕ) → i < length ends
+    → terminal ≡ (get_or ends i (0, 0)).0 → inner ≡ (get_or ends i (0, 0)).1 → terminal < length terminals
+    → limit ≡ inner + value → from ≡ get_or terminals terminal 0
+    → AreDistancesWithin d.crosses d.faces from limit v → AreNear d terminals value ends i deep near
+    → AreNoted v.reached (λ g. length_up_to limit (entry_at v g) - inner) deep deep'
+    → (AreListed deep near → AreListed deep' near') → GainsOf v.reached near near'
+    → AreNear d terminals value ends (i + 1) deep' near'
 near_step d terminals value ends i terminal inner limit from v deep near deep' near' h et ei ht el ef w k a l gains = record {
   size = a.size ∙ k.size;
   least = λ points far are all g hg.
@@ -176,8 +176,8 @@ near_step d terminals value ends i terminal inner limit from v deep near deep' n
   ];
 }
 
-pub near_none : (d : Dual) (terminals : List ℕ) (value : ℕ) (ends : List (ℕ × ℕ)) (deep : List ℕ) →
-    length deep ≡ d.faces → value ≤ 2 ^ 50 → AreBlank deep → AreNear d terminals value ends 0 deep []
+pub near_none : (d : Dual) (terminals : List ℕ) (value : ℕ) (ends : List (ℕ × ℕ)) (deep : List ℕ)
+    → length deep ≡ d.faces → value ≤ 2 ^ 50 → AreBlank deep → AreNear d terminals value ends 0 deep []
 near_none d terminals value ends deep size small blank = record {
   size = size;
   least = λ points limit are all g hg.
@@ -188,16 +188,16 @@ near_none d terminals value ends deep size small blank = record {
   linked = λ g h. absurd (false≢true h);
 }
 
-pub near_done : (d : Dual) (terminals : List ℕ) (value : ℕ) (ends : List (ℕ × ℕ)) (i : ℕ) (deep near : List ℕ) →
-    length ends ≤ i → i ≤ length ends → AreNear d terminals value ends i deep near →
-    AreNear d terminals value ends (length ends) deep near
+pub near_done : (d : Dual) (terminals : List ℕ) (value : ℕ) (ends : List (ℕ × ℕ)) (i : ℕ) (deep near : List ℕ)
+    → length ends ≤ i → i ≤ length ends → AreNear d terminals value ends i deep near
+    → AreNear d terminals value ends (length ends) deep near
 near_done d terminals value ends i deep near h m k =
     let P : ℕ → Type 0 = λ z. AreNear d terminals value ends z deep near in
     let e : i ≡ length ends = omega arith in
     subst P e k
 
-pub reached_inside : (d : Dual) (from limit n : ℕ) (v : DistancesView) → n ≡ d.faces →
-    AreDistancesWithin d.crosses d.faces from limit v → (g : ℕ) → has v.reached g ≡ true → g < n
+pub reached_inside : (d : Dual) (from limit n : ℕ) (v : DistancesView) → n ≡ d.faces
+    → AreDistancesWithin d.crosses d.faces from limit v → (g : ℕ) → has v.reached g ≡ true → g < n
 reached_inside d from limit n v e w g h = omega (arith, e, ((w.reached g).0 h).0)
 
 -- ---- depths are forgotten
@@ -210,8 +210,9 @@ pub record AreForgotten (taken old now : List ℕ) : Type 0 where
 pub forgotten_none : (near old : List ℕ) → AreForgotten (take 0 near) old old
 forgotten_none near old = record { size = refl; gone = λ g h. absurd (false≢true h); kept = λ g h. refl }
 
-pub forgotten_more : (near : List ℕ) (i x : ℕ) (old now : List ℕ) → i < length near → x ≡ get_or near i 0 →
-    x < length now → AreForgotten (take i near) old now → AreForgotten (take (i + 1) near) old (set now x no_depth)
+pub forgotten_more : (near : List ℕ) (i x : ℕ) (old now : List ℕ) → i < length near → x ≡ get_or near i 0
+    → x < length now → AreForgotten (take i near) old now
+    → AreForgotten (take (i + 1) near) old (set now x no_depth)
 forgotten_more near i x old now h e l a = record {
   size = length-set now x no_depth ∙ a.size;
   gone = λ g q. elim (cases_eq x g) [
@@ -238,9 +239,9 @@ forgotten_blank near i old now h l a g = elim (cases_Bool (has near g)) [
 pub measured_none : (d : Dual) (terminals : List ℕ) (limit : ℕ) → AreMeasured d terminals limit 0
 measured_none d terminals limit = record { points = λ g t. 0; are = λ t g h. absurd (omega (arith, h)) }
 
-pub measured_more : (d : Dual) (terminals : List ℕ) (limit i from : ℕ) (v : DistancesView) →
-    AreDistancesWithin d.crosses d.faces from limit v → from ≡ get_or terminals i 0 → AreMeasured d terminals limit i →
-    AreMeasured d terminals limit (i + 1)
+pub measured_more : (d : Dual) (terminals : List ℕ) (limit i from : ℕ) (v : DistancesView)
+    → AreDistancesWithin d.crosses d.faces from limit v → from ≡ get_or terminals i 0
+    → AreMeasured d terminals limit i → AreMeasured d terminals limit (i + 1)
 measured_more d terminals limit i from v w e m =
     let next : ℕ → ℕ → ℕ = λ g t. cond (t == i) (length_up_to limit (entry_at v g)) (m.points g t) in
     record {

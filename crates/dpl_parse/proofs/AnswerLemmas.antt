@@ -11,8 +11,8 @@ use Rattle.dpl_report.specs.Valid.{IsReport}
 use Rattle.dpl_parse.specs.Tells.{Tells, Answers}
 use Rattle.dpl_report.proofs.TextFormat.{text_is_found, text_is_read, text_is_wrong}
 
-pub answer_found : (text : List ℕ) (a : Result Report ReportError) → Tells text a →
-    IfOk a (λ r. IsReport (plain_report r) × (text ≡ report_text (plain_report r)))
+pub answer_found : (text : List ℕ) (a : Result Report ReportError) → Tells text a
+    → IfOk a (λ r. IsReport (plain_report r) × (text ≡ report_text (plain_report r)))
 answer_found text (Ok r) t = text_is_found text (plain_report r) t
 answer_found text (Err e) t = tt
 
@@ -21,8 +21,8 @@ answer_only text (Ok found) r t f e = let d = sym t ∙ text_is_read text r f e 
 answer_only text (Err NoMemory) r t f e = tt
 answer_only text (Err (NotReport n)) r t f e = let d = sym t.read ∙ text_is_read text r f e in absurd (cc)
 
-pub answer_wrong : (text : List ℕ) (a : Result Report ReportError) (n : ℕ) → Tells text a → a ≡ Err (NotReport n) →
-    IsFirstWrong report_lines IsReport (lines_in text) n
+pub answer_wrong : (text : List ℕ) (a : Result Report ReportError) (n : ℕ) → Tells text a
+    → a ≡ Err (NotReport n) → IsFirstWrong report_lines IsReport (lines_in text) n
 answer_wrong text (Ok found) n t e = absurd (cc)
 answer_wrong text (Err NoMemory) n t e = absurd (cc)
 answer_wrong text (Err (NotReport m)) n t e =

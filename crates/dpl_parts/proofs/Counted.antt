@@ -71,15 +71,17 @@ module _ (part whole : Net) (node edge : ℕ → ℕ) (h : IsPartOf part whole n
 
 -- ---- of the kept edges
 
-pub faces_alike : (part whole : Net) (node edge : ℕ → ℕ) → IsPartOf part whole node edge → (c d : ℕ) → c < dart_count part → d < dart_count part →
-    face_at whole (dart edge c) ≡ face_at whole (dart edge d) ↔ face_at part c ≡ face_at part d
+pub faces_alike : (part whole : Net) (node edge : ℕ → ℕ) → IsPartOf part whole node edge → (c d : ℕ)
+    → c < dart_count part → d < dart_count part
+    → face_at whole (dart edge c) ≡ face_at whole (dart edge d) ↔ face_at part c ≡ face_at part d
 faces_alike part whole node edge h c d l m =
     let p = is_in (kept_edges part) in
     let q = is_in (kept_edges whole) in
     let alike = keeps_alike part whole node edge h in
     (face_here part whole node edge h p q alike c d l m, face_there part whole node edge h p q alike c d l m)
 
-pub odd_faces_alike : (part whole : Net) (node edge : ℕ → ℕ) → IsPartOf part whole node edge → (c : ℕ) → c < dart_count part →
-    is_odd_face whole (is_in (kept_edges whole)) (face_at whole (dart edge c)) ≡ is_odd_face part (is_in (kept_edges part)) (face_at part c)
+pub odd_faces_alike : (part whole : Net) (node edge : ℕ → ℕ) → IsPartOf part whole node edge → (c : ℕ)
+    → c < dart_count part
+    → is_odd_face whole (is_in (kept_edges whole)) (face_at whole (dart edge c)) ≡ is_odd_face part (is_in (kept_edges part)) (face_at part c)
 odd_faces_alike part whole node edge h c l = odd_alike part whole node edge h (is_in (kept_edges part))
     (is_in (kept_edges whole)) (keeps_alike part whole node edge h) c l

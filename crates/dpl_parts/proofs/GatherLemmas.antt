@@ -31,9 +31,10 @@ pub record AreGathered (whole : Net) (taken : List Bool) (nodes place picks : Li
 -- ---- before the edges are gathered
 
 -- the picked edges are edges between taken nodes
-pub picks_taken : (whole : Net) (taken : List Bool) (picks : List ℕ) → picks ≡ picked_below (is_edge_taken taken whole.graph.edges) (length whole.graph.edges)
-    → (i : ℕ) → i < length picks → (slice_index_or picks i 0 < length whole.graph.edges) ×
-    (is_taken taken (edge_at whole.graph (slice_index_or picks i 0)).a ≡ true)
+pub picks_taken : (whole : Net) (taken : List Bool) (picks : List ℕ)
+    → picks ≡ picked_below (is_edge_taken taken whole.graph.edges) (length whole.graph.edges) → (i : ℕ)
+    → i < length picks
+    → (slice_index_or picks i 0 < length whole.graph.edges) × (is_taken taken (edge_at whole.graph (slice_index_or picks i 0)).a ≡ true)
 picks_taken whole taken picks are i l =
     let P : List ℕ → Type 0 = λ xs. i < length xs → (slice_index_or xs i 0 < length whole.graph.edges) ×
     (is_taken taken (edge_at whole.graph (slice_index_or xs i 0)).a ≡ true) in
@@ -54,10 +55,11 @@ taken_inside taken w t = elim (cases_lt w (length taken)) [
 ]
 
 -- the ends of an edge between taken nodes have places
-pub has_places : (whole : Net) (taken : List Bool) (place : List ℕ) → length taken ≡ whole.graph.nodes →
-    AreClosed taken whole.graph.edges → length place ≡ length taken
+pub has_places : (whole : Net) (taken : List Bool) (place : List ℕ) → length taken ≡ whole.graph.nodes
+    → AreClosed taken whole.graph.edges → length place ≡ length taken
     → ((v : ℕ) → v < length taken → is_taken taken v ≡ true → slice_index_or place v 0 ≡ place_in (is_taken taken) v)
-    → (e : ℕ) → e < length whole.graph.edges → is_taken taken (edge_at whole.graph e).a ≡ true → HasPlaces (edge_at whole.graph e) place
+    → (e : ℕ) → e < length whole.graph.edges → is_taken taken (edge_at whole.graph e).a ≡ true
+    → HasPlaces (edge_at whole.graph e) place
 has_places whole taken place long closed plong each e l t =
     let a = start_below whole.graph e l in
     let b = end_below whole.graph e l in

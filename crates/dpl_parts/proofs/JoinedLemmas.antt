@@ -110,8 +110,8 @@ are_components net label count' a = record {
 }
 
 -- fragments have one number exactly where their component has one name
-pub one_number : (net : Net) (label : List ℕ) → AreComponents net label → (u v : ℕ) → u < net.graph.nodes →
-    v < net.graph.nodes → (get_or label v 0 == get_or label u 0) ≡ are_one_component net u v
+pub one_number : (net : Net) (label : List ℕ) → AreComponents net label → (u v : ℕ) → u < net.graph.nodes
+    → v < net.graph.nodes → (get_or label v 0 == get_or label u 0) ≡ are_one_component net u v
 one_number net label a u v l m = elim (cases_Bool (are_one_component net u v)) [
   | inl t ↦ eq-eqb _ _ ((a.same v u m l).1 ((component_is net.graph all_edges v u).0 (eqb-true _ _ t))) ∙ sym t
   | inr f ↦ ne_eqb _ _ (λ e. both_ways _ f (eq-eqb _ _ ((component_is net.graph all_edges v u).1 ((a.same v u m l).0 e)))) ∙ sym f

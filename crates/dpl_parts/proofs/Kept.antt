@@ -19,8 +19,9 @@ KeepsAlike part whole edge = (e : ℕ) → e < length part.graph.edges →
 
 -- ---- when the next edge is set aside
 
-raises_crosses : (net : Net) (e : ℕ) → e < length net.graph.edges → raises_excess net (kept_before net e) ≡ true →
-    AreEndsJoined net (is_in (kept_before net e)) e × (LiesInFace net (is_in (kept_before net e)) e → ⊥)
+raises_crosses : (net : Net) (e : ℕ) → e < length net.graph.edges
+    → raises_excess net (kept_before net e) ≡ true
+    → AreEndsJoined net (is_in (kept_before net e)) e × (LiesInFace net (is_in (kept_before net e)) e → ⊥)
 raises_crosses net e l r =
     let kept = kept_before net e in
     let size : length kept ≡ e = kept_length net e in
@@ -29,8 +30,9 @@ raises_crosses net e l r =
       λ f. raises_far net kept low r (subst (LiesInFace net (is_in kept)) (sym size) f),
     )
 
-crosses_raises : (net : Net) (e : ℕ) → e < length net.graph.edges → AreEndsJoined net (is_in (kept_before net e)) e →
-    (LiesInFace net (is_in (kept_before net e)) e → ⊥) → raises_excess net (kept_before net e) ≡ true
+crosses_raises : (net : Net) (e : ℕ) → e < length net.graph.edges
+    → AreEndsJoined net (is_in (kept_before net e)) e → (LiesInFace net (is_in (kept_before net e)) e → ⊥)
+    → raises_excess net (kept_before net e) ≡ true
 crosses_raises net e l j far =
     let kept = kept_before net e in
     let size : length kept ≡ e = kept_length net e in

@@ -127,13 +127,14 @@ module _ (part whole : Net) (node edge : ℕ → ℕ) (h : IsPartOf part whole n
       let (z, lz, nz, way, there) = path_back hs g k lg ng (subst (λ y. IsFacePath whole q y hs k) (sym at) r) in
       (z, lz, nz, (g ∷ way.0, (near, way.1)), there)
 
-pub links_alike : (part whole : Net) (node edge : ℕ → ℕ) → IsPartOf part whole node edge → (f g : ℕ) → AreOfOneKeptPart part f g →
-    AreOfOneKeptPart whole (face_at whole (dart edge f)) (face_at whole (dart edge g))
+pub links_alike : (part whole : Net) (node edge : ℕ → ℕ) → IsPartOf part whole node edge → (f g : ℕ)
+    → AreOfOneKeptPart part f g
+    → AreOfOneKeptPart whole (face_at whole (dart edge f)) (face_at whole (dart edge g))
 links_alike part whole node edge h f g r = one_part_there part whole node edge h (is_in (kept_edges part))
     (is_in (kept_edges whole)) (keeps_alike part whole node edge h) f g r
 
-pub links_stay : (part whole : Net) (node edge : ℕ → ℕ) → IsPartOf part whole node edge → (f k : ℕ) →
-    f < dart_count part → face_at part f ≡ f → AreOfOneKeptPart whole (face_at whole (dart edge f)) k →
-    (g : ℕ) × (g < dart_count part) × (face_at part g ≡ g) × AreOfOneKeptPart part f g × (face_at whole (dart edge g) ≡ k)
+pub links_stay : (part whole : Net) (node edge : ℕ → ℕ) → IsPartOf part whole node edge → (f k : ℕ)
+    → f < dart_count part → face_at part f ≡ f → AreOfOneKeptPart whole (face_at whole (dart edge f)) k
+    → (g : ℕ) × (g < dart_count part) × (face_at part g ≡ g) × AreOfOneKeptPart part f g × (face_at whole (dart edge g) ≡ k)
 links_stay part whole node edge h f k l name r = path_back part whole node edge h (is_in (kept_edges part))
     (is_in (kept_edges whole)) (keeps_alike part whole node edge h) r.0 f k l name r.1

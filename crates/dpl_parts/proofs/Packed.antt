@@ -218,8 +218,8 @@ module _ (whole : Net) where
             omega (arith, a, z, r)
       ]
 
-pub packing_sum : (whole : Net) (parts : List Part) → ShareOut whole parts →
-    All (λ p. IsPacking p.net.graph p.cycles) parts → IsPacking whole.graph (all_cycles parts)
+pub packing_sum : (whole : Net) (parts : List Part) → ShareOut whole parts
+    → All (λ p. IsPacking p.net.graph p.cycles) parts → IsPacking whole.graph (all_cycles parts)
 packing_sum whole parts h packed = record {
   halves = all_have (λ c. 1 ≤ c.half) parts (λ k d l. (packed k d l).halves);
   odd = all_have (λ c. IsOddWalk whole.graph c.walk) parts (λ k d l.
@@ -231,9 +231,9 @@ packing_sum whole parts h packed = record {
 }
 
 -- each cycle passes each edge at most once where it does in its part
-pub once_sum : (whole : Net) (parts : List Part) → ShareOut whole parts →
-    All (λ p. IsPacking p.net.graph p.cycles) parts → All
-    (λ p. All (λ c. (e : ℕ) → count_by (λ x. x == e) c.walk.edges ≤ 1) p.cycles) parts
+pub once_sum : (whole : Net) (parts : List Part) → ShareOut whole parts
+    → All (λ p. IsPacking p.net.graph p.cycles) parts
+    → All (λ p. All (λ c. (e : ℕ) → count_by (λ x. x == e) c.walk.edges ≤ 1) p.cycles) parts
     → All (λ c. (e : ℕ) → count_by (λ x. x == e) c.walk.edges ≤ 1) (all_cycles parts)
 once_sum whole parts h packed once = all_have (λ c. (e : ℕ) → count_by (λ x. x == e) c.walk.edges ≤ 1) parts (λ k d l.
     let p = slice_index_or parts k d in

@@ -57,9 +57,9 @@ not_odd net set f n =
     elim (cases_Bool (set (d / 2))) [ inl t ↦ rw (t, r) refl | inr t ↦ rw t refl ]) ∙ sums_to (λ d. false) (λ x. 1) m ∙ sum_to_zero m in
     ap (λ z. z % 2 == 1) none
 
-pub odd_up : (part whole : Net) (node edge : ℕ → ℕ) → IsPartOf part whole node edge → (p q : ℕ → Bool) →
-    ((e : ℕ) → e < length part.graph.edges → q (edge e) ≡ p e)
-    → (c : ℕ) → c < dart_count part → is_odd_face whole q (dart edge c) ≡ is_odd_face part p c
+pub odd_up : (part whole : Net) (node edge : ℕ → ℕ) → IsPartOf part whole node edge → (p q : ℕ → Bool)
+    → ((e : ℕ) → e < length part.graph.edges → q (edge e) ≡ p e) → (c : ℕ) → c < dart_count part
+    → is_odd_face whole q (dart edge c) ≡ is_odd_face part p c
 odd_up part whole node edge h p q alike c l =
     let up = face_up part whole node edge h p q alike c l in
     elim (cases_eq (face_of part p c) c) [

@@ -36,9 +36,9 @@ list_at f (suc n) v l =
 
 -- ---- bonds
 
-pub bond_at : (net : Net) (colours : List Bool) → IsColouring net.graph colours → (e : ℕ) → e < length net.graph.edges →
-    is_bond (edge_at net.graph e).kind ≡ true → colour_of colours (edge_at net.graph e).a ≡ colour_of colours
-    (edge_at net.graph e).b
+pub bond_at : (net : Net) (colours : List Bool) → IsColouring net.graph colours → (e : ℕ)
+    → e < length net.graph.edges → is_bond (edge_at net.graph e).kind ≡ true
+    → colour_of colours (edge_at net.graph e).a ≡ colour_of colours (edge_at net.graph e).b
 bond_at net colours k e l b = k.bonds e no_edge l b
 
 pub bonds_from : (net : Net) (colours : List Bool) → ((e : ℕ) → e < length net.graph.edges →
@@ -83,8 +83,8 @@ module _ (part whole : Net) (node edge : ℕ → ℕ) (h : IsPartOf part whole n
     ]
 
 -- some list has the mixed colours
-abbrev picked : (n : ℕ) (node : ℕ → ℕ) (colours : List Bool) (tint : ℕ → Bool) (w : ℕ) →
-    ((x : ℕ) × (x < n) × (node x ≡ w)) ⊎ ((x : ℕ) → x < n → node x ≢ w) → Bool
+abbrev picked : (n : ℕ) (node : ℕ → ℕ) (colours : List Bool) (tint : ℕ → Bool) (w : ℕ)
+    → ((x : ℕ) × (x < n) × (node x ≡ w)) ⊎ ((x : ℕ) → x < n → node x ≢ w) → Bool
 picked n node colours tint w (inl k) = tint k.0
 picked n node colours tint w (inr none) = colour_of colours w
 
@@ -98,9 +98,9 @@ pick_out : (n : ℕ) (node : ℕ → ℕ) (colours : List Bool) (tint : ℕ → 
 pick_out n node colours tint w none (inl k) = absurd (none k.0 k.1 k.2)
 pick_out n node colours tint w none (inr all) = refl
 
-pub some_mixed : (part whole : Net) (node edge : ℕ → ℕ) → IsPartOf part whole node edge →
-    (colours : List Bool) (tint : ℕ → Bool) → (mixed : List Bool) × (length mixed ≡ whole.graph.nodes) ×
-    IsMixed part whole node colours tint mixed
+pub some_mixed : (part whole : Net) (node edge : ℕ → ℕ) → IsPartOf part whole node edge
+    → (colours : List Bool) (tint : ℕ → Bool)
+    → (mixed : List Bool) × (length mixed ≡ whole.graph.nodes) × IsMixed part whole node colours tint mixed
 some_mixed part whole node edge h colours tint =
     let n = part.graph.nodes in
     let f : ℕ → Bool = λ w. picked n node colours tint w (found node n w) in (

@@ -10,8 +10,8 @@ sums_to p w zero = refl
 sums_to p w (suc n) = let r = sums_to p w n in omega (arith, r)
 
 -- two sums over a stretch in which they agree differ as they did before it
-sum_stretch : (f g : ℕ → ℕ) (from n : ℕ) → ((e : ℕ) → from ≤ e → e < from + n → f e ≡ g e) →
-    sum_to f (from + n) + sum_to g from ≡ sum_to g (from + n) + sum_to f from
+sum_stretch : (f g : ℕ → ℕ) (from n : ℕ) → ((e : ℕ) → from ≤ e → e < from + n → f e ≡ g e)
+    → sum_to f (from + n) + sum_to g from ≡ sum_to g (from + n) + sum_to f from
 sum_stretch f g from zero h =
     let e : from + 0 ≡ from = omega arith in
     let a : sum_to f (from + 0) ≡ sum_to f from = ap (sum_to f) e in

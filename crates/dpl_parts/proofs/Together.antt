@@ -19,9 +19,9 @@ use Rattle.dpl_parts.proofs.FaceNames.{face_up}
 use Rattle.dpl_parts.proofs.Stays.{bond_at, bonds_from}
 use Rattle.dpl_parts.proofs.Shared.{edge_held, dart_held}
 
-pub colouring_sum : (whole : Net) (parts : List Part) → ShareOut whole parts → (colours : List Bool) →
-    length colours ≡ whole.graph.nodes → AgreeWith colours parts → All (λ p. IsColouring p.net.graph p.colours) parts →
-    IsColouring whole.graph colours
+pub colouring_sum : (whole : Net) (parts : List Part) → ShareOut whole parts → (colours : List Bool)
+    → length colours ≡ whole.graph.nodes → AgreeWith colours parts
+    → All (λ p. IsColouring p.net.graph p.colours) parts → IsColouring whole.graph colours
 colouring_sum whole parts h colours long agree each = record { length = long; bonds = bonds_from whole colours one } where
   one : (f : ℕ) → f < length whole.graph.edges → is_bond (edge_at whole.graph f).kind ≡ true →
       colour_of colours (edge_at whole.graph f).a ≡ colour_of colours (edge_at whole.graph f).b
@@ -39,18 +39,18 @@ colouring_sum whole parts h colours long agree each = record { length = long; bo
       sym (ag _ (end_below p.net.graph e s.below)) ∙ ap (colour_of colours) (sym y)
 
 -- a face of the whole is one of a part where its name is a dart of the part
-pub face_name_up : (p : Part) (whole : Net) → IsPartOf p.net whole p.node p.edge → (c : ℕ) → c < dart_count p.net →
-    face_at whole (dart p.edge c) ≡ dart p.edge (face_at p.net c)
+pub face_name_up : (p : Part) (whole : Net) → IsPartOf p.net whole p.node p.edge → (c : ℕ)
+    → c < dart_count p.net → face_at whole (dart p.edge c) ≡ dart p.edge (face_at p.net c)
 face_name_up p whole h c l = face_up p.net whole p.node p.edge h (is_in (kept_edges p.net)) (is_in (kept_edges whole))
     (keeps_alike p.net whole p.node p.edge h) c l
 
-pub face_name_down : (p : Part) (whole : Net) → IsPartOf p.net whole p.node p.edge → (c : ℕ) → c < dart_count p.net →
-    face_at whole (dart p.edge c) ≡ dart p.edge c → face_at p.net c ≡ c
+pub face_name_down : (p : Part) (whole : Net) → IsPartOf p.net whole p.node p.edge → (c : ℕ)
+    → c < dart_count p.net → face_at whole (dart p.edge c) ≡ dart p.edge c → face_at p.net c ≡ c
 face_name_down p whole h c l name = dart_apart p.net whole p.node p.edge h (face_at p.net c) c
     (face_below p.net (is_in (kept_edges p.net)) c l) l (sym (face_name_up p whole h c l) ∙ name)
 
-pub are_together : (whole : Net) (parts : List Part) → ShareOut whole parts → (f g : ℕ) → f < dart_count whole →
-    face_at whole f ≡ f → AreOfOneKeptPart whole f g → AreTogether parts f g
+pub are_together : (whole : Net) (parts : List Part) → ShareOut whole parts → (f g : ℕ) → f < dart_count whole
+    → face_at whole f ≡ f → AreOfOneKeptPart whole f g → AreTogether parts f g
 are_together whole parts h f g l name linked =
     let s = dart_held whole parts h f l in
     let p = s.holder in

@@ -22,8 +22,8 @@ neighbours_back net set f g n = (
   },
 )
 
-path_join : (net : Net) (set : ℕ → Bool) (hs ks : List ℕ) (f g h : ℕ) → IsFacePath net set f hs g →
-    IsFacePath net set g ks h → IsFacePath net set f (hs ++ ks) h
+path_join : (net : Net) (set : ℕ → Bool) (hs ks : List ℕ) (f g h : ℕ) → IsFacePath net set f hs g
+    → IsFacePath net set g ks h → IsFacePath net set f (hs ++ ks) h
 path_join net set [] ks f g h p q = rw p q
 path_join net set (x ∷ xs) ks f g h p q = (p.0, path_join net set xs ks x g h p.1 q)
 
@@ -46,14 +46,15 @@ names_alone net set names h = record {
   one_name = λ e l t. absurd (omega (arith, l));
 }
 
-sides_of : (net : Net) (set : ℕ → Bool) (e : ℕ) → e < length net.graph.edges → is_crossable net set e ≡ true →
-    AreNeighbours net set (face_of net set (2 * e)) (face_of net set (2 * e + 1))
+sides_of : (net : Net) (set : ℕ → Bool) (e : ℕ) → e < length net.graph.edges → is_crossable net set e ≡ true
+    → AreNeighbours net set (face_of net set (2 * e)) (face_of net set (2 * e + 1))
 sides_of net set e h t = (e, record { edge = h; crossable = t; sides = inl (refl, refl) })
 
-joined_part : (net : Net) (set : ℕ → Bool) (names : ℕ → ℕ) (k : ℕ) → ArePartNames net set names k →
-    k < length net.graph.edges → is_crossable net set k ≡ true → (x y : ℕ) → x < dart_count net → y < dart_count net →
-    join names (face_of net set (2 * k)) (face_of net set (2 * k + 1)) x ≡ join names (face_of net set (2 * k))
-    (face_of net set (2 * k + 1)) y → AreOfOnePart net set x y
+joined_part : (net : Net) (set : ℕ → Bool) (names : ℕ → ℕ) (k : ℕ) → ArePartNames net set names k
+    → k < length net.graph.edges → is_crossable net set k ≡ true → (x y : ℕ) → x < dart_count net
+    → y < dart_count net
+    → join names (face_of net set (2 * k)) (face_of net set (2 * k + 1)) x ≡ join names (face_of net set (2 * k)) (face_of net set (2 * k + 1)) y
+    → AreOfOnePart net set x y
 joined_part net set names k c h t x y hx hy e =
     let a = face_of net set (2 * k) in
     let b = face_of net set (2 * k + 1) in
@@ -82,9 +83,10 @@ joined_sides s a b = elim (cases_eq (s a) (s b)) [
   | inr q ↦ join_miss s a b a q ∙ sym (join_hit s a b b refl)
 ]
 
-names_join : (net : Net) (set : ℕ → Bool) (names next : ℕ → ℕ) (k : ℕ) → ArePartNames net set names k →
-    k < length net.graph.edges → is_crossable net set k ≡ true →
-    ((v : ℕ) → v < dart_count net → next v ≡ join names (face_of net set (2 * k)) (face_of net set (2 * k + 1)) v) → ArePartNames net set next (suc k)
+names_join : (net : Net) (set : ℕ → Bool) (names next : ℕ → ℕ) (k : ℕ) → ArePartNames net set names k
+    → k < length net.graph.edges → is_crossable net set k ≡ true
+    → ((v : ℕ) → v < dart_count net → next v ≡ join names (face_of net set (2 * k)) (face_of net set (2 * k + 1)) v)
+    → ArePartNames net set next (suc k)
 names_join net set names next k c h t w =
     let a = face_of net set (2 * k) in
     let b = face_of net set (2 * k + 1) in
@@ -101,9 +103,9 @@ names_join net set names next k c h t w =
           ]) ∙ sym (w _ second);
     }
 
-names_stay : (net : Net) (set : ℕ → Bool) (names next : ℕ → ℕ) (k : ℕ) → ArePartNames net set names k →
-    k < length net.graph.edges → is_crossable net set k ≡ false →
-    ((v : ℕ) → v < dart_count net → next v ≡ names v) → ArePartNames net set next (suc k)
+names_stay : (net : Net) (set : ℕ → Bool) (names next : ℕ → ℕ) (k : ℕ) → ArePartNames net set names k
+    → k < length net.graph.edges → is_crossable net set k ≡ false
+    → ((v : ℕ) → v < dart_count net → next v ≡ names v) → ArePartNames net set next (suc k)
 names_stay net set names next k c h t w = record {
   one_part = λ x y hx hy e. c.one_part x y hx hy (sym (w x hx) ∙ e ∙ w y hy);
   one_name = λ e l u.
@@ -132,8 +134,9 @@ first_below net set f g n =
     let two = face_below net set (2 * n.0 + 1) (omega (arith, h)) in
     elim n.1.sides [ inl s ↦ omega (arith, s.0, one) | inr s ↦ omega (arith, s.1, two) ]
 
-neighbours_named : (net : Net) (set : ℕ → Bool) (names : ℕ → ℕ) → ArePartNames net set names (length net.graph.edges) →
-    (f g : ℕ) → AreNeighbours net set f g → names f ≡ names g
+neighbours_named : (net : Net) (set : ℕ → Bool) (names : ℕ → ℕ)
+    → ArePartNames net set names (length net.graph.edges) → (f g : ℕ) → AreNeighbours net set f g
+    → names f ≡ names g
 neighbours_named net set names c f g n =
     let same = c.one_name n.0 n.1.edge n.1.crossable in
     elim n.1.sides [
@@ -141,14 +144,15 @@ neighbours_named net set names c f g n =
       | inr s ↦ ap names (sym s.1) ∙ sym same ∙ ap names s.0
     ]
 
-path_named : (net : Net) (set : ℕ → Bool) (names : ℕ → ℕ) → ArePartNames net set names (length net.graph.edges) →
-    (hs : List ℕ) (f g : ℕ) → IsFacePath net set f hs g → names f ≡ names g
+path_named : (net : Net) (set : ℕ → Bool) (names : ℕ → ℕ)
+    → ArePartNames net set names (length net.graph.edges) → (hs : List ℕ) (f g : ℕ)
+    → IsFacePath net set f hs g → names f ≡ names g
 path_named net set names c [] f g p = ap names p
 path_named net set names c (x ∷ xs) f g p = neighbours_named net set names c f x p.0 ∙ path_named net set names c xs x g p.1
 
-pub parts_named : (net : Net) (set : ℕ → Bool) (names : ℕ → ℕ) (k : ℕ) → ArePartNames net set names k →
-    length net.graph.edges ≤ k → (x y : ℕ) → x < dart_count net → y < dart_count net →
-    (names x ≡ names y ↔ AreOfOnePart net set x y)
+pub parts_named : (net : Net) (set : ℕ → Bool) (names : ℕ → ℕ) (k : ℕ) → ArePartNames net set names k
+    → length net.graph.edges ≤ k → (x y : ℕ) → x < dart_count net → y < dart_count net
+    → (names x ≡ names y ↔ AreOfOnePart net set x y)
 parts_named net set names k c h x y hx hy =
     let all : ArePartNames net set names (length net.graph.edges) =
     record { one_part = c.one_part; one_name = λ e l t. c.one_name e (omega (arith, h, l)) t } in
@@ -165,9 +169,11 @@ path_cases net set (x ∷ xs) f g p =
     let h = first_below net set f x p.0 in
     inr (h, path_below net set (x ∷ xs) f g h p)
 
-pub part_test : (net : Net) (set : ℕ → Bool) (names items : List ℕ) (r : Bool) (f g : ℕ) → names ≡ items → length items ≡ dart_count net →
-    ((x y : ℕ) → x < dart_count net → y < dart_count net → (slice_index items x ≡ slice_index items y ↔ AreOfOnePart net set x y)) →
-    (IsTrue r ↔ ((f ≡ g) ⊎ ((f < length names) × ((g < length names) × (slice_index names f ≡ slice_index names g))))) → (IsTrue r ↔ AreOfOnePart net set f g)
+pub part_test : (net : Net) (set : ℕ → Bool) (names items : List ℕ) (r : Bool) (f g : ℕ) → names ≡ items
+    → length items ≡ dart_count net
+    → ((x y : ℕ) → x < dart_count net → y < dart_count net → (slice_index items x ≡ slice_index items y ↔ AreOfOnePart net set x y))
+    → (IsTrue r ↔ ((f ≡ g) ⊎ ((f < length names) × ((g < length names) × (slice_index names f ≡ slice_index names g)))))
+    → (IsTrue r ↔ AreOfOnePart net set f g)
 part_test net set names items r f g e l each t =
     let size : length names ≡ dart_count net = ap (λ (xs : List ℕ). length xs) e ∙ l in
     let at : (x : ℕ) → slice_index names x ≡ slice_index items x = λ x. ap (λ (xs : List ℕ). slice_index xs x) e in (

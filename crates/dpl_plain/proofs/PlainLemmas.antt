@@ -32,9 +32,10 @@ pub record IsCounted (before now : List ℕ) (set : List Bool) (count place : �
 last : (n : ℕ) → 0 < n → n ≡ suc (n - 1)
 last n h = omega arith
 
-pub count_alone : (before now next : List ℕ) (set : List Bool) (count place : ℕ) → IsCounted before now set count place → 0 < place → length next ≡ length now
-    → ((x : ℕ) → x < length next → get_or next x 0 ≡ without (place - 1) (slice_index now) x) →
-    is_in set ((place - 1) / 2) ≡ true → get_or now (place - 1) 0 ≡ place - 1
+pub count_alone : (before now next : List ℕ) (set : List Bool) (count place : ℕ)
+    → IsCounted before now set count place → 0 < place → length next ≡ length now
+    → ((x : ℕ) → x < length next → get_or next x 0 ≡ without (place - 1) (slice_index now) x)
+    → is_in set ((place - 1) / 2) ≡ true → get_or now (place - 1) 0 ≡ place - 1
     → IsCounted before next set (count + 1) (place - 1)
 count_alone before now next set count place c h l w inside alone =
     let p : ℕ → Bool = λ d. is_in set (d / 2) in
@@ -48,9 +49,10 @@ count_alone before now next set count place c h l w inside alone =
     among_same k p _ _ (λ x q. w x (omega (arith, l, c.lengths, c.bound))) in
     record { lengths = l ∙ c.lengths; counted = omega (arith, c.counted, one, same); bound = omega (arith, c.bound) }
 
-pub count_more : (before now next : List ℕ) (set : List Bool) (count place : ℕ) → IsCounted before now set count place → 0 < place → length next ≡ length now
-    → ((x : ℕ) → x < length next → get_or next x 0 ≡ without (place - 1) (slice_index now) x) →
-    is_in set ((place - 1) / 2) ≡ true → get_or now (place - 1) 0 ≢ place - 1
+pub count_more : (before now next : List ℕ) (set : List Bool) (count place : ℕ)
+    → IsCounted before now set count place → 0 < place → length next ≡ length now
+    → ((x : ℕ) → x < length next → get_or next x 0 ≡ without (place - 1) (slice_index now) x)
+    → is_in set ((place - 1) / 2) ≡ true → get_or now (place - 1) 0 ≢ place - 1
     → IsCounted before next set count (place - 1)
 count_more before now next set count place c h l w inside more =
     let p : ℕ → Bool = λ d. is_in set (d / 2) in
@@ -64,9 +66,9 @@ count_more before now next set count place c h l w inside more =
     among_same k p _ _ (λ x q. w x (omega (arith, l, c.lengths, c.bound))) in
     record { lengths = l ∙ c.lengths; counted = omega (arith, c.counted, one, same); bound = omega (arith, c.bound) }
 
-pub count_out : (before now : List ℕ) (set : List Bool) (count place : ℕ) → IsCounted before now set count place →
-    0 < place → is_in set ((place - 1) / 2) ≡ false →
-    IsCounted before now set count (place - 1)
+pub count_out : (before now : List ℕ) (set : List Bool) (count place : ℕ)
+    → IsCounted before now set count place → 0 < place → is_in set ((place - 1) / 2) ≡ false
+    → IsCounted before now set count (place - 1)
 count_out before now set count place c h outside =
     let p : ℕ → Bool = λ d. is_in set (d / 2) in
     let k = place - 1 in
@@ -75,16 +77,17 @@ count_out before now set count place c h outside =
     ap (λ n. cycles_among (slice_index now) (members p n)) e ∙ ap (cycles_among (slice_index now)) (members_out p k outside) in
     record { lengths = c.lengths; counted = omega (arith, c.counted, one); bound = omega (arith, c.bound) }
 
-pub count_named : (names items : List ℕ) (n r : ℕ) (f : ℕ → ℕ) → names ≡ items → length items ≡ n →
-    ((k : ℕ) → k < length items → get_or items k 0 ≡ f k) → r ≡ name_count (slice_index names) (length names) →
-    r ≡ name_count f n
+pub count_named : (names items : List ℕ) (n r : ℕ) (f : ℕ → ℕ) → names ≡ items → length items ≡ n
+    → ((k : ℕ) → k < length items → get_or items k 0 ≡ f k)
+    → r ≡ name_count (slice_index names) (length names) → r ≡ name_count f n
 count_named names items n r f e l each h =
     h ∙ ap (λ (xs : List ℕ). name_count (slice_index xs) (length xs)) e ∙ ap (name_count (slice_index items)) l ∙
     name_count_same n _ _ (λ v k. each v (omega (arith, l)))
 
-pub count_faces : (net : Net) (set : ℕ → Bool) (nexts items : List ℕ) (r b : ℕ) → nexts ≡ items →
-    length items ≡ dart_count net → ((k : ℕ) → k < length items → get_or items k 0 ≡ next_in_face net set k)
-    → r ≡ cycles_among (slice_index nexts) (members (λ d. set (d / 2)) (length nexts)) → b ≡ bare_count net.graph set → r + b ≡ face_count net set
+pub count_faces : (net : Net) (set : ℕ → Bool) (nexts items : List ℕ) (r b : ℕ) → nexts ≡ items
+    → length items ≡ dart_count net → ((k : ℕ) → k < length items → get_or items k 0 ≡ next_in_face net set k)
+    → r ≡ cycles_among (slice_index nexts) (members (λ d. set (d / 2)) (length nexts))
+    → b ≡ bare_count net.graph set → r + b ≡ face_count net set
 count_faces net set nexts items r b e l each h k =
     let p : ℕ → Bool = λ d. set (d / 2) in
     let one : r ≡ cycles_among (slice_index items) (members p (length items)) = h ∙
@@ -100,11 +103,11 @@ pub record IsOnWay (before now : List ℕ) (number here place : ℕ) : Type 0 wh
   pub bound : place ≤ length before
   pub same : least (slice_index now) place here ≡ least (slice_index before) (length before) number
 
-pub way_more : (before now next : List ℕ) (number here place to : ℕ) → IsOnWay before now number here place → 0 < place → length next ≡ length now →
-    ((x : ℕ) → x < length next → get_or next x 0 ≡ without (place - 1) (slice_index now) x) →
-    to ≡ (if here == place - 1 then get_or now (place - 1) 0 else here) →
-    ((here ≡ place - 1) → get_or now (place - 1) 0 ≢ place - 1) →
-    IsOnWay before next number to (place - 1)
+pub way_more : (before now next : List ℕ) (number here place to : ℕ) → IsOnWay before now number here place
+    → 0 < place → length next ≡ length now
+    → ((x : ℕ) → x < length next → get_or next x 0 ≡ without (place - 1) (slice_index now) x)
+    → to ≡ (if here == place - 1 then get_or now (place - 1) 0 else here)
+    → ((here ≡ place - 1) → get_or now (place - 1) 0 ≢ place - 1) → IsOnWay before next number to (place - 1)
 way_more before now next number here place to c h l w e more =
     let k = place - 1 in
     let f = slice_index now in
@@ -117,21 +120,22 @@ way_more before now next number here place to c h l w e more =
     ] in
     record { lengths = l ∙ c.lengths; bound = omega (arith, c.bound); same = below ∙ there ∙ ap (λ n. least f n here) (sym size) ∙ c.same }
 
-pub way_ends : (before now : List ℕ) (number here place : ℕ) → IsOnWay before now number here place → 0 < place →
-    here ≡ place - 1 → get_or now (place - 1) 0 ≡ place - 1 →
-    place - 1 ≡ least (slice_index before) (length before) number
+pub way_ends : (before now : List ℕ) (number here place : ℕ) → IsOnWay before now number here place
+    → 0 < place → here ≡ place - 1 → get_or now (place - 1) 0 ≡ place - 1
+    → place - 1 ≡ least (slice_index before) (length before) number
 way_ends before now number here place c h a alone =
     let k = place - 1 in
     let f = slice_index now in
     sym (least_alone f k alone) ∙ ap (least f (suc k)) (sym a) ∙ ap (λ n. least f n here) (sym (last place h)) ∙ c.same
 
-pub named_face : (net : Net) (set : ℕ → Bool) (nexts items : List ℕ) (dart r : ℕ) → nexts ≡ items →
-    length items ≡ dart_count net → ((k : ℕ) → k < length items → get_or items k 0 ≡ next_in_face net set k)
+pub named_face : (net : Net) (set : ℕ → Bool) (nexts items : List ℕ) (dart r : ℕ) → nexts ≡ items
+    → length items ≡ dart_count net → ((k : ℕ) → k < length items → get_or items k 0 ≡ next_in_face net set k)
     → r ≡ least (slice_index nexts) (length nexts) dart → r ≡ face_of net set dart
 named_face net set nexts items dart r e l each h =
     h ∙ ap (λ (xs : List ℕ). least (slice_index xs) (length xs) dart) e ∙ ap (λ n. least (slice_index items) n dart) l ∙
     least_same (dart_count net) _ _ (λ x q. each x (omega (arith, l))) dart
 
-pub passages_same : (net : Net) (set p q : ℕ → Bool) (f : ℕ) → ((e : ℕ) → e < length net.graph.edges → p e ≡ q e) →
-    passages_on_face net set p f ≡ passages_on_face net set q f
+pub passages_same : (net : Net) (set p q : ℕ → Bool) (f : ℕ)
+    → ((e : ℕ) → e < length net.graph.edges → p e ≡ q e)
+    → passages_on_face net set p f ≡ passages_on_face net set q f
 passages_same net set p q f h = count_on_same (dart_count net) _ _ (λ d l. ap (λ b. set (d / 2) && (face_of net set d == f) && b) (h (d / 2) (omega arith)))

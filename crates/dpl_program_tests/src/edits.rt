@@ -1,5 +1,5 @@
-use dpl_run::Status;
 use crate::runs::{CHECK, Ended, TRIANGLE, TWO, devices, run_over};
+use dpl_run::Status;
 use itoa::Buffer;
 use std::alloc::Global;
 use std::test::Fail;

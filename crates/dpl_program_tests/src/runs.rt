@@ -1,6 +1,6 @@
-use dpl_run::{Status, run};
 use dpl_ext::{MemShelf, MemSink, MemSource};
 use dpl_rules::What;
+use dpl_run::{Status, run};
 use std::alloc::Global;
 use std::test::Fail;
 

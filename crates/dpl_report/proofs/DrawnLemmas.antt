@@ -180,14 +180,14 @@ head_comments h f =
       ),
     )
 
-comments-map : {X : Type 0} (Fits : X → Type 0) (line : X → List ℕ) → ((x : X) → Fits x → IsComment (line x)) →
-    (xs : List X) → AllByRecursion Fits xs → AllByRecursion IsComment (map line xs)
+comments-map : {X : Type 0} (Fits : X → Type 0) (line : X → List ℕ) → ((x : X) → Fits x → IsComment (line x))
+    → (xs : List X) → AllByRecursion Fits xs → AllByRecursion IsComment (map line xs)
 comments-map Fits line h [] f = tt
 comments-map Fits line h (x ∷ xs) f = (h x f.0, comments-map Fits line h xs f.1)
 
-comments-fit : {X : Type 0} (Fits : ℕ → X → Type 0) (after : X → ℕ) (line : X → List ℕ) →
-    ((s : ℕ) (x : X) → Fits s x → IsComment (line x)) → (s : ℕ) (xs : List X) → FitFrom Fits after s xs →
-    AllByRecursion IsComment (map line xs)
+comments-fit : {X : Type 0} (Fits : ℕ → X → Type 0) (after : X → ℕ) (line : X → List ℕ)
+    → ((s : ℕ) (x : X) → Fits s x → IsComment (line x)) → (s : ℕ) (xs : List X) → FitFrom Fits after s xs
+    → AllByRecursion IsComment (map line xs)
 comments-fit Fits after line h s [] f = tt
 comments-fit Fits after line h s (x ∷ xs) f = (h s x f.0, comments-fit Fits after line h (after x) xs f.1)
 
@@ -211,8 +211,8 @@ text_of-boxes : (boxes : List Corners) → text_of (map box_line boxes) ≡ flat
 text_of-boxes [] = refl
 text_of-boxes (b ∷ bs) = ap (λ t. box_line b ++ t) (text_of-boxes bs)
 
-text_of-mask : (name : List ℕ) (mask : ℕ) (boxes : List Corners) →
-    text_of (mask_lines name mask boxes) ≡ flat_map line_text (cif.lines_of_mask (name ++ mask ∷ []) boxes)
+text_of-mask : (name : List ℕ) (mask : ℕ) (boxes : List Corners)
+    → text_of (mask_lines name mask boxes) ≡ flat_map line_text (cif.lines_of_mask (name ++ mask ∷ []) boxes)
 text_of-mask name mask boxes = rw (← text_of-boxes boxes)
     (ap (λ t. 76 ∷ 32 ∷ (t ++ text_of (map box_line boxes))) (sym (append_assoc name (mask ∷ []) (59 ∷ 10 ∷ []))))
 

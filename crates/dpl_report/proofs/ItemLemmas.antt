@@ -66,11 +66,9 @@ from_edge_same : {X : Type 0} (least edge : ℕ) (x : X) → least ≤ edge → 
 from_edge_same least edge x l = rw (le-leb least edge l) refl
 
 -- the same for items in ascending order
-pub items_of_guess : {X : Type 0} (guess : List ℤ → Option X) (text : X → List ℕ) (numbers : X → List ℤ) (edge : X → ℕ)
-    (Fits : X → Type 0) → IsGuess guess numbers Fits
-    → ((x : X) → Fits x → numbers_in (text x) ≡ numbers x) →
-    AreItems (λ least line. guess (numbers_in line) >>= λ x. from_edge least (edge x) x >>= if_written text line)
-    text (λ least x. (least ≤ edge x) × Fits x)
+pub items_of_guess : {X : Type 0} (guess : List ℤ → Option X) (text : X → List ℕ) (numbers : X → List ℤ) (edge : X → ℕ) (Fits : X → Type 0)
+    → IsGuess guess numbers Fits → ((x : X) → Fits x → numbers_in (text x) ≡ numbers x)
+    → AreItems (λ least line. guess (numbers_in line) >>= λ x. from_edge least (edge x) x >>= if_written text line) text (λ least x. (least ≤ edge x) × Fits x)
 items_of_guess guess text numbers edge Fits g n = record {
   takes = λ least l x e.
       let a = bind_some (guess (numbers_in l)) (λ x. from_edge least (edge x) x >>= if_written text l) x e in
@@ -83,8 +81,8 @@ items_of_guess guess text numbers edge Fits g n = record {
 }
 
 -- items that depend on none before
-pub items_of_item : {X : Type 0} (item : List ℕ → Option X) (text : X → List ℕ) (Fits : X → Type 0) →
-    IsItem item text Fits → AreItems (λ (s : ℕ). item) text (λ s. Fits)
+pub items_of_item : {X : Type 0} (item : List ℕ → Option X) (text : X → List ℕ) (Fits : X → Type 0)
+    → IsItem item text Fits → AreItems (λ (s : ℕ). item) text (λ s. Fits)
 items_of_item item text Fits i = record { takes = λ s. i.takes; again = λ s. i.again }
 
 -- ---- numbers
@@ -243,8 +241,8 @@ cycle_by_test false half start e es c t h s f k =
     let some : 1 ≤ half = grind (arith, nat_tests) in
     rw (← same) (record { some = some; half = h; start = s; edges = f; not_empty = omega arith })
 
-cycle_with_fits : (half start : ℕ) (es : List ℕ) (c : Cycle) → IsCount half → IsNumber start →
-    AllByRecursion IsNumber es → cycle_with half start es ≡ Some c → IsCycle c
+cycle_with_fits : (half start : ℕ) (es : List ℕ) (c : Cycle) → IsCount half → IsNumber start
+    → AllByRecursion IsNumber es → cycle_with half start es ≡ Some c → IsCycle c
 cycle_with_fits half start [] c h s f k = absurd (cc)
 cycle_with_fits half start (e ∷ es) c h s f k = cycle_by_test (half == 0) half start e es c refl h s f k
 
@@ -257,8 +255,8 @@ cycle_from_fits (h ∷ s ∷ zs) c k =
     let r = bind_some (edges_of zs) (λ w. cycle_with p.0 q.0 w) c q.2 in
     cycle_with_fits p.0 q.0 r.0 c (up_to_fits 1000000000000 h p.0 p.1) (up_to_fits 4294967295 s q.0 q.1) (edges_fit zs r.0 r.1) r.2
 
-cycle_with_again : (half start : ℕ) (es : List ℕ) → 1 ≤ half → 0 < length es →
-    cycle_with half start es ≡ Some (record { half = half; walk = record { start = start; edges = es } })
+cycle_with_again : (half start : ℕ) (es : List ℕ) → 1 ≤ half → 0 < length es
+    → cycle_with half start es ≡ Some (record { half = half; walk = record { start = start; edges = es } })
 cycle_with_again half start [] h l = absurd (omega arith)
 cycle_with_again half start (e ∷ es) h l = let t : (half == 0) ≡ false = grind (arith, nat_tests) in rw t refl
 

@@ -70,9 +70,9 @@ has_no_digit-numbered : (zs : List ℤ) (end : List ℕ) → IsEnd end → has_n
 has_no_digit-numbered [] end e = e.no_digit
 has_no_digit-numbered (z ∷ zs) end e = refl
 
-numbers_again : (n : ℕ) (word : List ℕ) (zs : List ℤ) (end : List ℕ) → IsEnd end → length zs ≤ n →
-    list_all is_separator word ≡ true → AllByRecursion IsNear zs →
-    (repeated signed_of n (word ++ numbered zs end)).0 ≡ zs
+numbers_again : (n : ℕ) (word : List ℕ) (zs : List ℤ) (end : List ℕ) → IsEnd end → length zs ≤ n
+    → list_all is_separator word ≡ true → AllByRecursion IsNear zs
+    → (repeated signed_of n (word ++ numbered zs end)).0 ≡ zs
 numbers_again zero word [] end e l h a = refl
 numbers_again (suc n) word [] end e l h a = rw (signed_of-word word end h, e.no_number) refl
 numbers_again zero word (z ∷ zs) end e l h a = absurd (omega arith)
@@ -90,8 +90,9 @@ length-numbered [] end = omega arith
 length-numbered (z ∷ zs) end = omega (arith, length-numbered zs end, length-append (signed_decimal z) (numbered zs end))
 
 -- the numbers of a line behind a word are read back
-pub numbers_in-numbered : (first : ℕ) (word : List ℕ) (zs : List ℤ) (end : List ℕ) → IsEnd end →
-    list_all is_separator word ≡ true → AllByRecursion IsNear zs → numbers_in (first ∷ (word ++ numbered zs end)) ≡ zs
+pub numbers_in-numbered : (first : ℕ) (word : List ℕ) (zs : List ℤ) (end : List ℕ) → IsEnd end
+    → list_all is_separator word ≡ true → AllByRecursion IsNear zs
+    → numbers_in (first ∷ (word ++ numbered zs end)) ≡ zs
 numbers_in-numbered first word zs end e h a =
     numbers_again (suc (length (word ++ numbered zs end))) word zs end e (omega (arith, length-append word (numbered zs end), length-numbered zs end)) h a
 
@@ -111,8 +112,8 @@ numbers_in-bracketed word zs h a = numbers_in-numbered 40 word zs (codes ");\n")
 abbrev pub box_numbers : Corners → List ℤ
 box_numbers b = ((b.x2 -ℤ b.x1) *ℤ pos 2) ∷ ((b.y2 -ℤ b.y1) *ℤ pos 2) ∷ (b.x1 +ℤ b.x2) ∷ (b.y1 +ℤ b.y2) ∷ []
 
-four_parts : (a b c d : List ℕ) → ((((66 ∷ 32 ∷ a) ++ (32 ∷ b)) ++ (32 ∷ c)) ++ (32 ∷ d)) ++ (59 ∷ 10 ∷ []) ≡ 66 ∷ 32 ∷
-    (a ++ (32 ∷ (b ++ (32 ∷ (c ++ (32 ∷ (d ++ (59 ∷ 10 ∷ []))))))))
+four_parts : (a b c d : List ℕ)
+    → ((((66 ∷ 32 ∷ a) ++ (32 ∷ b)) ++ (32 ∷ c)) ++ (32 ∷ d)) ++ (59 ∷ 10 ∷ []) ≡ 66 ∷ 32 ∷ (a ++ (32 ∷ (b ++ (32 ∷ (c ++ (32 ∷ (d ++ (59 ∷ 10 ∷ []))))))))
 four_parts a b c d = simp append_assoc
 
 -- the line of a box is made of these numbers
@@ -130,8 +131,8 @@ numbers_in-box b a = rw (box_line-numbered b) (numbers_in-numbered 66 [] (box_nu
 abbrev pub is_no_end : ℕ → Bool
 is_no_end b = not (b == 10)
 
-line_by_test : (t : Bool) (bs rest : List ℕ) → not t ≡ true → is_line (bs ++ rest) ≡ is_line rest →
-    cond t (is_nothing (bs ++ rest)) (is_line (bs ++ rest)) ≡ is_line rest
+line_by_test : (t : Bool) (bs rest : List ℕ) → not t ≡ true → is_line (bs ++ rest) ≡ is_line rest
+    → cond t (is_nothing (bs ++ rest)) (is_line (bs ++ rest)) ≡ is_line rest
 line_by_test true bs rest n h = absurd (cc)
 line_by_test false bs rest n h = h
 

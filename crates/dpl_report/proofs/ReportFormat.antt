@@ -135,8 +135,8 @@ unfolding or_zero
 corner_fits None k e m = absurd (cc)
 corner_fits (Some n) k e m = m
 
-corner_lines : (c : Option ℕ) (k : Option (List ℕ)) → is_some c ≡ true → count_line (codes "corner") (or_zero c) ∷
-    optional_line lines.keep_line k ≡ more_lines c k
+corner_lines : (c : Option ℕ) (k : Option (List ℕ)) → is_some c ≡ true
+    → count_line (codes "corner") (or_zero c) ∷ optional_line lines.keep_line k ≡ more_lines c k
 unfolding or_zero
 corner_lines None k e = absurd (cc)
 corner_lines (Some n) k e = refl
@@ -298,8 +298,8 @@ apart m k h = not_from_Decides (m == k) (Decides-eqb m k) h
 begins_other : (mark : List ℕ → ℕ) (m k : ℕ) (line : List ℕ) (rest : List (List ℕ)) → mark line ≡ m → (m == k) ≡ false → BeginsOther mark k (line ∷ rest)
 begins_other mark m k line rest h n e = apart m k n (sym h ∙ e)
 
-cycles_before : (k : ℕ) (cs : List Cycle) (rest : List (List ℕ)) → (121 == k) ≡ false → BeginsOther third k rest →
-    BeginsOther third k (map cycle_line cs ++ rest)
+cycles_before : (k : ℕ) (cs : List Cycle) (rest : List (List ℕ)) → (121 == k) ≡ false
+    → BeginsOther third k rest → BeginsOther third k (map cycle_line cs ++ rest)
 unfolding third
 cycles_before k cs rest n b = other-map third k 121 cycle_line (λ c. refl) (apart 121 k n) cs rest b
 
@@ -307,8 +307,8 @@ aside_before : (k : ℕ) (es : List ℕ) (rest : List (List ℕ)) → (115 == k)
 unfolding third
 aside_before k es rest n b = other-map third k 115 aside_line (λ e. refl) (apart 115 k n) es rest b
 
-clashes_before : (k : ℕ) (bs : List Broken) (rest : List (List ℕ)) → (108 == k) ≡ false → BeginsOther third k rest →
-    BeginsOther third k (map clash_line bs ++ rest)
+clashes_before : (k : ℕ) (bs : List Broken) (rest : List (List ℕ)) → (108 == k) ≡ false
+    → BeginsOther third k rest → BeginsOther third k (map clash_line bs ++ rest)
 unfolding third
 clashes_before k bs rest n b = other-map third k 108 clash_line (λ e. refl) (apart 108 k n) bs rest b
 
@@ -339,8 +339,8 @@ lists_end l line rest h =
     )
 
 -- nor does one of those or a line of the lists begin a keep layer
-cuts_before : (k : ℕ) (zs : List PlainZone) (rest : List (List ℕ)) → (117 == k) ≡ false → BeginsOther third k rest →
-    BeginsOther third k (map cut_line zs ++ rest)
+cuts_before : (k : ℕ) (zs : List PlainZone) (rest : List (List ℕ)) → (117 == k) ≡ false
+    → BeginsOther third k rest → BeginsOther third k (map cut_line zs ++ rest)
 unfolding third
 cuts_before k zs rest n b = other-map third k 117 cut_line (λ z. refl) (apart 117 k n) zs rest b
 
@@ -362,16 +362,16 @@ unfolding third
 more_end None k rest b = tt
 more_end (Some n) k rest b = option_ends_at_other third 101 keep_item (λ name. refl) k rest b
 
-head_end : (h : PlainHead) (l : PlainLists) (line : List ℕ) (drawing rest : List (List ℕ)) → third line ≡ 32 →
-    EndsHead h ((lists_lines l ++ (line ∷ drawing)) ++ rest)
+head_end : (h : PlainHead) (l : PlainLists) (line : List ℕ) (drawing rest : List (List ℕ)) → third line ≡ 32
+    → EndsHead h ((lists_lines l ++ (line ∷ drawing)) ++ rest)
 head_end h l line drawing rest e =
     rw (append_assoc (lists_lines l) (line ∷ drawing) rest)
     (more_end h.params.corner h.params.keep (lists_lines l ++ line ∷ (drawing ++ rest))
     (lists_before l (line ∷ (drawing ++ rest)) (begins_other third 32 101 line (drawing ++ rest) e refl)))
 
 -- and a line that begins otherwise no box
-boxes_end : (boxes : List Corners) (line : List ℕ) (rest : List (List ℕ)) → (first line == 66) ≡ false →
-    EndFrom (λ (s : ℕ). item_box) (λ _. zero) zero boxes (line ∷ rest)
+boxes_end : (boxes : List Corners) (line : List ℕ) (rest : List (List ℕ)) → (first line == 66) ≡ false
+    → EndFrom (λ (s : ℕ). item_box) (λ _. zero) zero boxes (line ∷ rest)
 unfolding first
 boxes_end boxes line rest h = ends_at_other first 66 (λ _. zero) (items_of_item item_box box_line IsRectangle box_item)
     (λ b. refl) zero boxes (line ∷ rest) (begins_other first (first line) 66 line rest refl h)
@@ -396,8 +396,8 @@ last_format =
 drawing_back : List Corners × List Corners → Unit {0} × (List Corners × (List Corners × Unit {0}))
 drawing_back v = (tt, (v.0, (v.1, tt)))
 
-drawing_format : (name : List ℕ) → IsFormat (read_drawing name) (λ v. drawing_lines name v.0 v.1)
-    (λ v. AllByRecursion IsRectangle v.0 × AllByRecursion IsRectangle v.1) Anywhere
+drawing_format : (name : List ℕ)
+    → IsFormat (read_drawing name) (λ v. drawing_lines name v.0 v.1) (λ v. AllByRecursion IsRectangle v.0 × AllByRecursion IsRectangle v.1) Anywhere
 unfolding read_drawing drawing_back first
 drawing_format name =
     refit (λ v. drawing_lines name v.0 v.1) (λ v. AllByRecursion IsRectangle v.0 × AllByRecursion IsRectangle v.1) Anywhere (λ v. refl)

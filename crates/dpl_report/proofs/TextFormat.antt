@@ -32,14 +32,14 @@ are-append : (xs ys : List (List ℕ)) → AllByRecursion IsLine xs → AllByRec
 are-append [] ys a b = b
 are-append (x ∷ xs) ys a b = (a.0, are-append xs ys a.1 b)
 
-are-map : {X : Type 0} (Fits : X → Type 0) (line : X → List ℕ) → ((x : X) → Fits x → IsLine (line x)) → (xs : List X) →
-    AllByRecursion Fits xs → AllByRecursion IsLine (map line xs)
+are-map : {X : Type 0} (Fits : X → Type 0) (line : X → List ℕ) → ((x : X) → Fits x → IsLine (line x))
+    → (xs : List X) → AllByRecursion Fits xs → AllByRecursion IsLine (map line xs)
 are-map Fits line h [] f = tt
 are-map Fits line h (x ∷ xs) f = (h x f.0, are-map Fits line h xs f.1)
 
-are-fit : {X : Type 0} (Fits : ℕ → X → Type 0) (after : X → ℕ) (line : X → List ℕ) →
-    ((s : ℕ) (x : X) → Fits s x → IsLine (line x)) → (s : ℕ) (xs : List X) → FitFrom Fits after s xs →
-    AllByRecursion IsLine (map line xs)
+are-fit : {X : Type 0} (Fits : ℕ → X → Type 0) (after : X → ℕ) (line : X → List ℕ)
+    → ((s : ℕ) (x : X) → Fits s x → IsLine (line x)) → (s : ℕ) (xs : List X) → FitFrom Fits after s xs
+    → AllByRecursion IsLine (map line xs)
 are-fit Fits after line h s [] f = tt
 are-fit Fits after line h s (x ∷ xs) f = (h s x f.0, are-fit Fits after line h (after x) xs f.1)
 
@@ -139,8 +139,9 @@ lists_are_lines l f =
 boxes_are_lines : (boxes : List Corners) → AllByRecursion IsRectangle boxes → AllByRecursion IsLine (map box_line boxes)
 boxes_are_lines boxes f = are-map IsRectangle box_line (λ b r. is_line-box b (box_near b r)) boxes f
 
-drawing_are_lines : (name : List ℕ) (on_a on_b : List Corners) → IsSplitLayer name → AllByRecursion IsRectangle on_a →
-    AllByRecursion IsRectangle on_b → AllByRecursion IsLine (drawing_lines name on_a on_b)
+drawing_are_lines : (name : List ℕ) (on_a on_b : List Corners) → IsSplitLayer name
+    → AllByRecursion IsRectangle on_a → AllByRecursion IsRectangle on_b
+    → AllByRecursion IsLine (drawing_lines name on_a on_b)
 drawing_are_lines name on_a on_b f a b = (
   refl,
   (
@@ -172,8 +173,8 @@ text_is_read text r f e = ap (whole read_report) (ap lines_in e ∙
     whole_again read_report report_lines IsReport Anywhere report_format r f tt
 
 -- where reading stops, it names the first line that cannot stand
-pub text_is_wrong : (text : List ℕ) (left : ℕ) → whole read_report (lines_in text) ≡ Err left →
-    IsFirstWrong report_lines IsReport (lines_in text) (length (lines_in text) - left + 1)
+pub text_is_wrong : (text : List ℕ) (left : ℕ) → whole read_report (lines_in text) ≡ Err left
+    → IsFirstWrong report_lines IsReport (lines_in text) (length (lines_in text) - left + 1)
 text_is_wrong text left e = whole_stops read_report report_lines IsReport Anywhere report_format (λ r f. tt) (lines_in text) left e
 
 -- no two reports have the same text

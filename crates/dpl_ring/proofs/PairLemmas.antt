@@ -36,18 +36,18 @@ prevs_at (q ∷ ps) zero = refl
 prevs_at (q ∷ ps) (suc i) = prevs_at ps i
 
 -- where each place has its own number twice, both lists do
-pub nexts_alone : (ps : List Pair) (n : ℕ) → length ps ≡ n →
-    ((k : ℕ) → k < n → pair_at ps k ≡ record { next = k; prev = k }) → (length (nexts_of ps) ≡ n) ×
-    ((k : ℕ) → k < length (nexts_of ps) → get_or (nexts_of ps) k 0 ≡ k)
+pub nexts_alone : (ps : List Pair) (n : ℕ) → length ps ≡ n
+    → ((k : ℕ) → k < n → pair_at ps k ≡ record { next = k; prev = k })
+    → (length (nexts_of ps) ≡ n) × ((k : ℕ) → k < length (nexts_of ps) → get_or (nexts_of ps) k 0 ≡ k)
 nexts_alone ps n e own = (
   length-map ps _ ∙ e,
   λ k h. nexts_at ps k ∙
       ap (λ (p : Pair). p.next) (own k (omega (arith, h, length-map ps (λ (p : Pair). p.next), e))),
 )
 
-pub prevs_alone : (ps : List Pair) (n : ℕ) → length ps ≡ n →
-    ((k : ℕ) → k < n → pair_at ps k ≡ record { next = k; prev = k }) → (length (prevs_of ps) ≡ n) ×
-    ((k : ℕ) → k < length (prevs_of ps) → get_or (prevs_of ps) k 0 ≡ k)
+pub prevs_alone : (ps : List Pair) (n : ℕ) → length ps ≡ n
+    → ((k : ℕ) → k < n → pair_at ps k ≡ record { next = k; prev = k })
+    → (length (prevs_of ps) ≡ n) × ((k : ℕ) → k < length (prevs_of ps) → get_or (prevs_of ps) k 0 ≡ k)
 prevs_alone ps n e own = (
   length-map ps _ ∙ e,
   λ k h. prevs_at ps k ∙

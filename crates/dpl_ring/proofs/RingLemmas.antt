@@ -20,8 +20,9 @@ pub at_neither : (xs : List ℕ) (i j b a x : ℕ) → x ≢ i → x ≢ j → g
 at_neither xs i j b a x h k = get_or-set_other (set xs i b) j x a 0 k ∙ get_or-set_other xs i x b 0 h
 
 -- the two halves of an exchange: where f leads from i to a and from j to b, the lists lead there and back
-half : (xs ys : List ℕ) (i j a b : ℕ) → IsKept xs ys → i < length xs → j < length xs → get_or xs i 0 ≡ a → get_or xs j 0 ≡ b → (x : ℕ) → x < length xs →
-    (get_or (set (set xs i b) j a) x 0 < length xs) × (get_or (set (set ys b i) a j) (get_or (set (set xs i b) j a) x 0) 0 ≡ x)
+half : (xs ys : List ℕ) (i j a b : ℕ) → IsKept xs ys → i < length xs → j < length xs → get_or xs i 0 ≡ a
+    → get_or xs j 0 ≡ b → (x : ℕ) → x < length xs
+    → (get_or (set (set xs i b) j a) x 0 < length xs) × (get_or (set (set ys b i) a j) (get_or (set (set xs i b) j a) x 0) 0 ≡ x)
 half xs ys i j a b p hi hj ea eb x h =
     let la : a < length ys = omega (arith, p.inverse.to i hi, ea, p.lengths) in
     let lb : b < length ys = omega (arith, p.inverse.to j hj, eb, p.lengths) in
@@ -57,8 +58,8 @@ turned_kept xs ys p = record {
   };
 }
 
-pub spliced : (xs ys : List ℕ) (i j a b : ℕ) → IsKept xs ys → i < length xs → j < length xs → get_or xs i 0 ≡ a →
-    get_or xs j 0 ≡ b → IsKept (set (set xs i b) j a) (set (set ys b i) a j)
+pub spliced : (xs ys : List ℕ) (i j a b : ℕ) → IsKept xs ys → i < length xs → j < length xs
+    → get_or xs i 0 ≡ a → get_or xs j 0 ≡ b → IsKept (set (set xs i b) j a) (set (set ys b i) a j)
 spliced xs ys i j a b p hi hj ea eb =
     let l : length (set (set xs i b) j a) ≡ length xs = length-set (set xs i b) j a ∙ length-set xs i b in
     let l' : length (set (set ys b i) a j) ≡ length ys = length-set (set ys b i) a j ∙ length-set ys b i in
@@ -97,8 +98,8 @@ swap_value xs i j hi hj ne x =
 pub length_swap : (xs : List ℕ) (i j : ℕ) → i < length xs → j < length xs → length (swap xs i j) ≡ length xs
 length_swap xs i j hi hj = ap length (sym (swap_is xs i j 0 hi hj)) ∙ length-set (set xs i (get_or xs j 0)) j _ ∙ length-set xs i _
 
-pub cycle_count_swap : (xs ys zs : List ℕ) (i j : ℕ) → IsKept xs ys → i < length xs → j < length xs → i ≢ j →
-    zs ≡ swap xs i j → cycle_count zs ≡ cycles (exchange (slice_index xs) i j) (length xs)
+pub cycle_count_swap : (xs ys zs : List ℕ) (i j : ℕ) → IsKept xs ys → i < length xs → j < length xs → i ≢ j
+    → zs ≡ swap xs i j → cycle_count zs ≡ cycles (exchange (slice_index xs) i j) (length xs)
 cycle_count_swap xs ys zs i j p hi hj ne e =
     ap cycle_count e ∙ ap (cycles (slice_index (swap xs i j))) (length_swap xs i j hi hj) ∙ cycles_same (length xs) _ _ (λ x h. swap_value xs i j hi hj ne x)
 

@@ -50,8 +50,9 @@ one_check o text report _ _ _ _ (accepted cost bound v) (accepted cost' bound' w
 -- ---- what an accepted report means
 
 -- where check is done, what was written is a cost and a bound with which the report is accepted
-pub accepted_bound : (o : PlainOptions) (text report taken : List ℕ) (now : Option (List ℕ)) (a : Status) (x : List ℕ) → AreOptions o →
-    IsCheckDue o text report a x → a ≡ Done → now ≡ Some (taken ++ x) → WritesBound o text report taken now
+pub accepted_bound : (o : PlainOptions) (text report taken : List ℕ) (now : Option (List ℕ)) (a : Status) (x : List ℕ)
+    → AreOptions o → IsCheckDue o text report a x → a ≡ Done → now ≡ Some (taken ++ x)
+    → WritesBound o text report taken now
 accepted_bound o text report taken now _ _ ranges (refused e r) d is = absurd (refused_not_done e d)
 accepted_bound o text report taken now _ _ ranges (rejected reason place found wanted v) d is = absurd (cc)
 accepted_bound o text report taken now _ _ ranges (accepted cost bound v) d is =

@@ -19,8 +19,8 @@ shows_crossing f net None some none = none refl
 shows_crossing f net (Some crossing) some none = some
 
 -- what was found of an edge set aside is what is to be shown
-pub shows_bar : (net : Net) (b : Option Bar) → (b ≡ None ↔ aside_edges net ≡ []) →
-    IfSome b (λ x. IsFirstAside net x.edge) → IfSome b (IsBar net) → ShowsBar net b
+pub shows_bar : (net : Net) (b : Option Bar) → (b ≡ None ↔ aside_edges net ≡ [])
+    → IfSome b (λ x. IsFirstAside net x.edge) → IfSome b (IsBar net) → ShowsBar net b
 shows_bar net None none least bar = none.0 refl
 shows_bar net (Some b) none least bar = (least, bar)
 
@@ -29,7 +29,7 @@ pub nodes_are : (o : PlainOptions) (text : List ℕ) (f : Fragments) (net : Net)
 nodes_are o text f net h = of_layer o text (λ cells kept. IsCutLayer o cells kept f net) (λ cells kept l. l.is.layer.net.nodes) h
 
 -- what tells of the drawing of a text's layer tells of the text
-pub crossed : (o : PlainOptions) (text output : List ℕ) (f : Fragments) (net : Net) → IsLayerOfText o text f net →
-    TellsDrawing f net output → IsCrossed o text output
+pub crossed : (o : PlainOptions) (text output : List ℕ) (f : Fragments) (net : Net)
+    → IsLayerOfText o text f net → TellsDrawing f net output → IsCrossed o text output
 crossed o text output f net h tells = on_layer o text (λ cells kept. IsCutLayer o cells kept f net) (CrossesCells o output)
     (λ cells kept l. record { fragments = f; net = net; layer = l.is; tells = tells }) h

@@ -63,8 +63,8 @@ one_for c text second _ _ _ _ (carried_out a x none d) (too_long f q) = absurd (
 one_for c text second _ _ _ _ (carried_out a x none d) (carried_out b y also g) = one_of c text second a b x y d g
 
 -- at most one status is due for words and texts
-pub one_due : (command : Result PlainCommand ℕ) (text second : List ℕ) (a b : Status) (x y : List ℕ) →
-    IsDueOf command text second a x → IsDueOf command text second b y → a ≡ b
+pub one_due : (command : Result PlainCommand ℕ) (text second : List ℕ) (a b : Status) (x y : List ℕ)
+    → IsDueOf command text second a x → IsDueOf command text second b y → a ≡ b
 one_due (Err kind) text second a b x y p q = p.0 ∙ sym q.0
 one_due (Ok c) text second a b x y p q = one_for c text second a b x y p q
 

@@ -103,14 +103,14 @@ stop_ends : (c : PlainCommand) → colours c ≡ true → follows c ≡ true →
 stop_ends c colouring following s n l _ _ (missing p) = (following, refl)
 stop_ends c colouring following s n l _ _ (over e there p) = over_ends c colouring (edited l s) e p
 
-edits_end : (c : PlainCommand) → colours c ≡ true → follows c ≡ true →
-    (ls : List Line) (s : Edits) (n : ℕ) (a : Status) (x : List ℕ) → AreEditsDue s n ls a x → Ends c a x
+edits_end : (c : PlainCommand) → colours c ≡ true → follows c ≡ true
+    → (ls : List Line) (s : Edits) (n : ℕ) (a : Status) (x : List ℕ) → AreEditsDue s n ls a x → Ends c a x
 edits_end c colouring following [] s n a x d = subst (λ z. Ends c z x) (sym d.0) tt
 edits_end c colouring following (l ∷ ls) s n a x (inl p) = stop_ends c colouring following s n l a x p
 edits_end c colouring following (l ∷ ls) s n a x (inr q) = edits_end c colouring following ls (edited l s) (n + 1) a x q.1
 
-script_ends : (c : PlainCommand) → colours c ≡ true → follows c ≡ true →
-    (s : Edits) (text : List ℕ) (a : Status) (x : List ℕ) → IsScriptDue s text a x → Ends c a x
+script_ends : (c : PlainCommand) → colours c ≡ true → follows c ≡ true
+    → (s : Edits) (text : List ℕ) (a : Status) (x : List ℕ) → IsScriptDue s text a x → Ends c a x
 script_ends c colouring following s text _ _ (bad_line n b) = (following, refl)
 script_ends c colouring following s text _ _ (applied ls is a x d) = edits_end c colouring following ls s 1 a x d
 
@@ -176,9 +176,10 @@ add_stops s rect (edit.Limit k c) status is (inl m) n = absurd (cc)
 add_stops s rect edit.NoMemory status is h n = inl is
 add_stops s rect (edit.Limit k c) status is (inr r) n = inr (subst (λ z. StopsAt (edits_of s) n (Add rect) z []) (sym is) (over (refusal.Limit k c) (λ p. p) r))
 
-removed_within : {T : Type 0} (s : State) (number : ℕ) (result : Result T RemoveError) (v : T) → result ≡ Ok v → HasBox number s.boxes
-    → ((e : RemoveError) → RefusesRemoval s number e → (result ≡ Err e) ⊎ (result ≡ Err removal.NoMemory)) →
-    NoneOf (content_reasons s.options (content s.begun (boxes_without number s.boxes)) s.keep)
+removed_within : {T : Type 0} (s : State) (number : ℕ) (result : Result T RemoveError) (v : T) → result ≡ Ok v
+    → HasBox number s.boxes
+    → ((e : RemoveError) → RefusesRemoval s number e → (result ≡ Err e) ⊎ (result ≡ Err removal.NoMemory))
+    → NoneOf (content_reasons s.options (content s.begun (boxes_without number s.boxes)) s.keep)
 removed_within s number result v is there exact =
     limits_free s.options (content s.begun (boxes_without number s.boxes)) s.keep (λ k n p. elim (exact (removal.Limit k n) (there, p)) [
       | inl a ↦ absurd (cc)
@@ -191,8 +192,8 @@ pub removed_goes_on : {T : Type 0} (s : State) (number : ℕ) (result : Result T
 removed_goes_on s number result v is there exact = record { there = λ p. p there; within = removed_within s number result v is there exact }
 
 -- the script stops at a line whose removal is refused, but for want of memory
-pub removal_stops : (s : State) (number n : ℕ) (e : RemoveError) (status : Status) → status ≡ of_removal n e →
-    (e ≡ removal.NoMemory) ⊎ RefusesRemoval s number e
+pub removal_stops : (s : State) (number n : ℕ) (e : RemoveError) (status : Status) → status ≡ of_removal n e
+    → (e ≡ removal.NoMemory) ⊎ RefusesRemoval s number e
     → (status ≡ NoMemory) ⊎ StopsAt (edits_of s) n (Remove number) status []
 removal_stops s number n (removal.NoBox m) status is (inl h) = absurd (cc)
 removal_stops s number n (removal.Limit k c) status is (inl h) = absurd (cc)
@@ -208,8 +209,8 @@ abbrev pub LeadsTo : Edits → List Line → Edits → ℕ → List Line → Typ
 LeadsTo s ls t n rest = (status : Status) (output : List ℕ) → AreEditsDue t n rest status output → AreEditsDue s 1 ls status output
 
 -- a line that is taken leads one line further
-pub leads_on : (s t u : Edits) (ls rest others : List Line) (n m : ℕ) (line : Line) → LeadsTo s ls t n rest →
-    rest ≡ line ∷ others → IsTaken t line → u ≡ edited line t → m ≡ n + 1 → LeadsTo s ls u m others
+pub leads_on : (s t u : Edits) (ls rest others : List Line) (n m : ℕ) (line : Line) → LeadsTo s ls t n rest
+    → rest ≡ line ∷ others → IsTaken t line → u ≡ edited line t → m ≡ n + 1 → LeadsTo s ls u m others
 leads_on s t u ls rest others n m line lead r g a e status output d =
     let here : AreEditsDue (edited line t) (n + 1) others status output =
     subst (λ z. AreEditsDue z (n + 1) others status output) a
@@ -227,8 +228,8 @@ none_left [] e = refl
 none_left (l ∷ ls) e = absurd (omega (arith, e))
 
 -- after the last line the report of the session is due
-pub leads_end : (s t : Edits) (ls rest : List Line) (n : ℕ) → LeadsTo s ls t n rest → length rest ≡ 0 →
-    (output : List ℕ) → Reports t output → AreEditsDue s 1 ls Done output
+pub leads_end : (s t : Edits) (ls rest : List Line) (n : ℕ) → LeadsTo s ls t n rest → length rest ≡ 0
+    → (output : List ℕ) → Reports t output → AreEditsDue s 1 ls Done output
 leads_end s t ls rest n lead none output p = lead Done output (subst (λ z. AreEditsDue t n z Done output) (sym (none_left rest none)) (refl, p))
 
 -- a line adds one box at most
@@ -239,8 +240,8 @@ count_after (Remove number) s t e = let a = ap (λ (z : Edits). z.count) e in om
 -- ---- what the work answers
 
 -- what was worked for one thing that is due was worked for all that follows from it
-pub worked_as : (Due Other : Status → List ℕ → Type 0) → ((a : Status) (x : List ℕ) → Due a x → Other a x) →
-    (a : Status) (x : List ℕ) → IsWorked Due a x → IsWorked Other a x
+pub worked_as : (Due Other : Status → List ℕ → Type 0) → ((a : Status) (x : List ℕ) → Due a x → Other a x)
+    → (a : Status) (x : List ℕ) → IsWorked Due a x → IsWorked Other a x
 worked_as Due Other f Done x p = f Done x p
 worked_as Due Other f (Rejected reason place found wanted) x p = f (Rejected reason place found wanted) x p
 worked_as Due Other f (Usage kind) x p = f (Usage kind) x p
@@ -268,19 +269,20 @@ pub worked_bare_at : (Due : Status → List ℕ → Type 0) (a s : Status) (x : 
 worked_bare_at Due a s x h is none = subst (λ z. IsWorked Due z x) (sym is) (subst (IsWorked Due a) (sym none) (or_due Due a h))
 
 -- a session that was begun is followed
-pub begun_worked : {T : Type 0} (o p : PlainOptions) (text second : List ℕ) (d : Drawing) (result : Result T EditError)
-    (v : T) (s : State) (a : Status) (x : List ℕ) → p ≡ o → IsDrawingOf o text d
-    → result ≡ Ok v → ((e : EditError) → Refuses p d.layer.prims d.keep.prims e → (result ≡ Err e) ⊎ (result ≡ Err edit.NoMemory)) → IsBegun p d s
-    → IsWorked (IsScriptDue (edits_of s) second) a x → IsWorked (IsEditDue o text second) a x
+pub begun_worked : {T : Type 0} (o p : PlainOptions) (text second : List ℕ) (d : Drawing)
+    → (result : Result T EditError) (v : T) (s : State) (a : Status) (x : List ℕ) → p ≡ o
+    → IsDrawingOf o text d → result ≡ Ok v
+    → ((e : EditError) → Refuses p d.layer.prims d.keep.prims e → (result ≡ Err e) ⊎ (result ≡ Err edit.NoMemory))
+    → IsBegun p d s → IsWorked (IsScriptDue (edits_of s) second) a x → IsWorked (IsEditDue o text second) a x
 begun_worked o p text second d result v s a x same is ok exact b w =
     let within : NoneOf (edits_reasons (begun_with o d)) = subst (λ z. NoneOf (edits_reasons (begun_with z d))) same (begun_within p d result v ok exact) in
     let begins : IsBegun o d s = subst (λ z. IsBegun z d s) same b in
     worked_as (IsScriptDue (edits_of s) second) (IsEditDue o text second)
     (λ c y due. begun d is within c y (subst (λ z. IsScriptDue z second c y) (of_begun o d s begins) due)) a x w
 
-too_much_due : (o : PlainOptions) (text second : List ℕ) (d : Drawing) (e : EditError) (a : Status) (x : List ℕ) →
-    IsDrawingOf o text d → (e ≡ edit.NoMemory) ⊎ Refuses o d.layer.prims d.keep.prims e
-    → a ≡ of_edit e → x ≡ [] → IsWorked (IsEditDue o text second) a x
+too_much_due : (o : PlainOptions) (text second : List ℕ) (d : Drawing) (e : EditError) (a : Status) (x : List ℕ)
+    → IsDrawingOf o text d → (e ≡ edit.NoMemory) ⊎ Refuses o d.layer.prims d.keep.prims e → a ≡ of_edit e
+    → x ≡ [] → IsWorked (IsEditDue o text second) a x
 too_much_due o text second d (edit.Limit k n) a x is (inl m) e none = absurd (cc)
 too_much_due o text second d edit.NoMemory a x is h e none = worked_bare_at (IsEditDue o text second) NoMemory a x (inl refl) e none
 too_much_due o text second d (edit.Limit k n) a x is (inr r) e none =
@@ -301,17 +303,16 @@ no_script_worked s text result (script.Bad n) a x is bad e none = worked_bare_at
 no_script_worked s text result script.NoMemory a x is bad e none = worked_bare_at (IsScriptDue s text) NoMemory a x (inl refl) e none
 
 -- what ends the work on the lines of a script ends that on its text
-pub script_worked : (s : Edits) (text : List ℕ) (ls lines : List Line) (a : Status) (x : List ℕ) →
-    IsScript text (map plain_line ls) → lines ≡ ls → IsWorked (AreEditsDue s 1 lines) a x →
-    IsWorked (IsScriptDue s text) a x
+pub script_worked : (s : Edits) (text : List ℕ) (ls lines : List Line) (a : Status) (x : List ℕ)
+    → IsScript text (map plain_line ls) → lines ≡ ls → IsWorked (AreEditsDue s 1 lines) a x
+    → IsWorked (IsScriptDue s text) a x
 script_worked s text ls lines a x is same w =
     worked_as (AreEditsDue s 1 lines) (IsScriptDue s text) (λ b y d. applied ls is b y (subst (λ z. AreEditsDue s 1 z b y) same d)) a x w
 
 -- ---- options by their values
 
 -- options with the same parts are the same
-pub same_plain : (o : PlainOptions) (layer : List ℕ) (space overlap : ℕ) (weights : PlainWeights)
-    (keep : Option (List ℕ)) → layer ≡ o.layer → space ≡ o.space → overlap ≡ o.overlap → weights ≡ o.weights →
-    keep ≡ o.keep
+pub same_plain : (o : PlainOptions) (layer : List ℕ) (space overlap : ℕ) (weights : PlainWeights) (keep : Option (List ℕ))
+    → layer ≡ o.layer → space ≡ o.space → overlap ≡ o.overlap → weights ≡ o.weights → keep ≡ o.keep
     → ◌≡◌ {A = PlainOptions} (record { layer = layer; space = space; overlap = overlap; weights = weights; keep = keep }) o
 same_plain o layer space overlap weights keep a b c d e = rw (a, b, c, d, e) refl

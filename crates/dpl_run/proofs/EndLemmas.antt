@@ -109,13 +109,14 @@ work_limit_between c k (inl p) = (p.0, omega (arith, p.1))
 work_limit_between c k (inr p) = (omega (arith, p.0), omega (arith, p.0))
 
 -- and no limit on the bytes of a text is passed in it
-pub worked_limit : (c : PlainCommand) (Due : Status → List ℕ → Type 0) → AllEnd c Due →
-    (a : Status) (x : List ℕ) (k n : ℕ) → IsWorked Due a x → a ≡ Limit k n → (2 ≤ k) × (k ≤ 8)
+pub worked_limit : (c : PlainCommand) (Due : Status → List ℕ → Type 0) → AllEnd c Due
+    → (a : Status) (x : List ℕ) (k n : ℕ) → IsWorked Due a x → a ≡ Limit k n → (2 ≤ k) × (k ≤ 8)
 worked_limit c Due all a x k n p e = work_limit_between c k (all (Limit k n) x (subst (λ z. IsWorked Due z x) e p)).0
 
 -- a refusal is due where it applies, and want of memory is free
-or_memory : (Due : Status → List ℕ → Type 0) (P : LayerError → Type 0) (e : LayerError) →
-    ((f : LayerError) → P f → Due (status_of f) []) → (e ≡ refusal.NoMemory) ⊎ P e → IsWorked Due (status_of e) []
+or_memory : (Due : Status → List ℕ → Type 0) (P : LayerError → Type 0) (e : LayerError)
+    → ((f : LayerError) → P f → Due (status_of f) []) → (e ≡ refusal.NoMemory) ⊎ P e
+    → IsWorked Due (status_of e) []
 or_memory Due P refusal.NoMemory f h = refl
 or_memory Due P (refusal.Layout command what) f (inl h) = absurd (cc)
 or_memory Due P (refusal.Limit kind count) f (inl h) = absurd (cc)
@@ -123,9 +124,9 @@ or_memory Due P (refusal.Layout command what) f (inr h) = f (refusal.Layout comm
 or_memory Due P (refusal.Limit kind count) f (inr h) = f (refusal.Limit kind count) h
 
 -- an error ends the work where it is want of memory, or where its refusal is due
-pub refused_worked : (Due : Status → List ℕ → Type 0) (P : LayerError → Type 0) (e : LayerError) (s : Status)
-    (x : List ℕ) → ((f : LayerError) → P f → Due (status_of f) []) → (e ≡ refusal.NoMemory) ⊎ P e
-    → s ≡ status_of e → x ≡ [] → IsWorked Due s x
+pub refused_worked : (Due : Status → List ℕ → Type 0) (P : LayerError → Type 0) (e : LayerError) (s : Status) (x : List ℕ)
+    → ((f : LayerError) → P f → Due (status_of f) []) → (e ≡ refusal.NoMemory) ⊎ P e → s ≡ status_of e
+    → x ≡ [] → IsWorked Due s x
 refused_worked Due P e s x f h is none = subst (λ z. IsWorked Due z x) (sym is) (subst (IsWorked Due (status_of e)) (sym none) (or_memory Due P e f h))
 
 -- a refusal is not done

@@ -36,8 +36,8 @@ record Written (c : PlainCommand) (text second taken : List ℕ) (now : Option (
   is : now ≡ Some (taken ++ output)
   due : DueOf c text second Done output
 
-written : (words : List (List ℕ)) (c : PlainCommand) (text second taken : List ℕ) (before now : Option (List ℕ))
-    (result : Status) → command_of words ≡ Ok c → Answers (IsDue words text second) before now result → result ≡ Done
+written : (words : List (List ℕ)) (c : PlainCommand) (text second taken : List ℕ) (before now : Option (List ℕ)) (result : Status)
+    → command_of words ≡ Ok c → Answers (IsDue words text second) before now result → result ≡ Done
     → before ≡ Some taken → Written c text second taken now
 written words c text second taken before now result e answer done told =
     let w = subst (Answers (IsDue words text second) before now) done answer in
@@ -57,8 +57,8 @@ as_split o text output p = record {
 -- where a split is done, every pair of masks costs at least half the written bound and breaks no less of kept edges
 pub writes_least : (words : List (List ℕ)) (left : Option (List ℕ)) (texts : Option Texts) (before now : Option (List ℕ)) (result : Status)
     → ((text second : List ℕ) → AreTold (command_of words) left texts text second → Answers (IsDue words text second) before now result)
-    → (o : PlainOptions) (text taken : List ℕ) → AskForSplit (command_of words) o → left ≡ Some text →
-    before ≡ Some taken → result ≡ Done → WritesLeast o text taken now
+    → (o : PlainOptions) (text taken : List ℕ) → AskForSplit (command_of words) o → left ≡ Some text
+    → before ≡ Some taken → result ≡ Done → WritesLeast o text taken now
 writes_least words left texts before now result answer o text taken (inl e) told had done =
     let w = written words (split o) text [] taken before now result e
     (answer text [] (subst (λ z. AreTold z left texts text []) (sym e) (told, tt))) done had in
@@ -78,8 +78,8 @@ writes_least words left texts before now result answer o text taken (inr e) told
 pub writes_bound : (words : List (List ℕ)) (left : Option (List ℕ)) (texts : Option Texts) (before now : Option (List ℕ)) (result : Status)
     → ((text second : List ℕ) → AreTold (command_of words) left texts text second → Answers (IsDue words text second) before now result)
     → ((o : PlainOptions) (name : List ℕ) → result ≡ Done → command_of words ≡ Ok (check o name) → AreOptions o)
-    → (o : PlainOptions) (name text report taken : List ℕ) → command_of words ≡ Ok (check o name) →
-    AreTold (command_of words) left texts text report → before ≡ Some taken → result ≡ Done
+    → (o : PlainOptions) (name text report taken : List ℕ) → command_of words ≡ Ok (check o name)
+    → AreTold (command_of words) left texts text report → before ≡ Some taken → result ≡ Done
     → WritesBound o text report taken now
 writes_bound words left texts before now result answer ranges o name text report taken e told had done =
     let w = written words (check o name) text report taken before now result e (answer text report told) done had in

@@ -23,9 +23,10 @@ abbrev pub LoadDue : PlainOptions → List ℕ → Status → List ℕ → Type 
 LoadDue o text = IsMade (FirstOf (split_reasons o text)) (IsLoaded o text)
 
 -- the line of a report is due, and want of memory is free
-pub load_told : (o : PlainOptions) (text made : List ℕ) (r : PlainReport) (s : Status) (x : List ℕ) → made ≡ text →
-    o ≡ made_options → IsReportOf o made r → NoneOf (split_reasons o made)
-    → (s ≡ Done → x ≡ loaded_line r) → (s ≡ Done) ⊎ ((s ≡ NoMemory) × (x ≡ [])) → IsWorked (LoadDue made_options text) s x
+pub load_told : (o : PlainOptions) (text made : List ℕ) (r : PlainReport) (s : Status) (x : List ℕ)
+    → made ≡ text → o ≡ made_options → IsReportOf o made r → NoneOf (split_reasons o made)
+    → (s ≡ Done → x ≡ loaded_line r) → (s ≡ Done) ⊎ ((s ≡ NoMemory) × (x ≡ []))
+    → IsWorked (LoadDue made_options text) s x
 load_told o text made r s x m same good free line (inl d) =
     let due : LoadDue o text Done (loaded_line r) = done (loaded_line r)
     (r, subst (λ z. IsReportOf o z r) m good, refl) (subst (λ z. NoneOf (split_reasons o z)) m free) in
@@ -33,8 +34,8 @@ load_told o text made r s x m same good free line (inl d) =
 load_told o text made r s x m same good free line (inr d) = subst (λ z. IsWorked (LoadDue made_options text) z x) (sym d.0) d.1
 
 -- where the split of the made text is refused, that ends the work, but for want of memory
-pub load_refused : (o : PlainOptions) (text made : List ℕ) (e : LayerError) (s : Status) (x : List ℕ) → made ≡ text →
-    o ≡ made_options → (e ≡ refusal.NoMemory) ⊎ FirstOf (split_reasons o made) e
+pub load_refused : (o : PlainOptions) (text made : List ℕ) (e : LayerError) (s : Status) (x : List ℕ)
+    → made ≡ text → o ≡ made_options → (e ≡ refusal.NoMemory) ⊎ FirstOf (split_reasons o made) e
     → s ≡ status_of e → x ≡ [] → IsWorked (LoadDue made_options text) s x
 load_refused o text made e s x m same h is none =
     subst (λ z. IsWorked (LoadDue z text) s x) same (refused_worked (LoadDue o text) (FirstOf (split_reasons o made)) e s x

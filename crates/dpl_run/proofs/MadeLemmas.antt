@@ -26,14 +26,15 @@ work_limit c colouring k h = elim (cases_lt k 8) [
 ]
 
 -- what is due ends the work, where no refusal is want of memory and each limit is one of the work
-pub made_ends : (c : PlainCommand) (R : LayerError → Type 0) (M : List ℕ → Type 0) → (R refusal.NoMemory → ⊥) →
-    ((k n : ℕ) → R (refusal.Limit k n) → IsWorkLimit c k) → AllEnd c (IsMade R M)
+pub made_ends : (c : PlainCommand) (R : LayerError → Type 0) (M : List ℕ → Type 0) → (R refusal.NoMemory → ⊥)
+    → ((k n : ℕ) → R (refusal.Limit k n) → IsWorkLimit c k) → AllEnd c (IsMade R M)
 made_ends c R M some kinds _ _ (refused e r) = error_ends c R some kinds e r
 made_ends c R M some kinds _ _ (done output p free) = tt
 
 -- the same for a split
-pub split_ends : (c : PlainCommand) → colours c ≡ true → (o : PlainOptions) (text : List ℕ) (M : List ℕ → Type 0) →
-    AllEnd c (IsMade (FirstOf (split_reasons o text)) M)
+pub split_ends : (c : PlainCommand) → colours c ≡ true
+    → (o : PlainOptions) (text : List ℕ) (M : List ℕ → Type 0)
+    → AllEnd c (IsMade (FirstOf (split_reasons o text)) M)
 split_ends c colouring o text M = made_ends c (FirstOf (split_reasons o text)) M (never_memory o text)
     (λ k n r. work_limit c colouring k (split_kind o text k n r))
 

@@ -41,24 +41,25 @@ told_where : (reads : Bool) (left : Option (List ℕ)) (text : List ℕ) → IsL
 told_where true left text t e = t
 told_where false left text t e = absurd (cc)
 
-same_layout : (reads : Bool) (before now : Seen) (bytes text : List ℕ) →
-    (reads ≡ true → IsWhole before now bytes 16777216) → IsLayoutTold reads before.left text → reads ≡ true →
-    text ≡ bytes
+same_layout : (reads : Bool) (before now : Seen) (bytes text : List ℕ)
+    → (reads ≡ true → IsWhole before now bytes 16777216) → IsLayoutTold reads before.left text → reads ≡ true
+    → text ≡ bytes
 same_layout reads before now bytes text whole told e = read_is before now bytes text 16777216 (whole e) (told_where reads before.left text told e)
 
-short_layout : (reads : Bool) (before now : Seen) (bytes text : List ℕ) →
-    (reads ≡ true → IsWhole before now bytes 16777216) → IsLayoutTold reads before.left text → IsShort reads text
+short_layout : (reads : Bool) (before now : Seen) (bytes text : List ℕ)
+    → (reads ≡ true → IsWhole before now bytes 16777216) → IsLayoutTold reads before.left text
+    → IsShort reads text
 short_layout reads before now bytes text whole told e =
     subst (λ (z : List ℕ). length z ≤ 16777216) (sym (same_layout reads before now bytes text whole told e))
     (whole e).within
 
-same_second : (o : Option Opened) (texts : Option Texts) (bytes second : List ℕ) → IsSecondRead o texts bytes →
-    IsSecondTold o texts second → (p : Opened) → o ≡ Some p → second ≡ bytes
+same_second : (o : Option Opened) (texts : Option Texts) (bytes second : List ℕ) → IsSecondRead o texts bytes
+    → IsSecondTold o texts second → (p : Opened) → o ≡ Some p → second ≡ bytes
 same_second None texts bytes second read told p e = absurd (cc)
 same_second (Some o) texts bytes second read told p e = let a = read told.0 told.1 in let b = told.2 in cc
 
-small_second : (o : Option Opened) (texts : Option Texts) (bytes second : List ℕ) → IsSecondRead o texts bytes →
-    IsSecondTold o texts second → IsSmall o bytes → IsSmall o second
+small_second : (o : Option Opened) (texts : Option Texts) (bytes second : List ℕ) → IsSecondRead o texts bytes
+    → IsSecondTold o texts second → IsSmall o bytes → IsSmall o second
 small_second None texts bytes second read told small = tt
 small_second (Some o) texts bytes second read told small =
     subst (λ (z : List ℕ). length z ≤ most_of o.counted)
@@ -90,8 +91,9 @@ long_layout c text second r long = too_long (passed LayoutBytes)
     (passed LayoutBytes) ((r, long), refl))
 
 -- and so is a text that is opened
-long_second : (c : PlainCommand) (text second : List ℕ) (o : Opened) → opens c ≡ Some o → IsShort (reads_layout c) text →
-    most_of o.counted < length second → IsDueFor c text second (Limit (number_of o.counted) (most_of o.counted + 1)) []
+long_second : (c : PlainCommand) (text second : List ℕ) (o : Opened) → opens c ≡ Some o
+    → IsShort (reads_layout c) text → most_of o.counted < length second
+    → IsDueFor c text second (Limit (number_of o.counted) (most_of o.counted + 1)) []
 long_second c text second o is short long = too_long (passed o.counted)
     (later (IsPassed LayoutBytes ((reads_layout c ≡ true) × (16777216 < length text))) (IsOpenedLong (opens c) second ∷ [])
     (passed o.counted) (λ e r. let few = short r.0.0 in let many = r.0.1 in omega (arith, few, many))
@@ -110,8 +112,8 @@ same_due (check options name) text bytes second others e f a x d =
 same_due (edit options name) text bytes second others e f a x d =
     subst (λ z. DueOf (edit options name) z second a x) (sym (e refl)) (subst (λ z. DueOf (edit options name) bytes z a x) (sym (f (script_named name) refl)) d)
 
-free_map : (Due Other : Status → List ℕ → Type 0) → ((a : Status) (x : List ℕ) → Due a x → Other a x) →
-    (a : Status) (x : List ℕ) → IsDueOrFree Due a x → IsDueOrFree Other a x
+free_map : (Due Other : Status → List ℕ → Type 0) → ((a : Status) (x : List ℕ) → Due a x → Other a x)
+    → (a : Status) (x : List ℕ) → IsDueOrFree Due a x → IsDueOrFree Other a x
 free_map Due Other f Done x p = f Done x p
 free_map Due Other f (Rejected reason place found wanted) x p = f (Rejected reason place found wanted) x p
 free_map Due Other f (Usage kind) x p = f (Usage kind) x p
@@ -124,9 +126,10 @@ free_map Due Other f NoMemory x p = p
 
 -- the texts were read whole, and the command was carried out
 pub carried_due : (c : PlainCommand) (layout layout_now : Seen) (texts : Option Texts) (bytes others text second : List ℕ) (a : Status) (x : List ℕ)
-    → (reads_layout c ≡ true → IsWhole layout layout_now bytes 16777216) → IsSecondRead (opens c) texts others → IsSmall (opens c) others
-    → IsWorked (DueOf c bytes others) a x → IsLayoutTold (reads_layout c) layout.left text ×
-    IsSecondTold (opens c) texts second → IsDueOrFree (IsDueFor c text second) a x
+    → (reads_layout c ≡ true → IsWhole layout layout_now bytes 16777216) → IsSecondRead (opens c) texts others
+    → IsSmall (opens c) others → IsWorked (DueOf c bytes others) a x
+    → IsLayoutTold (reads_layout c) layout.left text × IsSecondTold (opens c) texts second
+    → IsDueOrFree (IsDueFor c text second) a x
 carried_due c layout layout_now texts bytes others text second a x whole read small worked told =
     let short = short_layout (reads_layout c) layout layout_now bytes text whole told.0 in
     let few = small_second (opens c) texts others second read told.1 small in
@@ -141,8 +144,8 @@ long_text : (left : Option (List ℕ)) (text : List ℕ) (most : ℕ) → IfSome
 long_text (Some xs) text most l e = let a : xs ≡ text = cc in rw a at l
 long_text None text most l e = absurd (cc)
 
-stops_at : (Due : Status → List ℕ → Type 0) (before now : Seen) (text : List ℕ) (kind most : ℕ) (s : Status)
-    (x : List ℕ) → StopsReading before now kind most s → before.left ≡ Some text → x ≡ []
+stops_at : (Due : Status → List ℕ → Type 0) (before now : Seen) (text : List ℕ) (kind most : ℕ) (s : Status) (x : List ℕ)
+    → StopsReading before now kind most s → before.left ≡ Some text → x ≡ []
     → (most < length text → Due (Limit kind (most + 1)) []) → IsDueOrFree Due s x
 stops_at Due before now text kind most ReadFault x w told none f = none
 stops_at Due before now text kind most NoMemory x w told none f = none
@@ -161,8 +164,8 @@ abbrev StopsLayout : PlainCommand → Seen → Seen → Status → Type 0
 StopsLayout c before now s = (reads_layout c ≡ true) × StopsReading before now 1 16777216 s
 
 -- where a layout stops the reading, its status is due or free
-pub layout_due : (c : PlainCommand) (before now : Seen) (text second : List ℕ) (s t : Status) (x : List ℕ) →
-    StopsLayout c before now s → t ≡ s → x ≡ [] → IsLayoutTold (reads_layout c) before.left text
+pub layout_due : (c : PlainCommand) (before now : Seen) (text second : List ℕ) (s t : Status) (x : List ℕ)
+    → StopsLayout c before now s → t ≡ s → x ≡ [] → IsLayoutTold (reads_layout c) before.left text
     → IsDueOrFree (IsDueFor c text second) t x
 layout_due c before now text second s t x w e none told =
     subst (λ z. IsDueOrFree (IsDueFor c text second) z x) (sym e)
@@ -174,8 +177,8 @@ fault_where true before now e r = r
 fault_where false before now e r = absurd (cc)
 
 -- a failed read of the layout is its fault
-pub layout_fault : (c : PlainCommand) (before now second second_now : Seen) (s t : Status) →
-    StopsLayout c before now s → t ≡ s → t ≡ ReadFault → IsReadFault (Ok c) before now second second_now
+pub layout_fault : (c : PlainCommand) (before now second second_now : Seen) (s t : Status)
+    → StopsLayout c before now s → t ≡ s → t ≡ ReadFault → IsReadFault (Ok c) before now second second_now
 layout_fault c before now second second_now s t w e f =
     inl (fault_where (reads_layout c) before now w.0 (subst (StopsReading before now 1 16777216) (sym e ∙ f) w.1))
 
@@ -185,13 +188,13 @@ pub layout_limit : (c : PlainCommand) (before now : Seen) (s t : Status) (count 
 layout_limit c before now s t count w e f = let p = subst (StopsReading before now 1 16777216) (sym e ∙ f) w.1 in (p.1, p.2)
 
 -- a layout passes no limit of reports
-pub layout_no_limit : (c : PlainCommand) (before now : Seen) (s t : Status) (count : ℕ) (P : Type 0) →
-    StopsLayout c before now s → t ≡ s → t ≡ Limit 9 count → P
+pub layout_no_limit : (c : PlainCommand) (before now : Seen) (s t : Status) (count : ℕ) (P : Type 0)
+    → StopsLayout c before now s → t ≡ s → t ≡ Limit 9 count → P
 layout_no_limit c before now s t count P w e f = let p = subst (StopsReading before now 1 16777216) (sym e ∙ f) w.1 in absurd (omega (arith, p.0))
 
 -- a layout passes no limit of scripts
-pub layout_no_script : (c : PlainCommand) (before now : Seen) (s t : Status) (count : ℕ) (P : Type 0) →
-    StopsLayout c before now s → t ≡ s → t ≡ Limit 10 count → P
+pub layout_no_script : (c : PlainCommand) (before now : Seen) (s t : Status) (count : ℕ) (P : Type 0)
+    → StopsLayout c before now s → t ≡ s → t ≡ Limit 10 count → P
 layout_no_script c before now s t count P w e f = let p = subst (StopsReading before now 1 16777216) (sym e ∙ f) w.1 in absurd (omega (arith, p.0))
 
 -- a shelf that nobody asks stays as it is
@@ -231,10 +234,10 @@ layout_status c before now s t w e = subst (IsStatusOf (Ok c)) (sym e) (reading_
 
 -- ---- the second text was not read whole
 
-second_at : (Due : Status → List ℕ → Type 0) (o : Opened) (before now : Seen) (texts : Option Texts) (second : List ℕ)
-    (s : Status) (x : List ℕ) → StopsSecond o before now texts s
-    → IsSecondTold (Some o) texts second → x ≡ [] → (most_of o.counted < length second →
-    Due (Limit (number_of o.counted) (most_of o.counted + 1)) []) → IsDueOrFree Due s x
+second_at : (Due : Status → List ℕ → Type 0) (o : Opened) (before now : Seen) (texts : Option Texts) (second : List ℕ) (s : Status) (x : List ℕ)
+    → StopsSecond o before now texts s → IsSecondTold (Some o) texts second → x ≡ []
+    → (most_of o.counted < length second → Due (Limit (number_of o.counted) (most_of o.counted + 1)) [])
+    → IsDueOrFree Due s x
 second_at Due o before now texts second ReadFault x w told none f = none
 second_at Due o before now texts second NoMemory x w told none f = none
 second_at Due o before now texts second (Limit k count) x w told none f =
@@ -248,10 +251,10 @@ second_at Due o before now texts second (Rejected reason place found wanted) x w
 second_at Due o before now texts second (Script line k) x w told none f = absurd w
 second_at Due o before now texts second WriteFault x w told none f = absurd w
 
-opening_at : (c : PlainCommand) (o : Option Opened) → opens c ≡ o →
-    (before now : Seen) (texts : Option Texts) (text second : List ℕ) (s : Status) (x : List ℕ) →
-    StopsOpening o before now texts s
-    → IsShort (reads_layout c) text → IsSecondTold o texts second → x ≡ [] → IsDueOrFree (IsDueFor c text second) s x
+opening_at : (c : PlainCommand) (o : Option Opened) → opens c ≡ o
+    → (before now : Seen) (texts : Option Texts) (text second : List ℕ) (s : Status) (x : List ℕ)
+    → StopsOpening o before now texts s → IsShort (reads_layout c) text → IsSecondTold o texts second → x ≡ []
+    → IsDueOrFree (IsDueFor c text second) s x
 opening_at c None is before now texts text second s x w short told none = absurd w
 opening_at c (Some o) is before now texts text second s x w short told none =
     second_at (IsDueFor c text second) o before now texts second s x w told none (λ long. long_second c text second o is short long)
@@ -269,8 +272,8 @@ opening_fault None before now texts w = w
 opening_fault (Some o) before now texts w = w
 
 -- a failed read of the second text is its fault
-pub second_fault : (c : PlainCommand) (layout layout_now before now : Seen) (texts : Option Texts) (s t : Status) →
-    StopsOpening (opens c) before now texts s → t ≡ s → t ≡ ReadFault
+pub second_fault : (c : PlainCommand) (layout layout_now before now : Seen) (texts : Option Texts) (s t : Status)
+    → StopsOpening (opens c) before now texts s → t ≡ s → t ≡ ReadFault
     → IsReadFault (Ok c) layout layout_now before now
 second_fault c layout layout_now before now texts s t w e f =
     inr (opening_fault (opens c) before now texts (subst (StopsOpening (opens c) before now texts) (sym e ∙ f) w))
@@ -288,8 +291,9 @@ counted_is (edit options name) o e = let a : script_named name ≡ o = cc in inr
 abbrev PassesOpened : ℕ → ℕ → Seen → Seen → Type 0
 PassesOpened k n before now = ((k ≡ 9) × PassesBytes 268435457 n before now) ⊎ ((k ≡ 10) × PassesBytes 65537 n before now)
 
-opened_limit : (o : Opened) (before now : Seen) (texts : Option Texts) (k n : ℕ) → (o.counted ≡ ReportBytes) ⊎
-    (o.counted ≡ ScriptBytes) → StopsSecond o before now texts (Limit k n) → PassesOpened k n before now
+opened_limit : (o : Opened) (before now : Seen) (texts : Option Texts) (k n : ℕ)
+    → (o.counted ≡ ReportBytes) ⊎ (o.counted ≡ ScriptBytes) → StopsSecond o before now texts (Limit k n)
+    → PassesOpened k n before now
 opened_limit o before now texts k n (inl r) w =
     let kind : number_of o.counted ≡ 9 = ap number_of r in
     let most : most_of o.counted ≡ 268435456 = ap most_of r in
@@ -299,15 +303,15 @@ opened_limit o before now texts k n (inr r) w =
     let most : most_of o.counted ≡ 65536 = ap most_of r in
     inr (w.0 ∙ kind, subst (λ z. (n ≡ z + 1) × RoseBy (z + 1) before.given now.given) most (w.1, w.2))
 
-opening_limit : (c : PlainCommand) (o : Option Opened) → opens c ≡ o →
-    (before now : Seen) (texts : Option Texts) (k n : ℕ) → StopsOpening o before now texts (Limit k n) →
-    PassesOpened k n before now
+opening_limit : (c : PlainCommand) (o : Option Opened) → opens c ≡ o
+    → (before now : Seen) (texts : Option Texts) (k n : ℕ) → StopsOpening o before now texts (Limit k n)
+    → PassesOpened k n before now
 opening_limit c None is before now texts k n w = absurd w
 opening_limit c (Some o) is before now texts k n w = opened_limit o before now texts k n (counted_is c o is) w
 
 -- the status is that of a text that is opened and was not read whole
-stopped_limit : (c : PlainCommand) (before now : Seen) (texts : Option Texts) (s t : Status) (k count : ℕ) →
-    StopsOpening (opens c) before now texts s → t ≡ s → t ≡ Limit k count → PassesOpened k count before now
+stopped_limit : (c : PlainCommand) (before now : Seen) (texts : Option Texts) (s t : Status) (k count : ℕ)
+    → StopsOpening (opens c) before now texts s → t ≡ s → t ≡ Limit k count → PassesOpened k count before now
 stopped_limit c before now texts s t k count w e f = opening_limit c (opens c) refl before now texts k count
     (subst (StopsOpening (opens c) before now texts) (sym e ∙ f) w)
 
@@ -324,22 +328,24 @@ no_limit_of_bytes count before now (inl p) = omega (arith, p.0)
 no_limit_of_bytes count before now (inr p) = omega (arith, p.0)
 
 -- where limit 9 is passed, one byte more of the report was read than is taken
-pub second_limit : (c : PlainCommand) (before now : Seen) (texts : Option Texts) (s t : Status) (count : ℕ) →
-    StopsOpening (opens c) before now texts s → t ≡ s → t ≡ Limit 9 count → PassesBytes 268435457 count before now
+pub second_limit : (c : PlainCommand) (before now : Seen) (texts : Option Texts) (s t : Status) (count : ℕ)
+    → StopsOpening (opens c) before now texts s → t ≡ s → t ≡ Limit 9 count
+    → PassesBytes 268435457 count before now
 second_limit c before now texts s t count w e f = limit_of_report count before now (stopped_limit c before now texts s t 9 count w e f)
 
 -- where limit 10 is passed, one byte more of the script was read than is taken
-pub second_script : (c : PlainCommand) (before now : Seen) (texts : Option Texts) (s t : Status) (count : ℕ) →
-    StopsOpening (opens c) before now texts s → t ≡ s → t ≡ Limit 10 count → PassesBytes 65537 count before now
+pub second_script : (c : PlainCommand) (before now : Seen) (texts : Option Texts) (s t : Status) (count : ℕ)
+    → StopsOpening (opens c) before now texts s → t ≡ s → t ≡ Limit 10 count
+    → PassesBytes 65537 count before now
 second_script c before now texts s t count w e f = limit_of_script count before now (stopped_limit c before now texts s t 10 count w e f)
 
 -- a second text passes no limit of layouts
-pub second_no_limit : (c : PlainCommand) (before now : Seen) (texts : Option Texts) (s t : Status) (count : ℕ)
-    (P : Type 0) → StopsOpening (opens c) before now texts s → t ≡ s → t ≡ Limit 1 count → P
+pub second_no_limit : (c : PlainCommand) (before now : Seen) (texts : Option Texts) (s t : Status) (count : ℕ) (P : Type 0)
+    → StopsOpening (opens c) before now texts s → t ≡ s → t ≡ Limit 1 count → P
 second_no_limit c before now texts s t count P w e f = absurd (no_limit_of_bytes count before now (stopped_limit c before now texts s t 1 count w e f))
 
-opening_bare : (o : Option Opened) (before now : Seen) (texts : Option Texts) (s : Status) (x : List ℕ) →
-    StopsOpening o before now texts s → x ≡ [] → IsBare s x
+opening_bare : (o : Option Opened) (before now : Seen) (texts : Option Texts) (s : Status) (x : List ℕ)
+    → StopsOpening o before now texts s → x ≡ [] → IsBare s x
 opening_bare None before now texts s x w none = absurd w
 opening_bare (Some o) before now texts ReadFault x w none = none
 opening_bare (Some o) before now texts NoMemory x w none = none
@@ -352,12 +358,13 @@ opening_bare (Some o) before now texts (Script line k) x w none = none
 opening_bare (Some o) before now texts WriteFault x w none = w
 
 -- nothing is written where the second text stops the reading
-pub second_bare : (c : PlainCommand) (before now : Seen) (texts : Option Texts) (s t : Status) (x : List ℕ) →
-    StopsOpening (opens c) before now texts s → t ≡ s → x ≡ [] → IsBare t x
+pub second_bare : (c : PlainCommand) (before now : Seen) (texts : Option Texts) (s t : Status) (x : List ℕ)
+    → StopsOpening (opens c) before now texts s → t ≡ s → x ≡ [] → IsBare t x
 second_bare c before now texts s t x w e none = subst (λ z. IsBare z x) (sym e) (opening_bare (opens c) before now texts s x w none)
 
-opening_status : (c : PlainCommand) (o : Option Opened) → opens c ≡ o →
-    (before now : Seen) (texts : Option Texts) (s : Status) → StopsOpening o before now texts s → IsStatusOf (Ok c) s
+opening_status : (c : PlainCommand) (o : Option Opened) → opens c ≡ o
+    → (before now : Seen) (texts : Option Texts) (s : Status) → StopsOpening o before now texts s
+    → IsStatusOf (Ok c) s
 opening_status c None is before now texts s w = absurd w
 opening_status c (Some o) is before now texts ReadFault w = tt
 opening_status c (Some o) is before now texts NoMemory w = tt
@@ -370,15 +377,15 @@ opening_status c (Some o) is before now texts (Script line k) w = absurd w
 opening_status c (Some o) is before now texts WriteFault w = tt
 
 -- where the second text stops the reading, the status is one of the command
-pub second_status : (c : PlainCommand) (before now : Seen) (texts : Option Texts) (s t : Status) →
-    StopsOpening (opens c) before now texts s → t ≡ s → IsStatusOf (Ok c) t
+pub second_status : (c : PlainCommand) (before now : Seen) (texts : Option Texts) (s t : Status)
+    → StopsOpening (opens c) before now texts s → t ≡ s → IsStatusOf (Ok c) t
 second_status c before now texts s t w e = subst (IsStatusOf (Ok c)) (sym e) (opening_status c (opens c) refl before now texts s w)
 
 -- ---- names that are asked for
 
 -- what is asked for besides is nothing, or this name once
-pub asked_for : (name : List ℕ) (before now : Seen) (others : List (List ℕ)) → now.asked ≡ before.asked ++ others →
-    AsksFor name before now ↔ ((others ≡ []) ⊎ (others ≡ name ∷ []))
+pub asked_for : (name : List ℕ) (before now : Seen) (others : List (List ℕ))
+    → now.asked ≡ before.asked ++ others → AsksFor name before now ↔ ((others ≡ []) ⊎ (others ≡ name ∷ []))
 asked_for name before now others e = (there, back) where
   there : AsksFor name before now → (others ≡ []) ⊎ (others ≡ name ∷ [])
   there (inl a) = inl (append_cancel_left before.asked others [] (sym e ∙ a ∙ sym (append-nil before.asked)))

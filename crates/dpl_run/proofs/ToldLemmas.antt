@@ -21,8 +21,9 @@ IsSound Due = (a : Status) (x : List ℕ) → Due a x → IsFit a x
 abbrev pub IsOnce : (Status → List ℕ → Type 0) → Type 0
 IsOnce Due = (a b : Status) (x y : List ℕ) → Due a x → Due b y → a ≡ b
 
-whole : (Due : Status → List ℕ → Type 0) → IsSound Due → (before now : Option (List ℕ)) (a : Status) (x : List ℕ) →
-    IsDueOrFree Due a x → Appends before now x → Answers Due before now a
+whole : (Due : Status → List ℕ → Type 0) → IsSound Due
+    → (before now : Option (List ℕ)) (a : Status) (x : List ℕ) → IsDueOrFree Due a x → Appends before now x
+    → Answers Due before now a
 whole Due sound before now WriteFault x p t = absurd (sound WriteFault x p)
 whole Due sound before now ReadFault x p t = tt
 whole Due sound before now NoMemory x p t = tt
@@ -54,9 +55,9 @@ told_answers Due sound before now f g a x result p (inr w) =
     { output = x; due = some Due sound a x p w.some; taken = w.taken })
 
 -- what is due comes, where no read failed
-pub comes : (Due : Status → List ℕ → Type 0) → IsOnce Due →
-    (before now : Option (List ℕ)) (due result : Status) (x : List ℕ) → Answers Due before now result → Due due x →
-    result ≢ ReadFault → IsAnswered due result
+pub comes : (Due : Status → List ℕ → Type 0) → IsOnce Due
+    → (before now : Option (List ℕ)) (due result : Status) (x : List ℕ) → Answers Due before now result
+    → Due due x → result ≢ ReadFault → IsAnswered due result
 comes Due once before now due ReadFault x w p n = absurd (n refl)
 comes Due once before now due NoMemory x w p n = inr (inl refl)
 comes Due once before now due WriteFault x w p n = inr (inr (refl, once due Done x w.output p w.due))
@@ -71,10 +72,11 @@ comes Due once before now due (Script line kind) x w p n = inl (once _ due w.out
 
 -- the status of an attempt, with its output told, answers the words and the texts
 pub attempt_answers : (words : List (List ℕ)) (command : Result PlainCommand ℕ) (left : Option (List ℕ))
-    (texts : Option Texts) (before now : Option (List ℕ)) (f g : ℕ) (a : Status) (x : List ℕ) (result : Status)
-    → command_of words ≡ command → ((text report : List ℕ) → AreTold command left texts text report →
-    IsDueOrFree (IsDueOf command text report) a x) → IsTold a x before now f g result
-    → (text report : List ℕ) → AreTold (command_of words) left texts text report → Answers (IsDue words text report) before now result
+    → (texts : Option Texts) (before now : Option (List ℕ)) (f g : ℕ) (a : Status) (x : List ℕ)
+    → (result : Status) → command_of words ≡ command
+    → ((text report : List ℕ) → AreTold command left texts text report → IsDueOrFree (IsDueOf command text report) a x)
+    → IsTold a x before now f g result → (text report : List ℕ)
+    → AreTold (command_of words) left texts text report → Answers (IsDue words text report) before now result
 attempt_answers words command left texts before now f g a x result e due told text report t =
     let due' = due text report (subst (λ z. AreTold z left texts text report) e t) in
     subst (λ z. Answers (IsDueOf z text report) before now result) (sym e)
@@ -85,8 +87,8 @@ appends_none None = tt
 appends_none (Some xs) = sym (append-nil xs)
 
 -- wrong words are answered by their rule
-pub usage_answers : (words : List (List ℕ)) (kind : ℕ) (now : Option (List ℕ)) (text report : List ℕ) →
-    command_of words ≡ Err kind → Answers (IsDue words text report) now now (Usage kind)
+pub usage_answers : (words : List (List ℕ)) (kind : ℕ) (now : Option (List ℕ)) (text report : List ℕ)
+    → command_of words ≡ Err kind → Answers (IsDue words text report) now now (Usage kind)
 usage_answers words kind now text report e =
     subst (λ z. Answers (IsDueOf z text report) now now (Usage kind)) (sym e) (record { output = []; due = (refl, refl); taken = appends_none now })
 
@@ -107,31 +109,32 @@ quiet_of (Layout command what) x before now b a = keeps_none before now (subst (
 quiet_of (Script line kind) x before now b a = keeps_none before now (subst (Appends before now) b a)
 
 -- nothing is written but a whole output or a front of one
-pub told_quiet : (a : Status) (x : List ℕ) (before now : Option (List ℕ)) (f g : ℕ) (result : Status) → IsBare a x →
-    IsTold a x before now f g result → IsQuiet before now result
+pub told_quiet : (a : Status) (x : List ℕ) (before now : Option (List ℕ)) (f g : ℕ) (result : Status)
+    → IsBare a x → IsTold a x before now f g result → IsQuiet before now result
 told_quiet a x before now f g result b (inl w) = subst (IsQuiet before now) (sym w.status_is) (quiet_of a x before now b w.taken)
 told_quiet a x before now f g result b (inr w) = subst (IsQuiet before now) (sym w.fault) tt
 
 -- where a write fails the count of faults rises
-pub told_write : (a : Status) (x : List ℕ) (before now : Option (List ℕ)) (f g : ℕ) (result : Status) → IsBare a x →
-    IsTold a x before now f g result → result ≡ WriteFault → Rose f g
+pub told_write : (a : Status) (x : List ℕ) (before now : Option (List ℕ)) (f g : ℕ) (result : Status)
+    → IsBare a x → IsTold a x before now f g result → result ≡ WriteFault → Rose f g
 told_write a x before now f g result b (inl w) e = absurd (subst (λ z. IsBare z x) (sym w.status_is ∙ e) b)
 told_write a x before now f g result b (inr w) e = w.rose
 
 -- what is due for words and texts comes, where no read failed
 pub all_comes : (words : List (List ℕ)) (left : Option (List ℕ)) (texts : Option Texts) (before now : Option (List ℕ)) (result : Status)
     → ((text report : List ℕ) → AreTold (command_of words) left texts text report → Answers (IsDue words text report) before now result)
-    → (text report : List ℕ) → AreTold (command_of words) left texts text report → (due : Status) (output : List ℕ) →
-    IsDue words text report due output → result ≢ ReadFault → IsAnswered due result
+    → (text report : List ℕ) → AreTold (command_of words) left texts text report
+    → (due : Status) (output : List ℕ) → IsDue words text report due output → result ≢ ReadFault
+    → IsAnswered due result
 all_comes words left texts before now result answer text report t due output d n =
     comes (IsDue words text report) (one_due (command_of words) text report) before now due result output (answer text report t) d n
 
 -- ---- whatever the devices do
 
 -- a status of the command, with its output told, is one of the words
-pub told_status : (words : List (List ℕ)) (c : PlainCommand) (a : Status) (x : List ℕ) (before now : Option (List ℕ))
-    (f g : ℕ) (result : Status) → command_of words ≡ Ok c → IsStatusOf (Ok c) a
-    → IsTold a x before now f g result → IsStatusOf (command_of words) result
+pub told_status : (words : List (List ℕ)) (c : PlainCommand) (a : Status) (x : List ℕ) (before now : Option (List ℕ)) (f g : ℕ) (result : Status)
+    → command_of words ≡ Ok c → IsStatusOf (Ok c) a → IsTold a x before now f g result
+    → IsStatusOf (command_of words) result
 told_status words c a x before now f g result e s (inl w) = subst (λ z. IsStatusOf z result) (sym e) (subst (IsStatusOf (Ok c)) (sym w.status_is) s)
 told_status words c a x before now f g result e s (inr w) = subst (λ z. IsStatusOf z result) (sym e) (subst (IsStatusOf (Ok c)) (sym w.fault) tt)
 
@@ -147,8 +150,8 @@ usage_status words kind e = subst (λ z. IsStatusOf z (Usage kind)) (sym e) (inl
 -- ---- what a sink took that tells it
 
 -- what was cut short is a front of an output that is due where all is done
-pub cut_front : (Due : Status → List ℕ → Type 0) (taken now : List ℕ) → IsCutShort Due (Some taken) (Some now) →
-    (front : List ℕ) × (rest : List ℕ) × Due Done (front ++ rest) × (now ≡ taken ++ front)
+pub cut_front : (Due : Status → List ℕ → Type 0) (taken now : List ℕ) → IsCutShort Due (Some taken) (Some now)
+    → (front : List ℕ) × (rest : List ℕ) × Due Done (front ++ rest) × (now ≡ taken ++ front)
 cut_front Due taken now cut =
     let count = cut.taken.0 in
     let whole = take-append-drop count cut.output in

@@ -46,8 +46,8 @@ either true b h = refl
 either false b h = h
 
 -- what is kept before an edge, and the edge, is in the set of all kept edges with that edge
-in_more : (net : Net) (e x : ℕ) → e < length net.graph.edges → x < length net.graph.edges →
-    is_in (kept_before net e ++ true ∷ []) x ≡ true → with_edge (is_in (kept_edges net)) e x ≡ true
+in_more : (net : Net) (e x : ℕ) → e < length net.graph.edges → x < length net.graph.edges
+    → is_in (kept_before net e ++ true ∷ []) x ≡ true → with_edge (is_in (kept_edges net)) e x ≡ true
 in_more net e x l m t = elim (cases_eq x e) [
   | inl r ↦ rw (eq-eqb x e r) refl
   | inr r ↦
@@ -55,8 +55,8 @@ in_more net e x l m t = elim (cases_eq x e) [
       either (x == e) (is_in (kept_edges net) x) (kept_early net (length net.graph.edges) e x m (kept_inside net e x s) ∙ s)
 ]
 
-raised : (net : Net) (e : ℕ) → e < length net.graph.edges → is_aside net e ≡ true →
-    excess net (is_in (kept_edges net)) < excess net (with_edge (is_in (kept_edges net)) e)
+raised : (net : Net) (e : ℕ) → e < length net.graph.edges → is_aside net e ≡ true
+    → excess net (is_in (kept_edges net)) < excess net (with_edge (is_in (kept_edges net)) e)
 raised net e l t =
     let plane : excess net (is_in (kept_edges net)) ≡ 0 = kept_plane net (length net.graph.edges) (omega arith) in
     let out : not (raises_excess net (kept_before net e)) ≡ false = sym (kept_at net (length net.graph.edges) e l) ∙ not-true (is_in (kept_edges net) e) t in
@@ -71,8 +71,8 @@ back_in net e t = excess_same net (with_edge (is_in (kept_edges net)) e) (is_in 
 ])
 
 -- an edge is set aside exactly where the kept edges have a higher excess with it
-pub aside_raises : (net : Net) (e : ℕ) → e < length net.graph.edges →
-    (is_aside net e ≡ true ↔ excess net (is_in (kept_edges net)) < excess net (with_edge (is_in (kept_edges net)) e))
+pub aside_raises : (net : Net) (e : ℕ) → e < length net.graph.edges
+    → (is_aside net e ≡ true ↔ excess net (is_in (kept_edges net)) < excess net (with_edge (is_in (kept_edges net)) e))
 aside_raises net e l = (
   raised net e l,
   λ h. elim (cases_Bool (is_in (kept_edges net) e)) [

@@ -123,9 +123,9 @@ neither : (g : Signed) (e v : ℕ) → v ≢ (edge_at g e).a → v ≢ (edge_at 
 neither g e v na nb h = elim h [ inl a ↦ na (sym a) | inr b ↦ nb (sym b) ]
 
 -- one edge more between nodes that are not bare leaves as many bare ones
-pub bare_none : (net : Net) (p q : ℕ → Bool) (e : ℕ) → IsOneMore net p q e →
-    is_bare net.graph p (edge_at net.graph e).a ≡ false → is_bare net.graph p (edge_at net.graph e).b ≡ false →
-    bare_count net.graph q ≡ bare_count net.graph p
+pub bare_none : (net : Net) (p q : ℕ → Bool) (e : ℕ) → IsOneMore net p q e
+    → is_bare net.graph p (edge_at net.graph e).a ≡ false
+    → is_bare net.graph p (edge_at net.graph e).b ≡ false → bare_count net.graph q ≡ bare_count net.graph p
 bare_none net p q e k ha hb =
     let g = net.graph in
     count_on_same g.nodes _ _ (λ v h. elim (cases_eq v (edge_at g e).a) [
@@ -137,9 +137,9 @@ bare_none net p q e k ha hb =
     ])
 
 -- one edge more takes one bare node where its first end alone was bare
-pub bare_first : (net : Net) (p q : ℕ → Bool) (e : ℕ) → IsOneMore net p q e →
-    is_bare net.graph p (edge_at net.graph e).a ≡ true → is_bare net.graph p (edge_at net.graph e).b ≡ false →
-    bare_count net.graph p ≡ bare_count net.graph q + 1
+pub bare_first : (net : Net) (p q : ℕ → Bool) (e : ℕ) → IsOneMore net p q e
+    → is_bare net.graph p (edge_at net.graph e).a ≡ true → is_bare net.graph p (edge_at net.graph e).b ≡ false
+    → bare_count net.graph p ≡ bare_count net.graph q + 1
 bare_first net p q e k ha hb =
     let g = net.graph in
     count_more g.nodes (is_bare g q) (is_bare g p) (edge_at g e).a (start_below g e k.inside)
@@ -149,9 +149,9 @@ bare_first net p q e k ha hb =
     ])
 
 -- one edge more takes one bare node where its second end alone was bare
-pub bare_second : (net : Net) (p q : ℕ → Bool) (e : ℕ) → IsOneMore net p q e →
-    is_bare net.graph p (edge_at net.graph e).a ≡ false → is_bare net.graph p (edge_at net.graph e).b ≡ true →
-    bare_count net.graph p ≡ bare_count net.graph q + 1
+pub bare_second : (net : Net) (p q : ℕ → Bool) (e : ℕ) → IsOneMore net p q e
+    → is_bare net.graph p (edge_at net.graph e).a ≡ false → is_bare net.graph p (edge_at net.graph e).b ≡ true
+    → bare_count net.graph p ≡ bare_count net.graph q + 1
 bare_second net p q e k ha hb =
     let g = net.graph in
     count_more g.nodes (is_bare g q) (is_bare g p) (edge_at g e).b (end_below g e k.inside)
@@ -173,9 +173,9 @@ unfolding taken
 taken_other p a v h = cond-false (v == a) false (p v) (ne_eqb v a h)
 
 -- one edge more takes two bare nodes where both its ends were bare
-pub bare_both : (net : Net) (p q : ℕ → Bool) (e : ℕ) → IsOneMore net p q e →
-    is_bare net.graph p (edge_at net.graph e).a ≡ true → is_bare net.graph p (edge_at net.graph e).b ≡ true →
-    bare_count net.graph p ≡ bare_count net.graph q + 2
+pub bare_both : (net : Net) (p q : ℕ → Bool) (e : ℕ) → IsOneMore net p q e
+    → is_bare net.graph p (edge_at net.graph e).a ≡ true → is_bare net.graph p (edge_at net.graph e).b ≡ true
+    → bare_count net.graph p ≡ bare_count net.graph q + 2
 bare_both net p q e k ha hb =
     let g = net.graph in
     let a = (edge_at g e).a in

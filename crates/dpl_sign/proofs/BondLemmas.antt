@@ -10,9 +10,9 @@ abbrev pub FirstBelow : List Edge → ℕ → Type 0
 FirstBelow edges n = (j k : ℕ) (d : Edge) → j < k → k < n → is_bond (get_or edges k d).kind ≡ true → is_bond (get_or edges j d).kind ≡ true
 
 -- the next edge is no bond, or one after another
-pub first_more : (edges : List Edge) (n : ℕ) → FirstBelow edges n → 0 < n →
-    ((d : Edge) → is_bond (get_or edges n d).kind ≡ true → is_bond (get_or edges (n - 1) d).kind ≡ true) →
-    FirstBelow edges (suc n)
+pub first_more : (edges : List Edge) (n : ℕ) → FirstBelow edges n → 0 < n
+    → ((d : Edge) → is_bond (get_or edges n d).kind ≡ true → is_bond (get_or edges (n - 1) d).kind ≡ true)
+    → FirstBelow edges (suc n)
 first_more edges n first h next j k d jk kn bond = elim (cases_eq k n) [
   | inl e ↦
       let before : is_bond (get_or edges (n - 1) d).kind ≡ true = next d (ap (λ i. is_bond (get_or edges i d).kind) (sym e) ∙ bond) in
@@ -24,8 +24,9 @@ first_more edges n first h next j k d jk kn bond = elim (cases_eq k n) [
 ]
 
 -- the test of nodes and edges tells exactly whether they are those of a graph
-pub graph_test : (nodes : ℕ) (edges : List Edge) (inside first : Bool) → (IsTrue inside ↔ EndsBelow nodes edges) → (IsTrue first ↔ BondsFirst edges) →
-    (IsTrue (((nat_lt nodes 2147483648 && nat_lt (length edges) 1073741824) && inside) && first) ↔ IsGraph nodes edges)
+pub graph_test : (nodes : ℕ) (edges : List Edge) (inside first : Bool)
+    → (IsTrue inside ↔ EndsBelow nodes edges) → (IsTrue first ↔ BondsFirst edges)
+    → (IsTrue (((nat_lt nodes 2147483648 && nat_lt (length edges) 1073741824) && inside) && first) ↔ IsGraph nodes edges)
 graph_test nodes edges inside first below bonds = (
   λ t.
       let all = and_parts _ _ t in

@@ -48,9 +48,9 @@ names_are g p (suc k) h =
     ]
 
 -- what the ends of each edge share, the nodes of a component share
-names_label : (g : Signed) (p : ℕ → Bool) (label : ℕ → ℕ) (k : ℕ) →
-    ((j : ℕ) → j < k → p j ≡ true → label (edge_at g j).a ≡ label (edge_at g j).b) → (v : ℕ) →
-    label (names_below g p k v) ≡ label v
+names_label : (g : Signed) (p : ℕ → Bool) (label : ℕ → ℕ) (k : ℕ)
+    → ((j : ℕ) → j < k → p j ≡ true → label (edge_at g j).a ≡ label (edge_at g j).b) → (v : ℕ)
+    → label (names_below g p k v) ≡ label v
 names_label g p label zero h v = refl
 names_label g p label (suc k) h v =
     let rest = names_label g p label k (λ j l t. h j (omega arith) t) in
@@ -99,8 +99,8 @@ names_joined g p (suc k) j h t = elim (cases_eq j k) [
 ]
 
 -- the ends of an edge of the set are of one component
-pub component_joined : (g : Signed) (p : ℕ → Bool) (e : ℕ) → e < length g.edges → p e ≡ true →
-    component_of g p (edge_at g e).a ≡ component_of g p (edge_at g e).b
+pub component_joined : (g : Signed) (p : ℕ → Bool) (e : ℕ) → e < length g.edges → p e ≡ true
+    → component_of g p (edge_at g e).a ≡ component_of g p (edge_at g e).b
 component_joined g p e h t = names_joined g p (length g.edges) e h t
 
 -- components are named by their members
@@ -108,9 +108,9 @@ pub components_are : (g : Signed) (p : ℕ → Bool) → AreNames g.nodes (compo
 components_are g p = names_are g p (length g.edges) (omega arith)
 
 -- a label that agrees at the ends of each edge of the set is the same throughout a component
-pub component_label : (g : Signed) (p : ℕ → Bool) (label : ℕ → ℕ) →
-    ((e : ℕ) → e < length g.edges → p e ≡ true → label (edge_at g e).a ≡ label (edge_at g e).b) → (v : ℕ) →
-    label (component_of g p v) ≡ label v
+pub component_label : (g : Signed) (p : ℕ → Bool) (label : ℕ → ℕ)
+    → ((e : ℕ) → e < length g.edges → p e ≡ true → label (edge_at g e).a ≡ label (edge_at g e).b) → (v : ℕ)
+    → label (component_of g p v) ≡ label v
 component_label g p label h v = names_label g p label (length g.edges) h v
 
 -- ---- one edge more
@@ -119,9 +119,8 @@ with_more : (net : Net) (p q : ℕ → Bool) (e : ℕ) → IsOneMore net p q e �
 with_more net p q e k j h t = elim (cases_eq j e) [ inl r ↦ absurd (both_ways _ k.out (ap p (sym r) ∙ t)) | inr r ↦ sym (k.same j h r) ∙ t ]
 
 -- with one edge more the components are those before, the two of its ends joined
-pub more_alike : (net : Net) (p q : ℕ → Bool) (e : ℕ) → IsOneMore net p q e →
-    AreAlike net.graph.nodes (component_of net.graph q)
-    (join (component_of net.graph p) (edge_at net.graph e).a (edge_at net.graph e).b)
+pub more_alike : (net : Net) (p q : ℕ → Bool) (e : ℕ) → IsOneMore net p q e
+    → AreAlike net.graph.nodes (component_of net.graph q) (join (component_of net.graph p) (edge_at net.graph e).a (edge_at net.graph e).b)
 more_alike net p q e k =
     let g = net.graph in
     let s = component_of g q in
@@ -144,9 +143,9 @@ more_alike net p q e k =
     }
 
 -- one edge more between two components leaves one component less
-pub components_join : (net : Net) (p q : ℕ → Bool) (e : ℕ) → IsOneMore net p q e →
-    component_of net.graph p (edge_at net.graph e).a ≢ component_of net.graph p (edge_at net.graph e).b →
-    component_count net.graph q + 1 ≡ component_count net.graph p
+pub components_join : (net : Net) (p q : ℕ → Bool) (e : ℕ) → IsOneMore net p q e
+    → component_of net.graph p (edge_at net.graph e).a ≢ component_of net.graph p (edge_at net.graph e).b
+    → component_count net.graph q + 1 ≡ component_count net.graph p
 components_join net p q e k ne =
     let g = net.graph in
     omega (
@@ -157,9 +156,9 @@ components_join net p q e k ne =
     )
 
 -- one edge more within a component leaves as many components
-pub components_stay : (net : Net) (p q : ℕ → Bool) (e : ℕ) → IsOneMore net p q e →
-    component_of net.graph p (edge_at net.graph e).a ≡ component_of net.graph p (edge_at net.graph e).b →
-    component_count net.graph q ≡ component_count net.graph p
+pub components_stay : (net : Net) (p q : ℕ → Bool) (e : ℕ) → IsOneMore net p q e
+    → component_of net.graph p (edge_at net.graph e).a ≡ component_of net.graph p (edge_at net.graph e).b
+    → component_count net.graph q ≡ component_count net.graph p
 components_stay net p q e k same =
     let g = net.graph in
     let r = component_of g p in
@@ -173,9 +172,9 @@ components_stay net p q e k same =
 -- ---- bare nodes, and faces
 
 -- a node without an edge is a component of its own
-pub bare_component : (g : Signed) (p : ℕ → Bool) (u w : ℕ) →
-    ((e : ℕ) → e < length g.edges → p e ≡ true → ((edge_at g e).a ≢ u) × ((edge_at g e).b ≢ u)) →
-    component_of g p w ≡ component_of g p u → w ≡ u
+pub bare_component : (g : Signed) (p : ℕ → Bool) (u w : ℕ)
+    → ((e : ℕ) → e < length g.edges → p e ≡ true → ((edge_at g e).a ≢ u) × ((edge_at g e).b ≢ u))
+    → component_of g p w ≡ component_of g p u → w ≡ u
 bare_component g p u w none same =
     let label = component_label g p (mark u) (λ e h t. mark_elsewhere u _ (none e h t).0 ∙ sym (mark_elsewhere u _ (none e h t).1)) in
     elim (cases_eq w u) [
@@ -184,8 +183,8 @@ bare_component g p u w none same =
     ]
 
 -- the two ends of a dart of the set are of one component
-dart_component : (net : Net) (p : ℕ → Bool) (d : ℕ) → InSet net p d →
-    component_of net.graph p (tail_of net.graph (twin_of d)) ≡ component_of net.graph p (tail_of net.graph d)
+dart_component : (net : Net) (p : ℕ → Bool) (d : ℕ) → InSet net p d
+    → component_of net.graph p (tail_of net.graph (twin_of d)) ≡ component_of net.graph p (tail_of net.graph d)
 dart_component net p d h =
     let g = net.graph in
     let e = d / 2 in
@@ -200,9 +199,9 @@ dart_component net p d h =
     ]
 
 -- all nodes of a face are of one component
-pub face_component : (net : Net) (p : ℕ → Bool) (c d : ℕ) → c < dart_count net → d < dart_count net →
-    face_of net p c ≡ face_of net p d → component_of net.graph p (tail_of net.graph c) ≡ component_of net.graph p
-    (tail_of net.graph d)
+pub face_component : (net : Net) (p : ℕ → Bool) (c d : ℕ) → c < dart_count net → d < dart_count net
+    → face_of net p c ≡ face_of net p d
+    → component_of net.graph p (tail_of net.graph c) ≡ component_of net.graph p (tail_of net.graph d)
 face_component net p c d hc hd e =
     let n = dart_count net in
     let f = next_in_face net p in

@@ -45,8 +45,8 @@ put_other p c z h = cond-false (z == c) true (p z) (ne_eqb z c h)
 abbrev face_cycles : Net → (ℕ → Bool) → ℕ
 face_cycles net p = cycles_among (next_in_face net p) (members (λ d. p (d / 2)) (dart_count net))
 
-others_two : (net : Net) (p q : ℕ → Bool) (e : ℕ) → IsOneMore net p q e →
-    others_count (λ d. q (d / 2)) (dart_count net) + 2 ≡ others_count (λ d. p (d / 2)) (dart_count net)
+others_two : (net : Net) (p q : ℕ → Bool) (e : ℕ) → IsOneMore net p q e
+    → others_count (λ d. q (d / 2)) (dart_count net) + 2 ≡ others_count (λ d. p (d / 2)) (dart_count net)
 others_two net p q e k =
     let n = dart_count net in
     let old : ℕ → Bool = λ d. p (d / 2) in
@@ -77,8 +77,8 @@ pub record Effect (net : Net) (p q : ℕ → Bool) (e : ℕ) : Type 0 where
       (component_count net.graph q ≡ component_count net.graph p)
 
 -- the ends are of two components
-apart_effect : (net : Net) (p q : ℕ → Bool) (e : ℕ) → IsOneMore net p q e → (AreEndsJoined net p e → ⊥) →
-    face_count net q + 1 ≡ face_count net p → Effect net p q e
+apart_effect : (net : Net) (p q : ℕ → Bool) (e : ℕ) → IsOneMore net p q e → (AreEndsJoined net p e → ⊥)
+    → face_count net q + 1 ≡ face_count net p → Effect net p q e
 apart_effect net p q e k ne faces = record {
   joins = λ h. (faces, components_join net p q e k ne);
   splits = λ h r. absurd (ne h);
@@ -114,8 +114,8 @@ between_first net p q e k h =
     between net p q e (2 * e) d.dart (news net p q e k).first d.set (d.tail ∙ sym (first_tail net.graph e))
 
 -- where the second end is not bare, the new dart there comes after a dart of the set
-pub between_second : (net : Net) (p q : ℕ → Bool) (e : ℕ) → IsOneMore net p q e →
-    is_bare net.graph p (edge_at net.graph e).b ≡ false → IsBetween net p q (2 * e + 1)
+pub between_second : (net : Net) (p q : ℕ → Bool) (e : ℕ) → IsOneMore net p q e
+    → is_bare net.graph p (edge_at net.graph e).b ≡ false → IsBetween net p q (2 * e + 1)
 between_second net p q e k h =
     let d = has_dart net p _ h in
     between net p q e (2 * e + 1) d.dart (news net p q e k).second d.set (d.tail ∙ sym (second_tail net.graph e))
@@ -140,9 +140,9 @@ face_joined net p q e bc bd h =
     let same = face_component net p (next_around net p (2 * e)) (next_around net p (2 * e + 1)) c.inside d.inside h in
     ap (component_of g p) (sym (c.tail ∙ first_tail g e)) ∙ same ∙ ap (component_of g p) (d.tail ∙ second_tail g e)
 
-both_used : (net : Net) (p q : ℕ → Bool) (e : ℕ) → IsOneMore net p q e →
-    is_bare net.graph p (edge_at net.graph e).a ≡ false → is_bare net.graph p (edge_at net.graph e).b ≡ false →
-    Effect net p q e
+both_used : (net : Net) (p q : ℕ → Bool) (e : ℕ) → IsOneMore net p q e
+    → is_bare net.graph p (edge_at net.graph e).a ≡ false
+    → is_bare net.graph p (edge_at net.graph e).b ≡ false → Effect net p q e
 both_used net p q e k ha hb =
     let n = news net p q e k in
     let bc = between_first net p q e k ha in

@@ -239,22 +239,22 @@ kept_more net kept h = record {
 }
 
 -- the next edge raises the excess where it leads between two faces of one component
-pub raises_from : (net : Net) (kept : List Bool) → length kept < length net.graph.edges →
-    AreEndsJoined net (is_in kept) (length kept) → (LiesInFace net (is_in kept) (length kept) → ⊥) →
-    raises_excess net kept ≡ true
+pub raises_from : (net : Net) (kept : List Bool) → length kept < length net.graph.edges
+    → AreEndsJoined net (is_in kept) (length kept) → (LiesInFace net (is_in kept) (length kept) → ⊥)
+    → raises_excess net kept ≡ true
 raises_from net kept h joined far = lt-ltb _ _ (omega (arith, (excess_effect net _ _ (length kept) (kept_more net kept h)).crosses joined far))
 
 -- an edge that raises the excess has its ends in one component
-pub raises_joined : (net : Net) (kept : List Bool) → length kept < length net.graph.edges →
-    raises_excess net kept ≡ true → AreEndsJoined net (is_in kept) (length kept)
+pub raises_joined : (net : Net) (kept : List Bool) → length kept < length net.graph.edges
+    → raises_excess net kept ≡ true → AreEndsJoined net (is_in kept) (length kept)
 raises_joined net kept h r = elim (same_component net (is_in kept) (length kept)) [
   | inl j ↦ j
   | inr j ↦ absurd (omega (arith, ltb-true _ _ r, (excess_effect net _ _ (length kept) (kept_more net kept h)).joins j))
 ]
 
 -- an edge that raises the excess lies in no face
-pub raises_far : (net : Net) (kept : List Bool) → length kept < length net.graph.edges → raises_excess net kept ≡ true →
-    LiesInFace net (is_in kept) (length kept) → ⊥
+pub raises_far : (net : Net) (kept : List Bool) → length kept < length net.graph.edges
+    → raises_excess net kept ≡ true → LiesInFace net (is_in kept) (length kept) → ⊥
 raises_far net kept h r f =
     let j = raises_joined net kept h r in
     omega (arith, ltb-true _ _ r, (excess_effect net _ _ (length kept) (kept_more net kept h)).splits j f)

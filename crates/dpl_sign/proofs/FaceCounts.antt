@@ -20,24 +20,26 @@ paired_back net p c d = exchange_back (next_in_face net p) (face_back net p) c d
 paired_permutes : (net : Net) (p q : ℕ → Bool) (e c d : ℕ) → AreNew net p q e c d → Permutes (dart_count net) (paired net p c d) (paired_back net p c d)
 paired_permutes net p q e c d n = exchange_permutes (dart_count net) _ _ (face_permutes net p) c d n.first.inside n.second.inside (apart net p q e c d n)
 
-paired_count : (net : Net) (p q : ℕ → Bool) (e c d : ℕ) → AreNew net p q e c d →
-    cycles (paired net p c d) (dart_count net) + 1 ≡ cycles (next_in_face net p) (dart_count net)
+paired_count : (net : Net) (p q : ℕ → Bool) (e c d : ℕ) → AreNew net p q e c d
+    → cycles (paired net p c d) (dart_count net) + 1 ≡ cycles (next_in_face net p) (dart_count net)
 paired_count net p q e c d n =
     let ne = apart net p q e c d n in
     (exchange_law (dart_count net) _ _ (face_permutes net p) c d n.first.inside n.second.inside ne).merges
     (fixed_apart (dart_count net) _ _ (face_permutes net p) d c n.second.inside n.first.inside (fixed net p q e d n.second) ne)
 
 -- both nodes were bare
-pub both_bare : (net : Net) (p q : ℕ → Bool) (e c d : ℕ) → AreNew net p q e c d → NoneAt net p c → NoneAt net p d →
-    cycles (next_in_face net q) (dart_count net) + 1 ≡ cycles (next_in_face net p) (dart_count net)
+pub both_bare : (net : Net) (p q : ℕ → Bool) (e c d : ℕ) → AreNew net p q e c d → NoneAt net p c
+    → NoneAt net p d
+    → cycles (next_in_face net q) (dart_count net) + 1 ≡ cycles (next_in_face net p) (dart_count net)
 both_bare net p q e c d n none_c none_d =
     let same : cycles (next_in_face net q) (dart_count net) ≡ cycles (paired net p c d) (dart_count net) =
     cycles_same (dart_count net) _ _ (lone_is net p q e c d n none_c none_d) in
     omega (arith, same, paired_count net p q e c d n)
 
 -- one node was bare: that of d
-pub one_bare : (net : Net) (p q : ℕ → Bool) (e c d : ℕ) → AreNew net p q e c d → IsBetween net p q c → NoneAt net p d →
-    cycles (next_in_face net q) (dart_count net) + 2 ≡ cycles (next_in_face net p) (dart_count net)
+pub one_bare : (net : Net) (p q : ℕ → Bool) (e c d : ℕ) → AreNew net p q e c d → IsBetween net p q c
+    → NoneAt net p d
+    → cycles (next_in_face net q) (dart_count net) + 2 ≡ cycles (next_in_face net p) (dart_count net)
 one_bare net p q e c d n b none =
     let m = dart_count net in
     let i = into net p c in

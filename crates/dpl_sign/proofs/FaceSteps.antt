@@ -37,9 +37,10 @@ pub not_new : (net : Net) (p q : ℕ → Bool) (e c z : ℕ) → IsNewDart net p
 not_new net p q e c z k h t = both_ways _ k.more.out (ap p (sym k.half ∙ ap (λ x. x / 2) (sym t)) ∙ h.chosen)
 
 -- a dart whose face step does not meet the new edge
-pub next_stays : (net : Net) (p q : ℕ → Bool) (e c d y : ℕ) → AreNew net p q e c d → InSet net p y →
-    (tail_of net.graph y ≡ tail_of net.graph c → next_around net q y ≡ next_around net p y) →
-    (tail_of net.graph y ≡ tail_of net.graph d → next_around net q y ≡ next_around net p y) → next_around net q y ≡ next_around net p y
+pub next_stays : (net : Net) (p q : ℕ → Bool) (e c d y : ℕ) → AreNew net p q e c d → InSet net p y
+    → (tail_of net.graph y ≡ tail_of net.graph c → next_around net q y ≡ next_around net p y)
+    → (tail_of net.graph y ≡ tail_of net.graph d → next_around net q y ≡ next_around net p y)
+    → next_around net q y ≡ next_around net p y
 next_stays net p q e c d y n h at_c at_d = elim (cases_eq (tail_of net.graph y) (tail_of net.graph c)) [
   | inl a ↦ at_c a
   | inr a ↦ elim (cases_eq (tail_of net.graph y) (tail_of net.graph d)) [
@@ -52,8 +53,10 @@ next_stays net p q e c d y n h at_c at_d = elim (cases_eq (tail_of net.graph y) 
 ]
 
 -- a dart whose next one around its far node is as before leads where it led in its face
-pub face_stays : (net : Net) (p q : ℕ → Bool) (e c d z : ℕ) → AreNew net p q e c d → z < dart_count net → z ≢ c → z ≢ d →
-    (InSet net p (twin_of z) → next_around net q (twin_of z) ≡ next_around net p (twin_of z)) → next_in_face net q z ≡ next_in_face net p z
+pub face_stays : (net : Net) (p q : ℕ → Bool) (e c d z : ℕ) → AreNew net p q e c d → z < dart_count net
+    → z ≢ c → z ≢ d
+    → (InSet net p (twin_of z) → next_around net q (twin_of z) ≡ next_around net p (twin_of z))
+    → next_in_face net q z ≡ next_in_face net p z
 face_stays net p q e c d z n hz zc zd stays =
     let other : z / 2 ≢ e = λ t. elim (pair_cases z c (t ∙ sym n.first.half)) [ inl k ↦ zc k | inr k ↦ zd (k ∙ sym n.twin) ] in
     let same : p (z / 2) ≡ q (z / 2) = n.first.more.same (z / 2) (omega arith) other in
@@ -119,16 +122,16 @@ corner net p q e c n b =
     }
 
 -- all but the dart into the corner turn around the node as before
-pub stays_between : (net : Net) (p q : ℕ → Bool) (c z : ℕ) → IsBetween net p q c → z ≢ into net p c →
-    InSet net p (twin_of z) → tail_of net.graph (twin_of z) ≡ tail_of net.graph c →
-    next_around net q (twin_of z) ≡ next_around net p (twin_of z)
+pub stays_between : (net : Net) (p q : ℕ → Bool) (c z : ℕ) → IsBetween net p q c → z ≢ into net p c
+    → InSet net p (twin_of z) → tail_of net.graph (twin_of z) ≡ tail_of net.graph c
+    → next_around net q (twin_of z) ≡ next_around net p (twin_of z)
 stays_between net p q c z b ne h t = b.others (twin_of z) h t (λ k. ne (sym (twin_twin z) ∙ ap twin_of k))
 
 -- ---- the three cases
 
 -- both nodes were bare
-pub lone_is : (net : Net) (p q : ℕ → Bool) (e c d : ℕ) → AreNew net p q e c d → NoneAt net p c → NoneAt net p d →
-    (z : ℕ) → z < dart_count net → next_in_face net q z ≡ paired net p c d z
+pub lone_is : (net : Net) (p q : ℕ → Bool) (e c d : ℕ) → AreNew net p q e c d → NoneAt net p c
+    → NoneAt net p d → (z : ℕ) → z < dart_count net → next_in_face net q z ≡ paired net p c d z
 lone_is net p q e c d n none_c none_d z h = elim (cases_eq z c) [
   | inl a ↦ ap (next_in_face net q) a ∙ new_face net p q e c d n ∙ alone net p q e d n.second none_d ∙
       sym (ap (paired net p c d) a ∙ paired_first net p q e c d n)
@@ -143,8 +146,9 @@ lone_is net p q e c d n none_c none_d z h = elim (cases_eq z c) [
 ]
 
 -- the node of d was bare
-pub hung_is : (net : Net) (p q : ℕ → Bool) (e c d : ℕ) → AreNew net p q e c d → IsBetween net p q c → NoneAt net p d →
-    (z : ℕ) → z < dart_count net → next_in_face net q z ≡ exchange (paired net p c d) (into net p c) d z
+pub hung_is : (net : Net) (p q : ℕ → Bool) (e c d : ℕ) → AreNew net p q e c d → IsBetween net p q c
+    → NoneAt net p d → (z : ℕ) → z < dart_count net
+    → next_in_face net q z ≡ exchange (paired net p c d) (into net p c) d z
 hung_is net p q e c d n b none z h =
     let i = into net p c in
     let k = corner net p q e c n.first b in
@@ -172,8 +176,8 @@ hung_is net p q e c d n b none z h =
     ]
 
 -- the places where a new edge leaves two nodes that have darts
-pub new_at : (net : Net) (p q : ℕ → Bool) (e c d : ℕ) → AreNew net p q e c d → IsBetween net p q c →
-    IsBetween net p q d → IsNew (dart_count net) (paired net p c d) (into net p c) (into net p d) c d
+pub new_at : (net : Net) (p q : ℕ → Bool) (e c d : ℕ) → AreNew net p q e c d → IsBetween net p q c
+    → IsBetween net p q d → IsNew (dart_count net) (paired net p c d) (into net p c) (into net p d) c d
 new_at net p q e c d n bc bd =
     let i = into net p c in
     let j = into net p d in
@@ -198,9 +202,9 @@ new_at net p q e c d n bc bd =
     }
 
 -- both nodes had darts
-pub added_is : (net : Net) (p q : ℕ → Bool) (e c d : ℕ) → AreNew net p q e c d → IsBetween net p q c →
-    IsBetween net p q d → (z : ℕ) → z < dart_count net →
-    next_in_face net q z ≡ added (paired net p c d) (into net p c) (into net p d) c d z
+pub added_is : (net : Net) (p q : ℕ → Bool) (e c d : ℕ) → AreNew net p q e c d → IsBetween net p q c
+    → IsBetween net p q d → (z : ℕ) → z < dart_count net
+    → next_in_face net q z ≡ added (paired net p c d) (into net p c) (into net p d) c d z
 added_is net p q e c d n bc bd z h =
     let m = dart_count net in
     let f = next_in_face net p in

@@ -45,8 +45,9 @@ not_there : (net : Net) (p q : ℕ → Bool) (e c v : ℕ) → IsNewDart net p q
 not_there net p q e c v k h = both_ways _ k.more.out (ap p (sym k.half) ∙ (around_set net p v c h).chosen)
 
 -- the new dart among the darts of its node
-alike : (net : Net) (p q : ℕ → Bool) (e c y : ℕ) → IsNewDart net p q e c → InSet net q y → tail_of net.graph y ≡ tail_of net.graph c →
-    next_around net q y ≡ next (rank_end net (tail_of net.graph c)) (rank_of net (tail_of net.graph c)) y (c ∷ around net p (tail_of net.graph c))
+alike : (net : Net) (p q : ℕ → Bool) (e c y : ℕ) → IsNewDart net p q e c → InSet net q y
+    → tail_of net.graph y ≡ tail_of net.graph c
+    → next_around net q y ≡ next (rank_end net (tail_of net.graph c)) (rank_of net (tail_of net.graph c)) y (c ∷ around net p (tail_of net.graph c))
 alike net p q e c y k h t =
     let u = tail_of net.graph c in
     next_is net q u y h.inside t ∙ next_alike (rank_end net u) (rank_of net u) y (around net q u) (c ∷ around net p u)
@@ -61,9 +62,9 @@ alike net p q e c y k h t =
     ])
 
 -- at the other nodes nothing changes
-pub next_elsewhere : (net : Net) (p q : ℕ → Bool) (e y : ℕ) → IsOneMore net p q e → InSet net p y →
-    ((z : ℕ) → z < dart_count net → z / 2 ≡ e → tail_of net.graph y ≢ tail_of net.graph z) →
-    next_around net q y ≡ next_around net p y
+pub next_elsewhere : (net : Net) (p q : ℕ → Bool) (e y : ℕ) → IsOneMore net p q e → InSet net p y
+    → ((z : ℕ) → z < dart_count net → z / 2 ≡ e → tail_of net.graph y ≢ tail_of net.graph z)
+    → next_around net q y ≡ next_around net p y
 next_elsewhere net p q e y k h far =
     let w = tail_of net.graph y in
     next_is net q w y h.inside refl ∙ next_alike (rank_end net w) (rank_of net w) y (around net q w) (around net p w)
@@ -114,8 +115,8 @@ between net p q e c k n hk tk =
     }
 
 -- where it has none, the new dart is alone
-pub alone : (net : Net) (p q : ℕ → Bool) (e c : ℕ) → IsNewDart net p q e c →
-    ((y : ℕ) → InSet net p y → tail_of net.graph y ≢ tail_of net.graph c) → next_around net q c ≡ c
+pub alone : (net : Net) (p q : ℕ → Bool) (e c : ℕ) → IsNewDart net p q e c
+    → ((y : ℕ) → InSet net p y → tail_of net.graph y ≢ tail_of net.graph c) → next_around net q c ≡ c
 alone net p q e c n none =
     let u = tail_of net.graph c in
     let m = rank_end net u in

@@ -31,8 +31,8 @@ named_out : (q : ℕ → Bool) (s : ℕ → ℕ) (x : ℕ) → q x ≡ false →
 unfolding named
 named_out q s x h = cond-false (q x) (s x) x h
 
-named_twice : (n : ℕ) (q : ℕ → Bool) (s t : ℕ → ℕ) → ((x : ℕ) → x < n → s (t x) ≡ s x) → ((x : ℕ) → x < n → q (t x) ≡ q x) →
-    (x : ℕ) → x < n → named q s (named q t x) ≡ named q s x
+named_twice : (n : ℕ) (q : ℕ → Bool) (s t : ℕ → ℕ) → ((x : ℕ) → x < n → s (t x) ≡ s x)
+    → ((x : ℕ) → x < n → q (t x) ≡ q x) → (x : ℕ) → x < n → named q s (named q t x) ≡ named q s x
 named_twice n q s t twice stays x h = elim (cases_Bool (q x)) [
   | inl a ↦ ap (named q s) (named_in q t x a) ∙ named_in q s (t x) (stays x h ∙ a) ∙ twice x h ∙ sym (named_in q s x a)
   | inr a ↦ ap (named q s) (named_out q t x a)
@@ -76,8 +76,8 @@ heads_count q s (suc n) =
     ]
 
 -- two ways to name classes count those with a property alike
-classes_alike : (n : ℕ) (q : ℕ → Bool) (s t : ℕ → ℕ) → AreAlike n s t → ((x : ℕ) → x < n → q (s x) ≡ q x) →
-    ((x : ℕ) → x < n → q (t x) ≡ q x) → count_on (heads q s) n ≡ count_on (heads q t) n
+classes_alike : (n : ℕ) (q : ℕ → Bool) (s t : ℕ → ℕ) → AreAlike n s t → ((x : ℕ) → x < n → q (s x) ≡ q x)
+    → ((x : ℕ) → x < n → q (t x) ≡ q x) → count_on (heads q s) n ≡ count_on (heads q t) n
 classes_alike n q s t a by_s by_t =
     let alike : AreAlike n (named q s) (named q t) = record {
       first = names_of n q s a.first by_s;
@@ -129,8 +129,8 @@ odd_head net set x l = elim (cases_eq (face_of net set x) x) [
   and_false false c = refl
 
 -- they have as many odd faces
-pub odd_counts : (n m : Net) → AreOpposite n m → (set : ℕ → Bool) →
-    count_on (is_odd_face m set) (dart_count m) ≡ count_on (is_odd_face n set) (dart_count n)
+pub odd_counts : (n m : Net) → AreOpposite n m → (set : ℕ → Bool)
+    → count_on (is_odd_face m set) (dart_count m) ≡ count_on (is_odd_face n set) (dart_count n)
 odd_counts n m o set =
     let k = length n.graph.edges in
     let size = same_darts n m o.graph in

@@ -43,12 +43,12 @@ leaves_in n m g set v d l =
 abbrev turn_of : Net → ℕ → ℕ → ℕ → ℕ
 turn_of net v a b = turn (rank_end net v) (rank_of net v) a b
 
-met_is : (net : Net) (v d c e : ℕ) → IsAt net v d → IsAt net v c → IsAt net v e →
-    is_met_before net d c e ≡ nat_lt (turn_of net v d c) (turn_of net v d e)
+met_is : (net : Net) (v d c e : ℕ) → IsAt net v d → IsAt net v c → IsAt net v e
+    → is_met_before net d c e ≡ nat_lt (turn_of net v d c) (turn_of net v d e)
 met_is net v d c e hd hc he = met_turn net v (rank_end net v) (rank_of net v) (ranked net v) d c e hd hc he
 
-not_met : (net : Net) (v d c e : ℕ) → IsAt net v d → IsAt net v c → IsAt net v e → is_met_before net d c e ≡ false →
-    turn_of net v d e ≤ turn_of net v d c
+not_met : (net : Net) (v d c e : ℕ) → IsAt net v d → IsAt net v c → IsAt net v e
+    → is_met_before net d c e ≡ false → turn_of net v d e ≤ turn_of net v d c
 not_met net v d c e hd hc he h = ltb-false _ _ (sym (met_is net v d c e hd hc he) ∙ h)
 
 -- all others are met before a dart comes round to itself
@@ -124,13 +124,14 @@ opposite_back n m o = record {
 }
 
 -- turning from c one does not meet d first and from d one does not meet c first, where there is a third
-never_both : (m : ℕ) (r : ℕ → ℕ) (d c e : ℕ) → r d < m → r c < m → r e < m → r d ≢ r c → r d ≢ r e → r c ≢ r e →
-    turn m r c d ≤ turn m r c e → turn m r d c ≤ turn m r d e → ⊥
+never_both : (m : ℕ) (r : ℕ → ℕ) (d c e : ℕ) → r d < m → r c < m → r e < m → r d ≢ r c → r d ≢ r e → r c ≢ r e
+    → turn m r c d ≤ turn m r c e → turn m r d c ≤ turn m r d e → ⊥
 never_both m r d c e hd hc he p q s h k = grind (arith, turn_forms m r c d, turn_forms m r c e, turn_forms m r d c, turn_forms m r d e)
 
 -- from d one meets c, then e, then b; so from b one meets c before e
-never_four : (m : ℕ) (r : ℕ → ℕ) (d b c e : ℕ) → r d < m → r b < m → r c < m → r e < m → r d ≢ r b → r d ≢ r c → r d ≢ r e →
-    r b ≢ r c → r b ≢ r e → r c ≢ r e → turn m r d c ≤ turn m r d e → turn m r d e ≤ turn m r d b → turn m r b e ≤ turn m r b c → ⊥
+never_four : (m : ℕ) (r : ℕ → ℕ) (d b c e : ℕ) → r d < m → r b < m → r c < m → r e < m → r d ≢ r b → r d ≢ r c
+    → r d ≢ r e → r b ≢ r c → r b ≢ r e → r c ≢ r e → turn m r d c ≤ turn m r d e
+    → turn m r d e ≤ turn m r d b → turn m r b e ≤ turn m r b c → ⊥
 never_four m r d b c e hd hb hc he p q s t u w h k l =
     grind (arith, turn_forms m r d c, turn_forms m r d e, turn_forms m r d b, turn_forms m r b e, turn_forms m r b c)
 
@@ -169,8 +170,8 @@ next_back n m o set v d ld =
     ]
 
 -- of a dart that is not in the set: the dart before it leads to the one after it
-pub next_over : (n m : Net) → AreOpposite n m → (set : ℕ → Bool) (v d x : ℕ) → IsAt n v d → set (d / 2) ≡ false → Leaves n set v x →
-    next_around n set (next_around m set d) ≡ next_around n set d
+pub next_over : (n m : Net) → AreOpposite n m → (set : ℕ → Bool) (v d x : ℕ) → IsAt n v d
+    → set (d / 2) ≡ false → Leaves n set v x → next_around n set (next_around m set d) ≡ next_around n set d
 next_over n m o set v d x ad out lx =
     let g = o.graph in
     let dm : IsAt m v d = record { inside = let e = same_darts n m g in let i = ad.inside in omega arith; tail = same_tail n m g d ∙ ad.tail } in
@@ -216,8 +217,8 @@ next_over n m o set v d x ad out lx =
 
 -- ---- faces, walked backwards
 
-pub walk_back : (n m : Net) → AreOpposite n m → (set : ℕ → Bool) (d : ℕ) → d < dart_count n → set (d / 2) ≡ true →
-    next_in_face m set (twin_of (next_in_face n set d)) ≡ twin_of d
+pub walk_back : (n m : Net) → AreOpposite n m → (set : ℕ → Bool) (d : ℕ) → d < dart_count n
+    → set (d / 2) ≡ true → next_in_face m set (twin_of (next_in_face n set d)) ≡ twin_of d
 walk_back n m o set d l t =
     let k : InSet n set d = record { inside = l; chosen = t } in
     let x = next_in_face n set d in
@@ -228,8 +229,8 @@ walk_back n m o set d l t =
     next_back n m o set (tail_of n.graph (twin_of d)) (twin_of d) (record { inside = w.inside; chosen = w.chosen; tail = refl })
 
 -- the name of the face of the twin stays along a face
-label_stays : (n m : Net) → AreOpposite n m → (set : ℕ → Bool) (d : ℕ) → d < dart_count n →
-    face_of m set (twin_of (next_in_face n set d)) ≡ face_of m set (twin_of d)
+label_stays : (n m : Net) → AreOpposite n m → (set : ℕ → Bool) (d : ℕ) → d < dart_count n
+    → face_of m set (twin_of (next_in_face n set d)) ≡ face_of m set (twin_of d)
 label_stays n m o set d l = elim (cases_Bool (set (d / 2))) [
   | inl t ↦
       let x = twin_of (next_in_face n set d) in
@@ -242,8 +243,8 @@ label_stays n m o set d l = elim (cases_Bool (set (d / 2))) [
   | inr t ↦ ap (λ z. face_of m set (twin_of z)) (face_out n set d t)
 ]
 
-faces_there : (n m : Net) → AreOpposite n m → (set : ℕ → Bool) (d c : ℕ) → d < dart_count n → c < dart_count n →
-    face_of n set d ≡ face_of n set c → face_of m set (twin_of d) ≡ face_of m set (twin_of c)
+faces_there : (n m : Net) → AreOpposite n m → (set : ℕ → Bool) (d c : ℕ) → d < dart_count n → c < dart_count n
+    → face_of n set d ≡ face_of n set c → face_of m set (twin_of d) ≡ face_of m set (twin_of c)
 faces_there n m o set d c ld lc e =
     let label = λ (z : ℕ). face_of m set (twin_of z) in
     let at = λ (z : ℕ) (l : z < dart_count n). label_least (dart_count n) (next_in_face n set) (face_back n set) (face_permutes n set) label
@@ -251,8 +252,9 @@ faces_there n m o set d c ld lc e =
     sym (at d ld) ∙ ap label e ∙ at c lc
 
 -- two darts are on one face of the one net exactly where their twins are on one face of the other
-pub faces_opposite : (n m : Net) → AreOpposite n m → (set : ℕ → Bool) (d c : ℕ) → d < dart_count n → c < dart_count n →
-    (face_of n set d ≡ face_of n set c ↔ face_of m set (twin_of d) ≡ face_of m set (twin_of c))
+pub faces_opposite : (n m : Net) → AreOpposite n m → (set : ℕ → Bool) (d c : ℕ) → d < dart_count n
+    → c < dart_count n
+    → (face_of n set d ≡ face_of n set c ↔ face_of m set (twin_of d) ≡ face_of m set (twin_of c))
 faces_opposite n m o set d c ld lc = (
   faces_there n m o set d c ld lc,
   λ e.
@@ -265,8 +267,9 @@ faces_opposite n m o set d c ld lc = (
 )
 
 -- the corner at a dart outside of the set, by the dart before it
-corner_opposite : (n m : Net) → AreOpposite n m → (set : ℕ → Bool) (v d x : ℕ) → IsAt n v d → set (d / 2) ≡ false → Leaves n set v x →
-    Leaves n set v (next_around m set d) × (face_of n set (twin_of (next_around m set d)) ≡ corner_face n set d)
+corner_opposite : (n m : Net) → AreOpposite n m → (set : ℕ → Bool) (v d x : ℕ) → IsAt n v d
+    → set (d / 2) ≡ false → Leaves n set v x
+    → Leaves n set v (next_around m set d) × (face_of n set (twin_of (next_around m set d)) ≡ corner_face n set d)
 corner_opposite n m o set v d x ad out lx =
     let g = o.graph in
     let dm : IsAt m v d = record { inside = let e = same_darts n m g in let i = ad.inside in omega arith; tail = same_tail n m g d ∙ ad.tail } in
@@ -320,8 +323,8 @@ grown_alike n m h p q e k s =
           ]
     ]
 
-mixed_alike : (n m : Net) → HaveAlikeFaces n m → (p : ℕ → Bool) (k : ℕ) → k ≤ length n.graph.edges →
-    excess m (mixed no_edges p k) ≡ excess n (mixed no_edges p k)
+mixed_alike : (n m : Net) → HaveAlikeFaces n m → (p : ℕ → Bool) (k : ℕ) → k ≤ length n.graph.edges
+    → excess m (mixed no_edges p k) ≡ excess n (mixed no_edges p k)
 unfolding no_edges
 mixed_alike n m h p zero l =
     let at = λ (net : Net). excess_same net no_edges (mixed no_edges p 0) (λ e i. sym (mixed_above no_edges p 0 e (omega arith))) in
@@ -418,8 +421,8 @@ eq_alike a b c d f g = elim (cases_eq a b) [
 ]
 
 -- the face of the twin is odd exactly where the face is
-pub odd_opposite : (n m : Net) → AreOpposite n m → (set : ℕ → Bool) (d : ℕ) → d < dart_count n →
-    is_odd_face m set (face_of m set (twin_of d)) ≡ is_odd_face n set (face_of n set d)
+pub odd_opposite : (n m : Net) → AreOpposite n m → (set : ℕ → Bool) (d : ℕ) → d < dart_count n
+    → is_odd_face m set (face_of m set (twin_of d)) ≡ is_odd_face n set (face_of n set d)
 odd_opposite n m o set d l =
     let k = length n.graph.edges in
     let size = same_darts n m o.graph in

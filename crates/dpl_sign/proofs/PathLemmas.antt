@@ -60,8 +60,9 @@ way_back g P e h p =
     record { edges = e ∷ []; path = (and_from _ _ (lt-ltb e (length g.edges) h) (or_right _ _ there), cond-false (a == b) b a other); each = (p, tt) }
 
 -- nodes of one component are joined
-pub component_way : (g : Signed) (p : ℕ → Bool) (P : ℕ → Type 0) (k : ℕ) → k ≤ length g.edges →
-    ((e : ℕ) → e < k → p e ≡ true → P e) → (u v : ℕ) → names_below g p k u ≡ names_below g p k v → IsWay g P u v
+pub component_way : (g : Signed) (p : ℕ → Bool) (P : ℕ → Type 0) (k : ℕ) → k ≤ length g.edges
+    → ((e : ℕ) → e < k → p e ≡ true → P e) → (u v : ℕ) → names_below g p k u ≡ names_below g p k v
+    → IsWay g P u v
 component_way g p P zero h all u v e = way_none g P u v e
 component_way g p P (suc k) h all u v e =
     let rest : (x y : ℕ) → names_below g p k x ≡ names_below g p k y → IsWay g P x y =
@@ -106,8 +107,8 @@ step_joins g p e u l t =
           ap (component_of g p) (sym end) ∙ sym one ∙ ap (component_of g p) (sym there)
     ]
 
-path_joins : (g : Signed) (p : ℕ → Bool) (es : List ℕ) (u v : ℕ) → IsPath g u es v →
-    AllByRecursion (λ e. p e ≡ true) es → component_of g p u ≡ component_of g p v
+path_joins : (g : Signed) (p : ℕ → Bool) (es : List ℕ) (u v : ℕ) → IsPath g u es v
+    → AllByRecursion (λ e. p e ≡ true) es → component_of g p u ≡ component_of g p v
 path_joins g p [] u v h all = ap (component_of g p) h
 path_joins g p (e ∷ es) u v h all = step_joins g p e u h.0 all.0 ∙ path_joins g p es (across (edge_at g e) u) v h.1 all.1
 

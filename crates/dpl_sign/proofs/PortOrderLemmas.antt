@@ -70,9 +70,8 @@ fraction_at p (inr side) = record { top = 0; bottom = 1; some = lit< tt }
 fraction_of : Port → Fraction
 fraction_of p = fraction_at p (cases_Bool (is_corner p.side))
 
-slope_at : (p q : Port) (c : (is_corner p.side ≡ true) ⊎ (is_corner p.side ≡ false))
-    (d : (is_corner q.side ≡ true) ⊎ (is_corner q.side ≡ false)) → p.side ≡ q.side →
-    compare (fraction_at p c) (fraction_at q d) ≡ slope_cmp p q
+slope_at : (p q : Port) (c : (is_corner p.side ≡ true) ⊎ (is_corner p.side ≡ false)) (d : (is_corner q.side ≡ true) ⊎ (is_corner q.side ≡ false))
+    → p.side ≡ q.side → compare (fraction_at p c) (fraction_at q d) ≡ slope_cmp p q
 unfolding fraction_at
 slope_at p q (inl c) (inl d) e = refl
 slope_at p q (inl c) (inr d) e = absurd (both_ways _ d (ap is_corner (sym e) ∙ c))

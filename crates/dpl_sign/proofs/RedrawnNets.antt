@@ -29,8 +29,8 @@ same_tail n m g d = ap (λ (h : Signed). tail_of h d) g
 
 -- ---- ports of a net that is drawn once more
 
-by_half : (has : Port → Port → Type 0) (b : Bool) (x y : Port × Port) → has x.0 y.0 → has x.1 y.1 →
-    has (elim b [ true ↦ x.0 | false ↦ x.1 ]) (elim b [ true ↦ y.0 | false ↦ y.1 ])
+by_half : (has : Port → Port → Type 0) (b : Bool) (x y : Port × Port) → has x.0 y.0 → has x.1 y.1
+    → has (elim b [ true ↦ x.0 | false ↦ x.1 ]) (elim b [ true ↦ y.0 | false ↦ y.1 ])
 by_half has true x y h k = h
 by_half has false x y h k = k
 
@@ -128,8 +128,8 @@ abbrev pub AreTurned : ℕ → Net → Net → Type 0
 AreTurned t n m = (d : ℕ) → d < dart_count n → IsTurned t (port_of n d) (port_of m d)
 
 -- darts whose ports are of one block
-block_order : (t : ℕ) (n m : Net) → AreTurned t n m → HasNoTies n → (d c : ℕ) → AreAround n d c → d ≢ c →
-    AreInOneBlock t (port_of n d) (port_of n c) → is_before m d c ≡ is_before n c d
+block_order : (t : ℕ) (n m : Net) → AreTurned t n m → HasNoTies n → (d c : ℕ) → AreAround n d c → d ≢ c
+    → AreInOneBlock t (port_of n d) (port_of n c) → is_before m d c ≡ is_before n c d
 block_order t n m r ties d c h ne b = ap is_lt (turned_order t (port_of n d) (port_of m d) (port_of n c) (port_of m c) (d / 2) (c / 2)
     (r d h.first) (r c h.second) b (ties d c h ne))
 
@@ -140,15 +140,15 @@ pub record AreOrdered (n m : Net) (d c : ℕ) : Type 0 where
   pub here : is_before n d c ≡ true
   pub back : is_before n c d ≡ false
 
-blocks_order : (t : ℕ) (n m : Net) → AreTurned t n m → (d c : ℕ) → d < dart_count n → c < dart_count n → (port_of n d).side < t →
-    t ≤ (port_of n c).side → AreOrdered n m d c
+blocks_order : (t : ℕ) (n m : Net) → AreTurned t n m → (d c : ℕ) → d < dart_count n → c < dart_count n
+    → (port_of n d).side < t → t ≤ (port_of n c).side → AreOrdered n m d c
 blocks_order t n m r d c ld lc h k =
     let o = two_blocks t (port_of n d) (port_of m d) (port_of n c) (port_of m c) (d / 2) (c / 2) (r d ld) (r c lc) h k in
     record { image = ap is_lt o.image; image_back = ap is_lt o.image_back; here = ap is_lt o.here; back = ap is_lt o.back }
 
 -- the order of three darts turns round at a mirror
-three_turned : (t : ℕ) (n m : Net) → AreTurned t n m → HasNoTies n → (d c e : ℕ) → AreThreeAround n d c e →
-    is_met_before m d c e ≡ is_met_before n d e c
+three_turned : (t : ℕ) (n m : Net) → AreTurned t n m → HasNoTies n → (d c e : ℕ) → AreThreeAround n d c e
+    → is_met_before m d c e ≡ is_met_before n d e c
 three_turned t n m r ties d c e h =
     let v = tail_of n.graph d in
     let ld = h.one.first in
@@ -271,8 +271,9 @@ first_at net v d c e h l k =
       | inr t ↦ at_same net v e (first_met net d c e) (sym (cond-false test c e t)) k
     ]
 
-below_alike : (n m : Net) → AreDrawnAlike n m → (set : ℕ → Bool) (v d : ℕ) → IsAt n v d → (k : ℕ) → k ≤ length n.graph.edges →
-    (next_below m set k d ≡ next_below n set k d) × IsAt n v (next_below n set k d)
+below_alike : (n m : Net) → AreDrawnAlike n m → (set : ℕ → Bool) (v d : ℕ) → IsAt n v d → (k : ℕ)
+    → k ≤ length n.graph.edges
+    → (next_below m set k d ≡ next_below n set k d) × IsAt n v (next_below n set k d)
 below_alike n m a set v d h zero l = (refl, h)
 below_alike n m a set v d h (suc k) l =
     let rest = below_alike n m a set v d h k (omega arith) in

@@ -44,8 +44,8 @@ slope_alike p p' q q' a b c d =
     ap (λ z. nat_cmp z (rise q' * run p')) one ∙ ap (λ z. nat_cmp (rise p * run q) z) two
 
 -- ports whose keys are moved side by side stand in the same order
-pub moved_order : (shift : ℕ → ℤ) (p p' q q' : Port) (e f : ℕ) → IsMovedPort shift p p' → IsMovedPort shift q q' →
-    port_cmp p' e q' f ≡ port_cmp p e q f
+pub moved_order : (shift : ℕ → ℤ) (p p' q q' : Port) (e f : ℕ) → IsMovedPort shift p p'
+    → IsMovedPort shift q q' → port_cmp p' e q' f ≡ port_cmp p e q f
 moved_order shift p p' q q' e f a b =
     let slopes : slope_cmp p' q' ≡ slope_cmp p q = slope_alike p p' q q' (rise_moved shift p p' a) (run_moved shift p p' a)
     (rise_moved shift q q' b) (run_moved shift q q' b) in
@@ -99,8 +99,8 @@ slopes_turned t p p' q q' a b =
       turned : (x y : ℕ) → x * y ≡ y * x
       turned x y = omega arith
 
-last_alike : (a b c x y : Ordering) → (a ≡ Equal → b ≡ Equal → c ≡ Equal → ⊥) →
-    ordering_then a (ordering_then b (ordering_then c x)) ≡ ordering_then a (ordering_then b (ordering_then c y))
+last_alike : (a b c x y : Ordering) → (a ≡ Equal → b ≡ Equal → c ≡ Equal → ⊥)
+    → ordering_then a (ordering_then b (ordering_then c x)) ≡ ordering_then a (ordering_then b (ordering_then c y))
 last_alike Less b c x y h = refl
 last_alike Greater b c x y h = refl
 last_alike Equal Less c x y h = refl
@@ -110,8 +110,8 @@ last_alike Equal Equal Greater x y h = refl
 last_alike Equal Equal Equal x y h = absurd (h refl refl refl)
 
 -- ports of one block stand in the opposite order
-pub turned_order : (t : ℕ) (p p' q q' : Port) (e f : ℕ) → IsTurned t p p' → IsTurned t q q' → AreInOneBlock t p q →
-    (AreAtOnePlace p q → ⊥) → port_cmp p' e q' f ≡ port_cmp q f p e
+pub turned_order : (t : ℕ) (p p' q q' : Port) (e f : ℕ) → IsTurned t p p' → IsTurned t q q'
+    → AreInOneBlock t p q → (AreAtOnePlace p q → ⊥) → port_cmp p' e q' f ≡ port_cmp q f p e
 turned_order t p p' q q' e f a b block apart =
     let sides = sides_turned t p p' q q' a b block in
     let keys : int_cmp p'.key q'.key ≡ int_cmp q.key p.key = negated_keys p.key q.key p'.key q'.key a.key b.key in
@@ -143,8 +143,8 @@ pub record AreOfTwoBlocks (p p' q q' : Port) (e f : ℕ) : Type 0 where
   pub here : port_cmp p e q f ≡ Less
   pub back : port_cmp q f p e ≡ Greater
 
-pub two_blocks : (t : ℕ) (p p' q q' : Port) (e f : ℕ) → IsTurned t p p' → IsTurned t q q' → p.side < t → t ≤ q.side →
-    AreOfTwoBlocks p p' q q' e f
+pub two_blocks : (t : ℕ) (p p' q q' : Port) (e f : ℕ) → IsTurned t p p' → IsTurned t q q' → p.side < t
+    → t ≤ q.side → AreOfTwoBlocks p p' q q' e f
 two_blocks t p p' q q' e f a b h k =
     let x = image_low t p.side p'.side a.few p.eight a.side h in
     let y = image_high t q.side q'.side b.few q.eight b.side k in

@@ -46,8 +46,8 @@ on_circle net set v =
     }
 
 -- with one more dart of the node
-pub on_circle_more : (net : Net) (set : ℕ → Bool) (v c : ℕ) → c < dart_count net → tail_of net.graph c ≡ v →
-    OnCircle (rank_end net v) (rank_of net v) (c ∷ around net set v)
+pub on_circle_more : (net : Net) (set : ℕ → Bool) (v c : ℕ) → c < dart_count net → tail_of net.graph c ≡ v
+    → OnCircle (rank_end net v) (rank_of net v) (c ∷ around net set v)
 on_circle_more net set v c hc tc =
     let r = ranked net v in
     let inside : (k : ℕ) → Mem k (c ∷ around net set v) → (k < dart_count net) × (tail_of net.graph k ≡ v) = λ k h. elim h [
@@ -60,8 +60,8 @@ on_circle_more net set v c hc tc =
     }
 
 -- the next dart around a node is the next one on its circle
-pub next_is : (net : Net) (set : ℕ → Bool) (v d : ℕ) → d < dart_count net → tail_of net.graph d ≡ v →
-    next_around net set d ≡ next (rank_end net v) (rank_of net v) d (around net set v)
+pub next_is : (net : Net) (set : ℕ → Bool) (v d : ℕ) → d < dart_count net → tail_of net.graph d ≡ v
+    → next_around net set d ≡ next (rank_end net v) (rank_of net v) d (around net set v)
 next_is net set v d h t = (next_near net set v (rank_end net v) (rank_of net v) (ranked net v) d
     (record { inside = h; tail = t }) (length net.graph.edges) (omega arith)).0
 
@@ -83,8 +83,8 @@ pub prev_around : Net → (ℕ → Bool) → ℕ → ℕ
 prev_around net set d = let v = tail_of net.graph d in before (rank_end net v) (rank_of net v) d (around net set v)
 
 -- the dart before around a node is the one before on its circle
-pub prev_is : (net : Net) (set : ℕ → Bool) (v d : ℕ) → tail_of net.graph d ≡ v →
-    prev_around net set d ≡ before (rank_end net v) (rank_of net v) d (around net set v)
+pub prev_is : (net : Net) (set : ℕ → Bool) (v d : ℕ) → tail_of net.graph d ≡ v
+    → prev_around net set d ≡ before (rank_end net v) (rank_of net v) d (around net set v)
 unfolding prev_around
 prev_is net set v d t = ap (λ w. before (rank_end net w) (rank_of net w) d (around net set w)) t
 

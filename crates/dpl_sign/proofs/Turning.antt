@@ -95,8 +95,8 @@ pub record IsAt (net : Net) (v d : ℕ) : Type 0 where
   pub tail : tail_of net.graph d ≡ v
 
 -- a dart is met before another exactly where the turn to it is less
-pub met_turn : (net : Net) (v m : ℕ) (r : ℕ → ℕ) → IsRanked net v m r → (d c e : ℕ) → IsAt net v d → IsAt net v c →
-    IsAt net v e → is_met_before net d c e ≡ nat_lt (turn m r d c) (turn m r d e)
+pub met_turn : (net : Net) (v m : ℕ) (r : ℕ → ℕ) → IsRanked net v m r → (d c e : ℕ) → IsAt net v d
+    → IsAt net v c → IsAt net v e → is_met_before net d c e ≡ nat_lt (turn m r d c) (turn m r d e)
 met_turn net v m r k d c e hd hc he =
     let dc = k.order d c hd.inside hc.inside hd.tail hc.tail in
     let ce = k.order c e hc.inside he.inside hc.tail he.tail in
@@ -120,9 +120,10 @@ is_near net set v d = set (d / 2) && (tail_of net.graph d == v)
 at_same : (net : Net) (v d c : ℕ) → c ≡ d → IsAt net v c → IsAt net v d
 at_same net v d c e h = let P : ℕ → Type 0 = λ x. IsAt net v x in subst P e h
 
-first_near : (net : Net) (set : ℕ → Bool) (v m : ℕ) (r : ℕ → ℕ) → IsRanked net v m r → (d c n : ℕ) → IsAt net v d →
-    IsAt net v n → c < dart_count net → set (c / 2) ≡ true → n ≡ next m r d (members (is_near net set v) c) →
-    (first_met net d c n ≡ next m r d (members (is_near net set v) (suc c))) × IsAt net v (first_met net d c n)
+first_near : (net : Net) (set : ℕ → Bool) (v m : ℕ) (r : ℕ → ℕ) → IsRanked net v m r → (d c n : ℕ)
+    → IsAt net v d → IsAt net v n → c < dart_count net → set (c / 2) ≡ true
+    → n ≡ next m r d (members (is_near net set v) c)
+    → (first_met net d c n ≡ next m r d (members (is_near net set v) (suc c))) × IsAt net v (first_met net d c n)
 first_near net set v m r k d c n hd hn lc sc e = elim (cases_eq (tail_of net.graph c) v) [
   | inl t ↦
       let hc : IsAt net v c = record { inside = lc; tail = t } in
@@ -161,8 +162,9 @@ near_out : (net : Net) (set : ℕ → Bool) (v d : ℕ) → set (d / 2) ≡ fals
 near_out net set v d h = rw h refl
 
 -- the program of the definition finds what is met first among the darts of the set
-pub next_near : (net : Net) (set : ℕ → Bool) (v m : ℕ) (r : ℕ → ℕ) → IsRanked net v m r → (d : ℕ) → IsAt net v d → (k : ℕ) → k ≤ length net.graph.edges →
-    (next_below net set k d ≡ next m r d (members (is_near net set v) (2 * k))) × IsAt net v (next_below net set k d)
+pub next_near : (net : Net) (set : ℕ → Bool) (v m : ℕ) (r : ℕ → ℕ) → IsRanked net v m r → (d : ℕ)
+    → IsAt net v d → (k : ℕ) → k ≤ length net.graph.edges
+    → (next_below net set k d ≡ next m r d (members (is_near net set v) (2 * k))) × IsAt net v (next_below net set k d)
 next_near net set v m r q d hd zero h = (refl, hd)
 next_near net set v m r q d hd (suc k) h =
     let rest = next_near net set v m r q d hd k (omega arith) in

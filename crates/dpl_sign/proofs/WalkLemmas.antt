@@ -68,8 +68,8 @@ leaves_ends g e v h =
 abbrev pub breaks_at : Signed → List Bool → ℕ → Bool
 breaks_at g colours e = breaks colours (edge_at g e)
 
-step_parity : (g : Signed) (colours : List Bool) → IsColouring g colours → (e v : ℕ) → leaves g e v ≡ true →
-    (bit (colour_of colours v) + bit (colour_of colours (across (edge_at g e) v)) + bit (breaks_at g colours e) + bit (is_clash (edge_at g e).kind)) % 2 ≡ 0
+step_parity : (g : Signed) (colours : List Bool) → IsColouring g colours → (e v : ℕ) → leaves g e v ≡ true
+    → (bit (colour_of colours v) + bit (colour_of colours (across (edge_at g e) v)) + bit (breaks_at g colours e) + bit (is_clash (edge_at g e).kind)) % 2 ≡ 0
 step_parity g colours k e v h =
     let l = leaves_ends g e v h in
     let edge = edge_at g e in
@@ -84,8 +84,9 @@ step_parity g colours k e v h =
     ]
 
 -- the colours at the ends of a path, its broken edges and its clashes make an even number
-pub path_parity : (g : Signed) (colours : List Bool) → IsColouring g colours → (v : ℕ) (es : List ℕ) (w : ℕ) → IsPath g v es w →
-    (bit (colour_of colours v) + bit (colour_of colours w) + count_by (breaks_at g colours) es + clashes g es) % 2 ≡ 0
+pub path_parity : (g : Signed) (colours : List Bool) → IsColouring g colours → (v : ℕ) (es : List ℕ) (w : ℕ)
+    → IsPath g v es w
+    → (bit (colour_of colours v) + bit (colour_of colours w) + count_by (breaks_at g colours) es + clashes g es) % 2 ≡ 0
 path_parity g colours k v [] w h = omega (arith, ap (λ z. bit (colour_of colours z)) h)
 path_parity g colours k v (e ∷ es) w h =
     let rest = path_parity g colours k (across (edge_at g e) v) es w h.1 in
@@ -113,15 +114,16 @@ passages_inside g (c ∷ cs) h =
     (All-map (λ p. p.0 < length g.edges) (λ e. (e, c.half)) c.walk.edges (path_inside g c.walk.start c.walk.edges c.walk.start one.closed.1))
     (passages_inside g cs (All-tail (λ x. IsOddWalk g x.walk) c cs h))
 
-each_odd : (g : Signed) (v : ℕ → Bool) → ((c : Cycle) → IsOddWalk g c.walk → 1 ≤ count_by v c.walk.edges) →
-    (cs : List Cycle) → All (λ c. IsOddWalk g c.walk) cs → All (λ c. 1 ≤ count_by v c.walk.edges) cs
+each_odd : (g : Signed) (v : ℕ → Bool) → ((c : Cycle) → IsOddWalk g c.walk → 1 ≤ count_by v c.walk.edges)
+    → (cs : List Cycle) → All (λ c. IsOddWalk g c.walk) cs → All (λ c. 1 ≤ count_by v c.walk.edges) cs
 each_odd g v one cs h = All-weaker (λ c. IsOddWalk g c.walk) (λ c. 1 ≤ count_by v c.walk.edges) one cs h
 
 -- where each odd walk passes one of some edges that are no bonds, the bound is at most twice their weight
-pub bound_by_edges : (g : Signed) (v : ℕ → Bool) → ((c : Cycle) → IsOddWalk g c.walk → 1 ≤ count_by v c.walk.edges) →
-    ((e : ℕ) → v e ≡ true → is_bond (edge_at g e).kind ≡ false) →
-    (cs : List Cycle) → All (λ c. IsOddWalk g c.walk) cs → OverloadsNoEdge g (passages cs) →
-    bound_of cs ≤ 2 * sum_to (λ e. cond (v e) (edge_at g e).weight 0) (length g.edges)
+pub bound_by_edges : (g : Signed) (v : ℕ → Bool)
+    → ((c : Cycle) → IsOddWalk g c.walk → 1 ≤ count_by v c.walk.edges)
+    → ((e : ℕ) → v e ≡ true → is_bond (edge_at g e).kind ≡ false) → (cs : List Cycle)
+    → All (λ c. IsOddWalk g c.walk) cs → OverloadsNoEdge g (passages cs)
+    → bound_of cs ≤ 2 * sum_to (λ e. cond (v e) (edge_at g e).weight 0) (length g.edges)
 bound_by_edges g v one firm cs odd within =
     let n = length g.edges in
     let passing = bound_passed v cs (each_odd g v one cs odd) in

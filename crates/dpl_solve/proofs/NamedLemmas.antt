@@ -178,8 +178,8 @@ one_part net d k a b ha hb =
 -- ---- the odd faces of a part
 
 -- the number of an odd face is among those of its part
-number_in : (net : Net) (d : Dual) → IsDual net.graph (view_of net) d → (f : ℕ) →
-    is_odd_named net (keeps net) f ≡ true → is_member nat_eq d.odd (number net f) ≡ true
+number_in : (net : Net) (d : Dual) → IsDual net.graph (view_of net) d → (f : ℕ)
+    → is_odd_named net (keeps net) f ≡ true → is_member nat_eq d.odd (number net f) ≡ true
 unfolding number
 number_in net d k f h =
     let r = dart_of_name net f h in
@@ -196,9 +196,9 @@ number_apart net f g hf hg e =
     let rg = dart_of_name net g hg in
     sym rf.1 ∙ (same_face net (named_dart net f) (named_dart net g) rf.0 rg.0).0 e ∙ rg.1
 
-number_part : (net : Net) (d : Dual) → IsDual net.graph (view_of net) d → (f g : ℕ) →
-    is_odd_named net (keeps net) f ≡ true → is_odd_named net (keeps net) g ≡ true → AreOfOnePart net (keeps net) f g →
-    slice_index d.part (number net f) ≡ slice_index d.part (number net g)
+number_part : (net : Net) (d : Dual) → IsDual net.graph (view_of net) d → (f g : ℕ)
+    → is_odd_named net (keeps net) f ≡ true → is_odd_named net (keeps net) g ≡ true
+    → AreOfOnePart net (keeps net) f g → slice_index d.part (number net f) ≡ slice_index d.part (number net g)
 unfolding number
 number_part net d k f g hf hg p =
     let rf = dart_of_name net f hf in
@@ -208,8 +208,8 @@ number_part net d k f g hf hg p =
     (subst (λ x. P x (face_of net (keeps net) (named_dart net g))) (sym rf.1) (subst (P f) (sym rg.1) p))
 
 -- odd faces of one part are no more than those of some part by number
-pub together_most : (net : Net) (d : Dual) → IsDual net.graph (view_of net) d → (n : ℕ) →
-    ((q : ℕ) → length (odd_of d q) ≤ n) → (faces : List ℕ) → AreOddTogether net faces → length faces ≤ n
+pub together_most : (net : Net) (d : Dual) → IsDual net.graph (view_of net) d → (n : ℕ)
+    → ((q : ℕ) → length (odd_of d q) ≤ n) → (faces : List ℕ) → AreOddTogether net faces → length faces ≤ n
 together_most net d k n most [] t = omega arith
 together_most net d k n most (f ∷ fs) t =
     let faces = f ∷ fs in
@@ -242,17 +242,17 @@ name_odd net x h =
     let r = dart_of_number net x h in
     sym (odd_face net (numbered_dart net x) r.0) ∙ ap (is_odd_face net.graph (view_of net)) r.1 ∙ h
 
-name_apart : (net : Net) (x y : ℕ) → is_odd_face net.graph (view_of net) x ≡ true →
-    is_odd_face net.graph (view_of net) y ≡ true → name net x ≡ name net y → x ≡ y
+name_apart : (net : Net) (x y : ℕ) → is_odd_face net.graph (view_of net) x ≡ true
+    → is_odd_face net.graph (view_of net) y ≡ true → name net x ≡ name net y → x ≡ y
 unfolding name
 name_apart net x y hx hy e =
     let rx = dart_of_number net x hx in
     let ry = dart_of_number net y hy in
     sym rx.1 ∙ (same_face net (numbered_dart net x) (numbered_dart net y) rx.0 ry.0).1 e ∙ ry.1
 
-name_part : (net : Net) (d : Dual) → IsDual net.graph (view_of net) d → (x y : ℕ) →
-    is_odd_face net.graph (view_of net) x ≡ true → is_odd_face net.graph (view_of net) y ≡ true →
-    slice_index d.part x ≡ slice_index d.part y → AreOfOnePart net (keeps net) (name net x) (name net y)
+name_part : (net : Net) (d : Dual) → IsDual net.graph (view_of net) d → (x y : ℕ)
+    → is_odd_face net.graph (view_of net) x ≡ true → is_odd_face net.graph (view_of net) y ≡ true
+    → slice_index d.part x ≡ slice_index d.part y → AreOfOnePart net (keeps net) (name net x) (name net y)
 unfolding name
 name_part net d k x y hx hy e =
     let rx = dart_of_number net x hx in

@@ -35,8 +35,8 @@ ends_long edges twins fine (suc k) = elim (cases_Bool (is_none (at twins k))) [
   | inr t ↦ rw t (ends_long edges twins fine k)
 ]
 
-pub partners_long : (edges : List Edge) (twins partners : List (Option ℕ)) (fine : List Bool) (k : ℕ) →
-    length (without_partners edges twins partners fine k) ≡ length fine
+pub partners_long : (edges : List Edge) (twins partners : List (Option ℕ)) (fine : List Bool) (k : ℕ)
+    → length (without_partners edges twins partners fine k) ≡ length fine
 partners_long edges twins partners fine zero = refl
 partners_long edges twins partners fine (suc k) = elim (cases_Bool (is_none (at twins k))) [
   | inl t ↦

@@ -72,9 +72,10 @@ ends_keep edges twins fine (suc k) v t = by_test (ends_keep edges twins fine k v
         ],
       )
 
-pub ends_stay : (edges : List Edge) (twins : List (Option ℕ)) (fine : List Bool) (k v : ℕ) → slice_index_or fine v false ≡ true
-    → ((e : ℕ) → e < k → is_none (at twins e) ≡ true → ((edge_in edges e).a ≢ v) × ((edge_in edges e).b ≢ v)) →
-    slice_index_or (without_ends edges twins fine k) v false ≡ true
+pub ends_stay : (edges : List Edge) (twins : List (Option ℕ)) (fine : List Bool) (k v : ℕ)
+    → slice_index_or fine v false ≡ true
+    → ((e : ℕ) → e < k → is_none (at twins e) ≡ true → ((edge_in edges e).a ≢ v) × ((edge_in edges e).b ≢ v))
+    → slice_index_or (without_ends edges twins fine k) v false ≡ true
 ends_stay edges twins fine zero v t h = t
 ends_stay edges twins fine (suc k) v t h = by_test (ends_stay edges twins fine k v t (λ e l. h e (omega (arith, l)))) (is_none (at twins k)) refl where
   by_test : slice_index_or (without_ends edges twins fine k) v false ≡ true → (b : Bool) → is_none (at twins k) ≡ b
@@ -123,10 +124,10 @@ partners_keep edges twins partners fine (suc k) v t = by_test (partners_keep edg
         ],
       )
 
-pub partners_stay : (edges : List Edge) (twins partners : List (Option ℕ)) (fine : List Bool) (k v : ℕ) → slice_index_or fine v false ≡ true
-    → ((e : ℕ) → e < k → is_none (at twins e) ≡ true → (at partners (edge_in edges e).a ≢ Some v) ×
-    (at partners (edge_in edges e).b ≢ Some v)) → slice_index_or (without_partners edges twins partners fine k) v
-    false ≡ true
+pub partners_stay : (edges : List Edge) (twins partners : List (Option ℕ)) (fine : List Bool) (k v : ℕ)
+    → slice_index_or fine v false ≡ true
+    → ((e : ℕ) → e < k → is_none (at twins e) ≡ true → (at partners (edge_in edges e).a ≢ Some v) × (at partners (edge_in edges e).b ≢ Some v))
+    → slice_index_or (without_partners edges twins partners fine k) v false ≡ true
 partners_stay edges twins partners fine zero v t h = t
 partners_stay edges twins partners fine (suc k) v t h =
     by_test (partners_stay edges twins partners fine k v t (λ e l. h e (omega (arith, l)))) (is_none (at twins k)) refl
@@ -163,9 +164,10 @@ spoiled_keep fine number whole (suc k) c t v l of = by_test (spoiled_keep fine n
         | inr other ↦ earlier w v (omega (arith, l, other)) of
       ]
 
-pub spoiled_stay : (fine : List Bool) (number : List ℕ) (whole : List Bool) (k c : ℕ) → slice_index_or whole c false ≡ true
-    → ((v : ℕ) → v < k → slice_index_or number v 0 ≡ c → slice_index_or fine v false ≡ true) →
-    slice_index_or (without_spoiled fine number whole k) c false ≡ true
+pub spoiled_stay : (fine : List Bool) (number : List ℕ) (whole : List Bool) (k c : ℕ)
+    → slice_index_or whole c false ≡ true
+    → ((v : ℕ) → v < k → slice_index_or number v 0 ≡ c → slice_index_or fine v false ≡ true)
+    → slice_index_or (without_spoiled fine number whole k) c false ≡ true
 spoiled_stay fine number whole zero c t h = t
 spoiled_stay fine number whole (suc k) c t h = by_test
     (spoiled_stay fine number whole k c t (λ v l. h v (omega (arith, l)))) (slice_index_or fine k false) refl where

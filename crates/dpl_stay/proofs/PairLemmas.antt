@@ -25,8 +25,8 @@ one_edge edges up d f l m e = elim (cases_lt d f) [
 ]
 
 -- what is alike has the key that is looked for
-pub alike_key : (partners : List (Option ℕ)) (m : Net) (e : Edge) (p : Port × Port) (d a b : ℕ) →
-    IsAlikeBy partners m e p d → at partners e.a ≡ Some a → at partners e.b ≡ Some b
+pub alike_key : (partners : List (Option ℕ)) (m : Net) (e : Edge) (p : Port × Port) (d a b : ℕ)
+    → IsAlikeBy partners m e p d → at partners e.a ≡ Some a → at partners e.b ≡ Some b
     → key_of (edge_at m.graph d) ≡ record { rank = rank_of e.kind; a = a; b = b }
 alike_key partners m e p d a b h ea eb =
     let x : (edge_at m.graph d).a ≡ a = same_Some _ _ (sym h.first ∙ ea) in

@@ -16,14 +16,14 @@ pub laid_long : (place : ℕ → ℕ) (own : ℕ → Bool) (colours : List Bool)
 laid_long place own colours zero = refl
 laid_long place own colours (suc n) = length-set (laid place own colours n) (place n) (own n) ∙ laid_long place own colours n
 
-laid_other : (place : ℕ → ℕ) (own : ℕ → Bool) (colours : List Bool) (n w : ℕ) → ((v : ℕ) → v < n → place v ≢ w) →
-    colour_of (laid place own colours n) w ≡ colour_of colours w
+laid_other : (place : ℕ → ℕ) (own : ℕ → Bool) (colours : List Bool) (n w : ℕ)
+    → ((v : ℕ) → v < n → place v ≢ w) → colour_of (laid place own colours n) w ≡ colour_of colours w
 laid_other place own colours zero w none = refl
 laid_other place own colours (suc n) w none = get_or-set_other (laid place own colours n) (place n) w (own n) false
     (λ e. none n (omega arith) (sym e)) ∙ laid_other place own colours n w (λ v l. none v (omega arith))
 
-laid_at : (place : ℕ → ℕ) (own : ℕ → Bool) (colours : List Bool) (n : ℕ) →
-    ((v : ℕ) → v < n → place v < length colours) → ((u v : ℕ) → u < n → v < n → place u ≡ place v → u ≡ v)
+laid_at : (place : ℕ → ℕ) (own : ℕ → Bool) (colours : List Bool) (n : ℕ)
+    → ((v : ℕ) → v < n → place v < length colours) → ((u v : ℕ) → u < n → v < n → place u ≡ place v → u ≡ v)
     → (v : ℕ) → v < n → colour_of (laid place own colours n) (place v) ≡ own v
 laid_at place own colours zero inside one v l = absurd (omega arith)
 laid_at place own colours (suc n) inside one v l = elim (cases_eq v n) [
@@ -41,9 +41,9 @@ pub with_part_long : (p : Part) (colours : List Bool) → length (with_part p co
 with_part_long p colours = laid_long p.node (colour_of p.colours) colours p.net.graph.nodes
 
 -- one part more
-pub agree_more : (whole : Net) (parts : List Part) → ShareOut whole parts → (colours new : List Bool) (n : ℕ) →
-    length colours ≡ whole.graph.nodes → n < length parts → AgreeBelow colours parts n
-    → (p : Part) → p ≡ slice_index_or parts n p → new ≡ with_part p colours → AgreeBelow new parts (n + 1)
+pub agree_more : (whole : Net) (parts : List Part) → ShareOut whole parts → (colours new : List Bool) (n : ℕ)
+    → length colours ≡ whole.graph.nodes → n < length parts → AgreeBelow colours parts n → (p : Part)
+    → p ≡ slice_index_or parts n p → new ≡ with_part p colours → AgreeBelow new parts (n + 1)
 agree_more whole parts h colours new n size inside before p is new_is k d l v m =
     let q = slice_index_or parts k d in
     let at : p ≡ slice_index_or parts n d = is ∙ get_or_default parts n p d inside in
@@ -71,13 +71,13 @@ agree_all parts colours n far h k d l = h k d (omega (arith, l, far))
 
 -- ---- the list of the parts
 
-pub solved_at : (parts : List SolvedPart) (i : ℕ) (s : SolvedPart) → i < length parts → s ≡ slice_index_or parts i s →
-    solved_part s ≡ slice_index_or (map solved_part parts) i (solved_part s)
+pub solved_at : (parts : List SolvedPart) (i : ℕ) (s : SolvedPart) → i < length parts
+    → s ≡ slice_index_or parts i s → solved_part s ≡ slice_index_or (map solved_part parts) i (solved_part s)
 solved_at parts i s l e = ap solved_part e ∙ sym (get_or-map solved_part parts i s (solved_part s) l)
 
-pub part_inside : (whole : Net) (parts : List SolvedPart) → ShareOut whole (map solved_part parts) →
-    (i : ℕ) (s : SolvedPart) → i < length parts → s ≡ slice_index_or parts i s
-    → (v : ℕ) → v < (solved_part s).net.graph.nodes → (solved_part s).node v < whole.graph.nodes
+pub part_inside : (whole : Net) (parts : List SolvedPart) → ShareOut whole (map solved_part parts)
+    → (i : ℕ) (s : SolvedPart) → i < length parts → s ≡ slice_index_or parts i s → (v : ℕ)
+    → v < (solved_part s).net.graph.nodes → (solved_part s).node v < whole.graph.nodes
 part_inside whole parts h i s l e =
     let size = length-map parts solved_part in
     let own = h.are i (solved_part s) (omega (arith, l, size)) in

@@ -193,9 +193,9 @@ in_one whole parts h f faces o =
       first_low p x l xs all (suc k) d m = all k d (omega (arith, m))
 
 -- no more odd faces are together in the whole than in some part
-pub most_sum : (whole : Net) (parts : List Part) → ShareOut whole parts → (n : ℕ) →
-    All (λ p. (faces : List ℕ) → AreOddTogether p.net faces → length faces ≤ n) parts → (faces : List ℕ) →
-    AreOddTogether whole faces → length faces ≤ n
+pub most_sum : (whole : Net) (parts : List Part) → ShareOut whole parts → (n : ℕ)
+    → All (λ p. (faces : List ℕ) → AreOddTogether p.net faces → length faces ≤ n) parts → (faces : List ℕ)
+    → AreOddTogether whole faces → length faces ≤ n
 most_sum whole parts h n each [] o = omega arith
 most_sum whole parts h n each (f ∷ faces) o =
     let s = in_one whole parts h f faces o in

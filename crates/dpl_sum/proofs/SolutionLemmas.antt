@@ -61,8 +61,8 @@ odd_faces_sum whole parts h =
     (λ p. count_on (is_odd_face p.net (keeps p.net)) (dart_count p.net)) parts
     (λ k d l. let p = slice_index_or parts k d in odd_counted p.net))
 
-pub aside_sum : (whole : Net) (parts : List Part) → ShareOut whole parts → (colours : List Bool) →
-    AgreeWith colours parts → aside_cost whole colours ≡ sum_by (λ p. aside_cost p.net p.colours) parts
+pub aside_sum : (whole : Net) (parts : List Part) → ShareOut whole parts → (colours : List Bool)
+    → AgreeWith colours parts → aside_cost whole colours ≡ sum_by (λ p. aside_cost p.net p.colours) parts
 aside_sum whole parts h colours agree =
     let all = cost_parted whole colours in
     let costs = cost_sum whole parts h colours agree in
@@ -123,8 +123,9 @@ module _ (whole : Net) (parts : List Part) (h : ShareOut whole parts) (solved : 
   }
 
 -- where a part is refused, and none has more odd faces in one part of its dual, the whole is refused so too
-pub refused_sum : (whole : Net) (parts : List Part) → ShareOut whole parts → (n : ℕ) →
-    All (λ p. HasAtMost p.net n) parts → (p : Part) → Contains parts p → IsRefused p.net n → IsRefused whole n
+pub refused_sum : (whole : Net) (parts : List Part) → ShareOut whole parts → (n : ℕ)
+    → All (λ p. HasAtMost p.net n) parts → (p : Part) → Contains parts p → IsRefused p.net n
+    → IsRefused whole n
 refused_sum whole parts h n each p among r = record {
   many = r.many;
   most = record {
@@ -136,9 +137,10 @@ refused_sum whole parts h n each p among r = record {
 }
 
 -- the same solution by numbers that are the same
-pub restated : (net : Net) (colours : List Bool) (cost cost' : ℕ) (aside aside' : List ℕ) (excess' excess'' : ℕ)
-    (cycles cycles' : List Cycle) (bound bound' : ℕ)
-    → IsSolution net colours cost aside excess' cycles bound → cost' ≡ cost → aside' ≡ aside → excess'' ≡ excess' → cycles' ≡ cycles → bound' ≡ bound
+pub restated : (net : Net) (colours : List Bool) (cost cost' : ℕ) (aside aside' : List ℕ)
+    → (excess' excess'' : ℕ) (cycles cycles' : List Cycle) (bound bound' : ℕ)
+    → IsSolution net colours cost aside excess' cycles bound → cost' ≡ cost → aside' ≡ aside
+    → excess'' ≡ excess' → cycles' ≡ cycles → bound' ≡ bound
     → IsSolution net colours cost' aside' excess'' cycles' bound'
 restated net colours cost cost' aside aside' excess' excess'' cycles cycles' bound bound' s ec ea ex ey eb =
     subst (λ y. IsSolution net colours cost' aside' excess'' y bound') (sym ey) (record {

@@ -55,8 +55,8 @@ pick_at [] k l d = absurd (omega (arith, l))
 pick_at (x ∷ xs) zero l d = refl
 pick_at (x ∷ xs) (suc k) l d = pick_at xs k (omega (arith, l)) d
 
-pub edges_few : (whole : Net) (parts : List Gathered) (n : ℕ) → ShareOut whole (map part_of parts) →
-    length whole.graph.edges ≤ n → All (λ p. length p.net.graph.edges ≤ n) parts
+pub edges_few : (whole : Net) (parts : List Gathered) (n : ℕ) → ShareOut whole (map part_of parts)
+    → length whole.graph.edges ≤ n → All (λ p. length p.net.graph.edges ≤ n) parts
 edges_few whole parts n h few k d l =
     let size = length-map parts part_of in
     let e : slice_index_or (map part_of parts) k (part_of d) ≡ part_of (slice_index_or parts k d) = get_or-map part_of parts k d (part_of d) l in
@@ -121,8 +121,9 @@ share_bare whole solved h =
               is = is;
             }
 
-pub share_solved : (whole : Net) (parts : List Gathered) (solved : List SolvedPart) →
-    ShareOut whole (map part_of parts) → map part_in solved ≡ parts → ShareOut whole (map solved_part solved)
+pub share_solved : (whole : Net) (parts : List Gathered) (solved : List SolvedPart)
+    → ShareOut whole (map part_of parts) → map part_in solved ≡ parts
+    → ShareOut whole (map solved_part solved)
 share_solved whole parts solved h e = share_bare whole solved (subst (ShareOut whole) (ap (map part_of) (sym e) ∙ bare_map solved) h)
 
 pub all_solved : (solved : List SolvedPart) → All (λ s. IsSolved (solved_part s)) solved → All IsSolved (map solved_part solved)
@@ -162,9 +163,9 @@ one_more parts p n r = found r.among where
       let size = length-append parts (p ∷ []) in
       record { part = r.part; among = (k, omega (arith, l, size), front_at parts (p ∷ []) k r.part l ∙ e); refused = r.refused }
 
-pub one_solved : (parts : List Gathered) (solved new : List SolvedPart) (most : ℕ) (p : Gathered) (s : SolvedPart) →
-    AreSolvedTo parts solved most → s.part ≡ p → IsSolved (solved_part s) → new ≡ solved ++ s ∷ [] →
-    AreSolvedTo (parts ++ p ∷ []) new most
+pub one_solved : (parts : List Gathered) (solved new : List SolvedPart) (most : ℕ) (p : Gathered) (s : SolvedPart)
+    → AreSolvedTo parts solved most → s.part ≡ p → IsSolved (solved_part s) → new ≡ solved ++ s ∷ []
+    → AreSolvedTo (parts ++ p ∷ []) new most
 one_solved parts solved new most p s h e own is = subst (λ zs. AreSolvedTo (parts ++ p ∷ []) zs most) (sym is) (record {
   each = All-push (λ z. IsSolved (solved_part z)) solved s h.each own;
   all = λ z. map-append part_in solved (s ∷ []) ∙ ap (λ zs. zs ++ part_in s ∷ []) (h.all z) ∙ ap (λ z. parts ++ z ∷ []) e;
@@ -174,9 +175,9 @@ one_solved parts solved new most p s h e own is = subst (λ zs. AreSolvedTo (par
   some = λ l. one_more parts p most (h.some l);
 })
 
-pub one_refused : (parts : List Gathered) (solved : List SolvedPart) (most new count : ℕ) (p : Gathered) →
-    AreSolvedTo parts solved most → IsRefused p.net count → new ≡ max most count →
-    AreSolvedTo (parts ++ p ∷ []) solved new
+pub one_refused : (parts : List Gathered) (solved : List SolvedPart) (most new count : ℕ) (p : Gathered)
+    → AreSolvedTo parts solved most → IsRefused p.net count → new ≡ max most count
+    → AreSolvedTo (parts ++ p ∷ []) solved new
 one_refused parts solved most new count p h r is =
     let many = r.many in record {
       each = h.each;
@@ -218,10 +219,10 @@ one_on xs rest more all y e r = append_assoc xs (y ∷ []) more ∙ ap (λ zs. x
 
 -- ---- refused exactly
 
-pub exact_again : (net : Net) (r : Result Solved SolveError) →
-    IfOk r (λ s. IsSolution net s.solution.colours.items s.solution.cost s.solution.aside s.solution.excess
-    s.solution.cycles s.solution.bound)
-    → ((n : ℕ) → r ≡ Err (OddFaces n) → IsRefused net n) → (n : ℕ) → IsRefused net n → (r ≡ Err (OddFaces n)) ⊎ (r ≡ Err NoMemory)
+pub exact_again : (net : Net) (r : Result Solved SolveError)
+    → IfOk r (λ s. IsSolution net s.solution.colours.items s.solution.cost s.solution.aside s.solution.excess s.solution.cycles s.solution.bound)
+    → ((n : ℕ) → r ≡ Err (OddFaces n) → IsRefused net n) → (n : ℕ) → IsRefused net n
+    → (r ≡ Err (OddFaces n)) ⊎ (r ≡ Err NoMemory)
 exact_again net (Ok s) solved refused n h = let f = solved.parts h.most.faces h.most.are in let c = h.most.count in
     let m = h.many in absurd (omega (arith, m, f, c))
 exact_again net (Err (OddFaces k)) solved refused n h =

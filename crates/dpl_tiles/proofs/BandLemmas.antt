@@ -32,8 +32,9 @@ all_hold P rows prims a h = All-map (AllRows P) outline_of prims
 
 -- ---- ordinates in order
 
-band_agrees : (rows : List ℤ) (k : ℕ) (low high y : ℤ) → Ascends (λ z. z) rows → 0 < k → k < length rows →
-    low ≡ get_or rows (k - 1) (pos 0) → high ≡ get_or rows k (pos 0) → IsWithin low high y → All (Agrees low y) rows
+band_agrees : (rows : List ℤ) (k : ℕ) (low high y : ℤ) → Ascends (λ z. z) rows → 0 < k → k < length rows
+    → low ≡ get_or rows (k - 1) (pos 0) → high ≡ get_or rows k (pos 0) → IsWithin low high y
+    → All (Agrees low y) rows
 band_agrees rows k low high y sorted some within e f w m d l = elim (cases_lt m k) [
   | inl h ↦ let a : get_or rows m d ≤ℤ get_or rows (k - 1) d = sorted m (k - 1) d (omega arith) (omega arith) in
       let a' : get_or rows m d ≤ℤ low = rw (get_or_default rows (k - 1) d (pos 0) (omega arith), ← e) at a in
@@ -51,8 +52,9 @@ band_agrees rows k low high y sorted some within e f w m d l = elim (cases_lt m 
   far' : (b c d : ℤ) → b <ℤ c → c ≤ℤ d → b <ℤ d
   far' b c d h g = omega signed
 
-pub rows_alike : (prims : List Primitive) (rows : List ℤ) (k : ℕ) (x y : ℤ) → Ascends (λ z. z) rows →
-    HasOrdinates rows prims → 0 < k → k < length rows → IsWithin (get_or rows (k - 1) (pos 0)) (get_or rows k (pos 0)) y
+pub rows_alike : (prims : List Primitive) (rows : List ℤ) (k : ℕ) (x y : ℤ) → Ascends (λ z. z) rows
+    → HasOrdinates rows prims → 0 < k → k < length rows
+    → IsWithin (get_or rows (k - 1) (pos 0)) (get_or rows k (pos 0)) y
     → is_cell (map outline_of prims) x (get_or rows (k - 1) (pos 0)) ≡ is_cell (map outline_of prims) x y
 rows_alike prims rows k x y sorted all some within w =
     layer_same x _ y (map outline_of prims) (all_hold _ rows prims
@@ -66,8 +68,8 @@ below_all rows y sorted h m d l =
       far : (b c d : ℤ) → b <ℤ c → c ≤ℤ d → b <ℤ d
       far b c d h g = omega signed
 
-above_all : (rows : List ℤ) (k : ℕ) (y : ℤ) → Ascends (λ z. z) rows → length rows ≤ k →
-    (1 ≤ length rows → k ≤ length rows) → get_or rows (k - 1) (pos 0) ≤ℤ y → All (Lies true y) rows
+above_all : (rows : List ℤ) (k : ℕ) (y : ℤ) → Ascends (λ z. z) rows → length rows ≤ k
+    → (1 ≤ length rows → k ≤ length rows) → get_or rows (k - 1) (pos 0) ≤ℤ y → All (Lies true y) rows
 above_all rows k y sorted whole upto h m d l =
     let e : k ≡ length rows = omega arith in
     let a : get_or rows m d ≤ℤ get_or rows (k - 1) d = sorted m (k - 1) d (omega arith) (omega arith) in
@@ -91,33 +93,34 @@ swept_none cells z none = record {
   whole = λ x1 x2 y h run. absurd (no_run cells x1 x2 y (none y h) run);
 }
 
-pub swept_first : (prims : List Primitive) (rows : List ℤ) (ended held : List Rect) → ended ≡ [] → held ≡ [] →
-    Ascends (λ z. z) rows → HasOrdinates rows prims → AreSwept (is_cell (map outline_of prims)) (get_or rows 0 (pos 0))
-    ended held
+pub swept_first : (prims : List Primitive) (rows : List ℤ) (ended held : List Rect) → ended ≡ [] → held ≡ []
+    → Ascends (λ z. z) rows → HasOrdinates rows prims
+    → AreSwept (is_cell (map outline_of prims)) (get_or rows 0 (pos 0)) ended held
 swept_first prims rows ended held e f sorted all = rw (e, f)
     (swept_none (is_cell (map outline_of prims)) _ (λ y h x. no_row false x y (map outline_of prims)
     (all_hold _ rows prims (below_all rows y sorted h) all)))
 
 -- the last row is the top
-pub rows_top : (prims : List Primitive) (rows : List ℤ) (k : ℕ) → Ascends (λ z. z) rows → HasOrdinates rows prims →
-    length rows ≤ k → (1 ≤ length rows → k ≤ length rows) →
-    IsTop (is_cell (map outline_of prims)) (get_or rows (k - 1) (pos 0))
+pub rows_top : (prims : List Primitive) (rows : List ℤ) (k : ℕ) → Ascends (λ z. z) rows
+    → HasOrdinates rows prims → length rows ≤ k → (1 ≤ length rows → k ≤ length rows)
+    → IsTop (is_cell (map outline_of prims)) (get_or rows (k - 1) (pos 0))
 rows_top prims rows k sorted all whole upto = record {
   bound = bounded prims;
   none = λ x y h. no_row true x y (map outline_of prims) (all_hold _ rows prims (above_all rows k y sorted whole upto h) all);
 }
 
-pub swept_next : (cells : ℤ → ℤ → Bool) (rows : List ℤ) (k : ℕ) (ended held : List Rect) →
-    AreSwept cells (get_or rows k (pos 0)) ended held → AreSwept cells (get_or rows (k + 1 - 1) (pos 0)) ended held
+pub swept_next : (cells : ℤ → ℤ → Bool) (rows : List ℤ) (k : ℕ) (ended held : List Rect)
+    → AreSwept cells (get_or rows k (pos 0)) ended held
+    → AreSwept cells (get_or rows (k + 1 - 1) (pos 0)) ended held
 swept_next cells rows k ended held s =
     let e : k ≡ k + 1 - 1 = omega arith in
     let P : ℕ → Type 0 = λ n. AreSwept cells (get_or rows n (pos 0)) ended held in
     subst P e s
 
 -- a band without rows adds nothing
-pub swept_still : (cells : ℤ → ℤ → Bool) (rows : List ℤ) (k : ℕ) (ended held : List Rect) → Ascends (λ z. z) rows →
-    0 < k → k < length rows → get_or rows k (pos 0) ≤ℤ get_or rows (k - 1) (pos 0) →
-    AreSwept cells (get_or rows (k - 1) (pos 0)) ended held
+pub swept_still : (cells : ℤ → ℤ → Bool) (rows : List ℤ) (k : ℕ) (ended held : List Rect)
+    → Ascends (λ z. z) rows → 0 < k → k < length rows → get_or rows k (pos 0) ≤ℤ get_or rows (k - 1) (pos 0)
+    → AreSwept cells (get_or rows (k - 1) (pos 0)) ended held
     → AreSwept cells (get_or rows (k + 1 - 1) (pos 0)) ended held
 swept_still cells rows k ended held sorted some within h s =
     let e : get_or rows (k - 1) (pos 0) ≡ get_or rows k (pos 0) = equal_z _ _ (sorted (k - 1) k (pos 0) (omega arith) within) h in
@@ -125,8 +128,8 @@ swept_still cells rows k ended held sorted some within h s =
     swept_next cells rows k ended held (subst P e s)
 
 -- the row that is reached at the end is the last
-pub last_row_is : (rows : List ℤ) (k : ℕ) → length rows ≤ k → (1 ≤ length rows → k ≤ length rows) →
-    get_or rows (length rows - 1) (pos 0) ≡ get_or rows (k - 1) (pos 0)
+pub last_row_is : (rows : List ℤ) (k : ℕ) → length rows ≤ k → (1 ≤ length rows → k ≤ length rows)
+    → get_or rows (length rows - 1) (pos 0) ≡ get_or rows (k - 1) (pos 0)
 last_row_is [] k whole upto = refl
 last_row_is (z ∷ rows) k whole upto = let e : length (z ∷ rows) ≡ k = omega arith in ap (λ n. get_or (z ∷ rows) (n - 1) (pos 0)) e
 

@@ -136,8 +136,8 @@ end_of P decide high none (suc n) z p h = elim (decide (z +ℤ pos 1)) [
 distance : (a b : ℤ) → (n : ℕ) × (a <ℤ (b +ℤ pos n))
 distance a b = (unsigned_abs (a -ℤ b) + 1, omega signed)
 
-pub around : (P : ℤ → Type 0) → ((z : ℤ) → P z ⊎ ¬ P z) → (low high : ℤ) → ((z : ℤ) → z <ℤ low → ¬ P z) →
-    ((z : ℤ) → high ≤ℤ z → ¬ P z) → (z : ℤ) → P z → (a : ℤ) × (b : ℤ) × IsAround P z a b
+pub around : (P : ℤ → Type 0) → ((z : ℤ) → P z ⊎ ¬ P z) → (low high : ℤ) → ((z : ℤ) → z <ℤ low → ¬ P z)
+    → ((z : ℤ) → high ≤ℤ z → ¬ P z) → (z : ℤ) → P z → (a : ℤ) × (b : ℤ) × IsAround P z a b
 around P decide low high none_low none_high z p =
     let (n, h) = distance z low in
     let (m, g) = distance high z in

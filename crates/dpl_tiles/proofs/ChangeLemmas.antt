@@ -50,8 +50,8 @@ turn_is : (x z : ℤ) (p : ℤ × ℤ) (b : Bool) → int_le p.0 x ≡ b → tur
 turn_is x z p b e = ap (λ c. cond c (bit (int_le p.1 (z -ℤ pos 1)) + bit (int_le p.1 z)) 0) e
 
 -- a side with both ends on one side of the column
-one_side : (x z : ℤ) (p q : ℤ × ℤ) (b : Bool) → Lies b x p.0 → Lies b x q.0 →
-    (bit (is_left_side x (z -ℤ pos 1) p q) + bit (is_left_side x z p q) + turn x z p + turn x z q) % 2 ≡ 0
+one_side : (x z : ℤ) (p q : ℤ × ℤ) (b : Bool) → Lies b x p.0 → Lies b x q.0
+    → (bit (is_left_side x (z -ℤ pos 1) p q) + bit (is_left_side x z p q) + turn x z p + turn x z q) % 2 ≡ 0
 one_side x z p q false e f = omega (arith, left_is x (z -ℤ pos 1) p q false e, left_is x z p q false e, turn_is x z p false e, turn_is x z q false f)
 one_side x z p q true e f = omega (
   arith,
@@ -109,8 +109,8 @@ round_turns : (x z : ℤ) (p : Point) (ps : List Point) (last : Point) → AreAs
 round_turns x z p [] last s = side_turns x z p last s
 round_turns x z p (q ∷ qs) last (s, ss) = omega (arith, side_turns x z p q s, round_turns x z q qs last ss)
 
-round_same : (x z : ℤ) (p : Point) (ps : List Point) → AreAsideAt x z p ps p →
-    is_in_polygon (map place_of (p ∷ ps)) x (z -ℤ pos 1) ≡ is_in_polygon (map place_of (p ∷ ps)) x z
+round_same : (x z : ℤ) (p : Point) (ps : List Point) → AreAsideAt x z p ps p
+    → is_in_polygon (map place_of (p ∷ ps)) x (z -ℤ pos 1) ≡ is_in_polygon (map place_of (p ∷ ps)) x z
 round_same x z p ps s =
     let h = round_turns x z p ps p s in
     let e : left_sides x (z -ℤ pos 1) (place_of p) (map place_of ps) (place_of p) % 2 ≡ left_sides x z (place_of p)
@@ -126,8 +126,8 @@ IsPast x z c = c.y ≡ z → IsOutside c.left c.right x
 end_past : (x z y : ℤ) (p q : Point) (corners : List Corner) → All (IsPast x z) corners → Any (IsEndOf p q y) corners → y ≡ z → IsAside x p q
 end_past x z y p q corners a (k, c, l, e, f) g = let w : IsPast x z c = rw e at (a k c l) in past_columns c.left c.right x p q f.spans (w (f.y ∙ g))
 
-round_past : (x z : ℤ) (corners : List Corner) (p : Point) (ps : List Point) (last : Point) → All (IsPast x z) corners →
-    HasSides corners p ps last → AreAsideAt x z p ps last
+round_past : (x z : ℤ) (corners : List Corner) (p : Point) (ps : List Point) (last : Point)
+    → All (IsPast x z) corners → HasSides corners p ps last → AreAsideAt x z p ps last
 round_past x z corners p [] last a (g, h) = (end_past x z p.y p last corners a g, end_past x z last.y p last corners a h)
 round_past x z corners p (q ∷ qs) last a ((g, h), more) =
     ((end_past x z p.y p q corners a g, end_past x z q.y p q corners a h), round_past x z corners q qs last a more)
@@ -145,8 +145,8 @@ box_same x z r out = let (b, a) = columns_past r.x1 r.x2 x (prim.Box r) (itself 
       itself a = omega signed
 
 -- one primitive
-same_cell : (x z : ℤ) (corners : List Corner) (p : Primitive) → All (IsPast x z) corners → HasCornersOf corners p →
-    is_in_outline x (z -ℤ pos 1) (outline_of p) ≡ is_in_outline x z (outline_of p)
+same_cell : (x z : ℤ) (corners : List Corner) (p : Primitive) → All (IsPast x z) corners
+    → HasCornersOf corners p → is_in_outline x (z -ℤ pos 1) (outline_of p) ≡ is_in_outline x z (outline_of p)
 same_cell x z corners (prim.Box r) a (g, h) = elim (same_or_not r.y1 z) [
   | inl e ↦ box_same x z r (box_past x z r.y1 r corners a g e)
   | inr n ↦ elim (same_or_not r.y2 z) [
@@ -157,21 +157,22 @@ same_cell x z corners (prim.Box r) a (g, h) = elim (same_or_not r.y1 z) [
 same_cell x z corners (prim.Poly []) a h = refl
 same_cell x z corners (prim.Poly (p ∷ ps)) a h = round_same x z p ps (round_past x z corners p ps p a h)
 
-layer_equal : (x y y' : ℤ) (prims : List Primitive) → All
-    (λ p. is_in_outline x y (outline_of p) ≡ is_in_outline x y' (outline_of p)) prims →
-    is_cell (map outline_of prims) x y ≡ is_cell (map outline_of prims) x y'
+layer_equal : (x y y' : ℤ) (prims : List Primitive)
+    → All (λ p. is_in_outline x y (outline_of p) ≡ is_in_outline x y' (outline_of p)) prims
+    → is_cell (map outline_of prims) x y ≡ is_cell (map outline_of prims) x y'
 layer_equal x y y' [] a = refl
 layer_equal x y y' (p ∷ ps) a = let P : Primitive → Type 0 = λ p. is_in_outline x y (outline_of p) ≡ is_in_outline x y' (outline_of p) in
     ap (λ b. b || is_cell (map outline_of ps) x y) (All-head P p ps a) ∙
     ap (λ b. is_in_outline x y' (outline_of p) || b) (layer_equal x y y' ps (All-tail P p ps a))
 
-column_same : (prims : List Primitive) (corners : List Corner) (x z : ℤ) → AreCorners prims corners →
-    All (IsPast x z) corners → is_cell (map outline_of prims) x (z -ℤ pos 1) ≡ is_cell (map outline_of prims) x z
+column_same : (prims : List Primitive) (corners : List Corner) (x z : ℤ) → AreCorners prims corners
+    → All (IsPast x z) corners
+    → is_cell (map outline_of prims) x (z -ℤ pos 1) ≡ is_cell (map outline_of prims) x z
 column_same prims corners x z has a = layer_equal x (z -ℤ pos 1) z prims (λ k d l. same_cell x z corners (get_or prims k d) a (has.all k d l))
 
 -- outside the columns of its corners a row has the cells of the row below it
-pub changes_of : (prims : List Primitive) (corners row : List Corner) (z : ℤ) → AreCorners prims corners →
-    AreCornersAt corners z row → AreChanges (is_cell (map outline_of prims)) z row
+pub changes_of : (prims : List Primitive) (corners row : List Corner) (z : ℤ) → AreCorners prims corners
+    → AreCornersAt corners z row → AreChanges (is_cell (map outline_of prims)) z row
 changes_of prims corners row z has at = record {
   ordered = at.ordered;
   same = λ x out. column_same prims corners x z has (λ k d l e. past x out (get_or corners k d)

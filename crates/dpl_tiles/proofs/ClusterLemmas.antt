@@ -88,10 +88,10 @@ pub record IsMet (cells : ℤ → ℤ → Bool) (z : ℤ) (row : List Corner) (a
   pub parted : IsParted now d1 d2 left near right
   pub cluster : IsCluster row at to d1 d2 near
 
-pub met : (prims : List Primitive) (z : ℤ) (row : List Corner) (at to : ℕ) (d1 d2 : ℤ)
-    (ended now left near right : List Rect) → AreChanges (is_cell (map outline_of prims)) z row →
-    IsPassed (is_cell (map outline_of prims)) z row at ended now → IsParted now d1 d2 left near right →
-    IsCluster row at to d1 d2 near
+pub met : (prims : List Primitive) (z : ℤ) (row : List Corner) (at to : ℕ) (d1 d2 : ℤ) (ended now left near right : List Rect)
+    → AreChanges (is_cell (map outline_of prims)) z row
+    → IsPassed (is_cell (map outline_of prims)) z row at ended now → IsParted now d1 d2 left near right
+    → IsCluster row at to d1 d2 near
     → IsMet (is_cell (map outline_of prims)) z row at to d1 d2 ended now left near right
 met prims z row at to d1 d2 ended now left near right changes before parted cluster =
     record { bound = bounded prims; changes = changes; before = before; parted = parted; cluster = cluster }

@@ -53,8 +53,9 @@ newest P old new c e h = rw e (any_right P old (c ∷ []) (0, c, omega arith, re
 
 -- ---- all corners of a primitive
 
-pub sides_added : (r : Rect) (old mid new : List Corner) (c d : Corner) → mid ≡ old ++ c ∷ [] → new ≡ mid ++ d ∷ [] →
-    IsCornerOf r.y1 r.x1 r.x2 c → IsCornerOf r.y2 r.x1 r.x2 d → AddsCorners (prim.Box r) old new
+pub sides_added : (r : Rect) (old mid new : List Corner) (c d : Corner) → mid ≡ old ++ c ∷ []
+    → new ≡ mid ++ d ∷ [] → IsCornerOf r.y1 r.x1 r.x2 c → IsCornerOf r.y2 r.x1 r.x2 d
+    → AddsCorners (prim.Box r) old new
 sides_added r old mid new c d e f a b = record {
   kept = λ x h. grown mid new d f x (grown old mid c e x h);
   has = (
@@ -66,9 +67,9 @@ sides_added r old mid new c d e f a b = record {
 end_of : (p q : Point) (z left right : ℤ) (c : Corner) → SpansSide left right p q → IsCornerOf z left right c → IsEndOf p q z c
 end_of p q z left right c s k = record { y = k.y; spans = rw (k.left, k.right) s }
 
-pub side_added : (p q : Point) (left right : ℤ) (old mid new : List Corner) (c d : Corner) → SpansSide left right p q →
-    mid ≡ old ++ c ∷ [] → new ≡ mid ++ d ∷ [] → IsCornerOf p.y left right c → IsCornerOf q.y left right d →
-    AddsSide p q old new
+pub side_added : (p q : Point) (left right : ℤ) (old mid new : List Corner) (c d : Corner)
+    → SpansSide left right p q → mid ≡ old ++ c ∷ [] → new ≡ mid ++ d ∷ [] → IsCornerOf p.y left right c
+    → IsCornerOf q.y left right d → AddsSide p q old new
 side_added p q left right old mid new c d s e f a b = record {
   kept = λ x h. grown mid new d f x (grown old mid c e x h);
   has = (
@@ -85,9 +86,9 @@ pub record AddsSides (first : Point) (rest : List Point) (i : ℕ) (before : Poi
 pub round_none : (first : Point) (rest : List Point) (old : List Corner) → AddsSides first rest 0 first old old
 round_none first rest old = record { kept = all_within old; has = λ all w h. h }
 
-pub round_more : (first : Point) (rest : List Point) (i : ℕ) (before p : Point) (old mid new : List Corner) →
-    i < length rest → p ≡ get_or rest i p → AddsSides first rest i before old mid → AddsSide before p mid new →
-    AddsSides first rest (i + 1) p old new
+pub round_more : (first : Point) (rest : List Point) (i : ℕ) (before p : Point) (old mid new : List Corner)
+    → i < length rest → p ≡ get_or rest i p → AddsSides first rest i before old mid
+    → AddsSide before p mid new → AddsSides first rest (i + 1) p old new
 round_more first rest i before p old mid new within is a s = record {
   kept = λ c h. s.kept c (a.kept c h);
   has = λ all w h. a.has all (λ c m. w c (s.kept c m)) (go all (side_kept before p new all w s.has) h);
@@ -97,9 +98,9 @@ round_more first rest i before p old mid new within is a s = record {
       let both : HasSides all before (p ∷ drop (i + 1) rest) first = (g, h) in
       rw (drop_more rest i p within, ← is) both
 
-pub round_all : (first : Point) (rest : List Point) (i : ℕ) (before : Point) (old mid new : List Corner) →
-    length rest ≤ i → AddsSides first rest i before old mid → AddsSide before first mid new →
-    AddsCorners (prim.Poly (first ∷ rest)) old new
+pub round_all : (first : Point) (rest : List Point) (i : ℕ) (before : Point) (old mid new : List Corner)
+    → length rest ≤ i → AddsSides first rest i before old mid → AddsSide before first mid new
+    → AddsCorners (prim.Poly (first ∷ rest)) old new
 round_all first rest i before old mid new whole a s = record {
   kept = λ c h. s.kept c (a.kept c h);
   has = a.has new s.kept (rw (drop_all i rest whole) s.has);
@@ -110,15 +111,15 @@ no_points old = record { kept = all_within old; has = tt }
 
 -- ---- all primitives
 
-pub corners_more : (prims : List Primitive) (i : ℕ) (p : Primitive) (old new : List Corner) → i < length prims →
-    p ≡ get_or prims i p → AddsCorners p old new → All (HasCornersOf old) (take i prims) →
-    All (HasCornersOf new) (take (i + 1) prims)
+pub corners_more : (prims : List Primitive) (i : ℕ) (p : Primitive) (old new : List Corner) → i < length prims
+    → p ≡ get_or prims i p → AddsCorners p old new → All (HasCornersOf old) (take i prims)
+    → All (HasCornersOf new) (take (i + 1) prims)
 corners_more prims i p old new within is a h = All-more (HasCornersOf new) prims i p within
     (All-weaker (HasCornersOf old) (HasCornersOf new) (λ q g. corners_kept old new a.kept q g) (take i prims) h)
     (subst (HasCornersOf new) is a.has)
 
-pub corners_all : (prims : List Primitive) (i : ℕ) (corners : List Corner) → length prims ≤ i →
-    All (HasCornersOf corners) (take i prims) → All (HasCornersOf corners) prims
+pub corners_all : (prims : List Primitive) (i : ℕ) (corners : List Corner) → length prims ≤ i
+    → All (HasCornersOf corners) (take i prims) → All (HasCornersOf corners) prims
 corners_all prims i corners whole h = rw (take_all i prims whole) at h
 
 pub corners_moved : (prims : List Primitive) (old new : List Corner) → IsPermutation old new → All (HasCornersOf old) prims → All (HasCornersOf new) prims
@@ -141,12 +142,12 @@ some_of : (corners : List Corner) (k : ℕ) → k < length corners → Corner
 some_of [] k l = absurd (omega arith)
 some_of (c ∷ cs) k l = c
 
-pub first_between : (corners : List Corner) (z : ℤ) (from to : ℕ) → from ≤ length corners → to ≤ length corners →
-    ((k : ℕ) (d : Corner) → k < from → (get_or corners k d).y <ℤ z) →
-    ((k : ℕ) (d : Corner) → from ≤ k → k < length corners → z ≤ℤ (get_or corners k d).y)
-    → ((k : ℕ) (d : Corner) → k < to → (get_or corners k d).y ≤ℤ z) →
-    ((k : ℕ) (d : Corner) → to ≤ k → k < length corners → z <ℤ (get_or corners k d).y) →
-    AreBetween corners z from to
+pub first_between : (corners : List Corner) (z : ℤ) (from to : ℕ) → from ≤ length corners
+    → to ≤ length corners → ((k : ℕ) (d : Corner) → k < from → (get_or corners k d).y <ℤ z)
+    → ((k : ℕ) (d : Corner) → from ≤ k → k < length corners → z ≤ℤ (get_or corners k d).y)
+    → ((k : ℕ) (d : Corner) → k < to → (get_or corners k d).y ≤ℤ z)
+    → ((k : ℕ) (d : Corner) → to ≤ k → k < length corners → z <ℤ (get_or corners k d).y)
+    → AreBetween corners z from to
 first_between corners z from to h g below at_least up_to above =
     record {
       order = order;
@@ -186,17 +187,18 @@ by_place_total : IsTotalOrder by_place
 unfolding by_place
 by_place_total = then_total (on_total (λ (c : Corner). c.y) int_cmp_total) (on_total (λ (c : Corner). c.left) int_cmp_total)
 
-in_place : (a b : Corner) (r s : Ordering) → MatchOrdering r (b.y <ℤ a.y) (b.y ≡ a.y) (a.y <ℤ b.y) →
-    MatchOrdering s (b.left <ℤ a.left) (b.left ≡ a.left) (a.left <ℤ b.left) → is_lt (ordering_then r s) ≡ false →
-    ComesBefore a b
+in_place : (a b : Corner) (r s : Ordering) → MatchOrdering r (b.y <ℤ a.y) (b.y ≡ a.y) (a.y <ℤ b.y)
+    → MatchOrdering s (b.left <ℤ a.left) (b.left ≡ a.left) (a.left <ℤ b.left)
+    → is_lt (ordering_then r s) ≡ false → ComesBefore a b
 in_place a b Less s m n e = cc
 in_place a b Equal Less m n e = cc
 in_place a b Equal Equal m n e = inr (sym m, omega signed)
 in_place a b Equal Greater m n e = inr (sym m, omega signed)
 in_place a b Greater s m n e = inl m
 
-pub in_order : (corners : List Corner) → IsSortedBy (λ a b. is_lt
-    (ordering_then (int_cmp a.y b.y) (int_cmp a.left b.left))) corners → AllPairs ComesBefore corners
+pub in_order : (corners : List Corner)
+    → IsSortedBy (λ a b. is_lt (ordering_then (int_cmp a.y b.y) (int_cmp a.left b.left))) corners
+    → AllPairs ComesBefore corners
 unfolding by_place
 in_order corners s i j d h l =
     let a = get_or corners i d in let b = get_or corners j d in
@@ -261,9 +263,9 @@ pub record AreGathered (row : List Corner) (at to : ℕ) (d1 d2 : ℤ) : Type 0 
   pub left : (d : Corner) → (get_or row at d).left ≡ d1
   pub right : (k : ℕ) (d : Corner) → at ≤ k → k < to → (get_or row k d).right ≤ℤ d2
 
-pub one_gathered : (row : List Corner) (at : ℕ) (d1 d2 : ℤ) → at < length row →
-    ((d : Corner) → (get_or row at d).left ≡ d1) → ((d : Corner) → (get_or row at d).right ≤ℤ d2) →
-    AreGathered row at (at + 1) d1 d2
+pub one_gathered : (row : List Corner) (at : ℕ) (d1 d2 : ℤ) → at < length row
+    → ((d : Corner) → (get_or row at d).left ≡ d1) → ((d : Corner) → (get_or row at d).right ≤ℤ d2)
+    → AreGathered row at (at + 1) d1 d2
 one_gathered row at d1 d2 l left right = record {
   more = omega arith;
   within = omega arith;
@@ -271,9 +273,9 @@ one_gathered row at d1 d2 l left right = record {
   right = λ k d h g. let e : k ≡ at = omega arith in rw e (right d);
 }
 
-pub more_gathered : (row : List Corner) (at to : ℕ) (d1 d1' d2 d2' : ℤ) → AreGathered row at to d1 d2 →
-    to < length row → d1' ≡ d1 → d2 ≤ℤ d2' → ((d : Corner) → (get_or row to d).right ≤ℤ d2') →
-    AreGathered row at (to + 1) d1' d2'
+pub more_gathered : (row : List Corner) (at to : ℕ) (d1 d1' d2 d2' : ℤ) → AreGathered row at to d1 d2
+    → to < length row → d1' ≡ d1 → d2 ≤ℤ d2' → ((d : Corner) → (get_or row to d).right ≤ℤ d2')
+    → AreGathered row at (to + 1) d1' d2'
 more_gathered row at to d1 d1' d2 d2' a l same h right = record {
   more = let m = a.more in omega arith;
   within = omega arith;
@@ -286,7 +288,8 @@ more_gathered row at to d1 d1' d2 d2' a l same h right = record {
   chain : (x : ℤ) → x ≤ℤ d2 → x ≤ℤ d2'
   chain x i = omega signed
 
-pub whole_cluster : (row : List Corner) (at to : ℕ) (d1 d2 : ℤ) (near : List Rect) → AreGathered row at to d1 d2 →
-    ((d : Corner) → to < length row → (d2 <ℤ (get_or row to d).left) × All (λ r. r.x2 <ℤ (get_or row to d).left) near) →
-    IsCluster row at to d1 d2 near
+pub whole_cluster : (row : List Corner) (at to : ℕ) (d1 d2 : ℤ) (near : List Rect)
+    → AreGathered row at to d1 d2
+    → ((d : Corner) → to < length row → (d2 <ℤ (get_or row to d).left) × All (λ r. r.x2 <ℤ (get_or row to d).left) near)
+    → IsCluster row at to d1 d2 near
 whole_cluster row at to d1 d2 near a apart = record { more = a.more; within = a.within; left = a.left; right = a.right; apart = apart }

@@ -38,17 +38,17 @@ pub columns_none : (sides : List Side) (found : List ℕ) (y : ℤ) → ColumnsS
 columns_none sides found y = record { each = λ x d. omega arith; own = λ k d l. absurd (omega arith) }
 
 -- the side at the next number
-at_number : (sides : List Side) (found : List ℕ) (t : ℕ) (s d : Side) → get_or found t 0 < length sides →
-    s ≡ get_or sides (get_or found t 0) s → get_or sides (get_or found t 0) d ≡ s
+at_number : (sides : List Side) (found : List ℕ) (t : ℕ) (s d : Side) → get_or found t 0 < length sides
+    → s ≡ get_or sides (get_or found t 0) s → get_or sides (get_or found t 0) d ≡ s
 at_number sides found t s d inside is = get_or_default sides (get_or found t 0) d s inside ∙ sym is
 
 in_row : (x y : ℤ) (s : Side) (b : Bool) → is_within s.low s.high y ≡ b → bit (stands x y s) ≡ bit (int_le s.column x && b)
 in_row x y s b e = ap (λ c. bit (int_le s.column x && c)) e
 
-pub columns_yes : (sides : List Side) (found : List ℕ) (y : ℤ) (t : ℕ) (s : Side) (columns new : List ℤ) →
-    ColumnsSoFar sides found y t columns → t < length found → get_or found t 0 < length sides →
-    s ≡ get_or sides (get_or found t 0) s
-    → is_within s.low s.high y ≡ true → new ≡ columns ++ s.column ∷ [] → ColumnsSoFar sides found y (t + 1) new
+pub columns_yes : (sides : List Side) (found : List ℕ) (y : ℤ) (t : ℕ) (s : Side) (columns new : List ℤ)
+    → ColumnsSoFar sides found y t columns → t < length found → get_or found t 0 < length sides
+    → s ≡ get_or sides (get_or found t 0) s → is_within s.low s.high y ≡ true → new ≡ columns ++ s.column ∷ []
+    → ColumnsSoFar sides found y (t + 1) new
 columns_yes sides found y t s columns new c within inside is e f = rw f (record {
   each = λ x d. rw left_push (omega (arith, c.each x d, sum_by-drop_more (stands_at sides x y d) found t 0 within, here x d));
   own = All-push (λ z. Any (λ i. (d : Side) → (get_or sides i d).column ≡ z) found) columns s.column c.own (
@@ -65,10 +65,10 @@ columns_yes sides found y t s columns new c within inside is e f = rw f (record 
     and_true true = refl
     and_true false = refl
 
-pub columns_no : (sides : List Side) (found : List ℕ) (y : ℤ) (t : ℕ) (s : Side) (columns : List ℤ) →
-    ColumnsSoFar sides found y t columns → t < length found → get_or found t 0 < length sides →
-    s ≡ get_or sides (get_or found t 0) s
-    → is_within s.low s.high y ≡ false → ColumnsSoFar sides found y (t + 1) columns
+pub columns_no : (sides : List Side) (found : List ℕ) (y : ℤ) (t : ℕ) (s : Side) (columns : List ℤ)
+    → ColumnsSoFar sides found y t columns → t < length found → get_or found t 0 < length sides
+    → s ≡ get_or sides (get_or found t 0) s → is_within s.low s.high y ≡ false
+    → ColumnsSoFar sides found y (t + 1) columns
 columns_no sides found y t s columns c within inside is e = record {
   each = λ x d. omega (arith, c.each x d, sum_by-drop_more (stands_at sides x y d) found t 0 within, here x d);
   own = c.own;
@@ -79,8 +79,8 @@ columns_no sides found y t s columns c within inside is e = record {
     and_none true = refl
     and_none false = refl
 
-pub columns_all : (sides : List Side) (found : List ℕ) (y : ℤ) (t : ℕ) (columns : List ℤ) → length found ≤ t →
-    ColumnsSoFar sides found y t columns → AreColumnsAmong sides found y columns
+pub columns_all : (sides : List Side) (found : List ℕ) (y : ℤ) (t : ℕ) (columns : List ℤ) → length found ≤ t
+    → ColumnsSoFar sides found y t columns → AreColumnsAmong sides found y columns
 columns_all sides found y t columns whole c = record { each = λ x d. omega (arith, c.each x d, at_end x d); own = c.own } where
   at_end : (x : ℤ) (d : Side) → sum_by (stands_at sides x y d) (drop t found) ≡ 0
   at_end x d = at_drop_all (sum_by (stands_at sides x y d)) found t whole
@@ -95,9 +95,9 @@ record Counted (f : Side → ℕ) (h : ℕ → ℕ) (n : ℕ) (items : List Side
   high : (k d : ℕ) → k < length found → get_or found k d < n + length items
   all : (i : ℕ) → n ≤ i → i < n + length items → Contains found i ⊎ (h i ≡ 0)
 
-counted_next : (f : Side → ℕ) (h : ℕ → ℕ) (n : ℕ) (s : Side) (items : List Side) (found : List ℕ) →
-    Counted f h n (s ∷ items) found → ((k d : ℕ) → k < length found → n < get_or found k d) →
-    Counted f h (n + 1) items found
+counted_next : (f : Side → ℕ) (h : ℕ → ℕ) (n : ℕ) (s : Side) (items : List Side) (found : List ℕ)
+    → Counted f h n (s ∷ items) found → ((k d : ℕ) → k < length found → n < get_or found k d)
+    → Counted f h (n + 1) items found
 counted_next f h n s items found c past = record {
   at = λ k d l. ap h (omega arith) ∙ c.at (suc k) d (omega arith);
   ordered = c.ordered;
@@ -106,8 +106,8 @@ counted_next f h n s items found c past = record {
   all = λ i l m. c.all i (omega arith) (omega arith);
 }
 
-counted_tail : (f : Side → ℕ) (h : ℕ → ℕ) (n : ℕ) (s : Side) (items : List Side) (found : List ℕ) →
-    Counted f h n (s ∷ items) (n ∷ found) → Counted f h (n + 1) items found
+counted_tail : (f : Side → ℕ) (h : ℕ → ℕ) (n : ℕ) (s : Side) (items : List Side) (found : List ℕ)
+    → Counted f h n (s ∷ items) (n ∷ found) → Counted f h (n + 1) items found
 counted_tail f h n s items found c = record {
   at = λ k d l. ap h (omega arith) ∙ c.at (suc k) d (omega arith);
   ordered = λ i j d l m. c.ordered (suc i) (suc j) d (omega arith) (omega arith);

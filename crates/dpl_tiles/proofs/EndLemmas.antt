@@ -19,9 +19,9 @@ use Rattle.dpl_tiles.proofs.BoundLemmas.{IsBounded}
 use Rattle.dpl_tiles.proofs.SweepLemmas.{swept_more}
 use Rattle.dpl_tiles.proofs.StepLemmas.{IsWindowStep, held_runs, window_step}
 
-pub closed_next : (z : ℤ) (runs near : List Rect) (i : ℕ) (o r : Rect) (old now new : List Rect) → i < length near →
-    o ≡ get_or near i o → AddsClosed z (ending runs (take i near)) old now → ¬ Any (HasColumns o.x1 o.x2) runs →
-    new ≡ now ++ r ∷ [] → IsClosed z o r
+pub closed_next : (z : ℤ) (runs near : List Rect) (i : ℕ) (o r : Rect) (old now new : List Rect)
+    → i < length near → o ≡ get_or near i o → AddsClosed z (ending runs (take i near)) old now
+    → ¬ Any (HasColumns o.x1 o.x2) runs → new ≡ now ++ r ∷ [] → IsClosed z o r
     → AddsClosed z (ending runs (take (i + 1) near)) old new
 closed_next z runs near i o r old now new within is a none e c = record {
   closed = a.closed ++ r ∷ [];
@@ -30,8 +30,8 @@ closed_next z runs near i o r old now new within is a none e c = record {
   added = rw a.added at e ∙ append_assoc old a.closed (r ∷ []);
 }
 
-pub closed_same : (z : ℤ) (runs near : List Rect) (i : ℕ) (o : Rect) (old now : List Rect) → i < length near →
-    o ≡ get_or near i o → AddsClosed z (ending runs (take i near)) old now → Any (HasColumns o.x1 o.x2) runs
+pub closed_same : (z : ℤ) (runs near : List Rect) (i : ℕ) (o : Rect) (old now : List Rect) → i < length near
+    → o ≡ get_or near i o → AddsClosed z (ending runs (take i near)) old now → Any (HasColumns o.x1 o.x2) runs
     → AddsClosed z (ending runs (take (i + 1) near)) old now
 closed_same z runs near i o old now within is a some = record {
   closed = a.closed;
@@ -42,8 +42,8 @@ closed_same z runs near i o old now within is a some = record {
 pub closed_none : (z : ℤ) (runs near old : List Rect) → AddsClosed z (ending runs (take 0 near)) old old
 closed_none z runs near old = record { closed = []; each = tt; added = rw append-nil refl }
 
-pub closed_whole : (z : ℤ) (runs near : List Rect) (i : ℕ) (old now : List Rect) → length near ≤ i →
-    AddsClosed z (ending runs (take i near)) old now → AddsClosed z (ending runs near) old now
+pub closed_whole : (z : ℤ) (runs near : List Rect) (i : ℕ) (old now : List Rect) → length near ≤ i
+    → AddsClosed z (ending runs (take i near)) old now → AddsClosed z (ending runs near) old now
 closed_whole z runs near i old now whole a = record {
   closed = a.closed;
   each =
@@ -51,15 +51,15 @@ closed_whole z runs near i old now whole a = record {
   added = a.added;
 }
 
-pub nothing_found : (pieces : List Rect) (r : Rect) (found : Option ℕ) (b : Bool) →
-    MatchOption found (¬ Any (HasColumns r.x1 r.x2) pieces) (IsPlaceOf pieces r) → is_some found ≡ not b → b ≡ true →
-    ¬ Any (HasColumns r.x1 r.x2) pieces
+pub nothing_found : (pieces : List Rect) (r : Rect) (found : Option ℕ) (b : Bool)
+    → MatchOption found (¬ Any (HasColumns r.x1 r.x2) pieces) (IsPlaceOf pieces r) → is_some found ≡ not b
+    → b ≡ true → ¬ Any (HasColumns r.x1 r.x2) pieces
 nothing_found pieces r None b m e t = m
 nothing_found pieces r (Some k) b m e t = let h : true ≡ not true = rw t at e in absurd (cc)
 
-pub one_found : (pieces : List Rect) (r : Rect) (found : Option ℕ) (b : Bool) →
-    MatchOption found (¬ Any (HasColumns r.x1 r.x2) pieces) (IsPlaceOf pieces r) → is_some found ≡ not b → b ≡ false →
-    Any (HasColumns r.x1 r.x2) pieces
+pub one_found : (pieces : List Rect) (r : Rect) (found : Option ℕ) (b : Bool)
+    → MatchOption found (¬ Any (HasColumns r.x1 r.x2) pieces) (IsPlaceOf pieces r) → is_some found ≡ not b
+    → b ≡ false → Any (HasColumns r.x1 r.x2) pieces
 one_found pieces r None b m e t = let h : false ≡ not false = rw t at e in absurd (cc)
 one_found pieces r (Some k) b (l, c) e t = (k, get_or pieces k r, l, get_or_default pieces k (get_or pieces k r) r l, c)
 
@@ -77,9 +77,9 @@ no_run cells x1 x2 y none run =
     let f : IsTrue false = rw (none x1) at t in search (rules, f)
 
 -- all stacks are near, and none goes on
-top_step : (cells : ℤ → ℤ → Bool) (z : ℤ) (ended held closed : List Rect) → IsTop cells z →
-    AreSwept cells z ended held → AllZip (IsClosed z) (ending [] held) closed →
-    IsWindowStep (λ x y. cells x (y -ℤ pos 1)) cells z (neg_ℤ (pos (2 ^ 30))) (pos (2 ^ 30)) [] held [] [] [] closed
+top_step : (cells : ℤ → ℤ → Bool) (z : ℤ) (ended held closed : List Rect) → IsTop cells z
+    → AreSwept cells z ended held → AllZip (IsClosed z) (ending [] held) closed
+    → IsWindowStep (λ x y. cells x (y -ℤ pos 1)) cells z (neg_ℤ (pos (2 ^ 30))) (pos (2 ^ 30)) [] held [] [] [] closed
 top_step cells z ended held closed top s zip = record {
   change = λ x out. elim out [
     | inl h ↦ top.bound.left x (z -ℤ pos 1) h ∙ sym (top.bound.left x z h)
@@ -107,8 +107,9 @@ top_step cells z ended held closed top s zip = record {
     | inr h ↦ absurd (let w = r.wide in let l = r.right in omega signed)
   ]
 
-pub swept_last : (cells : ℤ → ℤ → Bool) (z : ℤ) (ended held new : List Rect) → IsTop cells z →
-    AreSwept cells z ended held → AddsClosed z (ending [] held) ended new → AreSwept cells (z +ℤ pos 1) new []
+pub swept_last : (cells : ℤ → ℤ → Bool) (z : ℤ) (ended held new : List Rect) → IsTop cells z
+    → AreSwept cells z ended held → AddsClosed z (ending [] held) ended new
+    → AreSwept cells (z +ℤ pos 1) new []
 swept_last cells z ended held new top s a =
     let step : IsStep cells z ([] ++ (held ++ [])) a.closed ([] ++ ([] ++ [])) =
     window_step (λ x y. cells x (y -ℤ pos 1)) cells z (neg_ℤ (pos (2 ^ 30))) (pos (2 ^ 30)) [] held [] [] []
@@ -122,8 +123,8 @@ swept_last cells z ended held new top s a =
       itself : (z : ℤ) → z ≤ℤ z
       itself z = omega signed
 
-pub all_swept : (cells : ℤ → ℤ → Bool) (z : ℤ) (ended held new : List Rect) → IsTop cells z →
-    AreSwept cells z ended held → AddsClosed z (ending [] held) ended new → AreAllTiles cells new
+pub all_swept : (cells : ℤ → ℤ → Bool) (z : ℤ) (ended held new : List Rect) → IsTop cells z
+    → AreSwept cells z ended held → AddsClosed z (ending [] held) ended new → AreAllTiles cells new
 all_swept cells z ended held new top s a =
     let t = swept_last cells z ended held new top s a in
     record {

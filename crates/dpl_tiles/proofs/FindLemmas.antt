@@ -31,17 +31,17 @@ pub rising : (rects : List Rect) (x : ℤ) → AllPairs IsLeftOf rects → IsNon
 rising rects x up = searchable_from_sorted int_cmp_total (λ (r : Rect). r.x1) rects x (by_left rects up)
 
 -- none begins where the search found no place
-pub none_begins : (rects : List Rect) (x1 x2 : ℤ) (i : ℕ) →
-    IsPartitionPoint (λ r. int_cmp r.x1 x1 ≡ Less) (λ r. int_cmp r.x1 x1 ≡ Greater) rects i →
-    ¬ Any (HasColumns x1 x2) rects
+pub none_begins : (rects : List Rect) (x1 x2 : ℤ) (i : ℕ)
+    → IsPartitionPoint (λ r. int_cmp r.x1 x1 ≡ Less) (λ r. int_cmp r.x1 x1 ≡ Greater) rects i
+    → ¬ Any (HasColumns x1 x2) rects
 none_begins rects x1 x2 i parted (k, r, within, e, c) = elim (cases_lt k i) [
   | inl l ↦ let h : int_cmp r.x1 x1 ≡ Less = rw e at (parted.0 k r (omega arith) l) in let g = less_by_order r.x1 x1 h in let f = c.left in omega signed
   | inr l ↦ let h : int_cmp r.x1 x1 ≡ Greater = rw e at (parted.1 k r l within) in let g = greater_by_order r.x1 x1 h in let f = c.left in omega signed
 ]
 
 -- the one that begins there has other columns, so none has these
-pub none_as_wide : (rects : List Rect) (x1 x2 : ℤ) (i : ℕ) (p : Rect) → AllPairs IsLeftOf rects → i < length rects →
-    p ≡ get_or rects i p → p.x1 ≡ x1 → ¬ (p.x2 ≡ x2) → ¬ Any (HasColumns x1 x2) rects
+pub none_as_wide : (rects : List Rect) (x1 x2 : ℤ) (i : ℕ) (p : Rect) → AllPairs IsLeftOf rects
+    → i < length rects → p ≡ get_or rects i p → p.x1 ≡ x1 → ¬ (p.x2 ≡ x2) → ¬ Any (HasColumns x1 x2) rects
 none_as_wide rects x1 x2 i p up inside is begins wide (k, r, within, e, c) = three k i
     (λ l. let h : IsLeftOf (get_or rects k p) (get_or rects i p) = up k i p l inside in
     let h' : IsLeftOf r p = rw (get_or_default rects k p r within ∙ e, ← is) at h in apart r p (c.left ∙ sym begins) h')

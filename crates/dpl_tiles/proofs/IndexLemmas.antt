@@ -36,9 +36,9 @@ rows_past low high y (prim.Poly points) a (inr h) = (
 )
 
 -- bounds of a primitive with a cell in the row, from right beside the window on, meet the row in the window
-pub meets_there : (b : Bounds) (left right x y : ℤ) (p : Primitive) → HoldsCorners p b → (left -ℤ pos 1) ≤ℤ x →
-    x ≤ℤ right → is_in_outline x y (outline_of p) ≡ true →
-    Meets b (record { left = left; right = right; low = y; high = y })
+pub meets_there : (b : Bounds) (left right x y : ℤ) (p : Primitive) → HoldsCorners p b → (left -ℤ pos 1) ≤ℤ x
+    → x ≤ℤ right → is_in_outline x y (outline_of p) ≡ true
+    → Meets b (record { left = left; right = right; low = y; high = y })
 meets_there b left right x y p h from to t = record {
   left = by_lt_z right b.left (λ g. absurd (beside (inl (omega signed)))) (λ g. g);
   right = by_lt_z b.right left (λ g. absurd (beside (inr (omega signed)))) (λ g. g);
@@ -51,8 +51,9 @@ meets_there b left right x y p h from to t = record {
   missed : IsOutside b.low b.high y → ⊥
   missed out = let (c, past) = rows_past _ _ y p h.rows out in let n = outline_none c x y (outline_of p) past in cc
 
-pub held : (prims : List Primitive) (n : ℕ) (p : Primitive) (x y : ℤ) → n < length prims → p ≡ get_or prims n p →
-    is_in_outline x y (outline_of p) ≡ true → is_cell (map outline_of prims) x y ≡ true
+pub held : (prims : List Primitive) (n : ℕ) (p : Primitive) (x y : ℤ) → n < length prims
+    → p ≡ get_or prims n p → is_in_outline x y (outline_of p) ≡ true
+    → is_cell (map outline_of prims) x y ≡ true
 held prims n p x y l is t = in_parts prims x y ∙ list_any_at (λ p. is_in_outline x y (outline_of p)) prims n p l
     (ap (λ (q : Primitive). is_in_outline x y (outline_of q)) (sym is) ∙ t)
 
@@ -65,9 +66,9 @@ pub record Bounded (of : Point → ℤ) (points : List Point) (n : ℕ) (low hig
 pub bounded_none : (of : Point → ℤ) (points : List Point) (low high : ℤ) → Bounded of points 0 low high
 bounded_none of points low high = record { each = λ k d l. absurd (omega arith) }
 
-pub bounded_more : (of : Point → ℤ) (points : List Point) (n : ℕ) (low high low' high' : ℤ) (p : Point) →
-    n < length points → p ≡ get_or points n p → low' ≤ℤ low → low' ≤ℤ of p → high ≤ℤ high' → of p ≤ℤ high' →
-    Bounded of points n low high → Bounded of points (n + 1) low' high'
+pub bounded_more : (of : Point → ℤ) (points : List Point) (n : ℕ) (low high low' high' : ℤ) (p : Point)
+    → n < length points → p ≡ get_or points n p → low' ≤ℤ low → low' ≤ℤ of p → high ≤ℤ high' → of p ≤ℤ high'
+    → Bounded of points n low high → Bounded of points (n + 1) low' high'
 bounded_more of points n low high low' high' p within is a b c e s = record {
   each = λ k d l h. elim (cases_lt k n) [
     | inl g ↦ let f = s.each k d g h in (chain _ _ _ a f.0, chain _ _ _ f.1 c)
@@ -77,6 +78,6 @@ bounded_more of points n low high low' high' p within is a b c e s = record {
   chain : (a b c : ℤ) → a ≤ℤ b → b ≤ℤ c → a ≤ℤ c
   chain a b c h k = omega signed
 
-pub bounded_all : (of : Point → ℤ) (points : List Point) (n : ℕ) (low high : ℤ) → length points ≤ n →
-    Bounded of points n low high → All (λ p. (low ≤ℤ of p) × (of p ≤ℤ high)) points
+pub bounded_all : (of : Point → ℤ) (points : List Point) (n : ℕ) (low high : ℤ) → length points ≤ n
+    → Bounded of points n low high → All (λ p. (low ≤ℤ of p) × (of p ≤ℤ high)) points
 bounded_all of points n low high whole s k d l = s.each k d (omega arith) l

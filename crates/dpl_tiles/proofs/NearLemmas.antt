@@ -154,11 +154,13 @@ module _ (cells : ℤ → ℤ → Bool) (z high d1 d2 a b : ℤ) (ss : List Stre
             let o : IsOver z high s (get_or runs m d) = rw g at (over m d s h') in
             (m, get_or runs m d, h', get_or_default runs m (get_or runs m d) d h', record { left = o.left ∙ f; right = o.right ∙ t })
 
-pub exact_in : (cells : ℤ → ℤ → Bool) (z d1 d2 a b : ℤ) (parts sorted ss : List Stretch) → AreSeparate ss →
-    ((x : ℤ) → is_in_stretches ss x ≡ is_in_stretches sorted x) →
-    ((x : ℤ) → is_in_stretches sorted x ≡ is_in_stretches parts x)
-    → ((x : ℤ) → is_in_stretches parts x ≡ true → cells x z ≡ true) → ((x : ℤ) → (a -ℤ pos 1) ≤ℤ x → x ≤ℤ b → cells x z ≡ true → is_in_stretches parts x ≡ true)
-    → ((x1 x2 : ℤ) → IsRun cells x1 x2 z → ¬ IsFar d1 d2 x1 x2 → (a ≤ℤ x1) × (x2 ≤ℤ b)) → IsExactIn cells z d1 d2 a b ss
+pub exact_in : (cells : ℤ → ℤ → Bool) (z d1 d2 a b : ℤ) (parts sorted ss : List Stretch) → AreSeparate ss
+    → ((x : ℤ) → is_in_stretches ss x ≡ is_in_stretches sorted x)
+    → ((x : ℤ) → is_in_stretches sorted x ≡ is_in_stretches parts x)
+    → ((x : ℤ) → is_in_stretches parts x ≡ true → cells x z ≡ true)
+    → ((x : ℤ) → (a -ℤ pos 1) ≤ℤ x → x ≤ℤ b → cells x z ≡ true → is_in_stretches parts x ≡ true)
+    → ((x1 x2 : ℤ) → IsRun cells x1 x2 z → ¬ IsFar d1 d2 x1 x2 → (a ≤ℤ x1) × (x2 ≤ℤ b))
+    → IsExactIn cells z d1 d2 a b ss
 exact_in cells z d1 d2 a b parts sorted ss apart same same' sound full inside = record {
   separate = apart;
   sound = λ x h. is_true (sound x (sym (same x ∙ same' x) ∙ true_is _ h));

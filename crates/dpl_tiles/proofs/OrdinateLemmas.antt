@@ -16,9 +16,9 @@ pub corners_kept : (old new : List ℤ) (part : Primitive) → ((z : ℤ) → Co
 corners_kept old new (prim.Box r) f (a, b) = (f r.y1 a, f r.y2 b)
 corners_kept old new (prim.Poly ps) f h = λ k d l. f _ (h k d l)
 
-pub ordinates_more : (prims : List Primitive) (i : ℕ) (part : Primitive) (old new : List ℤ) → i < length prims →
-    part ≡ get_or prims i part → AddsOrdinates part old new → HasOrdinates old (take i prims) →
-    HasOrdinates new (take (i + 1) prims)
+pub ordinates_more : (prims : List Primitive) (i : ℕ) (part : Primitive) (old new : List ℤ) → i < length prims
+    → part ≡ get_or prims i part → AddsOrdinates part old new → HasOrdinates old (take i prims)
+    → HasOrdinates new (take (i + 1) prims)
 ordinates_more prims i part old new within is a h =
     All-more (HasCorners new) prims i part within (All-weaker (HasCorners old) (HasCorners new)
     (λ p g. corners_kept old new p a.kept g) (take i prims) h) (let g = a.has in rw is at g)
@@ -47,8 +47,9 @@ pub record AddsCorners (points : List Point) (i : ℕ) (old new : List ℤ) : Ty
   pub has : All (λ p. Contains new p.y) (take i points)
   pub range : All IsInRange old → All IsInRange new
 
-pub corner_pushed : (points : List Point) (i : ℕ) (p : Point) (old mid new : List ℤ) → i < length points →
-    p ≡ get_or points i p → AddsCorners points i old mid → new ≡ mid ++ p.y ∷ [] → AddsCorners points (i + 1) old new
+pub corner_pushed : (points : List Point) (i : ℕ) (p : Point) (old mid new : List ℤ) → i < length points
+    → p ≡ get_or points i p → AddsCorners points i old mid → new ≡ mid ++ p.y ∷ []
+    → AddsCorners points (i + 1) old new
 corner_pushed points i p old mid new within is a e = rw e (record {
   kept = λ z c. Contains-append_left mid (p.y ∷ []) z (a.kept z c);
   has = All-more (λ q. Contains (mid ++ p.y ∷ []) q.y) points i p within

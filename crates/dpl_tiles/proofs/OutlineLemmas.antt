@@ -36,8 +36,9 @@ side_same x y y' p q e f =
     ap (λ b. int_le p.0 x && b) (spans_by_ends y p q ∙ ap (λ b. cond b (not (int_le q.1 y)) (int_le q.1 y)) e ∙
     ap (λ b. cond (int_le p.1 y') (not b) b) f ∙ sym (spans_by_ends y' p q))
 
-sides_same : (x y y' : ℤ) (p : ℤ × ℤ) (ps : List (ℤ × ℤ)) (last : ℤ × ℤ) → Agrees y y' p.1 →
-    All (λ q. Agrees y y' q.1) ps → Agrees y y' last.1 → left_sides x y p ps last ≡ left_sides x y' p ps last
+sides_same : (x y y' : ℤ) (p : ℤ × ℤ) (ps : List (ℤ × ℤ)) (last : ℤ × ℤ) → Agrees y y' p.1
+    → All (λ q. Agrees y y' q.1) ps → Agrees y y' last.1
+    → left_sides x y p ps last ≡ left_sides x y' p ps last
 sides_same x y y' p [] last e a f = ap bit (side_same x y y' p last e f)
 sides_same x y y' p (q ∷ qs) last e a f =
     let g = All-head (λ q. Agrees y y' q.1) q qs a in
@@ -73,8 +74,8 @@ side_none b x y p q e f = ap (λ c. int_le p.0 x && c) (spans_by_ends y p q ∙
       same true = refl
       same false = refl
 
-sides_none : (b : Bool) (x y : ℤ) (p : ℤ × ℤ) (ps : List (ℤ × ℤ)) (last : ℤ × ℤ) → Lies b y p.1 →
-    All (λ q. Lies b y q.1) ps → Lies b y last.1 → left_sides x y p ps last ≡ 0
+sides_none : (b : Bool) (x y : ℤ) (p : ℤ × ℤ) (ps : List (ℤ × ℤ)) (last : ℤ × ℤ) → Lies b y p.1
+    → All (λ q. Lies b y q.1) ps → Lies b y last.1 → left_sides x y p ps last ≡ 0
 sides_none b x y p [] last e a f = ap bit (side_none b x y p last e f)
 sides_none b x y p (q ∷ qs) last e a f =
     let g = All-head (λ q. Lies b y q.1) q qs a in
@@ -103,8 +104,9 @@ left_none x y p (q ∷ qs) last e a =
     omega arith
 
 -- right of all corners each side that spans the row counts, and they are even
-right_even : (x y : ℤ) (p : ℤ × ℤ) (ps : List (ℤ × ℤ)) (last : ℤ × ℤ) → Lies true x p.0 →
-    All (λ q. Lies true x q.0) ps → (left_sides x y p ps last + bit (int_le p.1 y) + bit (int_le last.1 y)) % 2 ≡ 0
+right_even : (x y : ℤ) (p : ℤ × ℤ) (ps : List (ℤ × ℤ)) (last : ℤ × ℤ) → Lies true x p.0
+    → All (λ q. Lies true x q.0) ps
+    → (left_sides x y p ps last + bit (int_le p.1 y) + bit (int_le last.1 y)) % 2 ≡ 0
 right_even x y p [] last e a =
     let h : bit (is_left_side x y p last) ≡ bit (spans y p last) = ap (λ b. bit (b && spans y p last)) e in
     omega (arith, h, spans_parity y p last)

@@ -27,8 +27,8 @@ left_none x z (w ∷ ws) h a =
       far w x h = grind (arith, ints)
 
 -- the parity of a pair and a rest
-pair_places : (a b x : ℤ) (rest : ℕ) → a ≤ℤ b → (x <ℤ b → rest ≡ 0) →
-    ((bit (int_le a x) + (bit (int_le b x) + rest)) % 2 == 1) ≡ (is_within a b x || (rest % 2 == 1))
+pair_places : (a b x : ℤ) (rest : ℕ) → a ≤ℤ b → (x <ℤ b → rest ≡ 0)
+    → ((bit (int_le a x) + (bit (int_le b x) + rest)) % 2 == 1) ≡ (is_within a b x || (rest % 2 == 1))
 pair_places a b x rest h none = grind (arith, ints)
 
 -- the places between the pairs so far, and those of the sides that are left
@@ -41,8 +41,8 @@ pub record Pairing (old : List Stretch) (sides : List ℤ) (parts : List Stretch
 pub pairing_none : (old : List Stretch) (sides : List ℤ) → Ascends (λ z. z) sides → length sides % 2 ≡ 0 → All IsInRange sides → Pairing old sides old sides
 pairing_none old sides s e r = record { sorted = s; even = e; range = r; same = λ x. refl }
 
-pair_split : (a b x : ℤ) (rest : List ℤ) → Ascends (λ z. z) (a ∷ b ∷ rest) →
-    (at_or_left x (a ∷ b ∷ rest) % 2 == 1) ≡ (is_within a b x || (at_or_left x rest % 2 == 1))
+pair_split : (a b x : ℤ) (rest : List ℤ) → Ascends (λ z. z) (a ∷ b ∷ rest)
+    → (at_or_left x (a ∷ b ∷ rest) % 2 == 1) ≡ (is_within a b x || (at_or_left x rest % 2 == 1))
 pair_split a b x rest s =
     let h : at_or_left x (a ∷ b ∷ rest) ≡ bit (int_le a x) + (bit (int_le b x) + at_or_left x rest) =
     left_cons x a (b ∷ rest) ∙ ap (λ n. bit (int_le a x) + n) (left_cons x b rest) in
@@ -55,9 +55,9 @@ tail_sorted a b rest s i j d h l = s (suc (suc i)) (suc (suc j)) d (omega arith)
 tail_range : (a b : ℤ) (rest : List ℤ) → All IsInRange (a ∷ b ∷ rest) → All IsInRange rest
 tail_range a b rest r k d l = r (suc (suc k)) d (omega arith)
 
-pub pairing_more : (old : List Stretch) (sides : List ℤ) (parts new : List Stretch) (rest others : List ℤ) (a b : ℤ)
-    (s : Stretch) → Pairing old sides parts rest → rest ≡ a ∷ b ∷ others → new ≡ parts ++ s ∷ [] → s.from ≡ a →
-    s.to ≡ b → Pairing old sides new others
+pub pairing_more : (old : List Stretch) (sides : List ℤ) (parts new : List Stretch) (rest others : List ℤ) (a b : ℤ) (s : Stretch)
+    → Pairing old sides parts rest → rest ≡ a ∷ b ∷ others → new ≡ parts ++ s ∷ [] → s.from ≡ a → s.to ≡ b
+    → Pairing old sides new others
 pairing_more old sides parts new rest others a b s p e f g h =
     let sorted' : Ascends (λ z. z) (a ∷ b ∷ others) = rw e at p.sorted in
     let even' : length (a ∷ b ∷ others) % 2 ≡ 0 = rw e at p.even in
@@ -73,8 +73,8 @@ pairing_more old sides parts new rest others a b s p e f g h =
           ap (λ c. is_in_stretches parts x || c) (sym (pair_split a b x others sorted')) ∙ q;
     }
 
-pub pairing_skip : (old : List Stretch) (sides : List ℤ) (parts : List Stretch) (rest others : List ℤ) (a b : ℤ) →
-    Pairing old sides parts rest → rest ≡ a ∷ b ∷ others → b ≤ℤ a → Pairing old sides parts others
+pub pairing_skip : (old : List Stretch) (sides : List ℤ) (parts : List Stretch) (rest others : List ℤ) (a b : ℤ)
+    → Pairing old sides parts rest → rest ≡ a ∷ b ∷ others → b ≤ℤ a → Pairing old sides parts others
 pairing_skip old sides parts rest others a b p e f =
     let sorted' : Ascends (λ z. z) (a ∷ b ∷ others) = rw e at p.sorted in
     let even' : length (a ∷ b ∷ others) % 2 ≡ 0 = rw e at p.even in
@@ -89,8 +89,8 @@ pairing_skip old sides parts rest others a b p e f =
           ap (λ c. is_in_stretches parts x || c) (sym (pair_split a b x others sorted' ∙ ap (λ c. c || (at_or_left x others % 2 == 1)) t)) ∙ q;
     }
 
-pub pairing_end : (old : List Stretch) (sides : List ℤ) (parts : List Stretch) (rest : List ℤ) →
-    Pairing old sides parts rest → rest ≡ [] → AddsPlaces (λ x. at_or_left x sides % 2 == 1) old parts
+pub pairing_end : (old : List Stretch) (sides : List ℤ) (parts : List Stretch) (rest : List ℤ)
+    → Pairing old sides parts rest → rest ≡ [] → AddsPlaces (λ x. at_or_left x sides % 2 == 1) old parts
 pairing_end old sides parts rest p e = λ x.
     let q : (is_in_stretches parts x || (at_or_left x [] % 2 == 1)) ≡ (is_in_stretches old x || (at_or_left x sides % 2 == 1)) = rw e at (p.same x) in
     sym (or-false _) ∙ q

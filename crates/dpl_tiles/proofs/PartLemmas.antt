@@ -43,16 +43,17 @@ use Rattle.dpl_tiles.proofs.IndexLemmas.{meets_there}
 
 -- ---- boxes and polygons apart
 
-pub bounds_more : (prims : List Primitive) (i : ℕ) (p : Primitive) (old new : List Bounds) → i < length prims →
-    p ≡ get_or prims i p → AddsBounds p old new → AllZip HoldsCorners (filter is_polygon (take i prims)) old →
-    AllZip HoldsCorners (filter is_polygon (take (i + 1) prims)) new
+pub bounds_more : (prims : List Primitive) (i : ℕ) (p : Primitive) (old new : List Bounds) → i < length prims
+    → p ≡ get_or prims i p → AddsBounds p old new → AllZip HoldsCorners (filter is_polygon (take i prims)) old
+    → AllZip HoldsCorners (filter is_polygon (take (i + 1) prims)) new
 bounds_more prims i (prim.Box r) old new within is adds a = rw adds (zip_left_out HoldsCorners is_polygon prims i old (prim.Box r) within is a refl)
 bounds_more prims i (prim.Poly points) old new within is (b, h, e) a =
     zip_kept HoldsCorners is_polygon prims i old new (prim.Poly points) b within is a refl e h
 
-pub sides_more : (prims : List Primitive) (i : ℕ) (p : Primitive) (old new : List (List Side)) → i < length prims →
-    p ≡ get_or prims i p → AddsSidesOf p old new → AllZip AreSides (filter is_polygon (take i prims)) old →
-    AllZip AreSides (filter is_polygon (take (i + 1) prims)) new
+pub sides_more : (prims : List Primitive) (i : ℕ) (p : Primitive) (old new : List (List Side))
+    → i < length prims → p ≡ get_or prims i p → AddsSidesOf p old new
+    → AllZip AreSides (filter is_polygon (take i prims)) old
+    → AllZip AreSides (filter is_polygon (take (i + 1) prims)) new
 sides_more prims i (prim.Box r) old new within is adds a = rw adds (zip_left_out AreSides is_polygon prims i old (prim.Box r) within is a refl)
 sides_more prims i (prim.Poly points) old new within is (s, h, e) a =
     zip_kept AreSides is_polygon prims i old new (prim.Poly points) s within is a refl e h
@@ -62,8 +63,9 @@ boxes_behind [] p = refl
 boxes_behind (prim.Box r ∷ ps) p = ap (λ (rs : List Rect). r ∷ rs) (boxes_behind ps p)
 boxes_behind (prim.Poly points ∷ ps) p = boxes_behind ps p
 
-pub boxes_more : (prims : List Primitive) (i : ℕ) (p : Primitive) (old new : List Rect) → i < length prims →
-    p ≡ get_or prims i p → new ≡ old ++ boxes_of (p ∷ []) → old ≡ boxes_of (take i prims) → new ≡ boxes_of (take (i + 1) prims)
+pub boxes_more : (prims : List Primitive) (i : ℕ) (p : Primitive) (old new : List Rect) → i < length prims
+    → p ≡ get_or prims i p → new ≡ old ++ boxes_of (p ∷ []) → old ≡ boxes_of (take i prims)
+    → new ≡ boxes_of (take (i + 1) prims)
 boxes_more prims i p old new within is e h =
     e ∙ ap (λ (rs : List Rect). rs ++ boxes_of (p ∷ [])) h ∙ sym (boxes_behind (take i prims) p) ∙
     ap (λ (q : Primitive). boxes_of (take i prims ++ q ∷ [])) is ∙
@@ -105,16 +107,17 @@ sides_tell : (p : Primitive) (s : List Side) (x y : ℤ) → AreSides p s → is
 sides_tell (prim.Box r) s x y a e = absurd (true≢false (sym e))
 sides_tell (prim.Poly points) s x y a e = polygon_between (map place_of points) s x y a
 
-one_between : (prims : List Primitive) (sides : List (List Side)) (i : ℕ) (d : Primitive) (x y : ℤ) →
-    AllZip AreSides (filter is_polygon prims) sides → i < length (filter is_polygon prims) →
-    is_between (get_or sides i []) x y ≡ is_in_outline x y (outline_of (get_or (filter is_polygon prims) i d))
+one_between : (prims : List Primitive) (sides : List (List Side)) (i : ℕ) (d : Primitive) (x y : ℤ)
+    → AllZip AreSides (filter is_polygon prims) sides → i < length (filter is_polygon prims)
+    → is_between (get_or sides i []) x y ≡ is_in_outline x y (outline_of (get_or (filter is_polygon prims) i d))
 one_between prims sides i d x y are l =
     sides_tell (get_or (filter is_polygon prims) i d) (get_or sides i []) x y
     (zip_at AreSides (filter is_polygon prims) sides i d [] are l) (are_polygons prims i d l)
 
 -- a cell between the sides of a polygon is a cell of the row
-between_cell : (prims : List Primitive) (sides : List (List Side)) (x y : ℤ) → AllZip AreSides (filter is_polygon prims) sides →
-    Any (λ s. is_between s x y ≡ true) sides → is_cell (map outline_of prims) x y ≡ true
+between_cell : (prims : List Primitive) (sides : List (List Side)) (x y : ℤ)
+    → AllZip AreSides (filter is_polygon prims) sides → Any (λ s. is_between s x y ≡ true) sides
+    → is_cell (map outline_of prims) x y ≡ true
 between_cell prims sides x y are (i, s, l, is, t) =
     let n = zip_length AreSides (filter is_polygon prims) sides are in
     let h : i < length (filter is_polygon prims) = omega (arith, l, n) in
@@ -132,8 +135,9 @@ between_cell prims sides x y are (i, s, l, is, t) =
         (sym (one_between prims sides i d x y are h) ∙ t)) ∙ or_right _ _ refl
 
 -- what stands right beside the window is between the sides of no polygon
-pub framed_sides : (prims : List Primitive) (sides : List (List Side)) (y a b : ℤ) → AllZip AreSides (filter is_polygon prims) sides →
-    IsFramed (is_cell (map outline_of prims)) y a b → All (λ s. IsFramed (is_between s) y a b) sides
+pub framed_sides : (prims : List Primitive) (sides : List (List Side)) (y a b : ℤ)
+    → AllZip AreSides (filter is_polygon prims) sides → IsFramed (is_cell (map outline_of prims)) y a b
+    → All (λ s. IsFramed (is_between s) y a b) sides
 framed_sides prims sides y a b are f k s l = record { some = f.some; left = none (a -ℤ pos 1) f.left; right = none b f.right } where
   not_true : (t c : Bool) → (t ≡ true → c ≡ true) → c ≡ false → t ≡ false
   not_true true c h e = absurd (true≢false (sym (h refl) ∙ e))
@@ -147,9 +151,10 @@ framed_sides prims sides y a b are f k s l = record { some = f.some; left = none
 pub between_none : (sides : List (List Side)) (y a b : ℤ) (parts : List Stretch) → AddsBetween sides [] y a b parts parts
 between_none sides y a b parts = record { kept = λ x h. h; sound = λ x h. inl h; full = λ x i f t (k, l, e) h. absurd (omega (arith, l)) }
 
-pub between_more : (sides : List (List Side)) (found : List ℕ) (t : ℕ) (y a b : ℤ) (first old new : List Stretch) (s : List Side) →
-    t < length found → get_or found t 0 < length sides → s ≡ get_or sides (get_or found t 0) s → AddsWithin (is_between s) y a b old new →
-    AddsBetween sides (take t found) y a b first old → AddsBetween sides (take (t + 1) found) y a b first new
+pub between_more : (sides : List (List Side)) (found : List ℕ) (t : ℕ) (y a b : ℤ) (first old new : List Stretch) (s : List Side)
+    → t < length found → get_or found t 0 < length sides → s ≡ get_or sides (get_or found t 0) s
+    → AddsWithin (is_between s) y a b old new → AddsBetween sides (take t found) y a b first old
+    → AddsBetween sides (take (t + 1) found) y a b first new
 between_more sides found t y a b first old new s here inside is adds so = record {
   kept = λ x h. adds.kept x (so.kept x h);
   sound = λ x h. elim (or_cases _ _ (adds.sound x h)) [
@@ -166,8 +171,9 @@ between_more sides found t y a b first old new s here inside is adds so = record
         (ap (λ j. get_or sides j []) (sym e) ∙ get_or_default sides (get_or found t 0) [] s inside ∙ sym is) h)
   ]
 
-pub between_all : (sides : List (List Side)) (found : List ℕ) (t : ℕ) (y a b : ℤ) (first new : List Stretch) → length found ≤ t →
-    AddsBetween sides (take t found) y a b first new → AddsBetween sides found y a b first new
+pub between_all : (sides : List (List Side)) (found : List ℕ) (t : ℕ) (y a b : ℤ) (first new : List Stretch)
+    → length found ≤ t → AddsBetween sides (take t found) y a b first new
+    → AddsBetween sides found y a b first new
 between_all sides found t y a b first new whole h = rw (take_all t found whole) at h
 
 -- ---- a polygon by its sides
@@ -177,35 +183,36 @@ framed_alike old new y a b same f = record { some = f.some; left = same (a -ℤ 
 
 -- ---- the cells of the row
 
-pub found_within : (prims : List Primitive) (sides : List (List Side)) (bounds : List Bounds) (window : Bounds) (found : List ℕ) →
-    AllZip AreSides prims sides → AreBoundsOf prims bounds → AreMeeting bounds window found → (k d : ℕ) → k < length found →
-    get_or found k d < length sides
+pub found_within : (prims : List Primitive) (sides : List (List Side)) (bounds : List Bounds) (window : Bounds) (found : List ℕ)
+    → AllZip AreSides prims sides → AreBoundsOf prims bounds → AreMeeting bounds window found → (k d : ℕ)
+    → k < length found → get_or found k d < length sides
 found_within prims sides bounds window found s are m k d l =
     let w = (m.each k d l).within in let n = zip_length HoldsCorners prims bounds are in let o = zip_length AreSides prims sides s in omega (arith, w, n, o)
 
-covered_cell : (prims : List Primitive) (cover : Cover) (x y : ℤ) → IsPermutation (boxes_of prims) cover.begins.items → cover.row ≡ y →
-    is_covered cover x ≡ list_any (λ r. is_in_box (corners_of r) x y) (boxes_of prims)
+covered_cell : (prims : List Primitive) (cover : Cover) (x y : ℤ)
+    → IsPermutation (boxes_of prims) cover.begins.items → cover.row ≡ y
+    → is_covered cover x ≡ list_any (λ r. is_in_box (corners_of r) x y) (boxes_of prims)
 covered_cell prims cover x y same row =
     ap (λ z. list_any (λ r. is_in_box (corners_of r) x z) cover.begins.items) row ∙
     sym (list_any-IsPermutation (λ r. is_in_box (corners_of r) x y) (boxes_of prims) cover.begins.items same)
 
-pub row_sound : (prims : List Primitive) (finder : Finder) (y a b : ℤ) (found : List ℕ) (first parts : List Stretch) →
-    IsFinderOf prims finder → finder.cover.row ≡ y →
-    ((x : ℤ) → is_in_stretches first x ≡ true → is_covered finder.cover x ≡ true) →
-    AddsBetween finder.sides.items found y a b first parts →
-    (x : ℤ) → is_in_stretches parts x ≡ true → is_cell (map outline_of prims) x y ≡ true
+pub row_sound : (prims : List Primitive) (finder : Finder) (y a b : ℤ) (found : List ℕ) (first parts : List Stretch)
+    → IsFinderOf prims finder → finder.cover.row ≡ y
+    → ((x : ℤ) → is_in_stretches first x ≡ true → is_covered finder.cover x ≡ true)
+    → AddsBetween finder.sides.items found y a b first parts → (x : ℤ) → is_in_stretches parts x ≡ true
+    → is_cell (map outline_of prims) x y ≡ true
 row_sound prims finder y a b found first parts f row covers adds x h = elim (adds.sound x h) [
   | inl t ↦ cells_split prims x y ∙ ap (λ c. c || is_cell (map outline_of (filter is_polygon prims)) x y)
       (sym (covered_cell prims finder.cover x y f.boxes row) ∙ covers x t)
   | inr t ↦ between_cell prims finder.sides.items x y f.sides t
 ]
 
-pub row_full : (prims : List Primitive) (finder : Finder) (y a b : ℤ) (found : List ℕ) (first parts : List Stretch) →
-    IsFinderOf prims finder → finder.cover.row ≡ y → IsFramed (is_cell (map outline_of prims)) y a b →
-    AreMeeting finder.polygons (record { left = a; right = b; low = y; high = y }) found →
-    ((x : ℤ) → a ≤ℤ x → x <ℤ b → is_covered finder.cover x ≡ true → is_in_stretches first x ≡ true) →
-    AddsBetween finder.sides.items found y a b first parts →
-    (x : ℤ) → (a -ℤ pos 1) ≤ℤ x → x ≤ℤ b → is_cell (map outline_of prims) x y ≡ true → is_in_stretches parts x ≡ true
+pub row_full : (prims : List Primitive) (finder : Finder) (y a b : ℤ) (found : List ℕ) (first parts : List Stretch)
+    → IsFinderOf prims finder → finder.cover.row ≡ y → IsFramed (is_cell (map outline_of prims)) y a b
+    → AreMeeting finder.polygons (record { left = a; right = b; low = y; high = y }) found
+    → ((x : ℤ) → a ≤ℤ x → x <ℤ b → is_covered finder.cover x ≡ true → is_in_stretches first x ≡ true)
+    → AddsBetween finder.sides.items found y a b first parts → (x : ℤ) → (a -ℤ pos 1) ≤ℤ x → x ≤ℤ b
+    → is_cell (map outline_of prims) x y ≡ true → is_in_stretches parts x ≡ true
 row_full prims finder y a b found first parts f row framed m covers adds x from to t =
     elim (or_cases _ _ (sym (cells_split prims x y) ∙ t)) [
       | inl c ↦ adds.kept x (covers x (not_before x from t) (not_behind x to t) (covered_cell prims finder.cover x y f.boxes row ∙ c))
@@ -239,14 +246,15 @@ row_full prims finder y a b found first parts f row framed m covers adds x from 
               (rw e at (zip_at HoldsCorners (filter is_polygon prims) finder.polygons k p d f.bounds l)) from to h;
         }
 
-pub framed_side : (sides : List (List Side)) (i : ℕ) (s : List Side) (y a b : ℤ) → i < length sides → s ≡ get_or sides i s →
-    All (λ s. IsFramed (is_between s) y a b) sides → IsFramed (is_between s) y a b
+pub framed_side : (sides : List (List Side)) (i : ℕ) (s : List Side) (y a b : ℤ) → i < length sides
+    → s ≡ get_or sides i s → All (λ s. IsFramed (is_between s) y a b) sides → IsFramed (is_between s) y a b
 framed_side sides i s y a b l is f = subst (λ (z : List Side). IsFramed (is_between z) y a b) (sym is) (f i s l)
 
 -- ---- the next row
 
-pub risen_finder : (prims : List Primitive) (f g : Finder) (cover : Cover) → IsFinderOf prims f → IsCover cover →
-    cover.begins.items ≡ f.cover.begins.items → g ≡ record { polygons = f.polygons; sides = f.sides; cover = cover } → IsFinderOf prims g
+pub risen_finder : (prims : List Primitive) (f g : Finder) (cover : Cover) → IsFinderOf prims f
+    → IsCover cover → cover.begins.items ≡ f.cover.begins.items
+    → g ≡ record { polygons = f.polygons; sides = f.sides; cover = cover } → IsFinderOf prims g
 risen_finder prims f g cover is covers same e = subst (λ (z : Finder). IsFinderOf prims z) (sym e) (record {
   bounds = is.bounds;
   sides = is.sides;
@@ -254,8 +262,8 @@ risen_finder prims f g cover is covers same e = subst (λ (z : Finder). IsFinder
   cover = covers;
 })
 
-pub risen_row : (rows : List ℤ) (k : ℕ) (row : ℤ) → Ascends (λ z. z) rows → k < length rows → row ≤ℤ get_or rows (k - 1) (pos 0) →
-    row ≤ℤ get_or rows (k + 1 - 1) (pos 0)
+pub risen_row : (rows : List ℤ) (k : ℕ) (row : ℤ) → Ascends (λ z. z) rows → k < length rows
+    → row ≤ℤ get_or rows (k - 1) (pos 0) → row ≤ℤ get_or rows (k + 1 - 1) (pos 0)
 risen_row rows k row up l h =
     let e : k + 1 - 1 ≡ k = omega arith in let n = up (k - 1) k (pos 0) (omega arith) l in rw e (omega (signed, h, n))
 
@@ -265,8 +273,9 @@ pub columns_held : (r : Corners) (a b : ℤ) → has_columns r a b ≡ true → 
 columns_held r a b t = let (u, v) = and_parts _ _ t in (is_at_most r.x1 a u, is_at_most b r.x2 v)
 
 -- without polygons the cells are those that boxes cover
-all_boxes : (prims : List Primitive) (finder : Finder) (x y : ℤ) → IsFinderOf prims finder → finder.cover.row ≡ y →
-    finder.sides.items ≡ [] → is_cell (map outline_of prims) x y ≡ is_covered finder.cover x
+all_boxes : (prims : List Primitive) (finder : Finder) (x y : ℤ) → IsFinderOf prims finder
+    → finder.cover.row ≡ y → finder.sides.items ≡ []
+    → is_cell (map outline_of prims) x y ≡ is_covered finder.cover x
 all_boxes prims finder x y f row none =
     let n = zip_length AreSides (filter is_polygon prims) finder.sides.items f.sides in
     let e : filter is_polygon prims ≡ [] = nothing (filter is_polygon prims) (n ∙ ap (λ (s : List (List Side)). length s) none) in
@@ -281,13 +290,13 @@ all_boxes prims finder x y f row none =
     or_false true = refl
     or_false false = refl
 
-pub beside_sound : (prims : List Primitive) (finder : Finder) (y d1 d2 : ℤ) (s : Stretch) (first second parts : List Stretch) →
-    IsFinderOf prims finder → finder.cover.row ≡ y → finder.sides.items ≡ [] →
-    ((x : ℤ) → IsWithin s.from s.to x → IsOutside d1 d2 x → is_cell (map outline_of prims) x y ≡ true) →
-    ((x : ℤ) → is_in_stretches first x ≡ true → is_covered finder.cover x ≡ true) →
-    ((x : ℤ) → is_in_stretches second x ≡ (is_in_stretches first x || is_shared s s.from d1 x)) →
-    ((x : ℤ) → is_in_stretches parts x ≡ (is_in_stretches second x || is_shared s d2 s.to x)) →
-    (x : ℤ) → is_in_stretches parts x ≡ true → is_cell (map outline_of prims) x y ≡ true
+pub beside_sound : (prims : List Primitive) (finder : Finder) (y d1 d2 : ℤ) (s : Stretch) (first second parts : List Stretch)
+    → IsFinderOf prims finder → finder.cover.row ≡ y → finder.sides.items ≡ []
+    → ((x : ℤ) → IsWithin s.from s.to x → IsOutside d1 d2 x → is_cell (map outline_of prims) x y ≡ true)
+    → ((x : ℤ) → is_in_stretches first x ≡ true → is_covered finder.cover x ≡ true)
+    → ((x : ℤ) → is_in_stretches second x ≡ (is_in_stretches first x || is_shared s s.from d1 x))
+    → ((x : ℤ) → is_in_stretches parts x ≡ (is_in_stretches second x || is_shared s d2 s.to x)) → (x : ℤ)
+    → is_in_stretches parts x ≡ true → is_cell (map outline_of prims) x y ≡ true
 beside_sound prims finder y d1 d2 s first second parts f row none same covers one two x h =
     elim (or_cases _ _ (sym (two x) ∙ h)) [
       | inl t ↦ elim (or_cases _ _ (sym (one x) ∙ t)) [
@@ -297,12 +306,12 @@ beside_sound prims finder y d1 d2 s first second parts f row none same covers on
       | inr t ↦ let (p, q) = and_parts _ _ t in same x (test_within _ _ x p) (inr (let w = test_within d2 s.to x q in w.from))
     ]
 
-pub beside_full : (prims : List Primitive) (finder : Finder) (y d1 d2 : ℤ) (s : Stretch) (first second parts : List Stretch) →
-    IsFinderOf prims finder → finder.cover.row ≡ y → finder.sides.items ≡ [] →
-    ((x : ℤ) → d1 ≤ℤ x → x <ℤ d2 → is_covered finder.cover x ≡ true → is_in_stretches first x ≡ true) →
-    ((x : ℤ) → is_in_stretches second x ≡ (is_in_stretches first x || is_shared s s.from d1 x)) →
-    ((x : ℤ) → is_in_stretches parts x ≡ (is_in_stretches second x || is_shared s d2 s.to x)) →
-    (x : ℤ) → IsWithin s.from s.to x → is_cell (map outline_of prims) x y ≡ true → is_in_stretches parts x ≡ true
+pub beside_full : (prims : List Primitive) (finder : Finder) (y d1 d2 : ℤ) (s : Stretch) (first second parts : List Stretch)
+    → IsFinderOf prims finder → finder.cover.row ≡ y → finder.sides.items ≡ []
+    → ((x : ℤ) → d1 ≤ℤ x → x <ℤ d2 → is_covered finder.cover x ≡ true → is_in_stretches first x ≡ true)
+    → ((x : ℤ) → is_in_stretches second x ≡ (is_in_stretches first x || is_shared s s.from d1 x))
+    → ((x : ℤ) → is_in_stretches parts x ≡ (is_in_stretches second x || is_shared s d2 s.to x)) → (x : ℤ)
+    → IsWithin s.from s.to x → is_cell (map outline_of prims) x y ≡ true → is_in_stretches parts x ≡ true
 beside_full prims finder y d1 d2 s first second parts f row none covers one two x w t =
     by_lt_z x d1
     (λ h. from_second (one x ∙ or_right (is_in_stretches first x) _
@@ -323,9 +332,9 @@ same_tests false true f g = g refl
 same_tests false false f g = refl
 
 -- the columns that a stack shares with those from a to b are added
-pub shared_pushed : (old new : List Stretch) (s p : Stretch) (a b x : ℤ) → s.from ≤ℤ p.from → a ≤ℤ p.from →
-    (p.from ≡ s.from) ⊎ (p.from ≡ a) → p.to ≤ℤ s.to → p.to ≤ℤ b → (p.to ≡ s.to) ⊎ (p.to ≡ b) → new ≡ old ++ p ∷ [] →
-    is_in_stretches new x ≡ (is_in_stretches old x || is_shared s a b x)
+pub shared_pushed : (old new : List Stretch) (s p : Stretch) (a b x : ℤ) → s.from ≤ℤ p.from → a ≤ℤ p.from
+    → (p.from ≡ s.from) ⊎ (p.from ≡ a) → p.to ≤ℤ s.to → p.to ≤ℤ b → (p.to ≡ s.to) ⊎ (p.to ≡ b)
+    → new ≡ old ++ p ∷ [] → is_in_stretches new x ≡ (is_in_stretches old x || is_shared s a b x)
 shared_pushed old new s p a b x f1 f2 f3 t1 t2 t3 e =
     ap (λ (ss : List Stretch). is_in_stretches ss x) e ∙ in_pushed old p x ∙ ap (λ c. is_in_stretches old x || c)
     (same_tests (is_within p.from p.to x) (is_shared s a b x) there back)
@@ -345,9 +354,9 @@ shared_pushed old new s p a b x f1 f2 f3 t1 t2 t3 e =
         })
 
 -- it shares none of them
-pub none_shared : (old : List Stretch) (s : Stretch) (a b from to x : ℤ) → s.from ≤ℤ from → a ≤ℤ from →
-    (from ≡ s.from) ⊎ (from ≡ a) → to ≤ℤ s.to → to ≤ℤ b → (to ≡ s.to) ⊎ (to ≡ b) → to ≤ℤ from →
-    is_in_stretches old x ≡ (is_in_stretches old x || is_shared s a b x)
+pub none_shared : (old : List Stretch) (s : Stretch) (a b from to x : ℤ) → s.from ≤ℤ from → a ≤ℤ from
+    → (from ≡ s.from) ⊎ (from ≡ a) → to ≤ℤ s.to → to ≤ℤ b → (to ≡ s.to) ⊎ (to ≡ b) → to ≤ℤ from
+    → is_in_stretches old x ≡ (is_in_stretches old x || is_shared s a b x)
 none_shared old s a b from to x f1 f2 f3 t1 t2 t3 h =
     sym (ap (λ c. is_in_stretches old x || c) (same_tests (is_shared s a b x) false bare (λ e. absurd (true≢false (sym e)))) ∙ or_false (is_in_stretches old x))
   where
@@ -364,9 +373,10 @@ none_shared old s a b from to x f1 f2 f3 t1 t2 t3 h =
         absurd (omega (signed, low, high, h))
 
 -- in the window and right beside it
-pub near_full : (cells : ℤ → ℤ → Bool) (z d1 d2 a b : ℤ) (s : Stretch) (parts : List Stretch) → IsStill cells z d1 d2 a b s →
-    IsFramed cells z a b → ((x : ℤ) → IsWithin s.from s.to x → cells x z ≡ true → is_in_stretches parts x ≡ true) →
-    (x : ℤ) → (a -ℤ pos 1) ≤ℤ x → x ≤ℤ b → cells x z ≡ true → is_in_stretches parts x ≡ true
+pub near_full : (cells : ℤ → ℤ → Bool) (z d1 d2 a b : ℤ) (s : Stretch) (parts : List Stretch)
+    → IsStill cells z d1 d2 a b s → IsFramed cells z a b
+    → ((x : ℤ) → IsWithin s.from s.to x → cells x z ≡ true → is_in_stretches parts x ≡ true) → (x : ℤ)
+    → (a -ℤ pos 1) ≤ℤ x → x ≤ℤ b → cells x z ≡ true → is_in_stretches parts x ≡ true
 near_full cells z d1 d2 a b s parts still framed full x low high t = full x (record {
   from = let f = still.left in by_lt_z x a (λ h. absurd
       (let g : x ≡ a -ℤ pos 1 = omega (signed, h, low) in true≢false (sym t ∙ ap (λ c. cells c z) g ∙ framed.left))) (λ h. omega (signed, h, f));

@@ -27,8 +27,8 @@ passed_right cells c x z h = ap (λ b. cells x (if b then z else z -ℤ pos 1)) 
 
 -- ---- nothing is passed yet
 
-step_none : (old cells : ℤ → ℤ → Bool) (z : ℤ) (held : List Rect) → ((x : ℤ) → old x z ≡ cells x (z -ℤ pos 1)) →
-    AreHeld cells z held → IsStep old z held [] held
+step_none : (old cells : ℤ → ℤ → Bool) (z : ℤ) (held : List Rect) → ((x : ℤ) → old x z ≡ cells x (z -ℤ pos 1))
+    → AreHeld cells z held → IsStep old z held [] held
 step_none old cells z held same h = let r = held_runs old cells z held same h in record {
   each = λ k d l. (r.each k d l, inl (any_here (λ o. IsSameStack o (get_or held k d)) held k d l (itself _)));
   all = r.all;
@@ -53,8 +53,8 @@ left_of_all low (k ∷ ks) = go (left_of_all low ks) where
             (All-weaker (λ j. c <ℤ j.left) (λ j. (k.left -ℤ pos 1) <ℤ j.left) (λ j i. omega signed) ks a),
       ))
 
-pub none_passed : (cells : ℤ → ℤ → Bool) (z : ℤ) (row : List Corner) (ended held : List Rect) → AreChanges cells z row →
-    AreSwept cells z ended held → IsPassed cells z row 0 ended held
+pub none_passed : (cells : ℤ → ℤ → Bool) (z : ℤ) (row : List Corner) (ended held : List Rect)
+    → AreChanges cells z row → AreSwept cells z ended held → IsPassed cells z row 0 ended held
 none_passed cells z row ended held changes s = go (left_of_all (neg_ℤ (pos (2 ^ 30))) row) where
   left_of : (c low : ℤ) (r : Rect) → c <ℤ low → low ≤ℤ r.x1 → c <ℤ r.x1
   left_of c low r h g = omega signed
@@ -83,8 +83,8 @@ none_passed cells z row ended held changes s = go (left_of_all (neg_ℤ (pos (2 
 
 -- ---- all is passed
 
-step_same : (old new : ℤ → ℤ → Bool) (z : ℤ) (held closed next : List Rect) → ((x : ℤ) → old x z ≡ new x z) →
-    IsStep old z held closed next → IsStep new z held closed next
+step_same : (old new : ℤ → ℤ → Bool) (z : ℤ) (held closed next : List Rect) → ((x : ℤ) → old x z ≡ new x z)
+    → IsStep old z held closed next → IsStep new z held closed next
 step_same old new z held closed next same s = record {
   each = λ k d l. let e = s.each k d l in (on _ _ (e.0), e.1);
   all = λ x1 x2 run. s.all x1 x2 (back x1 x2 run);
@@ -100,9 +100,9 @@ step_same old new z held closed next same s = record {
   back : (x1 x2 : ℤ) → IsRun new x1 x2 z → IsRun old x1 x2 z
   back x1 x2 run = run_same new old z z x1 x2 (λ x. sym (same x)) run
 
-pub all_passed : (cells : ℤ → ℤ → Bool) (z high : ℤ) (row : List Corner) (at : ℕ) (ended now : List Rect) →
-    AreAlike cells z high → AreChanges cells z row → length row ≤ at → IsPassed cells z row at ended now →
-    AreSwept cells high ended now
+pub all_passed : (cells : ℤ → ℤ → Bool) (z high : ℤ) (row : List Corner) (at : ℕ) (ended now : List Rect)
+    → AreAlike cells z high → AreChanges cells z row → length row ≤ at → IsPassed cells z row at ended now
+    → AreSwept cells high ended now
 all_passed cells z high row at ended now alike changes whole p =
     rw p.added (swept_more cells z high p.before p.held p.closed now alike p.swept
     (step_same (passed cells p.column) cells z p.held p.closed now same p.step.step)) where

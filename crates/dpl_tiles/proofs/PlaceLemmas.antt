@@ -56,16 +56,16 @@ pub last_ones : (P : Rect → Type 0) (xs : List Rect) (n : ℕ) → ((k : ℕ) 
 last_ones P xs n a k d l = let m = length-drop n xs in rw (get_or-drop n xs k d) (a (n + k) d (omega arith) (omega arith))
 
 -- the order of one of the first list and one of the second
-pub across : (xs ys : List Rect) → AllPairs IsLeftOf (xs ++ ys) → (i j : ℕ) (d : Rect) → i < length xs → j < length ys →
-    IsLeftOf (get_or xs i d) (get_or ys j d)
+pub across : (xs ys : List Rect) → AllPairs IsLeftOf (xs ++ ys) → (i j : ℕ) (d : Rect) → i < length xs
+    → j < length ys → IsLeftOf (get_or xs i d) (get_or ys j d)
 across xs ys up i j d h l = let n = length-append xs ys in
     rw (get_or_append_left xs ys d i h, get_or-append-add xs ys j d) at
     (up i (length xs + j) d (omega arith) (omega arith))
 
 -- ---- moving stacks from one list to the other leaves their order
 
-pub to_right : (left right left' right' : List Rect) (n : ℕ) → left' ≡ take n left →
-    right' ≡ right ++ reverse (drop n left) → left' ++ reverse right' ≡ left ++ reverse right
+pub to_right : (left right left' right' : List Rect) (n : ℕ) → left' ≡ take n left
+    → right' ≡ right ++ reverse (drop n left) → left' ++ reverse right' ≡ left ++ reverse right
 to_right left right left' right' n e f = rw (
   e,
   f,
@@ -74,8 +74,8 @@ to_right left right left' right' n e f = rw (
 ) (sym (append_assoc (take n left) (drop n left) (reverse right)) ∙
     ap (λ xs. xs ++ reverse right) (take-append-drop n left))
 
-pub to_left : (left right left' right' : List Rect) (n : ℕ) → right' ≡ take n right →
-    left' ≡ left ++ reverse (drop n right) → left' ++ reverse right' ≡ left ++ reverse right
+pub to_left : (left right left' right' : List Rect) (n : ℕ) → right' ≡ take n right
+    → left' ≡ left ++ reverse (drop n right) → left' ++ reverse right' ≡ left ++ reverse right
 to_left left right left' right' n e f = rw (e, f) (append_assoc left (reverse (drop n right)) (reverse (take n right)) ∙
     ap (λ xs. left ++ xs) (sym (reverse-append (take n right) (drop n right)) ∙ ap reverse (take-append-drop n right)))
 
@@ -100,9 +100,9 @@ pub record AreMoves (d1 d2 : ℤ) (left right left1 right1 left2 right2 near rig
   pub begins_right : (k : ℕ) (d : Rect) → k < c → d2 <ℤ (get_or right2 k d).x1
   pub not_right : (k : ℕ) (d : Rect) → c ≤ k → k < length right2 → (get_or right2 k d).x1 ≤ℤ d2
 
-pub moved : (d1 d2 : ℤ) (left right left1 right1 left2 right2 near right3 : List Rect) (a b c : ℕ) →
-    AreMoves d1 d2 left right left1 right1 left2 right2 near right3 a b c →
-    IsParted (left ++ reverse right) d1 d2 left2 near right3
+pub moved : (d1 d2 : ℤ) (left right left1 right1 left2 right2 near right3 : List Rect) (a b c : ℕ)
+    → AreMoves d1 d2 left right left1 right1 left2 right2 near right3 a b c
+    → IsParted (left ++ reverse right) d1 d2 left2 near right3
 moved d1 d2 left right left1 right1 left2 right2 near right3 a b c m = record {
   some = m.some;
   whole = sym (to_right left right left1 right1 a m.is_left1 m.is_right1) ∙
@@ -128,10 +128,11 @@ last_begins xs r c up e h k d l = elim (cases_lt k (length xs - 1)) [
   later q i = let v = r.wide in omega signed
 
 -- the columns reach further to the right, and so do the stacks near them
-pub parted_wider : (held before near right near' right' : List Rect) (d1 d2 c : ℤ) (n : ℕ) →
-    IsParted held d1 d2 before near right → d2 ≤ℤ c → right' ≡ take n right → near' ≡ near ++ reverse (drop n right) →
-    ((k : ℕ) (d : Rect) → k < n → c <ℤ (get_or right k d).x1)
-    → ((k : ℕ) (d : Rect) → n ≤ k → k < length right → (get_or right k d).x1 ≤ℤ c) → IsParted held d1 c before near' right'
+pub parted_wider : (held before near right near' right' : List Rect) (d1 d2 c : ℤ) (n : ℕ)
+    → IsParted held d1 d2 before near right → d2 ≤ℤ c → right' ≡ take n right
+    → near' ≡ near ++ reverse (drop n right) → ((k : ℕ) (d : Rect) → k < n → c <ℤ (get_or right k d).x1)
+    → ((k : ℕ) (d : Rect) → n ≤ k → k < length right → (get_or right k d).x1 ≤ℤ c)
+    → IsParted held d1 c before near' right'
 parted_wider held before near right near' right' d1 d2 c n p h e f far close = record {
   some = let g = p.some in omega signed;
   whole = p.whole ∙ ap (λ xs. before ++ xs) (sym (to_left near right near' right' n e f));
@@ -185,8 +186,8 @@ module _ (held : List Rect) (d1 d2 : ℤ) (before near behind : List Rect) (p : 
     near_back i d g = rw (reverse-reverse behind) at (all_reverse (λ q. (get_or near i d).x2 <ℤ q.x1) (reverse behind)
         (λ j c m. rw (get_or_default near i d c g) (across near (reverse behind) ordered i j c g m)))
 
-pub continued_at : (near : List Rect) (z : ℤ) (runs stacks : List Rect) → All (λ r. r.y1 ≡ z) runs →
-    AllZip (λ run r. IsContinued near run.y1 run r) runs stacks → AllZip (IsContinued near z) runs stacks
+pub continued_at : (near : List Rect) (z : ℤ) (runs stacks : List Rect) → All (λ r. r.y1 ≡ z) runs
+    → AllZip (λ run r. IsContinued near run.y1 run r) runs stacks → AllZip (IsContinued near z) runs stacks
 continued_at near z [] [] a c = tt
 continued_at near z [] (s ∷ ss) a c = elim c [ ]
 continued_at near z (r ∷ rs) [] a c = elim c [ ]

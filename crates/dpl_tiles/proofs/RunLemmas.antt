@@ -14,11 +14,11 @@ row_covers cells y ss row = record {
 }
 
 -- a stretch of the row is a run
-pub run_from_row : (cells : ℤ → ℤ → Bool) (y : ℤ) (ss : List Stretch) → IsRow cells y ss → (k : ℕ) (d : Stretch) →
-    k < length ss → IsRun cells (get_or ss k d).from (get_or ss k d).to y
+pub run_from_row : (cells : ℤ → ℤ → Bool) (y : ℤ) (ss : List Stretch) → IsRow cells y ss
+    → (k : ℕ) (d : Stretch) → k < length ss → IsRun cells (get_or ss k d).from (get_or ss k d).to y
 run_from_row cells y ss row k d l = stretch_at (λ x. IsTrue (cells x y)) ss (row_covers cells y ss row) k d l
 
 -- a run is a stretch of the row
-pub row_has_run : (cells : ℤ → ℤ → Bool) (y : ℤ) (ss : List Stretch) → IsRow cells y ss → (x1 x2 : ℤ) →
-    IsRun cells x1 x2 y → Any (λ s. (s.from ≡ x1) × (s.to ≡ x2)) ss
+pub row_has_run : (cells : ℤ → ℤ → Bool) (y : ℤ) (ss : List Stretch) → IsRow cells y ss → (x1 x2 : ℤ)
+    → IsRun cells x1 x2 y → Any (λ s. (s.from ≡ x1) × (s.to ≡ x2)) ss
 row_has_run cells y ss row x1 x2 run = stretch_among (λ x. IsTrue (cells x y)) ss (row_covers cells y ss row) x1 x2 run

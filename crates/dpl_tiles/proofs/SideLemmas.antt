@@ -41,8 +41,8 @@ pub record Round (first : Point) (rest : List Point) (i : ℕ) (before : Point) 
 pub round_none : (first : Point) (rest : List Point) → Round first rest 0 first []
 round_none first rest = record { each = λ x y. omega arith }
 
-stood : (x y : ℤ) (p q : ℤ × ℤ) (s : Side) (sides : List Side) → IsSideOf p q s →
-    standing x y (sides ++ s ∷ []) ≡ standing x y sides + bit (is_left_side x y p q)
+stood : (x y : ℤ) (p q : ℤ × ℤ) (s : Side) (sides : List Side) → IsSideOf p q s
+    → standing x y (sides ++ s ∷ []) ≡ standing x y sides + bit (is_left_side x y p q)
 stood x y p q s sides i = sum_by_push (λ s. bit (stands x y s)) sides s ∙ ap (λ b. standing x y sides + bit b) (same i) where
   same : IsSideOf p q s → stands x y s ≡ is_left_side x y p q
   same i = rw (i.column, i.low, i.high) refl
@@ -54,16 +54,16 @@ step_sides x y rest i before p first within is =
     ap (λ (q : Point). bit (is_left_side x y (place_of before) (place_of q)) + left_to_go x y q (drop (i + 1) rest)
     first) (sym is)
 
-pub round_more : (first : Point) (rest : List Point) (i : ℕ) (before p : Point) (s : Side) (sides new : List Side) →
-    Round first rest i before sides → i < length rest → p ≡ get_or rest i p
+pub round_more : (first : Point) (rest : List Point) (i : ℕ) (before p : Point) (s : Side) (sides new : List Side)
+    → Round first rest i before sides → i < length rest → p ≡ get_or rest i p
     → IsSideOf (place_of before) (place_of p) s → new ≡ sides ++ s ∷ [] → Round first rest (i + 1) p new
 round_more first rest i before p s sides new r within is side e = rw e (record {
   each = λ x y. omega (arith, stood x y (place_of before) (place_of p) s sides side, step_sides x y rest i before p first within is, r.each x y);
 })
 
-pub round_end : (first : Point) (rest : List Point) (i : ℕ) (before : Point) (s : Side) (sides new : List Side) →
-    length rest ≤ i → Round first rest i before sides
-    → IsSideOf (place_of before) (place_of first) s → new ≡ sides ++ s ∷ [] → AreSidesOf (map place_of (first ∷ rest)) new
+pub round_end : (first : Point) (rest : List Point) (i : ℕ) (before : Point) (s : Side) (sides new : List Side)
+    → length rest ≤ i → Round first rest i before sides → IsSideOf (place_of before) (place_of first) s
+    → new ≡ sides ++ s ∷ [] → AreSidesOf (map place_of (first ∷ rest)) new
 round_end first rest i before s sides new whole r side e =
     λ x y. rw e (omega (arith, stood x y (place_of before) (place_of first) s sides side, last_side x y, r.each x y))
   where

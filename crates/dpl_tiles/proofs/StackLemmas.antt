@@ -60,8 +60,9 @@ pub last_row : (low high : ℤ) → low <ℤ high → IsWithin low high (high -�
 last_row low high h = record { from = omega signed; to = omega signed }
 
 -- there is one stack with these columns at most
-pub one_place : (rects : List Rect) (i j : ℕ) (a b : Rect) (x : ℤ) → AllPairs IsLeftOf rects → i < length rects →
-    j < length rects → get_or rects i a ≡ a → get_or rects j b ≡ b → a.x1 ≡ x → b.x1 ≡ x → a ≡ b
+pub one_place : (rects : List Rect) (i j : ℕ) (a b : Rect) (x : ℤ) → AllPairs IsLeftOf rects
+    → i < length rects → j < length rects → get_or rects i a ≡ a → get_or rects j b ≡ b → a.x1 ≡ x → b.x1 ≡ x
+    → a ≡ b
 one_place rects i j a b x up l m e f g h = three i j
     (λ n. absurd (let p : IsLeftOf (get_or rects i a) (get_or rects j a) = up i j a n m in let p' : IsLeftOf a b =
     rw (e, get_or_default rects j a b m ∙ f) at p in beside a b x g h p'))

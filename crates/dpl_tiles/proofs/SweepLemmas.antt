@@ -16,8 +16,8 @@ use Rattle.dpl_tiles.proofs.UnionLemmas.{run_or_not}
 
 -- ---- the stacks that go on
 
-held_same : (cells : ℤ → ℤ → Bool) (low high : ℤ) (o r : Rect) → AreAlike cells low high → IsHeld cells low o →
-    IsSameStack o r → IsRun cells r.x1 r.x2 low → IsHeld cells high r
+held_same : (cells : ℤ → ℤ → Bool) (low high : ℤ) (o r : Rect) → AreAlike cells low high → IsHeld cells low o
+    → IsSameStack o r → IsRun cells r.x1 r.x2 low → IsHeld cells high r
 held_same cells low high o r a h s run = record {
   start = first o.y1 r.y1 low high h.start s.bottom a.some;
   rows = λ y w. by_lt_z y low
@@ -31,8 +31,8 @@ held_same cells low high o r a h s run = record {
   under : (o r low high y : ℤ) → IsWithin r high y → r ≡ o → y <ℤ low → IsWithin o low y
   under o r low high y w e g = record { from = let f = w.from in omega signed; to = g }
 
-held_new : (cells : ℤ → ℤ → Bool) (low high : ℤ) (held : List Rect) (r : Rect) → AreAlike cells low high →
-    AreHeld cells low held → IsNew held low r → IsRun cells r.x1 r.x2 low → IsHeld cells high r
+held_new : (cells : ℤ → ℤ → Bool) (low high : ℤ) (held : List Rect) (r : Rect) → AreAlike cells low high
+    → AreHeld cells low held → IsNew held low r → IsRun cells r.x1 r.x2 low → IsHeld cells high r
 held_new cells low high held r a h n run = record {
   start = let e = n.bottom in let s = a.some in first r.y1 low high e s;
   rows = λ y w. up cells low high y r.x1 r.x2 a (record { from = level r.y1 low high y w n.bottom; to = w.to }) run;
@@ -44,14 +44,14 @@ held_new cells low high held r a h n run = record {
   level : (r low high y : ℤ) → IsWithin r high y → r ≡ low → low ≤ℤ y
   level r low high y w e = let f = w.from in omega signed
 
-held_one : (cells : ℤ → ℤ → Bool) (low high : ℤ) (held : List Rect) (r : Rect) → AreAlike cells low high →
-    AreHeld cells low held → IsRun cells r.x1 r.x2 low → Any (λ o. IsSameStack o r) held ⊎ IsNew held low r →
-    IsHeld cells high r
+held_one : (cells : ℤ → ℤ → Bool) (low high : ℤ) (held : List Rect) (r : Rect) → AreAlike cells low high
+    → AreHeld cells low held → IsRun cells r.x1 r.x2 low → Any (λ o. IsSameStack o r) held ⊎ IsNew held low r
+    → IsHeld cells high r
 held_one cells low high held r a h run (inl (k, o, l, e, s)) = held_same cells low high o r a (rw e at (h.each k o l)) s run
 held_one cells low high held r a h run (inr n) = held_new cells low high held r a h n run
 
-step_held : (cells : ℤ → ℤ → Bool) (low high : ℤ) (held closed next : List Rect) → AreAlike cells low high →
-    AreHeld cells low held → IsStep cells low held closed next → AreHeld cells high next
+step_held : (cells : ℤ → ℤ → Bool) (low high : ℤ) (held closed next : List Rect) → AreAlike cells low high
+    → AreHeld cells low held → IsStep cells low held closed next → AreHeld cells high next
 step_held cells low high held closed next a h s = record {
   each = λ k d l. let e = s.each k d l in held_one cells low high held (get_or next k d) a h (e.0) (e.1);
   all = λ x1 x2 run. s.all x1 x2 (down cells low high _ x1 x2 a (last_row low high a.some) run);
@@ -60,8 +60,8 @@ step_held cells low high held closed next a h s = record {
 
 -- ---- the stacks that end
 
-closed_tile : (cells : ℤ → ℤ → Bool) (low : ℤ) (o r : Rect) → IsHeld cells low o → IsSameStack o r → r.y2 ≡ low →
-    ¬ IsRun cells r.x1 r.x2 low → IsTile cells (corners_of r)
+closed_tile : (cells : ℤ → ℤ → Bool) (low : ℤ) (o r : Rect) → IsHeld cells low o → IsSameStack o r
+    → r.y2 ≡ low → ¬ IsRun cells r.x1 r.x2 low → IsTile cells (corners_of r)
 closed_tile cells low o r h s top none = record {
   high = r.high;
   rows = λ y w. rw (s.columns.left, s.columns.right) (h.rows y (within o.y1 r.y1 r.y2 low y w s.bottom top));
@@ -71,9 +71,9 @@ closed_tile cells low o r h s top none = record {
   within : (o r t low y : ℤ) → IsWithin r t y → r ≡ o → t ≡ low → IsWithin o low y
   within o r t low y w e f = record { from = let g = w.from in omega signed; to = let g = w.to in omega signed }
 
-step_ended : (cells : ℤ → ℤ → Bool) (low high : ℤ) (ended held closed next : List Rect) → low <ℤ high →
-    AreEnded cells low ended → AreHeld cells low held → IsStep cells low held closed next →
-    AreEnded cells high (ended ++ closed)
+step_ended : (cells : ℤ → ℤ → Bool) (low high : ℤ) (ended held closed next : List Rect) → low <ℤ high
+    → AreEnded cells low ended → AreHeld cells low held → IsStep cells low held closed next
+    → AreEnded cells high (ended ++ closed)
 step_ended cells low high ended held closed next up done h s = record {
   each = All-append (λ r. IsTile cells (corners_of r)) ended closed done.each (λ k d l. tile (get_or closed k d) (s.ends k d l));
   below = All-append (λ r. r.y2 <ℤ high) ended closed (λ k d l. lower _ low high (done.below k d l) up) (λ k d l. reached _ low high ((s.ends k d l).1) up);
@@ -98,8 +98,9 @@ step_ended cells low high ended held closed next up done h s = record {
 
 -- ---- all runs
 
-pub swept_more : (cells : ℤ → ℤ → Bool) (low high : ℤ) (ended held closed next : List Rect) → AreAlike cells low high →
-    AreSwept cells low ended held → IsStep cells low held closed next → AreSwept cells high (ended ++ closed) next
+pub swept_more : (cells : ℤ → ℤ → Bool) (low high : ℤ) (ended held closed next : List Rect)
+    → AreAlike cells low high → AreSwept cells low ended held → IsStep cells low held closed next
+    → AreSwept cells high (ended ++ closed) next
 swept_more cells low high ended held closed next a s t = record {
   done = step_ended cells low high ended held closed next a.some s.done s.going t;
   going = step_held cells low high held closed next a s.going t;

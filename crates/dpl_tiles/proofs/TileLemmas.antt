@@ -21,24 +21,24 @@ use Rattle.dpl_list.proofs.Lists.{all_pairs_map, contains_map, no_more}
 -- ---- when two tiles are the same
 
 -- tiles with the same columns that share a row are the same
-lower_edge : (cells : ℤ → ℤ → Bool) (a b : Corners) (y : ℤ) → IsTile cells a → IsTile cells b → a.x1 ≡ b.x1 →
-    a.x2 ≡ b.x2 → IsWithin a.y1 a.y2 y → IsWithin b.y1 b.y2 y → b.y1 ≤ℤ a.y1
+lower_edge : (cells : ℤ → ℤ → Bool) (a b : Corners) (y : ℤ) → IsTile cells a → IsTile cells b → a.x1 ≡ b.x1
+    → a.x2 ≡ b.x2 → IsWithin a.y1 a.y2 y → IsWithin b.y1 b.y2 y → b.y1 ≤ℤ a.y1
 lower_edge cells a b y s t e f w v = by_lt_z a.y1 b.y1
     (λ h. absurd (t.below (rw (e, f) at (s.rows (b.y1 -ℤ pos 1) (inside a.y1 a.y2 b.y1 b.y2 y w v h)))))
     (λ h. h) where
       inside : (a b c d y : ℤ) → IsWithin a b y → IsWithin c d y → a <ℤ c → IsWithin a b (c -ℤ pos 1)
       inside a b c d y w v h = let k = w.to in let l = v.from in record { from = omega signed; to = omega signed }
 
-upper_edge : (cells : ℤ → ℤ → Bool) (a b : Corners) (y : ℤ) → IsTile cells a → IsTile cells b → a.x1 ≡ b.x1 →
-    a.x2 ≡ b.x2 → IsWithin a.y1 a.y2 y → IsWithin b.y1 b.y2 y → a.y2 ≤ℤ b.y2
+upper_edge : (cells : ℤ → ℤ → Bool) (a b : Corners) (y : ℤ) → IsTile cells a → IsTile cells b → a.x1 ≡ b.x1
+    → a.x2 ≡ b.x2 → IsWithin a.y1 a.y2 y → IsWithin b.y1 b.y2 y → a.y2 ≤ℤ b.y2
 upper_edge cells a b y s t e f w v = by_lt_z b.y2 a.y2
     (λ h. absurd (t.above (rw (e, f) at (s.rows b.y2 (inside a.y1 a.y2 b.y1 b.y2 y w v h)))))
     (λ h. h) where
       inside : (a b c d y : ℤ) → IsWithin a b y → IsWithin c d y → d <ℤ b → IsWithin a b d
       inside a b c d y w v h = let k = w.from in let l = v.to in record { from = omega signed; to = h }
 
-pub one_tile : (cells : ℤ → ℤ → Bool) (a b : Corners) (y : ℤ) → IsTile cells a → IsTile cells b → a.x1 ≡ b.x1 →
-    a.x2 ≡ b.x2 → IsWithin a.y1 a.y2 y → IsWithin b.y1 b.y2 y → a ≡ b
+pub one_tile : (cells : ℤ → ℤ → Bool) (a b : Corners) (y : ℤ) → IsTile cells a → IsTile cells b → a.x1 ≡ b.x1
+    → a.x2 ≡ b.x2 → IsWithin a.y1 a.y2 y → IsWithin b.y1 b.y2 y → a ≡ b
 one_tile cells a b y s t e f w v =
     same_corners a b e
     (equal_z _ _ (lower_edge cells b a y t s (sym e) (sym f) v w) (lower_edge cells a b y s t e f w v)) f
@@ -74,9 +74,9 @@ begin_apart cells rects a i j d h l (e, f) =
     never_ends_before (get_or rects i d) (get_or rects j d) e (ap (λ (c : Corners). c.y2) g) (a.ordered i j d h l)
 
 -- all tiles, each once, in order
-pub sorted_tiles : (cells : ℤ → ℤ → Bool) (rects sorted : List Rect) → AreAllTiles cells rects →
-    IsPermutation rects sorted → AllPairs (λ a b. IsNotAfter (corners_of a) (corners_of b)) sorted →
-    AreTiles cells (map corners_of sorted)
+pub sorted_tiles : (cells : ℤ → ℤ → Bool) (rects sorted : List Rect) → AreAllTiles cells rects
+    → IsPermutation rects sorted → AllPairs (λ a b. IsNotAfter (corners_of a) (corners_of b)) sorted
+    → AreTiles cells (map corners_of sorted)
 sorted_tiles cells rects sorted a p up = record {
   each = All-map (IsTile cells) corners_of sorted (All-permutation (λ r. IsTile cells (corners_of r)) rects sorted p a.each);
   all = λ c t. Contains-permutation _ _ c (IsPermutation-map corners_of rects sorted p) (all_held cells rects a c t);

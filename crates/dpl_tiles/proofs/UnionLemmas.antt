@@ -60,9 +60,9 @@ run_or_not cells x1 x2 y long =
     ]
 
 -- a run around a cell of a row that ends on both sides
-pub run_around : (cells : ℤ → ℤ → Bool) (x y : ℤ) → ((z : ℤ) → z <ℤ neg_ℤ (pos (2 ^ 30)) → cells z y ≡ false) →
-    ((z : ℤ) → pos (2 ^ 30) ≤ℤ z → cells z y ≡ false) → IsTrue (cells x y) → (x1 : ℤ) × (x2 : ℤ) × IsRun cells x1 x2 y ×
-    IsWithin x1 x2 x
+pub run_around : (cells : ℤ → ℤ → Bool) (x y : ℤ) → ((z : ℤ) → z <ℤ neg_ℤ (pos (2 ^ 30)) → cells z y ≡ false)
+    → ((z : ℤ) → pos (2 ^ 30) ≤ℤ z → cells z y ≡ false) → IsTrue (cells x y)
+    → (x1 : ℤ) × (x2 : ℤ) × IsRun cells x1 x2 y × IsWithin x1 x2 x
 run_around cells x y left right t =
     let (x1, x2, a) = around (λ x. IsTrue (cells x y)) (λ x. cell_or_not (cells x y)) (neg_ℤ (pos (2 ^ 30)))
     (pos (2 ^ 30)) (λ z h. no_cell (left z h)) (λ z h. no_cell (right z h)) x t in
@@ -75,8 +75,8 @@ cell_run cells x y b t = run_around cells x y (λ z h. b.left z y h) (λ z h. b.
 first_cell : (cells : ℤ → ℤ → Bool) (x1 x2 y : ℤ) → IsRun cells x1 x2 y → IsTrue (cells x1 y)
 first_cell cells x1 x2 y r = r.full x1 (record { from = let h = r.long in omega signed; to = r.long })
 
-run_tile : (cells : ℤ → ℤ → Bool) (x1 x2 y : ℤ) → IsBounded cells → IsRun cells x1 x2 y → (y1 : ℤ) × (y2 : ℤ) ×
-    IsTile cells (record { x1 = x1; y1 = y1; x2 = x2; y2 = y2 }) × IsWithin y1 y2 y
+run_tile : (cells : ℤ → ℤ → Bool) (x1 x2 y : ℤ) → IsBounded cells → IsRun cells x1 x2 y
+    → (y1 : ℤ) × (y2 : ℤ) × IsTile cells (record { x1 = x1; y1 = y1; x2 = x2; y2 = y2 }) × IsWithin y1 y2 y
 run_tile cells x1 x2 y b r =
     let (y1, y2, a) = around (λ y. IsRun cells x1 x2 y) (λ y. run_or_not cells x1 x2 y r.long) (neg_ℤ (pos (2 ^ 30))) (pos (2 ^ 30))
     (λ z h. λ s. no_cell (b.below x1 z h) (first_cell cells x1 x2 z s)) (λ z h. λ s. no_cell (b.above x1 z h) (first_cell cells x1 x2 z s)) y r in
@@ -85,8 +85,8 @@ run_tile cells x1 x2 y b r =
 
 -- ---- the union
 
-cell_held : (cells : ℤ → ℤ → Bool) (tiles : List Corners) → IsBounded cells → AreTiles cells tiles → (x y : ℤ) →
-    IsTrue (cells x y) → Any (λ r. IsIn r x y) tiles
+cell_held : (cells : ℤ → ℤ → Bool) (tiles : List Corners) → IsBounded cells → AreTiles cells tiles → (x y : ℤ)
+    → IsTrue (cells x y) → Any (λ r. IsIn r x y) tiles
 cell_held cells tiles b a x y t =
     let (x1, x2, r, w) = cell_run cells x y b t in
     let (y1, y2, s, v) = run_tile cells x1 x2 y b r in

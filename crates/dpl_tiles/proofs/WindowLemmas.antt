@@ -44,8 +44,8 @@ pub at_most_on : (a b c : ℤ) → a ≤ℤ b → b ≤ℤ c → a ≤ℤ c
 at_most_on a b c h k = omega signed
 
 -- an end that stays or is that of one more stack
-pub reached : (end : Rect → ℤ) (near : List Rect) (i : ℕ) (r : Rect) (change old new : ℤ) → i < length near →
-    r ≡ get_or near i r → (new ≡ old) ⊎ (new ≡ end r) → (old ≡ change) ⊎ Any (λ o. end o ≡ old) near → (new ≡ change) ⊎
-    Any (λ o. end o ≡ new) near
+pub reached : (end : Rect → ℤ) (near : List Rect) (i : ℕ) (r : Rect) (change old new : ℤ) → i < length near
+    → r ≡ get_or near i r → (new ≡ old) ⊎ (new ≡ end r) → (old ≡ change) ⊎ Any (λ o. end o ≡ old) near
+    → (new ≡ change) ⊎ Any (λ o. end o ≡ new) near
 reached end near i r change old new l is (inl e) so = subst (λ z. (z ≡ change) ⊎ Any (λ o. end o ≡ z) near) (sym e) so
 reached end near i r change old new l is (inr e) so = inr (i, r, l, sym is, sym e)

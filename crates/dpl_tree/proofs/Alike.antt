@@ -51,8 +51,9 @@ expanded_alike n f g set e none s = record {
   ];
 }
 
-pub pairs_alike : (n : ℕ) (f : Sets) (load load' dist : ℕ → ℕ → ℕ) (mate : ℕ → Option ℕ) →
-    ((s t : ℕ) → s < n → t < n → load' s t ≡ load s t) → ArePairs n f load dist mate → ArePairs n f load' dist mate
+pub pairs_alike : (n : ℕ) (f : Sets) (load load' dist : ℕ → ℕ → ℕ) (mate : ℕ → Option ℕ)
+    → ((s t : ℕ) → s < n → t < n → load' s t ≡ load s t) → ArePairs n f load dist mate
+    → ArePairs n f load' dist mate
 pairs_alike n f load load' dist mate e p = record {
   range = p.range;
   back = p.back;
@@ -61,8 +62,8 @@ pairs_alike n f load load' dist mate e p = record {
   alone = p.alone;
 }
 
-pub tree_alike : (n : ℕ) (f : Sets) (load load' dist : ℕ → ℕ → ℕ) (x : Forest) →
-    ((s t : ℕ) → s < n → t < n → load' s t ≡ load s t) → IsTree n f load dist x → IsTree n f load' dist x
+pub tree_alike : (n : ℕ) (f : Sets) (load load' dist : ℕ → ℕ → ℕ) (x : Forest)
+    → ((s t : ℕ) → s < n → t < n → load' s t ≡ load s t) → IsTree n f load dist x → IsTree n f load' dist x
 tree_alike n f load load' dist x e t = record {
   tops = t.tops;
   root_outer = t.root_outer;

@@ -8,9 +8,10 @@ use Rattle.dpl_tree.specs.Mates.{IsExit, ArePairs, Joins, loads}
 use Rattle.dpl_tree.proofs.Growing.{outer_in, outer_inner_no}
 
 -- s and t, whose sets have no pair else, become mates
-pub joined_pairs : (n : ℕ) (f : Sets) (load dist : ℕ → ℕ → ℕ) (mate new : ℕ → Option ℕ) (s t : ℕ) →
-    ArePairs n f load dist mate → s < n → t < n → f.top s ≢ f.top t → load s t ≡ dist s t → load t s ≡ dist t s →
-    ((m u : ℕ) → IsExit n f mate (f.top s) m u → ⊥) → ((m u : ℕ) → IsExit n f mate (f.top t) m u → ⊥) → Joins mate s t new → ArePairs n f load dist new
+pub joined_pairs : (n : ℕ) (f : Sets) (load dist : ℕ → ℕ → ℕ) (mate new : ℕ → Option ℕ) (s t : ℕ)
+    → ArePairs n f load dist mate → s < n → t < n → f.top s ≢ f.top t → load s t ≡ dist s t
+    → load t s ≡ dist t s → ((m u : ℕ) → IsExit n f mate (f.top s) m u → ⊥)
+    → ((m u : ℕ) → IsExit n f mate (f.top t) m u → ⊥) → Joins mate s t new → ArePairs n f load dist new
 joined_pairs n f load dist mate new s t p hs ht apart tight tight' sfree tfree j =
     -- a member with an old mate is neither of the two, nor is its mate
     let ns = λ (m u : ℕ) (hm : m < n) (k : mate m ≡ Some u) (e : m ≡ s). sfree m u (record { below = hm; top = ap f.top e; paired = k }) in
@@ -71,8 +72,9 @@ pub record Drops (mate : ℕ → Option ℕ) (ex b : ℕ) (new : ℕ → Option 
   pub others : (i : ℕ) → i ≢ ex → i ≢ b → new i ≡ mate i
 
 -- the pairs without one of them
-pub dropped_pairs : (n : ℕ) (f : Sets) (load dist : ℕ → ℕ → ℕ) (mate new : ℕ → Option ℕ) (ex b : ℕ) →
-    ArePairs n f load dist mate → ex < n → mate ex ≡ Some b → Drops mate ex b new → ArePairs n f load dist new
+pub dropped_pairs : (n : ℕ) (f : Sets) (load dist : ℕ → ℕ → ℕ) (mate new : ℕ → Option ℕ) (ex b : ℕ)
+    → ArePairs n f load dist mate → ex < n → mate ex ≡ Some b → Drops mate ex b new
+    → ArePairs n f load dist new
 dropped_pairs n f load dist mate new ex b p hx xb d =
     let old = λ (m u : ℕ) (k : new m ≡ Some u). (elim (cases_eq m ex) as (λ _. (m ≢ ex) × (m ≢ b) × (mate m ≡ Some u)) [
       | inl e ↦ some_none (new m) u k (ap new e ∙ d.first)
@@ -93,11 +95,11 @@ dropped_pairs n f load dist mate new ex b p hx xb d =
     }
 
 -- one step of the climb
-pub climbed : (n : ℕ) (f : Sets) (dist : ℕ → ℕ → ℕ) (x : Forest) (mate less new : ℕ → Option ℕ) (s t ex b : ℕ) →
-    IsTree n f (loads n f) dist x → ArePairs n f (loads n f) dist x.mate → ((s t : ℕ) → (loads n f) s t ≡ (loads n f) t s) →
-    ((s t : ℕ) → s < n → t < n → dist s t ≡ dist t s) →
-    IsClimb n f dist x mate (s, t) → IsExit n f mate (f.top s) ex b → Drops mate ex b less → Joins less s t new →
-    IsClimb n f dist x new (x.above (f.top b), x.entry (f.top b))
+pub climbed : (n : ℕ) (f : Sets) (dist : ℕ → ℕ → ℕ) (x : Forest) (mate less new : ℕ → Option ℕ) (s t ex b : ℕ)
+    → IsTree n f (loads n f) dist x → ArePairs n f (loads n f) dist x.mate
+    → ((s t : ℕ) → (loads n f) s t ≡ (loads n f) t s) → ((s t : ℕ) → s < n → t < n → dist s t ≡ dist t s)
+    → IsClimb n f dist x mate (s, t) → IsExit n f mate (f.top s) ex b → Drops mate ex b less
+    → Joins less s t new → IsClimb n f dist x new (x.above (f.top b), x.entry (f.top b))
 climbed n f dist x mate less new s t ex b tree px ls ds c w d j =
     let i : ℕ = f.top b in
     let ps = outer_in c.s_outer in
@@ -170,9 +172,9 @@ climbed n f dist x mate less new s t ex b tree px ls ds c w d j =
     }
 
 -- the end of the climb, at the root
-pub climb_ended : (n : ℕ) (f : Sets) (dist : ℕ → ℕ → ℕ) (x : Forest) (mate new : ℕ → Option ℕ) (s t : ℕ) →
-    IsClimb n f dist x mate (s, t) → ((m u : ℕ) → IsExit n f mate (f.top s) m u → ⊥) → Joins mate s t new →
-    ArePairs n f (loads n f) dist new × ((i m u : ℕ) → IsExit n f x.mate i m u → (a : ℕ) × (c : ℕ) × IsExit n f new i a c) × IsExit n f new (f.top s) s t
+pub climb_ended : (n : ℕ) (f : Sets) (dist : ℕ → ℕ → ℕ) (x : Forest) (mate new : ℕ → Option ℕ) (s t : ℕ)
+    → IsClimb n f dist x mate (s, t) → ((m u : ℕ) → IsExit n f mate (f.top s) m u → ⊥) → Joins mate s t new
+    → ArePairs n f (loads n f) dist new × ((i m u : ℕ) → IsExit n f x.mate i m u → (a : ℕ) × (c : ℕ) × IsExit n f new i a c) × IsExit n f new (f.top s) s t
 climb_ended n f dist x mate new s t c none j = (
   joined_pairs n f (loads n f) dist mate new s t c.pairs c.s_range c.t_range c.apart c.tight c.tight_back none c.t_free j,
   (λ i m u k. elim (cases_eq i (f.top t)) [
@@ -196,9 +198,10 @@ climb_ended n f dist x mate new s t c none j = (
 )
 
 -- the climb begins at a tight pair from an outer set to one with no pair outside of the tree
-pub climb_begun : (n : ℕ) (f : Sets) (dist : ℕ → ℕ → ℕ) (x : Forest) (s t : ℕ) → ArePairs n f (loads n f) dist x.mate →
-    s < n → t < n → x.place (f.top s) ≡ outer → x.place (f.top t) ≡ free → (loads n f) s t ≡ dist s t → (loads n f) t s ≡ dist t s →
-    ((m u : ℕ) → IsExit n f x.mate (f.top t) m u → ⊥) → IsClimb n f dist x x.mate (s, t)
+pub climb_begun : (n : ℕ) (f : Sets) (dist : ℕ → ℕ → ℕ) (x : Forest) (s t : ℕ)
+    → ArePairs n f (loads n f) dist x.mate → s < n → t < n → x.place (f.top s) ≡ outer
+    → x.place (f.top t) ≡ free → (loads n f) s t ≡ dist s t → (loads n f) t s ≡ dist t s
+    → ((m u : ℕ) → IsExit n f x.mate (f.top t) m u → ⊥) → IsClimb n f dist x x.mate (s, t)
 climb_begun n f dist x s t p hs ht ps pt tight tight' none = record {
   s_range = hs;
   t_range = ht;

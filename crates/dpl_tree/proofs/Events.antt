@@ -27,8 +27,8 @@ pub record IsEvent (n : ℕ) (dist : ℕ → ℕ → ℕ) (after : ℕ → ℕ) 
 -- ---- the root
 
 -- the root has the least rank of all outer sets
-pub root_lowest : (n : ℕ) (f : Sets) (load dist : ℕ → ℕ → ℕ) (x : Forest) → IsTree n f load dist x → (bound i : ℕ) →
-    x.rank i ≤ bound → x.place i ≡ outer → i ≢ x.root → x.rank x.root < x.rank i
+pub root_lowest : (n : ℕ) (f : Sets) (load dist : ℕ → ℕ → ℕ) (x : Forest) → IsTree n f load dist x
+    → (bound i : ℕ) → x.rank i ≤ bound → x.place i ≡ outer → i ≢ x.root → x.rank x.root < x.rank i
 root_lowest n f load dist x tree zero i low e ne =
     let w = tree.outer_pair i e ne in
     let v = tree.outer_mate i w.0 w.1 e w.2 in
@@ -61,10 +61,10 @@ tree_ready n f load dist x tree k ne = elim (place_cases (x.place (f.top k))) [
 
 -- ---- growth
 
-pub grown_stage : (n : ℕ) (f : Sets) (dist : ℕ → ℕ → ℕ) (x y : Forest) (s t m o : ℕ) → IsMetric n dist →
-    IsStage n f dist x → IsRest n f dist y.mate → s < n → t < n → x.place (f.top s) ≡ outer → x.place (f.top t) ≡ free →
-    loads n f s t ≡ dist s t → IsExit n f x.mate (f.top t) m o → Grows f x s t o y →
-    IsStage n f dist y × (potential n f y.place < potential n f x.place)
+pub grown_stage : (n : ℕ) (f : Sets) (dist : ℕ → ℕ → ℕ) (x y : Forest) (s t m o : ℕ) → IsMetric n dist
+    → IsStage n f dist x → IsRest n f dist y.mate → s < n → t < n → x.place (f.top s) ≡ outer
+    → x.place (f.top t) ≡ free → loads n f s t ≡ dist s t → IsExit n f x.mate (f.top t) m o
+    → Grows f x s t o y → IsStage n f dist y × (potential n f y.place < potential n f x.place)
 grown_stage n f dist x y s t m o me st rest hs ht ps pt tight ex g =
     let r = st.rest in
     let tree = grown n f (loads n f) dist x y s t m o r.laminar r.pairs st.tree hs ht ps pt tight ex g in
@@ -77,11 +77,12 @@ grown_stage n f dist x y s t m o me st rest hs ht ps pt tight ex g =
 moved : (n : ℕ) (f g : Sets) → ((i : ℕ) → g.value i ≡ f.value i) → (s : ℕ) → total_in (2 * n) f.value g.holds s ≡ totals n g s
 moved n f g e s = sum_same (2 * n) _ _ (λ i h. ap (λ z. cond (g.holds i s) z 0) (sym (e i)))
 
-pub folded_stage : (n : ℕ) (f g : Sets) (dist : ℕ → ℕ → ℕ) (x y : Forest) (cs : List ℕ) (js : List (ℕ × ℕ))
-    (set meet c : ℕ) → IsStage n f dist x → AreTops n f cs → IsShrunk f cs js set g → IsFamily g →
-    IsCycle n f x cs meet → DropsInside n g x.mate y.mate → Folds x cs meet set y →
-    ((i : ℕ) → i < length cs → loads n f (g.join (get_or cs i 0)).0 (g.join (get_or cs i 0)).1 ≡ dist (g.join (get_or cs i 0)).0 (g.join (get_or cs i 0)).1) →
-    has cs c ≡ true → x.place c ≡ inner → IsStage n g dist y × (potential n g y.place < potential n f x.place)
+pub folded_stage : (n : ℕ) (f g : Sets) (dist : ℕ → ℕ → ℕ) (x y : Forest) (cs : List ℕ) (js : List (ℕ × ℕ)) (set meet c : ℕ)
+    → IsStage n f dist x → AreTops n f cs → IsShrunk f cs js set g → IsFamily g → IsCycle n f x cs meet
+    → DropsInside n g x.mate y.mate → Folds x cs meet set y
+    → ((i : ℕ) → i < length cs → loads n f (g.join (get_or cs i 0)).0 (g.join (get_or cs i 0)).1 ≡ dist (g.join (get_or cs i 0)).0 (g.join (get_or cs i 0)).1)
+    → has cs c ≡ true → x.place c ≡ inner
+    → IsStage n g dist y × (potential n g y.place < potential n f x.place)
 folded_stage n f g dist x y cs js set meet c st at sh fam cy d o tight hc pc =
     let r = st.rest in
     let lam = r.laminar in
@@ -129,9 +130,9 @@ folded_stage n f g dist x y cs js set meet c st at sh fam cy d o tight hc pc =
     )
 
 -- members that were ready are ready
-pub folded_ready : (n : ℕ) (f g : Sets) (dist : ℕ → ℕ → ℕ) (x y : Forest) (cs : List ℕ) (set meet k : ℕ) →
-    IsStage n f dist x → IsTree n g (loads n g) dist y → Gathers n f cs set g → IsCycle n f x cs meet →
-    DropsInside n g x.mate y.mate → Folds x cs meet set y → k < n → IsReady n f x k → IsReady n g y k
+pub folded_ready : (n : ℕ) (f g : Sets) (dist : ℕ → ℕ → ℕ) (x y : Forest) (cs : List ℕ) (set meet k : ℕ)
+    → IsStage n f dist x → IsTree n g (loads n g) dist y → Gathers n f cs set g → IsCycle n f x cs meet
+    → DropsInside n g x.mate y.mate → Folds x cs meet set y → k < n → IsReady n f x k → IsReady n g y k
 folded_ready n f g dist x y cs set meet k st tree q cy d o hk (inl w) =
     elim (cases_Bool (has cs (f.top k))) [
       | inl z ↦ tree_ready n g (loads n g) dist y tree k (outer_in (ap y.place (q.top_inside k hk z) ∙ o.place_set))

@@ -15,8 +15,8 @@ use Rattle.dpl_tree.proofs.Widening.{folded_widens}
 use Rattle.dpl_tree.proofs.Meetings.{IsFolding, climbing_whole, folding_tops, folding_joined, way_step}
 
 -- what a new set asks of the family
-pub folding_asked : {n : ℕ} {f : Sets} {dist : ℕ → ℕ → ℕ} {x : Forest} {joins : List (ℕ × ℕ)} {meet : ℕ} →
-    IsStage n f dist x → IsFolding n f dist x joins meet → AreJoined f (tops_from f joins) joins
+pub folding_asked : {n : ℕ} {f : Sets} {dist : ℕ → ℕ → ℕ} {x : Forest} {joins : List (ℕ × ℕ)} {meet : ℕ}
+    → IsStage n f dist x → IsFolding n f dist x joins meet → AreJoined f (tops_from f joins) joins
 folding_asked {n} {f} {dist} {x} {joins} {meet} st w =
     let len : length (tops_from f joins) ≡ length joins = length-map joins (λ j. f.top j.0) in
     record {
@@ -26,9 +26,10 @@ folding_asked {n} {f} {dist} {x} {joins} {meet} st w =
     }
 
 -- a new set comes nearer to the end
-pub folded_all : (n : ℕ) (f g : Sets) (dist : ℕ → ℕ → ℕ) (x y : Forest) (joins : List (ℕ × ℕ)) (meet set : ℕ) →
-    IsStage n f dist x → IsFolding n f dist x joins meet → IsShrunk f (tops_from f joins) joins set g → IsFamily g →
-    DropsInside n g x.mate y.mate → Folds x (tops_from f joins) meet set y → Advances n dist f x g y
+pub folded_all : (n : ℕ) (f g : Sets) (dist : ℕ → ℕ → ℕ) (x y : Forest) (joins : List (ℕ × ℕ)) (meet set : ℕ)
+    → IsStage n f dist x → IsFolding n f dist x joins meet → IsShrunk f (tops_from f joins) joins set g
+    → IsFamily g → DropsInside n g x.mate y.mate → Folds x (tops_from f joins) meet set y
+    → Advances n dist f x g y
 folded_all n f g dist x y joins meet set st w sh fam d o =
     let cs : List ℕ = tops_from f joins in
     let len : length cs ≡ length joins = length-map joins (λ j. f.top j.0) in
@@ -51,40 +52,45 @@ folded_ranked x y cs meet set bound o r = λ i. elim (cases_eq i set) [
 ]
 
 -- a set that was free is none of the tree's
-pub free_outside : (n : ℕ) (f g : Sets) (dist : ℕ → ℕ → ℕ) (x : Forest) (joins : List (ℕ × ℕ)) (meet set : ℕ) →
-    IsStage n f dist x → IsFolding n f dist x joins meet → IsShrunk f (tops_from f joins) joins set g → has (tops_from f joins) set ≡ false
+pub free_outside : (n : ℕ) (f g : Sets) (dist : ℕ → ℕ → ℕ) (x : Forest) (joins : List (ℕ × ℕ)) (meet set : ℕ)
+    → IsStage n f dist x → IsFolding n f dist x joins meet → IsShrunk f (tops_from f joins) joins set g
+    → has (tops_from f joins) set ≡ false
 free_outside n f g dist x joins meet set st w sh = elim (cases_Bool (has (tops_from f joins) set)) [
   | inr k ↦ k
   | inl k ↦ true_false (f.live set) (st.tree.tops set (w.cycle.in_tree set k)).1 sh.sets.was_free
 ]
 
 -- the joins as they were put together, and read
-pub folding_of : {n : ℕ} {f : Sets} {dist : ℕ → ℕ → ℕ} {x : Forest} {s t meet : ℕ} {left right joins js : List (ℕ × ℕ)} →
-    IsStage n f dist x → s < n → t < n → loads n f s t ≡ dist s t → f.top s ≢ f.top t → AreClimbing n f dist x (s, t) (ways left right meet meet) →
-    joins ≡ reverse left ++ (s, t) ∷ right → js ≡ joins → IsFolding n f dist x js meet
+pub folding_of : {n : ℕ} {f : Sets} {dist : ℕ → ℕ → ℕ} {x : Forest} {s t meet : ℕ} {left right joins js : List (ℕ × ℕ)}
+    → IsStage n f dist x → s < n → t < n → loads n f s t ≡ dist s t → f.top s ≢ f.top t
+    → AreClimbing n f dist x (s, t) (ways left right meet meet) → joins ≡ reverse left ++ (s, t) ∷ right
+    → js ≡ joins → IsFolding n f dist x js meet
 folding_of {n} {f} {dist} {x} {s} {t} {meet} {left} {right} st hs ht tight apart c e seen =
     subst (λ (z : List (ℕ × ℕ)). IsFolding n f dist x z meet) (sym (seen ∙ e)) (climbing_whole n f dist x s t meet left right st hs ht tight apart c)
 
 -- each join leads from a member
-pub folding_from : {n : ℕ} {f : Sets} {dist : ℕ → ℕ → ℕ} {x : Forest} {js : List (ℕ × ℕ)} {meet : ℕ} →
-    IsStage n f dist x → IsFolding n f dist x js meet → (i : ℕ) → i < length js → (get_or js i (0, 0)).0 < f.size
+pub folding_from : {n : ℕ} {f : Sets} {dist : ℕ → ℕ → ℕ} {x : Forest} {js : List (ℕ × ℕ)} {meet : ℕ}
+    → IsStage n f dist x → IsFolding n f dist x js meet → (i : ℕ) → i < length js
+    → (get_or js i (0, 0)).0 < f.size
 folding_from {n} {f} {dist} {js = js} {meet = meet} st w i h = omega (arith, (way_step n f dist meet meet i js w.way h).from, st.rest.size)
 
 -- the tops that the joins lead from, where the joins were read twice
-pub tops_seen : {n : ℕ} {f : Sets} {dist : ℕ → ℕ → ℕ} {x : Forest} {joins js ks : List (ℕ × ℕ)} {tops : List ℕ} {meet : ℕ} →
-    IsFolding n f dist x ks meet → tops ≡ tops_from f js → js ≡ joins → ks ≡ joins → tops ≡ tops_from f ks
+pub tops_seen : {n : ℕ} {f : Sets} {dist : ℕ → ℕ → ℕ} {x : Forest} {joins js ks : List (ℕ × ℕ)} {tops : List ℕ} {meet : ℕ}
+    → IsFolding n f dist x ks meet → tops ≡ tops_from f js → js ≡ joins → ks ≡ joins → tops ≡ tops_from f ks
 tops_seen {f = f} _ e ej ek = e ∙ ap (tops_from f) (ej ∙ sym ek)
 
 -- the same, by the tops as they were read
-pub free_outside_of : {n : ℕ} {f g : Sets} {dist : ℕ → ℕ → ℕ} {x : Forest} {joins : List (ℕ × ℕ)} {cs ds : List ℕ} {meet set : ℕ} →
-    IsStage n f dist x → IsFolding n f dist x joins meet → cs ≡ tops_from f joins → ds ≡ tops_from f joins → IsShrunk f cs joins set g → has ds set ≡ false
+pub free_outside_of : {n : ℕ} {f g : Sets} {dist : ℕ → ℕ → ℕ} {x : Forest} {joins : List (ℕ × ℕ)} {cs ds : List ℕ} {meet set : ℕ}
+    → IsStage n f dist x → IsFolding n f dist x joins meet → cs ≡ tops_from f joins → ds ≡ tops_from f joins
+    → IsShrunk f cs joins set g → has ds set ≡ false
 free_outside_of {n} {f} {g} {dist} {x} {joins} {meet = meet} {set = set} st w e e' sh =
     ap (λ z. has z set) e' ∙ free_outside n f g dist x joins meet set st w (subst (λ (z : List ℕ). IsShrunk f z joins set g) e sh)
 
 -- two ways became a set, by the tops as each step read them: cs by the family, ds by the tree
-pub folded_up : {n k : ℕ} {f g : Sets} {dist : ℕ → ℕ → ℕ} {x y : Forest} {joins : List (ℕ × ℕ)} {cs ds : List ℕ} {meet set : ℕ} →
-    IsStage n f dist x → IsFolding n f dist x joins meet → cs ≡ tops_from f joins → ds ≡ tops_from f joins → IsShrunk f cs joins set g → IsFamily g →
-    k ≡ n → DropsInside k g x.mate y.mate → Folds x ds meet set y → IsEvent n dist (λ bound. bound) f x g y
+pub folded_up : {n k : ℕ} {f g : Sets} {dist : ℕ → ℕ → ℕ} {x y : Forest} {joins : List (ℕ × ℕ)} {cs ds : List ℕ} {meet set : ℕ}
+    → IsStage n f dist x → IsFolding n f dist x joins meet → cs ≡ tops_from f joins → ds ≡ tops_from f joins
+    → IsShrunk f cs joins set g → IsFamily g → k ≡ n → DropsInside k g x.mate y.mate → Folds x ds meet set y
+    → IsEvent n dist (λ bound. bound) f x g y
 folded_up {n} {k} {f} {g} {dist} {x} {y} {joins} {cs} {ds} {meet} {set} st w e e' sh fam size drops o =
     let sh' : IsShrunk f (tops_from f joins) joins set g = subst (λ (z : List ℕ). IsShrunk f z joins set g) e sh in
     let d : DropsInside n g x.mate y.mate = subst (λ (z : ℕ). DropsInside z g x.mate y.mate) size drops in

@@ -9,8 +9,8 @@ use Rattle.dpl_tree.specs.Mates.{IsExit, ArePairs, DropsInside}
 use Rattle.dpl_tree.proofs.Growing.{outer_in, inner_in, outer_inner_no, exit_back}
 
 -- what a new mate was before
-pub was_mate : (n : ℕ) (g : Sets) (mate new : ℕ → Option ℕ) → DropsInside n g mate new → (m t : ℕ) → m < n →
-    new m ≡ Some t → (mate m ≡ Some t) × (g.top m ≢ g.top t)
+pub was_mate : (n : ℕ) (g : Sets) (mate new : ℕ → Option ℕ) → DropsInside n g mate new → (m t : ℕ) → m < n
+    → new m ≡ Some t → (mate m ≡ Some t) × (g.top m ≢ g.top t)
 was_mate n g mate new d m t hm k = elim (cases_Option (mate m)) [
   | inl none ↦ some_none (new m) t k (d.unpaired m hm none)
   | inr w ↦ elim (cases_eq (g.top m) (g.top w.0)) [
@@ -39,9 +39,9 @@ tops_of n f g cs set p q = record {
 }
 
 -- only the set where the ways meet keeps its pair
-pub only_meet : (n : ℕ) (f g : Sets) (x : Forest) (cs : List ℕ) (set meet m t : ℕ) → Gathers n f cs set g →
-    IsCycle n f x cs meet → m < n → t < n → has cs (f.top m) ≡ true → x.mate m ≡ Some t → g.top m ≢ g.top t →
-    (f.top m ≡ meet)
+pub only_meet : (n : ℕ) (f g : Sets) (x : Forest) (cs : List ℕ) (set meet m t : ℕ) → Gathers n f cs set g
+    → IsCycle n f x cs meet → m < n → t < n → has cs (f.top m) ≡ true → x.mate m ≡ Some t → g.top m ≢ g.top t
+    → (f.top m ≡ meet)
 only_meet n f g x cs set meet m t q c hm ht k e ne = elim (cases_eq (f.top m) meet) [
   | inl z ↦ z
   | inr z ↦
@@ -49,9 +49,9 @@ only_meet n f g x cs set meet m t q c hm ht k e ne = elim (cases_eq (f.top m) me
       absurd (ne (q.top_inside m hm k ∙ sym (q.top_inside t ht kt)))
 ]
 
-pub folded_pairs : (n : ℕ) (f g : Sets) (load dist : ℕ → ℕ → ℕ) (x : Forest) (new : ℕ → Option ℕ) (cs : List ℕ)
-    (set meet : ℕ) → IsLaminar n f → Gathers n f cs set g → ArePairs n f load dist x.mate → IsCycle n f x cs meet →
-    DropsInside n g x.mate new → ArePairs n g load dist new
+pub folded_pairs : (n : ℕ) (f g : Sets) (load dist : ℕ → ℕ → ℕ) (x : Forest) (new : ℕ → Option ℕ) (cs : List ℕ) (set meet : ℕ)
+    → IsLaminar n f → Gathers n f cs set g → ArePairs n f load dist x.mate → IsCycle n f x cs meet
+    → DropsInside n g x.mate new → ArePairs n g load dist new
 folded_pairs n f g load dist x new cs set meet lam q p c d =
     let ts = tops_of n f g cs set lam q in
     let was = λ (m t : ℕ) (hm : m < n) (k : new m ≡ Some t). was_mate n g x.mate new d m t hm k in
@@ -77,10 +77,10 @@ folded_pairs n f g load dist x new cs set meet lam q p c d =
           ];
     }
 
-pub folded : (n : ℕ) (f g : Sets) (load dist : ℕ → ℕ → ℕ) (x y : Forest) (cs : List ℕ) (set meet : ℕ) → IsLaminar n f →
-    AreTops n f cs → Gathers n f cs set g → ArePairs n f load dist x.mate → IsTree n f load dist x →
-    IsCycle n f x cs meet →
-    DropsInside n g x.mate y.mate → Folds x cs meet set y → IsTree n g load dist y
+pub folded : (n : ℕ) (f g : Sets) (load dist : ℕ → ℕ → ℕ) (x y : Forest) (cs : List ℕ) (set meet : ℕ)
+    → IsLaminar n f → AreTops n f cs → Gathers n f cs set g → ArePairs n f load dist x.mate
+    → IsTree n f load dist x → IsCycle n f x cs meet → DropsInside n g x.mate y.mate → Folds x cs meet set y
+    → IsTree n g load dist y
 folded n f g load dist x y cs set meet lam at q p tree c d o =
     let ts = tops_of n f g cs set lam q in
     let live_not = λ (i : ℕ) (l : f.live i ≡ true) (e : i ≡ set). true_false {P = ⊥} (f.live set) (ap f.live (sym e) ∙ l) q.was_free in

@@ -20,20 +20,21 @@ pub outer_inner_no : {P : Type 0} {a : Place} → a ≡ outer → a ≡ inner �
 outer_inner_no e z = let no : outer ≡ inner = sym e ∙ z in cc
 
 -- one exit a top
-pub exit_one : (n : ℕ) (f : Sets) (load dist : ℕ → ℕ → ℕ) (mate : ℕ → Option ℕ) → ArePairs n f load dist mate →
-    (i m t s u : ℕ) → IsExit n f mate i m t → IsExit n f mate i s u → (m ≡ s) × (t ≡ u)
+pub exit_one : (n : ℕ) (f : Sets) (load dist : ℕ → ℕ → ℕ) (mate : ℕ → Option ℕ) → ArePairs n f load dist mate
+    → (i m t s u : ℕ) → IsExit n f mate i m t → IsExit n f mate i s u → (m ≡ s) × (t ≡ u)
 exit_one n f load dist mate p i m t s u a b =
     let e : m ≡ s = p.alone m s t u a.below b.below (a.top ∙ sym b.top) a.paired b.paired in
     (e, same_Some _ _ (sym a.paired ∙ ap mate e ∙ b.paired))
 
 -- the other end of a pair
-pub exit_back : (n : ℕ) (f : Sets) (load dist : ℕ → ℕ → ℕ) (mate : ℕ → Option ℕ) → ArePairs n f load dist mate →
-    (i m t : ℕ) → IsExit n f mate i m t → IsExit n f mate (f.top t) t m
+pub exit_back : (n : ℕ) (f : Sets) (load dist : ℕ → ℕ → ℕ) (mate : ℕ → Option ℕ) → ArePairs n f load dist mate
+    → (i m t : ℕ) → IsExit n f mate i m t → IsExit n f mate (f.top t) t m
 exit_back n f load dist mate p i m t a = record { below = p.range m t a.below a.paired; top = refl; paired = p.back m t a.below a.paired }
 
 -- the mate of a set outside of the tree is outside too
-pub mate_outside : (n : ℕ) (f : Sets) (load dist : ℕ → ℕ → ℕ) (x : Forest) → ArePairs n f load dist x.mate →
-    IsTree n f load dist x → (i m t : ℕ) → x.place i ≡ free → IsExit n f x.mate i m t → x.place (f.top t) ≡ free
+pub mate_outside : (n : ℕ) (f : Sets) (load dist : ℕ → ℕ → ℕ) (x : Forest) → ArePairs n f load dist x.mate
+    → IsTree n f load dist x → (i m t : ℕ) → x.place i ≡ free → IsExit n f x.mate i m t
+    → x.place (f.top t) ≡ free
 mate_outside n f load dist x p tree i m t e a =
     let b = exit_back n f load dist x.mate p i m t a in
     let at : x.place (f.top m) ≡ free = ap x.place a.top ∙ e in
@@ -44,10 +45,10 @@ mate_outside n f load dist x p tree i m t e a =
     ]
 
 -- a tight pair from an outer member to a set outside of the tree that has a mate: both are taken into the tree
-pub grown : (n : ℕ) (f : Sets) (load dist : ℕ → ℕ → ℕ) (x y : Forest) (s t m o : ℕ) → IsLaminar n f →
-    ArePairs n f load dist x.mate → IsTree n f load dist x → s < n → t < n →
-    x.place (f.top s) ≡ outer → x.place (f.top t) ≡ free → load s t ≡ dist s t → IsExit n f x.mate (f.top t) m o →
-    Grows f x s t o y → IsTree n f load dist y
+pub grown : (n : ℕ) (f : Sets) (load dist : ℕ → ℕ → ℕ) (x y : Forest) (s t m o : ℕ) → IsLaminar n f
+    → ArePairs n f load dist x.mate → IsTree n f load dist x → s < n → t < n → x.place (f.top s) ≡ outer
+    → x.place (f.top t) ≡ free → load s t ≡ dist s t → IsExit n f x.mate (f.top t) m o → Grows f x s t o y
+    → IsTree n f load dist y
 grown n f load dist x y s t m o lam p tree hs ht ps pt tight ex g =
     let po : x.place (f.top o) ≡ free = mate_outside n f load dist x p tree (f.top t) m o pt ex in
     let ho : o < n = p.range m o ex.below ex.paired in

@@ -17,8 +17,9 @@ split_term false true x h = omega arith
 split_term false false x h = refl
 
 -- the load of two members with different tops is the sum of their totals
-pub load_totals : (n : ℕ) (f : Sets) (value : ℕ → ℕ) → IsLaminar n f → (s t : ℕ) → s < n → t < n → f.top s ≢ f.top t →
-    load_in (2 * n) value f.holds s t ≡ total_in (2 * n) value f.holds s + total_in (2 * n) value f.holds t
+pub load_totals : (n : ℕ) (f : Sets) (value : ℕ → ℕ) → IsLaminar n f → (s t : ℕ) → s < n → t < n
+    → f.top s ≢ f.top t
+    → load_in (2 * n) value f.holds s t ≡ total_in (2 * n) value f.holds s + total_in (2 * n) value f.holds t
 load_totals n f value p s t hs ht ne =
     sum_same (2 * n) _ _ (λ i h. split_term (f.holds i s) (f.holds i t) (value i) (λ a b. ne (p.tops.top_shared i s t h hs ht a b))) ∙
     sum_added (2 * n) (λ i. cond (f.holds i s) (value i) 0) (λ i. cond (f.holds i t) (value i) 0)
@@ -42,8 +43,9 @@ one_side false true d x y = let no : false ≡ true = y refl in cc
 one_side false false d x y = let no : false ≡ true = d in cc
 
 -- for values that only tops have, a load is what the two tops have, or nothing where they are one
-top_term : (n : ℕ) (f : Sets) → IsLaminar n f → (w : ℕ → ℕ) → ((i : ℕ) → i < 2 * n → (w i ≡ 0) ⊎ (f.parent i ≡ None)) →
-    (m i : ℕ) → m < n → i < 2 * n → cond (f.holds i m) (w i) 0 ≡ cond (eqb (f.top m) i) (w i) 0
+top_term : (n : ℕ) (f : Sets) → IsLaminar n f → (w : ℕ → ℕ)
+    → ((i : ℕ) → i < 2 * n → (w i ≡ 0) ⊎ (f.parent i ≡ None)) → (m i : ℕ) → m < n → i < 2 * n
+    → cond (f.holds i m) (w i) 0 ≡ cond (eqb (f.top m) i) (w i) 0
 top_term n f p w tops m i hm hi = elim (tops i hi) [
   | inl z ↦ both_zero (f.holds i m) (eqb (f.top m) i) (w i) z
   | inr t ↦ elim (cases_eq (f.top m) i) [
@@ -56,17 +58,17 @@ top_term n f p w tops m i hm hi = elim (tops i hi) [
   ]
 ]
 
-pub total_of_tops : (n : ℕ) (f : Sets) → IsLaminar n f → (w : ℕ → ℕ) →
-    ((i : ℕ) → i < 2 * n → (w i ≡ 0) ⊎ (f.parent i ≡ None)) → (m : ℕ) → m < n →
-    total_in (2 * n) w f.holds m ≡ w (f.top m)
+pub total_of_tops : (n : ℕ) (f : Sets) → IsLaminar n f → (w : ℕ → ℕ)
+    → ((i : ℕ) → i < 2 * n → (w i ≡ 0) ⊎ (f.parent i ≡ None)) → (m : ℕ) → m < n
+    → total_in (2 * n) w f.holds m ≡ w (f.top m)
 total_of_tops n f p w tops m hm = sum_same (2 * n) _ _ (λ i hi. top_term n f p w tops m i hm hi) ∙ sum_at (2 * n) (f.top m) w (p.tops.top_range m hm)
 
 -- two values that differ by what tops have
-pub total_shifted : (n : ℕ) (f : Sets) → IsLaminar n f → (v v' up down : ℕ → ℕ) →
-    ((i : ℕ) → i < 2 * n → (up i ≡ 0) ⊎ (f.parent i ≡ None)) →
-    ((i : ℕ) → i < 2 * n → (down i ≡ 0) ⊎ (f.parent i ≡ None))
-    → ((i : ℕ) → i < 2 * n → v' i + down i ≡ v i + up i) → (m : ℕ) → m < n →
-    total_in (2 * n) v' f.holds m + down (f.top m) ≡ total_in (2 * n) v f.holds m + up (f.top m)
+pub total_shifted : (n : ℕ) (f : Sets) → IsLaminar n f → (v v' up down : ℕ → ℕ)
+    → ((i : ℕ) → i < 2 * n → (up i ≡ 0) ⊎ (f.parent i ≡ None))
+    → ((i : ℕ) → i < 2 * n → (down i ≡ 0) ⊎ (f.parent i ≡ None))
+    → ((i : ℕ) → i < 2 * n → v' i + down i ≡ v i + up i) → (m : ℕ) → m < n
+    → total_in (2 * n) v' f.holds m + down (f.top m) ≡ total_in (2 * n) v f.holds m + up (f.top m)
 total_shifted n f p v v' up down tu td e m hm =
     let both : sum_below (2 * n) (λ i. cond (f.holds i m) (v' i) 0 + cond (f.holds i m) (down i) 0) ≡ sum_below (2 * n)
     (λ i. cond (f.holds i m) (v i) 0 + cond (f.holds i m) (up i) 0) =
@@ -81,11 +83,11 @@ total_shifted n f p v v' up down tu td e m hm =
     )
 
 -- a load between members of one top does not see what tops have
-pub load_inside : (n : ℕ) (f : Sets) → IsLaminar n f → (v v' up down : ℕ → ℕ) →
-    ((i : ℕ) → i < 2 * n → (up i ≡ 0) ⊎ (f.parent i ≡ None)) →
-    ((i : ℕ) → i < 2 * n → (down i ≡ 0) ⊎ (f.parent i ≡ None))
-    → ((i : ℕ) → i < 2 * n → v' i + down i ≡ v i + up i) → (s t : ℕ) → s < n → t < n → f.top s ≡ f.top t →
-    load_in (2 * n) v' f.holds s t ≡ load_in (2 * n) v f.holds s t
+pub load_inside : (n : ℕ) (f : Sets) → IsLaminar n f → (v v' up down : ℕ → ℕ)
+    → ((i : ℕ) → i < 2 * n → (up i ≡ 0) ⊎ (f.parent i ≡ None))
+    → ((i : ℕ) → i < 2 * n → (down i ≡ 0) ⊎ (f.parent i ≡ None))
+    → ((i : ℕ) → i < 2 * n → v' i + down i ≡ v i + up i) → (s t : ℕ) → s < n → t < n → f.top s ≡ f.top t
+    → load_in (2 * n) v' f.holds s t ≡ load_in (2 * n) v f.holds s t
 load_inside n f p v v' up down tu td e s t hs ht same = sum_same (2 * n) _ _ (λ i hi. elim (cases_Bool (differ (f.holds i s) (f.holds i t))) [
   | inr alike ↦ cond-false _ (v' i) 0 alike ∙ sym (cond-false _ (v i) 0 alike)
   | inl apart ↦
@@ -109,22 +111,23 @@ up_only f place by k tops i h = from (place i) refl where
   from outer e = inr (tops i h (λ z. let no : outer ≡ free = sym e ∙ z in cc))
   from inner e = inl (omega arith)
 
-down_only : (f : Sets) (place : ℕ → Place) (by k : ℕ) → ((i : ℕ) → i < k → place i ≢ free → f.parent i ≡ None) →
-    (i : ℕ) → i < k → (drop_of (place i) * by ≡ 0) ⊎ (f.parent i ≡ None)
+down_only : (f : Sets) (place : ℕ → Place) (by k : ℕ) → ((i : ℕ) → i < k → place i ≢ free → f.parent i ≡ None)
+    → (i : ℕ) → i < k → (drop_of (place i) * by ≡ 0) ⊎ (f.parent i ≡ None)
 down_only f place by k tops i h = from (place i) refl where
   from : (q : Place) → place i ≡ q → (drop_of q * by ≡ 0) ⊎ (f.parent i ≡ None)
   from free e = inl (omega arith)
   from inner e = inr (tops i h (λ z. let no : inner ≡ free = sym e ∙ z in cc))
   from outer e = inl (omega arith)
 
-pub shift_total : (n : ℕ) (f : Sets) → IsLaminar n f → (place : ℕ → Place) (by : ℕ) (v v' : ℕ → ℕ) → Shifts (2 * n) f place by v v' → (m : ℕ) → m < n →
-    total_in (2 * n) v' f.holds m + drop_of (place (f.top m)) * by ≡ total_in (2 * n) v f.holds m + gain (place (f.top m)) * by
+pub shift_total : (n : ℕ) (f : Sets) → IsLaminar n f → (place : ℕ → Place) (by : ℕ) (v v' : ℕ → ℕ)
+    → Shifts (2 * n) f place by v v' → (m : ℕ) → m < n
+    → total_in (2 * n) v' f.holds m + drop_of (place (f.top m)) * by ≡ total_in (2 * n) v f.holds m + gain (place (f.top m)) * by
 shift_total n f p place by v v' s m h = total_shifted n f p v v' (λ i. gain (place i) * by)
     (λ i. drop_of (place i) * by) (up_only f place by (2 * n) s.tops) (down_only f place by (2 * n) s.tops) s.each m h
 
-pub shift_inside : (n : ℕ) (f : Sets) → IsLaminar n f → (place : ℕ → Place) (by : ℕ) (v v' : ℕ → ℕ) →
-    Shifts (2 * n) f place by v v' → (s t : ℕ) → s < n → t < n → f.top s ≡ f.top t →
-    load_in (2 * n) v' f.holds s t ≡ load_in (2 * n) v f.holds s t
+pub shift_inside : (n : ℕ) (f : Sets) → IsLaminar n f → (place : ℕ → Place) (by : ℕ) (v v' : ℕ → ℕ)
+    → Shifts (2 * n) f place by v v' → (s t : ℕ) → s < n → t < n → f.top s ≡ f.top t
+    → load_in (2 * n) v' f.holds s t ≡ load_in (2 * n) v f.holds s t
 shift_inside n f p place by v v' s a b ha hb e = load_inside n f p v v' (λ i. gain (place i) * by)
     (λ i. drop_of (place i) * by) (up_only f place by (2 * n) s.tops) (down_only f place by (2 * n) s.tops) s.each a b
     ha hb e
@@ -154,9 +157,10 @@ pub record HasRoom (n : ℕ) (f : Sets) (place : ℕ → Place) (by : ℕ) (v : 
   pub free_outer : (s t : ℕ) → s < n → t < n → place (f.top s) ≡ free → place (f.top t) ≡ outer → load_in (2 * n) v f.holds s t + by ≤ dist s t
 
 -- the loads stay within the distances
-pub shift_within : (n : ℕ) (f : Sets) → IsLaminar n f → (place : ℕ → Place) (by : ℕ) (v v' : ℕ → ℕ) (dist : ℕ → ℕ → ℕ) →
-    Shifts (2 * n) f place by v v' → HasRoom n f place by v dist → (s t : ℕ) → s < n → t < n → s ≢ t →
-    load_in (2 * n) v' f.holds s t ≤ dist s t
+pub shift_within : (n : ℕ) (f : Sets) → IsLaminar n f
+    → (place : ℕ → Place) (by : ℕ) (v v' : ℕ → ℕ) (dist : ℕ → ℕ → ℕ) → Shifts (2 * n) f place by v v'
+    → HasRoom n f place by v dist → (s t : ℕ) → s < n → t < n → s ≢ t
+    → load_in (2 * n) v' f.holds s t ≤ dist s t
 shift_within n f p place by v v' dist sh r s t hs ht ne = elim (cases_eq (f.top s) (f.top t)) [
   | inl same ↦ omega (arith, shift_inside n f p place by v v' sh s t hs ht same, r.within s t hs ht ne)
   | inr apart ↦ from (place (f.top s)) (place (f.top t)) refl refl (shift_load n f p place by v v' sh s t hs ht apart) apart
@@ -201,10 +205,11 @@ balance inner free by x = elim x [ ]
 balance inner inner by x = elim x [ ]
 
 -- tight pairs stay tight: within one top, between an outer and an inner one, and between two outside of the tree
-pub shift_tight : (n : ℕ) (f : Sets) → IsLaminar n f → (place : ℕ → Place) (by : ℕ) (v v' : ℕ → ℕ) (dist : ℕ → ℕ → ℕ) →
-    Shifts (2 * n) f place by v v' → (s t : ℕ) → s < n → t < n →
-    (f.top s ≡ f.top t) ⊎ ((f.top s ≢ f.top t) × Balanced (place (f.top s)) (place (f.top t))) →
-    load_in (2 * n) v f.holds s t ≡ dist s t → load_in (2 * n) v' f.holds s t ≡ dist s t
+pub shift_tight : (n : ℕ) (f : Sets) → IsLaminar n f
+    → (place : ℕ → Place) (by : ℕ) (v v' : ℕ → ℕ) (dist : ℕ → ℕ → ℕ) → Shifts (2 * n) f place by v v'
+    → (s t : ℕ) → s < n → t < n
+    → (f.top s ≡ f.top t) ⊎ ((f.top s ≢ f.top t) × Balanced (place (f.top s)) (place (f.top t)))
+    → load_in (2 * n) v f.holds s t ≡ dist s t → load_in (2 * n) v' f.holds s t ≡ dist s t
 shift_tight n f p place by v v' dist sh s t hs ht (inl same) e = shift_inside n f p place by v v' sh s t hs ht same ∙ e
 shift_tight n f p place by v v' dist sh s t hs ht (inr w) e =
     omega (
@@ -221,8 +226,8 @@ one_way free x y by ne e = absurd (ne refl)
 one_way outer x y by ne e = omega arith
 one_way inner x y by ne e = omega arith
 
-pub shift_parity : (n : ℕ) (f : Sets) → IsLaminar n f → (place : ℕ → Place) (by : ℕ) (v v' : ℕ → ℕ) →
-    Shifts (2 * n) f place by v v' → HasParity n f place v → HasParity n f place v'
+pub shift_parity : (n : ℕ) (f : Sets) → IsLaminar n f → (place : ℕ → Place) (by : ℕ) (v v' : ℕ → ℕ)
+    → Shifts (2 * n) f place by v v' → HasParity n f place v → HasParity n f place v'
 shift_parity n f p place by v v' sh h = record {
   in_top = λ s t hs ht e.
       let a = shift_total n f p place by v v' sh s hs in
@@ -238,16 +243,17 @@ shift_parity n f p place by v v' sh h = record {
 }
 
 -- the slack of two outer members is even
-pub slack_even : (n : ℕ) (f : Sets) (place : ℕ → Place) (v : ℕ → ℕ) (dist : ℕ → ℕ → ℕ) → IsMetric n dist →
-    HasParity n f place v → (s t : ℕ) → s < n → t < n → place (f.top s) ≢ free → place (f.top t) ≢ free →
-    total_in (2 * n) v f.holds s + total_in (2 * n) v f.holds t ≤ dist s t → (dist s t - (total_in (2 * n) v f.holds s + total_in (2 * n) v f.holds t)) % 2 ≡ 0
+pub slack_even : (n : ℕ) (f : Sets) (place : ℕ → Place) (v : ℕ → ℕ) (dist : ℕ → ℕ → ℕ) → IsMetric n dist
+    → HasParity n f place v → (s t : ℕ) → s < n → t < n → place (f.top s) ≢ free → place (f.top t) ≢ free
+    → total_in (2 * n) v f.holds s + total_in (2 * n) v f.holds t ≤ dist s t
+    → (dist s t - (total_in (2 * n) v f.holds s + total_in (2 * n) v f.holds t)) % 2 ≡ 0
 slack_even n f place v dist m h s t hs ht ps pt le = omega (arith, m.even s t hs ht, h.in_tree s t hs ht ps pt)
 
 -- an inner single member has as much value as the outer members may gain: by the triangle rule
-pub single_keeps : (n : ℕ) (f : Sets) → IsLaminar n f → (v : ℕ → ℕ) (dist : ℕ → ℕ → ℕ) → IsMetric n dist → (u m w by : ℕ) → u < n → m < n → w < n →
-    f.top u ≢ f.top m → f.top m ≢ f.top w → f.top u ≢ f.top w → total_in (2 * n) v f.holds m ≡ v m →
-    load_in (2 * n) v f.holds u m ≡ dist u m → load_in (2 * n) v f.holds m w ≡ dist m w →
-    load_in (2 * n) v f.holds u w + 2 * by ≤ dist u w → by ≤ v m
+pub single_keeps : (n : ℕ) (f : Sets) → IsLaminar n f → (v : ℕ → ℕ) (dist : ℕ → ℕ → ℕ) → IsMetric n dist
+    → (u m w by : ℕ) → u < n → m < n → w < n → f.top u ≢ f.top m → f.top m ≢ f.top w → f.top u ≢ f.top w
+    → total_in (2 * n) v f.holds m ≡ v m → load_in (2 * n) v f.holds u m ≡ dist u m
+    → load_in (2 * n) v f.holds m w ≡ dist m w → load_in (2 * n) v f.holds u w + 2 * by ≤ dist u w → by ≤ v m
 single_keeps n f p v dist m u x w by hu hx hw a b c t e e' room =
     omega (
       arith,

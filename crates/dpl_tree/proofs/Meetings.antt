@@ -72,34 +72,34 @@ once_apart (x ∷ xs) once (suc i) (suc j) h l e = once_apart xs (λ c. omega (a
 -- ---- ways
 
 -- two ways that meet are one
-pub way_append : (n : ℕ) (f : Sets) (dist : ℕ → ℕ → ℕ) (a b c : ℕ) (xs ys : List (ℕ × ℕ)) →
-    IsWay n f dist a xs b → IsWay n f dist b ys c → IsWay n f dist a (xs ++ ys) c
+pub way_append : (n : ℕ) (f : Sets) (dist : ℕ → ℕ → ℕ) (a b c : ℕ) (xs ys : List (ℕ × ℕ))
+    → IsWay n f dist a xs b → IsWay n f dist b ys c → IsWay n f dist a (xs ++ ys) c
 way_append n f dist a b c [] ys p q = subst (λ (z : ℕ). IsWay n f dist z ys c) (sym p) q
 way_append n f dist a b c (x ∷ xs) ys p q = (p.0, p.1, p.2, p.3, way_append n f dist (f.top x.1) b c xs ys p.4 q)
 
 -- the tops that a way leads from, with its end, are its start with those that it leads to
-pub way_times : (n : ℕ) (f : Sets) (dist : ℕ → ℕ → ℕ) (a b : ℕ) (xs : List (ℕ × ℕ)) (c : ℕ) →
-    IsWay n f dist a xs b → times_in (tops_from f xs) c + cond (eqb b c) 1 0 ≡ cond (eqb a c) 1 0 + times_in
-    (tops_to f xs) c
+pub way_times : (n : ℕ) (f : Sets) (dist : ℕ → ℕ → ℕ) (a b : ℕ) (xs : List (ℕ × ℕ)) (c : ℕ)
+    → IsWay n f dist a xs b
+    → times_in (tops_from f xs) c + cond (eqb b c) 1 0 ≡ cond (eqb a c) 1 0 + times_in (tops_to f xs) c
 way_times n f dist a b [] c p = omega (arith, ap (λ z. one_if z c) p)
 way_times n f dist a b (x ∷ xs) c p = omega (arith, ap (λ z. one_if z c) p.2, way_times n f dist (f.top x.1) b xs c p.4)
 
 -- a way begins at its first top
-pub way_first : (n : ℕ) (f : Sets) (dist : ℕ → ℕ → ℕ) (a b : ℕ) (xs : List (ℕ × ℕ)) → IsWay n f dist a xs b →
-    0 < length xs → f.top (get_or xs 0 (0, 0)).0 ≡ a
+pub way_first : (n : ℕ) (f : Sets) (dist : ℕ → ℕ → ℕ) (a b : ℕ) (xs : List (ℕ × ℕ)) → IsWay n f dist a xs b
+    → 0 < length xs → f.top (get_or xs 0 (0, 0)).0 ≡ a
 way_first n f dist a b [] p h = absurd (omega (arith, h))
 way_first n f dist a b (x ∷ xs) p h = p.2
 
 -- each join leads to the top that the next one leads from
-pub way_next : (n : ℕ) (f : Sets) (dist : ℕ → ℕ → ℕ) (a b i : ℕ) (xs : List (ℕ × ℕ)) → IsWay n f dist a xs b →
-    suc i < length xs → f.top (get_or xs i (0, 0)).1 ≡ f.top (get_or xs (suc i) (0, 0)).0
+pub way_next : (n : ℕ) (f : Sets) (dist : ℕ → ℕ → ℕ) (a b i : ℕ) (xs : List (ℕ × ℕ)) → IsWay n f dist a xs b
+    → suc i < length xs → f.top (get_or xs i (0, 0)).1 ≡ f.top (get_or xs (suc i) (0, 0)).0
 way_next n f dist a b i [] p h = absurd (omega (arith, h))
 way_next n f dist a b zero (x ∷ xs) p h = sym (way_first n f dist (f.top x.1) b xs p.4 (omega (arith, h)))
 way_next n f dist a b (suc i) (x ∷ xs) p h = way_next n f dist (f.top x.1) b i xs p.4 (omega (arith, h))
 
 -- a way ends at its last top
-pub way_last : (n : ℕ) (f : Sets) (dist : ℕ → ℕ → ℕ) (a b i : ℕ) (xs : List (ℕ × ℕ)) → IsWay n f dist a xs b →
-    i + 1 ≡ length xs → f.top (get_or xs i (0, 0)).1 ≡ b
+pub way_last : (n : ℕ) (f : Sets) (dist : ℕ → ℕ → ℕ) (a b i : ℕ) (xs : List (ℕ × ℕ)) → IsWay n f dist a xs b
+    → i + 1 ≡ length xs → f.top (get_or xs i (0, 0)).1 ≡ b
 way_last n f dist a b i [] p h = absurd (omega (arith, h))
 way_last n f dist a b zero (x ∷ []) p h = p.4
 way_last n f dist a b zero (x ∷ y ∷ xs) p h = absurd (omega (arith, h))
@@ -112,8 +112,8 @@ pub record IsStep (n : ℕ) (load dist : ℕ → ℕ → ℕ) (j : ℕ × ℕ) :
   pub tight : load j.0 j.1 ≡ dist j.0 j.1
 
 -- each join of a way is tight
-pub way_step : (n : ℕ) (f : Sets) (dist : ℕ → ℕ → ℕ) (a b i : ℕ) (xs : List (ℕ × ℕ)) → IsWay n f dist a xs b →
-    i < length xs → IsStep n (loads n f) dist (get_or xs i (0, 0))
+pub way_step : (n : ℕ) (f : Sets) (dist : ℕ → ℕ → ℕ) (a b i : ℕ) (xs : List (ℕ × ℕ)) → IsWay n f dist a xs b
+    → i < length xs → IsStep n (loads n f) dist (get_or xs i (0, 0))
 way_step n f dist a b i [] p h = absurd (omega (arith, h))
 way_step n f dist a b zero (x ∷ xs) p h = record { from = p.0; to = p.1; tight = p.3 }
 way_step n f dist a b (suc i) (x ∷ xs) p h = way_step n f dist (f.top x.1) b i xs p.4 (omega (arith, h))
@@ -136,9 +136,10 @@ gathered_turned n f x a b met g = record {
 }
 
 -- the step from the outer set a over its pair (m, t)
-pub gathered_more : (n : ℕ) (f : Sets) (dist : ℕ → ℕ → ℕ) (x : Forest) (a b m t : ℕ) (met new : ℕ → ℕ) →
-    IsStage n f dist x → AreGathered n f x a b met → a ≢ b → x.rank b ≤ x.rank a → IsExit n f x.mate a m t →
-    ((c : ℕ) → new c ≡ met c + (cond (eqb a c) 1 0 + cond (eqb (f.top t) c) 1 0)) → AreGathered n f x (f.top (x.above (f.top t))) b new
+pub gathered_more : (n : ℕ) (f : Sets) (dist : ℕ → ℕ → ℕ) (x : Forest) (a b m t : ℕ) (met new : ℕ → ℕ)
+    → IsStage n f dist x → AreGathered n f x a b met → a ≢ b → x.rank b ≤ x.rank a → IsExit n f x.mate a m t
+    → ((c : ℕ) → new c ≡ met c + (cond (eqb a c) 1 0 + cond (eqb (f.top t) c) 1 0))
+    → AreGathered n f x (f.top (x.above (f.top t))) b new
 gathered_more n f dist x a b m t met new st g ne low ex e =
     let tree = st.tree in
     let pairs = st.rest.pairs in
@@ -222,8 +223,8 @@ not_root n f dist x a b st pb ne low e = elim (cases_eq b x.root) [
 reverse_push : (xs : List (ℕ × ℕ)) (y : ℕ × ℕ) → reverse (xs ++ y ∷ []) ≡ y ∷ reverse xs
 reverse_push xs y = reverse-append xs (y ∷ [])
 
-times_two : (f : Sets) (g : ℕ × ℕ → ℕ) (xs : List (ℕ × ℕ)) (y z : ℕ × ℕ) (a i c : ℕ) → g y ≡ a → g z ≡ i →
-    times_in (map g ((xs ++ y ∷ []) ++ z ∷ [])) c ≡ times_in (map g xs) c + (cond (eqb a c) 1 0 + cond (eqb i c) 1 0)
+times_two : (f : Sets) (g : ℕ × ℕ → ℕ) (xs : List (ℕ × ℕ)) (y z : ℕ × ℕ) (a i c : ℕ) → g y ≡ a → g z ≡ i
+    → times_in (map g ((xs ++ y ∷ []) ++ z ∷ [])) c ≡ times_in (map g xs) c + (cond (eqb a c) 1 0 + cond (eqb i c) 1 0)
 times_two f g xs y z a i c ey ez =
     let e1 : times_in (map g ((xs ++ y ∷ []) ++ z ∷ [])) c ≡ times_in (map g (xs ++ y ∷ [])) c + times_in
     (map g (z ∷ [])) c = ap (λ w. times_in w c) (map-append g (xs ++ y ∷ []) (z ∷ [])) ∙
@@ -249,8 +250,8 @@ pub record IsStepUp (n : ℕ) (f : Sets) (dist : ℕ → ℕ → ℕ) (x : Fores
   pub tight_link : loads n f (x.above (f.top t)) (x.entry (f.top t)) ≡ dist (x.above (f.top t)) (x.entry (f.top t))
 
 -- the step up from an outer set over its pair
-pub step_of : (n : ℕ) (f : Sets) (dist : ℕ → ℕ → ℕ) (x : Forest) (a m t : ℕ) → IsStage n f dist x → x.place a ≡ outer →
-    IsExit n f x.mate a m t → IsStepUp n f dist x a m t
+pub step_of : (n : ℕ) (f : Sets) (dist : ℕ → ℕ → ℕ) (x : Forest) (a m t : ℕ) → IsStage n f dist x
+    → x.place a ≡ outer → IsExit n f x.mate a m t → IsStepUp n f dist x a m t
 step_of n f dist x a m t st pa ex =
     let o = st.tree.outer_mate a m t pa ex in
     let ht : t < n = st.rest.pairs.range m t ex.below ex.paired in
@@ -266,10 +267,10 @@ step_of n f dist x a m t st pa ex =
     }
 
 -- the left way goes one step on
-pub climbing_left : (n : ℕ) (f : Sets) (dist : ℕ → ℕ → ℕ) (x : Forest) (s t : ℕ) (left right : List (ℕ × ℕ))
-    (a b m u : ℕ) → IsMetric n dist → IsStage n f dist x → AreClimbing n f dist x (s, t) (ways left right a b) → a ≢ b →
-    x.rank b ≤ x.rank a → IsExit n f x.mate a m u →
-    AreClimbing n f dist x (s, t) (ways ((left ++ (u, m) ∷ []) ++ (x.above (f.top u), x.entry (f.top u)) ∷ []) right (f.top (x.above (f.top u))) b)
+pub climbing_left : (n : ℕ) (f : Sets) (dist : ℕ → ℕ → ℕ) (x : Forest) (s t : ℕ) (left right : List (ℕ × ℕ)) (a b m u : ℕ)
+    → IsMetric n dist → IsStage n f dist x → AreClimbing n f dist x (s, t) (ways left right a b) → a ≢ b
+    → x.rank b ≤ x.rank a → IsExit n f x.mate a m u
+    → AreClimbing n f dist x (s, t) (ways ((left ++ (u, m) ∷ []) ++ (x.above (f.top u), x.entry (f.top u)) ∷ []) right (f.top (x.above (f.top u))) b)
 climbing_left n f dist x s t left right a b m u me st c ne low ex =
     let w = step_of n f dist x a m u st c.sets.a_outer ex in
     let i : ℕ = f.top u in
@@ -290,10 +291,10 @@ climbing_left n f dist x s t left right a b m u me st c ne low ex =
     }
 
 -- the right way goes one step on
-pub climbing_right : (n : ℕ) (f : Sets) (dist : ℕ → ℕ → ℕ) (x : Forest) (s t : ℕ) (left right : List (ℕ × ℕ))
-    (a b m u : ℕ) → IsMetric n dist → IsStage n f dist x → AreClimbing n f dist x (s, t) (ways left right a b) → a ≢ b →
-    x.rank a ≤ x.rank b → IsExit n f x.mate b m u →
-    AreClimbing n f dist x (s, t) (ways left ((right ++ (m, u) ∷ []) ++ (x.entry (f.top u), x.above (f.top u)) ∷ []) a (f.top (x.above (f.top u))))
+pub climbing_right : (n : ℕ) (f : Sets) (dist : ℕ → ℕ → ℕ) (x : Forest) (s t : ℕ) (left right : List (ℕ × ℕ)) (a b m u : ℕ)
+    → IsMetric n dist → IsStage n f dist x → AreClimbing n f dist x (s, t) (ways left right a b) → a ≢ b
+    → x.rank a ≤ x.rank b → IsExit n f x.mate b m u
+    → AreClimbing n f dist x (s, t) (ways left ((right ++ (m, u) ∷ []) ++ (x.entry (f.top u), x.above (f.top u)) ∷ []) a (f.top (x.above (f.top u))))
 climbing_right n f dist x s t left right a b m u me st c ne low ex =
     let w = step_of n f dist x b m u st c.sets.b_outer ex in
     let i : ℕ = f.top u in
@@ -316,8 +317,8 @@ climbing_right n f dist x s t left right a b m u me st c ne low ex =
     }
 
 -- two ways that have not begun
-pub climbing_begun : (n : ℕ) (f : Sets) (dist : ℕ → ℕ → ℕ) (x : Forest) (s t : ℕ) → x.place (f.top s) ≡ outer →
-    x.place (f.top t) ≡ outer → AreClimbing n f dist x (s, t) (ways [] [] (f.top s) (f.top t))
+pub climbing_begun : (n : ℕ) (f : Sets) (dist : ℕ → ℕ → ℕ) (x : Forest) (s t : ℕ) → x.place (f.top s) ≡ outer
+    → x.place (f.top t) ≡ outer → AreClimbing n f dist x (s, t) (ways [] [] (f.top s) (f.top t))
 climbing_begun n f dist x s t ps pt = record {
   way_left = refl;
   way_right = refl;
@@ -351,9 +352,9 @@ times_reversed f (y ∷ ys) c =
     times_append (tops_to f (reverse ys)) (tops_to f (y ∷ [])) c in
     omega (arith, ap (λ w. times_in (tops_to f w) c) e, k, times_reversed f ys c)
 
-some_met : (n : ℕ) (f : Sets) (dist : ℕ → ℕ → ℕ) (x : Forest) (s t meet : ℕ) (left right : List (ℕ × ℕ)) →
-    IsStage n f dist x → f.top s ≢ f.top t → AreClimbing n f dist x (s, t) (ways left right meet meet) → (k : ℕ) ×
-    (0 < met_on f left right k)
+some_met : (n : ℕ) (f : Sets) (dist : ℕ → ℕ → ℕ) (x : Forest) (s t meet : ℕ) (left right : List (ℕ × ℕ))
+    → IsStage n f dist x → f.top s ≢ f.top t → AreClimbing n f dist x (s, t) (ways left right meet meet)
+    → (k : ℕ) × (0 < met_on f left right k)
 some_met n f dist x s t meet left right st apart c = elim (cases_eq meet (f.top t)) [
   | inr ne ↦ (
     f.top t,
@@ -377,9 +378,9 @@ some_met n f dist x s t meet left right st apart c = elim (cases_eq meet (f.top 
       )
 ]
 
-inner_met : (n : ℕ) (f : Sets) (dist : ℕ → ℕ → ℕ) (x : Forest) (meet : ℕ) (met : ℕ → ℕ) (children : List ℕ) →
-    IsStage n f dist x → AreGathered n f x meet meet met → (k : ℕ) × (0 < met k) →
-    ((k : ℕ) → 0 < met k → has children k ≡ true) → (k : ℕ) × (has children k ≡ true) × (x.place k ≡ inner)
+inner_met : (n : ℕ) (f : Sets) (dist : ℕ → ℕ → ℕ) (x : Forest) (meet : ℕ) (met : ℕ → ℕ) (children : List ℕ)
+    → IsStage n f dist x → AreGathered n f x meet meet met → (k : ℕ) × (0 < met k)
+    → ((k : ℕ) → 0 < met k → has children k ≡ true) → (k : ℕ) × (has children k ≡ true) × (x.place k ≡ inner)
 inner_met n f dist x meet met children st g w here = elim (place_cases (x.place w.0)) [
   | inl z ↦ absurd (g.in_tree w.0 w.1 z)
   | inr (inr z) ↦ (w.0, here w.0 w.1, z)
@@ -397,10 +398,10 @@ inner_met n f dist x meet met children st g w here = elim (place_cases (x.place 
 ]
 
 -- two ways that meet go all around with their join
-pub climbing_whole : (n : ℕ) (f : Sets) (dist : ℕ → ℕ → ℕ) (x : Forest) (s t meet : ℕ) (left right : List (ℕ × ℕ)) →
-    IsStage n f dist x → s < n → t < n → loads n f s t ≡ dist s t → f.top s ≢ f.top t →
-    AreClimbing n f dist x (s, t) (ways left right meet meet) →
-    IsFolding n f dist x (reverse left ++ (s, t) ∷ right) meet
+pub climbing_whole : (n : ℕ) (f : Sets) (dist : ℕ → ℕ → ℕ) (x : Forest) (s t meet : ℕ) (left right : List (ℕ × ℕ))
+    → IsStage n f dist x → s < n → t < n → loads n f s t ≡ dist s t → f.top s ≢ f.top t
+    → AreClimbing n f dist x (s, t) (ways left right meet meet)
+    → IsFolding n f dist x (reverse left ++ (s, t) ∷ right) meet
 climbing_whole n f dist x s t meet left right st hs ht tight apart c =
     let joins : List (ℕ × ℕ) = reverse left ++ (s, t) ∷ right in
     let g = c.sets in
@@ -464,8 +465,8 @@ climbing_whole n f dist x s t meet left right st hs ht tight apart c =
 -- ---- the joins all around are those of a new set
 
 -- there are more than one
-three : (n : ℕ) (f : Sets) (dist : ℕ → ℕ → ℕ) (x : Forest) (joins : List (ℕ × ℕ)) (meet : ℕ) → IsStage n f dist x →
-    IsFolding n f dist x joins meet → 2 ≤ length joins
+three : (n : ℕ) (f : Sets) (dist : ℕ → ℕ → ℕ) (x : Forest) (joins : List (ℕ × ℕ)) (meet : ℕ)
+    → IsStage n f dist x → IsFolding n f dist x joins meet → 2 ≤ length joins
 three n f dist x [] meet st w = absurd (omega (arith, w.odd))
 three n f dist x (j ∷ []) meet st w =
     let e = w.way.2 in
@@ -477,8 +478,8 @@ three n f dist x (j ∷ []) meet st w =
 three n f dist x (j ∷ i ∷ js) meet st w = omega arith
 
 -- the tops all around can become one set
-pub folding_tops : (n : ℕ) (f : Sets) (dist : ℕ → ℕ → ℕ) (x : Forest) (joins : List (ℕ × ℕ)) (meet : ℕ) →
-    IsStage n f dist x → IsFolding n f dist x joins meet → AreTops n f (tops_from f joins)
+pub folding_tops : (n : ℕ) (f : Sets) (dist : ℕ → ℕ → ℕ) (x : Forest) (joins : List (ℕ × ℕ)) (meet : ℕ)
+    → IsStage n f dist x → IsFolding n f dist x joins meet → AreTops n f (tops_from f joins)
 folding_tops n f dist x joins meet st w =
     let len : length (tops_from f joins) ≡ length joins = length-map joins (λ j. f.top j.0) in
     let top = λ (c : ℕ) (h : has (tops_from f joins) c ≡ true). st.tree.tops c (w.cycle.in_tree c h) in
@@ -492,9 +493,9 @@ folding_tops n f dist x joins meet st w =
     }
 
 -- each join all around leads from one of them to the next
-pub folding_joined : (n : ℕ) (f : Sets) (dist : ℕ → ℕ → ℕ) (x : Forest) (joins : List (ℕ × ℕ)) (meet i : ℕ) →
-    IsStage n f dist x → IsFolding n f dist x joins meet → i < length joins →
-    IsTie f (get_or (tops_from f joins) i 0) (next_in (tops_from f joins) i) (get_or joins i (0, 0))
+pub folding_joined : (n : ℕ) (f : Sets) (dist : ℕ → ℕ → ℕ) (x : Forest) (joins : List (ℕ × ℕ)) (meet i : ℕ)
+    → IsStage n f dist x → IsFolding n f dist x joins meet → i < length joins
+    → IsTie f (get_or (tops_from f joins) i 0) (next_in (tops_from f joins) i) (get_or joins i (0, 0))
 folding_joined n f dist x joins meet i st w h =
     let lam = st.rest.laminar in
     let size = st.rest.size in

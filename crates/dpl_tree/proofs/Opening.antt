@@ -8,12 +8,13 @@ use Rattle.dpl_tree.specs.Mates.{IsExit, ArePairs}
 use Rattle.dpl_tree.proofs.Growing.{place_cases, outer_in, inner_in, outer_inner_no, exit_one, exit_back}
 
 -- an inner set of the tree is taken away, and its child that the tree enters stands in its place
-pub opened : (n : ℕ) (f g : Sets) (load dist : ℕ → ℕ → ℕ) (x y : Forest) (set first m0 t0 room : ℕ) → IsLaminar n f →
-    Releases n f set g → ArePairs n f load dist x.mate → IsTree n f load dist x → ArePairs n g load dist y.mate →
-    n ≤ set → x.place set ≡ inner → IsExit n f x.mate set m0 t0 → first < 2 * n → g.live first ≡ true →
-    g.parent first ≡ None → f.parent first ≡ Some set → g.top (x.entry set) ≡ first →
-    ((m : ℕ) → m < n → f.top m ≢ set → y.mate m ≡ x.mate m) → ((m : ℕ) × (t : ℕ) × IsExit n g y.mate first m t) →
-    Opens x set first room y → IsBroken n g load dist y (gap first (f.top t0) room)
+pub opened : (n : ℕ) (f g : Sets) (load dist : ℕ → ℕ → ℕ) (x y : Forest) (set first m0 t0 room : ℕ)
+    → IsLaminar n f → Releases n f set g → ArePairs n f load dist x.mate → IsTree n f load dist x
+    → ArePairs n g load dist y.mate → n ≤ set → x.place set ≡ inner → IsExit n f x.mate set m0 t0
+    → first < 2 * n → g.live first ≡ true → g.parent first ≡ None → f.parent first ≡ Some set
+    → g.top (x.entry set) ≡ first → ((m : ℕ) → m < n → f.top m ≢ set → y.mate m ≡ x.mate m)
+    → ((m : ℕ) × (t : ℕ) × IsExit n g y.mate first m t) → Opens x set first room y
+    → IsBroken n g load dist y (gap first (f.top t0) room)
 opened n f g load dist x y set first m0 t0 room lam q p tree pg ns ps ex fb fl fp fpar fe keep fexit o =
     let first_free : x.place first ≡ free = (elim (place_cases (x.place first)) [
       | inl z ↦ z
@@ -173,9 +174,9 @@ opened n f g load dist x y set first m0 t0 room lam q p tree pg ns ps ex fb fl f
     }
 
 -- where the mate of the last inner set is the outer set that was left out, the tree is whole
-pub healed : (n : ℕ) (f : Sets) (load dist : ℕ → ℕ → ℕ) (x : Forest) (cur out room m t : ℕ) →
-    ArePairs n f load dist x.mate → IsBroken n f load dist x (gap cur out room) → IsExit n f x.mate cur m t → f.top t ≡ out →
-    IsTree n f load dist x
+pub healed : (n : ℕ) (f : Sets) (load dist : ℕ → ℕ → ℕ) (x : Forest) (cur out room m t : ℕ)
+    → ArePairs n f load dist x.mate → IsBroken n f load dist x (gap cur out room) → IsExit n f x.mate cur m t
+    → f.top t ≡ out → IsTree n f load dist x
 healed n f load dist x cur out room m t p b ex e =
     let back = exit_back n f load dist x.mate p cur m t ex in
     record {
@@ -205,14 +206,13 @@ healed n f load dist x cur out room m t p b ex e =
     }
 
 -- one step along the ring
-pub walked : (n : ℕ) (f : Sets) (load dist : ℕ → ℕ → ℕ) (x y : Forest) (cur out room o next m t a b : ℕ) →
-    ArePairs n f load dist x.mate → IsBroken n f load dist x (gap cur out (room + 2)) → IsExit n f x.mate cur m t →
-    f.top t ≡ o →
-    x.place o ≡ free → x.place next ≡ free → o ≢ next → ((o < 2 * n) × (f.live o ≡ true) × (f.parent o ≡ None)) →
-    ((next < 2 * n) × (f.live next ≡ true) × (f.parent next ≡ None)) →
-    a < n → b < n → f.top a ≡ o → f.top b ≡ next → load a b ≡ dist a b →
-    ((s : ℕ) × (u : ℕ) × IsExit n f x.mate next s u) → Walks x cur o next (a, b) y →
-    IsBroken n f load dist y (gap next out room)
+pub walked : (n : ℕ) (f : Sets) (load dist : ℕ → ℕ → ℕ) (x y : Forest) (cur out room o next m t a b : ℕ)
+    → ArePairs n f load dist x.mate → IsBroken n f load dist x (gap cur out (room + 2))
+    → IsExit n f x.mate cur m t → f.top t ≡ o → x.place o ≡ free → x.place next ≡ free → o ≢ next
+    → ((o < 2 * n) × (f.live o ≡ true) × (f.parent o ≡ None))
+    → ((next < 2 * n) × (f.live next ≡ true) × (f.parent next ≡ None)) → a < n → b < n → f.top a ≡ o
+    → f.top b ≡ next → load a b ≡ dist a b → ((s : ℕ) × (u : ℕ) × IsExit n f x.mate next s u)
+    → Walks x cur o next (a, b) y → IsBroken n f load dist y (gap next out room)
 walked n f load dist x y cur out room o next m t a b p br ex to po pn on top_o top_n ha hb ta tb tight nexit w =
     let no = λ (i : ℕ) (k : x.place i ≢ free) (e : i ≡ o). k (ap x.place e ∙ po) in
     let nn = λ (i : ℕ) (k : x.place i ≢ free) (e : i ≡ next). k (ap x.place e ∙ pn) in

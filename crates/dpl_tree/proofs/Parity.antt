@@ -13,16 +13,16 @@ use Rattle.dpl_tree.proofs.Loads.{load_totals}
 use Rattle.dpl_tree.proofs.Folding.{tops_of}
 
 -- the totals of a tight pair between two tops have one parity
-pub tight_parity : (n : ℕ) (f : Sets) (v : ℕ → ℕ) (dist : ℕ → ℕ → ℕ) → IsLaminar n f → IsMetric n dist → (s t : ℕ) →
-    s < n → t < n → f.top s ≢ f.top t → load_in (2 * n) v f.holds s t ≡ dist s t →
-    total_in (2 * n) v f.holds s % 2 ≡ total_in (2 * n) v f.holds t % 2
+pub tight_parity : (n : ℕ) (f : Sets) (v : ℕ → ℕ) (dist : ℕ → ℕ → ℕ) → IsLaminar n f → IsMetric n dist
+    → (s t : ℕ) → s < n → t < n → f.top s ≢ f.top t → load_in (2 * n) v f.holds s t ≡ dist s t
+    → total_in (2 * n) v f.holds s % 2 ≡ total_in (2 * n) v f.holds t % 2
 tight_parity n f v dist p m s t hs ht ne e = omega (arith, load_totals n f v p s t hs ht ne, e, m.even s t hs ht)
 
-pub grown_parity : (n : ℕ) (f : Sets) (v : ℕ → ℕ) (dist : ℕ → ℕ → ℕ) (x y : Forest) (s t m o : ℕ) → IsLaminar n f →
-    IsMetric n dist → ArePairs n f (load_in (2 * n) v f.holds) dist x.mate →
-    IsTree n f (load_in (2 * n) v f.holds) dist x → HasParity n f x.place v → s < n → t < n →
-    x.place (f.top s) ≡ outer → x.place (f.top t) ≡ free → load_in (2 * n) v f.holds s t ≡ dist s t →
-    IsExit n f x.mate (f.top t) m o → Grows f x s t o y → HasParity n f y.place v
+pub grown_parity : (n : ℕ) (f : Sets) (v : ℕ → ℕ) (dist : ℕ → ℕ → ℕ) (x y : Forest) (s t m o : ℕ)
+    → IsLaminar n f → IsMetric n dist → ArePairs n f (load_in (2 * n) v f.holds) dist x.mate
+    → IsTree n f (load_in (2 * n) v f.holds) dist x → HasParity n f x.place v → s < n → t < n
+    → x.place (f.top s) ≡ outer → x.place (f.top t) ≡ free → load_in (2 * n) v f.holds s t ≡ dist s t
+    → IsExit n f x.mate (f.top t) m o → Grows f x s t o y → HasParity n f y.place v
 grown_parity n f v dist x y s t m o p me pairs tree h hs ht ps pt tight ex g =
     let par : ℕ → ℕ = λ q. total_in (2 * n) v f.holds q % 2 in
     let ho : o < n = pairs.range m o ex.below ex.paired in
@@ -44,10 +44,10 @@ grown_parity n f v dist x y s t m o p me pairs tree h hs ht ps pt tight ex g =
     }
 
 -- the totals are the same numbers before and after a set of value 0 is made or taken away, so `same` stands for that
-pub folded_parity : (n : ℕ) (f g : Sets) (v : ℕ → ℕ) (x y : Forest) (cs : List ℕ) (set meet : ℕ) → IsLaminar n f →
-    Gathers n f cs set g → IsCycle n f x cs meet → Folds x cs meet set y →
-    ((q : ℕ) → q < n → total_in (2 * n) v g.holds q ≡ total_in (2 * n) v f.holds q) →
-    HasParity n f x.place v → HasParity n g y.place v
+pub folded_parity : (n : ℕ) (f g : Sets) (v : ℕ → ℕ) (x y : Forest) (cs : List ℕ) (set meet : ℕ)
+    → IsLaminar n f → Gathers n f cs set g → IsCycle n f x cs meet → Folds x cs meet set y
+    → ((q : ℕ) → q < n → total_in (2 * n) v g.holds q ≡ total_in (2 * n) v f.holds q)
+    → HasParity n f x.place v → HasParity n g y.place v
 folded_parity n f g v x y cs set meet p q c o same h =
     let ts = tops_of n f g cs set p q in
     let par : ℕ → ℕ = λ a. total_in (2 * n) v f.holds a % 2 in

@@ -24,9 +24,9 @@ sum_part (suc n) f a h = elim (cases_eq a n) [
 ]
 
 -- the tops of a tree are at most as many as the members
-pub tops_few : (n : ℕ) (f : Sets) (place : ℕ → Place) → IsLaminar n f →
-    ((i : ℕ) → place i ≢ free → (i < 2 * n) × (f.live i ≡ true) × (f.parent i ≡ None)) →
-    sum_below (2 * n) (λ i. drop_of (place i) + gain (place i)) ≤ n
+pub tops_few : (n : ℕ) (f : Sets) (place : ℕ → Place) → IsLaminar n f
+    → ((i : ℕ) → place i ≢ free → (i < 2 * n) × (f.live i ≡ true) × (f.parent i ≡ None))
+    → sum_below (2 * n) (λ i. drop_of (place i) + gain (place i)) ≤ n
 tops_few n f place lam tops =
     let bits : ℕ → ℕ → ℕ = λ m i. cond (eqb (f.top m) i) 1 0 in
     let each : sum_below (2 * n) (λ i. drop_of (place i) + gain (place i)) ≤ sum_below (2 * n)

@@ -6,8 +6,8 @@ use Rattle.dpl_laminar.specs.Families.{Sets, IsLaminar}
 use Rattle.dpl_tree.specs.Mates.{ArePairs}
 
 -- members of one top after a set was taken away were of one top before
-pub tops_refine : (n : ℕ) (f g : Sets) (set : ℕ) → IsLaminar n f → Releases n f set g → n ≤ set → set < 2 * n →
-    (m s : ℕ) → m < n → s < n → g.top m ≡ g.top s → f.top m ≡ f.top s
+pub tops_refine : (n : ℕ) (f g : Sets) (set : ℕ) → IsLaminar n f → Releases n f set g → n ≤ set → set < 2 * n
+    → (m s : ℕ) → m < n → s < n → g.top m ≡ g.top s → f.top m ≡ f.top s
 tops_refine n f g set p q ns hs m s hm hs' e = elim (cases_eq (f.top m) set) [
   | inl a ↦ elim (cases_eq (f.top s) set) [
     | inl b ↦ a ∙ sym b
@@ -25,8 +25,9 @@ tops_refine n f g set p q ns hs m s hm hs' e = elim (cases_eq (f.top m) set) [
       some_none (f.parent c.0) set v.2 (ap f.parent (sym (q.top_inside c.0 a ha c.1 c.2) ∙ k ∙ q.top_others b hb nb) ∙ p.tops.top_parent b hb)
 
 -- the pairs stay pairs when a set is taken away
-pub refined_pairs : (n : ℕ) (f g : Sets) (load dist : ℕ → ℕ → ℕ) (mate : ℕ → Option ℕ) (set : ℕ) → IsLaminar n f →
-    Releases n f set g → n ≤ set → set < 2 * n → ArePairs n f load dist mate → ArePairs n g load dist mate
+pub refined_pairs : (n : ℕ) (f g : Sets) (load dist : ℕ → ℕ → ℕ) (mate : ℕ → Option ℕ) (set : ℕ)
+    → IsLaminar n f → Releases n f set g → n ≤ set → set < 2 * n → ArePairs n f load dist mate
+    → ArePairs n g load dist mate
 refined_pairs n f g load dist mate set p q ns hs a = record {
   range = a.range;
   back = a.back;

@@ -25,9 +25,9 @@ pub record ArePaired (n : ℕ) (g : Sets) (load dist : ℕ → ℕ → ℕ) (set
   pub along : (i : ℕ) → i % 2 ≡ 0 → i < p → i < e → i + 1 < length sets → mate (get_or joins i (0, 0)).0 ≡ Some (get_or joins i (0, 0)).1
   pub kept : (m : ℕ) → m < n → ((i : ℕ) → i < length sets → i ≢ p → g.top m ≢ get_or sets i 0) → mate m ≡ old m
 
-unique : (n : ℕ) (g : Sets) (load dist : ℕ → ℕ → ℕ) (sets : List ℕ) (joins : List (ℕ × ℕ)) →
-    IsRow n g load dist sets joins → (i j : ℕ) → i < length sets → j < length sets → get_or sets i 0 ≡ get_or sets j 0 →
-    i ≡ j
+unique : (n : ℕ) (g : Sets) (load dist : ℕ → ℕ → ℕ) (sets : List ℕ) (joins : List (ℕ × ℕ))
+    → IsRow n g load dist sets joins → (i j : ℕ) → i < length sets → j < length sets
+    → get_or sets i 0 ≡ get_or sets j 0 → i ≡ j
 unique n g load dist sets joins r i j hi hj e = elim (cases_lt i j) [
   | inl lt ↦ absurd (r.distinct i j lt hj e)
   | inr le ↦ elim (cases_eq i j) [
@@ -37,9 +37,9 @@ unique n g load dist sets joins r i j hi hj e = elim (cases_lt i j) [
 ]
 
 -- the place that is left out
-pub paired_past : (n : ℕ) (g : Sets) (load dist : ℕ → ℕ → ℕ) (sets : List ℕ) (joins : List (ℕ × ℕ)) (p : ℕ)
-    (old mate : ℕ → Option ℕ) → p % 2 ≡ 0 → ArePaired n g load dist sets joins p p old mate →
-    ArePaired n g load dist sets joins p (p + 1) old mate
+pub paired_past : (n : ℕ) (g : Sets) (load dist : ℕ → ℕ → ℕ) (sets : List ℕ) (joins : List (ℕ × ℕ)) (p : ℕ) (old mate : ℕ → Option ℕ)
+    → p % 2 ≡ 0 → ArePaired n g load dist sets joins p p old mate
+    → ArePaired n g load dist sets joins p (p + 1) old mate
 paired_past n g load dist sets joins p old mate even a = record {
   pairs = a.pairs;
   unpaired = λ i le h ne. a.unpaired i (omega (arith, le)) h ne;
@@ -49,12 +49,11 @@ paired_past n g load dist sets joins p old mate even a = record {
 }
 
 -- two sets more are paired by the join between them
-pub paired_more : (n : ℕ) (g : Sets) (load dist : ℕ → ℕ → ℕ) (sets : List ℕ) (joins : List (ℕ × ℕ)) (p e : ℕ)
-    (old mate new : ℕ → Option ℕ) → ((s t : ℕ) → load s t ≡ load t s) →
-    ((s t : ℕ) → s < n → t < n → dist s t ≡ dist t s) →
-    IsRow n g load dist sets joins → e + 1 < length sets → e ≢ p → e + 1 ≢ p → (e < p → e % 2 ≡ 0) →
-    (p < e → e % 2 ≡ 1) → p % 2 ≡ 0 → Joins mate (get_or joins e (0, 0)).0 (get_or joins e (0, 0)).1 new →
-    ArePaired n g load dist sets joins p e old mate → ArePaired n g load dist sets joins p (e + 2) old new
+pub paired_more : (n : ℕ) (g : Sets) (load dist : ℕ → ℕ → ℕ) (sets : List ℕ) (joins : List (ℕ × ℕ)) (p e : ℕ) (old mate new : ℕ → Option ℕ)
+    → ((s t : ℕ) → load s t ≡ load t s) → ((s t : ℕ) → s < n → t < n → dist s t ≡ dist t s)
+    → IsRow n g load dist sets joins → e + 1 < length sets → e ≢ p → e + 1 ≢ p → (e < p → e % 2 ≡ 0)
+    → (p < e → e % 2 ≡ 1) → p % 2 ≡ 0 → Joins mate (get_or joins e (0, 0)).0 (get_or joins e (0, 0)).1 new
+    → ArePaired n g load dist sets joins p e old mate → ArePaired n g load dist sets joins p (e + 2) old new
 paired_more n g load dist sets joins p e old mate new ls ds r h ep ep' low high even j a =
     let s : ℕ = (get_or joins e (0, 0)).0 in
     let t : ℕ = (get_or joins e (0, 0)).1 in
@@ -107,9 +106,9 @@ pub record ArePairedBy (n : ℕ) (g : Sets) (load dist : ℕ → ℕ → ℕ) (s
   pub before : 2 * r ≤ p → ArePaired n g load dist sets joins p (2 * r) old mate
   pub behind : p ≤ 2 * r → ArePaired n g load dist sets joins p (2 * r + 1) old mate
 
-at_limit : (n : ℕ) (g : Sets) (load dist : ℕ → ℕ → ℕ) (sets : List ℕ) (joins : List (ℕ × ℕ)) (p e : ℕ)
-    (old mate : ℕ → Option ℕ) → p % 2 ≡ 0 → p ≡ e → ArePaired n g load dist sets joins p e old mate →
-    ArePaired n g load dist sets joins p (e + 1) old mate
+at_limit : (n : ℕ) (g : Sets) (load dist : ℕ → ℕ → ℕ) (sets : List ℕ) (joins : List (ℕ × ℕ)) (p e : ℕ) (old mate : ℕ → Option ℕ)
+    → p % 2 ≡ 0 → p ≡ e → ArePaired n g load dist sets joins p e old mate
+    → ArePaired n g load dist sets joins p (e + 1) old mate
 at_limit n g load dist sets joins p e old mate even z a =
     subst (λ (k : ℕ). ArePaired n g load dist sets joins p (k + 1) old mate) z
     (paired_past n g load dist sets joins p old mate even
@@ -120,12 +119,11 @@ paired_length mates joins p zero = refl
 paired_length mates joins p (suc r) = length-set (set (paired_times mates joins p r) _ _) _ _ ∙
     length-set (paired_times mates joins p r) _ _ ∙ paired_length mates joins p r
 
-pub ring_paired : (n : ℕ) (g : Sets) (load dist : ℕ → ℕ → ℕ) (sets : List ℕ) (joins : List (ℕ × ℕ)) (p : ℕ)
-    (mates : List (Option ℕ)) → length mates ≡ n → ((s t : ℕ) → load s t ≡ load t s) →
-    ((s t : ℕ) → s < n → t < n → dist s t ≡ dist t s) →
-    IsRow n g load dist sets joins → length sets % 2 ≡ 1 → p % 2 ≡ 0 → p < length sets →
-    ArePaired n g load dist sets joins p 0 (mate_in mates) (mate_in mates) → (r : ℕ) → 2 * r < length sets →
-    ArePairedBy n g load dist sets joins p r (mate_in mates) (mate_in (paired_times mates joins p r))
+pub ring_paired : (n : ℕ) (g : Sets) (load dist : ℕ → ℕ → ℕ) (sets : List ℕ) (joins : List (ℕ × ℕ)) (p : ℕ) (mates : List (Option ℕ))
+    → length mates ≡ n → ((s t : ℕ) → load s t ≡ load t s) → ((s t : ℕ) → s < n → t < n → dist s t ≡ dist t s)
+    → IsRow n g load dist sets joins → length sets % 2 ≡ 1 → p % 2 ≡ 0 → p < length sets
+    → ArePaired n g load dist sets joins p 0 (mate_in mates) (mate_in mates) → (r : ℕ) → 2 * r < length sets
+    → ArePairedBy n g load dist sets joins p r (mate_in mates) (mate_in (paired_times mates joins p r))
 ring_paired n g load dist sets joins p mates len ls ds row odd even hp a zero h = record {
   before = λ le. a;
   behind = λ le. at_limit n g load dist sets joins p 0 _ _ even (omega (arith, le)) a;

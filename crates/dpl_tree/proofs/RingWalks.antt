@@ -35,9 +35,9 @@ step_long k l cur o next link a = record {
   links = length-set l.links next link ∙ a.links;
 }
 
-step_walks : (n : ℕ) (g : Sets) (k : ℕ) (l : Lists) (root : ℕ) (mate : ℕ → Option ℕ) (cur o next : ℕ) (link : ℕ × ℕ) →
-    AreLong k l → o < k → next < k → o ≢ next → Walks (forest_in l root mate) cur o next link
-    (forest_in (step_in l cur o next link) root mate)
+step_walks : (n : ℕ) (g : Sets) (k : ℕ) (l : Lists) (root : ℕ) (mate : ℕ → Option ℕ) (cur o next : ℕ) (link : ℕ × ℕ)
+    → AreLong k l → o < k → next < k → o ≢ next
+    → Walks (forest_in l root mate) cur o next link (forest_in (step_in l cur o next link) root mate)
 step_walks n g k l root mate cur o next link a ho hn ne =
     let hl : next < length (set l.labels o Outer) = omega (arith, length-set l.labels o Outer, a.labels, hn) in
     let r1 : ℕ = get_or l.ranks cur 0 + 1 in
@@ -125,10 +125,11 @@ walk_more n g load dist sets joins p r l m root out mate bound q le w =
     }
 
 -- so many steps of the walk
-pub walk_all : (n : ℕ) (g : Sets) (load dist : ℕ → ℕ → ℕ) (sets : List ℕ) (joins : List (ℕ × ℕ)) (p : ℕ) (l : Lists)
-    (root out : ℕ) (mate : ℕ → Option ℕ) (bound : ℕ) → IsReadyRing n g load dist sets joins p mate →
-    IsWalked n g load dist sets joins p 0 l l root out mate bound → (r : ℕ) → 2 * r ≤ p →
-    IsWalked n g load dist sets joins p r l (walked_times l sets joins r) root out mate bound
+pub walk_all : (n : ℕ) (g : Sets) (load dist : ℕ → ℕ → ℕ) (sets : List ℕ) (joins : List (ℕ × ℕ)) (p : ℕ)
+    → (l : Lists) (root out : ℕ) (mate : ℕ → Option ℕ) (bound : ℕ)
+    → IsReadyRing n g load dist sets joins p mate
+    → IsWalked n g load dist sets joins p 0 l l root out mate bound → (r : ℕ) → 2 * r ≤ p
+    → IsWalked n g load dist sets joins p r l (walked_times l sets joins r) root out mate bound
 walk_all n g load dist sets joins p l root out mate bound q w zero h = w
 walk_all n g load dist sets joins p l root out mate bound q w (suc r) h =
     walk_more n g load dist sets joins p r l (walked_times l sets joins r) root out mate bound q (omega (arith, h))
@@ -148,8 +149,8 @@ place_free n f dist x set c st e = elim (place_cases (x.place c)) [
 ]
 
 -- the children of a set that was taken away, as tops
-pub opening_row : (n : ℕ) (f g : Sets) (dist : ℕ → ℕ → ℕ) (set : ℕ) (sets : List ℕ) (joins : List (ℕ × ℕ)) →
-    Releases n f set g → IsAround n f dist set sets joins → IsRow n g (loads n f) dist sets joins
+pub opening_row : (n : ℕ) (f g : Sets) (dist : ℕ → ℕ → ℕ) (set : ℕ) (sets : List ℕ) (joins : List (ℕ × ℕ))
+    → Releases n f set g → IsAround n f dist set sets joins → IsRow n g (loads n f) dist sets joins
 opening_row n f g dist set sets joins q a = record {
   from = λ i h. let w = a.from i h in (w.0, q.top_inside (get_or sets i 0) _ w.0 (a.kids i h) w.1);
   to = λ i h.

@@ -75,14 +75,14 @@ pub record IsGoing (f : Sets) (first : ℕ) (sets : List ℕ) (joins : List (ℕ
   pub short : length sets ≤ length (f.children parent)
   pub next : child ≡ get_or (f.children parent) ((at + length sets) % length (f.children parent)) 0
 
-pub parent_below : (f : Sets) (first p : ℕ) → IsFamily f → first < 2 * f.size → f.live first ≡ true →
-    f.parent first ≡ Some p → (p < 2 * f.size) × (has (f.children p) first ≡ true)
+pub parent_below : (f : Sets) (first p : ℕ) → IsFamily f → first < 2 * f.size → f.live first ≡ true
+    → f.parent first ≡ Some p → (p < 2 * f.size) × (has (f.children p) first ≡ true)
 parent_below f first p fam low live e = let w = fam.laminar.children.parent_range first p low live e in (w.1, w.3)
 
 -- the child in hand is live and has the same parent
-pub going_child : (f : Sets) (first : ℕ) (sets : List ℕ) (joins : List (ℕ × ℕ)) (child : ℕ) → IsFamily f →
-    first < 2 * f.size → f.live first ≡ true → (g : IsGoing f first sets joins child) → (child < 2 * f.size) ×
-    (f.live child ≡ true) × (f.parent child ≡ Some g.parent)
+pub going_child : (f : Sets) (first : ℕ) (sets : List ℕ) (joins : List (ℕ × ℕ)) (child : ℕ) → IsFamily f
+    → first < 2 * f.size → f.live first ≡ true → (g : IsGoing f first sets joins child)
+    → (child < 2 * f.size) × (f.live child ≡ true) × (f.parent child ≡ Some g.parent)
 going_child f first sets joins child fam low live g =
     let w = parent_below f first g.parent fam low live g.is_parent in
     let cs : List ℕ = f.children g.parent in
@@ -91,9 +91,9 @@ going_child f first sets joins child fam low live g =
     omega (arith, g.some, g.short) in z))
 
 -- where the child in hand is the first one, the round is whole
-pub going_whole : (f : Sets) (first : ℕ) (sets : List ℕ) (joins : List (ℕ × ℕ)) (child : ℕ) → IsFamily f →
-    first < 2 * f.size → f.live first ≡ true → IsGoing f first sets joins child → child ≡ first →
-    IsRingFrom f first sets joins
+pub going_whole : (f : Sets) (first : ℕ) (sets : List ℕ) (joins : List (ℕ × ℕ)) (child : ℕ) → IsFamily f
+    → first < 2 * f.size → f.live first ≡ true → IsGoing f first sets joins child → child ≡ first
+    → IsRingFrom f first sets joins
 going_whole f first sets joins child fam below live g e =
     let w = parent_below f first g.parent fam below live g.is_parent in
     let cs : List ℕ = f.children g.parent in
@@ -117,9 +117,10 @@ going_whole f first sets joins child fam below live g e =
     }
 
 -- one child more
-pub going_on : (f : Sets) (first : ℕ) (sets : List ℕ) (joins : List (ℕ × ℕ)) (child after : ℕ) (pair : ℕ × ℕ) →
-    IsFamily f → first < 2 * f.size → f.live first ≡ true → (g : IsGoing f first sets joins child) → child ≢ first →
-    IsNext f child after pair → IsGoing f first (sets ++ child ∷ []) (joins ++ pair ∷ []) after
+pub going_on : (f : Sets) (first : ℕ) (sets : List ℕ) (joins : List (ℕ × ℕ)) (child after : ℕ) (pair : ℕ × ℕ)
+    → IsFamily f → first < 2 * f.size → f.live first ≡ true → (g : IsGoing f first sets joins child)
+    → child ≢ first → IsNext f child after pair
+    → IsGoing f first (sets ++ child ∷ []) (joins ++ pair ∷ []) after
 going_on f first sets joins child after pair fam below live g ne nx =
     let cs : List ℕ = f.children g.parent in
     let k : ℕ = length cs in
@@ -161,8 +162,9 @@ going_on f first sets joins child after pair fam below live g ne nx =
       next = step ∙ ap (λ z. get_or cs z 0) (mod_next g.at l k ∙ ap (λ z. (g.at + z) % k) (sym len));
     }
 
-pub going_begun : (f : Sets) (first after : ℕ) (pair : ℕ × ℕ) → IsFamily f → first < 2 * f.size → f.live first ≡ true →
-    (f.parent first ≡ None → ⊥) → IsNext f first after pair → IsGoing f first (first ∷ []) (pair ∷ []) after
+pub going_begun : (f : Sets) (first after : ℕ) (pair : ℕ × ℕ) → IsFamily f → first < 2 * f.size
+    → f.live first ≡ true → (f.parent first ≡ None → ⊥) → IsNext f first after pair
+    → IsGoing f first (first ∷ []) (pair ∷ []) after
 going_begun f first after pair fam below live ne nx = elim (cases_Option (f.parent first)) [
   | inl z ↦ absurd (ne z)
   | inr p ↦
@@ -192,8 +194,8 @@ going_begun f first after pair fam below live ne nx = elim (cases_Option (f.pare
 ]
 
 -- a ring is no longer than there are numbers
-pub going_short : (f : Sets) (first : ℕ) (sets : List ℕ) (joins : List (ℕ × ℕ)) (child : ℕ) → IsFamily f →
-    first < 2 * f.size → f.live first ≡ true → IsGoing f first sets joins child → length sets ≤ 2 * f.size
+pub going_short : (f : Sets) (first : ℕ) (sets : List ℕ) (joins : List (ℕ × ℕ)) (child : ℕ) → IsFamily f
+    → first < 2 * f.size → f.live first ≡ true → IsGoing f first sets joins child → length sets ≤ 2 * f.size
 going_short f first sets joins child fam below live g =
     let w = parent_below f first g.parent fam below live g.is_parent in
     omega (
@@ -206,9 +208,9 @@ going_short f first sets joins child fam below live g =
 
 -- ---- what a round is
 
-pub ring_around : (n : ℕ) (f : Sets) (dist : ℕ → ℕ → ℕ) (mate : ℕ → Option ℕ) (set first : ℕ) (sets : List ℕ)
-    (joins : List (ℕ × ℕ)) → IsRest n f dist mate → n ≤ set → set < 2 * n → f.live set ≡ true →
-    f.parent first ≡ Some set → IsRingFrom f first sets joins → IsAround n f dist set sets joins
+pub ring_around : (n : ℕ) (f : Sets) (dist : ℕ → ℕ → ℕ) (mate : ℕ → Option ℕ) (set first : ℕ) (sets : List ℕ) (joins : List (ℕ × ℕ))
+    → IsRest n f dist mate → n ≤ set → set < 2 * n → f.live set ≡ true → f.parent first ≡ Some set
+    → IsRingFrom f first sets joins → IsAround n f dist set sets joins
 ring_around n f dist mate set first sets joins rest ns hs live ep ring =
     let lam = rest.laminar in
     let ps : ring.parent ≡ set = same_Some _ _ (sym ring.is_parent ∙ ep) in
@@ -279,9 +281,9 @@ ring_around n f dist mate set first sets joins rest ns hs live ep ring =
     }
 
 -- the same the other way around
-pub around_turned : (n : ℕ) (f : Sets) (dist : ℕ → ℕ → ℕ) (set : ℕ) (sets sets' : List ℕ)
-    (joins joins' : List (ℕ × ℕ)) → IsMetric n dist → IsAround n f dist set sets joins →
-    IsTurned sets joins sets' joins' → IsAround n f dist set sets' joins'
+pub around_turned : (n : ℕ) (f : Sets) (dist : ℕ → ℕ → ℕ) (set : ℕ) (sets sets' : List ℕ) (joins joins' : List (ℕ × ℕ))
+    → IsMetric n dist → IsAround n f dist set sets joins → IsTurned sets joins sets' joins'
+    → IsAround n f dist set sets' joins'
 around_turned n f dist set sets sets' joins joins' me a t =
     let k : ℕ = length sets in
     let some : 0 < k = omega (arith, a.odd) in
@@ -385,8 +387,8 @@ pub rising_parent : (f : Sets) (set m k child : ℕ) → IsRising f set m k chil
 rising_parent f set m k child r e = some_none (climb f m r.reaches) set r.reached
     (climb_none f m (k + 1) r.reaches (climb_next f m k child r.steps ∙ e) (omega (arith, r.more)))
 
-pub rising_more : (f : Sets) (set m k child p : ℕ) → IsFamily f → m < f.size → IsRising f set m k child →
-    f.parent child ≡ Some p → p ≢ set → IsRising f set m (k + 1) p
+pub rising_more : (f : Sets) (set m k child p : ℕ) → IsFamily f → m < f.size → IsRising f set m k child
+    → f.parent child ≡ Some p → p ≢ set → IsRising f set m (k + 1) p
 rising_more f set m k child p fam hm r e ne =
     let w = fam.laminar.children.parent_range child p r.below r.live e in
     record {
@@ -403,8 +405,8 @@ rising_more f set m k child p fam hm r e ne =
       held = fam.laminar.children.child_holds p child m w.1 hm w.3 r.held;
     }
 
-pub rising_begun : (f : Sets) (set m : ℕ) → IsFamily f → AreReached f → m < f.size → f.size ≤ set → set < 2 * f.size →
-    f.live set ≡ true → f.holds set m ≡ true → IsRising f set m 0 m
+pub rising_begun : (f : Sets) (set m : ℕ) → IsFamily f → AreReached f → m < f.size → f.size ≤ set
+    → set < 2 * f.size → f.live set ≡ true → f.holds set m ≡ true → IsRising f set m 0 m
 rising_begun f set m fam all hm above below live held =
     let w = all set m below hm live held in
     record {

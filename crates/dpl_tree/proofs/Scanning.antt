@@ -10,9 +10,9 @@ use Rattle.dpl_tree.proofs.Growing.{outer_in, inner_in, outer_inner_no, exit_bac
 use Rattle.dpl_tree.proofs.Loads.{HasRoom, load_totals}
 
 -- such an amount leaves room for each load
-pub change_room : (n : ℕ) (f : Sets) (x : Forest) (v : ℕ → ℕ) (dist : ℕ → ℕ → ℕ) (by : ℕ) → IsLaminar n f →
-    IsMetric n dist → ((s t : ℕ) → s < n → t < n → s ≢ t → load_in (2 * n) v f.holds s t ≤ dist s t) →
-    IsChange n f x v dist by → HasRoom n f x.place by v dist
+pub change_room : (n : ℕ) (f : Sets) (x : Forest) (v : ℕ → ℕ) (dist : ℕ → ℕ → ℕ) (by : ℕ) → IsLaminar n f
+    → IsMetric n dist → ((s t : ℕ) → s < n → t < n → s ≢ t → load_in (2 * n) v f.holds s t ≤ dist s t)
+    → IsChange n f x v dist by → HasRoom n f x.place by v dist
 change_room n f x v dist by p m within c =
     let apart = λ (s t : ℕ) (a : x.place (f.top s) ≡ outer) (b : x.place (f.top t) ≡ free) (e : f.top s ≡ f.top t). outer_in (sym (ap x.place e) ∙ a) b in
     record {
@@ -26,10 +26,10 @@ self : (i : ℕ) → eqb i i ≡ true
 self i = eq-eqb i i refl
 
 -- the inner tops have enough: the sets by the scan, the single members by the triangle rule
-pub single_enough : (n : ℕ) (f : Sets) (x : Forest) (v : ℕ → ℕ) (dist : ℕ → ℕ → ℕ) (by i : ℕ) → IsLaminar n f →
-    IsMetric n dist → ArePairs n f (load_in (2 * n) v f.holds) dist x.mate →
-    IsTree n f (load_in (2 * n) v f.holds) dist x → IsChange n f x v dist by →
-    i < n → x.place i ≡ inner → total_in (2 * n) v f.holds i ≡ v i → by ≤ v i
+pub single_enough : (n : ℕ) (f : Sets) (x : Forest) (v : ℕ → ℕ) (dist : ℕ → ℕ → ℕ) (by i : ℕ) → IsLaminar n f
+    → IsMetric n dist → ArePairs n f (load_in (2 * n) v f.holds) dist x.mate
+    → IsTree n f (load_in (2 * n) v f.holds) dist x → IsChange n f x v dist by → i < n → x.place i ≡ inner
+    → total_in (2 * n) v f.holds i ≡ v i → by ≤ v i
 single_enough n f x v dist by i p m pairs tree c hi e tot =
     let k = tree.link_range i e in
     let ent = tree.link_entry i e in

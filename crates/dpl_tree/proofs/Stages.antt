@@ -41,8 +41,8 @@ pub record IsCandidate (n : ℕ) (f : Sets) (x : Forest) (s t : ℕ) : Type 0 wh
 
 -- Of an even number of members an odd set leaves one out. So the root is not the only top, and either another top is
 -- outside of the tree, or it is outer, or it is inner and its mate is outer.
-pub some_candidate : (n : ℕ) (f : Sets) (load dist : ℕ → ℕ → ℕ) (x : Forest) → n % 2 ≡ 0 → IsLaminar n f →
-    ArePairs n f load dist x.mate → IsTree n f load dist x → (s : ℕ) × (t : ℕ) × IsCandidate n f x s t
+pub some_candidate : (n : ℕ) (f : Sets) (load dist : ℕ → ℕ → ℕ) (x : Forest) → n % 2 ≡ 0 → IsLaminar n f
+    → ArePairs n f load dist x.mate → IsTree n f load dist x → (s : ℕ) × (t : ℕ) × IsCandidate n f x s t
 some_candidate n f load dist x even lam pairs tree =
     let w = tree.tops x.root (outer_in tree.root_outer) in
     let odd = lam.sets.odd x.root w.0 w.1 in
@@ -91,8 +91,8 @@ single_total n f lam i hi ti = sum_same (2 * n) _ (λ j. cond (eqb i j) (f.value
 ]) ∙ sum_at (2 * n) i f.value (omega (arith, hi))
 
 -- no inner single member has less value than a change that the pairs allow
-pub inner_singles_keep : (n : ℕ) (f : Sets) (x : Forest) (dist : ℕ → ℕ → ℕ) (by i : ℕ) → IsMetric n dist →
-    IsStage n f dist x → IsChange n f x f.value dist by → i < n → x.place i ≡ inner → by ≤ f.value i
+pub inner_singles_keep : (n : ℕ) (f : Sets) (x : Forest) (dist : ℕ → ℕ → ℕ) (by i : ℕ) → IsMetric n dist
+    → IsStage n f dist x → IsChange n f x f.value dist by → i < n → x.place i ≡ inner → by ≤ f.value i
 inner_singles_keep n f x dist by i m s c hi e =
     let lam = s.rest.laminar in
     let ti : f.top i ≡ i = lam.tops.top_alone i i (omega arith) hi (s.tree.tops i (inner_in e)).2 (lam.sets.single i i hi hi ∙ eq-eqb i i refl) in
@@ -139,9 +139,9 @@ stage_parity n f dist x s = record { in_top = s.rest.parity; in_tree = s.even }
 pub laminar_sized : (n : ℕ) (g : Sets) → g.size ≡ n → IsFamily g → IsLaminar n g
 laminar_sized n g e fam = subst (λ (z : ℕ). IsLaminar z g) e fam.laminar
 
-re_pairs : (n : ℕ) (f : Sets) (dist : ℕ → ℕ → ℕ) (mate : ℕ → Option ℕ) (v : ℕ → ℕ) →
-    ArePairs n f (load_in (2 * n) v f.holds) dist mate →
-    ArePairs n (record f { value = v }) (load_in (2 * n) v f.holds) dist mate
+re_pairs : (n : ℕ) (f : Sets) (dist : ℕ → ℕ → ℕ) (mate : ℕ → Option ℕ) (v : ℕ → ℕ)
+    → ArePairs n f (load_in (2 * n) v f.holds) dist mate
+    → ArePairs n (record f { value = v }) (load_in (2 * n) v f.holds) dist mate
 re_pairs n f dist mate v p = record { range = p.range; back = p.back; leaves = p.leaves; tight = p.tight; alone = p.alone }
 
 re_exit : (n : ℕ) (f : Sets) (mate : ℕ → Option ℕ) (v : ℕ → ℕ) (i m t : ℕ) → IsExit n (record f { value = v }) mate i m t → IsExit n f mate i m t
@@ -150,8 +150,9 @@ re_exit n f mate v i m t e = record { below = e.below; top = e.top; paired = e.p
 un_exit : (n : ℕ) (f : Sets) (mate : ℕ → Option ℕ) (v : ℕ → ℕ) (i m t : ℕ) → IsExit n f mate i m t → IsExit n (record f { value = v }) mate i m t
 un_exit n f mate v i m t e = record { below = e.below; top = e.top; paired = e.paired }
 
-re_tree : (n : ℕ) (f : Sets) (dist : ℕ → ℕ → ℕ) (x : Forest) (v : ℕ → ℕ) →
-    IsTree n f (load_in (2 * n) v f.holds) dist x → IsTree n (record f { value = v }) (load_in (2 * n) v f.holds) dist x
+re_tree : (n : ℕ) (f : Sets) (dist : ℕ → ℕ → ℕ) (x : Forest) (v : ℕ → ℕ)
+    → IsTree n f (load_in (2 * n) v f.holds) dist x
+    → IsTree n (record f { value = v }) (load_in (2 * n) v f.holds) dist x
 re_tree n f dist x v t = record {
   tops = t.tops;
   root_outer = t.root_outer;
@@ -167,9 +168,9 @@ re_tree n f dist x v t = record {
   link_tight = t.link_tight;
 }
 
-pub changed : (n : ℕ) (f : Sets) (dist : ℕ → ℕ → ℕ) (x : Forest) (by : ℕ) (v : ℕ → ℕ) → IsMetric n dist →
-    IsStage n f dist x → IsChange n f x f.value dist by → Shifts (2 * n) f x.place by f.value v →
-    IsFamily (record f { value = v }) → IsStage n (record f { value = v }) dist x
+pub changed : (n : ℕ) (f : Sets) (dist : ℕ → ℕ → ℕ) (x : Forest) (by : ℕ) (v : ℕ → ℕ) → IsMetric n dist
+    → IsStage n f dist x → IsChange n f x f.value dist by → Shifts (2 * n) f x.place by f.value v
+    → IsFamily (record f { value = v }) → IsStage n (record f { value = v }) dist x
 changed n f dist x by v m s c sh fam =
     let r = s.rest in
     let lam = r.laminar in

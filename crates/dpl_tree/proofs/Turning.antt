@@ -16,9 +16,9 @@ use Rattle.dpl_tree.proofs.Loads.{shift_tight, Balanced, both_free, outer_inner,
 balanced : (a b c d : Place) → a ≡ c → b ≡ d → Balanced c d → Balanced a b
 balanced a b c d e e' k = subst (λ (z : Place). Balanced z b) (sym e) (subst (λ (z : Place). Balanced c z) (sym e') k)
 
-pub shifted_pairs : (n : ℕ) (f : Sets) (dist : ℕ → ℕ → ℕ) (by : ℕ) (v v' : ℕ → ℕ) (x : Forest) → IsLaminar n f →
-    Shifts (2 * n) f x.place by v v' → ArePairs n f (load_in (2 * n) v f.holds) dist x.mate →
-    IsTree n f (load_in (2 * n) v f.holds) dist x → ArePairs n f (load_in (2 * n) v' f.holds) dist x.mate
+pub shifted_pairs : (n : ℕ) (f : Sets) (dist : ℕ → ℕ → ℕ) (by : ℕ) (v v' : ℕ → ℕ) (x : Forest) → IsLaminar n f
+    → Shifts (2 * n) f x.place by v v' → ArePairs n f (load_in (2 * n) v f.holds) dist x.mate
+    → IsTree n f (load_in (2 * n) v f.holds) dist x → ArePairs n f (load_in (2 * n) v' f.holds) dist x.mate
 shifted_pairs n f dist by v v' x lam sh p tree = record {
   range = p.range;
   back = p.back;
@@ -35,9 +35,9 @@ shifted_pairs n f dist by v v' x lam sh p tree = record {
   alone = p.alone;
 }
 
-pub shifted_tree : (n : ℕ) (f : Sets) (dist : ℕ → ℕ → ℕ) (by : ℕ) (v v' : ℕ → ℕ) (x : Forest) → IsLaminar n f →
-    Shifts (2 * n) f x.place by v v' → IsTree n f (load_in (2 * n) v f.holds) dist x →
-    IsTree n f (load_in (2 * n) v' f.holds) dist x
+pub shifted_tree : (n : ℕ) (f : Sets) (dist : ℕ → ℕ → ℕ) (by : ℕ) (v v' : ℕ → ℕ) (x : Forest) → IsLaminar n f
+    → Shifts (2 * n) f x.place by v v' → IsTree n f (load_in (2 * n) v f.holds) dist x
+    → IsTree n f (load_in (2 * n) v' f.holds) dist x
 shifted_tree n f dist by v v' x lam sh tree = record {
   tops = tree.tops;
   root_outer = tree.root_outer;
@@ -88,9 +88,9 @@ weight_full free j ne = refl
 weight_full outer j ne = absurd (ne refl)
 weight_full inner j ne = refl
 
-pub grown_falls : (n : ℕ) (f : Sets) (load dist : ℕ → ℕ → ℕ) (x y : Forest) (s t m o : ℕ) → IsLaminar n f →
-    ArePairs n f load dist x.mate → IsTree n f load dist x → x.place (f.top t) ≡ free →
-    IsExit n f x.mate (f.top t) m o → Grows f x s t o y → potential n f y.place < potential n f x.place
+pub grown_falls : (n : ℕ) (f : Sets) (load dist : ℕ → ℕ → ℕ) (x y : Forest) (s t m o : ℕ) → IsLaminar n f
+    → ArePairs n f load dist x.mate → IsTree n f load dist x → x.place (f.top t) ≡ free
+    → IsExit n f x.mate (f.top t) m o → Grows f x s t o y → potential n f y.place < potential n f x.place
 grown_falls n f load dist x y s t m o lam p tree pt ex g =
     let po : x.place (f.top o) ≡ free = mate_outside n f load dist x p tree (f.top t) m o pt ex in
     let ho : o < n = p.range m o ex.below ex.paired in
@@ -112,10 +112,10 @@ grown_falls n f load dist x y s t m o lam p tree pt ex g =
       ]
     ])
 
-pub folded_falls : (n : ℕ) (f g : Sets) (load dist : ℕ → ℕ → ℕ) (x y : Forest) (cs : List ℕ) (set meet r c : ℕ) →
-    IsLaminar n f → Gathers n f cs set g → IsTree n f load dist x → Folds x cs meet set y → set ≡ n + r →
-    has cs (f.top r) ≡ true →
-    has cs c ≡ true → x.place c ≡ inner → potential n g y.place < potential n f x.place
+pub folded_falls : (n : ℕ) (f g : Sets) (load dist : ℕ → ℕ → ℕ) (x y : Forest) (cs : List ℕ) (set meet r c : ℕ)
+    → IsLaminar n f → Gathers n f cs set g → IsTree n f load dist x → Folds x cs meet set y → set ≡ n + r
+    → has cs (f.top r) ≡ true → has cs c ≡ true → x.place c ≡ inner
+    → potential n g y.place < potential n f x.place
 folded_falls n f g load dist x y cs set meet r c lam q tree o er hr hc pc =
     let ex = tree.inner_pair c pc in
     let m0 : ℕ = ex.0 in
@@ -137,9 +137,10 @@ folded_falls n f g load dist x y cs set meet r c lam q tree o er hr hc pc =
           weight_same _ _ _ _ (ap y.place gi ∙ o.place_others (f.top i) ni k) (omega (arith, ap as_number (q.live_others (n + i) li)))
     ])
 
-pub opened_falls : (n : ℕ) (f g : Sets) (x y : Forest) (set r : ℕ) → IsLaminar n f → Releases n f set g →
-    x.place set ≡ inner → f.live set ≡ true → set ≡ n + r → r < n → f.top r ≡ set →
-    ((m : ℕ) → m < n → f.top m ≢ set → y.place (g.top m) ≡ x.place (f.top m)) → potential n g y.place < potential n f x.place
+pub opened_falls : (n : ℕ) (f g : Sets) (x y : Forest) (set r : ℕ) → IsLaminar n f → Releases n f set g
+    → x.place set ≡ inner → f.live set ≡ true → set ≡ n + r → r < n → f.top r ≡ set
+    → ((m : ℕ) → m < n → f.top m ≢ set → y.place (g.top m) ≡ x.place (f.top m))
+    → potential n g y.place < potential n f x.place
 opened_falls n f g x y set r lam q ps ls er hr tr same =
     let lives = λ (i : ℕ). (elim (cases_eq (n + i) set) as (λ _. as_number (g.live (n + i)) ≤ as_number (f.live (n + i))) [
       | inl z ↦ omega (arith, ap (λ a. as_number (g.live a)) z, ap as_number q.live_set)

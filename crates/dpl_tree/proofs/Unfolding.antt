@@ -35,9 +35,10 @@ no_child n f lam set m hs hm = elim (cases_Bool (has (f.children set) (f.top m))
   | inr k ↦ k
 ]
 
-pub unfolded_stage : (n : ℕ) (f g : Sets) (dist : ℕ → ℕ → ℕ) (x y : Forest) (set : ℕ) → IsStage n f dist x →
-    IsFamily g → IsOpened n f g set x y → ArePairs n g (loads n f) dist y.mate → IsTree n g (loads n f) dist y →
-    IsStage n g dist y × (potential n g y.place < potential n f x.place) × ((k : ℕ) → k < n → IsReady n f x k → IsReady n g y k)
+pub unfolded_stage : (n : ℕ) (f g : Sets) (dist : ℕ → ℕ → ℕ) (x y : Forest) (set : ℕ) → IsStage n f dist x
+    → IsFamily g → IsOpened n f g set x y → ArePairs n g (loads n f) dist y.mate
+    → IsTree n g (loads n f) dist y
+    → IsStage n g dist y × (potential n g y.place < potential n f x.place) × ((k : ℕ) → k < n → IsReady n f x k → IsReady n g y k)
 unfolded_stage n f g dist x y set st fam o pairs tree =
     let r = st.rest in
     let lam = r.laminar in
@@ -100,8 +101,8 @@ unfolded_stage n f g dist x y set st fam o pairs tree =
 
 -- ---- the end of a stage
 
-pub augmented_rest : (n : ℕ) (f : Sets) (dist : ℕ → ℕ → ℕ) (mate new : ℕ → Option ℕ) → IsRest n f dist mate →
-    ArePairs n f (loads n f) dist new → IsRest n f dist new
+pub augmented_rest : (n : ℕ) (f : Sets) (dist : ℕ → ℕ → ℕ) (mate new : ℕ → Option ℕ) → IsRest n f dist mate
+    → ArePairs n f (loads n f) dist new → IsRest n f dist new
 augmented_rest n f dist mate new r p = record {
   size = r.size;
   family = r.family;
@@ -113,8 +114,8 @@ augmented_rest n f dist mate new r p = record {
   parity = r.parity;
 }
 
-pub augmented_covered : (n : ℕ) (f : Sets) (x : Forest) (new : ℕ → Option ℕ) →
-    ((i m u : ℕ) → IsExit n f x.mate i m u → (a : ℕ) × (c : ℕ) × IsExit n f new i a c) →
-    ((a : ℕ) × (c : ℕ) × IsExit n f new x.root a c) → (k : ℕ) → IsReady n f x k → IsCovered n f new k
+pub augmented_covered : (n : ℕ) (f : Sets) (x : Forest) (new : ℕ → Option ℕ)
+    → ((i m u : ℕ) → IsExit n f x.mate i m u → (a : ℕ) × (c : ℕ) × IsExit n f new i a c)
+    → ((a : ℕ) × (c : ℕ) × IsExit n f new x.root a c) → (k : ℕ) → IsReady n f x k → IsCovered n f new k
 augmented_covered n f x new kept root k (inl w) = kept (f.top k) w.0 w.1 w.2
 augmented_covered n f x new kept root k (inr e) = (root.0, root.1, record { below = root.2.below; top = root.2.top ∙ sym e; paired = root.2.paired })

@@ -36,11 +36,12 @@ pub record IsGiving (n : ℕ) (f : Sets) (dist : ℕ → ℕ → ℕ) (x : Fores
   pub ring : IsRingFrom f first sets joins
 
 -- the same from what each step of the code says of it
-pub giving_of : {n : ℕ} {f : Sets} {dist : ℕ → ℕ → ℕ} {x : Forest} {set first last m0 t0 : ℕ} {link : ℕ × ℕ} {sets : List ℕ} {joins : List (ℕ × ℕ)} →
-    IsStage n f dist x → n ≤ set → x.place set ≡ inner → f.value set ≡ 0 → (m0 < f.size) × (f.top m0 ≡ set) × (x.mate m0 ≡ Some t0) →
-    link ≡ (x.above set, x.entry set) → f.parent first ≡ Some set → f.holds first link.1 ≡ true →
-    f.parent last ≡ Some set → f.holds last m0 ≡ true → f.live last ≡ true → last < 2 * f.size → IsRingFrom f first sets joins →
-    IsGiving n f dist x set first last m0 t0 sets joins
+pub giving_of : {n : ℕ} {f : Sets} {dist : ℕ → ℕ → ℕ} {x : Forest} {set first last m0 t0 : ℕ} {link : ℕ × ℕ} {sets : List ℕ} {joins : List (ℕ × ℕ)}
+    → IsStage n f dist x → n ≤ set → x.place set ≡ inner → f.value set ≡ 0
+    → (m0 < f.size) × (f.top m0 ≡ set) × (x.mate m0 ≡ Some t0) → link ≡ (x.above set, x.entry set)
+    → f.parent first ≡ Some set → f.holds first link.1 ≡ true → f.parent last ≡ Some set
+    → f.holds last m0 ≡ true → f.live last ≡ true → last < 2 * f.size → IsRingFrom f first sets joins
+    → IsGiving n f dist x set first last m0 t0 sets joins
 giving_of {f = f} {first = first} stage above is_inner empty e link first_parent held last_parent last_held last_live below ring = record {
   stage = stage;
   above = above;
@@ -57,15 +58,16 @@ giving_of {f = f} {first = first} stage above is_inner empty e link first_parent
 }
 
 -- the ring of the set, with tight joins
-pub giving_around : {n : ℕ} {f : Sets} {dist : ℕ → ℕ → ℕ} {x : Forest} {set first last m0 t0 : ℕ} {sets : List ℕ} {joins : List (ℕ × ℕ)} →
-    IsGiving n f dist x set first last m0 t0 sets joins → IsAround n f dist set sets joins
+pub giving_around : {n : ℕ} {f : Sets} {dist : ℕ → ℕ → ℕ} {x : Forest} {set first last m0 t0 : ℕ} {sets : List ℕ} {joins : List (ℕ × ℕ)}
+    → IsGiving n f dist x set first last m0 t0 sets joins → IsAround n f dist set sets joins
 giving_around {n} {f} {dist} {x} {set} {first} {sets = sets} {joins = joins} g =
     let at = g.stage.tree.tops set (inner_in g.is_inner) in
     ring_around n f dist x.mate set first sets joins g.stage.rest g.above at.0 at.1 g.first_parent g.ring
 
 -- the child that keeps the pair stands in the ring
-pub giving_place : {n : ℕ} {f : Sets} {dist : ℕ → ℕ → ℕ} {x : Forest} {set first last m0 t0 : ℕ} {sets : List ℕ} {joins : List (ℕ × ℕ)} →
-    IsGiving n f dist x set first last m0 t0 sets joins → (i : ℕ) × (i < length sets) × (get_or sets i 0 ≡ last)
+pub giving_place : {n : ℕ} {f : Sets} {dist : ℕ → ℕ → ℕ} {x : Forest} {set first last m0 t0 : ℕ} {sets : List ℕ} {joins : List (ℕ × ℕ)}
+    → IsGiving n f dist x set first last m0 t0 sets joins
+    → (i : ℕ) × (i < length sets) × (get_or sets i 0 ≡ last)
 giving_place {set = set} {last = last} g =
     (giving_around g).all last (g.stage.rest.laminar.children.parent_range last set g.last_below g.last_live g.last_parent).3
 
@@ -77,9 +79,9 @@ starts_first f first sets joins h r =
     r.part.each 0 h ∙ ap (λ y. get_or (f.children r.parent) y 0) z ∙ r.starts
 
 -- the ring as it stands, where the place in the list as it was read is even
-pub opening_forward : {n : ℕ} {f : Sets} {dist : ℕ → ℕ → ℕ} {x : Forest} {set first last m0 t0 at : ℕ} {sets seen : List ℕ} {joins : List (ℕ × ℕ)} →
-    IsGiving n f dist x set first last m0 t0 sets joins → seen ≡ sets → at < length seen → get_or seen at 0 ≡ last → at % 2 ≡ 0 →
-    IsOpening n f dist x set (around sets joins at)
+pub opening_forward : {n : ℕ} {f : Sets} {dist : ℕ → ℕ → ℕ} {x : Forest} {set first last m0 t0 at : ℕ} {sets seen : List ℕ} {joins : List (ℕ × ℕ)}
+    → IsGiving n f dist x set first last m0 t0 sets joins → seen ≡ sets → at < length seen
+    → get_or seen at 0 ≡ last → at % 2 ≡ 0 → IsOpening n f dist x set (around sets joins at)
 opening_forward {f = f} {x = x} {set = set} {first = first} {m0 = m0} {t0 = t0} {at = at} {sets = sets} {joins = joins} g seen below value even =
     let h : at < length sets = omega (arith, ap length seen, below) in
     record {
@@ -97,10 +99,12 @@ opening_forward {f = f} {x = x} {set = set} {first = first} {m0 = m0} {t0 = t0} 
     }
 
 -- the ring the other way around, where it is odd; the list is read twice
-pub opening_backward : {n : ℕ} {f : Sets} {dist : ℕ → ℕ → ℕ} {x : Forest} {set first last m0 t0 at count : ℕ} {sets seen read sets' : List ℕ}
-    {joins read_joins joins' : List (ℕ × ℕ)} → IsMetric n dist → IsGiving n f dist x set first last m0 t0 sets joins →
-    seen ≡ sets → at < length seen → get_or seen at 0 ≡ last → at % 2 ≢ 0 →
-    read ≡ sets → read_joins ≡ joins → IsTurned read read_joins sets' joins' → count ≡ length sets → IsOpening n f dist x set (around sets' joins' (count - at))
+pub opening_backward : {n : ℕ} {f : Sets} {dist : ℕ → ℕ → ℕ} {x : Forest} {set first last m0 t0 at count : ℕ}
+    → {sets seen read sets' : List ℕ} {joins read_joins joins' : List (ℕ × ℕ)} → IsMetric n dist
+    → IsGiving n f dist x set first last m0 t0 sets joins → seen ≡ sets → at < length seen
+    → get_or seen at 0 ≡ last → at % 2 ≢ 0 → read ≡ sets → read_joins ≡ joins
+    → IsTurned read read_joins sets' joins' → count ≡ length sets
+    → IsOpening n f dist x set (around sets' joins' (count - at))
 opening_backward {n} {f} {dist} {x} {set} {first} {last} {m0} {t0} {at} {count} {sets} {seen} {read} {sets'} {joins} {read_joins} {joins'} me g
     es below value odd er ej turned ec =
     let a = giving_around g in
@@ -125,16 +129,18 @@ opening_backward {n} {f} {dist} {x} {set} {first} {last} {m0} {t0} {at} {count} 
     }
 
 -- the children around are few, and have small numbers
-pub around_few : {n : ℕ} {f : Sets} {dist : ℕ → ℕ → ℕ} {x : Forest} {set : ℕ} {sets : List ℕ} {joins : List (ℕ × ℕ)} {p : ℕ} →
-    IsStage n f dist x → IsOpening n f dist x set (around sets joins p) → ((i : ℕ) → i < length sets → get_or sets i 0 < 2 * n) × (length sets ≤ 2 * n)
+pub around_few : {n : ℕ} {f : Sets} {dist : ℕ → ℕ → ℕ} {x : Forest} {set : ℕ} {sets : List ℕ} {joins : List (ℕ × ℕ)} {p : ℕ}
+    → IsStage n f dist x → IsOpening n f dist x set (around sets joins p)
+    → ((i : ℕ) → i < length sets → get_or sets i 0 < 2 * n) × (length sets ≤ 2 * n)
 around_few {n} {set = set} {sets = sets} st o =
     let at = st.tree.tops set (inner_in o.is_inner) in
     let low = λ (i : ℕ) (h : i < length sets). (st.rest.laminar.children.child set (get_or sets i 0) at.0 (o.ring.kids i h)).0 in
     (low, ring_short (2 * n) sets o.ring.distinct low)
 
 -- where the tree enters, as it was read
-pub opening_first : {n : ℕ} {f : Sets} {dist : ℕ → ℕ → ℕ} {x : Forest} {set first : ℕ} {sets seen : List ℕ} {joins : List (ℕ × ℕ)}
-    {p : ℕ} → IsStage n f dist x → IsOpening n f dist x set (around sets joins p) → first ≡ get_or seen 0 0 → seen ≡ sets → (first < 2 * n) × (set ≢ first)
+pub opening_first : {n : ℕ} {f : Sets} {dist : ℕ → ℕ → ℕ} {x : Forest} {set first : ℕ} {sets seen : List ℕ} {joins : List (ℕ × ℕ)} {p : ℕ}
+    → IsStage n f dist x → IsOpening n f dist x set (around sets joins p) → first ≡ get_or seen 0 0
+    → seen ≡ sets → (first < 2 * n) × (set ≢ first)
 opening_first {n} {f} {set = set} {first = first} {sets = sets} st o is seen =
     let e : first ≡ get_or sets 0 0 = is ∙ ap (λ (z : List ℕ). get_or z 0 0) seen in
     let at = st.tree.tops set (inner_in o.is_inner) in
@@ -142,14 +148,15 @@ opening_first {n} {f} {set = set} {first = first} {sets = sets} st o is seen =
     (omega (arith, e, k.0), λ z. some_none (f.parent (get_or sets 0 0)) set k.2 (ap f.parent (sym (z ∙ e)) ∙ at.2))
 
 -- an inner set gave way to its ring, by the lists as each step read them: js by the pairs, ss by the entry, ws and ks by the walk
-pub gave_way : {n : ℕ} {f g : Sets} {dist : ℕ → ℕ → ℕ} {t0 t1 t2 : Tree} {set first p : ℕ} {sets ss ws : List ℕ}
-    {joins js ks : List (ℕ × ℕ)} (mates new : List (Option ℕ)) → IsMetric n dist → length mates ≡ n →
-    IsStage n f dist (forest_of t0 mates) → AreRanked (forest_of t0 mates) (2 ^ 60) →
-    IsOpening n f dist (forest_of t0 mates) set (around sets joins p) → IsExpanded f set g → IsFamily g → IsSized n t0 → IsSized n t1 → IsSized n t2 →
-    js ≡ joins → new ≡ paired_times mates js p (length js / 2) → ss ≡ sets → first ≡ get_or ss 0 0 →
-    ((ms ns : List (Option ℕ)) → Opens (forest_of t0 ms) set first p (forest_of t1 ns)) → t1.root ≡ t0.root →
-    ws ≡ sets → ks ≡ joins → lists_of t2 ≡ walked_times (lists_of t1) ws ks (p / 2) → t2.root ≡ t1.root →
-    IsEvent n dist (λ bound. bound + 4 * n) f (forest_of t0 mates) g (forest_of t2 new)
+pub gave_way : {n : ℕ} {f g : Sets} {dist : ℕ → ℕ → ℕ} {t0 t1 t2 : Tree} {set first p : ℕ}
+    → {sets ss ws : List ℕ} {joins js ks : List (ℕ × ℕ)} (mates new : List (Option ℕ)) → IsMetric n dist
+    → length mates ≡ n → IsStage n f dist (forest_of t0 mates) → AreRanked (forest_of t0 mates) (2 ^ 60)
+    → IsOpening n f dist (forest_of t0 mates) set (around sets joins p) → IsExpanded f set g → IsFamily g
+    → IsSized n t0 → IsSized n t1 → IsSized n t2 → js ≡ joins → new ≡ paired_times mates js p (length js / 2)
+    → ss ≡ sets → first ≡ get_or ss 0 0
+    → ((ms ns : List (Option ℕ)) → Opens (forest_of t0 ms) set first p (forest_of t1 ns)) → t1.root ≡ t0.root
+    → ws ≡ sets → ks ≡ joins → lists_of t2 ≡ walked_times (lists_of t1) ws ks (p / 2) → t2.root ≡ t1.root
+    → IsEvent n dist (λ bound. bound + 4 * n) f (forest_of t0 mates) g (forest_of t2 new)
 gave_way {n} {f} {g} {dist} {t0} {t1} {t2} {set} {first} {p} {sets} {ss} {ws} {joins} {js} {ks}
     mates new me len st small o ex fam _ size _ ej paired es is opens r1 ew ek walked r2 =
     let x : Forest = forest_of t0 mates in
@@ -178,6 +185,7 @@ gave_way {n} {f} {g} {dist} {t0} {t1} {t2} {set} {first} {p} {sets} {ss} {ws} {j
     }
 
 -- a step that keeps the lengths
-pub sized_on : {n : ℕ} {t : Tree} (t' : Tree) → IsSized n t → length t'.labels.items ≡ length t.labels.items → length t'.ranks.items ≡ length t.labels.items →
-    length t'.links.items ≡ length t.labels.items → IsSized n t'
+pub sized_on : {n : ℕ} {t : Tree} (t' : Tree) → IsSized n t → length t'.labels.items ≡ length t.labels.items
+    → length t'.ranks.items ≡ length t.labels.items → length t'.links.items ≡ length t.labels.items
+    → IsSized n t'
 sized_on t' s labels ranks links = record { labels = labels ∙ s.labels; ranks = ranks ∙ s.labels; links = links ∙ s.labels }

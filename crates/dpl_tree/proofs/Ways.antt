@@ -27,8 +27,8 @@ drops_list xs a b ha hb = record {
 }
 
 -- a pair made in a list
-pub joins_list : (xs : List (Option ℕ)) (s t : ℕ) → s < length xs → t < length xs → s ≢ t →
-    Joins (mate_in xs) s t (mate_in (set (set xs s (Some t)) t (Some s)))
+pub joins_list : (xs : List (Option ℕ)) (s t : ℕ) → s < length xs → t < length xs → s ≢ t
+    → Joins (mate_in xs) s t (mate_in (set (set xs s (Some t)) t (Some s)))
 joins_list xs s t hs ht ne = record {
   first = get_or-set_other (set xs s (Some t)) t s (Some s) None ne ∙ get_or-set_same xs s (Some t) None hs;
   second = get_or-set_same (set xs s (Some t)) t (Some s) None (omega (arith, length-set xs s (Some t)));
@@ -46,10 +46,10 @@ pub load_turned : (n : ℕ) (f : Sets) (s t : ℕ) → loads n f s t ≡ loads n
 load_turned n f s t = sum_same (2 * n) _ _ (λ i h. ap (λ z. cond z (f.value i) 0) (differ_turned (f.holds i s) (f.holds i t)))
 
 -- a turn of the loop
-pub way_turned : (n : ℕ) (f : Sets) (dist : ℕ → ℕ → ℕ) (x : Forest) (mates : List (Option ℕ)) (s t ex b : ℕ) →
-    IsMetric n dist → length mates ≡ n → IsStage n f dist x → IsClimb n f dist x (mate_in mates) (s, t) →
-    ex < n → f.top ex ≡ f.top s → mate_in mates ex ≡ Some b →
-    IsClimb n f dist x (mate_in (set (set (set (set mates ex None) b None) s (Some t)) t (Some s))) (x.above (f.top b), x.entry (f.top b))
+pub way_turned : (n : ℕ) (f : Sets) (dist : ℕ → ℕ → ℕ) (x : Forest) (mates : List (Option ℕ)) (s t ex b : ℕ)
+    → IsMetric n dist → length mates ≡ n → IsStage n f dist x → IsClimb n f dist x (mate_in mates) (s, t)
+    → ex < n → f.top ex ≡ f.top s → mate_in mates ex ≡ Some b
+    → IsClimb n f dist x (mate_in (set (set (set (set mates ex None) b None) s (Some t)) t (Some s))) (x.above (f.top b), x.entry (f.top b))
 way_turned n f dist x mates s t ex b m len st c hx top w =
     let hb : b < n = c.pairs.range ex b hx w in
     let less : List (Option ℕ) = set (set mates ex None) b None in
@@ -61,10 +61,10 @@ way_turned n f dist x mates s t ex b m len st c hx top w =
     (λ q. c.apart (ap f.top q)))
 
 -- the set above has a lower rank
-pub way_falls : (n : ℕ) (f : Sets) (dist : ℕ → ℕ → ℕ) (x : Forest) (mates : List (Option ℕ)) (s t ex b : ℕ) →
-    IsStage n f dist x → IsClimb n f dist x (mate_in mates) (s, t) → ex < n → f.top ex ≡ f.top s →
-    mate_in mates ex ≡ Some b →
-    (x.place (f.top b) ≡ inner) × (x.rank (f.top (x.above (f.top b))) < x.rank (f.top s))
+pub way_falls : (n : ℕ) (f : Sets) (dist : ℕ → ℕ → ℕ) (x : Forest) (mates : List (Option ℕ)) (s t ex b : ℕ)
+    → IsStage n f dist x → IsClimb n f dist x (mate_in mates) (s, t) → ex < n → f.top ex ≡ f.top s
+    → mate_in mates ex ≡ Some b
+    → (x.place (f.top b) ≡ inner) × (x.rank (f.top (x.above (f.top b))) < x.rank (f.top s))
 way_falls n f dist x mates s t ex b st c hx top w =
     let ps : x.place (f.top ex) ≡ outer = ap x.place top ∙ c.s_outer in
     let xb : x.mate ex ≡ Some b = sym (c.kept ex hx (λ z. outer_in ps z) (omega (arith, ap x.rank top))) ∙ w in
@@ -78,10 +78,10 @@ pub record IsWayEnded (n : ℕ) (f : Sets) (dist : ℕ → ℕ → ℕ) (x : For
   pub root : (a : ℕ) × (b : ℕ) × IsExit n f new x.root a b
 
 -- the end of the loop, where the outer set has no pair
-pub way_ended : (n : ℕ) (f : Sets) (dist : ℕ → ℕ → ℕ) (x : Forest) (mates : List (Option ℕ)) (s t : ℕ) →
-    length mates ≡ n → IsStage n f dist x → IsClimb n f dist x (mate_in mates) (s, t) →
-    ((m : ℕ) → m < n → f.top m ≡ f.top s → mate_in mates m ≡ None) →
-    IsWayEnded n f dist x (mate_in (set (set mates s (Some t)) t (Some s)))
+pub way_ended : (n : ℕ) (f : Sets) (dist : ℕ → ℕ → ℕ) (x : Forest) (mates : List (Option ℕ)) (s t : ℕ)
+    → length mates ≡ n → IsStage n f dist x → IsClimb n f dist x (mate_in mates) (s, t)
+    → ((m : ℕ) → m < n → f.top m ≡ f.top s → mate_in mates m ≡ None)
+    → IsWayEnded n f dist x (mate_in (set (set mates s (Some t)) t (Some s)))
 way_ended n f dist x mates s t len st c none =
     let r = climb_ended n f dist x (mate_in mates) (mate_in (set (set mates s (Some t)) t (Some s))) s t c
     (λ m u w. some_none (mate_in mates m) u w.paired (none m w.below w.top))

@@ -30,9 +30,9 @@ grown_widens n f x y s t o pt g = record {
 -- ---- a new set
 
 -- a new outer set keeps the outer members
-pub folded_widens : (n : ℕ) (f g : Sets) (dist : ℕ → ℕ → ℕ) (x y : Forest) (joins : List (ℕ × ℕ)) (cs ds : List ℕ)
-    (meet set : ℕ) → IsStage n f dist x → cs ≡ ds → IsShrunk f cs joins set g → Folds x ds meet set y →
-    Widens n f x.place g y.place
+pub folded_widens : (n : ℕ) (f g : Sets) (dist : ℕ → ℕ → ℕ) (x y : Forest) (joins : List (ℕ × ℕ)) (cs ds : List ℕ) (meet set : ℕ)
+    → IsStage n f dist x → cs ≡ ds → IsShrunk f cs joins set g → Folds x ds meet set y
+    → Widens n f x.place g y.place
 folded_widens n f g dist x y joins cs ds meet set st e sh d0 =
     let q : Gathers n f cs set g = subst (λ (z : ℕ). Gathers z f cs set g) st.rest.size sh.sets in
     let d : Folds x cs meet set y = subst (λ (z : List ℕ). Folds x z meet set y) (sym e) d0 in
@@ -51,9 +51,9 @@ folded_widens n f g dist x y joins cs ds meet set st e sh d0 =
 
 -- ---- a set that gives way
 
-walked_others : (l : Lists) (sets : List ℕ) (joins : List (ℕ × ℕ)) (i r : ℕ) →
-    ((j : ℕ) → j < length sets → get_or sets j 0 ≢ i) → 2 * r < length sets →
-    place_in (walked_times l sets joins r).labels i ≡ place_in l.labels i
+walked_others : (l : Lists) (sets : List ℕ) (joins : List (ℕ × ℕ)) (i r : ℕ)
+    → ((j : ℕ) → j < length sets → get_or sets j 0 ≢ i) → 2 * r < length sets
+    → place_in (walked_times l sets joins r).labels i ≡ place_in l.labels i
 walked_others l sets joins i zero none h = refl
 walked_others l sets joins i (suc r) none h =
     let m : Lists = walked_times l sets joins r in
@@ -65,12 +65,12 @@ walked_others l sets joins i (suc r) none h =
     get_or-set_other m.labels o i Outer Free a) ∙ walked_others l sets joins i r none (omega (arith, h))
 
 -- a set that gives way keeps the outer members
-pub given_widens : (n : ℕ) (f g : Sets) (dist : ℕ → ℕ → ℕ) (t0 t1 t2 : Tree) (mates new : List (Option ℕ)) (set : ℕ)
-    (sets : List ℕ) (joins : List (ℕ × ℕ)) (p : ℕ) → IsStage n f dist (forest_of t0 mates) →
-    IsOpening n f dist (forest_of t0 mates) set (around sets joins p) → IsExpanded f set g →
-    Opens (forest_of t0 mates) set (get_or sets 0 0) p (forest_of t1 new) →
-    lists_of t2 ≡ walked_times (lists_of t1) sets joins (p / 2) →
-    Widens n f (place_in t0.labels.items) g (place_in t2.labels.items)
+pub given_widens : (n : ℕ) (f g : Sets) (dist : ℕ → ℕ → ℕ) (t0 t1 t2 : Tree) (mates new : List (Option ℕ))
+    → (set : ℕ) (sets : List ℕ) (joins : List (ℕ × ℕ)) (p : ℕ) → IsStage n f dist (forest_of t0 mates)
+    → IsOpening n f dist (forest_of t0 mates) set (around sets joins p) → IsExpanded f set g
+    → Opens (forest_of t0 mates) set (get_or sets 0 0) p (forest_of t1 new)
+    → lists_of t2 ≡ walked_times (lists_of t1) sets joins (p / 2)
+    → Widens n f (place_in t0.labels.items) g (place_in t2.labels.items)
 given_widens n f g dist t0 t1 t2 mates new set sets joins p st o ex op el =
     let x : Forest = forest_of t0 mates in
     let lam = st.rest.laminar in

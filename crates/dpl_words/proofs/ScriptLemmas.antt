@@ -97,16 +97,17 @@ not_empty : (x : List ℕ) (xs : List (List ℕ)) → ◌≡◌ {A = List (List 
 not_empty x xs e = absurd (cc)
 
 -- lines of the form have no line among them that is not
-none_bad : (ls front : List PlainLine) (line : List ℕ) (behind' : List (List ℕ)) → All Fits ls → IsNoLine line →
-    map line_text ls ≡ map line_text front ++ line ∷ behind' → ⊥
+none_bad : (ls front : List PlainLine) (line : List ℕ) (behind' : List (List ℕ)) → All Fits ls → IsNoLine line
+    → map line_text ls ≡ map line_text front ++ line ∷ behind' → ⊥
 none_bad [] [] line behind' h bad e = not_empty line behind' e
 none_bad [] (f ∷ fs) line behind' h bad e = not_empty (line_text f) (map line_text fs ++ line ∷ behind') e
 none_bad (l ∷ ls) [] line behind' h bad e = bad l (All-head Fits l ls h) (head_is _ _ _ _ e)
 none_bad (l ∷ ls) (f ∷ fs) line behind' h bad e = none_bad ls fs line behind' (All-tail Fits l ls h) bad (tail_is _ _ _ _ e)
 
 -- the first line that is not of the form has one number
-one_front : (fs gs : List PlainLine) (x y : List ℕ) (xs ys : List (List ℕ)) → All Fits fs → All Fits gs → IsNoLine x →
-    IsNoLine y → map line_text fs ++ x ∷ xs ≡ map line_text gs ++ y ∷ ys → length fs ≡ length gs
+one_front : (fs gs : List PlainLine) (x y : List ℕ) (xs ys : List (List ℕ)) → All Fits fs → All Fits gs
+    → IsNoLine x → IsNoLine y → map line_text fs ++ x ∷ xs ≡ map line_text gs ++ y ∷ ys
+    → length fs ≡ length gs
 one_front [] [] x y xs ys a b p q e = refl
 one_front [] (g ∷ gs) x y xs ys a b p q e = absurd (p g (All-head Fits g gs b) (sym (head_is _ _ _ _ e)))
 one_front (f ∷ fs) [] x y xs ys a b p q e = absurd (q f (All-head Fits f fs a) (head_is _ _ _ _ e))
@@ -125,15 +126,14 @@ script_free text ls n s b = none_bad ls b.front b.line b.behind s.fits b.bad (sy
 line_texts : List Line → List (List ℕ)
 line_texts found = map line_text (map plain_line found)
 
-texts_more : (found : List Line) (edit : Line) (others : List (List ℕ)) →
-    map line_text (map plain_line (found ++ edit ∷ [])) ++ others ≡ map line_text (map plain_line found) ++ line_text
-    (plain_line edit) ∷ others
+texts_more : (found : List Line) (edit : Line) (others : List (List ℕ))
+    → map line_text (map plain_line (found ++ edit ∷ [])) ++ others ≡ map line_text (map plain_line found) ++ line_text (plain_line edit) ∷ others
 texts_more [] edit others = refl
 texts_more (l ∷ ls) edit others = ap (λ z. line_text (plain_line l) ∷ z) (texts_more ls edit others)
 
-pub line_more : (all : List (List ℕ)) (found : List Line) (edit : Line) (line : List ℕ) (rest others : List (List ℕ)) →
-    all ≡ map line_text (map plain_line found) ++ rest → rest ≡ line ∷ others → line_text (plain_line edit) ≡ line
-    → all ≡ map line_text (map plain_line (found ++ edit ∷ [])) ++ others
+pub line_more : (all : List (List ℕ)) (found : List Line) (edit : Line) (line : List ℕ) (rest others : List (List ℕ))
+    → all ≡ map line_text (map plain_line found) ++ rest → rest ≡ line ∷ others
+    → line_text (plain_line edit) ≡ line → all ≡ map line_text (map plain_line (found ++ edit ∷ [])) ++ others
 line_more all found edit line rest others e r t =
     e ∙ ap (λ z. map line_text (map plain_line found) ++ z) (r ∙ ap (λ z. z ∷ others) (sym t)) ∙ sym (texts_more found edit others)
 
@@ -143,19 +143,18 @@ fits_more [] edit h f (suc k) d l = absurd (omega (arith, l))
 fits_more (x ∷ xs) edit h f zero d l = h zero d (omega arith)
 fits_more (x ∷ xs) edit h f (suc k) d l = fits_more xs edit (λ j e m. h (suc j) e (omega (arith, m))) f k d (omega (arith, l))
 
-pub is_script : (text : List ℕ) (found : List Line) (rest : List (List ℕ)) →
-    lines_in text ≡ map line_text (map plain_line found) ++ rest → rest ≡ [] → All Fits (map plain_line found) →
-    IsScript text (map plain_line found)
+pub is_script : (text : List ℕ) (found : List Line) (rest : List (List ℕ))
+    → lines_in text ≡ map line_text (map plain_line found) ++ rest → rest ≡ []
+    → All Fits (map plain_line found) → IsScript text (map plain_line found)
 is_script text found rest e r f = record { fits = f; is = e ∙ ap (λ z. map line_text (map plain_line found) ++ z) r ∙ append-nil _ }
 
 map_size : (found : List Line) → length (map plain_line found) ≡ length found
 map_size [] = refl
 map_size (x ∷ xs) = ap suc (map_size xs)
 
-pub is_bad : (text : List ℕ) (found : List Line) (number : ℕ) (line : List ℕ) (rest others : List (List ℕ)) →
-    lines_in text ≡ map line_text (map plain_line found) ++ rest → rest ≡ line ∷ others →
-    All Fits (map plain_line found)
-    → number ≡ length found + 1 → IsNoLine line → IsFirstBad text number
+pub is_bad : (text : List ℕ) (found : List Line) (number : ℕ) (line : List ℕ) (rest others : List (List ℕ))
+    → lines_in text ≡ map line_text (map plain_line found) ++ rest → rest ≡ line ∷ others
+    → All Fits (map plain_line found) → number ≡ length found + 1 → IsNoLine line → IsFirstBad text number
 is_bad text found number line rest others e r f n bad = record {
   front = map plain_line found;
   line = line;

@@ -18,14 +18,16 @@ kept-requires c = edge_of c.args.wanted.now.graph.now c.args.wanted.now.map.now 
 
 pub merge-requires-clause-inside : goal.merge-requires-clause-inside
 merge-requires-clause-inside c =
-    let e = edge_is c.args.wanted.now.graph.now _ _ _ c.as_slice.ensures (omega (arith, c.requires.inside, ap length c.as_slice.ensures)) c.index-as_slice-i.is in
+    let e = edge_is c.args.wanted.now.graph.now _ _ _ c.as_slice.ensures
+    (omega (arith, c.requires.inside, ap length c.as_slice.ensures)) c.index-as_slice-i.is in
     let pair = pair_of c.args.wanted.now.graph.now c.args.names.now c.args.lists.now.next.items _ _ c.args.i _ _ _ e c.requires.inside
     c.requires.coloured.lengths c.requires.listed c.shorter_first-from.ensures in
     pair.from_below
 
 pub merge-requires-clause-first : goal.merge-requires-clause-first
 merge-requires-clause-first c =
-    let e = edge_is c.args.wanted.now.graph.now _ _ _ c.as_slice.ensures (omega (arith, c.requires.inside, ap length c.as_slice.ensures)) c.index-as_slice-i.is in
+    let e = edge_is c.args.wanted.now.graph.now _ _ _ c.as_slice.ensures
+    (omega (arith, c.requires.inside, ap length c.as_slice.ensures)) c.index-as_slice-i.is in
     let pair = pair_of c.args.wanted.now.graph.now c.args.names.now c.args.lists.now.next.items _ _ c.args.i _ _ _ e c.requires.inside
     c.requires.coloured.lengths c.requires.listed c.shorter_first-from.ensures in
     pair.from_own
@@ -38,7 +40,8 @@ merge-requires-clause-linked c =
 
 pub append-requires : goal.append-requires
 append-requires c =
-    let e = edge_is c.args.wanted.now.graph.now _ _ _ c.as_slice.ensures (omega (arith, c.requires.inside, ap length c.as_slice.ensures)) c.index-as_slice-i.is in
+    let e = edge_is c.args.wanted.now.graph.now _ _ _ c.as_slice.ensures
+    (omega (arith, c.requires.inside, ap length c.as_slice.ensures)) c.index-as_slice-i.is in
     let pair = pair_of c.args.wanted.now.graph.now c.args.names.now c.args.lists.now.next.items _ _ c.args.i _ _ _ e c.requires.inside
     c.requires.coloured.lengths c.requires.listed c.shorter_first-from.ensures in
     let a = c.requires.listed in
@@ -56,14 +59,16 @@ append-requires c =
 pub returns-then-a-b-clause-coloured : goal.returns-then-a-b-clause-coloured
 returns-then-a-b-clause-coloured c =
     let names = c.args.names.now in
-    let e = edge_is c.args.wanted.now.graph.now _ _ _ c.as_slice.ensures (omega (arith, c.requires.inside, ap length c.as_slice.ensures)) c.index-as_slice-i.is in
+    let e = edge_is c.args.wanted.now.graph.now _ _ _ c.as_slice.ensures
+    (omega (arith, c.requires.inside, ap length c.as_slice.ensures)) c.index-as_slice-i.is in
     coloured_skip c.args.wanted.now.graph.now (view_of c.args.wanted.now.map.now) c.args.wanted.now.joined.now c.args.i names c.args.colours.now
     (λ t. ap (λ (z : Edge). get_or names z.a 0) (sym e) ∙ c.if-a-b.true ∙ ap (λ (z : Edge). get_or names z.b 0) e) c.requires.coloured
 
 pub returns-clause-coloured : goal.returns-clause-coloured
 returns-clause-coloured c =
     let colours = c.args.colours.now in
-    let e = edge_is c.args.wanted.now.graph.now _ _ _ c.as_slice.ensures (omega (arith, c.requires.inside, ap length c.as_slice.ensures)) c.index-as_slice-i.is in
+    let e = edge_is c.args.wanted.now.graph.now _ _ _ c.as_slice.ensures
+    (omega (arith, c.requires.inside, ap length c.as_slice.ensures)) c.index-as_slice-i.is in
     let pair = pair_of c.args.wanted.now.graph.now c.args.names.now c.args.lists.now.next.items _ _ c.args.i _ _ _ e c.requires.inside
     c.requires.coloured.lengths c.requires.listed c.shorter_first-from.ensures in
     let flip = c.flips-flip.ensures ∙ ap (λ (z : Edge). differ (differ (colour_of colours z.a) (colour_of colours z.b))
@@ -74,7 +79,8 @@ returns-clause-coloured c =
 
 pub returns-clause-listed : goal.returns-clause-listed
 returns-clause-listed c =
-    let e = edge_is c.args.wanted.now.graph.now _ _ _ c.as_slice.ensures (omega (arith, c.requires.inside, ap length c.as_slice.ensures)) c.index-as_slice-i.is in
+    let e = edge_is c.args.wanted.now.graph.now _ _ _ c.as_slice.ensures
+    (omega (arith, c.requires.inside, ap length c.as_slice.ensures)) c.index-as_slice-i.is in
     let pair = pair_of c.args.wanted.now.graph.now c.args.names.now c.args.lists.now.next.items _ _ c.args.i _ _ _ e c.requires.inside
     c.requires.coloured.lengths c.requires.listed c.shorter_first-from.ensures in
     let apart : c.shorter_first-from.result.0 ≢ c.shorter_first-from.result.1 = λ q. elim c.shorter_first-from.ensures [
