@@ -21,7 +21,7 @@ use Rattle.dpl_boxes.proofs.NumberLemmas.{drop_while-gap}
 use Rattle.dpl_boxes.proofs.BlankLemmas.{Begins, begins}
 use Rattle.dpl_boxes.proofs.WordLemmas.{unsigned_taken, spot_taken, letter_taken, letter_missed}
 use Rattle.dpl_boxes.proofs.PartLemmas.{takes_spots, takes_transformations, both_moderate, repeated_taken, direction_taken, scale_taken}
-use Rattle.dpl_boxes.proofs.ReadingLemmas.{name_bytes}
+use Rattle.dpl_boxes.proofs.ReadingLemmas.{name_bytes, name_byte_is_no_blank}
 
 path_there : (path : List Spot) → nat_le 1 (length path) ≡ true → not_empty path ≡ true
 path_there [] h = absurd (cc)
@@ -126,9 +126,6 @@ call_taken v n ts text m h =
     rw (k.is, all.is, all.blanks) refl
 
 -- a layer
-
-name_byte_is_no_blank : (b : ℕ) → is_name_byte b ≡ true → is_blank b ≡ false
-name_byte_is_no_blank b e = grind (arith, nat_tests)
 
 blank_is_no_name_byte : (b : ℕ) → is_blank b ≡ true → is_name_byte b ≡ false
 blank_is_no_name_byte b e = grind (arith, nat_tests)

@@ -68,7 +68,7 @@ call_is_read = plain_is_read 67 (codes " 1") call_line.command refl refl refl re
 
 -- names
 
-name_byte_is_no_blank : (b : ℕ) → is_name_byte b ≡ true → is_blank b ≡ false
+pub name_byte_is_no_blank : (b : ℕ) → is_name_byte b ≡ true → is_blank b ≡ false
 name_byte_is_no_blank b e = grind (arith, nat_tests)
 
 pub name_byte_is_inside : (b : ℕ) → is_name_byte b ≡ true → is_inside b ≡ true
