@@ -1,8 +1,8 @@
 -- Depths of faces while they are found.
-use Rattle.std.proofs.Common.{arith, ◌≡◌, ◌≢◌, ℕ, ◌+◌, ◌-◌, ◌^◌, ◌<◌, ◌≤◌, ◌==◌, min, refl, sym, ap, ◌∙◌, subst, Bool}
+use Rattle.std.proofs.Common.{arith, ◌≡◌, ℕ, ◌+◌, ◌-◌, ◌^◌, ◌<◌, ◌≤◌, ◌==◌, min, refl, sym, ap, ◌∙◌, subst}
 use Rattle.std.proofs.Common.{true, false, cond, inl, inr, ◌⊎◌, List, [], ◌∷◌, ◌++◌, length, get_or, take, set}
 use Rattle.std.proofs.Common.{replicate, length-set, get_or-set_same, get_or-set_other, Option, Some, None, eq-eqb}
-use Rattle.std.specs.Prelude.{All, IsSome, MatchOption, slice_index}
+use Rattle.std.specs.Prelude.{IsSome, MatchOption}
 use Rattle.std.proofs.lemmas.Bool.{cases_eq, cases_lt, cases_Bool, cond-true, cond-false, ne_eqb, true≢false, false≢true}
 use Rattle.std.proofs.lemmas.List.{take_all, get_or_default, get_or_past, get_or-replicate, length-replicate}
 use Rattle.dpl_laminar.specs.Families.{has}
@@ -14,7 +14,7 @@ use Rattle.dpl_dual.specs.Chains.{Leads, AreLinked, length_of, IsShortest}
 use Rattle.dpl_dual.specs.Distances.{DistancesView, entry_at, edges_to, AreDistancesWithin, IsDistanceUpTo, length_up_to}
 use Rattle.dpl_pack.specs.Depths.{IsLeastOf}
 use Rattle.dpl_pack.specs.Noted.{no_depth, noted, AreBlank, AreListed, IsNoted, AreNoted, GainsOf}
-use Rattle.dpl_pack.specs.Stacks.{ArePoints, AreMeasured, AreNear}
+use Rattle.dpl_pack.specs.Stacks.{AreMeasured, extent, AreNear}
 use Rattle.dpl_pack.proofs.CodeLemmas.{pushed_same, pushed_old, least_none, least_more}
 
 -- ---- distances up to a limit
@@ -138,10 +138,10 @@ pub near_step : (d : Dual) (terminals : List ℕ) (value : ℕ) (ends : List (�
     → (i terminal inner limit from : ℕ) (v : DistancesView) (deep near deep' near' : List ℕ) → i < length ends
     → terminal ≡ (get_or ends i (0, 0)).0 → inner ≡ (get_or ends i (0, 0)).1 → terminal < length terminals
     → limit ≡ inner + value → from ≡ get_or terminals terminal 0
-    → AreDistancesWithin d.crosses d.faces from limit v → AreNear d terminals value ends i deep near
+    → AreDistancesWithin d.crosses d.faces from limit v → AreNear d terminals (extent value ends) i deep near
     → AreNoted v.reached (λ g. length_up_to limit (entry_at v g) - inner) deep deep'
     → (AreListed deep near → AreListed deep' near') → GainsOf v.reached near near'
-    → AreNear d terminals value ends (i + 1) deep' near'
+    → AreNear d terminals (extent value ends) (i + 1) deep' near'
 near_step d terminals value ends i terminal inner limit from v deep near deep' near' h et ei ht el ef w k a l gains = record {
   size = a.size ∙ k.size;
   least = λ points far are all g hg.
@@ -177,7 +177,8 @@ near_step d terminals value ends i terminal inner limit from v deep near deep' n
 }
 
 pub near_none : (d : Dual) (terminals : List ℕ) (value : ℕ) (ends : List (ℕ × ℕ)) (deep : List ℕ)
-    → length deep ≡ d.faces → value ≤ 2 ^ 50 → AreBlank deep → AreNear d terminals value ends 0 deep []
+    → length deep ≡ d.faces → value ≤ 2 ^ 50 → AreBlank deep
+    → AreNear d terminals (extent value ends) 0 deep []
 near_none d terminals value ends deep size small blank = record {
   size = size;
   least = λ points limit are all g hg.
@@ -188,11 +189,12 @@ near_none d terminals value ends deep size small blank = record {
   linked = λ g h. absurd (false≢true h);
 }
 
-pub near_done : (d : Dual) (terminals : List ℕ) (value : ℕ) (ends : List (ℕ × ℕ)) (i : ℕ) (deep near : List ℕ)
-    → length ends ≤ i → i ≤ length ends → AreNear d terminals value ends i deep near
-    → AreNear d terminals value ends (length ends) deep near
+pub near_done : (d : Dual) (terminals : List ℕ) (value : ℕ) (ends : List (ℕ × ℕ)) (i : ℕ)
+    → (deep near : List ℕ) → length ends ≤ i → i ≤ length ends
+    → AreNear d terminals (extent value ends) i deep near
+    → AreNear d terminals (extent value ends) (length ends) deep near
 near_done d terminals value ends i deep near h m k =
-    let P : ℕ → Type 0 = λ z. AreNear d terminals value ends z deep near in
+    let P : ℕ → Type 0 = λ z. AreNear d terminals (extent value ends) z deep near in
     let e : i ≡ length ends = omega arith in
     subst P e k
 

@@ -1,5 +1,5 @@
 -- Depths of faces while they are found: for each face the least so far, and a list of the faces that have one.
-use Rattle.std.specs.Prelude.{◌≡◌, ◌≢◌, ℕ, ◌<◌, ◌⊎◌, min, true, List, length, slice_index_or, if◌then◌else◌}
+use Rattle.std.specs.Prelude.{◌≡◌, ◌≢◌, ℕ, ◌⊎◌, min, true, List, length, slice_index_or, if◌then◌else◌}
 use Rattle.dpl_laminar.specs.Families.{has}
 
 -- what stands where no depth is noted: the greatest number of the machine's words

@@ -1,6 +1,5 @@
-use Rattle.std.proofs.Common.{arith, ap, sym, ◌∙◌, subst, ◌≡◌, ◌-◌, ◌<◌, ◌≤◌, length, get_or, ℕ, List}
+use Rattle.std.proofs.Common.{arith, ap, ◌≡◌, ◌-◌, ◌<◌, length, get_or, ℕ, List}
 use Rattle.dpl_dual.specs.Distances.{entry_at, length_up_to}
-use Rattle.dpl_pack.specs.Noted.{AreNoted}
 use Rattle.dpl_pack.proofs.NotedLemmas.{noted_more, noted_all, gains_more}
 use Rattle.dpl_pack.proofs.depths.deepen.Goals as goal
 

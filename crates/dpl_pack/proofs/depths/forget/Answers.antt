@@ -1,1 +1,0 @@
-use Rattle.dpl_pack.proofs.depths.forget.Goals as goal

@@ -1,5 +1,5 @@
 use Rattle.std.proofs.Common.{refl}
-use Rattle.dpl_pack.proofs.NotedLemmas.{near_step, near_done, near_none, reached_inside}
+use Rattle.dpl_pack.proofs.NotedLemmas.{near_step, near_done}
 use Rattle.dpl_pack.proofs.depths.near_faces.Goals as goal
 
 pub loop-i-preserved : goal.loop-i-preserved

@@ -1,1 +1,0 @@
-use Rattle.dpl_pack.proofs.depths.note.Goals as goal

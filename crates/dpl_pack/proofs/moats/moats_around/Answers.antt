@@ -1,4 +1,4 @@
-use Rattle.std.proofs.Common.{refl, ℕ, List}
+use Rattle.std.proofs.Common.{refl, sym, ap, ◌∙◌, ℕ, List, length}
 use Rattle.std.specs.Prelude.{slice_index}
 use Rattle.dpl_dual.specs.declared.crosses.Dual.{Dual}
 use Rattle.dpl_pack.specs.Stacks.{AreLimited}
@@ -7,17 +7,20 @@ use Rattle.dpl_pack.proofs.TableLemmas.{table_members, table_inner, table_small}
 use Rattle.dpl_pack.proofs.MoatLemmas.{terminals_below, IsPart, part_faces, field_of, moats_are}
 use Rattle.dpl_pack.proofs.moats.moats_around.Goals as goal
 
-pub surround-requires-clause-faces : goal.surround-requires-clause-faces
-surround-requires-clause-faces c = terminals_below _ _ c.requires.dual c.requires.terminals
-
-pub surround-requires-clause-members : goal.surround-requires-clause-members
-surround-requires-clause-members c = table_members _ _ _ _ c.in_ok-table.ensures.table c.requires.members
-
-pub surround-requires-clause-inner : goal.surround-requires-clause-inner
-surround-requires-clause-inner c = table_inner _ _ _ c.in_ok-table.ensures.family c.in_ok-table.ensures.table
-
-pub surround-requires-clause-small : goal.surround-requires-clause-small
-surround-requires-clause-small c = rw c.deref.ensures.value (table_small _ _ _ c.in_ok-table.ensures.family c.in_ok-table.ensures.table)
+pub surround-requires : goal.surround-requires
+surround-requires c =
+    let family = c.in_ok-table.ensures.family in
+    let table = c.in_ok-table.ensures.table in
+    record {
+      nested = record {
+        dual = c.requires.dual;
+        faces = terminals_below _ _ c.requires.dual c.requires.terminals;
+        ends = table.ends_length ∙ sym table.values_length ∙ ap length (sym c.deref.ensures.value);
+        small = rw c.deref.ensures.value (table_small _ _ _ family table);
+        members = table_members _ _ _ _ table c.requires.members;
+        inner = table_inner _ _ _ family table;
+      };
+    }
 
 pub returns : goal.returns
 returns c =

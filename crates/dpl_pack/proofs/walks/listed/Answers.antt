@@ -1,5 +1,5 @@
 use Rattle.std.proofs.Common.{ap, ◌∙◌, Vec}
-use Rattle.dpl_pack.proofs.AroundLemmas.{listed_none, listed_in, listed_out, listed_written}
+use Rattle.dpl_pack.proofs.AroundLemmas.{listed_none, listed_in, listed_out}
 use Rattle.dpl_pack.proofs.walks.listed.Goals as goal
 use Rattle.dpl_pack.proofs.walks.listed.Goals.{then-inside-i+in_ok-push, else-inside-i}
 

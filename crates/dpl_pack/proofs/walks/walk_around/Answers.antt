@@ -1,4 +1,4 @@
-use Rattle.std.proofs.Common.{arith, ◌≡◌, length}
+use Rattle.std.proofs.Common.{arith}
 use Rattle.dpl_map.specs.Views.{view_of}
 use Rattle.dpl_map.proofs.ViewLemmas.{map_of}
 use Rattle.dpl_pack.proofs.AroundLemmas.{odd_inside, around_of, darts_cleared}
