@@ -1,16 +1,14 @@
 -- A layout is cut into its commands, and these are read.
-use Rattle.std.proofs.Common.{arith, ◌≡◌, ◌∙◌, ℕ, ◌+◌, true, List, [], ◌∷◌, ◌++◌, length, map, refl, append_assoc, length-append, Some}
+use Rattle.std.proofs.Common.{arith, ◌≡◌, ◌∙◌, ℕ, ◌+◌, List, [], ◌∷◌, ◌++◌, length, map, refl, sym, append_assoc, length-append, Some}
 use Rattle.std.specs.Prelude.{Ok, slice_range}
-use Rattle.std.specs.List.{list_all}
-use Rattle.std.proofs.lemmas.Bool.{and_parts}
 use Rattle.dpl_lex.specs.Cutting.{cut, with_span, span, none_left}
 use Rattle.dpl_lex.specs.declared.cutting.Place.TheVariants.{Between}
 use Rattle.dpl_lex.specs.declared.types.Ending.TheVariants.{End}
 use Rattle.dpl_lex.proofs.CuttingRules.{blanks_are_skipped, end_ends}
 use Rattle.dpl_rules.specs.declared.command.Command.{Command}
 use Rattle.dpl_rules.specs.Bounds.{read_commands}
-use Rattle.dpl_boxes.specs.Written as written
-use Rattle.dpl_boxes.specs.Written.{AreBlanks, can_be_written, IsLayout}
+use Rattle.dpl_cif.specs.Reading.{forms_of, ending_of}
+use Rattle.dpl_boxes.specs.Written.{AreBlanks, IsLayout}
 use Rattle.dpl_boxes.proofs.LineLemmas.{between_parts}
 use Rattle.dpl_boxes.proofs.WrittenLemmas.{Reads, written_is_read}
 
@@ -26,11 +24,14 @@ end_goes text front gap others b =
     record { commands = rw e refl; ending = rw e refl }
 
 -- a front with one command more
-abbrev longer : List ℕ → List ℕ → List ℕ → List ℕ
+abbrev pub longer : List ℕ → List ℕ → List ℕ → List ℕ
 longer front gap bytes = front ++ (gap ++ (bytes ++ (59 ∷ [])))
 
 length-longer : (front gap bytes : List ℕ) → length (longer front gap bytes) ≡ length front + length gap + length bytes + 1
 length-longer front gap bytes = simp length-append (omega arith)
+
+pub at_longer : (front gap bytes : List ℕ) → length front + length gap + length bytes + 1 ≡ length (longer front gap bytes)
+at_longer front gap bytes = sym (length-longer front gap bytes)
 
 -- blanks, a command and its semicolon are cut from what follows them
 one_cut : (front gap bytes others : List ℕ) (c : Command) → AreBlanks gap → Reads c bytes →
@@ -41,8 +42,8 @@ one_cut front gap bytes others c b r =
     rw (length-longer front gap bytes) (blanks_are_skipped gap (bytes ++ (59 ∷ others)) (length front) b
     ∙ r.cut_out others (length front + length gap))
 
-command_stands : (front gap bytes others : List ℕ)
-    → slice_range (front ++ (gap ++ (bytes ++ (59 ∷ others)))) (length front + length gap) (length front + length gap + length bytes) ≡ bytes
+pub command_stands : (front gap bytes others : List ℕ) → slice_range (front ++ (gap ++ (bytes ++ (59 ∷ others))))
+    (length front + length gap) (length front + length gap + length bytes) ≡ bytes
 command_stands front gap bytes others =
     let split : front ++ (gap ++ (bytes ++ (59 ∷ others))) ≡ (front ++ gap) ++ (bytes ++ (59 ∷ others)) = simp append_assoc in
     let size : length front + length gap ≡ length (front ++ gap) = rw length-append refl in
@@ -61,14 +62,13 @@ command_goes text front gap bytes others c cs b r e g =
       ending = rw cut_first g.ending;
     }
 
-go : (cs : List Command) (text front rest : List ℕ) → list_all can_be_written cs ≡ true → text ≡ front ++ rest → IsLayout cs rest → Goes text front rest cs
-go [] text front rest h e l = rw (l.3) (end_goes text front l.0 l.1 l.2)
-go (c ∷ cs) text front rest h e l =
-    let p = and_parts (can_be_written c) (list_all can_be_written cs) h in
-    let whole : text ≡ front ++ (l.0 ++ (l.1 ++ (59 ∷ l.2))) = rw (← l.5) e in
+go : (cs : List Command) (text front rest : List ℕ) → text ≡ front ++ rest → IsLayout cs rest → Goes text front rest cs
+go [] text front rest e l = rw (l.3) (end_goes text front l.0 l.1 l.2)
+go (c ∷ cs) text front rest e l =
+    let whole : text ≡ front ++ (l.0 ++ (l.1 ++ (59 ∷ l.2))) = rw (← l.6) e in
     let others : text ≡ longer front l.0 l.1 ++ l.2 = whole ∙ simp append_assoc in
-    rw (l.5) (command_goes text front l.0 l.1 l.2 c cs l.3 (written_is_read c l.1 p.0 l.4) whole
-    (go cs text (longer front l.0 l.1) l.2 p.1 others l.6))
+    rw (l.6) (command_goes text front l.0 l.1 l.2 c cs l.3 (written_is_read c l.1 l.4 l.5) whole
+    (go cs text (longer front l.0 l.1) l.2 others l.7))
 
-pub layouts_are_read : written.LayoutsAreRead
-layouts_are_read cs text h l = let g = go cs text [] text h refl l in (g.commands, g.ending)
+pub layouts_go : (cs : List Command) (text : List ℕ) → IsLayout cs text → (forms_of text ≡ map (λ c. Ok c) cs) × (ending_of text ≡ End)
+layouts_go cs text l = let g = go cs text [] text refl l in (g.commands, g.ending)

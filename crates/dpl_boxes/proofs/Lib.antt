@@ -14,3 +14,11 @@ pub mod CommandLemmas
 pub mod WrittenLemmas
 pub mod LayoutLemmas
 pub mod PlainLemmas
+pub mod BackNumbers
+pub mod BackWords
+pub mod BackParts
+pub mod BackForms
+pub mod BackCommands
+pub mod BackCuts
+pub mod BackLayouts
+pub mod TakenLemmas

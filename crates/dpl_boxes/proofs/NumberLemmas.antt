@@ -66,7 +66,7 @@ digits_of-decimal : (n : ℕ) → n < 2 ^ 64 → AreDigitsOf n (decimal n)
 digits_of-decimal n l = decimal_by_steps AreDigitsOf one_digit more_digits n l
 
 -- what follows the digits adds nothing
-digits_value-behind : (m : ℕ) (ds rest : List ℕ) → list_all is_digit ds ≡ true → has_no_digit rest ≡ true → digits_value m (ds ++ rest) ≡ digits_value m ds
+pub digits_value-behind : (m : ℕ) (ds rest : List ℕ) → list_all is_digit ds ≡ true → has_no_digit rest ≡ true → digits_value m (ds ++ rest) ≡ digits_value m ds
 digits_value-behind m [] [] h e = refl
 digits_value-behind m [] (b ∷ rest) h e = grind arith
 digits_value-behind m (d ∷ ds) rest h e =

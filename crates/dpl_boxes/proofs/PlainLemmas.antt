@@ -1,13 +1,14 @@
 -- Commands that are written with a space between their words.
 use Rattle.std.proofs.Common.{◌≡◌, ℕ, false, List, [], ◌∷◌, ◌++◌, refl, append_assoc, true, suc, subst}
 use Rattle.std.specs.Prelude.{pos, negsuc, flat_map, codes}
+use Rattle.std.specs.List.{list_all}
 use Rattle.std.specs.Fmt.{decimal}
+use Rattle.std.proofs.lemmas.Bool.{and_parts}
 use Rattle.dpl_rules.specs.declared.command.Command.{Command}
 use Rattle.dpl_rules.specs.declared.command.Command.TheVariants.{Idle, Polygon, Box, Wire, Flash, Layer, Start, Finish, Delete, Call}
 use Rattle.dpl_boxes.proofs.NumberLemmas.{negated}
 use Rattle.dpl_boxes.specs.Written as written
-use Rattle.dpl_boxes.specs.Written.{Word, words_of, IsSigned, IsSpelled, AreBlanks, IsGap, is_apart, AreBehind}
-use Rattle.dpl_boxes.specs.Written.{AreWords, HasForm, IsLayout, plain_word, spaced, plain_layout}
+use Rattle.dpl_boxes.specs.Written.{Word, words_of, IsSigned, IsSpelled, AreBlanks, IsGap, is_apart, AreBehind, AreWords, HasForm, can_be_written, IsLayout, plain_word, spaced, plain_layout}
 use Rattle.dpl_boxes.specs.Written.Word.{Letters, Number, Integer}
 use Rattle.dpl_boxes.specs.Written.IsSigned.{plain, minus}
 use Rattle.dpl_boxes.specs.Written.IsIdle.{empty}
@@ -63,12 +64,13 @@ spaced_has_form (Delete n) = (false, spaced_are_words (words_of false (Delete n)
 spaced_has_form (Call n ts) = (false, spaced_are_words (words_of false (Call n ts)))
 
 -- blanks may stand in front
-layout_behind : (gap : List ℕ) (cs : List Command) → AreBlanks gap → IsLayout cs (gap ++ plain_layout cs)
-layout_behind gap [] b = (gap, [], b, refl)
-layout_behind gap (c ∷ cs) b =
+layout_behind : (gap : List ℕ) (cs : List Command) → AreBlanks gap → list_all can_be_written cs ≡ true → IsLayout cs (gap ++ plain_layout cs)
+layout_behind gap [] b w = (gap, [], b, refl)
+layout_behind gap (c ∷ cs) b w =
+    let p = and_parts (can_be_written c) (list_all can_be_written cs) w in
     let bytes = spaced (words_of false c) in
     let split : gap ++ plain_layout (c ∷ cs) ≡ gap ++ (bytes ++ (59 ∷ (10 ∷ plain_layout cs))) = simp append_assoc in
-    (gap, bytes, 10 ∷ plain_layout cs, b, spaced_has_form c, split, layout_behind (10 ∷ []) cs refl)
+    (gap, bytes, 10 ∷ plain_layout cs, b, p.0, spaced_has_form c, split, layout_behind (10 ∷ []) cs refl p.1)
 
 pub plain_layouts_are_layouts : written.PlainLayoutsAreLayouts
-plain_layouts_are_layouts cs = layout_behind [] cs refl
+plain_layouts_are_layouts cs w = layout_behind [] cs refl w

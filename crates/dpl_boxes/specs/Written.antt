@@ -1,5 +1,5 @@
--- Layouts by the grammar of CIF 2.0 (Mead and Conway 1980, section 4.5): the words of each command, and what stands between them.
-use Rattle.std.specs.Prelude.{◌≡◌, ◌-ℤ◌, ◌^◌, ◌&&◌, ◌==◌, ℕ, ℤ, pos, Bool, true, false, not, nat_le, unsigned_abs, List, [], ◌∷◌, ◌++◌, length, map, flat_map, replicate, codes, Ok, if◌then◌else◌}
+-- Layouts by the grammar of CIF 2.0 (Mead and Conway 1980, section 4.5): words, and what stands between them.
+use Rattle.std.specs.Prelude.{◌≡◌, ◌↔◌, ◌-ℤ◌, ◌^◌, ◌&&◌, ◌==◌, ℕ, ℤ, pos, Bool, true, false, not, nat_le, unsigned_abs, List, [], ◌∷◌, ◌++◌, length, map, flat_map, replicate, codes, None, Ok, if◌then◌else◌}
 use Rattle.std.specs.Ordering.{int_eq}
 use Rattle.std.specs.List.{list_all}
 use Rattle.std.specs.Fmt.{decimal, signed_decimal}
@@ -14,9 +14,9 @@ use Rattle.dpl_rules.specs.declared.command.Transformation.TheVariants.{Shift, M
 use Rattle.dpl_rules.specs.declared.command.Command.{Command}
 use Rattle.dpl_rules.specs.declared.command.Command.TheVariants.{Idle, Polygon, Box, Wire, Flash, Layer, Start, Finish, Delete, Call}
 use Rattle.dpl_rules.specs.Bounds.{command_of}
-use Rattle.dpl_cif.specs.Reading.{forms_of, ending_of}
+use Rattle.dpl_cif.specs.Reading.{forms_of, ending_of, first_fault}
 
--- letters and digits as they stand there, a number without a sign, or an integer, which may have one
+-- letters and digits as they stand, a number without a sign, or an integer, which may have one
 pub data Word : Type 0 where
   Letters : List ℕ → Word
   Number : ℕ → Word
@@ -134,21 +134,27 @@ abbrev pub HasForm : Command → List ℕ → Type 0
 HasForm Idle bytes = IsIdle bytes
 HasForm c bytes = (short : Bool) × AreWords (words_of short c) bytes
 
--- commands, each behind blanks and before a semicolon, and the end command, behind which anything may stand
+-- commands, each behind blanks and before a semicolon, and the end command before anything
 abbrev pub IsLayout : List Command → List ℕ → Type 0
 IsLayout [] text = (gap rest : List ℕ) × AreBlanks gap × (text ≡ gap ++ (codes "E" ++ rest))
-IsLayout (c ∷ cs) text = (gap bytes rest : List ℕ) × AreBlanks gap × HasForm c bytes
+IsLayout (c ∷ cs) text = (gap bytes rest : List ℕ) × AreBlanks gap
+    × (can_be_written c ≡ true) × HasForm c bytes
     × (text ≡ gap ++ (bytes ++ (codes ";" ++ rest))) × IsLayout cs rest
 
--- a law: a command that is written is read again
+-- a law: a text is read as commands, up to an end command, exactly where it is a layout of them
+abbrev pub LayoutsAreRead : Type 0
+LayoutsAreRead = (cs : List Command) (text : List ℕ) →
+    IsLayout cs text ↔ (forms_of text ≡ map (λ c. Ok c) cs) × (ending_of text ≡ End)
+
+-- a law: a text that breaks no rule is a layout
+abbrev pub TakenTextsAreLayouts : Type 0
+TakenTextsAreLayouts = (layer text : List ℕ) → first_fault layer text ≡ None →
+    (cs : List Command) × IsLayout cs text
+
+-- a law: a command that is written is read by itself
 abbrev pub CommandsAreRead : Type 0
 CommandsAreRead = (c : Command) (bytes : List ℕ) → can_be_written c ≡ true → HasForm c bytes
     → command_of bytes ≡ Ok c
-
--- a law: the commands of a layout are those that were written, and it ends with its end command
-abbrev pub LayoutsAreRead : Type 0
-LayoutsAreRead = (cs : List Command) (text : List ℕ) → list_all can_be_written cs ≡ true →
-    IsLayout cs text → (forms_of text ≡ map (λ c. Ok c) cs) × (ending_of text ≡ End)
 
 abbrev pub plain_word : Word → List ℕ
 plain_word (Letters letters) = letters
@@ -166,4 +172,5 @@ plain_layout cs = flat_map (λ c. spaced (words_of false c) ++ codes ";\n") cs +
 
 -- a law: that is a layout
 abbrev pub PlainLayoutsAreLayouts : Type 0
-PlainLayoutsAreLayouts = (cs : List Command) → IsLayout cs (plain_layout cs)
+PlainLayoutsAreLayouts = (cs : List Command) → list_all can_be_written cs ≡ true →
+    IsLayout cs (plain_layout cs)
