@@ -1,5 +1,6 @@
 -- What is read as a command is written so.
-use Rattle.std.proofs.Common.{arith, ◌≡◌, ◌∙◌, ◌⊎◌, inl, inr, ◌==◌, ℕ, zero, suc, ◌+◌, ◌-◌, true, false, not, Bool, List, [], ◌∷◌, ◌++◌, refl, sym, ap, subst, add-one, append_assoc, Option, None, Some}
+use Rattle.std.proofs.Common.{arith, ◌≡◌, ◌∙◌, ◌⊎◌, inl, inr, ◌==◌, ℕ, zero, suc, ◌+◌, ◌-◌, true, false, not, Bool}
+use Rattle.std.proofs.Common.{List, [], ◌∷◌, ◌++◌, refl, sym, ap, subst, add-one, append_assoc, Option, None, Some}
 use Rattle.std.specs.Prelude.{◌||◌, if◌then◌else◌, Result, Ok, Err}
 use Rattle.std.specs.List.{list_all}
 use Rattle.std.proofs.lemmas.Bool.Decides.{nat_tests}
@@ -30,8 +31,8 @@ closes_byte : (depth b : ℕ) (bytes : List ℕ) → not (b == 40 || b == 41) �
 closes_byte zero b bytes h k = (b ∷ k.0, k.1, ap (λ x. b ∷ x) k.2, byte b k.0 h k.3, k.4)
 closes_byte (suc depth) b bytes h k = (b ∷ k.0, k.1, ap (λ x. b ∷ x) k.2, byte b k.0 h k.3, k.4)
 
-joined : (bytes inner more others rest : List ℕ) → bytes ≡ inner ++ (41 ∷ more) → more ≡ others ++ (41 ∷ rest) →
-    40 ∷ bytes ≡ (40 ∷ (inner ++ (41 ∷ others))) ++ (41 ∷ rest)
+joined : (bytes inner more others rest : List ℕ) → bytes ≡ inner ++ (41 ∷ more) → more ≡ others ++ (41 ∷ rest)
+    → 40 ∷ bytes ≡ (40 ∷ (inner ++ (41 ∷ others))) ++ (41 ∷ rest)
 joined bytes inner more others rest e f =
     let g : bytes ≡ inner ++ (41 ∷ (others ++ (41 ∷ rest))) = e ∙ ap (λ x. inner ++ (41 ∷ x)) f in
     ap (λ x. 40 ∷ x) (g ∙ sym (append_assoc inner (41 ∷ others) (41 ∷ rest)))
@@ -151,8 +152,9 @@ letters_back b bytes c h =
     ]
 
 -- a command, of which none but a comment has a semicolon in it
-form_back : (bytes : List ℕ) (c : Command) → ((b : ℕ) (others : List ℕ) → bytes ≡ b ∷ others → is_digit b ≡ true → list_all is_inside others ≡ true) →
-    form_of bytes ≡ Some c → Forms bytes c
+form_back : (bytes : List ℕ) (c : Command)
+    → ((b : ℕ) (others : List ℕ) → bytes ≡ b ∷ others → is_digit b ≡ true → list_all is_inside others ≡ true)
+    → form_of bytes ≡ Some c → Forms bytes c
 form_back [] c i h = idle_back [] c empty h
 form_back (b ∷ bytes) c i h =
     elim (tested (is_digit b) _ _ c h) as (λ s. Forms (b ∷ bytes) c) [
@@ -178,15 +180,16 @@ abbrev read_as : Option Command → Result Command What
 read_as None = Err Syntax
 read_as (Some a) = bounded a
 
-read_form : (bytes : List ℕ) (c : Command) (o : Option Command) → form_of bytes ≡ o → read_as o ≡ Ok c →
-    (form_of bytes ≡ Some c) × (is_command_in_bounds c ≡ true)
+read_form : (bytes : List ℕ) (c : Command) (o : Option Command) → form_of bytes ≡ o → read_as o ≡ Ok c
+    → (form_of bytes ≡ Some c) × (is_command_in_bounds c ≡ true)
 read_form bytes c None e h = absurd (cc)
 read_form bytes c (Some a) e h =
     let p = bounded_back a c h in
     (e ∙ ap (λ x. Some x) p.1, rw (← p.1) (p.0))
 
-pub command_back : (bytes : List ℕ) (c : Command) → ((b : ℕ) (others : List ℕ) → bytes ≡ b ∷ others → is_digit b ≡ true → list_all is_inside others ≡ true) →
-    command_of bytes ≡ Ok c → Formed bytes c
+pub command_back : (bytes : List ℕ) (c : Command)
+    → ((b : ℕ) (others : List ℕ) → bytes ≡ b ∷ others → is_digit b ≡ true → list_all is_inside others ≡ true)
+    → command_of bytes ≡ Ok c → Formed bytes c
 command_back bytes c i h =
     let p = read_form bytes c (form_of bytes) refl h in
     form_back bytes c i p.0 p.1

@@ -16,8 +16,9 @@ pub record ToSemicolon (place : Place) (start at : ℕ) (bs : List ℕ) : Type 0
   pub cuts : cut place at bs ≡ with_span (Some (span start (at + length body))) (cut Between (at + length body + 1) others)
 
 -- with a byte before
-byte_before : (place from : Place) (start at b : ℕ) (bs : List ℕ) → cut place at (b ∷ bs) ≡ cut from (at + 1) bs → ToSemicolon from start (at + 1) bs →
-    ToSemicolon place start at (b ∷ bs)
+byte_before : (place from : Place) (start at b : ℕ) (bs : List ℕ)
+    → cut place at (b ∷ bs) ≡ cut from (at + 1) bs → ToSemicolon from start (at + 1) bs
+    → ToSemicolon place start at (b ∷ bs)
 byte_before place from start at b bs e t =
     let size : at + 1 + length t.body ≡ at + suc (length t.body) = omega arith in
     record {

@@ -1,5 +1,6 @@
 -- What is read as a command by its letter is written so.
-use Rattle.std.proofs.Common.{arith, ◌≡◌, ◌∙◌, ◌⊎◌, inl, inr, ℕ, true, false, ◌&&◌, List, [], ◌∷◌, ◌++◌, length, refl, sym, ap, subst, take-append-drop, Option, None, Some}
+use Rattle.std.proofs.Common.{arith, ◌≡◌, ◌∙◌, ◌⊎◌, inl, inr, ℕ, true, false, ◌&&◌, List, [], ◌∷◌, ◌++◌, length, refl}
+use Rattle.std.proofs.Common.{sym, ap, subst, take-append-drop, Option, None, Some}
 use Rattle.std.specs.Prelude.{nat_le, flat_map, codes, take, drop, if◌then◌else◌}
 use Rattle.std.specs.List.{list_all, prefix_len}
 use Rattle.std.proofs.lemmas.Bool.{and_parts}
@@ -14,9 +15,12 @@ use Rattle.dpl_rules.specs.declared.command.Transformation.TheVariants.{Shift, M
 use Rattle.dpl_rules.specs.declared.command.Command.{Command}
 use Rattle.dpl_rules.specs.declared.command.Command.TheVariants.{Polygon, Box, Wire, Flash, Layer, Start, Finish, Delete, Call}
 use Rattle.dpl_rules.specs.Readers.{◌>>=◌, letter, unsigned_of, spot_of, repeated, not_empty, complete}
-use Rattle.dpl_rules.specs.Forms.{path_of, polygon_of, wire_of, box_of, direction_of, flash_of, layer_command, ratio_of, scale_of, where_there, start_command, delete_of, definition_of, call_of, transformation_of}
+use Rattle.dpl_rules.specs.Forms.{path_of, polygon_of, wire_of, box_of, direction_of, flash_of, layer_command, ratio_of}
+use Rattle.dpl_rules.specs.Forms.{scale_of, where_there, start_command, delete_of, definition_of, call_of}
+use Rattle.dpl_rules.specs.Forms.{transformation_of}
 use Rattle.dpl_rules.specs.Bounds.{is_in_bounds, is_spot_in_bounds, is_transformation_in_bounds, is_command_in_bounds}
-use Rattle.dpl_boxes.specs.Written.{Word, spot_words, transformation_words, direction_words, scale_words, is_moderate, can_be_written, AreBlanks, is_apart, AreBehind, HasForm}
+use Rattle.dpl_boxes.specs.Written.{Word, spot_words, transformation_words, direction_words, scale_words, is_moderate}
+use Rattle.dpl_boxes.specs.Written.{can_be_written, AreBlanks, is_apart, AreBehind, HasForm}
 use Rattle.dpl_boxes.specs.Written.Word.{Letters, Number, Integer}
 use Rattle.dpl_boxes.proofs.BackNumbers.{from_some, split}
 use Rattle.dpl_boxes.proofs.BackWords.{bound, letter_back, unsigned_back, spot_back}
@@ -36,8 +40,8 @@ moderate_path (s ∷ path) b =
     let q = and_parts (is_moderate (Integer s.x)) (is_moderate (Integer s.y)) p.0 in
     rw (q.0, q.1, moderate_path path p.1) refl
 
-moderate_transformations : (ts : List Transformation) → list_all is_transformation_in_bounds ts ≡ true →
-    list_all is_moderate (flat_map transformation_words ts) ≡ true
+moderate_transformations : (ts : List Transformation) → list_all is_transformation_in_bounds ts ≡ true
+    → list_all is_moderate (flat_map transformation_words ts) ≡ true
 moderate_transformations [] b = refl
 moderate_transformations (Shift by ∷ ts) b =
     let p = and_parts (is_spot_in_bounds by) (list_all is_transformation_in_bounds ts) b in
@@ -110,8 +114,9 @@ wire_back text c h =
 
 -- a box
 
-box_can : (box : BoxForm) → is_in_bounds box.length ≡ true → is_in_bounds box.width ≡ true → list_all is_moderate (spot_words box.centre) ≡ true →
-    list_all is_moderate (spot_words box.direction) ≡ true → can_be_written (Box box) ≡ true
+box_can : (box : BoxForm) → is_in_bounds box.length ≡ true → is_in_bounds box.width ≡ true
+    → list_all is_moderate (spot_words box.centre) ≡ true
+    → list_all is_moderate (spot_words box.direction) ≡ true → can_be_written (Box box) ≡ true
 box_can box l w c d =
     let p = and_parts (is_moderate (Integer box.centre.x)) (list_all is_moderate (Integer box.centre.y ∷ [])) c in
     let q = and_parts (is_moderate (Integer box.centre.y)) true p.1 in
@@ -158,8 +163,8 @@ flash_back text c h =
 -- definitions
 
 -- a letter was there, or not
-there_back : {A B : Type 0} (o : Option A) (f : A → Option B) (otherwise : Option B) (b : B) → where_there o f otherwise ≡ Some b →
-    ((a : A) × (o ≡ Some a) × (f a ≡ Some b)) ⊎ (otherwise ≡ Some b)
+there_back : {A B : Type 0} (o : Option A) (f : A → Option B) (otherwise : Option B) (b : B)
+    → where_there o f otherwise ≡ Some b → ((a : A) × (o ≡ Some a) × (f a ≡ Some b)) ⊎ (otherwise ≡ Some b)
 there_back None f otherwise b h = inr h
 there_back (Some a) f otherwise b h = inl (a, refl, h)
 

@@ -1,5 +1,7 @@
 -- What is read as commands is a layout of them.
-use Rattle.std.proofs.Common.{arith, ◌≡◌, ◌∙◌, ◌==◌, ℕ, zero, suc, ◌+◌, ◌≤◌, true, false, not, Bool, List, [], ◌∷◌, ◌++◌, length, map, refl, sym, ap, subst, add-zero, append_assoc, length-append, Some, None}
+use Rattle.std.proofs.Common.{arith, ◌≡◌, ◌∙◌, ◌==◌, ℕ, zero, suc, ◌+◌, ◌≤◌, true, false, not, Bool, List, [], ◌∷◌}
+use Rattle.std.proofs.Common.{◌++◌, length, map, refl, sym, ap, subst, add-zero, append_assoc, length-append, Some}
+use Rattle.std.proofs.Common.{None}
 use Rattle.std.specs.Prelude.{Result, Ok, slice_range, if◌then◌else◌}
 use Rattle.std.specs.List.{list_all}
 use Rattle.std.proofs.lemmas.Bool.Decides.{nat_tests}
@@ -42,8 +44,8 @@ first_of : (c : Result Command What) (others : List (Result Command What)) (cs :
 first_of c others [] h = absurd (cc)
 first_of c others (d ∷ cs) h = record { command = d; behind = cs; all = refl; is = cc; same = cc }
 
-with_first : (c : Result Command What) (others : List (Result Command What)) (cs : List Command) (text : List ℕ) (f : First c others cs) →
-    IsLayout (f.command ∷ f.behind) text → IsLayout cs text
+with_first : (c : Result Command What) (others : List (Result Command What)) (cs : List Command)
+    → (text : List ℕ) (f : First c others cs) → IsLayout (f.command ∷ f.behind) text → IsLayout cs text
 with_first c others cs text f l = subst (λ x. IsLayout x text) (sym f.all) l
 
 none_of : (cs : List Command) → [] ≡ read_well cs → cs ≡ []
@@ -92,11 +94,13 @@ fewer most bs body others l e =
     let size : length bs ≡ length body + suc (length others) = rw (e, length-append body (59 ∷ others)) refl in
     omega arith
 
-from_byte : (most : ℕ) → GoesOn most → (place : Place) (cs : List Command) (text front gap : List ℕ) (b : ℕ) (bs : List ℕ) →
-    suc (length bs) ≤ suc most → AreBlanks gap →
-    text ≡ front ++ (gap ++ (b ∷ bs)) → (t : ToSemicolon place (length front + length gap) (length front + length gap + 1) bs) → EndsPlain (b ∷ t.body) →
-    cut Between (length front + length gap) (b ∷ bs) ≡ cut place (length front + length gap + 1) bs →
-    Goes text (length front + length gap) (b ∷ bs) cs → IsLayout cs (gap ++ (b ∷ bs))
+from_byte : (most : ℕ) → GoesOn most
+    → (place : Place) (cs : List Command) (text front gap : List ℕ) (b : ℕ) (bs : List ℕ)
+    → suc (length bs) ≤ suc most → AreBlanks gap → text ≡ front ++ (gap ++ (b ∷ bs))
+    → (t : ToSemicolon place (length front + length gap) (length front + length gap + 1) bs)
+    → EndsPlain (b ∷ t.body)
+    → cut Between (length front + length gap) (b ∷ bs) ≡ cut place (length front + length gap + 1) bs
+    → Goes text (length front + length gap) (b ∷ bs) cs → IsLayout cs (gap ++ (b ∷ bs))
 from_byte most goes_on place cs text front gap b bs l k e t plain q g =
     let at = length front + length gap in
     let whole : text ≡ front ++ (gap ++ (b ∷ (t.body ++ (59 ∷ t.others)))) = e ∙ ap (λ x. front ++ (gap ++ (b ∷ x))) t.is in
@@ -124,33 +128,36 @@ end_there cs text gap bs at k g =
     let e : [] ≡ read_well cs = rw (end_ends bs at) at g.commands in
     subst (λ x. IsLayout x (gap ++ (69 ∷ bs))) (sym (none_of cs e)) (gap, bs, k, refl)
 
-empty_there : (most : ℕ) → GoesOn most → (cs : List Command) (text front gap bs : List ℕ) → suc (length bs) ≤ suc most → AreBlanks gap →
-    text ≡ front ++ (gap ++ (59 ∷ bs)) → Goes text (length front + length gap) (59 ∷ bs) cs → IsLayout cs (gap ++ (59 ∷ bs))
+empty_there : (most : ℕ) → GoesOn most → (cs : List Command) (text front gap bs : List ℕ)
+    → suc (length bs) ≤ suc most → AreBlanks gap → text ≡ front ++ (gap ++ (59 ∷ bs))
+    → Goes text (length front + length gap) (59 ∷ bs) cs → IsLayout cs (gap ++ (59 ∷ bs))
 empty_there most goes_on cs text front gap bs l k e g =
     command_there most goes_on cs text front gap [] bs (omega arith) k (λ b others d. absurd (cc)) e (rw add-zero refl) g
 
-comment_there : (most : ℕ) → GoesOn most → (cs : List Command) (text front gap bs : List ℕ) → suc (length bs) ≤ suc most → AreBlanks gap →
-    text ≡ front ++ (gap ++ (40 ∷ bs)) → Goes text (length front + length gap) (40 ∷ bs) cs → IsLayout cs (gap ++ (40 ∷ bs))
+comment_there : (most : ℕ) → GoesOn most → (cs : List Command) (text front gap bs : List ℕ)
+    → suc (length bs) ≤ suc most → AreBlanks gap → text ≡ front ++ (gap ++ (40 ∷ bs))
+    → Goes text (length front + length gap) (40 ∷ bs) cs → IsLayout cs (gap ++ (40 ∷ bs))
 comment_there most goes_on cs text front gap bs l k e g =
     let at = length front + length gap in
     let t = comment_cuts bs at 0 (at + 1) g.ending in
     from_byte most goes_on (Comment at 0) cs text front gap 40 bs l k e t (comment_plain t.body) refl g
 
 -- after four tests that fail
-last_of : {A : Type 0} (t s d c : Bool) (v w x y z : A) → t ≡ false → s ≡ false → d ≡ false → c ≡ false →
-    (if t then v else if s then w else if d then x else if c then y else z) ≡ z
+last_of : {A : Type 0} (t s d c : Bool) (v w x y z : A) → t ≡ false → s ≡ false → d ≡ false → c ≡ false
+    → (if t then v else if s then w else if d then x else if c then y else z) ≡ z
 last_of t s d c v w x y z k l m n = rw (k, l, m, n) refl
 
-begins_inside : (b at : ℕ) (bs : List ℕ) → is_blank b ≡ false → (b == 59) ≡ false → (b == 69) ≡ false → (b == 40) ≡ false →
-    cut Between at (b ∷ bs) ≡ cut (Inside at) (at + 1) bs
+begins_inside : (b at : ℕ) (bs : List ℕ) → is_blank b ≡ false → (b == 59) ≡ false → (b == 69) ≡ false
+    → (b == 40) ≡ false → cut Between at (b ∷ bs) ≡ cut (Inside at) (at + 1) bs
 begins_inside b at bs n s d c =
     let f : finished Between at b ≡ None = rw s refl in
     let g : next Between at b ≡ Inside at = last_of (is_blank b) (b == 59) (b == 69) (b == 40) Between Between Ended (Comment at 0) (Inside at) n s d c in
     λ i. with_span (f i) (cut (g i) (at + 1) bs)
 
-plain_there : (most : ℕ) → GoesOn most → (cs : List Command) (text front gap : List ℕ) (b : ℕ) (bs : List ℕ) → suc (length bs) ≤ suc most → AreBlanks gap →
-    is_blank b ≡ false → (b == 59) ≡ false → (b == 69) ≡ false → (b == 40) ≡ false →
-    text ≡ front ++ (gap ++ (b ∷ bs)) → Goes text (length front + length gap) (b ∷ bs) cs → IsLayout cs (gap ++ (b ∷ bs))
+plain_there : (most : ℕ) → GoesOn most → (cs : List Command) (text front gap : List ℕ) (b : ℕ) (bs : List ℕ)
+    → suc (length bs) ≤ suc most → AreBlanks gap → is_blank b ≡ false → (b == 59) ≡ false → (b == 69) ≡ false
+    → (b == 40) ≡ false → text ≡ front ++ (gap ++ (b ∷ bs))
+    → Goes text (length front + length gap) (b ∷ bs) cs → IsLayout cs (gap ++ (b ∷ bs))
 plain_there most goes_on cs text front gap b bs l k n s d c e g =
     let at = length front + length gap in
     let q : cut Between (length front + length gap) (b ∷ bs) ≡ cut (Inside (length front + length gap)) (length front + length gap + 1) bs =
@@ -180,16 +187,17 @@ same_byte : (b c : ℕ) → (b == c) ≡ true → b ≡ c
 same_byte b c e = grind (arith, nat_tests)
 
 -- with a byte that is known
-as_byte : (known b : ℕ) (cs : List Command) (text front gap bs : List ℕ) → b ≡ known → text ≡ front ++ (gap ++ (b ∷ bs)) →
-    Goes text (length front + length gap) (b ∷ bs) cs →
-    (text ≡ front ++ (gap ++ (known ∷ bs)) → Goes text (length front + length gap) (known ∷ bs) cs → IsLayout cs (gap ++ (known ∷ bs)))
+as_byte : (known b : ℕ) (cs : List Command) (text front gap bs : List ℕ) → b ≡ known
+    → text ≡ front ++ (gap ++ (b ∷ bs)) → Goes text (length front + length gap) (b ∷ bs) cs
+    → (text ≡ front ++ (gap ++ (known ∷ bs)) → Goes text (length front + length gap) (known ∷ bs) cs → IsLayout cs (gap ++ (known ∷ bs)))
     → IsLayout cs (gap ++ (b ∷ bs))
 as_byte known b cs text front gap bs s e g f =
     subst (λ x. IsLayout cs (gap ++ (x ∷ bs))) (sym s)
     (f (subst (λ x. text ≡ front ++ (gap ++ (x ∷ bs))) s e) (subst (λ x. Goes text (length front + length gap) (x ∷ bs) cs) s g))
 
-by_byte : (most : ℕ) → GoesOn most → (cs : List Command) (text front gap bs : List ℕ) → length bs ≤ suc most → AreBlanks gap → not_blank bs ≡ true →
-    text ≡ front ++ (gap ++ bs) → Goes text (length front + length gap) bs cs → IsLayout cs (gap ++ bs)
+by_byte : (most : ℕ) → GoesOn most → (cs : List Command) (text front gap bs : List ℕ) → length bs ≤ suc most
+    → AreBlanks gap → not_blank bs ≡ true → text ≡ front ++ (gap ++ bs)
+    → Goes text (length front + length gap) bs cs → IsLayout cs (gap ++ bs)
 by_byte most goes_on cs text front gap [] l k n e g = let h = g.ending in absurd (cc)
 by_byte most goes_on cs text front gap (b ∷ bs) l k n e g =
     let blank : is_blank b ≡ false = not_true (is_blank b) n in

@@ -1,5 +1,6 @@
 -- What is read as a number is written so.
-use Rattle.std.proofs.Common.{arith, ◌≡◌, ◌∙◌, ℕ, suc, ◌+◌, ◌-◌, ◌*◌, ◌/◌, ◌%◌, ◌≤◌, ◌<◌, ◌^◌, Bool, true, false, List, [], ◌∷◌, ◌++◌, refl, sym, subst, ap, append-nil, append_assoc, Option, Some}
+use Rattle.std.proofs.Common.{arith, ◌≡◌, ◌∙◌, ℕ, suc, ◌+◌, ◌-◌, ◌*◌, ◌/◌, ◌%◌, ◌≤◌, ◌<◌, ◌^◌, Bool, true, false, List}
+use Rattle.std.proofs.Common.{[], ◌∷◌, ◌++◌, refl, sym, subst, ap, append-nil, append_assoc, Option, Some}
 use Rattle.std.specs.Prelude.{ℤ, pos, ◌-ℤ◌, unsigned_abs, nat_lt}
 use Rattle.std.specs.List.{list_all}
 use Rattle.std.specs.Fmt.{decimal}
@@ -79,8 +80,8 @@ one_digit d h =
     let high = at_most d h in
     decimal_digit (d - 48) (omega arith) ∙ ap (λ x. x ∷ []) (omega arith)
 
-more_digits : (d : ℕ) (ds : List ℕ) → is_digit d ≡ true → list_all is_digit ds ≡ true → 48 < d → digits_value (d - 48) ds ≤ greatest →
-    d ∷ ds ≡ decimal (digits_value (d - 48) ds)
+more_digits : (d : ℕ) (ds : List ℕ) → is_digit d ≡ true → list_all is_digit ds ≡ true → 48 < d
+    → digits_value (d - 48) ds ≤ greatest → d ∷ ds ≡ decimal (digits_value (d - 48) ds)
 more_digits d ds h a l s = sym (value_after (d - 48) ds (omega arith) a (omega arith) ∙ ap (λ x. x ++ ds) (one_digit d h))
 
 first_value : (d : ℕ) (ds : List ℕ) → is_digit d ≡ true → digits_value 0 (d ∷ ds) ≡ digits_value (d - 48) ds
@@ -89,8 +90,8 @@ first_value d ds h = let e : 10 * 0 + (d - 48) ≡ d - 48 = omega arith in rw (h
 zero_before : (n : ℕ) (ds : List ℕ) → AreDigits n ds → AreDigits n (48 ∷ ds)
 zero_before n ds d = (suc d.0, ap (λ x. 48 ∷ x) d.1)
 
-from_nonzero : (d : ℕ) (ds : List ℕ) → is_digit d ≡ true → list_all is_digit ds ≡ true → 48 < d → digits_value 0 (d ∷ ds) ≤ greatest →
-    AreDigits (digits_value 0 (d ∷ ds)) (d ∷ ds)
+from_nonzero : (d : ℕ) (ds : List ℕ) → is_digit d ≡ true → list_all is_digit ds ≡ true → 48 < d
+    → digits_value 0 (d ∷ ds) ≤ greatest → AreDigits (digits_value 0 (d ∷ ds)) (d ∷ ds)
 from_nonzero d ds h a l s =
     let v = first_value d ds h in
     let t : digits_value (d - 48) ds ≤ greatest = rw v at s in
@@ -103,8 +104,8 @@ is_nonzero : (d : ℕ) → nat_lt 48 d ≡ true → 48 < d
 is_nonzero d t = grind (arith, nat_tests)
 
 -- by the list behind its first digit
-pub are_digits : (d : ℕ) (ds : List ℕ) → is_digit d ≡ true → list_all is_digit ds ≡ true → digits_value 0 (d ∷ ds) ≤ greatest →
-    AreDigits (digits_value 0 (d ∷ ds)) (d ∷ ds)
+pub are_digits : (d : ℕ) (ds : List ℕ) → is_digit d ≡ true → list_all is_digit ds ≡ true
+    → digits_value 0 (d ∷ ds) ≤ greatest → AreDigits (digits_value 0 (d ∷ ds)) (d ∷ ds)
 are_digits d [] h a s = rw (first_value d [] h) (0, sym (one_digit d h))
 are_digits d (e ∷ es) h a s = (elim (nat_lt 48 d) as (λ t. nat_lt 48 d ≡ t → AreDigits (digits_value 0 (d ∷ e ∷ es)) (d ∷ e ∷ es)) [
   | true ↦ λ t. from_nonzero d (e ∷ es) h a (is_nonzero d t) s
@@ -151,8 +152,8 @@ digits_there of b bs z rest s e h =
       found = rw (e, ← value) (rw r at h);
     }
 
-pub digits_read : (of : ℕ → Num) (whole bs : List ℕ) (z : ℤ) (rest : List ℕ) →
-    number_of (digits_at of whole bs).0 (digits_at of whole bs).1 ≡ Some (z, rest) → Digits of bs z rest
+pub digits_read : (of : ℕ → Num) (whole bs : List ℕ) (z : ℤ) (rest : List ℕ)
+    → number_of (digits_at of whole bs).0 (digits_at of whole bs).1 ≡ Some (z, rest) → Digits of bs z rest
 digits_read of whole [] z rest h = absurd (cc)
 digits_read of whole (b ∷ bs) z rest h = (elim (is_digit b) as (λ t. is_digit b ≡ t → Digits of (b ∷ bs) z rest) [
   | true ↦ λ e. digits_there of b bs z rest (split is_digit bs) e (rw e at h)

@@ -86,17 +86,18 @@ abbrev pub PartsBack : {X : Type 0} → (X → List Word) → List ℕ → List 
 PartsBack words text found = list_all is_moderate (flat_map words found.0) ≡ true → AreBlanks found.1 → (v : Word) → is_apart v text ≡ true →
     AreBehind v (flat_map words found.0) text
 
-repeated_step : {X : Type 0} → (read : List ℕ → Option (X × List ℕ)) (words : X → List Word) → PartBack read words → (text : List ℕ) (more : List ℕ →
-    List X × List ℕ) →
-    ((rest : List ℕ) → PartsBack words rest (more rest)) → (o : Option (X × List ℕ)) → read text ≡ o → PartsBack words text (and_repeated o text more)
+repeated_step : {X : Type 0} → (read : List ℕ → Option (X × List ℕ)) (words : X → List Word)
+    → PartBack read words → (text : List ℕ) (more : List ℕ → List X × List ℕ)
+    → ((rest : List ℕ) → PartsBack words rest (more rest)) → (o : Option (X × List ℕ)) → read text ≡ o
+    → PartsBack words text (and_repeated o text more)
 repeated_step read words back text more others None e m b v a = b
 repeated_step read words back text more others (Some q) e m b v a =
     let p = both_moderate (words q.0) (flat_map words (more q.1).0) m in
     let f = back text q e p.0 in
     f.behind v (flat_map words (more q.1).0) a (others q.1 p.1 b f.last f.apart)
 
-pub repeated_back : {X : Type 0} → (read : List ℕ → Option (X × List ℕ)) (words : X → List Word) → PartBack read words → (n : ℕ) (text : List ℕ) →
-    PartsBack words text (repeated read n text)
+pub repeated_back : {X : Type 0} → (read : List ℕ → Option (X × List ℕ)) (words : X → List Word)
+    → PartBack read words → (n : ℕ) (text : List ℕ) → PartsBack words text (repeated read n text)
 repeated_back read words back zero text = λ m b v a. b
 repeated_back read words back (suc n) text =
     repeated_step read words back text (repeated read n) (λ rest. repeated_back read words back n rest) (read text) refl
@@ -107,15 +108,16 @@ pub record DirectionBack (text : List ℕ) (found : Spot × List ℕ) : Type 0 w
   pub short : Bool
   pub behind : (v : Word) → is_apart v text ≡ true → AreBlanks found.1 → AreBehind v (direction_words short found.0) text
 
-pub direction_back : (text : List ℕ) (o : Option (Spot × List ℕ)) → spot_of text ≡ o → list_all is_moderate (spot_words (direction_of o text).0) ≡ true →
-    DirectionBack text (direction_of o text)
+pub direction_back : (text : List ℕ) (o : Option (Spot × List ℕ)) → spot_of text ≡ o
+    → list_all is_moderate (spot_words (direction_of o text).0) ≡ true
+    → DirectionBack text (direction_of o text)
 direction_back text None e m = record { short = true; behind = λ v a b. b }
 direction_back text (Some q) e m =
     let f = spot_back text q.0 q.1 m e in
     record { short = false; behind = λ v a b. f.behind v [] a b }
 
-ratio_back : (text : List ℕ) (q : Scale × List ℕ) → ratio_of text ≡ Some q → list_all is_moderate (scale_words false q.0) ≡ true →
-    Back (scale_words false q.0) text q.1
+ratio_back : (text : List ℕ) (q : Scale × List ℕ) → ratio_of text ≡ Some q
+    → list_all is_moderate (scale_words false q.0) ≡ true → Back (scale_words false q.0) text q.1
 ratio_back text q h =
     let times = bound (unsigned_of text) _ q h in
     let over = bound (unsigned_of times.value.1) _ q times.next in
@@ -131,8 +133,8 @@ pub record ScaleBack (text : List ℕ) (found : Scale × List ℕ) : Type 0 wher
   pub short : Bool
   pub behind : (v : Word) → is_apart v text ≡ true → AreBlanks found.1 → AreBehind v (scale_words short found.0) text
 
-pub scale_back : (text : List ℕ) (o : Option (Scale × List ℕ)) → ratio_of text ≡ o → list_all is_moderate (scale_words false (scale_of o text).0) ≡ true →
-    ScaleBack text (scale_of o text)
+pub scale_back : (text : List ℕ) (o : Option (Scale × List ℕ)) → ratio_of text ≡ o
+    → list_all is_moderate (scale_words false (scale_of o text).0) ≡ true → ScaleBack text (scale_of o text)
 scale_back text None e m = record { short = true; behind = λ v a b. b }
 scale_back text (Some q) e m =
     let f = ratio_back text q e m in

@@ -23,8 +23,8 @@ pub record Stood (w : Word) (text rest : List ℕ) : Type 0 where
   pub is : text ≡ gap ++ (bytes ++ rest)
   pub apart : is_apart w rest ≡ true
 
-pub stood_behind : (v w : Word) (ws : List Word) (text rest : List ℕ) → Stood w text rest → is_apart v text ≡ true →
-    AreBehind w ws rest → AreBehind v (w ∷ ws) text
+pub stood_behind : (v w : Word) (ws : List Word) (text rest : List ℕ) → Stood w text rest
+    → is_apart v text ≡ true → AreBehind w ws rest → AreBehind v (w ∷ ws) text
 stood_behind v w ws text rest s a h = (s.gap, s.bytes, rest, s.between, s.spelled, s.is, a, h)
 
 -- one step of a reader was made
@@ -42,8 +42,10 @@ bound (Some a) f b h = record { value = a; is = refl; next = h }
 is_minus : (b : ℕ) → (b == 45) ≡ true → b ≡ 45
 is_minus b t = grind (arith, nat_tests)
 
-without_minus : (gap bs whole : List ℕ) (z : ℤ) (rest : List ℕ) → is_moderate (Integer z) ≡ true → list_all is_separator gap ≡ true → whole ≡ gap ++ bs →
-    number_of (digits_at of_magnitude whole bs).0 (digits_at of_magnitude whole bs).1 ≡ Some (z, rest) → Stood (Integer z) whole rest
+without_minus : (gap bs whole : List ℕ) (z : ℤ) (rest : List ℕ) → is_moderate (Integer z) ≡ true
+    → list_all is_separator gap ≡ true → whole ≡ gap ++ bs
+    → number_of (digits_at of_magnitude whole bs).0 (digits_at of_magnitude whole bs).1 ≡ Some (z, rest)
+    → Stood (Integer z) whole rest
 without_minus gap bs whole z rest m g e h =
     let d = digits_read of_magnitude whole bs z rest h in
     let s = plain_stands (digits_value 0 (d.first ∷ d.others)) z rest (moderate (unsigned_abs z) m) d.found in
@@ -57,9 +59,10 @@ without_minus gap bs whole z rest m g e h =
       apart = d.apart;
     }
 
-behind_minus : (gap : List ℕ) (b : ℕ) (bs whole : List ℕ) (z : ℤ) (rest : List ℕ) → is_moderate (Integer z) ≡ true → list_all is_separator gap ≡ true →
-    whole ≡ gap ++ (b ∷ bs) → b ≡ 45 →
-    number_of (digits_at of_negated whole bs).0 (digits_at of_negated whole bs).1 ≡ Some (z, rest) → Stood (Integer z) whole rest
+behind_minus : (gap : List ℕ) (b : ℕ) (bs whole : List ℕ) (z : ℤ) (rest : List ℕ)
+    → is_moderate (Integer z) ≡ true → list_all is_separator gap ≡ true → whole ≡ gap ++ (b ∷ bs) → b ≡ 45
+    → number_of (digits_at of_negated whole bs).0 (digits_at of_negated whole bs).1 ≡ Some (z, rest)
+    → Stood (Integer z) whole rest
 behind_minus gap b bs whole z rest m g e b45 h =
     let d = digits_read of_negated whole bs z rest h in
     let s = minus_stands (digits_value 0 (d.first ∷ d.others)) z rest (moderate (unsigned_abs z) m) d.found in
@@ -74,8 +77,10 @@ behind_minus gap b bs whole z rest m g e b45 h =
       apart = d.apart;
     }
 
-signed_digits : (gap bs whole : List ℕ) (z : ℤ) (rest : List ℕ) → is_moderate (Integer z) ≡ true → list_all is_separator gap ≡ true → whole ≡ gap ++ bs →
-    number_of (signed_digits_at whole bs).0 (signed_digits_at whole bs).1 ≡ Some (z, rest) → Stood (Integer z) whole rest
+signed_digits : (gap bs whole : List ℕ) (z : ℤ) (rest : List ℕ) → is_moderate (Integer z) ≡ true
+    → list_all is_separator gap ≡ true → whole ≡ gap ++ bs
+    → number_of (signed_digits_at whole bs).0 (signed_digits_at whole bs).1 ≡ Some (z, rest)
+    → Stood (Integer z) whole rest
 signed_digits gap [] whole z rest m g e h = absurd (cc)
 signed_digits gap (b ∷ bs) whole z rest m g e h = (elim (b == 45) as (λ t. (b == 45) ≡ t → Stood (Integer z) whole rest) [
   | true ↦ λ t. behind_minus gap b bs whole z rest m g e (is_minus b t) (rw t at h)
@@ -89,9 +94,10 @@ signed_stood text z rest m h =
 
 -- a number without a sign
 
-count_digits : (gap bs whole : List ℕ) (z : ℤ) (rest : List ℕ) → is_moderate (Number (unsigned_abs z)) ≡ true → list_all is_separator gap ≡ true →
-    whole ≡ gap ++ bs →
-    number_of (digits_at of_magnitude whole bs).0 (digits_at of_magnitude whole bs).1 ≡ Some (z, rest) → Stood (Number (unsigned_abs z)) whole rest
+count_digits : (gap bs whole : List ℕ) (z : ℤ) (rest : List ℕ) → is_moderate (Number (unsigned_abs z)) ≡ true
+    → list_all is_separator gap ≡ true → whole ≡ gap ++ bs
+    → number_of (digits_at of_magnitude whole bs).0 (digits_at of_magnitude whole bs).1 ≡ Some (z, rest)
+    → Stood (Number (unsigned_abs z)) whole rest
 count_digits gap bs whole z rest m g e h =
     let d = digits_read of_magnitude whole bs z rest h in
     let s = plain_stands (digits_value 0 (d.first ∷ d.others)) z rest (moderate (unsigned_abs z) m) d.found in
@@ -106,8 +112,8 @@ count_digits gap bs whole z rest m g e h =
     }
 
 count_from : (text : List ℕ) (p : ℤ × List ℕ) → is_moderate (Number (unsigned_abs p.0)) ≡ true
-    → number_of (digits_at of_magnitude text (drop_while is_separator text)).0 (digits_at of_magnitude text (drop_while is_separator text)).1 ≡ Some p →
-    Stood (Number (unsigned_abs p.0)) text p.1
+    → number_of (digits_at of_magnitude text (drop_while is_separator text)).0 (digits_at of_magnitude text (drop_while is_separator text)).1 ≡ Some p
+    → Stood (Number (unsigned_abs p.0)) text p.1
 count_from text p m h =
     let s = split is_separator text in
     count_digits s.front s.rest text p.0 p.1 m s.all s.is (rw s.drop at h)
@@ -183,8 +189,8 @@ spot_from text mid rest x y e f m =
     then_back (Integer x ∷ []) (Integer y ∷ []) text mid rest
     (one_back (Integer x) text mid (signed_stood text x mid p.0 e)) (one_back (Integer y) mid rest (signed_stood mid y rest q.0 f))
 
-pub spot_back : (text : List ℕ) (s : Spot) (rest : List ℕ) → list_all is_moderate (spot_words s) ≡ true → spot_of text ≡ Some (s, rest) →
-    Back (spot_words s) text rest
+pub spot_back : (text : List ℕ) (s : Spot) (rest : List ℕ) → list_all is_moderate (spot_words s) ≡ true
+    → spot_of text ≡ Some (s, rest) → Back (spot_words s) text rest
 spot_back text s rest m h =
     let x = bound (signed_of text) _ (s, rest) h in
     let y = bound (signed_of x.value.1) _ (s, rest) x.next in

@@ -93,8 +93,8 @@ boxes_call_nothing chosen layer [] rest at c = c at
 boxes_call_nothing chosen layer (b ∷ boxes) rest at c = let h = boxes_call_nothing chosen layer boxes rest (at + 1) c in
     record { number = h.number; sites = h.sites }
 
-mask_calls_nothing : (chosen name : List ℕ) (layer : Option Bool) (boxes : List Corners) (rest : List Line) (at : ℕ)
-    → ((b : Bool) (n : ℕ) → CallsOnce chosen (inside (Some b)) n rest)
+mask_calls_nothing : (chosen name : List ℕ) (layer : Option Bool) (boxes : List Corners) (rest : List Line)
+    → (at : ℕ) → ((b : Bool) (n : ℕ) → CallsOnce chosen (inside (Some b)) n rest)
     → CallsOnce chosen (inside layer) at (lines_of_mask name boxes ++ rest)
 mask_calls_nothing chosen name layer boxes rest at c =
     let h = boxes_call_nothing chosen (bytes_eq name chosen) boxes rest (at + 1) (c (bytes_eq name chosen)) in

@@ -43,8 +43,9 @@ bounded_transformation MirrorX m = refl
 bounded_transformation MirrorY m = refl
 bounded_transformation (Rotate to) m = bounded_spot to m
 
-bounded_transformations : (ts : List Transformation) → list_all is_moderate (flat_map transformation_words ts) ≡ true →
-    list_all is_transformation_in_bounds ts ≡ true
+bounded_transformations : (ts : List Transformation)
+    → list_all is_moderate (flat_map transformation_words ts) ≡ true
+    → list_all is_transformation_in_bounds ts ≡ true
 bounded_transformations [] m = refl
 bounded_transformations (t ∷ ts) m =
     let p = both_moderate (transformation_words t) (flat_map transformation_words ts) m in
@@ -151,8 +152,9 @@ plain_box short b m =
     (let c : list_all is_plain_word (spot_words b.centre) ≡ true = r.0 in
     let d = shorter_direction (list_all is_plain_word) short b.direction refl r.1 in rw (c, d) refl)
 
-pub plain_start : (short : Bool) (n : ℕ) (scale : Scale) → list_all is_moderate (words_of false (Start n scale)) ≡ true →
-    list_all is_plain_word (words_of short (Start n scale)) ≡ true
+pub plain_start : (short : Bool) (n : ℕ) (scale : Scale)
+    → list_all is_moderate (words_of false (Start n scale)) ≡ true
+    → list_all is_plain_word (words_of short (Start n scale)) ≡ true
 plain_start short n scale m =
     let p = and_parts (is_moderate (Number n)) (list_all is_moderate (scale_words false scale)) m in
     rw (p.0) (shorter_scale (list_all is_plain_word) short scale refl p.1)

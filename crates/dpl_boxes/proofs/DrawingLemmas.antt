@@ -95,16 +95,16 @@ outline-still b r = rw (min_is b.x1 b.x2 r.columns.some, min_is b.y1 b.y2 r.rows
 abbrev pub boxes_where : Bool → List Corners → List Outline
 boxes_where t boxes = if t then map outlines.Box boxes else []
 
-outlines_of_boxes : (bodies : Bodies) (inner : (Corner → Corner) → List Part → List Figure) (boxes : List Corners)
-    → All IsRectangle boxes
+outlines_of_boxes : (bodies : Bodies) (inner : (Corner → Corner) → List Part → List Figure)
+    → (boxes : List Corners) → All IsRectangle boxes
     → map cif.drawn (flat_map (part_figures bodies inner still) (map box_part boxes)) ≡ map outlines.Box boxes
 outlines_of_boxes bodies inner [] h = refl
 outlines_of_boxes bodies inner (b ∷ boxes) h =
     ap (λ o. o ∷ map cif.drawn (flat_map (part_figures bodies inner still) (map box_part boxes))) (outline-still b (All-head IsRectangle b boxes h))
     ∙ ap (λ os. outlines.Box b ∷ os) (outlines_of_boxes bodies inner boxes (All-tail IsRectangle b boxes h))
 
-outlines_where : (bodies : Bodies) (inner : (Corner → Corner) → List Part → List Figure) (t : Bool) (boxes : List Corners)
-    → All IsRectangle boxes
+outlines_where : (bodies : Bodies) (inner : (Corner → Corner) → List Part → List Figure) (t : Bool)
+    → (boxes : List Corners) → All IsRectangle boxes
     → map cif.drawn (flat_map (part_figures bodies inner still) (where_true t (map box_part boxes))) ≡ boxes_where t boxes
 outlines_where bodies inner true boxes h = outlines_of_boxes bodies inner boxes h
 outlines_where bodies inner false boxes h = refl

@@ -42,8 +42,8 @@ one_cut front gap bytes others c b r =
     rw (length-longer front gap bytes) (blanks_are_skipped gap (bytes ++ (59 ∷ others)) (length front) b
     ∙ r.cut_out others (length front + length gap))
 
-pub command_stands : (front gap bytes others : List ℕ) → slice_range (front ++ (gap ++ (bytes ++ (59 ∷ others))))
-    (length front + length gap) (length front + length gap + length bytes) ≡ bytes
+pub command_stands : (front gap bytes others : List ℕ)
+    → slice_range (front ++ (gap ++ (bytes ++ (59 ∷ others)))) (length front + length gap) (length front + length gap + length bytes) ≡ bytes
 command_stands front gap bytes others =
     let split : front ++ (gap ++ (bytes ++ (59 ∷ others))) ≡ (front ++ gap) ++ (bytes ++ (59 ∷ others)) = simp append_assoc in
     let size : length front + length gap ≡ length (front ++ gap) = rw length-append refl in

@@ -8,7 +8,8 @@ use Rattle.dpl_rules.specs.declared.command.Command.{Command}
 use Rattle.dpl_rules.specs.declared.command.Command.TheVariants.{Idle, Polygon, Box, Wire, Flash, Layer, Start, Finish, Delete, Call}
 use Rattle.dpl_boxes.proofs.NumberLemmas.{negated}
 use Rattle.dpl_boxes.specs.Written as written
-use Rattle.dpl_boxes.specs.Written.{Word, words_of, IsSigned, IsSpelled, AreBlanks, IsGap, is_apart, AreBehind, AreWords, HasForm, can_be_written, IsLayout, plain_word, spaced, plain_layout}
+use Rattle.dpl_boxes.specs.Written.{Word, words_of, IsSigned, IsSpelled, AreBlanks, IsGap, is_apart, AreBehind}
+use Rattle.dpl_boxes.specs.Written.{AreWords, HasForm, can_be_written, IsLayout, plain_word, spaced, plain_layout}
 use Rattle.dpl_boxes.specs.Written.Word.{Letters, Number, Integer}
 use Rattle.dpl_boxes.specs.Written.IsSigned.{plain, minus}
 use Rattle.dpl_boxes.specs.Written.IsIdle.{empty}
