@@ -5,20 +5,22 @@ ghost use Rattle.dpl_rules.specs.Readers.{Reads};
 ghost use Rattle.dpl_report.specs.Plain.{plain_zone};
 ghost use Rattle.dpl_report.specs.Reading as reading;
 
+use crate::comparing::is_cycle_line;
 use crate::guesses::{aside_of, box_of, broken_of, count_from, cycle_of, zone_of};
-use crate::numbers::numbers_in;
+use crate::numbers::{LineNumbers, first_numbers};
 use dpl_boxes::push_box;
 use dpl_cell::Rect;
-use dpl_report::writing::{push_aside, push_clash, push_count, push_cut, push_cycle};
+use dpl_report::writing::{push_aside, push_clash, push_count, push_cut};
 use dpl_report::{Broken, Zone};
 use dpl_sign::Cycle;
 use std::alloc::{AllocError as NoMemory, Global};
 
 /// The number in a line of this word, `None` where the line is none. Its error is want of memory.
+#[tactic(auto, using(crate::proofs::FewLemmas::count_of_few))]
 pub fn count_in(alloc: Global, word: &[u8], line: &[u8]) -> Result<Option<u64>, NoMemory>
     ensures { IfOk result (λ o. o ≡ reading.item_count word.now line.now) }
 {
-    let numbers = numbers_in(alloc, line)?;
+    let numbers = first_numbers(alloc, line)?;
     let Some(number) = count_from(&numbers) else {
         return Ok(None);
     };
@@ -33,10 +35,11 @@ pub fn count_in(alloc: Global, word: &[u8], line: &[u8]) -> Result<Option<u64>, 
 
 /// The broken stitch of a cut line and its zone, in grid units, `None` where the line is none or
 /// its edge is below `least`. Its error is want of memory.
+#[tactic(auto, using(crate::proofs::FewLemmas::zone_of_few))]
 pub fn cut_in(alloc: Global, least: u64, line: &[u8]) -> Result<Option<Zone>, NoMemory>
     ensures { IfOk result (λ o. Reads plain_zone o (reading.item_cut least line.now)) }
 {
-    let numbers = numbers_in(alloc, line)?;
+    let numbers = first_numbers(alloc, line)?;
     let Some(zone) = zone_of(&numbers) else {
         return Ok(None);
     };
@@ -54,10 +57,11 @@ pub fn cut_in(alloc: Global, least: u64, line: &[u8]) -> Result<Option<Zone>, No
 
 /// The broken clash of a clash line, `None` where the line is none or its edge is below `least`.
 /// Its error is want of memory.
+#[tactic(auto, using(crate::proofs::FewLemmas::broken_of_few))]
 pub fn clash_in(alloc: Global, least: u64, line: &[u8]) -> Result<Option<Broken>, NoMemory>
     ensures { IfOk result (λ o. o ≡ reading.item_clash least line.now) }
 {
-    let numbers = numbers_in(alloc, line)?;
+    let numbers = first_numbers(alloc, line)?;
     let Some(broken) = broken_of(&numbers) else {
         return Ok(None);
     };
@@ -75,10 +79,11 @@ pub fn clash_in(alloc: Global, least: u64, line: &[u8]) -> Result<Option<Broken>
 
 /// The edge of an aside line, `None` where the line is none or its edge is below `least`. Its error
 /// is want of memory.
+#[tactic(auto, using(crate::proofs::FewLemmas::aside_of_few))]
 pub fn aside_in(alloc: Global, least: u64, line: &[u8]) -> Result<Option<u32>, NoMemory>
     ensures { IfOk result (λ o. o ≡ reading.item_aside least line.now) }
 {
-    let numbers = numbers_in(alloc, line)?;
+    let numbers = first_numbers(alloc, line)?;
     let Some(edge) = aside_of(&numbers) else {
         return Ok(None);
     };
@@ -99,13 +104,11 @@ pub fn aside_in(alloc: Global, least: u64, line: &[u8]) -> Result<Option<u32>, N
 pub fn cycle_in(alloc: Global, line: &[u8]) -> Result<Option<Cycle>, NoMemory>
     ensures { IfOk result (λ o. o ≡ reading.item_cycle line.now) }
 {
-    let numbers = numbers_in(alloc, line)?;
-    let Some(cycle) = cycle_of(alloc, &numbers)? else {
+    let mut numbers = LineNumbers::new(line);
+    let Some(cycle) = cycle_of(alloc, &mut numbers)? else {
         return Ok(None);
     };
-    let mut again = Vec::new(alloc);
-    push_cycle(&mut again, &cycle)?;
-    Ok(if again.as_slice() == line {
+    Ok(if is_cycle_line(&cycle, line) {
         Some(cycle)
     } else {
         None
@@ -114,10 +117,11 @@ pub fn cycle_in(alloc: Global, line: &[u8]) -> Result<Option<Cycle>, NoMemory>
 
 /// The rectangle of a box line, in grid units, `None` where the line is none. Its error is want of
 /// memory.
+#[tactic(auto, using(crate::proofs::FewLemmas::box_of_few))]
 pub fn box_in(alloc: Global, line: &[u8]) -> Result<Option<Rect>, NoMemory>
     ensures { IfOk result (λ o. Reads corners_of o (reading.item_box line.now)) }
 {
-    let numbers = numbers_in(alloc, line)?;
+    let numbers = first_numbers(alloc, line)?;
     let Some(rect) = box_of(&numbers) else {
         return Ok(None);
     };

@@ -5,6 +5,7 @@
 
 mod blocks;
 mod bodies;
+mod comparing;
 mod guesses;
 mod heads;
 mod items;
