@@ -19,6 +19,7 @@ use Rattle.dpl_boxes.specs.Written.{AreBlanks}
 use Rattle.dpl_boxes.specs.Written.IsIdle.{empty, comment, extension}
 use Rattle.dpl_boxes.proofs.BackNumbers.{from_some}
 use Rattle.dpl_boxes.proofs.BackForms.{Formed, Forms, ended, polygon_back, box_back, wire_back, flash_back, layer_back, definition_back, call_back}
+use Rattle.dpl_calls.proofs.Cases.{of_eq}
 
 -- comments
 
@@ -67,9 +68,6 @@ tested false x y a h = inr (refl, h)
 neither : (b : ℕ) → (b == 40) ≡ false → (b == 41) ≡ false → not (b == 40 || b == 41) ≡ true
 neither b e f = rw (e, f) refl
 
-is_byte : (b c : ℕ) → (b == c) ≡ true → b ≡ c
-is_byte b c e = grind (arith, nat_tests)
-
 comment_closes : (bytes : List ℕ) (depth : ℕ) (c : Command) → comment_of depth bytes ≡ Some c → Closes depth bytes
 comment_closes [] depth c h = absurd (cc)
 comment_closes (b ∷ bytes) depth c h =
@@ -77,9 +75,9 @@ comment_closes (b ∷ bytes) depth c h =
       | inl s ↦
           let k = comment_closes bytes (depth + 1) c s.1 in
           let m : Closes (suc depth) bytes = rw add-one at k in
-          subst (λ x. Closes depth (x ∷ bytes)) (sym (is_byte b 40 s.0)) (closes_pair depth bytes m)
+          subst (λ x. Closes depth (x ∷ bytes)) (sym (of_eq b 40 s.0)) (closes_pair depth bytes m)
       | inr s ↦ elim (tested (b == 41) _ _ c s.1) as (λ r. Closes depth (b ∷ bytes)) [
-        | inl r ↦ subst (λ x. Closes depth (x ∷ bytes)) (sym (is_byte b 41 r.0)) (closes_here depth bytes c (λ d e. comment_closes bytes d c e) r.1)
+        | inl r ↦ subst (λ x. Closes depth (x ∷ bytes)) (sym (of_eq b 41 r.0)) (closes_here depth bytes c (λ d e. comment_closes bytes d c e) r.1)
         | inr r ↦ closes_byte depth b bytes (neither b s.0 r.0) (comment_closes bytes depth c r.1)
       ]
     ]
@@ -116,7 +114,7 @@ none_is_none c h = absurd (cc)
 
 -- what begins with this letter
 at_letter : (letter b : ℕ) (bytes : List ℕ) (c : Command) → (b == letter) ≡ true → Forms (letter ∷ bytes) c → Forms (b ∷ bytes) c
-at_letter letter b bytes c e f = subst (λ x. Forms (x ∷ bytes) c) (sym (is_byte b letter e)) f
+at_letter letter b bytes c e f = subst (λ x. Forms (x ∷ bytes) c) (sym (of_eq b letter e)) f
 
 letters_back : (b : ℕ) (bytes : List ℕ) (c : Command) → (
     if b == 80 then polygon_of bytes

@@ -20,6 +20,7 @@ use Rattle.dpl_boxes.specs.Written as written
 use Rattle.dpl_boxes.specs.Written.{AreBlanks, can_be_written, HasForm, IsLayout}
 use Rattle.dpl_boxes.proofs.LayoutLemmas.{longer, at_longer, command_stands, layouts_go}
 use Rattle.dpl_boxes.proofs.BackNumbers.{split}
+use Rattle.dpl_calls.proofs.Cases.{of_eq}
 use Rattle.dpl_boxes.proofs.BackCommands.{command_back}
 use Rattle.dpl_boxes.proofs.BackCuts.{ToSemicolon, inside_cuts, comment_cuts}
 
@@ -183,9 +184,6 @@ not_true : (t : Bool) → not t ≡ true → t ≡ false
 not_true true h = absurd (cc)
 not_true false h = refl
 
-same_byte : (b c : ℕ) → (b == c) ≡ true → b ≡ c
-same_byte b c e = grind (arith, nat_tests)
-
 -- with a byte that is known
 as_byte : (known b : ℕ) (cs : List Command) (text front gap bs : List ℕ) → b ≡ known
     → text ≡ front ++ (gap ++ (b ∷ bs)) → Goes text (length front + length gap) (b ∷ bs) cs
@@ -202,11 +200,11 @@ by_byte most goes_on cs text front gap [] l k n e g = let h = g.ending in absurd
 by_byte most goes_on cs text front gap (b ∷ bs) l k n e g =
     let blank : is_blank b ≡ false = not_true (is_blank b) n in
     (elim (b == 59) as (λ t. (b == 59) ≡ t → IsLayout cs (gap ++ (b ∷ bs))) [
-      | true ↦ λ s. as_byte 59 b cs text front gap bs (same_byte b 59 s) e g (empty_there most goes_on cs text front gap bs l k)
+      | true ↦ λ s. as_byte 59 b cs text front gap bs (of_eq b 59 s) e g (empty_there most goes_on cs text front gap bs l k)
       | false ↦ λ s. (elim (b == 69) as (λ t. (b == 69) ≡ t → IsLayout cs (gap ++ (b ∷ bs))) [
-        | true ↦ λ d. as_byte 69 b cs text front gap bs (same_byte b 69 d) e g (λ e g. end_there cs text gap bs (length front + length gap) k g)
+        | true ↦ λ d. as_byte 69 b cs text front gap bs (of_eq b 69 d) e g (λ e g. end_there cs text gap bs (length front + length gap) k g)
         | false ↦ λ d. (elim (b == 40) as (λ t. (b == 40) ≡ t → IsLayout cs (gap ++ (b ∷ bs))) [
-          | true ↦ λ c. as_byte 40 b cs text front gap bs (same_byte b 40 c) e g (comment_there most goes_on cs text front gap bs l k)
+          | true ↦ λ c. as_byte 40 b cs text front gap bs (of_eq b 40 c) e g (comment_there most goes_on cs text front gap bs l k)
           | false ↦ λ c. plain_there most goes_on cs text front gap b bs l k blank s d c e g
         ]) refl
       ]) refl

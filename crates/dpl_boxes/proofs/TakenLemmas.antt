@@ -11,11 +11,8 @@ use Rattle.dpl_calls.specs.Loops.{or_fault}
 use Rattle.dpl_cif.specs.Reading.{forms_of, ending_of}
 use Rattle.dpl_boxes.specs.Written as written
 use Rattle.dpl_boxes.specs.Written.{IsLayout}
+use Rattle.dpl_cif.proofs.InOrder.{first_none}
 use Rattle.dpl_boxes.proofs.BackLayouts.{layouts_are_read}
-
-first_none : (a b : Option Fault) → or_fault a b ≡ None → a ≡ None
-first_none None b h = refl
-first_none (Some f) b h = absurd (cc)
 
 others_none : (a b : Option Fault) → or_fault a b ≡ None → b ≡ None
 others_none None b h = h

@@ -1,5 +1,6 @@
 -- A text with a front, compared with another.
-use Rattle.std.proofs.Common.{◌≡◌, ◌≢◌, ℕ, ◌+◌, ◌<◌, Bool, true, false, List, [], ◌∷◌, ◌++◌, length, map, drop, get_or, refl, sym, ap, ◌∙◌, pos, codes, add-one, drop-cons}
+use Rattle.std.proofs.Common.{◌≡◌, ◌≢◌, ℕ, ◌+◌, ◌<◌, Bool, true, false, List, [], ◌∷◌, ◌++◌, length, map, drop, get_or}
+use Rattle.std.proofs.Common.{refl, sym, ap, ◌∙◌, pos, codes, add-one, drop-cons}
 use Rattle.std.specs.Str.{bytes_eq}
 use Rattle.std.proofs.lemmas.Slice.Eq.{bytes_eq-Decides}
 use Rattle.std.proofs.lemmas.Bool.{eq-eqb}
@@ -28,21 +29,21 @@ pub piece_differs : (front rest text : List ℕ) (all : Bool) → bytes_eq (fron
 piece_differs front rest text all e differs = sym (other_front front rest text differs) ∙ e
 
 -- the edges from a place on begin with the one that stands there
-edges_from : (edges end : List ℕ) (i n : ℕ) → i < length edges → n ≡ get_or edges i 0 →
-    numbered (map pos (drop i edges)) end ≡ spaced (pos n) ++ numbered (map pos (drop (i + 1) edges)) end
+edges_from : (edges end : List ℕ) (i n : ℕ) → i < length edges → n ≡ get_or edges i 0
+    → numbered (map pos (drop i edges)) end ≡ spaced (pos n) ++ numbered (map pos (drop (i + 1) edges)) end
 edges_from edges end i n l e = rw (e, add-one, drop-cons edges i 0) refl
 
 -- one edge more
-pub edge_is_same : (edges end text left : List ℕ) (i n : ℕ) (all : Bool) → i < length edges → n ≡ get_or edges i 0 →
-    bytes_eq (numbered (map pos (drop i edges)) end) text ≡ all → text ≡ spaced (pos n) ++ left →
-    bytes_eq (numbered (map pos (drop (i + 1) edges)) end) left ≡ all
+pub edge_is_same : (edges end text left : List ℕ) (i n : ℕ) (all : Bool) → i < length edges
+    → n ≡ get_or edges i 0 → bytes_eq (numbered (map pos (drop i edges)) end) text ≡ all
+    → text ≡ spaced (pos n) ++ left → bytes_eq (numbered (map pos (drop (i + 1) edges)) end) left ≡ all
 edge_is_same edges end text left i n all l e h same =
     piece_is_same (spaced (pos n)) (numbered (map pos (drop (i + 1) edges)) end) text left all
     (sym (ap (λ t. bytes_eq t text) (edges_from edges end i n l e)) ∙ h) same
 
-pub edge_differs : (edges end text : List ℕ) (i n : ℕ) (all : Bool) → i < length edges → n ≡ get_or edges i 0 →
-    bytes_eq (numbered (map pos (drop i edges)) end) text ≡ all → ((others : List ℕ) → text ≢ spaced (pos n) ++ others) →
-    false ≡ all
+pub edge_differs : (edges end text : List ℕ) (i n : ℕ) (all : Bool) → i < length edges → n ≡ get_or edges i 0
+    → bytes_eq (numbered (map pos (drop i edges)) end) text ≡ all
+    → ((others : List ℕ) → text ≢ spaced (pos n) ++ others) → false ≡ all
 edge_differs edges end text i n all l e h differs =
     piece_differs (spaced (pos n)) (numbered (map pos (drop (i + 1) edges)) end) text all
     (sym (ap (λ t. bytes_eq t text) (edges_from edges end i n l e)) ∙ h) differs
