@@ -146,6 +146,19 @@ def layouts():
     yield "100,001 tiles", run.layout(tiles), 4, "limit 5 count 100001"
 
 
+def write_long_cycle(path, most):
+    """Writes the report with a cycle line that fills it up to this size in bytes or one less; how many edges it has."""
+    front = ("\n".join(REPORT[:16]) + "\n(cycle 1 0").encode()
+    end = (");\n" + "\n".join(REPORT[17:])).encode()
+    edges = (most - len(front) - len(end)) // 2
+    with open(path, "wb") as file:
+        file.write(front)
+        for _ in range(edges >> 19):
+            file.write(b" 0" * (1 << 19))
+        file.write(b" 0" * (edges % (1 << 19)) + end)
+    return edges
+
+
 def timed(binary, words, text):
     """A run with its processor time and its peak memory in megabytes."""
     before = resource.getrusage(resource.RUSAGE_CHILDREN)
@@ -192,6 +205,10 @@ def main():
                 file.truncate(spaces)
             ended, seconds, memory = timed(binary, check, b"E")
             told("a report of %d spaces" % spaces, ended, seconds, memory, (ended.returncode, ended.stderr) == (status, b"dpl: " + line + b"\n"))
+        edges = write_long_cycle(report, 268_435_456)
+        ended, seconds, memory = timed(binary, check, TRIANGLE)
+        line = b"dpl: rejected 7 place 0 found %d wanted 0\n" % (edges + 1)
+        told("a cycle line of %d edges" % edges, ended, seconds, memory, (ended.returncode, ended.stderr) == (1, line))
     print("%d wrong" % wrong)
     return 1 if wrong else 0
 
