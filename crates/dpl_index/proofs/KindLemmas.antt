@@ -1,35 +1,6 @@
 -- The kinds of items at their stops, and the walk over the stops for those that are asked for.
-use Rattle.std.proofs.Common.{
-  arith,
-  ◌≡◌,
-  ◌≢◌,
-  ◌⊎◌,
-  ℕ,
-  ◌+◌,
-  ◌<◌,
-  ◌≤◌,
-  List,
-  length,
-  get_or,
-  set,
-  length-set,
-  ◌∙◌,
-  All,
-  Contains,
-  refl,
-  sym,
-  ap,
-  subst,
-  inl,
-  inr,
-  ◌∷◌,
-  [],
-  ◌++◌,
-  Some,
-  get_or-set_other,
-  get_or-set_same,
-}
-use Rattle.std.proofs.lemmas.Bool.{cases_lt, cases_eq}
+use Rattle.std.proofs.Common.{arith, ◌≡◌, ◌⊎◌, ℕ, ◌+◌, ◌<◌, ◌≤◌, List, length, get_or, set, ◌∙◌, All, Contains, refl, sym, ap, subst, inl, inr, ◌∷◌, [], ◌++◌, Some}
+use Rattle.std.proofs.lemmas.Bool.{cases_lt}
 use Rattle.std.proofs.lemmas.List.{get_or_append_left, get_or_push, length_push}
 use Rattle.std.proofs.lemmas.List.Elements.{All-push, Contains-push, Contains-append_left}
 use Rattle.std.proofs.lemmas.Option.{same_Some}
@@ -40,7 +11,7 @@ use Rattle.dpl_index.specs.Holds.{Holds}
 use Rattle.dpl_index.specs.Kinds.{Kinded, kind_of, HasKinds, IsAsked, HasAsked, AddsAsked}
 use Rattle.dpl_index.specs.Meetings.{Meets}
 use Rattle.dpl_index.specs.Stops.{IsIndex}
-use Rattle.dpl_index.proofs.StopLemmas.{Absorbs}
+use Rattle.dpl_index.proofs.StopLemmas.{Absorbs, absorbs_number, absorbs_within, set_at, set_shorter}
 use Rattle.dpl_index.proofs.MeetingLemmas.{meets_outer}
 use Rattle.dpl_list.proofs.Lists.{some_of}
 
@@ -81,23 +52,13 @@ pub kinds_absorbed : (kinds : List ℕ) (stops : List Stop) (k : ℕ) (stop next
     → ((kind : ℕ) → new.kind ≡ Some kind → next.kind ≡ Some kind) → HasKinds kinds stops
     → HasKinds kinds (set stops k new)
 kinds_absorbed kinds stops k stop next new a first second s = record {
-  one = λ j m d kind l low high e. rw (same_number m d) (one j m d kind (shorter j l) low high e);
+  one = λ j m d kind l low high e. rw (number m d) (one j m d kind (set_shorter stops k new j l) low high e);
 } where
   within : k < length stops
-  within = let m = a.more in omega arith
+  within = absorbs_within stops k stop next new a
 
-  shorter : (m : ℕ) → m < length (set stops k new) → m < length stops
-  shorter m l = let e = length-set stops k new in omega arith
-
-  at : (m : ℕ) (d : Stop) (P : Stop → Type 0) → (m ≡ k → P new) → (m ≢ k → P (get_or stops m d)) → P (get_or (set stops k new) m d)
-  at m d P f g = elim (cases_eq m k) [
-    | inl e ↦ let Q : ℕ → Type 0 = λ j. P (get_or (set stops k new) j d) in subst Q (sym e) (subst P (sym (get_or-set_same stops k new d within)) (f e))
-    | inr n ↦ subst P (sym (get_or-set_other stops k m new d n)) (g n)
-  ]
-
-  same_number : (m : ℕ) (d : Stop) → (get_or (set stops k new) m d).number ≡ (get_or stops m d).number
-  same_number m d = at m d (λ t. t.number ≡ (get_or stops m d).number)
-      (λ e. a.number ∙ ap (λ (t : Stop). t.number) (sym (a.stop_is d) ∙ ap (λ j. get_or stops j d) (sym e))) (λ n. refl)
+  number : (m : ℕ) (d : Stop) → (get_or (set stops k new) m d).number ≡ (get_or stops m d).number
+  number = absorbs_number stops k stop next new a
 
   here : (m : ℕ) (d : Stop) (kind : ℕ) → k ≤ m → m ≤ k + new.rest → new.kind ≡ Some kind → kind_of kinds (get_or stops m d).number ≡ kind
   here m d kind low high e = let r = a.rest in elim (cases_lt m (k + stop.rest + 1)) [
@@ -109,7 +70,7 @@ kinds_absorbed kinds stops k stop next new a first second s = record {
 
   one : (j m : ℕ) (d : Stop) (kind : ℕ) → j < length stops → j ≤ m → m ≤ j + (get_or (set stops k new) j d).rest →
       (get_or (set stops k new) j d).kind ≡ Some kind → kind_of kinds (get_or stops m d).number ≡ kind
-  one j m d kind l low = at j d (λ t. m ≤ j + t.rest → t.kind ≡ Some kind → kind_of kinds (get_or stops m d).number ≡ kind)
+  one j m d kind l low = set_at stops k new within j d (λ t. m ≤ j + t.rest → t.kind ≡ Some kind → kind_of kinds (get_or stops m d).number ≡ kind)
       (λ e high f. here m d kind (omega arith) (omega arith) f) (λ n high f. s.one j m d kind l low high f)
 
 -- ---- the walk

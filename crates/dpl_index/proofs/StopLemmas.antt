@@ -130,39 +130,51 @@ absorbed stops k new within more number rest first second = record {
   second = second;
 }
 
+-- what holds of the new stop in its place, and of the others in theirs, holds of each
+pub set_at : (stops : List Stop) (k : ℕ) (new : Stop) → k < length stops → (m : ℕ) (d : Stop) (P : Stop → Type 0)
+    → (m ≡ k → P new) → (m ≢ k → P (get_or stops m d)) → P (get_or (set stops k new) m d)
+set_at stops k new within m d P f g = elim (cases_eq m k) [
+  | inl e ↦ let Q : ℕ → Type 0 = λ j. P (get_or (set stops k new) j d) in subst Q (sym e) (subst P (sym (get_or-set_same stops k new d within)) (f e))
+  | inr n ↦ subst P (sym (get_or-set_other stops k m new d n)) (g n)
+]
+
+pub set_shorter : (stops : List Stop) (k : ℕ) (new : Stop) (m : ℕ) → m < length (set stops k new) → m < length stops
+set_shorter stops k new m l = let e = length-set stops k new in omega arith
+
+-- the place of a stop that takes in the next
+pub absorbs_within : (stops : List Stop) (k : ℕ) (stop next new : Stop) → Absorbs stops k stop next new → k < length stops
+absorbs_within stops k stop next new a = let m = a.more in omega arith
+
+-- it keeps its number, as the others do
+pub absorbs_number : (stops : List Stop) (k : ℕ) (stop next new : Stop) → Absorbs stops k stop next new → (m : ℕ) (d : Stop)
+    → (get_or (set stops k new) m d).number ≡ (get_or stops m d).number
+absorbs_number stops k stop next new a m d =
+    set_at stops k new (absorbs_within stops k stop next new a) m d (λ t. t.number ≡ (get_or stops m d).number)
+    (λ e. a.number ∙ ap (λ (t : Stop). t.number) (sym (a.stop_is d) ∙ ap (λ j. get_or stops j d) (sym e))) (λ n. refl)
+
 pub absorb_keeps : (items : List Bounds) (stops : List Stop) (k : ℕ) (stop next new : Stop)
     → Absorbs stops k stop next new → IsIndex items stops → IsIndex items (set stops k new)
 absorb_keeps items stops k stop next new a s = record {
-  inside = λ m d l. rw (same_number m d) (s.inside m d (shorter m l));
-  all = λ i l. let (m, h, e) = s.all i l in (m, rw length-set h, (λ d. same_number m d ∙ e d));
-  short = λ m d l. rw length-set (short m d (shorter m l));
-  covers = λ j m d c l low high. rw (same_number m d) (covers j m d c (shorter j l) low high);
+  inside = λ m d l. rw (number m d) (s.inside m d (set_shorter stops k new m l));
+  all = λ i l. let (m, h, e) = s.all i l in (m, rw length-set h, (λ d. number m d ∙ e d));
+  short = λ m d l. rw length-set (short m d (set_shorter stops k new m l));
+  covers = λ j m d c l low high. rw (number m d) (covers j m d c (set_shorter stops k new j l) low high);
 } where
   within : k < length stops
-  within = let m = a.more in omega arith
+  within = absorbs_within stops k stop next new a
 
-  shorter : (m : ℕ) → m < length (set stops k new) → m < length stops
-  shorter m l = let e = length-set stops k new in omega arith
-
-  at : (m : ℕ) (d : Stop) (P : Stop → Type 0) → (m ≡ k → P new) → (m ≢ k → P (get_or stops m d)) → P (get_or (set stops k new) m d)
-  at m d P f g = elim (cases_eq m k) [
-    | inl e ↦ let Q : ℕ → Type 0 = λ j. P (get_or (set stops k new) j d) in subst Q (sym e) (subst P (sym (get_or-set_same stops k new d within)) (f e))
-    | inr n ↦ subst P (sym (get_or-set_other stops k m new d n)) (g n)
-  ]
-
-  same_number : (m : ℕ) (d : Stop) → (get_or (set stops k new) m d).number ≡ (get_or stops m d).number
-  same_number m d = at m d (λ t. t.number ≡ (get_or stops m d).number)
-      (λ e. a.number ∙ ap (λ (t : Stop). t.number) (sym (a.stop_is d) ∙ ap (λ j. get_or stops j d) (sym e))) (λ n. refl)
+  number : (m : ℕ) (d : Stop) → (get_or (set stops k new) m d).number ≡ (get_or stops m d).number
+  number = absorbs_number stops k stop next new a
 
   next_short : k + stop.rest + 1 + next.rest < length stops
   next_short = let d = next in let h = s.short (k + stop.rest + 1) d a.more in let e = ap (λ (t : Stop). t.rest) (a.next_is d) in omega arith
 
   short : (m : ℕ) (d : Stop) → m < length stops → m + (get_or (set stops k new) m d).rest < length stops
-  short m d l = at m d (λ t. m + t.rest < length stops) (λ e. let r = a.rest in let h = next_short in omega arith) (λ n. s.short m d l)
+  short m d l = set_at stops k new within m d (λ t. m + t.rest < length stops) (λ e. let r = a.rest in let h = next_short in omega arith) (λ n. s.short m d l)
 
   covers : (j m : ℕ) (d : Stop) (c : Bounds) → j < length stops → j ≤ m → m ≤ j + (get_or (set stops k new) j d).rest →
       Holds ((get_or (set stops k new) j d).bounds) (get_or items (get_or stops m d).number c)
-  covers j m d c l low = at j d (λ t. m ≤ j + t.rest → Holds t.bounds (get_or items (get_or stops m d).number c))
+  covers j m d c l low = set_at stops k new within j d (λ t. m ≤ j + t.rest → Holds t.bounds (get_or items (get_or stops m d).number c))
       (λ e high. here j m d c e low high) (λ n high. s.covers j m d c l low high) where
         here : (j m : ℕ) (d : Stop) (c : Bounds) → j ≡ k → j ≤ m → m ≤ j + new.rest → Holds new.bounds (get_or items (get_or stops m d).number c)
         here j m d c e low high = let r = a.rest in elim (cases_lt m (k + stop.rest + 1)) [
