@@ -11,9 +11,8 @@ ghost use Rattle.dpl_core.specs.Reports.{IsTight, CostsLeast};
 
 use dpl_cuts::types::Fragments;
 use dpl_good::{broken_clashes, broken_cuts, masks};
-use dpl_lex::Name;
 use dpl_list::Items;
-use dpl_options::Options;
+use dpl_options::{Options, same_keep, same_name};
 use dpl_report::{Counts, Params, Report};
 use dpl_sign::{Edge, Kind, Net};
 use dpl_solve::Solution;
@@ -69,24 +68,6 @@ fn params_of(options: &Options) -> Params
         conflict: options.weights().conflict(),
         corner,
         keep: same_keep(options.keep()),
-    }
-}
-
-fn same_name(name: &Name) -> Name
-    ensures { result ≡ name.now }
-{
-    match Name::new(name.bytes()) {
-        Some(name) => name,
-        None => unreachable!(),
-    }
-}
-
-fn same_keep(keep: &Option<Name>) -> Option<Name>
-    ensures { result ≡ keep.now }
-{
-    match keep {
-        Some(name) => Some(same_name(name)),
-        None => None,
     }
 }
 

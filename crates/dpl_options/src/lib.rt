@@ -6,5 +6,5 @@
 mod options;
 mod weights;
 
-pub use options::{Options, name_bytes};
+pub use options::{Options, name_bytes, same_keep, same_name};
 pub use weights::Weights;

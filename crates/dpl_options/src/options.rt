@@ -126,3 +126,23 @@ pub fn name_bytes(name: &Option<Name>) -> &[u8]
         None => &[],
     }
 }
+
+/// The same name once more.
+pub fn same_name(name: &Name) -> Name
+    ensures { result ≡ name.now }
+{
+    match Name::new(name.bytes()) {
+        Some(name) => name,
+        None => unreachable!(),
+    }
+}
+
+/// The same layer once more, or none.
+pub fn same_keep(keep: &Option<Name>) -> Option<Name>
+    ensures { result ≡ keep.now }
+{
+    match keep {
+        Some(name) => Some(same_name(name)),
+        None => None,
+    }
+}

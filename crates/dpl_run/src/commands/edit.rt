@@ -11,9 +11,8 @@ use crate::status::Status;
 use dpl_cell::Rect;
 use dpl_edit::{EditError, RemoveError, Session};
 use dpl_layer::read_drawing;
-use dpl_lex::Name;
 use dpl_lex::types::Commands;
-use dpl_options::Options;
+use dpl_options::{Options, same_keep, same_name};
 use dpl_report::print;
 use dpl_words::{Line, ScriptError, script as lines_of};
 use std::alloc::{AllocError, Global};
@@ -54,24 +53,6 @@ fn same_options(options: &Options) -> Options
         *options.weights(),
         same_keep(options.keep()),
     )
-}
-
-fn same_name(name: &Name) -> Name
-    ensures { result ≡ name.now }
-{
-    match Name::new(name.bytes()) {
-        Some(name) => name,
-        None => unreachable!(),
-    }
-}
-
-fn same_keep(keep: &Option<Name>) -> Option<Name>
-    ensures { result ≡ keep.now }
-{
-    match keep {
-        Some(name) => Some(same_name(name)),
-        None => None,
-    }
 }
 
 /// What is due for a session to which nothing was added yet, and the bytes of a script.
