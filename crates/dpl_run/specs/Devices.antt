@@ -1,7 +1,10 @@
 -- What the devices tell of the texts of a command, and what the command does to them.
-use Rattle.std.specs.Prelude.{◌≡◌, ◌⊎◌, ⊤, ℕ, ◌∷◌, ◌++◌, List, [], Bool, true, false, Option, Some, None, Result, Ok, Err}
+use Rattle.std.specs.Prelude.{◌≡◌, ◌⊎◌, ◌+◌, ⊤, ℕ, ◌∷◌, ◌++◌, List, [], Bool, true, false, Option, Some, None, Result, Ok, Err}
 use Rattle.dpl_ext.specs.Device.{Seen, Texts, Rose, RoseBy, first_text}
+use Rattle.dpl_limits.specs.declared.TheConstants.{MOST_LAYOUT_BYTES, MOST_REPORT_BYTES, MOST_SCRIPT_BYTES}
 use Rattle.dpl_words.specs.Commands.{PlainCommand}
+use Rattle.dpl_run.specs.declared.status.Status.{Status}
+use Rattle.dpl_run.specs.declared.status.Status.TheVariants.{Limit, ReadFault}
 use Rattle.dpl_run.specs.Inputs.{Opened, reads_layout, opens}
 
 -- ---- what is told
@@ -74,3 +77,17 @@ IsTouched (Ok c) layout layout_now second second_now =
 abbrev pub AreSteady : Seen → Seen → Seen → Seen → ℕ → ℕ → Type 0
 AreSteady layout layout_now second second_now out out_now =
     (layout_now.faults ≡ layout.faults) × (second_now.faults ≡ second.faults) × (out_now ≡ out)
+
+-- ---- all of it by the status
+
+-- what a command did to the devices that it reads
+pub record Reads (command : Result PlainCommand ℕ) (status : Status)
+    (layout layout_now second second_now : Seen) : Type 0 where
+  pub read : status ≡ ReadFault → IsReadFault command layout layout_now second second_now
+  pub limit : (count : ℕ) → status ≡ Limit 1 count →
+      PassesBytes (MOST_LAYOUT_BYTES + 1) count layout layout_now
+  pub report_limit : (count : ℕ) → status ≡ Limit 9 count →
+      PassesBytes (MOST_REPORT_BYTES + 1) count second second_now
+  pub script_limit : (count : ℕ) → status ≡ Limit 10 count →
+      PassesBytes (MOST_SCRIPT_BYTES + 1) count second second_now
+  pub touched : IsTouched command layout layout_now second second_now

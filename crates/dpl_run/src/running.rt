@@ -8,7 +8,7 @@ ghost use Rattle.dpl_words.specs.Commands.{check, command_of};
 ghost use Rattle.dpl_words.specs.Views.{plain_command};
 ghost use Rattle.dpl_run.specs.Answer.{Answers, IsAnswered, IsDue, IsQuiet, IsStatusOf};
 ghost use Rattle.dpl_run.specs.Consequences.{AskForSplit, WritesBound, WritesLeast};
-ghost use Rattle.dpl_run.specs.Devices.{AreSteady, AreTold, IsReadFault, IsTouched, PassesBytes};
+ghost use Rattle.dpl_run.specs.Devices.{AreSteady, AreTold, IsReadFault, IsTouched, PassesBytes, Reads};
 ghost use Rattle.dpl_run.specs.Lines.{line_of};
 
 use crate::answering::due_for;
@@ -100,18 +100,9 @@ fn attempt<S: Source, F: Shelf, O: Sink>(
         (O.taken out.new) result }
     ensures quiet { IsQuiet (O.taken out.old) (O.taken out.new) result }
     ensures of_words { IsStatusOf (command_of (map string_bytes words.now)) result }
-    ensures read { result ≡ Status.ReadFault →
-        IsReadFault (command_of (map string_bytes words.now)) (S.seen layout.old)
+    ensures reads { Reads (command_of (map string_bytes words.now)) result (S.seen layout.old)
         (S.seen layout.new) (F.seen second.old) (F.seen second.new) }
     ensures write { result ≡ Status.WriteFault → Rose (O.faults out.old) (O.faults out.new) }
-    ensures limit { (count : ℕ) → result ≡ Status.Limit 1 count →
-        PassesBytes (MOST_LAYOUT_BYTES + 1) count (S.seen layout.old) (S.seen layout.new) }
-    ensures report_limit { (count : ℕ) → result ≡ Status.Limit 9 count →
-        PassesBytes (MOST_REPORT_BYTES + 1) count (F.seen second.old) (F.seen second.new) }
-    ensures script_limit { (count : ℕ) → result ≡ Status.Limit 10 count →
-        PassesBytes (MOST_SCRIPT_BYTES + 1) count (F.seen second.old) (F.seen second.new) }
-    ensures touched { IsTouched (command_of (map string_bytes words.now)) (S.seen layout.old)
-        (S.seen layout.new) (F.seen second.old) (F.seen second.new) }
     ensures steady { result ≢ Status.ReadFault → result ≢ Status.WriteFault
         → result ≢ Status.NoMemory → AreSteady (S.seen layout.old) (S.seen layout.new)
         (F.seen second.old) (F.seen second.new) (O.faults out.old) (O.faults out.new) }

@@ -3,8 +3,9 @@ use Rattle.std.specs.Prelude.{string_bytes, Ok}
 use Rattle.dpl_words.specs.Commands.{command_of}
 use Rattle.dpl_words.specs.Views.{plain_command}
 use Rattle.dpl_run.specs.Answer.{Answers, IsDue, IsStatusOf}
+use Rattle.dpl_run.specs.Devices.{Reads}
 use Rattle.dpl_run.specs.declared.status.Status.TheVariants.{Usage}
-use Rattle.dpl_run.proofs.SteadyLemmas.{told_steady}
+use Rattle.dpl_run.proofs.SteadyLemmas.{memory_reads, told_reads, told_steady, usage_reads}
 use Rattle.dpl_run.proofs.ToldLemmas.{attempt_answers, usage_answers, told_quiet, told_write, told_status, usage_status, memory_status}
 use Rattle.dpl_run.proofs.running.attempt.Goals as goal
 
@@ -54,3 +55,27 @@ returns-in-Err-Usage-clause-of_words g c =
 
 pub returns-in-Err-NoMemory-clause-of_words : goal.returns-in-Err-NoMemory-clause-of_words
 returns-in-Err-NoMemory-clause-of_words g c = memory_status (command_of (map string_bytes c.args.words.now))
+
+pub returns-clause-reads : goal.returns-clause-reads
+returns-clause-reads g c =
+    subst (λ z. Reads z c.tell.result (g.S.Source.seen c.args.layout.now) (g.S.Source.seen c.due_for-due.new.layout)
+    (g.F.Source.seen c.args.second.now) (g.F.Source.seen c.due_for-due.new.second)) (sym c.in-Ok.ensures.answer)
+    (told_reads (Ok (plain_command c.in-Ok.command)) c.due_for-due.result.status c.due_for-due.result.output.items
+    (g.O.Sink.taken c.args.out.now) (g.O.Sink.taken c.tell.new.out) (g.O.Sink.faults c.args.out.now)
+    (g.O.Sink.faults c.tell.new.out) c.tell.result _ _ _ _ c.tell.ensures (record {
+      read = c.due_for-due.ensures.read;
+      limit = c.due_for-due.ensures.limit;
+      report_limit = c.due_for-due.ensures.report_limit;
+      script_limit = c.due_for-due.ensures.script_limit;
+      touched = c.due_for-due.ensures.touched;
+    }))
+
+pub returns-in-Err-Usage-clause-reads : goal.returns-in-Err-Usage-clause-reads
+returns-in-Err-Usage-clause-reads g c =
+    usage_reads (command_of (map string_bytes c.args.words.now)) c.in-Err-Usage.kind (g.S.Source.seen c.args.layout.now)
+    (g.F.Source.seen c.args.second.now)
+
+pub returns-in-Err-NoMemory-clause-reads : goal.returns-in-Err-NoMemory-clause-reads
+returns-in-Err-NoMemory-clause-reads g c =
+    memory_reads (command_of (map string_bytes c.args.words.now)) (g.S.Source.seen c.args.layout.now)
+    (g.F.Source.seen c.args.second.now)
