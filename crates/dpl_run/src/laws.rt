@@ -1,6 +1,9 @@
 //! What the words of the contract of `run` mean, said without them: no proof guards a definition but these.
-ghost use Rattle.std.specs.Prelude.{◌≡◌, ◌≢◌, ◌⊎◌, ◌↔◌, ℕ, ℤ, ◌+◌, ◌<◌, ◌≤◌, List, [], ◌∷◌, ◌++◌, Option, Some, Ok, Err};
+ghost use Rattle.std.specs.Prelude.{◌≡◌, ◌≢◌, ◌⊎◌, ◌↔◌, ℕ, ℤ, ◌+◌, ◌<◌, ◌≤◌, true, List, [], ◌∷◌, ◌++◌, Option, Some, Ok, Err};
 ghost use Rattle.dpl_limits.specs.declared.TheConstants.{MOST_LAYOUT_BYTES};
+ghost use Rattle.dpl_cell.specs.Places.{Corners};
+ghost use Rattle.dpl_cell.specs.Layers.{is_within, is_in_box};
+ghost use Rattle.dpl_cell.specs.Cells.{IsWithin, IsIn};
 ghost use Rattle.dpl_ext.specs.Device.{Seen, Texts, last_count};
 ghost use Rattle.dpl_options.specs.Options.{PlainOptions};
 ghost use Rattle.dpl_words.specs.Commands.{PlainCommand, split, check, load, cross, edit, balance};
@@ -9,6 +12,12 @@ ghost use Rattle.dpl_run.specs.Devices.{AreSteady, AreTold, AsksFor, IsReadFault
 ghost use Rattle.dpl_run.specs.due.Edit.{IsEditDue, IsFollowed};
 ghost use Rattle.dpl_run.specs.declared.status.Status.{Status};
 ghost use Rattle.dpl_run.specs.declared.status.Status.TheVariants.{Done, Rejected, Usage, Limit, Script, NoMemory, ReadFault, WriteFault};
+
+/// That a place lies in a stretch, or a cell in a box, is the same as a test and as a fact.
+pub fn cells_are_tested()
+    ensures places { (a b x : ℤ) → is_within a b x ≡ true ↔ IsWithin a b x }
+    ensures cells { (r : Corners) (x y : ℤ) → is_in_box r x y ≡ true ↔ IsIn r x y }
+{}
 
 /// Devices that tell: a layout that is left, and a text that is the first of its name. A made layout needs none.
 pub fn devices_tell()
