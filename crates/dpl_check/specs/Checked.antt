@@ -23,9 +23,8 @@ pub record IsVerdictOfCells (o : PlainOptions) (report : List ℕ) (v : Verdict)
 abbrev pub IsVerdictOf : PlainOptions → List ℕ → List ℕ → Verdict → Type 0
 IsVerdictOf o text report v = OnLayer o text (IsVerdictOfCells o report v)
 
--- What an accepted report of this bound means for the layer with these cells. Each colouring of its net costs at least half
--- of the bound. The masks are those of the layer: together they are the layer, they overlap exactly at the listed
--- stitches, they break the spacing only at the listed clashes, and the text read as CIF draws them.
+-- What an accepted report of this bound means for the layer of these cells: every colouring costs
+-- at least half of the bound, and the masks of the report are those of the layer.
 pub record IsAcceptedOfCells (o : PlainOptions) (text : List ℕ) (bound : ℕ)
     (cells kept : Cells) : Type 0 where
   pub fragments : Fragments

@@ -19,9 +19,8 @@ use Rattle.dpl_layer.specs.Drawings.{Cells, OnLayer}
 use Rattle.dpl_layer.specs.Layers.{IsLayer, IsCutLayer}
 use Rattle.dpl_balance.specs.Balance.{AreBalanced}
 
--- What the report's bound and cost say of all colourings of the net: each costs at least half
--- the bound, none breaks kept edges of a smaller weight, and where the drawing is plane, and so
--- nothing is set aside, none costs less.
+-- Every colouring of the net costs at least half the bound, none breaks kept edges of a smaller
+-- weight, and where the drawing is plane, and so nothing is set aside, none costs less.
 pub record CostsLeast (net : Net) (r : PlainReport) : Type 0 where
   pub half : (colours : List Bool) → IsColouring net.graph colours
       → r.head.bound ≤ 2 * cost_of net.graph colours
@@ -31,9 +30,8 @@ pub record CostsLeast (net : Net) (r : PlainReport) : Type 0 where
   pub all : excess net all_edges ≡ 0 → (colours : List Bool) → IsColouring net.graph colours
       → r.head.cost ≤ cost_of net.graph colours
 
--- It has a corner weight, its cycles pass kept edges alone, each no edge twice, and they are no more than the faces and
--- twice the odd faces. Its bound is twice the weight of the kept edges that its colouring breaks, and its cost exceeds
--- half the bound by the weight of the broken edges among those set aside.
+-- The bound is twice the weight of the broken kept edges, and the cost exceeds half of it by that
+-- of the broken edges set aside. The cycles pass kept edges, each no edge twice.
 pub record IsTight (net : Net) (r : PlainReport) : Type 0 where
   pub corner : is_some r.head.params.corner ≡ true
   pub kept : KeepToKept net r.lists.cycles
@@ -42,9 +40,8 @@ pub record IsTight (net : Net) (r : PlainReport) : Type 0 where
   pub tight : r.head.bound ≡ 2 * kept_cost net r.head.colours
   pub rest : r.head.cost ≡ kept_cost net r.head.colours + aside_cost net r.head.colours
 
--- The report of the layer of these cells, of which some are kept whole. The nine facts hold of it, so it is good; it is tight,
--- so its colouring is the least; and its masks are those of the layer: together they are the layer, they overlap exactly
--- at the listed stitches, they break the spacing only at the listed clashes, and the text read as CIF draws them.
+-- The report of the layer of these cells: the nine facts of a good report hold, its bound is
+-- tight, no pair of masks costs less than that says, and its masks are those of the layer.
 pub record IsReportOfCells (o : PlainOptions) (r : PlainReport) (cells kept : Cells) : Type 0 where
   pub fragments : Fragments
   pub net : Net

@@ -25,8 +25,7 @@ pub record AreFragmentsOf (space over : ℕ) (cells kept : Cells) (f : Fragments
   pub are_kept : AreTiles kept keep
   pub are_fragments : AreFragments keep space over tiles label f
 
--- the fragments of these cells and their net, for the lengths and weights of the options; a
--- hundredth is two grid units
+-- the fragments and the net of these cells by the options, of which a hundredth is two grid units
 pub record IsLayerOf (o : PlainOptions) (cells kept : Cells) (f : Fragments) (n : Net) : Type 0 where
   pub fragments : AreFragmentsOf (2 * o.space) (2 * o.overlap) cells kept f
   pub net : IsNet f o.weights (2 * o.space) n

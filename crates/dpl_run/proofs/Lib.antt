@@ -1,4 +1,5 @@
 pub mod EndLemmas
+pub mod FollowLemmas
 pub mod MadeLemmas
 pub mod CheckLemmas
 pub mod LoadLemmas

@@ -1,5 +1,5 @@
 -- What is written is due, and what is due is answered.
-use Rattle.std.proofs.Common.{◌≡◌, ◌≢◌, ◌∙◌, ℕ, List, [], ◌++◌, append-nil, take, drop, Option, None, Some, refl, sym, subst, inl, inr}
+use Rattle.std.proofs.Common.{◌≡◌, ◌≢◌, ◌↔◌, ◌∙◌, ℕ, List, [], ◌++◌, append-nil, take, drop, Option, None, Some, refl, sym, subst, inl, inr}
 use Rattle.std.specs.Prelude.{Result, Ok, Err}
 use Rattle.std.proofs.lemmas.List.{take-append-drop}
 use Rattle.std.specs.Io.KnownBytes.{Appends, Keeps}
@@ -7,7 +7,7 @@ use Rattle.dpl_ext.specs.Device.{Texts, Rose}
 use Rattle.dpl_words.specs.Commands.{PlainCommand, command_of}
 use Rattle.dpl_run.specs.declared.status.Status.{Status}
 use Rattle.dpl_run.specs.declared.status.Status.TheVariants.{Done, Rejected, Usage, Layout, Limit, Script, ReadFault, WriteFault, NoMemory}
-use Rattle.dpl_run.specs.Answer.{Answers, IsAnswered, IsCutShort, IsDue, IsDueOf, IsQuiet, IsStatusOf}
+use Rattle.dpl_run.specs.Answer.{Answers, IsAnswered, IsCutShort, IsDue, IsDueOf, IsQuiet, IsStatusOf, IsWritten}
 use Rattle.dpl_run.specs.Devices.{AreTold}
 use Rattle.dpl_run.specs.Telling.{IsBare, IsDueOrFree, IsTold}
 use Rattle.dpl_run.proofs.EndLemmas.{IsFit}
@@ -149,6 +149,23 @@ usage_status words kind e = subst (λ z. IsStatusOf z (Usage kind)) (sym e) (inl
 
 -- ---- what a sink took that tells it
 
+written_taken : (Due : Status → List ℕ → Type 0) (taken now : List ℕ) (s : Status)
+    → IsWritten Due (Some taken) (Some now) s ↔ ((output : List ℕ) × Due s output × (now ≡ taken ++ output))
+written_taken Due taken now s = (λ w. (w.output, w.due, w.taken), λ p. record { output = p.0; due = p.1; taken = p.2 })
+
+-- what was answered but for failures and want of memory is due, and was taken
+pub due_taken : (Due : Status → List ℕ → Type 0) (taken now : List ℕ) (s : Status) → s ≢ ReadFault → s ≢ WriteFault → s ≢ NoMemory
+    → Answers Due (Some taken) (Some now) s ↔ ((output : List ℕ) × Due s output × (now ≡ taken ++ output))
+due_taken Due taken now Done r w m = written_taken Due taken now Done
+due_taken Due taken now (Rejected reason place found wanted) r w m = written_taken Due taken now (Rejected reason place found wanted)
+due_taken Due taken now (Usage kind) r w m = written_taken Due taken now (Usage kind)
+due_taken Due taken now (Layout command what) r w m = written_taken Due taken now (Layout command what)
+due_taken Due taken now (Limit kind count) r w m = written_taken Due taken now (Limit kind count)
+due_taken Due taken now (Script line kind) r w m = written_taken Due taken now (Script line kind)
+due_taken Due taken now ReadFault r w m = absurd (r refl)
+due_taken Due taken now WriteFault r w m = absurd (w refl)
+due_taken Due taken now NoMemory r w m = absurd (m refl)
+
 -- what was cut short is a front of an output that is due where all is done
 pub cut_front : (Due : Status → List ℕ → Type 0) (taken now : List ℕ) → IsCutShort Due (Some taken) (Some now)
     → (front : List ℕ) × (rest : List ℕ) × Due Done (front ++ rest) × (now ≡ taken ++ front)
@@ -156,3 +173,16 @@ cut_front Due taken now cut =
     let count = cut.taken.0 in
     let whole = take-append-drop count cut.output in
     (take count cut.output, drop count cut.output, subst (Due Done) (sym whole) cut.due, cut.taken.1)
+
+-- whatever a sink tells, such a status is due
+pub due_status : (Due : Status → List ℕ → Type 0) (before now : Option (List ℕ)) (s : Status) → s ≢ ReadFault → s ≢ WriteFault → s ≢ NoMemory
+    → Answers Due before now s → (output : List ℕ) × Due s output
+due_status Due before now Done r w m a = (a.output, a.due)
+due_status Due before now (Rejected reason place found wanted) r w m a = (a.output, a.due)
+due_status Due before now (Usage kind) r w m a = (a.output, a.due)
+due_status Due before now (Layout command what) r w m a = (a.output, a.due)
+due_status Due before now (Limit kind count) r w m a = (a.output, a.due)
+due_status Due before now (Script line kind) r w m a = (a.output, a.due)
+due_status Due before now ReadFault r w m a = absurd (r refl)
+due_status Due before now WriteFault r w m a = absurd (w refl)
+due_status Due before now NoMemory r w m a = absurd (m refl)

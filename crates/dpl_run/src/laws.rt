@@ -1,18 +1,32 @@
 //! What the words of the contract of `run` mean, said without them: no proof guards a definition but these.
-ghost use Rattle.std.specs.Prelude.{◌≡◌, ◌≢◌, ◌⊎◌, ◌↔◌, ℕ, ℤ, ◌+◌, ◌<◌, ◌≤◌, List, [], ◌∷◌, ◌++◌, Option, Some, Ok, Err};
+ghost use Rattle.std.specs.Prelude.{◌≡◌, ◌≢◌, ◌⊎◌, ◌↔◌, ℕ, ℤ, ◌+◌, ◌<◌, ◌≤◌, true, List, [], ◌∷◌, ◌++◌, Option, Some, Ok, Err};
 ghost use Rattle.dpl_limits.specs.declared.TheConstants.{MOST_LAYOUT_BYTES};
+ghost use Rattle.dpl_cell.specs.Places.{Corners};
+ghost use Rattle.dpl_cell.specs.Layers.{is_within, is_in_box};
+ghost use Rattle.dpl_cell.specs.Cells.{IsWithin, IsIn};
 ghost use Rattle.dpl_ext.specs.Device.{Seen, Texts, last_count};
 ghost use Rattle.dpl_options.specs.Options.{PlainOptions};
-ghost use Rattle.dpl_words.specs.Commands.{PlainCommand, split, check, load, cross, edit};
+ghost use Rattle.dpl_words.specs.Commands.{PlainCommand, split, check, load, cross, edit, balance};
 ghost use Rattle.dpl_run.specs.Answer.{Answers, IsAnswered, IsDue, IsDueOf, IsQuiet, IsStatusOf};
 ghost use Rattle.dpl_run.specs.Devices.{AreSteady, AreTold, AsksFor, IsReadFault, IsTouched, PassesBytes};
+ghost use Rattle.dpl_run.specs.due.Edit.{IsEditDue, IsFollowed};
 ghost use Rattle.dpl_run.specs.declared.status.Status.{Status};
 ghost use Rattle.dpl_run.specs.declared.status.Status.TheVariants.{Done, Rejected, Usage, Limit, Script, NoMemory, ReadFault, WriteFault};
+
+/// That a place lies in a stretch, or a cell in a box, is the same as a test and as a fact.
+pub fn cells_are_tested()
+    ensures places { (a b x : ℤ) → is_within a b x ≡ true ↔ IsWithin a b x }
+    ensures cells { (r : Corners) (x y : ℤ) → is_in_box r x y ≡ true ↔ IsIn r x y }
+{}
 
 /// Devices that tell: a layout that is left, and a text that is the first of its name. A made layout needs none.
 pub fn devices_tell()
     ensures split { (o : PlainOptions) (text second : List ℕ) (texts : Option Texts) →
         AreTold (Ok (split o)) (Some text) texts text second }
+    ensures balance { (o : PlainOptions) (text second : List ℕ) (texts : Option Texts) →
+        AreTold (Ok (balance o)) (Some text) texts text second }
+    ensures cross { (o : PlainOptions) (text second : List ℕ) (texts : Option Texts) →
+        AreTold (Ok (cross o)) (Some text) texts text second }
     ensures check { (o : PlainOptions) (name text second : List ℕ) (others : Texts) →
         AreTold (Ok (check o name)) (Some text) (Some ((name, second) ∷ others)) text second }
     ensures edit { (o : PlainOptions) (name text second : List ℕ) (others : Texts) →
@@ -32,12 +46,25 @@ pub fn answers_are_due()
     ensures cut { (due : Status) → IsAnswered due WriteFault → due ≢ WriteFault → due ≡ Done }
 {}
 
-/// What a sink took that tells it: all that is due where the run is done, and nothing where it ends otherwise.
+/// `edit` is done exactly where all lines of the script are taken, with the text of a report of the
+/// content after the last line.
+pub fn scripts_are_followed()
+    ensures { (o : PlainOptions) (text script output : List ℕ) →
+        IsEditDue o text script Done output ↔ IsFollowed o text script output }
+{}
+
+/// What a sink took that tells it: all that is due with a status, a front of that where a write
+/// failed, and nothing where the run ends otherwise. The status is due also where it does not tell.
 pub fn outputs_are_taken()
-    ensures done { (words : List (List ℕ)) (text second taken taken_now : List ℕ) →
-        Answers (IsDue words text second) (Some taken) (Some taken_now) Done ↔
-        ((output : List ℕ) × IsDue words text second Done output ×
+    ensures due { (words : List (List ℕ)) (text second taken taken_now : List ℕ)
+        (status : Status) → status ≢ ReadFault → status ≢ WriteFault → status ≢ NoMemory →
+        Answers (IsDue words text second) (Some taken) (Some taken_now) status ↔
+        ((output : List ℕ) × IsDue words text second status output ×
         (taken_now ≡ taken ++ output)) }
+    ensures status { (words : List (List ℕ)) (text second : List ℕ) (before now : Option (List ℕ))
+        (status : Status) → status ≢ ReadFault → status ≢ WriteFault → status ≢ NoMemory →
+        Answers (IsDue words text second) before now status →
+        (output : List ℕ) × IsDue words text second status output }
     ensures cut { (words : List (List ℕ)) (text second taken taken_now : List ℕ) →
         Answers (IsDue words text second) (Some taken) (Some taken_now) WriteFault →
         (front : List ℕ) × (rest : List ℕ) × IsDue words text second Done (front ++ rest) ×
@@ -54,10 +81,24 @@ pub fn read_faults_have_causes()
         layout.faults < last_count →
         IsReadFault (Ok (split o)) layout layout_now second second_now
         ↔ (layout.faults < layout_now.faults) }
+    ensures balance { (o : PlainOptions) (layout layout_now second second_now : Seen) →
+        layout.faults < last_count →
+        IsReadFault (Ok (balance o)) layout layout_now second second_now
+        ↔ (layout.faults < layout_now.faults) }
+    ensures cross { (o : PlainOptions) (layout layout_now second second_now : Seen) →
+        layout.faults < last_count →
+        IsReadFault (Ok (cross o)) layout layout_now second second_now
+        ↔ (layout.faults < layout_now.faults) }
     ensures check { (o : PlainOptions) (name : List ℕ)
         (layout layout_now second second_now : Seen) → layout.faults < last_count →
         second.faults < last_count →
         IsReadFault (Ok (check o name)) layout layout_now second second_now
+        ↔ ((layout.faults < layout_now.faults) ⊎ ((second.faults < second_now.faults) ×
+        (second_now.asked ≡ second.asked ++ name ∷ []))) }
+    ensures edit { (o : PlainOptions) (name : List ℕ)
+        (layout layout_now second second_now : Seen) → layout.faults < last_count →
+        second.faults < last_count →
+        IsReadFault (Ok (edit o name)) layout layout_now second second_now
         ↔ ((layout.faults < layout_now.faults) ⊎ ((second.faults < second_now.faults) ×
         (second_now.asked ≡ second.asked ++ name ∷ []))) }
     ensures load { (start rows columns : ℕ) (layout layout_now second second_now : Seen) →
@@ -77,6 +118,20 @@ pub fn devices_are_left()
     ensures split { (o : PlainOptions) (layout layout_now second second_now : Seen) →
         IsTouched (Ok (split o)) layout layout_now second second_now
         ↔ ((layout_now.asked ≡ layout.asked) × (second_now ≡ second)) }
+    ensures balance { (o : PlainOptions) (layout layout_now second second_now : Seen) →
+        IsTouched (Ok (balance o)) layout layout_now second second_now
+        ↔ ((layout_now.asked ≡ layout.asked) × (second_now ≡ second)) }
+    ensures cross { (o : PlainOptions) (layout layout_now second second_now : Seen) →
+        IsTouched (Ok (cross o)) layout layout_now second second_now
+        ↔ ((layout_now.asked ≡ layout.asked) × (second_now ≡ second)) }
+    ensures check { (o : PlainOptions) (name : List ℕ)
+        (layout layout_now second second_now : Seen) →
+        IsTouched (Ok (check o name)) layout layout_now second second_now
+        ↔ ((layout_now.asked ≡ layout.asked) × AsksFor name second second_now) }
+    ensures edit { (o : PlainOptions) (name : List ℕ)
+        (layout layout_now second second_now : Seen) →
+        IsTouched (Ok (edit o name)) layout layout_now second second_now
+        ↔ ((layout_now.asked ≡ layout.asked) × AsksFor name second second_now) }
     ensures load { (start rows columns : ℕ) (layout layout_now second second_now : Seen) →
         IsTouched (Ok (load start rows columns)) layout layout_now second second_now
         ↔ ((layout_now ≡ layout) × (second_now ≡ second)) }

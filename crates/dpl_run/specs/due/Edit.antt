@@ -1,6 +1,6 @@
 -- What `edit` answers for a layout and a script: why the layout gives no content, which line of the script stops it, or the
 -- text of a report of the content after the last line.
-use Rattle.std.specs.Prelude.{◌≡◌, ◌⊎◌, ◌+◌, ℕ, List, [], ◌∷◌, ◌++◌, map}
+use Rattle.std.specs.Prelude.{◌≡◌, ◌⊎◌, ◌+◌, ℕ, List, [], ◌∷◌, ◌++◌, map, fold}
 use Rattle.dpl_cell.specs.declared.layout.Primitive.{Primitive}
 use Rattle.dpl_options.specs.Options.{PlainOptions}
 use Rattle.dpl_layer.specs.declared.error.LayerError.{LayerError}
@@ -100,3 +100,18 @@ pub data IsEditDue (o : PlainOptions) (text script : List ℕ) : Status → List
   begun : (d : Drawing) → IsDrawingOf o text d → NoneOf (edits_reasons (begun_with o d)) →
       (status : Status) (output : List ℕ) → IsScriptDue (begun_with o d) script status output →
       IsEditDue o text script status output
+
+-- the content passes no limit, at first and after each line, and each box that is removed is there
+abbrev pub AreTaken : Edits → List Line → Type 0
+AreTaken s [] = NoneOf (edits_reasons s)
+AreTaken s (line ∷ lines) =
+    NoneOf (edits_reasons s) × (¬ IsMissing line s) × AreTaken (edited line s) lines
+
+-- a script of lines that are all taken, and the text of a report of the content after the last of them
+pub record IsFollowed (o : PlainOptions) (text script output : List ℕ) : Type 0 where
+  pub drawing : Drawing
+  pub lines : List Line
+  pub drawn : IsDrawingOf o text drawing
+  pub written : IsScript script (map plain_line lines)
+  pub taken : AreTaken (begun_with o drawing) lines
+  pub reports : Reports (fold (λ s line. edited line s) (begun_with o drawing) lines) output
