@@ -120,14 +120,19 @@ pub fn pass(spans: &mut Vec<Span>, place: Place, at: u32, piece: &[u8]) -> Resul
     let mut at = at;
     let mut rest = piece;
     'bytes: while let Some((first, others)) = rest.split_first() {
-        if !is_within(place, *first) {
-            if let Some(span) = finished(place, at, *first) {
-                spans.push(span)?;
-            }
-            place = next(place, at, *first);
+        if let Some(span) = finished(place, at, *first) {
+            spans.push(span)?;
         }
+        place = next(place, at, *first);
         at += 1;
         rest = others;
+        let behind = at;
+        'within: while let Some((first, others)) = rest.split_first()
+            && is_within(place, *first)
+        {
+            at += 1;
+            rest = others;
+        }
     }
     Ok(place)
 }
