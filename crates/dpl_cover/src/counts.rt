@@ -117,6 +117,37 @@ pub struct Piece {
     pub counted: bool,
 }
 
+/// Whether a place is counted more than not at all.
+fn is_counted(each: &[i64], blocks: &[Block], k: usize) -> bool
+    requires within { k < length each.now }
+    requires counts { AreCounts each.now blocks.now }
+    requires small { AreOwnSmall (2 ^ 60) each.now }
+    requires tame { AreTame (2 ^ 60) blocks.now }
+    ensures { result ≡ is_counted each.now blocks.now k }
+{
+    0 < each[k] + blocks[k / BLOCK].whole
+}
+
+/// Where the places end that are all counted, or not, from one on up to another, which is left out.
+fn end_of_alike(each: &[i64], blocks: &[Block], from: usize, to: usize, counted: bool) -> usize
+    requires order { from ≤ to }
+    requires within { to ≤ length each.now }
+    requires counts { AreCounts each.now blocks.now }
+    requires small { AreOwnSmall (2 ^ 60) each.now }
+    requires tame { AreTame (2 ^ 60) blocks.now }
+    ensures order { from ≤ result }
+    ensures within { result ≤ to }
+    ensures same { (k : ℕ) → from ≤ k → k < result →
+        is_counted each.now blocks.now k ≡ counted }
+{
+    for k in from..to {
+        if is_counted(each, blocks, k) != counted {
+            return k;
+        }
+    }
+    to
+}
+
 /// The places from one on, of its block at most, of which all are counted more than not at all, or none.
 pub fn alike_from(each: &[i64], blocks: &[Block], at: usize) -> Piece
     requires within { at < length each.now }
@@ -136,7 +167,7 @@ pub fn alike_from(each: &[i64], blocks: &[Block], at: usize) -> Piece
     if block.high <= -block.whole {
         return Piece { to, counted: false };
     }
-    let to = at + 1;
-    let counted = 0 < each[at] + block.whole;
+    let counted = is_counted(each, blocks, at);
+    let to = end_of_alike(each, blocks, at + 1, to, counted);
     Piece { to, counted }
 }

@@ -35,7 +35,7 @@ pub fn parts_in(
     ensures full { IfOk result (λ v. (x : ℤ) (k : ℕ) → from ≤ℤ x → x <ℤ to → IsAt columns.now k x →
         is_counted each.now blocks.now k ≡ true → is_in_stretches v.items x ≡ true) }
 {
-    let mut parts = Vec::new(alloc);
+    let mut parts = Vec::with_capacity(alloc, 8)?;
     let mut at = last_place(columns, from);
     while at < columns.len() && columns[at] < to {
         let alike = alike_from(each, blocks, at);

@@ -1,5 +1,5 @@
 -- The list of the kept edges while it grows.
-use Rattle.std.proofs.Common.{arith, ◌≡◌, ℕ, zero, suc, ◌+◌, ◌≤◌, refl, sym, ap, ◌∙◌, Bool, not, inl, inr, List, [], ◌∷◌, ◌++◌, length, subst, length-append}
+use Rattle.std.proofs.Common.{arith, ◌≡◌, ◌≢◌, ◌⊎◌, true, ℕ, zero, suc, ◌+◌, ◌<◌, ◌≤◌, refl, sym, ap, ◌∙◌, Bool, not, inl, inr, List, [], ◌∷◌, ◌++◌, length, subst, length-append}
 use Rattle.std.proofs.lemmas.Bool.{cases_Bool, cond-true, cond-false}
 use Rattle.dpl_cycle.specs.Sums.{count_on}
 use Rattle.dpl_sign.specs.declared.nets.Net.{Net}
@@ -43,3 +43,29 @@ aside_count net (suc n) =
 -- no more edges are set aside than there are
 pub aside_few : (net : Net) → length (aside_edges net) ≤ length net.graph.edges
 aside_few net = omega (arith, aside_count net (length net.graph.edges))
+
+same_or_not : (i j : ℕ) → (i ≡ j) ⊎ (i ≢ j)
+same_or_not i j = search arith
+
+-- where none of the first edges is set aside, each of them is kept
+none_aside : (net : Net) (n e : ℕ) → aside_before net n ≡ [] → e < n → is_in (kept_edges net) e ≡ true
+none_aside net zero e h l = absurd (omega (arith, l))
+none_aside net (suc n) e h l =
+    let p = is_in (kept_edges net) in
+    elim (cases_Bool (p n)) [
+      | inl t ↦
+          let same : aside_before net (suc n) ≡ aside_before net n = cond-false (is_aside net n) _ _ (ap not t) in
+          elim (same_or_not e n) [
+            | inl r ↦ ap p r ∙ t
+            | inr r ↦ none_aside net n e (sym same ∙ h) (omega (arith, l, r))
+          ]
+      | inr t ↦
+          let more : aside_before net (suc n) ≡ aside_before net n ++ n ∷ [] = cond-true (is_aside net n) _ _ (ap not t) in
+          absurd (omega (arith, ap length h, ap length more, length-append (aside_before net n) (n ∷ [])))
+    ]
+
+-- where no edge is set aside, each is kept
+pub all_kept : (net : Net) (aside : List ℕ) → aside ≡ aside_edges net → length aside ≡ 0
+    → (e : ℕ) → e < length net.graph.edges → is_in (kept_edges net) e ≡ true
+all_kept net [] h n e l = none_aside net (length net.graph.edges) e (sym h) l
+all_kept net (a ∷ aside) h n e l = absurd (omega (arith, n))

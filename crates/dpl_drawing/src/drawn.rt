@@ -7,6 +7,7 @@ ghost use Rattle.dpl_sign.specs.Excess.{kept_edges, aside_edges, all_edges, exce
 ghost use Rattle.dpl_drawing.specs.Faces.{AreFaces, drawn_faces};
 ghost use Rattle.dpl_drawing.specs.Drawn.{IsDrawn};
 
+use crate::nearness::Nearby;
 use crate::numbering::{listed, number};
 use crate::planes::Plane;
 use crate::whole::count_faces;
@@ -72,6 +73,26 @@ fn excess_from(net: &Net, aside: &[u32], drawn: u32, whole: u32) -> u64
     edges + u64::from(drawn) - kept - u64::from(whole)
 }
 
+/// The excess over all edges. Where none is set aside they are the kept ones, which have no excess, and are not drawn
+/// again.
+fn excess_over(
+    alloc: Global,
+    net: &Net,
+    aside: &[u32],
+    drawn: u32,
+    nearby: &mut Nearby,
+) -> Result<u64, AllocError>
+    requires aside { aside.now ≡ aside_edges net.now }
+    requires drawn { drawn ≡ drawn_faces net.now (is_in (kept_edges net.now)) }
+    ensures { IfOk result (λ n. n ≡ excess_of net.now all_edges) }
+{
+    if aside.is_empty() {
+        return Ok(0);
+    }
+    let whole = count_faces(alloc, net, nearby)?;
+    Ok(excess_from(net, aside, drawn, whole))
+}
+
 /// Draws the edges of a net in their order, each of which is kept unless it raises the excess of
 /// those kept before it. Near linear, also where the edges around a fragment come in no order.
 pub fn draw(alloc: Global, net: &Net) -> Result<Drawing, AllocError>
@@ -88,8 +109,7 @@ pub fn draw(alloc: Global, net: &Net) -> Result<Drawing, AllocError>
     let corners = listed(alloc, drawn.plane.faces.ring(), darts)?;
     let aside = aside_of(alloc, net, &drawn.edges)?;
     let faces = number(alloc, &corners, &drawn.edges)?;
-    let whole = count_faces(alloc, net, &mut drawn.plane.nearby)?;
-    let excess = excess_from(net, &aside, faces.count, whole);
+    let excess = excess_over(alloc, net, &aside, faces.count, &mut drawn.plane.nearby)?;
     Ok(Drawing {
         kept: drawn.edges,
         aside,

@@ -104,12 +104,13 @@ fn gather_asked(
     ensures { IfOk result (λ v. length v.items ≤ enough →
         HasAsked (record { items = items.now; kinds = kinds.now }) ask.now v.items) }
 {
+    let ask = *ask;
     let mut found = Vec::with_capacity(alloc, USUAL.min(stops.len()))?;
     let mut at = 0;
     'stops: while at < stops.len() {
         let stop = &stops[at];
-        if may_hold(stop, ask) {
-            push_asked(&mut found, items, kinds, ask, stop.number)?;
+        if may_hold(stop, &ask) {
+            push_asked(&mut found, items, kinds, &ask, stop.number)?;
             if found.len() > enough {
                 return Ok(found);
             }

@@ -1,5 +1,5 @@
 // A text is cut into its commands in one pass.
-ghost use Rattle.std.specs.Prelude.{◌≡◌, ◌≤◌, ◌<◌, ◌+◌, ◌++◌, ◌^◌, ℕ, List, length, take, IfOk, OnErr};
+ghost use Rattle.std.specs.Prelude.{◌≡◌, ◌≤◌, ◌<◌, ◌+◌, ◌++◌, ◌^◌, ℕ, List, true, None, length, take, IfOk, OnErr};
 ghost use Rattle.dpl_limits.specs.declared.TheConstants.{MOST_LAYOUT_BYTES};
 ghost use Rattle.dpl_lex.specs.Cutting as cutting;
 ghost use Rattle.dpl_lex.specs.CuttingLaws.{BlanksAreSkipped, EndEnds, EmptyIsCut, PlainIsCut, CommentIsCut, BlanksEnd, PlainRests, CommentRests, OpenCommentRests, CommandsAreWithin, CommandsAreFew};
@@ -83,6 +83,17 @@ fn finished(place: Place, at: u32, b: u8) -> Option<Span>
     }
 }
 
+/// Whether a byte stands in a command and does not finish it, so that the place stays.
+fn is_within(place: Place, b: u8) -> bool
+    ensures next { result ≡ true → (at : ℕ) → cutting.next place at b ≡ place }
+    ensures finished { result ≡ true → (at : ℕ) → cutting.finished place at b ≡ None }
+{
+    match place {
+        Place::Inside(_) => b != b';',
+        Place::Between | Place::Comment(..) | Place::Ended => false,
+    }
+}
+
 /// How a text ends that ends here.
 pub fn ending(place: Place) -> Ending
     ensures { result ≡ cutting.ending place }
@@ -115,6 +126,13 @@ pub fn pass(spans: &mut Vec<Span>, place: Place, at: u32, piece: &[u8]) -> Resul
         place = next(place, at, *first);
         at += 1;
         rest = others;
+        let behind = at;
+        'within: while let Some((first, others)) = rest.split_first()
+            && is_within(place, *first)
+        {
+            at += 1;
+            rest = others;
+        }
     }
     Ok(place)
 }

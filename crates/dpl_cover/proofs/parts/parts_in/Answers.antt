@@ -10,7 +10,7 @@ pub loop-at-init : goal.loop-at-init
 loop-at-init c =
     let f : SFits w64 c.args.from = c.ranges.from in
     record {
-      sound = λ x h. absurd (no_parts c.new-parts.result.items x c.new-parts.ensures.items h);
+      sound = λ x h. absurd (no_parts _ x c.in_ok-parts.ensures.items h);
       full = λ x k l h i t. absurd (none_before c.args.columns.now c.args.from c.last_place-at.result c.requires.columns
           (simp to_z-of_z at c.last_place-at.ensures) x k (simp to_z-of_z at l) h i);
     }

@@ -16,8 +16,8 @@ number-requires-clause-ring c =
     leads_back net (is_in (kept_edges net)) _ (ap length c.deref-2.ensures.value ∙ size)
     (λ d h. ap (λ (xs : List ℕ). get_or xs d 0) c.deref-2.ensures.value ∙ each d h)
 
-pub excess_from-excess-requires-clause-drawn : goal.excess_from-excess-requires-clause-drawn
-excess_from-excess-requires-clause-drawn c =
+pub excess_over-requires-clause-drawn : goal.excess_over-requires-clause-drawn
+excess_over-requires-clause-drawn c =
     let net = c.args.net.now in
     let faces = c.in_ok-drawn.ensures.drawn.are_faces in
     let told : c.ring.result.now ≡ c.in_ok-drawn.drawn.plane.faces.nexts = search rules in
