@@ -1,7 +1,7 @@
 // Places in blocks of one size.
 
 /// How many places a block has; the last may have fewer.
-pub const BLOCK: usize = 16;
+pub const BLOCK: usize = 32;
 
 /// What is counted for all places of a block at once, and between which numbers their own counts lie.
 #[derive(Clone, Copy, Debug)]
