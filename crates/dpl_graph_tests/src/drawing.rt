@@ -1,54 +1,71 @@
-use dpl_drawing::{Cycles, draw};
-use dpl_sign::{Edge, Net, Port, Signed};
+use crate::nets::At::{East, West};
+use crate::nets::{Link, clash, net};
+use dpl_drawing::{Cycles, Drawing, draw};
+use std::alloc::{AllocError, Global};
+use std::process::Abort;
 use std::test::Fail;
+
+fn drawing(alloc: Global, nodes: u32, links: &[Link]) -> Result<Drawing, Fail> {
+    let net = net(alloc, nodes, links)?;
+    Ok(draw(alloc, &net)?)
+}
+
+/// Compares the kept edges of a drawing, those set aside and the corners.
+fn compare<R: Abort>(rt: &R, drawing: &Drawing, kept: &[bool], aside: &[u32], corners: &[u32]) {
+    assert_eq!(rt; drawing.kept.as_slice(), kept);
+    assert_eq!(rt; drawing.aside.as_slice(), aside);
+    assert_eq!(rt; drawing.corners.as_slice(), corners);
+}
 
 /// Three clashes between two nodes that come to both in one order: the last one would cross.
 #[test]
 fn last_of_three_is_aside(rt: HostRuntime) -> Result<(), Fail> {
-    let mut edges = Vec::new(rt.alloc());
-    let mut ports = Vec::new(rt.alloc());
-    for key in 0..3 {
-        edges.push(Edge::clash(0, 1, 10))?;
-        ports.push((Port::on_side(3, key), Port::on_side(7, key)))?;
-    }
-    let mut pieces = Vec::new(rt.alloc());
-    pieces.push(0)?;
-    pieces.push(1)?;
-    let graph = Signed::new(2, edges).ok_or("no graph")?;
-    let net = Net::new(graph, ports, pieces, 2).ok_or("no net")?;
-    let drawing = draw(rt.alloc(), &net)?;
-    assert_eq!(rt; drawing.kept.as_slice(), [true, true, false].as_slice());
-    assert_eq!(rt; drawing.aside.as_slice(), [2].as_slice());
-    assert_eq!(rt; drawing.corners.as_slice(), [3, 2, 1, 0, 4, 5].as_slice());
+    let links = [
+        clash(0, 1, 10, East(0), West(0)),
+        clash(0, 1, 10, East(1), West(1)),
+        clash(0, 1, 10, East(2), West(2)),
+    ];
+    let drawing = drawing(rt.alloc(), 2, &links)?;
     assert_eq!(rt; (drawing.components, drawing.excess), (1, 2));
+    compare(
+        &rt,
+        &drawing,
+        &[true, true, false],
+        &[2],
+        &[3, 2, 1, 0, 4, 5],
+    );
     Ok(())
 }
 
-/// Clashes at one side of a node, in an order far from that of their keys, 119 keys on each time. So
-/// the edge at the next key is the one 179 further on, and one face goes around all.
+/// Clashes at one side of a node, in an order far from that of their keys, 119 keys on each time.
+fn star(alloc: Global) -> Result<Vec<Link>, AllocError> {
+    let mut links = Vec::new(alloc);
+    for leaf in 0_u32..300 {
+        let key = i64::from(leaf * 7919 % 300);
+        links.push(clash(0, leaf + 1, 10, East(key), West(0)))?;
+    }
+    Ok(links)
+}
+
+/// The corner of each edge leads back along it, and the one at its end to the edge at the next key, which is the one
+/// 179 further on.
+fn star_corners(alloc: Global) -> Result<Vec<u32>, AllocError> {
+    let mut corners = Vec::new(alloc);
+    for edge in 0_u32..300 {
+        corners.push(2 * edge + 1)?;
+        corners.push((edge + 179) % 300 * 2)?;
+    }
+    Ok(corners)
+}
+
+/// So one face goes around all.
 #[test]
 fn star_in_mixed_order_has_one_face(rt: HostRuntime) -> Result<(), Fail> {
-    let mut edges = Vec::new(rt.alloc());
-    let mut ports = Vec::new(rt.alloc());
-    let mut pieces = Vec::new(rt.alloc());
-    pieces.push(0)?;
-    for leaf in 0_u32..300 {
-        edges.push(Edge::clash(0, leaf + 1, 10))?;
-        let key = i64::from(leaf * 7919 % 300);
-        ports.push((Port::on_side(3, key), Port::on_side(7, 0)))?;
-        pieces.push(0)?;
-    }
-    let graph = Signed::new(301, edges).ok_or("no graph")?;
-    let net = Net::new(graph, ports, pieces, 1).ok_or("no net")?;
-    let drawing = draw(rt.alloc(), &net)?;
-    assert_eq!(rt; drawing.aside.as_slice(), [].as_slice());
+    let links = star(rt.alloc())?;
+    let drawing = drawing(rt.alloc(), 301, links.as_slice())?;
     assert_eq!(rt; (drawing.components, drawing.excess), (1, 0));
-    for edge in 0_u32..300 {
-        let out = drawing.corners.get(2 * edge as usize).copied();
-        assert_eq!(rt; out, Some(2 * edge + 1));
-        let back = drawing.corners.get(2 * edge as usize + 1).copied();
-        assert_eq!(rt; back, Some((edge + 179) % 300 * 2));
-    }
+    let corners = star_corners(rt.alloc())?;
+    compare(&rt, &drawing, &[true; 300], &[], corners.as_slice());
     Ok(())
 }
 

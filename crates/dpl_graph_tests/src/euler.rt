@@ -1,66 +1,74 @@
+use crate::nets::At::{East, North, NorthEast, NorthWest, South, SouthEast, SouthWest, West};
+use crate::nets::{Link, clash, net};
 use dpl_cell::Rect;
 use dpl_cuts::types::Fragments;
-use dpl_euler::types::{Crossing, With};
+use dpl_euler::types::{Bar, Crossing, Drawn, With};
 use dpl_euler::{bar, crossing, drawn, excess_of};
 use dpl_list::Items;
-use dpl_sign::{Edge, Net, Port, Signed};
-use std::alloc::Global;
+use std::alloc::{AllocError, Global};
+use std::process::Abort;
 use std::test::Fail;
 
-/// A drawing of clashes, each node a piece of its own.
-fn drawing(alloc: Global, nodes: u32, links: &[(u32, u32, Port, Port)]) -> Result<Net, Fail> {
-    let mut edges = Vec::new(alloc);
-    let mut ports = Vec::new(alloc);
-    for (a, b, at_a, at_b) in links {
-        if *a >= *b {
-            return Err("not rising")?;
-        }
-        edges.push(Edge::clash(*a, *b, 10))?;
-        ports.push((*at_a, *at_b))?;
+type Corners = (i64, i64, i64, i64);
+
+fn rects_of(alloc: Global, corners: &[Corners]) -> Result<Vec<Rect>, Fail> {
+    let mut rects = Vec::new(alloc);
+    for (x1, y1, x2, y2) in corners {
+        rects.push(Rect::new(*x1, *y1, *x2, *y2).ok_or("out of range")?)?;
     }
-    let mut pieces = Vec::new(alloc);
-    for node in 0..nodes {
-        pieces.push(node)?;
-    }
-    let graph = Signed::new(nodes, edges).ok_or("no graph")?;
-    Ok(Net::new(graph, ports, pieces, nodes).ok_or("no net")?)
+    Ok(rects)
 }
 
 /// Fragments without cuts, all of one tile, by their corners.
-fn boxes(alloc: Global, corners: &[(i64, i64, i64, i64)]) -> Result<Fragments, Fail> {
-    let mut rects = Vec::new(alloc);
-    let mut tile = Vec::new(alloc);
-    let mut shape = Vec::new(alloc);
-    for (x1, y1, x2, y2) in corners {
-        rects.push(Rect::new(*x1, *y1, *x2, *y2).ok_or("out of range")?)?;
-        tile.push(0)?;
-        shape.push(0)?;
-    }
+fn boxes(alloc: Global, corners: &[Corners]) -> Result<Fragments, Fail> {
+    let rects = Items::new(rects_of(alloc, corners)?);
+    let tile = Items::new(vec![in alloc; 0u32; corners.len()]?);
+    let shape = Items::new(vec![in alloc; 0u32; corners.len()]?);
+    let cuts = Items::new(Vec::new(alloc));
     Ok(Fragments {
-        rects: Items::new(rects),
-        tile: Items::new(tile),
-        shape: Items::new(shape),
-        cuts: Items::new(Vec::new(alloc)),
+        rects,
+        tile,
+        shape,
+        cuts,
     })
 }
 
-/// A crossing of the links between pairs of boxes. The ports, which do not matter to it, are all one.
+/// Clashes between pairs of boxes. The ports, which do not matter to crossings, are all one.
+fn clashes(alloc: Global, pairs: &[(u32, u32)]) -> Result<Vec<Link>, AllocError> {
+    let mut links = Vec::new(alloc);
+    for (a, b) in pairs {
+        links.push(clash(*a, *b, 10, South(0), South(0)))?;
+    }
+    Ok(links)
+}
+
+/// A crossing of the links between pairs of boxes.
 fn crossing_of(
     alloc: Global,
     nodes: u32,
-    corners: &[(i64, i64, i64, i64)],
+    corners: &[Corners],
     pairs: &[(u32, u32)],
 ) -> Result<Option<Crossing>, Fail> {
-    let mut links = Vec::new(alloc);
-    for (a, b) in pairs {
-        links.push((*a, *b, Port::on_side(1, 0), Port::on_side(1, 0)))?;
-    }
     let fragments = boxes(alloc, corners)?;
-    let net = drawing(alloc, nodes, links.as_slice())?;
+    let links = clashes(alloc, pairs)?;
+    let net = net(alloc, nodes, links.as_slice())?;
     if net.graph.nodes as usize != fragments.rects.as_slice().len() {
         return Err("not a node for each box")?;
     }
     Ok(crossing(alloc, &fragments, &net)?)
+}
+
+/// Compares a crossing of the links between pairs of boxes.
+fn compare<R: Abort>(
+    rt: &R,
+    alloc: Global,
+    nodes: u32,
+    corners: &[Corners],
+    pairs: &[(u32, u32)],
+    wanted: Option<Crossing>,
+) -> Result<(), Fail> {
+    assert_eq!(rt; crossing_of(alloc, nodes, corners, pairs)?, wanted);
+    Ok(())
 }
 
 /// The first edge of some links that crosses, and what it crosses.
@@ -75,7 +83,65 @@ fn fragment(edge: u32, other: u32) -> Option<Crossing> {
     Some(Crossing { edge, other })
 }
 
-const SQUARE: [(i64, i64, i64, i64); 4] = [
+/// Compares the excess of a drawing, as it is found alone and with its bar.
+fn compare_excess<R: Abort>(
+    rt: &R,
+    alloc: Global,
+    nodes: u32,
+    links: &[Link],
+    wanted: u64,
+) -> Result<(), Fail> {
+    let net = net(alloc, nodes, links)?;
+    assert_eq!(rt; excess_of(alloc, &net)?, wanted);
+    assert_eq!(rt; drawn(alloc, &net)?.excess, wanted);
+    Ok(())
+}
+
+/// Whether something bars an edge, as it is found alone and with the excess.
+fn are_barred(alloc: Global, nodes: u32, links: &[Link]) -> Result<(bool, bool), Fail> {
+    let net = net(alloc, nodes, links)?;
+    let alone = bar(alloc, &net)?.is_some();
+    let with_excess = drawn(alloc, &net)?.bar.is_some();
+    Ok((alone, with_excess))
+}
+
+fn bar_of(alloc: Global, nodes: u32, links: &[Link]) -> Result<Bar, Fail> {
+    let net = net(alloc, nodes, links)?;
+    let Drawn { bar, .. } = drawn(alloc, &net)?;
+    Ok(bar.ok_or("no bar")?)
+}
+
+/// Compares the barred edge, the face at its end, and how long the walk is.
+fn compare_bar<R: Abort>(
+    rt: &R,
+    alloc: Global,
+    nodes: u32,
+    links: &[Link],
+    edge: u32,
+    face: &[u32],
+    steps: usize,
+) -> Result<(), Fail> {
+    let found = bar_of(alloc, nodes, links)?;
+    assert_eq!(rt; found.edge, edge);
+    assert_eq!(rt; found.face.as_slice(), face);
+    assert_eq!(rt; found.walk.as_slice().len(), steps);
+    Ok(())
+}
+
+/// Compares the walk along kept edges.
+fn compare_walk<R: Abort>(
+    rt: &R,
+    alloc: Global,
+    nodes: u32,
+    links: &[Link],
+    walk: &[u32],
+) -> Result<(), Fail> {
+    let found = bar_of(alloc, nodes, links)?;
+    assert_eq!(rt; found.walk.as_slice(), walk);
+    Ok(())
+}
+
+const SQUARE: [Corners; 4] = [
     (0, 0, 100, 100),
     (150, 0, 250, 100),
     (0, 150, 100, 250),
@@ -87,33 +153,27 @@ const SQUARE: [(i64, i64, i64, i64); 4] = [
 #[test]
 fn four_boxes_in_a_square(rt: HostRuntime) -> Result<(), Fail> {
     let pairs = [(0, 1), (0, 2), (0, 3), (1, 2), (1, 3), (2, 3)];
-    assert!(rt; crossing_of(rt.alloc(), 4, &SQUARE, &pairs)? == link(2, 3));
+    compare(&rt, rt.alloc(), 4, &SQUARE, &pairs, link(2, 3))?;
     let links = [
-        (0, 1, Port::on_side(3, 0), Port::on_side(7, 0)),
-        (0, 2, Port::on_side(5, 0), Port::on_side(1, 0)),
-        (0, 3, Port::at_corner(4, 1, 1), Port::at_corner(0, 1, 1)),
-        (1, 2, Port::at_corner(6, 1, 1), Port::at_corner(2, 1, 1)),
-        (1, 3, Port::on_side(5, 0), Port::on_side(1, 0)),
-        (2, 3, Port::on_side(3, 0), Port::on_side(7, 0)),
+        clash(0, 1, 10, East(0), West(0)),
+        clash(0, 2, 10, North(0), South(0)),
+        clash(0, 3, 10, NorthEast(1, 1), SouthWest(1, 1)),
+        clash(1, 2, 10, NorthWest(1, 1), SouthEast(1, 1)),
+        clash(1, 3, 10, North(0), South(0)),
+        clash(2, 3, 10, East(0), West(0)),
     ];
-    let net = drawing(rt.alloc(), 4, &links)?;
-    assert_eq!(rt; excess_of(rt.alloc(), &net)?, 2);
-    let all = drawn(rt.alloc(), &net)?;
-    assert_eq!(rt; all.excess, 2);
-    let found = all.bar.ok_or("no bar")?;
-    assert_eq!(rt; found.edge, 4);
-    assert_eq!(rt; found.face.as_slice(), [6, 3, 0].as_slice());
-    assert_eq!(rt; found.walk.as_slice(), [0, 2].as_slice());
-    Ok(())
+    compare_excess(&rt, rt.alloc(), 4, &links, 2)?;
+    compare_bar(&rt, rt.alloc(), 4, &links, 4, &[6, 3, 0], 2)?;
+    compare_walk(&rt, rt.alloc(), 4, &links, &[0, 2])
 }
 
 /// Without one of the two diagonals the square is plane, with either.
 #[test]
 fn a_square_with_one_diagonal(rt: HostRuntime) -> Result<(), Fail> {
     let rising = [(0, 1), (0, 2), (0, 3), (1, 3), (2, 3)];
-    assert!(rt; crossing_of(rt.alloc(), 4, &SQUARE, &rising)?.is_none());
+    compare(&rt, rt.alloc(), 4, &SQUARE, &rising, None)?;
     let falling = [(0, 1), (0, 2), (1, 2), (1, 3), (2, 3)];
-    assert!(rt; crossing_of(rt.alloc(), 4, &SQUARE, &falling)?.is_none());
+    compare(&rt, rt.alloc(), 4, &SQUARE, &falling, None)?;
     Ok(())
 }
 
@@ -128,14 +188,14 @@ fn a_link_through_an_end(rt: HostRuntime) -> Result<(), Fail> {
         (0, 200, 100, 300),
         (150, 150, 190, 190),
     ];
-    assert!(rt; crossing_of(rt.alloc(), 4, &touching, &pairs)? == link(0, 1));
+    compare(&rt, rt.alloc(), 4, &touching, &pairs, link(0, 1))?;
     let apart = [
         (0, 0, 100, 100),
         (200, 0, 300, 102),
         (0, 200, 100, 300),
         (150, 150, 190, 190),
     ];
-    assert!(rt; crossing_of(rt.alloc(), 4, &apart, &pairs)? == fragment(1, 3));
+    compare(&rt, rt.alloc(), 4, &apart, &pairs, fragment(1, 3))?;
     Ok(())
 }
 
@@ -144,15 +204,14 @@ fn a_link_through_an_end(rt: HostRuntime) -> Result<(), Fail> {
 fn a_triangle(rt: HostRuntime) -> Result<(), Fail> {
     let corners = [(0, 0, 100, 100), (150, 0, 250, 100), (0, 150, 100, 250)];
     let pairs = [(0, 1), (0, 2), (1, 2)];
-    assert!(rt; crossing_of(rt.alloc(), 3, &corners, &pairs)?.is_none());
+    compare(&rt, rt.alloc(), 3, &corners, &pairs, None)?;
     let links = [
-        (0, 1, Port::on_side(3, 0), Port::on_side(7, 0)),
-        (0, 2, Port::on_side(5, 0), Port::on_side(1, 0)),
-        (1, 2, Port::at_corner(6, 1, 1), Port::at_corner(2, 1, 1)),
+        clash(0, 1, 10, East(0), West(0)),
+        clash(0, 2, 10, North(0), South(0)),
+        clash(1, 2, 10, NorthWest(1, 1), SouthEast(1, 1)),
     ];
-    let net = drawing(rt.alloc(), 3, &links)?;
-    assert_eq!(rt; excess_of(rt.alloc(), &net)?, 0);
-    assert!(rt; bar(rt.alloc(), &net)?.is_none());
+    compare_excess(&rt, rt.alloc(), 3, &links, 0)?;
+    assert_eq!(rt; are_barred(rt.alloc(), 3, &links)?, (false, false));
     Ok(())
 }
 
@@ -161,18 +220,12 @@ fn a_triangle(rt: HostRuntime) -> Result<(), Fail> {
 #[test]
 fn three_edges_in_one_order(rt: HostRuntime) -> Result<(), Fail> {
     let links = [
-        (0, 1, Port::on_side(3, 0), Port::on_side(7, 0)),
-        (0, 1, Port::on_side(3, 1), Port::on_side(7, 1)),
-        (0, 1, Port::on_side(3, 2), Port::on_side(7, 2)),
+        clash(0, 1, 10, East(0), West(0)),
+        clash(0, 1, 10, East(1), West(1)),
+        clash(0, 1, 10, East(2), West(2)),
     ];
-    let net = drawing(rt.alloc(), 2, &links)?;
-    let all = drawn(rt.alloc(), &net)?;
-    assert_eq!(rt; all.excess, 2);
-    let found = all.bar.ok_or("no bar")?;
-    assert_eq!(rt; found.edge, 2);
-    assert_eq!(rt; found.face.as_slice(), [0, 3].as_slice());
-    assert_eq!(rt; found.walk.as_slice().len(), 1);
-    Ok(())
+    compare_excess(&rt, rt.alloc(), 2, &links, 2)?;
+    compare_bar(&rt, rt.alloc(), 2, &links, 2, &[0, 3], 1)
 }
 
 /// A link between the outer two of three boxes in a row crosses the middle one, though the middle one
@@ -180,8 +233,8 @@ fn three_edges_in_one_order(rt: HostRuntime) -> Result<(), Fail> {
 #[test]
 fn a_link_through_a_box(rt: HostRuntime) -> Result<(), Fail> {
     let row = [(0, 0, 100, 100), (100, 0, 250, 100), (300, 0, 400, 100)];
-    assert!(rt; crossing_of(rt.alloc(), 3, &row, &[(0, 2)])? == fragment(0, 1));
-    assert!(rt; crossing_of(rt.alloc(), 3, &row, &[(0, 1), (1, 2)])?.is_none());
+    compare(&rt, rt.alloc(), 3, &row, &[(0, 2)], fragment(0, 1))?;
+    compare(&rt, rt.alloc(), 3, &row, &[(0, 1), (1, 2)], None)?;
     Ok(())
 }
 
@@ -190,9 +243,9 @@ fn a_link_through_a_box(rt: HostRuntime) -> Result<(), Fail> {
 #[test]
 fn a_corner_on_the_way(rt: HostRuntime) -> Result<(), Fail> {
     let meeting = [(0, 0, 100, 100), (150, 100, 190, 150), (200, 200, 300, 300)];
-    assert!(rt; crossing_of(rt.alloc(), 3, &meeting, &[(0, 2)])? == fragment(0, 1));
+    compare(&rt, rt.alloc(), 3, &meeting, &[(0, 2)], fragment(0, 1))?;
     let beside = [(0, 0, 100, 100), (151, 100, 190, 150), (200, 200, 300, 300)];
-    assert!(rt; crossing_of(rt.alloc(), 3, &beside, &[(0, 2)])?.is_none());
+    compare(&rt, rt.alloc(), 3, &beside, &[(0, 2)], None)?;
     Ok(())
 }
 
@@ -208,7 +261,7 @@ fn a_box_that_links_touch(rt: HostRuntime) -> Result<(), Fail> {
         (200, 120, 300, 200),
         (120, 50, 180, 160),
     ];
-    assert!(rt; crossing_of(rt.alloc(), 5, &between, &pairs)? == fragment(0, 4));
+    compare(&rt, rt.alloc(), 5, &between, &pairs, fragment(0, 4))?;
     let above = [
         (0, 0, 100, 100),
         (200, 0, 300, 100),
@@ -216,7 +269,7 @@ fn a_box_that_links_touch(rt: HostRuntime) -> Result<(), Fail> {
         (200, 120, 300, 200),
         (120, 51, 180, 160),
     ];
-    assert!(rt; crossing_of(rt.alloc(), 5, &above, &pairs)? == fragment(1, 4));
+    compare(&rt, rt.alloc(), 5, &above, &pairs, fragment(1, 4))?;
     let free = [
         (0, 0, 100, 100),
         (200, 0, 300, 100),
@@ -224,7 +277,7 @@ fn a_box_that_links_touch(rt: HostRuntime) -> Result<(), Fail> {
         (200, 120, 300, 200),
         (120, 51, 180, 159),
     ];
-    assert!(rt; crossing_of(rt.alloc(), 5, &free, &pairs)?.is_none());
+    compare(&rt, rt.alloc(), 5, &free, &pairs, None)?;
     Ok(())
 }
 
@@ -239,14 +292,14 @@ fn a_link_of_length_0(rt: HostRuntime) -> Result<(), Fail> {
         (150, 0, 200, 50),
         (0, 150, 50, 200),
     ];
-    assert!(rt; crossing_of(rt.alloc(), 4, &through, &pairs)? == link(0, 1));
+    compare(&rt, rt.alloc(), 4, &through, &pairs, link(0, 1))?;
     let past = [
         (0, 0, 99, 99),
         (101, 101, 200, 200),
         (150, 0, 200, 50),
         (0, 150, 50, 200),
     ];
-    assert!(rt; crossing_of(rt.alloc(), 4, &past, &pairs)? == link(0, 1));
+    compare(&rt, rt.alloc(), 4, &past, &pairs, link(0, 1))?;
     Ok(())
 }
 
@@ -255,14 +308,14 @@ fn a_link_of_length_0(rt: HostRuntime) -> Result<(), Fail> {
 #[test]
 fn links_at_one_corner(rt: HostRuntime) -> Result<(), Fail> {
     let own = [(0, 0, 100, 100), (150, 150, 200, 200), (160, 110, 200, 120)];
-    assert!(rt; crossing_of(rt.alloc(), 3, &own, &[(0, 1), (0, 2)])?.is_none());
+    compare(&rt, rt.alloc(), 3, &own, &[(0, 1), (0, 2)], None)?;
     let other = [
         (0, 0, 100, 100),
         (150, 150, 200, 200),
         (160, 60, 200, 90),
         (60, 100, 100, 140),
     ];
-    assert!(rt; crossing_of(rt.alloc(), 4, &other, &[(0, 1), (2, 3)])? == link(0, 1));
+    compare(&rt, rt.alloc(), 4, &other, &[(0, 1), (2, 3)], link(0, 1))?;
     Ok(())
 }
 
@@ -271,20 +324,18 @@ fn links_at_one_corner(rt: HostRuntime) -> Result<(), Fail> {
 fn links_that_overlap(rt: HostRuntime) -> Result<(), Fail> {
     let pairs = [(0, 1), (0, 1)];
     let apart = [(0, 0, 100, 100), (150, 0, 250, 100)];
-    assert!(rt; crossing_of(rt.alloc(), 2, &apart, &pairs)? == link(0, 1));
+    compare(&rt, rt.alloc(), 2, &apart, &pairs, link(0, 1))?;
     let touching = [(0, 0, 100, 100), (100, 0, 200, 100)];
-    assert!(rt; crossing_of(rt.alloc(), 2, &touching, &pairs)?.is_none());
+    compare(&rt, rt.alloc(), 2, &touching, &pairs, None)?;
     Ok(())
 }
 
 /// No edges and no fragments cross nothing.
 #[test]
 fn nothing_crosses_nothing(rt: HostRuntime) -> Result<(), Fail> {
-    assert!(rt; crossing_of(rt.alloc(), 0, &[], &[])?.is_none());
-    let net = drawing(rt.alloc(), 0, &[])?;
-    let all = drawn(rt.alloc(), &net)?;
-    assert_eq!(rt; all.excess, 0);
-    assert!(rt; all.bar.is_none());
+    compare(&rt, rt.alloc(), 0, &[], &[], None)?;
+    compare_excess(&rt, rt.alloc(), 0, &[], 0)?;
+    assert_eq!(rt; are_barred(rt.alloc(), 0, &[])?, (false, false));
     Ok(())
 }
 
@@ -298,8 +349,8 @@ fn links_as_long_as_can_be(rt: HostRuntime) -> Result<(), Fail> {
         (-most, most - 1, 1 - most, most),
         (most - 1, most - 1, most, most),
     ];
-    assert!(rt; crossing_of(rt.alloc(), 4, &far, &[(0, 3), (1, 2)])? == link(0, 1));
-    assert!(rt; crossing_of(rt.alloc(), 4, &far, &[(0, 1), (2, 3)])?.is_none());
+    compare(&rt, rt.alloc(), 4, &far, &[(0, 3), (1, 2)], link(0, 1))?;
+    compare(&rt, rt.alloc(), 4, &far, &[(0, 1), (2, 3)], None)?;
     Ok(())
 }
 
@@ -309,9 +360,9 @@ fn links_as_long_as_can_be(rt: HostRuntime) -> Result<(), Fail> {
 fn links_lead_over_common_rows(rt: HostRuntime) -> Result<(), Fail> {
     for (top, wanted) in [(350, fragment(0, 2)), (349, None)] {
         let rows = [(0, 0, 100, 400), (150, 300, 250, 700), (130, 345, 140, top)];
-        assert!(rt; crossing_of(rt.alloc(), 3, &rows, &[(0, 1)])? == wanted);
+        compare(&rt, rt.alloc(), 3, &rows, &[(0, 1)], wanted)?;
         let columns = [(0, 0, 400, 100), (300, 150, 700, 250), (345, 130, top, 140)];
-        assert!(rt; crossing_of(rt.alloc(), 3, &columns, &[(0, 1)])? == wanted);
+        compare(&rt, rt.alloc(), 3, &columns, &[(0, 1)], wanted)?;
     }
     Ok(())
 }
@@ -326,7 +377,7 @@ fn corners_that_a_link_touches(rt: HostRuntime) -> Result<(), Fail> {
         ((100, 151, 150, 190), None),
     ] {
         let boxes = [(0, 0, 100, 100), (200, 200, 300, 300), third];
-        assert!(rt; crossing_of(rt.alloc(), 3, &boxes, &[(0, 1)])? == wanted);
+        compare(&rt, rt.alloc(), 3, &boxes, &[(0, 1)], wanted)?;
     }
     Ok(())
 }

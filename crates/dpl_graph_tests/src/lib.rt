@@ -14,6 +14,8 @@ mod list;
 #[cfg(test)]
 mod map;
 #[cfg(test)]
+mod nets;
+#[cfg(test)]
 mod parts;
 #[cfg(test)]
 mod plain;

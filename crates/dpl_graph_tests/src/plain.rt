@@ -1,284 +1,371 @@
+use crate::nets::At::{East, North, NorthEast, NorthWest, South, SouthEast, SouthWest, West};
+use crate::nets::{Link, bond, clash, net, stitch};
 use dpl_plain::{
-    are_neighbours, are_of_one_part, aside_edges, component_count, excess, face_count, face_name,
-    is_odd_face, kept_edges, leads, meets_faces, passages_on_face, total_excess,
+    are_neighbours, are_of_one_part, component_count, excess, face_count, face_name, is_odd_face,
+    kept_edges, leads, meets_faces, passages_on_face, total_excess,
 };
-use dpl_sign::{Edge, Net, Port, Signed};
-use std::alloc::{AllocError, Global};
+use std::alloc::Global;
+use std::process::Abort;
 use std::test::Fail;
 
-/// A drawing of these edges, each node a piece of its own.
-fn drawing(alloc: Global, nodes: u32, links: &[(Edge, Port, Port)]) -> Result<Net, Fail> {
-    let mut edges = Vec::new(alloc);
-    let mut ports = Vec::new(alloc);
-    for (edge, at_a, at_b) in links {
-        edges.push(*edge)?;
-        ports.push((*at_a, *at_b))?;
-    }
-    let mut pieces = Vec::new(alloc);
-    for node in 0..nodes {
-        pieces.push(node)?;
-    }
-    let graph = Signed::new(nodes, edges).ok_or("no graph")?;
-    Ok(Net::new(graph, ports, pieces, nodes).ok_or("no net")?)
+/// A net by its number of nodes and its links, and a set of its edges.
+#[derive(Clone, Copy)]
+struct Part<'a> {
+    nodes: u32,
+    links: &'a [Link],
+    set: &'a [bool],
 }
 
-/// The faces, the components and the excess of the whole drawing.
-#[derive(Drop)]
-struct Measures {
-    faces: u32,
-    components: u32,
-    excess: u64,
+/// The faces, the components and the excess over the set.
+fn measured(alloc: Global, part: &Part<'_>) -> Result<(u32, u32, u64), Fail> {
+    let net = net(alloc, part.nodes, part.links)?;
+    let faces = face_count(alloc, &net, part.set)?;
+    let components = component_count(alloc, &net.graph, part.set)?;
+    let excess = excess(alloc, &net, part.set)?;
+    Ok((faces, components, excess))
 }
 
-fn measured(alloc: Global, net: &Net) -> Result<Measures, AllocError> {
-    let mut all = Vec::new(alloc);
-    for _edge in 0..net.graph.edges.as_slice().len() {
-        all.push(true)?;
+/// The excess over all edges.
+fn whole_excess(alloc: Global, part: &Part<'_>) -> Result<u64, Fail> {
+    let net = net(alloc, part.nodes, part.links)?;
+    Ok(total_excess(alloc, &net)?)
+}
+
+/// Compares the faces, the components and the excess where the set has all edges.
+fn compare_measures<R: Abort>(
+    rt: &R,
+    alloc: Global,
+    part: &Part<'_>,
+    wanted: (u32, u32, u64),
+) -> Result<(), Fail> {
+    assert_eq!(rt; measured(alloc, part)?, wanted);
+    assert_eq!(rt; whole_excess(alloc, part)?, wanted.2);
+    Ok(())
+}
+
+/// Compares the kept edges of the net.
+fn compare_kept<R: Abort>(
+    rt: &R,
+    alloc: Global,
+    part: &Part<'_>,
+    wanted: &[bool],
+) -> Result<(), Fail> {
+    let net = net(alloc, part.nodes, part.links)?;
+    let kept = kept_edges(alloc, &net)?;
+    assert_eq!(rt; kept.as_slice(), wanted);
+    Ok(())
+}
+
+/// Compares the names of the faces of some darts.
+fn compare_names<R: Abort>(
+    rt: &R,
+    alloc: Global,
+    part: &Part<'_>,
+    wanted: &[(u32, u32)],
+) -> Result<(), Fail> {
+    let net = net(alloc, part.nodes, part.links)?;
+    for (dart, name) in wanted {
+        if (*dart / 2) as usize >= net.graph.edges.as_slice().len() {
+            return Err("no dart")?;
+        }
+        assert_eq!(rt; face_name(alloc, &net, part.set, *dart)?, *name, "{dart}");
     }
-    let faces = face_count(alloc, net, &all)?;
-    let components = component_count(alloc, &net.graph, &all)?;
-    let excess = total_excess(alloc, net)?;
-    Ok(Measures {
-        faces,
-        components,
-        excess,
-    })
+    Ok(())
 }
 
-fn odd_triangle(alloc: Global) -> Result<Net, Fail> {
-    let links = [
-        (
-            Edge::clash(0, 1, 10),
-            Port::on_side(3, 200),
-            Port::on_side(7, -200),
-        ),
-        (
-            Edge::clash(0, 2, 10),
-            Port::on_side(5, -350),
-            Port::on_side(1, 350),
-        ),
-        (
-            Edge::clash(1, 2, 10),
-            Port::on_side(5, -650),
-            Port::on_side(1, 650),
-        ),
-    ];
-    drawing(alloc, 3, &links)
+/// Whether a face is odd.
+fn is_odd(alloc: Global, part: &Part<'_>, face: u32) -> Result<bool, Fail> {
+    let net = net(alloc, part.nodes, part.links)?;
+    Ok(is_odd_face(alloc, &net, part.set, face)?)
 }
 
-/// The face of a dart, `None` where there is no such dart.
-fn face_of_dart(alloc: Global, net: &Net, set: &[bool], dart: u32) -> Result<u32, Fail> {
-    if (dart / 2) as usize >= net.graph.edges.as_slice().len() {
-        return Err("no dart")?;
+/// How often a face passes some edges.
+fn passages(alloc: Global, part: &Part<'_>, test: &[bool], face: u32) -> Result<u32, Fail> {
+    let net = net(alloc, part.nodes, part.links)?;
+    Ok(passages_on_face(alloc, &net, part.set, test, face)?)
+}
+
+/// Compares whether a set of edges meets the faces.
+fn compare_meeting<R: Abort>(
+    rt: &R,
+    alloc: Global,
+    part: &Part<'_>,
+    chosen: &[bool],
+    wanted: bool,
+) -> Result<(), Fail> {
+    let net = net(alloc, part.nodes, part.links)?;
+    assert_eq!(rt; meets_faces(alloc, &net, part.set, chosen)?, wanted);
+    Ok(())
+}
+
+/// Compares which pairs of faces are neighbours.
+fn compare_neighbours<R: Abort>(
+    rt: &R,
+    alloc: Global,
+    part: &Part<'_>,
+    wanted: &[(u32, u32, bool)],
+) -> Result<(), Fail> {
+    let net = net(alloc, part.nodes, part.links)?;
+    for (f, g, are) in wanted {
+        assert_eq!(rt;
+            are_neighbours(alloc, &net, part.set, *f, *g)?,
+            *are,
+            "{f} {g}"
+        );
     }
-    Ok(face_name(alloc, net, set, dart)?)
+    Ok(())
+}
+
+/// Compares whether these faces lead from one face to another, each to a neighbour.
+fn compare_path<R: Abort>(
+    rt: &R,
+    alloc: Global,
+    part: &Part<'_>,
+    from: u32,
+    faces: &[u32],
+    to: u32,
+    wanted: bool,
+) -> Result<(), Fail> {
+    let net = net(alloc, part.nodes, part.links)?;
+    assert_eq!(rt; leads(alloc, &net, part.set, from, faces, to)?, wanted);
+    Ok(())
+}
+
+/// Compares which pairs of faces are of one part.
+fn compare_parts<R: Abort>(
+    rt: &R,
+    alloc: Global,
+    part: &Part<'_>,
+    wanted: &[(u32, u32, bool)],
+) -> Result<(), Fail> {
+    let net = net(alloc, part.nodes, part.links)?;
+    for (f, g, are) in wanted {
+        assert_eq!(rt;
+            are_of_one_part(alloc, &net, part.set, *f, *g)?,
+            *are,
+            "{f} {g}"
+        );
+    }
+    Ok(())
+}
+
+fn odd_triangle() -> [Link; 3] {
+    [
+        clash(0, 1, 10, East(200), West(-200)),
+        clash(0, 2, 10, North(-350), South(350)),
+        clash(1, 2, 10, North(-650), South(650)),
+    ]
 }
 
 /// Two of them, one above the other.
-fn two_triangles(alloc: Global) -> Result<Net, Fail> {
-    let (east, west) = (Port::on_side(3, 200), Port::on_side(7, -200));
-    let (up, down) = (Port::on_side(5, -350), Port::on_side(1, 350));
-    let links = [
-        (Edge::clash(0, 1, 10), east, west),
-        (Edge::clash(0, 2, 10), up, down),
-        (Edge::clash(1, 2, 10), up, Port::on_side(1, 650)),
-        (Edge::clash(3, 4, 10), east, west),
-        (Edge::clash(3, 5, 10), up, down),
-        (Edge::clash(4, 5, 10), up, Port::on_side(1, 650)),
-    ];
-    drawing(alloc, 6, &links)
+fn two_triangles() -> [Link; 6] {
+    [
+        clash(0, 1, 10, East(200), West(-200)),
+        clash(0, 2, 10, North(-350), South(350)),
+        clash(1, 2, 10, North(-350), South(650)),
+        clash(3, 4, 10, East(200), West(-200)),
+        clash(3, 5, 10, North(-350), South(350)),
+        clash(4, 5, 10, North(-350), South(650)),
+    ]
 }
 
 #[test]
 fn odd_triangle_has_two_faces(rt: HostRuntime) -> Result<(), Fail> {
-    let net = odd_triangle(rt.alloc())?;
-    let drawn = measured(rt.alloc(), &net)?;
-    assert_eq!(rt; (drawn.faces, drawn.components, drawn.excess), (2, 1, 0));
-    let kept = kept_edges(rt.alloc(), &net)?;
-    assert_eq!(rt; kept.as_slice(), [true, true, true].as_slice());
-    Ok(())
+    let part = Part {
+        nodes: 3,
+        links: &odd_triangle(),
+        set: &[true; 3],
+    };
+    compare_measures(&rt, rt.alloc(), &part, (2, 1, 0))?;
+    compare_kept(&rt, rt.alloc(), &part, &[true, true, true])
 }
 
 /// Its faces are those of darts 0 and 1, and both pass three clashes. Breaking one meets them.
 #[test]
 fn odd_triangle_has_odd_faces(rt: HostRuntime) -> Result<(), Fail> {
-    let net = odd_triangle(rt.alloc())?;
-    assert_eq!(rt; net.graph.edges.as_slice().len(), 3);
-    let all = [true, true, true];
-    assert_eq!(rt; face_name(rt.alloc(), &net, &all, 4)?, 0);
-    assert_eq!(rt; face_name(rt.alloc(), &net, &all, 2)?, 1);
-    assert!(rt; is_odd_face(rt.alloc(), &net, &all, 0)?);
-    assert!(rt; is_odd_face(rt.alloc(), &net, &all, 1)?);
+    let part = Part {
+        nodes: 3,
+        links: &odd_triangle(),
+        set: &[true; 3],
+    };
+    compare_names(&rt, rt.alloc(), &part, &[(4, 0), (2, 1)])?;
+    assert!(rt; is_odd(rt.alloc(), &part, 0)? && is_odd(rt.alloc(), &part, 1)?);
     let broken = [true, false, false];
-    assert_eq!(rt; passages_on_face(rt.alloc(), &net, &all, &broken, 0)?, 1);
+    assert_eq!(rt; passages(rt.alloc(), &part, &broken, 0)?, 1);
     Ok(())
 }
 
 /// Both faces are odd, and each edge has one on each side: one edge or all three meet them.
 #[test]
 fn one_edge_meets_the_odd_triangle(rt: HostRuntime) -> Result<(), Fail> {
-    let net = odd_triangle(rt.alloc())?;
-    let all = [true, true, true];
-    let (one, two) = ([false, false, true], [false, true, true]);
-    assert!(rt; meets_faces(rt.alloc(), &net, &all, &one)?);
-    assert!(rt; meets_faces(rt.alloc(), &net, &all, &all)?);
-    assert!(rt; !meets_faces(rt.alloc(), &net, &all, &two)?);
-    assert!(rt; !meets_faces(rt.alloc(), &net, &all, &[])?);
-    assert!(rt; !meets_faces(rt.alloc(), &net, &[true, true], &one)?);
-    Ok(())
+    let links = odd_triangle();
+    let all = Part {
+        nodes: 3,
+        links: &links,
+        set: &[true, true, true],
+    };
+    let two = Part {
+        nodes: 3,
+        links: &links,
+        set: &[true, true],
+    };
+    compare_meeting(&rt, rt.alloc(), &all, &[false, false, true], true)?;
+    compare_meeting(&rt, rt.alloc(), &all, &[true, true, true], true)?;
+    compare_meeting(&rt, rt.alloc(), &all, &[false, true, true], false)?;
+    compare_meeting(&rt, rt.alloc(), &all, &[], false)?;
+    compare_meeting(&rt, rt.alloc(), &two, &[false, false, true], false)
 }
 
 #[test]
 fn odd_triangle_has_neighbours(rt: HostRuntime) -> Result<(), Fail> {
-    let net = odd_triangle(rt.alloc())?;
-    let all = [true, true, true];
-    assert!(rt; are_neighbours(rt.alloc(), &net, &all, 0, 1)?);
-    assert!(rt; are_neighbours(rt.alloc(), &net, &all, 1, 0)?);
-    assert!(rt; !are_neighbours(rt.alloc(), &net, &all, 0, 0)?);
-    assert!(rt; leads(rt.alloc(), &net, &all, 0, &[1, 0, 1], 1)?);
-    assert!(rt; !leads(rt.alloc(), &net, &all, 0, &[1, 0], 1)?);
-    assert!(rt; !leads(rt.alloc(), &net, &all, 0, &[0, 1], 1)?);
-    Ok(())
+    let part = Part {
+        nodes: 3,
+        links: &odd_triangle(),
+        set: &[true; 3],
+    };
+    let pairs = [(0, 1, true), (1, 0, true), (0, 0, false)];
+    compare_neighbours(&rt, rt.alloc(), &part, &pairs)?;
+    compare_path(&rt, rt.alloc(), &part, 0, &[1, 0, 1], 1, true)?;
+    compare_path(&rt, rt.alloc(), &part, 0, &[1, 0], 1, false)?;
+    compare_path(&rt, rt.alloc(), &part, 0, &[0, 1], 1, false)
 }
 
 /// The faces of the first are those of darts 0 and 1, and of the second those of darts 6 and 7.
 #[test]
 fn triangles_apart_are_not_neighbours(rt: HostRuntime) -> Result<(), Fail> {
-    let net = two_triangles(rt.alloc())?;
-    let all = [true, true, true, true, true, true];
-    assert!(rt; are_neighbours(rt.alloc(), &net, &all, 6, 7)?);
-    assert!(rt; !are_neighbours(rt.alloc(), &net, &all, 1, 6)?);
-    assert!(rt; !are_neighbours(rt.alloc(), &net, &all, 1, 7)?);
-    assert!(rt; leads(rt.alloc(), &net, &all, 7, &[6, 7, 6], 6)?);
-    assert!(rt; !leads(rt.alloc(), &net, &all, 0, &[1, 6, 7], 7)?);
-    Ok(())
+    let part = Part {
+        nodes: 6,
+        links: &two_triangles(),
+        set: &[true; 6],
+    };
+    let pairs = [(6, 7, true), (1, 6, false), (1, 7, false)];
+    compare_neighbours(&rt, rt.alloc(), &part, &pairs)?;
+    compare_path(&rt, rt.alloc(), &part, 7, &[6, 7, 6], 6, true)?;
+    compare_path(&rt, rt.alloc(), &part, 0, &[1, 6, 7], 7, false)
 }
 
 #[test]
 fn each_triangle_is_one_part(rt: HostRuntime) -> Result<(), Fail> {
-    let net = two_triangles(rt.alloc())?;
-    let all = [true, true, true, true, true, true];
-    assert!(rt; are_of_one_part(rt.alloc(), &net, &all, 1, 0)?);
-    assert!(rt; are_of_one_part(rt.alloc(), &net, &all, 6, 7)?);
-    assert!(rt; !are_of_one_part(rt.alloc(), &net, &all, 0, 6)?);
-    assert!(rt; !are_of_one_part(rt.alloc(), &net, &all, 7, 1)?);
-    assert!(rt; are_of_one_part(rt.alloc(), &net, &all, 12, 12)?);
-    assert!(rt; !are_of_one_part(rt.alloc(), &net, &all, 12, 13)?);
-    Ok(())
+    let part = Part {
+        nodes: 6,
+        links: &two_triangles(),
+        set: &[true; 6],
+    };
+    let pairs = [
+        (1, 0, true),
+        (6, 7, true),
+        (0, 6, false),
+        (7, 1, false),
+        (12, 12, true),
+        (12, 13, false),
+    ];
+    compare_parts(&rt, rt.alloc(), &part, &pairs)
 }
 
 /// Both sides of a single edge are one face. A stitch is crossed, and a bond is not.
 #[test]
 fn bonds_are_not_crossed(rt: HostRuntime) -> Result<(), Fail> {
-    let (east, west) = (Port::on_side(3, 0), Port::on_side(7, 0));
-    let bond = drawing(rt.alloc(), 2, &[(Edge::bond(0, 1), east, west)])?;
-    assert!(rt; !are_neighbours(rt.alloc(), &bond, &[true], 0, 0)?);
-    assert!(rt; meets_faces(rt.alloc(), &bond, &[true], &[false])?);
-    assert!(rt; !meets_faces(rt.alloc(), &bond, &[true], &[true])?);
-    let stitch = drawing(rt.alloc(), 2, &[(Edge::stitch(0, 1, 1), east, west)])?;
-    assert!(rt; are_neighbours(rt.alloc(), &stitch, &[true], 0, 0)?);
-    assert!(rt; meets_faces(rt.alloc(), &stitch, &[true], &[true])?);
-    Ok(())
+    let bonded = Part {
+        nodes: 2,
+        links: &[bond(0, 1, East(0), West(0))],
+        set: &[true],
+    };
+    compare_neighbours(&rt, rt.alloc(), &bonded, &[(0, 0, false)])?;
+    compare_meeting(&rt, rt.alloc(), &bonded, &[false], true)?;
+    compare_meeting(&rt, rt.alloc(), &bonded, &[true], false)?;
+    let stitched = Part {
+        nodes: 2,
+        links: &[stitch(0, 1, 1, East(0), West(0))],
+        set: &[true],
+    };
+    compare_neighbours(&rt, rt.alloc(), &stitched, &[(0, 0, true)])?;
+    compare_meeting(&rt, rt.alloc(), &stitched, &[true], true)
 }
 
+/// Over the kept edges the faces turn counterclockwise: darts 6, 3, 0 and darts 1, 4, 5, 2, 7.
 #[test]
 fn square_with_both_diagonals(rt: HostRuntime) -> Result<(), Fail> {
     let links = [
-        (
-            Edge::clash(0, 1, 10),
-            Port::on_side(3, 200),
-            Port::on_side(7, -200),
-        ),
-        (
-            Edge::clash(0, 2, 10),
-            Port::on_side(5, -200),
-            Port::on_side(1, 200),
-        ),
-        (
-            Edge::clash(0, 3, 10),
-            Port::at_corner(4, 100, 100),
-            Port::at_corner(0, 100, 100),
-        ),
-        (
-            Edge::clash(1, 2, 10),
-            Port::at_corner(6, 100, 100),
-            Port::at_corner(2, 100, 100),
-        ),
-        (
-            Edge::clash(1, 3, 10),
-            Port::on_side(5, -800),
-            Port::on_side(1, 800),
-        ),
-        (
-            Edge::clash(2, 3, 10),
-            Port::on_side(3, 800),
-            Port::on_side(7, -800),
-        ),
+        clash(0, 1, 10, East(200), West(-200)),
+        clash(0, 2, 10, North(-200), South(200)),
+        clash(0, 3, 10, NorthEast(100, 100), SouthWest(100, 100)),
+        clash(1, 2, 10, NorthWest(100, 100), SouthEast(100, 100)),
+        clash(1, 3, 10, North(-800), South(800)),
+        clash(2, 3, 10, East(800), West(-800)),
     ];
-    let net = drawing(rt.alloc(), 4, &links)?;
-    let drawn = measured(rt.alloc(), &net)?;
-    assert_eq!(rt; (drawn.faces, drawn.components, drawn.excess), (2, 1, 2));
-    let kept = kept_edges(rt.alloc(), &net)?;
-    assert_eq!(rt;
-        kept.as_slice(),
-        [true, true, true, true, false, false].as_slice()
-    );
-    // Its faces turn counterclockwise: darts 6, 3, 0 and darts 1, 4, 5, 2, 7.
-    let some = [true, true, true, true, false, false];
-    for (dart, name) in [(6, 0), (3, 0), (4, 1), (5, 1), (2, 1), (7, 1)] {
-        let found = face_of_dart(rt.alloc(), &net, &some, dart)?;
-        assert_eq!(rt; found, name, "{dart}");
-    }
-    Ok(())
+    let all = Part {
+        nodes: 4,
+        links: &links,
+        set: &[true; 6],
+    };
+    let kept = [true, true, true, true, false, false];
+    compare_measures(&rt, rt.alloc(), &all, (2, 1, 2))?;
+    compare_kept(&rt, rt.alloc(), &all, &kept)?;
+    let some = Part {
+        nodes: 4,
+        links: &links,
+        set: &kept,
+    };
+    let names = [(6, 0), (3, 0), (4, 1), (5, 1), (2, 1), (7, 1)];
+    compare_names(&rt, rt.alloc(), &some, &names)
 }
 
 #[test]
 fn three_parallel_edges(rt: HostRuntime) -> Result<(), Fail> {
-    let edge = Edge::clash(0, 1, 10);
-    let links = [
-        (edge, Port::on_side(3, 0), Port::on_side(7, 0)),
-        (edge, Port::on_side(3, 2), Port::on_side(7, 2)),
-        (edge, Port::on_side(3, 4), Port::on_side(7, 4)),
-    ];
-    let net = drawing(rt.alloc(), 2, &links)?;
-    let drawn = measured(rt.alloc(), &net)?;
-    assert_eq!(rt; (drawn.faces, drawn.components, drawn.excess), (1, 1, 2));
-    let kept = kept_edges(rt.alloc(), &net)?;
-    assert_eq!(rt; kept.as_slice(), [true, true, false].as_slice());
-    Ok(())
+    let part = Part {
+        nodes: 2,
+        links: &[
+            clash(0, 1, 10, East(0), West(0)),
+            clash(0, 1, 10, East(2), West(2)),
+            clash(0, 1, 10, East(4), West(4)),
+        ],
+        set: &[true; 3],
+    };
+    compare_measures(&rt, rt.alloc(), &part, (1, 1, 2))?;
+    compare_kept(&rt, rt.alloc(), &part, &[true, true, false])
 }
 
 /// A ring of four nodes, and the path that is left without its last edge.
 #[test]
 fn ring_and_tree(rt: HostRuntime) -> Result<(), Fail> {
-    let (east, west) = (Port::on_side(3, 0), Port::on_side(7, 0));
     let links = [
-        (Edge::bond(0, 1), east, west),
-        (Edge::stitch(1, 2, 1), east, west),
-        (Edge::clash(2, 3, 10), east, west),
-        (Edge::clash(0, 3, 10), west, east),
+        bond(0, 1, East(0), West(0)),
+        stitch(1, 2, 1, East(0), West(0)),
+        clash(2, 3, 10, East(0), West(0)),
+        clash(0, 3, 10, West(0), East(0)),
     ];
-    let ring = drawing(rt.alloc(), 4, &links)?;
-    let round = measured(rt.alloc(), &ring)?;
-    assert_eq!(rt; (round.faces, round.components, round.excess), (2, 1, 0));
-    assert!(rt; !is_odd_face(rt.alloc(), &ring, &[true, true, true, true], 0)?);
-    let tree = [true, true, true, false];
-    assert_eq!(rt; face_count(rt.alloc(), &ring, &tree)?, 1);
-    assert_eq!(rt; excess(rt.alloc(), &ring, &tree)?, 0);
+    let ring = Part {
+        nodes: 4,
+        links: &links,
+        set: &[true; 4],
+    };
+    compare_measures(&rt, rt.alloc(), &ring, (2, 1, 0))?;
+    assert!(rt; !is_odd(rt.alloc(), &ring, 0)?);
+    let tree = Part {
+        nodes: 4,
+        links: &links,
+        set: &[true, true, true, false],
+    };
+    assert_eq!(rt; measured(rt.alloc(), &tree)?, (1, 1, 0));
     Ok(())
 }
 
 /// A single node, and a node apart from two pairs.
 #[test]
 fn single_node_and_two_components(rt: HostRuntime) -> Result<(), Fail> {
-    let single = measured(rt.alloc(), &drawing(rt.alloc(), 1, &[])?)?;
-    assert_eq!(rt; (single.faces, single.components, single.excess), (1, 1, 0));
-    let (east, west) = (Port::on_side(3, 0), Port::on_side(7, 0));
-    let links = [
-        (Edge::bond(0, 1), east, west),
-        (Edge::clash(2, 3, 10), east, west),
-    ];
-    let pairs = measured(rt.alloc(), &drawing(rt.alloc(), 5, &links)?)?;
-    assert_eq!(rt; (pairs.faces, pairs.components, pairs.excess), (3, 3, 0));
-    Ok(())
+    let single = Part {
+        nodes: 1,
+        links: &[],
+        set: &[],
+    };
+    compare_measures(&rt, rt.alloc(), &single, (1, 1, 0))?;
+    let pairs = Part {
+        nodes: 5,
+        links: &[
+            bond(0, 1, East(0), West(0)),
+            clash(2, 3, 10, East(0), West(0)),
+        ],
+        set: &[true; 2],
+    };
+    compare_measures(&rt, rt.alloc(), &pairs, (3, 3, 0))
 }

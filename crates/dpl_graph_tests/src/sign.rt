@@ -1,18 +1,26 @@
-use dpl_sign::{Edge, Port, Signed, broken, cost, port_order};
+use crate::nets::At::{East, North, NorthEast, NorthWest, South, West};
+use crate::nets::{At, clash, net, port_of};
+use dpl_sign::{Edge, Signed, broken, cost, port_order};
+use std::alloc::Global;
 use std::cmp::Ordering;
 use std::test::Fail;
+
+/// What it costs to colour a triangle of clashes so.
+fn triangle_cost(alloc: Global, colours: &[bool]) -> Result<u64, Fail> {
+    let links = [
+        clash(0, 1, 10, East(0), West(0)),
+        clash(0, 2, 10, East(0), West(0)),
+        clash(1, 2, 10, East(0), West(0)),
+    ];
+    let net = net(alloc, 3, &links)?;
+    Ok(cost(&net.graph, colours))
+}
 
 /// Three clashes of weight 10 around three nodes: one colour for all breaks each, and two break one.
 #[test]
 fn odd_triangle_costs_ten(rt: HostRuntime) -> Result<(), Fail> {
-    let mut edges = Vec::new(rt.alloc());
-    edges.push(Edge::clash(0, 1, 10))?;
-    edges.push(Edge::clash(0, 2, 10))?;
-    edges.push(Edge::clash(1, 2, 10))?;
-    let graph = Signed::new(3, edges).ok_or("no graph")?;
-    assert_eq!(rt; graph.nodes, 3);
-    assert_eq!(rt; cost(&graph, &[false, false, false]), 30);
-    assert_eq!(rt; cost(&graph, &[false, true, true]), 10);
+    assert_eq!(rt; triangle_cost(rt.alloc(), &[false, false, false])?, 30);
+    assert_eq!(rt; triangle_cost(rt.alloc(), &[false, true, true])?, 10);
     Ok(())
 }
 
@@ -23,19 +31,21 @@ fn kinds_break(rt: HostRuntime) {
     assert!(rt; broken(&stitch, true, false) && !broken(&stitch, true, true));
 }
 
+/// The order of the ports of two edges with these numbers.
+fn order(first: (At, u32), second: (At, u32)) -> Option<Ordering> {
+    let first_port = port_of(first.0)?;
+    let second_port = port_of(second.0)?;
+    Some(port_order(&first_port, first.1, &second_port, second.1))
+}
+
 #[test]
 fn ports_turn_counterclockwise(rt: HostRuntime) {
-    let (south, north) = (Port::on_side(1, 8), Port::on_side(5, -8));
-    assert_eq!(rt; port_order(&south, 9, &north, 0), Ordering::Less);
-    assert_eq!(rt;
-        port_order(&Port::on_side(5, -9), 9, &north, 0),
-        Ordering::Less
-    );
-    let (flat, steep) = (Port::at_corner(4, 2, 1), Port::at_corner(4, 1, 2));
-    assert_eq!(rt; port_order(&flat, 9, &steep, 0), Ordering::Less);
-    let (flat, steep) = (Port::at_corner(6, 2, 1), Port::at_corner(6, 1, 2));
-    assert_eq!(rt; port_order(&flat, 0, &steep, 9), Ordering::Greater);
-    assert_eq!(rt; port_order(&north, 3, &north, 4), Ordering::Less);
+    let (less, greater) = (Some(Ordering::Less), Some(Ordering::Greater));
+    assert_eq!(rt; order((South(8), 9), (North(-8), 0)), less);
+    assert_eq!(rt; order((North(-9), 9), (North(-8), 0)), less);
+    assert_eq!(rt; order((NorthEast(2, 1), 9), (NorthEast(1, 2), 0)), less);
+    assert_eq!(rt; order((NorthWest(2, 1), 0), (NorthWest(1, 2), 9)), greater);
+    assert_eq!(rt; order((North(-8), 3), (North(-8), 4)), less);
 }
 
 #[test]
