@@ -56,6 +56,15 @@ fn compare_kept<R: Abort>(
     Ok(())
 }
 
+/// The name of the face of a dart.
+fn name_of(alloc: Global, part: &Part<'_>, dart: u32) -> Result<u32, Fail> {
+    let net = net(alloc, part.nodes, part.links)?;
+    if (dart / 2) as usize >= net.graph.edges.as_slice().len() {
+        return Err("no dart")?;
+    }
+    Ok(face_name(alloc, &net, part.set, dart)?)
+}
+
 /// Compares the names of the faces of some darts.
 fn compare_names<R: Abort>(
     rt: &R,
@@ -63,12 +72,8 @@ fn compare_names<R: Abort>(
     part: &Part<'_>,
     wanted: &[(u32, u32)],
 ) -> Result<(), Fail> {
-    let net = net(alloc, part.nodes, part.links)?;
     for (dart, name) in wanted {
-        if (*dart / 2) as usize >= net.graph.edges.as_slice().len() {
-            return Err("no dart")?;
-        }
-        assert_eq!(rt; face_name(alloc, &net, part.set, *dart)?, *name, "{dart}");
+        assert_eq!(rt; name_of(alloc, part, *dart)?, *name, "{dart}");
     }
     Ok(())
 }
@@ -98,6 +103,11 @@ fn compare_meeting<R: Abort>(
     Ok(())
 }
 
+fn have_common_edge(alloc: Global, part: &Part<'_>, f: u32, g: u32) -> Result<bool, Fail> {
+    let net = net(alloc, part.nodes, part.links)?;
+    Ok(are_neighbours(alloc, &net, part.set, f, g)?)
+}
+
 /// Compares which pairs of faces are neighbours.
 fn compare_neighbours<R: Abort>(
     rt: &R,
@@ -105,13 +115,8 @@ fn compare_neighbours<R: Abort>(
     part: &Part<'_>,
     wanted: &[(u32, u32, bool)],
 ) -> Result<(), Fail> {
-    let net = net(alloc, part.nodes, part.links)?;
     for (f, g, are) in wanted {
-        assert_eq!(rt;
-            are_neighbours(alloc, &net, part.set, *f, *g)?,
-            *are,
-            "{f} {g}"
-        );
+        assert_eq!(rt; have_common_edge(alloc, part, *f, *g)?, *are, "{f} {g}");
     }
     Ok(())
 }
@@ -131,6 +136,11 @@ fn compare_path<R: Abort>(
     Ok(())
 }
 
+fn are_together(alloc: Global, part: &Part<'_>, f: u32, g: u32) -> Result<bool, Fail> {
+    let net = net(alloc, part.nodes, part.links)?;
+    Ok(are_of_one_part(alloc, &net, part.set, f, g)?)
+}
+
 /// Compares which pairs of faces are of one part.
 fn compare_parts<R: Abort>(
     rt: &R,
@@ -138,13 +148,8 @@ fn compare_parts<R: Abort>(
     part: &Part<'_>,
     wanted: &[(u32, u32, bool)],
 ) -> Result<(), Fail> {
-    let net = net(alloc, part.nodes, part.links)?;
     for (f, g, are) in wanted {
-        assert_eq!(rt;
-            are_of_one_part(alloc, &net, part.set, *f, *g)?,
-            *are,
-            "{f} {g}"
-        );
+        assert_eq!(rt; are_together(alloc, part, *f, *g)?, *are, "{f} {g}");
     }
     Ok(())
 }

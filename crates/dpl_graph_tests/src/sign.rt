@@ -13,6 +13,9 @@ fn triangle_cost(alloc: Global, colours: &[bool]) -> Result<u64, Fail> {
         clash(1, 2, 10, East(0), West(0)),
     ];
     let net = net(alloc, 3, &links)?;
+    if net.graph.nodes as usize != colours.len() {
+        return Err("not a colour for each node")?;
+    }
     Ok(cost(&net.graph, colours))
 }
 

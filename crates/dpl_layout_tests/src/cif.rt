@@ -1,12 +1,66 @@
-use dpl_cell::Prim;
+use dpl_cell::{Layout, Prim};
 use dpl_cif::{CifError, CifLimit, What, read};
 use dpl_lex::Name;
+use std::alloc::{AllocError, Global};
+use std::process::Abort;
 use std::test::Fail;
 
+type Corners = (i64, i64, i64, i64);
+
+/// The layer M of a text, and why there is none, `None` where the text is too long.
+fn answer(alloc: Global, text: &str) -> Option<Result<Layout, CifError>> {
+    let layer = Name::new(b"M")?;
+    if text.as_bytes().len() > 16_777_216 {
+        return None;
+    }
+    Some(read(alloc, text.as_bytes(), &layer))
+}
+
+fn layout_of(alloc: Global, text: &str) -> Result<Layout, Fail> {
+    Ok(
+        answer(alloc, text)
+            .ok_or("too long")?
+            .map_err(|_| "refused")?,
+    )
+}
+
+fn refusal(alloc: Global, text: &str) -> Option<CifError> {
+    answer(alloc, text)?.err()
+}
+
+fn exceeds(kind: CifLimit, count: u64) -> Option<CifError> {
+    Some(CifError::Limit { kind, count })
+}
+
+/// How many primitives the layer has.
+fn count(alloc: Global, text: &str) -> Result<usize, Fail> {
+    let layout = layout_of(alloc, text)?;
+    Ok(layout.prims.as_slice().len())
+}
+
+/// A box of the layer, by its place.
+fn box_at(alloc: Global, text: &str, place: usize) -> Result<Corners, Fail> {
+    let layout = layout_of(alloc, text)?;
+    match layout.prims.as_slice().get(place) {
+        Some(Prim::Box(r)) => Ok((r.x1, r.y1, r.x2, r.y2)),
+        _ => Err("no box")?,
+    }
+}
+
+/// Compares the rules that texts break, with their commands.
+fn compare_faults<R: Abort>(rt: &R, alloc: Global, wanted: &[(&str, u32, What)]) {
+    for (text, command, what) in wanted {
+        let fault = CifError::Fault {
+            command: *command,
+            what: *what,
+        };
+        assert_eq!(rt; refusal(alloc, text), Some(fault), "{text}");
+    }
+}
+
 #[test]
-fn faults_are_named_with_their_commands(rt: HostRuntime) -> Result<(), Fail> {
-    let layer = Name::new(b"M").ok_or("a name")?;
-    for (text, command, what) in [
+fn faults_are_named_with_their_commands(rt: HostRuntime) {
+    let faults = [
         ("L M; Q 1; E", 2, What::Syntax),
         ("L M; B 10 10 0 1000000000001; E", 2, What::Number),
         ("L M; DF; E", 2, What::Nest),
@@ -23,93 +77,85 @@ fn faults_are_named_with_their_commands(rt: HostRuntime) -> Result<(), Fail> {
         ("L M; (open; E", 2, What::Syntax),
         ("DS 1 1 3; L M; B 100 99 0 0; DF; C 1; E", 3, What::OffGrid),
         ("C 7; L M; B 10 10 0 0;", 4, What::NoEnd),
-    ] {
-        let fault = read(rt.alloc(), text.as_bytes(), &layer).err();
-        assert_eq!(rt; fault, Some(CifError::Fault { command, what }), "{text}");
+    ];
+    compare_faults(&rt, rt.alloc(), &faults);
+}
+
+/// Compares the corners of the only polygon.
+fn compare_polygon<R: Abort>(
+    rt: &R,
+    alloc: Global,
+    text: &str,
+    wanted: &[(i64, i64)],
+) -> Result<(), Fail> {
+    let layout = layout_of(alloc, text)?;
+    let [Prim::Poly(points)] = layout.prims.as_slice() else {
+        return Err("no polygon")?;
+    };
+    let mut places = Vec::new(alloc);
+    for p in points.as_slice() {
+        places.push((p.x, p.y))?;
+    }
+    assert_eq!(rt; places.as_slice(), wanted);
+    Ok(())
+}
+
+/// Compares the corners of the only box of each text.
+fn compare_boxes<R: Abort>(rt: &R, alloc: Global, wanted: &[(&str, Corners)]) -> Result<(), Fail> {
+    for (text, corners) in wanted {
+        assert_eq!(rt; count(alloc, text)?, 1, "{text}");
+        assert_eq!(rt; box_at(alloc, text, 0)?, *corners, "{text}");
     }
     Ok(())
 }
 
 #[test]
 fn calls_move_and_scale(rt: HostRuntime) -> Result<(), Fail> {
-    let layer = Name::new(b"M").ok_or("a name")?;
-    let layout = read(
-        rt.alloc(),
-        b"C 2; DS 1 2 1; L M; B 10 10 0 0; DF; DS 2 3 1; C 1 T 5 0; DF; E",
-        &layer,
-    )?;
-    let [Prim::Box(r)] = layout.prims.as_slice() else {
-        return Err("no box")?;
-    };
-    assert_eq!(rt; (r.x1, r.y1, r.x2, r.y2), (10, -20, 50, 20));
-    let layout = read(
-        rt.alloc(),
-        b"DS 1; L M; P 0 0 30 0 30 10 10 10 10 40 0 40; DF; C 1 M X R 0 1 T 10 20; L X; R 10 0 0; E",
-        &layer,
-    )?;
-    let [Prim::Poly(points)] = layout.prims.as_slice() else {
-        return Err("no polygon")?;
-    };
-    let mut places = Vec::new(rt.alloc());
-    for p in points.as_slice() {
-        places.push((p.x, p.y))?;
-    }
+    let scaled = "C 2; DS 1 2 1; L M; B 10 10 0 0; DF; DS 2 3 1; C 1 T 5 0; DF; E";
+    compare_boxes(&rt, rt.alloc(), &[(scaled, (10, -20, 50, 20))])?;
+    let text =
+        "DS 1; L M; P 0 0 30 0 30 10 10 10 10 40 0 40; DF; C 1 M X R 0 1 T 10 20; L X; R 10 0 0; E";
     let moved = [(20, 40), (20, -20), (0, -20), (0, 20), (-60, 20), (-60, 40)];
-    assert_eq!(rt; places.as_slice(), moved.as_slice());
-    Ok(())
+    compare_polygon(&rt, rt.alloc(), text, &moved)
+}
+
+/// A definition of these commands, and so many above it, of which each calls the one below it twice.
+fn doubled(alloc: Global, first: &str, times: u32) -> Result<String, AllocError> {
+    let mut text = String::new(alloc);
+    text.push_str("DS 1;")?;
+    text.push_str(first)?;
+    text.push_str("DF;")?;
+    for k in 1..times {
+        text.push_str(format!(in alloc; "DS {}; C {k}; C {k}; DF;", k + 1)?.as_str())?;
+    }
+    text.push_str(format!(in alloc; "C {times}; E")?.as_str())?;
+    Ok(text)
+}
+
+/// Why there is no layer of such a text.
+fn doubled_refusal(alloc: Global, first: &str, times: u32) -> Option<CifError> {
+    let text = doubled(alloc, first, times).ok()?;
+    refusal(alloc, text.as_str())
 }
 
 #[test]
 fn limits_are_passed_with_their_counts(rt: HostRuntime) -> Result<(), Fail> {
-    let layer = Name::new(b"M").ok_or("a name")?;
-    for (first, limit) in [
-        (
-            "",
-            CifError::Limit {
-                kind: CifLimit::Calls,
-                count: 2147483647,
-            },
-        ),
-        (
-            "L M; B 2 2 0 0;",
-            CifError::Limit {
-                kind: CifLimit::Primitives,
-                count: 1073741824,
-            },
-        ),
-    ] {
-        let mut text = String::new(rt.alloc());
-        text.push_str("DS 1;")?;
-        text.push_str(first)?;
-        text.push_str("DF;")?;
-        for k in 1..31 {
-            text.push_str(format!(in rt.alloc(); "DS {}; C {k}; C {k}; DF;", k + 1)?.as_str())?;
-        }
-        text.push_str("C 31; E")?;
-        assert!(rt; text.len() <= 16777216);
-        assert_eq!(rt;
-            read(rt.alloc(), text.as_bytes(), &layer).err(),
-            Some(limit)
-        );
-    }
-    let layout = read(rt.alloc(), b"L M; B 2 2 536870911 0; E", &layer)?;
-    assert_eq!(rt; layout.prims.as_slice().len(), 1);
-    let far = read(rt.alloc(), b"L M; B 2 2 536870912 0; E", &layer);
-    let count = 1073741826;
+    let calls = exceeds(CifLimit::Calls, 2147483647);
+    assert_eq!(rt; doubled_refusal(rt.alloc(), "", 31), calls);
+    let primitives = exceeds(CifLimit::Primitives, 1073741824);
     assert_eq!(rt;
-        far.err(),
-        Some(CifError::Limit {
-            kind: CifLimit::Coordinate,
-            count
-        })
+        doubled_refusal(rt.alloc(), "L M; B 2 2 0 0;", 31),
+        primitives
     );
+    assert_eq!(rt; count(rt.alloc(), "L M; B 2 2 536870911 0; E")?, 1);
+    let far = exceeds(CifLimit::Coordinate, 1073741826);
+    assert_eq!(rt; refusal(rt.alloc(), "L M; B 2 2 536870912 0; E"), far);
     Ok(())
 }
 
 #[test]
 fn boxes_and_wires_lie_where_they_should(rt: HostRuntime) -> Result<(), Fail> {
-    let layer = Name::new(b"M").ok_or("a name")?;
-    for (text, want) in [
+    let boxes = [
         ("L M; W 10 0 0; E", (-10, -10, 10, 10)),
         ("L M; W 10 5 5 5 30; E", (0, 0, 20, 70)),
         ("L M; B 30 10 0 0 0 1; E", (-10, -30, 10, 30)),
@@ -153,51 +199,34 @@ fn boxes_and_wires_lie_where_they_should(rt: HostRuntime) -> Result<(), Fail> {
             "DS 1; L M; B 30 10 100 50; DF; C 1 T 7 0 R 0 1; E",
             (-110, 184, -90, 244),
         ),
-    ] {
-        let layout = read(rt.alloc(), text.as_bytes(), &layer)?;
-        let [Prim::Box(r)] = layout.prims.as_slice() else {
-            return Err("no box")?;
-        };
-        assert_eq!(rt; (r.x1, r.y1, r.x2, r.y2), want, "{text}");
+    ];
+    compare_boxes(&rt, rt.alloc(), &boxes)
+}
+
+/// A polygon of so many points in one place.
+fn still_polygon(alloc: Global, points: u32) -> Result<String, AllocError> {
+    let mut text = String::new(alloc);
+    text.push_str("L M; P")?;
+    for _ in 0..points {
+        text.push_str(" 0 0")?;
     }
-    Ok(())
+    text.push_str("; E")?;
+    Ok(text)
 }
 
 #[test]
 fn a_polygon_counts_as_many_as_it_has_points(rt: HostRuntime) -> Result<(), Fail> {
-    let layer = Name::new(b"M").ok_or("a name")?;
-    let mut text = String::new(rt.alloc());
-    text.push_str("L M; P")?;
-    for _ in 0..50_000u32 {
-        text.push_str(" 0 0")?;
-    }
-    let mut longer = String::from_str(rt.alloc(), text.as_str())?;
-    text.push_str("; E")?;
-    longer.push_str(" 0 0; E")?;
-    assert!(rt; text.len() <= 16777216);
-    assert!(rt; longer.len() <= 16777216);
-    assert_eq!(rt;
-        read(rt.alloc(), text.as_bytes(), &layer)?
-            .prims
-            .as_slice()
-            .len(),
-        1
-    );
-    let limit = CifError::Limit {
-        kind: CifLimit::Primitives,
-        count: 50001,
-    };
-    assert_eq!(rt;
-        read(rt.alloc(), longer.as_bytes(), &layer).err(),
-        Some(limit)
-    );
+    let most = still_polygon(rt.alloc(), 50_000)?;
+    assert_eq!(rt; count(rt.alloc(), most.as_str())?, 1);
+    let longer = still_polygon(rt.alloc(), 50_001)?;
+    let limit = exceeds(CifLimit::Primitives, 50001);
+    assert_eq!(rt; refusal(rt.alloc(), longer.as_str()), limit);
     Ok(())
 }
 
 #[test]
-fn the_first_rule_is_named(rt: HostRuntime) -> Result<(), Fail> {
-    let layer = Name::new(b"M").ok_or("a name")?;
-    for (text, command, what) in [
+fn the_first_rule_is_named(rt: HostRuntime) {
+    let faults = [
         ("DS 1; DF; DS 2 1 4; C 1 T 1 0; DF; E", 4, What::OffGrid),
         ("DS 1 1 4; L M; P 0 0 1 1 2 0; DF; E", 3, What::Slant),
         ("DS 1; DS 1; E", 2, What::Nest),
@@ -219,9 +248,14 @@ fn the_first_rule_is_named(rt: HostRuntime) -> Result<(), Fail> {
         ("DS 1; C 1; DF; C 9; E", 4, What::Missing),
         ("DS 1; C 1; DF; E", 2, What::Loop),
         ("DS 1; C 2; DF; DS 2; C 1; DF; E", 2, What::Loop),
-    ] {
-        let fault = read(rt.alloc(), text.as_bytes(), &layer).err();
-        assert_eq!(rt; fault, Some(CifError::Fault { command, what }), "{text}");
+    ];
+    compare_faults(&rt, rt.alloc(), &faults);
+}
+
+/// Compares how many primitives texts have, which is none.
+fn compare_empty<R: Abort>(rt: &R, alloc: Global, texts: &[&str]) -> Result<(), Fail> {
+    for text in texts {
+        assert_eq!(rt; count(alloc, text)?, 0, "{text}");
     }
     Ok(())
 }
@@ -229,77 +263,47 @@ fn the_first_rule_is_named(rt: HostRuntime) -> Result<(), Fail> {
 /// Faults of figures are looked for on the chosen layer alone, and the greatest integer is no fault.
 #[test]
 fn other_layers_have_no_faults_of_figures(rt: HostRuntime) -> Result<(), Fail> {
-    let layer = Name::new(b"M").ok_or("a name")?;
-    for text in [
+    let texts = [
         "L X; B 10 10 0 0 1 1; E",
         "L X; P 0 0 10 0 5 5; E",
         "DS 1 1 4; L X; B 1 1 0 0; DF; E",
         "L X; B 1000000000000 1 0 0; E",
         "9 1000000000001; (1000000000001); E",
         "L M; B 0 10 0 0; B 10 0 0 0; W 0 0 0; E",
-    ] {
-        let layout = read(rt.alloc(), text.as_bytes(), &layer)?;
-        assert_eq!(rt; layout.prims.as_slice().len(), 0, "{text}");
-    }
-    Ok(())
+    ];
+    compare_empty(&rt, rt.alloc(), &texts)
 }
 
-/// More than a thousand commands, of which the last counts as the first does.
-#[test]
-fn a_text_of_many_commands(rt: HostRuntime) -> Result<(), Fail> {
-    let layer = Name::new(b"M").ok_or("a name")?;
-    let mut text = String::new(rt.alloc());
+/// More than a thousand commands, and behind them these.
+fn many_commands(alloc: Global, last: &str) -> Result<String, AllocError> {
+    let mut text = String::new(alloc);
     text.push_str("DS 1; L M; B 30 10 100 50; DF; L M;")?;
     for _ in 0..1_200u32 {
         text.push_str("B 2 2 0 0;")?;
     }
-    let mut broken = String::from_str(rt.alloc(), text.as_str())?;
-    text.push_str("C 1; B 4 4 0 0; E")?;
-    broken.push_str("Q; E")?;
-    assert!(rt; text.len() <= 16777216);
-    assert!(rt; broken.len() <= 16777216);
-    let layout = read(rt.alloc(), text.as_bytes(), &layer)?;
-    let prims = layout.prims.as_slice();
-    assert_eq!(rt; prims.len(), 1202);
-    for (place, want) in [
-        (0usize, (-2, -2, 2, 2)),
-        (1200, (170, 90, 230, 110)),
-        (1201, (-4, -4, 4, 4)),
-    ] {
-        let Some(Prim::Box(r)) = prims.get(place) else {
-            return Err("no box")?;
-        };
-        assert_eq!(rt; (r.x1, r.y1, r.x2, r.y2), want, "{place}");
-    }
-    let fault = CifError::Fault {
-        command: 1206,
-        what: What::Syntax,
-    };
+    text.push_str(last)?;
+    Ok(text)
+}
+
+/// The last command counts as the first does.
+#[test]
+fn a_text_of_many_commands(rt: HostRuntime) -> Result<(), Fail> {
+    let text = many_commands(rt.alloc(), "C 1; B 4 4 0 0; E")?;
+    assert_eq!(rt; count(rt.alloc(), text.as_str())?, 1202);
+    assert_eq!(rt; box_at(rt.alloc(), text.as_str(), 0)?, (-2, -2, 2, 2));
     assert_eq!(rt;
-        read(rt.alloc(), broken.as_bytes(), &layer).err(),
-        Some(fault)
+        box_at(rt.alloc(), text.as_str(), 1200)?,
+        (170, 90, 230, 110)
     );
+    assert_eq!(rt; box_at(rt.alloc(), text.as_str(), 1201)?, (-4, -4, 4, 4));
+    let broken = many_commands(rt.alloc(), "Q; E")?;
+    compare_faults(&rt, rt.alloc(), &[(broken.as_str(), 1206, What::Syntax)]);
     Ok(())
 }
 
 /// A count beyond 1,000,000,000,000 is shown as that.
 #[test]
-fn the_greatest_count(rt: HostRuntime) -> Result<(), Fail> {
-    let layer = Name::new(b"M").ok_or("a name")?;
-    let mut text = String::new(rt.alloc());
-    text.push_str("DS 1; DF;")?;
-    for k in 1..45 {
-        text.push_str(format!(in rt.alloc(); "DS {}; C {k}; C {k}; DF;", k + 1)?.as_str())?;
-    }
-    text.push_str("C 45; E")?;
-    assert!(rt; text.len() <= 16777216);
-    let limit = CifError::Limit {
-        kind: CifLimit::Calls,
-        count: 1_000_000_000_000,
-    };
-    assert_eq!(rt;
-        read(rt.alloc(), text.as_bytes(), &layer).err(),
-        Some(limit)
-    );
-    Ok(())
+fn the_greatest_count(rt: HostRuntime) {
+    let limit = exceeds(CifLimit::Calls, 1_000_000_000_000);
+    assert_eq!(rt; doubled_refusal(rt.alloc(), "", 45), limit);
 }

@@ -1,11 +1,11 @@
-ghost use Rattle.std.specs.Prelude.{◌≤◌, length, IfSome};
+ghost use Rattle.std.specs.Prelude.{IfSome};
 ghost use Rattle.dpl_options.specs.Options.{IsSplitLayer};
 
 use dpl_cif::What;
 use dpl_layer::{Layer, LayerError, layer_of, read_drawing, read_layer};
 use dpl_lex::{Name, commands};
 use dpl_options::{Options, Weights};
-use std::alloc::Global;
+use std::alloc::{AllocError, Global};
 use std::test::Fail;
 
 /// Layer M, a spacing of one micron, an overlap of 0.2, no keep layer.
@@ -32,67 +32,81 @@ fn options_with(keep: Option<Name>) -> Option<Options>
     Some(Options::new(layer, 100, 20, Weights::new(1, 10, 10), keep))
 }
 
-fn refusal(alloc: Global, text: &[u8]) -> Option<LayerError>
-    requires { length text.now ≤ 16777216 }
-{
-    let options = options()?;
-    read_layer(alloc, text, &options).err()
+/// The layer M of a text, and why there is none, `None` where the text or a name is too long.
+fn answer(alloc: Global, text: &[u8], keep: &[u8]) -> Option<Result<Layer, LayerError>> {
+    let options = if keep.is_empty() {
+        options()?
+    } else {
+        keeping(keep)?
+    };
+    if text.len() > 10_000 {
+        return None;
+    }
+    Some(read_layer(alloc, text, &options))
 }
+
+/// How many fragments, cuts and edges the layer M has.
+fn counts(alloc: Global, text: &[u8], keep: &[u8]) -> Option<(usize, usize, usize)> {
+    let layer = answer(alloc, text, keep)?.ok()?;
+    Some((
+        layer.fragments.rects.as_slice().len(),
+        layer.fragments.cuts.as_slice().len(),
+        layer.net.graph.edges.as_slice().len(),
+    ))
+}
+
+/// Why there is no layer M.
+fn refusal(alloc: Global, text: &[u8], keep: &[u8]) -> Option<LayerError> {
+    answer(alloc, text, keep)?.err()
+}
+
+/// The refusal by a broken rule, and by a limit.
+fn breaks(command: u32, what: What) -> Option<LayerError> {
+    Some(LayerError::Layout { command, what })
+}
+
+fn exceeds(kind: u8, count: u64) -> Option<LayerError> {
+    Some(LayerError::Limit { kind, count })
+}
+
+/// No keep layer, and the layer K as one.
+const NONE: &[u8] = b"";
+
+const K: &[u8] = b"K";
 
 /// A wire with a box near each end is cut in its middle.
 #[test]
-fn a_wire_is_cut(rt: HostRuntime) -> Result<(), Fail> {
-    let options = options().ok_or("no options")?;
+fn a_wire_is_cut(rt: HostRuntime) {
     let text = b"L M; B 1000 100 500 50; B 100 100 50 200; B 100 100 950 200; E";
-    let layer = read_layer(rt.alloc(), text.as_slice(), &options)
-        .ok()
-        .ok_or("refused")?;
-    assert_eq!(rt; layer.fragments.rects.as_slice().len(), 4);
-    assert_eq!(rt; layer.fragments.cuts.as_slice().len(), 1);
-    assert_eq!(rt; layer.net.graph.edges.as_slice().len(), 3);
-    Ok(())
+    assert_eq!(rt; counts(rt.alloc(), text, NONE), Some((4, 1, 3)));
 }
 
 #[test]
-fn a_broken_rule(rt: HostRuntime) -> Result<(), Fail> {
-    let error = refusal(rt.alloc(), b"L M; B 0 1 2; E".as_slice()).ok_or("read")?;
-    let wanted = LayerError::Layout {
-        command: 2,
-        what: What::Syntax,
-    };
-    assert_eq!(rt; error, wanted);
-    Ok(())
+fn a_broken_rule(rt: HostRuntime) {
+    let found = refusal(rt.alloc(), b"L M; B 0 1 2; E", NONE);
+    assert_eq!(rt; found, breaks(2, What::Syntax));
 }
 
 #[test]
-fn too_far(rt: HostRuntime) -> Result<(), Fail> {
-    let error = refusal(rt.alloc(), b"L M; B 2 2 536870912 0; E".as_slice()).ok_or("read")?;
-    let wanted = LayerError::Limit {
-        kind: 4,
-        count: 1_073_741_826,
-    };
-    assert_eq!(rt; error, wanted);
-    Ok(())
+fn too_far(rt: HostRuntime) {
+    let found = refusal(rt.alloc(), b"L M; B 2 2 536870912 0; E", NONE);
+    assert_eq!(rt; found, exceeds(4, 1_073_741_826));
 }
 
 /// 512 upright bars and 512 level ones make 263,168 tiles.
-#[test]
-fn too_many_tiles(rt: HostRuntime) -> Result<(), Fail> {
-    let text =
-        b"DS 1; L M; B 10 20480 5 10240; DF; DS 2; C 1; C 1 T 40 0; DF; DS 3; C 2; C 2 T 80 0; DF; DS \
+const MANY_TILES: &[u8] =
+    b"DS 1; L M; B 10 20480 5 10240; DF; DS 2; C 1; C 1 T 40 0; DF; DS 3; C 2; C 2 T 80 0; DF; DS \
       4; C 3; C 3 T 160 0; DF; DS 5; C 4; C 4 T 320 0; DF; DS 6; C 5; C 5 T 640 0; DF; DS 7; C 6; \
       C 6 T 1280 0; DF; DS 8; C 7; C 7 T 2560 0; DF; DS 9; C 8; C 8 T 5120 0; DF; DS 10; C 9; C 9 \
       T 10240 0; DF; DS 11; L M; B 20480 10 10240 25; DF; DS 12; C 11; C 11 T 0 40; DF; DS 13; C \
       12; C 12 T 0 80; DF; DS 14; C 13; C 13 T 0 160; DF; DS 15; C 14; C 14 T 0 320; DF; DS 16; C \
       15; C 15 T 0 640; DF; DS 17; C 16; C 16 T 0 1280; DF; DS 18; C 17; C 17 T 0 2560; DF; DS 19; \
       C 18; C 18 T 0 5120; DF; DS 20; C 19; C 19 T 0 10240; DF; C 10; C 20; E";
-    let wanted = LayerError::Limit {
-        kind: 5,
-        count: 100_001,
-    };
-    let error = refusal(rt.alloc(), text.as_slice()).ok_or("read")?;
-    assert_eq!(rt; error, wanted);
-    Ok(())
+
+#[test]
+fn too_many_tiles(rt: HostRuntime) {
+    let found = refusal(rt.alloc(), MANY_TILES, NONE);
+    assert_eq!(rt; found, exceeds(5, 100_001));
 }
 
 /// 141 wires with 250 boxes between each two make 105,000 fragments.
@@ -110,203 +124,148 @@ const MANY_FRAGMENTS: &[u8] =
       0 16800; C 27; C 23 T 0 15360; C 22 T 0 16320; E";
 
 #[test]
-fn too_many_fragments(rt: HostRuntime) -> Result<(), Fail> {
-    let wanted = LayerError::Limit {
-        kind: 6,
-        count: 100_001,
-    };
-    if MANY_FRAGMENTS.len() > 10_000 {
-        return Err("too long")?;
-    }
-    let error = refusal(rt.alloc(), MANY_FRAGMENTS).ok_or("read")?;
-    assert_eq!(rt; error, wanted);
-    Ok(())
+fn too_many_fragments(rt: HostRuntime) {
+    let found = refusal(rt.alloc(), MANY_FRAGMENTS, NONE);
+    assert_eq!(rt; found, exceeds(6, 100_001));
 }
 
 /// 1,024 boxes that are all close to one another make 523,776 clashes.
-#[test]
-fn too_many_edges(rt: HostRuntime) -> Result<(), Fail> {
-    let text =
-        b"DS 1 1 2; L M; B 2 2 1 1; DF; DS 2; C 1; C 1 T 2 0; DF; DS 3; C 2; C 2 T 4 0; DF; DS 4; C 3; \
+const MANY_EDGES: &[u8] =
+    b"DS 1 1 2; L M; B 2 2 1 1; DF; DS 2; C 1; C 1 T 2 0; DF; DS 3; C 2; C 2 T 4 0; DF; DS 4; C 3; \
       C 3 T 8 0; DF; DS 5; C 4; C 4 T 16 0; DF; DS 6; C 5; C 5 T 32 0; DF; DS 7; C 6; C 6 T 0 2; \
       DF; DS 8; C 7; C 7 T 0 4; DF; DS 9; C 8; C 8 T 0 8; DF; DS 10; C 9; C 9 T 0 16; DF; DS 11; C \
       10; C 10 T 0 32; DF; C 11; E";
-    let wanted = LayerError::Limit {
-        kind: 7,
-        count: 400_001,
-    };
-    let error = refusal(rt.alloc(), text.as_slice()).ok_or("read")?;
-    assert_eq!(rt; error, wanted);
-    Ok(())
-}
 
-/// The layer M where nothing is cut in a cell of the layer with this name.
-fn beside(alloc: Global, text: &[u8], name: &[u8]) -> Option<Layer>
-    requires { length text.now ≤ 16777216 }
-{
-    let options = keeping(name)?;
-    read_layer(alloc, text, &options).ok()
-}
-
-fn refusal_beside(alloc: Global, text: &[u8], name: &[u8]) -> Option<LayerError>
-    requires { length text.now ≤ 16777216 }
-{
-    let options = keeping(name)?;
-    read_layer(alloc, text, &options).err()
+#[test]
+fn too_many_edges(rt: HostRuntime) {
+    let found = refusal(rt.alloc(), MANY_EDGES, NONE);
+    assert_eq!(rt; found, exceeds(7, 400_001));
 }
 
 /// The same wire, which the keep layer covers.
 #[test]
-fn a_kept_wire(rt: HostRuntime) -> Result<(), Fail> {
+fn a_kept_wire(rt: HostRuntime) {
     let text =
         b"L M; B 1000 100 500 50; B 100 100 50 200; B 100 100 950 200; L K; B 1000 20 500 50; E";
-    let layer = beside(rt.alloc(), text.as_slice(), b"K".as_slice()).ok_or("refused")?;
-    assert_eq!(rt; layer.fragments.rects.as_slice().len(), 3);
-    assert_eq!(rt; layer.fragments.cuts.as_slice().len(), 0);
-    assert_eq!(rt; layer.net.graph.edges.as_slice().len(), 2);
-    Ok(())
+    assert_eq!(rt; counts(rt.alloc(), text, K), Some((3, 0, 2)));
+}
+
+/// How many fragments and cuts the layer M has.
+fn pieces(alloc: Global, text: &[u8], keep: &[u8]) -> Option<(usize, usize)> {
+    let (fragments, cuts, _) = counts(alloc, text, keep)?;
+    Some((fragments, cuts))
 }
 
 /// A cell of the keep layer in the middle of the wire leaves a stretch on each side of it.
 #[test]
-fn a_kept_cell(rt: HostRuntime) -> Result<(), Fail> {
+fn a_kept_cell(rt: HostRuntime) {
     let text =
         b"L M; B 1000 100 500 50; B 100 100 50 200; B 100 100 950 200; L K; B 20 20 500 50; E";
-    let layer = beside(rt.alloc(), text.as_slice(), b"K".as_slice()).ok_or("refused")?;
-    assert_eq!(rt; layer.fragments.rects.as_slice().len(), 5);
-    assert_eq!(rt; layer.fragments.cuts.as_slice().len(), 2);
-    Ok(())
+    assert_eq!(rt; pieces(rt.alloc(), text, K), Some((5, 2)));
 }
 
 /// The keep layer beside the wire keeps nothing of it.
 #[test]
-fn a_keep_layer_beside(rt: HostRuntime) -> Result<(), Fail> {
+fn a_keep_layer_beside(rt: HostRuntime) {
     let text =
         b"L M; B 1000 100 500 50; B 100 100 50 200; B 100 100 950 200; L K; B 1000 20 500 110; E";
-    let layer = beside(rt.alloc(), text.as_slice(), b"K".as_slice()).ok_or("refused")?;
-    assert_eq!(rt; layer.fragments.rects.as_slice().len(), 4);
-    assert_eq!(rt; layer.fragments.cuts.as_slice().len(), 1);
-    Ok(())
+    assert_eq!(rt; pieces(rt.alloc(), text, K), Some((4, 1)));
 }
 
 /// A keep layer of which the text says nothing keeps nothing. The chosen layer as the keep layer keeps all.
 #[test]
-fn an_empty_keep_layer_and_the_chosen_one(rt: HostRuntime) -> Result<(), Fail> {
+fn an_empty_keep_layer_and_the_chosen_one(rt: HostRuntime) {
     let text = b"L M; B 1000 100 500 50; B 100 100 50 200; B 100 100 950 200; E";
-    let layer = beside(rt.alloc(), text.as_slice(), b"K".as_slice()).ok_or("refused")?;
-    assert_eq!(rt; layer.fragments.cuts.as_slice().len(), 1);
-    let layer = beside(rt.alloc(), text.as_slice(), b"M".as_slice()).ok_or("refused")?;
-    assert_eq!(rt; layer.fragments.cuts.as_slice().len(), 0);
-    assert_eq!(rt; layer.fragments.rects.as_slice().len(), 3);
-    Ok(())
+    assert_eq!(rt; pieces(rt.alloc(), text, K), Some((4, 1)));
+    assert_eq!(rt; pieces(rt.alloc(), text, b"M"), Some((3, 0)));
 }
 
-/// The two stages one after the other.
+/// The primitives of the layer M and of the layer K, and the cuts, by the two stages one after the other.
+fn staged(alloc: Global, text: &[u8]) -> Result<(usize, usize, usize), Fail> {
+    let options = keeping(K).ok_or("no options")?;
+    if text.len() > 10_000 {
+        return Err("too long")?;
+    }
+    let commands = commands(alloc, text)?;
+    let drawing = read_drawing(alloc, text, &commands, &options)
+        .ok()
+        .ok_or("refused")?;
+    let layer = layer_of(alloc, &drawing, &options).ok().ok_or("refused")?;
+    Ok((
+        drawing.layer.prims.as_slice().len(),
+        drawing.keep.prims.as_slice().len(),
+        layer.fragments.cuts.as_slice().len(),
+    ))
+}
+
 #[test]
 fn a_drawing_and_its_layer(rt: HostRuntime) -> Result<(), Fail> {
     let text =
-        b"L M; B 1000 100 500 50; B 100 100 50 200; B 100 100 950 200; L K; B 20 20 500 50; E".as_slice();
-    let options = keeping(b"K".as_slice()).ok_or("no options")?;
-    let commands = commands(rt.alloc(), text)?;
-    let drawing = read_drawing(rt.alloc(), text, &commands, &options)
-        .ok()
-        .ok_or("refused")?;
-    assert_eq!(rt; drawing.layer.prims.as_slice().len(), 3);
-    assert_eq!(rt; drawing.keep.prims.as_slice().len(), 1);
-    let layer = layer_of(rt.alloc(), &drawing, &options)
-        .ok()
-        .ok_or("refused")?;
-    assert_eq!(rt; layer.fragments.cuts.as_slice().len(), 2);
+        b"L M; B 1000 100 500 50; B 100 100 50 200; B 100 100 950 200; L K; B 20 20 500 50; E";
+    assert_eq!(rt; staged(rt.alloc(), text)?, (3, 1, 2));
     Ok(())
 }
 
 /// A round flash on the keep layer is a fault, and none where there is no keep layer.
 #[test]
-fn a_fault_of_the_keep_layer(rt: HostRuntime) -> Result<(), Fail> {
-    let text = b"L M; B 10 10 0 0; L K; R 10 5 5; E".as_slice();
-    let error = refusal_beside(rt.alloc(), text, b"K".as_slice()).ok_or("read")?;
-    let wanted = LayerError::Layout {
-        command: 4,
-        what: What::Round,
-    };
-    assert_eq!(rt; error, wanted);
-    assert!(rt; refusal(rt.alloc(), text).is_none());
-    Ok(())
+fn a_fault_of_the_keep_layer(rt: HostRuntime) {
+    let text = b"L M; B 10 10 0 0; L K; R 10 5 5; E";
+    assert_eq!(rt; refusal(rt.alloc(), text, K), breaks(4, What::Round));
+    assert!(rt; counts(rt.alloc(), text, NONE).is_some());
 }
 
 /// The fault of the chosen layer comes before that of the keep layer, though it stands behind it.
 #[test]
-fn a_fault_of_the_chosen_layer_first(rt: HostRuntime) -> Result<(), Fail> {
-    let text = b"L K; R 1 0 0; C 7; E".as_slice();
-    let error = refusal_beside(rt.alloc(), text, b"K".as_slice()).ok_or("read")?;
-    let wanted = LayerError::Layout {
-        command: 3,
-        what: What::Missing,
-    };
-    assert_eq!(rt; error, wanted);
-    Ok(())
+fn a_fault_of_the_chosen_layer_first(rt: HostRuntime) {
+    let text = b"L K; R 1 0 0; C 7; E";
+    assert_eq!(rt; refusal(rt.alloc(), text, K), breaks(3, What::Missing));
 }
-
-const FAR: LayerError = LayerError::Limit {
-    kind: 4,
-    count: 1_073_741_826,
-};
 
 /// The fault of the keep layer comes before a limit of the chosen layer.
 #[test]
-fn faults_before_limits(rt: HostRuntime) -> Result<(), Fail> {
-    let text = b"L M; B 2 2 536870912 0; L K; R 10 5 5; E".as_slice();
-    let error = refusal_beside(rt.alloc(), text, b"K".as_slice()).ok_or("read")?;
-    let wanted = LayerError::Layout {
-        command: 4,
-        what: What::Round,
-    };
-    assert_eq!(rt; error, wanted);
-    assert_eq!(rt; refusal(rt.alloc(), text).ok_or("read")?, FAR);
-    Ok(())
+fn faults_before_limits(rt: HostRuntime) {
+    let text = b"L M; B 2 2 536870912 0; L K; R 10 5 5; E";
+    assert_eq!(rt; refusal(rt.alloc(), text, K), breaks(4, What::Round));
+    assert_eq!(rt; refusal(rt.alloc(), text, NONE), exceeds(4, 1_073_741_826));
 }
 
 /// A limit of the chosen layer comes before one of the keep layer.
 #[test]
-fn limits_of_the_chosen_layer_first(rt: HostRuntime) -> Result<(), Fail> {
-    let text = b"L M; B 2 2 536870912 0; L K; B 2 2 536870913 0; E".as_slice();
-    let error = refusal_beside(rt.alloc(), text, b"K".as_slice()).ok_or("read")?;
-    assert_eq!(rt; error, FAR);
-    let text = b"L M; B 2 2 0 0; L K; B 2 2 536870912 0; E".as_slice();
-    let error = refusal_beside(rt.alloc(), text, b"K".as_slice()).ok_or("read")?;
-    assert_eq!(rt; error, FAR);
-    assert!(rt; refusal(rt.alloc(), text).is_none());
-    Ok(())
+fn limits_of_the_chosen_layer_first(rt: HostRuntime) {
+    let far = exceeds(4, 1_073_741_826);
+    let text = b"L M; B 2 2 536870912 0; L K; B 2 2 536870913 0; E";
+    assert_eq!(rt; refusal(rt.alloc(), text, K), far);
+    let text = b"L M; B 2 2 0 0; L K; B 2 2 536870912 0; E";
+    assert_eq!(rt; refusal(rt.alloc(), text, K), far);
+    assert!(rt; counts(rt.alloc(), text, NONE).is_some());
 }
 
 /// The same wire upright, with a cell of the keep layer in its middle.
 #[test]
-fn a_kept_cell_of_an_upright_wire(rt: HostRuntime) -> Result<(), Fail> {
+fn a_kept_cell_of_an_upright_wire(rt: HostRuntime) {
     let text =
         b"L M; B 100 1000 50 500; B 100 100 200 50; B 100 100 200 950; L K; B 20 20 50 500; E";
-    let layer = beside(rt.alloc(), text.as_slice(), b"K".as_slice()).ok_or("refused")?;
-    assert_eq!(rt; layer.fragments.rects.as_slice().len(), 5);
-    assert_eq!(rt; layer.fragments.cuts.as_slice().len(), 2);
-    Ok(())
+    assert_eq!(rt; pieces(rt.alloc(), text, K), Some((5, 2)));
+}
+
+fn cuts(alloc: Global, text: &[u8], keep: &[u8]) -> Option<usize> {
+    let (_, cuts, _) = counts(alloc, text, keep)?;
+    Some(cuts)
 }
 
 /// The cell beside the last column of the stretch, which is as long as the overlap, leaves the cut, and one a hundredth
 /// of a micron nearer does not. What overlaps on the keep layer is kept as well.
 #[test]
-fn kept_cells_at_the_end_of_a_stretch(rt: HostRuntime) -> Result<(), Fail> {
+fn kept_cells_at_the_end_of_a_stretch(rt: HostRuntime) {
     let past =
         b"L M; B 394 100 197 50; B 100 100 50 200; B 100 100 344 200; L K; B 2 100 208 50; E";
-    let layer = beside(rt.alloc(), past.as_slice(), b"K".as_slice()).ok_or("refused")?;
-    assert_eq!(rt; layer.fragments.cuts.as_slice().len(), 1);
+    assert_eq!(rt; cuts(rt.alloc(), past, K), Some(1));
     let last =
         b"L M; B 394 100 197 50; B 100 100 50 200; B 100 100 344 200; L K; B 2 100 207 50; E";
-    let layer = beside(rt.alloc(), last.as_slice(), b"K".as_slice()).ok_or("refused")?;
-    assert_eq!(rt; layer.fragments.cuts.as_slice().len(), 0);
+    assert_eq!(rt; cuts(rt.alloc(), last, K), Some(0));
     let overlapping =
         b"L M; B 394 100 197 50; B 100 100 50 200; B 100 100 344 200; L K; B 2 100 207 50; B 2 100 207 50; E";
-    let layer = beside(rt.alloc(), overlapping.as_slice(), b"K".as_slice()).ok_or("refused")?;
-    assert_eq!(rt; layer.fragments.cuts.as_slice().len(), 0);
-    Ok(())
+    assert_eq!(rt; cuts(rt.alloc(), overlapping, K), Some(0));
 }
 
 /// 512 upright bars and 512 level ones on the keep layer make 263,168 tiles.
@@ -319,9 +278,14 @@ const KEPT_BARS: &[u8] =
       116; C 115; C 115 T 0 640; DF; DS 117; C 116; C 116 T 0 1280; DF; DS 118; C 117; C 117 T 0 2560; DF; DS \
       119; C 118; C 118 T 0 5120; DF; DS 120; C 119; C 119 T 0 10240; DF; C 110; C 120; ";
 
-fn joined(alloc: Global, first: &[u8], second: &[u8]) -> Result<Vec<u8>, Fail> {
-    let mut text = Vec::new(alloc);
-    text.extend_from_slice(first)?;
+/// Why there is no layer M beside the layer K of these two texts.
+fn refusal_of_both(alloc: Global, first: &[u8], second: &[u8]) -> Option<LayerError> {
+    let text = joined(alloc, first, second).ok()?;
+    refusal(alloc, text.as_slice(), K)
+}
+
+fn joined(alloc: Global, first: &[u8], second: &[u8]) -> Result<Vec<u8>, AllocError> {
+    let mut text = Vec::from_slice(alloc, first)?;
     text.extend_from_slice(second)?;
     Ok(text)
 }
@@ -329,20 +293,14 @@ fn joined(alloc: Global, first: &[u8], second: &[u8]) -> Result<Vec<u8>, Fail> {
 /// Too many tiles of the keep layer are the limit on tiles. They come before too many fragments, as the chosen layer's
 /// own tiles do.
 #[test]
-fn too_many_kept_tiles(rt: HostRuntime) -> Result<(), Fail> {
-    let wanted = LayerError::Limit {
-        kind: 5,
-        count: 100_001,
-    };
-    for others in [b"L M; B 10 10 5 5; E".as_slice(), MANY_FRAGMENTS] {
-        let text = joined(rt.alloc(), KEPT_BARS, others)?;
-        if text.len() > 10_000 {
-            return Err("too long")?;
-        }
-        let error = refusal_beside(rt.alloc(), text.as_slice(), b"K".as_slice()).ok_or("read")?;
-        assert_eq!(rt; error, wanted);
-    }
-    Ok(())
+fn too_many_kept_tiles(rt: HostRuntime) {
+    let wanted = exceeds(5, 100_001);
+    let few = b"L M; B 10 10 5 5; E";
+    assert_eq!(rt; refusal_of_both(rt.alloc(), KEPT_BARS, few), wanted);
+    assert_eq!(rt;
+        refusal_of_both(rt.alloc(), KEPT_BARS, MANY_FRAGMENTS),
+        wanted
+    );
 }
 
 /// 65,536 boxes on the keep layer.
@@ -353,34 +311,29 @@ const MANY_KEPT: &[u8] =
       C 11; C 11 T 4096 0; DF; DS 13; C 12; C 12 T 8192 0; DF; DS 14; C 13; C 13 T 16384 0; DF; DS 15; C 14; C \
       14 T 32768 0; DF; DS 16; C 15; C 15 T 65536 0; DF; DS 17; C 16; C 16 T 131072 0; DF; C 17; ";
 
+/// Whether these two texts have a layer M where there is no keep layer.
+fn have_layer(alloc: Global, first: &[u8], second: &[u8]) -> Option<bool> {
+    let text = joined(alloc, first, second).ok()?;
+    Some(counts(alloc, text.as_slice(), NONE).is_some())
+}
+
 /// Too many primitives of the keep layer are a limit of its own. A limit of the chosen layer comes before it, though its
 /// kind is the greater one, and so does a fault.
 #[test]
-fn too_many_kept_primitives(rt: HostRuntime) -> Result<(), Fail> {
-    let many = LayerError::Limit {
-        kind: 2,
-        count: 65_536,
-    };
-    let missing = LayerError::Layout {
-        command: 72,
-        what: What::Missing,
-    };
-    for (others, wanted) in [
-        (b"L M; B 2 2 0 0; E".as_slice(), many),
-        (b"L M; B 2 2 536870912 0; E", FAR),
-        (b"L M; B 2 2 0 0; C 99; E", missing),
-    ] {
-        let text = joined(rt.alloc(), MANY_KEPT, others)?;
-        if text.len() > 10_000 {
-            return Err("too long")?;
-        }
-        let error = refusal_beside(rt.alloc(), text.as_slice(), b"K".as_slice()).ok_or("read")?;
-        assert_eq!(rt; error, wanted);
-    }
-    let text = joined(rt.alloc(), MANY_KEPT, b"L M; B 2 2 0 0; E".as_slice())?;
-    if text.len() > 10_000 {
-        return Err("too long")?;
-    }
-    assert!(rt; refusal(rt.alloc(), text.as_slice()).is_none());
-    Ok(())
+fn too_many_kept_primitives(rt: HostRuntime) {
+    let (few, far) = (b"L M; B 2 2 0 0; E", b"L M; B 2 2 536870912 0; E");
+    let missing = b"L M; B 2 2 0 0; C 99; E";
+    assert_eq!(rt;
+        refusal_of_both(rt.alloc(), MANY_KEPT, few),
+        exceeds(2, 65_536)
+    );
+    assert_eq!(rt;
+        refusal_of_both(rt.alloc(), MANY_KEPT, far),
+        exceeds(4, 1_073_741_826)
+    );
+    assert_eq!(rt;
+        refusal_of_both(rt.alloc(), MANY_KEPT, missing),
+        breaks(72, What::Missing)
+    );
+    assert_eq!(rt; have_layer(rt.alloc(), MANY_KEPT, few), Some(true));
 }

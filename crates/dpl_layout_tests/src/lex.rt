@@ -4,22 +4,54 @@ ghost use Rattle.dpl_limits.specs.declared.TheConstants.{MOST_LAYOUT_BYTES};
 use dpl_lex::types::Commands;
 use dpl_lex::{Ending, Lexer, Name, Num, Numbers, Span, commands};
 use std::alloc::{AllocError, Global};
+use std::process::Abort;
 use std::test::Fail;
+
+/// The commands of a text, whole where the size is 0, and else fed in pieces of this size.
+fn cut(alloc: Global, text: &[u8], size: usize) -> Result<Commands, Fail> {
+    if text.len() > 10_000 {
+        return Err("too long")?;
+    }
+    let found = if size == 0 {
+        commands(alloc, text)?
+    } else {
+        fed_in(alloc, text, size)?
+    };
+    Ok(found)
+}
+
+/// How many commands there are, and how the text ends.
+fn counted(alloc: Global, text: &[u8], size: usize) -> Result<(usize, Ending), Fail> {
+    let found = cut(alloc, text, size)?;
+    Ok((found.spans.as_slice().len(), found.ending))
+}
+
+/// Compares the places of all commands.
+fn compare_spans<R: Abort>(
+    rt: &R,
+    alloc: Global,
+    text: &[u8],
+    size: usize,
+    wanted: &[Span],
+) -> Result<(), Fail> {
+    let found = cut(alloc, text, size)?;
+    assert_eq!(rt; found.spans.as_slice(), wanted);
+    Ok(())
+}
 
 #[test]
 fn commands_are_cut(rt: HostRuntime) -> Result<(), Fail> {
-    let found = commands(rt.alloc(), b"a(b (c; d) e) ;9 x(;;L M;\n E;B")?;
+    let text = b"a(b (c; d) e) ;9 x(;;L M;\n E;B";
     let spans = [
         Span { start: 1, end: 14 },
         Span { start: 15, end: 19 },
         Span { start: 20, end: 20 },
         Span { start: 21, end: 24 },
     ];
-    assert_eq!(rt; found.spans.as_slice(), spans.as_slice());
-    assert_eq!(rt; found.ending, Ending::End);
-    let open = commands(rt.alloc(), b"L M; (open; E")?;
-    assert_eq!(rt; open.spans.as_slice().len(), 1);
-    assert_eq!(rt; open.ending, Ending::Paren);
+    compare_spans(&rt, rt.alloc(), text, 0, &spans)?;
+    assert_eq!(rt; counted(rt.alloc(), text, 0)?, (4, Ending::End));
+    let open = b"L M; (open; E";
+    assert_eq!(rt; counted(rt.alloc(), open, 0)?, (1, Ending::Paren));
     Ok(())
 }
 
@@ -74,45 +106,50 @@ fn fed_in(alloc: Global, text: &[u8], size: usize) -> Result<Commands, AllocErro
     Ok(lexer.finish())
 }
 
+/// Compares the commands of a text that is fed in pieces with those of the whole text.
+fn compare_fed<R: Abort>(rt: &R, alloc: Global, text: &[u8], size: usize) -> Result<(), Fail> {
+    let whole = cut(alloc, text, 0)?;
+    compare_spans(rt, alloc, text, size, whole.spans.as_slice())
+}
+
 #[test]
 fn pieces_of_any_size_give_the_same(rt: HostRuntime) -> Result<(), Fail> {
-    let whole = commands(rt.alloc(), BLOCK)?;
-    assert_eq!(rt; whole.spans.as_slice().len(), 21);
-    assert_eq!(rt; whole.ending, Ending::End);
-    let by_one = fed_in(rt.alloc(), BLOCK, 1)?;
-    assert_eq!(rt; by_one.spans.as_slice(), whole.spans.as_slice());
-    assert_eq!(rt; by_one.ending, Ending::End);
-    let by_seven = fed_in(rt.alloc(), BLOCK, 7)?;
-    assert_eq!(rt; by_seven.spans.as_slice(), whole.spans.as_slice());
-    assert_eq!(rt; by_seven.ending, Ending::End);
+    assert_eq!(rt; counted(rt.alloc(), BLOCK, 0)?, (21, Ending::End));
+    compare_fed(&rt, rt.alloc(), BLOCK, 1)?;
+    assert_eq!(rt; counted(rt.alloc(), BLOCK, 1)?, (21, Ending::End));
+    compare_fed(&rt, rt.alloc(), BLOCK, 7)?;
+    assert_eq!(rt; counted(rt.alloc(), BLOCK, 7)?, (21, Ending::End));
+    Ok(())
+}
+
+/// Compares the commands of two pieces, and how they end.
+fn compare_two<R: Abort>(
+    rt: &R,
+    alloc: Global,
+    pieces: (&[u8], &[u8]),
+    wanted: &[Span],
+    ending: Ending,
+) -> Result<(), Fail> {
+    if pieces.0.len() > 10_000 {
+        return Err("too long")?;
+    }
+    if pieces.1.len() > 10_000 {
+        return Err("too long")?;
+    }
+    let mut lexer = Lexer::new(alloc);
+    lexer.feed(pieces.0)?;
+    lexer.feed(pieces.1)?;
+    let found = lexer.finish();
+    assert_eq!(rt; found.spans.as_slice(), wanted);
+    assert_eq!(rt; found.ending, ending);
     Ok(())
 }
 
 #[test]
 fn pieces_cut_comments_and_commands(rt: HostRuntime) -> Result<(), Fail> {
-    let mut lexer = Lexer::new(rt.alloc());
-    lexer.feed(b"(a")?;
-    lexer.feed(b";b);E")?;
-    let comment = lexer.finish();
-    assert_eq!(rt;
-        comment.spans.as_slice(),
-        [Span { start: 0, end: 5 }].as_slice()
-    );
-    assert_eq!(rt; comment.ending, Ending::End);
-    let mut lexer = Lexer::new(rt.alloc());
-    lexer.feed(b"L M")?;
-    lexer.feed(b";B 1")?;
-    let command = lexer.finish();
-    assert_eq!(rt;
-        command.spans.as_slice(),
-        [Span { start: 0, end: 3 }].as_slice()
-    );
-    assert_eq!(rt; command.ending, Ending::NoEnd);
-    let mut lexer = Lexer::new(rt.alloc());
-    lexer.feed(b"E")?;
-    lexer.feed(b";L M;")?;
-    let ended = lexer.finish();
-    assert_eq!(rt; ended.spans.as_slice().len(), 0);
-    assert_eq!(rt; ended.ending, Ending::End);
-    Ok(())
+    let comment = [Span { start: 0, end: 5 }];
+    compare_two(&rt, rt.alloc(), (b"(a", b";b);E"), &comment, Ending::End)?;
+    let command = [Span { start: 0, end: 3 }];
+    compare_two(&rt, rt.alloc(), (b"L M", b";B 1"), &command, Ending::NoEnd)?;
+    compare_two(&rt, rt.alloc(), (b"E", b";L M;"), &[], Ending::End)
 }

@@ -4,7 +4,8 @@ use dpl_links::{NetError, net};
 use dpl_near::{are_apart, shapes};
 use dpl_options::Weights;
 use dpl_sign::{Kind, Net};
-use std::alloc::Global;
+use std::alloc::{AllocError, Global};
+use std::process::Abort;
 use std::test::Fail;
 
 type Corners = (i64, i64, i64, i64);
@@ -29,21 +30,21 @@ fn answer_for(alloc: Global, tiles: &[Rect]) -> Option<Result<Net, NetError>> {
     }
 }
 
-fn answer(rt: &HostRuntime, tiles: &[Corners]) -> Result<Result<Net, NetError>, Fail> {
-    let mut rects = Vec::new(rt.alloc());
+fn answer(alloc: Global, tiles: &[Corners]) -> Result<Result<Net, NetError>, Fail> {
+    let mut rects = Vec::new(alloc);
     for (x1, y1, x2, y2) in tiles {
         rects.push(Rect::new(*x1, *y1, *x2, *y2).ok_or("out of range")?)?;
     }
-    Ok(answer_for(rt.alloc(), rects.as_slice()).ok_or("no fragments")?)
+    Ok(answer_for(alloc, rects.as_slice()).ok_or("no fragments")?)
 }
 
-fn net_of(rt: &HostRuntime, tiles: &[Corners]) -> Result<Net, Fail> {
-    Ok(answer(rt, tiles)?.map_err(|_| "refused")?)
+fn net_of(alloc: Global, tiles: &[Corners]) -> Result<Net, Fail> {
+    Ok(answer(alloc, tiles)?.map_err(|_| "refused")?)
 }
 
 /// The ends of the edges of one kind.
-fn ends_of(rt: &HostRuntime, net: &Net, kind: Kind) -> Result<Vec<(u32, u32)>, Fail> {
-    let mut ends = Vec::new(rt.alloc());
+fn ends_of(alloc: Global, net: &Net, kind: Kind) -> Result<Vec<(u32, u32)>, AllocError> {
+    let mut ends = Vec::new(alloc);
     for edge in net.graph.edges.as_slice() {
         if edge.kind == kind {
             ends.push((edge.a, edge.b))?;
@@ -52,313 +53,329 @@ fn ends_of(rt: &HostRuntime, net: &Net, kind: Kind) -> Result<Vec<(u32, u32)>, F
     Ok(ends)
 }
 
-/// The ends of the clashes of tiles that have neither bonds nor stitches.
-fn clashes_of(rt: &HostRuntime, tiles: &[Corners]) -> Result<Vec<(u32, u32)>, Fail> {
-    let net = net_of(rt, tiles)?;
-    let clashes = ends_of(rt, &net, Kind::Clash)?;
-    if clashes.len() < net.graph.edges.as_slice().len() {
-        return Err("a bond or a stitch")?;
+/// Compares the ends of the edges of one kind.
+fn compare_ends<R: Abort>(
+    rt: &R,
+    alloc: Global,
+    tiles: &[Corners],
+    kind: Kind,
+    wanted: &[(u32, u32)],
+) -> Result<(), Fail> {
+    let net = net_of(alloc, tiles)?;
+    let ends = ends_of(alloc, &net, kind)?;
+    assert_eq!(rt; ends.as_slice(), wanted);
+    Ok(())
+}
+
+/// Compares the ends of the clashes of tiles that have neither bonds nor stitches.
+fn compare_clashes<R: Abort>(
+    rt: &R,
+    alloc: Global,
+    tiles: &[Corners],
+    wanted: &[(u32, u32)],
+) -> Result<(), Fail> {
+    compare_ends(rt, alloc, tiles, Kind::Bond, &[])?;
+    compare_ends(rt, alloc, tiles, Kind::Stitch, &[])?;
+    compare_ends(rt, alloc, tiles, Kind::Clash, wanted)
+}
+
+/// Compares the piece of each fragment.
+fn compare_pieces<R: Abort>(
+    rt: &R,
+    alloc: Global,
+    tiles: &[Corners],
+    wanted: &[u32],
+) -> Result<(), Fail> {
+    let net = net_of(alloc, tiles)?;
+    assert_eq!(rt; net.pieces.as_slice(), wanted);
+    Ok(())
+}
+
+/// How many edges and pieces there are.
+fn counts(alloc: Global, tiles: &[Corners]) -> Result<(usize, u32), Fail> {
+    let net = net_of(alloc, tiles)?;
+    Ok((net.graph.edges.as_slice().len(), net.piece_count))
+}
+
+/// Compares the ends and the weights of all edges.
+fn compare_weights<R: Abort>(
+    rt: &R,
+    alloc: Global,
+    tiles: &[Corners],
+    wanted: &[((u32, u32), u64)],
+) -> Result<(), Fail> {
+    let net = net_of(alloc, tiles)?;
+    let mut found = Vec::new(alloc);
+    for edge in net.graph.edges.as_slice() {
+        found.push(((edge.a, edge.b), edge.weight))?;
     }
-    Ok(clashes)
+    assert_eq!(rt; found.as_slice(), wanted);
+    Ok(())
+}
+
+/// Compares the sides and the keys at which each edge leaves its two nodes.
+fn compare_sides<R: Abort>(
+    rt: &R,
+    alloc: Global,
+    tiles: &[Corners],
+    wanted: &[((u8, i64), (u8, i64))],
+) -> Result<(), Fail> {
+    let net = net_of(alloc, tiles)?;
+    let mut found = Vec::new(alloc);
+    for (a, b) in net.ports.as_slice() {
+        found.push(((a.side, a.key), (b.side, b.key)))?;
+    }
+    assert_eq!(rt; found.as_slice(), wanted);
+    Ok(())
+}
+
+/// Compares the corners and the directions in which the edges leave, both ends of the first edge first.
+fn compare_corners<R: Abort>(
+    rt: &R,
+    alloc: Global,
+    tiles: &[Corners],
+    wanted: &[(u8, u64, u64)],
+) -> Result<(), Fail> {
+    let net = net_of(alloc, tiles)?;
+    let mut found = Vec::new(alloc);
+    for (a, b) in net.ports.as_slice() {
+        found.push((a.side, a.dx, a.dy))?;
+        found.push((b.side, b.dx, b.dy))?;
+    }
+    assert_eq!(rt; found.as_slice(), wanted);
+    Ok(())
 }
 
 #[test]
 fn a_stitch_is_cheaper(rt: HostRuntime) -> Result<(), Fail> {
-    let wire = (0, 0, 2000, 200);
-    let first = (0, 300, 200, 500);
-    let second = (1800, 300, 2000, 500);
-    let above = [(0, 600, 900, 800), (1000, 600, 2000, 800)];
-    let net = net_of(&rt, &[wire, first, second, above[0], above[1]])?;
-    assert!(rt; ends_of(&rt, &net, Kind::Bond)?.as_slice().is_empty());
-    let stitches = ends_of(&rt, &net, Kind::Stitch)?;
-    assert_eq!(rt; stitches.as_slice(), [(0, 1), (4, 5), (6, 7)].as_slice());
-    let clashes = ends_of(&rt, &net, Kind::Clash)?;
-    assert_eq!(rt;
-        clashes.as_slice(),
-        [(0, 2), (1, 3), (2, 4), (3, 7), (5, 6)].as_slice()
-    );
-    assert_eq!(rt; net.piece_count, 8);
+    let tiles = [
+        (0, 0, 2000, 200),
+        (0, 300, 200, 500),
+        (1800, 300, 2000, 500),
+        (0, 600, 900, 800),
+        (1000, 600, 2000, 800),
+    ];
+    compare_ends(&rt, rt.alloc(), &tiles, Kind::Bond, &[])?;
+    let stitches = [(0, 1), (4, 5), (6, 7)];
+    compare_ends(&rt, rt.alloc(), &tiles, Kind::Stitch, &stitches)?;
+    let clashes = [(0, 2), (1, 3), (2, 4), (3, 7), (5, 6)];
+    compare_ends(&rt, rt.alloc(), &tiles, Kind::Clash, &clashes)?;
+    assert_eq!(rt; counts(rt.alloc(), &tiles)?, (8, 8));
     Ok(())
 }
 
 #[test]
 fn a_wire_with_just_room_for_a_stitch(rt: HostRuntime) -> Result<(), Fail> {
-    let wire = (0, 0, 788, 200);
-    let left = (0, 300, 200, 500);
-    let stitched = net_of(&rt, &[wire, left, (588, 300, 788, 500)])?;
-    assert_eq!(rt;
-        ends_of(&rt, &stitched, Kind::Stitch)?.as_slice(),
-        [(0, 1)].as_slice()
-    );
-    assert_eq!(rt;
-        ends_of(&rt, &stitched, Kind::Clash)?.as_slice(),
-        [(0, 2), (1, 3)].as_slice()
-    );
-    let whole = clashes_of(&rt, &[wire, left, (587, 300, 789, 500)])?;
-    assert_eq!(rt; whole.as_slice(), [(0, 1), (0, 2)].as_slice());
+    let stitched = [(0, 0, 788, 200), (0, 300, 200, 500), (588, 300, 788, 500)];
+    compare_ends(&rt, rt.alloc(), &stitched, Kind::Stitch, &[(0, 1)])?;
+    compare_ends(&rt, rt.alloc(), &stitched, Kind::Clash, &[(0, 2), (1, 3)])?;
+    let whole = [(0, 0, 788, 200), (0, 300, 200, 500), (587, 300, 789, 500)];
+    compare_clashes(&rt, rt.alloc(), &whole, &[(0, 1), (0, 2)])
+}
+
+/// Compares the sides at which each edge leaves its two nodes.
+fn compare_exits<R: Abort>(
+    rt: &R,
+    alloc: Global,
+    tiles: &[Corners],
+    wanted: &[(u8, u8)],
+) -> Result<(), Fail> {
+    let net = net_of(alloc, tiles)?;
+    let mut found = Vec::new(alloc);
+    for (a, b) in net.ports.as_slice() {
+        found.push((a.side, b.side))?;
+    }
+    assert_eq!(rt; found.as_slice(), wanted);
     Ok(())
 }
 
 #[test]
 fn four_squares_that_are_not_plane(rt: HostRuntime) -> Result<(), Fail> {
-    let below = [(0, 0, 200, 200), (300, 0, 500, 200)];
-    let above = [(0, 300, 200, 500), (300, 300, 500, 500)];
-    let net = net_of(&rt, &[below[0], below[1], above[0], above[1]])?;
-    let clashes = ends_of(&rt, &net, Kind::Clash)?;
-    assert_eq!(rt;
-        clashes.as_slice(),
-        [(0, 1), (0, 2), (0, 3), (1, 2), (1, 3), (2, 3)].as_slice()
-    );
-    let mut sides = Vec::new(rt.alloc());
-    for (a, b) in net.ports.as_slice() {
-        sides.push((a.side, b.side))?;
-    }
-    assert_eq!(rt;
-        sides.as_slice(),
-        [(3, 7), (5, 1), (4, 0), (6, 2), (5, 1), (3, 7)].as_slice()
-    );
-    Ok(())
+    let tiles = [
+        (0, 0, 200, 200),
+        (300, 0, 500, 200),
+        (0, 300, 200, 500),
+        (300, 300, 500, 500),
+    ];
+    let clashes = [(0, 1), (0, 2), (0, 3), (1, 2), (1, 3), (2, 3)];
+    compare_ends(&rt, rt.alloc(), &tiles, Kind::Clash, &clashes)?;
+    let exits = [(3, 7), (5, 1), (4, 0), (6, 2), (5, 1), (3, 7)];
+    compare_exits(&rt, rt.alloc(), &tiles, &exits)
 }
 
 #[test]
 fn a_t(rt: HostRuntime) -> Result<(), Fail> {
-    let net = net_of(&rt, &[(0, 0, 600, 200), (200, 200, 400, 600)])?;
-    assert_eq!(rt;
-        ends_of(&rt, &net, Kind::Bond)?.as_slice(),
-        [(0, 1)].as_slice()
-    );
-    assert_eq!(rt; net.graph.edges.as_slice().len(), 1);
-    assert_eq!(rt; net.pieces.as_slice(), [0, 0].as_slice());
-    Ok(())
+    let tiles = [(0, 0, 600, 200), (200, 200, 400, 600)];
+    compare_ends(&rt, rt.alloc(), &tiles, Kind::Bond, &[(0, 1)])?;
+    assert_eq!(rt; counts(rt.alloc(), &tiles)?, (1, 1));
+    compare_pieces(&rt, rt.alloc(), &tiles, &[0, 0])
 }
 
 #[test]
 fn a_ring_with_a_box_inside(rt: HostRuntime) -> Result<(), Fail> {
-    let (lower, upper) = ((0, 0, 2000, 600), (0, 1400, 2000, 2000));
-    let (left, right) = ((0, 600, 600, 1400), (1400, 600, 2000, 1400));
-    let inside = (700, 700, 1300, 1300);
-    let net = net_of(&rt, &[lower, left, right, inside, upper])?;
-    assert_eq!(rt;
-        ends_of(&rt, &net, Kind::Bond)?.as_slice(),
-        [(0, 1), (0, 2), (1, 4), (2, 4)].as_slice()
-    );
-    assert_eq!(rt;
-        ends_of(&rt, &net, Kind::Clash)?.as_slice(),
-        [(0, 3)].as_slice()
-    );
-    assert_eq!(rt; net.pieces.as_slice(), [0, 0, 0, 1, 0].as_slice());
-    Ok(())
+    let tiles = [
+        (0, 0, 2000, 600),
+        (0, 600, 600, 1400),
+        (1400, 600, 2000, 1400),
+        (700, 700, 1300, 1300),
+        (0, 1400, 2000, 2000),
+    ];
+    let bonds = [(0, 1), (0, 2), (1, 4), (2, 4)];
+    compare_ends(&rt, rt.alloc(), &tiles, Kind::Bond, &bonds)?;
+    compare_ends(&rt, rt.alloc(), &tiles, Kind::Clash, &[(0, 3)])?;
+    compare_pieces(&rt, rt.alloc(), &tiles, &[0, 0, 0, 1, 0])
 }
 
 #[test]
 fn corners_at_the_spacing(rt: HostRuntime) -> Result<(), Fail> {
-    let far = clashes_of(&rt, &[(0, 0, 200, 200), (320, 360, 520, 560)])?;
-    assert!(rt; far.as_slice().is_empty());
-    let near = clashes_of(&rt, &[(0, 0, 200, 200), (320, 358, 520, 558)])?;
-    assert_eq!(rt; near.as_slice(), [(0, 1)].as_slice());
-    Ok(())
+    let far = [(0, 0, 200, 200), (320, 360, 520, 560)];
+    compare_clashes(&rt, rt.alloc(), &far, &[])?;
+    let near = [(0, 0, 200, 200), (320, 358, 520, 558)];
+    compare_clashes(&rt, rt.alloc(), &near, &[(0, 1)])
 }
 
 #[test]
 fn corner_contact(rt: HostRuntime) -> Result<(), Fail> {
-    let net = net_of(&rt, &[(0, 0, 200, 200), (200, 200, 400, 400)])?;
-    assert_eq!(rt;
-        ends_of(&rt, &net, Kind::Clash)?.as_slice(),
-        [(0, 1)].as_slice()
-    );
-    assert_eq!(rt; net.piece_count, 2);
-    for (a, b) in net.ports.as_slice() {
-        assert_eq!(rt; (a.side, a.dx, a.dy), (4, 1, 1));
-        assert_eq!(rt; (b.side, b.dx, b.dy), (0, 1, 1));
-    }
-    Ok(())
+    let tiles = [(0, 0, 200, 200), (200, 200, 400, 400)];
+    compare_ends(&rt, rt.alloc(), &tiles, Kind::Clash, &[(0, 1)])?;
+    assert_eq!(rt; counts(rt.alloc(), &tiles)?, (1, 2));
+    compare_corners(&rt, rt.alloc(), &tiles, &[(4, 1, 1), (0, 1, 1)])
 }
 
 #[test]
 fn a_facing_pair_comes_before_a_corner_pair(rt: HostRuntime) -> Result<(), Fail> {
-    let net = net_of(
-        &rt,
-        &[
-            (0, 0, 200, 200),
-            (260, 280, 460, 400),
-            (0, 300, 225, 400),
-            (0, 400, 460, 480),
-        ],
-    )?;
-    let clashes = ends_of(&rt, &net, Kind::Clash)?;
-    assert_eq!(rt; clashes.as_slice(), [(0, 2)].as_slice());
-    Ok(())
+    let tiles = [
+        (0, 0, 200, 200),
+        (260, 280, 460, 400),
+        (0, 300, 225, 400),
+        (0, 400, 460, 480),
+    ];
+    compare_ends(&rt, rt.alloc(), &tiles, Kind::Clash, &[(0, 2)])
 }
 
 /// An L of three boxes: two clashes between sides, and one between corners.
 #[test]
 fn corners_have_a_weight_of_their_own(rt: HostRuntime) -> Result<(), Fail> {
-    let net = net_of(
-        &rt,
-        &[(0, 0, 200, 200), (300, 0, 500, 200), (0, 300, 200, 500)],
-    )?;
-    let mut found = Vec::new(rt.alloc());
-    for edge in net.graph.edges.as_slice() {
-        found.push(((edge.a, edge.b), edge.weight))?;
-    }
-    assert_eq!(rt;
-        found.as_slice(),
-        [((0, 1), 10), ((0, 2), 10), ((1, 2), 3)].as_slice()
-    );
-    Ok(())
+    let tiles = [(0, 0, 200, 200), (300, 0, 500, 200), (0, 300, 200, 500)];
+    let wanted = [((0, 1), 10), ((0, 2), 10), ((1, 2), 3)];
+    compare_weights(&rt, rt.alloc(), &tiles, &wanted)
 }
 
-/// The clashes of tiles with their weights.
-fn weights_of(rt: &HostRuntime, tiles: &[Corners]) -> Result<Vec<((u32, u32), u64)>, Fail> {
-    let net = net_of(rt, tiles)?;
-    let mut found = Vec::new(rt.alloc());
+/// The ends and the weight of the only clash.
+fn only_clash(alloc: Global, tiles: &[Corners]) -> Result<((u32, u32), u64), Fail> {
+    let net = net_of(alloc, tiles)?;
+    let mut found = None;
     for edge in net.graph.edges.as_slice() {
         if edge.kind == Kind::Clash {
-            found.push(((edge.a, edge.b), edge.weight))?;
+            if found.is_some() {
+                return Err("two clashes")?;
+            }
+            found = Some(((edge.a, edge.b), edge.weight));
         }
     }
-    Ok(found)
+    Ok(found.ok_or("no clash")?)
 }
 
-/// A box and a piece of three boxes, one of which faces it while another meets it at a corner. The closer of the two
-/// places gives the weight. At one gap it is the one that faces.
+/// The only clash of a box and a piece of three boxes, one of which meets it at a corner from this row on, while
+/// another faces it from that row on.
+fn clash_above(alloc: Global, corner: i64, facing: i64) -> Result<((u32, u32), u64), Fail> {
+    let tiles = [
+        (0, 0, 200, 200),
+        (260, corner, 460, 400),
+        (0, facing, 225, 400),
+        (0, 400, 460, 480),
+    ];
+    only_clash(alloc, &tiles)
+}
+
+/// The closer of the two places gives the weight. At one gap it is the one that faces.
 #[test]
 fn the_closest_place_gives_the_weight(rt: HostRuntime) -> Result<(), Fail> {
-    for (corner, facing, wanted) in [
-        (280, 300, ((0, 2), 10)),
-        (279, 300, ((0, 1), 3)),
-        (280, 299, ((0, 2), 10)),
-    ] {
-        let found = weights_of(
-            &rt,
-            &[
-                (0, 0, 200, 200),
-                (260, corner, 460, 400),
-                (0, facing, 225, 400),
-                (0, 400, 460, 480),
-            ],
-        )?;
-        assert_eq!(rt; found.as_slice(), [wanted].as_slice());
-    }
+    assert_eq!(rt; clash_above(rt.alloc(), 280, 300)?, ((0, 2), 10));
+    assert_eq!(rt; clash_above(rt.alloc(), 279, 300)?, ((0, 1), 3));
+    assert_eq!(rt; clash_above(rt.alloc(), 280, 299)?, ((0, 2), 10));
     Ok(())
 }
 
 /// The same, turned on its side: what faces the box shares rows with it.
+fn clash_beside(alloc: Global, corner: i64, facing: i64) -> Result<((u32, u32), u64), Fail> {
+    let tiles = [
+        (0, 0, 200, 200),
+        (facing, 0, 400, 225),
+        (400, 0, 480, 460),
+        (corner, 260, 400, 460),
+    ];
+    only_clash(alloc, &tiles)
+}
+
 #[test]
 fn rows_face_as_columns_do(rt: HostRuntime) -> Result<(), Fail> {
-    for (corner, facing, wanted) in [
-        (280, 300, ((0, 1), 10)),
-        (279, 300, ((0, 3), 3)),
-        (280, 299, ((0, 1), 10)),
-    ] {
-        let found = weights_of(
-            &rt,
-            &[
-                (0, 0, 200, 200),
-                (facing, 0, 400, 225),
-                (400, 0, 480, 460),
-                (corner, 260, 400, 460),
-            ],
-        )?;
-        assert_eq!(rt; found.as_slice(), [wanted].as_slice());
-    }
+    assert_eq!(rt; clash_beside(rt.alloc(), 280, 300)?, ((0, 1), 10));
+    assert_eq!(rt; clash_beside(rt.alloc(), 279, 300)?, ((0, 3), 3));
+    assert_eq!(rt; clash_beside(rt.alloc(), 280, 299)?, ((0, 1), 10));
     Ok(())
+}
+
+/// The clash of a box with another one.
+fn clash_with(alloc: Global, other: Corners) -> Result<((u32, u32), u64), Fail> {
+    only_clash(alloc, &[(0, 0, 200, 200), other])
 }
 
 /// One column or one row in common is enough to face each other, and none is not. Boxes that touch at a corner meet
 /// there.
 #[test]
 fn the_last_column_in_common(rt: HostRuntime) -> Result<(), Fail> {
-    for (other, weight) in [
-        ((199, 300, 399, 500), 10),
-        ((200, 300, 400, 500), 3),
-        ((300, 199, 500, 399), 10),
-        ((300, 200, 500, 400), 3),
-        ((200, 200, 400, 400), 3),
-    ] {
-        let found = weights_of(&rt, &[(0, 0, 200, 200), other])?;
-        assert_eq!(rt; found.as_slice(), [((0, 1), weight)].as_slice());
-    }
+    let (face, corner) = (((0, 1), 10), ((0, 1), 3));
+    assert_eq!(rt; clash_with(rt.alloc(), (199, 300, 399, 500))?, face);
+    assert_eq!(rt; clash_with(rt.alloc(), (200, 300, 400, 500))?, corner);
+    assert_eq!(rt; clash_with(rt.alloc(), (300, 199, 500, 399))?, face);
+    assert_eq!(rt; clash_with(rt.alloc(), (300, 200, 500, 400))?, corner);
+    assert_eq!(rt; clash_with(rt.alloc(), (200, 200, 400, 400))?, corner);
     Ok(())
 }
 
 /// A bond weighs nothing, and a stitch weighs its own.
 #[test]
 fn bonds_and_stitches_have_their_weights(rt: HostRuntime) -> Result<(), Fail> {
-    let stem = net_of(&rt, &[(0, 0, 600, 200), (200, 200, 400, 600)])?;
-    for edge in stem.graph.edges.as_slice() {
-        assert!(rt; edge.kind == Kind::Bond);
-        assert_eq!(rt; edge.weight, 0);
-    }
-    let wire = net_of(
-        &rt,
-        &[(0, 0, 788, 200), (0, 300, 200, 500), (588, 300, 788, 500)],
-    )?;
-    let mut found = Vec::new(rt.alloc());
-    for edge in wire.graph.edges.as_slice() {
-        found.push(((edge.a, edge.b), edge.weight))?;
-    }
-    assert_eq!(rt;
-        found.as_slice(),
-        [((0, 1), 1), ((0, 2), 10), ((1, 3), 10)].as_slice()
-    );
-    Ok(())
+    let stem = [(0, 0, 600, 200), (200, 200, 400, 600)];
+    compare_ends(&rt, rt.alloc(), &stem, Kind::Bond, &[(0, 1)])?;
+    compare_weights(&rt, rt.alloc(), &stem, &[((0, 1), 0)])?;
+    let wire = [(0, 0, 788, 200), (0, 300, 200, 500), (588, 300, 788, 500)];
+    let wanted = [((0, 1), 1), ((0, 2), 10), ((1, 3), 10)];
+    compare_weights(&rt, rt.alloc(), &wire, &wanted)
 }
 
 /// A link between corners leaves with the columns and the rows between them, in this order.
 #[test]
 fn corner_ports_have_both_gaps(rt: HostRuntime) -> Result<(), Fail> {
-    let net = net_of(&rt, &[(0, 0, 200, 200), (230, 250, 400, 400)])?;
-    let mut found = Vec::new(rt.alloc());
-    for (a, b) in net.ports.as_slice() {
-        found.push((a.side, a.dx, a.dy))?;
-        found.push((b.side, b.dx, b.dy))?;
-    }
-    assert_eq!(rt; found.as_slice(), [(4, 30, 50), (0, 30, 50)].as_slice());
-    let net = net_of(&rt, &[(0, 0, 200, 200), (-200, 250, -30, 400)])?;
-    let mut found = Vec::new(rt.alloc());
-    for (a, b) in net.ports.as_slice() {
-        found.push((a.side, a.dx, a.dy))?;
-        found.push((b.side, b.dx, b.dy))?;
-    }
-    assert_eq!(rt; found.as_slice(), [(6, 30, 50), (2, 30, 50)].as_slice());
-    Ok(())
+    let right = [(0, 0, 200, 200), (230, 250, 400, 400)];
+    compare_corners(&rt, rt.alloc(), &right, &[(4, 30, 50), (0, 30, 50)])?;
+    let left = [(0, 0, 200, 200), (-200, 250, -30, 400)];
+    compare_corners(&rt, rt.alloc(), &left, &[(6, 30, 50), (2, 30, 50)])
 }
 
 /// A bar with boxes on all sides: the keys rise counterclockwise around it, so they fall to the right above it, and
 /// upwards on its left.
 #[test]
 fn side_ports_rise_counterclockwise(rt: HostRuntime) -> Result<(), Fail> {
-    let (below, left, right) = (
-        (0, -200, 100, -100),
-        (-200, 0, -100, 100),
-        (500, 0, 600, 100),
-    );
-    let above = [(0, 300, 100, 400), (300, 300, 400, 400)];
-    let bar = (0, 0, 400, 200);
-    let net = net_of(&rt, &[below, left, bar, right, above[0], above[1]])?;
-    let mut found = Vec::new(rt.alloc());
-    for (a, b) in net.ports.as_slice() {
-        found.push(((a.side, a.key), (b.side, b.key)))?;
-    }
-    assert_eq!(rt;
-        found.as_slice(),
-        [
-            ((6, 0), (2, 0)),
-            ((5, -100), (1, 100)),
-            ((3, 100), (7, -100)),
-            ((3, 100), (7, -100)),
-            ((5, -100), (1, 100)),
-            ((5, -700), (1, 700)),
-        ]
-        .as_slice()
-    );
-    Ok(())
+    let (below, left) = ((0, -200, 100, -100), (-200, 0, -100, 100));
+    let (bar, right) = ((0, 0, 400, 200), (500, 0, 600, 100));
+    let (first, second) = ((0, 300, 100, 400), (300, 300, 400, 400));
+    let wanted = [
+        ((6, 0), (2, 0)),
+        ((5, -100), (1, 100)),
+        ((3, 100), (7, -100)),
+        ((3, 100), (7, -100)),
+        ((5, -100), (1, 100)),
+        ((5, -700), (1, 700)),
+    ];
+    let tiles = [below, left, bar, right, first, second];
+    compare_sides(&rt, rt.alloc(), &tiles, &wanted)
 }
 
 /// The first of 900 small boxes, row by row, that are all close to one another.
-fn crowd(rt: &HostRuntime, count: u16) -> Result<Vec<Corners>, Fail> {
-    let mut tiles = Vec::new(rt.alloc());
+fn crowd(alloc: Global, count: u16) -> Result<Vec<Corners>, AllocError> {
+    let mut tiles = Vec::new(alloc);
     for k in 0..count {
         let x = i64::from(k % 30) * 4;
         let y = i64::from(k / 30) * 4;
@@ -369,15 +386,21 @@ fn crowd(rt: &HostRuntime, count: u16) -> Result<Vec<Corners>, Fail> {
 
 #[test]
 fn nearly_too_many_edges(rt: HostRuntime) -> Result<(), Fail> {
-    let net = net_of(&rt, crowd(&rt, 894)?.as_slice())?;
-    assert_eq!(rt; net.graph.edges.as_slice().len(), 399_171);
-    assert_eq!(rt; net.piece_count, 894);
+    let tiles = crowd(rt.alloc(), 894)?;
+    assert_eq!(rt; counts(rt.alloc(), tiles.as_slice())?, (399_171, 894));
     Ok(())
+}
+
+fn refusal(alloc: Global, tiles: &[Corners]) -> Result<Option<NetError>, Fail> {
+    Ok(answer(alloc, tiles)?.err())
 }
 
 #[test]
 fn too_many_edges(rt: HostRuntime) -> Result<(), Fail> {
-    let error = answer(&rt, crowd(&rt, 895)?.as_slice())?.err();
-    assert!(rt; error == Some(NetError::TooMany));
+    let tiles = crowd(rt.alloc(), 895)?;
+    assert_eq!(rt;
+        refusal(rt.alloc(), tiles.as_slice())?,
+        Some(NetError::TooMany)
+    );
     Ok(())
 }

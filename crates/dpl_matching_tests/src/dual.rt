@@ -1,30 +1,17 @@
 ghost use Rattle.std.specs.Prelude.{IfOk};
 ghost use Rattle.dpl_dual.specs.Duals.{CameFromDual};
 
+use crate::nets::At::{East, North, South, West};
+use crate::nets::{Link, bond, clash, net, stitch};
 use dpl_dual::{Dual, distances, distances_within, dual};
 use dpl_map::build;
-use dpl_sign::{Edge, Net, Port, Signed};
-use std::alloc::Global;
+use dpl_sign::Net;
+use std::alloc::{AllocError, Global};
+use std::process::Abort;
 use std::test::Fail;
 
-/// A drawing of these edges, each node a piece of its own.
-fn drawing(alloc: Global, nodes: u32, links: &[(Edge, Port, Port)]) -> Result<Net, Fail> {
-    let mut edges = Vec::new(alloc);
-    let mut ports = Vec::new(alloc);
-    for (edge, at_a, at_b) in links {
-        edges.push(*edge)?;
-        ports.push((*at_a, *at_b))?;
-    }
-    let mut pieces = Vec::new(alloc);
-    for node in 0..nodes {
-        pieces.push(node)?;
-    }
-    let graph = Signed::new(nodes, edges).ok_or("no graph")?;
-    Ok(Net::new(graph, ports, pieces, nodes).ok_or("no net")?)
-}
-
 /// The dual of the map of a net.
-pub fn dual_of(alloc: Global, net: &Net) -> Result<Dual, Fail>
+pub fn dual_of(alloc: Global, net: &Net) -> Result<Dual, AllocError>
     ensures { IfOk result (λ d. CameFromDual d) }
 {
     let map = build(alloc, net)?;
@@ -32,122 +19,155 @@ pub fn dual_of(alloc: Global, net: &Net) -> Result<Dual, Fail>
     Ok(faces)
 }
 
-/// The dual of the map of a drawing.
-fn drawn_dual(alloc: Global, nodes: u32, links: &[(Edge, Port, Port)]) -> Result<Dual, Fail>
+/// A net by its number of nodes and its links.
+#[derive(Clone, Copy)]
+struct Drawing<'a> {
+    nodes: u32,
+    links: &'a [Link],
+}
+
+fn drawn_dual(alloc: Global, drawing: &Drawing<'_>) -> Result<Dual, Fail>
     ensures { IfOk result (λ d. CameFromDual d) }
 {
-    let net = drawing(alloc, nodes, links)?;
+    let net = net(alloc, drawing.nodes, drawing.links)?;
     let faces = dual_of(alloc, &net)?;
     Ok(faces)
 }
 
-/// The least length from one face to another, and how many edges a path of that length has.
-fn distance(alloc: Global, dual: &Dual, from: u32, to: u32) -> Result<(Option<u64>, usize), Fail>
-    requires { CameFromDual dual.now }
-{
-    if from >= dual.faces {
-        return Err("no such face")?;
-    }
-    let reach = distances(alloc, dual, from)?;
-    let path = reach.path(alloc, to)?;
-    Ok((reach.to(to), path.len()))
+/// How many faces there are, how many of them are odd, and how many ways lead between them.
+fn counts(alloc: Global, drawing: &Drawing<'_>) -> Result<(u32, usize, usize), Fail> {
+    let dual = drawn_dual(alloc, drawing)?;
+    Ok((
+        dual.faces,
+        dual.odd.as_slice().len(),
+        dual.crosses.as_slice().len(),
+    ))
 }
 
 /// The faces on both sides, the edge and the length of a way.
-fn way(dual: &Dual, i: usize) -> Result<(u32, u32, u32, u64), Fail> {
+fn way(alloc: Global, drawing: &Drawing<'_>, i: usize) -> Result<(u32, u32, u32, u64), Fail> {
+    let dual = drawn_dual(alloc, drawing)?;
     match dual.crosses.as_slice().get(i) {
         Some(way) => Ok((way.f, way.g, way.edge, way.length)),
         None => Err("no such way")?,
     }
 }
 
+/// The least length from one face to another, and how many edges a path of that length has.
+fn distance(
+    alloc: Global,
+    drawing: &Drawing<'_>,
+    from: u32,
+    to: u32,
+) -> Result<(Option<u64>, usize), Fail> {
+    let dual = drawn_dual(alloc, drawing)?;
+    if from >= dual.faces {
+        return Err("no such face")?;
+    }
+    let reach = distances(alloc, &dual, from)?;
+    let path = reach.path(alloc, to)?;
+    Ok((reach.to(to), path.len()))
+}
+
+/// The least length up to a limit from the first face to the second, and whether it is less.
+fn within(alloc: Global, drawing: &Drawing<'_>, limit: u64) -> Result<(Option<u64>, u64), Fail> {
+    let dual = drawn_dual(alloc, drawing)?;
+    if limit == 0 {
+        return Err("no such limit")?;
+    }
+    if dual.faces == 0 {
+        return Err("no face")?;
+    }
+    let reach = distances_within(alloc, &dual, 0, limit)?;
+    Ok((reach.to(1), reach.up_to(1, limit)))
+}
+
+/// Compares the odd faces.
+fn compare_odd<R: Abort>(
+    rt: &R,
+    alloc: Global,
+    drawing: &Drawing<'_>,
+    odd: &[u32],
+) -> Result<(), Fail> {
+    let dual = drawn_dual(alloc, drawing)?;
+    assert_eq!(rt; dual.odd.as_slice(), odd);
+    Ok(())
+}
+
+/// Compares the part of each face.
+fn compare_parts<R: Abort>(
+    rt: &R,
+    alloc: Global,
+    drawing: &Drawing<'_>,
+    part: &[u32],
+) -> Result<(), Fail> {
+    let dual = drawn_dual(alloc, drawing)?;
+    assert_eq!(rt; dual.part.as_slice(), part);
+    Ok(())
+}
+
 /// Three clashes around a triangle.
-fn triangle(alloc: Global) -> Result<Dual, Fail>
-    ensures { IfOk result (λ d. CameFromDual d) }
-{
-    let links = [
-        (
-            Edge::clash(0, 1, 10),
-            Port::on_side(3, 0),
-            Port::on_side(7, 0),
-        ),
-        (
-            Edge::clash(0, 2, 10),
-            Port::on_side(5, 0),
-            Port::on_side(7, 0),
-        ),
-        (
-            Edge::clash(1, 2, 10),
-            Port::on_side(5, 0),
-            Port::on_side(3, 0),
-        ),
-    ];
-    let dual = drawn_dual(alloc, 3, &links)?;
-    Ok(dual)
+fn triangle() -> [Link; 3] {
+    [
+        clash(0, 1, 10, East(0), West(0)),
+        clash(0, 2, 10, North(0), West(0)),
+        clash(1, 2, 10, North(0), East(0)),
+    ]
 }
 
 #[test]
 fn odd_triangle(rt: HostRuntime) -> Result<(), Fail> {
-    let dual = triangle(rt.alloc())?;
-    assert_eq!(rt; dual.faces, 2);
-    assert_eq!(rt; dual.odd.as_slice(), [0, 1].as_slice());
-    assert_eq!(rt; dual.part.as_slice(), [0, 0].as_slice());
-    assert_eq!(rt; dual.crosses.as_slice().len(), 3);
-    assert_eq!(rt; way(&dual, 2)?, (0, 1, 2, 20));
-    assert_eq!(rt; distance(rt.alloc(), &dual, 0, 1)?, (Some(20), 1));
-    assert_eq!(rt; distance(rt.alloc(), &dual, 1, 1)?, (Some(0), 0));
+    let links = triangle();
+    let drawing = Drawing {
+        nodes: 3,
+        links: &links,
+    };
+    assert_eq!(rt; counts(rt.alloc(), &drawing)?, (2, 2, 3));
+    compare_odd(&rt, rt.alloc(), &drawing, &[0, 1])?;
+    compare_parts(&rt, rt.alloc(), &drawing, &[0, 0])?;
+    assert_eq!(rt; way(rt.alloc(), &drawing, 2)?, (0, 1, 2, 20));
+    assert_eq!(rt; distance(rt.alloc(), &drawing, 0, 1)?, (Some(20), 1));
+    assert_eq!(rt; distance(rt.alloc(), &drawing, 1, 1)?, (Some(0), 0));
     Ok(())
-}
-
-/// The least length up to a limit from the first face to the second, and whether it is less.
-fn within(alloc: Global, dual: &Dual, limit: u64) -> Result<(Option<u64>, u64), Fail>
-    requires { CameFromDual dual.now }
-{
-    if limit == 0 || dual.faces == 0 {
-        return Err("no such limit or face")?;
-    }
-    let reach = distances_within(alloc, dual, 0, limit)?;
-    Ok((reach.to(1), reach.up_to(1, limit)))
 }
 
 /// A limit of 20 does not reach the face that is 20 away, and one of 21 does.
 #[test]
 fn nearer_than_a_limit(rt: HostRuntime) -> Result<(), Fail> {
-    let dual = triangle(rt.alloc())?;
-    for (limit, to, up_to) in [
-        (1, None, 1),
-        (20, None, 20),
-        (21, Some(20), 20),
-        (50, Some(20), 20),
-    ] {
-        assert_eq!(rt; within(rt.alloc(), &dual, limit)?, (to, up_to), "{limit}");
-    }
+    let links = triangle();
+    let drawing = Drawing {
+        nodes: 3,
+        links: &links,
+    };
+    assert_eq!(rt; within(rt.alloc(), &drawing, 1)?, (None, 1));
+    assert_eq!(rt; within(rt.alloc(), &drawing, 20)?, (None, 20));
+    assert_eq!(rt; within(rt.alloc(), &drawing, 21)?, (Some(20), 20));
+    assert_eq!(rt; within(rt.alloc(), &drawing, 50)?, (Some(20), 20));
     Ok(())
 }
 
 /// One clash, with one face on both sides.
 #[test]
 fn pair(rt: HostRuntime) -> Result<(), Fail> {
-    let links = [(
-        Edge::clash(0, 1, 10),
-        Port::on_side(3, 0),
-        Port::on_side(7, 0),
-    )];
-    let dual = drawn_dual(rt.alloc(), 2, &links)?;
-    assert_eq!(rt; dual.faces, 1);
-    assert_eq!(rt; dual.odd.as_slice().len(), 0);
-    assert_eq!(rt; dual.crosses.as_slice().len(), 1);
-    assert_eq!(rt; way(&dual, 0)?, (0, 0, 0, 20));
+    let drawing = Drawing {
+        nodes: 2,
+        links: &[clash(0, 1, 10, East(0), West(0))],
+    };
+    assert_eq!(rt; counts(rt.alloc(), &drawing)?, (1, 0, 1));
+    assert_eq!(rt; way(rt.alloc(), &drawing, 0)?, (0, 0, 0, 20));
     Ok(())
 }
 
 /// Two nodes without an edge, each with a face of its own.
 #[test]
 fn two_single_nodes(rt: HostRuntime) -> Result<(), Fail> {
-    let dual = drawn_dual(rt.alloc(), 2, &[])?;
-    assert_eq!(rt; dual.faces, 2);
-    assert_eq!(rt; dual.part.as_slice(), [0, 1].as_slice());
-    assert_eq!(rt; distance(rt.alloc(), &dual, 0, 1)?, (None, 0));
+    let drawing = Drawing {
+        nodes: 2,
+        links: &[],
+    };
+    assert_eq!(rt; counts(rt.alloc(), &drawing)?, (2, 0, 0));
+    compare_parts(&rt, rt.alloc(), &drawing, &[0, 1])?;
+    assert_eq!(rt; distance(rt.alloc(), &drawing, 0, 1)?, (None, 0));
     Ok(())
 }
 
@@ -155,32 +175,17 @@ fn two_single_nodes(rt: HostRuntime) -> Result<(), Fail> {
 #[test]
 fn ring(rt: HostRuntime) -> Result<(), Fail> {
     let links = [
-        (
-            Edge::clash(0, 1, 4),
-            Port::on_side(3, 0),
-            Port::on_side(7, 0),
-        ),
-        (
-            Edge::stitch(0, 3, 1),
-            Port::on_side(5, 0),
-            Port::on_side(1, 0),
-        ),
-        (
-            Edge::stitch(1, 2, 2),
-            Port::on_side(5, 0),
-            Port::on_side(1, 0),
-        ),
-        (
-            Edge::clash(2, 3, 4),
-            Port::on_side(7, 0),
-            Port::on_side(3, 0),
-        ),
+        clash(0, 1, 4, East(0), West(0)),
+        stitch(0, 3, 1, North(0), South(0)),
+        stitch(1, 2, 2, North(0), South(0)),
+        clash(2, 3, 4, West(0), East(0)),
     ];
-    let dual = drawn_dual(rt.alloc(), 4, &links)?;
-    assert_eq!(rt; dual.faces, 2);
-    assert_eq!(rt; dual.odd.as_slice().len(), 0);
-    assert_eq!(rt; dual.crosses.as_slice().len(), 4);
-    assert_eq!(rt; distance(rt.alloc(), &dual, 0, 1)?, (Some(2), 1));
+    let drawing = Drawing {
+        nodes: 4,
+        links: &links,
+    };
+    assert_eq!(rt; counts(rt.alloc(), &drawing)?, (2, 0, 4));
+    assert_eq!(rt; distance(rt.alloc(), &drawing, 0, 1)?, (Some(2), 1));
     Ok(())
 }
 
@@ -188,43 +193,22 @@ fn ring(rt: HostRuntime) -> Result<(), Fail> {
 #[test]
 fn two_parts(rt: HostRuntime) -> Result<(), Fail> {
     let links = [
-        (
-            Edge::clash(0, 1, 5),
-            Port::on_side(3, 0),
-            Port::on_side(7, 0),
-        ),
-        (
-            Edge::clash(0, 2, 4),
-            Port::on_side(5, 0),
-            Port::on_side(7, 0),
-        ),
-        (
-            Edge::clash(1, 2, 3),
-            Port::on_side(5, 0),
-            Port::on_side(3, 0),
-        ),
-        (
-            Edge::clash(3, 4, 7),
-            Port::on_side(3, 0),
-            Port::on_side(7, 0),
-        ),
-        (
-            Edge::clash(3, 5, 8),
-            Port::on_side(5, 0),
-            Port::on_side(7, 0),
-        ),
-        (
-            Edge::clash(4, 5, 9),
-            Port::on_side(5, 0),
-            Port::on_side(3, 0),
-        ),
+        clash(0, 1, 5, East(0), West(0)),
+        clash(0, 2, 4, North(0), West(0)),
+        clash(1, 2, 3, North(0), East(0)),
+        clash(3, 4, 7, East(0), West(0)),
+        clash(3, 5, 8, North(0), West(0)),
+        clash(4, 5, 9, North(0), East(0)),
     ];
-    let dual = drawn_dual(rt.alloc(), 6, &links)?;
-    assert_eq!(rt; dual.odd.as_slice(), [0, 1, 2, 3].as_slice());
-    assert_eq!(rt; dual.part.as_slice(), [0, 0, 2, 2].as_slice());
-    assert_eq!(rt; distance(rt.alloc(), &dual, 0, 1)?, (Some(6), 1));
-    assert_eq!(rt; distance(rt.alloc(), &dual, 1, 2)?, (None, 0));
-    assert_eq!(rt; distance(rt.alloc(), &dual, 3, 2)?, (Some(14), 1));
+    let drawing = Drawing {
+        nodes: 6,
+        links: &links,
+    };
+    compare_odd(&rt, rt.alloc(), &drawing, &[0, 1, 2, 3])?;
+    compare_parts(&rt, rt.alloc(), &drawing, &[0, 0, 2, 2])?;
+    assert_eq!(rt; distance(rt.alloc(), &drawing, 0, 1)?, (Some(6), 1));
+    assert_eq!(rt; distance(rt.alloc(), &drawing, 1, 2)?, (None, 0));
+    assert_eq!(rt; distance(rt.alloc(), &drawing, 3, 2)?, (Some(14), 1));
     Ok(())
 }
 
@@ -233,41 +217,27 @@ fn two_parts(rt: HostRuntime) -> Result<(), Fail> {
 #[test]
 fn bonds_between_parts(rt: HostRuntime) -> Result<(), Fail> {
     let links = [
-        (Edge::bond(0, 1), Port::on_side(3, 0), Port::on_side(7, 2)),
-        (Edge::bond(0, 2), Port::on_side(3, 2), Port::on_side(1, 0)),
-        (Edge::bond(1, 2), Port::on_side(7, 0), Port::on_side(1, 1)),
-        (
-            Edge::clash(0, 3, 6),
-            Port::on_side(3, 1),
-            Port::on_side(7, 0),
-        ),
-        (
-            Edge::stitch(1, 3, 1),
-            Port::on_side(7, 1),
-            Port::on_side(3, 0),
-        ),
-        (
-            Edge::clash(0, 4, 3),
-            Port::on_side(3, -1),
-            Port::on_side(7, 0),
-        ),
-        (
-            Edge::stitch(1, 4, 2),
-            Port::on_side(7, 3),
-            Port::on_side(3, 0),
-        ),
+        bond(0, 1, East(0), West(2)),
+        bond(0, 2, East(2), South(0)),
+        bond(1, 2, West(0), South(1)),
+        clash(0, 3, 6, East(1), West(0)),
+        stitch(1, 3, 1, West(1), East(0)),
+        clash(0, 4, 3, East(-1), West(0)),
+        stitch(1, 4, 2, West(3), East(0)),
     ];
-    let dual = drawn_dual(rt.alloc(), 5, &links)?;
-    assert_eq!(rt; dual.faces, 4);
-    assert_eq!(rt; dual.odd.as_slice(), [0, 1, 2, 3].as_slice());
-    assert_eq!(rt; dual.crosses.as_slice().len(), 4);
-    let (f, g, edge, length) = way(&dual, 0)?;
+    let drawing = Drawing {
+        nodes: 5,
+        links: &links,
+    };
+    assert_eq!(rt; counts(rt.alloc(), &drawing)?, (4, 4, 4));
+    compare_odd(&rt, rt.alloc(), &drawing, &[0, 1, 2, 3])?;
+    let (f, g, edge, length) = way(rt.alloc(), &drawing, 0)?;
     assert_eq!(rt; (edge, length), (3, 12));
-    assert_eq!(rt; distance(rt.alloc(), &dual, f, g)?, (Some(2), 1));
-    let (h, i, edge, length) = way(&dual, 2)?;
+    assert_eq!(rt; distance(rt.alloc(), &drawing, f, g)?, (Some(2), 1));
+    let (h, i, edge, length) = way(rt.alloc(), &drawing, 2)?;
     assert_eq!(rt; (edge, length), (5, 6));
-    assert_eq!(rt; distance(rt.alloc(), &dual, h, i)?, (Some(4), 1));
-    assert_eq!(rt; distance(rt.alloc(), &dual, f, h)?, (None, 0));
+    assert_eq!(rt; distance(rt.alloc(), &drawing, h, i)?, (Some(4), 1));
+    assert_eq!(rt; distance(rt.alloc(), &drawing, f, h)?, (None, 0));
     Ok(())
 }
 
@@ -276,43 +246,20 @@ fn bonds_between_parts(rt: HostRuntime) -> Result<(), Fail> {
 #[test]
 fn square_with_both_diagonals(rt: HostRuntime) -> Result<(), Fail> {
     let links = [
-        (
-            Edge::clash(0, 1, 1),
-            Port::on_side(3, 0),
-            Port::on_side(7, 1),
-        ),
-        (
-            Edge::clash(1, 2, 1),
-            Port::on_side(5, 0),
-            Port::on_side(1, 1),
-        ),
-        (
-            Edge::clash(2, 3, 1),
-            Port::on_side(7, 0),
-            Port::on_side(3, 1),
-        ),
-        (
-            Edge::clash(0, 3, 1),
-            Port::on_side(5, 0),
-            Port::on_side(1, 0),
-        ),
-        (
-            Edge::clash(0, 2, 3),
-            Port::on_side(3, 1),
-            Port::on_side(1, 0),
-        ),
-        (
-            Edge::clash(1, 3, 3),
-            Port::on_side(7, 0),
-            Port::on_side(3, 0),
-        ),
+        clash(0, 1, 1, East(0), West(1)),
+        clash(1, 2, 1, North(0), South(1)),
+        clash(2, 3, 1, West(0), East(1)),
+        clash(0, 3, 1, North(0), South(0)),
+        clash(0, 2, 3, East(1), South(0)),
+        clash(1, 3, 3, West(0), East(0)),
     ];
-    let dual = drawn_dual(rt.alloc(), 4, &links)?;
-    assert_eq!(rt; dual.faces, 3);
-    assert_eq!(rt; dual.crosses.as_slice().len(), 5);
-    assert_eq!(rt; dual.odd.as_slice().len(), 2);
-    let (f, g, edge, length) = way(&dual, 4)?;
+    let drawing = Drawing {
+        nodes: 4,
+        links: &links,
+    };
+    assert_eq!(rt; counts(rt.alloc(), &drawing)?, (3, 2, 5));
+    let (f, g, edge, length) = way(rt.alloc(), &drawing, 4)?;
     assert_eq!(rt; (edge, length), (4, 6));
-    assert_eq!(rt; distance(rt.alloc(), &dual, f, g)?, (Some(4), 2));
+    assert_eq!(rt; distance(rt.alloc(), &drawing, f, g)?, (Some(4), 2));
     Ok(())
 }

@@ -4,9 +4,13 @@ ghost use Rattle.std.specs.Prelude.{◌<◌};
 ghost use Rattle.dpl_dual.specs.Duals.{CameFromDual};
 
 use crate::dual::dual_of;
+use crate::nets::At::{East, North, South, West};
+use crate::nets::{At, Link, bond, clash, net, stitch};
+use dpl_dual::types::Distances;
 use dpl_dual::{Dual, distances};
-use dpl_sign::{Edge, Net, Port, Signed};
+use dpl_sign::Net;
 use std::alloc::{AllocError, Global};
+use std::process::Abort;
 use std::test::Fail;
 
 /// The number after x of a simple sequence.
@@ -16,64 +20,42 @@ fn after(x: u64) -> u64 {
 }
 
 /// A link of a grid, if it is of the bonds or of the others, as is asked. Some are left out.
-fn link(seed: u64, a: u32, b: u32, bonds: bool) -> Option<Edge>
-    requires { a < b }
-{
+fn link(seed: u64, a: u32, b: u32, ends: (At, At), bonds: bool) -> Option<Link> {
     let place = u64::from(a).wrapping_mul(64).wrapping_add(u64::from(b));
     let lot = after(after(after(seed).wrapping_add(place))) / 65536;
     let kind = lot % 16;
     let weight = lot / 16 % 9 + 1;
+    let (at_a, at_b) = ends;
     if (kind == 0) | ((kind == 1) != bonds) {
         return None;
     }
     if kind == 1 {
-        return Some(Edge::bond(a, b));
+        return Some(bond(a, b, at_a, at_b));
     }
     if kind < 6 {
-        return Some(Edge::stitch(a, b, weight));
+        return Some(stitch(a, b, weight, at_a, at_b));
     }
-    Some(Edge::clash(a, b, weight))
+    Some(clash(a, b, weight, at_a, at_b))
 }
 
 /// Puts a link behind the others.
-fn put(
-    link: Option<Edge>,
-    at_a: Port,
-    at_b: Port,
-    edges: &mut Vec<Edge>,
-    ports: &mut Vec<(Port, Port)>,
-) -> Result<(), AllocError> {
-    match link {
-        Some(edge) => {
-            edges.push(edge)?;
-            ports.push((at_a, at_b))?;
-            Ok(())
-        }
-        None => Ok(()),
+fn put(links: &mut Vec<Link>, link: Option<Link>) -> Result<(), AllocError> {
+    if let Some(link) = link {
+        links.push(link)?;
     }
+    Ok(())
 }
 
 /// Puts the bonds of a grid of five rows of six nodes, or its other links, behind the others.
-fn put_links(
-    seed: u64,
-    bonds: bool,
-    edges: &mut Vec<Edge>,
-    ports: &mut Vec<(Port, Port)>,
-) -> Result<(), AllocError> {
+fn put_links(seed: u64, bonds: bool, links: &mut Vec<Link>) -> Result<(), AllocError> {
     for node in 0..30u32 {
         if node % 6 < 5 {
-            let east = link(seed, node, node + 1, bonds);
-            put(east, Port::on_side(3, 0), Port::on_side(7, 0), edges, ports)?;
+            let ends = (East(0), West(0));
+            put(links, link(seed, node, node + 1, ends, bonds))?;
         }
         if node < 24 {
-            let north = link(seed, node, node + 6, bonds);
-            put(
-                north,
-                Port::on_side(5, 0),
-                Port::on_side(1, 0),
-                edges,
-                ports,
-            )?;
+            let ends = (North(0), South(0));
+            put(links, link(seed, node, node + 6, ends, bonds))?;
         }
     }
     Ok(())
@@ -81,16 +63,10 @@ fn put_links(
 
 /// A grid that is drawn by lot.
 fn grid(alloc: Global, seed: u64) -> Result<Net, Fail> {
-    let mut edges = Vec::new(alloc);
-    let mut ports = Vec::new(alloc);
-    put_links(seed, true, &mut edges, &mut ports)?;
-    put_links(seed, false, &mut edges, &mut ports)?;
-    let mut pieces = Vec::new(alloc);
-    for node in 0..30u32 {
-        pieces.push(node)?;
-    }
-    let graph = Signed::new(30, edges).ok_or("no graph")?;
-    Ok(Net::new(graph, ports, pieces, 30).ok_or("no net")?)
+    let mut links = Vec::new(alloc);
+    put_links(seed, true, &mut links)?;
+    put_links(seed, false, &mut links)?;
+    net(alloc, 30, links.as_slice())
 }
 
 /// A length, and the greatest number where there is none.
@@ -143,8 +119,25 @@ fn length_along(dual: &Dual, path: &[u32]) -> u64 {
     sum
 }
 
-/// Whether the distances from a face are those of the plain program, and the paths as long.
-fn agrees(alloc: Global, dual: &Dual, from: u32) -> Result<bool, AllocError>
+/// Whether the distance of a face is that of the plain program, and its path as long.
+fn agrees(
+    alloc: Global,
+    dual: &Dual,
+    reach: &Distances,
+    face: u32,
+    least: u64,
+) -> Result<bool, AllocError> {
+    match reach.to(face) {
+        Some(length) => {
+            let path = reach.path(alloc, face)?;
+            Ok((length == least) & (length_along(dual, &path) == least))
+        }
+        None => Ok(least == u64::MAX),
+    }
+}
+
+/// Compares the distances from a face with those of the plain program.
+fn compare_from<R: Abort>(rt: &R, alloc: Global, dual: &Dual, from: u32) -> Result<(), Fail>
     requires dual { CameFromDual dual.now }
     requires from { from < dual.now.faces }
 {
@@ -152,31 +145,25 @@ fn agrees(alloc: Global, dual: &Dual, from: u32) -> Result<bool, AllocError>
     let plain = plain_lengths(alloc, dual, from)?;
     for face in 0..dual.faces {
         let least = at(&plain, face);
-        match reach.to(face) {
-            Some(length) => {
-                let path = reach.path(alloc, face)?;
-                if (length != least) | (length_along(dual, &path) != least) {
-                    return Ok(false);
-                }
-            }
-            None => {
-                if least != u64::MAX {
-                    return Ok(false);
-                }
-            }
-        }
+        assert!(rt; agrees(alloc, dual, &reach, face, least)?, "{from} {face}");
     }
-    Ok(true)
+    Ok(())
+}
+
+/// Compares the distances over a grid from each of its faces.
+fn compare_grid<R: Abort>(rt: &R, alloc: Global, seed: u64) -> Result<(), Fail> {
+    let net = grid(alloc, seed)?;
+    let dual = dual_of(alloc, &net)?;
+    for from in 0..dual.faces {
+        compare_from(rt, alloc, &dual, from)?;
+    }
+    Ok(())
 }
 
 #[test]
 fn least_lengths(rt: HostRuntime) -> Result<(), Fail> {
     for seed in 0..20u64 {
-        let net = grid(rt.alloc(), seed)?;
-        let dual = dual_of(rt.alloc(), &net)?;
-        for from in 0..dual.faces {
-            assert!(rt; agrees(rt.alloc(), &dual, from)?, "from {from} of {seed}");
-        }
+        compare_grid(&rt, rt.alloc(), seed)?;
     }
     Ok(())
 }

@@ -12,6 +12,8 @@ mod laminar;
 #[cfg(test)]
 mod matching;
 #[cfg(test)]
+mod nets;
+#[cfg(test)]
 mod solve;
 #[cfg(test)]
 mod tables;

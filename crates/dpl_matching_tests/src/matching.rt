@@ -1,4 +1,4 @@
-ghost use Rattle.std.specs.Prelude.{◌≡◌, ℕ, ◌*◌, ◌<◌, ◌≤◌, length};
+ghost use Rattle.std.specs.Prelude.{◌≡◌, ◌<◌};
 
 use crate::tables::is_table;
 use dpl_laminar::Steps;
@@ -7,6 +7,7 @@ use std::alloc::{AllocError, Global};
 use std::marker::Brand;
 use std::process::Abort;
 use std::sync::ledger::{Blank, Ledger};
+use std::test::Fail;
 
 /// The number after x of a simple sequence.
 fn after(x: u64) -> u64 {
@@ -106,48 +107,56 @@ fn least_sum(alloc: Global, rows: &[u64], n: u32) -> Result<u64, AllocError> {
     Ok(number(&least, bit(n).wrapping_sub(1)))
 }
 
-fn copied(alloc: Global, rows: &[u64]) -> Result<Vec<u64>, AllocError> {
-    let mut list = Vec::new(alloc);
-    for i in 0..rows.len() {
-        list.push(rows[i])?;
-    }
-    Ok(list)
-}
-
-/// Pairs the members.
-fn mates_of<L: Ledger, R: Abort>(
-    rt: &R,
+/// Pairs the members of which these are the distances.
+fn mates_in<L: Ledger>(
     alloc: Global,
     n: u32,
-    rows: &[u64],
-    steps: &mut Steps<L>,
-) -> Result<Vec<u32>, AllocError> {
-    let list = copied(alloc, rows)?;
-    if !is_table(&list, n as usize) {
-        panic!(rt; "no distances");
+    rows: Vec<u64>,
+    blank: Blank,
+) -> Result<Vec<u32>, Fail>
+    requires name { blank.name ≡ L.name }
+    requires parts { blank.parts ≡ L.parts }
+    requires some { 0 < L.parts }
+{
+    let (book, share) = blank.open::<L>();
+    let mut steps = Steps::new(book, share);
+    if !is_table(&rows, n as usize) {
+        return Err("no distances")?;
     }
-    let metric = Metric::new(n, list);
-    let Matched { mate, .. } = solve(alloc, &metric, steps)?;
+    let metric = Metric::new(n, rows);
+    let Matched { mate, .. } = solve(alloc, &metric, &mut steps)?;
     Ok(mate)
 }
 
+fn mates_of(alloc: Global, n: u32, rows: Vec<u64>) -> Result<Vec<u32>, Fail> {
+    mates_in::<Brand>(alloc, n, rows, Blank::new(1))
+}
+
+/// The sum over the pairs that are found for these distances.
+fn sum_found(alloc: Global, n: u32, rows: &[u64]) -> Result<u64, Fail> {
+    let mate = mates_of(alloc, n, Vec::from_slice(alloc, rows)?)?;
+    Ok(sum_of(rows, n, &mate))
+}
+
+/// The distances of members on a line, twice those of the places.
+fn line(alloc: Global, n: u32, places: &[u64]) -> Result<Vec<u64>, AllocError> {
+    let none = numbers(alloc, n, 0, 1)?;
+    plane(alloc, places, &none, 4294967296)
+}
+
 /// Pairs members on a line, and compares their mates and the sum of the pairs.
-fn line_paired<L: Ledger, R: Abort>(
+fn compare_line<R: Abort>(
     rt: &R,
     alloc: Global,
+    n: u32,
     places: &[u64],
     mates: &[u32],
     sum: u64,
-    steps: &mut Steps<L>,
-) -> Result<(), AllocError>
-    requires few { length places.now ≤ 8 }
-{
-    let n = places.len() as u32;
-    let none = numbers(alloc, n, 0, 1)?;
-    let rows = plane(alloc, places, &none, 4294967296)?;
-    let mate = mates_of(rt, alloc, n, &rows, steps)?;
+) -> Result<(), Fail> {
+    let rows = line(alloc, n, places)?;
+    assert_eq!(rt; sum_found(alloc, n, &rows)?, sum);
+    let mate = mates_of(alloc, n, rows)?;
     assert_eq!(rt; mate.as_slice(), mates);
-    assert_eq!(rt; sum_of(&rows, n, &mate), sum);
     Ok(())
 }
 
@@ -170,101 +179,34 @@ fn two_groups(alloc: Global) -> Result<Vec<u64>, AllocError> {
 }
 
 /// Members whose pairs were worked out by hand. A distance is twice that of the places.
-fn worked<L: Ledger, R: Abort>(rt: &R, alloc: Global, blank: Blank) -> Result<(), AllocError>
-    requires name { blank.name ≡ L.name }
-    requires parts { blank.parts ≡ L.parts }
-    requires some { 0 < L.parts }
-{
-    let (book, share) = blank.open::<L>();
-    let mut steps = Steps::new(book, share);
-    line_paired(rt, alloc, &[], &[], 0, &mut steps)?;
-    line_paired(rt, alloc, &[0, 10], &[1, 0], 20, &mut steps)?;
-    line_paired(rt, alloc, &[0, 2, 3, 5], &[1, 0, 3, 2], 8, &mut steps)?;
-    line_paired(
-        rt,
-        alloc,
-        &[0, 1, 2, 5, 6, 7],
-        &[1, 0, 3, 2, 5, 4],
-        10,
-        &mut steps,
-    )?;
-    let rows = two_groups(alloc)?;
-    let mate = mates_of(rt, alloc, 6, &rows, &mut steps)?;
-    assert_eq!(rt; sum_of(&rows, 6, &mate), 14);
+#[test]
+fn by_hand(rt: HostRuntime) -> Result<(), Fail> {
+    compare_line(&rt, rt.alloc(), 0, &[], &[], 0)?;
+    compare_line(&rt, rt.alloc(), 2, &[0, 10], &[1, 0], 20)?;
+    compare_line(&rt, rt.alloc(), 4, &[0, 2, 3, 5], &[1, 0, 3, 2], 8)?;
+    let (places, mates) = ([0, 1, 2, 5, 6, 7], [1, 0, 3, 2, 5, 4]);
+    compare_line(&rt, rt.alloc(), 6, &places, &mates, 10)?;
+    let rows = two_groups(rt.alloc())?;
+    assert_eq!(rt; sum_found(rt.alloc(), 6, &rows)?, 14);
+    Ok(())
+}
+
+/// Compares the sum of the pairs of eight members with the least sum of all pairings.
+fn compare_with_all<R: Abort>(rt: &R, alloc: Global, seed: u64) -> Result<(), Fail> {
+    let rows = scattered(alloc, 8, seed, 2 + seed % 20)?;
+    let sum = sum_found(alloc, 8, &rows)?;
+    assert_eq!(rt; sum, least_sum(alloc, &rows, 8)?, "{seed}");
     Ok(())
 }
 
 /// Eight members at pseudo-random places have the least sum of all pairings. In a narrow square
 /// many distances are equal, and some are 0.
-fn compared<L: Ledger, R: Abort>(rt: &R, alloc: Global, blank: Blank) -> Result<(), AllocError>
-    requires name { blank.name ≡ L.name }
-    requires parts { blank.parts ≡ L.parts }
-    requires some { 0 < L.parts }
-{
-    let (book, share) = blank.open::<L>();
-    let mut steps = Steps::new(book, share);
+#[test]
+fn by_trying_all(rt: HostRuntime) -> Result<(), Fail> {
     for seed in 0..60_u64 {
-        let rows = scattered(alloc, 8, seed, 2 + seed % 20)?;
-        let mate = mates_of(rt, alloc, 8, &rows, &mut steps)?;
-        let sum = sum_of(&rows, 8, &mate);
-        assert_eq!(rt; sum, least_sum(alloc, &rows, 8)?);
+        compare_with_all(&rt, rt.alloc(), seed)?;
     }
     Ok(())
-}
-
-/// Pairs many members of a plane.
-fn plane_paired<L: Ledger, R: Abort>(
-    rt: &R,
-    alloc: Global,
-    n: u32,
-    wide: u64,
-    blank: Blank,
-) -> Result<(), AllocError>
-    requires wide { 0 < wide }
-    requires name { blank.name ≡ L.name }
-    requires parts { blank.parts ≡ L.parts }
-    requires some { 0 < L.parts }
-{
-    let (book, share) = blank.open::<L>();
-    let mut steps = Steps::new(book, share);
-    let rows = scattered(alloc, n, 7, wide)?;
-    let mate = mates_of(rt, alloc, n, &rows, &mut steps)?;
-    assert!(rt; mate.len() == n as usize);
-    Ok(())
-}
-
-/// Pairs the odd faces of a long row of cells: the next one is 10 away, and no other more than 20.
-fn row_paired<L: Ledger, R: Abort>(
-    rt: &R,
-    alloc: Global,
-    n: u32,
-    blank: Blank,
-) -> Result<(), AllocError>
-    requires small { n ≤ 2048 }
-    requires name { blank.name ≡ L.name }
-    requires parts { blank.parts ≡ L.parts }
-    requires some { 0 < L.parts }
-{
-    let (book, share) = blank.open::<L>();
-    let mut steps = Steps::new(book, share);
-    let mut places = Vec::new(alloc);
-    for i in 0..n {
-        places.push(u64::from(i * 5))?;
-    }
-    let rows = plane(alloc, &places, &[], 20)?;
-    let mate = mates_of(rt, alloc, n, &rows, &mut steps)?;
-    assert_eq!(rt; sum_of(&rows, n, &mate), u64::from(n * 5));
-    Ok(())
-}
-
-#[test]
-fn by_hand(rt: HostRuntime) -> Result<(), AllocError> {
-    worked::<Brand, _>(&rt, rt.alloc(), Blank::new(1))
-}
-
-#[test]
-fn by_trying_all(rt: HostRuntime) -> Result<(), AllocError> {
-    compared::<Brand, _>(&rt, rt.alloc(), Blank::new(1))
 }
 
 /// Only looks at the distances.
@@ -283,17 +225,33 @@ fn alone_1024(rt: HostRuntime) -> Result<(), AllocError> {
     Ok(())
 }
 
+/// Pairs many members of a plane.
 #[test]
-fn plane_512(rt: HostRuntime) -> Result<(), AllocError> {
-    plane_paired::<Brand, _>(&rt, rt.alloc(), 512, 300, Blank::new(1))
+fn plane_512(rt: HostRuntime) -> Result<(), Fail> {
+    let mate = mates_of(rt.alloc(), 512, scattered(rt.alloc(), 512, 7, 300)?)?;
+    assert_eq!(rt; mate.len(), 512);
+    Ok(())
 }
 
 #[test]
-fn plane_1024(rt: HostRuntime) -> Result<(), AllocError> {
-    plane_paired::<Brand, _>(&rt, rt.alloc(), 1024, 1000, Blank::new(1))
+fn plane_1024(rt: HostRuntime) -> Result<(), Fail> {
+    let mate = mates_of(rt.alloc(), 1024, scattered(rt.alloc(), 1024, 7, 1000)?)?;
+    assert_eq!(rt; mate.len(), 1024);
+    Ok(())
+}
+
+/// The distances of the odd faces of a long row of cells: the next one is 10 away, and no other more than 20.
+fn row(alloc: Global, n: u32) -> Result<Vec<u64>, AllocError> {
+    let mut places = Vec::new(alloc);
+    for i in 0..n {
+        places.push(u64::from(i) * 5)?;
+    }
+    plane(alloc, &places, &[], 20)
 }
 
 #[test]
-fn row_512(rt: HostRuntime) -> Result<(), AllocError> {
-    row_paired::<Brand, _>(&rt, rt.alloc(), 512, Blank::new(1))
+fn row_512(rt: HostRuntime) -> Result<(), Fail> {
+    let rows = row(rt.alloc(), 512)?;
+    assert_eq!(rt; sum_found(rt.alloc(), 512, &rows)?, 512 * 5);
+    Ok(())
 }

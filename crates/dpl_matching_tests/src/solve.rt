@@ -1,27 +1,13 @@
-use dpl_sign::{Edge, Net, Port, Signed};
+use crate::nets::At::{East, North, NorthEast, NorthWest, South, SouthEast, SouthWest, West};
+use crate::nets::{Link, clash, net, stitch};
 use dpl_solve::{Solution, solve};
 use std::alloc::Global;
+use std::process::Abort;
 use std::test::Fail;
 
-/// A drawing of these edges, each node a piece of its own.
-fn drawing(alloc: Global, nodes: u32, links: &[(Edge, Port, Port)]) -> Result<Net, Fail> {
-    let mut edges = Vec::new(alloc);
-    let mut ports = Vec::new(alloc);
-    for (edge, at_a, at_b) in links {
-        edges.push(*edge)?;
-        ports.push((*at_a, *at_b))?;
-    }
-    let mut pieces = Vec::new(alloc);
-    for node in 0..nodes {
-        pieces.push(node)?;
-    }
-    let graph = Signed::new(nodes, edges).ok_or("no graph")?;
-    Ok(Net::new(graph, ports, pieces, nodes).ok_or("no net")?)
-}
-
 /// The optimum of a drawing.
-fn optimum(alloc: Global, nodes: u32, links: &[(Edge, Port, Port)]) -> Result<Solution, Fail> {
-    let net = drawing(alloc, nodes, links)?;
+fn optimum(alloc: Global, nodes: u32, links: &[Link]) -> Result<Solution, Fail> {
+    let net = net(alloc, nodes, links)?;
     if net.graph.edges.as_slice().len() > 400_000 {
         return Err("too many edges")?;
     }
@@ -31,86 +17,102 @@ fn optimum(alloc: Global, nodes: u32, links: &[(Edge, Port, Port)]) -> Result<So
     }
 }
 
-fn ports() -> (Port, Port) {
-    (Port::on_side(3, 0), Port::on_side(7, 0))
+/// The numbers of an optimum.
+#[derive(Clone, Copy)]
+struct Measures {
+    cost: u64,
+    bound: u64,
+    cycles: usize,
+    excess: u64,
+    aside: usize,
+}
+
+fn measured(alloc: Global, nodes: u32, links: &[Link]) -> Result<Measures, Fail> {
+    let solution = optimum(alloc, nodes, links)?;
+    Ok(Measures {
+        cost: solution.cost,
+        bound: solution.bound,
+        cycles: solution.cycles.as_slice().len(),
+        excess: solution.excess,
+        aside: solution.aside.as_slice().len(),
+    })
+}
+
+/// Compares the edges that are set aside.
+fn compare_aside<R: Abort>(
+    rt: &R,
+    alloc: Global,
+    nodes: u32,
+    links: &[Link],
+    aside: &[u32],
+) -> Result<(), Fail> {
+    let solution = optimum(alloc, nodes, links)?;
+    assert_eq!(rt; solution.aside.as_slice(), aside);
+    Ok(())
 }
 
 /// One odd cycle around the triangle, with twice the weight of a clash.
 #[test]
 fn odd_triangle(rt: HostRuntime) -> Result<(), Fail> {
-    let (east, west) = ports();
     let links = [
-        (Edge::clash(0, 1, 10), east, west),
-        (Edge::clash(0, 2, 10), west, east),
-        (Edge::clash(1, 2, 10), east, west),
+        clash(0, 1, 10, East(0), West(0)),
+        clash(0, 2, 10, West(0), East(0)),
+        clash(1, 2, 10, East(0), West(0)),
     ];
-    let solution = optimum(rt.alloc(), 3, &links)?;
-    assert_eq!(rt; (solution.cost, solution.bound), (10, 20));
-    assert_eq!(rt; solution.cycles.as_slice().len(), 1);
-    assert_eq!(rt; (solution.excess, solution.aside.as_slice().len()), (0, 0));
+    let found = measured(rt.alloc(), 3, &links)?;
+    assert_eq!(rt; (found.cost, found.bound), (10, 20));
+    assert_eq!(rt; found.cycles, 1);
+    assert_eq!(rt; (found.excess, found.aside), (0, 0));
     Ok(())
 }
 
 /// A ring of five clashes and three stitches breaks a stitch.
 #[test]
 fn a_stitch_is_cheaper(rt: HostRuntime) -> Result<(), Fail> {
-    let (east, west) = ports();
     let links = [
-        (Edge::stitch(0, 1, 1), east, west),
-        (Edge::clash(0, 2, 10), west, east),
-        (Edge::clash(1, 3, 10), east, west),
-        (Edge::clash(2, 4, 10), west, east),
-        (Edge::clash(3, 7, 10), east, west),
-        (Edge::stitch(4, 5, 1), west, east),
-        (Edge::clash(5, 6, 10), west, east),
-        (Edge::stitch(6, 7, 1), west, east),
+        stitch(0, 1, 1, East(0), West(0)),
+        clash(0, 2, 10, West(0), East(0)),
+        clash(1, 3, 10, East(0), West(0)),
+        clash(2, 4, 10, West(0), East(0)),
+        clash(3, 7, 10, East(0), West(0)),
+        stitch(4, 5, 1, West(0), East(0)),
+        clash(5, 6, 10, West(0), East(0)),
+        stitch(6, 7, 1, West(0), East(0)),
     ];
-    let solution = optimum(rt.alloc(), 8, &links)?;
-    assert_eq!(rt; (solution.cost, solution.bound), (1, 2));
+    let found = measured(rt.alloc(), 8, &links)?;
+    assert_eq!(rt; (found.cost, found.bound), (1, 2));
     Ok(())
 }
 
 /// Two diagonals are set aside. One broken clash is kept, and one is not.
 #[test]
 fn square_with_both_diagonals(rt: HostRuntime) -> Result<(), Fail> {
-    let (east, west) = (Port::on_side(3, 200), Port::on_side(7, -200));
-    let (up, down) = (Port::on_side(5, -200), Port::on_side(1, 200));
     let links = [
-        (Edge::clash(0, 1, 10), east, west),
-        (Edge::clash(0, 2, 10), up, down),
-        (
-            Edge::clash(0, 3, 10),
-            Port::at_corner(4, 100, 100),
-            Port::at_corner(0, 100, 100),
-        ),
-        (
-            Edge::clash(1, 2, 10),
-            Port::at_corner(6, 100, 100),
-            Port::at_corner(2, 100, 100),
-        ),
-        (Edge::clash(1, 3, 10), up, Port::on_side(1, 800)),
-        (Edge::clash(2, 3, 10), Port::on_side(3, 800), west),
+        clash(0, 1, 10, East(200), West(-200)),
+        clash(0, 2, 10, North(-200), South(200)),
+        clash(0, 3, 10, NorthEast(100, 100), SouthWest(100, 100)),
+        clash(1, 2, 10, NorthWest(100, 100), SouthEast(100, 100)),
+        clash(1, 3, 10, North(-200), South(800)),
+        clash(2, 3, 10, East(800), West(-200)),
     ];
-    let solution = optimum(rt.alloc(), 4, &links)?;
-    assert_eq!(rt; (solution.cost, solution.bound), (20, 20));
-    assert_eq!(rt; solution.aside.as_slice(), [4, 5].as_slice());
-    Ok(())
+    let found = measured(rt.alloc(), 4, &links)?;
+    assert_eq!(rt; (found.cost, found.bound), (20, 20));
+    compare_aside(&rt, rt.alloc(), 4, &links, &[4, 5])
 }
 
 /// Two triangles far apart: each pays for itself.
 #[test]
 fn two_parts(rt: HostRuntime) -> Result<(), Fail> {
-    let (east, west) = ports();
     let links = [
-        (Edge::clash(0, 1, 10), east, west),
-        (Edge::clash(0, 2, 10), west, east),
-        (Edge::clash(1, 2, 10), east, west),
-        (Edge::clash(3, 4, 7), east, west),
-        (Edge::clash(3, 5, 7), west, east),
-        (Edge::clash(4, 5, 7), east, west),
+        clash(0, 1, 10, East(0), West(0)),
+        clash(0, 2, 10, West(0), East(0)),
+        clash(1, 2, 10, East(0), West(0)),
+        clash(3, 4, 7, East(0), West(0)),
+        clash(3, 5, 7, West(0), East(0)),
+        clash(4, 5, 7, East(0), West(0)),
     ];
-    let solution = optimum(rt.alloc(), 6, &links)?;
-    assert_eq!(rt; (solution.cost, solution.bound), (17, 34));
-    assert_eq!(rt; solution.cycles.as_slice().len(), 2);
+    let found = measured(rt.alloc(), 6, &links)?;
+    assert_eq!(rt; (found.cost, found.bound), (17, 34));
+    assert_eq!(rt; found.cycles, 2);
     Ok(())
 }
