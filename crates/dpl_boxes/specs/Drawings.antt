@@ -14,12 +14,13 @@ use Rattle.dpl_boxes.specs.MaskLines.{lines_of_masks}
 abbrev pub is_in_boxes : List Corners → ℤ → ℤ → Bool
 is_in_boxes boxes x y = list_any (λ b. is_in_box b x y) boxes
 
--- The layer of the text with this name has exactly these boxes in this order, and exactly their cells.
+-- the layer with this name has exactly these boxes in this order, and exactly their cells
 pub record HasBoxes (name : List ℕ) (boxes : List Corners) (text : List ℕ) : Type 0 where
   pub boxes_in_order : primitives_of name text ≡ map Box boxes
   pub cells : (x y : ℤ) → is_cell (primitives_of name text) x y ≡ is_in_boxes boxes x y
 
--- Whatever layer is chosen, the text breaks no rule. Its layers NAMEA and NAMEB have the boxes of the two masks, and any other layer has nothing.
+-- Whatever layer is chosen, the text breaks no rule. Its layers NAMEA and NAMEB have the boxes of
+-- the two masks, and any other layer has nothing.
 pub record DrawsMasks (layer : List ℕ) (on_a on_b : List Corners) (text : List ℕ) : Type 0 where
   pub clean : (chosen : List ℕ) → first_fault chosen text ≡ None
   pub on_first : HasBoxes (layer ++ codes "A") on_a text

@@ -28,8 +28,7 @@ abbrev pub scaled_extent : Scale → Extent → Extent
 scaled_extent scale e = record {
   x1 = scaled scale e.x1;
   y1 = scaled scale e.y1;
-  x2 =
-      scaled scale e.x2;
+  x2 = scaled scale e.x2;
   y2 = scaled scale e.y2;
 }
 
@@ -64,7 +63,7 @@ transformed_by scale (t ∷ ts) c = transformed_by scale ts (transformed scale t
 abbrev pub where_true : Bool → List Part → List Part
 where_true b parts = if b then parts else []
 
--- What one command puts in. A figure on another layer puts in nothing; a box or wire that covers nothing is no primitive.
+-- what one command puts in: no figure of another layer, and no box or wire that covers nothing
 abbrev pub parts_of : Scope → Command → List Part
 parts_of s (Polygon path) =
     where_true (is_chosen s.layer) (Drawn (figure.Polygon (map (scaled_corner s.scale) path)) ∷ [])

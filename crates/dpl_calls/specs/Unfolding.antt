@@ -15,8 +15,7 @@ extent_between a b = record {
   x1 = int_min a.x b.x;
   y1 = int_min a.y b.y;
   x2 = int_max a.x b.x;
-  y2 =
-      int_max a.y b.y;
+  y2 = int_max a.y b.y;
 }
 
 -- a figure where its points go
@@ -28,13 +27,14 @@ placed place (Polygon corners) = Polygon (map place corners)
 abbrev pub unmoved : Corner → Corner
 unmoved c = c
 
--- what a part gives: a call gives the figures of the definition that it names, its own transformations before those around it
+-- a call gives the figures of the definition that it names, its own moves before those around it
 abbrev pub part_figures : Bodies → ((Corner → Corner) → List Part → List Figure) →
     (Corner → Corner) → Part → List Figure
 part_figures bodies inner place (Drawn figure) = placed place figure ∷ []
 part_figures bodies inner place (Called n moves) = inner (λ c. place (moves c)) (bodies (Some n))
 
--- The figures of these parts, with calls carried out in their places, at most so deep. Where there is no loop no call is deeper than there are definitions.
+-- The figures of these parts, with calls carried out in their places, at most so deep. Where there
+-- is no loop no call is deeper than there are definitions.
 abbrev pub figures_of : ℕ → Bodies → (Corner → Corner) → List Part → List Figure
 figures_of zero bodies place parts = []
 figures_of (suc depth) bodies place parts =

@@ -16,7 +16,7 @@ pub record IsCommon (from to a1 a2 b1 b2 : ℤ) : Type 0 where
 abbrev pub IsAhead : ℤ → ℤ → ℤ → ℤ → Type 0
 IsAhead a1 a2 b1 b2 = (x y : ℤ) → IsWithin a1 a2 x → IsWithin b1 b2 y → x <ℤ y
 
--- two stretches have nothing in common, and n places are the least between a place of one and a place of the other
+-- two stretches have nothing in common, and between them are n places at least
 pub record IsDistance (a1 a2 b1 b2 : ℤ) (n : ℕ) : Type 0 where
   pub none : (k : ℤ) → IsWithin a1 a2 k → ¬ IsWithin b1 b2 k
   pub least : (x y : ℤ) → IsWithin a1 a2 x → IsWithin b1 b2 y → n ≤ between x y

@@ -4,7 +4,7 @@ use Rattle.std.specs.Int.{int_max, int_min}
 use Rattle.std.specs.Int.RustNames.{unsigned_abs}
 use Rattle.dpl_cell.specs.Cells.{IsWithin}
 
--- how many columns lie between two columns, or rows between two rows: 0 where they are the same or neighbours
+-- how many columns lie between two columns, or rows between two rows: none between neighbours
 abbrev pub between : ℤ → ℤ → ℕ
 between x y = unsigned_abs (x -ℤ y) - 1
 

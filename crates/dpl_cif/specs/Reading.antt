@@ -35,7 +35,7 @@ bodies_in layer text = parts_from layer at_first (forms_of text)
 abbrev pub depth_of : List ℕ → ℕ
 depth_of text = length (numbers_from [] (forms_of text)) + 1
 
--- the boxes and polygons of the layer after all calls, in the order in which the calls are carried out
+-- the boxes and polygons of the layer after all calls, in the order in which these are carried out
 abbrev pub primitives_of : List ℕ → List ℕ → List Outline
 primitives_of layer text =
     map drawn (figures_of (depth_of text) (bodies_in layer text) unmoved

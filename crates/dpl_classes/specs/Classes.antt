@@ -11,7 +11,7 @@ pub record IsNumbered (label : List ℕ) (n : ℕ) : Type 0 where
   pub grows : (i : ℕ) → i < length label → slice_index_or label i 0 ≤ next_label (take i label)
   pub count : n ≡ next_label label
 
--- two numbers below n have one label where a chain of pairs joins them, and the classes are numbered by their least members
+-- two numbers below n have one label where a chain of pairs joins them
 pub record AreClasses (pairs : List (ℕ × ℕ)) (n : ℕ) (label : List ℕ) (count : ℕ) : Type 0 where
   pub long : length label ≡ n
   pub same : (i j : ℕ) → i < n → j < n →

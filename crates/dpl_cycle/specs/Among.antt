@@ -12,7 +12,8 @@ abbrev pub others_count : (ℕ → Bool) → ℕ → ℕ
 others_count p zero = 0
 others_count p (suc n) = elim (p n) [ true ↦ others_count p n | false ↦ suc (others_count p n) ]
 
--- The number of cycles that go through these, which are taken out one after another: one that leads to itself is the last of its cycle.
+-- The number of cycles that go through these, which are taken out one after another: one that leads
+-- to itself is the last of its cycle.
 abbrev pub cycles_among : (ℕ → ℕ) → List ℕ → ℕ
 cycles_among f [] = 0
 cycles_among f (d ∷ ds) =

@@ -16,7 +16,7 @@ use Rattle.dpl_edit.specs.declared.placed.Placed.{Placed}
 use Rattle.dpl_edit.specs.declared.errors.EditError.{EditError}
 use Rattle.dpl_edit.specs.declared.errors.EditError.TheVariants.{Limit, NoMemory}
 
--- the primitives that a session began with, then the boxes that were added and not removed, in the order of adding
+-- what was there at first, then the boxes that were added and not removed, in the order of adding
 abbrev pub content : List Primitive → List Placed → List Primitive
 content begun boxes = begun ++ map (λ b. Box b.rect) boxes
 

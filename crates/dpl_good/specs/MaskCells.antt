@@ -44,8 +44,8 @@ OverlapInZones r = (x y : ℤ) →
     (is_in_boxes r.on_a x y && is_in_boxes r.on_b x y)
     ≡ is_in_boxes (map (λ z. z.corners) r.lists.cuts) x y
 
--- The cut line shows the zone of the cut between its two fragments: a part of their tile that is as long as the overlap
--- and as wide as the tile.
+-- The cut line shows the zone of the cut between its two fragments: a part of their tile that is as
+-- long as the overlap and as wide as the tile.
 pub record ShowsZone (over : ℕ) (tiles : List Corners) (f : Fragments)
     (z : PlainZone) : Type 0 where
   pub cut : IsCut over tiles (map corners_of f.rects) f.tile z.at.a z.at.b z.corners
@@ -67,8 +67,7 @@ pub record NamesBroken (g : Signed) (colours : List Bool) (kind : Kind) (b : Bro
 
 -- the lines, each of which is at an edge, name all broken edges of this kind, each once, in order
 pub record NameAllBroken {X : Type 0} (g : Signed) (colours : List Bool) (kind : Kind)
-    (at : X → Broken) (lines : List X)
-    : Type 0 where
+    (at : X → Broken) (lines : List X) : Type 0 where
   pub each : All (λ x. NamesBroken g colours kind (at x)) lines
   pub all : (e : ℕ) → IsBrokenEdge g colours kind e → Any (λ x. (at x).edge ≡ e) lines
   pub ordered : AllPairs (λ x y. (at x).edge < (at y).edge) lines
@@ -110,11 +109,10 @@ pub record TellsClose (cells : ℤ → ℤ → Bool) (space : ℕ) (f : Fragment
   pub close : AreTooClose cells space x y x' y'
   pub mask : AreOnOneMask r x y x' y'
 
--- What the masks of a report are of the cells of a layer, of its fragments and of their net. The text of the report,
--- read again as CIF, breaks no rule, and its two layers have exactly the boxes and the cells of the two masks.
-pub record AreMasksOf (o : PlainOptions) (cells : ℤ → ℤ → Bool) (tiles : List Corners) (f : Fragments)
-    (net : Net)
-    (r : PlainReport) : Type 0 where
+-- What the masks of a report are of the cells of a layer, of its fragments and of their net. The
+-- text, read again as CIF, breaks no rule and has exactly the boxes of the two masks.
+pub record AreMasksOf (o : PlainOptions) (cells : ℤ → ℤ → Bool) (tiles : List Corners)
+    (f : Fragments) (net : Net) (r : PlainReport) : Type 0 where
   pub together : HoldTogether cells r
   pub overlap : OverlapInZones r
   pub zones : All (ShowsZone (2 * o.overlap) tiles f) r.lists.cuts

@@ -39,7 +39,7 @@ abbrev pub drawing_reasons : PlainOptions → List ℕ → List (LayerError → 
 drawing_reasons o text = map (HasFault text) (o.layer ∷ option_to_list o.keep)
     ++ map (PassesLimit text) (o.layer ∷ option_to_list o.keep)
 
--- the text is not refused, and its cells have the property: those of the chosen layer, and those where nothing is cut
+-- the text is not refused, and the cells of the chosen layer and the kept ones have the property
 abbrev pub OnLayer : PlainOptions → List ℕ → (Cells → Cells → Type 0) → Type 0
 OnLayer o text P = NoneOf (drawing_reasons o text)
     × P (is_cell (primitives_of o.layer text)) (is_cell (kept_of o.keep text))

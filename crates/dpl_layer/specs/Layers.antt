@@ -13,8 +13,7 @@ use Rattle.dpl_links.specs.Nets.{IsNet}
 use Rattle.dpl_options.specs.Options.{PlainOptions}
 use Rattle.dpl_layer.specs.Drawings.{Cells, OnLayer}
 
--- the fragments of the tiles of these cells, each with the number of its shape, with no cut in a cell that is kept whole;
--- lengths are in grid units
+-- the fragments of these cells, with no cut in a cell that is kept whole; lengths are in grid units
 pub record AreFragmentsOf (space over : ℕ) (cells kept : Cells) (f : Fragments) : Type 0 where
   pub tiles : List Corners
   pub label : List ℕ
@@ -26,7 +25,8 @@ pub record AreFragmentsOf (space over : ℕ) (cells kept : Cells) (f : Fragments
   pub are_fragments : AreFragments keep space over tiles label f
 
 -- the fragments and the net of these cells by the options, of which a hundredth is two grid units
-pub record IsLayerOf (o : PlainOptions) (cells kept : Cells) (f : Fragments) (n : Net) : Type 0 where
+pub record IsLayerOf (o : PlainOptions) (cells kept : Cells) (f : Fragments)
+    (n : Net) : Type 0 where
   pub fragments : AreFragmentsOf (2 * o.space) (2 * o.overlap) cells kept f
   pub net : IsNet f o.weights (2 * o.space) n
 

@@ -7,8 +7,7 @@ use Rattle.dpl_cell.specs.Layers.{is_cell}
 use Rattle.dpl_cell.specs.Shapes.{AreOneShape}
 use Rattle.dpl_classes.specs.Classes.{IsNumbered}
 
--- rectangles have one label where their cells are of one shape in the layer of all the rectangles, and shapes are
--- numbered by their least rectangles
+-- two of the rectangles have one label where their cells are of one shape in the layer of them all
 pub record AreShapes (rects : List Corners) (label : List ℕ) (count : ℕ) : Type 0 where
   pub long : length label ≡ length rects
   pub same : (i j : ℕ) (d : Corners) (x y x' y' : ℤ) → i < length rects → j < length rects →

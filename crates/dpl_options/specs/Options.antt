@@ -13,7 +13,7 @@ pub record PlainWeights : Type 0 where
 abbrev pub usual_weights : PlainWeights
 usual_weights = record { stitch = 1; conflict = 10; corner = 10 }
 
--- The layer, the spacing and the overlap in hundredths of a micron, the weights, and the layer where nothing is cut.
+-- the layer, spacing and overlap in hundredths of a micron, weights, the layer where nothing is cut
 pub record PlainOptions : Type 0 where
   pub layer : List ℕ
   pub space : ℕ

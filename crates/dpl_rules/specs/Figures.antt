@@ -41,7 +41,7 @@ abbrev pub legs_from : ℕ → Spot → List Spot → List Extent
 legs_from width p [] = []
 legs_from width p (q ∷ qs) = leg width p q ∷ legs_from width q qs
 
--- a wire has one rectangle for each pair of points that follow one another; a wire of one point is a square
+-- a wire has a rectangle for each two points in a row; a wire of one point is a square
 abbrev pub legs : ℕ → List Spot → List Extent
 legs width [] = []
 legs width (p ∷ []) = leg width p p ∷ []
@@ -51,7 +51,7 @@ legs width (p ∷ q ∷ qs) = legs_from width p (q ∷ qs)
 unfoldable pub is_on_grid : Scale → ℤ → Bool
 is_on_grid scale z = unsigned_abs (int_rem (z *ℤ pos scale.times) (pos scale.over)) == 0
 
--- that number
+-- a distance times the scale, which is a whole number where the text breaks no rule
 unfoldable pub scaled : Scale → ℤ → ℤ
 scaled scale z = int_div (z *ℤ pos scale.times) (pos scale.over)
 

@@ -10,7 +10,7 @@ use Rattle.dpl_run.specs.Lines.{yes_line}
 abbrev pub AskForSplit : Result PlainCommand ℕ → PlainOptions → Type 0
 AskForSplit command o = (command ≡ Ok (split o)) ⊎ (command ≡ Ok (balance o))
 
--- the text of a report was written behind what was taken before, so of one that costs the least and has the masks
+-- the text of a split was written behind what was taken before
 abbrev pub WritesLeast : PlainOptions → List ℕ → List ℕ → Option (List ℕ) → Type 0
 WritesLeast o text taken now =
     (output : List ℕ) × (now ≡ Some (taken ++ output)) × IsSplit o text output

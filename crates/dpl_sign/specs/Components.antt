@@ -4,7 +4,7 @@ use Rattle.dpl_sign.specs.declared.graphs.Signed.{Signed}
 use Rattle.dpl_sign.specs.Walks.{edge_at, IsPath}
 use Rattle.dpl_cycle.specs.Names.{name_count, join}
 
--- each node's component over the edges of the set below k, named by one of its nodes: an edge joins the components of its ends
+-- the component of a node over the edges below k, named by a node: an edge joins those of its ends
 abbrev pub names_below : Signed → (ℕ → Bool) → ℕ → ℕ → ℕ
 names_below g set zero = λ v. v
 names_below g set (suc k) =

@@ -80,7 +80,7 @@ next_below net set (suc k) d =
 abbrev pub next_around : Net → (ℕ → Bool) → ℕ → ℕ
 next_around net set d = next_below net set (length net.graph.edges) d
 
--- The next dart of a face: turn back, then take the next edge counterclockwise. A dart outside the set leads to itself.
+-- turn back, then take the next edge counterclockwise; a dart outside the set leads to itself
 abbrev pub next_in_face : Net → (ℕ → Bool) → ℕ → ℕ
 next_in_face net set d = if set (d / 2) then next_around net set (twin_of d) else d
 

@@ -36,7 +36,7 @@ all_edges e = true
 abbrev pub raises_excess : Net → List Bool → Bool
 raises_excess net kept = nat_lt (excess net (is_in kept)) (excess net (is_in (kept ++ true ∷ [])))
 
--- Which of the first edges are kept. Each next edge is set aside where it raises the excess of those kept so far.
+-- which of the first edges are kept: the next one is, unless it raises the excess of those so far
 abbrev pub kept_before : Net → ℕ → List Bool
 kept_before net zero = []
 kept_before net (suc e) = kept_before net e ++ not (raises_excess net (kept_before net e)) ∷ []

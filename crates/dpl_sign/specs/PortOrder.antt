@@ -10,8 +10,8 @@ use Rattle.dpl_sign.specs.declared.ports.Port.{Port}
 abbrev pub fraction_cmp : ℕ → ℕ → ℕ → ℕ → Ordering
 fraction_cmp a b c d = nat_cmp (a * d) (c * b)
 
--- Turning counterclockwise at a corner, the slope rise / run rises: dy/dx at south-west and north-east, dx/dy at
--- south-east and north-west.
+-- Turning counterclockwise at a corner, the slope rise / run rises: dy/dx at south-west and
+-- north-east, dx/dy at south-east and north-west.
 abbrev pub rise : Port → ℕ
 rise p = if p.side % 4 == 0 then p.dy else p.dx
 
@@ -21,7 +21,7 @@ run p = if p.side % 4 == 0 then p.dx else p.dy
 abbrev pub slope_cmp : Port → Port → Ordering
 slope_cmp p q = fraction_cmp (rise p) (run p) (rise q) (run q)
 
--- counterclockwise from south-west: by the side, then by the place on the side, and ties by the edge's number
+-- counterclockwise from south-west: by the side, the place on it, and ties by the edge's number
 abbrev pub port_cmp : Port → ℕ → Port → ℕ → Ordering
 port_cmp p e q f = ordering_then (nat_cmp p.side q.side)
     (ordering_then (int_cmp p.key q.key) (ordering_then (slope_cmp p q) (nat_cmp e f)))

@@ -9,7 +9,7 @@ pub record Leaves (net : Net) (set : ℕ → Bool) (v d : ℕ) : Type 0 where
   pub chosen : set (d / 2) ≡ true
   pub tail : tail_of net.graph d ≡ v
 
--- Of the darts of the set that leave a node, c is the one whose port comes after that of d: none stands between
+-- Of the darts of the set that leave a node, c comes after d by their ports: none stands between
 -- the two. Where c does not stand behind d, then d is the last of them and c the first.
 pub record ComesNext (net : Net) (set : ℕ → Bool) (v d c : ℕ) : Type 0 where
   pub there : Leaves net set v c

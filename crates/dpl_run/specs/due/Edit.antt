@@ -20,8 +20,7 @@ use Rattle.dpl_run.specs.Errors.{status_of}
 
 -- ---- a layer under edits
 
--- the options, the primitives at the start, those of the keep layer, the boxes that were added and not removed, and how
--- many were added
+-- what was there at first, the boxes that were added and not removed, and how many were added
 pub record Edits : Type 0 where
   pub options : PlainOptions
   pub begun : List Primitive
@@ -44,7 +43,7 @@ edits_of s = record {
   count = s.count;
 }
 
--- after a line: one box more, whose number is the count of those before, or all but the one with the number
+-- after a line: one box more, numbered by the count of those before, or all but the one it names
 abbrev pub edited : Line → Edits → Edits
 edited (Add rect) s = record s {
   boxes = s.boxes ++ record { number = s.count; rect = rect } ∷ [];
@@ -107,7 +106,7 @@ AreTaken s [] = NoneOf (edits_reasons s)
 AreTaken s (line ∷ lines) =
     NoneOf (edits_reasons s) × (¬ IsMissing line s) × AreTaken (edited line s) lines
 
--- a script of lines that are all taken, and the text of a report of the content after the last of them
+-- a script whose lines are all taken, and the text of a report of the content after the last
 pub record IsFollowed (o : PlainOptions) (text script output : List ℕ) : Type 0 where
   pub drawing : Drawing
   pub lines : List Line
