@@ -1,5 +1,6 @@
 -- The list of the kept edges while it grows.
-use Rattle.std.proofs.Common.{arith, ◌≡◌, ◌≢◌, ◌⊎◌, true, ℕ, zero, suc, ◌+◌, ◌<◌, ◌≤◌, refl, sym, ap, ◌∙◌, Bool, not, inl, inr, List, [], ◌∷◌, ◌++◌, length, subst, length-append}
+use Rattle.std.proofs.Common.{arith, ◌≡◌, ◌≢◌, ◌⊎◌, true, ℕ, zero, suc, ◌+◌, ◌<◌, ◌≤◌, refl, sym, ap, ◌∙◌}
+use Rattle.std.proofs.Common.{Bool, not, inl, inr, List, [], ◌∷◌, ◌++◌, length, subst, length-append}
 use Rattle.std.proofs.lemmas.Bool.{cases_Bool, cond-true, cond-false}
 use Rattle.dpl_cycle.specs.Sums.{count_on}
 use Rattle.dpl_sign.specs.declared.nets.Net.{Net}

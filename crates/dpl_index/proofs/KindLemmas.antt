@@ -1,5 +1,6 @@
 -- The kinds of items at their stops, and the walk over the stops for those that are asked for.
-use Rattle.std.proofs.Common.{arith, ◌≡◌, ◌⊎◌, ℕ, ◌+◌, ◌<◌, ◌≤◌, List, length, get_or, set, ◌∙◌, All, Contains, refl, sym, ap, subst, inl, inr, ◌∷◌, [], ◌++◌, Some}
+use Rattle.std.proofs.Common.{arith, ◌≡◌, ◌⊎◌, ℕ, ◌+◌, ◌<◌, ◌≤◌, List, length, get_or, set, ◌∙◌, All, Contains}
+use Rattle.std.proofs.Common.{refl, sym, ap, subst, inl, inr, ◌∷◌, [], ◌++◌, Some}
 use Rattle.std.proofs.lemmas.Bool.{cases_lt}
 use Rattle.std.proofs.lemmas.List.{get_or_append_left, get_or_push, length_push}
 use Rattle.std.proofs.lemmas.List.Elements.{All-push, Contains-push, Contains-append_left}
