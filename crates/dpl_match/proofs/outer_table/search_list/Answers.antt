@@ -5,4 +5,4 @@ use Rattle.dpl_match.proofs.outer_table.search_list.Goals as goal
 
 pub loop-i-preserved : goal.loop-i-preserved
 loop-i-preserved c = rw c.closer-best.ensures (near_taken (members_of c.args.metric.now c.args.matching.now) (is_known c.args.table.now.known.items)
-    c.args.list.now c.args.t c.loop-i.i c.loop-i.best (c.requires.list.each c.loop-i.i c.loop-i.below) c.loop-i.invariant)
+    c.args.list.now c.args.t c.loop-i.i c.loop-i.best (c.requires.list.each c.loop-i.i c.loop-i-test.true) c.loop-i.invariant)
