@@ -72,8 +72,10 @@ returns-clause-reads g c =
 
 pub returns-in-Err-Usage-clause-reads : goal.returns-in-Err-Usage-clause-reads
 returns-in-Err-Usage-clause-reads g c =
-    usage_reads (command_of (map string_bytes c.args.words.now)) c.in-Err-Usage.kind (g.S.Source.seen c.args.layout.now)
-    (g.F.Source.seen c.args.second.now)
+    let l = g.S.Source.seen c.args.layout.now in
+    let p = g.F.Source.seen c.args.second.now in
+    subst (λ z. Reads (command_of (map string_bytes c.args.words.now)) (Usage z) l l p p) (sym c.in-Err-Usage.kind-is)
+    (usage_reads (command_of (map string_bytes c.args.words.now)) c.in-Err-Usage.kind l p)
 
 pub returns-in-Err-NoMemory-clause-reads : goal.returns-in-Err-NoMemory-clause-reads
 returns-in-Err-NoMemory-clause-reads g c =
