@@ -1,9 +1,9 @@
-use crate::nets::At::{East, North, South, West};
-use crate::nets::{Link, bond, clash, net, stitch};
 use dpl_colour::{colour, meets_by_number};
 use dpl_map::build;
 use dpl_plain::{kept_edges, meets_faces};
 use dpl_sign::{Net, broken};
+use dpl_test_nets::nets::At::{East, North, South, West};
+use dpl_test_nets::nets::{Link, bond, clash, net, stitch};
 use std::alloc::{AllocError, Global};
 use std::process::Abort;
 use std::test::Fail;

@@ -1,6 +1,6 @@
-use crate::nets::At::{East, West};
-use crate::nets::{Link, clash, net};
 use dpl_drawing::{Cycles, Drawing, draw};
+use dpl_test_nets::nets::At::{East, West};
+use dpl_test_nets::nets::{Link, clash, net};
 use std::alloc::{AllocError, Global};
 use std::process::Abort;
 use std::test::Fail;

@@ -1,10 +1,12 @@
-use crate::nets::At::{East, North, NorthEast, NorthWest, South, SouthEast, SouthWest, West};
-use crate::nets::{Link, clash, net};
 use dpl_cell::Rect;
 use dpl_cuts::types::Fragments;
 use dpl_euler::types::{Bar, Crossing, Drawn, With};
 use dpl_euler::{bar, crossing, drawn, excess_of};
 use dpl_list::Items;
+use dpl_test_nets::nets::At::{
+    East, North, NorthEast, NorthWest, South, SouthEast, SouthWest, West,
+};
+use dpl_test_nets::nets::{Link, clash, net};
 use std::alloc::{AllocError, Global};
 use std::process::Abort;
 use std::test::Fail;

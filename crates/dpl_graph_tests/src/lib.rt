@@ -14,8 +14,6 @@ mod list;
 #[cfg(test)]
 mod map;
 #[cfg(test)]
-mod nets;
-#[cfg(test)]
 mod parts;
 #[cfg(test)]
 mod plain;

@@ -1,8 +1,10 @@
-use crate::nets::At::{East, North, NorthEast, NorthWest, South, SouthEast, SouthWest, West};
-use crate::nets::{At, Link, bond, clash, net, stitch};
 use dpl_map::{Map, build, dart_pair, tail, twin};
 use dpl_plain::{aside_edges, face_count, face_name, kept_edges, total_excess};
 use dpl_sign::is_in;
+use dpl_test_nets::nets::At::{
+    East, North, NorthEast, NorthWest, South, SouthEast, SouthWest, West,
+};
+use dpl_test_nets::nets::{At, Link, bond, clash, net, stitch};
 use std::alloc::{AllocError, Global};
 use std::process::Abort;
 use std::test::Fail;

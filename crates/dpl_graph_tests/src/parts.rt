@@ -1,6 +1,6 @@
-use crate::nets::At::{East, West};
-use crate::nets::{Link, bond, clash, net, stitch};
 use dpl_parts::{components, counted_components};
+use dpl_test_nets::nets::At::{East, West};
+use dpl_test_nets::nets::{Link, bond, clash, net, stitch};
 use std::alloc::Global;
 use std::process::Abort;
 use std::test::Fail;

@@ -1,9 +1,11 @@
-use crate::nets::At::{East, North, NorthEast, NorthWest, South, SouthEast, SouthWest, West};
-use crate::nets::{Link, bond, clash, net, stitch};
 use dpl_plain::{
     are_neighbours, are_of_one_part, component_count, excess, face_count, face_name, is_odd_face,
     kept_edges, leads, meets_faces, passages_on_face, total_excess,
 };
+use dpl_test_nets::nets::At::{
+    East, North, NorthEast, NorthWest, South, SouthEast, SouthWest, West,
+};
+use dpl_test_nets::nets::{Link, bond, clash, net, stitch};
 use std::alloc::Global;
 use std::process::Abort;
 use std::test::Fail;

@@ -1,6 +1,6 @@
-use crate::nets::At::{East, North, NorthEast, NorthWest, South, West};
-use crate::nets::{At, clash, net, port_of};
 use dpl_sign::{Edge, Signed, broken, cost, port_order};
+use dpl_test_nets::nets::At::{East, North, NorthEast, NorthWest, South, West};
+use dpl_test_nets::nets::{At, clash, net, port_of};
 use std::alloc::Global;
 use std::cmp::Ordering;
 use std::test::Fail;

@@ -1,11 +1,11 @@
 ghost use Rattle.std.specs.Prelude.{IfOk};
 ghost use Rattle.dpl_dual.specs.Duals.{CameFromDual};
 
-use crate::nets::At::{East, North, South, West};
-use crate::nets::{Link, bond, clash, net, stitch};
 use dpl_dual::{Dual, distances, distances_within, dual};
 use dpl_map::build;
 use dpl_sign::Net;
+use dpl_test_nets::nets::At::{East, North, South, West};
+use dpl_test_nets::nets::{Link, bond, clash, net, stitch};
 use std::alloc::{AllocError, Global};
 use std::process::Abort;
 use std::test::Fail;

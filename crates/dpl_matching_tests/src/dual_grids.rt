@@ -4,11 +4,11 @@ ghost use Rattle.std.specs.Prelude.{◌<◌};
 ghost use Rattle.dpl_dual.specs.Duals.{CameFromDual};
 
 use crate::dual::dual_of;
-use crate::nets::At::{East, North, South, West};
-use crate::nets::{At, Link, bond, clash, net, stitch};
 use dpl_dual::types::Distances;
 use dpl_dual::{Dual, distances};
 use dpl_sign::Net;
+use dpl_test_nets::nets::At::{East, North, South, West};
+use dpl_test_nets::nets::{At, Link, bond, clash, net, stitch};
 use std::alloc::{AllocError, Global};
 use std::process::Abort;
 use std::test::Fail;

@@ -12,8 +12,6 @@ mod laminar;
 #[cfg(test)]
 mod matching;
 #[cfg(test)]
-mod nets;
-#[cfg(test)]
 mod solve;
 #[cfg(test)]
 mod tables;

@@ -1,6 +1,8 @@
-use crate::nets::At::{East, North, NorthEast, NorthWest, South, SouthEast, SouthWest, West};
-use crate::nets::{Link, clash, net, stitch};
 use dpl_solve::{Solution, solve};
+use dpl_test_nets::nets::At::{
+    East, North, NorthEast, NorthWest, South, SouthEast, SouthWest, West,
+};
+use dpl_test_nets::nets::{Link, clash, net, stitch};
 use std::alloc::Global;
 use std::process::Abort;
 use std::test::Fail;
