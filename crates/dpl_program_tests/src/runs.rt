@@ -2,11 +2,19 @@ use dpl_ext::{MemShelf, MemSink, MemSource};
 use dpl_rules::What;
 use dpl_run::{Status, run};
 use std::alloc::Global;
+use std::test::Fail;
+
+#[derive(Drop)]
+pub struct Ended {
+    pub status: Status,
+    pub out: MemSink,
+    pub err: MemSink,
+}
 
 /// Devices in memory: the layout, the report or the script under the name `r`, the numbers of the calls that fail, and how many
 /// bytes the output takes at once.
 #[derive(Drop)]
-struct World {
+pub struct World {
     layout: Vec<u8>,
     report: Vec<u8>,
     reads: Vec<u64>,
@@ -16,10 +24,10 @@ struct World {
     piece: usize,
 }
 
-fn devices(alloc: Global, layout: &[u8], report: &[u8]) -> Option<World> {
-    Some(World {
-        layout: Vec::from_slice(alloc, layout).ok()?,
-        report: Vec::from_slice(alloc, report).ok()?,
+pub fn devices(alloc: Global, layout: &[u8], report: &[u8]) -> Result<World, Fail> {
+    Ok(World {
+        layout: Vec::from_slice(alloc, layout)?,
+        report: Vec::from_slice(alloc, report)?,
         reads: Vec::new(alloc),
         opens: Vec::new(alloc),
         writes: Vec::new(alloc),
@@ -28,64 +36,18 @@ fn devices(alloc: Global, layout: &[u8], report: &[u8]) -> Option<World> {
     })
 }
 
-/// A call that fails: a read of the layout, a call of the shelf, a write of one byte of the output, each write of the
-/// line for errors.
-#[derive(Clone, Copy)]
-enum Fault {
-    Nowhere,
-    Read(u64),
-    Open(u64),
-    Write(u64),
-    Byte(u64),
-    Lines,
-}
-
-fn set_fault(world: &mut World, fault: Fault) -> Option<()> {
-    match fault {
-        Fault::Nowhere => Some(()),
-        Fault::Read(call) => world.reads.push(call).ok(),
-        Fault::Open(call) => world.opens.push(call).ok(),
-        Fault::Write(call) => world.writes.push(call).ok(),
-        Fault::Byte(call) => {
-            world.piece = 1;
-            world.writes.push(call).ok()
-        }
-        Fault::Lines => {
-            for call in 0..100u64 {
-                world.lines.push(call).ok()?;
-            }
-            Some(())
-        }
-    }
-}
-
-fn words_of(alloc: Global, line: &str) -> Option<Vec<String>> {
+/// Runs a command line over devices in memory.
+pub fn run_over(alloc: Global, line: &str, world: World) -> Result<Ended, Fail> {
     let mut words = Vec::new(alloc);
     for word in line.split_whitespace() {
-        words.push(String::from_str(alloc, word).ok()?).ok()?;
+        words.push(String::from_str(alloc, word)?)?;
     }
-    Some(words)
-}
-
-/// How a run ends, what it writes, and its line for errors.
-#[derive(Drop)]
-pub struct Ended {
-    pub status: Status,
-    pub out: Vec<u8>,
-    pub err: Vec<u8>,
-}
-
-/// Runs a command line over devices in memory.
-fn run_in(alloc: Global, line: &str, world: World) -> Option<Ended> {
-    let words = words_of(alloc, line)?;
     let mut files = Vec::new(alloc);
-    files
-        .push((String::from_str(alloc, "r").ok()?, world.report))
-        .ok()?;
+    files.push((String::from_str(alloc, "r")?, world.report))?;
     let mut layout = MemSource::new(world.layout, 10, world.reads);
     let mut second = MemShelf::new(alloc, files, 1000, world.opens);
-    let mut out = MemSink::new(alloc, 100_000, world.piece.max(1), world.writes).ok()?;
-    let mut err = MemSink::new(alloc, 1000, 40, world.lines).ok()?;
+    let mut out = MemSink::new(alloc, 100_000, world.piece.max(1), world.writes)?;
+    let mut err = MemSink::new(alloc, 1000, 40, world.lines)?;
     let status = run(
         alloc,
         words.as_slice(),
@@ -94,60 +56,7 @@ fn run_in(alloc: Global, line: &str, world: World) -> Option<Ended> {
         &mut out,
         &mut err,
     );
-    ended(alloc, status, &out, &err)
-}
-
-fn ended(alloc: Global, status: Status, out: &MemSink, err: &MemSink) -> Option<Ended> {
-    let out = Vec::from_slice(alloc, out.bytes()).ok()?;
-    let err = Vec::from_slice(alloc, err.bytes()).ok()?;
-    Some(Ended { status, out, err })
-}
-
-/// Runs a command line over a layout and a report or script, where a call fails.
-fn run_failing(
-    alloc: Global,
-    line: &str,
-    layout: &[u8],
-    report: &[u8],
-    fault: Fault,
-) -> Option<Ended> {
-    let mut world = devices(alloc, layout, report)?;
-    set_fault(&mut world, fault)?;
-    run_in(alloc, line, world)
-}
-
-/// The same where none does.
-pub fn run_over(alloc: Global, line: &str, layout: &[u8], report: &[u8]) -> Option<Ended> {
-    run_in(alloc, line, devices(alloc, layout, report)?)
-}
-
-/// The check over a layout of what a command line wrote, nothing where that failed.
-pub fn check_output(alloc: Global, layout: &[u8], made: Option<Ended>) -> Option<Ended> {
-    let made = made?;
-    if made.status.code() != 0 {
-        return None;
-    }
-    run_over(alloc, CHECK, layout, made.out.as_slice())
-}
-
-/// Whether a run ended so, with this output and this line for errors.
-pub fn is_ended(ended: Option<Ended>, status: Status, out: &[u8], err: &[u8]) -> bool {
-    match ended {
-        Some(ended) => {
-            ended.status == status && ended.out.as_slice() == out && ended.err.as_slice() == err
-        }
-        None => false,
-    }
-}
-
-/// Whether a run ended with this exit status and this line for errors, and wrote nothing.
-pub fn is_refused(ended: Option<Ended>, code: u8, err: &[u8]) -> bool {
-    match ended {
-        Some(ended) => {
-            ended.status.code() == code && ended.out.is_empty() && ended.err.as_slice() == err
-        }
-        None => false,
-    }
+    Ok(Ended { status, out, err })
 }
 
 const SPLIT: &str = "split --layer M --space 100 --overlap 20";
@@ -175,13 +84,16 @@ const NOTHING: &[u8] =
     b"(dpl 2);\n(layer M);\n(space 100);\n(overlap 20);\n(stitch 1);\n(conflict 10);\n(pieces 0);\n(fragments 0);\n(bonds 0);\n(stitches 0);\n(clashes 0);\n(excess 0);\n(cost 0);\n(bound 0);\n(masks );\n(corner 10);\nDS 1 1 4;\nL MA;\nL MB;\nDF;\nC 1;\nE\n";
 
 #[test]
-fn nothing_on_two_masks(rt: HostRuntime) {
-    let split = run_over(rt.alloc(), SPLIT, b"E", b"");
-    assert!(rt; is_ended(split, Status::Done, NOTHING, b""));
+fn nothing_on_two_masks(rt: HostRuntime) -> Result<(), Fail> {
+    let ended = run_over(rt.alloc(), SPLIT, devices(rt.alloc(), b"E", b"")?)?;
+    assert_eq!(rt; ended.status, Status::Done);
+    assert_eq!(rt; ended.out.bytes(), NOTHING);
+    assert_eq!(rt; ended.err.bytes().len(), 0);
+    Ok(())
 }
 
 #[test]
-fn statuses_and_lines(rt: HostRuntime) {
+fn statuses_and_lines(rt: HostRuntime) -> Result<(), Fail> {
     for (line, layout, code, told) in [
         ("", "E", 2u8, "dpl: usage 1\n"),
         ("split --space 0 --overlap 20", "E", 2, "dpl: usage 2\n"),
@@ -204,137 +116,177 @@ fn statuses_and_lines(rt: HostRuntime) {
         ),
         (CHECK, "E", 1, "dpl: rejected 1 place 1 found 0 wanted 0\n"),
     ] {
-        let ended = run_over(rt.alloc(), line, layout.as_bytes(), b"");
-        assert!(rt; is_refused(ended, code, told.as_bytes()), "{layout}");
+        let ended = run_over(
+            rt.alloc(),
+            line,
+            devices(rt.alloc(), layout.as_bytes(), b"")?,
+        )?;
+        assert_eq!(rt; ended.status.code(), code, "{layout}");
+        assert_eq!(rt; ended.err.bytes(), told.as_bytes(), "{layout}");
+        assert_eq!(rt; ended.out.bytes().len(), 0);
     }
+    Ok(())
 }
 
 /// The split of the odd triangle is read again, costs one conflict, and shows twice that by its cycles.
 #[test]
-fn the_odd_triangle_and_its_check(rt: HostRuntime) {
-    let made = run_over(rt.alloc(), SPLIT, TRIANGLE, b"");
-    let read = check_output(rt.alloc(), TRIANGLE, made);
-    assert!(rt; is_ended(read, Status::Done, b"yes cost 10 bound 20\n", b""));
-    let other = run_over(rt.alloc(), CHECK, TRIANGLE, NOTHING);
-    let told = b"dpl: rejected 3 place 7 found 0 wanted 3\n";
-    assert!(rt; is_refused(other, 1, told));
+fn the_odd_triangle_and_its_check(rt: HostRuntime) -> Result<(), Fail> {
+    let made = run_over(rt.alloc(), SPLIT, devices(rt.alloc(), TRIANGLE, b"")?)?;
+    assert_eq!(rt; made.status, Status::Done);
+    let read = run_over(
+        rt.alloc(),
+        CHECK,
+        devices(rt.alloc(), TRIANGLE, made.out.bytes())?,
+    )?;
+    assert_eq!(rt; read.status, Status::Done);
+    assert_eq!(rt; read.out.bytes(), b"yes cost 10 bound 20\n".as_slice());
+    let other = run_over(rt.alloc(), CHECK, devices(rt.alloc(), TRIANGLE, NOTHING)?)?;
+    assert_eq!(rt; other.status.code(), 1u8);
+    assert_eq!(rt;
+        other.err.bytes(),
+        b"dpl: rejected 3 place 7 found 0 wanted 3\n".as_slice()
+    );
+    Ok(())
 }
 
 /// What `cross` tells, by hand.
 #[test]
-fn crossings_and_a_bar(rt: HostRuntime) {
+fn crossings_and_a_bar(rt: HostRuntime) -> Result<(), Fail> {
     for (layout, told) in [
         (b"E".as_slice(), "excess 0 none\n"),
         (TRIANGLE, "excess 0 none\n"),
         (ROW, "excess 0 fragment 0 2\n"),
         (SQUARE, "excess 2 link 2 3\nbar 4 face 6 3 0 walk 0 2\n"),
     ] {
-        let ended = run_over(rt.alloc(), CROSS, layout, b"");
-        assert!(rt; is_ended(ended, Status::Done, told.as_bytes(), b""));
+        let ended = run_over(rt.alloc(), CROSS, devices(rt.alloc(), layout, b"")?)?;
+        assert_eq!(rt; ended.status, Status::Done);
+        assert_eq!(rt; ended.out.bytes(), told.as_bytes());
+        assert_eq!(rt; ended.err.bytes().len(), 0);
     }
-}
-
-fn are_different(alloc: Global, layout: &[u8]) -> Option<bool> {
-    let split = run_over(alloc, SPLIT, layout, b"")?;
-    let balanced = run_over(alloc, BALANCE, layout, b"")?;
-    Some(split.out.as_slice() != balanced.out.as_slice())
+    Ok(())
 }
 
 /// Two boxes far from each other lie on one mask by `split`, and each on a mask of its own by `balance`.
 #[test]
-fn masks_of_the_same_area(rt: HostRuntime) {
-    let layout = b"L M; B 100 100 50 50; B 100 100 5000 50; E".as_slice();
-    assert_eq!(rt; are_different(rt.alloc(), layout), Some(true));
-    for line in [SPLIT, BALANCE] {
-        let made = run_over(rt.alloc(), line, layout, b"");
-        let read = check_output(rt.alloc(), layout, made);
-        assert!(rt; is_ended(read, Status::Done, b"yes cost 0 bound 0\n", b""));
+fn masks_of_the_same_area(rt: HostRuntime) -> Result<(), Fail> {
+    let layout = b"L M; B 100 100 50 50; B 100 100 5000 50; E";
+    let split = run_over(rt.alloc(), SPLIT, devices(rt.alloc(), layout, b"")?)?;
+    let balanced = run_over(rt.alloc(), BALANCE, devices(rt.alloc(), layout, b"")?)?;
+    assert_eq!(rt; balanced.status, Status::Done);
+    assert!(rt; split.out.bytes() != balanced.out.bytes());
+    for ended in [split, balanced] {
+        let read = run_over(
+            rt.alloc(),
+            CHECK,
+            devices(rt.alloc(), layout, ended.out.bytes())?,
+        )?;
+        assert_eq!(rt; read.out.bytes(), b"yes cost 0 bound 0\n".as_slice());
     }
+    Ok(())
 }
 
 #[test]
-fn a_made_layout(rt: HostRuntime) {
-    let ended = run_over(rt.alloc(), "load --start 7 --rows 1 --columns 1", b"", b"");
-    let told = b"fragments 1 edges 0 cost 0 bound 0 aside 0\n";
-    assert!(rt; is_ended(ended, Status::Done, told, b""));
-}
-
-const READ_FAULT: &[u8] = b"dpl: read fault\n";
-
-const WRITE_FAULT: &[u8] = b"dpl: write fault\n";
-
-fn fails_reading(ended: Option<Ended>) -> bool {
-    is_ended(ended, Status::ReadFault, b"", READ_FAULT)
+fn a_made_layout(rt: HostRuntime) -> Result<(), Fail> {
+    let ended = run_over(
+        rt.alloc(),
+        "load --start 7 --rows 1 --columns 1",
+        devices(rt.alloc(), b"", b"")?,
+    )?;
+    assert_eq!(rt; ended.status, Status::Done);
+    let want = b"fragments 1 edges 0 cost 0 bound 0 aside 0\n";
+    assert_eq!(rt; ended.out.bytes(), want.as_slice());
+    Ok(())
 }
 
 #[test]
-fn failing_devices(rt: HostRuntime) {
-    let layout = b"L M; B 1 1 0 0; E";
-    let read = run_failing(rt.alloc(), SPLIT, layout, b"", Fault::Read(1));
-    assert!(rt; fails_reading(read));
-    let opened = run_failing(rt.alloc(), CHECK, b"E", b"", Fault::Open(0));
-    assert!(rt; fails_reading(opened));
-    let other = "check --layer M --space 100 --overlap 20 --report s";
-    assert!(rt; fails_reading(run_over(rt.alloc(), other, b"E", b"")));
-    let written = run_failing(rt.alloc(), SPLIT, b"E", b"", Fault::Write(1));
-    assert!(rt; is_ended(written, Status::WriteFault, &NOTHING[..40], WRITE_FAULT));
+fn failing_devices(rt: HostRuntime) -> Result<(), Fail> {
+    let mut given = devices(rt.alloc(), b"L M; B 1 1 0 0; E", b"")?;
+    given.reads.push(1)?;
+    let read = run_over(rt.alloc(), SPLIT, given)?;
+    assert_eq!(rt; read.status, Status::ReadFault);
+    assert_eq!(rt; read.out.bytes().len(), 0);
+    let mut given = devices(rt.alloc(), b"E", b"")?;
+    given.opens.push(0)?;
+    let opened = run_over(rt.alloc(), CHECK, given)?;
+    assert_eq!(rt; opened.status, Status::ReadFault);
+    let unknown = run_over(
+        rt.alloc(),
+        "check --layer M --space 100 --overlap 20 --report s",
+        devices(rt.alloc(), b"E", b"")?,
+    )?;
+    assert_eq!(rt; unknown.status, Status::ReadFault);
+    let mut given = devices(rt.alloc(), b"E", b"")?;
+    given.writes.push(1)?;
+    let written = run_over(rt.alloc(), SPLIT, given)?;
+    assert_eq!(rt; written.status, Status::WriteFault);
+    assert_eq!(rt; written.out.bytes(), &NOTHING[..40]);
+    assert_eq!(rt; written.err.bytes(), b"dpl: write fault\n".as_slice());
+    Ok(())
 }
 
 /// Each read of the layout fails in turn, and the output stays empty.
 #[test]
-fn each_read_fails_in_turn(rt: HostRuntime) {
+fn each_read_fails_in_turn(rt: HostRuntime) -> Result<(), Fail> {
     for call in 0..6u64 {
-        let ended = run_failing(rt.alloc(), SPLIT, TWO, b"", Fault::Read(call));
-        assert!(rt; fails_reading(ended));
+        let mut given = devices(rt.alloc(), TWO, b"")?;
+        given.reads.push(call)?;
+        let ended = run_over(rt.alloc(), SPLIT, given)?;
+        assert_eq!(rt; ended.status, Status::ReadFault);
+        assert_eq!(rt; ended.out.bytes().len(), 0);
+        assert_eq!(rt; ended.err.bytes(), b"dpl: read fault\n".as_slice());
     }
-}
-
-/// How many writes of one byte fail so that the output has the bytes before it, and how many there are.
-fn writes_that_fail(alloc: Global, layout: &[u8]) -> Option<(usize, usize)> {
-    let whole = run_failing(alloc, SPLIT, layout, b"", Fault::Byte(100_000))?;
-    if whole.status.code() != 0 {
-        return None;
-    }
-    let text = whole.out.as_slice();
-    for call in 0..text.len() {
-        let ended = run_failing(alloc, SPLIT, layout, b"", Fault::Byte(call as u64));
-        if !is_ended(ended, Status::WriteFault, &text[..call], WRITE_FAULT) {
-            return Some((call, text.len()));
-        }
-    }
-    Some((text.len(), text.len()))
+    Ok(())
 }
 
 /// Each write of one byte fails in turn, and the output has the bytes before it.
 #[test]
-fn each_write_fails_in_turn(rt: HostRuntime) {
-    let found = writes_that_fail(rt.alloc(), TWO);
-    assert!(rt; matches!(found, Some((failing, all)) if failing == all && all > 0));
-}
-
-/// Opening the report, reading it and finding its end fail in turn.
-fn fails_with_report(alloc: Global, layout: &[u8], call: u64) -> Option<bool> {
-    let made = run_over(alloc, SPLIT, layout, b"")?;
-    let read = run_failing(alloc, CHECK, layout, made.out.as_slice(), Fault::Open(call));
-    Some(fails_reading(read))
+fn each_write_fails_in_turn(rt: HostRuntime) -> Result<(), Fail> {
+    let mut given = devices(rt.alloc(), TWO, b"")?;
+    given.piece = 1;
+    let whole = run_over(rt.alloc(), SPLIT, given)?;
+    assert_eq!(rt; whole.status, Status::Done);
+    let text = whole.out.bytes();
+    for call in 0..text.len() {
+        let mut given = devices(rt.alloc(), TWO, b"")?;
+        given.piece = 1;
+        given.writes.push(call as u64)?;
+        let ended = run_over(rt.alloc(), SPLIT, given)?;
+        assert_eq!(rt; ended.status, Status::WriteFault);
+        assert_eq!(rt; ended.out.bytes(), &text[..call]);
+    }
+    Ok(())
 }
 
 /// Opening the report, reading it and finding its end fail in turn.
 #[test]
-fn each_call_of_the_shelf_fails_in_turn(rt: HostRuntime) {
+fn each_call_of_the_shelf_fails_in_turn(rt: HostRuntime) -> Result<(), Fail> {
+    let made = run_over(rt.alloc(), SPLIT, devices(rt.alloc(), TRIANGLE, b"")?)?;
     for call in 0..3u64 {
-        assert_eq!(rt; fails_with_report(rt.alloc(), TRIANGLE, call), Some(true));
+        let mut given = devices(rt.alloc(), TRIANGLE, made.out.bytes())?;
+        given.opens.push(call)?;
+        let ended = run_over(rt.alloc(), CHECK, given)?;
+        assert_eq!(rt; ended.status, Status::ReadFault);
+        assert_eq!(rt; ended.out.bytes().len(), 0);
     }
+    Ok(())
 }
 
 /// A refusal is the same where its line cannot be written.
 #[test]
-fn a_refusal_without_its_line(rt: HostRuntime) {
+fn a_refusal_without_its_line(rt: HostRuntime) -> Result<(), Fail> {
     let layout = b"DS 1 1 3; L M; B 100 99 0 0; DF; C 1; E";
-    let ended = run_failing(rt.alloc(), SPLIT, layout, b"", Fault::Lines);
-    let status = Status::Layout {
-        command: 3,
-        what: What::OffGrid,
-    };
-    assert!(rt; is_ended(ended, status, b"", b""));
+    let mut given = devices(rt.alloc(), layout, b"")?;
+    for call in 0..100u64 {
+        given.lines.push(call)?;
+    }
+    let ended = run_over(rt.alloc(), SPLIT, given)?;
+    assert_eq!(rt;
+        ended.status,
+        Status::Layout {
+            command: 3,
+            what: What::OffGrid,
+        }
+    );
+    assert_eq!(rt; ended.err.bytes().len(), 0);
+    Ok(())
 }
