@@ -1,4 +1,4 @@
-use Rattle.std.proofs.Common.{◌≡◌, ℕ, sym, ap, ◌∙◌, refl}
+use Rattle.std.proofs.Common.{ℕ, sym, ap, ◌∙◌, refl}
 use Rattle.dpl_tree.specs.declared.tree.Label.TheVariants.{Free, Outer, Inner}
 use Rattle.dpl_match.proofs.ScanPairs.{label_other}
 use Rattle.dpl_tree.specs.steps.Forests.{Place, free, outer, inner}
