@@ -194,7 +194,8 @@ lifted_started {n} {dist} {f} {g} {mates} {sums} s by metric hs e fam value othe
     let new : List ℕ = set sums s more in
     let here : get_or new s 0 ≡ more = get_or-set_same sums s more 0 (omega (arith, hs, w.values.count)) in
     let lifted = λ (k : ℕ) (q : k ≡ s). let z : get_or new k 0 ≡ more = ap (λ j. get_or new j 0) q ∙ here in z in
-    let kept = λ (k : ℕ) (q : k ≢ s). let z : get_or new k 0 ≡ get_or sums k 0 = get_or-set_other sums s k more 0 q in z in
+    let kept = λ (k : ℕ) (q : k ≢ s).
+    let z : get_or new k 0 ≡ get_or sums k 0 = get_or-set_other sums s k more 0 q in z in
     let tops = λ (k : ℕ). let z : g.top k ≡ f.top k = ap (λ (y : Sets). y.top k) e in z in
     let single : AreAlone n g new = record {
       size = ap (λ (y : Sets). y.size) e ∙ w.alone.size;

@@ -1,4 +1,4 @@
-use Rattle.std.proofs.Common.{arith, ◌+◌, ◌≤◌}
+use Rattle.std.proofs.Common.{arith}
 use Rattle.dpl_laminar.specs.Storing.{sets_of}
 use Rattle.dpl_match.proofs.StartLemmas.{alone_live, lifted_started}
 use Rattle.dpl_match.proofs.starting.lift_one.Goals as goal
