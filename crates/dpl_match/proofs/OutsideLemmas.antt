@@ -1,10 +1,10 @@
 -- The members outside of a top set, and the nearest of them.
-use Rattle.std.proofs.Common.{arith, ◌≡◌, ◌≢◌, ℕ, ◌+◌, ◌<◌, ◌≤◌, sym, ap, ◌∙◌, subst, Bool, true, false, cond, inl, inr, leb}
+use Rattle.std.proofs.Common.{arith, ◌≡◌, ℕ, ◌+◌, ◌<◌, sym, ap, ◌∙◌, subst, Bool, cond, inl, inr, leb}
 use Rattle.std.proofs.Common.{Option, Some, None, List, length, get_or, ◌++◌, ◌∷◌, [], length-append}
 use Rattle.std.proofs.lemmas.Bool.{cases_eq, cases_lt, cases_Bool, leb-true, leb-false}
 use Rattle.std.proofs.lemmas.List.{get_or_append_left, get_or-append-add}
 use Rattle.std.proofs.lemmas.Option.{same_Some}
-use Rattle.dpl_match.specs.steps.Nearest.{closer_of, IsNear, IsApart, IsOutside, AreOutside, IsLeastOf, IsNearOf}
+use Rattle.dpl_match.specs.steps.Nearest.{closer_of, IsNear, IsApart, IsOutside, AreOutside, IsNearOf}
 use Rattle.dpl_match.specs.steps.Others.{AreOthers}
 use Rattle.dpl_match.specs.steps.Scans.{Members}
 use Rattle.dpl_match.specs.declared.outer_table.Others.{Others}

@@ -56,7 +56,7 @@ pub shifted : {metric : Table} {m next : Matching} {s : Stage} {by : ℕ} {event
     ((k : ℕ) → k < length m.sums.items → get_or next.sums.items k 0 + drop_of (place_in s.tree.labels.items ((sets_of m.family).top k)) * by ≡
     get_or m.sums.items k 0 + gain (place_in s.tree.labels.items ((sets_of m.family).top k)) * by) →
     next.mates ≡ m.mates → length next.sums.items ≡ length m.sums.items →
-    steps ≡ before + sum_below (2 * (sets_of m.family).size) (λ i. drop_of (place_in s.tree.labels.items i) + gain (place_in s.tree.labels.items i)) →
+    steps ≤ before + sum_below (2 * (sets_of m.family).size) (λ i. drop_of (place_in s.tree.labels.items i) + gain (place_in s.tree.labels.items i)) →
     IsShifted metric m next s event before steps
 shifted {metric} {m} {next} {s} {by} {event} me start ch same values fam sum mates size_kept count =
     let n : ℕ = metric.size in

@@ -3,16 +3,23 @@
 ghost use Rattle.std.specs.Prelude.{◌≡◌, ℕ, ◌+◌, ◌*◌, ◌<◌, ◌≤◌, None, false, replicate, length};
 ghost use Rattle.std.specs.Prelude.{IfOk};
 ghost use Rattle.dpl_match.specs.steps.Going.{IsStart};
-ghost use Rattle.dpl_match.specs.steps.Nearest.{is_known, near_in};
+ghost use Rattle.dpl_match.specs.steps.Nearest.{is_known, kept_in};
 
 use dpl_tree::Tree;
 use std::alloc::{AllocError, Global};
+
+/// An outer member that is kept for another member, and how far they are from each other.
+#[derive(Clone, Copy)]
+pub struct Neighbour {
+    pub member: u32,
+    pub dist: u64,
+}
 
 /// The outer members that were taken in, and for each member the nearest of them with another top.
 #[derive(Drop)]
 pub struct OuterTable {
     pub known: Vec<bool>,
-    pub near: Vec<Option<u32>>,
+    pub near: Vec<Option<Neighbour>>,
 }
 
 impl OuterTable {
@@ -25,9 +32,9 @@ impl OuterTable {
     }
 
     /// What is kept for a member.
-    pub fn nearest(&self, member: u32) -> Option<u32>
+    pub fn nearest(&self, member: u32) -> Option<Neighbour>
         requires { member < length self.now.near.items }
-        ensures { result ≡ near_in self.now.near.items member }
+        ensures { result ≡ kept_in self.now.near.items member }
     {
         self.near[member as usize]
     }

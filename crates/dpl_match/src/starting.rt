@@ -1,12 +1,14 @@
 //! The first values and pairs: each single member gets half the distance to its nearest one, and
-//! what is tight then is paired.
+//! what is tight then is paired. After that each member without a mate gets as much more as its
+//! distances allow, and a mate where that makes one of its pairs tight.
 
-ghost use Rattle.std.specs.Prelude.{◌≡◌, ◌≢◌, ℕ, ◌+◌, ◌*◌, ◌<◌, ◌≤◌, ◌^◌, None, true, false};
-ghost use Rattle.std.specs.Prelude.{replicate, length, slice_index};
+ghost use Rattle.std.specs.Prelude.{◌≡◌, ◌≢◌, ℕ, ◌+◌, ◌*◌, ◌<◌, ◌≤◌, ◌^◌, Option, None};
+ghost use Rattle.std.specs.Prelude.{true, false, List, replicate, length, slice_index};
 ghost use Rattle.dpl_laminar.specs.Changes.{IsSingles};
 ghost use Rattle.dpl_laminar.specs.Families.{Sets, IsFamily};
 ghost use Rattle.dpl_laminar.specs.Storing.{sets_of};
-ghost use Rattle.dpl_match.specs.steps.Starting.{AreRaised, AreAlone, first_steps};
+ghost use Rattle.dpl_match.specs.steps.Starting.{AreRaised, AreAlone, AreValues, AreStarted};
+ghost use Rattle.dpl_match.specs.steps.Starting.{first_steps};
 ghost use Rattle.dpl_tree.specs.Mates.{totals};
 ghost use Rattle.dpl_tree.specs.Metrics.{dist_of};
 ghost use Rattle.dpl_tree.specs.Stages.{IsRest};
@@ -16,17 +18,19 @@ use dpl_laminar::{Family, Steps};
 use dpl_tree::{Metric, pair};
 use std::sync::ledger::Ledger;
 
-/// The lesser of an amount and the distance from s to t, if that is another member.
-fn least_to(metric: &Metric, s: u32, t: u32, least: u64) -> u64
+/// The lesser of an amount and what a load lacks of the distance from s to t, if that is another
+/// member.
+fn least_to(metric: &Metric, s: u32, t: u32, load: u64, least: u64) -> u64
     requires s { s < metric.now.size }
     requires t { t < metric.now.size }
+    requires load { t ≢ s → load ≤ dist_of metric.now s t }
     ensures least { result ≤ least }
-    ensures near { t ≢ s → result ≤ dist_of metric.now s t }
+    ensures near { t ≢ s → load + result ≤ dist_of metric.now s t }
 {
     if t == s {
         return least;
     }
-    least.min(metric.dist(s, t))
+    least.min(metric.dist(s, t) - load)
 }
 
 /// Half the distance from a member to its nearest one, and no more than a value may be.
@@ -38,18 +42,33 @@ fn half_nearest(metric: &Metric, s: u32) -> u64
     let n = metric.size() as u32;
     let mut least: u64 = 1125899906842624;
     for t in 0..n {
-        least = least_to(metric, s, t, least);
+        least = least_to(metric, s, t, 0, least);
     }
     least / 2
 }
 
-/// Gives a value to a single member that has none.
+/// How much more a member's value may be: as far as its nearest pair is from being tight.
+fn slack_of(metric: &Metric, sums: &[u64], s: u32) -> u64
+    requires values { AreValues metric.now.size (dist_of metric.now) sums.now }
+    requires s { s < metric.now.size }
+    ensures room { (t : ℕ) → t < metric.now.size → t ≢ s →
+        slice_index sums.now s + slice_index sums.now t + result ≤ dist_of metric.now s t }
+    ensures small { slice_index sums.now s + result ≤ 2 ^ 50 }
+{
+    let n = metric.size() as u32;
+    let mut least: u64 = 1125899906842624 - sums[s as usize];
+    for t in 0..n {
+        least = least_to(metric, s, t, sums[s as usize] + sums[t as usize], least);
+    }
+    least
+}
+
+/// Adds to the value of a single member.
 fn raise_one<L: Ledger>(family: &mut Family, member: u32, by: u64, steps: &mut Steps<L>)
     requires live { (sets_of family.old).live member ≡ true }
     requires family { IsFamily (sets_of family.old) }
-    requires nothing { (sets_of family.old).value member ≡ 0 }
-    requires by { by ≤ 2 ^ 50 }
-    ensures value { (sets_of family.new).value member ≡ by }
+    requires most { (sets_of family.old).value member + by ≤ 2 ^ 50 }
+    ensures value { (sets_of family.new).value member ≡ (sets_of family.old).value member + by }
     ensures others { (i : ℕ) → i ≢ member → (sets_of family.new).value i ≡
         (sets_of family.old).value i }
     ensures rest { sets_of family.new ≡ record (sets_of family.old)
@@ -97,15 +116,17 @@ fn has_mate(mates: &[Option<u32>], member: u32) -> bool
 /// Pairs two members without mates where their pair is tight.
 fn pair_tight(metric: &Metric, mates: &mut [Option<u32>], sums: &[u64], s: u32, t: u32)
     requires mates { length mates.old ≡ metric.now.size }
-    requires count { length sums.now ≡ metric.now.size }
-    requires small { (m : ℕ) → m < metric.now.size → slice_index sums.now m ≤ 2 ^ 50 }
+    requires values { AreValues metric.now.size (dist_of metric.now) sums.now }
     requires s { s < metric.now.size }
-    requires t { t < s }
-    ensures rest { (f : Sets) → AreAlone metric.now.size f sums.now →
-        IsRest metric.now.size f (dist_of metric.now) (mate_in mates.old) →
-        IsRest metric.now.size f (dist_of metric.now) (mate_in mates.new) }
+    requires t { t < metric.now.size }
+    ensures started { (f : Sets) →
+        AreStarted metric.now.size (dist_of metric.now) f mates.old sums.now →
+        AreStarted metric.now.size (dist_of metric.now) f mates.new sums.now }
 {
     let _size = metric.size();
+    if s == t {
+        return;
+    }
     if has_mate(mates, s) {
         return;
     }
@@ -118,17 +139,17 @@ fn pair_tight(metric: &Metric, mates: &mut [Option<u32>], sums: &[u64], s: u32, 
     pair(mates, s, t);
 }
 
-/// Pairs a member with one before it where that pair is tight.
-fn pair_before(metric: &Metric, mates: &mut [Option<u32>], sums: &[u64], s: u32)
+/// Pairs a member with one below a bound where that pair is tight.
+fn pair_below(metric: &Metric, mates: &mut [Option<u32>], sums: &[u64], s: u32, bound: u32)
     requires mates { length mates.old ≡ metric.now.size }
-    requires count { length sums.now ≡ metric.now.size }
-    requires small { (m : ℕ) → m < metric.now.size → slice_index sums.now m ≤ 2 ^ 50 }
+    requires values { AreValues metric.now.size (dist_of metric.now) sums.now }
     requires s { s < metric.now.size }
-    ensures rest { (f : Sets) → AreAlone metric.now.size f sums.now →
-        IsRest metric.now.size f (dist_of metric.now) (mate_in mates.old) →
-        IsRest metric.now.size f (dist_of metric.now) (mate_in mates.new) }
+    requires bound { bound ≤ metric.now.size }
+    ensures started { (f : Sets) →
+        AreStarted metric.now.size (dist_of metric.now) f mates.old sums.now →
+        AreStarted metric.now.size (dist_of metric.now) f mates.new sums.now }
 {
-    for t in 0..s {
+    for t in 0..bound {
         pair_tight(metric, mates, sums, s, t);
     }
 }
@@ -136,15 +157,80 @@ fn pair_before(metric: &Metric, mates: &mut [Option<u32>], sums: &[u64], s: u32)
 /// Pairs members whose pair is tight, each with one other at most.
 fn pair_all_tight(metric: &Metric, mates: &mut [Option<u32>], sums: &[u64])
     requires mates { length mates.old ≡ metric.now.size }
-    requires count { length sums.now ≡ metric.now.size }
-    requires small { (m : ℕ) → m < metric.now.size → slice_index sums.now m ≤ 2 ^ 50 }
-    ensures rest { (f : Sets) → AreAlone metric.now.size f sums.now →
-        IsRest metric.now.size f (dist_of metric.now) (mate_in mates.old) →
-        IsRest metric.now.size f (dist_of metric.now) (mate_in mates.new) }
+    requires values { AreValues metric.now.size (dist_of metric.now) sums.now }
+    ensures started { (f : Sets) →
+        AreStarted metric.now.size (dist_of metric.now) f mates.old sums.now →
+        AreStarted metric.now.size (dist_of metric.now) f mates.new sums.now }
 {
     let n = metric.size() as u32;
     for s in 0..n {
-        pair_before(metric, mates, sums, s);
+        pair_below(metric, mates, sums, s, s);
+    }
+}
+
+/// Raises a single member as far as its distances allow.
+fn lift_one<L: Ledger>(
+    metric: &Metric,
+    family: &mut Family,
+    sums: &mut [u64],
+    s: u32,
+    steps: &mut Steps<L>,
+)
+    requires values { AreValues metric.now.size (dist_of metric.now) sums.old }
+    requires alone { AreAlone metric.now.size (sets_of family.old) sums.old }
+    requires s { s < metric.now.size }
+    ensures started { (mates : List (Option ℕ)) → mate_in mates s ≡ None →
+        AreStarted metric.now.size (dist_of metric.now) (sets_of family.old) mates sums.old →
+        AreStarted metric.now.size (dist_of metric.now) (sets_of family.new) mates sums.new }
+    ensures steps { steps.new ≡ steps.old + 1 }
+{
+    let _size = metric.size();
+    let by = slack_of(metric, sums, s);
+    raise_one(family, s, by, steps);
+    sums[s as usize] += by;
+}
+
+/// Raises a single member that has no mate, and pairs it where that makes one of its pairs tight.
+fn settle_one<L: Ledger>(
+    metric: &Metric,
+    family: &mut Family,
+    mates: &mut [Option<u32>],
+    sums: &mut [u64],
+    s: u32,
+    steps: &mut Steps<L>,
+)
+    requires started { AreStarted metric.now.size (dist_of metric.now) (sets_of family.old)
+        mates.old sums.old }
+    requires s { s < metric.now.size }
+    ensures started { AreStarted metric.now.size (dist_of metric.now) (sets_of family.new)
+        mates.new sums.new }
+    ensures steps { steps.new ≤ steps.old + 1 }
+{
+    let n = metric.size() as u32;
+    if has_mate(mates, s) {
+        return;
+    }
+    lift_one(metric, family, sums, s, steps);
+    pair_below(metric, mates, sums, s, n);
+}
+
+/// Raises each single member that has no mate when its turn comes, and pairs it where it can.
+fn settle_all<L: Ledger>(
+    metric: &Metric,
+    family: &mut Family,
+    mates: &mut [Option<u32>],
+    sums: &mut [u64],
+    steps: &mut Steps<L>,
+)
+    requires started { AreStarted metric.now.size (dist_of metric.now) (sets_of family.old)
+        mates.old sums.old }
+    ensures started { AreStarted metric.now.size (dist_of metric.now) (sets_of family.new)
+        mates.new sums.new }
+    ensures steps { steps.new ≤ steps.old + metric.now.size }
+{
+    let n = metric.size() as u32;
+    for s in 0..n {
+        settle_one(metric, family, mates, sums, s, steps);
     }
 }
 
@@ -171,4 +257,5 @@ pub fn begin<L: Ledger>(
     }
     raise_all(metric, family, sums, steps);
     pair_all_tight(metric, mates, sums);
+    settle_all(metric, family, mates, sums, steps);
 }

@@ -135,7 +135,7 @@ fn retotal(family: &Family, tree: &Tree, totals: &mut [u64], by: u64)
 }
 
 /// Adds an amount to the value of each outer set and takes it from each inner one. The inner ones
-/// are lowered first, so that no load is more than its distance in between.
+/// are lowered first, so that no load is more than its distance in between. An amount of 0 costs nothing.
 pub fn shift<L: Ledger>(matching: &mut Matching, tree: &Tree, by: u64, steps: &mut Steps<L>)
     requires labels { length tree.now.labels.items ≡ 2 * (sets_of matching.old.family).size }
     requires count { length matching.old.sums.items ≡ (sets_of matching.old.family).size }
@@ -166,10 +166,13 @@ pub fn shift<L: Ledger>(matching: &mut Matching, tree: &Tree, by: u64, steps: &m
         gain (place_in tree.now.labels.items ((sets_of matching.old.family).top m)) * by }
     ensures mates { matching.new.mates ≡ matching.old.mates }
     ensures count { length matching.new.sums.items ≡ length matching.old.sums.items }
-    ensures steps { steps.new ≡ steps.old + sum_below (2 * (sets_of matching.old.family).size)
+    ensures steps { steps.new ≤ steps.old + sum_below (2 * (sets_of matching.old.family).size)
         (λ i. drop_of (place_in tree.now.labels.items i) +
         gain (place_in tree.now.labels.items i)) }
 {
+    if by == 0 {
+        return;
+    }
     lower(&mut matching.family, tree, by, steps);
     lift(&mut matching.family, tree, by, steps);
     retotal(&matching.family, tree, &mut matching.sums, by);

@@ -1,48 +1,47 @@
-use Rattle.std.proofs.Common.{◌≡◌, ℕ, sym, ap, ◌∙◌, refl}
+use Rattle.std.proofs.Common.{◌≡◌, ◌+◌, ℕ, sym, ap, ◌∙◌, refl, false, List, Option}
+use Rattle.std.specs.Prelude.{slice_index_or}
+use Rattle.dpl_tree.specs.declared.tree.Label.{Label}
 use Rattle.dpl_tree.specs.declared.tree.Label.TheVariants.{Free, Outer, Inner}
 use Rattle.dpl_match.proofs.ScanPairs.{label_other}
-use Rattle.dpl_tree.specs.steps.Forests.{Place, free, outer, inner}
-use Rattle.dpl_tree.specs.Views.{place_of, place_in}
-use Rattle.dpl_match.specs.steps.Scans.{Members, members_of}
+use Rattle.dpl_tree.specs.steps.Forests.{free, outer}
+use Rattle.dpl_tree.specs.Views.{place_of, place_in, same_label}
+use Rattle.dpl_match.specs.declared.scan.Near.{Near}
+use Rattle.dpl_match.specs.steps.Scans.{Members, members_of, IsFound}
 use Rattle.dpl_match.proofs.NearLemmas.{other_passed}
 use Rattle.dpl_match.proofs.scan.nearer_pairs.Goals as goal
 
+-- where the top of a member stands
+stands : (labels : List Label) (set top : ℕ) (label here : Label) → set ≡ top → label ≡ slice_index_or labels set Free → label ≡ here
+    → place_in labels top ≡ place_of here
+stands labels set top label here e l h = ap (place_in labels) (sym e) ∙ ap place_of (sym l ∙ h)
+
+-- no pair that is wanted elsewhere in the tree leads to that member
+elsewhere : (v : Members) (labels : List Label) (t set : ℕ) (label here want : Label) (o : Option Near)
+    → set ≡ v.sets.top t → label ≡ slice_index_or labels set Free → label ≡ here → same_label here want ≡ false
+    → IsFound v (place_in labels) (place_of want) t o → IsFound v (place_in labels) (place_of want) (t + 1) o
+elsewhere v labels t set label here want o e l h ne = other_passed v (place_in labels) (place_of here) (place_of want) t o
+    (stands labels set (v.sets.top t) label here e l h) (label_other here want ne)
+
 pub returns-in-Free-clause-free : goal.returns-in-Free-clause-free
 returns-in-Free-clause-free c =
-    let place : ℕ → Place = place_in c.args.stage.now.tree.labels.items in
-    let at = ap place (sym c.tops.ensures.value) ∙ ap place_of (sym c.label.ensures ∙ c.in-Free.is) in
-    c.nearest_step.ensures free at c.requires.free
+    c.nearest_step.ensures free (stands _ _ _ _ Free c.tops.ensures.value c.label.ensures c.in-Free.is) c.requires.free
 
 pub returns-in-Free-clause-outer : goal.returns-in-Free-clause-outer
-returns-in-Free-clause-outer c =
-    let v : Members = members_of c.args.metric.now c.args.matching.now in
-    let place : ℕ → Place = place_in c.args.stage.now.tree.labels.items in
-    let at = ap place (sym c.tops.ensures.value) ∙ ap place_of (sym c.label.ensures ∙ c.in-Free.is) in
-    other_passed v place free outer c.args.t c.args.best.outer at (label_other Free Outer refl) c.requires.outer
+returns-in-Free-clause-outer c = elsewhere (members_of c.args.metric.now c.args.matching.now) _ c.args.t _ _ Free Outer _
+    c.tops.ensures.value c.label.ensures c.in-Free.is refl c.requires.outer
 
 pub returns-in-Outer-clause-free : goal.returns-in-Outer-clause-free
-returns-in-Outer-clause-free c =
-    let v : Members = members_of c.args.metric.now c.args.matching.now in
-    let place : ℕ → Place = place_in c.args.stage.now.tree.labels.items in
-    let at = ap place (sym c.tops.ensures.value) ∙ ap place_of (sym c.label.ensures ∙ c.in-Outer.is) in
-    other_passed v place outer free c.args.t c.args.best.free at (label_other Outer Free refl) c.requires.free
+returns-in-Outer-clause-free c = elsewhere (members_of c.args.metric.now c.args.matching.now) _ c.args.t _ _ Outer Free _
+    c.tops.ensures.value c.label.ensures c.in-Outer.is refl c.requires.free
 
 pub returns-in-Outer-clause-outer : goal.returns-in-Outer-clause-outer
 returns-in-Outer-clause-outer c =
-    let place : ℕ → Place = place_in c.args.stage.now.tree.labels.items in
-    let at = ap place (sym c.tops.ensures.value) ∙ ap place_of (sym c.label.ensures ∙ c.in-Outer.is) in
-    c.nearest_step-in-Outer.ensures outer at c.requires.outer
+    c.nearest_step-in-Outer.ensures outer (stands _ _ _ _ Outer c.tops.ensures.value c.label.ensures c.in-Outer.is) c.requires.outer
 
 pub returns-in-Inner-clause-free : goal.returns-in-Inner-clause-free
-returns-in-Inner-clause-free c =
-    let v : Members = members_of c.args.metric.now c.args.matching.now in
-    let place : ℕ → Place = place_in c.args.stage.now.tree.labels.items in
-    let at = ap place (sym c.tops.ensures.value) ∙ ap place_of (sym c.label.ensures ∙ c.in-Inner.is) in
-    other_passed v place inner free c.args.t c.args.best.free at (label_other Inner Free refl) c.requires.free
+returns-in-Inner-clause-free c = elsewhere (members_of c.args.metric.now c.args.matching.now) _ c.args.t _ _ Inner Free _
+    c.tops.ensures.value c.label.ensures c.in-Inner.is refl c.requires.free
 
 pub returns-in-Inner-clause-outer : goal.returns-in-Inner-clause-outer
-returns-in-Inner-clause-outer c =
-    let v : Members = members_of c.args.metric.now c.args.matching.now in
-    let place : ℕ → Place = place_in c.args.stage.now.tree.labels.items in
-    let at = ap place (sym c.tops.ensures.value) ∙ ap place_of (sym c.label.ensures ∙ c.in-Inner.is) in
-    other_passed v place inner outer c.args.t c.args.best.outer at (label_other Inner Outer refl) c.requires.outer
+returns-in-Inner-clause-outer c = elsewhere (members_of c.args.metric.now c.args.matching.now) _ c.args.t _ _ Inner Outer _
+    c.tops.ensures.value c.label.ensures c.in-Inner.is refl c.requires.outer

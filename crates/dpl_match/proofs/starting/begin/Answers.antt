@@ -1,27 +1,28 @@
-use Rattle.dpl_laminar.specs.Storing.{sets_of}
-use Rattle.dpl_laminar.specs.Families.{Sets}
 use Rattle.dpl_tree.specs.Metrics.{dist_of}
-use Rattle.dpl_match.proofs.StageLemmas.{singles_rest, singles_sum}
-use Rattle.dpl_match.proofs.StartLemmas.{raised_alone, raised_rest, raised_sums}
+use Rattle.dpl_laminar.specs.Storing.{sets_of}
+use Rattle.dpl_match.proofs.StartLemmas.{singles_started, raised_started, started_rest, started_sums}
 use Rattle.dpl_match.proofs.starting.begin.Goals as goal
 
 pub returns-then-size-le2-clause-rest : goal.returns-then-size-le2-clause-rest
-returns-then-size-le2-clause-rest g c = singles_rest c.args.metric.now.size (sets_of c.args.family.now)
-    (dist_of c.args.metric.now) c.args.mates.now c.requires.singles c.requires.family c.requires.mates
+returns-then-size-le2-clause-rest g c = started_rest (singles_started (dist_of c.args.metric.now)
+    c.requires.singles c.requires.family c.requires.mates c.requires.sums)
 
 pub returns-then-size-le2-clause-sums : goal.returns-then-size-le2-clause-sums
-returns-then-size-le2-clause-sums g c = singles_sum c.args.metric.now.size (sets_of c.args.family.now) c.args.sums.now c.requires.singles c.requires.sums
+returns-then-size-le2-clause-sums g c = started_sums (singles_started (dist_of c.args.metric.now)
+    c.requires.singles c.requires.family c.requires.mates c.requires.sums)
+
+pub pair_all_tight-requires-clause-values : goal.pair_all_tight-requires-clause-values
+pair_all_tight-requires-clause-values g c =
+    let w = raised_started c.size.ensures.table.metric c.requires.singles c.raise_all.ensures.raised c.requires.mates in
+    w.values
+
+pub settle_all-requires : goal.settle_all-requires
+settle_all-requires g c =
+    let w = raised_started c.size.ensures.table.metric c.requires.singles c.raise_all.ensures.raised c.requires.mates in
+    record { started = c.pair_all_tight.ensures.started (sets_of c.raise_all.new.family) w }
 
 pub returns-clause-rest : goal.returns-clause-rest
-returns-clause-rest g c =
-    let f : Sets = sets_of c.args.family.now in
-    let h : Sets = sets_of c.raise_all.new.family in
-    let dist = dist_of c.args.metric.now in
-    let raised = c.raise_all.ensures.raised in
-    c.pair_all_tight.ensures.rest h (raised_alone c.args.metric.now.size dist f h c.raise_all.new.sums
-    c.requires.singles raised) (raised_rest c.args.metric.now.size dist f h c.raise_all.new.sums c.args.mates.now
-    c.size.ensures.table.metric c.requires.singles raised c.requires.mates)
+returns-clause-rest g c = started_rest c.settle_all.ensures.started
 
 pub returns-clause-sums : goal.returns-clause-sums
-returns-clause-sums g c = raised_sums c.args.metric.now.size (dist_of c.args.metric.now) (sets_of c.args.family.now)
-    (sets_of c.raise_all.new.family) c.raise_all.new.sums c.requires.singles c.raise_all.ensures.raised
+returns-clause-sums g c = started_sums c.settle_all.ensures.started
