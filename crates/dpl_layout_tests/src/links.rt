@@ -1,3 +1,4 @@
+use crate::figures::{Corners, rects_of};
 use dpl_cell::Rect;
 use dpl_cuts::cut;
 use dpl_links::{NetError, net};
@@ -7,8 +8,6 @@ use dpl_sign::{Kind, Net};
 use std::alloc::{AllocError, Global};
 use std::process::Abort;
 use std::test::Fail;
-
-type Corners = (i64, i64, i64, i64);
 
 /// What `net` answers for tiles at spacing 200 and overlap 40, `None` where two of them share a cell.
 fn answer_for(alloc: Global, tiles: &[Rect]) -> Option<Result<Net, NetError>> {
@@ -31,10 +30,7 @@ fn answer_for(alloc: Global, tiles: &[Rect]) -> Option<Result<Net, NetError>> {
 }
 
 fn answer(alloc: Global, tiles: &[Corners]) -> Result<Result<Net, NetError>, Fail> {
-    let mut rects = Vec::new(alloc);
-    for (x1, y1, x2, y2) in tiles {
-        rects.push(Rect::new(*x1, *y1, *x2, *y2).ok_or("out of range")?)?;
-    }
+    let rects = rects_of(alloc, tiles)?;
     Ok(answer_for(alloc, rects.as_slice()).ok_or("no fragments")?)
 }
 
