@@ -226,8 +226,8 @@ fn odd_triangle_has_neighbours(rt: HostRuntime) -> Result<(), Fail> {
     compare_path(&rt, rt.alloc(), &part, 0, &[0, 1], 1, false)
 }
 
-/// The faces of the first are those of darts 0 and 1, and of the second those of darts 6 and 7. A number that is no dart
-/// is a part of its own.
+/// The faces of the first are those of darts 0 and 1, and of the second those of darts 6 and 7. A number of no dart is a
+/// part of its own.
 #[test]
 fn triangles_apart_are_not_neighbours(rt: HostRuntime) -> Result<(), Fail> {
     let part = Part {
