@@ -179,24 +179,23 @@ fn a_square_with_one_diagonal(rt: HostRuntime) -> Result<(), Fail> {
     Ok(())
 }
 
+/// Four boxes. A link from the second, which ends at this row, to the third leads past a corner of the fourth.
+fn around_an_end(top: i64) -> [Corners; 4] {
+    [
+        (0, 0, 100, 100),
+        (200, 0, 300, top),
+        (0, 200, 100, 300),
+        (150, 150, 190, 190),
+    ]
+}
+
 /// A link through the end of another crosses it, though it goes no further. A unit aside it misses it,
 /// and meets the box alone on which the other ends.
 #[test]
 fn a_link_through_an_end(rt: HostRuntime) -> Result<(), Fail> {
     let pairs = [(0, 3), (1, 2)];
-    let touching = [
-        (0, 0, 100, 100),
-        (200, 0, 300, 100),
-        (0, 200, 100, 300),
-        (150, 150, 190, 190),
-    ];
+    let (touching, apart) = (around_an_end(100), around_an_end(102));
     compare(&rt, rt.alloc(), 4, &touching, &pairs, link(0, 1))?;
-    let apart = [
-        (0, 0, 100, 100),
-        (200, 0, 300, 102),
-        (0, 200, 100, 300),
-        (150, 150, 190, 190),
-    ];
     compare(&rt, rt.alloc(), 4, &apart, &pairs, fragment(1, 3))?;
     Ok(())
 }
@@ -251,36 +250,40 @@ fn a_corner_on_the_way(rt: HostRuntime) -> Result<(), Fail> {
     Ok(())
 }
 
+/// Two pairs of boxes beside each other, and a box between them from the first of these rows to the second.
+fn between_two_links(low: i64, high: i64) -> [Corners; 5] {
+    [
+        (0, 0, 100, 100),
+        (200, 0, 300, 100),
+        (0, 120, 100, 200),
+        (200, 120, 300, 200),
+        (120, low, 180, high),
+    ]
+}
+
 /// A link along the side of a third box meets it, from below and from above, and one a unit away does
 /// not.
 #[test]
 fn a_box_that_links_touch(rt: HostRuntime) -> Result<(), Fail> {
     let pairs = [(0, 1), (2, 3)];
-    let between = [
-        (0, 0, 100, 100),
-        (200, 0, 300, 100),
-        (0, 120, 100, 200),
-        (200, 120, 300, 200),
-        (120, 50, 180, 160),
-    ];
+    let between = between_two_links(50, 160);
     compare(&rt, rt.alloc(), 5, &between, &pairs, fragment(0, 4))?;
-    let above = [
-        (0, 0, 100, 100),
-        (200, 0, 300, 100),
-        (0, 120, 100, 200),
-        (200, 120, 300, 200),
-        (120, 51, 180, 160),
-    ];
+    let above = between_two_links(51, 160);
     compare(&rt, rt.alloc(), 5, &above, &pairs, fragment(1, 4))?;
-    let free = [
-        (0, 0, 100, 100),
-        (200, 0, 300, 100),
-        (0, 120, 100, 200),
-        (200, 120, 300, 200),
-        (120, 51, 180, 159),
-    ];
+    let free = between_two_links(51, 159);
     compare(&rt, rt.alloc(), 5, &free, &pairs, None)?;
     Ok(())
+}
+
+/// Two boxes at the ends of the rising diagonal, the first up to a corner and the second from one on, and two at the
+/// ends of the falling one.
+fn across(to: i64, from: i64) -> [Corners; 4] {
+    [
+        (0, 0, to, to),
+        (from, from, 200, 200),
+        (150, 0, 200, 50),
+        (0, 150, 50, 200),
+    ]
 }
 
 /// The link of two boxes that touch at a corner is one point. A link of two others through that point
@@ -288,19 +291,8 @@ fn a_box_that_links_touch(rt: HostRuntime) -> Result<(), Fail> {
 #[test]
 fn a_link_of_length_0(rt: HostRuntime) -> Result<(), Fail> {
     let pairs = [(0, 1), (2, 3)];
-    let through = [
-        (0, 0, 100, 100),
-        (100, 100, 200, 200),
-        (150, 0, 200, 50),
-        (0, 150, 50, 200),
-    ];
+    let (through, past) = (across(100, 100), across(99, 101));
     compare(&rt, rt.alloc(), 4, &through, &pairs, link(0, 1))?;
-    let past = [
-        (0, 0, 99, 99),
-        (101, 101, 200, 200),
-        (150, 0, 200, 50),
-        (0, 150, 50, 200),
-    ];
     compare(&rt, rt.alloc(), 4, &past, &pairs, link(0, 1))?;
     Ok(())
 }

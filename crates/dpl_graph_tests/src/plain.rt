@@ -105,20 +105,23 @@ fn compare_meeting<R: Abort>(
     Ok(())
 }
 
-fn have_common_edge(alloc: Global, part: &Part<'_>, f: u32, g: u32) -> Result<bool, Fail> {
+/// Whether two faces are neighbours, and whether they are of one part.
+fn relation(alloc: Global, part: &Part<'_>, f: u32, g: u32) -> Result<(bool, bool), Fail> {
     let net = net(alloc, part.nodes, part.links)?;
-    Ok(are_neighbours(alloc, &net, part.set, f, g)?)
+    let neighbours = are_neighbours(alloc, &net, part.set, f, g)?;
+    let together = are_of_one_part(alloc, &net, part.set, f, g)?;
+    Ok((neighbours, together))
 }
 
-/// Compares which pairs of faces are neighbours.
-fn compare_neighbours<R: Abort>(
+/// Compares which pairs of faces are neighbours, and which are of one part.
+fn compare_pairs<R: Abort>(
     rt: &R,
     alloc: Global,
     part: &Part<'_>,
-    wanted: &[(u32, u32, bool)],
+    wanted: &[(u32, u32, (bool, bool))],
 ) -> Result<(), Fail> {
     for (f, g, are) in wanted {
-        assert_eq!(rt; have_common_edge(alloc, part, *f, *g)?, *are, "{f} {g}");
+        assert_eq!(rt; relation(alloc, part, *f, *g)?, *are, "{f} {g}");
     }
     Ok(())
 }
@@ -135,24 +138,6 @@ fn compare_path<R: Abort>(
 ) -> Result<(), Fail> {
     let net = net(alloc, part.nodes, part.links)?;
     assert_eq!(rt; leads(alloc, &net, part.set, from, faces, to)?, wanted);
-    Ok(())
-}
-
-fn are_together(alloc: Global, part: &Part<'_>, f: u32, g: u32) -> Result<bool, Fail> {
-    let net = net(alloc, part.nodes, part.links)?;
-    Ok(are_of_one_part(alloc, &net, part.set, f, g)?)
-}
-
-/// Compares which pairs of faces are of one part.
-fn compare_parts<R: Abort>(
-    rt: &R,
-    alloc: Global,
-    part: &Part<'_>,
-    wanted: &[(u32, u32, bool)],
-) -> Result<(), Fail> {
-    for (f, g, are) in wanted {
-        assert_eq!(rt; are_together(alloc, part, *f, *g)?, *are, "{f} {g}");
-    }
     Ok(())
 }
 
@@ -230,14 +215,19 @@ fn odd_triangle_has_neighbours(rt: HostRuntime) -> Result<(), Fail> {
         links: &odd_triangle(),
         set: &[true; 3],
     };
-    let pairs = [(0, 1, true), (1, 0, true), (0, 0, false)];
-    compare_neighbours(&rt, rt.alloc(), &part, &pairs)?;
+    let pairs = [
+        (0, 1, (true, true)),
+        (1, 0, (true, true)),
+        (0, 0, (false, true)),
+    ];
+    compare_pairs(&rt, rt.alloc(), &part, &pairs)?;
     compare_path(&rt, rt.alloc(), &part, 0, &[1, 0, 1], 1, true)?;
     compare_path(&rt, rt.alloc(), &part, 0, &[1, 0], 1, false)?;
     compare_path(&rt, rt.alloc(), &part, 0, &[0, 1], 1, false)
 }
 
-/// The faces of the first are those of darts 0 and 1, and of the second those of darts 6 and 7.
+/// The faces of the first are those of darts 0 and 1, and of the second those of darts 6 and 7. A number of no dart is a
+/// part of its own.
 #[test]
 fn triangles_apart_are_not_neighbours(rt: HostRuntime) -> Result<(), Fail> {
     let part = Part {
@@ -245,28 +235,19 @@ fn triangles_apart_are_not_neighbours(rt: HostRuntime) -> Result<(), Fail> {
         links: &two_triangles(),
         set: &[true; 6],
     };
-    let pairs = [(6, 7, true), (1, 6, false), (1, 7, false)];
-    compare_neighbours(&rt, rt.alloc(), &part, &pairs)?;
+    let pairs = [
+        (1, 0, (true, true)),
+        (6, 7, (true, true)),
+        (0, 6, (false, false)),
+        (1, 6, (false, false)),
+        (1, 7, (false, false)),
+        (7, 1, (false, false)),
+        (12, 12, (false, true)),
+        (12, 13, (false, false)),
+    ];
+    compare_pairs(&rt, rt.alloc(), &part, &pairs)?;
     compare_path(&rt, rt.alloc(), &part, 7, &[6, 7, 6], 6, true)?;
     compare_path(&rt, rt.alloc(), &part, 0, &[1, 6, 7], 7, false)
-}
-
-#[test]
-fn each_triangle_is_one_part(rt: HostRuntime) -> Result<(), Fail> {
-    let part = Part {
-        nodes: 6,
-        links: &two_triangles(),
-        set: &[true; 6],
-    };
-    let pairs = [
-        (1, 0, true),
-        (6, 7, true),
-        (0, 6, false),
-        (7, 1, false),
-        (12, 12, true),
-        (12, 13, false),
-    ];
-    compare_parts(&rt, rt.alloc(), &part, &pairs)
 }
 
 /// Both sides of a single edge are one face. A stitch is crossed, and a bond is not.
@@ -277,7 +258,7 @@ fn bonds_are_not_crossed(rt: HostRuntime) -> Result<(), Fail> {
         links: &[bond(0, 1, East(0), West(0))],
         set: &[true],
     };
-    compare_neighbours(&rt, rt.alloc(), &bonded, &[(0, 0, false)])?;
+    compare_pairs(&rt, rt.alloc(), &bonded, &[(0, 0, (false, true))])?;
     compare_meeting(&rt, rt.alloc(), &bonded, &[false], true)?;
     compare_meeting(&rt, rt.alloc(), &bonded, &[true], false)?;
     let stitched = Part {
@@ -285,7 +266,7 @@ fn bonds_are_not_crossed(rt: HostRuntime) -> Result<(), Fail> {
         links: &[stitch(0, 1, 1, East(0), West(0))],
         set: &[true],
     };
-    compare_neighbours(&rt, rt.alloc(), &stitched, &[(0, 0, true)])?;
+    compare_pairs(&rt, rt.alloc(), &stitched, &[(0, 0, (true, true))])?;
     compare_meeting(&rt, rt.alloc(), &stitched, &[true], true)
 }
 

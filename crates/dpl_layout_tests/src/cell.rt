@@ -1,19 +1,12 @@
-use dpl_cell::{Point, Points, Prim, Rect, are_close, gap2, is_held, touch};
-use std::alloc::Global;
+use crate::figures::{Corners, FRAME, prims_of, rect_of};
+use dpl_cell::{Prim, are_close, gap2, is_held, touch};
 use std::process::Abort;
 use std::test::Fail;
-
-type Corners = (i64, i64, i64, i64);
 
 /// A square of 100 hundredths of a micron with its middle here, in hundredths.
 fn square(x: i32, y: i32) -> Corners {
     let (x, y) = (i64::from(x) * 2, i64::from(y) * 2);
     (x - 100, y - 100, x + 100, y + 100)
-}
-
-fn rect_of(corners: Corners) -> Option<Rect> {
-    let (x1, y1, x2, y2) = corners;
-    Rect::new(x1, y1, x2, y2)
 }
 
 fn gap_of(first: Corners, second: Corners) -> Option<u64> {
@@ -64,29 +57,6 @@ fn foot_and_stem_of_a_t(rt: HostRuntime) {
     assert_eq!(rt; do_touch(foot, stem), Some(true));
 }
 
-fn points_of(alloc: Global, corners: &[(i64, i64)]) -> Result<Points, Fail> {
-    let mut points = Vec::new(alloc);
-    for (x, y) in corners {
-        points.push(Point::new(*x, *y).ok_or("out of range")?)?;
-    }
-    Ok(Points::new(points).ok_or("slanted")?)
-}
-
-fn polygon(alloc: Global, corners: &[(i64, i64)]) -> Result<Vec<Prim>, Fail> {
-    let points = points_of(alloc, corners)?;
-    let mut prims = Vec::new(alloc);
-    prims.push(Prim::Poly(points))?;
-    Ok(prims)
-}
-
-fn boxes(alloc: Global, all: &[Corners]) -> Result<Vec<Prim>, Fail> {
-    let mut prims = Vec::new(alloc);
-    for corners in all {
-        prims.push(Prim::Box(rect_of(*corners).ok_or("out of range")?))?;
-    }
-    Ok(prims)
-}
-
 /// Compares whether primitives hold some cells.
 fn compare_held<R: Abort>(rt: &R, prims: &[Prim], wanted: &[(i64, i64, bool)]) {
     for (x, y, held) in wanted {
@@ -96,18 +66,6 @@ fn compare_held<R: Abort>(rt: &R, prims: &[Prim], wanted: &[(i64, i64, bool)]) {
 
 #[test]
 fn frame_with_a_hole(rt: HostRuntime) -> Result<(), Fail> {
-    let corners = [
-        (0, 0),
-        (10, 0),
-        (10, 10),
-        (0, 10),
-        (0, 3),
-        (3, 3),
-        (3, 7),
-        (7, 7),
-        (7, 3),
-        (0, 3),
-    ];
     let cells = [
         (1, 1, true),
         (3, 3, false),
@@ -117,7 +75,7 @@ fn frame_with_a_hole(rt: HostRuntime) -> Result<(), Fail> {
         (10, 9, false),
         (-1, 9, false),
     ];
-    let frame = polygon(rt.alloc(), &corners)?;
+    let frame = prims_of(rt.alloc(), &[], &[&FRAME])?;
     compare_held(&rt, frame.as_slice(), &cells);
     Ok(())
 }
@@ -134,7 +92,7 @@ fn overlapping_boxes(rt: HostRuntime) -> Result<(), Fail> {
         (6, 5, false),
         (-1, 0, false),
     ];
-    let two = boxes(rt.alloc(), &[(0, 0, 4, 4), (2, 2, 6, 6)])?;
+    let two = prims_of(rt.alloc(), &[(0, 0, 4, 4), (2, 2, 6, 6)], &[])?;
     compare_held(&rt, two.as_slice(), &cells);
     Ok(())
 }

@@ -1,11 +1,10 @@
+use crate::figures::Corners;
 use dpl_cell::{Layout, Prim};
 use dpl_cif::{CifError, CifLimit, What, read};
 use dpl_lex::Name;
 use std::alloc::{AllocError, Global};
 use std::process::Abort;
 use std::test::Fail;
-
-type Corners = (i64, i64, i64, i64);
 
 /// The layer M of a text, and why there is none, `None` where the text is too long.
 fn answer(alloc: Global, text: &str) -> Option<Result<Layout, CifError>> {
@@ -47,12 +46,12 @@ fn box_at(alloc: Global, text: &str, place: usize) -> Result<Corners, Fail> {
     }
 }
 
-/// Compares the rules that texts break, with their commands.
-fn compare_faults<R: Abort>(rt: &R, alloc: Global, wanted: &[(&str, u32, What)]) {
-    for (text, command, what) in wanted {
+/// Compares the commands at which texts break a rule.
+fn compare_faults<R: Abort>(rt: &R, alloc: Global, what: What, wanted: &[(&str, u32)]) {
+    for (text, command) in wanted {
         let fault = CifError::Fault {
             command: *command,
-            what: *what,
+            what,
         };
         assert_eq!(rt; refusal(alloc, text), Some(fault), "{text}");
     }
@@ -60,25 +59,21 @@ fn compare_faults<R: Abort>(rt: &R, alloc: Global, wanted: &[(&str, u32, What)])
 
 #[test]
 fn faults_are_named_with_their_commands(rt: HostRuntime) {
-    let faults = [
-        ("L M; Q 1; E", 2, What::Syntax),
-        ("L M; B 10 10 0 1000000000001; E", 2, What::Number),
-        ("L M; DF; E", 2, What::Nest),
-        ("DS 1; DF; DS 1; DF; E", 3, What::Twice),
-        ("L M; B 10 10 0 0 1 1; E", 2, What::Angle),
-        ("B 10 10 0 0; E", 1, What::Layerless),
-        ("L M; P 0 0 10 0 5 5; E", 2, What::Slant),
-        ("L M; R 10 0 0; E", 2, What::Round),
-        ("DD 1; E", 1, What::Delete),
-        ("DS 1 0 4; DF; E", 1, What::Scale),
-        ("L M; C 7; E", 2, What::Missing),
-        ("DS 1; L M; B 10 10 0 0; C 1; DF; C 1; E", 4, What::Loop),
-        ("L M; B 10 10 0 0;", 3, What::NoEnd),
-        ("L M; (open; E", 2, What::Syntax),
-        ("DS 1 1 3; L M; B 100 99 0 0; DF; C 1; E", 3, What::OffGrid),
-        ("C 7; L M; B 10 10 0 0;", 4, What::NoEnd),
+    let syntax = [("L M; Q 1; E", 2), ("L M; (open; E", 2)];
+    compare_faults(&rt, rt.alloc(), What::Syntax, &syntax);
+    let number = [
+        ("L M; B 10 10 0 1000000000001; E", 2),
+        ("L X; R 1000000000001 0 0; E", 2),
     ];
-    compare_faults(&rt, rt.alloc(), &faults);
+    compare_faults(&rt, rt.alloc(), What::Number, &number);
+    let nest = [("L M; DF; E", 2), ("DS 1; DS 1; E", 2), ("DS 1; E", 2)];
+    compare_faults(&rt, rt.alloc(), What::Nest, &nest);
+    compare_faults(&rt, rt.alloc(), What::Round, &[("L M; R 10 0 0; E", 2)]);
+    compare_faults(&rt, rt.alloc(), What::Delete, &[("DD 1; E", 1)]);
+    let scale = [("DS 1 0 4; DF; E", 1), ("DS 1 1 0; DF; E", 1)];
+    compare_faults(&rt, rt.alloc(), What::Scale, &scale);
+    let no_end = [("L M; B 10 10 0 0;", 3), ("C 7; L M; B 10 10 0 0;", 4)];
+    compare_faults(&rt, rt.alloc(), What::NoEnd, &no_end);
 }
 
 /// Compares the corners of the only polygon.
@@ -224,32 +219,51 @@ fn a_polygon_counts_as_many_as_it_has_points(rt: HostRuntime) -> Result<(), Fail
     Ok(())
 }
 
+/// Where texts break several rules, the first to be looked at is named.
 #[test]
 fn the_first_rule_is_named(rt: HostRuntime) {
-    let faults = [
-        ("DS 1; DF; DS 2 1 4; C 1 T 1 0; DF; E", 4, What::OffGrid),
-        ("DS 1 1 4; L M; P 0 0 1 1 2 0; DF; E", 3, What::Slant),
-        ("DS 1; DS 1; E", 2, What::Nest),
-        ("L M; DS 1; B 1 1 0 0; DF; E", 3, What::Layerless),
-        ("DS 1; L M; DF; B 1 1 0 0; E", 4, What::Layerless),
-        ("L X; R 1000000000001 0 0; E", 2, What::Number),
-        ("DS 1; E", 2, What::Nest),
-        ("L M; B 10 10 0 0 0 0; E", 2, What::Angle),
-        ("DS 1; DF; C 1 R 0 0; E", 3, What::Angle),
-        ("DS 1; DF; C 1 R 1 1; E", 3, What::Angle),
-        ("L M; P 0 0 10 0 10 5; E", 2, What::Slant),
-        ("L M; W 10 0 0 5 5; E", 2, What::Slant),
-        ("R 10 0 0; E", 1, What::Layerless),
-        ("W 10 0 0; E", 1, What::Layerless),
-        ("DS 1 1 0; DF; E", 1, What::Scale),
-        ("DS 1 1 4; L M; W 1 0 0; DF; E", 3, What::OffGrid),
-        ("DS 1; DF; DS 1 0 1; DF; E", 3, What::Twice),
-        ("DS 2 1 4; C 1 T 1 0 R 1 1; DF; E", 2, What::Angle),
-        ("DS 1; C 1; DF; C 9; E", 4, What::Missing),
-        ("DS 1; C 1; DF; E", 2, What::Loop),
-        ("DS 1; C 2; DF; DS 2; C 1; DF; E", 2, What::Loop),
+    let twice = [
+        ("DS 1; DF; DS 1; DF; E", 3),
+        ("DS 1; DF; DS 1 0 1; DF; E", 3),
     ];
-    compare_faults(&rt, rt.alloc(), &faults);
+    compare_faults(&rt, rt.alloc(), What::Twice, &twice);
+    let angle = [
+        ("L M; B 10 10 0 0 1 1; E", 2),
+        ("L M; B 10 10 0 0 0 0; E", 2),
+        ("DS 1; DF; C 1 R 0 0; E", 3),
+        ("DS 1; DF; C 1 R 1 1; E", 3),
+        ("DS 2 1 4; C 1 T 1 0 R 1 1; DF; E", 2),
+    ];
+    compare_faults(&rt, rt.alloc(), What::Angle, &angle);
+    let layerless = [
+        ("B 10 10 0 0; E", 1),
+        ("R 10 0 0; E", 1),
+        ("W 10 0 0; E", 1),
+        ("L M; DS 1; B 1 1 0 0; DF; E", 3),
+        ("DS 1; L M; DF; B 1 1 0 0; E", 4),
+    ];
+    compare_faults(&rt, rt.alloc(), What::Layerless, &layerless);
+    let slant = [
+        ("L M; P 0 0 10 0 5 5; E", 2),
+        ("L M; P 0 0 10 0 10 5; E", 2),
+        ("L M; W 10 0 0 5 5; E", 2),
+        ("DS 1 1 4; L M; P 0 0 1 1 2 0; DF; E", 3),
+    ];
+    compare_faults(&rt, rt.alloc(), What::Slant, &slant);
+    let off_grid = [
+        ("DS 1 1 3; L M; B 100 99 0 0; DF; C 1; E", 3),
+        ("DS 1 1 4; L M; W 1 0 0; DF; E", 3),
+        ("DS 1; DF; DS 2 1 4; C 1 T 1 0; DF; E", 4),
+    ];
+    compare_faults(&rt, rt.alloc(), What::OffGrid, &off_grid);
+    let missing = [("L M; C 7; E", 2), ("DS 1; C 1; DF; C 9; E", 4)];
+    compare_faults(&rt, rt.alloc(), What::Missing, &missing);
+    let looped = [
+        ("DS 1; L M; B 10 10 0 0; C 1; DF; C 1; E", 4),
+        ("DS 1; C 1; DF; E", 2),
+        ("DS 1; C 2; DF; DS 2; C 1; DF; E", 2),
+    ];
+    compare_faults(&rt, rt.alloc(), What::Loop, &looped);
 }
 
 /// Compares how many primitives texts have, which is none.
@@ -297,7 +311,7 @@ fn a_text_of_many_commands(rt: HostRuntime) -> Result<(), Fail> {
     );
     assert_eq!(rt; box_at(rt.alloc(), text.as_str(), 1201)?, (-4, -4, 4, 4));
     let broken = many_commands(rt.alloc(), "Q; E")?;
-    compare_faults(&rt, rt.alloc(), &[(broken.as_str(), 1206, What::Syntax)]);
+    compare_faults(&rt, rt.alloc(), What::Syntax, &[(broken.as_str(), 1206)]);
     Ok(())
 }
 

@@ -1,3 +1,4 @@
+use crate::figures::{Corners, rects_of};
 use dpl_cell::Rect;
 use dpl_cuts::types::Fragments;
 use dpl_cuts::{CutError, cut};
@@ -5,8 +6,6 @@ use dpl_near::{are_apart, shapes};
 use std::alloc::{AllocError, Global};
 use std::process::Abort;
 use std::test::Fail;
-
-type Corners = (i64, i64, i64, i64);
 
 /// The fragments of tiles at spacing 200 and overlap 40, where these rectangles are kept whole, `None` where two tiles
 /// share a cell.
@@ -23,14 +22,6 @@ fn fragments_of(
     }
     let found = shapes(alloc, tiles)?;
     Ok(Some(cut(alloc, tiles, &found, keep, 200, 40)?))
-}
-
-fn rects_of(alloc: Global, corners: &[Corners]) -> Result<Vec<Rect>, Fail> {
-    let mut rects = Vec::new(alloc);
-    for (x1, y1, x2, y2) in corners {
-        rects.push(Rect::new(*x1, *y1, *x2, *y2).ok_or("out of range")?)?;
-    }
-    Ok(rects)
 }
 
 fn fragments(alloc: Global, tiles: &[Corners], keep: &[Corners]) -> Result<Fragments, Fail> {

@@ -18,6 +18,8 @@ mod cover;
 #[cfg(test)]
 mod cuts;
 #[cfg(test)]
+mod figures;
+#[cfg(test)]
 mod groups;
 #[cfg(test)]
 mod index;

@@ -1,3 +1,4 @@
+use crate::figures::{Corners, rects_of};
 use dpl_cell::Rect;
 use dpl_cuts::cut;
 use dpl_links::{NetError, net};
@@ -7,8 +8,6 @@ use dpl_sign::{Kind, Net};
 use std::alloc::{AllocError, Global};
 use std::process::Abort;
 use std::test::Fail;
-
-type Corners = (i64, i64, i64, i64);
 
 /// What `net` answers for tiles at spacing 200 and overlap 40, `None` where two of them share a cell.
 fn answer_for(alloc: Global, tiles: &[Rect]) -> Option<Result<Net, NetError>> {
@@ -31,10 +30,7 @@ fn answer_for(alloc: Global, tiles: &[Rect]) -> Option<Result<Net, NetError>> {
 }
 
 fn answer(alloc: Global, tiles: &[Corners]) -> Result<Result<Net, NetError>, Fail> {
-    let mut rects = Vec::new(alloc);
-    for (x1, y1, x2, y2) in tiles {
-        rects.push(Rect::new(*x1, *y1, *x2, *y2).ok_or("out of range")?)?;
-    }
+    let rects = rects_of(alloc, tiles)?;
     Ok(answer_for(alloc, rects.as_slice()).ok_or("no fragments")?)
 }
 
@@ -173,22 +169,6 @@ fn a_wire_with_just_room_for_a_stitch(rt: HostRuntime) -> Result<(), Fail> {
     compare_clashes(&rt, rt.alloc(), &whole, &[(0, 1), (0, 2)])
 }
 
-/// Compares the sides at which each edge leaves its two nodes.
-fn compare_exits<R: Abort>(
-    rt: &R,
-    alloc: Global,
-    tiles: &[Corners],
-    wanted: &[(u8, u8)],
-) -> Result<(), Fail> {
-    let net = net_of(alloc, tiles)?;
-    let mut found = Vec::new(alloc);
-    for (a, b) in net.ports.as_slice() {
-        found.push((a.side, b.side))?;
-    }
-    assert_eq!(rt; found.as_slice(), wanted);
-    Ok(())
-}
-
 #[test]
 fn four_squares_that_are_not_plane(rt: HostRuntime) -> Result<(), Fail> {
     let tiles = [
@@ -199,8 +179,15 @@ fn four_squares_that_are_not_plane(rt: HostRuntime) -> Result<(), Fail> {
     ];
     let clashes = [(0, 1), (0, 2), (0, 3), (1, 2), (1, 3), (2, 3)];
     compare_ends(&rt, rt.alloc(), &tiles, Kind::Clash, &clashes)?;
-    let exits = [(3, 7), (5, 1), (4, 0), (6, 2), (5, 1), (3, 7)];
-    compare_exits(&rt, rt.alloc(), &tiles, &exits)
+    let sides = [
+        ((3, 200), (7, -200)),
+        ((5, -200), (1, 200)),
+        ((4, 0), (0, 0)),
+        ((6, 0), (2, 0)),
+        ((5, -800), (1, 800)),
+        ((3, 800), (7, -800)),
+    ];
+    compare_sides(&rt, rt.alloc(), &tiles, &sides)
 }
 
 #[test]

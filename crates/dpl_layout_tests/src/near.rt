@@ -1,19 +1,10 @@
+use crate::figures::{Corners, rects_of};
 use dpl_cell::Rect;
 use dpl_near::types::Shapes;
 use dpl_near::{NoMemory, Surroundings, are_apart, shapes};
 use std::alloc::Global;
 use std::process::Abort;
 use std::test::Fail;
-
-type Corners = (i64, i64, i64, i64);
-
-fn rects_of(alloc: Global, all: &[Corners]) -> Result<Vec<Rect>, Fail> {
-    let mut rects = Vec::new(alloc);
-    for (x1, y1, x2, y2) in all {
-        rects.push(Rect::new(*x1, *y1, *x2, *y2).ok_or("out of range")?)?;
-    }
-    Ok(rects)
-}
 
 /// The shapes of a few rectangles, `None` where two of them share a cell.
 fn shapes_of(alloc: Global, rects: &[Rect]) -> Result<Option<Shapes>, NoMemory> {

@@ -1,41 +1,13 @@
-use dpl_cell::{Layout, Point, Points, Prim, Rect};
+use crate::figures::{Corners, FRAME, prims_of, push_boxes};
+use dpl_cell::{Layout, Prim, Rect};
 use dpl_list::Items;
 use dpl_tiles::{TileError, tiles};
 use std::alloc::Global;
 use std::process::Abort;
 use std::test::Fail;
 
-type Corners = (i64, i64, i64, i64);
-
-fn rect_of(corners: &Corners) -> Result<Rect, Fail> {
-    let (x1, y1, x2, y2) = *corners;
-    Ok(Rect::new(x1, y1, x2, y2).ok_or("out of range")?)
-}
-
 fn corners_of(tile: &Rect) -> Corners {
     (tile.x1, tile.y1, tile.x2, tile.y2)
-}
-
-fn push_boxes(prims: &mut Vec<Prim>, all: &[Corners]) -> Result<(), Fail> {
-    for corners in all {
-        prims.push(Prim::Box(rect_of(corners)?))?;
-    }
-    Ok(())
-}
-
-fn points_of(alloc: Global, corners: &[(i64, i64)]) -> Result<Points, Fail> {
-    let mut points = Vec::new(alloc);
-    for (x, y) in corners {
-        points.push(Point::new(*x, *y).ok_or("out of range")?)?;
-    }
-    Ok(Points::new(points).ok_or("slanted")?)
-}
-
-fn push_polygons(prims: &mut Vec<Prim>, alloc: Global, all: &[&[(i64, i64)]]) -> Result<(), Fail> {
-    for corners in all {
-        prims.push(Prim::Poly(points_of(alloc, corners)?))?;
-    }
-    Ok(())
 }
 
 fn tiles_of(alloc: Global, prims: Vec<Prim>) -> Result<Vec<Corners>, Fail> {
@@ -52,9 +24,7 @@ fn compare<R: Abort>(
     polygons: &[&[(i64, i64)]],
     wanted: &[Corners],
 ) -> Result<(), Fail> {
-    let mut prims = Vec::new(alloc);
-    push_boxes(&mut prims, boxes)?;
-    push_polygons(&mut prims, alloc, polygons)?;
+    let prims = prims_of(alloc, boxes, polygons)?;
     let found = tiles_of(alloc, prims)?;
     assert_eq!(rt; found.as_slice(), wanted);
     Ok(())
@@ -87,18 +57,6 @@ fn nothing_has_no_tiles(rt: HostRuntime) -> Result<(), Fail> {
 
 #[test]
 fn a_ring_with_a_box_inside(rt: HostRuntime) -> Result<(), Fail> {
-    let ring = [
-        (0, 0),
-        (10, 0),
-        (10, 10),
-        (0, 10),
-        (0, 3),
-        (3, 3),
-        (3, 7),
-        (7, 7),
-        (7, 3),
-        (0, 3),
-    ];
     let want = [
         (0, 0, 10, 3),
         (0, 3, 3, 7),
@@ -106,7 +64,7 @@ fn a_ring_with_a_box_inside(rt: HostRuntime) -> Result<(), Fail> {
         (4, 4, 6, 6),
         (0, 7, 10, 10),
     ];
-    compare(&rt, rt.alloc(), &[(4, 4, 6, 6)], &[&ring], &want)
+    compare(&rt, rt.alloc(), &[(4, 4, 6, 6)], &[&FRAME], &want)
 }
 
 #[test]

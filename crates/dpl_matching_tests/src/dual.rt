@@ -19,24 +19,18 @@ pub fn dual_of(alloc: Global, net: &Net) -> Result<Dual, AllocError>
     Ok(faces)
 }
 
-/// A net by its number of nodes and its links.
-#[derive(Clone, Copy)]
-struct Drawing<'a> {
-    nodes: u32,
-    links: &'a [Link],
-}
-
-fn drawn_dual(alloc: Global, drawing: &Drawing<'_>) -> Result<Dual, Fail>
+/// The dual of a net with so many nodes and these links.
+fn drawn_dual(alloc: Global, nodes: u32, links: &[Link]) -> Result<Dual, Fail>
     ensures { IfOk result (λ d. CameFromDual d) }
 {
-    let net = net(alloc, drawing.nodes, drawing.links)?;
+    let net = net(alloc, nodes, links)?;
     let faces = dual_of(alloc, &net)?;
     Ok(faces)
 }
 
 /// How many faces there are, how many of them are odd, and how many ways lead between them.
-fn counts(alloc: Global, drawing: &Drawing<'_>) -> Result<(u32, usize, usize), Fail> {
-    let dual = drawn_dual(alloc, drawing)?;
+fn counts(alloc: Global, nodes: u32, links: &[Link]) -> Result<(u32, usize, usize), Fail> {
+    let dual = drawn_dual(alloc, nodes, links)?;
     Ok((
         dual.faces,
         dual.odd.as_slice().len(),
@@ -45,8 +39,8 @@ fn counts(alloc: Global, drawing: &Drawing<'_>) -> Result<(u32, usize, usize), F
 }
 
 /// The faces on both sides, the edge and the length of a way.
-fn way(alloc: Global, drawing: &Drawing<'_>, i: usize) -> Result<(u32, u32, u32, u64), Fail> {
-    let dual = drawn_dual(alloc, drawing)?;
+fn way(alloc: Global, nodes: u32, links: &[Link], i: usize) -> Result<(u32, u32, u32, u64), Fail> {
+    let dual = drawn_dual(alloc, nodes, links)?;
     match dual.crosses.as_slice().get(i) {
         Some(way) => Ok((way.f, way.g, way.edge, way.length)),
         None => Err("no such way")?,
@@ -56,11 +50,12 @@ fn way(alloc: Global, drawing: &Drawing<'_>, i: usize) -> Result<(u32, u32, u32,
 /// The least length from one face to another, and how many edges a path of that length has.
 fn distance(
     alloc: Global,
-    drawing: &Drawing<'_>,
+    nodes: u32,
+    links: &[Link],
     from: u32,
     to: u32,
 ) -> Result<(Option<u64>, usize), Fail> {
-    let dual = drawn_dual(alloc, drawing)?;
+    let dual = drawn_dual(alloc, nodes, links)?;
     if from >= dual.faces {
         return Err("no such face")?;
     }
@@ -70,8 +65,13 @@ fn distance(
 }
 
 /// The least length up to a limit from the first face to the second, and whether it is less.
-fn within(alloc: Global, drawing: &Drawing<'_>, limit: u64) -> Result<(Option<u64>, u64), Fail> {
-    let dual = drawn_dual(alloc, drawing)?;
+fn within(
+    alloc: Global,
+    nodes: u32,
+    links: &[Link],
+    limit: u64,
+) -> Result<(Option<u64>, u64), Fail> {
+    let dual = drawn_dual(alloc, nodes, links)?;
     if limit == 0 {
         return Err("no such limit")?;
     }
@@ -86,10 +86,11 @@ fn within(alloc: Global, drawing: &Drawing<'_>, limit: u64) -> Result<(Option<u6
 fn compare_odd<R: Abort>(
     rt: &R,
     alloc: Global,
-    drawing: &Drawing<'_>,
+    nodes: u32,
+    links: &[Link],
     odd: &[u32],
 ) -> Result<(), Fail> {
-    let dual = drawn_dual(alloc, drawing)?;
+    let dual = drawn_dual(alloc, nodes, links)?;
     assert_eq!(rt; dual.odd.as_slice(), odd);
     Ok(())
 }
@@ -98,10 +99,11 @@ fn compare_odd<R: Abort>(
 fn compare_parts<R: Abort>(
     rt: &R,
     alloc: Global,
-    drawing: &Drawing<'_>,
+    nodes: u32,
+    links: &[Link],
     part: &[u32],
 ) -> Result<(), Fail> {
-    let dual = drawn_dual(alloc, drawing)?;
+    let dual = drawn_dual(alloc, nodes, links)?;
     assert_eq!(rt; dual.part.as_slice(), part);
     Ok(())
 }
@@ -118,16 +120,12 @@ fn triangle() -> [Link; 3] {
 #[test]
 fn odd_triangle(rt: HostRuntime) -> Result<(), Fail> {
     let links = triangle();
-    let drawing = Drawing {
-        nodes: 3,
-        links: &links,
-    };
-    assert_eq!(rt; counts(rt.alloc(), &drawing)?, (2, 2, 3));
-    compare_odd(&rt, rt.alloc(), &drawing, &[0, 1])?;
-    compare_parts(&rt, rt.alloc(), &drawing, &[0, 0])?;
-    assert_eq!(rt; way(rt.alloc(), &drawing, 2)?, (0, 1, 2, 20));
-    assert_eq!(rt; distance(rt.alloc(), &drawing, 0, 1)?, (Some(20), 1));
-    assert_eq!(rt; distance(rt.alloc(), &drawing, 1, 1)?, (Some(0), 0));
+    assert_eq!(rt; counts(rt.alloc(), 3, &links)?, (2, 2, 3));
+    compare_odd(&rt, rt.alloc(), 3, &links, &[0, 1])?;
+    compare_parts(&rt, rt.alloc(), 3, &links, &[0, 0])?;
+    assert_eq!(rt; way(rt.alloc(), 3, &links, 2)?, (0, 1, 2, 20));
+    assert_eq!(rt; distance(rt.alloc(), 3, &links, 0, 1)?, (Some(20), 1));
+    assert_eq!(rt; distance(rt.alloc(), 3, &links, 1, 1)?, (Some(0), 0));
     Ok(())
 }
 
@@ -135,39 +133,28 @@ fn odd_triangle(rt: HostRuntime) -> Result<(), Fail> {
 #[test]
 fn nearer_than_a_limit(rt: HostRuntime) -> Result<(), Fail> {
     let links = triangle();
-    let drawing = Drawing {
-        nodes: 3,
-        links: &links,
-    };
-    assert_eq!(rt; within(rt.alloc(), &drawing, 1)?, (None, 1));
-    assert_eq!(rt; within(rt.alloc(), &drawing, 20)?, (None, 20));
-    assert_eq!(rt; within(rt.alloc(), &drawing, 21)?, (Some(20), 20));
-    assert_eq!(rt; within(rt.alloc(), &drawing, 50)?, (Some(20), 20));
+    assert_eq!(rt; within(rt.alloc(), 3, &links, 1)?, (None, 1));
+    assert_eq!(rt; within(rt.alloc(), 3, &links, 20)?, (None, 20));
+    assert_eq!(rt; within(rt.alloc(), 3, &links, 21)?, (Some(20), 20));
+    assert_eq!(rt; within(rt.alloc(), 3, &links, 50)?, (Some(20), 20));
     Ok(())
 }
 
 /// One clash, with one face on both sides.
 #[test]
 fn pair(rt: HostRuntime) -> Result<(), Fail> {
-    let drawing = Drawing {
-        nodes: 2,
-        links: &[clash(0, 1, 10, East(0), West(0))],
-    };
-    assert_eq!(rt; counts(rt.alloc(), &drawing)?, (1, 0, 1));
-    assert_eq!(rt; way(rt.alloc(), &drawing, 0)?, (0, 0, 0, 20));
+    let links = [clash(0, 1, 10, East(0), West(0))];
+    assert_eq!(rt; counts(rt.alloc(), 2, &links)?, (1, 0, 1));
+    assert_eq!(rt; way(rt.alloc(), 2, &links, 0)?, (0, 0, 0, 20));
     Ok(())
 }
 
 /// Two nodes without an edge, each with a face of its own.
 #[test]
 fn two_single_nodes(rt: HostRuntime) -> Result<(), Fail> {
-    let drawing = Drawing {
-        nodes: 2,
-        links: &[],
-    };
-    assert_eq!(rt; counts(rt.alloc(), &drawing)?, (2, 0, 0));
-    compare_parts(&rt, rt.alloc(), &drawing, &[0, 1])?;
-    assert_eq!(rt; distance(rt.alloc(), &drawing, 0, 1)?, (None, 0));
+    assert_eq!(rt; counts(rt.alloc(), 2, &[])?, (2, 0, 0));
+    compare_parts(&rt, rt.alloc(), 2, &[], &[0, 1])?;
+    assert_eq!(rt; distance(rt.alloc(), 2, &[], 0, 1)?, (None, 0));
     Ok(())
 }
 
@@ -180,12 +167,8 @@ fn ring(rt: HostRuntime) -> Result<(), Fail> {
         stitch(1, 2, 2, North(0), South(0)),
         clash(2, 3, 4, West(0), East(0)),
     ];
-    let drawing = Drawing {
-        nodes: 4,
-        links: &links,
-    };
-    assert_eq!(rt; counts(rt.alloc(), &drawing)?, (2, 0, 4));
-    assert_eq!(rt; distance(rt.alloc(), &drawing, 0, 1)?, (Some(2), 1));
+    assert_eq!(rt; counts(rt.alloc(), 4, &links)?, (2, 0, 4));
+    assert_eq!(rt; distance(rt.alloc(), 4, &links, 0, 1)?, (Some(2), 1));
     Ok(())
 }
 
@@ -200,15 +183,11 @@ fn two_parts(rt: HostRuntime) -> Result<(), Fail> {
         clash(3, 5, 8, North(0), West(0)),
         clash(4, 5, 9, North(0), East(0)),
     ];
-    let drawing = Drawing {
-        nodes: 6,
-        links: &links,
-    };
-    compare_odd(&rt, rt.alloc(), &drawing, &[0, 1, 2, 3])?;
-    compare_parts(&rt, rt.alloc(), &drawing, &[0, 0, 2, 2])?;
-    assert_eq!(rt; distance(rt.alloc(), &drawing, 0, 1)?, (Some(6), 1));
-    assert_eq!(rt; distance(rt.alloc(), &drawing, 1, 2)?, (None, 0));
-    assert_eq!(rt; distance(rt.alloc(), &drawing, 3, 2)?, (Some(14), 1));
+    compare_odd(&rt, rt.alloc(), 6, &links, &[0, 1, 2, 3])?;
+    compare_parts(&rt, rt.alloc(), 6, &links, &[0, 0, 2, 2])?;
+    assert_eq!(rt; distance(rt.alloc(), 6, &links, 0, 1)?, (Some(6), 1));
+    assert_eq!(rt; distance(rt.alloc(), 6, &links, 1, 2)?, (None, 0));
+    assert_eq!(rt; distance(rt.alloc(), 6, &links, 3, 2)?, (Some(14), 1));
     Ok(())
 }
 
@@ -225,19 +204,15 @@ fn bonds_between_parts(rt: HostRuntime) -> Result<(), Fail> {
         clash(0, 4, 3, East(-1), West(0)),
         stitch(1, 4, 2, West(3), East(0)),
     ];
-    let drawing = Drawing {
-        nodes: 5,
-        links: &links,
-    };
-    assert_eq!(rt; counts(rt.alloc(), &drawing)?, (4, 4, 4));
-    compare_odd(&rt, rt.alloc(), &drawing, &[0, 1, 2, 3])?;
-    let (f, g, edge, length) = way(rt.alloc(), &drawing, 0)?;
+    assert_eq!(rt; counts(rt.alloc(), 5, &links)?, (4, 4, 4));
+    compare_odd(&rt, rt.alloc(), 5, &links, &[0, 1, 2, 3])?;
+    let (f, g, edge, length) = way(rt.alloc(), 5, &links, 0)?;
     assert_eq!(rt; (edge, length), (3, 12));
-    assert_eq!(rt; distance(rt.alloc(), &drawing, f, g)?, (Some(2), 1));
-    let (h, i, edge, length) = way(rt.alloc(), &drawing, 2)?;
+    assert_eq!(rt; distance(rt.alloc(), 5, &links, f, g)?, (Some(2), 1));
+    let (h, i, edge, length) = way(rt.alloc(), 5, &links, 2)?;
     assert_eq!(rt; (edge, length), (5, 6));
-    assert_eq!(rt; distance(rt.alloc(), &drawing, h, i)?, (Some(4), 1));
-    assert_eq!(rt; distance(rt.alloc(), &drawing, f, h)?, (None, 0));
+    assert_eq!(rt; distance(rt.alloc(), 5, &links, h, i)?, (Some(4), 1));
+    assert_eq!(rt; distance(rt.alloc(), 5, &links, f, h)?, (None, 0));
     Ok(())
 }
 
@@ -253,13 +228,9 @@ fn square_with_both_diagonals(rt: HostRuntime) -> Result<(), Fail> {
         clash(0, 2, 3, East(1), South(0)),
         clash(1, 3, 3, West(0), East(0)),
     ];
-    let drawing = Drawing {
-        nodes: 4,
-        links: &links,
-    };
-    assert_eq!(rt; counts(rt.alloc(), &drawing)?, (3, 2, 5));
-    let (f, g, edge, length) = way(rt.alloc(), &drawing, 4)?;
+    assert_eq!(rt; counts(rt.alloc(), 4, &links)?, (3, 2, 5));
+    let (f, g, edge, length) = way(rt.alloc(), 4, &links, 4)?;
     assert_eq!(rt; (edge, length), (4, 6));
-    assert_eq!(rt; distance(rt.alloc(), &drawing, f, g)?, (Some(4), 2));
+    assert_eq!(rt; distance(rt.alloc(), 4, &links, f, g)?, (Some(4), 2));
     Ok(())
 }

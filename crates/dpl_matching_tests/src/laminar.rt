@@ -59,17 +59,16 @@ fn made_and_taken_apart<L: Ledger, R: Abort>(
     }
 }
 
+/// A set of three members with a value is a load of one of them and the fourth member, and not of two of its own.
 #[test]
 fn a_set_loads_its_border(rt: HostRuntime) -> Result<(), NoMemory> {
-    one_set_with_a_value::<Brand, _>(&rt, rt.alloc(), Blank::new(1))
+    let loads = loads_of_a_set::<Brand>(rt.alloc(), Blank::new(1))?;
+    assert_eq!(rt; loads, (0, 6));
+    Ok(())
 }
 
-/// A set of three members with a value is a load of one of them and the fourth member, and not of two of its own.
-fn one_set_with_a_value<L: Ledger, R: Abort>(
-    rt: &R,
-    alloc: Global,
-    blank: Blank,
-) -> Result<(), NoMemory>
+/// The load of two members of a set of value 6, and of one of them and a member that is not in it.
+fn loads_of_a_set<L: Ledger>(alloc: Global, blank: Blank) -> Result<(u64, u64), NoMemory>
     requires name { blank.name ≡ L.name }
     requires parts { blank.parts ≡ L.parts }
     requires some { 0 < L.parts }
@@ -82,6 +81,5 @@ fn one_set_with_a_value<L: Ledger, R: Abort>(
     if family.value(set) == 0 {
         family.raise(set, 6, &mut steps);
     }
-    assert_eq!(rt; (family.load(0, 1), family.load(0, 3)), (0, 6));
-    Ok(())
+    Ok((family.load(0, 1), family.load(0, 3)))
 }

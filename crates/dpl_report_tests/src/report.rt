@@ -2,6 +2,7 @@ use dpl_form::first_line;
 use dpl_parse::{ReportError, parse};
 use dpl_report::{NoMemory, print};
 use std::alloc::Global;
+use std::process::Abort;
 
 const NOTHING: &[u8] =
     b"(dpl 1);\n(layer M);\n(space 100);\n(overlap 20);\n(stitch 1);\n(conflict 10);\n(pieces 0);\n(fragments 0);\n(bonds 0);\n(stitches 0);\n(clashes 0);\n(excess 0);\n(cost 0);\n(bound 0);\n(masks );\nDS 1 1 4;\nL MA;\nL MB;\nDF;\nC 1;\nE\n";
@@ -89,48 +90,68 @@ fn a_front_of_a_report_ends_too_early(rt: HostRuntime) {
     }
 }
 
-#[test]
-fn the_first_wrong_line_is_named(rt: HostRuntime) {
-    for (number, new, line) in [
-        (3, b"(overlap 20);\n(space 100);\n".as_slice(), 3),
-        (3, b"(space 0100);\n", 3),
-        (3, b"(space 1000000000001);\n", 3),
-        (15, b"(masks AABB);\n", 15),
-        (15, b"(masks AAb);\n", 15),
-        (16, b"(clash 1 0 2);\n(clash 0 0 1);\n", 17),
-        (16, b"(clash 0 0 1);\n(clash 0 0 1);\n", 17),
-        (17, b"(cycle 0 0 0 2 1);\n", 17),
-        (17, b"(cycle 20 0);\n", 17),
-        (20, b"B 0 400 200 200;\n", 20),
-        (26, b"E", 26),
-        (26, b"E\nE\n", 27),
-    ] {
-        assert_eq!(rt;
-            wrong_line_with(rt.alloc(), TRIANGLE, number, new),
-            Some(line)
-        );
+/// Compares the first wrong lines of a report with other texts in place of one line.
+fn compare_wrong_lines<R: Abort>(
+    rt: &R,
+    alloc: Global,
+    report: &[u8],
+    number: usize,
+    wanted: &[(&[u8], u64)],
+) {
+    for (new, line) in wanted {
+        assert_eq!(rt; wrong_line_with(alloc, report, number, new), Some(*line));
     }
 }
 
 #[test]
+fn the_first_wrong_line_is_named(rt: HostRuntime) {
+    let spacing = [
+        (b"(overlap 20);\n(space 100);\n".as_slice(), 3),
+        (b"(space 0100);\n", 3),
+        (b"(space 1000000000001);\n", 3),
+    ];
+    compare_wrong_lines(&rt, rt.alloc(), TRIANGLE, 3, &spacing);
+    let masks = [(b"(masks AABB);\n".as_slice(), 15), (b"(masks AAb);\n", 15)];
+    compare_wrong_lines(&rt, rt.alloc(), TRIANGLE, 15, &masks);
+    let clash = [
+        (b"(clash 1 0 2);\n(clash 0 0 1);\n".as_slice(), 17),
+        (b"(clash 0 0 1);\n(clash 0 0 1);\n", 17),
+    ];
+    compare_wrong_lines(&rt, rt.alloc(), TRIANGLE, 16, &clash);
+    let cycle = [
+        (b"(cycle 0 0 0 2 1);\n".as_slice(), 17),
+        (b"(cycle 20 0);\n", 17),
+    ];
+    compare_wrong_lines(&rt, rt.alloc(), TRIANGLE, 17, &cycle);
+    let square = [(b"B 0 400 200 200;\n".as_slice(), 20)];
+    compare_wrong_lines(&rt, rt.alloc(), TRIANGLE, 20, &square);
+    let end = [(b"E".as_slice(), 26), (b"E\nE\n", 27)];
+    compare_wrong_lines(&rt, rt.alloc(), TRIANGLE, 26, &end);
+}
+
+#[test]
 fn the_first_wrong_line_of_a_second_version(rt: HostRuntime) {
-    for (number, new, line) in [
-        (1, b"(dpl 3);\n".as_slice(), 1),
-        (1, b"(dpl 1);\n", 16),
-        (15, b"(masks );\n(keep K);\n", 16),
-        (16, b"(corner 03);\n", 16),
-        (16, b"", 16),
-        (16, b"(keep K);\n(corner 3);\n", 16),
-        (17, b"(keep k);\n", 17),
-        (17, b"(keep );\n", 17),
-        (17, b"(keep K);\n(keep K);\n", 18),
-        (18, b"(corner 3);\nDS 1 1 4;\n", 18),
-        (16, b"(corner 1000000000001);\n", 16),
-        (16, b"(corner -3);\n", 16),
-        (17, b"(keep K2345678901234567890123456789012);\n", 17),
-    ] {
-        assert_eq!(rt; wrong_line_with(rt.alloc(), KEPT, number, new), Some(line));
-    }
+    let version = [(b"(dpl 3);\n".as_slice(), 1), (b"(dpl 1);\n", 16)];
+    compare_wrong_lines(&rt, rt.alloc(), KEPT, 1, &version);
+    let masks = [(b"(masks );\n(keep K);\n".as_slice(), 16)];
+    compare_wrong_lines(&rt, rt.alloc(), KEPT, 15, &masks);
+    let corner = [
+        (b"(corner 03);\n".as_slice(), 16),
+        (b"(corner -3);\n", 16),
+        (b"(corner 1000000000001);\n", 16),
+        (b"", 16),
+        (b"(keep K);\n(corner 3);\n", 16),
+    ];
+    compare_wrong_lines(&rt, rt.alloc(), KEPT, 16, &corner);
+    let keep = [
+        (b"(keep k);\n".as_slice(), 17),
+        (b"(keep );\n", 17),
+        (b"(keep K2345678901234567890123456789012);\n", 17),
+        (b"(keep K);\n(keep K);\n", 18),
+    ];
+    compare_wrong_lines(&rt, rt.alloc(), KEPT, 17, &keep);
+    let definition = [(b"(corner 3);\nDS 1 1 4;\n".as_slice(), 18)];
+    compare_wrong_lines(&rt, rt.alloc(), KEPT, 18, &definition);
 }
 
 /// The corner weight is a number as the others, up to 10 ^ 12. The name of the keep layer has up to 31 bytes, and may
@@ -152,10 +173,9 @@ fn corner_and_keep_lines(rt: HostRuntime) {
 /// A report of the first version has neither line.
 #[test]
 fn the_first_version_ends_with_the_masks(rt: HostRuntime) {
-    for new in [
-        b"(masks );\n(corner 10);\n".as_slice(),
-        b"(masks );\n(keep K);\n",
-    ] {
-        assert_eq!(rt; wrong_line_with(rt.alloc(), NOTHING, 15, new), Some(16));
-    }
+    let behind = [
+        (b"(masks );\n(corner 10);\n".as_slice(), 16),
+        (b"(masks );\n(keep K);\n", 16),
+    ];
+    compare_wrong_lines(&rt, rt.alloc(), NOTHING, 15, &behind);
 }
