@@ -1,6 +1,7 @@
 use dpl_cell::Rect;
 use dpl_cuts::cut;
-use dpl_links::{NetError, net};
+use dpl_limits::LimitError;
+use dpl_links::net;
 use dpl_near::{are_apart, shapes};
 use dpl_options::Weights;
 use dpl_sign::{Kind, Net};
@@ -11,7 +12,7 @@ use std::test::Fail;
 type Corners = (i64, i64, i64, i64);
 
 /// What `net` answers for tiles at spacing 200 and overlap 40, `None` where two of them share a cell.
-fn answer_for(alloc: Global, tiles: &[Rect]) -> Option<Result<Net, NetError>> {
+fn answer_for(alloc: Global, tiles: &[Rect]) -> Option<Result<Net, LimitError>> {
     if tiles.len() > 1_000 {
         return None;
     }
@@ -30,7 +31,7 @@ fn answer_for(alloc: Global, tiles: &[Rect]) -> Option<Result<Net, NetError>> {
     }
 }
 
-fn answer(alloc: Global, tiles: &[Corners]) -> Result<Result<Net, NetError>, Fail> {
+fn answer(alloc: Global, tiles: &[Corners]) -> Result<Result<Net, LimitError>, Fail> {
     let mut rects = Vec::new(alloc);
     for (x1, y1, x2, y2) in tiles {
         rects.push(Rect::new(*x1, *y1, *x2, *y2).ok_or("out of range")?)?;
@@ -391,7 +392,7 @@ fn nearly_too_many_edges(rt: HostRuntime) -> Result<(), Fail> {
     Ok(())
 }
 
-fn refusal(alloc: Global, tiles: &[Corners]) -> Result<Option<NetError>, Fail> {
+fn refusal(alloc: Global, tiles: &[Corners]) -> Result<Option<LimitError>, Fail> {
     Ok(answer(alloc, tiles)?.err())
 }
 
@@ -400,7 +401,7 @@ fn too_many_edges(rt: HostRuntime) -> Result<(), Fail> {
     let tiles = crowd(rt.alloc(), 895)?;
     assert_eq!(rt;
         refusal(rt.alloc(), tiles.as_slice())?,
-        Some(NetError::TooMany)
+        Some(LimitError::TooMany)
     );
     Ok(())
 }
