@@ -5,6 +5,8 @@ use Rattle.std.proofs.lemmas.List.{length-map}
 use Rattle.dpl_limits.specs.Limits.{number_of, most_of}
 use Rattle.dpl_limits.specs.declared.counted.Counted.{Counted}
 use Rattle.dpl_limits.specs.declared.counted.Counted.TheVariants as Counted
+use Rattle.dpl_limits.specs.declared.error.LimitError.{LimitError}
+use Rattle.dpl_limits.specs.declared.error.LimitError.TheVariants as step
 use Rattle.dpl_cell.specs.declared.rect.Rect.{Rect}
 use Rattle.dpl_cell.specs.Places.{Corners, corners_of}
 use Rattle.dpl_cell.specs.Outlines.{outline_of}
@@ -12,12 +14,6 @@ use Rattle.dpl_cell.specs.Layers.{is_cell, cells_of}
 use Rattle.dpl_cell.specs.Tiles.{AreTiles}
 use Rattle.dpl_tiles.proofs.TileLemmas.{not_more}
 use Rattle.dpl_tiles.specs.Counts.{HasMoreTiles}
-use Rattle.dpl_tiles.specs.declared.error.TileError.{TileError}
-use Rattle.dpl_tiles.specs.declared.error.TileError.TheVariants as tile
-use Rattle.dpl_cuts.specs.declared.error.CutError.{CutError}
-use Rattle.dpl_cuts.specs.declared.error.CutError.TheVariants as cut
-use Rattle.dpl_links.specs.declared.error.NetError.{NetError}
-use Rattle.dpl_links.specs.declared.error.NetError.TheVariants as net
 use Rattle.dpl_calls.specs.Totals.{shown}
 use Rattle.dpl_rules.specs.Rules.{Fault}
 use Rattle.dpl_cif.specs.Drawn.{reach}
@@ -33,7 +29,7 @@ use Rattle.dpl_links.proofs.SameLemmas.{no_more_edges}
 use Rattle.dpl_options.specs.Options.{PlainOptions}
 use Rattle.dpl_layer.specs.declared.error.LayerError.{LayerError}
 use Rattle.dpl_layer.specs.declared.error.LayerError.TheVariants.{Layout, Limit, NoMemory}
-use Rattle.dpl_layer.specs.Errors.{of_reading, of_tiles, of_cuts, of_net, passed}
+use Rattle.dpl_layer.specs.Errors.{of_reading, of_step, passed}
 use Rattle.dpl_layer.specs.declared.drawing.Drawing.{Drawing}
 use Rattle.dpl_layer.specs.Reasons.{FirstOf, NoneOf, IsOver, IsPassed}
 use Rattle.dpl_layer.specs.Drawings.{Cells, HasFault, PassesLimit, kept_of, drawing_reasons, IsDrawingOf}
@@ -282,10 +278,6 @@ refusal_comes L R (Err f) one free a (inr q) e r = inl (ap Err (one f e q r))
 
 -- ---- what the steps answer
 
--- an equal error refuses too
-pub err_refuses : {T : Type 0} (r : Result T LayerError) (Q : LayerError → Type 0) (e f : LayerError) → r ≡ Err e → e ≡ f → Q f → IfErr r Q
-err_refuses r Q e f a b q = rw (a, b) q
-
 -- no tile of the cells, and none of those that are kept whole, is one too many
 few_tiles : (o : PlainOptions) (cells kept : Cells) (ts ks : List Corners) (e : LayerError)
     → AreTiles cells ts → AreTiles kept ks → length ts ≤ 100000 → length ks ≤ 100000
@@ -300,19 +292,19 @@ few_tiles o cells kept ts ks e t u few also r =
     (later K (F ∷ E ∷ []) e (λ x p. not_more kept ks 100000 u also p.0) r)
 
 -- an error of the tiles passes the limit on tiles, but for want of memory
-pub tiles_refuse : (o : PlainOptions) (cells kept : Cells) (e : TileError)
-    → (e ≡ tile.TooMany → HasMoreTiles cells 100000)
-    → (of_tiles e ≡ NoMemory) ⊎ FirstOf (cells_reasons o cells kept) (of_tiles e)
-tiles_refuse o cells kept tile.TooMany many = inr (first (IsPassed Counted.Tiles (HasMoreTiles cells 100000))
+pub tiles_refuse : (o : PlainOptions) (cells kept : Cells) (e : LimitError)
+    → (e ≡ step.TooMany → HasMoreTiles cells 100000)
+    → (of_step Counted.Tiles e ≡ NoMemory) ⊎ FirstOf (cells_reasons o cells kept) (of_step Counted.Tiles e)
+tiles_refuse o cells kept step.TooMany many = inr (first (IsPassed Counted.Tiles (HasMoreTiles cells 100000))
     (IsPassed Counted.Tiles (HasMoreTiles kept 100000) ∷ IsPassed Counted.Fragments (HasTooManyFragments o cells kept)
     ∷ IsPassed Counted.Edges (HasTooManyEdges o cells kept) ∷ []) (passed Counted.Tiles) (many refl, refl))
-tiles_refuse o cells kept tile.NoMemory many = inl refl
+tiles_refuse o cells kept step.NoMemory many = inl refl
 
 -- an error of the tiles that are kept whole passes the limit on tiles, but for want of memory
-pub kept_refuses : (o : PlainOptions) (cells kept : Cells) (v : List Rect) (e : TileError)
-    → AreTiles cells (map corners_of v) → length v ≤ 100000 → (e ≡ tile.TooMany → HasMoreTiles kept 100000)
-    → (of_tiles e ≡ NoMemory) ⊎ FirstOf (cells_reasons o cells kept) (of_tiles e)
-kept_refuses o cells kept v tile.TooMany t few many =
+pub kept_refuses : (o : PlainOptions) (cells kept : Cells) (v : List Rect) (e : LimitError)
+    → AreTiles cells (map corners_of v) → length v ≤ 100000 → (e ≡ step.TooMany → HasMoreTiles kept 100000)
+    → (of_step Counted.Tiles e ≡ NoMemory) ⊎ FirstOf (cells_reasons o cells kept) (of_step Counted.Tiles e)
+kept_refuses o cells kept v step.TooMany t few many =
     let T : Reason = IsPassed Counted.Tiles (HasMoreTiles cells 100000) in
     let K : Reason = IsPassed Counted.Tiles (HasMoreTiles kept 100000) in
     let F : Reason = IsPassed Counted.Fragments (HasTooManyFragments o cells kept) in
@@ -320,15 +312,15 @@ kept_refuses o cells kept v tile.TooMany t few many =
     let small : length (map corners_of v) ≤ 100000 = rw (length-map v corners_of) few in
     inr (later T (K ∷ F ∷ E ∷ []) (passed Counted.Tiles) (λ x p. not_more cells (map corners_of v) 100000 t small p.0)
     (first K (F ∷ E ∷ []) (passed Counted.Tiles) (many refl, refl)))
-kept_refuses o cells kept v tile.NoMemory t few many = inl refl
+kept_refuses o cells kept v step.NoMemory t few many = inl refl
 
 -- an error of the cuts passes the limit on fragments, but for want of memory
-pub cuts_refuse : (o : PlainOptions) (cells kept : Cells) (v w : List Rect) (e : CutError)
+pub cuts_refuse : (o : PlainOptions) (cells kept : Cells) (v w : List Rect) (e : LimitError)
     → AreTiles cells (map corners_of v) → AreTiles kept (map corners_of w) → length v ≤ 100000
     → length w ≤ 100000
-    → (e ≡ cut.TooMany → HasMoreFragments (map corners_of w) (2 * o.space) (2 * o.overlap) (map corners_of v) 100000)
-    → (of_cuts e ≡ NoMemory) ⊎ FirstOf (cells_reasons o cells kept) (of_cuts e)
-cuts_refuse o cells kept v w cut.TooMany t u few also many =
+    → (e ≡ step.TooMany → HasMoreFragments (map corners_of w) (2 * o.space) (2 * o.overlap) (map corners_of v) 100000)
+    → (of_step Counted.Fragments e ≡ NoMemory) ⊎ FirstOf (cells_reasons o cells kept) (of_step Counted.Fragments e)
+cuts_refuse o cells kept v w step.TooMany t u few also many =
     let small : length (map corners_of v) ≤ 100000 = rw (length-map v corners_of) few in
     let least : length (map corners_of w) ≤ 100000 = rw (length-map w corners_of) also in
     inr (few_tiles o cells kept (map corners_of v) (map corners_of w) (passed Counted.Fragments) t u small least
@@ -343,14 +335,15 @@ cuts_refuse o cells kept v w cut.TooMany t u few also many =
       },
       refl,
     )))
-cuts_refuse o cells kept v w cut.NoMemory t u few also many = inl refl
+cuts_refuse o cells kept v w step.NoMemory t u few also many = inl refl
 
 -- an error of the net passes the limit on edges, but for want of memory
-pub net_refuses : (o : PlainOptions) (cells kept : Cells) (f : Fragments) (e : NetError) (a : AreFragmentsOf (2 * o.space) (2 * o.overlap) cells kept f)
+pub net_refuses : (o : PlainOptions) (cells kept : Cells) (f : Fragments) (e : LimitError)
+    (a : AreFragmentsOf (2 * o.space) (2 * o.overlap) cells kept f)
     → length a.keep ≤ 100000 → length f.rects ≤ 100000
-    → (e ≡ net.TooMany → HasMoreEdges f (2 * o.space) 400000)
-    → (of_net e ≡ NoMemory) ⊎ FirstOf (cells_reasons o cells kept) (of_net e)
-net_refuses o cells kept f net.TooMany a few_kept few many =
+    → (e ≡ step.TooMany → HasMoreEdges f (2 * o.space) 400000)
+    → (of_step Counted.Edges e ≡ NoMemory) ⊎ FirstOf (cells_reasons o cells kept) (of_step Counted.Edges e)
+net_refuses o cells kept f step.TooMany a few_kept few many =
     let F : Reason = IsPassed Counted.Fragments (HasTooManyFragments o cells kept) in
     let E : Reason = IsPassed Counted.Edges (HasTooManyEdges o cells kept) in
     inr (few_tiles o cells kept a.tiles a.keep (passed Counted.Edges) a.are_tiles a.are_kept
@@ -358,4 +351,4 @@ net_refuses o cells kept f net.TooMany a few_kept few many =
     (later F (E ∷ []) (passed Counted.Edges)
     (λ x p. within_fragments (2 * o.space) (2 * o.overlap) cells kept f p.0.tiles p.0.keep 100000 a few p.0.are_tiles p.0.are_kept p.0.many)
     (first E [] (passed Counted.Edges) (record { fragments = f; are_fragments = a; many = many refl }, refl))))
-net_refuses o cells kept f net.NoMemory a few_kept few many = inl refl
+net_refuses o cells kept f step.NoMemory a few_kept few many = inl refl

@@ -1,10 +1,12 @@
 // Why a text has no layer, and what the errors of the steps below become.
+ghost use Rattle.std.specs.Prelude.{◌≡◌, ◌<◌, ◌^◌};
+ghost use Rattle.dpl_limits.specs.Limits.{most_of};
+ghost use Rattle.dpl_layer.specs.declared.error.LayerError.TheVariants.{NoMemory};
+ghost use Rattle.dpl_layer.specs.Errors.{of_reading, of_step};
+
 use dpl_cif::{CifError, CifLimit, What};
-use dpl_cuts::CutError;
-use dpl_limits::Counted;
-use dpl_links::NetError;
-use dpl_tiles::TileError;
-use std::alloc::{AllocError, AllocFailed};
+use dpl_limits::{Counted, LimitError};
+use std::alloc::AllocError;
 use thiserror::Error;
 
 /// Why a text has no layer, no report or no verdict. Commands count from 1.
@@ -23,9 +25,6 @@ pub enum LayerError {
 }
 
 impl From<AllocError> for LayerError {
-    ghost use Rattle.std.specs.Prelude.{◌≡◌};
-    ghost use Rattle.dpl_layer.specs.declared.error.LayerError.TheVariants.{NoMemory};
-
     ghost from_gives = { λ _ e. e ≡ NoMemory };
 
     fn from(_error: AllocError) -> LayerError {
@@ -33,21 +32,7 @@ impl From<AllocError> for LayerError {
     }
 }
 
-impl<T: Drop> From<AllocFailed<T>> for LayerError {
-    ghost use Rattle.std.specs.Prelude.{◌≡◌};
-    ghost use Rattle.dpl_layer.specs.declared.error.LayerError.TheVariants.{NoMemory};
-
-    ghost from_gives = { λ _ e. e ≡ NoMemory };
-
-    fn from(_failed: AllocFailed<T>) -> LayerError {
-        LayerError::NoMemory
-    }
-}
-
 impl From<CifError> for LayerError {
-    ghost use Rattle.std.specs.Prelude.{◌≡◌};
-    ghost use Rattle.dpl_layer.specs.Errors.{of_reading};
-
     ghost from_gives = { λ error e. e ≡ of_reading error };
 
     fn from(error: CifError) -> LayerError {
@@ -79,53 +64,16 @@ impl From<CifError> for LayerError {
     }
 }
 
-impl From<TileError> for LayerError {
-    ghost use Rattle.std.specs.Prelude.{◌≡◌};
-    ghost use Rattle.dpl_layer.specs.Errors.{of_tiles};
-
-    ghost from_gives = { λ error e. e ≡ of_tiles error };
-
-    fn from(error: TileError) -> LayerError {
-        match error {
-            TileError::TooMany => LayerError::Limit {
-                kind: Counted::Tiles.number(),
-                count: Counted::Tiles.most() + 1,
-            },
-            TileError::NoMemory => LayerError::NoMemory,
-        }
-    }
-}
-
-impl From<CutError> for LayerError {
-    ghost use Rattle.std.specs.Prelude.{◌≡◌};
-    ghost use Rattle.dpl_layer.specs.Errors.{of_cuts};
-
-    ghost from_gives = { λ error e. e ≡ of_cuts error };
-
-    fn from(error: CutError) -> LayerError {
-        match error {
-            CutError::TooMany => LayerError::Limit {
-                kind: Counted::Fragments.number(),
-                count: Counted::Fragments.most() + 1,
-            },
-            CutError::NoMemory => LayerError::NoMemory,
-        }
-    }
-}
-
-impl From<NetError> for LayerError {
-    ghost use Rattle.std.specs.Prelude.{◌≡◌};
-    ghost use Rattle.dpl_layer.specs.Errors.{of_net};
-
-    ghost from_gives = { λ error e. e ≡ of_net error };
-
-    fn from(error: NetError) -> LayerError {
-        match error {
-            NetError::TooMany => LayerError::Limit {
-                kind: Counted::Edges.number(),
-                count: Counted::Edges.most() + 1,
-            },
-            NetError::NoMemory => LayerError::NoMemory,
-        }
+/// The error of a step that counts these, as one of the whole.
+pub fn refusal(counted: Counted, error: LimitError) -> LayerError
+    requires { most_of counted < 2 ^ 32 }
+    ensures { result ≡ of_step counted error }
+{
+    match error {
+        LimitError::TooMany => LayerError::Limit {
+            kind: counted.number(),
+            count: counted.most() + 1,
+        },
+        LimitError::NoMemory => LayerError::NoMemory,
     }
 }

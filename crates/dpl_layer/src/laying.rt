@@ -10,10 +10,11 @@ ghost use Rattle.dpl_layer.specs.Reasons.{FirstOf};
 ghost use Rattle.dpl_layer.specs.Refusals.{cells_reasons};
 
 use crate::drawing::Drawing;
-use crate::error::LayerError;
+use crate::error::{LayerError, refusal};
 use dpl_cell::Rect;
 use dpl_cuts::cut;
 use dpl_cuts::types::Fragments;
+use dpl_limits::Counted;
 use dpl_links::net;
 use dpl_near::shapes;
 use dpl_options::Options;
@@ -55,8 +56,10 @@ fn link_drawing(alloc: Global, drawing: &Drawing, options: &Options) -> Result<L
     tiles_share_out(&drawing.layer);
     let fragments = cut_drawing(alloc, drawing, options)?;
     let space = options.space_in_units();
-    let net = net(alloc, &fragments, options.weights(), space)?;
-    Ok(Layer { fragments, net })
+    match net(alloc, &fragments, options.weights(), space) {
+        Ok(net) => Ok(Layer { fragments, net }),
+        Err(error) => Err(refusal(Counted::Edges, error)),
+    }
 }
 
 /// The fragments of the chosen layer of a drawing.
@@ -70,8 +73,14 @@ fn cut_drawing(alloc: Global, drawing: &Drawing, options: &Options) -> Result<Fr
         FirstOf (cells_reasons options.now (cells_of drawing.now.layer)
         (cells_of drawing.now.keep)) e) }
 {
-    let tiles_there = tiles(alloc, &drawing.layer)?;
-    let keep = tiles(alloc, &drawing.keep)?;
+    let tiles_there = match tiles(alloc, &drawing.layer) {
+        Ok(tiles) => tiles,
+        Err(error) => return Err(refusal(Counted::Tiles, error)),
+    };
+    let keep = match tiles(alloc, &drawing.keep) {
+        Ok(tiles) => tiles,
+        Err(error) => return Err(refusal(Counted::Tiles, error)),
+    };
     let fragments = cut_tiles(
         alloc,
         drawing,
@@ -105,13 +114,15 @@ fn cut_tiles(
 {
     tiles_share_out(&drawing.layer);
     let shapes = shapes(alloc, tiles)?;
-    let fragments = cut(
+    match cut(
         alloc,
         tiles,
         &shapes,
         keep,
         options.space_in_units(),
         options.overlap_in_units(),
-    )?;
-    Ok(fragments)
+    ) {
+        Ok(fragments) => Ok(fragments),
+        Err(error) => Err(refusal(Counted::Fragments, error)),
+    }
 }

@@ -1,7 +1,8 @@
 use crate::figures::{Corners, rects_of};
 use dpl_cell::Rect;
+use dpl_cuts::cut;
 use dpl_cuts::types::Fragments;
-use dpl_cuts::{CutError, cut};
+use dpl_limits::LimitError;
 use dpl_near::{are_apart, shapes};
 use std::alloc::{AllocError, Global};
 use std::process::Abort;
@@ -13,7 +14,7 @@ fn fragments_of(
     alloc: Global,
     tiles: &[Rect],
     keep: &[Rect],
-) -> Result<Option<Fragments>, CutError> {
+) -> Result<Option<Fragments>, LimitError> {
     if tiles.len() > 2_000 {
         return Ok(None);
     }
@@ -232,7 +233,7 @@ fn the_most_fragments(rt: HostRuntime) -> Result<(), Fail> {
 }
 
 /// Why there are no fragments.
-fn refusal(alloc: Global, tiles: &[Corners]) -> Result<Option<CutError>, Fail> {
+fn refusal(alloc: Global, tiles: &[Corners]) -> Result<Option<LimitError>, Fail> {
     let rects = rects_of(alloc, tiles)?;
     Ok(fragments_of(alloc, rects.as_slice(), &[]).err())
 }
@@ -242,7 +243,7 @@ fn one_fragment_too_many(rt: HostRuntime) -> Result<(), Fail> {
     let tiles = comb(rt.alloc(), 3)?;
     assert_eq!(rt;
         refusal(rt.alloc(), tiles.as_slice())?,
-        Some(CutError::TooMany)
+        Some(LimitError::TooMany)
     );
     Ok(())
 }

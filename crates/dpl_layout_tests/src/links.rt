@@ -1,7 +1,8 @@
 use crate::figures::{Corners, rects_of};
 use dpl_cell::Rect;
 use dpl_cuts::cut;
-use dpl_links::{NetError, net};
+use dpl_limits::LimitError;
+use dpl_links::net;
 use dpl_near::{are_apart, shapes};
 use dpl_options::Weights;
 use dpl_sign::{Kind, Net};
@@ -10,7 +11,7 @@ use std::process::Abort;
 use std::test::Fail;
 
 /// What `net` answers for tiles at spacing 200 and overlap 40, `None` where two of them share a cell.
-fn answer_for(alloc: Global, tiles: &[Rect]) -> Option<Result<Net, NetError>> {
+fn answer_for(alloc: Global, tiles: &[Rect]) -> Option<Result<Net, LimitError>> {
     if tiles.len() > 1_000 {
         return None;
     }
@@ -29,7 +30,7 @@ fn answer_for(alloc: Global, tiles: &[Rect]) -> Option<Result<Net, NetError>> {
     }
 }
 
-fn answer(alloc: Global, tiles: &[Corners]) -> Result<Result<Net, NetError>, Fail> {
+fn answer(alloc: Global, tiles: &[Corners]) -> Result<Result<Net, LimitError>, Fail> {
     let rects = rects_of(alloc, tiles)?;
     Ok(answer_for(alloc, rects.as_slice()).ok_or("no fragments")?)
 }
@@ -378,7 +379,7 @@ fn nearly_too_many_edges(rt: HostRuntime) -> Result<(), Fail> {
     Ok(())
 }
 
-fn refusal(alloc: Global, tiles: &[Corners]) -> Result<Option<NetError>, Fail> {
+fn refusal(alloc: Global, tiles: &[Corners]) -> Result<Option<LimitError>, Fail> {
     Ok(answer(alloc, tiles)?.err())
 }
 
@@ -387,7 +388,7 @@ fn too_many_edges(rt: HostRuntime) -> Result<(), Fail> {
     let tiles = crowd(rt.alloc(), 895)?;
     assert_eq!(rt;
         refusal(rt.alloc(), tiles.as_slice())?,
-        Some(NetError::TooMany)
+        Some(LimitError::TooMany)
     );
     Ok(())
 }

@@ -1,7 +1,8 @@
 use crate::figures::{Corners, FRAME, prims_of, push_boxes};
 use dpl_cell::{Layout, Prim, Rect};
+use dpl_limits::LimitError;
 use dpl_list::Items;
-use dpl_tiles::{TileError, tiles};
+use dpl_tiles::tiles;
 use std::alloc::Global;
 use std::process::Abort;
 use std::test::Fail;
@@ -103,7 +104,7 @@ fn two_polygons_joined_by_a_box(rt: HostRuntime) -> Result<(), Fail> {
 }
 
 /// How many tiles there are, or why there are none.
-fn counted(alloc: Global, prims: Vec<Prim>) -> Result<usize, TileError> {
+fn counted(alloc: Global, prims: Vec<Prim>) -> Result<usize, LimitError> {
     let prims = Items::new(prims);
     let found = tiles(alloc, &Layout { prims })?;
     Ok(found.len())
@@ -123,7 +124,7 @@ fn bars(alloc: Global) -> Result<Vec<Prim>, Fail> {
 #[test]
 fn a_grid_with_too_many_tiles(rt: HostRuntime) -> Result<(), Fail> {
     let found = counted(rt.alloc(), bars(rt.alloc())?);
-    assert_eq!(rt; found, Err(TileError::TooMany));
+    assert_eq!(rt; found, Err(LimitError::TooMany));
     Ok(())
 }
 
@@ -162,7 +163,7 @@ fn a_grid_with_the_most_tiles(rt: HostRuntime) -> Result<(), Fail> {
 #[test]
 fn one_box_beside_the_most_tiles(rt: HostRuntime) -> Result<(), Fail> {
     let found = counted(rt.alloc(), grid(rt.alloc(), &[(500, 0, 510, 10)])?);
-    assert_eq!(rt; found, Err(TileError::TooMany));
+    assert_eq!(rt; found, Err(LimitError::TooMany));
     Ok(())
 }
 

@@ -1,9 +1,12 @@
 //! The limits of the program, by name. Code and contracts cite them from here; `Counted` has the
-//! number by which an answer names each, and the most that is taken.
+//! number by which an answer names each, and the most that is taken. `LimitError` is the error of
+//! a step that counts one thing.
 
 mod counted;
+mod error;
 
 pub use counted::Counted;
+pub use error::LimitError;
 
 /// The most bytes of a layout.
 pub const MOST_LAYOUT_BYTES: u64 = 16_777_216;

@@ -10,7 +10,6 @@ mod bounds;
 mod columns;
 mod corners;
 mod crossing;
-mod error;
 mod finder;
 mod gathering;
 mod laws;
@@ -24,6 +23,5 @@ mod sweep;
 mod sweeping;
 mod tiling;
 
-pub use error::TileError;
 pub use laws::tiles_share_out;
 pub use tiling::tiles;

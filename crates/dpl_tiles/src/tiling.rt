@@ -17,13 +17,12 @@ ghost use Rattle.dpl_tiles.specs.Finders.{IsFinderOf};
 
 use crate::band::Band;
 use crate::corners::{Corner, corners_of};
-use crate::error::TileError;
 use crate::finder::Finder;
 use crate::ordinates::ordinates;
 use crate::sweep::{Stacks, Sweep};
 use crate::sweeping::{close_all, move_back, step};
 use dpl_cell::{Layout, Prim, Rect};
-use dpl_limits::MOST_TILES;
+use dpl_limits::{LimitError, MOST_TILES};
 use std::alloc::Global;
 
 /// The tiles of a layout, the lowest first, and those of one height from the left.
@@ -31,12 +30,12 @@ use std::alloc::Global;
 /// # Errors
 ///
 /// `TooMany` where there are more than 100,000 tiles, and `NoMemory` where memory runs out.
-pub fn tiles(alloc: Global, layout: &Layout) -> Result<Vec<Rect>, TileError>
+pub fn tiles(alloc: Global, layout: &Layout) -> Result<Vec<Rect>, LimitError>
     ensures tiles { IfOk result (λ v. AreTiles (cells_of layout.now) (map corners_of v.items)) }
     ensures few { IfOk result (λ v. length v.items ≤ MOST_TILES) }
-    ensures many { result ≡ Err TileError.TooMany → HasMoreTiles (cells_of layout.now) MOST_TILES }
+    ensures many { result ≡ Err LimitError.TooMany → HasMoreTiles (cells_of layout.now) MOST_TILES }
     ensures exact { HasMoreTiles (cells_of layout.now) MOST_TILES →
-        (result ≡ Err TileError.TooMany) ⊎ (result ≡ Err TileError.NoMemory) }
+        (result ≡ Err LimitError.TooMany) ⊎ (result ≡ Err LimitError.NoMemory) }
 {
     let prims = layout.prims.as_slice();
     let rows = ordinates(alloc, prims)?;
@@ -54,7 +53,7 @@ fn unsorted(
     mut finder: Finder,
     corners: &[Corner],
     rows: &[i64],
-) -> Result<Vec<Rect>, TileError>
+) -> Result<Vec<Rect>, LimitError>
     requires finder { IsFinderOf prims.now finder }
     requires low { finder.cover.row ≡ least_row }
     requires cornered { AreCorners prims.now corners.now }
@@ -63,7 +62,7 @@ fn unsorted(
     requires all { HasOrdinates rows.now prims.now }
     ensures tiles { IfOk result (λ v. AreAllTiles (is_cell (map outline_of prims.now)) v.items) }
     ensures few { IfOk result (λ v. length v.items ≤ MOST_TILES) }
-    ensures many { result ≡ Err TileError.TooMany →
+    ensures many { result ≡ Err LimitError.TooMany →
         HasMoreTiles (is_cell (map outline_of prims.now)) MOST_TILES }
 {
     let mut sweep = Sweep {
@@ -84,7 +83,7 @@ fn unsorted(
             };
             step(alloc, &mut sweep, &band, corners)?;
             if sweep.ended.len() > MOST_TILES {
-                return Err(TileError::TooMany);
+                return Err(LimitError::TooMany);
             }
         }
     }
@@ -92,7 +91,7 @@ fn unsorted(
     move_back(&mut sweep.stacks.right, &mut sweep.stacks.left, 0)?;
     close_all(&mut sweep.ended, sweep.stacks.left.as_slice(), top)?;
     if sweep.ended.len() > MOST_TILES {
-        return Err(TileError::TooMany);
+        return Err(LimitError::TooMany);
     }
     Ok(sweep.ended)
 }
