@@ -1,5 +1,5 @@
 -- Where two segments have more than one point in common.
-use Rattle.std.proofs.Common.{arith, ◌≡◌, ◌≢◌, ◌+◌, ℤ, pos, ◌≤ℤ◌, ◌<ℤ◌, ◌+ℤ◌, ◌*ℤ◌, sym, ap, ◌∙◌, ◌⊎◌, inl, inr}
+use Rattle.std.proofs.Common.{arith, ◌≡◌, ◌≢◌, ℕ, ◌+◌, ℤ, pos, ◌≤ℤ◌, ◌<ℤ◌, ◌+ℤ◌, ◌*ℤ◌, sym, ap, ◌∙◌, ◌⊎◌, inl, inr}
 use Rattle.std.specs.Int.{int_max, int_min}
 use Rattle.std.proofs.lemmas.Int.{ints, clamps, by_lt_z}
 use Rattle.dpl_euler.specs.Points.{Ends, Point, IsAt, IsOn}
@@ -130,20 +130,29 @@ other_weighs t p i apart e = apart (record { x = at (pos p.over) p.x t.x1 t.x2 i
         let sum : ((pos i.first *ℤ a) +ℤ (pos i.second *ℤ b)) ≡ (pos i.first *ℤ a) = omega (arith, ints, ap (λ z. z *ℤ b) e) in
         same_from_mul (pos i.first) x (o *ℤ a) some (ap (λ z. z *ℤ x) (sym n) ∙ h ∙ ap (λ z. o *ℤ z) sum ∙ mul_moved o (pos i.first) a)
 
+-- the segment from its other end
+abbrev swapped : Ends → Ends
+swapped t = record { x1 = t.x2; y1 = t.y2; x2 = t.x1; y2 = t.y1 }
+
+swapped_mean : (m n : ℕ) (o x a b : ℤ) → (pos (m + n) *ℤ x) ≡ (o *ℤ ((pos m *ℤ a) +ℤ (pos n *ℤ b)))
+    → (pos (n + m) *ℤ x) ≡ (o *ℤ ((pos n *ℤ b) +ℤ (pos m *ℤ a)))
+swapped_mean m n o x a b h =
+    let total : n + m ≡ m + n = omega arith in
+    let sum : ((pos m *ℤ a) +ℤ (pos n *ℤ b)) ≡ ((pos n *ℤ b) +ℤ (pos m *ℤ a)) = omega (arith, ints) in
+    ap (λ (k : ℕ). pos k *ℤ x) total ∙ h ∙ ap (λ z. o *ℤ z) sum
+
+abbrev on_swapped : (t : Ends) (p : Point) → IsOn t p → IsOn (swapped t) p
+on_swapped t p i = record {
+  first = i.second;
+  second = i.first;
+  some = omega (arith, i.some);
+  x = swapped_mean i.first i.second (pos p.over) p.x t.x1 t.x2 i.x;
+  y = swapped_mean i.first i.second (pos p.over) p.y t.y1 t.y2 i.y;
+}
+
+-- the point is not at the second end, so the first one has a weight
 first_weighs : (t : Ends) (p : Point) (i : IsOn t p) → ¬ IsAt p t.x2 t.y2 → pos i.first ≢ pos 0
-first_weighs t p i apart e = apart (record { x = at (pos p.over) p.x t.x1 t.x2 i.x; y = at (pos p.over) p.y t.y1 t.y2 i.y })
-  where
-    none : i.first ≡ 0
-    none = omega (arith, ints, e)
-
-    some : pos 0 <ℤ pos i.second
-    some = omega (arith, ints, i.some, none)
-
-    at : (o x a b : ℤ) → (pos (i.first + i.second) *ℤ x) ≡ (o *ℤ ((pos i.first *ℤ a) +ℤ (pos i.second *ℤ b))) → x ≡ (o *ℤ b)
-    at o x a b h =
-        let n : pos (i.first + i.second) ≡ pos i.second = ap pos (omega (arith, none)) in
-        let sum : ((pos i.first *ℤ a) +ℤ (pos i.second *ℤ b)) ≡ (pos i.second *ℤ b) = omega (arith, ints, ap (λ z. z *ℤ a) e) in
-        same_from_mul (pos i.second) x (o *ℤ b) some (ap (λ z. z *ℤ x) (sym n) ∙ h ∙ ap (λ z. o *ℤ z) sum ∙ mul_moved o (pos i.second) b)
+first_weighs t p i apart = other_weighs (swapped t) p (on_swapped t p i) apart
 
 -- an end of the segment lies on its line
 end_on_line : (s : Ends) (x y : ℤ) → IsEndOf s x y → turn_to s x y ≡ pos 0

@@ -1,6 +1,6 @@
 -- The numbers of a line are read back, and a line has one line end.
-use Rattle.std.proofs.Common.{arith, ◌≡◌, ℕ, zero, suc, ◌+◌, ◌%◌, ◌<◌, ◌≤◌, ◌^◌, Bool, true, false, ◌==◌, cond, List}
-use Rattle.std.proofs.Common.{[], ◌∷◌, ◌++◌, length, refl, ap, ◌∙◌, append_assoc, length-append, Option, None}
+use Rattle.std.proofs.Common.{arith, ◌≡◌, ℕ, zero, suc, ◌+◌, ◌%◌, ◌<◌, ◌≤◌, ◌^◌, Bool, true, false, ◌&&◌, ◌==◌, cond}
+use Rattle.std.proofs.Common.{List, [], ◌∷◌, ◌++◌, length, refl, ap, ◌∙◌, append_assoc, length-append, Option, None}
 use Rattle.std.specs.Prelude.{ℤ, pos, negsuc, ◌+ℤ◌, ◌-ℤ◌, ◌*ℤ◌, not, unsigned_abs, codes}
 use Rattle.std.specs.List.{list_all, AllByRecursion}
 use Rattle.std.specs.Fmt.{decimal, signed_decimal}
@@ -14,11 +14,12 @@ use Rattle.dpl_lex.specs.declared.number.Num.{Num}
 use Rattle.dpl_lex.specs.declared.number.Num.TheVariants.{Nothing}
 use Rattle.dpl_rules.specs.Readers.{number_of, signed_of, repeated}
 use Rattle.dpl_boxes.specs.Masks.{box_line}
+use Rattle.dpl_boxes.specs.Lines.{is_flat}
 use Rattle.dpl_boxes.proofs.NumberLemmas.{has_no_digit, signed_of-signed_decimal}
 use Rattle.dpl_form.specs.Lines.{is_line, is_nothing}
 use Rattle.dpl_report.specs.ReportLines.{numbered, bracketed}
 use Rattle.dpl_report.specs.Reading.{numbers_in}
-use Rattle.std.proofs.lemmas.Bool.{and_parts}
+use Rattle.std.proofs.lemmas.Bool.{and_parts, and_from}
 
 -- ---- what stands before a number
 
@@ -127,9 +128,15 @@ numbers_in-box b a = rw (box_line-numbered b) (numbers_in-numbered 66 [] (box_nu
 
 -- ---- line ends
 
--- a byte that does not end a line
-abbrev pub is_no_end : ℕ → Bool
-is_no_end b = not (b == 10)
+-- a byte that a comment in one line can hold: neither parenthesis, and no line end
+abbrev pub is_comment_byte : ℕ → Bool
+is_comment_byte b = is_flat b && not (b == 10)
+
+pub flat_byte : (b : ℕ) → is_comment_byte b ≡ true → is_flat b ≡ true
+flat_byte b h = (and_parts (is_flat b) (not (b == 10)) h).0
+
+no_end : (b : ℕ) → is_comment_byte b ≡ true → not (b == 10) ≡ true
+no_end b h = (and_parts (is_flat b) (not (b == 10)) h).1
 
 line_by_test : (t : Bool) (bs rest : List ℕ) → not t ≡ true → is_line (bs ++ rest) ≡ is_line rest
     → cond t (is_nothing (bs ++ rest)) (is_line (bs ++ rest)) ≡ is_line rest
@@ -137,30 +144,33 @@ line_by_test true bs rest n h = absurd (cc)
 line_by_test false bs rest n h = h
 
 -- bytes without a line end in front of a text do not change whether it is one line
-pub is_line-append : (front rest : List ℕ) → list_all is_no_end front ≡ true → is_line (front ++ rest) ≡ is_line rest
+pub is_line-append : (front rest : List ℕ) → list_all is_comment_byte front ≡ true
+    → is_line (front ++ rest) ≡ is_line rest
 is_line-append [] rest h = refl
-is_line-append (b ∷ bs) rest h = let s = and_parts (is_no_end b) (list_all is_no_end bs) h in line_by_test (b == 10) bs rest s.0 (is_line-append bs rest s.1)
+is_line-append (b ∷ bs) rest h =
+    let s = and_parts (is_comment_byte b) (list_all is_comment_byte bs) h in
+    line_by_test (b == 10) bs rest (no_end b s.0) (is_line-append bs rest s.1)
 
-digit_is_no_end : (n : ℕ) → n < 10 → is_no_end (48 + n) ≡ true
-digit_is_no_end n l = grind (arith, nat_tests)
+digit_is_comment_byte : (n : ℕ) → n < 10 → is_comment_byte (48 + n) ≡ true
+digit_is_comment_byte n l =
+    and_from (is_flat (48 + n)) (not (48 + n == 10)) (grind (arith, nat_tests)) (grind (arith, nat_tests))
 
-no_end-decimal : (n : ℕ) → n < 2 ^ 64 → list_all is_no_end (decimal n) ≡ true
-no_end-decimal = decimal_by_steps (λ n ds. list_all is_no_end ds ≡ true)
-    (λ n l. rw (digit_is_no_end n l) refl)
-    (λ n ds l h. let small : n % 10 < 10 = omega arith in rw (list_all-append is_no_end ds ((48 + n % 10) ∷ []), h, digit_is_no_end (n % 10) small) refl)
+comment_bytes-decimal : (n : ℕ) → n < 2 ^ 64 → list_all is_comment_byte (decimal n) ≡ true
+comment_bytes-decimal = decimal_by_steps (λ n ds. list_all is_comment_byte ds ≡ true)
+    (λ n l. rw (digit_is_comment_byte n l) refl)
+    (λ n ds l h.
+    let small : n % 10 < 10 = omega arith in
+    rw (list_all-append is_comment_byte ds ((48 + n % 10) ∷ []), h, digit_is_comment_byte (n % 10) small) refl)
 
-no_end-signed : (z : ℤ) → IsNear z → list_all is_no_end (signed_decimal z) ≡ true
-no_end-signed (pos n) h = no_end-decimal n (omega arith)
-no_end-signed (negsuc n) h = no_end-decimal (suc n) (omega arith)
+pub comment_bytes-signed : (z : ℤ) → IsNear z → list_all is_comment_byte (signed_decimal z) ≡ true
+comment_bytes-signed (pos n) h = comment_bytes-decimal n (omega arith)
+comment_bytes-signed (negsuc n) h = comment_bytes-decimal (suc n) (omega arith)
 
 -- numbers in front of an end do not change whether it is one line
-pub is_line-numbered : (zs : List ℤ) (end : List ℕ) → AllByRecursion IsNear zs → is_line (numbered zs end) ≡ is_line end
+is_line-numbered : (zs : List ℤ) (end : List ℕ) → AllByRecursion IsNear zs → is_line (numbered zs end) ≡ is_line end
 is_line-numbered [] end a = refl
-is_line-numbered (z ∷ zs) end a = is_line-append (signed_decimal z) (numbered zs end) (no_end-signed z a.0) ∙ is_line-numbered zs end a.1
-
--- a comment of a word and numbers is one line
-pub is_line-bracketed : (word : List ℕ) (zs : List ℤ) → list_all is_no_end word ≡ true → AllByRecursion IsNear zs → is_line (bracketed word zs) ≡ true
-is_line-bracketed word zs h a = is_line-append word (numbered zs (codes ");\n")) h ∙ is_line-numbered zs (codes ");\n") a
+is_line-numbered (z ∷ zs) end a =
+    is_line-append (signed_decimal z) (numbered zs end) (comment_bytes-signed z a.0) ∙ is_line-numbered zs end a.1
 
 -- a box is one line
 pub is_line-box : (b : Corners) → AllByRecursion IsNear (box_numbers b) → is_line (box_line b) ≡ true

@@ -1,6 +1,6 @@
 -- What is due for a command that makes an output: one answer at most, and the end of its work.
-use Rattle.std.proofs.Common.{◌≡◌, ◌⊎◌, ◌≤◌, ℕ, List, [], true, refl, ap, inl, inr, arith}
-use Rattle.std.specs.Prelude.{Ok, Err, Result}
+use Rattle.std.proofs.Common.{◌≡◌, ◌⊎◌, ◌≤◌, ℕ, List, [], true, refl, sym, ap, subst, inl, inr, arith, Vec}
+use Rattle.std.specs.Prelude.{Ok, Err, Result, IfOk, IfErr}
 use Rattle.std.proofs.lemmas.Bool.{cases_lt}
 use Rattle.dpl_options.specs.Options.{PlainOptions}
 use Rattle.dpl_layer.specs.declared.error.LayerError.{LayerError}
@@ -16,7 +16,8 @@ use Rattle.dpl_run.specs.Inputs.{colours}
 use Rattle.dpl_run.specs.due.Made.{IsMade}
 use Rattle.dpl_run.specs.due.Made.IsMade.{refused, done}
 use Rattle.dpl_run.specs.Errors.{status_of}
-use Rattle.dpl_run.proofs.EndLemmas.{AllEnd, IsWorkLimit, error_ends, refused_not_done}
+use Rattle.dpl_run.specs.Telling.{IsWorked}
+use Rattle.dpl_run.proofs.EndLemmas.{AllEnd, IsWorkLimit, error_ends, refused_worked, refused_not_done}
 
 -- a limit up to that on odd faces is one of a command that colours
 pub work_limit : (c : PlainCommand) → colours c ≡ true → (k : ℕ) → (2 ≤ k) × (k ≤ 8) → IsWorkLimit c k
@@ -57,3 +58,15 @@ free_of R result v h exact e r = elim (exact e r) [
   | inl a ↦ absurd (cc)
   | inr a ↦ absurd (cc)
 ]
+
+-- what is due for a report that was made, or for the refusal in its place
+pub made_worked : {Z : Type 0} (R : LayerError → Type 0) (M : List ℕ → Type 0) (made : Result (Vec ℕ Z) LayerError)
+    (s : Status) (x : List ℕ) → IfOk made (λ v. M v.items)
+    → ((e : LayerError) → made ≡ Err e → (e ≡ refusal.NoMemory) ⊎ R e)
+    → ((e : LayerError) → R e → (made ≡ Err e) ⊎ (made ≡ Err refusal.NoMemory))
+    → IfOk made (λ v. (s ≡ Done) × (x ≡ v.items)) → IfErr made (λ e. (s ≡ status_of e) × (x ≡ []))
+    → IsWorked (IsMade R M) s x
+made_worked R M (Ok v) s x m r exact d f =
+    let due : IsMade R M Done v.items = done v.items m (free_of R (Ok v) v refl exact) in
+    subst (λ z. IsWorked (IsMade R M) z x) (sym d.0) (subst (λ z. IsMade R M Done z) (sym d.1) due)
+made_worked R M (Err e) s x m r exact d f = refused_worked (IsMade R M) R e s x refused (r e refl) f.0 f.1

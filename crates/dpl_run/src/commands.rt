@@ -1,4 +1,4 @@
-// What is due for each command: a file a command.
+// What is due for each command.
 ghost use Rattle.std.specs.Prelude.{◌≡◌, ◌≤◌, length};
 ghost use Rattle.dpl_limits.specs.declared.TheConstants.{MOST_LAYOUT_BYTES};
 ghost use Rattle.dpl_lex.specs.Cutting.{commands_of};
@@ -7,7 +7,6 @@ ghost use Rattle.dpl_run.specs.Inputs.{opens};
 ghost use Rattle.dpl_run.specs.Answer.{DueOf};
 ghost use Rattle.dpl_run.specs.Telling.{IsSmall, IsWorked};
 
-mod balance;
 mod check;
 mod cross;
 mod edit;
@@ -15,14 +14,13 @@ mod load;
 mod split;
 
 use crate::due::Due;
-use balance::balance_bytes;
 use check::check_bytes;
 use cross::cross_bytes;
 use dpl_lex::types::Commands;
 use dpl_words::Command;
 use edit::edit_bytes;
 use load::load_made;
-use split::split_bytes;
+use split::{balance_bytes, split_bytes};
 use std::alloc::Global;
 
 /// What is due for a command with the layout, its commands, and the second text. What a command does not read is not

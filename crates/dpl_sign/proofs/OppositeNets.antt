@@ -14,7 +14,7 @@ use Rattle.dpl_sign.specs.Walks.{edge_at}
 use Rattle.dpl_sign.specs.Drawings.{is_in, dart_count, tail_of, twin_of, is_bare, is_met_before, next_around, next_in_face, face_of, corner_face}
 use Rattle.dpl_sign.specs.Rotations.{Leaves}
 use Rattle.dpl_sign.specs.Components.{component_of}
-use Rattle.dpl_sign.specs.Excess.{excess, kept_before, AreEndsJoined, LiesInFace}
+use Rattle.dpl_sign.specs.Excess.{excess, kept_before, kept_edges, aside_edges, AreEndsJoined, LiesInFace}
 use Rattle.dpl_sign.specs.Parity.{is_clash_edge, is_odd_face}
 use Rattle.dpl_sign.specs.Redrawn.{AreThreeAround, AreDrawnAlike, AreOpposite}
 use Rattle.dpl_sign.proofs.DartLemmas.{twin_half, twin_below, twin_twin, twin_even, twin_odd, first_half, second_half, first_tail, second_tail}
@@ -27,6 +27,7 @@ use Rattle.dpl_sign.proofs.Insert.{IsOneMore}
 use Rattle.dpl_sign.proofs.Same.{excess_same}
 use Rattle.dpl_sign.proofs.ExcessLemmas.{kept_plane, excess_effect, same_component, one_face}
 use Rattle.dpl_sign.proofs.MonotoneLemmas.{excess_rises, mixed, mixed_below, mixed_above, mixed_other, mixed_at}
+use Rattle.dpl_sign.proofs.AsideLemmas.{HaveOneExcess, kept_by_excess, aside_by_excess}
 use Rattle.dpl_sign.proofs.RedrawnNets.{same_darts, same_tail, rank_differs, corner_alike}
 
 -- ---- what is met first around one node
@@ -344,14 +345,26 @@ mixed_alike n m h p (suc k) l =
     ]
 
 -- they have one excess for each set
-pub excess_alike : (n m : Net) → HaveAlikeFaces n m → (p : ℕ → Bool) → excess m p ≡ excess n p
+excess_alike : (n m : Net) → HaveAlikeFaces n m → (p : ℕ → Bool) → excess m p ≡ excess n p
 excess_alike n m h p =
     let size = ap (λ (a : Signed). length a.edges) h.graph in
     let whole = mixed_alike n m h p (length n.graph.edges) (omega arith) in
     sym (excess_same m (mixed no_edges p (length n.graph.edges)) p (λ e i. mixed_below no_edges p (length n.graph.edges) e (omega arith))) ∙
     whole ∙ excess_same n (mixed no_edges p (length n.graph.edges)) p (λ e i. mixed_below no_edges p (length n.graph.edges) e i)
 
--- nets that are drawn alike have it
+-- nets that have one excess for each set, and keep and set aside the same edges
+pub record AreKeptAlike (n m : Net) : Type 0 where
+  pub excesses : HaveOneExcess n m
+  pub kept : kept_edges m ≡ kept_edges n
+  pub aside : aside_edges m ≡ aside_edges n
+
+pub kept_by_faces : (n m : Net) → HaveAlikeFaces n m → AreKeptAlike n m
+kept_by_faces n m h =
+    let size = ap (λ (g : Signed). length g.edges) h.graph in
+    let same = excess_alike n m h in
+    record { excesses = same; kept = kept_by_excess n m size same; aside = aside_by_excess n m size same }
+
+-- nets that are drawn alike have alike faces
 pub drawn_alike_faces : (n m : Net) → AreDrawnAlike n m → HaveAlikeFaces n m
 drawn_alike_faces n m a = record {
   graph = a.graph;

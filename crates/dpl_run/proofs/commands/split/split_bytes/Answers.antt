@@ -1,19 +1,11 @@
 use Rattle.dpl_layer.specs.Reasons.{FirstOf}
 use Rattle.dpl_core.specs.Refusals.{split_reasons}
 use Rattle.dpl_core.specs.Reports.{IsSplit}
-use Rattle.dpl_run.specs.due.Made.{IsMade}
-use Rattle.dpl_run.specs.due.Made.IsMade.{refused, done}
-use Rattle.dpl_run.proofs.EndLemmas.{refused_worked}
-use Rattle.dpl_run.proofs.MadeLemmas.{free_of}
+use Rattle.dpl_run.proofs.MadeLemmas.{made_worked}
 use Rattle.dpl_run.proofs.commands.split.split_bytes.Goals as goal
 
-pub returns-in-Ok : goal.returns-in-Ok
-returns-in-Ok c = done c.in-Ok.output.items c.in-Ok.ensures.split
-    (free_of (FirstOf (split_reasons c.args.options.now c.args.text.now)) c.split_commands.result c.in-Ok.output c.in-Ok.is
-    c.split_commands.ensures.exact)
-
-pub returns-in-Err : goal.returns-in-Err
-returns-in-Err c =
-    let R = FirstOf (split_reasons c.args.options.now c.args.text.now) in
-    refused_worked (IsMade R (IsSplit c.args.options.now c.args.text.now)) R c.in-Err.error _ _
-    refused (c.split_commands.ensures.refused c.in-Err.error c.in-Err.is) c.refused.ensures.status c.refused.ensures.output
+pub returns : goal.returns
+returns c =
+    let m = c.split_commands-made.ensures in
+    made_worked (FirstOf (split_reasons c.args.options.now c.args.text.now)) (IsSplit c.args.options.now c.args.text.now)
+    c.split_commands-made.result _ _ m.split m.refused m.exact c.reported.ensures.done c.reported.ensures.refused
