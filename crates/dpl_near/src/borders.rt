@@ -47,19 +47,16 @@ pub fn first_border(upright: bool, rect: &Rect, number: u32) -> Border
 pub fn last_border(upright: bool, rect: &Rect, number: u32) -> Border
     ensures { result ≡ last_border upright (corners_of rect.now) number }
 {
+    let first = first_border(upright, rect, number);
     if upright {
         Border {
             line: rect.x2,
-            from: rect.y1,
-            to: rect.y2,
-            number,
+            ..first
         }
     } else {
         Border {
             line: rect.y2,
-            from: rect.x1,
-            to: rect.x2,
-            number,
+            ..first
         }
     }
 }

@@ -6,7 +6,7 @@ use Rattle.std.proofs.Common.{Ordering, Less, Equal, Greater}
 use Rattle.std.specs.Ordering.{int_cmp, is_lt, ordering_then, MatchOrdering}
 use Rattle.std.specs.Cmp.{int_ranks, IsTotalOrder}
 use Rattle.std.proofs.lemmas.Cmp.{int_cmp_total, then_total, on_total}
-use Rattle.std.specs.List.Sorted.{IsPermutation, IsPartitionedBy, IsSortedBy}
+use Rattle.std.specs.List.Sorted.{IsPermutation, IsPartitionedBy, IsPartitionPoint, IsSortedBy}
 use Rattle.std.proofs.lemmas.Bool.{cases_lt}
 use Rattle.std.proofs.lemmas.Int.{ints}
 use Rattle.std.proofs.lemmas.List.{take_all, get_or-take, get_or-drop, length-take, length-drop, drop_more, drop_all}
@@ -142,26 +142,29 @@ some_of : (corners : List Corner) (k : ℕ) → k < length corners → Corner
 some_of [] k l = absurd (omega arith)
 some_of (c ∷ cs) k l = c
 
-pub first_between : (corners : List Corner) (z : ℤ) (from to : ℕ) → from ≤ length corners
-    → to ≤ length corners → ((k : ℕ) (d : Corner) → k < from → (get_or corners k d).y <ℤ z)
-    → ((k : ℕ) (d : Corner) → from ≤ k → k < length corners → z ≤ℤ (get_or corners k d).y)
-    → ((k : ℕ) (d : Corner) → k < to → (get_or corners k d).y ≤ℤ z)
-    → ((k : ℕ) (d : Corner) → to ≤ k → k < length corners → z <ℤ (get_or corners k d).y)
-    → AreBetween corners z from to
-first_between corners z from to h g below at_least up_to above =
+pub first_between : (corners : List Corner) (z : ℤ) (from to : ℕ) → from ≤ length corners → to ≤ length corners
+    → IsPartitionPoint (λ c. c.y <ℤ z) (λ c. z ≤ℤ c.y) corners from
+    → IsPartitionPoint (λ c. c.y ≤ℤ z) (λ c. z <ℤ c.y) corners to → AreBetween corners z from to
+first_between corners z from to h g first past =
     record {
       order = order;
       from_within = h;
       to_within = g;
       below = below;
       on =
-          λ k d i j. equal_z _ z (up_to k d j) (at_least k d i (omega arith));
-      above = above;
+          λ k d i j. equal_z _ z (past.0 k d (omega arith) j) (first.1 k d i (omega arith));
+      above = past.1;
     } where
+      below : (k : ℕ) (d : Corner) → k < from → (get_or corners k d).y <ℤ z
+      below k d i = first.0 k d (omega arith) i
+
       order : from ≤ to
       order = elim (cases_lt to from) [
         | inr i ↦ i
-        | inl i ↦ let l : to < length corners = omega arith in let d = some_of corners to l in absurd (both _ (below to d i) (above to d (omega arith) l))
+        | inl i ↦
+            let l : to < length corners = omega arith in
+            let d = some_of corners to l in
+            absurd (both _ (below to d i) (past.1 to d (omega arith) l))
       ] where
         both : (y : ℤ) → y <ℤ z → z <ℤ y → ⊥
         both y a b = omega signed

@@ -2,8 +2,8 @@
 use Rattle.std.proofs.Common.{arith, ◌≡◌, ◌∙◌, ℕ, suc, ◌+◌, ◌-◌, ◌<◌, ◌≤◌, ℤ, ◌<ℤ◌, ◌≤ℤ◌, List, length, length-append}
 use Rattle.std.proofs.Common.{get_or, take, drop, reverse, All, AllPairs, Any, subst, sym, ap, inl, inr, [], ◌∷◌, ◌++◌}
 use Rattle.std.proofs.Common.{append_assoc, true, int_le, int_lt}
-use Rattle.std.specs.List.{AllZip}
-use Rattle.std.specs.List.Sorted.{IsPartitionedBy}
+use Rattle.std.specs.List.{AllWithin, AllZip}
+use Rattle.std.specs.List.Sorted.{IsPartitionedBy, IsPartitionPoint}
 use Rattle.std.proofs.lemmas.Bool.{cases_lt}
 use Rattle.std.proofs.lemmas.List.{take-append-drop, get_or-take, get_or-drop, get_or-reverse, get_or_default}
 use Rattle.std.proofs.lemmas.List.{get_or_append_left, get_or-append-add, length-take, length-drop, length-reverse}
@@ -49,10 +49,13 @@ parted_right_back xs c up i j d le l e = elim (cases_lt i j) [
   step : (a b : Rect) → IsLeftOf b a → int_lt c b.x1 ≡ true → int_lt c a.x1 ≡ true
   step a b h e = let w = b.wide in let g = is_less c b.x1 e in less_test c a.x1 (omega signed)
 
-pub first_ones : (P : Rect → Type 0) (xs : List Rect) (n : ℕ) → ((k : ℕ) (d : Rect) → k < n → P (get_or xs k d)) → All P (take n xs)
-first_ones P xs n a k d l = let m = length-take n xs in let h : k < n = omega arith in rw (get_or-take n xs k d h) (a k d h)
+pub first_ones : (P : Rect → Type 0) (xs : List Rect) (n : ℕ) → AllWithin P xs 0 n → All P (take n xs)
+first_ones P xs n a k d l =
+    let m = length-take n xs in
+    let h : k < n = omega arith in
+    rw (get_or-take n xs k d h) (a k d (omega arith) h)
 
-pub last_ones : (P : Rect → Type 0) (xs : List Rect) (n : ℕ) → ((k : ℕ) (d : Rect) → n ≤ k → k < length xs → P (get_or xs k d)) → All P (drop n xs)
+pub last_ones : (P : Rect → Type 0) (xs : List Rect) (n : ℕ) → AllWithin P xs n (length xs) → All P (drop n xs)
 last_ones P xs n a k d l = let m = length-drop n xs in rw (get_or-drop n xs k d) (a (n + k) d (omega arith) (omega arith))
 
 -- the order of one of the first list and one of the second
@@ -90,15 +93,13 @@ pub record AreMoves (d1 d2 : ℤ) (left right left1 right1 left2 right2 near rig
   pub some : d1 ≤ℤ d2
   pub is_left1 : left1 ≡ take a left
   pub is_right1 : right1 ≡ right ++ reverse (drop a left)
-  pub ends_left : (k : ℕ) (d : Rect) → k < a → (get_or left k d).x2 <ℤ d1
+  pub not_left : IsPartitionPoint (λ r. r.x2 <ℤ d1) (λ r. d1 ≤ℤ r.x2) left a
   pub is_right2 : right2 ≡ take b right1
   pub is_left2 : left2 ≡ left1 ++ reverse (drop b right1)
-  pub others : (k : ℕ) (d : Rect) → k < b → d1 ≤ℤ (get_or right1 k d).x2
-  pub more_left : (k : ℕ) (d : Rect) → b ≤ k → k < length right1 → (get_or right1 k d).x2 <ℤ d1
+  pub more_left : IsPartitionPoint (λ r. d1 ≤ℤ r.x2) (λ r. r.x2 <ℤ d1) right1 b
   pub is_right3 : right3 ≡ take c right2
   pub is_near : near ≡ reverse (drop c right2)
-  pub begins_right : (k : ℕ) (d : Rect) → k < c → d2 <ℤ (get_or right2 k d).x1
-  pub not_right : (k : ℕ) (d : Rect) → c ≤ k → k < length right2 → (get_or right2 k d).x1 ≤ℤ d2
+  pub not_right : IsPartitionPoint (λ r. d2 <ℤ r.x1) (λ r. r.x1 ≤ℤ d2) right2 c
 
 pub moved : (d1 d2 : ℤ) (left right left1 right1 left2 right2 near right3 : List Rect) (a b c : ℕ)
     → AreMoves d1 d2 left right left1 right1 left2 right2 near right3 a b c
@@ -109,12 +110,13 @@ moved d1 d2 left right left1 right1 left2 right2 near right3 a b c m = record {
       sym (to_left left1 right1 left2 right2 b m.is_right2 m.is_left2) ∙
       ap (λ xs. left2 ++ xs) (sym (to_left [] right2 near right3 c m.is_right3 m.is_near));
   left = rw (m.is_left2, m.is_left1) (All-append (λ r. r.x2 <ℤ d1) (take a left) (reverse (drop b right1))
-      (first_ones (λ r. r.x2 <ℤ d1) left a m.ends_left)
-      (all_reverse (λ r. r.x2 <ℤ d1) (drop b right1) (last_ones (λ r. r.x2 <ℤ d1) right1 b m.more_left)));
+      (first_ones (λ r. r.x2 <ℤ d1) left a m.not_left.0)
+      (all_reverse (λ r. r.x2 <ℤ d1) (drop b right1) (last_ones (λ r. r.x2 <ℤ d1) right1 b m.more_left.1)));
   not_left = rw m.is_near (all_reverse (λ r. d1 ≤ℤ r.x2) (drop c right2)
-      (All-drop (λ r. d1 ≤ℤ r.x2) c right2 (rw m.is_right2 (first_ones (λ r. d1 ≤ℤ r.x2) right1 b m.others))));
-  not_right = rw m.is_near (all_reverse (λ r. r.x1 ≤ℤ d2) (drop c right2) (last_ones (λ r. r.x1 ≤ℤ d2) right2 c m.not_right));
-  right = all_reverse (λ r. d2 <ℤ r.x1) right3 (rw m.is_right3 (first_ones (λ r. d2 <ℤ r.x1) right2 c m.begins_right));
+      (All-drop (λ r. d1 ≤ℤ r.x2) c right2 (rw m.is_right2 (first_ones (λ r. d1 ≤ℤ r.x2) right1 b m.more_left.0))));
+  not_right = rw m.is_near (all_reverse (λ r. r.x1 ≤ℤ d2) (drop c right2)
+      (last_ones (λ r. r.x1 ≤ℤ d2) right2 c m.not_right.1));
+  right = all_reverse (λ r. d2 <ℤ r.x1) right3 (rw m.is_right3 (first_ones (λ r. d2 <ℤ r.x1) right2 c m.not_right.0));
 }
 
 -- the last one from the right begins before all others
@@ -130,10 +132,9 @@ last_begins xs r c up e h k d l = elim (cases_lt k (length xs - 1)) [
 -- the columns reach further to the right, and so do the stacks near them
 pub parted_wider : (held before near right near' right' : List Rect) (d1 d2 c : ℤ) (n : ℕ)
     → IsParted held d1 d2 before near right → d2 ≤ℤ c → right' ≡ take n right
-    → near' ≡ near ++ reverse (drop n right) → ((k : ℕ) (d : Rect) → k < n → c <ℤ (get_or right k d).x1)
-    → ((k : ℕ) (d : Rect) → n ≤ k → k < length right → (get_or right k d).x1 ≤ℤ c)
+    → near' ≡ near ++ reverse (drop n right) → IsPartitionPoint (λ r. c <ℤ r.x1) (λ r. r.x1 ≤ℤ c) right n
     → IsParted held d1 c before near' right'
-parted_wider held before near right near' right' d1 d2 c n p h e f far close = record {
+parted_wider held before near right near' right' d1 d2 c n p h e f place = record {
   some = let g = p.some in omega signed;
   whole = p.whole ∙ ap (λ xs. before ++ xs) (sym (to_left near right near' right' n e f));
   left = p.left;
@@ -141,8 +142,8 @@ parted_wider held before near right near' right' d1 d2 c n p h e f far close = r
       (all_reverse (λ r. d1 ≤ℤ r.x2) (drop n right) (All-drop (λ r. d1 ≤ℤ r.x2) n right
       (λ k d l. past (get_or right k d) (from_back k d l)))));
   not_right = rw f (All-append (λ r. r.x1 ≤ℤ c) near (reverse (drop n right)) (λ k d l. chain _ (p.not_right k d l))
-      (all_reverse (λ r. r.x1 ≤ℤ c) (drop n right) (last_ones (λ r. r.x1 ≤ℤ c) right n close)));
-  right = all_reverse (λ r. c <ℤ r.x1) right' (rw e (first_ones (λ r. c <ℤ r.x1) right n far));
+      (all_reverse (λ r. r.x1 ≤ℤ c) (drop n right) (last_ones (λ r. r.x1 ≤ℤ c) right n place.1)));
+  right = all_reverse (λ r. c <ℤ r.x1) right' (rw e (first_ones (λ r. c <ℤ r.x1) right n place.0));
 } where
   from_back : All (λ r. d2 <ℤ r.x1) right
   from_back = rw (reverse-reverse right) at (all_reverse (λ r. d2 <ℤ r.x1) (reverse right) p.right)

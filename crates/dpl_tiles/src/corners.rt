@@ -1,5 +1,6 @@
 // The corners of primitives row by row from the left, each with the columns of a side that ends there.
-ghost use Rattle.std.specs.Prelude.{◌≡◌, ℤ, ◌≤ℤ◌, ◌<ℤ◌, ℕ, ◌<◌, ◌≤◌, length, slice_index_or, All, AllPairs, IfOk, OnOk, ◌∷◌};
+ghost use Rattle.std.specs.Prelude.{◌≡◌, ◌≤ℤ◌, ◌<ℤ◌, ◌≤◌, length, All, AllPairs, IfOk, OnOk, ◌∷◌};
+ghost use Rattle.std.specs.List.Sorted.{IsPartitionPoint};
 ghost use Rattle.dpl_cell.specs.declared.layout.Primitive.TheVariants as prim;
 ghost use Rattle.dpl_list.specs.Order.{Ascends};
 ghost use Rattle.dpl_tiles.specs.Corners.{AddsCorners, AddsSide, AreBetween, AreCorners, AreCornersAt, ComesBefore, HasCornersOf, IsCornerOf, SpansSide};
@@ -131,9 +132,7 @@ fn places_at(corners: &[Corner], y: i64) -> Places
 fn first_from(corners: &[Corner], y: i64) -> usize
     requires { Ascends (λ c. c.y) corners.now }
     ensures within { result ≤ length corners.now }
-    ensures below { (k : ℕ) (d : Corner) → k < result → (slice_index_or corners.now k d).y <ℤ y }
-    ensures others { (k : ℕ) (d : Corner) → result ≤ k → k < length corners.now →
-        y ≤ℤ (slice_index_or corners.now k d).y }
+    ensures place { IsPartitionPoint (λ c. c.y <ℤ y) (λ c. y ≤ℤ c.y) corners.now result }
 {
     corners.partition_point(|c| c.y < y)
 }
@@ -142,9 +141,7 @@ fn first_from(corners: &[Corner], y: i64) -> usize
 fn first_past(corners: &[Corner], y: i64) -> usize
     requires { Ascends (λ c. c.y) corners.now }
     ensures within { result ≤ length corners.now }
-    ensures others { (k : ℕ) (d : Corner) → k < result → (slice_index_or corners.now k d).y ≤ℤ y }
-    ensures above { (k : ℕ) (d : Corner) → result ≤ k → k < length corners.now →
-        y <ℤ (slice_index_or corners.now k d).y }
+    ensures place { IsPartitionPoint (λ c. c.y ≤ℤ y) (λ c. y <ℤ c.y) corners.now result }
 {
     corners.partition_point(|c| c.y <= y)
 }

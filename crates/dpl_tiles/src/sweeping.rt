@@ -1,8 +1,8 @@
 // A sweep that touches only the stacks near the columns that change.
-ghost use Rattle.std.specs.Prelude.{◌≡◌, ◌⊎◌, true, ℕ, ℤ, ◌-ℤ◌, ◌<ℤ◌, ◌≤ℤ◌, ◌<◌, ◌≤◌, ◌++◌, pos, length, slice_index_or, All, AllPairs, Any, IfOk, IfSome, OnOk, filter, take, drop, reverse, []};
+ghost use Rattle.std.specs.Prelude.{◌≡◌, ◌⊎◌, true, ℤ, ◌-ℤ◌, ◌<ℤ◌, ◌≤ℤ◌, ◌<◌, ◌≤◌, ◌++◌, pos, length, All, AllPairs, Any, IfOk, IfSome, OnOk, filter, take, drop, reverse, []};
 ghost use Rattle.std.specs.List.{AllZip};
+ghost use Rattle.std.specs.List.Sorted.{IsPartitionPoint};
 ghost use Rattle.dpl_limits.specs.Limits.{most_coordinate};
-ghost use Rattle.dpl_cell.specs.declared.rect.Rect.{Rect};
 ghost use Rattle.dpl_cell.specs.Tiles.{IsRun};
 ghost use Rattle.dpl_tiles.specs.Bands.{IsBand, IsLeftOf, IsOver, cells_in};
 ghost use Rattle.dpl_tiles.specs.Stretches.{IsFramed};
@@ -130,9 +130,7 @@ fn all_continued(alloc: Global, near: &[Rect], runs: &[Rect]) -> Result<Vec<Rect
 fn first_not_left(held: &[Rect], column: i64) -> usize
     requires { AllPairs IsLeftOf held.now }
     ensures within { result ≤ length held.now }
-    ensures left { (k : ℕ) (d : Rect) → k < result → (slice_index_or held.now k d).x2 <ℤ column }
-    ensures others { (k : ℕ) (d : Rect) → result ≤ k → k < length held.now →
-        column ≤ℤ (slice_index_or held.now k d).x2 }
+    ensures place { IsPartitionPoint (λ r. r.x2 <ℤ column) (λ r. column ≤ℤ r.x2) held.now result }
 {
     held.partition_point(|r| r.x2 < column)
 }
@@ -141,10 +139,7 @@ fn first_not_left(held: &[Rect], column: i64) -> usize
 fn first_left(stacks: &[Rect], column: i64) -> usize
     requires { AllPairs IsLeftOf (reverse stacks.now) }
     ensures within { result ≤ length stacks.now }
-    ensures others { (k : ℕ) (d : Rect) → k < result →
-        column ≤ℤ (slice_index_or stacks.now k d).x2 }
-    ensures left { (k : ℕ) (d : Rect) → result ≤ k → k < length stacks.now →
-        (slice_index_or stacks.now k d).x2 <ℤ column }
+    ensures place { IsPartitionPoint (λ r. column ≤ℤ r.x2) (λ r. r.x2 <ℤ column) stacks.now result }
 {
     stacks.partition_point(|r| column <= r.x2)
 }
@@ -153,10 +148,7 @@ fn first_left(stacks: &[Rect], column: i64) -> usize
 pub fn first_not_right(stacks: &[Rect], column: i64) -> usize
     requires { AllPairs IsLeftOf (reverse stacks.now) }
     ensures within { result ≤ length stacks.now }
-    ensures right { (k : ℕ) (d : Rect) → k < result →
-        column <ℤ (slice_index_or stacks.now k d).x1 }
-    ensures others { (k : ℕ) (d : Rect) → result ≤ k → k < length stacks.now →
-        (slice_index_or stacks.now k d).x1 ≤ℤ column }
+    ensures place { IsPartitionPoint (λ r. column <ℤ r.x1) (λ r. r.x1 ≤ℤ column) stacks.now result }
 {
     stacks.partition_point(|r| column < r.x1)
 }

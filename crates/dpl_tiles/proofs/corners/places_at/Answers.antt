@@ -7,5 +7,4 @@ pub returns : goal.returns
 returns c =
     let f : SFits w64 c.args.y = c.ranges.y in
     first_between c.args.corners.now c.args.y _ _ c.first_from-from.ensures.within c.first_past-to.ensures.within
-    (simp to_z-of_z at c.first_from-from.ensures.below) (simp to_z-of_z at c.first_from-from.ensures.others)
-    (simp to_z-of_z at c.first_past-to.ensures.others) (simp to_z-of_z at c.first_past-to.ensures.above)
+    (simp to_z-of_z at c.first_from-from.ensures.place) (simp to_z-of_z at c.first_past-to.ensures.place)

@@ -7,5 +7,4 @@ pub returns : goal.returns
 returns c = λ held before d1 d2 p h.
     let f : SFits w64 c.args.column = c.ranges.column in
     parted_wider held before _ _ _ _ d1 d2 c.args.column _ p h c.in_ok-move_back.ensures.from c.in_ok-move_back.ensures.to
-    (λ k d i. rw c.as_slice.ensures.value at (simp to_z-of_z at (c.first_not_right-count.ensures.right k d i)))
-    (λ k d i l. rw c.as_slice.ensures.value at (simp to_z-of_z at (c.first_not_right-count.ensures.others k d i (rw c.as_slice.ensures.value l))))
+    (rw c.as_slice.ensures.value at (simp to_z-of_z at c.first_not_right-count.ensures.place))

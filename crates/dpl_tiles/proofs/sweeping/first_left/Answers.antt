@@ -1,20 +1,12 @@
-use Rattle.std.proofs.Common.{arith, rules, int_le, SFits, w64}
+use Rattle.std.proofs.Common.{rules, int_le, SFits, w64}
 use Rattle.std.proofs.lemmas.List.Sorted.{IsPartitionPoint-from_clause}
+use Rattle.dpl_list.proofs.Integers.{is_at_most, not_at_most}
 use Rattle.dpl_tiles.proofs.PlaceLemmas.{parted_left_back}
-use Rattle.dpl_list.proofs.Integers.{not_at_most}
 use Rattle.dpl_tiles.proofs.sweeping.first_left.Goals as goal
-use Rattle.dpl_list.proofs.Integers.{is_at_most}
 
-pub returns-clause-others : goal.returns-clause-others
-returns-clause-others c =
+pub returns-clause-place : goal.returns-clause-place
+returns-clause-place c =
     let f : SFits w64 c.args.column = c.ranges.column in
     let point = IsPartitionPoint-from_clause (λ r. int_le c.args.column r.x2) _ _ c.partition_point.ensures.partitioned
     (parted_left_back _ c.args.column c.requires) (λ a r q k. search rules) in
-    λ k d h. let w = c.partition_point.ensures.bound in is_at_most _ _ (point.0 k d (omega arith) h)
-
-pub returns-clause-left : goal.returns-clause-left
-returns-clause-left c =
-    let f : SFits w64 c.args.column = c.ranges.column in
-    let point = IsPartitionPoint-from_clause (λ r. int_le c.args.column r.x2) _ _ c.partition_point.ensures.partitioned
-    (parted_left_back _ c.args.column c.requires) (λ a r q k. search rules) in
-    λ k d h l. not_at_most _ _ (point.1 k d h l)
+    (λ k d l h. is_at_most _ _ (point.0 k d l h), λ k d h l. not_at_most _ _ (point.1 k d h l))

@@ -1,19 +1,12 @@
-use Rattle.std.proofs.Common.{arith, rules, int_lt, SFits, w64}
+use Rattle.std.proofs.Common.{rules, int_lt, SFits, w64}
 use Rattle.std.proofs.lemmas.List.Sorted.{IsPartitionPoint-from_clause}
+use Rattle.dpl_list.proofs.Integers.{is_less, not_less}
 use Rattle.dpl_tiles.proofs.PlaceLemmas.{parted_right_back}
 use Rattle.dpl_tiles.proofs.sweeping.first_not_right.Goals as goal
-use Rattle.dpl_list.proofs.Integers.{is_less, not_less}
 
-pub returns-clause-right : goal.returns-clause-right
-returns-clause-right c =
+pub returns-clause-place : goal.returns-clause-place
+returns-clause-place c =
     let f : SFits w64 c.args.column = c.ranges.column in
     let point = IsPartitionPoint-from_clause (λ r. int_lt c.args.column r.x1) _ _ c.partition_point.ensures.partitioned
     (parted_right_back _ c.args.column c.requires) (λ a r q k. search rules) in
-    λ k d h. let w = c.partition_point.ensures.bound in is_less _ _ (point.0 k d (omega arith) h)
-
-pub returns-clause-others : goal.returns-clause-others
-returns-clause-others c =
-    let f : SFits w64 c.args.column = c.ranges.column in
-    let point = IsPartitionPoint-from_clause (λ r. int_lt c.args.column r.x1) _ _ c.partition_point.ensures.partitioned
-    (parted_right_back _ c.args.column c.requires) (λ a r q k. search rules) in
-    λ k d h l. not_less _ _ (point.1 k d h l)
+    (λ k d l h. is_less _ _ (point.0 k d l h), λ k d h l. not_less _ _ (point.1 k d h l))

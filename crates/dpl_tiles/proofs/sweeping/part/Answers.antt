@@ -35,14 +35,11 @@ returns c =
       some = c.requires.some;
       is_left1 = c.in_ok-move_back.ensures.from;
       is_right1 = c.in_ok-move_back.ensures.to;
-      ends_left = λ k d h. rw c.as_slice.ensures.value at (simp to_z-of_z at (c.first_not_left-from.ensures.left k d h));
+      not_left = rw c.as_slice.ensures.value at (simp to_z-of_z at c.first_not_left-from.ensures.place);
       is_right2 = c.in_ok-move_back-2.ensures.from;
       is_left2 = c.in_ok-move_back-2.ensures.to;
-      others = λ k d h. rw c.as_slice-2.ensures.value at (simp to_z-of_z at (c.first_left-count.ensures.others k d h));
-      more_left = λ k d h l. rw c.as_slice-2.ensures.value at (simp to_z-of_z at (c.first_left-count.ensures.left k d h (rw c.as_slice-2.ensures.value l)));
+      more_left = rw c.as_slice-2.ensures.value at (simp to_z-of_z at c.first_left-count.ensures.place);
       is_right3 = c.in_ok-move_back-3.ensures.from;
       is_near = rw c.new-near.ensures.items at c.in_ok-move_back-3.ensures.to;
-      begins_right = λ k d h. rw c.as_slice-3.ensures.value at (simp to_z-of_z at (c.first_not_right-count.ensures.right k d h));
-      not_right = λ k d h l. rw c.as_slice-3.ensures.value at
-          (simp to_z-of_z at (c.first_not_right-count.ensures.others k d h (rw c.as_slice-3.ensures.value l)));
+      not_right = rw c.as_slice-3.ensures.value at (simp to_z-of_z at c.first_not_right-count.ensures.place);
     })

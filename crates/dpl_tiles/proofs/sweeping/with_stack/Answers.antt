@@ -1,31 +1,15 @@
-use Rattle.std.proofs.Common.{rules, SFits, w64}
-use Rattle.std.proofs.lemmas.Int.{to_z-of_z}
+use Rattle.std.proofs.Common.{arith}
+use Rattle.std.proofs.lemmas.Int.{ints, to_z-of_z}
 use Rattle.dpl_tiles.proofs.sweeping.with_stack.Goals as goal
 
 pub returns-clause-left : goal.returns-clause-left
-returns-clause-left c =
-    let f1 : SFits w64 c.args.columns.now.left = search rules in
-    let f3 : SFits w64 c.args.r.now.x1 = search rules in
-    let g1 : SFits w64 c.lesser-left.result = search rules in
-    simp to_z-of_z (simp to_z-of_z at c.lesser-left.ensures.first)
+returns-clause-left c = search (arith, ints, to_z-of_z, c.lesser-left.ensures)
 
 pub returns-clause-own_left : goal.returns-clause-own_left
-returns-clause-own_left c =
-    let f1 : SFits w64 c.args.columns.now.left = search rules in
-    let f3 : SFits w64 c.args.r.now.x1 = search rules in
-    let g1 : SFits w64 c.lesser-left.result = search rules in
-    simp to_z-of_z (simp to_z-of_z at c.lesser-left.ensures.second)
+returns-clause-own_left c = search (arith, ints, to_z-of_z, c.lesser-left.ensures)
 
 pub returns-clause-right : goal.returns-clause-right
-returns-clause-right c =
-    let f2 : SFits w64 c.args.columns.now.right = search rules in
-    let f4 : SFits w64 c.args.r.now.x2 = search rules in
-    let g2 : SFits w64 c.greater-right.result = search rules in
-    simp to_z-of_z (simp to_z-of_z at c.greater-right.ensures.first)
+returns-clause-right c = search (arith, ints, to_z-of_z, c.greater-right.ensures)
 
 pub returns-clause-own_right : goal.returns-clause-own_right
-returns-clause-own_right c =
-    let f2 : SFits w64 c.args.columns.now.right = search rules in
-    let f4 : SFits w64 c.args.r.now.x2 = search rules in
-    let g2 : SFits w64 c.greater-right.result = search rules in
-    simp to_z-of_z (simp to_z-of_z at c.greater-right.ensures.second)
+returns-clause-own_right c = search (arith, ints, to_z-of_z, c.greater-right.ensures)
