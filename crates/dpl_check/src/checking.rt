@@ -1,7 +1,7 @@
 // A report text against the text of a layout.
 ghost use Rattle.std.specs.Prelude.{◌≡◌, ◌⊎◌, ◌≤◌, ℕ, length, IfOk, IfErr, Ok, Err};
 ghost use Rattle.dpl_limits.specs.declared.TheConstants.{MOST_LAYOUT_BYTES, MOST_REPORT_BYTES};
-ghost use Rattle.dpl_layer.specs.Reasons.{FirstOf};
+ghost use Rattle.dpl_layer.specs.Reasons.{FirstOf, RefusesOnly, RefusesWhere};
 ghost use Rattle.dpl_layer.specs.Refusals.{layer_reasons};
 ghost use Rattle.dpl_check.specs.Checked.{IsAcceptedOf, IsVerdictOf};
 
@@ -22,10 +22,8 @@ pub fn check(
     requires text { length text.now ≤ MOST_LAYOUT_BYTES }
     requires report { length report.now ≤ MOST_REPORT_BYTES }
     ensures verdict { IfOk result (λ v. IsVerdictOf options.now text.now report.now v) }
-    ensures refused { (e : LayerError) → result ≡ Err e →
-        (e ≡ LayerError.NoMemory) ⊎ FirstOf (layer_reasons options.now text.now) e }
-    ensures exact { (e : LayerError) → FirstOf (layer_reasons options.now text.now) e →
-        (result ≡ Err e) ⊎ (result ≡ Err LayerError.NoMemory) }
+    ensures refused { RefusesOnly (FirstOf (layer_reasons options.now text.now)) result }
+    ensures exact { RefusesWhere (FirstOf (layer_reasons options.now text.now)) result }
     // A good report is accepted, unless memory runs out, and no other is.
     ensures once { (v : Verdict) → IsVerdictOf options.now text.now report.now v →
         (result ≡ Ok v) ⊎ (result ≡ Err LayerError.NoMemory) }

@@ -1,11 +1,11 @@
 // From a text to its report.
-ghost use Rattle.std.specs.Prelude.{◌≡◌, ◌⊎◌, ◌≤◌, length, IfOk, Err};
+ghost use Rattle.std.specs.Prelude.{◌≡◌, ◌≤◌, length, IfOk};
 ghost use Rattle.dpl_limits.specs.declared.TheConstants.{MOST_LAYOUT_BYTES};
 ghost use Rattle.dpl_lex.specs.Cutting.{commands_of};
 ghost use Rattle.dpl_layer.specs.Layers.{IsLayerOfText};
 ghost use Rattle.dpl_report.specs.Plain.{plain_report};
 ghost use Rattle.dpl_core.specs.Reports.{IsReportOf, IsReportOfNet, IsSplit};
-ghost use Rattle.dpl_layer.specs.Reasons.{FirstOf};
+ghost use Rattle.dpl_layer.specs.Reasons.{FirstOf, RefusesOnly, RefusesWhere};
 ghost use Rattle.dpl_core.specs.Refusals.{split_reasons};
 
 use crate::solving::report_of_layer;
@@ -20,10 +20,8 @@ use std::alloc::Global;
 pub fn make(alloc: Global, text: &[u8], options: &Options) -> Result<Report, LayerError>
     requires { length text.now ≤ MOST_LAYOUT_BYTES }
     ensures made { IfOk result (λ r. IsReportOf options.now text.now (plain_report r)) }
-    ensures refused { (e : LayerError) → result ≡ Err e →
-        (e ≡ LayerError.NoMemory) ⊎ FirstOf (split_reasons options.now text.now) e }
-    ensures exact { (e : LayerError) → FirstOf (split_reasons options.now text.now) e →
-        (result ≡ Err e) ⊎ (result ≡ Err LayerError.NoMemory) }
+    ensures refused { RefusesOnly (FirstOf (split_reasons options.now text.now)) result }
+    ensures exact { RefusesWhere (FirstOf (split_reasons options.now text.now)) result }
 {
     let Ok(commands) = commands(alloc, text) else {
         return Err(LayerError::NoMemory);
@@ -36,10 +34,8 @@ pub fn make(alloc: Global, text: &[u8], options: &Options) -> Result<Report, Lay
 pub fn split(alloc: Global, text: &[u8], options: &Options) -> Result<Vec<u8>, LayerError>
     requires { length text.now ≤ MOST_LAYOUT_BYTES }
     ensures split { IfOk result (λ v. IsSplit options.now text.now v.items) }
-    ensures refused { (e : LayerError) → result ≡ Err e →
-        (e ≡ LayerError.NoMemory) ⊎ FirstOf (split_reasons options.now text.now) e }
-    ensures exact { (e : LayerError) → FirstOf (split_reasons options.now text.now) e →
-        (result ≡ Err e) ⊎ (result ≡ Err LayerError.NoMemory) }
+    ensures refused { RefusesOnly (FirstOf (split_reasons options.now text.now)) result }
+    ensures exact { RefusesWhere (FirstOf (split_reasons options.now text.now)) result }
 {
     let Ok(commands) = commands(alloc, text) else {
         return Err(LayerError::NoMemory);
@@ -57,10 +53,8 @@ pub fn split_commands(
     requires short { length text.now ≤ MOST_LAYOUT_BYTES }
     requires commands { commands.now ≡ commands_of text.now }
     ensures split { IfOk result (λ v. IsSplit options.now text.now v.items) }
-    ensures refused { (e : LayerError) → result ≡ Err e →
-        (e ≡ LayerError.NoMemory) ⊎ FirstOf (split_reasons options.now text.now) e }
-    ensures exact { (e : LayerError) → FirstOf (split_reasons options.now text.now) e →
-        (result ≡ Err e) ⊎ (result ≡ Err LayerError.NoMemory) }
+    ensures refused { RefusesOnly (FirstOf (split_reasons options.now text.now)) result }
+    ensures exact { RefusesWhere (FirstOf (split_reasons options.now text.now)) result }
 {
     let Made { report, .. } = make_commands(alloc, text, commands, options)?;
     let written = print(alloc, &report)?;
@@ -88,10 +82,8 @@ pub fn make_commands(
     ensures report { IfOk result (λ m.
         IsReportOfNet options.now m.layer.fragments m.layer.net (plain_report m.report)) }
     ensures made { IfOk result (λ m. IsReportOf options.now text.now (plain_report m.report)) }
-    ensures refused { (e : LayerError) → result ≡ Err e →
-        (e ≡ LayerError.NoMemory) ⊎ FirstOf (split_reasons options.now text.now) e }
-    ensures exact { (e : LayerError) → FirstOf (split_reasons options.now text.now) e →
-        (result ≡ Err e) ⊎ (result ≡ Err LayerError.NoMemory) }
+    ensures refused { RefusesOnly (FirstOf (split_reasons options.now text.now)) result }
+    ensures exact { RefusesWhere (FirstOf (split_reasons options.now text.now)) result }
 {
     let layer = layer_of_commands(alloc, text, commands, options)?;
     let report = report_of_layer(alloc, options, &layer)?;

@@ -1,12 +1,12 @@
 // What a text draws on two layers: the chosen one, and one where nothing is cut.
-ghost use Rattle.std.specs.Prelude.{◌≡◌, ◌⊎◌, ◌≤◌, length, map, IfOk, IfErr, Err};
+ghost use Rattle.std.specs.Prelude.{◌≡◌, ◌≤◌, length, map, IfOk, IfErr};
 ghost use Rattle.dpl_limits.specs.declared.TheConstants.{MOST_LAYOUT_BYTES};
 ghost use Rattle.dpl_lex.specs.Cutting.{commands_of};
 ghost use Rattle.dpl_cell.specs.Outlines.{outline_of};
 ghost use Rattle.dpl_cif.specs.Gives.{Gives, Refuses};
 ghost use Rattle.dpl_cif.specs.Reading.{reading};
 ghost use Rattle.dpl_cif.specs.Reading.Reading.{Good};
-ghost use Rattle.dpl_layer.specs.Reasons.{FirstOf};
+ghost use Rattle.dpl_layer.specs.Reasons.{FirstOf, RefusesOnly, RefusesWhere};
 ghost use Rattle.dpl_layer.specs.Drawings.{drawing_reasons, IsDrawingOf};
 ghost use Rattle.dpl_layer.specs.Steps.{keep_reading, joined};
 
@@ -39,10 +39,8 @@ pub fn read_drawing(
     requires short { length text.now ≤ MOST_LAYOUT_BYTES }
     requires commands { commands.now ≡ commands_of text.now }
     ensures drawing { IfOk result (λ d. IsDrawingOf options.now text.now d) }
-    ensures refused { (e : LayerError) → result ≡ Err e →
-        (e ≡ LayerError.NoMemory) ⊎ FirstOf (drawing_reasons options.now text.now) e }
-    ensures exact { (e : LayerError) → FirstOf (drawing_reasons options.now text.now) e →
-        (result ≡ Err e) ⊎ (result ≡ Err LayerError.NoMemory) }
+    ensures refused { RefusesOnly (FirstOf (drawing_reasons options.now text.now)) result }
+    ensures exact { RefusesWhere (FirstOf (drawing_reasons options.now text.now)) result }
 {
     let drawing = read_both(alloc, text, commands, options.layer(), options.keep())?;
     Ok(drawing)

@@ -1,12 +1,12 @@
 // From a drawing to the fragments and the net of its chosen layer.
-ghost use Rattle.std.specs.Prelude.{◌≡◌, ◌⊎◌, ◌≤◌, ◌*◌, length, map, IfOk, IfErr, Err};
+ghost use Rattle.std.specs.Prelude.{◌≡◌, ◌⊎◌, ◌≤◌, ◌*◌, length, map, IfOk, IfErr};
 ghost use Rattle.dpl_limits.specs.declared.TheConstants.{MOST_FRAGMENTS, MOST_TILES};
 ghost use Rattle.dpl_cell.specs.Places.{corners_of};
 ghost use Rattle.dpl_cell.specs.Layers.{cells_of};
 ghost use Rattle.dpl_cell.specs.Tiles.{AreTiles};
 ghost use Rattle.dpl_cuts.specs.Fragments.{CameFromCut};
 ghost use Rattle.dpl_layer.specs.Layers.{AreFragmentsOf, IsCutLayer};
-ghost use Rattle.dpl_layer.specs.Reasons.{FirstOf};
+ghost use Rattle.dpl_layer.specs.Reasons.{FirstOf, RefusesOnly, RefusesWhere};
 ghost use Rattle.dpl_layer.specs.Refusals.{cells_reasons};
 
 use crate::drawing::Drawing;
@@ -34,13 +34,10 @@ pub struct Layer {
 pub fn layer_of(alloc: Global, drawing: &Drawing, options: &Options) -> Result<Layer, LayerError>
     ensures layer { IfOk result (λ l. IsCutLayer options.now (cells_of drawing.now.layer)
         (cells_of drawing.now.keep) l.fragments l.net) }
-    ensures refused { (e : LayerError) → result ≡ Err e → (e ≡ LayerError.NoMemory) ⊎
-        FirstOf (cells_reasons options.now (cells_of drawing.now.layer)
-        (cells_of drawing.now.keep)) e }
-    ensures exact { (e : LayerError) →
-        FirstOf (cells_reasons options.now (cells_of drawing.now.layer)
-        (cells_of drawing.now.keep)) e →
-        (result ≡ Err e) ⊎ (result ≡ Err LayerError.NoMemory) }
+    ensures refused { RefusesOnly (FirstOf (cells_reasons options.now
+        (cells_of drawing.now.layer) (cells_of drawing.now.keep))) result }
+    ensures exact { RefusesWhere (FirstOf (cells_reasons options.now
+        (cells_of drawing.now.layer) (cells_of drawing.now.keep))) result }
 {
     link_drawing(alloc, drawing, options)
 }

@@ -1,9 +1,9 @@
 // From a text to a layer.
-ghost use Rattle.std.specs.Prelude.{◌≡◌, ◌⊎◌, ◌≤◌, length, IfOk, Err};
+ghost use Rattle.std.specs.Prelude.{◌≡◌, ◌≤◌, length, IfOk};
 ghost use Rattle.dpl_limits.specs.declared.TheConstants.{MOST_LAYOUT_BYTES};
 ghost use Rattle.dpl_lex.specs.Cutting.{commands_of};
 ghost use Rattle.dpl_layer.specs.Layers.{IsLayerOfText};
-ghost use Rattle.dpl_layer.specs.Reasons.{FirstOf};
+ghost use Rattle.dpl_layer.specs.Reasons.{FirstOf, RefusesOnly, RefusesWhere};
 ghost use Rattle.dpl_layer.specs.Refusals.{layer_reasons};
 
 use crate::drawing::read_drawing;
@@ -20,10 +20,8 @@ use std::alloc::Global;
 pub fn read_layer(alloc: Global, text: &[u8], options: &Options) -> Result<Layer, LayerError>
     requires { length text.now ≤ MOST_LAYOUT_BYTES }
     ensures layer { IfOk result (λ l. IsLayerOfText options.now text.now l.fragments l.net) }
-    ensures refused { (e : LayerError) → result ≡ Err e →
-        (e ≡ LayerError.NoMemory) ⊎ FirstOf (layer_reasons options.now text.now) e }
-    ensures exact { (e : LayerError) → FirstOf (layer_reasons options.now text.now) e →
-        (result ≡ Err e) ⊎ (result ≡ Err LayerError.NoMemory) }
+    ensures refused { RefusesOnly (FirstOf (layer_reasons options.now text.now)) result }
+    ensures exact { RefusesWhere (FirstOf (layer_reasons options.now text.now)) result }
 {
     let Ok(commands) = commands(alloc, text) else {
         return Err(LayerError::NoMemory);
@@ -41,10 +39,8 @@ pub fn layer_of_commands(
     requires short { length text.now ≤ MOST_LAYOUT_BYTES }
     requires commands { commands.now ≡ commands_of text.now }
     ensures layer { IfOk result (λ l. IsLayerOfText options.now text.now l.fragments l.net) }
-    ensures refused { (e : LayerError) → result ≡ Err e →
-        (e ≡ LayerError.NoMemory) ⊎ FirstOf (layer_reasons options.now text.now) e }
-    ensures exact { (e : LayerError) → FirstOf (layer_reasons options.now text.now) e →
-        (result ≡ Err e) ⊎ (result ≡ Err LayerError.NoMemory) }
+    ensures refused { RefusesOnly (FirstOf (layer_reasons options.now text.now)) result }
+    ensures exact { RefusesWhere (FirstOf (layer_reasons options.now text.now)) result }
 {
     let drawing = read_drawing(alloc, text, commands, options)?;
     let layer = layer_of(alloc, &drawing, options)?;
