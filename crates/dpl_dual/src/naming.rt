@@ -8,6 +8,7 @@ ghost use Rattle.dpl_dual.specs.Parities.{AreNamed};
 
 use crate::crosses::Cross;
 use crate::measuring::measure;
+use crate::types::Distances;
 use dpl_list::Grouped;
 use std::alloc::{AllocError, Global};
 
@@ -36,9 +37,10 @@ fn name_all(
     requires blank { (f : ℕ) → f < faces → slice_index names.old f ≡ faces }
     ensures { OnOk result (AreNamed ways.now faces faces names.new) }
 {
+    let mut reach = Distances::new(alloc);
     for start in 0..faces {
         if names[start as usize] == faces {
-            let reach = measure(alloc, ways, rows, faces, start, u64::MAX)?;
+            measure(ways, rows, faces, start, u64::MAX, &mut reach)?;
             name(names, reach.reached(), start);
         }
     }

@@ -9,6 +9,9 @@ use std::alloc::{AllocError, Global};
 use std::collections::VecDeque;
 use std::marker::Model;
 
+/// Stands where a queue is for ways of no length yet.
+const NO_WAY: u64 = 18446744073709551615;
+
 /// The labels that came over ways of one length, in their order. Contracts see the list of them.
 #[derive(Drop)]
 struct Lane {
@@ -25,18 +28,31 @@ impl Model for Lane {
 }
 
 impl Lane {
-    fn new(alloc: Global, way: u64) -> Lane
+    fn new(alloc: Global) -> Lane
         ensures { result ≡ [] }
     {
         Lane {
-            way,
+            way: NO_WAY,
             labels: VecDeque::new(alloc),
         }
     }
 
-    fn push(&mut self, label: (u64, u32)) -> Result<(), AllocError>
+    /// Whether the queue is for ways of a length, or of none yet.
+    fn takes(&self, way: u64) -> bool {
+        (self.way == way) | (self.way == NO_WAY)
+    }
+
+    /// Leaves the queue to ways of any length.
+    fn free(&mut self)
+        ensures { self.new ≡ self.old }
+    {
+        self.way = NO_WAY;
+    }
+
+    fn push(&mut self, way: u64, label: (u64, u32)) -> Result<(), AllocError>
         ensures { OnOk result (self.new ≡ self.old ++ label ∷ []) }
     {
+        self.way = way;
         self.labels.push_back(label)?;
         Ok(())
     }
@@ -58,13 +74,13 @@ impl Lane {
     }
 }
 
-/// The place of the queue for ways of a length.
+/// The place of the queue for ways of a length, or of the first one for ways of none yet.
 fn place_of(lanes: &[Lane], way: u64) -> Option<usize>
     ensures { MatchOption result ⊤ (λ k. k < length lanes.now) }
 {
     for k in 0..lanes.len() {
         let lane = &lanes[k];
-        if lane.way == way {
+        if lane.takes(way) {
             return Some(k);
         }
     }
@@ -80,20 +96,30 @@ fn place_for(alloc: Global, lanes: &mut Vec<Lane>, way: u64) -> Result<usize, Al
         Some(k) => Ok(k),
         None => {
             let k = lanes.len();
-            lanes.push(Lane::new(alloc, way))?;
+            lanes.push(Lane::new(alloc))?;
             Ok(k)
         }
     }
 }
 
-/// Puts a label at the end of a queue.
-fn put(lanes: &mut [Lane], place: usize, label: (u64, u32)) -> Result<(), AllocError>
+/// Puts a label at the end of a queue, which is for ways of a length now.
+fn put(lanes: &mut [Lane], place: usize, way: u64, label: (u64, u32)) -> Result<(), AllocError>
     requires { place < length lanes.old }
     ensures { OnOk result (lanes.new ≡
         slice_set lanes.old place (slice_index_or lanes.old place [] ++ label ∷ [])) }
 {
     let lane = &mut lanes[place];
-    lane.push(label)
+    lane.push(way, label)
+}
+
+/// Leaves each queue to ways of any length.
+fn free_all(lanes: &mut [Lane])
+    ensures { lanes.new ≡ lanes.old }
+{
+    for k in 0..lanes.len() {
+        let lane = &mut lanes[k];
+        lane.free();
+    }
 }
 
 /// Takes the first label of a queue.
@@ -173,12 +199,19 @@ impl Waiting {
         }
     }
 
+    /// Leaves the queues to the ways of the next search, in the order in which it comes to them.
+    pub fn renew(&mut self)
+        ensures { self.new ≡ self.old }
+    {
+        free_all(&mut self.lanes);
+    }
+
     /// Puts a label into the queue for ways of a length.
     pub fn push(&mut self, way: u64, label: (u64, u32)) -> Result<(), AllocError>
         ensures { OnOk result (IsPermutation (label ∷ self.old) self.new) }
     {
         let place = place_for(self.alloc, &mut self.lanes, way)?;
-        put(&mut self.lanes, place, label)
+        put(&mut self.lanes, place, way, label)
     }
 
     /// Takes the nearest of the first labels.

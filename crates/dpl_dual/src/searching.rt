@@ -1,8 +1,9 @@
 //! What a search for distances keeps.
 
-ghost use Rattle.std.specs.Prelude.{◌≡◌, ℕ, ◌<◌, is_some, option_map, false, OnOk, IfOk, MatchBool};
-ghost use Rattle.dpl_dual.specs.Searches.{IsLabelled};
-ghost use Rattle.dpl_dual.specs.Labels.{labels, IsFar, IsUnderWay, AreReachedAlso, WaitsAlso};
+ghost use Rattle.std.specs.Prelude.{◌≡◌, ℕ, ◌<◌, [], None, is_some, option_map, false, OnOk, MatchBool};
+ghost use Rattle.dpl_dual.specs.Searches.{IsLabelled, AreListed};
+ghost use Rattle.dpl_dual.specs.Labels.{labels, IsFar, IsUnderWay, AreReachedAlso, WaitsAlso, IsAtRest};
+ghost use Rattle.dpl_dual.specs.Tables.{reach_at};
 
 use crate::queue::Waiting;
 use crate::reach::Reach;
@@ -16,6 +17,20 @@ pub struct Search {
     pub table: Table,
     pub reached: Vec<u32>,
     pub queue: Waiting,
+}
+
+impl Search {
+    /// Nothing is reached.
+    pub fn new(alloc: Global) -> Search
+        ensures reached { result.reached.items ≡ [] }
+        ensures rest { IsAtRest result }
+    {
+        Search {
+            table: Table::new(alloc),
+            reached: Vec::new(alloc),
+            queue: Waiting::new(alloc),
+        }
+    }
 }
 
 /// The length of a face's label.
@@ -71,21 +86,45 @@ pub fn label(
     note(search, face, reach, known)
 }
 
-/// A search that has reached the first face alone.
-pub fn begin(alloc: Global, sought: &Sought<'_>) -> Result<Search, AllocError>
+/// Forgets the label of each face in the list, and empties it. It costs these faces.
+fn clear(table: &mut Table, reached: &mut Vec<u32>)
+    requires { AreListed (reach_at table.old) reached.old.items }
+    ensures table { (f : ℕ) → reach_at table.new f ≡ None }
+    ensures reached { reached.new.items ≡ [] }
+{
+    'faces: loop {
+        match reached.pop() {
+            Some(face) => table.remove(face),
+            None => return,
+        }
+    }
+}
+
+/// Forgets what was found, and gives each face a place.
+fn renew(search: &mut Search, faces: u32) -> Result<(), AllocError>
+    requires { IsAtRest search.old }
+    ensures labels { OnOk result ((f : ℕ) → labels search.new f ≡ None) }
+    ensures reached { OnOk result (search.new.reached.items ≡ []) }
+    ensures queue { OnOk result (search.new.queue ≡ []) }
+{
+    clear(&mut search.table, &mut search.reached);
+    search.queue.renew();
+    search.table.grow(faces)?;
+    Ok(())
+}
+
+/// Begins a search in the memory of an earlier one: the first face alone is reached.
+pub fn begin(sought: &Sought<'_>, search: &mut Search) -> Result<(), AllocError>
     requires from { sought.now.from < sought.now.faces }
     requires some { 0 < sought.now.limit }
-    ensures { IfOk result (λ s. IsUnderWay sought.now (λ f. false) s) }
+    requires rest { IsAtRest search.old }
+    ensures { OnOk result (IsUnderWay sought.now (λ f. false) search.new) }
 {
-    let mut search = Search {
-        table: Table::new(alloc),
-        reached: Vec::new(alloc),
-        queue: Waiting::new(alloc),
-    };
+    renew(search, sought.faces)?;
     let reach = Reach {
         length: 0,
         last: None,
     };
-    label(&mut search, 0, sought.from, reach, false)?;
-    Ok(search)
+    label(search, 0, sought.from, reach, false)?;
+    Ok(())
 }

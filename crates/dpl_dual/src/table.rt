@@ -1,98 +1,37 @@
 //! How faces are reached, by the numbers of the faces.
 
-ghost use Rattle.std.specs.Prelude.{◌≡◌, ◌≢◌, ℕ, ◌<◌, ◌≤◌, [], Some, None, length, slice_index_or, OnOk};
-ghost use Rattle.dpl_dual.specs.Searches.{IsLabelled};
+ghost use Rattle.std.specs.Prelude.{◌≡◌, ℕ, ◌≤◌, None, length, OnOk};
+ghost use Rattle.dpl_dual.specs.Searches.{IsLabelled, IsUnlabelled};
 ghost use Rattle.dpl_dual.specs.Tables.{reach_at};
 
 use crate::reach::Reach;
 use std::alloc::{AllocError, Global};
 use std::marker::Model;
 
-/// How 64 faces are reached, each if it is. Contracts see the list of them.
-#[derive(Drop)]
-struct Page {
-    reaches: Vec<Option<Reach>>,
-}
-
-impl Model for Page {
-    ghost use Rattle.std.specs.Prelude.{List, Option};
-    ghost use Rattle.dpl_dual.specs.declared.reach.Reach.{Reach};
-
-    ghost Value = { List (Option Reach) };
-
-    ghost view = { λ p. p.reaches.items };
-}
-
-impl Page {
-    fn new(alloc: Global) -> Page
-        ensures { result ≡ [] }
-    {
-        Page {
-            reaches: Vec::new(alloc),
-        }
-    }
-
-    fn get(&self, place: usize) -> Option<Reach>
-        ensures { result ≡ slice_index_or self.now place None }
-    {
-        match self.reaches.get(place) {
-            Some(reach) => *reach,
-            None => None,
-        }
-    }
-
-    /// Writes how the face at a place is reached.
-    fn put(&mut self, place: usize, reach: Reach) -> Result<(), AllocError>
-        requires { place < 64 }
-        ensures here { OnOk result (slice_index_or self.new place None ≡ Some reach) }
-        ensures others { OnOk result ((i : ℕ) → i ≢ place →
-            slice_index_or self.new i None ≡ slice_index_or self.old i None) }
-    {
-        fill(&mut self.reaches)?;
-        self.reaches[place] = Some(reach);
-        Ok(())
-    }
-}
-
-/// Gives a page all its 64 places.
-fn fill(reaches: &mut Vec<Option<Reach>>) -> Result<(), AllocError>
-    ensures count { OnOk result (64 ≤ length reaches.new.items) }
-    ensures same { OnOk result ((i : ℕ) →
-        slice_index_or reaches.new.items i None ≡ slice_index_or reaches.old.items i None) }
+/// Gives a list so many places, if it has fewer.
+fn fill(reaches: &mut Vec<Option<Reach>>, count: usize) -> Result<(), AllocError>
+    ensures count { OnOk result (count ≤ length reaches.new.items) }
+    ensures same { OnOk result ((f : ℕ) → reach_at reaches.new.items f ≡ reach_at reaches.old.items f) }
 {
-    if reaches.len() < 64 {
-        reaches.resize(64, None)?;
+    if reaches.len() < count {
+        reaches.resize(count, None)?;
     }
     Ok(())
 }
 
-/// Puts empty pages at the end until there are so many.
-fn grow(alloc: Global, pages: &mut Vec<Page>, count: usize) -> Result<(), AllocError>
-    ensures count { OnOk result (count ≤ length pages.new.items) }
-    ensures same { OnOk result ((i : ℕ) →
-        slice_index_or pages.new.items i [] ≡ slice_index_or pages.old.items i []) }
-{
-    pages.reserve(count.saturating_sub(pages.len()))?;
-    for _page in pages.len()..count {
-        pages.push(Page::new(alloc))?;
-    }
-    Ok(())
-}
-
-/// How each face is reached, if it is. A page of 64 faces is empty where none of them is reached.
+/// How each face is reached, if it is. Faces behind the last place are not reached.
 #[derive(Drop)]
 pub struct Table {
-    alloc: Global,
-    pages: Vec<Page>,
+    reaches: Vec<Option<Reach>>,
 }
 
 impl Model for Table {
     ghost use Rattle.std.specs.Prelude.{List, Option};
     ghost use Rattle.dpl_dual.specs.declared.reach.Reach.{Reach};
 
-    ghost Value = { List (List (Option Reach)) };
+    ghost Value = { List (Option Reach) };
 
-    ghost view = { λ t. t.pages.items };
+    ghost view = { λ t. t.reaches.items };
 }
 
 impl Table {
@@ -101,8 +40,7 @@ impl Table {
         ensures { (f : ℕ) → reach_at result f ≡ None }
     {
         Table {
-            alloc,
-            pages: Vec::new(alloc),
+            reaches: Vec::new(alloc),
         }
     }
 
@@ -110,18 +48,37 @@ impl Table {
     pub fn get(&self, face: u32) -> Option<Reach>
         ensures { result ≡ reach_at self.now face }
     {
-        match self.pages.get(face as usize / 64) {
-            Some(page) => page.get(face as usize % 64),
+        match self.reaches.get(face as usize) {
+            Some(reach) => *reach,
             None => None,
         }
+    }
+
+    /// Gives each face below a number a place.
+    pub fn grow(&mut self, faces: u32) -> Result<(), AllocError>
+        ensures { OnOk result ((f : ℕ) → reach_at self.new f ≡ reach_at self.old f) }
+    {
+        fill(&mut self.reaches, faces as usize)?;
+        Ok(())
     }
 
     /// Writes how a face is reached.
     pub fn insert(&mut self, face: u32, reach: Reach) -> Result<(), AllocError>
         ensures { OnOk result (IsLabelled (reach_at self.old) (reach_at self.new) face reach) }
     {
-        let page = face as usize / 64;
-        grow(self.alloc, &mut self.pages, page + 1)?;
-        self.pages[page].put(face as usize % 64, reach)
+        let place = face as usize;
+        fill(&mut self.reaches, place + 1)?;
+        self.reaches[place] = Some(reach);
+        Ok(())
+    }
+
+    /// Forgets how a face is reached.
+    pub fn remove(&mut self, face: u32)
+        ensures { IsUnlabelled (reach_at self.old) (reach_at self.new) face }
+    {
+        let place = face as usize;
+        if place < self.reaches.len() {
+            self.reaches[place] = None;
+        }
     }
 }

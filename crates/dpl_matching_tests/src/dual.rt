@@ -1,6 +1,7 @@
 ghost use Rattle.std.specs.Prelude.{IfOk};
 ghost use Rattle.dpl_dual.specs.Duals.{CameFromDual};
 
+use dpl_dual::types::Distances;
 use dpl_dual::{Dual, distances, distances_within, dual};
 use dpl_map::build;
 use dpl_sign::Net;
@@ -59,7 +60,8 @@ fn distance(
     if from >= dual.faces {
         return Err("no such face")?;
     }
-    let reach = distances(alloc, &dual, from)?;
+    let mut reach = Distances::new(alloc);
+    distances(&dual, from, &mut reach)?;
     let path = reach.path(alloc, to)?;
     Ok((reach.to(to), path.len()))
 }
@@ -78,7 +80,8 @@ fn within(
     if dual.faces == 0 {
         return Err("no face")?;
     }
-    let reach = distances_within(alloc, &dual, 0, limit)?;
+    let mut reach = Distances::new(alloc);
+    distances_within(&dual, 0, limit, &mut reach)?;
     Ok((reach.to(1), reach.up_to(1, limit)))
 }
 

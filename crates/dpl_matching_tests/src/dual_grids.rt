@@ -137,33 +137,45 @@ fn agrees(
 }
 
 /// Compares the distances from a face with those of the plain program.
-fn compare_from<R: Abort>(rt: &R, alloc: Global, dual: &Dual, from: u32) -> Result<(), Fail>
+fn compare_from<R: Abort>(
+    rt: &R,
+    alloc: Global,
+    dual: &Dual,
+    from: u32,
+    reach: &mut Distances,
+) -> Result<(), Fail>
     requires dual { CameFromDual dual.now }
     requires from { from < dual.now.faces }
 {
-    let reach = distances(alloc, dual, from)?;
+    distances(dual, from, reach)?;
     let plain = plain_lengths(alloc, dual, from)?;
     for face in 0..dual.faces {
         let least = at(&plain, face);
-        assert!(rt; agrees(alloc, dual, &reach, face, least)?, "{from} {face}");
+        assert!(rt; agrees(alloc, dual, reach, face, least)?, "{from} {face}");
     }
     Ok(())
 }
 
-/// Compares the distances over a grid from each of its faces.
-fn compare_grid<R: Abort>(rt: &R, alloc: Global, seed: u64) -> Result<(), Fail> {
+/// Compares the distances over a grid from each of its faces, all sought in one memory.
+fn compare_grid<R: Abort>(
+    rt: &R,
+    alloc: Global,
+    seed: u64,
+    reach: &mut Distances,
+) -> Result<(), Fail> {
     let net = grid(alloc, seed)?;
     let dual = dual_of(alloc, &net)?;
     for from in 0..dual.faces {
-        compare_from(rt, alloc, &dual, from)?;
+        compare_from(rt, alloc, &dual, from, reach)?;
     }
     Ok(())
 }
 
 #[test]
 fn least_lengths(rt: HostRuntime) -> Result<(), Fail> {
+    let mut reach = Distances::new(rt.alloc());
     for seed in 0..20u64 {
-        compare_grid(&rt, rt.alloc(), seed)?;
+        compare_grid(&rt, rt.alloc(), seed, &mut reach)?;
     }
     Ok(())
 }

@@ -1,7 +1,7 @@
 -- What moats are laid around.
 use Rattle.std.specs.Prelude.{◌≡◌, ℕ, ◌<◌, ◌≤◌, ◌^◌, length, slice_index, All}
 use Rattle.dpl_dual.specs.Duals.{CameFromDual}
-use Rattle.dpl_pack.specs.declared.surround.Nested.{Nested}
+use Rattle.dpl_pack.specs.declared.nested.Nested.{Nested}
 use Rattle.dpl_pack.specs.Stacks.{ends_at}
 
 -- each member stands for a face of a dual, and no value is so great that sums come near the limits

@@ -22,8 +22,8 @@ pub record AreSolved (w : Drawn) (groups : List (List ℕ)) (n : ℕ) (work : Wo
   pub are : All (IsPart w.graph.now (view_of w.map.now) w.dual.now) parts
   pub paired : All (IsPaired w.dual.now) parts
   pub cycles_are : work.cycles.items ≡ all_cycles parts
-  pub places : length work.joined.items ≡ length w.graph.now.edges
-  pub joins : (e : ℕ) → e < length w.graph.now.edges → joined_bit work.joined.items e % 2
+  pub places : length work.joined.edges.items ≡ length w.graph.now.edges
+  pub joins : (e : ℕ) → e < length w.graph.now.edges → joined_bit work.joined.edges.items e % 2
       ≡ times (all_ways (all_chains parts)) e % 2
 
 -- joined edges that meet the faces, and a packing of no smaller weight

@@ -72,11 +72,11 @@ fn limit_beyond(far: u64) -> u64
 
 /// How far a face is from the nearest other marked one, by searches that begin with this limit.
 fn nearest_of(
-    alloc: Global,
     dual: &Dual,
     marks: &[bool],
     from: u32,
     first: u64,
+    reach: &mut Distances,
 ) -> Result<u64, AllocError>
     requires dual { CameFromDual dual.now }
     requires from { from < dual.now.faces }
@@ -85,8 +85,8 @@ fn nearest_of(
     let tries: usize = 50;
     let mut limit = first;
     for _try in 0..tries {
-        let reach = distances_within(alloc, dual, from, limit)?;
-        let near = nearest(&reach, marks, limit);
+        distances_within(dual, from, limit, reach)?;
+        let near = nearest(reach, marks, limit);
         if near < limit {
             return Ok(near);
         }
@@ -97,7 +97,12 @@ fn nearest_of(
 
 /// The greatest distance of a face from the nearest other one of the list. Faces that follow each other
 /// in the list are mostly near each other, and then about as far from others.
-fn farthest(alloc: Global, dual: &Dual, terminals: &[u32]) -> Result<u64, AllocError>
+fn farthest(
+    alloc: Global,
+    dual: &Dual,
+    terminals: &[u32],
+    reach: &mut Distances,
+) -> Result<u64, AllocError>
     requires dual { CameFromDual dual.now }
     requires faces { All (λ f. f < dual.now.faces) terminals.now }
 {
@@ -105,14 +110,19 @@ fn farthest(alloc: Global, dual: &Dual, terminals: &[u32]) -> Result<u64, AllocE
     let mut near: u64 = 0;
     let mut most: u64 = 0;
     for i in 0..terminals.len() {
-        near = nearest_of(alloc, dual, &marks, terminals[i], limit_beyond(near))?;
+        near = nearest_of(dual, &marks, terminals[i], limit_beyond(near), reach)?;
         most = most.max(near);
     }
     Ok(most)
 }
 
 /// Whether no more faces than the list has are nearer than a limit to one of it, by a sample.
-fn is_cheap(alloc: Global, dual: &Dual, terminals: &[u32], limit: u64) -> Result<bool, AllocError>
+fn is_cheap(
+    dual: &Dual,
+    terminals: &[u32],
+    limit: u64,
+    reach: &mut Distances,
+) -> Result<bool, AllocError>
     requires dual { CameFromDual dual.now }
     requires faces { All (λ f. f < dual.now.faces) terminals.now }
     requires limit { 0 < limit }
@@ -121,7 +131,7 @@ fn is_cheap(alloc: Global, dual: &Dual, terminals: &[u32], limit: u64) -> Result
     let mut searches: usize = 0;
     for i in 0..terminals.len() {
         if i % 16 == 0 {
-            let reach = distances_within(alloc, dual, terminals[i], limit)?;
+            distances_within(dual, terminals[i], limit, reach)?;
             reached = reached.saturating_add(reach.reached().len());
             searches = searches.saturating_add(1);
         }
@@ -130,16 +140,21 @@ fn is_cheap(alloc: Global, dual: &Dual, terminals: &[u32], limit: u64) -> Result
 }
 
 /// The limit that is tried first.
-pub fn first_limit(alloc: Global, dual: &Dual, terminals: &[u32]) -> Result<u64, AllocError>
+pub fn first_limit(
+    alloc: Global,
+    dual: &Dual,
+    terminals: &[u32],
+    reach: &mut Distances,
+) -> Result<u64, AllocError>
     requires dual { CameFromDual dual.now }
     requires faces { All (λ f. f < dual.now.faces) terminals.now }
     ensures { IfOk result (λ limit. IsLengthLimit limit) }
 {
-    let far = farthest(alloc, dual, terminals)?;
+    let far = farthest(alloc, dual, terminals, reach)?;
     let mut limit = limit_beyond(far);
     for _try in 0..2usize {
         let more = next_limit(limit);
-        if !is_cheap(alloc, dual, terminals, more)? {
+        if !is_cheap(dual, terminals, more, reach)? {
             return Ok(limit);
         }
         limit = more;

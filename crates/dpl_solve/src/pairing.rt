@@ -15,6 +15,8 @@ use crate::drawn::Drawn;
 use crate::joins::{join_pairs, mate_of};
 use crate::limits::{FULL_LIMIT, first_limit, next_limit};
 use crate::metrics::all_rows;
+use crate::work::Joined;
+use dpl_dual::types::Distances;
 use dpl_laminar::{Family, Steps};
 use dpl_match::{Matched, Metric};
 use std::alloc::{AllocError, Global};
@@ -26,6 +28,7 @@ fn metric_of(
     drawn: &Drawn<'_>,
     terminals: &[u32],
     limit: u64,
+    reach: &mut Distances,
 ) -> Result<Metric, AllocError>
     requires drawn { IsDrawn drawn.now }
     requires terminals { AreTerminals drawn.now.dual.now terminals.now }
@@ -38,7 +41,7 @@ fn metric_of(
     ensures measured { IfOk result (λ _.
         AreMeasured drawn.now.dual.now terminals.now limit (length terminals.now)) }
 {
-    let rows = all_rows(alloc, drawn.dual, terminals, limit)?;
+    let rows = all_rows(alloc, drawn.dual, terminals, limit, reach)?;
     Ok(Metric::new(terminals.len() as u32, rows))
 }
 
@@ -64,18 +67,20 @@ fn join_within<L: Ledger>(
     drawn: &Drawn<'_>,
     terminals: &[u32],
     limit: u64,
-    joined: &mut [bool],
+    joined: &mut Joined,
     steps: &mut Steps<L>,
 ) -> Result<Option<Family>, AllocError>
     requires drawn { IsDrawn drawn.now }
     requires terminals { AreTerminals drawn.now.dual.now terminals.now }
     requires few { length terminals.now ≤ 2048 }
-    requires places { length joined.old ≡ length drawn.now.graph.now.edges }
+    requires places { length joined.old.edges.items ≡ length drawn.now.graph.now.edges }
     requires limit { IsLengthLimit limit }
-    ensures { IfOk result (λ o. MatchOption o ((joined.new ≡ joined.old) × (limit < full_limit))
-        (λ f. AreJoinedBy drawn.now.dual.now terminals.now (sets_of f) joined.old joined.new)) }
+    ensures { IfOk result (λ o. MatchOption o
+        ((joined.new.edges.items ≡ joined.old.edges.items) × (limit < full_limit))
+        (λ f. AreJoinedBy drawn.now.dual.now terminals.now (sets_of f) joined.old.edges.items
+        joined.new.edges.items)) }
 {
-    let metric = metric_of(alloc, drawn, terminals, limit)?;
+    let metric = metric_of(alloc, drawn, terminals, limit, &mut joined.reach)?;
     let Matched { mate, family } = match dpl_match::solve(alloc, &metric, steps) {
         Ok(matched) => matched,
         Err(no_memory) => return Err(no_memory),
@@ -95,18 +100,19 @@ pub fn join_all<L: Ledger>(
     alloc: Global,
     drawn: &Drawn<'_>,
     terminals: &[u32],
-    joined: &mut [bool],
+    joined: &mut Joined,
     steps: &mut Steps<L>,
 ) -> Result<Family, AllocError>
     requires drawn { IsDrawn drawn.now }
     requires terminals { AreTerminals drawn.now.dual.now terminals.now }
     requires few { length terminals.now ≤ 2048 }
-    requires places { length joined.old ≡ length drawn.now.graph.now.edges }
+    requires places { length joined.old.edges.items ≡ length drawn.now.graph.now.edges }
     ensures { IfOk result (λ f.
-        AreJoinedBy drawn.now.dual.now terminals.now (sets_of f) joined.old joined.new) }
+        AreJoinedBy drawn.now.dual.now terminals.now (sets_of f) joined.old.edges.items
+        joined.new.edges.items) }
 {
     let tries: usize = 50;
-    let mut limit = first_limit(alloc, drawn.dual, terminals)?;
+    let mut limit = first_limit(alloc, drawn.dual, terminals, &mut joined.reach)?;
     for _try in 0..tries {
         match join_within(alloc, drawn, terminals, limit, joined, steps)? {
             Some(family) => return Ok(family),

@@ -5,6 +5,7 @@ ghost use Rattle.dpl_map.specs.Planes.{joined_bit};
 ghost use Rattle.dpl_solve.specs.Works.{IsDrawn, IsReady};
 
 use crate::drawn::Drawn;
+use dpl_dual::types::Distances;
 use dpl_sign::Cycle;
 use std::alloc::{AllocError, Global};
 
@@ -15,10 +16,18 @@ pub struct Marks {
     pub seen: Vec<bool>,
 }
 
+/// The edges that are joined so far, and the distances that were sought last, in whose memory the next
+/// ones are sought.
+#[derive(Drop)]
+pub struct Joined {
+    pub edges: Vec<bool>,
+    pub reach: Distances,
+}
+
 /// The edges that are joined so far, the walks so far, and the marks for the next one.
 #[derive(Drop)]
 pub struct Work {
-    pub joined: Vec<bool>,
+    pub joined: Joined,
     pub cycles: Vec<Cycle>,
     pub marks: Marks,
 }
@@ -28,15 +37,18 @@ impl Work {
     pub fn new(alloc: Global, drawn: &Drawn<'_>) -> Result<Work, AllocError>
         requires { IsDrawn drawn.now }
         ensures ready { IfOk result (λ w. IsReady drawn.now w) }
-        ensures none { IfOk result (λ w. (e : ℕ) → joined_bit w.joined.items e ≡ 0) }
+        ensures none { IfOk result (λ w. (e : ℕ) → joined_bit w.joined.edges.items e ≡ 0) }
         ensures fresh { IfOk result (λ w. w.cycles.items ≡ []) }
     {
-        let edges = drawn.graph.edges.as_slice().len();
-        let joined = vec![in alloc; false; edges]?;
+        let count = drawn.graph.edges.as_slice().len();
+        let edges = vec![in alloc; false; count]?;
         let inside = vec![in alloc; false; drawn.map.faces() as usize]?;
-        let seen = vec![in alloc; false; 2 * edges]?;
+        let seen = vec![in alloc; false; 2 * count]?;
         Ok(Work {
-            joined,
+            joined: Joined {
+                edges,
+                reach: Distances::new(alloc),
+            },
             cycles: Vec::new(alloc),
             marks: Marks { inside, seen },
         })

@@ -5,5 +5,5 @@ use Rattle.dpl_solve.proofs.pairing.join_all.Given as goal
 abbrev pub invariant-loop-try : goal.invariant-loop-try
 invariant-loop-try g l = record {
   limit : IsLengthLimit l.limit;
-  same : l.joined ≡ l.fn.joined;
+  same : l.joined.edges.items ≡ l.fn.joined.edges.items;
 }

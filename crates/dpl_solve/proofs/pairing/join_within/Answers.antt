@@ -31,7 +31,7 @@ returns-then-not-are_near g c =
 
 pub join_pairs-requires-clause-places : goal.join_pairs-requires-clause-places
 join_pairs-requires-clause-places g c = crosses_places c.args.drawn.now.graph.now (view_of c.args.drawn.now.map.now) c.args.drawn.now.dual.now
-    c.requires.drawn.dual (length c.args.joined.now) c.requires.places
+    c.requires.drawn.dual (length c.args.joined.now.edges.items) c.requires.places
 
 pub join_pairs-requires-clause-distances : goal.join_pairs-requires-clause-distances
 join_pairs-requires-clause-distances g c = λ s hs.
@@ -58,5 +58,5 @@ returns g c =
     near in
     joined_by c.args.drawn.now.dual.now c.args.terminals.now _ _ _ _ _ m
     (subst (λ (z : List ℕ). ArePairsJoined c.args.drawn.now.dual.now.crosses c.args.terminals.now (slice_index z)
-    (length c.args.terminals.now) c.args.joined.now c.join_pairs.new.joined) c.deref-2.ensures.value
+    (length c.args.terminals.now) c.args.joined.now.edges.items c.join_pairs.new.joined.edges.items) c.deref-2.ensures.value
     c.in_ok-join_pairs.ensures)
