@@ -1,3 +1,4 @@
 pub mod Pieces
 pub mod Gives
 pub mod Tells
+pub mod Items

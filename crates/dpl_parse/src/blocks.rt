@@ -3,10 +3,12 @@ ghost use Rattle.std.specs.Prelude.{◌≡◌, map, IfOk};
 ghost use Rattle.dpl_cell.specs.Places.{corners_of};
 ghost use Rattle.dpl_form.specs.Lines.{lines_in};
 ghost use Rattle.dpl_parse.specs.Gives.{Gives};
+ghost use Rattle.dpl_parse.specs.Items.{read_rising};
 ghost use Rattle.dpl_report.specs.Plain.{plain_zone};
 ghost use Rattle.dpl_report.specs.Reading as reading;
 
-use crate::items::{aside_in, box_in, clash_in, cut_in, cycle_in};
+use crate::items::{box_in, cut_in, cycle_in, item_in};
+use crate::rising::Rising;
 use crate::stops::Stop;
 use dpl_cell::Rect;
 use dpl_form::first_line;
@@ -37,6 +39,26 @@ pub fn cuts(alloc: Global, text: &[u8]) -> Result<(Vec<Zone>, &[u8]), Stop>
     Ok((found, rest))
 }
 
+/// The items of the lines of one kind at the front, whose edges rise, and what follows these
+/// lines. Its error is want of memory.
+fn front_items<T: Rising>(alloc: Global, text: &[u8]) -> Result<(Vec<T>, &[u8]), Stop>
+    ensures { Gives (λ x. (x.0.items, lines_in x.1.now)) result
+        (read_rising T.made_of T.edge_of T.line_of (lines_in text.now)) }
+{
+    let mut found = Vec::new(alloc);
+    let mut rest = text;
+    let mut least = 0;
+    'lines: while let Some((line, others)) = first_line(rest) {
+        let Some(item) = item_in::<T>(alloc, least, line)? else {
+            return Ok((found, rest));
+        };
+        least = u64::from(item.edge()) + 1;
+        found.push(item)?;
+        rest = others;
+    }
+    Ok((found, rest))
+}
+
 /// The broken clashes of the clash lines at the front, whose edges rise, and what follows these
 /// lines. Its error is want of memory.
 #[tactic(auto, unfolding(dpl_report::specs::Reading::read_clashes))]
@@ -44,18 +66,7 @@ pub fn clashes(alloc: Global, text: &[u8]) -> Result<(Vec<Broken>, &[u8]), Stop>
     ensures { Gives (λ x. (x.0.items, lines_in x.1.now)) result
         (reading.read_clashes (lines_in text.now)) }
 {
-    let mut found = Vec::new(alloc);
-    let mut rest = text;
-    let mut least = 0;
-    'lines: while let Some((line, others)) = first_line(rest) {
-        let Some(broken) = clash_in(alloc, least, line)? else {
-            return Ok((found, rest));
-        };
-        least = u64::from(broken.edge) + 1;
-        found.push(broken)?;
-        rest = others;
-    }
-    Ok((found, rest))
+    front_items(alloc, text)
 }
 
 /// The edges of the aside lines at the front, which rise, and what follows these lines. Its error
@@ -65,18 +76,7 @@ pub fn aside(alloc: Global, text: &[u8]) -> Result<(Vec<u32>, &[u8]), Stop>
     ensures { Gives (λ x. (x.0.items, lines_in x.1.now)) result
         (reading.read_aside (lines_in text.now)) }
 {
-    let mut found = Vec::new(alloc);
-    let mut rest = text;
-    let mut least = 0;
-    'lines: while let Some((line, others)) = first_line(rest) {
-        let Some(edge) = aside_in(alloc, least, line)? else {
-            return Ok((found, rest));
-        };
-        least = u64::from(edge) + 1;
-        found.push(edge)?;
-        rest = others;
-    }
-    Ok((found, rest))
+    front_items(alloc, text)
 }
 
 /// The walks with their half weights of the cycle lines at the front, and what follows these lines.

@@ -4,14 +4,16 @@ ghost use Rattle.dpl_cell.specs.Places.{corners_of};
 ghost use Rattle.dpl_rules.specs.Readers.{Reads};
 ghost use Rattle.dpl_report.specs.Plain.{plain_zone};
 ghost use Rattle.dpl_report.specs.Reading as reading;
+ghost use Rattle.dpl_parse.specs.Items.{item_from};
 
 use crate::comparing::is_cycle_line;
-use crate::guesses::{aside_of, box_of, broken_of, count_from, cycle_of, zone_of};
+use crate::guesses::{box_of, count_from, cycle_of, zone_of};
 use crate::numbers::{LineNumbers, first_numbers};
+use crate::rising::Rising;
 use dpl_boxes::push_box;
 use dpl_cell::Rect;
-use dpl_report::writing::{push_aside, push_clash, push_count, push_cut};
-use dpl_report::{Broken, Zone};
+use dpl_report::Zone;
+use dpl_report::writing::{push_count, push_cut};
 use dpl_sign::Cycle;
 use std::alloc::{AllocError as NoMemory, Global};
 
@@ -55,45 +57,22 @@ pub fn cut_in(alloc: Global, least: u64, line: &[u8]) -> Result<Option<Zone>, No
     })
 }
 
-/// The broken clash of a clash line, `None` where the line is none or its edge is below `least`.
-/// Its error is want of memory.
-#[tactic(auto, using(crate::proofs::FewLemmas::broken_of_few))]
-pub fn clash_in(alloc: Global, least: u64, line: &[u8]) -> Result<Option<Broken>, NoMemory>
-    ensures { IfOk result (λ o. o ≡ reading.item_clash least line.now) }
+/// What a line says of an edge, `None` where it says nothing of the kind or its edge is below
+/// `least`. Its error is want of memory.
+pub fn item_in<T: Rising>(alloc: Global, least: u64, line: &[u8]) -> Result<Option<T>, NoMemory>
+    ensures { IfOk result (λ o. o ≡ item_from T.made_of T.edge_of T.line_of least line.now) }
 {
     let numbers = first_numbers(alloc, line)?;
-    let Some(broken) = broken_of(&numbers) else {
+    let Some(item) = T::from_few(&numbers) else {
         return Ok(None);
     };
-    if u64::from(broken.edge) < least {
+    if u64::from(item.edge()) < least {
         return Ok(None);
     }
     let mut again = Vec::new(alloc);
-    push_clash(&mut again, &broken)?;
+    item.push(&mut again)?;
     Ok(if again.as_slice() == line {
-        Some(broken)
-    } else {
-        None
-    })
-}
-
-/// The edge of an aside line, `None` where the line is none or its edge is below `least`. Its error
-/// is want of memory.
-#[tactic(auto, using(crate::proofs::FewLemmas::aside_of_few))]
-pub fn aside_in(alloc: Global, least: u64, line: &[u8]) -> Result<Option<u32>, NoMemory>
-    ensures { IfOk result (λ o. o ≡ reading.item_aside least line.now) }
-{
-    let numbers = first_numbers(alloc, line)?;
-    let Some(edge) = aside_of(&numbers) else {
-        return Ok(None);
-    };
-    if u64::from(edge) < least {
-        return Ok(None);
-    }
-    let mut again = Vec::new(alloc);
-    push_aside(&mut again, edge)?;
-    Ok(if again.as_slice() == line {
-        Some(edge)
+        Some(item)
     } else {
         None
     })

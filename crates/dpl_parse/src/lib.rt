@@ -13,6 +13,7 @@ mod names;
 mod numbers;
 mod parts;
 mod reading;
+mod rising;
 mod stops;
 
 pub use reading::{ReportError, parse};
