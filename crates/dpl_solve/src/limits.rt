@@ -2,7 +2,8 @@
 //!
 //! No pairs are found before each odd face has another one nearer than the limit, and distances beyond
 //! those of the pairs cost time only. So the first limit lies right beyond the nearest ones of all odd
-//! faces, or somewhat farther where no more faces are found there than distances are kept.
+//! faces, or, for lists of 16 faces or more, somewhat farther where no more faces are found there than
+//! distances are kept.
 
 ghost use Rattle.std.specs.Prelude.{◌<◌, All, IfOk};
 ghost use Rattle.dpl_dual.specs.Duals.{CameFromDual};
@@ -152,6 +153,9 @@ pub fn first_limit(
 {
     let far = farthest(alloc, dual, terminals, reach)?;
     let mut limit = limit_beyond(far);
+    if terminals.len() < 16 {
+        return Ok(limit);
+    }
     for _try in 0..2usize {
         let more = next_limit(limit);
         if !is_cheap(dual, terminals, more, reach)? {
