@@ -1,9 +1,9 @@
 // The report of a layer whose masks cover about the same area.
-ghost use Rattle.std.specs.Prelude.{◌≡◌, ◌≤◌, length, IfOk};
+ghost use Rattle.std.specs.Prelude.{◌≡◌, ◌⊎◌, ◌≤◌, length, IfOk, Err};
 ghost use Rattle.dpl_limits.specs.declared.TheConstants.{MOST_LAYOUT_BYTES};
 ghost use Rattle.dpl_lex.specs.Cutting.{commands_of};
 ghost use Rattle.dpl_layer.specs.Layers.{IsSomeLayer};
-ghost use Rattle.dpl_layer.specs.Reasons.{FirstOf, RefusesOnly, RefusesWhere};
+ghost use Rattle.dpl_layer.specs.Reasons.{FirstOf};
 ghost use Rattle.dpl_report.specs.Plain.{plain_report};
 ghost use Rattle.dpl_balance.specs.Balance.{AreBalanced};
 ghost use Rattle.dpl_core.specs.Reports.{HaveMasks, IsBalancedSplit, IsReportOfNet};
@@ -26,11 +26,12 @@ pub fn balance_commands(
     commands: &Commands,
     options: &Options,
 ) -> Result<Vec<u8>, LayerError>
-    requires short { length text.now ≤ MOST_LAYOUT_BYTES }
-    requires commands { commands.now ≡ commands_of text.now }
+    requires cut { (length text.now ≤ MOST_LAYOUT_BYTES) × (commands.now ≡ commands_of text.now) }
     ensures split { IfOk result (λ v. IsBalancedSplit options.now text.now v.items) }
-    ensures refused { RefusesOnly (FirstOf (split_reasons options.now text.now)) result }
-    ensures exact { RefusesWhere (FirstOf (split_reasons options.now text.now)) result }
+    ensures refused { (e : LayerError) → result ≡ Err e →
+        (e ≡ LayerError.NoMemory) ⊎ FirstOf (split_reasons options.now text.now) e }
+    ensures exact { (e : LayerError) → FirstOf (split_reasons options.now text.now) e →
+        (result ≡ Err e) ⊎ (result ≡ Err LayerError.NoMemory) }
 {
     let Made { layer, report } = make_commands(alloc, text, commands, options)?;
     let report = balanced(alloc, options, &layer, report)?;

@@ -1,11 +1,11 @@
 // From a text to its report.
-ghost use Rattle.std.specs.Prelude.{◌≡◌, ◌≤◌, length, IfOk};
+ghost use Rattle.std.specs.Prelude.{◌≡◌, ◌⊎◌, ◌≤◌, length, IfOk, Err};
 ghost use Rattle.dpl_limits.specs.declared.TheConstants.{MOST_LAYOUT_BYTES};
 ghost use Rattle.dpl_lex.specs.Cutting.{commands_of};
 ghost use Rattle.dpl_layer.specs.Layers.{IsLayerOfText};
 ghost use Rattle.dpl_report.specs.Plain.{plain_report};
 ghost use Rattle.dpl_core.specs.Reports.{IsReportOf, IsReportOfNet, IsSplit};
-ghost use Rattle.dpl_layer.specs.Reasons.{FirstOf, RefusesOnly, RefusesWhere};
+ghost use Rattle.dpl_layer.specs.Reasons.{FirstOf};
 ghost use Rattle.dpl_core.specs.Refusals.{split_reasons};
 
 use crate::solving::report_of_layer;
@@ -20,8 +20,10 @@ use std::alloc::Global;
 pub fn make(alloc: Global, text: &[u8], options: &Options) -> Result<Report, LayerError>
     requires { length text.now ≤ MOST_LAYOUT_BYTES }
     ensures made { IfOk result (λ r. IsReportOf options.now text.now (plain_report r)) }
-    ensures refused { RefusesOnly (FirstOf (split_reasons options.now text.now)) result }
-    ensures exact { RefusesWhere (FirstOf (split_reasons options.now text.now)) result }
+    ensures refused { (e : LayerError) → result ≡ Err e →
+        (e ≡ LayerError.NoMemory) ⊎ FirstOf (split_reasons options.now text.now) e }
+    ensures exact { (e : LayerError) → FirstOf (split_reasons options.now text.now) e →
+        (result ≡ Err e) ⊎ (result ≡ Err LayerError.NoMemory) }
 {
     let Ok(commands) = commands(alloc, text) else {
         return Err(LayerError::NoMemory);
@@ -34,8 +36,10 @@ pub fn make(alloc: Global, text: &[u8], options: &Options) -> Result<Report, Lay
 pub fn split(alloc: Global, text: &[u8], options: &Options) -> Result<Vec<u8>, LayerError>
     requires { length text.now ≤ MOST_LAYOUT_BYTES }
     ensures split { IfOk result (λ v. IsSplit options.now text.now v.items) }
-    ensures refused { RefusesOnly (FirstOf (split_reasons options.now text.now)) result }
-    ensures exact { RefusesWhere (FirstOf (split_reasons options.now text.now)) result }
+    ensures refused { (e : LayerError) → result ≡ Err e →
+        (e ≡ LayerError.NoMemory) ⊎ FirstOf (split_reasons options.now text.now) e }
+    ensures exact { (e : LayerError) → FirstOf (split_reasons options.now text.now) e →
+        (result ≡ Err e) ⊎ (result ≡ Err LayerError.NoMemory) }
 {
     let Ok(commands) = commands(alloc, text) else {
         return Err(LayerError::NoMemory);
@@ -50,11 +54,12 @@ pub fn split_commands(
     commands: &Commands,
     options: &Options,
 ) -> Result<Vec<u8>, LayerError>
-    requires short { length text.now ≤ MOST_LAYOUT_BYTES }
-    requires commands { commands.now ≡ commands_of text.now }
+    requires cut { (length text.now ≤ MOST_LAYOUT_BYTES) × (commands.now ≡ commands_of text.now) }
     ensures split { IfOk result (λ v. IsSplit options.now text.now v.items) }
-    ensures refused { RefusesOnly (FirstOf (split_reasons options.now text.now)) result }
-    ensures exact { RefusesWhere (FirstOf (split_reasons options.now text.now)) result }
+    ensures refused { (e : LayerError) → result ≡ Err e →
+        (e ≡ LayerError.NoMemory) ⊎ FirstOf (split_reasons options.now text.now) e }
+    ensures exact { (e : LayerError) → FirstOf (split_reasons options.now text.now) e →
+        (result ≡ Err e) ⊎ (result ≡ Err LayerError.NoMemory) }
 {
     let Made { report, .. } = make_commands(alloc, text, commands, options)?;
     let written = print(alloc, &report)?;
@@ -75,15 +80,16 @@ pub fn make_commands(
     commands: &Commands,
     options: &Options,
 ) -> Result<Made, LayerError>
-    requires short { length text.now ≤ MOST_LAYOUT_BYTES }
-    requires commands { commands.now ≡ commands_of text.now }
+    requires cut { (length text.now ≤ MOST_LAYOUT_BYTES) × (commands.now ≡ commands_of text.now) }
     ensures layer { IfOk result (λ m.
         IsLayerOfText options.now text.now m.layer.fragments m.layer.net) }
     ensures report { IfOk result (λ m.
         IsReportOfNet options.now m.layer.fragments m.layer.net (plain_report m.report)) }
     ensures made { IfOk result (λ m. IsReportOf options.now text.now (plain_report m.report)) }
-    ensures refused { RefusesOnly (FirstOf (split_reasons options.now text.now)) result }
-    ensures exact { RefusesWhere (FirstOf (split_reasons options.now text.now)) result }
+    ensures refused { (e : LayerError) → result ≡ Err e →
+        (e ≡ LayerError.NoMemory) ⊎ FirstOf (split_reasons options.now text.now) e }
+    ensures exact { (e : LayerError) → FirstOf (split_reasons options.now text.now) e →
+        (result ≡ Err e) ⊎ (result ≡ Err LayerError.NoMemory) }
 {
     let layer = layer_of_commands(alloc, text, commands, options)?;
     let report = report_of_layer(alloc, options, &layer)?;

@@ -1,8 +1,7 @@
 // From a layer to its report.
-ghost use Rattle.std.specs.Prelude.{◌≡◌, ◌⊎◌, ◌≤◌, ℕ, length, IfOk, IfErr};
+ghost use Rattle.std.specs.Prelude.{◌≡◌, ◌⊎◌, ◌≤◌, ℕ, length, IfOk, IfErr, Err};
 ghost use Rattle.dpl_limits.specs.declared.TheConstants.{MOST_EDGES};
 ghost use Rattle.dpl_layer.specs.Layers.{IsSomeLayer};
-ghost use Rattle.dpl_layer.specs.Reasons.{RefusesOnly, RefusesWhere};
 ghost use Rattle.dpl_report.specs.Plain.{plain_report};
 ghost use Rattle.dpl_good.specs.Truths.{SaysTrue};
 ghost use Rattle.dpl_solve.specs.Solved.{IsSolution, IsRefused};
@@ -31,8 +30,10 @@ pub fn report_of_layer(
         IsReportOfNet options.now layer.now.fragments layer.now.net (plain_report r)) }
     ensures masks { IfOk result (λ r.
         HaveMasks options.now layer.now.fragments layer.now.net (plain_report r)) }
-    ensures refused { RefusesOnly (IsOddNet layer.now.net) result }
-    ensures exact { RefusesWhere (IsOddNet layer.now.net) result }
+    ensures refused { (e : LayerError) → result ≡ Err e →
+        (e ≡ LayerError.NoMemory) ⊎ IsOddNet layer.now.net e }
+    ensures exact { (e : LayerError) → IsOddNet layer.now.net e →
+        (result ≡ Err e) ⊎ (result ≡ Err LayerError.NoMemory) }
 {
     let solution = solve_net(alloc, &layer.net)?;
     let report = report_of(alloc, options, &layer.fragments, &layer.net, solution)?;
