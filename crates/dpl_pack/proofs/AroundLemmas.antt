@@ -18,7 +18,7 @@ use Rattle.dpl_laminar.proofs.Numbers.{place_in, taken_has, not_taken}
 use Rattle.dpl_map.specs.Views.{MapView}
 use Rattle.dpl_map.specs.Sides.{IsMap, is_kept, face, is_odd_face, odd_faces_in, row}
 use Rattle.dpl_pack.specs.Moats.{IsWritten}
-use Rattle.dpl_pack.specs.Marks.{AreClear, AreCleared, IsListed}
+use Rattle.dpl_pack.specs.Marks.{AreClear, AreCleared}
 use Rattle.dpl_pack.proofs.CodeLemmas.{has_push, pushed_same}
 use Rattle.dpl_pack.specs.Traces.{is_seen, AreWhole, IsRoundWalk, IsAround, odd_list}
 use Rattle.dpl_map.proofs.RowLemmas.{chosen_split}
@@ -176,39 +176,3 @@ pub darts_done : (m : MapView) (faces : List ℕ) (old now : List Bool) (i : ℕ
 darts_done m faces old now i h before d t =
     let was = before d t in
     (was.0, λ f q. was.1 f (ap (λ z. has z f) (take_all i faces h) ∙ q))
-
--- ---- the faces of a set in a list
-
-pub listed_none : (marks : List Bool) → IsListed marks 0 []
-listed_none marks = record { below = All-nil (λ x. x < 0); each = λ x l. absurd (omega (arith, l)) }
-
-pub listed_in : (marks : List Bool) (n : ℕ) (places : List ℕ) → get_or marks n false ≡ true
-    → IsListed marks n places → IsListed marks (n + 1) (places ++ n ∷ [])
-listed_in marks n places h k = record {
-  below = All-push (λ x. x < n + 1) places n (All-weaker (λ x. x < n) (λ x. x < n + 1) (λ x l. omega (arith, l)) places k.below) (omega arith);
-  each = λ x l. elim (cases_eq n x) [
-    | inl t ↦ pushed_same places n x t ∙ sym (ap (λ z. get_or marks z false) (sym t) ∙ h)
-    | inr t ↦ has_push places n x ∙ ap (λ b. has places x || b) (ne_eqb n x t) ∙ or_false (has places x) ∙ k.each x (omega (arith, l, t))
-  ];
-}
-  where
-    or_false : (b : Bool) → (b || false) ≡ b
-    or_false true = refl
-    or_false false = refl
-
-pub listed_out : (marks : List Bool) (n : ℕ) (places : List ℕ) → get_or marks n false ≡ false → IsListed marks n places → IsListed marks (n + 1) places
-listed_out marks n places h k = record {
-  below = All-weaker (λ x. x < n) (λ x. x < n + 1) (λ x l. omega (arith, l)) places k.below;
-  each = λ x l. elim (cases_eq n x) [
-    | inl t ↦ false_from_ne_true (has places x) (λ q. absurd (omega (arith, t, above places x k.below q))) ∙ sym (ap (λ z. get_or marks z false) (sym t) ∙ h)
-    | inr t ↦ k.each x (omega (arith, l, t))
-  ];
-}
-  where
-    above : (xs : List ℕ) (x : ℕ) → All (λ z. z < n) xs → has xs x ≡ true → x < n
-    above xs x a q =
-        let p = place_in xs x q in
-        omega (arith, a p.0 0 p.1, p.2)
-
-pub listed_written : (marks : List Bool) (n : ℕ) (places : List ℕ) → length marks ≤ n → IsListed marks n places → IsWritten places marks
-listed_written marks n places h k x l = sym (k.each x (omega (arith, l, h)))

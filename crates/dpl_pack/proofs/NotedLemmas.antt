@@ -14,7 +14,7 @@ use Rattle.dpl_dual.specs.Chains.{Leads, AreLinked, length_of, IsShortest}
 use Rattle.dpl_dual.specs.Distances.{DistancesView, entry_at, edges_to, AreDistancesWithin, IsDistanceUpTo, length_up_to}
 use Rattle.dpl_pack.specs.Depths.{IsLeastOf}
 use Rattle.dpl_pack.specs.Noted.{no_depth, noted, AreBlank, AreListed, IsNoted, AreNoted, GainsOf}
-use Rattle.dpl_pack.specs.Stacks.{AreMeasured, extent, AreNear}
+use Rattle.dpl_pack.specs.Stacks.{extent, AreNear}
 use Rattle.dpl_pack.proofs.CodeLemmas.{pushed_same, pushed_old, least_none, least_more}
 
 -- ---- distances up to a limit
@@ -236,30 +236,7 @@ forgotten_blank near i old now h l a g = elim (cases_Bool (has near g)) [
   ]
 ]
 
--- ---- distances from one terminal after another
-
-pub measured_none : (d : Dual) (terminals : List ℕ) (limit : ℕ) → AreMeasured d terminals limit 0
-measured_none d terminals limit = record { points = λ g t. 0; are = λ t g h. absurd (omega (arith, h)) }
-
-pub measured_more : (d : Dual) (terminals : List ℕ) (limit i from : ℕ) (v : DistancesView)
-    → AreDistancesWithin d.crosses d.faces from limit v → from ≡ get_or terminals i 0
-    → AreMeasured d terminals limit i → AreMeasured d terminals limit (i + 1)
-measured_more d terminals limit i from v w e m =
-    let next : ℕ → ℕ → ℕ = λ g t. cond (t == i) (length_up_to limit (entry_at v g)) (m.points g t) in
-    record {
-      points = next;
-      are = λ t g ht hg. elim (cases_eq t i) [
-        | inl s ↦
-            let P : ℕ → ℕ → Type 0 = λ z x. IsDistanceUpTo d.crosses limit z g x in
-            let at : from ≡ get_or terminals t 0 = e ∙ ap (λ z. get_or terminals z 0) (sym s) in
-            subst (P (get_or terminals t 0)) (sym (cond-true (t == i) (length_up_to limit (entry_at v g)) (m.points g t)
-            (eq-eqb t i s))) (subst (λ z. P z (length_up_to limit (entry_at v g))) at
-            (up_to_is d.crosses d.faces from limit g v w hg))
-        | inr s ↦
-            let P : ℕ → Type 0 = λ x. IsDistanceUpTo d.crosses limit (get_or terminals t 0) g x in
-            subst P (sym (cond-false (t == i) (length_up_to limit (entry_at v g)) (m.points g t) (ne_eqb t i s))) (m.are t g (omega (arith, ht, s)) hg)
-      ];
-    }
+-- ---- no depth is noted
 
 pub blank_all : (deep : List ℕ) (n : ℕ) → deep ≡ replicate n no_depth → AreBlank deep
 blank_all deep n e g = elim (cases_lt g n) [

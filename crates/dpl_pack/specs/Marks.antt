@@ -1,5 +1,5 @@
 -- Marks at the places of a list.
-use Rattle.std.specs.Prelude.{◌≡◌, ℕ, ◌<◌, ◌&&◌, Bool, false, not, List, slice_index_or, All}
+use Rattle.std.specs.Prelude.{◌≡◌, ℕ, ◌&&◌, Bool, false, not, List, slice_index_or}
 use Rattle.dpl_laminar.specs.Families.{has}
 
 -- nothing is marked
@@ -10,8 +10,3 @@ AreClear marks = (x : ℕ) → slice_index_or marks x false ≡ false
 abbrev pub AreCleared : List ℕ → List Bool → List Bool → Type 0
 AreCleared places old new =
     (x : ℕ) → slice_index_or new x false ≡ (slice_index_or old x false && not (has places x))
-
--- the marked places below a number are listed
-pub record IsListed (marks : List Bool) (n : ℕ) (places : List ℕ) : Type 0 where
-  pub below : All (λ x. x < n) places
-  pub each : (x : ℕ) → x < n → has places x ≡ slice_index_or marks x false

@@ -1,20 +1,18 @@
-//! The pairing of the odd faces of a part, by distances up to a limit.
+//! The pairing of the odd faces of a part, by distances up to their radii.
 
-ghost use Rattle.std.specs.Prelude.{◌≡◌, ℕ, ◌<◌, ◌≤◌, length, slice_index, IfOk, MatchBool, MatchOption};
+ghost use Rattle.std.specs.Prelude.{◌≡◌, ℕ, ◌+◌, ◌<◌, ◌≤◌, length, slice_index, IfOk, MatchBool, MatchOption};
 ghost use Rattle.dpl_laminar.specs.Pairings.{IsPairing};
 ghost use Rattle.dpl_laminar.specs.Storing.{sets_of};
-ghost use Rattle.dpl_dual.specs.Distances.{IsDistanceUpTo};
 ghost use Rattle.dpl_pack.specs.Moats.{AreTerminals};
-ghost use Rattle.dpl_pack.specs.Stacks.{AreMeasured};
 ghost use Rattle.dpl_tree.specs.Metrics.{dist_of};
 ghost use Rattle.dpl_solve.specs.Matches.{AreJoinedBy};
-ghost use Rattle.dpl_solve.specs.Metrics.{IsLengthLimit, AreNearer, full_limit};
+ghost use Rattle.dpl_solve.specs.Metrics.{IsLimit, AreNearer, AreRadii, IsApart, full_limit};
 ghost use Rattle.dpl_solve.specs.Works.{IsDrawn};
 
 use crate::drawn::Drawn;
 use crate::joins::{join_pairs, mate_of};
-use crate::limits::{FULL_LIMIT, first_limit, next_limit};
-use crate::metrics::all_rows;
+use crate::metrics::{Rows, all_rows};
+use crate::sight::{FULL_LIMIT, Sight, all_nearest, first_margin, next_margin};
 use crate::work::Joined;
 use dpl_dual::types::Distances;
 use dpl_laminar::{Family, Steps};
@@ -22,51 +20,66 @@ use dpl_match::{Matched, Metric};
 use std::alloc::{AllocError, Global};
 use std::sync::ledger::Ledger;
 
-/// The distances of the odd faces of a part, up to a limit.
-fn metric_of(
+/// Distances of faces up to the radii of both together, and the radii.
+#[derive(Drop)]
+struct Seen {
+    metric: Metric,
+    radii: Vec<u64>,
+}
+
+/// The distances of the odd faces of a part, as far as they see.
+fn look(
     alloc: Global,
     drawn: &Drawn<'_>,
     terminals: &[u32],
-    limit: u64,
+    sight: &Sight<'_>,
     reach: &mut Distances,
-) -> Result<Metric, AllocError>
+) -> Result<Seen, AllocError>
     requires drawn { IsDrawn drawn.now }
     requires terminals { AreTerminals drawn.now.dual.now terminals.now }
     requires few { length terminals.now ≤ 2048 }
-    requires limit { IsLengthLimit limit }
-    ensures size { IfOk result (λ m. m.size ≡ length terminals.now) }
+    requires margin { IsLimit sight.now.margin }
+    ensures size { IfOk result (λ m. m.metric.size ≡ length terminals.now) }
+    ensures sizes { IfOk result (λ m. length m.radii.items ≡ length terminals.now) }
+    ensures radii { IfOk result (λ m. AreRadii drawn.now.dual.now.crosses terminals.now
+        sight.now.margin (length terminals.now) (slice_index m.radii.items)) }
     ensures each { IfOk result (λ m. (s u : ℕ) → s < length terminals.now →
-        u < length terminals.now → IsDistanceUpTo drawn.now.dual.now.crosses limit
-        (slice_index terminals.now s) (slice_index terminals.now u) (dist_of m s u)) }
-    ensures measured { IfOk result (λ _.
-        AreMeasured drawn.now.dual.now terminals.now limit (length terminals.now)) }
+        u < length terminals.now → IsApart drawn.now.dual.now.crosses terminals.now
+        (slice_index m.radii.items) s u (dist_of m.metric s u)) }
 {
-    let rows = all_rows(alloc, drawn.dual, terminals, limit, reach)?;
-    Ok(Metric::new(terminals.len() as u32, rows))
+    let rows = all_rows(alloc, drawn.dual, terminals, sight, reach)?;
+    let Rows { dists, radii } = rows;
+    let metric = Metric::new(terminals.len() as u32, dists);
+    Ok(Seen { metric, radii })
 }
 
-/// Whether each member is nearer to its mate than the limit.
-fn are_near(metric: &Metric, mate: &[u32], limit: u64) -> bool
-    requires { IsPairing metric.now.size (slice_index mate.now) }
-    ensures { MatchBool result (AreNearer metric.now.size (dist_of metric.now) (slice_index mate.now) limit)
-        ((s : ℕ) × (s < metric.now.size) × (limit ≤ dist_of metric.now s (slice_index mate.now s))) }
+/// Whether each member is nearer to its mate than both radii together.
+fn are_near(metric: &Metric, radii: &[u64], mate: &[u32]) -> bool
+    requires mate { IsPairing metric.now.size (slice_index mate.now) }
+    requires sizes { length radii.now ≡ metric.now.size }
+    requires small { (k : ℕ) → k < metric.now.size → slice_index radii.now k ≤ 562949953421312 }
+    ensures { MatchBool result
+        (AreNearer metric.now.size (dist_of metric.now) (slice_index mate.now) (slice_index radii.now))
+        ((s : ℕ) × (s < metric.now.size) × (slice_index radii.now s +
+        slice_index radii.now (slice_index mate.now s) ≤ dist_of metric.now s (slice_index mate.now s))) }
 {
     let n = metric.size() as u32;
     for s in 0..n {
-        if metric.dist(s, mate_of(mate, s as usize)) >= limit {
+        let other = mate_of(mate, s as usize);
+        if metric.dist(s, other) >= radii[s as usize] + radii[other as usize] {
             return false;
         }
     }
     true
 }
 
-/// Joins the odd faces of a part in pairs that are nearer than a limit, along chains that are as long as
-/// a family weighs. None where the pairs of least length are not so near.
+/// Joins the odd faces of a part in pairs that see each other, along chains that are as long as a family
+/// weighs. None where some of the pairs of least length do not.
 fn join_within<L: Ledger>(
     alloc: Global,
     drawn: &Drawn<'_>,
     terminals: &[u32],
-    limit: u64,
+    sight: &Sight<'_>,
     joined: &mut Joined,
     steps: &mut Steps<L>,
 ) -> Result<Option<Family>, AllocError>
@@ -74,27 +87,27 @@ fn join_within<L: Ledger>(
     requires terminals { AreTerminals drawn.now.dual.now terminals.now }
     requires few { length terminals.now ≤ 2048 }
     requires places { length joined.old.edges.items ≡ length drawn.now.graph.now.edges }
-    requires limit { IsLengthLimit limit }
+    requires margin { IsLimit sight.now.margin }
     ensures { IfOk result (λ o. MatchOption o
-        ((joined.new.edges.items ≡ joined.old.edges.items) × (limit < full_limit))
+        ((joined.new.edges.items ≡ joined.old.edges.items) × (sight.now.margin < full_limit))
         (λ f. AreJoinedBy drawn.now.dual.now terminals.now (sets_of f) joined.old.edges.items
         joined.new.edges.items)) }
 {
-    let metric = metric_of(alloc, drawn, terminals, limit, &mut joined.reach)?;
-    let Matched { mate, family } = match dpl_match::solve(alloc, &metric, steps) {
+    let seen = look(alloc, drawn, terminals, sight, &mut joined.reach)?;
+    let Matched { mate, family } = match dpl_match::solve(alloc, &seen.metric, steps) {
         Ok(matched) => matched,
         Err(no_memory) => return Err(no_memory),
     };
-    if !are_near(&metric, &mate, limit) {
+    if !are_near(&seen.metric, &seen.radii, &mate) {
         return Ok(None);
     }
-    join_pairs(alloc, drawn.dual, terminals, &metric, &mate, joined)?;
+    join_pairs(alloc, drawn.dual, terminals, &seen.metric, &mate, joined)?;
     Ok(Some(family))
 }
 
 /// Joins the odd faces of a part in pairs, along chains that are as long as a family weighs.
 ///
-/// The search for distances ends at a limit, which grows until the pairs are nearer. So it costs the
+/// The search for distances ends at the radii, which grow until the pairs see each other. So it costs the
 /// faces near each odd one, and the square of the number of odd faces in memory.
 pub fn join_all<L: Ledger>(
     alloc: Global,
@@ -112,15 +125,30 @@ pub fn join_all<L: Ledger>(
         joined.new.edges.items) }
 {
     let tries: usize = 50;
-    let mut limit = first_limit(alloc, drawn.dual, terminals, &mut joined.reach)?;
+    let nearest = all_nearest(
+        alloc,
+        drawn.dual,
+        terminals,
+        &mut joined.places,
+        &mut joined.reach,
+    )?;
+    let mut margin = first_margin(alloc, &nearest)?;
     for _try in 0..tries {
-        match join_within(alloc, drawn, terminals, limit, joined, steps)? {
+        let sight = Sight {
+            nearest: &nearest,
+            margin,
+        };
+        match join_within(alloc, drawn, terminals, &sight, joined, steps)? {
             Some(family) => return Ok(family),
             None => {}
         }
-        limit = next_limit(limit);
+        margin = next_margin(&sight);
     }
-    match join_within(alloc, drawn, terminals, FULL_LIMIT, joined, steps)? {
+    let sight = Sight {
+        nearest: &nearest,
+        margin: FULL_LIMIT,
+    };
+    match join_within(alloc, drawn, terminals, &sight, joined, steps)? {
         Some(family) => Ok(family),
         None => unreachable!(),
     }

@@ -6,6 +6,7 @@ ghost use Rattle.dpl_solve.specs.Works.{IsDrawn, IsReady};
 
 use crate::drawn::Drawn;
 use dpl_dual::types::Distances;
+use dpl_pack::NO_DEPTH;
 use dpl_sign::Cycle;
 use std::alloc::{AllocError, Global};
 
@@ -16,20 +17,22 @@ pub struct Marks {
     pub seen: Vec<bool>,
 }
 
-/// The edges that are joined so far, and the distances that were sought last, in whose memory the next
-/// ones are sought.
+/// The edges that are joined so far, the distances that were sought last, in whose memory the next ones are
+/// sought, and the place that each face of a part has in its list, while its pairs are sought.
 #[derive(Drop)]
 pub struct Joined {
     pub edges: Vec<bool>,
     pub reach: Distances,
+    pub places: Vec<Option<usize>>,
 }
 
-/// The edges that are joined so far, the walks so far, and the marks for the next one.
+/// The edges that are joined so far, the walks so far, and the marks and the depths for the next ones.
 #[derive(Drop)]
 pub struct Work {
     pub joined: Joined,
     pub cycles: Vec<Cycle>,
     pub marks: Marks,
+    pub deep: Vec<u64>,
 }
 
 impl Work {
@@ -42,15 +45,20 @@ impl Work {
     {
         let count = drawn.graph.edges.as_slice().len();
         let edges = vec![in alloc; false; count]?;
-        let inside = vec![in alloc; false; drawn.map.faces() as usize]?;
+        let faces = drawn.map.faces() as usize;
+        let places = vec![in alloc; None; faces]?;
+        let inside = vec![in alloc; false; faces]?;
         let seen = vec![in alloc; false; 2 * count]?;
+        let deep = vec![in alloc; NO_DEPTH; faces]?;
         Ok(Work {
             joined: Joined {
                 edges,
                 reach: Distances::new(alloc),
+                places,
             },
             cycles: Vec::new(alloc),
             marks: Marks { inside, seen },
+            deep,
         })
     }
 }

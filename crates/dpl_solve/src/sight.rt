@@ -1,0 +1,232 @@
+//! How far around itself each odd face looks for others.
+//!
+//! A face looks half as far as its nearest other one lies, and a margin farther that all faces of a list share. A
+//! margin is wide enough where the pairs of least length see each other, and a wider one costs time only.
+
+ghost use Rattle.std.specs.Prelude.{◌≡◌, ◌<◌, ◌≤◌, All, IfOk};
+ghost use Rattle.dpl_dual.specs.Duals.{CameFromDual};
+ghost use Rattle.dpl_solve.specs.Metrics.{IsLimit};
+
+use dpl_dual::types::Distances;
+use dpl_dual::{Dual, distances_within};
+use std::alloc::{AllocError, Global};
+
+/// No distance between two faces of a part comes near this limit.
+pub const FULL_LIMIT: u64 = 281474976710656;
+
+/// From so many odd faces on a search that finds no pairs costs more than a wide margin.
+const MANY: usize = 64;
+
+/// The other face of a list that is nearest to one, by its place in the list, and how far it is.
+#[derive(Clone, Copy)]
+pub struct Nearest {
+    pub far: u64,
+    pub place: usize,
+}
+
+/// What the faces of a list look by: the nearest one of each, and the margin.
+#[derive(Clone, Copy)]
+pub struct Sight<'a> {
+    pub nearest: &'a [Nearest],
+    pub margin: u64,
+}
+
+/// Notes what place a face has in the list.
+fn note(places: &mut [Option<usize>], face: u32, place: Option<usize>) {
+    let at = face as usize;
+    if at < places.len() {
+        places[at] = place;
+    }
+}
+
+/// Notes the place of each face of a list.
+fn note_all(places: &mut [Option<usize>], list: &[u32]) {
+    for i in 0..list.len() {
+        note(places, list[i], Some(i));
+    }
+}
+
+/// Forgets the places of the faces of a list.
+fn forget_all(places: &mut [Option<usize>], list: &[u32]) {
+    for i in 0..list.len() {
+        note(places, list[i], None);
+    }
+}
+
+/// The place of a face in the list, if it stands there.
+fn place_of(places: &[Option<usize>], face: u32) -> Option<usize> {
+    match places.get(face as usize) {
+        Some(place) => *place,
+        None => None,
+    }
+}
+
+/// The nearer one of what is known and a face so far away, which is not the face itself.
+fn nearer(known: Nearest, place: Option<usize>, far: u64) -> Nearest {
+    match place {
+        Some(place) => {
+            if far > 0 && far < known.far {
+                Nearest { far, place }
+            } else {
+                known
+            }
+        }
+        None => known,
+    }
+}
+
+/// The nearest other face of the list among those that were reached, and the limit where none was.
+fn nearest_reached(
+    reach: &Distances,
+    places: &[Option<usize>],
+    place: usize,
+    limit: u64,
+) -> Nearest {
+    let mut known = Nearest { far: limit, place };
+    let faces = reach.reached();
+    for i in 0..faces.len() {
+        known = nearer(
+            known,
+            place_of(places, faces[i]),
+            reach.up_to(faces[i], limit),
+        );
+    }
+    known
+}
+
+/// The limit that is tried after another.
+fn next_limit(limit: u64) -> u64
+    requires { IsLimit limit }
+    ensures { IsLimit result }
+{
+    (2 * limit).min(FULL_LIMIT)
+}
+
+/// A limit right beyond a distance.
+fn limit_beyond(far: u64) -> u64
+    ensures { IsLimit result }
+{
+    far.min(1099511627776) + 2
+}
+
+/// The nearest other face of one of the list, by searches that begin with this limit.
+fn nearest_of(
+    dual: &Dual,
+    places: &[Option<usize>],
+    from: u32,
+    place: usize,
+    first: u64,
+    reach: &mut Distances,
+) -> Result<Nearest, AllocError>
+    requires dual { CameFromDual dual.now }
+    requires from { from < dual.now.faces }
+    requires first { IsLimit first }
+{
+    let tries: usize = 50;
+    let mut limit = first;
+    for _try in 0..tries {
+        distances_within(dual, from, limit, reach)?;
+        let near = nearest_reached(reach, places, place, limit);
+        if near.far < limit {
+            return Ok(near);
+        }
+        limit = next_limit(limit);
+    }
+    Ok(Nearest { far: limit, place })
+}
+
+/// The nearest other one of each face of a list. Faces that follow each other in the list are mostly near
+/// each other, and then about as far from others. `places` has one for each face, and notes none before or after.
+pub fn all_nearest(
+    alloc: Global,
+    dual: &Dual,
+    list: &[u32],
+    places: &mut [Option<usize>],
+    reach: &mut Distances,
+) -> Result<Vec<Nearest>, AllocError>
+    requires dual { CameFromDual dual.now }
+    requires faces { All (λ f. f < dual.now.faces) list.now }
+{
+    note_all(places, list);
+    let mut all = Vec::new(alloc);
+    let mut far: u64 = 0;
+    for i in 0..list.len() {
+        let near = nearest_of(dual, places, list[i], i, limit_beyond(far), reach)?;
+        far = near.far;
+        all.push(near)?;
+    }
+    forget_all(places, list);
+    Ok(all)
+}
+
+/// How far a face is from its nearest other one.
+pub fn far_of(nearest: &[Nearest], place: usize) -> u64
+    ensures { result ≤ 1099511627776 }
+{
+    match nearest.get(place) {
+        Some(near) => near.far.min(1099511627776),
+        None => 0,
+    }
+}
+
+/// The greatest distance of a face from its nearest other one.
+fn greatest(nearest: &[Nearest]) -> u64
+    ensures { result ≤ 1099511627776 }
+{
+    let mut most: u64 = 0;
+    for i in 0..nearest.len() {
+        most = most.max(far_of(nearest, i));
+    }
+    most
+}
+
+/// By how much a face is farther from its nearest one, at most, than that is from its own nearest.
+fn greatest_step(nearest: &[Nearest]) -> u64
+    ensures { result ≤ 1099511627776 }
+{
+    let mut most: u64 = 0;
+    for i in 0..nearest.len() {
+        let next = far_of(nearest, nearest[i].place);
+        most = most.max(far_of(nearest, i).saturating_sub(next));
+    }
+    most
+}
+
+/// A distance that half of the faces have from their nearest ones, or a lesser one.
+fn median(alloc: Global, nearest: &[Nearest]) -> Result<u64, AllocError>
+    ensures { IfOk result (λ far. far ≤ 1099511627776) }
+{
+    let mut fars = Vec::new(alloc);
+    for i in 0..nearest.len() {
+        fars.push(far_of(nearest, i))?;
+    }
+    fars.sort_unstable();
+    match fars.get(fars.len() / 2) {
+        Some(far) => Ok((*far).min(1099511627776)),
+        None => Ok(0),
+    }
+}
+
+/// The margin that is tried first: each face sees its nearest one, and among many faces, of which some are farther
+/// from others than half of them are, those about twice as far again.
+pub fn first_margin(alloc: Global, nearest: &[Nearest]) -> Result<u64, AllocError>
+    ensures { IfOk result (λ margin. IsLimit margin) }
+{
+    let least = greatest_step(nearest) / 4 + 2;
+    if nearest.len() < MANY {
+        return Ok(least);
+    }
+    let middle = median(alloc, nearest)?;
+    if greatest(nearest) <= middle {
+        return Ok(least);
+    }
+    Ok(least.max(middle / 2 * 3 + 2))
+}
+
+/// The margin that is tried after another.
+pub fn next_margin(sight: &Sight<'_>) -> u64
+    requires { IsLimit sight.now.margin }
+    ensures { IsLimit result }
+{
+    (2 * sight.margin + greatest(sight.nearest)).min(FULL_LIMIT)
+}
