@@ -1,4 +1,4 @@
-use Rattle.std.proofs.Common.{arith, below_more, ◌≡◌, ℕ, ◌∙◌, sym, ap, subst, true}
+use Rattle.std.proofs.Common.{arith, below_more, ◌≡◌, ℕ, ◌<◌, ◌∙◌, sym, ap, subst, true}
 use Rattle.dpl_laminar.specs.Families.{Sets}
 use Rattle.dpl_laminar.specs.Storing.{sets_of}
 use Rattle.dpl_tree.specs.Views.{place_in}
@@ -12,7 +12,9 @@ returns-then-top-member-clause-taken c = λ m h e p.
     let s : ℕ = c.args.member in
     let size = c.requires.totals.size in
     let here : f.top s ≡ s = sym c.tops-top.ensures.value ∙ c.if-top-member.true in
-    let same : m ≡ s = alone_in f.size f s m c.tops-top.ensures.family.laminar (omega (arith, size, c.requires.member)) (omega (arith, size, h)) here e in
+    let hs : s < f.size = omega (arith, size, c.requires.member) in
+    let hm : m < f.size = omega (arith, size, h) in
+    let same : m ≡ s = alone_in f.size f s m c.tops-top.ensures.family.laminar hs hm here e in
     subst (λ (z : ℕ). is_known c.learn_one.new.table.known.items z ≡ true) (sym same) (c.learn_one.ensures.taken (ap (place_in c.args.tree.now.labels.items) (sym e) ∙ p))
 
 pub loop-s-preserved : goal.loop-s-preserved
