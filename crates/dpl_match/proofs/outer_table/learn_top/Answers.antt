@@ -1,6 +1,7 @@
 use Rattle.std.proofs.Common.{arith, below_more, ◌≡◌, ℕ, ◌<◌, ◌∙◌, sym, ap, subst, true}
 use Rattle.dpl_laminar.specs.Families.{Sets}
 use Rattle.dpl_laminar.specs.Storing.{sets_of}
+use Rattle.dpl_tree.specs.steps.Forests.{outer}
 use Rattle.dpl_tree.specs.Views.{place_in}
 use Rattle.dpl_match.specs.steps.Nearest.{is_known}
 use Rattle.dpl_match.proofs.NearLemmas.{alone_in}
@@ -15,7 +16,8 @@ returns-then-top-member-clause-taken c = λ m h e p.
     let hs : s < f.size = omega (arith, size, c.requires.member) in
     let hm : m < f.size = omega (arith, size, h) in
     let same : m ≡ s = alone_in f.size f s m c.tops-top.ensures.family.laminar hs hm here e in
-    subst (λ (z : ℕ). is_known c.learn_one.new.table.known.items z ≡ true) (sym same) (c.learn_one.ensures.taken (ap (place_in c.args.tree.now.labels.items) (sym e) ∙ p))
+    let po : place_in c.args.tree.now.labels.items (f.top s) ≡ outer = ap (place_in c.args.tree.now.labels.items) (sym e) ∙ p in
+    subst (λ (z : ℕ). is_known c.learn_one.new.table.known.items z ≡ true) (sym same) (c.learn_one.ensures.taken po)
 
 pub loop-s-preserved : goal.loop-s-preserved
 loop-s-preserved c =
