@@ -10,6 +10,7 @@ pub mod MatchingLemmas
 pub mod Meetings
 pub mod Opening
 pub mod Parity
+pub mod Parting
 pub mod Raising
 pub mod Refining
 pub mod RingPairs

@@ -99,6 +99,9 @@ pub fn give_way<L: Ledger>(
         IsNext metric.now matching.old tree.old matching.new tree.new) }
     ensures lists { IfOk result (λ _. AreListed metric.now matching.new) }
     ensures sums { IfOk result (λ _. matching.new.sums ≡ matching.old.sums) }
+    ensures finer { IfOk result (λ _. (a b : ℕ) → a < metric.now.size → b < metric.now.size →
+        (sets_of matching.new.family).top a ≡ (sets_of matching.new.family).top b →
+        (sets_of matching.old.family).top a ≡ (sets_of matching.old.family).top b) }
     ensures steps { steps.new ≤ steps.old + 1 }
 {
     let _size = metric.size();

@@ -1,5 +1,6 @@
 use Rattle.std.proofs.Common.{arith, refl, ap, ◌∙◌, length}
 use Rattle.dpl_tree.proofs.MatchingLemmas.{event_next, event_lists}
+use Rattle.dpl_tree.proofs.Parting.{parted_tops}
 use Rattle.dpl_tree.proofs.WayGiven.{around_few, opening_first, gave_way, sized_on}
 use Rattle.dpl_tree.proofs.expanding_set.give_way.Goals as goal
 use Rattle.dpl_list.proofs.Lists.{refilled}
@@ -45,5 +46,6 @@ returns g c =
       next = event_next (λ bound. omega arith) done sized;
       lists = event_lists q.growing.lists done.sums (ap length back ∙ size) refl;
       sums = refl;
+      finer = parted_tops q.growing.stage q.above q.is_inner c.expand.ensures.value;
       steps = omega arith;
     }
