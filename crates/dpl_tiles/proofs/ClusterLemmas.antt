@@ -1,6 +1,6 @@
 -- One cluster of corners: what it changes lies between the column that was passed before and the next one.
 use Rattle.std.proofs.Common.{arith, ◌≡◌, ◌⊎◌, ◌∙◌, ℕ, ◌<◌, ◌≤◌, ℤ, pos, ◌-ℤ◌, ◌<ℤ◌, ◌≤ℤ◌, List, length, get_or}
-use Rattle.std.proofs.Common.{reverse, All, Any, AllPairs, refl, sym, ap, inl, inr, [], ◌∷◌, ◌++◌, append_assoc, subst}
+use Rattle.std.proofs.Common.{All, Any, AllPairs, refl, sym, ap, inl, inr, [], ◌∷◌, ◌++◌, append_assoc, subst}
 use Rattle.std.proofs.Common.{Bool, true, false, IsTrue, Option, Some, None, IfSome, map}
 use Rattle.std.specs.List.{AllZip}
 use Rattle.std.proofs.lemmas.Bool.{cases_lt, false_from_ne_true}
@@ -106,8 +106,8 @@ module _ (cells : ℤ → ℤ → Bool) (z : ℤ) (row : List Corner) (at to : �
       let d = some_of row at (omega arith) in
       let f = m.cluster.left d in let g = m.before.ahead at d (omega arith) (omega arith) in omega signed
 
-  ordered : AllPairs IsLeftOf (near ++ reverse right)
-  ordered = (part_ordered left (near ++ reverse right) (rw m.parted.whole at m.before.step.step.ordered)).1
+  ordered : AllPairs IsLeftOf (near ++ right)
+  ordered = (part_ordered left (near ++ right) (rw m.parted.whole at m.before.step.step.ordered)).1
 
   right_of : (r : Rect) → d2 <ℤ r.x1 → ((k : ℕ) (d : Rect) → k < length near → IsLeftOf (get_or near k d) r) → w <ℤ r.x1
   right_of r h up = elim e.is [
@@ -115,16 +115,16 @@ module _ (cells : ℤ → ℤ → Bool) (z : ℤ) (row : List Corner) (at to : �
     | inr (k, q, l, g, f) ↦ let i : IsLeftOf q r = rw g at (up k q l) in omega signed
   ]
 
-  behind_right : All (λ r. w <ℤ r.x1) (reverse right)
-  behind_right k d l = right_of (get_or (reverse right) k d) (m.parted.right k d l) (λ i c h. at_place i c h) where
-    at_place : (i : ℕ) (c : Rect) → i < length near → IsLeftOf (get_or near i c) (get_or (reverse right) k d)
-    at_place i c h = let f : get_or (reverse right) k c ≡ get_or (reverse right) k d =
-        get_or_default (reverse right) k c d l in rw f at (across near (reverse right) ordered i k c h l)
+  behind_right : All (λ r. w <ℤ r.x1) right
+  behind_right k d l = right_of (get_or right k d) (m.parted.right k d l) (λ i c h. at_place i c h) where
+    at_place : (i : ℕ) (c : Rect) → i < length near → IsLeftOf (get_or near i c) (get_or right k d)
+    at_place i c h = let f : get_or right k c ≡ get_or right k d =
+        get_or_default right k c d l in rw f at (across near right ordered i k c h l)
 
   -- no stack stands across the end
   sides : All (λ r. (r.x2 ≤ℤ w) ⊎ (w <ℤ r.x1)) now
-  sides = rw m.parted.whole (All-append (λ r. (r.x2 ≤ℤ w) ⊎ (w <ℤ r.x1)) left (near ++ reverse right) (λ k d l. inl (before_end _ (m.parted.left k d l)))
-      (All-append (λ r. (r.x2 ≤ℤ w) ⊎ (w <ℤ r.x1)) near (reverse right) (λ k d l. inl (e.holds k d l)) (λ k d l. inr (behind_right k d l)))) where
+  sides = rw m.parted.whole (All-append (λ r. (r.x2 ≤ℤ w) ⊎ (w <ℤ r.x1)) left (near ++ right) (λ k d l. inl (before_end _ (m.parted.left k d l)))
+      (All-append (λ r. (r.x2 ≤ℤ w) ⊎ (w <ℤ r.x1)) near right (λ k d l. inl (e.holds k d l)) (λ k d l. inr (behind_right k d l)))) where
         before_end : (x : ℤ) → x <ℤ d1 → x ≤ℤ w
         before_end x h = let f = m.parted.some in let g = e.right in omega signed
 
@@ -220,8 +220,8 @@ module _ (cells : ℤ → ℤ → Bool) (z : ℤ) (row : List Corner) (at to : �
 
   -- each stack ends left of the cluster, or begins in the window or right of it
   near_or_past : (a : ℤ) → a ≤ℤ d1 → All (λ r. a ≤ℤ r.x1) near → All (λ r. (r.x2 <ℤ d1) ⊎ (a ≤ℤ r.x1)) now
-  near_or_past a h holds = rw m.parted.whole (All-append (λ r. (r.x2 <ℤ d1) ⊎ (a ≤ℤ r.x1)) left (near ++ reverse right) (λ k d l. inl (m.parted.left k d l))
-      (All-append (λ r. (r.x2 <ℤ d1) ⊎ (a ≤ℤ r.x1)) near (reverse right) (λ k d l. inr (holds k d l)) (λ k d l. inr (further _ (m.parted.right k d l))))) where
+  near_or_past a h holds = rw m.parted.whole (All-append (λ r. (r.x2 <ℤ d1) ⊎ (a ≤ℤ r.x1)) left (near ++ right) (λ k d l. inl (m.parted.left k d l))
+      (All-append (λ r. (r.x2 <ℤ d1) ⊎ (a ≤ℤ r.x1)) near right (λ k d l. inr (holds k d l)) (λ k d l. inr (further _ (m.parted.right k d l))))) where
         further : (x : ℤ) → d2 <ℤ x → a ≤ℤ x
         further x i = let f = m.parted.some in omega signed
 
@@ -286,7 +286,7 @@ module _ (cells : ℤ → ℤ → Bool) (z : ℤ) (row : List Corner) (at to : �
 
   window : (runs stacks closed : List Rect) → AreNearRuns cells z d1 d2 runs → AllZip (IsContinued near z) runs stacks →
       AllZip (IsClosed z) (ending runs near) closed → IsWindowStep (passed cells m.before.column) (passed cells w) z d1
-      d2 left near (reverse right) runs stacks closed
+      d2 left near right runs stacks closed
   window runs stacks closed are cont ends = record {
     change = change;
     some = m.parted.some;
@@ -303,7 +303,7 @@ module _ (cells : ℤ → ℤ → Bool) (z : ℤ) (row : List Corner) (at to : �
 
   end_passed : (runs stacks closed next : List Rect) → AreNearRuns cells z d1 d2 runs →
       AllZip (IsContinued near z) runs stacks → AllZip (IsClosed z) (ending runs near) closed →
-      next ≡ left ++ (stacks ++ reverse right) → IsPassed cells z row to (ended ++ closed) next
+      next ≡ left ++ (stacks ++ right) → IsPassed cells z row to (ended ++ closed) next
   end_passed runs stacks closed next are cont ends is = record {
     before = m.before.before;
     held = m.before.held;
@@ -329,7 +329,7 @@ module _ (cells : ℤ → ℤ → Bool) (z : ℤ) (row : List Corner) (at to : �
 
     stepped : IsStep (passed cells w) z now closed next
     stepped = rw (m.parted.whole, is) (window_step (passed cells m.before.column) (passed cells w) z d1 d2 left near
-        (reverse right) runs stacks closed (window runs stacks closed are cont ends))
+        right runs stacks closed (window runs stacks closed are cont ends))
 
 module _ (cells : ℤ → ℤ → Bool) (z : ℤ) (row : List Corner) (at to : ℕ) (d1 d2 : ℤ)
     (ended now left near right : List Rect) (m : IsMet cells z row at to d1 d2 ended now left near right) where
@@ -399,9 +399,9 @@ module _ (cells : ℤ → ℤ → Bool) (z : ℤ) (row : List Corner) (at to : �
   -- the row is passed up to the corner behind the cluster
   pub cluster_passed : (new runs stacks next : List Rect) → AreNearRuns cells z d1 d2 runs → All (λ r. r.y1 ≡ z) runs →
       AllZip (λ run r. IsContinued near run.y1 run r) runs stacks → AddsClosed z (ending runs near) ended new →
-      next ≡ left ++ stacks → IsPassed cells z row to new (next ++ reverse right)
+      next ≡ left ++ stacks → IsPassed cells z row to new (next ++ right)
   cluster_passed new runs stacks next are bottom cont a is = go (end_of near d2) where
-    go : (w : ℤ) × IsEnd near d2 w → IsPassed cells z row to new (next ++ reverse right)
+    go : (w : ℤ) × IsEnd near d2 w → IsPassed cells z row to new (next ++ right)
     go (w, e) = rw a.added (end_passed cells z row at to d1 d2 ended now left near right m w e runs stacks a.closed
-        (next ++ reverse right) are (continued_at near z runs stacks bottom cont) a.each
-        (ap (λ xs. xs ++ reverse right) is ∙ append_assoc left stacks (reverse right)))
+        (next ++ right) are (continued_at near z runs stacks bottom cont) a.each
+        (ap (λ xs. xs ++ right) is ∙ append_assoc left stacks right))

@@ -21,5 +21,6 @@ pub mod PartLemmas
 pub mod EndLemmas
 pub mod CornerLemmas
 pub mod PlaceLemmas
+pub mod BlockLemmas
 pub mod PassLemmas
 pub mod ClusterLemmas

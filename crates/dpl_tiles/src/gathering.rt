@@ -3,14 +3,14 @@ ghost use Rattle.std.specs.Prelude.{◌≡◌, true, false, ℤ, ◌<ℤ◌, ◌
 ghost use Rattle.dpl_cell.specs.declared.rect.Rect.{Rect};
 ghost use Rattle.dpl_tiles.specs.declared.corners.Corner.{Corner};
 ghost use Rattle.dpl_tiles.specs.Bands.{IsLeftOf};
-ghost use Rattle.dpl_tiles.specs.Sweeps.{stacks_of};
+ghost use Rattle.dpl_tiles.specs.Sweeps.{before_of, behind_of, stacks_of};
 ghost use Rattle.dpl_tiles.specs.Windows.{IsParted};
 ghost use Rattle.dpl_tiles.specs.Clusters.{IsCluster};
 
 use crate::columns::Columns;
 use crate::corners::{Corner, columns_of, widened};
+use crate::parting::{part, take_near};
 use crate::sweep::Stacks;
-use crate::sweeping::{first_not_right, move_back, part};
 use dpl_cell::Rect;
 use std::alloc::{AllocError, Global};
 
@@ -32,7 +32,7 @@ pub fn gather(
     requires ordered { AllPairs IsLeftOf (stacks_of stacks.old) }
     requires inside { at < length corners.now }
     ensures parted { IfOk result (λ v. IsParted (stacks_of stacks.old) v.change.left v.change.right
-        stacks.new.left.items v.near.items stacks.new.right.items) }
+        (before_of stacks.new) v.near.items (behind_of stacks.new)) }
     ensures cluster { IfOk result (λ v.
         IsCluster corners.now at v.to v.change.left v.change.right v.near.items) }
 {
@@ -41,22 +41,10 @@ pub fn gather(
     let mut to = at + 1;
     'wider: while goes_on(corners, to, stacks.right.as_slice()) {
         change = widened(&change, &corners[to]);
-        take_near(&mut stacks.right, &mut near, change.right)?;
+        take_near(stacks, &mut near, change.right)?;
         to += 1;
     }
     Ok(Cluster { change, near, to })
-}
-
-/// Takes out the stacks that do not begin right of a column.
-fn take_near(right: &mut Vec<Rect>, near: &mut Vec<Rect>, column: i64) -> Result<(), AllocError>
-    requires { AllPairs IsLeftOf (reverse right.old.items) }
-    ensures { (held before : List Rect) (d1 d2 : ℤ) →
-        IsParted held d1 d2 before near.old.items right.old.items → d2 ≤ℤ column →
-        OnOk result (IsParted held d1 column before near.new.items right.new.items) }
-{
-    let count = first_not_right(right.as_slice(), column);
-    move_back(right, near, count)?;
-    Ok(())
 }
 
 /// Whether there is a corner at a place before which no stack begins, of those given from the right.

@@ -20,7 +20,7 @@ use crate::gathering::gather;
 use crate::rows::push_polygons;
 use crate::stacking::find;
 use crate::still::{parts_beside, stack_across};
-use crate::sweep::{Stacks, Sweep};
+use crate::sweep::Sweep;
 use dpl_cell::{Rect, Stretch};
 use dpl_cover::{merged, sort};
 use std::alloc::{AllocError, Global};
@@ -74,45 +74,6 @@ fn pass(
     Ok(cluster.to)
 }
 
-/// Takes out the stacks near the columns that change; those left of them stand in one list, those right of them in the
-/// other.
-pub fn part(alloc: Global, stacks: &mut Stacks, change: &Columns) -> Result<Vec<Rect>, AllocError>
-    requires ordered { AllPairs IsLeftOf (stacks_of stacks.old) }
-    requires some { change.now.left ≤ℤ change.now.right }
-    ensures { IfOk result (λ near. IsParted (stacks_of stacks.old) change.now.left change.now.right
-        stacks.new.left.items near.items stacks.new.right.items) }
-{
-    let mut near = Vec::new(alloc);
-    let from = first_not_left(stacks.left.as_slice(), change.left);
-    move_back(&mut stacks.left, &mut stacks.right, from)?;
-    let count = first_left(stacks.right.as_slice(), change.left);
-    move_back(&mut stacks.right, &mut stacks.left, count)?;
-    let count = first_not_right(stacks.right.as_slice(), change.right);
-    move_back(&mut stacks.right, &mut near, count)?;
-    Ok(near)
-}
-
-/// Moves the stacks from a place on to the end of another list, the last first.
-pub fn move_back(from: &mut Vec<Rect>, to: &mut Vec<Rect>, count: usize) -> Result<(), AllocError>
-    requires within { count ≤ length from.old.items }
-    ensures from { OnOk result (from.new.items ≡ take count from.old.items) }
-    ensures to { OnOk result (to.new.items ≡ to.old.items ++ reverse (drop count from.old.items)) }
-{
-    push_back(to, &from[count..])?;
-    from.truncate(count);
-    Ok(())
-}
-
-/// Adds stacks, the last first.
-fn push_back(to: &mut Vec<Rect>, stacks: &[Rect]) -> Result<(), AllocError>
-    ensures { OnOk result (to.new.items ≡ to.old.items ++ reverse stacks.now) }
-{
-    let from = to.len();
-    to.extend_from_slice(stacks)?;
-    to[from..].reverse();
-    Ok(())
-}
-
 /// The stacks of all runs.
 fn all_continued(alloc: Global, near: &[Rect], runs: &[Rect]) -> Result<Vec<Rect>, AllocError>
     requires { AllPairs IsLeftOf near.now }
@@ -124,33 +85,6 @@ fn all_continued(alloc: Global, near: &[Rect], runs: &[Rect]) -> Result<Vec<Rect
         stacks.push(continued(near, run))?;
     }
     Ok(stacks)
-}
-
-/// The place of the first stack that does not end left of a column.
-fn first_not_left(held: &[Rect], column: i64) -> usize
-    requires { AllPairs IsLeftOf held.now }
-    ensures within { result ≤ length held.now }
-    ensures place { IsPartitionPoint (λ r. r.x2 <ℤ column) (λ r. column ≤ℤ r.x2) held.now result }
-{
-    held.partition_point(|r| r.x2 < column)
-}
-
-/// How many stacks, from the right, do not end left of a column.
-fn first_left(stacks: &[Rect], column: i64) -> usize
-    requires { AllPairs IsLeftOf (reverse stacks.now) }
-    ensures within { result ≤ length stacks.now }
-    ensures place { IsPartitionPoint (λ r. column ≤ℤ r.x2) (λ r. r.x2 <ℤ column) stacks.now result }
-{
-    stacks.partition_point(|r| column <= r.x2)
-}
-
-/// How many stacks, from the right, begin right of a column.
-pub fn first_not_right(stacks: &[Rect], column: i64) -> usize
-    requires { AllPairs IsLeftOf (reverse stacks.now) }
-    ensures within { result ≤ length stacks.now }
-    ensures place { IsPartitionPoint (λ r. column <ℤ r.x1) (λ r. r.x1 ≤ℤ column) stacks.now result }
-{
-    stacks.partition_point(|r| column < r.x1)
 }
 
 /// Columns that hold those that change and those of the stacks near them.

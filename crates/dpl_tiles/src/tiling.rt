@@ -19,8 +19,8 @@ use crate::band::Band;
 use crate::corners::{Corner, corners_of};
 use crate::finder::Finder;
 use crate::ordinates::ordinates;
-use crate::sweep::{Stacks, Sweep};
-use crate::sweeping::{close_all, move_back, step};
+use crate::sweep::{Sweep, all_stacks, no_stacks};
+use crate::sweeping::{close_all, step};
 use dpl_cell::{Layout, Prim, Rect};
 use dpl_limits::{LimitError, MOST_TILES};
 use std::alloc::Global;
@@ -67,10 +67,7 @@ fn unsorted(
 {
     let mut sweep = Sweep {
         ended: Vec::new(alloc),
-        stacks: Stacks {
-            left: Vec::new(alloc),
-            right: Vec::new(alloc),
-        },
+        stacks: no_stacks(alloc),
     };
     for k in 1..rows.len() {
         if rows[k - 1] < rows[k] {
@@ -88,8 +85,8 @@ fn unsorted(
         }
     }
     let top = top_of(rows);
-    move_back(&mut sweep.stacks.right, &mut sweep.stacks.left, 0)?;
-    close_all(&mut sweep.ended, sweep.stacks.left.as_slice(), top)?;
+    let held = all_stacks(alloc, &mut sweep.stacks)?;
+    close_all(&mut sweep.ended, held.as_slice(), top)?;
     if sweep.ended.len() > MOST_TILES {
         return Err(LimitError::TooMany);
     }

@@ -1,12 +1,12 @@
 use Rattle.std.proofs.Common.{◌-◌, length}
-use Rattle.dpl_tiles.specs.Sweeps.{stacks_of}
+use Rattle.dpl_tiles.specs.Sweeps.{before_of, behind_of, stacks_of}
 use Rattle.dpl_tiles.specs.Windows.{IsParted}
 use Rattle.dpl_tiles.proofs.CornerLemmas.{AreGathered}
 use Rattle.dpl_tiles.proofs.gathering.gather.Given as goal
 
 abbrev pub invariant-wider : goal.invariant-wider
 invariant-wider l = record {
-  parted : IsParted (stacks_of l.fn.stacks) l.change.left l.change.right l.stacks.left.items l.near.items l.stacks.right.items;
+  parted : IsParted (stacks_of l.fn.stacks) l.change.left l.change.right (before_of l.stacks) l.near.items (behind_of l.stacks);
   gathered : AreGathered l.corners l.at l.to l.change.left l.change.right;
 }
 

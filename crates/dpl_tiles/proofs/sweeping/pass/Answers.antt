@@ -1,8 +1,9 @@
-use Rattle.std.proofs.Common.{rules, ◌≡◌, SFits, w64, All}
+use Rattle.std.proofs.Common.{rules, ◌≡◌, ◌∙◌, ◌++◌, ap, append_assoc, sym, SFits, w64, All}
 use Rattle.std.specs.List.{AllZip}
 use Rattle.std.proofs.lemmas.Int.{to_z-of_z}
 use Rattle.dpl_tiles.specs.Bands.{cells_in}
 use Rattle.dpl_tiles.specs.Stacks.{ending}
+use Rattle.dpl_tiles.specs.Sweeps.{joined}
 use Rattle.dpl_tiles.specs.Windows.{IsContinued, AddsClosed, AreNearRuns}
 use Rattle.dpl_tiles.proofs.PlaceLemmas.{near_ordered}
 use Rattle.dpl_tiles.proofs.ClusterLemmas.{met, framed, run_inside, stays, near_below, cluster_passed}
@@ -56,4 +57,6 @@ returns-clause-passed c =
     rw (c.as_slice-near.ensures.value, c.as_slice.ensures.value) at (simp to_z-of_z at c.in_ok-push_closed.ensures)
     in
     cluster_passed _ c.args.band.now.low _ _ _ _ _ _ _ _ _ _ m _ c.in_ok-runs.runs.items c.in_ok-stacks.stacks.items _ runs
-    bottom stacks closed (rw c.as_slice-3.ensures.value at c.in_ok-extend_from_slice.ensures.items)
+    bottom stacks closed (ap (λ xs. joined c.gather.new.stacks.far_left.items ++ xs)
+    (rw c.as_slice-3.ensures.value at c.in_ok-extend_from_slice.ensures.items) ∙
+    sym (append_assoc (joined c.gather.new.stacks.far_left.items) c.gather.new.stacks.left.items c.in_ok-stacks.stacks.items))

@@ -15,7 +15,7 @@ use Rattle.dpl_tiles.proofs.tiling.unsorted.Goals.{then-rows-k+in_ok-step+else-l
 
 pub loop-k-init : goal.loop-k-init
 loop-k-init c = record {
-  reached = swept_first _ _ _ _ c.new.ensures.items (rw (c.new-2.ensures.items, c.new-3.ensures.items) refl) c.requires.sorted c.requires.all;
+  reached = swept_first _ _ _ _ c.new.ensures.items c.no_stacks.ensures c.requires.sorted c.requires.all;
   finder = c.requires.finder;
   below = rw c.requires.low (least_first c.args.rows.now c.requires.range);
 }
@@ -70,7 +70,7 @@ pub close_all-requires-clause-below : goal.close_all-requires-clause-below
 close_all-requires-clause-below c =
     let f : SFits w64 c.top_of-top.result = search rules in
     let e = c.top_of-top.ensures.value ∙ last_row_is c.args.rows.now c.loop-k.k c.loop-k-test.false c.loop-k.auto.k-end in
-    simp to_z-of_z (rw (c.as_slice.ensures.value, c.in_ok-move_back.ensures.to, e) (λ k d l. (c.loop-k.invariant.reached.going.each k d l).start))
+    simp to_z-of_z (rw (c.as_slice.ensures.value, c.in_ok-held.ensures, e) (λ k d l. (c.loop-k.invariant.reached.going.each k d l).start))
 
 pub returns-then-len-gt-MOST_TILES-2-clause-many : goal.returns-then-len-gt-MOST_TILES-2-clause-many
 returns-then-len-gt-MOST_TILES-2-clause-many c = λ t.
@@ -78,7 +78,7 @@ returns-then-len-gt-MOST_TILES-2-clause-many c = λ t.
     let e = c.top_of-top.ensures.value ∙ last_row_is c.args.rows.now c.loop-k.k c.loop-k-test.false c.loop-k.auto.k-end in
     let a : AddsClosed (get_or c.args.rows.now (c.loop-k.k - 1) (pos 0))
     (ending [] (stacks_of c.loop-k.sweep.stacks)) c.loop-k.sweep.ended.items
-    c.close_all.new.ended.items = rw (← e) (rw (c.as_slice.ensures.value, c.in_ok-move_back.ensures.to) at
+    c.close_all.new.ended.items = rw (← e) (rw (c.as_slice.ensures.value, c.in_ok-held.ensures) at
     (simp to_z-of_z at c.in_ok-close_all.ensures)) in
     let done = swept_last _ _ _ _ _ (rows_top c.args.prims.now c.args.rows.now c.loop-k.k c.requires.sorted
     c.requires.all c.loop-k-test.false c.loop-k.auto.k-end) c.loop-k.invariant.reached a in
@@ -90,7 +90,7 @@ returns-clause-tiles c =
     let e = c.top_of-top.ensures.value ∙ last_row_is c.args.rows.now c.loop-k.k c.loop-k-test.false c.loop-k.auto.k-end in
     let a : AddsClosed (get_or c.args.rows.now (c.loop-k.k - 1) (pos 0))
     (ending [] (stacks_of c.loop-k.sweep.stacks)) c.loop-k.sweep.ended.items
-    c.close_all.new.ended.items = rw (← e) (rw (c.as_slice.ensures.value, c.in_ok-move_back.ensures.to) at
+    c.close_all.new.ended.items = rw (← e) (rw (c.as_slice.ensures.value, c.in_ok-held.ensures) at
     (simp to_z-of_z at c.in_ok-close_all.ensures)) in
     all_swept _ _ _ _ _ (rows_top c.args.prims.now c.args.rows.now c.loop-k.k c.requires.sorted c.requires.all
     c.loop-k-test.false c.loop-k.auto.k-end) c.loop-k.invariant.reached a

@@ -2,7 +2,7 @@ use Rattle.std.proofs.Common.{rules, int_lt, SFits, w64}
 use Rattle.std.proofs.lemmas.List.Sorted.{IsPartitionPoint-from_clause}
 use Rattle.dpl_list.proofs.Integers.{is_less, not_less}
 use Rattle.dpl_tiles.proofs.PlaceLemmas.{parted_right_back}
-use Rattle.dpl_tiles.proofs.sweeping.first_not_right.Goals as goal
+use Rattle.dpl_tiles.proofs.parting.first_not_right.Goals as goal
 
 pub returns-clause-place : goal.returns-clause-place
 returns-clause-place c =

@@ -2,7 +2,7 @@ use Rattle.std.proofs.Common.{rules, int_le, SFits, w64}
 use Rattle.std.proofs.lemmas.List.Sorted.{IsPartitionPoint-from_clause}
 use Rattle.dpl_list.proofs.Integers.{is_at_most, not_at_most}
 use Rattle.dpl_tiles.proofs.PlaceLemmas.{parted_left_back}
-use Rattle.dpl_tiles.proofs.sweeping.first_left.Goals as goal
+use Rattle.dpl_tiles.proofs.parting.first_left.Goals as goal
 
 pub returns-clause-place : goal.returns-clause-place
 returns-clause-place c =
