@@ -1,6 +1,5 @@
 // Corners of a row with no stack between them, and the stacks near them.
-ghost use Rattle.std.specs.Prelude.{◌≡◌, true, false, ℤ, ◌<ℤ◌, ◌≤ℤ◌, ◌<◌, length, slice_index_or, List, All, AllPairs, Any, IfOk, OnOk, reverse};
-ghost use Rattle.dpl_cell.specs.declared.rect.Rect.{Rect};
+ghost use Rattle.std.specs.Prelude.{◌≡◌, true, false, ℤ, ◌<ℤ◌, ◌≤ℤ◌, ◌<◌, length, slice_index_or, All, AllPairs, Any, IfOk, reverse};
 ghost use Rattle.dpl_tiles.specs.declared.corners.Corner.{Corner};
 ghost use Rattle.dpl_tiles.specs.Bands.{IsLeftOf};
 ghost use Rattle.dpl_tiles.specs.Sweeps.{before_of, behind_of, stacks_of};

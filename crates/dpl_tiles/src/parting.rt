@@ -2,7 +2,7 @@
 ghost use Rattle.std.specs.Prelude.{◌≡◌, ◌⊎◌, true, false, ℤ, ◌<◌, ◌<ℤ◌, ◌≤ℤ◌, ◌≤◌, ◌++◌, length, All, AllPairs, IfOk, OnOk, reverse, []};
 ghost use Rattle.std.specs.List.Sorted.{IsPartitionPoint};
 ghost use Rattle.dpl_tiles.specs.Bands.{IsLeftOf};
-ghost use Rattle.dpl_tiles.specs.Sweeps.{before_of, behind_of, joined, stacks_of};
+ghost use Rattle.dpl_tiles.specs.Sweeps.{before_of, behind_of, stacks_of};
 ghost use Rattle.dpl_tiles.specs.Windows.{IsParted};
 
 use crate::columns::Columns;

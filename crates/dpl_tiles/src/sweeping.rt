@@ -1,7 +1,6 @@
 // A sweep that touches only the stacks near the columns that change.
-ghost use Rattle.std.specs.Prelude.{◌≡◌, ◌⊎◌, true, ℤ, ◌-ℤ◌, ◌<ℤ◌, ◌≤ℤ◌, ◌<◌, ◌≤◌, ◌++◌, pos, length, All, AllPairs, Any, IfOk, IfSome, OnOk, filter, take, drop, reverse, []};
+ghost use Rattle.std.specs.Prelude.{◌≡◌, ◌⊎◌, true, ℤ, ◌-ℤ◌, ◌<ℤ◌, ◌≤ℤ◌, ◌<◌, pos, length, All, AllPairs, Any, IfOk, IfSome, OnOk, filter, []};
 ghost use Rattle.std.specs.List.{AllZip};
-ghost use Rattle.std.specs.List.Sorted.{IsPartitionPoint};
 ghost use Rattle.dpl_limits.specs.Limits.{most_coordinate};
 ghost use Rattle.dpl_cell.specs.Tiles.{IsRun};
 ghost use Rattle.dpl_tiles.specs.Bands.{IsBand, IsLeftOf, IsOver, cells_in};
@@ -9,9 +8,9 @@ ghost use Rattle.dpl_tiles.specs.Stretches.{IsFramed};
 ghost use Rattle.dpl_tiles.specs.Corners.{AreCorners};
 ghost use Rattle.dpl_tiles.specs.Stacks.{ending};
 ghost use Rattle.dpl_cell.specs.Stretches.{is_in_stretches};
-ghost use Rattle.dpl_tiles.specs.Sweeps.{HasReached, stacks_of};
+ghost use Rattle.dpl_tiles.specs.Sweeps.{HasReached};
 ghost use Rattle.dpl_tiles.specs.Clusters.{AreChanges, HasPassed};
-ghost use Rattle.dpl_tiles.specs.Windows.{AddsClosed, AreNearRuns, IsClosed, IsContinued, IsFar, IsParted, IsStill, is_near};
+ghost use Rattle.dpl_tiles.specs.Windows.{AddsClosed, AreNearRuns, IsClosed, IsContinued, IsFar, IsStill, is_near};
 
 use crate::band::Band;
 use crate::columns::{Columns, greater, lesser, row_within};
