@@ -10,7 +10,7 @@ use Rattle.dpl_cell.specs.declared.rect.Rect.{Rect}
 use Rattle.dpl_tiles.specs.Bands.{IsLeftOf}
 use Rattle.dpl_tiles.specs.Sweeps.{joined}
 use Rattle.dpl_tiles.proofs.StepLemmas.{part_ordered}
-use Rattle.dpl_tiles.proofs.PlaceLemmas.{across, gap_same, to_right}
+use Rattle.dpl_tiles.proofs.PlaceLemmas.{across, gap_same, to_left}
 use Rattle.dpl_list.proofs.Integers.{signed}
 
 -- ---- one more block
@@ -101,12 +101,10 @@ module _ (blocks : List (Vec Rect Global)) (b : Vec Rect Global) where
 
 -- ---- blocks that pass
 
--- one more piece of stacks that are given from the right
-pub pieces_more : (rest block others : List Rect) (blocks blocks' : List (Vec Rect Global)) → rest ≡ block ++ others
-    → joined (reverse blocks') ≡ reverse block ++ joined (reverse blocks)
-    → reverse others ++ joined (reverse blocks') ≡ reverse rest ++ joined (reverse blocks)
-pieces_more rest block others blocks blocks' is e =
-    rw (e, is, reverse-append block others) (sym (append_assoc (reverse others) (reverse block) (joined (reverse blocks))))
+-- one more piece of stacks
+pub pieces_more : (rest piece others : List Rect) (blocks blocks' : List (Vec Rect Global)) → rest ≡ piece ++ others
+    → joined blocks' ≡ joined blocks ++ piece → joined blocks' ++ others ≡ joined blocks ++ rest
+pieces_more rest piece others blocks blocks' is e = rw (e, is) (append_assoc (joined blocks) piece others)
 
 pub next_ordered : (left right rest : List (Vec Rect Global)) (b : Vec Rect Global) → AllPairs IsLeftOf (joined left ++ joined (reverse right))
     → right ≡ rest ++ b ∷ [] → AllPairs IsLeftOf (b.items ++ joined (reverse rest))
@@ -136,12 +134,12 @@ all_behind right blocks c up a (inr e) = rw e (All-append (λ r. c <ℤ r.x1) (r
 pub between_none : (before left right behind : List Rect) → left ≡ [] → right ≡ [] → (before ++ left) ++ (reverse right ++ behind) ≡ before ++ behind
 between_none before left right behind e f = rw (e, f) (ap (λ xs. xs ++ behind) (append-nil before))
 
-pub closed_whole : (before left right left' right' right2 behind behind' : List Rect) → left' ≡ take 0 left
-    → right' ≡ right ++ reverse (drop 0 left) → right2 ≡ [] → behind' ≡ reverse right' ++ behind
-    → (before ++ left') ++ (reverse right2 ++ behind') ≡ (before ++ left) ++ (reverse right ++ behind)
-closed_whole before left right left' right' right2 behind behind' e f none g =
-    ap (λ xs. (before ++ left') ++ (reverse xs ++ behind')) none ∙ ap (λ xs. (before ++ left') ++ xs) g ∙
-    gap_same before left (reverse right) left' (reverse right') behind (to_right left right left' right' 0 e f)
+pub closed_whole : (before left right left' right' all behind : List Rect) (blocks : List (Vec Rect Global)) → right' ≡ take 0 right
+    → all ≡ left ++ reverse (drop 0 right) → left' ≡ [] → joined blocks ≡ before ++ all
+    → (joined blocks ++ left') ++ (reverse right' ++ behind) ≡ (before ++ left) ++ (reverse right ++ behind)
+closed_whole before left right left' right' all behind blocks e f none g =
+    ap (λ xs. (joined blocks ++ xs) ++ (reverse right' ++ behind)) none ∙ ap (λ xs. xs ++ (reverse right' ++ behind)) (append-nil (joined blocks) ∙ g) ∙
+    gap_same before left (reverse right) all (reverse right') behind (to_left left right all right' 0 e f)
 
 -- a block stands open between the others
 pub opened_whole : (before block right behind before' behind' : List Rect) → right ≡ [] → before ++ (block ++ behind) ≡ before' ++ behind'

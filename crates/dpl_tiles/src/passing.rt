@@ -3,10 +3,11 @@ ghost use Rattle.std.specs.Prelude.{◌≡◌, true, false, ℤ, ◌<ℤ◌, ◌
 ghost use Rattle.dpl_tiles.specs.Bands.{IsLeftOf};
 ghost use Rattle.dpl_tiles.specs.Sweeps.{joined, stacks_of};
 
-use crate::moving::{move_back, push_back};
+use crate::moving::move_back;
 use crate::sweep::Stacks;
 use dpl_cell::Rect;
 use std::alloc::{AllocError, Global};
+use std::mem::replace;
 
 /// How many stacks each block has that a long list is cut into.
 const BLOCK: usize = 256;
@@ -99,47 +100,61 @@ fn is_left(stacks: &[Rect], column: i64) -> bool
     }
 }
 
-/// Puts all stacks that stand in no block into blocks on the right.
+/// Puts all stacks that stand in no block into blocks on the left.
 fn close(alloc: Global, stacks: &mut Stacks) -> Result<(), AllocError>
     ensures whole { OnOk result (stacks_of stacks.new ≡ stacks_of stacks.old) }
     ensures left { OnOk result (stacks.new.left.items ≡ []) }
     ensures right { OnOk result (stacks.new.right.items ≡ []) }
 {
-    move_back(&mut stacks.left, &mut stacks.right, 0)?;
-    push_blocks(alloc, &mut stacks.far_right, stacks.right.as_slice())?;
-    stacks.right.clear();
+    move_back(&mut stacks.right, &mut stacks.left, 0)?;
+    let all = replace(&mut stacks.left, Vec::new(alloc));
+    push_blocks(alloc, &mut stacks.far_left, all)?;
     Ok(())
 }
 
-/// Adds blocks of stacks that are given from the right.
+/// Adds stacks as one block or, where they are many, as several.
 fn push_blocks(
     alloc: Global,
     blocks: &mut Vec<Vec<Rect>>,
-    stacks: &[Rect],
+    stacks: Vec<Rect>,
 ) -> Result<(), AllocError>
-    ensures { OnOk result (joined (reverse blocks.new.items) ≡
-        reverse stacks.now ++ joined (reverse blocks.old.items)) }
-{
-    let mut rest = stacks;
-    'pieces: while rest.len() > 2 * BLOCK {
-        let (block, others) = rest.split_at(BLOCK);
-        push_block(alloc, blocks, block)?;
-        rest = others;
-    }
-    push_block(alloc, blocks, rest)?;
-    Ok(())
-}
-
-/// Adds a block of stacks that are given from the right, where there are any.
-fn push_block(alloc: Global, blocks: &mut Vec<Vec<Rect>>, stacks: &[Rect]) -> Result<(), AllocError>
-    ensures { OnOk result (joined (reverse blocks.new.items) ≡
-        reverse stacks.now ++ joined (reverse blocks.old.items)) }
+    ensures { OnOk result (joined blocks.new.items ≡ joined blocks.old.items ++ stacks.items) }
 {
     if stacks.is_empty() {
         return Ok(());
     }
+    if stacks.len() > 2 * BLOCK {
+        push_pieces(alloc, blocks, stacks.as_slice())?;
+        return Ok(());
+    }
+    blocks.push(stacks)?;
+    Ok(())
+}
+
+/// Adds many stacks as several blocks.
+fn push_pieces(
+    alloc: Global,
+    blocks: &mut Vec<Vec<Rect>>,
+    stacks: &[Rect],
+) -> Result<(), AllocError>
+    ensures { OnOk result (joined blocks.new.items ≡ joined blocks.old.items ++ stacks.now) }
+{
+    let mut rest = stacks;
+    'pieces: while rest.len() > 2 * BLOCK {
+        let (piece, others) = rest.split_at(BLOCK);
+        push_piece(alloc, blocks, piece)?;
+        rest = others;
+    }
+    push_piece(alloc, blocks, rest)?;
+    Ok(())
+}
+
+/// Adds a block of stacks.
+fn push_piece(alloc: Global, blocks: &mut Vec<Vec<Rect>>, stacks: &[Rect]) -> Result<(), AllocError>
+    ensures { OnOk result (joined blocks.new.items ≡ joined blocks.old.items ++ stacks.now) }
+{
     let mut block = Vec::new(alloc);
-    push_back(&mut block, stacks)?;
+    block.extend_from_slice(stacks)?;
     blocks.push(block)?;
     Ok(())
 }
