@@ -1,10 +1,9 @@
 -- Which columns boxes cover in the row that a sweep has reached.
-use Rattle.std.proofs.Common.{arith, ◌≡◌, ◌∙◌, ◌⊎◌, inl, inr, ap, sym, ℕ, ◌+◌, ◌<◌, ◌≤◌, ◌^◌, ℤ, pos, neg_ℤ, ◌≤ℤ◌, ◌<ℤ◌, List, true, false, int_le}
-use Rattle.std.proofs.Common.{length, get_or, take, drop, ◌∷◌, [], ◌++◌}
+use Rattle.std.proofs.Common.{arith, ◌≡◌, ◌⊎◌, inl, inr, ap, ℕ, ◌+◌, ◌<◌, ◌≤◌, ◌^◌, ℤ, pos, neg_ℤ, ◌≤ℤ◌, ◌<ℤ◌, List, true, false, int_le}
+use Rattle.std.proofs.Common.{length, get_or, take, ◌∷◌, [], ◌++◌}
 use Rattle.std.specs.List.Sorted.{IsPartitionedBy, IsPermutation}
 use Rattle.std.proofs.lemmas.Int.{ints}
 use Rattle.std.proofs.lemmas.List.{length-take, length-append}
-use Rattle.std.proofs.Math.Seq.{take-append_seam}
 use Rattle.std.proofs.lemmas.List.Sorted.{length_permutation}
 use Rattle.dpl_list.specs.Order.{Ascends}
 use Rattle.dpl_list.proofs.Integers.{signed, is_at_most, not_at_most}

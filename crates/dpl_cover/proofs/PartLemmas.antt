@@ -1,7 +1,7 @@
 -- Stretches of columns whose places are counted.
 use Rattle.std.proofs.Common.{arith, refl, ◌≡◌, ◌∙◌, ◌⊎◌, inl, inr, ap, sym, subst, ℕ, zero, suc, ◌+◌, ◌-◌, ◌<◌, ◌≤◌, ℤ, ◌≤ℤ◌, ◌<ℤ◌, List, Bool, true}
-use Rattle.std.proofs.Common.{false, ◌||◌, true≢false, int_lt, [], length}
-use Rattle.dpl_list.proofs.Integers.{signed, not_less}
+use Rattle.std.proofs.Common.{false, ◌||◌, true≢false, [], length}
+use Rattle.dpl_list.proofs.Integers.{signed}
 use Rattle.dpl_cell.specs.declared.stretch.Stretch.{Stretch}
 use Rattle.dpl_cell.specs.Layers.{is_within}
 use Rattle.dpl_cell.specs.Stretches.{is_in_stretches}

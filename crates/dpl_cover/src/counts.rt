@@ -1,5 +1,5 @@
 // How often each place is counted.
-ghost use Rattle.std.specs.Prelude.{◌≡◌, ◌≤◌, ◌<◌, ◌+◌, ◌*◌, ◌/◌, ◌^◌, ◌≤ℤ◌, ◌<ℤ◌, ◌+ℤ◌, ℕ, ℤ, pos, length, slice_index_or};
+ghost use Rattle.std.specs.Prelude.{◌≡◌, ◌≤◌, ◌<◌, ◌+◌, ◌*◌, ◌/◌, ◌^◌, ◌≤ℤ◌, ◌<ℤ◌, ◌+ℤ◌, ℕ, ℤ, pos, neg_ℤ, true, length, slice_index_or};
 ghost use Rattle.dpl_cover.specs.declared.blocks.TheConstants.{BLOCK};
 ghost use Rattle.dpl_cover.specs.Counts.{AreCounts, AreTame, AreOwnSmall, IsChange, IsGrown, IsRenewed, IsUnit, IsWholeGrown, block_at, is_counted, own_at};
 
@@ -16,36 +16,6 @@ fn add_each(each: &mut [i64], from: usize, to: usize, by: i64)
     for k in from..to {
         each[k] += by;
     }
-}
-
-/// The least of the own counts of places.
-fn least(each: &[i64], from: usize, to: usize) -> i64
-    requires order { from ≤ to }
-    requires within { to ≤ length each.now }
-    ensures { (k : ℕ) → from ≤ k → k < to → result ≤ℤ own_at each.now k }
-{
-    let mut low = i64::MAX;
-    for k in from..to {
-        if each[k] < low {
-            low = each[k];
-        }
-    }
-    low
-}
-
-/// The greatest of the own counts of places.
-fn greatest(each: &[i64], from: usize, to: usize) -> i64
-    requires order { from ≤ to }
-    requires within { to ≤ length each.now }
-    ensures { (k : ℕ) → from ≤ k → k < to → own_at each.now k ≤ℤ result }
-{
-    let mut high = i64::MIN;
-    for k in from..to {
-        if high < each[k] {
-            high = each[k];
-        }
-    }
-    high
 }
 
 /// Adds a number to the count of a block.
@@ -65,8 +35,14 @@ fn renew(blocks: &mut [Block], each: &[i64], b: usize, from: usize, to: usize)
     requires within { to ≤ length each.now }
     ensures { IsRenewed b from to each.now blocks.old blocks.new }
 {
-    blocks[b].low = least(each, from, to);
-    blocks[b].high = greatest(each, from, to);
+    let mut low = i64::MAX;
+    let mut high = i64::MIN;
+    for k in from..to {
+        low = low.min(each[k]);
+        high = high.max(each[k]);
+    }
+    blocks[b].low = low;
+    blocks[b].high = high;
 }
 
 /// Adds a number to the counts of places of one block.
@@ -103,10 +79,12 @@ pub fn change(each: &mut [i64], blocks: &mut [Block], from: usize, to: usize, by
 {
     let mut at = from + (BLOCK - from % BLOCK).min(to - from);
     change_within(each, blocks, from, at, by);
-    while at < to {
-        let end = at + BLOCK.min(to - at);
-        change_within(each, blocks, at, end, by);
-        at = end;
+    while to - at >= BLOCK {
+        add_whole(blocks, at / BLOCK, by);
+        at += BLOCK;
+    }
+    if at < to {
+        change_within(each, blocks, at, to, by);
     }
 }
 
@@ -170,4 +148,35 @@ pub fn alike_from(each: &[i64], blocks: &[Block], at: usize) -> Piece
     let counted = is_counted(each, blocks, at);
     let to = end_of_alike(each, blocks, at + 1, to, counted);
     Piece { to, counted }
+}
+
+/// Whether all places of a block are counted more than not at all.
+fn is_full(blocks: &[Block], b: usize) -> bool
+    requires within { b < length blocks.now }
+    requires tame { AreTame (2 ^ 60) blocks.now }
+    ensures { result ≡ true → neg_ℤ (block_at blocks.now b).whole <ℤ (block_at blocks.now b).low }
+{
+    -blocks[b].whole < blocks[b].low
+}
+
+/// Where the blocks from a place on end whose places are all counted: at that place itself where it lies within a block.
+/// No block that begins at a column or right of it is looked at.
+pub fn full_from(columns: &[i64], each: &[i64], blocks: &[Block], at: usize, to: i64) -> usize
+    requires long { length each.now ≡ length columns.now }
+    requires within { at ≤ length each.now }
+    requires counts { AreCounts each.now blocks.now }
+    requires tame { AreTame (2 ^ 60) blocks.now }
+    ensures order { at ≤ result }
+    ensures within { result ≤ length each.now }
+    ensures same { (k : ℕ) → at ≤ k → k < result →
+        is_counted each.now blocks.now k ≡ true }
+{
+    if at % BLOCK > 0 {
+        return at;
+    }
+    let mut b = at / BLOCK;
+    while (b + 1) * BLOCK <= each.len() && columns[b * BLOCK] < to && is_full(blocks, b) {
+        b += 1;
+    }
+    b * BLOCK
 }

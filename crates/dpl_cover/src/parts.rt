@@ -9,7 +9,7 @@ ghost use Rattle.dpl_cover.specs.Parts.{HasCounted};
 
 use crate::blocks::Block;
 use crate::columns::last_place;
-use crate::counts::alike_from;
+use crate::counts::{alike_from, full_from};
 use dpl_cell::Stretch;
 use std::alloc::{AllocError, Global};
 
@@ -40,9 +40,12 @@ pub fn parts_in(
     while at < columns.len() && columns[at] < to {
         let alike = alike_from(each, blocks, at);
         if alike.counted {
-            push_part(&mut parts, columns, at, alike.to)?;
+            let end = full_from(columns, each, blocks, alike.to, to);
+            push_part(&mut parts, columns, at, end)?;
+            at = end;
+        } else {
+            at = alike.to;
         }
-        at = alike.to;
     }
     Ok(parts)
 }

@@ -1,6 +1,8 @@
-use Rattle.std.proofs.Common.{rules, ◌∙◌, ◌<◌, ◌≤ℤ◌, length, SFits, w64}
+use Rattle.std.proofs.Common.{rules, arith, inl, inr, refl, true, ◌≡◌, ℕ, ◌∙◌, ◌<◌, ◌≤◌, ◌≤ℤ◌, length, SFits, w64}
 use Rattle.std.proofs.lemmas.Int.{to_z-of_z}
 use Rattle.dpl_cover.specs.Columns.{column_at}
+use Rattle.dpl_cover.specs.Counts.{is_counted}
+use Rattle.dpl_cover.proofs.CountLemmas.{less_or_not}
 use Rattle.dpl_cover.proofs.PartLemmas.{none_before, sound_more, full_more, full_past, ends_before, all_looked_at, no_parts}
 use Rattle.dpl_cover.proofs.parts.parts_in.Goals as goal
 use Rattle.dpl_cover.proofs.parts.parts_in.Goals.{then-loop-at-test+else-columns-at, else-loop-at-test}
@@ -15,25 +17,35 @@ loop-at-init c =
           (simp to_z-of_z at c.last_place-at.ensures) x k (simp to_z-of_z at l) h i);
     }
 
+-- places of one block and the blocks behind it
+both : (P : ℕ → Type 0) (at m to : ℕ) → ((k : ℕ) → at ≤ k → k < m → P k) → ((k : ℕ) → m ≤ k → k < to → P k) → (k : ℕ) → at ≤ k → k < to → P k
+both P at m to first second k l h = elim (less_or_not k m) [
+  | inl g ↦ first k l g
+  | inr g ↦ second k g h
+]
+
 pub push_part-requires-clause-within : goal.push_part-requires-clause-within
 push_part-requires-clause-within c =
-    ends_before c.args.each.now c.args.blocks.now (length c.args.columns.now) c.loop-at.at c.alike_from-alike.result.to _
-    c.if-alike.true c.alike_from-alike.ensures.further (rw c.requires.long at c.alike_from-alike.ensures.within)
-    c.alike_from-alike.ensures.same c.requires.last
+    let counted = both (λ k. is_counted c.args.each.now c.args.blocks.now k ≡ true) c.loop-at.at c.alike_from-alike.result.to c.full_from-end.result
+    (λ k l h. c.alike_from-alike.ensures.same k l h ∙ c.if-alike.true) c.full_from-end.ensures.same in
+    ends_before c.args.each.now c.args.blocks.now (length c.args.columns.now) c.loop-at.at c.full_from-end.result true
+    refl (omega (arith, c.alike_from-alike.ensures.further, c.full_from-end.ensures.order)) (rw c.requires.long at c.full_from-end.ensures.within)
+    counted c.requires.last
 
-pub loop-at-preserved-in_ok-push_part : goal.loop-at-preserved-in_ok-push_part
-loop-at-preserved-in_ok-push_part c =
+pub loop-at-preserved-then-alike : goal.loop-at-preserved-then-alike
+loop-at-preserved-then-alike c =
     let f : SFits w64 c.args.from = c.ranges.from in
-    let within : c.alike_from-alike.result.to < length c.args.columns.now =
-    ends_before c.args.each.now c.args.blocks.now (length c.args.columns.now) c.loop-at.at c.alike_from-alike.result.to _
-    c.if-alike.true c.alike_from-alike.ensures.further (rw c.requires.long at c.alike_from-alike.ensures.within)
-    c.alike_from-alike.ensures.same c.requires.last in
+    let counted = both (λ k. is_counted c.args.each.now c.args.blocks.now k ≡ true) c.loop-at.at c.alike_from-alike.result.to c.full_from-end.result
+    (λ k l h. c.alike_from-alike.ensures.same k l h ∙ c.if-alike.true) c.full_from-end.ensures.same in
+    let further : c.loop-at.at < c.full_from-end.result = omega (arith, c.alike_from-alike.ensures.further, c.full_from-end.ensures.order) in
+    let within : c.full_from-end.result < length c.args.columns.now =
+    ends_before c.args.each.now c.args.blocks.now (length c.args.columns.now) c.loop-at.at c.full_from-end.result true
+    refl further (rw c.requires.long at c.full_from-end.ensures.within) counted c.requires.last in
     record {
       sound = sound_more c.args.columns.now c.args.each.now c.args.blocks.now c.loop-at.parts.items _ c.loop-at.at
-          c.alike_from-alike.result.to c.alike_from-alike.ensures.further within
-          (λ k l h. c.alike_from-alike.ensures.same k l h ∙ c.if-alike.true) c.in_ok-push_part.ensures c.loop-at.invariant.sound;
+          c.full_from-end.result further within counted c.in_ok-push_part.ensures c.loop-at.invariant.sound;
       full = simp to_z-of_z (full_more c.args.columns.now c.args.each.now c.args.blocks.now c.loop-at.parts.items _ c.args.from
-          c.loop-at.at c.alike_from-alike.result.to c.requires.columns within c.in_ok-push_part.ensures
+          c.loop-at.at c.full_from-end.result c.requires.columns within c.in_ok-push_part.ensures
           (simp to_z-of_z at c.loop-at.invariant.full));
     }
 
