@@ -1,13 +1,17 @@
 -- What is kept for a member at the turn of a stage.
-use Rattle.std.proofs.Common.{arith, ◌≡◌, ℕ, ◌+◌, ◌<◌, ◌≤◌, ap, Some, get_or}
+use Rattle.std.proofs.Common.{arith, ◌≡◌, ℕ, ◌+◌, ◌-◌, ◌<◌, ◌≤◌, refl, ap, Bool, Option, Some, get_or}
 use Rattle.dpl_laminar.specs.Storing.{sets_of}
 use Rattle.dpl_tree.specs.declared.matching.Matching.{Matching}
 use Rattle.dpl_tree.specs.Metrics.{Table, dist_of}
-use Rattle.dpl_tree.specs.Views.{forest_of}
+use Rattle.dpl_tree.specs.steps.Forests.{Place}
+use Rattle.dpl_tree.specs.Views.{forest_of, place_in}
+use Rattle.dpl_match.specs.declared.scan.Near.{Near}
 use Rattle.dpl_match.specs.declared.stage.Stage.{Stage}
 use Rattle.dpl_match.specs.steps.Going.{IsAtTurn}
 use Rattle.dpl_match.specs.declared.stage.Neighbour.{Neighbour}
 use Rattle.dpl_match.specs.steps.Nearest.{kept_in, member_of}
+use Rattle.dpl_match.specs.steps.Scans.{Members, members_of, IsFound, IsNearer}
+use Rattle.dpl_match.proofs.NearLemmas.{to_taken, kept_pair, kept_least}
 use Rattle.dpl_match.proofs.TurnLemmas.{totals_within}
 
 -- the sums of a member and of the one that is kept for it are within their distance, which is kept
@@ -30,3 +34,19 @@ kept_within {metric} {m} {s} start t near ht is =
         lists.sum t ht,
       ),
     )
+
+-- the pair of what is kept for t is the nearest one that leads to t
+pub kept_taken : {metric : Table} {m : Matching} {s : Stage} → IsAtTurn metric m s → (want : Place) (t : ℕ) (near : Neighbour)
+    → (x y : ℕ) (ends : Bool) (best found : Option Near) → t < metric.size → kept_in s.table.near.items t ≡ Some near
+    → x ≡ get_or m.sums.items near.member 0 → y ≡ get_or m.sums.items t 0
+    → place_in s.tree.labels.items ((sets_of m.family).top t) ≡ want
+    → IsNearer best (record { slack = near.dist - (x + y); from = near.member; to = t; ends = ends }) found
+    → IsFound (members_of metric m) (place_in s.tree.labels.items) want t best
+    → IsFound (members_of metric m) (place_in s.tree.labels.items) want (t + 1) found
+kept_taken {metric} {m} {s} start want t near x y ends best found ht is ex ey to one h =
+    let v : Members = members_of metric m in
+    let place : ℕ → Place = place_in s.tree.labels.items in
+    let w = kept_within start t near ht is in
+    let pair = kept_pair v place s.table want t near.member start.nearest ht (ap member_of is) to in
+    let least = kept_least v place s.table want t near.member start.nearest ht (ap member_of is) in
+    to_taken v place want t best found _ refl pair (omega (arith, w.1, w.2, ex, ey)) least one h
