@@ -1,6 +1,6 @@
 //! The pairing of the odd faces of a part, by distances up to their radii.
 
-ghost use Rattle.std.specs.Prelude.{◌≡◌, ℕ, ◌+◌, ◌<◌, ◌≤◌, length, slice_index, IfOk, MatchBool, MatchOption};
+ghost use Rattle.std.specs.Prelude.{◌≡◌, ℕ, ◌+◌, ◌^◌, ◌<◌, ◌≤◌, length, slice_index, IfOk, MatchBool, MatchOption};
 ghost use Rattle.dpl_laminar.specs.Pairings.{IsPairing};
 ghost use Rattle.dpl_laminar.specs.Storing.{sets_of};
 ghost use Rattle.dpl_pack.specs.Moats.{AreTerminals};
@@ -57,7 +57,7 @@ fn look(
 fn are_near(metric: &Metric, radii: &[u64], mate: &[u32]) -> bool
     requires mate { IsPairing metric.now.size (slice_index mate.now) }
     requires sizes { length radii.now ≡ metric.now.size }
-    requires small { (k : ℕ) → k < metric.now.size → slice_index radii.now k ≤ 562949953421312 }
+    requires small { (k : ℕ) → k < metric.now.size → slice_index radii.now k ≤ 2 ^ 49 }
     ensures { MatchBool result
         (AreNearer metric.now.size (dist_of metric.now) (slice_index mate.now) (slice_index radii.now))
         ((s : ℕ) × (s < metric.now.size) × (slice_index radii.now s +

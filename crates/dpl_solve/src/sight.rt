@@ -1,7 +1,7 @@
 //! How far around itself each odd face looks for others.
 //!
 //! A face looks half as far as its nearest other one lies, and a margin farther that all faces of a list share. A
-//! margin is wide enough where the pairs of least length see each other, and a wider one costs time only.
+//! margin is wide enough where all pairs that are found see each other, and a wider one costs time only.
 
 ghost use Rattle.std.specs.Prelude.{◌≡◌, ◌<◌, ◌≤◌, All, IfOk};
 ghost use Rattle.dpl_dual.specs.Duals.{CameFromDual};
