@@ -9,7 +9,8 @@ use dpl_cell::Rect;
 use std::alloc::{AllocError, Global};
 use std::mem::replace;
 
-/// How many stacks each block has that a long list is cut into.
+/// How many stacks each block has that a long list is cut into. A block that grows is cut again
+/// only beyond twice as many, so that blocks stay few.
 const BLOCK: usize = 256;
 
 /// Between the place and a column that lie farther apart than this many stacks, blocks pass.
