@@ -15,10 +15,11 @@ use Rattle.dpl_cell.specs.Outlines.{outline_of}
 use Rattle.dpl_cell.specs.Layers.{is_cell}
 use Rattle.dpl_cell.specs.Tiles.{IsRun}
 use Rattle.dpl_tiles.specs.declared.corners.Corner.{Corner}
-use Rattle.dpl_tiles.specs.Bands.{HasColumns, IsLeftOf}
+use Rattle.dpl_tiles.specs.Bands.{HasColumns}
+use Rattle.dpl_stacks.specs.Stacks.{IsLeftOf, IsParted}
 use Rattle.dpl_tiles.specs.Stacks.{ending}
 use Rattle.dpl_tiles.specs.Sweeps.{IsSameStack, IsStep}
-use Rattle.dpl_tiles.specs.Windows.{IsOutside, IsChange, IsFar, IsParted, AreNearRuns, IsContinued, IsClosed, AddsClosed, IsStill}
+use Rattle.dpl_tiles.specs.Windows.{IsOutside, IsChange, IsFar, AreNearRuns, IsContinued, IsClosed, AddsClosed, IsStill}
 use Rattle.dpl_tiles.specs.Stretches.{IsFramed}
 use Rattle.dpl_tiles.specs.Clusters.{passed, AreChanges, IsCluster, IsPassed}
 use Rattle.dpl_list.proofs.Lists.{any_head, any_tail, some_of}
@@ -27,8 +28,10 @@ use Rattle.dpl_list.proofs.Integers.{signed}
 use Rattle.dpl_tiles.proofs.BoundLemmas.{IsBounded, bounded}
 use Rattle.dpl_tiles.proofs.UnionLemmas.{run_around}
 use Rattle.dpl_tiles.proofs.NearLemmas.{near_ends}
-use Rattle.dpl_tiles.proofs.StepLemmas.{AreRuns, IsWindowStep, window_step, part_ordered}
-use Rattle.dpl_tiles.proofs.PlaceLemmas.{across, between, continued_at, near_all}
+use Rattle.dpl_tiles.proofs.StepLemmas.{AreRuns, IsWindowStep, window_step}
+use Rattle.dpl_stacks.proofs.OrderLemmas.{part_ordered, across}
+use Rattle.dpl_tiles.proofs.WindowLemmas.{between, continued_at}
+use Rattle.dpl_stacks.proofs.PlaceLemmas.{near_all}
 use Rattle.dpl_tiles.proofs.PassLemmas.{passed_left, passed_right, passed_on}
 
 -- a run that ends before the rows differ

@@ -9,7 +9,8 @@ use Rattle.std.proofs.lemmas.Bool.{cases_lt}
 use Rattle.std.proofs.lemmas.List.{get_or_default}
 use Rattle.std.proofs.lemmas.List.Sorted.{searchable_from_sorted}
 use Rattle.dpl_cell.specs.declared.rect.Rect.{Rect}
-use Rattle.dpl_tiles.specs.Bands.{HasColumns, IsLeftOf}
+use Rattle.dpl_tiles.specs.Bands.{HasColumns}
+use Rattle.dpl_stacks.specs.Stacks.{IsLeftOf}
 use Rattle.dpl_list.proofs.Integers.{signed}
 use Rattle.dpl_list.proofs.OrderLemmas.{less_by_order, greater_by_order}
 use Rattle.dpl_cell.proofs.BoxLemmas.{three}

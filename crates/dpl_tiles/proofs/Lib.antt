@@ -20,7 +20,5 @@ pub mod ChangeLemmas
 pub mod PartLemmas
 pub mod EndLemmas
 pub mod CornerLemmas
-pub mod PlaceLemmas
-pub mod BlockLemmas
 pub mod PassLemmas
 pub mod ClusterLemmas

@@ -7,7 +7,8 @@ use Rattle.std.proofs.lemmas.List.Folds.{list_any-from_Any, Any-from_list_any}
 use Rattle.dpl_cell.specs.declared.rect.Rect.{Rect}
 use Rattle.dpl_cell.specs.Cells.{IsWithin}
 use Rattle.dpl_cell.specs.Tiles.{IsRun}
-use Rattle.dpl_tiles.specs.Bands.{AreAlike, HasColumns, IsLeftOf}
+use Rattle.dpl_tiles.specs.Bands.{AreAlike, HasColumns}
+use Rattle.dpl_stacks.specs.Stacks.{IsLeftOf}
 use Rattle.dpl_tiles.specs.Stacks.{goes_on}
 use Rattle.dpl_list.proofs.Integers.{signed}
 use Rattle.dpl_cell.proofs.BoxLemmas.{three}

@@ -1,5 +1,5 @@
 -- A step of a sweep that looks at the stacks near the columns that change alone.
-use Rattle.std.proofs.Common.{arith, ◌≡◌, ◌⊎◌, ℕ, ◌+◌, ◌-◌, ◌<◌, ℤ, pos, ◌-ℤ◌, ◌<ℤ◌, ◌≤ℤ◌, List, length, get_or}
+use Rattle.std.proofs.Common.{arith, ◌≡◌, ◌⊎◌, ℕ, ◌-◌, ◌<◌, ℤ, pos, ◌-ℤ◌, ◌<ℤ◌, ◌≤ℤ◌, List, length, get_or}
 use Rattle.std.proofs.Common.{length-append, All, Any, AllPairs, refl, sym, ap, ◌∙◌, inl, inr, ◌++◌, Bool, not}
 use Rattle.std.specs.List.{AllZip}
 use Rattle.std.proofs.lemmas.Int.{by_lt_z}
@@ -9,39 +9,17 @@ use Rattle.std.proofs.lemmas.List.Elements.{All-append, All-filter, filter_passe
 use Rattle.std.proofs.lemmas.List.Kept.{AllPairs-filter}
 use Rattle.dpl_cell.specs.declared.rect.Rect.{Rect}
 use Rattle.dpl_cell.specs.Tiles.{IsRun}
-use Rattle.dpl_tiles.specs.Bands.{HasColumns, IsLeftOf}
+use Rattle.dpl_tiles.specs.Bands.{HasColumns}
+use Rattle.dpl_stacks.specs.Stacks.{IsLeftOf}
 use Rattle.dpl_tiles.specs.Stacks.{goes_on, ending}
 use Rattle.dpl_tiles.specs.Sweeps.{IsHeld, AreHeld, IsSameStack, IsNew, IsStep}
 use Rattle.dpl_tiles.specs.Windows.{IsChange, IsFar, AreNearRuns, IsContinued, IsClosed}
 use Rattle.dpl_list.proofs.Integers.{signed}
 use Rattle.dpl_list.proofs.Zips.{zip_at, zip_length}
 use Rattle.dpl_list.proofs.Lists.{any_left, any_right, all_pairs_append, kept_by, any_split}
+use Rattle.dpl_stacks.proofs.OrderLemmas.{all_left, all_right, part_ordered}
 use Rattle.dpl_tiles.proofs.StackLemmas.{goes_on_none, none_goes_on, one_place, run_same}
 use Rattle.dpl_tiles.proofs.WindowLemmas.{run_up, run_down}
-
-pub all_left : {X : Type 0} (P : X → Type 0) (xs ys : List X) → All P (xs ++ ys) → All P xs
-all_left P xs ys a k d l = let n = length-append xs ys in rw (get_or_append_left xs ys d k l) at (a k d (omega arith))
-
-pub all_right : {X : Type 0} (P : X → Type 0) (xs ys : List X) → All P (xs ++ ys) → All P ys
-all_right P xs ys a k d l =
-    let n = length-append xs ys in
-    let e : length xs + k - length xs ≡ k = omega arith in
-    rw (get_or-append_right xs ys (length xs) (length xs + k) d refl (omega arith), e) at (a (length xs + k) d (omega arith))
-
-pub part_ordered : (xs ys : List Rect) → AllPairs IsLeftOf (xs ++ ys) → AllPairs IsLeftOf xs × AllPairs IsLeftOf ys
-part_ordered xs ys up = (
-  (λ i j d h l. let n = length-append xs ys in rw (get_or_append_left xs ys d i (omega arith), get_or_append_left xs ys d j l) at (up i j d h (omega arith))),
-  (λ i j d h l. let n = length-append xs ys in
-      let e : length xs + i - length xs ≡ i = omega arith in
-      let f : length xs + j - length xs ≡ j = omega arith in
-      rw (
-        get_or-append_right xs ys (length xs) (length xs + i) d refl (omega arith),
-        e,
-        get_or-append_right xs ys (length xs) (length xs + j) d refl (omega arith),
-        f,
-      ) at
-      (up (length xs + i) (length xs + j) d (omega arith) (omega arith))),
-)
 
 pub itself : (r : Rect) → IsSameStack r r
 itself r = record { columns = record { left = refl; right = refl }; bottom = refl }

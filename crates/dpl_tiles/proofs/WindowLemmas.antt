@@ -1,15 +1,12 @@
 -- What a change of some columns leaves of the runs of a row.
-use Rattle.std.proofs.Common.{ℤ, pos, ◌-ℤ◌, ◌<ℤ◌, ◌≤ℤ◌, List, inl, inr, Bool, IsTrue, sym}
-use Rattle.std.proofs.Common.{arith, ◌≡◌, ◌⊎◌, ℕ, ◌<◌, length, get_or, subst, Any, AllPairs, true, false, int_le, int_lt}
-use Rattle.std.specs.List.Sorted.{IsPartitionedBy}
-use Rattle.std.proofs.lemmas.Bool.{cases_lt}
-use Rattle.std.proofs.lemmas.Int.{ints}
+use Rattle.std.proofs.Common.{ℤ, pos, ◌-ℤ◌, ◌≤ℤ◌, List, inl, inr, Bool, IsTrue, sym, arith, ◌≡◌, ◌⊎◌, ℕ, suc, ◌<◌}
+use Rattle.std.proofs.Common.{length, get_or, subst, All, Any, [], ◌∷◌}
+use Rattle.std.specs.List.{AllZip}
 use Rattle.dpl_cell.specs.declared.rect.Rect.{Rect}
 use Rattle.dpl_cell.specs.Tiles.{IsRun}
-use Rattle.dpl_tiles.specs.Bands.{IsLeftOf}
-use Rattle.dpl_tiles.specs.Windows.{IsOutside, IsChange, IsFar}
+use Rattle.dpl_stacks.specs.Stacks.{IsParted}
+use Rattle.dpl_tiles.specs.Windows.{IsOutside, IsChange, IsFar, IsContinued}
 use Rattle.dpl_list.proofs.Integers.{signed}
-use Rattle.dpl_list.proofs.Integers.{less_test, is_less}
 
 -- a column of far columns, or right beside them, is outside
 far_column : (d1 d2 x1 x2 x : ℤ) → IsFar d1 d2 x1 x2 → (x1 -ℤ pos 1) ≤ℤ x → x ≤ℤ x2 → IsOutside d1 d2 x
@@ -30,15 +27,14 @@ run_up old new z d1 d2 x1 x2 same far run = record {
 pub run_down : (old new : ℤ → ℤ → Bool) (z d1 d2 x1 x2 : ℤ) → IsChange old new z d1 d2 → IsFar d1 d2 x1 x2 → IsRun new x1 x2 z → IsRun old x1 x2 z
 run_down old new z d1 d2 x1 x2 same far run = run_up new old z d1 d2 x1 x2 (λ x out. sym (same x out)) far run
 
--- ---- the places of the stacks near the columns that change
+-- ---- the stacks near the columns that change
 
-pub parted_left : (held : List Rect) (c : ℤ) → AllPairs IsLeftOf held → IsPartitionedBy (λ r. int_lt r.x2 c) held
-parted_left held c up i j d le l e = elim (cases_lt i j) [
-  | inl h ↦ step (get_or held i d) (get_or held j d) (up i j d h l) e
-  | inr h ↦ let f : i ≡ j = omega arith in rw f e
-] where
-  step : (a b : Rect) → IsLeftOf a b → int_lt b.x2 c ≡ true → int_lt a.x2 c ≡ true
-  step a b h e = let w = b.wide in let g = is_less b.x2 c e in less_test a.x2 c (omega signed)
+-- none of them is far
+pub between : (held : List Rect) (d1 d2 : ℤ) (before near behind : List Rect) → IsParted held d1 d2 before near behind
+    → All (λ r. ¬ IsFar d1 d2 r.x1 r.x2) near
+between held d1 d2 before near behind p k d l = close _ _ (p.not_left k d l) (p.not_right k d l) where
+  close : (a b : ℤ) → d1 ≤ℤ b → a ≤ℤ d2 → ¬ IsFar d1 d2 a b
+  close a b h g f = elim f [ inl x ↦ absurd (omega signed) | inr x ↦ absurd (omega signed) ]
 
 pub at_most_on : (a b c : ℤ) → a ≤ℤ b → b ≤ℤ c → a ≤ℤ c
 at_most_on a b c h k = omega signed
@@ -49,3 +45,15 @@ pub reached : (end : Rect → ℤ) (near : List Rect) (i : ℕ) (r : Rect) (chan
     → (new ≡ change) ⊎ Any (λ o. end o ≡ new) near
 reached end near i r change old new l is (inl e) so = subst (λ z. (z ≡ change) ⊎ Any (λ o. end o ≡ z) near) (sym e) so
 reached end near i r change old new l is (inr e) so = inr (i, r, l, sym is, sym e)
+
+-- the stacks of runs of row z
+pub continued_at : (near : List Rect) (z : ℤ) (runs stacks : List Rect) → All (λ r. r.y1 ≡ z) runs
+    → AllZip (λ run r. IsContinued near run.y1 run r) runs stacks → AllZip (IsContinued near z) runs stacks
+continued_at near z [] [] a c = tt
+continued_at near z [] (s ∷ ss) a c = elim c [ ]
+continued_at near z (r ∷ rs) [] a c = elim c [ ]
+continued_at near z (r ∷ rs) (s ∷ ss) a c = (
+  let P : ℤ → Type 0 = λ t. IsContinued near t r s in
+      subst P (a 0 r (omega arith)) c.0,
+  continued_at near z rs ss (λ k d l. a (suc k) d (omega arith)) c.1,
+)

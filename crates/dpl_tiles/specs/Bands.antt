@@ -39,10 +39,6 @@ pub record IsOver (low high : ℤ) (s : Stretch) (r : Rect) : Type 0 where
   pub bottom : r.y1 ≡ low
   pub top : r.y2 ≡ high
 
--- the first lies left of the second, with a column between
-abbrev pub IsLeftOf : Rect → Rect → Type 0
-IsLeftOf p q = p.x2 <ℤ q.x1
-
 -- rows from low up to high, which is left out, with the same cells
 pub record AreAlike (cells : ℤ → ℤ → Bool) (low high : ℤ) : Type 0 where
   pub some : low <ℤ high

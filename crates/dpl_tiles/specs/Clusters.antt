@@ -4,7 +4,8 @@ use Rattle.dpl_cell.specs.declared.rect.Rect.{Rect}
 use Rattle.dpl_tiles.specs.declared.corners.Corner.{Corner}
 use Rattle.dpl_list.specs.Order.{Ascends}
 use Rattle.dpl_tiles.specs.declared.sweep.Sweep.{Sweep}
-use Rattle.dpl_tiles.specs.Sweeps.{AreSwept, IsSameStack, IsStep, stacks_of}
+use Rattle.dpl_tiles.specs.Sweeps.{AreSwept, IsSameStack, IsStep}
+use Rattle.dpl_stacks.specs.Stacks.{stacks_of}
 use Rattle.dpl_tiles.specs.Windows.{IsOutside}
 
 -- in each row the cells of this row left of the column, and from there on those of the row below it

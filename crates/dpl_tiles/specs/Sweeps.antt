@@ -1,13 +1,11 @@
 -- Stacks of equal runs in a sweep from the bottom to the top, which touches only the stacks that change. A stack that goes on is kept with its columns and its lowest row; its top is the row that is reached.
-use Rattle.std.specs.Prelude.{◌≡◌, ◌⊎◌, ℤ, pos, ◌-ℤ◌, ◌<ℤ◌, ◌≤ℤ◌, List, ◌++◌, reverse, Bool, All, Any, AllPairs, Vec}
-use Rattle.std.specs.List.{flat_map}
-use Rattle.std.specs.declared.alloc.Global.{Global}
+use Rattle.std.specs.Prelude.{◌≡◌, ◌⊎◌, ℤ, pos, ◌-ℤ◌, ◌<ℤ◌, ◌≤ℤ◌, List, Bool, All, Any, AllPairs}
 use Rattle.dpl_cell.specs.declared.rect.Rect.{Rect}
 use Rattle.dpl_cell.specs.Cells.{IsWithin}
 use Rattle.dpl_cell.specs.Tiles.{IsRun}
-use Rattle.dpl_tiles.specs.declared.sweep.Stacks.{Stacks}
 use Rattle.dpl_tiles.specs.declared.sweep.Sweep.{Sweep}
-use Rattle.dpl_tiles.specs.Bands.{HasColumns, IsLeftOf}
+use Rattle.dpl_tiles.specs.Bands.{HasColumns}
+use Rattle.dpl_stacks.specs.Stacks.{IsLeftOf, stacks_of}
 use Rattle.dpl_tiles.specs.Stacks.{IsPieceAt, AreEnded}
 
 -- a stack of runs up to row z, which is left out; it may go on
@@ -33,22 +31,6 @@ pub record AreSwept (cells : ℤ → ℤ → Bool) (z : ℤ) (ended held : List 
   pub going : AreHeld cells z held
   pub whole : (x1 x2 y : ℤ) → y <ℤ z → IsRun cells x1 x2 y →
       Any (IsPieceAt x1 x2 y) ended ⊎ Any (HoldsRun x1 x2 y) held
-
--- the stacks of blocks, from the left
-abbrev pub joined : List (Vec Rect Global) → List Rect
-joined blocks = flat_map (λ b. b.items) blocks
-
--- the stacks left of the place where columns changed last, from the left
-abbrev pub before_of : Stacks → List Rect
-before_of s = joined s.far_left.items ++ s.left.items
-
--- the stacks from that place on, from the left
-abbrev pub behind_of : Stacks → List Rect
-behind_of s = reverse s.right.items ++ joined (reverse s.far_right.items)
-
--- the stacks that go on, from the left
-abbrev pub stacks_of : Stacks → List Rect
-stacks_of s = before_of s ++ behind_of s
 
 -- a sweep over all runs below row z
 abbrev pub HasReached : (ℤ → ℤ → Bool) → ℤ → Sweep → Type 0

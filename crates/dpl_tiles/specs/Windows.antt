@@ -4,7 +4,8 @@ use Rattle.std.specs.List.{AllZip}
 use Rattle.dpl_cell.specs.declared.rect.Rect.{Rect}
 use Rattle.dpl_cell.specs.Tiles.{IsRun}
 use Rattle.dpl_cell.specs.declared.stretch.Stretch.{Stretch}
-use Rattle.dpl_tiles.specs.Bands.{HasColumns, IsLeftOf}
+use Rattle.dpl_tiles.specs.Bands.{HasColumns}
+use Rattle.dpl_stacks.specs.Stacks.{IsLeftOf}
 use Rattle.dpl_cell.specs.Cells.{IsWithin}
 use Rattle.dpl_cell.specs.Places.{Corners}
 use Rattle.dpl_cell.specs.Layers.{is_within}
@@ -32,15 +33,6 @@ pub record IsContinued (near : List Rect) (z : ℤ) (run r : Rect) : Type 0 wher
   pub columns : HasColumns run.x1 run.x2 r
   pub bottom : Any (λ o. HasColumns run.x1 run.x2 o × (r.y1 ≡ o.y1)) near ⊎
       ((¬ Any (HasColumns run.x1 run.x2) near) × (r.y1 ≡ z))
-
--- the stacks in three lists: those left of the columns, those near, and those right of the columns
-pub record IsParted (held : List Rect) (d1 d2 : ℤ) (before near behind : List Rect) : Type 0 where
-  pub some : d1 ≤ℤ d2
-  pub whole : held ≡ before ++ (near ++ behind)
-  pub left : All (λ r. r.x2 <ℤ d1) before
-  pub not_left : All (λ r. d1 ≤ℤ r.x2) near
-  pub not_right : All (λ r. r.x1 ≤ℤ d2) near
-  pub right : All (λ r. d2 <ℤ r.x1) behind
 
 -- the stack, closed at row z
 pub record IsClosed (z : ℤ) (o r : Rect) : Type 0 where

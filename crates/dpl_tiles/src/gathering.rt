@@ -1,16 +1,13 @@
 // Corners of a row with no stack between them, and the stacks near them.
 ghost use Rattle.std.specs.Prelude.{◌≡◌, true, false, ℤ, ◌<ℤ◌, ◌≤ℤ◌, ◌<◌, length, slice_index_or, All, AllPairs, Any, IfOk, reverse};
 ghost use Rattle.dpl_tiles.specs.declared.corners.Corner.{Corner};
-ghost use Rattle.dpl_tiles.specs.Bands.{IsLeftOf};
-ghost use Rattle.dpl_tiles.specs.Sweeps.{before_of, behind_of, stacks_of};
-ghost use Rattle.dpl_tiles.specs.Windows.{IsParted};
+ghost use Rattle.dpl_stacks.specs.Stacks.{IsLeftOf, before_of, behind_of, stacks_of, IsParted};
 ghost use Rattle.dpl_tiles.specs.Clusters.{IsCluster};
 
 use crate::columns::Columns;
 use crate::corners::{Corner, columns_of, widened};
-use crate::parting::{part, take_near};
-use crate::sweep::Stacks;
 use dpl_cell::Rect;
+use dpl_stacks::{Stacks, part, take_near};
 use std::alloc::{AllocError, Global};
 
 /// The columns of corners with no stack between them, the stacks near these columns, and the place of the next corner.
@@ -36,7 +33,7 @@ pub fn gather(
         IsCluster corners.now at v.to v.change.left v.change.right v.near.items) }
 {
     let mut change = columns_of(&corners[at]);
-    let mut near = part(alloc, stacks, &change)?;
+    let mut near = part(alloc, stacks, change.left, change.right)?;
     let mut to = at + 1;
     'wider: while goes_on(corners, to, stacks.right.as_slice()) {
         change = widened(&change, &corners[to]);

@@ -1,6 +1,7 @@
 // Runs and stacks found by their columns.
 ghost use Rattle.std.specs.Prelude.{AllPairs, Any, MatchOption};
-ghost use Rattle.dpl_tiles.specs.Bands.{HasColumns, IsLeftOf};
+ghost use Rattle.dpl_tiles.specs.Bands.{HasColumns};
+ghost use Rattle.dpl_stacks.specs.Stacks.{IsLeftOf};
 ghost use Rattle.dpl_tiles.specs.Stacks.{IsPlaceOf};
 
 use dpl_cell::Rect;

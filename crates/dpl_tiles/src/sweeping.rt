@@ -3,7 +3,8 @@ ghost use Rattle.std.specs.Prelude.{◌≡◌, ◌⊎◌, true, ℤ, ◌-ℤ◌,
 ghost use Rattle.std.specs.List.{AllZip};
 ghost use Rattle.dpl_limits.specs.Limits.{most_coordinate};
 ghost use Rattle.dpl_cell.specs.Tiles.{IsRun};
-ghost use Rattle.dpl_tiles.specs.Bands.{IsBand, IsLeftOf, IsOver, cells_in};
+ghost use Rattle.dpl_tiles.specs.Bands.{IsBand, IsOver, cells_in};
+ghost use Rattle.dpl_stacks.specs.Stacks.{IsLeftOf};
 ghost use Rattle.dpl_tiles.specs.Stretches.{IsFramed};
 ghost use Rattle.dpl_tiles.specs.Corners.{AreCorners};
 ghost use Rattle.dpl_tiles.specs.Stacks.{ending};

@@ -19,10 +19,11 @@ use crate::band::Band;
 use crate::corners::{Corner, corners_of};
 use crate::finder::Finder;
 use crate::ordinates::ordinates;
-use crate::sweep::{Sweep, all_stacks, no_stacks};
+use crate::sweep::Sweep;
 use crate::sweeping::{close_all, step};
 use dpl_cell::{Layout, Prim, Rect};
 use dpl_limits::{LimitError, MOST_TILES};
+use dpl_stacks::{all_stacks, no_stacks};
 use std::alloc::Global;
 
 /// The tiles of a layout, the lowest first, and those of one height from the left.

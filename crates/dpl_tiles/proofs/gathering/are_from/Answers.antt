@@ -1,7 +1,7 @@
 use Rattle.std.proofs.Common.{rules, arith, ◌-◌, sym, length, SFits, w64}
 use Rattle.std.proofs.lemmas.Int.{to_z-of_z}
 use Rattle.dpl_list.proofs.Integers.{not_at_most}
-use Rattle.dpl_tiles.proofs.PlaceLemmas.{last_begins}
+use Rattle.dpl_stacks.proofs.PlaceLemmas.{last_begins}
 use Rattle.dpl_tiles.proofs.gathering.are_from.Goals as goal
 use Rattle.dpl_list.proofs.Integers.{is_at_most}
 

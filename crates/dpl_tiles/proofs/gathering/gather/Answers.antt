@@ -1,12 +1,24 @@
-use Rattle.std.proofs.Common.{rules, pos, reverse, SFits, w64}
+use Rattle.std.proofs.Common.{rules, pos, reverse, sym, SFits, w64}
 use Rattle.std.proofs.lemmas.Int.{to_z-of_z}
 use Rattle.std.proofs.lemmas.List.{get_or_default}
 use Rattle.dpl_tiles.specs.declared.corners.Corner.{Corner}
-use Rattle.dpl_tiles.specs.Sweeps.{before_of, behind_of, joined}
-use Rattle.dpl_tiles.proofs.PlaceLemmas.{any_behind, behind_ordered, behind_one, parted_wider, rest_ordered, still_near}
-use Rattle.dpl_tiles.proofs.StepLemmas.{part_ordered}
-use Rattle.dpl_tiles.proofs.CornerLemmas.{more_gathered, whole_cluster}
+use Rattle.dpl_stacks.specs.Stacks.{before_of, behind_of, joined}
+use Rattle.dpl_stacks.proofs.PlaceLemmas.{any_behind, behind_ordered, behind_one, parted_wider, rest_ordered, still_near}
+use Rattle.dpl_stacks.proofs.OrderLemmas.{part_ordered}
+use Rattle.dpl_tiles.proofs.CornerLemmas.{more_gathered, one_gathered, whole_cluster}
 use Rattle.dpl_tiles.proofs.gathering.gather.Goals as goal
+
+pub wider-init : goal.wider-init
+wider-init c =
+    let f : SFits w64 c.columns_of-change.result.left = search rules in
+    let g : SFits w64 c.columns_of-change.result.right = search rules in
+    let blank : Corner = record { y = pos 0; left = pos 0; right = pos 0 } in
+    record {
+      parted = simp to_z-of_z at c.in_ok-near.ensures;
+      gathered = one_gathered c.args.corners.now c.args.at _ _ c.requires.inside
+          (λ d. rw (get_or_default c.args.corners.now c.args.at d blank c.requires.inside) (sym c.columns_of-change.ensures.left))
+          (λ d. rw (get_or_default c.args.corners.now c.args.at d blank c.requires.inside) c.columns_of-change.ensures.right);
+    }
 
 pub goes_on-requires : goal.goes_on-requires
 goes_on-requires c = rw c.as_slice.ensures.value

@@ -1,6 +1,5 @@
 use Rattle.std.proofs.Common.{◌-◌, length}
-use Rattle.dpl_tiles.specs.Sweeps.{before_of, behind_of, stacks_of}
-use Rattle.dpl_tiles.specs.Windows.{IsParted}
+use Rattle.dpl_stacks.specs.Stacks.{before_of, behind_of, stacks_of, IsParted}
 use Rattle.dpl_tiles.proofs.CornerLemmas.{AreGathered}
 use Rattle.dpl_tiles.proofs.gathering.gather.Given as goal
 

@@ -3,9 +3,9 @@ use Rattle.std.specs.List.{AllZip}
 use Rattle.std.proofs.lemmas.Int.{to_z-of_z}
 use Rattle.dpl_tiles.specs.Bands.{cells_in}
 use Rattle.dpl_tiles.specs.Stacks.{ending}
-use Rattle.dpl_tiles.specs.Sweeps.{joined}
+use Rattle.dpl_stacks.specs.Stacks.{joined}
 use Rattle.dpl_tiles.specs.Windows.{IsContinued, AddsClosed, AreNearRuns}
-use Rattle.dpl_tiles.proofs.PlaceLemmas.{near_ordered}
+use Rattle.dpl_stacks.proofs.PlaceLemmas.{near_ordered}
 use Rattle.dpl_tiles.proofs.ClusterLemmas.{met, framed, run_inside, stays, near_below, cluster_passed}
 use Rattle.dpl_tiles.proofs.sweeping.pass.Goals as goal
 

@@ -1,7 +1,7 @@
 use Rattle.std.proofs.Common.{rules, arith, ◌-◌, ◌∙◌, refl, sym, subst, [], get_or, pos, SFits, w64}
 use Rattle.std.proofs.lemmas.Int.{ints, to_z-of_z}
 use Rattle.dpl_tiles.specs.Stacks.{ending}
-use Rattle.dpl_tiles.specs.Sweeps.{stacks_of}
+use Rattle.dpl_stacks.specs.Stacks.{stacks_of}
 use Rattle.dpl_tiles.specs.Windows.{AddsClosed}
 use Rattle.dpl_tiles.proofs.BandLemmas.{least_first, swept_next, swept_still, rows_alike, swept_first, rows_top, last_row_is}
 use Rattle.dpl_tiles.proofs.EndLemmas.{swept_last, all_swept}

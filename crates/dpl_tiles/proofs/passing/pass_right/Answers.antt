@@ -1,8 +1,0 @@
-use Rattle.std.proofs.Common.{reverse}
-use Rattle.dpl_tiles.specs.Sweeps.{joined}
-use Rattle.dpl_tiles.proofs.StepLemmas.{part_ordered}
-use Rattle.dpl_tiles.proofs.passing.pass_right.Goals as goal
-
-pub are_left-requires : goal.are_left-requires
-are_left-requires c = rw c.as_slice.ensures.value
-    ((part_ordered (joined c.passing.left.items) (joined (reverse c.passing.right.items)) (rw c.passing.invariant c.requires)).0)

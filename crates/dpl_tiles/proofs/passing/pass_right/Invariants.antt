@@ -1,9 +1,0 @@
-use Rattle.std.proofs.Common.{◌≡◌, ◌++◌, length, reverse}
-use Rattle.dpl_tiles.specs.Sweeps.{joined}
-use Rattle.dpl_tiles.proofs.passing.pass_right.Given as goal
-
-abbrev pub invariant-passing : goal.invariant-passing
-invariant-passing l = joined l.left.items ++ joined (reverse l.right.items) ≡ joined l.fn.left.items ++ joined (reverse l.fn.right.items)
-
-abbrev pub decreases-passing : goal.decreases-passing
-decreases-passing l = length l.left.items
