@@ -5,7 +5,7 @@ use Rattle.dpl_laminar.specs.Storing.{sets_of}
 use Rattle.dpl_tree.specs.Metrics.{dist_of}
 use Rattle.dpl_match.specs.declared.stage.Neighbour.{Neighbour}
 use Rattle.dpl_match.specs.steps.Nearest.{member_of, near_in}
-use Rattle.dpl_match.proofs.NearLemmas.{closer_stays, closer_taken, compared_closer}
+use Rattle.dpl_match.proofs.NearLemmas.{closer_taken, compared_closer, compared_stays}
 use Rattle.dpl_match.proofs.outer_table.compare_one.Goals as goal
 
 pub returns-then-stays-clause-nearer : goal.returns-then-stays-clause-nearer
@@ -13,10 +13,8 @@ returns-then-stays-clause-nearer c =
     let f : Sets = sets_of c.args.matching.now.family in
     let s : ℕ = c.args.s in
     let t : ℕ = c.args.t in
-    let ne : f.top t ≢ f.top s = λ e. c.if-tops.false (c.tops.ensures.value ∙ e ∙ sym c.tops-2.ensures.value) in
     let o : Option ℕ = near_in c.args.near.now t in
-    closer_stays (dist_of c.args.metric.now) (slice_index c.args.matching.now.sums.items) t s o (sym c.stays.ensures ∙ c.if-stays.true) ∙
-    compared_closer f (dist_of c.args.metric.now) (slice_index c.args.matching.now.sums.items) s t o ne
+    compared_stays f (dist_of c.args.metric.now) (slice_index c.args.matching.now.sums.items) s t o (sym c.stays.ensures ∙ c.if-stays.true)
 
 pub returns-clause-nearer : goal.returns-clause-nearer
 returns-clause-nearer c =
