@@ -1,5 +1,7 @@
 pub mod NumberLoop
 pub mod FewLemmas
-pub mod ComparingLemmas
+pub mod DecimalLemmas
+pub mod EdgeLemmas
+pub mod CycleLemmas
 pub mod BlockLemmas
 pub mod AnswerLemmas

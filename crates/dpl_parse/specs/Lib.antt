@@ -2,3 +2,5 @@ pub mod Pieces
 pub mod Gives
 pub mod Tells
 pub mod Items
+pub mod Cycles
+pub mod Read

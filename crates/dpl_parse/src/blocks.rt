@@ -7,13 +7,12 @@ ghost use Rattle.dpl_parse.specs.Items.{read_rising};
 ghost use Rattle.dpl_report.specs.Plain.{plain_zone};
 ghost use Rattle.dpl_report.specs.Reading as reading;
 
-use crate::items::{box_in, cut_in, cycle_in, item_in};
+use crate::items::{box_in, cut_in, item_in};
 use crate::rising::Rising;
 use crate::stops::Stop;
 use dpl_cell::Rect;
 use dpl_form::first_line;
 use dpl_report::{Broken, Zone};
-use dpl_sign::Cycle;
 use std::alloc::Global;
 
 /// The broken stitches with their zones, in grid units, of the cut lines at the front, whose edges
@@ -77,25 +76,6 @@ pub fn aside(alloc: Global, text: &[u8]) -> Result<(Vec<u32>, &[u8]), Stop>
         (reading.read_aside (lines_in text.now)) }
 {
     front_items(alloc, text)
-}
-
-/// The walks with their half weights of the cycle lines at the front, and what follows these lines.
-/// Its error is want of memory.
-#[tactic(auto, unfolding(dpl_report::specs::Reading::read_cycles))]
-pub fn cycles(alloc: Global, text: &[u8]) -> Result<(Vec<Cycle>, &[u8]), Stop>
-    ensures { Gives (λ x. (x.0.items, lines_in x.1.now)) result
-        (reading.read_cycles (lines_in text.now)) }
-{
-    let mut found = Vec::new(alloc);
-    let mut rest = text;
-    'lines: while let Some((line, others)) = first_line(rest) {
-        let Some(cycle) = cycle_in(alloc, line)? else {
-            return Ok((found, rest));
-        };
-        found.push(cycle)?;
-        rest = others;
-    }
-    Ok((found, rest))
 }
 
 /// The rectangles, in grid units, of the box lines at the front, and what follows these lines. Its

@@ -7,41 +7,41 @@ ghost use Rattle.dpl_parse.specs.Pieces.{plain_lists};
 ghost use Rattle.dpl_report.specs.ReportLines.{mask_line};
 ghost use Rattle.dpl_report.specs.Reading as reading;
 
-use crate::blocks::{aside, boxes, clashes, cuts, cycles};
+use crate::blocks::{aside, boxes, clashes, cuts};
+use crate::cycles::{Cycles, front_cycles};
 use crate::parts::exactly;
 use crate::stops::Stop;
 use dpl_cell::Rect;
 use dpl_list::Items;
 use dpl_report::writing::push_mask;
 use dpl_report::{Broken, Zone};
-use dpl_sign::Cycle;
 use std::alloc::Global;
 
 /// What is broken, what is set aside, and the walks that show the bound.
 #[derive(Drop)]
-pub struct Lists {
+pub struct Lists<'a> {
     pub cuts: Items<Zone>,
     pub clashes: Items<Broken>,
     pub aside: Items<u32>,
-    pub cycles: Items<Cycle>,
+    pub cycles: Cycles<'a>,
 }
 
 /// What is broken, what is set aside and the walks, as far as lines of each kind go on in this
 /// order, and what follows them. Its error is want of memory.
 #[tactic(auto, unfolding(dpl_report::specs::Reading::read_lists))]
-pub fn lists_of(alloc: Global, text: &[u8]) -> Result<(Lists, &[u8]), Stop>
+pub fn lists_of(alloc: Global, text: &[u8]) -> Result<(Lists<'_>, &[u8]), Stop>
     ensures { Gives (λ x. (plain_lists x.0, lines_in x.1.now)) result
         (reading.read_lists (lines_in text.now)) }
 {
     let (cuts, rest) = cuts(alloc, text)?;
     let (clashes, rest) = clashes(alloc, rest)?;
     let (aside, rest) = aside(alloc, rest)?;
-    let (cycles, rest) = cycles(alloc, rest)?;
+    let (cycles, rest) = front_cycles(rest);
     let lists = Lists {
         cuts: Items::new(cuts),
         clashes: Items::new(clashes),
         aside: Items::new(aside),
-        cycles: Items::new(cycles),
+        cycles,
     };
     Ok((lists, rest))
 }

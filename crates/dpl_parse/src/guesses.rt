@@ -1,16 +1,12 @@
 // What the numbers of a line make.
-ghost use Rattle.std.specs.Prelude.{◌≡◌, ◌<◌, ◌^◌, pos, ◌+ℤ◌, ◌-ℤ◌, ◌*ℤ◌, ◌∷◌, unsigned_abs, int_div, IfOk};
+ghost use Rattle.std.specs.Prelude.{◌≡◌, ◌<◌, ◌^◌, pos, ◌+ℤ◌, ◌-ℤ◌, ◌*ℤ◌, unsigned_abs, int_div};
 ghost use Rattle.dpl_cell.specs.Places.{corners_of};
 ghost use Rattle.dpl_rules.specs.Readers.{Reads};
 ghost use Rattle.dpl_report.specs.Plain.{plain_zone};
 ghost use Rattle.dpl_report.specs.Reading as reading;
 
-use crate::numbers::LineNumbers;
 use dpl_cell::Rect;
-use dpl_list::Items;
 use dpl_report::{Broken, Zone};
-use dpl_sign::{Cycle, Walk};
-use std::alloc::{AllocError as NoMemory, Global};
 
 /// A number of 32 bits, `None` where it is none.
 pub fn number_from(z: i64) -> Option<u32>
@@ -161,62 +157,4 @@ pub fn box_of(numbers: &[i64]) -> Option<Rect>
         [length, width, x, y] => box_by(*length, *width, *x, *y),
         _ => None,
     }
-}
-
-fn edges_of(alloc: Global, numbers: &mut LineNumbers<'_>) -> Result<Option<Vec<u32>>, NoMemory>
-    ensures { IfOk result (λ o. Reads (λ v. v.items) o (reading.edges_of numbers.old)) }
-{
-    let mut edges = Vec::new(alloc);
-    'edges: while let Some(number) = numbers.next_number() {
-        let Some(edge) = number_from(number) else {
-            return Ok(None);
-        };
-        edges.push(edge)?;
-    }
-    Ok(Some(edges))
-}
-
-fn cycle_from(
-    alloc: Global,
-    half: i64,
-    start: i64,
-    others: &mut LineNumbers<'_>,
-) -> Result<Option<Cycle>, NoMemory>
-    ensures { IfOk result (λ o. o ≡ reading.cycle_from (half ∷ start ∷ others.old)) }
-{
-    let Some(half) = count_of(half) else {
-        return Ok(None);
-    };
-    let Some(start) = number_from(start) else {
-        return Ok(None);
-    };
-    let Some(edges) = edges_of(alloc, others)? else {
-        return Ok(None);
-    };
-    Ok(cycle_with(half, start, edges))
-}
-
-/// The walk that these numbers make: its half weight, from 1 to 1,000,000,000,000, the node where
-/// it starts and at least one edge, of 32 bits. Its error is want of memory.
-pub fn cycle_of(alloc: Global, numbers: &mut LineNumbers<'_>) -> Result<Option<Cycle>, NoMemory>
-    ensures { IfOk result (λ o. o ≡ reading.cycle_from numbers.old) }
-{
-    let Some(half) = numbers.next_number() else {
-        return Ok(None);
-    };
-    let Some(start) = numbers.next_number() else {
-        return Ok(None);
-    };
-    cycle_from(alloc, half, start, numbers)
-}
-
-fn cycle_with(half: u64, start: u32, edges: Vec<u32>) -> Option<Cycle>
-    ensures { result ≡ reading.cycle_with half start edges.items }
-{
-    if edges.is_empty() || half == 0 {
-        return None;
-    }
-    let edges = Items::new(edges);
-    let walk = Walk { start, edges };
-    Some(Cycle { half, walk })
 }

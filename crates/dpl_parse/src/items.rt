@@ -6,15 +6,13 @@ ghost use Rattle.dpl_report.specs.Plain.{plain_zone};
 ghost use Rattle.dpl_report.specs.Reading as reading;
 ghost use Rattle.dpl_parse.specs.Items.{item_from};
 
-use crate::comparing::is_cycle_line;
-use crate::guesses::{box_of, count_from, cycle_of, zone_of};
-use crate::numbers::{LineNumbers, first_numbers};
+use crate::guesses::{box_of, count_from, zone_of};
+use crate::numbers::first_numbers;
 use crate::rising::Rising;
 use dpl_boxes::push_box;
 use dpl_cell::Rect;
 use dpl_report::Zone;
 use dpl_report::writing::{push_count, push_cut};
-use dpl_sign::Cycle;
 use std::alloc::{AllocError as NoMemory, Global};
 
 /// The number in a line of this word, `None` where the line is none. Its error is want of memory.
@@ -73,22 +71,6 @@ pub fn item_in<T: Rising>(alloc: Global, least: u64, line: &[u8]) -> Result<Opti
     item.push(&mut again)?;
     Ok(if again.as_slice() == line {
         Some(item)
-    } else {
-        None
-    })
-}
-
-/// The walk with its half weight of a cycle line, `None` where the line is none. Its error is want
-/// of memory.
-pub fn cycle_in(alloc: Global, line: &[u8]) -> Result<Option<Cycle>, NoMemory>
-    ensures { IfOk result (λ o. o ≡ reading.item_cycle line.now) }
-{
-    let mut numbers = LineNumbers::new(line);
-    let Some(cycle) = cycle_of(alloc, &mut numbers)? else {
-        return Ok(None);
-    };
-    Ok(if is_cycle_line(&cycle, line) {
-        Some(cycle)
     } else {
         None
     })

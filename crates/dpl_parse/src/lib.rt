@@ -1,11 +1,12 @@
 //! The text of a report, read.
 //!
-//! `parse` reads exactly what `print` of `dpl_report` writes, or names the first wrong line.
+//! `parse` reads exactly what `print` of `dpl_report` writes, or names the first wrong line. The cycle lines of what it
+//! gives stay a part of the text: cycles and their edges are read where they stand (`Cycles`, `Edges`).
 #![tactic(auto)]
 
 mod blocks;
 mod bodies;
-mod comparing;
+mod cycles;
 mod guesses;
 mod heads;
 mod items;
@@ -14,6 +15,8 @@ mod numbers;
 mod parts;
 mod reading;
 mod rising;
+mod scanning;
 mod stops;
 
-pub use reading::{ReportError, parse};
+pub use cycles::{Cycles, Edges, WrittenCycle};
+pub use reading::{ReadReport, ReportError, parse};

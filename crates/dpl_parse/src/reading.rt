@@ -5,17 +5,20 @@ ghost use Rattle.dpl_form.specs.Lines.{lines_in};
 ghost use Rattle.dpl_form.specs.Readers.{whole, IsFirstWrong};
 ghost use Rattle.dpl_parse.specs.Gives.{Gives};
 ghost use Rattle.dpl_parse.specs.Tells.{Tells, Answers};
-ghost use Rattle.dpl_report.specs.Plain.{PlainReport, plain_report};
+ghost use Rattle.dpl_parse.specs.Read.{plain_read};
+ghost use Rattle.dpl_report.specs.Plain.{PlainReport};
 ghost use Rattle.dpl_report.specs.ReportLines.{report_lines, report_text};
 ghost use Rattle.dpl_report.specs.Valid.{IsReport};
 ghost use Rattle.dpl_report.specs.Reading as reading;
 
 use crate::bodies::{drawing_of, lists_of};
+use crate::cycles::Cycles;
 use crate::heads::head_of;
 use crate::stops::{Stop, stop_at};
+use dpl_cell::Rect;
 use dpl_form::{count_lines, first_line};
 use dpl_list::Items;
-use dpl_report::Report;
+use dpl_report::{Broken, Counts, Params, Zone};
 use std::alloc::Global;
 
 /// Why a text is no report.
@@ -26,15 +29,31 @@ pub enum ReportError {
     NoMemory,
 }
 
+/// What a report says. Its cycles stand in its text.
+#[derive(Drop)]
+pub struct ReadReport<'a> {
+    pub params: Params,
+    pub counts: Counts,
+    pub cost: u64,
+    pub bound: u64,
+    pub colours: Items<bool>,
+    pub cuts: Items<Zone>,
+    pub clashes: Items<Broken>,
+    pub aside: Items<u32>,
+    pub cycles: Cycles<'a>,
+    pub on_a: Items<Rect>,
+    pub on_b: Items<Rect>,
+}
+
 #[tactic(auto, unfolding(dpl_report::specs::Reading::read_report))]
-fn report_of(alloc: Global, text: &[u8]) -> Result<(Report, &[u8]), Stop>
-    ensures { Gives (λ x. (plain_report x.0, lines_in x.1.now)) result
+fn report_of(alloc: Global, text: &[u8]) -> Result<(ReadReport<'_>, &[u8]), Stop>
+    ensures { Gives (λ x. (plain_read x.0, lines_in x.1.now)) result
         (reading.read_report (lines_in text.now)) }
 {
     let (head, rest) = head_of(alloc, text)?;
     let (lists, rest) = lists_of(alloc, rest)?;
     let (drawing, rest) = drawing_of(alloc, head.params.layer.bytes(), rest)?;
-    let report = Report {
+    let report = ReadReport {
         params: head.params,
         counts: head.counts,
         cost: head.cost,
@@ -51,8 +70,8 @@ fn report_of(alloc: Global, text: &[u8]) -> Result<(Report, &[u8]), Stop>
 }
 
 /// The same with nothing behind it.
-fn whole_report(alloc: Global, text: &[u8]) -> Result<Report, Stop>
-    ensures { Gives plain_report result (whole reading.read_report (lines_in text.now)) }
+fn whole_report(alloc: Global, text: &[u8]) -> Result<ReadReport<'_>, Stop>
+    ensures { Gives plain_read result (whole reading.read_report (lines_in text.now)) }
 {
     let (report, rest) = report_of(alloc, text)?;
     match first_line(rest) {
@@ -61,7 +80,7 @@ fn whole_report(alloc: Global, text: &[u8]) -> Result<Report, Stop>
     }
 }
 
-fn numbered(alloc: Global, text: &[u8]) -> Result<Report, ReportError>
+fn numbered(alloc: Global, text: &[u8]) -> Result<ReadReport<'_>, ReportError>
     requires { length text.now ≤ MOST_REPORT_BYTES }
     ensures { Tells text.now result }
 {
@@ -76,13 +95,13 @@ fn numbered(alloc: Global, text: &[u8]) -> Result<Report, ReportError>
 }
 
 /// The report whose text this is.
-pub fn parse(alloc: Global, text: &[u8]) -> Result<Report, ReportError>
+pub fn parse<'a>(alloc: Global, text: &'a [u8]) -> Result<ReadReport<'a>, ReportError>
     requires { length text.now ≤ MOST_REPORT_BYTES }
     // What reading gives.
     ensures told { Tells text.now result }
     // What is read is written so.
-    ensures found { IfOk result (λ r. IsReport (plain_report r) ×
-        (text.now ≡ report_text (plain_report r))) }
+    ensures found { IfOk result (λ r. IsReport (plain_read r) ×
+        (text.now ≡ report_text (plain_read r))) }
     // What is written so is read, unless memory runs out.
     ensures only { (r : PlainReport) → IsReport r → text.now ≡ report_text r → Answers r result }
     // Which line cannot stand.
