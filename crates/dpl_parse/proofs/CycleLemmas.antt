@@ -157,7 +157,8 @@ pub record FirstCycle (text line rest : List ℕ) : Type 0 where
   pub line_is : line ≡ cycle_line cycle
   pub first : cycles_in text ≡ cycle ∷ cycles_in rest
 
-first_by : (o : Option Cycle) (text line rest : List ℕ) → item_cycle line ≡ o → lines_in text ≡ line ∷ lines_in rest → 0 < length (cycles_in text) → FirstCycle text line rest
+first_by : (o : Option Cycle) (text line rest : List ℕ) → item_cycle line ≡ o → lines_in text ≡ line ∷ lines_in rest
+    → 0 < length (cycles_in text) → FirstCycle text line rest
 first_by None text line rest e t l =
     let m = many_none (λ (s : ℕ). item_cycle) (λ _. 0) 0 line (lines_in text) (lines_in rest) t e in
     let n : length (cycles_in text) ≡ 0 = ap (λ (p : List Cycle × List (List ℕ)). length p.0) m in

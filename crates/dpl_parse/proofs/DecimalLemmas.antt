@@ -105,7 +105,8 @@ behind_none zero rest text l h d e =
 behind_none (suc n) rest text l h d e =
     omega (arith, first_decimal (suc n) (omega arith) (omega arith), first_is (decimal (suc n)) rest 48 text (decimal_nonempty (suc n) (omega arith)) e)
 
-pub zero_none : (most n b : ℕ) (rest others text : List ℕ) → most ≤ 10 ^ 12 → text ≡ b ∷ others → b ≡ 48 → has_no_digit others ≡ false → ¬ IsDecimal most n rest text
+pub zero_none : (most n b : ℕ) (rest others text : List ℕ) → most ≤ 10 ^ 12 → text ≡ b ∷ others → b ≡ 48 → has_no_digit others ≡ false
+    → ¬ IsDecimal most n rest text
 zero_none most n b rest others text l e z d at =
     behind_none n rest others (omega (arith, at.small)) at.ends d (ap (λ k. k ∷ others) (sym z) ∙ sym e ∙ at.is)
 
@@ -142,7 +143,8 @@ pub record AreSame (n m : ℕ) (rest others : List ℕ) : Type 0 where
   pub number : n ≡ m
   pub behind : rest ≡ others
 
-pub spaced_once : (most n m : ℕ) (rest others text : List ℕ) → most ≤ 10 ^ 12 → IsSpaced most n rest text → IsSpaced most m others text → AreSame n m rest others
+pub spaced_once : (most n m : ℕ) (rest others text : List ℕ) → most ≤ 10 ^ 12 → IsSpaced most n rest text → IsSpaced most m others text
+    → AreSame n m rest others
 spaced_once most n m rest others text l a b =
     let e = sym (spaced_read most n rest text l a) ∙ spaced_read most m others text l b in
     record { number = ap (λ o. unsigned_abs (first_read o).0) e; behind = ap (λ o. (first_read o).1) e }

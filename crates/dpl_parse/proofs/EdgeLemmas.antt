@@ -32,7 +32,8 @@ numbers_again (e ∷ es) = ap (λ t. e ∷ t) (numbers_again es)
 -- the edges that were written are those in the text
 pub edges_in-text : (es text : List ℕ) → AllByRecursion IsNumber es → text ≡ edges_text es → edges_in text ≡ es
 edges_in-text es text f e =
-    ap edges_in e ∙ ap (λ zs. map unsigned_abs zs) (numbers_in-numbered 32 [] (map pos es) (codes ");\n") closing_is_end refl (edges_near es f)) ∙ numbers_again es
+    let read = numbers_in-numbered 32 [] (map pos es) (codes ");\n") closing_is_end refl (edges_near es f) in
+    ap edges_in e ∙ ap (λ zs. map unsigned_abs zs) read ∙ numbers_again es
 
 -- the first of some edges stands at the front
 pub edge_there : (n : ℕ) (es text : List ℕ) → IsNumber n → text ≡ edges_text (n ∷ es) → IsSpaced 4294967295 n (edges_text es) text
@@ -49,7 +50,8 @@ pub record FirstEdge (n : ℕ) (rest text : List ℕ) : Type 0 where
   pub others : AreEdges rest
   pub first : edges_in text ≡ n ∷ edges_in rest
 
-first_edge_of : (es : List ℕ) (n : ℕ) (rest text : List ℕ) → AllByRecursion IsNumber es → text ≡ edges_text es → IsSpaced 4294967295 n rest text → FirstEdge n rest text
+first_edge_of : (es : List ℕ) (n : ℕ) (rest text : List ℕ) → AllByRecursion IsNumber es → text ≡ edges_text es
+    → IsSpaced 4294967295 n rest text → FirstEdge n rest text
 first_edge_of [] n rest text f e at = absurd (end_is_no_edge n rest text e at)
 first_edge_of (m ∷ es) n rest text f e at =
     let same = spaced_once 4294967295 n m rest (edges_text es) text (omega arith) at (edge_there m es text f.0 e) in

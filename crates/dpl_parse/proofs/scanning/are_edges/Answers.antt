@@ -7,5 +7,5 @@ edges-preserved c = same_behind c.in-Some.field-0-0 c.in-Some.others.now c.edges
 
 pub returns-clause-no : goal.returns-clause-no
 returns-clause-no c = λ e a.
-    end_alone c.edges.rest.now c.in_default.ensures (differs c.edges.rest.now c.as_slice.result.now (codes ");\n") c.eq.result c.eq.ensures c.as_slice.ensures e)
-    (c.edges.invariant.back a)
+    let other = differs c.edges.rest.now c.as_slice.result.now (codes ");\n") c.eq.result c.eq.ensures c.as_slice.ensures e in
+    end_alone c.edges.rest.now c.in_default.ensures other (c.edges.invariant.back a)
