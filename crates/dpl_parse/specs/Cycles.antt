@@ -7,9 +7,9 @@ use Rattle.dpl_boxes.specs.Written.{has_no_digit}
 use Rattle.dpl_form.specs.Lines.{lines_in}
 use Rattle.dpl_form.specs.Readers.{many}
 use Rattle.dpl_sign.specs.declared.walks.Cycle.{Cycle}
-use Rattle.dpl_report.specs.ReportLines.{numbered}
+use Rattle.dpl_report.specs.ReportLines.{numbered, cycle_numbers}
 use Rattle.dpl_report.specs.Reading.{numbers_in, item_cycle}
-use Rattle.dpl_report.specs.Valid.{IsNumber, IsCount}
+use Rattle.dpl_report.specs.Valid.{IsNumber, IsCount, IsCycle}
 
 -- the cycles of the cycle lines at the front, and the lines behind these
 abbrev pub cycle_lines : List (List ℕ) → List Cycle × List (List ℕ)
@@ -23,11 +23,21 @@ cycles_in text = (cycle_lines (lines_in text)).0
 abbrev pub edges_in : List ℕ → List ℕ
 edges_in text = map unsigned_abs (numbers_in (32 ∷ text))
 
--- what is left of a cycle line behind some of its edges
-pub record AreEdges (text : List ℕ) : Type 0 where
+-- a cycle line, and what follows it
+abbrev pub cycle_text : Cycle → List ℕ → List ℕ
+cycle_text c after = codes "(cycle" ++ numbered (cycle_numbers c) (codes ");\n" ++ after)
+
+-- a cycle line stands at the front, and this follows it
+pub record IsCycleBefore (after text : List ℕ) : Type 0 where
+  pub cycle : Cycle
+  pub fits : IsCycle cycle
+  pub is : text ≡ cycle_text cycle after
+
+-- what is left of a cycle line behind some of its edges, and what follows the line
+pub record AreEdges (after text : List ℕ) : Type 0 where
   pub edges : List ℕ
   pub small : AllByRecursion IsNumber edges
-  pub is : text ≡ numbered (map pos edges) (codes ");\n")
+  pub is : text ≡ numbered (map pos edges) (codes ");\n" ++ after)
 
 -- a number up to a limit stands at the front, and all its digits
 pub record IsDecimal (most n : ℕ) (rest text : List ℕ) : Type 0 where

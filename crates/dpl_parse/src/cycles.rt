@@ -5,7 +5,7 @@ ghost use Rattle.dpl_parse.specs.Cycles.{cycles_in, cycle_lines};
 ghost use Rattle.dpl_parse.specs.Read.{cycle_of};
 ghost use Rattle.dpl_report.specs.Reading as reading;
 
-use crate::scanning::{front_of, is_cycle, short_at};
+use crate::scanning::{behind_cycle, front_of, short_at};
 use dpl_form::first_line;
 use std::marker::Model;
 
@@ -17,14 +17,14 @@ pub struct Edges<'a> {
 }
 
 impl<'a> Model for Edges<'a> {
-    ghost use Rattle.std.specs.Prelude.{List, ℕ};
+    ghost use Rattle.std.specs.Prelude.{List, [], ℕ};
     ghost use Rattle.dpl_parse.specs.Cycles.{edges_in, AreEdges};
 
     ghost Value = { List ℕ };
 
     ghost view = { λ s. edges_in s.rest.now };
 
-    ghost invariant = { λ s. AreEdges s.rest.now };
+    ghost invariant = { λ s. AreEdges [] s.rest.now };
 }
 
 impl<'a> Edges<'a> {
@@ -111,10 +111,7 @@ fn count_cycles(text: &[u8]) -> (usize, &[u8])
 {
     let mut left = 0;
     let mut rest = text;
-    'lines: while let Some((line, others)) = first_line(rest) {
-        if !is_cycle(line) {
-            return (left, rest);
-        }
+    'lines: while let Some(others) = behind_cycle(rest) {
         left += 1;
         rest = others;
     }

@@ -1,12 +1,8 @@
 // A cycle line, told by its bytes: no second text is made, and no number stored.
-ghost use Rattle.std.specs.Prelude.{◌≡◌, ◌≢◌, ◌≤◌, ◌<◌, ◌^◌, ℕ, true, false, List, ◌∷◌, ◌++◌, is_some, MatchOption};
+ghost use Rattle.std.specs.Prelude.{◌≡◌, ◌≢◌, ◌≤◌, ◌<◌, ◌^◌, ℕ, List, ◌++◌, MatchOption};
 ghost use Rattle.std.specs.Fmt.{decimal};
 ghost use Rattle.dpl_boxes.specs.Written.{has_no_digit};
-ghost use Rattle.dpl_sign.specs.declared.walks.Cycle.{Cycle};
-ghost use Rattle.dpl_report.specs.ReportLines.{cycle_line};
-ghost use Rattle.dpl_report.specs.Valid.{IsCycle};
-ghost use Rattle.dpl_report.specs.Reading as reading;
-ghost use Rattle.dpl_parse.specs.Cycles.{AreEdges, IsDecimal, IsSpaced, IsFront};
+ghost use Rattle.dpl_parse.specs.Cycles.{AreEdges, IsCycleBefore, IsDecimal, IsSpaced, IsFront};
 
 use dpl_lex::classes::is_digit_byte;
 
@@ -107,12 +103,12 @@ pub struct Front<'a> {
     pub edges: &'a [u8],
 }
 
-/// What a line has before its edges, `None` where it is not that of a cycle.
-pub fn front_of(line: &[u8]) -> Option<Front<'_>>
-    ensures { MatchOption result ((c : Cycle) → IsCycle c → line.now ≢ cycle_line c)
-        (λ f. IsFront f.half f.start f.edges.now line.now) }
+/// What a cycle line at the front of a text has before its edges, `None` where there is none.
+pub fn front_of(text: &[u8]) -> Option<Front<'_>>
+    ensures { MatchOption result ((after : List ℕ) → ¬ IsCycleBefore after text.now)
+        (λ f. IsFront f.half f.start f.edges.now text.now) }
 {
-    let Some(rest) = behind(b"(cycle", line) else {
+    let Some(rest) = behind(b"(cycle", text) else {
         return None;
     };
     let Some((half, rest)) = number_at(1_000_000_000_000, rest) else {
@@ -127,27 +123,34 @@ pub fn front_of(line: &[u8]) -> Option<Front<'_>>
     Some(Front { half, start, edges })
 }
 
-/// Whether a text is that of some edges and of the end of their line.
-fn are_edges(text: &[u8]) -> bool
-    ensures yes { result ≡ true → AreEdges text.now }
-    ensures no { result ≡ false → ¬ AreEdges text.now }
+/// What follows some edges at the front of a text and the end of their line.
+fn behind_edges(text: &[u8]) -> Option<&[u8]>
+    ensures { MatchOption result ((after : List ℕ) → ¬ AreEdges after text.now)
+        (λ left. AreEdges left.now text.now) }
 {
     let mut rest = text;
     'edges: while let Some((_, others)) = short_at(rest) {
         rest = others;
     }
-    rest == b");\n".as_slice()
+    match behind(b");\n", rest) {
+        Some(left) => Some(left),
+        None => None,
+    }
 }
 
-/// Whether a line is that of a cycle.
-pub fn is_cycle(line: &[u8]) -> bool
-    ensures { result ≡ is_some (reading.item_cycle line.now) }
+/// What follows a cycle line at the front of a text, `None` where there is none.
+pub fn behind_cycle(text: &[u8]) -> Option<&[u8]>
+    ensures { MatchOption result ((after : List ℕ) → ¬ IsCycleBefore after text.now)
+        (λ left. IsCycleBefore left.now text.now) }
 {
-    let Some(front) = front_of(line) else {
-        return false;
+    let Some(front) = front_of(text) else {
+        return None;
     };
     let Some((_, others)) = short_at(front.edges) else {
-        return false;
+        return None;
     };
-    are_edges(others)
+    match behind_edges(others) {
+        Some(left) => Some(left),
+        None => None,
+    }
 }
