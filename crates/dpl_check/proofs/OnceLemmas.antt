@@ -1,5 +1,5 @@
 -- A layout and a report have one verdict, and a layout that is refused has none.
-use Rattle.std.proofs.Common.{◌≡◌, ◌∙◌, ◌⊎◌, ℕ, List, ap, sym, subst, inl, inr}
+use Rattle.std.proofs.Common.{◌≡◌, ◌⊎◌, ℕ, List, ap, sym, subst, inl, inr}
 use Rattle.std.specs.Prelude.{ℤ, Result, Ok, Err, IfOk, IfErr}
 use Rattle.dpl_cuts.specs.declared.types.Fragments.{Fragments}
 use Rattle.dpl_sign.specs.declared.nets.Net.{Net}

@@ -12,7 +12,6 @@ use Rattle.dpl_good.proofs.TrueLemmas.{good_is_true}
 use Rattle.dpl_good.proofs.GoodLemmas.{true_is_good}
 use Rattle.dpl_good.proofs.FactLemmas.{facts_of_truth, truth_of_facts}
 use Rattle.dpl_check.specs.declared.verdicts.Verdict.TheVariants.{Yes}
-use Rattle.dpl_check.specs.Judged.{IsVerdict}
 use Rattle.dpl_check.specs.Checked.{IsVerdictOf, IsVerdictOfCells}
 
 -- the text is that of a report with this cost and bound, of which the nine facts hold over the layer of the cells

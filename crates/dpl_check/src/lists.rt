@@ -5,6 +5,7 @@ ghost use Rattle.dpl_rules.specs.Readers.{Reads};
 ghost use Rattle.dpl_sign.specs.Colourings.{colour_of, breaks};
 ghost use Rattle.dpl_sign.specs.Kinds.{is_bond, is_clash};
 ghost use Rattle.dpl_sign.specs.Walks.{across, leaves, edge_at, IsOddWalk};
+ghost use Rattle.dpl_parse.specs.Read.{cycle_of};
 ghost use Rattle.dpl_good.specs.Misses as misses;
 ghost use Rattle.dpl_good.specs.Conditions as conditions;
 
@@ -12,7 +13,8 @@ use crate::compare::{corners_miss, number_miss};
 use dpl_cell::Rect;
 use dpl_good::types::Masks;
 use dpl_good::{Miss, colour_at};
-use dpl_sign::{Cycle, Edge, Kind, Signed, Walk};
+use dpl_parse::{Cycles, Edges, WrittenCycle};
+use dpl_sign::{Edge, Kind, Signed};
 
 fn bond_miss(colours: &[bool], e: u64, edge: &Edge) -> Option<Miss>
     ensures { result ≡ conditions.bond_miss colours.now e edge.now }
@@ -142,27 +144,28 @@ fn passed(graph: &Signed, e: u32, at: Reached) -> Option<Reached>
 }
 
 /// A cycle line is an odd walk from its start.
-pub fn walk_miss(graph: &Signed, cycle: u64, walk: &Walk) -> Option<Miss>
-    requires { length walk.now.edges < 2 ^ 31 }
-    ensures miss { result ≡ conditions.walk_miss graph.now cycle walk.now.start walk.now.edges 1
-        walk.now.start false }
-    ensures odd { (result ≡ None → IsOddWalk graph.now walk.now) ×
-        (IsOddWalk graph.now walk.now → result ≡ None) }
+pub fn walk_miss(graph: &Signed, cycle: u64, walk: WrittenCycle<'_>) -> Option<Miss>
+    requires { length walk.edges < 2 ^ 31 }
+    ensures miss { result ≡ conditions.walk_miss graph.now cycle walk.entry.start walk.entry.edges 1
+        walk.entry.start false }
+    ensures odd { (result ≡ None → IsOddWalk graph.now (cycle_of walk.entry).walk) ×
+        (IsOddWalk graph.now (cycle_of walk.entry).walk → result ≡ None) }
 {
-    first_walk_miss(graph, cycle, walk.start, walk.edges.as_slice())
+    first_walk_miss(graph, cycle, walk.start, walk.edges)
 }
 
-fn first_walk_miss(graph: &Signed, cycle: u64, start: u32, edges: &[u32]) -> Option<Miss>
-    requires { length edges.now < 2 ^ 31 }
-    ensures { result ≡ conditions.walk_miss graph.now cycle start edges.now 1 start false }
+fn first_walk_miss(graph: &Signed, cycle: u64, start: u32, edges: Edges<'_>) -> Option<Miss>
+    requires { length edges < 2 ^ 31 }
+    ensures { result ≡ conditions.walk_miss graph.now cycle start edges.entry 1 start false }
 {
+    let mut left = edges;
     let mut at = Reached {
         place: 1,
         node: start,
         odd: false,
     };
-    for e in edges {
-        let Some(next) = passed(graph, *e, at) else {
+    'edges: while let Some(e) = left.next_edge() {
+        let Some(next) = passed(graph, e, at) else {
             return Some(Miss {
                 place: cycle,
                 found: at.place as i64,
@@ -175,14 +178,15 @@ fn first_walk_miss(graph: &Signed, cycle: u64, start: u32, edges: &[u32]) -> Opt
 }
 
 /// Each cycle line is an odd walk from its start.
-pub fn walks_miss(graph: &Signed, cycles: &[Cycle]) -> Option<Miss>
-    requires few { length cycles.now < 2 ^ 31 }
-    requires short { All (λ c. length c.walk.edges < 2 ^ 31) cycles.now }
-    ensures { result ≡ conditions.walks_miss graph.now 0 cycles.now }
+pub fn walks_miss(graph: &Signed, cycles: Cycles<'_>) -> Option<Miss>
+    requires few { length cycles < 2 ^ 31 }
+    requires short { All (λ c. length c.walk.edges < 2 ^ 31) cycles }
+    ensures { result ≡ conditions.walks_miss graph.now 0 cycles.entry }
 {
+    let mut left = cycles;
     let mut number = 0;
-    for cycle in cycles {
-        if let Some(miss) = walk_miss(graph, number, &cycle.walk) {
+    'cycles: while let Some(cycle) = left.next_cycle() {
+        if let Some(miss) = walk_miss(graph, number, cycle) {
             return Some(miss);
         }
         number += 1;
