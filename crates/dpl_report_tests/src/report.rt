@@ -1,6 +1,13 @@
+ghost use Rattle.std.specs.Prelude.{◌≡◌, IfOk};
+ghost use Rattle.dpl_parse.specs.Read.{plain_read};
+ghost use Rattle.dpl_report.specs.Plain.{plain_report};
+ghost use Rattle.dpl_report.specs.Valid.{IsReport};
+
 use dpl_form::first_line;
-use dpl_parse::{ReportError, parse};
-use dpl_report::{NoMemory, print};
+use dpl_list::Items;
+use dpl_parse::{Cycles, Edges, ReadReport, ReportError, parse};
+use dpl_report::{NoMemory, Report, print};
+use dpl_sign::{Cycle, Walk};
 use std::alloc::Global;
 use std::process::Abort;
 
@@ -19,13 +26,72 @@ const SECOND: &[u8] =
 const KEPT: &[u8] =
     b"(dpl 2);\n(layer M);\n(space 100);\n(overlap 20);\n(stitch 1);\n(conflict 10);\n(pieces 0);\n(fragments 0);\n(bonds 0);\n(stitches 0);\n(clashes 0);\n(excess 0);\n(cost 0);\n(bound 0);\n(masks );\n(corner 3);\n(keep K);\nDS 1 1 4;\nL MA;\nL MB;\nDF;\nC 1;\nE\n";
 
+fn stored_edges(alloc: Global, edges: Edges<'_>) -> Result<Vec<u32>, NoMemory>
+    ensures { IfOk result (λ v. v.items ≡ edges.entry) }
+{
+    let mut left = edges;
+    let mut found = Vec::new(alloc);
+    'edges: while let Some(edge) = left.next_edge() {
+        found.push(edge)?;
+    }
+    Ok(found)
+}
+
+fn stored_cycles(alloc: Global, cycles: Cycles<'_>) -> Result<Vec<Cycle>, NoMemory>
+    ensures { IfOk result (λ v. v.items ≡ cycles.entry) }
+{
+    let mut left = cycles;
+    let mut found = Vec::new(alloc);
+    'cycles: while let Some(cycle) = left.next_cycle() {
+        let edges = Items::new(stored_edges(alloc, cycle.edges)?);
+        let walk = Walk {
+            start: cycle.start,
+            edges,
+        };
+        found.push(Cycle {
+            half: cycle.half,
+            walk,
+        })?;
+    }
+    Ok(found)
+}
+
+/// A report with its cycles stored.
+fn stored(alloc: Global, report: ReadReport<'_>) -> Result<Report, NoMemory>
+    ensures { IfOk result (λ r. plain_report r ≡ plain_read report.entry) }
+{
+    let cycles = stored_cycles(alloc, report.cycles)?;
+    Ok(Report {
+        params: report.params,
+        counts: report.counts,
+        cost: report.cost,
+        bound: report.bound,
+        colours: report.colours,
+        cuts: report.cuts,
+        clashes: report.clashes,
+        aside: report.aside,
+        cycles: Items::new(cycles),
+        on_a: report.on_a,
+        on_b: report.on_b,
+    })
+}
+
+/// The text of a report that was read.
+fn written(alloc: Global, report: ReadReport<'_>) -> Result<Vec<u8>, NoMemory>
+    requires { IsReport (plain_read report) }
+{
+    let report = stored(alloc, report)?;
+    let text = print(alloc, &report)?;
+    Ok(text)
+}
+
 /// Whether this is a report, and is written again as it was read.
 fn is_written_again(alloc: Global, text: &[u8]) -> bool {
     if text.len() > 1000 {
         return false;
     }
     match parse(alloc, text) {
-        Ok(report) => match print(alloc, &report) {
+        Ok(report) => match written(alloc, report) {
             Ok(again) => again.as_slice() == text,
             Err(_) => false,
         },
