@@ -4,4 +4,5 @@ pub mod DecimalLemmas
 pub mod EdgeLemmas
 pub mod CycleLemmas
 pub mod BlockLemmas
+pub mod OtherLemmas
 pub mod AnswerLemmas

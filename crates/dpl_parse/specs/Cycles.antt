@@ -1,5 +1,5 @@
 -- The cycle lines of a report where they stand, and the bytes of such a line.
-use Rattle.std.specs.Prelude.{◌≡◌, ◌≤◌, ℕ, zero, pos, true, unsigned_abs, List, ◌∷◌, ◌++◌, map, codes}
+use Rattle.std.specs.Prelude.{◌≡◌, ◌≤◌, ℕ, zero, pos, true, unsigned_abs, List, [], ◌∷◌, ◌++◌, map, codes}
 use Rattle.std.specs.List.{AllByRecursion}
 use Rattle.std.specs.Fmt.{decimal}
 use Rattle.dpl_boxes.specs.Masks.{spaced}
@@ -22,6 +22,11 @@ cycles_in text = (cycle_lines (lines_in text)).0
 -- the numbers in what is left of a line
 abbrev pub edges_in : List ℕ → List ℕ
 edges_in text = map unsigned_abs (numbers_in (32 ∷ text))
+
+-- the first line, where there is one, begins as that of a cycle
+abbrev pub BeginWithCycle : List (List ℕ) → Type 0
+BeginWithCycle [] = Unit {0}
+BeginWithCycle (l ∷ ls) = (rest : List ℕ) × (l ≡ codes "(cycle" ++ rest)
 
 -- a cycle line, and what follows it
 abbrev pub cycle_text : Cycle → List ℕ → List ℕ

@@ -1,7 +1,8 @@
 // Blocks of lines of one kind, as long as they go on.
-ghost use Rattle.std.specs.Prelude.{◌≡◌, map, IfOk};
+ghost use Rattle.std.specs.Prelude.{◌≡◌, ◌<◌, ◌∷◌, map, length, IfOk, MatchOption};
 ghost use Rattle.dpl_cell.specs.Places.{corners_of};
 ghost use Rattle.dpl_form.specs.Lines.{lines_in};
+ghost use Rattle.dpl_parse.specs.Cycles.{BeginWithCycle};
 ghost use Rattle.dpl_parse.specs.Gives.{Gives};
 ghost use Rattle.dpl_parse.specs.Items.{read_rising};
 ghost use Rattle.dpl_report.specs.Plain.{plain_zone};
@@ -9,11 +10,24 @@ ghost use Rattle.dpl_report.specs.Reading as reading;
 
 use crate::items::{box_in, cut_in, item_in};
 use crate::rising::Rising;
+use crate::scanning::behind;
 use crate::stops::Stop;
 use dpl_cell::Rect;
 use dpl_form::first_line;
 use dpl_report::{Broken, Zone};
 use std::alloc::Global;
+
+/// The first line and what follows it, `None` where there is none or it begins as that of a cycle:
+/// such a line may be long, and its end is not looked for.
+fn other_line(text: &[u8]) -> Option<(&[u8], &[u8])>
+    ensures { MatchOption result (BeginWithCycle (lines_in text.now)) (λ p.
+        (lines_in text.now ≡ p.0.now ∷ lines_in p.1.now) × (length p.1.now < length text.now)) }
+{
+    match behind(b"(cycle", text) {
+        Some(_) => None,
+        None => first_line(text),
+    }
+}
 
 /// The broken stitches with their zones, in grid units, of the cut lines at the front, whose edges
 /// rise, and what follows these lines. Its error is want of memory.
@@ -27,7 +41,7 @@ pub fn cuts(alloc: Global, text: &[u8]) -> Result<(Vec<Zone>, &[u8]), Stop>
     let mut found = Vec::new(alloc);
     let mut rest = text;
     let mut least = 0;
-    'lines: while let Some((line, others)) = first_line(rest) {
+    'lines: while let Some((line, others)) = other_line(rest) {
         let Some(zone) = cut_in(alloc, least, line)? else {
             return Ok((found, rest));
         };
@@ -47,7 +61,8 @@ fn front_items<T: Rising>(alloc: Global, text: &[u8]) -> Result<(Vec<T>, &[u8]),
     let mut found = Vec::new(alloc);
     let mut rest = text;
     let mut least = 0;
-    'lines: while let Some((line, others)) = first_line(rest) {
+    T::is_no_cycle();
+    'lines: while let Some((line, others)) = other_line(rest) {
         let Some(item) = item_in::<T>(alloc, least, line)? else {
             return Ok((found, rest));
         };

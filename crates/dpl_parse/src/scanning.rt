@@ -7,7 +7,7 @@ ghost use Rattle.dpl_parse.specs.Cycles.{AreEdges, IsCycleBefore, IsDecimal, IsS
 use dpl_lex::classes::is_digit_byte;
 
 /// What follows a front of a text, `None` where the text begins otherwise.
-fn behind<'a>(front: &[u8], text: &'a [u8]) -> Option<&'a [u8]>
+pub fn behind<'a>(front: &[u8], text: &'a [u8]) -> Option<&'a [u8]>
     ensures { MatchOption result ((rest : List ℕ) → text.now ≢ front.now ++ rest) (λ left.
         text.now ≡ front.now ++ left.now) }
 {
