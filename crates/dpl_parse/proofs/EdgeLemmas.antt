@@ -6,8 +6,8 @@ use Rattle.dpl_boxes.specs.Masks.{spaced}
 use Rattle.dpl_boxes.specs.Written.{has_no_digit}
 use Rattle.dpl_report.specs.ReportLines.{numbered}
 use Rattle.dpl_report.specs.Valid.{IsNumber}
-use Rattle.dpl_report.proofs.ItemLemmas.{near}
-use Rattle.dpl_report.proofs.LineLemmas.{IsNear, numbers_in-numbered, closing_is_end}
+use Rattle.dpl_report.proofs.ItemLemmas.{edges_near}
+use Rattle.dpl_report.proofs.LineLemmas.{numbers_in-numbered, closing_is_end}
 use Rattle.dpl_parse.specs.Cycles.{edges_in, AreEdges, IsSpaced}
 use Rattle.dpl_parse.proofs.DecimalLemmas.{spaced_once}
 
@@ -18,10 +18,6 @@ edges_text es after = numbered (map pos es) (codes ");\n" ++ after)
 pub no_digit-edges_text : (es after : List ℕ) → has_no_digit (edges_text es after) ≡ true
 no_digit-edges_text [] after = refl
 no_digit-edges_text (e ∷ es) after = refl
-
-edges_near : (es : List ℕ) → AllByRecursion IsNumber es → AllByRecursion IsNear (map pos es)
-edges_near [] f = tt
-edges_near (e ∷ es) f = (near e f.0, edges_near es f.1)
 
 numbers_again : (es : List ℕ) → map unsigned_abs (map pos es) ≡ es
 numbers_again [] = refl

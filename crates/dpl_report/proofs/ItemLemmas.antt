@@ -229,7 +229,8 @@ edges_again : (es : List ℕ) → AllByRecursion IsNumber es → edges_of (map p
 edges_again [] f = refl
 edges_again (e ∷ es) f = rw (up_to_again 4294967295 e f.0, edges_again es f.1) refl
 
-edges_near : (es : List ℕ) → AllByRecursion IsNumber es → AllByRecursion IsNear (map pos es)
+-- each of them is near
+pub edges_near : (es : List ℕ) → AllByRecursion IsNumber es → AllByRecursion IsNear (map pos es)
 edges_near [] f = tt
 edges_near (e ∷ es) f = (near e f.0, edges_near es f.1)
 
