@@ -4,5 +4,6 @@ pub mod DecimalLemmas
 pub mod EdgeLemmas
 pub mod CycleLemmas
 pub mod BlockLemmas
+pub mod LetterLemmas
 pub mod OtherLemmas
 pub mod AnswerLemmas

@@ -2,5 +2,6 @@ pub mod Pieces
 pub mod Gives
 pub mod Tells
 pub mod Items
+pub mod Blocks
 pub mod Cycles
 pub mod Read

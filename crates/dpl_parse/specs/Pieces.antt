@@ -1,6 +1,5 @@
 -- The parts of a report that are read one after the other, as plain numbers and lists.
-use Rattle.std.specs.Prelude.{map}
-use Rattle.dpl_report.specs.Plain.{PlainHead, PlainLists, plain_zone}
+use Rattle.dpl_report.specs.Plain.{PlainHead, PlainLists}
 use Rattle.dpl_parse.specs.declared.heads.Head.{Head}
 use Rattle.dpl_parse.specs.declared.bodies.Lists.{Lists}
 
@@ -15,7 +14,7 @@ plain_head h = record {
 
 abbrev pub plain_lists : Lists → PlainLists
 plain_lists l = record {
-  cuts = map plain_zone l.cuts;
+  cuts = l.cuts;
   clashes = l.clashes;
   aside = l.aside;
   cycles = l.cycles;

@@ -1,8 +1,6 @@
--- What a report says, with its cycles as they stand in its text.
-use Rattle.std.specs.Prelude.{map}
-use Rattle.dpl_cell.specs.Places.{corners_of}
+-- What a report says, with its lists as they stand in its text.
 use Rattle.dpl_sign.specs.declared.walks.Cycle.{Cycle}
-use Rattle.dpl_report.specs.Plain.{PlainReport, plain_zone}
+use Rattle.dpl_report.specs.Plain.{PlainReport}
 pub use Rattle.dpl_parse.specs.Cycles.{cycles_in}
 use Rattle.dpl_parse.specs.declared.cycles.WrittenCycle.{WrittenCycle}
 use Rattle.dpl_parse.specs.declared.reading.ReadReport.{ReadReport}
@@ -22,11 +20,11 @@ plain_read r = record {
     colours = r.colours;
   };
   lists = record {
-    cuts = map plain_zone r.cuts;
+    cuts = r.cuts;
     clashes = r.clashes;
     aside = r.aside;
     cycles = r.cycles;
   };
-  on_a = map corners_of r.on_a;
-  on_b = map corners_of r.on_b;
+  on_a = r.on_a;
+  on_b = r.on_b;
 }

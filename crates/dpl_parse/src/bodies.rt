@@ -1,27 +1,27 @@
 // The lists and the drawing of a report, read.
-ghost use Rattle.std.specs.Prelude.{◌≡◌, map, IfOk};
-ghost use Rattle.dpl_cell.specs.Places.{corners_of};
+ghost use Rattle.std.specs.Prelude.{◌≡◌, IfOk};
 ghost use Rattle.dpl_form.specs.Lines.{lines_in};
 ghost use Rattle.dpl_parse.specs.Gives.{Gives};
 ghost use Rattle.dpl_parse.specs.Pieces.{plain_lists};
 ghost use Rattle.dpl_report.specs.ReportLines.{mask_line};
 ghost use Rattle.dpl_report.specs.Reading as reading;
 
-use crate::blocks::{aside, boxes, clashes, cuts};
+use crate::blocks::aside;
+use crate::boxes::{Boxes, front_boxes};
+use crate::clashes::{Clashes, front_clashes};
+use crate::cuts::{Cuts, front_cuts};
 use crate::cycles::{Cycles, front_cycles};
 use crate::parts::exactly;
 use crate::stops::Stop;
-use dpl_cell::Rect;
 use dpl_list::Items;
 use dpl_report::writing::push_mask;
-use dpl_report::{Broken, Zone};
 use std::alloc::Global;
 
 /// What is broken, what is set aside, and the walks that show the bound.
 #[derive(Drop)]
 pub struct Lists<'a> {
-    pub cuts: Items<Zone>,
-    pub clashes: Items<Broken>,
+    pub cuts: Cuts<'a>,
+    pub clashes: Clashes<'a>,
     pub aside: Items<u32>,
     pub cycles: Cycles<'a>,
 }
@@ -33,13 +33,13 @@ pub fn lists_of(alloc: Global, text: &[u8]) -> Result<(Lists<'_>, &[u8]), Stop>
     ensures { Gives (λ x. (plain_lists x.0, lines_in x.1.now)) result
         (reading.read_lists (lines_in text.now)) }
 {
-    let (cuts, rest) = cuts(alloc, text)?;
-    let (clashes, rest) = clashes(alloc, rest)?;
+    let (cuts, rest) = front_cuts(alloc, text)?;
+    let (clashes, rest) = front_clashes(alloc, rest)?;
     let (aside, rest) = aside(alloc, rest)?;
     let (cycles, rest) = front_cycles(rest);
     let lists = Lists {
-        cuts: Items::new(cuts),
-        clashes: Items::new(clashes),
+        cuts,
+        clashes,
         aside: Items::new(aside),
         cycles,
     };
@@ -53,16 +53,13 @@ fn mask<'a>(
     name: &[u8],
     letter: u8,
     text: &'a [u8],
-) -> Result<(Vec<Rect>, &'a [u8]), Stop>
-    ensures { Gives (λ x. (
-      map corners_of x.0.items,
-      lines_in x.1.now,
-    )) result (reading.read_mask name.now letter (lines_in text.now)) }
+) -> Result<(Boxes<'a>, &'a [u8]), Stop>
+    ensures { Gives (λ x. (x.0, lines_in x.1.now)) result (reading.read_mask name.now letter (lines_in text.now)) }
 {
     let mut wanted = Vec::new(alloc);
     push_mask(&mut wanted, name, letter)?;
     let rest = exactly(wanted.as_slice(), text)?;
-    boxes(alloc, rest)
+    front_boxes(alloc, rest)
 }
 
 #[tactic(auto, unfolding(dpl_report::specs::Reading::read_last))]
@@ -76,9 +73,9 @@ fn last(text: &[u8]) -> Result<&[u8], Stop>
 
 /// Two masks.
 #[derive(Drop)]
-pub struct Drawing {
-    pub on_a: Vec<Rect>,
-    pub on_b: Vec<Rect>,
+pub struct Drawing<'a> {
+    pub on_a: Boxes<'a>,
+    pub on_b: Boxes<'a>,
 }
 
 /// The boxes of both masks, in grid units, drawn on the layers of this name with A and with B
@@ -89,9 +86,9 @@ pub fn drawing_of<'a>(
     alloc: Global,
     name: &[u8],
     text: &'a [u8],
-) -> Result<(Drawing, &'a [u8]), Stop>
+) -> Result<(Drawing<'a>, &'a [u8]), Stop>
     ensures { Gives (λ x. (
-      (map corners_of x.0.on_a.items, map corners_of x.0.on_b.items),
+      (x.0.on_a, x.0.on_b),
       lines_in x.1.now,
     )) result (reading.read_drawing name.now (lines_in text.now)) }
 {

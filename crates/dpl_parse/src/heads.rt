@@ -6,21 +6,21 @@ ghost use Rattle.dpl_report.specs.Plain.{params_with as plain_params};
 ghost use Rattle.dpl_parse.specs.Pieces.{plain_head};
 ghost use Rattle.dpl_report.specs.Reading as reading;
 
+use crate::letters::Letters;
 use crate::parts::{count, keep, layer, masks, version};
 use crate::stops::Stop;
 use dpl_lex::Name;
-use dpl_list::Items;
 use dpl_report::{Counts, More, Params, Values};
 use std::alloc::Global;
 
 /// The lines before the lists.
 #[derive(Drop)]
-pub struct Head {
+pub struct Head<'a> {
     pub params: Params,
     pub counts: Counts,
     pub cost: u64,
     pub bound: u64,
-    pub colours: Items<bool>,
+    pub colours: Letters<'a>,
 }
 
 #[tactic(auto, unfolding(dpl_report::specs::Reading::read_values))]
@@ -108,7 +108,7 @@ fn counts(alloc: Global, text: &[u8]) -> Result<(Counts, &[u8]), Stop>
 /// The lines before the lists, of either version, and what follows them. Its error is the first
 /// line that cannot stand, or want of memory.
 #[tactic(auto, unfolding(dpl_report::specs::Reading::read_head))]
-pub fn head_of(alloc: Global, text: &[u8]) -> Result<(Head, &[u8]), Stop>
+pub fn head_of(alloc: Global, text: &[u8]) -> Result<(Head<'_>, &[u8]), Stop>
     ensures { Gives (λ x. (plain_head x.0, lines_in x.1.now)) result
         (reading.read_head (lines_in text.now)) }
 {
@@ -117,9 +117,8 @@ pub fn head_of(alloc: Global, text: &[u8]) -> Result<(Head, &[u8]), Stop>
     let (counts, rest) = counts(alloc, rest)?;
     let (cost, rest) = count(alloc, b"cost", rest)?;
     let (bound, rest) = count(alloc, b"bound", rest)?;
-    let (colours, rest) = masks(alloc, counts.fragments, rest)?;
+    let (colours, rest) = masks(counts.fragments, rest)?;
     let (more, rest) = more_in(alloc, second, rest)?;
-    let colours = Items::new(colours);
     let params = params_with(values, more);
     let head = Head {
         params,

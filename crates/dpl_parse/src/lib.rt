@@ -1,15 +1,20 @@
 //! The text of a report, read.
 //!
-//! `parse` reads exactly what `print` of `dpl_report` writes, or names the first wrong line. The cycle lines of what it
-//! gives stay a part of the text: cycles and their edges are read where they stand (`Cycles`, `Edges`).
+//! `parse` reads exactly what `print` of `dpl_report` writes, or names the first wrong line. Of what it gives the letters of
+//! the masks, the cut, clash, cycle and box lines stay a part of the text, and are read where they stand (`Letters`,
+//! `Cuts`, `Clashes`, `Cycles`, `Boxes`).
 #![tactic(auto)]
 
 mod blocks;
 mod bodies;
+mod boxes;
+mod clashes;
+mod cuts;
 mod cycles;
 mod guesses;
 mod heads;
 mod items;
+mod letters;
 mod names;
 mod numbers;
 mod parts;
@@ -18,5 +23,9 @@ mod rising;
 mod scanning;
 mod stops;
 
+pub use boxes::Boxes;
+pub use clashes::Clashes;
+pub use cuts::Cuts;
 pub use cycles::{Cycles, Edges, WrittenCycle};
+pub use letters::Letters;
 pub use reading::{ReadReport, ReportError, parse};

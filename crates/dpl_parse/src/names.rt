@@ -1,10 +1,9 @@
-// The lines with a name or with masks, read.
+// The lines with a name or a version, read.
 ghost use Rattle.std.specs.Prelude.{◌≡◌, ◌≤◌, ◌<◌, length, IfOk};
-ghost use Rattle.dpl_rules.specs.Readers.{Reads};
 ghost use Rattle.dpl_report.specs.Reading as reading;
 
 use dpl_lex::Name;
-use dpl_report::writing::{push_keep, push_layer, push_masks, version_line};
+use dpl_report::writing::{push_keep, push_layer, version_line};
 use std::alloc::{AllocError as NoMemory, Global};
 
 /// What stands between so many bytes and three.
@@ -73,28 +72,4 @@ pub fn version_in(line: &[u8]) -> Option<bool>
     } else {
         None
     }
-}
-
-fn colours_from(alloc: Global, letters: &[u8]) -> Result<Vec<bool>, NoMemory>
-    ensures { IfOk result (λ v. v.items ≡ reading.colours_from letters.now) }
-{
-    letters.iter().map(|b| *b == b'B').collect(alloc)
-}
-
-/// A colour for each of so many fragments in a masks line, `true` for B, `None` where the line is
-/// none. Its error is want of memory.
-pub fn colours_in(alloc: Global, fragments: u64, line: &[u8]) -> Result<Option<Vec<bool>>, NoMemory>
-    ensures { IfOk result (λ o. Reads (λ v. v.items) o (reading.item_masks fragments line.now)) }
-{
-    let colours = colours_from(alloc, between(7, line))?;
-    if colours.len() as u64 != fragments {
-        return Ok(None);
-    }
-    let mut again = Vec::new(alloc);
-    push_masks(&mut again, &colours)?;
-    Ok(if again.as_slice() == line {
-        Some(colours)
-    } else {
-        None
-    })
 }

@@ -5,7 +5,8 @@ ghost use Rattle.dpl_parse.specs.Gives.{Gives};
 ghost use Rattle.dpl_report.specs.Reading as reading;
 
 use crate::items::count_in;
-use crate::names::{colours_in, keep_in, layer_in, version_in};
+use crate::letters::{Letters, letters_in};
+use crate::names::{keep_in, layer_in, version_in};
 use crate::stops::{Stop, stop_at};
 use dpl_form::first_line;
 use dpl_lex::Name;
@@ -53,18 +54,18 @@ pub fn layer(alloc: Global, text: &[u8]) -> Result<(Name, &[u8]), Stop>
     }
 }
 
-/// A colour for each of so many fragments, `true` for B, in the masks line at the front, and what
-/// follows it. Its error is that the text begins otherwise, or want of memory.
+/// The letters for so many fragments in the masks line at the front, and what follows it. Its error
+/// is that the text begins otherwise.
 #[tactic(auto, unfolding(dpl_report::specs::Reading::read_masks))]
-pub fn masks(alloc: Global, fragments: u64, text: &[u8]) -> Result<(Vec<bool>, &[u8]), Stop>
-    ensures { Gives (λ x. (x.0.items, lines_in x.1.now)) result
+pub fn masks(fragments: u64, text: &[u8]) -> Result<(Letters<'_>, &[u8]), Stop>
+    ensures { Gives (λ x. (x.0, lines_in x.1.now)) result
         (reading.read_masks fragments (lines_in text.now)) }
 {
     match first_line(text) {
         None => Err(stop_at(text)),
-        Some((line, rest)) => match colours_in(alloc, fragments, line)? {
+        Some((line, rest)) => match letters_in(fragments, line) {
             None => Err(stop_at(text)),
-            Some(colours) => Ok((colours, rest)),
+            Some(letters) => Ok((letters, rest)),
         },
     }
 }

@@ -12,13 +12,16 @@ ghost use Rattle.dpl_report.specs.Valid.{IsReport};
 ghost use Rattle.dpl_report.specs.Reading as reading;
 
 use crate::bodies::{drawing_of, lists_of};
+use crate::boxes::Boxes;
+use crate::clashes::Clashes;
+use crate::cuts::Cuts;
 use crate::cycles::Cycles;
 use crate::heads::head_of;
+use crate::letters::Letters;
 use crate::stops::{Stop, stop_at};
-use dpl_cell::Rect;
 use dpl_form::{count_lines, first_line};
 use dpl_list::Items;
-use dpl_report::{Broken, Counts, Params, Zone};
+use dpl_report::{Counts, Params};
 use std::alloc::Global;
 
 /// Why a text is no report.
@@ -29,20 +32,20 @@ pub enum ReportError {
     NoMemory,
 }
 
-/// What a report says. Its cycles stand in its text.
+/// What a report says. All its lists but the edges that are set aside stand in its text.
 #[derive(Drop)]
 pub struct ReadReport<'a> {
     pub params: Params,
     pub counts: Counts,
     pub cost: u64,
     pub bound: u64,
-    pub colours: Items<bool>,
-    pub cuts: Items<Zone>,
-    pub clashes: Items<Broken>,
+    pub colours: Letters<'a>,
+    pub cuts: Cuts<'a>,
+    pub clashes: Clashes<'a>,
     pub aside: Items<u32>,
     pub cycles: Cycles<'a>,
-    pub on_a: Items<Rect>,
-    pub on_b: Items<Rect>,
+    pub on_a: Boxes<'a>,
+    pub on_b: Boxes<'a>,
 }
 
 #[tactic(auto, unfolding(dpl_report::specs::Reading::read_report))]
@@ -63,8 +66,8 @@ fn report_of(alloc: Global, text: &[u8]) -> Result<(ReadReport<'_>, &[u8]), Stop
         clashes: lists.clashes,
         aside: lists.aside,
         cycles: lists.cycles,
-        on_a: Items::new(drawing.on_a),
-        on_b: Items::new(drawing.on_b),
+        on_a: drawing.on_a,
+        on_b: drawing.on_b,
     };
     Ok((report, rest))
 }

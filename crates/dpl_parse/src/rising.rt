@@ -1,5 +1,5 @@
 // Items that stand in lines of their own and rise by their edges.
-ghost use Rattle.std.specs.Prelude.{◌≡◌, ◌≢◌, ◌++◌, codes, ℕ, ℤ, List, Option, take, OnOk};
+ghost use Rattle.std.specs.Prelude.{◌≡◌, ◌++◌, ℕ, ℤ, List, Option, take, OnOk};
 ghost use Rattle.dpl_report.specs.Reading.{aside_from, broken_from};
 ghost use Rattle.dpl_report.specs.ReportLines.{aside_line, clash_line};
 
@@ -23,10 +23,6 @@ pub trait Rising: Drop + Sized {
     fn edge(&self) -> u32
         ensures { result ≡ edge_of self.now };
 
-    /// Its line is not that of a cycle. This is a fact; nothing runs.
-    fn is_no_cycle()
-        ensures { (x : Self) (rest : List ℕ) → line_of x ≢ codes "(cycle" ++ rest };
-
     /// Puts its line behind what is there.
     fn push(&self, out: &mut Vec<u8>) -> Result<(), NoMemory>
         ensures { OnOk result (out.new.items ≡ out.old.items ++ line_of self.now) };
@@ -48,8 +44,6 @@ impl Rising for Broken {
         self.edge
     }
 
-    fn is_no_cycle() {}
-
     fn push(&self, out: &mut Vec<u8>) -> Result<(), NoMemory> {
         push_clash(out, self)
     }
@@ -70,8 +64,6 @@ impl Rising for u32 {
     fn edge(&self) -> u32 {
         *self
     }
-
-    fn is_no_cycle() {}
 
     fn push(&self, out: &mut Vec<u8>) -> Result<(), NoMemory> {
         push_aside(out, *self)
