@@ -3,7 +3,5 @@ pub mod FewLemmas
 pub mod DecimalLemmas
 pub mod EdgeLemmas
 pub mod CycleLemmas
-pub mod BlockLemmas
 pub mod LetterLemmas
-pub mod OtherLemmas
 pub mod AnswerLemmas

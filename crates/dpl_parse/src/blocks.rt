@@ -1,4 +1,4 @@
-// The aside lines of a report, whose edges are stored.
+// Lines that are none of a cycle, and the edges of the aside lines, which are stored.
 ghost use Rattle.std.specs.Prelude.{◌≡◌, ◌<◌, ◌∷◌, length, MatchOption};
 ghost use Rattle.dpl_form.specs.Lines.{lines_in};
 ghost use Rattle.dpl_parse.specs.Cycles.{BeginWithCycle};
