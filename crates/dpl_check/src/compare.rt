@@ -1,5 +1,5 @@
 // The first place at which a condition fails.
-ghost use Rattle.std.specs.Prelude.{◌≡◌, ◌≤◌, ◌<◌, ◌^◌, length, map, pos};
+ghost use Rattle.std.specs.Prelude.{◌≡◌, ◌≤◌, ◌<◌, ◌^◌, length, map, pos, None, Some, IfOk};
 ghost use Rattle.dpl_cell.specs.Places.{corners_of};
 ghost use Rattle.dpl_report.specs.Plain.{plain_zone};
 ghost use Rattle.dpl_report.specs.Valid.{IsCounts, IsParams};
@@ -11,7 +11,9 @@ ghost use Rattle.dpl_good.specs.Conditions as conditions;
 use dpl_cell::Rect;
 use dpl_good::Miss;
 use dpl_options::{Options, name_bytes};
+use dpl_parse::{Clashes, Cuts};
 use dpl_report::{Broken, Counts, Params, Zone};
+use std::alloc::{AllocError as NoMemory, Global};
 
 /// Two numbers of a line that have to be the same.
 pub fn number_miss(place: u64, found: u64, wanted: u64) -> Option<Miss>
@@ -156,33 +158,43 @@ pub fn counts_miss(found: &Counts, wanted: &Counts) -> Option<Miss>
 }
 
 /// Clash lines against the broken clashes: the least edge that differs.
-pub fn clash_lines_miss(found: &[Broken], wanted: &[Broken]) -> Option<Miss>
-    ensures miss { result ≡ conditions.clash_lines_miss found.now wanted.now }
-    ensures none { (result ≡ None → found.now ≡ wanted.now) ×
-        (found.now ≡ wanted.now → result ≡ None) }
-    ensures first { (m : Miss) → result ≡ Some m →
-        FirstDifference (λ b. b.edge) conditions.ends_miss found.now wanted.now m }
+pub fn clash_lines_miss(
+    alloc: Global,
+    found: Clashes<'_>,
+    wanted: &[Broken],
+) -> Result<Option<Miss>, NoMemory>
+    ensures miss { IfOk result (λ v. v ≡ conditions.clash_lines_miss found.entry wanted.now) }
+    ensures none { IfOk result (λ v. (v ≡ None → found.entry ≡ wanted.now) ×
+        (found.entry ≡ wanted.now → v ≡ None)) }
+    ensures first { IfOk result (λ v. (m : Miss) → v ≡ Some m →
+        FirstDifference (λ b. b.edge) conditions.ends_miss found.entry wanted.now m) }
 {
-    first_clash_miss(found, wanted)
+    let miss = first_clash_miss(alloc, found, wanted)?;
+    Ok(miss)
 }
 
-fn first_clash_miss(found: &[Broken], wanted: &[Broken]) -> Option<Miss>
-    ensures { result ≡ conditions.clash_lines_miss found.now wanted.now }
+fn first_clash_miss(
+    alloc: Global,
+    found: Clashes<'_>,
+    wanted: &[Broken],
+) -> Result<Option<Miss>, NoMemory>
+    ensures { IfOk result (λ v. v ≡ conditions.clash_lines_miss found.entry wanted.now) }
 {
     let mut left = wanted;
-    for x in found {
+    let mut lines = found;
+    'lines: while let Some(x) = lines.next_clash(alloc)? {
         let Some((y, others)) = left.split_first() else {
-            return Some(listed(x.edge));
+            return Ok(Some(listed(x.edge)));
         };
         if let Some(miss) = entry_miss(x.edge, y.edge) {
-            return Some(miss);
+            return Ok(Some(miss));
         }
-        if let Some(miss) = ends_miss(x, y) {
-            return Some(miss);
+        if let Some(miss) = ends_miss(&x, y) {
+            return Ok(Some(miss));
         }
         left = others;
     }
-    left.first().map(|y| not_listed(y.edge))
+    Ok(left.first().map(|y| not_listed(y.edge)))
 }
 
 /// The first of the corners' numbers `x1`, `y1`, `x2` and `y2` that differs, in grid units, said at
@@ -207,24 +219,29 @@ fn zone_miss(found: &Zone, wanted: &Zone) -> Option<Miss>
 }
 
 /// Cut lines against the broken stitches: the least edge that differs.
-pub fn cut_lines_miss(found: &[Zone], wanted: &[Zone]) -> Option<Miss>
-    ensures { result ≡ conditions.cut_lines_miss (map plain_zone found.now)
-        (map plain_zone wanted.now) }
+pub fn cut_lines_miss(
+    alloc: Global,
+    found: Cuts<'_>,
+    wanted: &[Zone],
+) -> Result<Option<Miss>, NoMemory>
+    ensures { IfOk result (λ v.
+        v ≡ conditions.cut_lines_miss found.entry (map plain_zone wanted.now)) }
 {
     let mut left = wanted;
-    for x in found {
+    let mut lines = found;
+    'lines: while let Some(x) = lines.next_cut(alloc)? {
         let Some((y, others)) = left.split_first() else {
-            return Some(listed(x.at.edge));
+            return Ok(Some(listed(x.at.edge)));
         };
         if let Some(miss) = entry_miss(x.at.edge, y.at.edge) {
-            return Some(miss);
+            return Ok(Some(miss));
         }
-        if let Some(miss) = zone_miss(x, y) {
-            return Some(miss);
+        if let Some(miss) = zone_miss(&x, y) {
+            return Ok(Some(miss));
         }
         left = others;
     }
-    left.first().map(|y| not_listed(y.at.edge))
+    Ok(left.first().map(|y| not_listed(y.at.edge)))
 }
 
 /// The weight of a clash between corners: without a line of its own that of every clash.

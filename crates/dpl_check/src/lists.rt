@@ -13,8 +13,9 @@ use crate::compare::{corners_miss, number_miss};
 use dpl_cell::Rect;
 use dpl_good::types::Masks;
 use dpl_good::{Miss, colour_at};
-use dpl_parse::{Cycles, Edges, WrittenCycle};
+use dpl_parse::{Boxes, Cycles, Edges, WrittenCycle};
 use dpl_sign::{Edge, Kind, Signed};
+use std::alloc::{AllocError as NoMemory, Global};
 
 fn bond_miss(colours: &[bool], e: u64, edge: &Edge) -> Option<Miss>
     ensures { result ≡ conditions.bond_miss colours.now e edge.now }
@@ -47,24 +48,30 @@ pub fn bonds_miss(colours: &[bool], edges: &[Edge]) -> Option<Miss>
 }
 
 /// Boxes against rectangles, from a place on.
-pub fn boxes_miss(place: u64, found: &[Rect], wanted: &[Rect]) -> Option<Miss>
-    requires { place + length found.now < 2 ^ 63 }
-    ensures { result ≡ conditions.boxes_miss place (map corners_of found.now)
-        (map corners_of wanted.now) }
+pub fn boxes_miss(
+    alloc: Global,
+    place: u64,
+    found: Boxes<'_>,
+    wanted: &[Rect],
+) -> Result<Option<Miss>, NoMemory>
+    requires { place + length found < 2 ^ 63 }
+    ensures { IfOk result (λ v.
+        v ≡ conditions.boxes_miss place found.entry (map corners_of wanted.now)) }
 {
     let mut left = wanted;
+    let mut boxes = found;
     let mut at = place;
-    for x in found {
+    'boxes: while let Some(x) = boxes.next_box(alloc)? {
         let Some((y, others)) = left.split_first() else {
-            return None;
+            return Ok(None);
         };
-        if let Some(miss) = corners_miss(at, x, y) {
-            return Some(miss);
+        if let Some(miss) = corners_miss(at, &x, y) {
+            return Ok(Some(miss));
         }
         left = others;
         at += 1;
     }
-    None
+    Ok(None)
 }
 
 /// The place, node and parity that a walk has reached.
@@ -195,19 +202,25 @@ pub fn walks_miss(graph: &Signed, cycles: Cycles<'_>) -> Option<Miss>
 }
 
 /// The counts of the boxes, A first, and then the boxes of both masks in order.
-pub fn drawing_miss(on_a: &[Rect], on_b: &[Rect], wanted: &Masks) -> Option<Miss>
+pub fn drawing_miss(
+    alloc: Global,
+    on_a: &Boxes<'_>,
+    on_b: &Boxes<'_>,
+    wanted: &Masks,
+) -> Result<Option<Miss>, NoMemory>
     requires { length on_a.now + length on_b.now < 2 ^ 32 }
-    ensures { result ≡ conditions.drawing_miss (map corners_of on_a.now) (map corners_of on_b.now)
-        (map corners_of wanted.now.on_a.items) (map corners_of wanted.now.on_b.items) }
+    ensures { IfOk result (λ v. v ≡ conditions.drawing_miss on_a.now on_b.now
+        (map corners_of wanted.now.on_a.items) (map corners_of wanted.now.on_b.items)) }
 {
     let counts = number_miss(4_294_967_296, on_a.len() as u64, wanted.on_a.len() as u64).or(
         number_miss(4_294_967_297, on_b.len() as u64, wanted.on_b.len() as u64),
     );
     if let Some(miss) = counts {
-        return Some(miss);
+        return Ok(Some(miss));
     }
-    if let Some(miss) = boxes_miss(0, on_a, &wanted.on_a) {
-        return Some(miss);
+    if let Some(miss) = boxes_miss(alloc, 0, on_a.again(), &wanted.on_a)? {
+        return Ok(Some(miss));
     }
-    boxes_miss(on_a.len() as u64, on_b, &wanted.on_b)
+    let miss = boxes_miss(alloc, on_a.len() as u64, on_b.again(), &wanted.on_b)?;
+    Ok(miss)
 }

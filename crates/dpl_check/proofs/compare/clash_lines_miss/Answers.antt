@@ -6,8 +6,8 @@ use Rattle.dpl_check.proofs.compare.clash_lines_miss.Goals as goal
 
 pub returns-clause-none : goal.returns-clause-none
 returns-clause-none c =
-    let law = clash_lines_are c.args.found.now c.args.wanted.now in
-    (λ e. law.0 (sym c.first_clash_miss.ensures ∙ e), λ e. c.first_clash_miss.ensures ∙ law.1 e)
+    let law = clash_lines_are c.args.found c.args.wanted.now in
+    (λ e. law.0 (sym c.in_ok-miss.ensures ∙ e), λ e. c.in_ok-miss.ensures ∙ law.1 e)
 
 pub returns-clause-first : goal.returns-clause-first
-returns-clause-first c = λ m e. lists_first (λ b. b.edge) ends_miss clashes_told c.args.found.now c.args.wanted.now m (sym c.first_clash_miss.ensures ∙ e)
+returns-clause-first c = λ m e. lists_first (λ b. b.edge) ends_miss clashes_told c.args.found c.args.wanted.now m (sym c.in_ok-miss.ensures ∙ e)

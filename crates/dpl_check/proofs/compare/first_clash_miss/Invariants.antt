@@ -1,6 +1,9 @@
-use Rattle.std.proofs.Common.{◌≡◌, drop}
+use Rattle.std.proofs.Common.{◌≡◌, length}
 use Rattle.dpl_good.specs.Conditions as conditions
 use Rattle.dpl_check.proofs.compare.first_clash_miss.Given as goal
 
-abbrev pub invariant-loop-x : goal.invariant-loop-x
-invariant-loop-x l = conditions.clash_lines_miss (drop l.x-index l.found) l.left ≡ conditions.clash_lines_miss l.found l.wanted
+abbrev pub invariant-lines : goal.invariant-lines
+invariant-lines l = conditions.clash_lines_miss l.lines l.left ≡ conditions.clash_lines_miss l.fn.found l.wanted
+
+abbrev pub decreases-lines : goal.decreases-lines
+decreases-lines l = length l.lines
