@@ -1,12 +1,14 @@
-ghost use Rattle.std.specs.Prelude.{◌≡◌, IfOk};
+ghost use Rattle.std.specs.Prelude.{◌≡◌, map, IfOk};
+ghost use Rattle.dpl_cell.specs.Places.{corners_of};
 ghost use Rattle.dpl_parse.specs.Read.{plain_read};
-ghost use Rattle.dpl_report.specs.Plain.{plain_report};
+ghost use Rattle.dpl_report.specs.Plain.{plain_report, plain_zone};
 ghost use Rattle.dpl_report.specs.Valid.{IsReport};
 
+use dpl_cell::Rect;
 use dpl_form::first_line;
 use dpl_list::Items;
-use dpl_parse::{Cycles, Edges, ReadReport, ReportError, parse};
-use dpl_report::{NoMemory, Report, print};
+use dpl_parse::{Boxes, Clashes, Cuts, Cycles, Edges, ReadReport, ReportError, parse};
+use dpl_report::{Broken, NoMemory, Report, Zone, print};
 use dpl_sign::{Cycle, Walk};
 use std::alloc::Global;
 use std::process::Abort;
@@ -56,23 +58,61 @@ fn stored_cycles(alloc: Global, cycles: Cycles<'_>) -> Result<Vec<Cycle>, NoMemo
     Ok(found)
 }
 
-/// A report with its cycles stored.
+fn stored_cuts(alloc: Global, cuts: Cuts<'_>) -> Result<Vec<Zone>, NoMemory>
+    ensures { IfOk result (λ v. map plain_zone v.items ≡ cuts.entry) }
+{
+    let mut left = cuts;
+    let mut found = Vec::new(alloc);
+    'cuts: while let Some(cut) = left.next_cut(alloc)? {
+        found.push(cut)?;
+    }
+    Ok(found)
+}
+
+fn stored_clashes(alloc: Global, clashes: Clashes<'_>) -> Result<Vec<Broken>, NoMemory>
+    ensures { IfOk result (λ v. v.items ≡ clashes.entry) }
+{
+    let mut left = clashes;
+    let mut found = Vec::new(alloc);
+    'clashes: while let Some(clash) = left.next_clash(alloc)? {
+        found.push(clash)?;
+    }
+    Ok(found)
+}
+
+fn stored_boxes(alloc: Global, boxes: Boxes<'_>) -> Result<Vec<Rect>, NoMemory>
+    ensures { IfOk result (λ v. map corners_of v.items ≡ boxes.entry) }
+{
+    let mut left = boxes;
+    let mut found = Vec::new(alloc);
+    'boxes: while let Some(rect) = left.next_box(alloc)? {
+        found.push(rect)?;
+    }
+    Ok(found)
+}
+
+/// A report with its lists stored.
 fn stored(alloc: Global, report: ReadReport<'_>) -> Result<Report, NoMemory>
     ensures { IfOk result (λ r. plain_report r ≡ plain_read report.entry) }
 {
+    let colours = report.colours.colours(alloc)?;
+    let cuts = stored_cuts(alloc, report.cuts)?;
+    let clashes = stored_clashes(alloc, report.clashes)?;
     let cycles = stored_cycles(alloc, report.cycles)?;
+    let on_a = stored_boxes(alloc, report.on_a)?;
+    let on_b = stored_boxes(alloc, report.on_b)?;
     Ok(Report {
         params: report.params,
         counts: report.counts,
         cost: report.cost,
         bound: report.bound,
-        colours: report.colours,
-        cuts: report.cuts,
-        clashes: report.clashes,
+        colours: Items::new(colours),
+        cuts: Items::new(cuts),
+        clashes: Items::new(clashes),
         aside: report.aside,
         cycles: Items::new(cycles),
-        on_a: report.on_a,
-        on_b: report.on_b,
+        on_a: Items::new(on_a),
+        on_b: Items::new(on_b),
     })
 }
 
