@@ -3,5 +3,4 @@ pub mod Gives
 pub mod Tells
 pub mod Items
 pub mod Blocks
-pub mod Cycles
 pub mod Read

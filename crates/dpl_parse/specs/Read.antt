@@ -1,13 +1,8 @@
 -- What a report says, with its lists as they stand in its text.
-use Rattle.dpl_sign.specs.declared.walks.Cycle.{Cycle}
 use Rattle.dpl_report.specs.Plain.{PlainReport}
-pub use Rattle.dpl_parse.specs.Cycles.{cycles_in}
-use Rattle.dpl_parse.specs.declared.cycles.WrittenCycle.{WrittenCycle}
+pub use Rattle.dpl_walks.specs.Cycles.{cycles_in}
+pub use Rattle.dpl_walks.specs.Read.{cycle_of}
 use Rattle.dpl_parse.specs.declared.reading.ReadReport.{ReadReport}
-
--- a walk with its half weight
-abbrev pub cycle_of : WrittenCycle → Cycle
-cycle_of c = record { half = c.half; walk = record { start = c.start; edges = c.edges } }
 
 -- a report as plain numbers and lists
 abbrev pub plain_read : ReadReport → PlainReport

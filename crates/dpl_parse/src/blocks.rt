@@ -1,14 +1,14 @@
 // Lines that are none of a cycle, and the edges of the aside lines, which are stored.
 ghost use Rattle.std.specs.Prelude.{◌≡◌, ◌<◌, ◌∷◌, length, MatchOption};
 ghost use Rattle.dpl_form.specs.Lines.{lines_in};
-ghost use Rattle.dpl_parse.specs.Cycles.{BeginWithCycle};
+ghost use Rattle.dpl_walks.specs.Cycles.{BeginWithCycle};
 ghost use Rattle.dpl_parse.specs.Gives.{Gives};
 ghost use Rattle.dpl_report.specs.Reading as reading;
 
 use crate::items::item_in;
-use crate::scanning::behind;
 use crate::stops::Stop;
 use dpl_form::first_line;
+use dpl_walks::behind;
 use std::alloc::Global;
 
 /// The first line and what follows it, `None` where there is none or it begins as that of a cycle:

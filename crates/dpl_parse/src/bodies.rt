@@ -10,11 +10,11 @@ use crate::blocks::aside;
 use crate::boxes::{Boxes, front_boxes};
 use crate::clashes::{Clashes, front_clashes};
 use crate::cuts::{Cuts, front_cuts};
-use crate::cycles::{Cycles, front_cycles};
 use crate::parts::exactly;
 use crate::stops::Stop;
 use dpl_list::Items;
 use dpl_report::writing::push_mask;
+use dpl_walks::{Cycles, front_cycles};
 use std::alloc::Global;
 
 /// What is broken, what is set aside, and the walks that show the bound.

@@ -4,7 +4,7 @@ ghost use Rattle.std.specs.List.{list_all};
 ghost use Rattle.dpl_parse.specs.Blocks.{is_mask_letter};
 ghost use Rattle.dpl_report.specs.Reading as reading;
 
-use crate::scanning::behind;
+use dpl_walks::behind;
 use std::alloc::{AllocError, Global};
 use std::marker::Model;
 

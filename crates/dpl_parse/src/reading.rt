@@ -15,13 +15,13 @@ use crate::bodies::{drawing_of, lists_of};
 use crate::boxes::Boxes;
 use crate::clashes::Clashes;
 use crate::cuts::Cuts;
-use crate::cycles::Cycles;
 use crate::heads::head_of;
 use crate::letters::Letters;
 use crate::stops::{Stop, stop_at};
 use dpl_form::{count_lines, first_line};
 use dpl_list::Items;
 use dpl_report::{Counts, Params};
+use dpl_walks::Cycles;
 use std::alloc::Global;
 
 /// Why a text is no report.

@@ -1,9 +1,0 @@
-use Rattle.std.proofs.Common.{length}
-use Rattle.dpl_parse.proofs.EdgeLemmas.{SameEdges}
-use Rattle.dpl_parse.proofs.scanning.behind_edges.Given as goal
-
-abbrev pub invariant-edges : goal.invariant-edges
-invariant-edges l = SameEdges l.rest l.text
-
-abbrev pub decreases-edges : goal.decreases-edges
-decreases-edges l = length l.rest
