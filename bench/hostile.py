@@ -146,17 +146,48 @@ def layouts():
     yield "100,001 tiles", run.layout(tiles), 4, "limit 5 count 100001"
 
 
-def write_long_cycle(path, most):
-    """Writes the report with a cycle line that fills it up to this size in bytes or one less; how many edges it has."""
-    front = ("\n".join(REPORT[:16]) + "\n(cycle 1 0").encode()
-    end = (");\n" + "\n".join(REPORT[17:])).encode()
-    edges = (most - len(front) - len(end)) // 2
-    with open(path, "wb") as file:
-        file.write(front)
-        for _ in range(edges >> 19):
-            file.write(b" 0" * (1 << 19))
-        file.write(b" 0" * (edges % (1 << 19)) + end)
-    return edges
+MOST = 268_435_456
+
+
+def repeated(part, room):
+    """A part as often as it fits into so many bytes, in pieces."""
+    count = room // len(part)
+    for _ in range(count >> 16):
+        yield part * (1 << 16)
+    yield part * (count % (1 << 16))
+
+
+def rising(form, room):
+    """Lines of this form by their numbers from 0, as many as fit into so many bytes."""
+    number = 0
+    while len(form % number) <= room:
+        yield form % number
+        room -= len(form % number)
+        number += 1
+
+
+def long_reports():
+    """Reports that fill the limit with lines of one kind or one long line, and the answers."""
+
+    def cut(front, back):
+        """The text before some lines, that behind, and the room between."""
+        text = "\n".join(front).encode(), "\n".join(back).encode()
+        return (*text, MOST - len(text[0]) - len(text[1]))
+
+    front, back, room = cut(REPORT[:16] + ["(cycle 1 0"], [");"] + REPORT[17:])
+    yield "a cycle line of %d edges" % (room // 2), front, repeated(b" 0", room), back, "7 place 0 found %d wanted 0" % (room // 2 + 1)
+    front, back, room = cut(REPORT[:16] + [""], REPORT[17:])
+    yield "cycle lines", front, repeated(b"(cycle 20 0 0 2 1);\n", room), back, "8 place 0 found 40 wanted 20"
+    front, back, room = cut(REPORT[:19] + [""], REPORT[20:])
+    boxes = room // len(REPORT[19] + "\n")
+    yield "%d box lines" % boxes, front, repeated(REPORT[19].encode() + b"\n", room), back, "9 place 4294967296 found %d wanted 2" % (boxes + 1)
+    count = 268_000_000
+    front, back, _ = cut(REPORT[:7] + ["(fragments %d);" % count] + REPORT[8:14] + ["(masks "], [");"] + REPORT[15:])
+    yield "masks of %d letters" % count, front, repeated(b"A", count), back, "3 place 8 found %d wanted 3" % count
+    front, back, room = cut(REPORT[:15] + [""], REPORT[16:])
+    yield "clash lines", front, rising(b"(clash %d 0 1);\n", room), back, "5 place 1 found 1 wanted 0"
+    yield "cut lines", front, rising(b"(cut %d 0 1 0 0 2 2);\n", room), back, "5 place 0 found 1 wanted 0"
+    yield "aside lines", front, rising(b"(aside %d);\n", room), back, "5 place 0 found 0 wanted 1"
 
 
 def timed(binary, words, text):
@@ -179,7 +210,7 @@ def main():
         nonlocal wrong
         wrong += not is_right
         answer = ended.stderr.decode().strip() or "status %d" % ended.returncode
-        print("%-36s %7.2f s %7.0f MB  %-5s %s" % (name, seconds, memory, "right" if is_right else "WRONG", answer), flush=True)
+        print("%-46s %7.2f s %7.0f MB  %-5s %s" % (name, seconds, memory, "right" if is_right else "WRONG", answer), flush=True)
 
     print("peak memory is that of the largest run so far")
     with tempfile.TemporaryDirectory() as folder:
@@ -205,10 +236,13 @@ def main():
                 file.truncate(spaces)
             ended, seconds, memory = timed(binary, check, b"E")
             told("a report of %d spaces" % spaces, ended, seconds, memory, (ended.returncode, ended.stderr) == (status, b"dpl: " + line + b"\n"))
-        edges = write_long_cycle(report, 268_435_456)
-        ended, seconds, memory = timed(binary, check, TRIANGLE)
-        line = b"dpl: rejected 7 place 0 found %d wanted 0\n" % (edges + 1)
-        told("a cycle line of %d edges" % edges, ended, seconds, memory, (ended.returncode, ended.stderr) == (1, line))
+        for name, front, parts, back, wanted in long_reports():
+            with open(report, "wb") as file:
+                file.write(front)
+                file.writelines(parts)
+                file.write(back)
+            ended, seconds, memory = timed(binary, check, TRIANGLE)
+            told("a report with " + name, ended, seconds, memory, (ended.returncode, ended.stderr) == (1, b"dpl: rejected %s\n" % wanted.encode()))
     print("%d wrong" % wrong)
     return 1 if wrong else 0
 
