@@ -33,4 +33,4 @@ pub use nets::Net;
 pub use order::port_order;
 pub use ports::Port;
 pub use rotating::{is_met_before, next_around};
-pub use walks::{Claim, Cycle, Walk};
+pub use walks::{Cycle, Walk};

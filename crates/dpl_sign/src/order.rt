@@ -35,7 +35,7 @@ pub fn port_order(a: &Port, ea: u32, b: &Port, eb: u32) -> Ordering
 {
     a.side
         .cmp(&b.side)
-        .then(a.key.cmp(&b.key))
-        .then(slope_order(a, b))
-        .then(ea.cmp(&eb))
+        .then_with(|| a.key.cmp(&b.key))
+        .then_with(|| slope_order(a, b))
+        .then_with(|| ea.cmp(&eb))
 }

@@ -1,4 +1,4 @@
-// Walks, their half weights, and what these are said to sum to.
+// Walks and their half weights.
 use dpl_list::Items;
 
 /// A node, and the numbers of the edges of a walk from it.
@@ -13,11 +13,4 @@ pub struct Walk {
 pub struct Cycle {
     pub half: u64,
     pub walk: Walk,
-}
-
-/// Cycles, and what their half weights are said to sum to.
-#[derive(Drop)]
-pub struct Claim {
-    pub cycles: Items<Cycle>,
-    pub bound: u64,
 }
