@@ -6,7 +6,7 @@ ghost use Rattle.dpl_index.specs.Kinds.{HasKinds};
 ghost use Rattle.dpl_index.specs.Stops.{IsIndex, NamesAll};
 
 use crate::bounds::{Bounds, around};
-use crate::curve::place_of;
+use crate::curve::{grain_of, place_of};
 use crate::kinds::{common, kind_at};
 use std::alloc::{AllocError as NoMemory, Global};
 
@@ -38,9 +38,10 @@ pub fn stops_of(alloc: Global, items: &[Bounds], kinds: &[u32]) -> Result<Vec<St
 fn places(alloc: Global, items: &[Bounds]) -> Result<Vec<(u64, usize)>, NoMemory>
     ensures { IfOk result (λ v. NamesAll (length items.now) v.items) }
 {
+    let grain = grain_of(items);
     let mut places = Vec::with_capacity(alloc, items.len())?;
     for i in 0..items.len() {
-        places.push((place_of(&items[i]), i))?;
+        places.push((place_of(grain, &items[i]), i))?;
     }
     Ok(places)
 }
