@@ -1,4 +1,5 @@
 pub mod NumberLoop
 pub mod FewLemmas
+pub mod CycleLemmas
 pub mod LetterLemmas
 pub mod AnswerLemmas

@@ -8,8 +8,7 @@ ghost use Rattle.dpl_report.specs.Reading as reading;
 
 use crate::blocks::aside;
 use crate::boxes::{Boxes, front_boxes};
-use crate::clashes::{Clashes, front_clashes};
-use crate::cuts::{Cuts, front_cuts};
+use crate::lines::{Clashes, Cuts, front_clashes, front_cuts};
 use crate::parts::exactly;
 use crate::stops::Stop;
 use dpl_list::Items;

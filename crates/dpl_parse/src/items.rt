@@ -2,17 +2,15 @@
 ghost use Rattle.std.specs.Prelude.{◌≡◌, IfOk};
 ghost use Rattle.dpl_cell.specs.Places.{corners_of};
 ghost use Rattle.dpl_rules.specs.Readers.{Reads};
-ghost use Rattle.dpl_report.specs.Plain.{plain_zone};
 ghost use Rattle.dpl_report.specs.Reading as reading;
 ghost use Rattle.dpl_parse.specs.Items.{item_from};
 
-use crate::guesses::{box_of, count_from, zone_of};
+use crate::guesses::{box_of, count_from};
 use crate::numbers::first_numbers;
 use crate::rising::Rising;
 use dpl_boxes::push_box;
 use dpl_cell::Rect;
-use dpl_report::Zone;
-use dpl_report::writing::{push_count, push_cut};
+use dpl_report::writing::push_count;
 use std::alloc::{AllocError as NoMemory, Global};
 
 /// The number in a line of this word, `None` where the line is none. Its error is want of memory.
@@ -28,28 +26,6 @@ pub fn count_in(alloc: Global, word: &[u8], line: &[u8]) -> Result<Option<u64>, 
     push_count(&mut again, word, number)?;
     Ok(if again.as_slice() == line {
         Some(number)
-    } else {
-        None
-    })
-}
-
-/// The broken stitch of a cut line and its zone, in grid units, `None` where the line is none or
-/// its edge is below `least`. Its error is want of memory.
-#[tactic(auto, using(crate::proofs::FewLemmas::zone_of_few))]
-pub fn cut_in(alloc: Global, least: u64, line: &[u8]) -> Result<Option<Zone>, NoMemory>
-    ensures { IfOk result (λ o. Reads plain_zone o (reading.item_cut least line.now)) }
-{
-    let numbers = first_numbers(alloc, line)?;
-    let Some(zone) = zone_of(&numbers) else {
-        return Ok(None);
-    };
-    if u64::from(zone.at.edge) < least {
-        return Ok(None);
-    }
-    let mut again = Vec::new(alloc);
-    push_cut(&mut again, &zone)?;
-    Ok(if again.as_slice() == line {
-        Some(zone)
     } else {
         None
     })

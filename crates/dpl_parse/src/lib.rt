@@ -8,12 +8,11 @@
 mod blocks;
 mod bodies;
 mod boxes;
-mod clashes;
-mod cuts;
 mod guesses;
 mod heads;
 mod items;
 mod letters;
+mod lines;
 mod names;
 mod numbers;
 mod parts;
@@ -22,8 +21,7 @@ mod rising;
 mod stops;
 
 pub use boxes::Boxes;
-pub use clashes::Clashes;
-pub use cuts::Cuts;
 pub use dpl_walks::{Cycles, Edges, WrittenCycle};
 pub use letters::Letters;
+pub use lines::{Clashes, Cuts};
 pub use reading::{ReadReport, ReportError, parse};

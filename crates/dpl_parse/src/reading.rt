@@ -13,10 +13,9 @@ ghost use Rattle.dpl_report.specs.Reading as reading;
 
 use crate::bodies::{drawing_of, lists_of};
 use crate::boxes::Boxes;
-use crate::clashes::Clashes;
-use crate::cuts::Cuts;
 use crate::heads::head_of;
 use crate::letters::Letters;
+use crate::lines::{Clashes, Cuts};
 use crate::stops::{Stop, stop_at};
 use dpl_form::{count_lines, first_line};
 use dpl_list::Items;

@@ -1,12 +1,15 @@
 // Items that stand in lines of their own and rise by their edges.
-ghost use Rattle.std.specs.Prelude.{◌≡◌, ◌++◌, ℕ, ℤ, List, Option, take, OnOk};
-ghost use Rattle.dpl_report.specs.Reading.{aside_from, broken_from};
-ghost use Rattle.dpl_report.specs.ReportLines.{aside_line, clash_line};
+ghost use Rattle.std.specs.Prelude.{◌≡◌, ◌++◌, ℕ, ℤ, false, List, Option, codes, take, OnOk, refl};
+ghost use Rattle.std.specs.Str.{bytes_eq};
+ghost use Rattle.dpl_report.specs.Plain.{plain_zone};
+ghost use Rattle.dpl_report.specs.Reading.{aside_from, broken_from, zone_from};
+ghost use Rattle.dpl_report.specs.ReportLines.{aside_line, clash_line, cut_line};
 
-use crate::guesses::{aside_of, broken_of};
-use dpl_report::Broken;
-use dpl_report::writing::{push_aside, push_clash};
+use crate::guesses::{aside_of, broken_of, zone_of};
+use dpl_report::writing::{push_aside, push_clash, push_cut};
+use dpl_report::{Broken, Zone};
 use std::alloc::AllocError as NoMemory;
+use std::marker::Model;
 
 /// What a line says of an edge by its numbers.
 pub trait Rising: Drop + Sized {
@@ -26,6 +29,56 @@ pub trait Rising: Drop + Sized {
     /// Puts its line behind what is there.
     fn push(&self, out: &mut Vec<u8>) -> Result<(), NoMemory>
         ensures { OnOk result (out.new.items ≡ out.old.items ++ line_of self.now) };
+
+    /// No such line is that of a cycle.
+    ghost no_cycle: { (x : Self) (rest : List ℕ) →
+        bytes_eq (line_of x) (codes "(cycle" ++ rest) ≡ false };
+}
+
+/// What a cut line says: a broken stitch with its zone. Contracts see it as plain numbers.
+#[derive(Drop)]
+pub struct CutLine {
+    zone: Zone,
+}
+
+impl Model for CutLine {
+    ghost use Rattle.dpl_report.specs.Plain.{PlainZone, plain_zone};
+
+    ghost Value = { PlainZone };
+
+    ghost view = { λ s. plain_zone s.zone };
+}
+
+impl CutLine {
+    /// The zone, in grid units.
+    pub fn into_zone(self) -> Zone
+        ensures { plain_zone result ≡ self }
+    {
+        self.zone
+    }
+}
+
+impl Rising for CutLine {
+    ghost made_of = { zone_from };
+
+    ghost edge_of = { λ z. z.at.edge };
+
+    ghost line_of = { cut_line };
+
+    ghost no_cycle = { λ x rest. refl };
+
+    fn from_few(numbers: &[i64]) -> Option<CutLine> {
+        let zone = zone_of(numbers)?;
+        Some(CutLine { zone })
+    }
+
+    fn edge(&self) -> u32 {
+        self.zone.at.edge
+    }
+
+    fn push(&self, out: &mut Vec<u8>) -> Result<(), NoMemory> {
+        push_cut(out, &self.zone)
+    }
 }
 
 /// A broken clash.
@@ -35,6 +88,8 @@ impl Rising for Broken {
     ghost edge_of = { λ b. b.edge };
 
     ghost line_of = { clash_line };
+
+    ghost no_cycle = { λ x rest. refl };
 
     fn from_few(numbers: &[i64]) -> Option<Broken> {
         broken_of(numbers)
@@ -56,6 +111,8 @@ impl Rising for u32 {
     ghost edge_of = { λ e. e };
 
     ghost line_of = { aside_line };
+
+    ghost no_cycle = { λ x rest. refl };
 
     fn from_few(numbers: &[i64]) -> Option<u32> {
         aside_of(numbers)

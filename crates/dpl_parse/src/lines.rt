@@ -1,0 +1,141 @@
+// The cut and the clash lines of a report, read where they stand: nothing is stored.
+ghost use Rattle.std.specs.Prelude.{◌≡◌, ◌∷◌, [], zero, IfOk, MatchOption, Ok};
+ghost use Rattle.dpl_form.specs.Lines.{lines_in};
+ghost use Rattle.dpl_parse.specs.Blocks.{rising_block};
+ghost use Rattle.dpl_parse.specs.Gives.{Gives};
+ghost use Rattle.dpl_report.specs.Plain.{plain_zone};
+ghost use Rattle.dpl_report.specs.Reading as reading;
+
+use crate::blocks::other_line;
+use crate::items::item_in;
+use crate::rising::{CutLine, Rising};
+use crate::stops::Stop;
+use dpl_form::first_line;
+use dpl_report::{Broken, Zone};
+use std::alloc::{AllocError, Global};
+use std::marker::{Model, PhantomData};
+
+/// What lines say of edges that rise, read one after another. Contracts see what is left of it.
+#[derive(Drop)]
+pub struct RisingLines<'a, T: Rising> {
+    text: &'a [u8],
+    least: u64,
+    kind: PhantomData<T>,
+}
+
+/// The broken stitches with their zones, in grid units, of cut lines.
+pub type Cuts<'a> = RisingLines<'a, CutLine>;
+
+/// The broken clashes of clash lines.
+pub type Clashes<'a> = RisingLines<'a, Broken>;
+
+impl<'a, T: Rising> Model for RisingLines<'a, T> {
+    ghost use Rattle.std.specs.Prelude.{List};
+    ghost use Rattle.dpl_parse.specs.Blocks.{rising_left};
+
+    ghost Value = { List T };
+
+    ghost view = { λ s. rising_left T.made_of T.edge_of T.line_of s.least s.text.now };
+}
+
+impl<'a, T: Rising> RisingLines<'a, T> {
+    /// The first of them, which leaves the others.
+    fn next_item(&mut self, alloc: Global) -> Result<Option<T>, AllocError>
+        ensures { IfOk result (λ o. MatchOption o (self.old ≡ [])
+            (λ x. self.old ≡ x ∷ self.new)) }
+    {
+        let Some((line, rest)) = first_line(self.text) else {
+            return Ok(None);
+        };
+        let Some(item) = item_in::<T>(alloc, self.least, line)? else {
+            return Ok(None);
+        };
+        self.least = u64::from(item.edge()) + 1;
+        self.text = rest;
+        Ok(Some(item))
+    }
+
+    /// The same lines once more.
+    pub fn again(&self) -> RisingLines<'a, T>
+        ensures { result ≡ self.now }
+    {
+        RisingLines {
+            text: self.text,
+            least: self.least,
+            kind: PhantomData,
+        }
+    }
+}
+
+impl<'a> Cuts<'a> {
+    /// The first of them, which leaves the others. Its error is want of memory.
+    pub fn next_cut(&mut self, alloc: Global) -> Result<Option<Zone>, AllocError>
+        ensures { IfOk result (λ o. MatchOption o (self.old ≡ [])
+            (λ z. self.old ≡ plain_zone z ∷ self.new)) }
+    {
+        match self.next_item(alloc)? {
+            Some(line) => Ok(Some(line.into_zone())),
+            None => Ok(None),
+        }
+    }
+}
+
+impl<'a> Clashes<'a> {
+    /// The first of them, which leaves the others. Its error is want of memory.
+    pub fn next_clash(&mut self, alloc: Global) -> Result<Option<Broken>, AllocError>
+        ensures { IfOk result (λ o. MatchOption o (self.old ≡ [])
+            (λ b. self.old ≡ b ∷ self.new)) }
+    {
+        self.next_item(alloc)
+    }
+}
+
+/// What follows the lines of this kind at the front, whose edges rise.
+fn behind<T: Rising>(alloc: Global, text: &[u8]) -> Result<&[u8], AllocError>
+    ensures { IfOk result (λ rest. lines_in rest.now ≡
+        (rising_block T.made_of T.edge_of T.line_of zero (lines_in text.now)).1) }
+{
+    let mut rest = text;
+    let mut least = 0;
+    'lines: while let Some((line, others)) = other_line(rest) {
+        let Some(item) = item_in::<T>(alloc, least, line)? else {
+            return Ok(rest);
+        };
+        least = u64::from(item.edge()) + 1;
+        rest = others;
+    }
+    Ok(rest)
+}
+
+/// The lines of this kind at the front, whose edges rise, and what follows them.
+fn front<T: Rising>(alloc: Global, text: &[u8]) -> Result<(RisingLines<'_, T>, &[u8]), Stop>
+    ensures { Gives (λ x. (x.0, lines_in x.1.now)) result
+        (Ok (rising_block T.made_of T.edge_of T.line_of zero (lines_in text.now))) }
+{
+    let rest = behind::<T>(alloc, text)?;
+    let lines = RisingLines {
+        text,
+        least: 0,
+        kind: PhantomData,
+    };
+    Ok((lines, rest))
+}
+
+/// The cut lines at the front, whose edges rise, and what follows them. Its error is want of
+/// memory.
+#[tactic(auto, unfolding(dpl_report::specs::Reading::read_cuts))]
+pub fn front_cuts(alloc: Global, text: &[u8]) -> Result<(Cuts<'_>, &[u8]), Stop>
+    ensures { Gives (λ x. (x.0, lines_in x.1.now)) result (reading.read_cuts (lines_in text.now)) }
+{
+    front::<CutLine>(alloc, text)
+}
+
+/// The clash lines at the front, whose edges rise, and what follows them. Its error is want of
+/// memory.
+#[tactic(auto, unfolding(dpl_report::specs::Reading::read_clashes))]
+pub fn front_clashes(alloc: Global, text: &[u8]) -> Result<(Clashes<'_>, &[u8]), Stop>
+    ensures { Gives (λ x. (x.0, lines_in x.1.now)) result
+        (reading.read_clashes (lines_in text.now)) }
+{
+    front::<Broken>(alloc, text)
+}
