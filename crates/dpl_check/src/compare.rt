@@ -182,7 +182,7 @@ fn first_clash_miss(
 {
     let mut left = wanted;
     let mut lines = found;
-    'lines: while let Some(x) = lines.next_clash(alloc)? {
+    'lines: while let Some(x) = lines.next_item(alloc)? {
         let Some((y, others)) = left.split_first() else {
             return Ok(Some(listed(x.edge)));
         };

@@ -39,8 +39,8 @@ impl<'a, T: Rising> Model for RisingLines<'a, T> {
 }
 
 impl<'a, T: Rising> RisingLines<'a, T> {
-    /// The first of them, which leaves the others.
-    fn next_item(&mut self, alloc: Global) -> Result<Option<T>, AllocError>
+    /// The first of them, which leaves the others. Its error is want of memory.
+    pub fn next_item(&mut self, alloc: Global) -> Result<Option<T>, AllocError>
         ensures { IfOk result (λ o. MatchOption o (self.old ≡ [])
             (λ x. self.old ≡ x ∷ self.new)) }
     {
@@ -74,19 +74,9 @@ impl<'a> Cuts<'a> {
             (λ z. self.old ≡ plain_zone z ∷ self.new)) }
     {
         match self.next_item(alloc)? {
-            Some(line) => Ok(Some(line.into_zone())),
+            Some(line) => Ok(Some(line.zone)),
             None => Ok(None),
         }
-    }
-}
-
-impl<'a> Clashes<'a> {
-    /// The first of them, which leaves the others. Its error is want of memory.
-    pub fn next_clash(&mut self, alloc: Global) -> Result<Option<Broken>, AllocError>
-        ensures { IfOk result (λ o. MatchOption o (self.old ≡ [])
-            (λ b. self.old ≡ b ∷ self.new)) }
-    {
-        self.next_item(alloc)
     }
 }
 
@@ -107,27 +97,19 @@ fn behind<T: Rising>(alloc: Global, text: &[u8]) -> Result<&[u8], AllocError>
     Ok(rest)
 }
 
-/// The lines of this kind at the front, whose edges rise, and what follows them.
-fn front<T: Rising>(alloc: Global, text: &[u8]) -> Result<(RisingLines<'_, T>, &[u8]), Stop>
-    ensures { Gives (λ x. (x.0, lines_in x.1.now)) result
-        (Ok (rising_block T.made_of T.edge_of T.line_of zero (lines_in text.now))) }
-{
-    let rest = behind::<T>(alloc, text)?;
-    let lines = RisingLines {
-        text,
-        least: 0,
-        kind: PhantomData,
-    };
-    Ok((lines, rest))
-}
-
 /// The cut lines at the front, whose edges rise, and what follows them. Its error is want of
 /// memory.
 #[tactic(auto, unfolding(dpl_report::specs::Reading::read_cuts))]
 pub fn front_cuts(alloc: Global, text: &[u8]) -> Result<(Cuts<'_>, &[u8]), Stop>
     ensures { Gives (λ x. (x.0, lines_in x.1.now)) result (reading.read_cuts (lines_in text.now)) }
 {
-    front::<CutLine>(alloc, text)
+    let rest = behind::<CutLine>(alloc, text)?;
+    let lines = RisingLines {
+        text,
+        least: 0,
+        kind: PhantomData,
+    };
+    Ok((lines, rest))
 }
 
 /// The clash lines at the front, whose edges rise, and what follows them. Its error is want of
@@ -137,5 +119,11 @@ pub fn front_clashes(alloc: Global, text: &[u8]) -> Result<(Clashes<'_>, &[u8]),
     ensures { Gives (λ x. (x.0, lines_in x.1.now)) result
         (reading.read_clashes (lines_in text.now)) }
 {
-    front::<Broken>(alloc, text)
+    let rest = behind::<Broken>(alloc, text)?;
+    let lines = RisingLines {
+        text,
+        least: 0,
+        kind: PhantomData,
+    };
+    Ok((lines, rest))
 }

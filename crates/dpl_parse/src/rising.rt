@@ -38,7 +38,7 @@ pub trait Rising: Drop + Sized {
 /// What a cut line says: a broken stitch with its zone. Contracts see it as plain numbers.
 #[derive(Drop)]
 pub struct CutLine {
-    zone: Zone,
+    pub zone: Zone,
 }
 
 impl Model for CutLine {
@@ -47,15 +47,6 @@ impl Model for CutLine {
     ghost Value = { PlainZone };
 
     ghost view = { λ s. plain_zone s.zone };
-}
-
-impl CutLine {
-    /// The zone, in grid units.
-    pub fn into_zone(self) -> Zone
-        ensures { plain_zone result ≡ self }
-    {
-        self.zone
-    }
 }
 
 impl Rising for CutLine {

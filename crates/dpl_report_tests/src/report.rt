@@ -74,7 +74,7 @@ fn stored_clashes(alloc: Global, clashes: Clashes<'_>) -> Result<Vec<Broken>, No
 {
     let mut left = clashes;
     let mut found = Vec::new(alloc);
-    'clashes: while let Some(clash) = left.next_clash(alloc)? {
+    'clashes: while let Some(clash) = left.next_item(alloc)? {
         found.push(clash)?;
     }
     Ok(found)
