@@ -110,7 +110,7 @@ fn gather_asked(
     'stops: while at < stops.len() {
         let stop = &stops[at];
         if may_hold(stop, &ask) {
-            push_asked(&mut found, items, kinds, &ask, stop.number)?;
+            push_asked(&mut found, items, kinds, &ask, stop)?;
             if found.len() > enough {
                 return Ok(found);
             }
@@ -138,18 +138,24 @@ fn may_hold(stop: &Stop, ask: &Ask) -> bool
     }
 }
 
-/// Adds an item if it is asked for.
+/// Adds the item of a stop if it is asked for. The bounds of a stop that holds no other are those of its item, and were
+/// looked at.
 fn push_asked(
     found: &mut Vec<usize>,
     items: &[Bounds],
     kinds: &[u32],
     ask: &Ask,
-    i: usize,
+    stop: &Stop,
 ) -> Result<(), NoMemory>
-    requires { i < length items.now }
-    ensures { OnOk result (AddsAsked (record { items = items.now; kinds = kinds.now }) ask.now i
-        found.old.items found.new.items) }
+    requires { stop.now.number < length items.now }
+    ensures { OnOk result (AddsAsked (record { items = items.now; kinds = kinds.now }) ask.now
+        stop.now.number found.old.items found.new.items) }
 {
+    let i = stop.number;
+    if stop.rest == 0 {
+        found.push(i)?;
+        return Ok(());
+    }
     let item = &items[i];
     if do_meet(item, &ask.far) {
         if kind_at(kinds, i) != ask.kind || do_meet(item, &ask.near) {
