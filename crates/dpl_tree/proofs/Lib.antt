@@ -8,6 +8,7 @@ pub mod Growing
 pub mod Loads
 pub mod MatchingLemmas
 pub mod Meetings
+pub mod MetricLemmas
 pub mod Opening
 pub mod Parity
 pub mod Parting

@@ -1,6 +1,6 @@
 //! Distances.
 
-ghost use Rattle.std.specs.Prelude.{◌≡◌, ℕ, ◌*◌, ◌<◌, ◌≤◌, length};
+ghost use Rattle.std.specs.Prelude.{◌≡◌, ℕ, ◌+◌, ◌*◌, ◌<◌, ◌≤◌, length, slice_index, slice_range};
 ghost use Rattle.dpl_tree.specs.Metrics.{Table, dist_of, IsTable};
 
 use std::marker::Model;
@@ -50,4 +50,23 @@ impl Metric {
     {
         self.rows[s as usize * self.size + t as usize]
     }
+
+    /// The distances of a member from each one.
+    pub fn row(&self, s: u32) -> &[u64]
+        requires { s < self.now.size }
+        ensures count { length result.now ≡ self.now.size }
+        ensures each { (t : ℕ) → t < self.now.size →
+            slice_index result.now t ≡ dist_of self.now s t }
+    {
+        part(&self.rows, s as usize * self.size, self.size)
+    }
+}
+
+/// So many numbers of a list from a place on.
+fn part(numbers: &[u64], start: usize, count: usize) -> &[u64]
+    requires { start + count ≤ length numbers.now }
+    ensures { result.now ≡ slice_range numbers.now start (start + count) }
+{
+    let end = start + count;
+    &numbers[start..end]
 }
