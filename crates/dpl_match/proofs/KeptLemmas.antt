@@ -9,23 +9,22 @@ use Rattle.dpl_match.specs.declared.scan.Near.{Near}
 use Rattle.dpl_match.specs.declared.stage.Stage.{Stage}
 use Rattle.dpl_match.specs.steps.Going.{IsAtTurn}
 use Rattle.dpl_match.specs.declared.stage.Neighbour.{Neighbour}
-use Rattle.dpl_match.specs.steps.Nearest.{kept_in, member_of}
+use Rattle.dpl_match.specs.steps.Nearest.{kept_in, member_of, level_of, HasKey}
 use Rattle.dpl_match.specs.steps.Scans.{Members, members_of, IsFound, IsNearer}
 use Rattle.dpl_match.proofs.NearLemmas.{to_taken, kept_pair, kept_least}
 use Rattle.dpl_match.proofs.TurnLemmas.{totals_within}
 
--- the sums of a member and of the one that is kept for it are within their distance, which is kept
+-- the sums of a member and of the one that is kept for it, with its key, are within their distance
 pub kept_within : {metric : Table} {m : Matching} {s : Stage} → IsAtTurn metric m s → (t : ℕ) (near : Neighbour)
     → t < metric.size → kept_in s.table.near.items t ≡ Some near
-    → (near.member < metric.size) × (near.dist ≡ dist_of metric near.member t) ×
+    → HasKey (members_of metric m) (level_of (members_of metric m) s.table.origin) t near ×
     (get_or m.sums.items near.member 0 + get_or m.sums.items t 0 ≤ dist_of metric near.member t)
 kept_within {metric} {m} {s} start t near ht is =
     let lists = start.growing.lists in
     let a : ℕ = near.member in
     let w = start.nearest.near_outer.measured t ht near is in
     let apart = start.nearest.apart t ht a (ap member_of is) in (
-      w.0,
-      w.1,
+      w,
       omega (
         arith,
         totals_within metric.size (sets_of m.family) (dist_of metric) (forest_of s.tree m.mates.items) a t
@@ -37,16 +36,16 @@ kept_within {metric} {m} {s} start t near ht is =
 
 -- the pair of what is kept for t is the nearest one that leads to t
 pub kept_taken : {metric : Table} {m : Matching} {s : Stage} → IsAtTurn metric m s → (want : Place) (t : ℕ) (near : Neighbour)
-    → (x y : ℕ) (ends : Bool) (best found : Option Near) → t < metric.size → kept_in s.table.near.items t ≡ Some near
-    → x ≡ get_or m.sums.items near.member 0 → y ≡ get_or m.sums.items t 0
+    → (level y : ℕ) (ends : Bool) (best found : Option Near) → t < metric.size → kept_in s.table.near.items t ≡ Some near
+    → level ≡ level_of (members_of metric m) s.table.origin → y ≡ get_or m.sums.items t 0
     → place_in s.tree.labels.items ((sets_of m.family).top t) ≡ want
-    → IsNearer best (record { slack = near.dist - (x + y); from = near.member; to = t; ends = ends }) found
+    → IsNearer best (record { slack = near.key - level - y; from = near.member; to = t; ends = ends }) found
     → IsFound (members_of metric m) (place_in s.tree.labels.items) want t best
     → IsFound (members_of metric m) (place_in s.tree.labels.items) want (t + 1) found
-kept_taken {metric} {m} {s} start want t near x y ends best found ht is ex ey to one h =
+kept_taken {metric} {m} {s} start want t near level y ends best found ht is el ey to one h =
     let v : Members = members_of metric m in
     let place : ℕ → Place = place_in s.tree.labels.items in
     let w = kept_within start t near ht is in
     let pair = kept_pair v place s.table want t near.member start.nearest ht (ap member_of is) to in
     let least = kept_least v place s.table want t near.member start.nearest ht (ap member_of is) in
-    to_taken v place want t best found _ refl pair (omega (arith, w.1, w.2, ex, ey)) least one h
+    to_taken v place want t best found _ refl pair (omega (arith, w.0.1, w.1, el, ey)) least one h

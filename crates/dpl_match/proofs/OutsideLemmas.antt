@@ -1,10 +1,13 @@
 -- The members outside of a top set, and the nearest of them.
-use Rattle.std.proofs.Common.{arith, ◌≡◌, ℕ, ◌+◌, ◌<◌, sym, ap, ◌∙◌, subst, Bool, cond, inl, inr, leb}
+use Rattle.std.proofs.Common.{arith, ◌≡◌, ℕ, ◌+◌, ◌<◌, ◌≤◌, refl, sym, ap, ◌∙◌, subst, Bool, cond, inl, inr, leb}
 use Rattle.std.proofs.Common.{Option, Some, None, List, length, get_or, ◌++◌, ◌∷◌, [], length-append}
 use Rattle.std.proofs.lemmas.Bool.{cases_eq, cases_lt, cases_Bool, leb-true, leb-false}
 use Rattle.std.proofs.lemmas.List.{get_or_append_left, get_or-append-add}
 use Rattle.std.proofs.lemmas.Option.{same_Some}
-use Rattle.dpl_match.specs.steps.Nearest.{closer_of, IsNear, IsApart, IsOutside, AreOutside, IsNearOf}
+use Rattle.dpl_match.specs.declared.stage.Neighbour.{Neighbour}
+use Rattle.dpl_match.specs.steps.Nearest.{member_of, closer_of, level_of, HasKey, IsMeasured}
+use Rattle.dpl_match.specs.steps.Nearest.{IsNear, IsApart, IsOutside, AreOutside, IsNearOf}
+use Rattle.dpl_match.proofs.NearLemmas.{key_nearer}
 use Rattle.dpl_match.specs.steps.Others.{AreOthers}
 use Rattle.dpl_match.specs.steps.Scans.{Members}
 use Rattle.dpl_match.specs.declared.outer_table.Others.{Others}
@@ -47,35 +50,38 @@ outside_taken m known x k list out h = record {
 
 -- ---- the nearest of it
 
--- the nearer one of the member so far and the next one of the list
-pub near_taken : (m : Members) (known : ℕ → Bool) (list : List ℕ) (t i : ℕ) (o : Option ℕ)
-    → IsOutside m known (m.sets.top t) (get_or list i 0) → IsNearOf m known list t i o
-    → IsNearOf m known list t (i + 1) (closer_of m.dist m.total t o (get_or list i 0))
-near_taken m known list t i None out h = record {
-  outside = out;
-  least = λ j l. (let e : j ≡ i = omega (arith, l, h) in
-      omega (arith, ap (λ z. m.dist (get_or list z 0) t) e, ap (λ z. m.total (get_or list z 0)) e));
+-- the nearer one of what is kept so far and the next one of the list
+pub near_taken : (m : Members) (known : ℕ → Bool) (list : List ℕ) (origin t i : ℕ) (o : Option Neighbour) (w : Neighbour)
+    → IsMeasured m origin t o → HasKey m (level_of m origin) t w → w.member ≡ get_or list i 0
+    → IsOutside m known (m.sets.top t) (get_or list i 0) → IsNearOf m known list t i (member_of o)
+    → IsNearOf m known list t (i + 1) (member_of (closer_of o w))
+near_taken m known list origin t i None w ho hw is out h = record {
+  outside = subst (IsOutside m known (m.sets.top t)) (sym is) out;
+  least = λ j l. (let e : get_or list j 0 ≡ w.member = ap (λ z. get_or list z 0) (omega (arith, l, h)) ∙ sym is in
+      omega (arith, ap (λ z. m.dist z t) e, ap m.total e));
 }
-near_taken m known list t i (Some a) out h =
-    let s : ℕ = get_or list i 0 in
-    elim (cases_Bool (leb (m.dist a t + m.total s) (m.dist s t + m.total a))) [
-      | inl b ↦ subst (λ (z : Bool). IsNearOf m known list t (i + 1) (cond z (Some a) (Some s))) (sym b) (record {
+near_taken m known list origin t i (Some a) w ho hw is out h =
+    let ha = ho a refl in
+    elim (cases_Bool (leb a.key w.key)) [
+      | inl b ↦ subst (λ (z : Bool). IsNearOf m known list t (i + 1) (member_of (cond z (Some a) (Some w)))) (sym b) (record {
         outside = h.outside;
         least = λ j l. elim (cases_eq j i) [
-          | inl e ↦ omega (
+          | inl e ↦ (let e' : get_or list j 0 ≡ w.member = ap (λ z. get_or list z 0) e ∙ sym is in omega (
             arith,
-            leb-true (m.dist a t + m.total s) (m.dist s t + m.total a) b,
-            ap (λ z. m.dist (get_or list z 0) t) e,
-            ap (λ z. m.total (get_or list z 0)) e,
-          )
+            key_nearer m (level_of m origin) t a w ha hw (leb-true a.key w.key b),
+            ap (λ z. m.dist z t) e',
+            ap m.total e',
+          ))
           | inr ne ↦ h.least j (omega (arith, l, ne))
         ];
       })
-      | inr b ↦ subst (λ (z : Bool). IsNearOf m known list t (i + 1) (cond z (Some a) (Some s))) (sym b) (record {
-        outside = out;
+      | inr b ↦ subst (λ (z : Bool). IsNearOf m known list t (i + 1) (member_of (cond z (Some a) (Some w)))) (sym b) (record {
+        outside = subst (IsOutside m known (m.sets.top t)) (sym is) out;
         least = λ j l. elim (cases_eq j i) [
-          | inl e ↦ omega (arith, ap (λ z. m.dist (get_or list z 0) t) e, ap (λ z. m.total (get_or list z 0)) e)
-          | inr ne ↦ omega (arith, leb-false (m.dist a t + m.total s) (m.dist s t + m.total a) b, h.least j (omega (arith, l, ne)))
+          | inl e ↦ (let e' : get_or list j 0 ≡ w.member = ap (λ z. get_or list z 0) e ∙ sym is in
+              omega (arith, ap (λ z. m.dist z t) e', ap m.total e'))
+          | inr ne ↦ (let less : w.key ≤ a.key = omega (arith, leb-false a.key w.key b) in
+              omega (arith, key_nearer m (level_of m origin) t w a hw ha less, h.least j (omega (arith, l, ne))))
         ];
       })
     ]

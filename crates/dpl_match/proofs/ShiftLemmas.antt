@@ -121,5 +121,5 @@ shifted {metric} {m} {next} {s} {by} {event} me start ch same values fam sum mat
       opens = λ r last w. opened_as r (AreParted metric next last) (AreParted metric m last) (parted_back metric m next last same) w;
       ends = λ h new w. end_back n f g h dist x new same (subst (λ (z : List (Option ℕ)). Ends n dist g (forest_of s.tree z) h new) em w);
       nears = λ last u w e. rw e (moved n f (sets_of last.family) x.place (place_in u.labels.items) dist (λ k. get_or m.sums.items k 0)
-          (λ k. get_or next.sums.items k 0) s.table by start.nearest.near_outer (widens last u w) total);
+          (λ k. get_or next.sums.items k 0) s.table by start.table.origin_below start.nearest.near_outer (widens last u w) total);
     }

@@ -1,28 +1,44 @@
 //! What a stage has beside the matching.
 
-ghost use Rattle.std.specs.Prelude.{◌≡◌, ℕ, ◌+◌, ◌*◌, ◌<◌, ◌≤◌, None, false, replicate, length};
-ghost use Rattle.std.specs.Prelude.{IfOk};
+ghost use Rattle.std.specs.Prelude.{◌≡◌, ℕ, ◌+◌, ◌*◌, ◌<◌, ◌≤◌, ◌^◌, None, false, replicate};
+ghost use Rattle.std.specs.Prelude.{length, slice_index, IfOk};
 ghost use Rattle.dpl_match.specs.steps.Going.{IsStart};
 ghost use Rattle.dpl_match.specs.steps.Nearest.{is_known, kept_in};
 
-use dpl_tree::Tree;
+use dpl_tree::{Matching, Tree};
 use std::alloc::{AllocError, Global};
 
-/// An outer member that is kept for another member, and how far they are from each other.
+/// The level from which keys are counted is no less, so that no key is below 0.
+const LEAST_LEVEL: u64 = 1 << 60;
+
+/// An outer member that is kept for another member, and its key: the distance of the two less the
+/// sum over the outer one, counted from the level of the table.
 #[derive(Clone, Copy)]
 pub struct Neighbour {
     pub member: u32,
-    pub dist: u64,
+    pub key: u64,
 }
 
 /// The outer members that were taken in, and for each member the nearest of them with another top.
+/// The origin is an outer member throughout the stage. A change of values adds as much to the sum over
+/// each outer member, so that keys stay as they are.
 #[derive(Drop)]
 pub struct OuterTable {
+    pub origin: u32,
     pub known: Vec<bool>,
     pub near: Vec<Option<Neighbour>>,
 }
 
 impl OuterTable {
+    /// The level from which keys are counted.
+    pub fn level(&self, matching: &Matching) -> u64
+        requires origin { self.now.origin < length matching.now.sums.items }
+        requires small { slice_index matching.now.sums.items self.now.origin ≤ 2 ^ 60 }
+        ensures { result ≡ 2 ^ 60 + slice_index matching.now.sums.items self.now.origin }
+    {
+        LEAST_LEVEL + matching.sum(self.origin)
+    }
+
     /// Whether an outer member was taken in.
     pub fn has(&self, member: u32) -> bool
         requires { member < length self.now.known.items }
@@ -48,11 +64,12 @@ pub struct Stage {
 }
 
 impl Stage {
-    /// The stage of n members that begins at a top set.
-    pub fn new(alloc: Global, root: u32, n: usize) -> Result<Stage, AllocError>
+    /// The stage of n members that begins at the top set of one of them.
+    pub fn new(alloc: Global, root: u32, origin: u32, n: usize) -> Result<Stage, AllocError>
         requires root { root < 2 * n }
         requires small { n ≤ 2048 }
         ensures tree { IfOk result (λ s. IsStart n root s.tree) }
+        ensures origin { IfOk result (λ s. s.table.origin ≡ origin) }
         ensures known { IfOk result (λ s. s.table.known.items ≡ replicate n false) }
         ensures near { IfOk result (λ s. s.table.near.items ≡ replicate n None) }
     {
@@ -61,7 +78,11 @@ impl Stage {
         let near = vec![in alloc; None; n]?;
         Ok(Stage {
             tree,
-            table: OuterTable { known, near },
+            table: OuterTable {
+                origin,
+                known,
+                near,
+            },
         })
     }
 }

@@ -14,6 +14,7 @@ loop-t-preserved c =
     record {
       table = search rules;
       near_outer = record {
+        rising = known.near_outer.rising;
         still = known.near_outer.still;
         each = search rules;
         measured = λ k h w e. elim (cases_eq k t) [

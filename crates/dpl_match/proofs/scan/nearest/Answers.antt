@@ -2,7 +2,14 @@ use Rattle.std.proofs.Common.{arith, ◌≡◌, ℕ, subst}
 use Rattle.dpl_match.specs.steps.Scans.{members_of, IsFound}
 use Rattle.dpl_tree.specs.steps.Forests.{free, outer}
 use Rattle.dpl_tree.specs.Views.{place_in}
+use Rattle.dpl_match.proofs.NearLemmas.{sums_small}
 use Rattle.dpl_match.proofs.scan.nearest.Goals as goal
+
+pub level-level-requires-clause-small : goal.level-level-requires-clause-small
+level-level-requires-clause-small c =
+    let table = c.size-n.ensures.table in
+    let start = c.requires.start in
+    (sums_small table.even table.metric start.growing.lists start.growing.stage.rest).small _ start.table.origin_below
 
 pub returns-clause-free : goal.returns-clause-free
 returns-clause-free c =
