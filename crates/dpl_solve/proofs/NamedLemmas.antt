@@ -9,7 +9,6 @@ use Rattle.std.proofs.lemmas.List.{get_or-map, length-map}
 use Rattle.std.proofs.lemmas.List.Elements.{All-contains, All-map, All-filter, filter_passes}
 use Rattle.std.proofs.lemmas.List.FromFn.{get_or-range_with_len, length-range_with_len}
 use Rattle.std.proofs.lemmas.Map.Made.{IsDistinct-from_AllPairs, length-le_from_is_member, is_member-Decides, is_member-filter}
-use Rattle.std.proofs.lemmas.List.Kept.{AllPairs-filter}
 use Rattle.std.specs.Set.{is_member}
 use Rattle.std.specs.Cmp.{nat_eq_equiv}
 use Rattle.dpl_cycle.specs.Sums.{sum_on, count_on}
@@ -30,6 +29,7 @@ use Rattle.dpl_dual.proofs.NameLemmas.{odd_by_name, parts_by_name}
 use Rattle.dpl_solve.specs.Parts.{odd_of}
 use Rattle.dpl_solve.specs.Named.{keeps, odd_faces, AreOddTogether, IsMostOddFaces}
 use Rattle.dpl_solve.specs.Optimum.{IsMostOdd}
+use Rattle.dpl_solve.proofs.PlaceLemmas.{odd_apart, part_apart}
 
 -- ---- lists
 
@@ -80,11 +80,6 @@ member_range n q h =
 
 member_filter : (p : ℕ → Bool) (xs : List ℕ) (q : ℕ) → is_member nat_eq xs q ≡ true → p q ≡ true → is_member nat_eq (filter p xs) q ≡ true
 member_filter p xs q m t = is_member-filter nat_eq_equiv p q (λ x e. ap p (eqb-true q x e)) xs ∙ and_from (is_member nat_eq xs q) (p q) m t
-
-range_apart : (n : ℕ) → AllPairs (λ x y. x ≢ y) (range_with_len 0 n)
-range_apart n i j d l m e =
-    let size = length-range_with_len 0 n in
-    absurd (omega (arith, l, e, get_or-range_with_len 0 n i d (omega (arith, l, m, size)), get_or-range_with_len 0 n j d (omega (arith, m, size))))
 
 -- ---- a dart of a face
 
@@ -227,11 +222,6 @@ together_most net d k n most (f ∷ fs) t =
     omega (arith, same_into (number net) faces (odd_of d q) apart inside, most q)
 
 -- and as many have names
-odd_apart : (net : Net) (d : Dual) → IsDual net.graph (view_of net) d → AllPairs (λ x y. x ≢ y) d.odd
-odd_apart net d k = subst (AllPairs (λ x y. x ≢ y)) (sym k.odd)
-    (AllPairs-filter (λ x y. x ≢ y) (is_odd_face net.graph (view_of net)) (range_with_len 0 (view_of net).faces)
-    (range_apart (view_of net).faces))
-
 odd_all : (net : Net) (d : Dual) → IsDual net.graph (view_of net) d → All (λ x. is_odd_face net.graph (view_of net) x ≡ true) d.odd
 odd_all net d k = subst (All (λ x. is_odd_face net.graph (view_of net) x ≡ true)) (sym k.odd)
     (filter_passes (is_odd_face net.graph (view_of net)) (range_with_len 0 (view_of net).faces))
@@ -265,7 +255,7 @@ part_together net d k q =
     let xs = odd_of d q in
     let count = length-map xs (name net) in
     let odd = All-filter part (λ x. is_odd_face net.graph (view_of net) x ≡ true) d.odd (odd_all net d k) in
-    let apart = AllPairs-filter (λ x y. x ≢ y) part d.odd (odd_apart net d k) in
+    let apart = part_apart net.graph (view_of net) d k q in
     let parts = filter_passes part d.odd in
     record {
       odd = All-map (λ z. is_odd_named net (keeps net) z ≡ true) (name net) xs (λ i e l. name_odd net (get_or xs i e) (odd i e l));
@@ -307,7 +297,7 @@ name_below net x h =
 pub odd_named_most : (net : Net) (d : Dual) → IsDual net.graph (view_of net) d → length d.odd ≤ length (odd_faces net)
 odd_named_most net d k =
     let odd = odd_all net d k in
-    let apart = odd_apart net d k in
+    let apart = odd_apart net.graph (view_of net) d k in
     same_into (name net) d.odd (odd_faces net)
     (λ i j e l m same. apart i j e l m (name_apart net (get_or d.odd i e) (get_or d.odd j e) (odd i e (omega (arith, l, m))) (odd j e m) same))
     (λ i e l.

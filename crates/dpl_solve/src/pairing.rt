@@ -34,6 +34,7 @@ fn look(
     terminals: &[u32],
     sight: &Sight<'_>,
     reach: &mut Distances,
+    places: &mut Vec<usize>,
 ) -> Result<Seen, AllocError>
     requires drawn { IsDrawn drawn.now }
     requires terminals { AreTerminals drawn.now.dual.now terminals.now }
@@ -47,7 +48,7 @@ fn look(
         u < length terminals.now → IsApart drawn.now.dual.now.crosses terminals.now
         (slice_index m.radii.items) s u (dist_of m.metric s u)) }
 {
-    let rows = all_rows(alloc, drawn.dual, terminals, sight, reach)?;
+    let rows = all_rows(alloc, drawn.dual, terminals, sight, reach, places)?;
     let Rows { dists, radii } = rows;
     let metric = Metric::new(terminals.len() as u32, dists);
     Ok(Seen { metric, radii })
@@ -93,7 +94,14 @@ fn join_within<L: Ledger>(
         (λ f. AreJoinedBy drawn.now.dual.now terminals.now (sets_of f) joined.old.edges.items
         joined.new.edges.items)) }
 {
-    let seen = look(alloc, drawn, terminals, sight, &mut joined.reach)?;
+    let seen = look(
+        alloc,
+        drawn,
+        terminals,
+        sight,
+        &mut joined.reach,
+        &mut joined.places,
+    )?;
     let Matched { mate, family } = match dpl_match::solve(alloc, &seen.metric, steps) {
         Ok(matched) => matched,
         Err(no_memory) => return Err(no_memory),

@@ -7,6 +7,7 @@ ghost use Rattle.std.specs.Prelude.{◌≡◌, ◌<◌, ◌≤◌, All, IfOk};
 ghost use Rattle.dpl_dual.specs.Duals.{CameFromDual};
 ghost use Rattle.dpl_solve.specs.Metrics.{IsLimit};
 
+use crate::places::{Listed, note_all, place_of};
 use dpl_dual::types::Distances;
 use dpl_dual::{Dual, distances_within};
 use std::alloc::{AllocError, Global};
@@ -31,65 +32,26 @@ pub struct Sight<'a> {
     pub margin: u64,
 }
 
-/// Notes what place a face has in the list.
-fn note(places: &mut [Option<usize>], face: u32, place: Option<usize>) {
-    let at = face as usize;
-    if at < places.len() {
-        places[at] = place;
-    }
-}
-
-/// Notes the place of each face of a list.
-fn note_all(places: &mut [Option<usize>], list: &[u32]) {
-    for i in 0..list.len() {
-        note(places, list[i], Some(i));
-    }
-}
-
-/// Forgets the places of the faces of a list.
-fn forget_all(places: &mut [Option<usize>], list: &[u32]) {
-    for i in 0..list.len() {
-        note(places, list[i], None);
-    }
-}
-
-/// The place of a face in the list, if it stands there.
-fn place_of(places: &[Option<usize>], face: u32) -> Option<usize> {
-    match places.get(face as usize) {
-        Some(place) => *place,
-        None => None,
-    }
-}
-
-/// The nearer one of what is known and a face so far away, which is not the face itself.
-fn nearer(known: Nearest, place: Option<usize>, far: u64) -> Nearest {
-    match place {
-        Some(place) => {
-            if far > 0 && far < known.far {
-                Nearest { far, place }
-            } else {
-                known
-            }
-        }
-        None => known,
+/// The nearer one of what is known and a face of the list that was reached, which is not the face itself.
+fn nearer(known: Nearest, place: usize, far: u64) -> Nearest {
+    if far > 0 && far < known.far {
+        Nearest { far, place }
+    } else {
+        known
     }
 }
 
 /// The nearest other face of the list among those that were reached, and the limit where none was.
-fn nearest_reached(
-    reach: &Distances,
-    places: &[Option<usize>],
-    place: usize,
-    limit: u64,
-) -> Nearest {
+fn nearest_reached(reach: &Distances, listed: &Listed<'_>, place: usize, limit: u64) -> Nearest {
     let mut known = Nearest { far: limit, place };
     let faces = reach.reached();
     for i in 0..faces.len() {
-        known = nearer(
-            known,
-            place_of(places, faces[i]),
-            reach.up_to(faces[i], limit),
-        );
+        match place_of(listed, faces[i]) {
+            Some(other) => {
+                known = nearer(known, other, reach.up_to(faces[i], limit));
+            }
+            None => {}
+        }
     }
     known
 }
@@ -112,7 +74,7 @@ fn limit_beyond(far: u64) -> u64
 /// The nearest other face of one of the list, by searches that begin with this limit.
 fn nearest_of(
     dual: &Dual,
-    places: &[Option<usize>],
+    listed: &Listed<'_>,
     from: u32,
     place: usize,
     first: u64,
@@ -126,7 +88,7 @@ fn nearest_of(
     let mut limit = first;
     for _try in 0..tries {
         distances_within(dual, from, limit, reach)?;
-        let near = nearest_reached(reach, places, place, limit);
+        let near = nearest_reached(reach, listed, place, limit);
         if near.far < limit {
             return Ok(near);
         }
@@ -136,26 +98,29 @@ fn nearest_of(
 }
 
 /// The nearest other one of each face of a list. Faces that follow each other in the list are mostly near
-/// each other, and then about as far from others. `places` has one for each face, and notes none before or after.
+/// each other, and then about as far from others.
 pub fn all_nearest(
     alloc: Global,
     dual: &Dual,
     list: &[u32],
-    places: &mut [Option<usize>],
+    places: &mut Vec<usize>,
     reach: &mut Distances,
 ) -> Result<Vec<Nearest>, AllocError>
     requires dual { CameFromDual dual.now }
     requires faces { All (λ f. f < dual.now.faces) list.now }
 {
-    note_all(places, list);
+    note_all(places, dual.faces, list)?;
+    let listed = Listed {
+        faces: list,
+        places: places.as_slice(),
+    };
     let mut all = Vec::new(alloc);
     let mut far: u64 = 0;
     for i in 0..list.len() {
-        let near = nearest_of(dual, places, list[i], i, limit_beyond(far), reach)?;
+        let near = nearest_of(dual, &listed, list[i], i, limit_beyond(far), reach)?;
         far = near.far;
         all.push(near)?;
     }
-    forget_all(places, list);
     Ok(all)
 }
 

@@ -18,12 +18,12 @@ pub struct Marks {
 }
 
 /// The edges that are joined so far, the distances that were sought last, in whose memory the next ones are
-/// sought, and the place that each face of a part has in its list, while its pairs are sought.
+/// sought, and a place for each face, by which it is found in the list of its part.
 #[derive(Drop)]
 pub struct Joined {
     pub edges: Vec<bool>,
     pub reach: Distances,
-    pub places: Vec<Option<usize>>,
+    pub places: Vec<usize>,
 }
 
 /// The edges that are joined so far, the walks so far, and the marks and the depths for the next ones.
@@ -46,7 +46,6 @@ impl Work {
         let count = drawn.graph.edges.as_slice().len();
         let edges = vec![in alloc; false; count]?;
         let faces = drawn.map.faces() as usize;
-        let places = vec![in alloc; None; faces]?;
         let inside = vec![in alloc; false; faces]?;
         let seen = vec![in alloc; false; 2 * count]?;
         let deep = vec![in alloc; NO_DEPTH; faces]?;
@@ -54,7 +53,7 @@ impl Work {
             joined: Joined {
                 edges,
                 reach: Distances::new(alloc),
-                places,
+                places: Vec::new(alloc),
             },
             cycles: Vec::new(alloc),
             marks: Marks { inside, seen },

@@ -1,0 +1,7 @@
+use Rattle.std.proofs.Common.{◌≡◌, true, take}
+use Rattle.dpl_laminar.specs.Families.{has}
+use Rattle.dpl_solve.specs.Metrics.{ArePut}
+use Rattle.dpl_solve.proofs.metrics.put_reached.Given as goal
+
+abbrev pub invariant-loop-j : goal.invariant-loop-j
+invariant-loop-j l = ArePut l.dual.crosses l.listed.faces.now l.s (λ f. has (take l.j l.reach.reached) f ≡ true) l.limit l.least l.fn.dists l.dists
