@@ -9,7 +9,7 @@ ghost use Rattle.dpl_solve.specs.Metrics.{IsLimit};
 
 use crate::places::{Listed, note_all, place_of};
 use dpl_dual::types::Distances;
-use dpl_dual::{Dual, distances_within};
+use dpl_dual::{Dual, distances, distances_within};
 use std::alloc::{AllocError, Global};
 
 /// No distance between two faces of a part comes near this limit.
@@ -172,9 +172,32 @@ fn median(alloc: Global, nearest: &[Nearest]) -> Result<u64, AllocError>
     }
 }
 
+/// Whether half of the faces of a part or more are odd, by all faces that its first odd one reaches.
+fn is_crowded(dual: &Dual, list: &[u32], reach: &mut Distances) -> Result<bool, AllocError>
+    requires dual { CameFromDual dual.now }
+    requires faces { All (λ f. f < dual.now.faces) list.now }
+{
+    match list.first() {
+        Some(first) => {
+            distances(dual, *first, reach)?;
+            Ok(reach.reached().len() / 2 <= list.len())
+        }
+        None => Ok(false),
+    }
+}
+
 /// The margin that is tried first: each face sees its nearest one, and among many faces, of which some are farther
-/// from others than half of them are, those about twice as far again.
-pub fn first_margin(alloc: Global, nearest: &[Nearest]) -> Result<u64, AllocError>
+/// from others than half of them are, those about twice as far again. Where most faces are odd, pairs that lie far
+/// apart are left between others, and there are few faces to search: then each sees far more than its nearest one.
+pub fn first_margin(
+    alloc: Global,
+    dual: &Dual,
+    list: &[u32],
+    nearest: &[Nearest],
+    reach: &mut Distances,
+) -> Result<u64, AllocError>
+    requires dual { CameFromDual dual.now }
+    requires faces { All (λ f. f < dual.now.faces) list.now }
     ensures { IfOk result (λ margin. IsLimit margin) }
 {
     let least = greatest_step(nearest) / 4 + 2;
@@ -182,8 +205,12 @@ pub fn first_margin(alloc: Global, nearest: &[Nearest]) -> Result<u64, AllocErro
         return Ok(least);
     }
     let middle = median(alloc, nearest)?;
-    if greatest(nearest) <= middle {
+    let most = greatest(nearest);
+    if most <= middle {
         return Ok(least);
+    }
+    if is_crowded(dual, list, reach)? {
+        return Ok(least.max(most * 8));
     }
     Ok(least.max(middle / 2 * 3 + 2))
 }
