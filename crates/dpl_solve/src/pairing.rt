@@ -140,13 +140,7 @@ pub fn join_all<L: Ledger>(
         &mut joined.places,
         &mut joined.reach,
     )?;
-    let mut margin = first_margin(
-        alloc,
-        drawn.dual,
-        terminals,
-        &nearest,
-        &mut joined.reach,
-    )?;
+    let mut margin = first_margin(alloc, drawn.dual, terminals, &nearest, &mut joined.reach)?;
     for _try in 0..tries {
         let sight = Sight {
             nearest: &nearest,
