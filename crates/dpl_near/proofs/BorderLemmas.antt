@@ -1,6 +1,6 @@
 -- Borders of rectangles in order, and those that lie along one of them.
 use Rattle.std.proofs.Common.{arith, ◌≡◌, ◌∙◌, ℕ, ◌+◌, ◌<◌, ◌≤◌, pos, ◌<ℤ◌, ◌≤ℤ◌, List, length, get_or, Bool, true, false, ◌&&◌, ◌⊎◌}
-use Rattle.std.proofs.Common.{All, AllPairs, Contains, inl, inr, refl, sym, ap, subst, ◌∷◌, [], ◌++◌, int_lt}
+use Rattle.std.proofs.Common.{All, AllPairs, Contains, inl, inr, refl, sym, ap, subst, ◌∷◌, [], ◌++◌, int_lt, int_le}
 use Rattle.std.specs.Ordering.{int_eq, int_cmp, is_lt, ordering_then}
 use Rattle.std.specs.List.{IsDistinct}
 use Rattle.std.specs.List.Sorted.{IsPermutation, IsSortedBy, IsPartitionedBy}
@@ -17,7 +17,7 @@ use Rattle.dpl_cell.proofs.BoxLemmas.{HasCell}
 use Rattle.dpl_cell.proofs.SeamLemmas.{apart_sides}
 use Rattle.dpl_cell.proofs.SortLemmas.{not_after}
 use Rattle.dpl_near.specs.declared.borders.Border.{Border}
-use Rattle.dpl_near.specs.Borders.{first_border, AreAlong, AreBorders, AreInOrder, AddsAlong, is_before, pair_of}
+use Rattle.dpl_near.specs.Borders.{first_border, AreAlong, AreBorders, AreInOrder, AddsAlong, IsOnLineOf, is_before, pair_of}
 
 -- ---- the test of what stands before
 
@@ -152,6 +152,15 @@ parted borders b o i j d le l t = elim (cases_lt i j) [
       (stands_before (get_or borders i d) (get_or borders j d) (o.order i j d low l)) (stands_before (get_or borders j d) b t))
   | inr not ↦ let e : i ≡ j = omega (arith, not) in subst (λ k. is_before (get_or borders k d) b ≡ true) (sym e) t
 ]
+
+-- on one line the test compares ends alone
+pub test_on_line : (a b : Border) → IsOnLineOf b a → is_before a b ≡ int_le a.to b.from
+test_on_line a b e = grind (arith, ints)
+
+pub parted_on_line : (borders : List Border) (b : Border) → AreInOrder borders → All (IsOnLineOf b) borders
+    → IsPartitionedBy (λ a. int_le a.to b.from) borders
+parted_on_line borders b o on i j d le l t = sym (test_on_line (get_or borders i d) b (on i d (omega arith)))
+    ∙ parted borders b o i j d le l (test_on_line (get_or borders j d) b (on j d l) ∙ t)
 
 -- a border, where one is read past the end of a list
 abbrev pub blank : Border

@@ -2,6 +2,7 @@ pub mod AroundLemmas
 pub mod NearLemmas
 pub mod BoundsLemmas
 pub mod BorderLemmas
+pub mod LineLemmas
 pub mod JoinLemmas
 pub mod WalkLemmas
 pub mod ShapeLemmas

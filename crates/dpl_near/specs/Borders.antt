@@ -41,6 +41,10 @@ pub record AreInOrder (borders : List Border) : Type 0 where
   pub long : All (λ b. b.from <ℤ b.to) borders
   pub order : AllPairs (λ a b. is_before a b ≡ true) borders
 
+-- the second border runs along the line of the first
+abbrev pub IsOnLineOf : Border → Border → Type 0
+IsOnLineOf a b = b.line ≡ a.line
+
 -- two numbers, the smaller first
 abbrev pub pair_of : Border → Border → ℕ × ℕ
 pair_of a b = (min a.number b.number, max a.number b.number)

@@ -2,5 +2,6 @@ pub mod Near
 pub mod Around
 pub mod Bounds
 pub mod Borders
+pub mod Lines
 pub mod Joins
 pub mod Shapes

@@ -6,7 +6,7 @@ ghost use Rattle.dpl_limits.specs.declared.TheConstants.{MOST_TILES};
 ghost use Rattle.dpl_cell.specs.Places.{corners_of};
 ghost use Rattle.dpl_cell.specs.Cells.{AreApart};
 ghost use Rattle.dpl_near.specs.Borders.{first_border, last_border, is_before, pair_of};
-ghost use Rattle.dpl_near.specs.Borders.{AddsAlong, AreAlong, AreBorders, AreInOrder};
+ghost use Rattle.dpl_near.specs.Borders.{AddsAlong, AreAlong, AreBorders, AreInOrder, IsOnLineOf};
 ghost use Rattle.dpl_near.specs.declared.borders.Border.{Border};
 
 use dpl_cell::Rect;
@@ -85,13 +85,14 @@ fn put_in_order(borders: &mut Vec<Border>)
     borders.sort_unstable_by_key(|b| (b.line, b.from));
 }
 
-/// Adds the pairs of a border and those of some that lie along it, by the numbers of rectangles.
+/// Adds the pairs of a border and those of its line that lie along it, by the numbers of rectangles.
 pub fn push_along(
     pairs: &mut Vec<(u32, u32)>,
     border: &Border,
     borders: &[Border],
 ) -> Result<(), NoMemory>
     requires order { AreInOrder borders.now }
+    requires line { All (IsOnLineOf border.now) borders.now }
     ensures { OnOk result (AddsAlong border.now borders.now pairs.old.items pairs.new.items) }
 {
     let start = first_along(border, borders);
@@ -111,23 +112,17 @@ fn pair_of(a: &Border, b: &Border) -> (u32, u32)
     (a.number.min(b.number), a.number.max(b.number))
 }
 
-/// The place of the first of some borders that does not end before another begins.
+/// The place of the first border of a line that does not end before another of this line begins.
 fn first_along(border: &Border, borders: &[Border]) -> usize
     requires order { AreInOrder borders.now }
+    requires line { All (IsOnLineOf border.now) borders.now }
     ensures before { (k : ℕ) (d : Border) → k < result →
         is_before (slice_index_or borders.now k d) border.now ≡ true }
     ensures behind { (k : ℕ) (d : Border) → result ≤ k → k < length borders.now →
         is_before (slice_index_or borders.now k d) border.now ≡ false }
     ensures within { result ≤ length borders.now }
 {
-    borders.partition_point(|b| is_before(b, border))
-}
-
-/// Whether a border runs along a lower line, or ends where another of its line begins or before.
-fn is_before(a: &Border, b: &Border) -> bool
-    ensures { result ≡ is_before a.now b.now }
-{
-    a.line < b.line || (a.line == b.line && a.to <= b.from)
+    borders.partition_point(|b| b.to <= border.from)
 }
 
 fn are_along(a: &Border, b: &Border) -> bool

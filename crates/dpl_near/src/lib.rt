@@ -11,6 +11,7 @@ mod borders;
 mod bounds;
 mod joining;
 pub mod laws;
+mod lines;
 mod shaping;
 mod surroundings;
 pub mod types;
