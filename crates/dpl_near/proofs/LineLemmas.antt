@@ -1,14 +1,14 @@
 -- Borders in order, line by line.
-use Rattle.std.proofs.Common.{arith, ◌≡◌, ◌≢◌, ◌∙◌, ℕ, ◌+◌, ◌-◌, ◌<◌, ◌≤◌, ℤ, ◌<ℤ◌, ◌≤ℤ◌, ◌⊎◌, List, length, get_or, take, drop}
-use Rattle.std.proofs.Common.{All, AllPairs, Any, Contains, inl, inr, refl, sym, ap, subst, [], ◌∷◌, ◌++◌, true, false, int_le}
+use Rattle.std.proofs.Common.{arith, ◌≡◌, ◌≢◌, ◌∙◌, ℕ, ◌+◌, ◌-◌, ◌<◌, ◌≤◌, ℤ, ◌<ℤ◌, ◌≤ℤ◌, List, length, get_or, take, drop}
+use Rattle.std.proofs.Common.{All, AllPairs, Any, Contains, inl, inr, refl, sym, ap, subst, [], ◌∷◌, ◌++◌, false}
 use Rattle.std.proofs.Common.{Ordering, Less, Equal, Greater}
-use Rattle.std.specs.Ordering.{int_cmp, int_eq, is_lt, MatchOrdering, ordering_index}
+use Rattle.std.specs.Ordering.{int_cmp, is_lt, MatchOrdering, ordering_index}
 use Rattle.std.specs.Cmp.{int_ranks}
-use Rattle.std.specs.List.Sorted.{IsSortedBy, IsPartitionPoint, IsNonDecreasingBy}
+use Rattle.std.specs.List.Sorted.{IsPartitionPoint, IsNonDecreasingBy}
 use Rattle.std.proofs.lemmas.Bool.{cases_lt}
 use Rattle.std.proofs.lemmas.Cmp.{int_cmp_total}
-use Rattle.std.proofs.lemmas.Int.{ints, by_lt_z}
-use Rattle.std.proofs.lemmas.List.{get_or-take, get_or-drop, length-take, length-drop, get_or_append_left, get_or_push, length_push}
+use Rattle.std.proofs.lemmas.Int.{by_lt_z}
+use Rattle.std.proofs.lemmas.List.{get_or-take, get_or-drop, length-take, length-drop}
 use Rattle.std.proofs.lemmas.List.Elements.{All-push}
 use Rattle.std.proofs.lemmas.List.Quantifiers.{all_pairs_push}
 use Rattle.std.proofs.lemmas.List.Sorted.{searchable_from_sorted}
@@ -17,7 +17,7 @@ use Rattle.dpl_list.proofs.OrderLemmas.{less_by_order, greater_by_order}
 use Rattle.dpl_list.proofs.Lists.{any_left, any_right}
 use Rattle.dpl_near.specs.declared.borders.Border.{Border}
 use Rattle.dpl_near.specs.declared.lines.Line.{Line}
-use Rattle.dpl_near.specs.Borders.{AddsAlong, AreAlong, AreInOrder, IsOnLineOf, pair_of}
+use Rattle.dpl_near.specs.Borders.{AddsAlong, AreInOrder}
 use Rattle.dpl_near.specs.Lines.{AreLines, AreOnLine, IsLine, IsLower}
 use Rattle.dpl_near.proofs.BorderLemmas.{StandsBefore, blank, stands_before}
 
@@ -133,7 +133,7 @@ lines_more borders n lines new l within line start some e so = rw e (record {
     | inr g ↦ any_right _ lines (l ∷ []) (0, l, omega arith, refl, sym (line.on k d (omega arith) h))
   ];
   rising = all_pairs_push IsLower lines l so.rising (λ k d h.
-    subst (λ x. (get_or lines k d).at <ℤ x) (line.on n blank (omega arith) some) ((so.each k d h).above n blank (so.ended k d h) within));
+      subst (λ x. (get_or lines k d).at <ℤ x) (line.on n blank (omega arith) some) ((so.each k d h).above n blank (so.ended k d h) within));
 })
 
 pub lines_all : (borders : List Border) (n : ℕ) (lines : List Line) → length borders ≤ n → LinesUpTo borders n lines

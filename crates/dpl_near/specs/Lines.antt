@@ -4,7 +4,8 @@ use Rattle.dpl_near.specs.declared.borders.Border.{Border}
 use Rattle.dpl_near.specs.declared.lines.Line.{Line}
 use Rattle.dpl_near.specs.Borders.{AreInOrder}
 
--- the borders of the line stand from one place to another, behind those of lower lines
+-- the borders of the line stand from one place to another, behind those of lower lines and before those
+-- of higher ones
 pub record IsLine (borders : List Border) (l : Line) : Type 0 where
   pub order : l.start ≤ l.end
   pub within : l.end ≤ length borders
@@ -13,6 +14,7 @@ pub record IsLine (borders : List Border) (l : Line) : Type 0 where
   pub above : (k : ℕ) (d : Border) → l.end ≤ k → k < length borders →
       l.at <ℤ (slice_index_or borders k d).line
 
+-- the first line has the smaller coordinate
 abbrev pub IsLower : Line → Line → Type 0
 IsLower a b = a.at <ℤ b.at
 

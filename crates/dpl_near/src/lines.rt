@@ -9,7 +9,7 @@ use std::alloc::{AllocError as NoMemory, Global};
 use std::marker::Model;
 
 /// Where the borders of one line begin and end among borders in order.
-#[derive(Clone, Copy, Debug)]
+#[derive(Clone, Copy)]
 pub struct Line {
     pub at: i64,
     pub start: usize,
@@ -53,11 +53,7 @@ impl BorderLines {
     }
 
     /// Adds the pairs of a border and those that lie along it, by the numbers of rectangles.
-    pub fn push_along(
-        &self,
-        pairs: &mut Vec<(u32, u32)>,
-        border: &Border,
-    ) -> Result<(), NoMemory>
+    pub fn push_along(&self, pairs: &mut Vec<(u32, u32)>, border: &Border) -> Result<(), NoMemory>
         ensures { OnOk result (AddsAlong border.now self.now pairs.old.items pairs.new.items) }
     {
         match line_of(&self.lines, border) {

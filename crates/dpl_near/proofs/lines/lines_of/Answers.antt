@@ -1,4 +1,4 @@
-use Rattle.dpl_near.proofs.LineLemmas.{first_on_line, lines_all, lines_more, lines_none}
+use Rattle.dpl_near.proofs.LineLemmas.{first_on_line, lines_more}
 use Rattle.dpl_near.proofs.lines.lines_of.Goals as goal
 
 pub line_from-line-requires-clause-first : goal.line_from-line-requires-clause-first

@@ -1,10 +1,9 @@
-use Rattle.std.proofs.Common.{subst, ◌≡◌, All, Any, List, length}
+use Rattle.std.proofs.Common.{subst}
 use Rattle.std.proofs.lemmas.Result.{on_ok_weaker}
-use Rattle.dpl_near.specs.declared.lines.Line.{Line}
 use Rattle.std.specs.Result.{OnOk}
 use Rattle.dpl_near.specs.Borders.{AddsAlong}
 use Rattle.dpl_near.specs.Lines.{AreOnLine}
-use Rattle.dpl_near.proofs.LineLemmas.{along_on_line, none_along, line_in}
+use Rattle.dpl_near.proofs.LineLemmas.{along_on_line, none_along}
 use Rattle.dpl_near.proofs.lines.BorderLines.push_along.Goals as goal
 
 pub returns-in-None : goal.returns-in-None
