@@ -1,31 +1,32 @@
-use Rattle.std.proofs.Common.{arith, rules, ℕ, ◌<◌, sym, ap, ◌∙◌, inl, inr, length, Option, None, List, get_or-set_same, get_or-set_other}
+use Rattle.std.proofs.Common.{arith, ℕ, sym, ap, subst, ◌∙◌, inl, inr, length, Option}
 use Rattle.std.proofs.lemmas.Bool.{cases_eq}
+use Rattle.dpl_tree.specs.Views.{place_in}
 use Rattle.dpl_match.specs.declared.stage.Neighbour.{Neighbour}
-use Rattle.dpl_match.specs.steps.Nearest.{member_of}
+use Rattle.dpl_match.specs.declared.stage.OuterTable.{OuterTable}
+use Rattle.dpl_match.specs.steps.Nearest.{member_of, near_in, IsApart}
+use Rattle.dpl_match.specs.steps.Scans.{Members, members_of}
+use Rattle.dpl_match.proofs.NearLemmas.{renewed}
 use Rattle.dpl_match.proofs.outer_table.renew.Goals as goal
 
 pub loop-t-preserved : goal.loop-t-preserved
 loop-t-preserved c =
+    let v : Members = members_of c.args.metric.now c.args.matching.now in
     let t : ℕ = c.loop-t.t in
-    let near : List (Option Neighbour) = c.loop-t.table.near.items in
-    let kept : Option Neighbour = c.in_ok-near.near in
     let known = c.loop-t.invariant in
-    let low : t < length near = omega (arith, c.loop-t-test.true, c.size-n.ensures.value, known.table.near_count) in
+    let next : OuterTable = c.renew_one.new.table in
+    let r = c.in_ok-renew_one.ensures in
     record {
-      table = search rules;
-      near_outer = record {
-        rising = known.near_outer.rising;
-        still = known.near_outer.still;
-        each = search rules;
-        measured = λ k h w e. elim (cases_eq k t) [
-          | inl z ↦ rw z (c.in_ok-near.ensures.measured w (sym (get_or-set_same near t kept None low) ∙ (rw z at e)))
-          | inr ne ↦ known.near_outer.measured k h w (sym (get_or-set_other near t k kept None ne) ∙ e)
-        ];
+      table = record {
+        origin_below = omega (arith, r.origin, known.table.origin_below);
+        known_count = ap (λ z. length z.items) r.known ∙ known.table.known_count;
+        near_count = r.count ∙ known.table.near_count;
       };
-      all = known.all;
-      apart = λ k h a e. elim (cases_eq k t) [
-        | inl z ↦ rw z (c.in_ok-near.ensures.apart a (sym (ap member_of (get_or-set_same near t kept None low)) ∙ (rw z at e)))
-        | inr ne ↦ known.apart k (omega (arith, h, ne)) a (sym (ap member_of (get_or-set_other near t k kept None ne)) ∙ e)
+      near_outer = renewed v (place_in c.args.tree.now.labels.items) c.loop-t.table next t known.near_outer r.origin r.known r.near
+          r.measured r.rest;
+      all = rw r.known known.all;
+      apart = λ k h. elim (cases_eq k t) [
+        | inl e ↦ subst (λ z. IsApart v.sets z (near_in next.near.items z)) (sym e) r.apart
+        | inr ne ↦ subst (λ (z : Option Neighbour). IsApart v.sets k (member_of z)) (sym (r.rest k ne)) (known.apart k (omega (arith, h, ne)))
       ];
-      others = c.in_ok-near.ensures.others;
+      others = rw r.known r.others;
     }
