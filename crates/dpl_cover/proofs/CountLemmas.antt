@@ -1,13 +1,14 @@
 -- What a change does to the counts of places.
-use Rattle.std.proofs.Common.{arith, refl, sym, ap, subst, inl, inr, ◌∙◌, ◌≡◌, ◌≢◌, ◌⊎◌, ℕ, ◌≤◌, ◌<◌, ◌+◌, ◌*◌, ◌/◌, ℤ, pos, neg_ℤ, ◌+ℤ◌, ◌≤ℤ◌, ◌<ℤ◌}
-use Rattle.std.proofs.Common.{List, Bool, true, false, length, set, ◌^◌, ◌-◌, SFits, w64}
+use Rattle.std.proofs.Common.{arith, refl, sym, ap, subst, inl, inr, ◌∙◌, ◌≡◌, ◌≢◌, ◌⊎◌, ℕ, ◌≤◌, ◌<◌, ◌+◌, ◌*◌, ◌/◌, ℤ, pos, negsuc, neg_ℤ, ◌+ℤ◌, ◌≤ℤ◌}
+use Rattle.std.proofs.Common.{List, Bool, length, set, ◌^◌, ◌-◌, SFits, w64, int_lt}
+use Rattle.std.specs.Int.{saturate_signed}
 use Rattle.std.proofs.lemmas.List.{get_or-set_same, get_or-set_other, length-set}
 use Rattle.std.proofs.lemmas.Int.{ints}
-use Rattle.dpl_list.proofs.Integers.{signed, less_test, no_less_test}
-use Rattle.dpl_cover.specs.declared.blocks.TheConstants.{BLOCK}
+use Rattle.dpl_list.proofs.Integers.{signed}
+use Rattle.dpl_cover.specs.declared.blocks.TheConstants.{BLOCK, WIDE}
 use Rattle.dpl_cover.specs.declared.blocks.Block.{Block}
-use Rattle.dpl_cover.specs.Counts.{AreCounts, AreOwnSmall, AreTame, IsBeside, IsChange, IsGrown, IsRenewed, IsWholeGrown, IsUpTo, IsUnit, block_at}
-use Rattle.dpl_cover.specs.Counts.{is_counted, own_at}
+use Rattle.dpl_cover.specs.Counts.{AreCounts, AreParts, AreSmall, AreUpTo, IsAdded, IsAlike, IsBeside, IsBetween, IsChange, IsFit, IsKept, IsNear, IsPartChange}
+use Rattle.dpl_cover.specs.Counts.{IsRenewed, IsSpread, IsWholeGrown, IsUpTo, IsUnit, IsWider, block_at, block_of, count_at, is_counted, own_at, part_at, wide_of}
 
 pub less_or_not : (i j : ℕ) → (i < j) ⊎ (j ≤ i)
 less_or_not i j = search arith
@@ -15,30 +16,28 @@ less_or_not i j = search arith
 same_or_not : (i j : ℕ) → (i ≡ j) ⊎ (i ≢ j)
 same_or_not i j = search arith
 
-pub grown_more : (from k : ℕ) (by : ℤ) (old now : List ℤ) (x : ℤ) → from ≤ k → k < length old
-    → x ≡ own_at now k +ℤ by → IsGrown from k by old now → IsGrown from (k + 1) by old (set now k x)
-grown_more from k by old now x order within is g = record {
-  long = length-set now k x ∙ g.long;
+place_or_beside : (a b k : ℕ) → ((a ≤ k) × (k < b)) ⊎ IsBeside a b k
+place_or_beside a b k = search arith
+
+pub wider : (m n : ℕ) (z : ℤ) → m ≤ n → IsUpTo m z → IsUpTo n z
+wider m n z h s = (omega (signed, h, s.0), omega (signed, h, s.1))
+
+-- ---- numbers of places that are changed
+
+pub added_more : (from k : ℕ) (by : ℤ) (old now : List ℤ) (x : ℤ) → from ≤ k → k < length old → length now ≡ length old
+    → x ≡ own_at now k +ℤ by → IsAdded (length old) from k by (own_at old) (own_at now)
+    → IsAdded (length old) from (k + 1) by (own_at old) (own_at (set now k x))
+added_more from k by old now x order within long is g = record {
   inside = λ j a b. elim (same_or_not j k) [
     | inl e ↦ subst (λ z. own_at (set now k x) z ≡ own_at old z +ℤ by) (sym e)
-        (get_or-set_same now k x (pos 0) (rw g.long within) ∙ is ∙ ap (λ z. z +ℤ by) (g.beside k (inr (omega arith))))
+        (get_or-set_same now k x (pos 0) (rw long within) ∙ is ∙ ap (λ z. z +ℤ by) (g.beside k within (inr (omega arith))))
     | inr n ↦ get_or-set_other now k j x (pos 0) n ∙ g.inside j a (omega (arith, n, b))
   ];
-  beside = λ j s. elim s [
-    | inl l ↦ get_or-set_other now k j x (pos 0) (λ e. omega (arith, l, e, order)) ∙ g.beside j (inl l)
-    | inr r ↦ get_or-set_other now k j x (pos 0) (λ e. omega (arith, r, e)) ∙ g.beside j (inr (omega (arith, r)))
+  beside = λ j l s. elim s [
+    | inl h ↦ get_or-set_other now k j x (pos 0) (λ e. omega (arith, h, e, order)) ∙ g.beside j l (inl h)
+    | inr r ↦ get_or-set_other now k j x (pos 0) (λ e. omega (arith, r, e)) ∙ g.beside j l (inr (omega (arith, r)))
   ];
 }
-
--- the block of a place, by where it begins
-pub block_of : (b k : ℕ) → b * BLOCK ≤ k → k < b * BLOCK + BLOCK → k / BLOCK ≡ b
-block_of b k l h = omega arith
-
-pub block_from : (k : ℕ) → k / BLOCK * BLOCK ≤ k
-block_from k = omega arith
-
-pub block_up_to : (k : ℕ) → k < k / BLOCK * BLOCK + BLOCK
-block_up_to k = omega arith
 
 -- a number that grew by one or minus one, or not at all
 up_by_unit : (n : ℕ) (z y by : ℤ) → IsUnit by → y ≡ z +ℤ by → IsUpTo n z → IsUpTo (n + 1) y
@@ -48,185 +47,414 @@ up_by_unit n z y by (inr u) e s = (omega (signed, u, e, s.0), omega (signed, u, 
 up_as_before : (n : ℕ) (z y : ℤ) → y ≡ z → IsUpTo n z → IsUpTo (n + 1) y
 up_as_before n z y e s = (omega (signed, e, s.0), omega (signed, e, s.1))
 
-pub grown_up : (a b : ℕ) (by : ℤ) (old new : List ℤ) (k n : ℕ) → IsUnit by → IsGrown a b by old new
-    → IsUpTo n (own_at old k) → IsUpTo (n + 1) (own_at new k)
-grown_up a b by old new k n u g s = elim (place_or_beside a b k) [
-  | inl i ↦ up_by_unit n _ _ by u (g.inside k i.0 i.1) s
-  | inr o ↦ up_as_before n _ _ (g.beside k o) s
-]
-  where
-    place_or_beside : (a b k : ℕ) → ((a ≤ k) × (k < b)) ⊎ IsBeside a b k
-    place_or_beside a b k = search arith
+pub near_added : (n a b : ℕ) (by : ℤ) (old new : ℕ → ℤ) → IsUnit by → IsAdded n a b by old new → IsNear n a b old new
+near_added n a b by old new u g = record {
+  beside = g.beside;
+  grown = λ k m l s. elim (place_or_beside a b k) [
+    | inl i ↦ up_by_unit m _ _ by u (g.inside k i.0 i.1) s
+    | inr o ↦ up_as_before m _ _ (g.beside k l o) s
+  ];
+}
 
-place_or_beside : (a b k : ℕ) → ((a ≤ k) × (k < b)) ⊎ IsBeside a b k
-place_or_beside a b k = search arith
+-- nothing was changed
+pub near_same : (n a b : ℕ) (old new : ℕ → ℤ) → ((k : ℕ) → k < n → new k ≡ old k) → IsNear n a b old new
+near_same n a b old new same = record {
+  beside = λ k l o. same k l;
+  grown = λ k m l s. up_as_before m _ _ (same k l) s;
+}
+
+pub none_added : (n a : ℕ) (by : ℤ) (f : ℕ → ℤ) → IsAdded n a a by f f
+none_added n a by f = record { inside = λ k l h. absurd (omega (arith, l, h)); beside = λ k l o. refl }
+
+-- two changes side by side
+beside_second : (a m c k : ℕ) → a ≤ m → IsBeside a c k → IsBeside m c k
+beside_second a m c k low (inl h) = inl (omega (arith, h, low))
+beside_second a m c k low (inr h) = inr h
+
+beside_first : (a m c k : ℕ) → m ≤ c → IsBeside a c k → IsBeside a m k
+beside_first a m c k high (inl h) = inl h
+beside_first a m c k high (inr h) = inr (omega (arith, h, high))
+
+joined_added : (n a m c : ℕ) (by : ℤ) (f g h : ℕ → ℤ) → a ≤ m → m ≤ c → c ≤ n → IsAdded n a m by f g
+    → IsAdded n m c by g h → IsAdded n a c by f h
+joined_added n a m c by f g h low high top first second = record {
+  inside = λ k l u. elim (less_or_not k m) [
+    | inl s ↦ second.beside k (omega (arith, u, top)) (inl s) ∙ first.inside k l s
+    | inr s ↦ second.inside k s u ∙ ap (λ z. z +ℤ by) (first.beside k (omega (arith, u, top)) (inr s))
+  ];
+  beside = λ k l o. second.beside k l (beside_second a m c k low o) ∙ first.beside k l (beside_first a m c k high o);
+}
+
+joined_near : (n a m c : ℕ) (f g h : ℕ → ℤ) → a ≤ m → m ≤ c → IsNear n a m f g → IsNear n m c g h → IsNear n a c f h
+joined_near n a m c f g h low high first second = record {
+  beside = λ k l o. second.beside k l (beside_second a m c k low o) ∙ first.beside k l (beside_first a m c k high o);
+  grown = λ k i l s. elim (less_or_not k m) [
+    | inl t ↦ subst (IsUpTo (i + 1)) (sym (second.beside k l (inl t))) (first.grown k i l s)
+    | inr t ↦ second.grown k i l (subst (IsUpTo i) (sym (first.beside k l (inr t))) s)
+  ];
+}
+
+-- ---- where blocks stand
+
+pub block_from : (k : ℕ) → k / BLOCK * BLOCK ≤ k
+block_from k = omega arith
+
+pub block_up_to : (k : ℕ) → k < k / BLOCK * BLOCK + BLOCK
+block_up_to k = omega arith
+
+pub wide_from : (k : ℕ) → k / WIDE * WIDE ≤ k
+wide_from k = omega arith
+
+pub same_block : (a k : ℕ) → a / BLOCK * BLOCK ≤ k → k < a / BLOCK * BLOCK + BLOCK → block_of k ≡ block_of a
+same_block a k l h = omega arith
+
+pub other_block : (a k : ℕ) → IsBeside (a / BLOCK * BLOCK) (a / BLOCK * BLOCK + BLOCK) k → block_of k ≢ block_of a
+other_block a k (inl h) e = omega (arith, h, e)
+other_block a k (inr h) e = omega (arith, h, e)
+
+pub same_wide : (a k : ℕ) → a / WIDE * WIDE ≤ k → k < a / WIDE * WIDE + WIDE → wide_of k ≡ wide_of a
+same_wide a k l h = omega arith
+
+pub other_wide : (a k : ℕ) → IsBeside (a / WIDE * WIDE) (a / WIDE * WIDE + WIDE) k → wide_of k ≢ wide_of a
+other_wide a k (inl h) e = omega (arith, h, e)
+other_wide a k (inr h) e = omega (arith, h, e)
+
+-- no wide block is a block of places
+pub block_or_wide : (a k : ℕ) → block_of a ≢ wide_of k
+block_or_wide a k e = omega (arith, e)
+
+-- the blocks of a wide block stand behind it
+pub behind_wide : (k : ℕ) → wide_of k < block_of k
+behind_wide k = omega arith
+
+pub near_wide : (k : ℕ) → block_of k ≤ wide_of k + BLOCK
+near_wide k = omega arith
+
+-- ---- blocks of places
+
+kept_parts : (b : ℕ) (each : List ℤ) (blocks blocks' : List Block) (k : ℕ) → IsKept b blocks blocks'
+    → part_at each blocks' k ≡ part_at each blocks k
+kept_parts b each blocks blocks' k t = ap (λ z. own_at each k +ℤ z) (kept_whole b blocks blocks' (block_of k) t)
+  where
+    kept_whole : (b : ℕ) (blocks blocks' : List Block) (j : ℕ) → IsKept b blocks blocks' → (block_at blocks' j).whole ≡ (block_at blocks j).whole
+    kept_whole b blocks blocks' j t = elim (same_or_not j b) [
+      | inl e ↦ rw e t.whole
+      | inr n ↦ ap (λ (z : Block). z.whole) (t.others j n)
+    ]
 
 -- a whole block was counted once more or less
-pub whole_changed : (a c b : ℕ) (by : ℤ) (each : List ℤ) (blocks blocks' : List Block) → IsUnit by → a < c
-    → a ≡ b * BLOCK → c ≤ b * BLOCK + BLOCK → (c ≡ b * BLOCK + BLOCK) ⊎ (c ≡ length each)
-    → AreCounts each blocks → IsWholeGrown b by blocks blocks' → IsChange a c by each blocks each blocks'
-whole_changed a c b by each blocks blocks' u order start end full counts g = record {
-  counts = record {
-    enough = λ k l. rw g.long (counts.enough k l);
-    low = λ k l. elim (same_or_not (k / BLOCK) b) [
-      | inl e ↦ rw (e, g.low) (rw e at (counts.low k l))
-      | inr n ↦ rw (g.others (k / BLOCK) n) (counts.low k l)
-    ];
-    high = λ k l. elim (same_or_not (k / BLOCK) b) [
-      | inl e ↦ rw (e, g.high) (rw e at (counts.high k l))
-      | inr n ↦ rw (g.others (k / BLOCK) n) (counts.high k l)
+pub block_changed : (a c : ℕ) (by : ℤ) (each : List ℤ) (blocks blocks' : List Block) → a ≡ a / BLOCK * BLOCK
+    → c ≤ a / BLOCK * BLOCK + BLOCK → (c ≡ a / BLOCK * BLOCK + BLOCK) ⊎ (c ≡ length each)
+    → AreParts each blocks → IsWholeGrown (block_of a) by blocks blocks' → IsPartChange a c by each blocks each blocks'
+block_changed a c by each blocks blocks' start end full parts g = record {
+  parts = record {
+    enough = λ k l. rw g.long (parts.enough k l);
+    own = λ k l. elim (same_or_not (block_of k) (block_of a)) [
+      | inl e ↦ let s = parts.own k l in record { low = rw (e, g.low) (rw e at s.low); high = rw (e, g.high) (rw e at s.high) }
+      | inr n ↦ rw (g.others (block_of k) n) (parts.own k l)
     ];
   };
   long = refl;
-  inside = λ k l h.
-      let e : k / BLOCK ≡ b = block_of b k (omega (arith, start, l)) (omega (arith, h, end)) in
-      rw (e, g.whole) (omega signed);
-  beside = λ k l o.
-      let n : k / BLOCK ≢ b = λ e. elim o [
-        | inl h ↦ omega (arith, h, start, e, block_from k)
-        | inr h ↦ elim full [
-          | inl f ↦ omega (arith, h, f, e, block_up_to k)
-          | inr f ↦ omega (arith, h, f, l)
-        ]
-      ] in rw (g.others (k / BLOCK) n) refl;
-  own = λ k o. refl;
-  grown = λ k n s. up_as_before n _ _ refl s;
-  same = λ j o. g.others j (λ e. elim o [
-    | inl h ↦ omega (arith, h, e, start, order)
-    | inr h ↦ omega (arith, h, e, start)
-  ]);
-  whole = λ j n s. elim (same_or_not j b) [
-    | inl e ↦ up_by_unit n (block_at blocks j).whole (block_at blocks' j).whole by u (rw e g.whole) s
-    | inr e ↦ up_as_before n (block_at blocks j).whole (block_at blocks' j).whole (ap (λ (z : Block). z.whole) (g.others j e)) s
-  ];
+  part = record {
+    inside = λ k l h.
+        let e = same_block a k (omega (arith, l, start)) (omega (arith, h, end)) in
+        rw (e, g.whole) (omega signed);
+    beside = λ k l o. ap (λ (z : Block). own_at each k +ℤ z.whole) (g.others (block_of k) (other_block a k (elim o [
+      | inl h ↦ inl (omega (arith, h, start))
+      | inr h ↦ elim full [
+        | inl f ↦ inr (omega (arith, h, f))
+        | inr f ↦ absurd (omega (arith, h, f, l))
+      ]
+    ])));
+  };
+  own = near_same _ a c _ _ (λ k l. refl);
+  wide = λ k. g.others (wide_of k) (λ e. block_or_wide a k (sym e));
 }
 
 -- the own counts of some places of a block were changed, and its numbers looked up again
-pub some_changed : (a c b d : ℕ) (by : ℤ) (each each' : List ℤ) (blocks blocks' : List Block) → IsUnit by
-    → a < c → b * BLOCK ≤ a → c ≤ d → d ≤ b * BLOCK + BLOCK → (d ≡ b * BLOCK + BLOCK) ⊎ (d ≡ length each)
-    → b < length blocks → AreCounts each blocks → IsGrown a c by each each'
-    → IsRenewed b (b * BLOCK) d each' blocks blocks' → IsChange a c by each blocks each' blocks'
-some_changed a c b d by each each' blocks blocks' u order from up to full has counts g r = record {
-  counts = record {
-    enough = λ k l. rw r.long (counts.enough k (rw (← g.long) l));
-    low = λ k l. elim (same_or_not (k / BLOCK) b) [
-      | inl e ↦ rw e (r.low k (omega (arith, e, block_from k)) (inside_block k e l))
-      | inr n ↦ rw (r.others (k / BLOCK) n, g.beside k (elsewhere k n)) (counts.low k (rw (← g.long) l))
-    ];
-    high = λ k l. elim (same_or_not (k / BLOCK) b) [
-      | inl e ↦ rw e (r.high k (omega (arith, e, block_from k)) (inside_block k e l))
-      | inr n ↦ rw (r.others (k / BLOCK) n, g.beside k (elsewhere k n)) (counts.high k (rw (← g.long) l))
+pub places_changed : (a c d : ℕ) (by : ℤ) (each each' : List ℤ) (blocks blocks' : List Block) → IsUnit by
+    → c ≤ d → d ≤ a / BLOCK * BLOCK + BLOCK → (d ≡ a / BLOCK * BLOCK + BLOCK) ⊎ (d ≡ length each)
+    → AreParts each blocks → length each' ≡ length each → IsAdded (length each) a c by (own_at each) (own_at each')
+    → IsRenewed (block_of a) (a / BLOCK * BLOCK) d each' blocks blocks' → IsPartChange a c by each blocks each' blocks'
+places_changed a c d by each each' blocks blocks' u to up full parts long g r = record {
+  parts = record {
+    enough = λ k l. rw r.kept.long (parts.enough k (rw long at l));
+    own = λ k l. elim (place_or_beside (a / BLOCK * BLOCK) (a / BLOCK * BLOCK + BLOCK) k) [
+      | inl i ↦ rw (same_block a k i.0 i.1) (r.own k i.0 (elim full [ inl f ↦ rw f i.1 | inr f ↦ rw f (rw long at l) ]))
+      | inr o ↦ rw (r.kept.others (block_of k) (other_block a k o), g.beside k (rw long at l) (elsewhere k o)) (parts.own k (rw long at l))
     ];
   };
-  long = g.long;
-  inside = λ k l h.
-      let e : k / BLOCK ≡ b = block_of b k (omega (arith, from, l)) (omega (arith, h, up, to)) in
-      rw (e, r.whole) (omega (signed, g.inside k l h));
-  beside = λ k l o. elim (same_or_not (k / BLOCK) b) [
-    | inl e ↦ rw (e, r.whole) (omega (signed, g.beside k o))
-    | inr n ↦ rw (r.others (k / BLOCK) n) (omega (signed, g.beside k o))
-  ];
-  own = g.beside;
-  grown = λ k n s. grown_up a c by each each' k n u g s;
-  same = λ j o. r.others j (λ e. elim o [
-    | inl h ↦ omega (arith, h, e, order, from)
-    | inr h ↦ omega (arith, h, e, order, up, to)
-  ]);
-  whole = λ j n s. elim (same_or_not j b) [
-    | inl e ↦ up_as_before n (block_at blocks j).whole (block_at blocks' j).whole (rw e r.whole) s
-    | inr e ↦ up_as_before n (block_at blocks j).whole (block_at blocks' j).whole (ap (λ (z : Block). z.whole) (r.others j e)) s
-  ];
+  long = long;
+  part = record {
+    inside = λ k l h. let e = kept_parts (block_of a) each' blocks blocks' k r.kept in omega (signed, e, g.inside k l h);
+    beside = λ k l o. let e = kept_parts (block_of a) each' blocks blocks' k r.kept in omega (signed, e, g.beside k l o);
+  };
+  own = near_added _ a c by _ _ u g;
+  wide = λ k. r.kept.others (wide_of k) (λ e. block_or_wide a k (sym e));
 }
   where
-    inside_block : (k : ℕ) → k / BLOCK ≡ b → k < length each' → k < d
-    inside_block k e l = elim full [
-      | inl f ↦ omega (arith, e, f, block_up_to k)
-      | inr f ↦ omega (arith, f, l, g.long)
+    elsewhere : (k : ℕ) → IsBeside (a / BLOCK * BLOCK) (a / BLOCK * BLOCK + BLOCK) k → IsBeside a c k
+    elsewhere k (inl h) = inl (omega (arith, h, block_from a))
+    elsewhere k (inr h) = inr (omega (arith, h, to, up))
+
+pub no_part_changed : (a : ℕ) (by : ℤ) (each : List ℤ) (blocks : List Block) → AreParts each blocks → IsPartChange a a by each blocks each blocks
+no_part_changed a by each blocks parts = record {
+  parts = parts;
+  long = refl;
+  part = none_added _ a by _;
+  own = near_same _ a a _ _ (λ k l. refl);
+  wide = λ k. refl;
+}
+
+pub joined_parts : (a m c : ℕ) (by : ℤ) (e0 : List ℤ) (b0 : List Block) (e1 : List ℤ) (b1 : List Block) (e2 : List ℤ) (b2 : List Block)
+    → a ≤ m → m ≤ c → c ≤ length e0 → IsPartChange a m by e0 b0 e1 b1 → IsPartChange m c by e1 b1 e2 b2
+    → IsPartChange a c by e0 b0 e2 b2
+joined_parts a m c by e0 b0 e1 b1 e2 b2 low high top first second = record {
+  parts = second.parts;
+  long = second.long ∙ first.long;
+  part = joined_added _ a m c by _ _ _ low high top first.part (rw first.long at second.part);
+  own = joined_near _ a m c _ _ _ low high first.own (rw first.long at second.own);
+  wide = λ k. second.wide k ∙ first.wide k;
+}
+
+-- ---- wide blocks
+
+-- a whole wide block was counted once more or less
+pub wide_changed : (a c : ℕ) (by : ℤ) (each : List ℤ) (blocks blocks' : List Block) → IsUnit by → a ≡ a / WIDE * WIDE
+    → c ≤ a / WIDE * WIDE + WIDE → (c ≡ a / WIDE * WIDE + WIDE) ⊎ (c ≡ length each)
+    → AreCounts each blocks → IsWholeGrown (wide_of a) by blocks blocks' → IsChange a c by each blocks each blocks'
+wide_changed a c by each blocks blocks' u start end full counts g = record {
+  counts = record {
+    parts = record {
+      enough = λ k l. rw g.long (counts.parts.enough k l);
+      own = λ k l. rw (same k) (counts.parts.own k l);
+    };
+    wide = λ k l. rw (same k) (elim (same_or_not (wide_of k) (wide_of a)) [
+      | inl e ↦ let s = counts.wide k l in record { low = rw (e, g.low) (rw e at s.low); high = rw (e, g.high) (rw e at s.high) }
+      | inr n ↦ rw (g.others (wide_of k) n) (counts.wide k l)
+    ]);
+  };
+  long = refl;
+  count = record {
+    inside = λ k l h.
+        let e = same_wide a k (omega (arith, l, start)) (omega (arith, h, end)) in
+        rw (e, same k, g.whole) (omega signed);
+    beside = λ k l o. rw (same k, g.others (wide_of k) (other_wide a k (elim o [
+      | inl h ↦ inl (omega (arith, h, start))
+      | inr h ↦ elim full [
+        | inl f ↦ inr (omega (arith, h, f))
+        | inr f ↦ absurd (omega (arith, h, f, l))
+      ]
+    ]))) refl;
+  };
+  part = near_same _ a c _ _ (λ k l. ap (λ (z : Block). own_at each k +ℤ z.whole) (same k));
+  own = near_same _ a c _ _ (λ k l. refl);
+}
+  where
+    same : (k : ℕ) → block_at blocks' (block_of k) ≡ block_at blocks (block_of k)
+    same k = g.others (block_of k) (block_or_wide k a)
+
+-- the counts of some places of a wide block were changed, and its numbers fitted
+pub parts_changed : (a c d : ℕ) (by : ℤ) (e0 : List ℤ) (b0 : List Block) (e1 : List ℤ) (b1 b2 : List Block) → IsUnit by
+    → a < c → c ≤ a / WIDE * WIDE + WIDE → d ≡ c - 1 → AreCounts e0 b0 → AreUpTo (2 ^ 62) (length e1) (part_at e1 b1)
+    → IsPartChange a c by e0 b0 e1 b1 → (now : Block) → IsFit (wide_of a) (block_of a) (block_of d + 1) b1 now
+    → IsKept (wide_of a) b1 b2 → (block_at b2 (wide_of a)).low ≡ now.low → (block_at b2 (wide_of a)).high ≡ now.high
+    → IsChange a c by e0 b0 e1 b2
+parts_changed a c d by e0 b0 e1 b1 b2 u order up last counts small g now fit kept low high = record {
+  counts = record {
+    parts = record {
+      enough = λ k l. rw kept.long (g.parts.enough k l);
+      own = λ k l. rw (same k) (g.parts.own k l);
+    };
+    wide = λ k l. rw (same k) (elim (same_or_not (wide_of k) (wide_of a)) [
+      | inl e ↦ rw e (fitted (part_at e1 b1 k) (elim (fit (block_of k) (rw e at (behind_wide k)) (rw e at (near_wide k)) (g.parts.enough k l)) [
+        | inl s ↦ s (own_at e1 k) (g.parts.own k l) (small k l)
+        | inr o ↦ let s = rw e at (counts.wide k (rw g.long at l)) in
+            let w : IsWider (block_at b0 (wide_of a)) now = rw (g.wide a) at o.1 in
+            let p = g.part.beside k (rw g.long at l) (elsewhere k o.0) in
+            record { low = omega (signed, p, s.low, w.low); high = omega (signed, p, s.high, w.high) }
+      ]))
+      | inr n ↦ rw (kept.others (wide_of k) n, g.wide k, g.part.beside k (rw g.long at l) (outside k n)) (counts.wide k (rw g.long at l))
+    ]);
+  };
+  long = g.long;
+  count = record {
+    inside = λ k l h. let p = g.part.inside k l h in let w = whole k in rw (same k) (omega (signed, p, w));
+    beside = λ k l o. let p = g.part.beside k l o in let w = whole k in rw (same k) (omega (signed, p, w));
+  };
+  part = near_added _ a c by _ _ u (record {
+    inside = λ k l h. rw (same k) (g.part.inside k l h);
+    beside = λ k l o. rw (same k) (g.part.beside k l o);
+  });
+  own = g.own;
+}
+  where
+    fitted : (z : ℤ) → IsBetween now z → IsBetween (block_at b2 (wide_of a)) z
+    fitted z s = record { low = omega (signed, low, s.low); high = omega (signed, high, s.high) }
+
+    same : (k : ℕ) → block_at b2 (block_of k) ≡ block_at b1 (block_of k)
+    same k = kept.others (block_of k) (block_or_wide k a)
+
+    whole : (k : ℕ) → (block_at b2 (wide_of k)).whole ≡ (block_at b0 (wide_of k)).whole
+    whole k = elim (same_or_not (wide_of k) (wide_of a)) [
+      | inl e ↦ rw e (kept.whole ∙ ap (λ (z : Block). z.whole) (g.wide a))
+      | inr n ↦ ap (λ (z : Block). z.whole) (kept.others (wide_of k) n ∙ g.wide k)
     ]
 
-    elsewhere : (k : ℕ) → k / BLOCK ≢ b → IsBeside a c k
-    elsewhere k n = elim (place_or_beside a c k) [
-      | inl i ↦ absurd (n (block_of b k (omega (arith, from, i.0)) (omega (arith, i.1, up, to))))
+    elsewhere : (k : ℕ) → IsBeside (block_of a) (block_of d + 1) (block_of k) → IsBeside a c k
+    elsewhere k (inl h) = inl (omega (arith, h))
+    elsewhere k (inr h) = inr (omega (arith, h, last))
+
+    outside : (k : ℕ) → wide_of k ≢ wide_of a → IsBeside a c k
+    outside k n = elim (place_or_beside a c k) [
+      | inl i ↦ absurd (n (same_wide a k (omega (arith, i.0, wide_from a)) (omega (arith, i.1, up))))
       | inr o ↦ o
     ]
 
--- two changes side by side, the second from where a block begins
-pub joined_changes : (a m j c : ℕ) (by : ℤ) (e0 : List ℤ) (b0 : List Block) (e1 : List ℤ) (b1 : List Block) (e2 : List ℤ) (b2 : List Block)
-    → a ≤ m → m ≤ c → c ≤ length e0 → m ≡ j * BLOCK → IsChange a m by e0 b0 e1 b1
-    → IsChange m c by e1 b1 e2 b2 → IsChange a c by e0 b0 e2 b2
-joined_changes a m j c by e0 b0 e1 b1 e2 b2 low high top at first second = record {
+pub nothing_changed : (a : ℕ) (by : ℤ) (each : List ℤ) (blocks : List Block) → AreCounts each blocks → IsChange a a by each blocks each blocks
+nothing_changed a by each blocks counts = record {
+  counts = counts;
+  long = refl;
+  count = none_added _ a by _;
+  part = near_same _ a a _ _ (λ k l. refl);
+  own = near_same _ a a _ _ (λ k l. refl);
+}
+
+pub joined_changes : (a m c : ℕ) (by : ℤ) (e0 : List ℤ) (b0 : List Block) (e1 : List ℤ) (b1 : List Block) (e2 : List ℤ) (b2 : List Block)
+    → a ≤ m → m ≤ c → c ≤ length e0 → IsChange a m by e0 b0 e1 b1 → IsChange m c by e1 b1 e2 b2
+    → IsChange a c by e0 b0 e2 b2
+joined_changes a m c by e0 b0 e1 b1 e2 b2 low high top first second = record {
   counts = second.counts;
   long = second.long ∙ first.long;
-  inside = λ k l h. elim (before_or_from k) [
-    | inl s ↦ second.beside k (rw first.long (omega (arith, h, top))) (inl s) ∙ first.inside k l s
-    | inr s ↦ second.inside k s h ∙ ap (λ z. z +ℤ by) (first.beside k (omega (arith, h, top)) (inr s))
-  ];
-  beside = λ k l o. second.beside k (rw first.long l) (beside_second k o) ∙ first.beside k l (beside_first k o);
-  own = λ k o. second.own k (beside_second k o) ∙ first.own k (beside_first k o);
-  grown = λ k n s. elim (before_or_from k) [
-    | inl t ↦ subst (IsUpTo (n + 1)) (sym (second.own k (inl t))) (first.grown k n s)
-    | inr t ↦ second.grown k n (subst (IsUpTo n) (sym (first.own k (inr t))) s)
-  ];
-  same = λ i o. second.same i (elim o [ inl h ↦ inl h | inr h ↦ inr (omega (arith, h, low)) ])
-      ∙ first.same i (elim o [ inl h ↦ inl (omega (arith, h, high)) | inr h ↦ inr h ]);
-  whole = λ i n s. elim (before_or_from_block i) [
-    | inl t ↦ subst (λ (z : Block). IsUpTo (n + 1) z.whole) (sym (second.same i (inr t))) (first.whole i n s)
-    | inr t ↦ second.whole i n (subst (λ (z : Block). IsUpTo n z.whole) (sym (first.same i (inl t))) s)
-  ];
+  count = joined_added _ a m c by _ _ _ low high top first.count (rw first.long at second.count);
+  part = joined_near _ a m c _ _ _ low high first.part (rw first.long at second.part);
+  own = joined_near _ a m c _ _ _ low high first.own (rw first.long at second.own);
+}
+
+-- ---- bounds
+
+pub near_up : (n m a b : ℕ) (f g : ℕ → ℤ) → IsNear n a b f g → AreUpTo m n f → AreUpTo (m + 1) n g
+near_up n m a b f g t s k l = t.grown k m l (s k l)
+
+pub small_after : (n a b : ℕ) (by : ℤ) (e0 : List ℤ) (b0 : List Block) (e1 : List ℤ) (b1 : List Block) → IsUnit by
+    → IsChange a b by e0 b0 e1 b1 → AreSmall n e0 b0 → AreSmall (n + 1) e1 b1
+small_after n a b by e0 b0 e1 b1 u g s = record {
+  own = rw g.long (near_up _ n a b _ _ g.own s.own);
+  part = rw g.long (near_up _ n a b _ _ g.part s.part);
+  count = rw g.long (near_up _ n a b _ _ (near_added _ a b by _ _ u g.count) s.count);
+}
+
+pub wider_all : (m n l : ℕ) (f : ℕ → ℤ) → m ≤ n → AreUpTo m l f → AreUpTo n l f
+wider_all m n l f h s k i = wider m n (f k) h (s k i)
+
+pub small_wider : (m n : ℕ) (each : List ℤ) (blocks : List Block) → m ≤ n → AreSmall m each blocks → AreSmall n each blocks
+small_wider m n each blocks h s = record {
+  own = wider_all m n _ _ h s.own;
+  part = wider_all m n _ _ h s.part;
+  count = wider_all m n _ _ h s.count;
+}
+
+-- what was added is small where it was small before and after
+pub addend_up : (n : ℕ) (z y : ℤ) → IsUpTo n z → IsUpTo n (z +ℤ y) → IsUpTo (n + n) y
+addend_up n z y s t = (omega (signed, s.0, t.1, s.1, t.0), omega (signed, s.0, t.1, s.1, t.0))
+
+pub fits : (n : ℕ) (z : ℤ) → n ≤ 2 ^ 62 → IsUpTo n z → SFits w64 z
+fits n z h s = search (arith, ints, h)
+
+-- ---- what blocks spread over
+
+pub spread_still : (old new block : Block) → IsWider old new → IsSpread old block → IsSpread new block
+spread_still old new block w s z i t = let r = s z i t in
+    record { low = omega (signed, w.low, r.low); high = omega (signed, w.high, r.high) }
+
+pub spread_more : (blocks : List Block) (from j : ℕ) (all more new : Block) → IsWider all new → IsWider more new
+    → ((i : ℕ) → from ≤ i → i < j → IsSpread all (block_at blocks i)) → IsSpread more (block_at blocks j)
+    → (i : ℕ) → from ≤ i → i < j + 1 → IsSpread new (block_at blocks i)
+spread_more blocks from j all more new w v before last i l h = elim (less_or_not i j) [
+  | inl m ↦ spread_still all new (block_at blocks i) w (before i l m)
+  | inr m ↦ let e : j ≡ i = omega (arith, h, m) in spread_still more new (block_at blocks i) v (rw e at last)
+]
+
+pub spread_first : (blocks : List Block) (from : ℕ) (all : Block) → IsSpread all (block_at blocks from)
+    → (i : ℕ) → from ≤ i → i < from + 1 → IsSpread all (block_at blocks i)
+spread_first blocks from all s i l h = let e : from ≡ i = omega (arith, l, h) in rw e at s
+
+-- those beside the changed ones lie where they did, and the changed ones between the numbers that were looked up
+pub loosely_fit : (w a c : ℕ) (blocks : List Block) (changed now : Block) → IsWider (block_at blocks w) now → IsWider changed now
+    → ((j : ℕ) → a ≤ j → j < c → IsSpread changed (block_at blocks j)) → IsFit w a c blocks now
+loosely_fit w a c blocks changed now old more all j l h n = elim (place_or_beside a c j) [
+  | inl i ↦ inl (spread_still changed now (block_at blocks j) more (all j i.0 i.1))
+  | inr o ↦ inr (o, old)
+]
+
+-- a sum that is cut to 64 bits is no nearer to a small number
+cut_below : (z y : ℤ) → z ≤ℤ y → IsUpTo (2 ^ 62) y → saturate_signed w64 z ≤ℤ y
+cut_below (pos n) y h s = omega (signed, h, s.0, s.1)
+cut_below (negsuc n) y h s = omega (signed, h, s.0, s.1)
+
+cut_above : (z y : ℤ) → y ≤ℤ z → IsUpTo (2 ^ 62) y → y ≤ℤ saturate_signed w64 z
+cut_above (pos n) y h s = omega (signed, h, s.0, s.1)
+cut_above (negsuc n) y h s = omega (signed, h, s.0, s.1)
+
+pub spread_cut : (block all : Block) → all.low ≡ saturate_signed w64 (block.whole +ℤ block.low)
+    → all.high ≡ saturate_signed w64 (block.whole +ℤ block.high) → IsSpread all block
+spread_cut block all low high z s t = record {
+  low = rw low (cut_below _ _ (omega (signed, s.low)) t);
+  high = rw high (cut_above _ _ (omega (signed, s.high)) t);
+}
+
+-- ---- places that are alike
+
+grouped : (x y z : ℤ) → x +ℤ y +ℤ z ≡ x +ℤ (y +ℤ z)
+grouped x y z = omega signed
+
+-- those of a wide block, or of a block
+pub wide_alike : (each : List ℤ) (blocks : List Block) (at to : ℕ) (counted : Bool) → AreCounts each blocks → at < to
+    → to ≤ length each → to ≤ at / WIDE * WIDE + WIDE
+    → ((z : ℤ) → (block_at blocks (wide_of at)).low ≤ℤ z → z ≤ℤ (block_at blocks (wide_of at)).high
+        → int_lt (pos 0) (z +ℤ (block_at blocks (wide_of at)).whole) ≡ counted)
+    → IsAlike each blocks at (record { to = to; counted = counted })
+wide_alike each blocks at to counted counts further within up sign = record {
+  further = further;
+  within = within;
+  same = λ k l h.
+      let e = same_wide at k (omega (arith, l, wide_from at)) (omega (arith, h, up)) in
+      let s = counts.wide k (omega (arith, h, within)) in rw e (sign _ (rw e at s.low) (rw e at s.high));
+}
+
+pub block_alike : (each : List ℤ) (blocks : List Block) (at to : ℕ) (counted : Bool) → AreCounts each blocks → at < to
+    → to ≤ length each → to ≤ at / BLOCK * BLOCK + BLOCK
+    → ((z : ℤ) → (block_at blocks (block_of at)).low ≤ℤ z → z ≤ℤ (block_at blocks (block_of at)).high
+        → int_lt (pos 0) (z +ℤ ((block_at blocks (block_of at)).whole +ℤ (block_at blocks (wide_of at)).whole)) ≡ counted)
+    → IsAlike each blocks at (record { to = to; counted = counted })
+block_alike each blocks at to counted counts further within up sign = record {
+  further = further;
+  within = within;
+  same = λ k l h.
+      let from : at / BLOCK * BLOCK ≤ k = omega (arith, l, block_from at) in let below : k < at / BLOCK * BLOCK + BLOCK = omega (arith, h, up) in
+      let b = same_block at k from below in let w : wide_of k ≡ wide_of at = wide_of_block at k from below in
+      let s = counts.parts.own k (omega (arith, h, within)) in
+      rw (b, w) (ap (λ z. int_lt (pos 0) z) (grouped (own_at each k) (block_at blocks (block_of at)).whole (block_at blocks (wide_of at)).whole) ∙
+      sign _ (rw b at s.low) (rw b at s.high));
 }
   where
-    before_or_from : (k : ℕ) → (k < m) ⊎ (m ≤ k)
-    before_or_from k = search arith
+    wide_of_block : (a k : ℕ) → a / BLOCK * BLOCK ≤ k → k < a / BLOCK * BLOCK + BLOCK → wide_of k ≡ wide_of a
+    wide_of_block a k l h = omega arith
 
-    before_or_from_block : (i : ℕ) → (i * BLOCK + BLOCK ≤ m) ⊎ (m ≤ i * BLOCK)
-    before_or_from_block i = elim (less_or_not i j) [ inl h ↦ inl (omega (arith, h, at)) | inr h ↦ inr (omega (arith, h, at)) ]
+pub alike_after_one : (each : List ℤ) (blocks : List Block) (at to : ℕ) (counted : Bool) → at + 1 ≤ to → to ≤ length each
+    → is_counted each blocks at ≡ counted → ((k : ℕ) → at + 1 ≤ k → k < to → is_counted each blocks k ≡ counted)
+    → IsAlike each blocks at (record { to = to; counted = counted })
+alike_after_one each blocks at to counted further within one others = record {
+  further = omega (arith, further);
+  within = within;
+  same = λ k l h. elim (less_or_not k (at + 1)) [
+    | inl m ↦ let e : at ≡ k = omega (arith, l, m) in subst (λ z. is_counted each blocks z ≡ counted) e one
+    | inr r ↦ others k r h
+  ];
+}
 
-    beside_second : (k : ℕ) → IsBeside a c k → IsBeside m c k
-    beside_second k (inl h) = inl (omega (arith, h, low))
-    beside_second k (inr h) = inr h
-
-    beside_first : (k : ℕ) → IsBeside a c k → IsBeside a m k
-    beside_first k (inl h) = inl h
-    beside_first k (inr h) = inr (omega (arith, h, high))
-
--- all places of a block from one on are counted, or none is
-pub all_counted : (each : List ℤ) (blocks : List Block) (a c b : ℕ) → AreCounts each blocks → a / BLOCK ≡ b
-    → c ≤ b * BLOCK + BLOCK → c ≤ length each → neg_ℤ (block_at blocks b).whole <ℤ (block_at blocks b).low
-    → (k : ℕ) → a ≤ k → k < c → is_counted each blocks k ≡ true
-all_counted each blocks a c b counts at up within more k l h =
-    let e : k / BLOCK ≡ b = block_of b k (omega (arith, at, l, block_from a)) (omega (arith, h, up)) in
-    rw e (less_test (pos 0) (own_at each k +ℤ (block_at blocks b).whole)
-    (omega (signed, more, rw e at (counts.low k (omega (arith, h, within))))))
-
-pub none_counted : (each : List ℤ) (blocks : List Block) (a c b : ℕ) → AreCounts each blocks → a / BLOCK ≡ b
-    → c ≤ b * BLOCK + BLOCK → c ≤ length each → (block_at blocks b).high ≤ℤ neg_ℤ (block_at blocks b).whole
-    → (k : ℕ) → a ≤ k → k < c → is_counted each blocks k ≡ false
-none_counted each blocks a c b counts at up within less k l h =
-    let e : k / BLOCK ≡ b = block_of b k (omega (arith, at, l, block_from a)) (omega (arith, h, up)) in
-    rw e (no_less_test (pos 0) (own_at each k +ℤ (block_at blocks b).whole)
-    (omega (signed, less, rw e at (counts.high k (omega (arith, h, within))))))
-
-pub one_counted : (each : List ℤ) (blocks : List Block) (a : ℕ) (counted : Bool)
-    → is_counted each blocks a ≡ counted → (k : ℕ) → a ≤ k → k < a + 1 → is_counted each blocks k ≡ counted
-one_counted each blocks a counted is k l h =
-    let e : a ≡ k = omega (arith, l, h) in subst (λ z. is_counted each blocks z ≡ counted) e is
-
-wider : (z : ℤ) → IsUpTo (2 ^ 59 + 1) z → IsUpTo (2 ^ 60) z
-wider z s = search (arith, ints)
-
-pub sum_fits : (z y : ℤ) → IsUpTo (2 ^ 60) z → IsUpTo (2 ^ 60) y → SFits w64 (z +ℤ y)
-sum_fits z y a b = search (arith, ints)
-
--- one change leaves the counts small
-pub small_still : (a b : ℕ) (by : ℤ) (e0 : List ℤ) (b0 : List Block) (e1 : List ℤ) (b1 : List Block)
-    → IsChange a b by e0 b0 e1 b1 → AreOwnSmall (2 ^ 59) e0 → AreOwnSmall (2 ^ 60) e1
-small_still a b by e0 b0 e1 b1 g s k = wider (own_at e1 k) (g.grown k (2 ^ 59) (s k))
-
-pub tame_still : (a b : ℕ) (by : ℤ) (e0 : List ℤ) (b0 : List Block) (e1 : List ℤ) (b1 : List Block)
-    → IsChange a b by e0 b0 e1 b1 → AreTame (2 ^ 59) b0 → AreTame (2 ^ 60) b1
-tame_still a b by e0 b0 e1 b1 g s j = wider (block_at b1 j).whole (g.whole j (2 ^ 59) (s j))
-
--- the next place is where a block begins, or the last one
-pub next_block : (at to n : ℕ) → at ≡ at / BLOCK * BLOCK → (n ≡ BLOCK) ⊎ (n ≡ to - at) → at + n < to → at + n ≡ (at + n) / BLOCK * BLOCK
-next_block at to n e (inl m) h = omega (arith, e, m, h)
-next_block at to n e (inr m) h = omega (arith, e, m, h)
+-- the counts of the two blocks of a place are small together
+pub wholes_fit : (each : List ℤ) (blocks : List Block) (k : ℕ) → k < length each → AreSmall (2 ^ 60) each blocks
+    → SFits w64 ((block_at blocks (block_of k)).whole +ℤ (block_at blocks (wide_of k)).whole)
+wholes_fit each blocks k l s = fits (2 ^ 60 + 2 ^ 60) _ (omega arith)
+    (addend_up (2 ^ 60) (own_at each k) _ (s.own k l) (rw (grouped (own_at each k) (block_at blocks (block_of k)).whole _) at (s.count k l)))

@@ -11,9 +11,10 @@ use Rattle.dpl_cell.specs.Layers.{is_within}
 use Rattle.dpl_cell.proofs.BoxLemmas.{within_test, test_within}
 use Rattle.dpl_cover.specs.declared.blocks.Block.{Block}
 use Rattle.dpl_cover.specs.Columns.{column_at}
-use Rattle.dpl_cover.specs.Counts.{AreCounts, IsBeside, IsChange, IsUpTo, block_at, count_at, own_at}
+use Rattle.dpl_cover.specs.Counts.{AreCounts, AreSmall, IsBeside, IsChange, IsUnit, count_at}
 use Rattle.dpl_cover.specs.Tallies.{AreTallied, IsCountedMore, having, times}
 use Rattle.dpl_cover.specs.Covers.{IsCounted}
+use Rattle.dpl_cover.proofs.CountLemmas.{small_after, small_wider}
 
 -- ---- a number several times
 
@@ -55,18 +56,17 @@ pub box_counted : (columns : List ℤ) (r : Rect) (by : ℤ) (a b : ℕ) (e0 : L
     → length e0 ≡ length columns → ((k : ℕ) → k < a → column_at columns k <ℤ r.x1)
     → ((k : ℕ) → a ≤ k → k < length columns → r.x1 ≤ℤ column_at columns k)
     → ((k : ℕ) → k < b → column_at columns k <ℤ r.x2)
-    → ((k : ℕ) → b ≤ k → k < length columns → r.x2 ≤ℤ column_at columns k) → IsChange a b by e0 b0 e1 b1
+    → ((k : ℕ) → b ≤ k → k < length columns → r.x2 ≤ℤ column_at columns k) → IsUnit by → IsChange a b by e0 b0 e1 b1
     → IsCountedMore columns r by e0 b0 e1 b1
-box_counted columns r by a b e0 b0 e1 b1 long left from right to g = record {
+box_counted columns r by a b e0 b0 e1 b1 long left from right to u g = record {
   counts = g.counts;
   long = g.long;
-  inside = λ k l w. g.inside k (from_left k w) (up_to_right k (rw long at l) w);
-  beside = λ k l n. g.beside k l (elim (place_or_beside a b k) [
+  inside = λ k l w. g.count.inside k (from_left k w) (up_to_right k (rw long at l) w);
+  beside = λ k l n. g.count.beside k l (elim (place_or_beside a b k) [
     | inl i ↦ absurd (n (record { from = from k i.0 (rw long at l); to = right k i.1 }))
     | inr o ↦ o
   ]);
-  own = g.grown;
-  whole = g.whole;
+  grown = λ n s. small_after n a b by _ _ _ _ u g s;
 }
   where
     place_or_beside : (a b k : ℕ) → ((a ≤ k) × (k < b)) ⊎ IsBeside a b k
@@ -100,8 +100,7 @@ nothing_counted columns r by a b e bs long order left to counts = record {
     | inr h ↦ below _ _ w.to (to k (omega (arith, h, order)) (rw long at l))
   ]);
   beside = λ k l n. refl;
-  own = λ k n s. (omega (signed, s.0), omega (signed, s.1));
-  whole = λ j n s. (omega (signed, s.0), omega (signed, s.1));
+  grown = λ n s. small_wider n (n + 1) e bs (omega arith) s;
 }
   where
     less_or_not : (i j : ℕ) → (i < j) ⊎ (j ≤ i)
@@ -117,8 +116,7 @@ none_tallied columns by e bs counts = record {
   counts = counts;
   long = refl;
   same = λ k l. omega signed;
-  own = λ k n s. (omega (signed, s.0), omega (signed, s.1));
-  whole = λ j n s. (omega (signed, s.0), omega (signed, s.1));
+  grown = λ n s. small_wider n (n + 0) e bs (omega arith) s;
 }
 
 pub tallied_more : (columns : List ℤ) (by : ℤ) (boxes : List Rect) (i : ℕ) (r : Rect) (e0 : List ℤ)
@@ -129,8 +127,7 @@ tallied_more columns by boxes i r e0 b0 e1 b1 e2 b2 within is t m = record {
   counts = m.counts;
   long = m.long ∙ t.long;
   same = λ k l. one_more k l (within_or_not r.x1 r.x2 (column_at columns k));
-  own = λ k n s. subst (λ z. IsUpTo z (own_at e2 k)) (longer n) (m.own k (n + length (take i boxes)) (t.own k n s));
-  whole = λ j n s. subst (λ z. IsUpTo z (block_at b2 j).whole) (longer n) (m.whole j (n + length (take i boxes)) (t.whole j n s));
+  grown = λ n s. subst (λ z. AreSmall z e2 b2) (longer n) (m.grown (n + length (take i boxes)) (t.grown n s));
 }
   where
     longer : (n : ℕ) → n + length (take i boxes) + 1 ≡ n + length (take (i + 1) boxes)
@@ -171,10 +168,8 @@ both_counted columns up begun down closed e0 b0 e1 b1 e2 b2 s t c = record {
       (let p = times_add (pos 1) (having (column_at columns k) up) (having (column_at columns k) begun) in
       let q = times_add (neg_ℤ (pos 1)) (having (column_at columns k) down) (having (column_at columns k) closed) in
       omega (signed, a, b, d, p, q));
-  small = λ k. subst (λ z. IsUpTo z (own_at e2 k)) sizes
-      (t.own k (length up + length down + length begun) (s.own k (length up + length down) (c.small k)));
-  tame = λ j. subst (λ z. IsUpTo z (block_at b2 j).whole) sizes
-      (t.whole j (length up + length down + length begun) (s.whole j (length up + length down) (c.tame j)));
+  small = subst (λ z. AreSmall z e2 b2) sizes
+      (t.grown (length up + length down + length begun) (s.grown (length up + length down) c.small));
 }
   where
     having_both : (xs ys : List Rect) (k : ℕ) → having (column_at columns k) (xs ++ ys) ≡
@@ -183,8 +178,3 @@ both_counted columns up begun down closed e0 b0 e1 b1 e2 b2 s t c = record {
 
     sizes : length up + length down + length begun + length closed ≡ length (up ++ begun) + length (down ++ closed)
     sizes = let a = length-append up begun in let b = length-append down closed in omega (arith, a, b)
-
--- ---- bounds
-
-pub wider : (m n : ℕ) (z : ℤ) → m ≤ n → IsUpTo m z → IsUpTo n z
-wider m n z h s = (omega (signed, h, s.0), omega (signed, h, s.1))

@@ -8,7 +8,7 @@ use Rattle.dpl_list.specs.Order.{Ascends}
 use Rattle.dpl_cover.specs.declared.blocks.Block.{Block}
 use Rattle.dpl_cover.specs.declared.cover.Cover.{Cover}
 use Rattle.dpl_cover.specs.Columns.{AreColumns, column_at}
-use Rattle.dpl_cover.specs.Counts.{AreCounts, AreOwnSmall, AreTame, count_at}
+use Rattle.dpl_cover.specs.Counts.{AreCounts, AreSmall, count_at}
 use Rattle.dpl_cover.specs.Tallies.{having, times}
 
 -- the first n boxes have a key up to the row, and the others one beyond it
@@ -23,8 +23,7 @@ pub record IsCounted (columns each : List ℤ) (blocks : List Block) (up down : 
   pub long : length each ≡ length columns
   pub same : (k : ℕ) → k < length columns → count_at each blocks k ≡
       times (pos 1) (having (column_at columns k) up) +ℤ times (neg_ℤ (pos 1)) (having (column_at columns k) down)
-  pub small : AreOwnSmall (length up + length down) each
-  pub tame : AreTame (length up + length down) blocks
+  pub small : AreSmall (length up + length down) each blocks
 
 -- the row below all others
 abbrev pub least_row : ℤ

@@ -5,7 +5,7 @@ use Rattle.dpl_cell.specs.Cells.{IsWithin}
 use Rattle.dpl_cell.specs.Layers.{is_within}
 use Rattle.dpl_cover.specs.declared.blocks.Block.{Block}
 use Rattle.dpl_cover.specs.Columns.{column_at}
-use Rattle.dpl_cover.specs.Counts.{AreCounts, IsUpTo, block_at, count_at, own_at}
+use Rattle.dpl_cover.specs.Counts.{AreCounts, AreSmall, count_at}
 
 -- how many of the boxes have column x
 abbrev pub having : ℤ → List Rect → ℕ
@@ -25,8 +25,7 @@ pub record IsCountedMore (columns : List ℤ) (r : Rect) (by : ℤ) (each : List
       count_at each' blocks' k ≡ count_at each blocks k +ℤ by
   pub beside : (k : ℕ) → k < length each → ¬ IsWithin r.x1 r.x2 (column_at columns k) →
       count_at each' blocks' k ≡ count_at each blocks k
-  pub own : (k n : ℕ) → IsUpTo n (own_at each k) → IsUpTo (n + 1) (own_at each' k)
-  pub whole : (j n : ℕ) → IsUpTo n (block_at blocks j).whole → IsUpTo (n + 1) (block_at blocks' j).whole
+  pub grown : (n : ℕ) → AreSmall n each blocks → AreSmall (n + 1) each' blocks'
 
 -- it was added once for each box that has the place
 pub record AreTallied (columns : List ℤ) (by : ℤ) (boxes : List Rect) (each : List ℤ) (blocks : List Block)
@@ -35,6 +34,4 @@ pub record AreTallied (columns : List ℤ) (by : ℤ) (boxes : List Rect) (each 
   pub long : length each' ≡ length each
   pub same : (k : ℕ) → k < length each →
       count_at each' blocks' k ≡ count_at each blocks k +ℤ times by (having (column_at columns k) boxes)
-  pub own : (k n : ℕ) → IsUpTo n (own_at each k) → IsUpTo (n + length boxes) (own_at each' k)
-  pub whole : (j n : ℕ) → IsUpTo n (block_at blocks j).whole →
-      IsUpTo (n + length boxes) (block_at blocks' j).whole
+  pub grown : (n : ℕ) → AreSmall n each blocks → AreSmall (n + length boxes) each' blocks'

@@ -1,12 +1,55 @@
-// Places in blocks of one size.
+// Places in blocks of two sizes. They stand in one list, in which the blocks of a wide block follow it.
+ghost use Rattle.std.specs.Prelude.{◌≡◌};
+ghost use Rattle.dpl_cover.specs.Counts.{IsSpread, IsWider, block_of, wide_of};
 
-/// How many places a block has; the last may have fewer.
+/// How many places a block has, and how many blocks a wide block; the last may have fewer.
 pub const BLOCK: usize = 32;
 
-/// What is counted for all places of a block at once, and between which numbers their own counts lie.
+/// How many places a wide block has.
+pub const WIDE: usize = 1024;
+
+/// What is counted for all places of a block at once, and between which numbers lies what is counted for them besides.
 #[derive(Clone, Copy, Debug)]
 pub struct Block {
     pub whole: i64,
     pub low: i64,
     pub high: i64,
+}
+
+/// Where the block of a place stands.
+pub fn block_of(k: usize) -> usize
+    ensures { result ≡ block_of k }
+{
+    k / BLOCK + k / WIDE + 1
+}
+
+/// Where its wide block stands.
+pub fn wide_of(k: usize) -> usize
+    ensures { result ≡ wide_of k }
+{
+    k / WIDE * (BLOCK + 1)
+}
+
+/// Between which numbers lies what is counted for the places of a block, with what is counted for all of them.
+pub fn spread(block: &Block) -> Block
+    ensures { IsSpread result block.now }
+{
+    Block {
+        whole: 0,
+        low: block.whole.saturating_add(block.low),
+        high: block.whole.saturating_add(block.high),
+    }
+}
+
+/// Between which numbers lies what lies between those of one of two blocks; with the count of the first.
+pub fn joined(a: &Block, b: &Block) -> Block
+    ensures whole { result.whole ≡ a.now.whole }
+    ensures first { IsWider a.now result }
+    ensures second { IsWider b.now result }
+{
+    Block {
+        whole: a.whole,
+        low: a.low.min(b.low),
+        high: a.high.max(b.high),
+    }
 }

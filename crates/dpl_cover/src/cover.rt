@@ -3,11 +3,11 @@ ghost use Rattle.std.specs.Prelude.{◌≡◌, ◌≤◌, ◌^◌, ℤ, ◌++◌
 ghost use Rattle.dpl_cell.specs.declared.rect.Rect.{Rect};
 ghost use Rattle.dpl_list.specs.Order.{Ascends};
 ghost use Rattle.dpl_cover.specs.Columns.{AreRising};
-ghost use Rattle.dpl_cover.specs.Counts.{AreCounts, AreOwnSmall, AreTame, IsUnit};
+ghost use Rattle.dpl_cover.specs.Counts.{AreCounts, AreSmall, IsUnit};
 ghost use Rattle.dpl_cover.specs.Tallies.{IsCountedMore, AreTallied};
 ghost use Rattle.dpl_cover.specs.Covers.{IsCounted, IsPassed};
 
-use crate::blocks::{BLOCK, Block};
+use crate::blocks::{Block, block_of};
 use crate::columns::{columns_of, place_from};
 use crate::counts::change;
 use crate::parts::parts_in;
@@ -37,8 +37,7 @@ fn count_box(columns: &[i64], each: &mut [i64], blocks: &mut [Block], r: &Rect, 
     requires long { length each.old ≡ length columns.now }
     requires one { IsUnit by }
     requires counts { AreCounts each.old blocks.old }
-    requires small { AreOwnSmall (2 ^ 59) each.old }
-    requires tame { AreTame (2 ^ 59) blocks.old }
+    requires small { AreSmall (2 ^ 58) each.old blocks.old }
     ensures { IsCountedMore columns.now r.now by each.old blocks.old each.new blocks.new }
 {
     let from = place_from(columns, r.x1);
@@ -54,8 +53,7 @@ fn count_all(columns: &[i64], each: &mut [i64], blocks: &mut [Block], boxes: &[R
     requires long { length each.old ≡ length columns.now }
     requires one { IsUnit by }
     requires counts { AreCounts each.old blocks.old }
-    requires small { AreOwnSmall (2 ^ 58) each.old }
-    requires tame { AreTame (2 ^ 58) blocks.old }
+    requires small { AreSmall (2 ^ 57) each.old blocks.old }
     requires few { length boxes.now ≤ 2 ^ 41 }
     ensures { AreTallied columns.now by boxes.now each.old blocks.old each.new blocks.new }
 {
@@ -75,8 +73,7 @@ fn count_both(
     requires columns { AreRising columns.now }
     requires long { length each.old ≡ length columns.now }
     requires counts { AreCounts each.old blocks.old }
-    requires small { AreOwnSmall (2 ^ 57) each.old }
-    requires tame { AreTame (2 ^ 57) blocks.old }
+    requires small { AreSmall (2 ^ 56) each.old blocks.old }
     requires few { length begun.now ≤ 2 ^ 41 }
     requires few_closed { length closed.now ≤ 2 ^ 41 }
     ensures { (up down : List Rect) → IsCounted columns.now each.old blocks.old up down →
@@ -122,7 +119,7 @@ fn blank(alloc: Global, places: usize) -> Result<(Vec<i64>, Vec<Block>), AllocEr
         low: 0,
         high: 0,
     };
-    let blocks = vec![in alloc; block; places / BLOCK + 1]?;
+    let blocks = vec![in alloc; block; block_of(places) + 1]?;
     Ok((each, blocks))
 }
 

@@ -4,7 +4,7 @@ ghost use Rattle.dpl_cell.specs.Layers.{is_within};
 ghost use Rattle.dpl_cell.specs.Ranges.{IsInRange};
 ghost use Rattle.dpl_cell.specs.Stretches.{is_in_stretches};
 ghost use Rattle.dpl_cover.specs.Columns.{AreRising, IsAt, column_at};
-ghost use Rattle.dpl_cover.specs.Counts.{AreCounts, AreOwnSmall, AreTame, is_counted};
+ghost use Rattle.dpl_cover.specs.Counts.{AreCounts, AreSmall, is_counted};
 ghost use Rattle.dpl_cover.specs.Parts.{HasCounted};
 
 use crate::blocks::Block;
@@ -27,8 +27,7 @@ pub fn parts_in(
     requires range { All IsInRange columns.now }
     requires long { length each.now ≡ length columns.now }
     requires counts { AreCounts each.now blocks.now }
-    requires small { AreOwnSmall (2 ^ 60) each.now }
-    requires tame { AreTame (2 ^ 60) blocks.now }
+    requires small { AreSmall (2 ^ 60) each.now blocks.now }
     requires last { (k : ℕ) → k + 1 ≡ length columns.now → is_counted each.now blocks.now k ≡ false }
     ensures sound { IfOk result (λ v. (x : ℤ) → is_in_stretches v.items x ≡ true →
         HasCounted columns.now each.now blocks.now x) }

@@ -1,5 +1,4 @@
-use Rattle.std.proofs.Common.{◌≡◌, ◌≤◌, ◌<◌, ◌*◌, ◌/◌, ◌-◌}
-use Rattle.dpl_cover.specs.declared.blocks.TheConstants.{BLOCK}
+use Rattle.std.proofs.Common.{◌≤◌, ◌-◌}
 use Rattle.dpl_cover.specs.Counts.{IsChange}
 use Rattle.dpl_cover.proofs.counts.change.Given as goal
 
@@ -8,7 +7,6 @@ invariant-loop-at l = record {
   changed : IsChange l.from l.at l.by l.fn.each l.fn.blocks l.each l.blocks;
   order : l.from ≤ l.at;
   within : l.at ≤ l.to;
-  whole : l.at < l.to → l.at ≡ l.at / BLOCK * BLOCK;
 }
 
 abbrev pub decreases-loop-at : goal.decreases-loop-at

@@ -1,22 +1,17 @@
 use Rattle.std.proofs.Common.{arith, rules, ◌≤◌, ◌+◌, ◌^◌, length, take, SFits, w64}
 use Rattle.std.proofs.lemmas.Int.{to_z-of_z}
-use Rattle.dpl_cover.proofs.TallyLemmas.{none_tallied, tallied_more, all_tallied, wider}
+use Rattle.dpl_cover.proofs.CountLemmas.{small_wider}
+use Rattle.dpl_cover.proofs.TallyLemmas.{none_tallied, tallied_more, all_tallied}
 use Rattle.dpl_cover.proofs.cover.count_all.Goals as goal
 
 pub loop-r-init : goal.loop-r-init
 loop-r-init c = none_tallied _ _ _ _ c.requires.counts
 
 pub count_box-requires-clause-small : goal.count_box-requires-clause-small
-count_box-requires-clause-small c = λ k.
+count_box-requires-clause-small c =
     let n : length (take c.loop-r.r-index c.args.boxes.now) ≤ 2 ^ 41 = search rules in
-    wider (2 ^ 58 + length (take c.loop-r.r-index c.args.boxes.now)) (2 ^ 59) _ (omega (arith, n))
-    (c.loop-r.invariant.own k (2 ^ 58) (c.requires.small k))
-
-pub count_box-requires-clause-tame : goal.count_box-requires-clause-tame
-count_box-requires-clause-tame c = λ j.
-    let n : length (take c.loop-r.r-index c.args.boxes.now) ≤ 2 ^ 41 = search rules in
-    wider (2 ^ 58 + length (take c.loop-r.r-index c.args.boxes.now)) (2 ^ 59) _ (omega (arith, n))
-    (c.loop-r.invariant.whole j (2 ^ 58) (c.requires.tame j))
+    small_wider (2 ^ 57 + length (take c.loop-r.r-index c.args.boxes.now)) (2 ^ 58) _ _ (omega (arith, n))
+    (c.loop-r.invariant.grown (2 ^ 57) c.requires.small)
 
 pub loop-r-preserved : goal.loop-r-preserved
 loop-r-preserved c =

@@ -1,6 +1,6 @@
 use Rattle.std.proofs.Common.{arith, rules, ◌≡◌, ◌+◌, ◌++◌, ◌^◌, length, take, drop, SFits, w64}
 use Rattle.std.proofs.lemmas.Int.{to_z-of_z}
-use Rattle.dpl_cover.proofs.TallyLemmas.{wider}
+use Rattle.dpl_cover.proofs.CountLemmas.{small_wider}
 use Rattle.dpl_cover.proofs.CoverLemmas.{passed_more, few_counted, few_between, all_few}
 use Rattle.dpl_list.proofs.Lists.{refilled}
 use Rattle.dpl_cover.proofs.cover.Cover.rise.Goals as goal
@@ -18,16 +18,9 @@ between-closed-requires-clause-order c =
     (rw c.as_slice-2.ensures.value at (simp to_z-of_z at c.closed_at-ended.ensures))
 
 pub count_both-requires-clause-small : goal.count_both-requires-clause-small
-count_both-requires-clause-small c = λ k.
+count_both-requires-clause-small c =
     let n = few_counted c.args.self.now c.requires.cover in
-    rw c.as_mut_slice.ensures.value (wider (length (take c.args.self.now.began c.args.self.now.begins.items)
-    + length (take c.args.self.now.ended c.args.self.now.ends.items)) (2 ^ 57) _ (omega (arith, n)) (c.requires.cover.counted.small k))
-
-pub count_both-requires-clause-tame : goal.count_both-requires-clause-tame
-count_both-requires-clause-tame c = λ j.
-    let n = few_counted c.args.self.now c.requires.cover in
-    rw c.as_mut_slice-2.ensures.value (wider (length (take c.args.self.now.began c.args.self.now.begins.items)
-    + length (take c.args.self.now.ended c.args.self.now.ends.items)) (2 ^ 57) _ (omega (arith, n)) (c.requires.cover.counted.tame j))
+    rw (c.as_mut_slice.ensures.value, c.as_mut_slice-2.ensures.value) (small_wider _ (2 ^ 56) _ _ (omega (arith, n)) c.requires.cover.counted.small)
 
 pub count_both-requires-clause-few : goal.count_both-requires-clause-few
 count_both-requires-clause-few c =

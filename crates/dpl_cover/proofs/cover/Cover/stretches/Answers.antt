@@ -1,21 +1,14 @@
 use Rattle.std.proofs.Common.{arith, ◌+◌, ◌^◌, length, take, SFits, w64}
 use Rattle.std.proofs.lemmas.Int.{to_z-of_z}
-use Rattle.dpl_cover.proofs.TallyLemmas.{wider}
+use Rattle.dpl_cover.proofs.CountLemmas.{small_wider}
 use Rattle.dpl_cover.proofs.CoverLemmas.{few_counted}
 use Rattle.dpl_cover.proofs.RowLemmas.{counted_covers, covered_counts, last_uncounted}
 use Rattle.dpl_cover.proofs.cover.Cover.stretches.Goals as goal
 
 pub parts_in-requires-clause-small : goal.parts_in-requires-clause-small
-parts_in-requires-clause-small c = λ k.
+parts_in-requires-clause-small c =
     let n = few_counted c.args.self.now c.requires in
-    rw c.as_slice-2.ensures.value (wider (length (take c.args.self.now.began c.args.self.now.begins.items)
-    + length (take c.args.self.now.ended c.args.self.now.ends.items)) (2 ^ 60) _ (omega (arith, n)) (c.requires.counted.small k))
-
-pub parts_in-requires-clause-tame : goal.parts_in-requires-clause-tame
-parts_in-requires-clause-tame c = λ j.
-    let n = few_counted c.args.self.now c.requires in
-    rw c.as_slice-3.ensures.value (wider (length (take c.args.self.now.began c.args.self.now.begins.items)
-    + length (take c.args.self.now.ended c.args.self.now.ends.items)) (2 ^ 60) _ (omega (arith, n)) (c.requires.counted.tame j))
+    rw (c.as_slice-2.ensures.value, c.as_slice-3.ensures.value) (small_wider _ (2 ^ 60) _ _ (omega (arith, n)) c.requires.counted.small)
 
 pub parts_in-requires-clause-last : goal.parts_in-requires-clause-last
 parts_in-requires-clause-last c = rw (c.as_slice.ensures.value, c.as_slice-2.ensures.value, c.as_slice-3.ensures.value)
