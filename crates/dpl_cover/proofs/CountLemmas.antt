@@ -7,8 +7,8 @@ use Rattle.std.proofs.lemmas.Int.{ints}
 use Rattle.dpl_list.proofs.Integers.{signed}
 use Rattle.dpl_cover.specs.declared.blocks.TheConstants.{BLOCK, WIDE}
 use Rattle.dpl_cover.specs.declared.blocks.Block.{Block}
-use Rattle.dpl_cover.specs.Counts.{AreCounts, AreParts, AreSmall, AreUpTo, IsAdded, IsAlike, IsBeside, IsBetween, IsChange, IsFit, IsKept, IsNear, IsPartChange}
-use Rattle.dpl_cover.specs.Counts.{IsRenewed, IsSpread, IsWholeGrown, IsUpTo, IsUnit, IsWider, block_at, block_of, count_at, is_counted, own_at, part_at, wide_of}
+use Rattle.dpl_cover.specs.Counts.{AreCounts, AreParts, AreSmall, AreUpTo, HasWithin, IsAdded, IsAlike, IsBeside, IsBetween, IsChange, IsFit, IsKept, IsNear, IsPartChange}
+use Rattle.dpl_cover.specs.Counts.{IsRenewed, IsWholeGrown, IsUpTo, IsUnit, IsWider, block_at, block_of, count_at, is_counted, no_block, own_at, part_at, wide_of}
 
 pub less_or_not : (i j : ℕ) → (i < j) ⊎ (j ≤ i)
 less_or_not i j = search arith
@@ -132,6 +132,9 @@ near_wide k = omega arith
 
 -- ---- blocks of places
 
+grouped : (x y z : ℤ) → x +ℤ y +ℤ z ≡ x +ℤ (y +ℤ z)
+grouped x y z = omega signed
+
 kept_parts : (b : ℕ) (each : List ℤ) (blocks blocks' : List Block) (k : ℕ) → IsKept b blocks blocks'
     → part_at each blocks' k ≡ part_at each blocks k
 kept_parts b each blocks blocks' k t = ap (λ z. own_at each k +ℤ z) (kept_whole b blocks blocks' (block_of k) t)
@@ -142,16 +145,32 @@ kept_parts b each blocks blocks' k t = ap (λ z. own_at each k +ℤ z) (kept_who
       | inr n ↦ ap (λ (z : Block). z.whole) (t.others j n)
     ]
 
+pub whole_grown : (b : ℕ) (by : ℤ) (blocks : List Block) (new : Block) → b < length blocks → new.whole ≡ (block_at blocks b).whole +ℤ by
+    → HasWithin by (block_at blocks b) new → IsWholeGrown b by blocks (set blocks b new)
+whole_grown b by blocks new within whole between = record {
+  long = length-set blocks b new;
+  whole = rw (get_or-set_same blocks b new no_block within) whole;
+  between = rw (get_or-set_same blocks b new no_block within) between;
+  others = λ j n. get_or-set_other blocks b j new no_block n;
+}
+
+-- what lay between the numbers of a block, where its count was added to
+raised_between : (x y by : ℤ) (old new : Block) → IsUnit by → IsUpTo (2 ^ 60) (x +ℤ y) → HasWithin by old new
+    → IsBetween old (x +ℤ y) → IsBetween new (x +ℤ (y +ℤ by))
+raised_between x y by old new u s g t = subst (IsBetween new) (grouped x y by)
+    (g (x +ℤ y) (wider (2 ^ 60 + 1) (2 ^ 62) _ (omega arith) (up_by_unit (2 ^ 60) (x +ℤ y) _ by u refl s)) t)
+
 -- a whole block was counted once more or less
-pub block_changed : (a c : ℕ) (by : ℤ) (each : List ℤ) (blocks blocks' : List Block) → a ≡ a / BLOCK * BLOCK
+pub block_changed : (a c : ℕ) (by : ℤ) (each : List ℤ) (blocks blocks' : List Block) → IsUnit by → a ≡ a / BLOCK * BLOCK
     → c ≤ a / BLOCK * BLOCK + BLOCK → (c ≡ a / BLOCK * BLOCK + BLOCK) ⊎ (c ≡ length each)
-    → AreParts each blocks → IsWholeGrown (block_of a) by blocks blocks' → IsPartChange a c by each blocks each blocks'
-block_changed a c by each blocks blocks' start end full parts g = record {
+    → AreParts each blocks → AreUpTo (2 ^ 60) (length each) (part_at each blocks) → IsWholeGrown (block_of a) by blocks blocks' → IsPartChange a c by each blocks each blocks'
+block_changed a c by each blocks blocks' u start end full parts small g = record {
   parts = record {
     enough = λ k l. rw g.long (parts.enough k l);
-    own = λ k l. elim (same_or_not (block_of k) (block_of a)) [
-      | inl e ↦ let s = parts.own k l in record { low = rw (e, g.low) (rw e at s.low); high = rw (e, g.high) (rw e at s.high) }
-      | inr n ↦ rw (g.others (block_of k) n) (parts.own k l)
+    part = λ k l. elim (same_or_not (block_of k) (block_of a)) [
+      | inl e ↦ rw (e, g.whole) (raised_between (own_at each k) _ by (block_at blocks (block_of a)) (block_at blocks' (block_of a)) u
+          (rw e at (small k l)) g.between (rw e at (parts.part k l)))
+      | inr n ↦ rw (g.others (block_of k) n) (parts.part k l)
     ];
   };
   long = refl;
@@ -174,14 +193,15 @@ block_changed a c by each blocks blocks' start end full parts g = record {
 -- the own counts of some places of a block were changed, and its numbers looked up again
 pub places_changed : (a c d : ℕ) (by : ℤ) (each each' : List ℤ) (blocks blocks' : List Block) → IsUnit by
     → c ≤ d → d ≤ a / BLOCK * BLOCK + BLOCK → (d ≡ a / BLOCK * BLOCK + BLOCK) ⊎ (d ≡ length each)
-    → AreParts each blocks → length each' ≡ length each → IsAdded (length each) a c by (own_at each) (own_at each')
+    → AreParts each blocks → AreUpTo (2 ^ 60) (length each) (part_at each blocks) → length each' ≡ length each → IsAdded (length each) a c by (own_at each) (own_at each')
     → IsRenewed (block_of a) (a / BLOCK * BLOCK) d each' blocks blocks' → IsPartChange a c by each blocks each' blocks'
-places_changed a c d by each each' blocks blocks' u to up full parts long g r = record {
+places_changed a c d by each each' blocks blocks' u to up full parts small long g r = record {
   parts = record {
     enough = λ k l. rw r.kept.long (parts.enough k (rw long at l));
-    own = λ k l. elim (place_or_beside (a / BLOCK * BLOCK) (a / BLOCK * BLOCK + BLOCK) k) [
-      | inl i ↦ rw (same_block a k i.0 i.1) (r.own k i.0 (elim full [ inl f ↦ rw f i.1 | inr f ↦ rw f (rw long at l) ]))
-      | inr o ↦ rw (r.kept.others (block_of k) (other_block a k o), g.beside k (rw long at l) (elsewhere k o)) (parts.own k (rw long at l))
+    part = λ k l. elim (place_or_beside (a / BLOCK * BLOCK) (a / BLOCK * BLOCK + BLOCK) k) [
+      | inl i ↦ let e = same_block a k i.0 i.1 in
+          rw (e, r.kept.whole) (r.between k i.0 (elim full [ inl f ↦ rw f i.1 | inr f ↦ rw f (rw long at l) ]) (rw e at (small_now k (rw long at l))))
+      | inr o ↦ rw (r.kept.others (block_of k) (other_block a k o), g.beside k (rw long at l) (elsewhere k o)) (parts.part k (rw long at l))
     ];
   };
   long = long;
@@ -193,6 +213,15 @@ places_changed a c d by each each' blocks blocks' u to up full parts long g r = 
   wide = λ k. r.kept.others (wide_of k) (λ e. block_or_wide a k (sym e));
 }
   where
+    added : IsAdded (length each) a c by (part_at each blocks) (part_at each' blocks)
+    added = record {
+      inside = λ k l h. omega (signed, g.inside k l h);
+      beside = λ k l o. omega (signed, g.beside k l o);
+    }
+
+    small_now : (k : ℕ) → k < length each → IsUpTo (2 ^ 62) (part_at each' blocks k)
+    small_now k l = wider (2 ^ 60 + 1) (2 ^ 62) _ (omega arith) ((near_added _ a c by _ _ u added).grown k (2 ^ 60) l (small k l))
+
     elsewhere : (k : ℕ) → IsBeside (a / BLOCK * BLOCK) (a / BLOCK * BLOCK + BLOCK) k → IsBeside a c k
     elsewhere k (inl h) = inl (omega (arith, h, block_from a))
     elsewhere k (inr h) = inr (omega (arith, h, to, up))
@@ -222,15 +251,16 @@ joined_parts a m c by e0 b0 e1 b1 e2 b2 low high top first second = record {
 -- a whole wide block was counted once more or less
 pub wide_changed : (a c : ℕ) (by : ℤ) (each : List ℤ) (blocks blocks' : List Block) → IsUnit by → a ≡ a / WIDE * WIDE
     → c ≤ a / WIDE * WIDE + WIDE → (c ≡ a / WIDE * WIDE + WIDE) ⊎ (c ≡ length each)
-    → AreCounts each blocks → IsWholeGrown (wide_of a) by blocks blocks' → IsChange a c by each blocks each blocks'
-wide_changed a c by each blocks blocks' u start end full counts g = record {
+    → AreCounts each blocks → AreUpTo (2 ^ 60) (length each) (count_at each blocks) → IsWholeGrown (wide_of a) by blocks blocks' → IsChange a c by each blocks each blocks'
+wide_changed a c by each blocks blocks' u start end full counts small g = record {
   counts = record {
     parts = record {
       enough = λ k l. rw g.long (counts.parts.enough k l);
-      own = λ k l. rw (same k) (counts.parts.own k l);
+      part = λ k l. rw (same k) (counts.parts.part k l);
     };
     wide = λ k l. rw (same k) (elim (same_or_not (wide_of k) (wide_of a)) [
-      | inl e ↦ let s = counts.wide k l in record { low = rw (e, g.low) (rw e at s.low); high = rw (e, g.high) (rw e at s.high) }
+      | inl e ↦ rw (e, g.whole) (raised_between (part_at each blocks k) _ by (block_at blocks (wide_of a)) (block_at blocks' (wide_of a)) u
+          (rw e at (small k l)) g.between (rw e at (counts.wide k l)))
       | inr n ↦ rw (g.others (wide_of k) n) (counts.wide k l)
     ]);
   };
@@ -254,9 +284,17 @@ wide_changed a c by each blocks blocks' u start end full counts g = record {
     same : (k : ℕ) → block_at blocks' (block_of k) ≡ block_at blocks (block_of k)
     same k = g.others (block_of k) (block_or_wide k a)
 
+-- what was added in blocks was added to the counts
+pub parts_counted : (a c : ℕ) (by : ℤ) (e0 : List ℤ) (b0 : List Block) (e1 : List ℤ) (b1 : List Block) → IsPartChange a c by e0 b0 e1 b1
+    → IsAdded (length e0) a c by (count_at e0 b0) (count_at e1 b1)
+parts_counted a c by e0 b0 e1 b1 g = record {
+  inside = λ k l h. rw (g.wide k) (omega (signed, g.part.inside k l h));
+  beside = λ k l o. rw (g.wide k) (omega (signed, g.part.beside k l o));
+}
+
 -- the counts of some places of a wide block were changed, and its numbers fitted
 pub parts_changed : (a c d : ℕ) (by : ℤ) (e0 : List ℤ) (b0 : List Block) (e1 : List ℤ) (b1 b2 : List Block) → IsUnit by
-    → a < c → c ≤ a / WIDE * WIDE + WIDE → d ≡ c - 1 → AreCounts e0 b0 → AreUpTo (2 ^ 62) (length e1) (part_at e1 b1)
+    → a < c → c ≤ a / WIDE * WIDE + WIDE → d ≡ c - 1 → AreCounts e0 b0 → AreUpTo (2 ^ 62) (length e1) (count_at e1 b1)
     → IsPartChange a c by e0 b0 e1 b1 → (now : Block) → IsFit (wide_of a) (block_of a) (block_of d + 1) b1 now
     → IsKept (wide_of a) b1 b2 → (block_at b2 (wide_of a)).low ≡ now.low → (block_at b2 (wide_of a)).high ≡ now.high
     → IsChange a c by e0 b0 e1 b2
@@ -264,15 +302,15 @@ parts_changed a c d by e0 b0 e1 b1 b2 u order up last counts small g now fit kep
   counts = record {
     parts = record {
       enough = λ k l. rw kept.long (g.parts.enough k l);
-      own = λ k l. rw (same k) (g.parts.own k l);
+      part = λ k l. rw (same k) (g.parts.part k l);
     };
     wide = λ k l. rw (same k) (elim (same_or_not (wide_of k) (wide_of a)) [
-      | inl e ↦ rw e (fitted (part_at e1 b1 k) (elim (fit (block_of k) (rw e at (behind_wide k)) (rw e at (near_wide k)) (g.parts.enough k l)) [
-        | inl s ↦ s (own_at e1 k) (g.parts.own k l) (small k l)
+      | inl e ↦ rw (e, kept.whole) (fitted _ (elim (fit (block_of k) (rw e at (behind_wide k)) (rw e at (near_wide k)) (g.parts.enough k l)) [
+        | inl s ↦ s (part_at e1 b1 k) (rw e at (small k l)) (g.parts.part k l)
         | inr o ↦ let s = rw e at (counts.wide k (rw g.long at l)) in
             let w : IsWider (block_at b0 (wide_of a)) now = rw (g.wide a) at o.1 in
-            let p = g.part.beside k (rw g.long at l) (elsewhere k o.0) in
-            record { low = omega (signed, p, s.low, w.low); high = omega (signed, p, s.high, w.high) }
+            let p = g.part.beside k (rw g.long at l) (elsewhere k o.0) in let v = ap (λ (z : Block). z.whole) (g.wide a) in
+            record { low = omega (signed, p, v, s.low, w.low); high = omega (signed, p, v, s.high, w.high) }
       ]))
       | inr n ↦ rw (kept.others (wide_of k) n, g.wide k, g.part.beside k (rw g.long at l) (outside k n)) (counts.wide k (rw g.long at l))
     ]);
@@ -361,29 +399,45 @@ addend_up n z y s t = (omega (signed, s.0, t.1, s.1, t.0), omega (signed, s.0, t
 pub fits : (n : ℕ) (z : ℤ) → n ≤ 2 ^ 62 → IsUpTo n z → SFits w64 z
 fits n z h s = search (arith, ints, h)
 
--- ---- what blocks spread over
+-- ---- numbers of several blocks
 
-pub spread_still : (old new block : Block) → IsWider old new → IsSpread old block → IsSpread new block
-spread_still old new block w s z i t = let r = s z i t in
-    record { low = omega (signed, w.low, r.low); high = omega (signed, w.high, r.high) }
+pub wider_still : (a b c : Block) → IsWider a b → IsWider b c → IsWider a c
+wider_still a b c s t = record { low = omega (signed, s.low, t.low); high = omega (signed, s.high, t.high) }
 
-pub spread_more : (blocks : List Block) (from j : ℕ) (all more new : Block) → IsWider all new → IsWider more new
-    → ((i : ℕ) → from ≤ i → i < j → IsSpread all (block_at blocks i)) → IsSpread more (block_at blocks j)
-    → (i : ℕ) → from ≤ i → i < j + 1 → IsSpread new (block_at blocks i)
-spread_more blocks from j all more new w v before last i l h = elim (less_or_not i j) [
-  | inl m ↦ spread_still all new (block_at blocks i) w (before i l m)
-  | inr m ↦ let e : j ≡ i = omega (arith, h, m) in spread_still more new (block_at blocks i) v (rw e at last)
+pub wider_itself : (a : Block) → IsWider a a
+wider_itself a = record { low = omega signed; high = omega signed }
+
+pub joined_first : (blocks : List Block) (from i : ℕ) → from ≤ i → i < from + 1 → IsWider (block_at blocks i) (block_at blocks from)
+joined_first blocks from i l h = let e : i ≡ from = omega (arith, l, h) in rw e (wider_itself (block_at blocks from))
+
+pub joined_more : (blocks : List Block) (from j : ℕ) (all new : Block) → IsWider all new → IsWider (block_at blocks j) new
+    → ((i : ℕ) → from ≤ i → i < j → IsWider (block_at blocks i) all) → (i : ℕ) → from ≤ i → i < j + 1
+    → IsWider (block_at blocks i) new
+joined_more blocks from j all new w v before i l h = elim (less_or_not i j) [
+  | inl m ↦ wider_still (block_at blocks i) all new (before i l m) w
+  | inr m ↦ let e : i ≡ j = omega (arith, h, m) in rw e v
 ]
 
-pub spread_first : (blocks : List Block) (from : ℕ) (all : Block) → IsSpread all (block_at blocks from)
-    → (i : ℕ) → from ≤ i → i < from + 1 → IsSpread all (block_at blocks i)
-spread_first blocks from all s i l h = let e : from ≡ i = omega (arith, l, h) in rw e at s
+pub raised_wider : (count : ℤ) (block all now : Block) → IsWider block all → HasWithin count all now → HasWithin count block now
+raised_wider count block all now w g z t s = g z t (record { low = omega (signed, w.low, s.low); high = omega (signed, w.high, s.high) })
+
+within_wider : (count : ℤ) (block now new : Block) → HasWithin count block now → IsWider now new → HasWithin count block new
+within_wider count block now new g w z t s = let r = g z t s in
+    record { low = omega (signed, w.low, r.low); high = omega (signed, w.high, r.high) }
+
+-- all blocks of a wide block were looked up
+pub all_fit : (w a c end : ℕ) (blocks : List Block) (all now : Block) → (end ≡ length blocks) ⊎ (end ≡ w + 1 + BLOCK)
+    → ((j : ℕ) → w + 1 ≤ j → j < end → IsWider (block_at blocks j) all) → HasWithin (block_at blocks w).whole all now
+    → IsFit w a c blocks now
+all_fit w a c end blocks all now e each g j l h n = inl (raised_wider _ (block_at blocks j) all now
+    (each j (omega (arith, l)) (elim e [ inl f ↦ omega (arith, f, n) | inr f ↦ omega (arith, f, h) ])) g)
 
 -- those beside the changed ones lie where they did, and the changed ones between the numbers that were looked up
-pub loosely_fit : (w a c : ℕ) (blocks : List Block) (changed now : Block) → IsWider (block_at blocks w) now → IsWider changed now
-    → ((j : ℕ) → a ≤ j → j < c → IsSpread changed (block_at blocks j)) → IsFit w a c blocks now
-loosely_fit w a c blocks changed now old more all j l h n = elim (place_or_beside a c j) [
-  | inl i ↦ inl (spread_still changed now (block_at blocks j) more (all j i.0 i.1))
+pub loosely_fit : (w a c : ℕ) (blocks : List Block) (all changed now : Block) → IsWider (block_at blocks w) now → IsWider changed now
+    → HasWithin (block_at blocks w).whole all changed → ((j : ℕ) → a ≤ j → j < c → IsWider (block_at blocks j) all)
+    → IsFit w a c blocks now
+loosely_fit w a c blocks all changed now old more g each j l h n = elim (place_or_beside a c j) [
+  | inl i ↦ inl (within_wider _ (block_at blocks j) changed now (raised_wider _ (block_at blocks j) all changed (each j i.0 i.1) g) more)
   | inr o ↦ inr (o, old)
 ]
 
@@ -396,36 +450,35 @@ cut_above : (z y : ℤ) → y ≤ℤ z → IsUpTo (2 ^ 62) y → y ≤ℤ satura
 cut_above (pos n) y h s = omega (signed, h, s.0, s.1)
 cut_above (negsuc n) y h s = omega (signed, h, s.0, s.1)
 
-pub spread_cut : (block all : Block) → all.low ≡ saturate_signed w64 (block.whole +ℤ block.low)
-    → all.high ≡ saturate_signed w64 (block.whole +ℤ block.high) → IsSpread all block
-spread_cut block all low high z s t = record {
+pub cut_within : (count : ℤ) (block now : Block) → now.low ≡ saturate_signed w64 (block.low +ℤ count)
+    → now.high ≡ saturate_signed w64 (block.high +ℤ count) → HasWithin count block now
+cut_within count block now low high z t s = record {
   low = rw low (cut_below _ _ (omega (signed, s.low)) t);
   high = rw high (cut_above _ _ (omega (signed, s.high)) t);
 }
 
 -- ---- places that are alike
 
-grouped : (x y z : ℤ) → x +ℤ y +ℤ z ≡ x +ℤ (y +ℤ z)
-grouped x y z = omega signed
+not_more : (z : ℤ) → z ≡ z +ℤ pos 0
+not_more z = omega signed
 
 -- those of a wide block, or of a block
 pub wide_alike : (each : List ℤ) (blocks : List Block) (at to : ℕ) (counted : Bool) → AreCounts each blocks → at < to
     → to ≤ length each → to ≤ at / WIDE * WIDE + WIDE
-    → ((z : ℤ) → (block_at blocks (wide_of at)).low ≤ℤ z → z ≤ℤ (block_at blocks (wide_of at)).high
-        → int_lt (pos 0) (z +ℤ (block_at blocks (wide_of at)).whole) ≡ counted)
+    → ((z : ℤ) → IsBetween (block_at blocks (wide_of at)) z → int_lt (pos 0) (z +ℤ pos 0) ≡ counted)
     → IsAlike each blocks at (record { to = to; counted = counted })
 wide_alike each blocks at to counted counts further within up sign = record {
   further = further;
   within = within;
   same = λ k l h.
       let e = same_wide at k (omega (arith, l, wide_from at)) (omega (arith, h, up)) in
-      let s = counts.wide k (omega (arith, h, within)) in rw e (sign _ (rw e at s.low) (rw e at s.high));
+      ap (λ z. int_lt (pos 0) z) (not_more (count_at each blocks k)) ∙ sign (count_at each blocks k)
+      (subst (λ w. IsBetween (block_at blocks w) (count_at each blocks k)) e (counts.wide k (omega (arith, h, within))));
 }
 
 pub block_alike : (each : List ℤ) (blocks : List Block) (at to : ℕ) (counted : Bool) → AreCounts each blocks → at < to
     → to ≤ length each → to ≤ at / BLOCK * BLOCK + BLOCK
-    → ((z : ℤ) → (block_at blocks (block_of at)).low ≤ℤ z → z ≤ℤ (block_at blocks (block_of at)).high
-        → int_lt (pos 0) (z +ℤ ((block_at blocks (block_of at)).whole +ℤ (block_at blocks (wide_of at)).whole)) ≡ counted)
+    → ((z : ℤ) → IsBetween (block_at blocks (block_of at)) z → int_lt (pos 0) (z +ℤ (block_at blocks (wide_of at)).whole) ≡ counted)
     → IsAlike each blocks at (record { to = to; counted = counted })
 block_alike each blocks at to counted counts further within up sign = record {
   further = further;
@@ -433,9 +486,7 @@ block_alike each blocks at to counted counts further within up sign = record {
   same = λ k l h.
       let from : at / BLOCK * BLOCK ≤ k = omega (arith, l, block_from at) in let below : k < at / BLOCK * BLOCK + BLOCK = omega (arith, h, up) in
       let b = same_block at k from below in let w : wide_of k ≡ wide_of at = wide_of_block at k from below in
-      let s = counts.parts.own k (omega (arith, h, within)) in
-      rw (b, w) (ap (λ z. int_lt (pos 0) z) (grouped (own_at each k) (block_at blocks (block_of at)).whole (block_at blocks (wide_of at)).whole) ∙
-      sign _ (rw b at s.low) (rw b at s.high));
+      rw w (sign (part_at each blocks k) (subst (λ j. IsBetween (block_at blocks j) (part_at each blocks k)) b (counts.parts.part k (omega (arith, h, within)))));
 }
   where
     wide_of_block : (a k : ℕ) → a / BLOCK * BLOCK ≤ k → k < a / BLOCK * BLOCK + BLOCK → wide_of k ≡ wide_of a
@@ -453,8 +504,6 @@ alike_after_one each blocks at to counted further within one others = record {
   ];
 }
 
--- the counts of the two blocks of a place are small together
-pub wholes_fit : (each : List ℤ) (blocks : List Block) (k : ℕ) → k < length each → AreSmall (2 ^ 60) each blocks
-    → SFits w64 ((block_at blocks (block_of k)).whole +ℤ (block_at blocks (wide_of k)).whole)
-wholes_fit each blocks k l s = fits (2 ^ 60 + 2 ^ 60) _ (omega arith)
-    (addend_up (2 ^ 60) (own_at each k) _ (s.own k l) (rw (grouped (own_at each k) (block_at blocks (block_of k)).whole _) at (s.count k l)))
+pub whole_fits : (z by : ℤ) → IsUnit by → IsUpTo (2 ^ 62) z → SFits w64 (z +ℤ by)
+whole_fits z by (inl u) s = rw u (search (arith, ints))
+whole_fits z by (inr u) s = rw u (search (arith, ints))

@@ -70,21 +70,20 @@ pub record IsBetween (block : Block) (z : ℤ) : Type 0 where
   pub low : block.low ≤ℤ z
   pub high : z ≤ℤ block.high
 
--- what the places of a block may be counted in their wide block lies between the numbers of another
-abbrev pub IsSpread : Block → Block → Type 0
-IsSpread spread block = (z : ℤ) → IsBetween block z → IsUpTo (2 ^ 62) (z +ℤ block.whole) → IsBetween spread (z +ℤ block.whole)
+-- what lies between the numbers of a block lies between those of another where a count is added
+abbrev pub HasWithin : ℤ → Block → Block → Type 0
+HasWithin count block now = (z : ℤ) → IsUpTo (2 ^ 62) (z +ℤ count) → IsBetween block z → IsBetween now (z +ℤ count)
 
 -- the numbers of one block lie beyond those of another
 pub record IsWider (old new : Block) : Type 0 where
   pub low : new.low ≤ℤ old.low
   pub high : old.high ≤ℤ new.high
 
--- the number was added to the count of a block
+-- the number was added to the count of a block, so that what lay between its numbers lies there with the number added
 pub record IsWholeGrown (b : ℕ) (by : ℤ) (old new : List Block) : Type 0 where
   pub long : length new ≡ length old
   pub whole : (block_at new b).whole ≡ (block_at old b).whole +ℤ by
-  pub low : (block_at new b).low ≡ (block_at old b).low
-  pub high : (block_at new b).high ≡ (block_at old b).high
+  pub between : HasWithin by (block_at old b) (block_at new b)
   pub others : (j : ℕ) → j ≢ b → block_at new j ≡ block_at old j
 
 -- a block has other numbers, and the same count as before
@@ -93,26 +92,27 @@ pub record IsKept (b : ℕ) (old new : List Block) : Type 0 where
   pub whole : (block_at new b).whole ≡ (block_at old b).whole
   pub others : (j : ℕ) → j ≢ b → block_at new j ≡ block_at old j
 
--- the own counts of the places from a to c lie between them
+-- the own counts of the places from a to c, with the count of the block, lie between them
 pub record IsRenewed (b a c : ℕ) (each : List ℤ) (old new : List Block) : Type 0 where
   pub kept : IsKept b old new
-  pub own : (k : ℕ) → a ≤ k → k < c → IsBetween (block_at new b) (own_at each k)
+  pub between : (k : ℕ) → a ≤ k → k < c → IsUpTo (2 ^ 62) (own_at each k +ℤ (block_at old b).whole) →
+      IsBetween (block_at new b) (own_at each k +ℤ (block_at old b).whole)
 
--- what the blocks of a wide block spread over lies between the numbers of another; for blocks beside those from a to c it may
--- be what lay between those that it had
+-- what lies between the numbers of a block of a wide block lies, with the count of the wide block, between those of another;
+-- for blocks beside those from a to c it may be what lay between those of the wide block
 abbrev pub IsFit : ℕ → ℕ → ℕ → List Block → Block → Type 0
 IsFit w a c blocks now = (j : ℕ) → w < j → j ≤ w + BLOCK → j < length blocks →
-    IsSpread now (block_at blocks j) ⊎ (IsBeside a c j × IsWider (block_at blocks w) now)
+    HasWithin (block_at blocks w).whole (block_at blocks j) now ⊎ (IsBeside a c j × IsWider (block_at blocks w) now)
 
--- there is a block for each place, and the place's own count lies between its numbers
+-- there is a block for each place, and what the place is counted in its wide block lies between its numbers
 pub record AreParts (each : List ℤ) (blocks : List Block) : Type 0 where
   pub enough : (k : ℕ) → k < length each → block_of k < length blocks
-  pub own : (k : ℕ) → k < length each → IsBetween (block_at blocks (block_of k)) (own_at each k)
+  pub part : (k : ℕ) → k < length each → IsBetween (block_at blocks (block_of k)) (part_at each blocks k)
 
--- with that of its block, it lies between the numbers of its wide block
+-- and what it is counted in all lies between the numbers of its wide block
 pub record AreCounts (each : List ℤ) (blocks : List Block) : Type 0 where
   pub parts : AreParts each blocks
-  pub wide : (k : ℕ) → k < length each → IsBetween (block_at blocks (wide_of k)) (part_at each blocks k)
+  pub wide : (k : ℕ) → k < length each → IsBetween (block_at blocks (wide_of k)) (count_at each blocks k)
 
 -- the number was added to the counts of the places from a to b by these and their blocks alone
 pub record IsPartChange (a b : ℕ) (by : ℤ) (each : List ℤ) (blocks : List Block) (each' : List ℤ)

@@ -1,6 +1,6 @@
 // Places in blocks of two sizes. They stand in one list, in which the blocks of a wide block follow it.
 ghost use Rattle.std.specs.Prelude.{◌≡◌};
-ghost use Rattle.dpl_cover.specs.Counts.{IsSpread, IsWider, block_of, wide_of};
+ghost use Rattle.dpl_cover.specs.Counts.{HasWithin, IsWider, block_of, wide_of};
 
 /// How many places a block has, and how many blocks a wide block; the last may have fewer.
 pub const BLOCK: usize = 32;
@@ -8,7 +8,7 @@ pub const BLOCK: usize = 32;
 /// How many places a wide block has.
 pub const WIDE: usize = 1024;
 
-/// What is counted for all places of a block at once, and between which numbers lies what is counted for them besides.
+/// What is counted for all places of a block at once, and between which numbers lies what is counted for each with it.
 #[derive(Clone, Copy, Debug)]
 pub struct Block {
     pub whole: i64,
@@ -30,14 +30,15 @@ pub fn wide_of(k: usize) -> usize
     k / WIDE * (BLOCK + 1)
 }
 
-/// Between which numbers lies what is counted for the places of a block, with what is counted for all of them.
-pub fn spread(block: &Block) -> Block
-    ensures { IsSpread result block.now }
+/// A block with these numbers and a count added to both.
+pub fn raised(block: &Block, count: i64) -> Block
+    ensures whole { result.whole ≡ block.now.whole }
+    ensures between { HasWithin count block.now result }
 {
     Block {
-        whole: 0,
-        low: block.whole.saturating_add(block.low),
-        high: block.whole.saturating_add(block.high),
+        whole: block.whole,
+        low: block.low.saturating_add(count),
+        high: block.high.saturating_add(count),
     }
 }
 

@@ -1,10 +1,10 @@
 // How often each place is counted.
-ghost use Rattle.std.specs.Prelude.{◌≡◌, ◌≤◌, ◌<◌, ◌+◌, ◌*◌, ◌/◌, ◌^◌, ◌≤ℤ◌, ◌+ℤ◌, ℕ, ℤ, pos, true, length, int_lt, IfSome};
+ghost use Rattle.std.specs.Prelude.{◌≡◌, ◌≤◌, ◌<◌, ◌+◌, ◌*◌, ◌/◌, ◌^◌, ◌+ℤ◌, ℕ, ℤ, pos, true, length, int_lt, IfSome};
 ghost use Rattle.dpl_cover.specs.declared.blocks.TheConstants.{BLOCK, WIDE};
 ghost use Rattle.dpl_cover.specs.Counts.{AreCounts, AreParts, AreSmall, AreUpTo, IsAdded, IsAlike, IsBetween, IsChange, IsFit, IsKept, IsPartChange};
-ghost use Rattle.dpl_cover.specs.Counts.{IsRenewed, IsSpread, IsUnit, IsUpTo, IsWholeGrown, block_at, block_of, is_counted, own_at, part_at};
+ghost use Rattle.dpl_cover.specs.Counts.{IsRenewed, IsUnit, IsWider, IsUpTo, IsWholeGrown, block_at, block_of, is_counted, own_at, part_at};
 
-use crate::blocks::{BLOCK, Block, WIDE, block_of, joined, spread, wide_of};
+use crate::blocks::{BLOCK, Block, WIDE, block_of, joined, raised, wide_of};
 
 /// Adds a number to the own counts of places.
 fn add_each(each: &mut [i64], from: usize, to: usize, by: i64)
@@ -27,26 +27,29 @@ fn add_whole(blocks: &mut [Block], b: usize, by: i64)
     requires small { IsUpTo (2 ^ 62) (block_at blocks.old b).whole }
     ensures { IsWholeGrown b by blocks.old blocks.new }
 {
-    blocks[b].whole += by;
+    let now = raised(&blocks[b], by);
+    blocks[b] = Block {
+        whole: now.whole + by,
+        ..now
+    };
 }
 
-/// Sets between which numbers lies what is counted for the places of a block besides its own count.
-fn set_bounds(blocks: &mut [Block], b: usize, low: i64, high: i64)
+/// Sets between which numbers lies what is counted for the places of a block.
+fn set_bounds(blocks: &mut [Block], b: usize, now: &Block)
     requires { b < length blocks.old }
     ensures kept { IsKept b blocks.old blocks.new }
-    ensures low { (block_at blocks.new b).low ≡ low }
-    ensures high { (block_at blocks.new b).high ≡ high }
+    ensures low { (block_at blocks.new b).low ≡ now.now.low }
+    ensures high { (block_at blocks.new b).high ≡ now.now.high }
 {
-    blocks[b].low = low;
-    blocks[b].high = high;
+    blocks[b].low = now.low;
+    blocks[b].high = now.high;
 }
 
-/// Looks up again between which numbers the own counts of the places of a block lie.
-fn renew(blocks: &mut [Block], each: &[i64], b: usize, from: usize, to: usize)
-    requires block { b < length blocks.old }
+/// Between which numbers the own counts of places lie.
+fn bounds_of(each: &[i64], from: usize, to: usize) -> Block
     requires order { from ≤ to }
     requires within { to ≤ length each.now }
-    ensures { IsRenewed b from to each.now blocks.old blocks.new }
+    ensures { (k : ℕ) → from ≤ k → k < to → IsBetween result (own_at each.now k) }
 {
     let mut low = i64::MAX;
     let mut high = i64::MIN;
@@ -54,7 +57,22 @@ fn renew(blocks: &mut [Block], each: &[i64], b: usize, from: usize, to: usize)
         low = low.min(each[k]);
         high = high.max(each[k]);
     }
-    set_bounds(blocks, b, low, high);
+    Block {
+        whole: 0,
+        low,
+        high,
+    }
+}
+
+/// Looks up again between which numbers lies what is counted for the places of a block.
+fn renew(blocks: &mut [Block], each: &[i64], b: usize, from: usize, to: usize)
+    requires block { b < length blocks.old }
+    requires order { from ≤ to }
+    requires within { to ≤ length each.now }
+    ensures { IsRenewed b from to each.now blocks.old blocks.new }
+{
+    let now = raised(&bounds_of(each, from, to), blocks[b].whole);
+    set_bounds(blocks, b, &now);
 }
 
 /// Adds a number to the counts of places of one block.
@@ -97,31 +115,33 @@ fn change_parts(each: &mut [i64], blocks: &mut [Block], from: usize, to: usize, 
     }
 }
 
-/// Between which numbers lies what blocks from one on up to another, which is left out, spread over.
-fn spread_of(blocks: &[Block], from: usize, to: usize) -> Block
+/// Between which numbers lies what lies between those of blocks from one on up to another, which is left out.
+fn joined_all(blocks: &[Block], from: usize, to: usize) -> Block
     requires order { from < to }
     requires within { to ≤ length blocks.now }
-    ensures { (j : ℕ) → from ≤ j → j < to → IsSpread result (block_at blocks.now j) }
+    ensures { (j : ℕ) → from ≤ j → j < to → IsWider (block_at blocks.now j) result }
 {
-    let mut all = spread(&blocks[from]);
+    let mut all = blocks[from];
     for j in from + 1..to {
-        all = joined(&all, &spread(&blocks[j]));
+        all = joined(&all, &blocks[j]);
     }
     all
 }
 
-/// Between which numbers lies what the blocks of a wide block spread over, after a change of those from one on up to
-/// another. All of them are looked up where this change may have made it full or empty.
+/// Between which numbers lies what is counted for the places of a wide block, after a change of its blocks from one on up
+/// to another. All of them are looked up where this change may have made it full or empty.
 fn fitted(blocks: &[Block], w: usize, from: usize, to: usize) -> Block
     requires order { w < from }
     requires some { from < to }
     requires within { to ≤ length blocks.now }
     ensures { IsFit w from to blocks.now result }
 {
-    let changed = spread_of(blocks, from, to);
-    let loose = joined(&blocks[w], &changed);
+    let wide = blocks[w];
+    let changed = raised(&joined_all(blocks, from, to), wide.whole);
+    let loose = joined(&wide, &changed);
     if loose.low <= 0 && 0 < changed.low || changed.high <= 0 && 0 < loose.high {
-        return spread_of(blocks, w + 1, blocks.len().min(w + 1 + BLOCK));
+        let all = joined_all(blocks, w + 1, blocks.len().min(w + 1 + BLOCK));
+        return raised(&all, wide.whole);
     }
     loose
 }
@@ -144,7 +164,7 @@ fn change_in_wide(each: &mut [i64], blocks: &mut [Block], from: usize, to: usize
     } else {
         change_parts(each, blocks, from, to, by);
         let now = fitted(blocks, w, block_of(from), block_of(to - 1) + 1);
-        set_bounds(blocks, w, now.low, now.high);
+        set_bounds(blocks, w, &now);
     }
 }
 
@@ -201,14 +221,13 @@ fn end_of_alike(each: &[i64], blocks: &[Block], from: usize, to: usize, counted:
     to
 }
 
-/// Whether all numbers from one to another are more than nothing with a count, or none is, where that is so.
-fn sign_of(count: i64, low: i64, high: i64) -> Option<bool>
-    ensures { (z : ℤ) → low ≤ℤ z → z ≤ℤ high →
-        IfSome result (λ counted. int_lt (pos 0) (z +ℤ count) ≡ counted) }
+/// Whether all that lies between the numbers of a block is more than nothing with a count, or none is, where that is so.
+fn sign_of(count: i64, block: &Block) -> Option<bool>
+    ensures { (z : ℤ) → IsBetween block.now z → IfSome result (λ counted. int_lt (pos 0) (z +ℤ count) ≡ counted) }
 {
-    if 0 < count.saturating_add(low) {
+    if 0 < count.saturating_add(block.low) {
         Some(true)
-    } else if count.saturating_add(high) <= 0 {
+    } else if count.saturating_add(block.high) <= 0 {
         Some(false)
     } else {
         None
@@ -223,12 +242,11 @@ fn known_from(each: &[i64], blocks: &[Block], at: usize) -> Option<Piece>
     ensures { IfSome result (IsAlike each.now blocks.now at) }
 {
     let wide = blocks[wide_of(at)];
-    if let Some(counted) = sign_of(wide.whole, wide.low, wide.high) {
+    if let Some(counted) = sign_of(0, &wide) {
         let to = at + (WIDE - at % WIDE).min(each.len() - at);
         return Some(Piece { to, counted });
     }
-    let block = blocks[block_of(at)];
-    let counted = sign_of(block.whole + wide.whole, block.low, block.high)?;
+    let counted = sign_of(wide.whole, &blocks[block_of(at)])?;
     let to = at + (BLOCK - at % BLOCK).min(each.len() - at);
     Some(Piece { to, counted })
 }

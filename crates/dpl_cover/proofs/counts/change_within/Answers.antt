@@ -9,8 +9,8 @@ returns-then-end-to c =
     let by : SFits w64 c.args.by = c.ranges.by in
     let start : c.args.from ≡ c.args.from / BLOCK * BLOCK = search rules in
     let full : (c.args.to ≡ c.args.from / BLOCK * BLOCK + BLOCK) ⊎ (c.args.to ≡ length c.args.each.now) = search rules in
-    block_changed c.args.from c.args.to c.args.by c.args.each.now c.args.blocks.now c.add_whole.new.blocks start c.requires.block full
-    c.requires.parts (simp to_z-of_z at (rw c.block_of-b.ensures at c.add_whole.ensures))
+    block_changed c.args.from c.args.to c.args.by c.args.each.now c.args.blocks.now c.add_whole.new.blocks c.requires.one start
+    c.requires.block full c.requires.parts c.requires.part (simp to_z-of_z at (rw c.block_of-b.ensures at c.add_whole.ensures))
 
 pub returns-else-start-from : goal.returns-else-start-from
 returns-else-start-from c =
@@ -20,5 +20,5 @@ returns-else-start-from c =
     let full : (c.args.from / BLOCK * BLOCK + c.min.result ≡ c.args.from / BLOCK * BLOCK + BLOCK) ⊎
     (c.args.from / BLOCK * BLOCK + c.min.result ≡ length c.args.each.now) = search rules in
     places_changed c.args.from c.args.to _ c.args.by c.args.each.now c.add_each.new.each c.args.blocks.now c.renew.new.blocks
-    c.requires.one to up full c.requires.parts c.add_each.ensures.long (simp to_z-of_z at c.add_each.ensures.own)
+    c.requires.one to up full c.requires.parts c.requires.part c.add_each.ensures.long (simp to_z-of_z at c.add_each.ensures.own)
     (rw c.block_of-b.ensures at c.renew.ensures)

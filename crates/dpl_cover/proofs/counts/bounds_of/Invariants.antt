@@ -1,6 +1,6 @@
 use Rattle.std.proofs.Common.{ℕ, ◌≤◌, ◌<◌, ◌≤ℤ◌}
 use Rattle.dpl_cover.specs.Counts.{own_at}
-use Rattle.dpl_cover.proofs.counts.renew.Given as goal
+use Rattle.dpl_cover.proofs.counts.bounds_of.Given as goal
 
 abbrev pub invariant-loop-k : goal.invariant-loop-k
 invariant-loop-k l = record {
