@@ -108,6 +108,9 @@ wide_from k = omega arith
 pub same_block : (a k : ℕ) → a / BLOCK * BLOCK ≤ k → k < a / BLOCK * BLOCK + BLOCK → block_of k ≡ block_of a
 same_block a k l h = omega arith
 
+wide_of_block : (a k : ℕ) → a / BLOCK * BLOCK ≤ k → k < a / BLOCK * BLOCK + BLOCK → wide_of k ≡ wide_of a
+wide_of_block a k l h = omega arith
+
 pub other_block : (a k : ℕ) → IsBeside (a / BLOCK * BLOCK) (a / BLOCK * BLOCK + BLOCK) k → block_of k ≢ block_of a
 other_block a k (inl h) e = omega (arith, h, e)
 other_block a k (inr h) e = omega (arith, h, e)
@@ -488,21 +491,35 @@ block_alike each blocks at to counted counts further within up sign = record {
       let b = same_block at k from below in let w : wide_of k ≡ wide_of at = wide_of_block at k from below in
       rw w (sign (part_at each blocks k) (subst (λ j. IsBetween (block_at blocks j) (part_at each blocks k)) b (counts.parts.part k (omega (arith, h, within)))));
 }
-  where
-    wide_of_block : (a k : ℕ) → a / BLOCK * BLOCK ≤ k → k < a / BLOCK * BLOCK + BLOCK → wide_of k ≡ wide_of a
-    wide_of_block a k l h = omega arith
 
-pub alike_after_one : (each : List ℤ) (blocks : List Block) (at to : ℕ) (counted : Bool) → at + 1 ≤ to → to ≤ length each
-    → is_counted each blocks at ≡ counted → ((k : ℕ) → at + 1 ≤ k → k < to → is_counted each blocks k ≡ counted)
+-- those of a block up to another, as they were looked at one by one
+pub places_alike : (each : List ℤ) (blocks : List Block) (at to end : ℕ) (whole : ℤ) (counted : Bool) → at + 1 ≤ to → to ≤ end
+    → end ≤ length each → end ≤ at / BLOCK * BLOCK + BLOCK
+    → whole ≡ (block_at blocks (block_of at)).whole +ℤ (block_at blocks (wide_of at)).whole
+    → int_lt (pos 0) (own_at each at +ℤ whole) ≡ counted
+    → ((k : ℕ) → at + 1 ≤ k → k < to → int_lt (pos 0) (own_at each k +ℤ whole) ≡ counted)
     → IsAlike each blocks at (record { to = to; counted = counted })
-alike_after_one each blocks at to counted further within one others = record {
+places_alike each blocks at to end whole counted further order within up is one others = record {
   further = omega (arith, further);
-  within = within;
-  same = λ k l h. elim (less_or_not k (at + 1)) [
-    | inl m ↦ let e : at ≡ k = omega (arith, l, m) in subst (λ z. is_counted each blocks z ≡ counted) e one
-    | inr r ↦ others k r h
-  ];
+  within = omega (arith, order, within);
+  same = λ k l h.
+      let from : at / BLOCK * BLOCK ≤ k = omega (arith, l, block_from at) in
+      let below : k < at / BLOCK * BLOCK + BLOCK = omega (arith, h, order, up) in
+      let b = same_block at k from below in let w = wide_of_block at k from below in
+      rw (b, w) (ap (λ z. int_lt (pos 0) z) (grouped (own_at each k) _ _ ∙ ap (λ z. own_at each k +ℤ z) (sym is)) ∙ looked_at k l h);
 }
+  where
+    looked_at : (k : ℕ) → at ≤ k → k < to → int_lt (pos 0) (own_at each k +ℤ whole) ≡ counted
+    looked_at k l h = elim (less_or_not k (at + 1)) [
+      | inl m ↦ let e : at ≡ k = omega (arith, l, m) in subst (λ z. int_lt (pos 0) (own_at each z +ℤ whole) ≡ counted) e one
+      | inr r ↦ others k r h
+    ]
+
+-- the counts of the two blocks of a place are small together
+pub wholes_small : (each : List ℤ) (blocks : List Block) (k : ℕ) → k < length each → AreSmall (2 ^ 60) each blocks
+    → IsUpTo (2 ^ 61) ((block_at blocks (block_of k)).whole +ℤ (block_at blocks (wide_of k)).whole)
+wholes_small each blocks k l s = wider (2 ^ 60 + 2 ^ 60) (2 ^ 61) _ (omega arith) (addend_up (2 ^ 60) (own_at each k) _ (s.own k l)
+    (subst (IsUpTo (2 ^ 60)) (grouped (own_at each k) (block_at blocks (block_of k)).whole _) (s.count k l)))
 
 pub whole_fits : (z by : ℤ) → IsUnit by → IsUpTo (2 ^ 62) z → SFits w64 (z +ℤ by)
 whole_fits z by (inl u) s = rw u (search (arith, ints))

@@ -192,33 +192,40 @@ pub struct Piece {
     pub counted: bool,
 }
 
-/// Whether a place is counted more than not at all.
-fn is_counted(each: &[i64], blocks: &[Block], k: usize) -> bool
-    requires within { k < length each.now }
-    requires counts { AreCounts each.now blocks.now }
-    requires small { AreSmall (2 ^ 60) each.now blocks.now }
-    ensures { result ≡ is_counted each.now blocks.now k }
+/// Whether a place is counted more than not at all, by its own count and those of its blocks.
+fn is_more(own: i64, whole: i64) -> bool
+    requires own { IsUpTo (2 ^ 60) own }
+    requires whole { IsUpTo (2 ^ 61) whole }
+    ensures { result ≡ int_lt (pos 0) (own +ℤ whole) }
 {
-    0 < each[k] + blocks[block_of(k)].whole + blocks[wide_of(k)].whole
+    0 < own + whole
 }
 
-/// Where the places end that are all counted, or not, from one on up to another, which is left out.
-fn end_of_alike(each: &[i64], blocks: &[Block], from: usize, to: usize, counted: bool) -> usize
+/// Where the places of a block end that are all counted, or not, from one on up to another, which is left out.
+fn end_of_alike(each: &[i64], whole: i64, from: usize, to: usize, counted: bool) -> usize
     requires order { from ≤ to }
     requires within { to ≤ length each.now }
-    requires counts { AreCounts each.now blocks.now }
-    requires small { AreSmall (2 ^ 60) each.now blocks.now }
+    requires own { AreUpTo (2 ^ 60) (length each.now) (own_at each.now) }
+    requires whole { IsUpTo (2 ^ 61) whole }
     ensures order { from ≤ result }
     ensures within { result ≤ to }
-    ensures same { (k : ℕ) → from ≤ k → k < result →
-        is_counted each.now blocks.now k ≡ counted }
+    ensures same { (k : ℕ) → from ≤ k → k < result → int_lt (pos 0) (own_at each.now k +ℤ whole) ≡ counted }
 {
     for k in from..to {
-        if is_counted(each, blocks, k) != counted {
+        if is_more(each[k], whole) != counted {
             return k;
         }
     }
     to
+}
+
+/// What is counted for the places of a block at once, with that of its wide block.
+fn whole_of(block: &Block, wide: &Block) -> i64
+    requires { IsUpTo (2 ^ 61) (block.now.whole +ℤ wide.now.whole) }
+    ensures sum { result ≡ block.now.whole +ℤ wide.now.whole }
+    ensures small { IsUpTo (2 ^ 61) result }
+{
+    block.whole + wide.whole
 }
 
 /// Whether all that lies between the numbers of a block is more than nothing with a count, or none is, where that is so.
@@ -261,9 +268,10 @@ pub fn alike_from(each: &[i64], blocks: &[Block], at: usize) -> Piece
     if let Some(piece) = known_from(each, blocks, at) {
         return piece;
     }
-    let counted = is_counted(each, blocks, at);
+    let whole = whole_of(&blocks[block_of(at)], &blocks[wide_of(at)]);
+    let counted = is_more(each[at], whole);
     let to = at + (BLOCK - at % BLOCK).min(each.len() - at);
-    let to = end_of_alike(each, blocks, at + 1, to, counted);
+    let to = end_of_alike(each, whole, at + 1, to, counted);
     Piece { to, counted }
 }
 

@@ -41,3 +41,47 @@ fn rows_of_three_boxes(rt: HostRuntime) -> Result<(), Fail> {
     assert!(rt; parts.is_empty());
     Ok(())
 }
+
+/// Whether the stretches have the columns from one on up to another, which is left out, and no others.
+fn has_only(parts: &[Stretch], from: i64, to: i64) -> bool {
+    for x in -3..2203 {
+        let has = parts.iter().any(|s| s.from <= x && x < s.to);
+        if has != (from <= x && x < to) {
+            return false;
+        }
+    }
+    true
+}
+
+/// Two long boxes laid over each other below a row of 1,100 small ones, at whose 2,200 columns they pass wide blocks.
+#[test]
+fn long_boxes_over_wide_blocks(rt: HostRuntime) -> Result<(), Fail> {
+    let mut boxes = Vec::new(rt.alloc());
+    push(&mut boxes, 0, 0, 2199, 4)?;
+    push(&mut boxes, 100, 2, 2051, 8)?;
+    for k in 0..1100 {
+        push(&mut boxes, 2 * k, 9, 2 * k + 1, 10)?;
+    }
+    let mut cover = Cover::new(rt.alloc(), boxes.as_slice())?;
+    cover.rise(0);
+    let parts = cover.stretches(rt.alloc(), -3, 2203)?;
+    assert!(rt; has_only(parts.as_slice(), 0, 2199));
+    cover.rise(2);
+    let parts = cover.stretches(rt.alloc(), -3, 2203)?;
+    assert!(rt; has_only(parts.as_slice(), 0, 2199));
+    cover.rise(4);
+    let parts = cover.stretches(rt.alloc(), -3, 2203)?;
+    assert!(rt; has_only(parts.as_slice(), 100, 2051));
+    cover.rise(8);
+    let parts = cover.stretches(rt.alloc(), -3, 2203)?;
+    assert!(rt; parts.is_empty());
+    cover.rise(9);
+    let parts = cover.stretches(rt.alloc(), -2, 13)?;
+    assert_eq!(rt; drawn(&rt, parts.as_slice())?.as_str(), "..#.#.#.#.#.#.#");
+    let parts = cover.stretches(rt.alloc(), -3, 2203)?;
+    assert_eq!(rt; parts.len(), 1100);
+    cover.rise(10);
+    let parts = cover.stretches(rt.alloc(), -3, 2203)?;
+    assert!(rt; parts.is_empty());
+    Ok(())
+}
