@@ -1,5 +1,5 @@
 -- What a change does to the counts of places.
-use Rattle.std.proofs.Common.{arith, refl, sym, ap, subst, inl, inr, ◌∙◌, ◌≡◌, ◌≢◌, ◌⊎◌, ℕ, ◌≤◌, ◌<◌, ◌+◌, ◌*◌, ◌/◌, ℤ, pos, negsuc, neg_ℤ, ◌+ℤ◌, ◌≤ℤ◌}
+use Rattle.std.proofs.Common.{arith, refl, sym, ap, subst, inl, inr, ◌∙◌, ◌≡◌, ◌≢◌, ◌⊎◌, ℕ, ◌≤◌, ◌<◌, ◌+◌, ◌*◌, ◌/◌, ℤ, pos, negsuc, ◌+ℤ◌, ◌≤ℤ◌}
 use Rattle.std.proofs.Common.{List, Bool, length, set, ◌^◌, ◌-◌, SFits, w64, int_lt}
 use Rattle.std.specs.Int.{saturate_signed}
 use Rattle.std.proofs.lemmas.List.{get_or-set_same, get_or-set_other, length-set}
@@ -7,8 +7,9 @@ use Rattle.std.proofs.lemmas.Int.{ints}
 use Rattle.dpl_list.proofs.Integers.{signed}
 use Rattle.dpl_cover.specs.declared.blocks.TheConstants.{BLOCK, WIDE}
 use Rattle.dpl_cover.specs.declared.blocks.Block.{Block}
-use Rattle.dpl_cover.specs.Counts.{AreCounts, AreParts, AreSmall, AreUpTo, HasWithin, IsAdded, IsAlike, IsBeside, IsBetween, IsChange, IsFit, IsKept, IsNear, IsPartChange}
-use Rattle.dpl_cover.specs.Counts.{IsRenewed, IsWholeGrown, IsUpTo, IsUnit, IsWider, block_at, block_of, count_at, is_counted, no_block, own_at, part_at, wide_of}
+use Rattle.dpl_cover.specs.Counts.{AreCounts, AreParts, AreSmall, AreUpTo, HasWithin, IsAdded, IsAlike, IsBeside, IsBetween, IsChange, IsFit}
+use Rattle.dpl_cover.specs.Counts.{IsKept, IsNear, IsPartChange, IsRenewed, IsWholeGrown, IsUpTo, IsUnit, IsWider, block_at, block_of, count_at}
+use Rattle.dpl_cover.specs.Counts.{no_block, own_at, part_at, wide_of}
 
 pub less_or_not : (i j : ℕ) → (i < j) ⊎ (j ≤ i)
 less_or_not i j = search arith
@@ -24,6 +25,7 @@ wider m n z h s = (omega (signed, h, s.0), omega (signed, h, s.1))
 
 -- ---- numbers of places that are changed
 
+-- one more own count was added to
 pub added_more : (from k : ℕ) (by : ℤ) (old now : List ℤ) (x : ℤ) → from ≤ k → k < length old → length now ≡ length old
     → x ≡ own_at now k +ℤ by → IsAdded (length old) from k by (own_at old) (own_at now)
     → IsAdded (length old) from (k + 1) by (own_at old) (own_at (set now k x))
@@ -47,6 +49,7 @@ up_by_unit n z y by (inr u) e s = (omega (signed, u, e, s.0), omega (signed, u, 
 up_as_before : (n : ℕ) (z y : ℤ) → y ≡ z → IsUpTo n z → IsUpTo (n + 1) y
 up_as_before n z y e s = (omega (signed, e, s.0), omega (signed, e, s.1))
 
+-- what one or minus one was added to
 pub near_added : (n a b : ℕ) (by : ℤ) (old new : ℕ → ℤ) → IsUnit by → IsAdded n a b by old new → IsNear n a b old new
 near_added n a b by old new u g = record {
   beside = g.beside;
@@ -62,9 +65,6 @@ near_same n a b old new same = record {
   beside = λ k l o. same k l;
   grown = λ k m l s. up_as_before m _ _ (same k l) s;
 }
-
-pub none_added : (n a : ℕ) (by : ℤ) (f : ℕ → ℤ) → IsAdded n a a by f f
-none_added n a by f = record { inside = λ k l h. absurd (omega (arith, l, h)); beside = λ k l o. refl }
 
 -- two changes side by side
 beside_second : (a m c k : ℕ) → a ≤ m → IsBeside a c k → IsBeside m c k
@@ -98,9 +98,6 @@ joined_near n a m c f g h low high first second = record {
 
 pub block_from : (k : ℕ) → k / BLOCK * BLOCK ≤ k
 block_from k = omega arith
-
-pub block_up_to : (k : ℕ) → k < k / BLOCK * BLOCK + BLOCK
-block_up_to k = omega arith
 
 pub wide_from : (k : ℕ) → k / WIDE * WIDE ≤ k
 wide_from k = omega arith
@@ -138,6 +135,7 @@ near_wide k = omega arith
 grouped : (x y z : ℤ) → x +ℤ y +ℤ z ≡ x +ℤ (y +ℤ z)
 grouped x y z = omega signed
 
+-- other numbers of a block change no count
 kept_parts : (b : ℕ) (each : List ℤ) (blocks blocks' : List Block) (k : ℕ) → IsKept b blocks blocks'
     → part_at each blocks' k ≡ part_at each blocks k
 kept_parts b each blocks blocks' k t = ap (λ z. own_at each k +ℤ z) (kept_whole b blocks blocks' (block_of k) t)
@@ -148,6 +146,7 @@ kept_parts b each blocks blocks' k t = ap (λ z. own_at each k +ℤ z) (kept_who
       | inr n ↦ ap (λ (z : Block). z.whole) (t.others j n)
     ]
 
+-- a block with its count and its numbers added to
 pub whole_grown : (b : ℕ) (by : ℤ) (blocks : List Block) (new : Block) → b < length blocks → new.whole ≡ (block_at blocks b).whole +ℤ by
     → HasWithin by (block_at blocks b) new → IsWholeGrown b by blocks (set blocks b new)
 whole_grown b by blocks new within whole between = record {
@@ -165,8 +164,9 @@ raised_between x y by old new u s g t = subst (IsBetween new) (grouped x y by)
 
 -- a whole block was counted once more or less
 pub block_changed : (a c : ℕ) (by : ℤ) (each : List ℤ) (blocks blocks' : List Block) → IsUnit by → a ≡ a / BLOCK * BLOCK
-    → c ≤ a / BLOCK * BLOCK + BLOCK → (c ≡ a / BLOCK * BLOCK + BLOCK) ⊎ (c ≡ length each)
-    → AreParts each blocks → AreUpTo (2 ^ 60) (length each) (part_at each blocks) → IsWholeGrown (block_of a) by blocks blocks' → IsPartChange a c by each blocks each blocks'
+    → c ≤ a / BLOCK * BLOCK + BLOCK → (c ≡ a / BLOCK * BLOCK + BLOCK) ⊎ (c ≡ length each) → AreParts each blocks
+    → AreUpTo (2 ^ 60) (length each) (part_at each blocks) → IsWholeGrown (block_of a) by blocks blocks'
+    → IsPartChange a c by each blocks each blocks'
 block_changed a c by each blocks blocks' u start end full parts small g = record {
   parts = record {
     enough = λ k l. rw g.long (parts.enough k l);
@@ -196,7 +196,8 @@ block_changed a c by each blocks blocks' u start end full parts small g = record
 -- the own counts of some places of a block were changed, and its numbers looked up again
 pub places_changed : (a c d : ℕ) (by : ℤ) (each each' : List ℤ) (blocks blocks' : List Block) → IsUnit by
     → c ≤ d → d ≤ a / BLOCK * BLOCK + BLOCK → (d ≡ a / BLOCK * BLOCK + BLOCK) ⊎ (d ≡ length each)
-    → AreParts each blocks → AreUpTo (2 ^ 60) (length each) (part_at each blocks) → length each' ≡ length each → IsAdded (length each) a c by (own_at each) (own_at each')
+    → AreParts each blocks → AreUpTo (2 ^ 60) (length each) (part_at each blocks) → length each' ≡ length each
+    → IsAdded (length each) a c by (own_at each) (own_at each')
     → IsRenewed (block_of a) (a / BLOCK * BLOCK) d each' blocks blocks' → IsPartChange a c by each blocks each' blocks'
 places_changed a c d by each each' blocks blocks' u to up full parts small long g r = record {
   parts = record {
@@ -229,15 +230,7 @@ places_changed a c d by each each' blocks blocks' u to up full parts small long 
     elsewhere k (inl h) = inl (omega (arith, h, block_from a))
     elsewhere k (inr h) = inr (omega (arith, h, to, up))
 
-pub no_part_changed : (a : ℕ) (by : ℤ) (each : List ℤ) (blocks : List Block) → AreParts each blocks → IsPartChange a a by each blocks each blocks
-no_part_changed a by each blocks parts = record {
-  parts = parts;
-  long = refl;
-  part = none_added _ a by _;
-  own = near_same _ a a _ _ (λ k l. refl);
-  wide = λ k. refl;
-}
-
+-- two changes side by side
 pub joined_parts : (a m c : ℕ) (by : ℤ) (e0 : List ℤ) (b0 : List Block) (e1 : List ℤ) (b1 : List Block) (e2 : List ℤ) (b2 : List Block)
     → a ≤ m → m ≤ c → c ≤ length e0 → IsPartChange a m by e0 b0 e1 b1 → IsPartChange m c by e1 b1 e2 b2
     → IsPartChange a c by e0 b0 e2 b2
@@ -254,7 +247,8 @@ joined_parts a m c by e0 b0 e1 b1 e2 b2 low high top first second = record {
 -- a whole wide block was counted once more or less
 pub wide_changed : (a c : ℕ) (by : ℤ) (each : List ℤ) (blocks blocks' : List Block) → IsUnit by → a ≡ a / WIDE * WIDE
     → c ≤ a / WIDE * WIDE + WIDE → (c ≡ a / WIDE * WIDE + WIDE) ⊎ (c ≡ length each)
-    → AreCounts each blocks → AreUpTo (2 ^ 60) (length each) (count_at each blocks) → IsWholeGrown (wide_of a) by blocks blocks' → IsChange a c by each blocks each blocks'
+    → AreCounts each blocks → AreUpTo (2 ^ 60) (length each) (count_at each blocks) → IsWholeGrown (wide_of a) by blocks blocks'
+    → IsChange a c by each blocks each blocks'
 wide_changed a c by each blocks blocks' u start end full counts small g = record {
   counts = record {
     parts = record {
@@ -272,13 +266,16 @@ wide_changed a c by each blocks blocks' u start end full counts small g = record
     inside = λ k l h.
         let e = same_wide a k (omega (arith, l, start)) (omega (arith, h, end)) in
         rw (e, same k, g.whole) (omega signed);
-    beside = λ k l o. rw (same k, g.others (wide_of k) (other_wide a k (elim o [
-      | inl h ↦ inl (omega (arith, h, start))
-      | inr h ↦ elim full [
-        | inl f ↦ inr (omega (arith, h, f))
-        | inr f ↦ absurd (omega (arith, h, f, l))
-      ]
-    ]))) refl;
+    beside = λ k l o. rw (
+      same k,
+      g.others (wide_of k) (other_wide a k (elim o [
+        | inl h ↦ inl (omega (arith, h, start))
+        | inr h ↦ elim full [
+          | inl f ↦ inr (omega (arith, h, f))
+          | inr f ↦ absurd (omega (arith, h, f, l))
+        ]
+      ])),
+    ) refl;
   };
   part = near_same _ a c _ _ (λ k l. ap (λ (z : Block). own_at each k +ℤ z.whole) (same k));
   own = near_same _ a c _ _ (λ k l. refl);
@@ -352,15 +349,7 @@ parts_changed a c d by e0 b0 e1 b1 b2 u order up last counts small g now fit kep
       | inr o ↦ o
     ]
 
-pub nothing_changed : (a : ℕ) (by : ℤ) (each : List ℤ) (blocks : List Block) → AreCounts each blocks → IsChange a a by each blocks each blocks
-nothing_changed a by each blocks counts = record {
-  counts = counts;
-  long = refl;
-  count = none_added _ a by _;
-  part = near_same _ a a _ _ (λ k l. refl);
-  own = near_same _ a a _ _ (λ k l. refl);
-}
-
+-- two changes side by side
 pub joined_changes : (a m c : ℕ) (by : ℤ) (e0 : List ℤ) (b0 : List Block) (e1 : List ℤ) (b1 : List Block) (e2 : List ℤ) (b2 : List Block)
     → a ≤ m → m ≤ c → c ≤ length e0 → IsChange a m by e0 b0 e1 b1 → IsChange m c by e1 b1 e2 b2
     → IsChange a c by e0 b0 e2 b2
@@ -374,6 +363,7 @@ joined_changes a m c by e0 b0 e1 b1 e2 b2 low high top first second = record {
 
 -- ---- bounds
 
+-- one change leaves all numbers small
 pub near_up : (n m a b : ℕ) (f g : ℕ → ℤ) → IsNear n a b f g → AreUpTo m n f → AreUpTo (m + 1) n g
 near_up n m a b f g t s k l = t.grown k m l (s k l)
 
@@ -399,9 +389,6 @@ small_wider m n each blocks h s = record {
 pub addend_up : (n : ℕ) (z y : ℤ) → IsUpTo n z → IsUpTo n (z +ℤ y) → IsUpTo (n + n) y
 addend_up n z y s t = (omega (signed, s.0, t.1, s.1, t.0), omega (signed, s.0, t.1, s.1, t.0))
 
-pub fits : (n : ℕ) (z : ℤ) → n ≤ 2 ^ 62 → IsUpTo n z → SFits w64 z
-fits n z h s = search (arith, ints, h)
-
 -- ---- numbers of several blocks
 
 pub wider_still : (a b c : Block) → IsWider a b → IsWider b c → IsWider a c
@@ -410,6 +397,7 @@ wider_still a b c s t = record { low = omega (signed, s.low, t.low); high = omeg
 pub wider_itself : (a : Block) → IsWider a a
 wider_itself a = record { low = omega signed; high = omega signed }
 
+-- numbers that are joined block by block
 pub joined_first : (blocks : List Block) (from i : ℕ) → from ≤ i → i < from + 1 → IsWider (block_at blocks i) (block_at blocks from)
 joined_first blocks from i l h = let e : i ≡ from = omega (arith, l, h) in rw e (wider_itself (block_at blocks from))
 
@@ -421,6 +409,7 @@ joined_more blocks from j all new w v before i l h = elim (less_or_not i j) [
   | inr m ↦ let e : i ≡ j = omega (arith, h, m) in rw e v
 ]
 
+-- a count added to the numbers of more, or to fewer numbers
 pub raised_wider : (count : ℤ) (block all now : Block) → IsWider block all → HasWithin count all now → HasWithin count block now
 raised_wider count block all now w g z t s = g z t (record { low = omega (signed, w.low, s.low); high = omega (signed, w.high, s.high) })
 
@@ -453,6 +442,7 @@ cut_above : (z y : ℤ) → y ≤ℤ z → IsUpTo (2 ^ 62) y → y ≤ℤ satura
 cut_above (pos n) y h s = omega (signed, h, s.0, s.1)
 cut_above (negsuc n) y h s = omega (signed, h, s.0, s.1)
 
+-- numbers of a block with a count added
 pub cut_within : (count : ℤ) (block now : Block) → now.low ≡ saturate_signed w64 (block.low +ℤ count)
     → now.high ≡ saturate_signed w64 (block.high +ℤ count) → HasWithin count block now
 cut_within count block now low high z t s = record {
@@ -489,7 +479,8 @@ block_alike each blocks at to counted counts further within up sign = record {
   same = λ k l h.
       let from : at / BLOCK * BLOCK ≤ k = omega (arith, l, block_from at) in let below : k < at / BLOCK * BLOCK + BLOCK = omega (arith, h, up) in
       let b = same_block at k from below in let w : wide_of k ≡ wide_of at = wide_of_block at k from below in
-      rw w (sign (part_at each blocks k) (subst (λ j. IsBetween (block_at blocks j) (part_at each blocks k)) b (counts.parts.part k (omega (arith, h, within)))));
+      rw w (sign (part_at each blocks k) (subst (λ j. IsBetween (block_at blocks j) (part_at each blocks k)) b
+      (counts.parts.part k (omega (arith, h, within)))));
 }
 
 -- those of a block up to another, as they were looked at one by one
@@ -521,6 +512,7 @@ pub wholes_small : (each : List ℤ) (blocks : List Block) (k : ℕ) → k < len
 wholes_small each blocks k l s = wider (2 ^ 60 + 2 ^ 60) (2 ^ 61) _ (omega arith) (addend_up (2 ^ 60) (own_at each k) _ (s.own k l)
     (subst (IsUpTo (2 ^ 60)) (grouped (own_at each k) (block_at blocks (block_of k)).whole _) (s.count k l)))
 
+-- a small count with one added is a number of 64 bits
 pub whole_fits : (z by : ℤ) → IsUnit by → IsUpTo (2 ^ 62) z → SFits w64 (z +ℤ by)
 whole_fits z by (inl u) s = rw u (search (arith, ints))
 whole_fits z by (inr u) s = rw u (search (arith, ints))

@@ -1,8 +1,9 @@
 // How often each place is counted.
 ghost use Rattle.std.specs.Prelude.{◌≡◌, ◌≤◌, ◌<◌, ◌+◌, ◌*◌, ◌/◌, ◌^◌, ◌+ℤ◌, ℕ, ℤ, pos, true, length, int_lt, IfSome};
 ghost use Rattle.dpl_cover.specs.declared.blocks.TheConstants.{BLOCK, WIDE};
-ghost use Rattle.dpl_cover.specs.Counts.{AreCounts, AreParts, AreSmall, AreUpTo, IsAdded, IsAlike, IsBetween, IsChange, IsFit, IsKept, IsPartChange};
-ghost use Rattle.dpl_cover.specs.Counts.{IsRenewed, IsUnit, IsWider, IsUpTo, IsWholeGrown, block_at, block_of, is_counted, own_at, part_at};
+ghost use Rattle.dpl_cover.specs.Counts.{AreCounts, AreParts, AreSmall, AreUpTo, IsAdded, IsAlike, IsBetween};
+ghost use Rattle.dpl_cover.specs.Counts.{IsChange, IsFit, IsKept, IsPartChange, IsRenewed, IsUnit, IsWider, IsUpTo};
+ghost use Rattle.dpl_cover.specs.Counts.{IsWholeGrown, block_at, block_of, is_counted, own_at, part_at};
 
 use crate::blocks::{BLOCK, Block, WIDE, block_of, joined, raised, wide_of};
 
@@ -128,8 +129,8 @@ fn joined_all(blocks: &[Block], from: usize, to: usize) -> Block
     all
 }
 
-/// Between which numbers lies what is counted for the places of a wide block, after a change of its blocks from one on up
-/// to another. All of them are looked up where this change may have made it full or empty.
+/// Between which numbers lies what is counted for the places of a wide block, after a change of its blocks from one on
+/// up to another. All of them are looked up where this change may have made it full or empty.
 fn fitted(blocks: &[Block], w: usize, from: usize, to: usize) -> Block
     requires order { w < from }
     requires some { from < to }
@@ -228,7 +229,7 @@ fn whole_of(block: &Block, wide: &Block) -> i64
     block.whole + wide.whole
 }
 
-/// Whether all that lies between the numbers of a block is more than nothing with a count, or none is, where that is so.
+/// Whether all that lies between the numbers of a block is more than nothing with a count, or none is.
 fn sign_of(count: i64, block: &Block) -> Option<bool>
     ensures { (z : ℤ) → IsBetween block.now z → IfSome result (λ counted. int_lt (pos 0) (z +ℤ count) ≡ counted) }
 {
@@ -275,7 +276,7 @@ pub fn alike_from(each: &[i64], blocks: &[Block], at: usize) -> Piece
     Piece { to, counted }
 }
 
-/// Where the blocks from a place on end whose places are all counted: at that place itself where it lies in none of those.
+/// Where the blocks from a place on end whose places are all counted: at that place where it lies in none of those.
 /// No block that begins at a column or right of it is looked at.
 pub fn full_from(columns: &[i64], each: &[i64], blocks: &[Block], at: usize, to: i64) -> usize
     requires long { length each.now ≡ length columns.now }

@@ -1,7 +1,7 @@
-use Rattle.std.proofs.Common.{rules, sym, ◌≡◌, ◌≤◌, ◌+◌, ◌*◌, ◌/◌, ◌+ℤ◌, length, SFits, w64}
+use Rattle.std.proofs.Common.{rules, sym, ◌≤◌, ◌+◌, ◌*◌, ◌/◌, length, SFits, w64}
 use Rattle.std.proofs.lemmas.Int.{to_z-of_z}
 use Rattle.dpl_cover.specs.declared.blocks.TheConstants.{BLOCK}
-use Rattle.dpl_cover.specs.Counts.{block_at, block_of, own_at, wide_of}
+use Rattle.dpl_cover.specs.Counts.{own_at}
 use Rattle.dpl_cover.proofs.CountLemmas.{places_alike, wholes_small}
 use Rattle.dpl_cover.proofs.counts.alike_from.Goals as goal
 

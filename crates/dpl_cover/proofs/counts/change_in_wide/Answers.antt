@@ -11,7 +11,8 @@ returns-then-end-to c =
     let start : c.args.from ≡ c.args.from / WIDE * WIDE = search rules in
     let full : (c.args.to ≡ c.args.from / WIDE * WIDE + WIDE) ⊎ (c.args.to ≡ length c.args.each.now) = search rules in
     wide_changed c.args.from c.args.to c.args.by c.args.each.now c.args.blocks.now c.add_whole.new.blocks c.requires.one start
-    c.requires.wide full c.requires.counts (wider_all (2 ^ 59) (2 ^ 60) _ _ (omega arith) c.requires.small.count) (simp to_z-of_z at (rw c.wide_of-w.ensures at c.add_whole.ensures))
+    c.requires.wide full c.requires.counts (wider_all (2 ^ 59) (2 ^ 60) _ _ (omega arith) c.requires.small.count)
+    (simp to_z-of_z at (rw c.wide_of-w.ensures at c.add_whole.ensures))
 
 pub returns-else-start-from : goal.returns-else-start-from
 returns-else-start-from c =

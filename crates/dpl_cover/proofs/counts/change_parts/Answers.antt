@@ -1,7 +1,6 @@
-use Rattle.std.proofs.Common.{rules, arith, ◌≤◌, ◌<◌, ◌+◌, ◌^◌, length, SFits, w64}
+use Rattle.std.proofs.Common.{rules, arith, ◌≤◌, ◌+◌, ◌^◌, SFits, w64}
 use Rattle.std.proofs.lemmas.Int.{to_z-of_z}
-use Rattle.dpl_cover.specs.Counts.{AreUpTo, own_at, part_at}
-use Rattle.dpl_cover.proofs.CountLemmas.{joined_parts, near_added, near_up, no_part_changed, wider_all}
+use Rattle.dpl_cover.proofs.CountLemmas.{joined_parts, near_added, near_up, wider_all}
 use Rattle.dpl_cover.proofs.counts.change_parts.Goals as goal
 
 pub change_within-requires-clause-part : goal.change_within-requires-clause-part

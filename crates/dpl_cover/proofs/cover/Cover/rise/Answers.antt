@@ -1,4 +1,4 @@
-use Rattle.std.proofs.Common.{arith, rules, ◌≡◌, ◌+◌, ◌++◌, ◌^◌, length, take, drop, SFits, w64}
+use Rattle.std.proofs.Common.{arith, rules, ◌≡◌, ◌++◌, ◌^◌, length, take, drop, SFits, w64}
 use Rattle.std.proofs.lemmas.Int.{to_z-of_z}
 use Rattle.dpl_cover.proofs.CountLemmas.{small_wider}
 use Rattle.dpl_cover.proofs.CoverLemmas.{passed_more, few_counted, few_between, all_few}

@@ -1,4 +1,4 @@
-use Rattle.std.proofs.Common.{arith, ◌+◌, ◌^◌, length, take, SFits, w64}
+use Rattle.std.proofs.Common.{arith, ◌^◌, SFits, w64}
 use Rattle.std.proofs.lemmas.Int.{to_z-of_z}
 use Rattle.dpl_cover.proofs.CountLemmas.{small_wider}
 use Rattle.dpl_cover.proofs.CoverLemmas.{few_counted}
