@@ -7,7 +7,7 @@ use Rattle.std.proofs.lemmas.Int.{ints}
 use Rattle.dpl_list.proofs.Integers.{signed}
 use Rattle.dpl_cover.specs.declared.blocks.TheConstants.{BLOCK, WIDE}
 use Rattle.dpl_cover.specs.declared.blocks.Block.{Block}
-use Rattle.dpl_cover.specs.Counts.{AreCounts, AreParts, AreSmall, AreUpTo, HasWithin, IsAdded, IsAlike, IsBeside, IsBetween, IsChange, IsFit}
+use Rattle.dpl_cover.specs.Counts.{AreBlank, AreCounts, AreParts, AreSmall, AreUpTo, HasWithin, IsAdded, IsAlike, IsBeside, IsBetween, IsChange, IsFit}
 use Rattle.dpl_cover.specs.Counts.{IsKept, IsNear, IsPartChange, IsRenewed, IsWholeGrown, IsUpTo, IsUnit, IsWider, block_at, block_of, count_at}
 use Rattle.dpl_cover.specs.Counts.{no_block, own_at, part_at, wide_of}
 
@@ -230,6 +230,26 @@ places_changed a c d by each each' blocks blocks' u to up full parts small long 
     elsewhere k (inl h) = inl (omega (arith, h, block_from a))
     elsewhere k (inr h) = inr (omega (arith, h, to, up))
 
+-- numbers that were widened by what was added to some places of a block
+pub widened : (a c d : ℕ) (by : ℤ) (each each' : List ℤ) (blocks blocks' : List Block) → d ≤ a / BLOCK * BLOCK + BLOCK → d ≤ length each
+    → AreParts each blocks → IsAdded (length each) a c by (own_at each) (own_at each') → IsKept (block_of a) blocks blocks'
+    → IsWider (block_at blocks (block_of a)) (block_at blocks' (block_of a))
+    → HasWithin by (block_at blocks (block_of a)) (block_at blocks' (block_of a))
+    → IsRenewed (block_of a) (a / BLOCK * BLOCK) d each' blocks blocks'
+widened a c d by each each' blocks blocks' up within parts g kept wide more = record {
+  kept = kept;
+  between = λ k l h s. let old = before k l h in elim (place_or_beside a c k) [
+    | inl i ↦
+        let e : own_at each' k +ℤ (block_at blocks (block_of a)).whole ≡ own_at each k +ℤ (block_at blocks (block_of a)).whole +ℤ by =
+        omega (signed, g.inside k i.0 i.1) in
+        rw e (more _ (rw e at s) old)
+    | inr o ↦ rw (g.beside k (omega (arith, h, within)) o) (record { low = omega (signed, wide.low, old.low); high = omega (signed, wide.high, old.high) })
+  ];
+}
+  where
+    before : (k : ℕ) → a / BLOCK * BLOCK ≤ k → k < d → IsBetween (block_at blocks (block_of a)) (own_at each k +ℤ (block_at blocks (block_of a)).whole)
+    before k l h = rw (same_block a k l (omega (arith, h, up))) at (parts.part k (omega (arith, h, within)))
+
 -- two changes side by side
 pub joined_parts : (a m c : ℕ) (by : ℤ) (e0 : List ℤ) (b0 : List Block) (e1 : List ℤ) (b1 : List Block) (e2 : List ℤ) (b2 : List Block)
     → a ≤ m → m ≤ c → c ≤ length e0 → IsPartChange a m by e0 b0 e1 b1 → IsPartChange m c by e1 b1 e2 b2
@@ -413,7 +433,7 @@ joined_more blocks from j all new w v before i l h = elim (less_or_not i j) [
 pub raised_wider : (count : ℤ) (block all now : Block) → IsWider block all → HasWithin count all now → HasWithin count block now
 raised_wider count block all now w g z t s = g z t (record { low = omega (signed, w.low, s.low); high = omega (signed, w.high, s.high) })
 
-within_wider : (count : ℤ) (block now new : Block) → HasWithin count block now → IsWider now new → HasWithin count block new
+pub within_wider : (count : ℤ) (block now new : Block) → HasWithin count block now → IsWider now new → HasWithin count block new
 within_wider count block now new g w z t s = let r = g z t s in
     record { low = omega (signed, w.low, r.low); high = omega (signed, w.high, r.high) }
 
@@ -432,6 +452,28 @@ loosely_fit w a c blocks all changed now old more g each j l h n = elim (place_o
   | inl i ↦ inl (within_wider _ (block_at blocks j) changed now (raised_wider _ (block_at blocks j) all changed (each j i.0 i.1) g) more)
   | inr o ↦ inr (o, old)
 ]
+
+-- loose numbers
+pub loosely : (w a c : ℕ) (blocks : List Block) (now : Block) → ((z : ℤ) → IsUpTo (2 ^ 62) z → IsBetween now z) → IsFit w a c blocks now
+loosely w a c blocks now g j l h n = inl (λ z t s. g (z +ℤ (block_at blocks w).whole) t)
+
+-- numbers that are those of another block
+pub same_numbers : (old new : Block) → new.low ≡ old.low → new.high ≡ old.high → IsWider old new
+same_numbers old new low high = record { low = omega (signed, low); high = omega (signed, high) }
+
+-- other numbers of a block for which nothing is counted
+pub still_blank : (b : ℕ) (blocks blocks' : List Block) → IsKept b blocks blocks' → IsBetween (block_at blocks' b) (pos 0)
+    → AreBlank blocks → AreBlank blocks'
+still_blank b blocks blocks' kept between blank = record {
+  whole = λ j. elim (same_or_not j b) [
+    | inl e ↦ rw e (kept.whole ∙ blank.whole b)
+    | inr n ↦ rw (kept.others j n) (blank.whole j)
+  ];
+  between = λ j. elim (same_or_not j b) [
+    | inl e ↦ rw e between
+    | inr n ↦ rw (kept.others j n) (blank.between j)
+  ];
+}
 
 -- a sum that is cut to 64 bits is no nearer to a small number
 cut_below : (z y : ℤ) → z ≤ℤ y → IsUpTo (2 ^ 62) y → saturate_signed w64 z ≤ℤ y

@@ -98,6 +98,11 @@ pub record IsRenewed (b a c : ℕ) (each : List ℤ) (old new : List Block) : Ty
   pub between : (k : ℕ) → a ≤ k → k < c → IsUpTo (2 ^ 62) (own_at each k +ℤ (block_at old b).whole) →
       IsBetween (block_at new b) (own_at each k +ℤ (block_at old b).whole)
 
+-- nothing is counted at once for a block, and that lies between its numbers
+pub record AreBlank (blocks : List Block) : Type 0 where
+  pub whole : (j : ℕ) → (block_at blocks j).whole ≡ pos 0
+  pub between : (j : ℕ) → IsBetween (block_at blocks j) (pos 0)
+
 -- what lies between the numbers of a block of a wide block lies, with the count of the wide block, between those of another;
 -- for blocks beside those from a to c it may be what lay between those of the wide block
 abbrev pub IsFit : ℕ → ℕ → ℕ → List Block → Block → Type 0

@@ -1,12 +1,15 @@
 // Places in blocks of two sizes. They stand in one list, in which the blocks of a wide block follow it.
-ghost use Rattle.std.specs.Prelude.{◌≡◌};
-ghost use Rattle.dpl_cover.specs.Counts.{HasWithin, IsWider, block_of, wide_of};
+ghost use Rattle.std.specs.Prelude.{◌≡◌, ◌^◌, ◌+ℤ◌, ℤ, pos, int_lt, IfSome};
+ghost use Rattle.dpl_cover.specs.Counts.{HasWithin, IsBetween, IsUpTo, IsWider, block_of, wide_of};
 
 /// How many places a block has, and how many blocks a wide block; the last may have fewer.
 pub const BLOCK: usize = 32;
 
 /// How many places a wide block has.
 pub const WIDE: usize = 1024;
+
+/// No count is farther from 0.
+const FAR: i64 = 1 << 62;
 
 /// What is counted for all places of a block at once, and between which numbers lies what is counted for each with it.
 #[derive(Clone, Copy, Debug)]
@@ -52,5 +55,35 @@ pub fn joined(a: &Block, b: &Block) -> Block
         whole: a.whole,
         low: a.low.min(b.low),
         high: a.high.max(b.high),
+    }
+}
+
+/// Numbers between which all counts lie, so that they tell of none.
+pub fn loose() -> Block
+    ensures { (z : ℤ) → IsUpTo (2 ^ 62) z → IsBetween result z }
+{
+    Block {
+        whole: 0,
+        low: -FAR,
+        high: FAR,
+    }
+}
+
+/// Whether the numbers of a block tell nothing.
+pub fn is_loose(block: &Block) -> bool {
+    block.low <= -FAR
+}
+
+/// Whether all that lies between the numbers of a block is more than nothing with a count, or none is.
+pub fn sign_of(count: i64, block: &Block) -> Option<bool>
+    ensures { (z : ℤ) → IsBetween block.now z → IfSome result (λ counted. int_lt (pos 0) (z +ℤ count) ≡ counted) }
+{
+    let bare = 0i64.saturating_sub(count);
+    if bare < block.low {
+        Some(true)
+    } else if block.high <= bare {
+        Some(false)
+    } else {
+        None
     }
 }

@@ -1,11 +1,13 @@
 // How often each place is counted.
-ghost use Rattle.std.specs.Prelude.{◌≡◌, ◌≤◌, ◌<◌, ◌+◌, ◌*◌, ◌/◌, ◌^◌, ◌+ℤ◌, ℕ, ℤ, pos, true, length, int_lt, IfSome};
+ghost use Rattle.std.specs.Prelude.{◌≡◌, ◌≤◌, ◌<◌, ◌+◌, ◌*◌, ◌/◌, ◌^◌, ◌+ℤ◌, ℕ, pos, true, length, int_lt, IfSome};
 ghost use Rattle.dpl_cover.specs.declared.blocks.TheConstants.{BLOCK, WIDE};
-ghost use Rattle.dpl_cover.specs.Counts.{AreCounts, AreParts, AreSmall, AreUpTo, IsAdded, IsAlike, IsBetween};
+ghost use Rattle.dpl_cover.specs.Counts.{AreBlank, AreCounts, AreParts, AreSmall, AreUpTo, HasWithin, IsAdded, IsAlike, IsBetween};
 ghost use Rattle.dpl_cover.specs.Counts.{IsChange, IsFit, IsKept, IsPartChange, IsRenewed, IsUnit, IsWider, IsUpTo};
 ghost use Rattle.dpl_cover.specs.Counts.{IsWholeGrown, block_at, block_of, is_counted, own_at, part_at};
 
-use crate::blocks::{BLOCK, Block, WIDE, block_of, joined, raised, wide_of};
+use crate::blocks::{
+    BLOCK, Block, WIDE, block_of, is_loose, joined, loose, raised, sign_of, wide_of,
+};
 
 /// Adds a number to the own counts of places.
 fn add_each(each: &mut [i64], from: usize, to: usize, by: i64)
@@ -76,7 +78,32 @@ fn renew(blocks: &mut [Block], each: &[i64], b: usize, from: usize, to: usize)
     set_bounds(blocks, b, &now);
 }
 
-/// Adds a number to the counts of places of one block.
+/// Widens the numbers of a block by a number that was added to the counts of some of its places.
+fn widen(blocks: &mut [Block], b: usize, by: i64)
+    requires { b < length blocks.old }
+    ensures kept { IsKept b blocks.old blocks.new }
+    ensures wider { IsWider (block_at blocks.old b) (block_at blocks.new b) }
+    ensures between { HasWithin by (block_at blocks.old b) (block_at blocks.new b) }
+{
+    let now = joined(&blocks[b], &raised(&blocks[b], by));
+    set_bounds(blocks, b, &now);
+}
+
+/// Whether a place of a block beside those from one on up to another has its least count.
+fn has_least_beside(each: &[i64], block: &Block, from: usize, to: usize) -> bool
+    requires order { from < to }
+    requires within { to ≤ length each.now }
+{
+    let beside = if to % BLOCK == 0 || to == each.len() {
+        from / BLOCK * BLOCK
+    } else {
+        to
+    };
+    each[beside].saturating_add(block.whole) <= block.low
+}
+
+/// Adds a number to the counts of places of one block. Its numbers are looked up again where one was taken away, or where
+/// the least count may have been added to at all places that have it.
 fn change_within(each: &mut [i64], blocks: &mut [Block], from: usize, to: usize, by: i64)
     requires order { from < to }
     requires within { to ≤ length each.old }
@@ -88,12 +115,17 @@ fn change_within(each: &mut [i64], blocks: &mut [Block], from: usize, to: usize,
     ensures { IsPartChange from to by each.old blocks.old each.new blocks.new }
 {
     let b = block_of(from);
+    if to - from == BLOCK {
+        add_whole(blocks, b, by);
+        return;
+    }
     let start = from / BLOCK * BLOCK;
     let end = start + BLOCK.min(each.len() - start);
-    if start == from && end == to {
-        add_whole(blocks, b, by);
+    let stays = has_least_beside(each, &blocks[b], from, to);
+    add_each(each, from, to, by);
+    if stays && 0 < by {
+        widen(blocks, b, by);
     } else {
-        add_each(each, from, to, by);
         renew(blocks, each, b, start, end);
     }
 }
@@ -129,22 +161,59 @@ fn joined_all(blocks: &[Block], from: usize, to: usize) -> Block
     all
 }
 
+/// Between which numbers lies what is counted for the places of a wide block, looked up in all its blocks.
+fn bounds_of_wide(blocks: &[Block], w: usize) -> Block
+    requires { w + 1 < length blocks.now }
+    ensures { (from to : ℕ) → IsFit w from to blocks.now result }
+{
+    let all = joined_all(blocks, w + 1, blocks.len().min(w + 1 + BLOCK));
+    raised(&all, blocks[w].whole)
+}
+
+/// Whether the places of all blocks of a wide block are known to be counted, or all known to be not.
+fn are_all(blocks: &[Block], w: usize, counted: bool) -> bool
+    requires { w + 1 < length blocks.now }
+{
+    for j in w + 1..blocks.len().min(w + 1 + BLOCK) {
+        match sign_of(blocks[w].whole, &blocks[j]) {
+            Some(sign) if sign == counted => {}
+            _ => return false,
+        }
+    }
+    true
+}
+
+/// Whether a change of a wide block made all its places counted, or none.
+fn has_turned(blocks: &[Block], w: usize, changed: &Block, now: &Block) -> bool
+    requires { w + 1 < length blocks.now }
+{
+    match sign_of(0, changed) {
+        Some(counted) => sign_of(0, now).is_none() && are_all(blocks, w, counted),
+        None => false,
+    }
+}
+
 /// Between which numbers lies what is counted for the places of a wide block, after a change of its blocks from one on
-/// up to another. All of them are looked up where this change may have made it full or empty.
+/// up to another. They stay loose before all its blocks are changed at once, so that small boxes do not pay for them.
 fn fitted(blocks: &[Block], w: usize, from: usize, to: usize) -> Block
     requires order { w < from }
     requires some { from < to }
     requires within { to ≤ length blocks.now }
     ensures { IsFit w from to blocks.now result }
 {
-    let wide = blocks[w];
-    let changed = raised(&joined_all(blocks, from, to), wide.whole);
-    let loose = joined(&wide, &changed);
-    if loose.low <= 0 && 0 < changed.low || changed.high <= 0 && 0 < loose.high {
-        let all = joined_all(blocks, w + 1, blocks.len().min(w + 1 + BLOCK));
-        return raised(&all, wide.whole);
+    if to - from == BLOCK {
+        return bounds_of_wide(blocks, w);
     }
-    loose
+    let wide = blocks[w];
+    if is_loose(&wide) {
+        return loose();
+    }
+    let changed = raised(&joined_all(blocks, from, to), wide.whole);
+    let now = joined(&wide, &changed);
+    if has_turned(blocks, w, &changed, &now) {
+        return bounds_of_wide(blocks, w);
+    }
+    now
 }
 
 /// Adds a number to the counts of places of one wide block.
@@ -158,14 +227,25 @@ fn change_in_wide(each: &mut [i64], blocks: &mut [Block], from: usize, to: usize
     ensures { IsChange from to by each.old blocks.old each.new blocks.new }
 {
     let w = wide_of(from);
-    let start = from / WIDE * WIDE;
-    let end = start + WIDE.min(each.len() - start);
-    if start == from && end == to {
+    if to - from == WIDE && !is_loose(&blocks[w]) {
         add_whole(blocks, w, by);
     } else {
         change_parts(each, blocks, from, to, by);
         let now = fitted(blocks, w, block_of(from), block_of(to - 1) + 1);
         set_bounds(blocks, w, &now);
+    }
+}
+
+/// Makes the numbers of wide blocks loose where nothing is counted.
+pub fn loosen(blocks: &mut [Block])
+    requires { AreBlank blocks.old }
+    ensures long { length blocks.new ≡ length blocks.old }
+    ensures blank { AreBlank blocks.new }
+{
+    for w in 0..blocks.len() {
+        if w % (BLOCK + 1) == 0 {
+            set_bounds(blocks, w, &loose());
+        }
     }
 }
 
@@ -227,19 +307,6 @@ fn whole_of(block: &Block, wide: &Block) -> i64
     ensures small { IsUpTo (2 ^ 61) result }
 {
     block.whole + wide.whole
-}
-
-/// Whether all that lies between the numbers of a block is more than nothing with a count, or none is.
-fn sign_of(count: i64, block: &Block) -> Option<bool>
-    ensures { (z : ℤ) → IsBetween block.now z → IfSome result (λ counted. int_lt (pos 0) (z +ℤ count) ≡ counted) }
-{
-    if 0 < count.saturating_add(block.low) {
-        Some(true)
-    } else if count.saturating_add(block.high) <= 0 {
-        Some(false)
-    } else {
-        None
-    }
 }
 
 /// The places from one on of its wide block, or of its block, where one count is enough to tell that they are alike.

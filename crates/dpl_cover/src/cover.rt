@@ -9,7 +9,7 @@ ghost use Rattle.dpl_cover.specs.Covers.{IsCounted, IsPassed};
 
 use crate::blocks::{Block, block_of};
 use crate::columns::{columns_of, place_from};
-use crate::counts::change;
+use crate::counts::{change, loosen};
 use crate::parts::parts_in;
 use dpl_cell::{Rect, Stretch};
 use std::alloc::{AllocError, Global};
@@ -119,7 +119,8 @@ fn blank(alloc: Global, places: usize) -> Result<(Vec<i64>, Vec<Block>), AllocEr
         low: 0,
         high: 0,
     };
-    let blocks = vec![in alloc; block; block_of(places) + 1]?;
+    let mut blocks = vec![in alloc; block; block_of(places) + 1]?;
+    loosen(blocks.as_mut_slice());
     Ok((each, blocks))
 }
 

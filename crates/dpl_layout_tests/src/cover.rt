@@ -53,15 +53,17 @@ fn has_only(parts: &[Stretch], from: i64, to: i64) -> bool {
     true
 }
 
-/// Two long boxes laid over each other below a row of 1,100 small ones, at whose 2,200 columns they pass wide blocks.
+/// Two long boxes laid over each other below a row of 1,100 small ones, at whose 2,200 columns they pass wide blocks, and
+/// one over all of these.
 #[test]
 fn long_boxes_over_wide_blocks(rt: HostRuntime) -> Result<(), Fail> {
     let mut boxes = Vec::new(rt.alloc());
     push(&mut boxes, 0, 0, 2199, 4)?;
     push(&mut boxes, 100, 2, 2051, 8)?;
     for k in 0..1100 {
-        push(&mut boxes, 2 * k, 9, 2 * k + 1, 10)?;
+        push(&mut boxes, 2 * k, 9, 2 * k + 1, 14)?;
     }
+    push(&mut boxes, 0, 11, 2199, 12)?;
     let mut cover = Cover::new(rt.alloc(), boxes.as_slice())?;
     cover.rise(0);
     let parts = cover.stretches(rt.alloc(), -3, 2203)?;
@@ -80,7 +82,13 @@ fn long_boxes_over_wide_blocks(rt: HostRuntime) -> Result<(), Fail> {
     assert_eq!(rt; drawn(&rt, parts.as_slice())?.as_str(), "..#.#.#.#.#.#.#");
     let parts = cover.stretches(rt.alloc(), -3, 2203)?;
     assert_eq!(rt; parts.len(), 1100);
-    cover.rise(10);
+    cover.rise(11);
+    let parts = cover.stretches(rt.alloc(), -3, 2203)?;
+    assert!(rt; has_only(parts.as_slice(), 0, 2199));
+    cover.rise(12);
+    let parts = cover.stretches(rt.alloc(), -3, 2203)?;
+    assert_eq!(rt; parts.len(), 1100);
+    cover.rise(14);
     let parts = cover.stretches(rt.alloc(), -3, 2203)?;
     assert!(rt; parts.is_empty());
     Ok(())

@@ -1,21 +1,21 @@
-use Rattle.std.proofs.Common.{arith, rules, refl, ◌≡◌, ◌⊎◌, ◌+◌, ◌*◌, ◌/◌, ◌^◌, length, SFits, w64}
+use Rattle.std.proofs.Common.{arith, rules, refl, inl, ◌≡◌, ◌+◌, ◌*◌, ◌/◌, ◌^◌, length, SFits, w64}
 use Rattle.std.proofs.lemmas.Int.{to_z-of_z}
 use Rattle.dpl_cover.specs.declared.blocks.TheConstants.{WIDE}
 use Rattle.dpl_cover.specs.Counts.{AreUpTo, count_at}
 use Rattle.dpl_cover.proofs.CountLemmas.{near_added, near_up, parts_changed, parts_counted, wide_changed, wider_all}
 use Rattle.dpl_cover.proofs.counts.change_in_wide.Goals as goal
 
-pub returns-then-end-to : goal.returns-then-end-to
-returns-then-end-to c =
+pub returns-then-not-is_loose : goal.returns-then-not-is_loose
+returns-then-not-is_loose c =
     let by : SFits w64 c.args.by = c.ranges.by in
     let start : c.args.from ≡ c.args.from / WIDE * WIDE = search rules in
-    let full : (c.args.to ≡ c.args.from / WIDE * WIDE + WIDE) ⊎ (c.args.to ≡ length c.args.each.now) = search rules in
+    let end : c.args.to ≡ c.args.from / WIDE * WIDE + WIDE = search rules in
     wide_changed c.args.from c.args.to c.args.by c.args.each.now c.args.blocks.now c.add_whole.new.blocks c.requires.one start
-    c.requires.wide full c.requires.counts (wider_all (2 ^ 59) (2 ^ 60) _ _ (omega arith) c.requires.small.count)
+    c.requires.wide (inl end) c.requires.counts (wider_all (2 ^ 59) (2 ^ 60) _ _ (omega arith) c.requires.small.count)
     (simp to_z-of_z at (rw c.wide_of-w.ensures at c.add_whole.ensures))
 
-pub returns-else-start-from : goal.returns-else-start-from
-returns-else-start-from c =
+pub returns-else-to-from-eq-WIDE : goal.returns-else-to-from-eq-WIDE
+returns-else-to-from-eq-WIDE c =
     let by : SFits w64 c.args.by = c.ranges.by in
     let changed = simp to_z-of_z at c.change_parts.ensures in
     let small : AreUpTo (2 ^ 62) (length c.change_parts.new.each) (count_at c.change_parts.new.each c.change_parts.new.blocks) =
@@ -23,5 +23,5 @@ returns-else-start-from c =
     (near_up _ (2 ^ 59) _ _ _ _ (near_added _ _ _ c.args.by _ _ c.requires.one (parts_counted _ _ _ _ _ _ _ changed)) c.requires.small.count)) in
     parts_changed c.args.from c.args.to _ c.args.by c.args.each.now c.args.blocks.now c.change_parts.new.each c.change_parts.new.blocks
     c.set_bounds.new.blocks c.requires.one c.requires.order c.requires.wide refl c.requires.counts small changed c.fitted-now.result
-    (rw (c.wide_of-w.ensures, c.block_of.ensures, c.block_of-else-start-from.ensures) at c.fitted-now.ensures)
+    (rw (c.wide_of-w.ensures, c.block_of.ensures, c.block_of-else-to-from-eq-WIDE.ensures) at c.fitted-now.ensures)
     (rw c.wide_of-w.ensures at c.set_bounds.ensures.kept) (search rules) (search rules)
