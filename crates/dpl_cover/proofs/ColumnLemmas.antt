@@ -1,11 +1,11 @@
 -- The columns at which boxes end.
-use Rattle.std.proofs.Common.{arith, ◌≡◌, ◌⊎◌, inl, inr, sym, subst, ℕ, ◌+◌, ◌-◌, ◌<◌, ◌≤◌, ◌^◌, ℤ, pos, neg_ℤ, ◌<ℤ◌, ◌≤ℤ◌, List, length, get_or}
-use Rattle.std.proofs.Common.{take, All, Contains, ◌∷◌, [], ◌++◌, refl, true, int_lt, int_le}
+use Rattle.std.proofs.Common.{arith, ◌≡◌, ◌⊎◌, inl, inr, sym, subst, ℕ, ◌+◌, ◌+ℤ◌, ◌-◌, ◌<◌, ◌≤◌, ◌^◌, ℤ, pos, neg_ℤ, ◌<ℤ◌, ◌≤ℤ◌, List, length, get_or}
+use Rattle.std.proofs.Common.{◌∙◌, zero, suc, take, drop, All, Contains, ◌∷◌, [], ◌++◌, refl, true, int_lt, int_le}
 use Rattle.std.specs.Ordering.{int_cmp, int_eq}
 use Rattle.std.specs.List.Sorted.{IsPermutation, IsSorted, IsPartitionedBy}
 use Rattle.std.specs.List.{dedup}
 use Rattle.std.proofs.lemmas.Cmp.{int_cmp_total, int_eq_equiv}
-use Rattle.std.proofs.lemmas.List.{take_all, get_or_default}
+use Rattle.std.proofs.lemmas.List.{take_all, get_or_default, get_or-take, get_or-drop, length-drop, length-take-le}
 use Rattle.std.proofs.lemmas.List.Elements.{All-push, All-weaker, All-more, Contains-append_left, Contains-push}
 use Rattle.std.proofs.lemmas.List.Filters.{All-dedup}
 use Rattle.std.proofs.lemmas.List.Kept.{IsStrictlySortedBy-dedup, Contains-dedup}
@@ -16,7 +16,7 @@ use Rattle.dpl_list.proofs.Integers.{signed}
 use Rattle.dpl_list.proofs.OrderLemmas.{less_by_order}
 use Rattle.dpl_cell.specs.declared.rect.Rect.{Rect}
 use Rattle.dpl_cell.specs.Ranges.{IsInRange}
-use Rattle.dpl_cover.specs.Columns.{AddsEnds, AreColumns, AreRising, HasEnds}
+use Rattle.dpl_cover.specs.Columns.{AddsEnds, AreColumns, AreRising, HasEnds, column_at}
 
 ends_kept : (old new : List ℤ) (r : Rect) → ((z : ℤ) → Contains old z → Contains new z) → HasEnds old r → HasEnds new r
 ends_kept old new r f h = record { left = f r.x1 h.left; right = f r.x2 h.right }
@@ -65,6 +65,9 @@ columns_once boxes ends sorted columns is moved order has range = record {
     kept : (z : ℤ) → Contains ends z → Contains columns z
     kept z h = rw is (Contains-dedup int_eq_equiv same_by_test sorted z (Contains-permutation ends sorted z moved h))
 
+less_or_not : (i j : ℕ) → (i < j) ⊎ (j ≤ i)
+less_or_not i j = search arith
+
 equal_or_less : (i j : ℕ) → i ≤ j → (i ≡ j) ⊎ (i < j)
 equal_or_less i j h = search arith
 
@@ -93,3 +96,54 @@ parted_up_to columns x up i j d le l e = elim (equal_or_less i j le) [
 
 pub last_of_those : (n k : ℕ) → k ≡ n - 1 → (k ≡ 0) ⊎ (k < n)
 last_of_those n k e = search arith
+
+-- ---- some columns in a row
+
+part_long : (columns : List ℤ) (m n : ℕ) → m + n ≤ length columns → length (take n (drop m columns)) ≡ n
+part_long columns m n h = length-take-le n (drop m columns) (let e = length-drop m columns in omega (arith, e, h))
+
+part_column : (columns : List ℤ) (m n k : ℕ) → k < n → column_at (take n (drop m columns)) k ≡ column_at columns (m + k)
+part_column columns m n k h = get_or-take n (drop m columns) k (pos 0) h ∙ get_or-drop m columns k (pos 0)
+
+pub part_rising : (columns : List ℤ) (m n : ℕ) → m + n ≤ length columns → AreRising columns → AreRising (take n (drop m columns))
+part_rising columns m n h up i j l w =
+    let below : j < n = rw (part_long columns m n h) at w in
+    rw (part_column columns m n i (omega (arith, l, below)), part_column columns m n j below)
+    (up (m + i) (m + j) (omega (arith, l)) (omega (arith, h, below)))
+
+-- columns are as far apart as their places at least
+apart : (columns : List ℤ) → AreRising columns → (i n : ℕ) → i + n < length columns → (column_at columns i +ℤ pos n) ≤ℤ column_at columns (i + n)
+apart columns up i zero h = let e : i + zero ≡ i = omega arith in rw e (omega signed)
+apart columns up i (suc n) h =
+    let before = apart columns up i n (omega (arith, h)) in let next = up (i + n) (i + suc n) (omega arith) h in
+    omega (signed, before, next)
+
+-- the place for the right side of a box, looked for in some columns from that for its left side on
+pub left_of_right : (columns : List ℤ) (from n p : ℕ) (x1 x2 : ℤ) → x1 <ℤ x2 → from + n ≤ length columns
+    → ((k : ℕ) → k < from → column_at columns k <ℤ x1) → p ≤ length (take n (drop from columns))
+    → ((k : ℕ) → k < p → column_at (take n (drop from columns)) k <ℤ x2) → (k : ℕ) → k < from + p → column_at columns k <ℤ x2
+left_of_right columns from n p x1 x2 wide within left few found k h = elim (less_or_not k from) [
+  | inl l ↦ let a = left k l in omega (signed, a, wide)
+  | inr l ↦
+      let j : k - from < p = omega (arith, h, l) in let e : from + (k - from) ≡ k = omega (arith, l) in
+      let below : k - from < n = omega (arith, j, rw (part_long columns from n within) at few) in
+      rw (part_column columns from n (k - from) below, e) at (found (k - from) j)
+]
+
+pub right_of_right : (columns : List ℤ) (from n p : ℕ) (x1 x2 : ℤ) → AreRising columns → from + n ≤ length columns
+    → (from + n ≡ length columns) ⊎ (x1 +ℤ pos n ≡ x2)
+    → ((k : ℕ) → from ≤ k → k < length columns → x1 ≤ℤ column_at columns k)
+    → ((k : ℕ) → p ≤ k → k < length (take n (drop from columns)) → x2 ≤ℤ column_at (take n (drop from columns)) k)
+    → (k : ℕ) → from + p ≤ k → k < length columns → x2 ≤ℤ column_at columns k
+right_of_right columns from n p x1 x2 up within width others found k l h = elim (less_or_not (k - from) n) [
+  | inl s ↦ rw (part_column columns from n (k - from) s, back) at (found (k - from) (omega (arith, l)) (rw (part_long columns from n within) s))
+  | inr s ↦ elim width [
+    | inl e ↦ absurd (omega (arith, e, s, h, l))
+    | inr e ↦
+        let a = rw back at (apart columns up from (k - from) (rw back h)) in
+        let b = others from (omega arith) (omega (arith, l, h)) in omega (signed, a, b, e, s)
+  ]
+]
+  where
+    back : from + (k - from) ≡ k
+    back = omega (arith, l)

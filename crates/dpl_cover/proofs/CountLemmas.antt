@@ -231,7 +231,7 @@ places_changed a c d by each each' blocks blocks' u to up full parts small long 
     elsewhere k (inr h) = inr (omega (arith, h, to, up))
 
 -- numbers that were widened by what was added to some places of a block
-pub widened : (a c d : ℕ) (by : ℤ) (each each' : List ℤ) (blocks blocks' : List Block) → d ≤ a / BLOCK * BLOCK + BLOCK → d ≤ length each
+widened : (a c d : ℕ) (by : ℤ) (each each' : List ℤ) (blocks blocks' : List Block) → d ≤ a / BLOCK * BLOCK + BLOCK → d ≤ length each
     → AreParts each blocks → IsAdded (length each) a c by (own_at each) (own_at each') → IsKept (block_of a) blocks blocks'
     → IsWider (block_at blocks (block_of a)) (block_at blocks' (block_of a))
     → HasWithin by (block_at blocks (block_of a)) (block_at blocks' (block_of a))
@@ -249,6 +249,23 @@ widened a c d by each each' blocks blocks' up within parts g kept wide more = re
   where
     before : (k : ℕ) → a / BLOCK * BLOCK ≤ k → k < d → IsBetween (block_at blocks (block_of a)) (own_at each k +ℤ (block_at blocks (block_of a)).whole)
     before k l h = rw (same_block a k l (omega (arith, h, up))) at (parts.part k (omega (arith, h, within)))
+
+-- so places were changed by which its numbers were widened
+pub widely_changed : (a c : ℕ) (by : ℤ) (each each' : List ℤ) (blocks blocks' : List Block) → IsUnit by
+    → c ≤ length each → c ≤ a / BLOCK * BLOCK + BLOCK → AreParts each blocks → AreUpTo (2 ^ 60) (length each) (part_at each blocks)
+    → length each' ≡ length each → IsAdded (length each) a c by (own_at each) (own_at each') → IsKept (block_of a) blocks blocks'
+    → IsWider (block_at blocks (block_of a)) (block_at blocks' (block_of a))
+    → HasWithin by (block_at blocks (block_of a)) (block_at blocks' (block_of a)) → IsPartChange a c by each blocks each' blocks'
+widely_changed a c by each each' blocks blocks' u within up parts small long g kept wide more =
+    elim (less_or_not (length each) (a / BLOCK * BLOCK + BLOCK)) [
+      | inl h ↦ changed (length each) within (omega (arith, h)) (inr refl) (omega arith)
+      | inr h ↦ changed (a / BLOCK * BLOCK + BLOCK) up (omega arith) (inl refl) h
+    ]
+  where
+    changed : (d : ℕ) → c ≤ d → d ≤ a / BLOCK * BLOCK + BLOCK → (d ≡ a / BLOCK * BLOCK + BLOCK) ⊎ (d ≡ length each) → d ≤ length each
+        → IsPartChange a c by each blocks each' blocks'
+    changed d to below full top = places_changed a c d by each each' blocks blocks' u to below full parts small long g
+        (widened a c d by each each' blocks blocks' below top parts g kept wide more)
 
 -- two changes side by side
 pub joined_parts : (a m c : ℕ) (by : ℤ) (e0 : List ℤ) (b0 : List Block) (e1 : List ℤ) (b1 : List Block) (e2 : List ℤ) (b2 : List Block)
@@ -453,10 +470,6 @@ loosely_fit w a c blocks all changed now old more g each j l h n = elim (place_o
   | inr o ↦ inr (o, old)
 ]
 
--- loose numbers
-pub loosely : (w a c : ℕ) (blocks : List Block) (now : Block) → ((z : ℤ) → IsUpTo (2 ^ 62) z → IsBetween now z) → IsFit w a c blocks now
-loosely w a c blocks now g j l h n = inl (λ z t s. g (z +ℤ (block_at blocks w).whole) t)
-
 -- numbers that are those of another block
 pub same_numbers : (old new : Block) → new.low ≡ old.low → new.high ≡ old.high → IsWider old new
 same_numbers old new low high = record { low = omega (signed, low); high = omega (signed, high) }
@@ -548,6 +561,11 @@ places_alike each blocks at to end whole counted further order within up is one 
       | inr r ↦ others k r h
     ]
 
+-- so is what was counted at once for a wide block
+pub wide_small : (each : List ℤ) (blocks : List Block) (k : ℕ) → k < length each → AreSmall (2 ^ 60) each blocks
+    → IsUpTo (2 ^ 62) (block_at blocks (wide_of k)).whole
+wide_small each blocks k l s = wider (2 ^ 60 + 2 ^ 60) (2 ^ 62) _ (omega arith) (addend_up (2 ^ 60) (part_at each blocks k) _ (s.part k l) (s.count k l))
+
 -- the counts of the two blocks of a place are small together
 pub wholes_small : (each : List ℤ) (blocks : List Block) (k : ℕ) → k < length each → AreSmall (2 ^ 60) each blocks
     → IsUpTo (2 ^ 61) ((block_at blocks (block_of k)).whole +ℤ (block_at blocks (wide_of k)).whole)
@@ -558,3 +576,18 @@ wholes_small each blocks k l s = wider (2 ^ 60 + 2 ^ 60) (2 ^ 61) _ (omega arith
 pub whole_fits : (z by : ℤ) → IsUnit by → IsUpTo (2 ^ 62) z → SFits w64 (z +ℤ by)
 whole_fits z by (inl u) s = rw u (search (arith, ints))
 whole_fits z by (inr u) s = rw u (search (arith, ints))
+
+-- counts are still small after a change in blocks alone
+pub small_now : (a c : ℕ) (by : ℤ) (e0 : List ℤ) (b0 : List Block) (e1 : List ℤ) (b1 : List Block) → IsUnit by
+    → IsPartChange a c by e0 b0 e1 b1 → AreSmall (2 ^ 59) e0 b0 → AreUpTo (2 ^ 62) (length e1) (count_at e1 b1)
+small_now a c by e0 b0 e1 b1 u g s = wider_all (2 ^ 59 + 1) (2 ^ 62) _ _ (omega arith)
+    (rw g.long (near_up _ (2 ^ 59) _ _ _ _ (near_added _ _ _ by _ _ u (parts_counted _ _ _ _ _ _ _ g)) s.count))
+
+-- the counts of some places of a wide block were changed whose numbers are loose
+pub loosely_changed : (a c : ℕ) (by : ℤ) (e0 : List ℤ) (b0 : List Block) (e1 : List ℤ) (b1 : List Block) → IsUnit by
+    → a < c → c ≤ a / WIDE * WIDE + WIDE → AreCounts e0 b0 → AreUpTo (2 ^ 62) (length e1) (count_at e1 b1)
+    → IsPartChange a c by e0 b0 e1 b1 → ((z : ℤ) → IsUpTo (2 ^ 62) z → IsBetween (block_at b0 (wide_of a)) z) → IsChange a c by e0 b0 e1 b1
+loosely_changed a c by e0 b0 e1 b1 u order up counts small g loose =
+    parts_changed a c (c - 1) by e0 b0 e1 b1 b1 u order up refl counts small g (block_at b1 (wide_of a))
+    (λ j l h n. inl (λ z t s. rw (g.wide a) (loose _ (rw (g.wide a) at t))))
+    (record { long = refl; whole = refl; others = λ j n. refl }) refl refl

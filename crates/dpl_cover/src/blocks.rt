@@ -1,5 +1,5 @@
 // Places in blocks of two sizes. They stand in one list, in which the blocks of a wide block follow it.
-ghost use Rattle.std.specs.Prelude.{◌≡◌, ◌^◌, ◌+ℤ◌, ℤ, pos, int_lt, IfSome};
+ghost use Rattle.std.specs.Prelude.{◌≡◌, ◌^◌, ◌+ℤ◌, ℤ, pos, true, int_lt, IfSome};
 ghost use Rattle.dpl_cover.specs.Counts.{HasWithin, IsBetween, IsUpTo, IsWider, block_of, wide_of};
 
 /// How many places a block has, and how many blocks a wide block; the last may have fewer.
@@ -70,18 +70,20 @@ pub fn loose() -> Block
 }
 
 /// Whether the numbers of a block tell nothing.
-pub fn is_loose(block: &Block) -> bool {
-    block.low <= -FAR
+pub fn is_loose(block: &Block) -> bool
+    ensures { result ≡ true → (z : ℤ) → IsUpTo (2 ^ 62) z → IsBetween block.now z }
+{
+    block.low <= -FAR && FAR <= block.high
 }
 
 /// Whether all that lies between the numbers of a block is more than nothing with a count, or none is.
 pub fn sign_of(count: i64, block: &Block) -> Option<bool>
+    requires { IsUpTo (2 ^ 62) count }
     ensures { (z : ℤ) → IsBetween block.now z → IfSome result (λ counted. int_lt (pos 0) (z +ℤ count) ≡ counted) }
 {
-    let bare = 0i64.saturating_sub(count);
-    if bare < block.low {
+    if -count < block.low {
         Some(true)
-    } else if block.high <= bare {
+    } else if block.high <= -count {
         Some(false)
     } else {
         None

@@ -45,6 +45,22 @@ pub fn place_from(columns: &[i64], x: i64) -> usize
     columns.partition_point(|c| *c < x)
 }
 
+/// The place of the first column that is not left of the right side of a box, from that for its left side on. Columns
+/// differ, so no more of them than the box is wide are looked at.
+pub fn place_after(columns: &[i64], from: usize, r: &Rect) -> usize
+    requires columns { AreRising columns.now }
+    requires within { from ≤ length columns.now }
+    requires left { (k : ℕ) → k < from → column_at columns.now k <ℤ r.now.x1 }
+    requires others { (k : ℕ) → from ≤ k → k < length columns.now → r.now.x1 ≤ℤ column_at columns.now k }
+    ensures within { result ≤ length columns.now }
+    ensures left { (k : ℕ) → k < result → column_at columns.now k <ℤ r.now.x2 }
+    ensures others { (k : ℕ) → result ≤ k → k < length columns.now → r.now.x2 ≤ℤ column_at columns.now k }
+{
+    let width = (r.x2 - r.x1) as usize;
+    let end = from + width.min(columns.len() - from);
+    from + place_from(&columns[from..end], r.x2)
+}
+
 /// The place of the last column that is not right of one; the first where there is none.
 pub fn last_place(columns: &[i64], x: i64) -> usize
     requires { AreRising columns.now }

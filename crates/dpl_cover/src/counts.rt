@@ -1,8 +1,8 @@
 // How often each place is counted.
 ghost use Rattle.std.specs.Prelude.{◌≡◌, ◌≤◌, ◌<◌, ◌+◌, ◌*◌, ◌/◌, ◌^◌, ◌+ℤ◌, ℕ, pos, true, length, int_lt, IfSome};
 ghost use Rattle.dpl_cover.specs.declared.blocks.TheConstants.{BLOCK, WIDE};
-ghost use Rattle.dpl_cover.specs.Counts.{AreBlank, AreCounts, AreParts, AreSmall, AreUpTo, HasWithin, IsAdded, IsAlike, IsBetween};
-ghost use Rattle.dpl_cover.specs.Counts.{IsChange, IsFit, IsKept, IsPartChange, IsRenewed, IsUnit, IsWider, IsUpTo};
+ghost use Rattle.dpl_cover.specs.Counts.{AreBlank, AreCounts, AreParts, AreSmall, AreUpTo, HasWithin, IsAdded, IsAlike};
+ghost use Rattle.dpl_cover.specs.Counts.{IsBetween, IsChange, IsFit, IsKept, IsPartChange, IsRenewed, IsUnit, IsWider, IsUpTo};
 ghost use Rattle.dpl_cover.specs.Counts.{IsWholeGrown, block_at, block_of, is_counted, own_at, part_at};
 
 use crate::blocks::{
@@ -99,11 +99,11 @@ fn has_least_beside(each: &[i64], block: &Block, from: usize, to: usize) -> bool
     } else {
         to
     };
-    each[beside].saturating_add(block.whole) <= block.low
+    each[beside].wrapping_add(block.whole) <= block.low
 }
 
-/// Adds a number to the counts of places of one block. Its numbers are looked up again where one was taken away, or where
-/// the least count may have been added to at all places that have it.
+/// Adds a number to the counts of places of one block. Its numbers are looked up again where one was taken away, or
+/// where one was added to all places, perhaps, that have its least count.
 fn change_within(each: &mut [i64], blocks: &mut [Block], from: usize, to: usize, by: i64)
     requires order { from < to }
     requires within { to ≤ length each.old }
@@ -119,13 +119,12 @@ fn change_within(each: &mut [i64], blocks: &mut [Block], from: usize, to: usize,
         add_whole(blocks, b, by);
         return;
     }
-    let start = from / BLOCK * BLOCK;
-    let end = start + BLOCK.min(each.len() - start);
-    let stays = has_least_beside(each, &blocks[b], from, to);
     add_each(each, from, to, by);
-    if stays && 0 < by {
+    if 0 < by && has_least_beside(each, &blocks[b], from, to) {
         widen(blocks, b, by);
     } else {
+        let start = from / BLOCK * BLOCK;
+        let end = start + BLOCK.min(each.len() - start);
         renew(blocks, each, b, start, end);
     }
 }
@@ -175,7 +174,7 @@ fn are_all(blocks: &[Block], w: usize, counted: bool) -> bool
     requires { w + 1 < length blocks.now }
 {
     for j in w + 1..blocks.len().min(w + 1 + BLOCK) {
-        match sign_of(blocks[w].whole, &blocks[j]) {
+        match sign_of(0, &raised(&blocks[j], blocks[w].whole)) {
             Some(sign) if sign == counted => {}
             _ => return false,
         }
@@ -194,7 +193,7 @@ fn has_turned(blocks: &[Block], w: usize, changed: &Block, now: &Block) -> bool
 }
 
 /// Between which numbers lies what is counted for the places of a wide block, after a change of its blocks from one on
-/// up to another. They stay loose before all its blocks are changed at once, so that small boxes do not pay for them.
+/// up to another.
 fn fitted(blocks: &[Block], w: usize, from: usize, to: usize) -> Block
     requires order { w < from }
     requires some { from < to }
@@ -205,9 +204,6 @@ fn fitted(blocks: &[Block], w: usize, from: usize, to: usize) -> Block
         return bounds_of_wide(blocks, w);
     }
     let wide = blocks[w];
-    if is_loose(&wide) {
-        return loose();
-    }
     let changed = raised(&joined_all(blocks, from, to), wide.whole);
     let now = joined(&wide, &changed);
     if has_turned(blocks, w, &changed, &now) {
@@ -216,7 +212,8 @@ fn fitted(blocks: &[Block], w: usize, from: usize, to: usize) -> Block
     now
 }
 
-/// Adds a number to the counts of places of one wide block.
+/// Adds a number to the counts of places of one wide block. Its numbers stay loose until all its blocks are changed at
+/// once, so that small boxes do not pay for them.
 fn change_in_wide(each: &mut [i64], blocks: &mut [Block], from: usize, to: usize, by: i64)
     requires order { from < to }
     requires within { to ≤ length each.old }
@@ -227,10 +224,14 @@ fn change_in_wide(each: &mut [i64], blocks: &mut [Block], from: usize, to: usize
     ensures { IsChange from to by each.old blocks.old each.new blocks.new }
 {
     let w = wide_of(from);
-    if to - from == WIDE && !is_loose(&blocks[w]) {
+    let is_whole = to - from == WIDE;
+    let is_loose = is_loose(&blocks[w]);
+    if is_whole && !is_loose {
         add_whole(blocks, w, by);
-    } else {
-        change_parts(each, blocks, from, to, by);
+        return;
+    }
+    change_parts(each, blocks, from, to, by);
+    if is_whole || !is_loose {
         let now = fitted(blocks, w, block_of(from), block_of(to - 1) + 1);
         set_bounds(blocks, w, &now);
     }
@@ -279,7 +280,7 @@ fn is_more(own: i64, whole: i64) -> bool
     requires whole { IsUpTo (2 ^ 61) whole }
     ensures { result ≡ int_lt (pos 0) (own +ℤ whole) }
 {
-    0 < own + whole
+    -whole < own
 }
 
 /// Where the places of a block end that are all counted, or not, from one on up to another, which is left out.
@@ -355,6 +356,9 @@ pub fn full_from(columns: &[i64], each: &[i64], blocks: &[Block], at: usize, to:
     ensures same { (k : ℕ) → at ≤ k → k < result →
         is_counted each.now blocks.now k ≡ true }
 {
+    if at % BLOCK > 0 {
+        return at;
+    }
     let mut end = at;
     while end < columns.len() && columns[end] < to {
         match known_from(each, blocks, end) {

@@ -8,7 +8,7 @@ ghost use Rattle.dpl_cover.specs.Tallies.{IsCountedMore, AreTallied};
 ghost use Rattle.dpl_cover.specs.Covers.{IsCounted, IsPassed};
 
 use crate::blocks::{Block, block_of};
-use crate::columns::{columns_of, place_from};
+use crate::columns::{columns_of, place_after, place_from};
 use crate::counts::{change, loosen};
 use crate::parts::parts_in;
 use dpl_cell::{Rect, Stretch};
@@ -41,7 +41,7 @@ fn count_box(columns: &[i64], each: &mut [i64], blocks: &mut [Block], r: &Rect, 
     ensures { IsCountedMore columns.now r.now by each.old blocks.old each.new blocks.new }
 {
     let from = place_from(columns, r.x1);
-    let to = place_from(columns, r.x2);
+    let to = place_after(columns, from, r);
     if from < to {
         change(each, blocks, from, to, by);
     }
