@@ -1,46 +1,42 @@
 -- Which columns boxes cover in the row that a sweep has reached.
-use Rattle.std.proofs.Common.{arith, ◌≡◌, ◌⊎◌, inl, inr, ap, ℕ, ◌+◌, ◌<◌, ◌≤◌, ◌^◌, ℤ, pos, neg_ℤ, ◌≤ℤ◌, ◌<ℤ◌, List, true, false, int_le}
-use Rattle.std.proofs.Common.{length, get_or, take, ◌∷◌, [], ◌++◌}
-use Rattle.std.specs.List.Sorted.{IsPartitionedBy, IsPermutation}
-use Rattle.std.proofs.lemmas.Int.{ints}
-use Rattle.std.proofs.lemmas.List.{length-take, length-append}
+use Rattle.std.proofs.Common.{arith, ◌≡◌, ◌⊎◌, inl, inr, ap, ℕ, ◌+◌, ◌<◌, ◌≤◌, ◌^◌, ℤ, pos, neg_ℤ, ◌≤ℤ◌, ◌<ℤ◌, List}
+use Rattle.std.proofs.Common.{length, get_or, take, ◌++◌}
+use Rattle.std.specs.List.Sorted.{IsPermutation}
+use Rattle.std.proofs.lemmas.List.{get_or_default, length-take, length-append}
 use Rattle.std.proofs.lemmas.List.Sorted.{length_permutation}
 use Rattle.dpl_list.specs.Order.{Ascends}
-use Rattle.dpl_list.proofs.Integers.{signed, is_at_most, not_at_most}
+use Rattle.dpl_list.proofs.Integers.{signed}
 use Rattle.dpl_cell.specs.declared.rect.Rect.{Rect}
 use Rattle.dpl_cover.specs.declared.cover.Cover.{Cover}
 use Rattle.dpl_cover.specs.Covers.{IsCover, IsPassed}
 
 -- ---- boxes up to a row
 
-pub parted_by : (key : Rect → ℤ) (boxes : List Rect) (row : ℤ) → Ascends key boxes → IsPartitionedBy (λ r. int_le (key r) row) boxes
-parted_by key boxes row up i j d le l e = less _ _ (up i j d le l) e where
-  less : (a b : ℤ) → a ≤ℤ b → int_le b row ≡ true → int_le a row ≡ true
-  less a b h e = grind (arith, ints)
+less_or_not : (i j : ℕ) → (i < j) ⊎ (j ≤ i)
+less_or_not i j = search arith
 
-pub are_passed : (key : Rect → ℤ) (boxes : List Rect) (row : ℤ) (n : ℕ) → n ≤ length boxes
-    → ((k : ℕ) (d : Rect) → k < n → int_le (key (get_or boxes k d)) row ≡ true)
-    → ((k : ℕ) (d : Rect) → n ≤ k → k < length boxes → int_le (key (get_or boxes k d)) row ≡ false)
-    → IsPassed key row boxes n
-are_passed key boxes row n within before behind = record {
-  within = within;
-  up_to = λ k d h. is_at_most _ _ (before k d h);
-  beyond = λ k d h l. not_at_most _ _ (behind k d h l);
-}
+-- the row goes up
+pub still_passed : (key : Rect → ℤ) (boxes : List Rect) (low high : ℤ) (m : ℕ) → low ≤ℤ high → IsPassed key low boxes m
+    → (k : ℕ) (d : Rect) → k < m → key (get_or boxes k d) ≤ℤ high
+still_passed key boxes low high m up p k d h = let a = p.up_to k d h in omega (signed, a, up)
 
-pub passed_more : (key : Rect → ℤ) (boxes : List Rect) (low high : ℤ) (m n : ℕ) → low ≤ℤ high
-    → IsPassed key low boxes m → IsPassed key high boxes n → m ≤ n
-passed_more key [] low high m n up a b = let w = a.within in omega (arith, w)
-passed_more key (d ∷ ds) low high m n up a b = elim (less_or_not n m) [
-  | inl h ↦ absurd (beyond _ (a.up_to n d h) (b.beyond n d (omega arith) (omega (arith, h, a.within))))
-  | inr h ↦ h
+-- one more box has its key up to the row
+pub passed_one_more : (key : Rect → ℤ) (boxes : List Rect) (row : ℤ) (n : ℕ) (r : Rect) → n < length boxes
+    → key (get_or boxes n r) ≤ℤ row → ((k : ℕ) (d : Rect) → k < n → key (get_or boxes k d) ≤ℤ row)
+    → (k : ℕ) (d : Rect) → k < n + 1 → key (get_or boxes k d) ≤ℤ row
+passed_one_more key boxes row n r within here before k d h = elim (less_or_not k n) [
+  | inl l ↦ before k d l
+  | inr l ↦ let e : k ≡ n = omega (arith, h, l) in rw (e, get_or_default boxes n d r within) here
 ]
-  where
-    less_or_not : (i j : ℕ) → (i < j) ⊎ (j ≤ i)
-    less_or_not i j = search arith
 
-    beyond : (z : ℤ) → z ≤ℤ low → high <ℤ z → ⊥
-    beyond z h l = omega (signed, h, l, up)
+-- the first one that has not
+pub passed_up_to : (key : Rect → ℤ) (boxes : List Rect) (row : ℤ) (n : ℕ) (r : Rect) → Ascends key boxes → n < length boxes
+    → row <ℤ key (get_or boxes n r) → ((k : ℕ) (d : Rect) → k < n → key (get_or boxes k d) ≤ℤ row) → IsPassed key row boxes n
+passed_up_to key boxes row n r up within here before = record {
+  within = omega (arith, within);
+  up_to = before;
+  beyond = λ k d l h. let u = rw (get_or_default boxes k r d h) at (up n k r l h) in omega (signed, u, here);
+}
 
 -- ---- the counts stay small
 

@@ -1,5 +1,5 @@
 -- Which columns boxes cover in the row that a sweep has reached.
-use Rattle.std.specs.Prelude.{◌≡◌, ℕ, ◌<◌, ◌≤◌, ◌+◌, ◌^◌, ℤ, pos, neg_ℤ, ◌+ℤ◌, ◌<ℤ◌, ◌≤ℤ◌, List, Bool, length, slice_index_or, take, IsPermutation}
+use Rattle.std.specs.Prelude.{◌≡◌, ℕ, ◌<◌, ◌≤◌, ◌+◌, ◌^◌, ℤ, pos, neg_ℤ, ◌+ℤ◌, ◌<ℤ◌, ◌≤ℤ◌, List, Bool, if◌then◌else◌, length, slice_index_or, take, IsPermutation}
 use Rattle.std.specs.List.{list_any}
 use Rattle.dpl_cell.specs.declared.rect.Rect.{Rect}
 use Rattle.dpl_cell.specs.Places.{corners_of}
@@ -10,6 +10,10 @@ use Rattle.dpl_cover.specs.declared.cover.Cover.{Cover}
 use Rattle.dpl_cover.specs.Columns.{AreColumns, column_at}
 use Rattle.dpl_cover.specs.Counts.{AreCounts, AreSmall, count_at}
 use Rattle.dpl_cover.specs.Tallies.{having, times}
+
+-- the row of the lower side of a box, or of its upper side
+abbrev pub side_of : Bool → Rect → ℤ
+side_of is_upper r = if is_upper then r.y2 else r.y1
 
 -- the first n boxes have a key up to the row, and the others one beyond it
 pub record IsPassed (key : Rect → ℤ) (row : ℤ) (boxes : List Rect) (n : ℕ) : Type 0 where

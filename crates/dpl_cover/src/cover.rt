@@ -1,11 +1,12 @@
 // The columns that boxes cover in the row that a sweep has reached.
-ghost use Rattle.std.specs.Prelude.{◌≡◌, ◌≤◌, ◌^◌, ℤ, ◌++◌, [], List, length, take, IsPermutation, IfOk};
+ghost use Rattle.std.specs.Prelude.{◌≡◌, ◌≤◌, ◌<◌, ◌≤ℤ◌, ◌^◌, ℕ, ℤ, ◌++◌, [], List};
+ghost use Rattle.std.specs.Prelude.{slice_index_or, length, take, IsPermutation, IfOk};
 ghost use Rattle.dpl_cell.specs.declared.rect.Rect.{Rect};
 ghost use Rattle.dpl_list.specs.Order.{Ascends};
 ghost use Rattle.dpl_cover.specs.Columns.{AreRising};
 ghost use Rattle.dpl_cover.specs.Counts.{AreCounts, AreSmall, IsUnit};
 ghost use Rattle.dpl_cover.specs.Tallies.{IsCountedMore, AreTallied};
-ghost use Rattle.dpl_cover.specs.Covers.{IsCounted, IsPassed};
+ghost use Rattle.dpl_cover.specs.Covers.{IsCounted, IsPassed, side_of};
 
 use crate::blocks::{Block, block_of};
 use crate::columns::{columns_of, place_after, place_from};
@@ -83,20 +84,27 @@ fn count_both(
     count_all(columns, each, blocks, closed, -1);
 }
 
-/// How many boxes, by their lower sides, begin at a row or below it.
-fn begun_at(boxes: &[Rect], row: i64) -> usize
-    requires { Ascends (λ r. r.y1) boxes.now }
-    ensures { IsPassed (λ r. r.y1) row boxes.now result }
+/// The row of the lower side of a box, or of its upper side.
+fn side_of(r: &Rect, is_upper: bool) -> i64
+    ensures { result ≡ side_of is_upper r.now }
 {
-    boxes.partition_point(|r| r.y1 <= row)
+    if is_upper { r.y2 } else { r.y1 }
 }
 
-/// How many boxes, by their upper sides, end at a row or below it.
-fn closed_at(boxes: &[Rect], row: i64) -> usize
-    requires { Ascends (λ r. r.y2) boxes.now }
-    ensures { IsPassed (λ r. r.y2) row boxes.now result }
+/// How many boxes begin, or end, at a row or below it, from a number on of which that is known.
+fn passed_at(boxes: &[Rect], before: usize, row: i64, is_upper: bool) -> usize
+    requires order { Ascends (side_of is_upper) boxes.now }
+    requires within { before ≤ length boxes.now }
+    requires known { (k : ℕ) (d : Rect) → k < before → side_of is_upper (slice_index_or boxes.now k d) ≤ℤ row }
+    ensures order { before ≤ result }
+    ensures passed { IsPassed (side_of is_upper) row boxes.now result }
 {
-    boxes.partition_point(|r| r.y2 <= row)
+    for n in before..boxes.len() {
+        if row < side_of(&boxes[n], is_upper) {
+            return n;
+        }
+    }
+    boxes.len()
 }
 
 /// The boxes from one place on up to another.
@@ -181,8 +189,8 @@ impl Cover {
         ensures row { self.new.row ≡ row }
         ensures same { self.new.begins.items ≡ self.old.begins.items }
     {
-        let began = begun_at(self.begins.as_slice(), row);
-        let ended = closed_at(self.ends.as_slice(), row);
+        let began = passed_at(self.begins.as_slice(), self.began, row, false);
+        let ended = passed_at(self.ends.as_slice(), self.ended, row, true);
         let begun = between(self.begins.as_slice(), self.began, began);
         let closed = between(self.ends.as_slice(), self.ended, ended);
         count_both(
