@@ -12,6 +12,7 @@ use Rattle.std.proofs.lemmas.List.Kept.{IsStrictlySortedBy-dedup, Contains-dedup
 use Rattle.std.proofs.lemmas.List.Sorted.{Contains-permutation, All-permutation}
 use Rattle.std.proofs.lemmas.Int.{ints}
 use Rattle.std.proofs.lemmas.Map.Keys.{Less-from_sorted}
+use Rattle.std.proofs.lemmas.Bool.{cases_lt}
 use Rattle.dpl_list.proofs.Integers.{signed}
 use Rattle.dpl_list.proofs.OrderLemmas.{less_by_order}
 use Rattle.dpl_cell.specs.declared.rect.Rect.{Rect}
@@ -64,9 +65,6 @@ columns_once boxes ends sorted columns is moved order has range = record {
 
     kept : (z : ℤ) → Contains ends z → Contains columns z
     kept z h = rw is (Contains-dedup int_eq_equiv same_by_test sorted z (Contains-permutation ends sorted z moved h))
-
-less_or_not : (i j : ℕ) → (i < j) ⊎ (j ≤ i)
-less_or_not i j = search arith
 
 equal_or_less : (i j : ℕ) → i ≤ j → (i ≡ j) ⊎ (i < j)
 equal_or_less i j h = search arith
@@ -122,7 +120,7 @@ apart columns up i (suc n) h =
 pub left_of_right : (columns : List ℤ) (from n p : ℕ) (x1 x2 : ℤ) → x1 <ℤ x2 → from + n ≤ length columns
     → ((k : ℕ) → k < from → column_at columns k <ℤ x1) → p ≤ length (take n (drop from columns))
     → ((k : ℕ) → k < p → column_at (take n (drop from columns)) k <ℤ x2) → (k : ℕ) → k < from + p → column_at columns k <ℤ x2
-left_of_right columns from n p x1 x2 wide within left few found k h = elim (less_or_not k from) [
+left_of_right columns from n p x1 x2 wide within left few found k h = elim (cases_lt k from) [
   | inl l ↦ let a = left k l in omega (signed, a, wide)
   | inr l ↦
       let j : k - from < p = omega (arith, h, l) in let e : from + (k - from) ≡ k = omega (arith, l) in
@@ -135,7 +133,7 @@ pub right_of_right : (columns : List ℤ) (from n p : ℕ) (x1 x2 : ℤ) → Are
     → ((k : ℕ) → from ≤ k → k < length columns → x1 ≤ℤ column_at columns k)
     → ((k : ℕ) → p ≤ k → k < length (take n (drop from columns)) → x2 ≤ℤ column_at (take n (drop from columns)) k)
     → (k : ℕ) → from + p ≤ k → k < length columns → x2 ≤ℤ column_at columns k
-right_of_right columns from n p x1 x2 up within width others found k l h = elim (less_or_not (k - from) n) [
+right_of_right columns from n p x1 x2 up within width others found k l h = elim (cases_lt (k - from) n) [
   | inl s ↦ rw (part_column columns from n (k - from) s, back) at (found (k - from) (omega (arith, l)) (rw (part_long columns from n within) s))
   | inr s ↦ elim width [
     | inl e ↦ absurd (omega (arith, e, s, h, l))

@@ -4,18 +4,13 @@ use Rattle.std.proofs.Common.{List, Bool, length, set, ◌^◌, ◌-◌, SFits, 
 use Rattle.std.specs.Int.{saturate_signed}
 use Rattle.std.proofs.lemmas.List.{get_or-set_same, get_or-set_other, length-set}
 use Rattle.std.proofs.lemmas.Int.{ints}
+use Rattle.std.proofs.lemmas.Bool.{cases_eq, cases_lt}
 use Rattle.dpl_list.proofs.Integers.{signed}
 use Rattle.dpl_cover.specs.declared.blocks.TheConstants.{BLOCK, WIDE}
 use Rattle.dpl_cover.specs.declared.blocks.Block.{Block}
 use Rattle.dpl_cover.specs.Counts.{AreBlank, AreCounts, AreParts, AreSmall, AreUpTo, HasWithin, IsAdded, IsAlike, IsBeside, IsBetween, IsChange, IsFit}
 use Rattle.dpl_cover.specs.Counts.{IsKept, IsNear, IsPartChange, IsRenewed, IsWholeGrown, IsUpTo, IsUnit, IsWider, block_at, block_of, count_at}
 use Rattle.dpl_cover.specs.Counts.{no_block, own_at, part_at, wide_of}
-
-pub less_or_not : (i j : ℕ) → (i < j) ⊎ (j ≤ i)
-less_or_not i j = search arith
-
-same_or_not : (i j : ℕ) → (i ≡ j) ⊎ (i ≢ j)
-same_or_not i j = search arith
 
 place_or_beside : (a b k : ℕ) → ((a ≤ k) × (k < b)) ⊎ IsBeside a b k
 place_or_beside a b k = search arith
@@ -30,7 +25,7 @@ pub added_more : (from k : ℕ) (by : ℤ) (old now : List ℤ) (x : ℤ) → fr
     → x ≡ own_at now k +ℤ by → IsAdded (length old) from k by (own_at old) (own_at now)
     → IsAdded (length old) from (k + 1) by (own_at old) (own_at (set now k x))
 added_more from k by old now x order within long is g = record {
-  inside = λ j a b. elim (same_or_not j k) [
+  inside = λ j a b. elim (cases_eq j k) [
     | inl e ↦ subst (λ z. own_at (set now k x) z ≡ own_at old z +ℤ by) (sym e)
         (get_or-set_same now k x (pos 0) (rw long within) ∙ is ∙ ap (λ z. z +ℤ by) (g.beside k within (inr (omega arith))))
     | inr n ↦ get_or-set_other now k j x (pos 0) n ∙ g.inside j a (omega (arith, n, b))
@@ -78,7 +73,7 @@ beside_first a m c k high (inr h) = inr (omega (arith, h, high))
 joined_added : (n a m c : ℕ) (by : ℤ) (f g h : ℕ → ℤ) → a ≤ m → m ≤ c → c ≤ n → IsAdded n a m by f g
     → IsAdded n m c by g h → IsAdded n a c by f h
 joined_added n a m c by f g h low high top first second = record {
-  inside = λ k l u. elim (less_or_not k m) [
+  inside = λ k l u. elim (cases_lt k m) [
     | inl s ↦ second.beside k (omega (arith, u, top)) (inl s) ∙ first.inside k l s
     | inr s ↦ second.inside k s u ∙ ap (λ z. z +ℤ by) (first.beside k (omega (arith, u, top)) (inr s))
   ];
@@ -88,7 +83,7 @@ joined_added n a m c by f g h low high top first second = record {
 joined_near : (n a m c : ℕ) (f g h : ℕ → ℤ) → a ≤ m → m ≤ c → IsNear n a m f g → IsNear n m c g h → IsNear n a c f h
 joined_near n a m c f g h low high first second = record {
   beside = λ k l o. second.beside k l (beside_second a m c k low o) ∙ first.beside k l (beside_first a m c k high o);
-  grown = λ k i l s. elim (less_or_not k m) [
+  grown = λ k i l s. elim (cases_lt k m) [
     | inl t ↦ subst (IsUpTo (i + 1)) (sym (second.beside k l (inl t))) (first.grown k i l s)
     | inr t ↦ second.grown k i l (subst (IsUpTo i) (sym (first.beside k l (inr t))) s)
   ];
@@ -141,7 +136,7 @@ kept_parts : (b : ℕ) (each : List ℤ) (blocks blocks' : List Block) (k : ℕ)
 kept_parts b each blocks blocks' k t = ap (λ z. own_at each k +ℤ z) (kept_whole b blocks blocks' (block_of k) t)
   where
     kept_whole : (b : ℕ) (blocks blocks' : List Block) (j : ℕ) → IsKept b blocks blocks' → (block_at blocks' j).whole ≡ (block_at blocks j).whole
-    kept_whole b blocks blocks' j t = elim (same_or_not j b) [
+    kept_whole b blocks blocks' j t = elim (cases_eq j b) [
       | inl e ↦ rw e t.whole
       | inr n ↦ ap (λ (z : Block). z.whole) (t.others j n)
     ]
@@ -170,7 +165,7 @@ pub block_changed : (a c : ℕ) (by : ℤ) (each : List ℤ) (blocks blocks' : L
 block_changed a c by each blocks blocks' u start end full parts small g = record {
   parts = record {
     enough = λ k l. rw g.long (parts.enough k l);
-    part = λ k l. elim (same_or_not (block_of k) (block_of a)) [
+    part = λ k l. elim (cases_eq (block_of k) (block_of a)) [
       | inl e ↦ rw (e, g.whole) (raised_between (own_at each k) _ by (block_at blocks (block_of a)) (block_at blocks' (block_of a)) u
           (rw e at (small k l)) g.between (rw e at (parts.part k l)))
       | inr n ↦ rw (g.others (block_of k) n) (parts.part k l)
@@ -257,7 +252,7 @@ pub widely_changed : (a c : ℕ) (by : ℤ) (each each' : List ℤ) (blocks bloc
     → IsWider (block_at blocks (block_of a)) (block_at blocks' (block_of a))
     → HasWithin by (block_at blocks (block_of a)) (block_at blocks' (block_of a)) → IsPartChange a c by each blocks each' blocks'
 widely_changed a c by each each' blocks blocks' u within up parts small long g kept wide more =
-    elim (less_or_not (length each) (a / BLOCK * BLOCK + BLOCK)) [
+    elim (cases_lt (length each) (a / BLOCK * BLOCK + BLOCK)) [
       | inl h ↦ changed (length each) within (omega (arith, h)) (inr refl) (omega arith)
       | inr h ↦ changed (a / BLOCK * BLOCK + BLOCK) up (omega arith) (inl refl) h
     ]
@@ -292,7 +287,7 @@ wide_changed a c by each blocks blocks' u start end full counts small g = record
       enough = λ k l. rw g.long (counts.parts.enough k l);
       part = λ k l. rw (same k) (counts.parts.part k l);
     };
-    wide = λ k l. rw (same k) (elim (same_or_not (wide_of k) (wide_of a)) [
+    wide = λ k l. rw (same k) (elim (cases_eq (wide_of k) (wide_of a)) [
       | inl e ↦ rw (e, g.whole) (raised_between (part_at each blocks k) _ by (block_at blocks (wide_of a)) (block_at blocks' (wide_of a)) u
           (rw e at (small k l)) g.between (rw e at (counts.wide k l)))
       | inr n ↦ rw (g.others (wide_of k) n) (counts.wide k l)
@@ -341,7 +336,7 @@ parts_changed a c d by e0 b0 e1 b1 b2 u order up last counts small g now fit kep
       enough = λ k l. rw kept.long (g.parts.enough k l);
       part = λ k l. rw (same k) (g.parts.part k l);
     };
-    wide = λ k l. rw (same k) (elim (same_or_not (wide_of k) (wide_of a)) [
+    wide = λ k l. rw (same k) (elim (cases_eq (wide_of k) (wide_of a)) [
       | inl e ↦ rw (e, kept.whole) (fitted _ (elim (fit (block_of k) (rw e at (behind_wide k)) (rw e at (near_wide k)) (g.parts.enough k l)) [
         | inl s ↦ s (part_at e1 b1 k) (rw e at (small k l)) (g.parts.part k l)
         | inr o ↦ let s = rw e at (counts.wide k (rw g.long at l)) in
@@ -371,7 +366,7 @@ parts_changed a c d by e0 b0 e1 b1 b2 u order up last counts small g now fit kep
     same k = kept.others (block_of k) (block_or_wide k a)
 
     whole : (k : ℕ) → (block_at b2 (wide_of k)).whole ≡ (block_at b0 (wide_of k)).whole
-    whole k = elim (same_or_not (wide_of k) (wide_of a)) [
+    whole k = elim (cases_eq (wide_of k) (wide_of a)) [
       | inl e ↦ rw e (kept.whole ∙ ap (λ (z : Block). z.whole) (g.wide a))
       | inr n ↦ ap (λ (z : Block). z.whole) (kept.others (wide_of k) n ∙ g.wide k)
     ]
@@ -441,7 +436,7 @@ joined_first blocks from i l h = let e : i ≡ from = omega (arith, l, h) in rw 
 pub joined_more : (blocks : List Block) (from j : ℕ) (all new : Block) → IsWider all new → IsWider (block_at blocks j) new
     → ((i : ℕ) → from ≤ i → i < j → IsWider (block_at blocks i) all) → (i : ℕ) → from ≤ i → i < j + 1
     → IsWider (block_at blocks i) new
-joined_more blocks from j all new w v before i l h = elim (less_or_not i j) [
+joined_more blocks from j all new w v before i l h = elim (cases_lt i j) [
   | inl m ↦ wider_still (block_at blocks i) all new (before i l m) w
   | inr m ↦ let e : i ≡ j = omega (arith, h, m) in rw e v
 ]
@@ -478,11 +473,11 @@ same_numbers old new low high = record { low = omega (signed, low); high = omega
 pub still_blank : (b : ℕ) (blocks blocks' : List Block) → IsKept b blocks blocks' → IsBetween (block_at blocks' b) (pos 0)
     → AreBlank blocks → AreBlank blocks'
 still_blank b blocks blocks' kept between blank = record {
-  whole = λ j. elim (same_or_not j b) [
+  whole = λ j. elim (cases_eq j b) [
     | inl e ↦ rw e (kept.whole ∙ blank.whole b)
     | inr n ↦ rw (kept.others j n) (blank.whole j)
   ];
-  between = λ j. elim (same_or_not j b) [
+  between = λ j. elim (cases_eq j b) [
     | inl e ↦ rw e between
     | inr n ↦ rw (kept.others j n) (blank.between j)
   ];
@@ -556,7 +551,7 @@ places_alike each blocks at to end whole counted further order within up is one 
 }
   where
     looked_at : (k : ℕ) → at ≤ k → k < to → int_lt (pos 0) (own_at each k +ℤ whole) ≡ counted
-    looked_at k l h = elim (less_or_not k (at + 1)) [
+    looked_at k l h = elim (cases_lt k (at + 1)) [
       | inl m ↦ let e : at ≡ k = omega (arith, l, m) in subst (λ z. int_lt (pos 0) (own_at each z +ℤ whole) ≡ counted) e one
       | inr r ↦ others k r h
     ]

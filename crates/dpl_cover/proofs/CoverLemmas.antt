@@ -1,9 +1,10 @@
 -- Which columns boxes cover in the row that a sweep has reached.
-use Rattle.std.proofs.Common.{arith, ◌≡◌, ◌⊎◌, inl, inr, ap, ℕ, ◌+◌, ◌<◌, ◌≤◌, ◌^◌, ℤ, pos, neg_ℤ, ◌≤ℤ◌, ◌<ℤ◌, List}
+use Rattle.std.proofs.Common.{arith, ◌≡◌, inl, inr, ap, ℕ, ◌+◌, ◌<◌, ◌≤◌, ◌^◌, ℤ, pos, neg_ℤ, ◌≤ℤ◌, ◌<ℤ◌, List}
 use Rattle.std.proofs.Common.{length, get_or, take, ◌++◌}
 use Rattle.std.specs.List.Sorted.{IsPermutation}
 use Rattle.std.proofs.lemmas.List.{get_or_default, length-take, length-append}
 use Rattle.std.proofs.lemmas.List.Sorted.{length_permutation}
+use Rattle.std.proofs.lemmas.Bool.{cases_lt}
 use Rattle.dpl_list.specs.Order.{Ascends}
 use Rattle.dpl_list.proofs.Integers.{signed}
 use Rattle.dpl_cell.specs.declared.rect.Rect.{Rect}
@@ -11,9 +12,6 @@ use Rattle.dpl_cover.specs.declared.cover.Cover.{Cover}
 use Rattle.dpl_cover.specs.Covers.{IsCover, IsPassed}
 
 -- ---- boxes up to a row
-
-less_or_not : (i j : ℕ) → (i < j) ⊎ (j ≤ i)
-less_or_not i j = search arith
 
 -- the row goes up
 pub still_passed : (key : Rect → ℤ) (boxes : List Rect) (low high : ℤ) (m : ℕ) → low ≤ℤ high → IsPassed key low boxes m
@@ -24,7 +22,7 @@ still_passed key boxes low high m up p k d h = let a = p.up_to k d h in omega (s
 pub passed_one_more : (key : Rect → ℤ) (boxes : List Rect) (row : ℤ) (n : ℕ) (r : Rect) → n < length boxes
     → key (get_or boxes n r) ≤ℤ row → ((k : ℕ) (d : Rect) → k < n → key (get_or boxes k d) ≤ℤ row)
     → (k : ℕ) (d : Rect) → k < n + 1 → key (get_or boxes k d) ≤ℤ row
-passed_one_more key boxes row n r within here before k d h = elim (less_or_not k n) [
+passed_one_more key boxes row n r within here before k d h = elim (cases_lt k n) [
   | inl l ↦ before k d l
   | inr l ↦ let e : k ≡ n = omega (arith, h, l) in rw (e, get_or_default boxes n d r within) here
 ]

@@ -1,6 +1,7 @@
 -- Stretches of columns whose places are counted.
 use Rattle.std.proofs.Common.{arith, refl, ◌≡◌, ◌∙◌, ◌⊎◌, inl, inr, ap, sym, subst, ℕ, zero, suc, ◌+◌, ◌-◌, ◌<◌, ◌≤◌, ℤ, ◌≤ℤ◌, ◌<ℤ◌, List, Bool, true}
 use Rattle.std.proofs.Common.{false, ◌||◌, true≢false, [], length}
+use Rattle.std.proofs.lemmas.Bool.{cases_lt}
 use Rattle.dpl_list.proofs.Integers.{signed}
 use Rattle.dpl_cell.specs.declared.stretch.Stretch.{Stretch}
 use Rattle.dpl_cell.specs.Layers.{is_within}
@@ -10,13 +11,12 @@ use Rattle.dpl_cover.specs.declared.blocks.Block.{Block}
 use Rattle.dpl_cover.specs.Columns.{AreRising, IsAt, column_at}
 use Rattle.dpl_cover.specs.Counts.{is_counted}
 use Rattle.dpl_cover.specs.Parts.{HasCounted}
-use Rattle.dpl_cover.proofs.CountLemmas.{less_or_not}
 
 left_or_from : (x y : ℤ) → (x <ℤ y) ⊎ (y ≤ℤ x)
 left_or_from x y = search signed
 
 pub not_left : (columns : List ℤ) (i j : ℕ) → AreRising columns → i ≤ j → j < length columns → column_at columns i ≤ℤ column_at columns j
-not_left columns i j up l h = elim (less_or_not i j) [
+not_left columns i j up l h = elim (cases_lt i j) [
   | inl s ↦ let r = up i j s h in omega (signed, r)
   | inr s ↦ let e : i ≡ j = omega (arith, l, s) in subst (λ k. column_at columns i ≤ℤ column_at columns k) e (omega signed)
 ]
@@ -35,7 +35,7 @@ place_between columns a zero x l w from to = let e : a ≡ zero = omega (arith, 
   where
     backwards : (y z : ℤ) → y ≤ℤ z → z <ℤ y → ⊥
     backwards y z h i = omega (signed, h, i)
-place_between columns a (suc n) x l w from to = elim (less_or_not n a) [
+place_between columns a (suc n) x l w from to = elim (cases_lt n a) [
   | inl h ↦ let e : a ≡ suc n = omega (arith, l, h) in absurd (backwards _ _ (subst (λ k. column_at columns k ≤ℤ x) e from) to)
   | inr h ↦ elim (left_or_from x (column_at columns n)) [
     | inl s ↦ let r = place_between columns a n x h (omega (arith, w)) from s in
@@ -78,7 +78,7 @@ pub full_more : (columns each : List ℤ) (blocks : List Block) (old new : List 
     → ((x : ℤ) (k : ℕ) → from ≤ℤ x → k < a → IsAt columns k x → is_counted each blocks k ≡ true → is_in_stretches old x ≡ true)
     → (x : ℤ) (k : ℕ) → from ≤ℤ x → k < b → IsAt columns k x → is_counted each blocks k ≡ true
     → is_in_stretches new x ≡ true
-full_more columns each blocks old new from a b up within added full x k l h i c = elim (less_or_not k a) [
+full_more columns each blocks old new from a b up within added full x k l h i c = elim (cases_lt k a) [
   | inl s ↦ added x ∙ ap (λ t. t || is_within (column_at columns a) (column_at columns b) x) (full x k l s i c)
   | inr s ↦
       let left = not_left columns a k up s (omega (arith, i.within)) in let right = not_left columns (k + 1) b up (omega (arith, h)) within in
@@ -97,7 +97,7 @@ pub full_past : (columns each : List ℤ) (blocks : List Block) (parts : List St
     → ((x : ℤ) (k : ℕ) → from ≤ℤ x → k < a → IsAt columns k x → is_counted each blocks k ≡ true → is_in_stretches parts x ≡ true)
     → (x : ℤ) (k : ℕ) → from ≤ℤ x → k < b → IsAt columns k x → is_counted each blocks k ≡ true
     → is_in_stretches parts x ≡ true
-full_past columns each blocks parts from a b counted n all full x k l h i c = elim (less_or_not k a) [
+full_past columns each blocks parts from a b counted n all full x k l h i c = elim (cases_lt k a) [
   | inl s ↦ full x k l s i c
   | inr s ↦ absurd (true≢false (sym c ∙ all k s h ∙ n))
 ]
@@ -106,7 +106,7 @@ full_past columns each blocks parts from a b counted n all full x k l h i c = el
 pub ends_before : (each : List ℤ) (blocks : List Block) (n a b : ℕ) (counted : Bool) → counted ≡ true → a < b
     → b ≤ n → ((k : ℕ) → a ≤ k → k < b → is_counted each blocks k ≡ counted)
     → ((k : ℕ) → k + 1 ≡ n → is_counted each blocks k ≡ false) → b < n
-ends_before each blocks n a b counted t order within all last = elim (less_or_not b n) [
+ends_before each blocks n a b counted t order within all last = elim (cases_lt b n) [
   | inl h ↦ h
   | inr h ↦ absurd (true≢false (sym t ∙ sym (all (b - 1) (omega (arith, order)) (omega (arith, order))) ∙ last (b - 1) (omega (arith, order, h, within))))
 ]
@@ -115,7 +115,7 @@ ends_before each blocks n a b counted t order within all last = elim (less_or_no
 pub all_looked_at : (columns : List ℤ) (to : ℤ) (at : ℕ) → AreRising columns
     → (at < length columns → to ≤ℤ column_at columns at) → (x : ℤ) (k : ℕ) → x <ℤ to → IsAt columns k x
     → k < at
-all_looked_at columns to at up stop x k l i = elim (less_or_not k at) [
+all_looked_at columns to at up stop x k l i = elim (cases_lt k at) [
   | inl h ↦ h
   | inr h ↦
       let within : at < length columns = omega (arith, h, i.within) in

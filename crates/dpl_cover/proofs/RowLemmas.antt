@@ -8,6 +8,7 @@ use Rattle.std.proofs.lemmas.List.{get_or_default}
 use Rattle.std.proofs.lemmas.List.Folds.{Any-from_list_any}
 use Rattle.std.proofs.lemmas.List.Sorted.{sum_by-IsPermutation}
 use Rattle.std.proofs.lemmas.List.Sums.{sum_by-cons}
+use Rattle.std.proofs.lemmas.Bool.{cases_lt}
 use Rattle.dpl_list.proofs.Integers.{signed, less_test, is_at_most, at_most_test}
 use Rattle.dpl_cell.specs.declared.rect.Rect.{Rect}
 use Rattle.dpl_cell.specs.Places.{corners_of}
@@ -22,7 +23,6 @@ use Rattle.dpl_cover.specs.Tallies.{having}
 use Rattle.dpl_cover.specs.Covers.{IsCover, IsPassed, is_covered}
 use Rattle.dpl_cover.proofs.TallyLemmas.{times_one, times_less}
 use Rattle.dpl_cover.proofs.PartLemmas.{not_left, place_between}
-use Rattle.dpl_cover.proofs.CountLemmas.{less_or_not}
 
 -- ---- sums over boxes up to a row
 
@@ -147,7 +147,7 @@ same_columns columns r k x up e i = by (is_within r.x1 r.x2 x) (is_within r.x1 r
   beside : (z : ℤ) → Contains columns z → (z ≤ℤ column_at columns k) ⊎ (column_at columns (k + 1) ≤ℤ z)
   beside z (j, l, is) =
       let at : column_at columns j ≡ z = get_or_default columns j (pos 0) z l ∙ is in
-      elim (less_or_not k j) [
+      elim (cases_lt k j) [
         | inl h ↦ inr (let n = not_left columns (k + 1) j up (omega (arith, h)) l in rw at at n)
         | inr h ↦ inl (let n = not_left columns j k up h (omega (arith, i.within)) in rw at at n)
       ]
@@ -208,7 +208,7 @@ covered_counts c s x h = found (Any-from_list_any (λ r. is_in_box (corners_of r
           let left : column_at c.columns.items i ≡ d.x1 = get_or_default c.columns.items i (pos 0) d.x1 a ∙ p in
           let right : column_at c.columns.items j ≡ d.x2 = get_or_default c.columns.items j (pos 0) d.x2 b ∙ q in
           let from = w.from in let to = w.to in
-          let order : i ≤ j = elim (less_or_not j i) [
+          let order : i ≤ j = elim (cases_lt j i) [
             | inl h ↦ let u = s.columns.rising j i h a in absurd (omega (signed, u, left, right, from, to))
             | inr h ↦ h
           ] in

@@ -4,6 +4,7 @@ use Rattle.std.proofs.Common.{List, Bool, true, false, length, get_or, take, [],
 use Rattle.std.proofs.lemmas.List.{length-take-le, take_all, length-append}
 use Rattle.std.proofs.lemmas.List.Sums.{sum_by_more, sum_by-append}
 use Rattle.std.specs.Prelude.{if◌then◌else◌, sum_by}
+use Rattle.std.proofs.lemmas.Bool.{cases_lt}
 use Rattle.dpl_list.proofs.Integers.{signed}
 use Rattle.dpl_cell.specs.declared.rect.Rect.{Rect}
 use Rattle.dpl_cell.specs.Cells.{IsWithin}
@@ -72,17 +73,14 @@ box_counted columns r by a b e0 b0 e1 b1 long left from right to u g = record {
     place_or_beside : (a b k : ℕ) → ((a ≤ k) × (k < b)) ⊎ IsBeside a b k
     place_or_beside a b k = search arith
 
-    less_or_not : (i j : ℕ) → (i < j) ⊎ (j ≤ i)
-    less_or_not i j = search arith
-
     from_left : (k : ℕ) → IsWithin r.x1 r.x2 (column_at columns k) → a ≤ k
-    from_left k w = elim (less_or_not k a) [ inl h ↦ absurd (below _ _ (left k h) w.from) | inr h ↦ h ]
+    from_left k w = elim (cases_lt k a) [ inl h ↦ absurd (below _ _ (left k h) w.from) | inr h ↦ h ]
       where
         below : (x y : ℤ) → x <ℤ y → y ≤ℤ x → ⊥
         below x y h l = omega (signed, h, l)
 
     up_to_right : (k : ℕ) → k < length columns → IsWithin r.x1 r.x2 (column_at columns k) → k < b
-    up_to_right k l w = elim (less_or_not k b) [ inl h ↦ h | inr h ↦ absurd (below _ _ w.to (to k h l)) ]
+    up_to_right k l w = elim (cases_lt k b) [ inl h ↦ h | inr h ↦ absurd (below _ _ w.to (to k h l)) ]
       where
         below : (x y : ℤ) → x <ℤ y → y ≤ℤ x → ⊥
         below x y h l = omega (signed, h, l)
@@ -95,7 +93,7 @@ pub nothing_counted : (columns : List ℤ) (r : Rect) (by : ℤ) (a b : ℕ) (e 
 nothing_counted columns r by a b e bs long order left to counts = record {
   counts = counts;
   long = refl;
-  inside = λ k l w. absurd (elim (less_or_not k a) [
+  inside = λ k l w. absurd (elim (cases_lt k a) [
     | inl h ↦ below _ _ (left k h) w.from
     | inr h ↦ below _ _ w.to (to k (omega (arith, h, order)) (rw long at l))
   ]);
@@ -103,9 +101,6 @@ nothing_counted columns r by a b e bs long order left to counts = record {
   grown = λ n s. small_wider n (n + 1) e bs (omega arith) s;
 }
   where
-    less_or_not : (i j : ℕ) → (i < j) ⊎ (j ≤ i)
-    less_or_not i j = search arith
-
     below : (x y : ℤ) → x <ℤ y → y ≤ℤ x → ⊥
     below x y h l = omega (signed, h, l)
 

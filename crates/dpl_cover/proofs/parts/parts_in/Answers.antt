@@ -1,8 +1,8 @@
 use Rattle.std.proofs.Common.{rules, arith, inl, inr, refl, true, ◌≡◌, ℕ, ◌∙◌, ◌<◌, ◌≤◌, ◌≤ℤ◌, length, SFits, w64}
 use Rattle.std.proofs.lemmas.Int.{to_z-of_z}
+use Rattle.std.proofs.lemmas.Bool.{cases_lt}
 use Rattle.dpl_cover.specs.Columns.{column_at}
 use Rattle.dpl_cover.specs.Counts.{is_counted}
-use Rattle.dpl_cover.proofs.CountLemmas.{less_or_not}
 use Rattle.dpl_cover.proofs.PartLemmas.{none_before, sound_more, full_more, full_past, ends_before, all_looked_at, no_parts}
 use Rattle.dpl_cover.proofs.parts.parts_in.Goals as goal
 use Rattle.dpl_cover.proofs.parts.parts_in.Goals.{then-loop-at-test+else-columns-at, else-loop-at-test}
@@ -19,7 +19,7 @@ loop-at-init c =
 
 -- places of one block and the blocks behind it
 both : (P : ℕ → Type 0) (at m to : ℕ) → ((k : ℕ) → at ≤ k → k < m → P k) → ((k : ℕ) → m ≤ k → k < to → P k) → (k : ℕ) → at ≤ k → k < to → P k
-both P at m to first second k l h = elim (less_or_not k m) [
+both P at m to first second k l h = elim (cases_lt k m) [
   | inl g ↦ first k l g
   | inr g ↦ second k g h
 ]
