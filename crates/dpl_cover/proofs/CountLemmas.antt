@@ -8,7 +8,7 @@ use Rattle.std.proofs.lemmas.Bool.{cases_eq, cases_lt}
 use Rattle.dpl_list.proofs.Integers.{signed}
 use Rattle.dpl_cover.specs.declared.blocks.TheConstants.{BLOCK, WIDE}
 use Rattle.dpl_cover.specs.declared.blocks.Block.{Block}
-use Rattle.dpl_cover.specs.Counts.{AreBlank, AreCounts, AreParts, AreSmall, AreUpTo, HasWithin, IsAdded, IsAlike, IsBeside, IsBetween, IsChange, IsFit}
+use Rattle.dpl_cover.specs.Counts.{AreCounts, AreParts, AreSmall, AreUpTo, HasWithin, IsAdded, IsAlike, IsBeside, IsBetween, IsChange, IsFit}
 use Rattle.dpl_cover.specs.Counts.{IsKept, IsNear, IsPartChange, IsRenewed, IsWholeGrown, IsUpTo, IsUnit, IsWider, block_at, block_of, count_at}
 use Rattle.dpl_cover.specs.Counts.{no_block, own_at, part_at, wide_of}
 
@@ -468,20 +468,6 @@ loosely_fit w a c blocks all changed now old more g each j l h n = elim (place_o
 -- numbers that are those of another block
 pub same_numbers : (old new : Block) → new.low ≡ old.low → new.high ≡ old.high → IsWider old new
 same_numbers old new low high = record { low = omega (signed, low); high = omega (signed, high) }
-
--- other numbers of a block for which nothing is counted
-pub still_blank : (b : ℕ) (blocks blocks' : List Block) → IsKept b blocks blocks' → IsBetween (block_at blocks' b) (pos 0)
-    → AreBlank blocks → AreBlank blocks'
-still_blank b blocks blocks' kept between blank = record {
-  whole = λ j. elim (cases_eq j b) [
-    | inl e ↦ rw e (kept.whole ∙ blank.whole b)
-    | inr n ↦ rw (kept.others j n) (blank.whole j)
-  ];
-  between = λ j. elim (cases_eq j b) [
-    | inl e ↦ rw e between
-    | inr n ↦ rw (kept.others j n) (blank.between j)
-  ];
-}
 
 -- a sum that is cut to 64 bits is no nearer to a small number
 cut_below : (z y : ℤ) → z ≤ℤ y → IsUpTo (2 ^ 62) y → saturate_signed w64 z ≤ℤ y

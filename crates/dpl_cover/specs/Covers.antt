@@ -1,5 +1,6 @@
 -- Which columns boxes cover in the row that a sweep has reached.
-use Rattle.std.specs.Prelude.{◌≡◌, ℕ, ◌<◌, ◌≤◌, ◌+◌, ◌^◌, ℤ, pos, neg_ℤ, ◌+ℤ◌, ◌<ℤ◌, ◌≤ℤ◌, List, Bool, if◌then◌else◌, length, slice_index_or, take, IsPermutation}
+use Rattle.std.specs.Prelude.{◌≡◌, ℕ, ◌<◌, ◌≤◌, ◌+◌, ◌^◌, ℤ, pos, neg_ℤ, ◌+ℤ◌, ◌<ℤ◌, ◌≤ℤ◌, List, Bool}
+use Rattle.std.specs.Prelude.{if◌then◌else◌, length, slice_index_or, take, IsPermutation}
 use Rattle.std.specs.List.{list_any}
 use Rattle.dpl_cell.specs.declared.rect.Rect.{Rect}
 use Rattle.dpl_cell.specs.Places.{corners_of}

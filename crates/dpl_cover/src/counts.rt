@@ -1,9 +1,10 @@
 // How often each place is counted.
 ghost use Rattle.std.specs.Prelude.{◌≡◌, ◌≤◌, ◌<◌, ◌+◌, ◌*◌, ◌/◌, ◌^◌, ◌+ℤ◌, ℕ, pos, true, length, int_lt, IfSome};
 ghost use Rattle.dpl_cover.specs.declared.blocks.TheConstants.{BLOCK, WIDE};
-ghost use Rattle.dpl_cover.specs.Counts.{AreBlank, AreCounts, AreParts, AreSmall, AreUpTo, HasWithin, IsAdded, IsAlike};
-ghost use Rattle.dpl_cover.specs.Counts.{IsBetween, IsChange, IsFit, IsKept, IsPartChange, IsRenewed, IsUnit, IsWider, IsUpTo};
-ghost use Rattle.dpl_cover.specs.Counts.{IsWholeGrown, block_at, block_of, is_counted, own_at, part_at};
+ghost use Rattle.dpl_cover.specs.Counts.{AreBlank, AreCounts, AreParts, AreSmall, AreUpTo, HasWithin, IsAdded};
+ghost use Rattle.dpl_cover.specs.Counts.{IsAlike, IsBetween, IsChange, IsFit, IsKept, IsPartChange, IsRenewed};
+ghost use Rattle.dpl_cover.specs.Counts.{IsUnit, IsUpTo, IsWholeGrown, IsWider, block_at, block_of, is_counted};
+ghost use Rattle.dpl_cover.specs.Counts.{own_at, part_at};
 
 use crate::blocks::{
     BLOCK, Block, WIDE, block_of, is_loose, joined, loose, raised, sign_of, wide_of,
