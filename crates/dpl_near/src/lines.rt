@@ -1,5 +1,6 @@
 // Borders line by line, so that a search looks at those of one line only.
-ghost use Rattle.std.specs.Prelude.{◌≡◌, ◌<ℤ◌, ℕ, ◌<◌, ◌≤◌, length, slice_index_or, AllPairs, Any, Contains, IfOk, MatchOption};
+ghost use Rattle.std.specs.Prelude.{◌≡◌, ◌<ℤ◌, ℕ, ◌<◌, ◌≤◌, IfOk, MatchOption};
+ghost use Rattle.std.specs.Prelude.{length, slice_index_or, AllPairs, Any, Contains};
 ghost use Rattle.dpl_near.specs.declared.borders.Border.{Border as ABorder};
 ghost use Rattle.dpl_near.specs.Borders.{AreInOrder};
 ghost use Rattle.dpl_near.specs.Lines.{AreLines, AreOnLine, IsLine, IsLower};
