@@ -1,11 +1,12 @@
 -- The lines of borders that are in order.
-use Rattle.std.specs.Prelude.{◌≡◌, ℕ, ℤ, ◌<◌, ◌≤◌, ◌<ℤ◌, List, All, AllPairs, Any, Contains, length, slice_index_or}
+use Rattle.std.specs.Prelude.{◌≡◌, ℕ, ℤ, ◌<◌, ◌≤◌, ◌<ℤ◌}
+use Rattle.std.specs.Prelude.{List, All, AllPairs, Any, Contains, length, slice_index_or}
 use Rattle.dpl_near.specs.declared.borders.Border.{Border}
 use Rattle.dpl_near.specs.declared.lines.Line.{Line}
 use Rattle.dpl_near.specs.Borders.{AreInOrder}
 
--- the borders of the line stand from one place to another, behind those of lower lines and before those
--- of higher ones
+-- the borders of the line stand from one place to another, behind those of lower lines and before
+-- those of higher ones
 pub record IsLine (borders : List Border) (l : Line) : Type 0 where
   pub order : l.start ≤ l.end
   pub within : l.end ≤ length borders

@@ -85,7 +85,7 @@ fn put_in_order(borders: &mut Vec<Border>)
     borders.sort_unstable_by_key(|b| (b.line, b.from));
 }
 
-/// Adds the pairs of a border and those of its line that lie along it, by the numbers of rectangles.
+/// Adds the pairs of a border and those of its line that lie along it, by their numbers.
 pub fn push_along(
     pairs: &mut Vec<(u32, u32)>,
     border: &Border,
