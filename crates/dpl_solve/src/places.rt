@@ -4,7 +4,7 @@
 //! Briggs and Torczon 1993. So nothing is forgotten before another list is noted.
 
 ghost use Rattle.std.specs.Prelude.{◌≡◌, ◌≢◌, ℕ, ◌<◌, length, slice_index, All, AllPairs, OnOk, MatchBool, MatchOption};
-ghost use Rattle.dpl_solve.specs.Places.{AreNoted};
+ghost use Rattle.dpl_solve.specs.Places.{AreNoted, IsListed};
 
 use std::alloc::AllocError;
 
@@ -60,8 +60,7 @@ fn has_at(list: &[u32], place: usize, face: u32) -> bool
 /// The place of a face in the list, if it stands there.
 pub fn place_of(listed: &Listed<'_>, face: u32) -> Option<usize>
     ensures { MatchOption result
-        (AreNoted listed.now.faces.now (length listed.now.faces.now) listed.now.places.now →
-        (u : ℕ) → u < length listed.now.faces.now → slice_index listed.now.faces.now u ≢ face)
+        (IsListed listed.now → (u : ℕ) → u < length listed.now.faces.now → slice_index listed.now.faces.now u ≢ face)
         (λ u. (u < length listed.now.faces.now) × (slice_index listed.now.faces.now u ≡ face)) }
 {
     let place = noted(listed.places, face);

@@ -1,4 +1,4 @@
-use Rattle.dpl_solve.specs.Metrics.{AreSought}
+use Rattle.dpl_solve.proofs.MetricLemmas.{AreSought}
 use Rattle.dpl_solve.proofs.metrics.fill_rows.Given as goal
 
 abbrev pub invariant-loop-s : goal.invariant-loop-s
