@@ -1,9 +1,9 @@
 //! What a stage has beside the matching.
 
-ghost use Rattle.std.specs.Prelude.{◌≡◌, ℕ, ◌+◌, ◌*◌, ◌<◌, ◌≤◌, ◌^◌, None, false, replicate};
+ghost use Rattle.std.specs.Prelude.{◌≡◌, ℕ, ◌+◌, ◌*◌, ◌<◌, ◌≤◌, ◌^◌, false, replicate};
 ghost use Rattle.std.specs.Prelude.{length, slice_index, IfOk};
 ghost use Rattle.dpl_match.specs.steps.Going.{IsStart};
-ghost use Rattle.dpl_match.specs.steps.Nearest.{is_known, kept_in};
+ghost use Rattle.dpl_match.specs.steps.Nearest.{is_known, kept_in, kept_of, nobody};
 
 use dpl_tree::{Matching, Tree};
 use std::alloc::{AllocError, Global};
@@ -19,6 +19,22 @@ pub struct Neighbour {
     pub key: u64,
 }
 
+/// What stands where nothing is kept. No key is as great as this one.
+pub const NOBODY: Neighbour = Neighbour {
+    member: 0,
+    key: 1 << 62,
+};
+
+/// What is kept where this stands.
+fn kept(near: Neighbour) -> Option<Neighbour>
+    ensures { result ≡ kept_of near }
+{
+    if near.key == NOBODY.key {
+        return None;
+    }
+    Some(near)
+}
+
 /// The outer members that were taken in, and for each member the nearest of them with another top.
 /// The origin is an outer member throughout the stage. A change of values adds as much to the sum over
 /// each outer member, so that keys stay as they are.
@@ -26,7 +42,7 @@ pub struct Neighbour {
 pub struct OuterTable {
     pub origin: u32,
     pub known: Vec<bool>,
-    pub near: Vec<Option<Neighbour>>,
+    pub near: Vec<Neighbour>,
 }
 
 impl OuterTable {
@@ -52,7 +68,7 @@ impl OuterTable {
         requires { member < length self.now.near.items }
         ensures { result ≡ kept_in self.now.near.items member }
     {
-        self.near[member as usize]
+        kept(self.near[member as usize])
     }
 }
 
@@ -71,11 +87,11 @@ impl Stage {
         ensures tree { IfOk result (λ s. IsStart n root s.tree) }
         ensures origin { IfOk result (λ s. s.table.origin ≡ origin) }
         ensures known { IfOk result (λ s. s.table.known.items ≡ replicate n false) }
-        ensures near { IfOk result (λ s. s.table.near.items ≡ replicate n None) }
+        ensures near { IfOk result (λ s. s.table.near.items ≡ replicate n nobody) }
     {
         let tree = Tree::new(alloc, root, 2 * n)?;
         let known = vec![in alloc; false; n]?;
-        let near = vec![in alloc; None; n]?;
+        let near = vec![in alloc; NOBODY; n]?;
         Ok(Stage {
             tree,
             table: OuterTable {

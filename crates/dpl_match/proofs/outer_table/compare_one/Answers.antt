@@ -1,9 +1,9 @@
-use Rattle.std.proofs.Common.{arith, ◌≢◌, ℕ, ◌<◌, sym, ◌∙◌, length, Option, None, List, get_or-set_same}
+use Rattle.std.proofs.Common.{arith, ◌≢◌, ℕ, ◌<◌, sym, ap, ◌∙◌, length, List, get_or-set_same}
 use Rattle.dpl_laminar.specs.Families.{Sets}
 use Rattle.dpl_laminar.specs.Storing.{sets_of}
 use Rattle.dpl_match.specs.declared.stage.Neighbour.{Neighbour}
-use Rattle.dpl_match.specs.steps.Nearest.{kept_in}
-use Rattle.dpl_match.proofs.NearLemmas.{closer_taken, compared_closer, compared_stays}
+use Rattle.dpl_match.specs.steps.Nearest.{kept_in, kept_of}
+use Rattle.dpl_match.proofs.NearLemmas.{kept_full, closer_taken, compared_closer, compared_stays}
 use Rattle.dpl_match.proofs.outer_table.compare_one.Goals as goal
 
 pub returns-then-stays-clause-nearer : goal.returns-then-stays-clause-nearer
@@ -14,9 +14,10 @@ pub returns-clause-nearer : goal.returns-clause-nearer
 returns-clause-nearer c =
     let f : Sets = sets_of c.args.matching.now.family in
     let t : ℕ = c.args.t in
-    let near : List (Option Neighbour) = c.args.near.now in
+    let near : List Neighbour = c.args.near.now in
     let w : Neighbour = c.args.other in
     let ne : f.top t ≢ f.top w.member = λ e. c.if-tops.false (c.tops.ensures.value ∙ e ∙ sym c.tops-2.ensures.value) in
     let low : t < length near = omega (arith, c.requires.t, c.requires.count) in
-    get_or-set_same near t _ None low ∙ closer_taken (kept_in near t) w (sym c.stays.ensures ∙ c.if-stays.false) ∙
+    ap kept_of (get_or-set_same near t w (record { member = 0; key = 0 }) low) ∙ kept_full w c.requires.key ∙
+    closer_taken (kept_in near t) w (sym c.stays.ensures ∙ c.if-stays.false) ∙
     compared_closer f t (kept_in near t) w ne

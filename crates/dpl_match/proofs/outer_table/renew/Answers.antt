@@ -8,6 +8,10 @@ use Rattle.dpl_match.specs.steps.Scans.{Members, members_of}
 use Rattle.dpl_match.proofs.NearLemmas.{renewed}
 use Rattle.dpl_match.proofs.outer_table.renew.Goals as goal
 
+pub renew_one-requires-clause-measured : goal.renew_one-requires-clause-measured
+renew_one-requires-clause-measured c =
+    c.loop-t.invariant.near_outer.measured c.loop-t.t (omega (arith, c.loop-t-test.true, c.size-n.ensures.value))
+
 pub loop-t-preserved : goal.loop-t-preserved
 loop-t-preserved c =
     let v : Members = members_of c.args.metric.now c.args.matching.now in
