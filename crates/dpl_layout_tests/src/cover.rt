@@ -60,8 +60,9 @@ fn long_boxes_over_wide_blocks(rt: HostRuntime) -> Result<(), Fail> {
     let mut boxes = Vec::new(rt.alloc());
     push(&mut boxes, 0, 0, 2199, 4)?;
     push(&mut boxes, 100, 2, 2051, 8)?;
-    for k in 0..1100 {
-        push(&mut boxes, 2 * k, 9, 2 * k + 1, 14)?;
+    for k in 0..1100i64 {
+        let x = k.wrapping_mul(2);
+        push(&mut boxes, x, 9, x.wrapping_add(1), 14)?;
     }
     push(&mut boxes, 0, 11, 2199, 12)?;
     let mut cover = Cover::new(rt.alloc(), boxes.as_slice())?;
