@@ -1,18 +1,18 @@
 -- The kinds of items at their stops, and the walk over the stops for those that are asked for.
 use Rattle.std.proofs.Common.{arith, ◌≡◌, ◌⊎◌, ℕ, ◌+◌, ◌<◌, ◌≤◌, List, length, get_or, set, ◌∙◌, All, Contains}
-use Rattle.std.proofs.Common.{refl, sym, ap, subst, inl, inr, ◌∷◌, [], ◌++◌, Some}
+use Rattle.std.proofs.Common.{refl, sym, ap, subst, inl, inr, ◌∷◌, [], ◌++◌, Some, map}
 use Rattle.std.proofs.lemmas.Bool.{cases_lt}
-use Rattle.std.proofs.lemmas.List.{get_or_append_left, get_or_push, length_push}
+use Rattle.std.proofs.lemmas.List.{get_or_append_left, get_or_push, length_push, get_or-map, length-map}
 use Rattle.std.proofs.lemmas.List.Elements.{All-push, Contains-push, Contains-append_left}
 use Rattle.std.proofs.lemmas.Option.{same_Some}
 use Rattle.dpl_index.specs.declared.bounds.Bounds.{Bounds}
 use Rattle.dpl_index.specs.declared.kinded.Ask.{Ask}
 use Rattle.dpl_index.specs.declared.stops.Stop.{Stop}
 use Rattle.dpl_index.specs.Holds.{Holds}
-use Rattle.dpl_index.specs.Kinds.{Kinded, kind_of, HasKinds, IsAsked, HasAsked, AddsAsked}
+use Rattle.dpl_index.specs.Kinds.{Kinded, Standing, kind_of, HasKinds, IsAsked, HasAsked, HasAskedFrom, HasAskedBehind, IsOrder, AddsAsked}
 use Rattle.dpl_index.specs.Meetings.{Meets}
 use Rattle.dpl_index.specs.Stops.{IsIndex}
-use Rattle.dpl_index.proofs.StopLemmas.{Absorbs, absorbs_number, absorbs_within, set_at, set_shorter}
+use Rattle.dpl_index.proofs.StopLemmas.{Absorbs, blank, absorbs_number, absorbs_within, set_at, set_shorter}
 use Rattle.dpl_index.proofs.MeetingLemmas.{meets_outer}
 use Rattle.dpl_list.proofs.Lists.{some_of}
 
@@ -76,44 +76,44 @@ kinds_absorbed kinds stops k stop next new a first second s = record {
 
 -- ---- the walk
 
--- those that are asked for at the stops before a place are found
-pub record Asked (x : Kinded) (ask : Ask) (stops : List Stop) (at : ℕ) (found : List ℕ) : Type 0 where
+-- those that are asked for at the stops from one on and before a place are found
+pub record Asked (x : Kinded) (ask : Ask) (stops : List Stop) (from at : ℕ) (found : List ℕ) : Type 0 where
   pub each : All (λ i. i < length x.items) found
-  pub all : (m : ℕ) (d : Stop) → m < at → m < length stops → IsAsked x ask (get_or stops m d).number → Contains found (get_or stops m d).number
+  pub all : (m : ℕ) (d : Stop) → from ≤ m → m < at → m < length stops → IsAsked x ask (get_or stops m d).number → Contains found (get_or stops m d).number
 
-pub asked_begins : (x : Kinded) (ask : Ask) (stops : List Stop) → Asked x ask stops 0 []
-asked_begins x ask stops = record { each = λ k d l. absurd (omega arith); all = λ m d l. absurd (omega arith) }
+pub asked_begins : (x : Kinded) (ask : Ask) (stops : List Stop) (from : ℕ) (found : List ℕ) → found ≡ [] → Asked x ask stops from from found
+asked_begins x ask stops from found e = rw e (record { each = λ k d l. absurd (omega arith); all = λ m d low l. absurd (omega arith) })
 
 -- a stop is looked at
-pub asked_on : (x : Kinded) (ask : Ask) (stops : List Stop) (at : ℕ) (found new : List ℕ) (stop : Stop)
+pub asked_on : (x : Kinded) (ask : Ask) (stops : List Stop) (from at : ℕ) (found new : List ℕ) (stop : Stop)
     → ((d : Stop) → get_or stops at d ≡ stop) → stop.number < length x.items
-    → AddsAsked x ask stop.number found new → Asked x ask stops at found → Asked x ask stops (at + 1) new
-asked_on x ask stops at found new stop is inside (inl e) w = rw e (record {
+    → AddsAsked x ask stop.number found new → Asked x ask stops from at found → Asked x ask stops from (at + 1) new
+asked_on x ask stops from at found new stop is inside (inl e) w = rw e (record {
   each = All-push (λ i. i < length x.items) found stop.number w.each inside;
-  all = λ m d l h n. elim (cases_lt m at) [
-    | inl g ↦ Contains-append_left found (stop.number ∷ []) _ (w.all m d g h n)
+  all = λ m d low l h n. elim (cases_lt m at) [
+    | inl g ↦ Contains-append_left found (stop.number ∷ []) _ (w.all m d low g h n)
     | inr g ↦ let f : m ≡ at = omega arith in rw (f, is d) (Contains-push found stop.number)
   ];
 })
-asked_on x ask stops at found new stop is inside (inr (none, e)) w = rw e (record {
+asked_on x ask stops from at found new stop is inside (inr (none, e)) w = rw e (record {
   each = w.each;
-  all = λ m d l h n. elim (cases_lt m at) [
-    | inl g ↦ w.all m d g h n
+  all = λ m d low l h n. elim (cases_lt m at) [
+    | inl g ↦ w.all m d low g h n
     | inr g ↦ let f : m ≡ at = omega arith in let P : Stop → Type 0 = λ t. IsAsked x ask t.number in
         absurd (none (subst P (ap (λ j. get_or stops j d) f ∙ is d) n))
   ];
 })
 
 -- the stops that hold nothing of what is asked for are left out
-pub asked_past : (x : Kinded) (ask : Ask) (stops : List Stop) (at : ℕ) (found : List ℕ) (stop : Stop)
+pub asked_past : (x : Kinded) (ask : Ask) (stops : List Stop) (from at : ℕ) (found : List ℕ) (stop : Stop)
     → ((d : Stop) → get_or stops at d ≡ stop) → at < length stops
     → (¬ Meets stop.bounds ask.far) ⊎ ((stop.kind ≡ Some ask.kind) × (¬ Meets stop.bounds ask.near))
-    → IsIndex x.items stops → HasKinds x.kinds stops → Asked x ask stops at found
-    → Asked x ask stops (at + stop.rest + 1) found
-asked_past x ask stops at found stop is within none i k w = record {
+    → IsIndex x.items stops → HasKinds x.kinds stops → Asked x ask stops from at found
+    → Asked x ask stops from (at + stop.rest + 1) found
+asked_past x ask stops from at found stop is within none i k w = record {
   each = w.each;
-  all = λ m d h l n. elim (cases_lt m at) [
-    | inl g ↦ w.all m d g l n
+  all = λ m d begun h l n. elim (cases_lt m at) [
+    | inl g ↦ w.all m d begun g l n
     | inr g ↦ absurd (not_asked m d g h n)
   ];
 } where
@@ -134,9 +134,15 @@ asked_past x ask stops at found stop is within none i k w = record {
     ]
   ]
 
-pub asked_ends : (x : Kinded) (ask : Ask) (stops : List Stop) (at : ℕ) (found : List ℕ) → length stops ≤ at
-    → IsIndex x.items stops → Asked x ask stops at found → HasAsked x ask found
-asked_ends x ask stops at found whole i w = record {
+pub asked_ends : (x : Kinded) (ask : Ask) (stops : List Stop) (from at : ℕ) (found : List ℕ) → length stops ≤ at
+    → Asked x ask stops from at found → HasAskedFrom x ask stops from found
+asked_ends x ask stops from at found whole w = record { each = w.each; all = λ m d low l n. w.all m d low (omega arith) l n }
+
+-- ---- all items, and those behind a place
+
+pub asked_all : (x : Kinded) (ask : Ask) (stops : List Stop) (found : List ℕ)
+    → IsIndex x.items stops → HasAskedFrom x ask stops 0 found → HasAsked x ask found
+asked_all x ask stops found i w = record {
   each = w.each;
   all = λ j n. let (k, l, e) = i.all j n.within in all_at j n k l e;
 } where
@@ -146,6 +152,32 @@ asked_ends x ask stops at found whole i w = record {
       let P : ℕ → Type 0 = IsAsked x ask in
       let Q : ℕ → Type 0 = Contains found in
       subst Q (e d) (w.all k d (omega arith) l (subst P (sym (e d)) n))
+
+pub number_at : (stops : List Stop) (k : ℕ) (d : Stop) → k < length stops → get_or (map (λ (s : Stop). s.number) stops) k 0 ≡ (get_or stops k d).number
+number_at stops k d l = get_or-map (λ (s : Stop). s.number) stops k d 0 l
+
+pub asked_behind : (x : Kinded) (ask : Ask) (stops : List Stop) (place : ℕ) (found : List ℕ)
+    → HasAskedFrom x ask stops (place + 1) found
+    → HasAskedBehind (record { kinded = x; order = map (λ (s : Stop). s.number) stops }) ask place found
+asked_behind x ask stops place found w = record { each = w.each; all = λ m low l n. go m low (rw length-map at l) n } where
+  go : (m : ℕ) → place < m → m < length stops → IsAsked x ask (get_or (map (λ (s : Stop). s.number) stops) m 0)
+      → Contains found (get_or (map (λ (s : Stop). s.number) stops) m 0)
+  go m low l n =
+      let e = number_at stops m blank l in
+      let P : ℕ → Type 0 = IsAsked x ask in
+      let Q : ℕ → Type 0 = Contains found in
+      subst Q (sym e) (w.all m blank (omega arith) l (subst P e n))
+
+pub in_order : (items : List Bounds) (stops : List Stop) → IsIndex items stops → IsOrder (length items) (map (λ (s : Stop). s.number) stops)
+in_order items stops x = record {
+  each = λ k d l. each k d (rw length-map at l);
+  all = λ i l. let (k, h, e) = x.all i l in (k, rw length-map h, number_is k i h ∙ e blank);
+} where
+  each : (k d : ℕ) → k < length stops → get_or (map (λ (s : Stop). s.number) stops) k d < length items
+  each k d l = rw (get_or-map (λ (s : Stop). s.number) stops k blank d l) (x.inside k blank l)
+
+  number_is : (k d : ℕ) → k < length stops → get_or (map (λ (s : Stop). s.number) stops) k d ≡ (get_or stops k blank).number
+  number_is k d l = get_or-map (λ (s : Stop). s.number) stops k blank d l
 
 -- ---- one item
 

@@ -10,6 +10,16 @@ pub record Kinded : Type 0 where
   pub items : List Bounds
   pub kinds : List ℕ
 
+-- kinded items, and their numbers in the order in which they stand
+pub record Standing : Type 0 where
+  pub kinded : Kinded
+  pub order : List ℕ
+
+-- the numbers below n, each at some place
+pub record IsOrder (n : ℕ) (order : List ℕ) : Type 0 where
+  pub each : All (λ i. i < n) order
+  pub all : (i : ℕ) → i < n → Contains order i
+
 -- the kind of an item by its number, 0 where none is given
 abbrev pub kind_of : List ℕ → ℕ → ℕ
 kind_of kinds i = slice_index_or kinds i 0
@@ -31,6 +41,21 @@ pub record IsAsked (x : Kinded) (ask : Ask) (i : ℕ) : Type 0 where
 pub record HasAsked (x : Kinded) (ask : Ask) (found : List ℕ) : Type 0 where
   pub each : All (λ i. i < length x.items) found
   pub all : (i : ℕ) → IsAsked x ask i → Contains found i
+
+-- the same of those that stand behind a place
+pub record HasAskedBehind (x : Standing) (ask : Ask) (place : ℕ) (found : List ℕ) : Type 0 where
+  pub each : All (λ i. i < length x.kinded.items) found
+  pub all : (m : ℕ) → place < m → m < length x.order →
+      IsAsked x.kinded ask (slice_index_or x.order m 0) →
+      Contains found (slice_index_or x.order m 0)
+
+-- the same of those at the stops from one on
+pub record HasAskedFrom (x : Kinded) (ask : Ask) (stops : List Stop) (from : ℕ) (found : List ℕ)
+    : Type 0 where
+  pub each : All (λ i. i < length x.items) found
+  pub all : (m : ℕ) (d : Stop) → from ≤ m → m < length stops →
+      IsAsked x ask (slice_index_or stops m d).number →
+      Contains found (slice_index_or stops m d).number
 
 -- the second list is the first, with i behind it or without where i is not asked for
 abbrev pub AddsAsked : Kinded → Ask → ℕ → List ℕ → List ℕ → Type 0

@@ -1,6 +1,6 @@
 // Items found by their bounds and their kinds.
-ghost use Rattle.std.specs.Prelude.{◌≡◌, ◌⊎◌, false, ℕ, ◌<◌, ◌≤◌, length, IfOk, OnOk, Some};
-ghost use Rattle.dpl_index.specs.Kinds.{AddsAsked, HasAsked, HasKinds};
+ghost use Rattle.std.specs.Prelude.{◌≡◌, ◌⊎◌, false, ℕ, ◌<◌, ◌≤◌, length, OnOk, Some};
+ghost use Rattle.dpl_index.specs.Kinds.{AddsAsked, HasAskedFrom, HasKinds};
 ghost use Rattle.dpl_index.specs.Meetings.{Meets};
 ghost use Rattle.dpl_index.specs.Stops.{IsIndex};
 
@@ -31,12 +31,17 @@ pub struct KindIndex {
 }
 
 impl Model for KindIndex {
-    ghost use Rattle.dpl_index.specs.Kinds.{HasKinds, Kinded};
+    ghost use Rattle.std.specs.Prelude.{map};
+    ghost use Rattle.dpl_index.specs.declared.stops.Stop.{Stop};
+    ghost use Rattle.dpl_index.specs.Kinds.{HasKinds, Standing};
     ghost use Rattle.dpl_index.specs.Stops.{IsIndex};
 
-    ghost Value = { Kinded };
+    ghost Value = { Standing };
 
-    ghost view = { λ x. record { items = x.bounds.items; kinds = x.kinds.items } };
+    ghost view = { λ x. record {
+      kinded = record { items = x.bounds.items; kinds = x.kinds.items };
+      order = map (λ (s : Stop). s.number) x.stops.items;
+    } };
 
     ghost invariant = { λ x. record {
       index : IsIndex x.bounds.items x.stops.items;
@@ -45,13 +50,13 @@ impl Model for KindIndex {
 }
 
 impl KindIndex {
-    ghost use Rattle.std.specs.Prelude.{◌≡◌, IfOk, IfSome};
-    ghost use Rattle.dpl_index.specs.Kinds.{HasAsked};
+    ghost use Rattle.std.specs.Prelude.{◌≡◌, ◌<◌, length, slice_index_or, IfOk, IfSome, OnOk};
+    ghost use Rattle.dpl_index.specs.Kinds.{HasAsked, HasAskedBehind, IsOrder};
 
     /// An index of items with these bounds and kinds. It takes about n log n steps for n of them.
     pub fn new(alloc: Global, bounds: Vec<Bounds>, kinds: Vec<u32>) -> Result<KindIndex, NoMemory>
         ensures { IfOk result (λ index.
-            index ≡ record { items = bounds.items; kinds = kinds.items }) }
+            index.kinded ≡ record { items = bounds.items; kinds = kinds.items }) }
     {
         let stops = stops_of(alloc, bounds.as_slice(), kinds.as_slice())?;
         Ok(KindIndex {
@@ -63,12 +68,46 @@ impl KindIndex {
 
     /// Numbers of items, among them all that are asked for.
     pub fn asked(&self, alloc: Global, ask: &Ask) -> Result<Vec<usize>, NoMemory>
-        ensures { IfOk result (λ v. HasAsked self.now ask.now v.items) }
+        ensures { IfOk result (λ v. HasAsked self.now.kinded ask.now v.items) }
     {
         let (bounds, kinds) = (self.bounds.as_slice(), self.kinds.as_slice());
         let stops = self.stops.as_slice();
-        let found = gather_asked(alloc, bounds, kinds, stops, ask, usize::MAX)?;
+        let mut found = Vec::with_capacity(alloc, USUAL.min(stops.len()))?;
+        gather_asked(&mut found, bounds, kinds, stops, 0, ask, usize::MAX)?;
         Ok(found)
+    }
+
+    /// How many places there are. Items that stand near one another in the plane stand at near places.
+    pub fn places(&self) -> usize
+        ensures count { result ≡ length self.now.order }
+        ensures order { IsOrder (length self.now.kinded.items) self.now.order }
+    {
+        self.stops.len()
+    }
+
+    /// The number of the item at a place.
+    pub fn item_at(&self, place: usize) -> usize
+        requires { place < length self.now.order }
+        ensures { result ≡ slice_index_or self.now.order place 0 }
+    {
+        self.stops[place].number
+    }
+
+    /// Puts into a list, in place of what it has, numbers of items, among them all that stand behind a place and are
+    /// asked for. It looks at about half as many as a search among all.
+    pub fn put_asked_behind(
+        &self,
+        place: usize,
+        ask: &Ask,
+        found: &mut Vec<usize>,
+    ) -> Result<(), NoMemory>
+        requires { place < length self.now.order }
+        ensures { OnOk result (HasAskedBehind self.now ask.now place found.new.items) }
+    {
+        let (bounds, kinds) = (self.bounds.as_slice(), self.kinds.as_slice());
+        let stops = self.stops.as_slice();
+        gather_asked(found, bounds, kinds, stops, place + 1, ask, usize::MAX)?;
+        Ok(())
     }
 
     /// The same, or `None` as soon as more than `most` are found.
@@ -78,11 +117,12 @@ impl KindIndex {
         ask: &Ask,
         most: usize,
     ) -> Result<Option<Vec<usize>>, NoMemory>
-        ensures { IfOk result (λ few. IfSome few (λ v. HasAsked self.now ask.now v.items)) }
+        ensures { IfOk result (λ few. IfSome few (λ v. HasAsked self.now.kinded ask.now v.items)) }
     {
         let (bounds, kinds) = (self.bounds.as_slice(), self.kinds.as_slice());
         let stops = self.stops.as_slice();
-        let found = gather_asked(alloc, bounds, kinds, stops, ask, most)?;
+        let mut found = Vec::with_capacity(alloc, USUAL.min(stops.len()))?;
+        gather_asked(&mut found, bounds, kinds, stops, 0, ask, most)?;
         if found.len() > most {
             return Ok(None);
         }
@@ -90,36 +130,39 @@ impl KindIndex {
     }
 }
 
-/// The numbers of the items that are asked for; where there are more than `enough`, one more than that.
+/// The numbers of the items that are asked for at the stops from one on; where there are more than `enough`, one more
+/// than that.
 fn gather_asked(
-    alloc: Global,
+    found: &mut Vec<usize>,
     items: &[Bounds],
     kinds: &[u32],
     stops: &[Stop],
+    from: usize,
     ask: &Ask,
     enough: usize,
-) -> Result<Vec<usize>, NoMemory>
+) -> Result<(), NoMemory>
     requires index { IsIndex items.now stops.now }
     requires kinds { HasKinds kinds.now stops.now }
-    ensures { IfOk result (λ v. length v.items ≤ enough →
-        HasAsked (record { items = items.now; kinds = kinds.now }) ask.now v.items) }
+    ensures { OnOk result (length found.new.items ≤ enough →
+        HasAskedFrom (record { items = items.now; kinds = kinds.now }) ask.now stops.now from
+        found.new.items) }
 {
     let ask = *ask;
-    let mut found = Vec::with_capacity(alloc, USUAL.min(stops.len()))?;
-    let mut at = 0;
+    found.clear();
+    let mut at = from;
     'stops: while at < stops.len() {
         let stop = &stops[at];
         if may_hold(stop, &ask) {
-            push_asked(&mut found, items, kinds, &ask, stop)?;
+            push_asked(found, items, kinds, &ask, stop)?;
             if found.len() > enough {
-                return Ok(found);
+                return Ok(());
             }
             at += 1;
         } else {
             at += stop.rest + 1;
         }
     }
-    Ok(found)
+    Ok(())
 }
 
 /// Whether an item of a stop, or of those that it holds, may be asked for.

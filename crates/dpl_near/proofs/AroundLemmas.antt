@@ -21,6 +21,7 @@ use Rattle.std.proofs.Common.{
   subst,
   sym,
   ◌∙◌,
+  ap,
 }
 use Rattle.std.proofs.lemmas.Bool.{cases_lt}
 use Rattle.std.proofs.lemmas.List.{get_or_default, get_or-map, length-map}
@@ -36,6 +37,7 @@ use Rattle.dpl_cell.specs.Gaps.{AreClose}
 use Rattle.dpl_near.specs.Around.{Shaped, within, AreAround, MayBeAround}
 use Rattle.dpl_near.specs.Bounds.{bounds_of}
 use Rattle.dpl_near.specs.Near.{Search, IsNear, AddsNear}
+use Rattle.dpl_near.specs.Pairs.{IsWanted}
 use Rattle.dpl_near.proofs.BoundsLemmas.{bounds_at}
 
 -- ---- those around a rectangle, among those that may be
@@ -80,7 +82,41 @@ close_all s i found t near whole may a = record {
       let Q : ℕ → Type 0 = Contains near in
       subst Q f (a.all k (omega arith) (subst P (sym f) n))
 
--- ---- what is asked for may be around
+-- ---- what must be around is asked for
+
+pub all_within : (rects : List Rect) (shape : List ℕ) (x : Kinded) (found : List ℕ)
+    → x ≡ record { items = map (λ q. bounds_of (corners_of q)) rects; kinds = shape }
+    → All (λ i. i < length x.items) found → All (λ i. i < length (map corners_of rects)) found
+all_within rects shape x found e all =
+    let f : length x.items ≡ length (map corners_of rects) = ap (λ (y : Kinded). length y.items) e ∙
+    length-map rects (λ q. bounds_of (corners_of q)) ∙ sym (length-map rects corners_of) in
+    let P : ℕ → Type 0 = λ n. All (λ i. i < n) found in
+    subst P f all
+
+pub wanted_asked : (rects : List Rect) (shape : List ℕ) (reach i : ℕ) (r : Rect) (x : Kinded) (ask : Ask)
+    → x ≡ record { items = map (λ q. bounds_of (corners_of q)) rects; kinds = shape } → i < length rects
+    → r ≡ get_or rects i r → ask.kind ≡ get_or shape i 0
+    → ((other : Corners) → AreClose (IsIn (corners_of r)) (IsIn other) 1 → Meets (bounds_of other) ask.near)
+    → ((other : Corners) → AreClose (IsIn (corners_of r)) (IsIn other) reach → Meets (bounds_of other) ask.far)
+    → (j : ℕ) → IsWanted (record { rects = map corners_of rects; shape = shape; reach = reach }) i j → IsAsked x ask j
+wanted_asked rects shape reach i r x ask e l is kind near far j w = rw e (asked (elim w.why [
+  | inl other ↦ inl (λ g. other (g ∙ kind))
+  | inr touch ↦ inr (λ d. rw (bounds_at rects j r d (corners_of r) inside) (near _ (close 1 touch)))
+])) where
+  inside : j < length rects
+  inside = let n = w.near.within in let a = length-map rects corners_of in omega arith
+
+  close : (reach : ℕ) → IsNear (record { rects = map corners_of rects; reach = reach }) i j →
+      AreClose (IsIn (corners_of r)) (IsIn (get_or (map corners_of rects) j (corners_of r))) reach
+  close reach n = rw (get_or-map corners_of rects i r (corners_of r) l, ← is) at (n.close (corners_of r))
+
+  asked : (get_or shape j 0 ≢ ask.kind) ⊎ ((d : Bounds) → Meets (get_or (map (λ q. bounds_of (corners_of q)) rects) j d) ask.near) →
+      IsAsked (record { items = map (λ q. bounds_of (corners_of q)) rects; kinds = shape }) ask j
+  asked other = record {
+    within = let h = inside in let a = length-map rects (λ q. bounds_of (corners_of q)) in omega arith;
+    far = λ d. rw (bounds_at rects j r d (corners_of r) inside) (far _ (close reach w.near));
+    near = other;
+  }
 
 pub may_be_around : (rects : List Rect) (shape : List ℕ) (reach i : ℕ) (r : Rect) (x : Kinded) (ask : Ask) (found : List ℕ)
     → x ≡ record { items = map (λ q. bounds_of (corners_of q)) rects; kinds = shape } → i < length rects
@@ -89,30 +125,10 @@ pub may_be_around : (rects : List Rect) (shape : List ℕ) (reach i : ℕ) (r : 
     → ((other : Corners) → AreClose (IsIn (corners_of r)) (IsIn other) reach → Meets (bounds_of other) ask.far)
     → HasAsked x ask found
     → MayBeAround (record { rects = map corners_of rects; shape = shape; reach = reach }) i found
-may_be_around rects shape reach i r x ask found e l is kind near far h = record {
-  each = λ k d m. within_rects _ (has.each k d m);
-  others = λ j n other. has.all j (asked j n (inl (λ g. other (g ∙ kind))));
-  touching = λ j n touch. has.all j (asked j n (inr (λ d. rw (bounds_at rects j r d (corners_of r) (inside j n)) (near _ (close 1 j touch)))));
+may_be_around rects shape reach i r x ask found e l is kind near far has = record {
+  each = all_within rects shape x found e has.each;
+  others = λ j n other. has.all j (asked j (record { near = n; why = inl other }));
+  touching = λ j n touch. has.all j (asked j (record { near = n; why = inr touch }));
 } where
-  has : HasAsked (record { items = map (λ q. bounds_of (corners_of q)) rects; kinds = shape }) ask found
-  has = rw e at h
-
-  within_rects : (j : ℕ) → j < length (map (λ q. bounds_of (corners_of q)) rects) → j < length (map corners_of rects)
-  within_rects j h = let a = length-map rects corners_of in let b = length-map rects (λ q. bounds_of (corners_of q)) in omega arith
-
-  inside : (j : ℕ) → IsNear (record { rects = map corners_of rects; reach = reach }) i j → j < length rects
-  inside j n = let w = n.within in let a = length-map rects corners_of in omega arith
-
-  close : (reach : ℕ) (j : ℕ) → IsNear (record { rects = map corners_of rects; reach = reach }) i j →
-      AreClose (IsIn (corners_of r)) (IsIn (get_or (map corners_of rects) j (corners_of r))) reach
-  close reach j n = rw (get_or-map corners_of rects i r (corners_of r) l, ← is) at (n.close (corners_of r))
-
-  asked : (j : ℕ) → IsNear (record { rects = map corners_of rects; reach = reach }) i j →
-      (get_or shape j 0 ≢ ask.kind) ⊎
-      ((d : Bounds) → Meets (get_or (map (λ q. bounds_of (corners_of q)) rects) j d) ask.near) →
-      IsAsked (record { items = map (λ q. bounds_of (corners_of q)) rects; kinds = shape }) ask j
-  asked j n other = record {
-    within = let w = inside j n in let a = length-map rects (λ q. bounds_of (corners_of q)) in omega arith;
-    far = λ d. rw (bounds_at rects j r d (corners_of r) (inside j n)) (far _ (close reach j n));
-    near = other;
-  }
+  asked : (j : ℕ) → IsWanted (record { rects = map corners_of rects; shape = shape; reach = reach }) i j → IsAsked x ask j
+  asked = wanted_asked rects shape reach i r x ask e l is kind near far

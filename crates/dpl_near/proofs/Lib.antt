@@ -1,4 +1,5 @@
 pub mod AroundLemmas
+pub mod PairLemmas
 pub mod NearLemmas
 pub mod BoundsLemmas
 pub mod BorderLemmas

@@ -1,5 +1,6 @@
 pub mod Near
 pub mod Around
+pub mod Pairs
 pub mod Bounds
 pub mod Borders
 pub mod Lines

@@ -12,6 +12,7 @@ mod bounds;
 mod joining;
 pub mod laws;
 mod lines;
+mod pairing;
 mod shaping;
 mod surroundings;
 pub mod types;

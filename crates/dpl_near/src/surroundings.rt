@@ -10,27 +10,32 @@ ghost use Rattle.dpl_near.specs.Bounds.{bounds_of};
 ghost use Rattle.dpl_near.specs.Near.{AddsNear};
 
 use crate::bounds::{all_bounds, within_reach};
+use crate::pairing::all_around;
 use dpl_cell::{Rect, are_close};
 use dpl_index::{Ask, KindIndex};
+use dpl_list::Grouped;
 use std::alloc::{AllocError as NoMemory, Global};
 use std::marker::Model;
 
 /// Finds what stands around one of some rectangles, whose shapes are known. Of its own shape only what touches it is
-/// found, so a large shape costs no more than its edges.
+/// found, so a large shape costs no more than its edges. What stands around each is found once and kept in rows, unless
+/// that is very much: then it is looked for in the index at each call.
 #[derive(Drop)]
 pub struct Surroundings<'a> {
     rects: &'a [Rect],
     shape: &'a [u32],
     reach: u64,
     index: KindIndex,
+    rows: Option<Grouped<u32>>,
 }
 
 impl<'a> Model for Surroundings<'a> {
-    ghost use Rattle.std.specs.Prelude.{◌≡◌, ℕ, ◌≤◌, length, map};
+    ghost use Rattle.std.specs.Prelude.{◌≡◌, ℕ, ◌≤◌, length, map, IfSome};
     ghost use Rattle.dpl_limits.specs.declared.TheConstants.{MOST_REACH, MOST_TILES};
     ghost use Rattle.dpl_cell.specs.Places.{corners_of};
     ghost use Rattle.dpl_near.specs.Around.{Shaped};
     ghost use Rattle.dpl_near.specs.Bounds.{bounds_of};
+    ghost use Rattle.dpl_near.specs.Pairs.{AreRows};
 
     ghost Value = { Shaped };
 
@@ -44,10 +49,15 @@ impl<'a> Model for Surroundings<'a> {
       few : length f.rects.now ≤ MOST_TILES;
       near : f.reach ≤ MOST_REACH;
       long : length f.shape.now ≡ length f.rects.now;
-      bounds : f.index ≡ record {
+      bounds : f.index.kinded ≡ record {
         items = map (λ r. bounds_of (corners_of r)) f.rects.now;
         kinds = f.shape.now;
       };
+      rows : IfSome f.rows (λ rows. AreRows (record {
+        rects = map corners_of f.rects.now;
+        shape = f.shape.now;
+        reach = f.reach;
+      }) rows);
     } };
 }
 
@@ -73,11 +83,13 @@ impl<'a> Surroundings<'a> {
         let bounds = all_bounds(alloc, rects)?;
         let kinds = Vec::from_slice(alloc, shape)?;
         let index = KindIndex::new(alloc, bounds, kinds)?;
+        let rows = all_around(alloc, rects, shape, reach, &index)?;
         Ok(Surroundings {
             rects,
             shape,
             reach,
             index,
+            rows,
         })
     }
 
@@ -86,18 +98,13 @@ impl<'a> Surroundings<'a> {
         requires { i < length self.now.rects }
         ensures { IfOk result (λ v. AreAround self.now i v.items) }
     {
-        let i = i as usize;
-        let ask = ask_around(&self.rects[i], self.shape[i], self.reach);
-        let found = self.index.asked(alloc, &ask)?;
-        let near = close_among(
-            alloc,
-            self.rects,
-            self.shape,
-            self.reach,
-            i,
-            found.as_slice(),
-        )?;
-        Ok(near)
+        match &self.rows {
+            None => self.around_within(alloc, i, self.reach),
+            Some(rows) => {
+                let row = Vec::from_slice(alloc, rows.row(i as usize))?;
+                Ok(row)
+            }
+        }
     }
 
     /// The same, or `None` where with the rectangle itself there may be more than `most`.
@@ -107,6 +114,24 @@ impl<'a> Surroundings<'a> {
         i: u32,
         most: usize,
     ) -> Result<Option<Vec<u32>>, NoMemory>
+        requires { i < length self.now.rects }
+        ensures { IfOk result (λ few. IfSome few (λ v. AreAround self.now i v.items)) }
+    {
+        match &self.rows {
+            None => self.few_in_index(alloc, i, most),
+            Some(rows) => {
+                let row = rows.row(i as usize);
+                if row.len() >= most {
+                    return Ok(None);
+                }
+                let row = Vec::from_slice(alloc, row)?;
+                Ok(Some(row))
+            }
+        }
+    }
+
+    /// The same by a search in the index.
+    fn few_in_index(&self, alloc: Global, i: u32, most: usize) -> Result<Option<Vec<u32>>, NoMemory>
         requires { i < length self.now.rects }
         ensures { IfOk result (λ few. IfSome few (λ v. AreAround self.now i v.items)) }
     {
@@ -141,7 +166,7 @@ impl<'a> Surroundings<'a> {
 }
 
 /// What is asked for around a rectangle of a shape: what meets it widened by the reach, and of its own shape by one.
-fn ask_around(rect: &Rect, shape: u32, reach: u64) -> Ask
+pub fn ask_around(rect: &Rect, shape: u32, reach: u64) -> Ask
     requires { reach ≤ MOST_REACH }
     ensures kind { result.kind ≡ shape }
     ensures near { (other : Corners) →

@@ -1,13 +1,12 @@
-use Rattle.std.proofs.Common.{◌<◌, length}
-use Rattle.std.proofs.lemmas.List.{length-map}
-use Rattle.dpl_near.proofs.AroundLemmas.{may_be_around}
+use Rattle.std.proofs.Common.{◌<◌, length, map}
+use Rattle.dpl_cell.specs.Places.{corners_of}
+use Rattle.dpl_near.specs.Around.{Shaped}
+use Rattle.dpl_near.specs.Pairs.{AreRows}
 use Rattle.dpl_near.proofs.surroundings.Surroundings.around.Goals as goal
 
-pub close_among-requires-clause-found : goal.close_among-requires-clause-found
-close_among-requires-clause-found c =
-    let rects = c.self.inside.rects.now in
-    let within : c.args.i < length rects = rw length-map at (rw (← c.self.view_is) at c.requires) in
-    rw c.as_slice.ensures.value (may_be_around rects c.self.inside.shape.now c.self.inside.reach c.args.i c.index-self-i.result _ _ _
-    c.self.invariant.bounds within c.index-self-i.is c.ask_around-ask.ensures.kind
-    (rw (← c.index-self-i.is) at c.ask_around-ask.ensures.near) (rw (← c.index-self-i.is) at c.ask_around-ask.ensures.far)
-    c.in_ok-found.ensures)
+pub returns-in_ok-row-in-Some : goal.returns-in_ok-row-in-Some
+returns-in_ok-row-in-Some c =
+    let s : Shaped = record { rects = map corners_of c.self.inside.rects.now; shape = c.self.inside.shape.now; reach = c.self.inside.reach } in
+    let rows : AreRows s c.in-Some.rows = rw c.in-Some.is at c.self.invariant.rows in
+    let within : c.args.i < length s.rects = rw (← c.self.view_is) at c.requires in
+    rw (c.in_ok-row-in-Some.ensures.items, c.row.ensures, ← c.self.view_is) (rows.each c.args.i within)
