@@ -111,7 +111,7 @@ impl Family {
         ensures steps { steps.new ≡ steps.old + 1 }
     {
         steps.tick(); // A refused call counts too.
-        let members = Members::under(alloc, &self.tops, children)?;
+        let members = Members::under(alloc, &self.tops, children, 2 * self.size)?;
         let name = name_of(
             &self.rows,
             self.size,
@@ -119,7 +119,7 @@ impl Family {
             children[1] as usize,
         );
         let set = self.size + name;
-        releasing::gather(&mut self.tops, children, set as u32);
+        releasing::lift(&mut self.tops, &members, set as u32);
         releasing::adopt(&mut self.parents, children, set as u32);
         releasing::join(&mut self.joins, children, joins);
         rings::tie(&mut self.ring, children);
@@ -195,6 +195,14 @@ impl Family {
         ensures family { IsFamily (sets_of self.now) }
     {
         self.parents[set as usize]
+    }
+
+    /// Whether a live set holds a member.
+    pub fn holds(&self, set: u32, member: u32) -> bool
+        requires { (sets_of self.now).live set ≡ true }
+        ensures { result ≡ (sets_of self.now).holds set member }
+    {
+        self.rows[set as usize].holds(member as usize)
     }
 
     /// The value of a live set.

@@ -2,7 +2,7 @@
 
 ghost use Rattle.std.specs.Prelude.{◌≡◌, ℕ, ◌<◌, ◌≤◌, ◌⊎◌, ◌==◌, true, false, [], length, slice_index_or, map, IfOk};
 ghost use Rattle.dpl_laminar.specs.Families.{has, members_below};
-ghost use Rattle.dpl_laminar.specs.Storing.{row_holds, IsNameOf};
+ghost use Rattle.dpl_laminar.specs.Storing.{row_holds, AreBelow, IsNameOf};
 
 use std::alloc::{AllocError, Global};
 use std::marker::Model;
@@ -37,20 +37,26 @@ impl Members {
         ensures { IfOk result (λ row.
             (m : ℕ) → m < size → slice_index_or row m false ≡ (member == m)) }
     {
-        let mut held = Vec::new(alloc);
-        for m in 0..size {
-            held.push(m == member)?;
-        }
+        let mut held = vec![in alloc; false; size]?;
+        held[member] = true;
         Ok(Members { held })
     }
 
-    /// The members whose tops are among these.
-    pub fn under(alloc: Global, tops: &[u32], children: &[u32]) -> Result<Members, AllocError>
+    /// The members whose tops are among these, where all of them are numbers below a limit.
+    pub fn under(
+        alloc: Global,
+        tops: &[u32],
+        children: &[u32],
+        limit: usize,
+    ) -> Result<Members, AllocError>
+        requires tops { AreBelow tops.now limit }
+        requires children { AreBelow children.now limit }
         ensures { IfOk result (λ row. row ≡ map (has children.now) tops.now) }
     {
+        let marks = marked(alloc, children, limit)?;
         let mut held = Vec::new(alloc);
         for top in tops {
-            held.push(is_in(children, *top))?;
+            held.push(marks[*top as usize])?;
         }
         Ok(Members { held })
     }
@@ -103,11 +109,18 @@ impl Members {
     }
 }
 
-/// Whether a number stands in a list.
-pub fn is_in(list: &[u32], x: u32) -> bool
-    ensures { result ≡ has list.now x }
+/// Whether each number below a limit stands in a list.
+fn marked(alloc: Global, list: &[u32], limit: usize) -> Result<Vec<bool>, AllocError>
+    requires { AreBelow list.now limit }
+    ensures count { IfOk result (λ marks. length marks.items ≡ limit) }
+    ensures each { IfOk result (λ marks.
+        (x : ℕ) → slice_index_or marks.items x false ≡ has list.now x) }
 {
-    list.iter().any(|y| *y == x)
+    let mut marks = vec![in alloc; false; limit]?;
+    for number in list {
+        marks[*number as usize] = true;
+    }
+    Ok(marks)
 }
 
 /// What a set made of these and others is numbered by: the greater one of the least members of two

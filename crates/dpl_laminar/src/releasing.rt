@@ -4,20 +4,8 @@ ghost use Rattle.std.specs.Prelude.{◌≡◌, ℕ, ◌<◌, if◌then◌else◌
 ghost use Rattle.dpl_laminar.specs.Families.{has};
 ghost use Rattle.dpl_laminar.specs.Storing.{circle_of, row_holds, AreBelow, AreOnce, AreApart};
 
-use super::members::{Members, is_in};
+use super::members::Members;
 use dpl_ring::Ring;
-
-/// Makes one set the top of all members whose top is among these.
-pub fn gather(tops: &mut [u32], children: &[u32], set: u32)
-    ensures { (m : ℕ) → m < length tops.old → slice_index tops.new m ≡
-        (if has children.now (slice_index tops.old m) then set else slice_index tops.old m) }
-{
-    for m in 0..tops.len() {
-        if is_in(children, tops[m]) {
-            tops[m] = set;
-        }
-    }
-}
 
 /// Writes the parent of these sets.
 pub fn adopt(parents: &mut [Option<u32>], children: &[u32], parent: u32)

@@ -1,4 +1,4 @@
-use Rattle.std.proofs.Common.{arith, ◌<◌, ◌≤◌, ◌++◌, ap, ◌∙◌, length, take, drop, get_or, false, None}
+use Rattle.std.proofs.Common.{arith, ◌≤◌, ◌++◌, ap, ◌∙◌, length, take, drop, get_or, false, None}
 use Rattle.std.proofs.lemmas.List.{take_at}
 use Rattle.dpl_laminar.specs.Changes.{IsExpanded}
 use Rattle.dpl_laminar.specs.Storing.{Stored, sets_of, IsKept}

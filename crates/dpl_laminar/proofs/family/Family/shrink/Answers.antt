@@ -1,5 +1,5 @@
-use Rattle.std.proofs.Common.{arith, ◌+◌, sym, ap, ◌∙◌, subst, length, map, ◌++◌, take, drop}
-use Rattle.std.proofs.lemmas.List.{take_at}
+use Rattle.std.proofs.Common.{arith, ◌≡◌, ◌+◌, sym, ap, ◌∙◌, subst, Bool, false, cond, List, length, get_or, map, ◌++◌, take, drop}
+use Rattle.std.proofs.lemmas.List.{take_at, get_or-map}
 use Rattle.dpl_laminar.specs.Changes.{AreJoined, IsShrunk}
 use Rattle.dpl_laminar.specs.Storing.{Stored, sets_of, IsKept}
 use Rattle.dpl_laminar.specs.Families.{has}
@@ -49,17 +49,20 @@ abbrev after : (g : given.Over) → goal.After-self-7-1 g → Stored
 after g c = with_set (before g c) c.args.children.now (c.self.inside.size + c.name_of-name.result) c.in_ok-members.members
     (take c.self.inside.parents.len (c.adopt.new.parents ++ drop (length c.adopt.new.parents) c.self.inside.parents.items)) c.tie.new.ring
     (take c.self.inside.joins.len (c.join.new.all ++ drop (length c.join.new.all) c.self.inside.joins.items))
-    (take c.self.inside.tops.len (c.gather.new.tops ++ drop (length c.gather.new.tops) c.self.inside.tops.items))
+    (take c.self.inside.tops.len (c.lift.new.tops ++ drop (length c.lift.new.tops) c.self.inside.tops.items))
 
 answer : (g : given.Over) (c : goal.After-self-7-1 g) → IsKept (after g c) ×
     IsShrunk (sets_of (before g c)) c.args.children.now c.args.joins.now (c.self.inside.size + c.name_of-name.result)
     (sets_of (after g c))
 answer g c =
     let j = subst (λ (z : Stored). AreJoined (sets_of z) c.args.children.now c.args.joins.now) (sym c.self.view_is) c.requires in
+    let members : c.in_ok-members.members ≡ map (has c.args.children.now) c.self.inside.tops.items =
+    c.in_ok-members.ensures ∙ ap (map (has c.args.children.now)) c.deref.ensures.value in
+    let lifted = rw c.deref_mut.ensures.value at c.lift.ensures in
     let written : AreWritten (before g c) c.args.children.now c.args.joins.now
     (c.self.inside.size + c.name_of-name.result) c.in_ok-members.members c.adopt.new.parents c.tie.new.ring
-    c.join.new.all c.gather.new.tops = record {
-      members = c.in_ok-members.ensures ∙ ap (map (has c.args.children.now)) c.deref.ensures.value;
+    c.join.new.all c.lift.new.tops = record {
+      members = members;
       parents_length = c.adopt.auto.parents ∙ ap length c.deref_mut-2.ensures.value;
       parents = rw c.deref_mut-2.ensures.value at c.adopt.ensures;
       ring_length = c.tie.ensures.length;
@@ -68,14 +71,15 @@ answer g c =
       joins_length = c.join.auto.all ∙ ap length c.deref_mut-3.ensures.value;
       joins = c.join.ensures.each;
       joins_others = rw c.deref_mut-3.ensures.value at c.join.ensures.others;
-      tops_length = c.gather.auto.tops ∙ ap length c.deref_mut.ensures.value;
-      tops = rw c.deref_mut.ensures.value at c.gather.ensures;
+      tops_length = c.lift.auto.tops ∙ ap length c.deref_mut.ensures.value;
+      tops = λ m h. lifted m h ∙ ap (λ z. cond z (c.self.inside.size + c.name_of-name.result) (get_or c.self.inside.tops.items m 0))
+          (ap (λ (z : List Bool). get_or z m false) members ∙ get_or-map (has c.args.children.now) c.self.inside.tops.items m 0 false h);
     } in
     shrink_answer _ c.args.children.now c.args.joins.now c.name_of-name.result _ _ _ _ _ _ _ _ c.self.invariant j
     c.name_of-name.ensures.below (rw c.deref-2.ensures.value at c.name_of-name.ensures.name) written
     (take_at c.adopt.new.parents _ c.self.inside.parents.len (omega (arith, c.self.inside.parents.ok, written.parents_length)))
     (take_at c.join.new.all _ c.self.inside.joins.len (omega (arith, c.self.inside.joins.ok, written.joins_length)))
-    (take_at c.gather.new.tops _ c.self.inside.tops.len (omega (arith, c.self.inside.tops.ok, written.tops_length)))
+    (take_at c.lift.new.tops _ c.self.inside.tops.len (omega (arith, c.self.inside.tops.ok, written.tops_length)))
 
 pub invariant_of-self : goal.invariant_of-self
 invariant_of-self g c = (answer g c).0
