@@ -1,17 +1,17 @@
 -- What is kept for a member at the turn of a stage.
-use Rattle.std.proofs.Common.{arith, ◌≡◌, ℕ, ◌+◌, ◌-◌, ◌<◌, ◌≤◌, refl, ap, Bool, Option, Some, get_or}
+use Rattle.std.proofs.Common.{arith, ◌≡◌, ℕ, ◌+◌, ◌-◌, ◌%◌, ◌<◌, ◌≤◌, ◌^◌, ◌⊎◌, refl, ap, Bool, false, inl, inr, Option, Some, None, get_or}
 use Rattle.dpl_laminar.specs.Storing.{sets_of}
 use Rattle.dpl_tree.specs.declared.matching.Matching.{Matching}
-use Rattle.dpl_tree.specs.Metrics.{Table, dist_of}
+use Rattle.dpl_tree.specs.Metrics.{Table, IsMetric, dist_of}
 use Rattle.dpl_tree.specs.steps.Forests.{Place}
 use Rattle.dpl_tree.specs.Views.{forest_of, place_in}
 use Rattle.dpl_match.specs.declared.scan.Near.{Near}
 use Rattle.dpl_match.specs.declared.stage.Stage.{Stage}
 use Rattle.dpl_match.specs.steps.Going.{IsAtTurn}
 use Rattle.dpl_match.specs.declared.stage.Neighbour.{Neighbour}
-use Rattle.dpl_match.specs.steps.Nearest.{kept_in, member_of, level_of, HasKey}
-use Rattle.dpl_match.specs.steps.Scans.{Members, members_of, IsFound, IsNearer}
-use Rattle.dpl_match.proofs.NearLemmas.{to_taken, kept_pair, kept_least}
+use Rattle.dpl_match.specs.steps.Nearest.{key_in, kept_in, member_of, level_of, HasKey}
+use Rattle.dpl_match.specs.steps.Scans.{Members, members_of, most_of, IsFound, IsNearer}
+use Rattle.dpl_match.proofs.NearLemmas.{to_passed, to_taken, kept_none, kept_pair, kept_least, sums_small}
 use Rattle.dpl_match.proofs.TurnLemmas.{totals_within}
 
 -- the sums of a member and of the one that is kept for it, with its key, are within their distance
@@ -49,3 +49,46 @@ kept_taken {metric} {m} {s} start want t near level y ends best found ht is el e
     let pair = kept_pair v place s.table want t near.member start.nearest ht (ap member_of is) to in
     let least = kept_least v place s.table want t near.member start.nearest ht (ap member_of is) in
     to_taken v place want t best found _ refl pair (omega (arith, w.0.1, w.1, el, ey)) least one h
+
+kept_cases : (o : Option Neighbour) → (o ≡ None) ⊎ ((w : Neighbour) × (o ≡ Some w))
+kept_cases None = inl refl
+kept_cases (Some w) = inr (w, refl)
+
+-- the key for t is no less than the level and the sum over t
+pub key_high : {metric : Table} {m : Matching} {s : Stage} → IsAtTurn metric m s → metric.size % 2 ≡ 0
+    → IsMetric metric.size (dist_of metric) → (t level : ℕ) → t < metric.size
+    → level ≡ level_of (members_of metric m) s.table.origin
+    → level + get_or m.sums.items t 0 ≤ key_in (kept_in s.table.near.items t)
+key_high {metric} {m} {s} start even me t level ht el =
+    let few = sums_small even me start.growing.lists start.growing.stage.rest in
+    elim (kept_cases (kept_in s.table.near.items t)) [
+      | inl e ↦ omega (arith, ap key_in e, few.small t ht, few.small s.table.origin start.table.origin_below, el)
+      | inr k ↦ let w = kept_within start t k.0 ht k.1 in omega (arith, ap key_in k.1, w.0.1, w.1, el)
+    ]
+
+-- a pair with more slack than is not behind the best one is behind it
+behind : (best : Option Near) (other : Near) → most_of best < other.slack → other.slack ≤ 2 ^ 50 → IsNearer best other best
+behind None other lt le = absurd (omega (arith, lt, le))
+behind (Some near) other lt le = inl (refl, omega (arith, lt))
+
+-- where what stands for t is behind, the best pair stays
+pub kept_behind : {metric : Table} {m : Matching} {s : Stage} → IsAtTurn metric m s → IsMetric metric.size (dist_of metric)
+    → (want : Place) (t level : ℕ) (best : Option Near) → t < metric.size → level ≡ level_of (members_of metric m) s.table.origin
+    → most_of best < key_in (kept_in s.table.near.items t) - level - get_or m.sums.items t 0
+    → place_in s.tree.labels.items ((sets_of m.family).top t) ≡ want
+    → IsFound (members_of metric m) (place_in s.tree.labels.items) want t best
+    → IsFound (members_of metric m) (place_in s.tree.labels.items) want (t + 1) best
+kept_behind {metric} {m} {s} start me want t level best ht el lt to h =
+    let v : Members = members_of metric m in
+    let place : ℕ → Place = place_in s.tree.labels.items in
+    elim (kept_cases (kept_in s.table.near.items t)) [
+      | inl e ↦ to_passed v place want t best (kept_none v place s.table want t start.nearest ht (ap member_of e)) h
+      | inr k ↦
+          let near : Neighbour = k.0 in
+          let w = kept_within start t near ht k.1 in
+          let y : ℕ = get_or m.sums.items t 0 in
+          let other : Near = record { slack = near.key - level - y; from = near.member; to = t; ends = false } in
+          let more : most_of best < near.key - level - y = omega (arith, lt, ap key_in k.1) in
+          let few : near.key - level - y ≤ 2 ^ 50 = omega (arith, w.0.1, el, me.small near.member t w.0.0 ht) in
+          kept_taken start want t near level y false best best ht k.1 el refl to (behind best other more few) h
+    ]

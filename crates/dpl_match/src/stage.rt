@@ -3,7 +3,7 @@
 ghost use Rattle.std.specs.Prelude.{◌≡◌, ℕ, ◌+◌, ◌*◌, ◌<◌, ◌≤◌, ◌^◌, false, replicate};
 ghost use Rattle.std.specs.Prelude.{length, slice_index, IfOk};
 ghost use Rattle.dpl_match.specs.steps.Going.{IsStart};
-ghost use Rattle.dpl_match.specs.steps.Nearest.{is_known, kept_in, kept_of, nobody};
+ghost use Rattle.dpl_match.specs.steps.Nearest.{is_known, key_in, kept_in, kept_of, nobody};
 
 use dpl_tree::{Matching, Tree};
 use std::alloc::{AllocError, Global};
@@ -24,6 +24,13 @@ pub const NOBODY: Neighbour = Neighbour {
     member: 0,
     key: 1 << 62,
 };
+
+/// The key of what stands.
+fn key_of(near: Neighbour) -> u64
+    ensures { result ≡ key_in (kept_of near) }
+{
+    near.key
+}
 
 /// What is kept where this stands.
 fn kept(near: Neighbour) -> Option<Neighbour>
@@ -61,6 +68,14 @@ impl OuterTable {
         ensures { result ≡ is_known self.now.known.items member }
     {
         self.known[member as usize]
+    }
+
+    /// The key of what is kept for a member, or one that no member has.
+    pub fn key(&self, member: u32) -> u64
+        requires { member < length self.now.near.items }
+        ensures { result ≡ key_in (kept_in self.now.near.items member) }
+    {
+        key_of(self.near[member as usize])
     }
 
     /// What is kept for a member.

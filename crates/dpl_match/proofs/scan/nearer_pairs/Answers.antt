@@ -1,12 +1,12 @@
-use Rattle.std.proofs.Common.{◌≡◌, ◌+◌, ℕ, sym, ap, ◌∙◌, refl, false, List, Option}
+use Rattle.std.proofs.Common.{◌≡◌, ◌+◌, ℕ, sym, ap, ◌∙◌, refl, false, List}
 use Rattle.std.specs.Prelude.{slice_index_or}
 use Rattle.dpl_tree.specs.declared.tree.Label.{Label}
 use Rattle.dpl_tree.specs.declared.tree.Label.TheVariants.{Free, Outer, Inner}
 use Rattle.dpl_match.proofs.ScanPairs.{label_other}
 use Rattle.dpl_tree.specs.steps.Forests.{free, outer}
 use Rattle.dpl_tree.specs.Views.{place_of, place_in, same_label}
-use Rattle.dpl_match.specs.declared.scan.Near.{Near}
-use Rattle.dpl_match.specs.steps.Scans.{Members, members_of, IsFound}
+use Rattle.dpl_match.specs.declared.scan.Best.{Best}
+use Rattle.dpl_match.specs.steps.Scans.{Members, members_of, IsBest}
 use Rattle.dpl_match.proofs.NearLemmas.{other_passed}
 use Rattle.dpl_match.proofs.scan.nearer_pairs.Goals as goal
 
@@ -16,11 +16,14 @@ stands : (labels : List Label) (set top : ℕ) (label here : Label) → set ≡ 
 stands labels set top label here e l h = ap (place_in labels) (sym e) ∙ ap place_of (sym l ∙ h)
 
 -- no pair that is wanted elsewhere in the tree leads to that member
-elsewhere : (v : Members) (labels : List Label) (t set : ℕ) (label here want : Label) (o : Option Near)
+elsewhere : (v : Members) (labels : List Label) (t set : ℕ) (label here want : Label) (o : Best)
     → set ≡ v.sets.top t → label ≡ slice_index_or labels set Free → label ≡ here → same_label here want ≡ false
-    → IsFound v (place_in labels) (place_of want) t o → IsFound v (place_in labels) (place_of want) (t + 1) o
-elsewhere v labels t set label here want o e l h ne = other_passed v (place_in labels) (place_of here) (place_of want) t o
-    (stands labels set (v.sets.top t) label here e l h) (label_other here want ne)
+    → IsBest v (place_in labels) (place_of want) t o → IsBest v (place_in labels) (place_of want) (t + 1) o
+elsewhere v labels t set label here want o e l h ne found = (
+  other_passed v (place_in labels) (place_of here) (place_of want) t o.pair
+      (stands labels set (v.sets.top t) label here e l h) (label_other here want ne) found.0,
+  found.1,
+)
 
 pub returns-in-Free-clause-free : goal.returns-in-Free-clause-free
 returns-in-Free-clause-free c =
