@@ -1,4 +1,5 @@
 pub mod Alike
+pub mod Alone
 pub mod Climbing
 pub mod Counting
 pub mod Events

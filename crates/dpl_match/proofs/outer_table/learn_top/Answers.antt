@@ -4,7 +4,7 @@ use Rattle.dpl_laminar.specs.Storing.{sets_of}
 use Rattle.dpl_tree.specs.steps.Forests.{outer}
 use Rattle.dpl_tree.specs.Views.{place_in}
 use Rattle.dpl_match.specs.steps.Nearest.{is_known}
-use Rattle.dpl_match.proofs.NearLemmas.{alone_in}
+use Rattle.dpl_tree.proofs.Alone.{alone_in}
 use Rattle.dpl_match.proofs.outer_table.learn_top.Goals as goal
 
 pub returns-then-top-member-clause-taken : goal.returns-then-top-member-clause-taken
