@@ -33,17 +33,30 @@ fn least_to(metric: &Metric, s: u32, t: u32, load: u64, least: u64) -> u64
     least.min(metric.dist(s, t) - load)
 }
 
+/// The least of an amount and the numbers of a list from a place to another.
+fn least_in(numbers: &[u64], start: usize, end: usize, amount: u64) -> u64
+    requires { end ≤ length numbers.now }
+    ensures least { result ≤ amount }
+    ensures each { (t : ℕ) → start ≤ t → t < end → result ≤ slice_index numbers.now t }
+{
+    let mut least = amount;
+    for t in start..end {
+        least = least.min(numbers[t]);
+    }
+    least
+}
+
 /// Half the distance from a member to its nearest one, and no more than a value may be.
 fn half_nearest(metric: &Metric, s: u32) -> u64
     requires s { s < metric.now.size }
     ensures half { (t : ℕ) → t < metric.now.size → t ≢ s → 2 * result ≤ dist_of metric.now s t }
     ensures small { result ≤ 2 ^ 50 }
 {
-    let n = metric.size() as u32;
-    let mut least: u64 = 1125899906842624;
-    for t in 0..n {
-        least = least_to(metric, s, t, 0, least);
-    }
+    let n = metric.size();
+    let row = metric.row(s);
+    let at = s as usize;
+    let before = least_in(row, 0, at, 1125899906842624);
+    let least = least_in(row, at + 1, n, before);
     least / 2
 }
 
