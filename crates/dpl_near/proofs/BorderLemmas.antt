@@ -1,22 +1,23 @@
 -- Borders of rectangles in order, and those that lie along one of them.
 use Rattle.std.proofs.Common.{arith, ◌≡◌, ◌∙◌, ℕ, ◌+◌, ◌<◌, ◌≤◌, pos, ◌<ℤ◌, ◌≤ℤ◌, List, length, get_or, Bool, true, false, ◌&&◌, ◌⊎◌}
-use Rattle.std.proofs.Common.{All, AllPairs, Contains, inl, inr, refl, sym, ap, subst, ◌∷◌, [], ◌++◌, int_lt, int_le}
+use Rattle.std.proofs.Common.{All, AllPairs, Contains, inl, inr, refl, sym, ap, subst, ◌∷◌, [], ◌++◌, int_lt, int_le, ℤ, map}
 use Rattle.std.specs.Ordering.{int_eq, int_cmp, is_lt, ordering_then}
 use Rattle.std.specs.List.{IsDistinct}
-use Rattle.std.specs.List.Sorted.{IsPermutation, IsSortedBy, IsPartitionedBy}
+use Rattle.std.specs.List.Sorted.{IsPermutation, IsSortedBy}
 use Rattle.std.proofs.lemmas.Bool.{cases_lt, both_ways}
 use Rattle.std.proofs.lemmas.Int.{ints, by_lt_z}
-use Rattle.std.proofs.lemmas.List.{get_or_default, get_or_append_left, get_or_push, length_push}
+use Rattle.std.proofs.lemmas.List.{get_or_default, get_or_append_left, get_or_push, get_or-map, length-map, length_push}
 use Rattle.std.proofs.lemmas.List.Elements.{Contains-push, Contains-push_cases, Contains-append_left}
 use Rattle.std.proofs.lemmas.List.Sorted.{All-permutation, Contains-permutation, IsPermutation-sym}
 use Rattle.std.proofs.lemmas.Map.Keys.{IsDistinct-IsPermutation, IsDistinct-from_apart, apart_from_distinct}
-use Rattle.dpl_list.proofs.Integers.{signed}
+use Rattle.dpl_list.proofs.Integers.{signed, at_most_test}
 use Rattle.dpl_cell.specs.Places.{Corners}
 use Rattle.dpl_cell.specs.Cells.{AreApart}
 use Rattle.dpl_cell.proofs.BoxLemmas.{HasCell}
 use Rattle.dpl_cell.proofs.SeamLemmas.{apart_sides}
 use Rattle.dpl_cell.proofs.SortLemmas.{not_after}
 use Rattle.dpl_near.specs.declared.borders.Border.{Border}
+use Rattle.dpl_near.specs.Seeking.{AreRising, IsPlacePast}
 use Rattle.dpl_near.specs.Borders.{first_border, AreAlong, AreBorders, AreInOrder, AddsAlong, IsOnLineOf, is_before, pair_of}
 
 -- ---- the test of what stands before
@@ -144,27 +145,50 @@ first_all upright rects n borders sorted short whole so p = let long = so.long i
   all = λ i d l. Contains-permutation borders sorted _ p (i, omega arith, so.is i d _ (omega arith));
 }
 
--- ---- the place from which on borders may lie along one
+-- a border, where one is read past the end of a list
+abbrev pub blank : Border
+blank = record { line = pos 0; from = pos 0; to = pos 0; number = 0 }
 
-pub parted : (borders : List Border) (b : Border) → AreInOrder borders → IsPartitionedBy (λ a. is_before a b) borders
-parted borders b o i j d le l t = elim (cases_lt i j) [
-  | inl low ↦ before_test (get_or borders i d) b (before_on (get_or borders i d) (get_or borders j d) b (o.long j d l)
-      (stands_before (get_or borders i d) (get_or borders j d) (o.order i j d low l)) (stands_before (get_or borders j d) b t))
-  | inr not ↦ let e : i ≡ j = omega (arith, not) in subst (λ k. is_before (get_or borders k d) b ≡ true) (sym e) t
-]
+-- ---- the place from which on borders may lie along one
 
 -- on one line the test compares ends alone
 pub test_on_line : (a b : Border) → IsOnLineOf b a → is_before a b ≡ int_le a.to b.from
 test_on_line a b e = grind (arith, ints)
 
-pub parted_on_line : (borders : List Border) (b : Border) → AreInOrder borders → All (IsOnLineOf b) borders
-    → IsPartitionedBy (λ a. int_le a.to b.from) borders
-parted_on_line borders b o on i j d le l t = sym (test_on_line (get_or borders i d) b (on i d (omega arith)))
-    ∙ parted borders b o i j d le l (test_on_line (get_or borders j d) b (on j d l) ∙ t)
+pub ends_rise : (borders : List Border) (b : Border) (ends : List ℤ) → AreInOrder borders → All (IsOnLineOf b) borders
+    → ends ≡ map (λ c. c.to) borders → AreRising ends
+ends_rise borders b ends o on e = rw e (λ i j d h l.
+    let n = length-map borders (λ (c : Border). c.to) in
+    let f = get_or-map (λ (c : Border). c.to) borders i blank d (omega arith) in
+    let g = get_or-map (λ (c : Border). c.to) borders j blank d (omega arith) in
+    let a = get_or borders i blank in
+    let c = get_or borders j blank in
+    further _ _ a c f g (stands_before a c (o.order i j blank h (omega arith))) (on i blank (omega arith)) (on j blank (omega arith))
+    (o.long j blank (omega arith)))
+  where
+    further : (y z : ℤ) (a c : Border) → y ≡ a.to → z ≡ c.to → StandsBefore a c → IsOnLineOf b a → IsOnLineOf b c → c.from <ℤ c.to → y <ℤ z
+    further y z a c f g (inl h) m n long = absurd (omega signed)
+    further y z a c f g (inr (e, h)) m n long = omega signed
 
--- a border, where one is read past the end of a list
-abbrev pub blank : Border
-blank = record { line = pos 0; from = pos 0; to = pos 0; number = 0 }
+no_at_most : (y z : ℤ) → z <ℤ y → int_le y z ≡ false
+no_at_most y z h = grind (arith, ints)
+
+pub ends_before : (borders : List Border) (b : Border) (ends : List ℤ) (place : ℕ) → All (IsOnLineOf b) borders
+    → ends ≡ map (λ c. c.to) borders → IsPlacePast ends b.from place
+    → (k : ℕ) (d : Border) → k < place → is_before (get_or borders k d) b ≡ true
+ends_before borders b ends place on e p k d h =
+    let n : length ends ≡ length borders = rw e (length-map borders (λ (c : Border). c.to)) in
+    let w = p.within in
+    let f : get_or ends k d.to ≡ (get_or borders k d).to = rw e (get_or-map (λ (c : Border). c.to) borders k d d.to (omega arith)) in
+    test_on_line (get_or borders k d) b (on k d (omega arith)) ∙ at_most_test _ _ (subst (λ z. z ≤ℤ b.from) f (p.low k d.to h))
+
+pub ends_behind : (borders : List Border) (b : Border) (ends : List ℤ) (place : ℕ) → All (IsOnLineOf b) borders
+    → ends ≡ map (λ c. c.to) borders → IsPlacePast ends b.from place
+    → (k : ℕ) (d : Border) → place ≤ k → k < length borders → is_before (get_or borders k d) b ≡ false
+ends_behind borders b ends place on e p k d h l =
+    let n : length ends ≡ length borders = rw e (length-map borders (λ (c : Border). c.to)) in
+    let f : get_or ends k d.to ≡ (get_or borders k d).to = rw e (get_or-map (λ (c : Border). c.to) borders k d d.to l) in
+    test_on_line (get_or borders k d) b (on k d l) ∙ no_at_most _ _ (subst (λ z. b.from <ℤ z) f (p.high k d.to h (omega arith)))
 
 -- ---- the pairs of a border and those along it, from a place on
 

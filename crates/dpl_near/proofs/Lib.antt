@@ -4,6 +4,7 @@ pub mod NearLemmas
 pub mod BoundsLemmas
 pub mod BorderLemmas
 pub mod LineLemmas
+pub mod SeekLemmas
 pub mod JoinLemmas
 pub mod WalkLemmas
 pub mod ShapeLemmas

@@ -1,24 +1,19 @@
 -- Borders in order, line by line.
 use Rattle.std.proofs.Common.{arith, ◌≡◌, ◌≢◌, ◌∙◌, ℕ, ◌+◌, ◌-◌, ◌<◌, ◌≤◌, ℤ, ◌<ℤ◌, ◌≤ℤ◌, List, length, get_or, take, drop}
-use Rattle.std.proofs.Common.{All, AllPairs, Any, Contains, inl, inr, refl, sym, ap, subst, [], ◌∷◌, ◌++◌, false}
-use Rattle.std.proofs.Common.{Ordering, Less, Equal, Greater}
-use Rattle.std.specs.Ordering.{int_cmp, is_lt, MatchOrdering, ordering_index}
-use Rattle.std.specs.Cmp.{int_ranks}
-use Rattle.std.specs.List.Sorted.{IsPartitionPoint, IsNonDecreasingBy}
+use Rattle.std.proofs.Common.{All, AllPairs, Any, Contains, inl, inr, refl, sym, ap, subst, [], ◌∷◌, ◌++◌, map, pos}
+use Rattle.std.specs.List.{drop-map, take-map}
 use Rattle.std.proofs.lemmas.Bool.{cases_lt}
-use Rattle.std.proofs.lemmas.Cmp.{int_cmp_total}
 use Rattle.std.proofs.lemmas.Int.{by_lt_z}
-use Rattle.std.proofs.lemmas.List.{get_or-take, get_or-drop, length-take, length-drop}
+use Rattle.std.proofs.lemmas.List.{get_or-take, get_or-drop, get_or-map, length-map, length-take, length-drop}
 use Rattle.std.proofs.lemmas.List.Elements.{All-push}
 use Rattle.std.proofs.lemmas.List.Quantifiers.{all_pairs_push}
-use Rattle.std.proofs.lemmas.List.Sorted.{searchable_from_sorted}
 use Rattle.dpl_list.proofs.Integers.{signed}
-use Rattle.dpl_list.proofs.OrderLemmas.{less_by_order, greater_by_order}
 use Rattle.dpl_list.proofs.Lists.{any_left, any_right}
 use Rattle.dpl_near.specs.declared.borders.Border.{Border}
 use Rattle.dpl_near.specs.declared.lines.Line.{Line}
 use Rattle.dpl_near.specs.Borders.{AddsAlong, AreInOrder}
 use Rattle.dpl_near.specs.Lines.{AreLines, AreOnLine, IsLine, IsLower}
+use Rattle.dpl_near.specs.Seeking.{AreRising, IsPlacePast}
 use Rattle.dpl_near.proofs.BorderLemmas.{StandsBefore, blank, stands_before}
 
 -- ---- the lines of borders in order rise
@@ -96,6 +91,11 @@ module _ (borders : List Border) (l : Line) (o : AreInOrder borders) (s : IsLine
       ]
     ]
 
+-- the ends of a part of the borders are a part of their ends
+pub ends_of_part : (borders : List Border) (ends : List ℤ) (start end : ℕ) → ends ≡ map (λ b. b.to) borders
+    → take (end - start) (drop start ends) ≡ map (λ b. b.to) (take (end - start) (drop start borders))
+ends_of_part borders ends start end e = rw e (rw (drop-map (λ (b : Border). b.to) start borders) (take-map (λ (b : Border). b.to) (end - start) (drop start borders)))
+
 -- ---- the lines of the borders below a place
 
 pub record LinesUpTo (borders : List Border) (n : ℕ) (lines : List Line) : Type 0 where
@@ -146,23 +146,63 @@ lines_all borders n lines whole so = record {
 
 -- ---- a line is looked up
 
-not_less : (a b : ℤ) (r : Ordering) → MatchOrdering r (b <ℤ a) (b ≡ a) (a <ℤ b) → a <ℤ b → is_lt r ≡ false
-not_less a b Less m h = absurd (omega signed)
-not_less a b Equal m h = refl
-not_less a b Greater m h = refl
+-- a line, where one is read past the end of a list
+abbrev pub no_line : Line
+no_line = record { at = pos 0; start = 0; end = 0 }
 
-pub lines_rise : (lines : List Line) (at : ℤ) → AllPairs IsLower lines → IsNonDecreasingBy (λ l. ordering_index (int_cmp l.at at)) lines
-lines_rise lines at up = searchable_from_sorted int_cmp_total (λ (l : Line). l.at) lines at (λ k d low high.
-    let a = get_or lines k d in let b = get_or lines (k + 1) d in
-    not_less a.at b.at _ (int_ranks b.at a.at) (up k (k + 1) d (omega arith) high))
+pub levels_rise : (lines : List Line) (levels : List ℤ) → AllPairs IsLower lines → levels ≡ map (λ l. l.at) lines → AreRising levels
+levels_rise lines levels up e = rw e (λ i j d h l.
+    let n = length-map lines (λ (m : Line). m.at) in
+    rw (get_or-map (λ (m : Line). m.at) lines i no_line d (omega arith), get_or-map (λ (m : Line). m.at) lines j no_line d (omega arith))
+    (up i j no_line h (omega arith)))
 
-pub no_line : (lines : List Line) (at : ℤ) (i : ℕ)
-    → IsPartitionPoint (λ l. int_cmp l.at at ≡ Less) (λ l. int_cmp l.at at ≡ Greater) lines i
-    → ¬ Any (λ l. l.at ≡ at) lines
-no_line lines at i parted (k, l, within, e, on) = elim (cases_lt k i) [
-  | inl h ↦ let f = less_by_order l.at at (rw e at (parted.0 k l (omega arith) h)) in omega signed
-  | inr h ↦ let f = greater_by_order l.at at (rw e at (parted.1 k l h within)) in omega signed
-]
+level_at : (lines : List Line) (levels : List ℤ) (k : ℕ) (d : Line) → levels ≡ map (λ l. l.at) lines → k < length lines
+    → get_or levels k d.at ≡ (get_or lines k d).at
+level_at lines levels k d e l = rw e (get_or-map (λ (m : Line). m.at) lines k d d.at l)
+
+many_levels : (lines : List Line) (levels : List ℤ) → levels ≡ map (λ l. l.at) lines → length levels ≡ length lines
+many_levels lines levels e = rw e (length-map lines (λ (m : Line). m.at))
+
+-- what lies behind the place where a line would end is higher
+higher_behind : (lines : List Line) (levels : List ℤ) (at : ℤ) (past : ℕ) → levels ≡ map (λ l. l.at) lines → IsPlacePast levels at past
+    → (k : ℕ) (d : Line) → past ≤ k → k < length lines → at <ℤ (get_or lines k d).at
+higher_behind lines levels at past e p k d h l = let n = many_levels lines levels e in
+    subst (λ z. at <ℤ z) (level_at lines levels k d e l) (p.high k d.at h (omega arith))
+
+pub past_within : (lines : List Line) (levels : List ℤ) (at : ℤ) (past : ℕ) → levels ≡ map (λ l. l.at) lines → IsPlacePast levels at past
+    → past ≤ length lines
+past_within lines levels at past e p = let n = many_levels lines levels e in let w = p.within in omega arith
+
+-- all lines are higher
+pub no_line_before : (lines : List Line) (levels : List ℤ) (at : ℤ) (past : ℕ) → levels ≡ map (λ l. l.at) lines → IsPlacePast levels at past
+    → past ≡ 0 → ¬ Any (λ l. l.at ≡ at) lines
+no_line_before lines levels at past e p none (k, l, within, is, on) =
+    let h : at <ℤ l.at = rw is at (higher_behind lines levels at past e p k l (omega arith) within) in omega signed
+
+-- the last line that is not higher is lower
+pub no_line_there : (lines : List Line) (levels : List ℤ) (at : ℤ) (past : ℕ) (m : Line) → AllPairs IsLower lines → levels ≡ map (λ l. l.at) lines
+    → IsPlacePast levels at past → past ≢ 0 → ((d : Line) → get_or lines (past - 1) d ≡ m) → m.at <ℤ at → ¬ Any (λ l. l.at ≡ at) lines
+no_line_there lines levels at past m up e p some is low (k, l, within, f, on) =
+    let n = past_within lines levels at past e p in
+    elim (cases_lt k (past - 1)) [
+      | inl h ↦ let g : l.at <ℤ m.at = rw (f, is l) at (up k (past - 1) l h (omega (arith, some, n))) in omega signed
+      | inr h ↦ elim (cases_lt k past) [
+        | inl g ↦ let same : k ≡ past - 1 = omega (arith, g, h) in
+            let b : l ≡ m = sym f ∙ ap (λ i. get_or lines i l) same ∙ is l in
+            let c : l.at ≡ m.at = ap (λ (x : Line). x.at) b in omega signed
+        | inr g ↦ let b : at <ℤ l.at = rw f at (higher_behind lines levels at past e p k l g within) in omega signed
+      ]
+    ]
+
+-- and if it is not lower, it is the line
+pub line_there : (lines : List Line) (levels : List ℤ) (at : ℤ) (past : ℕ) (m : Line) → levels ≡ map (λ l. l.at) lines
+    → IsPlacePast levels at past → past ≢ 0 → ((d : Line) → get_or lines (past - 1) d ≡ m) → at ≤ℤ m.at
+    → Contains lines m × (m.at ≡ at)
+line_there lines levels at past m e p some is high =
+    let n = past_within lines levels at past e p in
+    let low : m.at ≤ℤ at = subst (λ z. z ≤ℤ at) (level_at lines levels (past - 1) m e (omega (arith, some, n)) ∙ ap (λ (x : Line). x.at) (is m))
+    (p.low (past - 1) m.at (omega (arith, some))) in
+    ((past - 1, omega (arith, some, n), is m), omega signed)
 
 -- ---- the borders of a line that lie along another
 

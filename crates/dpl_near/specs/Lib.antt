@@ -4,5 +4,6 @@ pub mod Pairs
 pub mod Bounds
 pub mod Borders
 pub mod Lines
+pub mod Seeking
 pub mod Joins
 pub mod Shapes

@@ -9,6 +9,7 @@ ghost use Rattle.dpl_near.specs.Borders.{first_border, last_border, is_before, p
 ghost use Rattle.dpl_near.specs.Borders.{AddsAlong, AreAlong, AreBorders, AreInOrder, IsOnLineOf};
 ghost use Rattle.dpl_near.specs.declared.borders.Border.{Border};
 
+use crate::seeking::place_past;
 use dpl_cell::Rect;
 use std::alloc::{AllocError as NoMemory, Global};
 
@@ -85,25 +86,29 @@ fn put_in_order(borders: &mut Vec<Border>)
     borders.sort_unstable_by_key(|b| (b.line, b.from));
 }
 
-/// Adds the pairs of a border and those of its line that lie along it, by their numbers.
+/// Adds the pairs of a border and those of its line that lie along it, by their numbers, and gives the place of the
+/// first that may. It is looked for from a place on that may be near it.
 pub fn push_along(
     pairs: &mut Vec<(u32, u32)>,
     border: &Border,
     borders: &[Border],
-) -> Result<(), NoMemory>
+    ends: &[i64],
+    near: usize,
+) -> Result<usize, NoMemory>
     requires order { AreInOrder borders.now }
     requires line { All (IsOnLineOf border.now) borders.now }
+    requires ends { ends.now ≡ map (λ b. b.to) borders.now }
     ensures { OnOk result (AddsAlong border.now borders.now pairs.old.items pairs.new.items) }
 {
-    let start = first_along(border, borders);
+    let start = first_along(border, borders, ends, near);
     for k in start..borders.len() {
         let other = &borders[k];
         if !are_along(border, other) {
-            return Ok(());
+            return Ok(start);
         }
         pairs.push(pair_of(border, other))?;
     }
-    Ok(())
+    Ok(start)
 }
 
 fn pair_of(a: &Border, b: &Border) -> (u32, u32)
@@ -113,16 +118,17 @@ fn pair_of(a: &Border, b: &Border) -> (u32, u32)
 }
 
 /// The place of the first border of a line that does not end before another of this line begins.
-fn first_along(border: &Border, borders: &[Border]) -> usize
+fn first_along(border: &Border, borders: &[Border], ends: &[i64], near: usize) -> usize
     requires order { AreInOrder borders.now }
     requires line { All (IsOnLineOf border.now) borders.now }
+    requires ends { ends.now ≡ map (λ b. b.to) borders.now }
     ensures before { (k : ℕ) (d : Border) → k < result →
         is_before (slice_index_or borders.now k d) border.now ≡ true }
     ensures behind { (k : ℕ) (d : Border) → result ≤ k → k < length borders.now →
         is_before (slice_index_or borders.now k d) border.now ≡ false }
     ensures within { result ≤ length borders.now }
 {
-    borders.partition_point(|b| b.to <= border.from)
+    place_past(ends, border.from, near)
 }
 
 fn are_along(a: &Border, b: &Border) -> bool

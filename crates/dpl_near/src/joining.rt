@@ -8,7 +8,7 @@ ghost use Rattle.dpl_near.specs.Borders.{AreBorders};
 ghost use Rattle.dpl_near.specs.Joins.{AreJoins, HasJoinsOf, IsFirst};
 
 use crate::borders::{first_borders, last_border};
-use crate::lines::BorderLines;
+use crate::lines::{BorderLines, Marks};
 use dpl_cell::Rect;
 use std::alloc::{AllocError as NoMemory, Global};
 
@@ -20,9 +20,13 @@ pub fn joins(alloc: Global, rects: &[Rect]) -> Result<Vec<(u32, u32)>, NoMemory>
 {
     let lower = first_lines(alloc, false, rects)?;
     let left = first_lines(alloc, true, rects)?;
+    let mut found = Found {
+        lower: lower.marks(alloc)?,
+        left: left.marks(alloc)?,
+    };
     let mut joins = Vec::with_capacity(alloc, rects.len())?;
     for i in 0..rects.len() {
-        push_joins(&mut joins, rects, i, &lower, &left)?;
+        push_joins(&mut joins, rects, i, &lower, &left, &mut found)?;
     }
     put_in_order(&mut joins);
     Ok(joins)
@@ -39,6 +43,13 @@ fn first_lines(alloc: Global, upright: bool, rects: &[Rect]) -> Result<BorderLin
     Ok(lines)
 }
 
+/// Where the searches among lower borders ended, and those among left ones.
+#[derive(Drop)]
+struct Found {
+    lower: Marks,
+    left: Marks,
+}
+
 /// Adds the pairs of a rectangle and those that begin where it ends: at its right, and above it.
 fn push_joins(
     joins: &mut Vec<(u32, u32)>,
@@ -46,6 +57,7 @@ fn push_joins(
     i: usize,
     lower: &BorderLines,
     left: &BorderLines,
+    found: &mut Found,
 ) -> Result<(), NoMemory>
     requires few { length rects.now ≤ MOST_TILES }
     requires within { i < length rects.now }
@@ -56,9 +68,9 @@ fn push_joins(
 {
     let rect = &rects[i];
     let right = last_border(true, rect, i as u32);
-    left.push_along(joins, &right)?;
+    left.push_along(&mut found.left, joins, &right)?;
     let upper = last_border(false, rect, i as u32);
-    lower.push_along(joins, &upper)?;
+    lower.push_along(&mut found.lower, joins, &upper)?;
     Ok(())
 }
 

@@ -13,6 +13,7 @@ mod joining;
 pub mod laws;
 mod lines;
 mod pairing;
+mod seeking;
 mod shaping;
 mod surroundings;
 pub mod types;
