@@ -32,7 +32,7 @@ fn ascending(alloc: Global, n: u32) -> Result<Vec<u64>, AllocError>
     ensures length { IfOk result (λ v. length v.items ≡ n) }
     ensures each { IfOk result (λ v. EachIndex v.items (λ k. slice_index v.items k ≡ k)) }
 {
-    let mut numbers = Vec::new(alloc);
+    let mut numbers = Vec::with_capacity(alloc, n as usize)?;
     for i in 0..n {
         numbers.push(u64::from(i))?;
     }

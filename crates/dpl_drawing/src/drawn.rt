@@ -73,22 +73,35 @@ fn excess_from(net: &Net, aside: &[u32], drawn: u32, whole: u32) -> u64
     edges + u64::from(drawn) - kept - u64::from(whole)
 }
 
+/// How many faces with darts the kept edges have.
+fn kept_faces(alloc: Global, net: &Net, corners: &[u32], kept: &[bool]) -> Result<u32, AllocError>
+    requires corners { AreFaces net.now (is_in (kept_edges net.now)) corners.now }
+    requires kept { kept.now ≡ kept_edges net.now }
+    ensures { IfOk result (λ n. n ≡ drawn_faces net.now (is_in (kept_edges net.now))) }
+{
+    let faces = number(alloc, corners, kept)?;
+    Ok(faces.count)
+}
+
 /// The excess over all edges. Where none is set aside they are the kept ones, which have no excess, and are not drawn
 /// again.
 fn excess_over(
     alloc: Global,
     net: &Net,
     aside: &[u32],
-    drawn: u32,
+    corners: &[u32],
+    kept: &[bool],
     nearby: &mut Nearby,
 ) -> Result<u64, AllocError>
     requires aside { aside.now ≡ aside_edges net.now }
-    requires drawn { drawn ≡ drawn_faces net.now (is_in (kept_edges net.now)) }
+    requires corners { AreFaces net.now (is_in (kept_edges net.now)) corners.now }
+    requires kept { kept.now ≡ kept_edges net.now }
     ensures { IfOk result (λ n. n ≡ excess_of net.now all_edges) }
 {
     if aside.is_empty() {
         return Ok(0);
     }
+    let drawn = kept_faces(alloc, net, corners, kept)?;
     let whole = count_faces(alloc, net, nearby)?;
     Ok(excess_from(net, aside, drawn, whole))
 }
@@ -108,8 +121,14 @@ pub fn draw(alloc: Global, net: &Net) -> Result<Drawing, AllocError>
     let darts = 2 * net.graph.edges.as_slice().len() as u32;
     let corners = listed(alloc, drawn.plane.faces.ring(), darts)?;
     let aside = aside_of(alloc, net, &drawn.edges)?;
-    let faces = number(alloc, &corners, &drawn.edges)?;
-    let excess = excess_over(alloc, net, &aside, faces.count, &mut drawn.plane.nearby)?;
+    let excess = excess_over(
+        alloc,
+        net,
+        &aside,
+        &corners,
+        &drawn.edges,
+        &mut drawn.plane.nearby,
+    )?;
     Ok(Drawing {
         kept: drawn.edges,
         aside,

@@ -11,12 +11,12 @@ const WIDE_BLOCK: u32 = 4096;
 
 const STEEPEST: u128 = 1 << 60;
 
-/// Kept darts near places around nodes. They serve for speed alone: each is tested where it is
-/// used, and nothing is proved of them.
+/// Kept darts near places around nodes with many. They serve for speed alone: each is tested where
+/// it is used, and nothing is proved of them.
 #[derive(Drop)]
 pub struct Nearby {
-    // The place of each dart. Those of a node follow one another, around a node with many in the
-    // order of their ports.
+    // The place of each dart of a node with many. Those of a node follow one another in the order of
+    // their ports.
     places: Vec<u32>,
     // The kept dart met last near a place of each block, and of each wide block.
     blocks: Vec<u32>,
@@ -64,11 +64,10 @@ fn read(list: &[u32], place: u32) -> u32 {
     list.get(place as usize).copied().unwrap_or(NO_DART)
 }
 
-/// Raises a number of a list by one, and gives the one before.
-fn raise(list: &mut [u32], place: u32) -> u32 {
+/// Raises a number of a list by one.
+fn raise(list: &mut [u32], place: u32) {
     let number = read(list, place);
     put(list, place, number.wrapping_add(1));
-    number
 }
 
 /// How many darts each node has.
@@ -82,88 +81,50 @@ fn counts(alloc: Global, net: &Net) -> Result<Vec<u32>, AllocError> {
     Ok(counts)
 }
 
-/// Where the places of each node begin: behind those of the nodes before it.
-fn starts(alloc: Global, counts: &[u32]) -> Result<Vec<u32>, AllocError> {
-    let mut starts = Vec::with_capacity(alloc, counts.len())?;
-    let mut start: u32 = 0;
-    for count in counts {
-        starts.push(start)?;
-        start = start.wrapping_add(*count);
-    }
-    Ok(starts)
+fn is_crowded(counts: &[u32], node: u32) -> bool {
+    read(counts, node) > BLOCK
 }
 
-/// Places while they are given out: how many darts each node has, the next free place of each node,
-/// the place of each dart, and the darts that wait for one.
-#[derive(Drop)]
-struct Placing {
-    counts: Vec<u32>,
-    free: Vec<u32>,
-    places: Vec<u32>,
-    waiting: Vec<Spot>,
-}
-
-impl Placing {
-    fn new(alloc: Global, net: &Net) -> Result<Placing, AllocError> {
-        let counts = counts(alloc, net)?;
-        let free = starts(alloc, &counts)?;
-        let places = filled(alloc, 2 * net.graph.edges.as_slice().len(), 0)?;
-        let waiting = Vec::new(alloc);
-        Ok(Placing {
-            counts,
-            free,
-            places,
-            waiting,
-        })
-    }
-
-    /// Gives a dart the next place of its node, or has it wait where the node has many.
-    fn add(&mut self, node: u32, port: &Port, dart: u32) -> Result<(), AllocError> {
-        if read(&self.counts, node) > BLOCK {
-            self.waiting.push(spot_of(node, port, dart))?;
-        } else {
-            self.place(node, dart);
-        }
-        Ok(())
-    }
-
-    fn place(&mut self, node: u32, dart: u32) {
-        let place = raise(&mut self.free, node);
-        put(&mut self.places, dart, place);
-    }
-
-    /// Gives the darts that wait their places, in the order of their ports.
-    fn place_waiting(&mut self) {
-        self.waiting
-            .sort_unstable_by_key(|s| ((s.node, s.side), (s.key, (s.slope, s.dart))));
-        for k in 0..self.waiting.len() {
-            if let Some(spot) = self.waiting.get(k).copied() {
-                self.place(spot.node, spot.dart);
-            }
-        }
-    }
-}
-
-/// A place for each dart of a net.
-fn places(alloc: Global, net: &Net) -> Result<Vec<u32>, AllocError> {
-    let mut placing = Placing::new(alloc, net)?;
+/// The darts of the nodes with many, in the order of their ports.
+fn crowded(alloc: Global, net: &Net) -> Result<Vec<Spot>, AllocError> {
+    let counts = counts(alloc, net)?;
+    let mut spots = Vec::new(alloc);
     for edge in 0..net.graph.edges.as_slice().len() as u32 {
         let ends = net.graph.edges.as_slice()[edge as usize];
-        let ports = net.ports.as_slice()[edge as usize];
-        placing.add(ends.a, &ports.0, 2 * edge)?;
-        placing.add(ends.b, &ports.1, 2 * edge + 1)?;
+        if is_crowded(&counts, ends.a) {
+            let port = net.ports.as_slice()[edge as usize].0;
+            spots.push(spot_of(ends.a, &port, 2 * edge))?;
+        }
+        if is_crowded(&counts, ends.b) {
+            let port = net.ports.as_slice()[edge as usize].1;
+            spots.push(spot_of(ends.b, &port, 2 * edge + 1))?;
+        }
     }
-    placing.place_waiting();
-    Ok(placing.places)
+    spots.sort_unstable_by_key(|s| ((s.node, s.side), (s.key, (s.slope, s.dart))));
+    Ok(spots)
+}
+
+/// The places of darts among these; none where there are no such darts.
+fn places(alloc: Global, spots: &[Spot], darts: usize) -> Result<Vec<u32>, AllocError> {
+    if spots.is_empty() {
+        return Ok(Vec::new(alloc));
+    }
+    let mut places = filled(alloc, darts, NO_DART)?;
+    let mut place: u32 = 0;
+    for spot in spots {
+        put(&mut places, spot.dart, place);
+        place = place.wrapping_add(1);
+    }
+    Ok(places)
 }
 
 impl Nearby {
     /// No dart is kept.
     pub fn new(alloc: Global, net: &Net) -> Result<Nearby, AllocError> {
-        let darts = 2 * net.graph.edges.as_slice().len() as u32;
-        let places = places(alloc, net)?;
-        let blocks = filled(alloc, (darts / BLOCK) as usize + 1, NO_DART)?;
-        let wide_blocks = filled(alloc, (darts / WIDE_BLOCK) as usize + 1, NO_DART)?;
+        let spots = crowded(alloc, net)?;
+        let places = places(alloc, &spots, 2 * net.graph.edges.as_slice().len())?;
+        let blocks = filled(alloc, spots.len().div_ceil(BLOCK as usize), NO_DART)?;
+        let wide_blocks = filled(alloc, spots.len().div_ceil(WIDE_BLOCK as usize), NO_DART)?;
         Ok(Nearby {
             places,
             blocks,
