@@ -1,24 +1,24 @@
 // Tiles with many others around them, most of which need not be looked at.
-ghost use Rattle.std.specs.Prelude.{◌≡◌, true, ℕ, ℤ, ◌<◌, ◌≤◌, List, length, All, IfOk, map};
-ghost use Rattle.dpl_limits.specs.declared.TheConstants.{MOST_REACH, MOST_TILES};
-ghost use Rattle.dpl_cell.specs.Places.{Corners, corners_of};
+ghost use Rattle.std.specs.Prelude.{◌≡◌, true, ℤ, ◌<◌, ◌≤◌, length, IfOk};
 ghost use Rattle.dpl_cell.specs.Cells.{IsWithin};
-ghost use Rattle.dpl_near.specs.Shapes.{AreShapes};
-ghost use Rattle.dpl_cuts.specs.Positions.{first_of, last_of, layer_of, rect_at};
-ghost use Rattle.dpl_cuts.specs.Free.{IsFree};
-ghost use Rattle.dpl_cuts.specs.Blocks.{IsBlocked, MayBeKept};
-ghost use Rattle.dpl_cuts.specs.Tilings.{IsTiling, kept_of, surroundings_of, tiles_of};
+ghost use Rattle.dpl_cell.specs.Stretches.{AreSeparate, is_in_stretches};
+ghost use Rattle.dpl_cuts.specs.Positions.{layer_of, rect_at};
+ghost use Rattle.dpl_cuts.specs.Blocks.{AreShut, AreShutSoFar, MayBeKept};
+ghost use Rattle.dpl_cuts.specs.Stretches.{is_in_option, IsPartOf};
+ghost use Rattle.dpl_cuts.specs.Tilings.{IsAroundWithin, IsTiling, kept_of, surroundings_of, tiles_of};
 ghost use Rattle.dpl_cuts.specs.Cuts.{AreCutPlaces};
 
 use crate::blocking::blocks;
 use crate::freeing::free_stretches;
 use crate::placing::cut_places;
-use crate::positions::lane_of;
+use crate::positions::{lane_of, part_of};
+use crate::shadowing::clipped;
 use crate::tiling::Tiling;
+use dpl_cell::Stretch;
 use dpl_near::Surroundings;
 use std::alloc::{AllocError, Global};
 
-/// Of a tile with more around it than so many it is asked first whether the nearest block all its positions.
+/// Of a tile with more around it than so many only those are looked at that may block what others leave free.
 const FEW: usize = 64;
 
 /// Where the tile `i` is cut, ascending. The kept rectangles that share cells with it have these numbers.
@@ -39,65 +39,90 @@ pub fn cuts_of<'a>(
     match finder.few_around(alloc, i as u32, FEW)? {
         Some(near) => {
             let near = near.as_slice();
-            cut_places(alloc, tiling, near, kept, i)
+            let shut = blocks(alloc, tiling, near, i)?;
+            cut_places(alloc, tiling, near, shut, kept, i)
         }
         None => {
-            let shut = is_shut_in(alloc, tiling, finder, i)?;
-            if shut {
-                return Ok(Vec::new(alloc));
-            }
-            let near = finder.around(alloc, i as u32)?;
+            let near = finder.around_within(alloc, i as u32, 1)?;
             let near = near.as_slice();
-            cut_places(alloc, tiling, near, kept, i)
+            let shut = shut_beside(alloc, tiling, finder, near, i)?;
+            cut_places(alloc, tiling, near, shut, kept, i)
         }
     }
 }
 
-/// Whether near tiles leave no position of the tile `i` free. Those within a small reach are asked first, and then those
-/// within twice the reach, since few of all that are near do in most cases.
-fn is_shut_in<'a>(
+/// The positions of the tile `i` that any tiles block; those that it touches have these numbers. Those within a small reach
+/// are asked first, and then within four times the reach those that may block what is free so far: few of all in most cases.
+fn shut_beside<'a>(
     alloc: Global,
     tiling: &Tiling<'a>,
     finder: &Surroundings<'a>,
+    near: &[u32],
     i: usize,
-) -> Result<bool, AllocError>
+) -> Result<Vec<Stretch>, AllocError>
     requires tiling { IsTiling tiling.now }
     requires within { i < length tiling.now.tiles.now }
     requires finder { finder.now ≡ surroundings_of tiling.now }
-    ensures { IfOk result (λ shut. shut ≡ true → (keep : List Corners) (p : ℤ) →
-        ¬ IsFree (layer_of (tiles_of tiling.now)) keep tiling.now.space
-        (rect_at (tiles_of tiling.now) i) p) }
+    requires near { IsAroundWithin tiling.now i near.now }
+    ensures { IfOk result (λ v. AreShut (tiles_of tiling.now) tiling.now.label.now tiling.now.space i
+        v.items) }
 {
+    let mut shut = blocks(alloc, tiling, near, i)?;
     let mut reach = 1;
     'wider: while reach < tiling.space {
-        let near = finder.around_within(alloc, i as u32, reach)?;
-        let shut = are_blocking(alloc, tiling, near.as_slice(), i)?;
-        if shut {
-            return Ok(true);
-        }
-        reach *= 2;
+        shut = shut_within(alloc, tiling, finder, shut, reach, i)?;
+        reach *= 4;
     }
-    Ok(false)
+    shut_within(alloc, tiling, finder, shut, tiling.space, i)
 }
 
-/// Whether the tiles with these numbers block all positions of the tile `i`.
-fn are_blocking(
+/// Adds to the blocked positions of the tile `i` those that tiles within a reach of the others block.
+fn shut_within<'a>(
     alloc: Global,
-    tiling: &Tiling<'_>,
-    near: &[u32],
+    tiling: &Tiling<'a>,
+    finder: &Surroundings<'a>,
+    shut: Vec<Stretch>,
+    reach: u64,
     i: usize,
-) -> Result<bool, AllocError>
+) -> Result<Vec<Stretch>, AllocError>
     requires tiling { IsTiling tiling.now }
     requires within { i < length tiling.now.tiles.now }
-    requires among { All (λ k. k < length tiling.now.tiles.now) near.now }
-    ensures { IfOk result (λ all. all ≡ true → (p : ℤ) →
-        IsWithin (first_of (rect_at (tiles_of tiling.now) i))
-        (last_of (rect_at (tiles_of tiling.now) i)) p →
-        IsBlocked (tiles_of tiling.now) tiling.now.label.now tiling.now.space i near.now p) }
+    requires finder { finder.now ≡ surroundings_of tiling.now }
+    requires shut { AreShutSoFar (tiles_of tiling.now) tiling.now.label.now tiling.now.space i shut.items }
+    requires shorter { reach ≤ tiling.now.space }
+    ensures shut { IfOk result (λ v. AreShutSoFar (tiles_of tiling.now) tiling.now.label.now
+        tiling.now.space i v.items) }
+    ensures all { reach ≡ tiling.now.space → IfOk result (λ v. AreShut (tiles_of tiling.now)
+        tiling.now.label.now tiling.now.space i v.items) }
 {
-    let tiles = tiling.tiles;
-    let mut blocked = blocks(alloc, tiling, near, i)?;
-    blocked.sort_unstable_by_key(|s| s.from);
-    let free = free_stretches(alloc, &lane_of(&tiles[i]), blocked.as_slice())?;
-    Ok(free.is_empty())
+    let (tile, own) = (&tiling.tiles[i], tiling.label[i]);
+    let lane = lane_of(tile);
+    let mut sorted = shut;
+    sorted.sort_unstable_by_key(|s| s.from);
+    let free = free_stretches(alloc, &lane, sorted.as_slice())?;
+    match span_of(&lane, free.as_slice()) {
+        Some(span) => {
+            let part = part_of(tile, span.from, span.to);
+            let near = finder.others_beside(alloc, &part, own, reach)?;
+            let mut wider = blocks(alloc, tiling, near.as_slice(), i)?;
+            let before = free_stretches(alloc, &lane, free.as_slice())?;
+            wider.extend_from_slice(before.as_slice())?;
+            Ok(wider)
+        }
+        None => Ok(sorted),
+    }
+}
+
+/// The stretch of a lane that holds stretches in order.
+fn span_of(lane: &Stretch, stretches: &[Stretch]) -> Option<Stretch>
+    requires { AreSeparate stretches.now }
+    ensures part { IsPartOf lane.now result }
+    ensures all { (p : ℤ) → IsWithin lane.now.from lane.now.to p → is_in_stretches stretches.now p ≡ true →
+        is_in_option result p ≡ true }
+{
+    let count = stretches.len();
+    if count == 0 {
+        return None;
+    }
+    clipped(lane, stretches[0].from, stretches[count - 1].to)
 }

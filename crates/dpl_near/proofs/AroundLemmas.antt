@@ -34,7 +34,7 @@ use Rattle.dpl_cell.specs.declared.rect.Rect.{Rect}
 use Rattle.dpl_cell.specs.Places.{Corners, corners_of}
 use Rattle.dpl_cell.specs.Cells.{IsIn}
 use Rattle.dpl_cell.specs.Gaps.{AreClose}
-use Rattle.dpl_near.specs.Around.{Shaped, within, AreAround, MayBeAround}
+use Rattle.dpl_near.specs.Around.{Shaped, within, AreAround, HasOthers, MayBeAround}
 use Rattle.dpl_near.specs.Bounds.{bounds_of}
 use Rattle.dpl_near.specs.Near.{Search, IsNear, AddsNear}
 use Rattle.dpl_near.specs.Pairs.{IsWanted}
@@ -132,3 +132,24 @@ may_be_around rects shape reach i r x ask found e l is kind near far has = recor
 } where
   asked : (j : ℕ) → IsWanted (record { rects = map corners_of rects; shape = shape; reach = reach }) i j → IsAsked x ask j
   asked = wanted_asked rects shape reach i r x ask e l is kind near far
+
+-- ---- what is asked for beside another rectangle has all of other shapes
+
+pub has_others : (rects : List Rect) (shape : List ℕ) (most reach : ℕ) (one : Rect) (own : ℕ) (x : Kinded) (ask : Ask) (found : List ℕ)
+    → x ≡ record { items = map (λ q. bounds_of (corners_of q)) rects; kinds = shape } → ask.kind ≡ own
+    → ((other : Corners) → AreClose (IsIn (corners_of one)) (IsIn other) reach → Meets (bounds_of other) ask.far)
+    → HasAsked x ask found
+    → HasOthers (record { rects = map corners_of rects; shape = shape; reach = most }) reach (corners_of one) own found
+has_others rects shape most reach one own x ask found e kind far h = record {
+  each = λ k d m. let a = length-map rects corners_of in let b = length-map rects (λ q. bounds_of (corners_of q)) in
+      let c = has.each k d m in omega arith;
+  all = λ j l other close.
+      let inside : j < length rects = let a = length-map rects corners_of in omega arith in
+      has.all j (record {
+        within = let b = length-map rects (λ q. bounds_of (corners_of q)) in omega arith;
+        far = λ d. rw (bounds_at rects j one d (corners_of one) inside) (far _ (close (corners_of one)));
+        near = inl (λ g. other (g ∙ kind));
+      });
+} where
+  has : HasAsked (record { items = map (λ q. bounds_of (corners_of q)) rects; kinds = shape }) ask found
+  has = rw e at h

@@ -1,5 +1,5 @@
 // Rectangles of shapes: what is near of other shapes, and what touches.
-ghost use Rattle.std.specs.Prelude.{◌≡◌, ℕ, ◌≤◌, ◌<◌, length, IfOk, OnOk, map};
+ghost use Rattle.std.specs.Prelude.{◌≡◌, ℕ, ◌≤◌, ◌<◌, length, All, IfOk, OnOk, map};
 ghost use Rattle.dpl_limits.specs.declared.TheConstants.{MOST_REACH, MOST_TILES};
 ghost use Rattle.dpl_index.specs.Meetings.{Meets};
 ghost use Rattle.dpl_cell.specs.Places.{Corners, corners_of};
@@ -65,7 +65,7 @@ impl<'a> Surroundings<'a> {
     ghost use Rattle.std.specs.Prelude.{◌≡◌, ℕ, ◌≤◌, ◌<◌, length, IfOk, IfSome, map};
     ghost use Rattle.dpl_limits.specs.declared.TheConstants.{MOST_REACH, MOST_TILES};
     ghost use Rattle.dpl_cell.specs.Places.{corners_of};
-    ghost use Rattle.dpl_near.specs.Around.{AreAround, Shaped};
+    ghost use Rattle.dpl_near.specs.Around.{AreAround, HasOthers, Shaped};
 
     /// A finder over these rectangles, which are of these shapes. `reach` is in grid units.
     pub fn new(
@@ -163,6 +163,25 @@ impl<'a> Surroundings<'a> {
         let near = close_among(alloc, self.rects, self.shape, reach, i, found.as_slice())?;
         Ok(near)
     }
+
+    /// Numbers of rectangles, among them all that lie within a reach of another rectangle, which is of this shape, and
+    /// are of other shapes.
+    pub fn others_beside(
+        &self,
+        alloc: Global,
+        rect: &Rect,
+        shape: u32,
+        reach: u64,
+    ) -> Result<Vec<u32>, NoMemory>
+        requires shorter { reach ≤ self.now.reach }
+        ensures { IfOk result (λ v. HasOthers self.now reach (corners_of rect.now) shape v.items) }
+    {
+        let _rects = self.rects.len();
+        let ask = ask_around(rect, shape, reach);
+        let found = self.index.asked(alloc, &ask)?;
+        let others = narrow(alloc, found.as_slice())?;
+        Ok(others)
+    }
 }
 
 /// What is asked for around a rectangle of a shape: what meets it widened by the reach, and of its own shape by one.
@@ -181,6 +200,18 @@ pub fn ask_around(rect: &Rect, shape: u32, reach: u64) -> Ask
         far,
         kind: shape,
     }
+}
+
+/// The same numbers in 32 bits.
+fn narrow(alloc: Global, found: &[usize]) -> Result<Vec<u32>, NoMemory>
+    requires { All (λ j. j < MOST_TILES) found.now }
+    ensures { IfOk result (λ v. v.items ≡ found.now) }
+{
+    let mut numbers = Vec::with_capacity(alloc, found.len())?;
+    for j in found {
+        numbers.push(*j as u32)?;
+    }
+    Ok(numbers)
 }
 
 /// The rectangles around one, among those that may be.

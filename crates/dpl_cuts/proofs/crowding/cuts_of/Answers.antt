@@ -1,13 +1,19 @@
+use Rattle.std.proofs.Common.{◌≡◌, ◌<◌, ◌≤◌, ◌<ℤ◌, arith, List, All, length, map}
 use Rattle.std.proofs.lemmas.List.{length-map}
-use Rattle.dpl_cell.specs.Places.{corners_of}
-use Rattle.dpl_cuts.proofs.BlockLemmas.{no_cuts}
+use Rattle.dpl_cell.specs.Places.{Corners, corners_of}
+use Rattle.dpl_near.specs.Around.{AreAround}
+use Rattle.dpl_cuts.specs.Positions.{rect_at}
+use Rattle.dpl_cuts.specs.Tilings.{surroundings_of}
+use Rattle.dpl_cuts.proofs.BlockLemmas.{rect_high}
+use Rattle.dpl_cuts.proofs.ShutLemmas.{shut_by_near}
 use Rattle.dpl_cuts.proofs.crowding.cuts_of.Goals as goal
 
 pub few_around-requires : goal.few_around-requires
 few_around-requires c = rw (c.requires.finder, length-map c.args.tiling.now.tiles.now corners_of) c.requires.within
 
-pub cut_places-requires-clause-near : goal.cut_places-requires-clause-near
-cut_places-requires-clause-near c = rw (c.as_slice-near.ensures.value, ← c.requires.finder) (rw c.in-Some.is at c.in_ok-near.ensures)
-
-pub returns-then-shut : goal.returns-then-shut
-returns-then-shut c = rw c.new.ensures.items (no_cuts _ _ _ _ _ (λ p. c.in_ok-shut-in-None.ensures c.if-shut.true _ p))
+pub blocks-requires-clause-among : goal.blocks-requires-clause-among
+blocks-requires-clause-among c =
+    let a : AreAround (surroundings_of c.args.tiling.now) c.args.i c.in-Some.near.items =
+    rw (← c.requires.finder) (rw c.in-Some.is at c.in_ok-few_around.ensures) in
+    rw c.as_slice-near-in-Some.ensures.value (λ m k n. let h = (a.each m k n).within in
+    rw (length-map c.args.tiling.now.tiles.now corners_of) at h)

@@ -1,0 +1,231 @@
+-- The positions of a tile that any tiles block, and those that are found so far.
+use Rattle.std.proofs.Common.{arith, ◌≡◌, ◌≢◌, ◌↔◌, ℕ, ◌+◌, ◌<◌, ◌≤◌, ◌-◌, ℤ, pos, ◌-ℤ◌, ◌<ℤ◌, ◌≤ℤ◌, List, length, get_or}
+use Rattle.std.proofs.Common.{◌∙◌, All, Any, AllPairs, Contains, refl, sym, ap, subst, inl, inr, ◌⊎◌, ◌++◌, Bool, true, false, not}
+use Rattle.std.proofs.Common.{◌&&◌, ◌||◌, cond, Option, Some, None}
+use Rattle.std.proofs.lemmas.Bool.{cases_lt, and_parts, or_left, or_right, or_cases}
+use Rattle.std.proofs.lemmas.List.{get_or_default}
+use Rattle.std.proofs.lemmas.List.Folds.{list_any-append, Any-from_list_any}
+use Rattle.dpl_list.proofs.Integers.{signed}
+use Rattle.dpl_list.proofs.Lists.{any_contains}
+use Rattle.dpl_list.proofs.Naturals.{they_differ}
+use Rattle.dpl_cell.specs.Places.{Corners}
+use Rattle.dpl_cell.specs.Cells.{IsWithin, IsIn}
+use Rattle.dpl_cell.specs.Gaps.{between, cell_gap2, AreClose}
+use Rattle.dpl_cell.specs.Layers.{is_within}
+use Rattle.dpl_cell.specs.declared.stretch.Stretch.{Stretch}
+use Rattle.dpl_cell.specs.Stretches.{AreSeparate, is_in_stretches}
+use Rattle.dpl_cell.proofs.BoxLemmas.{test_within, within_test, ends_inside}
+use Rattle.dpl_near.specs.Around.{AreAround, HasOthers}
+use Rattle.dpl_cuts.specs.Positions.{lies_along_x, first_of, last_of, position_of, part_of, nowhere, rect_at}
+use Rattle.dpl_cuts.specs.Stretches.{is_in_option, IsPartOf, Marks}
+use Rattle.dpl_cuts.specs.Blocks.{IsNearAt, IsTouchedAt, IsBlocking, are_other, AreBlocked, IsShut, AreShut, AreShutSoFar}
+use Rattle.dpl_cuts.proofs.BlockLemmas.{first_x, last_x, is_other, is_touching, not_in, step_down, step_up}
+
+truth : (b : Bool) → (b ≡ true) ⊎ (b ≡ false)
+truth true = inl refl
+truth false = inr refl
+
+-- a tile that touches the tile i from below or above is around it
+touched_near : (tiles : List Corners) (label near : List ℕ) (space i k : ℕ) (p : ℤ)
+    → AreAround (record { rects = tiles; shape = label; reach = space }) i near → i < length tiles
+    → k < length tiles → 1 ≤ space → (rect_at tiles i).y1 <ℤ (rect_at tiles i).y2
+    → IsWithin (first_of (rect_at tiles i)) (last_of (rect_at tiles i)) p
+    → IsTouchedAt (rect_at tiles i) (rect_at tiles k) p → Contains near k
+touched_near tiles label near space i k p a l n some high w t = elim t.cell [
+  | inl c ↦ beside (rect_at tiles i).y1 ((rect_at tiles i).y1 -ℤ pos 1) lowest (inl (omega signed)) (step_down (rect_at tiles i).y1) c
+  | inr c ↦ beside ((rect_at tiles i).y2 -ℤ pos 1) (rect_at tiles i).y2 highest (inr (omega signed)) (step_up (rect_at tiles i).y2) c
+] where
+  column : IsWithin (rect_at tiles i).x1 (rect_at tiles i).x2 p
+  column = rw (first_x (rect_at tiles i) t.along, last_x (rect_at tiles i) t.along) at w
+
+  lowest : IsIn (rect_at tiles i) p (rect_at tiles i).y1
+  lowest = record { column = column; row = record { from = omega signed; to = high } }
+
+  highest : IsIn (rect_at tiles i) p ((rect_at tiles i).y2 -ℤ pos 1)
+  highest = record { column = column; row = record { from = omega signed; to = omega signed } }
+
+  itself : (x : ℤ) → between x x ≡ 0
+  itself x = omega signed
+
+  beside : (y y' : ℤ) → IsIn (rect_at tiles i) p y → (y' <ℤ (rect_at tiles i).y1) ⊎ ((rect_at tiles i).y2 ≤ℤ y')
+      → between y y' ≡ 0 → IsIn (rect_at tiles k) p y' → Contains near k
+  beside y y' own past e c =
+      let other : k ≢ i = λ m. not_in (rect_at tiles i) p y' past (rw m at c) in
+      let gap : cell_gap2 p y p y' ≡ 0 = rw (itself p, e) refl in
+      is_touching tiles label near space i k p y p y' a l n other some own c gap
+
+-- what the tiles around a tile block is all that is blocked
+pub shut_by_near : (tiles : List Corners) (label near : List ℕ) (space i : ℕ) (found : List Stretch)
+    → AreAround (record { rects = tiles; shape = label; reach = space }) i near → i < length tiles → 1 ≤ space
+    → (rect_at tiles i).y1 <ℤ (rect_at tiles i).y2 → AreBlocked tiles label space i near found
+    → AreShut tiles label space i found
+shut_by_near tiles label near space i found a l some high b p w = (
+  (λ t. let (m, k, n, e, h) = (b p w).0 t in (k, rw e at (a.each m k n).within, h)),
+  (λ (k, n, h). (b p w).1 (any_contains _ near k (around k n h) h)),
+) where
+  around : (k : ℕ) → k < length tiles → IsBlocking (rect_at tiles i) (rect_at tiles k) (are_other label i k) space p → Contains near k
+  around k n (inl h) = let c = h.1 in
+      is_other tiles label near space i k c.x c.y c.x' c.y' a l n (they_differ _ _ h.0) c.first c.second c.near
+  around k n (inr t) = touched_near tiles label near space i k p a l n some high w t
+
+-- what tiles block, among them all that touch the tile i
+pub shut_so_far : (tiles : List Corners) (label near : List ℕ) (reach space i : ℕ) (found : List Stretch)
+    → AreAround (record { rects = tiles; shape = label; reach = reach }) i near → i < length tiles → 1 ≤ reach
+    → (rect_at tiles i).y1 <ℤ (rect_at tiles i).y2 → AreBlocked tiles label space i near found
+    → AreShutSoFar tiles label space i found
+shut_so_far tiles label near reach space i found a l some high b = record {
+  each = λ p w t. let (m, k, n, e, h) = (b p w).0 t in (k, rw e at (a.each m k n).within, h);
+  touched = λ p k w n t. (b p w).1 (any_contains _ near k (touched_near tiles label near reach i k p a l n some high w t) (inr t));
+}
+
+-- ---- a lane, what is blocked of it, what is free, and what is not free
+
+pub record AreLeft (lane : Stretch) (old free before : List Stretch) : Type 0 where
+  pub free : (p : ℤ) → is_in_stretches free p ≡ (is_within lane.from lane.to p && not (is_in_stretches old p))
+  pub before : (p : ℤ) → is_in_stretches before p ≡ (is_within lane.from lane.to p && not (is_in_stretches free p))
+
+not_both : (a b : Bool) → a ≡ true → (a && not (a && not b)) ≡ b
+not_both true true e = refl
+not_both true false e = refl
+not_both false b e = absurd (cc)
+
+left_free : (a b : Bool) → a ≡ true → b ≡ false → (a && not b) ≡ true
+left_free true false e f = refl
+left_free false b e f = absurd (cc)
+left_free a true e f = absurd (cc)
+
+was : (lane : Stretch) (old free before : List Stretch) (p : ℤ) → AreLeft lane old free before
+    → IsWithin lane.from lane.to p → is_in_stretches before p ≡ is_in_stretches old p
+was lane old free before p a w =
+    a.before p ∙ ap (λ b. is_within lane.from lane.to p && not b) (a.free p) ∙
+    not_both (is_within lane.from lane.to p) (is_in_stretches old p) (within_test lane.from lane.to p w)
+
+in_both : (xs ys : List Stretch) (p : ℤ) → is_in_stretches (xs ++ ys) p ≡ (is_in_stretches xs p || is_in_stretches ys p)
+in_both xs ys p = list_any-append (λ s. is_within s.from s.to p) xs ys
+
+-- ---- what is found beside the free positions is added
+
+pub wider_so_far : (tiles : List Corners) (label near : List ℕ) (space i : ℕ) (lane : Stretch)
+    → (old free found before : List Stretch) → lane.from ≡ first_of (rect_at tiles i)
+    → lane.to ≡ last_of (rect_at tiles i) → AreShutSoFar tiles label space i old → AreLeft lane old free before
+    → All (λ k. k < length tiles) near → AreBlocked tiles label space i near found
+    → AreShutSoFar tiles label space i (found ++ before)
+wider_so_far tiles label near space i lane old free found before f g s a inside b = record {
+  each = λ p w t. elim (or_cases _ _ (sym (in_both found before p) ∙ t)) [
+    | inl u ↦ let (m, k, n, e, h) = (b p w).0 u in (k, rw e at (inside m k n), h)
+    | inr u ↦ s.each p w (sym (was lane old free before p a (rw (f, g) w)) ∙ u)
+  ];
+  touched = λ p k w n t. in_both found before p ∙
+      or_right _ _ (was lane old free before p a (rw (f, g) w) ∙ s.touched p k w n t);
+}
+
+part_by : (tile : Corners) (a b x y p : ℤ) (along : Bool) → lies_along_x tile ≡ along → IsIn tile x y
+    → position_of tile x y ≡ p → IsWithin a b p → IsIn (part_of tile a b) x y
+part_by tile a b x y p true e h at w =
+    let q : x ≡ p = sym (ap (λ z. cond z x y) e) ∙ at in
+    let c : Corners = record { x1 = a; y1 = tile.y1; x2 = b; y2 = tile.y2 } in
+    let d : Corners = record { x1 = tile.x1; y1 = a; x2 = tile.x2; y2 = b } in
+    let same : part_of tile a b ≡ c = ap (λ z. cond z c d) e in
+    let in_c : IsIn c x y = record { column = rw q w; row = h.row } in
+    subst (λ (r : Corners). IsIn r x y) (sym same) in_c
+part_by tile a b x y p false e h at w =
+    let q : y ≡ p = sym (ap (λ z. cond z x y) e) ∙ at in
+    let c : Corners = record { x1 = a; y1 = tile.y1; x2 = b; y2 = tile.y2 } in
+    let d : Corners = record { x1 = tile.x1; y1 = a; x2 = tile.x2; y2 = b } in
+    let same : part_of tile a b ≡ d = ap (λ z. cond z c d) e in
+    let in_d : IsIn d x y = record { column = h.column; row = rw q w } in
+    subst (λ (r : Corners). IsIn r x y) (sym same) in_d
+
+-- what lies beside the free positions within the spacing blocks all that is blocked of them
+pub wider_all : (tiles : List Corners) (label near : List ℕ) (most space i own : ℕ) (lane : Stretch) (from to : ℤ)
+    → (part : Corners) (old free found before : List Stretch) → lane.from ≡ first_of (rect_at tiles i)
+    → lane.to ≡ last_of (rect_at tiles i) → AreShutSoFar tiles label space i old → AreLeft lane old free before
+    → ((p : ℤ) → IsWithin lane.from lane.to p → is_in_stretches free p ≡ true → is_within from to p ≡ true)
+    → part ≡ part_of (rect_at tiles i) from to → own ≡ get_or label i 0
+    → HasOthers (record { rects = tiles; shape = label; reach = most }) space part own near
+    → AreBlocked tiles label space i near found → AreShut tiles label space i (found ++ before)
+wider_all tiles label near most space i own lane from to part old free found before f g s a span is_part is_own o b p w = (
+  (wider_so_far tiles label near space i lane old free found before f g s a o.each b).each p w,
+  (λ (k, n, h). in_both found before p ∙ known k n h (truth (is_in_stretches old p))),
+) where
+  lane_has : IsWithin lane.from lane.to p
+  lane_has = rw (f, g) w
+
+  same : is_in_stretches before p ≡ is_in_stretches old p
+  same = was lane old free before p a lane_has
+
+  inside : is_in_stretches old p ≡ false → IsWithin from to p
+  inside e = test_within from to p (span p lane_has
+      (a.free p ∙ left_free _ _ (within_test lane.from lane.to p lane_has) e))
+
+  new : (k : ℕ) → k < length tiles → is_in_stretches old p ≡ false →
+      IsBlocking (rect_at tiles i) (rect_at tiles k) (are_other label i k) space p → is_in_stretches found p ≡ true
+  new k n e (inr t) = let u = s.touched p k w n t in absurd (cc)
+  new k n e (inl h) =
+      let c = h.1 in
+      let at : IsIn part c.x c.y = subst (λ (r : Corners). IsIn r c.x c.y) (sym is_part)
+          (part_by (rect_at tiles i) from to c.x c.y p (lies_along_x (rect_at tiles i)) refl c.first c.at (inside e)) in
+      let other : get_or label k 0 ≢ own = λ q. they_differ _ _ h.0 (q ∙ is_own) in
+      let m : Contains near k = o.all k n other (λ d. record {
+        x = c.x;
+        y = c.y;
+        x' = c.x';
+        y' = c.y';
+        cells = record { first = at; second = rw (get_or_default tiles k d nowhere n) c.second };
+        near = c.near;
+      }) in
+      (b p w).1 (any_contains _ near k m (inl h))
+
+  known : (k : ℕ) → k < length tiles →
+      IsBlocking (rect_at tiles i) (rect_at tiles k) (are_other label i k) space p →
+      (is_in_stretches old p ≡ true) ⊎ (is_in_stretches old p ≡ false) →
+      (is_in_stretches found p || is_in_stretches before p) ≡ true
+  known k n h (inl e) = or_right _ _ (same ∙ e)
+  known k n h (inr e) = or_left _ _ (new k n e h)
+
+-- where no position of a lane is free all are blocked
+pub none_free : (tiles : List Corners) (label : List ℕ) (space i : ℕ) (lane : Stretch) (old free : List Stretch)
+    → lane.from ≡ first_of (rect_at tiles i) → lane.to ≡ last_of (rect_at tiles i)
+    → AreShutSoFar tiles label space i old
+    → ((p : ℤ) → is_in_stretches free p ≡ (is_within lane.from lane.to p && not (is_in_stretches old p)))
+    → ((p : ℤ) → IsWithin lane.from lane.to p → is_in_stretches free p ≡ true → false ≡ true)
+    → AreShut tiles label space i old
+none_free tiles label space i lane old free f g s same none p w = (
+  s.each p w,
+  (λ h. elim (truth (is_in_stretches old p)) [
+    | inl e ↦ e
+    | inr e ↦ let lane_has : IsWithin lane.from lane.to p = rw (f, g) w in
+        let t = none p lane_has (same p ∙ left_free _ _ (within_test lane.from lane.to p lane_has) e) in absurd (cc)
+  ]),
+)
+
+-- ---- stretches that lie separate lie between the start of the first and the end of the last
+
+pub between_ends : (ss : List Stretch) (first last : Stretch) (p : ℤ) → AreSeparate ss
+    → first ≡ get_or ss 0 first → last ≡ get_or ss (length ss - 1) last
+    → is_in_stretches ss p ≡ true → IsWithin first.from last.to p
+between_ends ss first last p a e f t =
+    let (k, s, n, g, h) = Any-from_list_any (λ (s : Stretch). is_within s.from s.to p) ss t in
+    let w : IsWithin s.from s.to p = test_within s.from s.to p h in
+    record { from = low k s n g w; to = high k s n g w } where
+      low : (k : ℕ) (s : Stretch) → k < length ss → get_or ss k s ≡ s → IsWithin s.from s.to p → first.from ≤ℤ p
+      low k s n g w = elim (cases_lt 0 k) [
+        | inl h ↦ let b : first.to <ℤ s.from = rw (← e, g) at (a 0 k s h n) in
+            let c = first.wide in let d = w.from in omega signed
+        | inr h ↦ let z : k ≡ 0 = omega arith in
+            let q : first ≡ s = e ∙ get_or_default ss 0 first s (omega (arith, n)) ∙ sym (ap (λ m. get_or ss m s) z) ∙ g in
+            rw q w.from
+      ]
+
+      high : (k : ℕ) (s : Stretch) → k < length ss → get_or ss k s ≡ s → IsWithin s.from s.to p → p <ℤ last.to
+      high k s n g w = elim (cases_lt k (length ss - 1)) [
+        | inl h ↦ let b : s.to <ℤ last.from = rw (g, ← f) at (a k (length ss - 1) s h (omega (arith, n))) in
+            let c = last.wide in let d = w.to in omega signed
+        | inr h ↦ let z : k ≡ length ss - 1 = omega (arith, n) in
+            let q : last ≡ s = f ∙ get_or_default ss (length ss - 1) last s (omega (arith, n)) ∙ sym (ap (λ m. get_or ss m s) z) ∙ g in
+            rw q w.to
+      ]
+
+-- the part of a lane that a stretch marks lies in the lane
+pub marked_part : (lane s : Stretch) (has : ℤ → Type 0) → Marks has lane.from lane.to (Some s) → IsPartOf lane (Some s)
+marked_part lane s has m = ends_inside s.from s.to lane.from lane.to s.wide (λ x w. ((m x).0 w).0)
