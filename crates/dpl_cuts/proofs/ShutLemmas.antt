@@ -1,16 +1,17 @@
 -- The positions of a tile that any tiles block, and those that are found so far.
-use Rattle.std.proofs.Common.{arith, ◌≡◌, ◌≢◌, ◌↔◌, ℕ, ◌+◌, ◌<◌, ◌≤◌, ◌-◌, ℤ, pos, ◌-ℤ◌, ◌<ℤ◌, ◌≤ℤ◌, List, length, get_or}
-use Rattle.std.proofs.Common.{◌∙◌, All, Any, AllPairs, Contains, refl, sym, ap, subst, inl, inr, ◌⊎◌, ◌++◌, Bool, true, false, not}
+use Rattle.std.proofs.Common.{arith, ◌≡◌, ◌≢◌, ℕ, ◌<◌, ◌≤◌, ◌-◌, ℤ, pos, ◌-ℤ◌, ◌<ℤ◌, ◌≤ℤ◌, List, length, get_or}
+use Rattle.std.proofs.Common.{◌∙◌, All, Contains, refl, sym, ap, subst, inl, inr, ◌⊎◌, ◌++◌, Bool, true, false, not}
 use Rattle.std.proofs.Common.{◌&&◌, ◌||◌, cond, Option, Some, None}
-use Rattle.std.proofs.lemmas.Bool.{cases_lt, and_parts, or_left, or_right, or_cases}
+use Rattle.std.proofs.lemmas.Bool.{cases_lt, or_left, or_right, or_cases}
 use Rattle.std.proofs.lemmas.List.{get_or_default}
 use Rattle.std.proofs.lemmas.List.Folds.{list_any-append, Any-from_list_any}
+use Rattle.dpl_list.specs.Order.{Ascends}
 use Rattle.dpl_list.proofs.Integers.{signed}
 use Rattle.dpl_list.proofs.Lists.{any_contains}
 use Rattle.dpl_list.proofs.Naturals.{they_differ}
 use Rattle.dpl_cell.specs.Places.{Corners}
 use Rattle.dpl_cell.specs.Cells.{IsWithin, IsIn}
-use Rattle.dpl_cell.specs.Gaps.{between, cell_gap2, AreClose}
+use Rattle.dpl_cell.specs.Gaps.{between, cell_gap2}
 use Rattle.dpl_cell.specs.Layers.{is_within}
 use Rattle.dpl_cell.specs.declared.stretch.Stretch.{Stretch}
 use Rattle.dpl_cell.specs.Stretches.{AreSeparate, is_in_stretches}
@@ -18,7 +19,7 @@ use Rattle.dpl_cell.proofs.BoxLemmas.{test_within, within_test, ends_inside}
 use Rattle.dpl_near.specs.Around.{AreAround, HasOthers}
 use Rattle.dpl_cuts.specs.Positions.{lies_along_x, first_of, last_of, position_of, part_of, nowhere, rect_at}
 use Rattle.dpl_cuts.specs.Stretches.{is_in_option, IsPartOf, Marks}
-use Rattle.dpl_cuts.specs.Blocks.{IsNearAt, IsTouchedAt, IsBlocking, are_other, AreBlocked, IsShut, AreShut, AreShutSoFar}
+use Rattle.dpl_cuts.specs.Blocks.{IsTouchedAt, IsBlocking, are_other, AreBlocked, AreShut, AreShutSoFar}
 use Rattle.dpl_cuts.proofs.BlockLemmas.{first_x, last_x, is_other, is_touching, not_in, step_down, step_up}
 
 truth : (b : Bool) → (b ≡ true) ⊎ (b ≡ false)
@@ -81,8 +82,8 @@ shut_so_far tiles label near reach space i found a l some high b = record {
 -- ---- a lane, what is blocked of it, what is free, and what is not free
 
 pub record AreLeft (lane : Stretch) (old free before : List Stretch) : Type 0 where
-  pub free : (p : ℤ) → is_in_stretches free p ≡ (is_within lane.from lane.to p && not (is_in_stretches old p))
-  pub before : (p : ℤ) → is_in_stretches before p ≡ (is_within lane.from lane.to p && not (is_in_stretches free p))
+  pub rest : (p : ℤ) → is_in_stretches free p ≡ (is_within lane.from lane.to p && not (is_in_stretches old p))
+  pub back : (p : ℤ) → is_in_stretches before p ≡ (is_within lane.from lane.to p && not (is_in_stretches free p))
 
 not_both : (a b : Bool) → a ≡ true → (a && not (a && not b)) ≡ b
 not_both true true e = refl
@@ -97,7 +98,7 @@ left_free a true e f = absurd (cc)
 was : (lane : Stretch) (old free before : List Stretch) (p : ℤ) → AreLeft lane old free before
     → IsWithin lane.from lane.to p → is_in_stretches before p ≡ is_in_stretches old p
 was lane old free before p a w =
-    a.before p ∙ ap (λ b. is_within lane.from lane.to p && not b) (a.free p) ∙
+    a.back p ∙ ap (λ b. is_within lane.from lane.to p && not b) (a.rest p) ∙
     not_both (is_within lane.from lane.to p) (is_in_stretches old p) (within_test lane.from lane.to p w)
 
 in_both : (xs ys : List Stretch) (p : ℤ) → is_in_stretches (xs ++ ys) p ≡ (is_in_stretches xs p || is_in_stretches ys p)
@@ -156,7 +157,7 @@ wider_all tiles label near most space i own lane from to part old free found bef
 
   inside : is_in_stretches old p ≡ false → IsWithin from to p
   inside e = test_within from to p (span p lane_has
-      (a.free p ∙ left_free _ _ (within_test lane.from lane.to p lane_has) e))
+      (a.rest p ∙ left_free _ _ (within_test lane.from lane.to p lane_has) e))
 
   new : (k : ℕ) → k < length tiles → is_in_stretches old p ≡ false →
       IsBlocking (rect_at tiles i) (rect_at tiles k) (are_other label i k) space p → is_in_stretches found p ≡ true
@@ -164,7 +165,7 @@ wider_all tiles label near most space i own lane from to part old free found bef
   new k n e (inl h) =
       let c = h.1 in
       let at : IsIn part c.x c.y = subst (λ (r : Corners). IsIn r c.x c.y) (sym is_part)
-          (part_by (rect_at tiles i) from to c.x c.y p (lies_along_x (rect_at tiles i)) refl c.first c.at (inside e)) in
+      (part_by (rect_at tiles i) from to c.x c.y p (lies_along_x (rect_at tiles i)) refl c.first c.at (inside e)) in
       let other : get_or label k 0 ≢ own = λ q. they_differ _ _ h.0 (q ∙ is_own) in
       let m : Contains near k = o.all k n other (λ d. record {
         x = c.x;
@@ -210,7 +211,7 @@ between_ends ss first last p a e f t =
     record { from = low k s n g w; to = high k s n g w } where
       low : (k : ℕ) (s : Stretch) → k < length ss → get_or ss k s ≡ s → IsWithin s.from s.to p → first.from ≤ℤ p
       low k s n g w = elim (cases_lt 0 k) [
-        | inl h ↦ let b : first.to <ℤ s.from = rw (← e, g) at (a 0 k s h n) in
+        | inl h ↦ let b : first.to <ℤ s.from = rw (← e, get_or_default ss k first s n ∙ g) at (a 0 k first h n) in
             let c = first.wide in let d = w.from in omega signed
         | inr h ↦ let z : k ≡ 0 = omega arith in
             let q : first ≡ s = e ∙ get_or_default ss 0 first s (omega (arith, n)) ∙ sym (ap (λ m. get_or ss m s) z) ∙ g in
@@ -219,13 +220,36 @@ between_ends ss first last p a e f t =
 
       high : (k : ℕ) (s : Stretch) → k < length ss → get_or ss k s ≡ s → IsWithin s.from s.to p → p <ℤ last.to
       high k s n g w = elim (cases_lt k (length ss - 1)) [
-        | inl h ↦ let b : s.to <ℤ last.from = rw (g, ← f) at (a k (length ss - 1) s h (omega (arith, n))) in
+        | inl h ↦ let b : s.to <ℤ last.from = rw (get_or_default ss k last s n ∙ g, ← f) at (a k (length ss - 1) last h (omega (arith, n))) in
             let c = last.wide in let d = w.to in omega signed
         | inr h ↦ let z : k ≡ length ss - 1 = omega (arith, n) in
             let q : last ≡ s = f ∙ get_or_default ss (length ss - 1) last s (omega (arith, n)) ∙ sym (ap (λ m. get_or ss m s) z) ∙ g in
             rw q w.to
       ]
 
--- the part of a lane that a stretch marks lies in the lane
-pub marked_part : (lane s : Stretch) (has : ℤ → Type 0) → Marks has lane.from lane.to (Some s) → IsPartOf lane (Some s)
-marked_part lane s has m = ends_inside s.from s.to lane.from lane.to s.wide (λ x w. ((m x).0 w).0)
+-- what a stretch marks of a lane lies in the lane
+pub marked_part : (lane : Stretch) (has : ℤ → Type 0) (r : Option Stretch) → Marks has lane.from lane.to r → IsPartOf lane r
+marked_part lane has None m = tt
+marked_part lane has (Some s) m = ends_inside s.from s.to lane.from lane.to s.wide (λ x w. ((m x).0 w).0)
+
+-- and all that it marks lies in the stretch
+pub marked_all : (lane : Stretch) (has : ℤ → Type 0) (r : Option Stretch) (p : ℤ) → Marks has lane.from lane.to r
+    → IsWithin lane.from lane.to p → has p → is_in_option r p ≡ true
+marked_all lane has None p m w h = absurd (m p w h)
+marked_all lane has (Some s) p m w h = within_test s.from s.to p ((m p).1 w h)
+
+-- stretches that lie separate begin one after another
+pub separate_ascends : (ss : List Stretch) → AreSeparate ss → Ascends (λ (s : Stretch). s.from) ss
+separate_ascends ss a i j d h l = elim (cases_lt i j) [
+  | inl m ↦ let b = a i j d m l in let c = (get_or ss i d).wide in omega signed
+  | inr m ↦ let e : i ≡ j = omega (arith, h) in rw e (omega signed)
+]
+
+-- what is found so far stands in any order
+pub moved_so_far : (tiles : List Corners) (label : List ℕ) (space i : ℕ) (old new : List Stretch)
+    → ((p : ℤ) → is_in_stretches new p ≡ is_in_stretches old p) → AreShutSoFar tiles label space i old
+    → AreShutSoFar tiles label space i new
+moved_so_far tiles label space i old new e s = record {
+  each = λ p w t. s.each p w (sym (e p) ∙ t);
+  touched = λ p k w n t. e p ∙ s.touched p k w n t;
+}

@@ -4,7 +4,7 @@ ghost use Rattle.dpl_cell.specs.Cells.{IsWithin};
 ghost use Rattle.dpl_cell.specs.Stretches.{AreSeparate, is_in_stretches};
 ghost use Rattle.dpl_cuts.specs.Positions.{layer_of, rect_at};
 ghost use Rattle.dpl_cuts.specs.Blocks.{AreShut, AreShutSoFar, MayBeKept};
-ghost use Rattle.dpl_cuts.specs.Stretches.{is_in_option, IsPartOf};
+ghost use Rattle.dpl_cuts.specs.Stretches.{is_in_option, IsPartOf, Marks};
 ghost use Rattle.dpl_cuts.specs.Tilings.{IsAroundWithin, IsTiling, kept_of, surroundings_of, tiles_of};
 ghost use Rattle.dpl_cuts.specs.Cuts.{AreCutPlaces};
 
@@ -95,7 +95,9 @@ fn shut_within<'a>(
     ensures all { reach ≡ tiling.now.space → IfOk result (λ v. AreShut (tiles_of tiling.now)
         tiling.now.label.now tiling.now.space i v.items) }
 {
-    let (tile, own) = (&tiling.tiles[i], tiling.label[i]);
+    let tiles = tiling.tiles;
+    let tile = &tiles[i];
+    let own = tiling.label[i];
     let lane = lane_of(tile);
     let mut sorted = shut;
     sorted.sort_unstable_by_key(|s| s.from);
@@ -124,5 +126,12 @@ fn span_of(lane: &Stretch, stretches: &[Stretch]) -> Option<Stretch>
     if count == 0 {
         return None;
     }
-    clipped(lane, stretches[0].from, stretches[count - 1].to)
+    part_between(lane, &stretches[0], &stretches[count - 1])
+}
+
+/// The part of a lane from the start of one stretch to the end of another.
+fn part_between(lane: &Stretch, first: &Stretch, last: &Stretch) -> Option<Stretch>
+    ensures { Marks (IsWithin first.now.from last.now.to) lane.now.from lane.now.to result }
+{
+    clipped(lane, first.from, last.to)
 }
