@@ -1,3 +1,4 @@
 pub mod StopLemmas
 pub mod MeetingLemmas
 pub mod KindLemmas
+pub mod GroupLemmas

@@ -35,7 +35,7 @@ pub fn stops_of(alloc: Global, items: &[Bounds], kinds: &[u32]) -> Result<Vec<St
 }
 
 /// The numbers of all items, each with its place on the curve.
-fn places(alloc: Global, items: &[Bounds]) -> Result<Vec<(u64, usize)>, NoMemory>
+pub fn places(alloc: Global, items: &[Bounds]) -> Result<Vec<(u64, usize)>, NoMemory>
     ensures { IfOk result (λ v. NamesAll (length items.now) v.items) }
 {
     let grain = grain_of(items);
@@ -46,14 +46,14 @@ fn places(alloc: Global, items: &[Bounds]) -> Result<Vec<(u64, usize)>, NoMemory
     Ok(places)
 }
 
-fn sort(places: &mut Vec<(u64, usize)>)
+pub fn sort(places: &mut Vec<(u64, usize)>)
     ensures { (n : ℕ) → NamesAll n places.old.items → NamesAll n places.new.items }
 {
     places.sort_unstable_by_key(|p| p.0);
 }
 
 /// A stop for each place, with the bounds and the kind of its item alone.
-fn singles(
+pub fn singles(
     alloc: Global,
     items: &[Bounds],
     kinds: &[u32],
@@ -78,7 +78,7 @@ fn singles(
 
 /// How many stops each stop is to hold, itself among them: the first holds all. The stops behind one, as far as it holds
 /// them, are held by four: those in each quarter of a square or of a half of one.
-fn sizes(alloc: Global, places: &[(u64, usize)]) -> Result<Vec<usize>, NoMemory> {
+pub fn sizes(alloc: Global, places: &[(u64, usize)]) -> Result<Vec<usize>, NoMemory> {
     let count = places.len();
     let mut sizes = vec![in alloc; 0usize; count]?;
     set(&mut sizes, 0, count);
@@ -130,7 +130,7 @@ fn size_at(sizes: &[usize], k: usize) -> usize {
 }
 
 /// Widens the bounds of the stops, from the last to the first.
-fn gather(items: &[Bounds], kinds: &[u32], stops: &mut [Stop], sizes: &[usize])
+pub fn gather(items: &[Bounds], kinds: &[u32], stops: &mut [Stop], sizes: &[usize])
     requires index { IsIndex items.now stops.old }
     requires kinds { HasKinds kinds.now stops.old }
     ensures index { IsIndex items.now stops.new }
