@@ -1,5 +1,5 @@
 -- The columns at which boxes end.
-use Rattle.std.proofs.Common.{arith, ◌≡◌, ◌⊎◌, inl, inr, sym, subst, ℕ, ◌+◌, ◌+ℤ◌, ◌-◌, ◌<◌, ◌≤◌, ◌^◌, ℤ, pos, neg_ℤ, ◌<ℤ◌, ◌≤ℤ◌, List, length, get_or}
+use Rattle.std.proofs.Common.{arith, ◌≡◌, ◌≢◌, ◌⊎◌, inl, inr, sym, subst, ℕ, ◌+◌, ◌+ℤ◌, ◌-◌, ◌<◌, ◌≤◌, ◌^◌, ℤ, pos, neg_ℤ, ◌<ℤ◌, ◌≤ℤ◌, List, length, get_or}
 use Rattle.std.proofs.Common.{◌∙◌, zero, suc, take, drop, All, Contains, ◌∷◌, [], ◌++◌, refl, true, int_lt, int_le}
 use Rattle.std.specs.Ordering.{int_cmp, int_eq}
 use Rattle.std.specs.List.Sorted.{IsPermutation, IsSorted, IsPartitionedBy}
@@ -117,6 +117,21 @@ apart columns up i (suc n) h =
     omega (signed, before, next)
 
 -- the place for the right side of a box, looked for in some columns from that for its left side on
+-- what is left of one column is left of what that is left of
+pub left_up_to : (columns : List ℤ) (place : ℕ) (x : ℤ) → AreRising columns → place ≢ 0 → place < length columns
+    → column_at columns (place - 1) <ℤ x → (k : ℕ) → k < place → column_at columns k <ℤ x
+left_up_to columns place x up some within left k h = elim (cases_lt k (place - 1)) [
+  | inl l ↦ let a = up k (place - 1) l (omega arith) in omega (signed, a, left)
+  | inr l ↦ let e : place - 1 ≡ k = omega (arith, h, l, some) in rw e at left
+]
+
+pub not_left_from : (columns : List ℤ) (place : ℕ) (x : ℤ) → AreRising columns → x ≤ℤ column_at columns place
+    → (k : ℕ) → place ≤ k → k < length columns → x ≤ℤ column_at columns k
+not_left_from columns place x up right k h l = elim (cases_lt place k) [
+  | inl g ↦ let a = up place k g l in omega (signed, a, right)
+  | inr g ↦ let e : place ≡ k = omega (arith, h, g) in rw e at right
+]
+
 pub left_of_right : (columns : List ℤ) (from n p : ℕ) (x1 x2 : ℤ) → x1 <ℤ x2 → from + n ≤ length columns
     → ((k : ℕ) → k < from → column_at columns k <ℤ x1) → p ≤ length (take n (drop from columns))
     → ((k : ℕ) → k < p → column_at (take n (drop from columns)) k <ℤ x2) → (k : ℕ) → k < from + p → column_at columns k <ℤ x2

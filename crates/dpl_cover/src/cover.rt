@@ -9,7 +9,7 @@ ghost use Rattle.dpl_cover.specs.Tallies.{IsCountedMore, AreTallied};
 ghost use Rattle.dpl_cover.specs.Covers.{IsCounted, IsPassed, side_of};
 
 use crate::blocks::{Block, block_of};
-use crate::columns::{columns_of, place_after, place_from};
+use crate::columns::{columns_of, place_after, place_near};
 use crate::counts::{change, loosen};
 use crate::parts::parts_in;
 use dpl_cell::{Rect, Stretch};
@@ -32,8 +32,16 @@ pub struct Cover {
     pub blocks: Vec<Block>,
 }
 
-/// Adds one or minus one to the counts of the places that a box has.
-fn count_box(columns: &[i64], each: &mut [i64], blocks: &mut [Block], r: &Rect, by: i64)
+/// Adds one or minus one to the counts of the places that a box has, and gives the place at which a box in the same row
+/// may begin next. Where this one begins may be known.
+fn count_box(
+    columns: &[i64],
+    each: &mut [i64],
+    blocks: &mut [Block],
+    r: &Rect,
+    by: i64,
+    near: usize,
+) -> usize
     requires columns { AreRising columns.now }
     requires long { length each.old ≡ length columns.now }
     requires one { IsUnit by }
@@ -41,11 +49,14 @@ fn count_box(columns: &[i64], each: &mut [i64], blocks: &mut [Block], r: &Rect, 
     requires small { AreSmall (2 ^ 58) each.old blocks.old }
     ensures { IsCountedMore columns.now r.now by each.old blocks.old each.new blocks.new }
 {
-    let from = place_from(columns, r.x1);
+    let from = place_near(columns, r.x1, near);
     let to = place_after(columns, from, r);
-    if from < to {
-        change(each, blocks, from, to, by);
+    let next = to.wrapping_add(1);
+    if from >= to {
+        return next;
     }
+    change(each, blocks, from, to, by);
+    next
 }
 
 /// The same for all boxes of a list.
@@ -58,8 +69,9 @@ fn count_all(columns: &[i64], each: &mut [i64], blocks: &mut [Block], boxes: &[R
     requires few { length boxes.now ≤ 2 ^ 41 }
     ensures { AreTallied columns.now by boxes.now each.old blocks.old each.new blocks.new }
 {
+    let mut near = 0;
     for r in boxes {
-        count_box(columns, each, blocks, r, by);
+        near = count_box(columns, each, blocks, r, by, near);
     }
 }
 
