@@ -10,7 +10,7 @@ use Rattle.std.specs.List.Sorted.{IsPermutation, IsPartitionedBy, IsPartitionPoi
 use Rattle.std.proofs.lemmas.Bool.{cases_lt}
 use Rattle.std.proofs.lemmas.Int.{ints}
 use Rattle.std.proofs.lemmas.List.{take_all, get_or-take, get_or-drop, length-take, length-drop, drop_more, drop_all}
-use Rattle.std.proofs.lemmas.List.Elements.{All-more, All-weaker, Contains-append_left}
+use Rattle.std.proofs.lemmas.List.Elements.{All-more, All-weaker, Contains-append_cases, Contains-append_left, Contains-append_right}
 use Rattle.std.proofs.lemmas.List.Sorted.{Contains-permutation, sorted_far, ranks_by}
 use Rattle.dpl_cell.specs.declared.rect.Rect.{Rect}
 use Rattle.dpl_cell.specs.declared.point.Point.{Point}
@@ -53,15 +53,35 @@ newest P old new c e h = rw e (any_right P old (c ∷ []) (0, c, omega arith, re
 
 -- ---- all corners of a primitive
 
-pub sides_added : (r : Rect) (old mid new : List Corner) (c d : Corner) → mid ≡ old ++ c ∷ []
-    → new ≡ mid ++ d ∷ [] → IsCornerOf r.y1 r.x1 r.x2 c → IsCornerOf r.y2 r.x1 r.x2 d
-    → AddsCorners (prim.Box r) old new
-sides_added r old mid new c d e f a b = record {
-  kept = λ x h. grown mid new d f x (grown old mid c e x h);
+left_of : (xs ys : List Corner) → AreWithin xs (xs ++ ys)
+left_of xs ys c h = Contains-append_left xs ys c h
+
+right_of : (xs ys : List Corner) → AreWithin ys (xs ++ ys)
+right_of xs ys c h = Contains-append_right xs ys c h
+
+-- two lists that have what two others have
+both_within : (xs ys zs ws : List Corner) → AreWithin xs zs → AreWithin ys ws → AreWithin (xs ++ ys) (zs ++ ws)
+both_within xs ys zs ws f g c h = elim (Contains-append_cases xs ys c h) [
+  | inl a ↦ left_of zs ws c (f c a)
+  | inr b ↦ right_of zs ws c (g c b)
+]
+
+pub sides_added : (r : Rect) (lower upper lower' upper' : List Corner) (c d : Corner) → lower' ≡ lower ++ c ∷ []
+    → upper' ≡ upper ++ d ∷ [] → IsCornerOf r.y1 r.x1 r.x2 c → IsCornerOf r.y2 r.x1 r.x2 d
+    → AddsCorners (prim.Box r) (lower ++ upper) (lower' ++ upper')
+sides_added r lower upper lower' upper' c d e f a b = record {
+  kept = both_within lower upper lower' upper' (grown lower lower' c e) (grown upper upper' d f);
   has = (
-    any_kept (IsCornerOf r.y1 r.x1 r.x2) mid new (grown mid new d f) (newest (IsCornerOf r.y1 r.x1 r.x2) old mid c e a),
-    newest (IsCornerOf r.y2 r.x1 r.x2) mid new d f b,
+    any_kept (IsCornerOf r.y1 r.x1 r.x2) lower' (lower' ++ upper') (left_of lower' upper') (newest (IsCornerOf r.y1 r.x1 r.x2) lower lower' c e a),
+    any_kept (IsCornerOf r.y2 r.x1 r.x2) upper' (lower' ++ upper') (right_of lower' upper') (newest (IsCornerOf r.y2 r.x1 r.x2) upper upper' d f b),
   );
+}
+
+-- what was added to the second list was added to both
+pub others_added : (p : Primitive) (lower old new : List Corner) → AddsCorners p old new → AddsCorners p (lower ++ old) (lower ++ new)
+others_added p lower old new a = record {
+  kept = both_within lower old lower new (all_within lower) a.kept;
+  has = corners_kept new (lower ++ new) (right_of lower new) p a.has;
 }
 
 end_of : (p q : Point) (z left right : ℤ) (c : Corner) → SpansSide left right p q → IsCornerOf z left right c → IsEndOf p q z c
@@ -122,9 +142,16 @@ pub corners_all : (prims : List Primitive) (i : ℕ) (corners : List Corner) →
     → All (HasCornersOf corners) (take i prims) → All (HasCornersOf corners) prims
 corners_all prims i corners whole h = rw (take_all i prims whole) at h
 
-pub corners_moved : (prims : List Primitive) (old new : List Corner) → IsPermutation old new → All (HasCornersOf old) prims → All (HasCornersOf new) prims
-corners_moved prims old new p h = All-weaker (HasCornersOf old) (HasCornersOf new)
-    (λ q g. corners_kept old new (λ c m. Contains-permutation old new c p m) q g) prims h
+moved : (old new : List Corner) → IsPermutation old new → AreWithin old new
+moved old new p c m = Contains-permutation old new c p m
+
+-- two lists that are sorted, and then both in one
+pub corners_moved : (prims : List Primitive) (lower upper lower' upper' new : List Corner) → IsPermutation lower lower'
+    → IsPermutation upper upper' → IsPermutation (lower' ++ upper') new → All (HasCornersOf (lower ++ upper)) prims
+    → All (HasCornersOf new) prims
+corners_moved prims lower upper lower' upper' new p q r h = All-weaker (HasCornersOf (lower ++ upper)) (HasCornersOf new)
+    (λ x g. corners_kept (lower ++ upper) new
+    (λ c m. moved (lower' ++ upper') new r c (both_within lower upper lower' upper' (moved lower lower' p) (moved upper upper' q) c m)) x g) prims h
 
 -- ---- the corners at a row
 

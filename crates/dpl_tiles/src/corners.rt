@@ -1,5 +1,5 @@
 // The corners of primitives row by row from the left, each with the columns of a side that ends there.
-ghost use Rattle.std.specs.Prelude.{◌≡◌, ◌≤ℤ◌, ◌<ℤ◌, ◌≤◌, length, All, AllPairs, IfOk, OnOk, ◌∷◌};
+ghost use Rattle.std.specs.Prelude.{◌≡◌, ◌≤ℤ◌, ◌<ℤ◌, ◌≤◌, length, All, AllPairs, IfOk, IsPermutation, OnOk, ◌∷◌, ◌++◌};
 ghost use Rattle.std.specs.List.Sorted.{IsPartitionPoint};
 ghost use Rattle.dpl_cell.specs.declared.layout.Primitive.TheVariants as prim;
 ghost use Rattle.dpl_list.specs.Order.{Ascends};
@@ -17,44 +17,69 @@ pub struct Corner {
     pub right: i64,
 }
 
-/// The corners of all primitives, the lowest first, and those of one row from the left.
+/// The corners of all primitives, the lowest first, and those of one row from the left. Lower sides and the others are
+/// sorted apart, since each list is often in order as it comes.
 pub fn corners_of(alloc: Global, prims: &[Prim]) -> Result<Vec<Corner>, AllocError>
     ensures { IfOk result (λ v. AreCorners prims.now v.items) }
 {
-    let mut corners = unsorted(alloc, prims)?;
-    corners.sort_unstable_by_key(|c| (c.y, c.left));
+    let mut corners = Vec::with_capacity(alloc, prims.len())?;
+    let mut upper = Vec::with_capacity(alloc, prims.len())?;
+    push_all(&mut corners, &mut upper, prims)?;
+    sort(&mut corners);
+    sort(&mut upper);
+    corners.extend_from_slice(upper.as_slice())?;
+    corners.sort_by_key(|c| (c.y, c.left))?;
     Ok(corners)
 }
 
-fn unsorted(alloc: Global, prims: &[Prim]) -> Result<Vec<Corner>, AllocError>
-    ensures { IfOk result (λ v. All (HasCornersOf v.items) prims.now) }
+fn sort(corners: &mut Vec<Corner>)
+    ensures { IsPermutation corners.old.items corners.new.items }
 {
-    let mut corners = Vec::new(alloc);
-    for prim in prims {
-        push_corners(&mut corners, prim)?;
-    }
-    Ok(corners)
+    corners.sort_unstable_by_key(|c| (c.y, c.left));
 }
 
-fn push_corners(corners: &mut Vec<Corner>, prim: &Prim) -> Result<(), AllocError>
-    ensures { OnOk result (AddsCorners prim.now corners.old.items corners.new.items) }
+/// The corners of all primitives: the lower sides of boxes, and all others.
+fn push_all(
+    lower: &mut Vec<Corner>,
+    others: &mut Vec<Corner>,
+    prims: &[Prim],
+) -> Result<(), AllocError>
+    ensures { OnOk result (All (HasCornersOf (lower.new.items ++ others.new.items)) prims.now) }
+{
+    for prim in prims {
+        push_corners(lower, others, prim)?;
+    }
+    Ok(())
+}
+
+fn push_corners(
+    lower: &mut Vec<Corner>,
+    others: &mut Vec<Corner>,
+    prim: &Prim,
+) -> Result<(), AllocError>
+    ensures { OnOk result (AddsCorners prim.now (lower.old.items ++ others.old.items)
+        (lower.new.items ++ others.new.items)) }
 {
     match prim {
-        Prim::Box(r) => push_sides(corners, r),
-        Prim::Poly(points) => push_points(corners, points.as_slice()),
+        Prim::Box(r) => push_sides(lower, others, r),
+        Prim::Poly(points) => {
+            push_points(others, points.as_slice())?;
+            Ok(())
+        }
     }
 }
 
 /// The lower and the upper side of a box.
-fn push_sides(corners: &mut Vec<Corner>, r: &Rect) -> Result<(), AllocError>
-    ensures { OnOk result (AddsCorners (prim.Box r.now) corners.old.items corners.new.items) }
+fn push_sides(lower: &mut Vec<Corner>, upper: &mut Vec<Corner>, r: &Rect) -> Result<(), AllocError>
+    ensures { OnOk result (AddsCorners (prim.Box r.now) (lower.old.items ++ upper.old.items)
+        (lower.new.items ++ upper.new.items)) }
 {
     let columns = Columns {
         left: r.x1,
         right: r.x2,
     };
-    corners.push(corner_at(r.y1, &columns))?;
-    corners.push(corner_at(r.y2, &columns))?;
+    lower.push(corner_at(r.y1, &columns))?;
+    upper.push(corner_at(r.y2, &columns))?;
     Ok(())
 }
 

@@ -9,6 +9,6 @@ returns c =
     let g : SFits w64 c.args.r.now.y2 = search rules in
     let h : SFits w64 c.args.r.now.x1 = search rules in
     let i : SFits w64 c.args.r.now.x2 = search rules in
-    sides_added c.args.r.now _ c.push.new.self.items _ c.corner_at.result c.corner_at-2.result
+    sides_added c.args.r.now _ _ _ _ c.corner_at.result c.corner_at-2.result
     c.in_ok-push.ensures.items c.in_ok-push-2.ensures.items (simp to_z-of_z at c.corner_at.ensures)
     (simp to_z-of_z at c.corner_at-2.ensures)

@@ -1,5 +1,5 @@
 use Rattle.dpl_tiles.proofs.CornerLemmas.{corners_more, corners_all}
-use Rattle.dpl_tiles.proofs.corners.unsorted.Goals as goal
+use Rattle.dpl_tiles.proofs.corners.push_all.Goals as goal
 
 pub loop-prim-preserved : goal.loop-prim-preserved
 loop-prim-preserved c = corners_more _ _ c.prim-item.result _ _ c.loop-prim-test.true c.prim-item.is c.in_ok-push_corners.ensures c.loop-prim.invariant
