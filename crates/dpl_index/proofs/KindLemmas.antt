@@ -9,7 +9,7 @@ use Rattle.dpl_index.specs.declared.bounds.Bounds.{Bounds}
 use Rattle.dpl_index.specs.declared.kinded.Ask.{Ask}
 use Rattle.dpl_index.specs.declared.stops.Stop.{Stop}
 use Rattle.dpl_index.specs.Holds.{Holds}
-use Rattle.dpl_index.specs.Kinds.{Kinded, Standing, kind_of, HasKinds, IsAsked, HasAsked, HasAskedFrom, HasAskedBehind, IsOrder, AddsAsked}
+use Rattle.dpl_index.specs.Kinds.{Kinded, kind_of, HasKinds, IsAsked, HasAsked, HasAskedFrom, HasAskedBehind, IsOrder, AddsAsked}
 use Rattle.dpl_index.specs.Meetings.{Meets}
 use Rattle.dpl_index.specs.Stops.{IsIndex}
 use Rattle.dpl_index.proofs.StopLemmas.{Absorbs, blank, absorbs_number, absorbs_within, set_at, set_shorter}

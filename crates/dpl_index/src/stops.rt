@@ -20,6 +20,9 @@ pub struct Stop {
     pub kind: Option<u32>,
 }
 
+/// Where a stop holds at most so many, itself among them, those behind it hold no others: a walk looks at each.
+const FEW: usize = 6;
+
 /// A stop for each item, so that a walk which leaves out the stops behind one whose bounds are far looks at few. Items
 /// that are given no kind have the kind 0.
 pub fn stops_of(alloc: Global, items: &[Bounds], kinds: &[u32]) -> Result<Vec<Stop>, NoMemory>
@@ -83,11 +86,14 @@ pub fn sizes(alloc: Global, places: &[(u64, usize)]) -> Result<Vec<usize>, NoMem
     let mut sizes = vec![in alloc; 0usize; count]?;
     set(&mut sizes, 0, count);
     for k in 0..count {
-        let from = k.wrapping_add(1);
-        let to = k.wrapping_add(size_at(&sizes, k));
-        let middle = middle_of(places, from, to);
-        set_halves(&mut sizes, places, from, middle);
-        set_halves(&mut sizes, places, middle, to);
+        let size = size_at(&sizes, k);
+        if size > FEW {
+            let from = k.wrapping_add(1);
+            let to = k.wrapping_add(size);
+            let middle = middle_of(places, from, to);
+            set_halves(&mut sizes, places, from, middle);
+            set_halves(&mut sizes, places, middle, to);
+        }
     }
     Ok(sizes)
 }
