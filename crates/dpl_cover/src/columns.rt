@@ -20,7 +20,7 @@ fn ends_of(alloc: Global, boxes: &[Rect]) -> Result<Vec<i64>, AllocError>
     ensures has { IfOk result (λ v. All (HasEnds v.items) boxes.now) }
     ensures range { IfOk result (λ v. All IsInRange v.items) }
 {
-    let mut ends = Vec::new(alloc);
+    let mut ends = Vec::with_capacity(alloc, boxes.len().saturating_mul(2))?;
     for r in boxes {
         push_ends(&mut ends, r)?;
     }

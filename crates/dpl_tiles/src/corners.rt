@@ -22,7 +22,7 @@ pub struct Corner {
 pub fn corners_of(alloc: Global, prims: &[Prim]) -> Result<Vec<Corner>, AllocError>
     ensures { IfOk result (λ v. AreCorners prims.now v.items) }
 {
-    let mut corners = Vec::with_capacity(alloc, prims.len())?;
+    let mut corners = Vec::with_capacity(alloc, prims.len().saturating_mul(2))?;
     let mut upper = Vec::with_capacity(alloc, prims.len())?;
     push_all(&mut corners, &mut upper, prims)?;
     sort(&mut corners);

@@ -46,7 +46,7 @@ impl Finder {
 fn boxes_of(alloc: Global, prims: &[Prim]) -> Result<Vec<Rect>, AllocError>
     ensures { IfOk result (λ v. v.items ≡ the_boxes prims.now) }
 {
-    let mut boxes = Vec::new(alloc);
+    let mut boxes = Vec::with_capacity(alloc, prims.len())?;
     for prim in prims {
         push_box(&mut boxes, prim)?;
     }

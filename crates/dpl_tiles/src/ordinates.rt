@@ -23,7 +23,7 @@ fn unsorted(alloc: Global, prims: &[Prim]) -> Result<Vec<i64>, AllocError>
     ensures all { IfOk result (λ v. HasOrdinates v.items prims.now) }
     ensures range { IfOk result (λ v. All IsInRange v.items) }
 {
-    let mut rows = Vec::new(alloc);
+    let mut rows = Vec::with_capacity(alloc, prims.len().saturating_mul(2))?;
     for prim in prims {
         push_ordinates(&mut rows, prim)?;
     }
