@@ -1,5 +1,6 @@
 -- Fragments with many others around them, and links for which one that was found stands.
-use Rattle.std.specs.Prelude.{◌≡◌, ◌⊎◌, ℕ, ◌*◌, ◌<◌, ◌≤◌, true, List, length, map, slice_index_or, min, max, All, Any, Contains, IfSome, Option, Some}
+use Rattle.std.specs.Prelude.{◌≡◌, ◌⊎◌, ℕ, ◌*◌, ◌<◌, ◌≤◌, true, List, length, map, slice_index_or, min, max}
+use Rattle.std.specs.Prelude.{All, Any, Contains, IfSome, Option, Some}
 use Rattle.dpl_cell.specs.Places.{Corners, corners_of}
 use Rattle.dpl_index.specs.declared.bounds.Bounds.{Bounds}
 use Rattle.dpl_index.specs.declared.stops.Stop.{Stop}
@@ -19,7 +20,8 @@ abbrev pub IsCovered : List Link → Link → Type 0
 IsCovered links l = Any (λ m. StandsFor m l) links
 
 -- each link whose smaller fragment is below i has one that stands for it, or that fragment is a crowded one
-pub record AreGatheredBut (s : Scene) (pieces : List ℕ) (i : ℕ) (crowded : List ℕ) (links : List Link) : Type 0 where
+pub record AreGatheredBut (s : Scene) (pieces : List ℕ) (i : ℕ) (crowded : List ℕ)
+    (links : List Link) : Type 0 where
   pub each : All (IsLink s pieces) links
   pub inside : All (λ j. j < length s.rects) crowded
   pub all : (l : Link) → IsLink s pieces l → l.a < i → IsCovered links l ⊎ Contains crowded l.a
@@ -32,7 +34,8 @@ pub record IsToCome (numbers : List ℕ) (k x : ℕ) : Type 0 where
   pub is : slice_index_or numbers place x ≡ x
 
 -- each link has one that stands for it, or its smaller fragment is a crowded one that is to come
-pub record AreGatheredUpTo (s : Scene) (pieces : List ℕ) (crowded : List ℕ) (k : ℕ) (links : List Link) : Type 0 where
+pub record AreGatheredUpTo (s : Scene) (pieces : List ℕ) (crowded : List ℕ) (k : ℕ)
+    (links : List Link) : Type 0 where
   pub each : All (IsLink s pieces) links
   pub all : (l : Link) → IsLink s pieces l → IsCovered links l ⊎ IsToCome crowded k l.a
 
@@ -41,13 +44,14 @@ abbrev pub AreKept : List (Option Link) → List Link → Type 0
 AreKept nearest links = All (λ kept. IfSome kept (IsCovered links)) nearest
 
 -- links, and some of them that are kept
-pub record AreKnown (s : Scene) (pieces : List ℕ) (links : List Link) (nearest : List (Option Link)) : Type 0 where
+pub record AreKnown (s : Scene) (pieces : List ℕ) (links : List Link)
+    (nearest : List (Option Link)) : Type 0 where
   pub each : All (IsLink s pieces) links
   pub kept : AreKept nearest links
 
--- links are added until all of the fragment i with greater ones that are done have one that stands for them
-pub record AddsLinks (s : Scene) (pieces : List ℕ) (i : ℕ) (IsDone : ℕ → Type 0) (links new : List Link)
-    (nearest : List (Option Link)) : Type 0 where
+-- links are added, until each of the fragment i with a greater one that is done has one that stands for it
+pub record AddsLinks (s : Scene) (pieces : List ℕ) (i : ℕ) (IsDone : ℕ → Type 0)
+    (links new : List Link) (nearest : List (Option Link)) : Type 0 where
   pub known : AreKnown s pieces new nearest
   pub grows : (l : Link) → IsCovered links l → IsCovered new l
   pub all : (l : Link) → IsLink s pieces l → l.a ≡ i → IsDone l.b → IsCovered new l
@@ -76,8 +80,9 @@ pub record IsCrowd (x : Crowd) : Type 0 where
 abbrev pub IsLeastGap : Corners → Bounds → ℕ → Type 0
 IsLeastGap r bounds gap = (other : Corners) → Holds bounds (bounds_of other) → gap ≤ rect_gap2 r other
 
--- the stop is all of one piece: one of the same shape as the fragment i, or one to which a nearer link is kept
-pub record IsBehind (x : Crowd) (nearest : List (Option Link)) (stop : Stop) (i gap : ℕ) : Type 0 where
+-- the stop is all of one piece: one of the shape of the fragment i, or one to which a nearer link is kept
+pub record IsBehind (x : Crowd) (nearest : List (Option Link)) (stop : Stop)
+    (i gap : ℕ) : Type 0 where
   pub other : ℕ
   pub kind : stop.kind ≡ Some other
   pub why : ((x.whole ≡ true) × (slice_index_or x.pieces.shape.now i 0
