@@ -54,17 +54,22 @@ kept_cases : (o : Option Neighbour) → (o ≡ None) ⊎ ((w : Neighbour) × (o 
 kept_cases None = inl refl
 kept_cases (Some w) = inr (w, refl)
 
--- the key for t is no less than the level and the sum over t
+-- the key for t is no less than the sum over t
 pub key_high : {metric : Table} {m : Matching} {s : Stage} → IsAtTurn metric m s → metric.size % 2 ≡ 0
-    → IsMetric metric.size (dist_of metric) → (t level : ℕ) → t < metric.size
-    → level ≡ level_of (members_of metric m) s.table.origin
-    → level + get_or m.sums.items t 0 ≤ key_in (kept_in s.table.near.items t)
-key_high {metric} {m} {s} start even me t level ht el =
-    let few = sums_small even me start.growing.lists start.growing.stage.rest in
-    elim (kept_cases (kept_in s.table.near.items t)) [
-      | inl e ↦ omega (arith, ap key_in e, few.small t ht, few.small s.table.origin start.table.origin_below, el)
-      | inr k ↦ let w = kept_within start t k.0 ht k.1 in omega (arith, ap key_in k.1, w.0.1, w.1, el)
-    ]
+    → IsMetric metric.size (dist_of metric) → (t : ℕ) → t < metric.size
+    → get_or m.sums.items t 0 ≤ key_in (kept_in s.table.near.items t)
+key_high {metric} {m} {s} start even me t ht = elim (kept_cases (kept_in s.table.near.items t)) [
+  | inl e ↦ omega (arith, ap key_in e, (sums_small even me start.growing.lists start.growing.stage.rest).small t ht)
+  | inr k ↦ let w = kept_within start t k.0 ht k.1 in omega (arith, ap key_in k.1, w.0.1, w.1)
+]
+
+-- no key is greater than the one that no member has
+pub key_low : {metric : Table} {m : Matching} {s : Stage} → IsAtTurn metric m s → (t : ℕ) → t < metric.size
+    → key_in (kept_in s.table.near.items t) ≤ 2 ^ 62
+key_low {metric} {m} {s} start t ht = elim (kept_cases (kept_in s.table.near.items t)) [
+  | inl e ↦ omega (arith, ap key_in e)
+  | inr k ↦ omega (arith, ap key_in k.1, (kept_within start t k.0 ht k.1).0.2)
+]
 
 -- a pair with more slack than is not behind the best one is behind it
 behind : (best : Option Near) (other : Near) → most_of best < other.slack → other.slack ≤ 2 ^ 50 → IsNearer best other best
@@ -74,7 +79,7 @@ behind (Some near) other lt le = inl (refl, omega (arith, lt))
 -- where what stands for t is behind, the best pair stays
 pub kept_behind : {metric : Table} {m : Matching} {s : Stage} → IsAtTurn metric m s → IsMetric metric.size (dist_of metric)
     → (want : Place) (t level : ℕ) (best : Option Near) → t < metric.size → level ≡ level_of (members_of metric m) s.table.origin
-    → most_of best < key_in (kept_in s.table.near.items t) - level - get_or m.sums.items t 0
+    → most_of best + level < key_in (kept_in s.table.near.items t) - get_or m.sums.items t 0
     → place_in s.tree.labels.items ((sets_of m.family).top t) ≡ want
     → IsFound (members_of metric m) (place_in s.tree.labels.items) want t best
     → IsFound (members_of metric m) (place_in s.tree.labels.items) want (t + 1) best

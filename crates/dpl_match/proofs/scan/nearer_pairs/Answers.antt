@@ -16,10 +16,10 @@ stands : (labels : List Label) (set top : ℕ) (label here : Label) → set ≡ 
 stands labels set top label here e l h = ap (place_in labels) (sym e) ∙ ap place_of (sym l ∙ h)
 
 -- no pair that is wanted elsewhere in the tree leads to that member
-elsewhere : (v : Members) (labels : List Label) (t set : ℕ) (label here want : Label) (o : Best)
+elsewhere : (v : Members) (labels : List Label) (level t set : ℕ) (label here want : Label) (o : Best)
     → set ≡ v.sets.top t → label ≡ slice_index_or labels set Free → label ≡ here → same_label here want ≡ false
-    → IsBest v (place_in labels) (place_of want) t o → IsBest v (place_in labels) (place_of want) (t + 1) o
-elsewhere v labels t set label here want o e l h ne found = (
+    → IsBest v (place_in labels) level (place_of want) t o → IsBest v (place_in labels) level (place_of want) (t + 1) o
+elsewhere v labels level t set label here want o e l h ne found = (
   other_passed v (place_in labels) (place_of here) (place_of want) t o.pair
       (stands labels set (v.sets.top t) label here e l h) (label_other here want ne) found.0,
   found.1,
@@ -30,11 +30,11 @@ returns-in-Free-clause-free c =
     c.nearest_step.ensures free (stands _ _ _ _ Free c.tops.ensures.value c.label.ensures c.in-Free.is) c.requires.free
 
 pub returns-in-Free-clause-outer : goal.returns-in-Free-clause-outer
-returns-in-Free-clause-outer c = elsewhere (members_of c.args.metric.now c.args.matching.now) _ c.args.t _ _ Free Outer _
+returns-in-Free-clause-outer c = elsewhere (members_of c.args.metric.now c.args.matching.now) _ c.args.level c.args.t _ _ Free Outer _
     c.tops.ensures.value c.label.ensures c.in-Free.is refl c.requires.outer
 
 pub returns-in-Outer-clause-free : goal.returns-in-Outer-clause-free
-returns-in-Outer-clause-free c = elsewhere (members_of c.args.metric.now c.args.matching.now) _ c.args.t _ _ Outer Free _
+returns-in-Outer-clause-free c = elsewhere (members_of c.args.metric.now c.args.matching.now) _ c.args.level c.args.t _ _ Outer Free _
     c.tops.ensures.value c.label.ensures c.in-Outer.is refl c.requires.free
 
 pub returns-in-Outer-clause-outer : goal.returns-in-Outer-clause-outer
@@ -42,9 +42,9 @@ returns-in-Outer-clause-outer c =
     c.nearest_step-in-Outer.ensures outer (stands _ _ _ _ Outer c.tops.ensures.value c.label.ensures c.in-Outer.is) c.requires.outer
 
 pub returns-in-Inner-clause-free : goal.returns-in-Inner-clause-free
-returns-in-Inner-clause-free c = elsewhere (members_of c.args.metric.now c.args.matching.now) _ c.args.t _ _ Inner Free _
+returns-in-Inner-clause-free c = elsewhere (members_of c.args.metric.now c.args.matching.now) _ c.args.level c.args.t _ _ Inner Free _
     c.tops.ensures.value c.label.ensures c.in-Inner.is refl c.requires.free
 
 pub returns-in-Inner-clause-outer : goal.returns-in-Inner-clause-outer
-returns-in-Inner-clause-outer c = elsewhere (members_of c.args.metric.now c.args.matching.now) _ c.args.t _ _ Inner Outer _
+returns-in-Inner-clause-outer c = elsewhere (members_of c.args.metric.now c.args.matching.now) _ c.args.level c.args.t _ _ Inner Outer _
     c.tops.ensures.value c.label.ensures c.in-Inner.is refl c.requires.outer

@@ -1,5 +1,5 @@
 use Rattle.std.proofs.Common.{arith, ◌≡◌, ℕ, subst}
-use Rattle.dpl_match.specs.steps.Scans.{members_of, IsBest}
+use Rattle.dpl_match.specs.steps.Scans.{members_of, IsFound}
 use Rattle.dpl_tree.specs.steps.Forests.{free, outer}
 use Rattle.dpl_tree.specs.Views.{place_in}
 use Rattle.dpl_match.proofs.NearLemmas.{sums_small}
@@ -14,11 +14,11 @@ level-level-requires-clause-small c =
 pub returns-clause-free : goal.returns-clause-free
 returns-clause-free c =
     let e : c.loop-t.t ≡ c.args.metric.now.size = omega (arith, c.loop-t-test.false, c.loop-t.auto.t-end, c.size-n.ensures.value) in
-    subst (λ (z : ℕ). IsBest (members_of c.args.metric.now c.args.matching.now) (place_in c.args.stage.now.tree.labels.items)
-    free z c.loop-t.best.free) e c.loop-t.invariant.0
+    subst (λ (z : ℕ). IsFound (members_of c.args.metric.now c.args.matching.now) (place_in c.args.stage.now.tree.labels.items)
+    free z c.loop-t.best.free.pair) e c.loop-t.invariant.0.0
 
 pub returns-clause-outer : goal.returns-clause-outer
 returns-clause-outer c =
     let e : c.loop-t.t ≡ c.args.metric.now.size = omega (arith, c.loop-t-test.false, c.loop-t.auto.t-end, c.size-n.ensures.value) in
-    subst (λ (z : ℕ). IsBest (members_of c.args.metric.now c.args.matching.now) (place_in c.args.stage.now.tree.labels.items)
-    outer z c.loop-t.best.outer) e c.loop-t.invariant.1
+    subst (λ (z : ℕ). IsFound (members_of c.args.metric.now c.args.matching.now) (place_in c.args.stage.now.tree.labels.items)
+    outer z c.loop-t.best.outer.pair) e c.loop-t.invariant.1.0
