@@ -23,7 +23,7 @@ second_less : (a b r : ℕ) → a * a + b * b < r * r → b < r
 second_less a b r h = elim (cases_lt b r) [ inl l ↦ l | inr l ↦ let s = square_le r b l in absurd (omega arith) ]
 
 pub close_meets : (r other : Corners) (reach : ℕ) → AreClose (IsIn r) (IsIn other) reach
-    → Meets (bounds_of other) (record { left = r.x1 -ℤ pos reach; right = r.x2 +ℤ pos reach; low = r.y1 -ℤ pos reach; high = r.y2 +ℤ pos reach })
+    → Meets (bounds_of other) (record { left = r.x1 -ℤ (pos reach -ℤ pos 1); right = r.x2 +ℤ (pos reach -ℤ pos 1); low = r.y1 -ℤ (pos reach -ℤ pos 1); high = r.y2 +ℤ (pos reach -ℤ pos 1) })
 close_meets r other reach c =
     let column : between c.x c.x' < reach = first_less _ (between c.y c.y') _ c.near in
     let row : between c.y c.y' < reach = second_less (between c.x c.x') _ _ c.near in
@@ -38,7 +38,8 @@ close_meets r other reach c =
 
 -- the widened ends are numbers of the code
 pub wider_fit : (r : Rect) (reach : ℕ) → reach ≤ 200000
-    → SFits w64 (r.x1 -ℤ pos reach) × (SFits w64 (r.x2 +ℤ pos reach) × (SFits w64 (r.y1 -ℤ pos reach) × SFits w64 (r.y2 +ℤ pos reach)))
+    → SFits w64 (r.x1 -ℤ (pos reach -ℤ pos 1)) × (SFits w64 (r.x2 +ℤ (pos reach -ℤ pos 1)) ×
+    (SFits w64 (r.y1 -ℤ (pos reach -ℤ pos 1)) × SFits w64 (r.y2 +ℤ (pos reach -ℤ pos 1))))
 wider_fit r reach h = (
   less r.x1 r.left (below _ _ r.wide r.right),
   (more r.x2 (above _ _ r.wide r.left) r.right, (less r.y1 r.below (below _ _ r.high r.above), more r.y2 (above _ _ r.high r.below) r.above)),
@@ -49,10 +50,10 @@ wider_fit r reach h = (
   above : (a b : ℤ) → a <ℤ b → neg_ℤ (pos (2 ^ 30)) ≤ℤ a → neg_ℤ (pos (2 ^ 30)) ≤ℤ b
   above a b f g = omega signed
 
-  less : (z : ℤ) → neg_ℤ (pos (2 ^ 30)) ≤ℤ z → z ≤ℤ pos (2 ^ 30) → SFits w64 (z -ℤ pos reach)
+  less : (z : ℤ) → neg_ℤ (pos (2 ^ 30)) ≤ℤ z → z ≤ℤ pos (2 ^ 30) → SFits w64 (z -ℤ (pos reach -ℤ pos 1))
   less z f g = search (rules, ints)
 
-  more : (z : ℤ) → neg_ℤ (pos (2 ^ 30)) ≤ℤ z → z ≤ℤ pos (2 ^ 30) → SFits w64 (z +ℤ pos reach)
+  more : (z : ℤ) → neg_ℤ (pos (2 ^ 30)) ≤ℤ z → z ≤ℤ pos (2 ^ 30) → SFits w64 (z +ℤ (pos reach -ℤ pos 1))
   more z f g = search (rules, ints)
 
 -- ---- bounds by number

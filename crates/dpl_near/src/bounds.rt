@@ -36,11 +36,11 @@ pub fn within_reach(rect: &Rect, reach: u64) -> Bounds
     ensures { (other : Corners) → AreClose (IsIn (corners_of rect.now)) (IsIn other) reach →
         Meets (bounds_of other) result }
 {
-    let reach = reach as i64;
+    let wider = reach as i64 - 1;
     Bounds {
-        left: rect.x1 - reach,
-        right: rect.x2 + reach,
-        low: rect.y1 - reach,
-        high: rect.y2 + reach,
+        left: rect.x1 - wider,
+        right: rect.x2 + wider,
+        low: rect.y1 - wider,
+        high: rect.y2 + wider,
     }
 }
