@@ -1,10 +1,39 @@
 -- A label more or less in one of several queues.
-use Rattle.std.proofs.Common.{arith, Option, Some, None, ◌≡◌, ℕ, zero, suc, ◌<◌, refl, sym, ap, ◌∙◌, subst, List}
-use Rattle.std.proofs.Common.{[], ◌∷◌, ◌++◌, append_assoc, length, get_or}
+use Rattle.std.proofs.Common.{arith, Option, Some, None, ◌≡◌, ℕ, zero, suc, ◌+◌, ◌<◌, ◌≤◌, refl, sym, ap, ◌∙◌, subst, List}
+use Rattle.std.proofs.Common.{[], ◌∷◌, ◌++◌, append_assoc, length, get_or, drop}
 use Rattle.std.specs.Prelude.{slice_set, MatchOption}
 use Rattle.std.specs.List.Sorted.{IsPermutation}
+use Rattle.std.proofs.lemmas.List.{drop_all}
 use Rattle.std.proofs.lemmas.List.Sorted.{IsPermutation-refl, IsPermutation-sym, IsPermutation-trans, IsPermutation-middle, IsPermutation-append_right}
 use Rattle.dpl_dual.specs.Queues.{all_of}
+
+-- ---- the labels behind those that were taken
+
+drop_suc : (xs : List (ℕ × ℕ)) (n : ℕ) (d : ℕ × ℕ) → n < length xs → drop n xs ≡ get_or xs n d ∷ drop (suc n) xs
+drop_suc [] n d h = absurd (omega (arith, h))
+drop_suc (x ∷ xs) zero d h = refl
+drop_suc (x ∷ xs) (suc n) d h = drop_suc xs n d (omega (arith, h))
+
+pub drop_next : (xs : List (ℕ × ℕ)) (n : ℕ) (d : ℕ × ℕ) → n < length xs → drop n xs ≡ get_or xs n d ∷ drop (n + 1) xs
+drop_next xs n d h =
+    let next : suc n ≡ n + 1 = omega arith in
+    drop_suc xs n d h ∙ ap (λ z. get_or xs n d ∷ drop z xs) next
+
+pub drop_some : (xs : List (ℕ × ℕ)) (n : ℕ) → n < length xs → 0 < length (drop n xs)
+drop_some xs n h = omega (arith, ap length (drop_suc xs n (0, 0) h))
+
+drop_more : (xs ys : List (ℕ × ℕ)) (n : ℕ) → n ≤ length xs → drop n (xs ++ ys) ≡ drop n xs ++ ys
+drop_more xs ys zero h = refl
+drop_more [] ys (suc n) h = absurd (omega (arith, h))
+drop_more (x ∷ xs) ys (suc n) h = drop_more xs ys n (omega (arith, h))
+
+pub put_last : (xs new : List (ℕ × ℕ)) (n : ℕ) (x : ℕ × ℕ) → n < length xs → new ≡ xs ++ x ∷ [] → drop n new ≡ drop n xs ++ x ∷ []
+put_last xs new n x h e = ap (drop n) e ∙ drop_more xs (x ∷ []) n (omega (arith, h))
+
+pub put_first : (xs empty new : List (ℕ × ℕ)) (n : ℕ) (x : ℕ × ℕ) → length xs ≤ n → empty ≡ [] → new ≡ empty ++ x ∷ [] → drop 0 new ≡ drop n xs ++ x ∷ []
+put_first xs empty new n x h none e = e ∙ ap (λ z. z ++ x ∷ []) none ∙ ap (λ z. z ++ x ∷ []) (sym (drop_all n xs h))
+
+-- ---- several queues
 
 pub added : (lanes : List (List (ℕ × ℕ))) (k : ℕ) (x : ℕ × ℕ) → k < length lanes
     → IsPermutation (x ∷ all_of lanes) (all_of (slice_set lanes k (get_or lanes k [] ++ x ∷ [])))

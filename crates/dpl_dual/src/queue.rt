@@ -6,25 +6,26 @@ ghost use Rattle.std.specs.List.Sorted.{IsPermutation};
 ghost use Rattle.dpl_dual.specs.Queues.{all_of, HasFirst};
 
 use std::alloc::{AllocError, Global};
-use std::collections::VecDeque;
 use std::marker::Model;
 
 /// Stands where a queue is for ways of no length yet.
 const NO_WAY: u64 = 18446744073709551615;
 
-/// The labels that came over ways of one length, in their order. Contracts see the list of them.
+/// The labels that came over ways of one length, in their order, and how many of the first ones were taken. Contracts
+/// see the list of those that are left.
 #[derive(Drop)]
 struct Lane {
     way: u64,
-    labels: VecDeque<(u64, u32)>,
+    labels: Vec<(u64, u32)>,
+    taken: usize,
 }
 
 impl Model for Lane {
-    ghost use Rattle.std.specs.Prelude.{List, ℕ};
+    ghost use Rattle.std.specs.Prelude.{List, ℕ, drop};
 
     ghost Value = { List (ℕ × ℕ) };
 
-    ghost view = { λ l. l.labels.items };
+    ghost view = { λ l. drop l.taken l.labels.items };
 }
 
 impl Lane {
@@ -33,7 +34,8 @@ impl Lane {
     {
         Lane {
             way: NO_WAY,
-            labels: VecDeque::new(alloc),
+            labels: Vec::new(alloc),
+            taken: 0,
         }
     }
 
@@ -49,32 +51,48 @@ impl Lane {
         self.way = NO_WAY;
     }
 
+    /// Puts a label at the end, where it begins anew if none is left.
+    #[inline(always)]
     fn push(&mut self, way: u64, label: (u64, u32)) -> Result<(), AllocError>
         ensures { OnOk result (self.new ≡ self.old ++ label ∷ []) }
     {
         self.way = way;
-        self.labels.push_back(label)?;
+        if self.taken >= self.labels.len() {
+            self.labels.clear();
+            self.taken = 0;
+            self.labels.push(label)?;
+            return Ok(());
+        }
+        self.labels.push(label)?;
         Ok(())
     }
 
+    #[inline(always)]
     fn pop(&mut self) -> Option<(u64, u32)>
         ensures { MatchOption result (self.old ≡ []) (λ label. self.old ≡ label ∷ self.new) }
     {
-        self.labels.pop_front()
+        if self.taken < self.labels.len() {
+            let label = self.labels[self.taken];
+            self.taken += 1;
+            return Some(label);
+        }
+        None
     }
 
     /// The length of the first label.
+    #[inline(always)]
     fn first(&self) -> Option<u64>
         ensures { MatchOption result (self.now ≡ []) (λ _. 0 < length self.now) }
     {
-        match self.labels.front() {
-            Some(label) => Some(label.0),
-            None => None,
+        if self.taken < self.labels.len() {
+            return Some(self.labels[self.taken].0);
         }
+        None
     }
 }
 
 /// The place of the queue for ways of a length, or of the first one for ways of none yet.
+#[inline(always)]
 fn place_of(lanes: &[Lane], way: u64) -> Option<usize>
     ensures { MatchOption result ⊤ (λ k. k < length lanes.now) }
 {
@@ -103,6 +121,7 @@ fn place_for(alloc: Global, lanes: &mut Vec<Lane>, way: u64) -> Result<usize, Al
 }
 
 /// Puts a label at the end of a queue, which is for ways of a length now.
+#[inline(always)]
 fn put(lanes: &mut [Lane], place: usize, way: u64, label: (u64, u32)) -> Result<(), AllocError>
     requires { place < length lanes.old }
     ensures { OnOk result (lanes.new ≡
@@ -123,6 +142,7 @@ fn free_all(lanes: &mut [Lane])
 }
 
 /// Takes the first label of a queue.
+#[inline(always)]
 fn take(lanes: &mut [Lane], place: usize) -> Option<(u64, u32)>
     requires { place < length lanes.old }
     ensures first { MatchOption result (slice_index_or lanes.old place [] ≡ [])
@@ -134,6 +154,7 @@ fn take(lanes: &mut [Lane], place: usize) -> Option<(u64, u32)>
 }
 
 /// The one of a length at a place and the best so far that is less.
+#[inline(always)]
 fn nearer(best: Option<(u64, usize)>, length: u64, place: usize) -> (u64, usize)
     ensures { (result ≡ (length, place)) ⊎ (best ≡ Some result) }
 {
@@ -150,6 +171,7 @@ fn nearer(best: Option<(u64, usize)>, length: u64, place: usize) -> (u64, usize)
 }
 
 /// The nearer one of the best first label so far and that of the queue at a place.
+#[inline(always)]
 fn nearest_step(lanes: &[Lane], place: usize, best: Option<(u64, usize)>) -> Option<(u64, usize)>
     requires place { place < length lanes.now }
     requires best { HasFirst lanes.now place best }
@@ -162,6 +184,7 @@ fn nearest_step(lanes: &[Lane], place: usize, best: Option<(u64, usize)>) -> Opt
 }
 
 /// The place of the queue whose first label is the nearest.
+#[inline(always)]
 fn nearest(lanes: &[Lane]) -> Option<(u64, usize)>
     ensures { HasFirst lanes.now (length lanes.now) result }
 {
@@ -207,6 +230,7 @@ impl Waiting {
     }
 
     /// Puts a label into the queue for ways of a length.
+    #[inline(always)]
     pub fn push(&mut self, way: u64, label: (u64, u32)) -> Result<(), AllocError>
         ensures { OnOk result (IsPermutation (label ∷ self.old) self.new) }
     {
@@ -215,6 +239,7 @@ impl Waiting {
     }
 
     /// Takes the nearest of the first labels.
+    #[inline(always)]
     pub fn pop(&mut self) -> Option<(u64, u32)>
         ensures { MatchOption result ((self.old ≡ []) × (self.new ≡ []))
             (λ label. IsPermutation self.old (label ∷ self.new)) }

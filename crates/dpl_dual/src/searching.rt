@@ -5,6 +5,7 @@ ghost use Rattle.dpl_dual.specs.Searches.{IsLabelled, AreListed};
 ghost use Rattle.dpl_dual.specs.Labels.{labels, IsFar, IsUnderWay, AreReachedAlso, WaitsAlso, IsAtRest};
 ghost use Rattle.dpl_dual.specs.Tables.{reach_at};
 
+use crate::crosses::Cross;
 use crate::queue::Waiting;
 use crate::reach::Reach;
 use crate::sought::Sought;
@@ -54,6 +55,7 @@ pub fn has_length(search: &Search, face: u32, length: u64) -> bool
 }
 
 /// Gives a face another label, whose ways are not to be tried.
+#[inline(always)]
 pub fn note(search: &mut Search, face: u32, reach: Reach, known: bool) -> Result<(), AllocError>
     requires { known ≡ is_some (labels search.old face) }
     ensures label { OnOk result (IsLabelled (labels search.old) (labels search.new) face reach) }
@@ -69,6 +71,7 @@ pub fn note(search: &mut Search, face: u32, reach: Reach, known: bool) -> Result
 }
 
 /// Gives a face another label, over a way of this length.
+#[inline(always)]
 pub fn label(
     search: &mut Search,
     way: u64,
@@ -113,6 +116,14 @@ fn renew(search: &mut Search, faces: u32) -> Result<(), AllocError>
     Ok(())
 }
 
+/// The length of the first way. The face where a search begins waits among those over ways of this length.
+fn first_length(ways: &[Cross]) -> u64 {
+    match ways.first() {
+        Some(way) => way.length,
+        None => 0,
+    }
+}
+
 /// Begins a search in the memory of an earlier one: the first face alone is reached.
 pub fn begin(sought: &Sought<'_>, search: &mut Search) -> Result<(), AllocError>
     requires from { sought.now.from < sought.now.faces }
@@ -125,6 +136,6 @@ pub fn begin(sought: &Sought<'_>, search: &mut Search) -> Result<(), AllocError>
         length: 0,
         last: None,
     };
-    label(search, 0, sought.from, reach, false)?;
+    label(search, first_length(sought.ways), sought.from, reach, false)?;
     Ok(())
 }

@@ -3,7 +3,7 @@ use Rattle.std.proofs.Common.{arith, ◌≡◌, ◌≢◌, ℕ, zero, suc, ◌/�
 use Rattle.std.proofs.Common.{◌∙◌, subst, Bool, true, false, cond, inl, inr, List, [], ◌∷◌, length, get_or, map, eq-eqb}
 use Rattle.std.specs.Prelude.{All, AllPairs, filter, slice_index, nat_eq, ◌↔◌}
 use Rattle.std.specs.List.{range_with_len}
-use Rattle.std.proofs.lemmas.Bool.{cases_eq, cases_Bool, cond-true, cond-false, eqb-true, ne_eqb, and_parts, and_from}
+use Rattle.std.proofs.lemmas.Bool.{cases_eq, cases_Bool, cond-true, cond-false, eqb-true, ne_eqb, and_parts, and_from, true≢false, false≢true}
 use Rattle.std.proofs.lemmas.Bool.Decides.{Decides-eqb}
 use Rattle.std.proofs.lemmas.List.{get_or-map, length-map}
 use Rattle.std.proofs.lemmas.List.Elements.{All-contains, All-map, All-filter, filter_passes}
@@ -24,7 +24,7 @@ use Rattle.dpl_map.proofs.ViewLemmas.{is_map, is_built}
 use Rattle.dpl_dual.specs.declared.crosses.Cross.{Cross}
 use Rattle.dpl_dual.specs.declared.crosses.Dual.{Dual}
 use Rattle.dpl_dual.specs.Chains.{AreLinked}
-use Rattle.dpl_dual.specs.Duals.{IsDual, crosses_below}
+use Rattle.dpl_dual.specs.Duals.{IsDual, crosses_below, odd_numbers}
 use Rattle.dpl_dual.proofs.NameLemmas.{odd_by_name, parts_by_name}
 use Rattle.dpl_solve.specs.Parts.{odd_of}
 use Rattle.dpl_solve.specs.Named.{keeps, odd_faces, AreOddTogether, IsMostOddFaces}
@@ -220,6 +220,26 @@ together_most net d k n most (f ∷ fs) t =
     ] in
     member_filter part d.odd (number net x) (number_in net d k x (t.odd i e l)) (eq-eqb (slice_index d.part (number net x)) q one) in
     omega (arith, same_into (number net) faces (odd_of d q) apart inside, most q)
+
+-- where no number passes a test, each fails it
+pub none_odd : (p : ℕ → Bool) (n : ℕ) → filter p (range_with_len 0 n) ≡ [] → (f : ℕ) → f < n → p f ≡ false
+none_odd p n e f l = elim (cases_Bool (p f)) [
+  | inr t ↦ t
+  | inl t ↦
+      let is : is_member nat_eq [] f ≡ true = subst (λ z. is_member nat_eq z f ≡ true) e (member_filter p (range_with_len 0 n) f (member_range n f l) t) in
+      absurd (false≢true is)
+]
+
+-- where no face is odd by its number, none is by its name
+pub none_together : (net : Net) → odd_numbers net.graph (view_of net) ≡ [] → (faces : List ℕ) → AreOddTogether net faces → faces ≡ []
+none_together net e [] t = refl
+none_together net e (f ∷ fs) t =
+    let h : is_odd_named net (keeps net) f ≡ true = t.odd 0 0 (omega arith) in
+    let r = dart_of_name net f h in
+    let c = named_dart net f in
+    let odd : is_odd_face net.graph (view_of net) (face_at net c) ≡ true = odd_face net c r.0 ∙ ap (is_odd_named net (keeps net)) r.1 ∙ h in
+    let off = none_odd (is_odd_face net.graph (view_of net)) (view_of net).faces e (face_at net c) (number_below net c r.0) in
+    absurd (true≢false (sym odd ∙ off))
 
 -- and as many have names
 odd_all : (net : Net) (d : Dual) → IsDual net.graph (view_of net) d → All (λ x. is_odd_face net.graph (view_of net) x ≡ true) d.odd

@@ -1,6 +1,9 @@
 -- All parts of the dual, and the optimum.
 use Rattle.std.specs.Prelude.{◌≡◌, ℕ, ◌+◌, ◌*◌, ◌%◌, ◌<◌, ◌≤◌, ◌⊎◌, Bool, List, [], length, map, take, slice_index_or, All}
+use Rattle.dpl_limits.specs.declared.TheConstants.{MOST_ODD_FACES}
 use Rattle.dpl_sign.specs.declared.graphs.Signed.{Signed}
+use Rattle.dpl_sign.specs.declared.nets.Net.{Net}
+use Rattle.dpl_sign.specs.Drawings.{face_count}
 use Rattle.dpl_sign.specs.declared.walks.Cycle.{Cycle}
 use Rattle.dpl_sign.specs.Packings.{IsPacking, bound_of}
 use Rattle.dpl_map.specs.Views.{MapView, view_of}
@@ -13,6 +16,7 @@ use Rattle.dpl_solve.specs.Joins.{all_ways, times}
 use Rattle.dpl_solve.specs.Parts.{Part, IsPart, IsPaired, all_cycles, all_chains, odd_of}
 use Rattle.dpl_solve.specs.Groups.{numbers_of}
 use Rattle.dpl_solve.specs.Tight.{PassKept, joined_weight}
+use Rattle.dpl_solve.specs.Named.{keeps, odd_faces, AreOddTogether}
 use Rattle.dpl_solve.specs.Solved.{PassOnce}
 
 -- the parts of the first n groups are solved
@@ -36,6 +40,18 @@ pub record IsOptimum (g : Signed) (m : MapView) (d : Dual) (joined : List Bool)
   pub once : PassOnce cycles
   pub light : 2 * joined_weight g joined ≤ bound_of cycles
   pub few : length cycles ≤ d.faces + 2 * length d.odd
+
+-- joined edges and cycles that make a solution
+pub record MakeSolution (net : Net) (m : MapView) (joined : List Bool)
+    (cycles : List Cycle) : Type 0 where
+  pub places : length joined ≡ length net.graph.edges
+  pub meets : MeetsFaces net.graph m joined
+  pub packing : IsPacking net.graph cycles
+  pub kept : PassKept m cycles
+  pub once : PassOnce cycles
+  pub light : 2 * joined_weight net.graph joined ≤ bound_of cycles
+  pub parts : (faces : List ℕ) → AreOddTogether net faces → length faces ≤ MOST_ODD_FACES
+  pub few : length cycles ≤ face_count net (keeps net) + 2 * length (odd_faces net)
 
 -- no part has more odd faces, and some part has as many
 pub record IsMostOdd (d : Dual) (n : ℕ) : Type 0 where
