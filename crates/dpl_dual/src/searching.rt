@@ -71,7 +71,7 @@ pub fn note(search: &mut Search, face: u32, reach: Reach, known: bool) -> Result
 }
 
 /// Gives a face another label, over a way of this length.
-#[inline(always)]
+#[inline(never)]
 pub fn label(
     search: &mut Search,
     way: u64,
