@@ -10,15 +10,16 @@ use Rattle.std.specs.List.Sorted.{IsPermutation, IsPartitionedBy, IsPartitionPoi
 use Rattle.std.proofs.lemmas.Bool.{cases_lt}
 use Rattle.std.proofs.lemmas.Int.{ints}
 use Rattle.std.proofs.lemmas.List.{take_all, get_or-take, get_or-drop, length-take, length-drop, drop_more, drop_all}
-use Rattle.std.proofs.lemmas.List.Elements.{All-more, All-weaker, Contains-append_cases, Contains-append_left, Contains-append_right}
-use Rattle.std.proofs.lemmas.List.Sorted.{Contains-permutation, sorted_far, ranks_by}
+use Rattle.std.proofs.lemmas.List.Elements.{All-more, All-weaker, Contains-append_cases, Contains-append_left, Contains-append_right, Contains-push_cases}
+use Rattle.std.proofs.lemmas.List.Sorted.{Contains-permutation, IsPermutation-sym, sorted_far, ranks_by}
 use Rattle.dpl_cell.specs.declared.rect.Rect.{Rect}
+use Rattle.dpl_cell.specs.Ranges.{IsInRange}
 use Rattle.dpl_cell.specs.declared.point.Point.{Point}
 use Rattle.dpl_cell.specs.declared.layout.Primitive.{Primitive}
 use Rattle.dpl_cell.specs.declared.layout.Primitive.TheVariants as prim
 use Rattle.dpl_tiles.specs.declared.corners.Corner.{Corner}
 use Rattle.dpl_list.specs.Order.{Ascends}
-use Rattle.dpl_tiles.specs.Corners.{IsCornerOf, SpansSide, IsEndOf, HasSide, HasSides, HasCornersOf, AreWithin}
+use Rattle.dpl_tiles.specs.Corners.{IsCornerOf, SpansSide, IsEndOf, HasSide, HasSides, HasCornersOf, AreInRange, AreWithin}
 use Rattle.dpl_tiles.specs.Corners.{AddsCorners, AddsSide, AreBetween, AreCornersAt, ComesBefore}
 use Rattle.dpl_tiles.specs.Clusters.{IsCluster}
 use Rattle.dpl_cell.proofs.BoxLemmas.{equal_z}
@@ -53,6 +54,25 @@ newest P old new c e h = rw e (any_right P old (c ∷ []) (0, c, omega arith, re
 
 -- ---- all corners of a primitive
 
+-- corners in range
+
+pub none_in_range : (corners : List Corner) → corners ≡ [] → AreInRange corners
+none_in_range corners e = rw e (λ c (k, l, f). absurd (omega arith))
+
+range_pushed : (old new : List Corner) (c : Corner) → new ≡ old ++ c ∷ [] → IsInRange c.y → AreInRange old → AreInRange new
+range_pushed old new c e h a = rw e (λ d m. elim (Contains-push_cases old c d m) [
+  | inl g ↦ a d g
+  | inr f ↦ subst (λ (x : Corner). IsInRange x.y) f h
+])
+
+-- where each of two lists grew
+both_in_range : (xs ys zs ws : List Corner) → (AreInRange xs → AreInRange zs) → (AreInRange ys → AreInRange ws)
+    → AreInRange (xs ++ ys) → AreInRange (zs ++ ws)
+both_in_range xs ys zs ws f g a c h = elim (Contains-append_cases zs ws c h) [
+  | inl m ↦ f (λ d n. a d (Contains-append_left xs ys d n)) c m
+  | inr m ↦ g (λ d n. a d (Contains-append_right xs ys d n)) c m
+]
+
 left_of : (xs ys : List Corner) → AreWithin xs (xs ++ ys)
 left_of xs ys c h = Contains-append_left xs ys c h
 
@@ -75,6 +95,9 @@ sides_added r lower upper lower' upper' c d e f a b = record {
     any_kept (IsCornerOf r.y1 r.x1 r.x2) lower' (lower' ++ upper') (left_of lower' upper') (newest (IsCornerOf r.y1 r.x1 r.x2) lower lower' c e a),
     any_kept (IsCornerOf r.y2 r.x1 r.x2) upper' (lower' ++ upper') (right_of lower' upper') (newest (IsCornerOf r.y2 r.x1 r.x2) upper upper' d f b),
   );
+  range = both_in_range lower upper lower' upper'
+      (range_pushed lower lower' c e (record { low = let h = a.y in omega (signed, h, r.below); high = let h = a.y in omega (signed, h, r.above, r.high) }))
+      (range_pushed upper upper' d f (record { low = let h = b.y in omega (signed, h, r.below, r.high); high = let h = b.y in omega (signed, h, r.above) }));
 }
 
 -- what was added to the second list was added to both
@@ -82,6 +105,7 @@ pub others_added : (p : Primitive) (lower old new : List Corner) → AddsCorners
 others_added p lower old new a = record {
   kept = both_within lower old lower new (all_within lower) a.kept;
   has = corners_kept new (lower ++ new) (right_of lower new) p a.has;
+  range = both_in_range lower old lower new (λ h. h) a.range;
 }
 
 end_of : (p q : Point) (z left right : ℤ) (c : Corner) → SpansSide left right p q → IsCornerOf z left right c → IsEndOf p q z c
@@ -96,15 +120,20 @@ side_added p q left right old mid new c d s e f a b = record {
     any_kept (IsEndOf p q p.y) mid new (grown mid new d f) (newest (IsEndOf p q p.y) old mid c e (end_of p q p.y left right c s a)),
     newest (IsEndOf p q q.y) mid new d f (end_of p q q.y left right d s b),
   );
+  range = λ h. range_pushed mid new d f (in_range q d.y b.y) (range_pushed old mid c e (in_range p c.y a.y) h);
 }
+  where
+    in_range : (t : Point) (z : ℤ) → z ≡ t.y → IsInRange z
+    in_range t z i = rw i (record { low = t.below; high = t.above })
 
 -- the list grew by the sides up to the i-th point behind the first: with those to go, it has all
 pub record AddsSides (first : Point) (rest : List Point) (i : ℕ) (before : Point) (old new : List Corner) : Type 0 where
   pub kept : AreWithin old new
   pub has : (all : List Corner) → AreWithin new all → HasSides all before (drop i rest) first → HasSides all first rest first
+  pub range : AreInRange old → AreInRange new
 
 pub round_none : (first : Point) (rest : List Point) (old : List Corner) → AddsSides first rest 0 first old old
-round_none first rest old = record { kept = all_within old; has = λ all w h. h }
+round_none first rest old = record { kept = all_within old; has = λ all w h. h; range = λ h. h }
 
 pub round_more : (first : Point) (rest : List Point) (i : ℕ) (before p : Point) (old mid new : List Corner)
     → i < length rest → p ≡ get_or rest i p → AddsSides first rest i before old mid
@@ -112,6 +141,7 @@ pub round_more : (first : Point) (rest : List Point) (i : ℕ) (before p : Point
 round_more first rest i before p old mid new within is a s = record {
   kept = λ c h. s.kept c (a.kept c h);
   has = λ all w h. a.has all (λ c m. w c (s.kept c m)) (go all (side_kept before p new all w s.has) h);
+  range = λ h. s.range (a.range h);
 } where
   go : (all : List Corner) → HasSide all before p → HasSides all p (drop (i + 1) rest) first → HasSides all before (drop i rest) first
   go all g h =
@@ -124,10 +154,11 @@ pub round_all : (first : Point) (rest : List Point) (i : ℕ) (before : Point) (
 round_all first rest i before old mid new whole a s = record {
   kept = λ c h. s.kept c (a.kept c h);
   has = a.has new s.kept (rw (drop_all i rest whole) s.has);
+  range = λ h. s.range (a.range h);
 }
 
 pub no_points : (old : List Corner) → AddsCorners (prim.Poly []) old old
-no_points old = record { kept = all_within old; has = tt }
+no_points old = record { kept = all_within old; has = tt; range = λ h. h }
 
 -- ---- all primitives
 
@@ -152,6 +183,15 @@ pub corners_moved : (prims : List Primitive) (lower upper lower' upper' new : Li
 corners_moved prims lower upper lower' upper' new p q r h = All-weaker (HasCornersOf (lower ++ upper)) (HasCornersOf new)
     (λ x g. corners_kept (lower ++ upper) new
     (λ c m. moved (lower' ++ upper') new r c (both_within lower upper lower' upper' (moved lower lower' p) (moved upper upper' q) c m)) x g) prims h
+
+pub range_moved : (lower upper lower' upper' new : List Corner) → IsPermutation lower lower' → IsPermutation upper upper'
+    → IsPermutation (lower' ++ upper') new → AreInRange (lower ++ upper) → AreInRange new
+range_moved lower upper lower' upper' new p q r a c h =
+    both_in_range lower upper lower' upper' (back lower lower' p) (back upper upper' q) a c
+    (moved new (lower' ++ upper') (IsPermutation-sym (lower' ++ upper') new r) c h)
+  where
+    back : (old new : List Corner) → IsPermutation old new → AreInRange old → AreInRange new
+    back old new s b d m = b d (moved new old (IsPermutation-sym old new s) d m)
 
 -- ---- the corners at a row
 

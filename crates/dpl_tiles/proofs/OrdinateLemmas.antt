@@ -1,65 +1,60 @@
 -- The ordinates of corners.
-use Rattle.std.proofs.Common.{◌≡◌, ℕ, ◌+◌, ◌<◌, ◌≤◌, ◌^◌, ℤ, pos, neg_ℤ, ◌≤ℤ◌, List, length, get_or, take, All, Contains, subst, ◌∷◌, [], ◌++◌}
-use Rattle.std.proofs.lemmas.List.{take_all}
-use Rattle.std.proofs.lemmas.List.Elements.{All-push, All-weaker, All-more, Contains-append_left, Contains-push}
-use Rattle.std.proofs.lemmas.List.Sorted.{Contains-permutation}
-use Rattle.std.specs.List.Sorted.{IsPermutation}
-use Rattle.dpl_cell.specs.declared.rect.Rect.{Rect}
+use Rattle.std.proofs.Common.{arith, ◌≡◌, ◌∙◌, ℕ, ◌<◌, ℤ, pos, List, length, get_or, map, All, AllPairs, Any, Contains, ap, ◌∷◌, []}
+use Rattle.std.proofs.lemmas.List.{get_or_default, get_or-map, length-map}
+use Rattle.std.proofs.lemmas.List.Elements.{All-cons, All-weaker}
+use Rattle.dpl_list.specs.Order.{Ascends}
 use Rattle.dpl_cell.specs.declared.point.Point.{Point}
 use Rattle.dpl_cell.specs.declared.layout.Primitive.{Primitive}
 use Rattle.dpl_cell.specs.declared.layout.Primitive.TheVariants as prim
 use Rattle.dpl_cell.specs.Ranges.{IsInRange}
-use Rattle.dpl_tiles.specs.Bands.{HasCorners, HasOrdinates, AddsOrdinates}
-use Rattle.dpl_list.proofs.Integers.{signed}
+use Rattle.dpl_tiles.specs.declared.corners.Corner.{Corner}
+use Rattle.dpl_tiles.specs.Bands.{HasCorners, HasOrdinates}
+use Rattle.dpl_tiles.specs.Corners.{AreInRange, ComesBefore, HasCornersOf, HasSide, HasSides, IsCornerOf, IsEndOf}
+use Rattle.dpl_tiles.proofs.CornerLemmas.{rising_rows}
 
-pub corners_kept : (old new : List ℤ) (part : Primitive) → ((z : ℤ) → Contains old z → Contains new z) → HasCorners old part → HasCorners new part
-corners_kept old new (prim.Box r) f (a, b) = (f r.y1 a, f r.y2 b)
-corners_kept old new (prim.Poly ps) f h = λ k d l. f _ (h k d l)
+-- a corner, where one is read past the end of a list
+abbrev no_corner : Corner
+no_corner = record { y = pos 0; left = pos 0; right = pos 0 }
 
-pub ordinates_more : (prims : List Primitive) (i : ℕ) (part : Primitive) (old new : List ℤ) → i < length prims
-    → part ≡ get_or prims i part → AddsOrdinates part old new → HasOrdinates old (take i prims)
-    → HasOrdinates new (take (i + 1) prims)
-ordinates_more prims i part old new within is a h =
-    All-more (HasCorners new) prims i part within (All-weaker (HasCorners old) (HasCorners new)
-    (λ p g. corners_kept old new p a.kept g) (take i prims) h) (let g = a.has in rw is at g)
+row_at : (corners : List Corner) (k : ℕ) (d : ℤ) → k < length corners → get_or (map (λ (c : Corner). c.y) corners) k d ≡ (get_or corners k no_corner).y
+row_at corners k d l = get_or-map (λ (c : Corner). c.y) corners k no_corner d l
 
-pub ordinates_moved : (prims : List Primitive) (old new : List ℤ) → IsPermutation old new → HasOrdinates old prims → HasOrdinates new prims
-ordinates_moved prims old new p h = All-weaker (HasCorners old) (HasCorners new)
-    (λ q g. corners_kept old new q (λ z c. Contains-permutation old new z p c) g) prims h
+pub rows_rise : (corners : List Corner) (rows : List ℤ) → rows ≡ map (λ c. c.y) corners → AllPairs ComesBefore corners → Ascends (λ z. z) rows
+rows_rise corners rows e up = rw e (λ i j d h l.
+    let n = length-map corners (λ (c : Corner). c.y) in
+    rw (row_at corners i d (omega arith), row_at corners j d (omega arith)) (rising_rows corners up i j no_corner h (omega arith)))
 
-pub two_pushed : (r : Rect) (old mid new : List ℤ) → mid ≡ old ++ r.y1 ∷ [] → new ≡ mid ++ r.y2 ∷ [] → AddsOrdinates (prim.Box r) old new
-two_pushed r old mid new e f = rw (f, e) (record {
-  kept = λ z c. Contains-append_left (old ++ r.y1 ∷ []) (r.y2 ∷ []) z (Contains-append_left old (r.y1 ∷ []) z c);
-  has = (Contains-append_left (old ++ r.y1 ∷ []) (r.y2 ∷ []) r.y1 (Contains-push old r.y1), Contains-push (old ++ r.y1 ∷ []) r.y2);
-  range = λ a. All-push IsInRange (old ++ r.y1 ∷ []) r.y2
-      (All-push IsInRange old r.y1 a (record { low = r.below; high = low_high r }))
-      (record { low = high_low r; high = r.above });
-}) where
-  low_high : (r : Rect) → r.y1 ≤ℤ pos (2 ^ 30)
-  low_high r = omega signed
+pub rows_in_range : (corners : List Corner) (rows : List ℤ) → rows ≡ map (λ c. c.y) corners → AreInRange corners → All IsInRange rows
+rows_in_range corners rows e a = rw e (λ k d l.
+    let n = length-map corners (λ (c : Corner). c.y) in
+    let within : k < length corners = omega arith in
+    let x = get_or corners k no_corner in
+    rw (row_at corners k d within) (a x (k, within, get_or_default corners k x no_corner within)))
 
-  high_low : (r : Rect) → neg_ℤ (pos (2 ^ 30)) ≤ℤ r.y2
-  high_low r = omega signed
+found : (corners : List Corner) (P : Corner → Type 0) (z : ℤ) → ((c : Corner) → P c → c.y ≡ z) → Any P corners
+    → Contains (map (λ (c : Corner). c.y) corners) z
+found corners P z y (k, c, l, e, h) =
+    (k, rw (length-map corners (λ (x : Corner). x.y)) l, get_or-map (λ (x : Corner). x.y) corners k c z l ∙ ap (λ (x : Corner). x.y) e ∙ y c h)
 
--- the corners of the first i points
-pub record AddsCorners (points : List Point) (i : ℕ) (old new : List ℤ) : Type 0 where
-  pub kept : (z : ℤ) → Contains old z → Contains new z
-  pub has : All (λ p. Contains new p.y) (take i points)
-  pub range : All IsInRange old → All IsInRange new
+side_has : (corners : List Corner) (p q : Point) → HasSide corners p q → Contains (map (λ (c : Corner). c.y) corners) p.y
+side_has corners p q (a, b) = found corners (IsEndOf p q p.y) p.y (λ c h. h.y) a
 
-pub corner_pushed : (points : List Point) (i : ℕ) (p : Point) (old mid new : List ℤ) → i < length points
-    → p ≡ get_or points i p → AddsCorners points i old mid → new ≡ mid ++ p.y ∷ []
-    → AddsCorners points (i + 1) old new
-corner_pushed points i p old mid new within is a e = rw e (record {
-  kept = λ z c. Contains-append_left mid (p.y ∷ []) z (a.kept z c);
-  has = All-more (λ q. Contains (mid ++ p.y ∷ []) q.y) points i p within
-      (All-weaker (λ q. Contains mid q.y) (λ q. Contains (mid ++ p.y ∷ []) q.y) (λ q c. Contains-append_left mid (p.y ∷ []) q.y c) (take i points) a.has)
-      (let c : Contains (mid ++ p.y ∷ []) p.y = Contains-push mid p.y in let P : Point → Type 0 = λ q. Contains (mid ++ p.y ∷ []) q.y in subst P is c);
-  range = λ r. All-push IsInRange mid p.y (a.range r) (record { low = p.below; high = p.above });
-})
+sides_have : (corners : List Corner) (last p : Point) (ps : List Point) → HasSides corners p ps last
+    → All (λ (q : Point). Contains (map (λ (c : Corner). c.y) corners) q.y) (p ∷ ps)
+sides_have corners last p [] h = All-cons (λ (q : Point). Contains (map (λ (c : Corner). c.y) corners) q.y) p []
+    (side_has corners p last h) (λ k d l. absurd (omega arith))
+sides_have corners last p (q ∷ qs) (g, h) = All-cons (λ (t : Point). Contains (map (λ (c : Corner). c.y) corners) t.y) p (q ∷ qs)
+    (side_has corners p q g) (sides_have corners last q qs h)
 
-pub corners_all : (points : List Point) (i : ℕ) (old new : List ℤ) → length points ≤ i → AddsCorners points i old new → AddsOrdinates (prim.Poly points) old new
-corners_all points i old new whole a = record { kept = a.kept; has = let h = a.has in rw (take_all i points whole) at h; range = a.range }
+has_rows : (corners : List Corner) (p : Primitive) → HasCornersOf corners p → HasCorners (map (λ (c : Corner). c.y) corners) p
+has_rows corners (prim.Box r) (a, b) = (
+  found corners (IsCornerOf r.y1 r.x1 r.x2) r.y1 (λ c h. h.y) a,
+  found corners (IsCornerOf r.y2 r.x1 r.x2) r.y2 (λ c h. h.y) b,
+)
+has_rows corners (prim.Poly []) h = λ k d l. absurd (omega arith)
+has_rows corners (prim.Poly (p ∷ ps)) h = sides_have corners p p ps h
 
-pub ordinates_all : (prims : List Primitive) (i : ℕ) (rows : List ℤ) → length prims ≤ i → HasOrdinates rows (take i prims) → HasOrdinates rows prims
-ordinates_all prims i rows whole h = rw (take_all i prims whole) at h
+pub rows_have : (corners : List Corner) (rows : List ℤ) (prims : List Primitive) → rows ≡ map (λ c. c.y) corners
+    → All (HasCornersOf corners) prims → HasOrdinates rows prims
+rows_have corners rows prims e a = rw e (All-weaker (HasCornersOf corners) (HasCorners (map (λ (c : Corner). c.y) corners))
+    (λ p h. has_rows corners p h) prims a)

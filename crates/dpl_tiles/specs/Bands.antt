@@ -8,7 +8,6 @@ use Rattle.dpl_cell.specs.declared.layout.Primitive.TheVariants as prim
 use Rattle.dpl_cell.specs.Cells.{IsWithin}
 use Rattle.dpl_cell.specs.Layers.{is_cell}
 use Rattle.dpl_cell.specs.Outlines.{outline_of}
-use Rattle.dpl_cell.specs.Ranges.{IsInRange}
 use Rattle.dpl_cell.specs.declared.stretch.Stretch.{Stretch}
 use Rattle.dpl_tiles.specs.declared.band.Band.{Band}
 use Rattle.dpl_tiles.specs.Finders.{IsFinderOf}
@@ -20,12 +19,6 @@ HasCorners rows (prim.Poly points) = All (λ p. Contains rows p.y) points
 
 abbrev pub HasOrdinates : List ℤ → List Primitive → Type 0
 HasOrdinates rows prims = All (HasCorners rows) prims
-
--- the list grew, and has those of this primitive
-pub record AddsOrdinates (part : Primitive) (old new : List ℤ) : Type 0 where
-  pub kept : (z : ℤ) → Contains old z → Contains new z
-  pub has : HasCorners new part
-  pub range : All IsInRange old → All IsInRange new
 
 -- the rectangle holds these columns
 pub record HasColumns (x1 x2 : ℤ) (r : Rect) : Type 0 where

@@ -3,6 +3,7 @@ use Rattle.std.specs.Prelude.{◌≡◌, ◌⊎◌, ⊤, ℕ, ◌≤◌, ◌<◌
 use Rattle.dpl_cell.specs.declared.point.Point.{Point}
 use Rattle.dpl_cell.specs.declared.layout.Primitive.{Primitive}
 use Rattle.dpl_cell.specs.declared.layout.Primitive.TheVariants as prim
+use Rattle.dpl_cell.specs.Ranges.{IsInRange}
 use Rattle.dpl_tiles.specs.declared.corners.Corner.{Corner}
 use Rattle.dpl_list.specs.Order.{Ascends}
 
@@ -44,15 +45,21 @@ HasCornersOf corners (prim.Poly (p ∷ ps)) = HasSides corners p ps p
 abbrev pub AreWithin : List Corner → List Corner → Type 0
 AreWithin old new = (c : Corner) → Contains old c → Contains new c
 
+-- the ordinates of corners are within the limits
+abbrev pub AreInRange : List Corner → Type 0
+AreInRange corners = (c : Corner) → Contains corners c → IsInRange c.y
+
 -- the list grew by the corners of the primitive
 pub record AddsCorners (p : Primitive) (old new : List Corner) : Type 0 where
   pub kept : AreWithin old new
   pub has : HasCornersOf new p
+  pub range : AreInRange old → AreInRange new
 
 -- the list grew by the ends of a side
 pub record AddsSide (p q : Point) (old new : List Corner) : Type 0 where
   pub kept : AreWithin old new
   pub has : HasSide new p q
+  pub range : AreInRange old → AreInRange new
 
 -- the first is lower, or in the same row and not further right
 abbrev pub ComesBefore : Corner → Corner → Type 0
@@ -62,6 +69,7 @@ ComesBefore a b = (a.y <ℤ b.y) ⊎ ((a.y ≡ b.y) × (a.left ≤ℤ b.left))
 pub record AreCorners (prims : List Primitive) (corners : List Corner) : Type 0 where
   pub ordered : AllPairs ComesBefore corners
   pub all : All (HasCornersOf corners) prims
+  pub range : AreInRange corners
 
 -- the corners at row z stand from one place to another
 pub record AreBetween (corners : List Corner) (z : ℤ) (from to : ℕ) : Type 0 where

@@ -1,9 +1,9 @@
 // The corners of primitives row by row from the left, each with the columns of a side that ends there.
-ghost use Rattle.std.specs.Prelude.{◌≡◌, ◌≤ℤ◌, ◌<ℤ◌, ◌≤◌, length, All, AllPairs, IfOk, IsPermutation, OnOk, ◌∷◌, ◌++◌};
+ghost use Rattle.std.specs.Prelude.{◌≡◌, ◌≤ℤ◌, ◌<ℤ◌, ◌≤◌, length, All, AllPairs, IfOk, IsPermutation, OnOk, ◌∷◌, ◌++◌, []};
 ghost use Rattle.std.specs.List.Sorted.{IsPartitionPoint};
 ghost use Rattle.dpl_cell.specs.declared.layout.Primitive.TheVariants as prim;
 ghost use Rattle.dpl_list.specs.Order.{Ascends};
-ghost use Rattle.dpl_tiles.specs.Corners.{AddsCorners, AddsSide, AreBetween, AreCorners, AreCornersAt, ComesBefore, HasCornersOf, IsCornerOf, SpansSide};
+ghost use Rattle.dpl_tiles.specs.Corners.{AddsCorners, AddsSide, AreBetween, AreCorners, AreCornersAt, AreInRange, ComesBefore, HasCornersOf, IsCornerOf, SpansSide};
 
 use crate::columns::{Columns, Places, greater, lesser};
 use dpl_cell::{Point, Prim, Rect};
@@ -44,7 +44,9 @@ fn push_all(
     others: &mut Vec<Corner>,
     prims: &[Prim],
 ) -> Result<(), AllocError>
-    ensures { OnOk result (All (HasCornersOf (lower.new.items ++ others.new.items)) prims.now) }
+    requires none { lower.old.items ++ others.old.items ≡ [] }
+    ensures has { OnOk result (All (HasCornersOf (lower.new.items ++ others.new.items)) prims.now) }
+    ensures range { OnOk result (AreInRange (lower.new.items ++ others.new.items)) }
 {
     for prim in prims {
         push_corners(lower, others, prim)?;

@@ -39,9 +39,9 @@ pub fn tiles(alloc: Global, layout: &Layout) -> Result<Vec<Rect>, LimitError>
         (result ≡ Err LimitError.TooMany) ⊎ (result ≡ Err LimitError.NoMemory) }
 {
     let prims = layout.prims.as_slice();
-    let rows = ordinates(alloc, prims)?;
     let finder = Finder::new(alloc, prims)?;
     let corners = corners_of(alloc, prims)?;
+    let rows = ordinates(alloc, corners.as_slice())?;
     let mut tiles = unsorted(alloc, prims, finder, corners.as_slice(), rows.as_slice())?;
     sort(&mut tiles);
     Ok(tiles)

@@ -1,11 +1,24 @@
-use Rattle.std.proofs.Common.{◌≤◌, length, map}
+use Rattle.std.proofs.Common.{◌≤◌, ◌∙◌, length, map}
 use Rattle.dpl_cell.specs.Places.{corners_of}
 use Rattle.dpl_cell.specs.Layers.{cells_of}
 use Rattle.std.proofs.lemmas.List.{length-map}
 use Rattle.std.proofs.lemmas.List.Sorted.{length_permutation}
 use Rattle.dpl_tiles.specs.Stacks.{AreAllTiles}
+use Rattle.dpl_tiles.proofs.OrdinateLemmas.{rows_rise, rows_in_range, rows_have}
 use Rattle.dpl_tiles.proofs.TileLemmas.{sorted_tiles, not_more}
 use Rattle.dpl_tiles.proofs.tiling.tiles.Goals as goal
+
+pub unsorted-requires-clause-sorted : goal.unsorted-requires-clause-sorted
+unsorted-requires-clause-sorted c = rows_rise c.as_slice.result.now c.as_slice-3.result.now
+    (c.as_slice-3.ensures.value ∙ c.in_ok-rows.ensures) (rw c.as_slice.ensures.value c.in_ok-corners.ensures.ordered)
+
+pub unsorted-requires-clause-range : goal.unsorted-requires-clause-range
+unsorted-requires-clause-range c = rows_in_range c.as_slice.result.now c.as_slice-3.result.now
+    (c.as_slice-3.ensures.value ∙ c.in_ok-rows.ensures) (rw c.as_slice.ensures.value c.in_ok-corners.ensures.range)
+
+pub unsorted-requires-clause-all : goal.unsorted-requires-clause-all
+unsorted-requires-clause-all c = rows_have c.as_slice.result.now c.as_slice-3.result.now c.as_slice-prims.result.now
+    (c.as_slice-3.ensures.value ∙ c.in_ok-rows.ensures) (rw c.as_slice.ensures.value c.in_ok-corners.ensures.all)
 
 pub returns-clause-tiles : goal.returns-clause-tiles
 returns-clause-tiles c =
