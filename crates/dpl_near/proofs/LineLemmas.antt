@@ -94,7 +94,8 @@ module _ (borders : List Border) (l : Line) (o : AreInOrder borders) (s : IsLine
 -- the ends of a part of the borders are a part of their ends
 pub ends_of_part : (borders : List Border) (ends : List ℤ) (start end : ℕ) → ends ≡ map (λ b. b.to) borders
     → take (end - start) (drop start ends) ≡ map (λ b. b.to) (take (end - start) (drop start borders))
-ends_of_part borders ends start end e = rw e (rw (drop-map (λ (b : Border). b.to) start borders) (take-map (λ (b : Border). b.to) (end - start) (drop start borders)))
+ends_of_part borders ends start end e = rw e
+    (rw (drop-map (λ (b : Border). b.to) start borders) (take-map (λ (b : Border). b.to) (end - start) (drop start borders)))
 
 -- ---- the lines of the borders below a place
 

@@ -203,7 +203,8 @@ fn borders_on<'a>(borders: &'a [Border], line: &Line) -> &'a [Border]
 fn ends_on<'a>(borders: &[Border], ends: &'a [i64], line: &Line) -> &'a [i64]
     requires ends { ends.now ≡ map (λ b. b.to) borders.now }
     requires line { IsLine borders.now line.now }
-    ensures { result.now ≡ map (λ b. b.to) (take (line.now.end - line.now.start) (drop line.now.start borders.now)) }
+    ensures { result.now ≡ map (λ b. b.to)
+        (take (line.now.end - line.now.start) (drop line.now.start borders.now)) }
 {
     &ends[line.start..line.end]
 }
