@@ -18,7 +18,7 @@ use std::alloc::{AllocError, Global};
 /// It costs the edges, and the nodes times a logarithm.
 pub fn colour(
     alloc: Global,
-    map: &Map,
+    map: &Map<'_>,
     graph: &Signed,
     joined: &[bool],
 ) -> Result<Vec<bool>, AllocError>

@@ -53,7 +53,7 @@ fn flips(kind: Kind, joined: bool, a: bool, b: bool) -> bool
 #[derive(Clone, Copy)]
 pub struct Wanted<'a> {
     pub graph: &'a Signed,
-    pub map: &'a Map,
+    pub map: &'a Map<'a>,
     pub joined: &'a [bool],
 }
 

@@ -11,7 +11,7 @@ use dpl_sign::{Kind, Signed};
 use std::alloc::{AllocError, Global};
 
 /// Whether an edge is a kept stitch or clash.
-fn crossable(map: &Map, graph: &Signed, edge: u32) -> bool
+fn crossable(map: &Map<'_>, graph: &Signed, edge: u32) -> bool
     requires map { IsMap graph.now (view_of map.now) }
     requires inside { edge < length graph.now.edges }
     ensures { result ≡ is_crossable graph.now (view_of map.now) edge }
@@ -27,7 +27,7 @@ fn crossable(map: &Map, graph: &Signed, edge: u32) -> bool
 }
 
 /// The ways between the faces, in the order of the edges.
-pub fn crosses(alloc: Global, map: &Map, graph: &Signed) -> Result<Vec<Cross>, AllocError>
+pub fn crosses(alloc: Global, map: &Map<'_>, graph: &Signed) -> Result<Vec<Cross>, AllocError>
     requires { IsMap graph.now (view_of map.now) }
     ensures { IfOk result (λ v. v.items ≡
         crosses_below graph.now (view_of map.now) (length graph.now.edges)) }

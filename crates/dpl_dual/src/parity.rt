@@ -12,7 +12,7 @@ use dpl_sign::{Kind, Signed};
 use std::alloc::{AllocError, Global};
 
 /// Whether a dart is of a kept clash.
-fn is_clash(map: &Map, graph: &Signed, dart: u32) -> bool
+fn is_clash(map: &Map<'_>, graph: &Signed, dart: u32) -> bool
     requires map { IsMap graph.now (view_of map.now) }
     requires inside { dart < 2 * length graph.now.edges }
     ensures { result ≡ (is_kept (view_of map.now) dart
@@ -26,7 +26,7 @@ fn is_clash(map: &Map, graph: &Signed, dart: u32) -> bool
 }
 
 /// Changes the parity of a face for each dart of a kept clash.
-fn pass(map: &Map, graph: &Signed, odd: &mut [bool])
+fn pass(map: &Map<'_>, graph: &Signed, odd: &mut [bool])
     requires map { IsMap graph.now (view_of map.now) }
     requires faces { length odd.old ≡ (view_of map.now).faces }
     requires even { (f : ℕ) → slice_index_or odd.old f false ≡ false }
@@ -42,7 +42,7 @@ fn pass(map: &Map, graph: &Signed, odd: &mut [bool])
 }
 
 /// For each face whether it passes clashes an odd number of times.
-pub fn parities(alloc: Global, map: &Map, graph: &Signed) -> Result<Vec<bool>, AllocError>
+pub fn parities(alloc: Global, map: &Map<'_>, graph: &Signed) -> Result<Vec<bool>, AllocError>
     requires { IsMap graph.now (view_of map.now) }
     ensures length { IfOk result (λ v. length v.items ≡ (view_of map.now).faces) }
     ensures each { IfOk result (λ v. (f : ℕ) → f < (view_of map.now).faces →

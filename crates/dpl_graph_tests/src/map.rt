@@ -57,13 +57,8 @@ fn tree_and_pair() -> [Link; 4] {
     ]
 }
 
-fn map_of(alloc: Global, nodes: u32, links: &[Link]) -> Result<Map, Fail> {
-    let net = net(alloc, nodes, links)?;
-    Ok(build(alloc, &net)?)
-}
-
 /// Whether a dart is of a kept edge, and has the number of the least dart of its face.
-fn is_numbered(alloc: Global, map: &Map, kept: &[bool], dart: u32) -> Result<bool, Fail> {
+fn is_numbered(alloc: Global, map: &Map<'_>, kept: &[bool], dart: u32) -> Result<bool, Fail> {
     let edges = map.net().graph.edges.as_slice().len() as u32;
     if dart / 2 >= edges {
         return Ok(false);
@@ -82,20 +77,20 @@ fn is_numbered(alloc: Global, map: &Map, kept: &[bool], dart: u32) -> Result<boo
 }
 
 /// Whether the edges that are set aside are those of the plain program.
-fn is_aside_plain(alloc: Global, map: &Map) -> Result<bool, AllocError> {
+fn is_aside_plain(alloc: Global, map: &Map<'_>) -> Result<bool, AllocError> {
     let aside = aside_edges(alloc, map.net())?;
     Ok(map.aside() == aside.as_slice())
 }
 
 /// The same of the numbers of faces and of the excess.
-fn are_measures_plain(alloc: Global, map: &Map, kept: &[bool]) -> Result<bool, AllocError> {
+fn are_measures_plain(alloc: Global, map: &Map<'_>, kept: &[bool]) -> Result<bool, AllocError> {
     let faces = face_count(alloc, map.net(), kept)?;
     let excess = total_excess(alloc, map.net())?;
     Ok(map.faces() == faces && map.excess() == excess)
 }
 
 /// The same of the kept edges and the faces of their darts.
-fn are_darts_plain(alloc: Global, map: &Map, kept: &[bool]) -> Result<bool, Fail> {
+fn are_darts_plain(alloc: Global, map: &Map<'_>, kept: &[bool]) -> Result<bool, Fail> {
     for edge in 0..map.net().graph.edges.as_slice().len() as u32 {
         let (dart, back) = dart_pair(edge);
         let there = is_numbered(alloc, map, kept, dart)?;
@@ -110,7 +105,8 @@ fn are_darts_plain(alloc: Global, map: &Map, kept: &[bool]) -> Result<bool, Fail
 
 /// Compares the map of a net with what the plain programs say.
 fn compare_plain<R: Abort>(rt: &R, alloc: Global, nodes: u32, links: &[Link]) -> Result<(), Fail> {
-    let map = map_of(alloc, nodes, links)?;
+    let net = net(alloc, nodes, links)?;
+    let map = build(alloc, &net)?;
     let kept = kept_edges(alloc, map.net())?;
     assert!(rt; is_aside_plain(alloc, &map)?);
     assert!(rt; are_measures_plain(alloc, &map, kept.as_slice())?);
@@ -119,7 +115,7 @@ fn compare_plain<R: Abort>(rt: &R, alloc: Global, nodes: u32, links: &[Link]) ->
 }
 
 /// The next dart of a face, and the dart itself where it is of no kept edge.
-fn next_of(map: &Map, dart: u32) -> u32 {
+fn next_of(map: &Map<'_>, dart: u32) -> u32 {
     if dart / 2 >= map.net().graph.edges.as_slice().len() as u32 {
         return dart;
     }
@@ -130,7 +126,7 @@ fn next_of(map: &Map, dart: u32) -> u32 {
 }
 
 /// Compares the next darts of some darts.
-fn compare_nexts<R: Abort>(rt: &R, map: &Map, wanted: &[(u32, u32)]) {
+fn compare_nexts<R: Abort>(rt: &R, map: &Map<'_>, wanted: &[(u32, u32)]) {
     for (dart, next) in wanted {
         assert_eq!(rt; next_of(map, *dart), *next, "{dart}");
     }
@@ -139,7 +135,8 @@ fn compare_nexts<R: Abort>(rt: &R, map: &Map, wanted: &[(u32, u32)]) {
 /// Its kept faces turn counterclockwise: darts 6, 3, 0 and darts 1, 4, 5, 2, 7.
 #[test]
 fn faces_turn_counterclockwise(rt: HostRuntime) -> Result<(), Fail> {
-    let map = map_of(rt.alloc(), 4, &square_with_both_diagonals())?;
+    let net = net(rt.alloc(), 4, &square_with_both_diagonals())?;
+    let map = build(rt.alloc(), &net)?;
     let inner = [(6, 3), (3, 0), (0, 6)];
     let outer = [(1, 4), (4, 5), (5, 2), (2, 7), (7, 1)];
     compare_nexts(&rt, &map, &inner);
@@ -149,7 +146,7 @@ fn faces_turn_counterclockwise(rt: HostRuntime) -> Result<(), Fail> {
 }
 
 /// Compares the darts of each face.
-fn compare_faces<R: Abort>(rt: &R, map: &Map, wanted: &[&[u32]]) {
+fn compare_faces<R: Abort>(rt: &R, map: &Map<'_>, wanted: &[&[u32]]) {
     assert_eq!(rt; map.faces() as usize, wanted.len());
     for face in 0..map.faces() {
         assert_eq!(rt; Some(&map.darts_of(face)), wanted.get(face as usize));
@@ -157,13 +154,14 @@ fn compare_faces<R: Abort>(rt: &R, map: &Map, wanted: &[&[u32]]) {
 }
 
 /// Compares the edges that are set aside.
-fn compare_aside<R: Abort>(rt: &R, map: &Map, wanted: &[u32]) {
+fn compare_aside<R: Abort>(rt: &R, map: &Map<'_>, wanted: &[u32]) {
     assert_eq!(rt; map.aside(), wanted);
 }
 
 #[test]
 fn square_has_two_faces(rt: HostRuntime) -> Result<(), Fail> {
-    let map = map_of(rt.alloc(), 4, &square_with_both_diagonals())?;
+    let net = net(rt.alloc(), 4, &square_with_both_diagonals())?;
+    let map = build(rt.alloc(), &net)?;
     compare_aside(&rt, &map, &[4, 5]);
     assert_eq!(rt; map.excess(), 2);
     compare_faces(&rt, &map, &[&[0, 3, 6], &[1, 2, 4, 5, 7]]);
@@ -171,7 +169,7 @@ fn square_has_two_faces(rt: HostRuntime) -> Result<(), Fail> {
 }
 
 /// The node at which a dart begins, and the dart the other way.
-fn tail_and_twin(map: &Map, dart: u32) -> Option<(u32, u32)> {
+fn tail_and_twin(map: &Map<'_>, dart: u32) -> Option<(u32, u32)> {
     if dart / 2 >= map.net().graph.edges.as_slice().len() as u32 {
         return None;
     }
@@ -181,7 +179,8 @@ fn tail_and_twin(map: &Map, dart: u32) -> Option<(u32, u32)> {
 /// Over all three clashes there is one face of six darts, so the last one is set aside.
 #[test]
 fn three_clashes_between_two_nodes(rt: HostRuntime) -> Result<(), Fail> {
-    let map = map_of(rt.alloc(), 3, &three_between_two())?;
+    let net = net(rt.alloc(), 3, &three_between_two())?;
+    let map = build(rt.alloc(), &net)?;
     compare_aside(&rt, &map, &[2]);
     assert_eq!(rt; map.excess(), 2);
     compare_faces(&rt, &map, &[&[0, 3], &[1, 2], &[]]);

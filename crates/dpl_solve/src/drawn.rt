@@ -8,6 +8,6 @@ use dpl_sign::Signed;
 #[derive(Clone, Copy)]
 pub struct Drawn<'a> {
     pub graph: &'a Signed,
-    pub map: &'a Map,
+    pub map: &'a Map<'a>,
     pub dual: &'a Dual,
 }

@@ -5,6 +5,6 @@ use Rattle.dpl_colour.proofs.colours.colour.Given as goal
 
 abbrev pub invariant-loop-i : goal.invariant-loop-i
 invariant-loop-i l = record {
-  coloured : IsColoured l.graph (view_of l.map) l.joined l.i l.names.items l.colours.items;
+  coloured : IsColoured l.graph (view_of l.fn.map) l.joined l.i l.names.items l.colours.items;
   listed : AreListed l.names.items l.lists.next.items l.lists.last.items l.lists.lengths.items;
 }
