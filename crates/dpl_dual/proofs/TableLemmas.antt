@@ -1,13 +1,14 @@
 -- Tables of labels: places that are added, and labels that are forgotten.
-use Rattle.std.proofs.Common.{◌≡◌, ℕ, zero, suc, ◌==◌, ◌||◌, ◌∙◌, refl, sym, ap, true, false, inl, inr, Option, Some, None}
-use Rattle.std.proofs.Common.{List, [], ◌∷◌, ◌++◌, get_or, replicate, take, length, ◌≤◌}
+use Rattle.std.proofs.Common.{arith, ◌≡◌, ◌≢◌, ℕ, zero, suc, ◌==◌, ◌||◌, ◌∙◌, refl, sym, ap, true, false, inl, inr, Option, Some, None}
+use Rattle.std.proofs.Common.{List, [], ◌∷◌, ◌++◌, get_or, set, replicate, take, length, ◌<◌, ◌≤◌, eq-eqb, cond}
 use Rattle.std.specs.Prelude.{is_some}
-use Rattle.std.proofs.lemmas.Bool.{ne_eqb, eqb-true, cases_eq, or_cases, true≢false, false≢true}
-use Rattle.std.proofs.lemmas.List.{take_all}
+use Rattle.std.proofs.lemmas.Bool.{ne_eqb, eqb-true, cases_eq, cond-true, cond-false, or_cases, true≢false, false≢true}
+use Rattle.std.proofs.lemmas.List.{take_all, get_or-set_same, get_or-set_other}
 use Rattle.dpl_list.proofs.Lists.{repeated}
 use Rattle.dpl_dual.specs.declared.reach.Reach.{Reach}
 use Rattle.dpl_dual.specs.Chains.{stands_in}
-use Rattle.dpl_dual.specs.Searches.{IsUnlabelled, AreListed}
+use Rattle.dpl_dual.specs.Searches.{IsLabelled, IsUnlabelled, AreListed}
+use Rattle.dpl_dual.specs.Tables.{no_length, reach_at, reach_from, reaches_of}
 use Rattle.dpl_map.proofs.RowLemmas.{stands_push}
 
 behind : {X : Type 0} (xs : List X) (d : X) (n i : ℕ) → get_or (xs ++ replicate n d) i d ≡ get_or xs i d
@@ -40,3 +41,80 @@ none_left e reached n l f = left (e f) (λ s. true≢false (sym (l f s) ∙ ap (
     left : (o : Option Reach) → (is_some o ≡ true → ⊥) → o ≡ None
     left None h = refl
     left (Some r) h = absurd (h refl)
+
+-- ---- a table is read
+
+pub reach_read : (ns : List ℕ) (ps : List (Option (ℕ × ℕ))) (f : ℕ)
+    → reach_at (reaches_of ns ps) f ≡ reach_from (get_or ns f no_length) (get_or ps f None)
+reach_read [] ps f = refl
+reach_read (n ∷ ns) [] zero = refl
+reach_read (n ∷ ns) [] (suc f) = reach_read ns [] f
+reach_read (n ∷ ns) (p ∷ ps) zero = refl
+reach_read (n ∷ ns) (p ∷ ps) (suc f) = reach_read ns ps f
+
+from_none : (n : ℕ) (last : Option (ℕ × ℕ)) → n ≡ no_length → reach_from n last ≡ None
+from_none n last e = cond-true (n == no_length) None (Some (record { length = n; last = last })) (eq-eqb n no_length e)
+
+from_some : (n : ℕ) (last : Option (ℕ × ℕ)) → n ≢ no_length → reach_from n last ≡ Some (record { length = n; last = last })
+from_some n last e = cond-false (n == no_length) None (Some (record { length = n; last = last })) (ne_eqb n no_length e)
+
+pub read_none : (t : List (Option Reach)) (ns : List ℕ) (ps : List (Option (ℕ × ℕ))) (f n : ℕ) → reaches_of ns ps ≡ t
+    → n ≡ get_or ns f no_length → n ≡ no_length → reach_at t f ≡ None
+read_none t ns ps f n v e none = ap (λ z. reach_at z f) (sym v) ∙ reach_read ns ps f ∙ from_none (get_or ns f no_length) (get_or ps f None) (sym e ∙ none)
+
+pub read_some : (t : List (Option Reach)) (ns : List ℕ) (ps : List (Option (ℕ × ℕ))) (f n : ℕ) (last : Option (ℕ × ℕ))
+    → reaches_of ns ps ≡ t → n ≡ get_or ns f no_length → last ≡ get_or ps f None → n ≢ no_length
+    → reach_at t f ≡ Some (record { length = n; last = last })
+read_some t ns ps f n last v e l some = ap (λ z. reach_at z f) (sym v) ∙ reach_read ns ps f ∙
+    ap (λ z. reach_from z (get_or ps f None)) (sym e) ∙ ap (reach_from n) (sym l) ∙ from_some n last some
+
+-- lists that are read alike make tables that are read alike
+pub read_alike : (t : List (Option Reach)) (ns ns' : List ℕ) (ps ps' : List (Option (ℕ × ℕ))) → reaches_of ns ps ≡ t
+    → ((f : ℕ) → get_or ns' f no_length ≡ get_or ns f no_length) → ((f : ℕ) → get_or ps' f None ≡ get_or ps f None)
+    → (f : ℕ) → reach_at (reaches_of ns' ps') f ≡ reach_at t f
+read_alike t ns ns' ps ps' v en ep f = reach_read ns' ps' f ∙ ap (λ z. reach_from z (get_or ps' f None)) (en f) ∙
+    ap (reach_from (get_or ns f no_length)) (ep f) ∙ sym (reach_read ns ps f) ∙ ap (λ z. reach_at z f) v
+
+other_place : (g face : ℕ) → (g == face) ≡ false → g ≢ face
+other_place g face h e = true≢false (sym (eq-eqb g face e) ∙ h)
+
+-- a length and a last way are written
+pub put_reach : (t : List (Option Reach)) (ns mid : List ℕ) (ps midst : List (Option (ℕ × ℕ))) (face : ℕ) (r : Reach) → reaches_of ns ps ≡ t
+    → ((f : ℕ) → get_or mid f no_length ≡ get_or ns f no_length) → ((f : ℕ) → get_or midst f None ≡ get_or ps f None)
+    → face < length mid → face < length midst → r.length < no_length
+    → IsLabelled (reach_at t) (reach_at (reaches_of (set mid face r.length) (set midst face r.last))) face r
+put_reach t ns mid ps midst face r v en ep hn hp small =
+    let ns' = set mid face r.length in
+    let ps' = set midst face r.last in
+    record {
+      here = reach_read ns' ps' face ∙ ap (λ z. reach_from z (get_or ps' face None)) (get_or-set_same mid face r.length no_length hn) ∙
+          ap (reach_from r.length) (get_or-set_same midst face r.last None hp) ∙ from_some r.length r.last (λ e. omega (arith, e, small));
+      others = λ g h.
+          let other = other_place g face h in
+          reach_read ns' ps' g ∙ ap (λ z. reach_from z (get_or ps' g None)) (get_or-set_other mid face g r.length no_length other ∙ en g) ∙
+          ap (reach_from (get_or ns g no_length)) (get_or-set_other midst face g r.last None other ∙ ep g) ∙
+          sym (reach_read ns ps g) ∙ ap (λ z. reach_at z g) v;
+    }
+
+-- a length is taken away
+past : (ns : List ℕ) (f : ℕ) → length ns ≤ f → get_or ns f no_length ≡ no_length
+past [] f h = refl
+past (n ∷ ns) zero h = absurd (omega (arith, h))
+past (n ∷ ns) (suc f) h = past ns f (omega (arith, h))
+
+pub take_reach : (t : List (Option Reach)) (ns : List ℕ) (ps : List (Option (ℕ × ℕ))) (face : ℕ) → reaches_of ns ps ≡ t
+    → face < length ns → IsUnlabelled (reach_at t) (reach_at (reaches_of (set ns face no_length) ps)) face
+take_reach t ns ps face v h =
+    let ns' = set ns face no_length in
+    record {
+      here = reach_read ns' ps face ∙ from_none (get_or ns' face no_length) (get_or ps face None) (get_or-set_same ns face no_length no_length h);
+      others = λ g o. reach_read ns' ps g ∙ ap (λ z. reach_from z (get_or ps g None)) (get_or-set_other ns face g no_length no_length (other_place g face o)) ∙
+          sym (reach_read ns ps g) ∙ ap (λ z. reach_at z g) v;
+    }
+
+pub none_behind : (t : List (Option Reach)) (ns : List ℕ) (ps : List (Option (ℕ × ℕ))) (face : ℕ) → reaches_of ns ps ≡ t
+    → length ns ≤ face → IsUnlabelled (reach_at t) (reach_at t) face
+none_behind t ns ps face v h = record {
+  here = read_none t ns ps face no_length v (sym (past ns face h)) refl;
+  others = λ g o. refl;
+}

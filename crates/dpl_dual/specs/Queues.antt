@@ -6,8 +6,8 @@ use Rattle.std.specs.List.{flat_map}
 abbrev pub all_of : List (List (ℕ × ℕ)) → List (ℕ × ℕ)
 all_of lanes = flat_map (λ lane. lane) lanes
 
--- the first of the queues before a place are empty where there is no best one, which is not empty
-abbrev pub HasFirst : List (List (ℕ × ℕ)) → ℕ → Option (ℕ × ℕ) → Type 0
-HasFirst lanes n best =
-    MatchOption best ((i : ℕ) → i < n → slice_index_or lanes i [] ≡ [])
-    (λ b. (b.1 < length lanes) × (0 < length (slice_index_or lanes b.1 [])))
+-- at the place labels wait, and without a place no label waits
+abbrev pub HasFirst : List (List (ℕ × ℕ)) → Option ℕ → Type 0
+HasFirst lanes place =
+    MatchOption place ((i : ℕ) → i < length lanes → slice_index_or lanes i [] ≡ [])
+    (λ k. (k < length lanes) × (0 < length (slice_index_or lanes k [])))

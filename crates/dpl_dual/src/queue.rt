@@ -1,7 +1,7 @@
 //! Labels that wait, each a length and a face. Those that came over ways of one length have a queue of
 //! their own: where they come in the order of their lengths, the nearest of all is the first of a queue.
 
-ghost use Rattle.std.specs.Prelude.{◌≡◌, ℕ, ◌+◌, ◌⊎◌, Some, ◌<◌, ◌++◌, ◌∷◌, [], length, slice_index_or, slice_set, ⊤, IfOk, OnOk, MatchOption};
+ghost use Rattle.std.specs.Prelude.{◌≡◌, true, ◌<◌, ◌++◌, ◌∷◌, [], length, slice_index_or, slice_set, ⊤, IfOk, OnOk, MatchBool, MatchOption};
 ghost use Rattle.std.specs.List.Sorted.{IsPermutation};
 ghost use Rattle.dpl_dual.specs.Queues.{all_of, HasFirst};
 
@@ -79,15 +79,22 @@ impl Lane {
         None
     }
 
-    /// The length of the first label.
+    /// Whether labels wait.
     #[inline(always)]
-    fn first(&self) -> Option<u64>
-        ensures { MatchOption result (self.now ≡ []) (λ _. 0 < length self.now) }
+    fn waits(&self) -> bool
+        ensures { MatchBool result (0 < length self.now) (self.now ≡ []) }
     {
+        self.taken < self.labels.len()
+    }
+
+    /// The length of the first label, and the greatest number where none waits.
+    #[inline(always)]
+    fn first(&self) -> u64 {
         if self.taken < self.labels.len() {
-            return Some(self.labels[self.taken].0);
+            self.labels[self.taken].0
+        } else {
+            u64::MAX
         }
-        None
     }
 }
 
@@ -106,6 +113,7 @@ fn place_of(lanes: &[Lane], way: u64) -> Option<usize>
 }
 
 /// The place of the queue for ways of a length, which is made where there is none.
+#[inline(always)]
 fn place_for(alloc: Global, lanes: &mut Vec<Lane>, way: u64) -> Result<usize, AllocError>
     ensures place { IfOk result (λ k. k < length lanes.new.items) }
     ensures same { OnOk result (all_of lanes.new.items ≡ all_of lanes.old.items) }
@@ -153,46 +161,56 @@ fn take(lanes: &mut [Lane], place: usize) -> Option<(u64, u32)>
     lane.pop()
 }
 
-/// The one of a length at a place and the best so far that is less.
+/// The place of the queue whose first label is the nearest, if labels wait.
 #[inline(always)]
-fn nearer(best: Option<(u64, usize)>, length: u64, place: usize) -> (u64, usize)
-    ensures { (result ≡ (length, place)) ⊎ (best ≡ Some result) }
-{
-    match best {
-        Some(other) => {
-            if length < other.0 {
-                (length, place)
-            } else {
-                other
-            }
+fn nearest(lanes: &[Lane]) -> usize {
+    let mut place = 0;
+    let mut least = u64::MAX;
+    for k in 0..lanes.len() {
+        let length = lanes[k].first();
+        if length < least {
+            least = length;
+            place = k;
         }
-        None => (length, place),
+    }
+    place
+}
+
+/// Whether labels wait in the queue at a place.
+#[inline(always)]
+fn waits_at(lanes: &[Lane], place: usize) -> bool
+    ensures { result ≡ true → (place < length lanes.now) ×
+        (0 < length (slice_index_or lanes.now place [])) }
+{
+    match lanes.get(place) {
+        Some(lane) => lane.waits(),
+        None => false,
     }
 }
 
-/// The nearer one of the best first label so far and that of the queue at a place.
-#[inline(always)]
-fn nearest_step(lanes: &[Lane], place: usize, best: Option<(u64, usize)>) -> Option<(u64, usize)>
-    requires place { place < length lanes.now }
-    requires best { HasFirst lanes.now place best }
-    ensures { HasFirst lanes.now (place + 1) result }
+/// The place of the first queue in which labels wait.
+fn first_waiting(lanes: &[Lane]) -> Option<usize>
+    ensures { HasFirst lanes.now result }
 {
-    match lanes[place].first() {
-        Some(length) => Some(nearer(best, length, place)),
-        None => best,
+    for k in 0..lanes.len() {
+        let lane = &lanes[k];
+        if lane.waits() {
+            return Some(k);
+        }
     }
+    None
 }
 
-/// The place of the queue whose first label is the nearest.
+/// The place of a queue in which labels wait, that of the nearest one.
 #[inline(always)]
-fn nearest(lanes: &[Lane]) -> Option<(u64, usize)>
-    ensures { HasFirst lanes.now (length lanes.now) result }
+fn next_place(lanes: &[Lane]) -> Option<usize>
+    ensures { HasFirst lanes.now result }
 {
-    let mut best = None;
-    for place in 0..lanes.len() {
-        best = nearest_step(lanes, place, best);
+    let place = nearest(lanes);
+    if waits_at(lanes, place) {
+        return Some(place);
     }
-    best
+    first_waiting(lanes)
 }
 
 /// Labels that wait. Contracts see a list of them, in some order.
@@ -244,8 +262,8 @@ impl Waiting {
         ensures { MatchOption result ((self.old ≡ []) × (self.new ≡ []))
             (λ label. IsPermutation self.old (label ∷ self.new)) }
     {
-        match nearest(&self.lanes) {
-            Some((_, place)) => take(&mut self.lanes, place),
+        match next_place(&self.lanes) {
+            Some(place) => take(&mut self.lanes, place),
             None => None,
         }
     }

@@ -2,8 +2,8 @@
 
 ghost use Rattle.std.specs.Prelude.{◌≡◌, ℕ, ◌<◌, [], None, is_some, option_map, false, OnOk, MatchBool};
 ghost use Rattle.dpl_dual.specs.Searches.{IsLabelled, AreListed};
-ghost use Rattle.dpl_dual.specs.Labels.{labels, IsFar, IsUnderWay, AreReachedAlso, WaitsAlso, IsAtRest};
-ghost use Rattle.dpl_dual.specs.Tables.{reach_at};
+ghost use Rattle.dpl_dual.specs.Labels.{labels, IsFar, IsSought, IsUnderWay, AreReachedAlso, WaitsAlso, IsAtRest};
+ghost use Rattle.dpl_dual.specs.Tables.{no_length, reach_at};
 
 use crate::crosses::Cross;
 use crate::queue::Waiting;
@@ -57,7 +57,8 @@ pub fn has_length(search: &Search, face: u32, length: u64) -> bool
 /// Gives a face another label, whose ways are not to be tried.
 #[inline(always)]
 pub fn note(search: &mut Search, face: u32, reach: Reach, known: bool) -> Result<(), AllocError>
-    requires { known ≡ is_some (labels search.old face) }
+    requires known { known ≡ is_some (labels search.old face) }
+    requires small { reach.length < no_length }
     ensures label { OnOk result (IsLabelled (labels search.old) (labels search.new) face reach) }
     ensures reached { OnOk result (AreReachedAlso (labels search.old face) face
         search.old.reached.items search.new.reached.items) }
@@ -79,7 +80,8 @@ pub fn label(
     reach: Reach,
     known: bool,
 ) -> Result<(), AllocError>
-    requires { known ≡ is_some (labels search.old face) }
+    requires known { known ≡ is_some (labels search.old face) }
+    requires small { reach.length < no_length }
     ensures label { OnOk result (IsLabelled (labels search.old) (labels search.new) face reach) }
     ensures reached { OnOk result (AreReachedAlso (labels search.old face) face
         search.old.reached.items search.new.reached.items) }
@@ -116,9 +118,9 @@ fn renew(search: &mut Search, faces: u32) -> Result<(), AllocError>
     Ok(())
 }
 
-/// The length of the first way. The face where a search begins waits among those over ways of this length.
-fn first_length(ways: &[Cross]) -> u64 {
-    match ways.first() {
+/// The length of the first way of a row. The face where a search begins waits among those over ways of this length.
+fn first_length(row: &[Cross]) -> u64 {
+    match row.first() {
         Some(way) => way.length,
         None => 0,
     }
@@ -126,6 +128,7 @@ fn first_length(ways: &[Cross]) -> u64 {
 
 /// Begins a search in the memory of an earlier one: the first face alone is reached.
 pub fn begin(sought: &Sought<'_>, search: &mut Search) -> Result<(), AllocError>
+    requires sought { IsSought sought.now }
     requires from { sought.now.from < sought.now.faces }
     requires some { 0 < sought.now.limit }
     requires rest { IsAtRest search.old }
@@ -136,6 +139,12 @@ pub fn begin(sought: &Sought<'_>, search: &mut Search) -> Result<(), AllocError>
         length: 0,
         last: None,
     };
-    label(search, first_length(sought.ways), sought.from, reach, false)?;
+    label(
+        search,
+        first_length(sought.rows.row(sought.from as usize)),
+        sought.from,
+        reach,
+        false,
+    )?;
     Ok(())
 }

@@ -1,6 +1,6 @@
 use Rattle.std.proofs.Common.{arith}
 use Rattle.dpl_dual.proofs.TableLemmas.{filled}
-use Rattle.dpl_dual.proofs.table.fill.Goals as goal
+use Rattle.dpl_dual.proofs.table.fill_lengths.Goals as goal
 
 pub returns-in_ok-resize-clause-same : goal.returns-in_ok-resize-clause-same
 returns-in_ok-resize-clause-same c i =
