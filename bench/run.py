@@ -230,6 +230,41 @@ def strip(n):
         yield (x, y, x + 100, y + 100)
 
 
+def parts_apart(boxes, count):
+    """So many copies of some boxes, far from one another."""
+    boxes = list(boxes)
+    for k in range(count):
+        x, y = 100_000 * (k % 4), 100_000 * (k // 4)
+        yield from ((x + x1, y + y1, x + x2, y + y2) for x1, y1, x2, y2 in boxes)
+
+
+def two_combs(n):
+    """Two shapes: n teeth upward from a spine, and n teeth of another one downward between them."""
+    yield (0, -20, 40 * n, 0)
+    yield (0, 600, 40 * n, 620)
+    for i in range(n):
+        yield (40 * i, -10, 40 * i + 10, 400)
+        yield (40 * i + 20, 200, 40 * i + 30, 610)
+
+
+def combs_back_to_back(n):
+    """Two shapes: n teeth downward from a spine, and n teeth of another one upward, above."""
+    yield (0, -20, 40 * n, 0)
+    yield (0, 600, 40 * n, 620)
+    for i in range(n):
+        yield (40 * i, -400, 40 * i + 10, -10)
+        yield (40 * i + 20, 610, 40 * i + 30, 1000)
+
+
+def long_teeth(n):
+    """Two shapes as two combs, but the teeth of the first are far longer than the widest spacing."""
+    yield (0, -20, 40 * n, 0)
+    yield (0, 1_000_200, 40 * n, 1_000_220)
+    for i in range(n):
+        yield (40 * i, -10, 40 * i + 10, 1_000_000)
+        yield (40 * i + 20, 999_000, 40 * i + 30, 1_000_210)
+
+
 def boxes_between(n, places):
     """About n contacts, four close to each, and a small box between four of them in so many places: four odd faces each."""
     side = int(n**0.5)
@@ -297,6 +332,13 @@ def single():
     yield "random boxes at space 10,000, refused", layout(random_boxes(40_000)), WIDE
     yield "hanging comb at space 100,000, n = 24500", layout(hanging_comb(24_500)), WIDEST
     yield "the same, n = 49000", layout(hanging_comb(49_000)), WIDEST
+    yield "two combs at space 100,000, n = 12000", layout(two_combs(12_000)), WIDEST
+    yield "two combs, n = 24000", layout(two_combs(24_000)), WIDEST
+    yield "combs back to back at space 100,000, n = 12000", layout(combs_back_to_back(12_000)), WIDEST
+    yield "combs back to back, n = 24000", layout(combs_back_to_back(24_000)), WIDEST
+    yield "two combs with long teeth at space 100,000, n = 8000", layout(long_teeth(8_000)), WIDEST
+    ten = layout(parts_apart(random_boxes(5_000, 40), 10))
+    yield "ten parts of 5,000 random boxes: 1,992 odd faces in each", ten, OPTIONS
 
 
 def layers(named):
