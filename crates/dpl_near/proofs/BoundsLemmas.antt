@@ -23,7 +23,12 @@ second_less : (a b r : ℕ) → a * a + b * b < r * r → b < r
 second_less a b r h = elim (cases_lt b r) [ inl l ↦ l | inr l ↦ let s = square_le r b l in absurd (omega arith) ]
 
 pub close_meets : (r other : Corners) (reach : ℕ) → AreClose (IsIn r) (IsIn other) reach
-    → Meets (bounds_of other) (record { left = r.x1 -ℤ (pos reach -ℤ pos 1); right = r.x2 +ℤ (pos reach -ℤ pos 1); low = r.y1 -ℤ (pos reach -ℤ pos 1); high = r.y2 +ℤ (pos reach -ℤ pos 1) })
+    → Meets (bounds_of other) (record {
+      left = r.x1 -ℤ (pos reach -ℤ pos 1);
+      right = r.x2 +ℤ (pos reach -ℤ pos 1);
+      low = r.y1 -ℤ (pos reach -ℤ pos 1);
+      high = r.y2 +ℤ (pos reach -ℤ pos 1);
+    })
 close_meets r other reach c =
     let column : between c.x c.x' < reach = first_less _ (between c.y c.y') _ c.near in
     let row : between c.y c.y' < reach = second_less (between c.x c.x') _ _ c.near in

@@ -79,7 +79,8 @@ returns-in_ok-extend_from_slice-in-Some-clause-all c = λ e.
     (wider_all rects c.args.tiling.now.label.now c.as_slice-in-Some.result.now c.args.tiling.now.space c.args.tiling.now.space
     c.args.i _ c.lane_of-lane.result c.in-Some.span.from c.in-Some.span.to (corners_of c.part_of-part.result) _ _ _ _
     (c.lane_of-lane.ensures.from ∙ ap first_of tile) (c.lane_of-lane.ensures.to ∙ ap last_of tile) c.requires.shut left
-    span (part ∙ ap (λ (r : Corners). part_of r c.in-Some.span.from c.in-Some.span.to) tile) refl (rw c.as_slice-in-Some.ensures.value o) c.in_ok-wider-in-Some.ensures)
+    span (part ∙ ap (λ (r : Corners). part_of r c.in-Some.span.from c.in-Some.span.to) tile) refl
+    (rw c.as_slice-in-Some.ensures.value o) c.in_ok-wider-in-Some.ensures)
 
 pub returns-in-None-clause-shut : goal.returns-in-None-clause-shut
 returns-in-None-clause-shut c =

@@ -12,4 +12,5 @@ returns c =
     let g2 : SFits w64 c.args.bounds.now.right = search rules in
     let g3 : SFits w64 c.args.bounds.now.low = search rules in
     let g4 : SFits w64 c.args.bounds.now.high = search rules in
-    gap_from (corners_of c.args.rect.now) c.args.bounds.now _ _ (simp to_z-of_z at c.least_apart-dx.ensures.least) (simp to_z-of_z at c.least_apart-dy.ensures.least)
+    gap_from (corners_of c.args.rect.now) c.args.bounds.now _ _
+    (simp to_z-of_z at c.least_apart-dx.ensures.least) (simp to_z-of_z at c.least_apart-dy.ensures.least)
