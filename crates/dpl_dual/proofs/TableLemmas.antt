@@ -1,6 +1,6 @@
 -- Tables of labels: places that are added, and labels that are forgotten.
-use Rattle.std.proofs.Common.{arith, ◌≡◌, ◌≢◌, ℕ, zero, suc, ◌==◌, ◌||◌, ◌∙◌, refl, sym, ap, true, false, inl, inr, Option, Some, None}
-use Rattle.std.proofs.Common.{List, [], ◌∷◌, ◌++◌, get_or, set, replicate, take, length, ◌<◌, ◌≤◌, eq-eqb, cond}
+use Rattle.std.proofs.Common.{arith, ◌≡◌, ◌≢◌, ℕ, zero, suc, ◌==◌, ◌∙◌, refl, sym, ap, true, false, inl, inr, Option, Some, None}
+use Rattle.std.proofs.Common.{List, [], ◌∷◌, ◌++◌, get_or, set, replicate, take, length, ◌<◌, ◌≤◌, eq-eqb}
 use Rattle.std.specs.Prelude.{is_some}
 use Rattle.std.proofs.lemmas.Bool.{ne_eqb, eqb-true, cases_eq, cond-true, cond-false, or_cases, true≢false, false≢true}
 use Rattle.std.proofs.lemmas.List.{take_all, get_or-set_same, get_or-set_other}

@@ -8,6 +8,7 @@ ghost use Rattle.dpl_dual.specs.Parities.{AreNamed};
 
 use crate::crosses::Cross;
 use crate::measuring::measure;
+use crate::starts::Start;
 use crate::types::Distances;
 use dpl_list::Grouped;
 use std::alloc::{AllocError, Global};
@@ -40,7 +41,11 @@ fn name_all(
     let mut reach = Distances::new(alloc);
     for start in 0..faces {
         if names[start as usize] == faces {
-            measure(ways, rows, faces, start, u64::MAX, &mut reach)?;
+            let here = [Start {
+                face: start,
+                far: 0,
+            }];
+            measure(ways, rows, faces, &here, u64::MAX, &mut reach)?;
             name(names, reach.reached(), start);
         }
     }

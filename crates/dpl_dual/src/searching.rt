@@ -1,14 +1,17 @@
 //! What a search for distances keeps.
 
-ghost use Rattle.std.specs.Prelude.{◌≡◌, ℕ, ◌<◌, [], None, is_some, option_map, false, OnOk, MatchBool};
+ghost use Rattle.std.specs.Prelude.{◌≡◌, ℕ, ◌<◌, ◌≤◌, ◌++◌, ◌∷◌, List, [], None, Some, is_some, option_map, false, OnOk, MatchBool};
+ghost use Rattle.dpl_dual.specs.declared.crosses.Cross.{Cross};
+ghost use Rattle.dpl_dual.specs.declared.starts.Start.{Start};
 ghost use Rattle.dpl_dual.specs.Searches.{IsLabelled, AreListed};
-ghost use Rattle.dpl_dual.specs.Labels.{labels, IsFar, IsSought, IsUnderWay, AreReachedAlso, WaitsAlso, IsAtRest};
+ghost use Rattle.dpl_dual.specs.Labels.{labels, IsFar, IsSought, IsUnderWay, IsBegun, AreReachedAlso, WaitsAlso, IsAtRest};
 ghost use Rattle.dpl_dual.specs.Tables.{no_length, reach_at};
 
 use crate::crosses::Cross;
 use crate::queue::Waiting;
 use crate::reach::Reach;
 use crate::sought::Sought;
+use crate::starts::Start;
 use crate::table::Table;
 use std::alloc::{AllocError, Global};
 
@@ -50,6 +53,17 @@ pub fn has_length(search: &Search, face: u32, length: u64) -> bool
 {
     match search.table.get(face) {
         Some(reach) => reach.length == length,
+        None => false,
+    }
+}
+
+/// Whether there is a length, and it is no more than another.
+pub fn is_at_most(known: Option<u64>, next: u64) -> bool
+    ensures { MatchBool result ((o : ℕ) × (known ≡ Some o) × (o ≤ next))
+        ((o : ℕ) → known ≡ Some o → next < o) }
+{
+    match known {
+        Some(old) => old <= next,
         None => false,
     }
 }
@@ -118,7 +132,7 @@ fn renew(search: &mut Search, faces: u32) -> Result<(), AllocError>
     Ok(())
 }
 
-/// The length of the first way of a row. The face where a search begins waits among those over ways of this length.
+/// The length of the first way of a row.
 fn first_length(row: &[Cross]) -> u64 {
     match row.first() {
         Some(way) => way.length,
@@ -126,25 +140,47 @@ fn first_length(row: &[Cross]) -> u64 {
     }
 }
 
-/// Begins a search in the memory of an earlier one: the first face alone is reached.
+/// The length of the ways among whose labels the starts wait: that of the first way at a start alone,
+/// and for several the length that no way has, so that they wait in a queue of their own.
+fn length_for(sought: &Sought<'_>) -> u64
+    requires { IsSought sought.now }
+{
+    match sought.starts {
+        [start] => first_length(sought.rows.row(start.face as usize)),
+        _ => 0,
+    }
+}
+
+/// Labels the face of a start, where the start is nearer than the limit and than the label that is there.
+fn begin_at(start: &Start, way: u64, limit: u64, search: &mut Search) -> Result<(), AllocError>
+    ensures { (faces : ℕ) (ways : List Cross) (starts : List Start) → start.now.face < faces →
+        IsBegun ways faces starts limit search.old →
+        OnOk result (IsBegun ways faces (starts ++ start.now ∷ []) limit search.new) }
+{
+    if start.far >= limit {
+        return Ok(());
+    }
+    let known = length_of(search, start.face);
+    if is_at_most(known, start.far) {
+        return Ok(());
+    }
+    let reach = Reach {
+        length: start.far,
+        last: None,
+    };
+    label(search, way, start.face, reach, known.is_some())
+}
+
+/// Begins a search in the memory of an earlier one: the starts alone are reached.
 pub fn begin(sought: &Sought<'_>, search: &mut Search) -> Result<(), AllocError>
     requires sought { IsSought sought.now }
-    requires from { sought.now.from < sought.now.faces }
-    requires some { 0 < sought.now.limit }
     requires rest { IsAtRest search.old }
     ensures { OnOk result (IsUnderWay sought.now (λ f. false) search.new) }
 {
     renew(search, sought.faces)?;
-    let reach = Reach {
-        length: 0,
-        last: None,
-    };
-    label(
-        search,
-        first_length(sought.rows.row(sought.from as usize)),
-        sought.from,
-        reach,
-        false,
-    )?;
+    let way = length_for(sought);
+    for start in sought.starts {
+        begin_at(start, way, sought.limit, search)?;
+    }
     Ok(())
 }

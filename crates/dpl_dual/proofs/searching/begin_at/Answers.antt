@@ -1,0 +1,18 @@
+use Rattle.std.proofs.Common.{refl}
+use Rattle.dpl_dual.proofs.WorkLemmas.{begun_far, begun_already, begun_ok}
+use Rattle.dpl_dual.proofs.searching.begin_at.Goals as goal
+
+pub returns-then-start-limit : goal.returns-then-start-limit
+returns-then-start-limit c = λ faces ways starts _ k.
+    begun_far ways faces starts c.args.limit c.args.search.now c.args.start.now c.if-start-limit.true k
+
+pub returns-then-is_at_most : goal.returns-then-is_at_most
+returns-then-is_at_most c = λ faces ways starts _ k.
+    let e = c.if-is_at_most.ensures in
+    begun_already ways faces starts c.args.limit c.args.search.now c.args.start.now _ e.0 c.length_of-known.ensures e.1 e.2 k
+
+pub returns : goal.returns
+returns c = λ faces ways starts below k.
+    begun_ok c.label.result ways faces starts c.args.limit c.args.search.now c.label.new.search c.args.start.now _ _ below
+    c.if-start-limit.false refl refl c.length_of-known.ensures c.if-is_at_most.ensures k
+    c.label.ensures.label c.label.ensures.reached c.label.ensures.queue
