@@ -1,25 +1,23 @@
 -- Walks around a list of faces, whose marks are cleared again.
 use Rattle.std.proofs.Common.{arith, ◌≡◌, ℕ, zero, suc, ◌+◌, ◌*◌, ◌/◌, ◌%◌, ◌<◌, ◌≤◌, ◌&&◌, refl, sym, ap}
-use Rattle.std.proofs.Common.{◌∙◌, Bool, true, false, cond, inl, inr, List, [], ◌∷◌, ◌++◌, length, get_or, take, set}
+use Rattle.std.proofs.Common.{◌∙◌, Bool, true, false, cond, inl, inr, List, [], ◌∷◌, length, get_or, take, set}
 use Rattle.std.proofs.Common.{get_or-set_same, get_or-set_other}
-use Rattle.std.specs.Prelude.{All, not, count_by, filter, ◌||◌}
+use Rattle.std.specs.Prelude.{not, count_by, filter}
 use Rattle.std.specs.List.{range_with_len}
-use Rattle.std.proofs.lemmas.Bool.{ne_eqb, cases_eq, cases_lt, cases_Bool, cond-true, cond-false, and_parts}
+use Rattle.std.proofs.lemmas.Bool.{cases_eq, cases_lt, cases_Bool, cond-true, cond-false, and_parts}
 use Rattle.std.proofs.lemmas.Bool.{and_right, not-true, true≢false, false≢true, false_from_ne_true}
 use Rattle.std.proofs.lemmas.List.{get_or_past, take_all}
-use Rattle.std.proofs.lemmas.List.Elements.{All-nil, All-push, All-weaker}
 use Rattle.std.proofs.lemmas.List.Sums.{sum_by-cons, sum_by-append}
 use Rattle.dpl_sign.specs.declared.graphs.Signed.{Signed}
 use Rattle.dpl_sign.specs.declared.walks.Walk.{Walk}
 use Rattle.dpl_sign.specs.Drawings.{is_in}
 use Rattle.dpl_cycle.specs.Sums.{sum_on}
 use Rattle.dpl_laminar.specs.Families.{has}
-use Rattle.dpl_laminar.proofs.Numbers.{place_in, taken_has, not_taken}
+use Rattle.dpl_laminar.proofs.Numbers.{taken_has, not_taken}
 use Rattle.dpl_map.specs.Views.{MapView}
 use Rattle.dpl_map.specs.Sides.{IsMap, is_kept, face, is_odd_face, odd_faces_in, row}
 use Rattle.dpl_pack.specs.Moats.{IsWritten}
 use Rattle.dpl_pack.specs.Marks.{AreClear, AreCleared}
-use Rattle.dpl_pack.proofs.CodeLemmas.{has_push, pushed_same}
 use Rattle.dpl_pack.specs.Traces.{is_seen, AreWhole, IsRoundWalk, IsAround, odd_list}
 use Rattle.dpl_map.proofs.RowLemmas.{chosen_split}
 
