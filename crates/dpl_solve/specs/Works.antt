@@ -5,7 +5,6 @@ use Rattle.dpl_map.specs.Views.{view_of}
 use Rattle.dpl_map.specs.Built.{IsMapOf}
 use Rattle.dpl_dual.specs.Duals.{IsDual}
 use Rattle.dpl_pack.specs.Marks.{AreClear}
-use Rattle.dpl_pack.specs.Noted.{AreBlank}
 use Rattle.dpl_solve.specs.declared.drawn.Drawn.{Drawn}
 use Rattle.dpl_solve.specs.declared.work.Marks.{Marks}
 use Rattle.dpl_solve.specs.declared.work.Work.{Work}
@@ -23,9 +22,7 @@ pub record AreFree (w : Drawn) (marks : Marks) : Type 0 where
   pub inside : AreClear marks.inside.items
   pub seen : AreClear marks.seen.items
 
--- there is a place for each edge, no mark is set, and no depth is noted
+-- there is a place for each edge, and no mark is set
 pub record IsReady (w : Drawn) (work : Work) : Type 0 where
   pub places : length work.joined.edges.items ≡ length w.graph.now.edges
   pub marks : AreFree w work.marks
-  pub depths : length work.deep.items ≡ w.dual.now.faces
-  pub blank : AreBlank work.deep.items

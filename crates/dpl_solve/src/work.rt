@@ -6,7 +6,6 @@ ghost use Rattle.dpl_solve.specs.Works.{IsDrawn, IsReady};
 
 use crate::drawn::Drawn;
 use dpl_dual::types::Distances;
-use dpl_pack::NO_DEPTH;
 use dpl_sign::Cycle;
 use std::alloc::{AllocError, Global};
 
@@ -26,13 +25,12 @@ pub struct Joined {
     pub places: Vec<usize>,
 }
 
-/// The edges that are joined so far, the walks so far, and the marks and the depths for the next ones.
+/// The edges that are joined so far, the walks so far, and the marks for the next ones.
 #[derive(Drop)]
 pub struct Work {
     pub joined: Joined,
     pub cycles: Vec<Cycle>,
     pub marks: Marks,
-    pub deep: Vec<u64>,
 }
 
 impl Work {
@@ -48,7 +46,6 @@ impl Work {
         let faces = drawn.map.faces() as usize;
         let inside = vec![in alloc; false; faces]?;
         let seen = vec![in alloc; false; 2 * count]?;
-        let deep = vec![in alloc; NO_DEPTH; faces]?;
         Ok(Work {
             joined: Joined {
                 edges,
@@ -57,7 +54,6 @@ impl Work {
             },
             cycles: Vec::new(alloc),
             marks: Marks { inside, seen },
-            deep,
         })
     }
 }
