@@ -12,6 +12,7 @@ use std::marker::Model;
 const NO_LENGTH: u64 = 18446744073709551615;
 
 /// Gives a list of lengths so many places, if it has fewer.
+#[inline(always)]
 fn fill_lengths(lengths: &mut Vec<u64>, count: usize) -> Result<(), AllocError>
     ensures count { OnOk result (count ≤ length lengths.new.items) }
     ensures same { OnOk result ((f : ℕ) → slice_index_or lengths.new.items f no_length
@@ -24,6 +25,7 @@ fn fill_lengths(lengths: &mut Vec<u64>, count: usize) -> Result<(), AllocError>
 }
 
 /// Gives a list of last ways so many places, if it has fewer.
+#[inline(always)]
 fn fill_lasts(lasts: &mut Vec<Option<(u32, u32)>>, count: usize) -> Result<(), AllocError>
     ensures count { OnOk result (count ≤ length lasts.new.items) }
     ensures same { OnOk result ((f : ℕ) → slice_index_or lasts.new.items f None
