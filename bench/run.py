@@ -265,6 +265,44 @@ def long_teeth(n):
         yield (40 * i + 20, 999_000, 40 * i + 30, 1_000_210)
 
 
+def bars_above_teeth(n):
+    """Two combs: n level bars, one above the other, over n upright teeth that are far shorter."""
+    yield (0, -20, 40 * n, 0)
+    yield (0, 1000, 20, 1000 + 40 * n)
+    for i in range(n):
+        yield (40 * i, -10, 40 * i + 10, 400)
+        yield (10, 1000 + 40 * i, 40 * n, 1010 + 40 * i)
+
+
+def nested_stairs(count, steps):
+    """So many staircases of level and upright boxes by turns, inside one another."""
+    for k in range(count):
+        x, y = -40 * k, 40 * k
+        for i in range(steps):
+            if i % 2 == 0:
+                yield (x, y, x + 410, y + 10)
+                x += 400
+            else:
+                yield (x, y, x + 10, y + 410)
+                y += 400
+
+
+def shaken_grid(n, pitch, by, seed):
+    """A square grid of about n small boxes, each moved at random by up to so much: most faces are odd."""
+    source, side = random.Random(seed), int(n**0.5)
+    for k in range(side * side):
+        x = pitch * (k % side) + source.randint(-by, by)
+        y = pitch * (k // side) + source.randint(-by, by)
+        yield (2 * x, 2 * y, 2 * x + 40, 2 * y + 40)
+
+
+def shaken_grids(count):
+    """So many of them, far from one another."""
+    for k in range(count):
+        x, y = 20_000 * (k % 8), 20_000 * (k // 8)
+        yield from ((x + x1, y + y1, x + x2, y + y2) for x1, y1, x2, y2 in shaken_grid(1_600, 45, 8, k))
+
+
 def boxes_between(n, places):
     """About n contacts, four close to each, and a small box between four of them in so many places: four odd faces each."""
     side = int(n**0.5)
@@ -337,8 +375,13 @@ def single():
     yield "combs back to back at space 100,000, n = 12000", layout(combs_back_to_back(12_000)), WIDEST
     yield "combs back to back, n = 24000", layout(combs_back_to_back(24_000)), WIDEST
     yield "two combs with long teeth at space 100,000, n = 8000", layout(long_teeth(8_000)), WIDEST
+    yield "two combs with long teeth, n = 24000", layout(long_teeth(24_000)), WIDEST
+    yield "bars above teeth at space 100,000, n = 20000", layout(bars_above_teeth(20_000)), WIDEST
+    yield "300 nested staircases of 60 steps at 100,000", layout(nested_stairs(300, 60)), WIDEST
     ten = layout(parts_apart(random_boxes(5_000, 40), 10))
     yield "ten parts of 5,000 random boxes: 1,992 odd faces in each", ten, OPTIONS
+    yield "a shaken grid: 1,816 odd faces of 1,976", layout(shaken_grid(1_600, 45, 8, 1)), OPTIONS
+    yield "31 shaken grids: 57,956 odd faces in 31 parts", layout(shaken_grids(31)), OPTIONS
 
 
 def layers(named):
