@@ -5,7 +5,7 @@ ghost use Rattle.dpl_index.specs.Stops.{IsIndex, NamesAll};
 
 use crate::bounds::Bounds;
 use crate::kinds::kind_at;
-use crate::stops::{Stop, gather, places, singles, sizes, sort};
+use crate::stops::{Stop, places, sort, stops_at};
 use std::alloc::{AllocError as NoMemory, Global};
 
 /// A stop for each item, those of one kind together: a walk that leaves out the stops behind one whose items are all of
@@ -14,14 +14,11 @@ pub fn stops_by_kind(alloc: Global, items: &[Bounds], kinds: &[u32]) -> Result<V
     ensures index { IfOk result (λ v. IsIndex items.now v.items) }
     ensures kinds { IfOk result (λ v. HasKinds kinds.now v.items) }
 {
-    let mut places = places(alloc, items)?;
+    let mut places = places(alloc, items, kinds)?;
     sort(&mut places);
     let mut groups = with_kinds(alloc, places.as_slice(), kinds)?;
     group(&mut groups)?;
-    let mut stops = singles(alloc, items, kinds, groups.as_slice())?;
-    let sizes = sizes(alloc, groups.as_slice())?;
-    gather(items, kinds, stops.as_mut_slice(), &sizes);
-    Ok(stops)
+    stops_at(alloc, items, kinds, groups.as_slice())
 }
 
 /// The same items in the same order, each with its kind.

@@ -1,5 +1,5 @@
 // Items found by their bounds and their kinds.
-ghost use Rattle.std.specs.Prelude.{◌≡◌, ◌⊎◌, false, ℕ, ◌<◌, ◌≤◌, length, OnOk, Some};
+ghost use Rattle.std.specs.Prelude.{◌≡◌, ◌⊎◌, false, ℕ, ◌<◌, ◌≤◌, length, All, OnOk, Some};
 ghost use Rattle.dpl_index.specs.Kinds.{AddsAsked, HasAskedFrom, HasKinds};
 ghost use Rattle.dpl_index.specs.Meetings.{Meets};
 ghost use Rattle.dpl_index.specs.Stops.{IsIndex};
@@ -50,7 +50,7 @@ impl Model for KindIndex {
 }
 
 impl KindIndex {
-    ghost use Rattle.std.specs.Prelude.{◌≡◌, ◌<◌, length, slice_index_or, IfOk, IfSome, OnOk};
+    ghost use Rattle.std.specs.Prelude.{◌≡◌, ◌<◌, length, slice_index_or, All, IfOk, IfSome, OnOk};
     ghost use Rattle.dpl_index.specs.Kinds.{HasAsked, HasAskedBehind, IsOrder};
 
     /// An index of items with these bounds and kinds. It takes about n log n steps for n of them.
@@ -128,10 +128,21 @@ impl KindIndex {
         }
         Ok(Some(found))
     }
+
+    /// Some of the numbers of items that are asked for: all, or one more than `most`.
+    pub fn some_asked(&self, alloc: Global, ask: &Ask, most: usize) -> Result<Vec<usize>, NoMemory>
+        ensures { IfOk result (λ v. All (λ i. i < length self.now.kinded.items) v.items) }
+    {
+        let (bounds, kinds) = (self.bounds.as_slice(), self.kinds.as_slice());
+        let stops = self.stops.as_slice();
+        let mut found = Vec::with_capacity(alloc, USUAL.min(stops.len()))?;
+        gather_asked(&mut found, bounds, kinds, stops, 0, ask, most)?;
+        Ok(found)
+    }
 }
 
-/// The numbers of the items that are asked for at the stops from one on; where there are more than `enough`, one more
-/// than that.
+/// The numbers of the items that are asked for at the stops from one on; where there are more than `enough`, some of
+/// them, one more than that.
 fn gather_asked(
     found: &mut Vec<usize>,
     items: &[Bounds],
@@ -143,7 +154,8 @@ fn gather_asked(
 ) -> Result<(), NoMemory>
     requires index { IsIndex items.now stops.now }
     requires kinds { HasKinds kinds.now stops.now }
-    ensures { OnOk result (length found.new.items ≤ enough →
+    ensures each { OnOk result (All (λ i. i < length items.now) found.new.items) }
+    ensures all { OnOk result (length found.new.items ≤ enough →
         HasAskedFrom (record { items = items.now; kinds = kinds.now }) ask.now stops.now from
         found.new.items) }
 {

@@ -9,6 +9,7 @@
 mod bounds;
 mod curve;
 mod grouping;
+mod groups;
 mod index;
 mod kinded;
 mod kinds;

@@ -7,6 +7,7 @@ ghost use Rattle.dpl_index.specs.Stops.{IsIndex, NamesAll};
 
 use crate::bounds::{Bounds, around};
 use crate::curve::{grain_of, place_of};
+use crate::groups::{group_at, groups_of, place_within};
 use crate::kinds::{common, kind_at};
 use std::alloc::{AllocError as NoMemory, Global};
 
@@ -29,22 +30,38 @@ pub fn stops_of(alloc: Global, items: &[Bounds], kinds: &[u32]) -> Result<Vec<St
     ensures index { IfOk result (λ v. IsIndex items.now v.items) }
     ensures kinds { IfOk result (λ v. HasKinds kinds.now v.items) }
 {
-    let mut places = places(alloc, items)?;
+    let mut places = places(alloc, items, kinds)?;
     sort(&mut places);
-    let mut stops = singles(alloc, items, kinds, places.as_slice())?;
-    let sizes = sizes(alloc, places.as_slice())?;
+    stops_at(alloc, items, kinds, places.as_slice())
+}
+
+/// A stop for each place.
+pub fn stops_at(
+    alloc: Global,
+    items: &[Bounds],
+    kinds: &[u32],
+    places: &[(u64, usize)],
+) -> Result<Vec<Stop>, NoMemory>
+    requires { NamesAll (length items.now) places.now }
+    ensures index { IfOk result (λ v. IsIndex items.now v.items) }
+    ensures kinds { IfOk result (λ v. HasKinds kinds.now v.items) }
+{
+    let mut stops = singles(alloc, items, kinds, places)?;
+    let sizes = sizes(alloc, places)?;
     gather(items, kinds, stops.as_mut_slice(), &sizes);
     Ok(stops)
 }
 
-/// The numbers of all items, each with its place on the curve.
-pub fn places(alloc: Global, items: &[Bounds]) -> Result<Vec<(u64, usize)>, NoMemory>
+/// The numbers of all items, each with its group and its place on the curve.
+pub fn places(alloc: Global, items: &[Bounds], kinds: &[u32]) -> Result<Vec<(u64, usize)>, NoMemory>
     ensures { IfOk result (λ v. NamesAll (length items.now) v.items) }
 {
     let grain = grain_of(items);
+    let groups = groups_of(alloc, kinds)?;
     let mut places = Vec::with_capacity(alloc, items.len())?;
     for i in 0..items.len() {
-        places.push((place_of(grain, &items[i]), i))?;
+        let group = group_at(&groups, kind_at(kinds, i));
+        places.push((place_within(group, place_of(grain, &items[i])), i))?;
     }
     Ok(places)
 }
@@ -56,7 +73,7 @@ pub fn sort(places: &mut Vec<(u64, usize)>)
 }
 
 /// A stop for each place, with the bounds and the kind of its item alone.
-pub fn singles(
+fn singles(
     alloc: Global,
     items: &[Bounds],
     kinds: &[u32],
@@ -81,7 +98,7 @@ pub fn singles(
 
 /// How many stops each stop is to hold, itself among them: the first holds all. The stops behind one, as far as it holds
 /// them, are held by four: those in each quarter of a square or of a half of one.
-pub fn sizes(alloc: Global, places: &[(u64, usize)]) -> Result<Vec<usize>, NoMemory> {
+fn sizes(alloc: Global, places: &[(u64, usize)]) -> Result<Vec<usize>, NoMemory> {
     let count = places.len();
     let mut sizes = vec![in alloc; 0usize; count]?;
     set(&mut sizes, 0, count);
@@ -136,7 +153,7 @@ fn size_at(sizes: &[usize], k: usize) -> usize {
 }
 
 /// Widens the bounds of the stops, from the last to the first.
-pub fn gather(items: &[Bounds], kinds: &[u32], stops: &mut [Stop], sizes: &[usize])
+fn gather(items: &[Bounds], kinds: &[u32], stops: &mut [Stop], sizes: &[usize])
     requires index { IsIndex items.now stops.old }
     requires kinds { HasKinds kinds.now stops.old }
     ensures index { IsIndex items.now stops.new }

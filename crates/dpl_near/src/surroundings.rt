@@ -12,7 +12,7 @@ ghost use Rattle.dpl_near.specs.Near.{AddsNear};
 use crate::bounds::{all_bounds, within_reach};
 use crate::pairing::all_around;
 use dpl_cell::{Rect, are_close};
-use dpl_index::{Ask, KindIndex};
+use dpl_index::{Ask, Bounds, KindIndex};
 use dpl_list::Grouped;
 use std::alloc::{AllocError as NoMemory, Global};
 use std::marker::Model;
@@ -62,7 +62,7 @@ impl<'a> Model for Surroundings<'a> {
 }
 
 impl<'a> Surroundings<'a> {
-    ghost use Rattle.std.specs.Prelude.{◌≡◌, ℕ, ◌≤◌, ◌<◌, length, IfOk, IfSome, map};
+    ghost use Rattle.std.specs.Prelude.{◌≡◌, ℕ, ◌≤◌, ◌<◌, length, All, IfOk, IfSome, map};
     ghost use Rattle.dpl_limits.specs.declared.TheConstants.{MOST_REACH, MOST_TILES};
     ghost use Rattle.dpl_cell.specs.Places.{corners_of};
     ghost use Rattle.dpl_near.specs.Around.{AreAround, HasOthers, Shaped};
@@ -181,6 +181,39 @@ impl<'a> Surroundings<'a> {
         let found = self.index.asked(alloc, &ask)?;
         let others = narrow(alloc, found.as_slice())?;
         Ok(others)
+    }
+
+    /// Some of the rectangles of other shapes than this one within so many columns and rows of a rectangle: all, or one
+    /// more than `most`.
+    pub fn some_beside(
+        &self,
+        alloc: Global,
+        rect: &Rect,
+        shape: u32,
+        columns: u64,
+        rows: u64,
+        most: usize,
+    ) -> Result<Vec<u32>, NoMemory>
+        requires columns { columns ≤ self.now.reach }
+        requires rows { rows ≤ self.now.reach }
+        ensures { IfOk result (λ v. All (λ j. j < length self.now.rects) v.items) }
+    {
+        let _rects = self.rects.len();
+        let (wide, high) = (within_reach(rect, columns), within_reach(rect, rows));
+        let far = Bounds {
+            left: wide.left,
+            right: wide.right,
+            low: high.low,
+            high: high.high,
+        };
+        let ask = Ask {
+            near: within_reach(rect, 1),
+            far,
+            kind: shape,
+        };
+        let found = self.index.some_asked(alloc, &ask, most)?;
+        let some = narrow(alloc, found.as_slice())?;
+        Ok(some)
     }
 }
 

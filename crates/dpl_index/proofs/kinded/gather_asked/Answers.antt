@@ -19,5 +19,5 @@ stops-preserved c =
     (λ d. get_or_default c.args.stops.now c.stops.at d blank c.stops-test.true) c.stops-test.true
     (c.may_hold.ensures c.if-may_hold.false) c.requires.index c.requires.kinds c.stops.invariant)
 
-pub returns : goal.returns
-returns c few = asked_ends _ _ c.args.stops.now c.args.from c.stops.at _ c.stops-test.false c.stops.invariant
+pub returns-clause-all : goal.returns-clause-all
+returns-clause-all c few = asked_ends _ _ c.args.stops.now c.args.from c.stops.at _ c.stops-test.false c.stops.invariant
