@@ -120,6 +120,18 @@ wider_so_far tiles label near space i lane old free found before f g s a inside 
       or_right _ _ (was lane old free before p a (rw (f, g) w) ∙ s.touched p k w n t);
 }
 
+-- what some rectangles block is added
+pub more_so_far : (tiles : List Corners) (label near : List ℕ) (space i : ℕ) (old found : List Stretch)
+    → AreShutSoFar tiles label space i old → All (λ k. k < length tiles) near
+    → AreBlocked tiles label space i near found → AreShutSoFar tiles label space i (old ++ found)
+more_so_far tiles label near space i old found s inside b = record {
+  each = λ p w t. elim (or_cases _ _ (sym (in_both old found p) ∙ t)) [
+    | inl u ↦ s.each p w u
+    | inr u ↦ let (m, k, n, e, h) = (b p w).0 u in (k, rw e at (inside m k n), h)
+  ];
+  touched = λ p k w n t. in_both old found p ∙ or_left _ _ (s.touched p k w n t);
+}
+
 part_by : (tile : Corners) (a b x y p : ℤ) (along : Bool) → lies_along_x tile ≡ along → IsIn tile x y
     → position_of tile x y ≡ p → IsWithin a b p → IsIn (part_of tile a b) x y
 part_by tile a b x y p true e h at w =

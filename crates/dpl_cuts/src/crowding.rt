@@ -1,8 +1,9 @@
 // Tiles with many others around them, most of which need not be looked at.
-ghost use Rattle.std.specs.Prelude.{◌≡◌, true, ℤ, ◌<◌, ◌≤◌, length, IfOk};
+ghost use Rattle.std.specs.Prelude.{◌≡◌, true, ℤ, ◌<◌, ◌≤◌, ◌≤ℤ◌, length, IfOk, OnOk};
+ghost use Rattle.dpl_limits.specs.declared.TheConstants.{MOST_REACH};
 ghost use Rattle.dpl_cell.specs.Cells.{IsWithin};
 ghost use Rattle.dpl_cell.specs.Stretches.{AreSeparate, is_in_stretches};
-ghost use Rattle.dpl_cuts.specs.Positions.{layer_of, rect_at};
+ghost use Rattle.dpl_cuts.specs.Positions.{first_of, last_of, layer_of, rect_at};
 ghost use Rattle.dpl_cuts.specs.Blocks.{AreShut, AreShutSoFar, MayBeKept};
 ghost use Rattle.dpl_cuts.specs.Stretches.{is_in_option, IsPartOf, Marks};
 ghost use Rattle.dpl_cuts.specs.Tilings.{IsAroundWithin, IsTiling, kept_of, surroundings_of, tiles_of};
@@ -11,15 +12,21 @@ ghost use Rattle.dpl_cuts.specs.Cuts.{AreCutPlaces};
 use crate::blocking::blocks;
 use crate::freeing::free_stretches;
 use crate::placing::cut_places;
-use crate::positions::{lane_of, part_of};
+use crate::positions::{lane_of, lies_along_x, part_of};
 use crate::shadowing::clipped;
 use crate::tiling::Tiling;
-use dpl_cell::Stretch;
+use dpl_cell::{Rect, Stretch};
 use dpl_near::Surroundings;
 use std::alloc::{AllocError, Global};
 
 /// Of a tile with more around it than so many only those are looked at that may block what others leave free.
 const FEW: usize = 64;
+
+/// So many of the tiles that may block a position are looked at first, and one more.
+const SOME: usize = 4;
+
+/// At most so often.
+const MOST_TURNS: usize = 64;
 
 /// Where the tile `i` is cut, ascending. The kept rectangles that share cells with it have these numbers.
 pub fn cuts_of<'a>(
@@ -67,13 +74,114 @@ fn shut_beside<'a>(
     ensures { IfOk result (λ v. AreShut (tiles_of tiling.now) tiling.now.label.now tiling.now.space i
         v.items) }
 {
-    let mut shut = blocks(alloc, tiling, near, i)?;
+    let touched = blocks(alloc, tiling, near, i)?;
+    let mut shut = shut_along(alloc, tiling, finder, touched, i)?;
     let mut reach = 1;
     'wider: while reach < tiling.space {
         shut = shut_within(alloc, tiling, finder, shut, reach, i)?;
         reach *= 4;
     }
     shut_within(alloc, tiling, finder, shut, tiling.space, i)
+}
+
+/// Adds to the blocked positions of the tile `i` those that a few tiles block: from the first position on some are asked
+/// that may block it, and then what follows behind all that they block.
+fn shut_along<'a>(
+    alloc: Global,
+    tiling: &Tiling<'a>,
+    finder: &Surroundings<'a>,
+    shut: Vec<Stretch>,
+    i: usize,
+) -> Result<Vec<Stretch>, AllocError>
+    requires tiling { IsTiling tiling.now }
+    requires within { i < length tiling.now.tiles.now }
+    requires finder { finder.now ≡ surroundings_of tiling.now }
+    requires shut { AreShutSoFar (tiles_of tiling.now) tiling.now.label.now tiling.now.space i shut.items }
+    ensures { IfOk result (λ v. AreShutSoFar (tiles_of tiling.now) tiling.now.label.now
+        tiling.now.space i v.items) }
+{
+    let tiles = tiling.tiles;
+    let lane = lane_of(&tiles[i]);
+    let mut shut = shut;
+    let mut at = lane.from;
+    for _turn in 0..MOST_TURNS {
+        match clipped(&lane, at, at.saturating_add(1)) {
+            None => return Ok(shut),
+            Some(place) => {
+                at = push_some_at(alloc, tiling, finder, &mut shut, &place, i)?;
+            }
+        }
+    }
+    Ok(shut)
+}
+
+/// Adds to the blocked positions of the tile `i` those that some tiles block which may block these, and gives where to
+/// ask next.
+fn push_some_at<'a>(
+    alloc: Global,
+    tiling: &Tiling<'a>,
+    finder: &Surroundings<'a>,
+    shut: &mut Vec<Stretch>,
+    place: &Stretch,
+    i: usize,
+) -> Result<i64, AllocError>
+    requires tiling { IsTiling tiling.now }
+    requires within { i < length tiling.now.tiles.now }
+    requires finder { finder.now ≡ surroundings_of tiling.now }
+    requires shut { AreShutSoFar (tiles_of tiling.now) tiling.now.label.now tiling.now.space i shut.old.items }
+    requires low { first_of (rect_at (tiles_of tiling.now) i) ≤ℤ place.now.from }
+    requires high { place.now.to ≤ℤ last_of (rect_at (tiles_of tiling.now) i) }
+    ensures { OnOk result (AreShutSoFar (tiles_of tiling.now) tiling.now.label.now
+        tiling.now.space i shut.new.items) }
+{
+    let tiles = tiling.tiles;
+    let tile = &tiles[i];
+    let own = tiling.label[i];
+    let part = part_of(tile, place.from, place.to);
+    let (columns, rows) = window_of(tile, tiling.space);
+    let near = finder.some_beside(alloc, &part, own, columns, rows, SOME)?;
+    let found = blocks(alloc, tiling, near.as_slice(), i)?;
+    let next = behind(found.as_slice(), place.from, step_of(tile, tiling.space));
+    shut.extend_from_slice(found.as_slice())?;
+    Ok(next)
+}
+
+/// Within how many columns and rows of a position of a tile is looked: along the tile within fewer.
+fn window_of(tile: &Rect, space: u64) -> (u64, u64)
+    ensures columns { result.0 ≤ space }
+    ensures rows { result.1 ≤ space }
+{
+    if lies_along_x(tile) {
+        (space / 8, space)
+    } else {
+        (space, space / 8)
+    }
+}
+
+/// How many positions of a tile are passed where none of some tiles block the first.
+fn step_of(tile: &Rect, space: u64) -> i64
+    requires { space ≤ MOST_REACH }
+{
+    let lane = lane_of(tile);
+    lane.to
+        .saturating_sub(lane.from)
+        .wrapping_div(16)
+        .saturating_add(space as i64 / 8 + 1)
+}
+
+/// The first position behind those stretches that hold one, or behind so many others where none does.
+fn behind(stretches: &[Stretch], at: i64, step: i64) -> i64 {
+    let mut next = at;
+    for s in stretches {
+        if s.from <= at {
+            next = next.max(s.to);
+        }
+    }
+    if next == at {
+        at.saturating_add(step)
+    } else {
+        next
+    }
 }
 
 /// Adds to the blocked positions of the tile `i` those that tiles within a reach of the others block.
