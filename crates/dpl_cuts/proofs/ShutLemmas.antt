@@ -1,9 +1,9 @@
 -- The positions of a tile that any tiles block, and those that are found so far.
 use Rattle.std.proofs.Common.{arith, ◌≡◌, ◌≢◌, ℕ, ◌<◌, ◌≤◌, ◌-◌, ℤ, pos, ◌-ℤ◌, ◌<ℤ◌, ◌≤ℤ◌, List, length, get_or}
 use Rattle.std.proofs.Common.{◌∙◌, All, Contains, refl, sym, ap, subst, inl, inr, ◌⊎◌, ◌++◌, Bool, true, false, not}
-use Rattle.std.proofs.Common.{◌&&◌, ◌||◌, cond, Option, Some, None}
+use Rattle.std.proofs.Common.{◌&&◌, ◌||◌, cond, Option, Some, None, take, drop, ◌+◌, [], ◌∷◌}
 use Rattle.std.proofs.lemmas.Bool.{cases_lt, or_left, or_right, or_cases}
-use Rattle.std.proofs.lemmas.List.{get_or_default}
+use Rattle.std.proofs.lemmas.List.{get_or_default, get_or_append_left, get_or-append-add, length-append, take-append-drop}
 use Rattle.std.proofs.lemmas.List.Folds.{list_any-append, Any-from_list_any}
 use Rattle.dpl_list.specs.Order.{Ascends}
 use Rattle.dpl_list.proofs.Integers.{signed}
@@ -19,7 +19,7 @@ use Rattle.dpl_cell.proofs.BoxLemmas.{test_within, within_test, ends_inside}
 use Rattle.dpl_near.specs.Around.{AreAround, HasOthers}
 use Rattle.dpl_cuts.specs.Positions.{lies_along_x, first_of, last_of, position_of, part_of, nowhere, rect_at}
 use Rattle.dpl_cuts.specs.Stretches.{is_in_option, IsPartOf, Marks}
-use Rattle.dpl_cuts.specs.Blocks.{IsTouchedAt, IsBlocking, are_other, AreBlocked, AreShut, AreShutSoFar}
+use Rattle.dpl_cuts.specs.Blocks.{IsTouchedAt, IsBlocking, are_other, AreBlocked, AreShut, AreShutSoFar, AddsShut, IsShut}
 use Rattle.dpl_cuts.proofs.BlockLemmas.{first_x, last_x, is_other, is_touching, not_in, step_down, step_up}
 
 truth : (b : Bool) → (b ≡ true) ⊎ (b ≡ false)
@@ -104,21 +104,16 @@ was lane old free before p a w =
 in_both : (xs ys : List Stretch) (p : ℤ) → is_in_stretches (xs ++ ys) p ≡ (is_in_stretches xs p || is_in_stretches ys p)
 in_both xs ys p = list_any-append (λ s. is_within s.from s.to p) xs ys
 
--- ---- what is found beside the free positions is added
-
-pub wider_so_far : (tiles : List Corners) (label near : List ℕ) (space i : ℕ) (lane : Stretch)
-    → (old free found before : List Stretch) → lane.from ≡ first_of (rect_at tiles i)
-    → lane.to ≡ last_of (rect_at tiles i) → AreShutSoFar tiles label space i old → AreLeft lane old free before
-    → All (λ k. k < length tiles) near → AreBlocked tiles label space i near found
-    → AreShutSoFar tiles label space i (found ++ before)
-wider_so_far tiles label near space i lane old free found before f g s a inside b = record {
-  each = λ p w t. elim (or_cases _ _ (sym (in_both found before p) ∙ t)) [
-    | inl u ↦ let (m, k, n, e, h) = (b p w).0 u in (k, rw e at (inside m k n), h)
-    | inr u ↦ s.each p w (sym (was lane old free before p a (rw (f, g) w)) ∙ u)
-  ];
-  touched = λ p k w n t. in_both found before p ∙
-      or_right _ _ (was lane old free before p a (rw (f, g) w) ∙ s.touched p k w n t);
+-- what is not free of a lane is what was blocked of it
+pub back_so_far : (tiles : List Corners) (label : List ℕ) (space i : ℕ) (lane : Stretch) (old free before : List Stretch)
+    → lane.from ≡ first_of (rect_at tiles i) → lane.to ≡ last_of (rect_at tiles i)
+    → AreLeft lane old free before → AreShutSoFar tiles label space i old → AreShutSoFar tiles label space i before
+back_so_far tiles label space i lane old free before f g a s = record {
+  each = λ p w t. s.each p w (sym (was lane old free before p a (rw (f, g) w)) ∙ t);
+  touched = λ p k w n t. was lane old free before p a (rw (f, g) w) ∙ s.touched p k w n t;
 }
+
+-- ---- what is found beside the free positions is added
 
 -- what some rectangles block is added
 pub more_so_far : (tiles : List Corners) (label near : List ℕ) (space i : ℕ) (old found : List Stretch)
@@ -149,35 +144,41 @@ part_by tile a b x y p false e h at w =
     let in_d : IsIn d x y = record { column = h.column; row = rw q w } in
     subst (λ (r : Corners). IsIn r x y) (sym same) in_d
 
--- what lies beside the free positions within the spacing blocks all that is blocked of them
-pub wider_all : (tiles : List Corners) (label near : List ℕ) (most space i own : ℕ) (lane : Stretch) (from to : ℤ)
-    → (part : Corners) (old free found before : List Stretch) → lane.from ≡ first_of (rect_at tiles i)
-    → lane.to ≡ last_of (rect_at tiles i) → AreShutSoFar tiles label space i old → AreLeft lane old free before
+-- no position of a lane is in the stretches
+pub adds_none : (tiles : List Corners) (label : List ℕ) (space i reach : ℕ) (lane : Stretch) (free old : List Stretch)
+    → lane.from ≡ first_of (rect_at tiles i) → lane.to ≡ last_of (rect_at tiles i)
+    → AreShutSoFar tiles label space i old
+    → ((p : ℤ) → IsWithin lane.from lane.to p → is_in_stretches free p ≡ true → false ≡ true)
+    → AddsShut tiles label space i reach free old old
+adds_none tiles label space i reach lane free old f g s none = record {
+  so_far = s;
+  kept = λ p t. t;
+  all = λ e p w t h. let lane_has : IsWithin lane.from lane.to p = rw (f, g) w in let q = none p lane_has t in absurd (cc);
+}
+
+-- what lies beside them within the spacing blocks all that is blocked of them
+pub adds_beside : (tiles : List Corners) (label near : List ℕ) (most space i reach own : ℕ) (lane : Stretch) (from to : ℤ)
+    → (part : Corners) (free old found : List Stretch) → lane.from ≡ first_of (rect_at tiles i)
+    → lane.to ≡ last_of (rect_at tiles i) → AreShutSoFar tiles label space i old
     → ((p : ℤ) → IsWithin lane.from lane.to p → is_in_stretches free p ≡ true → is_within from to p ≡ true)
     → part ≡ part_of (rect_at tiles i) from to → own ≡ get_or label i 0
-    → HasOthers (record { rects = tiles; shape = label; reach = most }) space part own near
-    → AreBlocked tiles label space i near found → AreShut tiles label space i (found ++ before)
-wider_all tiles label near most space i own lane from to part old free found before f g s a span is_part is_own o b p w = (
-  (wider_so_far tiles label near space i lane old free found before f g s a o.each b).each p w,
-  (λ (k, n, h). in_both found before p ∙ known k n h (truth (is_in_stretches old p))),
-) where
-  lane_has : IsWithin lane.from lane.to p
-  lane_has = rw (f, g) w
-
-  same : is_in_stretches before p ≡ is_in_stretches old p
-  same = was lane old free before p a lane_has
-
-  inside : is_in_stretches old p ≡ false → IsWithin from to p
-  inside e = test_within from to p (span p lane_has
-      (a.rest p ∙ left_free _ _ (within_test lane.from lane.to p lane_has) e))
-
-  new : (k : ℕ) → k < length tiles → is_in_stretches old p ≡ false →
-      IsBlocking (rect_at tiles i) (rect_at tiles k) (are_other label i k) space p → is_in_stretches found p ≡ true
-  new k n e (inr t) = let u = s.touched p k w n t in absurd (cc)
-  new k n e (inl h) =
+    → HasOthers (record { rects = tiles; shape = label; reach = most }) reach part own near
+    → AreBlocked tiles label space i near found → AddsShut tiles label space i reach free old (old ++ found)
+adds_beside tiles label near most space i reach own lane from to part free old found f g s span is_part is_own o b = record {
+  so_far = more_so_far tiles label near space i old found s o.each b;
+  kept = λ p t. in_both old found p ∙ or_left _ _ t;
+  all = λ e p w t (k, n, h). new e p w t k n h;
+} where
+  new : reach ≡ space → (p : ℤ) → IsWithin (first_of (rect_at tiles i)) (last_of (rect_at tiles i)) p
+      → is_in_stretches free p ≡ true → (k : ℕ) → k < length tiles
+      → IsBlocking (rect_at tiles i) (rect_at tiles k) (are_other label i k) space p → is_in_stretches (old ++ found) p ≡ true
+  new e p w t k n (inr touch) = in_both old found p ∙ or_left _ _ (s.touched p k w n touch)
+  new e p w t k n (inl h) =
       let c = h.1 in
+      let lane_has : IsWithin lane.from lane.to p = rw (f, g) w in
       let at : IsIn part c.x c.y = subst (λ (r : Corners). IsIn r c.x c.y) (sym is_part)
-      (part_by (rect_at tiles i) from to c.x c.y p (lies_along_x (rect_at tiles i)) refl c.first c.at (inside e)) in
+      (part_by (rect_at tiles i) from to c.x c.y p (lies_along_x (rect_at tiles i)) refl c.first c.at
+      (test_within from to p (span p lane_has t))) in
       let other : get_or label k 0 ≢ own = λ q. they_differ _ _ h.0 (q ∙ is_own) in
       let m : Contains near k = o.all k n other (λ d. record {
         x = c.x;
@@ -185,30 +186,77 @@ wider_all tiles label near most space i own lane from to part old free found bef
         x' = c.x';
         y' = c.y';
         cells = record { first = at; second = rw (get_or_default tiles k d nowhere n) c.second };
-        near = c.near;
+        near = rw e c.near;
       }) in
-      (b p w).1 (any_contains _ near k m (inl h))
+      in_both old found p ∙ or_right _ _ ((b p w).1 (any_contains _ near k m (inl h)))
 
-  known : (k : ℕ) → k < length tiles →
-      IsBlocking (rect_at tiles i) (rect_at tiles k) (are_other label i k) space p →
-      (is_in_stretches old p ≡ true) ⊎ (is_in_stretches old p ≡ false) →
-      (is_in_stretches found p || is_in_stretches before p) ≡ true
-  known k n h (inl e) = or_right _ _ (same ∙ e)
-  known k n h (inr e) = or_left _ _ (new k n e h)
+-- ---- group by group
 
--- where no position of a lane is free all are blocked
-pub none_free : (tiles : List Corners) (label : List ℕ) (space i : ℕ) (lane : Stretch) (old free : List Stretch)
+-- what is blocked in the stretches is added, but for those of the rest
+pub record AddsShutBut (tiles : List Corners) (label : List ℕ) (space i reach : ℕ) (free rest old new : List Stretch) : Type 0 where
+  pub separate : AreSeparate rest
+  pub so_far : AreShutSoFar tiles label space i new
+  pub kept : (p : ℤ) → is_in_stretches old p ≡ true → is_in_stretches new p ≡ true
+  pub all : reach ≡ space → (p : ℤ) → IsWithin (first_of (rect_at tiles i)) (last_of (rect_at tiles i)) p →
+      is_in_stretches free p ≡ true → IsShut tiles label space i p → (is_in_stretches rest p ≡ true) ⊎ (is_in_stretches new p ≡ true)
+
+pub adds_first : (tiles : List Corners) (label : List ℕ) (space i reach : ℕ) (free old : List Stretch) → AreSeparate free
+    → AreShutSoFar tiles label space i old → AddsShutBut tiles label space i reach free free old old
+adds_first tiles label space i reach free old a s = record {
+  separate = a;
+  so_far = s;
+  kept = λ p t. t;
+  all = λ e p w t h. inl t;
+}
+
+separate_left : (xs ys : List Stretch) → AreSeparate (xs ++ ys) → AreSeparate xs
+separate_left xs ys a i j d h l = let n = length-append xs ys in
+    rw (get_or_append_left xs ys d i (omega arith), get_or_append_left xs ys d j l) at (a i j d h (omega arith))
+
+separate_right : (xs ys : List Stretch) → AreSeparate (xs ++ ys) → AreSeparate ys
+separate_right xs ys a i j d h l = let n = length-append xs ys in
+    rw (get_or-append-add xs ys i d, get_or-append-add xs ys j d) at (a (length xs + i) (length xs + j) d (omega arith) (omega arith))
+
+-- the first of some stretches that lie separate
+pub separate_front : (n : ℕ) (rest : List Stretch) → AreSeparate rest → AreSeparate (take n rest)
+separate_front n rest a = separate_left (take n rest) (drop n rest) (rw take-append-drop a)
+
+pub adds_next : (tiles : List Corners) (label : List ℕ) (space i reach n : ℕ) (free rest old now new : List Stretch)
+    → AddsShut tiles label space i reach (take n rest) now new
+    → AddsShutBut tiles label space i reach free rest old now
+    → AddsShutBut tiles label space i reach free (drop n rest) old new
+adds_next tiles label space i reach n free rest old now new a b = record {
+  separate = separate_right (take n rest) (drop n rest) (rw take-append-drop b.separate);
+  so_far = a.so_far;
+  kept = λ p t. a.kept p (b.kept p t);
+  all = λ e p w t h. elim (b.all e p w t h) [
+    | inl u ↦ elim (or_cases _ _ (sym (in_both (take n rest) (drop n rest) p) ∙ ap (λ l. is_in_stretches l p) (take-append-drop n rest) ∙ u)) [
+      | inl v ↦ inr (a.all e p w v h)
+      | inr v ↦ inl v
+    ]
+    | inr u ↦ inr (a.kept p u)
+  ];
+}
+
+pub adds_last : (tiles : List Corners) (label : List ℕ) (space i reach : ℕ) (free rest old new : List Stretch) → length rest ≤ 0
+    → AddsShutBut tiles label space i reach free rest old new → AddsShut tiles label space i reach free old new
+adds_last tiles label space i reach free [] old new e b = record {
+  so_far = b.so_far;
+  kept = b.kept;
+  all = λ e p w t h. elim (b.all e p w t h) [ inl u ↦ absurd (cc) | inr u ↦ u ];
+}
+adds_last tiles label space i reach free (s ∷ rest) old new e b = absurd (omega arith)
+
+-- where all that is blocked of what is free is added, all is found
+pub adds_all : (tiles : List Corners) (label : List ℕ) (space i : ℕ) (lane : Stretch) (old free before new : List Stretch)
     → lane.from ≡ first_of (rect_at tiles i) → lane.to ≡ last_of (rect_at tiles i)
-    → AreShutSoFar tiles label space i old
-    → ((p : ℤ) → is_in_stretches free p ≡ (is_within lane.from lane.to p && not (is_in_stretches old p)))
-    → ((p : ℤ) → IsWithin lane.from lane.to p → is_in_stretches free p ≡ true → false ≡ true)
-    → AreShut tiles label space i old
-none_free tiles label space i lane old free f g s same none p w = (
-  s.each p w,
+    → AreLeft lane old free before → AddsShut tiles label space i space free before new → AreShut tiles label space i new
+adds_all tiles label space i lane old free before new f g a b p w = (
+  b.so_far.each p w,
   (λ h. elim (truth (is_in_stretches old p)) [
-    | inl e ↦ e
+    | inl e ↦ b.kept p (was lane old free before p a (rw (f, g) w) ∙ e)
     | inr e ↦ let lane_has : IsWithin lane.from lane.to p = rw (f, g) w in
-        let t = none p lane_has (same p ∙ left_free _ _ (within_test lane.from lane.to p lane_has) e) in absurd (cc)
+        b.all refl p w (a.rest p ∙ left_free _ _ (within_test lane.from lane.to p lane_has) e) h
   ]),
 )
 

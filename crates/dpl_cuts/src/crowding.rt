@@ -4,7 +4,7 @@ ghost use Rattle.dpl_limits.specs.declared.TheConstants.{MOST_REACH};
 ghost use Rattle.dpl_cell.specs.Cells.{IsWithin};
 ghost use Rattle.dpl_cell.specs.Stretches.{AreSeparate, is_in_stretches};
 ghost use Rattle.dpl_cuts.specs.Positions.{first_of, last_of, layer_of, rect_at};
-ghost use Rattle.dpl_cuts.specs.Blocks.{AreShut, AreShutSoFar, MayBeKept};
+ghost use Rattle.dpl_cuts.specs.Blocks.{AddsShut, AreShut, AreShutSoFar, MayBeKept};
 ghost use Rattle.dpl_cuts.specs.Stretches.{is_in_option, IsPartOf, Marks};
 ghost use Rattle.dpl_cuts.specs.Tilings.{IsAroundWithin, IsTiling, kept_of, surroundings_of, tiles_of};
 ghost use Rattle.dpl_cuts.specs.Cuts.{AreCutPlaces};
@@ -204,22 +204,93 @@ fn shut_within<'a>(
         tiling.now.label.now tiling.now.space i v.items) }
 {
     let tiles = tiling.tiles;
-    let tile = &tiles[i];
-    let own = tiling.label[i];
-    let lane = lane_of(tile);
+    let lane = lane_of(&tiles[i]);
     let mut sorted = shut;
     sorted.sort_unstable_by_key(|s| s.from);
     let free = free_stretches(alloc, &lane, sorted.as_slice())?;
-    match span_of(&lane, free.as_slice()) {
+    let mut wider = free_stretches(alloc, &lane, free.as_slice())?;
+    push_beside(alloc, tiling, finder, &mut wider, free.as_slice(), reach, i)?;
+    Ok(wider)
+}
+
+/// Adds to the blocked positions of the tile `i` those that tiles within a reach of these stretches block. Stretches beside
+/// which the same tiles may be found are asked for at once.
+fn push_beside<'a>(
+    alloc: Global,
+    tiling: &Tiling<'a>,
+    finder: &Surroundings<'a>,
+    shut: &mut Vec<Stretch>,
+    free: &[Stretch],
+    reach: u64,
+    i: usize,
+) -> Result<(), AllocError>
+    requires tiling { IsTiling tiling.now }
+    requires within { i < length tiling.now.tiles.now }
+    requires finder { finder.now ≡ surroundings_of tiling.now }
+    requires shut { AreShutSoFar (tiles_of tiling.now) tiling.now.label.now tiling.now.space i shut.old.items }
+    requires shorter { reach ≤ tiling.now.space }
+    requires separate { AreSeparate free.now }
+    ensures { OnOk result (AddsShut (tiles_of tiling.now) tiling.now.label.now tiling.now.space i
+        reach free.now shut.old.items shut.new.items) }
+{
+    let mut rest = free;
+    'groups: while rest.len() > 0 {
+        let (group, others) = rest.split_at(count_together(rest, reach));
+        push_beside_group(alloc, tiling, finder, shut, group, reach, i)?;
+        rest = others;
+    }
+    Ok(())
+}
+
+/// How many stretches in order lie so near one another that the same tiles may be within the reach of two.
+fn count_together(stretches: &[Stretch], reach: u64) -> usize
+    requires some { 0 < length stretches.now }
+    requires near { reach ≤ MOST_REACH }
+    ensures some { 0 < result }
+    ensures within { result ≤ length stretches.now }
+{
+    let gap = 2 * reach as i64;
+    let mut count = 1;
+    'near: while count < stretches.len() {
+        if stretches[count].from.wrapping_sub(stretches[count - 1].to) >= gap {
+            return count;
+        }
+        count += 1;
+    }
+    count
+}
+
+/// The same for stretches that are asked for at once.
+fn push_beside_group<'a>(
+    alloc: Global,
+    tiling: &Tiling<'a>,
+    finder: &Surroundings<'a>,
+    shut: &mut Vec<Stretch>,
+    group: &[Stretch],
+    reach: u64,
+    i: usize,
+) -> Result<(), AllocError>
+    requires tiling { IsTiling tiling.now }
+    requires within { i < length tiling.now.tiles.now }
+    requires finder { finder.now ≡ surroundings_of tiling.now }
+    requires shut { AreShutSoFar (tiles_of tiling.now) tiling.now.label.now tiling.now.space i shut.old.items }
+    requires shorter { reach ≤ tiling.now.space }
+    requires separate { AreSeparate group.now }
+    ensures { OnOk result (AddsShut (tiles_of tiling.now) tiling.now.label.now tiling.now.space i
+        reach group.now shut.old.items shut.new.items) }
+{
+    let tiles = tiling.tiles;
+    let tile = &tiles[i];
+    let own = tiling.label[i];
+    match span_of(&lane_of(tile), group) {
+        None => Ok(()),
         Some(span) => {
             let part = part_of(tile, span.from, span.to);
             let near = finder.others_beside(alloc, &part, own, reach)?;
-            let mut wider = blocks(alloc, tiling, near.as_slice(), i)?;
-            let before = free_stretches(alloc, &lane, free.as_slice())?;
-            wider.extend_from_slice(before.as_slice())?;
-            Ok(wider)
+            let found = blocks(alloc, tiling, near.as_slice(), i)?;
+            shut.extend_from_slice(found.as_slice())?;
+            Ok(())
         }
-        None => Ok(sorted),
     }
 }
 
