@@ -85,7 +85,7 @@ fn shut_beside<'a>(
 }
 
 /// Adds to the blocked positions of the tile `i` those that a few tiles block: from the first position on some are asked
-/// that may block it, and then what follows behind all that they block.
+/// that may block it, and then what follows behind all that they block. Only where very much stands around the tiles.
 fn shut_along<'a>(
     alloc: Global,
     tiling: &Tiling<'a>,
@@ -100,6 +100,9 @@ fn shut_along<'a>(
     ensures { IfOk result (λ v. AreShutSoFar (tiles_of tiling.now) tiling.now.label.now
         tiling.now.space i v.items) }
 {
+    if !finder.is_dense() {
+        return Ok(shut);
+    }
     let tiles = tiling.tiles;
     let lane = lane_of(&tiles[i]);
     let mut shut = shut;

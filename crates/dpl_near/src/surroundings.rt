@@ -93,6 +93,14 @@ impl<'a> Surroundings<'a> {
         })
     }
 
+    /// Whether there is too much around the rectangles to be kept in rows.
+    pub fn is_dense(&self) -> bool {
+        match &self.rows {
+            None => true,
+            Some(_) => false,
+        }
+    }
+
     /// What stands around the rectangle `i`.
     pub fn around(&self, alloc: Global, i: u32) -> Result<Vec<u32>, NoMemory>
         requires { i < length self.now.rects }
