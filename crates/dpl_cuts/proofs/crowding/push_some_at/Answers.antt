@@ -1,7 +1,6 @@
 use Rattle.dpl_cuts.specs.Tilings.{tiles_of}
 use Rattle.dpl_cuts.proofs.ShutLemmas.{more_so_far}
 use Rattle.std.proofs.Common.{◌<◌, All, length}
-use Rattle.std.proofs.lemmas.List.{length-map}
 use Rattle.dpl_cuts.proofs.crowding.push_some_at.Goals as goal
 
 pub returns : goal.returns

@@ -1,4 +1,4 @@
-use Rattle.std.proofs.Common.{◌∙◌, ap, sym, ◌++◌, ◌∷◌, [], List, ℕ, take, get_or}
+use Rattle.std.proofs.Common.{◌∙◌, ap, sym, ◌++◌, ◌∷◌, [], List, ℕ, get_or}
 use Rattle.std.proofs.lemmas.List.{take_more, take_all}
 use Rattle.dpl_near.proofs.surroundings.narrow.Goals as goal
 

@@ -1,7 +1,6 @@
-use Rattle.std.proofs.Common.{◌≡◌, ◌<◌, ◌≤◌, length, map, arith}
+use Rattle.std.proofs.Common.{arith}
 use Rattle.std.proofs.lemmas.List.{length-map}
 use Rattle.dpl_cell.specs.Places.{corners_of}
-use Rattle.dpl_near.specs.Around.{HasOthers}
 use Rattle.dpl_near.proofs.AroundLemmas.{has_others}
 use Rattle.dpl_near.proofs.surroundings.Surroundings.others_beside.Goals as goal
 
