@@ -20,7 +20,7 @@ use Rattle.dpl_links.specs.declared.crowded.Crowd.{Crowd}
 use Rattle.dpl_links.specs.Pairs.{Scene, rect_gap2}
 use Rattle.dpl_links.specs.Links.{IsUpTo, piece_of, IsLink}
 use Rattle.dpl_links.specs.Gathering.{StandsFor, AreGathered, AreHeads, scene_in}
-use Rattle.dpl_links.specs.Crowds.{IsCovered, AreGatheredBut, IsToCome, AreGatheredUpTo, AreKept, AreKnown, AddsLinks, HasNearer}
+use Rattle.dpl_links.specs.Crowds.{IsCovered, AreGatheredBut, IsToCome, AreGatheredUpTo, AreKept, AreKnown, AddsLinks, HasNearer, HasStanding}
 use Rattle.dpl_links.specs.Crowds.{IsCrowd, IsLeftOut}
 use Rattle.dpl_links.proofs.GatherLemmas.{gap_least, stands_chain, stands_last, covered_heads, links_heads}
 use Rattle.dpl_links.proofs.ReachLemmas.{squares}
@@ -51,6 +51,14 @@ nearer_stands s pieces links nearest l p q gap kept h low high less =
 
       covered : IsCovered links h.link → StandsFor h.link l → IsCovered links l
       covered (k, m, i, e, t) f = (k, m, i, e, stands_chain m h.link l t f)
+
+pub standing_stands : (links : List Link) (nearest : List (Option Link)) (l : Link) → AreKept nearest links → HasStanding nearest l → IsCovered links l
+standing_stands links nearest l kept h = covered (kept_one h.kept) h.stands where
+  kept_one : Contains nearest (Some h.link) → IsCovered links h.link
+  kept_one (k, i, e) = let P : Option Link → Type 0 = λ o. IfSome o (IsCovered links) in subst P e (kept k (Some h.link) i)
+
+  covered : IsCovered links h.link → StandsFor h.link l → IsCovered links l
+  covered (k, m, i, e, t) f = (k, m, i, e, stands_chain m h.link l t f)
 
 pub kept_on : (nearest : List (Option Link)) (links new : List Link) → ((l : Link) → IsCovered links l → IsCovered new l)
     → AreKept nearest links → AreKept nearest new
@@ -86,13 +94,13 @@ pub adds_nothing : (s : Scene) (pieces : List ℕ) (i : ℕ) (IsDone : ℕ → T
     → AddsLinks s pieces i IsDone links links nearest
 adds_nothing s pieces i IsDone links nearest known all = record { known = known; grows = λ l c. c; all = all }
 
--- the one link is known to be no nearer than one that is kept
+-- one that is kept stands for the one link
 pub adds_known : (s : Scene) (pieces : List ℕ) (i j : ℕ) (link : Link) (links : List Link) (nearest : List (Option Link))
-    → AreKnown s pieces links nearest → HasNearer nearest link.p link.q link.gap
+    → AreKnown s pieces links nearest → HasStanding nearest link
     → ((l : Link) → IsLink s pieces l → l.a ≡ i → l.b ≡ j → link ≡ l) → AddsLinks s pieces i (λ k. k ≡ j) links links nearest
-adds_known s pieces i j link links nearest known nearer one = adds_nothing s pieces i (λ k. k ≡ j) links nearest known
+adds_known s pieces i j link links nearest known stands one = adds_nothing s pieces i (λ k. k ≡ j) links nearest known
     (λ l f a b. let P : Link → Type 0 = IsCovered links in
-    subst P (one l f a b) (nearer_stands s pieces links nearest link link.p link.q link.gap known.kept nearer refl refl (omega arith)))
+    subst P (one l f a b) (standing_stands links nearest link known.kept stands))
 
 -- the one link is added and kept
 pub adds_one : (s : Scene) (pieces : List ℕ) (i j : ℕ) (link : Link) (links new : List Link) (nearest after : List (Option Link))

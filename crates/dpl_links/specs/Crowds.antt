@@ -64,6 +64,12 @@ pub record HasNearer (nearest : List (Option Link)) (p q gap : ℕ) : Type 0 whe
   pub high : link.q ≡ q
   pub less : link.gap < gap
 
+-- a link is kept that stands for this one
+pub record HasStanding (nearest : List (Option Link)) (l : Link) : Type 0 where
+  pub link : Link
+  pub kept : Contains nearest (Some link)
+  pub stands : StandsFor link l
+
 -- fragments of one piece are of one shape
 abbrev pub AreOfOneShape : List ℕ → List ℕ → Type 0
 AreOfOneShape piece shape = (j k : ℕ) → j < length piece → k < length piece →

@@ -4,9 +4,9 @@ ghost use Rattle.dpl_links.specs.declared.linking.Link.{Link};
 ghost use Rattle.dpl_links.specs.Links.{HasMoreClashes};
 ghost use Rattle.dpl_links.specs.Gathering.{ArePieces, AreGathered, scene_in};
 ghost use Rattle.dpl_links.specs.Crowds.{AreGatheredBut, AreGatheredUpTo, AreKnown, AddsLinks};
-ghost use Rattle.dpl_links.specs.Crowds.{AreKept, HasNearer, IsCrowd, IsLeftOut, IsCovered};
+ghost use Rattle.dpl_links.specs.Crowds.{AreKept, HasNearer, HasStanding, IsCrowd, IsLeftOut, IsCovered};
 
-use crate::heading::{MOST_GATHERED, settled};
+use crate::heading::{MOST_GATHERED, is_up_to, settled};
 use crate::linking::{Link, link_in};
 use crate::pieces::{Pieces, are_within_shapes};
 use crate::reaching::least_gap_at;
@@ -154,7 +154,20 @@ fn has_nearer(nearest: &[Option<Link>], piece: u32, p: u32, q: u32, gap: u64) ->
     }
 }
 
-/// Adds the link of two fragments if there is one and no nearer one is kept.
+/// Whether the link that is kept for a piece stands for this one.
+fn has_standing(nearest: &[Option<Link>], piece: u32, link: &Link) -> bool
+    ensures { result ≡ true → HasStanding nearest.now link.now }
+{
+    match nearest.get(piece as usize) {
+        None => false,
+        Some(kept) => match kept {
+            None => false,
+            Some(kept) => kept.p == link.p && kept.q == link.q && is_up_to(kept, link),
+        },
+    }
+}
+
+/// Adds the link of two fragments if there is one and none is kept that stands for it.
 fn look_at(
     found: &mut Vec<Link>,
     nearest: &mut Vec<Option<Link>>,
@@ -174,7 +187,7 @@ fn look_at(
         None => Ok(()),
         Some(link) => {
             let piece = pieces.piece[j];
-            if has_nearer(nearest, piece, link.p, link.q, link.gap) {
+            if has_standing(nearest, piece, &link) {
                 return Ok(());
             }
             found.push(link)?;

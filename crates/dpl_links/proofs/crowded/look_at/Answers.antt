@@ -3,10 +3,10 @@ use Rattle.dpl_links.specs.Gathering.{scene_in}
 use Rattle.dpl_links.proofs.CrowdLemmas.{adds_known, adds_one}
 use Rattle.dpl_links.proofs.crowded.look_at.Goals as goal
 
-pub returns-then-has_nearer : goal.returns-then-has_nearer
-returns-then-has_nearer c = adds_known (scene_in c.args.pieces.now) c.args.pieces.now.piece.now c.args.i c.args.j c.in-Some.link
+pub returns-then-has_standing : goal.returns-then-has_standing
+returns-then-has_standing c = adds_known (scene_in c.args.pieces.now) c.args.pieces.now.piece.now c.args.i c.args.j c.in-Some.link
     c.args.found.now.items c.args.nearest.now.items c.requires.known
-    (rw c.deref.ensures.value at (c.has_nearer.ensures c.if-has_nearer.true)) (λ l f a b. same_Some _ _ (c.in-Some.ensures.all l f a b))
+    (rw c.deref.ensures.value at (c.has_standing.ensures c.if-has_standing.true)) (λ l f a b. same_Some _ _ (c.in-Some.ensures.all l f a b))
 
 pub returns-in_ok-push-in-Some : goal.returns-in_ok-push-in-Some
 returns-in_ok-push-in-Some c = adds_one (scene_in c.args.pieces.now) c.args.pieces.now.piece.now c.args.i c.args.j c.in-Some.link
