@@ -1,11 +1,13 @@
 -- The walk over stops around a crowded fragment, and what it may leave out.
-use Rattle.std.proofs.Common.{arith, ◌≡◌, ◌⊎◌, inl, inr, ℕ, ◌+◌, ◌*◌, ◌<◌, ◌≤◌, List, length, get_or, set, map, ◌∙◌, min, max, Contains}
+use Rattle.std.proofs.Common.{arith, ◌≡◌, ◌≢◌, ◌⊎◌, ℤ, All, Any, Bool, false, true, inl, inr, ℕ, ◌+◌, ◌*◌, ◌<◌, ◌≤◌, List, length, get_or, set, map, ◌∙◌, min, max, Contains}
 use Rattle.std.proofs.Common.{refl, sym, ap, subst, ◌∷◌, [], ◌++◌, Option, Some, None, IfSome, Greater, replicate, length-set, get_or-set_same, get_or-set_other}
 use Rattle.std.specs.Ordering.{nat_cmp, is_lt, ordering_then}
 use Rattle.std.specs.Cmp.{nat_cmp_is}
 use Rattle.std.proofs.lemmas.Bool.{cases_lt, cases_eq}
 use Rattle.std.proofs.lemmas.List.{get_or_default, length-map}
+use Rattle.std.specs.List.Sorted.{IsPermutation}
 use Rattle.std.proofs.lemmas.List.Elements.{All-push}
+use Rattle.std.proofs.lemmas.List.Sorted.{All-permutation}
 use Rattle.dpl_cell.specs.Places.{Corners, corners_of}
 use Rattle.dpl_cell.specs.Cells.{IsIn}
 use Rattle.dpl_cell.specs.Gaps.{AreClose}
@@ -17,14 +19,17 @@ use Rattle.dpl_near.proofs.BoundsLemmas.{bounds_at}
 use Rattle.dpl_cuts.specs.Positions.{nowhere, rect_at}
 use Rattle.dpl_links.specs.declared.linking.Link.{Link}
 use Rattle.dpl_links.specs.declared.crowded.Crowd.{Crowd}
-use Rattle.dpl_links.specs.Pairs.{Scene, rect_gap2}
+use Rattle.dpl_links.specs.declared.turning.Turn.{Turn}
+use Rattle.dpl_links.specs.Pairs.{Scene, stretch_gap, rect_gap2}
 use Rattle.dpl_links.specs.Links.{IsUpTo, piece_of, IsLink}
 use Rattle.dpl_links.specs.Gathering.{StandsFor, AreGathered, AreHeads, scene_in}
-use Rattle.dpl_links.specs.Crowds.{IsCovered, AreGatheredBut, IsToCome, AreGatheredUpTo, AreKept, AreKnown, AddsLinks, HasNearer, HasStanding}
-use Rattle.dpl_links.specs.Crowds.{IsCrowd, IsLeftOut}
+use Rattle.dpl_links.specs.Crowds.{IsCovered, AreGatheredBut, AreKept, AreKnown, AddsLinks, AddsTurns, HasNearer, HasStanding}
+use Rattle.dpl_links.specs.Crowds.{IsCrowd, IsBehind, IsLeftOut, HasEnds, IsFrom, LooksAt, AreTurns, AreOfOneShape, is_crowded}
 use Rattle.dpl_links.proofs.GatherLemmas.{gap_least, stands_chain, stands_last, covered_heads, links_heads}
+use Rattle.dpl_links.proofs.NetLemmas.{min_turned, max_turned}
 use Rattle.dpl_links.proofs.ReachLemmas.{squares}
-use Rattle.dpl_list.proofs.Lists.{any_left, some_of, repeated}
+use Rattle.dpl_list.proofs.Lists.{any_left, any_right, any_permutation, some_of, repeated}
+use Rattle.dpl_list.proofs.Integers.{signed}
 
 -- ---- gaps
 
@@ -90,22 +95,30 @@ kept_set nearest piece link links kept c k d l = elim (cases_eq k piece) [
 
 -- no link is added
 pub adds_nothing : (s : Scene) (pieces : List ℕ) (i : ℕ) (IsDone : ℕ → Type 0) (links : List Link) (nearest : List (Option Link))
-    → AreKnown s pieces links nearest → ((l : Link) → IsLink s pieces l → l.a ≡ i → IsDone l.b → IsCovered links l)
+    → AreKnown s pieces links nearest → ((l : Link) (j : ℕ) → IsLink s pieces l → HasEnds l i j → IsDone j → IsCovered links l)
     → AddsLinks s pieces i IsDone links links nearest
 adds_nothing s pieces i IsDone links nearest known all = record { known = known; grows = λ l c. c; all = all }
+
+-- the two fragments have no link
+pub adds_none : (s : Scene) (pieces : List ℕ) (i j : ℕ) (links : List Link) (nearest : List (Option Link))
+    → AreKnown s pieces links nearest → ((l : Link) → IsLink s pieces l → HasEnds l i j → None ≡ Some l) → AddsLinks s pieces i (λ k. k ≡ j) links links nearest
+adds_none s pieces i j links nearest known none = adds_nothing s pieces i (λ k. k ≡ j) links nearest known
+    (λ l k f h e. let P : ℕ → Type 0 = HasEnds l i in absurd (none_some l (none l f (subst P e h)))) where
+      none_some : (l : Link) → None ≡ Some l → ⊥
+      none_some l e = cc
 
 -- one that is kept stands for the one link
 pub adds_known : (s : Scene) (pieces : List ℕ) (i j : ℕ) (link : Link) (links : List Link) (nearest : List (Option Link))
     → AreKnown s pieces links nearest → HasStanding nearest link
-    → ((l : Link) → IsLink s pieces l → l.a ≡ i → l.b ≡ j → link ≡ l) → AddsLinks s pieces i (λ k. k ≡ j) links links nearest
+    → ((l : Link) → IsLink s pieces l → HasEnds l i j → link ≡ l) → AddsLinks s pieces i (λ k. k ≡ j) links links nearest
 adds_known s pieces i j link links nearest known stands one = adds_nothing s pieces i (λ k. k ≡ j) links nearest known
-    (λ l f a b. let P : Link → Type 0 = IsCovered links in
-    subst P (one l f a b) (standing_stands links nearest link known.kept stands))
+    (λ l k f h e. let P : Link → Type 0 = IsCovered links in let Q : ℕ → Type 0 = HasEnds l i in
+    subst P (one l f (subst Q e h)) (standing_stands links nearest link known.kept stands))
 
 -- the one link is added and kept
 pub adds_one : (s : Scene) (pieces : List ℕ) (i j : ℕ) (link : Link) (links new : List Link) (nearest after : List (Option Link))
     → AreKnown s pieces links nearest → new ≡ links ++ link ∷ [] → IsLink s pieces link
-    → ((l : Link) → IsLink s pieces l → l.a ≡ i → l.b ≡ j → link ≡ l)
+    → ((l : Link) → IsLink s pieces l → HasEnds l i j → link ≡ l)
     → ((links : List Link) → AreKept nearest links → IsCovered links link → AreKept after links)
     → AddsLinks s pieces i (λ k. k ≡ j) links new after
 adds_one s pieces i j link links new nearest after known e is one keep = rw e (record {
@@ -114,61 +127,91 @@ adds_one s pieces i j link links new nearest after known e is one keep = rw e (r
     kept = keep (links ++ link ∷ []) (kept_on nearest links (links ++ link ∷ []) grows known.kept) (stands_last links link);
   };
   grows = grows;
-  all = λ l f a b. let P : Link → Type 0 = λ x. IsCovered (links ++ link ∷ []) x in subst P (one l f a b) (stands_last links link);
+  all = λ l k f h e. let P : Link → Type 0 = λ x. IsCovered (links ++ link ∷ []) x in let Q : ℕ → Type 0 = HasEnds l i in
+      subst P (one l f (subst Q e h)) (stands_last links link);
 }) where
   grows : (l : Link) → IsCovered links l → IsCovered (links ++ link ∷ []) l
   grows l c = any_left (λ m. StandsFor m l) links (link ∷ []) c
 
 -- ---- the walk
 
--- the item of a stop before a place
-pub record IsPassed (stops : List Stop) (at j : ℕ) : Type 0 where
+-- the item of a stop from one on before a place
+pub record IsPassed (stops : List Stop) (from at j : ℕ) : Type 0 where
   pub stop : ℕ
+  pub later : from ≤ stop
   pub before : stop < at
   pub within : stop < length stops
   pub number : (d : Stop) → (get_or stops stop d).number ≡ j
 
-pub walk_begins : (s : Scene) (pieces : List ℕ) (i : ℕ) (stops : List Stop) (links : List Link) (nearest : List (Option Link))
-    → AreKnown s pieces links nearest → AddsLinks s pieces i (IsPassed stops 0) links links nearest
-walk_begins s pieces i stops links nearest known = adds_nothing s pieces i (IsPassed stops 0) links nearest known
-    (λ l f a p. let h = p.before in absurd (omega arith))
+pub walk_begins : (s : Scene) (pieces : List ℕ) (i : ℕ) (stops : List Stop) (from : ℕ) (links : List Link) (nearest : List (Option Link))
+    → AreKnown s pieces links nearest → AddsLinks s pieces i (IsPassed stops from from) links links nearest
+walk_begins s pieces i stops from links nearest known = adds_nothing s pieces i (IsPassed stops from from) links nearest known
+    (λ l j f e p. let h = p.before in let g = p.later in absurd (omega arith))
 
 -- a stop is looked at
-pub walk_on : (s : Scene) (pieces : List ℕ) (i : ℕ) (stops : List Stop) (at : ℕ) (stop : Stop) (links mid new : List Link)
+pub walk_on : (s : Scene) (pieces : List ℕ) (i : ℕ) (stops : List Stop) (from at : ℕ) (stop : Stop) (links mid new : List Link)
     (nearest after : List (Option Link)) → ((d : Stop) → get_or stops at d ≡ stop)
     → AddsLinks s pieces i (λ k. k ≡ stop.number) mid new after
-    → AddsLinks s pieces i (IsPassed stops at) links mid nearest → AddsLinks s pieces i (IsPassed stops (at + 1)) links new after
-walk_on s pieces i stops at stop links mid new nearest after is on w = record {
+    → AddsLinks s pieces i (IsPassed stops from at) links mid nearest → AddsLinks s pieces i (IsPassed stops from (at + 1)) links new after
+walk_on s pieces i stops from at stop links mid new nearest after is on w = record {
   known = on.known;
   grows = λ l c. on.grows l (w.grows l c);
-  all = λ l f a p. let h = p.before in elim (cases_lt p.stop at) [
-    | inl g ↦ on.grows l (w.all l f a (record { stop = p.stop; before = g; within = p.within; number = p.number }))
-    | inr g ↦ let e : p.stop ≡ at = omega arith in
-        on.all l f a (sym (p.number stop) ∙ ap (λ k. (get_or stops k stop).number) e ∙ ap (λ (t : Stop). t.number) (is stop))
+  all = λ l j f e p. let h = p.before in elim (cases_lt p.stop at) [
+    | inl g ↦ on.grows l (w.all l j f e (record { stop = p.stop; later = p.later; before = g; within = p.within; number = p.number }))
+    | inr g ↦ let q : p.stop ≡ at = omega arith in
+        on.all l j f e (sym (p.number stop) ∙ ap (λ k. (get_or stops k stop).number) q ∙ ap (λ (t : Stop). t.number) (is stop))
   ];
 }
 
+stretch_turned : (a1 a2 b1 b2 : ℤ) → stretch_gap a1 a2 b1 b2 ≡ stretch_gap b1 b2 a1 a2
+stretch_turned a1 a2 b1 b2 = omega signed
+
+gap_turned : (a b : Corners) → rect_gap2 a b ≡ rect_gap2 b a
+gap_turned a b = rw (stretch_turned a.x1 a.x2 b.x1 b.x2, stretch_turned a.y1 a.y2 b.y1 b.y2) refl
+
+-- what is known of the link of two fragments, whichever is the smaller
+record IsLinkOf (s : Scene) (pieces : List ℕ) (l : Link) (i j : ℕ) : Type 0 where
+  low : min (piece_of pieces i) (piece_of pieces j) ≡ l.p
+  high : max (piece_of pieces i) (piece_of pieces j) ≡ l.q
+  gap : rect_gap2 (rect_at s.rects i) (rect_at s.rects j) ≡ l.gap
+  close : l.gap < s.space * s.space
+  other : get_or s.shape i 0 ≢ get_or s.shape j 0
+
+link_of_two : (s : Scene) (pieces : List ℕ) (l : Link) (i j : ℕ) → IsLink s pieces l → l.a ≡ i → l.b ≡ j → IsLinkOf s pieces l i j
+link_of_two s pieces l i j f a b = record {
+  low = ap (λ k. min (piece_of pieces k) (piece_of pieces j)) (sym a) ∙ ap (λ k. min (piece_of pieces l.a) (piece_of pieces k)) (sym b) ∙ sym f.low;
+  high = ap (λ k. max (piece_of pieces k) (piece_of pieces j)) (sym a) ∙ ap (λ k. max (piece_of pieces l.a) (piece_of pieces k)) (sym b) ∙ sym f.high;
+  gap = ap (λ k. rect_gap2 (rect_at s.rects k) (rect_at s.rects j)) (sym a) ∙ ap (λ k. rect_gap2 (rect_at s.rects l.a) (rect_at s.rects k)) (sym b) ∙ sym f.gap;
+  close = let c = close_gap (rect_at s.rects l.a) (rect_at s.rects l.b) s.space f.conflict.close in let g = f.gap in omega arith;
+  other = λ e. f.conflict.other (ap (λ k. get_or s.shape k 0) a ∙ e ∙ ap (λ k. get_or s.shape k 0) (sym b));
+}
+
+link_of_ends : (s : Scene) (pieces : List ℕ) (l : Link) (i j : ℕ) → IsLink s pieces l → HasEnds l i j → IsLinkOf s pieces l i j
+link_of_ends s pieces l i j f (inl (a, b)) = link_of_two s pieces l i j f a b
+link_of_ends s pieces l i j f (inr (a, b)) = let t = link_of_two s pieces l j i f a b in record {
+  low = min_turned _ _ ∙ t.low;
+  high = max_turned _ _ ∙ t.high;
+  gap = gap_turned (rect_at s.rects i) (rect_at s.rects j) ∙ t.gap;
+  close = t.close;
+  other = λ e. t.other (sym e);
+}
+
 -- what a stop that is left out holds needs no link
-left_out : (x : Crowd) (stops : List Stop) (i : ℕ) (stop : Stop) (nearest : List (Option Link)) (links : List Link) (m : ℕ)
-    → IsCrowd x → stops ≡ x.stops.now → AreKnown (scene_in x.pieces) x.pieces.piece.now links nearest
-    → IsLeftOut x nearest stop i → stop.number < length x.pieces.rects.now → (get_or stops m stop).number < length x.pieces.rects.now
-    → Holds stop.bounds (bounds_of (rect_at (map corners_of x.pieces.rects.now) (get_or stops m stop).number))
-    → ((kind : ℕ) → stop.kind ≡ Some kind → piece_of x.pieces.piece.now stop.number ≡ kind)
-    → ((kind : ℕ) → stop.kind ≡ Some kind → piece_of x.pieces.piece.now (get_or stops m stop).number ≡ kind)
-    → (l : Link) → IsLink (scene_in x.pieces) x.pieces.piece.now l → l.a ≡ i → l.b ≡ (get_or stops m stop).number
-    → i < length x.pieces.rects.now → IsCovered links l
-left_out x stops i stop nearest links m crowd same known out inside number holds own kind l f a b within =
+left_out : (x : Crowd) (i j : ℕ) (stop : Stop) (nearest : List (Option Link)) (links : List Link)
+    → IsCrowd x → AreKnown (scene_in x.pieces) x.pieces.piece.now links nearest
+    → IsLeftOut x nearest stop i → stop.number < length x.pieces.rects.now → j < length x.pieces.rects.now
+    → Holds stop.bounds (bounds_of (rect_at (map corners_of x.pieces.rects.now) j))
+    → ((kind : ℕ) → stop.kind ≡ Some kind → get_or x.kinds.now stop.number 0 ≡ kind)
+    → ((kind : ℕ) → stop.kind ≡ Some kind → get_or x.kinds.now j 0 ≡ kind)
+    → (l : Link) → IsLink (scene_in x.pieces) x.pieces.piece.now l → HasEnds l i j → IsCovered links l
+left_out x i j stop nearest links crowd known out inside number holds own kind l f e =
     elim out.why [
-      | inl far ↦ let c = close in absurd (omega arith)
+      | inl far ↦ let c = t.close in let g = t.gap in let h = least in absurd (omega arith)
       | inr behind ↦ elim behind.why [
-        | inl (whole, shapes) ↦ absurd (f.conflict.other (
-            ap (λ k. get_or shape k 0) a ∙ shapes ∙ crowd.whole whole stop.number j (rw long inside) (rw long number)
-            (own behind.other behind.kind ∙ sym (kind behind.other behind.kind)) ∙ ap (λ k. get_or shape k 0) (sym b)
-            ))
+        | inl shapes ↦ absurd (t.other (shapes ∙ crowd.shapes behind.told stop.number j (rw crowd.long inside) (rw crowd.long number) (alike behind)))
         | inr nearer ↦ nearer_stands s piece links nearest l _ _ out.gap known.kept nearer
-            (ap (λ k. min (piece_of piece i) k) (sym (kind behind.other behind.kind)) ∙ ends (λ g h. min (piece_of piece g) (piece_of piece h)) ∙ sym f.low)
-            (ap (λ k. max (piece_of piece i) k) (sym (kind behind.other behind.kind)) ∙ ends (λ g h. max (piece_of piece g) (piece_of piece h)) ∙ sym f.high)
-            (let g = least in let e = gap in omega arith)
+            (ap (λ k. min (piece_of piece i) k) (pieces behind) ∙ t.low) (ap (λ k. max (piece_of piece i) k) (pieces behind) ∙ t.high)
+            (let g = least in let q = t.gap in omega arith)
       ]
     ] where
       s : Scene
@@ -177,42 +220,33 @@ left_out x stops i stop nearest links m crowd same known out inside number holds
       piece : List ℕ
       piece = x.pieces.piece.now
 
-      shape : List ℕ
-      shape = x.pieces.shape.now
+      t : IsLinkOf s piece l i j
+      t = link_of_ends s piece l i j f e
 
-      j : ℕ
-      j = (get_or stops m stop).number
+      alike : IsBehind x nearest stop i out.gap → get_or x.kinds.now stop.number 0 ≡ get_or x.kinds.now j 0
+      alike b = own b.kind b.is ∙ sym (kind b.kind b.is)
 
-      long : length piece ≡ length x.pieces.rects.now
-      long = crowd.pieces.pieces
-
-      ends : (F : ℕ → ℕ → ℕ) → F i j ≡ F l.a l.b
-      ends F = ap (λ g. F g j) (sym a) ∙ ap (λ h. F l.a h) (sym b)
-
-      gap : rect_gap2 (rect_at s.rects i) (rect_at s.rects j) ≡ l.gap
-      gap = ends (λ g h. rect_gap2 (rect_at s.rects g) (rect_at s.rects h)) ∙ sym f.gap
+      pieces : IsBehind x nearest stop i out.gap → piece_of piece stop.number ≡ piece_of piece j
+      pieces b = crowd.told b.told stop.number j (rw crowd.long inside) (rw crowd.long number) (alike b)
 
       least : out.gap ≤ rect_gap2 (rect_at s.rects i) (rect_at s.rects j)
       least = out.least (rect_at s.rects j) holds
 
-      close : out.gap < x.pieces.space * x.pieces.space
-      close = let c = close_gap (rect_at s.rects l.a) (rect_at s.rects l.b) s.space f.conflict.close in
-          let e = gap in let g = f.gap in let h = least in omega arith
-
-pub walk_past : (x : Crowd) (i at : ℕ) (stop : Stop) (links mid : List Link) (nearest : List (Option Link))
-    → IsCrowd x → i < length x.pieces.rects.now → ((d : Stop) → get_or x.stops.now at d ≡ stop) → at < length x.stops.now
+pub walk_past : (x : Crowd) (i from at : ℕ) (stop : Stop) (links mid : List Link) (nearest : List (Option Link))
+    → IsCrowd x → ((d : Stop) → get_or x.stops.now at d ≡ stop) → at < length x.stops.now
     → IsLeftOut x nearest stop i
-    → AddsLinks (scene_in x.pieces) x.pieces.piece.now i (IsPassed x.stops.now at) links mid nearest
-    → AddsLinks (scene_in x.pieces) x.pieces.piece.now i (IsPassed x.stops.now (at + stop.rest + 1)) links mid nearest
-walk_past x i at stop links mid nearest crowd inside is within out w = record {
+    → AddsLinks (scene_in x.pieces) x.pieces.piece.now i (IsPassed x.stops.now from at) links mid nearest
+    → AddsLinks (scene_in x.pieces) x.pieces.piece.now i (IsPassed x.stops.now from (at + stop.rest + 1)) links mid nearest
+walk_past x i from at stop links mid nearest crowd is within out w = record {
   known = w.known;
   grows = w.grows;
-  all = λ l f a p. elim (cases_lt p.stop at) [
-    | inl g ↦ w.all l f a (record { stop = p.stop; before = g; within = p.within; number = p.number })
-    | inr g ↦ let h = p.before in left_out x stops i stop nearest mid p.stop crowd refl w.known out
+  all = λ l j f e p. elim (cases_lt p.stop at) [
+    | inl g ↦ w.all l j f e (record { stop = p.stop; later = p.later; before = g; within = p.within; number = p.number })
+    | inr g ↦ let h = p.before in let P : ℕ → Type 0 = HasEnds l i in
+        left_out x i (get_or stops p.stop stop).number stop nearest mid crowd w.known out
         (rw (is stop) at (number at within)) (number p.stop p.within) (holds p.stop g (omega arith) p.within)
-        (λ kind e. ap (λ (t : Stop). piece_of x.pieces.piece.now t.number) (sym (is stop)) ∙ kinds at (omega arith) (omega arith) kind e)
-        (kinds p.stop g (omega arith)) l f a (sym (p.number stop)) inside
+        (λ kind q. ap (λ (t : Stop). get_or x.kinds.now t.number 0) (sym (is stop)) ∙ kinds at (omega arith) (omega arith) kind q)
+        (kinds p.stop g (omega arith)) l f (subst P (sym (p.number stop)) e)
   ];
 } where
   stops : List Stop
@@ -232,94 +266,213 @@ walk_past x i at stop links mid nearest crowd inside is within out w = record {
       let P : Bounds → Type 0 = λ b. Holds stop.bounds b in
       subst P (bounds_at x.pieces.rects.now (get_or stops m stop).number (some_of x.pieces.rects.now (get_or stops m stop).number n) stop.bounds nowhere n) h
 
-  kinds : (m : ℕ) → at ≤ m → m < at + stop.rest + 1 → (kind : ℕ) → stop.kind ≡ Some kind → piece_of x.pieces.piece.now (get_or stops m stop).number ≡ kind
+  kinds : (m : ℕ) → at ≤ m → m < at + stop.rest + 1 → (kind : ℕ) → stop.kind ≡ Some kind → get_or x.kinds.now (get_or stops m stop).number 0 ≡ kind
   kinds m low high kind e = let r = rest in
       crowd.kinds.one at m stop kind within low (omega arith) (ap (λ (t : Stop). t.kind) (is stop) ∙ e)
 
-pub walk_ends : (x : Crowd) (i at : ℕ) (links mid : List Link) (nearest : List (Option Link)) → IsCrowd x → length x.stops.now ≤ at
-    → AddsLinks (scene_in x.pieces) x.pieces.piece.now i (IsPassed x.stops.now at) links mid nearest
-    → AddsLinks (scene_in x.pieces) x.pieces.piece.now i (λ j. j < length x.pieces.rects.now) links mid nearest
-walk_ends x i at links mid nearest crowd whole w = record {
+pub walk_ends : (s : Scene) (pieces : List ℕ) (i : ℕ) (stops : List Stop) (from at : ℕ) (links mid : List Link) (nearest : List (Option Link))
+    → length stops ≤ at → AddsLinks s pieces i (IsPassed stops from at) links mid nearest → AddsLinks s pieces i (IsFrom stops from) links mid nearest
+walk_ends s pieces i stops from at links mid nearest whole w = record {
   known = w.known;
   grows = w.grows;
-  all = λ l f a h. w.all l f a (passed l.b (crowd.index.all l.b (rw (length-map x.pieces.rects.now (λ r. bounds_of (corners_of r))) h)));
+  all = λ l j f e p. let h = p.within in
+      w.all l j f e (record { stop = p.place; later = p.later; before = omega arith; within = p.within; number = p.number });
+}
+
+-- ---- turns
+
+-- the turns of the crowded ones at stops from k on
+pub record HasTurns (x : Crowd) (crowded : List Bool) (k from : ℕ) (turns : List Turn) : Type 0 where
+  pub each : All (λ t. t.number < length x.pieces.rects.now) turns
+  pub one : AreOfOneShape x k from
+  pub all : (p q : ℕ) (d : Stop) → k ≤ p → p < q → q < length x.stops.now → is_crowded crowded (get_or x.stops.now p d).number ≡ true
+      → get_or x.pieces.shape.now (get_or x.stops.now p d).number 0 ≢ get_or x.pieces.shape.now (get_or x.stops.now q d).number 0
+      → Any (λ t. (t.number ≡ (get_or x.stops.now p d).number) × (t.from ≤ q)) turns
+
+pub turns_begin : (x : Crowd) (crowded : List Bool) → HasTurns x crowded (length x.stops.now) (length x.stops.now) []
+turns_begin x crowded = record {
+  each = λ k d l. absurd (omega arith);
+  one = record { some = omega arith; within = omega arith; same = λ m d h l. absurd (omega arith) };
+  all = λ p q d h l g. absurd (omega arith);
+}
+
+-- the stop behind one is of another shape, or there is none
+pub shape_ends : (x : Crowd) (k : ℕ) → k < length x.stops.now → AreOfOneShape x k (k + 1)
+shape_ends x k within = record {
+  some = omega arith;
+  within = omega arith;
+  same = λ m d h l. let e : m ≡ k = omega arith in ap (λ n. get_or x.pieces.shape.now (get_or x.stops.now n d).number 0) e;
+}
+
+-- it is of the same
+pub shape_goes_on : (x : Crowd) (k from : ℕ)
+    → ((d : Stop) → k + 1 < length x.stops.now → get_or x.pieces.shape.now (get_or x.stops.now k d).number 0
+    ≡ get_or x.pieces.shape.now (get_or x.stops.now (k + 1) d).number 0) → AreOfOneShape x (k + 1) from → AreOfOneShape x k from
+shape_goes_on x k from alike o = let some = o.some in let within = o.within in record {
+  some = omega arith;
+  within = o.within;
+  same = λ m d h l. elim (cases_lt k m) [
+    | inl g ↦ o.same m d (omega arith) l ∙ sym (alike d (omega arith))
+    | inr g ↦ let e : m ≡ k = omega arith in ap (λ n. get_or x.pieces.shape.now (get_or x.stops.now n d).number 0) e
+  ];
+}
+
+-- a stop of a fragment that is not crowded
+pub turns_skip : (x : Crowd) (crowded : List Bool) (k from next : ℕ) (stop : Stop) (turns : List Turn) → ((d : Stop) → get_or x.stops.now k d ≡ stop)
+    → is_crowded crowded stop.number ≡ false → AreOfOneShape x k next → HasTurns x crowded (k + 1) from turns → HasTurns x crowded k next turns
+turns_skip x crowded k from next stop turns is none one g = record {
+  each = g.each;
+  one = one;
+  all = λ p q d h l w c o. elim (cases_lt k p) [
+    | inl b ↦ g.all p q d (omega arith) l w c o
+    | inr b ↦ absurd (let e : p ≡ k = omega arith in
+        let n : is_crowded crowded (get_or x.stops.now p d).number ≡ false =
+        ap (λ m. is_crowded crowded (get_or x.stops.now m d).number) e ∙ ap (λ (t : Stop). is_crowded crowded t.number) (is d) ∙ none in cc)
+  ];
+}
+
+-- the turn of a crowded one
+pub turns_more : (x : Crowd) (crowded : List Bool) (k from next : ℕ) (stop : Stop) (turn : Turn) (turns new : List Turn)
+    → ((d : Stop) → get_or x.stops.now k d ≡ stop) → turn.number ≡ stop.number → turn.from ≡ next → stop.number < length x.pieces.rects.now
+    → new ≡ turns ++ turn ∷ [] → AreOfOneShape x k next → HasTurns x crowded (k + 1) from turns → HasTurns x crowded k next new
+turns_more x crowded k from next stop turn turns new is number at within e one g = rw e (record {
+  each = All-push (λ (t : Turn). t.number < length x.pieces.rects.now) turns turn g.each (omega arith);
+  one = one;
+  all = λ p q d h l w c o. elim (cases_lt k p) [
+    | inl b ↦ any_left (λ (t : Turn). (t.number ≡ (get_or x.stops.now p d).number) × (t.from ≤ q)) turns (turn ∷ []) (g.all p q d (omega arith) l w c o)
+    | inr b ↦ let f : p ≡ k = omega arith in
+        any_right (λ (t : Turn). (t.number ≡ (get_or x.stops.now p d).number) × (t.from ≤ q)) turns (turn ∷ []) (
+          0,
+          turn,
+          omega arith,
+          refl,
+          (
+            number ∙ ap (λ (t : Stop). t.number) (sym (is d)) ∙ ap (λ m. (get_or x.stops.now m d).number) (sym f),
+            elim (cases_lt q next) [
+              | inl before ↦ absurd (o (ap (λ m. get_or x.pieces.shape.now (get_or x.stops.now m d).number 0) f ∙ sym (one.same q d (omega arith) before)))
+              | inr behind ↦ (let a = at in omega arith)
+            ],
+          ),
+        )
+  ];
+})
+
+pub turns_all : (x : Crowd) (crowded : List Bool) (k from : ℕ) (turns : List Turn) → IsCrowd x → k ≡ 0 → HasTurns x crowded k from turns
+    → AreTurns x crowded turns
+turns_all x crowded k from turns crowd none g = record {
+  each = g.each;
+  all = λ i j h l c c' other. of_places i j (place i h) (place j l) c c' other;
 } where
-  passed : (j : ℕ) → (k : ℕ) × (k < length x.stops.now) × ((d : Stop) → (get_or x.stops.now k d).number ≡ j) → IsPassed x.stops.now at j
-  passed j (k, l, e) = record { stop = k; before = omega arith; within = l; number = e }
+  IsAt : ℕ → Type 0
+  IsAt i = (p : ℕ) × (p < length x.stops.now) × ((d : Stop) → (get_or x.stops.now p d).number ≡ i)
+
+  place : (i : ℕ) → i < length x.pieces.rects.now → IsAt i
+  place i h = crowd.index.all i (rw (length-map x.pieces.rects.now (λ r. bounds_of (corners_of r))) h)
+
+  looks : (i j p q : ℕ) (d : Stop) → p < q → q < length x.stops.now → ((d : Stop) → (get_or x.stops.now p d).number ≡ i)
+      → ((d : Stop) → (get_or x.stops.now q d).number ≡ j) → is_crowded crowded i ≡ true
+      → get_or x.pieces.shape.now i 0 ≢ get_or x.pieces.shape.now j 0 → Any (λ t. LooksAt x.stops.now t i j) turns
+  looks i j p q d h l a b c other =
+      let (m, t, n, e, (f, s)) = g.all p q d (omega arith) h l (ap (λ z. is_crowded crowded z) (a d) ∙ c)
+      (λ z. other (ap (λ v. get_or x.pieces.shape.now v 0) (sym (a d)) ∙ z ∙ ap (λ v. get_or x.pieces.shape.now v 0) (b d))) in
+      (m, t, n, e, (f ∙ a d, record { place = q; later = s; within = l; number = b }))
+
+  of_places : (i j : ℕ) → IsAt i → IsAt j → is_crowded crowded i ≡ true → is_crowded crowded j ≡ true
+      → get_or x.pieces.shape.now i 0 ≢ get_or x.pieces.shape.now j 0 → Any (λ t. LooksAt x.stops.now t i j ⊎ LooksAt x.stops.now t j i) turns
+  of_places i j (p, l, a) (q, n, b) c c' other = let d = some_of x.stops.now p l in elim (cases_lt p q) [
+    | inl h ↦ let (m, t, n', e, s) = looks i j p q d h n a b c other in (m, t, n', e, inl s)
+    | inr h ↦ elim (cases_lt q p) [
+      | inl g' ↦ let (m, t, n', e, s) = looks j i q p d g' l b a c' (λ z. other (sym z)) in (m, t, n', e, inr s)
+      | inr g' ↦ absurd (other (let f : p ≡ q = omega arith in
+          ap (λ v. get_or x.pieces.shape.now v 0) (sym (a d) ∙ ap (λ v. (get_or x.stops.now v d).number) f ∙ b d)))
+    ]
+  ]
+
+pub turns_moved : (x : Crowd) (crowded : List Bool) (turns new : List Turn) → IsPermutation turns new → AreTurns x crowded turns → AreTurns x crowded new
+turns_moved x crowded turns new p g = record {
+  each = All-permutation (λ (t : Turn). t.number < length x.pieces.rects.now) turns new p g.each;
+  all = λ i j h l c c' other. any_permutation (λ t. LooksAt x.stops.now t i j ⊎ LooksAt x.stops.now t j i) turns new p (g.all i j h l c c' other);
+}
 
 -- ---- all crowded fragments
 
-pub but_none : (s : Scene) (pieces : List ℕ) (n : ℕ) (crowded : List ℕ) (links : List Link) → length crowded ≡ 0
+pub but_none : (s : Scene) (pieces : List ℕ) (n : ℕ) (crowded : List Bool) (links : List Link) → ((i : ℕ) → is_crowded crowded i ≡ false)
     → AreGatheredBut s pieces n crowded links → AreGathered s pieces n links
-but_none s pieces n crowded links e g = record { each = g.each; all = λ l f h. elim (g.all l f h) [ inl c ↦ c | inr (k, i, q) ↦ absurd (omega arith) ] }
-
-pub upto_begins : (s : Scene) (pieces : List ℕ) (n : ℕ) (crowded : List ℕ) (links : List Link) → length s.rects ≤ n
-    → AreGatheredBut s pieces n crowded links → AreGatheredUpTo s pieces crowded 0 links
-upto_begins s pieces n crowded links whole g = record {
+but_none s pieces n crowded links none g = record {
   each = g.each;
-  all = λ l f. let r = f.conflict.rising in let w = f.conflict.within in to_come l (g.all l f (omega arith));
-} where
-  to_come : (l : Link) → IsCovered links l ⊎ Contains crowded l.a → IsCovered links l ⊎ IsToCome crowded 0 l.a
-  to_come l (inl c) = inl c
-  to_come l (inr (k, h, e)) = inr (record { place = k; later = omega arith; within = h; is = e })
-
-upto_more : (s : Scene) (pieces : List ℕ) (crowded : List ℕ) (k i : ℕ) (IsDone : ℕ → Type 0) (links new : List Link) (nearest : List (Option Link))
-    → k < length crowded → i ≡ get_or crowded k i → AddsLinks s pieces i IsDone links new nearest → ((j : ℕ) → j < length s.rects → IsDone j)
-    → AreGatheredUpTo s pieces crowded k links → AreGatheredUpTo s pieces crowded (k + 1) new
-upto_more s pieces crowded k i IsDone links new nearest within is a done g = record {
-  each = a.known.each;
-  all = λ l f. on l f (g.all l f);
-} where
-  on : (l : Link) → IsLink s pieces l → IsCovered links l ⊎ IsToCome crowded k l.a → IsCovered new l ⊎ IsToCome crowded (k + 1) l.a
-  on l f (inl c) = inl (a.grows l c)
-  on l f (inr c) = let h = c.later in elim (cases_lt k c.place) [
-    | inl g ↦ inr (record { place = c.place; later = omega arith; within = c.within; is = c.is })
-    | inr g ↦ let e : c.place ≡ k = omega arith in
-        inl (a.all l f (sym c.is ∙ ap (λ m. get_or crowded m l.a) e ∙ get_or_default crowded k l.a i within ∙ sym is) (done l.b f.conflict.within))
-  ]
-
-upto_heads : (s : Scene) (pieces : List ℕ) (crowded : List ℕ) (k : ℕ) (links heads : List Link) → AreHeads links heads
-    → AreGatheredUpTo s pieces crowded k links → AreGatheredUpTo s pieces crowded k heads
-upto_heads s pieces crowded k links heads h g = record {
-  each = links_heads s pieces links heads g.each h;
-  all = λ l f. elim (g.all l f) [ inl c ↦ inl (covered_heads links heads h l c) | inr c ↦ inr c ];
+  all = λ l f h. elim (g.first l f h) [ inl c ↦ c | inr m ↦ absurd (let e = none l.a in cc) ];
 }
 
-pub upto_ends : (s : Scene) (pieces : List ℕ) (crowded : List ℕ) (k n : ℕ) (links : List Link) → length crowded ≤ k
-    → AreGatheredUpTo s pieces crowded k links → AreGathered s pieces n links
-upto_ends s pieces crowded k n links whole g = record {
-  each = g.each;
-  all = λ l f a. covered l (g.all l f);
-} where
-  covered : (l : Link) → IsCovered links l ⊎ IsToCome crowded k l.a → IsCovered links l
-  covered l (inl c) = c
-  covered l (inr c) = let h = c.later in let w = c.within in absurd (omega arith)
+abbrev pub no_turn : Turn
+no_turn = record { number = 0; from = 0 }
 
--- links of the crowded ones before a place, and those that are kept
-pub record UnderWay (s : Scene) (pieces : List ℕ) (crowded : List ℕ) (k : ℕ) (links : List Link) (nearest : List (Option Link)) : Type 0 where
-  pub upto : AreGatheredUpTo s pieces crowded k links
-  pub kept : AreKept nearest links
+-- links of the first turns, and those that are kept
+pub record UnderWay (s : Scene) (pieces : List ℕ) (stops : List Stop) (turns : List Turn) (k : ℕ) (links new : List Link)
+    (nearest : List (Option Link)) : Type 0 where
+  pub adds : AddsTurns s pieces stops turns k links new
+  pub kept : AreKept nearest new
 
-pub under_way : (s : Scene) (pieces : List ℕ) (crowded : List ℕ) (links : List Link) (n : ℕ) → AreGatheredUpTo s pieces crowded 0 links
-    → UnderWay s pieces crowded 0 links (replicate n None)
-under_way s pieces crowded links n g = record { upto = g; kept = kept_none n links }
+pub under_way : (s : Scene) (pieces : List ℕ) (stops : List Stop) (turns : List Turn) (links : List Link) (n : ℕ) → All (IsLink s pieces) links
+    → UnderWay s pieces stops turns 0 links links (replicate n None)
+under_way s pieces stops turns links n each = record {
+  adds = record { each = each; grows = λ l c. c; all = λ m j d l h. absurd (omega arith) };
+  kept = kept_none n links;
+}
 
-pub under_known : (s : Scene) (pieces : List ℕ) (crowded : List ℕ) (k : ℕ) (links : List Link) (nearest : List (Option Link))
-    → UnderWay s pieces crowded k links nearest → AreKnown s pieces links nearest
-under_known s pieces crowded k links nearest u = record { each = u.upto.each; kept = u.kept }
+pub under_known : (s : Scene) (pieces : List ℕ) (stops : List Stop) (turns : List Turn) (k : ℕ) (links new : List Link) (nearest : List (Option Link))
+    → UnderWay s pieces stops turns k links new nearest → AreKnown s pieces new nearest
+under_known s pieces stops turns k links new nearest u = record { each = u.adds.each; kept = u.kept }
 
-pub under_more : (s : Scene) (pieces : List ℕ) (crowded : List ℕ) (k i : ℕ) (IsDone : ℕ → Type 0) (links new : List Link)
-    (nearest after : List (Option Link))
-    → k < length crowded → i ≡ get_or crowded k i → AddsLinks s pieces i IsDone links new after → ((j : ℕ) → j < length s.rects → IsDone j)
-    → UnderWay s pieces crowded k links nearest → UnderWay s pieces crowded (k + 1) new after
-under_more s pieces crowded k i IsDone links new nearest after within is a done u = record {
-  upto = upto_more s pieces crowded k i IsDone links new after within is a done u.upto;
+pub under_more : (s : Scene) (pieces : List ℕ) (stops : List Stop) (turns : List Turn) (k : ℕ) (turn : Turn) (links mid new : List Link)
+    (nearest after : List (Option Link)) → ((d : Turn) → get_or turns k d ≡ turn)
+    → AddsLinks s pieces turn.number (IsFrom stops turn.from) mid new after
+    → UnderWay s pieces stops turns k links mid nearest → UnderWay s pieces stops turns (k + 1) links new after
+under_more s pieces stops turns k turn links mid new nearest after is a u = record {
+  adds = record {
+    each = a.known.each;
+    grows = λ l c. a.grows l (u.adds.grows l c);
+    all = λ m j d l h w f e p. elim (cases_lt m k) [
+      | inl g ↦ a.grows l (u.adds.all m j d l g w f e p)
+      | inr g ↦ let q : m ≡ k = omega arith in let t : get_or turns m d ≡ turn = ap (λ n. get_or turns n d) q ∙ is d in
+          let P : Turn → Type 0 = λ t. HasEnds l t.number j in let Q : Turn → Type 0 = λ t. IsFrom stops t.from j in
+          a.all l j f (subst P t e) (subst Q t p)
+    ];
+  };
   kept = a.known.kept;
 }
 
-pub under_heads : (s : Scene) (pieces : List ℕ) (crowded : List ℕ) (k : ℕ) (links heads : List Link) (nearest : List (Option Link))
-    → AreHeads links heads → UnderWay s pieces crowded k links nearest → UnderWay s pieces crowded k heads nearest
-under_heads s pieces crowded k links heads nearest h u = record {
-  upto = upto_heads s pieces crowded k links heads h u.upto;
-  kept = kept_on nearest links heads (covered_heads links heads h) u.kept;
+pub under_heads : (s : Scene) (pieces : List ℕ) (stops : List Stop) (turns : List Turn) (k : ℕ) (links new heads : List Link)
+    (nearest : List (Option Link)) → AreHeads new heads → UnderWay s pieces stops turns k links new nearest
+    → UnderWay s pieces stops turns k links heads nearest
+under_heads s pieces stops turns k links new heads nearest h u = record {
+  adds = record {
+    each = links_heads s pieces new heads u.adds.each h;
+    grows = λ l c. covered_heads new heads h l (u.adds.grows l c);
+    all = λ m j d l g w f e p. covered_heads new heads h l (u.adds.all m j d l g w f e p);
+  };
+  kept = kept_on nearest new heads (covered_heads new heads h) u.kept;
 }
+
+-- each link has one that stands for it: with a fragment that is not crowded as before, with two crowded ones by a turn
+pub crowded_all : (x : Crowd) (crowded : List Bool) (turns : List Turn) (links new : List Link) → AreTurns x crowded turns
+    → AreGatheredBut (scene_in x.pieces) x.pieces.piece.now (length x.pieces.rects.now) crowded links
+    → AddsTurns (scene_in x.pieces) x.pieces.piece.now x.stops.now turns (length turns) links new
+    → AreGathered (scene_in x.pieces) x.pieces.piece.now (length x.pieces.rects.now) new
+crowded_all x crowded turns links new are but adds = record {
+  each = adds.each;
+  all = λ l f h. let r = f.conflict.rising in
+      let w : l.b < length x.pieces.rects.now = rw (length-map x.pieces.rects.now corners_of) at f.conflict.within in
+      elim (but.first l f h) [
+        | inl c ↦ adds.grows l c
+        | inr first ↦ elim (but.second l f w) [
+          | inl c ↦ adds.grows l c
+          | inr second ↦ by_turn l f (are.all l.a l.b h w first second f.conflict.other)
+        ]
+      ];
+} where
+  by_turn : (l : Link) → IsLink (scene_in x.pieces) x.pieces.piece.now l
+      → Any (λ t. LooksAt x.stops.now t l.a l.b ⊎ LooksAt x.stops.now t l.b l.a) turns → IsCovered new l
+  by_turn l f (m, t, w, e, inl (n, from)) = adds.all m l.b t l w w f (inl (sym n ∙ ap (λ (u : Turn). u.number) (sym e), refl))
+      (let P : Turn → Type 0 = λ u. IsFrom x.stops.now u.from l.b in subst P (sym e) from)
+  by_turn l f (m, t, w, e, inr (n, from)) = adds.all m l.a t l w w f (inr (refl, sym n ∙ ap (λ (u : Turn). u.number) (sym e)))
+      (let P : Turn → Type 0 = λ u. IsFrom x.stops.now u.from l.a in subst P (sym e) from)

@@ -5,8 +5,7 @@ use Rattle.std.specs.Int.RustNames.{unsigned_abs}
 use Rattle.dpl_cell.specs.Places.{Corners}
 use Rattle.dpl_index.specs.declared.bounds.Bounds.{Bounds}
 use Rattle.dpl_links.specs.Pairs.{stretch_gap}
-use Rattle.dpl_links.specs.Links.{piece_of}
-use Rattle.dpl_links.specs.Crowds.{IsLeastGap, AreOfOneShape}
+use Rattle.dpl_links.specs.Crowds.{IsLeastGap, AreTold}
 use Rattle.dpl_list.proofs.Integers.{signed}
 
 pub apart_before : (a1 a2 b1 b2 c1 c2 : ℤ) (n : ℕ) → b1 ≤ℤ c1 → c2 ≤ℤ b2 → n ≤ unsigned_abs (int_max (pos 0) (b1 -ℤ a2)) → n ≤ stretch_gap a1 a2 c1 c2
@@ -22,8 +21,8 @@ pub gap_from : (r : Corners) (b : Bounds) (dx dy : ℕ) → ((c1 c2 : ℤ) → b
     → ((c1 c2 : ℤ) → b.low ≤ℤ c1 → c2 ≤ℤ b.high → dy ≤ stretch_gap r.y1 r.y2 c1 c2) → IsLeastGap r b (dx * dx + dy * dy)
 gap_from r b dx dy columns rows other h = squares dx dy _ _ (columns other.x1 other.x2 h.left h.right) (rows other.y1 other.y2 h.low h.high)
 
--- ---- shapes of pieces
+-- ---- numbers by their keys
 
-pub one_shape : (homes piece shape : List ℕ) (n : ℕ) → length piece ≤ n
-    → ((j : ℕ) → j < n → get_or homes (piece_of piece j) 0 ≡ get_or shape j 0) → AreOfOneShape piece shape
-one_shape homes piece shape n whole home j k h l e = sym (home j (omega arith)) ∙ ap (λ p. get_or homes p 0) e ∙ home k (omega arith)
+pub told_by : (by_key keys values : List ℕ) (n : ℕ) → length keys ≤ n
+    → ((j : ℕ) → j < n → get_or by_key (get_or keys j 0) 0 ≡ get_or values j 0) → AreTold keys values
+told_by by_key keys values n whole told j k h l e = sym (told j (omega arith)) ∙ ap (λ p. get_or by_key p 0) e ∙ told k (omega arith)

@@ -1,6 +1,6 @@
 //! Fragments with all that is known of each.
 ghost use Rattle.std.specs.Prelude.{◌≡◌, IfOk, true, length, slice_index_or};
-ghost use Rattle.dpl_links.specs.Crowds.{AreOfOneShape};
+ghost use Rattle.dpl_links.specs.Crowds.{AreTold};
 
 use dpl_cell::Rect;
 use std::alloc::{AllocError, Global};
@@ -16,43 +16,59 @@ pub struct Pieces<'a> {
     pub space: u64,
 }
 
-/// Whether all fragments of each piece are of one shape.
-pub fn are_within_shapes(alloc: Global, piece: &[u32], shape: &[u32]) -> Result<bool, AllocError>
-    requires { length shape.now ≡ length piece.now }
-    ensures { IfOk result (λ b. b ≡ true → AreOfOneShape piece.now shape.now) }
+/// Whether all fragments of each kind are of one piece and of one shape.
+pub fn tell_pieces(alloc: Global, kinds: &[u32], pieces: &Pieces<'_>) -> Result<bool, AllocError>
+    requires shapes { length pieces.now.shape.now ≡ length kinds.now }
+    requires pieces { length pieces.now.piece.now ≡ length kinds.now }
+    ensures shapes { IfOk result (λ b. b ≡ true → AreTold kinds.now pieces.now.shape.now) }
+    ensures pieces { IfOk result (λ b. b ≡ true → AreTold kinds.now pieces.now.piece.now) }
 {
-    let mut homes = vec![in alloc; 0u32; piece.len()]?;
-    for i in 0..piece.len() {
-        set_home(&mut homes, piece[i], shape[i]);
+    let shapes = are_told(alloc, kinds, pieces.shape)?;
+    let told = are_told(alloc, kinds, pieces.piece)?;
+    Ok(shapes && told)
+}
+
+/// Whether the same number stands wherever the same key does.
+fn are_told(alloc: Global, keys: &[u32], values: &[u32]) -> Result<bool, AllocError>
+    requires { length values.now ≡ length keys.now }
+    ensures { IfOk result (λ b. b ≡ true → AreTold keys.now values.now) }
+{
+    let mut by_key = vec![in alloc; 0u32; keys.len()]?;
+    for i in 0..keys.len() {
+        set(&mut by_key, keys[i] as usize, values[i]);
     }
-    let are = are_at_home(&homes, piece, shape);
+    let are = are_as_told(&by_key, keys, values);
     Ok(are)
 }
 
-fn set_home(homes: &mut [u32], piece: u32, shape: u32) {
-    if let Some(home) = homes.get_mut(piece as usize) {
-        *home = shape;
+/// Sets the number at a place, if there is one.
+pub fn set(numbers: &mut [u32], place: usize, number: u32)
+    ensures { length numbers.new ≡ length numbers.old }
+{
+    if let Some(at) = numbers.get_mut(place) {
+        *at = number;
     }
 }
 
-/// Whether each fragment is of the shape that is given for its piece.
-fn are_at_home(homes: &[u32], piece: &[u32], shape: &[u32]) -> bool
-    requires { length shape.now ≡ length piece.now }
-    ensures { result ≡ true → AreOfOneShape piece.now shape.now }
+/// Whether each number is the one that is given for its key.
+fn are_as_told(by_key: &[u32], keys: &[u32], values: &[u32]) -> bool
+    requires { length values.now ≡ length keys.now }
+    ensures { result ≡ true → AreTold keys.now values.now }
 {
-    for i in 0..piece.len() {
-        if home_of(homes, piece[i]) != shape[i] {
+    for i in 0..keys.len() {
+        if number_at(by_key, keys[i] as usize) != values[i] {
             return false;
         }
     }
     true
 }
 
-fn home_of(homes: &[u32], piece: u32) -> u32
-    ensures { result ≡ slice_index_or homes.now piece 0 }
+/// The number at a place; 0 where there is none.
+pub fn number_at(numbers: &[u32], place: usize) -> u32
+    ensures { result ≡ slice_index_or numbers.now place 0 }
 {
-    match homes.get(piece as usize) {
+    match numbers.get(place) {
         None => 0,
-        Some(shape) => *shape,
+        Some(number) => *number,
     }
 }

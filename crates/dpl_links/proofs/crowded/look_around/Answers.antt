@@ -10,7 +10,8 @@ use Rattle.dpl_links.proofs.crowded.look_around.Goals as goal
 pub stops-preserved-then-may_link : goal.stops-preserved-then-may_link
 stops-preserved-then-may_link c =
     let stop : Stop = get_or c.args.crowd.now.stops.now c.stops.at blank in
-    walk_on (scene_in c.args.crowd.now.pieces) c.args.crowd.now.pieces.piece.now c.args.i c.args.crowd.now.stops.now c.stops.at stop
+    walk_on (scene_in c.args.crowd.now.pieces) c.args.crowd.now.pieces.piece.now c.args.turn.now.number c.args.crowd.now.stops.now
+    c.args.turn.now.from c.stops.at stop
     c.args.found.now.items c.stops.found.items c.look_at.new.found.items c.stops.nearest.items c.look_at.new.nearest.items
     (λ d. get_or_default c.args.crowd.now.stops.now c.stops.at d blank c.stops-test.true) c.in_ok-look_at.ensures c.stops.invariant
 
@@ -18,11 +19,12 @@ pub stops-preserved : goal.stops-preserved
 stops-preserved c =
     let stop : Stop = get_or c.args.crowd.now.stops.now c.stops.at blank in
     let e : c.stops.at + (stop.rest + 1) ≡ c.stops.at + stop.rest + 1 = omega arith in
-    let out : IsLeftOut c.args.crowd.now c.stops.nearest.items stop c.args.i = rw c.deref.ensures.value at (c.may_link.ensures c.if-may_link.false) in
-    rw e (walk_past c.args.crowd.now c.args.i c.stops.at stop c.args.found.now.items c.stops.found.items c.stops.nearest.items
-    c.requires.crowd c.requires.within (λ d. get_or_default c.args.crowd.now.stops.now c.stops.at d blank c.stops-test.true)
+    let out : IsLeftOut c.args.crowd.now c.stops.nearest.items stop c.args.turn.now.number =
+    rw c.deref.ensures.value at (c.may_link.ensures c.if-may_link.false) in
+    rw e (walk_past c.args.crowd.now c.args.turn.now.number c.args.turn.now.from c.stops.at stop c.args.found.now.items c.stops.found.items
+    c.stops.nearest.items c.requires.crowd (λ d. get_or_default c.args.crowd.now.stops.now c.stops.at d blank c.stops-test.true)
     c.stops-test.true out c.stops.invariant)
 
 pub returns : goal.returns
-returns c = walk_ends c.args.crowd.now c.args.i c.stops.at c.args.found.now.items c.stops.found.items c.stops.nearest.items
-    c.requires.crowd c.stops-test.false c.stops.invariant
+returns c = walk_ends (scene_in c.args.crowd.now.pieces) c.args.crowd.now.pieces.piece.now c.args.turn.now.number c.args.crowd.now.stops.now
+    c.args.turn.now.from c.stops.at c.args.found.now.items c.stops.found.items c.stops.nearest.items c.stops-test.false c.stops.invariant
