@@ -1,6 +1,8 @@
 -- The walk over stops around a crowded fragment, and what it may leave out.
-use Rattle.std.proofs.Common.{arith, ◌≡◌, ◌≢◌, ◌⊎◌, ℤ, All, Any, Bool, false, true, inl, inr, ℕ, ◌+◌, ◌*◌, ◌<◌, ◌≤◌, List, length, get_or, set, map, ◌∙◌, min, max, Contains}
-use Rattle.std.proofs.Common.{refl, sym, ap, subst, ◌∷◌, [], ◌++◌, Option, Some, None, IfSome, Greater, replicate, length-set, get_or-set_same, get_or-set_other}
+use Rattle.std.proofs.Common.{arith, ◌≡◌, ◌≢◌, ◌⊎◌, ℤ, All, Any, Bool, false, true, inl, inr, ℕ, ◌+◌, ◌*◌, ◌<◌, ◌≤◌, List, length}
+use Rattle.std.proofs.Common.{get_or, set, map, ◌∙◌, min, max, Contains}
+use Rattle.std.proofs.Common.{refl, sym, ap, subst, ◌∷◌, [], ◌++◌, Option, Some, None, IfSome, Greater}
+use Rattle.std.proofs.Common.{replicate, length-set, get_or-set_same, get_or-set_other}
 use Rattle.std.specs.Ordering.{nat_cmp, is_lt, ordering_then}
 use Rattle.std.specs.Cmp.{nat_cmp_is}
 use Rattle.std.proofs.lemmas.Bool.{cases_lt, cases_eq}
