@@ -216,8 +216,8 @@ fn shut_within<'a>(
     Ok(wider)
 }
 
-/// Adds to the blocked positions of the tile `i` those that tiles within a reach of these stretches block. Stretches beside
-/// which the same tiles may be found are asked for at once.
+/// Adds to the blocked positions of the tile `i` those that tiles within a reach of these stretches block. Stretches with
+/// less than four times the spacing between them are asked for at once.
 fn push_beside<'a>(
     alloc: Global,
     tiling: &Tiling<'a>,
@@ -238,21 +238,21 @@ fn push_beside<'a>(
 {
     let mut rest = free;
     'groups: while rest.len() > 0 {
-        let (group, others) = rest.split_at(count_together(rest, reach));
+        let (group, others) = rest.split_at(count_together(rest, tiling.space));
         push_beside_group(alloc, tiling, finder, shut, group, reach, i)?;
         rest = others;
     }
     Ok(())
 }
 
-/// How many stretches in order lie so near one another that the same tiles may be within the reach of two.
-fn count_together(stretches: &[Stretch], reach: u64) -> usize
+/// How many stretches in order lie so near one another that they are asked for at once.
+fn count_together(stretches: &[Stretch], space: u64) -> usize
     requires some { 0 < length stretches.now }
-    requires near { reach ≤ MOST_REACH }
+    requires near { space ≤ MOST_REACH }
     ensures some { 0 < result }
     ensures within { result ≤ length stretches.now }
 {
-    let gap = 2 * reach as i64;
+    let gap = 4 * space as i64;
     let mut count = 1;
     'near: while count < stretches.len() {
         if stretches[count].from.wrapping_sub(stretches[count - 1].to) >= gap {
