@@ -2,8 +2,8 @@
 //! what is tight then is paired. After that each member without a mate gets as much more as its
 //! distances allow, and a mate where that makes one of its pairs tight.
 
-ghost use Rattle.std.specs.Prelude.{◌≡◌, ◌≢◌, ℕ, ◌+◌, ◌*◌, ◌<◌, ◌≤◌, ◌^◌, Option, None};
-ghost use Rattle.std.specs.Prelude.{true, false, List, replicate, length, slice_index};
+ghost use Rattle.std.specs.Prelude.{◌≡◌, ◌≢◌, ℕ, ◌+◌, ◌*◌, ◌<◌, ◌≤◌, ◌^◌, Option, Some, None};
+ghost use Rattle.std.specs.Prelude.{true, false, List, All, OnOk, replicate, length, slice_index};
 ghost use Rattle.dpl_laminar.specs.Changes.{IsSingles};
 ghost use Rattle.dpl_laminar.specs.Families.{Sets, IsFamily};
 ghost use Rattle.dpl_laminar.specs.Storing.{sets_of};
@@ -16,6 +16,7 @@ ghost use Rattle.dpl_tree.specs.Views.{mate_in};
 
 use dpl_laminar::{Family, Steps};
 use dpl_tree::{Metric, pair};
+use std::alloc::{AllocError, Global};
 use std::sync::ledger::Ledger;
 
 /// The lesser of an amount and what a load lacks of the distance from s to t, if that is another
@@ -152,23 +153,78 @@ fn pair_tight(metric: &Metric, mates: &mut [Option<u32>], sums: &[u64], s: u32, 
     pair(mates, s, t);
 }
 
-/// Pairs a member with one below a bound where that pair is tight.
-fn pair_below(metric: &Metric, mates: &mut [Option<u32>], sums: &[u64], s: u32, bound: u32)
+/// Pairs a member with the first one whose pair with it is tight.
+fn pair_first(metric: &Metric, mates: &mut [Option<u32>], sums: &[u64], s: u32)
     requires mates { length mates.old ≡ metric.now.size }
     requires values { AreValues metric.now.size (dist_of metric.now) sums.now }
     requires s { s < metric.now.size }
-    requires bound { bound ≤ metric.now.size }
     ensures started { (f : Sets) →
         AreStarted metric.now.size (dist_of metric.now) f mates.old sums.now →
         AreStarted metric.now.size (dist_of metric.now) f mates.new sums.now }
 {
-    for t in 0..bound {
+    let n = metric.size() as u32;
+    for t in 0..n {
         pair_tight(metric, mates, sums, s, t);
+        if has_mate(mates, s) {
+            return;
+        }
     }
 }
 
-/// Pairs members whose pair is tight, each with one other at most.
-fn pair_all_tight(metric: &Metric, mates: &mut [Option<u32>], sums: &[u64])
+/// The place in a list of the first member whose pair with s is tight.
+fn first_tight(metric: &Metric, sums: &[u64], list: &[u32], s: u32) -> Option<usize>
+    requires values { AreValues metric.now.size (dist_of metric.now) sums.now }
+    requires list { All (λ t. t < metric.now.size) list.now }
+    requires s { s < metric.now.size }
+    ensures { (i : ℕ) → result ≡ Some i → i < length list.now }
+{
+    let _size = metric.size();
+    for i in 0..list.len() {
+        let t = list[i];
+        if metric.dist(s, t) <= sums[s as usize] + sums[t as usize] {
+            return Some(i);
+        }
+    }
+    None
+}
+
+/// Pairs a member with the first of those that wait whose pair with it is tight. Where there is none, it waits too.
+fn pair_or_wait(
+    metric: &Metric,
+    mates: &mut [Option<u32>],
+    sums: &[u64],
+    waiting: &mut Vec<u32>,
+    s: u32,
+) -> Result<(), AllocError>
+    requires mates { length mates.old ≡ metric.now.size }
+    requires values { AreValues metric.now.size (dist_of metric.now) sums.now }
+    requires waiting { All (λ t. t < metric.now.size) waiting.old.items }
+    requires s { s < metric.now.size }
+    ensures waiting { OnOk result (All (λ t. t < metric.now.size) waiting.new.items) }
+    ensures started { (f : Sets) →
+        AreStarted metric.now.size (dist_of metric.now) f mates.old sums.now →
+        AreStarted metric.now.size (dist_of metric.now) f mates.new sums.now }
+{
+    match first_tight(metric, sums, waiting, s) {
+        Some(i) => {
+            let t = waiting.remove(i);
+            pair_tight(metric, mates, sums, s, t);
+            Ok(())
+        }
+        None => {
+            waiting.push(s)?;
+            Ok(())
+        }
+    }
+}
+
+/// Pairs members whose pair is tight, each with one other at most. Only those that wait are asked.
+fn pair_all_tight(
+    alloc: Global,
+    metric: &Metric,
+    mates: &mut [Option<u32>],
+    sums: &[u64],
+) -> Result<(), AllocError>
     requires mates { length mates.old ≡ metric.now.size }
     requires values { AreValues metric.now.size (dist_of metric.now) sums.now }
     ensures started { (f : Sets) →
@@ -176,9 +232,11 @@ fn pair_all_tight(metric: &Metric, mates: &mut [Option<u32>], sums: &[u64])
         AreStarted metric.now.size (dist_of metric.now) f mates.new sums.now }
 {
     let n = metric.size() as u32;
+    let mut waiting = Vec::new(alloc);
     for s in 0..n {
-        pair_below(metric, mates, sums, s, s);
+        pair_or_wait(metric, mates, sums, &mut waiting, s)?;
     }
+    Ok(())
 }
 
 /// Raises a single member as far as its distances allow.
@@ -219,12 +277,12 @@ fn settle_one<L: Ledger>(
         mates.new sums.new }
     ensures steps { steps.new ≤ steps.old + 1 }
 {
-    let n = metric.size() as u32;
+    let _size = metric.size();
     if has_mate(mates, s) {
         return;
     }
     lift_one(metric, family, sums, s, steps);
-    pair_below(metric, mates, sums, s, n);
+    pair_first(metric, mates, sums, s);
 }
 
 /// Raises each single member that has no mate when its turn comes, and pairs it where it can.
@@ -249,26 +307,28 @@ fn settle_all<L: Ledger>(
 
 /// The first values and pairs. Two members are left to their stage.
 pub fn begin<L: Ledger>(
+    alloc: Global,
     metric: &Metric,
     family: &mut Family,
     mates: &mut [Option<u32>],
     sums: &mut [u64],
     steps: &mut Steps<L>,
-)
+) -> Result<(), AllocError>
     requires mates { mates.old ≡ replicate metric.now.size None }
     requires sums { sums.old ≡ replicate metric.now.size 0 }
     requires singles { IsSingles metric.now.size (sets_of family.old) }
     requires family { IsFamily (sets_of family.old) }
-    ensures rest { IsRest metric.now.size (sets_of family.new) (dist_of metric.now)
-        (mate_in mates.new) }
-    ensures sums { (m : ℕ) → m < metric.now.size →
-        slice_index sums.new m ≡ totals metric.now.size (sets_of family.new) m }
+    ensures rest { OnOk result (IsRest metric.now.size (sets_of family.new) (dist_of metric.now)
+        (mate_in mates.new)) }
+    ensures sums { OnOk result ((m : ℕ) → m < metric.now.size →
+        slice_index sums.new m ≡ totals metric.now.size (sets_of family.new) m) }
     ensures steps { steps.new ≤ steps.old + first_steps metric.now.size }
 {
     if metric.size() <= 2 {
-        return;
+        return Ok(());
     }
     raise_all(metric, family, sums, steps);
-    pair_all_tight(metric, mates, sums);
+    pair_all_tight(alloc, metric, mates, sums)?;
     settle_all(metric, family, mates, sums, steps);
+    Ok(())
 }

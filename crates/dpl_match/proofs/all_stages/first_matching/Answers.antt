@@ -7,8 +7,8 @@ use Rattle.dpl_tree.specs.Views.{mate_in}
 use Rattle.dpl_match.proofs.all_stages.first_matching.Goals as goal
 use Rattle.dpl_list.proofs.Lists.{refilled}
 
-pub returns-in_ok-sums-in-Ok-clause-between : goal.returns-in_ok-sums-in-Ok-clause-between
-returns-in_ok-sums-in-Ok-clause-between g c =
+pub returns-in_ok-begin-in-Ok-clause-between : goal.returns-in_ok-begin-in-Ok-clause-between
+returns-in_ok-begin-in-Ok-clause-between g c =
     let n : ℕ = c.args.metric.now.size in
     let f : Sets = sets_of c.begin.new.family in
     let mates = c.in_ok-mates-in-Ok.mates in
@@ -19,7 +19,7 @@ returns-in_ok-sums-in-Ok-clause-between g c =
     let same_sums = refilled _ c.begin.new.sums sums.items sums.ok.0 sums_size in
     let mates_many : length mates.items ≡ n = omega (arith, c.in_ok-mates-in-Ok.ensures.len, mates.ok.0, c.size-n.ensures.value) in
     let sums_many : length sums.items ≡ n = omega (arith, c.in_ok-sums-in-Ok.ensures.len, sums.ok.0, c.size-n.ensures.value) in
-    let e = c.begin.ensures in
+    let e = c.in_ok-begin-in-Ok.ensures in
     record {
       lists = record {
         mates_count = ap length same_mates ∙ mates_size ∙ mates_many;

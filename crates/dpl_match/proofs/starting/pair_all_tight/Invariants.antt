@@ -1,8 +1,13 @@
+use Rattle.std.proofs.Common.{◌<◌}
+use Rattle.std.specs.Prelude.{All}
 use Rattle.dpl_laminar.specs.Families.{Sets}
 use Rattle.dpl_match.specs.steps.Starting.{AreStarted}
 use Rattle.dpl_tree.specs.Metrics.{dist_of}
 use Rattle.dpl_match.proofs.starting.pair_all_tight.Given as goal
 
 abbrev pub invariant-loop-s : goal.invariant-loop-s
-invariant-loop-s l = (f : Sets) → AreStarted l.metric.size (dist_of l.metric) f l.fn.mates l.sums →
-    AreStarted l.metric.size (dist_of l.metric) f l.mates l.sums
+invariant-loop-s l = record {
+  waiting : All (λ t. t < l.metric.size) l.waiting.items;
+  started : (f : Sets) → AreStarted l.metric.size (dist_of l.metric) f l.fn.mates l.sums →
+      AreStarted l.metric.size (dist_of l.metric) f l.mates l.sums;
+}
