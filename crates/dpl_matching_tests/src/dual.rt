@@ -2,7 +2,7 @@ ghost use Rattle.std.specs.Prelude.{IfOk};
 ghost use Rattle.dpl_dual.specs.Duals.{CameFromDual};
 
 use dpl_dual::types::Distances;
-use dpl_dual::{Dual, distances, distances_within, dual};
+use dpl_dual::{Dual, Start, distances, distances_from, distances_within, dual};
 use dpl_map::build;
 use dpl_sign::Net;
 use dpl_test_nets::nets::At::{East, North, South, West};
@@ -85,6 +85,36 @@ fn within(
     Ok((reach.to(1), reach.up_to(1, limit)))
 }
 
+/// The face of a start, and what chains from it are longer by.
+type Begins = (u32, u32);
+
+/// The least lengths below a limit from the nearer of two starts to the first two faces.
+fn nearest(
+    alloc: Global,
+    nodes: u32,
+    links: &[Link],
+    (first, second): (Begins, Begins),
+    limit: u64,
+) -> Result<(Option<u64>, Option<u64>), Fail> {
+    let dual = drawn_dual(alloc, nodes, links)?;
+    if (first.0 >= dual.faces) | (second.0 >= dual.faces) {
+        return Err("no such face")?;
+    }
+    let starts = [
+        Start {
+            face: first.0,
+            far: first.1 as u64,
+        },
+        Start {
+            face: second.0,
+            far: second.1 as u64,
+        },
+    ];
+    let mut reach = Distances::new(alloc);
+    distances_from(&dual, &starts, limit, &mut reach)?;
+    Ok((reach.to(0), reach.to(1)))
+}
+
 /// Compares the odd faces.
 fn compare_odd<R: Abort>(
     rt: &R,
@@ -140,6 +170,37 @@ fn nearer_than_a_limit(rt: HostRuntime) -> Result<(), Fail> {
     assert_eq!(rt; within(rt.alloc(), 3, &links, 20)?, (None, 20));
     assert_eq!(rt; within(rt.alloc(), 3, &links, 21)?, (Some(20), 20));
     assert_eq!(rt; within(rt.alloc(), 3, &links, 50)?, (Some(20), 20));
+    Ok(())
+}
+
+/// Two faces that are 20 apart, with something added to the chains from each.
+#[test]
+fn nearer_of_two_starts(rt: HostRuntime) -> Result<(), Fail> {
+    let links = triangle();
+    assert_eq!(rt;
+        nearest(rt.alloc(), 3, &links, ((0, 5), (1, 9)), 50)?,
+        (Some(5), Some(9))
+    );
+    assert_eq!(rt;
+        nearest(rt.alloc(), 3, &links, ((0, 5), (1, 30)), 50)?,
+        (Some(5), Some(25))
+    );
+    assert_eq!(rt;
+        nearest(rt.alloc(), 3, &links, ((0, 30), (1, 5)), 50)?,
+        (Some(25), Some(5))
+    );
+    assert_eq!(rt;
+        nearest(rt.alloc(), 3, &links, ((0, 5), (1, 30)), 25)?,
+        (Some(5), None)
+    );
+    assert_eq!(rt;
+        nearest(rt.alloc(), 3, &links, ((0, 7), (0, 3)), 50)?,
+        (Some(3), Some(23))
+    );
+    assert_eq!(rt;
+        nearest(rt.alloc(), 3, &links, ((0, 5), (1, 9)), 5)?,
+        (None, None)
+    );
     Ok(())
 }
 
