@@ -6,7 +6,7 @@ ghost use Rattle.dpl_laminar.specs.Storing.{sets_of};
 ghost use Rattle.dpl_pack.specs.Moats.{AreTerminals};
 ghost use Rattle.dpl_tree.specs.Metrics.{dist_of};
 ghost use Rattle.dpl_solve.specs.Matches.{AreJoinedBy};
-ghost use Rattle.dpl_solve.specs.Metrics.{IsLimit, AreNearer, AreRadii, IsApart, full_limit};
+ghost use Rattle.dpl_solve.specs.Metrics.{IsLimit, AreNearest, AreNearer, AreRadii, IsApart, full_limit};
 ghost use Rattle.dpl_solve.specs.Works.{IsDrawn};
 
 use crate::drawn::Drawn;
@@ -40,6 +40,8 @@ fn look(
     requires terminals { AreTerminals drawn.now.dual.now terminals.now }
     requires few { length terminals.now ≤ 2048 }
     requires margin { IsLimit sight.now.margin }
+    requires nearest { AreNearest drawn.now.dual.now.crosses terminals.now (length terminals.now)
+        sight.now.nearest.now }
     ensures size { IfOk result (λ m. m.metric.size ≡ length terminals.now) }
     ensures sizes { IfOk result (λ m. length m.radii.items ≡ length terminals.now) }
     ensures radii { IfOk result (λ m. AreRadii drawn.now.dual.now.crosses terminals.now
@@ -89,6 +91,8 @@ fn join_within<L: Ledger>(
     requires few { length terminals.now ≤ 2048 }
     requires places { length joined.old.edges.items ≡ length drawn.now.graph.now.edges }
     requires margin { IsLimit sight.now.margin }
+    requires nearest { AreNearest drawn.now.dual.now.crosses terminals.now (length terminals.now)
+        sight.now.nearest.now }
     ensures { IfOk result (λ o. MatchOption o
         ((joined.new.edges.items ≡ joined.old.edges.items) × (sight.now.margin < full_limit))
         (λ f. AreJoinedBy drawn.now.dual.now terminals.now (sets_of f) joined.old.edges.items

@@ -3,9 +3,13 @@
 //! A face looks half as far as its nearest other one lies, and a margin farther that all faces of a list share. A
 //! margin is wide enough where all pairs that are found see each other, and a wider one costs time only.
 
-ghost use Rattle.std.specs.Prelude.{◌≡◌, ◌<◌, ◌≤◌, All, IfOk};
+ghost use Rattle.std.specs.Prelude.{◌≡◌, ◌<◌, ◌≤◌, false, List, length, slice_index, All, IfOk};
+ghost use Rattle.dpl_dual.specs.declared.crosses.Cross.{Cross};
+ghost use Rattle.dpl_dual.specs.Distances.{AreDistancesWithin, entry_at, length_up_to};
 ghost use Rattle.dpl_dual.specs.Duals.{CameFromDual};
-ghost use Rattle.dpl_solve.specs.Metrics.{IsLimit};
+ghost use Rattle.dpl_pack.specs.Moats.{AreTerminals};
+ghost use Rattle.dpl_solve.specs.Metrics.{IsDistance, IsLimit, IsNearestOf, IsNearest, AreNearest, nearest_at};
+ghost use Rattle.dpl_solve.specs.Places.{IsListed};
 
 use crate::places::{Listed, note_all, place_of};
 use dpl_dual::types::Distances;
@@ -32,26 +36,62 @@ pub struct Sight<'a> {
     pub margin: u64,
 }
 
-/// The nearer one of what is known and a face of the list that was reached, which is not the face itself.
-fn nearer(known: Nearest, place: usize, far: u64) -> Nearest {
-    if far > 0 && far < known.far {
-        Nearest { far, place }
-    } else {
-        known
+/// The nearer one of what is known and another face of the list, if it is not the same.
+fn nearer(known: Nearest, other: Nearest, same: bool) -> Nearest
+    ensures known { result.far ≤ known.far }
+    ensures other { same ≡ false → result.far ≤ other.far }
+{
+    if same {
+        return known;
+    }
+    if known.far <= other.far {
+        return known;
+    }
+    other
+}
+
+/// The nearer one of what is known and a face that was reached, if that is another one of the list.
+fn nearer_face(
+    reach: &Distances,
+    listed: &Listed<'_>,
+    place: usize,
+    face: u32,
+    known: Nearest,
+) -> Nearest
+    requires noted { IsListed listed.now }
+    ensures known { result.far ≤ known.far }
+    ensures face { (ways : List Cross) → IsDistance ways (slice_index listed.now.faces.now place) face
+        (length_up_to 0 (entry_at reach.now face)) →
+        IsNearestOf ways listed.now.faces.now place (λ f. f ≡ face) result.far }
+{
+    match place_of(listed, face) {
+        Some(other) => {
+            let far = reach.up_to(face, 0);
+            nearer(known, Nearest { far, place: other }, other == place)
+        }
+        None => known,
     }
 }
 
 /// The nearest other face of the list among those that were reached, and the limit where none was.
-fn nearest_reached(reach: &Distances, listed: &Listed<'_>, place: usize, limit: u64) -> Nearest {
+fn nearest_reached(
+    dual: &Dual,
+    reach: &Distances,
+    listed: &Listed<'_>,
+    place: usize,
+    limit: u64,
+) -> Nearest
+    requires noted { IsListed listed.now }
+    requires measured { AreDistancesWithin dual.now.crosses dual.now.faces
+        (slice_index listed.now.faces.now place) limit reach.now }
+    requires faces { All (λ f. f < dual.now.faces) listed.now.faces.now }
+    ensures { IsNearest dual.now.crosses listed.now.faces.now place result.far }
+{
+    let _dual = dual;
     let mut known = Nearest { far: limit, place };
     let faces = reach.reached();
     for i in 0..faces.len() {
-        match place_of(listed, faces[i]) {
-            Some(other) => {
-                known = nearer(known, other, reach.up_to(faces[i], limit));
-            }
-            None => {}
-        }
+        known = nearer_face(reach, listed, place, faces[i], known);
     }
     known
 }
@@ -75,26 +115,29 @@ fn limit_beyond(far: u64) -> u64
 fn nearest_of(
     dual: &Dual,
     listed: &Listed<'_>,
-    from: u32,
     place: usize,
     first: u64,
     reach: &mut Distances,
 ) -> Result<Nearest, AllocError>
     requires dual { CameFromDual dual.now }
-    requires from { from < dual.now.faces }
+    requires noted { IsListed listed.now }
+    requires faces { All (λ f. f < dual.now.faces) listed.now.faces.now }
+    requires inside { place < length listed.now.faces.now }
     requires first { IsLimit first }
+    ensures { IfOk result (λ near. IsNearest dual.now.crosses listed.now.faces.now place near.far) }
 {
     let tries: usize = 50;
     let mut limit = first;
+    let mut near = Nearest { far: 0, place };
     for _try in 0..tries {
-        distances_within(dual, from, limit, reach)?;
-        let near = nearest_reached(reach, listed, place, limit);
+        distances_within(dual, listed.faces[place], limit, reach)?;
+        near = nearest_reached(dual, reach, listed, place, limit);
         if near.far < limit {
             return Ok(near);
         }
         limit = next_limit(limit);
     }
-    Ok(Nearest { far: limit, place })
+    Ok(near)
 }
 
 /// The nearest other one of each face of a list. Faces that follow each other in the list are mostly near
@@ -107,7 +150,8 @@ pub fn all_nearest(
     reach: &mut Distances,
 ) -> Result<Vec<Nearest>, AllocError>
     requires dual { CameFromDual dual.now }
-    requires faces { All (λ f. f < dual.now.faces) list.now }
+    requires terminals { AreTerminals dual.now list.now }
+    ensures { IfOk result (λ all. AreNearest dual.now.crosses list.now (length list.now) all.items) }
 {
     note_all(places, dual.faces, list)?;
     let listed = Listed {
@@ -117,7 +161,7 @@ pub fn all_nearest(
     let mut all = Vec::new(alloc);
     let mut far: u64 = 0;
     for i in 0..list.len() {
-        let near = nearest_of(dual, &listed, list[i], i, limit_beyond(far), reach)?;
+        let near = nearest_of(dual, &listed, i, limit_beyond(far), reach)?;
         far = near.far;
         all.push(near)?;
     }
@@ -126,7 +170,8 @@ pub fn all_nearest(
 
 /// How far a face is from its nearest other one.
 pub fn far_of(nearest: &[Nearest], place: usize) -> u64
-    ensures { result ≤ 1099511627776 }
+    ensures most { result ≤ 1099511627776 }
+    ensures near { result ≤ (nearest_at nearest.now place).far }
 {
     match nearest.get(place) {
         Some(near) => near.far.min(1099511627776),

@@ -1,15 +1,16 @@
-use Rattle.std.proofs.Common.{refl, sym, subst, ℕ}
+use Rattle.std.proofs.Common.{◌≡◌, sym, subst, ℕ}
 use Rattle.std.specs.Prelude.{slice_index}
-use Rattle.dpl_solve.specs.Metrics.{IsDistance}
+use Rattle.dpl_solve.specs.Metrics.{IsDistance, IsPutIn}
 use Rattle.dpl_solve.proofs.MetricLemmas.{put_some, put_none}
 use Rattle.dpl_solve.proofs.metrics.put_face.Goals as goal
 
 pub returns-in-Some : goal.returns-in-Some
 returns-in-Some c = λ ways far.
-    let P : ℕ → Type 0 = λ z. IsDistance ways (slice_index c.args.listed.now.faces.now c.args.s) c.args.face z in
-    put_some ways c.args.listed.now.faces.now c.args.s c.args.listed.now.places.now c.args.dists.now _ c.in-Some.u c.args.face c.up_to-far.result
-    c.args.least _ _ c.requires.noted c.requires.inside c.in-Some.ensures (subst P (sym c.up_to-far.ensures) far) c.requires.places
-    c.put_both.ensures refl c.lesser_of_others.ensures.least c.lesser_of_others.ensures.other
+    let faces = c.args.listed.now.faces.now in
+    let P : ℕ → Type 0 = λ z. IsDistance ways (slice_index faces c.args.s) c.args.face z in
+    let Q : ℕ → Type 0 = λ z. IsPutIn z (slice_index c.args.radii.now) c.args.s c.in-Some.u c.up_to.result c.args.dists.now c.put_both.new.dists in
+    put_some ways faces c.args.s (slice_index c.args.radii.now) c.args.listed.now.places.now _ _ c.in-Some.u c.args.face c.up_to.result
+    c.requires.noted c.in-Some.ensures (subst P (sym c.up_to.ensures) far) (subst Q c.requires.sizes c.put_both.ensures)
 
 pub returns-in-None : goal.returns-in-None
-returns-in-None c = λ ways far. put_none ways _ c.args.s _ c.args.face c.args.least (c.in-None.ensures c.requires.noted)
+returns-in-None c = λ ways far. put_none ways _ c.args.s (slice_index c.args.radii.now) _ c.args.face (c.in-None.ensures c.requires.noted)

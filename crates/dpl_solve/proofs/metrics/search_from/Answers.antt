@@ -1,4 +1,5 @@
 use Rattle.std.proofs.Common.{arith}
+use Rattle.std.specs.Prelude.{slice_index}
 use Rattle.dpl_pack.proofs.MoatLemmas.{terminals_below}
 use Rattle.dpl_solve.proofs.MetricLemmas.{searched}
 use Rattle.dpl_solve.proofs.metrics.search_from.Goals as goal
@@ -7,7 +8,5 @@ pub distances_within-requires-clause-from : goal.distances_within-requires-claus
 distances_within-requires-clause-from c = terminals_below _ _ c.requires.dual c.requires.terminals c.args.s _ c.requires.inside
 
 pub returns : goal.returns
-returns c = searched c.args.dual.now c.args.listed.now.faces.now c.args.sight.now.margin c.args.s c.limit_of-limit.result c.put_reached-near.result
-    c.radius_of.result c.distances_within.new.distances _ _ c.requires.dual c.requires.terminals c.in_ok-distances_within.ensures c.put_reached-near.ensures
-    c.radius_of.ensures.least c.radius_of.ensures.even c.radius_of.ensures.near c.radius_of.ensures.small
-    (omega (arith, c.radius_of.ensures.sought, c.limit_of-limit.ensures.value))
+returns c = searched c.args.dual.now c.args.listed.now.faces.now (slice_index c.args.radii.now) c.args.s c.distances_within.new.distances _ _
+    c.requires.dual c.requires.terminals c.in_ok-distances_within.ensures c.put_reached.ensures
