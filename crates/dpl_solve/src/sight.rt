@@ -255,7 +255,7 @@ pub fn first_margin(
         return Ok(least);
     }
     if is_crowded(dual, list, reach)? {
-        return Ok(least.max(most * 8));
+        return Ok(least.max(most * 4));
     }
     Ok(least.max(middle / 2 * 3 + 2))
 }
