@@ -7,7 +7,6 @@ ghost use Rattle.dpl_dual.specs.Searches.{IsLabelled, AreListed};
 ghost use Rattle.dpl_dual.specs.Labels.{labels, IsFar, IsSought, IsUnderWay, IsBegun, AreReachedAlso, WaitsAlso, IsAtRest};
 ghost use Rattle.dpl_dual.specs.Tables.{no_length, reach_at};
 
-use crate::crosses::Cross;
 use crate::queue::Waiting;
 use crate::reach::Reach;
 use crate::sought::Sought;
@@ -132,21 +131,16 @@ fn renew(search: &mut Search, faces: u32) -> Result<(), AllocError>
     Ok(())
 }
 
-/// The length of the first way of a row.
-fn first_length(row: &[Cross]) -> u64 {
-    match row.first() {
-        Some(way) => way.length,
-        None => 0,
-    }
-}
-
 /// The length of the ways among whose labels the starts wait: that of the first way at a start alone,
 /// and for several the length that no way has, so that they wait in a queue of their own.
 fn length_for(sought: &Sought<'_>) -> u64
     requires { IsSought sought.now }
 {
     match sought.starts {
-        [start] => first_length(sought.rows.row(start.face as usize)),
+        [start] => match sought.rows.row(start.face as usize).first() {
+            Some(way) => way.length,
+            None => 0,
+        },
         _ => 0,
     }
 }

@@ -21,4 +21,5 @@ pub loop-i-preserved : goal.loop-i-preserved
 loop-i-preserved c = nearest_pushed _ _ c.loop-i.i _ _ _ c.loop-i.invariant c.in_ok-near.ensures c.in_ok-push.ensures.items
 
 pub returns : goal.returns
-returns c = subst (λ z. AreNearest c.args.dual.now.crosses c.args.list.now z c.loop-i.all.items) (omega (arith, c.loop-i-test.false, c.loop-i.auto.i-end)) c.loop-i.invariant
+returns c = subst (λ z. AreNearest c.args.dual.now.crosses c.args.list.now z c.loop-i.all.items)
+    (omega (arith, c.loop-i-test.false, c.loop-i.auto.i-end)) c.loop-i.invariant
