@@ -7,6 +7,7 @@ ghost use Rattle.dpl_dual.specs.Searches.{IsLabelled, AreListed};
 ghost use Rattle.dpl_dual.specs.Labels.{labels, IsFar, IsSought, IsUnderWay, IsBegun, AreReachedAlso, WaitsAlso, IsAtRest};
 ghost use Rattle.dpl_dual.specs.Tables.{no_length, reach_at};
 
+use crate::crosses::Cross;
 use crate::queue::Waiting;
 use crate::reach::Reach;
 use crate::sought::Sought;
@@ -119,7 +120,7 @@ fn clear(table: &mut Table, reached: &mut Vec<u32>)
 }
 
 /// Forgets what was found, and gives each face a place.
-fn renew(search: &mut Search, faces: u32) -> Result<(), AllocError>
+pub fn renew(search: &mut Search, faces: u32) -> Result<(), AllocError>
     requires { IsAtRest search.old }
     ensures labels { OnOk result ((f : ℕ) → labels search.new f ≡ None) }
     ensures reached { OnOk result (search.new.reached.items ≡ []) }
@@ -131,22 +132,16 @@ fn renew(search: &mut Search, faces: u32) -> Result<(), AllocError>
     Ok(())
 }
 
-/// The length of the ways among whose labels the starts wait: that of the first way at a start alone,
-/// and for several the length that no way has, so that they wait in a queue of their own.
-fn length_for(sought: &Sought<'_>) -> u64
-    requires { IsSought sought.now }
-{
-    match sought.starts {
-        [start] => match sought.rows.row(start.face as usize).first() {
-            Some(way) => way.length,
-            None => 0,
-        },
-        _ => 0,
+/// The length of the first way of a row.
+pub fn first_length(row: &[Cross]) -> u64 {
+    match row.first() {
+        Some(way) => way.length,
+        None => 0,
     }
 }
 
 /// Labels the face of a start, where the start is nearer than the limit and than the label that is there.
-fn begin_at(start: &Start, way: u64, limit: u64, search: &mut Search) -> Result<(), AllocError>
+pub fn begin_at(start: &Start, way: u64, limit: u64, search: &mut Search) -> Result<(), AllocError>
     ensures { (faces : ℕ) (ways : List Cross) (starts : List Start) → start.now.face < faces →
         IsBegun ways faces starts limit search.old →
         OnOk result (IsBegun ways faces (starts ++ start.now ∷ []) limit search.new) }
@@ -163,18 +158,4 @@ fn begin_at(start: &Start, way: u64, limit: u64, search: &mut Search) -> Result<
         last: None,
     };
     label(search, way, start.face, reach, known.is_some())
-}
-
-/// Begins a search in the memory of an earlier one: the starts alone are reached.
-pub fn begin(sought: &Sought<'_>, search: &mut Search) -> Result<(), AllocError>
-    requires sought { IsSought sought.now }
-    requires rest { IsAtRest search.old }
-    ensures { OnOk result (IsUnderWay sought.now (λ f. false) search.new) }
-{
-    renew(search, sought.faces)?;
-    let way = length_for(sought);
-    for start in sought.starts {
-        begin_at(start, way, sought.limit, search)?;
-    }
-    Ok(())
 }

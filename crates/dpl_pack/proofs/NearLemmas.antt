@@ -1,34 +1,19 @@
--- One search from all members of a set finds the faces near it, and their depths. Those that one from the first reaches come first.
-use Rattle.std.proofs.Common.{arith, ◌≡◌, ℕ, ◌+◌, ◌-◌, ◌^◌, ◌<◌, ◌≤◌, ◌⊎◌, ◌==◌, refl, sym, ap, ◌∙◌, subst}
-use Rattle.std.proofs.Common.{true, false, inl, inr, List, [], ◌++◌, length, map, get_or, Option, Some, None}
+-- One search from all members of a set finds the faces near it, and their depths.
+use Rattle.std.proofs.Common.{arith, ◌≡◌, ℕ, ◌+◌, ◌-◌, ◌^◌, ◌<◌, ◌≤◌, refl, sym, ap, ◌∙◌, subst, inl, inr, List, length, map, get_or, Option, Some, None}
 use Rattle.std.specs.Prelude.{All, Contains, IsSome, MatchOption}
-use Rattle.std.proofs.lemmas.Bool.{cases_Bool, or_cases, or_right, true≢false, false≢true}
+use Rattle.std.proofs.lemmas.Bool.{true≢false, false≢true}
 use Rattle.std.proofs.lemmas.List.{length-map, get_or-map}
 use Rattle.std.proofs.lemmas.List.Elements.{All-map}
-use Rattle.std.proofs.lemmas.List.Folds.{list_any-append}
 use Rattle.std.proofs.lemmas.List.Sorted.{All-permutation, Contains-permutation, IsPermutation-sym}
-use Rattle.dpl_laminar.specs.Families.{has}
 use Rattle.dpl_laminar.proofs.Numbers.{has_at}
 use Rattle.dpl_dual.specs.declared.crosses.Cross.{Cross}
 use Rattle.dpl_dual.specs.declared.crosses.Dual.{Dual}
 use Rattle.dpl_dual.specs.declared.reach.Reach.{Reach}
 use Rattle.dpl_dual.specs.declared.starts.Start.{Start}
-use Rattle.dpl_dual.specs.Chains.{Leads, AreLinked, IsShortest, length_of}
-use Rattle.dpl_dual.specs.Distances.{DistancesView, entry_at, edges_to, length_up_to, IsNearestOf, AreDistancesWithin, AreDistancesFrom}
+use Rattle.dpl_dual.specs.Chains.{Leads, AreLinked, length_of}
+use Rattle.dpl_dual.specs.Distances.{DistancesView, entry_at, length_up_to, IsNearestOf, AreDistancesFrom}
 use Rattle.dpl_pack.specs.Starts.{start_at, AreStarts, depth_by}
-use Rattle.dpl_pack.specs.Stacks.{extent, IsDeep, AreBeside, AreNear}
-
--- ---- lists of faces
-
--- what stands in two lists one after the other stands in one of them
-either : (xs ys : List ℕ) (g : ℕ) → has (xs ++ ys) g ≡ true → (has xs g ≡ true) ⊎ (has ys g ≡ true)
-either xs ys g h = or_cases (has xs g) (has ys g) (sym (list_any-append (λ y. y == g) xs ys) ∙ h)
-
-neither : (xs ys : List ℕ) (g : ℕ) → has (xs ++ ys) g ≡ false → has ys g ≡ false
-neither xs ys g h = elim (cases_Bool (has ys g)) [
-  | inl t ↦ absurd (true≢false (sym (list_any-append (λ y. y == g) xs ys ∙ or_right (has xs g) (has ys g) t) ∙ h))
-  | inr t ↦ t
-]
+use Rattle.dpl_pack.specs.Stacks.{extent, IsDeep, AreNear}
 
 -- ---- the starts
 
@@ -121,54 +106,31 @@ linked_by d terminals ends inside limit starts g (Some r) members p m s =
     let P : Start → Type 0 = λ s. Leads d.crosses s.face m.0.chain g in
     ((get_or ends w.place (0, 0)).0, members w.place (0, 0) w.below, (m.0.chain, subst P w.is m.0.leads))
 
--- a face within a limit of a member's is linked to it
-linked_within : (ways : List Cross) (from limit g : ℕ) (v : DistancesView) (o : Option Reach)
-    → MatchOption o ((xs : List Cross) → Leads ways from xs g → limit ≤ length_of xs)
-    (λ r. IsShortest ways from g r.length (edges_to v g) × (r.length < limit))
-    → IsSome o → AreLinked ways from g
-linked_within ways from limit g v None m s = absurd (false≢true s)
-linked_within ways from limit g v (Some r) m s = (m.0.chain, m.0.leads)
-
-pub beside_none : (d : Dual) (terminals : List ℕ) → AreBeside d terminals []
-beside_none d terminals g on = absurd (false≢true on)
-
-pub beside_first : (d : Dual) (terminals : List ℕ) (terminal from limit : ℕ) (v : DistancesView) → terminal < length terminals
-    → from ≡ get_or terminals terminal 0 → AreDistancesWithin d.crosses d.faces from limit v → AreBeside d terminals v.reached
-beside_first d terminals terminal from limit v h e a = λ g on.
-    let r = (a.reached g).0 on in
-    let P : ℕ → Type 0 = λ z. AreLinked d.crosses z g in
-    (terminal, h, r.0, subst P e (linked_within d.crosses from limit g v (entry_at v g) (a.entry g r.0) r.1))
-
 no_entry : (o : Option Reach) (limit : ℕ) → (IsSome o → ⊥) → length_up_to limit o ≡ limit
 no_entry None limit h = refl
 no_entry (Some r) limit h = absurd (h refl)
 
-pub near_of : (d : Dual) (terminals : List ℕ) (value : ℕ) (ends : List (ℕ × ℕ)) (inside limit : ℕ) (starts : List Start) (v : DistancesView)
-    (first faces depths : List ℕ)
+pub near_of : (d : Dual) (terminals : List ℕ) (value : ℕ) (ends : List (ℕ × ℕ)) (inside limit : ℕ) (starts : List Start) (v : DistancesView) (depths : List ℕ)
     → All (λ e. e.0 < length terminals) ends → All (λ e. e.1 ≤ inside) ends → limit ≡ inside + value → AreStarts terminals inside ends starts
-    → AreDistancesFrom d.crosses d.faces starts limit v → AreBeside d terminals first → faces ≡ first ++ v.reached
-    → length depths ≡ length faces
-    → ((i : ℕ) → i < length faces → get_or depths i 0 ≡ depth_by inside limit v (get_or faces i 0))
-    → AreNear d terminals (extent value ends) faces depths
-near_of d terminals value ends inside limit starts v first faces depths members most e p a beside are sizes each =
+    → AreDistancesFrom d.crosses d.faces starts limit v → length depths ≡ length v.reached
+    → ((i : ℕ) → i < length v.reached → get_or depths i 0 ≡ depth_by inside limit v (get_or v.reached i 0))
+    → AreNear d terminals (extent value ends) v.reached depths
+near_of d terminals value ends inside limit starts v depths members most e p a sizes each =
     let deep = deep_is d terminals value ends inside limit starts v members most e p a in
-    let linked : AreBeside d terminals faces = λ g on. elim (either first v.reached g (ap (λ z. has z g) (sym are) ∙ on)) [
-      | inl q ↦ beside g q
-      | inr q ↦
-          let r = (a.reached g).0 q in
-          let l = linked_by d terminals ends inside limit starts g (entry_at v g) members p (a.entry g r.0) r.1 in
-          (l.0, l.1, r.0, l.2)
-    ] in
+    let inside_at : (i : ℕ) → i < length v.reached → get_or v.reached i 0 < d.faces = λ i l.
+    ((a.reached (get_or v.reached i 0)).0 (has_at v.reached i l)).0 in
     record {
       sizes = sizes;
       each = λ i l.
-          let P : ℕ → Type 0 = λ z. IsDeep d terminals (extent value ends) (get_or faces i 0) z in
-          subst P (sym (each i l)) (deep (get_or faces i 0) (linked (get_or faces i 0) (has_at faces i l)).2);
+          let P : ℕ → Type 0 = λ z. IsDeep d terminals (extent value ends) (get_or v.reached i 0) z in
+          subst P (sym (each i l)) (deep (get_or v.reached i 0) (inside_at i l));
       rest = λ g h off.
           let P : ℕ → Type 0 = λ z. IsDeep d terminals (extent value ends) g z in
-          let out : has v.reached g ≡ false = neither first v.reached g (ap (λ z. has z g) (sym are) ∙ off) in
-          let none = no_entry (entry_at v g) limit (λ s. true≢false (sym ((a.reached g).1 (h, s)) ∙ out)) in
+          let none = no_entry (entry_at v g) limit (λ s. true≢false (sym ((a.reached g).1 (h, s)) ∙ off)) in
           let is : depth_by inside limit v g ≡ value = omega (arith, none, e) in
           subst P is (deep g h);
-      linked = linked;
+      linked = λ g on.
+          let r = (a.reached g).0 on in
+          let l = linked_by d terminals ends inside limit starts g (entry_at v g) members p (a.entry g r.0) r.1 in
+          (l.0, l.1, r.0, l.2);
     }

@@ -6,5 +6,5 @@ use Rattle.dpl_pack.proofs.depths.depths_of.Given as goal
 abbrev pub invariant-loop-i : goal.invariant-loop-i
 invariant-loop-i l = record {
   count : length l.depths.items ≡ l.i;
-  each : (j : ℕ) → j < l.i → slice_index l.depths.items j ≡ depth_by l.inside l.limit l.reach (slice_index l.faces j);
+  each : (j : ℕ) → j < l.i → slice_index l.depths.items j ≡ depth_by l.inside l.limit l.reach (slice_index l.reach.reached j);
 }
