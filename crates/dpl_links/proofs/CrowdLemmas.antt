@@ -24,10 +24,10 @@ use Rattle.dpl_links.specs.declared.crowded.Crowd.{Crowd}
 use Rattle.dpl_links.specs.declared.turning.Turn.{Turn}
 use Rattle.dpl_links.specs.Pairs.{Scene, stretch_gap, rect_gap2}
 use Rattle.dpl_links.specs.Links.{IsUpTo, piece_of, IsLink}
-use Rattle.dpl_links.specs.Gathering.{StandsFor, AreGathered, AreHeads, scene_in}
+use Rattle.dpl_links.specs.Gathering.{StandsFor, TakesPlace, AreGathered, AreHeads, scene_in}
 use Rattle.dpl_links.specs.Crowds.{IsCovered, AreGatheredBut, AreKept, AreKnown, AddsLinks, AddsTurns, HasNearer, HasStanding}
 use Rattle.dpl_links.specs.Crowds.{IsCrowd, IsBehind, IsLeftOut, HasEnds, IsFrom, LooksAt, AreTurns, AreOfOneShape, is_crowded}
-use Rattle.dpl_links.proofs.GatherLemmas.{gap_least, stands_chain, stands_last, covered_heads, links_heads}
+use Rattle.dpl_links.proofs.GatherLemmas.{gap_least, stands_chain, covered_heads, links_heads, place_each, place_grows, place_stands}
 use Rattle.dpl_links.proofs.NetLemmas.{min_turned, max_turned}
 use Rattle.dpl_links.proofs.ReachLemmas.{squares}
 use Rattle.dpl_list.proofs.Lists.{any_left, any_right, any_permutation, some_of, repeated}
@@ -119,21 +119,19 @@ adds_known s pieces i j link links nearest known stands one = adds_nothing s pie
 
 -- the one link is added and kept
 pub adds_one : (s : Scene) (pieces : List ℕ) (i j : ℕ) (link : Link) (links new : List Link) (nearest after : List (Option Link))
-    → AreKnown s pieces links nearest → new ≡ links ++ link ∷ [] → IsLink s pieces link
+    → AreKnown s pieces links nearest → TakesPlace link links new → IsLink s pieces link
     → ((l : Link) → IsLink s pieces l → HasEnds l i j → link ≡ l)
     → ((links : List Link) → AreKept nearest links → IsCovered links link → AreKept after links)
     → AddsLinks s pieces i (λ k. k ≡ j) links new after
-adds_one s pieces i j link links new nearest after known e is one keep = rw e (record {
+adds_one s pieces i j link links new nearest after known t is one keep = record {
   known = record {
-    each = All-push (IsLink s pieces) links link known.each is;
-    kept = keep (links ++ link ∷ []) (kept_on nearest links (links ++ link ∷ []) grows known.kept) (stands_last links link);
+    each = place_each (IsLink s pieces) link links new known.each is t;
+    kept = keep new (kept_on nearest links new (place_grows link links new t) known.kept) (place_stands link links new t);
   };
-  grows = grows;
-  all = λ l k f h e. let P : Link → Type 0 = λ x. IsCovered (links ++ link ∷ []) x in let Q : ℕ → Type 0 = HasEnds l i in
-      subst P (one l f (subst Q e h)) (stands_last links link);
-}) where
-  grows : (l : Link) → IsCovered links l → IsCovered (links ++ link ∷ []) l
-  grows l c = any_left (λ m. StandsFor m l) links (link ∷ []) c
+  grows = place_grows link links new t;
+  all = λ l k f h e. let P : Link → Type 0 = IsCovered new in let Q : ℕ → Type 0 = HasEnds l i in
+      subst P (one l f (subst Q e h)) (place_stands link links new t);
+}
 
 -- ---- the walk
 

@@ -8,7 +8,7 @@ ghost use Rattle.dpl_links.specs.Crowds.{AreGatheredBut, AreKnown, AddsLinks, Ad
 ghost use Rattle.dpl_links.specs.Crowds.{HasNearer, HasStanding, IsCrowd, IsFrom, IsLeftOut, IsCovered};
 ghost use Rattle.dpl_links.specs.Crowds.{is_crowded};
 
-use crate::heading::{MOST_GATHERED, is_up_to, settled};
+use crate::heading::{MOST_GATHERED, add_link, settled, stands_for};
 use crate::linking::{Link, link_in};
 use crate::pieces::{Pieces, tell_pieces};
 use crate::ranking::kinds_of;
@@ -201,7 +201,7 @@ fn has_standing(nearest: &[Option<Link>], piece: u32, link: &Link) -> bool
         None => false,
         Some(kept) => match kept {
             None => false,
-            Some(kept) => kept.p == link.p && kept.q == link.q && is_up_to(kept, link),
+            Some(kept) => stands_for(kept, link),
         },
     }
 }
@@ -229,7 +229,7 @@ fn look_at(
             if has_standing(nearest, piece, &link) {
                 return Ok(());
             }
-            found.push(link)?;
+            add_link(found, link)?;
             keep(nearest, piece, link);
             Ok(())
         }
