@@ -3,3 +3,7 @@ pub mod FewLemmas
 pub mod CycleLemmas
 pub mod LetterLemmas
 pub mod AnswerLemmas
+pub mod StandingLemmas
+pub mod EdgeLemmas
+pub mod BoxLemmas
+pub mod CutLemmas

@@ -4,3 +4,4 @@ pub mod Tells
 pub mod Items
 pub mod Blocks
 pub mod Read
+pub mod Standing

@@ -34,7 +34,7 @@ pub fn aside(alloc: Global, text: &[u8]) -> Result<(Vec<u32>, &[u8]), Stop>
     let mut rest = text;
     let mut least = 0;
     'lines: while let Some((line, others)) = other_line(rest) {
-        let Some(edge) = item_in::<u32>(alloc, least, line)? else {
+        let Some(edge) = item_in::<u32>(least, line) else {
             return Ok((found, rest));
         };
         least = u64::from(edge) + 1;

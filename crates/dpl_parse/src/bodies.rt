@@ -32,8 +32,8 @@ pub fn lists_of(alloc: Global, text: &[u8]) -> Result<(Lists<'_>, &[u8]), Stop>
     ensures { Gives (λ x. (plain_lists x.0, lines_in x.1.now)) result
         (reading.read_lists (lines_in text.now)) }
 {
-    let (cuts, rest) = front_cuts(alloc, text)?;
-    let (clashes, rest) = front_clashes(alloc, rest)?;
+    let (cuts, rest) = front_cuts(text);
+    let (clashes, rest) = front_clashes(rest);
     let (aside, rest) = aside(alloc, rest)?;
     let (cycles, rest) = front_cycles(rest);
     let lists = Lists {
@@ -58,7 +58,7 @@ fn mask<'a>(
     let mut wanted = Vec::new(alloc);
     push_mask(&mut wanted, name, letter)?;
     let rest = exactly(wanted.as_slice(), text)?;
-    front_boxes(alloc, rest)
+    Ok(front_boxes(rest))
 }
 
 #[tactic(auto, unfolding(dpl_report::specs::Reading::read_last))]

@@ -1,13 +1,11 @@
 // The box lines of a report, read where they stand: no rectangle is stored.
-ghost use Rattle.std.specs.Prelude.{◌≡◌, ◌∷◌, [], length, IfOk, MatchOption};
+ghost use Rattle.std.specs.Prelude.{◌≡◌, ◌∷◌, [], length, IfOk, MatchOption, Ok};
 ghost use Rattle.dpl_cell.specs.Places.{corners_of};
 ghost use Rattle.dpl_form.specs.Lines.{lines_in};
 ghost use Rattle.dpl_parse.specs.Blocks.{box_block, boxes_left};
-ghost use Rattle.dpl_parse.specs.Gives.{Gives};
 ghost use Rattle.dpl_report.specs.Reading as reading;
 
-use crate::items::box_in;
-use crate::stops::Stop;
+use crate::drawn::box_in;
 use dpl_cell::Rect;
 use dpl_form::first_line;
 use std::alloc::{AllocError, Global};
@@ -49,7 +47,7 @@ impl<'a> Boxes<'a> {
         let Some((line, rest)) = first_line(self.text) else {
             return Ok(None);
         };
-        let Some(rect) = box_in(alloc, line)? else {
+        let Some(rect) = box_in(line) else {
             return Ok(None);
         };
         self.left -= 1;
@@ -69,27 +67,27 @@ impl<'a> Boxes<'a> {
 }
 
 /// How many box lines stand at the front, and what follows them.
-fn count_boxes(alloc: Global, text: &[u8]) -> Result<(usize, &[u8]), AllocError>
-    ensures count { IfOk result (λ x. x.0 ≡ length (boxes_left text.now)) }
-    ensures rest { IfOk result (λ x. lines_in x.1.now ≡ (box_block (lines_in text.now)).1) }
+fn count_boxes(text: &[u8]) -> (usize, &[u8])
+    ensures count { result.0 ≡ length (boxes_left text.now) }
+    ensures rest { lines_in result.1.now ≡ (box_block (lines_in text.now)).1 }
 {
     let mut left = 0;
     let mut rest = text;
     'lines: while let Some((line, others)) = first_line(rest) {
-        let Some(_) = box_in(alloc, line)? else {
-            return Ok((left, rest));
+        let Some(_) = box_in(line) else {
+            return (left, rest);
         };
         left += 1;
         rest = others;
     }
-    Ok((left, rest))
+    (left, rest)
 }
 
-/// The box lines at the front, and what follows them. Its error is want of memory.
+/// The box lines at the front, and what follows them.
 #[tactic(auto, unfolding(dpl_report::specs::Reading::read_boxes))]
-pub fn front_boxes(alloc: Global, text: &[u8]) -> Result<(Boxes<'_>, &[u8]), Stop>
-    ensures { Gives (λ x. (x.0, lines_in x.1.now)) result (reading.read_boxes (lines_in text.now)) }
+pub fn front_boxes(text: &[u8]) -> (Boxes<'_>, &[u8])
+    ensures { reading.read_boxes (lines_in text.now) ≡ Ok (result.0, lines_in result.1.now) }
 {
-    let (left, rest) = count_boxes(alloc, text)?;
-    Ok((Boxes { text, left }, rest))
+    let (left, rest) = count_boxes(text);
+    (Boxes { text, left }, rest)
 }

@@ -8,6 +8,8 @@
 mod blocks;
 mod bodies;
 mod boxes;
+mod drawn;
+mod edges;
 mod guesses;
 mod heads;
 mod items;
@@ -18,6 +20,7 @@ mod numbers;
 mod parts;
 mod reading;
 mod rising;
+mod standing;
 mod stops;
 
 pub use boxes::Boxes;

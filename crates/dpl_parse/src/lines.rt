@@ -2,14 +2,12 @@
 ghost use Rattle.std.specs.Prelude.{◌≡◌, ◌∷◌, [], zero, IfOk, MatchOption, Ok};
 ghost use Rattle.dpl_form.specs.Lines.{lines_in};
 ghost use Rattle.dpl_parse.specs.Blocks.{rising_block};
-ghost use Rattle.dpl_parse.specs.Gives.{Gives};
 ghost use Rattle.dpl_report.specs.Plain.{plain_zone};
 ghost use Rattle.dpl_report.specs.Reading as reading;
 
 use crate::blocks::other_line;
 use crate::items::item_in;
 use crate::rising::{CutLine, Rising};
-use crate::stops::Stop;
 use dpl_form::first_line;
 use dpl_report::{Broken, Zone};
 use std::alloc::{AllocError, Global};
@@ -47,7 +45,7 @@ impl<'a, T: Rising> RisingLines<'a, T> {
         let Some((line, rest)) = first_line(self.text) else {
             return Ok(None);
         };
-        let Some(item) = item_in::<T>(alloc, self.least, line)? else {
+        let Some(item) = item_in::<T>(self.least, line) else {
             return Ok(None);
         };
         self.least = u64::from(item.edge()) + 1;
@@ -81,49 +79,46 @@ impl<'a> Cuts<'a> {
 }
 
 /// What follows the lines of this kind at the front, whose edges rise.
-fn behind<T: Rising>(alloc: Global, text: &[u8]) -> Result<&[u8], AllocError>
-    ensures { IfOk result (λ rest. lines_in rest.now ≡
-        (rising_block T.made_of T.edge_of T.line_of zero (lines_in text.now)).1) }
+fn behind<T: Rising>(text: &[u8]) -> &[u8]
+    ensures { lines_in result.now ≡
+        (rising_block T.made_of T.edge_of T.line_of zero (lines_in text.now)).1 }
 {
     let mut rest = text;
     let mut least = 0;
     'lines: while let Some((line, others)) = other_line(rest) {
-        let Some(item) = item_in::<T>(alloc, least, line)? else {
-            return Ok(rest);
+        let Some(item) = item_in::<T>(least, line) else {
+            return rest;
         };
         least = u64::from(item.edge()) + 1;
         rest = others;
     }
-    Ok(rest)
+    rest
 }
 
-/// The cut lines at the front, whose edges rise, and what follows them. Its error is want of
-/// memory.
+/// The cut lines at the front, whose edges rise, and what follows them.
 #[tactic(auto, unfolding(dpl_report::specs::Reading::read_cuts))]
-pub fn front_cuts(alloc: Global, text: &[u8]) -> Result<(Cuts<'_>, &[u8]), Stop>
-    ensures { Gives (λ x. (x.0, lines_in x.1.now)) result (reading.read_cuts (lines_in text.now)) }
+pub fn front_cuts(text: &[u8]) -> (Cuts<'_>, &[u8])
+    ensures { reading.read_cuts (lines_in text.now) ≡ Ok (result.0, lines_in result.1.now) }
 {
-    let rest = behind::<CutLine>(alloc, text)?;
+    let rest = behind::<CutLine>(text);
     let lines = RisingLines {
         text,
         least: 0,
         kind: PhantomData,
     };
-    Ok((lines, rest))
+    (lines, rest)
 }
 
-/// The clash lines at the front, whose edges rise, and what follows them. Its error is want of
-/// memory.
+/// The clash lines at the front, whose edges rise, and what follows them.
 #[tactic(auto, unfolding(dpl_report::specs::Reading::read_clashes))]
-pub fn front_clashes(alloc: Global, text: &[u8]) -> Result<(Clashes<'_>, &[u8]), Stop>
-    ensures { Gives (λ x. (x.0, lines_in x.1.now)) result
-        (reading.read_clashes (lines_in text.now)) }
+pub fn front_clashes(text: &[u8]) -> (Clashes<'_>, &[u8])
+    ensures { reading.read_clashes (lines_in text.now) ≡ Ok (result.0, lines_in result.1.now) }
 {
-    let rest = behind::<Broken>(alloc, text)?;
+    let rest = behind::<Broken>(text);
     let lines = RisingLines {
         text,
         least: 0,
         kind: PhantomData,
     };
-    Ok((lines, rest))
+    (lines, rest)
 }

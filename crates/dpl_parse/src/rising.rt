@@ -1,17 +1,15 @@
 // Items that stand in lines of their own and rise by their edges.
-ghost use Rattle.std.specs.Prelude.{◌≡◌, ◌++◌, ℕ, ℤ, false, List, Option, codes, take, OnOk, refl};
+ghost use Rattle.std.specs.Prelude.{◌≡◌, ◌++◌, ℕ, ℤ, false, List, Option, None, codes, MatchOption, refl};
 ghost use Rattle.std.specs.Str.{bytes_eq};
-ghost use Rattle.dpl_report.specs.Plain.{plain_zone};
-ghost use Rattle.dpl_report.specs.Reading.{aside_from, broken_from, zone_from};
+ghost use Rattle.dpl_parse.specs.Items.{item_from};
+ghost use Rattle.dpl_report.specs.Reading.{from_edge, aside_from, broken_from, zone_from};
 ghost use Rattle.dpl_report.specs.ReportLines.{aside_line, clash_line, cut_line};
 
-use crate::guesses::{aside_of, broken_of, zone_of};
-use dpl_report::writing::{push_aside, push_clash, push_cut};
+use crate::edges::{aside_in, clash_in, cut_in};
 use dpl_report::{Broken, Zone};
-use std::alloc::AllocError as NoMemory;
 use std::marker::Model;
 
-/// What a line says of an edge by its numbers.
+/// What a line says of an edge.
 pub trait Rising: Drop + Sized {
     ghost made_of: { List ℤ → Option Self };
 
@@ -19,16 +17,15 @@ pub trait Rising: Drop + Sized {
 
     ghost line_of: { Self → List ℕ };
 
-    /// What all the numbers of a line make, by the first eight of them.
-    fn from_few(numbers: &[i64]) -> Option<Self>
-        ensures { (all : List ℤ) → numbers.now ≡ take 8 all → result ≡ made_of all };
+    /// What a line says, `None` where it says nothing of the kind.
+    fn read(line: &[u8]) -> Option<Self>
+        ensures { MatchOption result
+            ((least : ℕ) → item_from made_of edge_of line_of least line.now ≡ None)
+            (λ x. (least : ℕ) → item_from made_of edge_of line_of least line.now
+            ≡ from_edge least (edge_of x) x) };
 
     fn edge(&self) -> u32
         ensures { result ≡ edge_of self.now };
-
-    /// Puts its line behind what is there.
-    fn push(&self, out: &mut Vec<u8>) -> Result<(), NoMemory>
-        ensures { OnOk result (out.new.items ≡ out.old.items ++ line_of self.now) };
 
     /// No such line is that of a cycle.
     ghost no_cycle: { (x : Self) (rest : List ℕ) →
@@ -58,17 +55,13 @@ impl Rising for CutLine {
 
     ghost no_cycle = { λ x rest. refl };
 
-    fn from_few(numbers: &[i64]) -> Option<CutLine> {
-        let zone = zone_of(numbers)?;
+    fn read(line: &[u8]) -> Option<CutLine> {
+        let zone = cut_in(line)?;
         Some(CutLine { zone })
     }
 
     fn edge(&self) -> u32 {
         self.zone.at.edge
-    }
-
-    fn push(&self, out: &mut Vec<u8>) -> Result<(), NoMemory> {
-        push_cut(out, &self.zone)
     }
 }
 
@@ -82,16 +75,12 @@ impl Rising for Broken {
 
     ghost no_cycle = { λ x rest. refl };
 
-    fn from_few(numbers: &[i64]) -> Option<Broken> {
-        broken_of(numbers)
+    fn read(line: &[u8]) -> Option<Broken> {
+        clash_in(line)
     }
 
     fn edge(&self) -> u32 {
         self.edge
-    }
-
-    fn push(&self, out: &mut Vec<u8>) -> Result<(), NoMemory> {
-        push_clash(out, self)
     }
 }
 
@@ -105,15 +94,11 @@ impl Rising for u32 {
 
     ghost no_cycle = { λ x rest. refl };
 
-    fn from_few(numbers: &[i64]) -> Option<u32> {
-        aside_of(numbers)
+    fn read(line: &[u8]) -> Option<u32> {
+        aside_in(line)
     }
 
     fn edge(&self) -> u32 {
         *self
-    }
-
-    fn push(&self, out: &mut Vec<u8>) -> Result<(), NoMemory> {
-        push_aside(out, *self)
     }
 }

@@ -50,7 +50,7 @@ fn is_end(text: &[u8]) -> bool
 }
 
 /// The number up to `most` at the front of a text, and what follows it.
-fn decimal_at(most: u64, text: &[u8]) -> Option<(u64, &[u8])>
+pub fn decimal_at(most: u64, text: &[u8]) -> Option<(u64, &[u8])>
     requires some { 9 ≤ most }
     requires limit { most ≤ 10 ^ 12 }
     ensures { MatchOption result ((n : ℕ) (rest : List ℕ) → ¬ IsDecimal most n rest text.now)
