@@ -1,11 +1,12 @@
 -- Rows of ways at the faces, of which those are left out that others serve as well.
 use Rattle.std.proofs.Common.{arith, ◌≡◌, ◌≢◌, ℕ, zero, suc, ◌+◌, ◌<◌, ◌≤◌, ◌==◌, refl, sym, ap, ◌∙◌, subst, Bool, true, false, cond}
-use Rattle.std.proofs.Common.{inl, inr, List, [], ◌∷◌, ◌++◌, length, length-append, get_or, Option, eq-eqb}
-use Rattle.std.specs.Prelude.{Contains, All}
+use Rattle.std.proofs.Common.{inl, inr, List, [], ◌∷◌, ◌++◌, length, length-append, get_or, take, Option, eq-eqb}
+use Rattle.std.specs.Prelude.{Contains, All, min}
 use Rattle.std.proofs.lemmas.Bool.{cases_eq}
 use Rattle.std.proofs.lemmas.List.{get_or_default}
-use Rattle.std.proofs.lemmas.List.Elements.{Contains-push, Contains-push_cases, Contains-append_left, All-append}
+use Rattle.std.proofs.lemmas.List.Elements.{Contains-push, Contains-push_cases, Contains-append_left, All-append, All-more, All-weaker}
 use Rattle.dpl_dual.specs.declared.crosses.Cross.{Cross}
+use Rattle.dpl_dual.specs.declared.crosses.Rows.{Rows}
 use Rattle.dpl_dual.specs.declared.reach.Reach.{Reach}
 use Rattle.dpl_dual.specs.Chains.{beyond, no_cross, IsAt}
 use Rattle.dpl_list.specs.Rows.{of_key, rows_by}
@@ -142,12 +143,12 @@ pub faces_below : (count : ℕ) (ways listed : List Cross) (n : ℕ) (faces : Li
     → AreRowsBelow ways n faces listed → All (λ f. f < count) faces
 faces_below count ways listed n faces a w = w.below count (λ k d l. let q = a k d l in (q.0, q.1))
 
-pub rows_are : (count : ℕ) (ways listed : List Cross) (faces : List ℕ) (rows : List (List Cross))
-    → rows ≡ rows_by faces listed count → AreRowsBelow ways (length ways) faces listed
-    → AreRows count ways rows
-rows_are count ways listed faces rows e w =
+pub rows_are : (count : ℕ) (ways listed : List Cross) (faces : List ℕ) (rows : Rows)
+    → rows.by_face ≡ rows_by faces listed count → AreRowsBelow ways (length ways) faces listed
+    → All (λ x. rows.least ≤ x.length) ways → AreRows count ways rows
+rows_are count ways listed faces rows e w least =
     let at : (f : ℕ) → f < count → row_of rows f ≡ of_key f faces listed = λ f h.
-    ap (λ (z : List (List Cross)). row_of z f) e ∙ rows_by_at faces listed count f h in
+    ap (λ (z : List (List Cross)). get_or z f []) e ∙ rows_by_at faces listed count f h in
     record {
       sizes = ap (λ (z : List (List Cross)). length z) e ∙ rows_by_length faces listed count;
       each = λ f j hf hj q.
@@ -157,7 +158,14 @@ rows_are count ways listed faces rows e w =
       only = λ f y hf c.
           let In : List Cross → Type 0 = λ z. Contains z y in
           w.only f y (subst In (at f hf) c);
+      least = least;
     }
+
+-- no way of those up to a place is shorter, and then none of those with the one at it
+pub least_more : (ways : List Cross) (i least less : ℕ) (d : Cross) → i < length ways → less ≡ min least (get_or ways i d).length
+    → All (λ x. least ≤ x.length) (take i ways) → All (λ x. less ≤ x.length) (take (i + 1) ways)
+least_more ways i least less d h e all = All-more (λ x. less ≤ x.length) ways i d h
+    (All-weaker (λ x. least ≤ x.length) (λ x. less ≤ x.length) (λ x k. omega (arith, e, k)) (take i ways) all) (omega (arith, e))
 
 -- what is short over a way is so over each that it serves
 pub short_served : (limit : ℕ) (e : ℕ → Option Reach) (f : ℕ) (x y : Cross) → IsShort limit e f y

@@ -6,11 +6,10 @@ ghost use Rattle.dpl_dual.specs.Duals.{AreRows, AreParts};
 ghost use Rattle.dpl_dual.specs.Searches.{AreWays};
 ghost use Rattle.dpl_dual.specs.Parities.{AreNamed};
 
-use crate::crosses::Cross;
+use crate::crosses::{Cross, Rows};
 use crate::measuring::measure;
 use crate::starts::Start;
 use crate::types::Distances;
-use dpl_list::Grouped;
 use std::alloc::{AllocError, Global};
 
 /// Gives these faces a name.
@@ -28,7 +27,7 @@ fn name(names: &mut [u32], faces: &[u32], name: u32)
 fn name_all(
     alloc: Global,
     ways: &[Cross],
-    rows: &Grouped<Cross>,
+    rows: &Rows,
     faces: u32,
     names: &mut [u32],
 ) -> Result<(), AllocError>
@@ -53,12 +52,7 @@ fn name_all(
 }
 
 /// For each face the least face of its part.
-pub fn parts(
-    alloc: Global,
-    ways: &[Cross],
-    rows: &Grouped<Cross>,
-    faces: u32,
-) -> Result<Vec<u32>, AllocError>
+pub fn parts(alloc: Global, ways: &[Cross], rows: &Rows, faces: u32) -> Result<Vec<u32>, AllocError>
     requires ways { AreWays faces ways.now }
     requires rows { AreRows faces ways.now rows.now }
     ensures length { IfOk result (λ v. length v.items ≡ faces) }

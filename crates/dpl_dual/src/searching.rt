@@ -132,16 +132,14 @@ pub fn renew(search: &mut Search, faces: u32) -> Result<(), AllocError>
     Ok(())
 }
 
-/// The length of the first way of a row.
-pub fn first_length(row: &[Cross]) -> u64 {
-    match row.first() {
-        Some(way) => way.length,
-        None => 0,
-    }
-}
-
 /// Labels the face of a start, where the start is nearer than the limit and than the label that is there.
-pub fn begin_at(start: &Start, way: u64, limit: u64, search: &mut Search) -> Result<(), AllocError>
+/// It waits beside the labels over ways as long as the first one at its face.
+pub fn begin_at(
+    start: &Start,
+    row: &[Cross],
+    limit: u64,
+    search: &mut Search,
+) -> Result<(), AllocError>
     ensures { (faces : ℕ) (ways : List Cross) (starts : List Start) → start.now.face < faces →
         IsBegun ways faces starts limit search.old →
         OnOk result (IsBegun ways faces (starts ++ start.now ∷ []) limit search.new) }
@@ -156,6 +154,10 @@ pub fn begin_at(start: &Start, way: u64, limit: u64, search: &mut Search) -> Res
     let reach = Reach {
         length: start.far,
         last: None,
+    };
+    let way = match row.first() {
+        Some(way) => way.length,
+        None => 0,
     };
     label(search, way, start.face, reach, known.is_some())
 }
