@@ -303,6 +303,19 @@ def shaken_grids(count):
         yield from ((x + x1, y + y1, x + x2, y + y2) for x1, y1, x2, y2 in shaken_grid(1_600, 45, 8, k))
 
 
+def rings_and_strip(rings, boxes):
+    """Rings of five wires around one another, whose hole is an odd face far from all others, and a strip beside the last."""
+    half = 400
+    for _ in range(rings):
+        yield (100 - half, half - 50, -40, half)
+        yield (40, half - 50, half - 100, half)
+        yield (half - 50, 130 - half, half, half - 130)
+        yield (100 - half, -half, half - 100, 50 - half)
+        yield (-half, 130 - half, 50 - half, half - 130)
+        half += 130
+    yield from ((half - 50 + x1, y1, half - 50 + x2, y2) for x1, y1, x2, y2 in strip(boxes))
+
+
 def boxes_between(n, places):
     """About n contacts, four close to each, and a small box between four of them in so many places: four odd faces each."""
     side = int(n**0.5)
@@ -382,6 +395,7 @@ def single():
     yield "ten parts of 5,000 random boxes: 1,992 odd faces in each", ten, OPTIONS
     yield "a shaken grid: 1,816 odd faces of 1,976", layout(shaken_grid(1_600, 45, 8, 1)), OPTIONS
     yield "31 shaken grids: 57,956 odd faces in 31 parts", layout(shaken_grids(31)), OPTIONS
+    yield "9,580 rings of wires and a strip: 2,046 odd faces", layout(rings_and_strip(9_580, 2_046)), OPTIONS
 
 
 def layers(named):
