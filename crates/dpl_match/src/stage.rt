@@ -44,12 +44,13 @@ fn kept(near: Neighbour) -> Option<Neighbour>
 
 /// The outer members that were taken in, and for each member the nearest of them with another top.
 /// The origin is an outer member throughout the stage. A change of values adds as much to the sum over
-/// each outer member, so that keys stay as they are.
+/// each outer member, so that keys stay as they are. The row is room for the distances of one member.
 #[derive(Drop)]
 pub struct OuterTable {
     pub origin: u32,
     pub known: Vec<bool>,
     pub near: Vec<Neighbour>,
+    pub row: Vec<u64>,
 }
 
 impl OuterTable {
@@ -103,16 +104,19 @@ impl Stage {
         ensures origin { IfOk result (λ s. s.table.origin ≡ origin) }
         ensures known { IfOk result (λ s. s.table.known.items ≡ replicate n false) }
         ensures near { IfOk result (λ s. s.table.near.items ≡ replicate n nobody) }
+        ensures row { IfOk result (λ s. length s.table.row.items ≡ n) }
     {
         let tree = Tree::new(alloc, root, 2 * n)?;
         let known = vec![in alloc; false; n]?;
         let near = vec![in alloc; NOBODY; n]?;
+        let row = vec![in alloc; 0; n]?;
         Ok(Stage {
             tree,
             table: OuterTable {
                 origin,
                 known,
                 near,
+                row,
             },
         })
     }

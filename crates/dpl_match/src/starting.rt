@@ -19,60 +19,45 @@ use dpl_tree::{Metric, pair};
 use std::alloc::{AllocError, Global};
 use std::sync::ledger::Ledger;
 
-/// The lesser of an amount and what a load lacks of the distance from s to t, if that is another
-/// member.
-fn least_to(metric: &Metric, s: u32, t: u32, load: u64, least: u64) -> u64
-    requires s { s < metric.now.size }
-    requires t { t < metric.now.size }
-    requires load { t ≢ s → load ≤ dist_of metric.now s t }
-    ensures least { result ≤ least }
-    ensures near { t ≢ s → load + result ≤ dist_of metric.now s t }
-{
-    if t == s {
-        return least;
-    }
-    least.min(metric.dist(s, t) - load)
-}
-
-/// The least of an amount and the numbers of a list from a place to another.
-fn least_in(numbers: &[u64], start: usize, end: usize, amount: u64) -> u64
-    requires { end ≤ length numbers.now }
-    ensures least { result ≤ amount }
-    ensures each { (t : ℕ) → start ≤ t → t < end → result ≤ slice_index numbers.now t }
-{
-    let mut least = amount;
-    for t in start..end {
-        least = least.min(numbers[t]);
-    }
-    least
-}
-
 /// Half the distance from a member to its nearest one, and no more than a value may be.
 fn half_nearest(metric: &Metric, s: u32) -> u64
     requires s { s < metric.now.size }
     ensures half { (t : ℕ) → t < metric.now.size → t ≢ s → 2 * result ≤ dist_of metric.now s t }
     ensures small { result ≤ 2 ^ 50 }
 {
-    let n = metric.size();
-    let row = metric.row(s);
-    let at = s as usize;
-    let before = least_in(row, 0, at, 1125899906842624);
-    let least = least_in(row, at + 1, n, before);
-    least / 2
+    metric.nearest(s, 1125899906842624) / 2
 }
 
-/// How much more a member's value may be: as far as its nearest pair is from being tight.
-fn slack_of(metric: &Metric, sums: &[u64], s: u32) -> u64
+/// The lesser of an amount and what the values of s and t lack of their distance, if t is another
+/// member.
+fn least_to(sums: &[u64], s: u32, t: usize, far: u64, least: u64) -> u64
+    requires s { s < length sums.now }
+    requires t { t < length sums.now }
+    requires load { t ≢ s → slice_index sums.now s + slice_index sums.now t ≤ far }
+    ensures least { result ≤ least }
+    ensures near { t ≢ s → slice_index sums.now s + slice_index sums.now t + result ≤ far }
+{
+    if t == s as usize {
+        return least;
+    }
+    least.min(far - (sums[s as usize] + sums[t]))
+}
+
+/// How much more a member's value may be: as far as its nearest pair is from being tight. Its
+/// distances stand in the row.
+fn slack_of(metric: &Metric, sums: &[u64], s: u32, row: &[u64]) -> u64
     requires values { AreValues metric.now.size (dist_of metric.now) sums.now }
     requires s { s < metric.now.size }
+    requires count { length row.now ≡ metric.now.size }
+    requires row { (t : ℕ) → t < metric.now.size → slice_index row.now t ≡ dist_of metric.now s t }
     ensures room { (t : ℕ) → t < metric.now.size → t ≢ s →
         slice_index sums.now s + slice_index sums.now t + result ≤ dist_of metric.now s t }
     ensures small { slice_index sums.now s + result ≤ 2 ^ 50 }
 {
-    let n = metric.size() as u32;
+    let n = metric.size();
     let mut least: u64 = 1125899906842624 - sums[s as usize];
     for t in 0..n {
-        least = least_to(metric, s, t, sums[s as usize] + sums[t as usize], least);
+        least = least_to(sums, s, t, row[t], least);
     }
     least
 }
@@ -244,11 +229,13 @@ fn lift_one<L: Ledger>(
     metric: &Metric,
     family: &mut Family,
     sums: &mut [u64],
+    row: &mut [u64],
     s: u32,
     steps: &mut Steps<L>,
 )
     requires values { AreValues metric.now.size (dist_of metric.now) sums.old }
     requires alone { AreAlone metric.now.size (sets_of family.old) sums.old }
+    requires row { length row.old ≡ metric.now.size }
     requires s { s < metric.now.size }
     ensures started { (mates : List (Option ℕ)) → mate_in mates s ≡ None →
         AreStarted metric.now.size (dist_of metric.now) (sets_of family.old) mates sums.old →
@@ -256,7 +243,8 @@ fn lift_one<L: Ledger>(
     ensures steps { steps.new ≡ steps.old + 1 }
 {
     let _size = metric.size();
-    let by = slack_of(metric, sums, s);
+    metric.write_row(s, row);
+    let by = slack_of(metric, sums, s, row);
     raise_one(family, s, by, steps);
     sums[s as usize] += by;
 }
@@ -267,11 +255,13 @@ fn settle_one<L: Ledger>(
     family: &mut Family,
     mates: &mut [Option<u32>],
     sums: &mut [u64],
+    row: &mut [u64],
     s: u32,
     steps: &mut Steps<L>,
 )
     requires started { AreStarted metric.now.size (dist_of metric.now) (sets_of family.old)
         mates.old sums.old }
+    requires row { length row.old ≡ metric.now.size }
     requires s { s < metric.now.size }
     ensures started { AreStarted metric.now.size (dist_of metric.now) (sets_of family.new)
         mates.new sums.new }
@@ -281,7 +271,7 @@ fn settle_one<L: Ledger>(
     if has_mate(mates, s) {
         return;
     }
-    lift_one(metric, family, sums, s, steps);
+    lift_one(metric, family, sums, row, s, steps);
     pair_first(metric, mates, sums, s);
 }
 
@@ -291,17 +281,19 @@ fn settle_all<L: Ledger>(
     family: &mut Family,
     mates: &mut [Option<u32>],
     sums: &mut [u64],
+    row: &mut [u64],
     steps: &mut Steps<L>,
 )
     requires started { AreStarted metric.now.size (dist_of metric.now) (sets_of family.old)
         mates.old sums.old }
+    requires row { length row.old ≡ metric.now.size }
     ensures started { AreStarted metric.now.size (dist_of metric.now) (sets_of family.new)
         mates.new sums.new }
     ensures steps { steps.new ≤ steps.old + metric.now.size }
 {
     let n = metric.size() as u32;
     for s in 0..n {
-        settle_one(metric, family, mates, sums, s, steps);
+        settle_one(metric, family, mates, sums, row, s, steps);
     }
 }
 
@@ -329,6 +321,7 @@ pub fn begin<L: Ledger>(
     }
     raise_all(metric, family, sums, steps);
     pair_all_tight(alloc, metric, mates, sums)?;
-    settle_all(metric, family, mates, sums, steps);
+    let mut row = vec![in alloc; 0; metric.size()]?;
+    settle_all(metric, family, mates, sums, &mut row, steps);
     Ok(())
 }

@@ -123,7 +123,7 @@ fn mates_in<L: Ledger>(
     if !is_table(&rows, n as usize) {
         return Err("no distances")?;
     }
-    let metric = Metric::new(n, rows);
+    let metric = Metric::new(alloc, n, rows)?;
     let Matched { mate, .. } = solve(alloc, &metric, &mut steps)?;
     Ok(mate)
 }

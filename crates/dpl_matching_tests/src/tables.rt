@@ -2,7 +2,7 @@
 
 ghost use Rattle.std.specs.Prelude.{◌≡◌, ℕ, ◌*◌, ◌<◌, ◌≤◌, true, length};
 ghost use Rattle.dpl_matching_tests.specs.Checks.{table_dist, IsFair, IsStraight};
-ghost use Rattle.dpl_tree.specs.Metrics.{IsTable};
+ghost use Rattle.dpl_tree.specs.Metrics.{IsTable, full_table};
 
 /// One distance.
 fn at(rows: &[u64], n: usize, s: usize, t: usize) -> u64
@@ -119,7 +119,7 @@ fn are_rows_straight(rows: &[u64], n: usize) -> bool
 
 /// Whether these rows are distances.
 pub fn is_table(rows: &[u64], n: usize) -> bool
-    ensures { result ≡ true → IsTable (record { size = n; rows = rows.now }) }
+    ensures { result ≡ true → IsTable (full_table n rows.now) }
 {
     if n > 2048 {
         return false;

@@ -11,7 +11,7 @@ ghost use Rattle.dpl_solve.specs.Works.{IsDrawn};
 
 use crate::drawn::Drawn;
 use crate::joins::{join_pairs, mate_of};
-use crate::metrics::{Rows, all_rows};
+use crate::metrics::{all_radii, all_rows, near_rows};
 use crate::sight::{FULL_LIMIT, Sight, all_nearest, first_margin, next_margin};
 use crate::work::Joined;
 use dpl_dual::types::Distances;
@@ -50,10 +50,19 @@ fn look(
         u < length terminals.now → IsApart drawn.now.dual.now.crosses terminals.now
         (slice_index m.radii.items) s u (dist_of m.metric s u)) }
 {
-    let rows = all_rows(alloc, drawn.dual, terminals, sight, reach, places)?;
-    let Rows { dists, radii } = rows;
-    let metric = Metric::new(terminals.len() as u32, dists);
-    Ok(Seen { metric, radii })
+    let radii = all_radii(alloc, drawn.dual, terminals, sight)?;
+    match near_rows(alloc, drawn.dual, terminals, &radii, reach, places)? {
+        Some(near) => {
+            let copied = Vec::from_slice(alloc, &radii)?;
+            let metric = Metric::near(alloc, copied, near);
+            Ok(Seen { metric, radii })
+        }
+        None => {
+            let rows = all_rows(alloc, drawn.dual, terminals, &radii, reach, places)?;
+            let metric = Metric::new(alloc, terminals.len() as u32, rows)?;
+            Ok(Seen { metric, radii })
+        }
+    }
 }
 
 /// Whether each member is nearer to its mate than both radii together.

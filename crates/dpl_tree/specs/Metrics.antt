@@ -1,5 +1,8 @@
--- Distances between members as a list of rows, as a metric space has them.
-use Rattle.std.specs.Prelude.{◌≡◌, ℕ, ◌+◌, ◌*◌, ◌%◌, ◌<◌, ◌≤◌, List, length, slice_index}
+-- Distances between members, as a metric space has them: a table with a row for each member, or radii and a list for each
+-- member of what is near it.
+use Rattle.std.specs.Prelude.{◌≡◌, ℕ, ◌+◌, ◌*◌, ◌%◌, ◌^◌, ◌<◌, ◌≤◌, ◌==◌, if◌then◌else◌, Bool, true, false, List, [], ◌∷◌, All}
+use Rattle.std.specs.Prelude.{length, slice_index, slice_index_or}
+use Rattle.dpl_tree.specs.declared.metric.Close.{Close}
 
 -- distances: even, symmetric, 0 on the diagonal, and no way over a third member is shorter
 pub record IsMetric (n : ℕ) (dist : ℕ → ℕ → ℕ) : Type 0 where
@@ -9,15 +12,49 @@ pub record IsMetric (n : ℕ) (dist : ℕ → ℕ → ℕ) : Type 0 where
   pub triangle : (s t u : ℕ) → s < n → t < n → u < n → dist s u ≤ dist s t + dist t u
   pub small : (s t : ℕ) → s < n → t < n → dist s t ≤ 1125899906842624
 
+-- distances row by row where all are listed; otherwise what is near each member, and the radii
 pub record Table : Type 0 where
   pub size : ℕ
+  pub is_full : Bool
   pub rows : List ℕ
+  pub radii : List ℕ
+  pub near : List (List Close)
 
+-- all distances, row by row
+abbrev pub full_table : ℕ → List ℕ → Table
+full_table n rows = record { size = n; is_full = true; rows = rows; radii = []; near = [] }
+
+-- the radii, and what is near each member
+abbrev pub near_table : List ℕ → List (List Close) → Table
+near_table radii near = record { size = length radii; is_full = false; rows = []; radii = radii; near = near }
+
+-- how far a member is by the first entry of it in a list, and where it has none so far
+abbrev pub far_in : List Close → ℕ → ℕ → ℕ
+far_in [] t otherwise = otherwise
+far_in (x ∷ row) t otherwise = if x.member == t then x.far else far_in row t otherwise
+
+-- the distance of two members: as it stands in the table, or else as it is listed, and where it is not, both radii together
 abbrev pub dist_of : Table → ℕ → ℕ → ℕ
-dist_of d s t = slice_index d.rows (s * d.size + t)
+dist_of d s t =
+    if d.is_full then slice_index d.rows (s * d.size + t)
+    else far_in (slice_index_or d.near s []) t (slice_index d.radii s + slice_index d.radii t)
 
+-- a list of some of n members, with one distance for each of them
+pub record IsNearList (n : ℕ) (row : List Close) : Type 0 where
+  pub below : All (λ (x : Close). x.member < n) row
+  pub same : All (λ (x : Close). All (λ (y : Close). x.member ≡ y.member → x.far ≡ y.far) row) row
+
+-- a radius and a list for each member
+pub record AreNearLists (d : Table) : Type 0 where
+  pub radii : length d.radii ≡ d.size
+  pub small : All (λ r. r ≤ 2 ^ 49) d.radii
+  pub lists : length d.near ≡ d.size
+  pub each : All (IsNearList d.size) d.near
+
+-- an even number of members, what their distances are taken from, and that these are a metric
 pub record IsTable (d : Table) : Type 0 where
   pub small : d.size ≤ 2048
   pub even : d.size % 2 ≡ 0
-  pub count : length d.rows ≡ d.size * d.size
+  pub full : d.is_full ≡ true → length d.rows ≡ d.size * d.size
+  pub listed : d.is_full ≡ false → AreNearLists d
   pub metric : IsMetric d.size (dist_of d)

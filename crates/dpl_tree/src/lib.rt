@@ -1,10 +1,12 @@
 //! The alternating tree of a perfect matching with blossoms, and its single steps.
 //!
-//! A `Metric` has the distances of an even number of members, and a family of `dpl_laminar`
-//! stands over them. A pair, a join or an edge of the tree is tight where its load equals its
-//! distance. Between two stages all pairs are tight and lead from one top of the family to
-//! another, and no load is more than its distance (`IsRest`). Within a stage there is a tree as
-//! well, whose tops are outer and inner by turns on each way from the root (`IsStage`).
+//! A `Metric` has the distances of an even number of members: all of them row by row, or a radius
+//! for each member and a list of what is near it, where any other one is as far as both radii
+//! together. A family of `dpl_laminar` stands over the members. A pair, a join or an edge of the
+//! tree is tight where its load equals its distance. Between two stages all pairs are tight and
+//! lead from one top of the family to another, and no load is more than its distance (`IsRest`).
+//! Within a stage there is a tree as well, whose tops are outer and inner by turns on each way
+//! from the root (`IsStage`).
 //!
 //! A `Matching` is a family with the pairs between its tops and the sums over its members. With
 //! the `Tree` of a stage it is what the steps work on (`IsGrowing`).
@@ -35,7 +37,7 @@ pub use fold_up::fold;
 pub use giving_way::pair_round;
 pub use growth::grow;
 pub use matching::Matching;
-pub use metric::Metric;
+pub use metric::{Close, Metric};
 pub use pairs::{exit_of, pair};
 pub use ring::{Round, child_with, round_from};
 pub use std::alloc::AllocError as NoMemory;

@@ -1,36 +1,85 @@
 //! Distances.
 
-ghost use Rattle.std.specs.Prelude.{◌≡◌, ℕ, ◌+◌, ◌*◌, ◌<◌, ◌≤◌, length, slice_index, slice_range};
-ghost use Rattle.dpl_tree.specs.Metrics.{Table, dist_of, IsTable};
+ghost use Rattle.std.specs.Prelude.{◌≡◌, ◌≢◌, ℕ, ◌+◌, ◌*◌, ◌^◌, ◌<◌, ◌≤◌, true, All, IfOk, length, slice_index, slice_range};
+ghost use Rattle.dpl_tree.specs.declared.metric.Close.{Close};
+ghost use Rattle.dpl_tree.specs.Metrics.{Table, dist_of, far_in, IsNearList, IsTable, full_table, near_table};
 
+use dpl_list::Grouped;
+use std::alloc::{AllocError, Global};
 use std::marker::Model;
 
-/// Even distances between members, which obey the triangle rule.
+/// A member that is near another one, and how far it is from it.
+#[derive(Clone, Copy)]
+pub struct Close {
+    pub member: u32,
+    pub far: u64,
+}
+
+/// Even distances between members, which obey the triangle rule. They stand in a table, or where few members are near
+/// each other, in a list for each member of those that are nearer to it than both radii; all others are as far as the
+/// radii together. No radius is less than `least`.
 #[derive(Drop)]
 pub struct Metric {
     size: usize,
+    is_full: bool,
     rows: Vec<u64>,
+    radii: Vec<u64>,
+    least: u64,
+    near: Grouped<Close>,
 }
 
 impl Model for Metric {
+    ghost use Rattle.std.specs.Prelude.{◌≤◌, All};
     ghost use Rattle.dpl_tree.specs.Metrics.{Table, IsTable};
 
     ghost Value = { Table };
 
-    ghost view = { λ m. record { size = m.size; rows = m.rows.items } };
+    ghost view = { λ m. record {
+      size = m.size;
+      is_full = m.is_full;
+      rows = m.rows.items;
+      radii = m.radii.items;
+      near = m.near;
+    } };
 
-    ghost invariant = { λ m. IsTable (record { size = m.size; rows = m.rows.items }) };
+    ghost invariant = { λ m. IsTable (record {
+      size = m.size;
+      is_full = m.is_full;
+      rows = m.rows.items;
+      radii = m.radii.items;
+      near = m.near;
+    })
+        × All (λ r. m.least ≤ r) m.radii.items };
 }
 
 impl Metric {
     /// The distances row by row.
-    pub fn new(n: u32, rows: Vec<u64>) -> Metric
-        requires { IsTable (record { size = n; rows = rows.items }) }
-        ensures { result ≡ record { size = n; rows = rows.items } }
+    pub fn new(alloc: Global, n: u32, rows: Vec<u64>) -> Result<Metric, AllocError>
+        requires { IsTable (full_table n rows.items) }
+        ensures { IfOk result (λ m. m ≡ full_table n rows.items) }
+    {
+        Ok(Metric {
+            size: n as usize,
+            is_full: true,
+            rows,
+            radii: Vec::new(alloc),
+            least: 0,
+            near: Grouped::by_key(alloc, 0, &[], &[])?,
+        })
+    }
+
+    /// The radii, and for each member those that are nearer to it than both radii.
+    pub fn near(alloc: Global, radii: Vec<u64>, near: Grouped<Close>) -> Metric
+        requires { IsTable (near_table radii.items near) }
+        ensures { result ≡ near_table radii.items near }
     {
         Metric {
-            size: n as usize,
-            rows,
+            size: radii.len(),
+            is_full: false,
+            rows: Vec::new(alloc),
+            least: least_of(&radii),
+            radii,
+            near,
         }
     }
 
@@ -42,23 +91,55 @@ impl Metric {
         self.size
     }
 
+    /// The row of a member, where all distances stand in rows.
+    fn full_row(&self, s: u32) -> &[u64]
+        requires full { self.now.is_full ≡ true }
+        requires member { s < self.now.size }
+        ensures count { length result.now ≡ self.now.size }
+        ensures each { (t : ℕ) → t < self.now.size →
+            slice_index result.now t ≡ dist_of self.now s t }
+    {
+        part(&self.rows, s as usize * self.size, self.size)
+    }
+
     /// The distance of two members.
     pub fn dist(&self, s: u32, t: u32) -> u64
         requires first { s < self.now.size }
         requires second { t < self.now.size }
         ensures { result ≡ dist_of self.now s t }
     {
-        self.rows[s as usize * self.size + t as usize]
+        if self.is_full {
+            return self.rows[s as usize * self.size + t as usize];
+        }
+        let sum = self.radii[s as usize] + self.radii[t as usize];
+        far_to(self.near.row(s as usize), t, sum)
     }
 
-    /// The distances of a member from each one.
-    pub fn row(&self, s: u32) -> &[u64]
-        requires { s < self.now.size }
-        ensures count { length result.now ≡ self.now.size }
-        ensures each { (t : ℕ) → t < self.now.size →
-            slice_index result.now t ≡ dist_of self.now s t }
+    /// Writes the distances of a member from each one.
+    pub fn write_row(&self, s: u32, row: &mut [u64])
+        requires member { s < self.now.size }
+        requires count { length row.old ≡ self.now.size }
+        ensures { (t : ℕ) → t < self.now.size → slice_index row.new t ≡ dist_of self.now s t }
     {
-        part(&self.rows, s as usize * self.size, self.size)
+        if self.is_full {
+            row.copy_from_slice(self.full_row(s));
+            return;
+        }
+        write_sums(&self.radii, s, row);
+        write_near(self.near.row(s as usize), row);
+    }
+
+    /// An amount, or less where another member is nearer: no other member is nearer than what is given.
+    pub fn nearest(&self, s: u32, amount: u64) -> u64
+        requires { s < self.now.size }
+        ensures least { result ≤ amount }
+        ensures each { (t : ℕ) → t < self.now.size → t ≢ s → result ≤ dist_of self.now s t }
+    {
+        if self.is_full {
+            return least_beside(self.full_row(s), s as usize, amount);
+        }
+        let most = amount.min(self.radii[s as usize] + self.least);
+        least_far(self.near.row(s as usize), s, most)
     }
 }
 
@@ -69,4 +150,82 @@ fn part(numbers: &[u64], start: usize, count: usize) -> &[u64]
 {
     let end = start + count;
     &numbers[start..end]
+}
+
+/// The least radius.
+fn least_of(radii: &[u64]) -> u64
+    ensures { All (λ r. result ≤ r) radii.now }
+{
+    let mut least = u64::MAX;
+    for t in 0..radii.len() {
+        least = least.min(radii[t]);
+    }
+    least
+}
+
+/// How far a member is by the list of what is near another one, and otherwise so far.
+fn far_to(row: &[Close], member: u32, otherwise: u64) -> u64
+    ensures { result ≡ far_in row.now member otherwise }
+{
+    for i in 0..row.len() {
+        if row[i].member == member {
+            return row[i].far;
+        }
+    }
+    otherwise
+}
+
+/// Writes the sums of the radius of a member and each one.
+fn write_sums(radii: &[u64], s: u32, row: &mut [u64])
+    requires count { length row.old ≡ length radii.now }
+    requires small { All (λ r. r ≤ 2 ^ 49) radii.now }
+    requires member { s < length radii.now }
+    ensures { (t : ℕ) → t < length radii.now →
+        slice_index row.new t ≡ slice_index radii.now s + slice_index radii.now t }
+{
+    let radius = radii[s as usize];
+    for t in 0..radii.len() {
+        row[t] = radius + radii[t];
+    }
+}
+
+/// Writes how far those are that are near.
+fn write_near(near: &[Close], row: &mut [u64])
+    requires { IsNearList (length row.old) near.now }
+    ensures { (t : ℕ) → slice_index row.new t ≡ far_in near.now t (slice_index row.old t) }
+{
+    for i in 0..near.len() {
+        let Close { member, far } = near[i];
+        row[member as usize] = far;
+    }
+}
+
+/// The least of an amount and of the numbers of a list, but for the one at a place.
+fn least_beside(numbers: &[u64], place: usize, amount: u64) -> u64
+    ensures least { result ≤ amount }
+    ensures each { (t : ℕ) → t < length numbers.now → t ≢ place →
+        result ≤ slice_index numbers.now t }
+{
+    let mut least = amount;
+    for t in 0..numbers.len() {
+        if t != place {
+            least = least.min(numbers[t]);
+        }
+    }
+    least
+}
+
+/// The least of an amount and of what is near a member, but for itself.
+fn least_far(near: &[Close], s: u32, amount: u64) -> u64
+    ensures least { result ≤ amount }
+    ensures each { All (λ (x : Close). x.member ≢ s → result ≤ x.far) near.now }
+{
+    let mut least = amount;
+    for i in 0..near.len() {
+        let Close { member, far } = near[i];
+        if member != s {
+            least = least.min(far);
+        }
+    }
+    least
 }

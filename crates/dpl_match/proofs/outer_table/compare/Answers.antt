@@ -15,7 +15,7 @@ loop-t-preserved c =
     let offset : ℕ = c.args.offset in
     let known = c.loop-t.invariant in
     let r = c.compare_one.ensures in
-    let dist = c.row-row.ensures.each t (omega (arith, c.loop-t-test.true, c.size-n.ensures.value)) in
+    let dist = c.write_row.ensures t (omega (arith, c.loop-t-test.true, c.size-n.ensures.value)) in
     record {
       done = λ k h. elim (cases_eq k t) [
         | inl e ↦ rw e (r.nearer ∙

@@ -24,6 +24,7 @@ loop-t-preserved c =
         origin_below = omega (arith, r.origin, known.table.origin_below);
         known_count = ap (λ z. length z.items) r.known ∙ known.table.known_count;
         near_count = r.count ∙ known.table.near_count;
+        row_count = ap (λ z. length z.items) r.row ∙ known.table.row_count;
       };
       near_outer = renewed v (place_in c.args.tree.now.labels.items) c.loop-t.table next t known.near_outer r.origin r.known r.near
           r.measured r.rest;

@@ -16,10 +16,10 @@ pair_all_tight-requires-clause-values g c =
     let w = raised_started c.size.ensures.table.metric c.requires.singles c.raise_all.ensures.raised c.requires.mates in
     w.values
 
-pub settle_all-requires : goal.settle_all-requires
-settle_all-requires g c =
+pub settle_all-requires-clause-started : goal.settle_all-requires-clause-started
+settle_all-requires-clause-started g c =
     let w = raised_started c.size.ensures.table.metric c.requires.singles c.raise_all.ensures.raised c.requires.mates in
-    record { started = c.pair_all_tight.ensures.started (sets_of c.raise_all.new.family) w }
+    c.pair_all_tight.ensures.started (sets_of c.raise_all.new.family) w
 
 pub returns-clause-rest : goal.returns-clause-rest
 returns-clause-rest g c = started_rest c.settle_all.ensures.started

@@ -1,0 +1,12 @@
+use Rattle.std.proofs.Common.{arith}
+use Rattle.std.specs.Prelude.{slice_index}
+use Rattle.dpl_pack.proofs.MoatLemmas.{terminals_below}
+use Rattle.dpl_solve.proofs.NearLemmas.{sees}
+use Rattle.dpl_solve.proofs.metrics.find_from.Goals as goal
+
+pub distances_within-requires-clause-from : goal.distances_within-requires-clause-from
+distances_within-requires-clause-from c = terminals_below _ _ c.requires.dual c.requires.terminals c.args.s _ c.requires.inside
+
+pub returns : goal.returns
+returns c = sees c.args.dual.now c.args.listed.now.faces.now (slice_index c.args.radii.now) c.args.s c.distances_within.new.distances _ _
+    c.requires.dual c.requires.terminals c.in_ok-distances_within.ensures c.in_ok-add_reached.ensures

@@ -1,0 +1,5 @@
+use Rattle.std.proofs.Common.{◌≢◌, ℕ, ◌<◌, ◌≤◌, slice_index}
+use Rattle.dpl_tree.proofs.metric.least_beside.Given as goal
+
+abbrev pub invariant-loop-t : goal.invariant-loop-t
+invariant-loop-t l = (l.least ≤ l.fn.amount) × ((k : ℕ) → k < l.t → k ≢ l.fn.place → l.least ≤ slice_index l.fn.numbers k)
