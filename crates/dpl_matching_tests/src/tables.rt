@@ -5,7 +5,7 @@ ghost use Rattle.dpl_matching_tests.specs.Checks.{table_dist, IsFair, IsStraight
 ghost use Rattle.dpl_tree.specs.Metrics.{IsTable, full_table};
 
 /// One distance.
-fn at(rows: &[u64], n: usize, s: usize, t: usize) -> u64
+pub fn at(rows: &[u64], n: usize, s: usize, t: usize) -> u64
     requires small { n ≤ 2048 }
     requires count { length rows.now ≡ n * n }
     requires s { s < n }
