@@ -1,6 +1,6 @@
 -- What is found near terminals, and the lists of it.
-use Rattle.std.proofs.Common.{arith, ◌≡◌, ◌≢◌, ℕ, zero, suc, ◌+◌, ◌*◌, ◌^◌, ◌<◌, ◌≤◌, ◌==◌, ◌⊎◌, refl, sym, ap, ◌∙◌, subst, eq-eqb}
-use Rattle.std.proofs.Common.{true, false, inl, inr, List, [], ◌∷◌, ◌++◌, length, length-append, get_or, take}
+use Rattle.std.proofs.Common.{arith, ◌≡◌, ◌≢◌, ℕ, zero, suc, ◌+◌, ◌*◌, ◌^◌, ◌<◌, ◌≤◌, ◌⊎◌, refl, sym, ap, ◌∙◌, subst, eq-eqb}
+use Rattle.std.proofs.Common.{true, inl, inr, List, [], ◌∷◌, ◌++◌, length, length-append, get_or, take}
 use Rattle.std.specs.Prelude.{All, Contains, slice_index, slice_index_or}
 use Rattle.std.proofs.lemmas.Bool.{cases_Bool, cases_lt, cases_eq, ne_eqb, true≢false, false≢true}
 use Rattle.std.proofs.lemmas.List.{take_all, get_or_default}
@@ -17,7 +17,7 @@ use Rattle.dpl_pack.specs.Moats.{AreTerminals}
 use Rattle.dpl_laminar.specs.Families.{has}
 use Rattle.dpl_laminar.proofs.Numbers.{has_taken}
 use Rattle.dpl_tree.specs.declared.metric.Close.{Close}
-use Rattle.dpl_tree.specs.Metrics.{far_in, near_table, dist_of, IsNearList}
+use Rattle.dpl_tree.specs.Metrics.{far_in, IsNearList}
 use Rattle.dpl_solve.specs.declared.metrics.Found.{Found}
 use Rattle.dpl_solve.specs.Metrics.{IsDistance, IsApart, IsSeen, found_at, HasFound, AreEntries, AreNearby, IsEntryOf}
 use Rattle.dpl_solve.specs.Metrics.{ArePairAdded, AreAdded, AreFound, AreNearRows}

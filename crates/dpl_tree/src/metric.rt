@@ -1,6 +1,6 @@
 //! Distances.
 
-ghost use Rattle.std.specs.Prelude.{◌≡◌, ◌≢◌, ℕ, ◌+◌, ◌*◌, ◌^◌, ◌<◌, ◌≤◌, true, All, IfOk, length, slice_index, slice_range};
+ghost use Rattle.std.specs.Prelude.{◌≡◌, ◌≢◌, ℕ, ◌+◌, ◌*◌, ◌^◌, ◌<◌, ◌≤◌, true, All, IfOk, IfSome, length, slice_index, slice_range};
 ghost use Rattle.dpl_tree.specs.declared.metric.Close.{Close};
 ghost use Rattle.dpl_tree.specs.Metrics.{Table, dist_of, far_in, IsNearList, IsTable, full_table, near_table};
 
@@ -102,7 +102,20 @@ impl Metric {
         part(&self.rows, s as usize * self.size, self.size)
     }
 
+    /// The row of a member, if all distances stand in rows.
+    pub fn row(&self, s: u32) -> Option<&[u64]>
+        requires { s < self.now.size }
+        ensures { IfSome result (λ row. (length row.now ≡ self.now.size) ×
+            ((t : ℕ) → t < self.now.size → slice_index row.now t ≡ dist_of self.now s t)) }
+    {
+        if self.is_full {
+            return Some(self.full_row(s));
+        }
+        None
+    }
+
     /// The distance of two members.
+    #[inline(always)]
     pub fn dist(&self, s: u32, t: u32) -> u64
         requires first { s < self.now.size }
         requires second { t < self.now.size }

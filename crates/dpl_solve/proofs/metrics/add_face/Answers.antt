@@ -1,6 +1,6 @@
-use Rattle.std.proofs.Common.{◌≡◌, sym, subst, ℕ}
+use Rattle.std.proofs.Common.{sym, subst, ℕ}
 use Rattle.std.specs.Prelude.{slice_index}
-use Rattle.dpl_solve.specs.Metrics.{IsDistance, ArePairAdded}
+use Rattle.dpl_solve.specs.Metrics.{IsDistance}
 use Rattle.dpl_solve.proofs.NearLemmas.{added_some, added_none}
 use Rattle.dpl_solve.proofs.metrics.add_face.Goals as goal
 

@@ -1,4 +1,3 @@
-use Rattle.std.proofs.Common.{◌≡◌, true, refl}
 use Rattle.dpl_pack.proofs.MoatLemmas.{terminals_below}
 use Rattle.dpl_solve.proofs.NearLemmas.{found_rows}
 use Rattle.dpl_solve.proofs.PlaceLemmas.{terminals_apart}

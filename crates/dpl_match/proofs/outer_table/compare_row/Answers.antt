@@ -5,7 +5,7 @@ use Rattle.dpl_laminar.specs.Storing.{sets_of}
 use Rattle.dpl_tree.specs.Metrics.{dist_of}
 use Rattle.dpl_match.specs.declared.stage.Neighbour.{Neighbour}
 use Rattle.dpl_match.specs.steps.Nearest.{compared, kept_in, neighbour_at}
-use Rattle.dpl_match.proofs.outer_table.compare.Goals as goal
+use Rattle.dpl_match.proofs.outer_table.compare_row.Goals as goal
 
 pub loop-t-preserved : goal.loop-t-preserved
 loop-t-preserved c =
@@ -15,7 +15,7 @@ loop-t-preserved c =
     let offset : ℕ = c.args.offset in
     let known = c.loop-t.invariant in
     let r = c.compare_one.ensures in
-    let dist = c.write_row.ensures t (omega (arith, c.loop-t-test.true, c.size-n.ensures.value)) in
+    let dist = c.requires.row t (omega (arith, c.loop-t-test.true, c.size-n.ensures.value)) in
     record {
       done = λ k h. elim (cases_eq k t) [
         | inl e ↦ rw e (r.nearer ∙
