@@ -76,6 +76,20 @@ fn listed(alloc: Global, sets: &[Near], level: Level) -> Result<Moat, AllocError
     })
 }
 
+/// How many of so many first faces near a set are in the moat of a level, in a row.
+fn front(sets: &[Near], level: Level, count: usize) -> usize
+    requires { level.place < length sets.now }
+{
+    let depths = sets[level.place].depths.as_slice();
+    let most = count.min(depths.len());
+    for i in 0..most {
+        if depths[i] > level.most {
+            return i;
+        }
+    }
+    most
+}
+
 impl Moats {
     /// Moats round these sets.
     pub fn new(sets: Vec<Near>, levels: Vec<Level>) -> Moats
@@ -90,6 +104,23 @@ impl Moats {
         ensures { result ≡ length self.now }
     {
         self.levels.len()
+    }
+
+    /// How many of so many first faces of a moat are the first ones of the next moat too, where that is round the same
+    /// set: as many as stand in a row among the faces near it. Time alone depends on it.
+    pub fn first_shared(&self, i: usize, count: usize) -> usize
+        requires { i < length self.now }
+    {
+        let level = self.levels[i];
+        match self.levels.get(i + 1) {
+            Some(next) => {
+                if next.place != level.place {
+                    return 0;
+                }
+                front(&self.sets, level, count)
+            }
+            None => 0,
+        }
     }
 
     /// One of them, whose faces are listed anew. It costs the faces near its set.

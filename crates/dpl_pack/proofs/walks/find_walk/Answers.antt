@@ -2,11 +2,11 @@ use Rattle.std.proofs.Common.{arith, ◌∙◌, ◌≡◌, ◌<◌, true, false,
 use Rattle.dpl_map.specs.Views.{view_of}
 use Rattle.dpl_map.proofs.ViewLemmas.{map_of}
 use Rattle.dpl_laminar.proofs.Numbers.{has_at}
-use Rattle.dpl_pack.proofs.OddLemmas.{nothing_searched, row_active, face_searched, some_odd}
+use Rattle.dpl_pack.proofs.OddLemmas.{row_active, face_searched, some_odd}
 use Rattle.dpl_pack.proofs.walks.find_walk.Goals as goal
 
 pub loop-i-init : goal.loop-i-init
-loop-i-init c = nothing_searched c.args.graph.now (view_of c.args.map.now) _ _ c.requires.darts c.requires.clear
+loop-i-init c = rw c.in_default.is at c.in_ok-walk.ensures
 
 pub search-requires-clause-map : goal.search-requires-clause-map
 search-requires-clause-map c = map_of c.args.graph.now c.args.map.now c.requires.map
@@ -24,7 +24,7 @@ pub loop-i-preserved : goal.loop-i-preserved
 loop-i-preserved c = face_searched c.args.graph.now (view_of c.args.map.now)
     (map_of c.args.graph.now c.args.map.now c.requires.map) c.args.inside.now c.loop-i.seen c.search.new.seen
     c.darts_of-row.result.now c.args.faces.now c.loop-i.i c.loop-i-test.true c.darts_of-row.ensures c.loop-i.invariant
-    (rw c.in-None.is at c.in_ok-walk.ensures)
+    (rw c.in-None-default.is-0 at c.in_ok-walk-2.ensures)
 
 pub unreachable-requires : goal.unreachable-requires
 unreachable-requires c = some_odd c.args.graph.now (view_of c.args.map.now)
