@@ -3,9 +3,11 @@ use Rattle.std.proofs.Common.{arith, Option, Some, None, ◌≡◌, ℕ, zero, s
 use Rattle.std.proofs.Common.{[], ◌∷◌, ◌++◌, append_assoc, length, get_or, drop}
 use Rattle.std.specs.Prelude.{slice_set, MatchOption}
 use Rattle.std.specs.List.Sorted.{IsPermutation}
+use Rattle.std.proofs.Math.Path.{subst₂}
 use Rattle.std.proofs.lemmas.List.{drop_all}
-use Rattle.std.proofs.lemmas.List.Sorted.{IsPermutation-refl, IsPermutation-sym, IsPermutation-trans, IsPermutation-middle, IsPermutation-append_right}
-use Rattle.dpl_dual.specs.Queues.{all_of}
+use Rattle.std.proofs.lemmas.List.Sorted.{IsPermutation-refl, IsPermutation-sym, IsPermutation-trans, IsPermutation-middle}
+use Rattle.std.proofs.lemmas.List.Sorted.{IsPermutation-append_left, IsPermutation-append_right}
+use Rattle.dpl_dual.specs.Queues.{all_of, IsTaken}
 
 -- ---- the labels behind those that were taken
 
@@ -27,21 +29,24 @@ drop_more xs ys zero h = refl
 drop_more [] ys (suc n) h = absurd (omega (arith, h))
 drop_more (x ∷ xs) ys (suc n) h = drop_more xs ys n (omega (arith, h))
 
-pub put_last : (xs new : List (ℕ × ℕ)) (n : ℕ) (x : ℕ × ℕ) → n < length xs → new ≡ xs ++ x ∷ [] → drop n new ≡ drop n xs ++ x ∷ []
-put_last xs new n x h e = ap (drop n) e ∙ drop_more xs (x ∷ []) n (omega (arith, h))
+pub put_last : (xs new : List (ℕ × ℕ)) (n : ℕ) (x : ℕ × ℕ) → n ≤ length xs → new ≡ xs ++ x ∷ [] → drop n new ≡ drop n xs ++ x ∷ []
+put_last xs new n x h e = ap (drop n) e ∙ drop_more xs (x ∷ []) n h
 
-pub put_first : (xs empty new : List (ℕ × ℕ)) (n : ℕ) (x : ℕ × ℕ) → length xs ≤ n → empty ≡ [] → new ≡ empty ++ x ∷ [] → drop 0 new ≡ drop n xs ++ x ∷ []
-put_first xs empty new n x h none e = e ∙ ap (λ z. z ++ x ∷ []) none ∙ ap (λ z. z ++ x ∷ []) (sym (drop_all n xs h))
+pub none_left : (xs empty : List (ℕ × ℕ)) (n : ℕ) → length xs ≤ n → empty ≡ [] → drop 0 empty ≡ drop n xs
+none_left xs empty n h none = none ∙ sym (drop_all n xs h)
 
 -- ---- several queues
+
+behind : (front old new : List (ℕ × ℕ)) (x : ℕ × ℕ) → IsPermutation (x ∷ old) new → IsPermutation (x ∷ (front ++ old)) (front ++ new)
+behind front old new x p = IsPermutation-trans _ _ _ (IsPermutation-sym _ _ (IsPermutation-middle front x old))
+    (IsPermutation-append_right front _ _ p)
 
 pub added : (lanes : List (List (ℕ × ℕ))) (k : ℕ) (x : ℕ × ℕ) → k < length lanes
     → IsPermutation (x ∷ all_of lanes) (all_of (slice_set lanes k (get_or lanes k [] ++ x ∷ [])))
 added [] k x h = absurd (omega (arith, h))
 added (l ∷ ls) zero x h = subst (λ z. IsPermutation (x ∷ (l ++ all_of ls)) z)
     (sym (append_assoc l (x ∷ []) (all_of ls))) (IsPermutation-sym _ _ (IsPermutation-middle l x (all_of ls)))
-added (l ∷ ls) (suc k) x h = IsPermutation-trans _ _ _ (IsPermutation-sym _ _ (IsPermutation-middle l x (all_of ls)))
-    (IsPermutation-append_right l _ _ (added ls k x (omega (arith, h))))
+added (l ∷ ls) (suc k) x h = behind l _ _ x (added ls k x (omega (arith, h)))
 
 pub taken : (lanes : List (List (ℕ × ℕ))) (k : ℕ) (x : ℕ × ℕ) (rest : List (ℕ × ℕ)) → k < length lanes
     → get_or lanes k [] ≡ x ∷ rest → IsPermutation (all_of lanes) (x ∷ all_of (slice_set lanes k rest))
@@ -60,15 +65,13 @@ one_lane_more [] = refl
 one_lane_more (l ∷ ls) = ap (λ z. l ++ z) (one_lane_more ls)
 
 -- the first label of a queue that is not empty is taken
-pub popped : (old new : List (List (ℕ × ℕ))) (view : List (ℕ × ℕ)) (k : ℕ) (r : Option (ℕ × ℕ))
-    → view ≡ all_of old → k < length old → 0 < length (get_or old k [])
+pub popped : (old new : List (List (ℕ × ℕ))) (k : ℕ) (r : Option (ℕ × ℕ)) → k < length old → 0 < length (get_or old k [])
     → MatchOption r (get_or old k [] ≡ []) (λ x. get_or old k [] ≡ x ∷ get_or new k [])
-    → new ≡ slice_set old k (get_or new k [])
-    → MatchOption r ((view ≡ []) × (all_of new ≡ [])) (λ x. IsPermutation view (x ∷ all_of new))
-popped old new view k None v h some first rest = absurd (omega (arith, some, ap length first))
-popped old new view k (Some x) v h some first rest =
+    → new ≡ slice_set old k (get_or new k []) → IsTaken (all_of old) (all_of new) r
+popped old new k None h some first rest = absurd (omega (arith, some, ap length first))
+popped old new k (Some x) h some first rest =
     let P : List (List (ℕ × ℕ)) → Type 0 = λ z. IsPermutation (all_of old) (x ∷ all_of z) in
-    subst (λ z. IsPermutation z (x ∷ all_of new)) (sym v) (subst P (sym rest) (taken old k x (get_or new k []) h first))
+    subst P (sym rest) (taken old k x (get_or new k []) h first)
 
 -- a label is put into a queue, after a new queue was made where it was wanted
 pub pushed : (old mid new : List (List (ℕ × ℕ))) (view : List (ℕ × ℕ)) (k : ℕ) (x : ℕ × ℕ) → all_of old ≡ view
@@ -77,3 +80,45 @@ pub pushed : (old mid new : List (List (ℕ × ℕ))) (view : List (ℕ × ℕ))
 pushed old mid new view k x v same h e =
     let P : List (List (ℕ × ℕ)) → Type 0 = λ z. IsPermutation (x ∷ all_of mid) (all_of z) in
     subst (λ z. IsPermutation (x ∷ z) (all_of new)) (same ∙ v) (subst P (sym e) (added mid k x h))
+
+-- ---- the first two queues
+
+pub first_popped : (a a' b : List (ℕ × ℕ)) (x : ℕ × ℕ) → a ≡ x ∷ a' → IsPermutation (a ++ b) (x ∷ (a' ++ b))
+first_popped a a' b x e = subst (λ z. IsPermutation (z ++ b) (x ∷ (a' ++ b))) (sym e) (IsPermutation-refl _)
+
+second_taken : (a b b' : List (ℕ × ℕ)) (x : ℕ × ℕ) → b ≡ x ∷ b' → IsPermutation (a ++ b) (x ∷ (a ++ b'))
+second_taken a b b' x e = subst (λ z. IsPermutation (a ++ z) (x ∷ (a ++ b'))) (sym e) (IsPermutation-middle a x b')
+
+pub second_popped : (a b b' : List (ℕ × ℕ)) (r : Option (ℕ × ℕ)) → 0 < length b
+    → MatchOption r ((b ≡ []) × (b' ≡ [])) (λ x. b ≡ x ∷ b') → IsTaken (a ++ b) (a ++ b') r
+second_popped a b b' None some e = absurd (omega (arith, some, ap length e.0))
+second_popped a b b' (Some x) some e = second_taken a b b' x e
+
+pub second_alone : (a a' b b' : List (ℕ × ℕ)) (r : Option (ℕ × ℕ)) → (a ≡ []) × (a' ≡ [])
+    → MatchOption r ((b ≡ []) × (b' ≡ [])) (λ x. b ≡ x ∷ b') → IsTaken (a ++ b) (a' ++ b') r
+second_alone a a' b b' None n e = (ap (λ z. z ++ b) n.0 ∙ e.0, ap (λ z. z ++ b') n.1 ∙ e.1)
+second_alone a a' b b' (Some x) n e =
+    subst (λ z. IsPermutation (a ++ b) (x ∷ (z ++ b'))) (n.0 ∙ sym n.1) (second_taken a b b' x e)
+
+-- ---- those behind them
+
+pub behind_two : (a b old new view : List (ℕ × ℕ)) (x : ℕ × ℕ) → a ++ (b ++ old) ≡ view → IsPermutation (x ∷ old) new
+    → IsPermutation (x ∷ view) (a ++ (b ++ new))
+behind_two a b old new view x v p = subst (λ z. IsPermutation (x ∷ z) (a ++ (b ++ new))) v (behind a _ _ x (behind b old new x p))
+
+pub two_taken : (a a' b b' rest : List (ℕ × ℕ)) (x : ℕ × ℕ) → IsPermutation (a ++ b) (x ∷ (a' ++ b'))
+    → IsPermutation (a ++ (b ++ rest)) (x ∷ (a' ++ (b' ++ rest)))
+two_taken a a' b b' rest x p = subst₂ (λ old new. IsPermutation old (x ∷ new)) (append_assoc a b rest) (append_assoc a' b' rest)
+    (IsPermutation-append_left rest _ _ p)
+
+none_and : (a b rest : List (ℕ × ℕ)) → a ++ b ≡ [] → a ++ (b ++ rest) ≡ rest
+none_and a b rest e = sym (append_assoc a b rest) ∙ ap (λ z. z ++ rest) e
+
+pub two_popped : (a a' b b' rest : List (ℕ × ℕ)) (r : Option (ℕ × ℕ)) → rest ≡ [] → IsTaken (a ++ b) (a' ++ b') r
+    → IsTaken (a ++ (b ++ rest)) (a' ++ (b' ++ rest)) r
+two_popped a a' b b' rest None e n = (none_and a b rest n.0 ∙ e, none_and a' b' rest n.1 ∙ e)
+two_popped a a' b b' rest (Some x) e p = two_taken a a' b b' rest x p
+
+pub rest_popped : (a a' b b' old new : List (ℕ × ℕ)) (r : Option (ℕ × ℕ)) → (a ++ b ≡ []) × (a' ++ b' ≡ [])
+    → IsTaken old new r → IsTaken (a ++ (b ++ old)) (a' ++ (b' ++ new)) r
+rest_popped a a' b b' old new r n t = subst₂ (λ x y. IsTaken x y r) (sym (none_and a b old n.0)) (sym (none_and a' b' new n.1)) t

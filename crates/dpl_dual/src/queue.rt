@@ -1,9 +1,10 @@
 //! Labels that wait, each a length and a face. Those that came over ways of one length have a queue of
-//! their own: where they come in the order of their lengths, the nearest of all is the first of a queue.
+//! their own: where they come in the order of their lengths, the nearest of all is the first of a queue. The ways have
+//! one or two lengths nearly always, so the first two queues stand apart, and no loop is needed where there are no more.
 
-ghost use Rattle.std.specs.Prelude.{◌≡◌, true, ◌<◌, ◌++◌, ◌∷◌, [], length, slice_index_or, slice_set, ⊤, IfOk, OnOk, MatchBool, MatchOption};
+ghost use Rattle.std.specs.Prelude.{◌≡◌, ◌<◌, ◌+◌, ◌^◌, ◌++◌, ◌∷◌, [], Some, length, slice_index_or, slice_set, IfOk, OnOk, MatchBool, MatchOption};
 ghost use Rattle.std.specs.List.Sorted.{IsPermutation};
-ghost use Rattle.dpl_dual.specs.Queues.{all_of, HasFirst};
+ghost use Rattle.dpl_dual.specs.Queues.{all_of, HasFirst, IsTaken};
 
 use std::alloc::{AllocError, Global};
 use std::marker::Model;
@@ -21,11 +22,13 @@ struct Lane {
 }
 
 impl Model for Lane {
-    ghost use Rattle.std.specs.Prelude.{List, ℕ, drop};
+    ghost use Rattle.std.specs.Prelude.{List, ℕ, drop, length, ◌≤◌};
 
     ghost Value = { List (ℕ × ℕ) };
 
     ghost view = { λ l. drop l.taken l.labels.items };
+
+    ghost invariant = { λ l. l.taken ≤ length l.labels.items };
 }
 
 impl Lane {
@@ -40,36 +43,36 @@ impl Lane {
     }
 
     /// Whether the queue is for ways of a length, or of none yet.
+    #[inline(always)]
     fn takes(&self, way: u64) -> bool {
         (self.way == way) | (self.way == NO_WAY)
     }
 
-    /// Leaves the queue to ways of any length.
+    /// Leaves the queue to ways of any length. It begins anew if no label is left.
     fn free(&mut self)
         ensures { self.new ≡ self.old }
     {
         self.way = NO_WAY;
+        if self.taken >= self.labels.len() {
+            self.labels.clear();
+            self.taken = 0;
+        }
     }
 
-    /// Puts a label at the end, where it begins anew if none is left.
+    /// Puts a label at the end.
     #[inline(always)]
     fn push(&mut self, way: u64, label: (u64, u32)) -> Result<(), AllocError>
         ensures { OnOk result (self.new ≡ self.old ++ label ∷ []) }
     {
         self.way = way;
-        if self.taken >= self.labels.len() {
-            self.labels.clear();
-            self.taken = 0;
-            self.labels.push(label)?;
-            return Ok(());
-        }
         self.labels.push(label)?;
         Ok(())
     }
 
     #[inline(always)]
     fn pop(&mut self) -> Option<(u64, u32)>
-        ensures { MatchOption result (self.old ≡ []) (λ label. self.old ≡ label ∷ self.new) }
+        ensures { MatchOption result ((self.old ≡ []) × (self.new ≡ []))
+            (λ label. self.old ≡ label ∷ self.new) }
     {
         if self.taken < self.labels.len() {
             let label = self.labels[self.taken];
@@ -89,7 +92,9 @@ impl Lane {
 
     /// The length of the first label, and the greatest number where none waits.
     #[inline(always)]
-    fn first(&self) -> u64 {
+    fn first(&self) -> u64
+        ensures { result + 1 < 2 ^ 64 → 0 < length self.now }
+    {
         if self.taken < self.labels.len() {
             self.labels[self.taken].0
         } else {
@@ -98,38 +103,23 @@ impl Lane {
     }
 }
 
-/// The place of the queue for ways of a length, or of the first one for ways of none yet.
-#[inline(always)]
-fn place_of(lanes: &[Lane], way: u64) -> Option<usize>
-    ensures { MatchOption result ⊤ (λ k. k < length lanes.now) }
-{
-    for k in 0..lanes.len() {
-        let lane = &lanes[k];
-        if lane.takes(way) {
-            return Some(k);
-        }
-    }
-    None
-}
-
-/// The place of the queue for ways of a length, which is made where there is none.
-#[inline(always)]
+/// The place of the first queue for ways of a length or for ways of none yet, which is made where there is none.
 fn place_for(alloc: Global, lanes: &mut Vec<Lane>, way: u64) -> Result<usize, AllocError>
     ensures place { IfOk result (λ k. k < length lanes.new.items) }
     ensures same { OnOk result (all_of lanes.new.items ≡ all_of lanes.old.items) }
 {
-    match place_of(lanes, way) {
-        Some(k) => Ok(k),
-        None => {
-            let k = lanes.len();
-            lanes.push(Lane::new(alloc))?;
-            Ok(k)
+    let count = lanes.len();
+    for k in 0..count {
+        let lane = &lanes[k];
+        if lane.takes(way) {
+            return Ok(k);
         }
     }
+    lanes.push(Lane::new(alloc))?;
+    Ok(count)
 }
 
 /// Puts a label at the end of a queue, which is for ways of a length now.
-#[inline(always)]
 fn put(lanes: &mut [Lane], place: usize, way: u64, label: (u64, u32)) -> Result<(), AllocError>
     requires { place < length lanes.old }
     ensures { OnOk result (lanes.new ≡
@@ -137,6 +127,21 @@ fn put(lanes: &mut [Lane], place: usize, way: u64, label: (u64, u32)) -> Result<
 {
     let lane = &mut lanes[place];
     lane.push(way, label)
+}
+
+/// Puts a label into the queue for ways of a length, among those that stand behind the first two.
+#[inline(never)]
+fn push_behind(
+    alloc: Global,
+    others: &mut Vec<Lane>,
+    way: u64,
+    label: (u64, u32),
+) -> Result<(), AllocError>
+    ensures { OnOk result (IsPermutation (label ∷ all_of others.old.items)
+        (all_of others.new.items)) }
+{
+    let place = place_for(alloc, others, way)?;
+    put(others, place, way, label)
 }
 
 /// Leaves each queue to ways of any length.
@@ -150,7 +155,6 @@ fn free_all(lanes: &mut [Lane])
 }
 
 /// Takes the first label of a queue.
-#[inline(always)]
 fn take(lanes: &mut [Lane], place: usize) -> Option<(u64, u32)>
     requires { place < length lanes.old }
     ensures first { MatchOption result (slice_index_or lanes.old place [] ≡ [])
@@ -159,33 +163,6 @@ fn take(lanes: &mut [Lane], place: usize) -> Option<(u64, u32)>
 {
     let lane = &mut lanes[place];
     lane.pop()
-}
-
-/// The place of the queue whose first label is the nearest, if labels wait.
-#[inline(always)]
-fn nearest(lanes: &[Lane]) -> usize {
-    let mut place = 0;
-    let mut least = u64::MAX;
-    for k in 0..lanes.len() {
-        let length = lanes[k].first();
-        if length < least {
-            least = length;
-            place = k;
-        }
-    }
-    place
-}
-
-/// Whether labels wait in the queue at a place.
-#[inline(always)]
-fn waits_at(lanes: &[Lane], place: usize) -> bool
-    ensures { result ≡ true → (place < length lanes.now) ×
-        (0 < length (slice_index_or lanes.now place [])) }
-{
-    match lanes.get(place) {
-        Some(lane) => lane.waits(),
-        None => false,
-    }
 }
 
 /// The place of the first queue in which labels wait.
@@ -201,32 +178,74 @@ fn first_waiting(lanes: &[Lane]) -> Option<usize>
     None
 }
 
-/// The place of a queue in which labels wait, that of the nearest one.
-#[inline(always)]
-fn next_place(lanes: &[Lane]) -> Option<usize>
-    ensures { HasFirst lanes.now result }
+/// The place of the queue whose first label is the nearest, where the first place of labels that wait is known.
+fn nearest(lanes: &[Lane], waiting: usize) -> usize
+    requires { HasFirst lanes.now (Some waiting) }
+    ensures { HasFirst lanes.now (Some result) }
 {
-    let place = nearest(lanes);
-    if waits_at(lanes, place) {
-        return Some(place);
+    let mut place = waiting;
+    let mut least = lanes[waiting].first();
+    for k in 0..lanes.len() {
+        let length = lanes[k].first();
+        if length < least {
+            least = length;
+            place = k;
+        }
     }
-    first_waiting(lanes)
+    place
+}
+
+/// Takes the nearer of the first labels of two queues.
+#[inline(always)]
+fn pop_of_two(first: &mut Lane, second: &mut Lane) -> Option<(u64, u32)>
+    ensures { IsTaken (first.old ++ second.old) (first.new ++ second.new) result }
+{
+    if second.first() < first.first() {
+        return second.pop();
+    }
+    match first.pop() {
+        Some(label) => Some(label),
+        None => second.pop(),
+    }
+}
+
+/// Takes the nearest of the first labels, where queues stand behind the first two.
+#[inline(never)]
+fn pop_of_all(first: &mut Lane, second: &mut Lane, others: &mut [Lane]) -> Option<(u64, u32)>
+    ensures { IsTaken (all_of (first.old ∷ second.old ∷ others.old))
+        (all_of (first.new ∷ second.new ∷ others.new)) result }
+{
+    let waiting = match first_waiting(others) {
+        Some(place) => place,
+        None => return pop_of_two(first, second),
+    };
+    let place = nearest(others, waiting);
+    let least = others[place].first();
+    if (least < first.first()) & (least < second.first()) {
+        return take(others, place);
+    }
+    match pop_of_two(first, second) {
+        Some(label) => Some(label),
+        None => take(others, place),
+    }
 }
 
 /// Labels that wait. Contracts see a list of them, in some order.
 #[derive(Drop)]
 pub struct Waiting {
     alloc: Global,
-    lanes: Vec<Lane>,
+    first: Lane,
+    second: Lane,
+    others: Vec<Lane>,
 }
 
 impl Model for Waiting {
-    ghost use Rattle.std.specs.Prelude.{List, ℕ};
+    ghost use Rattle.std.specs.Prelude.{List, ℕ, ◌∷◌};
     ghost use Rattle.dpl_dual.specs.Queues.{all_of};
 
     ghost Value = { List (ℕ × ℕ) };
 
-    ghost view = { λ w. all_of w.lanes.items };
+    ghost view = { λ w. all_of (w.first ∷ w.second ∷ w.others.items) };
 }
 
 impl Waiting {
@@ -236,7 +255,9 @@ impl Waiting {
     {
         Waiting {
             alloc,
-            lanes: Vec::new(alloc),
+            first: Lane::new(alloc),
+            second: Lane::new(alloc),
+            others: Vec::new(alloc),
         }
     }
 
@@ -244,7 +265,9 @@ impl Waiting {
     pub fn renew(&mut self)
         ensures { self.new ≡ self.old }
     {
-        free_all(&mut self.lanes);
+        self.first.free();
+        self.second.free();
+        free_all(&mut self.others);
     }
 
     /// Puts a label into the queue for ways of a length.
@@ -252,8 +275,13 @@ impl Waiting {
     pub fn push(&mut self, way: u64, label: (u64, u32)) -> Result<(), AllocError>
         ensures { OnOk result (IsPermutation (label ∷ self.old) self.new) }
     {
-        let place = place_for(self.alloc, &mut self.lanes, way)?;
-        put(&mut self.lanes, place, way, label)
+        if self.first.takes(way) {
+            return self.first.push(way, label);
+        }
+        if self.second.takes(way) {
+            return self.second.push(way, label);
+        }
+        push_behind(self.alloc, &mut self.others, way, label)
     }
 
     /// Takes the nearest of the first labels.
@@ -262,9 +290,9 @@ impl Waiting {
         ensures { MatchOption result ((self.old ≡ []) × (self.new ≡ []))
             (λ label. IsPermutation self.old (label ∷ self.new)) }
     {
-        match next_place(&self.lanes) {
-            Some(place) => take(&mut self.lanes, place),
-            None => None,
+        if self.others.is_empty() {
+            return pop_of_two(&mut self.first, &mut self.second);
         }
+        pop_of_all(&mut self.first, &mut self.second, &mut self.others)
     }
 }

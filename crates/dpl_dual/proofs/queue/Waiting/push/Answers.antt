@@ -1,15 +1,24 @@
-use Rattle.std.proofs.Common.{arith, ◌≡◌, ℕ, ◌++◌, ◌∷◌, [], List, length, get_or, subst}
-use Rattle.std.specs.Prelude.{slice_set}
-use Rattle.std.proofs.lemmas.List.{with_items_is}
+use Rattle.std.proofs.Common.{arith, ap, refl, ◌∷◌}
 use Rattle.std.proofs.lemmas.Result.{on_ok_weaker}
-use Rattle.dpl_dual.proofs.QueueLemmas.{pushed}
+use Rattle.dpl_dual.specs.Queues.{all_of}
+use Rattle.dpl_dual.proofs.QueueLemmas.{pushed, behind_two}
 use Rattle.dpl_dual.proofs.queue.Waiting.push.Goals as goal
 
+pub returns-then-takes : goal.returns-then-takes
+returns-then-takes c =
+    let first = c.self.inside.first in
+    let rest = c.self.inside.second ∷ c.self.inside.others.items in
+    on_ok_weaker c.push.result (λ e. pushed (first ∷ rest) (first ∷ rest) (c.push.new.self ∷ rest) _ 0 c.args.label
+    c.self.view_is refl (omega arith) (ap (λ z. z ∷ rest) e)) c.push.ensures
+
+pub returns-then-takes-2 : goal.returns-then-takes-2
+returns-then-takes-2 c =
+    let first = c.self.inside.first in
+    let others = c.self.inside.others.items in
+    let old = first ∷ c.self.inside.second ∷ others in
+    on_ok_weaker c.push-then-takes-2.result (λ e. pushed old old (first ∷ c.push-then-takes-2.new.self ∷ others) _ 1 c.args.label
+    c.self.view_is refl (omega arith) (ap (λ z. first ∷ z ∷ others) e)) c.push-then-takes-2.ensures
+
 pub returns : goal.returns
-returns c =
-    let size : length c.put.new.lanes ≡ c.place_for.new.lanes.len = omega (arith, c.put.auto.lanes, c.deref_mut.ensures.len, c.place_for.new.lanes.ok) in
-    let P : List (List (ℕ × ℕ)) → Type 0 = λ z. c.put.new.lanes ≡ slice_set z c.in_ok-place.place (get_or z c.in_ok-place.place [] ++ c.args.label ∷ []) in
-    rw (with_items_is c.place_for.new.lanes c.put.new.lanes size)
-    (on_ok_weaker c.put.result (λ e. pushed c.self.inside.lanes.items c.place_for.new.lanes.items c.put.new.lanes _
-    c.in_ok-place.place c.args.label c.self.view_is c.in_ok-place.ensures.same c.in_ok-place.ensures.place
-    (subst P c.deref_mut.ensures.value e)) c.put.ensures)
+returns c = on_ok_weaker c.push_behind.result (λ p. behind_two c.self.inside.first c.self.inside.second
+    (all_of c.self.inside.others.items) (all_of c.push_behind.new.others.items) _ c.args.label c.self.view_is p) c.push_behind.ensures
