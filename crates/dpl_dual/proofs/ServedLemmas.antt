@@ -145,8 +145,8 @@ faces_below count ways listed n faces a w = w.below count (λ k d l. let q = a k
 
 pub rows_are : (count : ℕ) (ways : List Cross) (listed : List Step) (faces : List ℕ) (rows : Rows)
     → rows.by_face ≡ rows_by faces listed count → AreRowsBelow ways (length ways) faces listed
-    → All (λ x. rows.least ≤ x.length) ways → AreRows count ways rows
-rows_are count ways listed faces rows e w least =
+    → All (λ x. rows.least ≤ x.length) ways → All (λ x. x.length ≤ rows.greatest) ways → AreRows count ways rows
+rows_are count ways listed faces rows e w least greatest =
     let at : (f : ℕ) → f < count → row_of rows f ≡ of_key f faces listed = λ f h.
     ap (λ (z : List (List Step)). get_or z f []) e ∙ rows_by_at faces listed count f h in
     record {
@@ -159,6 +159,7 @@ rows_are count ways listed faces rows e w least =
           let In : List Step → Type 0 = λ z. Contains z y in
           w.only f y (subst In (at f hf) c);
       least = least;
+      greatest = greatest;
     }
 
 -- no way of those up to a place is shorter, and then none of those with the one at it
@@ -166,6 +167,12 @@ pub least_more : (ways : List Cross) (i least less : ℕ) (d : Cross) → i < le
     → All (λ x. least ≤ x.length) (take i ways) → All (λ x. less ≤ x.length) (take (i + 1) ways)
 least_more ways i least less d h e all = All-more (λ x. less ≤ x.length) ways i d h
     (All-weaker (λ x. least ≤ x.length) (λ x. less ≤ x.length) (λ x k. omega (arith, e, k)) (take i ways) all) (omega (arith, e))
+
+-- no way of those up to a place is longer, and then none of those with the one at it
+pub greatest_more : (ways : List Cross) (i greatest more : ℕ) (d : Cross) → i < length ways → greatest ≤ more → (get_or ways i d).length ≤ more
+    → All (λ x. x.length ≤ greatest) (take i ways) → All (λ x. x.length ≤ more) (take (i + 1) ways)
+greatest_more ways i greatest more d h a b all = All-more (λ x. x.length ≤ more) ways i d h
+    (All-weaker (λ x. x.length ≤ greatest) (λ x. x.length ≤ more) (λ x k. omega (arith, a, k)) (take i ways) all) b
 
 -- what is short over a step is so over each that it serves
 pub short_served : (limit : ℕ) (e : ℕ → Option Reach) (f : ℕ) (x y : Step) → IsShort limit e f y

@@ -119,16 +119,6 @@ fn place_for(alloc: Global, lanes: &mut Vec<Lane>, way: u64) -> Result<usize, Al
     Ok(count)
 }
 
-/// Puts a label at the end of a queue, which is for ways of a length now.
-fn put(lanes: &mut [Lane], place: usize, way: u64, label: (u64, u32)) -> Result<(), AllocError>
-    requires { place < length lanes.old }
-    ensures { OnOk result (lanes.new ≡
-        slice_set lanes.old place (slice_index_or lanes.old place [] ++ label ∷ [])) }
-{
-    let lane = &mut lanes[place];
-    lane.push(way, label)
-}
-
 /// Puts a label into the queue for ways of a length, among those that stand behind the first two.
 #[inline(never)]
 fn push_behind(
@@ -141,7 +131,8 @@ fn push_behind(
         (all_of others.new.items)) }
 {
     let place = place_for(alloc, others, way)?;
-    put(others, place, way, label)
+    let lane = &mut others[place];
+    lane.push(way, label)
 }
 
 /// Leaves each queue to ways of any length.

@@ -4,7 +4,7 @@ ghost use Rattle.std.specs.Prelude.{◌≡◌, ℕ, ◌<◌, ◌≤◌, ◌++◌
 ghost use Rattle.dpl_dual.specs.declared.crosses.Cross.{Cross};
 ghost use Rattle.dpl_dual.specs.declared.starts.Start.{Start};
 ghost use Rattle.dpl_dual.specs.Searches.{IsLabelled, AreListed};
-ghost use Rattle.dpl_dual.specs.Labels.{labels, reach_over, IsFar, IsSought, IsUnderWay, IsBegun, AreReachedAlso, WaitsAlso, IsAtRest};
+ghost use Rattle.dpl_dual.specs.Labels.{labels, reach_over, IsBlank, IsFar, IsSought, IsUnderWay, IsBegun, AreReachedAlso, WaitsAlso, IsAtRest};
 ghost use Rattle.dpl_dual.specs.Tables.{no_length, reach_at, reach_by};
 
 use crate::crosses::Step;
@@ -33,16 +33,6 @@ impl Search {
             reached: Vec::new(alloc),
             queue: Waiting::new(alloc),
         }
-    }
-}
-
-/// Whether a face has a label of this length.
-pub fn has_length(search: &Search, face: u32, length: u64) -> bool
-    ensures { MatchBool result (IsFar search.now face length) (IsFar search.now face length → ⊥) }
-{
-    match search.table.length(face) {
-        Some(known) => known == length,
-        None => false,
     }
 }
 
@@ -119,9 +109,7 @@ fn clear(table: &mut Table, reached: &mut Vec<u32>)
 /// Forgets what was found, and gives each face a place.
 pub fn renew(search: &mut Search, faces: u32) -> Result<(), AllocError>
     requires { IsAtRest search.old }
-    ensures labels { OnOk result ((f : ℕ) → labels search.new f ≡ None) }
-    ensures reached { OnOk result (search.new.reached.items ≡ []) }
-    ensures queue { OnOk result (search.new.queue ≡ []) }
+    ensures { OnOk result (IsBlank search.new) }
 {
     clear(&mut search.table, &mut search.reached);
     search.queue.renew();

@@ -11,51 +11,27 @@ use std::marker::Model;
 /// Stands where a face is not reached.
 const NO_LENGTH: u64 = 18446744073709551615;
 
-/// Gives a list of lengths so many places, if it has fewer.
+/// Gives a list so many places, if it has fewer.
 #[inline(always)]
-fn fill_lengths(lengths: &mut Vec<u64>, count: usize) -> Result<(), AllocError>
-    ensures count { OnOk result (count ≤ length lengths.new.items) }
-    ensures same { OnOk result ((f : ℕ) → slice_index_or lengths.new.items f no_length
-        ≡ slice_index_or lengths.old.items f no_length) }
+fn fill<T: Copy>(items: &mut Vec<T>, count: usize, blank: T) -> Result<(), AllocError>
+    ensures count { OnOk result (count ≤ length items.new.items) }
+    ensures same { OnOk result ((f : ℕ) → slice_index_or items.new.items f blank
+        ≡ slice_index_or items.old.items f blank) }
 {
-    if lengths.len() < count {
-        lengths.resize(count, NO_LENGTH)?;
+    if items.len() < count {
+        items.resize(count, blank)?;
     }
     Ok(())
 }
 
-/// Gives a list of last ways so many places, if it has fewer.
+/// What stands at a place, and what is blank behind the last one.
 #[inline(always)]
-fn fill_lasts(lasts: &mut Vec<Option<(u32, u32)>>, count: usize) -> Result<(), AllocError>
-    ensures count { OnOk result (count ≤ length lasts.new.items) }
-    ensures same { OnOk result ((f : ℕ) → slice_index_or lasts.new.items f None
-        ≡ slice_index_or lasts.old.items f None) }
+fn item_at<T: Copy>(items: &[T], place: usize, blank: T) -> T
+    ensures { result ≡ slice_index_or items.now place blank }
 {
-    if lasts.len() < count {
-        lasts.resize(count, None)?;
-    }
-    Ok(())
-}
-
-/// The length at a place, and `NO_LENGTH` behind the last one.
-#[inline(always)]
-fn length_at(lengths: &[u64], place: usize) -> u64
-    ensures { result ≡ slice_index_or lengths.now place no_length }
-{
-    match lengths.get(place) {
-        Some(length) => *length,
-        None => NO_LENGTH,
-    }
-}
-
-/// The last way at a place.
-#[inline(always)]
-fn last_at(lasts: &[Option<(u32, u32)>], place: usize) -> Option<(u32, u32)>
-    ensures { result ≡ slice_index_or lasts.now place None }
-{
-    match lasts.get(place) {
-        Some(last) => *last,
-        None => None,
+    match items.get(place) {
+        Some(item) => *item,
+        None => blank,
     }
 }
 
@@ -93,8 +69,8 @@ impl Table {
     pub fn get(&self, face: u32) -> Option<Reach>
         ensures { result ≡ reach_at self.now face }
     {
-        let length = length_at(&self.lengths, face as usize);
-        let last = last_at(&self.lasts, face as usize);
+        let length = item_at(&self.lengths, face as usize, NO_LENGTH);
+        let last = item_at(&self.lasts, face as usize, None);
         if length == NO_LENGTH {
             return None;
         }
@@ -106,7 +82,7 @@ impl Table {
     pub fn length(&self, face: u32) -> Option<u64>
         ensures { result ≡ option_map (λ r. r.length) (reach_at self.now face) }
     {
-        let length = length_at(&self.lengths, face as usize);
+        let length = item_at(&self.lengths, face as usize, NO_LENGTH);
         if length == NO_LENGTH {
             return None;
         }
@@ -117,8 +93,8 @@ impl Table {
     pub fn grow(&mut self, faces: u32) -> Result<(), AllocError>
         ensures { OnOk result ((f : ℕ) → reach_at self.new f ≡ reach_at self.old f) }
     {
-        fill_lengths(&mut self.lengths, faces as usize)?;
-        fill_lasts(&mut self.lasts, faces as usize)?;
+        fill(&mut self.lengths, faces as usize, NO_LENGTH)?;
+        fill(&mut self.lasts, faces as usize, None)?;
         Ok(())
     }
 
@@ -135,8 +111,8 @@ impl Table {
             (reach_by length last)) }
     {
         let place = face as usize;
-        fill_lengths(&mut self.lengths, place + 1)?;
-        fill_lasts(&mut self.lasts, place + 1)?;
+        fill(&mut self.lengths, place + 1, NO_LENGTH)?;
+        fill(&mut self.lasts, place + 1, None)?;
         self.lengths[place] = length;
         self.lasts[place] = last;
         Ok(())

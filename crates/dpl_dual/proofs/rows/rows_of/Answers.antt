@@ -8,4 +8,5 @@ returns c =
     let ways = c.args.ways.now in
     let listed : AreRowsBelow ways (length ways) c.deref.result.now c.deref-2.result.now =
     rw (c.deref.ensures.value, c.deref-2.ensures.value) c.in_ok-take_all.ensures in
-    rows_are c.args.faces ways c.deref-2.result.now c.deref.result.now _ c.in_ok-by_face.ensures listed c.least_of-least.ensures
+    rows_are c.args.faces ways c.deref-2.result.now c.deref.result.now _ c.in_ok-by_face.ensures listed
+    c.lengths_of-least.ensures.least c.lengths_of-least.ensures.greatest
