@@ -1,17 +1,18 @@
 -- What is kept for a member at the turn of a stage.
-use Rattle.std.proofs.Common.{arith, ◌≡◌, ℕ, ◌+◌, ◌-◌, ◌%◌, ◌<◌, ◌≤◌, ◌^◌, ◌⊎◌, refl, ap, Bool, false, inl, inr, Option, Some, None, get_or}
+use Rattle.std.proofs.Common.{arith, ◌≡◌, ℕ, ◌+◌, ◌-◌, ◌%◌, ◌<◌, ◌≤◌, ◌^◌, ◌⊎◌, ◌≢◌, refl, ap, Bool, false, inl, inr, Option, Some, None, get_or}
 use Rattle.dpl_laminar.specs.Storing.{sets_of}
 use Rattle.dpl_tree.specs.declared.matching.Matching.{Matching}
 use Rattle.dpl_tree.specs.Metrics.{Table, IsMetric, dist_of}
-use Rattle.dpl_tree.specs.steps.Forests.{Place}
+use Rattle.dpl_tree.specs.steps.Forests.{Place, free, outer, inner}
 use Rattle.dpl_tree.specs.Views.{forest_of, place_in}
 use Rattle.dpl_match.specs.declared.scan.Near.{Near}
+use Rattle.dpl_match.specs.declared.scan.Best.{Best}
 use Rattle.dpl_match.specs.declared.stage.Stage.{Stage}
 use Rattle.dpl_match.specs.steps.Going.{IsAtTurn}
 use Rattle.dpl_match.specs.declared.stage.Neighbour.{Neighbour}
 use Rattle.dpl_match.specs.steps.Nearest.{key_in, kept_in, member_of, level_of, HasKey}
-use Rattle.dpl_match.specs.steps.Scans.{Members, members_of, most_of, IsFound, IsNearer}
-use Rattle.dpl_match.proofs.NearLemmas.{to_passed, to_taken, kept_none, kept_pair, kept_least, sums_small}
+use Rattle.dpl_match.specs.steps.Scans.{Members, members_of, most_of, IsFound, IsBest, IsNearer}
+use Rattle.dpl_match.proofs.NearLemmas.{to_passed, other_passed, to_taken, kept_none, kept_pair, kept_least, sums_small}
 use Rattle.dpl_match.proofs.TurnLemmas.{totals_within}
 
 -- the sums of a member and of the one that is kept for it, with its key, are within their distance
@@ -97,3 +98,31 @@ kept_behind {metric} {m} {s} start me want t level best ht el lt to h =
           let few : near.key - level - y ≤ 2 ^ 50 = omega (arith, w.0.1, el, me.small near.member t w.0.0 ht) in
           kept_taken start want t near level y false best best ht k.1 el refl to (behind best other more few) h
     ]
+
+same_place : (a b : Place) → (a ≡ b) ⊎ (a ≢ b)
+same_place free free = inl refl
+same_place outer outer = inl refl
+same_place inner inner = inl refl
+same_place free outer = inr (λ z. let bad : free ≡ outer = z in cc)
+same_place free inner = inr (λ z. let bad : free ≡ inner = z in cc)
+same_place outer free = inr (λ z. let bad : outer ≡ free = z in cc)
+same_place outer inner = inr (λ z. let bad : outer ≡ inner = z in cc)
+same_place inner free = inr (λ z. let bad : inner ≡ free = z in cc)
+same_place inner outer = inr (λ z. let bad : inner ≡ outer = z in cc)
+
+-- so it does whatever the label of the top of t
+pub kept_passed : {metric : Table} {m : Matching} {s : Stage} → IsAtTurn metric m s → IsMetric metric.size (dist_of metric)
+    → (want : Place) (t level above : ℕ) (best : Best) → t < metric.size → level ≡ level_of (members_of metric m) s.table.origin
+    → above ≡ key_in (kept_in s.table.near.items t) - get_or m.sums.items t 0 → best.most < above
+    → IsBest (members_of metric m) (place_in s.tree.labels.items) level want t best
+    → IsBest (members_of metric m) (place_in s.tree.labels.items) level want (t + 1) best
+kept_passed {metric} {m} {s} start me want t level above best ht el ea lt h =
+    let v : Members = members_of metric m in
+    let place : ℕ → Place = place_in s.tree.labels.items in
+    let here : Place = place ((sets_of m.family).top t) in
+    let more = h.1 above (omega (arith, key_low start t ht, ea)) lt in
+    let passed : IsFound v place want (t + 1) best.pair = elim (same_place here want) [
+      | inl to ↦ kept_behind start me want t level best.pair ht el (omega (arith, more, ea)) to h.0
+      | inr ne ↦ other_passed v place here want t best.pair refl ne h.0
+    ] in
+    (passed, h.1)

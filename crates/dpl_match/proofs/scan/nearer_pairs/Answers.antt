@@ -1,4 +1,4 @@
-use Rattle.std.proofs.Common.{◌≡◌, ◌+◌, ℕ, sym, ap, ◌∙◌, refl, false, List}
+use Rattle.std.proofs.Common.{arith, ◌≡◌, ◌+◌, ◌-◌, ℕ, sym, ap, ◌∙◌, refl, false, List}
 use Rattle.std.specs.Prelude.{slice_index_or}
 use Rattle.dpl_tree.specs.declared.tree.Label.{Label}
 use Rattle.dpl_tree.specs.declared.tree.Label.TheVariants.{Free, Outer, Inner}
@@ -8,6 +8,7 @@ use Rattle.dpl_tree.specs.Views.{place_of, place_in, same_label}
 use Rattle.dpl_match.specs.declared.scan.Best.{Best}
 use Rattle.dpl_match.specs.steps.Scans.{Members, members_of, IsBest}
 use Rattle.dpl_match.proofs.NearLemmas.{other_passed}
+use Rattle.dpl_match.proofs.KeptLemmas.{key_high, kept_passed}
 use Rattle.dpl_match.proofs.scan.nearer_pairs.Goals as goal
 
 -- where the top of a member stands
@@ -24,6 +25,21 @@ elsewhere v labels level t set label here want o e l h ne found = (
       (stands labels set (v.sets.top t) label here e l h) (label_other here want ne) found.0,
   found.1,
 )
+
+pub overflow_sub-above : goal.overflow_sub-above
+overflow_sub-above c =
+    let table = c.size-size.ensures.table in
+    omega (arith, c.key.ensures, c.sum.ensures, key_high c.requires.start table.even table.metric c.args.t c.requires.to)
+
+pub returns-then-best-above-2-clause-free : goal.returns-then-best-above-2-clause-free
+returns-then-best-above-2-clause-free c = kept_passed c.requires.start c.size-size.ensures.table.metric free c.args.t c.args.level
+    (c.key.result - c.sum.result) c.args.best.now.free c.requires.to c.requires.level (rw (c.key.ensures, c.sum.ensures) refl)
+    c.if-best-above.true c.requires.free
+
+pub returns-then-best-above-2-clause-outer : goal.returns-then-best-above-2-clause-outer
+returns-then-best-above-2-clause-outer c = kept_passed c.requires.start c.size-size.ensures.table.metric outer c.args.t c.args.level
+    (c.key.result - c.sum.result) c.args.best.now.outer c.requires.to c.requires.level (rw (c.key.ensures, c.sum.ensures) refl)
+    c.if-best-above-2.true c.requires.outer
 
 pub returns-in-Free-clause-free : goal.returns-in-Free-clause-free
 returns-in-Free-clause-free c =
