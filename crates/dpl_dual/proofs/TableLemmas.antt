@@ -1,14 +1,14 @@
 -- Tables of labels: places that are added, and labels that are forgotten.
 use Rattle.std.proofs.Common.{arith, ◌≡◌, ◌≢◌, ℕ, zero, suc, ◌==◌, ◌∙◌, refl, sym, ap, true, false, inl, inr, Option, Some, None}
 use Rattle.std.proofs.Common.{List, [], ◌∷◌, ◌++◌, get_or, set, replicate, take, length, ◌<◌, ◌≤◌, eq-eqb}
-use Rattle.std.specs.Prelude.{is_some}
+use Rattle.std.specs.Prelude.{is_some, option_map}
 use Rattle.std.proofs.lemmas.Bool.{ne_eqb, eqb-true, cases_eq, cond-true, cond-false, or_cases, true≢false, false≢true}
 use Rattle.std.proofs.lemmas.List.{take_all, get_or-set_same, get_or-set_other}
 use Rattle.dpl_list.proofs.Lists.{repeated}
 use Rattle.dpl_dual.specs.declared.reach.Reach.{Reach}
 use Rattle.dpl_dual.specs.Chains.{stands_in}
 use Rattle.dpl_dual.specs.Searches.{IsLabelled, IsUnlabelled, AreListed}
-use Rattle.dpl_dual.specs.Tables.{no_length, reach_at, reach_from, reaches_of}
+use Rattle.dpl_dual.specs.Tables.{no_length, reach_at, reach_by, reach_from, reaches_of}
 use Rattle.dpl_map.proofs.RowLemmas.{stands_push}
 
 behind : {X : Type 0} (xs : List X) (d : X) (n i : ℕ) → get_or (xs ++ replicate n d) i d ≡ get_or xs i d
@@ -68,6 +68,12 @@ pub read_some : (t : List (Option Reach)) (ns : List ℕ) (ps : List (Option (�
 read_some t ns ps f n last v e l some = ap (λ z. reach_at z f) (sym v) ∙ reach_read ns ps f ∙
     ap (λ z. reach_from z (get_or ps f None)) (sym e) ∙ ap (reach_from n) (sym l) ∙ from_some n last some
 
+pub read_length : (t : List (Option Reach)) (ns : List ℕ) (ps : List (Option (ℕ × ℕ))) (f n : ℕ)
+    → reaches_of ns ps ≡ t → n ≡ get_or ns f no_length → n ≢ no_length
+    → Some n ≡ option_map (λ r. r.length) (reach_at t f)
+read_length t ns ps f n v e some =
+    ap (option_map (λ r. r.length)) (sym (read_some t ns ps f n (get_or ps f None) v e refl some))
+
 -- lists that are read alike make tables that are read alike
 pub read_alike : (t : List (Option Reach)) (ns ns' : List ℕ) (ps ps' : List (Option (ℕ × ℕ))) → reaches_of ns ps ≡ t
     → ((f : ℕ) → get_or ns' f no_length ≡ get_or ns f no_length) → ((f : ℕ) → get_or ps' f None ≡ get_or ps f None)
@@ -79,20 +85,21 @@ other_place : (g face : ℕ) → (g == face) ≡ false → g ≢ face
 other_place g face h e = true≢false (sym (eq-eqb g face e) ∙ h)
 
 -- a length and a last way are written
-pub put_reach : (t : List (Option Reach)) (ns mid : List ℕ) (ps midst : List (Option (ℕ × ℕ))) (face : ℕ) (r : Reach) → reaches_of ns ps ≡ t
+pub put_reach : (t : List (Option Reach)) (ns mid : List ℕ) (ps midst : List (Option (ℕ × ℕ))) (face n : ℕ)
+    → (last : Option (ℕ × ℕ)) → reaches_of ns ps ≡ t
     → ((f : ℕ) → get_or mid f no_length ≡ get_or ns f no_length) → ((f : ℕ) → get_or midst f None ≡ get_or ps f None)
-    → face < length mid → face < length midst → r.length < no_length
-    → IsLabelled (reach_at t) (reach_at (reaches_of (set mid face r.length) (set midst face r.last))) face r
-put_reach t ns mid ps midst face r v en ep hn hp small =
-    let ns' = set mid face r.length in
-    let ps' = set midst face r.last in
+    → face < length mid → face < length midst → n < no_length
+    → IsLabelled (reach_at t) (reach_at (reaches_of (set mid face n) (set midst face last))) face (reach_by n last)
+put_reach t ns mid ps midst face n last v en ep hn hp small =
+    let ns' = set mid face n in
+    let ps' = set midst face last in
     record {
-      here = reach_read ns' ps' face ∙ ap (λ z. reach_from z (get_or ps' face None)) (get_or-set_same mid face r.length no_length hn) ∙
-          ap (reach_from r.length) (get_or-set_same midst face r.last None hp) ∙ from_some r.length r.last (λ e. omega (arith, e, small));
+      here = reach_read ns' ps' face ∙ ap (λ z. reach_from z (get_or ps' face None)) (get_or-set_same mid face n no_length hn) ∙
+          ap (reach_from n) (get_or-set_same midst face last None hp) ∙ from_some n last (λ e. omega (arith, e, small));
       others = λ g h.
           let other = other_place g face h in
-          reach_read ns' ps' g ∙ ap (λ z. reach_from z (get_or ps' g None)) (get_or-set_other mid face g r.length no_length other ∙ en g) ∙
-          ap (reach_from (get_or ns g no_length)) (get_or-set_other midst face g r.last None other ∙ ep g) ∙
+          reach_read ns' ps' g ∙ ap (λ z. reach_from z (get_or ps' g None)) (get_or-set_other mid face g n no_length other ∙ en g) ∙
+          ap (reach_from (get_or ns g no_length)) (get_or-set_other midst face g last None other ∙ ep g) ∙
           sym (reach_read ns ps g) ∙ ap (λ z. reach_at z g) v;
     }
 

@@ -10,8 +10,12 @@ reach_at entries f = slice_index_or entries f None
 abbrev pub no_length : ℕ
 no_length = 18446744073709551615
 
+-- a face that is reached so, by its length and last way
+abbrev pub reach_by : ℕ → Option (ℕ × ℕ) → Reach
+reach_by n last = record { length = n; last = last }
+
 abbrev pub reach_from : ℕ → Option (ℕ × ℕ) → Option Reach
-reach_from n last = if n == no_length then None else Some (record { length = n; last = last })
+reach_from n last = if n == no_length then None else Some (reach_by n last)
 
 -- how faces are reached, by the list of the lengths and that of the last ways
 abbrev pub reaches_of : List ℕ → List (Option (ℕ × ℕ)) → List (Option Reach)

@@ -4,12 +4,11 @@ ghost use Rattle.std.specs.Prelude.{◌≡◌, ℕ, ◌<◌, ◌≤◌, ◌++◌
 ghost use Rattle.dpl_dual.specs.declared.crosses.Cross.{Cross};
 ghost use Rattle.dpl_dual.specs.declared.starts.Start.{Start};
 ghost use Rattle.dpl_dual.specs.Searches.{IsLabelled, AreListed};
-ghost use Rattle.dpl_dual.specs.Labels.{labels, IsFar, IsSought, IsUnderWay, IsBegun, AreReachedAlso, WaitsAlso, IsAtRest};
-ghost use Rattle.dpl_dual.specs.Tables.{no_length, reach_at};
+ghost use Rattle.dpl_dual.specs.Labels.{labels, reach_over, IsFar, IsSought, IsUnderWay, IsBegun, AreReachedAlso, WaitsAlso, IsAtRest};
+ghost use Rattle.dpl_dual.specs.Tables.{no_length, reach_at, reach_by};
 
-use crate::crosses::Cross;
+use crate::crosses::Step;
 use crate::queue::Waiting;
-use crate::reach::Reach;
 use crate::sought::Sought;
 use crate::starts::Start;
 use crate::table::Table;
@@ -37,22 +36,12 @@ impl Search {
     }
 }
 
-/// The length of a face's label.
-pub fn length_of(search: &Search, face: u32) -> Option<u64>
-    ensures { result ≡ option_map (λ r. r.length) (labels search.now face) }
-{
-    match search.table.get(face) {
-        Some(reach) => Some(reach.length),
-        None => None,
-    }
-}
-
 /// Whether a face has a label of this length.
 pub fn has_length(search: &Search, face: u32, length: u64) -> bool
     ensures { MatchBool result (IsFar search.now face length) (IsFar search.now face length → ⊥) }
 {
-    match search.table.get(face) {
-        Some(reach) => reach.length == length,
+    match search.table.length(face) {
+        Some(known) => known == length,
         None => false,
     }
 }
@@ -70,39 +59,47 @@ pub fn is_at_most(known: Option<u64>, next: u64) -> bool
 
 /// Gives a face another label, whose ways are not to be tried.
 #[inline(always)]
-pub fn note(search: &mut Search, face: u32, reach: Reach, known: bool) -> Result<(), AllocError>
+pub fn note(
+    search: &mut Search,
+    face: u32,
+    length: u64,
+    last: Option<(u32, u32)>,
+    known: bool,
+) -> Result<(), AllocError>
     requires known { known ≡ is_some (labels search.old face) }
-    requires small { reach.length < no_length }
-    ensures label { OnOk result (IsLabelled (labels search.old) (labels search.new) face reach) }
+    requires small { length < no_length }
+    ensures label { OnOk result (IsLabelled (labels search.old) (labels search.new) face
+        (reach_by length last)) }
     ensures reached { OnOk result (AreReachedAlso (labels search.old face) face
         search.old.reached.items search.new.reached.items) }
     ensures queue { search.new.queue ≡ search.old.queue }
 {
-    search.table.insert(face, reach)?;
+    search.table.insert(face, length, last)?;
     if !known {
         search.reached.push(face)?;
     }
     Ok(())
 }
 
-/// Gives a face another label, over a way of this length.
+/// Gives the face of a step from here another label of this length, whose ways are to be tried.
 #[inline(never)]
 pub fn label(
     search: &mut Search,
-    way: u64,
-    face: u32,
-    reach: Reach,
+    step: &Step,
+    here: u32,
+    length: u64,
     known: bool,
 ) -> Result<(), AllocError>
-    requires known { known ≡ is_some (labels search.old face) }
-    requires small { reach.length < no_length }
-    ensures label { OnOk result (IsLabelled (labels search.old) (labels search.new) face reach) }
-    ensures reached { OnOk result (AreReachedAlso (labels search.old face) face
+    requires known { known ≡ is_some (labels search.old step.now.to) }
+    requires small { length < no_length }
+    ensures label { OnOk result (IsLabelled (labels search.old) (labels search.new) step.now.to
+        (reach_over step.now here length)) }
+    ensures reached { OnOk result (AreReachedAlso (labels search.old step.now.to) step.now.to
         search.old.reached.items search.new.reached.items) }
-    ensures queue { OnOk result (WaitsAlso reach.length face search.old search.new) }
+    ensures queue { OnOk result (WaitsAlso length step.now.to search.old search.new) }
 {
-    search.queue.push(way, (reach.length, face))?;
-    note(search, face, reach, known)
+    search.queue.push(step.length, (length, step.to))?;
+    note(search, step.to, length, Some((step.edge, here)), known)
 }
 
 /// Forgets the label of each face in the list, and empties it. It costs these faces.
@@ -136,7 +133,7 @@ pub fn renew(search: &mut Search, faces: u32) -> Result<(), AllocError>
 /// It waits beside the labels over ways as long as the first one at its face.
 pub fn begin_at(
     start: &Start,
-    row: &[Cross],
+    row: &[Step],
     limit: u64,
     search: &mut Search,
 ) -> Result<(), AllocError>
@@ -147,17 +144,14 @@ pub fn begin_at(
     if start.far >= limit {
         return Ok(());
     }
-    let known = length_of(search, start.face);
+    let known = search.table.length(start.face);
     if is_at_most(known, start.far) {
         return Ok(());
     }
-    let reach = Reach {
-        length: start.far,
-        last: None,
-    };
     let way = match row.first() {
-        Some(way) => way.length,
+        Some(step) => step.length,
         None => 0,
     };
-    label(search, way, start.face, reach, known.is_some())
+    search.queue.push(way, (start.far, start.face))?;
+    note(search, start.face, start.far, None, known.is_some())
 }

@@ -1,8 +1,8 @@
 //! How faces are reached, by the numbers of the faces.
 
-ghost use Rattle.std.specs.Prelude.{◌≡◌, ℕ, ◌<◌, ◌≤◌, None, length, slice_index_or, OnOk};
+ghost use Rattle.std.specs.Prelude.{◌≡◌, ℕ, ◌<◌, ◌≤◌, None, length, slice_index_or, option_map, OnOk};
 ghost use Rattle.dpl_dual.specs.Searches.{IsLabelled, IsUnlabelled};
-ghost use Rattle.dpl_dual.specs.Tables.{no_length, reach_at};
+ghost use Rattle.dpl_dual.specs.Tables.{no_length, reach_at, reach_by};
 
 use crate::reach::Reach;
 use std::alloc::{AllocError, Global};
@@ -101,6 +101,18 @@ impl Table {
         Some(Reach { length, last })
     }
 
+    /// The length of a face, if it is reached.
+    #[inline(always)]
+    pub fn length(&self, face: u32) -> Option<u64>
+        ensures { result ≡ option_map (λ r. r.length) (reach_at self.now face) }
+    {
+        let length = length_at(&self.lengths, face as usize);
+        if length == NO_LENGTH {
+            return None;
+        }
+        Some(length)
+    }
+
     /// Gives each face below a number a place.
     pub fn grow(&mut self, faces: u32) -> Result<(), AllocError>
         ensures { OnOk result ((f : ℕ) → reach_at self.new f ≡ reach_at self.old f) }
@@ -112,15 +124,21 @@ impl Table {
 
     /// Writes how a face is reached.
     #[inline(always)]
-    pub fn insert(&mut self, face: u32, reach: Reach) -> Result<(), AllocError>
-        requires { reach.length < no_length }
-        ensures { OnOk result (IsLabelled (reach_at self.old) (reach_at self.new) face reach) }
+    pub fn insert(
+        &mut self,
+        face: u32,
+        length: u64,
+        last: Option<(u32, u32)>,
+    ) -> Result<(), AllocError>
+        requires { length < no_length }
+        ensures { OnOk result (IsLabelled (reach_at self.old) (reach_at self.new) face
+            (reach_by length last)) }
     {
         let place = face as usize;
         fill_lengths(&mut self.lengths, place + 1)?;
         fill_lasts(&mut self.lasts, place + 1)?;
-        self.lengths[place] = reach.length;
-        self.lasts[place] = reach.last;
+        self.lengths[place] = length;
+        self.lasts[place] = last;
         Ok(())
     }
 
