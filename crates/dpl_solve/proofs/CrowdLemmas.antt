@@ -1,19 +1,21 @@
 -- Rows of distances of odd faces that look about equally far, by searches and by the rows of their neighbours.
-use Rattle.std.proofs.Common.{arith, ◌≡◌, ◌≢◌, ℕ, ◌+◌, ◌*◌, ◌<◌, ◌≤◌, ◌⊎◌, min, refl, sym, ap, ◌∙◌, subst}
+use Rattle.std.proofs.Common.{arith, ◌≡◌, ◌≢◌, ℕ, ◌+◌, ◌*◌, ◌^◌, ◌<◌, ◌≤◌, ◌⊎◌, min, refl, sym, ap, ◌∙◌, subst}
 use Rattle.std.proofs.Common.{Bool, true, false, inl, inr, List, [], ◌∷◌, length, get_or, set, replicate, Option, Some, None}
 use Rattle.std.proofs.Common.{length-set, get_or-set_same, get_or-set_other}
 use Rattle.std.specs.Prelude.{Contains, MatchOption, slice_index, slice_index_or}
 use Rattle.std.proofs.lemmas.Bool.{cases_lt, cases_eq, true≢false, false≢true}
-use Rattle.std.proofs.lemmas.Nat.{mul-add-lt, same_from_place}
+use Rattle.std.proofs.lemmas.Nat.{mul-le, mul-add-lt, same_from_place}
 use Rattle.std.proofs.lemmas.List.{get_or_default, get_or-replicate, length-replicate}
 use Rattle.std.proofs.lemmas.List.Sums.{sum_by-cons}
 use Rattle.dpl_dual.specs.declared.crosses.Cross.{Cross}
+use Rattle.dpl_dual.specs.declared.crosses.Step.{Step}
 use Rattle.dpl_dual.specs.declared.reach.Reach.{Reach}
-use Rattle.dpl_dual.specs.Chains.{IsAt, Leads, IsShortest, beyond, length_of, no_cross}
+use Rattle.dpl_dual.specs.Chains.{IsAt, Leads, IsShortest, beyond, length_of, step_of, no_cross}
 use Rattle.dpl_dual.specs.Distances.{DistancesView, AreDistancesWithin, IsDistanceUpTo, entry_at, edges_to, length_up_to}
+use Rattle.dpl_dual.specs.Searches.{no_step}
 use Rattle.dpl_dual.proofs.WorkLemmas.{dual_rows, dual_ways}
 use Rattle.dpl_solve.specs.declared.crowd.Crowd.{Crowd}
-use Rattle.dpl_solve.specs.Crowds.{IsCrowd, size, face_at, steps_of, to_of, step_at, AreApart, IsRow, HasRow, AreWritten, IsDone, HasOtherRow, IsLowered, IsRowPut}
+use Rattle.dpl_solve.specs.Crowds.{IsCrowd, size, face_at, steps_of, step_at, AreApart, IsRow, HasRow, AreWritten, IsDone, HasOtherRow, IsLowered, IsRowPut}
 use Rattle.dpl_solve.specs.Metrics.{AreNearPut, entry}
 use Rattle.dpl_solve.proofs.MetricLemmas.{terminal_at, cut_to}
 
@@ -28,6 +30,27 @@ each_set P i x old h each here k hk = elim (cases_eq k i) [
       subst (P k) (sym read) (subst (λ z. P z x) (sym q) here)
   | inr ne ↦ subst (P k) (sym (get_or-set_other old i k x 0 ne)) (each k (omega (arith, hk, ne)))
 ]
+
+-- the numbers before one are lowered to those of another list and so much more
+pub record AreLower (start far i : ℕ) (dists old new : List ℕ) : Type 0 where
+  pub count : length new ≡ length old
+  pub below : (k : ℕ) → k < i → slice_index new k ≡ min (slice_index old k) (slice_index dists (start + k) + far)
+  pub kept : (k : ℕ) → i ≤ k → slice_index new k ≡ slice_index old k
+
+pub lower_more : (start far i x : ℕ) (dists old now : List ℕ) → i < length now
+    → x ≡ min (slice_index now i) (slice_index dists (start + i) + far) → AreLower start far i dists old now
+    → AreLower start far (i + 1) dists old (set now i x)
+lower_more start far i x dists old now h e a = record {
+  count = length-set now i x ∙ a.count;
+  below = each_set (λ k z. z ≡ min (slice_index old k) (slice_index dists (start + k) + far)) i x now h a.below
+      (e ∙ ap (λ z. min z (slice_index dists (start + i) + far)) (a.kept i (omega arith)));
+  kept = λ k hk. get_or-set_other now i k x 0 (λ q. omega (arith, hk, q)) ∙ a.kept k (omega (arith, hk));
+}
+
+pub row_inside : (p n size : ℕ) → p < n → size ≡ n * n → p * n + n ≤ size
+row_inside p n size h e =
+    let m : (p + 1) * n ≤ n * n = mul-le (p + 1) n n n (omega (arith, h)) (omega arith) in
+    omega (arith, m, e)
 
 -- ---- a row by a search
 
@@ -54,23 +77,29 @@ reached_apart c s u v w hs hu a =
 
 -- ---- steps
 
--- a step is a way at the face
-pub record IsStep (c : Crowd) (s : ℕ) (step : Cross) : Type 0 where
+-- a step is over a way at the face
+pub record IsStepOver (c : Crowd) (s : ℕ) (step : Step) : Type 0 where
   pub way : Cross
   pub is_way : Contains c.dual.now.crosses way
   pub at : IsAt way (face_at c s)
-  pub to : beyond way (face_at c s) ≡ to_of (face_at c s) step
+  pub to : beyond way (face_at c s) ≡ step.to
   pub length_is : way.length ≡ step.length
 
-pub is_step : (c : Crowd) (s : ℕ) (step : Cross) → IsCrowd c → s < size c → Contains (steps_of c s) step → IsStep c s step
-is_step c s step w hs k =
+pub step_over : (c : Crowd) (s : ℕ) (step : Step) → IsCrowd c → s < size c → Contains (steps_of c s) step → IsStepOver c s step
+step_over c s step w hs k =
     let inside = (terminal_at c.dual.now c.listed.faces.now w.dual w.terminals s hs).0 in
     let r = (dual_rows c.dual.now w.dual).only (face_at c s) step inside k in
-    record { way = step; is_way = r.0; at = r.1; to = refl; length_is = refl }
+    record {
+      way = r.0;
+      is_way = r.1;
+      at = r.2;
+      to = sym (ap (λ (z : Step). z.to) r.3);
+      length_is = sym (ap (λ (z : Step). z.length) r.3);
+    }
 
 -- a step serves as well as a way at the face
 pub is_served : (c : Crowd) (s : ℕ) (x : Cross) → IsCrowd c → s < size c → Contains c.dual.now.crosses x → IsAt x (face_at c s)
-    → (k : ℕ) × (k < length (steps_of c s)) × (to_of (face_at c s) (step_at (steps_of c s) k) ≡ beyond x (face_at c s)) ×
+    → (k : ℕ) × (k < length (steps_of c s)) × ((step_at (steps_of c s) k).to ≡ beyond x (face_at c s)) ×
     ((step_at (steps_of c s) k).length ≤ x.length)
 is_served c s x w hs (j, l, e) at =
     let f : ℕ = face_at c s in
@@ -78,23 +107,28 @@ is_served c s x w hs (j, l, e) at =
     let here : slice_index_or c.dual.now.crosses j no_cross ≡ x = get_or_default c.dual.now.crosses j no_cross x l ∙ e in
     let r = (dual_rows c.dual.now w.dual).each f j inside l (subst (λ (z : Cross). IsAt z f) (sym here) at) in
     let k : ℕ = r.1.0 in
-    let step : step_at (steps_of c s) k ≡ r.0 = get_or_default (steps_of c s) k no_cross r.0 r.1.1 ∙ r.1.2 in (
+    let step : step_at (steps_of c s) k ≡ r.0 = get_or_default (steps_of c s) k no_step r.0 r.1.1 ∙ r.1.2 in (
       k,
       r.1.1,
-      ap (to_of f) step ∙ r.2 ∙ ap (to_of f) here,
-      omega (arith, r.3, ap (λ (z : Cross). z.length) step, ap (λ (z : Cross). z.length) here),
+      ap (λ (z : Step). z.to) step ∙ r.2 ∙ ap (λ (z : Cross). beyond z f) here,
+      omega (arith, r.3, ap (λ (z : Step). z.length) step, ap (λ (z : Cross). z.length) here),
     )
 
 -- no step is so long that a distance and it come up to 2 ^ 64
-pub step_short : (c : Crowd) (s : ℕ) (step : Cross) → IsCrowd c → s < size c → Contains (steps_of c s) step → step.length ≤ 2000000
+pub step_short : (c : Crowd) (s : ℕ) (step : Step) → IsCrowd c → s < size c → Contains (steps_of c s) step → step.length ≤ 2000000
 step_short c s step w hs k =
-    let a = is_step c s step w hs k in
+    let a = step_over c s step w hs k in
     let j : ℕ = a.is_way.0 in
     let l : j < length c.dual.now.crosses = a.is_way.1 in
     let way : get_or c.dual.now.crosses j a.way ≡ a.way = a.is_way.2 in
     omega (arith, a.length_is, ap (λ (z : Cross). z.length) way, (dual_ways c.dual.now w.dual j a.way l).3)
 
 -- ---- a row by other rows
+
+pub far_small : (c : Crowd) (p u : ℕ) (dists : List ℕ) → IsCrowd c → p < size c → u < size c → HasRow c p dists
+    → entry (size c) dists p u ≤ 2 ^ 50
+far_small c p u dists w hp hu row =
+    omega (arith, (row u hu).most, w.most p (omega (arith, hp, w.sizes)), w.most u (omega (arith, hu, w.sizes)), w.small)
 
 -- a terminal stands at one place
 same_place : (c : Crowd) (p q : ℕ) → IsCrowd c → p < size c → q < size c → face_at c p ≡ face_at c q → p ≡ q
@@ -107,17 +141,17 @@ other_row c s p face dists w other at =
     let one : other.0 ≡ p = same_place c other.0 p w other.1 at.0 (other.2 ∙ sym at.1) in
     (subst (λ z. HasRow c z dists) one other.4, λ e. other.3 (one ∙ e))
 
-pub lowered : (c : Crowd) (s p u : ℕ) (step : Cross) (dists : List ℕ) (old new : ℕ) → IsCrowd c → s < size c → u < size c
-    → Contains (steps_of c s) step → HasOtherRow c s dists (to_of (face_at c s) step)
-    → (p < size c) × (face_at c p ≡ to_of (face_at c s) step)
+pub lowered : (c : Crowd) (s p u : ℕ) (step : Step) (dists : List ℕ) (old new : ℕ) → IsCrowd c → s < size c → u < size c
+    → Contains (steps_of c s) step → HasOtherRow c s dists step.to
+    → (p < size c) × (face_at c p ≡ step.to)
     → new ≡ min old (entry (size c) dists p u + step.length) → old ≤ slice_index c.radii.now s + slice_index c.radii.now u
     → IsLowered c s step u old new
 lowered c s p u step dists old new w hs hu k other at e most =
     let ways : List Cross = c.dual.now.crosses in
     let far : ℕ = entry (size c) dists p u in
-    let there = other_row c s p (to_of (face_at c s) step) dists w other at in
+    let there = other_row c s p step.to dists w other at in
     let apart : AreApart c p u far = there.0 u hu in
-    let a = is_step c s step w hs k in
+    let a = step_over c s step w hs k in
     let to : beyond a.way (face_at c s) ≡ face_at c p = a.to ∙ sym at.1 in
     let one = (w.radii.1 s hs).near p at.0 there.1 (a.way ∷ []) (a.is_way, a.at, to) in
     record {
@@ -141,7 +175,7 @@ pub record AreVia (c : Crowd) (s i : ℕ) (row : List ℕ) : Type 0 where
   pub count : length row ≡ size c
   pub most : (u : ℕ) → u < size c → slice_index row u ≤ slice_index c.radii.now s + slice_index c.radii.now u
   pub shorter : (u : ℕ) → u < size c → (k : ℕ) → k < i → (xs : List Cross) →
-      Leads c.dual.now.crosses (to_of (face_at c s) (step_at (steps_of c s) k)) xs (face_at c u) →
+      Leads c.dual.now.crosses (step_at (steps_of c s) k).to xs (face_at c u) →
       slice_index row u ≤ (step_at (steps_of c s) k).length + length_of xs
   pub met : (u : ℕ) → u < size c → (slice_index row u ≡ slice_index c.radii.now s + slice_index c.radii.now u) ⊎
       ((xs : List Cross) × Leads c.dual.now.crosses (face_at c s) xs (face_at c u) × (slice_index row u ≡ length_of xs))
@@ -167,7 +201,7 @@ via_more c s i old new v count l = record {
   most = λ u hu. omega (arith, (l u hu).less, v.most u hu);
   shorter = λ u hu k hk xs leads. elim (cases_eq k i) [
     | inl q ↦
-        let P : ℕ → Type 0 = λ z. Leads c.dual.now.crosses (to_of (face_at c s) (step_at (steps_of c s) z)) xs (face_at c u) in
+        let P : ℕ → Type 0 = λ z. Leads c.dual.now.crosses (step_at (steps_of c s) z).to xs (face_at c u) in
         omega (arith, (l u hu).shorter xs (subst P q leads), ap (λ z. (step_at (steps_of c s) z).length) q)
     | inr ne ↦ omega (arith, (l u hu).less, v.shorter u hu k (omega (arith, hk, ne)) xs leads)
   ];
@@ -218,9 +252,10 @@ written_none c done dists m n ed ee em en = record {
 }
 
 pub other_rows : (c : Crowd) (s face : ℕ) (done : List Bool) (dists : List ℕ) → AreWritten c done dists
-    → slice_index_or done s false ≡ false → IsDone c.listed.faces.now done face → HasOtherRow c s dists face
-other_rows c s face done dists a open (p, hp, e, d) =
-    (p, hp, e, λ q. true≢false (sym d ∙ ap (λ z. slice_index_or done z false) q ∙ open), a.each p hp d)
+    → slice_index_or done s false ≡ false → IsDone c.listed.faces.now (length done) done face → HasOtherRow c s dists face
+other_rows c s face done dists a fresh (p, hp, e, marked) =
+    let d = marked (omega (arith, hp, a.flags)) in
+    (p, hp, e, λ q. true≢false (sym d ∙ ap (λ z. slice_index_or done z false) q ∙ fresh), a.each p hp d)
 
 pub written_more : (c : Crowd) (s : ℕ) (row old new : List ℕ) (done : List Bool) → s < size c → AreWritten c done old → IsRow c s row
     → IsRowPut (length row) s row old new → AreWritten c (set done s true) new
@@ -238,12 +273,12 @@ written_more c s row old new done hs a r put =
       ];
     }
 
-pub written_all : (c : Crowd) (i : ℕ) (done : List Bool) (dists : List ℕ) → AreWritten c done dists → size c ≤ i
-    → ((k : ℕ) → k < i → slice_index_or done k false ≡ true)
+pub written_all : (c : Crowd) (done : List Bool) (dists : List ℕ) → AreWritten c done dists
+    → ((k : ℕ) → k < size c → slice_index_or done k false ≡ true)
     → AreNearPut c.dual.now.crosses c.listed.faces.now (slice_index c.radii.now) dists
-written_all c i done dists a all each = record {
+written_all c done dists a all = record {
   count = a.count;
-  each = λ s u hs hu. a.each s hs (each s (omega (arith, hs, all))) u hu;
+  each = λ s u hs hu. a.each s hs (all s hs) u hu;
 }
 
 -- the numbers of a row before one were put in

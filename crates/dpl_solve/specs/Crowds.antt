@@ -1,9 +1,10 @@
 -- Odd faces that look about equally far, and the rows of the table of their distances as they are written.
 use Rattle.std.specs.Prelude.{◌≡◌, ℕ, ◌+◌, ◌*◌, ◌^◌, ◌<◌, ◌≤◌, ◌⊎◌, Bool, true, false, List, length, slice_index, slice_index_or, Contains}
 use Rattle.dpl_dual.specs.declared.crosses.Cross.{Cross}
-use Rattle.dpl_dual.specs.declared.crosses.Dual.{Dual}
-use Rattle.dpl_dual.specs.Chains.{Leads, beyond, length_of, no_cross}
+use Rattle.dpl_dual.specs.declared.crosses.Step.{Step}
+use Rattle.dpl_dual.specs.Chains.{Leads, length_of}
 use Rattle.dpl_dual.specs.Duals.{CameFromDual, row_of}
+use Rattle.dpl_dual.specs.Searches.{no_step}
 use Rattle.dpl_pack.specs.Moats.{AreTerminals}
 use Rattle.dpl_solve.specs.declared.crowd.Crowd.{Crowd}
 use Rattle.dpl_solve.specs.Metrics.{IsApart, HaveRadii, entry}
@@ -29,15 +30,12 @@ abbrev pub face_at : Crowd → ℕ → ℕ
 face_at c s = slice_index c.listed.faces.now s
 
 -- the steps at a terminal
-abbrev pub steps_of : Crowd → ℕ → List Cross
+abbrev pub steps_of : Crowd → ℕ → List Step
 steps_of c s = row_of c.dual.now.rows (face_at c s)
 
--- where a step at a face leads to
-abbrev pub to_of : ℕ → Cross → ℕ
-to_of f x = beyond x f
-
-abbrev pub step_at : List Cross → ℕ → Cross
-step_at steps i = slice_index_or steps i no_cross
+-- the step of a number
+abbrev pub step_at : List Step → ℕ → Step
+step_at steps i = slice_index_or steps i no_step
 
 -- the distance of two terminals, up to the radii of both
 abbrev pub AreApart : Crowd → ℕ → ℕ → ℕ → Type 0
@@ -58,10 +56,10 @@ pub record AreWritten (c : Crowd) (done : List Bool) (dists : List ℕ) : Type 0
   pub count : length dists ≡ size c * size c
   pub each : (s : ℕ) → s < size c → slice_index_or done s false ≡ true → HasRow c s dists
 
--- a face is that of a terminal that is marked
-abbrev pub IsDone : List ℕ → List Bool → ℕ → Type 0
-IsDone faces done face = (p : ℕ) × (p < length faces) × (slice_index faces p ≡ face) ×
-    (slice_index_or done p false ≡ true)
+-- a face is that of a terminal that is marked, or that is not among the first ones
+abbrev pub IsDone : List ℕ → ℕ → List Bool → ℕ → Type 0
+IsDone faces first done face = (p : ℕ) × (p < length faces) × (slice_index faces p ≡ face) ×
+    (p < first → slice_index_or done p false ≡ true)
 
 -- a face is that of another terminal than s, whose row is written
 abbrev pub HasOtherRow : Crowd → ℕ → List ℕ → ℕ → Type 0
@@ -69,9 +67,9 @@ HasOtherRow c s dists face = (p : ℕ) × (p < size c) × (face_at c p ≡ face)
     HasRow c p dists
 
 -- a distance of s and u that is no more than both radii is lowered to that by way of a step at s, if that is less
-pub record IsLowered (c : Crowd) (s : ℕ) (step : Cross) (u old new : ℕ) : Type 0 where
+pub record IsLowered (c : Crowd) (s : ℕ) (step : Step) (u old new : ℕ) : Type 0 where
   pub less : new ≤ old
-  pub shorter : (xs : List Cross) → Leads c.dual.now.crosses (to_of (face_at c s) step) xs (face_at c u) →
+  pub shorter : (xs : List Cross) → Leads c.dual.now.crosses step.to xs (face_at c u) →
       new ≤ step.length + length_of xs
   pub met : (new ≡ old) ⊎ ((xs : List Cross) ×
       Leads c.dual.now.crosses (face_at c s) xs (face_at c u) × (new ≡ length_of xs))

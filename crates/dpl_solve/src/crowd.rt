@@ -5,16 +5,15 @@
 //! chain to a third face goes on from one of them, as in Bellman 1958, "On a routing problem". So faces of which no
 //! two lie side by side wait until the others are done.
 
-ghost use Rattle.std.specs.Prelude.{◌≡◌, ℕ, ◌+◌, ◌*◌, ◌^◌, ◌<◌, ◌≤◌, min, true, false, length, slice_index, slice_index_or, Contains, OnOk, IfOk};
-ghost use Rattle.dpl_dual.specs.Distances.{AreDistancesWithin};
-ghost use Rattle.dpl_solve.specs.Crowds.{IsCrowd, size, face_at, steps_of, to_of, step_at, IsRow, AreWritten, IsDone, HasOtherRow, IsLowered, IsRowPut};
+ghost use Rattle.std.specs.Prelude.{◌≡◌, ℕ, ◌+◌, ◌*◌, ◌^◌, ◌<◌, ◌≤◌, min, true, false, length, slice_index, slice_index_or, Contains, OnOk, IfOk, IfSome};
+ghost use Rattle.dpl_solve.specs.Crowds.{IsCrowd, size, steps_of, step_at, IsRow, AreWritten, IsDone, HasOtherRow, IsLowered, IsRowPut};
 ghost use Rattle.dpl_solve.specs.Metrics.{AreNearPut};
 ghost use Rattle.dpl_solve.specs.Places.{IsListed};
 
 use crate::places::{Listed, place_of};
 use crate::sums::write_sums;
 use dpl_dual::types::Distances;
-use dpl_dual::{Cross, Dual, distances_within, far_side};
+use dpl_dual::{Dual, Step, distances_within};
 use std::alloc::{AllocError, Global};
 
 /// The odd faces of a part with their radii, of which the greatest is so far.
@@ -26,44 +25,22 @@ pub struct Crowd<'a> {
     pub farthest: u64,
 }
 
-/// Whether no radius is greater than another by more than a quarter.
-pub fn are_alike(radii: &[u64]) -> bool {
+/// The greatest radius, if none is less by more than a fifth.
+pub fn farthest_alike(radii: &[u64]) -> Option<u64>
+    requires small { (k : ℕ) → k < length radii.now → slice_index radii.now k ≤ 2 ^ 49 }
+    ensures { IfSome result (λ most. (most ≤ 2 ^ 49) ×
+        ((k : ℕ) → k < length radii.now → slice_index radii.now k ≤ most)) }
+{
     let mut least = u64::MAX;
     let mut most = 0;
     for k in 0..radii.len() {
         least = least.min(radii[k]);
         most = most.max(radii[k]);
     }
-    most - most / 5 <= least
-}
-
-/// The greatest radius.
-pub fn greatest(radii: &[u64]) -> u64
-    requires small { (k : ℕ) → k < length radii.now → slice_index radii.now k ≤ 2 ^ 49 }
-    ensures most { (k : ℕ) → k < length radii.now → slice_index radii.now k ≤ result }
-    ensures small { result ≤ 2 ^ 49 }
-{
-    let mut most = 0;
-    for k in 0..radii.len() {
-        most = most.max(radii[k]);
+    if least < most - most / 5 {
+        return None;
     }
-    most
-}
-
-/// Writes the distances of terminal s from all, by what a search reached.
-fn write_reached(crowd: &Crowd<'_>, reach: &Distances, s: usize, row: &mut [u64])
-    requires crowd { IsCrowd crowd.now }
-    requires inside { s < size crowd.now }
-    requires count { length row.old ≡ size crowd.now }
-    requires measured { AreDistancesWithin crowd.now.dual.now.crosses crowd.now.dual.now.faces
-        (face_at crowd.now s) (slice_index crowd.now.radii.now s + crowd.now.farthest) reach.now }
-    ensures { IsRow crowd.now s row.new }
-{
-    let radius = crowd.radii[s];
-    for u in 0..crowd.radii.len() {
-        let both = radius + crowd.radii[u];
-        row[u] = reach.up_to(crowd.listed.faces[u], both).min(both);
-    }
+    Some(most)
 }
 
 /// Writes the distances of terminal s from all, by a search.
@@ -78,14 +55,18 @@ fn search_row(
     requires count { length row.old ≡ size crowd.now }
     ensures { OnOk result (IsRow crowd.now s row.new) }
 {
-    let limit = crowd.radii[s] + crowd.farthest;
+    let radius = crowd.radii[s];
+    let limit = radius + crowd.farthest;
     distances_within(crowd.dual, crowd.listed.faces[s], limit, reach)?;
-    write_reached(crowd, reach, s, row);
+    for u in 0..crowd.radii.len() {
+        let both = radius + crowd.radii[u];
+        row[u] = reach.up_to(crowd.listed.faces[u], both).min(both);
+    }
     Ok(())
 }
 
 /// The steps at a terminal.
-fn steps_at<'a>(crowd: &Crowd<'a>, s: usize) -> &'a [Cross]
+fn steps_at<'a>(crowd: &Crowd<'a>, s: usize) -> &'a [Step]
     requires crowd { IsCrowd crowd.now }
     requires inside { s < size crowd.now }
     ensures { result.now ≡ steps_of crowd.now s }
@@ -93,72 +74,53 @@ fn steps_at<'a>(crowd: &Crowd<'a>, s: usize) -> &'a [Cross]
     crowd.dual.rows.by_face.row(crowd.listed.faces[s] as usize)
 }
 
-/// Where a step at a face leads to.
-fn end_of(step: &Cross, here: u32) -> u32
-    ensures { result ≡ to_of here step.now }
-{
-    far_side(step, here)
-}
-
-/// Whether a face is that of a terminal whose row is written.
-fn is_done(listed: &Listed<'_>, done: &[bool], face: u32) -> bool
+/// Whether a face is that of a terminal whose row is written, or that is not among the first ones.
+fn is_done(listed: &Listed<'_>, first: usize, done: &[bool], face: u32) -> bool
     requires flags { length done.now ≡ length listed.now.faces.now }
-    ensures { result ≡ true → IsDone listed.now.faces.now done.now face }
+    ensures { result ≡ true → IsDone listed.now.faces.now first done.now face }
 {
     match place_of(listed, face) {
-        Some(p) => done[p],
+        Some(p) => p >= first || done[p],
         None => false,
     }
 }
 
-/// Whether all steps at terminal s lead to terminals whose rows are written.
-fn follows(crowd: &Crowd<'_>, s: usize, done: &[bool]) -> bool
+/// Whether all steps at terminal s lead to terminals, and the rows of those among the first ones are written.
+fn follows(crowd: &Crowd<'_>, s: usize, first: usize, done: &[bool]) -> bool
     requires crowd { IsCrowd crowd.now }
     requires inside { s < size crowd.now }
     requires flags { length done.now ≡ size crowd.now }
     ensures { result ≡ true → (i : ℕ) → i < length (steps_of crowd.now s) →
-        IsDone crowd.now.listed.faces.now done.now
-        (to_of (face_at crowd.now s) (step_at (steps_of crowd.now s) i)) }
+        IsDone crowd.now.listed.faces.now first done.now (step_at (steps_of crowd.now s) i).to }
 {
-    let here = crowd.listed.faces[s];
     let steps = steps_at(crowd, s);
     for i in 0..steps.len() {
-        if !is_done(&crowd.listed, done, end_of(&steps[i], here)) {
+        if !is_done(&crowd.listed, first, done, steps[i].to) {
             return false;
         }
     }
     true
 }
 
-/// Lowers each number of a row to that of another row and so much more, if that is less.
-fn lower(dists: &[u64], start: usize, far: u64, row: &mut [u64])
-    requires inside { start + length row.old ≤ length dists.now }
-    requires small { (u : ℕ) → u < length row.old → slice_index dists.now (start + u) ≤ 2 ^ 50 }
-    requires far { far ≤ 2 ^ 50 }
-    ensures { (u : ℕ) → u < length row.old → slice_index row.new u ≡
-        min (slice_index row.old u) (slice_index dists.now (start + u) + far) }
-{
-    for u in 0..row.len() {
-        row[u] = row[u].min(dists[start + u] + far);
-    }
-}
-
 /// Lowers the distances of terminal s to those by way of a step to another one.
-fn lower_by(crowd: &Crowd<'_>, s: usize, step: &Cross, dists: &[u64], row: &mut [u64])
+fn lower_by(crowd: &Crowd<'_>, s: usize, step: &Step, dists: &[u64], row: &mut [u64])
     requires crowd { IsCrowd crowd.now }
     requires inside { s < size crowd.now }
     requires count { length row.old ≡ size crowd.now }
     requires places { length dists.now ≡ size crowd.now * size crowd.now }
     requires step { Contains (steps_of crowd.now s) step.now }
-    requires other { HasOtherRow crowd.now s dists.now (to_of (face_at crowd.now s) step.now) }
+    requires other { HasOtherRow crowd.now s dists.now step.now.to }
     ensures { (u : ℕ) → u < size crowd.now → slice_index row.old u ≤
         slice_index crowd.now.radii.now s + slice_index crowd.now.radii.now u →
         IsLowered crowd.now s step.now u (slice_index row.old u) (slice_index row.new u) }
 {
-    let here = crowd.listed.faces[s];
-    match place_of(&crowd.listed, end_of(step, here)) {
-        Some(p) => lower(dists, p * crowd.radii.len(), step.length, row),
+    let p = match place_of(&crowd.listed, step.to) {
+        Some(p) => p,
         None => unreachable!(),
+    };
+    let start = p * row.len();
+    for u in 0..row.len() {
+        row[u] = row[u].min(dists[start + u] + step.length);
     }
 }
 
@@ -169,7 +131,7 @@ fn derive_row(crowd: &Crowd<'_>, s: usize, dists: &[u64], row: &mut [u64])
     requires count { length row.old ≡ size crowd.now }
     requires places { length dists.now ≡ size crowd.now * size crowd.now }
     requires others { (i : ℕ) → i < length (steps_of crowd.now s) → HasOtherRow crowd.now s dists.now
-        (to_of (face_at crowd.now s) (step_at (steps_of crowd.now s) i)) }
+        (step_at (steps_of crowd.now s) i).to }
     ensures { IsRow crowd.now s row.new }
 {
     write_sums(crowd.radii, s, row);
@@ -193,10 +155,10 @@ fn find_row(
     requires inside { s < size crowd.now }
     requires count { length row.old ≡ size crowd.now }
     requires rows { AreWritten crowd.now done.now dists.now }
-    requires open { slice_index_or done.now s false ≡ false }
+    requires fresh { slice_index_or done.now s false ≡ false }
     ensures { OnOk result (IsRow crowd.now s row.new) }
 {
-    if follows(crowd, s, done) {
+    if follows(crowd, s, done.len(), done) {
         derive_row(crowd, s, dists, row);
         return Ok(());
     }
@@ -243,35 +205,11 @@ fn fill(
     Ok(())
 }
 
-/// Whether a face keeps terminal s from waiting: one that is no terminal, or an earlier one that waits itself.
-fn forbids(listed: &Listed<'_>, s: usize, done: &[bool], face: u32) -> bool
-    requires flags { length done.now ≡ length listed.now.faces.now }
-{
-    match place_of(listed, face) {
-        Some(p) => p < s && !done[p],
-        None => true,
-    }
-}
-
-/// Whether the row of a terminal may be written after those of its neighbours.
-fn may_wait(crowd: &Crowd<'_>, s: usize, done: &[bool]) -> bool
-    requires crowd { IsCrowd crowd.now }
-    requires inside { s < size crowd.now }
-    requires flags { length done.now ≡ size crowd.now }
-{
-    let here = crowd.listed.faces[s];
-    let steps = steps_at(crowd, s);
-    for i in 0..steps.len() {
-        if forbids(&crowd.listed, s, done, end_of(&steps[i], here)) {
-            return false;
-        }
-    }
-    true
-}
-
-/// Writes the rows of all terminals that may not wait.
-fn fill_first(
+/// Writes the rows that are not written, or of those only that may not wait: one may wait if all its neighbours are
+/// terminals, and none of them that comes before it waits.
+fn fill_rows(
     crowd: &Crowd<'_>,
+    all: bool,
     reach: &mut Distances,
     row: &mut [u64],
     dists: &mut [u64],
@@ -280,32 +218,14 @@ fn fill_first(
     requires crowd { IsCrowd crowd.now }
     requires count { length row.old ≡ size crowd.now }
     requires rows { AreWritten crowd.now done.old dists.old }
-    ensures { OnOk result (AreWritten crowd.now done.new dists.new) }
+    ensures rows { OnOk result (AreWritten crowd.now done.new dists.new) }
+    ensures all { OnOk result (all ≡ true → (k : ℕ) → k < size crowd.now →
+        slice_index_or done.new k false ≡ true) }
 {
     for s in 0..crowd.listed.faces.len() {
-        if may_wait(crowd, s, done) {
+        if !all && follows(crowd, s, s, done) {
             continue;
         }
-        fill(crowd, s, reach, row, dists, done)?;
-    }
-    Ok(())
-}
-
-/// Writes the rows that are not written.
-fn fill_rest(
-    crowd: &Crowd<'_>,
-    reach: &mut Distances,
-    row: &mut [u64],
-    dists: &mut [u64],
-    done: &mut [bool],
-) -> Result<(), AllocError>
-    requires crowd { IsCrowd crowd.now }
-    requires count { length row.old ≡ size crowd.now }
-    requires rows { AreWritten crowd.now done.old dists.old }
-    ensures { OnOk result (AreNearPut crowd.now.dual.now.crosses crowd.now.listed.faces.now
-        (slice_index crowd.now.radii.now) dists.new) }
-{
-    for s in 0..crowd.listed.faces.len() {
         fill(crowd, s, reach, row, dists, done)?;
     }
     Ok(())
@@ -325,8 +245,8 @@ fn fill_all(
     ensures { OnOk result (AreNearPut crowd.now.dual.now.crosses crowd.now.listed.faces.now
         (slice_index crowd.now.radii.now) dists.new) }
 {
-    fill_first(crowd, reach, row, dists, done)?;
-    fill_rest(crowd, reach, row, dists, done)?;
+    fill_rows(crowd, false, reach, row, dists, done)?;
+    fill_rows(crowd, true, reach, row, dists, done)?;
     Ok(())
 }
 

@@ -1,7 +1,7 @@
 use Rattle.std.proofs.Common.{ℕ, ◌<◌, ◌≡◌, length}
 use Rattle.std.specs.Prelude.{slice_index}
 use Rattle.dpl_solve.specs.Crowds.{size, AreApart}
-use Rattle.dpl_solve.proofs.crowd.write_reached.Given as goal
+use Rattle.dpl_solve.proofs.crowd.search_row.Given as goal
 
 abbrev pub invariant-loop-u : goal.invariant-loop-u
 invariant-loop-u l = record {
