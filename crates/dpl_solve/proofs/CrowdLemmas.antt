@@ -10,7 +10,7 @@ use Rattle.std.proofs.lemmas.List.Sums.{sum_by-cons}
 use Rattle.dpl_dual.specs.declared.crosses.Cross.{Cross}
 use Rattle.dpl_dual.specs.declared.crosses.Step.{Step}
 use Rattle.dpl_dual.specs.declared.reach.Reach.{Reach}
-use Rattle.dpl_dual.specs.Chains.{IsAt, Leads, IsShortest, beyond, length_of, step_of, no_cross}
+use Rattle.dpl_dual.specs.Chains.{IsAt, Leads, IsShortest, beyond, length_of, no_cross}
 use Rattle.dpl_dual.specs.Distances.{DistancesView, AreDistancesWithin, IsDistanceUpTo, entry_at, edges_to, length_up_to}
 use Rattle.dpl_dual.specs.Searches.{no_step}
 use Rattle.dpl_dual.proofs.WorkLemmas.{dual_rows, dual_ways}

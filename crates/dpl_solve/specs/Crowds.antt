@@ -1,5 +1,5 @@
 -- Odd faces that look about equally far, and the rows of the table of their distances as they are written.
-use Rattle.std.specs.Prelude.{◌≡◌, ℕ, ◌+◌, ◌*◌, ◌^◌, ◌<◌, ◌≤◌, ◌⊎◌, Bool, true, false, List, length, slice_index, slice_index_or, Contains}
+use Rattle.std.specs.Prelude.{◌≡◌, ℕ, ◌+◌, ◌*◌, ◌^◌, ◌<◌, ◌≤◌, ◌⊎◌, Bool, true, false, List, length, slice_index, slice_index_or}
 use Rattle.dpl_dual.specs.declared.crosses.Cross.{Cross}
 use Rattle.dpl_dual.specs.declared.crosses.Step.{Step}
 use Rattle.dpl_dual.specs.Chains.{Leads, length_of}

@@ -1,4 +1,4 @@
-use Rattle.std.proofs.Common.{arith, ap, ◌∙◌, ◌≡◌, ◌<◌, ℕ, length, sym, subst}
+use Rattle.std.proofs.Common.{arith, ap, ◌∙◌, ◌≡◌, ℕ, length, sym, subst}
 use Rattle.std.specs.Prelude.{slice_index}
 use Rattle.dpl_dual.specs.declared.crosses.Step.{Step}
 use Rattle.dpl_solve.specs.Crowds.{HasOtherRow, IsLowered, steps_of, step_at}

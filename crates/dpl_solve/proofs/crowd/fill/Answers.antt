@@ -1,4 +1,3 @@
-use Rattle.std.proofs.Common.{arith, ◌∙◌, sym, ap}
 use Rattle.dpl_solve.proofs.CrowdLemmas.{written_more}
 use Rattle.dpl_solve.proofs.crowd.fill.Goals as goal
 

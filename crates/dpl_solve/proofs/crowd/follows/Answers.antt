@@ -1,4 +1,4 @@
-use Rattle.std.proofs.Common.{arith, ap, ◌≡◌, ℕ, ◌<◌, length, sym, subst, inl, inr}
+use Rattle.std.proofs.Common.{arith, ap, ◌≡◌, ℕ, length, sym, subst, inl, inr}
 use Rattle.std.proofs.lemmas.Bool.{cases_eq}
 use Rattle.dpl_solve.specs.Crowds.{IsDone, steps_of, step_at}
 use Rattle.dpl_solve.proofs.crowd.follows.Goals as goal

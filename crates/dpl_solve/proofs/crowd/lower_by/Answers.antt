@@ -15,7 +15,8 @@ overflow_add-dists c =
     let inside : u < size crowd = omega (arith, c.loop-u-test.true, c.loop-u.invariant.count, c.requires.count) in
     let other = other_row crowd c.args.s c.in-Some.p c.args.step.now.to c.args.dists.now w c.requires.other c.in-Some.ensures in
     let P : ℕ → Type 0 = λ z. slice_index c.args.dists.now (c.in-Some.p * z + u) ≤ 2 ^ 50 in
-    let far : P (length c.args.row.now) = subst P (sym c.requires.count) (far_small crowd c.in-Some.p u c.args.dists.now w c.in-Some.ensures.0 inside other.0) in
+    let far : P (length c.args.row.now) = subst P (sym c.requires.count)
+    (far_small crowd c.in-Some.p u c.args.dists.now w c.in-Some.ensures.0 inside other.0) in
     omega (arith, far, step_short crowd c.args.s c.args.step.now w c.requires.inside c.requires.step)
 
 pub loop-u-preserved : goal.loop-u-preserved

@@ -6,7 +6,8 @@ pub loop-u-init : goal.loop-u-init
 loop-u-init c = record { count = refl; here = λ u h. absurd (omega (arith, h)); others = λ a u ha hu ne. refl }
 
 pub loop-u-preserved : goal.loop-u-preserved
-loop-u-preserved c = put_more _ c.args.s c.loop-u.u _ _ c.loop-u.dists c.requires.inside (omega (arith, c.loop-u-test.true)) c.requires.places c.loop-u.invariant
+loop-u-preserved c = put_more _ c.args.s c.loop-u.u _ _ c.loop-u.dists c.requires.inside (omega (arith, c.loop-u-test.true)) c.requires.places
+    c.loop-u.invariant
 
 pub returns : goal.returns
 returns c = record {

@@ -1,4 +1,4 @@
-use Rattle.std.proofs.Common.{arith, ap, ◌∙◌, ◌≡◌, ◌+◌, ◌<◌, ℕ, min, length-set, sym, subst}
+use Rattle.std.proofs.Common.{arith, ap, ◌∙◌, ◌+◌, ◌<◌, ℕ, min, length-set, sym, subst}
 use Rattle.std.specs.Prelude.{slice_index}
 use Rattle.dpl_pack.proofs.MoatLemmas.{terminals_below}
 use Rattle.dpl_solve.specs.Crowds.{size, AreApart}
