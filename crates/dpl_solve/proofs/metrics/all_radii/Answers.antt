@@ -1,7 +1,5 @@
-use Rattle.std.proofs.Common.{arith, ap, ◌≡◌, ◌+◌, ◌∙◌, ◌∷◌, [], length, subst}
-use Rattle.std.specs.Prelude.{slice_index}
+use Rattle.std.proofs.Common.{arith, ap, ◌+◌, ◌∙◌, length}
 use Rattle.std.proofs.lemmas.List.{length-append}
-use Rattle.dpl_solve.specs.Metrics.{AreRadii}
 use Rattle.dpl_solve.proofs.MetricLemmas.{radii_pushed}
 use Rattle.dpl_solve.proofs.metrics.all_radii.Goals as goal
 

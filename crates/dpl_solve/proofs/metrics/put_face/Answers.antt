@@ -1,4 +1,4 @@
-use Rattle.std.proofs.Common.{◌≡◌, sym, subst, ℕ}
+use Rattle.std.proofs.Common.{sym, subst, ℕ}
 use Rattle.std.specs.Prelude.{slice_index}
 use Rattle.dpl_solve.specs.Metrics.{IsDistance, IsPutIn}
 use Rattle.dpl_solve.proofs.MetricLemmas.{put_some, put_none}

@@ -1,4 +1,3 @@
-use Rattle.std.proofs.Common.{arith}
 use Rattle.std.specs.Prelude.{slice_index}
 use Rattle.dpl_pack.proofs.MoatLemmas.{terminals_below}
 use Rattle.dpl_solve.proofs.MetricLemmas.{searched}

@@ -1,6 +1,6 @@
-use Rattle.std.proofs.Common.{arith, ap, sym, inl, inr, ◌≡◌, ◌+◌, ◌∙◌, get_or, set, length-set, get_or-set_same, get_or-set_other, ℕ}
+use Rattle.std.proofs.Common.{arith, ap, sym, inl, inr, ◌+◌, ◌∙◌, get_or, set, length-set, get_or-set_same, get_or-set_other, ℕ}
 use Rattle.std.proofs.lemmas.Bool.{cases_eq}
-use Rattle.dpl_solve.proofs.metrics.write_sums.Goals as goal
+use Rattle.dpl_solve.proofs.sums.write_sums.Goals as goal
 
 pub loop-u-preserved : goal.loop-u-preserved
 loop-u-preserved c =
