@@ -129,7 +129,7 @@ fn join_within<L: Ledger>(
 /// Joins the odd faces of a part in pairs, along chains that are as long as a family weighs.
 ///
 /// The search for distances ends at the radii, which grow until the pairs see each other. So it costs the
-/// faces near each odd one, and the square of the number of odd faces in memory.
+/// faces near each odd one, and in memory what is near each, or where that is much the square of their number.
 pub fn join_all<L: Ledger>(
     alloc: Global,
     drawn: &Drawn<'_>,
