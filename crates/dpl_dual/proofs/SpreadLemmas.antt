@@ -7,6 +7,7 @@ use Rattle.std.proofs.lemmas.Bool.{ne_eqb, false≢true}
 use Rattle.std.proofs.lemmas.List.{drop_all, drop-append-le, map-append}
 use Rattle.std.proofs.lemmas.List.Elements.{All-nil, All-cons, All-tail, All-drop, All-append, All-contains, Contains-append_left, Contains-append_right}
 use Rattle.std.proofs.lemmas.List.Sorted.{IsPermutation-refl}
+use Rattle.std.proofs.lemmas.Option.{same_Some}
 use Rattle.dpl_dual.specs.declared.crosses.Cross.{Cross}
 use Rattle.dpl_dual.specs.declared.crosses.Step.{Step}
 use Rattle.dpl_dual.specs.declared.reach.Reach.{Reach}
@@ -16,7 +17,7 @@ use Rattle.dpl_dual.specs.declared.sought.Sought.{Sought}
 use Rattle.dpl_dual.specs.Chains.{beyond, step_of}
 use Rattle.dpl_dual.specs.Distances.{length_of_entry}
 use Rattle.dpl_dual.specs.Duals.{IsStep, row_of}
-use Rattle.dpl_dual.specs.Searches.{IsShort, found, IsSearch, IsLabelled, AreTried, AreListed}
+use Rattle.dpl_dual.specs.Searches.{IsShort, found, IsSearch, IsLabelled, AreTried, AreListed, no_step}
 use Rattle.dpl_dual.specs.Labels.{labels, reach_over, IsBlank, IsSought, IsUnderWay, IsBegun, AreReachedAlso}
 use Rattle.dpl_dual.specs.Spreads.{labels_of, IsSpread, IsSpreadBy}
 use Rattle.dpl_dual.specs.Tables.{reach_by}
@@ -184,6 +185,27 @@ steps_on t k here far next y old new is (x, c, at, e) label s en near none u als
     let Q : Step → Type 0 = λ z. AreReachedAlso (labels old z.to) z.to old.reached.items new.reached.items in
     subst (λ z. IsSteppedBy t k here z old new) (sym e) (stepped t k here far next x old new is c at label s
     (en ∙ ap (λ (z : Step). far + z.length) e) near (ap (λ (z : Step). labels old z.to) (sym e) ∙ none) (subst P e u) (subst Q e also) same)
+
+-- from a face so near the limit no way leads on below it
+pub far_tried : (t : Sought) (here far : ℕ) (row : List Step) (s : Search) → IsSought t → All (IsStep t.ways.now here) row
+    → (label : (r : Reach) × (labels s here ≡ Some r) × (r.length ≡ far)) → t.limit ≤ far + t.rows.now.least
+    → AreTried t.limit (labels s) here row (length row)
+far_tried t here far row s is all label end j l r q near =
+    let (x, c, at, e) = all j no_step l in
+    absurd (omega (
+      arith,
+      near,
+      end,
+      label.2,
+      ap (λ (z : Reach). z.length) (same_Some r label.0 (sym q ∙ label.1)),
+      ap (λ (z : Step). z.length) e,
+      All-contains (λ z. t.rows.now.least ≤ z.length) t.ways.now x is.rows.least c,
+    ))
+
+-- a label is below the limit
+pub far_below : (t : Sought) (k here far : ℕ) (busy : ℕ → Bool) (s : Search) → IsSpread t k busy s
+    → (label : (r : Reach) × (labels s here ≡ Some r) × (r.length ≡ far)) → far < t.limit
+far_below t k here far busy s h label = omega (arith, h.search.near here label.0 label.1, label.2)
 
 -- ---- a face is taken
 

@@ -44,7 +44,8 @@ fn step_on(
     }
 }
 
-/// Tries each step of the row of a face. False where a face that has a label would come nearer.
+/// Tries each step of the row of a face, unless that is so near the limit that no way leads on below it. False where a
+/// face that has a label would come nearer.
 fn step_row(
     sought: &Sought<'_>,
     here: u32,
@@ -61,6 +62,9 @@ fn step_row(
     ensures tried { IfOk result (λ even. even ≡ true →
         AreTried sought.now.limit (labels search.new) here row.now (length row.now)) }
 {
+    if sought.limit - far <= sought.rows.least {
+        return Ok(true);
+    }
     for i in 0..row.len() {
         if !step_on(sought, &row[i], here, far, settled, search)? {
             return Ok(false);
