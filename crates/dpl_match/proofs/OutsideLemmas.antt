@@ -106,6 +106,16 @@ near_least m known list level t least w none key le out = record {
   least = λ j l. omega (arith, none j l, key.1, le);
 }
 
+-- no member outside has a key below that of what is kept
+pub none_nearer : (m : Members) (known : ℕ → Bool) (list : List ℕ) (origin t : ℕ) (o : Option Neighbour) (w : Neighbour)
+    → o ≡ Some w → AreOutside m known (m.sets.top t) m.count list → IsMeasured m origin t o → IsNear m known t m.count (member_of o)
+    → AreNoNearer m (level_of m origin) list t w.key
+none_nearer m known list origin t o w e out measured near = λ j l.
+    let o' = out.each j l in
+    let key = measured w e in
+    let least = (subst (λ (z : Option Neighbour). IsNear m known t m.count (member_of z)) e near).least in
+    omega (arith, key.1, least (get_or list j 0) o'.below o'.listed o'.apart)
+
 -- what is so far is a member
 pub near_member : (m : Members) (known : ℕ → Bool) (list : List ℕ) (t i a : ℕ) (o : Option ℕ)
     → IsNearOf m known list t i o → o ≡ Some a → a < m.count
