@@ -1,15 +1,17 @@
 -- The members outside of a top set, and the nearest of them.
-use Rattle.std.proofs.Common.{arith, ◌≡◌, ℕ, ◌+◌, ◌<◌, ◌≤◌, refl, sym, ap, ◌∙◌, subst, Bool, cond, inl, inr, leb}
+use Rattle.std.proofs.Common.{arith, ◌≡◌, ℕ, ◌+◌, ◌-◌, ◌^◌, ◌<◌, ◌≤◌, refl, sym, ap, ◌∙◌, subst, Bool, cond, inl, inr, leb}
 use Rattle.std.proofs.Common.{Option, Some, None, List, length, get_or, ◌++◌, ◌∷◌, [], length-append}
 use Rattle.std.proofs.lemmas.Bool.{cases_eq, cases_lt, cases_Bool, leb-true, leb-false}
 use Rattle.std.proofs.lemmas.List.{get_or_append_left, get_or-append-add}
 use Rattle.std.proofs.lemmas.Option.{same_Some}
 use Rattle.dpl_match.specs.declared.stage.Neighbour.{Neighbour}
 use Rattle.dpl_match.specs.steps.Nearest.{member_of, closer_of, level_of, HasKey, IsMeasured}
-use Rattle.dpl_match.specs.steps.Nearest.{IsNear, IsApart, IsOutside, AreOutside, IsNearOf}
+use Rattle.dpl_match.specs.steps.Nearest.{AreTotals, IsNear, IsApart, IsOutside, AreOutside, AreNoNearer, IsNearOf}
 use Rattle.dpl_match.proofs.NearLemmas.{key_nearer}
 use Rattle.dpl_match.specs.steps.Others.{AreOthers}
-use Rattle.dpl_match.specs.steps.Scans.{Members}
+use Rattle.dpl_match.specs.steps.Scans.{Members, members_of}
+use Rattle.dpl_tree.specs.declared.matching.Matching.{Matching}
+use Rattle.dpl_tree.specs.Metrics.{Table, IsMetric, dist_of}
 use Rattle.dpl_match.specs.declared.outer_table.Others.{Others}
 use Rattle.std.specs.Prelude.{MatchOption, ⊤}
 
@@ -85,6 +87,34 @@ near_taken m known list origin t i (Some a) w ho hw is out h =
         ];
       })
     ]
+
+-- a member with its key, where its distance was read in the row of t
+pub key_read : (metric : Table) (matching : Matching) (t s x sum level origin : ℕ) → AreTotals metric matching
+    → IsMetric metric.size (dist_of metric) → t < metric.size → s < metric.size → origin < metric.size
+    → x ≡ dist_of metric t s → sum ≡ get_or matching.sums.items s 0 → level ≡ 2 ^ 60 + get_or matching.sums.items origin 0
+    → HasKey (members_of metric matching) (level_of (members_of metric matching) origin) t (record { member = s; key = x + (level - sum) })
+key_read metric matching t s x sum level origin totals me ht hs ho ex es el =
+    let low = totals.small s hs in
+    (hs, omega (arith, me.symmetric t s ht hs, low, ex, es, el), omega (arith, me.small t s ht hs, ex, totals.small origin ho, el))
+
+-- where no key is below the least one, one with a key that is no greater is the nearest of the whole list
+pub near_least : (m : Members) (known : ℕ → Bool) (list : List ℕ) (level t least : ℕ) (w : Neighbour)
+    → AreNoNearer m level list t least → HasKey m level t w → w.key ≤ least → IsOutside m known (m.sets.top t) w.member
+    → IsNearOf m known list t (length list) (Some w.member)
+near_least m known list level t least w none key le out = record {
+  outside = out;
+  least = λ j l. omega (arith, none j l, key.1, le);
+}
+
+-- no member outside has a key below that of what is kept
+pub none_nearer : (m : Members) (known : ℕ → Bool) (list : List ℕ) (origin t : ℕ) (o : Option Neighbour) (w : Neighbour)
+    → o ≡ Some w → AreOutside m known (m.sets.top t) m.count list → IsMeasured m origin t o → IsNear m known t m.count (member_of o)
+    → AreNoNearer m (level_of m origin) list t w.key
+none_nearer m known list origin t o w e out measured near = λ j l.
+    let o' = out.each j l in
+    let key = measured w e in
+    let least = (subst (λ (z : Option Neighbour). IsNear m known t m.count (member_of z)) e near).least in
+    omega (arith, key.1, least (get_or list j 0) o'.below o'.listed o'.apart)
 
 -- what is so far is a member
 pub near_member : (m : Members) (known : ℕ → Bool) (list : List ℕ) (t i a : ℕ) (o : Option ℕ)
