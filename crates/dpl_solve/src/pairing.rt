@@ -59,7 +59,8 @@ fn look(
         }
         None => {
             let rows = all_rows(alloc, drawn.dual, terminals, &radii, reach, places)?;
-            let metric = Metric::new(alloc, terminals.len() as u32, rows)?;
+            let copied = Vec::from_slice(alloc, &radii)?;
+            let metric = Metric::new(alloc, terminals.len() as u32, rows, copied)?;
             Ok(Seen { metric, radii })
         }
     }

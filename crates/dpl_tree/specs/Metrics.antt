@@ -1,6 +1,6 @@
 -- Distances between members, as a metric space has them: a table with a row for each member, or radii and a list for each
 -- member of what is near it.
-use Rattle.std.specs.Prelude.{◌≡◌, ℕ, ◌+◌, ◌*◌, ◌%◌, ◌^◌, ◌<◌, ◌≤◌, ◌==◌, if◌then◌else◌, Bool, true, false, List, [], ◌∷◌, All}
+use Rattle.std.specs.Prelude.{◌≡◌, ℕ, ◌+◌, ◌*◌, ◌%◌, ◌^◌, ◌<◌, ◌≤◌, ◌==◌, if◌then◌else◌, Bool, true, false, List, [], ◌∷◌, All, Contains}
 use Rattle.std.specs.Prelude.{length, slice_index, slice_index_or}
 use Rattle.dpl_tree.specs.declared.metric.Close.{Close}
 
@@ -20,9 +20,9 @@ pub record Table : Type 0 where
   pub radii : List ℕ
   pub near : List (List Close)
 
--- all distances, row by row
-abbrev pub full_table : ℕ → List ℕ → Table
-full_table n rows = record { size = n; is_full = true; rows = rows; radii = []; near = [] }
+-- all distances, row by row, and the radii
+abbrev pub full_table : ℕ → List ℕ → List ℕ → Table
+full_table n rows radii = record { size = n; is_full = true; rows = rows; radii = radii; near = [] }
 
 -- the radii, and what is near each member
 abbrev pub near_table : List ℕ → List (List Close) → Table
@@ -39,22 +39,39 @@ dist_of d s t =
     if d.is_full then slice_index d.rows (s * d.size + t)
     else far_in (slice_index_or d.near s []) t (slice_index d.radii s + slice_index d.radii t)
 
+-- the radius of a member
+abbrev pub radius_of : Table → ℕ → ℕ
+radius_of d s = slice_index d.radii s
+
 -- a list of some of n members, with one distance for each of them
 pub record IsNearList (n : ℕ) (row : List Close) : Type 0 where
   pub below : All (λ (x : Close). x.member < n) row
   pub same : All (λ (x : Close). All (λ (y : Close). x.member ≡ y.member → x.far ≡ y.far) row) row
 
--- a radius and a list for each member
+-- a list for each member
 pub record AreNearLists (d : Table) : Type 0 where
-  pub radii : length d.radii ≡ d.size
-  pub small : All (λ r. r ≤ 2 ^ 49) d.radii
   pub lists : length d.near ≡ d.size
   pub each : All (IsNearList d.size) d.near
 
--- an even number of members, what their distances are taken from, and that these are a metric
+-- an even number of members, what their distances are taken from, that these are a metric, and radii which they do not
+-- exceed
 pub record IsTable (d : Table) : Type 0 where
   pub small : d.size ≤ 2048
   pub even : d.size % 2 ≡ 0
   pub full : d.is_full ≡ true → length d.rows ≡ d.size * d.size
   pub listed : d.is_full ≡ false → AreNearLists d
   pub metric : IsMetric d.size (dist_of d)
+  pub radii : length d.radii ≡ d.size
+  pub short : All (λ r. r ≤ 2 ^ 49) d.radii
+  pub within : (s t : ℕ) → s < d.size → t < d.size → dist_of d s t ≤ radius_of d s + radius_of d t
+
+-- those that are nearer to s than both radii, with their distances
+pub record AreAround (d : Table) (s : ℕ) (list : List Close) : Type 0 where
+  pub each : All (λ (x : Close). (x.member < d.size) × (x.far ≡ dist_of d s x.member)) list
+  pub all : (t : ℕ) → t < d.size → dist_of d s t < radius_of d s + radius_of d t →
+      (x : Close) × Contains list x × (x.member ≡ t)
+
+-- the same for each member
+pub record HasLists (d : Table) (lists : List (List Close)) : Type 0 where
+  pub count : length lists ≡ d.size
+  pub each : (s : ℕ) → s < d.size → AreAround d s (slice_index_or lists s [])

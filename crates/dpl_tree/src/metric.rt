@@ -2,7 +2,7 @@
 
 ghost use Rattle.std.specs.Prelude.{◌≡◌, ◌≢◌, ℕ, ◌+◌, ◌*◌, ◌^◌, ◌<◌, ◌≤◌, true, All, IfOk, IfSome, length, slice_index, slice_range};
 ghost use Rattle.dpl_tree.specs.declared.metric.Close.{Close};
-ghost use Rattle.dpl_tree.specs.Metrics.{Table, dist_of, far_in, IsNearList, IsTable, full_table, near_table};
+ghost use Rattle.dpl_tree.specs.Metrics.{Table, dist_of, radius_of, far_in, IsNearList, IsTable, AreAround, HasLists, full_table, near_table};
 
 use dpl_list::Grouped;
 use std::alloc::{AllocError, Global};
@@ -15,9 +15,10 @@ pub struct Close {
     pub far: u64,
 }
 
-/// Even distances between members, which obey the triangle rule. They stand in a table, or where few members are near
-/// each other, in a list for each member of those that are nearer to it than both radii; all others are as far as the
-/// radii together. No radius is less than `least`.
+/// Even distances between members, which obey the triangle rule. Each member has a radius, and no two are farther from
+/// each other than both radii. They stand in a table, or where few members are near each other, in a list for each member
+/// of those that are nearer to it than both radii; all others are as far as the radii together. Beside a table there are
+/// such lists as well. No radius is less than `least`.
 #[derive(Drop)]
 pub struct Metric {
     size: usize,
@@ -26,11 +27,12 @@ pub struct Metric {
     radii: Vec<u64>,
     least: u64,
     near: Grouped<Close>,
+    lists: Option<Grouped<Close>>,
 }
 
 impl Model for Metric {
-    ghost use Rattle.std.specs.Prelude.{◌≤◌, All};
-    ghost use Rattle.dpl_tree.specs.Metrics.{Table, IsTable};
+    ghost use Rattle.std.specs.Prelude.{◌≡◌, ◌≤◌, false, All, MatchOption};
+    ghost use Rattle.dpl_tree.specs.Metrics.{Table, IsTable, HasLists};
 
     ghost Value = { Table };
 
@@ -49,22 +51,37 @@ impl Model for Metric {
       radii = m.radii.items;
       near = m.near;
     })
-        × All (λ r. m.least ≤ r) m.radii.items };
+        × All (λ r. m.least ≤ r) m.radii.items
+        × MatchOption m.lists (m.is_full ≡ false) (λ lists. HasLists (record {
+      size = m.size;
+      is_full = m.is_full;
+      rows = m.rows.items;
+      radii = m.radii.items;
+      near = m.near;
+    }) lists) };
 }
 
 impl Metric {
-    /// The distances row by row.
-    pub fn new(alloc: Global, n: u32, rows: Vec<u64>) -> Result<Metric, AllocError>
-        requires { IsTable (full_table n rows.items) }
-        ensures { IfOk result (λ m. m ≡ full_table n rows.items) }
+    /// The distances row by row, and the radii. It costs the square of the number of members.
+    pub fn new(
+        alloc: Global,
+        n: u32,
+        rows: Vec<u64>,
+        radii: Vec<u64>,
+    ) -> Result<Metric, AllocError>
+        requires { IsTable (full_table n rows.items radii.items) }
+        ensures { IfOk result (λ m. m ≡ full_table n rows.items radii.items) }
     {
+        let lists = all_lists(alloc, n, &rows, &radii)?;
+        let near = Grouped::by_key(alloc, 0, &[], &[])?;
         Ok(Metric {
             size: n as usize,
             is_full: true,
             rows,
-            radii: Vec::new(alloc),
+            radii,
             least: 0,
-            near: Grouped::by_key(alloc, 0, &[], &[])?,
+            near,
+            lists: Some(lists),
         })
     }
 
@@ -80,6 +97,7 @@ impl Metric {
             least: least_of(&radii),
             radii,
             near,
+            lists: None,
         }
     }
 
@@ -102,16 +120,24 @@ impl Metric {
         part(&self.rows, s as usize * self.size, self.size)
     }
 
-    /// The row of a member, if all distances stand in rows.
-    pub fn row(&self, s: u32) -> Option<&[u64]>
+    /// The radius of a member.
+    pub fn radius(&self, s: u32) -> u64
         requires { s < self.now.size }
-        ensures { IfSome result (λ row. (length row.now ≡ self.now.size) ×
-            ((t : ℕ) → t < self.now.size → slice_index row.now t ≡ dist_of self.now s t)) }
+        ensures value { result ≡ radius_of self.now s }
+        ensures small { result ≤ 2 ^ 49 }
     {
-        if self.is_full {
-            return Some(self.full_row(s));
+        self.radii[s as usize]
+    }
+
+    /// Those that are nearer to a member than both radii, with their distances.
+    pub fn around(&self, s: u32) -> &[Close]
+        requires { s < self.now.size }
+        ensures { AreAround self.now s result.now }
+    {
+        match &self.lists {
+            Some(lists) => lists.row(s as usize),
+            None => self.near.row(s as usize),
         }
-        None
     }
 
     /// The distance of two members.
@@ -154,6 +180,54 @@ impl Metric {
         let most = amount.min(self.radii[s as usize] + self.least);
         least_far(self.near.row(s as usize), s, most)
     }
+}
+
+/// Those that are nearer to others than both radii, and for each of them the other one.
+#[derive(Drop)]
+struct Pairs {
+    from: Vec<u32>,
+    close: Vec<Close>,
+}
+
+/// Adds those that are nearer to member s than both radii, by the row of its distances.
+fn add_row(row: &[u64], radii: &[u64], s: u32, pairs: &mut Pairs) -> Result<(), AllocError>
+    requires count { length row.now ≡ length radii.now }
+    requires s { s < length radii.now }
+{
+    let radius = radii[s as usize];
+    for t in 0..row.len() {
+        let far = row[t];
+        if far < radius + radii[t] {
+            pairs.from.push(s)?;
+            pairs.close.push(Close {
+                member: t as u32,
+                far,
+            })?;
+        }
+    }
+    Ok(())
+}
+
+/// For each member those that are nearer to it than both radii.
+fn all_lists(
+    alloc: Global,
+    n: u32,
+    rows: &[u64],
+    radii: &[u64],
+) -> Result<Grouped<Close>, AllocError>
+    requires { IsTable (full_table n rows.now radii.now) }
+    ensures { IfOk result (λ lists. HasLists (full_table n rows.now radii.now) lists) }
+{
+    let mut pairs = Pairs {
+        from: Vec::new(alloc),
+        close: Vec::new(alloc),
+    };
+    let size = n as usize;
+    for s in 0..n {
+        let row = part(rows, s as usize * size, size);
+        add_row(row, radii, s, &mut pairs)?;
+    }
+    Grouped::by_key(alloc, n, &pairs.from, &pairs.close)
 }
 
 /// So many numbers of a list from a place on.
