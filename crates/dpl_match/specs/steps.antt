@@ -1,7 +1,7 @@
 -- The states of a stage, and of what stands before and after all stages.
 pub mod Going
 pub mod Nearest
-pub mod Others
+pub mod Outsiders
 pub mod Parted
 pub mod Scans
 pub mod Starting

@@ -1,9 +1,9 @@
 //! What a stage has beside the matching.
 
-ghost use Rattle.std.specs.Prelude.{◌≡◌, ℕ, ◌+◌, ◌*◌, ◌<◌, ◌≤◌, ◌^◌, false, replicate};
+ghost use Rattle.std.specs.Prelude.{◌≡◌, ℕ, ◌+◌, ◌*◌, ◌<◌, ◌≤◌, ◌^◌, false, replicate, slice_set};
 ghost use Rattle.std.specs.Prelude.{length, slice_index, IfOk};
 ghost use Rattle.dpl_match.specs.steps.Going.{IsStart};
-ghost use Rattle.dpl_match.specs.steps.Nearest.{is_known, key_in, kept_in, kept_of, nobody};
+ghost use Rattle.dpl_match.specs.steps.Nearest.{is_known, key_in, kept_in, kept_of, no_key, nobody};
 
 use dpl_tree::{Matching, Tree};
 use std::alloc::{AllocError, Global};
@@ -44,13 +44,17 @@ fn kept(near: Neighbour) -> Option<Neighbour>
 
 /// The outer members that were taken in, and for each member the nearest of them with another top.
 /// The origin is an outer member throughout the stage. A change of values adds as much to the sum over
-/// each outer member, so that keys stay as they are. The row is room for the distances of one member.
+/// each outer member, so that keys stay as they are. The row is room for the distances of one member. No key is more
+/// than the radius of its member and the ceiling. Of the members outside of the tree none before the front is reached by a
+/// pair without slack, so that a scan for these begins there.
 #[derive(Drop)]
 pub struct OuterTable {
     pub origin: u32,
     pub known: Vec<bool>,
     pub near: Vec<Neighbour>,
     pub row: Vec<u64>,
+    pub ceiling: u64,
+    pub front: u32,
 }
 
 impl OuterTable {
@@ -86,18 +90,35 @@ impl OuterTable {
     {
         kept(self.near[member as usize])
     }
+
+    /// Keeps another neighbour for a member.
+    pub fn keep(&mut self, member: u32, other: Neighbour)
+        requires { member < length self.old.near.items }
+        ensures near { self.new.near.items ≡ slice_set self.old.near.items member other }
+        ensures others { self.new ≡ record self.old { near = self.new.near; front = self.new.front } }
+    {
+        self.near[member as usize] = other;
+        self.front = self.front.min(member);
+    }
 }
 
-/// The tree of a stage, and the nearest outer members.
+/// The tree of a stage, the nearest outer members, and the single members without a mate, where the stage may end.
 #[derive(Drop)]
 pub struct Stage {
     pub tree: Tree,
     pub table: OuterTable,
+    pub alone: Vec<u32>,
 }
 
 impl Stage {
     /// The stage of n members that begins at the top set of one of them.
-    pub fn new(alloc: Global, root: u32, origin: u32, n: usize) -> Result<Stage, AllocError>
+    pub fn new(
+        alloc: Global,
+        root: u32,
+        origin: u32,
+        n: usize,
+        alone: Vec<u32>,
+    ) -> Result<Stage, AllocError>
         requires root { root < 2 * n }
         requires small { n ≤ 2048 }
         ensures tree { IfOk result (λ s. IsStart n root s.tree) }
@@ -105,6 +126,8 @@ impl Stage {
         ensures known { IfOk result (λ s. s.table.known.items ≡ replicate n false) }
         ensures near { IfOk result (λ s. s.table.near.items ≡ replicate n nobody) }
         ensures row { IfOk result (λ s. length s.table.row.items ≡ n) }
+        ensures ceiling { IfOk result (λ s. s.table.ceiling ≡ no_key) }
+        ensures alone { IfOk result (λ s. s.alone ≡ alone) }
     {
         let tree = Tree::new(alloc, root, 2 * n)?;
         let known = vec![in alloc; false; n]?;
@@ -117,7 +140,10 @@ impl Stage {
                 known,
                 near,
                 row,
+                ceiling: NOBODY.key,
+                front: 0,
             },
+            alone,
         })
     }
 }

@@ -1,0 +1,28 @@
+-- The known member outside of a top set that comes nearest to those that it is not near.
+use Rattle.std.specs.Prelude.{◌≡◌, ℕ, ◌+◌, ◌<◌, ◌≤◌, Bool, MatchOption, ⊤}
+use Rattle.dpl_tree.specs.Metrics.{Table, radius_of}
+use Rattle.dpl_match.specs.declared.renewing.Outsider.{Outsider}
+use Rattle.dpl_match.specs.declared.stage.Neighbour.{Neighbour}
+use Rattle.dpl_match.specs.declared.stage.OuterTable.{OuterTable}
+use Rattle.dpl_match.specs.steps.Nearest.{is_known, level_of, no_key, HasKey, IsOutside}
+use Rattle.dpl_match.specs.steps.Scans.{Members}
+
+-- of the known members below k outside of a top set one whose reach is least, if there is any: its radius and the level,
+-- less its total
+pub record IsLeastOutside (metric : Table) (m : Members) (level : ℕ) (known : ℕ → Bool) (x k : ℕ)
+    (one : Outsider) : Type 0 where
+  pub most : one.reach ≤ no_key
+  pub least : (s : ℕ) → s < k → IsOutside m known x s →
+      one.reach + m.total s ≤ radius_of metric s + level
+  pub some : one.reach < no_key →
+      IsOutside m known x one.member × (one.reach + m.total one.member ≡ radius_of metric one.member + level)
+
+-- such a member, once it was looked for
+abbrev pub IsOutsider : Table → Members → OuterTable → Outsider → Type 0
+IsOutsider metric m table one = MatchOption one.top ⊤
+    (λ x. IsLeastOutside metric m (level_of m table.origin) (is_known table.known.items) x m.count one)
+
+-- a known member outside of the top of t with its key, or none
+pub record IsFoundOutside (m : Members) (known : ℕ → Bool) (origin t : ℕ) (found : Neighbour) : Type 0 where
+  pub most : found.key ≤ no_key
+  pub some : found.key < no_key → IsOutside m known (m.sets.top t) found.member × HasKey m (level_of m origin) t found
