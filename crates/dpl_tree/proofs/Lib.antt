@@ -1,5 +1,6 @@
 pub mod Alike
 pub mod Alone
+pub mod AroundLemmas
 pub mod Climbing
 pub mod Counting
 pub mod Events

@@ -124,5 +124,5 @@ near_least d s t least e other each low = subst (λ (z : ℕ). least ≤ z) (sym
     (far_least (get_or d.near s []) t (get_or d.radii s 0 + get_or d.radii t 0) least low
     (λ k y hk ey. each k y hk (λ es. other (sym ey ∙ es))))
 
-pub radius_at : (d : Table) (t : ℕ) → IsTable d → d.is_full ≡ false → t < d.size → t < length d.radii
-radius_at d t table e h = omega (arith, h, (table.listed e).radii)
+pub radius_at : (d : Table) (t : ℕ) → IsTable d → t < d.size → t < length d.radii
+radius_at d t table h = omega (arith, h, table.radii)

@@ -1,3 +1,4 @@
+pub mod Around
 pub mod Mates
 pub mod Metrics
 pub mod Stages

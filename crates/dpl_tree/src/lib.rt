@@ -1,8 +1,8 @@
 //! The alternating tree of a perfect matching with blossoms, and its single steps.
 //!
-//! A `Metric` has the distances of an even number of members: all of them row by row, or a radius
-//! for each member and a list of what is near it, where any other one is as far as both radii
-//! together. A family of `dpl_laminar` stands over the members. A pair, a join or an edge of the
+//! A `Metric` has the distances of an even number of members, a radius for each, and lists of what
+//! is nearer to each than both radii: any other one is as far as these together. Where many are
+//! near each other, all distances stand row by row as well. A family of `dpl_laminar` stands over the members. A pair, a join or an edge of the
 //! tree is tight where its load equals its distance. Between two stages all pairs are tight and
 //! lead from one top of the family to another, and no load is more than its distance (`IsRest`).
 //! Within a stage there is a tree as well, whose tops are outer and inner by turns on each way

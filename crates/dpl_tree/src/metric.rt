@@ -1,8 +1,10 @@
 //! Distances.
 
-ghost use Rattle.std.specs.Prelude.{◌≡◌, ◌≢◌, ℕ, ◌+◌, ◌*◌, ◌^◌, ◌<◌, ◌≤◌, true, All, IfOk, IfSome, length, slice_index, slice_range};
+ghost use Rattle.std.specs.Prelude.{◌≡◌, ◌≢◌, ℕ, ◌+◌, ◌*◌, ◌^◌, ◌<◌, ◌≤◌, true, ◌++◌, ◌∷◌, [], All, IfOk, OnOk, IfSome, length, slice_index, slice_range};
+ghost use Rattle.dpl_list.specs.Rows.{AreKeyed};
 ghost use Rattle.dpl_tree.specs.declared.metric.Close.{Close};
 ghost use Rattle.dpl_tree.specs.Metrics.{Table, dist_of, radius_of, far_in, IsNearList, IsTable, AreAround, HasLists, full_table, near_table};
+ghost use Rattle.dpl_tree.specs.Around.{AreAdded};
 
 use dpl_list::Grouped;
 use std::alloc::{AllocError, Global};
@@ -53,22 +55,17 @@ impl Model for Metric {
     })
         × All (λ r. m.least ≤ r) m.radii.items
         × MatchOption m.lists (m.is_full ≡ false) (λ lists. HasLists (record {
-      size = m.size;
-      is_full = m.is_full;
-      rows = m.rows.items;
-      radii = m.radii.items;
-      near = m.near;
-    }) lists) };
+          size = m.size;
+          is_full = m.is_full;
+          rows = m.rows.items;
+          radii = m.radii.items;
+          near = m.near;
+        }) lists) };
 }
 
 impl Metric {
     /// The distances row by row, and the radii. It costs the square of the number of members.
-    pub fn new(
-        alloc: Global,
-        n: u32,
-        rows: Vec<u64>,
-        radii: Vec<u64>,
-    ) -> Result<Metric, AllocError>
+    pub fn new(alloc: Global, n: u32, rows: Vec<u64>, radii: Vec<u64>) -> Result<Metric, AllocError>
         requires { IsTable (full_table n rows.items radii.items) }
         ensures { IfOk result (λ m. m ≡ full_table n rows.items radii.items) }
     {
@@ -118,6 +115,18 @@ impl Metric {
             slice_index result.now t ≡ dist_of self.now s t }
     {
         part(&self.rows, s as usize * self.size, self.size)
+    }
+
+    /// The row of a member, if all distances stand in rows.
+    pub fn row(&self, s: u32) -> Option<&[u64]>
+        requires { s < self.now.size }
+        ensures { IfSome result (λ row. (length row.now ≡ self.now.size) ×
+            ((t : ℕ) → t < self.now.size → slice_index row.now t ≡ dist_of self.now s t)) }
+    {
+        if self.is_full {
+            return Some(self.full_row(s));
+        }
+        None
     }
 
     /// The radius of a member.
@@ -189,20 +198,37 @@ struct Pairs {
     close: Vec<Close>,
 }
 
+/// Adds a member that is near another one.
+fn add(pairs: &mut Pairs, from: u32, close: Close) -> Result<(), AllocError>
+    ensures from { OnOk result (pairs.new.from.items ≡ pairs.old.from.items ++ from ∷ []) }
+    ensures close { OnOk result (pairs.new.close.items ≡ pairs.old.close.items ++ close ∷ []) }
+{
+    pairs.from.push(from)?;
+    pairs.close.push(close)?;
+    Ok(())
+}
+
 /// Adds those that are nearer to member s than both radii, by the row of its distances.
 fn add_row(row: &[u64], radii: &[u64], s: u32, pairs: &mut Pairs) -> Result<(), AllocError>
     requires count { length row.now ≡ length radii.now }
-    requires s { s < length radii.now }
+    requires few { length radii.now ≤ 2048 }
+    requires short { All (λ r. r ≤ 2 ^ 49) radii.now }
+    requires member { s < length radii.now }
+    requires keyed { AreKeyed (length radii.now) pairs.old.from.items pairs.old.close.items }
+    ensures { OnOk result (AreAdded row.now radii.now s (length radii.now) pairs.old pairs.new) }
 {
     let radius = radii[s as usize];
     for t in 0..row.len() {
         let far = row[t];
         if far < radius + radii[t] {
-            pairs.from.push(s)?;
-            pairs.close.push(Close {
-                member: t as u32,
-                far,
-            })?;
+            add(
+                pairs,
+                s,
+                Close {
+                    member: t as u32,
+                    far,
+                },
+            )?;
         }
     }
     Ok(())
@@ -227,7 +253,8 @@ fn all_lists(
         let row = part(rows, s as usize * size, size);
         add_row(row, radii, s, &mut pairs)?;
     }
-    Grouped::by_key(alloc, n, &pairs.from, &pairs.close)
+    let lists = Grouped::by_key(alloc, n, &pairs.from, &pairs.close)?;
+    Ok(lists)
 }
 
 /// So many numbers of a list from a place on.

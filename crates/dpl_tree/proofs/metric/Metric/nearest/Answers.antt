@@ -10,8 +10,8 @@ returns-clause-each c = λ t h n.
     let radii = c.self.inside.radii.items in
     let s = c.args.s in
     let size = ap (λ (d : Table). d.size) c.self.view_is in
-    let here = radius_at _ s c.self.invariant.0 c.if-self.false (omega (arith, c.requires, size)) in
-    let there = radius_at _ t c.self.invariant.0 c.if-self.false (omega (arith, h, size)) in
+    let here = radius_at _ s c.self.invariant.0 (omega (arith, c.requires, size)) in
+    let there = radius_at _ t c.self.invariant.0 (omega (arith, h, size)) in
     let low : c.least_far.result ≤ get_or radii s 0 + get_or radii t 0 =
     omega (
       arith,

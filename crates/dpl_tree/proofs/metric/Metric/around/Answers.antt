@@ -1,0 +1,19 @@
+use Rattle.std.proofs.Common.{arith, sym, ap, subst}
+use Rattle.dpl_tree.specs.Metrics.{Table, AreAround}
+use Rattle.dpl_tree.proofs.AroundLemmas.{near_around}
+use Rattle.dpl_tree.proofs.metric.Metric.around.Goals as goal
+
+pub returns-in-Some : goal.returns-in-Some
+returns-in-Some c =
+    let size = ap (λ (d : Table). d.size) c.self.view_is in
+    let built = rw c.in-Some.is at c.self.invariant.2 in
+    subst (λ (d : Table). AreAround d c.args.s c.row.result.now) c.self.view_is
+    (subst (AreAround _ c.args.s) (sym c.row.ensures) (built.each c.args.s (omega (arith, c.requires, size))))
+
+pub returns-in-None : goal.returns-in-None
+returns-in-None c =
+    let size = ap (λ (d : Table). d.size) c.self.view_is in
+    let listed = rw c.in-None.is at c.self.invariant.2 in
+    subst (λ (d : Table). AreAround d c.args.s c.row-in-None.result.now) c.self.view_is
+    (subst (AreAround _ c.args.s) (sym c.row-in-None.ensures)
+    (near_around _ c.args.s c.self.invariant.0 listed (omega (arith, c.requires, size))))
