@@ -58,13 +58,7 @@ fn ceiling_of(metric: &Metric, table: &OuterTable) -> u64
 /// Compares an outer member with what is kept for each member, and lowers the ceiling. Its keys are its distances and
 /// this offset.
 #[inline(never)]
-fn compare_all(
-    metric: &Metric,
-    matching: &Matching,
-    table: &mut OuterTable,
-    s: u32,
-    offset: u64,
-)
+fn compare_all(metric: &Metric, matching: &Matching, table: &mut OuterTable, s: u32, offset: u64)
     requires size { (sets_of matching.now.family).size ≡ metric.now.size }
     requires table { HasPlaces metric.now table.old }
     requires s { s < metric.now.size }
@@ -87,13 +81,7 @@ fn compare_all(
 /// Compares an outer member with what is kept for those that it is near. The ceiling shows that it is nearer to no
 /// others.
 #[inline(never)]
-fn compare_around(
-    metric: &Metric,
-    matching: &Matching,
-    table: &mut OuterTable,
-    s: u32,
-    offset: u64,
-)
+fn compare_around(metric: &Metric, matching: &Matching, table: &mut OuterTable, s: u32, offset: u64)
     requires size { (sets_of matching.now.family).size ≡ metric.now.size }
     requires table { HasPlaces metric.now table.old }
     requires s { s < metric.now.size }
@@ -105,6 +93,7 @@ fn compare_around(
         compared (sets_of matching.now.family) t (kept_in table.old.near.items t)
         (neighbour_at (dist_of metric.now) s offset t) }
 {
+    let _size = metric.size();
     let list = metric.around(s);
     for i in 0..list.len() {
         let Close { member, far } = list[i];
@@ -115,13 +104,7 @@ fn compare_around(
 
 /// Compares an outer member with what is kept for each member. Its keys are its distances and this offset. Where its
 /// radius and the offset together are above the ceiling, it is nearer to none but those around it.
-pub fn compare(
-    metric: &Metric,
-    matching: &Matching,
-    table: &mut OuterTable,
-    s: u32,
-    offset: u64,
-)
+pub fn compare(metric: &Metric, matching: &Matching, table: &mut OuterTable, s: u32, offset: u64)
     requires size { (sets_of matching.now.family).size ≡ metric.now.size }
     requires table { HasPlaces metric.now table.old }
     requires s { s < metric.now.size }

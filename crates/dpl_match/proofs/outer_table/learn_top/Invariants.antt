@@ -8,7 +8,7 @@ use Rattle.dpl_match.proofs.outer_table.learn_top.Given as goal
 
 abbrev pub invariant-loop-s : goal.invariant-loop-s
 invariant-loop-s l = record {
-  table : HasPlaces l.metric.size l.table;
+  table : HasPlaces l.metric l.table;
   near : AreNear (members_of l.metric l.matching) (place_in l.tree.labels.items) l.table;
   taken : (m : ℕ) → m < l.s → (sets_of l.matching.family).top m ≡ l.top →
       place_in l.tree.labels.items ((sets_of l.matching.family).top m) ≡ outer → is_known l.table.known.items m ≡ true;
