@@ -1,5 +1,5 @@
 -- The members outside of a top set, and the nearest of them.
-use Rattle.std.proofs.Common.{arith, ◌≡◌, ℕ, ◌+◌, ◌-◌, ◌^◌, ◌<◌, ◌≤◌, ◌⊎◌, refl, sym, ap, ◌∙◌, subst, Bool, cond, inl, inr, eqb}
+use Rattle.std.proofs.Common.{arith, ◌≡◌, ℕ, ◌+◌, ◌-◌, ◌^◌, ◌<◌, ◌≤◌, ◌⊎◌, sym, ap, ◌∙◌, subst, Bool, cond, inl, inr, eqb}
 use Rattle.std.proofs.Common.{Option, Some, None, get_or}
 use Rattle.std.proofs.lemmas.Bool.{cases_lt, cases_Bool, eqb-true, eqb-false}
 use Rattle.std.proofs.lemmas.Option.{same_Some}
@@ -10,7 +10,7 @@ use Rattle.dpl_match.specs.steps.Nearest.{no_key, kept_of, member_of, level_of, 
 use Rattle.dpl_match.specs.steps.Nearest.{AreTotals, HasKey, IsMeasured, IsNear, IsApart, IsOutside}
 use Rattle.dpl_match.specs.steps.Outsiders.{IsLeastOutside, IsOutsider, IsFoundOutside}
 use Rattle.dpl_match.specs.steps.Scans.{Members, members_of}
-use Rattle.dpl_match.proofs.NearLemmas.{kept_full, stands_measured}
+use Rattle.dpl_match.proofs.NearLemmas.{stands_measured}
 use Rattle.dpl_tree.specs.declared.matching.Matching.{Matching}
 use Rattle.dpl_tree.specs.Metrics.{Table, IsMetric, IsTable, dist_of, radius_of}
 use Rattle.std.specs.Prelude.{MatchOption, ⊤}
@@ -131,7 +131,7 @@ found_reached metric matching known origin t x sum level best r one totals me ht
     let w : Neighbour = record { member = one.member; key = x + (level - sum) } in
     let p = least.some few in
     let key : HasKey m (level_of m origin) t w =
-        key_read metric matching t one.member x sum level origin totals me.metric ht p.0.below ho ex es el in
+    key_read metric matching t one.member x sum level origin totals me.metric ht p.0.below ho ex es el in
     let q = nearer_least best w r is in
     let far : dist_of metric t one.member ≤ radius_of metric t + radius_of metric one.member = me.within t one.member ht p.0.below in
     let le : w.key ≤ radius_of metric t + one.reach = omega (arith, far, p.1, ex, es, el) in

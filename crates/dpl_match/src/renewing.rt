@@ -58,12 +58,7 @@ fn lesser_outside(
 }
 
 /// The known member outside of a top set whose reach is least.
-fn least_outside(
-    metric: &Metric,
-    matching: &Matching,
-    table: &OuterTable,
-    top: u32,
-) -> Outsider
+fn least_outside(metric: &Metric, matching: &Matching, table: &OuterTable, top: u32) -> Outsider
     requires totals { AreTotals metric.now matching.now }
     requires table { HasPlaces metric.now table.now }
     ensures top { result.top ≡ Some top }

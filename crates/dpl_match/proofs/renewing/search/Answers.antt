@@ -1,4 +1,4 @@
-use Rattle.std.proofs.Common.{arith, ◌≡◌, ℕ, ◌+◌, ◌≤◌, Bool}
+use Rattle.std.proofs.Common.{arith, ℕ, ◌+◌, ◌≤◌, Bool}
 use Rattle.dpl_match.specs.steps.Nearest.{is_known}
 use Rattle.dpl_match.specs.steps.Scans.{members_of}
 use Rattle.dpl_match.proofs.OutsideLemmas.{none_nearer, found_near, found_measured, found_reached}

@@ -62,9 +62,9 @@ returns-clause-least c = λ s out near.
     let a = All-contains (λ (x : Close). (x.member < c.args.metric.now.size) × (x.far ≡ dist_of c.args.metric.now c.args.t x.member))
     list x c.around-list.ensures.each p.1 in
     let far : (get_or list k none).far ≡ dist_of c.args.metric.now c.args.t s =
-        ap (λ z. z.far) is ∙ a.1 ∙ ap (dist_of c.args.metric.now c.args.t) p.2 in
+    ap (λ z. z.far) is ∙ a.1 ∙ ap (dist_of c.args.metric.now c.args.t) p.2 in
     let outside : IsOutside v known c.tops-top.result (get_or list k none).member =
-        subst (λ z. IsOutside v known z (get_or list k none).member) (sym c.tops-top.ensures.value)
-        (subst (IsOutside v known (v.sets.top c.args.t)) (sym member) out) in
+    subst (λ z. IsOutside v known z (get_or list k none).member) (sym c.tops-top.ensures.value)
+    (subst (IsOutside v known (v.sets.top c.args.t)) (sym member) out) in
     let less = c.loop-i.invariant.close k (omega (arith, p.1.1, c.loop-i-test.false)) outside in
     omega (arith, less, far, ap (λ z. get_or c.args.matching.now.sums.items z 0) member, c.level-level.ensures)

@@ -1,6 +1,6 @@
-use Rattle.std.proofs.Common.{◌≡◌, ℕ, ◌+◌, ◌<◌, ◌≤◌, get_or}
+use Rattle.std.proofs.Common.{ℕ, ◌+◌, ◌<◌, ◌≤◌, get_or}
 use Rattle.dpl_tree.specs.declared.metric.Close.{Close}
-use Rattle.dpl_match.specs.steps.Nearest.{is_known, level_of, IsOutside}
+use Rattle.dpl_match.specs.steps.Nearest.{is_known, IsOutside}
 use Rattle.dpl_match.specs.steps.Outsiders.{IsFoundOutside}
 use Rattle.dpl_match.specs.steps.Scans.{members_of}
 use Rattle.dpl_match.proofs.renewing.search_around.Given as goal
