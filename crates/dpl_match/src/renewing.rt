@@ -4,7 +4,8 @@ ghost use Rattle.std.specs.Prelude.{◌≡◌, ◌≢◌, ℕ, ◌+◌, ◌<◌,
 ghost use Rattle.dpl_laminar.specs.Storing.{sets_of};
 ghost use Rattle.dpl_tree.specs.Metrics.{dist_of, radius_of};
 ghost use Rattle.dpl_match.specs.steps.Nearest.{is_known, near_in, kept_in, kept_of, member_of, level_of};
-ghost use Rattle.dpl_match.specs.steps.Nearest.{IsNear, IsMeasured, IsOutside, IsApart, HasPlaces, HasSameMembers, AreTotals};
+ghost use Rattle.dpl_match.specs.steps.Nearest.{IsNear, IsMeasured, IsOutside, IsApart};
+ghost use Rattle.dpl_match.specs.steps.Nearest.{HasPlaces, HasSameMembers, AreTotals};
 ghost use Rattle.dpl_match.specs.steps.Outsiders.{IsLeastOutside, IsOutsider, IsFoundOutside};
 ghost use Rattle.dpl_match.specs.steps.Scans.{members_of};
 
