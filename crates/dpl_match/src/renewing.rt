@@ -1,10 +1,11 @@
 //! The search for what is kept anew, where it has come into the same top.
 
-ghost use Rattle.std.specs.Prelude.{◌≡◌, ◌≢◌, ℕ, ◌+◌, ◌<◌, ◌≤◌, ◌⊎◌, Some, length, slice_index, slice_set};
+ghost use Rattle.std.specs.Prelude.{◌≡◌, ◌≢◌, ℕ, ◌+◌, ◌<◌, ◌≤◌, ◌^◌, ◌⊎◌, Some, length, slice_index, slice_set};
 ghost use Rattle.dpl_laminar.specs.Storing.{sets_of};
 ghost use Rattle.dpl_tree.specs.Metrics.{dist_of, radius_of};
 ghost use Rattle.dpl_match.specs.steps.Nearest.{is_known, near_in, kept_in, kept_of, member_of, level_of};
-ghost use Rattle.dpl_match.specs.steps.Nearest.{IsNear, IsMeasured, IsOutside, IsApart, HasPlaces, HasSameMembers, AreTotals};
+ghost use Rattle.dpl_match.specs.steps.Nearest.{IsNear, IsMeasured, IsOutside, IsApart};
+ghost use Rattle.dpl_match.specs.steps.Nearest.{HasPlaces, HasSameMembers, AreTotals};
 ghost use Rattle.dpl_match.specs.steps.Outsiders.{IsLeastOutside, IsOutsider, IsFoundOutside};
 ghost use Rattle.dpl_match.specs.steps.Scans.{members_of};
 
@@ -58,12 +59,7 @@ fn lesser_outside(
 }
 
 /// The known member outside of a top set whose reach is least.
-fn least_outside(
-    metric: &Metric,
-    matching: &Matching,
-    table: &OuterTable,
-    top: u32,
-) -> Outsider
+fn least_outside(metric: &Metric, matching: &Matching, table: &OuterTable, top: u32) -> Outsider
     requires totals { AreTotals metric.now matching.now }
     requires table { HasPlaces metric.now table.now }
     ensures top { result.top ≡ Some top }
@@ -114,6 +110,7 @@ fn nearer_around(
     requires table { HasPlaces metric.now table.now }
     requires level { level ≡ level_of (members_of metric.now matching.now) table.now.origin }
     requires member { close.member < metric.now.size }
+    requires far { close.far ≤ 2 ^ 50 }
     ensures less { result.key ≤ best.key }
     ensures one { (t : ℕ) → t < metric.now.size → top ≡ (sets_of matching.now.family).top t →
         close.far ≡ dist_of metric.now t close.member →
@@ -125,6 +122,7 @@ fn nearer_around(
         (is_known table.now.known.items) top close.member →
         result.key + slice_index matching.now.sums.items close.member ≤ close.far + level }
 {
+    let _size = metric.size();
     if matching.family.tops(close.member) == top {
         return best;
     }
@@ -154,6 +152,7 @@ fn search_around(metric: &Metric, matching: &Matching, table: &OuterTable, t: u3
         result.key + slice_index matching.now.sums.items s ≤ dist_of metric.now t s +
         level_of (members_of metric.now matching.now) table.now.origin }
 {
+    let _size = metric.size();
     let level = table.level(matching);
     let top = matching.family.tops(t);
     let list = metric.around(t);
@@ -185,6 +184,7 @@ fn search(
         (kept_of result) }
     ensures apart { IsApart (sets_of matching.now.family) t (member_of (kept_of result)) }
 {
+    let _size = metric.size();
     let best = search_around(metric, matching, table, t);
     let least = metric.radius(t) + outsider.reach;
     if best.key < least || NOBODY.key <= least {

@@ -18,20 +18,15 @@ loop-t-preserved c =
     let t : ℕ = c.loop-t.t in
     let known = c.loop-t.invariant in
     let next : OuterTable = c.renew_one.new.table in
-    let r = c.in_ok-renew_one.ensures in
+    let r = c.renew_one.ensures in
     record {
-      table = record {
-        origin_below = omega (arith, r.origin, known.table.origin_below);
-        known_count = ap (λ z. length z.items) r.known ∙ known.table.known_count;
-        near_count = r.count ∙ known.table.near_count;
-        row_count = ap (λ z. length z.items) r.row ∙ known.table.row_count;
-      };
-      near_outer = renewed v (place_in c.args.tree.now.labels.items) c.loop-t.table next t known.near_outer r.origin r.known r.near
-          r.measured r.rest;
-      all = rw r.known known.all;
+      table = r.table;
+      near_outer = renewed v (place_in c.args.tree.now.labels.items) c.loop-t.table next t known.near_outer r.rest.origin r.rest.known
+          (rw (sym r.rest.known) r.near) (rw (sym r.rest.origin) r.measured) r.others;
+      all = rw r.rest.known known.all;
       apart = λ k h. elim (cases_eq k t) [
         | inl e ↦ subst (λ z. IsApart v.sets z (near_in next.near.items z)) (sym e) r.apart
-        | inr ne ↦ subst (λ (z : Option Neighbour). IsApart v.sets k (member_of z)) (sym (r.rest k ne)) (known.apart k (omega (arith, h, ne)))
+        | inr ne ↦ subst (λ (z : Option Neighbour). IsApart v.sets k (member_of z)) (sym (r.others k ne)) (known.apart k (omega (arith, h, ne)))
       ];
-      others = rw r.known r.others;
+      outsider = r.outsider;
     }
