@@ -44,9 +44,9 @@ fn kept(near: Neighbour) -> Option<Neighbour>
 
 /// The outer members that were taken in, and for each member the nearest of them with another top.
 /// The origin is an outer member throughout the stage. A change of values adds as much to the sum over
-/// each outer member, so that keys stay as they are. The row is room for the distances of one member. No key is more
-/// than the radius of its member and the ceiling. Of the members outside of the tree none before the front is reached by a
-/// pair without slack, so that a scan for these begins there.
+/// each outer member, so that keys stay as they are. The row is room for the distances of one member.
+/// No key is more than the radius of its member and the ceiling. Of the members outside of the tree
+/// none before the front is reached by a pair without slack, so that a scan for these begins there.
 #[derive(Drop)]
 pub struct OuterTable {
     pub origin: u32,
