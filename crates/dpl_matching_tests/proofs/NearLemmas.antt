@@ -1,5 +1,5 @@
 -- Radii and lists that have the distances of a table.
-use Rattle.std.proofs.Common.{arith, refl, ◌≡◌, ℕ, ◌%◌, ◌<◌, ◌≤◌, ◌^◌, ◌∙◌, sym, List, All, length, take, subst}
+use Rattle.std.proofs.Common.{arith, refl, ◌≡◌, ℕ, ◌+◌, ◌%◌, ◌<◌, ◌≤◌, ◌∙◌, sym, List, All, length, slice_index, take, subst}
 use Rattle.std.proofs.lemmas.Bool.{true≢false}
 use Rattle.std.proofs.lemmas.List.{take_all}
 use Rattle.dpl_tree.specs.declared.metric.Close.{Close}
@@ -19,15 +19,18 @@ same_metric n f g same m = record {
   small = λ s t hs ht. omega (arith, m.small s t hs ht, same s t hs ht);
 }
 
-pub near_is_table : (rows radii : List ℕ) (near : List (List Close)) → IsTable (full_table (length radii) rows)
-    → length near ≡ length radii → All (λ r. r ≤ 2 ^ 49) radii → All (IsNearList (length radii)) near
+pub near_is_table : (rows radii : List ℕ) (near : List (List Close)) → IsTable (full_table (length radii) rows radii)
+    → length near ≡ length radii → All (IsNearList (length radii)) near
     → ((s t : ℕ) → s < length radii → t < length radii →
-    dist_of (full_table (length radii) rows) s t ≡ dist_of (near_table radii near) s t)
+    dist_of (full_table (length radii) rows radii) s t ≡ dist_of (near_table radii near) s t)
     → IsTable (near_table radii near)
-near_is_table rows radii near table size small each same = record {
+near_is_table rows radii near table size each same = record {
   small = table.small;
   even = table.even;
   full = λ e. absurd (true≢false (sym e));
-  listed = λ e. record { radii = refl; small = small; lists = size; each = each };
-  metric = same_metric (length radii) (dist_of (full_table (length radii) rows)) (dist_of (near_table radii near)) same table.metric;
+  listed = λ e. record { lists = size; each = each };
+  metric = same_metric (length radii) (dist_of (full_table (length radii) rows radii)) (dist_of (near_table radii near)) same table.metric;
+  radii = refl;
+  short = table.short;
+  within = λ s t hs ht. subst (λ z. z ≤ slice_index radii s + slice_index radii t) (same s t hs ht) (table.within s t hs ht);
 }

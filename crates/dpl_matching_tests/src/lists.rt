@@ -59,18 +59,6 @@ fn are_near_lists(near: &Grouped<Close>, n: usize) -> bool
     true
 }
 
-/// Whether no radius is too great.
-fn are_small(radii: &[u64]) -> bool
-    ensures { result ≡ true → All (λ r. r ≤ 2 ^ 49) radii.now }
-{
-    for s in 0..radii.len() {
-        if radii[s] > 562949953421312 {
-            return false;
-        }
-    }
-    true
-}
-
 /// How far a member is by a list, and otherwise so far.
 fn far_to(row: &[Close], member: u32, otherwise: u64) -> u64
     ensures { result ≡ far_in row.now member otherwise }
@@ -138,13 +126,10 @@ pub fn are_lists(rows: &[u64], radii: &[u64], near: &Grouped<Close>) -> bool
     ensures { result ≡ true → IsTable (near_table radii.now near.now) }
 {
     let n = radii.len();
-    if !is_table(rows, n) {
+    if !is_table(rows, radii, n) {
         return false;
     }
     if near.len() != n {
-        return false;
-    }
-    if !are_small(radii) {
         return false;
     }
     if !are_near_lists(near, n) {

@@ -107,6 +107,16 @@ fn least_sum(alloc: Global, rows: &[u64], n: u32) -> Result<u64, AllocError> {
     Ok(number(&least, bit(n).wrapping_sub(1)))
 }
 
+/// Half the greatest distance for each member, so that no two are farther from each other than both radii.
+fn radii_of(alloc: Global, n: u32, rows: &[u64]) -> Result<Vec<u64>, AllocError> {
+    let mut most = 0;
+    for i in 0..rows.len() {
+        most = most.max(rows[i]);
+    }
+    let radii = vec![in alloc; most / 2; n as usize]?;
+    Ok(radii)
+}
+
 /// Pairs the members of which these are the distances.
 fn mates_in<L: Ledger>(
     alloc: Global,
@@ -120,10 +130,11 @@ fn mates_in<L: Ledger>(
 {
     let (book, share) = blank.open::<L>();
     let mut steps = Steps::new(book, share);
-    if !is_table(&rows, n as usize) {
+    let radii = radii_of(alloc, n, &rows)?;
+    if !is_table(&rows, &radii, n as usize) {
         return Err("no distances")?;
     }
-    let metric = Metric::new(alloc, n, rows)?;
+    let metric = Metric::new(alloc, n, rows, radii)?;
     let Matched { mate, .. } = solve(alloc, &metric, &mut steps)?;
     Ok(mate)
 }
@@ -213,7 +224,8 @@ fn by_trying_all(rt: HostRuntime) -> Result<(), Fail> {
 #[test]
 fn alone_512(rt: HostRuntime) -> Result<(), AllocError> {
     let rows = scattered(rt.alloc(), 512, 7, 300)?;
-    assert!(&rt; is_table(&rows, 512));
+    let radii = radii_of(rt.alloc(), 512, &rows)?;
+    assert!(&rt; is_table(&rows, &radii, 512));
     Ok(())
 }
 
@@ -221,7 +233,8 @@ fn alone_512(rt: HostRuntime) -> Result<(), AllocError> {
 #[test]
 fn alone_1024(rt: HostRuntime) -> Result<(), AllocError> {
     let rows = scattered(rt.alloc(), 1024, 7, 1000)?;
-    assert!(&rt; is_table(&rows, 1024));
+    let radii = radii_of(rt.alloc(), 1024, &rows)?;
+    assert!(&rt; is_table(&rows, &radii, 1024));
     Ok(())
 }
 

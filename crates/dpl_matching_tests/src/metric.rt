@@ -1,4 +1,5 @@
 ghost use Rattle.std.specs.Prelude.{◌≡◌, ◌<◌, All, OnOk, length};
+ghost use Rattle.dpl_tree.specs.declared.metric.Close.{Close};
 
 use crate::lists::are_lists;
 use crate::tables::is_table;
@@ -61,7 +62,7 @@ fn add_near(found: &mut Found, radii: &[u64], n: u32, s: u32, t: u32) -> Result<
     ensures below { OnOk result (All (λ x. x < n) found.new.from.items) }
 {
     let far = far_on_line(s, t);
-    if far_between(radii, s, t) != far {
+    if radius(radii, s).saturating_add(radius(radii, t)) <= far {
         return Ok(());
     }
     found.from.push(s)?;
@@ -81,6 +82,30 @@ fn near_of(alloc: Global, n: u32, radii: &[u64]) -> Result<Grouped<Close>, Alloc
         }
     }
     Grouped::by_key(alloc, n, &found.from, &found.close)
+}
+
+/// Compares the entries of a list with the distances of a member, which are less than both radii.
+fn compare_list<R: Abort>(rt: &R, list: &[Close], metric: &Metric, s: u32)
+    requires s { s < metric.now.size }
+    requires members { All (λ (x : Close). x.member < metric.now.size) list.now }
+{
+    for i in 0..list.len() {
+        let Close { member, far } = list[i];
+        assert_eq!(rt; metric.dist(s, member), far);
+        assert!(rt; far < metric.radius(s) + metric.radius(member));
+    }
+}
+
+/// Two forms of the same distances list the same for a member.
+fn compare_around<R: Abort>(rt: &R, table: &Metric, lists: &Metric, s: u32)
+    requires same { lists.now.size ≡ table.now.size }
+    requires s { s < table.now.size }
+{
+    let one = table.around(s);
+    let other = lists.around(s);
+    assert_eq!(rt; one.len(), other.len());
+    compare_list(rt, one, lists, s);
+    compare_list(rt, other, table, s);
 }
 
 /// Two forms of the same distances say the same of a member.
@@ -105,6 +130,8 @@ fn compare_member<R: Abort>(
     for t in 0..table.size() {
         assert_eq!(rt; table.dist(s, t as u32), lists.dist(s, t as u32));
     }
+    assert_eq!(rt; table.radius(s), lists.radius(s));
+    compare_around(rt, table, lists, s);
 }
 
 fn compare_all<R: Abort>(rt: &R, table: &Metric, lists: &Metric, one: &mut [u64], other: &mut [u64])
@@ -122,7 +149,8 @@ fn compare_line<R: Abort>(rt: &R, alloc: Global, n: u32) -> Result<(), Fail> {
     let radii = radii_of(alloc, n)?;
     let rows = rows_of(alloc, n, &radii)?;
     let near = near_of(alloc, n, &radii)?;
-    if !is_table(&rows, n as usize) {
+    let copied = Vec::from_slice(alloc, &radii)?;
+    if !is_table(&rows, &copied, n as usize) {
         return Err("no distances")?;
     }
     if !are_lists(&rows, &radii, &near) {
@@ -131,7 +159,7 @@ fn compare_line<R: Abort>(rt: &R, alloc: Global, n: u32) -> Result<(), Fail> {
     if radii.len() != n as usize {
         return Err("other radii")?;
     }
-    let table = Metric::new(alloc, n, rows)?;
+    let table = Metric::new(alloc, n, rows, copied)?;
     let lists = Metric::near(alloc, radii, near);
     let mut one = vec![in alloc; 0; n as usize]?;
     let mut other = vec![in alloc; 0; n as usize]?;

@@ -1,7 +1,7 @@
-//! Whether rows of numbers are distances.
+//! Whether rows of numbers are distances, which radii do not fall short of.
 
-ghost use Rattle.std.specs.Prelude.{◌≡◌, ℕ, ◌*◌, ◌<◌, ◌≤◌, true, length};
-ghost use Rattle.dpl_matching_tests.specs.Checks.{table_dist, IsFair, IsStraight};
+ghost use Rattle.std.specs.Prelude.{◌≡◌, ℕ, ◌*◌, ◌^◌, ◌<◌, ◌≤◌, true, All, length};
+ghost use Rattle.dpl_matching_tests.specs.Checks.{table_dist, IsFair, IsStraight, IsWithin};
 ghost use Rattle.dpl_tree.specs.Metrics.{IsTable, full_table};
 
 /// One distance.
@@ -117,9 +117,68 @@ fn are_rows_straight(rows: &[u64], n: usize) -> bool
     true
 }
 
-/// Whether these rows are distances.
-pub fn is_table(rows: &[u64], n: usize) -> bool
-    ensures { result ≡ true → IsTable (full_table n rows.now) }
+/// Whether no radius is too great.
+fn are_small(radii: &[u64]) -> bool
+    ensures { result ≡ true → All (λ r. r ≤ 2 ^ 49) radii.now }
+{
+    for s in 0..radii.len() {
+        if radii[s] > 562949953421312 {
+            return false;
+        }
+    }
+    true
+}
+
+/// Whether two are no farther from each other than both radii.
+fn is_within(rows: &[u64], radii: &[u64], n: usize, s: usize, t: usize) -> bool
+    requires small { n ≤ 2048 }
+    requires count { length rows.now ≡ n * n }
+    requires radii { length radii.now ≡ n }
+    requires short { All (λ r. r ≤ 2 ^ 49) radii.now }
+    requires s { s < n }
+    requires t { t < n }
+    ensures { result ≡ true → IsWithin (table_dist n rows.now) radii.now s t }
+{
+    at(rows, n, s, t) <= radii[s] + radii[t]
+}
+
+/// The same of one and any other.
+fn is_row_within(rows: &[u64], radii: &[u64], n: usize, s: usize) -> bool
+    requires small { n ≤ 2048 }
+    requires count { length rows.now ≡ n * n }
+    requires radii { length radii.now ≡ n }
+    requires short { All (λ r. r ≤ 2 ^ 49) radii.now }
+    requires s { s < n }
+    ensures { result ≡ true → (t : ℕ) → t < n → IsWithin (table_dist n rows.now) radii.now s t }
+{
+    for t in 0..n {
+        if !is_within(rows, radii, n, s, t) {
+            return false;
+        }
+    }
+    true
+}
+
+/// The same of any two.
+fn are_rows_within(rows: &[u64], radii: &[u64], n: usize) -> bool
+    requires small { n ≤ 2048 }
+    requires count { length rows.now ≡ n * n }
+    requires radii { length radii.now ≡ n }
+    requires short { All (λ r. r ≤ 2 ^ 49) radii.now }
+    ensures { result ≡ true → (s t : ℕ) → s < n → t < n →
+        IsWithin (table_dist n rows.now) radii.now s t }
+{
+    for s in 0..n {
+        if !is_row_within(rows, radii, n, s) {
+            return false;
+        }
+    }
+    true
+}
+
+/// Whether these rows are distances, and no two members are farther from each other than both radii.
+pub fn is_table(rows: &[u64], radii: &[u64], n: usize) -> bool
+    ensures { result ≡ true → IsTable (full_table n rows.now radii.now) }
 {
     if n > 2048 {
         return false;
@@ -128,6 +187,15 @@ pub fn is_table(rows: &[u64], n: usize) -> bool
         return false;
     }
     if rows.len() != n * n {
+        return false;
+    }
+    if radii.len() != n {
+        return false;
+    }
+    if !are_small(radii) {
+        return false;
+    }
+    if !are_rows_within(rows, radii, n) {
         return false;
     }
     if !are_rows_fair(rows, n) {

@@ -381,10 +381,10 @@ apart_by ways terminals radius s u row f all = elim (far_cases row u (radius s +
 ]
 
 pub found_rows : (ways : List Cross) (terminals radii : List ℕ) (found : Found) (near : List (List Close))
-    → length radii ≡ length terminals → ((k : ℕ) → k < length radii → slice_index radii k ≤ 2 ^ 49)
+    → length radii ≡ length terminals
     → near ≡ rows_by found.from.items found.close.items (length radii)
     → AreFound ways terminals (slice_index radii) (length radii) found → AreNearRows ways terminals radii near
-found_rows ways terminals radii found near size small e w =
+found_rows ways terminals radii found near size e w =
     let n = length radii in
     let radius : ℕ → ℕ = slice_index radii in
     let keys : List ℕ = found.from.items in
@@ -394,8 +394,6 @@ found_rows ways terminals radii found near size small e w =
     ap (λ (z : List (List Close)). slice_index_or z s []) e ∙ rows_by_at keys items n s h in
     record {
       lists = record {
-        radii = refl;
-        small = λ k d l. omega (arith, get_or_default radii k d 0 l, small k l);
         lists = count;
         each = λ k d l.
             let h : k < n = omega (arith, l, count) in

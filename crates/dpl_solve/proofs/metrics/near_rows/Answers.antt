@@ -11,5 +11,5 @@ find_all-requires-clause-noted c = rw c.as_slice.ensures.value (c.in_ok-note_all
 
 pub returns : goal.returns
 returns c =
-    found_rows c.args.dual.now.crosses c.args.terminals.now c.args.radii.now c.find_all.new.found c.in_ok-near.near c.requires.sizes c.requires.small
+    found_rows c.args.dual.now.crosses c.args.terminals.now c.args.radii.now c.find_all.new.found c.in_ok-near.near c.requires.sizes
     (rw (c.deref.ensures.value, c.deref-2.ensures.value) at c.in_ok-near.ensures) (c.in_ok-few.ensures c.if-not-few.false)

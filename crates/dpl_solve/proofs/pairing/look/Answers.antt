@@ -1,7 +1,7 @@
-use Rattle.std.proofs.Common.{◌≡◌, ◌∙◌, ℕ, List, sym, subst}
+use Rattle.std.proofs.Common.{◌≡◌, ◌∙◌, ℕ, List, length, sym, subst}
 use Rattle.dpl_map.specs.Views.{view_of}
 use Rattle.dpl_map.proofs.ViewLemmas.{map_of}
-use Rattle.dpl_tree.specs.Metrics.{IsTable, near_table}
+use Rattle.dpl_tree.specs.Metrics.{IsTable, full_table, near_table}
 use Rattle.dpl_solve.specs.Metrics.{AreNearRows}
 use Rattle.dpl_solve.proofs.EvenLemmas.{even_terminals}
 use Rattle.dpl_solve.proofs.MetricLemmas.{rows_table, near_rows_table}
@@ -25,8 +25,12 @@ new-requires c =
     let even = even_terminals c.args.drawn.now.graph.now (view_of c.args.drawn.now.map.now)
     (map_of c.args.drawn.now.graph.now c.args.drawn.now.map.now c.requires.drawn.map) c.args.drawn.now.dual.now c.requires.drawn.dual c.args.terminals.now
     c.requires.terminals in
-    rows_table c.args.drawn.now.graph.now (view_of c.args.drawn.now.map.now) c.args.drawn.now.dual.now c.requires.drawn.dual c.args.sight.now.margin
-    c.args.terminals.now _ _ c.requires.few even c.in_ok-radii.ensures.radii (rw c.deref-in-None.ensures.value at c.in_ok-rows-in-None.ensures)
+    let copied : c.in_ok-copied-in-None.copied.items ≡ c.in_ok-radii.radii.items =
+    c.in_ok-copied-in-None.ensures.items ∙ c.deref-in-None-2.ensures.value in
+    subst (λ (z : List ℕ). IsTable (full_table (length c.args.terminals.now) c.in_ok-rows-in-None.rows.items z)) (sym copied)
+    (rows_table c.args.drawn.now.graph.now (view_of c.args.drawn.now.map.now) c.args.drawn.now.dual.now c.requires.drawn.dual c.args.sight.now.margin
+    c.args.terminals.now _ _ c.requires.few even c.in_ok-radii.ensures.count c.in_ok-radii.ensures.radii
+    (rw c.deref-in-None.ensures.value at c.in_ok-rows-in-None.ensures))
 
 pub returns-in_ok-metric-in-None-clause-each : goal.returns-in_ok-metric-in-None-clause-each
 returns-in_ok-metric-in-None-clause-each c =
