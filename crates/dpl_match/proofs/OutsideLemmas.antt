@@ -8,7 +8,7 @@ use Rattle.dpl_match.specs.declared.stage.Neighbour.{Neighbour}
 use Rattle.dpl_match.specs.declared.stage.OuterTable.{OuterTable}
 use Rattle.dpl_match.specs.steps.Nearest.{no_key, kept_of, member_of, level_of, is_known}
 use Rattle.dpl_match.specs.steps.Nearest.{AreTotals, HasKey, IsMeasured, IsNear, IsApart, IsOutside}
-use Rattle.dpl_match.specs.steps.Outsiders.{IsLeastOutside, IsOutsider, IsFoundOutside}
+use Rattle.dpl_match.specs.steps.Outsiders.{IsLeastOutside, IsOutsider, IsFoundOutside, AreNoNearer}
 use Rattle.dpl_match.specs.steps.Scans.{Members, members_of}
 use Rattle.dpl_match.proofs.NearLemmas.{stands_measured}
 use Rattle.dpl_tree.specs.declared.matching.Matching.{Matching}
@@ -41,10 +41,6 @@ found_nearer m known origin t a w r h out key one = elim one [
   | inl p ↦ subst (IsFoundOutside m known origin t) (sym p.0) h
   | inr p ↦ subst (IsFoundOutside m known origin t) (sym p.0) (record { most = omega (arith, key.2); some = λ l. (out, key) })
 ]
-
--- no member outside has a key below that of what was found
-abbrev pub AreNoNearer : Members → (ℕ → Bool) → ℕ → ℕ → ℕ → Type 0
-AreNoNearer m known origin t key = (s : ℕ) → IsOutside m known (m.sets.top t) s → key + m.total s ≤ m.dist s t + level_of m origin
 
 -- those around t have no less key, nor have others, which are as far as the radii or farther
 pub none_nearer : (metric : Table) (matching : Matching) (known : ℕ → Bool) (origin t : ℕ) (best key : ℕ) (one : Outsider)
@@ -136,3 +132,9 @@ found_reached metric matching known origin t x sum level best r one totals me ht
     let far : dist_of metric t one.member ≤ radius_of metric t + radius_of metric one.member = me.within t one.member ht p.0.below in
     let le : w.key ≤ radius_of metric t + one.reach = omega (arith, far, p.1, ex, es, el) in
     (found_nearer m known origin t best w r found p.0 key is, q.0, omega (arith, q.1, le))
+
+-- no member outside is nearer than what was kept, whatever top that has now
+pub none_below : (m : Members) (known : ℕ → Bool) (origin t key : ℕ) (w : Neighbour) → IsNear m known t m.count (Some w.member)
+    → HasKey m (level_of m origin) t w → key ≤ w.key → AreNoNearer m known origin t key
+none_below m known origin t key w near has le s out =
+    omega (arith, near.least s out.below out.listed out.apart, has.1, le)

@@ -6,7 +6,7 @@ ghost use Rattle.dpl_tree.specs.Metrics.{dist_of, radius_of};
 ghost use Rattle.dpl_match.specs.steps.Nearest.{is_known, near_in, kept_in, kept_of, member_of, level_of};
 ghost use Rattle.dpl_match.specs.steps.Nearest.{IsNear, IsMeasured, IsOutside, IsApart};
 ghost use Rattle.dpl_match.specs.steps.Nearest.{HasPlaces, HasSameMembers, AreTotals};
-ghost use Rattle.dpl_match.specs.steps.Outsiders.{IsLeastOutside, IsOutsider, IsFoundOutside};
+ghost use Rattle.dpl_match.specs.steps.Outsiders.{IsLeastOutside, IsOutsider, IsFoundOutside, AreNoNearer};
 ghost use Rattle.dpl_match.specs.steps.Scans.{members_of};
 
 use super::stage::{NOBODY, Neighbour, OuterTable};
@@ -139,11 +139,20 @@ fn nearer_around(
     )
 }
 
-/// The nearest to t of the known members around it that have another top.
-fn search_around(metric: &Metric, matching: &Matching, table: &OuterTable, t: u32) -> Neighbour
+/// The nearest to t of the known members around it that have another top, where no known member that has one has a key
+/// below the least one, so that the first that has no greater one ends the search.
+fn search_around(
+    metric: &Metric,
+    matching: &Matching,
+    table: &OuterTable,
+    t: u32,
+    least: u64,
+) -> Neighbour
     requires totals { AreTotals metric.now matching.now }
     requires table { HasPlaces metric.now table.now }
     requires t { t < metric.now.size }
+    requires least { AreNoNearer (members_of metric.now matching.now) (is_known table.now.known.items)
+        table.now.origin t least }
     ensures found { IsFoundOutside (members_of metric.now matching.now) (is_known table.now.known.items)
         table.now.origin t result }
     ensures least { (s : ℕ) → IsOutside (members_of metric.now matching.now)
@@ -159,17 +168,22 @@ fn search_around(metric: &Metric, matching: &Matching, table: &OuterTable, t: u3
     let mut best = NOBODY;
     for i in 0..list.len() {
         best = nearer_around(metric, matching, table, top, level, best, list[i]);
+        if best.key <= least {
+            return best;
+        }
     }
     best
 }
 
-/// The nearest to t of all known members that have another top: one of those around it, or that whose reach is least.
+/// The nearest to t of all known members that have another top, where none of them has a key below the least one: one of
+/// those around it, or that whose reach is least.
 fn search(
     metric: &Metric,
     matching: &Matching,
     table: &OuterTable,
     outsider: &Outsider,
     t: u32,
+    least: u64,
 ) -> Neighbour
     requires totals { AreTotals metric.now matching.now }
     requires table { HasPlaces metric.now table.now }
@@ -178,6 +192,8 @@ fn search(
         (level_of (members_of metric.now matching.now) table.now.origin)
         (is_known table.now.known.items) ((sets_of matching.now.family).top t) metric.now.size
         outsider.now }
+    requires least { AreNoNearer (members_of metric.now matching.now) (is_known table.now.known.items)
+        table.now.origin t least }
     ensures near { IsNear (members_of metric.now matching.now) (is_known table.now.known.items) t
         metric.now.size (member_of (kept_of result)) }
     ensures measured { IsMeasured (members_of metric.now matching.now) table.now.origin t
@@ -185,9 +201,9 @@ fn search(
     ensures apart { IsApart (sets_of matching.now.family) t (member_of (kept_of result)) }
 {
     let _size = metric.size();
-    let best = search_around(metric, matching, table, t);
-    let least = metric.radius(t) + outsider.reach;
-    if best.key < least || NOBODY.key <= least {
+    let best = search_around(metric, matching, table, t, least);
+    let reach = metric.radius(t) + outsider.reach;
+    if best.key < reach || NOBODY.key <= reach {
         return best;
     }
     let member = outsider.member;
@@ -229,6 +245,18 @@ fn keep_anew(metric: &Metric, table: &mut OuterTable, t: u32, found: Neighbour)
     table.near[t as usize] = found;
 }
 
+/// A key below which none that is found anew lies: that of what was kept. Where distances stand in no table, the lists
+/// around members are in no order, and of equally near ones the first is not sought by it.
+fn least_key(metric: &Metric, near: Neighbour, t: u32) -> u64
+    requires { t < metric.now.size }
+    ensures { result ≤ near.key }
+{
+    match metric.row(t) {
+        Some(_) => near.key,
+        None => 0,
+    }
+}
+
 /// Looks again for what is kept for t where that has come into the same top.
 pub fn renew_one(
     metric: &Metric,
@@ -263,7 +291,8 @@ pub fn renew_one(
                 return;
             }
             turn_to(metric, matching, table, outsider, top);
-            let found = search(metric, matching, table, outsider, t);
+            let least = least_key(metric, near, t);
+            let found = search(metric, matching, table, outsider, t, least);
             keep_anew(metric, table, t, found);
         }
         None => {}

@@ -26,3 +26,8 @@ IsOutsider metric m table one = MatchOption one.top ⊤
 pub record IsFoundOutside (m : Members) (known : ℕ → Bool) (origin t : ℕ) (found : Neighbour) : Type 0 where
   pub most : found.key ≤ no_key
   pub some : found.key < no_key → IsOutside m known (m.sets.top t) found.member × HasKey m (level_of m origin) t found
+
+-- no known member outside of the top of t has a key for it below this one
+abbrev pub AreNoNearer : Members → (ℕ → Bool) → ℕ → ℕ → ℕ → Type 0
+AreNoNearer m known origin t key = (s : ℕ) → IsOutside m known (m.sets.top t) s →
+    key + m.total s ≤ m.dist s t + level_of m origin
