@@ -1,19 +1,56 @@
 -- The members outside of a top set, and the nearest of them.
 use Rattle.std.proofs.Common.{arith, ◌≡◌, ℕ, ◌+◌, ◌-◌, ◌^◌, ◌<◌, ◌≤◌, ◌⊎◌, sym, ap, ◌∙◌, subst, Bool, cond, inl, inr, eqb}
-use Rattle.std.proofs.Common.{Option, Some, None, get_or}
-use Rattle.std.proofs.lemmas.Bool.{cases_lt, cases_Bool, eqb-true, eqb-false}
+use Rattle.std.proofs.Common.{Some, None, List, length, get_or, ◌++◌, ◌∷◌, [], length-append}
+use Rattle.std.proofs.lemmas.Bool.{cases_eq, cases_lt, cases_Bool, eqb-true, eqb-false}
+use Rattle.std.proofs.lemmas.List.{get_or_append_left, get_or-append-add}
 use Rattle.std.proofs.lemmas.Option.{same_Some}
 use Rattle.dpl_match.specs.declared.renewing.Outsider.{Outsider}
 use Rattle.dpl_match.specs.declared.stage.Neighbour.{Neighbour}
-use Rattle.dpl_match.specs.declared.stage.OuterTable.{OuterTable}
-use Rattle.dpl_match.specs.steps.Nearest.{no_key, kept_of, member_of, level_of, is_known}
-use Rattle.dpl_match.specs.steps.Nearest.{AreTotals, HasKey, IsMeasured, IsNear, IsApart, IsOutside}
-use Rattle.dpl_match.specs.steps.Outsiders.{IsLeastOutside, IsOutsider, IsFoundOutside, AreNoNearer}
+use Rattle.dpl_match.specs.steps.Nearest.{no_key, kept_of, member_of, level_of}
+use Rattle.dpl_match.specs.steps.Nearest.{AreTotals, HasKey, IsMeasured, IsNear, IsApart, IsOutside, AreOutside}
+use Rattle.dpl_match.specs.steps.Outsiders.{IsLeastOutside, IsFoundOutside, AreNoNearer}
 use Rattle.dpl_match.specs.steps.Scans.{Members, members_of}
 use Rattle.dpl_match.proofs.NearLemmas.{stands_measured}
 use Rattle.dpl_tree.specs.declared.matching.Matching.{Matching}
 use Rattle.dpl_tree.specs.Metrics.{Table, IsMetric, IsTable, dist_of, radius_of}
-use Rattle.std.specs.Prelude.{MatchOption, ⊤}
+
+-- ---- the list
+
+-- no member is below the first
+pub outside_none : (m : Members) (known : ℕ → Bool) (x : ℕ) → AreOutside m known x 0 []
+outside_none m known x = record { each = λ j h. absurd (omega arith); all = λ s h o. absurd (omega arith) }
+
+-- a member that is not listed or lies inside changes nothing
+pub outside_passed : (m : Members) (known : ℕ → Bool) (x k : ℕ) (list : List ℕ)
+    → (IsOutside m known x k → ⊥) → AreOutside m known x k list → AreOutside m known x (k + 1) list
+outside_passed m known x k list none h = record {
+  each = h.each;
+  all = λ s l o. elim (cases_eq s k) [
+    | inl e ↦ absurd (none (subst (IsOutside m known x) e o))
+    | inr ne ↦ h.all s (omega (arith, l, ne)) o
+  ];
+}
+
+-- the last item
+at_end : (list : List ℕ) (s : ℕ) → get_or (list ++ s ∷ []) (length list) 0 ≡ s
+at_end list s = ap (λ z. get_or (list ++ s ∷ []) z 0) (omega arith) ∙ get_or-append-add list (s ∷ []) 0 0
+
+pub outside_taken : (m : Members) (known : ℕ → Bool) (x k : ℕ) (list : List ℕ)
+    → IsOutside m known x k → AreOutside m known x k list → AreOutside m known x (k + 1) (list ++ k ∷ [])
+outside_taken m known x k list out h = record {
+  each = λ j l. elim (cases_lt j (length list)) [
+    | inl g ↦ subst (IsOutside m known x) (sym (get_or_append_left list (k ∷ []) 0 j g)) (h.each j g)
+    | inr g ↦ (let e : j ≡ length list = omega (arith, l, g, length-append list (k ∷ [])) in
+        subst (IsOutside m known x) (sym (ap (λ z. get_or (list ++ k ∷ []) z 0) e ∙ at_end list k)) out)
+  ];
+  all = λ s l o. elim (cases_eq s k) [
+    | inl e ↦ (length list, omega (arith, length-append list (k ∷ [])), at_end list k ∙ sym e)
+    | inr ne ↦ (let p = h.all s (omega (arith, l, ne)) o in
+        (p.0, omega (arith, p.1, length-append list (k ∷ [])), get_or_append_left list (k ∷ []) 0 p.0 p.1 ∙ p.2))
+  ];
+}
+
+-- ---- the nearest of it
 
 -- a member with its key, where its distance was read from t
 pub key_read : (metric : Table) (matching : Matching) (t s x sum level origin : ℕ) → AreTotals metric matching
@@ -99,13 +136,6 @@ found_apart m known origin t w h = elim (cases_Bool (eqb w.key no_key)) [
       λ a e z. p.0.apart (ap m.sets.top (same_Some w.member a e) ∙ z))
 ]
 
--- the outsider that was looked for last
-pub outsider_for : (metric : Table) (m : Members) (table : OuterTable) (one : Outsider) (x : ℕ) → IsOutsider metric m table one
-    → one.top ≡ Some x
-    → IsLeastOutside metric m (level_of m table.origin) (is_known table.known.items) x m.count one
-outsider_for metric m table one x h e = subst (λ (o : Option ℕ). MatchOption o ⊤
-    (λ y. IsLeastOutside metric m (level_of m table.origin) (is_known table.known.items) y m.count one)) e h
-
 -- the nearer one of two is no farther than either
 nearer_least : (a w r : Neighbour) → IsNearerOf a w r → (r.key ≤ a.key) × (r.key ≤ w.key)
 nearer_least a w r one = elim one [
@@ -138,3 +168,28 @@ pub none_below : (m : Members) (known : ℕ → Bool) (origin t key : ℕ) (w : 
     → HasKey m (level_of m origin) t w → key ≤ w.key → AreNoNearer m known origin t key
 none_below m known origin t key w near has le s out =
     omega (arith, near.least s out.below out.listed out.apart, has.1, le)
+
+-- no member outside has a key below one that none of the list goes below
+pub none_listed : (m : Members) (known : ℕ → Bool) (origin t key : ℕ) (list : List ℕ)
+    → AreOutside m known (m.sets.top t) m.count list
+    → ((j : ℕ) → j < length list → key + m.total (get_or list j 0) ≤ m.dist (get_or list j 0) t + level_of m origin)
+    → AreNoNearer m known origin t key
+none_listed m known origin t key list h least s out =
+    let p = h.all s out.below out in
+    subst (λ z. key + m.total z ≤ m.dist z t + level_of m origin) p.2 (least p.0 p.1)
+
+-- the nearer one of what was found and a member outside, whose distance was read from t
+pub found_next : (metric : Table) (matching : Matching) (known : ℕ → Bool) (origin t s x sum level : ℕ) (best r : Neighbour)
+    → AreTotals metric matching → IsTable metric → t < metric.size → origin < metric.size
+    → IsOutside (members_of metric matching) known ((members_of metric matching).sets.top t) s
+    → x ≡ dist_of metric t s → sum ≡ get_or matching.sums.items s 0
+    → level ≡ 2 ^ 60 + get_or matching.sums.items origin 0 → IsFoundOutside (members_of metric matching) known origin t best
+    → IsNearerOf best (record { member = s; key = x + (level - sum) }) r
+    → IsFoundOutside (members_of metric matching) known origin t r × (r.key ≤ best.key)
+    × (r.key + get_or matching.sums.items s 0 ≤ dist_of metric s t + level_of (members_of metric matching) origin)
+found_next metric matching known origin t s x sum level best r totals me ht ho out ex es el found is =
+    let m : Members = members_of metric matching in
+    let w : Neighbour = record { member = s; key = x + (level - sum) } in
+    let key : HasKey m (level_of m origin) t w = key_read metric matching t s x sum level origin totals me.metric ht out.below ho ex es el in
+    let q = nearer_least best w r is in
+    (found_nearer m known origin t best w r found out key is, q.0, omega (arith, q.1, key.1))

@@ -1,22 +1,22 @@
 //! The search for what is kept anew, where it has come into the same top.
 
-ghost use Rattle.std.specs.Prelude.{◌≡◌, ◌≢◌, ℕ, ◌+◌, ◌<◌, ◌≤◌, ◌^◌, ◌⊎◌, Some, length, slice_index, slice_set};
+ghost use Rattle.std.specs.Prelude.{◌≡◌, ◌≢◌, ℕ, ◌+◌, ◌<◌, ◌≤◌, ◌^◌, ◌⊎◌, Some, length, slice_index, slice_set, IfOk, OnOk};
 ghost use Rattle.dpl_laminar.specs.Storing.{sets_of};
 ghost use Rattle.dpl_tree.specs.Metrics.{dist_of, radius_of};
 ghost use Rattle.dpl_match.specs.steps.Nearest.{is_known, near_in, kept_in, kept_of, member_of, level_of};
-ghost use Rattle.dpl_match.specs.steps.Nearest.{IsNear, IsMeasured, IsOutside, IsApart};
+ghost use Rattle.dpl_match.specs.steps.Nearest.{IsNear, IsMeasured, IsOutside, AreOutside, IsApart};
 ghost use Rattle.dpl_match.specs.steps.Nearest.{HasPlaces, HasSameMembers, AreTotals};
-ghost use Rattle.dpl_match.specs.steps.Outsiders.{IsLeastOutside, IsOutsider, IsFoundOutside, AreNoNearer};
+ghost use Rattle.dpl_match.specs.steps.Outsiders.{IsLeastOutside, AreOthers, IsFoundOutside, AreNoNearer};
 ghost use Rattle.dpl_match.specs.steps.Scans.{members_of};
 
 use super::stage::{NOBODY, Neighbour, OuterTable};
 use dpl_tree::{Close, Matching, Metric};
+use std::alloc::{AllocError, Global};
 
-/// The known member outside of a top set whose radius and offset together are least, once it was looked for. The offset
-/// is the level less the sum over a member.
+/// The known member outside of a top set whose radius and offset together are least. The offset is the level less the sum
+/// over a member.
 #[derive(Clone, Copy)]
 pub struct Outsider {
-    pub top: Option<u32>,
     pub member: u32,
     pub reach: u64,
 }
@@ -37,7 +37,6 @@ fn lesser_outside(
     requires s { s < metric.now.size }
     requires before { IsLeastOutside metric.now (members_of metric.now matching.now) level
         (is_known table.now.known.items) top s best }
-    ensures top { result.top ≡ best.top }
     ensures least { IsLeastOutside metric.now (members_of metric.now matching.now) level
         (is_known table.now.known.items) top (s + 1) result }
 {
@@ -51,18 +50,13 @@ fn lesser_outside(
     if best.reach <= reach {
         return best;
     }
-    Outsider {
-        top: best.top,
-        member: s,
-        reach,
-    }
+    Outsider { member: s, reach }
 }
 
 /// The known member outside of a top set whose reach is least.
 fn least_outside(metric: &Metric, matching: &Matching, table: &OuterTable, top: u32) -> Outsider
     requires totals { AreTotals metric.now matching.now }
     requires table { HasPlaces metric.now table.now }
-    ensures top { result.top ≡ Some top }
     ensures least { IsLeastOutside metric.now (members_of metric.now matching.now)
         (level_of (members_of metric.now matching.now) table.now.origin)
         (is_known table.now.known.items) top metric.now.size result }
@@ -70,7 +64,6 @@ fn least_outside(metric: &Metric, matching: &Matching, table: &OuterTable, top: 
     let level = table.level(matching);
     let n = metric.size() as u32;
     let mut best = Outsider {
-        top: Some(top),
         member: 0,
         reach: NOBODY.key,
     };
@@ -139,20 +132,11 @@ fn nearer_around(
     )
 }
 
-/// The nearest to t of the known members around it that have another top, where no known member that has one has a key
-/// below the least one, so that the first that has no greater one ends the search.
-fn search_around(
-    metric: &Metric,
-    matching: &Matching,
-    table: &OuterTable,
-    t: u32,
-    least: u64,
-) -> Neighbour
+/// The nearest to t of the known members around it that have another top.
+fn search_around(metric: &Metric, matching: &Matching, table: &OuterTable, t: u32) -> Neighbour
     requires totals { AreTotals metric.now matching.now }
     requires table { HasPlaces metric.now table.now }
     requires t { t < metric.now.size }
-    requires least { AreNoNearer (members_of metric.now matching.now) (is_known table.now.known.items)
-        table.now.origin t least }
     ensures found { IsFoundOutside (members_of metric.now matching.now) (is_known table.now.known.items)
         table.now.origin t result }
     ensures least { (s : ℕ) → IsOutside (members_of metric.now matching.now)
@@ -168,22 +152,18 @@ fn search_around(
     let mut best = NOBODY;
     for i in 0..list.len() {
         best = nearer_around(metric, matching, table, top, level, best, list[i]);
-        if best.key <= least {
-            return best;
-        }
     }
     best
 }
 
-/// The nearest to t of all known members that have another top, where none of them has a key below the least one: one of
-/// those around it, or that whose reach is least.
-fn search(
+/// The nearest to t of the known members that have another top, of which it is near few: one of those around it, or that
+/// whose reach is least.
+fn search_near(
     metric: &Metric,
     matching: &Matching,
     table: &OuterTable,
     outsider: &Outsider,
     t: u32,
-    least: u64,
 ) -> Neighbour
     requires totals { AreTotals metric.now matching.now }
     requires table { HasPlaces metric.now table.now }
@@ -192,6 +172,40 @@ fn search(
         (level_of (members_of metric.now matching.now) table.now.origin)
         (is_known table.now.known.items) ((sets_of matching.now.family).top t) metric.now.size
         outsider.now }
+    ensures near { IsNear (members_of metric.now matching.now) (is_known table.now.known.items) t
+        metric.now.size (member_of (kept_of result)) }
+    ensures measured { IsMeasured (members_of metric.now matching.now) table.now.origin t
+        (kept_of result) }
+    ensures apart { IsApart (sets_of matching.now.family) t (member_of (kept_of result)) }
+{
+    let _size = metric.size();
+    let best = search_around(metric, matching, table, t);
+    let least = metric.radius(t) + outsider.reach;
+    if best.key < least || NOBODY.key <= least {
+        return best;
+    }
+    let member = outsider.member;
+    let offset = table.level(matching) - matching.sum(member);
+    let key = metric.dist(t, member) + offset;
+    nearer(best, Neighbour { member, key })
+}
+
+/// The nearest to t of a list of the known members that have another top, none of which has a key below the least one, so
+/// that the first that has no greater one ends the search.
+fn search_listed(
+    metric: &Metric,
+    matching: &Matching,
+    table: &OuterTable,
+    list: &[u32],
+    t: u32,
+    least: u64,
+) -> Neighbour
+    requires totals { AreTotals metric.now matching.now }
+    requires table { HasPlaces metric.now table.now }
+    requires t { t < metric.now.size }
+    requires list { AreOutside (members_of metric.now matching.now)
+        (is_known table.now.known.items) ((sets_of matching.now.family).top t) metric.now.size
+        list.now }
     requires least { AreNoNearer (members_of metric.now matching.now) (is_known table.now.known.items)
         table.now.origin t least }
     ensures near { IsNear (members_of metric.now matching.now) (is_known table.now.known.items) t
@@ -201,35 +215,136 @@ fn search(
     ensures apart { IsApart (sets_of matching.now.family) t (member_of (kept_of result)) }
 {
     let _size = metric.size();
-    let best = search_around(metric, matching, table, t, least);
-    let reach = metric.radius(t) + outsider.reach;
-    if best.key < reach || NOBODY.key <= reach {
-        return best;
+    let level = table.level(matching);
+    let mut best = NOBODY;
+    for i in 0..list.len() {
+        let member = list[i];
+        let key = metric.dist(t, member) + (level - matching.sum(member));
+        best = nearer(best, Neighbour { member, key });
+        if best.key <= least {
+            return best;
+        }
     }
-    let member = outsider.member;
-    let offset = table.level(matching) - matching.sum(member);
-    let key = metric.dist(t, member) + offset;
-    nearer(best, Neighbour { member, key })
+    best
 }
 
-/// Looks for the member outside of a top set, if it is not the one that was looked for last.
-fn turn_to(
+/// The known members outside of a top set, once they were looked for, and that of them whose reach is least.
+#[derive(Drop)]
+pub struct Others {
+    pub top: Option<u32>,
+    pub list: Vec<u32>,
+    pub outsider: Outsider,
+}
+
+/// The nearest to t of all known members that have another top, where none of them has a key below the least one. Those
+/// around it are asked, or all that there are where these are fewer.
+fn search(
     metric: &Metric,
     matching: &Matching,
     table: &OuterTable,
-    outsider: &mut Outsider,
-    top: u32,
-)
+    others: &Others,
+    t: u32,
+    least: u64,
+) -> Neighbour
     requires totals { AreTotals metric.now matching.now }
     requires table { HasPlaces metric.now table.now }
-    requires outsider { IsOutsider metric.now (members_of metric.now matching.now) table.now outsider.old }
-    ensures outsider { IsOutsider metric.now (members_of metric.now matching.now) table.now outsider.new }
-    ensures top { outsider.new.top ≡ Some top }
+    requires t { t < metric.now.size }
+    requires list { AreOutside (members_of metric.now matching.now)
+        (is_known table.now.known.items) ((sets_of matching.now.family).top t) metric.now.size
+        others.now.list.items }
+    requires outsider { IsLeastOutside metric.now (members_of metric.now matching.now)
+        (level_of (members_of metric.now matching.now) table.now.origin)
+        (is_known table.now.known.items) ((sets_of matching.now.family).top t) metric.now.size
+        others.now.outsider }
+    requires least { AreNoNearer (members_of metric.now matching.now) (is_known table.now.known.items)
+        table.now.origin t least }
+    ensures near { IsNear (members_of metric.now matching.now) (is_known table.now.known.items) t
+        metric.now.size (member_of (kept_of result)) }
+    ensures measured { IsMeasured (members_of metric.now matching.now) table.now.origin t
+        (kept_of result) }
+    ensures apart { IsApart (sets_of matching.now.family) t (member_of (kept_of result)) }
 {
-    if outsider.top == Some(top) {
-        return;
+    if others.list.len() < metric.around(t).len() {
+        return search_listed(metric, matching, table, &others.list, t, least);
     }
-    *outsider = least_outside(metric, matching, table, top);
+    search_near(metric, matching, table, &others.outsider, t)
+}
+
+/// Puts a member at the end of a list if it is known and lies outside of a top set.
+fn put_outside(
+    metric: &Metric,
+    matching: &Matching,
+    table: &OuterTable,
+    top: u32,
+    s: u32,
+    list: &mut Vec<u32>,
+) -> Result<(), AllocError>
+    requires totals { AreTotals metric.now matching.now }
+    requires table { HasPlaces metric.now table.now }
+    requires s { s < metric.now.size }
+    requires before { AreOutside (members_of metric.now matching.now)
+        (is_known table.now.known.items) top s list.old.items }
+    ensures { OnOk result (AreOutside (members_of metric.now matching.now)
+        (is_known table.now.known.items) top (s + 1) list.new.items) }
+{
+    let _size = metric.size();
+    if !table.has(s) {
+        return Ok(());
+    }
+    if matching.family.tops(s) == top {
+        return Ok(());
+    }
+    list.push(s)?;
+    Ok(())
+}
+
+/// The known members outside of a top set, in order.
+fn outside(
+    alloc: Global,
+    metric: &Metric,
+    matching: &Matching,
+    table: &OuterTable,
+    top: u32,
+) -> Result<Vec<u32>, AllocError>
+    requires totals { AreTotals metric.now matching.now }
+    requires table { HasPlaces metric.now table.now }
+    ensures { IfOk result (λ list. AreOutside (members_of metric.now matching.now)
+        (is_known table.now.known.items) top metric.now.size list.items) }
+{
+    let n = metric.size() as u32;
+    let mut list = Vec::new(alloc);
+    for s in 0..n {
+        put_outside(metric, matching, table, top, s, &mut list)?;
+    }
+    Ok(list)
+}
+
+/// Looks for the others outside of a top set, if they are not those that were looked for last.
+fn turn_to(
+    alloc: Global,
+    metric: &Metric,
+    matching: &Matching,
+    table: &OuterTable,
+    others: &mut Others,
+    top: u32,
+) -> Result<(), AllocError>
+    requires totals { AreTotals metric.now matching.now }
+    requires table { HasPlaces metric.now table.now }
+    requires others { AreOthers metric.now (members_of metric.now matching.now) table.now others.old }
+    ensures others { OnOk result (AreOthers metric.now (members_of metric.now matching.now) table.now others.new) }
+    ensures top { OnOk result (others.new.top ≡ Some top) }
+{
+    if others.top == Some(top) {
+        return Ok(());
+    }
+    let list = outside(alloc, metric, matching, table, top)?;
+    let outsider = least_outside(metric, matching, table, top);
+    *others = Others {
+        top: Some(top),
+        list,
+        outsider,
+    };
+    Ok(())
 }
 
 /// Keeps for t what was found anew, and raises the ceiling to it.
@@ -245,26 +360,15 @@ fn keep_anew(metric: &Metric, table: &mut OuterTable, t: u32, found: Neighbour)
     table.near[t as usize] = found;
 }
 
-/// A key below which none that is found anew lies: that of what was kept. Where distances stand in no table, the lists
-/// around members are in no order, and of equally near ones the first is not sought by it.
-fn least_key(metric: &Metric, near: Neighbour, t: u32) -> u64
-    requires { t < metric.now.size }
-    ensures { result ≤ near.key }
-{
-    match metric.row(t) {
-        Some(_) => near.key,
-        None => 0,
-    }
-}
-
 /// Looks again for what is kept for t where that has come into the same top.
 pub fn renew_one(
+    alloc: Global,
     metric: &Metric,
     matching: &Matching,
     table: &mut OuterTable,
-    outsider: &mut Outsider,
+    others: &mut Others,
     t: u32,
-)
+) -> Result<(), AllocError>
     requires totals { AreTotals metric.now matching.now }
     requires table { HasPlaces metric.now table.old }
     requires t { t < metric.now.size }
@@ -272,29 +376,29 @@ pub fn renew_one(
         metric.now.size (near_in table.old.near.items t) }
     requires measured { IsMeasured (members_of metric.now matching.now) table.old.origin t
         (kept_in table.old.near.items t) }
-    requires outsider { IsOutsider metric.now (members_of metric.now matching.now) table.old outsider.old }
+    requires others { AreOthers metric.now (members_of metric.now matching.now) table.old others.old }
     ensures table { HasPlaces metric.now table.new }
     ensures rest { HasSameMembers table.old table.new }
-    ensures outsider { IsOutsider metric.now (members_of metric.now matching.now) table.new outsider.new }
-    ensures near { IsNear (members_of metric.now matching.now)
-        (is_known table.new.known.items) t metric.now.size (near_in table.new.near.items t) }
-    ensures measured { IsMeasured (members_of metric.now matching.now)
-        table.new.origin t (kept_in table.new.near.items t) }
-    ensures apart { IsApart (sets_of matching.now.family) t (near_in table.new.near.items t) }
-    ensures others { (k : ℕ) → k ≢ t →
+    ensures others { OnOk result (AreOthers metric.now (members_of metric.now matching.now) table.new others.new) }
+    ensures near { OnOk result (IsNear (members_of metric.now matching.now)
+        (is_known table.new.known.items) t metric.now.size (near_in table.new.near.items t)) }
+    ensures measured { OnOk result (IsMeasured (members_of metric.now matching.now)
+        table.new.origin t (kept_in table.new.near.items t)) }
+    ensures apart { OnOk result (IsApart (sets_of matching.now.family) t (near_in table.new.near.items t)) }
+    ensures kept { (k : ℕ) → k ≢ t →
         kept_in table.new.near.items k ≡ kept_in table.old.near.items k }
 {
     match table.nearest(t) {
         Some(near) => {
             let top = matching.family.tops(t);
             if matching.family.tops(near.member) != top {
-                return;
+                return Ok(());
             }
-            turn_to(metric, matching, table, outsider, top);
-            let least = least_key(metric, near, t);
-            let found = search(metric, matching, table, outsider, t, least);
+            turn_to(alloc, metric, matching, table, others, top)?;
+            let found = search(metric, matching, table, others, t, near.key);
             keep_anew(metric, table, t, found);
+            Ok(())
         }
-        None => {}
+        None => Ok(()),
     }
 }

@@ -1,10 +1,11 @@
 -- The known member outside of a top set that comes nearest to those that it is not near.
 use Rattle.std.specs.Prelude.{◌≡◌, ℕ, ◌+◌, ◌<◌, ◌≤◌, Bool, MatchOption, ⊤}
 use Rattle.dpl_tree.specs.Metrics.{Table, radius_of}
+use Rattle.dpl_match.specs.declared.renewing.Others.{Others}
 use Rattle.dpl_match.specs.declared.renewing.Outsider.{Outsider}
 use Rattle.dpl_match.specs.declared.stage.Neighbour.{Neighbour}
 use Rattle.dpl_match.specs.declared.stage.OuterTable.{OuterTable}
-use Rattle.dpl_match.specs.steps.Nearest.{is_known, level_of, no_key, HasKey, IsOutside}
+use Rattle.dpl_match.specs.steps.Nearest.{is_known, level_of, no_key, HasKey, IsOutside, AreOutside}
 use Rattle.dpl_match.specs.steps.Scans.{Members}
 
 -- of the known members below k outside of a top set one whose reach is least, if there is any: its radius and the level,
@@ -17,10 +18,11 @@ pub record IsLeastOutside (metric : Table) (m : Members) (level : ℕ) (known : 
   pub some : one.reach < no_key →
       IsOutside m known x one.member × (one.reach + m.total one.member ≡ radius_of metric one.member + level)
 
--- such a member, once it was looked for
-abbrev pub IsOutsider : Table → Members → OuterTable → Outsider → Type 0
-IsOutsider metric m table one = MatchOption one.top ⊤
-    (λ x. IsLeastOutside metric m (level_of m table.origin) (is_known table.known.items) x m.count one)
+-- the known members outside of a top set with such a one, once they were looked for
+abbrev pub AreOthers : Table → Members → OuterTable → Others → Type 0
+AreOthers metric m table others = MatchOption others.top ⊤ (λ x.
+    AreOutside m (is_known table.known.items) x m.count others.list.items ×
+    IsLeastOutside metric m (level_of m table.origin) (is_known table.known.items) x m.count others.outsider)
 
 -- a known member outside of the top of t with its key, or none
 pub record IsFoundOutside (m : Members) (known : ℕ → Bool) (origin t : ℕ) (found : Neighbour) : Type 0 where

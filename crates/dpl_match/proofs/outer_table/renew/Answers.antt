@@ -1,4 +1,4 @@
-use Rattle.std.proofs.Common.{arith, ℕ, sym, ap, subst, ◌∙◌, inl, inr, length, Option}
+use Rattle.std.proofs.Common.{arith, ℕ, sym, subst, inl, inr, Option}
 use Rattle.std.proofs.lemmas.Bool.{cases_eq}
 use Rattle.dpl_tree.specs.Views.{place_in}
 use Rattle.dpl_match.specs.declared.stage.Neighbour.{Neighbour}
@@ -18,15 +18,15 @@ loop-t-preserved c =
     let t : ℕ = c.loop-t.t in
     let known = c.loop-t.invariant in
     let next : OuterTable = c.renew_one.new.table in
-    let r = c.renew_one.ensures in
+    let r = c.in_ok-renew_one.ensures in
     record {
       table = r.table;
       near_outer = renewed v (place_in c.args.tree.now.labels.items) c.loop-t.table next t known.near_outer r.rest.origin r.rest.known
-          (rw (sym r.rest.known) r.near) (rw (sym r.rest.origin) r.measured) r.others;
+          (rw (sym r.rest.known) r.near) (rw (sym r.rest.origin) r.measured) r.kept;
       all = rw r.rest.known known.all;
       apart = λ k h. elim (cases_eq k t) [
         | inl e ↦ subst (λ z. IsApart v.sets z (near_in next.near.items z)) (sym e) r.apart
-        | inr ne ↦ subst (λ (z : Option Neighbour). IsApart v.sets k (member_of z)) (sym (r.others k ne)) (known.apart k (omega (arith, h, ne)))
+        | inr ne ↦ subst (λ (z : Option Neighbour). IsApart v.sets k (member_of z)) (sym (r.kept k ne)) (known.apart k (omega (arith, h, ne)))
       ];
-      outsider = r.outsider;
+      others = r.others;
     }

@@ -68,9 +68,3 @@ returns-clause-least c = λ s out near.
     (subst (IsOutside v known (v.sets.top c.args.t)) (sym member) out) in
     let less = c.loop-i.invariant.close k (omega (arith, p.1.1, c.loop-i-test.false)) outside in
     omega (arith, less, far, ap (λ z. get_or c.args.matching.now.sums.items z 0) member, c.level-level.ensures)
-
-pub returns-then-best-least-clause-found : goal.returns-then-best-least-clause-found
-returns-then-best-least-clause-found c =
-    let a = All-get_or (λ (x : Close). (x.member < c.args.metric.now.size) × (x.far ≡ dist_of c.args.metric.now c.args.t x.member))
-    c.around-list.result.now c.loop-i.i none c.loop-i-test.true c.around-list.ensures.each in
-    c.nearer_around-best.ensures.one c.args.t c.requires.t c.tops-top.ensures.value a.1 c.loop-i.invariant.found
