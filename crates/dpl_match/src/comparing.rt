@@ -2,7 +2,7 @@
 
 ghost use Rattle.std.specs.Prelude.{◌≡◌, ◌≢◌, ℕ, ◌+◌, ◌<◌, ◌≤◌, ◌^◌, length};
 ghost use Rattle.dpl_laminar.specs.Storing.{sets_of};
-ghost use Rattle.dpl_tree.specs.Metrics.{dist_of, radius_of};
+ghost use Rattle.dpl_tree.specs.Metrics.{dist_of, radius_of, AreAround};
 ghost use Rattle.dpl_match.specs.steps.Nearest.{kept_in, key_in, kept_of, no_key, is_as_near, compared, neighbour_at};
 ghost use Rattle.dpl_match.specs.steps.Nearest.{HasPlaces, HasSameMembers};
 
@@ -55,8 +55,7 @@ fn ceiling_of(metric: &Metric, table: &OuterTable) -> u64
     most
 }
 
-/// Compares an outer member with what is kept for each member, and lowers the ceiling. Its keys are its distances and
-/// this offset.
+/// Compares an outer member with what is kept for each member. Its keys are its distances and this offset.
 #[inline(never)]
 fn compare_all(metric: &Metric, matching: &Matching, table: &mut OuterTable, s: u32, offset: u64)
     requires size { (sets_of matching.now.family).size ≡ metric.now.size }
@@ -75,15 +74,22 @@ fn compare_all(metric: &Metric, matching: &Matching, table: &mut OuterTable, s: 
         let key = table.row[t as usize] + offset;
         compare_one(matching, table, Neighbour { member: s, key }, t);
     }
-    table.ceiling = ceiling_of(metric, table);
 }
 
 /// Compares an outer member with what is kept for those that it is near. The ceiling shows that it is nearer to no
 /// others.
 #[inline(never)]
-fn compare_around(metric: &Metric, matching: &Matching, table: &mut OuterTable, s: u32, offset: u64)
+fn compare_around(
+    metric: &Metric,
+    matching: &Matching,
+    table: &mut OuterTable,
+    list: &[Close],
+    s: u32,
+    offset: u64,
+)
     requires size { (sets_of matching.now.family).size ≡ metric.now.size }
     requires table { HasPlaces metric.now table.old }
+    requires list { AreAround metric.now s list.now }
     requires s { s < metric.now.size }
     requires offset { offset ≤ 2 ^ 61 }
     requires above { table.old.ceiling ≤ radius_of metric.now s + offset }
@@ -94,7 +100,6 @@ fn compare_around(metric: &Metric, matching: &Matching, table: &mut OuterTable, 
         (neighbour_at (dist_of metric.now) s offset t) }
 {
     let _size = metric.size();
-    let list = metric.around(s);
     for i in 0..list.len() {
         let Close { member, far } = list[i];
         let key = far + offset;
@@ -103,7 +108,8 @@ fn compare_around(metric: &Metric, matching: &Matching, table: &mut OuterTable, 
 }
 
 /// Compares an outer member with what is kept for each member. Its keys are its distances and this offset. Where its
-/// radius and the offset together are above the ceiling, it is nearer to none but those around it.
+/// radius and the offset together are above the ceiling, it is nearer to none but those around it. Otherwise the ceiling
+/// is lowered.
 pub fn compare(metric: &Metric, matching: &Matching, table: &mut OuterTable, s: u32, offset: u64)
     requires size { (sets_of matching.now.family).size ≡ metric.now.size }
     requires table { HasPlaces metric.now table.old }
@@ -115,9 +121,15 @@ pub fn compare(metric: &Metric, matching: &Matching, table: &mut OuterTable, s: 
         compared (sets_of matching.now.family) t (kept_in table.old.near.items t)
         (neighbour_at (dist_of metric.now) s offset t) }
 {
-    if table.ceiling <= metric.radius(s) + offset {
-        compare_around(metric, matching, table, s, offset);
-    } else {
-        compare_all(metric, matching, table, s, offset);
+    match metric.around(s) {
+        Some(list) => {
+            if table.ceiling <= metric.radius(s) + offset {
+                compare_around(metric, matching, table, list, s, offset);
+                return;
+            }
+            compare_all(metric, matching, table, s, offset);
+            table.ceiling = ceiling_of(metric, table);
+        }
+        None => compare_all(metric, matching, table, s, offset),
     }
 }

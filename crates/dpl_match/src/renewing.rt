@@ -2,7 +2,7 @@
 
 ghost use Rattle.std.specs.Prelude.{◌≡◌, ◌≢◌, ℕ, ◌+◌, ◌<◌, ◌≤◌, ◌^◌, ◌⊎◌, Some, length, slice_index, slice_set, IfOk, OnOk};
 ghost use Rattle.dpl_laminar.specs.Storing.{sets_of};
-ghost use Rattle.dpl_tree.specs.Metrics.{dist_of, radius_of};
+ghost use Rattle.dpl_tree.specs.Metrics.{dist_of, radius_of, AreAround};
 ghost use Rattle.dpl_match.specs.steps.Nearest.{is_known, near_in, kept_in, kept_of, member_of, level_of};
 ghost use Rattle.dpl_match.specs.steps.Nearest.{IsNear, IsMeasured, IsOutside, AreOutside, IsApart};
 ghost use Rattle.dpl_match.specs.steps.Nearest.{HasPlaces, HasSameMembers, AreTotals};
@@ -133,9 +133,16 @@ fn nearer_around(
 }
 
 /// The nearest to t of the known members around it that have another top.
-fn search_around(metric: &Metric, matching: &Matching, table: &OuterTable, t: u32) -> Neighbour
+fn search_around(
+    metric: &Metric,
+    matching: &Matching,
+    table: &OuterTable,
+    list: &[Close],
+    t: u32,
+) -> Neighbour
     requires totals { AreTotals metric.now matching.now }
     requires table { HasPlaces metric.now table.now }
+    requires list { AreAround metric.now t list.now }
     requires t { t < metric.now.size }
     ensures found { IsFoundOutside (members_of metric.now matching.now) (is_known table.now.known.items)
         table.now.origin t result }
@@ -148,7 +155,6 @@ fn search_around(metric: &Metric, matching: &Matching, table: &OuterTable, t: u3
     let _size = metric.size();
     let level = table.level(matching);
     let top = matching.family.tops(t);
-    let list = metric.around(t);
     let mut best = NOBODY;
     for i in 0..list.len() {
         best = nearer_around(metric, matching, table, top, level, best, list[i]);
@@ -162,11 +168,13 @@ fn search_near(
     metric: &Metric,
     matching: &Matching,
     table: &OuterTable,
+    list: &[Close],
     outsider: &Outsider,
     t: u32,
 ) -> Neighbour
     requires totals { AreTotals metric.now matching.now }
     requires table { HasPlaces metric.now table.now }
+    requires list { AreAround metric.now t list.now }
     requires t { t < metric.now.size }
     requires outsider { IsLeastOutside metric.now (members_of metric.now matching.now)
         (level_of (members_of metric.now matching.now) table.now.origin)
@@ -179,7 +187,7 @@ fn search_near(
     ensures apart { IsApart (sets_of matching.now.family) t (member_of (kept_of result)) }
 {
     let _size = metric.size();
-    let best = search_around(metric, matching, table, t);
+    let best = search_around(metric, matching, table, list, t);
     let least = metric.radius(t) + outsider.reach;
     if best.key < least || NOBODY.key <= least {
         return best;
@@ -264,10 +272,15 @@ fn search(
         (kept_of result) }
     ensures apart { IsApart (sets_of matching.now.family) t (member_of (kept_of result)) }
 {
-    if others.list.len() < metric.around(t).len() {
-        return search_listed(metric, matching, table, &others.list, t, least);
+    match metric.around(t) {
+        Some(list) => {
+            if list.len() <= others.list.len() {
+                return search_near(metric, matching, table, list, &others.outsider, t);
+            }
+        }
+        None => {}
     }
-    search_near(metric, matching, table, &others.outsider, t)
+    search_listed(metric, matching, table, &others.list, t, least)
 }
 
 /// Puts a member at the end of a list if it is known and lies outside of a top set.

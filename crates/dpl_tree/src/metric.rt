@@ -20,7 +20,7 @@ pub struct Close {
 /// Even distances between members, which obey the triangle rule. Each member has a radius, and no two are farther from
 /// each other than both radii. They stand in a table, or where few members are near each other, in a list for each member
 /// of those that are nearer to it than both radii; all others are as far as the radii together. Beside a table there are
-/// such lists as well. No radius is less than `least`.
+/// such lists as well, if they are not too long. No radius is less than `least`.
 #[derive(Drop)]
 pub struct Metric {
     size: usize,
@@ -33,7 +33,7 @@ pub struct Metric {
 }
 
 impl Model for Metric {
-    ghost use Rattle.std.specs.Prelude.{◌≡◌, ◌≤◌, false, All, MatchOption};
+    ghost use Rattle.std.specs.Prelude.{◌≤◌, ⊤, All, MatchOption};
     ghost use Rattle.dpl_tree.specs.Metrics.{Table, IsTable, HasLists};
 
     ghost Value = { Table };
@@ -54,7 +54,7 @@ impl Model for Metric {
       near = m.near;
     })
         × All (λ r. m.least ≤ r) m.radii.items
-        × MatchOption m.lists (m.is_full ≡ false) (λ lists. HasLists (record {
+        × MatchOption m.lists ⊤ (λ lists. HasLists (record {
           size = m.size;
           is_full = m.is_full;
           rows = m.rows.items;
@@ -78,7 +78,7 @@ impl Metric {
             radii,
             least: 0,
             near,
-            lists: Some(lists),
+            lists,
         })
     }
 
@@ -138,14 +138,20 @@ impl Metric {
         self.radii[s as usize]
     }
 
-    /// Those that are nearer to a member than both radii, with their distances.
-    pub fn around(&self, s: u32) -> &[Close]
+    /// Those that are nearer to a member than both radii, with their distances, unless they are so many that there is a
+    /// table alone.
+    pub fn around(&self, s: u32) -> Option<&[Close]>
         requires { s < self.now.size }
-        ensures { AreAround self.now s result.now }
+        ensures { IfSome result (λ list. AreAround self.now s list.now) }
     {
         match &self.lists {
-            Some(lists) => lists.row(s as usize),
-            None => self.near.row(s as usize),
+            Some(lists) => Some(lists.row(s as usize)),
+            None => {
+                if self.is_full {
+                    return None;
+                }
+                Some(self.near.row(s as usize))
+            }
         }
     }
 
@@ -234,15 +240,21 @@ fn add_row(row: &[u64], radii: &[u64], s: u32, pairs: &mut Pairs) -> Result<(), 
     Ok(())
 }
 
-/// For each member those that are nearer to it than both radii.
+/// So many are listed for each member on average at most. Where more are near, a row of the table takes no longer.
+const MOST_LISTED: usize = 256;
+
+/// The average is taken as if for so many members more, so that a few with many near ones do not decide it.
+const MORE: usize = 64;
+
+/// For each member those that are nearer to it than both radii, unless these are too many.
 fn all_lists(
     alloc: Global,
     n: u32,
     rows: &[u64],
     radii: &[u64],
-) -> Result<Grouped<Close>, AllocError>
+) -> Result<Option<Grouped<Close>>, AllocError>
     requires { IsTable (full_table n rows.now radii.now) }
-    ensures { IfOk result (λ lists. HasLists (full_table n rows.now radii.now) lists) }
+    ensures { IfOk result (λ o. IfSome o (λ lists. HasLists (full_table n rows.now radii.now) lists)) }
 {
     let mut pairs = Pairs {
         from: Vec::new(alloc),
@@ -252,9 +264,12 @@ fn all_lists(
     for s in 0..n {
         let row = part(rows, s as usize * size, size);
         add_row(row, radii, s, &mut pairs)?;
+        if pairs.close.len() > MOST_LISTED * (s as usize + MORE) {
+            return Ok(None);
+        }
     }
     let lists = Grouped::by_key(alloc, n, &pairs.from, &pairs.close)?;
-    Ok(lists)
+    Ok(Some(lists))
 }
 
 /// So many numbers of a list from a place on.

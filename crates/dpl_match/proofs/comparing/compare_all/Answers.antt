@@ -6,7 +6,8 @@ use Rattle.dpl_laminar.specs.Storing.{sets_of}
 use Rattle.dpl_tree.specs.Metrics.{dist_of}
 use Rattle.dpl_match.specs.declared.stage.Neighbour.{Neighbour}
 use Rattle.dpl_match.specs.declared.stage.OuterTable.{OuterTable}
-use Rattle.dpl_match.specs.steps.Nearest.{compared, kept_in, neighbour_at}
+use Rattle.dpl_match.specs.steps.Nearest.{compared, key_in, kept_in, neighbour_at}
+use Rattle.dpl_match.proofs.ComparedLemmas.{compared_less, key_few}
 use Rattle.dpl_match.proofs.comparing.compare_all.Goals as goal
 
 pub loop-t-preserved : goal.loop-t-preserved
@@ -28,6 +29,7 @@ loop-t-preserved c =
       };
       count = r.count ∙ known.count;
       row_count = ap (λ z. length z.items) row ∙ known.row_count;
+      ceiling = ap (λ (z : OuterTable). z.ceiling) r.rest ∙ known.ceiling;
       row = rw row known.row;
       done = λ k h. elim (cases_eq k t) [
         | inl e ↦ rw e (r.nearer ∙
@@ -36,4 +38,25 @@ loop-t-preserved c =
         | inr ne ↦ r.others k ne ∙ known.done k (omega (arith, h, ne))
       ];
       todo = λ k h. r.others k (λ z. omega (arith, h, z)) ∙ known.todo k (omega (arith, h));
+    }
+
+pub returns-clause-table : goal.returns-clause-table
+returns-clause-table c =
+    let known = c.loop-t.invariant in
+    let given = c.requires.table in
+    record {
+      origin_below = omega (arith, known.same.origin, given.origin_below);
+      known_count = ap (λ z. length z.items) known.same.known ∙ given.known_count;
+      near_count = known.count;
+      row_count = known.row_count;
+      most = λ t h.
+          omega (
+            arith,
+            ap key_in (known.done t (omega (arith, h, c.loop-t-test.false, c.size-n.ensures.value))),
+            compared_less (sets_of c.args.matching.now.family) t (kept_in c.args.table.now.near.items t)
+                (neighbour_at (dist_of c.args.metric.now) c.args.s c.args.offset t)
+                (key_few c.args.s t c.args.offset c.size-n.ensures.table c.requires.s h c.requires.offset),
+            given.most t h,
+            known.ceiling,
+          );
     }

@@ -12,19 +12,19 @@ use Rattle.dpl_match.proofs.comparing.compare_around.Goals as goal
 
 pub overflow_add-key : goal.overflow_add-key
 overflow_add-key c =
-    let x = c.around-list.ensures.each c.loop-i.i no_one c.loop-i-test.true in
+    let x = c.requires.list.each c.loop-i.i no_one c.loop-i-test.true in
     omega (arith, x.1, key_few c.args.s _ c.args.offset c.size-size.ensures.table c.requires.s x.0 c.requires.offset)
 
 pub compare_one-requires-clause-key : goal.compare_one-requires-clause-key
 compare_one-requires-clause-key c =
-    let x = c.around-list.ensures.each c.loop-i.i no_one c.loop-i-test.true in
+    let x = c.requires.list.each c.loop-i.i no_one c.loop-i-test.true in
     omega (arith, x.1, key_few c.args.s _ c.args.offset c.size-size.ensures.table c.requires.s x.0 c.requires.offset)
 
 pub loop-i-preserved : goal.loop-i-preserved
 loop-i-preserved c =
     let known = c.loop-i.invariant in
     let r = c.compare_one.ensures in
-    let x = c.around-list.ensures.each c.loop-i.i no_one c.loop-i-test.true in
+    let x = c.requires.list.each c.loop-i.i no_one c.loop-i-test.true in
     record {
       same = record {
         origin = ap (λ (z : OuterTable). z.origin) r.rest ∙ known.same.origin;
@@ -34,7 +34,7 @@ loop-i-preserved c =
       row = ap (λ (z : OuterTable). z.row) r.rest ∙ known.row;
       ceiling = ap (λ (z : OuterTable). z.ceiling) r.rest ∙ known.ceiling;
       each = λ k h. compared_more c.args.metric.now (sets_of c.args.matching.now.family) c.args.s c.args.offset c.args.table.now.near.items
-          c.loop-i.table.near.items c.compare_one.new.table.near.items c.around-list.result.now c.loop-i.i _ c.loop-i-test.true refl x.1
+          c.loop-i.table.near.items c.compare_one.new.table.near.items c.args.list.now c.loop-i.i _ c.loop-i-test.true refl x.1
           r.nearer r.others k (known.each k h);
     }
 
@@ -43,10 +43,10 @@ returns-clause-each c = λ t h.
     let metric : Table = c.args.metric.now in
     let f : Sets = sets_of c.args.matching.now.family in
     let old : List Neighbour = c.args.table.now.near.items in
-    let list : List Close = c.around-list.result.now in
+    let list : List Close = c.args.list.now in
     let most = c.requires.table.most t h in
     compared_all metric f c.args.s c.args.offset c.args.table.now.ceiling old c.loop-i.table.near.items list c.size-size.ensures.table
-    c.around-list.ensures c.requires.s c.requires.offset c.requires.above t h most
+    c.requires.list c.requires.s c.requires.offset c.requires.above t h most
     (subst (λ (xs : List Close). IsCompared metric f c.args.s c.args.offset old c.loop-i.table.near.items xs t)
     (take_all c.loop-i.i list (omega (arith, c.loop-i-test.false))) (c.loop-i.invariant.each t h))
 

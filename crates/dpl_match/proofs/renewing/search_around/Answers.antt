@@ -23,11 +23,11 @@ pub loop-i-preserved : goal.loop-i-preserved
 loop-i-preserved c =
     let v : Members = members_of c.args.metric.now c.args.matching.now in
     let known : ℕ → Bool = is_known c.args.table.now.known.items in
-    let list : List Close = c.around-list.result.now in
+    let list : List Close = c.args.list.now in
     let sums : List ℕ = c.args.matching.now.sums.items in
     let r = c.nearer_around-best in
     let a = All-get_or (λ (x : Close). (x.member < c.args.metric.now.size) × (x.far ≡ dist_of c.args.metric.now c.args.t x.member))
-    list c.loop-i.i none c.loop-i-test.true c.around-list.ensures.each in
+    list c.loop-i.i none c.loop-i-test.true c.requires.list.each in
     record {
       found = r.ensures.one c.args.t c.requires.t c.tops-top.ensures.value a.1 c.loop-i.invariant.found;
       close = λ j l. elim (cases_eq j c.loop-i.i) [
@@ -41,26 +41,26 @@ loop-i-preserved c =
 pub nearer_around-best-requires-clause-member : goal.nearer_around-best-requires-clause-member
 nearer_around-best-requires-clause-member c =
     (All-get_or (λ (x : Close). (x.member < c.args.metric.now.size) × (x.far ≡ dist_of c.args.metric.now c.args.t x.member))
-    c.around-list.result.now c.loop-i.i none c.loop-i-test.true c.around-list.ensures.each).0
+    c.args.list.now c.loop-i.i none c.loop-i-test.true c.requires.list.each).0
 
 pub nearer_around-best-requires-clause-far : goal.nearer_around-best-requires-clause-far
 nearer_around-best-requires-clause-far c =
     let a = All-get_or (λ (x : Close). (x.member < c.args.metric.now.size) × (x.far ≡ dist_of c.args.metric.now c.args.t x.member))
-    c.around-list.result.now c.loop-i.i none c.loop-i-test.true c.around-list.ensures.each in
+    c.args.list.now c.loop-i.i none c.loop-i-test.true c.requires.list.each in
     omega (arith, a.1, c.size-size.ensures.table.metric.small c.args.t _ c.requires.t a.0)
 
 pub returns-clause-least : goal.returns-clause-least
 returns-clause-least c = λ s out near.
     let v : Members = members_of c.args.metric.now c.args.matching.now in
     let known : ℕ → Bool = is_known c.args.table.now.known.items in
-    let list : List Close = c.around-list.result.now in
-    let p = c.around-list.ensures.all s out.below near in
+    let list : List Close = c.args.list.now in
+    let p = c.requires.list.all s out.below near in
     let x : Close = p.0 in
     let k : ℕ = p.1.0 in
     let is : get_or list k none ≡ x = get_or_default list k none x p.1.1 ∙ p.1.2 in
     let member : (get_or list k none).member ≡ s = ap (λ z. z.member) is ∙ p.2 in
     let a = All-contains (λ (x : Close). (x.member < c.args.metric.now.size) × (x.far ≡ dist_of c.args.metric.now c.args.t x.member))
-    list x c.around-list.ensures.each p.1 in
+    list x c.requires.list.each p.1 in
     let far : (get_or list k none).far ≡ dist_of c.args.metric.now c.args.t s =
     ap (λ z. z.far) is ∙ a.1 ∙ ap (dist_of c.args.metric.now c.args.t) p.2 in
     let outside : IsOutside v known c.tops-top.result (get_or list k none).member =

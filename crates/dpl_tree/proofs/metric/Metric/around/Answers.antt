@@ -10,10 +10,9 @@ returns-in-Some c =
     subst (λ (d : Table). AreAround d c.args.s c.row.result.now) c.self.view_is
     (subst (AreAround _ c.args.s) (sym c.row.ensures) (built.each c.args.s (omega (arith, c.requires, size))))
 
-pub returns-in-None : goal.returns-in-None
-returns-in-None c =
+pub returns-else-self : goal.returns-else-self
+returns-else-self c =
     let size = ap (λ (d : Table). d.size) c.self.view_is in
-    let listed = rw c.in-None.is at c.self.invariant.2 in
     subst (λ (d : Table). AreAround d c.args.s c.row-in-None.result.now) c.self.view_is
     (subst (AreAround _ c.args.s) (sym c.row-in-None.ensures)
-    (near_around _ c.args.s c.self.invariant.0 listed (omega (arith, c.requires, size))))
+    (near_around _ c.args.s c.self.invariant.0 c.if-self.false (omega (arith, c.requires, size))))
