@@ -96,16 +96,28 @@ fn compare_list<R: Abort>(rt: &R, list: &[Close], metric: &Metric, s: u32)
     }
 }
 
+/// How many are listed around a member, which are as far from it in another form.
+fn count_around<R: Abort>(rt: &R, metric: &Metric, other: &Metric, s: u32) -> Option<usize>
+    requires same { other.now.size ≡ metric.now.size }
+    requires s { s < metric.now.size }
+{
+    match metric.around(s) {
+        Some(list) => {
+            compare_list(rt, list, other, s);
+            Some(list.len())
+        }
+        None => None,
+    }
+}
+
 /// Two forms of the same distances list the same for a member.
 fn compare_around<R: Abort>(rt: &R, table: &Metric, lists: &Metric, s: u32)
     requires same { lists.now.size ≡ table.now.size }
     requires s { s < table.now.size }
 {
-    let one = table.around(s);
-    let other = lists.around(s);
-    assert_eq!(rt; one.len(), other.len());
-    compare_list(rt, one, lists, s);
-    compare_list(rt, other, table, s);
+    let one = count_around(rt, table, lists, s);
+    assert!(rt; one.is_some());
+    assert_eq!(rt; one, count_around(rt, lists, table, s));
 }
 
 /// Two forms of the same distances say the same of a member.
