@@ -17,10 +17,10 @@ pub struct Close {
     pub far: u64,
 }
 
-/// Even distances between members, which obey the triangle rule. Each member has a radius, and no two are farther from
-/// each other than both radii. They stand in a table, or where few members are near each other, in a list for each member
-/// of those that are nearer to it than both radii; all others are as far as the radii together. Beside a table there are
-/// such lists as well. No radius is less than `least`.
+/// Even distances between members, which obey the triangle rule. Each member has a radius, and no two are farther
+/// from each other than both radii. They stand in a table, or where few members are near each other, in a list for
+/// each member of those that are nearer to it than both radii; all others are as far as the radii together. Beside
+/// a table there are such lists as well. No radius is less than `least`.
 #[derive(Drop)]
 pub struct Metric {
     size: usize,
