@@ -2,11 +2,11 @@
 //!
 //! A `Metric` has the distances of an even number of members, a radius for each, and lists of what
 //! is nearer to each than both radii: any other one is as far as these together. Where many are
-//! near each other, all distances stand row by row as well. A family of `dpl_laminar` stands over the members. A pair, a join or an edge of the
-//! tree is tight where its load equals its distance. Between two stages all pairs are tight and
-//! lead from one top of the family to another, and no load is more than its distance (`IsRest`).
-//! Within a stage there is a tree as well, whose tops are outer and inner by turns on each way
-//! from the root (`IsStage`).
+//! near each other, all distances stand row by row as well. A family of `dpl_laminar` stands over
+//! the members. A pair, a join or an edge of the tree is tight where its load equals its distance.
+//! Between two stages all pairs are tight and lead from one top of the family to another, and no
+//! load is more than its distance (`IsRest`). Within a stage there is a tree as well, whose tops
+//! are outer and inner by turns on each way from the root (`IsStage`).
 //!
 //! A `Matching` is a family with the pairs between its tops and the sums over its members. With
 //! the `Tree` of a stage it is what the steps work on (`IsGrowing`).

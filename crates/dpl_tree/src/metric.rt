@@ -17,10 +17,10 @@ pub struct Close {
     pub far: u64,
 }
 
-/// Even distances between members, which obey the triangle rule. Each member has a radius, and no two are farther from
-/// each other than both radii. They stand in a table, or where few members are near each other, in a list for each member
-/// of those that are nearer to it than both radii; all others are as far as the radii together. Beside a table there are
-/// such lists as well, if they are not too long. No radius is less than `least`.
+/// Even distances between members, which obey the triangle rule. Each member has a radius, and no two are farther
+/// from each other than both radii. They stand in a table, or where few members are near each other, in a list for
+/// each member of those that are nearer to it than both radii; all others are as far as the radii together. Beside
+/// a table there are such lists as well, if they are not too long. No radius is less than `least`.
 #[derive(Drop)]
 pub struct Metric {
     size: usize,
@@ -176,7 +176,7 @@ impl Metric {
         ensures { (t : ℕ) → t < self.now.size → slice_index row.new t ≡ dist_of self.now s t }
     {
         if self.is_full {
-            row.copy_from_slice(self.full_row(s));
+            copy(self.full_row(s), row);
             return;
         }
         write_sums(&self.radii, s, row);
@@ -302,6 +302,16 @@ fn far_to(row: &[Close], member: u32, otherwise: u64) -> u64
         }
     }
     otherwise
+}
+
+/// Writes numbers into another list, one by one.
+fn copy(numbers: &[u64], row: &mut [u64])
+    requires { length row.old ≡ length numbers.now }
+    ensures { (t : ℕ) → t < length numbers.now → slice_index row.new t ≡ slice_index numbers.now t }
+{
+    for t in 0..numbers.len() {
+        row[t] = numbers[t];
+    }
 }
 
 /// Writes the sums of the radius of a member and each one.
