@@ -296,13 +296,13 @@ def shaken_grid(n, pitch, by, seed):
         yield (2 * x, 2 * y, 2 * x + 40, 2 * y + 40)
 
 
-def shaken_lattice(side, pitch, by, seed):
+def shaken_lattice(side, pitch, by, seed, rise=None):
     """A triangular lattice of small boxes, each moved at random by up to so much: most odd faces lie equally far from others."""
-    source = random.Random(seed)
+    source, rise = random.Random(seed), rise or pitch * 13 // 15
     for k in range(side * side):
         column, row = k % side, k // side
         x = pitch * column + pitch // 2 * (row % 2) + source.randint(-by, by)
-        y = pitch * 13 // 15 * row + source.randint(-by, by)
+        y = rise * row + source.randint(-by, by)
         yield (2 * x, 2 * y, 2 * x + 40, 2 * y + 40)
 
 
@@ -406,6 +406,7 @@ def single():
     yield "a shaken grid: 1,816 odd faces of 1,976", layout(shaken_grid(1_600, 45, 8, 1)), OPTIONS
     yield "31 shaken grids: 57,956 odd faces in 31 parts", layout(shaken_grids(31)), OPTIONS
     yield "a shaken triangular lattice of 1,089 boxes", layout(shaken_lattice(33, 60, 6, 1)), OPTIONS
+    yield "one that is squeezed", layout(shaken_lattice(33, 58, 6, 1, 55)), OPTIONS
     yield "9,580 rings of wires and a strip: 2,046 odd faces", layout(rings_and_strip(9_580, 2_046)), OPTIONS
 
 
