@@ -1,5 +1,5 @@
 -- What is kept for a member at the turn of a stage.
-use Rattle.std.proofs.Common.{arith, ◌≡◌, ℕ, ◌+◌, ◌-◌, ◌%◌, ◌<◌, ◌≤◌, ◌^◌, ◌⊎◌, ◌≢◌, refl, ap, Bool, false, inl, inr, Option, Some, None, get_or}
+use Rattle.std.proofs.Common.{arith, ◌≡◌, ℕ, ◌+◌, ◌-◌, ◌%◌, ◌<◌, ◌≤◌, ◌^◌, ◌⊎◌, ◌≢◌, refl, ap, subst, sym, Bool, false, inl, inr, Option, Some, None, get_or}
 use Rattle.dpl_laminar.specs.Storing.{sets_of}
 use Rattle.dpl_tree.specs.declared.matching.Matching.{Matching}
 use Rattle.dpl_tree.specs.Metrics.{Table, IsMetric, dist_of}
@@ -126,3 +126,27 @@ kept_passed {metric} {m} {s} start me want t level above best ht el ea lt h =
       | inr ne ↦ other_passed v place here want t best.pair refl ne h.0
     ] in
     (passed, h.1)
+
+-- where what stands for t is just not behind and there is a best pair, that one stays
+pub kept_equal : {metric : Table} {m : Matching} {s : Stage} → IsAtTurn metric m s → IsMetric metric.size (dist_of metric)
+    → (want : Place) (t level above : ℕ) (best : Best) (pair : Near) → t < metric.size
+    → level ≡ level_of (members_of metric m) s.table.origin
+    → above ≡ key_in (kept_in s.table.near.items t) - get_or m.sums.items t 0 → best.most ≡ above → best.pair ≡ Some pair
+    → place_in s.tree.labels.items ((sets_of m.family).top t) ≡ want
+    → IsBest (members_of metric m) (place_in s.tree.labels.items) level want t best
+    → IsBest (members_of metric m) (place_in s.tree.labels.items) level want (t + 1) best
+kept_equal {metric} {m} {s} start me want t level above best pair ht el ea same is to h =
+    let v : Members = members_of metric m in
+    let place : ℕ → Place = place_in s.tree.labels.items in
+    let found : IsFound v place want t (Some pair) = subst (IsFound v place want t) is h.0 in
+    let passed : IsFound v place want (t + 1) (Some pair) = elim (kept_cases (kept_in s.table.near.items t)) [
+      | inl e ↦ to_passed v place want t (Some pair) (kept_none v place s.table want t start.nearest ht (ap member_of e)) found
+      | inr k ↦
+          let near : Neighbour = k.0 in
+          let y : ℕ = get_or m.sums.items t 0 in
+          let w = kept_within start t near ht k.1 in
+          let more = h.1 (above + 1) (omega (arith, ap key_in k.1, w.0.2, ea)) (omega (arith, same)) in
+          let most : pair.slack ≤ near.key - level - y = omega (arith, more, ap most_of is, ea, ap key_in k.1) in
+          kept_taken start want t near level y false (Some pair) (Some pair) ht k.1 el refl to (inl (refl, most)) found
+    ] in
+    (subst (IsFound v place want (t + 1)) (sym is) passed, h.1)

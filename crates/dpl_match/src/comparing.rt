@@ -1,6 +1,6 @@
 //! The comparison of an outer member with what is kept for others.
 
-ghost use Rattle.std.specs.Prelude.{◌≡◌, ◌≢◌, ℕ, ◌+◌, ◌<◌, ◌≤◌, ◌^◌, length};
+ghost use Rattle.std.specs.Prelude.{◌≡◌, ◌≢◌, ℕ, ◌+◌, ◌<◌, ◌≤◌, ◌^◌, length, slice_index};
 ghost use Rattle.dpl_laminar.specs.Storing.{sets_of};
 ghost use Rattle.dpl_tree.specs.Metrics.{dist_of, radius_of, AreAround};
 ghost use Rattle.dpl_match.specs.steps.Nearest.{kept_in, key_in, kept_of, no_key, is_as_near, compared, neighbour_at};
@@ -55,9 +55,45 @@ fn ceiling_of(metric: &Metric, table: &OuterTable) -> u64
     most
 }
 
-/// Compares an outer member with what is kept for each member. Its keys are its distances and this offset.
+/// Compares an outer member with what is kept for each member, by the row of its distances. Its keys are these and this
+/// offset.
 #[inline(never)]
-fn compare_all(metric: &Metric, matching: &Matching, table: &mut OuterTable, s: u32, offset: u64)
+fn compare_row(
+    metric: &Metric,
+    matching: &Matching,
+    table: &mut OuterTable,
+    row: &[u64],
+    s: u32,
+    offset: u64,
+)
+    requires size { (sets_of matching.now.family).size ≡ metric.now.size }
+    requires table { HasPlaces metric.now table.old }
+    requires count { length row.now ≡ metric.now.size }
+    requires row { (t : ℕ) → t < metric.now.size → slice_index row.now t ≡ dist_of metric.now s t }
+    requires s { s < metric.now.size }
+    requires offset { offset ≤ 2 ^ 61 }
+    ensures table { HasPlaces metric.now table.new }
+    ensures rest { HasSameMembers table.old table.new }
+    ensures each { (t : ℕ) → t < metric.now.size → kept_in table.new.near.items t ≡
+        compared (sets_of matching.now.family) t (kept_in table.old.near.items t)
+        (neighbour_at (dist_of metric.now) s offset t) }
+{
+    let n = metric.size() as u32;
+    for t in 0..n {
+        let key = row[t as usize] + offset;
+        compare_one(matching, table, Neighbour { member: s, key }, t);
+    }
+}
+
+/// Compares an outer member with what is kept for each member, by a row that is written for it.
+#[inline(never)]
+fn compare_written(
+    metric: &Metric,
+    matching: &Matching,
+    table: &mut OuterTable,
+    s: u32,
+    offset: u64,
+)
     requires size { (sets_of matching.now.family).size ≡ metric.now.size }
     requires table { HasPlaces metric.now table.old }
     requires s { s < metric.now.size }
@@ -73,6 +109,24 @@ fn compare_all(metric: &Metric, matching: &Matching, table: &mut OuterTable, s: 
     for t in 0..n {
         let key = table.row[t as usize] + offset;
         compare_one(matching, table, Neighbour { member: s, key }, t);
+    }
+}
+
+/// Compares an outer member with what is kept for each member. Its keys are its distances and this offset.
+fn compare_all(metric: &Metric, matching: &Matching, table: &mut OuterTable, s: u32, offset: u64)
+    requires size { (sets_of matching.now.family).size ≡ metric.now.size }
+    requires table { HasPlaces metric.now table.old }
+    requires s { s < metric.now.size }
+    requires offset { offset ≤ 2 ^ 61 }
+    ensures table { HasPlaces metric.now table.new }
+    ensures rest { HasSameMembers table.old table.new }
+    ensures each { (t : ℕ) → t < metric.now.size → kept_in table.new.near.items t ≡
+        compared (sets_of matching.now.family) t (kept_in table.old.near.items t)
+        (neighbour_at (dist_of metric.now) s offset t) }
+{
+    match metric.row(s) {
+        Some(row) => compare_row(metric, matching, table, row, s, offset),
+        None => compare_written(metric, matching, table, s, offset),
     }
 }
 

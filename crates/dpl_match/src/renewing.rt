@@ -244,6 +244,17 @@ pub struct Others {
     pub outsider: Outsider,
 }
 
+/// Whether it takes less time to ask those around t than all known members outside. Without a table each distance is
+/// sought in the list of what is around.
+fn is_short(metric: &Metric, around: &[Close], others: &Others, t: u32) -> bool
+    requires t { t < metric.now.size }
+{
+    match metric.row(t) {
+        Some(_row) => around.len() <= others.list.len(),
+        None => true,
+    }
+}
+
 /// The nearest to t of all known members that have another top, where none of them has a key below the least one. Those
 /// around it are asked, or all that there are where these are fewer.
 fn search(
@@ -274,7 +285,7 @@ fn search(
 {
     match metric.around(t) {
         Some(list) => {
-            if list.len() <= others.list.len() {
+            if is_short(metric, list, others, t) {
                 return search_near(metric, matching, table, list, &others.outsider, t);
             }
         }

@@ -33,6 +33,7 @@ fn key_of(near: Neighbour) -> u64
 }
 
 /// What is kept where this stands.
+#[inline(always)]
 fn kept(near: Neighbour) -> Option<Neighbour>
     ensures { result ≡ kept_of near }
 {
@@ -84,6 +85,7 @@ impl OuterTable {
     }
 
     /// What is kept for a member.
+    #[inline(always)]
     pub fn nearest(&self, member: u32) -> Option<Neighbour>
         requires { member < length self.now.near.items }
         ensures { result ≡ kept_in self.now.near.items member }

@@ -112,12 +112,13 @@ fn has_mate(mates: &[Option<u32>], member: u32) -> bool
     }
 }
 
-/// Pairs two members without mates where their pair is tight.
-fn pair_tight(metric: &Metric, mates: &mut [Option<u32>], sums: &[u64], s: u32, t: u32)
+/// Pairs two members without mates, which are so far apart, where their pair is tight.
+fn pair_tight(metric: &Metric, mates: &mut [Option<u32>], sums: &[u64], s: u32, t: u32, far: u64)
     requires mates { length mates.old ≡ metric.now.size }
     requires values { AreValues metric.now.size (dist_of metric.now) sums.now }
     requires s { s < metric.now.size }
     requires t { t < metric.now.size }
+    requires far { far ≡ dist_of metric.now s t }
     ensures started { (f : Sets) →
         AreStarted metric.now.size (dist_of metric.now) f mates.old sums.now →
         AreStarted metric.now.size (dist_of metric.now) f mates.new sums.now }
@@ -132,68 +133,80 @@ fn pair_tight(metric: &Metric, mates: &mut [Option<u32>], sums: &[u64], s: u32, 
     if has_mate(mates, t) {
         return;
     }
-    if sums[s as usize] + sums[t as usize] < metric.dist(s, t) {
+    if sums[s as usize] + sums[t as usize] < far {
         return;
     }
     pair(mates, s, t);
 }
 
-/// Pairs a member with the first one whose pair with it is tight.
-fn pair_first(metric: &Metric, mates: &mut [Option<u32>], sums: &[u64], s: u32)
+/// Pairs a member with the first one whose pair with it is tight. Its distances stand in the row.
+fn pair_first(metric: &Metric, mates: &mut [Option<u32>], sums: &[u64], s: u32, row: &[u64])
     requires mates { length mates.old ≡ metric.now.size }
     requires values { AreValues metric.now.size (dist_of metric.now) sums.now }
     requires s { s < metric.now.size }
+    requires count { length row.now ≡ metric.now.size }
+    requires row { (t : ℕ) → t < metric.now.size → slice_index row.now t ≡ dist_of metric.now s t }
     ensures started { (f : Sets) →
         AreStarted metric.now.size (dist_of metric.now) f mates.old sums.now →
         AreStarted metric.now.size (dist_of metric.now) f mates.new sums.now }
 {
     let n = metric.size() as u32;
     for t in 0..n {
-        pair_tight(metric, mates, sums, s, t);
+        pair_tight(metric, mates, sums, s, t, row[t as usize]);
         if has_mate(mates, s) {
             return;
         }
     }
 }
 
-/// The place in a list of the first member whose pair with s is tight.
-fn first_tight(metric: &Metric, sums: &[u64], list: &[u32], s: u32) -> Option<usize>
+/// The place in a list of the first member whose pair with s is tight. The distances of s stand in the row.
+fn first_tight(metric: &Metric, sums: &[u64], row: &[u64], list: &[u32], s: u32) -> Option<usize>
     requires values { AreValues metric.now.size (dist_of metric.now) sums.now }
+    requires count { length row.now ≡ metric.now.size }
     requires list { All (λ t. t < metric.now.size) list.now }
     requires s { s < metric.now.size }
     ensures { (i : ℕ) → result ≡ Some i → i < length list.now }
 {
     let _size = metric.size();
     for i in 0..list.len() {
-        let t = list[i];
-        if metric.dist(s, t) <= sums[s as usize] + sums[t as usize] {
+        let t = list[i] as usize;
+        if row[t] <= sums[s as usize] + sums[t] {
             return Some(i);
         }
     }
     None
 }
 
-/// Pairs a member with the first of those that wait whose pair with it is tight. Where there is none, it waits too.
+/// Pairs a member with the first of those that wait whose pair with it is tight. Where there is none, it waits too. The
+/// row is room for its distances.
 fn pair_or_wait(
     metric: &Metric,
     mates: &mut [Option<u32>],
     sums: &[u64],
+    row: &mut [u64],
     waiting: &mut Vec<u32>,
     s: u32,
 ) -> Result<(), AllocError>
     requires mates { length mates.old ≡ metric.now.size }
     requires values { AreValues metric.now.size (dist_of metric.now) sums.now }
+    requires row { length row.old ≡ metric.now.size }
     requires waiting { All (λ t. t < metric.now.size) waiting.old.items }
     requires s { s < metric.now.size }
+    ensures row { OnOk result (length row.new ≡ metric.now.size) }
     ensures waiting { OnOk result (All (λ t. t < metric.now.size) waiting.new.items) }
     ensures started { (f : Sets) →
         AreStarted metric.now.size (dist_of metric.now) f mates.old sums.now →
         AreStarted metric.now.size (dist_of metric.now) f mates.new sums.now }
 {
-    match first_tight(metric, sums, waiting, s) {
+    if waiting.is_empty() {
+        waiting.push(s)?;
+        return Ok(());
+    }
+    metric.write_row(s, row);
+    match first_tight(metric, sums, row, waiting, s) {
         Some(i) => {
             let t = waiting.remove(i);
-            pair_tight(metric, mates, sums, s, t);
+            pair_tight(metric, mates, sums, s, t, row[t as usize]);
             Ok(())
         }
         None => {
@@ -209,9 +222,12 @@ fn pair_all_tight(
     metric: &Metric,
     mates: &mut [Option<u32>],
     sums: &[u64],
+    row: &mut [u64],
 ) -> Result<(), AllocError>
     requires mates { length mates.old ≡ metric.now.size }
     requires values { AreValues metric.now.size (dist_of metric.now) sums.now }
+    requires row { length row.old ≡ metric.now.size }
+    ensures row { OnOk result (length row.new ≡ metric.now.size) }
     ensures started { (f : Sets) →
         AreStarted metric.now.size (dist_of metric.now) f mates.old sums.now →
         AreStarted metric.now.size (dist_of metric.now) f mates.new sums.now }
@@ -219,7 +235,7 @@ fn pair_all_tight(
     let n = metric.size() as u32;
     let mut waiting = Vec::new(alloc);
     for s in 0..n {
-        pair_or_wait(metric, mates, sums, &mut waiting, s)?;
+        pair_or_wait(metric, mates, sums, row, &mut waiting, s)?;
     }
     Ok(())
 }
@@ -237,6 +253,8 @@ fn lift_one<L: Ledger>(
     requires alone { AreAlone metric.now.size (sets_of family.old) sums.old }
     requires row { length row.old ≡ metric.now.size }
     requires s { s < metric.now.size }
+    ensures count { length row.new ≡ metric.now.size }
+    ensures row { (t : ℕ) → t < metric.now.size → slice_index row.new t ≡ dist_of metric.now s t }
     ensures started { (mates : List (Option ℕ)) → mate_in mates s ≡ None →
         AreStarted metric.now.size (dist_of metric.now) (sets_of family.old) mates sums.old →
         AreStarted metric.now.size (dist_of metric.now) (sets_of family.new) mates sums.new }
@@ -272,7 +290,7 @@ fn settle_one<L: Ledger>(
         return;
     }
     lift_one(metric, family, sums, row, s, steps);
-    pair_first(metric, mates, sums, s);
+    pair_first(metric, mates, sums, s, row);
 }
 
 /// Raises each single member that has no mate when its turn comes, and pairs it where it can.
@@ -320,8 +338,8 @@ pub fn begin<L: Ledger>(
         return Ok(());
     }
     raise_all(metric, family, sums, steps);
-    pair_all_tight(alloc, metric, mates, sums)?;
     let mut row = vec![in alloc; 0; metric.size()]?;
+    pair_all_tight(alloc, metric, mates, sums, &mut row)?;
     settle_all(metric, family, mates, sums, &mut row, steps);
     Ok(())
 }

@@ -217,23 +217,113 @@ fn median(alloc: Global, nearest: &[Nearest]) -> Result<u64, AllocError>
     }
 }
 
-/// Whether half of the faces of a part or more are odd, by all faces that its first odd one reaches.
-fn is_crowded(dual: &Dual, list: &[u32], reach: &mut Distances) -> Result<bool, AllocError>
+/// How many faces of a part are odd.
+#[derive(Clone, Copy)]
+enum Share {
+    /// Less than half.
+    Few,
+    /// Half or more.
+    Half,
+    /// Nine of ten or more.
+    Most,
+    /// 31 of 32 or more.
+    NearlyAll,
+}
+
+/// How many faces of a part are odd, by all faces that one of these reaches.
+fn share_of(
+    dual: &Dual,
+    list: &[u32],
+    face: u32,
+    reach: &mut Distances,
+) -> Result<Share, AllocError>
     requires dual { CameFromDual dual.now }
-    requires faces { All (λ f. f < dual.now.faces) list.now }
+    requires face { face < dual.now.faces }
 {
-    match list.first() {
-        Some(first) => {
-            distances(dual, *first, reach)?;
-            Ok(reach.reached().len() / 2 <= list.len())
-        }
-        None => Ok(false),
+    distances(dual, face, reach)?;
+    let faces = reach.reached().len();
+    if list.len() < faces / 2 {
+        return Ok(Share::Few);
     }
+    if list.len() < faces - faces / 10 {
+        return Ok(Share::Half);
+    }
+    if list.len() < faces - faces / 32 {
+        return Ok(Share::Most);
+    }
+    Ok(Share::NearlyAll)
+}
+
+/// Whether a face is nearer than a limit to at most half as many faces as are listed.
+fn sees_few(
+    dual: &Dual,
+    list: &[u32],
+    face: u32,
+    limit: u64,
+    reach: &mut Distances,
+) -> Result<bool, AllocError>
+    requires dual { CameFromDual dual.now }
+    requires face { face < dual.now.faces }
+{
+    distances_within(dual, face, limit, reach)?;
+    Ok(reach.reached().len() <= list.len() / 2)
+}
+
+/// The distances of faces from their nearest ones: one that half of them have, or a lesser one, and the greatest.
+#[derive(Clone, Copy)]
+struct Fars {
+    middle: u64,
+    most: u64,
+}
+
+/// The margin that is tried first among many faces, of which one is given. With the least one each sees its nearest one.
+fn margin_among(
+    dual: &Dual,
+    list: &[u32],
+    face: u32,
+    fars: Fars,
+    least: u64,
+    reach: &mut Distances,
+) -> Result<u64, AllocError>
+    requires dual { CameFromDual dual.now }
+    requires face { face < dual.now.faces }
+    requires middle { fars.middle ≤ 1099511627776 }
+    requires most { fars.most ≤ 1099511627776 }
+    requires least { IsLimit least }
+    ensures { IfOk result (λ margin. IsLimit margin) }
+{
+    let narrow = least.max(fars.middle / 2 * 3 + 2);
+    let wide = least.max(fars.middle / 2 * 5 + 2);
+    match share_of(dual, list, face, reach)? {
+        Share::Few => {
+            if fars.most <= fars.middle {
+                return Ok(least);
+            }
+            return Ok(narrow);
+        }
+        Share::Half => {}
+        Share::Most => {
+            if sees_few(dual, list, face, 2 * wide + fars.middle, reach)? {
+                return Ok(wide);
+            }
+        }
+        Share::NearlyAll => {
+            if sees_few(dual, list, face, 2 * narrow + fars.middle, reach)? {
+                return Ok(narrow);
+            }
+        }
+    }
+    if fars.most <= fars.middle {
+        return Ok(least);
+    }
+    Ok(least.max(fars.most * 4))
 }
 
 /// The margin that is tried first: each face sees its nearest one, and among many faces, of which some are farther
-/// from others than half of them are, those about twice as far again. Where most faces are odd, pairs that lie far
-/// apart are left between others, and there are few faces to search: then each sees far more than its nearest one.
+/// from others than half of them are, those about twice as far again. Where half of the faces of a part or more are odd,
+/// pairs that lie far apart are left between others, and there are few faces to search: then each sees far more than its
+/// nearest one. Where nine of ten are, the more there are, the less far apart such pairs are, so that each sees some
+/// steps far alone, unless it sees half of all others so, as beside an outer face that is next to all of them.
 pub fn first_margin(
     alloc: Global,
     dual: &Dual,
@@ -249,15 +339,14 @@ pub fn first_margin(
     if nearest.len() < MANY {
         return Ok(least);
     }
-    let middle = median(alloc, nearest)?;
-    let most = greatest(nearest);
-    if most <= middle {
-        return Ok(least);
+    let fars = Fars {
+        middle: median(alloc, nearest)?,
+        most: greatest(nearest),
+    };
+    match list.get(list.len() / 2) {
+        Some(face) => margin_among(dual, list, *face, fars, least, reach),
+        None => Ok(least),
     }
-    if is_crowded(dual, list, reach)? {
-        return Ok(least.max(most * 4));
-    }
-    Ok(least.max(middle / 2 * 3 + 2))
 }
 
 /// The margin that is tried after another.

@@ -240,13 +240,13 @@ fn add_row(row: &[u64], radii: &[u64], s: u32, pairs: &mut Pairs) -> Result<(), 
     Ok(())
 }
 
-/// So many are listed for each member on average at most. Where more are near, a row of the table takes no longer.
-const MOST_LISTED: usize = 256;
+/// How many are listed for each of so many members on average at most. Where more are near, a row of the table takes no longer.
+fn most_listed(count: usize) -> usize {
+    512_usize.min(count / 2)
+}
 
-/// The average is taken as if for so many members more, so that a few with many near ones do not decide it.
-const MORE: usize = 64;
-
-/// For each member those that are nearer to it than both radii, unless these are too many.
+/// For each member those that are nearer to it than both radii, unless these are too many. The average is taken as if for
+/// a quarter of all members more, so that a few with many near ones do not decide it.
 fn all_lists(
     alloc: Global,
     n: u32,
@@ -261,10 +261,11 @@ fn all_lists(
         close: Vec::new(alloc),
     };
     let size = n as usize;
+    let most = most_listed(size);
     for s in 0..n {
         let row = part(rows, s as usize * size, size);
         add_row(row, radii, s, &mut pairs)?;
-        if pairs.close.len() > MOST_LISTED * (s as usize + MORE) {
+        if pairs.close.len() / (s as usize + size / 4 + 1) > most {
             return Ok(None);
         }
     }

@@ -9,5 +9,5 @@ returns c =
     let nt : mate_in c.args.mates.now c.args.t ≡ None = c.has_mate-2.ensures c.if-has_mate-2.false in
     record {
       started = λ f w. rw c.pair.ensures (tight_started c.args.s c.args.t c.size-size.ensures.table.metric
-          c.requires.s c.requires.t c.if-s-t.false ns nt (omega (arith, c.if-sums-s.false, c.dist.ensures)) w);
+          c.requires.s c.requires.t c.if-s-t.false ns nt (omega (arith, c.if-sums-s.false, c.requires.far)) w);
     }

@@ -8,7 +8,7 @@ use Rattle.dpl_match.specs.declared.stage.Neighbour.{Neighbour}
 use Rattle.dpl_match.specs.declared.stage.OuterTable.{OuterTable}
 use Rattle.dpl_match.specs.steps.Nearest.{compared, key_in, kept_in, neighbour_at}
 use Rattle.dpl_match.proofs.ComparedLemmas.{compared_less, key_few}
-use Rattle.dpl_match.proofs.comparing.compare_all.Goals as goal
+use Rattle.dpl_match.proofs.comparing.compare_row.Goals as goal
 
 pub loop-t-preserved : goal.loop-t-preserved
 loop-t-preserved c =
@@ -18,19 +18,16 @@ loop-t-preserved c =
     let offset : ℕ = c.args.offset in
     let known = c.loop-t.invariant in
     let r = c.compare_one.ensures in
-    let row = ap (λ (z : OuterTable). z.row) r.rest in
     let low : t < c.args.metric.now.size = omega (arith, c.loop-t-test.true, c.size-n.ensures.value) in
-    let dist = c.index.ensures ∙ get_or_default c.loop-t.table.row.items t c.index.result.now 0 (omega (arith, low, known.row_count)) ∙
-    known.row t low in
+    let dist = get_or_default c.args.row.now t _ 0 (omega (arith, low, c.requires.count)) ∙ c.requires.row t low in
     record {
       same = record {
         origin = ap (λ (z : OuterTable). z.origin) r.rest ∙ known.same.origin;
         known = ap (λ (z : OuterTable). z.known) r.rest ∙ known.same.known;
       };
       count = r.count ∙ known.count;
-      row_count = ap (λ z. length z.items) row ∙ known.row_count;
+      written = ap (λ (z : OuterTable). z.row) r.rest ∙ known.written;
       ceiling = ap (λ (z : OuterTable). z.ceiling) r.rest ∙ known.ceiling;
-      row = rw row known.row;
       done = λ k h. elim (cases_eq k t) [
         | inl e ↦ rw e (r.nearer ∙
             ap (λ (z : ℕ). compared f t (kept_in c.loop-t.table.near.items t) (record { member = s; key = z + offset })) dist ∙
@@ -48,7 +45,7 @@ returns-clause-table c =
       origin_below = omega (arith, known.same.origin, given.origin_below);
       known_count = ap (λ z. length z.items) known.same.known ∙ given.known_count;
       near_count = known.count;
-      row_count = known.row_count;
+      row_count = ap (λ z. length z.items) known.written ∙ given.row_count;
       most = λ t h.
           omega (
             arith,
