@@ -217,6 +217,9 @@ fn median(alloc: Global, nearest: &[Nearest]) -> Result<u64, AllocError>
     }
 }
 
+/// From so many odd faces on a margin that is far too wide costs more than a search that finds no pairs.
+const CROWD: usize = 640;
+
 /// How many faces of a part are odd.
 #[derive(Clone, Copy)]
 enum Share {
@@ -254,7 +257,7 @@ fn share_of(
     Ok(Share::NearlyAll)
 }
 
-/// Whether a face is nearer than a limit to at most half as many faces as are listed.
+/// Whether a list is long, and one of its faces is nearer than a limit to at most half as many faces as are listed.
 fn sees_few(
     dual: &Dual,
     list: &[u32],
@@ -265,6 +268,9 @@ fn sees_few(
     requires dual { CameFromDual dual.now }
     requires face { face < dual.now.faces }
 {
+    if list.len() < CROWD {
+        return Ok(false);
+    }
     distances_within(dual, face, limit, reach)?;
     Ok(reach.reached().len() <= list.len() / 2)
 }
@@ -276,7 +282,7 @@ struct Fars {
     most: u64,
 }
 
-/// The margin that is tried first among many faces, of which one is given. With the least one each sees its nearest one.
+/// The margin that is tried first among many faces, of which one is given. With the least one each sees its nearest.
 fn margin_among(
     dual: &Dual,
     list: &[u32],
@@ -320,10 +326,11 @@ fn margin_among(
 }
 
 /// The margin that is tried first: each face sees its nearest one, and among many faces, of which some are farther
-/// from others than half of them are, those about twice as far again. Where half of the faces of a part or more are odd,
-/// pairs that lie far apart are left between others, and there are few faces to search: then each sees far more than its
-/// nearest one. Where nine of ten are, the more there are, the less far apart such pairs are, so that each sees some
-/// steps far alone, unless it sees half of all others so, as beside an outer face that is next to all of them.
+/// from others than half of them are, those about twice as far again. Where half of the faces of a part or more are
+/// odd, pairs that lie far apart are left between others, and there are few faces to search: then each sees far more
+/// than its nearest one. Where nine of ten are, such pairs are the less far apart the more faces are odd. Then each of
+/// very many sees some steps far alone, unless it sees half of all others so, as beside an outer face that is next to
+/// all of them.
 pub fn first_margin(
     alloc: Global,
     dual: &Dual,
