@@ -257,7 +257,8 @@ fn share_of(
     Ok(Share::NearlyAll)
 }
 
-/// Whether a list is long, and one of its faces is nearer than a limit to at most half as many faces as are listed.
+/// Whether a list is long, and one of its faces is nearer than a limit to at most three quarters as many faces as are
+/// listed.
 fn sees_few(
     dual: &Dual,
     list: &[u32],
@@ -272,7 +273,7 @@ fn sees_few(
         return Ok(false);
     }
     distances_within(dual, face, limit, reach)?;
-    Ok(reach.reached().len() <= list.len() / 2)
+    Ok(reach.reached().len() <= list.len() - list.len() / 4)
 }
 
 /// The distances of faces from their nearest ones: one that half of them have, or a lesser one, and the greatest.
