@@ -17,9 +17,9 @@ use Rattle.dpl_match.specs.steps.Going.{IsAtTurn}
 use Rattle.dpl_match.specs.steps.Nearest.{AreNear}
 use Rattle.dpl_match.specs.steps.Scans.{members_of}
 use Rattle.dpl_match.specs.declared.turning_on.Turned.{Turned}
-use Rattle.dpl_match.specs.steps.Turns.{IsDueNow, IsChosen, IfGrown, IsGrownBy, IfOpened, AreParted}
+use Rattle.dpl_match.specs.steps.Turns.{IsDueNow, IsChosen, IfGrown, IsGrownBy}
 use Rattle.dpl_match.proofs.NearLemmas.{moved}
-use Rattle.dpl_match.proofs.TurnLemmas.{totals_enough, turned_stage, turned_totals, advance_back, end_back, shifts_few, grown_as, opened_as}
+use Rattle.dpl_match.proofs.TurnLemmas.{totals_enough, turned_stage, turned_totals, advance_back, end_back, shifts_few, grown_as}
 
 -- no total of an inner member falls below 0
 pub shift_enough : {metric : Table} {m : Matching} {s : Stage} {by : ℕ} {event : Event} → IsAtTurn metric m s
@@ -46,14 +46,6 @@ grown_back metric m next last t u o e w =
       others = λ k h p ne. ap (place_in t.labels.items) (sym (top k)) ∙ w.others k h p ne;
     }
 
--- so are parted tops
-parted_back : (metric : Table) (m next last : Matching)
-    → sets_of next.family ≡ record (sets_of m.family) { value = (sets_of next.family).value }
-    → AreParted metric next last → AreParted metric m last
-parted_back metric m next last e w =
-    let top = λ (k : ℕ). (let z : (sets_of next.family).top k ≡ (sets_of m.family).top k = ap (λ (y : Sets). y.top k) e in z) in
-    record { finer = λ a b ha hb z. sym (top a) ∙ w.finer a b ha hb z ∙ top b }
-
 -- a matching has become the next one by a change of values: the event after it starts from this, and
 -- what holds after that event holds of the state before the change
 pub record IsShifted (metric : Table) (m next : Matching) (s : Stage) (event : Event) (before steps : ℕ) : Type 0 where
@@ -65,7 +57,6 @@ pub record IsShifted (metric : Table) (m next : Matching) (s : Stage) (event : E
   pub on : (last : Matching) (u : Tree) → IsNext metric next s.tree last u → IsNext metric m s.tree last u
   pub grows : (r : Turned) (last : Matching) (u : Tree) → IfGrown r (IsGrownBy metric next s.tree last u) →
       IfGrown r (IsGrownBy metric m s.tree last u)
-  pub opens : (r : Turned) (last : Matching) → IfOpened r (AreParted metric next last) → IfOpened r (AreParted metric m last)
   pub ends : (h : Sets) (new : ℕ → Option ℕ) → Ends metric.size (dist_of metric) (sets_of next.family) (forest_of s.tree next.mates.items) h new →
       Ends metric.size (dist_of metric) (sets_of m.family) (forest_of s.tree m.mates.items) h new
   pub nears : (last : Matching) (u : Tree) → IsNext metric next s.tree last u → last.sums ≡ next.sums →
@@ -118,7 +109,6 @@ shifted {metric} {m} {next} {s} {by} {event} me start ch same values fam sum mat
       };
       grows = λ r last u w. grown_as r (IsGrownBy metric next s.tree last u) (IsGrownBy metric m s.tree last u)
           (λ o. grown_back metric m next last s.tree u o same) w;
-      opens = λ r last w. opened_as r (AreParted metric next last) (AreParted metric m last) (parted_back metric m next last same) w;
       ends = λ h new w. end_back n f g h dist x new same (subst (λ (z : List (Option ℕ)). Ends n dist g (forest_of s.tree z) h new) em w);
       nears = λ last u w e. rw e (moved n f (sets_of last.family) x.place (place_in u.labels.items) dist (λ k. get_or m.sums.items k 0)
           (λ k. get_or next.sums.items k 0) s.table by start.table.origin_below start.nearest.near_outer (widens last u w) total);

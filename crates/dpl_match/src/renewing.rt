@@ -1,6 +1,6 @@
 //! The search for what is kept anew, where it has come into the same top.
 
-ghost use Rattle.std.specs.Prelude.{◌≡◌, ◌≢◌, ℕ, ◌+◌, ◌<◌, ◌≤◌, ◌^◌, ◌⊎◌, Some, length, slice_index, slice_set, IfOk, OnOk};
+ghost use Rattle.std.specs.Prelude.{◌≡◌, ◌≢◌, ℕ, ◌+◌, ◌<◌, ◌≤◌, ◌^◌, ◌⊎◌, Some, None, length, slice_index, slice_set, IfOk, OnOk};
 ghost use Rattle.dpl_laminar.specs.Storing.{sets_of};
 ghost use Rattle.dpl_tree.specs.Metrics.{dist_of, radius_of, AreAround};
 ghost use Rattle.dpl_match.specs.steps.Nearest.{is_known, near_in, kept_in, kept_of, member_of, level_of};
@@ -242,6 +242,22 @@ pub struct Others {
     pub top: Option<u32>,
     pub list: Vec<u32>,
     pub outsider: Outsider,
+}
+
+impl Others {
+    /// None were looked for.
+    pub fn none(alloc: Global) -> Others
+        ensures { result.top ≡ None }
+    {
+        Others {
+            top: None,
+            list: Vec::new(alloc),
+            outsider: Outsider {
+                member: 0,
+                reach: 0,
+            },
+        }
+    }
 }
 
 /// Whether it takes less time to ask those around t than all known members outside. Without a table each distance is

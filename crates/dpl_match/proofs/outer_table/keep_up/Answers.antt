@@ -3,9 +3,9 @@ use Rattle.std.proofs.lemmas.Bool.{cases_eq}
 use Rattle.dpl_tree.specs.steps.Forests.{Place}
 use Rattle.dpl_tree.specs.Views.{place_in}
 use Rattle.dpl_match.specs.declared.turning_on.Turned.{Turned}
-use Rattle.dpl_match.specs.steps.Nearest.{LacksOnly, KeepsApart}
+use Rattle.dpl_match.specs.steps.Nearest.{LacksOnly}
 use Rattle.dpl_match.specs.steps.Scans.{Members, members_of}
-use Rattle.dpl_match.specs.steps.Turns.{IfGrown, IfOpened}
+use Rattle.dpl_match.specs.steps.Turns.{IfGrown}
 use Rattle.dpl_match.proofs.outer_table.keep_up.Goals as goal
 
 pub learn_top-requires-clause-member : goal.learn_top-requires-clause-member
@@ -27,11 +27,4 @@ returns-in-Grown-clause-nearest c =
         | inl e ↦ r.taken m h e p
         | inr ne ↦ r.kept m (q.others m h p ne)
       ];
-      apart = r.apart q.apart;
     }
-
-pub returns-in-Opened-clause-nearest : goal.returns-in-Opened-clause-nearest
-returns-in-Opened-clause-nearest c =
-    let v : Members = members_of c.args.metric.now c.args.matching.now in
-    let q = subst (λ (z : Turned). IfOpened z (KeepsApart v c.args.table.now)) c.in-Opened.is c.requires.opened in
-    record { near_outer = c.learn.ensures.near; all = c.learn.ensures.all; apart = c.learn.ensures.apart q }

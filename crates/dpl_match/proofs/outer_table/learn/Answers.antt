@@ -9,5 +9,4 @@ loop-s-preserved c =
       table = r.table;
       near = r.near;
       all = below_more _ _ (λ m h p. r.kept m (w.all m h p)) r.taken;
-      apart = λ q. r.apart (w.apart q);
     }

@@ -28,5 +28,4 @@ loop-s-preserved c =
       near = r.near;
       taken = below_more _ _ (λ m h e p. r.kept m (w.taken m h e p)) r.taken;
       kept = λ m k. r.kept m (w.kept m k);
-      apart = λ q. r.apart (w.apart q);
     }

@@ -1,6 +1,6 @@
 use Rattle.std.proofs.Common.{◌≡◌, ℕ, ◌<◌, true}
 use Rattle.dpl_laminar.specs.Storing.{sets_of}
-use Rattle.dpl_match.specs.steps.Nearest.{is_known, HasPlaces, KeepsApart, AreNear}
+use Rattle.dpl_match.specs.steps.Nearest.{is_known, HasPlaces, AreNear}
 use Rattle.dpl_match.specs.steps.Scans.{members_of}
 use Rattle.dpl_tree.specs.steps.Forests.{outer}
 use Rattle.dpl_tree.specs.Views.{place_in}
@@ -13,5 +13,4 @@ invariant-loop-s l = record {
   taken : (m : ℕ) → m < l.s → (sets_of l.matching.family).top m ≡ l.top →
       place_in l.tree.labels.items ((sets_of l.matching.family).top m) ≡ outer → is_known l.table.known.items m ≡ true;
   kept : (m : ℕ) → is_known l.fn.table.known.items m ≡ true → is_known l.table.known.items m ≡ true;
-  apart : KeepsApart (members_of l.metric l.matching) l.fn.table → KeepsApart (members_of l.metric l.matching) l.table;
 }

@@ -9,18 +9,20 @@ use Rattle.dpl_match.proofs.scan.compare_kept.Goals as goal
 
 pub overflow_sub-above : goal.overflow_sub-above
 overflow_sub-above c =
-    let w = kept_within c.requires.start c.args.t c.in-Some.near c.requires.to (sym c.nearest.ensures ∙ c.in-Some.is) in
+    let w = kept_within c.requires.start c.args.t c.in-Some.near c.requires.to (sym c.nearest.ensures ∙ c.in-Some.is)
+    c.requires.apart in
     omega (arith, w.0.1, w.1, c.requires.level)
 
 pub overflow_sub-slack : goal.overflow_sub-slack
 overflow_sub-slack c =
-    let w = kept_within c.requires.start c.args.t c.in-Some.near c.requires.to (sym c.nearest.ensures ∙ c.in-Some.is) in
+    let w = kept_within c.requires.start c.args.t c.in-Some.near c.requires.to (sym c.nearest.ensures ∙ c.in-Some.is)
+    c.requires.apart in
     omega (arith, w.0.1, w.1, c.requires.level, c.sum.ensures)
 
 pub returns-in-Some : goal.returns-in-Some
 returns-in-Some c = λ want to found. kept_taken c.requires.start want c.args.t c.in-Some.near c.args.level c.sum.result
-    _ c.args.best.now _ c.requires.to (sym c.nearest.ensures ∙ c.in-Some.is) c.requires.level c.sum.ensures to
-    c.keep_nearer.ensures found
+    _ c.args.best.now _ c.requires.to (sym c.nearest.ensures ∙ c.in-Some.is) c.requires.apart c.requires.level c.sum.ensures
+    to c.keep_nearer.ensures found
 
 pub returns-in-None : goal.returns-in-None
 returns-in-None c = λ want to found.

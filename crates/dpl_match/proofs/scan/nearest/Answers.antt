@@ -15,10 +15,10 @@ pub returns-clause-free : goal.returns-clause-free
 returns-clause-free c =
     let e : c.loop-t.t ≡ c.args.metric.now.size = omega (arith, c.loop-t-test.false, c.loop-t.auto.t-end, c.size-n.ensures.value) in
     subst (λ (z : ℕ). IsFound (members_of c.args.metric.now c.args.matching.now) (place_in c.args.stage.now.tree.labels.items)
-    free z c.loop-t.best.free.pair) e c.loop-t.invariant.0.0
+    free z c.loop-t.best.free.pair) e c.loop-t.invariant.free.0
 
 pub returns-clause-outer : goal.returns-clause-outer
 returns-clause-outer c =
     let e : c.loop-t.t ≡ c.args.metric.now.size = omega (arith, c.loop-t-test.false, c.loop-t.auto.t-end, c.size-n.ensures.value) in
     subst (λ (z : ℕ). IsFound (members_of c.args.metric.now c.args.matching.now) (place_in c.args.stage.now.tree.labels.items)
-    outer z c.loop-t.best.outer.pair) e c.loop-t.invariant.1.0
+    outer z c.loop-t.best.outer.pair) e c.loop-t.invariant.outer.0

@@ -1,0 +1,34 @@
+use Rattle.std.proofs.Common.{sym}
+use Rattle.dpl_tree.specs.steps.Forests.{outer}
+use Rattle.dpl_match.proofs.NearLemmas.{sums_small}
+use Rattle.dpl_match.proofs.KeptLemmas.{kept_passed}
+use Rattle.dpl_match.proofs.StageLemmas.{turn_renewed}
+use Rattle.dpl_match.proofs.scan.outer_step.Goals as goal
+
+pub returns-then-best-above_of-clause-best : goal.returns-then-best-above_of-clause-best
+returns-then-best-above_of-clause-best c = kept_passed c.requires.start c.size-size.ensures.table.metric outer c.args.t c.args.level
+    c.above_of.result c.args.best.now c.requires.to c.requires.level c.above_of.ensures c.if-best-above_of.true c.requires.best
+
+pub renew_one-requires-clause-totals : goal.renew_one-requires-clause-totals
+renew_one-requires-clause-totals c =
+    let table = c.size-size.ensures.table in
+    let start = c.requires.start in
+    sums_small table.even table.metric start.growing.lists start.growing.stage.rest
+
+pub renew_one-requires-clause-measured : goal.renew_one-requires-clause-measured
+renew_one-requires-clause-measured c = c.requires.start.nearest.near_outer.measured c.args.t c.requires.to
+
+pub nearest_step-requires-clause-start : goal.nearest_step-requires-clause-start
+nearest_step-requires-clause-start c =
+    let r = c.in_ok-renew_one.ensures in
+    turn_renewed c.renew_one.new.table c.args.t c.requires.start r.table r.rest (rw (sym r.rest.known) r.near)
+    (rw (sym r.rest.origin) r.measured) r.kept
+
+pub returns-clause-start : goal.returns-clause-start
+returns-clause-start c =
+    let r = c.in_ok-renew_one.ensures in
+    turn_renewed c.renew_one.new.table c.args.t c.requires.start r.table r.rest (rw (sym r.rest.known) r.near)
+    (rw (sym r.rest.origin) r.measured) r.kept
+
+pub returns-clause-best : goal.returns-clause-best
+returns-clause-best c = c.nearest_step.ensures outer c.requires.outer c.requires.best
