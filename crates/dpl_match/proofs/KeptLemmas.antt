@@ -11,7 +11,7 @@ use Rattle.dpl_match.specs.declared.stage.Stage.{Stage}
 use Rattle.dpl_match.specs.steps.Going.{IsAtTurn}
 use Rattle.dpl_match.specs.declared.stage.Neighbour.{Neighbour}
 use Rattle.dpl_match.specs.steps.Nearest.{key_in, kept_in, near_in, member_of, level_of, HasKey, IsApart}
-use Rattle.dpl_match.specs.steps.Scans.{Members, members_of, most_of, IsFound, IsBest, IsNearer}
+use Rattle.dpl_match.specs.steps.Scans.{Members, members_of, most_of, IsFound, IsBest, IsNearer, IsBehind}
 use Rattle.dpl_match.proofs.NearLemmas.{to_passed, to_behind, to_taken, kept_none, kept_pair, kept_least}
 use Rattle.dpl_match.proofs.TurnLemmas.{totals_within}
 
@@ -94,17 +94,17 @@ kept_behind {metric} {m} {s} start me want t level best ht el le lt h =
       to_behind v place want t pair (λ s p. omega (arith, least s p, le, ap key_in is, w.1, el)) h
 
 -- so it does by the most that is not behind
-pub kept_passed : {metric : Table} {m : Matching} {s : Stage} → IsAtTurn metric m s → IsMetric metric.size (dist_of metric)
+kept_more : {metric : Table} {m : Matching} {s : Stage} → IsAtTurn metric m s → IsMetric metric.size (dist_of metric)
     → (want : Place) (t level above : ℕ) (best : Best) → t < metric.size → level ≡ level_of (members_of metric m) s.table.origin
     → above ≡ key_in (kept_in s.table.near.items t) - get_or m.sums.items t 0 → best.most < above
     → IsBest (members_of metric m) (place_in s.tree.labels.items) level want t best
     → IsBest (members_of metric m) (place_in s.tree.labels.items) level want (t + 1) best
-kept_passed {metric} {m} {s} start me want t level above best ht el ea lt h =
+kept_more {metric} {m} {s} start me want t level above best ht el ea lt h =
     let more = h.1 above (omega (arith, key_low start t ht, ea)) lt in
     (kept_behind start me want t level best.pair ht el (omega (arith, more, ea)) (λ _. omega (arith, more, ea)) h.0, h.1)
 
 -- where what is kept for t is just not behind and there is a best pair, that one stays
-pub kept_equal : {metric : Table} {m : Matching} {s : Stage} → IsAtTurn metric m s → IsMetric metric.size (dist_of metric)
+kept_equal : {metric : Table} {m : Matching} {s : Stage} → IsAtTurn metric m s → IsMetric metric.size (dist_of metric)
     → (want : Place) (t level above : ℕ) (best : Best) (pair : Near) → t < metric.size
     → level ≡ level_of (members_of metric m) s.table.origin
     → above ≡ key_in (kept_in s.table.near.items t) - get_or m.sums.items t 0 → best.most ≡ above → best.pair ≡ Some pair
@@ -120,3 +120,13 @@ kept_equal {metric} {m} {s} start me want t level above best pair ht el ea same 
           (kept_behind start me want t level best.pair ht el (omega (arith, more, ea))
           (λ none. let bad : None ≡ Some pair = sym none ∙ is in cc) h.0, h.1)
     ]
+
+-- so the best pair stays where what is kept for t is behind, whatever its top
+pub kept_passed : {metric : Table} {m : Matching} {s : Stage} → IsAtTurn metric m s → IsMetric metric.size (dist_of metric)
+    → (want : Place) (t level above : ℕ) (best : Best) → t < metric.size → level ≡ level_of (members_of metric m) s.table.origin
+    → above ≡ key_in (kept_in s.table.near.items t) - get_or m.sums.items t 0 → IsBehind best above
+    → IsBest (members_of metric m) (place_in s.tree.labels.items) level want t best
+    → IsBest (members_of metric m) (place_in s.tree.labels.items) level want (t + 1) best
+kept_passed start me want t level above best ht el ea (inl lt) h = kept_more start me want t level above best ht el ea lt h
+kept_passed start me want t level above best ht el ea (inr same) h =
+    kept_equal start me want t level above best same.1.0 ht el ea same.0 same.1.1 h

@@ -1,4 +1,4 @@
-use Rattle.std.proofs.Common.{◌≡◌, ◌+◌, ℕ, sym, ap, ◌∙◌, refl, false, List}
+use Rattle.std.proofs.Common.{◌≡◌, ◌+◌, ℕ, sym, ap, ◌∙◌, refl, false, List, inl}
 use Rattle.std.specs.Prelude.{slice_index_or}
 use Rattle.std.proofs.lemmas.Result.{on_ok_weaker}
 use Rattle.dpl_tree.specs.declared.tree.Label.{Label}
@@ -30,12 +30,12 @@ elsewhere v labels level t set label here want o e l h ne found = (
 pub returns-then-best-above-2-clause-free : goal.returns-then-best-above-2-clause-free
 returns-then-best-above-2-clause-free c = kept_passed c.requires.start c.size-size.ensures.table.metric free c.args.t c.args.level
     c.above_of-above.result c.args.best.now.free c.requires.to c.requires.level c.above_of-above.ensures
-    c.if-best-above.true c.requires.free
+    (inl c.if-best-above.true) c.requires.free
 
 pub returns-then-best-above-2-clause-outer : goal.returns-then-best-above-2-clause-outer
 returns-then-best-above-2-clause-outer c = kept_passed c.requires.start c.size-size.ensures.table.metric outer c.args.t c.args.level
     c.above_of-above.result c.args.best.now.outer c.requires.to c.requires.level c.above_of-above.ensures
-    c.if-best-above-2.true c.requires.outer
+    (inl c.if-best-above-2.true) c.requires.outer
 
 pub nearest_step-requires-clause-apart : goal.nearest_step-requires-clause-apart
 nearest_step-requires-clause-apart c = kept_free (members_of c.args.metric.now c.args.matching.now)

@@ -5,9 +5,10 @@ use Rattle.dpl_match.proofs.KeptLemmas.{kept_passed}
 use Rattle.dpl_match.proofs.StageLemmas.{turn_renewed}
 use Rattle.dpl_match.proofs.scan.outer_step.Goals as goal
 
-pub returns-then-best-above_of-clause-best : goal.returns-then-best-above_of-clause-best
-returns-then-best-above_of-clause-best c = kept_passed c.requires.start c.size-size.ensures.table.metric outer c.args.t c.args.level
-    c.above_of.result c.args.best.now c.requires.to c.requires.level c.above_of.ensures c.if-best-above_of.true c.requires.best
+pub returns-then-is_behind-clause-best : goal.returns-then-is_behind-clause-best
+returns-then-is_behind-clause-best c = kept_passed c.requires.start c.size-size.ensures.table.metric outer c.args.t c.args.level
+    c.above_of-above.result c.args.best.now c.requires.to c.requires.level c.above_of-above.ensures
+    (c.is_behind.ensures c.if-is_behind.true) c.requires.best
 
 pub renew_one-requires-clause-totals : goal.renew_one-requires-clause-totals
 renew_one-requires-clause-totals c =
