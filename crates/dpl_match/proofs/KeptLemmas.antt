@@ -78,20 +78,20 @@ kept_behind {metric} {m} {s} start me want t level best ht el le lt h =
       | inl e ↦ to_passed v place want t best (kept_none v place s.table want t start.nearest ht (ap member_of e)) h
       | inr k ↦ behind best k.0 k.1 le lt h
     ] where
-  behind : (best : Option Near) (near : Neighbour) → kept_in s.table.near.items t ≡ Some near
-      → most_of best + level ≤ key_in (kept_in s.table.near.items t) - get_or m.sums.items t 0
-      → (best ≡ None → most_of best + level < key_in (kept_in s.table.near.items t) - get_or m.sums.items t 0)
-      → IsFound (members_of metric m) (place_in s.tree.labels.items) want t best
-      → IsFound (members_of metric m) (place_in s.tree.labels.items) want (t + 1) best
-  behind None near is le lt h =
-      let w = start.nearest.near_outer.measured t ht near is in
-      absurd (omega (arith, lt refl, ap key_in is, w.1, me.small near.member t w.0 ht))
-  behind (Some pair) near is le lt h =
-      let v : Members = members_of metric m in
-      let place : ℕ → Place = place_in s.tree.labels.items in
-      let w = start.nearest.near_outer.measured t ht near is in
-      let least = kept_least v place s.table want t near.member start.nearest ht (ap member_of is) in
-      to_behind v place want t pair (λ s p. omega (arith, least s p, le, ap key_in is, w.1, el)) h
+      behind : (best : Option Near) (near : Neighbour) → kept_in s.table.near.items t ≡ Some near
+          → most_of best + level ≤ key_in (kept_in s.table.near.items t) - get_or m.sums.items t 0
+          → (best ≡ None → most_of best + level < key_in (kept_in s.table.near.items t) - get_or m.sums.items t 0)
+          → IsFound (members_of metric m) (place_in s.tree.labels.items) want t best
+          → IsFound (members_of metric m) (place_in s.tree.labels.items) want (t + 1) best
+      behind None near is le lt h =
+          let w = start.nearest.near_outer.measured t ht near is in
+          absurd (omega (arith, lt refl, ap key_in is, w.1, me.small near.member t w.0 ht))
+      behind (Some pair) near is le lt h =
+          let v : Members = members_of metric m in
+          let place : ℕ → Place = place_in s.tree.labels.items in
+          let w = start.nearest.near_outer.measured t ht near is in
+          let least = kept_least v place s.table want t near.member start.nearest ht (ap member_of is) in
+          to_behind v place want t pair (λ s p. omega (arith, least s p, le, ap key_in is, w.1, el)) h
 
 -- so it does by the most that is not behind
 kept_more : {metric : Table} {m : Matching} {s : Stage} → IsAtTurn metric m s → IsMetric metric.size (dist_of metric)
@@ -112,13 +112,18 @@ kept_equal : {metric : Table} {m : Matching} {s : Stage} → IsAtTurn metric m s
     → IsBest (members_of metric m) (place_in s.tree.labels.items) level want (t + 1) best
 kept_equal {metric} {m} {s} start me want t level above best pair ht el ea same is h =
     elim (kept_cases (kept_in s.table.near.items t)) [
-      | inl e ↦ (to_passed (members_of metric m) (place_in s.tree.labels.items) want t best.pair
-          (kept_none (members_of metric m) (place_in s.tree.labels.items) s.table want t start.nearest ht (ap member_of e)) h.0, h.1)
+      | inl e ↦ (
+        to_passed (members_of metric m) (place_in s.tree.labels.items) want t best.pair
+            (kept_none (members_of metric m) (place_in s.tree.labels.items) s.table want t start.nearest ht (ap member_of e)) h.0,
+        h.1,
+      )
       | inr k ↦
           let few = (start.nearest.near_outer.measured t ht k.0 k.1).2 in
-          let more = h.1 (above + 1) (omega (arith, ap key_in k.1, few, ea)) (omega (arith, same)) in
-          (kept_behind start me want t level best.pair ht el (omega (arith, more, ea))
-          (λ none. let bad : None ≡ Some pair = sym none ∙ is in cc) h.0, h.1)
+          let more = h.1 (above + 1) (omega (arith, ap key_in k.1, few, ea)) (omega (arith, same)) in (
+            kept_behind start me want t level best.pair ht el (omega (arith, more, ea))
+                (λ none. let bad : None ≡ Some pair = sym none ∙ is in cc) h.0,
+            h.1,
+          )
     ]
 
 -- so the best pair stays where what is kept for t is behind, whatever its top
