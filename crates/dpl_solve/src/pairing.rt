@@ -12,7 +12,7 @@ ghost use Rattle.dpl_solve.specs.Works.{IsDrawn};
 use crate::drawn::Drawn;
 use crate::joins::{join_pairs, mate_of};
 use crate::metrics::{all_radii, all_rows, near_rows};
-use crate::sight::{FULL_LIMIT, Sight, all_nearest, first_margin, next_margin};
+use crate::sight::{FULL_LIMIT, Sight, all_nearest, first_margin, is_crowd, next_margin};
 use crate::work::Joined;
 use dpl_dual::types::Distances;
 use dpl_laminar::{Family, Steps};
@@ -54,14 +54,17 @@ fn look(
     match near_rows(alloc, drawn.dual, terminals, &radii, reach, places)? {
         Some(near) => {
             let copied = Vec::from_slice(alloc, &radii)?;
-            let metric = Metric::near(alloc, copied, near);
+            let metric = Metric::near(alloc, copied, near).among(sight.is_crowd);
             Ok(Seen { metric, radii })
         }
         None => {
             let rows = all_rows(alloc, drawn.dual, terminals, &radii, reach, places)?;
             let copied = Vec::from_slice(alloc, &radii)?;
             let metric = Metric::new(alloc, terminals.len() as u32, rows, copied)?;
-            Ok(Seen { metric, radii })
+            Ok(Seen {
+                metric: metric.among(sight.is_crowd),
+                radii,
+            })
         }
     }
 }
@@ -154,11 +157,13 @@ pub fn join_all<L: Ledger>(
         &mut joined.places,
         &mut joined.reach,
     )?;
+    let is_crowd = is_crowd(drawn.dual, terminals, &mut joined.reach)?;
     let mut margin = first_margin(alloc, drawn.dual, terminals, &nearest, &mut joined.reach)?;
     for _try in 0..tries {
         let sight = Sight {
             nearest: &nearest,
             margin,
+            is_crowd,
         };
         match join_within(alloc, drawn, terminals, &sight, joined, steps)? {
             Some(family) => return Ok(family),
@@ -169,6 +174,7 @@ pub fn join_all<L: Ledger>(
     let sight = Sight {
         nearest: &nearest,
         margin: FULL_LIMIT,
+        is_crowd,
     };
     match join_within(alloc, drawn, terminals, &sight, joined, steps)? {
         Some(family) => Ok(family),

@@ -29,11 +29,13 @@ pub struct Nearest {
     pub place: usize,
 }
 
-/// What the faces of a list look by: the nearest one of each, and the margin.
+/// What the faces of a list look by: the nearest one of each, and the margin. Whether they are a crowd says nothing of
+/// what they see.
 #[derive(Clone, Copy)]
 pub struct Sight<'a> {
     pub nearest: &'a [Nearest],
     pub margin: u64,
+    pub is_crowd: bool,
 }
 
 /// The nearer one of what is known and another face of the list, if it is not the same.
@@ -255,6 +257,24 @@ fn share_of(
         return Ok(Share::Most);
     }
     Ok(Share::NearlyAll)
+}
+
+/// Whether a list is long, and nine of ten faces of its part or more stand in it.
+pub fn is_crowd(dual: &Dual, list: &[u32], reach: &mut Distances) -> Result<bool, AllocError>
+    requires dual { CameFromDual dual.now }
+    requires faces { All (λ f. f < dual.now.faces) list.now }
+{
+    if list.len() < CROWD {
+        return Ok(false);
+    }
+    match list.get(list.len() / 2) {
+        Some(face) => match share_of(dual, list, *face, reach)? {
+            Share::Most => Ok(true),
+            Share::NearlyAll => Ok(true),
+            _ => Ok(false),
+        },
+        None => Ok(false),
+    }
 }
 
 /// Whether a list is long, and one of its faces is nearer than a limit to at most three quarters as many faces as are

@@ -20,11 +20,13 @@ pub struct Close {
 /// Even distances between members, which obey the triangle rule. Each member has a radius, and no two are farther
 /// from each other than both radii. They stand in a table, or where few members are near each other, in a list for
 /// each member of those that are nearer to it than both radii; all others are as far as the radii together. Beside
-/// a table there are such lists as well, if they are not too long. No radius is less than `least`.
+/// a table there are such lists as well, if they are not too long. No radius is less than `least`. Whether the members
+/// are a crowd says nothing of distances: most searches among them find none that is nearer.
 #[derive(Drop)]
 pub struct Metric {
     size: usize,
     is_full: bool,
+    is_crowd: bool,
     rows: Vec<u64>,
     radii: Vec<u64>,
     least: u64,
@@ -74,6 +76,7 @@ impl Metric {
         Ok(Metric {
             size: n as usize,
             is_full: true,
+            is_crowd: false,
             rows,
             radii,
             least: 0,
@@ -90,12 +93,27 @@ impl Metric {
         Metric {
             size: radii.len(),
             is_full: false,
+            is_crowd: false,
             rows: Vec::new(alloc),
             least: least_of(&radii),
             radii,
             near,
             lists: None,
         }
+    }
+
+    /// The same distances, of members that are a crowd or not.
+    pub fn among(self, is_crowd: bool) -> Metric
+        ensures { result ≡ self }
+    {
+        let mut metric = self;
+        metric.is_crowd = is_crowd;
+        metric
+    }
+
+    /// Whether the members are a crowd.
+    pub fn is_crowd(&self) -> bool {
+        self.is_crowd
     }
 
     /// How many members there are.
