@@ -54,8 +54,11 @@ fn look(
     match near_rows(alloc, drawn.dual, terminals, &radii, reach, places)? {
         Some(near) => {
             let copied = Vec::from_slice(alloc, &radii)?;
-            let metric = Metric::near(alloc, copied, near).among(sight.is_crowd);
-            Ok(Seen { metric, radii })
+            let metric = Metric::near(alloc, copied, near);
+            Ok(Seen {
+                metric: metric.among(sight.is_crowd),
+                radii,
+            })
         }
         None => {
             let rows = all_rows(alloc, drawn.dual, terminals, &radii, reach, places)?;
