@@ -3,7 +3,7 @@
 //! Each face has a place noted, and it stands in the list where the list has it at that place: the sparse sets of
 //! Briggs and Torczon 1993. So nothing is forgotten before another list is noted.
 
-ghost use Rattle.std.specs.Prelude.{◌≡◌, ◌≢◌, ℕ, ◌<◌, length, slice_index, All, AllPairs, OnOk, MatchBool, MatchOption};
+ghost use Rattle.std.specs.Prelude.{◌≡◌, ◌≢◌, ℕ, ◌<◌, length, slice_index, All, AllPairs, OnOk, IfSome, MatchBool, MatchOption};
 ghost use Rattle.dpl_solve.specs.Places.{AreNoted, IsListed};
 
 use std::alloc::AllocError;
@@ -59,9 +59,10 @@ fn has_at(list: &[u32], place: usize, face: u32) -> bool
 
 /// The place of a face in the list, if it stands there.
 pub fn place_of(listed: &Listed<'_>, face: u32) -> Option<usize>
-    ensures { MatchOption result
+    ensures found { MatchOption result
         (IsListed listed.now → (u : ℕ) → u < length listed.now.faces.now → slice_index listed.now.faces.now u ≢ face)
         (λ u. (u < length listed.now.faces.now) × (slice_index listed.now.faces.now u ≡ face)) }
+    ensures noted { IfSome result (λ u. u ≡ slice_index listed.now.places.now face) }
 {
     let place = noted(listed.places, face);
     if has_at(listed.faces, place, face) {

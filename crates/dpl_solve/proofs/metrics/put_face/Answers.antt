@@ -10,7 +10,7 @@ returns-in-Some c = λ ways far.
     let P : ℕ → Type 0 = λ z. IsDistance ways (slice_index faces c.args.s) c.args.face z in
     let Q : ℕ → Type 0 = λ z. IsPutIn z (slice_index c.args.radii.now) c.args.s c.in-Some.u c.up_to.result c.args.dists.now c.put_both.new.dists in
     put_some ways faces c.args.s (slice_index c.args.radii.now) c.args.listed.now.places.now _ _ c.in-Some.u c.args.face c.up_to.result
-    c.requires.noted c.in-Some.ensures (subst P (sym c.up_to.ensures) far) (subst Q c.requires.sizes c.put_both.ensures)
+    c.requires.noted c.in-Some.ensures.found (subst P (sym c.up_to.ensures) far) (subst Q c.requires.sizes c.put_both.ensures)
 
 pub returns-in-None : goal.returns-in-None
-returns-in-None c = λ ways far. put_none ways _ c.args.s (slice_index c.args.radii.now) _ c.args.face (c.in-None.ensures c.requires.noted)
+returns-in-None c = λ ways far. put_none ways _ c.args.s (slice_index c.args.radii.now) _ c.args.face (c.in-None.ensures.found c.requires.noted)

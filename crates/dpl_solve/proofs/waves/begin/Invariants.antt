@@ -1,0 +1,10 @@
+use Rattle.std.proofs.Common.{◌≡◌, ◌+◌, length}
+use Rattle.dpl_solve.specs.Waves.{size, AreReached, IsWaiting}
+use Rattle.dpl_solve.proofs.waves.begin.Given as goal
+
+abbrev pub invariant-loop-k : goal.invariant-loop-k
+invariant-loop-k l = record {
+  far : AreReached l.wave (l.wave.first + l.k) l.far;
+  count : length l.far ≡ length l.fn.far;
+  waiting : IsWaiting (size l.wave) l.waiting;
+}

@@ -1,0 +1,7 @@
+use Rattle.std.proofs.Common.{arith, ℕ, ◌<◌, length}
+use Rattle.dpl_solve.proofs.WaveLemmas.{all_found}
+use Rattle.dpl_solve.proofs.waves.is_found.Goals as goal
+
+pub returns : goal.returns
+returns c = λ is. all_found c.args.wave.now c.args.far.now c.requires.wave c.requires.far
+    (λ a h. c.loop-place.invariant a (omega (arith, h, c.requires.far.count, c.loop-place-test.false)))

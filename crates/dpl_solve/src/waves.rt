@@ -1,0 +1,464 @@
+//! The distances of the odd faces of a part from all of them, from 64 at once.
+//!
+//! For each face of the part stands how far it is from each of the 64, as far as is known, and a limit where that is less.
+//! Where that falls at a face, the steps there are tried again, as in Bellman 1958, "On a routing problem". The numbers are so
+//! small that a processor lowers several at a time. When none falls any more, each step is tried once again, so that nothing
+//! rests on the order.
+
+ghost use Rattle.std.specs.Prelude.{◌≡◌, ◌≢◌, ℕ, ◌+◌, ◌*◌, ◌^◌, ◌<◌, ◌≤◌, min, true, false, length, slice_index, slice_index_or, All, Contains, OnOk, IfOk, IfSome};
+ghost use Rattle.dpl_dual.specs.Duals.{CameFromDual, IsStep};
+ghost use Rattle.dpl_pack.specs.Moats.{AreTerminals};
+ghost use Rattle.dpl_solve.specs.Metrics.{AreNearPut};
+ghost use Rattle.dpl_solve.specs.Waves.{lengths_at, far_at, size, face_at, steps_of, IsWave, IsRowOf, AreReached, IsStepTried, AreStepsTried, IsFound, AreInReach, IsRowPut, AreWritten, IsWaiting};
+
+use crate::places::{Listed, note_all, place_of};
+use dpl_dual::types::Distances;
+use dpl_dual::{Dual, Step, distances};
+use std::alloc::{AllocError, Global};
+
+/// From so many odd faces at once.
+const WIDTH: usize = 64;
+
+/// No radius is greater where waves are made.
+const MOST_RADIUS: u64 = 32767;
+
+/// How far a face is from each of some odd faces.
+#[derive(Clone, Copy)]
+pub struct Lengths {
+    pub far: [u16; 64],
+}
+
+/// A wave over the faces of a part from those of its odd ones that stand from a place on. It ends at a limit.
+#[derive(Clone, Copy)]
+pub struct Wave<'a> {
+    pub dual: &'a Dual,
+    pub listed: Listed<'a>,
+    pub odd: &'a [u32],
+    pub first: usize,
+    pub limit: u16,
+}
+
+/// The places of faces whose steps are to be tried, in their order, and for each face whether it waits.
+#[derive(Drop)]
+pub struct Waiting {
+    pub places: Vec<usize>,
+    pub waits: Vec<bool>,
+}
+
+/// A length up to the greatest number of 16 bits.
+fn short(length: u64) -> u16
+    ensures { result ≡ min length 65535 }
+{
+    length.min(65535) as u16
+}
+
+/// Lengths, and where they are less those of another face and a step together.
+#[inline(always)]
+fn lowered(lengths: &Lengths, here: &Lengths, step: u16) -> Lengths
+    ensures { (k : ℕ) → k < 64 → slice_index result.far k ≡
+        min (slice_index lengths.now.far k) (min (slice_index here.now.far k + step) 65535) }
+{
+    let mut next = *lengths;
+    for k in 0..WIDTH {
+        next.far[k] = next.far[k].min(here.far[k].saturating_add(step));
+    }
+    next
+}
+
+/// Whether a length is less than it was.
+#[inline(always)]
+fn has_fallen(old: &Lengths, new: &Lengths) -> bool
+    ensures { result ≡ false → (k : ℕ) → k < 64 → slice_index old.now.far k ≤ slice_index new.now.far k }
+{
+    let mut most: u16 = 0;
+    for k in 0..WIDTH {
+        most = most.max(old.far[k].saturating_sub(new.far[k]));
+    }
+    most > 0
+}
+
+/// Puts the place of a face behind those that wait, if it is not among them.
+fn wait(waiting: &mut Waiting, place: usize) -> Result<(), AllocError>
+    requires { place < length waiting.old.waits.items }
+    ensures { OnOk result ((n : ℕ) → place < n → IsWaiting n waiting.old → IsWaiting n waiting.new) }
+{
+    if waiting.waits[place] {
+        return Ok(());
+    }
+    waiting.waits[place] = true;
+    waiting.places.push(place)?;
+    Ok(())
+}
+
+/// Tries a step from a face with these lengths.
+#[inline(always)]
+fn try_step(
+    wave: &Wave<'_>,
+    face: u32,
+    here: &Lengths,
+    step: &Step,
+    far: &mut [Lengths],
+    waiting: &mut Waiting,
+) -> Result<(), AllocError>
+    requires wave { IsWave wave.now }
+    requires step { IsStep wave.now.dual.now.crosses face step.now }
+    requires here { IsRowOf wave.now face here.now }
+    requires far { AreReached wave.now (length wave.now.odd.now) far.old }
+    requires waiting { IsWaiting (size wave.now) waiting.old }
+    ensures far { OnOk result (AreReached wave.now (length wave.now.odd.now) far.new) }
+    ensures waiting { OnOk result (IsWaiting (size wave.now) waiting.new) }
+{
+    match place_of(&wave.listed, step.to) {
+        Some(place) => {
+            let next = lowered(&far[place], here, short(step.length));
+            let falls = has_fallen(&far[place], &next);
+            far[place] = next;
+            if falls {
+                wait(waiting, place)?;
+            }
+            Ok(())
+        }
+        None => Ok(()),
+    }
+}
+
+/// Tries the steps from the face at a place.
+fn try_steps(
+    wave: &Wave<'_>,
+    place: usize,
+    far: &mut [Lengths],
+    waiting: &mut Waiting,
+) -> Result<(), AllocError>
+    requires wave { IsWave wave.now }
+    requires place { place < size wave.now }
+    requires far { AreReached wave.now (length wave.now.odd.now) far.old }
+    requires waiting { IsWaiting (size wave.now) waiting.old }
+    ensures far { OnOk result (AreReached wave.now (length wave.now.odd.now) far.new) }
+    ensures waiting { OnOk result (IsWaiting (size wave.now) waiting.new) }
+{
+    let here = far[place];
+    let face = wave.listed.faces[place];
+    let steps = wave.dual.rows.by_face.row(face as usize);
+    for i in 0..steps.len() {
+        try_step(wave, face, &here, &steps[i], far, waiting)?;
+    }
+    Ok(())
+}
+
+/// Tries the steps from faces that wait, until none does or so many were tried that it is given up.
+fn spread(
+    wave: &Wave<'_>,
+    far: &mut [Lengths],
+    waiting: &mut Waiting,
+) -> Result<(), AllocError>
+    requires wave { IsWave wave.now }
+    requires few { size wave.now < 2 ^ 32 }
+    requires far { AreReached wave.now (length wave.now.odd.now) far.old }
+    requires waiting { IsWaiting (size wave.now) waiting.old }
+    ensures far { OnOk result (AreReached wave.now (length wave.now.odd.now) far.new) }
+    ensures waiting { OnOk result (IsWaiting (size wave.now) waiting.new) }
+{
+    let most = WIDTH * far.len();
+    for i in 0..most {
+        if i >= waiting.places.len() {
+            return Ok(());
+        }
+        let place = waiting.places[i];
+        waiting.waits[place] = false;
+        try_steps(wave, place, far, waiting)?;
+    }
+    Ok(())
+}
+
+/// Whether no length beyond a step is more than here and the step together.
+#[inline(always)]
+fn is_tried(wave: &Wave<'_>, here: &Lengths, step: &Step, far: &[Lengths]) -> bool
+    requires count { length far.now ≡ size wave.now }
+    ensures { result ≡ true → IsStepTried wave.now here.now step.now far.now }
+{
+    match place_of(&wave.listed, step.to) {
+        Some(place) => {
+            let next = lowered(&far[place], here, short(step.length));
+            !has_fallen(&far[place], &next)
+        }
+        None => false,
+    }
+}
+
+/// Whether that is so for all steps from the face at a place.
+fn are_tried(wave: &Wave<'_>, place: usize, far: &[Lengths]) -> bool
+    requires wave { IsWave wave.now }
+    requires place { place < size wave.now }
+    requires count { length far.now ≡ size wave.now }
+    ensures { result ≡ true → AreStepsTried wave.now place far.now }
+{
+    let here = far[place];
+    let steps = wave.dual.rows.by_face.row(wave.listed.faces[place] as usize);
+    for i in 0..steps.len() {
+        if !is_tried(wave, &here, &steps[i], far) {
+            return false;
+        }
+    }
+    true
+}
+
+/// Whether that is so for all steps, so that no chain is shorter than what is found.
+fn is_found(wave: &Wave<'_>, far: &[Lengths]) -> bool
+    requires wave { IsWave wave.now }
+    requires far { AreReached wave.now (length wave.now.odd.now) far.now }
+    ensures { result ≡ true → IsFound wave.now far.now }
+{
+    for place in 0..far.len() {
+        if !are_tried(wave, place, far) {
+            return false;
+        }
+    }
+    true
+}
+
+/// Lengths, and none from one of the odd faces.
+fn at_source(lengths: &Lengths, k: usize) -> Lengths
+    requires { k < 64 }
+    ensures here { slice_index result.far k ≡ 0 }
+    ensures others { (j : ℕ) → j ≢ k → slice_index result.far j ≡ slice_index lengths.now.far j }
+{
+    let mut next = *lengths;
+    next.far[k] = 0;
+    next
+}
+
+/// Begins at the odd faces of a wave. False where one of them is not listed.
+fn begin(
+    wave: &Wave<'_>,
+    far: &mut [Lengths],
+    waiting: &mut Waiting,
+) -> Result<bool, AllocError>
+    requires first { wave.now.first ≤ length wave.now.odd.now }
+    requires far { AreReached wave.now wave.now.first far.old }
+    requires waiting { IsWaiting (size wave.now) waiting.old }
+    ensures far { IfOk result (λ all. all ≡ true → AreReached wave.now (length wave.now.odd.now) far.new) }
+    ensures count { OnOk result (length far.new ≡ length far.old) }
+    ensures waiting { OnOk result (IsWaiting (size wave.now) waiting.new) }
+{
+    let count = WIDTH.min(wave.odd.len() - wave.first);
+    for k in 0..count {
+        match place_of(&wave.listed, wave.odd[wave.first + k]) {
+            Some(place) => {
+                far[place] = at_source(&far[place], k);
+                wait(waiting, place)?;
+            }
+            None => return Ok(false),
+        }
+    }
+    Ok(true)
+}
+
+/// Writes the distances of odd face s from those of a wave into the table, up to the radii of both.
+fn write_row(wave: &Wave<'_>, radii: &[u64], lengths: &Lengths, s: usize, dists: &mut [u64])
+    requires sizes { length radii.now ≡ length wave.now.odd.now }
+    requires reach { AreInReach wave.now radii.now }
+    requires inside { s < length radii.now }
+    requires first { wave.now.first ≤ length radii.now }
+    requires places { length dists.old ≡ length radii.now * length radii.now }
+    ensures { IsRowPut wave.now radii.now lengths.now s dists.old dists.new }
+{
+    let n = radii.len();
+    let radius = radii[s];
+    let start = s * n + wave.first;
+    let count = WIDTH.min(n - wave.first);
+    for k in 0..count {
+        let both = radius + radii[wave.first + k];
+        dists[start + k] = both.min(lengths.far[k] as u64);
+    }
+}
+
+/// Writes the distances of all odd faces from those of a wave. False where one of them is not listed.
+fn write_rows(wave: &Wave<'_>, radii: &[u64], far: &[Lengths], dists: &mut [u64]) -> bool
+    requires sizes { length radii.now ≡ length wave.now.odd.now }
+    requires reach { AreInReach wave.now radii.now }
+    requires first { wave.now.first ≤ length radii.now }
+    requires count { length far.now ≡ size wave.now }
+    requires found { IsFound wave.now far.now }
+    requires before { AreWritten wave.now.dual.now wave.now.odd.now radii.now wave.now.first dists.old }
+    ensures count { length dists.new ≡ length dists.old }
+    ensures after { result ≡ true →
+        AreWritten wave.now.dual.now wave.now.odd.now radii.now (wave.now.first + 64) dists.new }
+{
+    for s in 0..wave.odd.len() {
+        match place_of(&wave.listed, wave.odd[s]) {
+            Some(place) => write_row(wave, radii, &far[place], s, dists),
+            None => return false,
+        }
+    }
+    true
+}
+
+/// The same length from each.
+fn all_at(length: u16) -> Lengths
+    ensures { (k : ℕ) → k < 64 → slice_index result.far k ≡ length }
+{
+    Lengths { far: [length; 64] }
+}
+
+/// Gives each face the limit.
+fn blank(limit: u16, far: &mut [Lengths])
+    ensures count { length far.new ≡ length far.old }
+    ensures each { (a k : ℕ) → a < length far.old → k < 64 → far_at far.new a k ≡ limit }
+{
+    for a in 0..far.len() {
+        far[a] = all_at(limit);
+    }
+}
+
+/// Sends out a wave, and writes into the table what it finds. False where it finds not all.
+fn send(
+    wave: &Wave<'_>,
+    radii: &[u64],
+    far: &mut [Lengths],
+    waiting: &mut Waiting,
+    dists: &mut [u64],
+) -> Result<bool, AllocError>
+    requires wave { IsWave wave.now }
+    requires few { size wave.now < 2 ^ 32 }
+    requires sizes { length radii.now ≡ length wave.now.odd.now }
+    requires reach { AreInReach wave.now radii.now }
+    requires first { wave.now.first ≤ length radii.now }
+    requires count { length far.old ≡ size wave.now }
+    requires waiting { IsWaiting (size wave.now) waiting.old }
+    requires before { AreWritten wave.now.dual.now wave.now.odd.now radii.now wave.now.first dists.old }
+    ensures count { OnOk result (length far.new ≡ length far.old) }
+    ensures waiting { OnOk result (IsWaiting (size wave.now) waiting.new) }
+    ensures after { IfOk result (λ all. all ≡ true →
+        AreWritten wave.now.dual.now wave.now.odd.now radii.now (wave.now.first + 64) dists.new) }
+{
+    blank(wave.limit, far);
+    waiting.places.clear();
+    if !begin(wave, far, waiting)? {
+        return Ok(false);
+    }
+    spread(wave, far, waiting)?;
+    if !is_found(wave, far) {
+        return Ok(false);
+    }
+    Ok(write_rows(wave, radii, far, dists))
+}
+
+/// Sends out one wave after the other, until the table is written. False where one finds not all.
+fn send_all(
+    wave: &Wave<'_>,
+    radii: &[u64],
+    far: &mut [Lengths],
+    waiting: &mut Waiting,
+    dists: &mut [u64],
+) -> Result<bool, AllocError>
+    requires wave { IsWave wave.now }
+    requires few { size wave.now < 2 ^ 32 }
+    requires odd { length wave.now.odd.now ≤ 2048 }
+    requires sizes { length radii.now ≡ length wave.now.odd.now }
+    requires reach { AreInReach wave.now radii.now }
+    requires count { length far.old ≡ size wave.now }
+    requires waiting { IsWaiting (size wave.now) waiting.old }
+    requires before { AreWritten wave.now.dual.now wave.now.odd.now radii.now 0 dists.old }
+    ensures { IfOk result (λ all. all ≡ true →
+        AreWritten wave.now.dual.now wave.now.odd.now radii.now (length radii.now) dists.new) }
+{
+    let waves = radii.len() / WIDTH + 1;
+    for i in 0..waves {
+        let first = i * WIDTH;
+        if first >= radii.len() {
+            return Ok(true);
+        }
+        let next = Wave { first, ..*wave };
+        if !send(&next, radii, far, waiting, dists)? {
+            return Ok(false);
+        }
+    }
+    Ok(true)
+}
+
+/// Twice the greatest radius, if that is not too great.
+fn limit_of(radii: &[u64]) -> Option<u16>
+    ensures { IfSome result (λ limit. (k : ℕ) → k < length radii.now → 2 * slice_index radii.now k ≤ limit) }
+{
+    let mut most: u64 = 0;
+    for k in 0..radii.len() {
+        most = most.max(radii[k]);
+    }
+    if most > MOST_RADIUS {
+        return None;
+    }
+    Some((2 * most) as u16)
+}
+
+/// The distances of odd faces from each other, up to both radii, by waves that end at a limit. None where one finds not all.
+fn rows_within<'a>(
+    alloc: Global,
+    dual: &'a Dual,
+    listed: Listed<'a>,
+    odd: &'a [u32],
+    radii: &[u64],
+    limit: u16,
+) -> Result<Option<Vec<u64>>, AllocError>
+    requires dual { CameFromDual dual.now }
+    requires faces { All (λ f. f < dual.now.faces) listed.faces.now }
+    requires few { length listed.faces.now < 2 ^ 32 }
+    requires odd { length odd.now ≤ 2048 }
+    requires sizes { length radii.now ≡ length odd.now }
+    requires reach { (k : ℕ) → k < length radii.now → 2 * slice_index radii.now k ≤ limit }
+    ensures { IfOk result (λ o. IfSome o (λ dists. AreNearPut dual.now.crosses odd.now
+        (slice_index radii.now) dists.items)) }
+{
+    let wave = Wave {
+        dual,
+        listed,
+        odd,
+        first: 0,
+        limit,
+    };
+    let count = listed.faces.len();
+    let mut far = vec![in alloc; all_at(limit); count]?;
+    let mut waiting = Waiting {
+        places: Vec::new(alloc),
+        waits: vec![in alloc; false; count]?,
+    };
+    let mut dists = vec![in alloc; 0; odd.len() * odd.len()]?;
+    if !send_all(&wave, radii, &mut far, &mut waiting, &mut dists)? {
+        return Ok(None);
+    }
+    Ok(Some(dists))
+}
+
+/// The distances of the odd faces of a part, row by row, up to both radii. None where the radii are too great or the part has
+/// far more faces. It costs for every 64 odd ones the faces of the part that one of them is near, some times over, and the
+/// square of the number of odd faces.
+pub fn wave_rows(
+    alloc: Global,
+    dual: &Dual,
+    odd: &[u32],
+    radii: &[u64],
+    reach: &mut Distances,
+    places: &mut Vec<usize>,
+) -> Result<Option<Vec<u64>>, AllocError>
+    requires dual { CameFromDual dual.now }
+    requires odd { AreTerminals dual.now odd.now }
+    requires few { length odd.now ≤ 2048 }
+    requires sizes { length radii.now ≡ length odd.now }
+    ensures { IfOk result (λ o. IfSome o (λ dists. AreNearPut dual.now.crosses odd.now
+        (slice_index radii.now) dists.items)) }
+{
+    let limit = match limit_of(radii) {
+        Some(limit) => limit,
+        None => return Ok(None),
+    };
+    distances(dual, odd[odd.len() / 2], reach)?;
+    let faces = reach.reached();
+    if faces.len() > 4 * odd.len() {
+        return Ok(None);
+    }
+    note_all(places, dual.faces, faces)?;
+    let listed = Listed {
+        faces,
+        places: places.as_slice(),
+    };
+    rows_within(alloc, dual, listed, odd, radii, limit)
+}
