@@ -65,14 +65,14 @@ fn lowered(lengths: &Lengths, here: &Lengths, step: u16) -> Lengths
     next
 }
 
-/// Whether a length is less than it was.
+/// Whether those of another face and a step together are less somewhere.
 #[inline(always)]
-fn has_fallen(old: &Lengths, new: &Lengths) -> bool
-    ensures { result ≡ false → (k : ℕ) → k < 64 → slice_index old.now.far k ≤ slice_index new.now.far k }
+fn falls(lengths: &Lengths, here: &Lengths, step: u16) -> bool
+    ensures { result ≡ false → (k : ℕ) → k < 64 → slice_index lengths.now.far k ≤ slice_index here.now.far k + step }
 {
     let mut most: u16 = 0;
     for k in 0..WIDTH {
-        most = most.max(old.far[k].saturating_sub(new.far[k]));
+        most = most.max(lengths.far[k].saturating_sub(here.far[k].saturating_add(step)));
     }
     most > 0
 }
@@ -110,10 +110,9 @@ fn try_step(
 {
     match place_of(&wave.listed, step.to) {
         Some(place) => {
-            let next = lowered(&far[place], here, short(step.length));
-            let falls = has_fallen(&far[place], &next);
-            far[place] = next;
-            if falls {
+            let length = short(step.length);
+            if falls(&far[place], here, length) {
+                far[place] = lowered(&far[place], here, length);
                 wait(waiting, place)?;
             }
             Ok(())
@@ -177,10 +176,7 @@ fn is_tried(wave: &Wave<'_>, here: &Lengths, step: &Step, far: &[Lengths]) -> bo
     ensures { result ≡ true → IsStepTried wave.now here.now step.now far.now }
 {
     match place_of(&wave.listed, step.to) {
-        Some(place) => {
-            let next = lowered(&far[place], here, short(step.length));
-            !has_fallen(&far[place], &next)
-        }
+        Some(place) => !falls(&far[place], here, short(step.length)),
         None => false,
     }
 }
