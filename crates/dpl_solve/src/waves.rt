@@ -250,7 +250,7 @@ fn begin(
 }
 
 /// Writes the distances of odd face s from those of a wave into the table, up to the radii of both.
-fn write_row(wave: &Wave<'_>, radii: &[u64], lengths: &Lengths, s: usize, dists: &mut [u64])
+fn write_row(wave: &Wave<'_>, radii: &[u16], lengths: &Lengths, s: usize, dists: &mut [u64])
     requires sizes { length radii.now ≡ length wave.now.odd.now }
     requires reach { AreInReach wave.now radii.now }
     requires inside { s < length radii.now }
@@ -264,12 +264,12 @@ fn write_row(wave: &Wave<'_>, radii: &[u64], lengths: &Lengths, s: usize, dists:
     let count = WIDTH.min(n - wave.first);
     for k in 0..count {
         let both = radius + radii[wave.first + k];
-        dists[start + k] = both.min(lengths.far[k] as u64);
+        dists[start + k] = both.min(lengths.far[k]) as u64;
     }
 }
 
 /// Writes the distances of all odd faces from those of a wave. False where one of them is not listed.
-fn write_rows(wave: &Wave<'_>, radii: &[u64], far: &[Lengths], dists: &mut [u64]) -> bool
+fn write_rows(wave: &Wave<'_>, radii: &[u16], far: &[Lengths], dists: &mut [u64]) -> bool
     requires sizes { length radii.now ≡ length wave.now.odd.now }
     requires reach { AreInReach wave.now radii.now }
     requires first { wave.now.first ≤ length radii.now }
@@ -309,7 +309,7 @@ fn blank(limit: u16, far: &mut [Lengths])
 /// Sends out a wave, and writes into the table what it finds. False where it finds not all.
 fn send(
     wave: &Wave<'_>,
-    radii: &[u64],
+    radii: &[u16],
     far: &mut [Lengths],
     waiting: &mut Waiting,
     dists: &mut [u64],
@@ -342,7 +342,7 @@ fn send(
 /// Sends out one wave after the other, until the table is written. False where one finds not all.
 fn send_all(
     wave: &Wave<'_>,
-    radii: &[u64],
+    radii: &[u16],
     far: &mut [Lengths],
     waiting: &mut Waiting,
     dists: &mut [u64],
@@ -372,18 +372,27 @@ fn send_all(
     Ok(true)
 }
 
-/// Twice the greatest radius, if that is not too great.
-fn limit_of(radii: &[u64]) -> Option<u16>
-    ensures { IfSome result (λ limit. (k : ℕ) → k < length radii.now → 2 * slice_index radii.now k ≤ limit) }
+/// The greatest radius.
+fn greatest(radii: &[u64]) -> u64
+    ensures { All (λ r. r ≤ result) radii.now }
 {
     let mut most: u64 = 0;
     for k in 0..radii.len() {
         most = most.max(radii[k]);
     }
-    if most > MOST_RADIUS {
-        return None;
+    most
+}
+
+/// The same radii as numbers of 16 bits.
+fn all_short(alloc: Global, radii: &[u64]) -> Result<Vec<u16>, AllocError>
+    requires { All (λ r. r ≤ 32767) radii.now }
+    ensures { IfOk result (λ short. short.items ≡ radii.now) }
+{
+    let mut short = Vec::with_capacity(alloc, radii.len())?;
+    for k in 0..radii.len() {
+        short.push(radii[k] as u16)?;
     }
-    Some((2 * most) as u16)
+    Ok(short)
 }
 
 /// The distances of odd faces from each other, up to both radii, by waves that end at a limit. None where one finds not all.
@@ -392,7 +401,7 @@ fn rows_within<'a>(
     dual: &'a Dual,
     listed: Listed<'a>,
     odd: &'a [u32],
-    radii: &[u64],
+    radii: &[u16],
     limit: u16,
 ) -> Result<Option<Vec<u64>>, AllocError>
     requires dual { CameFromDual dual.now }
@@ -442,10 +451,10 @@ pub fn wave_rows(
     ensures { IfOk result (λ o. IfSome o (λ dists. AreNearPut dual.now.crosses odd.now
         (slice_index radii.now) dists.items)) }
 {
-    let limit = match limit_of(radii) {
-        Some(limit) => limit,
-        None => return Ok(None),
-    };
+    let most = greatest(radii);
+    if most > MOST_RADIUS {
+        return Ok(None);
+    }
     distances(dual, odd[odd.len() / 2], reach)?;
     let faces = reach.reached();
     if faces.len() > 4 * odd.len() {
@@ -456,5 +465,6 @@ pub fn wave_rows(
         faces,
         places: places.as_slice(),
     };
-    rows_within(alloc, dual, listed, odd, radii, limit)
+    let short = all_short(alloc, radii)?;
+    rows_within(alloc, dual, listed, odd, &short, (2 * most) as u16)
 }
