@@ -1,10 +1,10 @@
 -- Waves over the faces of a part: what stands is reached, and when all steps were tried, nothing is nearer.
-use Rattle.std.proofs.Common.{arith, ◌≡◌, ◌≢◌, ℕ, ◌+◌, ◌-◌, ◌*◌, ◌<◌, ◌≤◌, ◌⊎◌, ◌++◌, min, refl, sym, ap, ◌∙◌, subst}
+use Rattle.std.proofs.Common.{arith, ◌≡◌, ◌≢◌, ℕ, ◌+◌, ◌-◌, ◌*◌, ◌<◌, ◌≤◌, ◌++◌, min, sym, ap, ◌∙◌, subst}
 use Rattle.std.proofs.Common.{true, inl, inr, List, [], ◌∷◌, length, get_or, set, All}
 use Rattle.std.proofs.Common.{length-set, get_or-set_same, get_or-set_other}
 use Rattle.std.specs.Prelude.{Contains, slice_index, slice_index_or}
 use Rattle.std.proofs.lemmas.Bool.{cases_lt, cases_eq}
-use Rattle.std.proofs.lemmas.Nat.{mul-le, mul-add-lt, same_from_place}
+use Rattle.std.proofs.lemmas.Nat.{mul-add-lt, same_from_place}
 use Rattle.std.proofs.lemmas.List.{get_or_default}
 use Rattle.std.proofs.lemmas.List.Sums.{sum_by-cons, sum_by_push}
 use Rattle.dpl_dual.specs.declared.crosses.Cross.{Cross}
@@ -20,7 +20,7 @@ use Rattle.dpl_solve.specs.declared.waves.Lengths.{Lengths}
 use Rattle.dpl_solve.specs.declared.waves.Wave.{Wave}
 use Rattle.dpl_solve.specs.Metrics.{IsApart, AreNearPut, entry}
 use Rattle.dpl_solve.specs.Waves.{IsWave, size, face_at, place_at, source_at, steps_of, step_at, IsPlaced, lengths_at, far_at, IsReached, IsRowOf}
-use Rattle.dpl_solve.specs.Waves.{AreReached, IsStepTried, AreStepsTried, IsFound, AreInReach, IsRowPut, AreWritten}
+use Rattle.dpl_solve.specs.Waves.{AreReached, AreStepsTried, IsFound, AreInReach, IsRowPut, AreWritten}
 
 -- ---- what is reached
 
@@ -137,7 +137,7 @@ source_put w k p next far hk r at noted zero others =
             let face : face_at w p ≡ source_at w j = at.1 ∙ ap (source_at w) (sym q) in (
               (subst (λ z. z < size w) (sym place) at.0, ap (face_at w) place ∙ face),
               ap (λ z. far_at (set far p next) z j) place ∙ ap (λ (y : Lengths). slice_index y.far j) here ∙
-              ap (slice_index next.far) q ∙ zero,
+                  ap (slice_index next.far) q ∙ zero,
             )
         | inr ne ↦ m.zero j hj (omega (arith, hb, ne))
       ];

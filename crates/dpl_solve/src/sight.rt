@@ -350,8 +350,8 @@ fn margin_among(
 /// from others than half of them are, those about twice as far again. Where half of the faces of a part or more are
 /// odd, pairs that lie far apart are left between others, and there are few faces to search: then each sees far more
 /// than its nearest one. Where nine of ten are, such pairs are the less far apart the more faces are odd. Then each of
-/// very many sees some steps far alone, unless it sees half of all others so, as beside an outer face that is next to
-/// all of them.
+/// very many sees some steps far alone, unless it sees three quarters of all others so, as beside an outer face that is
+/// next to all of them.
 pub fn first_margin(
     alloc: Global,
     dual: &Dual,

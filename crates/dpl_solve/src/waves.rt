@@ -145,11 +145,7 @@ fn try_steps(
 }
 
 /// Tries the steps from faces that wait, until none does or so many were tried that it is given up.
-fn spread(
-    wave: &Wave<'_>,
-    far: &mut [Lengths],
-    waiting: &mut Waiting,
-) -> Result<(), AllocError>
+fn spread(wave: &Wave<'_>, far: &mut [Lengths], waiting: &mut Waiting) -> Result<(), AllocError>
     requires wave { IsWave wave.now }
     requires few { size wave.now < 2 ^ 32 }
     requires far { AreReached wave.now (length wave.now.odd.now) far.old }
@@ -189,7 +185,11 @@ fn are_tried(wave: &Wave<'_>, place: usize, far: &[Lengths]) -> bool
     ensures { result ≡ true → AreStepsTried wave.now place far.now }
 {
     let here = far[place];
-    let steps = wave.dual.rows.by_face.row(wave.listed.faces[place] as usize);
+    let steps = wave
+        .dual
+        .rows
+        .by_face
+        .row(wave.listed.faces[place] as usize);
     for i in 0..steps.len() {
         if !is_tried(wave, &here, &steps[i], far) {
             return false;
@@ -224,11 +224,7 @@ fn at_source(lengths: &Lengths, k: usize) -> Lengths
 }
 
 /// Begins at the odd faces of a wave. False where one of them is not listed.
-fn begin(
-    wave: &Wave<'_>,
-    far: &mut [Lengths],
-    waiting: &mut Waiting,
-) -> Result<bool, AllocError>
+fn begin(wave: &Wave<'_>, far: &mut [Lengths], waiting: &mut Waiting) -> Result<bool, AllocError>
     requires first { wave.now.first ≤ length wave.now.odd.now }
     requires far { AreReached wave.now wave.now.first far.old }
     requires waiting { IsWaiting (size wave.now) waiting.old }

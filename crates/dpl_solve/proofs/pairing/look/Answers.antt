@@ -36,6 +36,3 @@ pub returns-in_ok-metric-in-None-clause-each : goal.returns-in_ok-metric-in-None
 returns-in_ok-metric-in-None-clause-each c =
     let rows = rw c.deref-in-None.ensures.value at c.in_ok-rows-in-None.ensures in
     rw (c.among-in-None.ensures, c.in_ok-metric-in-None.ensures) rows.each
-
-pub all_rows-requires-clause-radii : goal.all_rows-requires-clause-radii
-all_rows-requires-clause-radii c = (c.args.sight.now.margin, rw c.deref-in-None.ensures.value c.in_ok-radii.ensures.radii)

@@ -1,4 +1,4 @@
-use Rattle.std.proofs.Common.{arith, ap, ◌∙◌, ◌<◌, length, length-set}
+use Rattle.std.proofs.Common.{arith, ◌∙◌, length-set}
 use Rattle.dpl_solve.proofs.WaveLemmas.{source_put}
 use Rattle.dpl_solve.proofs.waves.begin.Goals as goal
 

@@ -1,4 +1,4 @@
-use Rattle.std.proofs.Common.{arith, ℕ, ◌<◌, length}
+use Rattle.std.proofs.Common.{arith}
 use Rattle.dpl_solve.proofs.WaveLemmas.{all_found}
 use Rattle.dpl_solve.proofs.waves.is_found.Goals as goal
 

@@ -1,4 +1,4 @@
-use Rattle.std.proofs.Common.{ap, ◌∙◌, ◌+◌, ◌<◌, ℕ, min, length}
+use Rattle.std.proofs.Common.{ap, ◌∙◌, ◌+◌, min, length}
 use Rattle.std.specs.Prelude.{slice_index}
 use Rattle.dpl_solve.specs.Waves.{far_at}
 use Rattle.dpl_solve.proofs.WaveLemmas.{step_taken}

@@ -1,4 +1,4 @@
-use Rattle.std.proofs.Common.{arith, ◌+◌, ◌<◌, length}
+use Rattle.std.proofs.Common.{arith}
 use Rattle.dpl_solve.proofs.WaveLemmas.{row_more}
 use Rattle.dpl_solve.proofs.waves.write_row.Goals as goal
 

@@ -1,4 +1,4 @@
-use Rattle.std.proofs.Common.{arith, ap, ◌∙◌, ◌<◌, length}
+use Rattle.std.proofs.Common.{arith, ◌∙◌}
 use Rattle.dpl_solve.proofs.WaveLemmas.{rows_more}
 use Rattle.dpl_solve.proofs.waves.write_rows.Goals as goal
 
