@@ -306,8 +306,18 @@ def shaken_lattice(side, pitch, by, seed, rise=None):
         yield (2 * x, 2 * y, 2 * x + 40, 2 * y + 40)
 
 
+def shaken_rows(columns, rows, across, up, by, seed, shift):
+    """Rows of small boxes, every other one shifted, each box moved at random by up to so much."""
+    source = random.Random(seed)
+    for k in range(columns * rows):
+        column, row = k % columns, k // columns
+        x = across * column + source.randint(-by, by) + shift * (row % 2)
+        y = up * row + source.randint(-by, by)
+        yield (2 * x, 2 * y, 2 * x + 40, 2 * y + 40)
+
+
 def shaken_grids(count):
-    """So many of them, far from one another."""
+    """So many shaken grids, far from one another."""
     for k in range(count):
         x, y = 20_000 * (k % 8), 20_000 * (k // 8)
         yield from ((x + x1, y + y1, x + x2, y + y2) for x1, y1, x2, y2 in shaken_grid(1_600, 45, 8, k))
@@ -407,6 +417,9 @@ def single():
     yield "31 shaken grids: 57,956 odd faces in 31 parts", layout(shaken_grids(31)), OPTIONS
     yield "a shaken triangular lattice of 1,089 boxes", layout(shaken_lattice(33, 60, 6, 1)), OPTIONS
     yield "one that is squeezed", layout(shaken_lattice(33, 58, 6, 1, 55)), OPTIONS
+    yield "thirteen shaken rows of 105 boxes", layout(shaken_rows(105, 13, 64, 54, 8, 906_591, 32)), OPTIONS
+    yield "a shaken grid of 44 by 44 boxes, 51 and 58 apart", layout(shaken_rows(44, 44, 51, 58, 4, 1, 0)), OPTIONS
+    yield "a shaken triangular lattice of 1,600 boxes", layout(shaken_lattice(40, 64, 11, 1, 60)), OPTIONS
     yield "9,580 rings of wires and a strip: 2,046 odd faces", layout(rings_and_strip(9_580, 2_046)), OPTIONS
 
 
