@@ -62,7 +62,7 @@ fn compare_row(
     metric: &Metric,
     matching: &Matching,
     table: &mut OuterTable,
-    row: &[u64],
+    row: &[u16],
     s: u32,
     offset: u64,
 )
@@ -80,7 +80,7 @@ fn compare_row(
 {
     let n = metric.size() as u32;
     for t in 0..n {
-        let key = row[t as usize] + offset;
+        let key = row[t as usize] as u64 + offset;
         compare_one(matching, table, Neighbour { member: s, key }, t);
     }
 }
@@ -124,7 +124,7 @@ fn compare_all(metric: &Metric, matching: &Matching, table: &mut OuterTable, s: 
         compared (sets_of matching.now.family) t (kept_in table.old.near.items t)
         (neighbour_at (dist_of metric.now) s offset t) }
 {
-    match metric.row(s) {
+    match metric.short_row(s) {
         Some(row) => compare_row(metric, matching, table, row, s, offset),
         None => compare_written(metric, matching, table, s, offset),
     }

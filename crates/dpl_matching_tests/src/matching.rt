@@ -2,7 +2,7 @@ ghost use Rattle.std.specs.Prelude.{◌≡◌, ◌<◌};
 
 use crate::tables::is_table;
 use dpl_laminar::Steps;
-use dpl_match::{Matched, Metric, solve};
+use dpl_match::{Matched, Metric, Rows, solve};
 use std::alloc::{AllocError, Global};
 use std::marker::Brand;
 use std::process::Abort;
@@ -134,7 +134,7 @@ fn mates_in<L: Ledger>(
     if !is_table(&rows, &radii, n as usize) {
         return Err("no distances")?;
     }
-    let metric = Metric::new(alloc, n, rows, radii)?;
+    let metric = Metric::new(alloc, n, Rows::Long(rows), radii)?;
     let Matched { mate, .. } = solve(alloc, &metric, &mut steps)?;
     Ok(mate)
 }

@@ -1,10 +1,11 @@
-ghost use Rattle.std.specs.Prelude.{◌≡◌, ◌<◌, All, OnOk, length};
+ghost use Rattle.std.specs.Prelude.{◌≡◌, ◌<◌, All, IfOk, OnOk, length};
 ghost use Rattle.dpl_tree.specs.declared.metric.Close.{Close};
+ghost use Rattle.dpl_tree.specs.Rows.{distances_in};
 
 use crate::lists::are_lists;
 use crate::tables::is_table;
 use dpl_list::Grouped;
-use dpl_tree::{Close, Metric};
+use dpl_tree::{Close, Metric, Rows};
 use std::alloc::{AllocError, Global};
 use std::process::Abort;
 use std::test::Fail;
@@ -44,6 +45,30 @@ fn rows_of(alloc: Global, n: u32, radii: &[u64]) -> Result<Vec<u64>, AllocError>
         }
     }
     Ok(rows)
+}
+
+/// The same distances in numbers of 16 bits.
+fn shorter(alloc: Global, rows: &[u64]) -> Result<Vec<u16>, Fail>
+    ensures { IfOk result (λ short. short.items ≡ rows.now) }
+{
+    let mut short = Vec::new(alloc);
+    for i in 0..rows.len() {
+        match u16::try_from(rows[i]) {
+            Ok(far) => short.push(far)?,
+            Err(_) => return Err("a long distance")?,
+        }
+    }
+    Ok(short)
+}
+
+/// The same distances in long numbers or in short ones.
+fn rows_in(alloc: Global, rows: Vec<u64>, is_short: bool) -> Result<Rows, Fail>
+    ensures { IfOk result (λ r. distances_in r ≡ rows.items) }
+{
+    if is_short {
+        return Ok(Rows::Short(shorter(alloc, &rows)?));
+    }
+    Ok(Rows::Long(rows))
 }
 
 /// Members that are near others, each with the one to which it is near.
@@ -161,7 +186,7 @@ fn compare_all<R: Abort>(rt: &R, table: &Metric, lists: &Metric, one: &mut [u64]
 }
 
 /// Members on a line, whose distances stand in a table, and in lists.
-fn compare_line<R: Abort>(rt: &R, alloc: Global, n: u32) -> Result<(), Fail> {
+fn compare_line<R: Abort>(rt: &R, alloc: Global, n: u32, is_short: bool) -> Result<(), Fail> {
     let radii = radii_of(alloc, n)?;
     let rows = rows_of(alloc, n, &radii)?;
     let near = near_of(alloc, n, &radii)?;
@@ -175,7 +200,7 @@ fn compare_line<R: Abort>(rt: &R, alloc: Global, n: u32) -> Result<(), Fail> {
     if radii.len() != n as usize {
         return Err("other radii")?;
     }
-    let table = Metric::new(alloc, n, rows, copied)?;
+    let table = Metric::new(alloc, n, rows_in(alloc, rows, is_short)?, copied)?;
     let lists = Metric::near(alloc, radii, near);
     let mut one = vec![in alloc; 0; n as usize]?;
     let mut other = vec![in alloc; 0; n as usize]?;
@@ -189,7 +214,15 @@ fn compare_line<R: Abort>(rt: &R, alloc: Global, n: u32) -> Result<(), Fail> {
 /// Distances that stand in lists are those of the table.
 #[test]
 fn in_lists(rt: HostRuntime) -> Result<(), Fail> {
-    compare_line(&rt, rt.alloc(), 0)?;
-    compare_line(&rt, rt.alloc(), 2)?;
-    compare_line(&rt, rt.alloc(), 40)
+    compare_line(&rt, rt.alloc(), 0, false)?;
+    compare_line(&rt, rt.alloc(), 2, false)?;
+    compare_line(&rt, rt.alloc(), 40, false)
+}
+
+/// So are those of a table of short numbers.
+#[test]
+fn in_short_rows(rt: HostRuntime) -> Result<(), Fail> {
+    compare_line(&rt, rt.alloc(), 0, true)?;
+    compare_line(&rt, rt.alloc(), 2, true)?;
+    compare_line(&rt, rt.alloc(), 40, true)
 }

@@ -5,11 +5,11 @@
 //! small that a processor lowers several at a time. When none falls any more, each step is tried once again, so that nothing
 //! rests on the order.
 
-ghost use Rattle.std.specs.Prelude.{◌≡◌, ◌≢◌, ℕ, ◌+◌, ◌*◌, ◌^◌, ◌<◌, ◌≤◌, min, true, false, length, slice_index, slice_index_or, All, Contains, OnOk, IfOk, IfSome};
+ghost use Rattle.std.specs.Prelude.{◌≡◌, ◌≢◌, ℕ, ◌+◌, ◌*◌, ◌^◌, ◌<◌, ◌≤◌, min, true, false, length, slice_index, All, OnOk, IfOk, IfSome};
 ghost use Rattle.dpl_dual.specs.Duals.{CameFromDual, IsStep};
 ghost use Rattle.dpl_pack.specs.Moats.{AreTerminals};
 ghost use Rattle.dpl_solve.specs.Metrics.{AreNearPut};
-ghost use Rattle.dpl_solve.specs.Waves.{lengths_at, far_at, size, face_at, steps_of, IsWave, IsRowOf, AreReached, IsStepTried, AreStepsTried, IsFound, AreInReach, IsRowPut, AreWritten, IsWaiting};
+ghost use Rattle.dpl_solve.specs.Waves.{far_at, size, IsWave, IsRowOf, AreReached, IsStepTried, AreStepsTried, IsFound, AreInReach, IsRowPut, AreWritten, IsWaiting};
 
 use crate::places::{Listed, note_all, place_of};
 use dpl_dual::types::Distances;
@@ -246,7 +246,7 @@ fn begin(wave: &Wave<'_>, far: &mut [Lengths], waiting: &mut Waiting) -> Result<
 }
 
 /// Writes the distances of odd face s from those of a wave into the table, up to the radii of both.
-fn write_row(wave: &Wave<'_>, radii: &[u16], lengths: &Lengths, s: usize, dists: &mut [u64])
+fn write_row(wave: &Wave<'_>, radii: &[u16], lengths: &Lengths, s: usize, dists: &mut [u16])
     requires sizes { length radii.now ≡ length wave.now.odd.now }
     requires reach { AreInReach wave.now radii.now }
     requires inside { s < length radii.now }
@@ -260,12 +260,12 @@ fn write_row(wave: &Wave<'_>, radii: &[u16], lengths: &Lengths, s: usize, dists:
     let count = WIDTH.min(n - wave.first);
     for k in 0..count {
         let both = radius + radii[wave.first + k];
-        dists[start + k] = both.min(lengths.far[k]) as u64;
+        dists[start + k] = both.min(lengths.far[k]);
     }
 }
 
 /// Writes the distances of all odd faces from those of a wave. False where one of them is not listed.
-fn write_rows(wave: &Wave<'_>, radii: &[u16], far: &[Lengths], dists: &mut [u64]) -> bool
+fn write_rows(wave: &Wave<'_>, radii: &[u16], far: &[Lengths], dists: &mut [u16]) -> bool
     requires sizes { length radii.now ≡ length wave.now.odd.now }
     requires reach { AreInReach wave.now radii.now }
     requires first { wave.now.first ≤ length radii.now }
@@ -308,7 +308,7 @@ fn send(
     radii: &[u16],
     far: &mut [Lengths],
     waiting: &mut Waiting,
-    dists: &mut [u64],
+    dists: &mut [u16],
 ) -> Result<bool, AllocError>
     requires wave { IsWave wave.now }
     requires few { size wave.now < 2 ^ 32 }
@@ -341,7 +341,7 @@ fn send_all(
     radii: &[u16],
     far: &mut [Lengths],
     waiting: &mut Waiting,
-    dists: &mut [u64],
+    dists: &mut [u16],
 ) -> Result<bool, AllocError>
     requires wave { IsWave wave.now }
     requires few { size wave.now < 2 ^ 32 }
@@ -399,7 +399,7 @@ fn rows_within<'a>(
     odd: &'a [u32],
     radii: &[u16],
     limit: u16,
-) -> Result<Option<Vec<u64>>, AllocError>
+) -> Result<Option<Vec<u16>>, AllocError>
     requires dual { CameFromDual dual.now }
     requires faces { All (λ f. f < dual.now.faces) listed.faces.now }
     requires few { length listed.faces.now < 2 ^ 32 }
@@ -439,7 +439,7 @@ pub fn wave_rows(
     radii: &[u64],
     reach: &mut Distances,
     places: &mut Vec<usize>,
-) -> Result<Option<Vec<u64>>, AllocError>
+) -> Result<Option<Vec<u16>>, AllocError>
     requires dual { CameFromDual dual.now }
     requires odd { AreTerminals dual.now odd.now }
     requires few { length odd.now ≤ 2048 }

@@ -1,30 +1,27 @@
--- Lists of what is near each member, while they are made.
-use Rattle.std.specs.Prelude.{◌≡◌, ℕ, ◌+◌, ◌<◌, ◌⊎◌, List, Contains, length, slice_index}
-use Rattle.dpl_list.specs.Rows.{of_key, AreKeyed}
+-- Lists of what is near each member, one behind the other.
+use Rattle.std.specs.Prelude.{◌≡◌, ℕ, ◌+◌, ◌<◌, ◌≤◌, List, All, Contains, length, slice_index, slice_range}
 use Rattle.dpl_tree.specs.declared.metric.Close.{Close}
-use Rattle.dpl_tree.specs.declared.metric.Pairs.{Pairs}
-use Rattle.dpl_tree.specs.Metrics.{Table, dist_of, radius_of}
+use Rattle.dpl_tree.specs.declared.lists.Lists.{Lists}
+use Rattle.dpl_tree.specs.Metrics.{Table, AreAround}
 
--- what is listed for a member so far
-abbrev pub listed_at : Pairs → ℕ → List Close
-listed_at pairs s = of_key s pairs.from.items pairs.close.items
+-- what stands from where the list of a member starts to where the next one does
+abbrev pub list_of : Lists → ℕ → List Close
+list_of lists s = slice_range lists.items.items (slice_index lists.starts.items s) (slice_index lists.starts.items (s + 1))
 
--- member t is listed for s
-abbrev pub HasListed : Pairs → ℕ → ℕ → Type 0
-HasListed pairs s t = (x : Close) × Contains (listed_at pairs s) x × (x.member ≡ t)
+-- of the first t members those that are nearer to s than both radii, as far as a row of distances says
+pub record AreNear (row radii : List ℕ) (s t : ℕ) (list : List Close) : Type 0 where
+  pub each : All (λ (x : Close). (x.member < t) × (x.far ≡ slice_index row x.member)) list
+  pub all : (b : ℕ) → b < t → slice_index row b < slice_index radii s + slice_index radii b →
+      (x : Close) × Contains list x × (x.member ≡ b)
 
--- of the first t members those that are nearer to s than both radii were added for it, as far as its row says, and nothing
--- else was
-pub record AreAdded (row radii : List ℕ) (s t : ℕ) (old new : Pairs) : Type 0 where
-  pub keyed : AreKeyed (length radii) new.from.items new.close.items
-  pub kept : (a : ℕ) (x : Close) → Contains (listed_at old a) x → Contains (listed_at new a) x
-  pub only : (a : ℕ) (x : Close) → Contains (listed_at new a) x → Contains (listed_at old a) x ⊎
-      ((a ≡ s) × (x.member < t) × (x.far ≡ slice_index row x.member))
-  pub near : (b : ℕ) → b < t → slice_index row b < slice_index radii s + slice_index radii b → HasListed new s b
+-- the list of a member: its place, and those that are nearer to it than both radii
+pub record IsListed (d : Table) (s : ℕ) (lists : Lists) : Type 0 where
+  pub order : slice_index lists.starts.items s ≤ slice_index lists.starts.items (s + 1)
+  pub inside : slice_index lists.starts.items (s + 1) ≤ length lists.items.items
+  pub around : AreAround d s (list_of lists s)
 
--- for each of the first i members those that are nearer to it than both radii are listed; nothing is but members at their
--- distances
-pub record AreListed (d : Table) (i : ℕ) (pairs : Pairs) : Type 0 where
-  pub keyed : AreKeyed d.size pairs.from.items pairs.close.items
-  pub only : (a : ℕ) (x : Close) → Contains (listed_at pairs a) x → (x.member < d.size) × (x.far ≡ dist_of d a x.member)
-  pub near : (a t : ℕ) → a < i → t < d.size → dist_of d a t < radius_of d a + radius_of d t → HasListed pairs a t
+-- the lists of the first n members, and where the last of them ends
+pub record AreListed (d : Table) (n : ℕ) (lists : Lists) : Type 0 where
+  pub count : length lists.starts.items ≡ n + 1
+  pub last : slice_index lists.starts.items n ≡ length lists.items.items
+  pub each : (s : ℕ) → s < n → IsListed d s lists

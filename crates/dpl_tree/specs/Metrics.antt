@@ -70,8 +70,3 @@ pub record AreAround (d : Table) (s : ℕ) (list : List Close) : Type 0 where
   pub each : All (λ (x : Close). (x.member < d.size) × (x.far ≡ dist_of d s x.member)) list
   pub all : (t : ℕ) → t < d.size → dist_of d s t < radius_of d s + radius_of d t →
       (x : Close) × Contains list x × (x.member ≡ t)
-
--- the same for each member
-pub record HasLists (d : Table) (lists : List (List Close)) : Type 0 where
-  pub count : length lists ≡ d.size
-  pub each : (s : ℕ) → s < d.size → AreAround d s (slice_index_or lists s [])

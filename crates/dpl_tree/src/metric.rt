@@ -1,11 +1,12 @@
 //! Distances.
 
 ghost use Rattle.std.specs.Prelude.{◌≡◌, ◌≢◌, ℕ, ◌+◌, ◌*◌, ◌^◌, ◌<◌, ◌≤◌, true, ◌++◌, ◌∷◌, [], All, IfOk, OnOk, IfSome, length, slice_index, slice_range};
-ghost use Rattle.dpl_list.specs.Rows.{AreKeyed};
 ghost use Rattle.dpl_tree.specs.declared.metric.Close.{Close};
-ghost use Rattle.dpl_tree.specs.Metrics.{Table, dist_of, radius_of, far_in, IsNearList, IsTable, AreAround, HasLists, full_table, near_table};
-ghost use Rattle.dpl_tree.specs.Around.{AreAdded};
+ghost use Rattle.dpl_tree.specs.Metrics.{Table, dist_of, radius_of, far_in, IsNearList, IsTable, AreAround, full_table, near_table};
+ghost use Rattle.dpl_tree.specs.Rows.{distances_in, distances_of};
 
+use crate::lists::{Lists, all_lists};
+use crate::rows::{Row, Rows};
 use dpl_list::Grouped;
 use std::alloc::{AllocError, Global};
 use std::marker::Model;
@@ -27,23 +28,25 @@ pub struct Metric {
     size: usize,
     is_full: bool,
     is_crowd: bool,
-    rows: Vec<u64>,
+    rows: Rows,
     radii: Vec<u64>,
     least: u64,
     near: Grouped<Close>,
-    lists: Option<Grouped<Close>>,
+    lists: Option<Lists>,
 }
 
 impl Model for Metric {
     ghost use Rattle.std.specs.Prelude.{◌≤◌, ⊤, All, MatchOption};
-    ghost use Rattle.dpl_tree.specs.Metrics.{Table, IsTable, HasLists};
+    ghost use Rattle.dpl_tree.specs.Metrics.{Table, IsTable};
+    ghost use Rattle.dpl_tree.specs.Rows.{distances_in};
+    ghost use Rattle.dpl_tree.specs.Around.{AreListed};
 
     ghost Value = { Table };
 
     ghost view = { λ m. record {
       size = m.size;
       is_full = m.is_full;
-      rows = m.rows.items;
+      rows = distances_in m.rows;
       radii = m.radii.items;
       near = m.near;
     } };
@@ -51,25 +54,25 @@ impl Model for Metric {
     ghost invariant = { λ m. IsTable (record {
       size = m.size;
       is_full = m.is_full;
-      rows = m.rows.items;
+      rows = distances_in m.rows;
       radii = m.radii.items;
       near = m.near;
     })
         × All (λ r. m.least ≤ r) m.radii.items
-        × MatchOption m.lists ⊤ (λ lists. HasLists (record {
+        × MatchOption m.lists ⊤ (λ lists. AreListed (record {
           size = m.size;
           is_full = m.is_full;
-          rows = m.rows.items;
+          rows = distances_in m.rows;
           radii = m.radii.items;
           near = m.near;
-        }) lists) };
+        }) m.size lists) };
 }
 
 impl Metric {
     /// The distances row by row, and the radii. It costs the square of the number of members.
-    pub fn new(alloc: Global, n: u32, rows: Vec<u64>, radii: Vec<u64>) -> Result<Metric, AllocError>
-        requires { IsTable (full_table n rows.items radii.items) }
-        ensures { IfOk result (λ m. m ≡ full_table n rows.items radii.items) }
+    pub fn new(alloc: Global, n: u32, rows: Rows, radii: Vec<u64>) -> Result<Metric, AllocError>
+        requires { IsTable (full_table n (distances_in rows) radii.items) }
+        ensures { IfOk result (λ m. m ≡ full_table n (distances_in rows) radii.items) }
     {
         let lists = all_lists(alloc, n, &rows, &radii)?;
         let near = Grouped::by_key(alloc, 0, &[], &[])?;
@@ -94,7 +97,7 @@ impl Metric {
             size: radii.len(),
             is_full: false,
             is_crowd: false,
-            rows: Vec::new(alloc),
+            rows: Rows::Long(Vec::new(alloc)),
             least: least_of(&radii),
             radii,
             near,
@@ -125,26 +128,34 @@ impl Metric {
     }
 
     /// The row of a member, where all distances stand in rows.
-    fn full_row(&self, s: u32) -> &[u64]
+    fn full_row(&self, s: u32) -> Row<'_>
         requires full { self.now.is_full ≡ true }
         requires member { s < self.now.size }
-        ensures count { length result.now ≡ self.now.size }
+        ensures count { length (distances_of result) ≡ self.now.size }
         ensures each { (t : ℕ) → t < self.now.size →
-            slice_index result.now t ≡ dist_of self.now s t }
+            slice_index (distances_of result) t ≡ dist_of self.now s t }
     {
-        part(&self.rows, s as usize * self.size, self.size)
+        self.rows.part(s as usize * self.size, self.size)
     }
 
-    /// The row of a member, if all distances stand in rows.
-    pub fn row(&self, s: u32) -> Option<&[u64]>
+    /// Whether all distances stand in rows.
+    pub fn has_rows(&self) -> bool {
+        self.is_full
+    }
+
+    /// The row of a member, if all distances stand in rows of short numbers.
+    pub fn short_row(&self, s: u32) -> Option<&[u16]>
         requires { s < self.now.size }
         ensures { IfSome result (λ row. (length row.now ≡ self.now.size) ×
             ((t : ℕ) → t < self.now.size → slice_index row.now t ≡ dist_of self.now s t)) }
     {
-        if self.is_full {
-            return Some(self.full_row(s));
+        if !self.is_full {
+            return None;
         }
-        None
+        match self.full_row(s) {
+            Row::Long(_numbers) => None,
+            Row::Short(numbers) => Some(numbers),
+        }
     }
 
     /// The radius of a member.
@@ -181,7 +192,7 @@ impl Metric {
         ensures { result ≡ dist_of self.now s t }
     {
         if self.is_full {
-            return self.rows[s as usize * self.size + t as usize];
+            return self.rows.at(s as usize * self.size + t as usize);
         }
         let sum = self.radii[s as usize] + self.radii[t as usize];
         far_to(self.near.row(s as usize), t, sum)
@@ -215,91 +226,6 @@ impl Metric {
     }
 }
 
-/// Those that are nearer to others than both radii, and for each of them the other one.
-#[derive(Drop)]
-struct Pairs {
-    from: Vec<u32>,
-    close: Vec<Close>,
-}
-
-/// Adds a member that is near another one.
-fn add(pairs: &mut Pairs, from: u32, close: Close) -> Result<(), AllocError>
-    ensures from { OnOk result (pairs.new.from.items ≡ pairs.old.from.items ++ from ∷ []) }
-    ensures close { OnOk result (pairs.new.close.items ≡ pairs.old.close.items ++ close ∷ []) }
-{
-    pairs.from.push(from)?;
-    pairs.close.push(close)?;
-    Ok(())
-}
-
-/// Adds those that are nearer to member s than both radii, by the row of its distances.
-fn add_row(row: &[u64], radii: &[u64], s: u32, pairs: &mut Pairs) -> Result<(), AllocError>
-    requires count { length row.now ≡ length radii.now }
-    requires few { length radii.now ≤ 2048 }
-    requires short { All (λ r. r ≤ 2 ^ 49) radii.now }
-    requires member { s < length radii.now }
-    requires keyed { AreKeyed (length radii.now) pairs.old.from.items pairs.old.close.items }
-    ensures { OnOk result (AreAdded row.now radii.now s (length radii.now) pairs.old pairs.new) }
-{
-    let radius = radii[s as usize];
-    for t in 0..row.len() {
-        let far = row[t];
-        if far < radius + radii[t] {
-            add(
-                pairs,
-                s,
-                Close {
-                    member: t as u32,
-                    far,
-                },
-            )?;
-        }
-    }
-    Ok(())
-}
-
-/// How many are listed for each of so many members on average at most. Where more are near, a row of the table takes no longer.
-fn most_listed(count: usize) -> usize {
-    512_usize.min(count / 2)
-}
-
-/// For each member those that are nearer to it than both radii, unless these are too many. The average is taken as if for
-/// a quarter of all members more, so that a few with many near ones do not decide it.
-fn all_lists(
-    alloc: Global,
-    n: u32,
-    rows: &[u64],
-    radii: &[u64],
-) -> Result<Option<Grouped<Close>>, AllocError>
-    requires { IsTable (full_table n rows.now radii.now) }
-    ensures { IfOk result (λ o. IfSome o (λ lists. HasLists (full_table n rows.now radii.now) lists)) }
-{
-    let mut pairs = Pairs {
-        from: Vec::new(alloc),
-        close: Vec::new(alloc),
-    };
-    let size = n as usize;
-    let most = most_listed(size);
-    for s in 0..n {
-        let row = part(rows, s as usize * size, size);
-        add_row(row, radii, s, &mut pairs)?;
-        if pairs.close.len() / (s as usize + size / 4 + 1) > most {
-            return Ok(None);
-        }
-    }
-    let lists = Grouped::by_key(alloc, n, &pairs.from, &pairs.close)?;
-    Ok(Some(lists))
-}
-
-/// So many numbers of a list from a place on.
-fn part(numbers: &[u64], start: usize, count: usize) -> &[u64]
-    requires { start + count ≤ length numbers.now }
-    ensures { result.now ≡ slice_range numbers.now start (start + count) }
-{
-    let end = start + count;
-    &numbers[start..end]
-}
-
 /// The least radius.
 fn least_of(radii: &[u64]) -> u64
     ensures { All (λ r. result ≤ r) radii.now }
@@ -323,13 +249,13 @@ fn far_to(row: &[Close], member: u32, otherwise: u64) -> u64
     otherwise
 }
 
-/// Writes numbers into another list, one by one.
-fn copy(numbers: &[u64], row: &mut [u64])
-    requires { length row.old ≡ length numbers.now }
-    ensures { (t : ℕ) → t < length numbers.now → slice_index row.new t ≡ slice_index numbers.now t }
+/// Writes a row of distances into a list, one by one.
+fn copy(far: Row<'_>, row: &mut [u64])
+    requires { length row.old ≡ length (distances_of far) }
+    ensures { (t : ℕ) → t < length (distances_of far.entry) → slice_index row.new t ≡ slice_index (distances_of far.entry) t }
 {
-    for t in 0..numbers.len() {
-        row[t] = numbers[t];
+    for t in 0..far.len() {
+        row[t] = far.at(t);
     }
 }
 
@@ -358,16 +284,16 @@ fn write_near(near: &[Close], row: &mut [u64])
     }
 }
 
-/// The least of an amount and of the numbers of a list, but for the one at a place.
-fn least_beside(numbers: &[u64], place: usize, amount: u64) -> u64
+/// The least of an amount and of a row of distances, but for that from a member.
+fn least_beside(far: Row<'_>, member: usize, amount: u64) -> u64
     ensures least { result ≤ amount }
-    ensures each { (t : ℕ) → t < length numbers.now → t ≢ place →
-        result ≤ slice_index numbers.now t }
+    ensures each { (t : ℕ) → t < length (distances_of far.entry) → t ≢ member →
+        result ≤ slice_index (distances_of far.entry) t }
 {
     let mut least = amount;
-    for t in 0..numbers.len() {
-        if t != place {
-            least = least.min(numbers[t]);
+    for t in 0..far.len() {
+        if t != member {
+            least = least.min(far.at(t));
         }
     }
     least

@@ -2,6 +2,7 @@ use Rattle.std.proofs.Common.{◌≡◌, ◌∙◌, ℕ, List, length, sym, subs
 use Rattle.dpl_map.specs.Views.{view_of}
 use Rattle.dpl_map.proofs.ViewLemmas.{map_of}
 use Rattle.dpl_tree.specs.Metrics.{IsTable, full_table, near_table}
+use Rattle.dpl_tree.specs.Rows.{distances_in}
 use Rattle.dpl_solve.specs.Metrics.{AreNearRows}
 use Rattle.dpl_solve.proofs.EvenLemmas.{even_terminals}
 use Rattle.dpl_solve.proofs.MetricLemmas.{rows_table, near_rows_table}
@@ -27,7 +28,7 @@ new-requires c =
     c.requires.terminals in
     let copied : c.in_ok-copied-in-None.copied.items ≡ c.in_ok-radii.radii.items =
     c.in_ok-copied-in-None.ensures.items ∙ c.deref-in-None-2.ensures.value in
-    subst (λ (z : List ℕ). IsTable (full_table (length c.args.terminals.now) c.in_ok-rows-in-None.rows.items z)) (sym copied)
+    subst (λ (z : List ℕ). IsTable (full_table (length c.args.terminals.now) (distances_in c.in_ok-rows-in-None.rows) z)) (sym copied)
     (rows_table c.args.drawn.now.graph.now (view_of c.args.drawn.now.map.now) c.args.drawn.now.dual.now c.requires.drawn.dual c.args.sight.now.margin
     c.args.terminals.now _ _ c.requires.few even c.in_ok-radii.ensures.count c.in_ok-radii.ensures.radii
     (rw c.deref-in-None.ensures.value at c.in_ok-rows-in-None.ensures))

@@ -1,0 +1,68 @@
+//! Distances row by row, in numbers of 64 bits or of 16.
+
+ghost use Rattle.std.specs.Prelude.{◌≡◌, ◌+◌, ◌<◌, ◌≤◌, length, slice_index, slice_range};
+ghost use Rattle.dpl_tree.specs.Rows.{distances_in, distances_of};
+
+/// The distances of all members from all, row by row. Short ones take a quarter of the memory.
+#[derive(Drop)]
+pub enum Rows {
+    Long(Vec<u64>),
+    Short(Vec<u16>),
+}
+
+/// The distances of a member from all.
+#[derive(Clone, Copy)]
+pub enum Row<'a> {
+    Long(&'a [u64]),
+    Short(&'a [u16]),
+}
+
+impl Rows {
+    /// The distance at a place.
+    #[inline(always)]
+    pub fn at(&self, place: usize) -> u64
+        requires { place < length (distances_in self.now) }
+        ensures { result ≡ slice_index (distances_in self.now) place }
+    {
+        match self {
+            Rows::Long(numbers) => numbers[place],
+            Rows::Short(numbers) => numbers[place] as u64,
+        }
+    }
+
+    /// So many distances from a place on.
+    pub fn part(&self, start: usize, count: usize) -> Row<'_>
+        requires { start + count ≤ length (distances_in self.now) }
+        ensures { distances_of result ≡ slice_range (distances_in self.now) start (start + count) }
+    {
+        let end = start + count;
+        match self {
+            Rows::Long(numbers) => Row::Long(&numbers[start..end]),
+            Rows::Short(numbers) => Row::Short(&numbers[start..end]),
+        }
+    }
+}
+
+impl Row<'_> {
+    /// How many members there are.
+    pub fn len(self) -> usize
+        ensures { result ≡ length (distances_of self.entry) }
+    {
+        match self {
+            Row::Long(numbers) => numbers.len(),
+            Row::Short(numbers) => numbers.len(),
+        }
+    }
+
+    /// The distance from a member.
+    #[inline(always)]
+    pub fn at(self, member: usize) -> u64
+        requires { member < length (distances_of self) }
+        ensures { result ≡ slice_index (distances_of self.entry) member }
+    {
+        match self {
+            Row::Long(numbers) => numbers[member],
+            Row::Short(numbers) => numbers[member] as u64,
+        }
+    }
+}
