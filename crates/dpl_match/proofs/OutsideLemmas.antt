@@ -1,5 +1,5 @@
 -- The members outside of a top set, and the nearest of them.
-use Rattle.std.proofs.Common.{arith, ◌≡◌, ℕ, ◌+◌, ◌-◌, ◌^◌, ◌<◌, ◌≤◌, sym, ap, ◌∙◌, subst, Bool, cond, inl, inr, eqb}
+use Rattle.std.proofs.Common.{arith, ◌≡◌, ℕ, ◌+◌, ◌-◌, ◌^◌, ◌<◌, ◌≤◌, ◌⊎◌, sym, ap, ◌∙◌, subst, Bool, cond, inl, inr, eqb}
 use Rattle.std.proofs.Common.{Some, None, List, length, get_or, ◌++◌, ◌∷◌, [], length-append}
 use Rattle.std.proofs.lemmas.Bool.{cases_eq, cases_lt, cases_Bool, eqb-true, eqb-false}
 use Rattle.std.proofs.lemmas.List.{get_or_append_left, get_or-append-add}
@@ -8,7 +8,7 @@ use Rattle.dpl_match.specs.declared.renewing.Outsider.{Outsider}
 use Rattle.dpl_match.specs.declared.stage.Neighbour.{Neighbour}
 use Rattle.dpl_match.specs.steps.Nearest.{no_key, kept_of, member_of, level_of}
 use Rattle.dpl_match.specs.steps.Nearest.{AreTotals, HasKey, IsMeasured, IsNear, IsApart, IsOutside, AreOutside}
-use Rattle.dpl_match.specs.steps.Outsiders.{IsLeastOutside, IsOffset, IsFoundOutside, IsNearerOf, AreNoNearer}
+use Rattle.dpl_match.specs.steps.Outsiders.{IsLeastOutside, IsFoundOutside, AreNoNearer}
 use Rattle.dpl_match.specs.steps.Scans.{Members, members_of}
 use Rattle.dpl_match.proofs.NearLemmas.{stands_measured}
 use Rattle.dpl_tree.specs.declared.matching.Matching.{Matching}
@@ -61,6 +61,10 @@ key_read metric matching t s x sum level origin totals me ht hs ho ex es el =
     let low = totals.small s hs in
     (hs, omega (arith, me.symmetric t s ht hs, low, ex, es, el), omega (arith, me.small t s ht hs, ex, totals.small origin ho, el))
 
+-- what one of two comes to
+abbrev pub IsNearerOf : Neighbour → Neighbour → Neighbour → Type 0
+IsNearerOf a w r = ((r ≡ a) × (a.key ≤ w.key)) ⊎ ((r ≡ w) × (w.key ≤ a.key))
+
 -- nothing is found at first
 pub found_none : (m : Members) (known : ℕ → Bool) (origin t : ℕ)
     → IsFoundOutside m known origin t (record { member = 0; key = no_key })
@@ -74,99 +78,6 @@ found_nearer m known origin t a w r h out key one = elim one [
   | inl p ↦ subst (IsFoundOutside m known origin t) (sym p.0) h
   | inr p ↦ subst (IsFoundOutside m known origin t) (sym p.0) (record { most = omega (arith, key.2); some = λ l. (out, key) })
 ]
-
--- the offset of a member outside
-pub offset_outside : (m : Members) (level : ℕ) (known : ℕ → Bool) (x s offset : ℕ) → IsOffset m level known x s offset
-    → IsOutside m known x s → offset + m.total s ≡ level
-offset_outside m level known x s offset is out = elim is [
-  | inl p ↦ p.1
-  | inr p ↦ absurd (p.0 out)
-]
-
--- one that is less than no key is that of a member outside
-pub offset_taken : (m : Members) (level : ℕ) (known : ℕ → Bool) (x s offset : ℕ) → IsOffset m level known x s offset
-    → offset < no_key → IsOutside m known x s
-offset_taken m level known x s offset is few = elim is [
-  | inl p ↦ p.0
-  | inr p ↦ absurd (omega (arith, few, p.1))
-]
-
--- any other is not
-pub offset_passed : (m : Members) (level : ℕ) (known : ℕ → Bool) (x s offset : ℕ) → IsOffset m level known x s offset
-    → level < no_key → no_key ≤ offset → IsOutside m known x s → ⊥
-offset_passed m level known x s offset is low many = elim is [
-  | inl p ↦ λ out. absurd (omega (arith, low, many, p.1))
-  | inr p ↦ p.0
-]
-
--- ---- the least reach
-
--- a member whose reach by its offset is no less changes nothing
-pub reach_passed : (metric : Table) (m : Members) (level : ℕ) (known : ℕ → Bool) (x k offset : ℕ) (best : Outsider)
-    → IsOffset m level known x k offset → best.reach ≤ radius_of metric k + offset
-    → IsLeastOutside metric m level known x k best → IsLeastOutside metric m level known x (k + 1) best
-reach_passed metric m level known x k offset best is low h = record {
-  most = h.most;
-  least = λ s l out. elim (cases_eq s k) [
-    | inl e ↦ subst (λ z. best.reach + m.total z ≤ radius_of metric z + level) (sym e)
-        (omega (arith, low, offset_outside m level known x k offset is (subst (IsOutside m known x) e out)))
-    | inr ne ↦ h.least s (omega (arith, l, ne)) out
-  ];
-  some = h.some;
-}
-
--- one whose reach is less is taken
-pub reach_taken : (metric : Table) (m : Members) (level : ℕ) (known : ℕ → Bool) (x k offset : ℕ) (best : Outsider)
-    → IsOffset m level known x k offset → radius_of metric k + offset < best.reach
-    → IsLeastOutside metric m level known x k best
-    → IsLeastOutside metric m level known x (k + 1) (record { member = k; reach = radius_of metric k + offset })
-reach_taken metric m level known x k offset best is low h = record {
-  most = omega (arith, low, h.most);
-  least = λ s l out. elim (cases_eq s k) [
-    | inl e ↦ subst (λ z. radius_of metric k + offset + m.total z ≤ radius_of metric z + level) (sym e)
-        (omega (arith, offset_outside m level known x k offset is (subst (IsOutside m known x) e out)))
-    | inr ne ↦ omega (arith, low, h.least s (omega (arith, l, ne)) out)
-  ];
-  some = λ few.
-      let out : IsOutside m known x k = offset_taken m level known x k offset is (omega (arith, few)) in
-      (out, omega (arith, offset_outside m level known x k offset is out));
-}
-
--- no offset is above no key
-pub offset_most : (metric : Table) (matching : Matching) (known : ℕ → Bool) (origin x s offset : ℕ) → AreTotals metric matching
-    → origin < metric.size
-    → IsOffset (members_of metric matching) (level_of (members_of metric matching) origin) known x s offset → offset ≤ no_key
-offset_most metric matching known origin x s offset totals ho is = elim is [
-  | inl p ↦ omega (arith, p.1, totals.small origin ho)
-  | inr p ↦ omega (arith, p.1)
-]
-
--- the nearer one of what was found and a member by its offset
-pub found_offset : (metric : Table) (matching : Matching) (known : ℕ → Bool) (origin t s far offset : ℕ) (best r : Neighbour)
-    → AreTotals metric matching → IsMetric metric.size (dist_of metric) → t < metric.size → s < metric.size → origin < metric.size
-    → far ≡ dist_of metric t s
-    → IsOffset (members_of metric matching) (level_of (members_of metric matching) origin) known
-    ((members_of metric matching).sets.top t) s offset
-    → IsFoundOutside (members_of metric matching) known origin t best
-    → IsNearerOf best (record { member = s; key = far + offset }) r
-    → IsFoundOutside (members_of metric matching) known origin t r
-found_offset metric matching known origin t s far offset best r totals me ht hs ho ef is found one =
-    let m : Members = members_of metric matching in
-    let w : Neighbour = record { member = s; key = far + offset } in
-    elim is [
-      | inl p ↦ found_nearer m known origin t best w r found p.0 (
-        hs,
-        omega (arith, me.symmetric t s ht hs, ef, p.1),
-        omega (arith, me.small t s ht hs, ef, totals.small origin ho, p.1),
-      ) one
-      | inr p ↦ elim one [
-        | inl q ↦ subst (IsFoundOutside m known origin t) (sym q.0) found
-        | inr q ↦ subst (IsFoundOutside m known origin t) (sym q.0) (record {
-          most = omega (arith, q.1, found.most);
-          some = λ l. absurd (omega (arith, l, p.1));
-        })
-      ]
-    ]
 
 -- those around t have no less key, nor have others, which are as far as the radii or farther
 pub none_nearer : (metric : Table) (matching : Matching) (known : ℕ → Bool) (origin t : ℕ) (best key : ℕ) (one : Outsider)
@@ -226,7 +137,7 @@ found_apart m known origin t w h = elim (cases_Bool (eqb w.key no_key)) [
 ]
 
 -- the nearer one of two is no farther than either
-pub nearer_least : (a w r : Neighbour) → IsNearerOf a w r → (r.key ≤ a.key) × (r.key ≤ w.key)
+nearer_least : (a w r : Neighbour) → IsNearerOf a w r → (r.key ≤ a.key) × (r.key ≤ w.key)
 nearer_least a w r one = elim one [
   | inl p ↦ (let e = ap (λ z. z.key) p.0 in (omega (arith, e), omega (arith, e, p.1)))
   | inr p ↦ (let e = ap (λ z. z.key) p.0 in (omega (arith, e, p.1), omega (arith, e)))

@@ -3,10 +3,10 @@
 ghost use Rattle.std.specs.Prelude.{◌≡◌, ◌≢◌, ℕ, ◌+◌, ◌<◌, ◌≤◌, ◌^◌, ◌⊎◌, Some, None, length, slice_index, slice_set, IfOk, OnOk};
 ghost use Rattle.dpl_laminar.specs.Storing.{sets_of};
 ghost use Rattle.dpl_tree.specs.Metrics.{dist_of, radius_of, AreAround};
-ghost use Rattle.dpl_match.specs.steps.Nearest.{is_known, near_in, no_key, kept_in, kept_of, member_of, level_of};
+ghost use Rattle.dpl_match.specs.steps.Nearest.{is_known, near_in, kept_in, kept_of, member_of, level_of};
 ghost use Rattle.dpl_match.specs.steps.Nearest.{IsNear, IsMeasured, IsOutside, AreOutside, IsApart};
 ghost use Rattle.dpl_match.specs.steps.Nearest.{HasPlaces, HasSameMembers, AreTotals};
-ghost use Rattle.dpl_match.specs.steps.Outsiders.{IsLeastOutside, IsOffset, AreOffsets, AreOthers, IsFoundOutside, IsNearerOf, AreNoNearer};
+ghost use Rattle.dpl_match.specs.steps.Outsiders.{IsLeastOutside, AreOthers, IsFoundOutside, AreNoNearer};
 ghost use Rattle.dpl_match.specs.steps.Scans.{members_of};
 
 use super::stage::{NOBODY, Neighbour, OuterTable};
@@ -21,109 +21,108 @@ pub struct Outsider {
     pub reach: u64,
 }
 
-/// The offset of a member.
-fn offset_of(
+/// The one of the least reach so far, or another member if that is known, lies outside of the top set and has less.
+fn lesser_outside(
     metric: &Metric,
     matching: &Matching,
     table: &OuterTable,
     top: u32,
     level: u64,
+    best: Outsider,
     s: u32,
-) -> u64
+) -> Outsider
     requires totals { AreTotals metric.now matching.now }
     requires table { HasPlaces metric.now table.now }
     requires level { level ≡ level_of (members_of metric.now matching.now) table.now.origin }
     requires s { s < metric.now.size }
-    ensures { IsOffset (members_of metric.now matching.now) level (is_known table.now.known.items) top s result }
+    requires before { IsLeastOutside metric.now (members_of metric.now matching.now) level
+        (is_known table.now.known.items) top s best }
+    ensures least { IsLeastOutside metric.now (members_of metric.now matching.now) level
+        (is_known table.now.known.items) top (s + 1) result }
 {
-    let _size = metric.size();
     if !table.has(s) {
-        return NOBODY.key;
+        return best;
     }
     if matching.family.tops(s) == top {
-        return NOBODY.key;
+        return best;
     }
-    level - matching.sum(s)
-}
-
-/// The offset of each member.
-fn all_offsets(
-    alloc: Global,
-    metric: &Metric,
-    matching: &Matching,
-    table: &OuterTable,
-    top: u32,
-) -> Result<Vec<u64>, AllocError>
-    requires totals { AreTotals metric.now matching.now }
-    requires table { HasPlaces metric.now table.now }
-    ensures { IfOk result (λ offsets. AreOffsets (members_of metric.now matching.now)
-        (level_of (members_of metric.now matching.now) table.now.origin)
-        (is_known table.now.known.items) top metric.now.size offsets.items) }
-{
-    let level = table.level(matching);
-    let n = metric.size() as u32;
-    let mut offsets = Vec::with_capacity(alloc, n as usize)?;
-    for s in 0..n {
-        offsets.push(offset_of(metric, matching, table, top, level, s))?;
+    let reach = metric.radius(s) + (level - matching.sum(s));
+    if best.reach <= reach {
+        return best;
     }
-    Ok(offsets)
+    Outsider { member: s, reach }
 }
 
 /// The known member outside of a top set whose reach is least.
-fn least_outside(
-    metric: &Metric,
-    matching: &Matching,
-    table: &OuterTable,
-    top: u32,
-    offsets: &[u64],
-) -> Outsider
+fn least_outside(metric: &Metric, matching: &Matching, table: &OuterTable, top: u32) -> Outsider
     requires totals { AreTotals metric.now matching.now }
     requires table { HasPlaces metric.now table.now }
-    requires offsets { AreOffsets (members_of metric.now matching.now)
-        (level_of (members_of metric.now matching.now) table.now.origin)
-        (is_known table.now.known.items) top metric.now.size offsets.now }
     ensures least { IsLeastOutside metric.now (members_of metric.now matching.now)
         (level_of (members_of metric.now matching.now) table.now.origin)
         (is_known table.now.known.items) top metric.now.size result }
 {
-    let (_matching, _table, _top) = (matching, table, top);
+    let level = table.level(matching);
     let n = metric.size() as u32;
     let mut best = Outsider {
         member: 0,
         reach: NOBODY.key,
     };
     for s in 0..n {
-        let reach = metric.radius(s) + offsets[s as usize];
-        if reach < best.reach {
-            best = Outsider { member: s, reach };
-        }
+        best = lesser_outside(metric, matching, table, top, level, best, s);
     }
     best
 }
 
 /// The nearer one of two neighbours of t, of equally near ones that with the lesser number.
 fn nearer(near: Neighbour, other: Neighbour) -> Neighbour
-    ensures { IsNearerOf near other result }
+    ensures { ((result ≡ near) × (near.key ≤ other.key)) ⊎ ((result ≡ other) × (other.key ≤ near.key)) }
 {
-    if near.key < other.key {
-        return near;
+    if near.key == other.key {
+        if near.member <= other.member {
+            return near;
+        }
+        return other;
     }
-    if near.key == other.key && near.member < other.member {
+    if near.key < other.key {
         return near;
     }
     other
 }
 
-/// The nearer one of what was found for t and a member around it. The offset of that is no key unless it is known and has
-/// another top.
-fn nearer_around(offsets: &[u64], best: Neighbour, close: Close) -> Neighbour
-    requires member { close.member < length offsets.now }
+/// The nearer one of what was found for t and a member around it, if that is known and has another top.
+fn nearer_around(
+    metric: &Metric,
+    matching: &Matching,
+    table: &OuterTable,
+    top: u32,
+    level: u64,
+    best: Neighbour,
+    close: Close,
+) -> Neighbour
+    requires totals { AreTotals metric.now matching.now }
+    requires table { HasPlaces metric.now table.now }
+    requires level { level ≡ level_of (members_of metric.now matching.now) table.now.origin }
+    requires member { close.member < metric.now.size }
     requires far { close.far ≤ 2 ^ 50 }
-    requires small { slice_index offsets.now close.member ≤ no_key }
-    ensures { IsNearerOf best
-        (record { member = close.member; key = close.far + slice_index offsets.now close.member }) result }
+    ensures less { result.key ≤ best.key }
+    ensures one { (t : ℕ) → t < metric.now.size → top ≡ (sets_of matching.now.family).top t →
+        close.far ≡ dist_of metric.now t close.member →
+        IsFoundOutside (members_of metric.now matching.now) (is_known table.now.known.items)
+        table.now.origin t best →
+        IsFoundOutside (members_of metric.now matching.now) (is_known table.now.known.items)
+        table.now.origin t result }
+    ensures close { IsOutside (members_of metric.now matching.now)
+        (is_known table.now.known.items) top close.member →
+        result.key + slice_index matching.now.sums.items close.member ≤ close.far + level }
 {
-    let key = close.far + offsets[close.member as usize];
+    let _size = metric.size();
+    if matching.family.tops(close.member) == top {
+        return best;
+    }
+    if !table.has(close.member) {
+        return best;
+    }
+    let key = close.far + (level - matching.sum(close.member));
     nearer(
         best,
         Neighbour {
@@ -139,15 +138,11 @@ fn search_around(
     matching: &Matching,
     table: &OuterTable,
     list: &[Close],
-    offsets: &[u64],
     t: u32,
 ) -> Neighbour
     requires totals { AreTotals metric.now matching.now }
     requires table { HasPlaces metric.now table.now }
     requires list { AreAround metric.now t list.now }
-    requires offsets { AreOffsets (members_of metric.now matching.now)
-        (level_of (members_of metric.now matching.now) table.now.origin)
-        (is_known table.now.known.items) ((sets_of matching.now.family).top t) metric.now.size offsets.now }
     requires t { t < metric.now.size }
     ensures found { IsFoundOutside (members_of metric.now matching.now) (is_known table.now.known.items)
         table.now.origin t result }
@@ -158,10 +153,11 @@ fn search_around(
         level_of (members_of metric.now matching.now) table.now.origin }
 {
     let _size = metric.size();
-    let (_matching, _table) = (matching, table);
+    let level = table.level(matching);
+    let top = matching.family.tops(t);
     let mut best = NOBODY;
     for i in 0..list.len() {
-        best = nearer_around(offsets, best, list[i]);
+        best = nearer_around(metric, matching, table, top, level, best, list[i]);
     }
     best
 }
@@ -173,16 +169,12 @@ fn search_near(
     matching: &Matching,
     table: &OuterTable,
     list: &[Close],
-    offsets: &[u64],
     outsider: &Outsider,
     t: u32,
 ) -> Neighbour
     requires totals { AreTotals metric.now matching.now }
     requires table { HasPlaces metric.now table.now }
     requires list { AreAround metric.now t list.now }
-    requires offsets { AreOffsets (members_of metric.now matching.now)
-        (level_of (members_of metric.now matching.now) table.now.origin)
-        (is_known table.now.known.items) ((sets_of matching.now.family).top t) metric.now.size offsets.now }
     requires t { t < metric.now.size }
     requires outsider { IsLeastOutside metric.now (members_of metric.now matching.now)
         (level_of (members_of metric.now matching.now) table.now.origin)
@@ -195,7 +187,7 @@ fn search_near(
     ensures apart { IsApart (sets_of matching.now.family) t (member_of (kept_of result)) }
 {
     let _size = metric.size();
-    let best = search_around(metric, matching, table, list, offsets, t);
+    let best = search_around(metric, matching, table, list, t);
     let least = metric.radius(t) + outsider.reach;
     if best.key < least || NOBODY.key <= least {
         return best;
@@ -244,13 +236,11 @@ fn search_listed(
     best
 }
 
-/// The known members outside of a top set, once they were looked for, and that of them whose reach is least. An offset for
-/// each member is the level less the sum over it if it is one of them, and elsewhere no key.
+/// The known members outside of a top set, once they were looked for, and that of them whose reach is least.
 #[derive(Drop)]
 pub struct Others {
     pub top: Option<u32>,
     pub list: Vec<u32>,
-    pub offsets: Vec<u64>,
     pub outsider: Outsider,
 }
 
@@ -262,7 +252,6 @@ impl Others {
         Others {
             top: None,
             list: Vec::new(alloc),
-            offsets: Vec::new(alloc),
             outsider: Outsider {
                 member: 0,
                 reach: 0,
@@ -293,10 +282,6 @@ fn search(
     requires list { AreOutside (members_of metric.now matching.now)
         (is_known table.now.known.items) ((sets_of matching.now.family).top t) metric.now.size
         others.now.list.items }
-    requires offsets { AreOffsets (members_of metric.now matching.now)
-        (level_of (members_of metric.now matching.now) table.now.origin)
-        (is_known table.now.known.items) ((sets_of matching.now.family).top t) metric.now.size
-        others.now.offsets.items }
     requires outsider { IsLeastOutside metric.now (members_of metric.now matching.now)
         (level_of (members_of metric.now matching.now) table.now.origin)
         (is_known table.now.known.items) ((sets_of matching.now.family).top t) metric.now.size
@@ -312,20 +297,40 @@ fn search(
     match metric.around(t) {
         Some(list) => {
             if is_short(metric, list, others) {
-                return search_near(
-                    metric,
-                    matching,
-                    table,
-                    list,
-                    &others.offsets,
-                    &others.outsider,
-                    t,
-                );
+                return search_near(metric, matching, table, list, &others.outsider, t);
             }
         }
         None => {}
     }
     search_listed(metric, matching, table, &others.list, t, least)
+}
+
+/// Puts a member at the end of a list if it is known and lies outside of a top set.
+fn put_outside(
+    metric: &Metric,
+    matching: &Matching,
+    table: &OuterTable,
+    top: u32,
+    s: u32,
+    list: &mut Vec<u32>,
+) -> Result<(), AllocError>
+    requires totals { AreTotals metric.now matching.now }
+    requires table { HasPlaces metric.now table.now }
+    requires s { s < metric.now.size }
+    requires before { AreOutside (members_of metric.now matching.now)
+        (is_known table.now.known.items) top s list.old.items }
+    ensures { OnOk result (AreOutside (members_of metric.now matching.now)
+        (is_known table.now.known.items) top (s + 1) list.new.items) }
+{
+    let _size = metric.size();
+    if !table.has(s) {
+        return Ok(());
+    }
+    if matching.family.tops(s) == top {
+        return Ok(());
+    }
+    list.push(s)?;
+    Ok(())
 }
 
 /// The known members outside of a top set, in order.
@@ -335,23 +340,16 @@ fn outside(
     matching: &Matching,
     table: &OuterTable,
     top: u32,
-    offsets: &[u64],
 ) -> Result<Vec<u32>, AllocError>
     requires totals { AreTotals metric.now matching.now }
     requires table { HasPlaces metric.now table.now }
-    requires offsets { AreOffsets (members_of metric.now matching.now)
-        (level_of (members_of metric.now matching.now) table.now.origin)
-        (is_known table.now.known.items) top metric.now.size offsets.now }
     ensures { IfOk result (λ list. AreOutside (members_of metric.now matching.now)
         (is_known table.now.known.items) top metric.now.size list.items) }
 {
-    let (_matching, _table, _top) = (matching, table, top);
     let n = metric.size() as u32;
     let mut list = Vec::new(alloc);
     for s in 0..n {
-        if offsets[s as usize] < NOBODY.key {
-            list.push(s)?;
-        }
+        put_outside(metric, matching, table, top, s, &mut list)?;
     }
     Ok(list)
 }
@@ -374,13 +372,11 @@ fn turn_to(
     if others.top == Some(top) {
         return Ok(());
     }
-    let offsets = all_offsets(alloc, metric, matching, table, top)?;
-    let list = outside(alloc, metric, matching, table, top, &offsets)?;
-    let outsider = least_outside(metric, matching, table, top, &offsets);
+    let list = outside(alloc, metric, matching, table, top)?;
+    let outsider = least_outside(metric, matching, table, top);
     *others = Others {
         top: Some(top),
         list,
-        offsets,
         outsider,
     };
     Ok(())

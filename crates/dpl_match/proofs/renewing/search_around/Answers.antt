@@ -1,12 +1,12 @@
-use Rattle.std.proofs.Common.{arith, ◌≡◌, ℕ, ◌+◌, ◌<◌, ◌≤◌, ◌∙◌, ap, subst, sym, inl, inr, get_or, Bool, List}
+use Rattle.std.proofs.Common.{arith, ◌≡◌, ℕ, ◌+◌, ◌<◌, ◌≤◌, ◌∙◌, sym, ap, subst, inl, inr, get_or, Bool, List}
 use Rattle.std.proofs.lemmas.Bool.{cases_eq}
 use Rattle.std.proofs.lemmas.List.{get_or_default}
 use Rattle.std.proofs.lemmas.List.Elements.{All-get_or, All-contains}
 use Rattle.dpl_tree.specs.declared.metric.Close.{Close}
 use Rattle.dpl_tree.specs.Metrics.{dist_of}
-use Rattle.dpl_match.specs.steps.Nearest.{is_known}
-use Rattle.dpl_match.specs.steps.Scans.{members_of}
-use Rattle.dpl_match.proofs.OutsideLemmas.{found_none, found_offset, nearer_least, offset_most, offset_outside}
+use Rattle.dpl_match.specs.steps.Nearest.{is_known, IsOutside}
+use Rattle.dpl_match.specs.steps.Scans.{Members, members_of}
+use Rattle.dpl_match.proofs.OutsideLemmas.{found_none}
 use Rattle.dpl_match.proofs.renewing.search_around.Goals as goal
 
 abbrev none : Close
@@ -19,11 +19,29 @@ loop-i-init c = record {
   close = λ j l. absurd (omega (arith, l));
 }
 
+pub loop-i-preserved : goal.loop-i-preserved
+loop-i-preserved c =
+    let v : Members = members_of c.args.metric.now c.args.matching.now in
+    let known : ℕ → Bool = is_known c.args.table.now.known.items in
+    let list : List Close = c.args.list.now in
+    let sums : List ℕ = c.args.matching.now.sums.items in
+    let r = c.nearer_around-best in
+    let a = All-get_or (λ (x : Close). (x.member < c.args.metric.now.size) × (x.far ≡ dist_of c.args.metric.now c.args.t x.member))
+    list c.loop-i.i none c.loop-i-test.true c.requires.list.each in
+    record {
+      found = r.ensures.one c.args.t c.requires.t c.tops-top.ensures.value a.1 c.loop-i.invariant.found;
+      close = λ j l. elim (cases_eq j c.loop-i.i) [
+        | inl e ↦ subst (λ (k : ℕ). IsOutside v known c.tops-top.result (get_or list k none).member
+            → r.result.key + get_or sums (get_or list k none).member 0 ≤ (get_or list k none).far + c.level-level.result)
+            (sym e) r.ensures.close
+        | inr ne ↦ λ o. omega (arith, c.loop-i.invariant.close j (omega (arith, l, ne)) o, r.ensures.less)
+      ];
+    }
+
 pub nearer_around-best-requires-clause-member : goal.nearer_around-best-requires-clause-member
 nearer_around-best-requires-clause-member c =
-    let a = All-get_or (λ (x : Close). (x.member < c.args.metric.now.size) × (x.far ≡ dist_of c.args.metric.now c.args.t x.member))
-    c.args.list.now c.loop-i.i none c.loop-i-test.true c.requires.list.each in
-    omega (arith, a.0, c.requires.offsets.count)
+    (All-get_or (λ (x : Close). (x.member < c.args.metric.now.size) × (x.far ≡ dist_of c.args.metric.now c.args.t x.member))
+    c.args.list.now c.loop-i.i none c.loop-i-test.true c.requires.list.each).0
 
 pub nearer_around-best-requires-clause-far : goal.nearer_around-best-requires-clause-far
 nearer_around-best-requires-clause-far c =
@@ -31,37 +49,11 @@ nearer_around-best-requires-clause-far c =
     c.args.list.now c.loop-i.i none c.loop-i-test.true c.requires.list.each in
     omega (arith, a.1, c.size-size.ensures.table.metric.small c.args.t _ c.requires.t a.0)
 
-pub nearer_around-best-requires-clause-small : goal.nearer_around-best-requires-clause-small
-nearer_around-best-requires-clause-small c =
-    let a = All-get_or (λ (x : Close). (x.member < c.args.metric.now.size) × (x.far ≡ dist_of c.args.metric.now c.args.t x.member))
-    c.args.list.now c.loop-i.i none c.loop-i-test.true c.requires.list.each in
-    offset_most c.args.metric.now c.args.matching.now (is_known c.args.table.now.known.items) c.args.table.now.origin _ _ _
-    c.requires.totals c.requires.table.origin_below (c.requires.offsets.each _ a.0)
-
-pub loop-i-preserved : goal.loop-i-preserved
-loop-i-preserved c =
-    let known : ℕ → Bool = is_known c.args.table.now.known.items in
-    let list : List Close = c.args.list.now in
-    let offsets : List ℕ = c.args.offsets.now in
-    let r = c.nearer_around-best in
-    let a = All-get_or (λ (x : Close). (x.member < c.args.metric.now.size) × (x.far ≡ dist_of c.args.metric.now c.args.t x.member))
-    list c.loop-i.i none c.loop-i-test.true c.requires.list.each in
-    let q = nearer_least c.loop-i.best _ r.result r.ensures in
-    record {
-      found = found_offset c.args.metric.now c.args.matching.now known c.args.table.now.origin c.args.t _ _ _ c.loop-i.best r.result
-          c.requires.totals c.size-size.ensures.table.metric c.requires.t a.0 c.requires.table.origin_below a.1
-          (c.requires.offsets.each _ a.0) c.loop-i.invariant.found r.ensures;
-      close = λ j l. elim (cases_eq j c.loop-i.i) [
-        | inl e ↦ subst (λ (k : ℕ). r.result.key ≤ (get_or list k none).far + get_or offsets (get_or list k none).member 0)
-            (sym e) q.1
-        | inr ne ↦ omega (arith, c.loop-i.invariant.close j (omega (arith, l, ne)), q.0)
-      ];
-    }
-
 pub returns-clause-least : goal.returns-clause-least
 returns-clause-least c = λ s out near.
+    let v : Members = members_of c.args.metric.now c.args.matching.now in
+    let known : ℕ → Bool = is_known c.args.table.now.known.items in
     let list : List Close = c.args.list.now in
-    let offsets : List ℕ = c.args.offsets.now in
     let p = c.requires.list.all s out.below near in
     let x : Close = p.0 in
     let k : ℕ = p.1.0 in
@@ -71,6 +63,8 @@ returns-clause-least c = λ s out near.
     list x c.requires.list.each p.1 in
     let far : (get_or list k none).far ≡ dist_of c.args.metric.now c.args.t s =
     ap (λ z. z.far) is ∙ a.1 ∙ ap (dist_of c.args.metric.now c.args.t) p.2 in
-    let less = c.loop-i.invariant.close k (omega (arith, p.1.1, c.loop-i-test.false)) in
-    let offset = offset_outside _ _ _ _ _ _ (c.requires.offsets.each s out.below) out in
-    omega (arith, less, far, ap (λ z. get_or offsets z 0) member, offset)
+    let outside : IsOutside v known c.tops-top.result (get_or list k none).member =
+    subst (λ z. IsOutside v known z (get_or list k none).member) (sym c.tops-top.ensures.value)
+    (subst (IsOutside v known (v.sets.top c.args.t)) (sym member) out) in
+    let less = c.loop-i.invariant.close k (omega (arith, p.1.1, c.loop-i-test.false)) outside in
+    omega (arith, less, far, ap (λ z. get_or c.args.matching.now.sums.items z 0) member, c.level-level.ensures)
