@@ -51,7 +51,15 @@ fn look(
         (slice_index m.radii.items) s u (dist_of m.metric s u)) }
 {
     let radii = all_radii(alloc, drawn.dual, terminals, sight)?;
-    match near_rows(alloc, drawn.dual, terminals, &radii, reach, places)? {
+    match near_rows(
+        alloc,
+        drawn.dual,
+        terminals,
+        &radii,
+        sight.is_crowd,
+        reach,
+        places,
+    )? {
         Some(near) => {
             let copied = Vec::from_slice(alloc, &radii)?;
             let metric = Metric::near(alloc, copied, near);
