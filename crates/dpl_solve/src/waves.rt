@@ -16,7 +16,7 @@ use dpl_dual::types::Distances;
 use dpl_dual::{Dual, Step, distances};
 use std::alloc::{AllocError, Global};
 
-/// From so many odd faces at once.
+/// How many odd faces a wave begins at.
 const WIDTH: usize = 64;
 
 /// No radius is greater where waves are made.

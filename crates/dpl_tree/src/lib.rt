@@ -42,7 +42,7 @@ pub use matching::Matching;
 pub use metric::{Close, Metric};
 pub use pairs::{exit_of, pair};
 pub use ring::{Round, child_with, round_from};
-pub use rows::{Row, Rows};
+pub use rows::Rows;
 pub use std::alloc::AllocError as NoMemory;
 pub use tree::{Label, Tree};
 pub use way::augment;

@@ -20,7 +20,7 @@ pub enum Row<'a> {
 impl Rows {
     /// The distance at a place.
     #[inline(always)]
-    pub fn at(&self, place: usize) -> u64
+    pub(crate) fn at(&self, place: usize) -> u64
         requires { place < length (distances_in self.now) }
         ensures { result ≡ slice_index (distances_in self.now) place }
     {
@@ -31,7 +31,7 @@ impl Rows {
     }
 
     /// So many distances from a place on.
-    pub fn part(&self, start: usize, count: usize) -> Row<'_>
+    pub(crate) fn part(&self, start: usize, count: usize) -> Row<'_>
         requires { start + count ≤ length (distances_in self.now) }
         ensures { distances_of result ≡ slice_range (distances_in self.now) start (start + count) }
     {
@@ -45,7 +45,7 @@ impl Rows {
 
 impl Row<'_> {
     /// How many members there are.
-    pub fn len(self) -> usize
+    pub(crate) fn len(self) -> usize
         ensures { result ≡ length (distances_of self.entry) }
     {
         match self {
@@ -56,7 +56,7 @@ impl Row<'_> {
 
     /// The distance from a member.
     #[inline(always)]
-    pub fn at(self, member: usize) -> u64
+    pub(crate) fn at(self, member: usize) -> u64
         requires { member < length (distances_of self) }
         ensures { result ≡ slice_index (distances_of self.entry) member }
     {
