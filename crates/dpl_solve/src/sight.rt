@@ -204,19 +204,32 @@ fn greatest_step(nearest: &[Nearest]) -> u64
     most
 }
 
-/// A distance that half of the faces have from their nearest ones, or a lesser one.
-fn median(alloc: Global, nearest: &[Nearest]) -> Result<u64, AllocError>
-    ensures { IfOk result (λ far. far ≤ 1099511627776) }
+/// A distance of a list, up to 2^40.
+fn far_at(fars: &[u64], place: usize) -> u64
+    ensures { result ≤ 1099511627776 }
 {
-    let mut fars = Vec::new(alloc);
-    for i in 0..nearest.len() {
+    match fars.get(place) {
+        Some(far) => (*far).min(1099511627776),
+        None => 0,
+    }
+}
+
+/// Of the distances of faces from their nearest ones the middle one, the one above which one of 160 lies, and the greatest.
+fn all_fars(alloc: Global, nearest: &[Nearest]) -> Result<Fars, AllocError>
+    ensures middle { IfOk result (λ f. f.middle ≤ 1099511627776) }
+    ensures most { IfOk result (λ f. f.most ≤ 1099511627776) }
+{
+    let count = nearest.len();
+    let mut fars = Vec::with_capacity(alloc, count)?;
+    for i in 0..count {
         fars.push(far_of(nearest, i))?;
     }
     fars.sort_unstable();
-    match fars.get(fars.len() / 2) {
-        Some(far) => Ok((*far).min(1099511627776)),
-        None => Ok(0),
-    }
+    Ok(Fars {
+        middle: far_at(&fars, count / 2),
+        upper: far_at(&fars, count.saturating_sub(count / 160 + 1)),
+        most: greatest(nearest),
+    })
 }
 
 /// From so many odd faces on a margin that is far too wide costs more than a search that finds no pairs.
@@ -296,11 +309,22 @@ fn sees_few(
     Ok(reach.reached().len() <= list.len() - list.len() / 4)
 }
 
-/// The distances of faces from their nearest ones: one that half of them have, or a lesser one, and the greatest.
+/// Distances of faces from their nearest ones: one that half of them have, or a lesser one, one that all have but one of
+/// 160, or a lesser one, and the greatest.
 #[derive(Clone, Copy)]
 struct Fars {
     middle: u64,
+    upper: u64,
     most: u64,
+}
+
+/// More than twice a margin, by a distance.
+fn grown(margin: u64, far: u64) -> u64
+    requires margin { IsLimit margin }
+    requires far { far ≤ 1099511627776 }
+    ensures { IsLimit result }
+{
+    (2 * margin + far).min(FULL_LIMIT)
 }
 
 /// The margin that is tried first among many faces, of which one is given. With the least one each sees its nearest.
@@ -321,6 +345,7 @@ fn margin_among(
 {
     let narrow = least.max(fars.middle / 2 * 3 + 2);
     let wide = least.max(fars.middle / 2 * 5 + 2);
+    let wider = least.max(fars.middle / 2 * 9 + 2);
     match share_of(dual, list, face, reach)? {
         Share::Few => {
             if fars.most <= fars.middle {
@@ -331,7 +356,10 @@ fn margin_among(
         Share::Half => {}
         Share::Most => {
             if sees_few(dual, list, face, 2 * wide + fars.middle, reach)? {
-                return Ok(wide);
+                if fars.upper <= fars.middle {
+                    return Ok(wide);
+                }
+                return Ok(wider);
             }
         }
         Share::NearlyAll => {
@@ -340,10 +368,13 @@ fn margin_among(
             }
         }
     }
-    if fars.most <= fars.middle {
+    if fars.most > fars.middle {
+        return Ok(least.max(fars.most * 4));
+    }
+    if list.len() < CROWD {
         return Ok(least);
     }
-    Ok(least.max(fars.most * 4))
+    Ok(grown(least, fars.most))
 }
 
 /// The margin that is tried first: each face sees its nearest one, and among many faces, of which some are farther
@@ -367,10 +398,7 @@ pub fn first_margin(
     if nearest.len() < MANY {
         return Ok(least);
     }
-    let fars = Fars {
-        middle: median(alloc, nearest)?,
-        most: greatest(nearest),
-    };
+    let fars = all_fars(alloc, nearest)?;
     match list.get(list.len() / 2) {
         Some(face) => margin_among(dual, list, *face, fars, least, reach),
         None => Ok(least),
@@ -382,5 +410,5 @@ pub fn next_margin(sight: &Sight<'_>) -> u64
     requires { IsLimit sight.now.margin }
     ensures { IsLimit result }
 {
-    (2 * sight.margin + greatest(sight.nearest)).min(FULL_LIMIT)
+    grown(sight.margin, greatest(sight.nearest))
 }
