@@ -420,6 +420,12 @@ def single():
     yield "thirteen shaken rows of 105 boxes", layout(shaken_rows(105, 13, 64, 54, 8, 906_591, 32)), OPTIONS
     yield "a shaken grid of 44 by 44 boxes, 51 and 58 apart", layout(shaken_rows(44, 44, 51, 58, 4, 1, 0)), OPTIONS
     yield "a shaken triangular lattice of 1,600 boxes", layout(shaken_lattice(40, 64, 11, 1, 60)), OPTIONS
+    thirteen = parts_apart(shaken_rows(105, 13, 64, 54, 8, 906_591, 32), 36)
+    yield "36 times thirteen shaken rows of 105 boxes", layout(thirteen), OPTIONS
+    five = parts_apart(shaken_rows(273, 5, 59, 50, 9, 755_409, 29), 36)
+    yield "36 times five shaken rows of 273 boxes", layout(five), OPTIONS
+    grids = parts_apart(shaken_rows(44, 44, 45, 38, 9, 1, 0), 25)
+    yield "25 times a shaken grid of 44 by 44 boxes, 45 and 38 apart", layout(grids), OPTIONS
     yield "9,580 rings of wires and a strip: 2,046 odd faces", layout(rings_and_strip(9_580, 2_046)), OPTIONS
 
 
