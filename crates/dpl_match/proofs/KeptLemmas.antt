@@ -9,7 +9,7 @@ use Rattle.dpl_match.specs.declared.scan.Near.{Near}
 use Rattle.dpl_match.specs.declared.scan.Best.{Best}
 use Rattle.dpl_match.specs.declared.stage.Stage.{Stage}
 use Rattle.dpl_match.specs.steps.Going.{IsAtTurn}
-use Rattle.dpl_match.specs.declared.stage.Neighbour.{Neighbour}
+use Rattle.dpl_match.specs.declared.neighbours.Neighbour.{Neighbour}
 use Rattle.dpl_match.specs.steps.Nearest.{key_in, kept_in, near_in, member_of, level_of, HasKey, IsApart}
 use Rattle.dpl_match.specs.steps.Scans.{Members, members_of, most_of, IsFound, IsBest, IsNearer, IsBehind}
 use Rattle.dpl_match.proofs.NearLemmas.{to_passed, to_behind, to_taken, kept_none, kept_pair, kept_least}
@@ -17,8 +17,8 @@ use Rattle.dpl_match.proofs.TurnLemmas.{totals_within}
 
 -- the sums of a member and of the one of another top that is kept for it, with its key, are within their distance
 pub kept_within : {metric : Table} {m : Matching} {s : Stage} → IsAtTurn metric m s → (t : ℕ) (near : Neighbour)
-    → t < metric.size → kept_in s.table.near.items t ≡ Some near
-    → IsApart (sets_of m.family) t (near_in s.table.near.items t)
+    → t < metric.size → kept_in s.table.near t ≡ Some near
+    → IsApart (sets_of m.family) t (near_in s.table.near t)
     → HasKey (members_of metric m) (level_of (members_of metric m) s.table.origin) t near ×
     (get_or m.sums.items near.member 0 + get_or m.sums.items t 0 ≤ dist_of metric near.member t)
 kept_within {metric} {m} {s} start t near ht is apart =
@@ -37,8 +37,8 @@ kept_within {metric} {m} {s} start t near ht is apart =
 
 -- the pair of what is kept for t is the nearest one that leads to t
 pub kept_taken : {metric : Table} {m : Matching} {s : Stage} → IsAtTurn metric m s → (want : Place) (t : ℕ) (near : Neighbour)
-    → (level y : ℕ) (ends : Bool) (best found : Option Near) → t < metric.size → kept_in s.table.near.items t ≡ Some near
-    → IsApart (sets_of m.family) t (near_in s.table.near.items t)
+    → (level y : ℕ) (ends : Bool) (best found : Option Near) → t < metric.size → kept_in s.table.near t ≡ Some near
+    → IsApart (sets_of m.family) t (near_in s.table.near t)
     → level ≡ level_of (members_of metric m) s.table.origin → y ≡ get_or m.sums.items t 0
     → place_in s.tree.labels.items ((sets_of m.family).top t) ≡ want
     → IsNearer best (record { slack = near.key - level - y; from = near.member; to = t; ends = ends }) found
@@ -58,8 +58,8 @@ kept_cases (Some w) = inr (w, refl)
 
 -- no key is greater than the one that no member has
 pub key_low : {metric : Table} {m : Matching} {s : Stage} → IsAtTurn metric m s → (t : ℕ) → t < metric.size
-    → key_in (kept_in s.table.near.items t) ≤ 2 ^ 62
-key_low {metric} {m} {s} start t ht = elim (kept_cases (kept_in s.table.near.items t)) [
+    → key_in (kept_in s.table.near t) ≤ 2 ^ 62
+key_low {metric} {m} {s} start t ht = elim (kept_cases (kept_in s.table.near t)) [
   | inl e ↦ omega (arith, ap key_in e)
   | inr k ↦ omega (arith, ap key_in k.1, (start.nearest.near_outer.measured t ht k.0 k.1).2)
 ]
@@ -67,20 +67,20 @@ key_low {metric} {m} {s} start t ht = elim (kept_cases (kept_in s.table.near.ite
 -- where what is kept for t, whatever its top, is behind, the best pair stays
 pub kept_behind : {metric : Table} {m : Matching} {s : Stage} → IsAtTurn metric m s → IsMetric metric.size (dist_of metric)
     → (want : Place) (t level : ℕ) (best : Option Near) → t < metric.size → level ≡ level_of (members_of metric m) s.table.origin
-    → most_of best + level ≤ key_in (kept_in s.table.near.items t) - get_or m.sums.items t 0
-    → (best ≡ None → most_of best + level < key_in (kept_in s.table.near.items t) - get_or m.sums.items t 0)
+    → most_of best + level ≤ key_in (kept_in s.table.near t) - get_or m.sums.items t 0
+    → (best ≡ None → most_of best + level < key_in (kept_in s.table.near t) - get_or m.sums.items t 0)
     → IsFound (members_of metric m) (place_in s.tree.labels.items) want t best
     → IsFound (members_of metric m) (place_in s.tree.labels.items) want (t + 1) best
 kept_behind {metric} {m} {s} start me want t level best ht el le lt h =
     let v : Members = members_of metric m in
     let place : ℕ → Place = place_in s.tree.labels.items in
-    elim (kept_cases (kept_in s.table.near.items t)) [
+    elim (kept_cases (kept_in s.table.near t)) [
       | inl e ↦ to_passed v place want t best (kept_none v place s.table want t start.nearest ht (ap member_of e)) h
       | inr k ↦ behind best k.0 k.1 le lt h
     ] where
-      behind : (best : Option Near) (near : Neighbour) → kept_in s.table.near.items t ≡ Some near
-          → most_of best + level ≤ key_in (kept_in s.table.near.items t) - get_or m.sums.items t 0
-          → (best ≡ None → most_of best + level < key_in (kept_in s.table.near.items t) - get_or m.sums.items t 0)
+      behind : (best : Option Near) (near : Neighbour) → kept_in s.table.near t ≡ Some near
+          → most_of best + level ≤ key_in (kept_in s.table.near t) - get_or m.sums.items t 0
+          → (best ≡ None → most_of best + level < key_in (kept_in s.table.near t) - get_or m.sums.items t 0)
           → IsFound (members_of metric m) (place_in s.tree.labels.items) want t best
           → IsFound (members_of metric m) (place_in s.tree.labels.items) want (t + 1) best
       behind None near is le lt h =
@@ -96,7 +96,7 @@ kept_behind {metric} {m} {s} start me want t level best ht el le lt h =
 -- so it does by the most that is not behind
 kept_more : {metric : Table} {m : Matching} {s : Stage} → IsAtTurn metric m s → IsMetric metric.size (dist_of metric)
     → (want : Place) (t level above : ℕ) (best : Best) → t < metric.size → level ≡ level_of (members_of metric m) s.table.origin
-    → above ≡ key_in (kept_in s.table.near.items t) - get_or m.sums.items t 0 → best.most < above
+    → above ≡ key_in (kept_in s.table.near t) - get_or m.sums.items t 0 → best.most < above
     → IsBest (members_of metric m) (place_in s.tree.labels.items) level want t best
     → IsBest (members_of metric m) (place_in s.tree.labels.items) level want (t + 1) best
 kept_more {metric} {m} {s} start me want t level above best ht el ea lt h =
@@ -107,11 +107,11 @@ kept_more {metric} {m} {s} start me want t level above best ht el ea lt h =
 kept_equal : {metric : Table} {m : Matching} {s : Stage} → IsAtTurn metric m s → IsMetric metric.size (dist_of metric)
     → (want : Place) (t level above : ℕ) (best : Best) (pair : Near) → t < metric.size
     → level ≡ level_of (members_of metric m) s.table.origin
-    → above ≡ key_in (kept_in s.table.near.items t) - get_or m.sums.items t 0 → best.most ≡ above → best.pair ≡ Some pair
+    → above ≡ key_in (kept_in s.table.near t) - get_or m.sums.items t 0 → best.most ≡ above → best.pair ≡ Some pair
     → IsBest (members_of metric m) (place_in s.tree.labels.items) level want t best
     → IsBest (members_of metric m) (place_in s.tree.labels.items) level want (t + 1) best
 kept_equal {metric} {m} {s} start me want t level above best pair ht el ea same is h =
-    elim (kept_cases (kept_in s.table.near.items t)) [
+    elim (kept_cases (kept_in s.table.near t)) [
       | inl e ↦ (
         to_passed (members_of metric m) (place_in s.tree.labels.items) want t best.pair
             (kept_none (members_of metric m) (place_in s.tree.labels.items) s.table want t start.nearest ht (ap member_of e)) h.0,
@@ -129,7 +129,7 @@ kept_equal {metric} {m} {s} start me want t level above best pair ht el ea same 
 -- so the best pair stays where what is kept for t is behind, whatever its top
 pub kept_passed : {metric : Table} {m : Matching} {s : Stage} → IsAtTurn metric m s → IsMetric metric.size (dist_of metric)
     → (want : Place) (t level above : ℕ) (best : Best) → t < metric.size → level ≡ level_of (members_of metric m) s.table.origin
-    → above ≡ key_in (kept_in s.table.near.items t) - get_or m.sums.items t 0 → IsBehind best above
+    → above ≡ key_in (kept_in s.table.near t) - get_or m.sums.items t 0 → IsBehind best above
     → IsBest (members_of metric m) (place_in s.tree.labels.items) level want t best
     → IsBest (members_of metric m) (place_in s.tree.labels.items) level want (t + 1) best
 kept_passed start me want t level above best ht el ea (inl lt) h = kept_more start me want t level above best ht el ea lt h

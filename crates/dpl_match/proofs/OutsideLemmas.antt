@@ -5,7 +5,7 @@ use Rattle.std.proofs.lemmas.Bool.{cases_eq, cases_lt, cases_Bool, eqb-true, eqb
 use Rattle.std.proofs.lemmas.List.{get_or_append_left, get_or-append-add}
 use Rattle.std.proofs.lemmas.Option.{same_Some}
 use Rattle.dpl_match.specs.declared.renewing.Outsider.{Outsider}
-use Rattle.dpl_match.specs.declared.stage.Neighbour.{Neighbour}
+use Rattle.dpl_match.specs.declared.neighbours.Neighbour.{Neighbour}
 use Rattle.dpl_match.specs.steps.Nearest.{no_key, kept_of, member_of, level_of}
 use Rattle.dpl_match.specs.steps.Nearest.{AreTotals, HasKey, IsMeasured, IsNear, IsApart, IsOutside, AreOutside}
 use Rattle.dpl_match.specs.steps.Outsiders.{IsLeastOutside, IsFoundOutside, AreNoNearer}

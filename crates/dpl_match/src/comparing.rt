@@ -1,38 +1,33 @@
 //! The comparison of an outer member with what is kept for others.
 
-ghost use Rattle.std.specs.Prelude.{◌≡◌, ◌≢◌, ℕ, ◌+◌, ◌<◌, ◌≤◌, ◌^◌, length, slice_index};
+ghost use Rattle.std.specs.Prelude.{◌≡◌, ◌≢◌, ℕ, ◌+◌, ◌<◌, ◌≤◌, ◌^◌, true, length, slice_index};
 ghost use Rattle.dpl_laminar.specs.Storing.{sets_of};
 ghost use Rattle.dpl_tree.specs.Metrics.{dist_of, radius_of, AreAround};
-ghost use Rattle.dpl_match.specs.steps.Nearest.{kept_in, key_in, kept_of, no_key, is_as_near, compared, neighbour_at};
+ghost use Rattle.dpl_tree.specs.Rows.{distances_of};
+ghost use Rattle.dpl_match.specs.steps.Comparing.{sum_of, IsComparedAt, AreCompared, IsListCompared};
+ghost use Rattle.dpl_match.specs.steps.Nearest.{kept_in, key_in, no_key, compared, neighbour_at};
 ghost use Rattle.dpl_match.specs.steps.Nearest.{HasPlaces, HasSameMembers};
 
-use super::stage::{Neighbour, OuterTable};
-use dpl_tree::{Close, Matching, Metric};
-
-/// Whether what is kept is as near as a neighbour with this key.
-fn stays(near: Neighbour, key: u64) -> bool
-    requires { key < no_key }
-    ensures { result ≡ is_as_near (kept_of near) key }
-{
-    near.key <= key
-}
+use super::neighbours::{Neighbour, WIDTH};
+use super::stage::OuterTable;
+use dpl_tree::{Close, Matching, Metric, Row, Seen};
 
 /// Keeps a neighbour for t if it has another top and is nearer than what is kept so far. Few are
 /// nearer, so that is asked first.
 fn compare_one(matching: &Matching, table: &mut OuterTable, other: Neighbour, t: u32)
-    requires count { length table.old.near.items ≡ (sets_of matching.now.family).size }
+    requires count { length table.old.near ≡ (sets_of matching.now.family).size }
     requires other { other.member < (sets_of matching.now.family).size }
     requires key { other.key < no_key }
     requires t { t < (sets_of matching.now.family).size }
     requires small { t < 2 ^ 32 }
-    ensures nearer { kept_in table.new.near.items t ≡
-        compared (sets_of matching.now.family) t (kept_in table.old.near.items t) other }
+    ensures nearer { kept_in table.new.near t ≡
+        compared (sets_of matching.now.family) t (kept_in table.old.near t) other }
     ensures others { (k : ℕ) → k ≢ t →
-        kept_in table.new.near.items k ≡ kept_in table.old.near.items k }
-    ensures count { length table.new.near.items ≡ length table.old.near.items }
+        kept_in table.new.near k ≡ kept_in table.old.near k }
+    ensures count { length table.new.near ≡ length table.old.near }
     ensures rest { table.new ≡ record table.old { near = table.new.near; front = table.new.front } }
 {
-    if stays(table.near[t as usize], other.key) {
+    if table.near.key(t) <= other.key {
         return;
     }
     if matching.family.tops(t) == matching.family.tops(other.member) {
@@ -43,9 +38,9 @@ fn compare_one(matching: &Matching, table: &mut OuterTable, other: Neighbour, t:
 
 /// The least ceiling over what is kept.
 fn ceiling_of(metric: &Metric, table: &OuterTable) -> u64
-    requires count { length table.now.near.items ≡ metric.now.size }
+    requires count { length table.now.near ≡ metric.now.size }
     ensures { (t : ℕ) → t < metric.now.size →
-        key_in (kept_in table.now.near.items t) ≤ result + radius_of metric.now t }
+        key_in (kept_in table.now.near t) ≤ result + radius_of metric.now t }
 {
     let n = metric.size() as u32;
     let mut most = 0;
@@ -55,84 +50,164 @@ fn ceiling_of(metric: &Metric, table: &OuterTable) -> u64
     most
 }
 
-/// Compares an outer member with what is kept for each member, by the row of its distances. Its keys are these and this
-/// offset.
+/// Compares an outer member with what is kept for the members from one on before another, by the row of its distances. Its
+/// keys are these and this offset.
+#[inline(always)]
+fn compare_part(
+    metric: &Metric,
+    matching: &Matching,
+    table: &mut OuterTable,
+    row: Row<'_>,
+    s: u32,
+    offset: u64,
+    start: u32,
+    end: u32,
+)
+    requires size { (sets_of matching.now.family).size ≡ metric.now.size }
+    requires near { length table.old.near ≡ metric.now.size }
+    requires count { length (distances_of row) ≡ metric.now.size }
+    requires row { (t : ℕ) → t < metric.now.size → slice_index (distances_of row) t ≡ dist_of metric.now s t }
+    requires s { s < metric.now.size }
+    requires offset { offset ≤ 2 ^ 61 }
+    requires order { start ≤ end }
+    requires end { end ≤ metric.now.size }
+    ensures compared { AreCompared metric.now (sets_of matching.now.family) s offset start end
+        table.old.near table.new.near }
+    ensures rest { table.new ≡ record table.old { near = table.new.near; front = table.new.front } }
+{
+    let _size = metric.size();
+    for t in start..end {
+        let key = row.at(t as usize) + offset;
+        compare_one(matching, table, Neighbour { member: s, key }, t);
+    }
+}
+
+/// Compares an outer member with what is kept for each member, by the row of its distances. Where what is kept for some
+/// members is as near, nothing is done for these.
+#[inline(always)]
+fn compare_parts(
+    metric: &Metric,
+    matching: &Matching,
+    table: &mut OuterTable,
+    row: Row<'_>,
+    s: u32,
+    offset: u64,
+)
+    requires size { (sets_of matching.now.family).size ≡ metric.now.size }
+    requires near { length table.old.near ≡ metric.now.size }
+    requires count { length (distances_of row) ≡ metric.now.size }
+    requires row { (t : ℕ) → t < metric.now.size → slice_index (distances_of row) t ≡ dist_of metric.now s t }
+    requires s { s < metric.now.size }
+    requires offset { offset ≤ 2 ^ 61 }
+    ensures compared { AreCompared metric.now (sets_of matching.now.family) s offset 0 metric.now.size
+        table.old.near table.new.near }
+    ensures rest { table.new ≡ record table.old { near = table.new.near; front = table.new.front } }
+{
+    let n = metric.size() as u32;
+    let width = WIDTH as u32;
+    let parts = n / width;
+    for i in 0..parts {
+        let start = i * width;
+        if !table.near.stay(row, start as usize, offset) {
+            compare_part(
+                metric,
+                matching,
+                table,
+                row,
+                s,
+                offset,
+                start,
+                start + width,
+            );
+        }
+    }
+    compare_part(metric, matching, table, row, s, offset, parts * width, n);
+}
+
+/// Compares an outer member with what is kept for each member, by the row of its distances. Each kind of numbers has a loop
+/// of its own.
 #[inline(never)]
 fn compare_row(
     metric: &Metric,
     matching: &Matching,
     table: &mut OuterTable,
-    row: &[u16],
+    row: Row<'_>,
     s: u32,
     offset: u64,
 )
     requires size { (sets_of matching.now.family).size ≡ metric.now.size }
     requires table { HasPlaces metric.now table.old }
-    requires count { length row.now ≡ metric.now.size }
-    requires row { (t : ℕ) → t < metric.now.size → slice_index row.now t ≡ dist_of metric.now s t }
+    requires count { length (distances_of row) ≡ metric.now.size }
+    requires row { (t : ℕ) → t < metric.now.size → slice_index (distances_of row) t ≡ dist_of metric.now s t }
     requires s { s < metric.now.size }
     requires offset { offset ≤ 2 ^ 61 }
     ensures table { HasPlaces metric.now table.new }
     ensures rest { HasSameMembers table.old table.new }
-    ensures each { (t : ℕ) → t < metric.now.size → kept_in table.new.near.items t ≡
-        compared (sets_of matching.now.family) t (kept_in table.old.near.items t)
-        (neighbour_at (dist_of metric.now) s offset t) }
+    ensures each { (t : ℕ) → t < metric.now.size →
+        IsComparedAt metric.now (sets_of matching.now.family) s offset table.old.near table.new.near t }
 {
-    let n = metric.size() as u32;
-    for t in 0..n {
-        let key = row[t as usize] as u64 + offset;
-        compare_one(matching, table, Neighbour { member: s, key }, t);
+    let _size = metric.size();
+    match row {
+        Row::Long(numbers) => {
+            compare_parts(metric, matching, table, Row::Long(numbers), s, offset)
+        }
+        Row::Short(numbers) => {
+            compare_parts(metric, matching, table, Row::Short(numbers), s, offset)
+        }
     }
 }
 
-/// Compares an outer member with what is kept for each member, by a row that is written for it.
+/// Compares an outer member with what is kept for the members of a list.
 #[inline(never)]
-fn compare_written(
+fn compare_listed(
     metric: &Metric,
     matching: &Matching,
     table: &mut OuterTable,
+    list: &[Close],
     s: u32,
     offset: u64,
 )
     requires size { (sets_of matching.now.family).size ≡ metric.now.size }
     requires table { HasPlaces metric.now table.old }
+    requires list { AreAround metric.now s list.now }
     requires s { s < metric.now.size }
     requires offset { offset ≤ 2 ^ 61 }
-    ensures table { HasPlaces metric.now table.new }
-    ensures rest { HasSameMembers table.old table.new }
-    ensures each { (t : ℕ) → t < metric.now.size → kept_in table.new.near.items t ≡
-        compared (sets_of matching.now.family) t (kept_in table.old.near.items t)
-        (neighbour_at (dist_of metric.now) s offset t) }
+    ensures each { (t : ℕ) → t < metric.now.size → IsListCompared metric.now (sets_of matching.now.family)
+        s offset table.old.near table.new.near list.now t }
+    ensures count { length table.new.near ≡ metric.now.size }
+    ensures rest { table.new ≡ record table.old { near = table.new.near; front = table.new.front } }
 {
-    metric.write_row(s, &mut table.row);
+    let _size = metric.size();
+    for i in 0..list.len() {
+        let Close { member, far } = list[i];
+        let key = far + offset;
+        compare_one(matching, table, Neighbour { member: s, key }, member);
+    }
+}
+
+/// Compares an outer member with what is kept for each member, as if it were as far from each as both radii.
+#[inline(never)]
+fn compare_sums(metric: &Metric, matching: &Matching, table: &mut OuterTable, s: u32, offset: u64)
+    requires size { (sets_of matching.now.family).size ≡ metric.now.size }
+    requires count { length table.old.near ≡ metric.now.size }
+    requires s { s < metric.now.size }
+    requires offset { offset ≤ 2 ^ 61 }
+    ensures each { (t : ℕ) → t < metric.now.size → kept_in table.new.near t ≡
+        compared (sets_of matching.now.family) t (kept_in table.old.near t)
+        (neighbour_at (sum_of metric.now) s offset t) }
+    ensures count { length table.new.near ≡ metric.now.size }
+    ensures rest { table.new ≡ record table.old { near = table.new.near; front = table.new.front } }
+{
     let n = metric.size() as u32;
+    let least = metric.radius(s) + offset;
     for t in 0..n {
-        let key = table.row[t as usize] + offset;
+        let key = metric.radius(t) + least;
         compare_one(matching, table, Neighbour { member: s, key }, t);
     }
 }
 
-/// Compares an outer member with what is kept for each member. Its keys are its distances and this offset.
-fn compare_all(metric: &Metric, matching: &Matching, table: &mut OuterTable, s: u32, offset: u64)
-    requires size { (sets_of matching.now.family).size ≡ metric.now.size }
-    requires table { HasPlaces metric.now table.old }
-    requires s { s < metric.now.size }
-    requires offset { offset ≤ 2 ^ 61 }
-    ensures table { HasPlaces metric.now table.new }
-    ensures rest { HasSameMembers table.old table.new }
-    ensures each { (t : ℕ) → t < metric.now.size → kept_in table.new.near.items t ≡
-        compared (sets_of matching.now.family) t (kept_in table.old.near.items t)
-        (neighbour_at (dist_of metric.now) s offset t) }
-{
-    match metric.short_row(s) {
-        Some(row) => compare_row(metric, matching, table, row, s, offset),
-        None => compare_written(metric, matching, table, s, offset),
-    }
-}
-
-/// Compares an outer member with what is kept for those that it is near. The ceiling shows that it is nearer to no
-/// others.
-#[inline(never)]
+/// Compares an outer member with what is kept for each member, by the list of those that it is near. Where its radius and
+/// the offset together are above the ceiling, it is nearer to no others. Otherwise the ceiling is lowered.
 fn compare_around(
     metric: &Metric,
     matching: &Matching,
@@ -146,24 +221,22 @@ fn compare_around(
     requires list { AreAround metric.now s list.now }
     requires s { s < metric.now.size }
     requires offset { offset ≤ 2 ^ 61 }
-    requires above { table.old.ceiling ≤ radius_of metric.now s + offset }
     ensures table { HasPlaces metric.now table.new }
     ensures rest { HasSameMembers table.old table.new }
-    ensures each { (t : ℕ) → t < metric.now.size → kept_in table.new.near.items t ≡
-        compared (sets_of matching.now.family) t (kept_in table.old.near.items t)
-        (neighbour_at (dist_of metric.now) s offset t) }
+    ensures each { (t : ℕ) → t < metric.now.size →
+        IsComparedAt metric.now (sets_of matching.now.family) s offset table.old.near table.new.near t }
 {
     let _size = metric.size();
-    for i in 0..list.len() {
-        let Close { member, far } = list[i];
-        let key = far + offset;
-        compare_one(matching, table, Neighbour { member: s, key }, member);
+    let above = metric.radius(s) + offset;
+    compare_listed(metric, matching, table, list, s, offset);
+    if table.ceiling <= above {
+        return;
     }
+    compare_sums(metric, matching, table, s, offset);
+    table.ceiling = ceiling_of(metric, table);
 }
 
-/// Compares an outer member with what is kept for each member. Its keys are its distances and this offset. Where its
-/// radius and the offset together are above the ceiling, it is nearer to none but those around it. Otherwise the ceiling
-/// is lowered.
+/// Compares an outer member with what is kept for each member. Its keys are its distances and this offset.
 pub fn compare(metric: &Metric, matching: &Matching, table: &mut OuterTable, s: u32, offset: u64)
     requires size { (sets_of matching.now.family).size ≡ metric.now.size }
     requires table { HasPlaces metric.now table.old }
@@ -171,19 +244,11 @@ pub fn compare(metric: &Metric, matching: &Matching, table: &mut OuterTable, s: 
     requires offset { offset ≤ 2 ^ 61 }
     ensures table { HasPlaces metric.now table.new }
     ensures rest { HasSameMembers table.old table.new }
-    ensures each { (t : ℕ) → t < metric.now.size → kept_in table.new.near.items t ≡
-        compared (sets_of matching.now.family) t (kept_in table.old.near.items t)
-        (neighbour_at (dist_of metric.now) s offset t) }
+    ensures each { (t : ℕ) → t < metric.now.size →
+        IsComparedAt metric.now (sets_of matching.now.family) s offset table.old.near table.new.near t }
 {
-    match metric.around(s) {
-        Some(list) => {
-            if table.ceiling <= metric.radius(s) + offset {
-                compare_around(metric, matching, table, list, s, offset);
-                return;
-            }
-            compare_all(metric, matching, table, s, offset);
-            table.ceiling = ceiling_of(metric, table);
-        }
-        None => compare_all(metric, matching, table, s, offset),
+    match metric.seen(s) {
+        Seen::All(row) => compare_row(metric, matching, table, row, s, offset),
+        Seen::Near(list) => compare_around(metric, matching, table, list, s, offset),
     }
 }

@@ -3,14 +3,15 @@
 ghost use Rattle.std.specs.Prelude.{◌≡◌, ◌≢◌, ℕ, ◌+◌, ◌<◌, ◌≤◌, ◌^◌, ◌⊎◌, Some, None, length, slice_index, slice_set, IfOk, OnOk};
 ghost use Rattle.dpl_laminar.specs.Storing.{sets_of};
 ghost use Rattle.dpl_tree.specs.Metrics.{dist_of, radius_of, AreAround};
-ghost use Rattle.dpl_match.specs.steps.Nearest.{is_known, near_in, kept_in, kept_of, member_of, level_of};
+ghost use Rattle.dpl_match.specs.steps.Nearest.{is_known, near_in, kept_in, kept_of, member_of, level_of, no_key};
 ghost use Rattle.dpl_match.specs.steps.Nearest.{IsNear, IsMeasured, IsOutside, AreOutside, IsApart};
 ghost use Rattle.dpl_match.specs.steps.Nearest.{HasPlaces, HasSameMembers, AreTotals};
 ghost use Rattle.dpl_match.specs.steps.Outsiders.{IsLeastOutside, AreOthers, IsFoundOutside, AreNoNearer};
 ghost use Rattle.dpl_match.specs.steps.Scans.{members_of};
 
-use super::stage::{NOBODY, Neighbour, OuterTable};
-use dpl_tree::{Close, Matching, Metric};
+use super::neighbours::{NOBODY, Neighbour};
+use super::stage::OuterTable;
+use dpl_tree::{Close, Matching, Metric, Seen};
 use std::alloc::{AllocError, Global};
 
 /// The known member outside of a top set whose radius and offset together are least. The offset is the level less the sum
@@ -260,14 +261,8 @@ impl Others {
     }
 }
 
-/// Whether it takes less time to ask those around t than all known members outside. Without a table each distance is
-/// sought in the list of what is around.
-fn is_short(metric: &Metric, around: &[Close], others: &Others) -> bool {
-    !metric.has_rows() || around.len() <= others.list.len()
-}
-
 /// The nearest to t of all known members that have another top, where none of them has a key below the least one. Those
-/// around it are asked, or all that there are where these are fewer.
+/// around it are asked, or all where there is a table.
 fn search(
     metric: &Metric,
     matching: &Matching,
@@ -294,15 +289,10 @@ fn search(
         (kept_of result) }
     ensures apart { IsApart (sets_of matching.now.family) t (member_of (kept_of result)) }
 {
-    match metric.around(t) {
-        Some(list) => {
-            if is_short(metric, list, others) {
-                return search_near(metric, matching, table, list, &others.outsider, t);
-            }
-        }
-        None => {}
+    match metric.seen(t) {
+        Seen::Near(list) => search_near(metric, matching, table, list, &others.outsider, t),
+        Seen::All(_) => search_listed(metric, matching, table, &others.list, t, least),
     }
-    search_listed(metric, matching, table, &others.list, t, least)
 }
 
 /// Puts a member at the end of a list if it is known and lies outside of a top set.
@@ -386,13 +376,14 @@ fn turn_to(
 fn keep_anew(metric: &Metric, table: &mut OuterTable, t: u32, found: Neighbour)
     requires table { HasPlaces metric.now table.old }
     requires t { t < metric.now.size }
+    requires key { found.key ≤ no_key }
     ensures table { HasPlaces metric.now table.new }
-    ensures near { table.new.near.items ≡ slice_set table.old.near.items t found }
+    ensures near { table.new.near ≡ slice_set table.old.near t found }
     ensures rest { HasSameMembers table.old table.new }
 {
     let above = found.key.saturating_sub(metric.radius(t));
     table.ceiling = table.ceiling.max(above);
-    table.near[t as usize] = found;
+    table.near.set(t, found);
 }
 
 /// Looks again for what is kept for t where that has come into the same top.
@@ -408,20 +399,20 @@ pub fn renew_one(
     requires table { HasPlaces metric.now table.old }
     requires t { t < metric.now.size }
     requires near { IsNear (members_of metric.now matching.now) (is_known table.old.known.items) t
-        metric.now.size (near_in table.old.near.items t) }
+        metric.now.size (near_in table.old.near t) }
     requires measured { IsMeasured (members_of metric.now matching.now) table.old.origin t
-        (kept_in table.old.near.items t) }
+        (kept_in table.old.near t) }
     requires others { AreOthers metric.now (members_of metric.now matching.now) table.old others.old }
     ensures table { HasPlaces metric.now table.new }
     ensures rest { HasSameMembers table.old table.new }
     ensures others { OnOk result (AreOthers metric.now (members_of metric.now matching.now) table.new others.new) }
     ensures near { OnOk result (IsNear (members_of metric.now matching.now)
-        (is_known table.new.known.items) t metric.now.size (near_in table.new.near.items t)) }
+        (is_known table.new.known.items) t metric.now.size (near_in table.new.near t)) }
     ensures measured { OnOk result (IsMeasured (members_of metric.now matching.now)
-        table.new.origin t (kept_in table.new.near.items t)) }
-    ensures apart { OnOk result (IsApart (sets_of matching.now.family) t (near_in table.new.near.items t)) }
+        table.new.origin t (kept_in table.new.near t)) }
+    ensures apart { OnOk result (IsApart (sets_of matching.now.family) t (near_in table.new.near t)) }
     ensures kept { (k : ℕ) → k ≢ t →
-        kept_in table.new.near.items k ≡ kept_in table.old.near.items k }
+        kept_in table.new.near k ≡ kept_in table.old.near k }
 {
     match table.nearest(t) {
         Some(near) => {

@@ -3,57 +3,25 @@
 ghost use Rattle.std.specs.Prelude.{◌≡◌, ℕ, ◌+◌, ◌*◌, ◌<◌, ◌≤◌, ◌^◌, false, replicate, slice_set};
 ghost use Rattle.std.specs.Prelude.{length, slice_index, IfOk};
 ghost use Rattle.dpl_match.specs.steps.Going.{IsStart};
-ghost use Rattle.dpl_match.specs.steps.Nearest.{is_known, key_in, kept_in, kept_of, no_key, nobody};
+ghost use Rattle.dpl_match.specs.steps.Nearest.{is_known, key_in, kept_in, no_key, nobody};
 
+use super::neighbours::{NOBODY, Neighbour, Neighbours, kept};
 use dpl_tree::{Matching, Tree};
 use std::alloc::{AllocError, Global};
 
 /// The level from which keys are counted is no less, so that no key is below 0.
 const LEAST_LEVEL: u64 = 1 << 60;
 
-/// An outer member that is kept for another member, and its key: the distance of the two less the
-/// sum over the outer one, counted from the level of the table.
-#[derive(Clone, Copy)]
-pub struct Neighbour {
-    pub member: u32,
-    pub key: u64,
-}
-
-/// What stands where nothing is kept. No key is as great as this one.
-pub const NOBODY: Neighbour = Neighbour {
-    member: 0,
-    key: 1 << 62,
-};
-
-/// The key of what stands.
-fn key_of(near: Neighbour) -> u64
-    ensures { result ≡ key_in (kept_of near) }
-{
-    near.key
-}
-
-/// What is kept where this stands.
-#[inline(always)]
-fn kept(near: Neighbour) -> Option<Neighbour>
-    ensures { result ≡ kept_of near }
-{
-    if near.key == NOBODY.key {
-        return None;
-    }
-    Some(near)
-}
-
 /// The outer members that were taken in, and for each member the nearest of them with another top.
 /// The origin is an outer member throughout the stage. A change of values adds as much to the sum over
-/// each outer member, so that keys stay as they are. The row is room for the distances of one member.
+/// each outer member, so that keys stay as they are.
 /// No key is more than the radius of its member and the ceiling. Of the members outside of the tree
 /// none before the front is reached by a pair without slack, so that a scan for these begins there.
 #[derive(Drop)]
 pub struct OuterTable {
     pub origin: u32,
     pub known: Vec<bool>,
-    pub near: Vec<Neighbour>,
-    pub row: Vec<u64>,
+    pub near: Neighbours,
     pub ceiling: u64,
     pub front: u32,
 }
@@ -78,28 +46,29 @@ impl OuterTable {
 
     /// The key of what is kept for a member, or one that no member has.
     pub fn key(&self, member: u32) -> u64
-        requires { member < length self.now.near.items }
-        ensures { result ≡ key_in (kept_in self.now.near.items member) }
+        requires { member < length self.now.near }
+        ensures { result ≡ key_in (kept_in self.now.near member) }
     {
-        key_of(self.near[member as usize])
+        self.near.key(member)
     }
 
     /// What is kept for a member.
     #[inline(always)]
     pub fn nearest(&self, member: u32) -> Option<Neighbour>
-        requires { member < length self.now.near.items }
-        ensures { result ≡ kept_in self.now.near.items member }
+        requires { member < length self.now.near }
+        ensures { result ≡ kept_in self.now.near member }
     {
-        kept(self.near[member as usize])
+        kept(self.near.get(member))
     }
 
     /// Keeps another neighbour for a member.
     pub fn keep(&mut self, member: u32, other: Neighbour)
-        requires { member < length self.old.near.items }
-        ensures near { self.new.near.items ≡ slice_set self.old.near.items member other }
+        requires place { member < length self.old.near }
+        requires key { other.key ≤ no_key }
+        ensures near { self.new.near ≡ slice_set self.old.near member other }
         ensures others { self.new ≡ record self.old { near = self.new.near; front = self.new.front } }
     {
-        self.near[member as usize] = other;
+        self.near.set(member, other);
         self.front = self.front.min(member);
     }
 }
@@ -126,22 +95,19 @@ impl Stage {
         ensures tree { IfOk result (λ s. IsStart n root s.tree) }
         ensures origin { IfOk result (λ s. s.table.origin ≡ origin) }
         ensures known { IfOk result (λ s. s.table.known.items ≡ replicate n false) }
-        ensures near { IfOk result (λ s. s.table.near.items ≡ replicate n nobody) }
-        ensures row { IfOk result (λ s. length s.table.row.items ≡ n) }
+        ensures near { IfOk result (λ s. s.table.near ≡ replicate n nobody) }
         ensures ceiling { IfOk result (λ s. s.table.ceiling ≡ no_key) }
         ensures alone { IfOk result (λ s. s.alone ≡ alone) }
     {
         let tree = Tree::new(alloc, root, 2 * n)?;
         let known = vec![in alloc; false; n]?;
-        let near = vec![in alloc; NOBODY; n]?;
-        let row = vec![in alloc; 0; n]?;
+        let near = Neighbours::new(alloc, n)?;
         Ok(Stage {
             tree,
             table: OuterTable {
                 origin,
                 known,
                 near,
-                row,
                 ceiling: NOBODY.key,
                 front: 0,
             },

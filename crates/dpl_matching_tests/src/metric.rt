@@ -1,11 +1,11 @@
 ghost use Rattle.std.specs.Prelude.{◌≡◌, ◌<◌, All, IfOk, OnOk, length};
 ghost use Rattle.dpl_tree.specs.declared.metric.Close.{Close};
-ghost use Rattle.dpl_tree.specs.Rows.{distances_in};
+ghost use Rattle.dpl_tree.specs.Rows.{distances_in, distances_of};
 
 use crate::lists::are_lists;
 use crate::tables::is_table;
 use dpl_list::Grouped;
-use dpl_tree::{Close, Metric, Rows};
+use dpl_tree::{Close, Metric, Row, Rows, Seen};
 use std::alloc::{AllocError, Global};
 use std::process::Abort;
 use std::test::Fail;
@@ -121,31 +121,45 @@ fn compare_list<R: Abort>(rt: &R, list: &[Close], metric: &Metric, s: u32)
     }
 }
 
-/// How many are listed around a member, which are as far from it in another form.
-fn count_around<R: Abort>(rt: &R, metric: &Metric, other: &Metric, s: u32) -> Option<usize>
-    requires same { other.now.size ≡ metric.now.size }
+/// Compares the row of a member with its distances in another form.
+fn compare_row<R: Abort>(rt: &R, row: Row<'_>, metric: &Metric, s: u32)
     requires s { s < metric.now.size }
+    requires count { length (distances_of row) ≡ metric.now.size }
 {
-    match metric.around(s) {
-        Some(list) => {
-            compare_list(rt, list, other, s);
-            Some(list.len())
-        }
-        None => None,
+    for t in 0..metric.size() {
+        assert_eq!(rt; row.at(t), metric.dist(s, t as u32));
     }
 }
 
-/// Two forms of the same distances list the same for a member, where the table has lists: not where half of all members or
-/// more are near.
-fn compare_around<R: Abort>(rt: &R, table: &Metric, lists: &Metric, s: u32)
+/// How many members are nearer to one than both radii.
+fn count_near(metric: &Metric, s: u32) -> usize
+    requires { s < metric.now.size }
+{
+    let mut count: usize = 0;
+    for t in 0..metric.size() {
+        let both = metric.radius(s) + metric.radius(t as u32);
+        if metric.dist(s, t as u32) < both {
+            count += 1;
+        }
+    }
+    count
+}
+
+/// A table shows the row of a member, and lists show those that are near it, with the same distances.
+fn compare_seen<R: Abort>(rt: &R, table: &Metric, lists: &Metric, s: u32)
     requires same { lists.now.size ≡ table.now.size }
     requires s { s < table.now.size }
 {
-    let one = count_around(rt, table, lists, s);
-    let other = count_around(rt, lists, table, s);
-    assert!(rt; other.is_some());
-    if one.is_some() {
-        assert_eq!(rt; one, other);
+    match table.seen(s) {
+        Seen::All(row) => compare_row(rt, row, lists, s),
+        Seen::Near(_) => rt.abort(),
+    }
+    match lists.seen(s) {
+        Seen::All(_) => rt.abort(),
+        Seen::Near(list) => {
+            compare_list(rt, list, table, s);
+            assert_eq!(rt; list.len(), count_near(table, s));
+        }
     }
 }
 
@@ -172,7 +186,7 @@ fn compare_member<R: Abort>(
         assert_eq!(rt; table.dist(s, t as u32), lists.dist(s, t as u32));
     }
     assert_eq!(rt; table.radius(s), lists.radius(s));
-    compare_around(rt, table, lists, s);
+    compare_seen(rt, table, lists, s);
 }
 
 fn compare_all<R: Abort>(rt: &R, table: &Metric, lists: &Metric, one: &mut [u64], other: &mut [u64])
@@ -205,9 +219,6 @@ fn compare_line<R: Abort>(rt: &R, alloc: Global, n: u32, is_short: bool) -> Resu
     let mut one = vec![in alloc; 0; n as usize]?;
     let mut other = vec![in alloc; 0; n as usize]?;
     compare_all(rt, &table, &lists, &mut one, &mut other);
-    if 2 < n {
-        assert!(rt; table.around(0).is_some());
-    }
     Ok(())
 }
 

@@ -3,9 +3,9 @@ use Rattle.std.proofs.Common.{arith, ◌≡◌, ◌≢◌, ℕ, ◌+◌, ◌-◌
 use Rattle.std.proofs.Common.{true, false, List, [], ◌∷◌, ◌++◌, All, length, get_or, take, drop, set, subst, ap}
 use Rattle.std.specs.Prelude.{slice_range}
 use Rattle.std.proofs.Math.Nat.{mul-le-mul_right}
-use Rattle.std.proofs.lemmas.Bool.{cases_eq, eq-eqb, ne_eqb}
+use Rattle.std.proofs.lemmas.Bool.{cases_eq, cases_lt, eq-eqb, ne_eqb}
 use Rattle.std.proofs.lemmas.Grind.{get_or-set_at}
-use Rattle.std.proofs.lemmas.List.{get_or-set_other, get_or-take, get_or-drop, length-take-le, length-drop, take_more, drop_more, drop_all}
+use Rattle.std.proofs.lemmas.List.{get_or-set_other, get_or-take, get_or-drop, length-take-le, length-drop, take_all, take_more, drop_more, drop_all}
 use Rattle.std.proofs.lemmas.List.Elements.{All-head, All-tail, All-more, All-take}
 use Rattle.dpl_tree.specs.declared.metric.Close.{Close}
 use Rattle.dpl_tree.specs.Metrics.{Table, dist_of, far_in, IsNearList, IsTable}
@@ -20,6 +20,21 @@ row_length n s rows h e =
     let fits : s * n + n - s * n ≤ length (drop (s * n) rows) =
     omega (arith, row_fits n s h, e, length-drop (s * n) rows) in
     length-take-le (s * n + n - s * n) (drop (s * n) rows) fits ∙ omega arith
+
+-- what is no more than those before a place and those behind it is no more than any other
+pub least_around : (row : List ℕ) (place least : ℕ) → All (λ x. least ≤ x) (take place row)
+    → All (λ x. least ≤ x) (slice_range row (place + 1) (length row)) → place < length row → (t : ℕ) → t < length row → t ≢ place
+    → least ≤ get_or row t 0
+least_around row place least before behind low t h n = elim (cases_lt t place) [
+  | inl lt ↦ subst (λ (z : ℕ). least ≤ z) (get_or-take place row t 0 lt)
+      (before t 0 (omega (arith, length-take-le place row (omega (arith, low)), lt)))
+  | inr le ↦
+      let k : ℕ = t - (place + 1) in
+      let count : ℕ = length row - (place + 1) in
+      let all = take_all count (drop (place + 1) row) (omega (arith, length-drop (place + 1) row)) in
+      subst (λ (z : ℕ). least ≤ z) (get_or-drop (place + 1) row k 0 ∙ ap (λ (z : ℕ). get_or row z 0) (omega (arith, le, n)))
+      (subst (λ (z : List ℕ). All (λ x. least ≤ x) z) all behind k 0 (omega (arith, length-drop (place + 1) row, le, n, h)))
+]
 
 pub row_place : (n s t : ℕ) (rows : List ℕ) → t < n
     → get_or (slice_range rows (s * n) (s * n + n)) t 0 ≡ get_or rows (s * n + t) 0

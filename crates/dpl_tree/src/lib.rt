@@ -2,7 +2,7 @@
 //!
 //! A `Metric` has the distances of an even number of members, a radius for each, and lists of what
 //! is nearer to each than both radii: any other one is as far as these together. Where many are
-//! near each other, all distances stand row by row as well. A family of `dpl_laminar` stands over
+//! near each other, all distances stand row by row instead. A family of `dpl_laminar` stands over
 //! the members. A pair, a join or an edge of the tree is tight where its load equals its distance.
 //! Between two stages all pairs are tight and lead from one top of the family to another, and no
 //! load is more than its distance (`IsRest`). Within a stage there is a tree as well, whose tops
@@ -22,7 +22,6 @@ mod expanding_set;
 mod fold_up;
 mod giving_way;
 mod growth;
-mod lists;
 mod matching;
 mod meeting;
 mod metric;
@@ -39,10 +38,10 @@ pub use fold_up::fold;
 pub use giving_way::pair_round;
 pub use growth::grow;
 pub use matching::Matching;
-pub use metric::{Close, Metric};
+pub use metric::{Close, Metric, Seen};
 pub use pairs::{exit_of, pair};
 pub use ring::{Round, child_with, round_from};
-pub use rows::Rows;
+pub use rows::{Row, Rows};
 pub use std::alloc::AllocError as NoMemory;
 pub use tree::{Label, Tree};
 pub use way::augment;

@@ -1,11 +1,11 @@
 //! Distances.
 
-ghost use Rattle.std.specs.Prelude.{◌≡◌, ◌≢◌, ℕ, ◌+◌, ◌*◌, ◌^◌, ◌<◌, ◌≤◌, true, ◌++◌, ◌∷◌, [], All, IfOk, OnOk, IfSome, length, slice_index, slice_range};
+ghost use Rattle.std.specs.Prelude.{◌≡◌, ◌≢◌, ℕ, ◌+◌, ◌*◌, ◌^◌, ◌<◌, ◌≤◌, true, [], All, IfOk, length, slice_index};
 ghost use Rattle.dpl_tree.specs.declared.metric.Close.{Close};
-ghost use Rattle.dpl_tree.specs.Metrics.{Table, dist_of, radius_of, far_in, IsNearList, IsTable, AreAround, full_table, near_table};
+ghost use Rattle.dpl_tree.specs.Metrics.{Table, dist_of, radius_of, far_in, IsNearList, IsTable, full_table, near_table};
+ghost use Rattle.dpl_tree.specs.Seen.{IsSeen};
 ghost use Rattle.dpl_tree.specs.Rows.{distances_in, distances_of};
 
-use crate::lists::{Lists, all_lists};
 use crate::rows::{Row, Rows};
 use dpl_list::Grouped;
 use std::alloc::{AllocError, Global};
@@ -18,11 +18,19 @@ pub struct Close {
     pub far: u64,
 }
 
+/// What is known of the distances from a member: all of them, or those of the members that are nearer to it than both
+/// radii. Any other one is as far as these together.
+#[derive(Clone, Copy)]
+pub enum Seen<'a> {
+    All(Row<'a>),
+    Near(&'a [Close]),
+}
+
 /// Even distances between members, which obey the triangle rule. Each member has a radius, and no two are farther
 /// from each other than both radii. They stand in a table, or where few members are near each other, in a list for
-/// each member of those that are nearer to it than both radii; all others are as far as the radii together. Beside
-/// a table there are such lists as well, if they are not too long. No radius is less than `least`. Whether the members
-/// are a crowd says nothing of distances: most searches among them find none that is nearer.
+/// each member of those that are nearer to it than both radii; all others are as far as the radii together. No radius is
+/// less than `least`. Whether the members are a crowd says nothing of distances: most searches among them find none that
+/// is nearer.
 #[derive(Drop)]
 pub struct Metric {
     size: usize,
@@ -32,14 +40,12 @@ pub struct Metric {
     radii: Vec<u64>,
     least: u64,
     near: Grouped<Close>,
-    lists: Option<Lists>,
 }
 
 impl Model for Metric {
-    ghost use Rattle.std.specs.Prelude.{◌≤◌, ⊤, All, MatchOption};
+    ghost use Rattle.std.specs.Prelude.{◌≤◌, All};
     ghost use Rattle.dpl_tree.specs.Metrics.{Table, IsTable};
     ghost use Rattle.dpl_tree.specs.Rows.{distances_in};
-    ghost use Rattle.dpl_tree.specs.Around.{AreListed};
 
     ghost Value = { Table };
 
@@ -58,23 +64,15 @@ impl Model for Metric {
       radii = m.radii.items;
       near = m.near;
     })
-        × All (λ r. m.least ≤ r) m.radii.items
-        × MatchOption m.lists ⊤ (λ lists. AreListed (record {
-          size = m.size;
-          is_full = m.is_full;
-          rows = distances_in m.rows;
-          radii = m.radii.items;
-          near = m.near;
-        }) m.size lists) };
+        × All (λ r. m.least ≤ r) m.radii.items };
 }
 
 impl Metric {
-    /// The distances row by row, and the radii. It costs the square of the number of members.
+    /// The distances row by row, and the radii.
     pub fn new(alloc: Global, n: u32, rows: Rows, radii: Vec<u64>) -> Result<Metric, AllocError>
         requires { IsTable (full_table n (distances_in rows) radii.items) }
         ensures { IfOk result (λ m. m ≡ full_table n (distances_in rows) radii.items) }
     {
-        let lists = all_lists(alloc, n, &rows, &radii)?;
         let near = Grouped::by_key(alloc, 0, &[], &[])?;
         Ok(Metric {
             size: n as usize,
@@ -84,7 +82,6 @@ impl Metric {
             radii,
             least: 0,
             near,
-            lists,
         })
     }
 
@@ -101,7 +98,6 @@ impl Metric {
             least: least_of(&radii),
             radii,
             near,
-            lists: None,
         }
     }
 
@@ -138,26 +134,6 @@ impl Metric {
         self.rows.part(s as usize * self.size, self.size)
     }
 
-    /// Whether all distances stand in rows.
-    pub fn has_rows(&self) -> bool {
-        self.is_full
-    }
-
-    /// The row of a member, if all distances stand in rows of short numbers.
-    pub fn short_row(&self, s: u32) -> Option<&[u16]>
-        requires { s < self.now.size }
-        ensures { IfSome result (λ row. (length row.now ≡ self.now.size) ×
-            ((t : ℕ) → t < self.now.size → slice_index row.now t ≡ dist_of self.now s t)) }
-    {
-        if !self.is_full {
-            return None;
-        }
-        match self.full_row(s) {
-            Row::Long(_numbers) => None,
-            Row::Short(numbers) => Some(numbers),
-        }
-    }
-
     /// The radius of a member.
     pub fn radius(&self, s: u32) -> u64
         requires { s < self.now.size }
@@ -167,21 +143,15 @@ impl Metric {
         self.radii[s as usize]
     }
 
-    /// Those that are nearer to a member than both radii, with their distances, unless they are so many that there is a
-    /// table alone.
-    pub fn around(&self, s: u32) -> Option<&[Close]>
+    /// What is known of the distances from a member: its row, or those that are near it.
+    pub fn seen(&self, s: u32) -> Seen<'_>
         requires { s < self.now.size }
-        ensures { IfSome result (λ list. AreAround self.now s list.now) }
+        ensures { IsSeen self.now s result }
     {
-        match &self.lists {
-            Some(lists) => Some(lists.row(s as usize)),
-            None => {
-                if self.is_full {
-                    return None;
-                }
-                Some(self.near.row(s as usize))
-            }
+        if self.is_full {
+            return Seen::All(self.full_row(s));
         }
+        Seen::Near(self.near.row(s as usize))
     }
 
     /// The distance of two members.
@@ -249,13 +219,34 @@ fn far_to(row: &[Close], member: u32, otherwise: u64) -> u64
     otherwise
 }
 
-/// Writes a row of distances into a list, one by one.
+/// Writes distances into a list.
+fn copy_long(far: &[u64], row: &mut [u64])
+    requires { length row.old ≡ length far.now }
+    ensures { (t : ℕ) → t < length far.now → slice_index row.new t ≡ slice_index far.now t }
+{
+    for t in 0..far.len() {
+        row[t] = far[t];
+    }
+}
+
+/// Writes short distances into a list.
+fn copy_short(far: &[u16], row: &mut [u64])
+    requires { length row.old ≡ length far.now }
+    ensures { (t : ℕ) → t < length far.now → slice_index row.new t ≡ slice_index far.now t }
+{
+    for t in 0..far.len() {
+        row[t] = far[t] as u64;
+    }
+}
+
+/// Writes a row of distances into a list.
 fn copy(far: Row<'_>, row: &mut [u64])
     requires { length row.old ≡ length (distances_of far) }
     ensures { (t : ℕ) → t < length (distances_of far.entry) → slice_index row.new t ≡ slice_index (distances_of far.entry) t }
 {
-    for t in 0..far.len() {
-        row[t] = far.at(t);
+    match far {
+        Row::Long(numbers) => copy_long(numbers, row),
+        Row::Short(numbers) => copy_short(numbers, row),
     }
 }
 
@@ -284,19 +275,49 @@ fn write_near(near: &[Close], row: &mut [u64])
     }
 }
 
+/// The least of an amount and some distances.
+fn least_long(far: &[u64], amount: u64) -> u64
+    ensures least { result ≤ amount }
+    ensures each { All (λ x. result ≤ x) far.now }
+{
+    let mut least = amount;
+    for t in 0..far.len() {
+        least = least.min(far[t]);
+    }
+    least
+}
+
+/// The least of an amount and some short distances, several of which a processor compares at a time.
+fn least_short(far: &[u16], amount: u16) -> u16
+    ensures least { result ≤ amount }
+    ensures each { All (λ x. result ≤ x) far.now }
+{
+    let mut least = amount;
+    for t in 0..far.len() {
+        least = least.min(far[t]);
+    }
+    least
+}
+
 /// The least of an amount and of a row of distances, but for that from a member.
 fn least_beside(far: Row<'_>, member: usize, amount: u64) -> u64
+    requires { member < length (distances_of far) }
     ensures least { result ≤ amount }
     ensures each { (t : ℕ) → t < length (distances_of far.entry) → t ≢ member →
         result ≤ slice_index (distances_of far.entry) t }
 {
-    let mut least = amount;
-    for t in 0..far.len() {
-        if t != member {
-            least = least.min(far.at(t));
+    match far {
+        Row::Long(numbers) => {
+            let before = least_long(&numbers[..member], amount);
+            let behind = least_long(&numbers[member + 1..], amount);
+            before.min(behind)
+        }
+        Row::Short(numbers) => {
+            let before = least_short(&numbers[..member], u16::MAX);
+            let behind = least_short(&numbers[member + 1..], u16::MAX);
+            amount.min(before.min(behind) as u64)
         }
     }
-    least
 }
 
 /// The least of an amount and of what is near a member, but for itself.

@@ -56,7 +56,7 @@ impl Row<'_> {
 
     /// The distance from a member.
     #[inline(always)]
-    pub(crate) fn at(self, member: usize) -> u64
+    pub fn at(self, member: usize) -> u64
         requires { member < length (distances_of self) }
         ensures { result ≡ slice_index (distances_of self.entry) member }
     {

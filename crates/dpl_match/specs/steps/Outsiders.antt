@@ -3,7 +3,7 @@ use Rattle.std.specs.Prelude.{◌≡◌, ℕ, ◌+◌, ◌<◌, ◌≤◌, Bool,
 use Rattle.dpl_tree.specs.Metrics.{Table, radius_of}
 use Rattle.dpl_match.specs.declared.renewing.Others.{Others}
 use Rattle.dpl_match.specs.declared.renewing.Outsider.{Outsider}
-use Rattle.dpl_match.specs.declared.stage.Neighbour.{Neighbour}
+use Rattle.dpl_match.specs.declared.neighbours.Neighbour.{Neighbour}
 use Rattle.dpl_match.specs.declared.stage.OuterTable.{OuterTable}
 use Rattle.dpl_match.specs.steps.Nearest.{is_known, level_of, no_key, HasKey, IsOutside, AreOutside}
 use Rattle.dpl_match.specs.steps.Scans.{Members}
