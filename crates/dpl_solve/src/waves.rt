@@ -1,15 +1,14 @@
 //! The distances of the odd faces of a part from all of them, from 64 at once.
 //!
 //! For each face of the part stands how far it is from each of the 64, as far as is known, and a limit where that is less.
-//! Where that falls at a face, the steps there are tried again, as in Bellman 1958, "On a routing problem". The numbers are so
-//! small that a processor lowers several at a time. When none falls any more, each step is tried once again, so that nothing
-//! rests on the order.
+//! Where that falls at a face, the steps there are tried again, as in Bellman 1958, "On a routing problem". Lengths are counted
+//! in units, such as the shortest step, and these numbers are so small that a processor lowers several at a time. When none
+//! falls any more, each step is tried once again, so that nothing rests on the order, nor on the lengths being whole.
 
 ghost use Rattle.std.specs.Prelude.{◌≡◌, ◌≢◌, ℕ, ◌+◌, ◌*◌, ◌^◌, ◌<◌, ◌≤◌, min, true, false, length, slice_index, All, OnOk, IfOk, IfSome};
 ghost use Rattle.dpl_dual.specs.Duals.{CameFromDual, IsStep};
 ghost use Rattle.dpl_pack.specs.Moats.{AreTerminals};
-ghost use Rattle.dpl_solve.specs.Metrics.{AreNearPut};
-ghost use Rattle.dpl_solve.specs.Waves.{far_at, size, IsWave, IsRowOf, AreReached, IsStepTried, AreStepsTried, IsFound, AreInReach, IsRowPut, AreWritten, IsWaiting};
+ghost use Rattle.dpl_solve.specs.Waves.{far_at, size, AreUnits, IsWave, IsRowOf, AreReached, IsStepTried, AreStepsTried, IsFound, IsRowPut, AreWritten, AreUnitRows, IsWaiting};
 
 use crate::places::{Listed, note_all, place_of};
 use dpl_dual::types::Distances;
@@ -19,22 +18,21 @@ use std::alloc::{AllocError, Global};
 /// How many odd faces a wave begins at.
 const WIDTH: usize = 64;
 
-/// No radius is greater where waves are made.
-const MOST_RADIUS: u64 = 32767;
-
-/// How far a face is from each of some odd faces.
+/// How many units a face is away from each of some odd faces.
 #[derive(Clone, Copy)]
 pub struct Lengths {
     pub far: [u16; 64],
 }
 
-/// A wave over the faces of a part from those of its odd ones that stand from a place on. It ends at a limit.
+/// A wave over the faces of a part from those of its odd ones that stand from a place on. It counts in units, and ends at a
+/// limit of so many.
 #[derive(Clone, Copy)]
 pub struct Wave<'a> {
     pub dual: &'a Dual,
     pub listed: Listed<'a>,
     pub odd: &'a [u32],
     pub first: usize,
+    pub unit: u64,
     pub limit: u16,
 }
 
@@ -50,6 +48,21 @@ fn short(length: u64) -> u16
     ensures { result ≡ min length 65535 }
 {
     length.min(65535) as u16
+}
+
+/// How many units a length is, up to the greatest number of 16 bits. None where it is not a whole number of them.
+#[inline(always)]
+fn in_units(unit: u64, length: u64) -> Option<u16>
+    requires { 0 < unit }
+    ensures { IfSome result (AreUnits unit length) }
+{
+    if unit == 1 {
+        return Some(short(length));
+    }
+    if length % unit > 0 {
+        return None;
+    }
+    Some(short(length / unit))
 }
 
 /// Lengths, and where they are less those of another face and a step together.
@@ -90,7 +103,7 @@ fn wait(waiting: &mut Waiting, place: usize) -> Result<(), AllocError>
     Ok(())
 }
 
-/// Tries a step from a face with these lengths.
+/// Tries a step from a face with these lengths. One that is not a whole number of units is passed over.
 #[inline(always)]
 fn try_step(
     wave: &Wave<'_>,
@@ -108,11 +121,14 @@ fn try_step(
     ensures far { OnOk result (AreReached wave.now (length wave.now.odd.now) far.new) }
     ensures waiting { OnOk result (IsWaiting (size wave.now) waiting.new) }
 {
+    let units = match in_units(wave.unit, step.length) {
+        Some(units) => units,
+        None => return Ok(()),
+    };
     match place_of(&wave.listed, step.to) {
         Some(place) => {
-            let length = short(step.length);
-            if falls(&far[place], here, length) {
-                far[place] = lowered(&far[place], here, length);
+            if falls(&far[place], here, units) {
+                far[place] = lowered(&far[place], here, units);
                 wait(waiting, place)?;
             }
             Ok(())
@@ -165,14 +181,19 @@ fn spread(wave: &Wave<'_>, far: &mut [Lengths], waiting: &mut Waiting) -> Result
     Ok(())
 }
 
-/// Whether no length beyond a step is more than here and the step together.
+/// Whether a step is a whole number of units, and no length beyond it is more than here and the step together.
 #[inline(always)]
 fn is_tried(wave: &Wave<'_>, here: &Lengths, step: &Step, far: &[Lengths]) -> bool
+    requires wave { IsWave wave.now }
     requires count { length far.now ≡ size wave.now }
     ensures { result ≡ true → IsStepTried wave.now here.now step.now far.now }
 {
+    let units = match in_units(wave.unit, step.length) {
+        Some(units) => units,
+        None => return false,
+    };
     match place_of(&wave.listed, step.to) {
-        Some(place) => !falls(&far[place], here, short(step.length)),
+        Some(place) => !falls(&far[place], here, units),
         None => false,
     }
 }
@@ -245,40 +266,33 @@ fn begin(wave: &Wave<'_>, far: &mut [Lengths], waiting: &mut Waiting) -> Result<
     Ok(true)
 }
 
-/// Writes the distances of odd face s from those of a wave into the table, up to the radii of both.
-fn write_row(wave: &Wave<'_>, radii: &[u16], lengths: &Lengths, s: usize, dists: &mut [u16])
-    requires sizes { length radii.now ≡ length wave.now.odd.now }
-    requires reach { AreInReach wave.now radii.now }
-    requires inside { s < length radii.now }
-    requires first { wave.now.first ≤ length radii.now }
-    requires places { length dists.old ≡ length radii.now * length radii.now }
-    ensures { IsRowPut wave.now radii.now lengths.now s dists.old dists.new }
+/// Writes the distances of odd face s from those of a wave into the table, in units up to the limit.
+fn write_row(wave: &Wave<'_>, lengths: &Lengths, s: usize, dists: &mut [u16])
+    requires inside { s < length wave.now.odd.now }
+    requires first { wave.now.first ≤ length wave.now.odd.now }
+    requires places { length dists.old ≡ length wave.now.odd.now * length wave.now.odd.now }
+    ensures { IsRowPut wave.now lengths.now s dists.old dists.new }
 {
-    let n = radii.len();
-    let radius = radii[s];
+    let n = wave.odd.len();
     let start = s * n + wave.first;
     let count = WIDTH.min(n - wave.first);
     for k in 0..count {
-        let both = radius + radii[wave.first + k];
-        dists[start + k] = both.min(lengths.far[k]);
+        dists[start + k] = lengths.far[k];
     }
 }
 
 /// Writes the distances of all odd faces from those of a wave. False where one of them is not listed.
-fn write_rows(wave: &Wave<'_>, radii: &[u16], far: &[Lengths], dists: &mut [u16]) -> bool
-    requires sizes { length radii.now ≡ length wave.now.odd.now }
-    requires reach { AreInReach wave.now radii.now }
-    requires first { wave.now.first ≤ length radii.now }
+fn write_rows(wave: &Wave<'_>, far: &[Lengths], dists: &mut [u16]) -> bool
+    requires first { wave.now.first ≤ length wave.now.odd.now }
     requires count { length far.now ≡ size wave.now }
     requires found { IsFound wave.now far.now }
-    requires before { AreWritten wave.now.dual.now wave.now.odd.now radii.now wave.now.first dists.old }
+    requires before { AreWritten wave.now wave.now.first dists.old }
     ensures count { length dists.new ≡ length dists.old }
-    ensures after { result ≡ true →
-        AreWritten wave.now.dual.now wave.now.odd.now radii.now (wave.now.first + 64) dists.new }
+    ensures after { result ≡ true → AreWritten wave.now (wave.now.first + 64) dists.new }
 {
     for s in 0..wave.odd.len() {
         match place_of(&wave.listed, wave.odd[s]) {
-            Some(place) => write_row(wave, radii, &far[place], s, dists),
+            Some(place) => write_row(wave, &far[place], s, dists),
             None => return false,
         }
     }
@@ -305,23 +319,19 @@ fn blank(limit: u16, far: &mut [Lengths])
 /// Sends out a wave, and writes into the table what it finds. False where it finds not all.
 fn send(
     wave: &Wave<'_>,
-    radii: &[u16],
     far: &mut [Lengths],
     waiting: &mut Waiting,
     dists: &mut [u16],
 ) -> Result<bool, AllocError>
     requires wave { IsWave wave.now }
     requires few { size wave.now < 2 ^ 32 }
-    requires sizes { length radii.now ≡ length wave.now.odd.now }
-    requires reach { AreInReach wave.now radii.now }
-    requires first { wave.now.first ≤ length radii.now }
+    requires first { wave.now.first ≤ length wave.now.odd.now }
     requires count { length far.old ≡ size wave.now }
     requires waiting { IsWaiting (size wave.now) waiting.old }
-    requires before { AreWritten wave.now.dual.now wave.now.odd.now radii.now wave.now.first dists.old }
+    requires before { AreWritten wave.now wave.now.first dists.old }
     ensures count { OnOk result (length far.new ≡ length far.old) }
     ensures waiting { OnOk result (IsWaiting (size wave.now) waiting.new) }
-    ensures after { IfOk result (λ all. all ≡ true →
-        AreWritten wave.now.dual.now wave.now.odd.now radii.now (wave.now.first + 64) dists.new) }
+    ensures after { IfOk result (λ all. all ≡ true → AreWritten wave.now (wave.now.first + 64) dists.new) }
 {
     blank(wave.limit, far);
     waiting.places.clear();
@@ -332,13 +342,12 @@ fn send(
     if !is_found(wave, far) {
         return Ok(false);
     }
-    Ok(write_rows(wave, radii, far, dists))
+    Ok(write_rows(wave, far, dists))
 }
 
 /// Sends out one wave after the other, until the table is written. False where one finds not all.
 fn send_all(
     wave: &Wave<'_>,
-    radii: &[u16],
     far: &mut [Lengths],
     waiting: &mut Waiting,
     dists: &mut [u16],
@@ -346,74 +355,48 @@ fn send_all(
     requires wave { IsWave wave.now }
     requires few { size wave.now < 2 ^ 32 }
     requires odd { length wave.now.odd.now ≤ 2048 }
-    requires sizes { length radii.now ≡ length wave.now.odd.now }
-    requires reach { AreInReach wave.now radii.now }
     requires count { length far.old ≡ size wave.now }
     requires waiting { IsWaiting (size wave.now) waiting.old }
-    requires before { AreWritten wave.now.dual.now wave.now.odd.now radii.now 0 dists.old }
-    ensures { IfOk result (λ all. all ≡ true →
-        AreWritten wave.now.dual.now wave.now.odd.now radii.now (length radii.now) dists.new) }
+    requires before { AreWritten wave.now 0 dists.old }
+    ensures { IfOk result (λ all. all ≡ true → AreWritten wave.now (length wave.now.odd.now) dists.new) }
 {
-    let waves = radii.len() / WIDTH + 1;
+    let n = wave.odd.len();
+    let waves = n / WIDTH + 1;
     for i in 0..waves {
         let first = i * WIDTH;
-        if first >= radii.len() {
+        if first >= n {
             return Ok(true);
         }
         let next = Wave { first, ..*wave };
-        if !send(&next, radii, far, waiting, dists)? {
+        if !send(&next, far, waiting, dists)? {
             return Ok(false);
         }
     }
     Ok(true)
 }
 
-/// The greatest radius.
-fn greatest(radii: &[u64]) -> u64
-    ensures { All (λ r. r ≤ result) radii.now }
-{
-    let mut most: u64 = 0;
-    for k in 0..radii.len() {
-        most = most.max(radii[k]);
-    }
-    most
-}
-
-/// The same radii as numbers of 16 bits.
-fn all_short(alloc: Global, radii: &[u64]) -> Result<Vec<u16>, AllocError>
-    requires { All (λ r. r ≤ 32767) radii.now }
-    ensures { IfOk result (λ short. short.items ≡ radii.now) }
-{
-    let mut short = Vec::with_capacity(alloc, radii.len())?;
-    for k in 0..radii.len() {
-        short.push(radii[k] as u16)?;
-    }
-    Ok(short)
-}
-
-/// The distances of odd faces from each other, up to both radii, by waves that end at a limit. None where one finds not all.
+/// The distances of odd faces from each other, in units up to a limit, by waves. None where one finds not all.
 fn rows_within<'a>(
     alloc: Global,
     dual: &'a Dual,
     listed: Listed<'a>,
     odd: &'a [u32],
-    radii: &[u16],
+    unit: u64,
     limit: u16,
 ) -> Result<Option<Vec<u16>>, AllocError>
     requires dual { CameFromDual dual.now }
     requires faces { All (λ f. f < dual.now.faces) listed.faces.now }
     requires few { length listed.faces.now < 2 ^ 32 }
     requires odd { length odd.now ≤ 2048 }
-    requires sizes { length radii.now ≡ length odd.now }
-    requires reach { (k : ℕ) → k < length radii.now → 2 * slice_index radii.now k ≤ limit }
-    ensures { IfOk result (λ o. IfSome o (λ dists. AreNearPut dual.now.crosses odd.now
-        (slice_index radii.now) dists.items)) }
+    requires unit { 0 < unit }
+    ensures { IfOk result (λ o. IfSome o (λ dists. AreUnitRows dual.now.crosses odd.now unit limit dists.items)) }
 {
     let wave = Wave {
         dual,
         listed,
         odd,
         first: 0,
+        unit,
         limit,
     };
     let count = listed.faces.len();
@@ -423,34 +406,30 @@ fn rows_within<'a>(
         waits: vec![in alloc; false; count]?,
     };
     let mut dists = vec![in alloc; 0; odd.len() * odd.len()]?;
-    if !send_all(&wave, radii, &mut far, &mut waiting, &mut dists)? {
+    if !send_all(&wave, &mut far, &mut waiting, &mut dists)? {
         return Ok(None);
     }
     Ok(Some(dists))
 }
 
-/// The distances of the odd faces of a part, row by row, up to both radii. None where the radii are too great or the part has
-/// far more faces. It costs for every 64 odd ones the faces of the part that one of them is near, some times over, and the
-/// square of the number of odd faces.
+/// The distances of the odd faces of a part, row by row, in units up to a limit. None where some step is not a whole number of
+/// units, or the part has far more faces. It costs for every 64 odd ones the faces of the part that one of them is near, some
+/// times over, and the square of the number of odd faces.
 pub fn wave_rows(
     alloc: Global,
     dual: &Dual,
     odd: &[u32],
-    radii: &[u64],
+    unit: u64,
+    limit: u16,
     reach: &mut Distances,
     places: &mut Vec<usize>,
 ) -> Result<Option<Vec<u16>>, AllocError>
     requires dual { CameFromDual dual.now }
     requires odd { AreTerminals dual.now odd.now }
     requires few { length odd.now ≤ 2048 }
-    requires sizes { length radii.now ≡ length odd.now }
-    ensures { IfOk result (λ o. IfSome o (λ dists. AreNearPut dual.now.crosses odd.now
-        (slice_index radii.now) dists.items)) }
+    requires unit { 0 < unit }
+    ensures { IfOk result (λ o. IfSome o (λ dists. AreUnitRows dual.now.crosses odd.now unit limit dists.items)) }
 {
-    let most = greatest(radii);
-    if most > MOST_RADIUS {
-        return Ok(None);
-    }
     distances(dual, odd[odd.len() / 2], reach)?;
     let faces = reach.reached();
     if faces.len() > 4 * odd.len() {
@@ -461,6 +440,5 @@ pub fn wave_rows(
         faces,
         places: places.as_slice(),
     };
-    let short = all_short(alloc, radii)?;
-    rows_within(alloc, dual, listed, odd, &short, (2 * most) as u16)
+    rows_within(alloc, dual, listed, odd, unit, limit)
 }

@@ -6,5 +6,5 @@ abbrev pub invariant-loop-i : goal.invariant-loop-i
 invariant-loop-i l = record {
   count : length l.far ≡ size l.wave;
   waiting : IsWaiting (size l.wave) l.waiting;
-  written : AreWritten l.wave.dual.now l.wave.odd.now l.radii (l.i * 64) l.dists;
+  written : AreWritten l.wave (l.i * 64) l.dists;
 }

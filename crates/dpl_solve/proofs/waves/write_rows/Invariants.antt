@@ -4,6 +4,6 @@ use Rattle.dpl_solve.proofs.waves.write_rows.Given as goal
 
 abbrev pub invariant-loop-s : goal.invariant-loop-s
 invariant-loop-s l = record {
-  rows : AreRowsWritten l.wave l.radii l.s l.dists;
+  rows : AreRowsWritten l.wave l.s l.dists;
   count : length l.dists ≡ length l.fn.dists;
 }

@@ -1,0 +1,191 @@
+//! The distances that waves find, up to both radii.
+//!
+//! Waves count in units, so that lengths fit in 16 bits. The unit is 1 where the radii are small. Otherwise it is the shortest
+//! step, as with great weights most steps are some times so long.
+
+ghost use Rattle.std.specs.Prelude.{◌≡◌, ℕ, ◌*◌, ◌^◌, ◌<◌, ◌≤◌, length, slice_index, All, IfOk, IfSome};
+ghost use Rattle.dpl_dual.specs.Duals.{CameFromDual};
+ghost use Rattle.dpl_pack.specs.Moats.{AreTerminals};
+ghost use Rattle.dpl_tree.specs.Rows.{distances_in};
+ghost use Rattle.dpl_solve.specs.Limits.{IsScale, IsRowLimited, AreLimited};
+ghost use Rattle.dpl_solve.specs.Metrics.{AreNearPut};
+
+use crate::waves::wave_rows;
+use dpl_dual::Dual;
+use dpl_dual::types::Distances;
+use dpl_match::Rows;
+use std::alloc::{AllocError, Global};
+
+/// No radius is more units than these.
+const MOST_RADIUS: u64 = 32767;
+
+/// In what waves count, and a limit to the number of them.
+#[derive(Clone, Copy)]
+pub struct Scale {
+    pub unit: u64,
+    pub limit: u16,
+}
+
+/// The greatest radius.
+fn greatest(radii: &[u64]) -> u64
+    ensures { All (λ r. r ≤ result) radii.now }
+{
+    let mut most: u64 = 0;
+    for k in 0..radii.len() {
+        most = most.max(radii[k]);
+    }
+    most
+}
+
+/// A unit in which two of the greatest radius are a number of 16 bits: 1, or else a length of less than 32 bits. None where
+/// that is too short or too long as well.
+fn scale_of(most: u64, length: u64) -> Option<Scale>
+    ensures { IfSome result (IsScale most) }
+{
+    if most <= MOST_RADIUS {
+        return Some(Scale {
+            unit: 1,
+            limit: (2 * most) as u16,
+        });
+    }
+    if (length == 0) | (length > u32::MAX as u64) {
+        return None;
+    }
+    let units = most / length;
+    if units >= MOST_RADIUS {
+        return None;
+    }
+    Some(Scale {
+        unit: length,
+        limit: (2 * units + 2) as u16,
+    })
+}
+
+/// The same radii as numbers of 16 bits.
+fn all_short(alloc: Global, radii: &[u64]) -> Result<Vec<u16>, AllocError>
+    requires { All (λ r. r ≤ 32767) radii.now }
+    ensures { IfOk result (λ short. short.items ≡ radii.now) }
+{
+    let mut short = Vec::with_capacity(alloc, radii.len())?;
+    for k in 0..radii.len() {
+        short.push(radii[k] as u16)?;
+    }
+    Ok(short)
+}
+
+/// Lowers the distances of odd face s to both radii.
+fn limit_row(radii: &[u16], s: usize, rows: &mut [u16])
+    requires inside { s < length radii.now }
+    requires places { length rows.old ≡ length radii.now * length radii.now }
+    requires small { All (λ r. r ≤ 32767) radii.now }
+    ensures { IsRowLimited 1 radii.now s rows.old rows.old rows.new }
+{
+    let n = radii.len();
+    let radius = radii[s];
+    let start = s * n;
+    for u in 0..n {
+        rows[start + u] = rows[start + u].min(radius + radii[u]);
+    }
+}
+
+/// Lowers the distances of all odd faces to both radii.
+fn limit_rows(radii: &[u16], rows: &mut [u16])
+    requires places { length rows.old ≡ length radii.now * length radii.now }
+    requires small { All (λ r. r ≤ 32767) radii.now }
+    ensures { AreLimited 1 radii.now rows.old rows.new }
+{
+    for s in 0..radii.len() {
+        limit_row(radii, s, rows);
+    }
+}
+
+/// Writes the distances of odd face s, of which so many units are known, up to both radii.
+fn write_row(unit: u64, radii: &[u64], s: usize, rows: &[u16], dists: &mut [u64])
+    requires unit { unit < 2 ^ 32 }
+    requires inside { s < length radii.now }
+    requires places { length rows.now ≡ length radii.now * length radii.now }
+    requires count { length dists.old ≡ length rows.now }
+    requires small { (k : ℕ) → k < length radii.now → slice_index radii.now k ≤ 2 ^ 49 }
+    ensures { IsRowLimited unit radii.now s rows.now dists.old dists.new }
+{
+    let n = radii.len();
+    let radius = radii[s];
+    let start = s * n;
+    for u in 0..n {
+        dists[start + u] = (unit * rows[start + u] as u64).min(radius + radii[u]);
+    }
+}
+
+/// Writes the distances of all odd faces, of which so many units are known, up to both radii.
+fn write_rows(unit: u64, radii: &[u64], rows: &[u16], dists: &mut [u64])
+    requires unit { unit < 2 ^ 32 }
+    requires places { length rows.now ≡ length radii.now * length radii.now }
+    requires count { length dists.old ≡ length rows.now }
+    requires small { (k : ℕ) → k < length radii.now → slice_index radii.now k ≤ 2 ^ 49 }
+    ensures { AreLimited unit radii.now rows.now dists.new }
+{
+    for s in 0..radii.len() {
+        write_row(unit, radii, s, rows, dists);
+    }
+}
+
+/// The distances of which so many units are known, up to both radii.
+fn long_rows(alloc: Global, unit: u64, radii: &[u64], rows: &[u16]) -> Result<Vec<u64>, AllocError>
+    requires unit { unit < 2 ^ 32 }
+    requires places { length rows.now ≡ length radii.now * length radii.now }
+    requires small { (k : ℕ) → k < length radii.now → slice_index radii.now k ≤ 2 ^ 49 }
+    ensures { IfOk result (λ dists. AreLimited unit radii.now rows.now dists.items) }
+{
+    let mut dists = vec![in alloc; 0; rows.len()]?;
+    write_rows(unit, radii, rows, &mut dists);
+    Ok(dists)
+}
+
+/// The distances of which so many units are known, up to both radii: in place where the units are 1.
+fn limited(alloc: Global, unit: u64, radii: &[u64], rows: Vec<u16>) -> Result<Rows, AllocError>
+    requires unit { unit < 2 ^ 32 }
+    requires short { unit ≡ 1 → All (λ r. r ≤ 32767) radii.now }
+    requires places { length rows.items ≡ length radii.now * length radii.now }
+    requires small { (k : ℕ) → k < length radii.now → slice_index radii.now k ≤ 2 ^ 49 }
+    ensures { IfOk result (λ all. AreLimited unit radii.now rows.items (distances_in all)) }
+{
+    if unit == 1 {
+        let mut rows = rows;
+        let short = all_short(alloc, radii)?;
+        limit_rows(&short, &mut rows);
+        return Ok(Rows::Short(rows));
+    }
+    let dists = long_rows(alloc, unit, radii, &rows)?;
+    Ok(Rows::Long(dists))
+}
+
+/// The distances of the odd faces of a part, row by row, up to both radii, by waves. None where the radii are too great, or
+/// the waves find not all.
+pub fn rows_by_waves(
+    alloc: Global,
+    dual: &Dual,
+    odd: &[u32],
+    radii: &[u64],
+    reach: &mut Distances,
+    places: &mut Vec<usize>,
+) -> Result<Option<Rows>, AllocError>
+    requires dual { CameFromDual dual.now }
+    requires odd { AreTerminals dual.now odd.now }
+    requires few { length odd.now ≤ 2048 }
+    requires sizes { length radii.now ≡ length odd.now }
+    requires small { (k : ℕ) → k < length radii.now → slice_index radii.now k ≤ 2 ^ 49 }
+    ensures { IfOk result (λ o. IfSome o (λ rows. AreNearPut dual.now.crosses odd.now
+        (slice_index radii.now) (distances_in rows))) }
+{
+    let Scale { unit, limit } = match scale_of(greatest(radii), dual.rows.least) {
+        Some(scale) => scale,
+        None => return Ok(None),
+    };
+    match wave_rows(alloc, dual, odd, unit, limit, reach, places)? {
+        Some(found) => {
+            let rows = limited(alloc, unit, radii, found)?;
+            Ok(Some(rows))
+        }
+        None => Ok(None),
+    }
+}
