@@ -366,6 +366,9 @@ fn margin_among(
             if sees_few(dual, list, face, 2 * narrow + fars.middle, reach)? {
                 return Ok(narrow);
             }
+            if fars.most <= fars.middle {
+                return Ok(least);
+            }
         }
     }
     if fars.most > fars.middle {
@@ -382,7 +385,7 @@ fn margin_among(
 /// odd, pairs that lie far apart are left between others, and there are few faces to search: then each sees far more
 /// than its nearest one. Where nine of ten are, such pairs are the less far apart the more faces are odd. Then each of
 /// very many sees some steps far alone, unless it sees three quarters of all others so, as beside an outer face that is
-/// next to all of them.
+/// next to all of them. Where nearly all are odd and equally far from their nearest ones, as in a strip, these are pairs.
 pub fn first_margin(
     alloc: Global,
     dual: &Dual,
