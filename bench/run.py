@@ -26,6 +26,7 @@ from net import Report
 MOST_BYTES = 16_777_216
 MOST_REPORT = 268_435_456
 OPTIONS = ["--layer", "M", "--space", "100", "--overlap", "20"]
+GREAT = [*OPTIONS, "--stitch", "100000", "--conflict", "1000000"]
 WIDE = ["--layer", "M", "--space", "10000", "--overlap", "20"]
 WIDEST = ["--layer", "M", "--space", "100000", "--overlap", "20"]
 
@@ -420,8 +421,11 @@ def single():
     yield "thirteen shaken rows of 105 boxes", layout(shaken_rows(105, 13, 64, 54, 8, 906_591, 32)), OPTIONS
     yield "a shaken grid of 44 by 44 boxes, 51 and 58 apart", layout(shaken_rows(44, 44, 51, 58, 4, 1, 0)), OPTIONS
     yield "a shaken triangular lattice of 1,600 boxes", layout(shaken_lattice(40, 64, 11, 1, 60)), OPTIONS
-    thirteen = parts_apart(shaken_rows(105, 13, 64, 54, 8, 906_591, 32), 36)
-    yield "36 times thirteen shaken rows of 105 boxes", layout(thirteen), OPTIONS
+    thirteen = layout(parts_apart(shaken_rows(105, 13, 64, 54, 8, 906_591, 32), 36))
+    yield "36 times thirteen shaken rows of 105 boxes", thirteen, OPTIONS
+    yield "the same with great weights", thirteen, GREAT
+    others = parts_apart(shaken_rows(104, 13, 65, 55, 9, 619_371, 32), 36)
+    yield "36 times thirteen shaken rows of 104 boxes", layout(others), OPTIONS
     five = parts_apart(shaken_rows(273, 5, 59, 50, 9, 755_409, 29), 36)
     yield "36 times five shaken rows of 273 boxes", layout(five), OPTIONS
     grids = parts_apart(shaken_rows(44, 44, 45, 38, 9, 1, 0), 25)
