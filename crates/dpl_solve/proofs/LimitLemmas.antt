@@ -1,9 +1,8 @@
 -- Distances that are known in units, up to both radii.
-use Rattle.std.proofs.Common.{arith, ◌≡◌, ℕ, ◌+◌, ◌*◌, ◌/◌, ◌<◌, ◌≤◌, min, sym, ap, ◌∙◌, subst, inl, inr, List, length, get_or, set, All}
+use Rattle.std.proofs.Common.{arith, ◌≡◌, ℕ, ◌+◌, ◌*◌, ◌<◌, ◌≤◌, min, sym, ap, ◌∙◌, subst, inl, inr, List, length, get_or, set, All}
 use Rattle.std.proofs.Common.{length-set, get_or-set_same, get_or-set_other}
 use Rattle.std.specs.Prelude.{slice_index}
 use Rattle.std.proofs.lemmas.Bool.{cases_lt, cases_eq}
-use Rattle.std.proofs.Math.Nat.{mod-add-div, mod-lt}
 use Rattle.std.proofs.lemmas.Nat.{mul-add-lt, same_from_place}
 use Rattle.dpl_dual.specs.declared.crosses.Cross.{Cross}
 use Rattle.dpl_dual.specs.Distances.{IsDistanceUpTo}
@@ -25,10 +24,6 @@ cut ways limit both f h x d less = record {
     | inr ge ↦ inl (omega (arith, ge))
   ];
 }
-
--- one unit more than fit into a length is longer
-pub longer_than : (most unit : ℕ) → 0 < unit → 2 * most ≤ unit * (2 * (most / unit) + 2)
-longer_than most unit some = omega (arith, mod-add-div most unit, mod-lt most some)
 
 -- units up to a limit that no two radii exceed give the distances up to both radii
 pub near_by_units : (ways : List Cross) (odd radii rows dists : List ℕ) (unit limit most : ℕ) → length radii ≡ length odd

@@ -1,10 +1,10 @@
 -- Waves over the faces of a part: what stands is reached, and when all steps were tried, nothing is nearer.
-use Rattle.std.proofs.Common.{arith, ◌≡◌, ◌≢◌, ℕ, ◌+◌, ◌-◌, ◌*◌, ◌/◌, ◌%◌, ◌<◌, ◌≤◌, ◌++◌, min, refl, sym, ap, ◌∙◌, subst}
+use Rattle.std.proofs.Common.{arith, ◌≡◌, ◌≢◌, ℕ, ◌+◌, ◌-◌, ◌*◌, ◌<◌, ◌≤◌, ◌++◌, min, sym, ap, ◌∙◌, subst}
 use Rattle.std.proofs.Common.{true, inl, inr, List, [], ◌∷◌, length, get_or, set, All}
 use Rattle.std.proofs.Common.{length-set, get_or-set_same, get_or-set_other}
 use Rattle.std.specs.Prelude.{Contains, slice_index, slice_index_or}
 use Rattle.std.proofs.lemmas.Bool.{cases_lt, cases_eq}
-use Rattle.std.proofs.Math.Nat.{mul-le-mul_left, mod-add-div}
+use Rattle.std.proofs.Math.Nat.{mul-le-mul_left}
 use Rattle.std.proofs.lemmas.Nat.{mul-add-lt, same_from_place}
 use Rattle.std.proofs.lemmas.List.{get_or_default}
 use Rattle.std.proofs.lemmas.List.Sums.{sum_by-cons, sum_by_push}
@@ -24,20 +24,14 @@ use Rattle.dpl_solve.specs.Waves.{AreReached, IsStepTried, AreStepsTried, IsFoun
 
 -- ---- units
 
--- what is no more is no more in units
-pub units_le : (unit a b : ℕ) → a ≤ b → unit * a ≤ unit * b
-units_le unit a b le = mul-le-mul_left unit le
-
-pub units_sum : (unit a b : ℕ) → unit * (a + b) ≡ unit * a + unit * b
+units_sum : (unit a b : ℕ) → unit * (a + b) ≡ unit * a + unit * b
 units_sum unit a b = omega arith
 
--- a length of 1 is itself in units of 1
-pub single_units : (unit long : ℕ) → unit ≡ 1 → AreUnits unit long (min long 65535)
-single_units unit long e = (long, omega (arith, ap (λ z. z * long) e), refl)
+units_none : (unit : ℕ) → unit * 0 ≡ 0
+units_none unit = omega arith
 
--- a length that leaves nothing over when it is divided by the unit
-pub whole_units : (unit long : ℕ) → ¬ (0 < long % unit) → AreUnits unit long (min (long / unit) 65535)
-whole_units unit long e = (long / unit, omega (arith, mod-add-div long unit, e), refl)
+units_of_sum : (unit a b x : ℕ) → x ≡ a + b → unit * x ≡ unit * a + unit * b
+units_of_sum unit a b x e = ap (λ z. unit * z) e ∙ units_sum unit a b
 
 -- ---- what is reached
 
@@ -47,10 +41,6 @@ pub reached_below : (ways : List Cross) (faces from : ℕ) (v : DistancesView) (
 reached_below ways faces from v xs a e k d h =
     let f : ℕ = get_or xs k d in
     ((a.reached f).0 (subst (λ z. stands_in z f ≡ true) e (stands_at xs k d h))).0
-
--- units together
-longer : (unit here n new : ℕ) → new ≡ here + n → unit * new ≡ unit * here + unit * n
-longer unit here n new e = ap (λ z. unit * z) e ∙ units_sum unit here n
 
 -- a length that is lowered to that of a step and another face is still reached
 pub step_reached : (w : Wave) (k face : ℕ) (step : Step) (old here new : ℕ) → IsWave w → IsStep w.dual.now.crosses face step
@@ -70,7 +60,7 @@ step_reached w k face step old here new v (x, is_way, at, e) there from units (n
                 (leads_more w.dual.now.crosses (source_at w k) c.0 face x c.1 is_way at),
             omega (
               arith,
-              longer w.unit here n new (omega (arith, less, lower, up_to, there.most, v.short)),
+              units_of_sum w.unit here n new (omega (arith, less, lower, up_to, there.most, v.short)),
               c.2,
               whole,
               long,
@@ -137,9 +127,6 @@ reached_none w begun far count least each = record {
   zero = λ k hk hb. absurd (omega (arith, hb, least));
 }
 
-none_at : (unit : ℕ) → unit * 0 ≡ 0
-none_at unit = omega arith
-
 -- a source is put at 0
 pub source_put : (w : Wave) (k p : ℕ) (next : Lengths) (far : List Lengths) → k < 64 → AreReached w (w.first + k) far
     → (p < size w) × (face_at w p ≡ source_at w k) → p ≡ place_at w (source_at w k)
@@ -150,7 +137,7 @@ source_put w k p next far hk r at noted zero others =
     let row : IsRowOf w (face_at w p) next = λ j hj. elim (cases_eq j k) [
       | inl q ↦
           let is : slice_index next.far j ≡ 0 = ap (slice_index next.far) q ∙ zero in
-          record { most = omega (arith, is); met = inr ([], ap (source_at w) q ∙ sym at.1, ap (λ z. w.unit * z) is ∙ none_at w.unit) }
+          record { most = omega (arith, is); met = inr ([], ap (source_at w) q ∙ sym at.1, ap (λ z. w.unit * z) is ∙ units_none w.unit) }
       | inr ne ↦ subst (IsReached w j (face_at w p)) (sym (others j ne)) (r.each p at.0 j hj)
     ] in
     let less : (j : ℕ) → j < 64 → slice_index next.far j ≤ far_at far p j = λ j hj. elim (cases_eq j k) [
@@ -191,7 +178,7 @@ step_tried w p units here step far at noted (n, whole, up_to) less = (
       ) in
       omega (
         arith,
-        units_le w.unit (far_at far (place_at w step.to) k) (slice_index here.far k + n) there,
+        mul-le-mul_left w.unit there,
         units_sum w.unit (slice_index here.far k) n,
         whole,
       ),
@@ -233,12 +220,12 @@ all_found w far v r tried k f hk inside p =
     let is : IsReached w k f x = subst (λ z. IsReached w k z x) p.1 (r.each (place_at w f) p.0 k hk) in
     let zero = r.zero k hk inside in
     record {
-      most = units_le w.unit x w.limit is.most;
+      most = mul-le-mul_left w.unit is.most;
       shorter = λ xs l. omega (
         arith,
         none_farther w k (source_at w k) f xs far v hk tried zero.0 l,
         ap (λ z. w.unit * z) zero.1,
-        none_at w.unit,
+        units_none w.unit,
       );
       met = elim is.met [ inl e ↦ inl (ap (λ z. w.unit * z) e) | inr c ↦ inr c ];
     }

@@ -1,7 +1,7 @@
 //! The distances that waves find, up to both radii.
 //!
-//! Waves count in units, so that lengths fit in 16 bits. The unit is 1 where the radii are small. Otherwise it is the shortest
-//! step, as with great weights most steps are some times so long.
+//! Waves count in units, so that lengths fit in 16 bits. The unit is 1 where the radii are small. Where weights are great it is
+//! the greatest one that measures both the shortest step and the longest, since mostly there are no other lengths.
 
 ghost use Rattle.std.specs.Prelude.{◌≡◌, ℕ, ◌*◌, ◌^◌, ◌<◌, ◌≤◌, length, slice_index, All, IfOk, IfSome};
 ghost use Rattle.dpl_dual.specs.Duals.{CameFromDual};
@@ -16,7 +16,7 @@ use dpl_dual::types::Distances;
 use dpl_match::Rows;
 use std::alloc::{AllocError, Global};
 
-/// No radius is more units than these.
+/// No radius is more units than this.
 const MOST_RADIUS: u64 = 32767;
 
 /// In what waves count, and a limit to the number of them.
@@ -37,8 +37,23 @@ fn greatest(radii: &[u64]) -> u64
     most
 }
 
-/// A unit in which two of the greatest radius are a number of 16 bits: 1, or else a length of less than 32 bits. None where
-/// that is too short or too long as well.
+/// The greatest common divisor of two lengths, by Euclid's algorithm: it halves the first in two turns.
+fn common(first: u64, second: u64) -> u64 {
+    let mut more = first;
+    let mut less = second;
+    for _turn in 0..128 {
+        if less == 0 {
+            return more;
+        }
+        let rest = more % less;
+        more = less;
+        less = rest;
+    }
+    more
+}
+
+/// A unit in which twice the greatest radius is a number of 16 bits: 1 if that will do, and else a length. None where that is
+/// too short as well, or has more than 32 bits.
 fn scale_of(most: u64, length: u64) -> Option<Scale>
     ensures { IfSome result (IsScale most) }
 {
@@ -177,7 +192,8 @@ pub fn rows_by_waves(
     ensures { IfOk result (λ o. IfSome o (λ rows. AreNearPut dual.now.crosses odd.now
         (slice_index radii.now) (distances_in rows))) }
 {
-    let Scale { unit, limit } = match scale_of(greatest(radii), dual.rows.least) {
+    let length = common(dual.rows.greatest, dual.rows.least);
+    let Scale { unit, limit } = match scale_of(greatest(radii), length) {
         Some(scale) => scale,
         None => return Ok(None),
     };

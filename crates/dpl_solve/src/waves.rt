@@ -3,7 +3,7 @@
 //! For each face of the part stands how far it is from each of the 64, as far as is known, and a limit where that is less.
 //! Where that falls at a face, the steps there are tried again, as in Bellman 1958, "On a routing problem". Lengths are counted
 //! in units, such as the shortest step, and these numbers are so small that a processor lowers several at a time. When none
-//! falls any more, each step is tried once again, so that nothing rests on the order, nor on the lengths being whole.
+//! falls any more, each step is tried once again, so that nothing rests on the order, and each is found to be whole units.
 
 ghost use Rattle.std.specs.Prelude.{◌≡◌, ◌≢◌, ℕ, ◌+◌, ◌*◌, ◌^◌, ◌<◌, ◌≤◌, min, true, false, length, slice_index, All, OnOk, IfOk, IfSome};
 ghost use Rattle.dpl_dual.specs.Duals.{CameFromDual, IsStep};
