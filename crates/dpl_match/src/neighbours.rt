@@ -77,13 +77,11 @@ fn are_less(bounds: &[u16], numbers: &[u16], start: usize, more: u16) -> bool
     ensures { result ≡ true → (k : ℕ) → k < 32 →
         slice_index bounds.now (start + k) < min (slice_index numbers.now (start + k) + more) 65535 }
 {
+    let known = &bounds[start..start + WIDTH];
+    let far = &numbers[start..start + WIDTH];
     let mut least: u16 = 65535;
     for k in 0..WIDTH {
-        least = least.min(
-            numbers[start + k]
-                .saturating_add(more)
-                .saturating_sub(bounds[start + k]),
-        );
+        least = least.min(far[k].saturating_add(more).saturating_sub(known[k]));
     }
     least > 0
 }
@@ -100,9 +98,11 @@ fn are_no_more(keys: &[u64], numbers: &[u64], start: usize, offset: u64) -> bool
     ensures { result ≡ true → (k : ℕ) → k < 32 →
         slice_index keys.now (start + k) ≤ slice_index numbers.now (start + k) + offset }
 {
+    let known = &keys[start..start + WIDTH];
+    let far = &numbers[start..start + WIDTH];
     let mut more: u64 = 0;
     for k in 0..WIDTH {
-        more += (numbers[start + k] + offset).wrapping_sub(keys[start + k]) >> 63;
+        more += (far[k] + offset).wrapping_sub(known[k]) >> 63;
     }
     more == 0
 }
