@@ -1,13 +1,14 @@
 -- The lists of a family after a new top is made.
 use Rattle.std.proofs.Common.{arith, ◌≡◌, ◌≢◌, ℕ, ◌+◌, ◌*◌, ◌%◌, ◌<◌, ◌≤◌, ◌⊎◌, refl, sym, ap, ◌∙◌, subst, Bool, true}
-use Rattle.std.proofs.Common.{false, cond, inl, inr, List, [], map, length, get_or, set, length-set}
+use Rattle.std.proofs.Common.{false, cond, inl, inr, eqb, eq-eqb, ◌||◌, List, [], ◌∷◌, length, get_or, set, length-set}
 use Rattle.std.proofs.Common.{get_or-set_same, get_or-set_other, Option, Some, None}
-use Rattle.std.proofs.lemmas.Bool.{cases_eq, cases_lt, cases_Bool, cond-true, cond-false}
-use Rattle.std.proofs.lemmas.List.{get_or_past, get_or-map}
+use Rattle.std.proofs.lemmas.Bool.{cases_eq, cases_lt, cases_Bool, cond-true, cond-false, ne_eqb}
+use Rattle.std.proofs.lemmas.List.{get_or_past}
+use Rattle.std.specs.List.{list_any}
 use Rattle.dpl_laminar.specs.Families.{Sets, IsLaminar, IsTie, has}
 use Rattle.dpl_laminar.specs.Changes.{AreJoined, IsShrunk}
 use Rattle.dpl_laminar.specs.Storing.{Stored, sets_of, walk, IsKept, IsNameOf}
-use Rattle.dpl_laminar.proofs.Numbers.{has_at, place_in, true_false, some_none}
+use Rattle.dpl_laminar.proofs.Numbers.{has_at, has_head, has_tail, place_in, true_false, some_none}
 use Rattle.dpl_laminar.proofs.Walks.{walk_is, walk_same, length_walk, around_next}
 use Rattle.dpl_laminar.proofs.Gathered.{gathered}
 
@@ -19,6 +20,36 @@ tops_apart s x y m p hx hy tx ty ne hm h = elim (cases_Bool (get_or (get_or s.ro
   | inl k ↦ absurd (ne (sym (p.family.laminar.tops.top_alone x m hx hm tx h) ∙ p.family.laminar.tops.top_alone y m hy hm ty k))
   | inr k ↦ k
 ]
+
+-- a top holds a member exactly where it is the member's top
+held_by_top : (s : Stored) (c m : ℕ) → IsKept s → c < 2 * s.size → get_or s.parents c None ≡ None → m < s.size
+    → get_or (get_or s.rows c []) m false ≡ eqb c (get_or s.tops m 0)
+held_by_top s c m p hc tc hm = elim (cases_eq c (get_or s.tops m 0)) [
+  | inl e ↦
+      ap (λ z. get_or (get_or s.rows z []) m false) e ∙ p.family.laminar.tops.top_holds m hm ∙
+      sym (eq-eqb c (get_or s.tops m 0) e)
+  | inr ne ↦ (elim (cases_Bool (get_or (get_or s.rows c []) m false)) as (λ _. get_or (get_or s.rows c []) m false ≡ false) [
+    | inl k ↦ absurd (ne (sym (p.family.laminar.tops.top_alone c m hc hm tc k)))
+    | inr k ↦ k
+  ]) ∙ sym (ne_eqb c (get_or s.tops m 0) ne)
+]
+
+-- two tests find the same where they agree on each number of the list
+any_same : (cs : List ℕ) (p q : ℕ → Bool) → ((c : ℕ) → has cs c ≡ true → p c ≡ q c) → list_any p cs ≡ list_any q cs
+any_same [] p q e = refl
+any_same (c ∷ cs) p q e =
+    let head : p c ≡ q c = e c (has_head c c cs refl) in
+    let tail : list_any p cs ≡ list_any q cs = any_same cs p q (λ d k. e d (elim (cases_eq c d) [
+      | inl z ↦ has_head c d cs z
+      | inr z ↦ has_tail c d cs z ∙ k
+    ])) in
+    ap (λ z. z || list_any p cs) head ∙ ap (λ z. q c || z) tail
+
+-- the members of some tops are those whose tops they are
+pub members_united : (s : Stored) (cs : List ℕ) (js : List (ℕ × ℕ)) (m : ℕ) → IsKept s → AreJoined (sets_of s) cs js → m < s.size
+    → list_any (λ c. get_or (get_or s.rows c []) m false) cs ≡ has cs (get_or s.tops m 0)
+members_united s cs js m p j hm = any_same cs (λ c. get_or (get_or s.rows c []) m false) (λ c. eqb c (get_or s.tops m 0))
+    (λ c k. held_by_top s c m p (j.tops.below c k) (j.tops.parentless c k) hm)
 
 -- the number that a new set gets is free
 name_free : (s : Stored) (q x y : ℕ) → IsKept s → IsNameOf s.size (sets_of s).holds q x y → x < 2 * s.size
@@ -48,7 +79,7 @@ shrunk_free s cs js q p j (inr w) = let k = has_at cs 1 (omega (arith, j.tops.se
 -- what the writes of a new set leave
 pub record AreWritten (s : Stored) (cs : List ℕ) (js : List (ℕ × ℕ)) (r : ℕ) (row : List Bool) (ps : List (Option ℕ))
     (rg : List ℕ) (jn : List (ℕ × ℕ)) (ts : List ℕ) : Type 0 where
-  pub members : row ≡ map (has cs) s.tops
+  pub members : (m : ℕ) → m < s.size → get_or row m false ≡ has cs (get_or s.tops m 0)
   pub parents_length : length ps ≡ length s.parents
   pub parents : (i : ℕ) → get_or ps i None ≡ cond (has cs i) (Some r) (get_or s.parents i None)
   pub ring_length : length rg ≡ length s.ring
@@ -127,8 +158,7 @@ shrunk s cs js r row ps rg jn ts p j least below free w =
         live_set = get_or-set_same s.live r true false (omega (arith, p.live_length));
         live_others = λ i ne. get_or-set_other s.live r i true false ne;
         holds_set = λ m h.
-            ap (λ z. get_or z m false) (get_or-set_same s.rows r row [] (omega (arith, p.rows_length))) ∙ ap (λ z. get_or z m false) w.members ∙
-            get_or-map (has cs) s.tops m 0 false (held m h);
+            ap (λ z. get_or z m false) (get_or-set_same s.rows r row [] (omega (arith, p.rows_length))) ∙ w.members m h;
         holds_others = λ i m hi ne h. ap (λ z. get_or z m false) (get_or-set_other s.rows r i row [] ne);
         parent_child = λ i h. w.parents i ∙ cond-true (has cs i) _ _ h;
         parent_others = λ i h. w.parents i ∙ cond-false (has cs i) _ _ h;

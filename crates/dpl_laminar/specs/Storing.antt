@@ -1,5 +1,5 @@
 -- How a family is kept: lists by the numbers of the sets, and one permutation for the rings of all sets.
-use Rattle.std.specs.Prelude.{◌≡◌, ◌≢◌, ℕ, ◌+◌, ◌*◌, ◌%◌, ◌<◌, zero, suc, Bool, true, false, Option, None, List, [], ◌∷◌, length, slice_index, slice_index_or}
+use Rattle.std.specs.Prelude.{◌≡◌, ◌≢◌, ℕ, ◌+◌, ◌*◌, ◌%◌, ◌<◌, ◌==◌, zero, suc, Bool, true, false, Option, None, List, [], ◌∷◌, length, slice_index, slice_index_or}
 use Rattle.dpl_laminar.specs.Families.{Sets, IsFamily, has}
 
 -- the lists
@@ -82,6 +82,10 @@ AreOnce numbers = (i j : ℕ) → i < j → j < length numbers →
 abbrev pub AreApart : ℕ → List (List Bool) → List ℕ → Type 0
 AreApart n rows sets = (c d m : ℕ) → m < n → has sets c ≡ true → has sets d ≡ true →
     row_holds rows c m ≡ true → row_holds rows d m ≡ true → c ≡ d
+
+-- the sets with the numbers below n hold themselves alone, of the members below n
+abbrev pub HoldThemselves : ℕ → List (List Bool) → Type 0
+HoldThemselves n rows = (i m : ℕ) → i < n → m < n → row_holds rows i m ≡ (i == m)
 
 -- q is the least member of the set x and more than a member of the set y
 pub record IsNameOf (n : ℕ) (holds : ℕ → ℕ → Bool) (q x y : ℕ) : Type 0 where

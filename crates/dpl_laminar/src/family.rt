@@ -111,7 +111,7 @@ impl Family {
         ensures steps { steps.new ≡ steps.old + 1 }
     {
         steps.tick(); // A refused call counts too.
-        let members = Members::under(alloc, &self.tops, children, 2 * self.size)?;
+        let members = Members::union(alloc, &self.rows, children, self.size)?;
         let name = name_of(
             &self.rows,
             self.size,

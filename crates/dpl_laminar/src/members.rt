@@ -1,8 +1,9 @@
 //! Which members a set holds.
 
-ghost use Rattle.std.specs.Prelude.{◌≡◌, ℕ, ◌<◌, ◌≤◌, ◌⊎◌, ◌==◌, true, false, [], length, slice_index_or, map, IfOk};
-ghost use Rattle.dpl_laminar.specs.Families.{has, members_below};
-ghost use Rattle.dpl_laminar.specs.Storing.{row_holds, AreBelow, IsNameOf};
+ghost use Rattle.std.specs.Prelude.{◌≡◌, ℕ, ◌+◌, ◌<◌, ◌≤◌, ◌⊎◌, ◌==◌, ◌||◌, true, false, [], length, slice_index_or, IfOk};
+ghost use Rattle.std.specs.List.{list_any};
+ghost use Rattle.dpl_laminar.specs.Families.{members_below};
+ghost use Rattle.dpl_laminar.specs.Storing.{row_holds, AreBelow, HoldThemselves, IsNameOf};
 
 use std::alloc::{AllocError, Global};
 use std::marker::Model;
@@ -42,22 +43,20 @@ impl Members {
         Ok(Members { held })
     }
 
-    /// The members whose tops are among these, where all of them are numbers below a limit.
-    pub fn under(
+    /// The members of these sets together. The sets below the number of members hold themselves alone.
+    pub fn union(
         alloc: Global,
-        tops: &[u32],
-        children: &[u32],
-        limit: usize,
+        rows: &[Members],
+        sets: &[u32],
+        size: usize,
     ) -> Result<Members, AllocError>
-        requires tops { AreBelow tops.now limit }
-        requires children { AreBelow children.now limit }
-        ensures { IfOk result (λ row. row ≡ map (has children.now) tops.now) }
+        requires sets { AreBelow sets.now (length rows.now) }
+        requires singles { HoldThemselves size rows.now }
+        ensures { IfOk result (λ row. (m : ℕ) → m < size →
+            slice_index_or row m false ≡ list_any (λ set. row_holds rows.now set m) sets.now) }
     {
-        let marks = marked(alloc, children, limit)?;
-        let mut held = Vec::new(alloc);
-        for top in tops {
-            held.push(marks[*top as usize])?;
-        }
+        let mut held = vec![in alloc; false; size]?;
+        add_all(&mut held, rows, sets);
         Ok(Members { held })
     }
 
@@ -93,12 +92,19 @@ impl Members {
         ensures held { slice_index_or self.now result false ≡ true }
         ensures least { (m : ℕ) → m < result → slice_index_or self.now m false ≡ false }
     {
-        for m in 0..size {
+        for m in passed(&self.held)..size {
             if self.holds(m) {
                 return m;
             }
         }
         unreachable!()
+    }
+
+    /// Of each member whether it is held.
+    pub fn as_slice(&self) -> &[bool]
+        ensures { result.now ≡ self.now }
+    {
+        self.held.as_slice()
     }
 
     /// Takes all members out.
@@ -109,18 +115,71 @@ impl Members {
     }
 }
 
-/// Whether each number below a limit stands in a list.
-fn marked(alloc: Global, list: &[u32], limit: usize) -> Result<Vec<bool>, AllocError>
-    requires { AreBelow list.now limit }
-    ensures count { IfOk result (λ marks. length marks.items ≡ limit) }
-    ensures each { IfOk result (λ marks.
-        (x : ℕ) → slice_index_or marks.items x false ≡ has list.now x) }
+/// Takes the members of a set in.
+fn join(held: &mut [bool], others: &[bool])
+    ensures { (m : ℕ) → m < length held.old → slice_index_or held.new m false
+        ≡ (slice_index_or held.old m false || slice_index_or others.now m false) }
 {
-    let mut marks = vec![in alloc; false; limit]?;
-    for number in list {
-        marks[*number as usize] = true;
+    for m in 0..held.len().min(others.len()) {
+        held[m] |= others[m];
     }
-    Ok(marks)
+}
+
+/// Takes the members of the set with this number in.
+fn add(held: &mut [bool], rows: &[Members], set: u32)
+    requires set { set < length rows.now }
+    requires singles { HoldThemselves (length held.old) rows.now }
+    ensures { (m : ℕ) → m < length held.old → slice_index_or held.new m false
+        ≡ (slice_index_or held.old m false || row_holds rows.now set m) }
+{
+    let number = set as usize;
+    if number < held.len() {
+        held[number] = true;
+    } else {
+        join(held, rows[number].as_slice());
+    }
+}
+
+/// Takes the members of these sets in.
+fn add_all(held: &mut [bool], rows: &[Members], sets: &[u32])
+    requires sets { AreBelow sets.now (length rows.now) }
+    requires singles { HoldThemselves (length held.old) rows.now }
+    ensures { (m : ℕ) → m < length held.old → slice_index_or held.new m false
+        ≡ (slice_index_or held.old m false || list_any (λ set. row_holds rows.now set m) sets.now) }
+{
+    for set in sets {
+        add(held, rows, *set);
+    }
+}
+
+/// How many members are looked at together.
+const WIDTH: usize = 32;
+
+/// Whether any of so many members from one on is held.
+#[inline(always)]
+fn is_any(held: &[bool], start: usize) -> bool
+    requires { start + 32 ≤ length held.now }
+    ensures { result ≡ false → (k : ℕ) → k < 32 → slice_index_or held.now (start + k) false ≡ false }
+{
+    let block = &held[start..start + WIDTH];
+    let mut any = false;
+    for k in 0..WIDTH {
+        any |= block[k];
+    }
+    any
+}
+
+/// A number below which no member is held. Many are passed at once.
+fn passed(held: &[bool]) -> usize
+    ensures { (m : ℕ) → m < result → slice_index_or held.now m false ≡ false }
+{
+    let blocks = held.len() / WIDTH;
+    for block in 0..blocks {
+        if is_any(held, block * WIDTH) {
+            return block * WIDTH;
+        }
+    }
+    blocks * WIDTH
 }
 
 /// What a set made of these and others is numbered by: the greater one of the least members of two

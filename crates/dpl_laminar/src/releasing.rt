@@ -2,7 +2,7 @@
 
 ghost use Rattle.std.specs.Prelude.{◌≡◌, ℕ, ◌<◌, if◌then◌else◌, true, false, None, Some, length, slice_index, slice_index_or};
 ghost use Rattle.dpl_laminar.specs.Families.{has};
-ghost use Rattle.dpl_laminar.specs.Storing.{circle_of, row_holds, AreBelow, AreOnce, AreApart};
+ghost use Rattle.dpl_laminar.specs.Storing.{circle_of, row_holds, AreBelow, AreOnce, AreApart, HoldThemselves};
 
 use super::members::Members;
 use dpl_ring::Ring;
@@ -39,10 +39,25 @@ pub fn lift(tops: &mut [u32], row: &Members, set: u32)
     ensures { (m : ℕ) → m < length tops.old → slice_index tops.new m ≡
         (if slice_index_or row.now m false then set else slice_index tops.old m) }
 {
-    for m in 0..tops.len() {
-        if row.holds(m) {
-            tops[m] = set;
-        }
+    let held = row.as_slice();
+    for m in 0..tops.len().min(held.len()) {
+        let top = tops[m]; // Read in any case, so that several are done at a time.
+        tops[m] = if held[m] { set } else { top };
+    }
+}
+
+/// Makes the set with this number the top of its members.
+fn lift_set(tops: &mut [u32], rows: &[Members], set: u32)
+    requires set { set < length rows.now }
+    requires singles { HoldThemselves (length tops.old) rows.now }
+    ensures { (m : ℕ) → m < length tops.old → slice_index tops.new m ≡
+        (if row_holds rows.now set m then set else slice_index tops.old m) }
+{
+    let number = set as usize;
+    if number < tops.len() {
+        tops[number] = set;
+    } else {
+        lift(tops, &rows[number], set);
     }
 }
 
@@ -52,6 +67,7 @@ pub fn lift_all(tops: &mut [u32], rows: &[Members], ring: &Ring, first: u32, cou
     requires below { (i : ℕ) → i < count →
         slice_index (circle_of ring.now first count) i < length rows.now }
     requires apart { AreApart (length tops.old) rows.now (circle_of ring.now first count) }
+    requires singles { HoldThemselves (length tops.old) rows.now }
     ensures inside { (c m : ℕ) → m < length tops.old →
         has (circle_of ring.now first count) c ≡ true → row_holds rows.now c m ≡ true →
         slice_index tops.new m ≡ c }
@@ -61,7 +77,7 @@ pub fn lift_all(tops: &mut [u32], rows: &[Members], ring: &Ring, first: u32, cou
 {
     let mut child = first;
     for _ in 0..count {
-        lift(tops, &rows[child as usize], child);
+        lift_set(tops, rows, child);
         child = ring.next(child);
     }
 }

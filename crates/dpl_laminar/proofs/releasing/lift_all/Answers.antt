@@ -1,5 +1,4 @@
 use Rattle.std.proofs.Common.{arith, ◌≡◌, ℕ, ◌<◌, Bool, ap, sym, ◌∙◌, refl, cond, get_or, length, false, []}
-use Rattle.std.proofs.lemmas.List.{get_or_read}
 use Rattle.dpl_laminar.specs.Storing.{circle_of}
 use Rattle.dpl_laminar.proofs.Walks.{length_ring, ring_at, ring_next, ring_whole}
 use Rattle.dpl_laminar.proofs.Lifting.{lifted_none, lifted_more}
@@ -8,8 +7,8 @@ use Rattle.dpl_laminar.proofs.releasing.lift_all.Goals as goal
 pub loop-init : goal.loop-init
 loop-init c = record { at = refl; lifted = lifted_none _ _ c.args.tops.now; most = omega arith }
 
-pub bounds-rows-child : goal.bounds-rows-child
-bounds-rows-child c = omega (arith, ring_at _ _ _ _ c.loop.child c.loop-test.true c.loop.invariant.at, c.requires.below c.loop.counter c.loop-test.true)
+pub lift_set-requires-clause-set : goal.lift_set-requires-clause-set
+lift_set-requires-clause-set c = omega (arith, ring_at _ _ _ _ c.loop.child c.loop-test.true c.loop.invariant.at, c.requires.below c.loop.counter c.loop-test.true)
 
 pub next-child-requires : goal.next-child-requires
 next-child-requires c = omega (
@@ -24,17 +23,14 @@ loop-preserved c =
     let cs = circle_of c.args.ring.now c.args.first c.args.count in
     let table : ℕ → ℕ → Bool = λ i m. get_or (get_or c.args.rows.now i []) m false in
     let here : get_or cs c.loop.counter 0 ≡ c.loop.child = ring_at _ _ _ _ c.loop.child c.loop-test.true c.loop.invariant.at in
-    let short : c.loop.child < length c.args.rows.now = omega (arith, here, c.requires.below c.loop.counter c.loop-test.true) in
-    let row : c.index-rows-child.result ≡ get_or c.args.rows.now c.loop.child [] = get_or_read _ _ _ short c.index-rows-child.is [] in
     let lifted : (m : ℕ) → m < length c.args.tops.now →
-    get_or c.lift.new.tops m 0 ≡ cond (table (get_or cs c.loop.counter 0) m) (get_or cs c.loop.counter 0)
+    get_or c.lift_set.new.tops m 0 ≡ cond (table (get_or cs c.loop.counter 0) m) (get_or cs c.loop.counter 0)
     (get_or c.loop.tops m 0) =
-    λ m h. c.lift.ensures m (omega (arith, c.loop.auto.tops, h)) ∙
-    ap (λ z. cond (get_or z m false) c.loop.child (get_or c.loop.tops m 0)) row ∙
+    λ m h. c.lift_set.ensures m (omega (arith, c.loop.auto.tops, h)) ∙
     ap (λ z. cond (table z m) z (get_or c.loop.tops m 0)) (sym here) in
     record {
       at = ring_next c.args.ring.now c.args.first c.loop.counter c.loop.child c.next-child.result c.loop.invariant.at c.next-child.ensures.value;
-      lifted = lifted_more (length c.args.tops.now) table cs c.loop.counter c.args.tops.now c.loop.tops c.lift.new.tops
+      lifted = lifted_more (length c.args.tops.now) table cs c.loop.counter c.args.tops.now c.loop.tops c.lift_set.new.tops
           (omega (arith, c.loop-test.true, length_ring c.args.ring.now c.args.first c.args.count)) c.requires.apart
           c.loop.invariant.lifted lifted;
       most = omega (arith, c.loop-test.true);

@@ -1,13 +1,21 @@
-use Rattle.std.proofs.Common.{arith, ◌≡◌, ◌+◌, sym, ap, ◌∙◌, subst, Bool, false, cond, List, length, get_or, map, ◌++◌, take, drop}
-use Rattle.std.proofs.lemmas.List.{take_at, get_or-map}
+use Rattle.std.proofs.Common.{arith, ◌≡◌, ℕ, ◌+◌, ◌<◌, sym, ap, ◌∙◌, subst, false, cond, length, get_or, ◌++◌, take, drop}
+use Rattle.std.proofs.lemmas.List.{take_at}
 use Rattle.dpl_laminar.specs.Changes.{AreJoined, IsShrunk}
 use Rattle.dpl_laminar.specs.Storing.{Stored, sets_of, IsKept}
 use Rattle.dpl_laminar.specs.Families.{has}
 use Rattle.dpl_laminar.proofs.Numbers.{has_at}
 use Rattle.dpl_laminar.proofs.Keeping.{stored}
-use Rattle.dpl_laminar.proofs.Shrinking.{AreWritten, with_set, tops_apart, row_fits, shrink_answer}
+use Rattle.dpl_laminar.proofs.Shrinking.{AreWritten, with_set, tops_apart, members_united, row_fits, shrink_answer}
 use Rattle.dpl_laminar.proofs.family.Family.shrink.Given as given
 use Rattle.dpl_laminar.proofs.family.Family.shrink.Goals as goal
+
+pub union-requires-clause-sets : goal.union-requires-clause-sets
+union-requires-clause-sets g c = λ i h.
+    let j = subst (λ (z : Stored). AreJoined (sets_of z) c.args.children.now c.args.joins.now) (sym c.self.view_is) c.requires in
+    omega (arith, row_fits _ c.args.children.now c.args.joins.now i j h, ap length c.deref.ensures.value, c.self.invariant.rows_length)
+
+pub union-requires-clause-singles : goal.union-requires-clause-singles
+union-requires-clause-singles g c = rw c.deref.ensures.value c.self.invariant.family.laminar.sets.single
 
 pub name_of-name-requires-clause-apart : goal.name_of-name-requires-clause-apart
 name_of-name-requires-clause-apart g c = λ m hm h.
@@ -56,8 +64,10 @@ answer : (g : given.Over) (c : goal.After-self-7-1 g) → IsKept (after g c) ×
     (sets_of (after g c))
 answer g c =
     let j = subst (λ (z : Stored). AreJoined (sets_of z) c.args.children.now c.args.joins.now) (sym c.self.view_is) c.requires in
-    let members : c.in_ok-members.members ≡ map (has c.args.children.now) c.self.inside.tops.items =
-    c.in_ok-members.ensures ∙ ap (map (has c.args.children.now)) c.deref.ensures.value in
+    let members : (m : ℕ) → m < c.self.inside.size → get_or c.in_ok-members.members m false ≡
+    has c.args.children.now (get_or c.self.inside.tops.items m 0) =
+    λ m h. (rw c.deref.ensures.value at c.in_ok-members.ensures) m h ∙
+    members_united (before g c) c.args.children.now c.args.joins.now m c.self.invariant j h in
     let lifted = rw c.deref_mut.ensures.value at c.lift.ensures in
     let written : AreWritten (before g c) c.args.children.now c.args.joins.now
     (c.self.inside.size + c.name_of-name.result) c.in_ok-members.members c.adopt.new.parents c.tie.new.ring
@@ -73,7 +83,7 @@ answer g c =
       joins_others = rw c.deref_mut-3.ensures.value at c.join.ensures.others;
       tops_length = c.lift.auto.tops ∙ ap length c.deref_mut.ensures.value;
       tops = λ m h. lifted m h ∙ ap (λ z. cond z (c.self.inside.size + c.name_of-name.result) (get_or c.self.inside.tops.items m 0))
-          (ap (λ (z : List Bool). get_or z m false) members ∙ get_or-map (has c.args.children.now) c.self.inside.tops.items m 0 false h);
+          (members m (omega (arith, h, c.self.invariant.tops_length)));
     } in
     shrink_answer _ c.args.children.now c.args.joins.now c.name_of-name.result _ _ _ _ _ _ _ _ c.self.invariant j
     c.name_of-name.ensures.below (rw c.deref-2.ensures.value at c.name_of-name.ensures.name) written
