@@ -1,5 +1,5 @@
 -- Two ways have become a set.
-use Rattle.std.proofs.Common.{arith, ◌≡◌, ◌≢◌, ℕ, ◌<◌, sym, ap, ◌∙◌, subst, false, inl, inr, List, length, reverse, ◌++◌, ◌∷◌, get_or}
+use Rattle.std.proofs.Common.{arith, ◌≡◌, ◌≢◌, ℕ, ◌<◌, sym, ap, ◌∙◌, subst, true, false, inl, inr, Some, List, length, reverse, ◌++◌, ◌∷◌, get_or}
 use Rattle.std.proofs.lemmas.List.{length-map}
 use Rattle.std.proofs.lemmas.Bool.{cases_eq, cases_Bool}
 use Rattle.dpl_laminar.specs.Families.{Sets, IsFamily, has}
@@ -8,11 +8,12 @@ use Rattle.dpl_laminar.proofs.Numbers.{true_false}
 use Rattle.dpl_tree.specs.steps.Forests.{Forest, Folds}
 use Rattle.dpl_tree.specs.Mates.{DropsInside, loads}
 use Rattle.dpl_tree.specs.Stages.{IsStage, Advances, AreRanked}
-use Rattle.dpl_tree.specs.steps.Joins.{tops_from, AreClimbing, ways}
+use Rattle.dpl_tree.specs.steps.Joins.{tops_from, is_end, AreClimbing, ways}
 use Rattle.dpl_tree.proofs.Alike.{totals_alike, shrunk_alike}
 use Rattle.dpl_tree.proofs.Events.{IsEvent, folded_stage, folded_ready}
+use Rattle.dpl_tree.proofs.Folding.{tops_of}
 use Rattle.dpl_tree.proofs.Widening.{folded_widens}
-use Rattle.dpl_tree.proofs.Meetings.{IsFolding, climbing_whole, folding_tops, folding_joined, way_step}
+use Rattle.dpl_tree.proofs.Meetings.{IsFolding, IsStep, climbing_whole, folding_tops, folding_joined, way_step}
 
 -- what a new set asks of the family
 pub folding_asked : {n : ℕ} {f : Sets} {dist : ℕ → ℕ → ℕ} {x : Forest} {joins : List (ℕ × ℕ)} {meet : ℕ}
@@ -85,6 +86,34 @@ pub free_outside_of : {n : ℕ} {f g : Sets} {dist : ℕ → ℕ → ℕ} {x : F
     → IsShrunk f cs joins set g → has ds set ≡ false
 free_outside_of {n} {f} {g} {dist} {x} {joins} {meet = meet} {set = set} st w e e' sh =
     ap (λ z. has z set) e' ∙ free_outside n f g dist x joins meet set st w (subst (λ (z : List ℕ). IsShrunk f z joins set g) e sh)
+
+-- each join leads from a member to a member
+pub folding_step : {n : ℕ} {f : Sets} {dist : ℕ → ℕ → ℕ} {x : Forest} {js : List (ℕ × ℕ)} {meet : ℕ}
+    → IsFolding n f dist x js meet → (i : ℕ) → i < length js → IsStep n (loads n f) dist (get_or js i (0, 0))
+folding_step {n} {f} {dist} {js = js} {meet = meet} w i h = way_step n f dist meet meet i js w.way h
+
+-- of two mates that came into one top both are ends of the joins
+pub folding_ends : {n : ℕ} {f g : Sets} {dist : ℕ → ℕ → ℕ} {x : Forest} {joins js : List (ℕ × ℕ)} {cs : List ℕ} {meet set : ℕ}
+    → IsStage n f dist x → IsFolding n f dist x joins meet → cs ≡ tops_from f joins → IsShrunk f cs js set g
+    → (m t : ℕ) → m < n → x.mate m ≡ Some t → g.top m ≡ g.top t → is_end joins m ≡ true
+folding_ends {n} {f} {g} {dist} {x} {joins} {js} {cs} {meet} {set} st w e sh m t hm paired same =
+    let ds : List ℕ = tops_from f joins in
+    let sh' : IsShrunk f ds js set g = subst (λ (z : List ℕ). IsShrunk f z js set g) e sh in
+    let q : Gathers n f ds set g = subst (λ (z : ℕ). Gathers z f ds set g) st.rest.size sh'.sets in
+    let lam = st.rest.laminar in
+    let ht : t < n = st.rest.pairs.range m t hm paired in
+    let tops = tops_of n f g ds set lam q in
+    elim (cases_Bool (has ds (f.top m))) [
+      | inl k ↦
+          let kt : has ds (f.top t) ≡ true = tops.inside t ht (sym same ∙ q.top_inside m hm k) in
+          w.ends m t hm paired k (λ z.
+          let o = st.tree.outer_mate meet m t w.cycle.meet_outer (record { below = hm; top = z; paired = paired }) in
+          omega (arith, o.1, w.cycle.ranks (f.top t) kt))
+      | inr k ↦
+          let old : g.top m ≡ f.top m = q.top_others m hm k in
+          let ne : f.top m ≢ set = λ z. true_false (f.live set) (ap f.live (sym z) ∙ lam.tops.top_live m hm) q.was_free in
+          absurd (st.rest.pairs.leaves m t hm paired (sym (tops.outside t (f.top m) ht (sym same ∙ old) ne).0))
+    ]
 
 -- two ways became a set, by the tops as each step read them: cs by the family, ds by the tree
 pub folded_up : {n k : ℕ} {f g : Sets} {dist : ℕ → ℕ → ℕ} {x y : Forest} {joins : List (ℕ × ℕ)} {cs ds : List ℕ} {meet set : ℕ}

@@ -1,9 +1,11 @@
 -- Two ways up to where they meet.
 use Rattle.std.proofs.Common.{arith, ◌≡◌, ◌≢◌, ℕ, zero, suc, ◌+◌, ◌*◌, ◌%◌, ◌<◌, ◌≤◌, ◌⊎◌, refl, sym, ap, ◌∙◌, subst}
-use Rattle.std.proofs.Common.{Bool, true, false, cond, inl, inr, eqb, eq-eqb, List, [], ◌∷◌, ◌++◌, map, reverse}
+use Rattle.std.proofs.Common.{Bool, true, false, cond, inl, inr, eqb, eq-eqb, ◌||◌, Some, List, [], ◌∷◌, ◌++◌, map, reverse}
 use Rattle.std.proofs.Common.{length, get_or}
 use Rattle.std.proofs.lemmas.Bool.{cases_eq, cases_lt, ne_eqb, cond-true, cond-false}
 use Rattle.std.proofs.lemmas.List.{map-append, reverse-append, length-append, length-map, length-reverse, get_or-map, length_push}
+use Rattle.std.proofs.lemmas.List.Folds.{list_any-append}
+use Rattle.std.proofs.lemmas.List.Sorted.{list_any-IsPermutation, IsPermutation-reverse}
 use Rattle.std.proofs.Math.Nat.{mod_self, mod-eq_of_lt}
 use Rattle.dpl_laminar.specs.Families.{Sets, has, IsTie, next_in}
 use Rattle.dpl_laminar.specs.Changes.{AreTops}
@@ -12,7 +14,7 @@ use Rattle.dpl_tree.specs.steps.Forests.{outer, inner, Forest, IsCycle}
 use Rattle.dpl_tree.specs.Mates.{IsExit, loads}
 use Rattle.dpl_tree.specs.Metrics.{IsMetric}
 use Rattle.dpl_tree.specs.Stages.{IsStage}
-use Rattle.dpl_tree.specs.steps.Joins.{IsWay, times_in, tops_from, tops_to, AreGathered, met_on, AreClimbing, ways}
+use Rattle.dpl_tree.specs.steps.Joins.{IsWay, times_in, tops_from, tops_to, is_end, AreGathered, met_on, AreClimbing, ways}
 use Rattle.dpl_tree.proofs.Growing.{place_cases, outer_in, inner_in, outer_inner_no, exit_one, exit_back}
 use Rattle.dpl_tree.proofs.Events.{root_lowest}
 use Rattle.dpl_tree.proofs.Ways.{load_turned}
@@ -218,6 +220,61 @@ not_root n f dist x a b st pb ne low e = elim (cases_eq b x.root) [
   | inr z ↦ absurd (omega (arith, root_lowest n f (loads n f) dist x st.tree (x.rank b) b (omega arith) pb z, low, ap x.rank e))
 ]
 
+-- ---- ends of joins
+
+or_left : (a b : Bool) → a ≡ true → (a || b) ≡ true
+or_left a b e = ap (λ z. z || b) e
+
+or_right : (a b : Bool) → b ≡ true → (a || b) ≡ true
+or_right true b e = refl
+or_right false b e = e
+
+or_cases : (a b : Bool) → (a || b) ≡ true → (a ≡ true) ⊎ (b ≡ true)
+or_cases true b e = inl refl
+or_cases false b e = inr e
+
+abbrev ends_at : ℕ → ℕ × ℕ → Bool
+ends_at m j = eqb j.0 m || eqb j.1 m
+
+ends_append : (xs ys : List (ℕ × ℕ)) (m : ℕ) → is_end (xs ++ ys) m ≡ (is_end xs m || is_end ys m)
+ends_append xs ys m = list_any-append (ends_at m) xs ys
+
+ends_kept : (xs ys : List (ℕ × ℕ)) (m : ℕ) → is_end xs m ≡ true → is_end (xs ++ ys) m ≡ true
+ends_kept xs ys m e = ends_append xs ys m ∙ or_left (is_end xs m) (is_end ys m) e
+
+ends_added : (xs ys : List (ℕ × ℕ)) (m : ℕ) → is_end ys m ≡ true → is_end (xs ++ ys) m ≡ true
+ends_added xs ys m e = ends_append xs ys m ∙ or_right (is_end xs m) (is_end ys m) e
+
+ends_reversed : (xs : List (ℕ × ℕ)) (m : ℕ) → is_end xs m ≡ true → is_end (reverse xs) m ≡ true
+ends_reversed xs m e = sym (list_any-IsPermutation (ends_at m) xs (reverse xs) (IsPermutation-reverse xs)) ∙ e
+
+-- the ends of a join that is put behind others, with one more after it
+ends_first : (xs : List (ℕ × ℕ)) (y z : ℕ × ℕ) (m : ℕ) → y.0 ≡ m → is_end ((xs ++ y ∷ []) ++ z ∷ []) m ≡ true
+ends_first xs y z m e = ends_kept (xs ++ y ∷ []) (z ∷ []) m (ends_added xs (y ∷ []) m
+    (or_left (ends_at m y) false (or_left (eqb y.0 m) (eqb y.1 m) (eq-eqb y.0 m e))))
+
+ends_second : (xs : List (ℕ × ℕ)) (y z : ℕ × ℕ) (m : ℕ) → y.1 ≡ m → is_end ((xs ++ y ∷ []) ++ z ∷ []) m ≡ true
+ends_second xs y z m e = ends_kept (xs ++ y ∷ []) (z ∷ []) m (ends_added xs (y ∷ []) m
+    (or_left (ends_at m y) false (or_right (eqb y.0 m) (eqb y.1 m) (eq-eqb y.1 m e))))
+
+-- a member with a mate in a set that was met stands in the pair of the last step, or in a set met before
+step_ends : (n : ℕ) (f : Sets) (dist : ℕ → ℕ → ℕ) (x : Forest) (a m u : ℕ) (met new : ℕ → ℕ) (p q : ℕ)
+    → IsStage n f dist x → IsExit n f x.mate a m u
+    → ((c : ℕ) → new c ≡ met c + (cond (eqb a c) 1 0 + cond (eqb (f.top u) c) 1 0))
+    → p < n → x.mate p ≡ Some q → 0 < new (f.top p)
+    → (0 < met (f.top p)) ⊎ ((m ≡ p) ⊎ (u ≡ p))
+step_ends n f dist x a m u met new p q st ex e hp paired h =
+    let pairs = st.rest.pairs in
+    let back = exit_back n f (loads n f) dist x.mate pairs a m u ex in
+    elim (cases_eq a (f.top p)) [
+      | inl z ↦ inr (inl (exit_one n f (loads n f) dist x.mate pairs a m u p q ex (record { below = hp; top = sym z; paired = paired })).0)
+      | inr z ↦ elim (cases_eq (f.top u) (f.top p)) [
+        | inl y ↦ inr (inr (exit_one n f (loads n f) dist x.mate pairs (f.top u) u m p q back
+            (record { below = hp; top = sym y; paired = paired })).0)
+        | inr y ↦ inl (omega (arith, h, e (f.top p), bit_none a (f.top p) z, bit_none (f.top u) (f.top p) y))
+      ]
+    ]
+
 -- ---- a turn of the climb
 
 reverse_push : (xs : List (ℕ × ℕ)) (y : ℕ × ℕ) → reverse (xs ++ y ∷ []) ≡ y ∷ reverse xs
@@ -282,12 +339,24 @@ climbing_left n f dist x s t left right a b m u me st c ne low ex =
     subst (λ (z : ℕ). IsWay n f dist z (reverse left) (f.top s)) (sym ex.top) c.way_left in
     let way : IsWay n f dist (f.top (x.above i)) (link ∷ (u, m) ∷ reverse left) (f.top s) =
     (w.ha, w.he, refl, w.tight_link, (w.ht, w.hm, sym w.entry, tight, rest)) in
+    let longer : List (ℕ × ℕ) = (left ++ (u, m) ∷ []) ++ link ∷ [] in
+    let more : (k : ℕ) → met_on f longer right k ≡ met_on f left right k + (cond (eqb a k) 1 0 + cond (eqb i k) 1 0) =
+    λ k. omega (arith, times_two f (λ j. f.top j.1) left (u, m) link a i k ex.top w.entry) in
     record {
       way_left = subst (λ (z : List (ℕ × ℕ)). IsWay n f dist (f.top (x.above i)) z (f.top s)) (sym e) way;
       way_right = c.way_right;
-      sets = gathered_more n f dist x a b m u (met_on f left right) _ st c.sets ne low ex
-          (λ k. omega (arith, times_two f (λ j. f.top j.1) left (u, m) link a i k ex.top w.entry));
+      sets = gathered_more n f dist x a b m u (met_on f left right) _ st c.sets ne low ex more;
       even = omega (arith, c.even, push_length left (u, m) link);
+      ends = λ p q hp paired h.
+          elim (step_ends n f dist x a m u (met_on f left right) (met_on f longer right) p q st ex more hp paired h) [
+            | inl old ↦ elim (or_cases (is_end left p) (is_end right p) (c.ends p q hp paired old)) [
+              | inl z ↦ or_left (is_end longer p) (is_end right p)
+                  (ends_kept (left ++ (u, m) ∷ []) (link ∷ []) p (ends_kept left ((u, m) ∷ []) p z))
+              | inr z ↦ or_right (is_end longer p) (is_end right p) z
+            ]
+            | inr (inl z) ↦ or_left (is_end longer p) (is_end right p) (ends_second left (u, m) link p z)
+            | inr (inr z) ↦ or_left (is_end longer p) (is_end right p) (ends_first left (u, m) link p z)
+          ];
     }
 
 -- the right way goes one step on
@@ -303,17 +372,27 @@ climbing_right n f dist x s t left right a b m u me st c ne low ex =
     load_turned n f (x.entry i) (x.above i) ∙ w.tight_link ∙ me.symmetric (x.above i) (x.entry i) w.ha w.he in
     let first : IsWay n f dist b ((m, u) ∷ []) i = (w.hm, w.ht, ex.top, w.tight_pair, refl) in
     let second : IsWay n f dist i (link ∷ []) (f.top (x.above i)) = (w.he, w.ha, w.entry, tight, refl) in
+    let longer : List (ℕ × ℕ) = (right ++ (m, u) ∷ []) ++ link ∷ [] in
+    let more : (k : ℕ) → met_on f left longer k ≡ met_on f left right k + (cond (eqb b k) 1 0 + cond (eqb i k) 1 0) =
+    λ k. omega (arith, times_two f (λ j. f.top j.0) right (m, u) link b i k ex.top w.entry) in
     record {
       way_left = c.way_left;
       way_right = way_append n f dist (f.top t) i (f.top (x.above i)) (right ++ (m, u) ∷ []) (link ∷ [])
           (way_append n f dist (f.top t) b i right ((m, u) ∷ []) c.way_right first) second;
       sets = gathered_turned n f x (f.top (x.above i)) a _
           (gathered_more n f dist x b a m u (met_on f left right) _ st (gathered_turned n f x a b _ c.sets)
-          (λ z. ne (sym z)) low ex (λ k. omega (
-            arith,
-            times_two f (λ j. f.top j.0) right (m, u) link b i k ex.top w.entry,
-          )));
+          (λ z. ne (sym z)) low ex more);
       even = omega (arith, c.even, push_length right (m, u) link);
+      ends = λ p q hp paired h.
+          elim (step_ends n f dist x b m u (met_on f left right) (met_on f left longer) p q st ex more hp paired h) [
+            | inl old ↦ elim (or_cases (is_end left p) (is_end right p) (c.ends p q hp paired old)) [
+              | inl z ↦ or_left (is_end left p) (is_end longer p) z
+              | inr z ↦ or_right (is_end left p) (is_end longer p)
+                  (ends_kept (right ++ (m, u) ∷ []) (link ∷ []) p (ends_kept right ((m, u) ∷ []) p z))
+            ]
+            | inr (inl z) ↦ or_right (is_end left p) (is_end longer p) (ends_first right (m, u) link p z)
+            | inr (inr z) ↦ or_right (is_end left p) (is_end longer p) (ends_second right (m, u) link p z)
+          ];
     }
 
 -- two ways that have not begun
@@ -332,6 +411,7 @@ climbing_begun n f dist x s t ps pt = record {
     closed = λ c m u h e. absurd (omega (arith, h));
   };
   even = refl;
+  ends = λ m u hm e h. absurd (omega (arith, h));
 }
 
 -- ---- where the two ways meet
@@ -342,6 +422,9 @@ pub record IsFolding (n : ℕ) (f : Sets) (dist : ℕ → ℕ → ℕ) (x : Fore
   pub odd : length joins % 2 ≡ 1
   pub cycle : IsCycle n f x (tops_from f joins) meet
   pub some_inner : (c : ℕ) × (has (tops_from f joins) c ≡ true) × (x.place c ≡ inner)
+  -- the member of each set but the one where they meet that has a mate is an end of them
+  pub ends : (m t : ℕ) → m < n → x.mate m ≡ Some t → has (tops_from f joins) (f.top m) ≡ true → f.top m ≢ meet
+      → is_end joins m ≡ true
 
 times_reversed : (f : Sets) (xs : List (ℕ × ℕ)) (c : ℕ) → times_in (tops_to f (reverse xs)) c ≡ times_in (tops_to f xs) c
 times_reversed f [] c = refl
@@ -460,6 +543,13 @@ climbing_whole n f dist x s t meet left right st hs ht tight apart c =
         ];
       };
       some_inner = inner_met n f dist x meet met (tops_from f joins) st g (some_met n f dist x s t meet left right st apart c) here;
+      ends = λ m u hm e k ne. elim (cases (f.top m) k) [
+        | inl z ↦ absurd (ne (sym z))
+        | inr z ↦ elim (or_cases (is_end left m) (is_end right m) (c.ends m u hm e z)) [
+          | inl y ↦ ends_kept (reverse left) ((s, t) ∷ right) m (ends_reversed left m y)
+          | inr y ↦ ends_added (reverse left) ((s, t) ∷ right) m (or_right (ends_at m (s, t)) (is_end right m) y)
+        ]
+      ];
     }
 
 -- ---- the joins all around are those of a new set

@@ -1,6 +1,6 @@
 -- Pairs between the top sets of a family, and the sums of values that a member and a pair of
 -- members carry.
-use Rattle.std.specs.Prelude.{◌≡◌, ◌≢◌, ℕ, ◌*◌, ◌<◌, Bool, if◌then◌else◌, Option, Some, None}
+use Rattle.std.specs.Prelude.{◌≡◌, ◌≢◌, ℕ, ◌*◌, ◌<◌, ◌==◌, Bool, if◌then◌else◌, Option, Some, None}
 use Rattle.dpl_laminar.specs.Families.{Sets}
 use Rattle.dpl_laminar.specs.Loads.{sum_below, load_in}
 
@@ -36,6 +36,11 @@ pub record Joins (mate : ℕ → Option ℕ) (s t : ℕ) (new : ℕ → Option �
   pub first : new s ≡ Some t
   pub second : new t ≡ Some s
   pub others : (i : ℕ) → i ≢ s → i ≢ t → new i ≡ mate i
+
+-- what stays of the mate of a member where the pairs inside one top set are given up
+abbrev pub kept_outside : Sets → ℕ → Option ℕ → Option ℕ
+kept_outside f m None = None
+kept_outside f m (Some t) = if f.top m == f.top t then None else Some t
 
 -- the pairs that lie inside one top set are given up
 pub record DropsInside (n : ℕ) (f : Sets) (mate new : ℕ → Option ℕ) : Type 0 where

@@ -45,6 +45,6 @@ pub fn fold<L: Ledger>(
     let children = tops_of(alloc, &matching.family, &joins)?;
     let set = matching.family.shrink(alloc, &children, &joins, steps)?;
     replace(tree, &children, top, set);
-    drop_inside(&matching.family, &mut matching.mates);
+    drop_inside(&matching.family, &mut matching.mates, &joins);
     Ok(())
 }

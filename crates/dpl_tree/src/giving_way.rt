@@ -34,7 +34,7 @@ fn join_place(place: usize, r: usize) -> usize
     if 2 * r < place { 2 * r } else { 2 * r + 1 }
 }
 
-/// Makes room above a rank.
+/// Makes room above a rank. Mostly none is asked for.
 pub fn make_room(ranks: &mut [u64], rank: u64, room: u64)
     requires small { (i : ℕ) → slice_index ranks.old i ≤ 2 ^ 60 }
     requires room { room ≤ 4096 }
@@ -42,6 +42,9 @@ pub fn make_room(ranks: &mut [u64], rank: u64, room: u64)
         (if nat_lt rank (slice_index ranks.old i) then slice_index ranks.old i + room
         else slice_index ranks.old i) }
 {
+    if room == 0 {
+        return;
+    }
     for i in 0..ranks.len() {
         if rank < ranks[i] {
             ranks[i] += room;

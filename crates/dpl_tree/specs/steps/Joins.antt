@@ -1,6 +1,7 @@
 -- Ways along tight joins from top to top.
-use Rattle.std.specs.Prelude.{◌≡◌, ◌≢◌, ℕ, ◌+◌, ◌%◌, ◌<◌, ◌≤◌, ◌⊎◌, ◌==◌, if◌then◌else◌, List, []}
+use Rattle.std.specs.Prelude.{◌≡◌, ◌≢◌, ℕ, ◌+◌, ◌%◌, ◌<◌, ◌≤◌, ◌⊎◌, ◌==◌, ◌||◌, if◌then◌else◌, Bool, true, Some, List, []}
 use Rattle.std.specs.Prelude.{◌∷◌, length, map, reverse}
+use Rattle.std.specs.List.{list_any}
 use Rattle.dpl_laminar.specs.Families.{Sets}
 use Rattle.dpl_tree.specs.steps.Forests.{free, outer, Forest}
 use Rattle.dpl_tree.specs.Mates.{IsExit, loads}
@@ -23,6 +24,10 @@ tops_from f joins = map (λ j. f.top j.0) joins
 
 abbrev pub tops_to : Sets → List (ℕ × ℕ) → List ℕ
 tops_to f joins = map (λ j. f.top j.1) joins
+
+-- a member is an end of one of the joins
+abbrev pub is_end : List (ℕ × ℕ) → ℕ → Bool
+is_end joins m = list_any (λ j. (j.0 == m) || (j.1 == m)) joins
 
 -- The sets below a and b on two ways up, each as often as it was met: none twice, each with the
 -- set that it is paired with, and no outer one among them has less rank than a or b, or is a or
@@ -59,3 +64,6 @@ pub record AreClimbing (n : ℕ) (f : Sets) (dist : ℕ → ℕ → ℕ) (x : Fo
   pub way_right : IsWay n f dist (f.top join.1) w.right w.b
   pub sets : AreGathered n f x w.a w.b (met_on f w.left w.right)
   pub even : (length w.left + length w.right) % 2 ≡ 0
+  -- the member of each set met that has a mate is an end of them
+  pub ends : (m t : ℕ) → m < n → x.mate m ≡ Some t → 0 < met_on f w.left w.right (f.top m) →
+      (is_end w.left m || is_end w.right m) ≡ true

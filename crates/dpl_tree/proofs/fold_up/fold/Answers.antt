@@ -3,7 +3,7 @@ use Rattle.dpl_laminar.specs.Storing.{sets_of}
 use Rattle.dpl_tree.specs.Mates.{DropsInside}
 use Rattle.dpl_tree.specs.Views.{mate_in}
 use Rattle.dpl_tree.proofs.MatchingLemmas.{event_next, event_lists}
-use Rattle.dpl_tree.proofs.Folded.{folding_of, folding_from, folding_asked, tops_seen, free_outside_of, folded_up}
+use Rattle.dpl_tree.proofs.Folded.{folding_of, folding_from, folding_asked, tops_seen, free_outside_of, folding_step, folding_ends, folded_up}
 use Rattle.dpl_tree.proofs.fold_up.fold.Goals as goal
 use Rattle.dpl_list.proofs.Lists.{refilled}
 
@@ -25,6 +25,27 @@ replace-requires-clause-outside g c =
     let w = folding_of q.growing.stage q.pair.from q.pair.to q.tight q.pair.apart c.in_ok-meeting.ensures c.in_ok-joins.ensures c.deref-3.ensures.value in
     let tops = tops_seen w c.in_ok-children.ensures c.deref.ensures.value c.deref-3.ensures.value in
     free_outside_of q.growing.stage w (c.deref-2.ensures.value ∙ tops) (c.deref-4.ensures.value ∙ tops) c.in_ok-set.ensures.ok
+
+pub drop_inside-requires-clause-from : goal.drop_inside-requires-clause-from
+drop_inside-requires-clause-from g c = λ i h.
+    let q = c.requires in
+    let w = folding_of q.growing.stage q.pair.from q.pair.to q.tight q.pair.apart c.in_ok-meeting.ensures c.in_ok-joins.ensures c.deref-5.ensures.value in
+    omega (arith, (folding_step w i h).from, q.growing.lists.mates_count, ap length c.deref_mut.ensures.value)
+
+pub drop_inside-requires-clause-to : goal.drop_inside-requires-clause-to
+drop_inside-requires-clause-to g c = λ i h.
+    let q = c.requires in
+    let w = folding_of q.growing.stage q.pair.from q.pair.to q.tight q.pair.apart c.in_ok-meeting.ensures c.in_ok-joins.ensures c.deref-5.ensures.value in
+    omega (arith, (folding_step w i h).to, q.growing.lists.mates_count, ap length c.deref_mut.ensures.value)
+
+pub drop_inside-requires-clause-ends : goal.drop_inside-requires-clause-ends
+drop_inside-requires-clause-ends g c = λ m t h paired same.
+    let q = c.requires in
+    let w = folding_of q.growing.stage q.pair.from q.pair.to q.tight q.pair.apart c.in_ok-meeting.ensures c.in_ok-joins.ensures c.deref-5.ensures.value in
+    let tops = tops_seen w c.in_ok-children.ensures c.deref.ensures.value c.deref-5.ensures.value in
+    folding_ends q.growing.stage w (c.deref-2.ensures.value ∙ tops) c.in_ok-set.ensures.ok m t
+    (omega (arith, h, q.growing.lists.mates_count, ap length c.deref_mut.ensures.value))
+    (rw c.deref_mut.ensures.value at paired) same
 
 pub returns : goal.returns
 returns g c =
