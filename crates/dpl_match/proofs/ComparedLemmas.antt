@@ -165,6 +165,11 @@ compared_join metric f s offset a b c old now new ab bc w v = record {
   within t (inl h) = inl h
   within t (inr h) = inr (omega (arith, h, bc))
 
+-- a part that ends where another number says
+pub compared_to : (metric : Table) (f : Sets) (s offset a b c : ℕ) (old new : List Neighbour) → b ≡ c
+    → AreCompared metric f s offset a b old new → AreCompared metric f s offset a c old new
+compared_to metric f s offset a b c old new e h = subst (λ (z : ℕ). AreCompared metric f s offset a z old new) e h
+
 -- one member
 pub compared_one : (metric : Table) (f : Sets) (s offset t : ℕ) (old new : List Neighbour) → length new ≡ length old
     → IsComparedAt metric f s offset old new t → ((k : ℕ) → k ≢ t → kept_in new k ≡ kept_in old k)

@@ -1,20 +1,42 @@
 //! The comparison of an outer member with what is kept for others.
 
-ghost use Rattle.std.specs.Prelude.{◌≡◌, ◌≢◌, ℕ, ◌+◌, ◌<◌, ◌≤◌, ◌^◌, true, length, slice_index};
+ghost use Rattle.std.specs.Prelude.{◌≡◌, ◌≢◌, ℕ, ◌+◌, ◌*◌, ◌<◌, ◌≤◌, ◌^◌, true, length, slice_index};
 ghost use Rattle.dpl_laminar.specs.Storing.{sets_of};
 ghost use Rattle.dpl_tree.specs.Metrics.{dist_of, radius_of, AreAround};
 ghost use Rattle.dpl_tree.specs.Rows.{distances_of};
 ghost use Rattle.dpl_match.specs.steps.Comparing.{sum_of, IsComparedAt, AreCompared, IsListCompared};
 ghost use Rattle.dpl_match.specs.steps.Nearest.{kept_in, key_in, no_key, compared, neighbour_at};
+ghost use Rattle.dpl_match.specs.steps.Bounds.{stands_in};
 ghost use Rattle.dpl_match.specs.steps.Nearest.{HasPlaces, HasSameMembers};
 
-use super::neighbours::{Neighbour, WIDTH};
+use super::neighbours::{GROUP, Neighbour, WIDTH};
 use super::stage::OuterTable;
 use dpl_tree::{Close, Matching, Metric, Row, Seen};
 
+/// Keeps a neighbour for t, which is nearer than what is kept so far, if it has another top.
+#[inline(never)]
+fn compare_nearer(matching: &Matching, table: &mut OuterTable, other: Neighbour, t: u32)
+    requires count { length table.old.near ≡ (sets_of matching.now.family).size }
+    requires other { other.member < (sets_of matching.now.family).size }
+    requires key { other.key < no_key }
+    requires t { t < (sets_of matching.now.family).size }
+    requires nearer { other.key < (stands_in table.old.near t).key }
+    ensures nearer { kept_in table.new.near t ≡
+        compared (sets_of matching.now.family) t (kept_in table.old.near t) other }
+    ensures others { (k : ℕ) → k ≢ t →
+        kept_in table.new.near k ≡ kept_in table.old.near k }
+    ensures count { length table.new.near ≡ length table.old.near }
+    ensures rest { table.new ≡ record table.old { near = table.new.near; front = table.new.front } }
+{
+    if matching.family.tops(t) == matching.family.tops(other.member) {
+        return;
+    }
+    table.keep(t, other);
+}
+
 /// Keeps a neighbour for t if it has another top and is nearer than what is kept so far. Few are
 /// nearer, so that is asked first.
-fn compare_one(matching: &Matching, table: &mut OuterTable, other: Neighbour, t: u32)
+fn compare_one(matching: &Matching, table: &mut OuterTable, other: Neighbour, t: usize)
     requires count { length table.old.near ≡ (sets_of matching.now.family).size }
     requires other { other.member < (sets_of matching.now.family).size }
     requires key { other.key < no_key }
@@ -30,10 +52,7 @@ fn compare_one(matching: &Matching, table: &mut OuterTable, other: Neighbour, t:
     if table.near.key(t) <= other.key {
         return;
     }
-    if matching.family.tops(t) == matching.family.tops(other.member) {
-        return;
-    }
-    table.keep(t, other);
+    compare_nearer(matching, table, other, t as u32);
 }
 
 /// The least ceiling over what is kept.
@@ -50,8 +69,8 @@ fn ceiling_of(metric: &Metric, table: &OuterTable) -> u64
     most
 }
 
-/// Compares an outer member with what is kept for the members from one on before another, by the row of its distances. Its
-/// keys are these and this offset.
+/// Compares an outer member with what is kept for so many members from one on, by the row of its distances. Its keys are
+/// these and this offset.
 #[inline(always)]
 fn compare_part(
     metric: &Metric,
@@ -60,8 +79,8 @@ fn compare_part(
     row: Row<'_>,
     s: u32,
     offset: u64,
-    start: u32,
-    end: u32,
+    start: usize,
+    count: usize,
 )
     requires size { (sets_of matching.now.family).size ≡ metric.now.size }
     requires near { length table.old.near ≡ metric.now.size }
@@ -69,16 +88,99 @@ fn compare_part(
     requires row { (t : ℕ) → t < metric.now.size → slice_index (distances_of row) t ≡ dist_of metric.now s t }
     requires s { s < metric.now.size }
     requires offset { offset ≤ 2 ^ 61 }
-    requires order { start ≤ end }
-    requires end { end ≤ metric.now.size }
-    ensures compared { AreCompared metric.now (sets_of matching.now.family) s offset start end
+    requires end { start + count ≤ metric.now.size }
+    ensures compared { AreCompared metric.now (sets_of matching.now.family) s offset start (start + count)
         table.old.near table.new.near }
     ensures rest { table.new ≡ record table.old { near = table.new.near; front = table.new.front } }
 {
     let _size = metric.size();
-    for t in start..end {
-        let key = row.at(t as usize) + offset;
+    for k in 0..count {
+        let t = start + k;
+        let key = row.at(t) + offset;
         compare_one(matching, table, Neighbour { member: s, key }, t);
+    }
+}
+
+/// Compares an outer member with what is kept for a group of members, by the row of its distances.
+#[inline(never)]
+fn compare_group(
+    metric: &Metric,
+    matching: &Matching,
+    table: &mut OuterTable,
+    row: Row<'_>,
+    s: u32,
+    offset: u64,
+    start: usize,
+)
+    requires size { (sets_of matching.now.family).size ≡ metric.now.size }
+    requires near { length table.old.near ≡ metric.now.size }
+    requires count { length (distances_of row) ≡ metric.now.size }
+    requires row { (t : ℕ) → t < metric.now.size → slice_index (distances_of row) t ≡ dist_of metric.now s t }
+    requires s { s < metric.now.size }
+    requires offset { offset ≤ 2 ^ 61 }
+    requires end { start + 8 ≤ metric.now.size }
+    ensures compared { AreCompared metric.now (sets_of matching.now.family) s offset start (start + 8)
+        table.old.near table.new.near }
+    ensures rest { table.new ≡ record table.old { near = table.new.near; front = table.new.front } }
+{
+    match row {
+        Row::Long(numbers) => {
+            compare_part(
+                metric,
+                matching,
+                table,
+                Row::Long(numbers),
+                s,
+                offset,
+                start,
+                GROUP,
+            )
+        }
+        Row::Short(numbers) => {
+            compare_part(
+                metric,
+                matching,
+                table,
+                Row::Short(numbers),
+                s,
+                offset,
+                start,
+                GROUP,
+            )
+        }
+    }
+}
+
+/// Compares an outer member with what is kept for so many groups of members from one on, by the row of its distances. Where
+/// what is kept for a group is as near, nothing is done for it.
+#[inline(always)]
+fn compare_groups(
+    metric: &Metric,
+    matching: &Matching,
+    table: &mut OuterTable,
+    row: Row<'_>,
+    s: u32,
+    offset: u64,
+    start: usize,
+    count: usize,
+)
+    requires size { (sets_of matching.now.family).size ≡ metric.now.size }
+    requires near { length table.old.near ≡ metric.now.size }
+    requires count { length (distances_of row) ≡ metric.now.size }
+    requires row { (t : ℕ) → t < metric.now.size → slice_index (distances_of row) t ≡ dist_of metric.now s t }
+    requires s { s < metric.now.size }
+    requires offset { offset ≤ 2 ^ 61 }
+    requires end { start + count * 8 ≤ metric.now.size }
+    ensures compared { AreCompared metric.now (sets_of matching.now.family) s offset start (start + count * 8)
+        table.old.near table.new.near }
+    ensures rest { table.new ≡ record table.old { near = table.new.near; front = table.new.front } }
+{
+    let _size = metric.size();
+    for j in 0..count {
+        let first = start + j * GROUP;
+        if !table.near.stay(row, first, GROUP, offset) {
+            compare_group(metric, matching, table, row, s, offset, first);
+        }
     }
 }
 
@@ -103,13 +205,12 @@ fn compare_parts(
         table.old.near table.new.near }
     ensures rest { table.new ≡ record table.old { near = table.new.near; front = table.new.front } }
 {
-    let n = metric.size() as u32;
-    let width = WIDTH as u32;
-    let parts = n / width;
+    let n = metric.size();
+    let parts = n / WIDTH;
     for i in 0..parts {
-        let start = i * width;
-        if !table.near.stay(row, start as usize, offset) {
-            compare_part(
+        let start = i * WIDTH;
+        if !table.near.stay(row, start, WIDTH, offset) {
+            compare_groups(
                 metric,
                 matching,
                 table,
@@ -117,11 +218,15 @@ fn compare_parts(
                 s,
                 offset,
                 start,
-                start + width,
+                WIDTH / GROUP,
             );
         }
     }
-    compare_part(metric, matching, table, row, s, offset, parts * width, n);
+    let start = parts * WIDTH;
+    let groups = (n - start) / GROUP;
+    compare_groups(metric, matching, table, row, s, offset, start, groups);
+    let end = start + groups * GROUP;
+    compare_part(metric, matching, table, row, s, offset, end, n - end);
 }
 
 /// Compares an outer member with what is kept for each member, by the row of its distances. Each kind of numbers has a loop
@@ -181,7 +286,12 @@ fn compare_listed(
     for i in 0..list.len() {
         let Close { member, far } = list[i];
         let key = far + offset;
-        compare_one(matching, table, Neighbour { member: s, key }, member);
+        compare_one(
+            matching,
+            table,
+            Neighbour { member: s, key },
+            member as usize,
+        );
     }
 }
 
@@ -202,7 +312,7 @@ fn compare_sums(metric: &Metric, matching: &Matching, table: &mut OuterTable, s:
     let least = metric.radius(s) + offset;
     for t in 0..n {
         let key = metric.radius(t) + least;
-        compare_one(matching, table, Neighbour { member: s, key }, t);
+        compare_one(matching, table, Neighbour { member: s, key }, t as usize);
     }
 }
 

@@ -26,6 +26,9 @@ pub const NOBODY: Neighbour = Neighbour {
 /// How many members are asked for at once.
 pub const WIDTH: usize = 32;
 
+/// How many of these are asked for at once where not all of them stay.
+pub const GROUP: usize = 8;
+
 /// What bounds are counted from, somewhat below the least level.
 const BASE: u64 = (1 << 60) - (1 << 14);
 
@@ -71,40 +74,40 @@ fn bound_of(key: u64) -> u16
 
 /// Whether so many bounds from a place on are less than the numbers there and another one together.
 #[inline(always)]
-fn are_less(bounds: &[u16], numbers: &[u16], start: usize, more: u16) -> bool
-    requires bounds { start + 32 ≤ length bounds.now }
-    requires numbers { start + 32 ≤ length numbers.now }
-    ensures { result ≡ true → (k : ℕ) → k < 32 →
+fn are_less(bounds: &[u16], numbers: &[u16], start: usize, width: usize, more: u16) -> bool
+    requires bounds { start + width ≤ length bounds.now }
+    requires numbers { start + width ≤ length numbers.now }
+    ensures { result ≡ true → (k : ℕ) → k < width →
         slice_index bounds.now (start + k) < min (slice_index numbers.now (start + k) + more) 65535 }
 {
-    let known = &bounds[start..start + WIDTH];
-    let far = &numbers[start..start + WIDTH];
-    let mut least: u16 = 65535;
-    for k in 0..WIDTH {
-        least = least.min(far[k].saturating_add(more).saturating_sub(known[k]));
+    let known = &bounds[start..start + width];
+    let far = &numbers[start..start + width];
+    let mut are = true;
+    for k in 0..width {
+        are &= known[k] < far[k].saturating_add(more);
     }
-    least > 0
+    are
 }
 
 /// Whether so many keys from a place on are no more than the numbers there and an offset together. The highest bit of a
 /// difference shows where one is.
 #[inline(always)]
-fn are_no_more(keys: &[u64], numbers: &[u64], start: usize, offset: u64) -> bool
-    requires keys { start + 32 ≤ length keys.now }
-    requires numbers { start + 32 ≤ length numbers.now }
+fn are_no_more(keys: &[u64], numbers: &[u64], start: usize, width: usize, offset: u64) -> bool
+    requires keys { start + width ≤ length keys.now }
+    requires numbers { start + width ≤ length numbers.now }
     requires low { All (λ key. key ≤ 2 ^ 62) keys.now }
     requires small { All (λ x. x ≤ 2 ^ 50) numbers.now }
     requires offset { offset ≤ 2 ^ 61 }
-    ensures { result ≡ true → (k : ℕ) → k < 32 →
+    ensures { result ≡ true → (k : ℕ) → k < width →
         slice_index keys.now (start + k) ≤ slice_index numbers.now (start + k) + offset }
 {
-    let known = &keys[start..start + WIDTH];
-    let far = &numbers[start..start + WIDTH];
-    let mut more: u64 = 0;
-    for k in 0..WIDTH {
-        more += (far[k] + offset).wrapping_sub(known[k]) >> 63;
+    let known = &keys[start..start + width];
+    let far = &numbers[start..start + width];
+    let mut bits: u64 = 0;
+    for k in 0..width {
+        bits |= (far[k] + offset).wrapping_sub(known[k]);
     }
-    more == 0
+    bits < 1 << 63
 }
 
 impl Neighbours {
@@ -129,11 +132,11 @@ impl Neighbours {
 
     /// The key of what stands for a member.
     #[inline(always)]
-    pub fn key(&self, member: u32) -> u64
+    pub fn key(&self, member: usize) -> u64
         requires { member < length self.now }
         ensures { result ≡ (stands_in self.now member).key }
     {
-        self.keys[member as usize]
+        self.keys[member]
     }
 
     /// Keeps another neighbour for a member.
@@ -151,22 +154,22 @@ impl Neighbours {
     /// Whether what is kept for so many members from a place on is as near as one whose keys are the distances of a row and
     /// an offset. Short ones are compared with bounds alone, so that it may say no where it is.
     #[inline(always)]
-    pub fn stay(&self, row: Row<'_>, start: usize, offset: u64) -> bool
-        requires kept { start + 32 ≤ length self.now }
-        requires row { start + 32 ≤ length (distances_of row) }
+    pub fn stay(&self, row: Row<'_>, start: usize, width: usize, offset: u64) -> bool
+        requires kept { start + width ≤ length self.now }
+        requires row { start + width ≤ length (distances_of row) }
         requires small { All (λ x. x ≤ 2 ^ 50) (distances_of row) }
         requires offset { offset ≤ 2 ^ 61 }
-        ensures { result ≡ true → (k : ℕ) → k < 32 →
+        ensures { result ≡ true → (k : ℕ) → k < width →
             (stands_in self.now (start + k)).key ≤ slice_index (distances_of row.entry) (start + k) + offset }
     {
         match row {
-            Row::Long(numbers) => are_no_more(&self.keys, numbers, start, offset),
+            Row::Long(numbers) => are_no_more(&self.keys, numbers, start, width, offset),
             Row::Short(numbers) => {
                 if offset < BASE {
                     return false;
                 }
                 let more = (offset - BASE).min(65534) as u16 + 1;
-                are_less(&self.bounds, numbers, start, more)
+                are_less(&self.bounds, numbers, start, width, more)
             }
         }
     }

@@ -49,7 +49,7 @@ impl OuterTable {
         requires { member < length self.now.near }
         ensures { result ≡ key_in (kept_in self.now.near member) }
     {
-        self.near.key(member)
+        self.near.key(member as usize)
     }
 
     /// What is kept for a member.
