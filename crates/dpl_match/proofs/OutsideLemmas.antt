@@ -1,14 +1,15 @@
 -- The members outside of a top set, and the nearest of them.
-use Rattle.std.proofs.Common.{arith, ◌≡◌, ℕ, ◌+◌, ◌-◌, ◌^◌, ◌<◌, ◌≤◌, ◌⊎◌, sym, ap, ◌∙◌, subst, Bool, cond, inl, inr, eqb}
+use Rattle.std.proofs.Common.{arith, ◌≡◌, ℕ, ◌+◌, ◌-◌, ◌^◌, ◌<◌, ◌≤◌, ◌⊎◌, refl, sym, ap, ◌∙◌, subst, Bool, cond, inl, inr, eqb}
 use Rattle.std.proofs.Common.{Some, None, List, length, get_or, ◌++◌, ◌∷◌, [], length-append}
 use Rattle.std.proofs.lemmas.Bool.{cases_eq, cases_lt, cases_Bool, eqb-true, eqb-false}
 use Rattle.std.proofs.lemmas.List.{get_or_append_left, get_or-append-add}
 use Rattle.std.proofs.lemmas.Option.{same_Some}
+use Rattle.dpl_match.specs.declared.renewing.Other.{Other}
 use Rattle.dpl_match.specs.declared.renewing.Outsider.{Outsider}
 use Rattle.dpl_match.specs.declared.neighbours.Neighbour.{Neighbour}
 use Rattle.dpl_match.specs.steps.Nearest.{no_key, kept_of, member_of, level_of}
-use Rattle.dpl_match.specs.steps.Nearest.{AreTotals, HasKey, IsMeasured, IsNear, IsApart, IsOutside, AreOutside}
-use Rattle.dpl_match.specs.steps.Outsiders.{IsLeastOutside, IsFoundOutside, AreNoNearer}
+use Rattle.dpl_match.specs.steps.Nearest.{AreTotals, HasKey, IsMeasured, IsNear, IsApart, IsOutside}
+use Rattle.dpl_match.specs.steps.Outsiders.{IsLeastOutside, IsOther, AreOutside, IsFoundOutside, AreNoNearer}
 use Rattle.dpl_match.specs.steps.Scans.{Members, members_of}
 use Rattle.dpl_match.proofs.NearLemmas.{stands_measured}
 use Rattle.dpl_tree.specs.declared.matching.Matching.{Matching}
@@ -17,13 +18,13 @@ use Rattle.dpl_tree.specs.Metrics.{Table, IsMetric, IsTable, dist_of, radius_of}
 -- ---- the list
 
 -- no member is below the first
-pub outside_none : (m : Members) (known : ℕ → Bool) (x : ℕ) → AreOutside m known x 0 []
-outside_none m known x = record { each = λ j h. absurd (omega arith); all = λ s h o. absurd (omega arith) }
+pub outside_none : (m : Members) (known : ℕ → Bool) (level x : ℕ) → AreOutside m known level x 0 []
+outside_none m known level x = record { each = λ j h. absurd (omega arith); all = λ s h o. absurd (omega arith) }
 
 -- a member that is not listed or lies inside changes nothing
-pub outside_passed : (m : Members) (known : ℕ → Bool) (x k : ℕ) (list : List ℕ)
-    → (IsOutside m known x k → ⊥) → AreOutside m known x k list → AreOutside m known x (k + 1) list
-outside_passed m known x k list none h = record {
+pub outside_passed : (m : Members) (known : ℕ → Bool) (level x k : ℕ) (list : List Other)
+    → (IsOutside m known x k → ⊥) → AreOutside m known level x k list → AreOutside m known level x (k + 1) list
+outside_passed m known level x k list none h = record {
   each = h.each;
   all = λ s l o. elim (cases_eq s k) [
     | inl e ↦ absurd (none (subst (IsOutside m known x) e o))
@@ -31,22 +32,32 @@ outside_passed m known x k list none h = record {
   ];
 }
 
--- the last item
-at_end : (list : List ℕ) (s : ℕ) → get_or (list ++ s ∷ []) (length list) 0 ≡ s
-at_end list s = ap (λ z. get_or (list ++ s ∷ []) z 0) (omega arith) ∙ get_or-append-add list (s ∷ []) 0 0
+abbrev pub no_other : Other
+no_other = record { member = 0; offset = 0 }
 
-pub outside_taken : (m : Members) (known : ℕ → Bool) (x k : ℕ) (list : List ℕ)
-    → IsOutside m known x k → AreOutside m known x k list → AreOutside m known x (k + 1) (list ++ k ∷ [])
-outside_taken m known x k list out h = record {
+-- the last item
+at_end : (list : List Other) (w : Other) → get_or (list ++ w ∷ []) (length list) no_other ≡ w
+at_end list w = ap (λ z. get_or (list ++ w ∷ []) z no_other) (omega arith) ∙ get_or-append-add list (w ∷ []) 0 no_other
+
+pub outside_taken : (m : Members) (known : ℕ → Bool) (level x k : ℕ) (list : List Other) (w : Other) → w.member ≡ k
+    → IsOther m known level x w → AreOutside m known level x k list → AreOutside m known level x (k + 1) (list ++ w ∷ [])
+outside_taken m known level x k list w is out h = record {
   each = λ j l. elim (cases_lt j (length list)) [
-    | inl g ↦ subst (IsOutside m known x) (sym (get_or_append_left list (k ∷ []) 0 j g)) (h.each j g)
-    | inr g ↦ (let e : j ≡ length list = omega (arith, l, g, length-append list (k ∷ [])) in
-        subst (IsOutside m known x) (sym (ap (λ z. get_or (list ++ k ∷ []) z 0) e ∙ at_end list k)) out)
+    | inl g ↦ subst (IsOther m known level x) (sym (get_or_append_left list (w ∷ []) no_other j g)) (h.each j g)
+    | inr g ↦ (let e : j ≡ length list = omega (arith, l, g, length-append list (w ∷ [])) in
+        subst (IsOther m known level x) (sym (ap (λ z. get_or (list ++ w ∷ []) z no_other) e ∙ at_end list w)) out)
   ];
   all = λ s l o. elim (cases_eq s k) [
-    | inl e ↦ (length list, omega (arith, length-append list (k ∷ [])), at_end list k ∙ sym e)
-    | inr ne ↦ (let p = h.all s (omega (arith, l, ne)) o in
-        (p.0, omega (arith, p.1, length-append list (k ∷ [])), get_or_append_left list (k ∷ []) 0 p.0 p.1 ∙ p.2))
+    | inl e ↦ (
+      length list,
+      omega (arith, length-append list (w ∷ [])),
+      ap (λ (z : Other). z.member) (at_end list w) ∙ is ∙ sym e,
+    )
+    | inr ne ↦ (let p = h.all s (omega (arith, l, ne)) o in (
+      p.0,
+      omega (arith, p.1, length-append list (w ∷ [])),
+      ap (λ (z : Other). z.member) (get_or_append_left list (w ∷ []) no_other p.0 p.1) ∙ p.2,
+    ))
   ];
 }
 
@@ -170,9 +181,10 @@ none_below m known origin t key w near has le s out =
     omega (arith, near.least s out.below out.listed out.apart, has.1, le)
 
 -- no member outside has a key below one that none of the list goes below
-pub none_listed : (m : Members) (known : ℕ → Bool) (origin t key : ℕ) (list : List ℕ)
-    → AreOutside m known (m.sets.top t) m.count list
-    → ((j : ℕ) → j < length list → key + m.total (get_or list j 0) ≤ m.dist (get_or list j 0) t + level_of m origin)
+pub none_listed : (m : Members) (known : ℕ → Bool) (origin t key : ℕ) (list : List Other)
+    → AreOutside m known (level_of m origin) (m.sets.top t) m.count list
+    → ((j : ℕ) → j < length list → key + m.total (get_or list j no_other).member
+    ≤ m.dist (get_or list j no_other).member t + level_of m origin)
     → AreNoNearer m known origin t key
 none_listed m known origin t key list h least s out =
     let p = h.all s out.below out in
@@ -193,3 +205,20 @@ found_next metric matching known origin t s x sum level best r totals me ht ho o
     let key : HasKey m (level_of m origin) t w = key_read metric matching t s x sum level origin totals me.metric ht out.below ho ex es el in
     let q = nearer_least best w r is in
     (found_nearer m known origin t best w r found out key is, q.0, omega (arith, q.1, key.1))
+
+-- so it is for one of the list, whose offset stands there
+pub found_listed : (metric : Table) (matching : Matching) (known : ℕ → Bool) (origin t x : ℕ) (one : Other) (best r : Neighbour)
+    → AreTotals metric matching → IsTable metric → t < metric.size → origin < metric.size
+    → IsOther (members_of metric matching) known (level_of (members_of metric matching) origin)
+    ((members_of metric matching).sets.top t) one
+    → x ≡ dist_of metric t one.member → IsFoundOutside (members_of metric matching) known origin t best
+    → IsNearerOf best (record { member = one.member; key = x + one.offset }) r
+    → IsFoundOutside (members_of metric matching) known origin t r × (r.key ≤ best.key)
+    × (r.key + get_or matching.sums.items one.member 0
+    ≤ dist_of metric one.member t + level_of (members_of metric matching) origin)
+found_listed metric matching known origin t x one best r totals me ht ho other ex found is =
+    let sum : ℕ = get_or matching.sums.items one.member 0 in
+    let level : ℕ = 2 ^ 60 + get_or matching.sums.items origin 0 in
+    let e : one.offset ≡ level - sum = omega (arith, other.offset) in
+    found_next metric matching known origin t one.member x sum level best r totals me ht ho other.outside ex refl refl found
+    (subst (λ (z : ℕ). IsNearerOf best (record { member = one.member; key = x + z }) r) e is)

@@ -1,17 +1,19 @@
 //! The search for what is kept anew, where it has come into the same top.
 
-ghost use Rattle.std.specs.Prelude.{◌≡◌, ◌≢◌, ℕ, ◌+◌, ◌<◌, ◌≤◌, ◌^◌, ◌⊎◌, Some, None, length, slice_index, slice_set, IfOk, OnOk};
+ghost use Rattle.std.specs.Prelude.{◌≡◌, ◌≢◌, ℕ, ◌+◌, ◌<◌, ◌≤◌, ◌^◌, ◌⊎◌, true, false, Some, None};
+ghost use Rattle.std.specs.Prelude.{length, slice_index, slice_set, IfOk, OnOk};
 ghost use Rattle.dpl_laminar.specs.Storing.{sets_of};
 ghost use Rattle.dpl_tree.specs.Metrics.{dist_of, radius_of, AreAround};
+ghost use Rattle.dpl_tree.specs.Rows.{distances_of};
 ghost use Rattle.dpl_match.specs.steps.Nearest.{is_known, near_in, kept_in, kept_of, member_of, level_of, no_key};
-ghost use Rattle.dpl_match.specs.steps.Nearest.{IsNear, IsMeasured, IsOutside, AreOutside, IsApart};
+ghost use Rattle.dpl_match.specs.steps.Nearest.{IsNear, IsMeasured, IsOutside, IsApart};
 ghost use Rattle.dpl_match.specs.steps.Nearest.{HasPlaces, HasSameMembers, AreTotals};
-ghost use Rattle.dpl_match.specs.steps.Outsiders.{IsLeastOutside, AreOthers, IsFoundOutside, AreNoNearer};
+ghost use Rattle.dpl_match.specs.steps.Outsiders.{IsLeastOutside, AreOutside, AreOthers, IsFoundOutside, AreNoNearer};
 ghost use Rattle.dpl_match.specs.steps.Scans.{members_of};
 
 use super::neighbours::{NOBODY, Neighbour};
 use super::stage::OuterTable;
-use dpl_tree::{Close, Matching, Metric, Seen};
+use dpl_tree::{Close, Matching, Metric, Row, Seen};
 use std::alloc::{AllocError, Global};
 
 /// The known member outside of a top set whose radius and offset together are least. The offset is the level less the sum
@@ -20,6 +22,19 @@ use std::alloc::{AllocError, Global};
 pub struct Outsider {
     pub member: u32,
     pub reach: u64,
+}
+
+/// What stands where there is none.
+const NO_OUTSIDER: Outsider = Outsider {
+    member: 0,
+    reach: NOBODY.key,
+};
+
+/// A known member outside of a top set, and its offset: the level less the sum over it.
+#[derive(Clone, Copy)]
+pub struct Other {
+    pub member: u32,
+    pub offset: u64,
 }
 
 /// The one of the least reach so far, or another member if that is known, lies outside of the top set and has less.
@@ -64,10 +79,7 @@ fn least_outside(metric: &Metric, matching: &Matching, table: &OuterTable, top: 
 {
     let level = table.level(matching);
     let n = metric.size() as u32;
-    let mut best = Outsider {
-        member: 0,
-        reach: NOBODY.key,
-    };
+    let mut best = NO_OUTSIDER;
     for s in 0..n {
         best = lesser_outside(metric, matching, table, top, level, best, s);
     }
@@ -199,22 +211,25 @@ fn search_near(
     nearer(best, Neighbour { member, key })
 }
 
-/// The nearest to t of a list of the known members that have another top, none of which has a key below the least one, so
-/// that the first that has no greater one ends the search.
+/// The nearest to t of a list of the known members that have another top, by the row of its distances. None of them has a key
+/// below the least one, so that the first that has no greater one ends the search.
 fn search_listed(
     metric: &Metric,
     matching: &Matching,
     table: &OuterTable,
-    list: &[u32],
+    row: Row<'_>,
+    list: &[Other],
     t: u32,
     least: u64,
 ) -> Neighbour
     requires totals { AreTotals metric.now matching.now }
     requires table { HasPlaces metric.now table.now }
+    requires count { length (distances_of row) ≡ metric.now.size }
+    requires row { (s : ℕ) → s < metric.now.size → slice_index (distances_of row) s ≡ dist_of metric.now t s }
     requires t { t < metric.now.size }
-    requires list { AreOutside (members_of metric.now matching.now)
-        (is_known table.now.known.items) ((sets_of matching.now.family).top t) metric.now.size
-        list.now }
+    requires list { AreOutside (members_of metric.now matching.now) (is_known table.now.known.items)
+        (level_of (members_of metric.now matching.now) table.now.origin) ((sets_of matching.now.family).top t)
+        metric.now.size list.now }
     requires least { AreNoNearer (members_of metric.now matching.now) (is_known table.now.known.items)
         table.now.origin t least }
     ensures near { IsNear (members_of metric.now matching.now) (is_known table.now.known.items) t
@@ -224,24 +239,26 @@ fn search_listed(
     ensures apart { IsApart (sets_of matching.now.family) t (member_of (kept_of result)) }
 {
     let _size = metric.size();
-    let level = table.level(matching);
     let mut best = NOBODY;
     for i in 0..list.len() {
-        let member = list[i];
-        let key = metric.dist(t, member) + (level - matching.sum(member));
-        best = nearer(best, Neighbour { member, key });
-        if best.key <= least {
-            return best;
+        let Other { member, offset } = list[i];
+        let key = row.at(member as usize) + offset;
+        if key < best.key {
+            best = Neighbour { member, key };
+            if key <= least {
+                return best;
+            }
         }
     }
     best
 }
 
-/// The known members outside of a top set, once they were looked for, and that of them whose reach is least.
+/// The known members outside of a top set, once they were looked for: a list of them where there is a table, or else that
+/// whose reach is least.
 #[derive(Drop)]
 pub struct Others {
     pub top: Option<u32>,
-    pub list: Vec<u32>,
+    pub list: Vec<Other>,
     pub outsider: Outsider,
 }
 
@@ -253,10 +270,7 @@ impl Others {
         Others {
             top: None,
             list: Vec::new(alloc),
-            outsider: Outsider {
-                member: 0,
-                reach: 0,
-            },
+            outsider: NO_OUTSIDER,
         }
     }
 }
@@ -274,10 +288,10 @@ fn search(
     requires totals { AreTotals metric.now matching.now }
     requires table { HasPlaces metric.now table.now }
     requires t { t < metric.now.size }
-    requires list { AreOutside (members_of metric.now matching.now)
-        (is_known table.now.known.items) ((sets_of matching.now.family).top t) metric.now.size
-        others.now.list.items }
-    requires outsider { IsLeastOutside metric.now (members_of metric.now matching.now)
+    requires list { metric.now.is_full ≡ true → AreOutside (members_of metric.now matching.now)
+        (is_known table.now.known.items) (level_of (members_of metric.now matching.now) table.now.origin)
+        ((sets_of matching.now.family).top t) metric.now.size others.now.list.items }
+    requires outsider { metric.now.is_full ≡ false → IsLeastOutside metric.now (members_of metric.now matching.now)
         (level_of (members_of metric.now matching.now) table.now.origin)
         (is_known table.now.known.items) ((sets_of matching.now.family).top t) metric.now.size
         others.now.outsider }
@@ -291,7 +305,7 @@ fn search(
 {
     match metric.seen(t) {
         Seen::Near(list) => search_near(metric, matching, table, list, &others.outsider, t),
-        Seen::All(_) => search_listed(metric, matching, table, &others.list, t, least),
+        Seen::All(row) => search_listed(metric, matching, table, row, &others.list, t, least),
     }
 }
 
@@ -301,16 +315,18 @@ fn put_outside(
     matching: &Matching,
     table: &OuterTable,
     top: u32,
+    level: u64,
     s: u32,
-    list: &mut Vec<u32>,
+    list: &mut Vec<Other>,
 ) -> Result<(), AllocError>
     requires totals { AreTotals metric.now matching.now }
     requires table { HasPlaces metric.now table.now }
+    requires level { level ≡ level_of (members_of metric.now matching.now) table.now.origin }
     requires s { s < metric.now.size }
-    requires before { AreOutside (members_of metric.now matching.now)
-        (is_known table.now.known.items) top s list.old.items }
-    ensures { OnOk result (AreOutside (members_of metric.now matching.now)
-        (is_known table.now.known.items) top (s + 1) list.new.items) }
+    requires before { AreOutside (members_of metric.now matching.now) (is_known table.now.known.items) level top s
+        list.old.items }
+    ensures { OnOk result (AreOutside (members_of metric.now matching.now) (is_known table.now.known.items) level top
+        (s + 1) list.new.items) }
 {
     let _size = metric.size();
     if !table.has(s) {
@@ -319,7 +335,8 @@ fn put_outside(
     if matching.family.tops(s) == top {
         return Ok(());
     }
-    list.push(s)?;
+    let offset = level - matching.sum(s);
+    list.push(Other { member: s, offset })?;
     Ok(())
 }
 
@@ -330,18 +347,49 @@ fn outside(
     matching: &Matching,
     table: &OuterTable,
     top: u32,
-) -> Result<Vec<u32>, AllocError>
+) -> Result<Vec<Other>, AllocError>
     requires totals { AreTotals metric.now matching.now }
     requires table { HasPlaces metric.now table.now }
-    ensures { IfOk result (λ list. AreOutside (members_of metric.now matching.now)
-        (is_known table.now.known.items) top metric.now.size list.items) }
+    ensures { IfOk result (λ list. AreOutside (members_of metric.now matching.now) (is_known table.now.known.items)
+        (level_of (members_of metric.now matching.now) table.now.origin) top metric.now.size list.items) }
 {
+    let level = table.level(matching);
     let n = metric.size() as u32;
     let mut list = Vec::new(alloc);
     for s in 0..n {
-        put_outside(metric, matching, table, top, s, &mut list)?;
+        put_outside(metric, matching, table, top, level, s, &mut list)?;
     }
     Ok(list)
+}
+
+/// The others outside of a top set.
+fn others_outside(
+    alloc: Global,
+    metric: &Metric,
+    matching: &Matching,
+    table: &OuterTable,
+    top: u32,
+) -> Result<Others, AllocError>
+    requires totals { AreTotals metric.now matching.now }
+    requires table { HasPlaces metric.now table.now }
+    ensures others { IfOk result (AreOthers metric.now (members_of metric.now matching.now) table.now) }
+    ensures top { IfOk result (λ others. others.top ≡ Some top) }
+{
+    match metric.seen(table.origin) {
+        Seen::All(_) => {
+            let list = outside(alloc, metric, matching, table, top)?;
+            Ok(Others {
+                top: Some(top),
+                list,
+                outsider: NO_OUTSIDER,
+            })
+        }
+        Seen::Near(_) => Ok(Others {
+            top: Some(top),
+            list: Vec::new(alloc),
+            outsider: least_outside(metric, matching, table, top),
+        }),
+    }
 }
 
 /// Looks for the others outside of a top set, if they are not those that were looked for last.
@@ -362,13 +410,7 @@ fn turn_to(
     if others.top == Some(top) {
         return Ok(());
     }
-    let list = outside(alloc, metric, matching, table, top)?;
-    let outsider = least_outside(metric, matching, table, top);
-    *others = Others {
-        top: Some(top),
-        list,
-        outsider,
-    };
+    *others = others_outside(alloc, metric, matching, table, top)?;
     Ok(())
 }
 
