@@ -1,9 +1,19 @@
-use Rattle.std.proofs.Common.{sym}
+use Rattle.std.proofs.Common.{sym, ◌∙◌}
 use Rattle.dpl_tree.specs.steps.Forests.{outer}
-use Rattle.dpl_match.proofs.NearLemmas.{sums_small}
+use Rattle.dpl_tree.specs.Views.{place_in}
+use Rattle.dpl_match.specs.steps.Scans.{members_of}
+use Rattle.dpl_match.proofs.NearLemmas.{sums_small, unlisted_passed}
 use Rattle.dpl_match.proofs.KeptLemmas.{kept_passed}
 use Rattle.dpl_match.proofs.StageLemmas.{turn_renewed}
 use Rattle.dpl_match.proofs.scan.outer_step.Goals as goal
+
+pub returns-then-not-has-clause-best : goal.returns-then-not-has-clause-best
+returns-then-not-has-clause-best c = (
+  unlisted_passed (members_of c.args.metric.now c.args.matching.now) (place_in c.args.stage.now.tree.labels.items)
+      c.args.stage.now.table c.args.t c.args.best.now.pair c.requires.start.nearest c.requires.to
+      (sym c.has.ensures ∙ c.if-not-has.true) c.requires.best.0,
+  c.requires.best.1,
+)
 
 pub returns-then-is_behind-clause-best : goal.returns-then-is_behind-clause-best
 returns-then-is_behind-clause-best c = kept_passed c.requires.start c.size-size.ensures.table.metric outer c.args.t c.args.level
@@ -32,4 +42,5 @@ returns-clause-start c =
     (rw (sym r.rest.origin) r.measured) r.kept
 
 pub returns-clause-best : goal.returns-clause-best
-returns-clause-best c = c.nearest_step.ensures outer c.requires.outer c.requires.best
+returns-clause-best c = c.nearest_step.ensures outer
+    (c.requires.start.nearest.near_outer.still c.args.t c.requires.to (sym c.has.ensures ∙ c.if-not-has.false)) c.requires.best
