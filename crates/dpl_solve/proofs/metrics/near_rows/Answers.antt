@@ -13,6 +13,3 @@ pub returns : goal.returns
 returns c =
     found_rows c.args.dual.now.crosses c.args.terminals.now c.args.radii.now c.find_all.new.found c.in_ok-near.near c.requires.sizes
     (rw (c.deref.ensures.value, c.deref-2.ensures.value) at c.in_ok-near.ensures) (c.in_ok-few.ensures c.if-not-few.false)
-
-pub sees_many-requires-clause-noted : goal.sees_many-requires-clause-noted
-sees_many-requires-clause-noted c = rw c.as_slice.ensures.value (c.in_ok-note_all.ensures (terminals_apart _ _ c.requires.dual c.requires.terminals))
