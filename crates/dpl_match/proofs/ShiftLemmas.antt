@@ -10,16 +10,16 @@ use Rattle.dpl_tree.specs.Metrics.{Table, IsMetric, dist_of}
 use Rattle.dpl_tree.specs.Stages.{IsStage, Advances, Ends, potential}
 use Rattle.dpl_tree.specs.steps.Growth.{IsGrowing, IsNext}
 use Rattle.dpl_tree.specs.Views.{forest_of, place_in}
-use Rattle.dpl_tree.proofs.Widening.{widens_back}
+use Rattle.dpl_tree.proofs.Widening.{widens_back, widened_back}
 use Rattle.dpl_match.specs.declared.scan.Event.{Event}
 use Rattle.dpl_match.specs.declared.stage.Stage.{Stage}
 use Rattle.dpl_match.specs.steps.Going.{IsAtTurn}
 use Rattle.dpl_match.specs.steps.Nearest.{AreNear}
 use Rattle.dpl_match.specs.steps.Scans.{members_of}
 use Rattle.dpl_match.specs.declared.turning_on.Turned.{Turned}
-use Rattle.dpl_match.specs.steps.Turns.{IsDueNow, IsChosen, IfGrown, IsGrownBy}
+use Rattle.dpl_match.specs.steps.Turns.{IsDueNow, IsChosen, IfWidened, IsWidenedBy}
 use Rattle.dpl_match.proofs.NearLemmas.{moved}
-use Rattle.dpl_match.proofs.TurnLemmas.{totals_enough, turned_stage, turned_totals, advance_back, end_back, shifts_few, grown_as}
+use Rattle.dpl_match.proofs.TurnLemmas.{totals_enough, turned_stage, turned_totals, advance_back, end_back, shifts_few, widened_as}
 
 -- no total of an inner member falls below 0
 pub shift_enough : {metric : Table} {m : Matching} {s : Stage} {by : ℕ} {event : Event} → IsAtTurn metric m s
@@ -34,18 +34,6 @@ shift_enough {metric} {m} {by} start ch k h p =
     let r = tops.top_range k hk in
     omega (arith, totals_enough metric.size f k by hk r (tops.top_holds k hk) (ch.enough (f.top k) r p), lists.sum k hk)
 
--- growth after a change of values is growth from before it
-grown_back : (metric : Table) (m next last : Matching) (t u : Tree) (o : ℕ)
-    → sets_of next.family ≡ record (sets_of m.family) { value = (sets_of next.family).value }
-    → IsGrownBy metric next t last u o → IsGrownBy metric m t last u o
-grown_back metric m next last t u o e w =
-    let top = λ (k : ℕ). (let z : (sets_of next.family).top k ≡ (sets_of m.family).top k = ap (λ (y : Sets). y.top k) e in z) in
-    record {
-      below = w.below;
-      tops = λ k. w.tops k ∙ top k;
-      others = λ k h p ne. ap (place_in t.labels.items) (sym (top k)) ∙ w.others k h p ne;
-    }
-
 -- a matching has become the next one by a change of values: the event after it starts from this, and
 -- what holds after that event holds of the state before the change
 pub record IsShifted (metric : Table) (m next : Matching) (s : Stage) (event : Event) (before steps : ℕ) : Type 0 where
@@ -55,8 +43,8 @@ pub record IsShifted (metric : Table) (m next : Matching) (s : Stage) (event : E
   pub left : potential metric.size (sets_of next.family) (place_in s.tree.labels.items) ≡
       potential metric.size (sets_of m.family) (place_in s.tree.labels.items)
   pub on : (last : Matching) (u : Tree) → IsNext metric next s.tree last u → IsNext metric m s.tree last u
-  pub grows : (r : Turned) (last : Matching) (u : Tree) → IfGrown r (IsGrownBy metric next s.tree last u) →
-      IfGrown r (IsGrownBy metric m s.tree last u)
+  pub widens_by : (r : Turned) (last : Matching) (u : Tree) → IfWidened r (IsWidenedBy metric next s.tree last u) →
+      IfWidened r (IsWidenedBy metric m s.tree last u)
   pub ends : (h : Sets) (new : ℕ → Option ℕ) → Ends metric.size (dist_of metric) (sets_of next.family) (forest_of s.tree next.mates.items) h new →
       Ends metric.size (dist_of metric) (sets_of m.family) (forest_of s.tree m.mates.items) h new
   pub nears : (last : Matching) (u : Tree) → IsNext metric next s.tree last u → last.sums ≡ next.sums →
@@ -107,8 +95,8 @@ shifted {metric} {m} {next} {s} {by} {event} me start ch same values fam sum mat
         ranks = w.ranks;
         widens = widens last u w;
       };
-      grows = λ r last u w. grown_as r (IsGrownBy metric next s.tree last u) (IsGrownBy metric m s.tree last u)
-          (λ o. grown_back metric m next last s.tree u o same) w;
+      widens_by = λ r last u w. widened_as r (IsWidenedBy metric next s.tree last u) (IsWidenedBy metric m s.tree last u)
+          (λ o. widened_back n f g (sets_of last.family) _ _ o same) w;
       ends = λ h new w. end_back n f g h dist x new same (subst (λ (z : List (Option ℕ)). Ends n dist g (forest_of s.tree z) h new) em w);
       nears = λ last u w e. rw e (moved n f (sets_of last.family) x.place (place_in u.labels.items) dist (λ k. get_or m.sums.items k 0)
           (λ k. get_or next.sums.items k 0) s.table by start.table.origin_below start.nearest.near_outer (widens last u w) total);

@@ -1,15 +1,16 @@
 -- Outer members stay outer through each event.
 use Rattle.std.proofs.Common.{arith, ◌≡◌, ◌≢◌, ℕ, zero, suc, ◌+◌, ◌*◌, ◌/◌, ◌<◌, refl, sym, ap, ◌∙◌, subst, inl, inr}
-use Rattle.std.proofs.Common.{Option, List, length, get_or, set, get_or-set_other}
+use Rattle.std.proofs.Common.{Option, true, List, [], ◌∷◌, ◌++◌, length, get_or, set, get_or-set_other}
 use Rattle.std.proofs.lemmas.Bool.{cases_eq, cases_Bool}
 use Rattle.dpl_laminar.specs.Families.{Sets, has}
 use Rattle.dpl_laminar.specs.Changes.{Gathers, IsShrunk, IsExpanded}
-use Rattle.dpl_laminar.proofs.Numbers.{true_false, some_none}
+use Rattle.dpl_laminar.proofs.Numbers.{true_false, some_none, has_head, has_tail}
 use Rattle.dpl_tree.specs.declared.tree.Tree.{Tree}
 use Rattle.dpl_tree.specs.declared.tree.Label.TheVariants.{Free, Outer, Inner}
 use Rattle.dpl_tree.specs.steps.Forests.{Place, free, outer, Forest, Grows, Folds, Opens}
 use Rattle.dpl_tree.specs.Stages.{IsStage}
-use Rattle.dpl_tree.specs.Stages.{Widens}
+use Rattle.dpl_tree.specs.Stages.{Widens, WidensBy}
+use Rattle.dpl_tree.specs.steps.Joins.{tops_from}
 use Rattle.dpl_tree.specs.Views.{place_in, place_of, forest_of}
 use Rattle.dpl_tree.specs.steps.Opened.{IsOpening, around, Lists, lists_of, walked_times}
 use Rattle.dpl_tree.proofs.Growing.{inner_in, outer_in, outer_inner_no}
@@ -25,6 +26,17 @@ grown_widens n f x y s t o pt g = record {
     | inr off ↦ g.place_others (f.top a) (λ e. outer_in p (ap x.place e ∙ pt)) off ∙ p
   ];
   together = λ a b ha hb p e. e;
+}
+
+-- growth makes one top outer
+pub grown_by : (n : ℕ) (f : Sets) (x y : Forest) (s t o : ℕ) → o < n → Grows f x s t o y → WidensBy n f x.place f y.place o
+grown_by n f x y s t o ho g = record {
+  below = ho;
+  tops = λ m hm ne. refl;
+  others = λ m hm ne p. elim (cases_eq (f.top m) (f.top t)) [
+    | inl e ↦ outer_inner_no {P = x.place (f.top m) ≡ outer} p (ap y.place e ∙ g.place_inner)
+    | inr off ↦ sym (g.place_others (f.top m) off ne) ∙ p
+  ];
 }
 
 -- ---- a new set
@@ -46,6 +58,41 @@ folded_widens n f g dist x y joins cs ds meet set st e sh d0 =
       together = λ a b ha hb p z. elim (cases_Bool (has cs (f.top a))) [
         | inl k ↦ q.top_inside a ha k ∙ sym (q.top_inside b hb (ap (has cs) (sym z) ∙ k))
         | inr k ↦ q.top_others a ha k ∙ z ∙ sym (q.top_others b hb (ap (has cs) (sym z) ∙ k))
+      ];
+    }
+
+-- the top that a join leads from is one of the tops that the joins around lead from
+join_from : (f : Sets) (left right : List (ℕ × ℕ)) (s t : ℕ) → has (tops_from f (left ++ (s, t) ∷ right)) (f.top s) ≡ true
+join_from f [] right s t = has_head (f.top s) (f.top s) (tops_from f right) refl
+join_from f (j ∷ left) right s t =
+    let rest : List ℕ = tops_from f (left ++ (s, t) ∷ right) in
+    elim (cases_eq (f.top j.0) (f.top s)) [
+      | inl e ↦ has_head (f.top j.0) (f.top s) rest e
+      | inr ne ↦ has_tail (f.top j.0) (f.top s) rest ne ∙ join_from f left right s t
+    ]
+
+-- no top but the new set has become outer
+pub folded_by : {n : ℕ} {f g : Sets} {dist : ℕ → ℕ → ℕ} {x y : Forest} {joins js : List (ℕ × ℕ)} {cs ds : List ℕ} {meet set : ℕ}
+    → (left right : List (ℕ × ℕ)) (s t : ℕ) → IsStage n f dist x → s < n → joins ≡ left ++ (s, t) ∷ right → js ≡ joins
+    → cs ≡ tops_from f js → ds ≡ tops_from f js → IsShrunk f cs js set g → Folds x ds meet set y
+    → WidensBy n f x.place g y.place s
+folded_by {n} {f} {g} {dist} {x} {y} {joins} {js} {cs} {ds} {meet} {set} left right s t st hs is seen ec ed sh d =
+    let q : Gathers n f cs set g = subst (λ (z : ℕ). Gathers z f cs set g) st.rest.size sh.sets in
+    let lam = st.rest.laminar in
+    let k : has cs (f.top s) ≡ true = ap (λ z. has z (f.top s)) (ec ∙ ap (tops_from f) (seen ∙ is)) ∙ join_from f left right s t in
+    let same = λ (m : ℕ) (hm : m < n) (i : has cs (f.top m) ≡ true). q.top_inside m hm i ∙ sym (q.top_inside s hs k) in
+    record {
+      below = hs;
+      tops = λ m hm ne. elim (cases_Bool (has cs (f.top m))) [
+        | inl i ↦ absurd (ne (same m hm i))
+        | inr i ↦ q.top_others m hm i
+      ];
+      others = λ m hm ne p. elim (cases_Bool (has cs (f.top m))) [
+        | inl i ↦ absurd (ne (same m hm i))
+        | inr i ↦
+            let old : f.top m ≢ set = λ z. true_false {P = ⊥} (f.live set) (ap f.live (sym z) ∙ lam.tops.top_live m hm) q.was_free in
+            sym (d.place_others (f.top m) old (ap (λ z. has z (f.top m)) (ed ∙ sym ec) ∙ i)) ∙
+            ap y.place (sym (q.top_others m hm i)) ∙ p
       ];
     }
 
@@ -96,3 +143,9 @@ pub widens_back : (n : ℕ) (f g h : Sets) (place place' : ℕ → Place) → g 
 widens_back n f g h place place' e w =
     let b : Widens n (record f { value = g.value }) place h place' = subst (λ (z : Sets). Widens n z place h place') e w in
     record { outer_stays = b.outer_stays; together = b.together }
+
+pub widened_back : (n : ℕ) (f g h : Sets) (place place' : ℕ → Place) (o : ℕ) → g ≡ record f { value = g.value }
+    → WidensBy n g place h place' o → WidensBy n f place h place' o
+widened_back n f g h place place' o e w =
+    let b : WidensBy n (record f { value = g.value }) place h place' o = subst (λ (z : Sets). WidensBy n z place h place' o) e w in
+    record { below = b.below; tops = b.tops; others = b.others }

@@ -81,6 +81,14 @@ pub record Widens (n : ℕ) (f : Sets) (place : ℕ → Place) (g : Sets)
   pub together : (s t : ℕ) → s < n → t < n → place (f.top s) ≡ outer → f.top s ≡ f.top t →
       g.top s ≡ g.top t
 
+-- No top but that of the member o is new or has become outer.
+pub record WidensBy (n : ℕ) (f : Sets) (place : ℕ → Place) (g : Sets) (place' : ℕ → Place)
+    (o : ℕ) : Type 0 where
+  pub below : o < n
+  pub tops : (m : ℕ) → m < n → g.top m ≢ g.top o → g.top m ≡ f.top m
+  pub others : (m : ℕ) → m < n → g.top m ≢ g.top o → place' (g.top m) ≡ outer →
+      place (f.top m) ≡ outer
+
 -- An amount that no candidate forbids: what the scan over the pairs and over the inner sets
 -- gives.
 pub record IsChange (n : ℕ) (f : Sets) (x : Forest) (v : ℕ → ℕ) (dist : ℕ → ℕ → ℕ)

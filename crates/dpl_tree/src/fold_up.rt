@@ -5,6 +5,7 @@ ghost use Rattle.dpl_laminar.specs.Storing.{sets_of};
 ghost use Rattle.dpl_tree.specs.steps.Forests.{outer, IsPair};
 ghost use Rattle.dpl_tree.specs.Mates.{loads};
 ghost use Rattle.dpl_tree.specs.Metrics.{dist_of};
+ghost use Rattle.dpl_tree.specs.Stages.{WidensBy};
 ghost use Rattle.dpl_tree.specs.steps.Growth.{AreListed, IsGrowing, IsNext};
 ghost use Rattle.dpl_tree.specs.Views.{place_in};
 
@@ -34,6 +35,9 @@ pub fn fold<L: Ledger>(
         dist_of metric.now join.0 join.1 }
     ensures next { IfOk result (λ _.
         IsNext metric.now matching.old tree.old matching.new tree.new) }
+    ensures widened { IfOk result (λ _. WidensBy metric.now.size (sets_of matching.old.family)
+        (place_in tree.old.labels.items) (sets_of matching.new.family)
+        (place_in tree.new.labels.items) join.0) }
     ensures lists { IfOk result (λ _. AreListed metric.now matching.new) }
     ensures sums { IfOk result (λ _. matching.new.sums ≡ matching.old.sums) }
     ensures steps { steps.new ≤ steps.old + 1 }

@@ -4,6 +4,7 @@ use Rattle.dpl_tree.specs.Mates.{DropsInside}
 use Rattle.dpl_tree.specs.Views.{mate_in}
 use Rattle.dpl_tree.proofs.MatchingLemmas.{event_next, event_lists}
 use Rattle.dpl_tree.proofs.Folded.{folding_of, folding_from, folding_asked, tops_seen, free_outside_of, folding_step, folding_ends, folded_up}
+use Rattle.dpl_tree.proofs.Widening.{folded_by}
 use Rattle.dpl_tree.proofs.fold_up.fold.Goals as goal
 use Rattle.dpl_list.proofs.Lists.{refilled}
 
@@ -60,6 +61,9 @@ returns g c =
     q.growing.lists.mates_count drops (c.replace.ensures.folds c.args.matching.now.mates.items _) in
     record {
       next = event_next (λ bound. omega arith) done (search rules);
+      widened = folded_by _ _ _ _ q.growing.stage q.pair.from c.in_ok-joins.ensures c.deref-3.ensures.value
+          (c.deref-2.ensures.value ∙ tops) (c.deref-4.ensures.value ∙ tops) c.in_ok-set.ensures.ok
+          (c.replace.ensures.folds c.args.matching.now.mates.items c.drop_inside.new.mates);
       lists = event_lists q.growing.lists done.sums (ap length (sym back) ∙ size) refl;
       sums = refl;
       steps = omega arith;
