@@ -213,6 +213,7 @@ fn search_near(
 
 /// The nearest to t of a list of the known members that have another top, by the row of its distances. None of them has a key
 /// below the least one, so that the first that has no greater one ends the search.
+#[inline(always)]
 fn search_listed(
     metric: &Metric,
     matching: &Matching,
@@ -275,6 +276,55 @@ impl Others {
     }
 }
 
+/// The nearest to t of a list of the known members that have another top. Each kind of numbers has a loop of its own.
+fn search_row(
+    metric: &Metric,
+    matching: &Matching,
+    table: &OuterTable,
+    row: Row<'_>,
+    list: &[Other],
+    t: u32,
+    least: u64,
+) -> Neighbour
+    requires totals { AreTotals metric.now matching.now }
+    requires table { HasPlaces metric.now table.now }
+    requires count { length (distances_of row) ≡ metric.now.size }
+    requires row { (s : ℕ) → s < metric.now.size → slice_index (distances_of row) s ≡ dist_of metric.now t s }
+    requires t { t < metric.now.size }
+    requires list { AreOutside (members_of metric.now matching.now) (is_known table.now.known.items)
+        (level_of (members_of metric.now matching.now) table.now.origin) ((sets_of matching.now.family).top t)
+        metric.now.size list.now }
+    requires least { AreNoNearer (members_of metric.now matching.now) (is_known table.now.known.items)
+        table.now.origin t least }
+    ensures near { IsNear (members_of metric.now matching.now) (is_known table.now.known.items) t
+        metric.now.size (member_of (kept_of result)) }
+    ensures measured { IsMeasured (members_of metric.now matching.now) table.now.origin t
+        (kept_of result) }
+    ensures apart { IsApart (sets_of matching.now.family) t (member_of (kept_of result)) }
+{
+    let _size = metric.size();
+    match row {
+        Row::Long(numbers) => search_listed(
+            metric,
+            matching,
+            table,
+            Row::Long(numbers),
+            list,
+            t,
+            least,
+        ),
+        Row::Short(numbers) => search_listed(
+            metric,
+            matching,
+            table,
+            Row::Short(numbers),
+            list,
+            t,
+            least,
+        ),
+    }
+}
+
 /// The nearest to t of all known members that have another top, where none of them has a key below the least one. Those
 /// around it are asked, or all where there is a table.
 fn search(
@@ -305,7 +355,7 @@ fn search(
 {
     match metric.seen(t) {
         Seen::Near(list) => search_near(metric, matching, table, list, &others.outsider, t),
-        Seen::All(row) => search_listed(metric, matching, table, row, &others.list, t, least),
+        Seen::All(row) => search_row(metric, matching, table, row, &others.list, t, least),
     }
 }
 
@@ -428,7 +478,49 @@ fn keep_anew(metric: &Metric, table: &mut OuterTable, t: u32, found: Neighbour)
     table.near.set(t, found);
 }
 
-/// Looks again for what is kept for t where that has come into the same top.
+/// Looks anew for what is kept for t, where no known member of another top has a key below the least one.
+#[inline(never)]
+fn keep_nearest(
+    alloc: Global,
+    metric: &Metric,
+    matching: &Matching,
+    table: &mut OuterTable,
+    others: &mut Others,
+    t: u32,
+    least: u64,
+) -> Result<(), AllocError>
+    requires totals { AreTotals metric.now matching.now }
+    requires table { HasPlaces metric.now table.old }
+    requires t { t < metric.now.size }
+    requires least { AreNoNearer (members_of metric.now matching.now) (is_known table.old.known.items)
+        table.old.origin t least }
+    requires others { AreOthers metric.now (members_of metric.now matching.now) table.old others.old }
+    ensures table { HasPlaces metric.now table.new }
+    ensures rest { HasSameMembers table.old table.new }
+    ensures others { OnOk result (AreOthers metric.now (members_of metric.now matching.now) table.new others.new) }
+    ensures near { OnOk result (IsNear (members_of metric.now matching.now)
+        (is_known table.new.known.items) t metric.now.size (near_in table.new.near t)) }
+    ensures measured { OnOk result (IsMeasured (members_of metric.now matching.now)
+        table.new.origin t (kept_in table.new.near t)) }
+    ensures apart { OnOk result (IsApart (sets_of matching.now.family) t (near_in table.new.near t)) }
+    ensures kept { (k : ℕ) → k ≢ t →
+        kept_in table.new.near k ≡ kept_in table.old.near k }
+{
+    turn_to(
+        alloc,
+        metric,
+        matching,
+        table,
+        others,
+        matching.family.tops(t),
+    )?;
+    let found = search(metric, matching, table, others, t, least);
+    keep_anew(metric, table, t, found);
+    Ok(())
+}
+
+/// Looks again for what is kept for t where that has come into the same top. Most have not.
+#[inline(never)]
 pub fn renew_one(
     alloc: Global,
     metric: &Metric,
@@ -458,14 +550,10 @@ pub fn renew_one(
 {
     match table.nearest(t) {
         Some(near) => {
-            let top = matching.family.tops(t);
-            if matching.family.tops(near.member) != top {
+            if matching.family.tops(near.member) != matching.family.tops(t) {
                 return Ok(());
             }
-            turn_to(alloc, metric, matching, table, others, top)?;
-            let found = search(metric, matching, table, others, t, near.key);
-            keep_anew(metric, table, t, found);
-            Ok(())
+            keep_nearest(alloc, metric, matching, table, others, t, near.key)
         }
         None => Ok(()),
     }
