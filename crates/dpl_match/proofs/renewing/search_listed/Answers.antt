@@ -1,11 +1,10 @@
-use Rattle.std.proofs.Common.{arith, ℕ, ◌+◌, ◌≤◌, ◌∙◌, Bool, refl, subst, sym, inl, inr, List}
+use Rattle.std.proofs.Common.{arith, ℕ, ◌+◌, ◌≤◌, ◌∙◌, Bool, subst, sym, inl, inr, List}
 use Rattle.std.proofs.lemmas.Bool.{cases_eq}
-use Rattle.dpl_match.specs.declared.neighbours.Neighbour.{Neighbour}
 use Rattle.dpl_match.specs.declared.renewing.Other.{Other}
 use Rattle.dpl_match.specs.steps.Nearest.{is_known, level_of}
 use Rattle.dpl_match.specs.steps.Outsiders.{other_in}
 use Rattle.dpl_match.specs.steps.Scans.{Members, members_of}
-use Rattle.dpl_match.proofs.OutsideLemmas.{found_near, found_measured, found_listed, found_none, none_listed}
+use Rattle.dpl_match.proofs.OutsideLemmas.{found_near, found_listed, found_none, none_listed}
 use Rattle.dpl_match.proofs.renewing.search_listed.Goals.{then-key-best+else-key-least, else-key-best}
 use Rattle.dpl_match.proofs.renewing.search_listed.Goals as goal
 

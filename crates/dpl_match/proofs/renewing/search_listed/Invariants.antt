@@ -1,4 +1,4 @@
-use Rattle.std.proofs.Common.{ℕ, ◌+◌, ◌<◌, ◌≤◌, get_or}
+use Rattle.std.proofs.Common.{ℕ, ◌+◌, ◌<◌, ◌≤◌}
 use Rattle.dpl_match.specs.steps.Nearest.{is_known, level_of}
 use Rattle.dpl_match.specs.steps.Outsiders.{IsFoundOutside, other_in}
 use Rattle.dpl_match.specs.steps.Scans.{members_of}
