@@ -1,10 +1,10 @@
 -- What is kept for a member at the turn of a stage.
-use Rattle.std.proofs.Common.{arith, ◌≡◌, ℕ, ◌+◌, ◌-◌, ◌<◌, ◌≤◌, ◌^◌, ◌⊎◌, refl, ap, sym, ◌∙◌, Bool, inl, inr, Option, Some, None, get_or}
+use Rattle.std.proofs.Common.{arith, ◌≡◌, ℕ, ◌+◌, ◌-◌, ◌%◌, ◌<◌, ◌≤◌, ◌^◌, ◌⊎◌, refl, ap, sym, ◌∙◌, Bool, inl, inr, Option, Some, None, get_or}
 use Rattle.dpl_laminar.specs.Storing.{sets_of}
 use Rattle.dpl_tree.specs.declared.matching.Matching.{Matching}
 use Rattle.dpl_tree.specs.Metrics.{Table, IsMetric, dist_of}
 use Rattle.dpl_tree.specs.steps.Forests.{Place}
-use Rattle.dpl_tree.specs.Views.{forest_of, place_in}
+use Rattle.dpl_tree.specs.Views.{forest_of, mate_in, place_in}
 use Rattle.dpl_match.specs.declared.scan.Near.{Near}
 use Rattle.dpl_match.specs.declared.scan.Best.{Best}
 use Rattle.dpl_match.specs.declared.stage.Stage.{Stage}
@@ -13,7 +13,7 @@ use Rattle.dpl_match.specs.declared.neighbours.Neighbour.{Neighbour}
 use Rattle.dpl_match.specs.steps.Nearest.{key_in, kept_in, near_in, member_of, level_of, HasKey, IsApart}
 use Rattle.dpl_match.specs.steps.Scans.{Members, members_of, most_of, IsFound, IsBest, IsNearer, IsBehind}
 use Rattle.dpl_match.proofs.NearLemmas.{to_passed, to_behind, to_taken, kept_none, kept_pair, kept_least}
-use Rattle.dpl_match.proofs.TurnLemmas.{totals_within}
+use Rattle.dpl_match.proofs.TurnLemmas.{totals_within, rest_small}
 
 -- the sums of a member and of the one of another top that is kept for it, with its key, are within their distance
 pub kept_within : {metric : Table} {m : Matching} {s : Stage} → IsAtTurn metric m s → (t : ℕ) (near : Neighbour)
@@ -63,6 +63,25 @@ key_low {metric} {m} {s} start t ht = elim (kept_cases (kept_in s.table.near t))
   | inl e ↦ omega (arith, ap key_in e)
   | inr k ↦ omega (arith, ap key_in k.1, (start.nearest.near_outer.measured t ht k.0 k.1).2)
 ]
+
+-- no key is less than the sum over its member
+pub key_enough : {metric : Table} {m : Matching} {s : Stage} → IsAtTurn metric m s → metric.size % 2 ≡ 0
+    → IsMetric metric.size (dist_of metric) → (t : ℕ) → t < metric.size
+    → get_or m.sums.items t 0 ≤ key_in (kept_in s.table.near t)
+key_enough {metric} {m} {s} start even me t ht =
+    let lists = start.growing.lists in
+    let few = λ (k : ℕ) (hk : k < metric.size). (
+    let z : get_or m.sums.items k 0 ≤ 2 ^ 50 = omega (
+      arith,
+      rest_small metric.size (sets_of m.family) (dist_of metric) (mate_in m.mates.items) k even me start.growing.stage.rest hk,
+      lists.sum k hk,
+    ) in z) in
+    elim (kept_cases (kept_in s.table.near t)) [
+      | inl e ↦ omega (arith, ap key_in e, few t ht)
+      | inr k ↦
+          let w = start.nearest.near_outer.measured t ht k.0 k.1 in
+          omega (arith, ap key_in k.1, w.1, few t ht, few k.0.member w.0)
+    ]
 
 -- where what is kept for t, whatever its top, is behind, the best pair stays
 pub kept_behind : {metric : Table} {m : Matching} {s : Stage} → IsAtTurn metric m s → IsMetric metric.size (dist_of metric)

@@ -3,7 +3,7 @@ use Rattle.dpl_tree.specs.declared.tree.Label.TheVariants.{Free}
 use Rattle.dpl_tree.specs.steps.Forests.{free}
 use Rattle.dpl_tree.specs.Views.{place_in, place_of}
 use Rattle.dpl_match.specs.steps.Scans.{members_of}
-use Rattle.dpl_match.proofs.KeptLemmas.{kept_passed}
+use Rattle.dpl_match.proofs.KeptLemmas.{key_enough, kept_passed}
 use Rattle.dpl_match.proofs.NearLemmas.{other_passed, kept_free}
 use Rattle.dpl_match.proofs.ScanPairs.{label_same, label_other}
 use Rattle.dpl_match.proofs.scan.free_step.Goals as goal
@@ -32,3 +32,8 @@ returns-else-is_label c = (
       (label_other _ Free (sym c.is_label.ensures ∙ c.if-is_label.false)) c.requires.best.0,
   c.requires.best.1,
 )
+
+pub above_of-above-requires-clause-enough : goal.above_of-above-requires-clause-enough
+above_of-above-requires-clause-enough c =
+    let table = c.size-size.ensures.table in
+    key_enough c.requires.start table.even table.metric c.args.t c.requires.to

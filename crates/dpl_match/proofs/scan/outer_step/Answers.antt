@@ -3,7 +3,7 @@ use Rattle.dpl_tree.specs.steps.Forests.{outer}
 use Rattle.dpl_tree.specs.Views.{place_in}
 use Rattle.dpl_match.specs.steps.Scans.{members_of}
 use Rattle.dpl_match.proofs.NearLemmas.{sums_small, unlisted_passed}
-use Rattle.dpl_match.proofs.KeptLemmas.{kept_passed}
+use Rattle.dpl_match.proofs.KeptLemmas.{key_enough, kept_passed}
 use Rattle.dpl_match.proofs.StageLemmas.{turn_renewed}
 use Rattle.dpl_match.proofs.scan.outer_step.Goals as goal
 
@@ -44,3 +44,15 @@ returns-clause-start c =
 pub returns-clause-best : goal.returns-clause-best
 returns-clause-best c = c.nearest_step.ensures outer
     (c.requires.start.nearest.near_outer.still c.args.t c.requires.to (sym c.has.ensures ∙ c.if-not-has.false)) c.requires.best
+
+pub above_of-above-requires-clause-enough : goal.above_of-above-requires-clause-enough
+above_of-above-requires-clause-enough c =
+    let table = c.size-size.ensures.table in
+    key_enough c.requires.start table.even table.metric c.args.t c.requires.to
+
+pub above_of-above-requires-2-clause-enough : goal.above_of-above-requires-2-clause-enough
+above_of-above-requires-2-clause-enough c =
+    let table = c.size-size.ensures.table in
+    let r = c.in_ok-renew_one.ensures in
+    key_enough (turn_renewed c.renew_one.new.table c.args.t c.requires.start r.table r.rest (rw (sym r.rest.known) r.near)
+    (rw (sym r.rest.origin) r.measured) r.kept) table.even table.metric c.args.t c.requires.to
