@@ -136,6 +136,18 @@ fn compare_group(
                 GROUP,
             )
         }
+        Row::Medium(numbers) => {
+            compare_part(
+                metric,
+                matching,
+                table,
+                Row::Medium(numbers),
+                s,
+                offset,
+                start,
+                GROUP,
+            )
+        }
         Row::Short(numbers) => {
             compare_part(
                 metric,
@@ -255,6 +267,9 @@ fn compare_row(
     match row {
         Row::Long(numbers) => {
             compare_parts(metric, matching, table, Row::Long(numbers), s, offset)
+        }
+        Row::Medium(numbers) => {
+            compare_parts(metric, matching, table, Row::Medium(numbers), s, offset)
         }
         Row::Short(numbers) => {
             compare_parts(metric, matching, table, Row::Short(numbers), s, offset)

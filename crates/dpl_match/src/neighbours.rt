@@ -110,6 +110,31 @@ fn are_no_more(keys: &[u64], numbers: &[u64], start: usize, width: usize, offset
     bits < 1 << 63
 }
 
+/// The same beside numbers of 32 bits.
+#[inline(always)]
+fn are_no_more_medium(
+    keys: &[u64],
+    numbers: &[u32],
+    start: usize,
+    width: usize,
+    offset: u64,
+) -> bool
+    requires keys { start + width ≤ length keys.now }
+    requires numbers { start + width ≤ length numbers.now }
+    requires low { All (λ key. key ≤ 2 ^ 62) keys.now }
+    requires offset { offset ≤ 2 ^ 61 }
+    ensures { result ≡ true → (k : ℕ) → k < width →
+        slice_index keys.now (start + k) ≤ slice_index numbers.now (start + k) + offset }
+{
+    let known = &keys[start..start + width];
+    let far = &numbers[start..start + width];
+    let mut bits: u64 = 0;
+    for k in 0..width {
+        bits |= (far[k] as u64 + offset).wrapping_sub(known[k]);
+    }
+    bits < 1 << 63
+}
+
 impl Neighbours {
     /// Nothing is kept.
     pub fn new(alloc: Global, n: usize) -> Result<Neighbours, AllocError>
@@ -164,6 +189,7 @@ impl Neighbours {
     {
         match row {
             Row::Long(numbers) => are_no_more(&self.keys, numbers, start, width, offset),
+            Row::Medium(numbers) => are_no_more_medium(&self.keys, numbers, start, width, offset),
             Row::Short(numbers) => {
                 if offset < BASE {
                     return false;

@@ -313,6 +313,15 @@ fn search_row(
             t,
             least,
         ),
+        Row::Medium(numbers) => search_listed(
+            metric,
+            matching,
+            table,
+            Row::Medium(numbers),
+            list,
+            t,
+            least,
+        ),
         Row::Short(numbers) => search_listed(
             metric,
             matching,

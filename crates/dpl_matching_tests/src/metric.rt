@@ -47,6 +47,28 @@ fn rows_of(alloc: Global, n: u32, radii: &[u64]) -> Result<Vec<u64>, AllocError>
     Ok(rows)
 }
 
+/// How many bits the numbers of a table have.
+#[derive(Clone, Copy)]
+enum Width {
+    Long,
+    Medium,
+    Short,
+}
+
+/// The same distances in numbers of 32 bits.
+fn medium(alloc: Global, rows: &[u64]) -> Result<Vec<u32>, Fail>
+    ensures { IfOk result (λ medium. medium.items ≡ rows.now) }
+{
+    let mut medium = Vec::new(alloc);
+    for i in 0..rows.len() {
+        match u32::try_from(rows[i]) {
+            Ok(far) => medium.push(far)?,
+            Err(_) => return Err("a long distance")?,
+        }
+    }
+    Ok(medium)
+}
+
 /// The same distances in numbers of 16 bits.
 fn shorter(alloc: Global, rows: &[u64]) -> Result<Vec<u16>, Fail>
     ensures { IfOk result (λ short. short.items ≡ rows.now) }
@@ -61,14 +83,15 @@ fn shorter(alloc: Global, rows: &[u64]) -> Result<Vec<u16>, Fail>
     Ok(short)
 }
 
-/// The same distances in long numbers or in short ones.
-fn rows_in(alloc: Global, rows: Vec<u64>, is_short: bool) -> Result<Rows, Fail>
+/// The same distances in numbers of a width.
+fn rows_in(alloc: Global, rows: Vec<u64>, width: Width) -> Result<Rows, Fail>
     ensures { IfOk result (λ r. distances_in r ≡ rows.items) }
 {
-    if is_short {
-        return Ok(Rows::Short(shorter(alloc, &rows)?));
+    match width {
+        Width::Long => Ok(Rows::Long(rows)),
+        Width::Medium => Ok(Rows::Medium(medium(alloc, &rows)?)),
+        Width::Short => Ok(Rows::Short(shorter(alloc, &rows)?)),
     }
-    Ok(Rows::Long(rows))
 }
 
 /// Members that are near others, each with the one to which it is near.
@@ -200,7 +223,7 @@ fn compare_all<R: Abort>(rt: &R, table: &Metric, lists: &Metric, one: &mut [u64]
 }
 
 /// Members on a line, whose distances stand in a table, and in lists.
-fn compare_line<R: Abort>(rt: &R, alloc: Global, n: u32, is_short: bool) -> Result<(), Fail> {
+fn compare_line<R: Abort>(rt: &R, alloc: Global, n: u32, width: Width) -> Result<(), Fail> {
     let radii = radii_of(alloc, n)?;
     let rows = rows_of(alloc, n, &radii)?;
     let near = near_of(alloc, n, &radii)?;
@@ -214,7 +237,7 @@ fn compare_line<R: Abort>(rt: &R, alloc: Global, n: u32, is_short: bool) -> Resu
     if radii.len() != n as usize {
         return Err("other radii")?;
     }
-    let table = Metric::new(alloc, n, rows_in(alloc, rows, is_short)?, copied)?;
+    let table = Metric::new(alloc, n, rows_in(alloc, rows, width)?, copied)?;
     let lists = Metric::near(alloc, radii, near);
     let mut one = vec![in alloc; 0; n as usize]?;
     let mut other = vec![in alloc; 0; n as usize]?;
@@ -225,15 +248,23 @@ fn compare_line<R: Abort>(rt: &R, alloc: Global, n: u32, is_short: bool) -> Resu
 /// Distances that stand in lists are those of the table.
 #[test]
 fn in_lists(rt: HostRuntime) -> Result<(), Fail> {
-    compare_line(&rt, rt.alloc(), 0, false)?;
-    compare_line(&rt, rt.alloc(), 2, false)?;
-    compare_line(&rt, rt.alloc(), 40, false)
+    compare_line(&rt, rt.alloc(), 0, Width::Long)?;
+    compare_line(&rt, rt.alloc(), 2, Width::Long)?;
+    compare_line(&rt, rt.alloc(), 40, Width::Long)
+}
+
+/// So are those of a table of medium numbers.
+#[test]
+fn in_medium_rows(rt: HostRuntime) -> Result<(), Fail> {
+    compare_line(&rt, rt.alloc(), 0, Width::Medium)?;
+    compare_line(&rt, rt.alloc(), 2, Width::Medium)?;
+    compare_line(&rt, rt.alloc(), 40, Width::Medium)
 }
 
 /// So are those of a table of short numbers.
 #[test]
 fn in_short_rows(rt: HostRuntime) -> Result<(), Fail> {
-    compare_line(&rt, rt.alloc(), 0, true)?;
-    compare_line(&rt, rt.alloc(), 2, true)?;
-    compare_line(&rt, rt.alloc(), 40, true)
+    compare_line(&rt, rt.alloc(), 0, Width::Short)?;
+    compare_line(&rt, rt.alloc(), 2, Width::Short)?;
+    compare_line(&rt, rt.alloc(), 40, Width::Short)
 }

@@ -1,12 +1,12 @@
 -- Distances that are known in units, up to both radii.
-use Rattle.std.proofs.Common.{arith, ◌≡◌, ℕ, ◌+◌, ◌*◌, ◌<◌, ◌≤◌, min, sym, ap, ◌∙◌, subst, inl, inr, List, length, get_or, set, All}
+use Rattle.std.proofs.Common.{arith, ◌≡◌, ℕ, ◌+◌, ◌*◌, ◌^◌, ◌<◌, ◌≤◌, min, sym, ap, ◌∙◌, subst, inl, inr, List, length, get_or, set, All}
 use Rattle.std.proofs.Common.{length-set, get_or-set_same, get_or-set_other}
 use Rattle.std.specs.Prelude.{slice_index}
 use Rattle.std.proofs.lemmas.Bool.{cases_lt, cases_eq}
 use Rattle.std.proofs.lemmas.Nat.{mul-add-lt, same_from_place}
 use Rattle.dpl_dual.specs.declared.crosses.Cross.{Cross}
 use Rattle.dpl_dual.specs.Distances.{IsDistanceUpTo}
-use Rattle.dpl_solve.specs.Limits.{limited_to, IsRowLimited, AreLimited}
+use Rattle.dpl_solve.specs.Limits.{limited_to, AreMedium, IsRowLimited, AreLimited}
 use Rattle.dpl_solve.specs.Metrics.{IsApart, AreNearPut, entry}
 use Rattle.dpl_solve.specs.Waves.{AreUnitRows}
 
@@ -44,6 +44,13 @@ near_by_units ways odd radii rows dists unit limit most sizes small reach u l =
           (cut ways (unit * limit) both (slice_index odd s) (slice_index odd t) (unit * entry n rows s t) (u.each s t hs ht)
           (omega (arith, one, two, reach)));
     }
+
+-- units up to a limit of 32 bits are numbers of 32 bits
+pub medium_units : (ways : List Cross) (odd radii rows : List ℕ) (unit limit : ℕ) → length radii ≡ length odd
+    → unit * limit < 2 ^ 32 → AreUnitRows ways odd unit limit rows → AreMedium unit (length radii) rows
+medium_units ways odd radii rows unit limit sizes room u = λ s t hs ht.
+    let here = u.each s t (omega (arith, hs, sizes)) (omega (arith, ht, sizes)) in
+    subst (λ n. unit * entry n rows s t < 2 ^ 32) (sym sizes) (omega (arith, here.most, room))
 
 -- ---- rows
 

@@ -7,7 +7,12 @@ use Rattle.dpl_solve.specs.Metrics.{entry}
 pub record IsScale (most : ℕ) (x : Scale) : Type 0 where
   pub some : 0 < x.unit
   pub small : x.unit < 2 ^ 32
+  pub room : x.unit * x.limit < 2 ^ 32
   pub reach : 2 * most ≤ x.unit * x.limit
+
+-- so many units are a number of 32 bits in each of n rows
+abbrev pub AreMedium : ℕ → ℕ → List ℕ → Type 0
+AreMedium unit n rows = (s u : ℕ) → s < n → u < n → unit * entry n rows s u < 2 ^ 32
 
 -- so many units, or both radii together where that is less
 abbrev pub limited_to : ℕ → List ℕ → ℕ → ℕ → ℕ → ℕ

@@ -1,13 +1,14 @@
 //! The distances that waves find, up to both radii.
 //!
 //! Waves count in units, so that lengths fit in 16 bits. The unit is 1 where the radii are small. Where weights are great it is
-//! the greatest one that measures both the shortest step and the longest, since mostly there are no other lengths.
+//! the greatest one that measures both the shortest step and the longest, since mostly there are no other lengths. Then the
+//! distances have 32 bits.
 
 ghost use Rattle.std.specs.Prelude.{◌≡◌, ℕ, ◌*◌, ◌^◌, ◌<◌, ◌≤◌, length, slice_index, All, IfOk, IfSome};
 ghost use Rattle.dpl_dual.specs.Duals.{CameFromDual};
 ghost use Rattle.dpl_pack.specs.Moats.{AreTerminals};
 ghost use Rattle.dpl_tree.specs.Rows.{distances_in};
-ghost use Rattle.dpl_solve.specs.Limits.{IsScale, IsRowLimited, AreLimited};
+ghost use Rattle.dpl_solve.specs.Limits.{IsScale, AreMedium, IsRowLimited, AreLimited};
 ghost use Rattle.dpl_solve.specs.Metrics.{AreNearPut};
 
 use crate::waves::wave_rows;
@@ -27,7 +28,7 @@ pub struct Scale {
 }
 
 /// The greatest radius.
-fn greatest(radii: &[u64]) -> u64
+pub fn greatest(radii: &[u64]) -> u64
     ensures { All (λ r. r ≤ result) radii.now }
 {
     let mut most: u64 = 0;
@@ -53,7 +54,7 @@ fn common(first: u64, second: u64) -> u64 {
 }
 
 /// A unit in which twice the greatest radius is a number of 16 bits: 1 if that will do, and else a length. None where that is
-/// too short as well, or has more than 32 bits.
+/// too short as well, or so many units have more than 32 bits.
 fn scale_of(most: u64, length: u64) -> Option<Scale>
     ensures { IfSome result (IsScale most) }
 {
@@ -70,9 +71,13 @@ fn scale_of(most: u64, length: u64) -> Option<Scale>
     if units >= MOST_RADIUS {
         return None;
     }
+    let limit = 2 * units + 2;
+    if length * limit > u32::MAX as u64 {
+        return None;
+    }
     Some(Scale {
         unit: length,
-        limit: (2 * units + 2) as u16,
+        limit: limit as u16,
     })
 }
 
@@ -86,6 +91,18 @@ fn all_short(alloc: Global, radii: &[u64]) -> Result<Vec<u16>, AllocError>
         short.push(radii[k] as u16)?;
     }
     Ok(short)
+}
+
+/// The same radii as numbers of 32 bits.
+pub fn all_medium(alloc: Global, radii: &[u64]) -> Result<Vec<u32>, AllocError>
+    requires { All (λ r. r < 2 ^ 31) radii.now }
+    ensures { IfOk result (λ medium. medium.items ≡ radii.now) }
+{
+    let mut medium = Vec::with_capacity(alloc, radii.len())?;
+    for k in 0..radii.len() {
+        medium.push(radii[k] as u32)?;
+    }
+    Ok(medium)
 }
 
 /// Lowers the distances of odd face s to both radii.
@@ -115,28 +132,28 @@ fn limit_rows(radii: &[u16], rows: &mut [u16])
 }
 
 /// Writes the distances of odd face s, of which so many units are known, up to both radii.
-fn write_row(unit: u64, radii: &[u64], s: usize, rows: &[u16], dists: &mut [u64])
-    requires unit { unit < 2 ^ 32 }
+fn write_row(unit: u32, radii: &[u32], s: usize, rows: &[u16], dists: &mut [u32])
     requires inside { s < length radii.now }
     requires places { length rows.now ≡ length radii.now * length radii.now }
     requires count { length dists.old ≡ length rows.now }
-    requires small { (k : ℕ) → k < length radii.now → slice_index radii.now k ≤ 2 ^ 49 }
+    requires small { All (λ r. r < 2 ^ 31) radii.now }
+    requires units { AreMedium unit (length radii.now) rows.now }
     ensures { IsRowLimited unit radii.now s rows.now dists.old dists.new }
 {
     let n = radii.len();
     let radius = radii[s];
     let start = s * n;
     for u in 0..n {
-        dists[start + u] = (unit * rows[start + u] as u64).min(radius + radii[u]);
+        dists[start + u] = (unit * rows[start + u] as u32).min(radius + radii[u]);
     }
 }
 
 /// Writes the distances of all odd faces, of which so many units are known, up to both radii.
-fn write_rows(unit: u64, radii: &[u64], rows: &[u16], dists: &mut [u64])
-    requires unit { unit < 2 ^ 32 }
+fn write_rows(unit: u32, radii: &[u32], rows: &[u16], dists: &mut [u32])
     requires places { length rows.now ≡ length radii.now * length radii.now }
     requires count { length dists.old ≡ length rows.now }
-    requires small { (k : ℕ) → k < length radii.now → slice_index radii.now k ≤ 2 ^ 49 }
+    requires small { All (λ r. r < 2 ^ 31) radii.now }
+    requires units { AreMedium unit (length radii.now) rows.now }
     ensures { AreLimited unit radii.now rows.now dists.new }
 {
     for s in 0..radii.len() {
@@ -145,10 +162,15 @@ fn write_rows(unit: u64, radii: &[u64], rows: &[u16], dists: &mut [u64])
 }
 
 /// The distances of which so many units are known, up to both radii.
-fn long_rows(alloc: Global, unit: u64, radii: &[u64], rows: &[u16]) -> Result<Vec<u64>, AllocError>
-    requires unit { unit < 2 ^ 32 }
+fn medium_rows(
+    alloc: Global,
+    unit: u32,
+    radii: &[u32],
+    rows: &[u16],
+) -> Result<Vec<u32>, AllocError>
     requires places { length rows.now ≡ length radii.now * length radii.now }
-    requires small { (k : ℕ) → k < length radii.now → slice_index radii.now k ≤ 2 ^ 49 }
+    requires small { All (λ r. r < 2 ^ 31) radii.now }
+    requires units { AreMedium unit (length radii.now) rows.now }
     ensures { IfOk result (λ dists. AreLimited unit radii.now rows.now dists.items) }
 {
     let mut dists = vec![in alloc; 0; rows.len()]?;
@@ -160,8 +182,9 @@ fn long_rows(alloc: Global, unit: u64, radii: &[u64], rows: &[u16]) -> Result<Ve
 fn limited(alloc: Global, unit: u64, radii: &[u64], rows: Vec<u16>) -> Result<Rows, AllocError>
     requires unit { unit < 2 ^ 32 }
     requires short { unit ≡ 1 → All (λ r. r ≤ 32767) radii.now }
+    requires medium { All (λ r. r < 2 ^ 31) radii.now }
     requires places { length rows.items ≡ length radii.now * length radii.now }
-    requires small { (k : ℕ) → k < length radii.now → slice_index radii.now k ≤ 2 ^ 49 }
+    requires units { AreMedium unit (length radii.now) rows.items }
     ensures { IfOk result (λ all. AreLimited unit radii.now rows.items (distances_in all)) }
 {
     if unit == 1 {
@@ -170,8 +193,9 @@ fn limited(alloc: Global, unit: u64, radii: &[u64], rows: Vec<u16>) -> Result<Ro
         limit_rows(&short, &mut rows);
         return Ok(Rows::Short(rows));
     }
-    let dists = long_rows(alloc, unit, radii, &rows)?;
-    Ok(Rows::Long(dists))
+    let medium = all_medium(alloc, radii)?;
+    let dists = medium_rows(alloc, unit as u32, &medium, &rows)?;
+    Ok(Rows::Medium(dists))
 }
 
 /// The distances of the odd faces of a part, row by row, up to both radii, by waves. None where the radii are too great, or

@@ -229,6 +229,16 @@ fn copy_long(far: &[u64], row: &mut [u64])
     }
 }
 
+/// Writes medium distances into a list.
+fn copy_medium(far: &[u32], row: &mut [u64])
+    requires { length row.old ≡ length far.now }
+    ensures { (t : ℕ) → t < length far.now → slice_index row.new t ≡ slice_index far.now t }
+{
+    for t in 0..far.len() {
+        row[t] = far[t] as u64;
+    }
+}
+
 /// Writes short distances into a list.
 fn copy_short(far: &[u16], row: &mut [u64])
     requires { length row.old ≡ length far.now }
@@ -246,6 +256,7 @@ fn copy(far: Row<'_>, row: &mut [u64])
 {
     match far {
         Row::Long(numbers) => copy_long(numbers, row),
+        Row::Medium(numbers) => copy_medium(numbers, row),
         Row::Short(numbers) => copy_short(numbers, row),
     }
 }
@@ -287,6 +298,18 @@ fn least_long(far: &[u64], amount: u64) -> u64
     least
 }
 
+/// The least of an amount and some medium distances.
+fn least_medium(far: &[u32], amount: u32) -> u32
+    ensures least { result ≤ amount }
+    ensures each { All (λ x. result ≤ x) far.now }
+{
+    let mut least = amount;
+    for t in 0..far.len() {
+        least = least.min(far[t]);
+    }
+    least
+}
+
 /// The least of an amount and some short distances, several of which a processor compares at a time.
 fn least_short(far: &[u16], amount: u16) -> u16
     ensures least { result ≤ amount }
@@ -311,6 +334,11 @@ fn least_beside(far: Row<'_>, member: usize, amount: u64) -> u64
             let before = least_long(&numbers[..member], amount);
             let behind = least_long(&numbers[member + 1..], amount);
             before.min(behind)
+        }
+        Row::Medium(numbers) => {
+            let before = least_medium(&numbers[..member], u32::MAX);
+            let behind = least_medium(&numbers[member + 1..], before);
+            amount.min(behind as u64)
         }
         Row::Short(numbers) => {
             let before = least_short(&numbers[..member], u16::MAX);

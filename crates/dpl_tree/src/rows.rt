@@ -1,12 +1,13 @@
-//! Distances row by row, in numbers of 64 bits or of 16.
+//! Distances row by row, in numbers of 64 bits, of 32 or of 16.
 
-ghost use Rattle.std.specs.Prelude.{◌≡◌, ◌+◌, ◌<◌, ◌≤◌, length, slice_index, slice_range};
-ghost use Rattle.dpl_tree.specs.Rows.{distances_in, distances_of};
+ghost use Rattle.std.specs.Prelude.{◌≡◌, ◌+◌, ◌<◌, ◌≤◌, length, slice_index, slice_range, slice_set};
+ghost use Rattle.dpl_tree.specs.Rows.{distances_in, distances_of, greatest_in};
 
-/// The distances of all members from all, row by row. Short ones take a quarter of the memory.
+/// The distances of all members from all, row by row. Medium ones take half of the memory, and short ones a quarter.
 #[derive(Drop)]
 pub enum Rows {
     Long(Vec<u64>),
+    Medium(Vec<u32>),
     Short(Vec<u16>),
 }
 
@@ -14,6 +15,7 @@ pub enum Rows {
 #[derive(Clone, Copy)]
 pub enum Row<'a> {
     Long(&'a [u64]),
+    Medium(&'a [u32]),
     Short(&'a [u16]),
 }
 
@@ -26,7 +28,23 @@ impl Rows {
     {
         match self {
             Rows::Long(numbers) => numbers[place],
+            Rows::Medium(numbers) => numbers[place] as u64,
             Rows::Short(numbers) => numbers[place] as u64,
+        }
+    }
+
+    /// Puts a distance at a place.
+    #[inline(always)]
+    pub fn put(&mut self, place: usize, far: u64)
+        requires place { place < length (distances_in self.old) }
+        requires room { far ≤ greatest_in self.old }
+        ensures far { distances_in self.new ≡ slice_set (distances_in self.old) place far }
+        ensures room { greatest_in self.new ≡ greatest_in self.old }
+    {
+        match self {
+            Rows::Long(numbers) => numbers[place] = far,
+            Rows::Medium(numbers) => numbers[place] = far as u32,
+            Rows::Short(numbers) => numbers[place] = far as u16,
         }
     }
 
@@ -38,6 +56,7 @@ impl Rows {
         let end = start + count;
         match self {
             Rows::Long(numbers) => Row::Long(&numbers[start..end]),
+            Rows::Medium(numbers) => Row::Medium(&numbers[start..end]),
             Rows::Short(numbers) => Row::Short(&numbers[start..end]),
         }
     }
@@ -50,6 +69,7 @@ impl Row<'_> {
     {
         match self {
             Row::Long(numbers) => numbers.len(),
+            Row::Medium(numbers) => numbers.len(),
             Row::Short(numbers) => numbers.len(),
         }
     }
@@ -62,6 +82,7 @@ impl Row<'_> {
     {
         match self {
             Row::Long(numbers) => numbers[member],
+            Row::Medium(numbers) => numbers[member] as u64,
             Row::Short(numbers) => numbers[member] as u64,
         }
     }

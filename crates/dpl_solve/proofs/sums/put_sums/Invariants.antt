@@ -1,6 +1,6 @@
 use Rattle.std.proofs.Common.{◌≡◌, length}
 use Rattle.dpl_solve.specs.Metrics.{AreSums}
-use Rattle.dpl_solve.proofs.metrics.put_sums.Given as goal
+use Rattle.dpl_solve.proofs.sums.put_sums.Given as goal
 
 abbrev pub invariant-loop-s : goal.invariant-loop-s
 invariant-loop-s l = record {
