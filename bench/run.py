@@ -27,6 +27,7 @@ MOST_BYTES = 16_777_216
 MOST_REPORT = 268_435_456
 OPTIONS = ["--layer", "M", "--space", "100", "--overlap", "20"]
 GREAT = [*OPTIONS, "--stitch", "100000", "--conflict", "1000000"]
+COPRIME = [*OPTIONS, "--stitch", "99991", "--conflict", "999983"]
 WIDE = ["--layer", "M", "--space", "10000", "--overlap", "20"]
 WIDEST = ["--layer", "M", "--space", "100000", "--overlap", "20"]
 
@@ -426,6 +427,10 @@ def single():
     yield "the same with great weights", thirteen, GREAT
     others = parts_apart(shaken_rows(104, 13, 65, 55, 9, 619_371, 32), 36)
     yield "36 times thirteen shaken rows of 104 boxes", layout(others), OPTIONS
+    tall = parts_apart(shaken_rows(100, 13, 60, 56, 8, 300_935, 30), 38)
+    yield "38 times thirteen shaken rows of 100 boxes, coprime weights", layout(tall), COPRIME
+    ten = parts_apart(shaken_rows(152, 10, 66, 56, 9, 184_838, 25), 32)
+    yield "32 times ten shaken rows of 152 boxes, coprime weights", layout(ten), COPRIME
     five = parts_apart(shaken_rows(273, 5, 59, 50, 9, 755_409, 29), 36)
     yield "36 times five shaken rows of 273 boxes", layout(five), OPTIONS
     grids = parts_apart(shaken_rows(44, 44, 45, 38, 9, 1, 0), 25)
