@@ -12,7 +12,7 @@ use Rattle.dpl_match.specs.steps.Going.{IsAtTurn}
 use Rattle.dpl_match.specs.declared.neighbours.Neighbour.{Neighbour}
 use Rattle.dpl_match.specs.steps.Nearest.{key_in, kept_in, near_in, member_of, level_of, HasKey, IsApart}
 use Rattle.dpl_match.specs.steps.Scans.{Members, members_of, most_of, IsFound, IsBest, IsNearer, IsBehind}
-use Rattle.dpl_match.proofs.NearLemmas.{to_passed, to_behind, to_taken, kept_none, kept_pair, kept_least}
+use Rattle.dpl_match.proofs.NearLemmas.{to_passed, to_behind, to_taken, kept_none, kept_pair, kept_least, sums_small}
 use Rattle.dpl_match.proofs.TurnLemmas.{totals_within, rest_small}
 
 -- the sums of a member and of the one of another top that is kept for it, with its key, are within their distance
@@ -154,3 +154,30 @@ pub kept_passed : {metric : Table} {m : Matching} {s : Stage} → IsAtTurn metri
 kept_passed start me want t level above best ht el ea (inl lt) h = kept_more start me want t level above best ht el ea lt h
 kept_passed start me want t level above best ht el ea (inr same) h =
     kept_equal start me want t level above best same.1.0 ht el ea same.0 same.1.1 h
+
+-- where the best pair has no slack, no other one is nearer
+pub kept_nearest : {metric : Table} {m : Matching} {s : Stage} → IsAtTurn metric m s → metric.size % 2 ≡ 0
+    → IsMetric metric.size (dist_of metric) → (want : Place) (from to level : ℕ) (best : Best)
+    → level ≡ level_of (members_of metric m) s.table.origin → best.most ≡ level
+    → IsBest (members_of metric m) (place_in s.tree.labels.items) level want from best
+    → IsBest (members_of metric m) (place_in s.tree.labels.items) level want to best
+kept_nearest {metric} {m} {s} start even me want from to level best el e h =
+    let small = (sums_small even me start.growing.lists start.growing.stage.rest).small s.table.origin start.table.origin_below in
+    let more = h.1 (level + 1) (omega (arith, el, small)) (omega (arith, e)) in
+    (nearest best.pair (omega (arith, more)) h.0, h.1) where
+      nearest : (pair : Option Near) → most_of pair ≡ 0
+          → IsFound (members_of metric m) (place_in s.tree.labels.items) want from pair
+          → IsFound (members_of metric m) (place_in s.tree.labels.items) want to pair
+      nearest None none h = absurd (omega (arith, none))
+      nearest (Some near) none h = record {
+        pair = h.pair;
+        slack = h.slack;
+        least = λ a b p below. omega (
+          arith,
+          none,
+          totals_within metric.size (sets_of m.family) (dist_of metric) (forest_of s.tree m.mates.items) a b start.growing.stage
+              p.from p.to p.apart,
+          start.growing.lists.sum a p.from,
+          start.growing.lists.sum b p.to,
+        );
+      }
