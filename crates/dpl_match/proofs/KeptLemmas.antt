@@ -162,7 +162,7 @@ pub kept_nearest : {metric : Table} {m : Matching} {s : Stage} → IsAtTurn metr
     → IsBest (members_of metric m) (place_in s.tree.labels.items) level want from best
     → IsBest (members_of metric m) (place_in s.tree.labels.items) level want to best
 kept_nearest {metric} {m} {s} start even me want from to level best el e h =
-    let small = (sums_small even me start.growing.lists start.growing.stage.rest).small s.table.origin start.table.origin_below in
+    let small = (sums_small even me start.growing.lists start.growing.stage.rest).small _ start.table.origin_below in
     let more = h.1 (level + 1) (omega (arith, el, small)) (omega (arith, e)) in
     (nearest best.pair (omega (arith, more)) h.0, h.1) where
       nearest : (pair : Option Near) → most_of pair ≡ 0

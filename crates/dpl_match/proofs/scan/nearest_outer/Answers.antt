@@ -13,6 +13,7 @@ level-level-requires-clause-small c =
 
 pub returns-clause-found : goal.returns-clause-found
 returns-clause-found c =
-    let e : c.loop-t.t ≡ c.args.metric.now.size = omega (arith, c.loop-t-test.false, c.loop-t.invariant.end, c.size-n.ensures.value) in
+    let e : c.loop-t.t ≡ c.args.metric.now.size =
+    omega (arith, c.loop-t-test.false, c.loop-t.invariant.end, c.size-n.ensures.value) in
     subst (λ (z : ℕ). IsFound (members_of c.args.metric.now c.args.matching.now) (place_in c.args.stage.now.tree.labels.items)
     outer z c.loop-t.best.pair) e c.loop-t.invariant.best.0
