@@ -2,7 +2,7 @@
 
 ghost use Rattle.std.specs.Prelude.{◌≡◌, ℕ, ◌+◌, ◌<◌, ◌≤◌, ◌^◌, true, min, All, replicate, slice_set, length, slice_index, IfOk};
 ghost use Rattle.dpl_tree.specs.Rows.{distances_of};
-ghost use Rattle.dpl_match.specs.steps.Bounds.{stands_in, IsBound};
+ghost use Rattle.dpl_match.specs.steps.Bounds.{stands_in, IsBound, IsWide};
 ghost use Rattle.dpl_match.specs.steps.Nearest.{kept_of, no_key, nobody};
 
 use dpl_tree::Row;
@@ -32,6 +32,12 @@ pub const GROUP: usize = 8;
 /// What bounds are counted from, somewhat below the least level.
 const BASE: u64 = (1 << 60) - (1 << 14);
 
+/// What wide bounds are counted from.
+const WIDE_BASE: u64 = (1 << 60) - (1 << 29);
+
+/// Greater numbers are taken for this one where they are compared with wide bounds.
+const MOST: u32 = (1 << 30) - 1;
+
 /// What is kept where this stands.
 #[inline(always)]
 pub fn kept(near: Neighbour) -> Option<Neighbour>
@@ -44,12 +50,14 @@ pub fn kept(near: Neighbour) -> Option<Neighbour>
 }
 
 /// What is kept for each member, and its key once more, so that several can be compared at a time. For each key there is a
-/// bound in 16 bits as well: it is no more than the base and the bound, if that is not the greatest number.
+/// bound in 16 bits as well: it is no more than the base and the bound, if that is not the greatest number. Wide bounds are
+/// the same in 31 bits.
 #[derive(Drop)]
 pub struct Neighbours {
     near: Vec<Neighbour>,
     keys: Vec<u64>,
     bounds: Vec<u16>,
+    wide: Vec<u32>,
 }
 
 impl Model for Neighbours {
@@ -61,7 +69,7 @@ impl Model for Neighbours {
 
     ghost view = { λ k. k.near.items };
 
-    ghost invariant = { λ k. AreBounds k.near.items k.keys.items k.bounds.items };
+    ghost invariant = { λ k. AreBounds k.near.items k.keys.items k.bounds.items k.wide.items };
 }
 
 /// A bound of a key.
@@ -70,6 +78,15 @@ fn bound_of(key: u64) -> u16
     ensures { IsBound key result }
 {
     key.saturating_sub(BASE).min(65535) as u16
+}
+
+/// A wide bound of a key.
+#[inline(always)]
+fn wide_of(key: u64) -> u32
+    ensures bound { IsWide key result }
+    ensures low { result < 2 ^ 31 }
+{
+    key.saturating_sub(WIDE_BASE).min(2147483647) as u32
 }
 
 /// Whether so many bounds from a place on are less than the numbers there and another one together.
@@ -110,29 +127,23 @@ fn are_no_more(keys: &[u64], numbers: &[u64], start: usize, width: usize, offset
     bits < 1 << 63
 }
 
-/// The same beside numbers of 32 bits.
+/// The same of wide bounds, and of numbers that are no more than the greatest, beside another one.
 #[inline(always)]
-fn are_no_more_medium(
-    keys: &[u64],
-    numbers: &[u32],
-    start: usize,
-    width: usize,
-    offset: u64,
-) -> bool
-    requires keys { start + width ≤ length keys.now }
+fn are_no_more_wide(wide: &[u32], numbers: &[u32], start: usize, width: usize, more: u32) -> bool
+    requires wide { start + width ≤ length wide.now }
     requires numbers { start + width ≤ length numbers.now }
-    requires low { All (λ key. key ≤ 2 ^ 62) keys.now }
-    requires offset { offset ≤ 2 ^ 61 }
+    requires low { All (λ bound. bound < 2 ^ 31) wide.now }
+    requires more { more < 2 ^ 30 }
     ensures { result ≡ true → (k : ℕ) → k < width →
-        slice_index keys.now (start + k) ≤ slice_index numbers.now (start + k) + offset }
+        slice_index wide.now (start + k) ≤ min (slice_index numbers.now (start + k)) 1073741823 + more }
 {
-    let known = &keys[start..start + width];
+    let known = &wide[start..start + width];
     let far = &numbers[start..start + width];
-    let mut bits: u64 = 0;
+    let mut bits: u32 = 0;
     for k in 0..width {
-        bits |= (far[k] as u64 + offset).wrapping_sub(known[k]);
+        bits |= (far[k].min(MOST) + more).wrapping_sub(known[k]);
     }
-    bits < 1 << 63
+    bits < 1 << 31
 }
 
 impl Neighbours {
@@ -143,7 +154,13 @@ impl Neighbours {
         let near = vec![in alloc; NOBODY; n]?;
         let keys = vec![in alloc; NOBODY.key; n]?;
         let bounds = vec![in alloc; 65535; n]?;
-        Ok(Neighbours { near, keys, bounds })
+        let wide = vec![in alloc; 2147483647; n]?;
+        Ok(Neighbours {
+            near,
+            keys,
+            bounds,
+            wide,
+        })
     }
 
     /// What stands for a member.
@@ -174,10 +191,11 @@ impl Neighbours {
         self.near[member as usize] = other;
         self.keys[member as usize] = other.key;
         self.bounds[member as usize] = bound_of(other.key);
+        self.wide[member as usize] = wide_of(other.key);
     }
 
     /// Whether what is kept for so many members from a place on is as near as one whose keys are the distances of a row and
-    /// an offset. Short ones are compared with bounds alone, so that it may say no where it is.
+    /// an offset. Short and medium ones are compared with bounds alone, so that it may say no where it is.
     #[inline(always)]
     pub fn stay(&self, row: Row<'_>, start: usize, width: usize, offset: u64) -> bool
         requires kept { start + width ≤ length self.now }
@@ -189,7 +207,13 @@ impl Neighbours {
     {
         match row {
             Row::Long(numbers) => are_no_more(&self.keys, numbers, start, width, offset),
-            Row::Medium(numbers) => are_no_more_medium(&self.keys, numbers, start, width, offset),
+            Row::Medium(numbers) => {
+                if offset < WIDE_BASE {
+                    return false;
+                }
+                let more = (offset - WIDE_BASE).min(MOST as u64) as u32;
+                are_no_more_wide(&self.wide, numbers, start, width, more)
+            }
             Row::Short(numbers) => {
                 if offset < BASE {
                     return false;
