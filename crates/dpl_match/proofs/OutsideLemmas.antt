@@ -1,5 +1,5 @@
 -- The members outside of a top set, and the nearest of them.
-use Rattle.std.proofs.Common.{arith, ◌≡◌, ℕ, ◌+◌, ◌-◌, ◌^◌, ◌<◌, ◌≤◌, ◌⊎◌, refl, sym, ap, ◌∙◌, subst, Bool, cond, inl, inr, eqb}
+use Rattle.std.proofs.Common.{arith, ◌≡◌, ℕ, ◌+◌, ◌-◌, ◌^◌, ◌<◌, ◌≤◌, ◌⊎◌, refl, sym, ap, ◌∙◌, subst, Bool, true, cond, inl, inr, eqb}
 use Rattle.std.proofs.Common.{Some, None, List, length, get_or, ◌++◌, ◌∷◌, [], length-append}
 use Rattle.std.proofs.lemmas.Bool.{cases_eq, cases_lt, cases_Bool, eqb-true, eqb-false}
 use Rattle.std.proofs.lemmas.List.{get_or_append_left, get_or-append-add}
@@ -29,6 +29,20 @@ outside_passed m known level x k list none h = record {
   all = λ s l o. elim (cases_eq s k) [
     | inl e ↦ absurd (none (subst (IsOutside m known x) e o))
     | inr ne ↦ h.all s (omega (arith, l, ne)) o
+  ];
+}
+
+-- a part of which none lies outside changes nothing
+pub outside_part_passed : (m : Members) (known : ℕ → Bool) (level x start : ℕ) (list : List Other)
+    → ((k : ℕ) → k < 8 → known (start + k) ≡ true → m.sets.top (start + k) ≡ x)
+    → AreOutside m known level x start list → AreOutside m known level x (start + 8) list
+outside_part_passed m known level x start list none h = record {
+  each = h.each;
+  all = λ s l o. elim (cases_lt s start) [
+    | inl lt ↦ h.all s lt o
+    | inr le ↦ (let k : ℕ = s - start in
+        let is : start + k ≡ s = omega (arith, le) in
+        absurd (o.apart (ap m.sets.top (sym is) ∙ none k (omega (arith, l, le)) (ap known is ∙ o.listed))))
   ];
 }
 

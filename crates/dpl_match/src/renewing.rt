@@ -11,7 +11,7 @@ ghost use Rattle.dpl_match.specs.steps.Nearest.{HasPlaces, HasSameMembers, AreTo
 ghost use Rattle.dpl_match.specs.steps.Outsiders.{IsLeastOutside, AreOutside, AreOthers, IsFoundOutside, AreNoNearer};
 ghost use Rattle.dpl_match.specs.steps.Scans.{members_of};
 
-use super::neighbours::{NOBODY, Neighbour};
+use super::neighbours::{GROUP, NOBODY, Neighbour};
 use super::stage::OuterTable;
 use dpl_tree::{Close, Matching, Metric, Row, Seen};
 use std::alloc::{AllocError, Global};
@@ -399,6 +399,57 @@ fn put_outside(
     Ok(())
 }
 
+/// Whether one of so many members from one on is known and lies outside of a top set.
+#[inline(always)]
+fn has_outside(
+    metric: &Metric,
+    matching: &Matching,
+    table: &OuterTable,
+    top: u32,
+    start: u32,
+) -> bool
+    requires totals { AreTotals metric.now matching.now }
+    requires table { HasPlaces metric.now table.now }
+    requires start { start + 8 ≤ metric.now.size }
+    ensures { result ≡ false → (k : ℕ) → k < 8 → is_known table.now.known.items (start + k) ≡ true →
+        (sets_of matching.now.family).top (start + k) ≡ top }
+{
+    let _size = metric.size();
+    let mut found = false;
+    for k in 0..GROUP as u32 {
+        let s = start + k;
+        found |= (matching.family.tops(s) != top) & table.has(s);
+    }
+    found
+}
+
+/// Puts the members from one on before another at the end of a list that are known and lie outside of a top set.
+fn put_part(
+    metric: &Metric,
+    matching: &Matching,
+    table: &OuterTable,
+    top: u32,
+    start: u32,
+    end: u32,
+    list: &mut Vec<Other>,
+) -> Result<(), AllocError>
+    requires totals { AreTotals metric.now matching.now }
+    requires table { HasPlaces metric.now table.now }
+    requires order { start ≤ end }
+    requires end { end ≤ metric.now.size }
+    requires before { AreOutside (members_of metric.now matching.now) (is_known table.now.known.items)
+        (level_of (members_of metric.now matching.now) table.now.origin) top start list.old.items }
+    ensures { OnOk result (AreOutside (members_of metric.now matching.now) (is_known table.now.known.items)
+        (level_of (members_of metric.now matching.now) table.now.origin) top end list.new.items) }
+{
+    let _size = metric.size();
+    let level = table.level(matching);
+    for s in start..end {
+        put_outside(metric, matching, table, top, level, s, list)?;
+    }
+    Ok(())
+}
+
 /// The known members outside of a top set, in order.
 fn outside(
     alloc: Global,
@@ -412,12 +463,25 @@ fn outside(
     ensures { IfOk result (λ list. AreOutside (members_of metric.now matching.now) (is_known table.now.known.items)
         (level_of (members_of metric.now matching.now) table.now.origin) top metric.now.size list.items) }
 {
-    let level = table.level(matching);
     let n = metric.size() as u32;
+    let width = GROUP as u32;
+    let parts = n / width;
     let mut list = Vec::new(alloc);
-    for s in 0..n {
-        put_outside(metric, matching, table, top, level, s, &mut list)?;
+    for i in 0..parts {
+        let start = i * width;
+        if has_outside(metric, matching, table, top, start) {
+            put_part(
+                metric,
+                matching,
+                table,
+                top,
+                start,
+                start + width,
+                &mut list,
+            )?;
+        }
     }
+    put_part(metric, matching, table, top, parts * width, n, &mut list)?;
     Ok(list)
 }
 
