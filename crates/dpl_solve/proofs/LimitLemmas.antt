@@ -115,19 +115,19 @@ all_below unit radii s rows new all r = record {
 -- ---- rows in place
 
 -- the rows before s are up to both radii, the others as they were
-pub record ArePlaced (radii : List ℕ) (s : ℕ) (old new : List ℕ) : Type 0 where
-  pub below : AreBelow 1 radii s old new
+pub record ArePlaced (unit : ℕ) (radii : List ℕ) (s : ℕ) (old new : List ℕ) : Type 0 where
+  pub below : AreBelow unit radii s old new
   pub after : (a u : ℕ) → s ≤ a → a < length radii → u < length radii → entry (length radii) new a u ≡ entry (length radii) old a u
 
-pub placed_more : (radii : List ℕ) (s : ℕ) (old now new : List ℕ) → s < length radii → IsRowLimited 1 radii s now now new
-    → ArePlaced radii s old now → ArePlaced radii (s + 1) old new
-placed_more radii s old now new hs row r =
-    let here : IsRowLimited 1 radii s old now new = record {
+pub placed_more : (unit : ℕ) (radii : List ℕ) (s : ℕ) (old now new : List ℕ) → s < length radii
+    → IsRowLimited unit radii s now now new → ArePlaced unit radii s old now → ArePlaced unit radii (s + 1) old new
+placed_more unit radii s old now new hs row r =
+    let here : IsRowLimited unit radii s old now new = record {
       count = row.count;
-      here = λ u hu. row.here u hu ∙ ap (limited_to 1 radii s u) (r.after s u (omega arith) hs hu);
+      here = λ u hu. row.here u hu ∙ ap (limited_to unit radii s u) (r.after s u (omega arith) hs hu);
       others = row.others;
     } in
     record {
-      below = rows_below 1 radii s old now new here r.below;
+      below = rows_below unit radii s old now new here r.below;
       after = λ a u le ha hu. row.others a u ha hu (λ q. omega (arith, q, le)) ∙ r.after a u (omega (arith, le)) ha hu;
     }

@@ -1,10 +1,11 @@
 -- Waves over the faces of a part: what stands is reached, and when all steps were tried, nothing is nearer.
-use Rattle.std.proofs.Common.{arith, ◌≡◌, ◌≢◌, ℕ, ◌+◌, ◌-◌, ◌*◌, ◌<◌, ◌≤◌, ◌++◌, min, sym, ap, ◌∙◌, subst}
-use Rattle.std.proofs.Common.{true, inl, inr, List, [], ◌∷◌, length, get_or, set, All}
+use Rattle.std.proofs.Common.{arith, ◌≡◌, ℕ, ◌+◌, ◌-◌, ◌*◌, ◌<◌, ◌≤◌, ◌++◌, min, sym, ap, ◌∙◌, subst}
+use Rattle.std.proofs.Common.{true, refl, inl, inr, ◌⊎◌, List, [], ◌∷◌, length, get_or, set, take, All}
 use Rattle.std.proofs.Common.{length-set, get_or-set_same, get_or-set_other}
 use Rattle.std.specs.Prelude.{Contains, slice_index, slice_index_or}
 use Rattle.std.proofs.lemmas.Bool.{cases_lt, cases_eq}
 use Rattle.std.proofs.Math.Nat.{mul-le-mul_left}
+use Rattle.std.proofs.Math.Seq.{take-append_seam}
 use Rattle.std.proofs.lemmas.Nat.{mul-add-lt, same_from_place}
 use Rattle.std.proofs.lemmas.List.{get_or_default}
 use Rattle.std.proofs.lemmas.List.Sums.{sum_by-cons, sum_by_push}
@@ -16,11 +17,13 @@ use Rattle.dpl_dual.specs.Duals.{IsStep}
 use Rattle.dpl_dual.specs.Searches.{no_step}
 use Rattle.dpl_dual.proofs.ChainLemmas.{leads_more, leads_back}
 use Rattle.dpl_dual.proofs.WorkLemmas.{dual_rows, stands_at}
-use Rattle.dpl_solve.specs.declared.waves.Lengths.{Lengths}
 use Rattle.dpl_solve.specs.declared.waves.Wave.{Wave}
+use Rattle.dpl_solve.specs.Lengths.{lengths_at, far_at, AreAllAt, IsPlacePut, AreLowered, IsSourcePut}
 use Rattle.dpl_solve.specs.Metrics.{entry}
-use Rattle.dpl_solve.specs.Waves.{AreUnits, IsWave, size, face_at, place_at, source_at, steps_of, step_at, IsPlaced, lengths_at, far_at, IsReached, IsRowOf}
-use Rattle.dpl_solve.specs.Waves.{AreReached, IsStepTried, AreStepsTried, IsFound, IsRowPut, AreUnitsApart, AreUnitRows, AreWritten}
+use Rattle.dpl_solve.specs.Orders.{IsOrder}
+use Rattle.dpl_solve.specs.Waves.{IsWave, size, face_at, place_at, number_at, source_at, steps_of, step_at, IsPlaced, IsReached, IsRowOf}
+use Rattle.dpl_solve.specs.Waves.{AreReached, IsStepTried, AreStepsTried, IsFound, IsPutAt, AreFirstPut, IsRowPut, AreUnitsApart}
+use Rattle.dpl_solve.specs.Waves.{AreUnitRows, AreWritten}
 
 -- ---- units
 
@@ -43,14 +46,14 @@ reached_below ways faces from v xs a e k d h =
     ((a.reached f).0 (subst (λ z. stands_in z f ≡ true) e (stands_at xs k d h))).0
 
 -- a length that is lowered to that of a step and another face is still reached
-pub step_reached : (w : Wave) (k face : ℕ) (step : Step) (old here new : ℕ) → IsWave w → IsStep w.dual.now.crosses face step
-    → IsReached w k step.to old → IsReached w k face here → (units : ℕ) → AreUnits w.unit step.length units
-    → new ≡ min old (min (here + units) 65535) → IsReached w k step.to new
-step_reached w k face step old here new v (x, is_way, at, e) there from units (n, whole, up_to) lower = record {
+pub step_reached : (w : Wave) (k face : ℕ) (step : Step) (old here new : ℕ) → IsStep w.dual.now.crosses face step
+    → IsReached w k step.to old → IsReached w k face here → (units : ℕ) → step.length ≡ w.unit * units
+    → new ≡ min old (here + units) → IsReached w k step.to new
+step_reached w k face step old here new (x, is_way, at, e) there from units whole lower = record {
   most = omega (arith, lower, there.most);
   met = elim (cases_lt new old) [
     | inl less ↦ elim from.met [
-      | inl none ↦ absurd (omega (arith, less, lower, none, there.most, v.short))
+      | inl none ↦ absurd (omega (arith, less, lower, none, there.most))
       | inr c ↦
           let to : step.to ≡ beyond x face = ap (λ (z : Step). z.to) e in
           let long : step.length ≡ x.length = ap (λ (z : Step). z.length) e in
@@ -60,7 +63,7 @@ step_reached w k face step old here new v (x, is_way, at, e) there from units (n
                 (leads_more w.dual.now.crosses (source_at w k) c.0 face x c.1 is_way at),
             omega (
               arith,
-              units_of_sum w.unit here n new (omega (arith, less, lower, up_to, there.most, v.short)),
+              units_of_sum w.unit here units new (omega (arith, less, lower)),
               c.2,
               whole,
               long,
@@ -74,78 +77,66 @@ step_reached w k face step old here new v (x, is_way, at, e) there from units (n
   ];
 }
 
--- the lengths of one face are lowered
-pub reached_more : (w : Wave) (begun p : ℕ) (next : Lengths) (far : List Lengths) → p < size w → AreReached w begun far
-    → IsRowOf w (face_at w p) next → ((k : ℕ) → k < 64 → slice_index next.far k ≤ far_at far p k)
-    → AreReached w begun (set far p next)
-reached_more w begun p next far hp r row less =
-    let blank : Lengths = record { far = [] } in
-    let here : lengths_at (set far p next) p ≡ next = get_or-set_same far p next blank (omega (arith, hp, r.count)) in
-    record {
-      count = length-set far p next ∙ r.count;
-      each = λ a ha. elim (cases_eq a p) [
-        | inl q ↦
-            let there : lengths_at (set far p next) a ≡ next = ap (lengths_at (set far p next)) q ∙ here in
-            subst (IsRowOf w (face_at w a)) (sym there) (subst (λ z. IsRowOf w (face_at w z) next) (sym q) row)
-        | inr ne ↦ subst (IsRowOf w (face_at w a)) (sym (get_or-set_other far p a next blank ne)) (r.each a ha)
-      ];
-      zero = λ k hk hb.
-          let z = r.zero k hk hb in
-          let q : ℕ = place_at w (source_at w k) in (
-            z.0,
-            elim (cases_eq q p) [
-              | inl e ↦
-                  let now : far_at (set far p next) q k ≡ slice_index next.far k = ap (λ (y : Lengths). slice_index y.far k)
-                  (ap (lengths_at (set far p next)) e ∙ here) in
-                  omega (arith, now, less k hk, ap (λ y. far_at far y k) e, z.1)
-              | inr ne ↦ ap (λ (y : Lengths). slice_index y.far k) (get_or-set_other far p q next blank ne) ∙ z.1
-            ],
-          );
-    }
+-- the lengths at one place are lowered
+pub reached_more : (w : Wave) (begun p : ℕ) (old new : List (List ℕ)) → AreReached w begun old → IsPlacePut p old new
+    → IsRowOf w (face_at w p) (lengths_at new p) → ((k : ℕ) → k < 64 → far_at new p k ≤ far_at old p k)
+    → AreReached w begun new
+reached_more w begun p old new r put row less = record {
+  count = put.count ∙ r.count;
+  each = λ a ha. elim (cases_eq a p) [
+    | inl q ↦ subst (λ z. IsRowOf w (face_at w z) (lengths_at new z)) (sym q) row
+    | inr ne ↦ subst (IsRowOf w (face_at w a)) (sym (put.others a ne)) (r.each a ha)
+  ];
+  zero = λ k hk hb.
+      let z = r.zero k hk hb in
+      let q : ℕ = place_at w (source_at w k) in (
+        z.0,
+        elim (cases_eq q p) [
+          | inl e ↦ omega (arith, less k hk, ap (λ y. far_at new y k) e, ap (λ y. far_at old y k) e, z.1)
+          | inr ne ↦ ap (λ y. slice_index y k) (put.others q ne) ∙ z.1
+        ],
+      );
+}
 
 -- the lengths of a face that a step leads to are lowered
-pub step_taken : (w : Wave) (begun face p units : ℕ) (step : Step) (here next : Lengths) (far : List Lengths) → IsWave w
-    → IsStep w.dual.now.crosses face step → IsRowOf w face here → AreReached w begun far → (p < size w) × (face_at w p ≡ step.to)
-    → AreUnits w.unit step.length units
-    → ((k : ℕ) → k < 64 → slice_index next.far k ≡ min (far_at far p k) (min (slice_index here.far k + units) 65535))
-    → AreReached w begun (set far p next)
-step_taken w begun face p units step here next far v is_step row r at whole each =
-    let beyond_it : IsRowOf w (face_at w p) next = λ k hk.
-    subst (λ z. IsReached w k z (slice_index next.far k)) (sym at.1)
-    (step_reached w k face step (far_at far p k) (slice_index here.far k) (slice_index next.far k) v is_step
-    (subst (λ z. IsReached w k z (far_at far p k)) at.1 (r.each p at.0 k hk)) (row k hk) units whole (each k hk)) in
-    reached_more w begun p next far at.0 r beyond_it (λ k hk. omega (arith, each k hk))
+pub step_taken : (w : Wave) (begun from p units : ℕ) (step : Step) (old new : List (List ℕ))
+    → IsStep w.dual.now.crosses (face_at w from) step → from < size w → AreReached w begun old
+    → (p < size w) × (face_at w p ≡ step.to) → step.length ≡ w.unit * units → AreLowered from p units old new
+    → AreReached w begun new
+step_taken w begun from p units step old new is_step h r at whole low =
+    let row : IsRowOf w (face_at w p) (lengths_at new p) = λ k hk.
+    subst (λ z. IsReached w k z (far_at new p k)) (sym at.1)
+    (step_reached w k (face_at w from) step (far_at old p k) (far_at old from k) (far_at new p k) is_step
+    (subst (λ z. IsReached w k z (far_at old p k)) at.1 (r.each p at.0 k hk)) (r.each from h k hk) units whole (low.here k hk)) in
+    reached_more w begun p old new r low.put row (λ k hk. omega (arith, low.here k hk))
 
 -- nothing is reached but the limit
-pub reached_none : (w : Wave) (begun : ℕ) (far : List Lengths) → length far ≡ size w → begun ≤ w.first
-    → ((a k : ℕ) → a < length far → k < 64 → far_at far a k ≡ w.limit) → AreReached w begun far
-reached_none w begun far count least each = record {
-  count = count;
+pub reached_none : (w : Wave) (begun : ℕ) (far : List (List ℕ)) → begun ≤ w.first → AreAllAt w.limit (size w) far
+    → AreReached w begun far
+reached_none w begun far least all = record {
+  count = all.count;
   each = λ a ha k hk.
-      let is = each a k (omega (arith, ha, count)) hk in
+      let is = all.each a k ha hk in
       record { most = omega (arith, is); met = inl is };
   zero = λ k hk hb. absurd (omega (arith, hb, least));
 }
 
 -- a source is put at 0
-pub source_put : (w : Wave) (k p : ℕ) (next : Lengths) (far : List Lengths) → k < 64 → AreReached w (w.first + k) far
-    → (p < size w) × (face_at w p ≡ source_at w k) → p ≡ place_at w (source_at w k)
-    → slice_index next.far k ≡ 0 → ((j : ℕ) → j ≢ k → slice_index next.far j ≡ far_at far p j)
-    → AreReached w (w.first + (k + 1)) (set far p next)
-source_put w k p next far hk r at noted zero others =
-    let blank : Lengths = record { far = [] } in
-    let row : IsRowOf w (face_at w p) next = λ j hj. elim (cases_eq j k) [
+pub source_put : (w : Wave) (k p : ℕ) (old new : List (List ℕ)) → k < 64 → AreReached w (w.first + k) old
+    → (p < size w) × (face_at w p ≡ source_at w k) → p ≡ place_at w (source_at w k) → IsSourcePut p k old new
+    → AreReached w (w.first + (k + 1)) new
+source_put w k p old new hk r at noted put =
+    let row : IsRowOf w (face_at w p) (lengths_at new p) = λ j hj. elim (cases_eq j k) [
       | inl q ↦
-          let is : slice_index next.far j ≡ 0 = ap (slice_index next.far) q ∙ zero in
+          let is : far_at new p j ≡ 0 = ap (far_at new p) q ∙ put.zero in
           record { most = omega (arith, is); met = inr ([], ap (source_at w) q ∙ sym at.1, ap (λ z. w.unit * z) is ∙ units_none w.unit) }
-      | inr ne ↦ subst (IsReached w j (face_at w p)) (sym (others j ne)) (r.each p at.0 j hj)
+      | inr ne ↦ subst (IsReached w j (face_at w p)) (sym (put.beside j ne)) (r.each p at.0 j hj)
     ] in
-    let less : (j : ℕ) → j < 64 → slice_index next.far j ≤ far_at far p j = λ j hj. elim (cases_eq j k) [
-      | inl q ↦ omega (arith, ap (slice_index next.far) q ∙ zero)
-      | inr ne ↦ omega (arith, others j ne)
+    let less : (j : ℕ) → j < 64 → far_at new p j ≤ far_at old p j = λ j hj. elim (cases_eq j k) [
+      | inl q ↦ omega (arith, ap (far_at new p) q ∙ put.zero)
+      | inr ne ↦ omega (arith, put.beside j ne)
     ] in
-    let m = reached_more w (w.first + k) p next far at.0 r row less in
-    let here : lengths_at (set far p next) p ≡ next = get_or-set_same far p next blank (omega (arith, at.0, r.count)) in
+    let m = reached_more w (w.first + k) p old new r put.put row less in
     record {
       count = m.count;
       each = m.each;
@@ -154,8 +145,7 @@ source_put w k p next far hk r at noted zero others =
             let place : place_at w (source_at w j) ≡ p = ap (λ z. place_at w (source_at w z)) q ∙ sym noted in
             let face : face_at w p ≡ source_at w j = at.1 ∙ ap (source_at w) (sym q) in (
               (subst (λ z. z < size w) (sym place) at.0, ap (face_at w) place ∙ face),
-              ap (λ z. far_at (set far p next) z j) place ∙ ap (λ (y : Lengths). slice_index y.far j) here ∙
-                  ap (slice_index next.far) q ∙ zero,
+              ap (λ z. far_at new z j) place ∙ ap (far_at new p) q ∙ put.zero,
             )
         | inr ne ↦ m.zero j hj (omega (arith, hb, ne))
       ];
@@ -164,24 +154,18 @@ source_put w k p next far hk r at noted zero others =
 -- ---- what is found
 
 -- a step is tried where no length beyond it is more than here and its units together
-pub step_tried : (w : Wave) (p units : ℕ) (here : Lengths) (step : Step) (far : List Lengths)
-    → (p < size w) × (face_at w p ≡ step.to) → p ≡ place_at w step.to → AreUnits w.unit step.length units
-    → ((k : ℕ) → k < 64 → far_at far p k ≤ slice_index here.far k + units) → IsStepTried w here step far
-step_tried w p units here step far at noted (n, whole, up_to) less = (
+pub step_tried : (w : Wave) (from p units : ℕ) (step : Step) (far : List (List ℕ))
+    → (p < size w) × (face_at w p ≡ step.to) → p ≡ place_at w step.to → step.length ≡ w.unit * units
+    → ((k : ℕ) → k < 64 → far_at far p k ≤ far_at far from k + units) → IsStepTried w from step far
+step_tried w from p units step far at noted whole less = (
   (subst (λ z. z < size w) noted at.0, ap (face_at w) (sym noted) ∙ at.1),
   λ k hk.
-      let there : far_at far (place_at w step.to) k ≤ slice_index here.far k + n = omega (
+      let there : far_at far (place_at w step.to) k ≤ far_at far from k + units = omega (
         arith,
         less k hk,
-        up_to,
         ap (λ z. far_at far z k) noted,
       ) in
-      omega (
-        arith,
-        mul-le-mul_left w.unit there,
-        units_sum w.unit (slice_index here.far k) n,
-        whole,
-      ),
+      omega (arith, mul-le-mul_left w.unit there, units_sum w.unit (far_at far from k) units, whole),
 )
 
 -- a step serves as well as a way at a face
@@ -200,7 +184,7 @@ is_served w a x v ha (j, l, e) at =
     )
 
 -- along a chain no face is farther than the one where it begins, and the chain
-none_farther : (w : Wave) (k f h : ℕ) (xs : List Cross) (far : List Lengths) → IsWave w → k < 64
+none_farther : (w : Wave) (k f h : ℕ) (xs : List Cross) (far : List (List ℕ)) → IsWave w → k < 64
     → ((a : ℕ) → a < size w → AreStepsTried w a far) → IsPlaced w f → Leads w.dual.now.crosses f xs h
     → w.unit * far_at far (place_at w h) k ≤ w.unit * far_at far (place_at w f) k + length_of xs
 none_farther w k f h [] far v hk tried p l = omega (arith, ap (λ z. w.unit * far_at far (place_at w z) k) l)
@@ -213,7 +197,7 @@ none_farther w k f h (x ∷ xs) far v hk tried p l =
     let rest = none_farther w k (beyond x f) h xs far v hk tried next l.2 in
     omega (arith, rest, t.1 k hk, ap (λ z. w.unit * far_at far (place_at w z) k) to, y.3, sum_by-cons (λ (z : Cross). z.length) x xs)
 
-pub all_found : (w : Wave) (far : List Lengths) → IsWave w → AreReached w (length w.odd.now) far
+pub all_found : (w : Wave) (far : List (List ℕ)) → IsWave w → AreReached w (length w.order.now) far
     → ((a : ℕ) → a < size w → AreStepsTried w a far) → IsFound w far
 all_found w far v r tried k f hk inside p =
     let x : ℕ = far_at far (place_at w f) k in
@@ -250,103 +234,152 @@ turned ways limit f h x d = record {
   ];
 }
 
--- the row of one odd face more is written
-pub row_written : (w : Wave) (s p : ℕ) (far : List Lengths) (old new : List ℕ) → IsFound w far → s < length w.odd.now
+-- what was put at an odd face is how far it is
+put_apart : (w : Wave) (s p : ℕ) (far : List (List ℕ)) (new : List ℕ) → IsFound w far
     → (p < size w) × (face_at w p ≡ slice_index w.odd.now s) → p ≡ place_at w (slice_index w.odd.now s)
-    → IsRowPut w (lengths_at far p) s old new → (k : ℕ) → k < 64 → w.first + k < length w.odd.now
-    → IsApartBy w s (w.first + k) (entry (length w.odd.now) new s (w.first + k))
-row_written w s p far old new found hs at noted put k hk inside =
+    → (u : ℕ) → IsPutAt w s 64 (lengths_at far p) new u → IsApartBy w s u (entry (length w.odd.now) new s u)
+put_apart w s p far new found at noted u (k, hk, inside, is, put) =
+    let n : ℕ = length w.odd.now in
     let f : ℕ = slice_index w.odd.now s in
     let placed : IsPlaced w f = (subst (λ z. z < size w) noted at.0, ap (face_at w) (sym noted) ∙ at.1) in
-    let value : entry (length w.odd.now) new s (w.first + k) ≡ far_at far (place_at w f) k = put.here k hk inside ∙
-    ap (λ z. far_at far z k) noted in
-    subst (IsApartBy w s (w.first + k)) (sym value)
-    (turned w.dual.now.crosses (w.unit * w.limit) (source_at w k) f (w.unit * far_at far (place_at w f) k) (found k f hk inside placed))
+    let value : entry n new s u ≡ far_at far (place_at w f) k = put ∙ ap (λ z. far_at far z k) noted in
+    let there = turned w.dual.now.crosses (w.unit * w.limit) (source_at w k) f (w.unit * far_at far (place_at w f) k)
+    (found k f hk inside placed) in
+    subst (IsApartBy w s u) (sym value) (subst (λ z. IsApartBy w s z (far_at far (place_at w f) k)) is there)
+
+-- the distance from an odd face of the order
+abbrev pub IsWrittenAt : Wave → List ℕ → ℕ → ℕ → Type 0
+IsWrittenAt w dists a j = IsApartBy w a (slice_index w.order.now j) (entry (length w.odd.now) dists a (slice_index w.order.now j))
 
 -- the rows before s are written up to the end of a wave, the others up to its beginning
 pub record AreRowsWritten (w : Wave) (s : ℕ) (dists : List ℕ) : Type 0 where
   pub count : length dists ≡ length w.odd.now * length w.odd.now
-  pub before : (a u : ℕ) → a < s → a < length w.odd.now → u < length w.odd.now → u < w.first + 64 →
-      IsApartBy w a u (entry (length w.odd.now) dists a u)
-  pub after : (a u : ℕ) → a < length w.odd.now → u < length w.odd.now → u < w.first →
-      IsApartBy w a u (entry (length w.odd.now) dists a u)
+  pub before : (a j : ℕ) → a < s → a < length w.odd.now → j < length w.order.now → j < w.first + 64 → IsWrittenAt w dists a j
+  pub after : (a j : ℕ) → a < length w.odd.now → j < length w.order.now → j < w.first → IsWrittenAt w dists a j
 
-pub rows_more : (w : Wave) (s p : ℕ) (far : List Lengths) (old new : List ℕ) → IsFound w far → s < length w.odd.now
+pub rows_more : (w : Wave) (s p : ℕ) (far : List (List ℕ)) (old new : List ℕ) → IsWave w → IsFound w far
     → (p < size w) × (face_at w p ≡ slice_index w.odd.now s) → p ≡ place_at w (slice_index w.odd.now s)
-    → IsRowPut w (lengths_at far p) s old new → AreRowsWritten w s old → AreRowsWritten w (s + 1) new
-rows_more w s p far old new found hs at noted put r =
+    → IsRowPut w s (lengths_at far p) old new → AreRowsWritten w s old → AreRowsWritten w (s + 1) new
+rows_more w s p far old new v found at noted put r =
     let n : ℕ = length w.odd.now in
-    let P : ℕ → ℕ → ℕ → Type 0 = λ a u x. IsApartBy w a u x in
-    let kept : (a u : ℕ) → a < n → u < n → (a ≡ s → w.first ≤ u → ⊥) → P a u (entry n old a u) → P a u (entry n new a u) =
-    λ a u ha hu no z. subst (P a u) (sym (put.others a u ha hu no)) z in
-    let here = row_written w s p far old new found hs at noted put in
+    let there : (j : ℕ) → j < length w.order.now → slice_index w.order.now j < n = λ j hj. v.order.below j 0 hj in
+    let apart = put_apart w s p far new found at noted in
+    -- what was right is so still
+    let kept : (a j : ℕ) → a < n → j < length w.order.now → IsWrittenAt w old a j → IsWrittenAt w new a j = λ a j ha hj is.
+    let u : ℕ = slice_index w.order.now j in
+    elim (put.others a u ha (there j hj)) [
+      | inl same ↦ subst (IsApartBy w a u) (sym same) is
+      | inr now ↦ subst (λ z. IsApartBy w z u (entry n new z u)) (sym now.0) (apart u now.1)
+    ] in
     record {
       count = put.count ∙ r.count;
-      before = λ a u ha hn hu hw. elim (cases_lt u w.first) [
-        | inl lt ↦ kept a u hn hu (λ e le. omega (arith, lt, le)) (r.after a u hn hu lt)
+      before = λ a j ha hn hj hw. elim (cases_lt j w.first) [
+        | inl lt ↦ kept a j hn hj (r.after a j hn hj lt)
         | inr ge ↦ elim (cases_eq a s) [
           | inl q ↦
-              let k : ℕ = u - w.first in
-              let at_u : w.first + k ≡ u = omega (arith, ge) in
-              let z = here k (omega (arith, at_u, hw)) (omega (arith, at_u, hu)) in
-              let y : P s u (entry n new s u) = subst (λ i. P s i (entry n new s i)) at_u z in
-              subst (λ b. P b u (entry n new b u)) (sym q) y
-          | inr ne ↦ kept a u hn hu (λ e le. ne e) (r.before a u (omega (arith, ha, ne)) hn hu hw)
+              let k : ℕ = j - w.first in
+              let at_j : w.first + k ≡ j = omega (arith, ge) in
+              let z = apart (number_at w k) (put.here k (omega (arith, at_j, hw)) (omega (arith, at_j, hj))) in
+              let y : IsWrittenAt w new s j = subst (λ i. IsWrittenAt w new s i) at_j z in
+              subst (λ b. IsWrittenAt w new b j) (sym q) y
+          | inr ne ↦ kept a j hn hj (r.before a j (omega (arith, ha, ne)) hn hj hw)
         ]
       ];
-      after = λ a u ha hu hw. kept a u ha hu (λ e le. omega (arith, hw, le)) (r.after a u ha hu hw);
+      after = λ a j ha hj hw. kept a j ha hj (r.after a j ha hj hw);
     }
 
 pub rows_begun : (w : Wave) (dists : List ℕ) → AreWritten w w.first dists → AreRowsWritten w 0 dists
 rows_begun w dists a = record {
   count = a.count;
-  before = λ b u hb. absurd (omega (arith, hb));
-  after = λ b u hb hu hw. a.each b u hb hu hw;
+  before = λ b j hb. absurd (omega (arith, hb));
+  after = λ b j hb hj hw. a.each b j hb hj hw;
 }
 
 pub rows_all : (w : Wave) (dists : List ℕ) (s : ℕ) → length w.odd.now ≤ s → AreRowsWritten w s dists
     → AreWritten w (w.first + 64) dists
 rows_all w dists s all r = record {
   count = r.count;
-  each = λ a u ha hu hw. r.before a u (omega (arith, ha, all)) ha hu hw;
+  each = λ a j ha hj hw. r.before a j (omega (arith, ha, all)) ha hj hw;
 }
 
 pub written_none : (w : Wave) (dists : List ℕ) → length dists ≡ length w.odd.now * length w.odd.now → AreWritten w 0 dists
-written_none w dists count = record { count = count; each = λ a u ha hu h. absurd (omega (arith, h)) }
+written_none w dists count = record { count = count; each = λ a j ha hj h. absurd (omega (arith, h)) }
 
-pub written_all : (w : Wave) (dists : List ℕ) (first : ℕ) → length w.odd.now ≤ first → AreWritten w first dists
+pub written_all : (w : Wave) (dists : List ℕ) (first : ℕ) → IsOrder (length w.odd.now) w.order.now
+    → length w.order.now ≤ first → AreWritten w first dists
     → AreUnitRows w.dual.now.crosses w.odd.now w.unit w.limit dists
-written_all w dists first all a = record {
+written_all w dists first v all a = record {
   count = a.count;
-  each = λ s u hs hu. a.each s u hs hu (omega (arith, hu, all));
+  each = λ s u hs hu.
+      let (j, hj, is) = v.all u hu in
+      subst (λ z. IsApartBy w s z (entry (length w.odd.now) dists s z)) is (a.each s j hs hj (omega (arith, hj, all)));
 }
 
 -- ---- numbers that are put into a row
 
-pub record IsRowBelow (w : Wave) (lengths : Lengths) (s i : ℕ) (old new : List ℕ) : Type 0 where
-  pub count : length new ≡ length old
-  pub here : (k : ℕ) → k < i → entry (length w.odd.now) new s (w.first + k) ≡ slice_index lengths.far k
-  pub others : (a u : ℕ) → a < length w.odd.now → u < length w.odd.now → (a ≡ s → w.first ≤ u → ⊥) →
-      entry (length w.odd.now) new a u ≡ entry (length w.odd.now) old a u
+pub none_put : (w : Wave) (s : ℕ) (lengths dists : List ℕ) → AreFirstPut w s 0 lengths dists dists
+none_put w s lengths dists = record {
+  count = refl;
+  here = λ k hk. absurd (omega (arith, hk));
+  others = λ a u ha hu. inl refl;
+}
 
-pub row_more : (w : Wave) (lengths : Lengths) (s i at x : ℕ) (old now : List ℕ) → s < length w.odd.now
-    → w.first + i < length w.odd.now → length old ≡ length w.odd.now * length w.odd.now
-    → at ≡ s * length w.odd.now + (w.first + i) → x ≡ slice_index lengths.far i
-    → IsRowBelow w lengths s i old now → IsRowBelow w lengths s (i + 1) old (set now at x)
-row_more w lengths s i at x old now hs hi size place e r =
+pub one_put : (w : Wave) (s i at x : ℕ) (lengths old now : List ℕ) → IsWave w → s < length w.odd.now
+    → w.first + i < length w.order.now → length old ≡ length w.odd.now * length w.odd.now
+    → at ≡ s * length w.odd.now + number_at w i → x ≡ slice_index lengths i
+    → AreFirstPut w s i lengths old now → AreFirstPut w s (i + 1) lengths old (set now at x)
+one_put w s i at x lengths old now v hs hi size place e r =
     let n : ℕ = length w.odd.now in
-    let inside : at < length now = omega (arith, r.count, size, place, mul-add-lt s n (w.first + i) n hs hi) in
+    let new : List ℕ = set now at x in
+    let here : number_at w i < n = v.order.below (w.first + i) 0 hi in
+    let inside : at < length now = omega (arith, r.count, size, place, mul-add-lt s n (number_at w i) n hs here) in
+    let put : (u : ℕ) → u ≡ number_at w i → entry n new s u ≡ slice_index lengths i = λ u q.
+    ap (λ z. get_or new z 0) (ap (λ z. s * n + z) q ∙ sym place) ∙ get_or-set_same now at x 0 inside ∙ e in
+    let same : (a u : ℕ) → u < n → (a ≡ s → u ≡ number_at w i → ⊥) → entry n new a u ≡ entry n now a u = λ a u hu no.
+    get_or-set_other now at (a * n + u) x 0 (λ q. let t = same_from_place a u s (number_at w i) n hu here (q ∙ place) in no t.0 t.1) in
+    -- what was put before, or at i
+    let still : (u : ℕ) → u < n → IsPutAt w s i lengths now u → IsPutAt w s (i + 1) lengths new u = λ u hu (k, hk, hw, is, was).
+    elim (cases_eq u (number_at w i)) [
+      | inl q ↦ (i, omega arith, hi, sym q, put u q)
+      | inr ne ↦ (k, omega (arith, hk), hw, is, same s u hu (λ a q. ne q) ∙ was)
+    ] in
     record {
       count = length-set now at x ∙ r.count;
-      here = λ k hk. elim (cases_eq k i) [
-        | inl q ↦
-            let there : s * n + (w.first + k) ≡ at = omega (arith, q, place) in
-            ap (λ z. get_or (set now at x) z 0) there ∙ get_or-set_same now at x 0 inside ∙ e ∙
-            ap (λ z. slice_index lengths.far z) (sym q)
-        | inr ne ↦ get_or-set_other now at (s * n + (w.first + k)) x 0 (λ q. ne (omega (arith, q, place))) ∙
-            r.here k (omega (arith, hk, ne))
+      here = λ k hk hw. elim (cases_eq k i) [
+        | inl q ↦ (i, omega arith, hi, ap (number_at w) (sym q), put (number_at w k) (ap (number_at w) q))
+        | inr ne ↦ still (number_at w k) (v.order.below (w.first + k) 0 hw) (r.here k (omega (arith, hk, ne)) hw)
       ];
-      others = λ a u ha hu none. get_or-set_other now at (a * n + u) x 0
-          (λ q. let same = same_from_place a u s (w.first + i) n hu hi (q ∙ place) in none same.0 (omega (arith, same.1))) ∙
-          r.others a u ha hu none;
+      others = λ a u ha hu. elim (cases_eq a s) [
+        | inl q ↦ elim (cases_eq u (number_at w i)) [
+          | inl p ↦ inr (q, (i, omega arith, hi, sym p, put u p))
+          | inr ne ↦ elim (r.others a u ha hu) [
+            | inl was ↦ inl (same a u hu (λ z y. ne y) ∙ was)
+            | inr now ↦ inr (q, still u hu now.1)
+          ]
+        ]
+        | inr ne ↦ elim (r.others a u ha hu) [
+          | inl was ↦ inl (same a u hu (λ z y. ne z) ∙ was)
+          | inr now ↦ absurd (ne now.0)
+        ]
+      ];
     }
+
+pub row_put : (w : Wave) (s i : ℕ) (lengths old new : List ℕ) → (64 ≤ i) ⊎ (length w.order.now ≤ w.first + i)
+    → i ≤ 64 → AreFirstPut w s i lengths old new → IsRowPut w s lengths old new
+row_put w s i lengths old new all most r =
+    let more : (u : ℕ) → IsPutAt w s i lengths new u → IsPutAt w s 64 lengths new u = λ u (k, hk, hw, is, was).
+    (k, omega (arith, hk, most), hw, is, was) in
+    record {
+      count = r.count;
+      here = λ k hk hw. more (number_at w k) (r.here k (elim all [ inl a ↦ omega (arith, a, hk) | inr b ↦ omega (arith, b, hw) ]) hw);
+      others = λ a u ha hu. elim (r.others a u ha hu) [ inl same ↦ inl same | inr now ↦ inr (now.0, more u now.1) ];
+    }
+
+pub put_there : (w : Wave) (s : ℕ) (here there was old is new : List ℕ) → there ≡ here → old ≡ was → new ≡ is
+    → IsRowPut w s here was is → IsRowPut w s there old new
+put_there w s here there was old is new l o n put =
+    subst (λ z. IsRowPut w s z old new) (sym l) (subst (λ z. IsRowPut w s here z new) (sym o) (subst (IsRowPut w s here was) (sym n) put))
+
+-- a list into whose place as long a one was written
+pub written_whole : (n : ℕ) (new rest : List ℕ) → length new ≡ n → take n (new ++ rest) ≡ new
+written_whole n new rest long = ap (λ z. take z (new ++ rest)) (sym long) ∙ take-append_seam new rest

@@ -1,26 +1,23 @@
 -- The distances of the faces of a part from some of its odd faces, as waves find them.
-use Rattle.std.specs.Prelude.{◌≡◌, ℕ, ◌+◌, ◌*◌, ◌<◌, ◌≤◌, ◌⊎◌, min, List, [], length, slice_index, slice_index_or, All}
+use Rattle.std.specs.Prelude.{◌≡◌, ℕ, ◌+◌, ◌*◌, ◌<◌, ◌≤◌, ◌⊎◌, List, length, slice_index, slice_index_or, All}
 use Rattle.dpl_dual.specs.declared.crosses.Cross.{Cross}
 use Rattle.dpl_dual.specs.declared.crosses.Step.{Step}
 use Rattle.dpl_dual.specs.Chains.{Leads, length_of}
 use Rattle.dpl_dual.specs.Distances.{IsDistanceUpTo}
 use Rattle.dpl_dual.specs.Duals.{CameFromDual, row_of}
 use Rattle.dpl_dual.specs.Searches.{no_step}
-use Rattle.dpl_solve.specs.declared.waves.Lengths.{Lengths}
 use Rattle.dpl_solve.specs.declared.waves.Waiting.{Waiting}
 use Rattle.dpl_solve.specs.declared.waves.Wave.{Wave}
+use Rattle.dpl_solve.specs.Lengths.{lengths_at, far_at}
 use Rattle.dpl_solve.specs.Metrics.{entry}
-
--- a length is so many units, up to the greatest number of 16 bits
-abbrev pub AreUnits : ℕ → ℕ → ℕ → Type 0
-AreUnits unit long x = (n : ℕ) × (long ≡ unit * n) × (x ≡ min n 65535)
+use Rattle.dpl_solve.specs.Orders.{IsOrder}
 
 -- a wave over faces of a dual
 pub record IsWave (w : Wave) : Type 0 where
   pub dual : CameFromDual w.dual.now
   pub faces : All (λ f. f < w.dual.now.faces) w.listed.faces.now
   pub some : 0 < w.unit
-  pub short : w.limit ≤ 65535
+  pub order : IsOrder (length w.odd.now) w.order.now
 
 -- how many faces there are
 abbrev pub size : Wave → ℕ
@@ -34,9 +31,13 @@ face_at w a = slice_index w.listed.faces.now a
 abbrev pub place_at : Wave → ℕ → ℕ
 place_at w f = slice_index w.listed.places.now f
 
--- the odd face of a number from which the wave goes out
+-- the odd face from which the wave goes out as the k-th, by its number
+abbrev pub number_at : Wave → ℕ → ℕ
+number_at w k = slice_index w.order.now (w.first + k)
+
+-- and that face
 abbrev pub source_at : Wave → ℕ → ℕ
-source_at w k = slice_index w.odd.now (w.first + k)
+source_at w k = slice_index w.odd.now (number_at w k)
 
 -- the steps from the face at a place
 abbrev pub steps_of : Wave → ℕ → List Step
@@ -50,14 +51,6 @@ step_at steps i = slice_index_or steps i no_step
 abbrev pub IsPlaced : Wave → ℕ → Type 0
 IsPlaced w f = (place_at w f < size w) × (face_at w (place_at w f) ≡ f)
 
--- the lengths at a place
-abbrev pub lengths_at : List Lengths → ℕ → Lengths
-lengths_at far a = slice_index_or far a (record { far = [] })
-
--- how many units the face at a place is away from a source, as far as is known
-abbrev pub far_at : List Lengths → ℕ → ℕ → ℕ
-far_at far a k = slice_index (lengths_at far a).far k
-
 -- the limit, or less, and then so many units are the length of a chain from a source to a face
 pub record IsReached (w : Wave) (k f x : ℕ) : Type 0 where
   pub most : x ≤ w.limit
@@ -65,39 +58,46 @@ pub record IsReached (w : Wave) (k f x : ℕ) : Type 0 where
       (w.unit * x ≡ length_of xs))
 
 -- that for each source
-abbrev pub IsRowOf : Wave → ℕ → Lengths → Type 0
-IsRowOf w f lengths = (k : ℕ) → k < 64 → IsReached w k f (slice_index lengths.far k)
+abbrev pub IsRowOf : Wave → ℕ → List ℕ → Type 0
+IsRowOf w f lengths = (k : ℕ) → k < 64 → IsReached w k f (slice_index lengths k)
 
--- that for each face, and the sources before such a place among the odd faces are placed and at 0
-pub record AreReached (w : Wave) (begun : ℕ) (far : List Lengths) : Type 0 where
+-- that for each face, and the sources before such a place in the order are placed and at 0
+pub record AreReached (w : Wave) (begun : ℕ) (far : List (List ℕ)) : Type 0 where
   pub count : length far ≡ size w
   pub each : (a : ℕ) → a < size w → IsRowOf w (face_at w a) (lengths_at far a)
   pub zero : (k : ℕ) → k < 64 → w.first + k < begun →
       IsPlaced w (source_at w k) × (far_at far (place_at w (source_at w k)) k ≡ 0)
 
--- the face beyond a step is placed, and no length there is more than here and the step together
-abbrev pub IsStepTried : Wave → Lengths → Step → List Lengths → Type 0
-IsStepTried w here step far = IsPlaced w step.to × ((k : ℕ) → k < 64 →
-    w.unit * far_at far (place_at w step.to) k ≤ w.unit * slice_index here.far k + step.length)
+-- the face beyond a step is placed, and no length there is more than where the step begins and the step together
+abbrev pub IsStepTried : Wave → ℕ → Step → List (List ℕ) → Type 0
+IsStepTried w a step far = IsPlaced w step.to × ((k : ℕ) → k < 64 →
+    w.unit * far_at far (place_at w step.to) k ≤ w.unit * far_at far a k + step.length)
 
 -- that for each step from the face at a place
-abbrev pub AreStepsTried : Wave → ℕ → List Lengths → Type 0
+abbrev pub AreStepsTried : Wave → ℕ → List (List ℕ) → Type 0
 AreStepsTried w a far = (i : ℕ) → i < length (steps_of w a) →
-    IsStepTried w (lengths_at far a) (step_at (steps_of w a) i) far
+    IsStepTried w a (step_at (steps_of w a) i) far
 
 -- what stands for a face that is placed is its distance from each source, in units up to the limit
-abbrev pub IsFound : Wave → List Lengths → Type 0
-IsFound w far = (k f : ℕ) → k < 64 → w.first + k < length w.odd.now → IsPlaced w f →
+abbrev pub IsFound : Wave → List (List ℕ) → Type 0
+IsFound w far = (k f : ℕ) → k < 64 → w.first + k < length w.order.now → IsPlaced w f →
     IsDistanceUpTo w.dual.now.crosses (w.unit * w.limit) (source_at w k) f (w.unit * far_at far (place_at w f) k)
 
--- the lengths of an odd face from the sources were put into its row; the rows of others are as they were, and what stands
--- before these
-pub record IsRowPut (w : Wave) (lengths : Lengths) (s : ℕ) (old new : List ℕ) : Type 0 where
+-- the length from one of the first sources was put at odd face u, which it is, into the row of s
+abbrev pub IsPutAt : Wave → ℕ → ℕ → List ℕ → List ℕ → ℕ → Type 0
+IsPutAt w s n lengths dists u = (k : ℕ) × (k < n) × (w.first + k < length w.order.now) × (number_at w k ≡ u) ×
+    (entry (length w.odd.now) dists s u ≡ slice_index lengths k)
+
+-- the lengths of an odd face from the first n sources were put into its row; all else is as it was
+pub record AreFirstPut (w : Wave) (s n : ℕ) (lengths old new : List ℕ) : Type 0 where
   pub count : length new ≡ length old
-  pub here : (k : ℕ) → k < 64 → w.first + k < length w.odd.now →
-      entry (length w.odd.now) new s (w.first + k) ≡ slice_index lengths.far k
-  pub others : (a u : ℕ) → a < length w.odd.now → u < length w.odd.now → (a ≡ s → w.first ≤ u → ⊥) →
-      entry (length w.odd.now) new a u ≡ entry (length w.odd.now) old a u
+  pub here : (k : ℕ) → k < n → w.first + k < length w.order.now → IsPutAt w s n lengths new (number_at w k)
+  pub others : (a u : ℕ) → a < length w.odd.now → u < length w.odd.now →
+      (entry (length w.odd.now) new a u ≡ entry (length w.odd.now) old a u) ⊎ ((a ≡ s) × IsPutAt w s n lengths new u)
+
+-- that from all sources
+abbrev pub IsRowPut : Wave → ℕ → List ℕ → List ℕ → List ℕ → Type 0
+IsRowPut w s lengths old new = AreFirstPut w s 64 lengths old new
 
 -- so many units are the distance of two odd faces, up to a limit of so many
 abbrev pub AreUnitsApart : List Cross → List ℕ → ℕ → ℕ → ℕ → ℕ → ℕ → Type 0
@@ -110,11 +110,12 @@ pub record AreUnitRows (ways : List Cross) (odd : List ℕ) (unit limit : ℕ) (
   pub each : (s u : ℕ) → s < length odd → u < length odd →
       AreUnitsApart ways odd unit limit s u (entry (length odd) dists s u)
 
--- the distances from the first odd faces are written, in units up to the limit of a wave
+-- the distances from the first odd faces in the order are written, in units up to the limit of a wave
 pub record AreWritten (w : Wave) (first : ℕ) (dists : List ℕ) : Type 0 where
   pub count : length dists ≡ length w.odd.now * length w.odd.now
-  pub each : (s u : ℕ) → s < length w.odd.now → u < length w.odd.now → u < first →
-      AreUnitsApart w.dual.now.crosses w.odd.now w.unit w.limit s u (entry (length w.odd.now) dists s u)
+  pub each : (s j : ℕ) → s < length w.odd.now → j < length w.order.now → j < first →
+      AreUnitsApart w.dual.now.crosses w.odd.now w.unit w.limit s (slice_index w.order.now j)
+      (entry (length w.odd.now) dists s (slice_index w.order.now j))
 
 -- places of so many faces that wait
 pub record IsWaiting (n : ℕ) (w : Waiting) : Type 0 where
