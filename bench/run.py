@@ -431,6 +431,12 @@ def single():
     yield "38 times thirteen shaken rows of 100 boxes, coprime weights", layout(tall), COPRIME
     ten = parts_apart(shaken_rows(152, 10, 66, 56, 9, 184_838, 25), 32)
     yield "32 times ten shaken rows of 152 boxes, coprime weights", layout(ten), COPRIME
+    small = parts_apart(shaken_rows(161, 10, 54, 38, 5, 894_757, 28), 31)
+    yield "31 times ten shaken rows of 161 boxes, coprime weights", layout(small), COPRIME
+    long = parts_apart(shaken_rows(536, 4, 39, 51, 10, 25_618, 11), 23)
+    yield "23 times four shaken rows of 536 boxes", layout(long), OPTIONS
+    short = parts_apart(shaken_rows(50, 19, 60, 38, 5, 952_597, 30), 52)
+    yield "52 times nineteen shaken rows of 50 boxes, great weights", layout(short), GREAT
     five = parts_apart(shaken_rows(273, 5, 59, 50, 9, 755_409, 29), 36)
     yield "36 times five shaken rows of 273 boxes", layout(five), OPTIONS
     grids = parts_apart(shaken_rows(44, 44, 45, 38, 9, 1, 0), 25)
