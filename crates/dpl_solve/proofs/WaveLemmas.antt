@@ -12,17 +12,17 @@ use Rattle.std.proofs.lemmas.List.Sums.{sum_by-cons, sum_by_push}
 use Rattle.dpl_dual.specs.declared.crosses.Cross.{Cross}
 use Rattle.dpl_dual.specs.declared.crosses.Step.{Step}
 use Rattle.dpl_dual.specs.Chains.{IsAt, Leads, beyond, length_of, no_cross, stands_in}
-use Rattle.dpl_dual.specs.Distances.{DistancesView, AreDistances, IsDistanceUpTo}
+use Rattle.dpl_dual.specs.Distances.{DistancesView, AreDistances}
 use Rattle.dpl_dual.specs.Duals.{IsStep}
 use Rattle.dpl_dual.specs.Searches.{no_step}
-use Rattle.dpl_dual.proofs.ChainLemmas.{leads_more, leads_back}
+use Rattle.dpl_dual.proofs.ChainLemmas.{leads_more}
 use Rattle.dpl_dual.proofs.WorkLemmas.{dual_rows, stands_at}
 use Rattle.dpl_solve.specs.declared.waves.Wave.{Wave}
 use Rattle.dpl_solve.specs.Lengths.{lengths_at, far_at, AreAllAt, IsPlacePut, AreLowered, IsSourcePut}
 use Rattle.dpl_solve.specs.Metrics.{entry}
 use Rattle.dpl_solve.specs.Orders.{IsOrder}
 use Rattle.dpl_solve.specs.Waves.{IsWave, size, face_at, place_at, number_at, source_at, steps_of, step_at, IsPlaced, IsReached, IsRowOf}
-use Rattle.dpl_solve.specs.Waves.{AreReached, IsStepTried, AreStepsTried, IsFound, IsPutAt, AreFirstPut, IsRowPut, AreUnitsApart}
+use Rattle.dpl_solve.specs.Waves.{AreReached, IsStepTried, AreStepsTried, IsFound, IsPutAt, AreFirstPut, ArePut, AreUnitsApart}
 use Rattle.dpl_solve.specs.Waves.{AreUnitRows, AreWritten}
 
 -- ---- units
@@ -217,93 +217,77 @@ all_found w far v r tried k f hk inside p =
 -- ---- the table
 
 abbrev pub IsApartBy : Wave → ℕ → ℕ → ℕ → Type 0
-IsApartBy w s u x = AreUnitsApart w.dual.now.crosses w.odd.now w.unit w.limit s u x
+IsApartBy w u s x = AreUnitsApart w.dual.now.crosses w.odd.now w.unit w.limit u s x
 
--- a distance up to a limit, the other way round
-pub turned : (ways : List Cross) (limit f h x : ℕ) → IsDistanceUpTo ways limit f h x → IsDistanceUpTo ways limit h f x
-turned ways limit f h x d = record {
-  most = d.most;
-  shorter = λ xs l.
-      let back = leads_back ways h xs f l in
-      omega (arith, d.shorter back.0 back.1, back.2);
-  met = elim d.met [
-    | inl e ↦ inl e
-    | inr c ↦
-        let back = leads_back ways f c.0 h c.1 in
-        inr (back.0, back.1, omega (arith, c.2, back.2))
-  ];
-}
-
--- what was put at an odd face is how far it is
+-- what was put for odd face s is how far it is
 put_apart : (w : Wave) (s p : ℕ) (far : List (List ℕ)) (new : List ℕ) → IsFound w far
     → (p < size w) × (face_at w p ≡ slice_index w.odd.now s) → p ≡ place_at w (slice_index w.odd.now s)
-    → (u : ℕ) → IsPutAt w s 64 (lengths_at far p) new u → IsApartBy w s u (entry (length w.odd.now) new s u)
+    → (u : ℕ) → IsPutAt w s 64 (lengths_at far p) new u → IsApartBy w u s (entry (length w.odd.now) new u s)
 put_apart w s p far new found at noted u (k, hk, inside, is, put) =
     let n : ℕ = length w.odd.now in
     let f : ℕ = slice_index w.odd.now s in
     let placed : IsPlaced w f = (subst (λ z. z < size w) noted at.0, ap (face_at w) (sym noted) ∙ at.1) in
-    let value : entry n new s u ≡ far_at far (place_at w f) k = put ∙ ap (λ z. far_at far z k) noted in
-    let there = turned w.dual.now.crosses (w.unit * w.limit) (source_at w k) f (w.unit * far_at far (place_at w f) k)
-    (found k f hk inside placed) in
-    subst (IsApartBy w s u) (sym value) (subst (λ z. IsApartBy w s z (far_at far (place_at w f) k)) is there)
+    let value : entry n new u s ≡ far_at far (place_at w f) k = put ∙ ap (λ z. far_at far z k) noted in
+    subst (IsApartBy w u s) (sym value)
+    (subst (λ z. IsApartBy w z s (far_at far (place_at w f) k)) is (found k f hk inside placed))
 
--- the distance from an odd face of the order
+-- how far an odd face is from one of the order
 abbrev pub IsWrittenAt : Wave → List ℕ → ℕ → ℕ → Type 0
-IsWrittenAt w dists a j = IsApartBy w a (slice_index w.order.now j) (entry (length w.odd.now) dists a (slice_index w.order.now j))
+IsWrittenAt w dists j s = IsApartBy w (slice_index w.order.now j) s (entry (length w.odd.now) dists (slice_index w.order.now j) s)
 
--- the rows before s are written up to the end of a wave, the others up to its beginning
-pub record AreRowsWritten (w : Wave) (s : ℕ) (dists : List ℕ) : Type 0 where
+-- in the columns before s the rows are written up to the end of a wave, in the others up to its beginning
+pub record AreColumnsWritten (w : Wave) (s : ℕ) (dists : List ℕ) : Type 0 where
   pub count : length dists ≡ length w.odd.now * length w.odd.now
-  pub before : (a j : ℕ) → a < s → a < length w.odd.now → j < length w.order.now → j < w.first + 64 → IsWrittenAt w dists a j
-  pub after : (a j : ℕ) → a < length w.odd.now → j < length w.order.now → j < w.first → IsWrittenAt w dists a j
+  pub before : (j a : ℕ) → j < length w.order.now → j < w.first + 64 → a < s → a < length w.odd.now → IsWrittenAt w dists j a
+  pub after : (j a : ℕ) → j < length w.order.now → j < w.first → a < length w.odd.now → IsWrittenAt w dists j a
 
-pub rows_more : (w : Wave) (s p : ℕ) (far : List (List ℕ)) (old new : List ℕ) → IsWave w → IsFound w far
+pub columns_more : (w : Wave) (s p : ℕ) (far : List (List ℕ)) (old new : List ℕ) → IsWave w → IsFound w far
     → (p < size w) × (face_at w p ≡ slice_index w.odd.now s) → p ≡ place_at w (slice_index w.odd.now s)
-    → IsRowPut w s (lengths_at far p) old new → AreRowsWritten w s old → AreRowsWritten w (s + 1) new
-rows_more w s p far old new v found at noted put r =
+    → ArePut w s (lengths_at far p) old new → AreColumnsWritten w s old → AreColumnsWritten w (s + 1) new
+columns_more w s p far old new v found at noted put r =
     let n : ℕ = length w.odd.now in
     let there : (j : ℕ) → j < length w.order.now → slice_index w.order.now j < n = λ j hj. v.order.below j 0 hj in
     let apart = put_apart w s p far new found at noted in
     -- what was right is so still
-    let kept : (a j : ℕ) → a < n → j < length w.order.now → IsWrittenAt w old a j → IsWrittenAt w new a j = λ a j ha hj is.
+    let kept : (j a : ℕ) → j < length w.order.now → a < n → IsWrittenAt w old j a → IsWrittenAt w new j a = λ j a hj ha is.
     let u : ℕ = slice_index w.order.now j in
-    elim (put.others a u ha (there j hj)) [
-      | inl same ↦ subst (IsApartBy w a u) (sym same) is
-      | inr now ↦ subst (λ z. IsApartBy w z u (entry n new z u)) (sym now.0) (apart u now.1)
+    elim (put.others u a (there j hj) ha) [
+      | inl same ↦ subst (IsApartBy w u a) (sym same) is
+      | inr now ↦ subst (λ z. IsApartBy w u z (entry n new u z)) (sym now.0) (apart u now.1)
     ] in
     record {
       count = put.count ∙ r.count;
-      before = λ a j ha hn hj hw. elim (cases_lt j w.first) [
-        | inl lt ↦ kept a j hn hj (r.after a j hn hj lt)
+      before = λ j a hj hw ha hn. elim (cases_lt j w.first) [
+        | inl lt ↦ kept j a hj hn (r.after j a hj lt hn)
         | inr ge ↦ elim (cases_eq a s) [
           | inl q ↦
               let k : ℕ = j - w.first in
               let at_j : w.first + k ≡ j = omega (arith, ge) in
               let z = apart (number_at w k) (put.here k (omega (arith, at_j, hw)) (omega (arith, at_j, hj))) in
-              let y : IsWrittenAt w new s j = subst (λ i. IsWrittenAt w new s i) at_j z in
-              subst (λ b. IsWrittenAt w new b j) (sym q) y
-          | inr ne ↦ kept a j hn hj (r.before a j (omega (arith, ha, ne)) hn hj hw)
+              let y : IsWrittenAt w new j s = subst (λ i. IsWrittenAt w new i s) at_j z in
+              subst (IsWrittenAt w new j) (sym q) y
+          | inr ne ↦ kept j a hj hn (r.before j a hj hw (omega (arith, ha, ne)) hn)
         ]
       ];
-      after = λ a j ha hj hw. kept a j ha hj (r.after a j ha hj hw);
+      after = λ j a hj hw ha. kept j a hj ha (r.after j a hj hw ha);
     }
 
-pub rows_begun : (w : Wave) (dists : List ℕ) → AreWritten w w.first dists → AreRowsWritten w 0 dists
-rows_begun w dists a = record {
-  count = a.count;
-  before = λ b j hb. absurd (omega (arith, hb));
-  after = λ b j hb hj hw. a.each b j hb hj hw;
+pub columns_begun : (w : Wave) (dists : List ℕ) → AreWritten w w.first dists → AreColumnsWritten w 0 dists
+columns_begun w dists b = record {
+  count = b.count;
+  before = λ j a hj hw ha. absurd (omega (arith, ha));
+  after = λ j a hj hw ha. b.each j a hj hw ha;
 }
 
-pub rows_all : (w : Wave) (dists : List ℕ) (s : ℕ) → length w.odd.now ≤ s → AreRowsWritten w s dists
+pub columns_all : (w : Wave) (dists : List ℕ) (s : ℕ) → length w.odd.now ≤ s → AreColumnsWritten w s dists
     → AreWritten w (w.first + 64) dists
-rows_all w dists s all r = record {
+columns_all w dists s all r = record {
   count = r.count;
-  each = λ a j ha hj hw. r.before a j (omega (arith, ha, all)) ha hj hw;
+  each = λ j a hj hw ha. r.before j a hj hw (omega (arith, ha, all)) ha;
 }
 
 pub written_none : (w : Wave) (dists : List ℕ) → length dists ≡ length w.odd.now * length w.odd.now → AreWritten w 0 dists
-written_none w dists count = record { count = count; each = λ a j ha hj h. absurd (omega (arith, h)) }
+written_none w dists count = record { count = count; each = λ j a hj h ha. absurd (omega (arith, h)) }
 
 pub written_all : (w : Wave) (dists : List ℕ) (first : ℕ) → IsOrder (length w.odd.now) w.order.now
     → length w.order.now ≤ first → AreWritten w first dists
@@ -311,74 +295,74 @@ pub written_all : (w : Wave) (dists : List ℕ) (first : ℕ) → IsOrder (lengt
 written_all w dists first v all a = record {
   count = a.count;
   each = λ s u hs hu.
-      let (j, hj, is) = v.all u hu in
-      subst (λ z. IsApartBy w s z (entry (length w.odd.now) dists s z)) is (a.each s j hs hj (omega (arith, hj, all)));
+      let (j, hj, is) = v.all s hs in
+      subst (λ z. IsApartBy w z u (entry (length w.odd.now) dists z u)) is (a.each j u hj (omega (arith, hj, all)) hu);
 }
 
--- ---- numbers that are put into a row
+-- ---- numbers that are put into rows
 
 pub none_put : (w : Wave) (s : ℕ) (lengths dists : List ℕ) → AreFirstPut w s 0 lengths dists dists
 none_put w s lengths dists = record {
   count = refl;
   here = λ k hk. absurd (omega (arith, hk));
-  others = λ a u ha hu. inl refl;
+  others = λ u a hu ha. inl refl;
 }
 
 pub one_put : (w : Wave) (s i at x : ℕ) (lengths old now : List ℕ) → IsWave w → s < length w.odd.now
     → w.first + i < length w.order.now → length old ≡ length w.odd.now * length w.odd.now
-    → at ≡ s * length w.odd.now + number_at w i → x ≡ slice_index lengths i
+    → at ≡ number_at w i * length w.odd.now + s → x ≡ slice_index lengths i
     → AreFirstPut w s i lengths old now → AreFirstPut w s (i + 1) lengths old (set now at x)
 one_put w s i at x lengths old now v hs hi size place e r =
     let n : ℕ = length w.odd.now in
     let new : List ℕ = set now at x in
     let here : number_at w i < n = v.order.below (w.first + i) 0 hi in
-    let inside : at < length now = omega (arith, r.count, size, place, mul-add-lt s n (number_at w i) n hs here) in
-    let put : (u : ℕ) → u ≡ number_at w i → entry n new s u ≡ slice_index lengths i = λ u q.
-    ap (λ z. get_or new z 0) (ap (λ z. s * n + z) q ∙ sym place) ∙ get_or-set_same now at x 0 inside ∙ e in
-    let same : (a u : ℕ) → u < n → (a ≡ s → u ≡ number_at w i → ⊥) → entry n new a u ≡ entry n now a u = λ a u hu no.
-    get_or-set_other now at (a * n + u) x 0 (λ q. let t = same_from_place a u s (number_at w i) n hu here (q ∙ place) in no t.0 t.1) in
+    let inside : at < length now = omega (arith, r.count, size, place, mul-add-lt (number_at w i) n s n here hs) in
+    let put : (u : ℕ) → u ≡ number_at w i → entry n new u s ≡ slice_index lengths i = λ u q.
+    ap (λ z. get_or new z 0) (ap (λ z. z * n + s) q ∙ sym place) ∙ get_or-set_same now at x 0 inside ∙ e in
+    let same : (u a : ℕ) → a < n → (a ≡ s → u ≡ number_at w i → ⊥) → entry n new u a ≡ entry n now u a = λ u a ha no.
+    get_or-set_other now at (u * n + a) x 0 (λ q. let t = same_from_place u a (number_at w i) s n ha hs (q ∙ place) in no t.1 t.0) in
     -- what was put before, or at i
-    let still : (u : ℕ) → u < n → IsPutAt w s i lengths now u → IsPutAt w s (i + 1) lengths new u = λ u hu (k, hk, hw, is, was).
+    let still : (u : ℕ) → IsPutAt w s i lengths now u → IsPutAt w s (i + 1) lengths new u = λ u (k, hk, hw, is, was).
     elim (cases_eq u (number_at w i)) [
       | inl q ↦ (i, omega arith, hi, sym q, put u q)
-      | inr ne ↦ (k, omega (arith, hk), hw, is, same s u hu (λ a q. ne q) ∙ was)
+      | inr ne ↦ (k, omega (arith, hk), hw, is, same u s hs (λ b q. ne q) ∙ was)
     ] in
     record {
       count = length-set now at x ∙ r.count;
       here = λ k hk hw. elim (cases_eq k i) [
         | inl q ↦ (i, omega arith, hi, ap (number_at w) (sym q), put (number_at w k) (ap (number_at w) q))
-        | inr ne ↦ still (number_at w k) (v.order.below (w.first + k) 0 hw) (r.here k (omega (arith, hk, ne)) hw)
+        | inr ne ↦ still (number_at w k) (r.here k (omega (arith, hk, ne)) hw)
       ];
-      others = λ a u ha hu. elim (cases_eq a s) [
+      others = λ u a hu ha. elim (cases_eq a s) [
         | inl q ↦ elim (cases_eq u (number_at w i)) [
           | inl p ↦ inr (q, (i, omega arith, hi, sym p, put u p))
-          | inr ne ↦ elim (r.others a u ha hu) [
-            | inl was ↦ inl (same a u hu (λ z y. ne y) ∙ was)
-            | inr now ↦ inr (q, still u hu now.1)
+          | inr ne ↦ elim (r.others u a hu ha) [
+            | inl was ↦ inl (same u a ha (λ z y. ne y) ∙ was)
+            | inr now ↦ inr (q, still u now.1)
           ]
         ]
-        | inr ne ↦ elim (r.others a u ha hu) [
-          | inl was ↦ inl (same a u hu (λ z y. ne z) ∙ was)
+        | inr ne ↦ elim (r.others u a hu ha) [
+          | inl was ↦ inl (same u a ha (λ z y. ne z) ∙ was)
           | inr now ↦ absurd (ne now.0)
         ]
       ];
     }
 
-pub row_put : (w : Wave) (s i : ℕ) (lengths old new : List ℕ) → (64 ≤ i) ⊎ (length w.order.now ≤ w.first + i)
-    → i ≤ 64 → AreFirstPut w s i lengths old new → IsRowPut w s lengths old new
-row_put w s i lengths old new all most r =
+pub all_put : (w : Wave) (s i : ℕ) (lengths old new : List ℕ) → (64 ≤ i) ⊎ (length w.order.now ≤ w.first + i)
+    → i ≤ 64 → AreFirstPut w s i lengths old new → ArePut w s lengths old new
+all_put w s i lengths old new all most r =
     let more : (u : ℕ) → IsPutAt w s i lengths new u → IsPutAt w s 64 lengths new u = λ u (k, hk, hw, is, was).
     (k, omega (arith, hk, most), hw, is, was) in
     record {
       count = r.count;
       here = λ k hk hw. more (number_at w k) (r.here k (elim all [ inl a ↦ omega (arith, a, hk) | inr b ↦ omega (arith, b, hw) ]) hw);
-      others = λ a u ha hu. elim (r.others a u ha hu) [ inl same ↦ inl same | inr now ↦ inr (now.0, more u now.1) ];
+      others = λ u a hu ha. elim (r.others u a hu ha) [ inl same ↦ inl same | inr now ↦ inr (now.0, more u now.1) ];
     }
 
 pub put_there : (w : Wave) (s : ℕ) (here there was old is new : List ℕ) → there ≡ here → old ≡ was → new ≡ is
-    → IsRowPut w s here was is → IsRowPut w s there old new
+    → ArePut w s here was is → ArePut w s there old new
 put_there w s here there was old is new l o n put =
-    subst (λ z. IsRowPut w s z old new) (sym l) (subst (λ z. IsRowPut w s here z new) (sym o) (subst (IsRowPut w s here was) (sym n) put))
+    subst (λ z. ArePut w s z old new) (sym l) (subst (λ z. ArePut w s here z new) (sym o) (subst (ArePut w s here was) (sym n) put))
 
 -- a list into whose place as long a one was written
 pub written_whole : (n : ℕ) (new rest : List ℕ) → length new ≡ n → take n (new ++ rest) ≡ new

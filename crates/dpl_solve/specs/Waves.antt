@@ -83,21 +83,21 @@ abbrev pub IsFound : Wave → List (List ℕ) → Type 0
 IsFound w far = (k f : ℕ) → k < 64 → w.first + k < length w.order.now → IsPlaced w f →
     IsDistanceUpTo w.dual.now.crosses (w.unit * w.limit) (source_at w k) f (w.unit * far_at far (place_at w f) k)
 
--- the length from one of the first sources was put at odd face u, which it is, into the row of s
+-- the length of odd face s from one of the first sources was put into the row of that source, which is odd face u
 abbrev pub IsPutAt : Wave → ℕ → ℕ → List ℕ → List ℕ → ℕ → Type 0
 IsPutAt w s n lengths dists u = (k : ℕ) × (k < n) × (w.first + k < length w.order.now) × (number_at w k ≡ u) ×
-    (entry (length w.odd.now) dists s u ≡ slice_index lengths k)
+    (entry (length w.odd.now) dists u s ≡ slice_index lengths k)
 
--- the lengths of an odd face from the first n sources were put into its row; all else is as it was
+-- the lengths of odd face s from the first n sources were put into the rows of these; all else is as it was
 pub record AreFirstPut (w : Wave) (s n : ℕ) (lengths old new : List ℕ) : Type 0 where
   pub count : length new ≡ length old
   pub here : (k : ℕ) → k < n → w.first + k < length w.order.now → IsPutAt w s n lengths new (number_at w k)
-  pub others : (a u : ℕ) → a < length w.odd.now → u < length w.odd.now →
-      (entry (length w.odd.now) new a u ≡ entry (length w.odd.now) old a u) ⊎ ((a ≡ s) × IsPutAt w s n lengths new u)
+  pub others : (u a : ℕ) → u < length w.odd.now → a < length w.odd.now →
+      (entry (length w.odd.now) new u a ≡ entry (length w.odd.now) old u a) ⊎ ((a ≡ s) × IsPutAt w s n lengths new u)
 
 -- that from all sources
-abbrev pub IsRowPut : Wave → ℕ → List ℕ → List ℕ → List ℕ → Type 0
-IsRowPut w s lengths old new = AreFirstPut w s 64 lengths old new
+abbrev pub ArePut : Wave → ℕ → List ℕ → List ℕ → List ℕ → Type 0
+ArePut w s lengths old new = AreFirstPut w s 64 lengths old new
 
 -- so many units are the distance of two odd faces, up to a limit of so many
 abbrev pub AreUnitsApart : List Cross → List ℕ → ℕ → ℕ → ℕ → ℕ → ℕ → Type 0
@@ -113,9 +113,9 @@ pub record AreUnitRows (ways : List Cross) (odd : List ℕ) (unit limit : ℕ) (
 -- the distances from the first odd faces in the order are written, in units up to the limit of a wave
 pub record AreWritten (w : Wave) (first : ℕ) (dists : List ℕ) : Type 0 where
   pub count : length dists ≡ length w.odd.now * length w.odd.now
-  pub each : (s j : ℕ) → s < length w.odd.now → j < length w.order.now → j < first →
-      AreUnitsApart w.dual.now.crosses w.odd.now w.unit w.limit s (slice_index w.order.now j)
-      (entry (length w.odd.now) dists s (slice_index w.order.now j))
+  pub each : (j s : ℕ) → j < length w.order.now → j < first → s < length w.odd.now →
+      AreUnitsApart w.dual.now.crosses w.odd.now w.unit w.limit (slice_index w.order.now j) s
+      (entry (length w.odd.now) dists (slice_index w.order.now j) s)
 
 -- places of so many faces that wait
 pub record IsWaiting (n : ℕ) (w : Waiting) : Type 0 where

@@ -12,7 +12,9 @@ ghost use Rattle.dpl_solve.specs.Works.{IsDrawn};
 use crate::drawn::Drawn;
 use crate::joins::{join_pairs, mate_of};
 use crate::metrics::{all_radii, all_rows, near_rows};
-use crate::sight::{FULL_LIMIT, Sight, all_nearest, first_margin, is_crowd, next_margin};
+use crate::sight::{
+    FULL_LIMIT, Sight, all_nearest, first_margin, is_crowd, next_margin, table_margin,
+};
 use crate::work::Joined;
 use dpl_dual::types::Distances;
 use dpl_laminar::{Family, Steps};
@@ -20,14 +22,50 @@ use dpl_match::{Matched, Metric};
 use std::alloc::{AllocError, Global};
 use std::sync::ledger::Ledger;
 
-/// Distances of faces up to the radii of both together, and the radii.
+/// Distances of faces up to the radii of both together, the radii, and the margin of these.
 #[derive(Drop)]
 struct Seen {
     metric: Metric,
     radii: Vec<u64>,
+    margin: u64,
 }
 
-/// The distances of the odd faces of a part, as far as they see.
+/// The distances of the odd faces of a part in a table, as far as they see.
+fn look_at_all(
+    alloc: Global,
+    drawn: &Drawn<'_>,
+    terminals: &[u32],
+    sight: &Sight<'_>,
+    reach: &mut Distances,
+    places: &mut Vec<usize>,
+) -> Result<Seen, AllocError>
+    requires drawn { IsDrawn drawn.now }
+    requires terminals { AreTerminals drawn.now.dual.now terminals.now }
+    requires few { length terminals.now ≤ 2048 }
+    requires margin { IsLimit sight.now.margin }
+    requires nearest { AreNearest drawn.now.dual.now.crosses terminals.now (length terminals.now)
+        sight.now.nearest.now }
+    ensures size { IfOk result (λ m. m.metric.size ≡ length terminals.now) }
+    ensures sizes { IfOk result (λ m. length m.radii.items ≡ length terminals.now) }
+    ensures margin { IfOk result (λ m. m.margin ≡ sight.now.margin) }
+    ensures radii { IfOk result (λ m. AreRadii drawn.now.dual.now.crosses terminals.now
+        m.margin (length terminals.now) (slice_index m.radii.items)) }
+    ensures each { IfOk result (λ m. (s u : ℕ) → s < length terminals.now →
+        u < length terminals.now → IsApart drawn.now.dual.now.crosses terminals.now
+        (slice_index m.radii.items) s u (dist_of m.metric s u)) }
+{
+    let radii = all_radii(alloc, drawn.dual, terminals, sight)?;
+    let rows = all_rows(alloc, drawn.dual, terminals, &radii, reach, places)?;
+    let copied = Vec::from_slice(alloc, &radii)?;
+    let metric = Metric::new(alloc, terminals.len() as u32, rows, copied)?;
+    Ok(Seen {
+        metric: metric.among(sight.is_crowd),
+        radii,
+        margin: sight.margin,
+    })
+}
+
+/// The distances of the odd faces of a part, as far as they see, or farther where a table is due.
 fn look(
     alloc: Global,
     drawn: &Drawn<'_>,
@@ -44,8 +82,9 @@ fn look(
         sight.now.nearest.now }
     ensures size { IfOk result (λ m. m.metric.size ≡ length terminals.now) }
     ensures sizes { IfOk result (λ m. length m.radii.items ≡ length terminals.now) }
+    ensures margin { IfOk result (λ m. sight.now.margin ≤ m.margin) }
     ensures radii { IfOk result (λ m. AreRadii drawn.now.dual.now.crosses terminals.now
-        sight.now.margin (length terminals.now) (slice_index m.radii.items)) }
+        m.margin (length terminals.now) (slice_index m.radii.items)) }
     ensures each { IfOk result (λ m. (s u : ℕ) → s < length terminals.now →
         u < length terminals.now → IsApart drawn.now.dual.now.crosses terminals.now
         (slice_index m.radii.items) s u (dist_of m.metric s u)) }
@@ -66,16 +105,14 @@ fn look(
             Ok(Seen {
                 metric: metric.among(sight.is_crowd),
                 radii,
+                margin: sight.margin,
             })
         }
         None => {
-            let rows = all_rows(alloc, drawn.dual, terminals, &radii, reach, places)?;
-            let copied = Vec::from_slice(alloc, &radii)?;
-            let metric = Metric::new(alloc, terminals.len() as u32, rows, copied)?;
-            Ok(Seen {
-                metric: metric.among(sight.is_crowd),
-                radii,
-            })
+            let margin = table_margin(sight);
+            let wider = Sight { margin, ..*sight };
+            let seen = look_at_all(alloc, drawn, terminals, &wider, reach, places)?;
+            Ok(seen)
         }
     }
 }

@@ -322,7 +322,8 @@ struct Fars {
 fn grown(margin: u64, far: u64) -> u64
     requires margin { IsLimit margin }
     requires far { far ≤ 1099511627776 }
-    ensures { IsLimit result }
+    ensures limit { IsLimit result }
+    ensures more { margin ≤ result }
 {
     (2 * margin + far).min(FULL_LIMIT)
 }
@@ -411,7 +412,21 @@ pub fn first_margin(
 /// The margin that is tried after another.
 pub fn next_margin(sight: &Sight<'_>) -> u64
     requires { IsLimit sight.now.margin }
-    ensures { IsLimit result }
+    ensures limit { IsLimit result }
+    ensures more { sight.now.margin ≤ result }
 {
     grown(sight.margin, greatest(sight.nearest))
+}
+
+/// The margin of a table. In a crowd it is the one that would be tried next: a table of all distances costs little more where
+/// faces see farther, and to pair them twice costs as much again.
+pub fn table_margin(sight: &Sight<'_>) -> u64
+    requires { IsLimit sight.now.margin }
+    ensures limit { IsLimit result }
+    ensures more { sight.now.margin ≤ result }
+{
+    if sight.is_crowd {
+        return next_margin(sight);
+    }
+    sight.margin
 }

@@ -11,7 +11,7 @@ ghost use Rattle.dpl_pack.specs.Moats.{AreTerminals};
 ghost use Rattle.dpl_tree.specs.Rows.{distances_in};
 ghost use Rattle.dpl_solve.specs.Lengths.{lengths_in, lengths_at};
 ghost use Rattle.dpl_solve.specs.Orders.{IsOrder};
-ghost use Rattle.dpl_solve.specs.Waves.{size, face_at, IsWave, AreReached, IsStepTried, AreStepsTried, IsFound, IsRowPut, AreWritten, AreUnitRows, IsWaiting};
+ghost use Rattle.dpl_solve.specs.Waves.{size, face_at, IsWave, AreReached, IsStepTried, AreStepsTried, IsFound, ArePut, AreWritten, AreUnitRows, IsWaiting};
 
 use crate::gathering::gathered;
 use crate::lengths::{Lengths, WIDTH};
@@ -217,54 +217,54 @@ fn begin(wave: &Wave<'_>, far: &mut Lengths, waiting: &mut Waiting) -> Result<bo
     Ok(true)
 }
 
-/// Writes the distances of odd face s from those of a wave into a table of 16 bits, in units up to the limit.
-fn write_short(wave: &Wave<'_>, lengths: &[u16; 64], s: usize, dists: &mut [u16])
+/// Writes the distances of odd face s from those of a wave into their rows, in 16 bits and in units up to the limit.
+fn put_short(wave: &Wave<'_>, lengths: &[u16; 64], s: usize, dists: &mut [u16])
     requires wave { IsWave wave.now }
     requires inside { s < length wave.now.odd.now }
     requires first { wave.now.first ≤ length wave.now.order.now }
     requires places { length dists.old ≡ length wave.now.odd.now * length wave.now.odd.now }
-    ensures { IsRowPut wave.now s lengths.now dists.old dists.new }
+    ensures { ArePut wave.now s lengths.now dists.old dists.new }
 {
-    let start = s * wave.odd.len();
+    let n = wave.odd.len();
     let count = WIDTH.min(wave.order.len() - wave.first);
     for k in 0..count {
-        dists[start + wave.order[wave.first + k]] = lengths[k];
+        dists[wave.order[wave.first + k] * n + s] = lengths[k];
     }
 }
 
-/// Writes them into a table of 32 bits.
-fn write_medium(wave: &Wave<'_>, lengths: &[u32; 64], s: usize, dists: &mut [u32])
+/// Writes them in 32 bits.
+fn put_medium(wave: &Wave<'_>, lengths: &[u32; 64], s: usize, dists: &mut [u32])
     requires wave { IsWave wave.now }
     requires inside { s < length wave.now.odd.now }
     requires first { wave.now.first ≤ length wave.now.order.now }
     requires places { length dists.old ≡ length wave.now.odd.now * length wave.now.odd.now }
-    ensures { IsRowPut wave.now s lengths.now dists.old dists.new }
+    ensures { ArePut wave.now s lengths.now dists.old dists.new }
 {
-    let start = s * wave.odd.len();
+    let n = wave.odd.len();
     let count = WIDTH.min(wave.order.len() - wave.first);
     for k in 0..count {
-        dists[start + wave.order[wave.first + k]] = lengths[k];
+        dists[wave.order[wave.first + k] * n + s] = lengths[k];
     }
 }
 
-/// Writes the distances of odd face s, which stands at a place, from those of a wave. False where lengths and table have not as
-/// many bits.
-fn write_row(wave: &Wave<'_>, far: &Lengths, place: usize, s: usize, dists: &mut Rows) -> bool
+/// Writes the distances of odd face s, which stands at a place, from those of a wave into their rows. False where lengths and
+/// table have not as many bits.
+fn put_lengths(wave: &Wave<'_>, far: &Lengths, place: usize, s: usize, dists: &mut Rows) -> bool
     requires wave { IsWave wave.now }
     requires place { place < length (lengths_in far.now) }
     requires inside { s < length wave.now.odd.now }
     requires first { wave.now.first ≤ length wave.now.order.now }
     requires places { length (distances_in dists.old) ≡ length wave.now.odd.now * length wave.now.odd.now }
-    ensures { result ≡ true → IsRowPut wave.now s (lengths_at (lengths_in far.now) place)
+    ensures { result ≡ true → ArePut wave.now s (lengths_at (lengths_in far.now) place)
         (distances_in dists.old) (distances_in dists.new) }
 {
     match (far, dists) {
         (Lengths::Short(far), Rows::Short(dists)) => {
-            write_short(wave, &far[place], s, dists);
+            put_short(wave, &far[place], s, dists);
             true
         }
         (Lengths::Medium(far), Rows::Medium(dists)) => {
-            write_medium(wave, &far[place], s, dists);
+            put_medium(wave, &far[place], s, dists);
             true
         }
         _ => false,
@@ -283,7 +283,7 @@ fn write_rows(wave: &Wave<'_>, far: &Lengths, dists: &mut Rows) -> bool
     for s in 0..wave.odd.len() {
         match place_of(&wave.listed, wave.odd[s]) {
             Some(place) => {
-                if !write_row(wave, far, place, s, dists) {
+                if !put_lengths(wave, far, place, s, dists) {
                     return false;
                 }
             }

@@ -30,7 +30,11 @@ returns-then-not-are_near g c =
     let hs : s < length c.args.terminals.now = omega (arith, far.1, n) in
     let hm : mate < length c.args.terminals.now = omega (arith, c.in-Ok.ensures.pairing.range s far.1, n) in
     let radius : ℕ → ℕ = slice_index c.in_ok-seen.seen.radii.items in
-    let least : c.args.sight.now.margin ≤ radius s + radius mate = omega (arith, (c.in_ok-seen.ensures.radii s hs).least) in (
+    let least : c.args.sight.now.margin ≤ radius s + radius mate = omega (
+      arith,
+      c.in_ok-seen.ensures.margin,
+      (c.in_ok-seen.ensures.radii s hs).least,
+    ) in (
       refl,
       far_is_less c.args.drawn.now.graph.now (view_of c.args.drawn.now.map.now) c.args.drawn.now.dual.now c.requires.drawn.dual c.requires.drawn.edges _ _
           (radius s + radius mate) c.args.sight.now.margin (dist_of c.in_ok-seen.seen.metric s mate)
