@@ -12,7 +12,7 @@ use Rattle.dpl_match.specs.steps.Bounds.{stands_in}
 use Rattle.dpl_match.specs.steps.Comparing.{sum_of, IsComparedAt, AreCompared, IsListCompared}
 use Rattle.dpl_match.specs.steps.Nearest.{key_in, kept_in, no_key, is_as_near, closer_of, compared, neighbour_at}
 use Rattle.dpl_match.specs.steps.Nearest.{HasPlaces, HasSameMembers}
-use Rattle.dpl_match.proofs.NearLemmas.{compared_stays, key_stands}
+use Rattle.dpl_match.proofs.NearLemmas.{compared_stays, compared_less, key_stands}
 
 -- one is as near as one with a greater key
 near_later : (w u : Neighbour) → w.key ≤ u.key → is_as_near (Some w) u.key ≡ true
@@ -52,20 +52,6 @@ compared_far f t (Some a) w few le = compared_stays f t (Some a) w (near (cases_
   near : (leb a.key w.key ≡ true) ⊎ (leb a.key w.key ≡ false) → leb a.key w.key ≡ true
   near (inl b) = b
   near (inr b) = absurd (omega (arith, leb-false a.key w.key b, le))
-
-closer_less : (o : Option Neighbour) (w : Neighbour) → w.key < no_key → key_in (closer_of o w) ≤ key_in o
-closer_less None w few = omega (arith, few)
-closer_less (Some a) w few = elim (cases_Bool (leb a.key w.key)) [
-  | inl b ↦ subst (λ (z : Bool). key_in (cond z (Some a) (Some w)) ≤ a.key) (sym b) (omega arith)
-  | inr b ↦ subst (λ (z : Bool). key_in (cond z (Some a) (Some w)) ≤ a.key) (sym b) (omega (arith, leb-false a.key w.key b))
-]
-
--- keys only fall
-pub compared_less : (f : Sets) (t : ℕ) (o : Option Neighbour) (w : Neighbour) → w.key < no_key → key_in (compared f t o w) ≤ key_in o
-compared_less f t o w few = less (eqb (f.top t) (f.top w.member)) where
-  less : (b : Bool) → key_in (cond b o (closer_of o w)) ≤ key_in o
-  less true = omega arith
-  less false = closer_less o w few
 
 abbrev pub no_one : Close
 no_one = record { member = 0; far = 0 }

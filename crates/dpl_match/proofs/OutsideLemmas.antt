@@ -1,17 +1,20 @@
 -- The members outside of a top set, and the nearest of them.
 use Rattle.std.proofs.Common.{arith, ◌≡◌, ℕ, ◌+◌, ◌-◌, ◌^◌, ◌<◌, ◌≤◌, ◌⊎◌, refl, sym, ap, ◌∙◌, subst, Bool, true, cond, inl, inr, eqb}
-use Rattle.std.proofs.Common.{Some, None, List, length, get_or, ◌++◌, ◌∷◌, [], length-append}
-use Rattle.std.proofs.lemmas.Bool.{cases_eq, cases_lt, cases_Bool, eqb-true, eqb-false}
+use Rattle.std.proofs.Common.{Option, Some, None, List, length, get_or, ◌++◌, ◌∷◌, [], length-append}
+use Rattle.std.specs.Prelude.{MatchOption, ⊤}
+use Rattle.std.proofs.lemmas.Bool.{cases_eq, cases_lt, cases_Bool, eqb-false}
 use Rattle.std.proofs.lemmas.List.{get_or_append_left, get_or-append-add}
 use Rattle.std.proofs.lemmas.Option.{same_Some}
 use Rattle.dpl_match.specs.declared.renewing.Other.{Other}
+use Rattle.dpl_match.specs.declared.renewing.Others.{Others}
 use Rattle.dpl_match.specs.declared.renewing.Outsider.{Outsider}
+use Rattle.dpl_match.specs.declared.stage.OuterTable.{OuterTable}
 use Rattle.dpl_match.specs.declared.neighbours.Neighbour.{Neighbour}
-use Rattle.dpl_match.specs.steps.Nearest.{no_key, kept_of, member_of, level_of}
-use Rattle.dpl_match.specs.steps.Nearest.{AreTotals, HasKey, IsMeasured, IsNear, IsApart, IsOutside}
-use Rattle.dpl_match.specs.steps.Outsiders.{IsLeastOutside, IsOther, AreOutside, IsFoundOutside, AreNoNearer}
+use Rattle.dpl_match.specs.steps.Nearest.{is_known, no_key, kept_of, level_of}
+use Rattle.dpl_match.specs.steps.Nearest.{AreTotals, HasKey, AreSameOutside, AreNoNearer, IsNear, IsFresh, IsOutside}
+use Rattle.dpl_match.specs.steps.Outsiders.{IsLeastOutside, IsOther, AreOutside, AreOthersOf, AreOthers, IsFoundOutside}
 use Rattle.dpl_match.specs.steps.Scans.{Members, members_of}
-use Rattle.dpl_match.proofs.NearLemmas.{stands_measured}
+use Rattle.dpl_match.proofs.NearLemmas.{key_stands}
 use Rattle.dpl_tree.specs.declared.matching.Matching.{Matching}
 use Rattle.dpl_tree.specs.Metrics.{Table, IsMetric, IsTable, dist_of, radius_of}
 
@@ -45,6 +48,35 @@ outside_part_passed m known level x start list none h = record {
         absurd (o.apart (ap m.sets.top (sym is) ∙ none k (omega (arith, l, le)) (ap known is ∙ o.listed))))
   ];
 }
+
+-- the same members are outside of another top set
+outside_same : (m : Members) (known : ℕ → Bool) (level x y k : ℕ) (list : List Other) → AreSameOutside m known x y
+    → AreOutside m known level x k list → AreOutside m known level y k list
+outside_same m known level x y k list same h = record {
+  each = λ j l. let o = h.each j l in record { outside = (same _).0 o.outside; offset = o.offset };
+  all = λ s l o. h.all s l ((same s).1 o);
+}
+
+least_same : (metric : Table) (m : Members) (level : ℕ) (known : ℕ → Bool) (x y k : ℕ) (one : Outsider) → AreSameOutside m known x y
+    → IsLeastOutside metric m level known x k one → IsLeastOutside metric m level known y k one
+least_same metric m level known x y k one same h = record {
+  most = h.most;
+  least = λ s l o. h.least s l ((same s).1 o);
+  some = λ l. let p = h.some l in ((same _).0 p.0, p.1);
+}
+
+-- so the others of the one are those of the other one
+pub others_same : (metric : Table) (m : Members) (table : OuterTable) (others : Others) (x y : ℕ)
+    → AreSameOutside m (is_known table.known.items) x y → others.top ≡ Some x → AreOthers metric m table others
+    → AreOthersOf metric m table others y
+others_same metric m table others x y same e h =
+    let known : ℕ → Bool = is_known table.known.items in
+    let level : ℕ = level_of m table.origin in
+    let p : AreOthersOf metric m table others x = subst (λ (o : Option ℕ). MatchOption o ⊤ (λ z. AreOthersOf metric m table others z)) e h
+    in (
+      λ full. outside_same m known level x y m.count others.list.items same (p.0 full),
+      λ near. least_same metric m level known x y m.count others.outsider same (p.1 near),
+    )
 
 abbrev pub no_other : Other
 no_other = record { member = 0; offset = 0 }
@@ -121,45 +153,24 @@ none_nearer metric matching known origin t best key one me ht around far lb lf s
       | inr g ↦ omega (arith, same, far.least s out.below out, g, lf)
     ]
 
--- what was found is the nearest one then
-pub found_near : (metric : Table) (matching : Matching) (known : ℕ → Bool) (origin t : ℕ) (w : Neighbour)
-    → AreTotals metric matching → IsMetric metric.size (dist_of metric) → origin < metric.size → t < metric.size
-    → IsFoundOutside (members_of metric matching) known origin t w
-    → AreNoNearer (members_of metric matching) known origin t w.key
-    → IsNear (members_of metric matching) known t metric.size (member_of (kept_of w))
-found_near metric matching known origin t w totals me ho ht h none =
-    let m : Members = members_of metric matching in
-    elim (cases_Bool (eqb w.key no_key)) [
-      | inl b ↦ subst (λ (z : Bool). IsNear m known t m.count (member_of (cond z None (Some w)))) (sym b) (λ s hs ks ne.
-          let out : IsOutside m known (m.sets.top t) s = record { below = hs; listed = ks; apart = ne } in
-          omega (arith, none s out, me.small s t hs ht, totals.small origin ho, eqb-true w.key no_key b))
-      | inr b ↦ (let p = h.some (omega (arith, eqb-false w.key no_key b, h.most)) in
-          subst (λ (z : Bool). IsNear m known t m.count (member_of (cond z None (Some w)))) (sym b) (record {
-            below = p.0.below;
-            listed = p.0.listed;
-            least = λ s hs ks ne.
-                let out : IsOutside m known (m.sets.top t) s = record { below = hs; listed = ks; apart = ne } in
-                omega (arith, none s out, p.1.1);
-          }))
-    ]
-
--- with its key
-pub found_measured : (m : Members) (known : ℕ → Bool) (origin t : ℕ) (w : Neighbour) → IsFoundOutside m known origin t w
-    → IsMeasured m origin t (kept_of w)
-found_measured m known origin t w h = elim (cases_Bool (eqb w.key no_key)) [
-  | inl b ↦ subst (λ (z : Bool). IsMeasured m origin t (cond z None (Some w))) (sym b) (λ u e. let bad : None ≡ Some u = e in cc)
-  | inr b ↦ stands_measured m origin t w (h.some (omega (arith, eqb-false w.key no_key b, h.most))).1
+-- what was found is a known member of another top with its key
+pub found_fresh : (m : Members) (known : ℕ → Bool) (origin t : ℕ) (w : Neighbour) → IsFoundOutside m known origin t w
+    → IsFresh m known origin t (kept_of w)
+found_fresh m known origin t w h = elim (cases_Bool (eqb w.key no_key)) [
+  | inl b ↦ subst (λ (z : Bool). IsFresh m known origin t (cond z None (Some w))) (sym b) (λ u e. let bad : None ≡ Some u = e in cc)
+  | inr b ↦ subst (λ (z : Bool). IsFresh m known origin t (cond z None (Some w))) (sym b)
+      (λ u e. subst (λ (z : Neighbour). IsOutside m known (m.sets.top t) z.member × HasKey m (level_of m origin) t z) (same_Some w u e)
+      (h.some (omega (arith, eqb-false w.key no_key b, h.most))))
 ]
 
--- and it has another top
-pub found_apart : (m : Members) (known : ℕ → Bool) (origin t : ℕ) (w : Neighbour) → IsFoundOutside m known origin t w
-    → IsApart m.sets t (member_of (kept_of w))
-found_apart m known origin t w h = elim (cases_Bool (eqb w.key no_key)) [
-  | inl b ↦ subst (λ (z : Bool). IsApart m.sets t (member_of (cond z None (Some w)))) (sym b) (λ a e. let bad : None ≡ Some a = e in cc)
-  | inr b ↦ subst (λ (z : Bool). IsApart m.sets t (member_of (cond z None (Some w)))) (sym b)
-      (let p = h.some (omega (arith, eqb-false w.key no_key b, h.most)) in
-      λ a e z. p.0.apart (ap m.sets.top (same_Some w.member a e) ∙ z))
-]
+-- it may be kept where none outside is nearer
+pub found_near : (m : Members) (known : ℕ → Bool) (origin t : ℕ) (w : Neighbour) → IsFoundOutside m known origin t w
+    → AreNoNearer m known origin t w.key → IsNear m known origin t (kept_of w)
+found_near m known origin t w h none = record {
+  below = λ u e. (found_fresh m known origin t w h u e).0.below;
+  most = omega (arith, key_stands w, h.most);
+  bound = subst (AreNoNearer m known origin t) (key_stands w) none;
+}
 
 -- the nearer one of two is no farther than either
 nearer_least : (a w r : Neighbour) → IsNearerOf a w r → (r.key ≤ a.key) × (r.key ≤ w.key)
@@ -187,12 +198,6 @@ found_reached metric matching known origin t x sum level best r one totals me ht
     let far : dist_of metric t one.member ≤ radius_of metric t + radius_of metric one.member = me.within t one.member ht p.0.below in
     let le : w.key ≤ radius_of metric t + one.reach = omega (arith, far, p.1, ex, es, el) in
     (found_nearer m known origin t best w r found p.0 key is, q.0, omega (arith, q.1, le))
-
--- no member outside is nearer than what was kept, whatever top that has now
-pub none_below : (m : Members) (known : ℕ → Bool) (origin t key : ℕ) (w : Neighbour) → IsNear m known t m.count (Some w.member)
-    → HasKey m (level_of m origin) t w → key ≤ w.key → AreNoNearer m known origin t key
-none_below m known origin t key w near has le s out =
-    omega (arith, near.least s out.below out.listed out.apart, has.1, le)
 
 -- no member outside has a key below one that none of the list goes below
 pub none_listed : (m : Members) (known : ℕ → Bool) (origin t key : ℕ) (list : List Other)

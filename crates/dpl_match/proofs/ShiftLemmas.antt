@@ -7,7 +7,7 @@ use Rattle.dpl_tree.specs.declared.matching.Matching.{Matching}
 use Rattle.dpl_tree.specs.declared.tree.Tree.{Tree}
 use Rattle.dpl_tree.specs.steps.Forests.{Forest, inner, gain, drop_of}
 use Rattle.dpl_tree.specs.Metrics.{Table, IsMetric, dist_of}
-use Rattle.dpl_tree.specs.Stages.{IsStage, Advances, Ends, potential}
+use Rattle.dpl_tree.specs.Stages.{IsStage, Advances, Ends, Widens, potential}
 use Rattle.dpl_tree.specs.steps.Growth.{IsGrowing, IsNext}
 use Rattle.dpl_tree.specs.Views.{forest_of, place_in}
 use Rattle.dpl_tree.proofs.Widening.{widens_back, widened_back}
@@ -19,7 +19,7 @@ use Rattle.dpl_match.specs.steps.Scans.{members_of}
 use Rattle.dpl_match.specs.declared.turning_on.Turned.{Turned}
 use Rattle.dpl_match.specs.steps.Turns.{IsDueNow, IsChosen, IfWidened, IsWidenedBy}
 use Rattle.dpl_match.proofs.NearLemmas.{moved}
-use Rattle.dpl_match.proofs.TurnLemmas.{totals_enough, turned_stage, turned_totals, advance_back, end_back, shifts_few, widened_as}
+use Rattle.dpl_match.proofs.TurnLemmas.{totals_enough, turned_stage, turned_totals, advance_back, shifts_few, widened_as}
 
 -- no total of an inner member falls below 0
 pub shift_enough : {metric : Table} {m : Matching} {s : Stage} {by : ℕ} {event : Event} → IsAtTurn metric m s
@@ -45,10 +45,13 @@ pub record IsShifted (metric : Table) (m next : Matching) (s : Stage) (event : E
   pub on : (last : Matching) (u : Tree) → IsNext metric next s.tree last u → IsNext metric m s.tree last u
   pub widens_by : (r : Turned) (last : Matching) (u : Tree) → IfWidened r (IsWidenedBy metric next s.tree last u) →
       IfWidened r (IsWidenedBy metric m s.tree last u)
-  pub ends : (h : Sets) (new : ℕ → Option ℕ) → Ends metric.size (dist_of metric) (sets_of next.family) (forest_of s.tree next.mates.items) h new →
-      Ends metric.size (dist_of metric) (sets_of m.family) (forest_of s.tree m.mates.items) h new
+  pub ends : (h : Sets) (one two : ℕ) (y : Forest) → Ends metric.size (dist_of metric) h one two (forest_of s.tree next.mates.items) y →
+      Ends metric.size (dist_of metric) h one two (forest_of s.tree m.mates.items) y
+  pub tops : (last : Matching) → last.family ≡ next.family → (k : ℕ) → (sets_of last.family).top k ≡ (sets_of m.family).top k
   pub nears : (last : Matching) (u : Tree) → IsNext metric next s.tree last u → last.sums ≡ next.sums →
       AreNear (members_of metric last) (place_in u.labels.items) s.table
+  pub keeps : (last : Matching) → last.family ≡ next.family → last.sums ≡ next.sums →
+      AreNear (members_of metric last) (place_in s.tree.labels.items) s.table
 
 -- a change of values as the code makes it
 pub shifted : {metric : Table} {m next : Matching} {s : Stage} {by : ℕ} {event : Event} {before steps : ℕ} → IsMetric metric.size (dist_of metric) →
@@ -74,6 +77,8 @@ shifted {metric} {m} {next} {s} {by} {event} me start ch same values fam sum mat
     let each = λ (i : ℕ) (h : i < 2 * n). values i (omega (arith, h, size)) in
     let total = λ (k : ℕ) (h : k < n). sum k (omega (arith, h, lists.sums_count)) in
     let after = turned_stage n f g dist x by event me st ch same each fam in
+    let stays : Widens n f x.place g x.place = widens_back n f g g x.place x.place same
+    (record { outer_stays = λ a ha p. p; together = λ a b ha hb p e. e }) in
     let widens = λ (last : Matching) (u : Tree) (w : IsNext metric next s.tree last u). widens_back n f g (sets_of last.family) _ _ same w.widens in
     record {
       growing = record {
@@ -94,10 +99,14 @@ shifted {metric} {m} {next} {s} {by} {event} me start ch same values fam sum mat
         sized = w.sized;
         ranks = w.ranks;
         widens = widens last u w;
+        trees = w.trees;
       };
       widens_by = λ r last u w. widened_as r (IsWidenedBy metric next s.tree last u) (IsWidenedBy metric m s.tree last u)
           (λ o. widened_back n f g (sets_of last.family) _ _ o same) w;
-      ends = λ h new w. end_back n f g h dist x new same (subst (λ (z : List (Option ℕ)). Ends n dist g (forest_of s.tree z) h new) em w);
+      ends = λ h one two y w. subst (λ (z : List (Option ℕ)). Ends n dist h one two (forest_of s.tree z) y) em w;
+      tops = λ last k e. ap (λ (z : Sets). z.top e) (ap sets_of k ∙ same);
       nears = λ last u w e. rw e (moved n f (sets_of last.family) x.place (place_in u.labels.items) dist (λ k. get_or m.sums.items k 0)
           (λ k. get_or next.sums.items k 0) s.table by start.table.origin_below start.nearest.near_outer (widens last u w) total);
+      keeps = λ last k e. rw (k, e) (moved n f g x.place x.place dist (λ k. get_or m.sums.items k 0)
+          (λ k. get_or next.sums.items k 0) s.table by start.table.origin_below start.nearest.near_outer stays total);
     }

@@ -1,14 +1,14 @@
-//! The search for what is kept anew, where it has come into the same top.
+//! The search for what is kept anew, where it is no known member of another top with its key.
 
 ghost use Rattle.std.specs.Prelude.{◌≡◌, ◌≢◌, ℕ, ◌+◌, ◌<◌, ◌≤◌, ◌^◌, ◌⊎◌, true, false, Some, None};
 ghost use Rattle.std.specs.Prelude.{length, slice_index, slice_set, IfOk, OnOk};
 ghost use Rattle.dpl_laminar.specs.Storing.{sets_of};
 ghost use Rattle.dpl_tree.specs.Metrics.{dist_of, radius_of, AreAround};
 ghost use Rattle.dpl_tree.specs.Rows.{distances_of};
-ghost use Rattle.dpl_match.specs.steps.Nearest.{is_known, near_in, kept_in, kept_of, member_of, level_of, no_key};
-ghost use Rattle.dpl_match.specs.steps.Nearest.{IsNear, IsMeasured, IsOutside, IsApart};
+ghost use Rattle.dpl_match.specs.steps.Nearest.{is_known, kept_in, level_of, no_key};
+ghost use Rattle.dpl_match.specs.steps.Nearest.{HasKey, IsOutside, AreSameOutside, AreWhole, AreNoNearer, IsNear, IsFresh};
 ghost use Rattle.dpl_match.specs.steps.Nearest.{HasPlaces, HasSameMembers, AreTotals};
-ghost use Rattle.dpl_match.specs.steps.Outsiders.{IsLeastOutside, AreOutside, AreOthers, IsFoundOutside, AreNoNearer};
+ghost use Rattle.dpl_match.specs.steps.Outsiders.{IsLeastOutside, AreOutside, AreOthers, IsFoundOutside};
 ghost use Rattle.dpl_match.specs.steps.Scans.{members_of};
 
 use super::neighbours::{GROUP, NOBODY, Neighbour};
@@ -193,11 +193,10 @@ fn search_near(
         (level_of (members_of metric.now matching.now) table.now.origin)
         (is_known table.now.known.items) ((sets_of matching.now.family).top t) metric.now.size
         outsider.now }
-    ensures near { IsNear (members_of metric.now matching.now) (is_known table.now.known.items) t
-        metric.now.size (member_of (kept_of result)) }
-    ensures measured { IsMeasured (members_of metric.now matching.now) table.now.origin t
-        (kept_of result) }
-    ensures apart { IsApart (sets_of matching.now.family) t (member_of (kept_of result)) }
+    ensures found { IsFoundOutside (members_of metric.now matching.now) (is_known table.now.known.items)
+        table.now.origin t result }
+    ensures least { AreNoNearer (members_of metric.now matching.now) (is_known table.now.known.items)
+        table.now.origin t result.key }
 {
     let _size = metric.size();
     let best = search_around(metric, matching, table, list, t);
@@ -233,11 +232,10 @@ fn search_listed(
         metric.now.size list.now }
     requires least { AreNoNearer (members_of metric.now matching.now) (is_known table.now.known.items)
         table.now.origin t least }
-    ensures near { IsNear (members_of metric.now matching.now) (is_known table.now.known.items) t
-        metric.now.size (member_of (kept_of result)) }
-    ensures measured { IsMeasured (members_of metric.now matching.now) table.now.origin t
-        (kept_of result) }
-    ensures apart { IsApart (sets_of matching.now.family) t (member_of (kept_of result)) }
+    ensures found { IsFoundOutside (members_of metric.now matching.now) (is_known table.now.known.items)
+        table.now.origin t result }
+    ensures least { AreNoNearer (members_of metric.now matching.now) (is_known table.now.known.items)
+        table.now.origin t result.key }
 {
     let _size = metric.size();
     let mut best = NOBODY;
@@ -296,11 +294,10 @@ fn search_row(
         metric.now.size list.now }
     requires least { AreNoNearer (members_of metric.now matching.now) (is_known table.now.known.items)
         table.now.origin t least }
-    ensures near { IsNear (members_of metric.now matching.now) (is_known table.now.known.items) t
-        metric.now.size (member_of (kept_of result)) }
-    ensures measured { IsMeasured (members_of metric.now matching.now) table.now.origin t
-        (kept_of result) }
-    ensures apart { IsApart (sets_of matching.now.family) t (member_of (kept_of result)) }
+    ensures found { IsFoundOutside (members_of metric.now matching.now) (is_known table.now.known.items)
+        table.now.origin t result }
+    ensures least { AreNoNearer (members_of metric.now matching.now) (is_known table.now.known.items)
+        table.now.origin t result.key }
 {
     let _size = metric.size();
     match row {
@@ -356,11 +353,10 @@ fn search(
         others.now.outsider }
     requires least { AreNoNearer (members_of metric.now matching.now) (is_known table.now.known.items)
         table.now.origin t least }
-    ensures near { IsNear (members_of metric.now matching.now) (is_known table.now.known.items) t
-        metric.now.size (member_of (kept_of result)) }
-    ensures measured { IsMeasured (members_of metric.now matching.now) table.now.origin t
-        (kept_of result) }
-    ensures apart { IsApart (sets_of matching.now.family) t (member_of (kept_of result)) }
+    ensures found { IsFoundOutside (members_of metric.now matching.now) (is_known table.now.known.items)
+        table.now.origin t result }
+    ensures least { AreNoNearer (members_of metric.now matching.now) (is_known table.now.known.items)
+        table.now.origin t result.key }
 {
     match metric.seen(t) {
         Seen::Near(list) => search_near(metric, matching, table, list, &others.outsider, t),
@@ -551,6 +547,24 @@ fn keep_anew(metric: &Metric, table: &mut OuterTable, t: u32, found: Neighbour)
     table.near.set(t, found);
 }
 
+/// The top set of t, or a number that no set has where t is not known: no known member is in its top set then. So the others
+/// are looked for but once for all these.
+fn top_for(metric: &Metric, matching: &Matching, table: &OuterTable, t: u32) -> u32
+    requires totals { AreTotals metric.now matching.now }
+    requires table { HasPlaces metric.now table.now }
+    requires t { t < metric.now.size }
+    requires whole { AreWhole (members_of metric.now matching.now) (is_known table.now.known.items) }
+    ensures { AreSameOutside (members_of metric.now matching.now) (is_known table.now.known.items) result
+        ((sets_of matching.now.family).top t) }
+{
+    let n = metric.size() as u32;
+    let top = matching.family.tops(t);
+    if table.has(t) {
+        return top;
+    }
+    2 * n
+}
+
 /// Looks anew for what is kept for t, where no known member of another top has a key below the least one.
 #[inline(never)]
 fn keep_nearest(
@@ -565,6 +579,7 @@ fn keep_nearest(
     requires totals { AreTotals metric.now matching.now }
     requires table { HasPlaces metric.now table.old }
     requires t { t < metric.now.size }
+    requires whole { AreWhole (members_of metric.now matching.now) (is_known table.old.known.items) }
     requires least { AreNoNearer (members_of metric.now matching.now) (is_known table.old.known.items)
         table.old.origin t least }
     requires others { AreOthers metric.now (members_of metric.now matching.now) table.old others.old }
@@ -572,27 +587,49 @@ fn keep_nearest(
     ensures rest { HasSameMembers table.old table.new }
     ensures others { OnOk result (AreOthers metric.now (members_of metric.now matching.now) table.new others.new) }
     ensures near { OnOk result (IsNear (members_of metric.now matching.now)
-        (is_known table.new.known.items) t metric.now.size (near_in table.new.near t)) }
-    ensures measured { OnOk result (IsMeasured (members_of metric.now matching.now)
-        table.new.origin t (kept_in table.new.near t)) }
-    ensures apart { OnOk result (IsApart (sets_of matching.now.family) t (near_in table.new.near t)) }
+        (is_known table.new.known.items) table.new.origin t (kept_in table.new.near t)) }
+    ensures fresh { OnOk result (IsFresh (members_of metric.now matching.now)
+        (is_known table.new.known.items) table.new.origin t (kept_in table.new.near t)) }
     ensures kept { (k : ℕ) → k ≢ t →
         kept_in table.new.near k ≡ kept_in table.old.near k }
 {
-    turn_to(
-        alloc,
-        metric,
-        matching,
-        table,
-        others,
-        matching.family.tops(t),
-    )?;
+    let top = top_for(metric, matching, table, t);
+    turn_to(alloc, metric, matching, table, others, top)?;
     let found = search(metric, matching, table, others, t, least);
     keep_anew(metric, table, t, found);
     Ok(())
 }
 
-/// Looks again for what is kept for t where that has come into the same top. Most have not.
+/// Whether what is kept for t is a known member of another top that has this key.
+fn is_fresh(
+    metric: &Metric,
+    matching: &Matching,
+    table: &OuterTable,
+    near: Neighbour,
+    t: u32,
+) -> bool
+    requires totals { AreTotals metric.now matching.now }
+    requires table { HasPlaces metric.now table.now }
+    requires member { near.member < metric.now.size }
+    requires t { t < metric.now.size }
+    ensures { result ≡ true → IsOutside (members_of metric.now matching.now)
+        (is_known table.now.known.items) ((sets_of matching.now.family).top t) near.member ×
+        HasKey (members_of metric.now matching.now)
+        (level_of (members_of metric.now matching.now) table.now.origin) t near }
+{
+    let _size = metric.size();
+    let member = near.member;
+    if !table.has(member) {
+        return false;
+    }
+    if matching.family.tops(member) == matching.family.tops(t) {
+        return false;
+    }
+    let offset = table.level(matching) - matching.sum(member);
+    near.key == metric.dist(t, member) + offset
+}
+
+/// Looks again for what is kept for t where that is no known member of another top with its key. Most are.
 #[inline(never)]
 pub fn renew_one(
     alloc: Global,
@@ -605,25 +642,23 @@ pub fn renew_one(
     requires totals { AreTotals metric.now matching.now }
     requires table { HasPlaces metric.now table.old }
     requires t { t < metric.now.size }
-    requires near { IsNear (members_of metric.now matching.now) (is_known table.old.known.items) t
-        metric.now.size (near_in table.old.near t) }
-    requires measured { IsMeasured (members_of metric.now matching.now) table.old.origin t
-        (kept_in table.old.near t) }
+    requires whole { AreWhole (members_of metric.now matching.now) (is_known table.old.known.items) }
+    requires near { IsNear (members_of metric.now matching.now) (is_known table.old.known.items)
+        table.old.origin t (kept_in table.old.near t) }
     requires others { AreOthers metric.now (members_of metric.now matching.now) table.old others.old }
     ensures table { HasPlaces metric.now table.new }
     ensures rest { HasSameMembers table.old table.new }
     ensures others { OnOk result (AreOthers metric.now (members_of metric.now matching.now) table.new others.new) }
     ensures near { OnOk result (IsNear (members_of metric.now matching.now)
-        (is_known table.new.known.items) t metric.now.size (near_in table.new.near t)) }
-    ensures measured { OnOk result (IsMeasured (members_of metric.now matching.now)
-        table.new.origin t (kept_in table.new.near t)) }
-    ensures apart { OnOk result (IsApart (sets_of matching.now.family) t (near_in table.new.near t)) }
+        (is_known table.new.known.items) table.new.origin t (kept_in table.new.near t)) }
+    ensures fresh { OnOk result (IsFresh (members_of metric.now matching.now)
+        (is_known table.new.known.items) table.new.origin t (kept_in table.new.near t)) }
     ensures kept { (k : ℕ) → k ≢ t →
         kept_in table.new.near k ≡ kept_in table.old.near k }
 {
     match table.nearest(t) {
         Some(near) => {
-            if matching.family.tops(near.member) != matching.family.tops(t) {
+            if is_fresh(metric, matching, table, near, t) {
                 return Ok(());
             }
             keep_nearest(alloc, metric, matching, table, others, t, near.key)

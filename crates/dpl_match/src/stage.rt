@@ -1,18 +1,31 @@
 //! What a stage has beside the matching.
 
-ghost use Rattle.std.specs.Prelude.{◌≡◌, ℕ, ◌+◌, ◌*◌, ◌<◌, ◌≤◌, ◌^◌, false, replicate, slice_set};
-ghost use Rattle.std.specs.Prelude.{length, slice_index, IfOk};
-ghost use Rattle.dpl_match.specs.steps.Going.{IsStart};
+ghost use Rattle.std.specs.Prelude.{◌≡◌, ℕ, ◌+◌, ◌*◌, ◌<◌, ◌≤◌, ◌^◌, true, false, replicate, slice_set};
+ghost use Rattle.std.specs.Prelude.{length, slice_index, IfOk, All};
+ghost use Rattle.dpl_laminar.specs.Storing.{sets_of};
+ghost use Rattle.dpl_tree.specs.steps.Growth.{AreRoots};
 ghost use Rattle.dpl_match.specs.steps.Nearest.{is_known, key_in, kept_in, no_key, nobody};
 
 use super::neighbours::{NOBODY, Neighbour, Neighbours, kept};
-use dpl_tree::{Matching, Tree};
+use dpl_laminar::Family;
+use dpl_tree::{Matching, Metric, Tree};
 use std::alloc::{AllocError, Global};
 
 /// The level from which keys are counted is no less, so that no key is below 0.
 const LEAST_LEVEL: u64 = 1 << 60;
 
-/// The outer members that were taken in, and for each member the nearest of them with another top.
+/// From so many members on tops are paired at once where all distances stand in a table. Fewer take little time one by one,
+/// and where few are near each other, few trees grow large.
+const MANY: usize = 1000;
+
+/// Whether tops are paired at once.
+pub fn are_paired_at_once(metric: &Metric) -> bool
+    ensures { result ≡ true → 8 ≤ metric.now.size }
+{
+    metric.size() >= MANY && metric.is_full()
+}
+
+/// The outer members that were taken in, and for each member the nearest of them with another top, or what bounds its key.
 /// The origin is an outer member throughout the stage. A change of values adds as much to the sum over
 /// each outer member, so that keys stay as they are.
 /// No key is more than the radius of its member and the ceiling. Of the members outside of the tree
@@ -82,24 +95,26 @@ pub struct Stage {
 }
 
 impl Stage {
-    /// The stage of n members that begins at the top set of one of them.
+    /// The stage of n members that begins at the top sets of some of them, one of which is the origin.
     pub fn new(
         alloc: Global,
-        root: u32,
+        family: &Family,
+        members: &[u32],
         origin: u32,
         n: usize,
         alone: Vec<u32>,
     ) -> Result<Stage, AllocError>
-        requires root { root < 2 * n }
+        requires size { n ≡ (sets_of family.now).size }
+        requires members { All (λ m. m < n) members.now }
         requires small { n ≤ 2048 }
-        ensures tree { IfOk result (λ s. IsStart n root s.tree) }
+        ensures tree { IfOk result (λ s. AreRoots (sets_of family.now) members.now s.tree) }
         ensures origin { IfOk result (λ s. s.table.origin ≡ origin) }
         ensures known { IfOk result (λ s. s.table.known.items ≡ replicate n false) }
         ensures near { IfOk result (λ s. s.table.near ≡ replicate n nobody) }
         ensures ceiling { IfOk result (λ s. s.table.ceiling ≡ no_key) }
         ensures alone { IfOk result (λ s. s.alone ≡ alone) }
     {
-        let tree = Tree::new(alloc, root, 2 * n)?;
+        let tree = Tree::of_roots(alloc, family, members, n)?;
         let known = vec![in alloc; false; n]?;
         let near = Neighbours::new(alloc, n)?;
         Ok(Stage {

@@ -5,7 +5,7 @@ use Rattle.dpl_laminar.specs.Loads.{differ}
 use Rattle.dpl_laminar.specs.Families.{Sets}
 use Rattle.dpl_laminar.specs.Changes.{IsShrunk, IsExpanded}
 use Rattle.dpl_laminar.proofs.Sums.{sum_same}
-use Rattle.dpl_tree.specs.steps.Forests.{Forest, IsTree}
+use Rattle.dpl_tree.specs.steps.Forests.{Forest, IsForest}
 use Rattle.dpl_tree.specs.Mates.{ArePairs, loads, totals}
 
 -- the values are the same, and so is each set that has one
@@ -63,12 +63,10 @@ pairs_alike n f load load' dist mate e p = record {
 }
 
 pub tree_alike : (n : ℕ) (f : Sets) (load load' dist : ℕ → ℕ → ℕ) (x : Forest)
-    → ((s t : ℕ) → s < n → t < n → load' s t ≡ load s t) → IsTree n f load dist x → IsTree n f load' dist x
+    → ((s t : ℕ) → s < n → t < n → load' s t ≡ load s t) → IsForest n f load dist x → IsForest n f load' dist x
 tree_alike n f load load' dist x e t = record {
   tops = t.tops;
-  root_outer = t.root_outer;
-  root_free = t.root_free;
-  outer_pair = t.outer_pair;
+  root_alone = t.root_alone;
   outer_mate = t.outer_mate;
   inner_pair = t.inner_pair;
   inner_mate = t.inner_mate;

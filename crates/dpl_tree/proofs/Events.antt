@@ -6,11 +6,11 @@ use Rattle.dpl_laminar.specs.Families.{Sets, IsFamily, has}
 use Rattle.dpl_laminar.specs.Changes.{Gathers, AreTops, IsShrunk}
 use Rattle.dpl_laminar.proofs.Sums.{sum_same}
 use Rattle.dpl_laminar.proofs.Numbers.{true_false, place_in}
-use Rattle.dpl_tree.specs.steps.Forests.{free, outer, inner, Forest, IsTree, Grows, IsCycle, Folds}
+use Rattle.dpl_tree.specs.steps.Forests.{free, outer, inner, Forest, IsForest, IsExposed, Grows, IsCycle, Folds}
 use Rattle.dpl_tree.specs.Mates.{IsExit, DropsInside, total_in, loads, totals}
 use Rattle.dpl_tree.specs.Metrics.{IsMetric}
-use Rattle.dpl_tree.specs.Stages.{IsRest, IsStage, IsReady, potential, Advances, AreRanked, Widens}
-use Rattle.dpl_tree.proofs.Growing.{place_cases, outer_in, grown}
+use Rattle.dpl_tree.specs.Stages.{IsRest, IsStage, IsReady, potential, Advances, AreRanked, KeepsTrees, Widens}
+use Rattle.dpl_tree.proofs.Growing.{place_cases, outer_in, exit_cases, grown}
 use Rattle.dpl_tree.proofs.Parity.{grown_parity, folded_parity}
 use Rattle.dpl_tree.proofs.Folding.{folded, folded_pairs}
 use Rattle.dpl_tree.proofs.Turning.{grown_falls, folded_falls}
@@ -23,39 +23,54 @@ pub record IsEvent (n : ℕ) (dist : ℕ → ℕ → ℕ) (after : ℕ → ℕ) 
   pub ranks : (bound : ℕ) → AreRanked x bound → AreRanked y (after bound)
   pub sums : (m : ℕ) → m < n → totals n g m ≡ totals n f m
   pub widens : Widens n f x.place g y.place
+  pub trees : KeepsTrees x y
 
 -- ---- the root
 
--- the root has the least rank of all outer sets
-pub root_lowest : (n : ℕ) (f : Sets) (load dist : ℕ → ℕ → ℕ) (x : Forest) → IsTree n f load dist x
-    → (bound i : ℕ) → x.rank i ≤ bound → x.place i ≡ outer → i ≢ x.root → x.rank x.root < x.rank i
-root_lowest n f load dist x tree zero i low e ne =
-    let w = tree.outer_pair i e ne in
-    let v = tree.outer_mate i w.0 w.1 e w.2 in
-    absurd (omega (arith, v.1, low))
-root_lowest n f load dist x tree (suc bound) i low e ne =
-    let w = tree.outer_pair i e ne in
-    let v = tree.outer_mate i w.0 w.1 e w.2 in
-    let up = tree.link_rank (f.top w.1) v.0 in
-    elim (cases_eq (f.top (x.above (f.top w.1))) x.root) [
-      | inl z ↦ omega (arith, v.1, up, ap x.rank z)
-      | inr z ↦ omega (
-        arith,
-        v.1,
-        up,
-        root_lowest n f load dist x tree bound (f.top (x.above (f.top w.1)))
-            (omega (arith, v.1, up, low)) (tree.link_outer (f.top w.1) v.0) z,
-      )
-    ]
+-- the root has the least rank of all outer sets of its tree
+pub root_lowest : (n : ℕ) (f : Sets) (load dist : ℕ → ℕ → ℕ) (x : Forest) → IsForest n f load dist x
+    → (root : ℕ) → x.place root ≡ outer → IsExposed n f x.mate root
+    → (bound i : ℕ) → x.rank i ≤ bound → x.place i ≡ outer → x.tree i ≡ x.tree root → i ≢ root → x.rank root < x.rank i
+root_lowest n f load dist x tree root pr none zero i low e same ne = elim (exit_cases n f x.mate i) [
+  | inr bare ↦ absurd (ne (tree.root_alone i root e pr bare none same))
+  | inl w ↦ absurd (omega (arith, (tree.outer_mate i w.0 w.1 e w.2).1, low))
+]
+root_lowest n f load dist x tree root pr none (suc bound) i low e same ne = elim (exit_cases n f x.mate i) [
+  | inr bare ↦ absurd (ne (tree.root_alone i root e pr bare none same))
+  | inl w ↦
+      let v = tree.outer_mate i w.0 w.1 e w.2 in
+      let up = tree.link_rank (f.top w.1) v.0 in
+      let o = tree.link_outer (f.top w.1) v.0 in
+      elim (cases_eq (f.top (x.above (f.top w.1))) root) [
+        | inl z ↦ omega (arith, v.1, up, ap x.rank z)
+        | inr z ↦ omega (
+          arith,
+          v.1,
+          up,
+          root_lowest n f load dist x tree root pr none bound (f.top (x.above (f.top w.1)))
+              (omega (arith, v.1, up, low)) o.0 (o.1 ∙ v.2 ∙ same) z,
+        )
+      ]
+]
 
--- a set of the tree is the root or has a pair
-pub tree_ready : (n : ℕ) (f : Sets) (load dist : ℕ → ℕ → ℕ) (x : Forest) → IsTree n f load dist x → (k : ℕ) → x.place (f.top k) ≢ free → IsReady n f x k
+-- of two outer sets of one tree the one with no less rank has a pair
+pub higher_pair : (n : ℕ) (f : Sets) (load dist : ℕ → ℕ → ℕ) (x : Forest) → IsForest n f load dist x
+    → (a b : ℕ) → x.place a ≡ outer → x.place b ≡ outer → x.tree a ≡ x.tree b → a ≢ b → x.rank b ≤ x.rank a
+    → (m : ℕ) × (t : ℕ) × IsExit n f x.mate a m t
+higher_pair n f load dist x tree a b pa pb same ne low = elim (exit_cases n f x.mate a) [
+  | inl w ↦ w
+  | inr none ↦ absurd (omega (
+    arith,
+    root_lowest n f load dist x tree a pa none (x.rank b) b (omega arith) pb (sym same) (λ z. ne (sym z)),
+    low,
+  ))
+]
+
+-- a set of a tree is outer or has a pair
+pub tree_ready : (n : ℕ) (f : Sets) (load dist : ℕ → ℕ → ℕ) (x : Forest) → IsForest n f load dist x → (k : ℕ) → x.place (f.top k) ≢ free → IsReady n f x k
 tree_ready n f load dist x tree k ne = elim (place_cases (x.place (f.top k))) [
   | inl z ↦ absurd (ne z)
-  | inr (inl z) ↦ elim (cases_eq (f.top k) x.root) [
-    | inl e ↦ inr e
-    | inr r ↦ inl (tree.outer_pair (f.top k) z r)
-  ]
+  | inr (inl z) ↦ inr z
   | inr (inr z) ↦ inl (tree.inner_pair (f.top k) z)
 ]
 
@@ -131,7 +146,7 @@ folded_stage n f g dist x y cs js set meet c st at sh fam cy d o tight hc pc =
 
 -- members that were ready are ready
 pub folded_ready : (n : ℕ) (f g : Sets) (dist : ℕ → ℕ → ℕ) (x y : Forest) (cs : List ℕ) (set meet k : ℕ)
-    → IsStage n f dist x → IsTree n g (loads n g) dist y → Gathers n f cs set g → IsCycle n f x cs meet
+    → IsStage n f dist x → IsForest n g (loads n g) dist y → Gathers n f cs set g → IsCycle n f x cs meet
     → DropsInside n g x.mate y.mate → Folds x cs meet set y → k < n → IsReady n f x k → IsReady n g y k
 folded_ready n f g dist x y cs set meet k st tree q cy d o hk (inl w) =
     elim (cases_Bool (has cs (f.top k))) [
@@ -151,7 +166,9 @@ folded_ready n f g dist x y cs set meet k st tree q cy d o hk (inl w) =
           inl (m, t, record { below = hm; top = gm ∙ sym gk; paired = d.outside m t hm w.2.paired ne })
     ]
 folded_ready n f g dist x y cs set meet k st tree q cy d o hk (inr w) =
-    elim (cases_Bool (has cs x.root)) [
-      | inl z ↦ inr (q.top_inside k hk (ap (has cs) w ∙ z) ∙ sym (o.root_in z))
-      | inr z ↦ inr (q.top_others k hk (ap (has cs) w ∙ z) ∙ w ∙ sym (o.root_out z))
+    elim (cases_Bool (has cs (f.top k))) [
+      | inl z ↦ inr (ap y.place (q.top_inside k hk z) ∙ o.place_set)
+      | inr z ↦
+          let old : f.top k ≢ set = λ e. true_false {P = ⊥} (f.live set) (ap f.live (sym e) ∙ st.rest.laminar.tops.top_live k hk) q.was_free in
+          inr (ap y.place (q.top_others k hk z) ∙ o.place_others (f.top k) old z ∙ w)
     ]

@@ -12,6 +12,7 @@ use Rattle.dpl_tree.specs.steps.Joins.{tops_from, is_end, AreClimbing, ways}
 use Rattle.dpl_tree.proofs.Alike.{totals_alike, shrunk_alike}
 use Rattle.dpl_tree.proofs.Events.{IsEvent, folded_stage, folded_ready}
 use Rattle.dpl_tree.proofs.Folding.{tops_of}
+use Rattle.dpl_tree.proofs.Numbering.{folded_trees}
 use Rattle.dpl_tree.proofs.Widening.{folded_widens}
 use Rattle.dpl_tree.proofs.Meetings.{IsFolding, IsStep, climbing_whole, folding_tops, folding_joined, way_step}
 
@@ -128,4 +129,5 @@ folded_up {n} {k} {f} {g} {dist} {x} {y} {joins} {cs} {ds} {meet} {set} st w e e
       ranks = λ bound. folded_ranked x y ds meet set bound o;
       sums = totals_alike n f g (shrunk_alike n f g cs joins set st.rest.size sh);
       widens = folded_widens n f g dist x y joins cs ds meet set st (e ∙ sym e') sh o;
+      trees = folded_trees x y ds meet set w.cycle.meet_outer o;
     }

@@ -4,7 +4,7 @@ use Rattle.std.proofs.lemmas.Option.{same_Some}
 use Rattle.dpl_laminar.proofs.Numbers.{some_none, true_false, cases_Option}
 use Rattle.dpl_laminar.specs.Changes.{AreTops, Gathers}
 use Rattle.dpl_laminar.specs.Families.{Sets, IsLaminar, has}
-use Rattle.dpl_tree.specs.steps.Forests.{free, outer, inner, Forest, IsTree, IsCycle, Folds}
+use Rattle.dpl_tree.specs.steps.Forests.{free, outer, inner, Forest, IsForest, IsExposed, IsCycle, Folds}
 use Rattle.dpl_tree.specs.Mates.{IsExit, ArePairs, DropsInside}
 use Rattle.dpl_tree.proofs.Growing.{outer_in, inner_in, outer_inner_no, exit_back}
 
@@ -79,13 +79,12 @@ folded_pairs n f g load dist x new cs set meet lam q p c d =
 
 pub folded : (n : ℕ) (f g : Sets) (load dist : ℕ → ℕ → ℕ) (x y : Forest) (cs : List ℕ) (set meet : ℕ)
     → IsLaminar n f → AreTops n f cs → Gathers n f cs set g → ArePairs n f load dist x.mate
-    → IsTree n f load dist x → IsCycle n f x cs meet → DropsInside n g x.mate y.mate → Folds x cs meet set y
-    → IsTree n g load dist y
+    → IsForest n f load dist x → IsCycle n f x cs meet → DropsInside n g x.mate y.mate → Folds x cs meet set y
+    → IsForest n g load dist y
 folded n f g load dist x y cs set meet lam at q p tree c d o =
     let ts = tops_of n f g cs set lam q in
     let live_not = λ (i : ℕ) (l : f.live i ≡ true) (e : i ≡ set). true_false {P = ⊥} (f.live set) (ap f.live (sym e) ∙ l) q.was_free in
     let tree_not = λ (i : ℕ) (k : x.place i ≢ free). live_not i (tree.tops i k).1 in
-    let root_not = tree_not x.root (outer_in tree.root_outer) in
     let set_out = (elim (cases_Bool (has cs set)) as (λ _. has cs set ≡ false) [
       | inl k ↦ true_false (f.live set) (at.are_live set k) q.was_free
       | inr k ↦ k
@@ -114,7 +113,7 @@ folded n f g load dist x y cs set meet lam at q p tree c d o =
       | inl z ↦ absurd (omega (arith, v.1, c.ranks (f.top t) z))
       | inr z ↦ z
     ] in
-    let r : (has cs (f.top t) ≡ false) × (x.place (f.top t) ≡ inner) × (x.rank (f.top t) < x.rank meet) = (out, v.0, v.1) in r) in
+    let r : (has cs (f.top t) ≡ false) × (x.place (f.top t) ≡ inner) × (x.rank (f.top t) < x.rank meet) × (x.tree (f.top t) ≡ x.tree meet) = (out, v.0, v.1, v.2) in r) in
     let set_exit = λ (m t : ℕ) (w : IsExit n g y.mate set m t). (
     let v = was m t w.below w.paired in
     let ht : t < n = p.range m t w.below v.0 in
@@ -123,17 +122,37 @@ folded n f g load dist x y cs set meet lam at q p tree c d o =
     -- where the top of a member of an outer set is now
     let outer_now = λ (m : ℕ) (hm : m < n) (e : x.place (f.top m) ≡ outer).
     (elim (cases_Bool (has cs (f.top m))) as (λ _. (y.place (g.top m) ≡ outer) ×
-    (y.rank (g.top m) ≤ x.rank (f.top m))) [
-      | inl k ↦ (ap y.place (q.top_inside m hm k) ∙ o.place_set, omega (arith, ap y.rank (q.top_inside m hm k), o.rank_set, c.ranks (f.top m) k))
+    (y.rank (g.top m) ≤ x.rank (f.top m)) × (y.tree (g.top m) ≡ x.tree (f.top m))) [
+      | inl k ↦
+          let gm = q.top_inside m hm k in
+          (ap y.place gm ∙ o.place_set, omega (arith, ap y.rank gm, o.rank_set, c.ranks (f.top m) k), ap y.tree gm ∙ o.tree_set ∙ sym (c.same (f.top m) k))
       | inr k ↦
           let gm = q.top_others m hm k in
           let nm = tree_not (f.top m) (outer_in e) in
-          (ap y.place gm ∙ o.place_others (f.top m) nm k ∙ e, omega (arith, ap y.rank gm, o.rank_others (f.top m) nm))
+          (ap y.place gm ∙ o.place_others (f.top m) nm k ∙ e, omega (arith, ap y.rank gm, o.rank_others (f.top m) nm), ap y.tree gm ∙ o.tree_others (f.top m) nm)
     ]) in
     let not_set = λ (i : ℕ) (e : y.place i ≡ inner) (z : i ≡ set). outer_inner_no {P = ⊥} o.place_set (ap y.place (sym z) ∙ e) in
     let inner_old = λ (i : ℕ) (e : y.place i ≡ inner). (
     let w = old i (inner_in e) (not_set i e) in
     let r : (has cs i ≡ false) × (x.place i ≡ inner) = (w.0, sym w.1 ∙ e) in r) in
+    -- what has no pair now had none
+    let meet_bare = λ (i : ℕ) (z : i ≡ set) (none : IsExposed n g y.mate i). (
+    let r : IsExposed n f x.mate meet = λ m t w.
+    let v = meet_mate m t w in
+    let ht : t < n = p.range m t w.below w.paired in
+    let gm : g.top m ≡ set = q.top_inside m w.below (ap (has cs) w.top ∙ c.meet_in) in
+    let gt : g.top t ≡ f.top t = q.top_others t ht v.0 in
+    let ne : g.top m ≢ g.top t = λ a. live_not (f.top t) (lam.tops.top_live t ht) (sym gt ∙ sym a ∙ gm) in
+    none m t (record { below = w.below; top = gm ∙ sym z; paired = d.outside m t w.below w.paired ne }) in r) in
+    let old_bare = λ (i : ℕ) (out : has cs i ≡ false) (none : IsExposed n g y.mate i). (
+    let r : IsExposed n f x.mate i = λ m t w. none m t (exit_new i m t out w) in r) in
+    -- the new set and an old one are not both without a pair
+    let not_both = λ (i j : ℕ) (z : i ≡ set) (ne : j ≢ set) (ej : y.place j ≡ outer) (ni : IsExposed n g y.mate i)
+    (nj : IsExposed n g y.mate j) (e : y.tree i ≡ y.tree j). (
+    let v = old j (outer_in ej) ne in
+    let one : meet ≡ j = tree.root_alone meet j c.meet_outer (sym v.1 ∙ ej) (meet_bare i z ni) (old_bare j v.0 nj)
+    (sym (ap y.tree z ∙ o.tree_set) ∙ e ∙ o.tree_others j ne) in
+    let r : ⊥ = true_false (has cs j) (ap (has cs) (sym one) ∙ c.meet_in) v.0 in r) in
     record {
       tops = λ i k. elim (cases_eq i set) [
         | inl e ↦ rw e (q.below, q.live_set, q.parent_others set set_out ∙ lam.children.dead_parent set q.below q.was_free)
@@ -142,31 +161,19 @@ folded n f g load dist x y cs set meet lam at q p tree c d o =
             let v = tree.tops i (λ z. k (w.1 ∙ z)) in
             (v.0, q.live_others i ne ∙ v.1, q.parent_others i w.0 ∙ v.2)
       ];
-      root_outer = elim (cases_Bool (has cs x.root)) [
-        | inl k ↦ ap y.place (o.root_in k) ∙ o.place_set
-        | inr k ↦ ap y.place (o.root_out k) ∙ o.place_others x.root root_not k ∙ tree.root_outer
-      ];
-      root_free = λ m t w. elim (cases_Bool (has cs x.root)) [
-        | inl k ↦
-            let v = set_exit m t (record { below = w.below; top = w.top ∙ o.root_in k; paired = w.paired }) in
-            tree.root_free m t (record { below = v.below; top = v.top ∙ c.root_meets k; paired = v.paired })
-        | inr k ↦ tree.root_free m t (exit_old x.root m t root_not (record { below = w.below; top = w.top ∙ o.root_out k; paired = w.paired }))
-      ];
-      outer_pair = λ i e nr. elim (cases_eq i set) [
-        | inl z ↦
-            let mr : meet ≢ x.root = λ a. nr (z ∙ sym (o.root_in (ap (has cs) (sym a) ∙ c.meet_in))) in
-            let w = tree.outer_pair meet c.meet_outer mr in
-            let v = meet_mate w.0 w.1 w.2 in
-            let ht : w.1 < n = p.range w.0 w.1 w.2.below w.2.paired in
-            let gm : g.top w.0 ≡ set = q.top_inside w.0 w.2.below (ap (has cs) w.2.top ∙ c.meet_in) in
-            let gt : g.top w.1 ≡ f.top w.1 = q.top_others w.1 ht v.0 in
-            let ne : g.top w.0 ≢ g.top w.1 = λ a. live_not (f.top w.1) (lam.tops.top_live w.1 ht) (sym gt ∙ sym a ∙ gm) in
-            (w.0, w.1, record { below = w.2.below; top = gm ∙ sym z; paired = d.outside w.0 w.1 w.2.below w.2.paired ne })
-        | inr z ↦
-            let v = old i (outer_in e) z in
-            let xr : i ≢ x.root = λ a. nr (a ∙ sym (o.root_out (ap (has cs) (sym a) ∙ v.0))) in
-            let w = tree.outer_pair i (sym v.1 ∙ e) xr in
-            (w.0, w.1, exit_new i w.0 w.1 v.0 w.2)
+      root_alone = λ i j ei ej ni nj e. elim (cases_eq i set) [
+        | inl z ↦ elim (cases_eq j set) [
+          | inl k ↦ z ∙ sym k
+          | inr k ↦ absurd (not_both i j z k ej ni nj e)
+        ]
+        | inr z ↦ elim (cases_eq j set) [
+          | inl k ↦ absurd (not_both j i k z ei nj ni (sym e))
+          | inr k ↦
+              let vi = old i (outer_in ei) z in
+              let vj = old j (outer_in ej) k in
+              tree.root_alone i j (sym vi.1 ∙ ei) (sym vj.1 ∙ ej) (old_bare i vi.0 ni) (old_bare j vj.0 nj)
+              (sym (o.tree_others i z) ∙ e ∙ o.tree_others j k)
+        ]
       ];
       outer_mate = λ i m t e w. elim (cases_eq i set) [
         | inl z ↦
@@ -174,8 +181,11 @@ folded n f g load dist x y cs set meet lam at q p tree c d o =
             let v = meet_mate m t b in
             let ht : t < n = p.range m t b.below b.paired in
             let gt : g.top t ≡ f.top t = q.top_others t ht v.0 in
-            let nt = tree_not (f.top t) (inner_in v.1) in
-            (ap y.place gt ∙ o.place_others (f.top t) nt v.0 ∙ v.1, omega (arith, ap y.rank gt, o.rank_others (f.top t) nt, v.2, ap y.rank z, o.rank_set))
+            let nt = tree_not (f.top t) (inner_in v.1) in (
+              ap y.place gt ∙ o.place_others (f.top t) nt v.0 ∙ v.1,
+              omega (arith, ap y.rank gt, o.rank_others (f.top t) nt, v.2, ap y.rank z, o.rank_set),
+              ap y.tree gt ∙ o.tree_others (f.top t) nt ∙ v.3 ∙ sym (ap y.tree z ∙ o.tree_set),
+            )
         | inr z ↦
             let h = old i (outer_in e) z in
             let b = exit_old i m t z w in
@@ -189,8 +199,11 @@ folded n f g load dist x y cs set meet lam at q p tree c d o =
               | inr k ↦ k
             ] in
             let gt : g.top t ≡ f.top t = q.top_others t ht out in
-            let nt = tree_not (f.top t) (inner_in v.0) in
-            (ap y.place gt ∙ o.place_others (f.top t) nt out ∙ v.0, omega (arith, ap y.rank gt, o.rank_others (f.top t) nt, v.1, o.rank_others i z))
+            let nt = tree_not (f.top t) (inner_in v.0) in (
+              ap y.place gt ∙ o.place_others (f.top t) nt out ∙ v.0,
+              omega (arith, ap y.rank gt, o.rank_others (f.top t) nt, v.1, o.rank_others i z),
+              ap y.tree gt ∙ o.tree_others (f.top t) nt ∙ v.2 ∙ sym (o.tree_others i z),
+            )
       ];
       inner_pair = λ i e.
           let h = inner_old i e in
@@ -199,7 +212,9 @@ folded n f g load dist x y cs set meet lam at q p tree c d o =
       inner_mate = λ i m t e w.
           let h = inner_old i e in
           let b = exit_old i m t (not_set i e) w in
-          (outer_now t (p.range m t b.below b.paired) (tree.inner_mate i m t h.1 b)).0;
+          let v = tree.inner_mate i m t h.1 b in
+          let now = outer_now t (p.range m t b.below b.paired) v.0 in
+          (now.0, now.2 ∙ v.1 ∙ sym (o.tree_others i (not_set i e)));
       link_range = λ i e.
           let v = tree.link_range i (inner_old i e).1 in
           (omega (arith, v.0, o.above i (not_set i e)), omega (arith, v.1, o.entry i (not_set i e)));
@@ -209,13 +224,16 @@ folded n f g load dist x y cs set meet lam at q p tree c d o =
           ap g.top (o.entry i (not_set i e)) ∙ q.top_others (x.entry i) (tree.link_range i h.1).1 (ap (has cs) k ∙ h.0) ∙ k;
       link_outer = λ i e.
           let h = inner_old i e in
-          ap (λ z. y.place (g.top z)) (o.above i (not_set i e)) ∙ (outer_now (x.above i) (tree.link_range i h.1).0 (tree.link_outer i h.1)).0;
+          let up = o.above i (not_set i e) in
+          let v = tree.link_outer i h.1 in
+          let now = outer_now (x.above i) (tree.link_range i h.1).0 v.0 in
+          (ap (λ z. y.place (g.top z)) up ∙ now.0, ap (λ z. y.tree (g.top z)) up ∙ now.2 ∙ v.1 ∙ sym (o.tree_others i (not_set i e)));
       link_rank = λ i e.
           let h = inner_old i e in
           omega (
             arith,
             ap (λ z. y.rank (g.top z)) (o.above i (not_set i e)),
-            (outer_now (x.above i) (tree.link_range i h.1).0 (tree.link_outer i h.1)).1,
+            (outer_now (x.above i) (tree.link_range i h.1).0 (tree.link_outer i h.1).0).1,
             tree.link_rank i h.1,
             o.rank_others i (not_set i e),
           );

@@ -3,6 +3,7 @@ pub mod Alone
 pub mod AroundLemmas
 pub mod Climbing
 pub mod Counting
+pub mod Endings
 pub mod Events
 pub mod Folded
 pub mod Folding
@@ -11,6 +12,7 @@ pub mod Loads
 pub mod MatchingLemmas
 pub mod Meetings
 pub mod MetricLemmas
+pub mod Numbering
 pub mod Opening
 pub mod Parity
 pub mod Parting
@@ -18,6 +20,7 @@ pub mod Raising
 pub mod Refining
 pub mod RingPairs
 pub mod RingWalks
+pub mod Rooting
 pub mod RoundLemmas
 pub mod Scanning
 pub mod Stages

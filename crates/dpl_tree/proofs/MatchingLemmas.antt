@@ -19,6 +19,7 @@ event_next most w size = record {
   sized = size;
   ranks = λ bound r i. omega (arith, w.ranks bound r i, most bound);
   widens = w.widens;
+  trees = w.trees;
 }
 
 -- and leaves the sums as they are

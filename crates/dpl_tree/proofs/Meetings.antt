@@ -16,7 +16,7 @@ use Rattle.dpl_tree.specs.Metrics.{IsMetric}
 use Rattle.dpl_tree.specs.Stages.{IsStage}
 use Rattle.dpl_tree.specs.steps.Joins.{IsWay, times_in, tops_from, tops_to, is_end, AreGathered, met_on, AreClimbing, ways}
 use Rattle.dpl_tree.proofs.Growing.{place_cases, outer_in, inner_in, outer_inner_no, exit_one, exit_back}
-use Rattle.dpl_tree.proofs.Events.{root_lowest}
+use Rattle.dpl_tree.proofs.Events.{higher_pair}
 use Rattle.dpl_tree.proofs.Ways.{load_turned}
 
 abbrev pub one_if : ℕ → ℕ → ℕ
@@ -127,6 +127,8 @@ pub gathered_turned : (n : ℕ) (f : Sets) (x : Forest) (a b : ℕ) (met : ℕ �
 gathered_turned n f x a b met g = record {
   a_outer = g.b_outer;
   b_outer = g.a_outer;
+  level = sym g.level;
+  same = λ c h. g.same c h ∙ g.level;
   once = g.once;
   in_tree = g.in_tree;
   above = λ c h e. let w = g.above c h e in (w.1, w.0, w.3, w.2);
@@ -169,9 +171,17 @@ gathered_more n f dist x a b m t met new st g ne low ex e =
       ]
     ]) in
     let old = λ (c : ℕ) (h : 0 < met c). let q : 0 < new c = omega (arith, h, e c) in q in
+    let link = tree.link_outer i o.0 in
+    let number : x.tree up ≡ x.tree a = link.1 ∙ o.2 in
     record {
-      a_outer = tree.link_outer i o.0;
+      a_outer = link.0;
       b_outer = g.b_outer;
+      level = number ∙ g.level;
+      same = λ c h. elim (cases c h) [
+        | inl z ↦ g.same c z ∙ sym number
+        | inr (inl z) ↦ ap x.tree (sym z) ∙ sym number
+        | inr (inr z) ↦ ap x.tree (sym z) ∙ sym link.1
+      ];
       once = λ c. elim (cases_eq a c) [
         | inl z ↦ omega (arith, e c, bit_one a c z, bit_none i c (λ y. ai (z ∙ sym y)), ap met z, a_new)
         | inr z ↦ elim (cases_eq i c) [
@@ -212,13 +222,6 @@ gathered_more n f dist x a b m t met new st g ne low ex e =
             omega (arith, e (f.top q), bit_one a (f.top q) (sym ex.top ∙ ap f.top (sym one.1)))
       ];
     }
-
--- of two outer sets the one with no less rank is not the root
-pub not_root : (n : ℕ) (f : Sets) (dist : ℕ → ℕ → ℕ) (x : Forest) (a b : ℕ) → IsStage n f dist x → x.place b ≡ outer → a ≢ b → x.rank b ≤ x.rank a → a ≢ x.root
-not_root n f dist x a b st pb ne low e = elim (cases_eq b x.root) [
-  | inl z ↦ ne (e ∙ sym z)
-  | inr z ↦ absurd (omega (arith, root_lowest n f (loads n f) dist x st.tree (x.rank b) b (omega arith) pb z, low, ap x.rank e))
-]
 
 -- ---- ends of joins
 
@@ -397,13 +400,16 @@ climbing_right n f dist x s t left right a b m u me st c ne low ex =
 
 -- two ways that have not begun
 pub climbing_begun : (n : ℕ) (f : Sets) (dist : ℕ → ℕ → ℕ) (x : Forest) (s t : ℕ) → x.place (f.top s) ≡ outer
-    → x.place (f.top t) ≡ outer → AreClimbing n f dist x (s, t) (ways [] [] (f.top s) (f.top t))
-climbing_begun n f dist x s t ps pt = record {
+    → x.place (f.top t) ≡ outer → x.tree (f.top s) ≡ x.tree (f.top t)
+    → AreClimbing n f dist x (s, t) (ways [] [] (f.top s) (f.top t))
+climbing_begun n f dist x s t ps pt same = record {
   way_left = refl;
   way_right = refl;
   sets = record {
     a_outer = ps;
     b_outer = pt;
+    level = same;
+    same = λ c h. absurd (omega (arith, h));
     once = λ c. omega arith;
     in_tree = λ c h. absurd (omega (arith, h));
     above = λ c h e. absurd (omega (arith, h));
@@ -469,13 +475,7 @@ inner_met n f dist x meet met children st g w here = elim (place_cases (x.place 
   | inr (inr z) ↦ (w.0, here w.0 w.1, z)
   | inr (inl z) ↦
       let v = g.above w.0 w.1 z in
-      let root : w.0 ≢ x.root = λ e. absurd (omega (
-        arith,
-        root_lowest n f (loads n f) dist x st.tree (x.rank meet) meet (omega arith) g.a_outer (λ y. v.2 (e ∙ sym y)),
-        v.0,
-        ap x.rank e,
-      )) in
-      let ex = st.tree.outer_pair w.0 z root in
+      let ex = higher_pair n f (loads n f) dist x st.tree w.0 meet z g.a_outer (g.same w.0 w.1) v.2 v.0 in
       let o = st.tree.outer_mate w.0 ex.0 ex.1 z ex.2 in
       (f.top ex.1, here (f.top ex.1) (g.closed w.0 ex.0 ex.1 w.1 ex.2), o.0)
 ]
@@ -532,14 +532,20 @@ climbing_whole n f dist x s t meet left right st hs ht tight apart c =
           | inl z ↦ absurd (ne (sym z))
           | inr z ↦ here (f.top u) (g.closed k m u z w)
         ];
-        root_meets = λ h. elim (cases x.root h) [
+        root_meets = λ k h none. elim (cases k h) [
           | inl z ↦ z
-          | inr z ↦
-              let v = g.above x.root z st.tree.root_outer in
-              elim (cases_eq meet x.root) [
-                | inl y ↦ y
-                | inr y ↦ absurd (omega (arith, v.0, root_lowest n f (loads n f) dist x st.tree (x.rank meet) meet (omega arith) g.a_outer y))
-              ]
+          | inr z ↦ elim (place_cases (x.place k)) [
+            | inl y ↦ absurd (g.in_tree k z y)
+            | inr (inl y) ↦
+                let v = g.above k z y in
+                let ex = higher_pair n f (loads n f) dist x st.tree k meet y g.a_outer (g.same k z) v.2 v.0 in
+                absurd (none ex.0 ex.1 ex.2)
+            | inr (inr y) ↦ let ex = st.tree.inner_pair k y in absurd (none ex.0 ex.1 ex.2)
+          ]
+        ];
+        same = λ k h. elim (cases k h) [
+          | inl z ↦ ap x.tree (sym z)
+          | inr z ↦ g.same k z
         ];
       };
       some_inner = inner_met n f dist x meet met (tops_from f joins) st g (some_met n f dist x s t meet left right st apart c) here;

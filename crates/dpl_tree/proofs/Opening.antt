@@ -3,13 +3,13 @@ use Rattle.std.proofs.lemmas.Bool.{cases_eq, cases_lt, cases_Bool}
 use Rattle.dpl_laminar.proofs.Numbers.{some_none}
 use Rattle.dpl_laminar.specs.Changes.{Releases}
 use Rattle.dpl_laminar.specs.Families.{Sets, IsLaminar, has}
-use Rattle.dpl_tree.specs.steps.Forests.{free, outer, inner, Forest, IsTree, IsBroken, Opens, Walks, gap}
+use Rattle.dpl_tree.specs.steps.Forests.{free, outer, inner, Forest, IsForest, IsExposed, IsBroken, Opens, Walks, gap}
 use Rattle.dpl_tree.specs.Mates.{IsExit, ArePairs}
 use Rattle.dpl_tree.proofs.Growing.{place_cases, outer_in, inner_in, outer_inner_no, exit_one, exit_back}
 
 -- an inner set of the tree is taken away, and its child that the tree enters stands in its place
 pub opened : (n : ℕ) (f g : Sets) (load dist : ℕ → ℕ → ℕ) (x y : Forest) (set first m0 t0 room : ℕ)
-    → IsLaminar n f → Releases n f set g → ArePairs n f load dist x.mate → IsTree n f load dist x
+    → IsLaminar n f → Releases n f set g → ArePairs n f load dist x.mate → IsForest n f load dist x
     → ArePairs n g load dist y.mate → n ≤ set → x.place set ≡ inner → IsExit n f x.mate set m0 t0
     → first < 2 * n → g.live first ≡ true → g.parent first ≡ None → f.parent first ≡ Some set
     → g.top (x.entry set) ≡ first → ((m : ℕ) → m < n → f.top m ≢ set → y.mate m ≡ x.mate m)
@@ -37,6 +37,7 @@ opened n f g load dist x y set first m0 t0 room lam q p tree pg ns ps ex fb fl f
           let v = lam.children.child set c.0 (tree.tops set (inner_in ps)).0 c.1 in
           some_none (f.parent c.0) set v.2 (ap f.parent (sym (q.top_inside c.0 m hm c.1 c.2) ∙ e) ∙ (tree.tops i k).2))
     ]) in
+    let number = λ (i : ℕ) (k : x.place i ≢ free). o.tree_others i (not_first i k) in
     let hset : set < 2 * n = (tree.tops set (inner_in ps)).0 in
     -- exits of old sets, before and after
     let was = λ (i m t : ℕ) (k : x.place i ≢ free) (ne : i ≢ set) (w : IsExit n g y.mate i m t). (
@@ -68,10 +69,10 @@ opened n f g load dist x y set first m0 t0 room lam q p tree pg ns ps ex fb fl f
     ]) in
     let out = tree.inner_mate set m0 t0 ps ex in
     let h0 : t0 < n = p.range m0 t0 ex.below ex.paired in
-    let out_not : f.top t0 ≢ set = λ e. outer_inner_no out (ap x.place e ∙ ps) in
+    let out_not : f.top t0 ≢ set = λ e. outer_inner_no out.0 (ap x.place e ∙ ps) in
     let back0 = exit_back n f load dist x.mate p set m0 t0 ex in
-    let out_rank : x.rank set < x.rank (f.top t0) = omega (arith, (tree.outer_mate (f.top t0) t0 m0 out back0).1, ap x.rank ex.top) in
-    let y_out : y.place (f.top t0) ≡ outer = same (f.top t0) (outer_in out) out_not ∙ out in
+    let out_rank : x.rank set < x.rank (f.top t0) = omega (arith, (tree.outer_mate (f.top t0) t0 m0 out.0 back0).1, ap x.rank ex.top) in
+    let y_out : y.place (f.top t0) ≡ outer = same (f.top t0) (outer_in out.0) out_not ∙ out.0 in
     -- an old inner set that stays
     let old_inner = λ (i : ℕ) (e : y.place i ≡ inner) (nf : i ≢ first). (
     let w = back i (inner_in e) nf in
@@ -83,9 +84,10 @@ opened n f g load dist x y set first m0 t0 room lam q p tree pg ns ps ex fb fl f
     -- the outer set above a link
     let above_now = λ (i : ℕ) (e : x.place i ≡ inner). (
     let l = tree.link_outer i e in
-    let ne : f.top (x.above i) ≢ set = λ z. outer_inner_no l (ap x.place z ∙ ps) in
+    let ne : f.top (x.above i) ≢ set = λ z. outer_inner_no l.0 (ap x.place z ∙ ps) in
     let gt : g.top (x.above i) ≡ f.top (x.above i) = q.top_others (x.above i) (tree.link_range i e).0 ne in
-    let r : (g.top (x.above i) ≡ f.top (x.above i)) × (y.place (f.top (x.above i)) ≡ outer) = (gt, same (f.top (x.above i)) (outer_in l) ne ∙ l) in r) in
+    let r : (g.top (x.above i) ≡ f.top (x.above i)) × (y.place (f.top (x.above i)) ≡ outer) × (y.tree (f.top (x.above i)) ≡ x.tree i) =
+    (gt, same (f.top (x.above i)) (outer_in l.0) ne ∙ l.0, number (f.top (x.above i)) (outer_in l.0) ∙ l.1) in r) in
     record {
       tops = λ i k. elim (cases_eq i first) [
         | inl e ↦ rw e (fb, fl, fp)
@@ -98,14 +100,11 @@ opened n f g load dist x y set first m0 t0 room lam q p tree pg ns ps ex fb fl f
             ] in
             (v.0, q.live_others i w.0 ∙ v.1, q.parent_others i nk ∙ v.2)
       ];
-      root_outer = ap y.place o.root ∙ same x.root (outer_in tree.root_outer) (λ z. outer_inner_no tree.root_outer (ap x.place z ∙ ps)) ∙ tree.root_outer;
-      root_free = λ m t w. tree.root_free m t (was x.root m t (outer_in tree.root_outer)
-          (λ z. outer_inner_no tree.root_outer (ap x.place z ∙ ps))
-          (record { below = w.below; top = w.top ∙ o.root; paired = w.paired }));
-      outer_pair = λ i e nr.
-          let h = old_outer i e in
-          let w = tree.outer_pair i h.1 (λ z. nr (z ∙ sym o.root)) in
-          (w.0, w.1, now i w.0 w.1 h.0 w.2);
+      root_alone = λ i j ei ej ni nj e.
+          let a = old_outer i ei in
+          let b = old_outer j ej in
+          tree.root_alone i j a.1 b.1 (λ m t w. ni m t (now i m t a.0 w)) (λ m t w. nj m t (now j m t b.0 w))
+          (sym (number i (outer_in a.1)) ∙ e ∙ number j (outer_in b.1));
       outer_mate = λ i m t e no w.
           let h = old_outer i e in
           let b = was i m t (outer_in h.1) h.0 w in
@@ -114,8 +113,11 @@ opened n f g load dist x y set first m0 t0 room lam q p tree pg ns ps ex fb fl f
           let nt : f.top t ≢ set = λ z.
           let c = exit_one n f load dist x.mate p set t m m0 t0 (record { below = ht; top = z; paired = p.back m t b.below b.paired }) ex in
           no (sym b.top ∙ ap f.top c.1) in
-          let gt : g.top t ≡ f.top t = q.top_others t ht nt in
-          (ap y.place gt ∙ same (f.top t) (inner_in v.0) nt ∙ v.0, omega (arith, ap y.rank gt, rises (f.top t) i (inner_in v.0) (outer_in h.1) v.1));
+          let gt : g.top t ≡ f.top t = q.top_others t ht nt in (
+            ap y.place gt ∙ same (f.top t) (inner_in v.0) nt ∙ v.0,
+            omega (arith, ap y.rank gt, rises (f.top t) i (inner_in v.0) (outer_in h.1) v.1),
+            ap y.tree gt ∙ number (f.top t) (inner_in v.0) ∙ v.2 ∙ sym (number i (outer_in h.1)),
+          );
       inner_pair = λ i e. elim (cases_eq i first) [
         | inl z ↦ rw z fexit
         | inr z ↦ let h = old_inner i e z in let w = tree.inner_pair i h.1 in (w.0, w.1, now i w.0 w.1 h.0 w.2)
@@ -124,8 +126,11 @@ opened n f g load dist x y set first m0 t0 room lam q p tree pg ns ps ex fb fl f
           let h = old_inner i e nf in
           let b = was i m t (inner_in h.1) h.0 w in
           let v = tree.inner_mate i m t h.1 b in
-          let nt : f.top t ≢ set = λ z. outer_inner_no v (ap x.place z ∙ ps) in
-          ap y.place (q.top_others t (p.range m t b.below b.paired) nt) ∙ same (f.top t) (outer_in v) nt ∙ v;
+          let nt : f.top t ≢ set = λ z. outer_inner_no v.0 (ap x.place z ∙ ps) in
+          let gt : g.top t ≡ f.top t = q.top_others t (p.range m t b.below b.paired) nt in (
+            ap y.place gt ∙ same (f.top t) (outer_in v.0) nt ∙ v.0,
+            ap y.tree gt ∙ number (f.top t) (outer_in v.0) ∙ v.1 ∙ sym (number i (inner_in h.1)),
+          );
       link_range = λ i e. elim (cases_eq i first) [
         | inl z ↦ let v = tree.link_range set ps in (omega (arith, v.0, ap y.above z, o.above_first), omega (arith, v.1, ap y.entry z, o.entry_first))
         | inr z ↦ let v = tree.link_range i (old_inner i e z).1 in let l = o.link_others i z in (omega (arith, v.0, l.0), omega (arith, v.1, l.1))
@@ -138,14 +143,21 @@ opened n f g load dist x y set first m0 t0 room lam q p tree pg ns ps ex fb fl f
             ap g.top (o.link_others i z).1 ∙ keeps (x.entry i) i (tree.link_range i h.1).1 h.0 k
       ];
       link_outer = λ i e. elim (cases_eq i first) [
-        | inl z ↦ let v = above_now set ps in ap (λ a. y.place (g.top a)) (ap y.above z ∙ o.above_first) ∙ ap y.place v.0 ∙ v.1
-        | inr z ↦ let v = above_now i (old_inner i e z).1 in ap (λ a. y.place (g.top a)) (o.link_others i z).0 ∙ ap y.place v.0 ∙ v.1
+        | inl z ↦
+            let v = above_now set ps in
+            let up : g.top (y.above i) ≡ f.top (x.above set) = ap g.top (ap y.above z ∙ o.above_first) ∙ v.0 in
+            (ap y.place up ∙ v.1, ap y.tree up ∙ v.2 ∙ sym (ap y.tree z ∙ o.tree_first))
+        | inr z ↦
+            let h = (old_inner i e z).1 in
+            let v = above_now i h in
+            let up : g.top (y.above i) ≡ f.top (x.above i) = ap g.top (o.link_others i z).0 ∙ v.0 in
+            (ap y.place up ∙ v.1, ap y.tree up ∙ v.2 ∙ sym (number i (inner_in h)))
       ];
       link_rank = λ i e. elim (cases_eq i first) [
         | inl z ↦
             let v = above_now set ps in
             let l = tree.link_outer set ps in
-            let low = o.rank_low (f.top (x.above set)) (not_first _ (outer_in l)) (omega (arith, tree.link_rank set ps)) in
+            let low = o.rank_low (f.top (x.above set)) (not_first _ (outer_in l.0)) (omega (arith, tree.link_rank set ps)) in
             omega (arith, ap (λ a. y.rank (g.top a)) (ap y.above z ∙ o.above_first), ap y.rank v.0, low, tree.link_rank set ps, ap y.rank z, o.rank_first)
         | inr z ↦
             let h = old_inner i e z in
@@ -154,7 +166,7 @@ opened n f g load dist x y set first m0 t0 room lam q p tree pg ns ps ex fb fl f
               arith,
               ap (λ a. y.rank (g.top a)) (o.link_others i z).0,
               ap y.rank v.0,
-              rises (f.top (x.above i)) i (outer_in (tree.link_outer i h.1)) (inner_in h.1) (tree.link_rank i h.1),
+              rises (f.top (x.above i)) i (outer_in (tree.link_outer i h.1).0) (inner_in h.1) (tree.link_rank i h.1),
             )
       ];
       link_tight = λ i e. elim (cases_eq i first) [
@@ -170,33 +182,33 @@ opened n f g load dist x y set first m0 t0 room lam q p tree pg ns ps ex fb fl f
       ];
       cur_inner = o.place_first;
       out_outer = y_out;
-      room_left = omega (arith, o.rank_first, o.rank_high (f.top t0) (not_first _ (outer_in out)) out_rank, out_rank);
+      room_left = omega (arith, o.rank_first, o.rank_high (f.top t0) (not_first _ (outer_in out.0)) out_rank, out_rank);
+      same = o.tree_first ∙ sym out.1 ∙ sym (number (f.top t0) (outer_in out.0));
     }
 
 -- where the mate of the last inner set is the outer set that was left out, the tree is whole
 pub healed : (n : ℕ) (f : Sets) (load dist : ℕ → ℕ → ℕ) (x : Forest) (cur out room m t : ℕ)
     → ArePairs n f load dist x.mate → IsBroken n f load dist x (gap cur out room) → IsExit n f x.mate cur m t
-    → f.top t ≡ out → IsTree n f load dist x
+    → f.top t ≡ out → IsForest n f load dist x
 healed n f load dist x cur out room m t p b ex e =
     let back = exit_back n f load dist x.mate p cur m t ex in
     record {
       tops = b.tops;
-      root_outer = b.root_outer;
-      root_free = b.root_free;
-      outer_pair = b.outer_pair;
+      root_alone = b.root_alone;
       outer_mate = λ i s u k w. elim (cases_eq i out) [
         | inr ne ↦ b.outer_mate i s u k ne w
         | inl z ↦
             let one = exit_one n f load dist x.mate p i s u t m w (record { below = back.below; top = e ∙ sym z; paired = back.paired }) in
             let at : f.top u ≡ cur = ap f.top one.1 ∙ ex.top in
-            (ap x.place at ∙ b.cur_inner, omega (arith, ap x.rank at, b.room_left, ap x.rank z))
+            (ap x.place at ∙ b.cur_inner, omega (arith, ap x.rank at, b.room_left, ap x.rank z), ap x.tree at ∙ b.same ∙ sym (ap x.tree z))
       ];
       inner_pair = b.inner_pair;
       inner_mate = λ i s u k w. elim (cases_eq i cur) [
         | inr ne ↦ b.inner_mate i s u k ne w
         | inl z ↦
             let one = exit_one n f load dist x.mate p i s u m t w (record { below = ex.below; top = ex.top ∙ sym z; paired = ex.paired }) in
-            ap x.place (ap f.top one.1 ∙ e) ∙ b.out_outer
+            let at : f.top u ≡ out = ap f.top one.1 ∙ e in
+            (ap x.place at ∙ b.out_outer, ap x.tree at ∙ sym b.same ∙ sym (ap x.tree z))
       ];
       link_range = b.link_range;
       link_entry = b.link_entry;
@@ -218,6 +230,7 @@ walked n f load dist x y cur out room o next m t a b p br ex to po pn on top_o t
     let nn = λ (i : ℕ) (k : x.place i ≢ free) (e : i ≡ next). k (ap x.place e ∙ pn) in
     let same = λ (i : ℕ) (k : x.place i ≢ free). w.place_others i (no i k) (nn i k) in
     let rank = λ (i : ℕ) (k : x.place i ≢ free). w.rank_others i (no i k) (nn i k) in
+    let number = λ (i : ℕ) (k : x.place i ≢ free). w.tree_others i (no i k) (nn i k) in
     let was = λ (i s u : ℕ) (v : IsExit n f y.mate i s u). let r : IsExit n f x.mate i s u =
     record { below = v.below; top = v.top; paired = sym (w.mates s) ∙ v.paired } in r in
     let now = λ (i s u : ℕ) (v : IsExit n f x.mate i s u). let r : IsExit n f y.mate i s u =
@@ -238,21 +251,28 @@ walked n f load dist x y cur out room o next m t a b p br ex to po pn on top_o t
           | inr ne' ↦ br.tops i (λ z. k (w.place_others i ne ne' ∙ z))
         ]
       ];
-      root_outer = ap y.place w.root ∙ same x.root (outer_in br.root_outer) ∙ br.root_outer;
-      root_free = λ s u v. br.root_free s u (was x.root s u (record { below = v.below; top = v.top ∙ w.root; paired = v.paired }));
-      outer_pair = λ i e nr. elim (cases_eq i o) [
-        | inl z ↦ rw z (t, m, now o t m (record { below = back.below; top = to; paired = back.paired }))
-        | inr z ↦ let v = br.outer_pair i (old_outer i e z) (λ q. nr (q ∙ sym w.root)) in (v.0, v.1, now i v.0 v.1 v.2)
-      ];
+      root_alone = λ i j ei ej ni nj e.
+          let no_pair = λ (k : ℕ) (none : IsExposed n f y.mate k) (z : k ≡ o).
+          none t m (now k t m (record { below = back.below; top = to ∙ sym z; paired = back.paired })) in
+          let hi = old_outer i ei (no_pair i ni) in
+          let hj = old_outer j ej (no_pair j nj) in
+          br.root_alone i j hi hj (λ s u v. ni s u (now i s u v)) (λ s u v. nj s u (now j s u v))
+          (sym (number i (outer_in hi)) ∙ e ∙ number j (outer_in hj));
       outer_mate = λ i s u e nout v. elim (cases_eq i o) [
         | inl z ↦
             let one = exit_one n f load dist x.mate p i s u t m (was i s u v) (record { below = back.below; top = to ∙ sym z; paired = back.paired }) in
-            let at : f.top u ≡ cur = ap f.top one.1 ∙ ex.top in
-            (ap y.place at ∙ same cur cur_in ∙ br.cur_inner, omega (arith, ap y.rank at, rank cur cur_in, ap y.rank z, w.rank_outer))
+            let at : f.top u ≡ cur = ap f.top one.1 ∙ ex.top in (
+              ap y.place at ∙ same cur cur_in ∙ br.cur_inner,
+              omega (arith, ap y.rank at, rank cur cur_in, ap y.rank z, w.rank_outer),
+              ap y.tree at ∙ number cur cur_in ∙ sym (ap y.tree z ∙ w.tree_outer),
+            )
         | inr z ↦
             let h = old_outer i e z in
-            let k = br.outer_mate i s u h nout (was i s u v) in
-            (same (f.top u) (inner_in k.0) ∙ k.0, omega (arith, rank (f.top u) (inner_in k.0), rank i (outer_in h), k.1))
+            let k = br.outer_mate i s u h nout (was i s u v) in (
+              same (f.top u) (inner_in k.0) ∙ k.0,
+              omega (arith, rank (f.top u) (inner_in k.0), rank i (outer_in h), k.1),
+              number (f.top u) (inner_in k.0) ∙ k.2 ∙ sym (number i (outer_in h)),
+            )
       ];
       inner_pair = λ i e. elim (cases_eq i next) [
         | inl z ↦ rw z (nexit.0, nexit.1, now next nexit.0 nexit.1 nexit.2)
@@ -263,10 +283,11 @@ walked n f load dist x y cur out room o next m t a b p br ex to po pn on top_o t
           elim (cases_eq i cur) [
             | inl z ↦
                 let one = exit_one n f load dist x.mate p i s u m t (was i s u v) (record { below = ex.below; top = ex.top ∙ sym z; paired = ex.paired }) in
-                ap y.place (ap f.top one.1 ∙ to) ∙ w.place_outer
+                let at : f.top u ≡ o = ap f.top one.1 ∙ to in
+                (ap y.place at ∙ w.place_outer, ap y.tree at ∙ w.tree_outer ∙ sym (ap y.tree z ∙ number cur cur_in))
             | inr z ↦
                 let k = br.inner_mate i s u h z (was i s u v) in
-                same (f.top u) (outer_in k) ∙ k
+                (same (f.top u) (outer_in k.0) ∙ k.0, number (f.top u) (outer_in k.0) ∙ k.1 ∙ sym (number i (inner_in h)))
           ];
       link_range = λ i e. elim (cases_eq i next) [
         | inl z ↦ (omega (arith, ap y.above z, w.above), omega (arith, ap y.entry z, w.entry))
@@ -277,10 +298,16 @@ walked n f load dist x y cur out room o next m t a b p br ex to po pn on top_o t
         | inr z ↦ ap f.top (w.link_others i z).1 ∙ br.link_entry i (old_inner i e z)
       ];
       link_outer = λ i e. elim (cases_eq i next) [
-        | inl z ↦ ap (λ c. y.place (f.top c)) (ap y.above z ∙ w.above) ∙ ap y.place ta ∙ w.place_outer
+        | inl z ↦
+            let up : f.top (y.above i) ≡ o = ap f.top (ap y.above z ∙ w.above) ∙ ta in
+            (ap y.place up ∙ w.place_outer, ap y.tree up ∙ w.tree_outer ∙ sym (ap y.tree z ∙ w.tree_inner))
         | inr z ↦
-            let l = br.link_outer i (old_inner i e z) in
-            ap (λ c. y.place (f.top c)) (w.link_others i z).0 ∙ same (f.top (x.above i)) (outer_in l) ∙ l
+            let h = old_inner i e z in
+            let l = br.link_outer i h in
+            let up : f.top (y.above i) ≡ f.top (x.above i) = ap f.top (w.link_others i z).0 in (
+              ap y.place up ∙ same (f.top (x.above i)) (outer_in l.0) ∙ l.0,
+              ap y.tree up ∙ number (f.top (x.above i)) (outer_in l.0) ∙ l.1 ∙ sym (number i (inner_in h)),
+            )
       ];
       link_rank = λ i e. elim (cases_eq i next) [
         | inl z ↦ omega (arith, ap (λ c. y.rank (f.top c)) (ap y.above z ∙ w.above), ap y.rank ta, w.rank_outer, ap y.rank z, w.rank_inner)
@@ -289,7 +316,7 @@ walked n f load dist x y cur out room o next m t a b p br ex to po pn on top_o t
             omega (
               arith,
               ap (λ c. y.rank (f.top c)) (w.link_others i z).0,
-              rank (f.top (x.above i)) (outer_in (br.link_outer i h)),
+              rank (f.top (x.above i)) (outer_in (br.link_outer i h).0),
               rank i (inner_in h),
               br.link_rank i h,
             )
@@ -307,4 +334,5 @@ walked n f load dist x y cur out room o next m t a b p br ex to po pn on top_o t
       cur_inner = w.place_inner;
       out_outer = same out (outer_in br.out_outer) ∙ br.out_outer;
       room_left = omega (arith, w.rank_inner, rank out (outer_in br.out_outer), br.room_left);
+      same = w.tree_inner ∙ br.same ∙ sym (number out (outer_in br.out_outer));
     }

@@ -4,7 +4,7 @@ use Rattle.dpl_laminar.proofs.Numbers.{true_false}
 use Rattle.dpl_laminar.specs.Changes.{Gathers}
 use Rattle.dpl_laminar.specs.Families.{Sets, IsLaminar, has}
 use Rattle.dpl_laminar.specs.Loads.{load_in}
-use Rattle.dpl_tree.specs.steps.Forests.{free, outer, Forest, IsTree, IsCycle, Folds, Grows}
+use Rattle.dpl_tree.specs.steps.Forests.{free, outer, Forest, IsForest, IsCycle, Folds, Grows}
 use Rattle.dpl_tree.specs.Mates.{IsExit, ArePairs, total_in}
 use Rattle.dpl_tree.specs.Metrics.{IsMetric}
 use Rattle.dpl_tree.specs.Stages.{HasParity}
@@ -20,7 +20,7 @@ tight_parity n f v dist p m s t hs ht ne e = omega (arith, load_totals n f v p s
 
 pub grown_parity : (n : ℕ) (f : Sets) (v : ℕ → ℕ) (dist : ℕ → ℕ → ℕ) (x y : Forest) (s t m o : ℕ)
     → IsLaminar n f → IsMetric n dist → ArePairs n f (load_in (2 * n) v f.holds) dist x.mate
-    → IsTree n f (load_in (2 * n) v f.holds) dist x → HasParity n f x.place v → s < n → t < n
+    → IsForest n f (load_in (2 * n) v f.holds) dist x → HasParity n f x.place v → s < n → t < n
     → x.place (f.top s) ≡ outer → x.place (f.top t) ≡ free → load_in (2 * n) v f.holds s t ≡ dist s t
     → IsExit n f x.mate (f.top t) m o → Grows f x s t o y → HasParity n f y.place v
 grown_parity n f v dist x y s t m o p me pairs tree h hs ht ps pt tight ex g =

@@ -11,10 +11,11 @@ use Rattle.dpl_tree.specs.declared.tree.Label.TheVariants.{Free, Outer, Inner}
 use Rattle.dpl_tree.specs.steps.Forests.{free, Forest, IsBroken, Opens, Walks, gap}
 use Rattle.dpl_tree.specs.Mates.{IsExit, ArePairs, loads}
 use Rattle.dpl_tree.specs.Metrics.{IsMetric}
-use Rattle.dpl_tree.specs.Stages.{IsStage, Advances}
+use Rattle.dpl_tree.specs.Stages.{IsStage, Advances, KeepsTrees}
 use Rattle.dpl_tree.specs.Views.{mate_in, place_in, place_of}
 use Rattle.dpl_tree.specs.steps.Opened.{IsAround, IsOpening, around, Lists, forest_in, step_in, walked_times, paired_times}
 use Rattle.dpl_tree.proofs.Growing.{place_cases, outer_in, inner_in, exit_one}
+use Rattle.dpl_tree.proofs.Numbering.{trees_on, opened_trees, walked_trees}
 use Rattle.dpl_tree.proofs.Opening.{opened, walked, healed}
 use Rattle.dpl_tree.proofs.Refining.{refined_pairs}
 use Rattle.dpl_tree.proofs.Ways.{load_turned}
@@ -27,26 +28,29 @@ pub record AreLong (k : ℕ) (l : Lists) : Type 0 where
   pub labels : length l.labels ≡ k
   pub ranks : length l.ranks ≡ k
   pub links : length l.links ≡ k
+  pub trees : length l.trees ≡ k
 
 step_long : (k : ℕ) (l : Lists) (cur o next : ℕ) (link : ℕ × ℕ) → AreLong k l → AreLong k (step_in l cur o next link)
 step_long k l cur o next link a = record {
   labels = length-set (set l.labels o Outer) next Inner ∙ length-set l.labels o Outer ∙ a.labels;
   ranks = length-set (set l.ranks o _) next _ ∙ length-set l.ranks o _ ∙ a.ranks;
   links = length-set l.links next link ∙ a.links;
+  trees = length-set (set l.trees o _) next _ ∙ length-set l.trees o _ ∙ a.trees;
 }
 
-step_walks : (n : ℕ) (g : Sets) (k : ℕ) (l : Lists) (root : ℕ) (mate : ℕ → Option ℕ) (cur o next : ℕ) (link : ℕ × ℕ)
+step_walks : (n : ℕ) (g : Sets) (k : ℕ) (l : Lists) (mate : ℕ → Option ℕ) (cur o next : ℕ) (link : ℕ × ℕ)
     → AreLong k l → o < k → next < k → o ≢ next
-    → Walks (forest_in l root mate) cur o next link (forest_in (step_in l cur o next link) root mate)
-step_walks n g k l root mate cur o next link a ho hn ne =
+    → Walks (forest_in l mate) cur o next link (forest_in (step_in l cur o next link) mate)
+step_walks n g k l mate cur o next link a ho hn ne =
     let hl : next < length (set l.labels o Outer) = omega (arith, length-set l.labels o Outer, a.labels, hn) in
     let r1 : ℕ = get_or l.ranks cur 0 + 1 in
     let r2 : ℕ = get_or l.ranks cur 0 + 2 in
     let hr : next < length (set l.ranks o r1) = omega (arith, length-set l.ranks o r1, a.ranks, hn) in
     let hk : next < length l.links = omega (arith, a.links, hn) in
+    let number : ℕ = get_or l.trees cur 0 in
+    let ht : next < length (set l.trees o number) = omega (arith, length-set l.trees o number, a.trees, hn) in
     record {
       mates = λ i. refl;
-      root = refl;
       place_outer = ap place_of (get_or-set_other (set l.labels o Outer) next o Inner Free ne ∙
           get_or-set_same l.labels o Outer Free (omega (arith, a.labels, ho)));
       place_inner = ap place_of (get_or-set_same (set l.labels o Outer) next Inner Free hl);
@@ -57,6 +61,9 @@ step_walks n g k l root mate cur o next link a ho hn ne =
       above = ap (λ z. z.0) (get_or-set_same l.links next link (0, 0) hk);
       entry = ap (λ z. z.1) (get_or-set_same l.links next link (0, 0) hk);
       link_others = λ i nn. (ap (λ z. z.0) (get_or-set_other l.links next i link (0, 0) nn), ap (λ z. z.1) (get_or-set_other l.links next i link (0, 0) nn));
+      tree_outer = get_or-set_other (set l.trees o number) next o number 0 ne ∙ get_or-set_same l.trees o number 0 (omega (arith, a.trees, ho));
+      tree_inner = get_or-set_same (set l.trees o number) next number 0 ht;
+      tree_others = λ i no nn. get_or-set_other (set l.trees o number) next i number 0 nn ∙ get_or-set_other l.trees o i number 0 no;
     }
 
 -- ---- the walk
@@ -71,19 +78,20 @@ pub record IsReadyRing (n : ℕ) (g : Sets) (load dist : ℕ → ℕ → ℕ) (s
   pub place : p < length sets
 
 pub record IsWalked (n : ℕ) (g : Sets) (load dist : ℕ → ℕ → ℕ) (sets : List ℕ) (joins : List (ℕ × ℕ)) (p r : ℕ)
-    (l m : Lists) (root out : ℕ) (mate : ℕ → Option ℕ) (bound : ℕ) : Type 0 where
+    (l m : Lists) (out : ℕ) (mate : ℕ → Option ℕ) (bound : ℕ) : Type 0 where
   pub long : AreLong (2 * n) m
-  pub broken : IsBroken n g load dist (forest_in m root mate) (gap (get_or sets (2 * r) 0) out (p - 2 * r))
+  pub broken : IsBroken n g load dist (forest_in m mate) (gap (get_or sets (2 * r) 0) out (p - 2 * r))
   pub ahead : (j : ℕ) → 2 * r < j → j < length sets → place_in m.labels (get_or sets j 0) ≡ free
   pub others : (i : ℕ) → ((j : ℕ) → j < length sets → i ≢ get_or sets j 0) → place_in m.labels i ≡ place_in l.labels i
   pub ranked : (i : ℕ) → get_or m.ranks i 0 ≤ bound + 2 * r
+  pub trees : KeepsTrees (forest_in l mate) (forest_in m mate)
 
 walk_more : (n : ℕ) (g : Sets) (load dist : ℕ → ℕ → ℕ) (sets : List ℕ) (joins : List (ℕ × ℕ)) (p r : ℕ) (l m : Lists)
-    (root out : ℕ) (mate : ℕ → Option ℕ) (bound : ℕ) → IsReadyRing n g load dist sets joins p mate → 2 * r + 2 ≤ p →
-    IsWalked n g load dist sets joins p r l m root out mate bound →
+    (out : ℕ) (mate : ℕ → Option ℕ) (bound : ℕ) → IsReadyRing n g load dist sets joins p mate → 2 * r + 2 ≤ p →
+    IsWalked n g load dist sets joins p r l m out mate bound →
     IsWalked n g load dist sets joins p (suc r) l (step_in m (get_or sets (2 * r) 0) (get_or sets (2 * r + 1) 0)
-    (get_or sets (2 * r + 2) 0) (get_or joins (2 * r + 1) (0, 0))) root out mate bound
-walk_more n g load dist sets joins p r l m root out mate bound q le w =
+    (get_or sets (2 * r + 2) 0) (get_or joins (2 * r + 1) (0, 0))) out mate bound
+walk_more n g load dist sets joins p r l m out mate bound q le w =
     let cur : ℕ = get_or sets (2 * r) 0 in
     let o : ℕ = get_or sets (2 * r + 1) 0 in
     let next : ℕ = get_or sets (2 * r + 2) 0 in
@@ -94,23 +102,23 @@ walk_more n g load dist sets joins p r l m root out mate bound q le w =
     let h2 : 2 * r + 2 < length sets = omega (arith, q.place, le) in
     let on : o ≢ next = q.row.distinct (2 * r + 1) (2 * r + 2) (omega arith) h2 in
     let e2 : 2 * r + 1 + 1 ≡ 2 * r + 2 = omega arith in
-    let step = step_walks n g (2 * n) m root mate cur o next link w.long (q.tops (2 * r + 1) h1).0 (q.tops (2 * r + 2) h2).0 on in
+    let step = step_walks n g (2 * n) m mate cur o next link w.long (q.tops (2 * r + 1) h1).0 (q.tops (2 * r + 2) h2).0 on in
     let f0 = q.row.from (2 * r) h0 in
     let t0 = q.row.to (2 * r) h1 in
     let f1 = q.row.from (2 * r + 1) h1 in
     let t1 = q.row.to (2 * r + 1) (omega (arith, h2)) in
     let ex : IsExit n g mate cur first.0 first.1 = record { below = f0.0; top = f0.1; paired = q.along (2 * r) (omega arith) (omega (arith, le)) } in
     let room : p - 2 * r ≡ (p - 2 * suc r) + 2 = omega (arith, le) in
-    let b = walked n g load dist (forest_in m root mate) (forest_in (step_in m cur o next link) root mate) cur out
+    let b = walked n g load dist (forest_in m mate) (forest_in (step_in m cur o next link) mate) cur out
     (p - 2 * suc r) o next first.0 first.1 link.0 link.1 q.pairs
-    (subst (λ (z : ℕ). IsBroken n g load dist (forest_in m root mate) (gap cur out z)) room w.broken) ex t0.1
+    (subst (λ (z : ℕ). IsBroken n g load dist (forest_in m mate) (gap cur out z)) room w.broken) ex t0.1
     (w.ahead (2 * r + 1) (omega arith) h1) (w.ahead (2 * r + 2) (omega arith) h2) on (q.tops (2 * r + 1) h1)
     (q.tops (2 * r + 2) h2)
     f1.0 t1.0 f1.1 (t1.1 ∙ ap (λ z. get_or sets z 0) e2) (q.row.tight (2 * r + 1) (omega (arith, h2))) (q.exits (2 * r + 2) h2) step in
     let e3 : 2 * r + 2 ≡ 2 * suc r = omega arith in
     record {
       long = step_long (2 * n) m cur o next link w.long;
-      broken = subst (λ (z : ℕ). IsBroken n g load dist (forest_in (step_in m cur o next link) root mate) (gap (get_or sets z 0) out (p - 2 * suc r))) e3 b;
+      broken = subst (λ (z : ℕ). IsBroken n g load dist (forest_in (step_in m cur o next link) mate) (gap (get_or sets z 0) out (p - 2 * suc r))) e3 b;
       ahead = λ j lt h. step.place_others (get_or sets j 0)
           (λ z. q.row.distinct (2 * r + 1) j (omega (arith, lt)) h (sym z))
           (λ z. q.row.distinct (2 * r + 2) j (omega (arith, lt)) h (sym z)) ∙ w.ahead j (omega (arith, lt)) h;
@@ -122,18 +130,20 @@ walk_more n g load dist sets joins p r l m root out mate bound q le w =
           | inr y ↦ omega (arith, step.rank_others i y z, w.ranked i)
         ]
       ];
+      trees = trees_on (forest_in l mate) (forest_in m mate) (forest_in (step_in m cur o next link) mate) w.trees
+          (walked_trees (forest_in m mate) (forest_in (step_in m cur o next link) mate) cur o next link w.broken.cur_inner step);
     }
 
 -- so many steps of the walk
 pub walk_all : (n : ℕ) (g : Sets) (load dist : ℕ → ℕ → ℕ) (sets : List ℕ) (joins : List (ℕ × ℕ)) (p : ℕ)
-    → (l : Lists) (root out : ℕ) (mate : ℕ → Option ℕ) (bound : ℕ)
+    → (l : Lists) (out : ℕ) (mate : ℕ → Option ℕ) (bound : ℕ)
     → IsReadyRing n g load dist sets joins p mate
-    → IsWalked n g load dist sets joins p 0 l l root out mate bound → (r : ℕ) → 2 * r ≤ p
-    → IsWalked n g load dist sets joins p r l (walked_times l sets joins r) root out mate bound
-walk_all n g load dist sets joins p l root out mate bound q w zero h = w
-walk_all n g load dist sets joins p l root out mate bound q w (suc r) h =
-    walk_more n g load dist sets joins p r l (walked_times l sets joins r) root out mate bound q (omega (arith, h))
-    (walk_all n g load dist sets joins p l root out mate bound q w r (omega (arith, h)))
+    → IsWalked n g load dist sets joins p 0 l l out mate bound → (r : ℕ) → 2 * r ≤ p
+    → IsWalked n g load dist sets joins p r l (walked_times l sets joins r) out mate bound
+walk_all n g load dist sets joins p l out mate bound q w zero h = w
+walk_all n g load dist sets joins p l out mate bound q w (suc r) h =
+    walk_more n g load dist sets joins p r l (walked_times l sets joins r) out mate bound q (omega (arith, h))
+    (walk_all n g load dist sets joins p l out mate bound q w r (omega (arith, h)))
 
 -- ---- the whole
 
@@ -166,11 +176,13 @@ pub opening_done : (n : ℕ) (f g : Sets) (dist : ℕ → ℕ → ℕ) (x : Fore
     (p : ℕ) (mates : List (Option ℕ)) (l : Lists) (bound : ℕ) → IsMetric n dist → length mates ≡ n →
     x.mate ≡ mate_in mates → IsStage n f dist x →
     IsOpening n f dist x set (around sets joins p) → IsExpanded f set g → IsFamily g → AreLong (2 * n) l →
-    Opens x set (get_or sets 0 0) p (forest_in l x.root
+    Opens x set (get_or sets 0 0) p (forest_in l
     (mate_in (paired_times mates joins p (length joins / 2)))) → ((i : ℕ) → x.rank i ≤ bound) →
-    Advances n dist f x g (forest_in (walked_times l sets joins (p / 2)) x.root
+    Advances n dist f x g (forest_in (walked_times l sets joins (p / 2))
     (mate_in (paired_times mates joins p (length joins / 2)))) ×
-    ((i : ℕ) → get_or (walked_times l sets joins (p / 2)).ranks i 0 ≤ bound + 2 * p)
+    ((i : ℕ) → get_or (walked_times l sets joins (p / 2)).ranks i 0 ≤ bound + 2 * p) ×
+    KeepsTrees x (forest_in (walked_times l sets joins (p / 2))
+    (mate_in (paired_times mates joins p (length joins / 2))))
 opening_done n f g dist x set sets joins p mates l bound me len em st o ex fam long op ranked =
     let m0 : ℕ = o.from in
     let t0 : ℕ = o.to in
@@ -223,7 +235,7 @@ opening_done n f g dist x set sets joins p mates l bound me len em st o ex fam l
     (k.0, q.live_others (get_or sets i 0) ns ∙ k.1, q.parent_child (get_or sets i 0) (a.kids i h)) in w) in
     let h0 : 0 < length sets = omega (arith, o.place) in
     let g0 = gtop 0 h0 in
-    let y0 : Forest = forest_in l x.root new in
+    let y0 : Forest = forest_in l new in
     let ent = st.tree.link_range set o.is_inner in
     let broken = opened n f g load dist x y0 set (get_or sets 0 0) m0 t0 p lam q r.pairs st.tree pd.pairs o.above
     o.is_inner o.exit g0.0 g0.1 g0.2 (kid 0 h0).2 (q.top_inside (get_or sets 0 0) (x.entry set) ent.1 (a.kids 0 h0)
@@ -241,7 +253,7 @@ opening_done n f g dist x set sets joins p mates l bound me len em st o ex fam l
       | inl z ↦ z
       | inr z ↦ absurd z
     ]) in
-    let w0 : IsWalked n g load dist sets joins p 0 l l x.root (f.top t0) new (bound + p) = record {
+    let w0 : IsWalked n g load dist sets joins p 0 l l (f.top t0) new (bound + p) = record {
       long = long;
       broken = subst (λ (z : ℕ). IsBroken n g load dist y0 (gap (get_or sets 0 0) (f.top t0) z)) (let z : p ≡ p - 2 * 0 = omega arith in z) broken;
       ahead = λ j lt h.
@@ -255,10 +267,11 @@ opening_done n f g dist x set sets joins p mates l bound me len em st o ex fam l
           | inr lo ↦ omega (arith, op.rank_low i z lo, ranked i)
         ]
       ];
+      trees = λ i k. (i, k, refl);
     } in
     let ph : 2 * (p / 2) ≡ p = omega (arith, o.even) in
-    let w = walk_all n g load dist sets joins p l x.root (f.top t0) new (bound + p) ring w0 (p / 2) (omega (arith, ph)) in
-    let y : Forest = forest_in (walked_times l sets joins (p / 2)) x.root new in
+    let w = walk_all n g load dist sets joins p l (f.top t0) new (bound + p) ring w0 (p / 2) (omega (arith, ph)) in
+    let y : Forest = forest_in (walked_times l sets joins (p / 2)) new in
     let nt0 : f.top t0 ≢ set = λ e. r.pairs.leaves m0 t0 o.exit.below o.exit.paired (o.exit.top ∙ sym e) in
     let ht0 : t0 < n = r.pairs.range m0 t0 o.exit.below o.exit.paired in
     let last : IsExit n g new (get_or sets (2 * (p / 2)) 0) m0 t0 =
@@ -278,12 +291,14 @@ opening_done n f g dist x set sets joins p mates l bound me len em st o ex fam l
       expanded = ex;
       place_set = w.others set (outside set set_out) ∙ op.place_set;
       place_others = λ i k ne. w.others i (outside i k) ∙ op.place_others i ne (outside i k 0 h0);
-      root = refl;
       mates = keep;
       paired = λ c k.
           let v = a.all c k in
           let e = exits v.0 v.1 in
           (e.0, e.1, record { below = e.2.below; top = e.2.top ∙ v.2; paired = e.2.paired });
     } in
-    let u = unfolded_stage n f g dist x y set st fam done pd.pairs tree in
-    (record { stage = u.0; falls = u.1; ready = u.2 }, λ i. omega (arith, w.ranked i, ph))
+    let u = unfolded_stage n f g dist x y set st fam done pd.pairs tree in (
+      record { stage = u.0; falls = u.1; ready = u.2 },
+      λ i. omega (arith, w.ranked i, ph),
+      trees_on x y0 y (opened_trees x y0 set (get_or sets 0 0) p o.is_inner op) w.trees,
+    )

@@ -2,7 +2,7 @@ use Rattle.std.proofs.Common.{arith, ◌≡◌, ◌≢◌, ℕ, ◌*◌, ◌<◌
 use Rattle.std.proofs.lemmas.Bool.{eqb-true}
 use Rattle.dpl_laminar.specs.Families.{Sets, IsLaminar}
 use Rattle.dpl_laminar.specs.Loads.{load_in}
-use Rattle.dpl_tree.specs.steps.Forests.{free, outer, inner, Forest, IsTree}
+use Rattle.dpl_tree.specs.steps.Forests.{free, outer, inner, Forest, IsForest}
 use Rattle.dpl_tree.specs.Mates.{ArePairs, total_in}
 use Rattle.dpl_tree.specs.Metrics.{IsMetric}
 use Rattle.dpl_tree.specs.Stages.{IsChange}
@@ -28,7 +28,7 @@ self i = eq-eqb i i refl
 -- the inner tops have enough: the sets by the scan, the single members by the triangle rule
 pub single_enough : (n : ℕ) (f : Sets) (x : Forest) (v : ℕ → ℕ) (dist : ℕ → ℕ → ℕ) (by i : ℕ) → IsLaminar n f
     → IsMetric n dist → ArePairs n f (load_in (2 * n) v f.holds) dist x.mate
-    → IsTree n f (load_in (2 * n) v f.holds) dist x → IsChange n f x v dist by → i < n → x.place i ≡ inner
+    → IsForest n f (load_in (2 * n) v f.holds) dist x → IsChange n f x v dist by → i < n → x.place i ≡ inner
     → total_in (2 * n) v f.holds i ≡ v i → by ≤ v i
 single_enough n f x v dist by i p m pairs tree c hi e tot =
     let k = tree.link_range i e in
@@ -44,8 +44,8 @@ single_enough n f x v dist by i p m pairs tree c hi e tot =
     let u : ℕ = x.above i in
     let w : ℕ = ex.1 in
     let hw : w < n = pairs.range ex.0 w ex.2.below ex.2.paired in
-    let pu = tree.link_outer i e in
-    let pw = tree.inner_mate i ex.0 w e ex.2 in
+    let pu = (tree.link_outer i e).0 in
+    let pw = (tree.inner_mate i ex.0 w e ex.2).0 in
     let ru = tree.link_rank i e in
     let rw' = tree.outer_mate (f.top w) w ex.0 pw (exit_back n f _ dist x.mate pairs i ex.0 w ex.2) in
     let rank_w : x.rank i < x.rank (f.top w) = omega (arith, rw'.1, ap x.rank ex.2.top) in

@@ -7,7 +7,7 @@ use Rattle.dpl_laminar.specs.Families.{Sets, IsFamily, IsLaminar, has, next_in}
 use Rattle.dpl_laminar.proofs.Sums.{sum_same, sum_at}
 use Rattle.dpl_laminar.proofs.Numbers.{true_false, some_none, cases_Option, has_at, place_in}
 use Rattle.dpl_laminar.proofs.Released.{some_member, child_misses}
-use Rattle.dpl_tree.specs.steps.Forests.{free, outer, inner, Forest, IsTree, Shifts}
+use Rattle.dpl_tree.specs.steps.Forests.{free, outer, inner, Forest, IsForest, Shifts}
 use Rattle.dpl_tree.specs.Mates.{IsExit, ArePairs, totals}
 use Rattle.dpl_tree.specs.Metrics.{IsMetric}
 use Rattle.dpl_tree.specs.Stages.{HasParity, IsStage}
@@ -39,29 +39,45 @@ pub record IsCandidate (n : ℕ) (f : Sets) (x : Forest) (s t : ℕ) : Type 0 wh
   pub from_outer : x.place (f.top s) ≡ outer
   pub to_place : (x.place (f.top t) ≡ free) ⊎ (x.place (f.top t) ≡ outer)
 
--- Of an even number of members an odd set leaves one out. So the root is not the only top, and either another top is
--- outside of the tree, or it is outer, or it is inner and its mate is outer.
-pub some_candidate : (n : ℕ) (f : Sets) (load dist : ℕ → ℕ → ℕ) (x : Forest) → n % 2 ≡ 0 → IsLaminar n f
-    → ArePairs n f load dist x.mate → IsTree n f load dist x → (s : ℕ) × (t : ℕ) × IsCandidate n f x s t
-some_candidate n f load dist x even lam pairs tree =
-    let w = tree.tops x.root (outer_in tree.root_outer) in
-    let odd = lam.sets.odd x.root w.0 w.1 in
-    let r = some_member n (f.holds x.root) odd in
-    let tr : f.top r.0 ≡ x.root = lam.tops.top_alone x.root r.0 w.0 r.1 w.2 r.2 in
-    let pr : x.place (f.top r.0) ≡ outer = ap x.place tr ∙ tree.root_outer in
-    elim (misses n (f.holds x.root)) [
+-- Of an even number of members an odd set leaves one out. So an outer set is not the only top, and either another top is
+-- outside of the trees, or it is outer, or it is inner, and then its mate is outer, or what it is linked to.
+pub some_candidate : (n : ℕ) (f : Sets) (load dist : ℕ → ℕ → ℕ) (x : Forest) (i : ℕ) → n % 2 ≡ 0 → IsLaminar n f
+    → ArePairs n f load dist x.mate → IsForest n f load dist x → x.place i ≡ outer
+    → (s : ℕ) × (t : ℕ) × IsCandidate n f x s t
+some_candidate n f load dist x i even lam pairs tree pi =
+    let w = tree.tops i (outer_in pi) in
+    let odd = lam.sets.odd i w.0 w.1 in
+    let r = some_member n (f.holds i) odd in
+    let tr : f.top r.0 ≡ i = lam.tops.top_alone i r.0 w.0 r.1 w.2 r.2 in
+    let pr : x.place (f.top r.0) ≡ outer = ap x.place tr ∙ pi in
+    elim (misses n (f.holds i)) [
       | inl all ↦ absurd (omega (arith, all, odd, even))
       | inr u ↦
-          let ne : f.top r.0 ≢ f.top u.0 = λ e. true_false (f.holds x.root u.0) (ap (λ z. f.holds z u.0) (sym (sym e ∙ tr)) ∙ lam.tops.top_holds u.0 u.1) u.2 in
+          let ne : f.top r.0 ≢ f.top u.0 = λ e. true_false (f.holds i u.0) (ap (λ z. f.holds z u.0) (sym (sym e ∙ tr)) ∙ lam.tops.top_holds u.0 u.1) u.2 in
           elim (place_cases (x.place (f.top u.0))) [
             | inl z ↦ (r.0, u.0, record { from = r.1; to = u.1; apart = ne; from_outer = pr; to_place = inl z })
             | inr (inl z) ↦ (r.0, u.0, record { from = r.1; to = u.1; apart = ne; from_outer = pr; to_place = inr z })
             | inr (inr z) ↦
                 let e = tree.inner_pair (f.top u.0) z in
                 let back = exit_back n f load dist x.mate pairs (f.top u.0) e.0 e.1 e.2 in
-                let out = tree.inner_mate (f.top u.0) e.0 e.1 z e.2 in
-                let ne' : f.top r.0 ≢ f.top e.1 = λ k. tree.root_free e.1 e.0 (record { below = back.below; top = sym k ∙ tr; paired = back.paired }) in
-                (r.0, e.1, record { from = r.1; to = back.below; apart = ne'; from_outer = pr; to_place = inr out })
+                let out = (tree.inner_mate (f.top u.0) e.0 e.1 z e.2).0 in
+                elim (cases_eq (f.top r.0) (f.top e.1)) [
+                  | inr far ↦ (r.0, e.1, record { from = r.1; to = back.below; apart = far; from_outer = pr; to_place = inr out })
+                  | inl k ↦
+                      let low = (tree.outer_mate (f.top e.1) e.1 e.0 out back).1 in
+                      let up = tree.link_rank (f.top u.0) z in
+                      let far : f.top r.0 ≢ f.top (x.above (f.top u.0)) = λ q. absurd (omega (arith, low, up, ap x.rank e.2.top, ap x.rank k, ap x.rank q)) in (
+                        r.0,
+                        x.above (f.top u.0),
+                        record {
+                          from = r.1;
+                          to = (tree.link_range (f.top u.0) z).0;
+                          apart = far;
+                          from_outer = pr;
+                          to_place = inr (tree.link_outer (f.top u.0) z).0;
+                        },
+                      )
+                ]
           ]
     ]
 
@@ -151,13 +167,11 @@ un_exit : (n : ℕ) (f : Sets) (mate : ℕ → Option ℕ) (v : ℕ → ℕ) (i 
 un_exit n f mate v i m t e = record { below = e.below; top = e.top; paired = e.paired }
 
 re_tree : (n : ℕ) (f : Sets) (dist : ℕ → ℕ → ℕ) (x : Forest) (v : ℕ → ℕ)
-    → IsTree n f (load_in (2 * n) v f.holds) dist x
-    → IsTree n (record f { value = v }) (load_in (2 * n) v f.holds) dist x
+    → IsForest n f (load_in (2 * n) v f.holds) dist x
+    → IsForest n (record f { value = v }) (load_in (2 * n) v f.holds) dist x
 re_tree n f dist x v t = record {
   tops = t.tops;
-  root_outer = t.root_outer;
-  root_free = λ m u e. t.root_free m u (re_exit n f x.mate v _ m u e);
-  outer_pair = λ i e ne. let w = t.outer_pair i e ne in (w.0, w.1, un_exit n f x.mate v i w.0 w.1 w.2);
+  root_alone = λ i j ei ej ni nj e. t.root_alone i j ei ej (λ m u w. ni m u (un_exit n f x.mate v i m u w)) (λ m u w. nj m u (un_exit n f x.mate v j m u w)) e;
   outer_mate = λ i m u e w. t.outer_mate i m u e (re_exit n f x.mate v i m u w);
   inner_pair = λ i e. let w = t.inner_pair i e in (w.0, w.1, un_exit n f x.mate v i w.0 w.1 w.2);
   inner_mate = λ i m u e w. t.inner_mate i m u e (re_exit n f x.mate v i m u w);

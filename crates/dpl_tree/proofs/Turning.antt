@@ -5,7 +5,7 @@ use Rattle.dpl_laminar.proofs.Sums.{sum_most}
 use Rattle.dpl_laminar.specs.Changes.{Gathers, Releases}
 use Rattle.dpl_laminar.specs.Families.{Sets, IsLaminar, has}
 use Rattle.dpl_laminar.specs.Loads.{sum_below, load_in}
-use Rattle.dpl_tree.specs.steps.Forests.{Place, free, outer, inner, Forest, IsTree, Shifts, Grows, Folds}
+use Rattle.dpl_tree.specs.steps.Forests.{Place, free, outer, inner, Forest, IsForest, Shifts, Grows, Folds}
 use Rattle.dpl_tree.specs.Mates.{IsExit, ArePairs}
 use Rattle.dpl_tree.specs.Stages.{weight, as_number, potential}
 use Rattle.dpl_tree.proofs.Growing.{place_cases, outer_in, outer_inner_no, mate_outside}
@@ -18,7 +18,7 @@ balanced a b c d e e' k = subst (λ (z : Place). Balanced z b) (sym e) (subst (�
 
 pub shifted_pairs : (n : ℕ) (f : Sets) (dist : ℕ → ℕ → ℕ) (by : ℕ) (v v' : ℕ → ℕ) (x : Forest) → IsLaminar n f
     → Shifts (2 * n) f x.place by v v' → ArePairs n f (load_in (2 * n) v f.holds) dist x.mate
-    → IsTree n f (load_in (2 * n) v f.holds) dist x → ArePairs n f (load_in (2 * n) v' f.holds) dist x.mate
+    → IsForest n f (load_in (2 * n) v f.holds) dist x → ArePairs n f (load_in (2 * n) v' f.holds) dist x.mate
 shifted_pairs n f dist by v v' x lam sh p tree = record {
   range = p.range;
   back = p.back;
@@ -29,20 +29,18 @@ shifted_pairs n f dist by v v' x lam sh p tree = record {
       let b : Balanced (x.place (f.top m)) (x.place (f.top t)) = elim (place_cases (x.place (f.top m))) [
         | inl z ↦ balanced _ _ free free z (mate_outside n f _ dist x p tree (f.top m) m t z a) both_free
         | inr (inl z) ↦ balanced _ _ outer inner z (tree.outer_mate (f.top m) m t z a).0 outer_inner
-        | inr (inr z) ↦ balanced _ _ inner outer z (tree.inner_mate (f.top m) m t z a) inner_outer
+        | inr (inr z) ↦ balanced _ _ inner outer z (tree.inner_mate (f.top m) m t z a).0 inner_outer
       ] in
       shift_tight n f lam x.place by v v' dist sh m t hm ht (inr (p.leaves m t hm k, b)) (p.tight m t hm k);
   alone = p.alone;
 }
 
 pub shifted_tree : (n : ℕ) (f : Sets) (dist : ℕ → ℕ → ℕ) (by : ℕ) (v v' : ℕ → ℕ) (x : Forest) → IsLaminar n f
-    → Shifts (2 * n) f x.place by v v' → IsTree n f (load_in (2 * n) v f.holds) dist x
-    → IsTree n f (load_in (2 * n) v' f.holds) dist x
+    → Shifts (2 * n) f x.place by v v' → IsForest n f (load_in (2 * n) v f.holds) dist x
+    → IsForest n f (load_in (2 * n) v' f.holds) dist x
 shifted_tree n f dist by v v' x lam sh tree = record {
   tops = tree.tops;
-  root_outer = tree.root_outer;
-  root_free = tree.root_free;
-  outer_pair = tree.outer_pair;
+  root_alone = tree.root_alone;
   outer_mate = tree.outer_mate;
   inner_pair = tree.inner_pair;
   inner_mate = tree.inner_mate;
@@ -53,7 +51,7 @@ shifted_tree n f dist by v v' x lam sh tree = record {
   link_tight = λ i e.
       let r = tree.link_range i e in
       let pe : x.place (f.top (x.entry i)) ≡ inner = ap x.place (tree.link_entry i e) ∙ e in
-      let po = tree.link_outer i e in
+      let po = (tree.link_outer i e).0 in
       shift_tight n f lam x.place by v v' dist sh (x.above i) (x.entry i) r.0 r.1
       (inr ((λ z. outer_inner_no po (ap x.place z ∙ pe)), balanced _ _ outer inner po pe outer_inner))
       (tree.link_tight i e);
@@ -89,7 +87,7 @@ weight_full outer j ne = absurd (ne refl)
 weight_full inner j ne = refl
 
 pub grown_falls : (n : ℕ) (f : Sets) (load dist : ℕ → ℕ → ℕ) (x y : Forest) (s t m o : ℕ) → IsLaminar n f
-    → ArePairs n f load dist x.mate → IsTree n f load dist x → x.place (f.top t) ≡ free
+    → ArePairs n f load dist x.mate → IsForest n f load dist x → x.place (f.top t) ≡ free
     → IsExit n f x.mate (f.top t) m o → Grows f x s t o y → potential n f y.place < potential n f x.place
 grown_falls n f load dist x y s t m o lam p tree pt ex g =
     let po : x.place (f.top o) ≡ free = mate_outside n f load dist x p tree (f.top t) m o pt ex in
@@ -113,7 +111,7 @@ grown_falls n f load dist x y s t m o lam p tree pt ex g =
     ])
 
 pub folded_falls : (n : ℕ) (f g : Sets) (load dist : ℕ → ℕ → ℕ) (x y : Forest) (cs : List ℕ) (set meet r c : ℕ)
-    → IsLaminar n f → Gathers n f cs set g → IsTree n f load dist x → Folds x cs meet set y → set ≡ n + r
+    → IsLaminar n f → Gathers n f cs set g → IsForest n f load dist x → Folds x cs meet set y → set ≡ n + r
     → has cs (f.top r) ≡ true → has cs c ≡ true → x.place c ≡ inner
     → potential n g y.place < potential n f x.place
 folded_falls n f g load dist x y cs set meet r c lam q tree o er hr hc pc =

@@ -4,9 +4,9 @@ use Rattle.std.proofs.lemmas.Bool.{cases_eq, cases_Bool}
 use Rattle.dpl_laminar.specs.Families.{Sets, IsFamily, IsLaminar, has}
 use Rattle.dpl_laminar.specs.Changes.{Releases, IsExpanded}
 use Rattle.dpl_laminar.proofs.Numbers.{some_none}
-use Rattle.dpl_tree.specs.steps.Forests.{free, inner, Forest, IsTree}
+use Rattle.dpl_tree.specs.steps.Forests.{free, inner, Forest, IsForest}
 use Rattle.dpl_tree.specs.Mates.{IsExit, ArePairs, loads, totals}
-use Rattle.dpl_tree.specs.Stages.{IsRest, IsStage, IsCovered, IsReady, potential}
+use Rattle.dpl_tree.specs.Stages.{IsRest, IsStage, IsReady, potential}
 use Rattle.dpl_tree.proofs.Growing.{inner_in}
 use Rattle.dpl_tree.proofs.Refining.{tops_refine}
 use Rattle.dpl_tree.proofs.Turning.{opened_falls}
@@ -21,7 +21,6 @@ pub record IsOpened (n : ℕ) (f g : Sets) (set : ℕ) (x y : Forest) : Type 0 w
   pub expanded : IsExpanded f set g
   pub place_set : y.place set ≡ free
   pub place_others : (i : ℕ) → has (f.children set) i ≡ false → i ≢ set → y.place i ≡ x.place i
-  pub root : y.root ≡ x.root
   pub mates : (m : ℕ) → m < n → f.top m ≢ set → y.mate m ≡ x.mate m
   pub paired : (c : ℕ) → has (f.children set) c ≡ true → (m : ℕ) × (t : ℕ) × IsExit n g y.mate c m t
 
@@ -37,7 +36,7 @@ no_child n f lam set m hs hm = elim (cases_Bool (has (f.children set) (f.top m))
 
 pub unfolded_stage : (n : ℕ) (f g : Sets) (dist : ℕ → ℕ → ℕ) (x y : Forest) (set : ℕ) → IsStage n f dist x
     → IsFamily g → IsOpened n f g set x y → ArePairs n g (loads n f) dist y.mate
-    → IsTree n g (loads n f) dist y
+    → IsForest n g (loads n f) dist y
     → IsStage n g dist y × (potential n g y.place < potential n f x.place) × ((k : ℕ) → k < n → IsReady n f x k → IsReady n g y k)
 unfolded_stage n f g dist x y set st fam o pairs tree =
     let r = st.rest in
@@ -90,7 +89,7 @@ unfolded_stage n f g dist x y set st fam o pairs tree =
         | inr ne ↦
             let gk = q.top_others k hk ne in
             elim w [
-              | inr z ↦ inr (gk ∙ z ∙ sym o.root)
+              | inr z ↦ inr (ap y.place gk ∙ o.place_others (f.top k) (no_child n f lam set k at.0 hk) ne ∙ z)
               | inl v ↦
                   let hm = v.2.below in
                   let nm : f.top v.0 ≢ set = λ z. ne (sym v.2.top ∙ z) in
@@ -113,9 +112,3 @@ augmented_rest n f dist mate new r p = record {
   joins = r.joins;
   parity = r.parity;
 }
-
-pub augmented_covered : (n : ℕ) (f : Sets) (x : Forest) (new : ℕ → Option ℕ)
-    → ((i m u : ℕ) → IsExit n f x.mate i m u → (a : ℕ) × (c : ℕ) × IsExit n f new i a c)
-    → ((a : ℕ) × (c : ℕ) × IsExit n f new x.root a c) → (k : ℕ) → IsReady n f x k → IsCovered n f new k
-augmented_covered n f x new kept root k (inl w) = kept (f.top k) w.0 w.1 w.2
-augmented_covered n f x new kept root k (inr e) = (root.0, root.1, record { below = root.2.below; top = root.2.top ∙ sym e; paired = root.2.paired })

@@ -8,7 +8,7 @@ use Rattle.dpl_tree.specs.declared.tree.Tree.{Tree}
 use Rattle.dpl_tree.specs.steps.Forests.{Forest, Opens, inner}
 use Rattle.dpl_tree.specs.Mates.{IsExit}
 use Rattle.dpl_tree.specs.Metrics.{IsMetric}
-use Rattle.dpl_tree.specs.Stages.{IsStage, Advances, AreRanked}
+use Rattle.dpl_tree.specs.Stages.{IsStage, Advances, AreRanked, KeepsTrees}
 use Rattle.dpl_tree.specs.Views.{mate_in, forest_of, IsSized}
 use Rattle.dpl_tree.specs.steps.Opened.{IsAround, IsOpening, around, Lists, lists_of, forest_in, walked_times, paired_times}
 use Rattle.dpl_tree.specs.steps.Rounds.{IsRingFrom, IsTurned}
@@ -154,11 +154,11 @@ pub gave_way : {n : ℕ} {f g : Sets} {dist : ℕ → ℕ → ℕ} {t0 t1 t2 : T
     → IsOpening n f dist (forest_of t0 mates) set (around sets joins p) → IsExpanded f set g → IsFamily g
     → IsSized n t0 → IsSized n t1 → IsSized n t2 → js ≡ joins → new ≡ paired_times mates js p (length js / 2)
     → ss ≡ sets → first ≡ get_or ss 0 0
-    → ((ms ns : List (Option ℕ)) → Opens (forest_of t0 ms) set first p (forest_of t1 ns)) → t1.root ≡ t0.root
-    → ws ≡ sets → ks ≡ joins → lists_of t2 ≡ walked_times (lists_of t1) ws ks (p / 2) → t2.root ≡ t1.root
+    → ((ms ns : List (Option ℕ)) → Opens (forest_of t0 ms) set first p (forest_of t1 ns))
+    → ws ≡ sets → ks ≡ joins → lists_of t2 ≡ walked_times (lists_of t1) ws ks (p / 2)
     → IsEvent n dist (λ bound. bound + 4 * n) f (forest_of t0 mates) g (forest_of t2 new)
 gave_way {n} {f} {g} {dist} {t0} {t1} {t2} {set} {first} {p} {sets} {ss} {ws} {joins} {js} {ks}
-    mates new me len st small o ex fam _ size _ ej paired es is opens r1 ew ek walked r2 =
+    mates new me len st small o ex fam _ size _ ej paired es is opens ew ek walked =
     let x : Forest = forest_of t0 mates in
     let l : Lists = lists_of t1 in
     let first_in : ℕ = get_or sets 0 0 in
@@ -168,24 +168,23 @@ gave_way {n} {f} {g} {dist} {t0} {t1} {t2} {set} {first} {p} {sets} {ss} {ws} {j
     let el : lists_of t2 ≡ walked_times l sets joins (p / 2) = subst (λ (z : List (ℕ × ℕ)). lists_of t2 ≡ walked_times l sets z (p / 2)) ek wk in
     let op : Opens x set first_in p (forest_of t1 new) =
     subst (λ (z : ℕ). Opens x set z p (forest_of t1 new)) (is ∙ ap (λ (z : List ℕ). get_or z 0 0) es) (opens mates new) in
-    let op1 : Opens x set first_in p (forest_in l t0.root (mate_in new)) =
-    subst (λ (z : ℕ). Opens x set first_in p (forest_in l z (mate_in new))) r1 op in
-    let op2 : Opens x set first_in p (forest_in l t0.root (mate_in made)) =
-    subst (λ (z : List (Option ℕ)). Opens x set first_in p (forest_in l t0.root (mate_in z))) en op1 in
+    let op2 : Opens x set first_in p (forest_in l (mate_in made)) =
+    subst (λ (z : List (Option ℕ)). Opens x set first_in p (forest_in l (mate_in z))) en op in
     let done = λ (bound : ℕ) (r : AreRanked x bound). opening_done n f g dist x set sets joins p mates l bound me len refl st o ex fam
-    (record { labels = size.labels; ranks = size.ranks; links = size.links }) op2 r in
-    let back : forest_in (walked_times l sets joins (p / 2)) t0.root (mate_in made) ≡ forest_of t2 new =
-    ap (λ (z : List (Option ℕ)). forest_in (walked_times l sets joins (p / 2)) t0.root (mate_in z)) (sym en) ∙
-    ap (λ (z : Lists). forest_in z t0.root (mate_in new)) (sym el) ∙ ap (λ (z : ℕ). forest_in (lists_of t2) z (mate_in new)) (sym (r2 ∙ r1)) in
+    (record { labels = size.labels; ranks = size.ranks; links = size.links; trees = size.trees }) op2 r in
+    let back : forest_in (walked_times l sets joins (p / 2)) (mate_in made) ≡ forest_of t2 new =
+    ap (λ (z : List (Option ℕ)). forest_in (walked_times l sets joins (p / 2)) (mate_in z)) (sym en) ∙
+    ap (λ (z : Lists). forest_in z (mate_in new)) (sym el) in
     record {
       advances = subst (λ (z : Forest). Advances n dist f x g z) back (done (2 ^ 60) small).0;
       ranks = λ bound r i. omega (arith, (done bound r).1 i, ap (λ (z : Lists). get_or z.ranks i 0) el, (around_few st o).1, o.place);
       sums = totals_alike n f g (expanded_alike n f g set st.rest.size o.empty ex);
       widens = given_widens n f g dist t0 t1 t2 mates new set sets joins p st o ex op el;
+      trees = subst (λ (z : Forest). KeepsTrees x z) back (done (2 ^ 60) small).2;
     }
 
 -- a step that keeps the lengths
 pub sized_on : {n : ℕ} {t : Tree} (t' : Tree) → IsSized n t → length t'.labels.items ≡ length t.labels.items
     → length t'.ranks.items ≡ length t.labels.items → length t'.links.items ≡ length t.labels.items
-    → IsSized n t'
-sized_on t' s labels ranks links = record { labels = labels ∙ s.labels; ranks = ranks ∙ s.labels; links = links ∙ s.labels }
+    → length t'.trees.items ≡ length t.labels.items → IsSized n t'
+sized_on t' s labels ranks links trees = record { labels = labels ∙ s.labels; ranks = ranks ∙ s.labels; links = links ∙ s.labels; trees = trees ∙ s.labels }

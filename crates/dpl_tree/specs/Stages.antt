@@ -6,7 +6,7 @@ use Rattle.dpl_laminar.specs.Families.{Sets, IsFamily, IsLaminar}
 use Rattle.dpl_laminar.specs.Loads.{sum_below}
 use Rattle.dpl_laminar.specs.Pairings.{AreWithin}
 use Rattle.dpl_tree.specs.Mates.{total_in, loads, totals, IsExit, ArePairs}
-use Rattle.dpl_tree.specs.steps.Forests.{Place, free, outer, inner, Forest, IsTree}
+use Rattle.dpl_tree.specs.steps.Forests.{Place, free, outer, inner, Forest, IsForest}
 
 -- 0 for an outer set
 abbrev pub weight : Place → ℕ → ℕ
@@ -45,7 +45,7 @@ pub record IsRest (n : ℕ) (f : Sets) (dist : ℕ → ℕ → ℕ) (mate : ℕ 
 -- What holds between two turns of a stage: a tree as well.
 pub record IsStage (n : ℕ) (f : Sets) (dist : ℕ → ℕ → ℕ) (x : Forest) : Type 0 where
   pub rest : IsRest n f dist x.mate
-  pub tree : IsTree n f (loads n f) dist x
+  pub tree : IsForest n f (loads n f) dist x
   pub even : (s t : ℕ) → s < n → t < n → x.place (f.top s) ≢ free → x.place (f.top t) ≢ free →
       totals n f s % 2 ≡ totals n f t % 2
 
@@ -53,9 +53,9 @@ pub record IsStage (n : ℕ) (f : Sets) (dist : ℕ → ℕ → ℕ) (x : Forest
 abbrev pub IsCovered : ℕ → Sets → (ℕ → Option ℕ) → ℕ → Type 0
 IsCovered n f mate k = (m : ℕ) × (t : ℕ) × IsExit n f mate (f.top k) m t
 
--- the top of a member has a pair, or is the root
+-- the top of a member has a pair, or is outer, as a root is
 abbrev pub IsReady : ℕ → Sets → Forest → ℕ → Type 0
-IsReady n f x k = IsCovered n f x.mate k ⊎ (f.top k ≡ x.root)
+IsReady n f x k = IsCovered n f x.mate k ⊎ (x.place (f.top k) ≡ outer)
 
 -- no rank of a tree is above a bound
 abbrev pub AreRanked : Forest → ℕ → Type 0
@@ -68,11 +68,19 @@ pub record Advances (n : ℕ) (dist : ℕ → ℕ → ℕ) (f : Sets) (x : Fores
   pub falls : potential n g y.place < potential n f x.place
   pub ready : (k : ℕ) → k < n → IsReady n f x k → IsReady n g y k
 
--- the end of a stage: all that was ready has a pair
-pub record Ends (n : ℕ) (dist : ℕ → ℕ → ℕ) (f : Sets) (x : Forest) (g : Sets)
-    (mate : ℕ → Option ℕ) : Type 0 where
-  pub rest : IsRest n g dist mate
-  pub covered : (k : ℕ) → k < n → IsReady n f x k → IsCovered n g mate k
+-- Trees have ended, since their roots got pairs: the trees with these numbers are gone, and the others stand as they did.
+pub record Ends (n : ℕ) (dist : ℕ → ℕ → ℕ) (f : Sets) (one two : ℕ) (x y : Forest) : Type 0 where
+  pub stage : IsStage n f dist y
+  pub ready : (k : ℕ) → k < n → IsReady n f x k → IsReady n f y k
+  pub gone : (i : ℕ) → (x.tree i ≡ one) ⊎ (x.tree i ≡ two) → y.place i ≡ free
+  pub others : (i : ℕ) → x.tree i ≢ one → x.tree i ≢ two → y.place i ≡ x.place i
+  pub trees : (i : ℕ) → y.tree i ≡ x.tree i
+  pub ranks : (i : ℕ) → y.rank i ≡ x.rank i
+  pub stood : (i : ℕ) × (x.place i ≢ free) × (x.tree i ≡ one)
+
+-- There are no trees but those that were there before.
+abbrev pub KeepsTrees : Forest → Forest → Type 0
+KeepsTrees x y = (i : ℕ) → y.place i ≢ free → (j : ℕ) × (x.place j ≢ free) × (y.tree i ≡ x.tree j)
 
 -- Outer members stay outer, and who has an outer member's top keeps it.
 pub record Widens (n : ℕ) (f : Sets) (place : ℕ → Place) (g : Sets)

@@ -29,7 +29,7 @@ place_in labels i = place_of (slice_index_or labels i Free)
 abbrev pub mate_in : List (Option ℕ) → ℕ → Option ℕ
 mate_in mates m = slice_index_or mates m None
 
--- the tree that is kept so, with pairs between the tops
+-- the trees that are kept so, with pairs between the tops
 abbrev pub forest_of : Tree → List (Option ℕ) → Forest
 forest_of tree mates = record {
   mate = mate_in mates;
@@ -37,7 +37,7 @@ forest_of tree mates = record {
   rank = slice_index tree.ranks.items;
   above = λ i. (slice_index_or tree.links.items i (0, 0)).0;
   entry = λ i. (slice_index_or tree.links.items i (0, 0)).1;
-  root = tree.root;
+  tree = slice_index tree.trees.items;
 }
 
 -- the lists of a tree have a place for each number
@@ -45,3 +45,4 @@ pub record IsSized (n : ℕ) (tree : Tree) : Type 0 where
   pub labels : length tree.labels.items ≡ 2 * n
   pub ranks : length tree.ranks.items ≡ 2 * n
   pub links : length tree.links.items ≡ 2 * n
+  pub trees : length tree.trees.items ≡ 2 * n

@@ -1,4 +1,5 @@
 -- The states of the steps within a stage: what one step of the code hands to the next.
+pub mod Climbs
 pub mod Forests
 pub mod Growth
 pub mod Joins

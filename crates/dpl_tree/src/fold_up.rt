@@ -1,6 +1,6 @@
-//! The sets of the tree between two outer members become one.
+//! The sets between two outer members of one tree become one.
 
-ghost use Rattle.std.specs.Prelude.{◌≡◌, ◌≢◌, ℕ, ◌+◌, ◌*◌, ◌<◌, ◌≤◌, length, IfOk};
+ghost use Rattle.std.specs.Prelude.{◌≡◌, ◌≢◌, ℕ, ◌+◌, ◌*◌, ◌<◌, ◌≤◌, length, slice_index, IfOk};
 ghost use Rattle.dpl_laminar.specs.Storing.{sets_of};
 ghost use Rattle.dpl_tree.specs.steps.Forests.{outer, IsPair};
 ghost use Rattle.dpl_tree.specs.Mates.{loads};
@@ -19,7 +19,7 @@ use dpl_laminar::Steps;
 use std::alloc::{AllocError, Global};
 use std::sync::ledger::Ledger;
 
-/// Makes one set of the two ways from the members of a join to where they meet.
+/// Makes one set of the two ways from the members of a join, in one tree, to where they meet.
 pub fn fold<L: Ledger>(
     alloc: Global,
     metric: &Metric,
@@ -31,6 +31,8 @@ pub fn fold<L: Ledger>(
     requires growing { IsGrowing metric.now matching.old tree.old }
     requires pair { IsPair metric.now.size (sets_of matching.old.family)
         (place_in tree.old.labels.items) outer join.0 join.1 }
+    requires same { slice_index tree.old.trees.items ((sets_of matching.old.family).top join.0) ≡
+        slice_index tree.old.trees.items ((sets_of matching.old.family).top join.1) }
     requires tight { loads metric.now.size (sets_of matching.old.family) join.0 join.1 ≡
         dist_of metric.now join.0 join.1 }
     ensures next { IfOk result (λ _.

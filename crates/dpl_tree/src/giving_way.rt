@@ -59,6 +59,7 @@ pub fn enter(tree: &mut Tree, set: u32, first: u32, room: u64)
     requires apart { set ≢ first }
     requires ranks { length tree.old.ranks.items ≡ length tree.old.labels.items }
     requires links { length tree.old.links.items ≡ length tree.old.labels.items }
+    requires trees { length tree.old.trees.items ≡ length tree.old.labels.items }
     requires small { (i : ℕ) → slice_index tree.old.ranks.items i ≤ 2 ^ 60 }
     requires room { room ≤ 4096 }
     ensures opens { (mates new : List (Option ℕ)) →
@@ -66,16 +67,18 @@ pub fn enter(tree: &mut Tree, set: u32, first: u32, room: u64)
     ensures labels { length tree.new.labels.items ≡ length tree.old.labels.items }
     ensures ranks { length tree.new.ranks.items ≡ length tree.old.labels.items }
     ensures links { length tree.new.links.items ≡ length tree.old.labels.items }
-    ensures root { tree.new.root ≡ tree.old.root }
+    ensures trees { length tree.new.trees.items ≡ length tree.old.labels.items }
     ensures small { (i : ℕ) → slice_index tree.new.ranks.items i ≤ 2 ^ 60 + 4096 }
 {
     let rank = tree.rank(set);
     let link = tree.link(set);
+    let number = tree.trees[set as usize];
     make_room(&mut tree.ranks, rank, room);
     tree.labels[set as usize] = Label::Free;
     tree.labels[first as usize] = Label::Inner;
     tree.ranks[first as usize] = rank;
     tree.links[first as usize] = link;
+    tree.trees[first as usize] = number;
 }
 
 /// Takes the sets up to an even place into the tree.
@@ -87,13 +90,14 @@ pub fn walk(tree: &mut Tree, sets: &[u32], joins: &[(u32, u32)], place: usize)
         length tree.old.labels.items }
     requires ranks { length tree.old.ranks.items ≡ length tree.old.labels.items }
     requires links { length tree.old.links.items ≡ length tree.old.labels.items }
+    requires trees { length tree.old.trees.items ≡ length tree.old.labels.items }
     requires small { (i : ℕ) → slice_index tree.old.ranks.items i ≤ 2 ^ 60 + 4096 }
     ensures labels { length tree.new.labels.items ≡ length tree.old.labels.items }
     ensures ranks { length tree.new.ranks.items ≡ length tree.old.labels.items }
     ensures links { length tree.new.links.items ≡ length tree.old.labels.items }
     ensures walked { lists_of tree.new ≡ walked_times (lists_of tree.old) sets.now joins.now
         (place / 2) }
-    ensures root { tree.new.root ≡ tree.old.root }
+    ensures trees { length tree.new.trees.items ≡ length tree.old.labels.items }
 {
     for r in 0..place / 2 {
         let out = sets[2 * r + 1] as usize;
@@ -104,5 +108,8 @@ pub fn walk(tree: &mut Tree, sets: &[u32], joins: &[(u32, u32)], place: usize)
         tree.ranks[out] = rank + 1;
         tree.ranks[next] = rank + 2;
         tree.links[next] = joins[2 * r + 1];
+        let number = tree.trees[sets[2 * r] as usize];
+        tree.trees[out] = number;
+        tree.trees[next] = number;
     }
 }

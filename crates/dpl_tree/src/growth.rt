@@ -29,4 +29,7 @@ pub fn grow(family: &Family, tree: &mut Tree, s: u32, t: u32, o: u32)
     tree.ranks[set] = rank + 1;
     tree.ranks[out] = rank + 2;
     tree.links[set] = (s, t);
+    let number = tree.trees[family.tops(s) as usize];
+    tree.trees[set] = number;
+    tree.trees[out] = number;
 }

@@ -1,20 +1,21 @@
-//! The alternating tree of a perfect matching with blossoms, and its single steps.
+//! The alternating trees of a perfect matching with blossoms, and their single steps.
 //!
 //! A `Metric` has the distances of an even number of members, a radius for each, and lists of what
 //! is nearer to each than both radii: any other one is as far as these together. Where many are
 //! near each other, all distances stand row by row instead. A family of `dpl_laminar` stands over
 //! the members. A pair, a join or an edge of the tree is tight where its load equals its distance.
 //! Between two stages all pairs are tight and lead from one top of the family to another, and no
-//! load is more than its distance (`IsRest`). Within a stage there is a tree as well, whose tops
-//! are outer and inner by turns on each way from the root (`IsStage`).
+//! load is more than its distance (`IsRest`). Within a stage there are trees as well, whose tops
+//! are outer and inner by turns on each way from a root (`IsStage`).
 //!
 //! A `Matching` is a family with the pairs between its tops and the sums over its members. With
-//! the `Tree` of a stage it is what the steps work on (`IsGrowing`).
+//! the `Tree` of a stage, which has all of its trees, it is what the steps work on (`IsGrowing`).
 //!
 //! Each step takes one such state to the next and brings the stage nearer to its end
-//! (`IsNext`): `grow` takes a pair into the tree, `fold` makes one set of the ways from two
-//! outer members, `give_way` takes an inner set of value 0 away. `augment` ends the stage
-//! (`Ends`), and `shift` changes the values of all tops of the tree.
+//! (`IsNext`): `grow` takes a pair into a tree, `fold` makes one set of the ways from two outer
+//! members of one tree, `give_way` takes an inner set of value 0 away. `end_tree` and `join_trees`
+//! give roots their pairs and end their trees (`Ends`), and `shift` changes the values of all tops
+//! of the trees.
 #![tactic(auto)]
 
 mod change;
@@ -44,4 +45,4 @@ pub use ring::{Round, child_with, round_from};
 pub use rows::{Row, Rows};
 pub use std::alloc::AllocError as NoMemory;
 pub use tree::{Label, Tree};
-pub use way::augment;
+pub use way::{end_tree, join_trees};

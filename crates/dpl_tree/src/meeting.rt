@@ -1,5 +1,5 @@
-//! Two ways to the root from a tight pair of outer members: the sets up to where they meet
-//! become one.
+//! Two ways to the root from a tight pair of outer members of one tree: the sets up to where they
+//! meet become one.
 
 ghost use Rattle.std.specs.Prelude.{◌≡◌, ◌≢◌, ℕ, ◌+◌, ◌*◌, ◌<◌, ◌≤◌, ◌++◌, ◌∷◌, true, length};
 ghost use Rattle.std.specs.Prelude.{slice_index, slice_index_or, if◌then◌else◌, IfOk, reverse};
@@ -37,11 +37,12 @@ pub struct Climb {
     pub above: u32,
 }
 
-/// The step up from an outer set that is not the root.
+/// The step up from an outer set that has a pair, as each but the root has.
 pub fn step_up(metric: &Metric, matching: &Matching, tree: &Tree, set: u32) -> Climb
     requires growing { IsGrowing metric.now matching.now tree.now }
     requires is_outer { place_in tree.now.labels.items set ≡ outer }
-    requires below { set ≢ tree.now.root }
+    requires paired { (m : ℕ) × (t : ℕ) × IsExit metric.now.size (sets_of matching.now.family)
+        (mate_in matching.now.mates.items) set m t }
     ensures exit { IsExit metric.now.size (sets_of matching.now.family)
         (mate_in matching.now.mates.items) set result.exit result.mate }
     ensures above { result.above ≡ (forest_of tree.now matching.now.mates.items).above
@@ -64,7 +65,8 @@ pub fn step_up(metric: &Metric, matching: &Matching, tree: &Tree, set: u32) -> C
     }
 }
 
-/// Climbs from the sets of s and t, from the one with the greater rank first, until they meet.
+/// Climbs from the sets of s and t in one tree, from the one with the greater rank first, until they
+/// meet.
 pub fn meet(
     alloc: Global,
     metric: &Metric,
@@ -80,6 +82,8 @@ pub fn meet(
         ((sets_of matching.now.family).top s) ≡ outer }
     requires t_outer { place_in tree.now.labels.items
         ((sets_of matching.now.family).top t) ≡ outer }
+    requires same { slice_index tree.now.trees.items ((sets_of matching.now.family).top s) ≡
+        slice_index tree.now.trees.items ((sets_of matching.now.family).top t) }
     ensures { IfOk result (λ r. AreClimbing metric.now.size (sets_of matching.now.family)
         (dist_of metric.now) (forest_of tree.now matching.now.mates.items) (s, t)
         (ways r.left.items r.right.items r.meet r.meet)) }

@@ -110,6 +110,13 @@ impl Metric {
         metric
     }
 
+    /// Whether all distances stand in a table.
+    pub fn is_full(&self) -> bool
+        ensures { result ≡ self.now.is_full }
+    {
+        self.is_full
+    }
+
     /// Whether the members are a crowd.
     pub fn is_crowd(&self) -> bool {
         self.is_crowd

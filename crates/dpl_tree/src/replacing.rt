@@ -31,6 +31,7 @@ pub fn replace(tree: &mut Tree, children: &[u32], meet: u32, set: u32)
     requires children { (c : ℕ) → has children.now c ≡ true → c < length tree.old.labels.items }
     requires set { set < length tree.old.labels.items }
     requires ranks { length tree.old.ranks.items ≡ length tree.old.labels.items }
+    requires trees { length tree.old.trees.items ≡ length tree.old.labels.items }
     requires meet { meet < length tree.old.labels.items }
     requires outside { has children.now set ≡ false }
     ensures folds { (mates new : List (Option ℕ)) →
@@ -38,12 +39,12 @@ pub fn replace(tree: &mut Tree, children: &[u32], meet: u32, set: u32)
     ensures labels { length tree.new.labels.items ≡ length tree.old.labels.items }
     ensures ranks { length tree.new.ranks.items ≡ length tree.old.ranks.items }
     ensures links { tree.new.links.items ≡ tree.old.links.items }
+    ensures trees { length tree.new.trees.items ≡ length tree.old.trees.items }
 {
     let rank = tree.rank(meet);
+    let number = tree.trees[meet as usize];
     free_all(&mut tree.labels, children);
-    if is_in(children, tree.root) {
-        tree.root = set;
-    }
     tree.labels[set as usize] = Label::Outer;
     tree.ranks[set as usize] = rank;
+    tree.trees[set as usize] = number;
 }

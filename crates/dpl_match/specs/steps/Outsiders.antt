@@ -34,21 +34,18 @@ pub record AreOutside (m : Members) (known : ℕ → Bool) (level x k : ℕ) (li
   pub all : (s : ℕ) → s < k → IsOutside m known x s →
       (j : ℕ) × (j < length list) × ((other_in list j).member ≡ s)
 
--- the known members outside of a top set, once they were looked for: a list of them where there is a table, or else that
--- whose reach is least
-abbrev pub AreOthers : Table → Members → OuterTable → Others → Type 0
-AreOthers metric m table others = MatchOption others.top ⊤ (λ x.
-    (metric.is_full ≡ true →
+-- the known members outside of a top set: a list of them where there is a table, or else that whose reach is least
+abbrev pub AreOthersOf : Table → Members → OuterTable → Others → ℕ → Type 0
+AreOthersOf metric m table others x = (metric.is_full ≡ true →
     AreOutside m (is_known table.known.items) (level_of m table.origin) x m.count others.list.items) ×
     (metric.is_full ≡ false →
-    IsLeastOutside metric m (level_of m table.origin) (is_known table.known.items) x m.count others.outsider))
+    IsLeastOutside metric m (level_of m table.origin) (is_known table.known.items) x m.count others.outsider)
+
+-- so it is, once they were looked for
+abbrev pub AreOthers : Table → Members → OuterTable → Others → Type 0
+AreOthers metric m table others = MatchOption others.top ⊤ (λ x. AreOthersOf metric m table others x)
 
 -- a known member outside of the top of t with its key, or none
 pub record IsFoundOutside (m : Members) (known : ℕ → Bool) (origin t : ℕ) (found : Neighbour) : Type 0 where
   pub most : found.key ≤ no_key
   pub some : found.key < no_key → IsOutside m known (m.sets.top t) found.member × HasKey m (level_of m origin) t found
-
--- no known member outside of the top of t has a key for it below this one
-abbrev pub AreNoNearer : Members → (ℕ → Bool) → ℕ → ℕ → ℕ → Type 0
-AreNoNearer m known origin t key = (s : ℕ) → IsOutside m known (m.sets.top t) s →
-    key + m.total s ≤ m.dist s t + level_of m origin

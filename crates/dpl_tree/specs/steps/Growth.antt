@@ -1,11 +1,13 @@
 -- A matching between two stages, and with the tree of a stage.
-use Rattle.std.specs.Prelude.{◌≡◌, ℕ, ◌+◌, ◌*◌, ◌<◌, length, slice_index}
+use Rattle.std.specs.Prelude.{◌≡◌, ◌≢◌, ℕ, ◌+◌, ◌*◌, ◌<◌, List, length, slice_index}
+use Rattle.dpl_laminar.specs.Families.{Sets}
 use Rattle.dpl_laminar.specs.Storing.{sets_of}
 use Rattle.dpl_tree.specs.declared.matching.Matching.{Matching}
 use Rattle.dpl_tree.specs.declared.tree.Tree.{Tree}
+use Rattle.dpl_tree.specs.steps.Forests.{free, outer}
 use Rattle.dpl_tree.specs.Mates.{totals}
 use Rattle.dpl_tree.specs.Metrics.{Table, dist_of}
-use Rattle.dpl_tree.specs.Stages.{IsRest, IsStage, Advances, AreRanked, Widens}
+use Rattle.dpl_tree.specs.Stages.{IsRest, IsStage, Advances, AreRanked, KeepsTrees, Widens}
 use Rattle.dpl_tree.specs.Views.{forest_of, mate_in, place_in, IsSized}
 
 -- the lists of a matching have a place for each member, and its sums are those of its family
@@ -38,3 +40,12 @@ pub record IsNext (metric : Table) (matching : Matching) (tree : Tree) (next : M
       AreRanked (forest_of grown next.mates.items) (bound + 4 * metric.size)
   pub widens : Widens metric.size (sets_of matching.family) (place_in tree.labels.items)
       (sets_of next.family) (place_in grown.labels.items)
+  pub trees : KeepsTrees (forest_of tree matching.mates.items) (forest_of grown next.mates.items)
+
+-- a tree for each of some members: its top alone
+pub record AreRoots (f : Sets) (members : List ℕ) (tree : Tree) : Type 0 where
+  pub sized : IsSized f.size tree
+  pub are_outer : (k : ℕ) → k < length members → place_in tree.labels.items (f.top (slice_index members k)) ≡ outer
+  pub only : (i : ℕ) → place_in tree.labels.items i ≢ free → (place_in tree.labels.items i ≡ outer) × ((k : ℕ) ×
+      (k < length members) × (f.top (slice_index members k) ≡ i) × (slice_index tree.trees.items i ≡ slice_index members k))
+  pub ranks : (i : ℕ) → slice_index tree.ranks.items i ≡ 0

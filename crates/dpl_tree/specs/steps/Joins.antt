@@ -29,12 +29,14 @@ tops_to f joins = map (λ j. f.top j.1) joins
 abbrev pub is_end : List (ℕ × ℕ) → ℕ → Bool
 is_end joins m = list_any (λ j. (j.0 == m) || (j.1 == m)) joins
 
--- The sets below a and b on two ways up, each as often as it was met: none twice, each with the
--- set that it is paired with, and no outer one among them has less rank than a or b, or is a or
--- b.
+-- The sets below a and b on two ways up in one tree, each as often as it was met: none twice, each
+-- with the set that it is paired with, and no outer one among them has less rank than a or b, or
+-- is a or b.
 pub record AreGathered (n : ℕ) (f : Sets) (x : Forest) (a b : ℕ) (met : ℕ → ℕ) : Type 0 where
   pub a_outer : x.place a ≡ outer
   pub b_outer : x.place b ≡ outer
+  pub level : x.tree a ≡ x.tree b
+  pub same : (c : ℕ) → 0 < met c → x.tree c ≡ x.tree a
   pub once : (c : ℕ) → met c ≤ 1
   pub in_tree : (c : ℕ) → 0 < met c → x.place c ≢ free
   pub above : (c : ℕ) → 0 < met c → x.place c ≡ outer →

@@ -70,23 +70,24 @@ pub record Lists : Type 0 where
   pub labels : List Label
   pub ranks : List ℕ
   pub links : List (ℕ × ℕ)
+  pub trees : List ℕ
 
 abbrev pub lists_of : Tree → Lists
 lists_of tree = record {
   labels = tree.labels.items;
   ranks = tree.ranks.items;
-  links =
-      tree.links.items;
+  links = tree.links.items;
+  trees = tree.trees.items;
 }
 
-abbrev pub forest_in : Lists → ℕ → (ℕ → Option ℕ) → Forest
-forest_in l root mate = record {
+abbrev pub forest_in : Lists → (ℕ → Option ℕ) → Forest
+forest_in l mate = record {
   mate = mate;
   place = place_in l.labels;
   rank = slice_index l.ranks;
   above = λ i. (slice_index_or l.links i (0, 0)).0;
   entry = λ i. (slice_index_or l.links i (0, 0)).1;
-  root = root;
+  tree = slice_index l.trees;
 }
 
 -- an outer set and the inner one after it are put into the tree behind another one
@@ -96,6 +97,7 @@ step_in l cur out next link = record {
   ranks = slice_set (slice_set l.ranks out (slice_index l.ranks cur
       + 1)) next (slice_index l.ranks cur + 2);
   links = slice_set l.links next link;
+  trees = slice_set (slice_set l.trees out (slice_index l.trees cur)) next (slice_index l.trees cur);
 }
 
 -- so many steps along a ring

@@ -4,7 +4,7 @@ use Rattle.dpl_match.specs.declared.renewing.Other.{Other}
 use Rattle.dpl_match.specs.steps.Nearest.{is_known, level_of}
 use Rattle.dpl_match.specs.steps.Outsiders.{other_in}
 use Rattle.dpl_match.specs.steps.Scans.{Members, members_of}
-use Rattle.dpl_match.proofs.OutsideLemmas.{found_near, found_listed, found_none, none_listed}
+use Rattle.dpl_match.proofs.OutsideLemmas.{found_listed, found_none, none_listed}
 use Rattle.dpl_match.proofs.renewing.search_listed.Goals.{then-key-best+else-key-least, else-key-best}
 use Rattle.dpl_match.proofs.renewing.search_listed.Goals as goal
 
@@ -39,10 +39,7 @@ loop-i-preserved c =
       ];
     }
 
-pub returns-clause-near : goal.returns-clause-near
-returns-clause-near c =
-    let known : ℕ → Bool = is_known c.args.table.now.known.items in
-    found_near c.args.metric.now c.args.matching.now known c.args.table.now.origin c.args.t c.loop-i.best c.requires.totals
-    c.size-size.ensures.table.metric c.requires.table.origin_below c.requires.t c.loop-i.invariant.found
-    (none_listed (members_of c.args.metric.now c.args.matching.now) known c.args.table.now.origin c.args.t c.loop-i.best.key
-    c.args.list.now c.requires.list (λ j l. c.loop-i.invariant.least j (omega (arith, l, c.loop-i-test.false))))
+pub returns-clause-least : goal.returns-clause-least
+returns-clause-least c = none_listed (members_of c.args.metric.now c.args.matching.now) (is_known c.args.table.now.known.items)
+    c.args.table.now.origin c.args.t c.loop-i.best.key c.args.list.now c.requires.list
+    (λ j l. c.loop-i.invariant.least j (omega (arith, l, c.loop-i-test.false)))

@@ -1,7 +1,17 @@
+use Rattle.std.proofs.Common.{◌≡◌}
+use Rattle.dpl_match.specs.steps.Going.{IsAtTurn}
+use Rattle.dpl_match.specs.steps.Nearest.{HasSameMembers}
+use Rattle.dpl_match.specs.steps.Outsiders.{AreOthers}
 use Rattle.dpl_match.specs.steps.Scans.{members_of, IsBest}
 use Rattle.dpl_tree.specs.steps.Forests.{free}
 use Rattle.dpl_tree.specs.Views.{place_in}
 use Rattle.dpl_match.proofs.scan.nearest_free.Given as goal
 
 abbrev pub invariant-loop-t : goal.invariant-loop-t
-invariant-loop-t l = IsBest (members_of l.metric l.matching) (place_in l.stage.tree.labels.items) l.level free l.t l.best
+invariant-loop-t l = record {
+  start : IsAtTurn l.metric l.matching l.stage;
+  stage : l.stage ≡ record l.fn.stage { table = l.stage.table };
+  members : HasSameMembers l.fn.stage.table l.stage.table;
+  others : AreOthers l.metric (members_of l.metric l.matching) l.stage.table l.others;
+  best : IsBest (members_of l.metric l.matching) (place_in l.fn.stage.tree.labels.items) l.level free l.t l.best;
+}

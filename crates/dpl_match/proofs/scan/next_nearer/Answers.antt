@@ -3,7 +3,7 @@ use Rattle.dpl_tree.specs.steps.Forests.{outer}
 use Rattle.dpl_tree.specs.Views.{place_in}
 use Rattle.dpl_match.specs.steps.Scans.{members_of, IsBest}
 use Rattle.dpl_match.proofs.NearLemmas.{unlisted_passed}
-use Rattle.dpl_match.proofs.KeptLemmas.{key_enough, kept_passed, kept_nearest}
+use Rattle.dpl_match.proofs.KeptLemmas.{kept_passed, kept_nearest}
 use Rattle.dpl_match.proofs.scan.next_nearer.Goals.{else-has-via-then-has+else-not-is_behind, else-has-via-else-has}
 use Rattle.dpl_match.proofs.scan.next_nearer.Goals as goal
 
@@ -19,18 +19,13 @@ returns-then-best-level-clause-best c =
     kept_nearest c.requires.start table.even table.metric outer c.args.from c.size-n.result c.args.level c.args.best.now
     c.requires.level c.if-best-level.true c.requires.best
 
-pub above_of-requires-clause-enough : goal.above_of-requires-clause-enough
-above_of-requires-clause-enough c =
-    let table = c.size-n.ensures.table in
-    let below : c.loop-t.t < c.args.metric.now.size = omega (arith, c.loop-t-test.true, c.size-n.ensures.value) in
-    key_enough c.requires.start table.even table.metric c.loop-t.t below
-
 pub loop-t-preserved : goal.loop-t-preserved
 loop-t-preserved c =
+    let table = c.size-n.ensures.table in
     let below : c.loop-t.t < c.args.metric.now.size = omega (arith, c.loop-t-test.true, c.size-n.ensures.value) in
     elim c.else-has.branch [
-      | else-has-via-then-has+else-not-is_behind w ↦ kept_passed c.requires.start c.size-n.ensures.table.metric outer c.loop-t.t
-          c.args.level w.above_of.result c.args.best.now below c.requires.level w.above_of.ensures
+      | else-has-via-then-has+else-not-is_behind w ↦ kept_passed c.requires.start table.even table.metric outer c.loop-t.t c.args.level
+          w.above_of.result c.args.best.now below c.requires.level w.above_of.ensures
           (w.is_behind.ensures w.if-not-is_behind.false) c.loop-t.invariant
       | else-has-via-else-has w ↦ (
         unlisted_passed (members_of c.args.metric.now c.args.matching.now) (place_in c.args.stage.now.tree.labels.items)

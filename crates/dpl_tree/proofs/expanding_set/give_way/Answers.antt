@@ -33,15 +33,15 @@ walk-requires-clause-below g c =
 pub returns : goal.returns
 returns g c =
     let q = c.requires in
-    let entered = sized_on c.enter.new.tree q.growing.sized c.enter.ensures.labels c.enter.ensures.ranks c.enter.ensures.links in
-    let sized = sized_on c.walk.new.tree entered c.walk.ensures.labels c.walk.ensures.ranks c.walk.ensures.links in
+    let entered = sized_on c.enter.new.tree q.growing.sized c.enter.ensures.labels c.enter.ensures.ranks c.enter.ensures.links c.enter.ensures.trees in
+    let sized = sized_on c.walk.new.tree entered c.walk.ensures.labels c.walk.ensures.ranks c.walk.ensures.links c.walk.ensures.trees in
     let size = c.pair_round.auto.mates ∙ ap length c.deref_mut.ensures.value in
     let back = refilled _ c.pair_round.new.mates c.args.matching.now.mates.items c.args.matching.now.mates.ok.0 size in
     let done = gave_way c.args.matching.now.mates.items _ c.size-size.ensures.table.metric q.growing.lists.mates_count q.growing.stage q.small
     c.in_ok-path.ensures c.expand.ensures.value c.expand.ensures.family q.growing.sized entered sized
     c.deref.ensures.value (back ∙ rw c.deref_mut.ensures.value at c.pair_round.ensures) c.deref-2.ensures.value
-    c.first_set-first.ensures c.enter.ensures.opens c.enter.ensures.root
-    c.deref-3.ensures.value c.deref-4.ensures.value c.walk.ensures.walked c.walk.ensures.root in
+    c.first_set-first.ensures c.enter.ensures.opens
+    c.deref-3.ensures.value c.deref-4.ensures.value c.walk.ensures.walked in
     record {
       next = event_next (λ bound. omega arith) done sized;
       lists = event_lists q.growing.lists done.sums (ap length back ∙ size) refl;

@@ -7,7 +7,7 @@ invariant-loop-r l = record {
   labels : length l.tree.labels.items ≡ length l.fn.tree.labels.items;
   ranks : length l.tree.ranks.items ≡ length l.fn.tree.labels.items;
   links : length l.tree.links.items ≡ length l.fn.tree.labels.items;
-  root : l.tree.root ≡ l.fn.tree.root;
+  trees : length l.tree.trees.items ≡ length l.fn.tree.labels.items;
   walked : lists_of l.tree ≡ walked_times (lists_of l.fn.tree) l.sets l.joins l.r;
   small : (i : ℕ) → get_or l.tree.ranks.items i 0 ≤ 2 ^ 60 + 4096 + 2 * l.r;
 }

@@ -1,27 +1,31 @@
 use Rattle.std.proofs.Common.{arith, ◌≡◌, ◌<◌, ◌≤◌, ℕ, sym, ap, ◌∙◌, get_or}
 use Rattle.dpl_laminar.specs.Families.{Sets}
 use Rattle.dpl_laminar.specs.Storing.{sets_of}
+use Rattle.dpl_tree.specs.Mates.{loads}
 use Rattle.dpl_tree.specs.Metrics.{dist_of}
 use Rattle.dpl_tree.specs.steps.Forests.{Forest}
 use Rattle.dpl_tree.specs.Views.{forest_of}
-use Rattle.dpl_tree.proofs.Meetings.{step_of, climbing_left, climbing_right, not_root}
+use Rattle.dpl_tree.proofs.Events.{higher_pair}
+use Rattle.dpl_tree.proofs.Meetings.{step_of, climbing_left, climbing_right}
 use Rattle.dpl_tree.proofs.meeting.meet.Goals as goal
 
-pub step_up-up-requires-clause-below : goal.step_up-up-requires-clause-below
-step_up-up-requires-clause-below c =
+pub step_up-up-requires-clause-paired : goal.step_up-up-requires-clause-paired
+step_up-up-requires-clause-paired c =
+    let w = c.climb.invariant.sets in
     let low : get_or c.args.tree.now.ranks.items c.climb.a 0 < get_or c.args.tree.now.ranks.items c.climb.b 0 =
     omega (arith, c.if-rank_a-rank_b.true, c.rank-rank_a.ensures, c.rank-rank_b.ensures) in
-    not_root c.args.metric.now.size (sets_of c.args.matching.now.family) (dist_of c.args.metric.now)
-    (forest_of c.args.tree.now c.args.matching.now.mates.items) c.climb.b c.climb.a c.requires.growing.stage c.climb.invariant.sets.a_outer
-    (λ e. c.if-a-b.false (sym e)) (omega (arith, low))
+    higher_pair c.args.metric.now.size (sets_of c.args.matching.now.family) (loads c.args.metric.now.size (sets_of c.args.matching.now.family))
+    (dist_of c.args.metric.now) (forest_of c.args.tree.now c.args.matching.now.mates.items) c.requires.growing.stage.tree c.climb.b c.climb.a
+    w.b_outer w.a_outer (sym w.level) (λ e. c.if-a-b.false (sym e)) (omega (arith, low))
 
-pub step_up-up-requires-else-rank_a-rank_b-clause-below : goal.step_up-up-requires-else-rank_a-rank_b-clause-below
-step_up-up-requires-else-rank_a-rank_b-clause-below c =
+pub step_up-up-requires-else-rank_a-rank_b-clause-paired : goal.step_up-up-requires-else-rank_a-rank_b-clause-paired
+step_up-up-requires-else-rank_a-rank_b-clause-paired c =
+    let w = c.climb.invariant.sets in
     let low : get_or c.args.tree.now.ranks.items c.climb.b 0 ≤ get_or c.args.tree.now.ranks.items c.climb.a 0 =
     omega (arith, c.if-rank_a-rank_b.false, c.rank-rank_a.ensures, c.rank-rank_b.ensures) in
-    not_root c.args.metric.now.size (sets_of c.args.matching.now.family) (dist_of c.args.metric.now)
-    (forest_of c.args.tree.now c.args.matching.now.mates.items) c.climb.a c.climb.b c.requires.growing.stage c.climb.invariant.sets.b_outer
-    c.if-a-b.false low
+    higher_pair c.args.metric.now.size (sets_of c.args.matching.now.family) (loads c.args.metric.now.size (sets_of c.args.matching.now.family))
+    (dist_of c.args.metric.now) (forest_of c.args.tree.now c.args.matching.now.mates.items) c.requires.growing.stage.tree c.climb.a c.climb.b
+    w.a_outer w.b_outer w.level c.if-a-b.false low
 
 pub tops-b-requires-then-rank_a-rank_b : goal.tops-b-requires-then-rank_a-rank_b
 tops-b-requires-then-rank_a-rank_b c =

@@ -1,0 +1,21 @@
+use Rattle.std.proofs.Common.{arith, ◌<◌, ◌*◌, ◌∙◌, length, length-set, slice_index, get_or}
+use Rattle.dpl_tree.specs.declared.tree.Label.TheVariants.{Outer}
+use Rattle.dpl_tree.proofs.Rooting.{root_outer, root_only}
+use Rattle.dpl_tree.proofs.tree.Tree.of_roots.Goals as goal
+
+pub loop-i-preserved : goal.loop-i-preserved
+loop-i-preserved c =
+    let w = c.loop-i.invariant in
+    let low : c.loop-i.i < length c.args.members.now = omega (arith, c.loop-i-test.true, c.loop-i.auto.i-end) in
+    let lam = c.tops-top.ensures.family.laminar in
+    let top : c.tops-top.result < 2 * c.args.n = omega (arith, lam.tops.top_range _ (c.requires.members c.loop-i.i 0 low), c.tops-top.ensures.value, c.requires.size) in
+    let hl : c.tops-top.result < length c.loop-i.labels.items = omega (arith, top, w.labels_count) in
+    let ht : c.tops-top.result < length c.loop-i.trees.items = omega (arith, top, w.trees_count) in
+    record {
+      labels_count = length-set c.loop-i.labels.items c.tops-top.result Outer ∙ w.labels_count;
+      trees_count = length-set c.loop-i.trees.items c.tops-top.result (get_or c.args.members.now c.loop-i.i 0) ∙ w.trees_count;
+      outer_all = root_outer c.loop-i.labels.items c.args.members.now (slice_index c.args.family.now.tops) c.loop-i.i c.tops-top.result
+          hl c.tops-top.ensures.value w.outer_all;
+      only = root_only c.loop-i.labels.items c.loop-i.trees.items c.args.members.now (slice_index c.args.family.now.tops) c.loop-i.i c.tops-top.result
+          hl ht c.tops-top.ensures.value w.only;
+    }
