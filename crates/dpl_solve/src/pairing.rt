@@ -109,7 +109,7 @@ fn look(
             })
         }
         None => {
-            let margin = table_margin(sight);
+            let margin = table_margin(drawn.dual, terminals, sight, reach)?;
             let wider = Sight { margin, ..*sight };
             let seen = look_at_all(alloc, drawn, terminals, &wider, reach, places)?;
             Ok(seen)

@@ -418,15 +418,42 @@ pub fn next_margin(sight: &Sight<'_>) -> u64
     grown(sight.margin, greatest(sight.nearest))
 }
 
+/// From so many odd faces on the margin of a table is wide, whether they are a crowd or not.
+const LARGE: usize = 1000;
+
 /// The margin of a table. In a crowd it is the one that would be tried next: a table of all distances costs little more where
-/// faces see farther, and to pair them twice costs as much again.
-pub fn table_margin(sight: &Sight<'_>) -> u64
-    requires { IsLimit sight.now.margin }
-    ensures limit { IsLimit result }
-    ensures more { sight.now.margin ≤ result }
+/// faces see farther, and to pair them twice costs as much again. Where a face of a crowd, or of a large part, would be
+/// nearer than that to more than two fifths as many faces as are listed, as beside an outer face that is next to many of
+/// them, it is two steps more.
+pub fn table_margin(
+    dual: &Dual,
+    list: &[u32],
+    sight: &Sight<'_>,
+    reach: &mut Distances,
+) -> Result<u64, AllocError>
+    requires dual { CameFromDual dual.now }
+    requires faces { All (λ f. f < dual.now.faces) list.now }
+    requires margin { IsLimit sight.now.margin }
+    ensures limit { IfOk result (λ margin. IsLimit margin) }
+    ensures more { IfOk result (λ margin. sight.now.margin ≤ margin) }
 {
-    if sight.is_crowd {
-        return next_margin(sight);
+    if !sight.is_crowd && list.len() < LARGE {
+        return Ok(sight.margin);
     }
-    sight.margin
+    let margin = if sight.is_crowd {
+        next_margin(sight)
+    } else {
+        sight.margin
+    };
+    match list.get(list.len() / 2) {
+        Some(face) => {
+            distances_within(dual, *face, 2 * margin, reach)?;
+            if reach.reached().len() <= list.len() / 5 * 2 {
+                return Ok(margin);
+            }
+            let most = greatest(sight.nearest);
+            Ok(grown(grown(margin, most), most))
+        }
+        None => Ok(margin),
+    }
 }
