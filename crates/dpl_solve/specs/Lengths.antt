@@ -1,5 +1,5 @@
 -- Lengths from each of 64 odd faces, by place.
-use Rattle.std.specs.Prelude.{◌≡◌, ◌≢◌, ℕ, ◌+◌, ◌<◌, min, List, [], length, slice_index, slice_index_or}
+use Rattle.std.specs.Prelude.{◌≡◌, ◌≢◌, ℕ, ◌+◌, ◌^◌, ◌<◌, min, List, [], length, slice_index, slice_index_or}
 use Rattle.dpl_solve.specs.declared.lengths.Lengths.{Lengths}
 use Rattle.dpl_solve.specs.declared.lengths.Lengths.TheVariants as lengths
 
@@ -15,6 +15,10 @@ lengths_at far a = slice_index_or far a []
 -- how many units a place is away from an odd face
 abbrev pub far_at : List (List ℕ) → ℕ → ℕ → ℕ
 far_at far a k = slice_index (lengths_at far a) k
+
+-- all lengths are low
+abbrev pub AreLow : List (List ℕ) → Type 0
+AreLow far = (a k : ℕ) → a < length far → k < 64 → far_at far a k < 2 ^ 30
 
 -- so many places are as many units away from each
 pub record AreAllAt (units places : ℕ) (far : List (List ℕ)) : Type 0 where

@@ -3,11 +3,12 @@ use Rattle.std.specs.Prelude.{◌≡◌, ◌≢◌, ℕ, ◌+◌, ◌*◌, ◌^�
 use Rattle.dpl_solve.specs.declared.limiting.Scale.{Scale}
 use Rattle.dpl_solve.specs.Metrics.{entry}
 
--- no two radii up to the greatest are together more than the limit of units
+-- no two radii up to the greatest are together more than the limit of units, which is low
 pub record IsScale (most : ℕ) (x : Scale) : Type 0 where
   pub some : 0 < x.unit
   pub small : x.unit < 2 ^ 32
   pub room : x.unit * x.limit < 2 ^ 32
+  pub low : x.limit < 2 ^ 30
   pub reach : 2 * most ≤ x.unit * x.limit
 
 -- so many units are a number of 32 bits in each of n rows

@@ -1,5 +1,5 @@
 -- The distances of the faces of a part from some of its odd faces, as waves find them.
-use Rattle.std.specs.Prelude.{◌≡◌, ℕ, ◌+◌, ◌*◌, ◌<◌, ◌≤◌, ◌⊎◌, List, length, slice_index, slice_index_or, All}
+use Rattle.std.specs.Prelude.{◌≡◌, ℕ, ◌+◌, ◌*◌, ◌^◌, ◌<◌, ◌≤◌, ◌⊎◌, List, length, slice_index, slice_index_or, All}
 use Rattle.dpl_dual.specs.declared.crosses.Cross.{Cross}
 use Rattle.dpl_dual.specs.declared.crosses.Step.{Step}
 use Rattle.dpl_dual.specs.Chains.{Leads, length_of}
@@ -17,6 +17,7 @@ pub record IsWave (w : Wave) : Type 0 where
   pub dual : CameFromDual w.dual.now
   pub faces : All (λ f. f < w.dual.now.faces) w.listed.faces.now
   pub some : 0 < w.unit
+  pub low : w.limit < 2 ^ 30
   pub order : IsOrder (length w.odd.now) w.order.now
 
 -- how many faces there are

@@ -1,9 +1,10 @@
 //! How far faces are from each of 64 odd ones, in units.
 //!
-//! The numbers have 16 bits if they find room there, and else 32, so that a processor lowers several at a time.
+//! The numbers have 16 bits if they find room there, and else 32, so that a processor lowers several at a time. Those of 32
+//! bits are below 2^30, so that the highest bit of a difference shows which of two is less.
 
-ghost use Rattle.std.specs.Prelude.{◌≡◌, ℕ, ◌+◌, ◌<◌, ◌≤◌, min, false, length, slice_index, IfOk};
-ghost use Rattle.dpl_solve.specs.Lengths.{lengths_in, far_at, AreAllAt, AreLowered, IsSourcePut};
+ghost use Rattle.std.specs.Prelude.{◌≡◌, ℕ, ◌+◌, ◌^◌, ◌<◌, ◌≤◌, min, false, length, slice_index, IfOk};
+ghost use Rattle.dpl_solve.specs.Lengths.{lengths_in, far_at, AreAllAt, AreLow, AreLowered, IsSourcePut};
 
 use std::alloc::{AllocError, Global};
 
@@ -24,11 +25,11 @@ fn short(units: u64) -> u16
     units.min(65535) as u16
 }
 
-/// So many units, up to the greatest number of 32 bits.
+/// So many units, up to more than any length.
 fn medium(units: u64) -> u32
-    ensures { result ≡ min units 4294967295 }
+    ensures { result ≡ min units 1073741824 }
 {
-    units.min(4294967295) as u32
+    units.min(1073741824) as u32
 }
 
 /// Lengths of 16 bits, and where they are less those of another face and a step together.
@@ -48,13 +49,15 @@ fn lowered_short(lengths: &[u16; 64], here: &[u16; 64], units: u64) -> [u16; 64]
 /// Lengths of 32 bits, and where they are less those of another face and a step together.
 #[inline(always)]
 fn lowered_medium(lengths: &[u32; 64], here: &[u32; 64], units: u64) -> [u32; 64]
+    requires low { (k : ℕ) → k < 64 → slice_index lengths.now k < 2 ^ 30 }
+    requires here_low { (k : ℕ) → k < 64 → slice_index here.now k < 2 ^ 30 }
     ensures { (k : ℕ) → k < 64 → slice_index result k ≡
         min (slice_index lengths.now k) (slice_index here.now k + units) }
 {
     let step = medium(units);
     let mut next = *lengths;
     for k in 0..WIDTH {
-        next[k] = next[k].min(here[k].saturating_add(step));
+        next[k] = next[k].min(here[k] + step);
     }
     next
 }
@@ -75,14 +78,16 @@ fn falls_short(lengths: &[u16; 64], here: &[u16; 64], units: u64) -> bool
 /// The same of 32 bits.
 #[inline(always)]
 fn falls_medium(lengths: &[u32; 64], here: &[u32; 64], units: u64) -> bool
+    requires low { (k : ℕ) → k < 64 → slice_index lengths.now k < 2 ^ 30 }
+    requires here_low { (k : ℕ) → k < 64 → slice_index here.now k < 2 ^ 30 }
     ensures { result ≡ false → (k : ℕ) → k < 64 → slice_index lengths.now k ≤ slice_index here.now k + units }
 {
     let step = medium(units);
-    let mut most: u32 = 0;
+    let mut bits: u32 = 0;
     for k in 0..WIDTH {
-        most = most.max(lengths[k].saturating_sub(here[k].saturating_add(step)));
+        bits |= (here[k] + step).wrapping_sub(lengths[k]);
     }
-    most > 0
+    bits >= 1 << 31
 }
 
 impl Lengths {
@@ -103,6 +108,7 @@ impl Lengths {
     pub fn falls(&self, from: usize, to: usize, units: u64) -> bool
         requires from { from < length (lengths_in self.now) }
         requires to { to < length (lengths_in self.now) }
+        requires low { AreLow (lengths_in self.now) }
         ensures { result ≡ false → (k : ℕ) → k < 64 →
             far_at (lengths_in self.now) to k ≤ far_at (lengths_in self.now) from k + units }
     {
@@ -117,6 +123,7 @@ impl Lengths {
     pub fn lower(&mut self, from: usize, to: usize, units: u64)
         requires from { from < length (lengths_in self.old) }
         requires to { to < length (lengths_in self.old) }
+        requires low { AreLow (lengths_in self.old) }
         ensures { AreLowered from to units (lengths_in self.old) (lengths_in self.new) }
     {
         match self {

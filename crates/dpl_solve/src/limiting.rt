@@ -82,11 +82,11 @@ fn short_scale(most: u64, length: u64) -> Option<Scale>
     })
 }
 
-/// Units of 1, if twice the greatest radius is a number of 32 bits.
+/// Units of 1, if twice the greatest radius is a number of 30 bits.
 fn medium_scale(most: u64) -> Option<Scale>
     ensures { IfSome result (IsScale most) }
 {
-    if most >= 1 << 31 {
+    if most >= 1 << 29 {
         return None;
     }
     Some(Scale {

@@ -9,7 +9,7 @@ ghost use Rattle.std.specs.Prelude.{◌≡◌, ℕ, ◌+◌, ◌*◌, ◌^◌, �
 ghost use Rattle.dpl_dual.specs.Duals.{CameFromDual, IsStep};
 ghost use Rattle.dpl_pack.specs.Moats.{AreTerminals};
 ghost use Rattle.dpl_tree.specs.Rows.{distances_in};
-ghost use Rattle.dpl_solve.specs.Lengths.{lengths_in, lengths_at};
+ghost use Rattle.dpl_solve.specs.Lengths.{lengths_in, lengths_at, AreLow};
 ghost use Rattle.dpl_solve.specs.Orders.{IsOrder};
 ghost use Rattle.dpl_solve.specs.Waves.{size, face_at, IsWave, AreReached, IsStepTried, AreStepsTried, IsFound, ArePut, AreWritten, AreUnitRows, IsWaiting};
 
@@ -152,6 +152,7 @@ fn is_tried(wave: &Wave<'_>, from: usize, step: &Step, far: &Lengths) -> bool
     requires wave { IsWave wave.now }
     requires from { from < size wave.now }
     requires count { length (lengths_in far.now) ≡ size wave.now }
+    requires low { AreLow (lengths_in far.now) }
     ensures { result ≡ true → IsStepTried wave.now from step.now (lengths_in far.now) }
 {
     let units = match in_units(wave.unit, step.length) {
@@ -169,6 +170,7 @@ fn are_tried(wave: &Wave<'_>, place: usize, far: &Lengths) -> bool
     requires wave { IsWave wave.now }
     requires place { place < size wave.now }
     requires count { length (lengths_in far.now) ≡ size wave.now }
+    requires low { AreLow (lengths_in far.now) }
     ensures { result ≡ true → AreStepsTried wave.now place (lengths_in far.now) }
 {
     let face = wave.listed.faces[place];
@@ -378,6 +380,7 @@ fn rows_within<'a>(
     requires odd { length odd.now ≤ 2048 }
     requires order { IsOrder (length odd.now) order.now }
     requires unit { 0 < unit }
+    requires limit { limit < 2 ^ 30 }
     ensures { IfOk result (λ o. IfSome o (λ dists. AreUnitRows dual.now.crosses odd.now unit limit (distances_in dists))) }
 {
     let wave = Wave {
@@ -416,6 +419,7 @@ pub fn wave_rows(
     requires odd { AreTerminals dual.now odd.now }
     requires few { length odd.now ≤ 2048 }
     requires unit { 0 < unit }
+    requires limit { limit < 2 ^ 30 }
     ensures { IfOk result (λ o. IfSome o (λ dists. AreUnitRows dual.now.crosses odd.now unit limit (distances_in dists))) }
 {
     let near = unit.saturating_mul(limit as u64) / 2;
