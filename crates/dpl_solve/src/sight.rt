@@ -418,8 +418,8 @@ pub fn next_margin(sight: &Sight<'_>) -> u64
     grown(sight.margin, greatest(sight.nearest))
 }
 
-/// From so many odd faces on the margin of a table is wide, whether they are a crowd or not.
-const LARGE: usize = 1000;
+/// From so many odd faces on the margin of a table is wide, whether they are a crowd or not, and a table is due sooner.
+pub const LARGE: usize = 1000;
 
 /// The margin of a table. In a crowd it is the one that would be tried next: a table of all distances costs little more where
 /// faces see farther, and to pair them twice costs as much again. Where a face of a crowd, or of a large part, would be
