@@ -435,6 +435,8 @@ def single():
     yield "31 times ten shaken rows of 161 boxes, coprime weights", layout(small), COPRIME
     long = parts_apart(shaken_rows(536, 4, 39, 51, 10, 25_618, 11), 23)
     yield "23 times four shaken rows of 536 boxes", layout(long), OPTIONS
+    wide = parts_apart(shaken_rows(545, 4, 35, 47, 5, 361_900, 29), 22)
+    yield "22 times four shaken rows of 545 boxes", layout(wide), OPTIONS
     short = parts_apart(shaken_rows(50, 19, 60, 38, 5, 952_597, 30), 52)
     yield "52 times nineteen shaken rows of 50 boxes, great weights", layout(short), GREAT
     five = parts_apart(shaken_rows(273, 5, 59, 50, 9, 755_409, 29), 36)
