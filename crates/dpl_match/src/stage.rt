@@ -16,19 +16,19 @@ const LEAST_LEVEL: u64 = 1 << 60;
 
 /// From so many members on tops are paired at once where all distances stand in a table. Fewer take little time one by one,
 /// and where few are near each other, few trees grow large.
-const MANY: usize = 1000;
+pub const LARGE: usize = 1000;
 
 /// Whether tops are paired at once.
 pub fn are_paired_at_once(metric: &Metric) -> bool
     ensures { result ≡ true → 8 ≤ metric.now.size }
 {
-    metric.size() >= MANY && metric.is_full()
+    metric.size() >= LARGE && metric.is_full()
 }
 
 /// The outer members that were taken in, and for each member the nearest of them with another top, or what bounds its key.
 /// The origin is an outer member throughout the stage. A change of values adds as much to the sum over
 /// each outer member, so that keys stay as they are.
-/// No key is more than the radius of its member and the ceiling. Of the members outside of the tree
+/// No key is more than the radius of its member and the ceiling. Of the members outside of the trees
 /// none before the front is reached by a pair without slack, so that a scan for these begins there.
 #[derive(Drop)]
 pub struct OuterTable {
@@ -86,7 +86,7 @@ impl OuterTable {
     }
 }
 
-/// The tree of a stage, the nearest outer members, and the single members without a mate, where the stage may end.
+/// The trees of a stage, the nearest outer members, and the single members without a mate, where a tree may end.
 #[derive(Drop)]
 pub struct Stage {
     pub tree: Tree,

@@ -14,6 +14,7 @@ ghost use Rattle.dpl_solve.specs.Places.{IsListed};
 use crate::places::{Listed, note_all, place_of};
 use dpl_dual::types::Distances;
 use dpl_dual::{Dual, distances, distances_within};
+use dpl_match::LARGE;
 use std::alloc::{AllocError, Global};
 
 /// No distance between two faces of a part comes near this limit.
@@ -417,9 +418,6 @@ pub fn next_margin(sight: &Sight<'_>) -> u64
 {
     grown(sight.margin, greatest(sight.nearest))
 }
-
-/// From so many odd faces on the margin of a table is wide, whether they are a crowd or not, and a table is due sooner.
-pub const LARGE: usize = 1000;
 
 /// The margin of a table. In a crowd it is the one that would be tried next: a table of all distances costs little more where
 /// faces see farther, and to pair them twice costs as much again. Where a face of a crowd, or of a large part, would be
