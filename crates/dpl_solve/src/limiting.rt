@@ -12,11 +12,14 @@ ghost use Rattle.dpl_tree.specs.Rows.{distances_in};
 ghost use Rattle.dpl_solve.specs.Limits.{IsScale, AreMedium, IsRowLimited, AreLimited};
 ghost use Rattle.dpl_solve.specs.Metrics.{AreNearPut, entry};
 
-use crate::waves::wave_rows;
+use crate::waves::{are_searched, wave_rows};
 use dpl_dual::Dual;
 use dpl_dual::types::Distances;
 use dpl_match::Rows;
 use std::alloc::{AllocError, Global};
+
+/// Each radius is less than this where waves are sent out whatever the weights are.
+pub const WAVES_LIMIT: u64 = 1 << 29;
 
 /// No radius is more units than this where lengths have 16 bits.
 const MOST_SHORT_RADIUS: u64 = 32767;
@@ -86,7 +89,7 @@ fn short_scale(most: u64, length: u64) -> Option<Scale>
 fn medium_scale(most: u64) -> Option<Scale>
     ensures { IfSome result (IsScale most) }
 {
-    if most >= 1 << 29 {
+    if most >= WAVES_LIMIT {
         return None;
     }
     Some(Scale {
@@ -298,8 +301,8 @@ fn rows_in(
     }
 }
 
-/// The distances of the odd faces of a part, row by row, up to both radii, by waves. None where the radii are too great, or
-/// the waves find not all.
+/// The distances of the odd faces of a part, row by row, up to both radii, by waves. None where the radii are too great, the
+/// waves find not all, or searches take less time.
 pub fn rows_by_waves(
     alloc: Global,
     dual: &Dual,
@@ -316,6 +319,10 @@ pub fn rows_by_waves(
         (slice_index radii.now) (distances_in rows))) }
 {
     let most = greatest(radii);
+    let middle = radii[odd.len() / 2];
+    if are_searched(dual, odd, middle.saturating_mul(2), reach)? {
+        return Ok(None);
+    }
     let length = common(dual.rows.greatest, dual.rows.least);
     match short_scale(most, length) {
         Some(scale) => {

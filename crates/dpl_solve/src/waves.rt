@@ -17,7 +17,7 @@ use crate::gathering::gathered;
 use crate::lengths::{Lengths, WIDTH};
 use crate::places::{Listed, note_all, place_of};
 use dpl_dual::types::Distances;
-use dpl_dual::{Dual, Step, distances};
+use dpl_dual::{Dual, Step, distances, distances_within};
 use dpl_match::Rows;
 use std::alloc::{AllocError, Global};
 
@@ -403,9 +403,34 @@ fn rows_within<'a>(
     Ok(Some(dists))
 }
 
+/// No wave is sent over more faces, since it takes up to 256 bytes for each.
+const MOST_FACES: usize = 1 << 18;
+
+/// Whether searches from the odd faces of a part up to so far take less time than waves: most faces are not odd, and less than
+/// an eighth of them are so near the middle odd one. A wave comes to all faces of a part, and takes as long for one of them as
+/// a search for about eight.
+pub fn are_searched(
+    dual: &Dual,
+    odd: &[u32],
+    far: u64,
+    reach: &mut Distances,
+) -> Result<bool, AllocError>
+    requires dual { CameFromDual dual.now }
+    requires odd { AreTerminals dual.now odd.now }
+{
+    let middle = odd[odd.len() / 2];
+    distances(dual, middle, reach)?;
+    let all = reach.reached().len();
+    if all <= 4 * odd.len() {
+        return Ok(false);
+    }
+    distances_within(dual, middle, far, reach)?;
+    Ok(reach.reached().len() < all / 8)
+}
+
 /// The distances of the odd faces of a part, row by row, in units up to a limit. None where some step is not a whole number of
-/// units, or the part has far more faces. It costs for every 64 odd ones the faces of the part that one of them is near, some
-/// times over, and the square of the number of odd faces.
+/// units, or the part has too many faces. It costs for every 64 odd ones the faces of the part, and those that one of them is
+/// near some times over, and the square of the number of odd faces.
 pub fn wave_rows(
     alloc: Global,
     dual: &Dual,
@@ -426,7 +451,7 @@ pub fn wave_rows(
     let order = gathered(alloc, dual, odd, near, reach, places)?;
     distances(dual, odd[odd.len() / 2], reach)?;
     let faces = reach.reached();
-    if faces.len() > 4 * odd.len() {
+    if faces.len() > MOST_FACES {
         return Ok(None);
     }
     note_all(places, dual.faces, faces)?;
