@@ -11,9 +11,10 @@ ghost use Rattle.dpl_solve.specs.Works.{IsDrawn};
 
 use crate::drawn::Drawn;
 use crate::joins::{join_pairs, mate_of};
-use crate::metrics::{all_radii, all_rows, near_rows};
+use crate::metrics::{all_rows, near_rows};
+use crate::radii::{Raise, all_radii, raise_apart};
 use crate::sight::{
-    FULL_LIMIT, Sight, all_nearest, first_margin, is_crowd, next_margin, table_margin,
+    FULL_LIMIT, Sight, all_nearest, first_margin, is_crowd, next_margin, table_margin, usual_far,
 };
 use crate::work::Joined;
 use dpl_dual::types::Distances;
@@ -36,6 +37,7 @@ fn look_at_all(
     drawn: &Drawn<'_>,
     terminals: &[u32],
     sight: &Sight<'_>,
+    raises: &[Raise],
     reach: &mut Distances,
     places: &mut Vec<usize>,
 ) -> Result<Seen, AllocError>
@@ -54,7 +56,7 @@ fn look_at_all(
         u < length terminals.now → IsApart drawn.now.dual.now.crosses terminals.now
         (slice_index m.radii.items) s u (dist_of m.metric s u)) }
 {
-    let radii = all_radii(alloc, drawn.dual, terminals, sight)?;
+    let radii = all_radii(alloc, drawn.dual, terminals, sight, raises, reach)?;
     let rows = all_rows(alloc, drawn.dual, terminals, &radii, reach, places)?;
     let copied = Vec::from_slice(alloc, &radii)?;
     let metric = Metric::new(alloc, terminals.len() as u32, rows, copied)?;
@@ -71,6 +73,7 @@ fn look(
     drawn: &Drawn<'_>,
     terminals: &[u32],
     sight: &Sight<'_>,
+    raises: &[Raise],
     reach: &mut Distances,
     places: &mut Vec<usize>,
 ) -> Result<Seen, AllocError>
@@ -89,7 +92,7 @@ fn look(
         u < length terminals.now → IsApart drawn.now.dual.now.crosses terminals.now
         (slice_index m.radii.items) s u (dist_of m.metric s u)) }
 {
-    let radii = all_radii(alloc, drawn.dual, terminals, sight)?;
+    let radii = all_radii(alloc, drawn.dual, terminals, sight, raises, reach)?;
     match near_rows(
         alloc,
         drawn.dual,
@@ -111,7 +114,7 @@ fn look(
         None => {
             let margin = table_margin(drawn.dual, terminals, sight, reach)?;
             let wider = Sight { margin, ..*sight };
-            let seen = look_at_all(alloc, drawn, terminals, &wider, reach, places)?;
+            let seen = look_at_all(alloc, drawn, terminals, &wider, raises, reach, places)?;
             Ok(seen)
         }
     }
@@ -138,12 +141,13 @@ fn are_near(metric: &Metric, radii: &[u64], mate: &[u32]) -> bool
 }
 
 /// Joins the odd faces of a part in pairs that see each other, along chains that are as long as a family
-/// weighs. None where some of the pairs of least length do not.
+/// weighs. None where some of the pairs of least length do not; then it is noted which faces are to look farther.
 fn join_within<L: Ledger>(
     alloc: Global,
     drawn: &Drawn<'_>,
     terminals: &[u32],
     sight: &Sight<'_>,
+    raises: &mut Vec<Raise>,
     joined: &mut Joined,
     steps: &mut Steps<L>,
 ) -> Result<Option<Family>, AllocError>
@@ -164,6 +168,7 @@ fn join_within<L: Ledger>(
         drawn,
         terminals,
         sight,
+        raises.as_slice(),
         &mut joined.reach,
         &mut joined.places,
     )?;
@@ -172,6 +177,16 @@ fn join_within<L: Ledger>(
         Err(no_memory) => return Err(no_memory),
     };
     if !are_near(&seen.metric, &seen.radii, &mate) {
+        raise_apart(
+            drawn.dual,
+            terminals,
+            &seen.metric,
+            &seen.radii,
+            &mate,
+            sight,
+            &mut joined.reach,
+            raises,
+        )?;
         return Ok(None);
     }
     join_pairs(alloc, drawn.dual, terminals, &seen.metric, &mate, joined)?;
@@ -206,14 +221,24 @@ pub fn join_all<L: Ledger>(
         &mut joined.reach,
     )?;
     let is_crowd = is_crowd(drawn.dual, terminals, &mut joined.reach)?;
-    let mut margin = first_margin(alloc, drawn.dual, terminals, &nearest, &mut joined.reach)?;
+    let usual = usual_far(alloc, &nearest)?;
+    let mut margin = first_margin(
+        alloc,
+        drawn.dual,
+        terminals,
+        &nearest,
+        usual,
+        &mut joined.reach,
+    )?;
+    let mut raises = Vec::new(alloc);
     for _try in 0..tries {
         let sight = Sight {
             nearest: &nearest,
             margin,
+            usual,
             is_crowd,
         };
-        match join_within(alloc, drawn, terminals, &sight, joined, steps)? {
+        match join_within(alloc, drawn, terminals, &sight, &mut raises, joined, steps)? {
             Some(family) => return Ok(family),
             None => {}
         }
@@ -222,9 +247,10 @@ pub fn join_all<L: Ledger>(
     let sight = Sight {
         nearest: &nearest,
         margin: FULL_LIMIT,
+        usual,
         is_crowd,
     };
-    match join_within(alloc, drawn, terminals, &sight, joined, steps)? {
+    match join_within(alloc, drawn, terminals, &sight, &mut raises, joined, steps)? {
         Some(family) => Ok(family),
         None => unreachable!(),
     }

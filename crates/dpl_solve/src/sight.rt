@@ -11,6 +11,7 @@ ghost use Rattle.dpl_pack.specs.Moats.{AreTerminals};
 ghost use Rattle.dpl_solve.specs.Metrics.{IsDistance, IsLimit, IsNearestOf, IsNearest, AreNearest, nearest_at};
 ghost use Rattle.dpl_solve.specs.Places.{IsListed};
 
+use crate::limiting::WAVES_LIMIT;
 use crate::places::{Listed, note_all, place_of};
 use dpl_dual::types::Distances;
 use dpl_dual::{Dual, distances, distances_within};
@@ -30,12 +31,13 @@ pub struct Nearest {
     pub place: usize,
 }
 
-/// What the faces of a list look by: the nearest one of each, and the margin. Whether they are a crowd says nothing of
-/// what they see.
+/// What the faces of a list look by: the nearest one of each, and the margin. By the usual distance margins grow. Whether
+/// the faces are a crowd says nothing of what they see.
 #[derive(Clone, Copy)]
 pub struct Sight<'a> {
     pub nearest: &'a [Nearest],
     pub margin: u64,
+    pub usual: u64,
     pub is_crowd: bool,
 }
 
@@ -193,16 +195,39 @@ fn greatest(nearest: &[Nearest]) -> u64
     most
 }
 
-/// By how much a face is farther from its nearest one, at most, than that is from its own nearest.
+/// By how much a face is farther from its nearest one than that is from its own nearest.
+fn step_of(nearest: &[Nearest], place: usize) -> u64
+    ensures { result ≤ 1099511627776 }
+{
+    match nearest.get(place) {
+        Some(near) => far_of(nearest, place).saturating_sub(far_of(nearest, near.place)),
+        None => 0,
+    }
+}
+
+/// The greatest of these steps.
 fn greatest_step(nearest: &[Nearest]) -> u64
     ensures { result ≤ 1099511627776 }
 {
     let mut most: u64 = 0;
     for i in 0..nearest.len() {
-        let next = far_of(nearest, nearest[i].place);
-        most = most.max(far_of(nearest, i).saturating_sub(next));
+        most = most.max(step_of(nearest, i));
     }
     most
+}
+
+/// A margin with which a face and its nearest one see each other, where each looks half as far as its nearest one lies and the
+/// margin farther.
+fn margin_for(step: u64) -> u64
+    requires { step ≤ 1099511627776 }
+    ensures { IsLimit result }
+{
+    step / 4 + 2
+}
+
+/// Whether a face and its nearest one see each other so with a margin.
+pub fn sees_nearest(nearest: &[Nearest], place: usize, margin: u64) -> bool {
+    margin >= margin_for(step_of(nearest, place))
 }
 
 /// A distance of a list, up to 2^40.
@@ -319,14 +344,23 @@ struct Fars {
     most: u64,
 }
 
+/// How far the faces of a list are from their nearest ones at most. Among many it is no more than 64 times as far as half of
+/// them are: a face that is farther from all others sees its nearest one by its own radius, and no other looks farther for it.
+pub fn usual_far(alloc: Global, nearest: &[Nearest]) -> Result<u64, AllocError> {
+    if nearest.len() < MANY {
+        return Ok(greatest(nearest));
+    }
+    let fars = all_fars(alloc, nearest)?;
+    Ok(fars.most.min(64 * fars.middle))
+}
+
 /// More than twice a margin, by a distance.
 fn grown(margin: u64, far: u64) -> u64
     requires margin { IsLimit margin }
-    requires far { far ≤ 1099511627776 }
     ensures limit { IsLimit result }
     ensures more { margin ≤ result }
 {
-    (2 * margin + far).min(FULL_LIMIT)
+    (2 * margin + far.min(FULL_LIMIT)).min(FULL_LIMIT)
 }
 
 /// The margin that is tried first among many faces, of which one is given. With the least one each sees its nearest.
@@ -393,13 +427,14 @@ pub fn first_margin(
     dual: &Dual,
     list: &[u32],
     nearest: &[Nearest],
+    usual: u64,
     reach: &mut Distances,
 ) -> Result<u64, AllocError>
     requires dual { CameFromDual dual.now }
     requires faces { All (λ f. f < dual.now.faces) list.now }
     ensures { IfOk result (λ margin. IsLimit margin) }
 {
-    let least = greatest_step(nearest) / 4 + 2;
+    let least = margin_for(greatest_step(nearest).min(usual));
     if nearest.len() < MANY {
         return Ok(least);
     }
@@ -416,13 +451,13 @@ pub fn next_margin(sight: &Sight<'_>) -> u64
     ensures limit { IsLimit result }
     ensures more { sight.now.margin ≤ result }
 {
-    grown(sight.margin, greatest(sight.nearest))
+    grown(sight.margin, sight.usual)
 }
 
 /// The margin of a table. In a crowd it is the one that would be tried next: a table of all distances costs little more where
 /// faces see farther, and to pair them twice costs as much again. Where a face of a crowd, or of a large part, would be
 /// nearer than that to more than two fifths as many faces as are listed, as beside an outer face that is next to many of
-/// them, it is two steps more.
+/// them, it is two steps more, but not where it sees many even faces and a search from each is due in place of waves.
 pub fn table_margin(
     dual: &Dual,
     list: &[u32],
@@ -446,11 +481,15 @@ pub fn table_margin(
     match list.get(list.len() / 2) {
         Some(face) => {
             distances_within(dual, *face, 2 * margin, reach)?;
-            if reach.reached().len() <= list.len() / 5 * 2 {
+            let near = reach.reached().len();
+            let wide = grown(grown(margin, sight.usual), sight.usual);
+            if near <= list.len() / 5 * 2 {
                 return Ok(margin);
             }
-            let most = greatest(sight.nearest);
-            Ok(grown(grown(margin, most), most))
+            if near > 2 * list.len() && greatest(sight.nearest) + wide >= WAVES_LIMIT {
+                return Ok(margin);
+            }
+            Ok(wide)
         }
         None => Ok(margin),
     }

@@ -15,7 +15,7 @@ pub are_near-requires-clause-sizes : goal.are_near-requires-clause-sizes
 are_near-requires-clause-sizes g c = rw c.deref.ensures.value (c.in_ok-seen.ensures.sizes ∙ sym c.in_ok-seen.ensures.size)
 
 pub are_near-requires-clause-small : goal.are_near-requires-clause-small
-are_near-requires-clause-small g c = λ k h. rw c.deref.ensures.value (c.in_ok-seen.ensures.radii k (omega (arith, h, c.in_ok-seen.ensures.size))).small
+are_near-requires-clause-small g c = λ k h. rw c.deref.ensures.value (c.in_ok-seen.ensures.radii.small k (omega (arith, h, c.in_ok-seen.ensures.size)))
 
 pub are_near-requires-clause-mate : goal.are_near-requires-clause-mate
 are_near-requires-clause-mate g c = rw c.deref-2.ensures.value c.in-Ok.ensures.pairing
@@ -33,7 +33,7 @@ returns-then-not-are_near g c =
     let least : c.args.sight.now.margin ≤ radius s + radius mate = omega (
       arith,
       c.in_ok-seen.ensures.margin,
-      (c.in_ok-seen.ensures.radii s hs).least,
+      c.in_ok-seen.ensures.radii.least s hs,
     ) in (
       refl,
       far_is_less c.args.drawn.now.graph.now (view_of c.args.drawn.now.map.now) c.args.drawn.now.dual.now c.requires.drawn.dual c.requires.drawn.edges _ _
@@ -71,3 +71,6 @@ returns g c =
     (subst (λ (z : List ℕ). ArePairsJoined c.args.drawn.now.dual.now.crosses c.args.terminals.now (slice_index z)
     (length c.args.terminals.now) c.args.joined.now.edges.items c.join_pairs.new.joined.edges.items) c.deref-3.ensures.value
     c.in_ok-join_pairs.ensures)
+
+pub raise_apart-requires-clause-small : goal.raise_apart-requires-clause-small
+raise_apart-requires-clause-small g c = λ k h. rw c.deref-then-not-are_near.ensures.value (c.in_ok-seen.ensures.radii.small k h)

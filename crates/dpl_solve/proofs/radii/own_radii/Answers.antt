@@ -1,7 +1,7 @@
 use Rattle.std.proofs.Common.{arith, ap, ◌+◌, ◌∙◌, length}
 use Rattle.std.proofs.lemmas.List.{length-append}
-use Rattle.dpl_solve.proofs.MetricLemmas.{radii_pushed}
-use Rattle.dpl_solve.proofs.metrics.all_radii.Goals as goal
+use Rattle.dpl_solve.proofs.RadiusLemmas.{radii_pushed}
+use Rattle.dpl_solve.proofs.radii.own_radii.Goals as goal
 
 pub loop-s-init : goal.loop-s-init
 loop-s-init c = record { count = omega arith; radii = λ s h. absurd (omega (arith, h)) }
