@@ -1,7 +1,8 @@
 -- Walks around a list of faces, whose marks are cleared again.
 use Rattle.std.proofs.Common.{arith, ◌≡◌, ℕ, zero, suc, ◌+◌, ◌*◌, ◌/◌, ◌%◌, ◌<◌, ◌≤◌, ◌&&◌, refl, sym, ap}
 use Rattle.std.proofs.Common.{◌∙◌, Bool, true, false, cond, inl, inr, List, [], ◌∷◌, length, get_or, take, set}
-use Rattle.std.proofs.Common.{get_or-set_same, get_or-set_other}
+use Rattle.std.proofs.Common.{◌++◌, All, subst, length-set, get_or-set_same, get_or-set_other}
+use Rattle.std.proofs.lemmas.List.Elements.{All-append, All-cons, All-nil}
 use Rattle.std.specs.Prelude.{not, count_by, filter}
 use Rattle.std.specs.List.{range_with_len}
 use Rattle.std.proofs.lemmas.Bool.{cases_eq, cases_lt, cases_Bool, cond-true, cond-false, and_parts}
@@ -13,12 +14,12 @@ use Rattle.dpl_sign.specs.declared.walks.Walk.{Walk}
 use Rattle.dpl_sign.specs.Drawings.{is_in}
 use Rattle.dpl_cycle.specs.Sums.{sum_on}
 use Rattle.dpl_laminar.specs.Families.{has}
-use Rattle.dpl_laminar.proofs.Numbers.{taken_has, not_taken}
+use Rattle.dpl_laminar.proofs.Numbers.{has_head, has_tail, taken_has, not_taken}
 use Rattle.dpl_map.specs.Views.{MapView}
-use Rattle.dpl_map.specs.Sides.{IsMap, is_kept, face, is_odd_face, odd_faces_in, row}
+use Rattle.dpl_map.specs.Sides.{IsMap, is_kept, face, is_odd_face, odd_faces_in}
 use Rattle.dpl_pack.specs.Moats.{IsWritten}
-use Rattle.dpl_pack.specs.Marks.{AreClear, AreCleared}
-use Rattle.dpl_pack.specs.Traces.{is_seen, AreWhole, IsRoundWalk, IsAround, odd_list}
+use Rattle.dpl_pack.specs.Marks.{AreClear, AreCleared, AreNoted}
+use Rattle.dpl_pack.specs.Traces.{IsRoundWalk, IsAround, odd_list}
 use Rattle.dpl_map.proofs.RowLemmas.{chosen_split}
 
 -- ---- marks
@@ -131,46 +132,42 @@ around_of g m k faces inside w size written r = record {
           absurd (true≢false (sym h ∙ ap (λ z. get_or m.kept z false) half ∙ get_or_past m.kept e false (omega (arith, a, k.edges))))
     ]
 
--- ---- the darts that were seen are those of the faces
+-- ---- marks that are noted
 
-pub darts_cleared : (g : Signed) (m : MapView) → IsMap g m → (faces : List ℕ) (inside seen new : List Bool)
-    → length inside ≡ m.faces → IsWritten faces inside → AreWhole g m inside seen
-    → ((d : ℕ) → is_seen new d ≡ true → (is_seen seen d ≡ true) × ((f : ℕ) → has faces f ≡ true → has (row m f) d ≡ false))
-    → AreClear new
-darts_cleared g m k faces inside seen new size w whole left d = false_from_ne_true (is_seen new d) (λ t.
-    let was = left d t in
-    let below : d < 2 * length g.edges = elim (cases_lt d (2 * length g.edges)) [
-      | inl l ↦ l
-      | inr l ↦ absurd (true≢false (sym was.0 ∙ get_or_past seen d false (omega (arith, l, whole.sizes))))
-    ] in
-    let active = and_parts (is_kept m d) (is_in inside (face m d)) (whole.active d below was.0) in
-    let listed : has faces (face m d) ≡ true = sym (w (face m d) (omega (arith, size, k.inside d below active.0))) ∙ active.1 in
-    true≢false (sym (k.all d below active.0) ∙ was.1 (face m d) listed))
+has_more : (xs ys : List ℕ) (x : ℕ) → has xs x ≡ true → has (xs ++ ys) x ≡ true
+has_more [] ys x h = absurd (false≢true h)
+has_more (c ∷ cs) ys x h = elim (cases_eq c x) [
+  | inl e ↦ has_head c x (cs ++ ys) e
+  | inr ne ↦ has_tail c x (cs ++ ys) ne ∙ has_more cs ys x (sym (has_tail c x cs ne) ∙ h)
+]
 
--- the darts of one face more are cleared
-pub darts_none : (m : MapView) (faces : List ℕ) (seen : List Bool) → (d : ℕ) → is_seen seen d ≡ true
-    → (is_seen seen d ≡ true) × ((f : ℕ) → has (take 0 faces) f ≡ true → has (row m f) d ≡ false)
-darts_none m faces seen d t = (t, λ f q. absurd (false≢true q))
+has_last : (xs : List ℕ) (x : ℕ) → has (xs ++ x ∷ []) x ≡ true
+has_last [] x = has_head x x [] refl
+has_last (c ∷ cs) x = elim (cases_eq c x) [
+  | inl e ↦ has_head c x (cs ++ x ∷ []) e
+  | inr ne ↦ has_tail c x (cs ++ x ∷ []) ne ∙ has_last cs x
+]
 
-pub darts_more : (m : MapView) (faces : List ℕ) (old now new : List Bool) (places : List ℕ) (i : ℕ)
-    → i < length faces → places ≡ m.rows (get_or faces i 0) → AreCleared places now new
-    → ((d : ℕ) → is_seen now d ≡ true → (is_seen old d ≡ true) × ((f : ℕ) → has (take i faces) f ≡ true → has (row m f) d ≡ false))
-    → (d : ℕ) → is_seen new d ≡ true
-    → (is_seen old d ≡ true) × ((f : ℕ) → has (take (i + 1) faces) f ≡ true → has (row m f) d ≡ false)
-darts_more m faces old now new places i hi e c before d t =
-    let parts = and_parts (is_seen now d) (not (has places d)) (sym (c d) ∙ t) in
-    let was = before d parts.0 in (
-      was.0,
-      λ f q. elim (cases_eq (get_or faces i 0) f) [
-        | inl same ↦ ap (λ z. has z d) (ap (λ z. m.rows z) (sym same) ∙ sym e) ∙ not-true (has places d) parts.1
-        | inr other ↦ was.1 f (sym (not_taken faces i f hi other) ∙ q)
-      ],
-    )
+pub noted_none : (marks : List Bool) → AreClear marks → AreNoted [] marks
+noted_none marks c = record {
+  each = λ x t. absurd (false≢true (sym (c x) ∙ t));
+  below = λ k d h. absurd (omega (arith, h));
+}
 
-pub darts_done : (m : MapView) (faces : List ℕ) (old now : List Bool) (i : ℕ) → length faces ≤ i
-    → ((d : ℕ) → is_seen now d ≡ true → (is_seen old d ≡ true) × ((f : ℕ) → has (take i faces) f ≡ true → has (row m f) d ≡ false))
-    → (d : ℕ) → is_seen now d ≡ true
-    → (is_seen old d ≡ true) × ((f : ℕ) → has faces f ≡ true → has (row m f) d ≡ false)
-darts_done m faces old now i h before d t =
-    let was = before d t in
-    (was.0, λ f q. was.1 f (ap (λ z. has z f) (take_all i faces h) ∙ q))
+pub noted_more : (places new : List ℕ) (marks : List Bool) (p : ℕ) → p < length marks → new ≡ places ++ p ∷ []
+    → AreNoted places marks → AreNoted new (set marks p true)
+noted_more places new marks p h e n = record {
+  each = λ x t. ap (λ z. has z x) e ∙ elim (cases_eq x p) [
+    | inl q ↦ ap (λ z. has (places ++ p ∷ []) z) q ∙ has_last places p
+    | inr ne ↦ has_more places (p ∷ []) x (n.each x (sym (get_or-set_other marks p x true false ne) ∙ t))
+  ];
+  below = subst (All (λ x. x < length (set marks p true))) (sym e) (All-append (λ x. x < length (set marks p true)) places (p ∷ [])
+      (λ k d l. omega (arith, n.below k d l, length-set marks p true))
+      (All-cons (λ x. x < length (set marks p true)) p [] (omega (arith, h, length-set marks p true))
+      (All-nil (λ x. x < length (set marks p true)))));
+}
+
+pub noted_cleared : (places : List ℕ) (marks new : List Bool) → AreNoted places marks → AreCleared places marks new → AreClear new
+noted_cleared places marks new n c x = false_from_ne_true (get_or new x false) (λ t.
+    let parts = and_parts (get_or marks x false) (not (has places x)) (sym (c x) ∙ t) in
+    true≢false (sym (n.each x parts.0) ∙ not-true (has places x) parts.1))

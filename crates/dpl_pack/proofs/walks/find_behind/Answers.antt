@@ -7,7 +7,10 @@ use Rattle.dpl_pack.proofs.OddLemmas.{nothing_searched, row_active}
 use Rattle.dpl_pack.proofs.walks.find_behind.Goals as goal
 
 pub loop-i-init : goal.loop-i-init
-loop-i-init c = nothing_searched c.args.graph.now (view_of c.args.map.now) _ _ c.requires.darts c.requires.clear
+loop-i-init c = record {
+  searched = nothing_searched c.args.graph.now (view_of c.args.map.now) _ _ c.requires.darts c.requires.clear;
+  noted = λ n. n;
+}
 
 pub search-requires-clause-map : goal.search-requires-clause-map
 search-requires-clause-map c = map_of c.args.graph.now c.args.map.now c.requires.map
@@ -23,5 +26,8 @@ search-requires-clause-row c =
 
 pub loop-i-preserved : goal.loop-i-preserved
 loop-i-preserved c =
-    let s = rw c.in-None-default.is-0 at c.in_ok-walk.ensures in
-    record { whole = s.whole; even = s.even; all = λ d h act l. absurd (false≢true l) }
+    let s = rw c.in-None-default.is-0 at c.in_ok-walk.ensures.found in
+    record {
+      searched = record { whole = s.whole; even = s.even; all = λ d h act l. absurd (false≢true l) };
+      noted = λ n. c.in_ok-walk.ensures.noted (c.loop-i.invariant.noted n);
+    }
