@@ -28,6 +28,7 @@ MOST_REPORT = 268_435_456
 OPTIONS = ["--layer", "M", "--space", "100", "--overlap", "20"]
 GREAT = [*OPTIONS, "--stitch", "100000", "--conflict", "1000000"]
 COPRIME = [*OPTIONS, "--stitch", "99991", "--conflict", "999983"]
+CORNERS = [*COPRIME, "--corner", "500009"]
 WIDE = ["--layer", "M", "--space", "10000", "--overlap", "20"]
 WIDEST = ["--layer", "M", "--space", "100000", "--overlap", "20"]
 
@@ -325,17 +326,41 @@ def shaken_grids(count):
         yield from ((x + x1, y + y1, x + x2, y + y2) for x1, y1, x2, y2 in shaken_grid(1_600, 45, 8, k))
 
 
+def ring(x, y, half):
+    """Five wires around a place, half as far from it as their ring is wide: odd many, each close to the next."""
+    yield (x + 100 - half, y + half - 50, x - 40, y + half)
+    yield (x + 40, y + half - 50, x + half - 100, y + half)
+    yield (x + half - 50, y + 130 - half, x + half, y + half - 130)
+    yield (x + 100 - half, y - half, x + half - 100, y + 50 - half)
+    yield (x - half, y + 130 - half, x + 50 - half, y + half - 130)
+
+
+def nest(x, y, rings, half):
+    """Rings around one another, whose hole is an odd face and all faces between them are even."""
+    for k in range(rings):
+        yield from ring(x, y, half + 130 * k)
+
+
+def nests(count, across, rings):
+    """So many nests, so many of them in a row, each close to the next."""
+    pitch = 2 * (400 + 130 * (rings - 1)) + 60
+    for k in range(count):
+        yield from nest(pitch * (k % across), pitch * (k // across), rings, 400)
+
+
 def rings_and_strip(rings, boxes):
-    """Rings of five wires around one another, whose hole is an odd face far from all others, and a strip beside the last."""
-    half = 400
-    for _ in range(rings):
-        yield (100 - half, half - 50, -40, half)
-        yield (40, half - 50, half - 100, half)
-        yield (half - 50, 130 - half, half, half - 130)
-        yield (100 - half, -half, half - 100, 50 - half)
-        yield (-half, 130 - half, 50 - half, half - 130)
-        half += 130
-    yield from ((half - 50 + x1, y1, half - 50 + x2, y2) for x1, y1, x2, y2 in strip(boxes))
+    """A nest whose hole is far from all other odd faces, and a strip beside the last ring."""
+    yield from nest(0, 0, rings, 400)
+    edge = 350 + 130 * rings
+    yield from ((edge + x1, y1, edge + x2, y2) for x1, y1, x2, y2 in strip(boxes))
+
+
+def rings_between_strips(inner, rings, outer):
+    """A nest with a strip in its hole and one beside the last ring."""
+    yield from ((x1 - 3_870, y1, x2 - 3_870, y2) for x1, y1, x2, y2 in strip(inner))
+    yield from nest(0, 0, rings, 4_000)
+    edge = 3_950 + 130 * rings
+    yield from ((edge + x1, y1, edge + x2, y2) for x1, y1, x2, y2 in strip(outer))
 
 
 def boxes_between(n, places):
@@ -444,6 +469,13 @@ def single():
     grids = parts_apart(shaken_rows(44, 44, 45, 38, 9, 1, 0), 25)
     yield "25 times a shaken grid of 44 by 44 boxes, 45 and 38 apart", layout(grids), OPTIONS
     yield "9,580 rings of wires and a strip: 2,046 odd faces", layout(rings_and_strip(9_580, 2_046)), OPTIONS
+    yield "the same, three lengths", layout(rings_and_strip(9_580, 2_046)), CORNERS
+    between = rings_between_strips(5, 9_000, 2_036)
+    yield "9,000 rings of wires between strips, three lengths", layout(between), CORNERS
+    yield "1,000 nests of nine rings in a square", layout(nests(1_000, 32, 9)), OPTIONS
+    yield "1,000 nests of nine rings in a square, three lengths", layout(nests(1_000, 32, 9)), CORNERS
+    yield "500 nests of nineteen rings in a square", layout(nests(500, 23, 19)), OPTIONS
+    yield "2,000 nests of five rings in a row, three lengths", layout(nests(2_000, 2_000, 5)), CORNERS
 
 
 def layers(named):
