@@ -4,7 +4,7 @@ use Rattle.std.proofs.Common.{[], ◌∷◌, ◌++◌, append_assoc, length, get
 use Rattle.std.specs.Prelude.{slice_set, MatchOption}
 use Rattle.std.specs.List.Sorted.{IsPermutation}
 use Rattle.std.proofs.Math.Path.{subst₂}
-use Rattle.std.proofs.lemmas.List.{drop_all}
+use Rattle.std.proofs.lemmas.List.{append-nil, drop_all}
 use Rattle.std.proofs.lemmas.List.Sorted.{IsPermutation-refl, IsPermutation-sym, IsPermutation-trans, IsPermutation-middle}
 use Rattle.std.proofs.lemmas.List.Sorted.{IsPermutation-append_left, IsPermutation-append_right}
 use Rattle.dpl_dual.specs.Queues.{all_of, IsTaken}
@@ -37,7 +37,7 @@ none_left xs empty n h none = none ∙ sym (drop_all n xs h)
 
 -- ---- several queues
 
-behind : (front old new : List (ℕ × ℕ)) (x : ℕ × ℕ) → IsPermutation (x ∷ old) new → IsPermutation (x ∷ (front ++ old)) (front ++ new)
+pub behind : (front old new : List (ℕ × ℕ)) (x : ℕ × ℕ) → IsPermutation (x ∷ old) new → IsPermutation (x ∷ (front ++ old)) (front ++ new)
 behind front old new x p = IsPermutation-trans _ _ _ (IsPermutation-sym _ _ (IsPermutation-middle front x old))
     (IsPermutation-append_right front _ _ p)
 
@@ -81,44 +81,40 @@ pushed old mid new view k x v same h e =
     let P : List (List (ℕ × ℕ)) → Type 0 = λ z. IsPermutation (x ∷ all_of mid) (all_of z) in
     subst (λ z. IsPermutation (x ∷ z) (all_of new)) (same ∙ v) (subst P (sym e) (added mid k x h))
 
--- ---- the first two queues
+-- ---- one queue alone
 
-pub first_popped : (a a' b : List (ℕ × ℕ)) (x : ℕ × ℕ) → a ≡ x ∷ a' → IsPermutation (a ++ b) (x ∷ (a' ++ b))
-first_popped a a' b x e = subst (λ z. IsPermutation (z ++ b) (x ∷ (a' ++ b))) (sym e) (IsPermutation-refl _)
+pub one_popped : (old new : List (ℕ × ℕ)) (r : Option (ℕ × ℕ)) → MatchOption r ((old ≡ []) × (new ≡ [])) (λ x. old ≡ x ∷ new) → IsTaken old new r
+one_popped old new None e = e
+one_popped old new (Some x) e = subst (IsPermutation old) e (IsPermutation-refl old)
 
-second_taken : (a b b' : List (ℕ × ℕ)) (x : ℕ × ℕ) → b ≡ x ∷ b' → IsPermutation (a ++ b) (x ∷ (a ++ b'))
-second_taken a b b' x e = subst (λ z. IsPermutation (a ++ z) (x ∷ (a ++ b'))) (sym e) (IsPermutation-middle a x b')
+pub one_pushed : (old new : List (ℕ × ℕ)) (x : ℕ × ℕ) → new ≡ old ++ x ∷ [] → IsPermutation (x ∷ old) new
+one_pushed old new x e = subst₂ (λ from to. IsPermutation (x ∷ from) to) (append-nil old) (sym e)
+    (IsPermutation-sym _ _ (IsPermutation-middle old x []))
 
-pub second_popped : (a b b' : List (ℕ × ℕ)) (r : Option (ℕ × ℕ)) → 0 < length b
-    → MatchOption r ((b ≡ []) × (b' ≡ [])) (λ x. b ≡ x ∷ b') → IsTaken (a ++ b) (a ++ b') r
-second_popped a b b' None some e = absurd (omega (arith, some, ap length e.0))
-second_popped a b b' (Some x) some e = second_taken a b b' x e
+-- ---- those in front, and the rest behind them
 
-pub second_alone : (a a' b b' : List (ℕ × ℕ)) (r : Option (ℕ × ℕ)) → (a ≡ []) × (a' ≡ [])
-    → MatchOption r ((b ≡ []) × (b' ≡ [])) (λ x. b ≡ x ∷ b') → IsTaken (a ++ b) (a' ++ b') r
-second_alone a a' b b' None n e = (ap (λ z. z ++ b) n.0 ∙ e.0, ap (λ z. z ++ b') n.1 ∙ e.1)
-second_alone a a' b b' (Some x) n e =
-    subst (λ z. IsPermutation (a ++ b) (x ∷ (z ++ b'))) (n.0 ∙ sym n.1) (second_taken a b b' x e)
+pub in_front : (rest old new : List (ℕ × ℕ)) (x : ℕ × ℕ) → IsPermutation (x ∷ old) new → IsPermutation (x ∷ (old ++ rest)) (new ++ rest)
+in_front rest old new x p = IsPermutation-append_left rest _ _ p
 
--- ---- those behind them
+pub as_seen : (view old new : List (ℕ × ℕ)) (x : ℕ × ℕ) → old ≡ view → IsPermutation (x ∷ old) new → IsPermutation (x ∷ view) new
+as_seen view old new x v p = subst (λ z. IsPermutation (x ∷ z) new) v p
 
-pub behind_two : (a b old new view : List (ℕ × ℕ)) (x : ℕ × ℕ) → a ++ (b ++ old) ≡ view → IsPermutation (x ∷ old) new
-    → IsPermutation (x ∷ view) (a ++ (b ++ new))
-behind_two a b old new view x v p = subst (λ z. IsPermutation (x ∷ z) (a ++ (b ++ new))) v (behind a _ _ x (behind b old new x p))
+pub front_taken : (front front' rest : List (ℕ × ℕ)) (x : ℕ × ℕ) → IsPermutation front (x ∷ front')
+    → IsPermutation (front ++ rest) (x ∷ (front' ++ rest))
+front_taken front front' rest x p = IsPermutation-append_left rest _ _ p
 
-pub two_taken : (a a' b b' rest : List (ℕ × ℕ)) (x : ℕ × ℕ) → IsPermutation (a ++ b) (x ∷ (a' ++ b'))
-    → IsPermutation (a ++ (b ++ rest)) (x ∷ (a' ++ (b' ++ rest)))
-two_taken a a' b b' rest x p = subst₂ (λ old new. IsPermutation old (x ∷ new)) (append_assoc a b rest) (append_assoc a' b' rest)
-    (IsPermutation-append_left rest _ _ p)
+pub front_popped : (front front' rest : List (ℕ × ℕ)) (r : Option (ℕ × ℕ)) → rest ≡ [] → IsTaken front front' r
+    → IsTaken (front ++ rest) (front' ++ rest) r
+front_popped front front' rest None e n = (ap (λ z. z ++ rest) n.0 ∙ e, ap (λ z. z ++ rest) n.1 ∙ e)
+front_popped front front' rest (Some x) e p = front_taken front front' rest x p
 
-none_and : (a b rest : List (ℕ × ℕ)) → a ++ b ≡ [] → a ++ (b ++ rest) ≡ rest
-none_and a b rest e = sym (append_assoc a b rest) ∙ ap (λ z. z ++ rest) e
+pub rest_popped : (front front' old new : List (ℕ × ℕ)) (r : Option (ℕ × ℕ)) → (front ≡ []) × (front' ≡ [])
+    → IsTaken old new r → IsTaken (front ++ old) (front' ++ new) r
+rest_popped front front' old new r n t = subst₂ (λ x y. IsTaken x y r) (ap (λ z. z ++ old) (sym n.0)) (ap (λ z. z ++ new) (sym n.1)) t
 
-pub two_popped : (a a' b b' rest : List (ℕ × ℕ)) (r : Option (ℕ × ℕ)) → rest ≡ [] → IsTaken (a ++ b) (a' ++ b') r
-    → IsTaken (a ++ (b ++ rest)) (a' ++ (b' ++ rest)) r
-two_popped a a' b b' rest None e n = (none_and a b rest n.0 ∙ e, none_and a' b' rest n.1 ∙ e)
-two_popped a a' b b' rest (Some x) e p = two_taken a a' b b' rest x p
-
-pub rest_popped : (a a' b b' old new : List (ℕ × ℕ)) (r : Option (ℕ × ℕ)) → (a ++ b ≡ []) × (a' ++ b' ≡ [])
-    → IsTaken old new r → IsTaken (a ++ (b ++ old)) (a' ++ (b' ++ new)) r
-rest_popped a a' b b' old new r n t = subst₂ (λ x y. IsTaken x y r) (sym (none_and a b old n.0)) (sym (none_and a' b' new n.1)) t
+-- where a label waits behind those in front
+pub behind_popped : (front old new : List (ℕ × ℕ)) (r : Option (ℕ × ℕ)) → 0 < length old → IsTaken old new r
+    → IsTaken (front ++ old) (front ++ new) r
+behind_popped front old new None some n = absurd (omega (arith, some, ap length n.0))
+behind_popped front old new (Some x) some p =
+    IsPermutation-trans _ _ _ (IsPermutation-append_right front _ _ p) (IsPermutation-middle front x new)

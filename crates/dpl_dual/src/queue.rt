@@ -1,6 +1,7 @@
 //! Labels that wait, each a length and a face. Those that came over ways of one length have a queue of
 //! their own: where they come in the order of their lengths, the nearest of all is the first of a queue. The ways have
-//! one or two lengths nearly always, so the first two queues stand apart, and no loop is needed where there are no more.
+//! at most three lengths nearly always (of a stitch, a conflict and a corner), so three queues stand apart, and no loop
+//! is needed where there are no more.
 
 ghost use Rattle.std.specs.Prelude.{◌≡◌, ◌<◌, ◌+◌, ◌^◌, ◌++◌, ◌∷◌, [], Some, length, slice_index_or, slice_set, IfOk, OnOk, MatchBool, MatchOption};
 ghost use Rattle.std.specs.List.Sorted.{IsPermutation};
@@ -119,7 +120,7 @@ fn place_for(alloc: Global, lanes: &mut Vec<Lane>, way: u64) -> Result<usize, Al
     Ok(count)
 }
 
-/// Puts a label into the queue for ways of a length, among those that stand behind the first two.
+/// Puts a label into the queue for ways of a length, among those that stand behind the first three.
 #[inline(never)]
 fn push_behind(
     alloc: Global,
@@ -200,22 +201,43 @@ fn pop_of_two(first: &mut Lane, second: &mut Lane) -> Option<(u64, u32)>
     }
 }
 
-/// Takes the nearest of the first labels, where queues stand behind the first two.
+/// Takes the nearest of the first labels of three queues.
+#[inline(always)]
+fn pop_of_three(first: &mut Lane, second: &mut Lane, third: &mut Lane) -> Option<(u64, u32)>
+    ensures { IsTaken ((first.old ++ second.old) ++ third.old)
+        ((first.new ++ second.new) ++ third.new) result }
+{
+    let least = third.first();
+    if (least < first.first()) & (least < second.first()) {
+        return third.pop();
+    }
+    match pop_of_two(first, second) {
+        Some(label) => Some(label),
+        None => third.pop(),
+    }
+}
+
+/// Takes the nearest of the first labels, where queues stand behind the first three.
 #[inline(never)]
-fn pop_of_all(first: &mut Lane, second: &mut Lane, others: &mut [Lane]) -> Option<(u64, u32)>
-    ensures { IsTaken (all_of (first.old ∷ second.old ∷ others.old))
-        (all_of (first.new ∷ second.new ∷ others.new)) result }
+fn pop_of_all(
+    first: &mut Lane,
+    second: &mut Lane,
+    third: &mut Lane,
+    others: &mut [Lane],
+) -> Option<(u64, u32)>
+    ensures { IsTaken (((first.old ++ second.old) ++ third.old) ++ all_of others.old)
+        (((first.new ++ second.new) ++ third.new) ++ all_of others.new) result }
 {
     let waiting = match first_waiting(others) {
         Some(place) => place,
-        None => return pop_of_two(first, second),
+        None => return pop_of_three(first, second, third),
     };
     let place = nearest(others, waiting);
     let least = others[place].first();
-    if (least < first.first()) & (least < second.first()) {
+    if (least < first.first()) & (least < second.first()) & (least < third.first()) {
         return take(others, place);
     }
-    match pop_of_two(first, second) {
+    match pop_of_three(first, second, third) {
         Some(label) => Some(label),
         None => take(others, place),
     }
@@ -227,16 +249,17 @@ pub struct Waiting {
     alloc: Global,
     first: Lane,
     second: Lane,
+    third: Lane,
     others: Vec<Lane>,
 }
 
 impl Model for Waiting {
-    ghost use Rattle.std.specs.Prelude.{List, ℕ, ◌∷◌};
+    ghost use Rattle.std.specs.Prelude.{List, ℕ, ◌++◌};
     ghost use Rattle.dpl_dual.specs.Queues.{all_of};
 
     ghost Value = { List (ℕ × ℕ) };
 
-    ghost view = { λ w. all_of (w.first ∷ w.second ∷ w.others.items) };
+    ghost view = { λ w. ((w.first ++ w.second) ++ w.third) ++ all_of w.others.items };
 }
 
 impl Waiting {
@@ -248,6 +271,7 @@ impl Waiting {
             alloc,
             first: Lane::new(alloc),
             second: Lane::new(alloc),
+            third: Lane::new(alloc),
             others: Vec::new(alloc),
         }
     }
@@ -258,6 +282,7 @@ impl Waiting {
     {
         self.first.free();
         self.second.free();
+        self.third.free();
         free_all(&mut self.others);
     }
 
@@ -272,6 +297,9 @@ impl Waiting {
         if self.second.takes(way) {
             return self.second.push(way, label);
         }
+        if self.third.takes(way) {
+            return self.third.push(way, label);
+        }
         push_behind(self.alloc, &mut self.others, way, label)
     }
 
@@ -282,8 +310,13 @@ impl Waiting {
             (λ label. IsPermutation self.old (label ∷ self.new)) }
     {
         if self.others.is_empty() {
-            return pop_of_two(&mut self.first, &mut self.second);
+            return pop_of_three(&mut self.first, &mut self.second, &mut self.third);
         }
-        pop_of_all(&mut self.first, &mut self.second, &mut self.others)
+        pop_of_all(
+            &mut self.first,
+            &mut self.second,
+            &mut self.third,
+            &mut self.others,
+        )
     }
 }

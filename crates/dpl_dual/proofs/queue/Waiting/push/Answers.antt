@@ -1,24 +1,34 @@
-use Rattle.std.proofs.Common.{arith, ap, refl, ◌∷◌}
+use Rattle.std.proofs.Common.{◌++◌}
 use Rattle.std.proofs.lemmas.Result.{on_ok_weaker}
 use Rattle.dpl_dual.specs.Queues.{all_of}
-use Rattle.dpl_dual.proofs.QueueLemmas.{pushed, behind_two}
+use Rattle.dpl_dual.proofs.QueueLemmas.{one_pushed, in_front, behind, as_seen}
 use Rattle.dpl_dual.proofs.queue.Waiting.push.Goals as goal
 
 pub returns-then-takes : goal.returns-then-takes
 returns-then-takes c =
-    let first = c.self.inside.first in
-    let rest = c.self.inside.second ∷ c.self.inside.others.items in
-    on_ok_weaker c.push.result (λ e. pushed (first ∷ rest) (first ∷ rest) (c.push.new.self ∷ rest) _ 0 c.args.label
-    c.self.view_is refl (omega arith) (ap (λ z. z ∷ rest) e)) c.push.ensures
+    let lanes = c.self.inside in
+    let x = c.args.label in
+    on_ok_weaker c.push.result (λ e. as_seen _ _ _ x c.self.view_is (in_front (all_of lanes.others.items) _ _ x
+    (in_front lanes.third _ _ x (in_front lanes.second _ _ x (one_pushed lanes.first c.push.new.self x e))))) c.push.ensures
 
 pub returns-then-takes-2 : goal.returns-then-takes-2
 returns-then-takes-2 c =
-    let first = c.self.inside.first in
-    let others = c.self.inside.others.items in
-    let old = first ∷ c.self.inside.second ∷ others in
-    on_ok_weaker c.push-then-takes-2.result (λ e. pushed old old (first ∷ c.push-then-takes-2.new.self ∷ others) _ 1 c.args.label
-    c.self.view_is refl (omega arith) (ap (λ z. first ∷ z ∷ others) e)) c.push-then-takes-2.ensures
+    let lanes = c.self.inside in
+    let x = c.args.label in
+    let new = c.push-then-takes-2.new.self in
+    on_ok_weaker c.push-then-takes-2.result (λ e. as_seen _ _ _ x c.self.view_is (in_front (all_of lanes.others.items) _ _ x
+    (in_front lanes.third _ _ x (behind lanes.first _ _ x (one_pushed lanes.second new x e))))) c.push-then-takes-2.ensures
+
+pub returns-then-takes-3 : goal.returns-then-takes-3
+returns-then-takes-3 c =
+    let lanes = c.self.inside in
+    let x = c.args.label in
+    let new = c.push-then-takes-3.new.self in
+    on_ok_weaker c.push-then-takes-3.result (λ e. as_seen _ _ _ x c.self.view_is (in_front (all_of lanes.others.items) _ _ x
+    (behind (lanes.first ++ lanes.second) _ _ x (one_pushed lanes.third new x e)))) c.push-then-takes-3.ensures
 
 pub returns : goal.returns
-returns c = on_ok_weaker c.push_behind.result (λ p. behind_two c.self.inside.first c.self.inside.second
-    (all_of c.self.inside.others.items) (all_of c.push_behind.new.others.items) _ c.args.label c.self.view_is p) c.push_behind.ensures
+returns c =
+    let lanes = c.self.inside in
+    on_ok_weaker c.push_behind.result (λ p. as_seen _ _ _ c.args.label c.self.view_is
+    (behind ((lanes.first ++ lanes.second) ++ lanes.third) _ _ c.args.label p)) c.push_behind.ensures
