@@ -9,12 +9,13 @@ ghost use Rattle.dpl_solve.specs.Matches.{AreJoinedBy};
 ghost use Rattle.dpl_solve.specs.Metrics.{IsLimit, AreNearest, AreNearer, AreRadii, IsApart, full_limit};
 ghost use Rattle.dpl_solve.specs.Works.{IsDrawn};
 
+use crate::cells::nearest_of_all;
 use crate::drawn::Drawn;
 use crate::joins::{join_pairs, mate_of};
 use crate::metrics::{all_rows, near_rows};
 use crate::radii::{Raise, all_radii, raise_apart};
 use crate::sight::{
-    FULL_LIMIT, Sight, all_nearest, first_margin, is_crowd, next_margin, table_margin, usual_far,
+    FULL_LIMIT, Sight, first_margin, is_crowd, next_margin, table_margin, usual_far,
 };
 use crate::work::Joined;
 use dpl_dual::types::Distances;
@@ -213,7 +214,7 @@ pub fn join_all<L: Ledger>(
         joined.new.edges.items) }
 {
     let tries: usize = 50;
-    let nearest = all_nearest(
+    let nearest = nearest_of_all(
         alloc,
         drawn.dual,
         terminals,

@@ -16,7 +16,7 @@ pub struct Listed<'a> {
 }
 
 /// Notes the place of each face of a list.
-fn note(places: &mut [usize], list: &[u32])
+pub fn note(places: &mut [usize], list: &[u32])
     requires { All (λ f. f < length places.old) list.now }
     ensures { AllPairs (λ f g. f ≢ g) list.now → AreNoted list.now (length list.now) places.new }
 {
@@ -37,7 +37,7 @@ pub fn note_all(places: &mut Vec<usize>, faces: u32, list: &[u32]) -> Result<(),
 }
 
 /// The place that is noted for a face.
-fn noted(places: &[usize], face: u32) -> usize
+pub fn noted(places: &[usize], face: u32) -> usize
     ensures { result ≡ slice_index places.now face }
 {
     match places.get(face as usize) {

@@ -176,8 +176,8 @@ fn raise_for(
 /// No more pairs than so many are looked at where some do not see each other.
 const MOST_RAISES: usize = 8;
 
-/// Where searches from all odd faces come to fewer faces of the part together, wider margins cost little.
-const MANY_FACES: usize = 4_000_000;
+/// Where searches from all odd faces come to fewer faces of the part together, they cost little, and so do wider margins.
+pub const MANY_FACES: usize = 4_000_000;
 
 /// Notes which faces are to look farther, where pairs do not see each other, and would not with the next margin. In small
 /// parts none are.

@@ -22,7 +22,7 @@ use std::alloc::{AllocError, Global};
 pub const FULL_LIMIT: u64 = 281474976710656;
 
 /// From so many odd faces on a search that finds no pairs costs more than a wide margin.
-const MANY: usize = 64;
+pub const MANY: usize = 64;
 
 /// The other face of a list that is nearest to one, by its place in the list, and how far it is.
 #[derive(Clone, Copy)]
