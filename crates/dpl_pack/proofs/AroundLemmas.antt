@@ -1,5 +1,5 @@
 -- Walks around a list of faces, whose marks are cleared again.
-use Rattle.std.proofs.Common.{arith, ◌≡◌, ℕ, zero, suc, ◌+◌, ◌*◌, ◌/◌, ◌%◌, ◌<◌, ◌≤◌, ◌&&◌, refl, sym, ap}
+use Rattle.std.proofs.Common.{arith, ◌≡◌, ℕ, zero, suc, ◌+◌, ◌*◌, ◌/◌, ◌%◌, ◌<◌, ◌&&◌, refl, sym, ap}
 use Rattle.std.proofs.Common.{◌∙◌, Bool, true, false, cond, inl, inr, List, [], ◌∷◌, length, get_or, take, set}
 use Rattle.std.proofs.Common.{◌++◌, All, subst, length-set, get_or-set_same, get_or-set_other}
 use Rattle.std.proofs.lemmas.List.Elements.{All-append, All-cons, All-nil}
@@ -7,7 +7,7 @@ use Rattle.std.specs.Prelude.{not, count_by, filter}
 use Rattle.std.specs.List.{range_with_len}
 use Rattle.std.proofs.lemmas.Bool.{cases_eq, cases_lt, cases_Bool, cond-true, cond-false, and_parts}
 use Rattle.std.proofs.lemmas.Bool.{and_right, not-true, true≢false, false≢true, false_from_ne_true}
-use Rattle.std.proofs.lemmas.List.{get_or_past, take_all}
+use Rattle.std.proofs.lemmas.List.{get_or_past}
 use Rattle.std.proofs.lemmas.List.Sums.{sum_by-cons, sum_by-append}
 use Rattle.dpl_sign.specs.declared.graphs.Signed.{Signed}
 use Rattle.dpl_sign.specs.declared.walks.Walk.{Walk}
@@ -24,13 +24,6 @@ use Rattle.dpl_map.proofs.RowLemmas.{chosen_split}
 
 -- ---- marks
 
-pub cleared_none : (places : List ℕ) (marks : List Bool) → AreCleared (take 0 places) marks marks
-cleared_none places marks x = both (get_or marks x false)
-  where
-    both : (b : Bool) → b ≡ (b && not false)
-    both true = refl
-    both false = refl
-
 pub cleared_more : (places : List ℕ) (old now : List Bool) (i x : ℕ) → i < length places
     → x ≡ get_or places i 0 → x < length now → AreCleared (take i places) old now
     → AreCleared (take (i + 1) places) old (set now x false)
@@ -41,21 +34,6 @@ cleared_more places old now i x h e l c z = elim (cases_eq x z) [
       sym (and_right (get_or old z false) (not (has (take (i + 1) places) z)) (ap not here))
   | inr t ↦ get_or-set_other now x z false false (λ q. t (sym q)) ∙ c z ∙ ap (λ b. get_or old z false && not b) (sym (not_taken places i z h (λ q. t (e ∙ q))))
 ]
-
-pub cleared_all : (places : List ℕ) (old now : List Bool) (i : ℕ) → length places ≤ i → AreCleared (take i places) old now → AreCleared places old now
-cleared_all places old now i h c x = c x ∙ ap (λ z. get_or old x false && not (has z x)) (take_all i places h)
-
--- what was written is cleared
-pub written_cleared : (places : List ℕ) (old now new : List Bool) → AreClear old → length now ≡ length old
-    → length new ≡ length now → IsWritten places now → AreCleared places now new → AreClear new
-written_cleared places old now new c s t w d x = elim (cases_lt x (length now)) [
-  | inl l ↦ d x ∙ ap (λ b. b && not (has places x)) (w x l) ∙ none (has places x)
-  | inr l ↦ get_or_past new x false (omega (arith, l, t))
-]
-  where
-    none : (b : Bool) → (b && not b) ≡ false
-    none true = refl
-    none false = refl
 
 -- ---- the odd faces of a list
 

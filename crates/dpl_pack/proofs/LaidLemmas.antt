@@ -25,7 +25,7 @@ up_to_push level (x ∷ fs) (y ∷ ds) f d e = elim (cases_Bool (nat_le y level)
 up_to_push level [] (y ∷ ds) f d e = absurd (omega (arith, e))
 up_to_push level (x ∷ fs) [] f d e = absurd (omega (arith, e))
 
-up_to_more : (level : ℕ) (faces depths : List ℕ) (i : ℕ) → length depths ≡ length faces → i < length faces
+pub up_to_more : (level : ℕ) (faces depths : List ℕ) (i : ℕ) → length depths ≡ length faces → i < length faces
     → up_to level (take (i + 1) faces) (take (i + 1) depths)
     ≡ up_to level (take i faces) (take i depths) ++ up_to level (get_or faces i 0 ∷ []) (get_or depths i 0 ∷ [])
 up_to_more level faces depths i e h =
@@ -66,7 +66,7 @@ chosen_up level faces depths (suc i) e h =
           (chosen_in faces depths level i _ (get_or faces i 0) old (omega (arith, l)) refl)
     ])
 
-up_to_chosen : (level : ℕ) (faces depths : List ℕ) → length depths ≡ length faces
+pub up_to_chosen : (level : ℕ) (faces depths : List ℕ) → length depths ≡ length faces
     → IsChosen faces depths level (length faces) (up_to level faces depths)
 up_to_chosen level faces depths e =
     subst (λ (z : List ℕ). IsChosen faces depths level (length faces) z)

@@ -30,14 +30,6 @@ moat_of sets l = record {
 abbrev pub moats_of : List Near → List Level → List Moat
 moats_of sets levels = map (moat_of sets) levels
 
--- stands where there is no moat
-abbrev pub no_moat : Moat
-no_moat = record { faces = []; half = 0 }
-
--- the moat at a place of a list
-abbrev pub moat_at : List Moat → ℕ → Moat
-moat_at moats i = slice_index_or moats i no_moat
-
 -- each face has its depth, and each level its set
 pub record AreLaid (sets : List Near) (levels : List Level) : Type 0 where
   pub sizes : All (λ n. length n.depths ≡ length n.faces) sets

@@ -1,19 +1,7 @@
-//! Marks at places of a list, which are set and cleared without a look at the others.
+//! Marks at places of a list, which are cleared without a look at the others.
 
 ghost use Rattle.std.specs.Prelude.{◌<◌, length, All};
-ghost use Rattle.dpl_pack.specs.Moats.{IsWritten};
-ghost use Rattle.dpl_pack.specs.Marks.{AreClear, AreCleared};
-
-/// Marks some places where none is marked.
-pub fn mark(places: &[u32], marks: &mut [bool])
-    requires places { All (λ x. x < length marks.old) places.now }
-    requires clear { AreClear marks.old }
-    ensures { IsWritten places.now marks.new }
-{
-    for i in 0..places.len() {
-        marks[places[i] as usize] = true;
-    }
-}
+ghost use Rattle.dpl_pack.specs.Marks.{AreCleared};
 
 /// Clears the marks of some places.
 pub fn clear(places: &[u32], marks: &mut [bool])

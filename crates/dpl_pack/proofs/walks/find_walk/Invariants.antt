@@ -1,11 +1,12 @@
 use Rattle.std.proofs.Common.{take}
-use Rattle.dpl_map.specs.Views.{view_of}
 use Rattle.dpl_pack.specs.Marks.{AreNoted}
-use Rattle.dpl_pack.specs.Traces.{AreSearched}
+use Rattle.dpl_pack.specs.Laid.{up_to}
+use Rattle.dpl_pack.specs.Rounds.{AreSearchedAround}
 use Rattle.dpl_pack.proofs.walks.find_walk.Given as goal
 
 abbrev pub invariant-loop-i : goal.invariant-loop-i
 invariant-loop-i l = record {
-  searched : AreSearched l.graph (view_of l.map) l.inside l.seen (take l.i l.faces);
+  searched : AreSearchedAround l.around l.seen
+      (up_to l.around.level (take l.i l.around.faces.now) (take l.i l.around.depths.now));
   noted : AreNoted l.fn.noted.items l.fn.seen → AreNoted l.noted.items l.seen;
 }

@@ -1,18 +1,21 @@
-use Rattle.std.proofs.Common.{arith, sym, subst}
+use Rattle.std.proofs.Common.{sym, subst}
 use Rattle.dpl_pack.specs.Marks.{AreNoted}
 use Rattle.dpl_map.specs.Views.{view_of}
-use Rattle.dpl_map.proofs.ViewLemmas.{map_of}
+use Rattle.dpl_pack.specs.Rounds.{enclosed}
 use Rattle.dpl_pack.proofs.AroundLemmas.{odd_inside, around_of, noted_none, noted_cleared}
+use Rattle.dpl_pack.proofs.MarkedLemmas.{map_at}
 use Rattle.dpl_pack.proofs.walks.walk_around.Goals as goal
 
 pub find_walk-requires-clause-odd : goal.find_walk-requires-clause-odd
-find_walk-requires-clause-odd c = odd_inside c.args.graph.now (view_of c.args.map.now) c.args.faces.now c.mark.new.marks
-    (omega (arith, c.mark.auto.marks, c.requires.places)) c.mark.ensures c.requires.odd
+find_walk-requires-clause-odd c =
+    let a = c.args.around.now in
+    odd_inside a.graph.now (view_of a.map.now) (enclosed a) a.inside.now c.requires.around.places c.requires.around.written c.requires.odd
 
 pub returns-clause-walk : goal.returns-clause-walk
-returns-clause-walk c = around_of c.args.graph.now (view_of c.args.map.now)
-    (map_of c.args.graph.now c.args.map.now c.requires.map) c.args.faces.now c.mark.new.marks _
-    (omega (arith, c.mark.auto.marks, c.requires.places)) c.mark.ensures c.in_ok-walk.ensures.walk
+returns-clause-walk c =
+    let a = c.args.around.now in
+    around_of a.graph.now (view_of a.map.now) (map_at a c.requires.around) (enclosed a) a.inside.now _
+    c.requires.around.places c.requires.around.written c.in_ok-walk.ensures.walk
 
 pub returns-clause-seen : goal.returns-clause-seen
 returns-clause-seen c =
