@@ -2,7 +2,7 @@ ghost use Rattle.std.specs.Prelude.{IfOk};
 ghost use Rattle.dpl_dual.specs.Duals.{CameFromDual};
 
 use dpl_dual::types::Distances;
-use dpl_dual::{Dual, Start, distances, distances_from, distances_within, dual};
+use dpl_dual::{Dual, Start, distances, distances_from, distances_from_any, distances_within, dual};
 use dpl_map::build;
 use dpl_sign::Net;
 use dpl_test_nets::nets::At::{East, North, South, West};
@@ -112,7 +112,12 @@ fn nearest(
     ];
     let mut reach = Distances::new(alloc);
     distances_from(&dual, &starts, limit, &mut reach)?;
-    Ok((reach.to(0), reach.to(1)))
+    let found = (reach.to(0), reach.to(1));
+    distances_from_any(&dual, &starts, limit, &mut reach)?;
+    if (reach.to(0), reach.to(1)) != found {
+        return Err("other lengths from all starts at once")?;
+    }
+    Ok(found)
 }
 
 /// Compares the odd faces.

@@ -18,7 +18,7 @@ use Rattle.dpl_laminar.proofs.Numbers.{has_head, has_tail, taken_has, not_taken}
 use Rattle.dpl_map.specs.Views.{MapView}
 use Rattle.dpl_map.specs.Sides.{IsMap, is_kept, face, is_odd_face, odd_faces_in}
 use Rattle.dpl_pack.specs.Moats.{IsWritten}
-use Rattle.dpl_pack.specs.Marks.{AreClear, AreCleared, AreNoted}
+use Rattle.dpl_pack.specs.Marks.{AreClear, AreCleared, AreMarksNoted}
 use Rattle.dpl_pack.specs.Traces.{IsRoundWalk, IsAround, odd_list}
 use Rattle.dpl_map.proofs.RowLemmas.{chosen_split}
 
@@ -126,14 +126,14 @@ has_last (c ∷ cs) x = elim (cases_eq c x) [
   | inr ne ↦ has_tail c x (cs ++ x ∷ []) ne ∙ has_last cs x
 ]
 
-pub noted_none : (marks : List Bool) → AreClear marks → AreNoted [] marks
+pub noted_none : (marks : List Bool) → AreClear marks → AreMarksNoted [] marks
 noted_none marks c = record {
   each = λ x t. absurd (false≢true (sym (c x) ∙ t));
   below = λ k d h. absurd (omega (arith, h));
 }
 
 pub noted_more : (places new : List ℕ) (marks : List Bool) (p : ℕ) → p < length marks → new ≡ places ++ p ∷ []
-    → AreNoted places marks → AreNoted new (set marks p true)
+    → AreMarksNoted places marks → AreMarksNoted new (set marks p true)
 noted_more places new marks p h e n = record {
   each = λ x t. ap (λ z. has z x) e ∙ elim (cases_eq x p) [
     | inl q ↦ ap (λ z. has (places ++ p ∷ []) z) q ∙ has_last places p
@@ -145,7 +145,7 @@ noted_more places new marks p h e n = record {
       (All-nil (λ x. x < length (set marks p true)))));
 }
 
-pub noted_cleared : (places : List ℕ) (marks new : List Bool) → AreNoted places marks → AreCleared places marks new → AreClear new
+pub noted_cleared : (places : List ℕ) (marks new : List Bool) → AreMarksNoted places marks → AreCleared places marks new → AreClear new
 noted_cleared places marks new n c x = false_from_ne_true (get_or new x false) (λ t.
     let parts = and_parts (get_or marks x false) (not (has places x)) (sym (c x) ∙ t) in
     true≢false (sym (n.each x parts.0) ∙ not-true (has places x) parts.1))

@@ -10,8 +10,9 @@ use Rattle.dpl_pack.specs.declared.laid.Near.{Near}
 use Rattle.dpl_pack.specs.declared.laid.Level.{Level}
 use Rattle.dpl_pack.specs.Levels.{Layers}
 use Rattle.dpl_pack.specs.Laid.{up_to, near_with, near_at, moat_of, moats_of, AreLaid}
-use Rattle.dpl_pack.specs.Stacks.{AreDepths, AreStacked, IsStacking, IsChosen, IsNextLevel}
+use Rattle.dpl_pack.specs.Stacks.{AreDepths, AreStacked, IsStacking}
 use Rattle.dpl_pack.proofs.CodeLemmas.{chosen_none, chosen_in, chosen_out, stack_step}
+use Rattle.dpl_pack.proofs.StackLemmas.{IsChosen, IsNextLevel}
 
 -- ---- the faces of a level
 

@@ -12,6 +12,6 @@ AreCleared places old new =
     (x : ℕ) → slice_index_or new x false ≡ (slice_index_or old x false && not (has places x))
 
 -- all marks are at the places of a list
-pub record AreNoted (places : List ℕ) (marks : List Bool) : Type 0 where
+pub record AreMarksNoted (places : List ℕ) (marks : List Bool) : Type 0 where
   pub each : (x : ℕ) → slice_index_or marks x false ≡ true → has places x ≡ true
   pub below : All (λ x. x < length marks) places

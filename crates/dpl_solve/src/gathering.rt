@@ -101,7 +101,26 @@ fn take_around(
     Ok(())
 }
 
-/// Takes all odd faces.
+/// After so many searches it is asked whether more of them are worth their time.
+const SEARCHES: usize = 16;
+
+/// The limit of the next search: none is reached where most of so many searches found none but the one where they began.
+fn limit_after(limit: u64, searches: usize, found: usize) -> u64 {
+    if searches >= SEARCHES && found / 2 < searches {
+        return 0;
+    }
+    limit
+}
+
+/// How many searches there were with one more, if that one found any.
+fn searches_after(searches: usize, before: usize, found: usize) -> usize {
+    if found > before {
+        return searches.saturating_add(1);
+    }
+    searches
+}
+
+/// Takes all odd faces. Where they are too far apart to be found by searches, they keep their order.
 fn take_all(
     dual: &Dual,
     listed: &Listed<'_>,
@@ -114,14 +133,18 @@ fn take_all(
     requires gathering { IsGathering (length listed.now.faces.now) gathering.old }
     ensures { OnOk result (IsOrder (length listed.now.faces.now) gathering.new.order.items) }
 {
+    let mut searches: usize = 0;
     for s in 0..listed.faces.len() {
-        take_around(dual, listed, s, limit, reach, gathering)?;
+        let before = gathering.order.len();
+        let near = limit_after(limit, searches, before);
+        take_around(dual, listed, s, near, reach, gathering)?;
+        searches = searches_after(searches, before, gathering.order.len());
     }
     Ok(())
 }
 
 /// The numbers of the odd faces of a part, so that those that are near each other follow each other: where the first one that
-/// is left begins, it is searched up to a limit. It costs a search for each 64 or so.
+/// is left begins, it is searched up to a limit. It costs a search for each 64 or so, or few where next to none are near.
 pub fn gathered(
     alloc: Global,
     dual: &Dual,

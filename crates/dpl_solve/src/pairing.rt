@@ -13,7 +13,7 @@ use crate::cells::nearest_of_all;
 use crate::drawn::Drawn;
 use crate::joins::{join_pairs, mate_of};
 use crate::metrics::{all_rows, near_rows};
-use crate::radii::{Raise, all_radii, raise_apart};
+use crate::radii::{Paired, Raise, all_radii, raise_apart};
 use crate::sight::{
     FULL_LIMIT, Sight, first_margin, is_crowd, next_margin, table_margin, usual_far,
 };
@@ -178,12 +178,15 @@ fn join_within<L: Ledger>(
         Err(no_memory) => return Err(no_memory),
     };
     if !are_near(&seen.metric, &seen.radii, &mate) {
+        let paired = Paired {
+            metric: &seen.metric,
+            radii: &seen.radii,
+            mate: &mate,
+        };
         raise_apart(
             drawn.dual,
             terminals,
-            &seen.metric,
-            &seen.radii,
-            &mate,
+            &paired,
             sight,
             &mut joined.reach,
             raises,

@@ -173,39 +173,56 @@ fn raise_for(
     Ok(Raise { place, by })
 }
 
-/// No more pairs than so many are looked at where some do not see each other.
+/// No more faces than so many are to look farther after a pairing.
 const MOST_RAISES: usize = 8;
+
+/// No more pairs than so many are looked at where some do not see each other. Where there are more, the margin is too narrow.
+const MOST_LOOKS: usize = 32;
 
 /// Where searches from all odd faces come to fewer faces of the part together, they cost little, and so do wider margins.
 pub const MANY_FACES: usize = 4_000_000;
+
+/// A pairing of the faces of a list, with the distances and radii by which it was found.
+#[derive(Clone, Copy)]
+pub struct Paired<'a> {
+    pub metric: &'a Metric,
+    pub radii: &'a [u64],
+    pub mate: &'a [u32],
+}
 
 /// Notes which faces are to look farther, where pairs do not see each other, and would not with the next margin. In small
 /// parts none are.
 pub fn raise_apart(
     dual: &Dual,
     terminals: &[u32],
-    metric: &Metric,
-    radii: &[u64],
-    mate: &[u32],
+    paired: &Paired<'_>,
     sight: &Sight<'_>,
     reach: &mut Distances,
     raises: &mut Vec<Raise>,
 ) -> Result<(), AllocError>
     requires dual { CameFromDual dual.now }
     requires terminals { AreTerminals dual.now terminals.now }
-    requires size { metric.now.size ≡ length terminals.now }
-    requires sizes { length radii.now ≡ length terminals.now }
-    requires mate { IsPairing (length terminals.now) (slice_index mate.now) }
-    requires small { (k : ℕ) → k < length terminals.now → slice_index radii.now k ≤ 2 ^ 49 }
+    requires size { paired.now.metric.now.size ≡ length terminals.now }
+    requires sizes { length paired.now.radii.now ≡ length terminals.now }
+    requires mate { IsPairing (length terminals.now) (slice_index paired.now.mate.now) }
+    requires small { (k : ℕ) → k < length terminals.now → slice_index paired.now.radii.now k ≤ 2 ^ 49 }
     requires margin { IsLimit sight.now.margin }
 {
+    let Paired {
+        metric,
+        radii,
+        mate,
+    } = *paired;
     let _size = metric.size();
     let more = 2 * (next_margin(sight) - sight.margin);
     let most = raises.len().saturating_add(MOST_RAISES);
+    let mut looks: usize = 0;
     for s in 0..terminals.len() {
         let other = mate_of(mate, s) as usize;
         let seen = radii[s] + radii[other];
-        if s < other && metric.dist(s as u32, other as u32) >= seen && raises.len() < most {
+        let are_apart = s < other && metric.dist(s as u32, other as u32) >= seen;
+        if are_apart && looks < MOST_LOOKS && raises.len() < most {
+            looks = looks.saturating_add(1);
             distances(dual, terminals[s], reach)?;
             if reach.reached().len().saturating_mul(terminals.len()) < MANY_FACES {
                 return Ok(());

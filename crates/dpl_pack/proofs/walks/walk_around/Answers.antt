@@ -1,5 +1,5 @@
 use Rattle.std.proofs.Common.{sym, subst}
-use Rattle.dpl_pack.specs.Marks.{AreNoted}
+use Rattle.dpl_pack.specs.Marks.{AreMarksNoted}
 use Rattle.dpl_map.specs.Views.{view_of}
 use Rattle.dpl_pack.specs.Rounds.{enclosed}
 use Rattle.dpl_pack.proofs.AroundLemmas.{odd_inside, around_of, noted_none, noted_cleared}
@@ -19,11 +19,11 @@ returns-clause-walk c =
 
 pub returns-clause-seen : goal.returns-clause-seen
 returns-clause-seen c =
-    let none = subst (λ z. AreNoted z c.args.seen.now) (sym c.new-noted.ensures.items) (noted_none c.args.seen.now c.requires.seen) in
-    noted_cleared _ _ _ (subst (λ z. AreNoted z c.find_walk.new.seen) (sym c.deref.ensures.value)
+    let none = subst (λ z. AreMarksNoted z c.args.seen.now) (sym c.new-noted.ensures.items) (noted_none c.args.seen.now c.requires.seen) in
+    noted_cleared _ _ _ (subst (λ z. AreMarksNoted z c.find_walk.new.seen) (sym c.deref.ensures.value)
     (c.in_ok-walk.ensures.noted none)) c.clear.ensures
 
 pub clear-requires : goal.clear-requires
 clear-requires c =
-    let none = subst (λ z. AreNoted z c.args.seen.now) (sym c.new-noted.ensures.items) (noted_none c.args.seen.now c.requires.seen) in
+    let none = subst (λ z. AreMarksNoted z c.args.seen.now) (sym c.new-noted.ensures.items) (noted_none c.args.seen.now c.requires.seen) in
     rw c.deref.ensures.value (c.in_ok-walk.ensures.noted none).below
