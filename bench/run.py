@@ -29,6 +29,7 @@ OPTIONS = ["--layer", "M", "--space", "100", "--overlap", "20"]
 GREAT = [*OPTIONS, "--stitch", "100000", "--conflict", "1000000"]
 COPRIME = [*OPTIONS, "--stitch", "99991", "--conflict", "999983"]
 CORNERS = [*COPRIME, "--corner", "500009"]
+SHORT = [*OPTIONS, "--stitch", "10", "--conflict", "25", "--corner", "5"]
 WIDE = ["--layer", "M", "--space", "10000", "--overlap", "20"]
 WIDEST = ["--layer", "M", "--space", "100000", "--overlap", "20"]
 
@@ -472,9 +473,13 @@ def single():
     yield "the same, three lengths", layout(rings_and_strip(9_580, 2_046)), CORNERS
     between = rings_between_strips(5, 9_000, 2_036)
     yield "9,000 rings of wires between strips, three lengths", layout(between), CORNERS
+    between = rings_between_strips(1_000, 9_680, 500)
+    yield "9,680 rings between strips of 1,000 and 500 boxes, three lengths", layout(between), CORNERS
     yield "1,000 nests of nine rings in a square", layout(nests(1_000, 32, 9)), OPTIONS
     yield "1,000 nests of nine rings in a square, three lengths", layout(nests(1_000, 32, 9)), CORNERS
     yield "500 nests of nineteen rings in a square", layout(nests(500, 23, 19)), OPTIONS
+    yield "1,000 nests of nine rings in a column, three lengths", layout(nests(1_000, 1, 9)), CORNERS
+    yield "477 nests of twenty rings in a column, three lengths", layout(nests(477, 1, 20)), SHORT
     yield "2,000 nests of five rings in a row, three lengths", layout(nests(2_000, 2_000, 5)), CORNERS
 
 

@@ -2,7 +2,9 @@ ghost use Rattle.std.specs.Prelude.{IfOk};
 ghost use Rattle.dpl_dual.specs.Duals.{CameFromDual};
 
 use dpl_dual::types::Distances;
-use dpl_dual::{Dual, Start, distances, distances_from, distances_from_any, distances_within, dual};
+use dpl_dual::{
+    Dual, Start, distances, distances_from, distances_from_any, distances_within, dual,
+};
 use dpl_map::build;
 use dpl_sign::Net;
 use dpl_test_nets::nets::At::{East, North, South, West};

@@ -223,7 +223,7 @@ pub fn nearest_of_all(
     if list.len() >= MANY {
         distances(dual, list[list.len() / 2], reach)?;
         let all = reach.reached().len();
-        let are_few = all / 16 >= list.len();
+        let are_few = all / 4 >= list.len();
         if are_few && all.saturating_mul(list.len()) >= MANY_FACES {
             return nearest_by_cells(alloc, dual, list, reach);
         }
