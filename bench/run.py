@@ -480,6 +480,7 @@ def single():
     yield "500 nests of nineteen rings in a square", layout(nests(500, 23, 19)), OPTIONS
     yield "1,000 nests of nine rings in a column, three lengths", layout(nests(1_000, 1, 9)), CORNERS
     yield "477 nests of twenty rings in a column, three lengths", layout(nests(477, 1, 20)), SHORT
+    yield "1,023 nests of nine rings, two in a row, three lengths", layout(nests(1_023, 2, 9)), SHORT
     yield "2,000 nests of five rings in a row, three lengths", layout(nests(2_000, 2_000, 5)), CORNERS
 
 
