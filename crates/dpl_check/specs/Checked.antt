@@ -23,19 +23,20 @@ pub record IsVerdictOfCells (o : PlainOptions) (report : List ℕ) (v : Verdict)
 abbrev pub IsVerdictOf : PlainOptions → List ℕ → List ℕ → Verdict → Type 0
 IsVerdictOf o text report v = OnLayer o text (IsVerdictOfCells o report v)
 
--- What an accepted report of this bound means for the layer of these cells: every colouring costs
--- at least half of the bound, and the masks of the report are those of the layer.
-pub record IsAcceptedOfCells (o : PlainOptions) (text : List ℕ) (bound : ℕ)
+-- What an accepted report of this cost and this bound means for the layer of these cells: the masks of the report are those
+-- of the layer, they cost so much, and every colouring costs at least half of the bound.
+pub record IsAcceptedOfCells (o : PlainOptions) (text : List ℕ) (cost bound : ℕ)
     (cells kept : Cells) : Type 0 where
   pub fragments : Fragments
   pub net : Net
   pub layer : IsLayer o cells kept fragments net
   pub report : PlainReport
   pub written : text ≡ report_text report
+  pub costs : cost ≡ cost_of net.graph report.head.colours
   pub bounds : (colours : List Bool) → IsColouring net.graph colours →
       bound ≤ 2 * cost_of net.graph colours
   pub masks : AreMasksOf o cells layer.layer.fragments.tiles fragments net report
 
 -- the same for the layer of a text
-abbrev pub IsAcceptedOf : PlainOptions → List ℕ → List ℕ → ℕ → Type 0
-IsAcceptedOf o text report bound = OnLayer o text (IsAcceptedOfCells o report bound)
+abbrev pub IsAcceptedOf : PlainOptions → List ℕ → List ℕ → ℕ → ℕ → Type 0
+IsAcceptedOf o text report cost bound = OnLayer o text (IsAcceptedOfCells o report cost bound)

@@ -27,9 +27,9 @@ pub fn check(
     // A good report is accepted, unless memory runs out, and no other is.
     ensures once { (v : Verdict) → IsVerdictOf options.now text.now report.now v →
         (result ≡ Ok v) ⊎ (result ≡ Err LayerError.NoMemory) }
-    // Every colouring costs at least half the bound of an accepted report, and its masks are those of the layer.
+    // The masks of an accepted report are those of the layer, and cost what it says; every colouring costs at least half its bound.
     ensures accepted { (cost bound : ℕ) → result ≡ Ok (Verdict.Yes cost bound) →
-        IsAcceptedOf options.now text.now report.now bound }
+        IsAcceptedOf options.now text.now report.now cost bound }
 {
     options.in_range();
     check_parts(alloc, text, options, report)

@@ -8,6 +8,7 @@ pub mod ValidLemmas
 pub mod TrueLemmas
 pub mod BrokenLemmas
 pub mod MaskCellLemmas
+pub mod SameMaskLemmas
 pub mod FactLemmas
 pub mod ConditionLaws
 pub mod FirstWrong

@@ -42,7 +42,7 @@ use Rattle.dpl_good.specs.Conditions.{cuts_from}
 use Rattle.dpl_good.specs.MaskRects.{where_same, fragments_on, is_zone, zones_of, mask_of}
 use Rattle.dpl_good.specs.MaskCells.{AreCutFrom, HoldTogether, OverlapInZones, ShowsZone, IsBrokenEdge, NamesBroken}
 use Rattle.dpl_good.specs.MaskCells.{NameAllBroken, AreOnOneMask, HoldsCell, JoinsPieces, AreToldClose, TellsClose}
-use Rattle.dpl_good.specs.MaskCells.{AreMasksOf}
+use Rattle.dpl_good.specs.MaskCells.{AreMasksOf, AreOnTheirMasks}
 use Rattle.dpl_good.proofs.TrueLemmas.{agree_none, AgreesAt, good_is_true}
 use Rattle.dpl_good.proofs.BrokenLemmas.{TakeCuts, net_takes, zones_are, zones_hold, fit_rises, first_tie, clashes_are_named, stitches_are_named}
 use Rattle.dpl_report.proofs.DrawnLemmas.{report_is_drawn}
@@ -56,11 +56,11 @@ use Rattle.std.specs.Cmp.{both_ways}
 -- ---- the cells of a mask
 
 -- a fragment of this colour holds the cell
-record IsOnFragment (rects : List Rect) (colours : List Bool) (on_b : Bool) (x y : ℤ) : Type 0 where
-  i : ℕ
-  within : i < length rects
-  own : colour_of colours i ≡ on_b
-  holds : IsIn (rect_at (map corners_of rects) i) x y
+pub record IsOnFragment (rects : List Rect) (colours : List Bool) (on_b : Bool) (x y : ℤ) : Type 0 where
+  pub i : ℕ
+  pub within : i < length rects
+  pub own : colour_of colours i ≡ on_b
+  pub holds : IsIn (rect_at (map corners_of rects) i) x y
 
 -- the zone of a broken cut holds the cell
 abbrev HoldsZone : List Bool → ℤ → ℤ → Cut → Type 0
@@ -290,7 +290,7 @@ mask_cell o tiles f net r on_b x y k e = elim (on_mask o tiles f net r on_b x y 
 
 -- ---- together
 
-cell_on_fragment : (tiles : List Corners) (rects : List Rect) (colours : List Bool) (x y : ℤ)
+pub cell_on_fragment : (tiles : List Corners) (rects : List Rect) (colours : List Bool) (x y : ℤ)
     → HoldLayer tiles (map corners_of rects) → IsTrue (layer_of tiles x y)
     → (on_b : Bool) × IsOnFragment rects colours on_b x y
 cell_on_fragment tiles rects colours x y h c =
@@ -504,6 +504,12 @@ line_tells o tiles f net r b k names =
       mask = one_mask o tiles f net r (colour_of r.head.colours e.b) t.x t.y t.x' t.y' k g h;
     }
 
+own_masks : (o : PlainOptions) (tiles : List Corners) (f : Fragments) (net : Net) (r : PlainReport)
+    → IsKnown o tiles f net r → AreOnTheirMasks f r
+unfolding mask_boxes
+own_masks o tiles f net r k i x y h = is_true (fragment_is_on o tiles f net r (colour_of r.head.colours i) x y k
+    (record { i = i; within = h.within; own = refl; holds = h.holds }))
+
 -- ---- all of it
 
 clash_numbers : (r : PlainReport) → IsReport r → AllPairs (λ (b c : Broken). b.edge < c.edge) r.lists.clashes
@@ -517,6 +523,8 @@ known_masks : (o : PlainOptions) (tiles : List Corners) (f : Fragments) (net : N
 known_masks o tiles f net r k =
     let named = clashes_are_named net.graph r.head.colours r.lists.clashes k.truth.clashes (clash_numbers r k.valid) in
     record {
+      colouring = k.truth.colouring;
+      own = own_masks o tiles f net r k;
       together = masks_together o tiles f net r k;
       overlap = masks_overlap o tiles f net r k;
       zones = show_zones o tiles f net r k;
@@ -528,7 +536,7 @@ known_masks o tiles f net r k =
       drawn = subst (λ (n : List ℕ). DrawsMasks n r.on_a r.on_b (report_text r)) k.truth.params.layer (report_is_drawn r k.valid);
     }
 
-wide : (n : ℕ) → 1 ≤ n → 2 ≤ 2 * n
+pub wide : (n : ℕ) → 1 ≤ n → 2 ≤ 2 * n
 wide n l = omega arith
 
 even : (n : ℕ) → 2 * n % 2 ≡ 0

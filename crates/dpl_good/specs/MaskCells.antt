@@ -1,7 +1,7 @@
 -- The masks of a good report, cell by cell (double patterning with stitches: Kahng, Park, Xu and Yao 2008). Together
 -- they are the layer, both hold the zones of the broken stitches and nothing else, and where shapes are too close on
 -- one mask a clash line says so.
-use Rattle.std.specs.Prelude.{◌≡◌, ◌⊎◌, ◌<◌, ◌*◌, ◌&&◌, ◌||◌, ℕ, ℤ, pos, ◌+ℤ◌, Bool, true, List, length, slice_index_or, map, All, AllPairs, Any, IsTrue}
+use Rattle.std.specs.Prelude.{◌≡◌, ◌⊎◌, ◌<◌, ◌*◌, ◌&&◌, ◌||◌, ℕ, ℤ, pos, ◌+ℤ◌, Bool, true, List, length, slice_index_or, map, All, AllPairs, Any, IsTrue, if◌then◌else◌}
 use Rattle.dpl_cell.specs.Places.{Corners, corners_of}
 use Rattle.dpl_cell.specs.Cells.{IsIn, AreApart}
 use Rattle.dpl_near.specs.Shapes.{AreShapes}
@@ -13,7 +13,7 @@ use Rattle.dpl_sign.specs.declared.edges.Kind.TheVariants.{Stitch, Clash}
 use Rattle.dpl_sign.specs.declared.graphs.Signed.{Signed}
 use Rattle.dpl_sign.specs.declared.nets.Net.{Net}
 use Rattle.dpl_sign.specs.Walks.{edge_at}
-use Rattle.dpl_sign.specs.Colourings.{breaks}
+use Rattle.dpl_sign.specs.Colourings.{IsColouring, breaks, colour_of}
 use Rattle.dpl_links.specs.Links.{piece_of}
 use Rattle.dpl_links.specs.Spacing.{AreTooClose}
 use Rattle.dpl_boxes.specs.Drawings.{is_in_boxes, DrawsMasks}
@@ -109,10 +109,18 @@ pub record TellsClose (cells : ℤ → ℤ → Bool) (space : ℕ) (f : Fragment
   pub close : AreTooClose cells space x y x' y'
   pub mask : AreOnOneMask r x y x' y'
 
--- What the masks of a report are of the cells of a layer, of its fragments and of their net. The
--- text, read again as CIF, breaks no rule and has exactly the boxes of the two masks.
+-- a cell is on the mask of the colour of its fragment
+abbrev pub AreOnTheirMasks : Fragments → PlainReport → Type 0
+AreOnTheirMasks f r = (i : ℕ) (x y : ℤ) → HoldsCell f i x y →
+    IsTrue (is_in_boxes (if colour_of r.head.colours i then r.on_b else r.on_a) x y)
+
+-- What the masks of a report are of the cells of a layer, of its fragments and of their net: each
+-- fragment is on one mask, that of its colour, and both masks are on the zones of the cut lines
+-- besides. The text, read again as CIF, breaks no rule and has exactly the boxes of the two masks.
 pub record AreMasksOf (o : PlainOptions) (cells : ℤ → ℤ → Bool) (tiles : List Corners)
     (f : Fragments) (net : Net) (r : PlainReport) : Type 0 where
+  pub colouring : IsColouring net.graph r.head.colours
+  pub own : AreOnTheirMasks f r
   pub together : HoldTogether cells r
   pub overlap : OverlapInZones r
   pub zones : All (ShowsZone (2 * o.overlap) tiles f) r.lists.cuts
@@ -123,3 +131,8 @@ pub record AreMasksOf (o : PlainOptions) (cells : ℤ → ℤ → Bool) (tiles :
       AreToldClose f net r x y x' y'
   pub close : All (TellsClose cells (2 * o.space) f r) r.lists.clashes
   pub drawn : DrawsMasks o.layer r.on_a r.on_b (report_text r)
+
+-- two reports draw the same masks, cell by cell
+pub record DrawSameMasks (r s : PlainReport) : Type 0 where
+  pub on_a : (x y : ℤ) → is_in_boxes r.on_a x y ≡ is_in_boxes s.on_a x y
+  pub on_b : (x y : ℤ) → is_in_boxes r.on_b x y ≡ is_in_boxes s.on_b x y

@@ -7,7 +7,7 @@ ghost use Rattle.dpl_report.specs.Plain.{PlainReport, plain_report};
 ghost use Rattle.dpl_report.specs.Valid.{IsReport};
 ghost use Rattle.dpl_good.specs.Truths.{SaysTrue};
 ghost use Rattle.dpl_good.specs.Verdicts.{refusal_of, IsGood};
-ghost use Rattle.dpl_good.specs.MaskCells.{AreCutFrom, AreMasksOf};
+ghost use Rattle.dpl_good.specs.MaskCells.{AreCutFrom, AreMasksOf, DrawSameMasks};
 ghost use Rattle.dpl_good.specs.Facts.{AreNineFacts};
 ghost use Rattle.dpl_cuts.specs.Fragments.{AreFragments};
 
@@ -53,6 +53,20 @@ pub fn masks_are_of_the_layer(options: &Options, fragments: &Fragments, net: &Ne
         AreMasksOf options.now cells tiles fragments.now net.now (plain_report report.now) }
 {
     options.in_range();
+}
+
+/// What is said of the masks of a report leaves no choice but its letters: where two reports have the same letters, their
+/// masks are the same cells.
+pub fn letters_determine_masks(options: &Options, fragments: &Fragments, net: &Net)
+    ensures { (cells : ℤ → ℤ → Bool) (tiles : List Corners) (r s : PlainReport) →
+        AreCutFrom options.now cells tiles fragments.now →
+        AreMasksOf options.now cells tiles fragments.now net.now r →
+        AreMasksOf options.now cells tiles fragments.now net.now s →
+        r.head.colours ≡ s.head.colours → DrawSameMasks r s }
+{
+    options.in_range();
+    let _net = net;
+    let _fragments = fragments;
 }
 
 /// A text is good exactly where the nine facts hold of the report that it is the text of.

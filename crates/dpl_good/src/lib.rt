@@ -3,7 +3,8 @@
 //! `masks`, `broken_cuts` and `broken_clashes` give what a report of a colouring lists. A text is good exactly where
 //! nine facts hold of its report (`specs/Facts`, `nine_facts_make_good`). The masks of a good report are together the
 //! layer, overlap in the zones of its cut lines alone, and what is too close on one mask is told by a clash line
-//! (`specs/MaskCells`, `masks_are_of_the_layer`).
+//! (`specs/MaskCells`, `masks_are_of_the_layer`); reports of the same letters have the same masks
+//! (`letters_determine_masks`).
 #![tactic(auto)]
 
 mod clashes;
@@ -16,8 +17,8 @@ pub mod types;
 
 pub use clashes::broken_clashes;
 pub use goodness::{
-    good_reports_are_true, masks_are_of_the_layer, nine_facts_make_good, true_reports_are_good,
-    true_reports_are_valid,
+    good_reports_are_true, letters_determine_masks, masks_are_of_the_layer, nine_facts_make_good,
+    true_reports_are_good, true_reports_are_valid,
 };
 pub use laws::condition_rules;
 pub use masking::{colour_at, masks};

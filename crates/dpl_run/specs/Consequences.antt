@@ -15,7 +15,7 @@ abbrev pub WritesLeast : PlainOptions → List ℕ → List ℕ → Option (List
 WritesLeast o text taken now =
     (output : List ℕ) × (now ≡ Some (taken ++ output)) × IsSplit o text output
 
--- a cost and a bound were written, and the report was accepted with this bound
+-- a cost and a bound were written, and the report was accepted with these
 abbrev pub WritesBound : PlainOptions → List ℕ → List ℕ → List ℕ → Option (List ℕ) → Type 0
 WritesBound o text report taken now = (cost : ℕ) × (bound : ℕ)
-    × (now ≡ Some (taken ++ yes_line cost bound)) × IsAcceptedOf o text report bound
+    × (now ≡ Some (taken ++ yes_line cost bound)) × IsAcceptedOf o text report cost bound
