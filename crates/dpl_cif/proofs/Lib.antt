@@ -1,3 +1,4 @@
 pub mod Fits
 pub mod InOrder
 pub mod Rounds
+pub mod ScopeLemmas
