@@ -122,3 +122,37 @@ fn a_clash_between_corners(rt: HostRuntime) {
         assert!(rt; answer(rt.alloc(), text, report, 10, corner, b"") == wanted);
     }
 }
+
+/// A box, one half of it on each mask.
+const HALVES: &[u8] =
+    b"(dpl 2);\n(layer M);\n(space 100);\n(overlap 20);\n(stitch 1);\n(conflict 10);\n(pieces 1);\n(fragments 1);\n(bonds 0);\n(stitches 0);\n(clashes 0);\n(excess 0);\n(cost 0);\n(bound 0);\n(masks A);\n(corner 10);\n(keep M);\nDS 1 1 4;\nL MA;\nB 200 400 100 200;\nL MB;\nB 200 400 300 200;\nDF;\nC 1;\nE\n";
+
+/// Two tiles of one shape, with two letters.
+const TORN: &[u8] =
+    b"(dpl 2);\n(layer M);\n(space 100);\n(overlap 20);\n(stitch 1);\n(conflict 10);\n(pieces 1);\n(fragments 2);\n(bonds 1);\n(stitches 0);\n(clashes 0);\n(excess 0);\n(cost 0);\n(bound 0);\n(masks AB);\n(corner 10);\n(keep M);\nDS 1 1 4;\nL MA;\nB 400 1200 800 600;\nL MB;\nB 1600 400 800 1400;\nDF;\nC 1;\nE\n";
+
+/// Three shapes around a triangle, of which one is torn between its two tiles, so that nothing seems broken.
+const TRIANGLE: &[u8] =
+    b"(dpl 2);\n(layer M);\n(space 100);\n(overlap 20);\n(stitch 1);\n(conflict 10);\n(pieces 3);\n(fragments 4);\n(bonds 1);\n(stitches 0);\n(clashes 3);\n(excess 0);\n(cost 0);\n(bound 0);\n(masks ABBA);\n(corner 10);\n(keep M);\nDS 1 1 4;\nL MA;\nB 1600 400 800 200;\nB 1600 400 1400 1400;\nL MB;\nB 400 1000 2000 500;\nB 400 1200 200 1000;\nDF;\nC 1;\nE\n";
+
+/// Masks that are together the layer, and of which none holds two shapes too close, are no masks of it where a feature is torn.
+#[test]
+fn a_feature_that_is_torn(rt: HostRuntime) {
+    let one = b"L M; B 100 100 50 50; E".as_slice();
+    let two = b"L M; B 400 100 200 350; B 100 300 200 150; E".as_slice();
+    let three =
+        b"L M; P 0 0 400 0 400 100 100 100 100 400 0 400; P 450 0 550 0 550 250 450 250; P 150 300 550 300 550 400 150 400; E".as_slice();
+    for (text, report, reason, place) in [
+        (one, HALVES, 9, 4_294_967_297),
+        (two, TORN, 4, 0),
+        (three, TRIANGLE, 4, 0),
+    ] {
+        let wanted = Verdict::No {
+            reason,
+            place,
+            found: 1,
+            wanted: 0,
+        };
+        assert!(rt; answer(rt.alloc(), text, report, 10, 10, b"M") == Some(wanted));
+    }
+}
