@@ -8,7 +8,7 @@ ghost use Rattle.dpl_words.specs.Commands.{check, command_of};
 ghost use Rattle.dpl_words.specs.Views.{plain_command};
 ghost use Rattle.dpl_run.specs.Answer.{Answers, IsAnswered, IsDue, IsQuiet, IsStatusOf};
 ghost use Rattle.dpl_run.specs.Consequences.{AskForSplit, WritesBound, WritesLeast};
-ghost use Rattle.dpl_run.specs.Devices.{AreSteady, AreTold, IsReadFault, IsTouched, PassesBytes, Reads};
+ghost use Rattle.dpl_run.specs.Devices.{AreSteady, AreTold, AskForAbsent, IsReadFault, IsTouched, IsUnread, PassesBytes, Reads};
 ghost use Rattle.dpl_run.specs.Lines.{line_of};
 
 use crate::answering::due_for;
@@ -45,6 +45,8 @@ pub fn run<S: Source, F: Shelf, O: Sink, E: Sink>(
         IsDue (map string_bytes words.now) text report due output
         → result ≢ Status.ReadFault → IsAnswered due result }
     ensures of_words { IsStatusOf (command_of (map string_bytes words.now)) result }
+    ensures absent { AskForAbsent (command_of (map string_bytes words.now)) (F.texts second.old) →
+        IsUnread result }
 
     // What a split and an accepted report mean for every other pair of masks, and that the masks of an accepted report
     // are those of the layer.
@@ -100,6 +102,8 @@ fn attempt<S: Source, F: Shelf, O: Sink>(
         (O.taken out.new) result }
     ensures quiet { IsQuiet (O.taken out.old) (O.taken out.new) result }
     ensures of_words { IsStatusOf (command_of (map string_bytes words.now)) result }
+    ensures absent { AskForAbsent (command_of (map string_bytes words.now)) (F.texts second.old) →
+        IsUnread result }
     ensures reads { Reads (command_of (map string_bytes words.now)) result (S.seen layout.old)
         (S.seen layout.new) (F.seen second.old) (F.seen second.new) }
     ensures write { result ≡ Status.WriteFault → Rose (O.faults out.old) (O.faults out.new) }

@@ -1,0 +1,5 @@
+-- what a reader must believe
+pub mod Pieces
+pub mod Refined
+-- what a turned piece wins and loses
+pub mod Gains

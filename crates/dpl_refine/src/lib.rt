@@ -1,0 +1,18 @@
+//! Colours that cost less, where a colouring is not the best.
+//!
+//! `refine` turns pieces over, which are the classes of the bonds. What it gives costs at most what it was given, and no
+//! piece can be turned over alone to cost less.
+#![tactic(auto)]
+
+mod gaining;
+mod joining;
+mod laws;
+mod links;
+mod refining;
+mod searching;
+mod turning;
+
+pub use joining::pieces;
+pub use laws::{least_are_refined, turned_are_colourings, turns_cost};
+pub use refining::refine;
+pub use std::alloc::AllocError as NoMemory;
