@@ -120,8 +120,10 @@ fn refined(
         true_report_is_of_the_layer(options, layer, &report);
         return Ok(report);
     }
-    let colours = refine(alloc, &layer.net.graph, report.colours.as_slice())?;
-    let cycles = more_cycles(alloc, &layer.net.graph, report.cycles)?;
+    let graph = &layer.net.graph;
+    let Report { params, counts, aside, .. } = report;
+    let colours = refine(alloc, graph, report.colours.as_slice())?;
+    let cycles = more_cycles(alloc, graph, colours.as_slice(), report.cycles)?;
     let found = restated(alloc, report, &layer.fragments, &layer.net, colours, cycles)?;
     true_report_is_of_the_layer(options, layer, &found);
     Ok(found)

@@ -3,3 +3,5 @@ pub mod Pieces
 pub mod Refined
 -- what a turned piece wins and loses
 pub mod Gains
+-- packings that bound more
+pub mod Packed
