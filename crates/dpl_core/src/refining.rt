@@ -4,6 +4,7 @@ ghost use Rattle.dpl_limits.specs.declared.TheConstants.{MOST_LAYOUT_BYTES};
 ghost use Rattle.dpl_lex.specs.Cutting.{commands_of};
 ghost use Rattle.dpl_layer.specs.Layers.{IsSomeLayer};
 ghost use Rattle.dpl_layer.specs.Reasons.{FirstOf};
+ghost use Rattle.dpl_cuts.specs.declared.types.Fragments.{Fragments as PlainFragments};
 ghost use Rattle.dpl_options.specs.Options.{PlainOptions};
 ghost use Rattle.dpl_report.specs.Plain.{plain_report};
 ghost use Rattle.dpl_sign.specs.Colourings.{IsColouring};
@@ -22,7 +23,7 @@ use dpl_list::Items;
 use dpl_options::Options;
 use dpl_refine::{more_cycles, refine};
 use dpl_report::{Report, print};
-use dpl_sign::{Cycle, Net, cost, packing_bounds};
+use dpl_sign::{Cycle, Net, cost};
 use std::alloc::{AllocError as NoMemory, Global};
 
 /// The text of a report of a layer, where the text of the layout is already cut into these commands. Where something is
@@ -58,30 +59,26 @@ fn total(cycles: &[Cycle]) -> u64
     sum
 }
 
-/// The report with other colours and cycles, and with what these break, cost and bound. It says the truth where the
-/// report does.
-fn restated(
+/// The report with other colours, and with what these break and cost. It says the truth where the report does.
+fn recoloured(
     alloc: Global,
     report: Report,
     fragments: &Fragments,
     net: &Net,
     colours: Vec<bool>,
-    cycles: Items<Cycle>,
 ) -> Result<Report, NoMemory>
     requires colouring { IsColouring net.now.graph colours.items }
-    requires packing { IsPacking net.now.graph cycles }
     requires one { length colours.items ≡ length fragments.now.rects }
     ensures colours { IfOk result (λ r. r.colours ≡ colours.items) }
-    ensures bound { IfOk result (λ r. r.bound ≡ bound_of cycles) }
     ensures params { IfOk result (λ r. r.params ≡ report.params) }
+    ensures bound { IfOk result (λ r. r.bound ≡ report.bound) }
+    ensures cycles { IfOk result (λ r. r.cycles ≡ report.cycles) }
     ensures truth { IfOk result (λ r. (options : PlainOptions) →
         SaysTrue options fragments.now net.now (plain_report report) →
         SaysTrue options fragments.now net.now (plain_report r)) }
 {
     let edges = net.graph.edges.as_slice();
-    packing_bounds(&net.graph, cycles.as_slice(), colours.as_slice());
     let costs = cost(&net.graph, colours.as_slice());
-    let bound = total(cycles.as_slice());
     let cuts = broken_cuts(alloc, colours.as_slice(), edges, fragments.cuts.as_slice())?;
     let clashes = broken_clashes(alloc, colours.as_slice(), edges)?;
     let masks = masks(alloc, fragments, colours.as_slice())?;
@@ -89,14 +86,54 @@ fn restated(
         params: report.params,
         counts: report.counts,
         cost: costs,
-        bound,
+        bound: report.bound,
         colours: Items::new(colours),
         cuts: Items::new(cuts),
         clashes: Items::new(clashes),
         aside: report.aside,
-        cycles,
+        cycles: report.cycles,
         on_a: Items::new(masks.on_a),
         on_b: Items::new(masks.on_b),
+    })
+}
+
+/// The report with cycles that bound more, or the same. It says the truth where the report does.
+fn repacked(alloc: Global, report: Report, net: &Net) -> Result<Report, NoMemory>
+    requires packing { IsPacking net.now.graph report.cycles }
+    ensures colours { IfOk result (λ r. r.colours ≡ report.colours) }
+    ensures params { IfOk result (λ r. r.params ≡ report.params) }
+    ensures bound { IfOk result (λ r. bound_of report.cycles ≤ r.bound) }
+    ensures truth { IfOk result (λ r. (options : PlainOptions) (fragments : PlainFragments) →
+        SaysTrue options fragments net.now (plain_report report) →
+        SaysTrue options fragments net.now (plain_report r)) }
+{
+    let Report {
+        params,
+        counts,
+        cost,
+        colours,
+        cuts,
+        clashes,
+        aside,
+        cycles,
+        on_a,
+        on_b,
+        ..
+    } = report;
+    let cycles = more_cycles(alloc, &net.graph, colours.as_slice(), cycles)?;
+    let bound = total(cycles.as_slice());
+    Ok(Report {
+        params,
+        counts,
+        cost,
+        bound,
+        colours,
+        cuts,
+        clashes,
+        aside,
+        cycles,
+        on_a,
+        on_b,
     })
 }
 
@@ -116,15 +153,14 @@ fn refined(
     ensures masks { IfOk result (λ r.
         HaveMasks options.now layer.now.fragments layer.now.net (plain_report r)) }
 {
-    if report.aside.as_slice().is_empty() {
+    let plane = report.aside.as_slice().is_empty();
+    if plane {
         true_report_is_of_the_layer(options, layer, &report);
         return Ok(report);
     }
-    let graph = &layer.net.graph;
-    let Report { params, counts, aside, .. } = report;
-    let colours = refine(alloc, graph, report.colours.as_slice())?;
-    let cycles = more_cycles(alloc, graph, colours.as_slice(), report.cycles)?;
-    let found = restated(alloc, report, &layer.fragments, &layer.net, colours, cycles)?;
+    let colours = refine(alloc, &layer.net.graph, report.colours.as_slice())?;
+    let coloured = recoloured(alloc, report, &layer.fragments, &layer.net, colours)?;
+    let found = repacked(alloc, coloured, &layer.net)?;
     true_report_is_of_the_layer(options, layer, &found);
     Ok(found)
 }

