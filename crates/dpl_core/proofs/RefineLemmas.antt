@@ -1,5 +1,5 @@
 -- The report of refined colours, for the cells of a layer and for a text.
-use Rattle.std.proofs.Common.{arith, ◌≡◌, ℕ, ◌*◌, ◌≤◌, Bool, List, [], refl, sym, subst}
+use Rattle.std.proofs.Common.{arith, ◌≡◌, ℕ, ◌*◌, ◌≤◌, Bool, List, [], ◌∷◌, length, refl}
 use Rattle.dpl_cuts.specs.declared.types.Fragments.{Fragments}
 use Rattle.dpl_sign.specs.declared.nets.Net.{Net}
 use Rattle.dpl_sign.specs.Colourings.{IsColouring, cost_of}
@@ -21,7 +21,7 @@ use Rattle.dpl_core.specs.Reports.{HaveMasks, IsReportOfNet, IsRefinedOfNet, IsR
 -- ---- bounds
 
 -- the walks of a report that says the truth bound every colouring
-pub half_of : (o : PlainOptions) (f : Fragments) (n : Net) (r : PlainReport) → SaysTrue o f n r
+half_of : (o : PlainOptions) (f : Fragments) (n : Net) (r : PlainReport) → SaysTrue o f n r
     → (colours : List Bool) → IsColouring n.graph colours → r.head.bound ≤ 2 * cost_of n.graph colours
 half_of o f n r t colours c =
     let most = packing_bounds n.graph r.lists.cycles colours t.packing c in
@@ -32,8 +32,12 @@ met_of cost bound other h e = omega (arith, h, e)
 
 -- ---- nothing set aside
 
+pub no_items : (xs : List ℕ) → length xs ≡ 0 → xs ≡ []
+no_items [] e = refl
+no_items (x ∷ xs) e = absurd (omega arith)
+
 -- where nothing is set aside, the colours of a tight report are refined already
-pub plane_refined : (o : PlainOptions) (f : Fragments) (n : Net) (t : PlainReport) → IsReportOfNet o f n t
+plane_refined : (o : PlainOptions) (f : Fragments) (n : Net) (t : PlainReport) → IsReportOfNet o f n t
     → excess n all_edges ≡ 0 → IsRefined n.graph t.head.colours t.head.colours
 plane_refined o f n t is p =
     least_refined n.graph t.head.colours is.truth.colouring

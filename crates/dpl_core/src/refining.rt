@@ -153,8 +153,7 @@ fn refined(
     ensures masks { IfOk result (λ r.
         HaveMasks options.now layer.now.fragments layer.now.net (plain_report r)) }
 {
-    let plane = report.aside.as_slice().is_empty();
-    if plane {
+    if report.aside.as_slice().is_empty() {
         true_report_is_of_the_layer(options, layer, &report);
         return Ok(report);
     }
