@@ -21,9 +21,9 @@ still_agree : (g : Signed) (u a b : ℕ) (old new : List Bool) → a < g.nodes �
     → IsTurnedAt g u old new → colour_of old a ≡ colour_of old b → colour_of new a ≡ colour_of new b
 still_agree g u a b old new l m joined t e = not_differ (colour_of new a) (colour_of new b) (λ differ.
     let apart_a : AreOnePiece g u a → ⊥ = λ j. differ
-        (t.inside a l j ∙ ap not e ∙ sym (t.inside b m (link_on (bonds_of g.edges) u a b j joined))) in
+    (t.inside a l j ∙ ap not e ∙ sym (t.inside b m (link_on (bonds_of g.edges) u a b j joined))) in
     let apart_b : AreOnePiece g u b → ⊥ = λ j.
-        apart_a (link_on (bonds_of g.edges) u b a j (link_back (bonds_of g.edges) a b joined)) in
+    apart_a (link_on (bonds_of g.edges) u b a j (link_back (bonds_of g.edges) a b joined)) in
     differ (t.others a l apart_a ∙ e ∙ sym (t.others b m apart_b)))
 
 -- a colouring of which a piece is turned over is one
