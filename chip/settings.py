@@ -19,6 +19,7 @@ DEFAULTS = {
     "conflict": 10,
     "corner": None,
     "balance": False,
+    "refine": False,
     "size": 20000,
     "bands": 4,
     "batch": 12,
@@ -51,7 +52,7 @@ class Settings:
     def __init__(self, given, folder):
         self.check(given)
         values = {**DEFAULTS, **given}
-        for word in ("top", "layer", "masks", "markers", "size", "bands", "batch", "balance"):
+        for word in ("top", "layer", "masks", "markers", "size", "bands", "batch", "balance", "refine"):
             setattr(self, word, values[word])
         self.layout = os.path.join(folder, values["layout"])
         self.dpl = os.path.join(folder, values["dpl"]) if values["dpl"] else BUILT if os.access(BUILT, os.X_OK) else LAUNCHER
@@ -64,6 +65,8 @@ class Settings:
             raise Refused("settings: masks ends in .oas or .gds")
         if not 1 <= self.size <= MOST_SIZE or self.bands < 1 or self.batch < 1:
             raise Refused(f"settings: size is 1 to {MOST_SIZE}, bands and batch are at least 1")
+        if self.balance and self.refine:
+            raise Refused("settings: either balance or refine")
         self.name = name_of(str(self.layer))
 
     def check(self, given):

@@ -69,6 +69,7 @@ COMMANDS = {
     "check": Command((*LAYER, "report"), WEIGHTS, "reads the layout and a report again, and says whether the report is good"),
     "cross": Command(LAYER, WEIGHTS, "tells whether links of the drawing cross, and what bars the least edge set aside"),
     "balance": Command(LAYER, WEIGHTS, "writes a report as split does, whose masks cover about the same area"),
+    "refine": Command(LAYER, WEIGHTS, "writes a report as split does, with fewer conflicts where something is set aside"),
     "edit": Command((*LAYER, "script"), WEIGHTS, "adds boxes to the layer and removes them again, and writes the report of the result"),
     "load": Command(("start", "rows", "columns"), (), "splits a made layout, and tells its numbers in one line", False),
 }

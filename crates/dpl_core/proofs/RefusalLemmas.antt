@@ -14,7 +14,7 @@ use Rattle.dpl_layer.specs.Drawings.{Cells, kept_of, drawing_reasons}
 use Rattle.dpl_layer.specs.Layers.{IsLayer, IsLayerOfText}
 use Rattle.dpl_layer.specs.Refusals.{cells_reasons, layer_reasons}
 use Rattle.dpl_layer.proofs.LayerLemmas.{same_layer}
-use Rattle.dpl_layer.proofs.ReasonLemmas.{Reason, IsFree, IsOnce, AllOnce, AllHave, first, no_first, none_cons}
+use Rattle.dpl_layer.proofs.ReasonLemmas.{IsFree, IsOnce, AllOnce, AllHave, first, no_first, none_cons}
 use Rattle.dpl_layer.proofs.ReasonLemmas.{none_both, in_front, behind, where_first, first_once, once_both, first_has, have_both}
 use Rattle.dpl_layer.proofs.RefusalLemmas.{HasKind, cells_free, cells_kinds, cells_once, drawing_kinds, drawing_once}
 use Rattle.dpl_core.specs.Refusals.{IsOddNet, HasOddNet, report_reasons, split_reasons}

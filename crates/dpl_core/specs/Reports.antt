@@ -18,6 +18,7 @@ use Rattle.dpl_solve.specs.Solved.{kept_cost, aside_cost, KeepToKept, PassOnce}
 use Rattle.dpl_layer.specs.Drawings.{Cells, OnLayer}
 use Rattle.dpl_layer.specs.Layers.{IsLayer, IsCutLayer}
 use Rattle.dpl_balance.specs.Balance.{AreBalanced}
+use Rattle.dpl_refine.specs.Refined.{IsRefined}
 
 -- Every colouring of the net costs at least half the bound, none breaks kept edges of a smaller
 -- weight, and where the drawing is plane, and so nothing is set aside, none costs less.
@@ -73,6 +74,33 @@ IsSplit o text output = IsTextOf (IsReportOf o text) output
 abbrev pub IsBalancedSplit : PlainOptions → List ℕ → List ℕ → Type 0
 IsBalancedSplit o text output = IsTextOf (λ r. OnLayer o text (IsBalancedOfCells o r)) output
 
+-- The report of the layer of these cells with refined colours: the nine facts hold, and its masks are those of the layer.
+-- Beside it stands a tight report of the same layer, in which no pair of masks costs less than that says. The refined
+-- colours cost less than its colours, or are the same, and no piece of them can be turned over alone to cost less; the
+-- bound is at least its bound. Where the drawing is plane, it is that report.
+pub record IsRefinedOfCells (o : PlainOptions) (r : PlainReport) (cells kept : Cells) : Type 0 where
+  pub fragments : Fragments
+  pub net : Net
+  pub layer : IsLayer o cells kept fragments net
+  pub facts : AreNineFacts o fragments net (report_text r) r
+  pub masks : AreMasksOf o cells layer.layer.fragments.tiles fragments net r
+  pub tight : PlainReport
+  pub tight_facts : AreNineFacts o fragments net (report_text tight) tight
+  pub is_tight : IsTight net tight
+  pub least : CostsLeast net tight
+  pub refined : IsRefined net.graph tight.head.colours r.head.colours
+  pub bound : tight.head.bound ≤ r.head.bound
+  pub plane : excess net all_edges ≡ 0 → r ≡ tight
+  -- every colouring costs at least half the bound, so where the cost is that, none costs less
+  pub half : (colours : List Bool) → IsColouring net.graph colours
+      → r.head.bound ≤ 2 * cost_of net.graph colours
+  pub met : 2 * r.head.cost ≡ r.head.bound → (colours : List Bool) → IsColouring net.graph colours
+      → r.head.cost ≤ cost_of net.graph colours
+
+-- the output is the text of such a report
+abbrev pub IsRefinedSplit : PlainOptions → List ℕ → List ℕ → Type 0
+IsRefinedSplit o text output = IsTextOf (λ r. OnLayer o text (IsRefinedOfCells o r)) output
+
 -- ---- words of the steps
 
 -- The report says the truth of these fragments and this net, so it is valid, and the checker finds it good; and it is
@@ -83,6 +111,18 @@ pub record IsReportOfNet (o : PlainOptions) (f : Fragments) (net : Net) (r : Pla
   pub good : refusal_of o f net r ≡ None
   pub tight : IsTight net r
   pub least : CostsLeast net r
+
+-- The report says the truth with colours that were refined from those of a tight report. Its bound is at least that
+-- report's, and it is that report where the drawing is plane.
+pub record IsRefinedOfNet (o : PlainOptions) (f : Fragments) (net : Net) (r : PlainReport) : Type 0 where
+  pub truth : SaysTrue o f net r
+  pub valid : IsReport r
+  pub good : refusal_of o f net r ≡ None
+  pub tight : PlainReport
+  pub of : IsReportOfNet o f net tight
+  pub refined : IsRefined net.graph tight.head.colours r.head.colours
+  pub bound : tight.head.bound ≤ r.head.bound
+  pub plane : excess net all_edges ≡ 0 → r ≡ tight
 
 -- the masks of a layer's report are those of whatever cells the layer is of
 abbrev pub HaveMasks : PlainOptions → Fragments → Net → PlainReport → Type 0

@@ -1,9 +1,11 @@
 // From a layer to its report.
-ghost use Rattle.std.specs.Prelude.{◌≡◌, ◌⊎◌, ◌≤◌, ℕ, length, IfOk, IfErr, Err};
+ghost use Rattle.std.specs.Prelude.{◌≡◌, ◌⊎◌, ◌≤◌, ℕ, length, None, IfOk, IfErr, Err};
 ghost use Rattle.dpl_limits.specs.declared.TheConstants.{MOST_EDGES};
 ghost use Rattle.dpl_layer.specs.Layers.{IsSomeLayer};
 ghost use Rattle.dpl_report.specs.Plain.{plain_report};
+ghost use Rattle.dpl_report.specs.Valid.{IsReport};
 ghost use Rattle.dpl_good.specs.Truths.{SaysTrue};
+ghost use Rattle.dpl_good.specs.Verdicts.{refusal_of};
 ghost use Rattle.dpl_solve.specs.Solved.{IsSolution, IsRefused};
 ghost use Rattle.dpl_core.specs.Reports.{HaveMasks, CostsLeast, IsReportOfNet, IsTight};
 ghost use Rattle.dpl_core.specs.Refusals.{IsOddNet};
@@ -51,6 +53,23 @@ pub fn report_is_of_the_layer(options: &Options, layer: &Layer, report: &Report)
     requires least { CostsLeast layer.now.net (plain_report report.now) }
     ensures report { IsReportOfNet options.now layer.now.fragments layer.now.net
         (plain_report report.now) }
+    ensures masks { HaveMasks options.now layer.now.fragments layer.now.net
+        (plain_report report.now) }
+{
+    true_report_is_of_the_layer(options, layer, report);
+}
+
+/// A report that says the truth of a layer is valid and good, and its masks are those of the layer. A fact about the
+/// definitions; nothing runs.
+pub fn true_report_is_of_the_layer(options: &Options, layer: &Layer, report: &Report)
+    requires layer { IsSomeLayer options.now layer.now.fragments layer.now.net }
+    requires truth { SaysTrue options.now layer.now.fragments layer.now.net
+        (plain_report report.now) }
+    // A keep layer stands behind a corner weight alone.
+    requires keep { report.now.params.corner ≡ None → report.now.params.keep ≡ None }
+    ensures valid { IsReport (plain_report report.now) }
+    ensures good { refusal_of options.now layer.now.fragments layer.now.net
+        (plain_report report.now) ≡ None }
     ensures masks { HaveMasks options.now layer.now.fragments layer.now.net
         (plain_report report.now) }
 {

@@ -67,9 +67,15 @@ const CROSS: &str = "cross --layer M --space 100 --overlap 20";
 
 const BALANCE: &str = "balance --layer M --space 100 --overlap 20";
 
+const REFINE: &str = "refine --layer M --space 100 --overlap 20";
+
 pub const TWO: &[u8] = b"L M; B 100 100 50 50; B 100 100 200 50; E";
 
 pub const TRIANGLE: &[u8] = b"L M; B 100 100 50 50; B 100 100 200 50; B 100 100 125 200; E";
+
+/// Six boxes, of which `split` breaks a stitch and a clash that is set aside, and `refine` one clash.
+const TANGLE: &[u8] =
+    b"L M; B 200 40 120 0; B 80 40 440 40; B 40 80 120 160; B 200 40 360 80; B 80 80 360 0; B 40 40 240 120; E";
 
 /// Four boxes in a square, each two a clash: the links over the corners cross.
 const SQUARE: &[u8] =
@@ -182,6 +188,32 @@ fn masks_of_the_same_area(rt: HostRuntime) -> Result<(), Fail> {
         )?;
         assert_eq!(rt; read.out.bytes(), b"yes cost 0 bound 0\n".as_slice());
     }
+    Ok(())
+}
+
+/// Where an edge is set aside, `refine` finds masks that cost less.
+#[test]
+fn fewer_conflicts(rt: HostRuntime) -> Result<(), Fail> {
+    for (words, told) in [(SPLIT, "yes cost 11 "), (REFINE, "yes cost 10 ")] {
+        let ended = run_over(rt.alloc(), words, devices(rt.alloc(), TANGLE, b"")?)?;
+        assert_eq!(rt; ended.status, Status::Done);
+        let read = run_over(
+            rt.alloc(),
+            CHECK,
+            devices(rt.alloc(), TANGLE, ended.out.bytes())?,
+        )?;
+        assert!(rt; read.out.bytes().starts_with(told.as_bytes()));
+    }
+    Ok(())
+}
+
+/// Where nothing is set aside, `refine` writes what `split` writes.
+#[test]
+fn a_plane_layout_stays(rt: HostRuntime) -> Result<(), Fail> {
+    let split = run_over(rt.alloc(), SPLIT, devices(rt.alloc(), TRIANGLE, b"")?)?;
+    let refined = run_over(rt.alloc(), REFINE, devices(rt.alloc(), TRIANGLE, b"")?)?;
+    assert_eq!(rt; refined.status, Status::Done);
+    assert_eq!(rt; refined.out.bytes(), split.out.bytes());
     Ok(())
 }
 

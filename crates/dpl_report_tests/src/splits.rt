@@ -1,5 +1,5 @@
 use crate::asked::asked;
-use dpl_core::{LayerError, balance_commands, make, parts, split, split_commands};
+use dpl_core::{LayerError, balance_commands, make, parts, refine_commands, split, split_commands};
 use dpl_lex::commands;
 use dpl_options::name_bytes;
 use dpl_report::Report;
@@ -136,6 +136,15 @@ fn balanced_text(alloc: Global, text: &[u8]) -> Option<Vec<u8>> {
     let options = asked(10, 10, b"")?;
     let commands = commands(alloc, text).ok()?;
     balance_commands(alloc, text, &commands, &options).ok()
+}
+
+fn refined_text(alloc: Global, text: &[u8]) -> Option<Vec<u8>> {
+    if text.len() > 10_000 {
+        return None;
+    }
+    let options = asked(10, 10, b"")?;
+    let commands = commands(alloc, text).ok()?;
+    refine_commands(alloc, text, &commands, &options).ok()
 }
 
 #[test]
@@ -373,4 +382,22 @@ fn a_pair_and_a_lone_bar(rt: HostRuntime) {
       (pieces 3);\n(fragments 3);\n(bonds 0);\n(stitches 0);\n(clashes 1);\n(excess 0);\n\
       (cost 0);\n(bound 0);\n(masks ABB);\n";
     assert!(rt; begins_with(balanced_text(rt.alloc(), layout), head));
+}
+
+/// Three boxes, each too close to the other two: nothing is set aside, and refined it is the same report.
+#[test]
+fn a_plane_layout_is_not_refined(rt: HostRuntime) -> Result<(), Fail> {
+    let layout = b"L M; B 100 100 50 50; B 100 100 200 50; B 100 100 125 200; E";
+    let split = split_cut_text(rt.alloc(), layout)?;
+    assert!(rt; is_text(refined_text(rt.alloc(), layout), split.as_slice()));
+    Ok(())
+}
+
+/// Four boxes in a square, with both diagonals: two of six clashes are broken however they are coloured.
+#[test]
+fn a_square_costs_two_clashes(rt: HostRuntime) {
+    let head = b"(dpl 2);\n(layer M);\n(space 100);\n(overlap 20);\n(stitch 1);\n(conflict 10);\n\
+      (pieces 4);\n(fragments 4);\n(bonds 0);\n(stitches 0);\n(clashes 6);\n(excess 2);\n\
+      (cost 20);\n";
+    assert!(rt; begins_with(refined_text(rt.alloc(), SQUARE), head));
 }

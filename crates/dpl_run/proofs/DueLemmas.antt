@@ -3,7 +3,7 @@ use Rattle.std.proofs.Common.{arith, ◌≡◌, ◌∙◌, ℕ, ◌<◌, List, [
 use Rattle.std.specs.Prelude.{Result, Ok, Err}
 use Rattle.dpl_limits.specs.declared.counted.Counted.TheVariants.{LayoutBytes}
 use Rattle.dpl_gen.specs.Layout.{layout}
-use Rattle.dpl_words.specs.Commands.{PlainCommand, split, check, load, cross, edit, balance}
+use Rattle.dpl_words.specs.Commands.{PlainCommand, split, check, load, cross, edit, balance, refine}
 use Rattle.dpl_layer.specs.declared.error.LayerError.{LayerError}
 use Rattle.dpl_layer.specs.Errors as layer
 use Rattle.dpl_layer.specs.Reasons.{FirstOf, IsPassed}
@@ -11,7 +11,7 @@ use Rattle.dpl_layer.specs.Refusals.{layer_reasons}
 use Rattle.dpl_layer.proofs.ReasonLemmas.{IsOnce, first_once, first_has}
 use Rattle.dpl_layer.proofs.RefusalLemmas.{layer_kind, never_memory, one_text_refusal, passed_once}
 use Rattle.dpl_core.specs.Refusals.{split_reasons}
-use Rattle.dpl_core.specs.Reports.{IsSplit, IsBalancedSplit}
+use Rattle.dpl_core.specs.Reports.{IsSplit, IsBalancedSplit, IsRefinedSplit}
 use Rattle.dpl_core.proofs.RefusalLemmas.{one_split_refusal}
 use Rattle.dpl_run.specs.declared.status.Status.{Status}
 use Rattle.dpl_run.specs.Inputs.{Opened, opens, reads_layout}
@@ -29,6 +29,7 @@ use Rattle.dpl_run.proofs.EditLemmas.{edit_ends, one_edit}
 pub all_end : (c : PlainCommand) (text second : List ℕ) → AllEnd c (DueOf c text second)
 all_end (split options) text second = split_ends (split options) refl options text (IsSplit options text)
 all_end (balance options) text second = split_ends (balance options) refl options text (IsBalancedSplit options text)
+all_end (refine options) text second = split_ends (refine options) refl options text (IsRefinedSplit options text)
 all_end (check options name) text second = check_ends (check options name) refl options text second
 all_end (load start rows columns) text second =
     split_ends (load start rows columns) refl made_options (layout start rows columns) (IsLoaded made_options (layout start rows columns))
@@ -39,6 +40,7 @@ all_end (edit options name) text second = edit_ends (edit options name) refl ref
 one_of : (c : PlainCommand) (text second : List ℕ) (a b : Status) (x y : List ℕ) → DueOf c text second a x → DueOf c text second b y → a ≡ b
 one_of (split options) text second = one_made (FirstOf (split_reasons options text)) (IsSplit options text) (one_split_refusal options text)
 one_of (balance options) text second = one_made (FirstOf (split_reasons options text)) (IsBalancedSplit options text) (one_split_refusal options text)
+one_of (refine options) text second = one_made (FirstOf (split_reasons options text)) (IsRefinedSplit options text) (one_split_refusal options text)
 one_of (check options name) text second = one_check options text second
 one_of (load start rows columns) text second = one_made (FirstOf (split_reasons made_options (layout start rows columns)))
     (IsLoaded made_options (layout start rows columns)) (one_split_refusal made_options (layout start rows columns))

@@ -6,14 +6,14 @@ use Rattle.dpl_options.specs.Options.{PlainOptions, AreOptions}
 use Rattle.dpl_layer.specs.Reasons.{FirstOf}
 use Rattle.dpl_layer.proofs.TextLemmas.{on_layer}
 use Rattle.dpl_core.specs.Refusals.{split_reasons}
-use Rattle.dpl_core.specs.Reports.{IsBalancedOfCells, IsBalancedSplit, IsReportOfCells, IsSplit}
+use Rattle.dpl_core.specs.Reports.{IsBalancedOfCells, IsBalancedSplit, IsRefinedSplit, IsReportOfCells, IsSplit}
 use Rattle.dpl_ext.specs.Device.{Texts}
-use Rattle.dpl_words.specs.Commands.{PlainCommand, split, check, balance, command_of}
+use Rattle.dpl_words.specs.Commands.{PlainCommand, split, check, balance, refine, command_of}
 use Rattle.dpl_run.specs.declared.status.Status.{Status}
 use Rattle.dpl_run.specs.declared.status.Status.TheVariants.{Done}
 use Rattle.dpl_run.specs.Answer.{Answers, DueOf, IsDue, IsDueFor, IsDueOf}
 use Rattle.dpl_run.specs.Answer.IsDueFor.{too_long, carried_out}
-use Rattle.dpl_run.specs.Consequences.{AskForSplit, WritesBound, WritesLeast}
+use Rattle.dpl_run.specs.Consequences.{AskForSplit, WritesBound, WritesLeast, WritesRefined}
 use Rattle.dpl_run.specs.Devices.{AreTold}
 use Rattle.dpl_run.proofs.EndLemmas.{refused_not_done}
 use Rattle.dpl_run.proofs.MadeLemmas.{made_done}
@@ -71,6 +71,16 @@ writes_least words left texts before now result answer o text taken (inr e) told
       as_split o text w.output
           (made_done (FirstOf (split_reasons o text)) (IsBalancedSplit o text) Done w.output w.due refl),
     )
+
+-- where a refined split is done, its text was written
+pub writes_refined : (words : List (List ℕ)) (left : Option (List ℕ)) (texts : Option Texts) (before now : Option (List ℕ)) (result : Status)
+    → ((text second : List ℕ) → AreTold (command_of words) left texts text second → Answers (IsDue words text second) before now result)
+    → (o : PlainOptions) (text taken : List ℕ) → command_of words ≡ Ok (refine o) → left ≡ Some text
+    → before ≡ Some taken → result ≡ Done → WritesRefined o text taken now
+writes_refined words left texts before now result answer o text taken e told had done =
+    let w = written words (refine o) text [] taken before now result e
+    (answer text [] (subst (λ z. AreTold z left texts text []) (sym e) (told, tt))) done had in
+    (w.output, w.is, made_done (FirstOf (split_reasons o text)) (IsRefinedSplit o text) Done w.output w.due refl)
 
 -- ---- an accepted report
 

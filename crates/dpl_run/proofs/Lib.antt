@@ -11,3 +11,4 @@ pub mod LeastLemmas
 pub mod ReadingLemmas
 pub mod ToldLemmas
 pub mod SteadyLemmas
+pub mod AbsentLemmas

@@ -7,7 +7,7 @@ use Rattle.std.specs.Io.KnownBytes.{Consumes, IsAtEnd}
 use Rattle.dpl_ext.specs.Device.{Seen, Texts, Rose, RoseBy}
 use Rattle.dpl_ext.specs.Reading.{IsWhole}
 use Rattle.dpl_gen.specs.Layout.{layout}
-use Rattle.dpl_words.specs.Commands.{PlainCommand, split, check, load, cross, edit, balance}
+use Rattle.dpl_words.specs.Commands.{PlainCommand, split, check, load, cross, edit, balance, refine}
 use Rattle.dpl_layer.specs.declared.error.LayerError.{LayerError}
 use Rattle.dpl_layer.specs.Errors.{passed}
 use Rattle.dpl_layer.specs.Reasons.{NoneOf, IsPassed}
@@ -104,6 +104,7 @@ same_due : (c : PlainCommand) (text bytes second others : List ℕ) → (reads_l
     → (a : Status) (x : List ℕ) → DueOf c bytes others a x → DueOf c text second a x
 same_due (split options) text bytes second others e f a x d = subst (λ z. DueOf (split options) z second a x) (sym (e refl)) d
 same_due (balance options) text bytes second others e f a x d = subst (λ z. DueOf (balance options) z second a x) (sym (e refl)) d
+same_due (refine options) text bytes second others e f a x d = subst (λ z. DueOf (refine options) z second a x) (sym (e refl)) d
 same_due (cross options) text bytes second others e f a x d = subst (λ z. DueOf (cross options) z second a x) (sym (e refl)) d
 same_due (load start rows columns) text bytes second others e f a x d = d
 same_due (check options name) text bytes second others e f a x d =
@@ -282,6 +283,7 @@ second_fault c layout layout_now before now texts s t w e f =
 counted_is : (c : PlainCommand) (o : Opened) → opens c ≡ Some o → (o.counted ≡ ReportBytes) ⊎ (o.counted ≡ ScriptBytes)
 counted_is (split options) o e = absurd (cc)
 counted_is (balance options) o e = absurd (cc)
+counted_is (refine options) o e = absurd (cc)
 counted_is (cross options) o e = absurd (cc)
 counted_is (load start rows columns) o e = absurd (cc)
 counted_is (check options name) o e = let a : report_named name ≡ o = cc in inl (ap (λ z. z.counted) (sym a))

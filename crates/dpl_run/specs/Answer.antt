@@ -10,8 +10,8 @@ use Rattle.dpl_layer.specs.declared.error.LayerError.{LayerError}
 use Rattle.dpl_layer.specs.Reasons.{FirstOf, NoneOf, IsPassed}
 use Rattle.dpl_layer.specs.Refusals.{layer_reasons}
 use Rattle.dpl_core.specs.Refusals.{split_reasons}
-use Rattle.dpl_core.specs.Reports.{IsSplit, IsBalancedSplit}
-use Rattle.dpl_words.specs.Commands.{PlainCommand, split, check, load, cross, edit, balance, command_of}
+use Rattle.dpl_core.specs.Reports.{IsSplit, IsBalancedSplit, IsRefinedSplit}
+use Rattle.dpl_words.specs.Commands.{PlainCommand, split, check, load, cross, edit, balance, refine, command_of}
 use Rattle.dpl_run.specs.declared.status.Status.{Status}
 use Rattle.dpl_run.specs.declared.status.Status.TheVariants.{Done, Rejected, Usage, Limit, Script, ReadFault, WriteFault, NoMemory}
 use Rattle.dpl_run.specs.Inputs.{Opened, reads_layout, opens, judges, follows, colours}
@@ -37,6 +37,8 @@ DueOf (cross options) text second =
 DueOf (edit options name) text second = IsEditDue options text second
 DueOf (balance options) text second =
     IsMade (FirstOf (split_reasons options text)) (IsBalancedSplit options text)
+DueOf (refine options) text second =
+    IsMade (FirstOf (split_reasons options text)) (IsRefinedSplit options text)
 
 -- what is opened has more bytes than are taken
 abbrev pub IsOpenedLong : Option Opened → List ℕ → LayerError → Type 0

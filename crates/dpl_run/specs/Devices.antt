@@ -4,7 +4,7 @@ use Rattle.dpl_ext.specs.Device.{Seen, Texts, Rose, RoseBy, first_text}
 use Rattle.dpl_limits.specs.declared.TheConstants.{MOST_LAYOUT_BYTES, MOST_REPORT_BYTES, MOST_SCRIPT_BYTES}
 use Rattle.dpl_words.specs.Commands.{PlainCommand}
 use Rattle.dpl_run.specs.declared.status.Status.{Status}
-use Rattle.dpl_run.specs.declared.status.Status.TheVariants.{Limit, ReadFault}
+use Rattle.dpl_run.specs.declared.status.Status.TheVariants.{Limit, ReadFault, NoMemory}
 use Rattle.dpl_run.specs.Inputs.{Opened, reads_layout, opens}
 
 -- ---- what is told
@@ -26,6 +26,24 @@ abbrev pub AreTold : Result PlainCommand ℕ → Option (List ℕ) → Option Te
 AreTold (Err kind) left texts text second = ⊤
 AreTold (Ok c) left texts text second =
     IsLayoutTold (reads_layout c) left text × IsSecondTold (opens c) texts second
+
+-- the shelf tells its texts, and has none of the name that is opened
+abbrev pub IsAbsent : Option Opened → Option Texts → Type 0
+IsAbsent None texts = ⊥
+IsAbsent (Some opened) texts =
+    (ts : Texts) × (texts ≡ Some ts) × (first_text opened.name ts ≡ None)
+
+-- the command opens such a text
+abbrev pub AskForAbsent : Result PlainCommand ℕ → Option Texts → Type 0
+AskForAbsent (Err kind) texts = ⊥
+AskForAbsent (Ok c) texts = IsAbsent (opens c) texts
+
+-- no text was read but the layout: a device failed, or memory was wanting, or the layout is too long
+abbrev pub IsUnread : Status → Type 0
+IsUnread ReadFault = ⊤
+IsUnread NoMemory = ⊤
+IsUnread (Limit kind count) = kind ≡ 1
+IsUnread status = ⊥
 
 -- ---- what is read
 

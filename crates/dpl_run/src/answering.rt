@@ -2,8 +2,9 @@
 ghost use Rattle.std.specs.Prelude.{◌+◌, ◌≡◌, ◌≢◌, ℕ, List, Ok};
 ghost use Rattle.dpl_limits.specs.declared.TheConstants.{MOST_LAYOUT_BYTES, MOST_REPORT_BYTES, MOST_SCRIPT_BYTES};
 ghost use Rattle.dpl_words.specs.Views.{plain_command, IsInRange};
+ghost use Rattle.dpl_run.specs.Inputs.{opens};
 ghost use Rattle.dpl_run.specs.Answer.{IsDueOf, IsStatusOf};
-ghost use Rattle.dpl_run.specs.Devices.{AreTold, IsReadFault, IsTouched, PassesBytes};
+ghost use Rattle.dpl_run.specs.Devices.{AreTold, IsAbsent, IsReadFault, IsTouched, IsUnread, PassesBytes};
 ghost use Rattle.dpl_run.specs.Telling.{IsBare, IsDueOrFree};
 
 use crate::commands::carry_out;
@@ -36,6 +37,8 @@ pub fn due_for<S: Source, F: Shelf>(
         PassesBytes (MOST_REPORT_BYTES + 1) count (F.seen second.old) (F.seen second.new) }
     ensures script_limit { (count : ℕ) → result.status ≡ Status.Limit 10 count →
         PassesBytes (MOST_SCRIPT_BYTES + 1) count (F.seen second.old) (F.seen second.new) }
+    ensures absent { IsAbsent (opens (plain_command command.now)) (F.texts second.old) →
+        IsUnread result.status }
     ensures touched { IsTouched (Ok (plain_command command.now)) (S.seen layout.old)
         (S.seen layout.new) (F.seen second.old) (F.seen second.new) }
     ensures steady { result.status ≢ Status.ReadFault → result.status ≢ Status.NoMemory →

@@ -20,7 +20,7 @@ use dpl_lex::types::Commands;
 use dpl_words::Command;
 use edit::edit_bytes;
 use load::load_made;
-use split::{balance_bytes, split_bytes};
+use split::{balance_bytes, refine_bytes, split_bytes};
 use std::alloc::Global;
 
 /// What is due for a command with the layout, its commands, and the second text. What a command does not read is not
@@ -42,6 +42,7 @@ pub fn carry_out(
     match command {
         Command::Split(options) => split_bytes(alloc, options, text, commands),
         Command::Balance(options) => balance_bytes(alloc, options, text, commands),
+        Command::Refine(options) => refine_bytes(alloc, options, text, commands),
         Command::Cross(options) => cross_bytes(alloc, options, text, commands),
         Command::Check { options, .. } => check_bytes(alloc, options, text, second),
         Command::Edit { options, .. } => edit_bytes(alloc, options, text, commands, second),

@@ -1,11 +1,11 @@
 // What a command reads.
-ghost use Rattle.std.specs.Prelude.{◌≡◌, ◌≢◌, ◌≤◌, true, length, IfOk, IfErr, Err};
+ghost use Rattle.std.specs.Prelude.{◌≡◌, ◌≢◌, ◌⊎◌, ◌≤◌, true, length, IfOk, IfErr, Err};
 ghost use Rattle.dpl_limits.specs.declared.TheConstants.{MOST_LAYOUT_BYTES};
 ghost use Rattle.dpl_lex.specs.Cutting.{commands_of};
 ghost use Rattle.dpl_ext.specs.Reading.{IsWhole};
 ghost use Rattle.dpl_words.specs.Views.{plain_command};
 ghost use Rattle.dpl_run.specs.Inputs.{reads_layout as do_read_layout, opens};
-ghost use Rattle.dpl_run.specs.Devices.{IsLayoutTouched, IsSecondTouched};
+ghost use Rattle.dpl_run.specs.Devices.{IsAbsent, IsLayoutTouched, IsSecondTouched};
 ghost use Rattle.dpl_run.specs.Telling.{IsSecondRead, IsSmall, StopsOpening, StopsReading};
 
 use crate::status::Status;
@@ -22,6 +22,7 @@ pub fn reads_layout(command: &Command) -> bool
     match command {
         Command::Split(_) => true,
         Command::Balance(_) => true,
+        Command::Refine(_) => true,
         Command::Cross(_) => true,
         Command::Check { .. } => true,
         Command::Edit { .. } => true,
@@ -58,6 +59,8 @@ pub fn second_for<F: Shelf>(
     ensures small { IfOk result (λ v. IsSmall (opens (plain_command command.now)) v.items) }
     ensures stops { IfErr result (StopsOpening (opens (plain_command command.now))
         (F.seen second.old) (F.seen second.new) (F.texts second.old)) }
+    ensures absent { IsAbsent (opens (plain_command command.now)) (F.texts second.old) →
+        (result ≡ Err Status.ReadFault) ⊎ (result ≡ Err Status.NoMemory) }
     ensures touched { IsSecondTouched (opens (plain_command command.now)) (F.seen second.old)
         (F.seen second.new) }
     ensures steady { result ≢ Err Status.ReadFault → result ≢ Err Status.NoMemory →
@@ -66,6 +69,7 @@ pub fn second_for<F: Shelf>(
     match command {
         Command::Split(_) => Ok(Vec::new(alloc)),
         Command::Balance(_) => Ok(Vec::new(alloc)),
+        Command::Refine(_) => Ok(Vec::new(alloc)),
         Command::Cross(_) => Ok(Vec::new(alloc)),
         Command::Check { report, .. } => {
             second_of(alloc, report.as_str(), Counted::ReportBytes, second)

@@ -6,7 +6,7 @@ ghost use Rattle.dpl_cell.specs.Layers.{is_within, is_in_box};
 ghost use Rattle.dpl_cell.specs.Cells.{IsWithin, IsIn};
 ghost use Rattle.dpl_ext.specs.Device.{Seen, Texts, last_count};
 ghost use Rattle.dpl_options.specs.Options.{PlainOptions};
-ghost use Rattle.dpl_words.specs.Commands.{PlainCommand, split, check, load, cross, edit, balance};
+ghost use Rattle.dpl_words.specs.Commands.{PlainCommand, split, check, load, cross, edit, balance, refine};
 ghost use Rattle.dpl_run.specs.Answer.{Answers, IsAnswered, IsDue, IsDueOf, IsQuiet, IsStatusOf};
 ghost use Rattle.dpl_run.specs.Devices.{AreSteady, AreTold, AsksFor, IsReadFault, IsTouched, PassesBytes};
 ghost use Rattle.dpl_run.specs.due.Edit.{IsEditDue, IsFollowed};
@@ -25,6 +25,8 @@ pub fn devices_tell()
         AreTold (Ok (split o)) (Some text) texts text second }
     ensures balance { (o : PlainOptions) (text second : List ℕ) (texts : Option Texts) →
         AreTold (Ok (balance o)) (Some text) texts text second }
+    ensures refine { (o : PlainOptions) (text second : List ℕ) (texts : Option Texts) →
+        AreTold (Ok (refine o)) (Some text) texts text second }
     ensures cross { (o : PlainOptions) (text second : List ℕ) (texts : Option Texts) →
         AreTold (Ok (cross o)) (Some text) texts text second }
     ensures check { (o : PlainOptions) (name text second : List ℕ) (others : Texts) →
@@ -85,6 +87,10 @@ pub fn read_faults_have_causes()
         layout.faults < last_count →
         IsReadFault (Ok (balance o)) layout layout_now second second_now
         ↔ (layout.faults < layout_now.faults) }
+    ensures refine { (o : PlainOptions) (layout layout_now second second_now : Seen) →
+        layout.faults < last_count →
+        IsReadFault (Ok (refine o)) layout layout_now second second_now
+        ↔ (layout.faults < layout_now.faults) }
     ensures cross { (o : PlainOptions) (layout layout_now second second_now : Seen) →
         layout.faults < last_count →
         IsReadFault (Ok (cross o)) layout layout_now second second_now
@@ -120,6 +126,9 @@ pub fn devices_are_left()
         ↔ ((layout_now.asked ≡ layout.asked) × (second_now ≡ second)) }
     ensures balance { (o : PlainOptions) (layout layout_now second second_now : Seen) →
         IsTouched (Ok (balance o)) layout layout_now second second_now
+        ↔ ((layout_now.asked ≡ layout.asked) × (second_now ≡ second)) }
+    ensures refine { (o : PlainOptions) (layout layout_now second second_now : Seen) →
+        IsTouched (Ok (refine o)) layout layout_now second second_now
         ↔ ((layout_now.asked ≡ layout.asked) × (second_now ≡ second)) }
     ensures cross { (o : PlainOptions) (layout layout_now second second_now : Seen) →
         IsTouched (Ok (cross o)) layout layout_now second second_now

@@ -4,11 +4,11 @@ ghost use Rattle.std.specs.Io.KnownBytes.{Appends};
 ghost use Rattle.dpl_limits.specs.declared.TheConstants.{MOST_LAYOUT_BYTES, MOST_REPORT_BYTES, MOST_SCRIPT_BYTES};
 ghost use Rattle.dpl_ext.specs.Device.{Rose, AppendsFront};
 ghost use Rattle.dpl_options.specs.Options.{AreOptions, PlainOptions};
-ghost use Rattle.dpl_words.specs.Commands.{check, command_of};
+ghost use Rattle.dpl_words.specs.Commands.{check, refine, command_of};
 ghost use Rattle.dpl_words.specs.Views.{plain_command};
 ghost use Rattle.dpl_run.specs.Answer.{Answers, IsAnswered, IsDue, IsQuiet, IsStatusOf};
-ghost use Rattle.dpl_run.specs.Consequences.{AskForSplit, WritesBound, WritesLeast};
-ghost use Rattle.dpl_run.specs.Devices.{AreSteady, AreTold, IsReadFault, IsTouched, PassesBytes, Reads};
+ghost use Rattle.dpl_run.specs.Consequences.{AskForSplit, WritesBound, WritesLeast, WritesRefined};
+ghost use Rattle.dpl_run.specs.Devices.{AreSteady, AreTold, AskForAbsent, IsReadFault, IsTouched, IsUnread, PassesBytes, Reads};
 ghost use Rattle.dpl_run.specs.Lines.{line_of};
 
 use crate::answering::due_for;
@@ -45,13 +45,19 @@ pub fn run<S: Source, F: Shelf, O: Sink, E: Sink>(
         IsDue (map string_bytes words.now) text report due output
         → result ≢ Status.ReadFault → IsAnswered due result }
     ensures of_words { IsStatusOf (command_of (map string_bytes words.now)) result }
+    ensures absent { AskForAbsent (command_of (map string_bytes words.now)) (F.texts second.old) →
+        IsUnread result }
 
-    // What a split and an accepted report mean for every other pair of masks, and that the masks of an accepted report
-    // are those of the layer.
+    // What a split, a refined one and an accepted report mean for every other pair of masks, and that the masks of an
+    // accepted report are those of the layer.
     ensures least { (o : PlainOptions) (text taken : List ℕ) →
         AskForSplit (command_of (map string_bytes words.now)) o
         → (S.seen layout.old).left ≡ Some text → O.taken out.old ≡ Some taken
         → result ≡ Status.Done → WritesLeast o text taken (O.taken out.new) }
+    ensures refined { (o : PlainOptions) (text taken : List ℕ) →
+        command_of (map string_bytes words.now) ≡ Ok (refine o)
+        → (S.seen layout.old).left ≡ Some text → O.taken out.old ≡ Some taken
+        → result ≡ Status.Done → WritesRefined o text taken (O.taken out.new) }
     ensures accepted { (o : PlainOptions) (name text report taken : List ℕ) →
         command_of (map string_bytes words.now) ≡ Ok (check o name)
         → AreTold (command_of (map string_bytes words.now)) (S.seen layout.old).left
@@ -100,6 +106,8 @@ fn attempt<S: Source, F: Shelf, O: Sink>(
         (O.taken out.new) result }
     ensures quiet { IsQuiet (O.taken out.old) (O.taken out.new) result }
     ensures of_words { IsStatusOf (command_of (map string_bytes words.now)) result }
+    ensures absent { AskForAbsent (command_of (map string_bytes words.now)) (F.texts second.old) →
+        IsUnread result }
     ensures reads { Reads (command_of (map string_bytes words.now)) result (S.seen layout.old)
         (S.seen layout.new) (F.seen second.old) (F.seen second.new) }
     ensures write { result ≡ Status.WriteFault → Rose (O.faults out.old) (O.faults out.new) }

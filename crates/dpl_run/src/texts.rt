@@ -1,5 +1,5 @@
 // Reading a text whole.
-ghost use Rattle.std.specs.Prelude.{◌≡◌, ◌≢◌, ◌<◌, ◌≤◌, ◌^◌, [], length, IfOk, IfErr, Some, Err};
+ghost use Rattle.std.specs.Prelude.{◌≡◌, ◌≢◌, ◌⊎◌, ◌<◌, ◌≤◌, ◌^◌, [], length, IfOk, IfErr, Some, None, Err};
 ghost use Rattle.dpl_limits.specs.declared.TheConstants.{MOST_LAYOUT_BYTES};
 ghost use Rattle.dpl_limits.specs.Limits.{number_of, most_of};
 ghost use Rattle.dpl_lex.specs.Cutting.{commands_of};
@@ -56,6 +56,8 @@ pub fn second_of<F: Shelf>(
     ensures small { IfOk result (λ v. length v.items ≤ most_of counted) }
     ensures stops { IfErr result (StopsSecond (record { name = name.now; counted = counted })
         (F.seen second.old) (F.seen second.new) (F.texts second.old)) }
+    ensures absent { (ts : Texts) → F.texts second.old ≡ Some ts → first_text name.now ts ≡ None →
+        (result ≡ Err Status.ReadFault) ⊎ (result ≡ Err Status.NoMemory) }
     ensures touched { AsksFor name.now (F.seen second.old) (F.seen second.new) }
     ensures steady { result ≢ Err Status.ReadFault → result ≢ Err Status.NoMemory →
         (F.seen second.new).faults ≡ (F.seen second.old).faults }

@@ -1,17 +1,18 @@
-// `split` and `balance`: the report of a layer, and one whose masks cover about the same area.
+// `split`, `balance` and `refine`: the report of a layer, one whose masks cover about the same area, and one with fewer
+// conflicts where something is set aside.
 ghost use Rattle.std.specs.Prelude.{◌≡◌, ◌≤◌, [], length, IfOk, IfErr};
 ghost use Rattle.dpl_limits.specs.declared.TheConstants.{MOST_LAYOUT_BYTES};
 ghost use Rattle.dpl_lex.specs.Cutting.{commands_of};
 ghost use Rattle.dpl_layer.specs.Reasons.{FirstOf};
 ghost use Rattle.dpl_core.specs.Refusals.{split_reasons};
-ghost use Rattle.dpl_core.specs.Reports.{IsSplit, IsBalancedSplit};
+ghost use Rattle.dpl_core.specs.Reports.{IsSplit, IsBalancedSplit, IsRefinedSplit};
 ghost use Rattle.dpl_run.specs.due.Made.{IsMade};
 ghost use Rattle.dpl_run.specs.Errors.{status_of};
 ghost use Rattle.dpl_run.specs.Telling.{IsWorked};
 
 use crate::due::{Due, refused};
 use crate::status::Status;
-use dpl_core::{balance_commands, split_commands};
+use dpl_core::{balance_commands, refine_commands, split_commands};
 use dpl_layer::LayerError;
 use dpl_lex::types::Commands;
 use dpl_options::Options;
@@ -36,6 +37,17 @@ pub fn balance_bytes(alloc: Global, options: &Options, text: &[u8], commands: &C
         (IsBalancedSplit options.now text.now)) result.status result.output.items }
 {
     let made = balance_commands(alloc, text, commands, options);
+    reported(alloc, made)
+}
+
+/// What is due for `refine` of the bytes of a layout with its commands.
+pub fn refine_bytes(alloc: Global, options: &Options, text: &[u8], commands: &Commands) -> Due
+    requires short { length text.now ≤ MOST_LAYOUT_BYTES }
+    requires commands { commands.now ≡ commands_of text.now }
+    ensures { IsWorked (IsMade (FirstOf (split_reasons options.now text.now))
+        (IsRefinedSplit options.now text.now)) result.status result.output.items }
+{
+    let made = refine_commands(alloc, text, commands, options);
     reported(alloc, made)
 }
 

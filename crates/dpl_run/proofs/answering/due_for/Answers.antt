@@ -1,4 +1,5 @@
 use Rattle.std.proofs.Common.{arith, refl}
+use Rattle.dpl_limits.specs.declared.TheConstants.{MOST_LAYOUT_BYTES}
 use Rattle.dpl_words.specs.Views.{plain_command}
 use Rattle.dpl_run.specs.Inputs.{opens}
 use Rattle.dpl_run.specs.Answer.{DueOf}
@@ -9,6 +10,7 @@ use Rattle.dpl_run.proofs.ReadingLemmas.{layout_no_script, layout_bare, layout_s
 use Rattle.dpl_run.proofs.ReadingLemmas.{second_fault, second_limit, second_script, second_no_limit, second_bare}
 use Rattle.dpl_run.proofs.ReadingLemmas.{second_status}
 use Rattle.dpl_run.proofs.SteadyLemmas.{steady_ok, steady_stop}
+use Rattle.dpl_run.proofs.AbsentLemmas.{layout_unread, not_opened, second_unread}
 use Rattle.dpl_run.proofs.answering.due_for.Goals as goal
 
 -- ---- the layout was not read whole
@@ -42,6 +44,11 @@ returns-in-Err-clause-script_limit g c = λ count.
     layout_no_script (plain_command c.args.command.now) (g.S.Source.seen c.args.layout.now)
     (g.S.Source.seen c.layout_for.new.layout) c.in-Err.status _ count _
     (rw c.reads_layout.ensures at c.in-Err.ensures.stops) c.bare.ensures.status
+
+pub returns-in-Err-clause-absent : goal.returns-in-Err-clause-absent
+returns-in-Err-clause-absent g c = λ a.
+    layout_unread (g.S.Source.seen c.args.layout.now) (g.S.Source.seen c.layout_for.new.layout) MOST_LAYOUT_BYTES
+    c.in-Err.status _ c.in-Err.ensures.stops.1 c.bare.ensures.status
 
 pub returns-in-Err-clause-touched : goal.returns-in-Err-clause-touched
 returns-in-Err-clause-touched g c = (
@@ -99,6 +106,11 @@ returns-clause-script_limit g c = λ count.
     second_script (plain_command c.args.command.now) (g.F.Source.seen c.args.second.now)
     (g.F.Source.seen c.second_for.new.second) (g.F.Shelf.texts c.args.second.now) c.in-Err-second_for.status _ count
     c.in-Err-second_for.ensures.stops c.bare-in-Err-second_for.ensures.status
+
+pub returns-clause-absent : goal.returns-clause-absent
+returns-clause-absent g c = λ a.
+    second_unread c.second_for.result c.in-Err-second_for.status _ (c.second_for.ensures.absent a)
+    c.in-Err-second_for.is c.bare-in-Err-second_for.ensures.status
 
 pub returns-clause-touched : goal.returns-clause-touched
 returns-clause-touched g c = (rw c.reads_layout.ensures at c.layout_for.ensures.touched, c.second_for.ensures.touched)
@@ -163,6 +175,10 @@ returns-in-Ok-second_for-clause-script_limit g c = λ count e.
     (all_end (plain_command c.args.command.now) c.as_slice.result.now c.as_slice-in-Ok-second_for.result.now) _ _ 10
     count c.carry_out.ensures e in
     absurd (omega (arith, k.1))
+
+pub returns-in-Ok-second_for-clause-absent : goal.returns-in-Ok-second_for-clause-absent
+returns-in-Ok-second_for-clause-absent g c = λ a.
+    absurd (not_opened c.second_for.result c.in-Ok-second_for.text (c.second_for.ensures.absent a) c.in-Ok-second_for.is)
 
 pub returns-in-Ok-second_for-clause-bare : goal.returns-in-Ok-second_for-clause-bare
 returns-in-Ok-second_for-clause-bare g c =

@@ -3,7 +3,8 @@ use Rattle.std.specs.Prelude.{string_bytes, Ok}
 use Rattle.dpl_words.specs.Commands.{command_of}
 use Rattle.dpl_words.specs.Views.{plain_command}
 use Rattle.dpl_run.specs.Answer.{Answers, IsDue, IsStatusOf}
-use Rattle.dpl_run.specs.Devices.{Reads}
+use Rattle.dpl_run.specs.Devices.{AskForAbsent, Reads}
+use Rattle.dpl_run.proofs.AbsentLemmas.{told_unread}
 use Rattle.dpl_run.specs.declared.status.Status.TheVariants.{Usage}
 use Rattle.dpl_run.proofs.SteadyLemmas.{memory_reads, told_reads, told_steady, usage_reads}
 use Rattle.dpl_run.proofs.ToldLemmas.{attempt_answers, usage_answers, told_quiet, told_write, told_status, usage_status, memory_status}
@@ -55,6 +56,13 @@ returns-in-Err-Usage-clause-of_words g c =
 
 pub returns-in-Err-NoMemory-clause-of_words : goal.returns-in-Err-NoMemory-clause-of_words
 returns-in-Err-NoMemory-clause-of_words g c = memory_status (command_of (map string_bytes c.args.words.now))
+
+pub returns-clause-absent : goal.returns-clause-absent
+returns-clause-absent g c = λ a.
+    told_unread c.due_for-due.result.status c.due_for-due.result.output.items (g.O.Sink.taken c.args.out.now)
+    (g.O.Sink.taken c.tell.new.out) (g.O.Sink.faults c.args.out.now) (g.O.Sink.faults c.tell.new.out) c.tell.result
+    c.due_for-due.ensures.bare c.tell.ensures
+    (c.due_for-due.ensures.absent (subst (λ z. AskForAbsent z (g.F.Shelf.texts c.args.second.now)) c.in-Ok.ensures.answer a))
 
 pub returns-clause-reads : goal.returns-clause-reads
 returns-clause-reads g c =

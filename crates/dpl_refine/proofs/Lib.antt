@@ -1,0 +1,4 @@
+pub mod TurnLemmas
+pub mod PieceLemmas
+pub mod SumLemmas
+pub mod LeastLemmas

@@ -1,0 +1,7 @@
+-- what a reader must believe
+pub mod Pieces
+pub mod Refined
+-- what a turned piece wins and loses
+pub mod Gains
+-- packings that bound more
+pub mod Packed
