@@ -1,0 +1,18 @@
+mod TreeLemmas
+mod KeyLemmas
+mod ArenaLemmas
+mod JoinLemmas
+mod StepLemmas
+pub mod DueLemmas
+pub mod ShoreLemmas
+pub mod SeaLemmas
+pub mod EventLemmas
+pub mod MeetLemmas
+pub mod StackedLemmas
+pub mod NextLemmas
+pub mod StartLemmas
+pub mod MeasureLemmas
+pub mod RateLemmas
+pub mod NameLemmas
+pub mod ToldLemmas
+pub mod PopLemmas

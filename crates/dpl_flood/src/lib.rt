@@ -1,0 +1,34 @@
+//! Moats that grow around all odd faces of a part at once: their state, when something comes next, what each event keeps,
+//! and the parts of a program that stand by themselves.
+//!
+//! Each odd face begins as the seat of a member, the root of a tree of its own. Outer tops of trees grow, inner ones fall,
+//! all others rest, and between two events nothing else changes: these are the dual changes of Edmonds' matching, in
+//! all trees at once. The laws of `laws.rt` say that time and each event leave a flood a flood, so no load is ever above
+//! a chain, and that the keys of ways and sets tell when something comes. They are contracts of calls that do nothing.
+//!
+//! `Queue` has a key for each place and answers the least one. `Arena` keeps chains for good: a node is the last way of a
+//! chain from the seat of a member to a face, and nodes are only added. A `Join` is two such chains and a way between
+//! them, so it is a chain from seat to seat. `steps_at` gives the ways at each face, with their numbers. No program runs
+//! on this crate yet.
+#![tactic(auto)]
+
+mod arena;
+mod chains;
+mod laws;
+mod nodes;
+mod queue;
+mod searching;
+#[cfg(test)]
+mod tests;
+mod ways;
+
+pub use arena::Arena;
+pub use chains::{chains_stay, joins_lead, steps_are};
+pub use laws::{
+    events_keep_seas, keys_tell_events, names_keep_time, stacks_tell_falls, time_keeps_seas,
+    trees_move_tops,
+};
+pub use nodes::{Join, Last, Node};
+pub use queue::Queue;
+pub use std::alloc::AllocError as NoMemory;
+pub use ways::{Step, steps_at};
