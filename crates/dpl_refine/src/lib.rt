@@ -8,11 +8,17 @@
 mod gaining;
 mod joining;
 mod laws;
+mod laying;
 mod links;
 mod packing;
+mod parting;
 mod refining;
 mod searching;
+mod seeking;
+mod streets;
 mod turning;
+mod walking;
+mod ways;
 
 pub use joining::pieces;
 pub use laws::turns_cost;
