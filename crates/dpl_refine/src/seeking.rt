@@ -15,8 +15,11 @@ const MOST_ROUNDS: usize = 64;
 /// A walk takes one of so many parts of what its clash may carry.
 const SHARES: u64 = 10;
 
-/// So many edges are looked at at most, once onto the given cycles and once from nothing, which bounds the time.
-const MOST_STEPS: u64 = 1 << 25;
+/// So many edges are looked at at most to find walks that go with the given cycles, which bounds the time.
+const MOST_STEPS_ONTO: u64 = 1 << 23;
+
+/// So many edges are looked at at most to find walks from nothing.
+const MOST_STEPS_AFRESH: u64 = 1 << 24;
 
 /// What was found to go with the given cycles, and what was found afresh.
 #[derive(Drop)]
@@ -154,10 +157,11 @@ fn grown(
     parts: &Parts,
     cycles: &[Cycle],
     bounds: Vec<u64>,
+    steps: u64,
 ) -> Result<(Vec<Cycle>, Vec<u64>), NoMemory> {
     let mut growth = Growth {
         streets: Streets::new(alloc, graph, cycles)?,
-        reach: Reach::new(alloc, graph.nodes, MOST_STEPS)?,
+        reach: Reach::new(alloc, graph.nodes, steps)?,
         bounds,
         found: Vec::new(alloc),
     };
@@ -174,10 +178,10 @@ pub fn seek(
     parts: &mut Parts,
 ) -> Result<Found, NoMemory> {
     let given = Vec::from_slice(alloc, parts.given.as_slice())?;
-    let (more, given) = grown(alloc, graph, parts, cycles, given)?;
+    let (more, given) = grown(alloc, graph, parts, cycles, given, MOST_STEPS_ONTO)?;
     parts.given = given;
     let fresh = Vec::from_slice(alloc, parts.fresh.as_slice())?;
-    let (fresh_cycles, fresh) = grown(alloc, graph, parts, &[], fresh)?;
+    let (fresh_cycles, fresh) = grown(alloc, graph, parts, &[], fresh, MOST_STEPS_AFRESH)?;
     parts.fresh = fresh;
     Ok(Found {
         more,

@@ -1,11 +1,14 @@
 // The loads of edges and how long that makes them. Nothing here stands in a contract.
 
 use crate::parting::{add_at, number_at};
-use dpl_sign::{Cycle, Edge, Kind, Signed};
+use dpl_sign::{Cycle, Edge, Signed};
 use std::alloc::{AllocError as NoMemory, Global};
 
 /// What an edge of weight 1 that carries nothing is long.
 const UNIT: u64 = 1 << 24;
+
+/// The length of an edge that may carry no more.
+const FULL: u64 = 1 << 60;
 
 /// The edges with their loads and lengths.
 #[derive(Drop)]
@@ -13,13 +16,6 @@ pub struct Streets<'a> {
     edges: &'a [Edge],
     loads: Vec<u64>,
     lengths: Vec<u64>,
-}
-
-fn is_clash_kind(kind: Kind) -> bool {
-    match kind {
-        Kind::Clash => true,
-        _ => false,
-    }
 }
 
 /// What an edge may carry at most. A bond carries nothing.
@@ -42,6 +38,9 @@ fn power(exponent: u64) -> u64 {
 fn length_of(limit: u64, load: u64) -> u64 {
     if limit == 0 {
         return 0;
+    }
+    if limit <= load {
+        return FULL;
     }
     let quarters = load.saturating_mul(4);
     let base = UNIT.saturating_mul(power(quarters / limit)) / limit;
@@ -97,14 +96,6 @@ impl<'a> Streets<'a> {
         number_at(self.lengths.as_slice(), e as usize)
     }
 
-    /// Whether an edge is a clash.
-    pub fn is_clash(&self, e: u32) -> bool {
-        match self.edges.get(e as usize) {
-            None => false,
-            Some(edge) => is_clash_kind(edge.kind),
-        }
-    }
-
     /// What an edge may carry at most.
     pub fn limit(&self, e: u32) -> u64 {
         match self.edges.get(e as usize) {
@@ -121,7 +112,7 @@ impl<'a> Streets<'a> {
 
     /// Whether a walk may pass an edge.
     pub fn is_free(&self, e: u32) -> bool {
-        self.limit(e) == 0 || 0 < self.room(e)
+        self.length(e) < FULL
     }
 
     /// The greatest half weight for a walk, up to a most.

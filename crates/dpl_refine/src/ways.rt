@@ -5,7 +5,7 @@ use crate::links::push_end;
 use crate::parting::Parts;
 use crate::streets::Streets;
 use dpl_list::Grouped;
-use dpl_sign::{Edge, Signed};
+use dpl_sign::{Edge, Kind, Signed};
 use std::alloc::{AllocError as NoMemory, Global};
 use std::cmp::Reverse;
 use std::collections::BinaryHeap;
@@ -16,8 +16,8 @@ const MOST_LOOKS: usize = 500;
 /// A node of the double cover: how far it is, over which edge, in which search.
 #[derive(Clone, Copy, Debug)]
 struct Place {
-    mark: u32,
     far: u64,
+    mark: u32,
     via: u32,
 }
 
@@ -58,22 +58,29 @@ fn place_of(node: u32, odd: bool) -> usize {
     2 * node as usize + usize::from(odd)
 }
 
+fn is_clash(edge: &Edge) -> bool {
+    match edge.kind {
+        Kind::Clash => true,
+        _ => false,
+    }
+}
+
 /// The place beyond an edge.
-fn beyond(edge: &Edge, place: usize, is_clash: bool) -> usize {
+fn beyond(edge: &Edge, place: usize) -> usize {
     let node = if edge.a as usize == place / 2 {
         edge.b
     } else {
         edge.a
     };
-    place_of(node, (place % 2 == 1) != is_clash)
+    place_of(node, (place % 2 == 1) != is_clash(edge))
 }
 
 impl Reach {
     /// Nothing is reached.
     pub fn new(alloc: Global, nodes: u32, steps: u64) -> Result<Reach, NoMemory> {
         let nowhere = Place {
-            mark: 0,
             far: 0,
+            mark: 0,
             via: 0,
         };
         let places = vec![in alloc; nowhere; 2 * nodes as usize]?;
@@ -116,7 +123,7 @@ impl Reach {
         if known.mark == mark && known.far <= far {
             return false;
         }
-        self.places[place] = Place { mark, far, via };
+        self.places[place] = Place { far, mark, via };
         true
     }
 }
@@ -138,7 +145,7 @@ fn spread(
             let Some(edge) = streets.edge(*e) else {
                 continue;
             };
-            let next = beyond(edge, place, streets.is_clash(*e));
+            let next = beyond(edge, place);
             let further = far.saturating_add(streets.length(*e));
             if reach.note(next, further, *e) {
                 waiting.push(Reverse((further, next)))?;
@@ -202,7 +209,7 @@ pub fn walk_over(
         let Some(passed) = streets.edge(via) else {
             break;
         };
-        place = beyond(passed, place, streets.is_clash(via));
+        place = beyond(passed, place);
     }
     walk.push(e)?;
     Ok(Some(walk))
