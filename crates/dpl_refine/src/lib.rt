@@ -16,6 +16,8 @@ mod refining;
 mod searching;
 mod seeking;
 mod streets;
+#[cfg(test)]
+mod tests;
 mod turning;
 mod walking;
 mod ways;

@@ -1,5 +1,4 @@
-use Rattle.std.proofs.Common.{arith, rules, ◌≡◌, ◌∷◌, ◌≤◌, [], ◌++◌, sym, subst, true, List, ℕ}
-use Rattle.dpl_sign.specs.declared.walks.Cycle.{Cycle}
+use Rattle.std.proofs.Common.{arith, rules, ◌≡◌, ◌≤◌, sym, subst, true}
 use Rattle.dpl_refine.specs.Packed.{HaveRisen, AreLaid}
 use Rattle.dpl_refine.proofs.LayLemmas.{laid_of, laid_more}
 use Rattle.dpl_refine.proofs.packing.add.Goals as goal
