@@ -2,3 +2,5 @@ pub mod TurnLemmas
 pub mod PieceLemmas
 pub mod SumLemmas
 pub mod LeastLemmas
+pub mod LayLemmas
+pub mod OddLemmas

@@ -8,11 +8,19 @@
 mod gaining;
 mod joining;
 mod laws;
+mod laying;
 mod links;
 mod packing;
+mod parting;
 mod refining;
 mod searching;
+mod seeking;
+mod streets;
+#[cfg(test)]
+mod tests;
 mod turning;
+mod walking;
+mod ways;
 
 pub use joining::pieces;
 pub use laws::{least_are_refined, turned_are_colourings, turns_cost};

@@ -43,7 +43,7 @@ pub fn links_of(
 }
 
 /// Notes that a link ends at a piece.
-fn push_end(
+pub fn push_end(
     keys: &mut Vec<u32>,
     items: &mut Vec<u32>,
     key: u32,

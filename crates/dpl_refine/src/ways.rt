@@ -1,0 +1,216 @@
+// Shortest ways through the double cover of a graph: a node twice, reached over an even or an odd number of clashes. Nothing
+// here stands in a contract: each walk that is found is looked at again before it is taken.
+
+use crate::links::push_end;
+use crate::parting::Parts;
+use crate::streets::Streets;
+use dpl_list::Grouped;
+use dpl_sign::{Edge, Kind, Signed};
+use std::alloc::{AllocError as NoMemory, Global};
+use std::cmp::Reverse;
+use std::collections::BinaryHeap;
+
+/// So many places are looked at at most for one walk. Short walks bound more with the same weight.
+const MOST_LOOKS: usize = 500;
+
+/// A node of the double cover: how far it is, over which edge, in which search.
+#[derive(Clone, Copy, Debug)]
+struct Place {
+    far: u64,
+    mark: u32,
+    via: u32,
+}
+
+/// The places of the double cover, of which the marks tell those of this search, and the steps that are left.
+#[derive(Drop)]
+pub struct Reach {
+    places: Vec<Place>,
+    mark: u32,
+    steps: u64,
+}
+
+/// The numbers of the edges at each node, in components where the bound can rise.
+pub fn rows_of(alloc: Global, graph: &Signed, parts: &Parts) -> Result<Grouped<u32>, NoMemory> {
+    let mut keys = Vec::new(alloc);
+    let mut items = Vec::new(alloc);
+    let mut next = 0u32;
+    for edge in graph.edges.as_slice() {
+        if parts.is_open(edge.a) {
+            push_end(&mut keys, &mut items, edge.a, next, graph.nodes)?;
+            push_end(&mut keys, &mut items, edge.b, next, graph.nodes)?;
+        }
+        next = next.wrapping_add(1);
+    }
+    let rows = Grouped::by_key(alloc, graph.nodes, keys.as_slice(), items.as_slice())?;
+    Ok(rows)
+}
+
+fn row_of(rows: &Grouped<u32>, node: usize) -> &[u32] {
+    if node < rows.len() {
+        rows.row(node)
+    } else {
+        &[]
+    }
+}
+
+/// The node of the double cover.
+fn place_of(node: u32, odd: bool) -> usize {
+    2 * node as usize + usize::from(odd)
+}
+
+fn is_clash(edge: &Edge) -> bool {
+    match edge.kind {
+        Kind::Clash => true,
+        _ => false,
+    }
+}
+
+/// The place beyond an edge.
+fn beyond(edge: &Edge, place: usize) -> usize {
+    let node = if edge.a as usize == place / 2 {
+        edge.b
+    } else {
+        edge.a
+    };
+    place_of(node, (place % 2 == 1) != is_clash(edge))
+}
+
+impl Reach {
+    /// Nothing is reached.
+    pub fn new(alloc: Global, nodes: u32, steps: u64) -> Result<Reach, NoMemory> {
+        let nowhere = Place {
+            far: 0,
+            mark: 0,
+            via: 0,
+        };
+        let places = vec![in alloc; nowhere; 2 * nodes as usize]?;
+        let mark = 0;
+        Ok(Reach {
+            places,
+            mark,
+            steps,
+        })
+    }
+
+    /// Whether no steps are left.
+    pub fn is_spent(&self) -> bool {
+        self.steps == 0
+    }
+
+    fn far(&self, place: usize) -> u64 {
+        if place < self.places.len() {
+            self.places[place].far
+        } else {
+            0
+        }
+    }
+
+    fn via(&self, place: usize) -> u32 {
+        if place < self.places.len() {
+            self.places[place].via
+        } else {
+            0
+        }
+    }
+
+    /// Notes how far a place is, if that is nearer than what is known.
+    fn note(&mut self, place: usize, far: u64, via: u32) -> bool {
+        let mark = self.mark;
+        if self.places.len() <= place {
+            return false;
+        }
+        let known = self.places[place];
+        if known.mark == mark && known.far <= far {
+            return false;
+        }
+        self.places[place] = Place { far, mark, via };
+        true
+    }
+}
+
+/// Notes the places beyond the edges at a place.
+fn spread(
+    rows: &Grouped<u32>,
+    streets: &Streets<'_>,
+    reach: &mut Reach,
+    waiting: &mut BinaryHeap<Reverse<(u64, usize)>>,
+    place: usize,
+    left_out: u32,
+) -> Result<(), NoMemory> {
+    let row = row_of(rows, place / 2);
+    let far = reach.far(place);
+    reach.steps = reach.steps.saturating_sub(row.len() as u64 + 1);
+    for e in row {
+        if *e != left_out && streets.is_free(*e) {
+            let Some(edge) = streets.edge(*e) else {
+                continue;
+            };
+            let next = beyond(edge, place);
+            let further = far.saturating_add(streets.length(*e));
+            if reach.note(next, further, *e) {
+                waiting.push(Reverse((further, next)))?;
+            }
+        }
+    }
+    Ok(())
+}
+
+/// Goes from one end of an edge over other edges to its other end, and an even number of clashes.
+fn is_reached(
+    alloc: Global,
+    rows: &Grouped<u32>,
+    streets: &Streets<'_>,
+    reach: &mut Reach,
+    edge: &Edge,
+    e: u32,
+) -> Result<bool, NoMemory> {
+    reach.mark = reach.mark.wrapping_add(1);
+    let start = place_of(edge.b, false);
+    let end = place_of(edge.a, false);
+    let mut waiting = BinaryHeap::new(alloc);
+    if reach.note(start, 0, e) {
+        waiting.push(Reverse((0u64, start)))?;
+    }
+    for _look in 0..MOST_LOOKS {
+        let Some(Reverse((far, place))) = waiting.pop() else {
+            return Ok(false);
+        };
+        if place == end {
+            return Ok(true);
+        }
+        if reach.far(place) == far {
+            spread(rows, streets, reach, &mut waiting, place, e)?;
+        }
+    }
+    Ok(false)
+}
+
+/// The edges of a shortest odd walk over a clash that has room, if one is near: from its first end back, and over the clash.
+pub fn walk_over(
+    alloc: Global,
+    rows: &Grouped<u32>,
+    streets: &Streets<'_>,
+    reach: &mut Reach,
+    edge: &Edge,
+    e: u32,
+) -> Result<Option<Vec<u32>>, NoMemory> {
+    if !is_reached(alloc, rows, streets, reach, edge, e)? {
+        return Ok(None);
+    }
+    let start = place_of(edge.b, false);
+    let mut place = place_of(edge.a, false);
+    let mut walk = Vec::new(alloc);
+    for _step in 0..MOST_LOOKS {
+        if place == start {
+            break;
+        }
+        let via = reach.via(place);
+        walk.push(via)?;
+        let Some(passed) = streets.edge(via) else {
+            break;
+        };
+        place = beyond(passed, place);
+    }
+    walk.push(e)?;
+    Ok(Some(walk))
+}
