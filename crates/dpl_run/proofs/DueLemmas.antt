@@ -1,12 +1,12 @@
 -- What is due for words and texts: one status at most, and with which statuses it ends.
-use Rattle.std.proofs.Common.{arith, ◌≡◌, ◌∙◌, ℕ, ◌<◌, List, [], ◌∷◌, length, Option, Some, true, refl, sym, ap, subst, inl}
+use Rattle.std.proofs.Common.{◌≡◌, ◌∙◌, ℕ, ◌<◌, List, [], length, Option, Some, true, refl, sym, ap, subst, inl}
 use Rattle.std.specs.Prelude.{Result, Ok, Err}
 use Rattle.dpl_limits.specs.declared.counted.Counted.TheVariants.{LayoutBytes}
 use Rattle.dpl_gen.specs.Layout.{layout}
 use Rattle.dpl_words.specs.Commands.{PlainCommand, split, check, load, cross, edit, balance, refine}
 use Rattle.dpl_layer.specs.declared.error.LayerError.{LayerError}
 use Rattle.dpl_layer.specs.Errors as layer
-use Rattle.dpl_layer.specs.Reasons.{FirstOf, IsPassed}
+use Rattle.dpl_layer.specs.Reasons.{FirstOf}
 use Rattle.dpl_layer.specs.Refusals.{layer_reasons}
 use Rattle.dpl_layer.proofs.ReasonLemmas.{IsOnce, first_once, first_has}
 use Rattle.dpl_layer.proofs.RefusalLemmas.{layer_kind, never_memory, one_text_refusal, passed_once}

@@ -1,6 +1,6 @@
 -- A text is a script of one list of lines, which is no longer than the text, and two drawings of one text are the same.
-use Rattle.std.proofs.Common.{arith, ◌≡◌, ◌∙◌, ◌+◌, ◌≤◌, ◌<◌, ◌^◌, ℕ, suc, zero, Bool, true, false, List, [], ◌∷◌, length, map, refl, sym, ap}
-use Rattle.std.specs.Prelude.{codes, All, if◌then◌else◌, ◌==◌}
+use Rattle.std.proofs.Common.{arith, ◌≡◌, ◌∙◌, ◌+◌, ◌≤◌, ◌<◌, ◌^◌, ℕ, suc, zero, List, [], ◌∷◌, length, map, refl, sym, ap}
+use Rattle.std.specs.Prelude.{codes, All}
 use Rattle.dpl_form.proofs.TextLemmas.{lines_in-short}
 use Rattle.dpl_cell.specs.declared.point.Point.{Point}
 use Rattle.dpl_cell.specs.declared.rect.Rect.{Rect}

@@ -8,7 +8,6 @@ use Rattle.dpl_ext.specs.Device.{Seen, Texts, Rose, RoseBy}
 use Rattle.dpl_ext.specs.Reading.{IsWhole}
 use Rattle.dpl_gen.specs.Layout.{layout}
 use Rattle.dpl_words.specs.Commands.{PlainCommand, split, check, load, cross, edit, balance, refine}
-use Rattle.dpl_layer.specs.declared.error.LayerError.{LayerError}
 use Rattle.dpl_layer.specs.Errors.{passed}
 use Rattle.dpl_layer.specs.Reasons.{NoneOf, IsPassed}
 use Rattle.dpl_layer.proofs.ReasonLemmas.{Reason, first, later, no_first, none_cons}

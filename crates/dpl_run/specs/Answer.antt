@@ -1,5 +1,5 @@
 -- What the program answers, in the order in which its answers are tried: words, layout, second text, the work.
-use Rattle.std.specs.Prelude.{◌≡◌, ◌⊎◌, ⊤, ℕ, ◌≤◌, ◌<◌, List, [], ◌∷◌, length, true, Option, Some, None, Result, Ok, Err}
+use Rattle.std.specs.Prelude.{◌≡◌, ◌⊎◌, ⊤, ℕ, ◌≤◌, ◌<◌, List, [], ◌∷◌, length, true, Option, Some, Result, Ok, Err}
 use Rattle.std.specs.Io.KnownBytes.{Appends, Keeps}
 use Rattle.dpl_limits.specs.declared.TheConstants.{MOST_LAYOUT_BYTES}
 use Rattle.dpl_limits.specs.declared.counted.Counted.TheVariants.{LayoutBytes}
