@@ -9,6 +9,12 @@ use dpl_list::{Grouped, Items};
 use dpl_sign::{Cycle, Kind, Signed, Walk};
 use std::alloc::{AllocError as NoMemory, Global};
 
+/// So many places are looked at at most for one walk, first, since short walks bound more with the same weight.
+const NEAR: usize = 500;
+
+/// And so many then.
+const FAR: usize = 4000;
+
 /// Each clash is taken so often at most.
 const MOST_ROUNDS: usize = 64;
 
@@ -131,21 +137,21 @@ fn one_round(
     Ok(left)
 }
 
-/// Takes walks over the clashes of components where the bound can rise, in turn.
+/// Takes walks over the clashes of components where the bound can rise, in turn, as long as there are any.
 fn fill(
     alloc: Global,
     graph: &Signed,
+    rows: &Grouped<u32>,
     parts: &Parts,
     growth: &mut Growth<'_>,
 ) -> Result<(), NoMemory> {
-    let rows = rows_of(alloc, graph, parts)?;
     let mut clashes = open_clashes(alloc, graph, parts)?;
     for round in 0..MOST_ROUNDS {
         if clashes.is_empty() {
             break;
         }
         shuffle(clashes.as_mut_slice(), round as u64);
-        clashes = one_round(alloc, &rows, parts, growth, clashes.as_slice())?;
+        clashes = one_round(alloc, rows, parts, growth, clashes.as_slice())?;
     }
     Ok(())
 }
@@ -165,7 +171,11 @@ fn grown(
         bounds,
         found: Vec::new(alloc),
     };
-    fill(alloc, graph, parts, &mut growth)?;
+    let rows = rows_of(alloc, graph, parts)?;
+    growth.reach.look_at(NEAR);
+    fill(alloc, graph, &rows, parts, &mut growth)?;
+    growth.reach.look_at(FAR);
+    fill(alloc, graph, &rows, parts, &mut growth)?;
     let Growth { bounds, found, .. } = growth;
     Ok((found, bounds))
 }

@@ -10,9 +10,6 @@ use std::alloc::{AllocError as NoMemory, Global};
 use std::cmp::Reverse;
 use std::collections::BinaryHeap;
 
-/// So many places are looked at at most for one walk. Short walks bound more with the same weight.
-const MOST_LOOKS: usize = 500;
-
 /// A node of the double cover: how far it is, over which edge, in which search.
 #[derive(Clone, Copy, Debug)]
 struct Place {
@@ -26,6 +23,7 @@ struct Place {
 pub struct Reach {
     places: Vec<Place>,
     mark: u32,
+    looks: usize,
     steps: u64,
 }
 
@@ -85,11 +83,18 @@ impl Reach {
         };
         let places = vec![in alloc; nowhere; 2 * nodes as usize]?;
         let mark = 0;
+        let looks = 0;
         Ok(Reach {
             places,
             mark,
+            looks,
             steps,
         })
+    }
+
+    /// So many places are looked at at most for one walk from now on.
+    pub fn look_at(&mut self, looks: usize) {
+        self.looks = looks;
     }
 
     /// Whether no steps are left.
@@ -171,7 +176,7 @@ fn is_reached(
     if reach.note(start, 0, e) {
         waiting.push(Reverse((0u64, start)))?;
     }
-    for _look in 0..MOST_LOOKS {
+    for _look in 0..reach.looks {
         let Some(Reverse((far, place))) = waiting.pop() else {
             return Ok(false);
         };
@@ -200,7 +205,7 @@ pub fn walk_over(
     let start = place_of(edge.b, false);
     let mut place = place_of(edge.a, false);
     let mut walk = Vec::new(alloc);
-    for _step in 0..MOST_LOOKS {
+    for _step in 0..reach.looks {
         if place == start {
             break;
         }
