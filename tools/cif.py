@@ -4,11 +4,16 @@ What a command means stands in docs/cif.md. Lengths are grid units, of which a h
 Nothing here is proved, and nothing here is part of the program: it serves the tools beside it.
 """
 
+from __future__ import annotations
+
+import re
 from fractions import Fraction
+from typing import Any
 
 DIGITS = frozenset(b"0123456789")
 UPPERS = frozenset(b"ABCDEFGHIJKLMNOPQRSTUVWXYZ")
 MARKS = frozenset(b"-();")
+NUMBER = re.compile(rb"-?[0-9]+")
 
 RULES = {
     1: "it has no form of CIF 2.0, or it is a comment without its closing parenthesis",
@@ -69,20 +74,7 @@ def end_of(text, at):
 
 def numbers(piece):
     """The integers of a piece of a command, whatever separates them."""
-    found = []
-    at = 0
-    while at < len(piece):
-        start = at
-        if piece[at : at + 1] == b"-":
-            at += 1
-        digits = at
-        while at < len(piece) and piece[at] in DIGITS:
-            at += 1
-        if at > digits:
-            found.append(int(piece[start:at]))
-        elif at == start:
-            at += 1
-    return found
+    return [int(number) for number in NUMBER.findall(piece)]
 
 
 MOST_SHOWN = 200
@@ -107,8 +99,8 @@ class Layout:
     counts as many times as it has points, anything else once.
     """
 
-    def __init__(self, text):
-        self.bodies = {None: []}
+    def __init__(self, text: bytes) -> None:
+        self.bodies: dict[int | None, list[tuple[str | None, Any]]] = {None: []}
         self.read(text)
 
     def read(self, text):
