@@ -8,8 +8,8 @@ to rings), polygons (overlapping themselves, slanted) and labels on several laye
 arrayed and magnified. Besides there are DEF files with LEF, of 1,000 to 20,000 units a micron, whose metal is known
 without KLayout. The text is read by tools/cif.py, and both sides are filled and compared strip by strip, shapes of a
 layout by their winding number and figures of the text by even and odd. A layer with slanted sides is read by KLayout, and
-may differ by what is thinner than two units. Ends with 1 where one differs. The import is that of tools/import without its
-own check, many in one run of KLayout.
+may differ by what is thinner than two units. Ends with 1 where one differs. Many are imported in one run of KLayout, with the
+check of tools/import.
 """
 
 from __future__ import annotations
@@ -236,7 +236,7 @@ def random_case(seed: int, folder: str, pya: Any) -> Case:
 
 
 def asked(path: str, times: int, names: dict[str, str], only: list[str], cell: str | None, lef: tuple[str, ...] = ()) -> dict[str, Any]:
-    return {"layout": path, "lef": list(lef), "times": times, "names": names, "layers": only, "cell": cell, "unchecked": True}
+    return {"layout": path, "lef": list(lef), "times": times, "names": names, "layers": only, "cell": cell, "unchecked": False}
 
 
 # ---- DEF and LEF

@@ -206,7 +206,7 @@ def call_of(command, scale):
                 at += 1
             x, y = numbers(command[start:at])[:2]
             if kind == b"T":
-                placed = after((1, 0, 0, 1, x * scale, y * scale), placed)
+                placed = after((1, 0, 0, 1, scaled(x, scale), scaled(y, scale)), placed)
             else:
                 cos, sin = (x > 0) - (x < 0), (y > 0) - (y < 0)
                 placed = after((cos, -sin, sin, cos, 0, 0), placed)
@@ -231,30 +231,35 @@ def box(x1, y1, x2, y2):
     return [(x1, y1), (x2, y1), (x2, y2), (x1, y2)]
 
 
+def scaled(number, scale):
+    """A multiple, as an integer where it is one, since integers are faster than fractions."""
+    whole, rest = divmod(number * scale.numerator, scale.denominator)
+    return Fraction(number * scale.numerator, scale.denominator) if rest else whole
+
+
 def figures_of(command, scale):
     """The boxes and the polygon of a command."""
     parts = numbers(command)
     half = scale / 2
     if command[:1] == b"P":
-        return [Polygon((x * scale, y * scale) for x, y in zip(parts[::2], parts[1::2]))]
+        return [Polygon((scaled(x, scale), scaled(y, scale)) for x, y in zip(parts[::2], parts[1::2]))]
     if command[:1] == b"B":
         length, width, x, y = parts[:4]
         if len(parts) > 4 and parts[4] == 0:
             length, width = width, length
         if length == 0 or width == 0:
             return []
-        x1, y1, x2, y2 = 2 * x - length, 2 * y - width, 2 * x + length, 2 * y + width
-        return [box(x1 * half, y1 * half, x2 * half, y2 * half)]
+        return [box(*(scaled(at, half) for at in (2 * x - length, 2 * y - width, 2 * x + length, 2 * y + width)))]
     width, points = parts[0], list(zip(parts[1::2], parts[2::2]))
     if width == 0:
         return []
     pairs = list(zip(points, points[1:])) or [(points[0], points[0])]
     return [
         box(
-            (2 * min(p[0], q[0]) - width) * half,
-            (2 * min(p[1], q[1]) - width) * half,
-            (2 * max(p[0], q[0]) + width) * half,
-            (2 * max(p[1], q[1]) + width) * half,
+            scaled(2 * min(p[0], q[0]) - width, half),
+            scaled(2 * min(p[1], q[1]) - width, half),
+            scaled(2 * max(p[0], q[0]) + width, half),
+            scaled(2 * max(p[1], q[1]) + width, half),
         )
         for p, q in pairs
     ]

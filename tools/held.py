@@ -7,17 +7,19 @@ definition is scaled exactly.
 from __future__ import annotations
 
 from fractions import Fraction
-from typing import Tuple
+from typing import Tuple, Union
 
 import pya  # type: ignore[import]
 
 from cif import Layout, Polygon, Unreadable
-from metal import raw
+from metal import DRAWN, OTHERS, filled, raw
 from reading import microns_of
 from writing import Chosen
 
 MOST = (1 << 31) - 1
 SHOWN = 3
+# the rule of KLayout's edge processor
+EVEN_ODD = 0
 # the turns of KLayout by what they make of x and of y: quarters, and whether a mirror at the level axis is before them
 TURNS = {
     (1, 0, 0, 1): (0, False),
@@ -31,8 +33,9 @@ TURNS = {
 }
 
 
+Length = Union[int, Fraction]
 # how a call is placed, as cif.py has it: the four numbers of a turn, and a shift
-Placement = Tuple[int, int, int, int, Fraction, Fraction]
+Placement = Tuple[int, int, int, int, Length, Length]
 
 
 class Read:
@@ -46,11 +49,19 @@ class Read:
         bodies = Layout(text).bodies
         self.cells = {owner: self.layout.create_cell(f"D{owner}") for owner in bodies}
         for owner, items in bodies.items():
+            figures: dict[str, pya.Region] = {}
             for name, item in items:
                 if name is None:
                     self.call(self.cells[owner], *item)
                 else:
-                    self.figure(self.cells[owner], name, item)
+                    self.figure(figures.setdefault(name, pya.Region()), item)
+            for name, shapes in figures.items():
+                self.cells[owner].shapes(self.layer(name)).insert(shapes)
+
+    def layer(self, name: str) -> int:
+        if name not in self.layers:
+            self.layers[name] = self.layout.layer(pya.LayerInfo(name))
+        return self.layers[name]
 
     def call(self, cell: pya.Cell, number: int, placed: Placement) -> None:
         if number not in self.cells:
@@ -58,22 +69,20 @@ class Read:
         turn = pya.Trans(*TURNS[placed[:4]], *(self.whole(at) for at in placed[4:]))
         cell.insert(pya.CellInstArray(self.cells[number].cell_index(), turn))
 
-    def figure(self, cell: pya.Cell, name: str, corners: list[tuple[Fraction, Fraction]]) -> None:
-        if name not in self.layers:
-            self.layers[name] = self.layout.layer(pya.LayerInfo(name))
-        points = [pya.Point(self.whole(x), self.whole(y)) for x, y in corners]
-        shapes = cell.shapes(self.layers[name])
+    def figure(self, shapes: pya.Region, corners: list[tuple[Length, Length]]) -> None:
         if isinstance(corners, Polygon):
-            for polygon in pya.EdgeProcessor().simple_merge_p2p([pya.Polygon(points, True)], False, False, 0):
-                shapes.insert(polygon)
+            polygon = pya.Polygon([pya.Point(self.whole(x), self.whole(y)) for x, y in corners], True)
+            for part in pya.EdgeProcessor().simple_merge_p2p([polygon], False, False, EVEN_ODD):
+                shapes.insert(part)
         else:
-            shapes.insert(pya.Box(points[0], points[2]))
+            (left, bottom), _, (right, top), _ = corners
+            shapes.insert(pya.Box(self.whole(left), self.whole(bottom), self.whole(right), self.whole(top)))
 
-    def whole(self, length: Fraction) -> int:
+    def whole(self, length: Length) -> int:
         """A length of the text in units of the layout."""
-        found = length / self.unit
-        if found.denominator != 1 or abs(found) > MOST:
-            raise Unreadable(f"the text has a corner at {float(found)} units of the layout, where the layout has none")
+        found, rest = divmod(length * self.unit.denominator, self.unit.numerator)
+        if rest or abs(found) > MOST:
+            raise Unreadable(f"the text has a corner at {float(length / self.unit):.9g} units of the layout, where the layout has none")
         return int(found)
 
     def metal(self, name: str) -> pya.Region:
@@ -95,18 +104,22 @@ def hold(text: bytes, chosen: Chosen, times: int) -> None:
 
 
 def metal(chosen: Chosen, name: str) -> pya.Region:
-    """A layer of the layout as KLayout has it, by all instances."""
+    """A layer of the layout as KLayout has it, by all instances: rectangles, and what the others fill together."""
     found = pya.Region()
     for index in chosen.layers[name]:
-        found += pya.Region(pya.RecursiveShapeIterator(chosen.layout, chosen.cell, index))
-    return found
+        shapes = pya.RecursiveShapeIterator(chosen.layout, chosen.cell, index)
+        shapes.shape_flags = DRAWN
+        found += pya.Region(shapes)
+        shapes.shape_flags = OTHERS
+        found += filled(pya.Region(shapes)).merged()
+    return raw(found)
 
 
 def differences(layout: pya.Region, text: pya.Region) -> list[pya.Box]:
     """Where two layers differ. Slanted sides cross each other between the points of the grid, where KLayout rounds; so of a
     layer that has such sides, which `dpl` refuses, what is thinner than two units of the layout says nothing."""
     differ = layout ^ text
-    if not raw(layout).non_rectilinear().is_empty():
+    if not layout.non_rectilinear().is_empty():
         differ = differ.sized(-1)
     return [polygon.bbox() for polygon in differ.each()]
 

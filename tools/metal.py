@@ -14,7 +14,16 @@ OTHERS = pya.Shapes.SPolygons | pya.Shapes.SPaths
 
 def rectangles_of(others: pya.Region) -> pya.Region:
     """The rectangles that shapes with level sides fill together."""
-    return others.merged().decompose_trapezoids_to_region()
+    return filled(others).merged().decompose_trapezoids_to_region()
+
+
+def filled(shapes: pya.Region) -> pya.Region:
+    """Shapes without lines that go there and back: those have four points, and KLayout may take them for a box."""
+    found = raw(raw(shapes).with_area(0, True))
+    for shape in raw(shapes.with_area(0, False)).each():
+        if shape.num_points() > 4:
+            found.insert(shape)
+    return found
 
 
 def own(layout: pya.Layout, cell: pya.Cell, index: int, kinds: int = DRAWN | OTHERS) -> pya.Region:
