@@ -7,6 +7,7 @@ is as large as its layout.
 from __future__ import annotations
 
 import re
+from typing import Optional
 
 LINE = re.compile(rb"\s*\(scale ([1-9]\d{0,8})\);")
 MOST_READ = 4_096
@@ -16,10 +17,15 @@ def line(times: int) -> str:
     return f"(scale {times});\n"
 
 
-def of(text: bytes) -> int:
-    """What the head of a text says."""
+def told(text: bytes) -> Optional[int]:
+    """What the head of a text says; None where it says nothing."""
     found = LINE.match(text[:MOST_READ])
-    return int(found[1]) if found else 1
+    return int(found[1]) if found else None
+
+
+def of(text: bytes) -> int:
+    """How many times as large a text is, 1 where its head says nothing."""
+    return told(text) or 1
 
 
 def read(path: str) -> int:
