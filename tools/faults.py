@@ -6,7 +6,7 @@ import os
 import re
 from typing import Callable, Dict, List, NamedTuple, Optional, Sequence
 
-import reading
+import given_layout
 import words as command_line
 from cif import RULES, Layout, Unreadable, is_blank, printable, shown
 from forms import other_form
@@ -140,7 +140,7 @@ def read_fault(_: List[int], asked: Asked) -> str:
     try:
         os.read(0, 0)
     except OSError as error:
-        return reading.why(error)
+        return given_layout.why(error)
     return "the layout, which comes from the standard input, or a file that is named could not be read to its end"
 
 

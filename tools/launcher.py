@@ -11,7 +11,7 @@ import sys
 from typing import IO, Callable, Dict, List, NamedTuple, NoReturn, Optional, Sequence, Tuple
 
 import kit
-import reading
+import given_layout
 import words as command_line
 from kit import BINARY, FAILED, MISUSED, Ended, Failed, Misused
 
@@ -125,20 +125,20 @@ def of_program(words: Sequence[str]) -> int:
         kit.tell(f"{OLD}\n")
     times, asked = 1, given
     if reads_layout(given):
-        if reading.is_terminal(named):
+        if given_layout.is_terminal(named):
             kit.tell("dpl: the layout is read from this terminal; < FILE or --input FILE gives it one\n")
         has_units = command_line.has_units(given)
-        reading.layout_from(named, is_held=speaks() or has_units)
+        given_layout.layout_from(named, is_held=speaks() or has_units)
         if has_units:
-            times = reading.scale_of()
+            times = given_layout.scale_of()
             asked = command_line.in_hundredths(given, times)
     if has_program and not speaks():
         os.execv(BINARY, ["dpl", *asked])
-    begins = reading.place()
+    begins = given_layout.place()
     answer, layout = (watched(asked), None) if has_program else unproved(asked)
     kit.tell(answer.line)
     if speaks():
-        explain(answer, asked, times, layout if layout is not None else reading.again(begins))
+        explain(answer, asked, times, layout if layout is not None else given_layout.again(begins))
     return answer.status
 
 
@@ -220,7 +220,7 @@ def unproved(words: Sequence[str]) -> Tuple[Answer, Optional[bytes]]:
     kit.find_kit()
     kit.tell(f"{UNPROVED}\n")
     reads = command_line.COMMANDS[words[0]].reads_layout
-    layout = b"".join(reading.layout()) if reads else b""
+    layout = b"".join(given_layout.layout()) if reads else b""
     status, out, told = trying.answer(words, layout, kit.Line())
     if not written(out):
         return Answer(6, "dpl: write fault\n", b""), layout

@@ -14,7 +14,7 @@ from typing import Sequence, Tuple
 
 import words as command_line
 from kit import Ended, Failed, Line, rt
-from reading import MOST_LAYOUT, parts_of
+from given_layout import MOST_LAYOUT, parts_of
 
 SECONDS = 900
 WITHOUT = "the sources without their proofs give no answer to this"
