@@ -6,6 +6,7 @@ Nothing here is proved, and nothing here is part of the program: it serves the t
 
 from __future__ import annotations
 
+import re
 from fractions import Fraction
 from typing import Dict, FrozenSet, Iterator, List, NamedTuple, Optional, Tuple, Union
 
@@ -14,6 +15,7 @@ from forms import other_form
 DIGITS = frozenset(b"0123456789")
 UPPERS = frozenset(b"ABCDEFGHIJKLMNOPQRSTUVWXYZ")
 MARKS = frozenset(b"-();")
+NUMBER = re.compile(rb"-?[0-9]+")
 
 RULES = {
     1: "it has no form of CIF 2.0, or it is a comment without its closing parenthesis",
@@ -80,20 +82,7 @@ def end_of(text: bytes, at: int) -> Optional[int]:
 
 def numbers(piece: bytes) -> List[int]:
     """The integers of a piece of a command, whatever separates them."""
-    found = []
-    at = 0
-    while at < len(piece):
-        start = at
-        if piece[at : at + 1] == b"-":
-            at += 1
-        digits = at
-        while at < len(piece) and piece[at] in DIGITS:
-            at += 1
-        if at > digits:
-            found.append(int(piece[start:at]))
-        elif at == start:
-            at += 1
-    return found
+    return [int(number) for number in NUMBER.findall(piece)]
 
 
 MOST_SHOWN = 200

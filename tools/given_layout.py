@@ -97,4 +97,4 @@ def scale_of() -> int:
     import scale
 
     begins = place()
-    return 1 if begins is None else scale.of(os.pread(0, scale.MOST_READ, begins))
+    return 1 if begins is None else scale.of(os.pread(0, scale.HEAD, begins))

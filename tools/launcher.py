@@ -10,8 +10,8 @@ import signal
 import sys
 from typing import IO, Callable, Dict, List, NamedTuple, NoReturn, Optional, Sequence, Tuple
 
-import kit
 import given_layout
+import kit
 import words as command_line
 from kit import BINARY, FAILED, MISUSED, Ended, Failed, Misused
 

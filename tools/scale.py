@@ -1,7 +1,6 @@
-"""How many times as large a text is as the layout that it was made from: the line at its head, written and read.
+"""How much larger a CIF text is than the layout that it was made of: the comment with which `tools/import` begins a text.
 
-`tools/import --times 10` writes `(scale 10);` at the head of its CIF, a comment to every other reader. A text without it
-is as large as its layout.
+`(scale 10);` says that all lengths were multiplied by ten, `(scale 1);` that they were not.
 """
 
 from __future__ import annotations
@@ -9,26 +8,26 @@ from __future__ import annotations
 import re
 from typing import Optional
 
-LINE = re.compile(rb"\s*\(scale ([1-9]\d{0,8})\);")
-MOST_READ = 4_096
+HEAD = 4096
+LINE = re.compile(rb"^\(scale ([1-9][0-9]{0,17})\);", re.MULTILINE)
 
 
 def line(times: int) -> str:
-    return f"(scale {times});\n"
+    return f"(scale {times});"
 
 
 def told(text: bytes) -> Optional[int]:
-    """What the head of a text says; None where it says nothing."""
-    found = LINE.match(text[:MOST_READ])
+    """By what the lengths of a text were multiplied; None where its head does not say so."""
+    found = LINE.search(text[:HEAD])
     return int(found[1]) if found else None
 
 
 def of(text: bytes) -> int:
-    """How many times as large a text is, 1 where its head says nothing."""
+    """The same, 1 where the head does not say so."""
     return told(text) or 1
 
 
-def read(path: str) -> int:
-    """What the head of a file says."""
+def read(path: str) -> Optional[int]:
+    """The same as `told` for a file."""
     with open(path, "rb") as file:
-        return of(file.read(MOST_READ))
+        return told(file.read(HEAD))

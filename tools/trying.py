@@ -13,8 +13,8 @@ import tempfile
 from typing import Sequence, Tuple
 
 import words as command_line
-from kit import Ended, Failed, Line, rt
 from given_layout import MOST_LAYOUT, parts_of
+from kit import Ended, Failed, Line, rt
 
 SECONDS = 900
 WITHOUT = "the sources without their proofs give no answer to this"
