@@ -6,6 +6,7 @@
 from __future__ import annotations
 
 import re
+from typing import Optional
 
 HEAD = 4096
 LINE = re.compile(rb"^\(scale ([1-9][0-9]{0,17})\);", re.MULTILINE)
@@ -15,8 +16,18 @@ def line(times: int) -> str:
     return f"(scale {times});"
 
 
-def read(path: str) -> int | None:
+def told(text: bytes) -> Optional[int]:
     """By what the lengths of a text were multiplied; None where its head does not say so."""
-    with open(path, "rb") as file:
-        found = LINE.search(file.read(HEAD))
+    found = LINE.search(text[:HEAD])
     return int(found[1]) if found else None
+
+
+def of(text: bytes) -> int:
+    """The same, 1 where the head does not say so."""
+    return told(text) or 1
+
+
+def read(path: str) -> Optional[int]:
+    """The same as `told` for a file."""
+    with open(path, "rb") as file:
+        return told(file.read(HEAD))
