@@ -7,11 +7,10 @@ definition is scaled exactly.
 from __future__ import annotations
 
 from fractions import Fraction
-from typing import Tuple, Union
 
 import pya  # type: ignore[import]
 
-from cif import Layout, Polygon, Unreadable
+from cif import Call, Layout, Number, Point, Polygon, Unreadable
 from metal import DRAWN, OTHERS, filled, raw
 from reading import microns_of
 from writing import Chosen
@@ -21,7 +20,7 @@ SHOWN = 3
 # the rule of KLayout's edge processor
 EVEN_ODD = 0
 # the turns of KLayout by what they make of x and of y: quarters, and whether a mirror at the level axis is before them
-TURNS = {
+TURNS: dict[tuple[Number, ...], tuple[int, bool]] = {
     (1, 0, 0, 1): (0, False),
     (0, -1, 1, 0): (1, False),
     (-1, 0, 0, -1): (2, False),
@@ -31,11 +30,6 @@ TURNS = {
     (-1, 0, 0, 1): (2, True),
     (0, -1, -1, 0): (3, True),
 }
-
-
-Length = Union[int, Fraction]
-# how a call is placed, as cif.py has it: the four numbers of a turn, and a shift
-Placement = Tuple[int, int, int, int, Length, Length]
 
 
 class Read:
@@ -50,11 +44,11 @@ class Read:
         self.cells = {owner: self.layout.create_cell(f"D{owner}") for owner in bodies}
         for owner, items in bodies.items():
             figures: dict[str, pya.Region] = {}
-            for name, item in items:
-                if name is None:
-                    self.call(self.cells[owner], *item)
+            for name, what in items:
+                if isinstance(what, Call):
+                    self.call(self.cells[owner], what)
                 else:
-                    self.figure(figures.setdefault(name, pya.Region()), item)
+                    self.figure(figures.setdefault(name or "", pya.Region()), what)
             for name, shapes in figures.items():
                 self.cells[owner].shapes(self.layer(name)).insert(shapes)
 
@@ -63,13 +57,14 @@ class Read:
             self.layers[name] = self.layout.layer(pya.LayerInfo(name))
         return self.layers[name]
 
-    def call(self, cell: pya.Cell, number: int, placed: Placement) -> None:
-        if number not in self.cells:
-            raise Unreadable(f"the text calls a definition {number} that it does not have")
-        turn = pya.Trans(*TURNS[placed[:4]], *(self.whole(at) for at in placed[4:]))
-        cell.insert(pya.CellInstArray(self.cells[number].cell_index(), turn))
+    def call(self, cell: pya.Cell, call: Call) -> None:
+        if call.number not in self.cells:
+            raise Unreadable(f"the text calls a definition {call.number} that it does not have")
+        *turn, x, y = call.placed
+        placed = pya.Trans(*TURNS[tuple(turn)], self.whole(x), self.whole(y))
+        cell.insert(pya.CellInstArray(self.cells[call.number].cell_index(), placed))
 
-    def figure(self, shapes: pya.Region, corners: list[tuple[Length, Length]]) -> None:
+    def figure(self, shapes: pya.Region, corners: list[Point]) -> None:
         if isinstance(corners, Polygon):
             polygon = pya.Polygon([pya.Point(self.whole(x), self.whole(y)) for x, y in corners], True)
             for part in pya.EdgeProcessor().simple_merge_p2p([polygon], False, False, EVEN_ODD):
@@ -78,7 +73,7 @@ class Read:
             (left, bottom), _, (right, top), _ = corners
             shapes.insert(pya.Box(self.whole(left), self.whole(bottom), self.whole(right), self.whole(top)))
 
-    def whole(self, length: Length) -> int:
+    def whole(self, length: Number) -> int:
         """A length of the text in units of the layout."""
         found, rest = divmod(length * self.unit.denominator, self.unit.numerator)
         if rest or abs(found) > MOST:

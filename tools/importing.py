@@ -93,7 +93,7 @@ class Layers:
         if len(tops) > 1:
             raise Unreadable(f"there are several top cells: --cell takes one of {names}")
         if not tops:
-            raise Unreadable("no layer has a figure")
+            raise Unreadable(f"layer {self.only[0]} has no figure" if self.only else "no layer has a figure")
         return tops[0]
 
     def is_drawn(self, cell: pya.Cell, index: int) -> bool:
