@@ -11,7 +11,7 @@ from fractions import Fraction
 import pya  # type: ignore[import]
 
 from cif import Call, Layout, Number, Point, Polygon, Unreadable
-from metal import DRAWN, OTHERS, filled, raw
+from metal import DRAWN, OTHERS, filled, raw, shapes_of
 from reading import microns_of
 from writing import Chosen
 
@@ -102,11 +102,8 @@ def metal(chosen: Chosen, name: str) -> pya.Region:
     """A layer of the layout as KLayout has it, by all instances: rectangles, and what the others fill together."""
     found = pya.Region()
     for index in chosen.layers[name]:
-        shapes = pya.RecursiveShapeIterator(chosen.layout, chosen.cell, index)
-        shapes.shape_flags = DRAWN
-        found += pya.Region(shapes)
-        shapes.shape_flags = OTHERS
-        found += filled(pya.Region(shapes)).merged()
+        found += shapes_of(chosen.layout, chosen.cell.cell_index(), index, DRAWN)
+        found += filled(shapes_of(chosen.layout, chosen.cell.cell_index(), index, OTHERS)).merged()
     return raw(found)
 
 

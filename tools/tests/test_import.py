@@ -244,10 +244,11 @@ class Refusals(Imports):
 
     def test_text_that_is_not_the_layout(self) -> None:
         for name, old, new in (
-            ("large.gds", "T 0 0;", "T 2 0;"),
+            ("array.oas", " T 0 0;", " T 2 0;"),
+            ("array.oas", "R 0 1 T 0 0;", "R 0 -1 T 0 0;"),
+            ("array.oas", "C 1 R 0 1 T 1200 12000;", ""),
             ("large.gds", "B 10000 1000", "B 10000 1002"),
             ("large.gds", "DS 1 1 20", "DS 1 1 10"),
-            ("large.gds", "C 1 ", "(C 1) "),
             ("slanted.gds", "P 0 0 0 1800", "P 0 0 0 1780"),
             ("slanted.gds", "L L2D0", "L L9D0"),
             ("twice.oas", "B 6000", "P 0 0 6000 0 6000 8000 0 8000;B 6000"),
