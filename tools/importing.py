@@ -18,6 +18,7 @@ from writing import Chosen, lines
 
 FIGURES = DRAWN | OTHERS
 MOST_NAME = 31
+MOST_BYTES = 16_777_216
 
 
 def run(words: str, target: str, said: str) -> None:
@@ -43,7 +44,7 @@ def made(asked: dict[str, Any], target: str) -> str:
         hold(text, chosen, asked["times"])
     with open(target, "wb") as file:
         file.write(text)
-    return told(layers, chosen)
+    return told(layers, chosen, len(text))
 
 
 class Layers:
@@ -126,8 +127,8 @@ def own_name(info: pya.LayerInfo) -> str:
     return re.sub("[^0-9A-Z]", "", info.name.upper())[:MOST_NAME] or f"L{info.layer}D{info.datatype}"
 
 
-def told(layers: Layers, chosen: Chosen) -> str:
-    """What an engineer may miss in the text: layers that came apart, and what was left out."""
+def told(layers: Layers, chosen: Chosen, size: int) -> str:
+    """What an engineer may miss in the text: layers that came apart, what was left out, and that it is too long."""
     apart = [index for index in indexes_of(chosen) if not layers.given(index) and wire_of(layers, index)]
     said = []
     if apart:
@@ -137,6 +138,8 @@ def told(layers: Layers, chosen: Chosen) -> str:
     missing = list(left_out(layers, chosen))
     if missing:
         said.append(f"left out: {', '.join(missing)}")
+    if size > MOST_BYTES:
+        said.append(f"the text has {size:,} bytes, and dpl takes {MOST_BYTES:,}: --layer writes the layers that are wanted")
     return "; ".join(said)
 
 
