@@ -119,7 +119,8 @@ class Layers:
 
 def is_called(info: pya.LayerInfo, word: str) -> bool:
     """Whether a layer is meant by its number and data type, as 15/0 or 15, or by its name."""
-    return word in (f"{info.layer}/{info.datatype}", info.name) or info.datatype == 0 and word == str(info.layer)
+    names = (f"{info.layer}/{info.datatype}", info.name, str(info.layer) if info.datatype == 0 else "")
+    return word != "" and word in names
 
 
 def own_name(info: pya.LayerInfo) -> str:
@@ -154,10 +155,11 @@ def wire_of(layers: Layers, index: int) -> str | None:
 
 
 def left_out(layers: Layers, chosen: Chosen) -> Iterator[str]:
+    cells = [chosen.cell, *map(chosen.layout.cell, chosen.cell.called_cells())]
     labels = empty = 0
-    for number in [chosen.cell.cell_index(), *chosen.cell.called_cells()]:
+    for cell in cells:
         for index in layers.infos:
-            shapes = chosen.layout.cell(number).shapes(index)
+            shapes = cell.shapes(index)
             labels += sum(1 for _ in shapes.each(pya.Shapes.STexts))
             if index in layers.wanted:
                 empty += sum(1 for shape in shapes.each(pya.Shapes.SAll) if not shape.is_text() and has_no_area(shape))
@@ -165,6 +167,9 @@ def left_out(layers: Layers, chosen: Chosen) -> Iterator[str]:
         yield counted(labels, "label")
     if empty:
         yield counted(empty, "figure") + " without area"
+    ghosts = sorted(cell.name for cell in cells if cell.is_ghost_cell())
+    if ghosts:
+        yield f"the cells {', '.join(ghosts)}, which the layout calls and does not have"
     others = sorted(str(info) for index, info in layers.infos.items() if index not in layers.wanted)
     if others:
         yield f"the layers {', '.join(others)}"

@@ -22,7 +22,7 @@ FINEST = Fraction(1, 100_000)
 COMMENT = re.compile(rb"#.*")
 MICRONS = re.compile(rb"\bMICRONS\s+([1-9][0-9]*)")
 # the statements of LEF that say where metal is, as far as they have more digits than a nanometre needs
-PLACES = re.compile(rb"\b(?:RECT|POLYGON|PATH|WIDTH|OFFSET|ORIGIN|SIZE|FOREIGN|ITERATE|CUTSIZE|CUTSPACING|ENCLOSURE|VIA)\b([^;]*);")
+PLACES = re.compile(rb"\b(?:RECT|POLYGON|PATH|WIDTH|WIREEXTENSION|OFFSET|ORIGIN|SIZE|FOREIGN|ITERATE|CUTSIZE|CUTSPACING|ENCLOSURE|VIA)\b([^;]*);")
 DECIMAL = re.compile(rb"-?[0-9]*\.[0-9]{4,}")
 
 

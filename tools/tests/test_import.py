@@ -218,6 +218,11 @@ class Choices(Imports):
     def test_what_is_left_out_is_told(self) -> None:
         self.assertEqual(self.told("slanted.gds", "--layer", "2"), "import: left out: 1 label, the layers 1/0, 3/0\n")
 
+    def test_cells_that_are_not_there_are_told(self) -> None:
+        self.write("ghost.gds", gds.library([("TOP", gds.call("NONE", 0, 0) + gds.box(1, 0, 0, 0, 100, 100))], 0.001))
+        told = self.told("ghost.gds")
+        self.assertEqual(told, "import: left out: the cells NONE, which the layout calls and does not have\n")
+
     def test_pins_are_told(self) -> None:
         lef = self.path(self.write("cells.lef", LEF.encode()))
         self.write("block.def", DEF.encode())
