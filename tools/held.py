@@ -41,6 +41,8 @@ class Read:
         self.layout = pya.Layout(False)
         self.layers: dict[str, int] = {}
         bodies = Layout(text).bodies
+        # else KLayout looks at all cells anew for each that is filled
+        self.layout.start_changes()
         self.cells = {owner: self.layout.create_cell(f"D{owner}") for owner in bodies}
         for owner, items in bodies.items():
             figures: dict[str, pya.Region] = {}
@@ -51,6 +53,7 @@ class Read:
                     self.figure(figures.setdefault(name or "", pya.Region()), what)
             for name, shapes in figures.items():
                 self.cells[owner].shapes(self.layer(name)).insert(shapes)
+        self.layout.end_changes()
 
     def layer(self, name: str) -> int:
         if name not in self.layers:
