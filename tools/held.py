@@ -116,7 +116,8 @@ def differences(layout: pya.Region, text: pya.Region) -> list[pya.Box]:
     differ = layout ^ text
     if not layout.non_rectilinear().is_empty():
         differ = differ.sized(-1)
-    return [polygon.bbox() for polygon in differ.each()]
+    # a line without area may be among them where one side has nothing
+    return [polygon.bbox() for polygon in differ.each() if polygon.area()]
 
 
 def said(name: str, differ: list[pya.Box], dbu: float) -> str:
