@@ -1,11 +1,15 @@
 """A layer as boxes: arrays of their corners, left, bottom, right and top, in units of the layout."""
 
 import os
+import sys
+
+sys.path.append(os.path.join(os.path.dirname(os.path.abspath(__file__)), "..", "tools"))
 
 import numpy
 import pya
 
-NOT_BOXES = pya.Shapes.SPolygons | pya.Shapes.SPaths
+from metal import DRAWN, OTHERS as NOT_BOXES, rectangles_of
+
 # A rectangle in GDSII: what it is, its five points, and its end.
 RECTANGLE = numpy.dtype([("head", "V20"), ("points", ">i4", (5, 2)), ("end", "V4")])
 HEAD = bytes.fromhex("00040800 00060d020001 00060e020000 002c1003")
@@ -18,9 +22,9 @@ def boxes_of(source, where, folder):
     """
     layout = pya.Layout(False)
     shapes = layout.create_cell("BOXES").shapes(layout.layer(1, 0))
-    shapes.insert(source.iterator(where, pya.Shapes.SBoxes))
+    shapes.insert(source.iterator(where, DRAWN))
     others = source.shapes(where, NOT_BOXES) & pya.Region(where)
-    shapes.insert(others.merged().decompose_trapezoids_to_region())
+    shapes.insert(rectangles_of(others))
     path = os.path.join(folder, "boxes.gds")
     layout.write(path)
     with open(path, "rb") as file:

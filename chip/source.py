@@ -2,18 +2,15 @@
 
 import math
 import os
-import re
-import tempfile
-from fractions import Fraction
+import sys
+
+sys.path.append(os.path.join(os.path.dirname(os.path.abspath(__file__)), "..", "tools"))
 
 import pya
 
+import reading
+from cif import Unreadable
 from settings import Refused, ratio_of
-
-# KLayout reads the layer at the end of a label as a height. A label draws nothing.
-LABEL = re.compile(rb"^[ \t]*94[ \t][^;()]*;", re.MULTILINE)
-SCALE = re.compile(rb"D[^0-9A-Z();]*S[^0-9;]*[0-9]+[^0-9;]+([0-9]+)[^0-9;]+([0-9]+)")
-FINEST = Fraction(1, 100000)
 
 
 class Source:
@@ -67,42 +64,10 @@ def read_layer(settings):
 
 
 def read(path, options):
-    layout = pya.Layout(False)
     try:
-        if path.lower().endswith(".cif"):
-            read_cif(layout, path, options)
-        else:
-            layout.read(path, options)
-    except RuntimeError as error:
-        raise Refused(f"KLayout cannot read {path}: {error}") from error
-    return layout
-
-
-def read_cif(layout, path, options):
-    """Reads a CIF text without its labels, on a grid so fine that nothing is rounded."""
-    with open(path, "rb") as file:
-        text = file.read()
-    options.cif_dbu = float(unit_of(text))
-    with tempfile.TemporaryDirectory() as folder:
-        copy = os.path.join(folder, "layout.cif")
-        with open(copy, "wb") as file:
-            file.write(LABEL.sub(b"", text))
-        layout.read(copy, options)
-
-
-def unit_of(text):
-    """The greatest unit, in micrometres, of which each corner that the text may name is a whole number."""
-    unit = Fraction(1, 200)
-    for a, b in set(SCALE.findall(text)):
-        if int(a) and int(b):
-            other = Fraction(int(a), 200 * int(b))
-            unit = Fraction(
-                math.gcd(unit.numerator * other.denominator, other.numerator * unit.denominator),
-                unit.denominator * other.denominator,
-            )
-    if unit < FINEST:
-        raise Refused("the scales of the definitions are too fine for KLayout")
-    return unit
+        return reading.read(path, options)
+    except Unreadable as error:
+        raise Refused(f"{path}: {error}") from error
 
 
 def top_of(layout, layer, settings):

@@ -5,7 +5,7 @@ import sys
 
 # the klayout.py of this folder is another
 del sys.path[0]
-import klayout.db
+import klayout.db  # type: ignore[import]
 
 sys.modules["pya"] = klayout.db
 runpy.run_path(sys.argv[1], dict(word.split("=", 1) for word in sys.argv[2:]))

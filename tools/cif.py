@@ -4,11 +4,18 @@ What a command means stands in docs/cif.md. Lengths are grid units, of which a h
 Nothing here is proved, and nothing here is part of the program: it serves the tools beside it.
 """
 
+from __future__ import annotations
+
+import re
 from fractions import Fraction
+from typing import Dict, FrozenSet, Iterator, List, NamedTuple, Optional, Tuple, Union
+
+from forms import other_form
 
 DIGITS = frozenset(b"0123456789")
 UPPERS = frozenset(b"ABCDEFGHIJKLMNOPQRSTUVWXYZ")
 MARKS = frozenset(b"-();")
+NUMBER = re.compile(rb"-?[0-9]+")
 
 RULES = {
     1: "it has no form of CIF 2.0, or it is a comment without its closing parenthesis",
@@ -27,18 +34,24 @@ RULES = {
     14: "the text does not end with E",
 }
 
+Number = Union[int, Fraction]
+Point = Tuple[Number, Number]
+Placement = Tuple[Number, Number, Number, Number, Number, Number]
+
+STAYS: Placement = (1, 0, 0, 1, 0, 0)
+
 
 class Unreadable(Exception):
     """Why a text is of no use to a tool, in one line."""
 
 
-def is_blank(byte):
+def is_blank(byte: int) -> bool:
     return byte < 128 and byte not in DIGITS and byte not in UPPERS and byte not in MARKS
 
 
-def commands(text):
+def commands(text: bytes) -> Tuple[List[Tuple[int, bytes]], int]:
     """The finished commands, each as its place and its bytes, and the place where the end command or the rest stands."""
-    found = []
+    found: List[Tuple[int, bytes]] = []
     at = 0
     while True:
         while at < len(text) and is_blank(text[at]):
@@ -52,7 +65,7 @@ def commands(text):
         at = end + 1
 
 
-def end_of(text, at):
+def end_of(text: bytes, at: int) -> Optional[int]:
     """The place of the semicolon that ends the command at a place."""
     if text[at : at + 1] == b"(":
         depth = 0
@@ -67,28 +80,15 @@ def end_of(text, at):
     return None if end < 0 else end
 
 
-def numbers(piece):
+def numbers(piece: bytes) -> List[int]:
     """The integers of a piece of a command, whatever separates them."""
-    found = []
-    at = 0
-    while at < len(piece):
-        start = at
-        if piece[at : at + 1] == b"-":
-            at += 1
-        digits = at
-        while at < len(piece) and piece[at] in DIGITS:
-            at += 1
-        if at > digits:
-            found.append(int(piece[start:at]))
-        elif at == start:
-            at += 1
-    return found
+    return [int(number) for number in NUMBER.findall(piece)]
 
 
 MOST_SHOWN = 200
 
 
-def shown(text, number):
+def shown(text: bytes, number: int) -> str:
     """The command of a number, from 1: its line, its column and its text."""
     found, end = commands(text)
     if not 1 <= number <= len(found) + 1:
@@ -96,105 +96,161 @@ def shown(text, number):
     at, piece = found[number - 1] if number <= len(found) else (end, text[end:])
     line = text.count(b"\n", 0, at) + 1
     column = at - text.rfind(b"\n", 0, at)
-    said = " ".join(piece[:MOST_SHOWN].decode("ascii", "replace").split())
+    said = printable(b" ".join(piece[:MOST_SHOWN].split()))
     return f"line {line}, column {column}: {said or 'the text ends'}{' ..' if len(piece) > MOST_SHOWN else ''}"
 
 
-class Layout:
-    """Definitions by number, and the items outside of them, in the order of the text.
+def printable(text: bytes) -> str:
+    """A text as a terminal may be given it: each byte that is no printed character of ASCII as its number."""
+    return "".join(chr(byte) if 32 <= byte < 127 else f"\\x{byte:02x}" for byte in text)
 
-    An item is (layer, figure) or (None, call); a figure is a list of corner points, a call (number, placement). A polygon
-    counts as many times as it has points, anything else once.
+
+class Polygon(List[Point]):
+    """The points of a polygon."""
+
+
+class Call(NamedTuple):
+    """Which definition is called, and how it is placed."""
+
+    number: int
+    placed: Placement
+
+
+class Item(NamedTuple):
+    """What stands in a definition: a figure on a layer, or a call."""
+
+    layer: Optional[str]
+    what: Union[List[Point], Call]
+
+
+class Layout:
+    """Definitions by number, and the items outside of them, under None, in the order of the text.
+
+    A figure is a list of corner points. A polygon counts as many times as it has points, anything else once.
     """
 
-    def __init__(self, text):
-        self.bodies = {None: []}
+    def __init__(self, text: bytes) -> None:
+        self.bodies: Dict[Optional[int], List[Item]] = {None: []}
+        self.names: Dict[int, str] = {}
+        said = other_form(text)
+        if said:
+            raise Unreadable(said)
         self.read(text)
 
-    def read(self, text):
-        owner, scale, layer, outer = None, Fraction(2), None, None
-        for number, (_, command) in enumerate(commands(text)[0], 1):
-            head = command[:1]
+    def read(self, text: bytes) -> None:
+        found, end = commands(text)
+        if text[end : end + 1] != b"E":
+            raise Unreadable("the text does not end with E: it is cut off, or no CIF")
+        self.owner: Optional[int] = None
+        self.scale, self.layer, self.outer = Scale(2, 1), "", ""
+        for number, (_, command) in enumerate(found, 1):
             try:
-                if head == b"L":
-                    layer = name_of(command)
-                elif head == b"D":
-                    kind = bytes(b for b in command[1:] if not is_blank(b))[:1]
-                    if kind == b"S":
-                        parts = numbers(command)
-                        ratio = Fraction(parts[1], parts[2]) if len(parts) > 2 else Fraction(1)
-                        owner, scale, outer, layer = parts[0], 2 * ratio, layer, None
-                        self.bodies.setdefault(owner, [])
-                    elif kind == b"F":
-                        owner, scale, layer = None, Fraction(2), outer
-                elif head == b"C":
-                    self.bodies[owner].append((None, call_of(command, scale)))
-                elif head in (b"B", b"P", b"W"):
-                    self.bodies[owner] += [(layer, f) for f in figures_of(command, scale)]
-            except (IndexError, ValueError, ZeroDivisionError, UnicodeDecodeError) as error:
-                raise Unreadable(f"command {number} cannot be read: {error}") from error
+                self.take(command)
+            except (IndexError, ValueError, ZeroDivisionError) as error:
+                raise Unreadable(f"command {number} cannot be read: {printable(command[:40])}") from error
 
-    def figures(self, layer, most=1_000_000):
+    def take(self, command: bytes) -> None:
+        """Takes the next command in."""
+        head, body = command[:1], self.bodies[self.owner]
+        if head == b"L":
+            self.layer = name_of(command)
+        elif head == b"D":
+            self.define(command)
+        elif head == b"C":
+            body.append(Item(None, call_of(command, self.scale)))
+        elif head in (b"B", b"P", b"W"):
+            body += [Item(self.layer, figure) for figure in figures_of(command, self.scale)]
+        elif head == b"9" and self.owner is not None and is_blank(command[1]):
+            self.names[self.owner] = command[1:].split()[0].decode("ascii", "replace")
+
+    def define(self, command: bytes) -> None:
+        """Begins or ends a definition."""
+        kind = bytes(byte for byte in command[1:] if not is_blank(byte))[:1]
+        if kind == b"S":
+            parts = numbers(command)
+            top, bottom = parts[1:3] if len(parts) > 2 else (1, 1)
+            if not bottom:
+                raise ZeroDivisionError
+            self.owner, self.scale, self.outer, self.layer = parts[0], Scale(2 * top, bottom), self.layer, ""
+            self.bodies.setdefault(self.owner, [])
+        elif kind == b"F":
+            self.owner, self.scale, self.layer = None, Scale(2, 1), self.outer
+
+    def figures(self, layer: str, most: int = 1_000_000) -> List[List[Point]]:
         """The figures of a layer after all calls, in the order in which the calls are carried out."""
-        found = []
-        stack = [(iter(self.bodies[None]), (1, 0, 0, 1, 0, 0), frozenset())]
+        found: List[List[Point]] = []
+        inside: FrozenSet[int] = frozenset()
+        stack: List[Tuple[Iterator[Item], Placement, FrozenSet[int]]] = [(iter(self.bodies[None]), STAYS, inside)]
         while stack:
             items, placed, inside = stack[-1]
             for name, item in items:
-                if name is not None:
+                if not isinstance(item, Call):
                     if name == layer:
-                        found.append([move(placed, p) for p in item])
+                        found.append([move(placed, point) for point in item])
                     continue
-                number, placement = item
-                if number in inside or number not in self.bodies:
-                    raise Unreadable(f"a call of {number} leads back or names no definition")
+                if item.number in inside or item.number not in self.bodies:
+                    raise Unreadable(f"a call of {item.number} leads back or names no definition")
                 if len(found) > most or len(stack) > 10_000:
                     raise Unreadable("the layout has too many figures for a tool")
-                stack.append(
-                    (iter(self.bodies[number]), after(placed, placement), inside | {number})
-                )
+                stack.append((iter(self.bodies[item.number]), after(placed, item.placed), inside | {item.number}))
                 break
             else:
                 stack.pop()
         return found
 
-    def counts(self):
+    def counts(self) -> Dict[str, int]:
         """How many primitives each layer has after all calls, as the limit on primitives counts them."""
-        known = {}
+        known: Dict[Optional[int], Dict[str, int]] = {}
 
-        def of(owner, inside):
+        def of(owner: Optional[int], inside: FrozenSet[Optional[int]]) -> Dict[str, int]:
             if owner in known:
                 return known[owner]
             if owner in inside or owner not in self.bodies:
                 raise Unreadable(f"a call of {owner} leads back or names no definition")
-            total = {}
+            total: Dict[str, int] = {}
             for layer, item in self.bodies[owner]:
-                if layer is not None:
-                    total[layer] = total.get(layer, 0) + (len(item) if isinstance(item, Polygon) else 1)
-                else:
-                    for name, count in of(item[0], inside | {owner}).items():
+                if isinstance(item, Call):
+                    for name, count in of(item.number, inside | {owner}).items():
                         total[name] = total.get(name, 0) + count
+                elif layer:
+                    total[layer] = total.get(layer, 0) + (len(item) if isinstance(item, Polygon) else 1)
             known[owner] = total
             return total
 
         return of(None, frozenset())
 
+    def top(self) -> str:
+        """The cell that holds all, by the name that KLayout gives it."""
+        outside = self.bodies[None]
+        call = outside[0].what if len(outside) == 1 else None
+        return self.names.get(call.number, f"C{call.number}") if isinstance(call, Call) else "CIF_TOP"
 
-class Polygon(list):
-    """The points of a polygon."""
 
-
-def name_of(command):
+def name_of(command: bytes) -> str:
     """The name that a layer command sets: digits and upper-case letters with blanks before and behind them alone."""
     name = bytes(b if not is_blank(b) else 32 for b in command[1:]).strip()
     if not 1 <= len(name) <= 32 or not all(b in DIGITS or b in UPPERS for b in name):
-        raise ValueError(f"{command.decode('ascii', 'replace')} names no layer")
+        raise ValueError("no layer is named")
     return name.decode()
 
 
-def call_of(command, scale):
+class Scale(NamedTuple):
+    """By what the numbers of a definition are multiplied and divided, to be grid units."""
+
+    top: int
+    bottom: int
+
+    def of(self, number: int) -> Number:
+        whole, rest = divmod(number * self.top, self.bottom)
+        return Fraction(number * self.top, self.bottom) if rest else whole
+
+    def half(self) -> Scale:
+        return Scale(self.top, 2 * self.bottom)
+
+
+def call_of(command: bytes, scale: Scale) -> Call:
     """The number of a call and its placement, the transformations in the order written."""
-    placed = (1, 0, 0, 1, 0, 0)
+    placed = STAYS
     at = 1
     start = at
     while at < len(command) and command[at : at + 1] not in (b"T", b"M", b"R"):
@@ -214,20 +270,20 @@ def call_of(command, scale):
                 at += 1
             x, y = numbers(command[start:at])[:2]
             if kind == b"T":
-                placed = after((1, 0, 0, 1, x * scale, y * scale), placed)
+                placed = after((1, 0, 0, 1, scale.of(x), scale.of(y)), placed)
             else:
                 cos, sin = (x > 0) - (x < 0), (y > 0) - (y < 0)
                 placed = after((cos, -sin, sin, cos, 0, 0), placed)
-    return number, placed
+    return Call(number, placed)
 
 
-def move(placed, point):
+def move(placed: Placement, point: Point) -> Point:
     a, b, c, d, e, f = placed
     x, y = point
     return (a * x + b * y + e, c * x + d * y + f)
 
 
-def after(outer, inner):
+def after(outer: Placement, inner: Placement) -> Placement:
     """The placement that places by `inner` and then by `outer`."""
     a, b, c, d, _, _ = outer
     p, q, r, s, t, u = inner
@@ -235,40 +291,41 @@ def after(outer, inner):
     return (a * p + b * r, a * q + b * s, c * p + d * r, c * q + d * s, e, f)
 
 
-def box(x1, y1, x2, y2):
-    return [(x1, y1), (x2, y1), (x2, y2), (x1, y2)]
+def box(scale: Scale, x1: int, y1: int, x2: int, y2: int) -> List[Point]:
+    left, low, right, high = map(scale.of, (x1, y1, x2, y2))
+    return [(left, low), (right, low), (right, high), (left, high)]
 
 
-def figures_of(command, scale):
+def figures_of(command: bytes, scale: Scale) -> List[List[Point]]:
     """The boxes and the polygon of a command."""
     parts = numbers(command)
-    half = scale / 2
+    half = scale.half()
     if command[:1] == b"P":
-        return [Polygon((x * scale, y * scale) for x, y in zip(parts[::2], parts[1::2]))]
+        return [Polygon((scale.of(x), scale.of(y)) for x, y in zip(parts[::2], parts[1::2]))]
     if command[:1] == b"B":
         length, width, x, y = parts[:4]
         if len(parts) > 4 and parts[4] == 0:
             length, width = width, length
         if length == 0 or width == 0:
             return []
-        x1, y1, x2, y2 = 2 * x - length, 2 * y - width, 2 * x + length, 2 * y + width
-        return [box(x1 * half, y1 * half, x2 * half, y2 * half)]
+        return [box(half, 2 * x - length, 2 * y - width, 2 * x + length, 2 * y + width)]
     width, points = parts[0], list(zip(parts[1::2], parts[2::2]))
     if width == 0:
         return []
     pairs = list(zip(points, points[1:])) or [(points[0], points[0])]
     return [
         box(
-            (2 * min(p[0], q[0]) - width) * half,
-            (2 * min(p[1], q[1]) - width) * half,
-            (2 * max(p[0], q[0]) + width) * half,
-            (2 * max(p[1], q[1]) + width) * half,
+            half,
+            2 * min(p[0], q[0]) - width,
+            2 * min(p[1], q[1]) - width,
+            2 * max(p[0], q[0]) + width,
+            2 * max(p[1], q[1]) + width,
         )
         for p, q in pairs
     ]
 
 
-def text_of(path):
+def text_of(path: str) -> bytes:
     try:
         with open(path, "rb") as file:
             return file.read()

@@ -1,26 +1,31 @@
-"""Says in words what the line of the program means: a line on a terminal for each of its answers."""
+"""Says in words what the line of the program means, and what a split of nothing lacks."""
+
+from __future__ import annotations
 
 import os
 import re
+from typing import Callable, Dict, List, NamedTuple, Optional, Sequence
 
+import given_layout
 import words as command_line
-from cif import RULES, Layout, Unreadable, shown
+from cif import RULES, Layout, Unreadable, is_blank, printable, shown
+from forms import other_form
 
 LINE = re.compile(r"^dpl: (usage|layout|limit|rejected|script|read|write|no)\b")
 NUMBER = re.compile(r"-?\d+")
 
-PARTS = "split the block into parts that are farther apart than the spacing"
+PARTS = "chip/run splits what is larger, part by part (docs/chip.md)"
 
 # what is counted, the most, and what to do
 LIMITS = {
-    1: ("bytes of the layout", 16_777_216, "leave out layers and labels that are not wanted"),
+    1: ("bytes of the layout", 16_777_216, "leave out layers and labels that are not wanted, as tools/import --layer does"),
     2: ("primitives after all calls, a polygon as many times as it has points", 50_000, PARTS),
-    3: ("calls carried out", 1_000_000, "leave out cells that have nothing on the layer"),
+    3: ("calls carried out", 1_000_000, "leave out cells that have nothing on the layer, as tools/import --layer does"),
     4: ("grid units from the origin to a corner", 1_073_741_824, "move the block to the origin"),
     5: ("tiles", 100_000, PARTS),
-    6: ("fragments", 100_000, f"{PARTS}, or give a larger overlap, which gives fewer cuts"),
-    7: ("bonds, stitches and clashes", 400_000, f"{PARTS}, or give a smaller spacing, which gives fewer clashes"),
-    8: ("odd faces in one part of the drawing", 2_048, f"{PARTS}, or give a smaller spacing"),
+    6: ("fragments", 100_000, f"{PARTS}; a larger overlap gives fewer cuts"),
+    7: ("bonds, stitches and clashes", 400_000, f"{PARTS}; a smaller spacing gives fewer clashes"),
+    8: ("odd faces in one part of the drawing", 2_048, f"the layer is denser than two masks can take: a smaller spacing, or {PARTS}"),
     9: ("bytes of the report", 268_435_456, "is this the report of this layout?"),
     10: ("bytes of the script", 65_536, "draw the boxes that stay in the layout, and give the other lines"),
 }
@@ -30,63 +35,87 @@ CONDITIONS = {
     2: "line {place} of the report has {found} for an option that is asked for as {wanted}{line}",
     3: "line {place} of the report has the number {found}, and the layout has {wanted}{line}",
     4: "edge {place} is a bond, and its two fragments are on two masks",
-    5: "edge {place}: the report lists {found} where its masks break {wanted}; past the last edge these are the two costs",
+    5: "edge {place}: the report lists {found} where its masks break {wanted}, of broken edges 1 and of others 0",
     6: "edge {place}: it is {listed} set aside, and it {due} be",
     7: "odd cycle {place} is none: its walk breaks off, does not close, or passes clashes an even number of times",
-    8: "edge {place}: the cycles load it with {found}, at most {wanted}; past the last edge these are their sum and the bound",
+    8: "edge {place}: the cycles load it with {found}, at most {wanted}",
     9: "the boxes of the masks are not those of their letters, first at {place} over both masks",
 }
 
+# what conditions 5 and 8 name where their place is past the last edge
+SUMS = {
+    5: "the report says cost {found}, and its masks cost {wanted}",
+    8: "the half weights of the cycles sum to {found}, and the report says bound {wanted}",
+}
+
 SCRIPT = {
-    1: "is neither add X1 Y1 X2 Y2 nor remove N with one line end{text}",
+    1: "is none of the form: add X1 Y1 X2 Y2 with X1 < X2 and Y1 < Y2, or remove N, one blank between, one line end behind{text}",
     2: "removes a box that is not there{text}",
 }
 
 MOST_READ = 4_000_000
 
 
-def explain(line, words, layout):
-    """What a line of the program means, in words; None for a line that is none of its own. The layout is its bytes, or None."""
+class Asked(NamedTuple):
+    """What the program was asked: its words, the layout's bytes where they are known, and the scale at their head."""
+
+    words: Sequence[str]
+    layout: Optional[bytes] = None
+    times: int = 1
+
+
+def explain(line: str, asked: Asked) -> str:
+    """What a line of the program means, in words; nothing for a line that is none of its own."""
     found = LINE.match(line)
     if not found:
-        return None
+        return ""
     numbers = [int(number) for number in NUMBER.findall(line)]
-    return SAYS[found[1]](numbers, words, layout)
+    return SAYS[found[1]](numbers, asked)
 
 
-def usage(_, words, __):
-    wrong = command_line.wrong_in(words)
+def usage(_: List[int], asked: Asked) -> str:
+    wrong = command_line.wrong_in(asked.words, asked.times)
     return f"{wrong.said}; dpl help says how each command is called" if wrong else "dpl help says how each command is called"
 
 
-def rule(numbers, _, layout):
+def rule(numbers: List[int], asked: Asked) -> str:
     what, command = numbers
     said = f"rule {what}: {RULES[what]}"
-    if layout is None:
+    if asked.layout is None:
         return f"{said}; tools/command FILE {command} shows the command"
-    return f"{shown(layout, command)}: {said}"
+    return other_form(asked.layout) or f"{shown(asked.layout, command)}: {said}"
 
 
-def limit(numbers, _, __):
-    kind, _ = numbers
-    counted, most, what = LIMITS[kind]
-    return f"limit {kind}: at most {most:,} {counted}; {what}"
+def limit(numbers: List[int], _: Asked) -> str:
+    counted, most, what = LIMITS[numbers[0]]
+    return f"limit {numbers[0]}: at most {most:,} {counted}; {what}"
 
 
-def condition(numbers, words, _):
+def condition(numbers: List[int], asked: Asked) -> str:
     reason, place, found, wanted = numbers
-    line = line_of(words, "report", place) if reason <= 3 else ""
+    line = line_of(asked.words, "report", place) if reason <= 3 else ""
     listed, due = ("listed as", "must not") if found else ("not listed as", "must")
-    said = CONDITIONS[reason].format(place=place, found=found, wanted=wanted, line=line, listed=listed, due=due)
+    form = SUMS[reason] if reason in SUMS and place == edges_in(asked.words) else CONDITIONS[reason]
+    said = form.format(place=place, found=found, wanted=wanted, line=line, listed=listed, due=due)
     return f"condition {reason} of docs/report.md: {said}"
 
 
-def script_line(numbers, words, _):
+def edges_in(words: Sequence[str]) -> Optional[int]:
+    """How many edges the report says there are."""
+    name = command_line.value_of(words, "report")
+    if not name or not os.path.isfile(name):
+        return None
+    with open(name, "rb") as file:
+        found = re.findall(rb"^\((?:bonds|stitches|clashes) (\d{1,12})\);$", file.read(MOST_READ), re.M)
+    return sum(map(int, found)) if len(found) == 3 else None
+
+
+def script_line(numbers: List[int], asked: Asked) -> str:
     kind, number = numbers
-    return f"line {number} of the script {SCRIPT[kind].format(text=line_of(words, 'script', number))}; docs/edits.md has the form"
+    return f"line {number} of the script {SCRIPT[kind].format(text=line_of(asked.words, 'script', number))}; docs/edits.md has the form"
 
 
-def line_of(words, option, number):
+def line_of(words: Sequence[str], option: str, number: int) -> str:
     """The text of a line of the file that an option names, where it can be read again."""
     name = command_line.value_of(words, option)
     if not name or not os.path.isfile(name):
@@ -94,34 +123,36 @@ def line_of(words, option, number):
     with open(name, "rb") as file:
         for at, line in enumerate(file, 1):
             if at == number:
-                return f": {line.decode('ascii', 'replace').rstrip()[:120]}"
+                own = line.rstrip(b"\n")
+                behind = ", without a line end" if own == line else ""
+                return f": {printable(own[:120])}{behind}"
     return ""
 
 
-def read_fault(_, words, __):
-    for name, value in command_line.given_in(words[1:])[0]:
+def read_fault(_: List[int], asked: Asked) -> str:
+    for name, value in command_line.given_in(asked.words[1:])[0]:
         if command_line.OPTIONS[name].shown == "FILE":
             try:
                 with open(value, "rb") as file:
                     file.read(1)
             except OSError as error:
-                return f"--{name} {value} cannot be read: {error.strerror}"
+                return f"--{name} {command_line.escaped(value)} cannot be read: {error.strerror}"
     try:
         os.read(0, 0)
     except OSError as error:
-        return f"the layout, which comes from the standard input, cannot be read: {error.strerror}"
+        return given_layout.why(error)
     return "the layout, which comes from the standard input, or a file that is named could not be read to its end"
 
 
-def write_fault(*_):
+def write_fault(_: List[int], __: Asked) -> str:
     return "the output could not be written: its reader has gone, or the disk is full"
 
 
-def no_memory(*_):
+def no_memory(_: List[int], __: Asked) -> str:
     return "memory ran out, and nothing was written"
 
 
-SAYS = {
+SAYS: Dict[str, Callable[[List[int], Asked], str]] = {
     "usage": usage,
     "layout": rule,
     "limit": limit,
@@ -136,7 +167,7 @@ SAYS = {
 # ---- a split of nothing
 
 
-def nothing_split(layer, layout):
+def nothing_split(layer: Optional[str], layout: Optional[bytes]) -> str:
     """Why a split may have no fragments: what the layout has on other layers."""
     said = f"the layer {layer} is empty"
     if layout is None or len(layout) > MOST_READ:
@@ -152,3 +183,13 @@ def nothing_split(layer, layout):
     if len(read.bodies) > 1:
         return f"{said}, since nothing is called: the file has definitions, but no call such as C 1; stands outside of them"
     return f"{said}, and so is every other"
+
+
+def nothing_kept(layer: str, layout: Optional[bytes]) -> str:
+    """Told where no command of the layout sets the layer in which nothing is to be cut."""
+    if layout is None:
+        return ""
+    for found in re.finditer(rb"L[^;()-]*?" + layer.encode() + rb"[^;()-]*;", layout):
+        if bytes(byte for byte in found[0][1:-1] if not is_blank(byte)) == layer.encode():
+            return ""
+    return f"nothing is on the layer {layer} of --keep, so cuts may stand everywhere; tools/layers FILE lists the layers that there are"

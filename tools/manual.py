@@ -1,13 +1,12 @@
-"""What `./dpl` says of itself: how it is called, what stands here, and the manual page that it installs."""
+"""What `./dpl` says of itself: how it is called, and the manual page."""
 
-import os
-import shutil
-import subprocess
-import time
+from __future__ import annotations
 
-import kit
-from kit import BINARY, TOP, Failed
-from words import COMMANDS, OPTIONS, usage as calls
+from typing import Iterable, Iterator, List, Tuple
+
+from cif import RULES
+from faults import CONDITIONS, LIMITS
+from words import COMMANDS, INPUT, INPUT_MEANING, LENGTHS, OPTIONS, OWN, Option, call, usage as calls
 
 STATUSES = {
     0: "done",
@@ -19,78 +18,91 @@ STATUSES = {
     6: "the output could not be written",
     7: "memory ran out",
     8: "edit: a line of the script is not of the form, or removes a box that is not there",
+    70: "the launcher failed: the kit is not here, the build failed, or the sources without their proofs gave no answer",
 }
 
 ABOUT = (
     "dpl splits one dense metal layer of a CIF 2.0 layout onto two masks, for double patterning, and proves what it did. "
-    "The layout comes from the standard input, the report goes to the standard output, and lengths are hundredths of a micron."
+    f"The layout comes from the standard input, or from the file that --{INPUT} names, and the report goes to the standard output. "
+    "Lengths are hundredths of a micron of the layout's text; 60nm and 0.06um are lengths of the layout itself, where tools/import made the text larger."
 )
 
+WORDS = (
+    "Behind the line of the program stands one that says in words what is wrong, on any error output. With DPL_WORDS=0 in the "
+    "environment it is left out, and the program takes the launcher's place, which saves a process."
+)
 
-def options():
+EXAMPLE = (
+    "dpl split --layer M1 --space 60nm --overlap 20nm < block.cif > report.cif",
+    "dpl check --layer M1 --space 60nm --overlap 20nm --report report.cif < block.cif",
+)
+
+MORE = "tools/layers FILE lists the layers of a file, and docs/using.md is a tour."
+
+Row = Tuple[str, str]
+
+
+def meaning(name: str, option: Option) -> str:
+    """What an option means, what it takes, and its default."""
+    or_length = ", or a length as 60nm or 0.06um" if name in LENGTHS else ""
+    default = f"; {option.default} where it is left out" if option.default else ""
+    return f"{option.meaning}: {option.wanted}{or_length}{default}"
+
+
+def options(names: Iterable[str] = OPTIONS) -> Iterator[Row]:
     """Each option with what it takes."""
-    for name, option in OPTIONS.items():
-        default = f"; {option.default} where it is left out" if option.default else ""
-        yield f"--{name} {option.shown}", f"{option.meaning}: {option.wanted}{default}"
+    for name in names:
+        yield f"--{name} {OPTIONS[name].shown}", meaning(name, OPTIONS[name])
 
 
-def table(rows):
+INPUT_ROW: Row = (f"--{INPUT} FILE", INPUT_MEANING)
+
+
+def table(rows: Iterable[Row]) -> List[str]:
     rows = list(rows)
     width = max(len(name) for name, _ in rows) + 2
     return [f"  {name:{width}}{text}" for name, text in rows]
 
 
-def usage(own):
-    lines = ["usage:", *(f"  {call}" for call in calls()), f"  dpl {' | '.join(own)} DIR", ""]
-    lines += table((name, command.meaning) for name, command in COMMANDS.items())
-    lines += table((name, meaning) for name, (meaning, _) in own.items())
-    return "\n".join([*lines, "", *table(options()), "", "tools/layers FILE lists the layers of a file, and docs/using.md is a tour."])
+def usage() -> str:
+    lines = ["usage:", *(f"  {line}" for line in calls()), "  dpl build | version | help [COMMAND] | install DIR", ""]
+    lines += table([(name, command.meaning) for name, command in COMMANDS.items()] + list(OWN.items()))
+    return "\n".join([*lines, "", *table([*options(), INPUT_ROW]), "", MORE])
 
 
-def version():
-    words = ["git", "-C", TOP, "describe", "--always", "--dirty"]
-    found = subprocess.run(words, capture_output=True, text=True) if shutil.which("git") else None
-    commit = found.stdout.strip() if found and not found.returncode else "of no commit"
-    if not kit.has_program():
-        stands = "none yet; dpl build proves and builds it"
-    else:
-        built = time.strftime("%Y-%m-%d %H:%M", time.localtime(os.path.getmtime(BINARY)))
-        stands = f"proved and built {built}{', and a source is newer' if kit.is_old() else ''}"
-    named = subprocess.run(["rt", "version"], capture_output=True, text=True).stdout.strip() if shutil.which("rt") else "none here"
-    return f"dpl {commit}; writes reports of version 2, reads versions 1 and 2\nprogram: {stands}\nkit: {named}"
+def usage_of(name: str) -> str:
+    """How one command is called."""
+    if name not in COMMANDS:
+        return f"usage: dpl {name}{' DIR' * (name == 'install')}\n{OWN[name]}"
+    command = COMMANDS[name]
+    rows = [*options(command.options), *[INPUT_ROW] * command.reads_layout]
+    return "\n".join([f"usage: {call(name)}", command.meaning, "", *table(rows)])
 
 
-def page():
+def page() -> str:
     """The manual page, in the language of man."""
     lines = ['.TH DPL 1 "" "dpl" "User Commands"', ".SH NAME", "dpl \\- split a metal layer onto two masks, with a proof", ".SH SYNOPSIS"]
-    for call in calls():
-        lines += [".P", plain(call)]
-    lines += [".SH DESCRIPTION", plain(ABOUT), ".SH COMMANDS"]
-    for name, command in COMMANDS.items():
-        lines += [".TP", f".B {name}", plain(command.meaning + ".")]
-    lines.append(".SH OPTIONS")
-    for name, text in options():
-        lines += [".TP", f".B {plain(name)}", plain(text + ".")]
-    lines.append(".SH EXIT STATUS")
-    for status, text in STATUSES.items():
-        lines += [".TP", f".B {status}", plain(text + ".")]
+    for line in calls():
+        lines += [".P", plain(line)]
+    lines += [".SH DESCRIPTION", plain(ABOUT)]
+    lines += section("COMMANDS", [(name, command.meaning) for name, command in COMMANDS.items()] + list(OWN.items()))
+    lines += section("OPTIONS", [*options(), INPUT_ROW])
+    lines += [".SH EXAMPLE", ".nf", *map(plain, EXAMPLE), ".fi"]
+    lines += section("EXIT STATUS", ((str(status), text) for status, text in STATUSES.items()))
+    lines += [".SH FAULTS IN WORDS", plain(WORDS)]
+    lines += section("LAYOUT RULES", ((str(number), text) for number, text in RULES.items()))
+    limits = ((str(number), f"at most {most:,} {counted}; {what}") for number, (counted, most, what) in LIMITS.items())
+    lines += section("LIMITS", limits)
+    conditions = ((str(number), text.replace("{line}", "")) for number, text in CONDITIONS.items())
+    lines += section("CONDITIONS OF A GOOD REPORT", conditions)
     return "\n".join([*lines, ""])
 
 
-def plain(text):
+def section(head: str, rows: Iterable[Row]) -> Iterator[str]:
+    yield f".SH {head}"
+    for name, text in rows:
+        yield from (".TP", f".B {plain(name)}", plain(text + "."))
+
+
+def plain(text: str) -> str:
     return text.replace("\\", "\\e").replace("-", "\\-")
-
-
-def install(folder):
-    """Copies the proved program and its manual page below a folder."""
-    if not kit.has_program():
-        raise Failed("there is no proved program to install yet: dpl build proves and builds it")
-    for place in ("bin", "share/man/man1"):
-        os.makedirs(os.path.join(folder, place), exist_ok=True)
-    program, manual = os.path.join(folder, "bin", "dpl"), os.path.join(folder, "share/man/man1", "dpl.1")
-    # a program that runs cannot be written over, but its name can be given to another
-    shutil.copy(BINARY, f"{program}.new")
-    os.replace(f"{program}.new", program)
-    with open(manual, "w", encoding="ascii") as file:
-        file.write(page())
-    return f"{program}\n{manual}"

@@ -4,11 +4,15 @@ What the kit prints as it goes on differs from state to state, so each line that
 read. A crate counts by the bytes of its sources, and the time left is told by the pace so far.
 """
 
+from __future__ import annotations
+
 import os
 import re
 import select
 import subprocess
+from typing import IO, Callable, Iterator, List, Optional, Sequence, Set
 
+import built
 import kit
 from kit import BINARY, TOP, Failed
 
@@ -19,34 +23,35 @@ ENDS = re.compile(r"^crate (\w+): modules")
 TRIAL = ("load", "--start", "7", "--rows", "2", "--columns", "2")
 
 
-def is_built(name, below, done):
+def is_built(name: str, below: Sequence[str], done: Set[str]) -> bool:
     """Whether an earlier build left the library of a crate, and no source of it or of those below is newer."""
     stamp = os.path.join(TOP, "crates", name, "out", "rlib", "stamp")
     if not os.path.exists(stamp) or not all(other in done for other in below):
         return False
-    return os.path.getmtime(stamp) >= kit.newest(kit.sources([name]))
+    return os.path.getmtime(stamp) >= kit.newest([name])
 
 
 class Progress:
     """Which crates are done, and how far the one is that is under way."""
 
-    def __init__(self):
+    def __init__(self) -> None:
         self.below = kit.libraries()
         self.size = {name: sum(map(os.path.getsize, kit.sources([name]))) for name in self.below}
-        self.done, self.current, self.part, self.of = set(), "", 0, 0
+        self.done: Set[str] = set()
+        self.current, self.part, self.of = "", 0, 0
         for name, below in self.below.items():
             if is_built(name, below, self.done):
                 self.done.add(name)
         self.at_first = self.share()
 
-    def share(self):
+    def share(self) -> float:
         """The share of the work that is done."""
-        sizes = sum(self.size[name] for name in self.done)
+        sizes: float = sum(self.size[name] for name in self.done)
         if self.of and self.current not in self.done:
             sizes += self.size[self.current] * self.part / self.of
         return sizes / sum(self.size.values())
 
-    def read(self, line):
+    def read(self, line: str) -> bool:
         """Takes a line of the kit in, and returns whether another crate has begun."""
         checked, so_far, begins, ends = CHECKED.match(line), SO_FAR.match(line), BEGINS.match(line), ENDS.match(line)
         if ends and ends[1] in self.below:
@@ -54,14 +59,14 @@ class Progress:
         elif so_far:
             self.part, self.of = int(so_far[1]), int(so_far[2])
         elif checked or begins:
-            name = (checked or begins)[1]
+            name = checked[1] if checked else begins[1] if begins else ""
             is_new = self.begin(name)
             if checked:
                 self.part, self.of = int(checked[2]), int(checked[3])
             return is_new
         return False
 
-    def begin(self, name):
+    def begin(self, name: str) -> bool:
         if name not in self.below or name == self.current:
             return False
         self.current, self.part, self.of = name, 0, 0
@@ -73,7 +78,7 @@ class Progress:
                     waiting.append(other)
         return True
 
-    def said(self, minutes):
+    def said(self, minutes: float) -> str:
         share = self.share()
         functions = f", {self.part} of {self.of} functions" if self.of else ""
         gone = share - self.at_first
@@ -82,10 +87,11 @@ class Progress:
         return f"dpl: {self.current or 'reading the sources'}, crate {number} of {len(self.below)}{functions}, {minutes:.0f} min gone{left}"
 
 
-def build():
+def build() -> str:
     """Proves and builds; the old program stays until the new one stands."""
     kit.find_kit()
-    progress, line, last = Progress(), kit.Line(), []
+    progress, line = Progress(), kit.Line()
+    last: List[str] = []
     counted = f"{len(progress.below)} crates, {len(progress.done)} of which are kept"
     line.say(f"dpl: proving and building the {counted}; on four processors all take half an hour to an hour")
     line.say("dpl: when this is stopped, dpl build goes on from what the kit has kept")
@@ -99,13 +105,14 @@ def build():
         raise Failed("the build did not end well; the last lines of the kit are\n" + "\n".join(last))
     # what the kit found unchanged is not older than its sources
     os.utime(BINARY)
+    built.record()
     return f"proved and built in {line.minutes():.0f} min: {os.path.relpath(BINARY)}"
 
 
-def lines_of(pipe, while_waiting):
+def lines_of(pipe: Optional[IO[bytes]], while_waiting: Callable[[], None]) -> Iterator[str]:
     """The lines that come through a pipe, with a call each second between."""
     rest = b""
-    while True:
+    while pipe:
         while_waiting()
         if not select.select([pipe], [], [], 1)[0]:
             continue

@@ -4,15 +4,18 @@ Its standard input must not pause, and it gives no answer past 1 MiB; so the lau
 as far as the program would, and writes the answer itself.
 """
 
+from __future__ import annotations
+
 import os
 import re
 import subprocess
 import tempfile
+from typing import Sequence, Tuple
 
 import words as command_line
-from kit import Failed, rt
+from given_layout import MOST_LAYOUT, parts_of
+from kit import Ended, Failed, Line, rt
 
-MOST_LAYOUT = 16_777_216
 SECONDS = 900
 WITHOUT = "the sources without their proofs give no answer to this"
 
@@ -20,51 +23,22 @@ ENDED = re.compile(rb"^run=ended status=(\d+) ", re.M)
 REASON = re.compile(r"^checked: no-answer: (.*)$", re.M)
 
 
-class Ended(Exception):
-    """An answer of the program that the launcher gives in its place: its status and its line."""
-
-    def __init__(self, status, line):
-        super().__init__(line)
-        self.status, self.line = status, line
-
-
-def read(file, most):
-    """The bytes of a file, at most one more than the program would take."""
-    parts, left = [], most + 1
-    while left:
-        part = os.read(file, min(left, 1 << 20))
-        if not part:
-            break
-        parts.append(part)
-        left -= len(part)
-    return b"".join(parts)
-
-
-def read_layout():
-    try:
-        return read(0, MOST_LAYOUT)
-    except OSError as error:
-        raise Ended(5, "dpl: read fault") from error
-
-
-def read_named(name, most):
+def read_named(name: str, most: int) -> bytes:
     """The bytes of a file that an option names, at most one more than the program would take."""
     try:
         file = os.open(name, os.O_RDONLY)
         try:
-            return read(file, most)
+            return b"".join(parts_of(file, most + 1))
         finally:
             os.close(file)
     except OSError as error:
-        raise Ended(5, "dpl: read fault") from error
+        raise Ended(5, "dpl: read fault", f"{command_line.escaped(name)} cannot be read: {error.strerror}") from error
 
 
-def answer(words, line):
-    """The program's status, output, error output, and the layout that it read, by the sources without their proofs."""
-    command = command_line.COMMANDS[words[0]]
-    layout = read_layout() if command.reads_layout else b""
+def answer(words: Sequence[str], layout: bytes, line: Line) -> Tuple[int, bytes, bytes]:
+    """The program's status, output and error output, by the sources without their proofs."""
     with tempfile.TemporaryDirectory(prefix="dpl-") as folder:
-        flags, given = ["--seconds", str(SECONDS)], words[:1]
+        flags, given = ["--seconds", str(SECONDS)], list(words[:1])
         for name, value in command_line.given_in(words[1:])[0]:
             option = command_line.OPTIONS[name]
             if option.shown == "FILE":
@@ -75,11 +49,10 @@ def answer(words, line):
                     flags += ["--data", f"{name}.given={folder}/{name}"]
                 value = f"{name}.given"
             given.append(f"--{name}={value}")
-        status, out, told = run([*flags, "--", *given], layout, folder, line)
-    return status, out, told, layout
+        return run([*flags, "--", *given], layout, folder, line)
 
 
-def run(words, layout, folder, line):
+def run(words: Sequence[str], layout: bytes, folder: str, line: Line) -> Tuple[int, bytes, bytes]:
     with open(f"{folder}/layout", "w+b") as source, open(f"{folder}/out", "w+b") as out, open(f"{folder}/told", "w+b") as told:
         source.write(layout)
         source.seek(0)
@@ -90,7 +63,7 @@ def run(words, layout, folder, line):
         return judged(out.read(), told.read())
 
 
-def wait(process, line):
+def wait(process: subprocess.Popen[bytes], line: Line) -> None:
     while True:
         line.tell(f"dpl: compiling and running, {60 * line.minutes():.0f} s")
         try:
@@ -101,7 +74,7 @@ def wait(process, line):
     line.clear()
 
 
-def judged(out, told):
+def judged(out: bytes, told: bytes) -> Tuple[int, bytes, bytes]:
     """The program's status, output and error line, out of what `rt try` says."""
     ended = ENDED.search(told)
     if ended:
