@@ -1,7 +1,13 @@
 """The dialog: spacing and overlap, weights, and a layer in which nothing is cut. What was asked last is remembered."""
 
-import pya
-from layer import Asked, Refused
+from __future__ import annotations
+
+from typing import Callable, Dict, TypeVar
+
+import pya  # type: ignore[import]
+from layer import Asked, Layer, Refused
+
+Number = TypeVar("Number", int, float)
 
 NOTHING = "none"
 SETTING = "dpl-asked-"
@@ -15,13 +21,13 @@ LABELS = {
 }
 
 
-class Dialog(pya.QDialog):
-    def __init__(self, layer, parent):
+class Dialog(pya.QDialog):  # type: ignore[misc]
+    def __init__(self, layer: Layer, parent: pya.QWidget) -> None:
         super().__init__(parent)
         self.windowTitle = f"Double patterning of {layer.info}"
         self.objectName = "double_patterning"
         form = pya.QFormLayout(self)
-        self.edits = {}
+        self.edits: Dict[str, pya.QLineEdit] = {}
         for name, label in LABELS.items():
             self.edits[name] = pya.QLineEdit(pya.Application.instance().get_config(SETTING + name) or DEFAULTS[name], self)
             form.addRow(label, self.edits[name])
@@ -37,17 +43,16 @@ class Dialog(pya.QDialog):
         buttons.rejected(self.reject)
         form.addRow(buttons)
 
-    def asked(self):
+    def asked(self) -> Asked:
         """What was asked, in numbers."""
         for name, edit in self.edits.items():
             pya.Application.instance().set_config(SETTING + name, edit.text)
-        space, overlap = (self.number(name, float) for name in ("space", "overlap"))
-        stitch, conflict, corner = (self.number(name, int) for name in ("stitch", "conflict", "corner"))
+        space, overlap = (self.number(name, float, "a number") for name in ("space", "overlap"))
+        stitch, conflict, corner = (self.number(name, int, "a whole number") for name in ("stitch", "conflict", "corner"))
         return Asked(space, overlap, stitch, conflict, corner, self.layers.get(self.keep.currentText))
 
-    def number(self, name, kind):
+    def number(self, name: str, kind: Callable[[str], Number], what: str) -> Number:
         try:
             return kind(self.edits[name].text)
         except ValueError as error:
-            what = "a number" if kind is float else "a whole number"
             raise Refused(f"{LABELS[name]}: {what} is wanted, and not {self.edits[name].text}.") from error

@@ -4,10 +4,12 @@ Both masks come into the layout as two layers in two colours, and conflicts, not
 marker browser, each with the cell in which it lies. The program runs beside KLayout, which goes on.
 """
 
+from __future__ import annotations
+
 import os
 import sys
 
-import pya
+import pya  # type: ignore[import]
 
 TOOLS = os.path.join(os.path.dirname(os.path.dirname(os.path.realpath(__file__))), "tools")
 # KLayout's Python has a module of the name of one of the tools, so its own comes first
@@ -21,7 +23,7 @@ from showing import show
 TITLE = "Double Patterning"
 
 
-def ask(folder):
+def ask(folder: str) -> None:
     """Asks for lengths and weights, and splits the current layer."""
     view = pya.LayoutView.current()
     try:
@@ -35,7 +37,7 @@ def ask(folder):
         warn(str(refused))
         return
 
-    def done(status, report, told):
+    def done(status: int, report: bytes, told: str) -> None:
         if status:
             warn(told)
             return
@@ -47,5 +49,5 @@ def ask(folder):
     Run(TITLE, [os.path.join(folder, "dpl"), *words], text, done)
 
 
-def warn(text):
+def warn(text: str) -> None:
     pya.MessageBox.warning(TITLE, text, pya.MessageBox.Ok)

@@ -1,21 +1,24 @@
 """Runs the program beside KLayout: a small window tells for how long, and its button stops it."""
 
+from __future__ import annotations
+
 import subprocess
 import tempfile
 import time
+from typing import IO, Callable, List, Sequence
 
-import pya
+import pya  # type: ignore[import]
 
 EVERY = 100
 
 
-class Run(pya.QObject):
+class Run(pya.QObject):  # type: ignore[misc]
     """One run; `done` is called with the status, the output and the error output, and not where it is stopped."""
 
     # a run stays until it is done
-    held = []
+    held: List[Run] = []
 
-    def __init__(self, title, words, text, done):
+    def __init__(self, title: str, words: Sequence[str], text: bytes, done: Callable[[int, bytes, str], None]) -> None:
         super().__init__(pya.Application.instance().main_window())
         self.done, self.began = done, time.monotonic()
         self.out, self.told, source = (tempfile.TemporaryFile() for _ in range(3))
@@ -31,7 +34,7 @@ class Run(pya.QObject):
         self.timer.start(EVERY)
         self.held.append(self)
 
-    def look(self):
+    def look(self) -> None:
         """Looks whether the program has ended, or is to be stopped."""
         if self.window.wasCanceled:
             self.process.terminate()
@@ -43,12 +46,12 @@ class Run(pya.QObject):
             self.end()
             self.done(self.process.returncode, self.read(self.out), self.read(self.told).decode(errors="replace"))
 
-    def end(self):
+    def end(self) -> None:
         self.timer.stop()
         self.window.reset()
         self.window.close()
         self.held.remove(self)
 
-    def read(self, file):
+    def read(self, file: IO[bytes]) -> bytes:
         file.seek(0)
         return file.read()

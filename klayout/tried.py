@@ -8,7 +8,7 @@ import traceback
 import pya
 
 SPLIT = {"space": "0.06", "overlap": "0.02", "stitch": "1", "conflict": "10", "corner": "10"}
-MOST_SECONDS = 540
+MOST_SECONDS = 60
 
 
 def application():
@@ -44,20 +44,27 @@ def until(what, ready):
 
 
 def ask(**values):
-    """Asks by the menu; the dialog is filled and answered by a timer, since it waits."""
+    """Asks by the menu; the dialog is filled and answered by a timer, since it waits. What was warned of is told."""
     for name, value in {**SPLIT, **values}.items():
         application().set_config(f"dpl-asked-{name}", value)
+    warned = []
     timer = pya.QTimer(application().main_window())
-    timer.timeout(lambda: answer(timer))
+    timer.timeout(lambda: answer(timer, warned))
     timer.start(200)
     application().main_window().menu().action("tools_menu.double_patterning").trigger()
+    timer.stop()
+    return warned
 
 
-def answer(timer):
+def answer(timer, warned):
     shown = dialog()
     if shown:
-        timer.stop()
         shown.accept()
+        return
+    box = pya.QApplication.activeModalWidget()
+    if hasattr(box, "text"):
+        warned.append(box.text)
+        box.accept()
 
 
 def region(cell, name):
@@ -92,12 +99,53 @@ def again():
     assert view().num_rdbs() == 1 and len(view().active_cellview().layout().layer_indexes()) == layers
 
 
+def refused():
+    """What cannot be asked is told, and nothing is split."""
+    choose("15/0")
+    assert "whole number" in ask(space="0.0605")[0]
+    assert "a number is wanted" in ask(overlap="wide")[0]
+
+
+def stopped():
+    """The button of the window ends the program."""
+    import running
+
+    ended = []
+    run = running.Run("Double Patterning", ["sleep", "600"], b"", lambda *answer: ended.append(answer))
+    run.window.cancel()
+    until("the end", lambda: not running.Run.held)
+    assert run.process.poll() is not None and not ended
+
+
+def within(widget, name):
+    """The part of a window that has a name."""
+    for child in widget.children():
+        found = child if child.objectName == name else within(child, name)
+        if found is not None:
+            return found
+    return None
+
+
 def picture(path):
+    """The layout with its masks, and the marker browser beside it."""
     window = application().main_window()
+    window.move(0, 0)
     window.resize(1180, 740)
-    view().zoom_fit()
+    browser = next(it for it in pya.QApplication.topLevelWidgets() if it.windowTitle.startswith("Marker"))
+    browser.move(8, 250)
+    browser.resize(620, 470)
+    for name in ("7/0", "235/0"):
+        choose(name)
+        view().current_layer.current().visible = False
+    tree, markers = within(browser, "directory_tree"), within(browser, "markers_list")
+    by_category = tree.model.index(1, 0, pya.QModelIndex())
+    tree.expand(by_category)
+    tree.setCurrentIndex(tree.model.index(0, 0, by_category))
+    markers.setCurrentIndex(markers.model.index(0, 0, pya.QModelIndex()))
+    view().zoom_box(pya.DBox(0.2, 0.3, 2.2, 1.6))
     until("the picture", drawn(time.monotonic() + 2))
-    window.grab().save(path)
+    shown = pya.QApplication.primaryScreen().grabWindow(0, 0, 0, 1180, 740)
+    shown.save(path, "PNG", 0)
 
 
 def drawn(end):
@@ -110,7 +158,9 @@ def run():
         split()
         picture(os.environ["MENU_TEST_PICTURE"])
         again()
-        print("the menu splits, shows and splits again as it should", flush=True)
+        refused()
+        stopped()
+        print("the menu splits, shows, splits again, refuses and stops as it should", flush=True)
         status = 0
     except BaseException:
         traceback.print_exc()
