@@ -8,8 +8,8 @@ to rings), polygons (overlapping themselves, slanted) and labels on several laye
 arrayed and magnified. Besides there are DEF files with LEF, of 1,000 to 20,000 units a micron, whose metal is known
 without KLayout. The text is read by tools/cif.py, and both sides are filled and compared strip by strip, shapes of a
 layout by their winding number and figures of the text by even and odd. A layer with slanted sides is read by KLayout, and
-may differ by what is thinner than two units. Ends with 1 where one differs. The import is that of tools/import without its
-own check, many in one run of KLayout.
+may differ by what is thinner than two units. Ends with 1 where one differs. Many are imported in one run of KLayout, with the
+check of tools/import.
 """
 
 from __future__ import annotations
@@ -22,7 +22,7 @@ import sys
 import tempfile
 from concurrent.futures import ThreadPoolExecutor
 from fractions import Fraction
-from typing import Any, Iterable, NamedTuple
+from typing import Any, Iterable, List, NamedTuple, Tuple
 
 TOP = os.path.dirname(os.path.dirname(os.path.abspath(__file__)))
 TOOLS = os.path.join(TOP, "tools")
@@ -30,13 +30,13 @@ SCRIPT = "import sys\nsys.path += [bench, tools]\nimport imports\nimports.batch(
 BATCH = 100
 UNITS = (1_000, 2_000, 4_000, 10_000, 20_000)
 
-Point = tuple  # of two numbers
+Figure = List[Tuple[Any, Any]]
 
 
 # ---- what is filled
 
 
-def strips(figures: list[list[Point]]) -> list[Fraction]:
+def strips(figures: list[Figure]) -> list[Fraction]:
     return sorted({y for points in figures for _, y in points})
 
 
@@ -45,10 +45,10 @@ class Sides(NamedTuple):
 
     low: Any
     high: Any
-    sides: list
+    sides: List[Tuple[Any, Any, Any, int]]
 
 
-def sides_of(points: list[Point]) -> Sides:
+def sides_of(points: Figure) -> Sides:
     found = []
     for (x1, y1), (x2, y2) in zip(points, [*points[1:], points[0]]):
         if y1 != y2:
@@ -84,7 +84,7 @@ def united(found: list[tuple[Any, Any]]) -> list[tuple[Any, Any]]:
     return [(start, end) for start, end in joined]
 
 
-def difference(layout: list[list[Point]], text: list[list[Point]]) -> str:
+def difference(layout: list[Figure], text: list[Figure]) -> str:
     """Where level figures of a layout, filled whole, and those of a text differ, in words; empty where they do not."""
     heights = strips(layout + text)
     left, right = [sides_of(points) for points in layout], [sides_of(points) for points in text]
@@ -236,7 +236,7 @@ def random_case(seed: int, folder: str, pya: Any) -> Case:
 
 
 def asked(path: str, times: int, names: dict[str, str], only: list[str], cell: str | None, lef: tuple[str, ...] = ()) -> dict[str, Any]:
-    return {"layout": path, "lef": list(lef), "times": times, "names": names, "layers": only, "cell": cell, "unchecked": True}
+    return {"layout": path, "lef": list(lef), "times": times, "names": names, "layers": only, "cell": cell, "unchecked": False}
 
 
 # ---- DEF and LEF
@@ -248,7 +248,7 @@ class Routed:
     def __init__(self, seed: int, folder: str) -> None:
         self.chance = random.Random(seed)
         self.units, self.of_lef = self.chance.choice(UNITS), self.chance.choice(UNITS)
-        self.due: dict[str, list[list[Point]]] = {}
+        self.due: dict[str, list[Figure]] = {}
         self.wide, self.via = self.lef_length(40, 400), [self.lef_length(40, 300) for _ in range(2)]
         self.size = [self.lef_length(2_000, 4_000) for _ in range(2)]
         self.pin = [self.lef_length(0, 900) for _ in range(2)] + [self.lef_length(1_000, 1_900) for _ in range(2)]

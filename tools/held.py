@@ -7,19 +7,20 @@ definition is scaled exactly.
 from __future__ import annotations
 
 from fractions import Fraction
-from typing import Tuple
 
 import pya  # type: ignore[import]
 
-from cif import Layout, Polygon, Unreadable
-from metal import raw
+from cif import Call, Layout, Number, Point, Polygon, Unreadable
+from metal import DRAWN, OTHERS, filled, raw, shapes_of
 from reading import microns_of
 from writing import Chosen
 
 MOST = (1 << 31) - 1
 SHOWN = 3
+# the rule of KLayout's edge processor
+EVEN_ODD = 0
 # the turns of KLayout by what they make of x and of y: quarters, and whether a mirror at the level axis is before them
-TURNS = {
+TURNS: dict[tuple[Number, ...], tuple[int, bool]] = {
     (1, 0, 0, 1): (0, False),
     (0, -1, 1, 0): (1, False),
     (-1, 0, 0, -1): (2, False),
@@ -29,10 +30,6 @@ TURNS = {
     (-1, 0, 0, 1): (2, True),
     (0, -1, -1, 0): (3, True),
 }
-
-
-# how a call is placed, as cif.py has it: the four numbers of a turn, and a shift
-Placement = Tuple[int, int, int, int, Fraction, Fraction]
 
 
 class Read:
@@ -46,34 +43,41 @@ class Read:
         bodies = Layout(text).bodies
         self.cells = {owner: self.layout.create_cell(f"D{owner}") for owner in bodies}
         for owner, items in bodies.items():
-            for name, item in items:
-                if name is None:
-                    self.call(self.cells[owner], *item)
+            figures: dict[str, pya.Region] = {}
+            for name, what in items:
+                if isinstance(what, Call):
+                    self.call(self.cells[owner], what)
                 else:
-                    self.figure(self.cells[owner], name, item)
+                    self.figure(figures.setdefault(name or "", pya.Region()), what)
+            for name, shapes in figures.items():
+                self.cells[owner].shapes(self.layer(name)).insert(shapes)
 
-    def call(self, cell: pya.Cell, number: int, placed: Placement) -> None:
-        if number not in self.cells:
-            raise Unreadable(f"the text calls a definition {number} that it does not have")
-        turn = pya.Trans(*TURNS[placed[:4]], *(self.whole(at) for at in placed[4:]))
-        cell.insert(pya.CellInstArray(self.cells[number].cell_index(), turn))
-
-    def figure(self, cell: pya.Cell, name: str, corners: list[tuple[Fraction, Fraction]]) -> None:
+    def layer(self, name: str) -> int:
         if name not in self.layers:
             self.layers[name] = self.layout.layer(pya.LayerInfo(name))
-        points = [pya.Point(self.whole(x), self.whole(y)) for x, y in corners]
-        shapes = cell.shapes(self.layers[name])
-        if isinstance(corners, Polygon):
-            for polygon in pya.EdgeProcessor().simple_merge_p2p([pya.Polygon(points, True)], False, False, 0):
-                shapes.insert(polygon)
-        else:
-            shapes.insert(pya.Box(points[0], points[2]))
+        return self.layers[name]
 
-    def whole(self, length: Fraction) -> int:
+    def call(self, cell: pya.Cell, call: Call) -> None:
+        if call.number not in self.cells:
+            raise Unreadable(f"the text calls a definition {call.number} that it does not have")
+        *turn, x, y = call.placed
+        placed = pya.Trans(*TURNS[tuple(turn)], self.whole(x), self.whole(y))
+        cell.insert(pya.CellInstArray(self.cells[call.number].cell_index(), placed))
+
+    def figure(self, shapes: pya.Region, corners: list[Point]) -> None:
+        if isinstance(corners, Polygon):
+            polygon = pya.Polygon([pya.Point(self.whole(x), self.whole(y)) for x, y in corners], True)
+            for part in pya.EdgeProcessor().simple_merge_p2p([polygon], False, False, EVEN_ODD):
+                shapes.insert(part)
+        else:
+            (left, bottom), _, (right, top), _ = corners
+            shapes.insert(pya.Box(self.whole(left), self.whole(bottom), self.whole(right), self.whole(top)))
+
+    def whole(self, length: Number) -> int:
         """A length of the text in units of the layout."""
-        found = length / self.unit
-        if found.denominator != 1 or abs(found) > MOST:
-            raise Unreadable(f"the text has a corner at {float(found)} units of the layout, where the layout has none")
+        found, rest = divmod(length * self.unit.denominator, self.unit.numerator)
+        if rest or abs(found) > MOST:
+            raise Unreadable(f"the text has a corner at {float(length / self.unit):.9g} units of the layout, where the layout has none")
         return int(found)
 
     def metal(self, name: str) -> pya.Region:
@@ -95,18 +99,19 @@ def hold(text: bytes, chosen: Chosen, times: int) -> None:
 
 
 def metal(chosen: Chosen, name: str) -> pya.Region:
-    """A layer of the layout as KLayout has it, by all instances."""
+    """A layer of the layout as KLayout has it, by all instances: rectangles, and what the others fill together."""
     found = pya.Region()
     for index in chosen.layers[name]:
-        found += pya.Region(pya.RecursiveShapeIterator(chosen.layout, chosen.cell, index))
-    return found
+        found += shapes_of(chosen.layout, chosen.cell.cell_index(), index, DRAWN)
+        found += filled(shapes_of(chosen.layout, chosen.cell.cell_index(), index, OTHERS)).merged()
+    return raw(found)
 
 
 def differences(layout: pya.Region, text: pya.Region) -> list[pya.Box]:
     """Where two layers differ. Slanted sides cross each other between the points of the grid, where KLayout rounds; so of a
     layer that has such sides, which `dpl` refuses, what is thinner than two units of the layout says nothing."""
     differ = layout ^ text
-    if not raw(layout).non_rectilinear().is_empty():
+    if not layout.non_rectilinear().is_empty():
         differ = differ.sized(-1)
     return [polygon.bbox() for polygon in differ.each()]
 

@@ -11,7 +11,7 @@ import pya  # type: ignore[import]
 
 from cif import Unreadable
 from held import hold
-from metal import DRAWN, OTHERS
+from metal import DRAWN, OTHERS, filled
 from reach import refuse_far
 from reading import read
 from writing import Chosen, lines
@@ -85,7 +85,7 @@ class Layers:
     def cell(self, word: str | None) -> pya.Cell:
         """The cell that is written: the one that is named, or else the one top cell with figures."""
         tops = [cell for cell in self.layout.top_cells() if any(self.is_drawn(cell, index) for index in self.wanted)]
-        names = ", ".join(cell.name for cell in tops)
+        names = ", ".join(sorted(cell.name for cell in tops))
         if word is not None:
             if not self.layout.has_cell(word):
                 raise Unreadable(f"--cell names a cell {word} that is not there; the top cells are: {names or 'none'}")
@@ -93,7 +93,7 @@ class Layers:
         if len(tops) > 1:
             raise Unreadable(f"there are several top cells: --cell takes one of {names}")
         if not tops:
-            raise Unreadable("no layer has a figure")
+            raise Unreadable(f"layer {self.only[0]} has no figure" if self.only else "no layer has a figure")
         return tops[0]
 
     def is_drawn(self, cell: pya.Cell, index: int) -> bool:
@@ -168,7 +168,7 @@ def left_out(layers: Layers, chosen: Chosen) -> Iterator[str]:
 
 
 def has_no_area(shape: pya.Shape) -> bool:
-    return not shape.area() and (shape.polygon is None or pya.Region(shape.polygon).merged().is_empty())
+    return not shape.area() and (shape.polygon is None or filled(pya.Region(shape.polygon)).merged().is_empty())
 
 
 def counted(count: int, what: str) -> str:

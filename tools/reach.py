@@ -5,7 +5,7 @@ from __future__ import annotations
 import pya  # type: ignore[import]
 
 from cif import Unreadable
-from metal import own
+from metal import shapes_of
 from reading import microns_of
 from writing import Chosen
 
@@ -33,7 +33,7 @@ def bounds_of(chosen: Chosen, indexes: list[int]) -> pya.DBox:
         cell = chosen.layout.cell(number)
         box = pya.DBox()
         for index in indexes:
-            box += pya.DBox(own(chosen.layout, cell, index).bbox())
+            box += pya.DBox(shapes_of(chosen.layout, number, index, depth=0).bbox())
         for instance in cell.each_inst():
             below = known[instance.cell_index]
             if not below.empty():

@@ -7,6 +7,7 @@ import math
 import os
 import re
 import tempfile
+import zlib
 from fractions import Fraction
 
 import pya  # type: ignore[import]
@@ -123,4 +124,7 @@ def unit_of_lef(paths: list[str]) -> Fraction:
 def text_of(path: str) -> bytes:
     with open(path, "rb") as file:
         data = file.read()
-    return gzip.decompress(data) if data[:2] == b"\x1f\x8b" else data
+    try:
+        return gzip.decompress(data) if data[:2] == b"\x1f\x8b" else data
+    except (EOFError, zlib.error, gzip.BadGzipFile) as error:
+        raise Unreadable(f"{os.path.basename(path)} cannot be unpacked: {error}") from error

@@ -1,8 +1,8 @@
 """Writes layers of a layout as CIF that `dpl` reads, by KLayout.
 
-A cell becomes a definition, and an instance a call. CIF has no magnified and no slanted calls, so what lies under such an
-instance is drawn where it comes to lie, in the definition of the top cell. A unit of the text is half a unit of the
-layout, since CIF gives a box by its middle.
+A cell becomes a definition, and an instance a call. CIF has no magnified and no slanted calls, so cells that lie under such
+an instance, or have one below, are drawn flat in the definition of the cell that is written, as KLayout rounds them. A unit
+of the text is half a unit of the layout, since CIF gives a box by its middle.
 """
 
 from __future__ import annotations
@@ -13,7 +13,7 @@ from collections.abc import Iterator
 import pya  # type: ignore[import]
 
 import scale
-from metal import DRAWN, OTHERS, own, raw, rectangles_of
+from metal import DRAWN, OTHERS, raw, rectangles_of, shapes_of
 from reading import microns_of
 
 # turns of a call by KLayout's numbers: a quarter each, and behind a mirror at the level axis from 4 on
@@ -28,14 +28,10 @@ class Chosen:
 
 
 class Figures:
-    """The figures of one definition on one layer."""
+    """The figures of one definition on one layer: rectangles as they are drawn, and the others."""
 
     def __init__(self) -> None:
         self.drawn, self.others = pya.Region(), pya.Region()
-
-    def add(self, chosen: Chosen, cell: pya.Cell, index: int, placed: pya.ICplxTrans) -> None:
-        self.drawn += own(chosen.layout, cell, index, DRAWN).transformed(placed)
-        self.others += own(chosen.layout, cell, index, OTHERS).transformed(placed)
 
     def lines(self) -> Iterator[str]:
         drawn = raw(self.drawn)
@@ -53,16 +49,9 @@ class Figures:
 class Definition:
     """What a definition has: figures by the names of their layers, and calls, each a cell and how it is placed."""
 
-    def __init__(self, chosen: Chosen) -> None:
-        self.chosen = chosen
-        self.figures = {name: Figures() for name in chosen.layers}
+    def __init__(self) -> None:
+        self.figures: dict[str, Figures] = {}
         self.calls: list[tuple[int, pya.Trans]] = []
-
-    def add(self, cell: pya.Cell, placed: pya.ICplxTrans) -> None:
-        for name, indexes in self.chosen.layers.items():
-            for index in indexes:
-                if not cell.shapes(index).is_empty():
-                    self.figures[name].add(self.chosen, cell, index, placed)
 
     def lines(self) -> Iterator[str]:
         for name, found in self.figures.items():
@@ -83,21 +72,30 @@ def polygon_line(polygon: pya.Polygon) -> str:
 
 
 class Tree:
-    """The cells of a layout: which have something to write below them, and which have only level instances below."""
+    """The cells from one on downwards, by their numbers."""
 
     def __init__(self, chosen: Chosen) -> None:
         self.chosen = chosen
+        under = {chosen.cell.cell_index(), *chosen.cell.called_cells()}
+        self.upwards = [number for number in chosen.layout.each_cell_bottom_up() if number in under]
+        # those with something to write in them or below, those without a magnified or a slanted instance below, and those
+        # that lie somewhere under such an instance
         self.held: set[int] = set()
         self.level: set[int] = set()
-        self.upwards = list(chosen.layout.each_cell_bottom_up())
-        indexes = [index for group in chosen.layers.values() for index in group]
+        self.flat: set[int] = set()
         for number in self.upwards:
-            cell = chosen.layout.cell(number)
-            below = list(cell.each_inst())
-            if any(not cell.shapes(index).is_empty() for index in indexes) or any(i.cell_index in self.held for i in below):
-                self.held.add(number)
-            if all(not i.is_complex() and i.cell_index in self.level for i in below):
-                self.level.add(number)
+            self.sort(chosen.layout.cell(number))
+
+    def sort(self, cell: pya.Cell) -> None:
+        indexes = [index for group in self.chosen.layers.values() for index in group]
+        below = list(cell.each_inst())
+        if any(not cell.shapes(index).is_empty() for index in indexes) or any(i.cell_index in self.held for i in below):
+            self.held.add(cell.cell_index())
+        if all(not i.is_complex() and i.cell_index in self.level for i in below):
+            self.level.add(cell.cell_index())
+        for instance in below:
+            if instance.is_complex():
+                self.flat |= {instance.cell_index, *instance.cell.called_cells()}
 
     def definitions(self) -> dict[int, Definition]:
         """The definition of the cell that is written and of all that are called, each behind those that it calls."""
@@ -111,26 +109,30 @@ class Tree:
         return {number: found[number] for number in self.upwards if number in found}
 
     def definition(self, number: int) -> Definition:
-        """What lies under a magnified or a slanted instance is among the figures, placed by all instances from this cell on
-        at once, so that it is rounded only once."""
-        made = Definition(self.chosen)
-        waiting = [(number, pya.ICplxTrans())]
-        while waiting:
-            number, placed = waiting.pop()
-            cell = self.chosen.layout.cell(number)
-            made.add(cell, placed)
-            for called, below in self.calls(cell, placed):
-                if called in self.level and not below.is_complex():
-                    made.calls.append((called, below.s_trans()))
-                else:
-                    waiting.append((called, below))
+        """A cell with its own shapes and its calls, or with all shapes that lie in no call."""
+        made = Definition()
+        is_level = number in self.level
+        drawn_below = [] if is_level else sorted(self.level - self.flat)
+        for name, indexes in self.chosen.layers.items():
+            figures = made.figures[name] = Figures()
+            for index in indexes:
+                for kinds, shapes in ((DRAWN, figures.drawn), (OTHERS, figures.others)):
+                    shapes += shapes_of(self.chosen.layout, number, index, kinds, 0 if is_level else None, drawn_below)
+        made.calls += self.calls(number, set() if is_level else self.flat)
         return made
 
-    def calls(self, cell: pya.Cell, placed: pya.ICplxTrans) -> Iterator[tuple[int, pya.ICplxTrans]]:
-        for instance in cell.each_inst():
-            if instance.cell_index in self.held:
-                for step in instance.cell_inst.each_cplx_trans():
-                    yield instance.cell_index, placed * step
+    def calls(self, number: int, flat: set[int]) -> Iterator[tuple[int, pya.Trans]]:
+        """The calls in a cell of level cells, and in cells below that are not level, but for those that are drawn flat."""
+        waiting = [(number, pya.Trans())]
+        while waiting:
+            number, placed = waiting.pop()
+            for instance in self.chosen.layout.cell(number).each_inst():
+                if instance.cell_index in self.held - flat:
+                    steps = [(instance.cell_index, placed * step) for step in instance.cell_inst.each_trans()]
+                    if instance.cell_index in self.level:
+                        yield from steps
+                    else:
+                        waiting += steps
 
 
 def lines(chosen: Chosen, times: int) -> Iterator[str]:
