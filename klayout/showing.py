@@ -28,14 +28,14 @@ def show(view: pya.LayoutView, layer: Layer, asked: Asked, text: bytes) -> None:
         raise Refused(f"The report cannot be read: {error}") from error
     grid = layer.grid(asked)
     regions = {letter: region_of(layer, report, letter, grid) for letter in "AB"}
+    # what changes outside of a transaction cannot be undone, nor what was before it
     view.transaction("Double patterning")
     try:
-        targets = {letter: put(layer, letter, region) for letter, region in regions.items()}
+        hide(view, layer)
+        for letter in "BA":
+            paint(view, layer, put(layer, letter, regions[letter]), letter)
     finally:
         view.commit()
-    hide(view, layer)
-    for letter in "BA":
-        paint(view, layer, targets[letter], letter)
     browse(view, layer, report, asked)
 
 

@@ -99,6 +99,15 @@ def again():
     assert view().num_rdbs() == 1 and len(view().active_cellview().layout().layer_indexes()) == layers
 
 
+def undone():
+    """The masks can be taken back, and come again."""
+    layout, menu = view().active_cellview().layout(), application().main_window().menu()
+    for word, stands in (("undo", False), ("redo", True)):
+        menu.action(f"edit_menu.{word}").trigger()
+        named = [layout.get_info(index).name for index in layout.layer_indexes()]
+        assert ("L15D0 mask A" in named) == stands, (word, named)
+
+
 def refused():
     """What cannot be asked is told, and nothing is split."""
     choose("15/0")
@@ -156,6 +165,7 @@ def run():
     status = 1
     try:
         split()
+        undone()
         picture(os.environ["MENU_TEST_PICTURE"])
         again()
         refused()

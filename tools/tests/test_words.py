@@ -104,7 +104,7 @@ class Program(unittest.TestCase):
         self.told(3, "dpl: layout 1 at command 1", "UTF-16", layout="L M;E".encode("utf-16"))
         self.told(3, "dpl: layout 14 at command 1", "empty file", layout=b"")
         self.told(3, "dpl: layout 1 at command 1", "byte order mark", layout=b"\xef\xbb\xbfL M;E")
-        self.told(3, "dpl: layout 1 at command 1", "\\x1b[31m", layout=b"L \x1b[31m_;E")
+        self.told(3, "dpl: layout 1 at command 1", "\\x1b[B", layout=b"L A \x1b[B;E")
         self.told(5, "dpl: read fault", "No such file", given=("check", *ASKED, "--report", "/nothing"), layout=bytes_of(LAYOUT))
 
     def test_inputs(self) -> None:
