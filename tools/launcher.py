@@ -8,7 +8,7 @@ from __future__ import annotations
 import os
 import signal
 import sys
-from typing import IO, Callable, Dict, List, NamedTuple, NoReturn, Optional, Sequence, Tuple
+from typing import IO, Callable, Dict, NamedTuple, NoReturn, Optional, Sequence, Tuple
 
 import given_layout
 import kit

@@ -74,7 +74,8 @@ class BadInputs(unittest.TestCase):
 
     def test_wrong_words(self) -> None:
         for name in CALLS:
-            for words in ([], ["--nosuch"], [LAYOUT, "1", "2", "3"]):
+            wrong: List[List[str]] = [[], ["--nosuch"], [LAYOUT, "1", "2", "3"]]
+            for words in wrong:
                 with self.subTest(tool=name, words=words):
                     done = tool(name, *words)
                     self.assertEqual((done.status, done.out), (2, b""), done.told)

@@ -29,9 +29,8 @@ class Own(unittest.TestCase):
     def test_help_and_version_anywhere(self) -> None:
         for given in (["split", "--help"], ["split", "--layer", "M", "-h"], ["help", "split"]):
             self.assertIn(b"usage: dpl split", dpl(*given).out, given)
-        for given in ([], ["--help"], ["-h", "nosuch"]):
-            if given:
-                self.assertIn(b"dpl build", dpl(*given).out)
+        for given in (["--help"], ["-h", "nosuch"]):
+            self.assertIn(b"dpl build", dpl(*given).out)
         self.assertIn(b"reads versions 1 and 2", dpl("--version").out)
 
     def test_wrong_words_end_with_two(self) -> None:
