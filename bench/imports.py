@@ -130,7 +130,7 @@ class Maker:
 
     def fill(self, cell: Any) -> None:
         for _ in range(self.chance.randrange(0, 7)):
-            kind = self.chance.choice([self.box, self.path, self.path, self.ring, self.polygon, self.stairs, self.label])
+            kind = self.chance.choice([self.box, self.path, self.path, self.ring, self.polygon, self.eight, self.stairs, self.label])
             if self.is_slanted and self.chance.random() < 0.3:
                 kind = self.chance.choice([self.slanted, self.round])
             cell.shapes(self.chance.choice(self.layers)).insert(kind())
@@ -174,6 +174,12 @@ class Maker:
         points += [self.pya.Point(x, y), self.pya.Point(first.x, y)]
         return self.pya.Polygon(points, True)
 
+    def eight(self) -> Any:
+        """Two equal squares that meet at a corner, gone round in opposite directions."""
+        x, y, side = self.at(), self.at(), self.chance.randrange(1, 90) * self.step
+        steps = [(0, 0), (0, 1), (2, 1), (2, 2), (1, 2), (1, 0)]
+        return self.pya.Polygon([self.pya.Point(x + a * side, y + b * side) for a, b in steps], True)
+
     def stairs(self) -> Any:
         x, y = self.at(), self.at()
         corner, points = self.pya.Point(x, y), []
@@ -188,7 +194,7 @@ class Maker:
         return self.pya.Polygon([self.point() for _ in range(self.chance.randrange(3, 7))], True)
 
     def round(self) -> Any:
-        path = self.path()
+        path = self.chance.choice([self.path, self.ring])()
         wide = self.chance.randrange(1, 30) * 2 * self.step
         return self.pya.Path(list(path.each_point()), wide, wide // 2, wide // 2, True)
 

@@ -18,6 +18,7 @@ from writing import Chosen, lines
 
 FIGURES = DRAWN | OTHERS
 MOST_NAME = 31
+MOST_BYTES = 16_777_216
 
 
 def run(words: str, target: str, said: str) -> None:
@@ -43,7 +44,7 @@ def made(asked: dict[str, Any], target: str) -> str:
         hold(text, chosen, asked["times"])
     with open(target, "wb") as file:
         file.write(text)
-    return told(layers, chosen)
+    return told(layers, chosen, len(text))
 
 
 class Layers:
@@ -118,7 +119,8 @@ class Layers:
 
 def is_called(info: pya.LayerInfo, word: str) -> bool:
     """Whether a layer is meant by its number and data type, as 15/0 or 15, or by its name."""
-    return word in (f"{info.layer}/{info.datatype}", info.name) or info.datatype == 0 and word == str(info.layer)
+    names = (f"{info.layer}/{info.datatype}", info.name, str(info.layer) if info.datatype == 0 else "")
+    return word != "" and word in names
 
 
 def own_name(info: pya.LayerInfo) -> str:
@@ -126,8 +128,8 @@ def own_name(info: pya.LayerInfo) -> str:
     return re.sub("[^0-9A-Z]", "", info.name.upper())[:MOST_NAME] or f"L{info.layer}D{info.datatype}"
 
 
-def told(layers: Layers, chosen: Chosen) -> str:
-    """What an engineer may miss in the text: layers that came apart, and what was left out."""
+def told(layers: Layers, chosen: Chosen, size: int) -> str:
+    """What an engineer may miss in the text: layers that came apart, what was left out, and that it is too long."""
     apart = [index for index in indexes_of(chosen) if not layers.given(index) and wire_of(layers, index)]
     said = []
     if apart:
@@ -137,6 +139,8 @@ def told(layers: Layers, chosen: Chosen) -> str:
     missing = list(left_out(layers, chosen))
     if missing:
         said.append(f"left out: {', '.join(missing)}")
+    if size > MOST_BYTES:
+        said.append(f"the text has {size:,} bytes, and dpl takes {MOST_BYTES:,}: --layer writes the layers that are wanted")
     return "; ".join(said)
 
 
@@ -151,10 +155,11 @@ def wire_of(layers: Layers, index: int) -> str | None:
 
 
 def left_out(layers: Layers, chosen: Chosen) -> Iterator[str]:
+    cells = [chosen.cell, *map(chosen.layout.cell, chosen.cell.called_cells())]
     labels = empty = 0
-    for number in [chosen.cell.cell_index(), *chosen.cell.called_cells()]:
+    for cell in cells:
         for index in layers.infos:
-            shapes = chosen.layout.cell(number).shapes(index)
+            shapes = cell.shapes(index)
             labels += sum(1 for _ in shapes.each(pya.Shapes.STexts))
             if index in layers.wanted:
                 empty += sum(1 for shape in shapes.each(pya.Shapes.SAll) if not shape.is_text() and has_no_area(shape))
@@ -162,6 +167,9 @@ def left_out(layers: Layers, chosen: Chosen) -> Iterator[str]:
         yield counted(labels, "label")
     if empty:
         yield counted(empty, "figure") + " without area"
+    ghosts = sorted(cell.name for cell in cells if cell.is_ghost_cell())
+    if ghosts:
+        yield f"the cells {', '.join(ghosts)}, which the layout calls and does not have"
     others = sorted(str(info) for index, info in layers.infos.items() if index not in layers.wanted)
     if others:
         yield f"the layers {', '.join(others)}"

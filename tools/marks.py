@@ -1,6 +1,6 @@
 """The marks of a report: what the engineer looks at, each with its numbers, at the place where it is.
 
-A mark of a conflict, of a notch or of an edge set aside is the gap between its two fragments, one of a stitch is the line
+A mark of a conflict, of a notch or of an edge set aside that is broken is the gap between its two fragments, one of a stitch is the line
 of the cut, one of an overlap is the zone that both masks hold, and one of an odd cycle is a closed line that follows its
 fragments and crosses its gaps. Lengths are grid units, of which a hundredth of a micron has two.
 """
@@ -20,7 +20,7 @@ KINDS = {
     "notch": "two parts of one shape, apart on one mask and closer than the spacing: no conflict counts them (docs/masks.md)",
     "stitch": "a feature that goes on on the other mask",
     "overlap": "where both masks hold a feature, around a stitch",
-    "aside": "edges set aside so that the others can be drawn plane",
+    "aside": "edges set aside so that the others can be drawn plane, which the masks break",
     "cycle": "odd cycles: on each something must break, so they bound the cost",
 }
 
@@ -85,13 +85,14 @@ def overlap(cut: Cut, divide: Divide) -> Mark:
 
 
 def aside_marks(report: Report, edges: Sequence[Edge], divide: Divide) -> Iterator[Mark]:
+    """The edges set aside that are broken. The masks keep the others, so nobody need look at them."""
     broken = {clash.edge for clash in report.clashes} | {cut.edge for cut in report.cuts}
-    for number in report.aside:
+    for number in filter(broken.__contains__, report.aside):
         kind, i, j = edges[number]
         r, s = report.fragments[i], report.fragments[j]
         cost = weight(report, edges, number)
         said = f"{kind} set aside, edge {number}: fragments {i} and {j}, {distance(r, s, divide)} apart"
-        said += "" if cost is None else f", weight {cost}, {'broken' if number in broken else 'kept by the masks'}"
+        said += "" if cost is None else f", weight {cost}"
         yield Mark("aside", said, [gap_box(r, s)], [], (r, s))
 
 

@@ -8,11 +8,17 @@ import os
 import re
 import tempfile
 import zlib
+from collections.abc import Iterator
+from contextlib import contextmanager
 from fractions import Fraction
 
 import pya  # type: ignore[import]
 
 from cif import Unreadable
+
+CIF, LEF_OR_DEF = "CIF", "LEF or DEF"
+# how files begin
+GDSII, OASIS, PACKED = b"\0\6\0\2", b"%SEMI-OASIS", b"\x1f\x8b"
 
 # KLayout reads the layer at the end of a label as a height. A label draws nothing.
 LABEL = re.compile(rb"^[ \t]*94[ \t][^;()]*;", re.MULTILINE)
@@ -22,7 +28,7 @@ FINEST = Fraction(1, 100_000)
 COMMENT = re.compile(rb"#.*")
 MICRONS = re.compile(rb"\bMICRONS\s+([1-9][0-9]*)")
 # the statements of LEF that say where metal is, as far as they have more digits than a nanometre needs
-PLACES = re.compile(rb"\b(?:RECT|POLYGON|PATH|WIDTH|OFFSET|ORIGIN|SIZE|FOREIGN|ITERATE|CUTSIZE|CUTSPACING|ENCLOSURE|VIA)\b([^;]*);")
+PLACES = re.compile(rb"\b(?:RECT|POLYGON|PATH|WIDTH|WIREEXTENSION|OFFSET|ORIGIN|SIZE|FOREIGN|ITERATE|CUTSIZE|CUTSPACING|ENCLOSURE|VIA)\b([^;]*);")
 DECIMAL = re.compile(rb"-?[0-9]*\.[0-9]{4,}")
 
 
@@ -30,16 +36,42 @@ def read(path: str, options: pya.LoadLayoutOptions | None = None, lefs: list[str
     """A layout; of DEF and LEF with the LEF files that are given, or else those in its folder."""
     options = options or pya.LoadLayoutOptions()
     layout = pya.Layout(False)
+    form = form_of(path)
     try:
-        if path.lower().endswith(".cif"):
+        if form == CIF:
             read_cif(layout, path, options)
             return layout
-        if is_lef_or_def(path):
+        if form == LEF_OR_DEF:
             with_lefs(options, path, lefs or [])
         layout.read(path, options)
     except RuntimeError as error:
         raise Unreadable(f"KLayout cannot read it: {plain(error, path)}") from error
+    if not form:
+        raise Unreadable("it begins like no GDSII and no OASIS, and CIF, DEF and LEF are known by the ends .cif, .def and .lef")
     return layout
+
+
+def form_of(path: str) -> str:
+    """The form of a file: two by how it begins, the others by its name; empty where it is none of these."""
+    with open(path, "rb") as file:
+        head = file.read(16)
+    if head[:2] == PACKED:
+        with unpacked(path) as packed:
+            head = packed.read(16)
+    if head.startswith((GDSII, OASIS)):
+        return "GDSII or OASIS"
+    if path.lower().endswith(".cif"):
+        return CIF
+    return LEF_OR_DEF if re.search(r"\.(lef|def)(\.gz)?$", path.lower()) else ""
+
+
+@contextmanager
+def unpacked(path: str) -> Iterator[gzip.GzipFile]:
+    try:
+        with gzip.open(path, "rb") as file:
+            yield file
+    except (EOFError, zlib.error, gzip.BadGzipFile) as error:
+        raise Unreadable(f"{os.path.basename(path)} cannot be unpacked: {error}") from error
 
 
 def plain(error: RuntimeError, path: str) -> str:
@@ -85,10 +117,6 @@ def unit_of_cif(text: bytes) -> Fraction:
 # ---- LEF and DEF
 
 
-def is_lef_or_def(path: str) -> bool:
-    return re.search(r"\.(lef|def)(\.gz)?$", path.lower()) is not None
-
-
 def with_lefs(options: pya.LoadLayoutOptions, path: str, lefs: list[str]) -> None:
     lefs = lefs or lefs_beside(path)
     config = options.lefdef_config
@@ -124,7 +152,7 @@ def unit_of_lef(paths: list[str]) -> Fraction:
 def text_of(path: str) -> bytes:
     with open(path, "rb") as file:
         data = file.read()
-    try:
-        return gzip.decompress(data) if data[:2] == b"\x1f\x8b" else data
-    except (EOFError, zlib.error, gzip.BadGzipFile) as error:
-        raise Unreadable(f"{os.path.basename(path)} cannot be unpacked: {error}") from error
+    if data[:2] != PACKED:
+        return data
+    with unpacked(path) as packed:
+        return packed.read()

@@ -9,6 +9,7 @@ from __future__ import annotations
 
 import re
 from collections.abc import Iterator
+from typing import NamedTuple
 
 import pya  # type: ignore[import]
 
@@ -20,11 +21,12 @@ from reading import microns_of
 TURNS = ["", "R 0 1 ", "R -1 0 ", "R 0 -1 ", "M Y ", "M Y R 0 1 ", "M Y R -1 0 ", "M Y R 0 -1 "]
 
 
-class Chosen:
+class Chosen(NamedTuple):
     """What is written of a layout: a cell with all below it, and layers by the names that they get, each with its indexes."""
 
-    def __init__(self, layout: pya.Layout, cell: pya.Cell, layers: dict[str, list[int]]) -> None:
-        self.layout, self.cell, self.layers = layout, cell, layers
+    layout: pya.Layout
+    cell: pya.Cell
+    layers: dict[str, list[int]]
 
 
 class Figures:
@@ -112,22 +114,22 @@ class Tree:
         """A cell with its own shapes and its calls, or with all shapes that lie in no call."""
         made = Definition()
         is_level = number in self.level
-        drawn_below = [] if is_level else sorted(self.level - self.flat)
+        called_below = [] if is_level else sorted(self.level - self.flat)
         for name, indexes in self.chosen.layers.items():
             figures = made.figures[name] = Figures()
             for index in indexes:
                 for kinds, shapes in ((DRAWN, figures.drawn), (OTHERS, figures.others)):
-                    shapes += shapes_of(self.chosen.layout, number, index, kinds, 0 if is_level else None, drawn_below)
-        made.calls += self.calls(number, set() if is_level else self.flat)
+                    shapes += shapes_of(self.chosen.layout, number, index, kinds, 0 if is_level else None, called_below)
+        made.calls += self.calls(number, self.held if is_level else self.held - self.flat)
         return made
 
-    def calls(self, number: int, flat: set[int]) -> Iterator[tuple[int, pya.Trans]]:
-        """The calls in a cell of level cells, and in cells below that are not level, but for those that are drawn flat."""
+    def calls(self, number: int, wanted: set[int]) -> Iterator[tuple[int, pya.Trans]]:
+        """The calls of cells that are wanted and level, in a cell and in those below that are wanted and not level."""
         waiting = [(number, pya.Trans())]
         while waiting:
             number, placed = waiting.pop()
             for instance in self.chosen.layout.cell(number).each_inst():
-                if instance.cell_index in self.held - flat:
+                if instance.cell_index in wanted:
                     steps = [(instance.cell_index, placed * step) for step in instance.cell_inst.each_trans()]
                     if instance.cell_index in self.level:
                         yield from steps

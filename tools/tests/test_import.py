@@ -2,6 +2,7 @@
 
 from __future__ import annotations
 
+import gzip
 import json
 import os
 import shutil
@@ -83,6 +84,14 @@ NETS 1 ;
 - net + ROUTED met1 ( 3001 3001 ) ( 6001 * ) ;
 END NETS
 END DESIGN
+"""
+
+MAGIC = """magic
+tech scmos
+timestamp 0
+<< metal1 >>
+rect 0 0 10 10
+<< end >>
 """
 
 # imports as the tool does, but for a text that is changed before it is held against the layout
@@ -218,6 +227,11 @@ class Choices(Imports):
     def test_what_is_left_out_is_told(self) -> None:
         self.assertEqual(self.told("slanted.gds", "--layer", "2"), "import: left out: 1 label, the layers 1/0, 3/0\n")
 
+    def test_cells_that_are_not_there_are_told(self) -> None:
+        self.write("ghost.gds", gds.library([("TOP", gds.call("NONE", 0, 0) + gds.box(1, 0, 0, 0, 100, 100))], 0.001))
+        told = self.told("ghost.gds")
+        self.assertEqual(told, "import: left out: the cells NONE, which the layout calls and does not have\n")
+
     def test_pins_are_told(self) -> None:
         lef = self.path(self.write("cells.lef", LEF.encode()))
         self.write("block.def", DEF.encode())
@@ -239,6 +253,9 @@ class Refusals(Imports):
         self.assertIn("the file is empty", self.refused(self.write("nothing.gds", b"")))
         self.assertIn("KLayout cannot read it", self.refused(self.write("cut.gds", whole[: len(whole) // 2])))
         self.assertIn("unknown format", self.refused(self.write("words.gds", b"hello\n")))
+        self.assertIn("begins like no GDSII", self.refused(self.write("cell.mag", MAGIC.encode())))
+        self.assertIn("cannot be unpacked", self.refused(self.write("cut.gds.gz", gzip.compress(whole)[:16])))
+        self.assertEqual(self.text(self.write("whole.gds.gz", gzip.compress(whole))), self.text("large.gds"))
         self.assertIn("KLayout cannot read it", self.refused(self.write("cut.oas", b"%SEMI-OASIS\r\n")))
         self.assertIn("No such file", self.refused("nowhere.gds"))
 
