@@ -1,8 +1,8 @@
 """The marks of a report: what the engineer looks at, each with its numbers, at the place where it is.
 
-A mark of a conflict, of a notch or of an edge set aside that is broken is the gap between its two fragments, one of a stitch is the line
-of the cut, one of an overlap is the zone that both masks hold, and one of an odd cycle is a closed line that follows its
-fragments and crosses its gaps. Lengths are grid units, of which a hundredth of a micron has two.
+A mark of a conflict, of a notch or of an edge set aside that is broken is the gap between its two fragments, one of a
+stitch is the line of the cut, one of an overlap is the zone that both masks hold, and one of an odd cycle is a closed line
+that follows its fragments and crosses its gaps. Lengths are grid units, of which a hundredth of a micron has two.
 """
 
 from __future__ import annotations
@@ -131,7 +131,7 @@ def summed(report: Report, notches: int, divide: Divide) -> str:
 
 
 def counted(number: int, word: str) -> str:
-    plural = {"stitch": "stitches", "notch": "notches", "edge set aside": "edges set aside"}.get(word, f"{word}s")
+    plural = {"stitch": "stitches", "notch": "notches", "broken edge set aside": "broken edges set aside"}.get(word, f"{word}s")
     return f"{number:,} {word if number == 1 else plural}"
 
 
