@@ -117,7 +117,7 @@ def refused():
 
 def stopped():
     """The button of the window ends the program."""
-    import running
+    from dpl_menu import running
 
     ended = []
     run = running.Run("Double Patterning", ["sleep", "600"], b"", lambda *answer: ended.append(answer))

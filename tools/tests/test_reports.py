@@ -8,9 +8,11 @@ import re
 import tempfile
 import unittest
 from typing import Any, Dict, Tuple
+from xml.etree import ElementTree
 
 from common import LAYOUT, REPORT, SAMPLES, TOP, bytes_of, tool
 
+import colours
 import scale
 from cif import Layout
 from net import Report
@@ -147,6 +149,34 @@ class Anchor(unittest.TestCase):
 
     def test_what_lies_on_nothing_is_named(self) -> None:
         self.assertIn("lies under the figure of FA at (4.95,4.95) (5.05,5.05) microns", self.anchored("B 10 10 500 500;", "")[1])
+
+
+class Pictures(unittest.TestCase):
+    """Two squares that meet at a corner, on one mask: the gap between them has no width."""
+
+    REPORT = (
+        "(dpl 2);\n(layer M);\n(space 100);\n(overlap 20);\n(stitch 1);\n(conflict 10);\n(pieces 2);\n(fragments 2);\n(bonds 0);\n"
+        "(stitches 0);\n(clashes 1);\n(excess 0);\n(cost 1);\n(bound 0);\n(masks AA);\n(corner 1);\n(clash 0 0 1);\nDS 1 1 4;\nL MA;\n"
+        "B 400 400 200 200;\nB 400 400 600 600;\nL MB;\nDF;\nC 1;\nE\n"
+    )
+
+    def test_a_conflict_is_seen(self) -> None:
+        with tempfile.TemporaryDirectory() as folder:
+            path = os.path.join(folder, "report")
+            with open(path, "w", encoding="ascii") as file:
+                file.write(self.REPORT)
+            done = tool("draw", path, "--divide", "1")
+        self.assertEqual(done.status, 0, done.told)
+        found = re.search(r'<g id="conflicts".*?<rect x="(\S+)" y="(\S+)" width="(\S+)" height="(\S+)"', done.out.decode(), re.S)
+        assert found
+        self.assertGreater(min(float(found[3]), float(found[4])), 1)
+
+    def test_colours_for_klayout(self) -> None:
+        with tempfile.TemporaryDirectory() as folder:
+            self.assertEqual(tool("masks", REPORT, "--from", LAYOUT, "--to", os.path.join(folder, "masks.gds")).status, 0)
+            root = ElementTree.parse(os.path.join(folder, "masks.lyp")).getroot()
+        shown = [[layer.findtext(word) for word in ("source", "name", "fill-color")] for layer in root]
+        self.assertEqual(shown, [["1/0@1", "mask A", colours.MASK_A], ["2/0@1", "mask B", colours.MASK_B]])
 
 
 class Scales(unittest.TestCase):

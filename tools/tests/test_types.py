@@ -10,7 +10,7 @@ from typing import List
 
 from common import TOOLS, TOP, ran
 
-MENU = sorted(name for name in glob.glob(os.path.join(TOP, "klayout", "*.py")) if not name.endswith("tried.py"))
+MENU = sorted(glob.glob(os.path.join(TOP, "klayout", "dpl_menu", "*.py")))
 
 
 def scripts() -> List[str]:

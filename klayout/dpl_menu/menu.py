@@ -7,23 +7,19 @@ marker browser, each with the cell in which it lies. The program runs beside KLa
 from __future__ import annotations
 
 import os
-import sys
 
 import pya  # type: ignore[import]
 
-TOOLS = os.path.join(os.path.dirname(os.path.dirname(os.path.realpath(__file__))), "tools")
-# KLayout's Python has a module of the name of one of the tools, so its own comes first
-sys.path.append(TOOLS)
-
-from asking import Dialog
-from layer import Layer, Refused
-from running import Run
-from showing import show
+from . import HOME
+from .asking import Dialog
+from .layer import Layer, Refused
+from .running import Run
+from .showing import show
 
 TITLE = "Double Patterning"
 
 
-def ask(folder: str) -> None:
+def ask() -> None:
     """Asks for lengths and weights, and splits the current layer."""
     view = pya.LayoutView.current()
     try:
@@ -46,7 +42,7 @@ def ask(folder: str) -> None:
         except Refused as refused:
             warn(str(refused))
 
-    Run(TITLE, [os.path.join(folder, "dpl"), *words], text, done)
+    Run(TITLE, [os.path.join(HOME, "dpl"), *words], text, done)
 
 
 def warn(text: str) -> None:

@@ -5,7 +5,8 @@ from __future__ import annotations
 from typing import Callable, Dict, TypeVar
 
 import pya  # type: ignore[import]
-from layer import Asked, Layer, Refused
+
+from .layer import Asked, Layer, Refused
 
 Number = TypeVar("Number", int, float)
 

@@ -10,10 +10,11 @@ import cells
 import colours
 import pya  # type: ignore[import]
 from cif import Unreadable
-from layer import Asked, Layer, Refused
 from marks import KINDS, Mark, database, marks, summed
 from net import Report
 from notches import notches_of
+
+from .layer import Asked, Layer, Refused
 
 COLOURS = {"A": colours.MASK_A, "B": colours.MASK_B}
 FIRST_TYPE = 101
