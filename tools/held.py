@@ -41,6 +41,8 @@ class Read:
         self.layout = pya.Layout(False)
         self.layers: dict[str, int] = {}
         bodies = Layout(text).bodies
+        # else KLayout looks at all cells anew for each that is filled
+        self.layout.start_changes()
         self.cells = {owner: self.layout.create_cell(f"D{owner}") for owner in bodies}
         for owner, items in bodies.items():
             figures: dict[str, pya.Region] = {}
@@ -51,6 +53,7 @@ class Read:
                     self.figure(figures.setdefault(name or "", pya.Region()), what)
             for name, shapes in figures.items():
                 self.cells[owner].shapes(self.layer(name)).insert(shapes)
+        self.layout.end_changes()
 
     def layer(self, name: str) -> int:
         if name not in self.layers:
@@ -113,7 +116,8 @@ def differences(layout: pya.Region, text: pya.Region) -> list[pya.Box]:
     differ = layout ^ text
     if not layout.non_rectilinear().is_empty():
         differ = differ.sized(-1)
-    return [polygon.bbox() for polygon in differ.each()]
+    # a line without area may be among them where one side has nothing
+    return [polygon.bbox() for polygon in differ.each() if polygon.area()]
 
 
 def said(name: str, differ: list[pya.Box], dbu: float) -> str:

@@ -18,29 +18,36 @@ def refuse_far(chosen: Chosen, times: int) -> None:
     """Refuses a layer that KLayout would wrap around, or that is too far out for `dpl`."""
     most = min(float(MOST / (microns_of(chosen.layout) * 200 * times)), MOST_OF_LAYOUT)
     dbu: float = chosen.layout.dbu
-    for name, indexes in chosen.layers.items():
-        box = bounds_of(chosen, indexes)
+    for name, box in bounds_of(chosen).items():
         x, y = (max(ends, key=abs) for ends in ((box.left, box.right), (box.bottom, box.top)))
-        if not box.empty() and max(abs(x), abs(y)) > most:
+        if max(abs(x), abs(y)) > most:
             where = f"({x * dbu:.9g}, {y * dbu:.9g})"
             raise Unreadable(f"layer {name} reaches to {where} micrometres, and at most {most * dbu:.9g} can be written")
 
 
-def bounds_of(chosen: Chosen, indexes: list[int]) -> pya.DBox:
-    """The least box around layers in units of the layout, by all instances."""
-    known: dict[int, pya.DBox] = {}
+def bounds_of(chosen: Chosen) -> dict[str, pya.DBox]:
+    """The least box around each layer in units of the layout, by all instances; a layer without shapes has none."""
+    known: dict[int, dict[str, pya.DBox]] = {}
     for number in chosen.layout.each_cell_bottom_up():
-        cell = chosen.layout.cell(number)
-        box = pya.DBox()
-        for index in indexes:
-            box += pya.DBox(shapes_of(chosen.layout, number, index, depth=0).bbox())
-        for instance in cell.each_inst():
+        boxes = known[number] = own_bounds(chosen, number)
+        for instance in chosen.layout.cell(number).each_inst():
             below = known[instance.cell_index]
-            if not below.empty():
-                for placed in ends_of(instance):
-                    box += placed * below
-        known[number] = box
+            for placed in ends_of(instance) if below else []:
+                for name, box in below.items():
+                    boxes[name] = boxes.get(name, pya.DBox()) + placed * box
     return known[chosen.cell.cell_index()]
+
+
+def own_bounds(chosen: Chosen, number: int) -> dict[str, pya.DBox]:
+    cell = chosen.layout.cell(number)
+    boxes: dict[str, pya.DBox] = {}
+    for name, indexes in chosen.layers.items():
+        for index in indexes:
+            if not cell.shapes(index).is_empty():
+                box = pya.DBox(shapes_of(chosen.layout, number, index, depth=0).bbox())
+                if not box.empty():
+                    boxes[name] = boxes.get(name, pya.DBox()) + box
+    return boxes
 
 
 def ends_of(instance: pya.Instance) -> list[pya.DCplxTrans]:

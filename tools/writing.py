@@ -114,12 +114,14 @@ class Tree:
         """A cell with its own shapes and its calls, or with all shapes that lie in no call."""
         made = Definition()
         is_level = number in self.level
-        called_below = [] if is_level else sorted(self.level - self.flat)
+        depth, called = (0, []) if is_level else (None, sorted(self.level - self.flat))
+        cell = self.chosen.layout.cell(number)
         for name, indexes in self.chosen.layers.items():
-            figures = made.figures[name] = Figures()
             for index in indexes:
-                for kinds, shapes in ((DRAWN, figures.drawn), (OTHERS, figures.others)):
-                    shapes += shapes_of(self.chosen.layout, number, index, kinds, 0 if is_level else None, called_below)
+                if not is_level or not cell.shapes(index).is_empty():
+                    figures = made.figures.setdefault(name, Figures())
+                    figures.drawn += shapes_of(self.chosen.layout, number, index, DRAWN, depth, called)
+                    figures.others += shapes_of(self.chosen.layout, number, index, OTHERS, depth, called)
         made.calls += self.calls(number, self.held if is_level else self.held - self.flat)
         return made
 

@@ -51,6 +51,8 @@ layout("ring.gds", ("TOP", [(1, pya.Path(ring, 500, 250, 250))], []))
 twice = points((0, 0), (0, 3000), (3000, 3000), (3000, 1000), (1000, 1000), (1000, 4000), (2000, 4000), (2000, 0))
 layout("twice.oas", ("TOP", [(1, pya.Polygon(twice, True))], []))
 layout("empty-path.oas", ("TOP", [(1, pya.Path(points((0, 0)), 100)), (1, pya.Box(0, 0, 100, 100))], []))
+line = pya.Path(points((0, 0), (1000, 0)), 0)
+layout("line.oas", ("TOP", [(1, pya.Box(0, 0, 100, 100)), (2, line)], []))
 slanted = pya.Polygon(points((0, 0), (0, 900), (900, 0)), True)
 layout("slanted.gds", ("TOP", [(1, slanted), (2, pya.Box(0, 0, 10, 10)), (3, pya.Text("a", pya.Trans(0, 0)))], []))
 layout("tops.gds", wire, ("A", [], [("SUB", pya.Trans(0, 0))]), ("B", [(1, pya.Box(0, 0, 10, 10))], []))
@@ -183,6 +185,10 @@ class Metal(Imports):
         done = self.run_tool("empty-path.oas")
         self.assertEqual(self.boxes(done.stdout), [[0, 0, 20, 20]])
         self.assertEqual(done.stderr, b"import: left out: 1 figure without area\n")
+
+    def test_layer_of_a_line_alone(self) -> None:
+        text = self.text("line.oas")
+        self.assertEqual((self.boxes(text), self.boxes(text, "L2D0")), ([[0, 0, 20, 20]], []))
 
     def test_warnings_of_klayout_are_not_in_the_text(self) -> None:
         path = gds.record(0x0900) + gds.record(0x0D02, gds.shorts(1)) + gds.record(0x0E02, gds.shorts(0))
