@@ -23,6 +23,8 @@ OLD = "dpl: a source is newer than the program that answers; ./dpl build proves 
 
 HEAD = 4_096
 EMPTY = b"\n(fragments 0);\n"
+# what check and cross say of an empty layer, among others
+OF_EMPTY = (b"yes cost 0 bound 0\n", b"excess 0 none\n")
 HELP, VERSION = frozenset(("-h", "--help")), "--version"
 
 
@@ -151,21 +153,22 @@ def reads_layout(words: Sequence[str]) -> bool:
 
 def lacks_layer(answer: Answer, words: Sequence[str]) -> bool:
     """Whether a layer that was named may have nothing."""
-    return not answer.status and (EMPTY in answer.head or command_line.value_of(words, "keep") is not None)
+    is_doubtful = EMPTY in answer.head or answer.head in OF_EMPTY or command_line.value_of(words, "keep") is not None
+    return not answer.status and is_doubtful
 
 
 def explain(answer: Answer, words: Sequence[str], times: int, layout: Optional[bytes]) -> None:
     """Says in words what the program's line means, or that a split has nothing on a layer that was named."""
     import faults
 
-    keep = command_line.value_of(words, "keep") if not answer.status else None
     said = faults.explain(answer.line, faults.Asked(words, layout, times))
     if said:
         kit.tell(f"     {said}\n")
-    if not answer.status and EMPTY in answer.head:
-        kit.tell(f"dpl: {faults.nothing_split(command_line.value_of(words, 'layer'), layout)}\n")
-    elif keep and (lacks := faults.nothing_kept(keep, layout)):
-        kit.tell(f"dpl: {lacks}\n")
+    if lacks_layer(answer, words):
+        layer, keep = command_line.value_of(words, "layer"), command_line.value_of(words, "keep")
+        is_empty = EMPTY in answer.head or answer.head in OF_EMPTY and faults.is_unset(layer, layout)
+        lacks = faults.nothing_split(layer, layout) if is_empty else faults.nothing_kept(keep, layout)
+        kit.tell(f"dpl: {lacks}\n" if lacks else "")
 
 
 # ---- by the proved program
