@@ -60,17 +60,17 @@ class Asked(NamedTuple):
     """What the program was asked: its words, the layout's bytes where they are known, and the scale at their head."""
 
     words: Sequence[str]
-    layout: Optional[bytes] = None
-    times: int = 1
+    layout: Optional[bytes]
+    times: int
 
 
-def explain(line: str, asked: Asked) -> str:
+def explain(line: str, words: Sequence[str], layout: Optional[bytes], times: int = 1) -> str:
     """What a line of the program means, in words; nothing for a line that is none of its own."""
     found = LINE.match(line)
     if not found:
         return ""
     numbers = [int(number) for number in NUMBER.findall(line)]
-    return SAYS[found[1]](numbers, asked)
+    return SAYS[found[1]](numbers, Asked(words, layout, times))
 
 
 def usage(_: List[int], asked: Asked) -> str:

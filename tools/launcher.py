@@ -161,7 +161,7 @@ def explain(answer: Answer, words: Sequence[str], times: int, layout: Optional[b
     """Says in words what the program's line means, or that a split has nothing on a layer that was named."""
     import faults
 
-    said = faults.explain(answer.line, faults.Asked(words, layout, times))
+    said = faults.explain(answer.line, words, layout, times)
     if said:
         kit.tell(f"     {said}\n")
     if lacks_layer(answer, words):
