@@ -160,7 +160,7 @@ def tried(case, program):
         report = report_of(case, program, folder)
         source = os.path.join(folder, "masks.cif")
         with open(source, "wb") as file:
-            subprocess.run([os.path.join(TOP, "tools", "masks"), report, "--names", NAMES], stdout=file, check=True)
+            subprocess.run([os.path.join(TOP, "tools", "masks"), report, "--divide", "1", "--names", NAMES], stdout=file, check=True)
         with open(report, "rb") as file:
             read = Report(file.read())
         wanted = [Counter(read.boxes(letter)) for letter in "AB"]

@@ -38,7 +38,11 @@ if (( CURRENT == 2 )); then
     _describe command commands
     return
 fi
-case $words[2] in
+local command=$words[2]
+# what follows is completed as if the command stood alone
+shift words
+(( CURRENT-- ))
+case $command in
 {cases}
 esac
 """

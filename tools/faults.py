@@ -60,17 +60,17 @@ class Asked(NamedTuple):
     """What the program was asked: its words, the layout's bytes where they are known, and the scale at their head."""
 
     words: Sequence[str]
-    layout: Optional[bytes] = None
-    times: int = 1
+    layout: Optional[bytes]
+    times: int
 
 
-def explain(line: str, asked: Asked) -> str:
+def explain(line: str, words: Sequence[str], layout: Optional[bytes], times: int = 1) -> str:
     """What a line of the program means, in words; nothing for a line that is none of its own."""
     found = LINE.match(line)
     if not found:
         return ""
     numbers = [int(number) for number in NUMBER.findall(line)]
-    return SAYS[found[1]](numbers, asked)
+    return SAYS[found[1]](numbers, Asked(words, layout, times))
 
 
 def usage(_: List[int], asked: Asked) -> str:
@@ -185,11 +185,17 @@ def nothing_split(layer: Optional[str], layout: Optional[bytes]) -> str:
     return f"{said}, and so is every other"
 
 
-def nothing_kept(layer: str, layout: Optional[bytes]) -> str:
-    """Told where no command of the layout sets the layer in which nothing is to be cut."""
-    if layout is None:
+def nothing_kept(layer: Optional[str], layout: Optional[bytes]) -> str:
+    """Told where nothing is on the layer in which nothing is to be cut."""
+    if not is_unset(layer, layout):
         return ""
-    for found in re.finditer(rb"L[^;()-]*?" + layer.encode() + rb"[^;()-]*;", layout):
-        if bytes(byte for byte in found[0][1:-1] if not is_blank(byte)) == layer.encode():
-            return ""
     return f"nothing is on the layer {layer} of --keep, so cuts may stand everywhere; tools/layers FILE lists the layers that there are"
+
+
+def is_unset(layer: Optional[str], layout: Optional[bytes]) -> bool:
+    """Whether no command of a layout sets a layer."""
+    if layer is None or layout is None:
+        return False
+    name = layer.encode()
+    found = re.finditer(rb"L[^;()-]*?" + name + rb"[^;()-]*;", layout)
+    return not any(bytes(byte for byte in command[0][1:-1] if not is_blank(byte)) == name for command in found)

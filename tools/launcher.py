@@ -8,7 +8,7 @@ from __future__ import annotations
 import os
 import signal
 import sys
-from typing import IO, Callable, Dict, List, NamedTuple, NoReturn, Optional, Sequence, Tuple
+from typing import IO, Callable, Dict, NamedTuple, NoReturn, Optional, Sequence, Tuple
 
 import given_layout
 import kit
@@ -23,6 +23,8 @@ OLD = "dpl: a source is newer than the program that answers; ./dpl build proves 
 
 HEAD = 4_096
 EMPTY = b"\n(fragments 0);\n"
+# what check and cross say of an empty layer, among others
+OF_EMPTY = (b"yes cost 0 bound 0\n", b"excess 0 none\n")
 HELP, VERSION = frozenset(("-h", "--help")), "--version"
 
 
@@ -137,7 +139,7 @@ def of_program(words: Sequence[str]) -> int:
     begins = given_layout.place()
     answer, layout = (watched(asked), None) if has_program else unproved(asked)
     kit.tell(answer.line)
-    if speaks():
+    if speaks() and (answer.line or lacks_layer(answer, asked)):
         explain(answer, asked, times, layout if layout is not None else given_layout.again(begins))
     return answer.status
 
@@ -145,24 +147,28 @@ def of_program(words: Sequence[str]) -> int:
 def reads_layout(words: Sequence[str]) -> bool:
     """Whether words that the program takes, but for lengths that have a unit, ask for a layout."""
     wrong = command_line.wrong_in(words)
-    return (wrong is None or wrong.kind == 3) and command_line.COMMANDS[words[0]].reads_layout
+    is_right = wrong is None or wrong.kind == 3 and command_line.has_units(words)
+    return is_right and command_line.COMMANDS[words[0]].reads_layout
+
+
+def lacks_layer(answer: Answer, words: Sequence[str]) -> bool:
+    """Whether a layer that was named may have nothing."""
+    is_doubtful = EMPTY in answer.head or answer.head in OF_EMPTY or command_line.value_of(words, "keep") is not None
+    return not answer.status and is_doubtful
 
 
 def explain(answer: Answer, words: Sequence[str], times: int, layout: Optional[bytes]) -> None:
     """Says in words what the program's line means, or that a split has nothing on a layer that was named."""
-    keep = command_line.value_of(words, "keep") if not answer.status else None
-    is_empty = not answer.status and EMPTY in answer.head
-    if not answer.line and not keep and not is_empty:
-        return
     import faults
 
-    said = faults.explain(answer.line, faults.Asked(words, layout, times))
+    said = faults.explain(answer.line, words, layout, times)
     if said:
         kit.tell(f"     {said}\n")
-    if is_empty:
-        kit.tell(f"dpl: {faults.nothing_split(command_line.value_of(words, 'layer'), layout)}\n")
-    elif keep and (lacks := faults.nothing_kept(keep, layout)):
-        kit.tell(f"dpl: {lacks}\n")
+    if lacks_layer(answer, words):
+        layer, keep = command_line.value_of(words, "layer"), command_line.value_of(words, "keep")
+        is_empty = EMPTY in answer.head or answer.head in OF_EMPTY and faults.is_unset(layer, layout)
+        lacks = faults.nothing_split(layer, layout) if is_empty else faults.nothing_kept(keep, layout)
+        kit.tell(f"dpl: {lacks}\n" if lacks else "")
 
 
 # ---- by the proved program

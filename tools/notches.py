@@ -27,25 +27,28 @@ class Notch(NamedTuple):
 
 def notches_of(report: Report) -> List[Notch]:
     """All notches, those of mask A first, each pair of polygons once."""
+    if not report.cuts:
+        return []
     shapes = shapes_of(report.fragments)
     return [notch for letter in "AB" for notch in notches_on(report, letter, shapes)]
 
 
 def notches_on(report: Report, letter: str, shapes: Classes) -> List[Notch]:
-    """The notches of one mask."""
-    boxes = report.boxes(letter)
+    """The notches of one mask. A shape that no broken stitch divides is one polygon, and has none."""
+    divided = {shapes.root(cut.first) for cut in report.cuts}
     fragments = [i for i, mask in enumerate(report.letters) if mask == letter] + [cut.first for cut in report.cuts]
+    owned = [(shapes.root(i), box) for i, box in zip(fragments, report.boxes(letter)) if shapes.root(i) in divided]
+    boxes = [box for _, box in owned]
     reach = 2 * report.values["space"]
     pairs = near(boxes, reach)
     polygons = polygons_of(boxes, pairs)
     nearest: Dict[Tuple[int, int], Tuple[int, int, int]] = {}
     for i, j in pairs:
         first, second = sorted((polygons.root(i), polygons.root(j)))
-        if first != second and shapes.root(fragments[i]) == shapes.root(fragments[j]):
-            across, up = gaps(boxes[i], boxes[j])
-            found = (across * across + up * up, i, j)
-            if found[0] < reach * reach:
-                nearest[first, second] = min(nearest.get((first, second), found), found)
+        across, up = gaps(boxes[i], boxes[j])
+        found = (across * across + up * up, i, j)
+        if first != second and owned[i][0] == owned[j][0] and found[0] < reach * reach:
+            nearest[first, second] = min(nearest.get((first, second), found), found)
     return [Notch(letter, boxes[i], boxes[j]) for _, i, j in nearest.values()]
 
 
