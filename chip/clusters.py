@@ -72,14 +72,14 @@ def counted(many):
     return numpy.arange(many.sum()) - numpy.repeat(numpy.cumsum(many) - many, many)
 
 
-def groups(boxes, numbers, size):
-    """The boxes in groups of whole clusters: one that is larger than half the size alone, others up to the size together.
+def groups(numbers, size):
+    """The places of boxes in groups of whole clusters: one that is larger than half the size alone, others up to the size together.
 
     So no group is larger than one and a half times the size but for a cluster that is; with 1 each cluster is a group.
     """
     order = numpy.argsort(numbers, kind="stable")
     starts = numpy.flatnonzero(numpy.diff(numbers[order], prepend=-1))
-    large = 2 * numpy.diff(starts, append=len(boxes)) > size
+    large = 2 * numpy.diff(starts, append=len(numbers)) > size
     begins = large | (numpy.diff(starts // size, prepend=-1) != 0)
     begins[1:] |= large[:-1]
-    return numpy.split(boxes[order], starts[begins][1:]) if len(boxes) else []
+    return numpy.split(order, starts[begins][1:]) if len(numbers) else []
