@@ -21,6 +21,10 @@ from records import STAGES, Part, changed_files, inputs_of, is_of, path_of, reco
 from refused import Refused, guard
 from reports import Report
 
+# What KLayout is run with.
+folder: str
+batch: str
+
 
 class Batch:
     def __init__(self, run: Run, number: int, scratch: str) -> None:

@@ -8,6 +8,8 @@ joins them over the windows.
 
 import os
 import sys
+from collections.abc import Iterable
+from typing import Any
 
 sys.path.insert(0, os.path.dirname(os.path.abspath(__file__)))
 
@@ -18,11 +20,16 @@ from bound import Run
 from boxes import NOT_BOXES, bounds_of, boxes_of, clipped, lines_of, meeting
 from clusters import clusters, groups
 from files import clear, sum_of, write_json
+from fragments import Array
 from keep import Keep
 from parts import Content, store
 from refused import Refused, guard
 from source import Source
 from windows import Windows
+
+# What KLayout is run with.
+folder: str
+band: str
 
 # A window takes this many times the size of a part, since a share of it crosses its sides, and a part at most so many.
 ROOM, MOST = 1.1, 1.5
@@ -36,11 +43,12 @@ class Cut:
     clusters but those that it lies on.
     """
 
-    def __init__(self, source, keep, folder):
+    def __init__(self, source: Source, keep: Keep, folder: str) -> None:
         self.source, self.keep, self.folder = source, keep, folder
-        self.parts, self.crossing = [], []
+        self.parts: list[dict[str, Any]] = []
+        self.crossing: list[dict[str, Any]] = []
 
-    def window(self, place, window):
+    def window(self, place: tuple[int, int], window: Any) -> None:
         half = self.source.half
         boxes = self.reaching(window)
         hulls = larger(boxes[:, :4], half)
@@ -51,7 +59,7 @@ class Cut:
         self.whole(f"x{place[0]:04}y{place[1]:04}", boxes[~leaves], numbers[~leaves])
         self.shared(place, window, [boxes[leaves][which] for which in groups(numbers[leaves], 1)])
 
-    def reaching(self, window):
+    def reaching(self, window: Any) -> Array:
         """The boxes whose hulls share some area with a window, from left to right, and those of the keep layer on them."""
         half = self.source.half
         reach = window.enlarged(half, half)
@@ -63,7 +71,7 @@ class Cut:
         which = numpy.repeat((0, 1), (len(boxes), len(kept)))
         return numpy.column_stack((numpy.concatenate((boxes, kept)), which))
 
-    def kept(self, reach):
+    def kept(self, reach: Any) -> Array:
         """The boxes of the keep layer within a box, on the layer."""
         found = self.keep.shapes(reach)
         if found.non_rectilinear().count():
@@ -71,7 +79,7 @@ class Cut:
         boxes = [[b.left, b.bottom, b.right, b.top] for b in (shape.bbox() for shape in found.merged().decompose_trapezoids_to_region().each())]
         return numpy.array(boxes, numpy.int64).reshape(-1, 4)
 
-    def whole(self, label, boxes, numbers):
+    def whole(self, label: str, boxes: Array, numbers: Array) -> None:
         """Writes clusters as a part, or as some where they have too many boxes for one."""
         size = self.source.settings.size
         if len(boxes) <= MOST * size:
@@ -80,12 +88,12 @@ class Cut:
         for number, which in enumerate(groups(numbers, size)):
             self.write(f"{label}-{number}", boxes[which], numbers[which])
 
-    def write(self, label, boxes, numbers):
+    def write(self, label: str, boxes: Array, numbers: Array) -> None:
         if len(boxes):
             count = len(numpy.unique(numbers))
             self.parts.append(store(self.source.settings, self.folder, label, content_of(self.source, boxes), count))
 
-    def shared(self, place, window, found):
+    def shared(self, place: tuple[int, int], window: Any, found: Iterable[Array]) -> None:
         """Notes of each cluster that leaves the window what it has there and where it crosses the sides."""
         for boxes in found:
             held = content_of(self.source, clipped_rows(boxes, window))
@@ -93,29 +101,31 @@ class Cut:
             self.crossing.append({"place": place, "sides": sides, **held._asdict()})
 
 
-def content_of(source, rows):
+def content_of(source: Source, rows: Array) -> Content:
     """What a part has, or a piece of one, of its boxes and those of the keep layer."""
     boxes, kept = rows[rows[:, 4] == 0, :4], rows[rows[:, 4] == 1, :4]
     return Content(len(boxes), bounds_of(source, boxes), lines_of(source, boxes), lines_of(source, kept))
 
 
-def clipped_rows(rows, window):
+def clipped_rows(rows: Array, window: Any) -> Array:
     """What boxes of either layer have in a window."""
     parts = [clipped(rows[rows[:, 4] == which, :4], window) for which in (0, 1)]
     return numpy.column_stack((numpy.concatenate(parts), numpy.repeat((0, 1), [len(part) for part in parts])))
 
 
-def larger(boxes, by):
-    return boxes + numpy.array([-by, -by, by, by])
+def larger(boxes: Array, by: int) -> Array:
+    found: Array = boxes + numpy.array([-by, -by, by, by])
+    return found
 
 
-def outside(boxes, window):
+def outside(boxes: Array, window: Any) -> Array:
     """Which boxes do not lie within a window."""
     left, bottom, right, top = boxes.T
-    return (left < window.left) | (bottom < window.bottom) | (right > window.right) | (top > window.top)
+    found: Array = (left < window.left) | (bottom < window.bottom) | (right > window.right) | (top > window.top)
+    return found
 
 
-def sides_of(hulls, place, window):
+def sides_of(hulls: Array, place: tuple[int, int], window: Any) -> list[list[Any]]:
     """Where hulls cross the sides of their window: the line, the side of it, and a stretch along it."""
     column, row = place
     left, bottom, right, top = hulls.T
@@ -134,7 +144,7 @@ def sides_of(hulls, place, window):
     ]
 
 
-def united(starts, ends):
+def united(starts: Array, ends: Array) -> Iterable[tuple[int, int]]:
     """Stretches as few as they can be, in order."""
     order = numpy.argsort(starts)
     starts, ends = starts[order], numpy.maximum.accumulate(ends[order])
@@ -142,27 +152,28 @@ def united(starts, ends):
     return zip(starts[numpy.append(True, apart)].tolist(), ends[numpy.append(apart, True)].tolist())
 
 
-def refuse_slanted(source, reach):
+def refuse_slanted(source: Source, reach: Any) -> None:
     slanted = source.shapes(reach, NOT_BOXES).non_rectilinear()
     if slanted.count():
         edges = [edge for shape in slanted.each() for edge in shape.each_edge() if edge.dx() and edge.dy()]
         refuse("a slanted side", [(edge.p1.x, edge.p1.y) for edge in edges], source)
 
 
-def refuse_off_grid(source, boxes):
+def refuse_off_grid(source: Source, boxes: Array) -> None:
     corners = boxes[:, [0, 1, 2, 1, 0, 3, 2, 3]].reshape(-1, 2)
     off = corners[(corners % source.ratio.denominator).any(axis=1)]
     if len(off):
         refuse(f"a corner off the grid of {float(source.settings.grid):g} nm", off.tolist(), source)
 
 
-def refuse(what, points, source):
+def refuse(what: str, points: Iterable[Iterable[int]], source: Source) -> None:
     unit = source.layout.dbu
-    places = ", ".join(f"({x * unit:.9g}, {y * unit:.9g})" for x, y in sorted(points, key=lambda p: (p[1], p[0]))[:SHOWN])
-    raise Refused(f"{what} at {places} micrometres, {len(points)} in this window")
+    found = sorted((y, x) for x, y in points)
+    places = ", ".join(f"({x * unit:.9g}, {y * unit:.9g})" for y, x in found[:SHOWN])
+    raise Refused(f"{what} at {places} micrometres, {len(found)} in this window")
 
 
-def cut_band(run, band):
+def cut_band(run: Run, band: int) -> None:
     settings = run.chosen
     source = Source(settings)
     keep = Keep(source, settings)

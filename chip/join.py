@@ -18,6 +18,10 @@ from refused import Refused, guard
 from reports import Report
 from table import row_of, table_of
 
+# What KLayout is run with.
+folder: str
+masks: str
+
 
 def join(run: Run, target: str) -> None:
     manifest = Manifest(run)

@@ -65,7 +65,7 @@ class Joined:
             faults += self.cell_faults(part, report)
             near = read_json(path_of(self.run, "near", part))
             if near:
-                faults.append(Found("the rest of the layer is nearer than the spacing", part["name"], tuple(map(tuple, near))))
+                faults.append(Found("the rest of the layer is nearer than the spacing", part["name"], tuple((x, y) for x, y in near)))
         except (Refused, RuntimeError, OSError, ValueError) as error:
             faults.append(Found(str(error), part["name"]))
         return faults

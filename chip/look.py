@@ -10,6 +10,9 @@ from keep import Keep
 from refused import guard
 from source import Source
 
+# What KLayout is run with.
+folder: str
+
 
 def look(run: Run) -> None:
     Keep(Source(run.chosen), run.chosen)

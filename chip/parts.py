@@ -10,7 +10,7 @@ from settings import Settings
 class Content(NamedTuple):
     """What a part has: how many boxes, the corners of all together in grid units, their lines, and those of the keep layer."""
 
-    count: int
+    many: int
     bounds: list[int]
     lines: str
     kept: str
@@ -26,7 +26,7 @@ def store(settings: Settings, folder: str, label: str, content: Content, cluster
         file.write(text)
     return {
         "name": f"{os.path.basename(folder)}/{label}",
-        "primitives": content.count,
+        "primitives": content.many,
         "clusters": clusters,
         "bounds": content.bounds,
         "sha256": hashlib.sha256(text).hexdigest(),

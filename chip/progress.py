@@ -30,6 +30,7 @@ class Progress:
         self.said = self.began = time.monotonic()
         self.first = Count("", 0, 0)
         self.left: list[Part] | None = None
+        self.parts = 0
 
     def show(self) -> None:
         now, count = time.monotonic(), self.count()
@@ -57,10 +58,11 @@ class Progress:
         there = [os.path.exists(self.run.path("cut", str(band), "index.json")) for band in range(self.run.chosen.bands)]
         if not all(there) or not os.path.exists(self.run.path("manifest.json")):
             return Count("bands cut", sum(there), len(there))
-        parts = Manifest(self.run).parts if self.left is None else self.left
-        self.all = len(parts) if self.left is None else self.all
-        self.left = [part for part in parts if not record_of(self.run, part).keys() >= STAGES.keys()]
+        if self.left is None:
+            self.left = Manifest(self.run).parts
+            self.parts = len(self.left)
+        self.left = [part for part in self.left if not record_of(self.run, part).keys() >= STAGES.keys()]
         if self.left:
-            return Count("parts done", self.all - len(self.left), self.all)
+            return Count("parts done", self.parts - len(self.left), self.parts)
         ends = [os.path.exists(self.run.path(name)) for name in ("joined.json", "verdict.txt")]
         return Count("steps of join and verify", sum(ends), len(ends))

@@ -10,11 +10,12 @@ import pya
 from bound import Run
 from files import read_text
 from found import Found, Place
+from fragments import Array
 from grid import Grid
 from joined import Joined
 from reports import Report, boxes_of
 from source import Source
-from told import Array, Net, Told
+from told import Net, Told
 from windows import Windows
 
 # Shapes of a tile, about.
@@ -28,8 +29,10 @@ class Tiles:
         self.run, self.masks = run, masks
         self.source = Source(run.chosen)
         run.see_layout()
+        self.own: int
+        self.finer: int
         self.own, self.finer = self.source.ratio.numerator, self.source.ratio.denominator
-        self.space = 2 * run.chosen.space * self.finer
+        self.space: int = 2 * run.chosen.space * self.finer
         self.unit = float(run.chosen.grid / 1000 / self.finer)
         self.windows = Windows(self.source, TILE)
         self.parts = masks.manifest.parts
@@ -79,7 +82,8 @@ class Tiles:
             into = refused if report.refusal else zones
             for corners in within(found, box).tolist():
                 into.insert(pya.Box(*corners))
-        return tuple(region.transformed(pya.ICplxTrans(self.finer)) for region in (refused, zones))
+        scale = pya.ICplxTrans(self.finer)
+        return refused.transformed(scale), zones.transformed(scale)
 
     def text_boxes(self, number: int) -> Array:
         """The boxes of the layer in the text of a part."""
@@ -105,11 +109,8 @@ class Tiles:
         """The parts that have something at a place, or else those that lie around it."""
         corners = [v / self.finer for v in (box.left, box.bottom, box.right, box.top)]
         around = [number for number in near if number in set(self.around.meeting(corners))]
-        having = [number for number in around if len(touching(self.boxes(number), corners))]
+        having = [number for number in around if len(touching(self.text_boxes(number), corners))]
         return " or ".join(self.parts[number]["name"] for number in having or around)
-
-    def boxes(self, number: int) -> Array:
-        return self.text_boxes(number)
 
 
 def array_of(boxes: list[Any]) -> Array:
@@ -123,4 +124,5 @@ def within(boxes: Array, box: Any) -> Array:
 def touching(boxes: Array, corners: list[Any]) -> Array:
     """The boxes that share a point with a box."""
     left, bottom, right, top = corners
-    return boxes[(boxes[:, 0] <= right) & (boxes[:, 2] >= left) & (boxes[:, 1] <= top) & (boxes[:, 3] >= bottom)]
+    found: Array = boxes[(boxes[:, 0] <= right) & (boxes[:, 2] >= left) & (boxes[:, 1] <= top) & (boxes[:, 3] >= bottom)]
+    return found

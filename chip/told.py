@@ -4,16 +4,13 @@ docs/cuts.md has the rules: a piece is a class of fragments under bonds, a confl
 shape may be as close as they like.
 """
 
-from typing import Any, NamedTuple
+from typing import NamedTuple
 
 import numpy
-from numpy.typing import NDArray
 
 from clusters import close, counted
-from fragments import classes, pairs, sides
+from fragments import Array, classes, pairs, sides
 from reports import Report
-
-Array = NDArray[Any]
 
 
 class Met(NamedTuple):
@@ -88,7 +85,8 @@ class Told:
 
 def code_of(first: Array, second: Array) -> Array:
     """A number for a pair of pieces, whichever comes first."""
-    return numpy.minimum(first, second) << 32 | numpy.maximum(first, second)
+    code: Array = numpy.minimum(first, second) << 32 | numpy.maximum(first, second)
+    return code
 
 
 def meeting(edges: Array, rects: Array) -> tuple[Array, Array]:
@@ -103,7 +101,8 @@ def meeting(edges: Array, rects: Array) -> tuple[Array, Array]:
 def same(first: Array, second: Array) -> tuple[Array, Array]:
     """The places of all pairs of equal numbers of two lists."""
     order = numpy.argsort(second, kind="stable")
-    start, end = (numpy.searchsorted(second[order], first, side) for side in ("left", "right"))
+    in_order = second[order]
+    start, end = numpy.searchsorted(in_order, first, "left"), numpy.searchsorted(in_order, first, "right")
     of_first = numpy.repeat(numpy.arange(len(first)), end - start)
     of_second = order[numpy.repeat(start, end - start) + counted(end - start)]
     return of_first, of_second
@@ -111,4 +110,5 @@ def same(first: Array, second: Array) -> tuple[Array, Array]:
 
 def gap2(r: Array, s: Array) -> Array:
     across, up = (numpy.maximum(0, numpy.maximum(r[:, k] - s[:, k + 2], s[:, k] - r[:, k + 2])) for k in (0, 1))
-    return across * across + up * up
+    squares: Array = across * across + up * up
+    return squares

@@ -23,6 +23,11 @@ from table import faults_of
 from tiles import Tiles
 from verdict import write_verdict
 
+# What KLayout is run with.
+folder: str
+masks: str
+threads: str
+
 # What a process that is forked off finds here, the first one has read.
 work: list[Joined | Tiles] = []
 

@@ -16,14 +16,14 @@ class Windows:
         self.left, self.bottom = bounds.left // self.grid, bounds.bottom // self.grid
         self.width, self.height = -(-bounds.right // self.grid) - self.left, -(-bounds.top // self.grid) - self.bottom
         wanted = max(1.0, source.count() / shapes)
-        self.columns = max(1, min(self.width, round((wanted * self.width / self.height) ** 0.5)))
-        self.rows = max(1, min(self.height, round(wanted / self.columns)))
+        self.columns: int = max(1, min(self.width, round((wanted * self.width / self.height) ** 0.5)))
+        self.rows: int = max(1, min(self.height, round(wanted / self.columns)))
 
     def column(self, i: int) -> int:
-        return (self.left + self.width * i // self.columns) * self.grid
+        return int(self.left + self.width * i // self.columns) * self.grid
 
     def row(self, j: int) -> int:
-        return (self.bottom + self.height * j // self.rows) * self.grid
+        return int(self.bottom + self.height * j // self.rows) * self.grid
 
     def box(self, i: int, j: int) -> Any:
         return pya.Box(self.column(i), self.row(j), self.column(i + 1), self.row(j + 1))
