@@ -28,7 +28,7 @@ def shift(layout, part):
 
 
 def main():
-    layout = pya.Layout(False)
+    layout = pya.Layout(True)
     layout.read(path)
     globals()[kind](layout, layout.cell(cell))
     layout.write(path)

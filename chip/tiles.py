@@ -13,6 +13,7 @@ from found import Found, Place
 from fragments import Array
 from grid import Grid
 from joined import Joined
+from refused import Refused
 from reports import Report, boxes_of
 from source import Source
 from told import Net, Told
@@ -37,8 +38,15 @@ class Tiles:
         self.windows = Windows(self.source, TILE)
         self.parts = masks.manifest.parts
         self.around = Grid([part["bounds"] for part in self.parts])
-        self.report = lru_cache(maxsize=16)(lambda number: Report(run.folder, self.parts[number]))
-        self.net = lru_cache(maxsize=16)(lambda number: Net(self.report(number)))
+        self.report = lru_cache(maxsize=16)(self.read)
+        self.net = lru_cache(maxsize=16)(lambda number: Net(Report(run.folder, self.parts[number])))
+
+    def read(self, number: int) -> Report | None:
+        """The report of a part; None where it cannot be read, which is told of the part itself."""
+        try:
+            return Report(self.run.folder, self.parts[number])
+        except (Refused, OSError, ValueError):
+            return None
 
     def count(self) -> int:
         return self.windows.columns * self.windows.rows
@@ -76,14 +84,16 @@ class Tiles:
     def listed(self, near: list[int], box: Any) -> tuple[Any, Any]:
         """What parts list that meets a box: the layer of those that were refused, and the zones of the others."""
         refused, zones = pya.Region(), pya.Region()
-        for number in near:
-            report = self.report(number)
+        for number, report in self.reports(near):
             found = self.text_boxes(number) if report.refusal else numpy.array(report.zones(), numpy.int64).reshape(-1, 4)
             into = refused if report.refusal else zones
             for corners in within(found, box).tolist():
                 into.insert(pya.Box(*corners))
         scale = pya.ICplxTrans(self.finer)
         return refused.transformed(scale), zones.transformed(scale)
+
+    def reports(self, numbers: list[int]) -> list[tuple[int, Report]]:
+        return [(number, report) for number in numbers if (report := self.report(number)) is not None]
 
     def text_boxes(self, number: int) -> Array:
         """The boxes of the layer in the text of a part."""
@@ -95,7 +105,7 @@ class Tiles:
         pairs = [pair for pair in mask.isolated_check(self.space).each() if pair.bbox().touches(window)]
         if not pairs:
             return []
-        nets = {number: self.net(number) for number in near if not self.report(number).refusal}
+        nets = {number: self.net(number) for number, report in self.reports(near) if not report.refusal}
         edges, others = (array_of([edge.bbox() for edge in found]) for found in zip(*((pair.first, pair.second) for pair in pairs)))
         told = Told(nets, self.space, self.finer).tells(letter, edges, others)
         what = f"two shapes on mask {letter} are too close, and no conflict is listed"

@@ -59,6 +59,8 @@ class Told:
 
     def tells(self, letter: str, edges: Array, others: Array) -> Array:
         """Which pairs of edges of a mask that face each other are of one shape, or told."""
+        if not self.nets:
+            return numpy.zeros(len(edges), bool)
         i, j = self.met(letter, edges), self.met(letter, others)
         of_first, of_second = same(i.edge, j.edge)
         first, second = (Met(*(column[k] for column in met)) for met, k in ((i, of_first), (j, of_second)))

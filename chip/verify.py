@@ -17,6 +17,7 @@ from files import read_text
 from found import Found, lines_of
 from history import cut_faults
 from joined import Joined
+from manifest import Manifest
 from records import path_of
 from refused import guard
 from table import faults_of
@@ -36,8 +37,7 @@ def faults_in(run: Run, target: str, processes: int) -> list[str]:
     """All faults in lines."""
     joined = Joined(run, target)
     faults = cut_faults(run, joined.manifest) + joined.faults()
-    answers = {part["name"]: read_text(path_of(run, "check", part)).strip() for part in joined.manifest.parts}
-    faults += [Found(fault) for fault in faults_of(read_text(run.path("table.txt")), answers)]
+    faults += [Found(fault) for fault in faults_of(read_text(run.path("table.txt")), answers(run, joined.manifest))]
     tasks = []
     if joined.layout is not None and joined.layout.has_cell(joined.manifest.cell):
         tiles = Tiles(run, joined)
@@ -47,6 +47,12 @@ def faults_in(run: Run, target: str, processes: int) -> list[str]:
     for found in done(tasks, processes):
         faults += found
     return lines_of(faults)
+
+
+def answers(run: Run, manifest: Manifest) -> dict[str, str]:
+    """What the check of each part says; nothing where there is none, which is told of the part itself."""
+    paths = {part["name"]: path_of(run, "check", part) for part in manifest.parts}
+    return {name: read_text(path).strip() if os.path.exists(path) else "" for name, path in paths.items()}
 
 
 def done(tasks: list[tuple[int, int]], processes: int) -> Iterable[list[Found]]:
