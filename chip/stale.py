@@ -18,7 +18,9 @@ ANEW = "and is made anew"
 
 def sweep(run: Run) -> list[str]:
     """Removes what is stale; a line tells of each file that was changed since it was written."""
-    return [line for look in (stale_cut, stale_manifest, stale_batches, stale_ends) for line in look(run)]
+    said = [line for look in (stale_cut, stale_manifest, stale_batches, stale_ends) for line in look(run)]
+    remove_above(run)
+    return said
 
 
 def stale_cut(run: Run) -> Iterator[str]:
@@ -80,9 +82,19 @@ def stale_ends(run: Run) -> Iterator[str]:
     files = {"masks": "joined" + os.path.splitext(run.chosen.masks)[1], "table": "table.txt"}
     if sums:
         yield from taken_out(path, [f"{file} was changed" for word, file in files.items() if not holds(run.path(file), sums.get(word))])
-    path = run.path("markers.sum")
-    if os.path.exists(path) and not holds(run.path("markers.lyrdb"), read_text(path).strip()):
+    path = run.path("markers.lyrdb")
+    if os.path.exists(path) and not holds(path, text_of(run.path("markers.sum"))):
         yield from taken_out(path, ["markers.lyrdb was changed"])
+
+
+def remove_above(run: Run) -> None:
+    """Removes what is made of files that are not there, since Snakemake makes those anew only where what is above is missing."""
+    if not all(os.path.exists(run.path("cut", str(band), "index.json")) for band in range(run.chosen.bands)):
+        remove(run.path("manifest.json"))
+    whole = os.path.exists(run.path("manifest.json"))
+    if not whole or not all(os.path.exists(run.path("batches", f"{number}.json")) for number in range(Manifest(run).batches())):
+        for name in ("joined.json", "markers.lyrdb"):
+            remove(run.path(name))
 
 
 def changed_texts(run: Run, parts: list[Part]) -> Iterator[str]:
@@ -104,6 +116,10 @@ def read(path: str) -> dict[str, Any]:
         return value if isinstance(value, dict) else {}
     except (OSError, ValueError):
         return {}
+
+
+def text_of(path: str) -> str:
+    return read_text(path).strip() if os.path.exists(path) else ""
 
 
 def present(folder: str) -> set[str]:
