@@ -11,14 +11,14 @@ from bound import Run
 from files import holds, read_json, read_text, remove, sum_of
 from history import cut_faults
 from manifest import Manifest
-from records import STAGES, Part, changed_files, faults_of, is_of, record_of, record_path, write_record
+from records import STAGES, Part, changed_files, is_of, record_of, record_path, write_record
 
 ANEW = "and is made anew"
 
 
 def sweep(run: Run) -> list[str]:
     """Removes what is stale; a line tells of each file that was changed since it was written."""
-    said = [line for look in (stale_cut, stale_manifest, stale_batches, stale_ends) for line in look(run)]
+    said = [line for look in (stale_batches, stale_manifest, stale_cut, stale_ends) for line in look(run)]
     remove_above(run)
     return said
 
@@ -44,23 +44,24 @@ def stale_manifest(run: Run) -> Iterator[str]:
     if not all(map(os.path.exists, indices)) or values.get("inputs") != {**run.bound._asdict(), "cut": list(map(sum_of, indices))}:
         remove(path)
         return
-    faults = [f"part {fault.part}: {fault.what}" for fault in cut_faults(run, Manifest(run))]
+    manifest = manifest_of(run)
+    faults = [f"part {fault.part}: {fault.what}" for fault in cut_faults(run, manifest)] if manifest else []
     faults += changed_texts(run, [part for part in values["parts"] if part["name"].startswith("border/")])
     yield from taken_out(path, faults)
 
 
 def stale_batches(run: Run) -> Iterator[str]:
-    if not os.path.exists(run.path("manifest.json")):
+    manifest = manifest_of(run)
+    if manifest is None:
         return
-    manifest = Manifest(run)
-    for name in present(run.path("batches")) - {f"{number}.json" for number in range(manifest.batches())}:
+    for name in present(run.path("batches")) - batch_names(manifest):
         remove(run.path("batches", name))
     for number in range(manifest.batches()):
         path = run.path("batches", f"{number}.json")
         known = read(path)
         for part in manifest.parts_of(number):
             yield from trimmed(run, part)
-            if faults_of(run, part) or not holds(record_path(run, part), known.get(part["name"])):
+            if not record_of(run, part).keys() >= STAGES.keys() or not holds(record_path(run, part), known.get(part["name"])):
                 remove(path)
 
 
@@ -91,10 +92,26 @@ def remove_above(run: Run) -> None:
     """Removes what is made of files that are not there, since Snakemake makes those anew only where what is above is missing."""
     if not all(os.path.exists(run.path("cut", str(band), "index.json")) for band in range(run.chosen.bands)):
         remove(run.path("manifest.json"))
-    whole = os.path.exists(run.path("manifest.json"))
-    if not whole or not all(os.path.exists(run.path("batches", f"{number}.json")) for number in range(Manifest(run).batches())):
+    manifest = manifest_of(run)
+    names = batch_names(manifest) if manifest else set()
+    for name in present(run.path("batches")) - names:
+        remove(run.path("batches", name))
+    if manifest is None or names - present(run.path("batches")):
         for name in ("joined.json", "markers.lyrdb"):
             remove(run.path(name))
+
+
+def manifest_of(run: Run) -> Manifest | None:
+    """The manifest; one that cannot be read is taken out."""
+    try:
+        return Manifest(run)
+    except (OSError, ValueError, KeyError):
+        remove(run.path("manifest.json"))
+        return None
+
+
+def batch_names(manifest: Manifest) -> set[str]:
+    return {f"{number}.json" for number in range(manifest.batches())}
 
 
 def changed_texts(run: Run, parts: list[Part]) -> Iterator[str]:

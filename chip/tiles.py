@@ -39,6 +39,7 @@ class Tiles:
         self.parts = masks.manifest.parts
         self.around = Grid([part["bounds"] for part in self.parts])
         self.report = lru_cache(maxsize=16)(self.read)
+        self.boxes = lru_cache(maxsize=16)(self.text_boxes)
         self.net = lru_cache(maxsize=16)(lambda number: Net(Report(run.folder, self.parts[number])))
 
     def read(self, number: int) -> Report | None:
@@ -85,7 +86,7 @@ class Tiles:
         """What parts list that meets a box: the layer of those that were refused, and the zones of the others."""
         refused, zones = pya.Region(), pya.Region()
         for number, report in self.reports(near):
-            found = self.text_boxes(number) if report.refusal else numpy.array(report.zones(), numpy.int64).reshape(-1, 4)
+            found = self.boxes(number) if report.refusal else numpy.array(report.zones(), numpy.int64).reshape(-1, 4)
             into = refused if report.refusal else zones
             for corners in within(found, box).tolist():
                 into.insert(pya.Box(*corners))
@@ -118,8 +119,8 @@ class Tiles:
     def part_at(self, box: Any, near: list[int]) -> str:
         """The parts that have something at a place, or else those that lie around it."""
         corners = [v / self.finer for v in (box.left, box.bottom, box.right, box.top)]
-        around = [number for number in near if number in set(self.around.meeting(corners))]
-        having = [number for number in around if len(touching(self.text_boxes(number), corners))]
+        around = sorted(set(near).intersection(self.around.meeting(corners)))
+        having = [number for number in around if len(touching(self.boxes(number), corners))]
         return " or ".join(self.parts[number]["name"] for number in having or around)
 
 
