@@ -57,14 +57,14 @@ def faults_of(error: Any) -> list[str]:
     """What is wrong by one error of the validator."""
     where = "".join(f" {place + 1}" if isinstance(place, int) else f" {place}" for place in error.absolute_path).strip()
     front = f"{where}: " if where else ""
+    if not where and not isinstance(error.instance, dict):
+        return ["the settings are no object of JSON"]
     if error.validator == "required":
         return [f"{front}{word} is missing" for word in error.validator_value if word not in error.instance]
     if error.validator == "additionalProperties":
         return [f"{front}{word} is no setting" for word in error.instance if word not in error.schema["properties"]]
     if error.validator == "oneOf":
         return ["layer and layers stand both" if "layer" in error.instance else "layer is missing"]
-    if not where:
-        return ["the settings are no object of JSON"]
     shown = json.dumps(error.instance)
     shown = shown if len(shown) <= 60 else shown[:57] + ".."
     return [f"{where} is {shown}, and has to be {error.schema.get('description', error.message)}"]

@@ -33,7 +33,7 @@ DEFAULTS: dict[str, Any] = {
 HERE = os.path.dirname(os.path.abspath(__file__))
 BUILT = os.path.join(HERE, "..", "crates", "dpl", "out", "dpl")
 # A run has so many jobs of parts, about, but no job more parts than these.
-JOBS, MOST_IN_JOB = 32, 12
+JOBS, MOST_IN_JOB = 16, 12
 
 
 def read(path: str) -> "Settings":
