@@ -57,7 +57,8 @@ class Cut:
         leaves[numbers[outside(hulls, window)]] = True
         leaves = leaves[numbers]
         self.whole(f"x{place[0]:04}y{place[1]:04}", boxes[~leaves], numbers[~leaves])
-        self.shared(place, window, [boxes[leaves][which] for which in groups(numbers[leaves], 1)])
+        leaving = boxes[leaves]
+        self.shared(place, window, (leaving[which] for which in groups(numbers[leaves], 1)))
 
     def reaching(self, window: Any) -> Array:
         """The boxes whose hulls share some area with a window, from left to right, and those of the keep layer on them."""
