@@ -9,9 +9,9 @@ from typing import Any
 import pya
 
 from bound import Run
+from cover import cover
 from masks import Reader
-from records import Part
-from reports import Report
+from reports import Report, boxes_of
 from source import Source
 
 
@@ -27,14 +27,14 @@ class Apart:
         self.space = 2 * run.chosen.space * self.of_grid
         self.unit = float(run.chosen.grid / 1000 / self.of_grid)
 
-    def near(self, part: Part, report: Report) -> list[list[float]]:
+    def near(self, report: Report) -> list[list[float]]:
         """Where the rest of the layer is nearer to a part than the spacing, or touches it, in micrometres.
 
         What the part has and the layer has not counts as rest, and touches the part. No edges within the part are taken
         out before the rest is looked at: one of them that is too near means that the part is.
         """
         own = self.own(report)
-        rest = own ^ self.around(part)
+        rest = own ^ self.around(report)
         own.merged_semantics = rest.merged_semantics = False
         found = [pair.first.bbox() for pair in rest.separation_check(own, self.space).each()]
         found += [shape.bbox() for shape in rest.interacting(own).each()]
@@ -49,8 +49,10 @@ class Apart:
         self.reader.into(report, cell, [layer, layer])
         return pya.Region(cell.begin_shapes_rec(layer), pya.ICplxTrans(self.of_grid))
 
-    def around(self, part: Part) -> Any:
-        """The layer as far as the spacing around a part."""
-        reach = math.ceil(self.space / self.of_layout) + 1
-        box = pya.Box(*(math.floor(v / self.source.ratio) for v in part["bounds"])).enlarged(reach, reach)
-        return self.source.shapes(box).transformed(pya.ICplxTrans(self.of_layout))
+    def around(self, report: Report) -> Any:
+        """The shapes of the layer that are within the spacing of a part, and others."""
+        found = pya.Region()
+        for corners in cover(boxes_of(report.body), self.space // self.of_grid + 1).tolist():
+            box = pya.Box(*(math.floor(v / self.source.ratio) for v in corners)).enlarged(1, 1)
+            found.insert(self.source.iterator(box))
+        return found.transformed(pya.ICplxTrans(self.of_layout))

@@ -66,7 +66,7 @@ class Batch:
         report = Report(self.run.folder, part)
         with written(path_of(self.run, "marks", part)) as out:
             out.writelines(line + "\n" for line in items_of(self.run, part, report, self.manifest.cell))
-        write_json(path_of(self.run, "near", part), [] if report.refusal else self.apart.near(part, report))
+        write_json(path_of(self.run, "near", part), [] if report.refusal else self.apart.near(report))
 
 
 def main() -> None:

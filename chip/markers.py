@@ -40,6 +40,9 @@ def items_of(run: Run, part: Part, report: Report, cell: str) -> Iterator[str]:
     """The items of the database that a part has, in its lines."""
     for mark in marks_of(run, part, report):
         yield marks.item(mark._replace(title=f"part {part['name']}: {mark.title}"), cell, run.chosen.scale)
+    # What is remembered of places is of no use to another part.
+    marks.step.cache_clear()
+    marks.microns.cache_clear()
 
 
 def join(run: Run) -> None:

@@ -76,7 +76,7 @@ def steps(run: Run, front: str, words: list[str], lock: int) -> None:
     progress = Progress(run, front)
     with open(run.path(LOG), "w") as log:
         work = subprocess.Popen(command, stdin=subprocess.DEVNULL, stdout=log, stderr=log, pass_fds=(lock,))
-        signal.signal(signal.SIGTERM, lambda *_: work.send_signal(signal.SIGINT))
+        signal.signal(signal.SIGTERM, lambda *_: work.terminate())
         while True:
             try:
                 work.wait(POLL)
