@@ -12,7 +12,7 @@ from math import hypot
 from typing import Callable, Dict, Iterable, Iterator, List, Mapping, NamedTuple, Optional, Sequence, Tuple, Union
 from xml.sax.saxutils import escape
 
-from net import Box, Clash, Cut, Cycle, Edge, Report, clash_weight, edges_of, fragments_of, gap_box, gaps, weight
+from net import Box, Clash, Cut, Cycle, Edges, Report, clash_weight, edges_of, fragments_of, gap_box, gaps, weight
 from notches import Notch, notches_of
 
 KINDS = {
@@ -42,11 +42,15 @@ class Mark(NamedTuple):
 
 
 def marks(
-    report: Report, kinds: Iterable[str] = KINDS, divide: Divide = 1, edges_of: Callable[[Report], List[Edge]] = edges_of
+    report: Report,
+    kinds: Iterable[str] = KINDS,
+    divide: Divide = 1,
+    edges_of: Callable[[Report], Edges] = edges_of,
+    notches_of: Callable[[Report], Iterable[Notch]] = notches_of,
 ) -> Iterator[Mark]:
     """All marks of these kinds, kind by kind; what they say of lengths is made smaller by `divide`."""
     kinds = list(kinds)
-    edges = edges_of(report) if {"aside", "cycle"} & set(kinds) else []
+    edges: Edges = edges_of(report) if {"aside", "cycle"} & set(kinds) else []
     of: Dict[str, Callable[[], Iterable[Mark]]] = {
         "conflict": lambda: (conflict(report, clash, divide) for clash in report.clashes),
         "notch": lambda: (notch(report, found, divide) for found in notches_of(report)),
@@ -84,7 +88,7 @@ def overlap(cut: Cut, divide: Divide) -> Mark:
     return Mark("overlap", said, [cut.zone], [])
 
 
-def aside_marks(report: Report, edges: Sequence[Edge], divide: Divide) -> Iterator[Mark]:
+def aside_marks(report: Report, edges: Edges, divide: Divide) -> Iterator[Mark]:
     """The edges set aside that are broken. The masks keep the others, so nobody need look at them."""
     broken = {clash.edge for clash in report.clashes} | {cut.edge for cut in report.cuts}
     for number in filter(broken.__contains__, report.aside):
@@ -96,7 +100,7 @@ def aside_marks(report: Report, edges: Sequence[Edge], divide: Divide) -> Iterat
         yield Mark("aside", said, [gap_box(r, s)], [], (r, s))
 
 
-def odd_cycle(report: Report, edges: Sequence[Edge], number: int) -> Mark:
+def odd_cycle(report: Report, edges: Edges, number: int) -> Mark:
     cycle = report.cycles[number]
     named = " ".join(map(str, cycle.walk[:MOST_NAMED])) + (" .." if len(cycle.walk) > MOST_NAMED else "")
     said = f"odd cycle {number}, half weight {cycle.half}: {len(cycle.walk)} edges from fragment {cycle.start}: {named}"
@@ -149,7 +153,7 @@ def on_spine(rect: Box, point: Point) -> Point:
     return (min(max(point[0], x1 + half), x2 - half), min(max(point[1], y1 + half), y2 - half))
 
 
-def track(report: Report, edges: Sequence[Edge], cycle: Cycle) -> List[Point]:
+def track(report: Report, edges: Edges, cycle: Cycle) -> List[Point]:
     """A closed line along the middle of each fragment that a cycle passes, and through the middle of each gap."""
     passed = fragments_of(edges, cycle)
     points: List[Point] = []

@@ -9,7 +9,7 @@ from __future__ import annotations
 import re
 from bisect import bisect_left, insort
 from heapq import heappop, heappush
-from typing import Dict, Iterator, List, Mapping, NamedTuple, Optional, Sequence, Sized, Tuple
+from typing import Dict, Iterator, List, Mapping, NamedTuple, Optional, Protocol, Sequence, Sized, Tuple
 
 from cif import Unreadable
 from forms import other_form
@@ -53,6 +53,16 @@ class Edge(NamedTuple):
     kind: str
     first: int
     second: int
+
+
+class Edges(Protocol):
+    """The edges of a net by their numbers: bonds, then stitches, then clashes."""
+
+    def __len__(self) -> int:
+        ...
+
+    def __getitem__(self, __number: int) -> Edge:
+        ...
 
 
 class Report:
@@ -293,7 +303,7 @@ def edges_of(report: Report) -> List[Edge]:
     return edges
 
 
-def compare(report: Report, counted: Mapping[str, Sized], edges: Sequence[Edge]) -> None:
+def compare(report: Report, counted: Mapping[str, Sized], edges: Sized) -> None:
     """Refuses a report that is not true of its own boxes, since its numbers would name other edges."""
     for word, pairs in counted.items():
         if report.values.get(word) != len(pairs):
@@ -303,7 +313,7 @@ def compare(report: Report, counted: Mapping[str, Sized], edges: Sequence[Edge])
         raise Unreadable("the report names an edge that its boxes do not make")
 
 
-def weight(report: Report, edges: Sequence[Edge], number: int) -> Optional[int]:
+def weight(report: Report, edges: Edges, number: int) -> Optional[int]:
     """What a broken edge costs; None for a bond, which is never broken."""
     kind, i, j = edges[number]
     if kind == "clash":
@@ -324,7 +334,7 @@ def gap_box(r: Box, s: Box) -> Box:
     return (xs[0], ys[0], xs[1], ys[1])
 
 
-def fragments_of(edges: Sequence[Edge], cycle: Cycle) -> List[int]:
+def fragments_of(edges: Edges, cycle: Cycle) -> List[int]:
     """The fragments that a cycle passes, one before each of its edges, and the one where it ends."""
     at = cycle.start
     passed = [at]

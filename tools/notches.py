@@ -7,7 +7,7 @@ does. docs/masks.md says how to mend them.
 from __future__ import annotations
 
 from math import hypot
-from typing import Dict, List, NamedTuple, Tuple
+from typing import Dict, List, NamedTuple, Optional, Sequence, Tuple
 
 from net import Box, Classes, Report, common, gaps, near, shapes_of
 
@@ -25,19 +25,22 @@ class Notch(NamedTuple):
         return hypot(*gaps(self.first, self.second))
 
 
-def notches_of(report: Report) -> List[Notch]:
-    """All notches, those of mask A first, each pair of polygons once."""
+def notches_of(report: Report, shapes: Optional[Sequence[int]] = None) -> List[Notch]:
+    """All notches, those of mask A first, each pair of polygons once. `shapes` is a number for each fragment, the same for
+    those of one shape, where that is known already."""
     if not report.cuts:
         return []
-    shapes = shapes_of(report.fragments)
+    if shapes is None:
+        classes = shapes_of(report.fragments)
+        shapes = [classes.root(i) for i in range(len(report.fragments))]
     return [notch for letter in "AB" for notch in notches_on(report, letter, shapes)]
 
 
-def notches_on(report: Report, letter: str, shapes: Classes) -> List[Notch]:
+def notches_on(report: Report, letter: str, shapes: Sequence[int]) -> List[Notch]:
     """The notches of one mask. A shape that no broken stitch divides is one polygon, and has none."""
-    divided = {shapes.root(cut.first) for cut in report.cuts}
+    divided = {shapes[cut.first] for cut in report.cuts}
     fragments = [i for i, mask in enumerate(report.letters) if mask == letter] + [cut.first for cut in report.cuts]
-    owned = [(shapes.root(i), box) for i, box in zip(fragments, report.boxes(letter)) if shapes.root(i) in divided]
+    owned = [(shapes[i], box) for i, box in zip(fragments, report.boxes(letter)) if shapes[i] in divided]
     boxes = [box for _, box in owned]
     reach = 2 * report.values["space"]
     pairs = near(boxes, reach)
