@@ -1,12 +1,18 @@
 """Clusters of boxes: boxes that are nearer to each other than the spacing along both axes, and what is joined by these."""
 
+from collections.abc import Iterator
+from typing import Any
+
 import numpy
+from numpy.typing import NDArray
+
+Array = NDArray[Any]
 
 # How many pairs are looked at in one go.
 MANY = 1 << 22
 
 
-def clusters(boxes, space):
+def clusters(boxes: Array, space: int) -> Array:
     """A number for each box, the same for all boxes of a cluster: the place of its first box."""
     roots = numpy.arange(len(boxes))
     for first, second in close(boxes, space):
@@ -14,14 +20,14 @@ def clusters(boxes, space):
     return roots
 
 
-def close(boxes, space):
+def close(boxes: Array, space: int) -> Iterator[tuple[Array, Array]]:
     """The pairs of boxes that are nearer than the spacing along both axes, some of them more than once."""
     if len(boxes):
         along, up = Rows(boxes, 0, space), Rows(boxes, 1, space)
         yield from (along if along.many() < up.many() else up).close()
 
 
-def join(roots, first, second):
+def join(roots: Array, first: Array, second: Array) -> None:
     """Joins the classes of pairs. The least member of a class is its root."""
     while first.size:
         first, second = roots[first], roots[second]
@@ -35,7 +41,7 @@ def join(roots, first, second):
 class Rows:
     """Boxes in rows along an axis, in each row by where they begin. Boxes that are higher than a row stand in several."""
 
-    def __init__(self, boxes, axis, space):
+    def __init__(self, boxes: Array, axis: int, space: int) -> None:
         self.low, self.high = boxes[:, 1 - axis], boxes[:, 3 - axis] + space
         height = max(1, int((self.high - self.low).mean()))
         first = self.low // height
@@ -49,10 +55,10 @@ class Rows:
         reach = begin + (end - start)[self.place]
         self.behind = numpy.searchsorted(begin, reach) - numpy.arange(len(begin)) - 1
 
-    def many(self):
+    def many(self) -> int:
         return int(self.behind.sum())
 
-    def close(self):
+    def close(self) -> Iterator[tuple[Array, Array]]:
         """The pairs of boxes that are nearer than the spacing along both axes, some of them more than once."""
         sums = numpy.cumsum(self.behind)
         at = 0
@@ -67,19 +73,20 @@ class Rows:
             at = end
 
 
-def counted(many):
+def counted(many: Array) -> Array:
     """0, 1, 2 and on, as many as each number says."""
-    return numpy.arange(many.sum()) - numpy.repeat(numpy.cumsum(many) - many, many)
+    found: Array = numpy.arange(many.sum()) - numpy.repeat(numpy.cumsum(many) - many, many)
+    return found
 
 
-def groups(boxes, numbers, size):
-    """The boxes in groups of whole clusters: one that is larger than half the size alone, others up to the size together.
+def groups(numbers: Array, size: int) -> list[Array]:
+    """The places of boxes in groups of whole clusters: one that is larger than half the size alone, others up to the size together.
 
     So no group is larger than one and a half times the size but for a cluster that is; with 1 each cluster is a group.
     """
     order = numpy.argsort(numbers, kind="stable")
     starts = numpy.flatnonzero(numpy.diff(numbers[order], prepend=-1))
-    large = 2 * numpy.diff(starts, append=len(boxes)) > size
+    large = 2 * numpy.diff(starts, append=len(numbers)) > size
     begins = large | (numpy.diff(starts // size, prepend=-1) != 0)
     begins[1:] |= large[:-1]
-    return numpy.split(boxes[order], starts[begins][1:]) if len(boxes) else []
+    return numpy.split(order, starts[begins][1:]) if len(numbers) else []

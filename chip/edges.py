@@ -1,21 +1,23 @@
 """The edges of a report by arrays, as tools/net.py finds them one by one."""
 
+from typing import Any
+
 import numpy
 
-from fragments import classes, links, pairs, sides
-from net import Edge, compare
+from fragments import Array, classes, links, pairs, sides
+from net import Edge, Report, compare
 
 
 class Edges:
     """The edges of a report by their numbers: bonds, then stitches, then clashes."""
 
-    def __init__(self, ends):
+    def __init__(self, ends: dict[str, tuple[Array, Array]]) -> None:
         self.ends = ends
 
-    def __len__(self):
+    def __len__(self) -> int:
         return sum(len(first) for first, _ in self.ends.values())
 
-    def __getitem__(self, number):
+    def __getitem__(self, number: int) -> Any:
         for kind, (first, second) in self.ends.items():
             if number < len(first):
                 return Edge(kind, int(first[number]), int(second[number]))
@@ -23,7 +25,7 @@ class Edges:
         raise IndexError(number)
 
 
-def edges_of(report):
+def edges_of(report: Report) -> Edges:
     """The edges of a report, as tools/net.py finds them one by one."""
     rects = numpy.array(report.fragments, dtype=numpy.int64).reshape(-1, 4)
     reach = 2 * report.values["space"]

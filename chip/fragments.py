@@ -1,25 +1,30 @@
 """What joins the fragments of a report, as arrays. docs/cuts.md has the rules; lengths are grid units."""
 
+from typing import Any
+
 import numpy
+from numpy.typing import NDArray
 
 from clusters import close, join
 
+Array = NDArray[Any]
 
-def pairs(rects, reach):
+
+def pairs(rects: Array, reach: int) -> tuple[Array, Array]:
     """The pairs of rectangles that are nearer than a reach along both axes, each once and ascending."""
-    found = [numpy.minimum(i, j) * len(rects) + numpy.maximum(i, j) for i, j in close(rects, reach)]
-    found = numpy.unique(numpy.concatenate(found)) if found else numpy.zeros(0, numpy.int64)
+    coded = [numpy.minimum(i, j) * len(rects) + numpy.maximum(i, j) for i, j in close(rects, reach)]
+    found = numpy.unique(numpy.concatenate(coded)) if coded else numpy.zeros(0, numpy.int64)
     return found // max(1, len(rects)), found % max(1, len(rects))
 
 
-def common(r, s):
+def common(r: Array, s: Array) -> tuple[Array, Array]:
     """The stretches that rectangles share across and up; a negative length is a gap."""
     across = numpy.minimum(r[:, 2], s[:, 2]) - numpy.maximum(r[:, 0], s[:, 0])
     up = numpy.minimum(r[:, 3], s[:, 3]) - numpy.maximum(r[:, 1], s[:, 1])
     return across, up
 
 
-def sides(r, s):
+def sides(r: Array, s: Array) -> tuple[Array, Array]:
     """Which rectangles are bonded, and which have the two sides of a stitch."""
     across, up = common(r, s)
     above = (across > 0) & (up == 0)
@@ -27,14 +32,14 @@ def sides(r, s):
     return above & ~as_wide, (above & as_wide) | ((across == 0) & (up > 0))
 
 
-def classes(count, first, second):
+def classes(count: int, first: Array, second: Array) -> Array:
     """A number for each of so many, the same for those that pairs join."""
     roots = numpy.arange(count)
     join(roots, first, second)
     return roots
 
 
-def links(rects, pieces, first, second, reach):
+def links(rects: Array, pieces: Array, first: Array, second: Array, reach: int) -> tuple[Array, Array]:
     """For each two pieces that are too close the pair of fragments that is closest, where some are alike by the rules."""
     across, up = common(rects[first], rects[second])
     gap2 = numpy.minimum(across, 0) ** 2 + numpy.minimum(up, 0) ** 2

@@ -3,97 +3,62 @@
 import os
 import sys
 import tempfile
+from typing import Any
 
 sys.path.insert(0, os.path.dirname(os.path.abspath(__file__)))
 
 import pya
 
-import settings as settings_module
-from files import read_json, write_json, written
-from masks import Reader
+from bound import Run
+from files import read_text, sum_of, write_json, written
+from manifest import Manifest
+from masks import Reader, cell_of, write_masks
+from records import Part, faults_of, path_of
+from refused import Refused, guard
 from reports import Report
-from settings import Refused, guard
+from table import row_of, table_of
 
-HEADS = ("part", "primitives", "fragments", "stitches", "conflicts", "cost", "bound", "aside", "check")
-COUNTS = HEADS[1:-1]
-
-
-def row_of(part, report, verdict):
-    """What the table says of a part; the bound is half the sum of the cycles, and aside is what is broken beside it."""
-    row = {"part": part["name"], "primitives": part["primitives"], "check": verdict}
-    if not report.refusal:
-        cost, bound = report.values["cost"], report.values["bound"] / 2
-        row |= {
-            "fragments": report.values["fragments"],
-            "stitches": len(report.cuts),
-            "conflicts": len(report.clashes),
-            "cost": cost,
-            "bound": bound,
-            "aside": cost - bound,
-        }
-    return row
+# What KLayout is run with.
+folder: str
+masks: str
 
 
-def verdict_of(folder, part, report):
-    with open(os.path.join(folder, "checks", part["name"] + ".txt")) as file:
-        said = file.read().strip()
-    if report.refusal:
-        return report.refusal
-    return "good" if said.startswith("yes ") else said
-
-
-def table_of(rows):
-    lines = ["\t".join(HEADS)]
-    lines += ["\t".join(shown(row.get(head, "-")) for head in HEADS) for row in rows]
-    done = [row for row in rows if "cost" in row]
-    lines.append("")
-    lines.append(f"parts      {len(rows)}")
-    lines.append(f"good       {sum(row['check'] == 'good' for row in rows)}")
-    lines.append(f"refused    {len(rows) - len(done)}")
-    for head in COUNTS:
-        lines.append(f"{head:<10} {shown(sum(row.get(head, 0) for row in rows))}")
-    return "\n".join(lines) + "\n"
-
-
-def shown(value):
-    return f"{value:.10g}" if isinstance(value, float) else str(value)
-
-
-def write_masks(layout, path):
-    """Writes the masks. KLayout does not always notice that a disk is full, so the end of the file is looked at."""
-    new = os.path.join(os.path.dirname(path), "new-" + os.path.basename(path))
-    layout.write(new)
-    with open(new, "rb") as file:
-        file.seek(-min(256, os.path.getsize(new)), os.SEEK_END)
-        end = file.read()
-    # The last record of OASIS has number 2 and 256 bytes; that of GDSII is ENDLIB, and zeros may follow.
-    whole = end.rstrip(b"\0").endswith(b"\0\4\4") if path.endswith(".gds") else len(end) == 256 and end[0] == 2
-    if not whole:
-        raise Refused(f"{path} is not written to its end: is the disk full?")
-    os.replace(new, path)
-
-
-def join(chosen, folder, target):
-    manifest = read_json(os.path.join(folder, "manifest.json"))
+def join(run: Run, target: str) -> None:
+    manifest = Manifest(run)
     layout = pya.Layout(False)
-    layout.dbu = float(chosen.grid / 1000)
-    top = layout.create_cell(manifest["cell"])
-    layers = [layout.layer(pya.LayerInfo(1 + k, 0, chosen.name + letter)) for k, letter in enumerate("AB")]
-    rows, joined = [], {}
+    layout.dbu = float(run.chosen.grid / 1000)
+    top = layout.create_cell(manifest.cell)
+    layers = [layout.layer(pya.LayerInfo(1 + k, 0, run.chosen.name + letter)) for k, letter in enumerate("AB")]
+    rows, reports = [], {}
     with tempfile.TemporaryDirectory() as scratch:
-        reader = Reader(scratch, chosen.name)
-        for part in manifest["parts"]:
-            report = Report(folder, part)
-            rows.append(row_of(part, report, verdict_of(folder, part, report)))
-            joined[part["name"]] = report.sha256
+        reader = Reader(scratch, run.chosen.name)
+        for part in manifest.parts:
+            see_recorded(run, part)
+            report = Report(run.folder, part)
+            rows.append(row_of(part, report, read_text(path_of(run, "check", part)).strip()))
+            reports[part["name"]] = report.sha256
             if not report.refusal:
-                cell = layout.create_cell("PART_" + part["name"].replace("/", "_"))
-                reader.into(report, cell, layers)
-                top.insert(pya.CellInstArray(cell.cell_index(), pya.Trans()))
-    write_masks(layout, os.path.join(folder, target))
-    with written(os.path.join(folder, "table.txt")) as file:
+                add(part, report, layout, top, layers, reader)
+    write_masks(layout, run.path(target))
+    with written(run.path("table.txt")) as file:
         file.write(table_of(rows))
-    write_json(os.path.join(folder, "joined.json"), joined)
+    sums = {"masks": sum_of(run.path(target)), "table": sum_of(run.path("table.txt")), "manifest": sum_of(run.path("manifest.json"))}
+    write_json(run.path("joined.json"), {**sums, "reports": reports})
 
 
-guard("join", lambda: join(settings_module.read(settings), folder, masks))
+def add(part: Part, report: Report, layout: Any, top: Any, layers: list[int], reader: Reader) -> None:
+    cell = layout.create_cell(cell_of(part["name"]))
+    try:
+        reader.into(report, cell, layers)
+    except RuntimeError as error:
+        raise Refused(f"part {part['name']}: {error}") from error
+    top.insert(pya.CellInstArray(cell.cell_index(), pya.Trans()))
+
+
+def see_recorded(run: Run, part: Part) -> None:
+    faults = faults_of(run, part)
+    if faults:
+        raise Refused(f"part {part['name']}: {', '.join(faults)}")
+
+
+guard("join", lambda: join(Run(folder), masks))

@@ -1,4 +1,5 @@
-"""Makes the chip of `test`, in GDSII with a unit of 1 nm: KLayout runs it with `target`, a path.
+"""Makes the chip of `test`, in GDSII with a unit of 1 nm: KLayout runs it with `target`, a path, and with `rows` where the
+array has fewer rows.
 
 A cell with what double patterning meets is set out as an array, some copies mirrored: an odd triangle, a wire that is cut
 at a stitch, a ring, a corner that touches another, a comb. A wire runs along each row of the array, and a polygon along
@@ -62,20 +63,24 @@ def faults(layout, top):
     top.shapes(names).insert(pya.Text("NAME", pya.Trans()))
 
 
-def array(layout, layer):
-    """The blocks, the upper half of them mirrored, a wire along each row, and a polygon along two sides of all."""
+def array(layout, layer, rows):
+    """The blocks, the upper half of them mirrored, a wire along each row, and a polygon along two sides of all.
+
+    A keep layer lies over all of it.
+    """
     cell = layout.create_cell("ARRAY")
     one = block(layout, layer)
     up, along = pya.Vector(0, PITCH), pya.Vector(PITCH, 0)
-    half = ROWS // 2
+    half = rows // 2
     cell.insert(pya.CellInstArray(one.cell_index(), pya.Trans(0, 0), along, up, COLUMNS, half))
     mirrored = pya.Trans(0, True, 0, half * PITCH + 3100)
-    cell.insert(pya.CellInstArray(one.cell_index(), mirrored, along, up, COLUMNS, ROWS - half))
-    width, height = COLUMNS * PITCH, ROWS * PITCH
+    cell.insert(pya.CellInstArray(one.cell_index(), mirrored, along, up, COLUMNS, rows - half))
+    width, height = COLUMNS * PITCH, rows * PITCH
     corner = [(-600, -600), (width, -600), (width, -500), (-500, -500), (-500, height), (-600, height)]
     cell.shapes(layer).insert(pya.Polygon([pya.Point(*p) for p in corner]))
-    for row in range(ROWS):
+    for row in range(rows):
         cell.shapes(layer).insert(pya.Box(0, row * PITCH + 3300, COLUMNS * PITCH, row * PITCH + 3400))
+    cell.shapes(layout.layer(pya.LayerInfo(25, 0))).insert(pya.Box(-1000, -1000, width + 1000, height + 1000))
     return cell
 
 
@@ -84,9 +89,12 @@ def main():
     layout.dbu = 0.001
     layer = layout.layer(pya.LayerInfo(10, 0))
     top = layout.create_cell("CHIP")
-    for cell, y in ((array(layout, layer), 0), (crowd(layout, layer), ROWS * PITCH + 1000)):
+    rows = int(globals().get("rows", ROWS))
+    for cell, y in ((array(layout, layer, rows), 0), (crowd(layout, layer), ROWS * PITCH + 1000)):
         top.insert(pya.CellInstArray(cell.cell_index(), pya.Trans(0, y)))
     faults(layout, top)
+    top.shapes(layout.layer(pya.LayerInfo(24, 0))).insert(pya.Box(0, 0, 1000, 100))
+    top.shapes(layout.layer(pya.LayerInfo(24, 0))).insert(pya.Box(0, 250, 1000, 350))
     layout.write(target)
 
 

@@ -1,22 +1,25 @@
-"""The manifest of a cut: its parts, and the batches in which steps take them that are too short to be jobs of their own."""
+"""The manifest of a cut: its parts, and the batches in which jobs take them."""
 
+from typing import Any
+
+from bound import Run
 from files import read_json
+
+Part = dict[str, Any]
 
 
 class Manifest:
-    def __init__(self, path, size):
-        self.values = read_json(path)
-        self.parts = self.values["parts"]
-        self.size = size
+    def __init__(self, run: Run) -> None:
+        self.values = read_json(run.path("manifest.json"))
+        self.parts: list[Part] = self.values["parts"]
+        self.cell: str = self.values["cell"]
+        self.size = run.chosen.in_job(len(self.parts))
 
-    def names(self):
+    def names(self) -> list[str]:
         return [part["name"] for part in self.parts]
 
-    def batches(self):
+    def batches(self) -> int:
         return -(-len(self.parts) // self.size)
 
-    def batch(self, number):
-        return self.names()[number * self.size : (number + 1) * self.size]
-
-    def parts_of(self, number):
+    def parts_of(self, number: int) -> list[Part]:
         return self.parts[number * self.size : (number + 1) * self.size]

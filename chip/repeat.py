@@ -12,13 +12,14 @@ sys.path.insert(0, os.path.dirname(os.path.abspath(__file__)))
 
 import pya
 
-import settings as settings_module
-from settings import guard
+from asked import runs_of
+from refused import guard
+from settings import Settings
 from source import Source
 
 
 def main():
-    source = Source(settings_module.read(settings))
+    source = Source(Settings(runs_of(settings)[0], "/"))
     layout = pya.Layout()
     layout.dbu = source.layout.dbu
     layer = layout.layer(pya.LayerInfo(10, 0))

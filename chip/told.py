@@ -4,93 +4,113 @@ docs/cuts.md has the rules: a piece is a class of fragments under bonds, a confl
 shape may be as close as they like.
 """
 
-from functools import lru_cache
 from typing import NamedTuple
 
 import numpy
 
-from fragments import classes, pairs, sides
-from grid import Grid
+from clusters import close, counted
+from fragments import Array, classes, pairs, sides
 from reports import Report
 
 
-class Told:
-    """Of some parts, whose lengths are counted `finer` to a grid unit."""
+class Met(NamedTuple):
+    """Which edges run along which boxes of a mask: for each such pair the edge, and of the box its corners, and the numbers
+    of its part, its fragment's shape and its fragment's piece."""
 
-    def __init__(self, folder, parts, chosen, finer):
-        self.folder, self.parts = folder, parts
-        self.space = 2 * chosen.space
-        self.finer = finer
-        self.net = lru_cache(maxsize=64)(self.read)
-        self.around = Grid([part["bounds"] for part in self.parts])
-
-    def read(self, number):
-        report = Report(self.folder, self.parts[number])
-        return None if report.refusal else Net(report)
-
-    def tells(self, letter, pair):
-        """Whether what is too close where two edges of a mask face each other is of one shape, or told."""
-        explained = False
-        for part, first in self.items(letter, pair.first):
-            for other, second in self.items(letter, pair.second):
-                net = self.net(part)
-                if part == other and net.of_one_shape(first, second):
-                    explained = True
-                elif gap2(first.rect, second.rect) < self.space**2:
-                    if part != other or not net.tells(first, second):
-                        return False
-                    explained = True
-        return explained
-
-    def items(self, letter, edge):
-        """What of a mask an edge runs along, each with the number of its part."""
-        b = edge.bbox()
-        box = [v / self.finer for v in (b.left, b.bottom, b.right, b.top)]
-        return [(n, item) for n in self.around.meeting(box) if self.net(n) for item in self.net(n).at(letter, box)]
-
-
-def key(letter, pair):
-    """What two edges of a mask that face each other are known by."""
-    return f"{letter} {min(pair.first.to_s(), pair.second.to_s())} {max(pair.first.to_s(), pair.second.to_s())}"
-
-
-class Item(NamedTuple):
-    """A box of a mask, and the fragment that it shows or, as a zone, goes on with."""
-
-    rect: list
-    fragment: int
+    edge: Array
+    rects: Array
+    part: Array
+    shape: Array
+    piece: Array
 
 
 class Net:
     """The boxes of a report, the pieces and shapes of its fragments, and the pairs of pieces that its conflicts tell."""
 
-    def __init__(self, report):
+    def __init__(self, report: Report) -> None:
         rects = report.fragments()
         goes_on = [(*cut[3:7], fragment) for cut in report.cuts for fragment in cut[1:3]]
         own = numpy.column_stack((rects, numpy.arange(len(rects))))
-        *corners, fragments = numpy.concatenate((own, numpy.array(goes_on, numpy.int64).reshape(-1, 5))).T
-        self.corners, self.fragments = numpy.ascontiguousarray(corners), fragments.copy()
+        both = numpy.concatenate((own, numpy.array(goes_on, numpy.int64).reshape(-1, 5)))
+        self.rects, self.fragments = both[:, :4], both[:, 4]
         self.letters = numpy.frombuffer(report.letters, numpy.uint8)[self.fragments]
         first, second = pairs(rects, 1)
         bonds, stitches = sides(rects[first], rects[second])
         self.pieces = classes(len(rects), first[bonds], second[bonds])
         self.shapes = classes(len(rects), first[bonds | stitches], second[bonds | stitches])
-        self.told = {frozenset(self.pieces[clash[1:3]]) for clash in report.clashes}
+        ends = self.pieces[numpy.array([clash[1:3] for clash in report.clashes], numpy.int64).reshape(-1, 2)]
+        self.told = numpy.unique(code_of(ends[:, 0], ends[:, 1]))
 
-    def at(self, letter, box):
-        """The boxes of a mask that meet a box."""
-        left, bottom, right, top = self.corners
-        near = (self.letters == ord(letter)) & (left <= box[2]) & (box[0] <= right) & (bottom <= box[3]) & (box[1] <= top)
-        return list(map(Item, self.corners[:, near].T.tolist(), self.fragments[near].tolist()))
-
-    def of_one_shape(self, first, second):
-        return self.shapes[first.fragment] == self.shapes[second.fragment]
-
-    def tells(self, first, second):
-        return frozenset((self.pieces[first.fragment], self.pieces[second.fragment])) in self.told
+    def met(self, letter: str, edges: Array, number: int, finer: int) -> Met:
+        """What of a mask edges run along; edges are boxes whose lengths are counted `finer` to a grid unit."""
+        low, high = edges[:, :2].min(axis=0), edges[:, 2:].max(axis=0)
+        near = (self.letters == ord(letter)) & (self.rects[:, :2] * finer <= high).all(axis=1) & (self.rects[:, 2:] * finer >= low).all(axis=1)
+        rects, fragments = self.rects[near] * finer, self.fragments[near]
+        edge, item = meeting(edges, rects)
+        fragments = fragments[item]
+        return Met(edge, rects[item], numpy.full(len(edge), number), self.shapes[fragments], self.pieces[fragments])
 
 
-def gap2(r, s):
-    across = max(0, r[0] - s[2], s[0] - r[2])
-    up = max(0, r[1] - s[3], s[1] - r[3])
-    return across * across + up * up
+class Told:
+    """What the reports of some parts tell, by their nets; lengths are counted `finer` to a grid unit."""
+
+    def __init__(self, nets: dict[int, Net], space: int, finer: int) -> None:
+        self.nets, self.space, self.finer = nets, space, finer
+
+    def tells(self, letter: str, edges: Array, others: Array) -> Array:
+        """Which pairs of edges of a mask that face each other are of one shape, or told."""
+        if not self.nets:
+            return numpy.zeros(len(edges), bool)
+        i, j = self.met(letter, edges), self.met(letter, others)
+        of_first, of_second = same(i.edge, j.edge)
+        first, second = (Met(*(column[k] for column in met)) for met, k in ((i, of_first), (j, of_second)))
+        of_one_shape = (first.part == second.part) & (first.shape == second.shape)
+        near = gap2(first.rects, second.rects) < self.space**2
+        told = near & self.listed(first, second)
+        explained = numpy.zeros(len(edges), bool)
+        explained[first.edge[of_one_shape | told]] = True
+        explained[first.edge[near & ~of_one_shape & ~told]] = False
+        return explained
+
+    def met(self, letter: str, edges: Array) -> Met:
+        found = [net.met(letter, edges, number, self.finer) for number, net in self.nets.items()]
+        return Met(*(numpy.concatenate(columns) for columns in zip(*found)))
+
+    def listed(self, first: Met, second: Met) -> Array:
+        """Which pairs are of two pieces of one part that a conflict joins."""
+        found = numpy.zeros(len(first.edge), bool)
+        for number, net in self.nets.items():
+            here = (first.part == number) & (second.part == number)
+            found[here] = numpy.isin(code_of(first.piece[here], second.piece[here]), net.told)
+        return found
+
+
+def code_of(first: Array, second: Array) -> Array:
+    """A number for a pair of pieces, whichever comes first."""
+    code: Array = numpy.minimum(first, second) << 32 | numpy.maximum(first, second)
+    return code
+
+
+def meeting(edges: Array, rects: Array) -> tuple[Array, Array]:
+    """The pairs of an edge and a rectangle that share a point."""
+    both = numpy.concatenate((edges, rects))
+    found = [numpy.sort((i, j), axis=0) for i, j in close(both, 1)]
+    first, second = numpy.unique(numpy.concatenate(found, axis=1), axis=1) if found else numpy.zeros((2, 0), numpy.int64)
+    across = (first < len(edges)) & (second >= len(edges))
+    return first[across], second[across] - len(edges)
+
+
+def same(first: Array, second: Array) -> tuple[Array, Array]:
+    """The places of all pairs of equal numbers of two lists."""
+    order = numpy.argsort(second, kind="stable")
+    in_order = second[order]
+    start, end = numpy.searchsorted(in_order, first, "left"), numpy.searchsorted(in_order, first, "right")
+    of_first = numpy.repeat(numpy.arange(len(first)), end - start)
+    of_second = order[numpy.repeat(start, end - start) + counted(end - start)]
+    return of_first, of_second
+
+
+def gap2(r: Array, s: Array) -> Array:
+    across, up = (numpy.maximum(0, numpy.maximum(r[:, k] - s[:, k + 2], s[:, k] - r[:, k + 2])) for k in (0, 1))
+    squares: Array = across * across + up * up
+    return squares

@@ -1,0 +1,139 @@
+"""The joined masks, tile by tile: whether they are the layer, overlap in zones alone, and keep the spacing but for conflicts."""
+
+import math
+from functools import lru_cache
+from typing import Any
+
+import numpy
+import pya
+
+from bound import Run
+from files import read_text
+from found import Found, Place
+from fragments import Array
+from grid import Grid
+from joined import Joined
+from refused import Refused
+from reports import Report, boxes_of
+from source import Source
+from told import Net, Told
+from windows import Windows
+
+# Shapes of a tile, about.
+TILE = 20000
+
+
+class Tiles:
+    """Lengths are counted in the greatest unit that both the layout and the grid are whole numbers of."""
+
+    def __init__(self, run: Run, masks: Joined) -> None:
+        self.run, self.masks = run, masks
+        self.source = Source(run.chosen)
+        run.see_layout()
+        self.own: int
+        self.finer: int
+        self.own, self.finer = self.source.ratio.numerator, self.source.ratio.denominator
+        self.space: int = 2 * run.chosen.space * self.finer
+        self.unit = float(run.chosen.grid / 1000 / self.finer)
+        self.windows = Windows(self.source, TILE)
+        self.parts = masks.manifest.parts
+        self.around = Grid([part["bounds"] for part in self.parts])
+        self.report = lru_cache(maxsize=16)(self.read)
+        self.boxes = lru_cache(maxsize=16)(self.text_boxes)
+        self.net = lru_cache(maxsize=16)(lambda number: Net(Report(run.folder, self.parts[number])))
+
+    def read(self, number: int) -> Report | None:
+        """The report of a part; None where it cannot be read, which is told of the part itself."""
+        try:
+            return Report(self.run.folder, self.parts[number])
+        except (Refused, OSError, ValueError):
+            return None
+
+    def count(self) -> int:
+        return self.windows.columns * self.windows.rows
+
+    def outside(self) -> list[Found]:
+        """Masks that reach beyond the layer, where no tile is."""
+        layer, masks = self.source.bounds * self.own, self.masks.bounds() * self.finer
+        return [] if masks.inside(layer) else [self.found("the masks reach beyond the layer", masks)]
+
+    def faults_of(self, number: int) -> list[Found]:
+        box = self.windows.box(number % self.windows.columns, number // self.windows.columns)
+        window = box * self.own
+        tile = pya.Region(window)
+        layer = self.source.shapes(box.enlarged(*[self.reach(self.own)] * 2)).transformed(pya.ICplxTrans(self.own))
+        grid = pya.Box(*(v * self.own // self.finer for v in (box.left, box.bottom, box.right, box.top))).enlarged(*[self.reach(self.finer)] * 2)
+        near = self.around.meeting([grid.left, grid.bottom, grid.right, grid.top])
+        a, b = (self.merged(self.masks.shapes(letter, grid, self.finer)) for letter in "AB")
+        refused, zones = self.listed(near, grid)
+        unlike = (layer ^ (a + b + refused)) & tile
+        overlaps = ((a & b) ^ zones) & tile
+        faults = [self.found("the masks together are not the layer", shape.bbox(), near) for shape in unlike.each()]
+        faults += [self.found("an overlap is not a listed zone, or a zone no overlap", shape.bbox(), near) for shape in overlaps.each()]
+        return faults + self.spacing("A", a, window, near) + self.spacing("B", b, window, near)
+
+    def reach(self, unit: int) -> int:
+        """How far around a tile its shapes are looked at, in units of which so many are the length of one."""
+        return math.ceil((self.space + 2) / unit) + 1
+
+    def merged(self, mask: Any) -> Any:
+        """A mask with its shapes whole; those that meet at a corner are two."""
+        found = mask.merged(True, 0)
+        found.merged_semantics = False
+        return found
+
+    def listed(self, near: list[int], box: Any) -> tuple[Any, Any]:
+        """What parts list that meets a box: the layer of those that were refused, and the zones of the others."""
+        refused, zones = pya.Region(), pya.Region()
+        for number, report in self.reports(near):
+            found = self.boxes(number) if report.refusal else numpy.array(report.zones(), numpy.int64).reshape(-1, 4)
+            into = refused if report.refusal else zones
+            for corners in within(found, box).tolist():
+                into.insert(pya.Box(*corners))
+        scale = pya.ICplxTrans(self.finer)
+        return refused.transformed(scale), zones.transformed(scale)
+
+    def reports(self, numbers: list[int]) -> list[tuple[int, Report]]:
+        return [(number, report) for number in numbers if (report := self.report(number)) is not None]
+
+    def text_boxes(self, number: int) -> Array:
+        """The boxes of the layer in the text of a part."""
+        text = read_text(self.run.path("cut", self.parts[number]["name"] + ".cif")).encode()
+        return boxes_of(text.split(b"\nL ")[1])
+
+    def spacing(self, letter: str, mask: Any, window: Any, near: list[int]) -> list[Found]:
+        """The shapes of a mask that are closer than the spacing, and neither of one shape nor told by a conflict."""
+        pairs = [pair for pair in mask.isolated_check(self.space).each() if pair.bbox().touches(window)]
+        if not pairs:
+            return []
+        nets = {number: self.net(number) for number, report in self.reports(near) if not report.refusal}
+        edges, others = (array_of([edge.bbox() for edge in found]) for found in zip(*((pair.first, pair.second) for pair in pairs)))
+        told = Told(nets, self.space, self.finer).tells(letter, edges, others)
+        what = f"two shapes on mask {letter} are too close, and no conflict is listed"
+        return [self.found(what, pair.bbox(), near) for pair, tells in zip(pairs, told) if not tells]
+
+    def found(self, what: str, box: Any, near: list[int] | None = None) -> Found:
+        place: Place = (box.left * self.unit, box.bottom * self.unit)
+        return Found(what, self.part_at(box, near or []), (place,))
+
+    def part_at(self, box: Any, near: list[int]) -> str:
+        """The parts that have something at a place, or else those that lie around it."""
+        corners = [v / self.finer for v in (box.left, box.bottom, box.right, box.top)]
+        around = sorted(set(near).intersection(self.around.meeting(corners)))
+        having = [number for number in around if len(touching(self.boxes(number), corners))]
+        return " or ".join(self.parts[number]["name"] for number in having or around)
+
+
+def array_of(boxes: list[Any]) -> Array:
+    return numpy.array([[box.left, box.bottom, box.right, box.top] for box in boxes], numpy.int64).reshape(-1, 4)
+
+
+def within(boxes: Array, box: Any) -> Array:
+    return touching(boxes, [box.left, box.bottom, box.right, box.top])
+
+
+def touching(boxes: Array, corners: list[Any]) -> Array:
+    """The boxes that share a point with a box."""
+    left, bottom, right, top = corners
+    found: Array = boxes[(boxes[:, 0] <= right) & (boxes[:, 2] >= left) & (boxes[:, 1] <= top) & (boxes[:, 3] >= bottom)]
+    return found
