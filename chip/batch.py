@@ -14,7 +14,7 @@ from apart import Apart
 from bound import Run
 from files import holds, sum_of, write_json, written
 from manifest import Manifest
-from markers import items_of
+from markers import Marked, items_of
 from masks import Reader
 from part import split
 from records import STAGES, Part, changed_files, inputs_of, is_of, path_of, record_of, record_path, write_record
@@ -64,8 +64,10 @@ class Batch:
 
     def seen(self, part: Part) -> None:
         report = Report(self.run.folder, part)
+        marked = Marked(part, report)
         with written(path_of(self.run, "marks", part)) as out:
-            out.writelines(line + "\n" for line in items_of(self.run, part, report, self.manifest.cell))
+            out.writelines(line + "\n" for line in items_of(self.run, part, marked, self.manifest.cell))
+        write_json(path_of(self.run, "notches", part), len(marked.notches))
         write_json(path_of(self.run, "near", part), [] if report.refusal else self.apart.near(report))
 
 

@@ -17,11 +17,12 @@ import numpy
 import pya
 
 from bound import Run
-from boxes import NOT_BOXES, bounds_of, boxes_of, clipped, lines_of, meeting
+from boxes import NOT_BOXES, bounds_of, boxes_of, lines_of, meeting
 from clusters import clusters, groups
 from files import clear, sum_of, write_json
 from fragments import Array
 from keep import Keep
+from leaving import notes_of
 from parts import Content, store
 from refused import Refused, guard
 from source import Source
@@ -57,8 +58,7 @@ class Cut:
         leaves[numbers[outside(hulls, window)]] = True
         leaves = leaves[numbers]
         self.whole(f"x{place[0]:04}y{place[1]:04}", boxes[~leaves], numbers[~leaves])
-        leaving = boxes[leaves]
-        self.shared(place, window, (leaving[which] for which in groups(numbers[leaves], 1)))
+        self.crossing += notes_of(self.source, boxes[leaves], numbers[leaves], place, window)
 
     def reaching(self, window: Any) -> Array:
         """The boxes whose hulls share some area with a window, from left to right, and those of the keep layer on them."""
@@ -94,24 +94,11 @@ class Cut:
             count = len(numpy.unique(numbers))
             self.parts.append(store(self.source.settings, self.folder, label, content_of(self.source, boxes), count))
 
-    def shared(self, place: tuple[int, int], window: Any, found: Iterable[Array]) -> None:
-        """Notes of each cluster that leaves the window what it has there and where it crosses the sides."""
-        for boxes in found:
-            held = content_of(self.source, clipped_rows(boxes, window))
-            sides = sides_of(larger(boxes[boxes[:, 4] == 0, :4], self.source.half), place, window)
-            self.crossing.append({"place": place, "sides": sides, **held._asdict()})
-
 
 def content_of(source: Source, rows: Array) -> Content:
     """What a part has, or a piece of one, of its boxes and those of the keep layer."""
     boxes, kept = rows[rows[:, 4] == 0, :4], rows[rows[:, 4] == 1, :4]
     return Content(len(boxes), bounds_of(source, boxes), lines_of(source, boxes), lines_of(source, kept))
-
-
-def clipped_rows(rows: Array, window: Any) -> Array:
-    """What boxes of either layer have in a window."""
-    parts = [clipped(rows[rows[:, 4] == which, :4], window) for which in (0, 1)]
-    return numpy.column_stack((numpy.concatenate(parts), numpy.repeat((0, 1), [len(part) for part in parts])))
 
 
 def larger(boxes: Array, by: int) -> Array:
@@ -124,33 +111,6 @@ def outside(boxes: Array, window: Any) -> Array:
     left, bottom, right, top = boxes.T
     found: Array = (left < window.left) | (bottom < window.bottom) | (right > window.right) | (top > window.top)
     return found
-
-
-def sides_of(hulls: Array, place: tuple[int, int], window: Any) -> list[list[Any]]:
-    """Where hulls cross the sides of their window: the line, the side of it, and a stretch along it."""
-    column, row = place
-    left, bottom, right, top = hulls.T
-    up, along = (bottom, top, window.bottom, window.top), (left, right, window.left, window.right)
-    sides = [
-        (f"v{column}", 1, left < window.left, up),
-        (f"v{column + 1}", 0, right > window.right, up),
-        (f"h{row}", 1, bottom < window.bottom, along),
-        (f"h{row + 1}", 0, top > window.top, along),
-    ]
-    return [
-        [line, side, *stretch]
-        for line, side, crossing, (starts, ends, first, last) in sides
-        if crossing.any()
-        for stretch in united(numpy.maximum(starts[crossing], first), numpy.minimum(ends[crossing], last))
-    ]
-
-
-def united(starts: Array, ends: Array) -> Iterable[tuple[int, int]]:
-    """Stretches as few as they can be, in order."""
-    order = numpy.argsort(starts)
-    starts, ends = starts[order], numpy.maximum.accumulate(ends[order])
-    apart = starts[1:] > ends[:-1]
-    return zip(starts[numpy.append(True, apart)].tolist(), ends[numpy.append(apart, True)].tolist())
 
 
 def refuse_slanted(source: Source, reach: Any) -> None:

@@ -25,9 +25,22 @@ class Edges:
         raise IndexError(number)
 
 
+def rects_of(report: Report) -> Array:
+    return numpy.array(report.fragments, dtype=numpy.int64).reshape(-1, 4)
+
+
+def shapes_of(report: Report) -> list[int]:
+    """A number for each fragment, the same for those of one shape."""
+    rects = rects_of(report)
+    first, second = pairs(rects, 1)
+    bonds, stitches = sides(rects[first], rects[second])
+    found: list[int] = classes(len(rects), first[bonds | stitches], second[bonds | stitches]).tolist()
+    return found
+
+
 def edges_of(report: Report) -> Edges:
     """The edges of a report, as tools/net.py finds them one by one."""
-    rects = numpy.array(report.fragments, dtype=numpy.int64).reshape(-1, 4)
+    rects = rects_of(report)
     reach = 2 * report.values["space"]
     first, second = pairs(rects, reach)
     bonds, stitches = sides(rects[first], rects[second])

@@ -10,7 +10,7 @@ sys.path.insert(0, os.path.dirname(os.path.abspath(__file__)))
 import pya
 
 from bound import Run
-from files import read_text, sum_of, write_json, written
+from files import read_json, read_text, sum_of, write_json, written
 from manifest import Manifest
 from masks import Reader, cell_of, write_masks
 from records import Part, faults_of, path_of
@@ -35,7 +35,8 @@ def join(run: Run, target: str) -> None:
         for part in manifest.parts:
             see_recorded(run, part)
             report = Report(run.folder, part)
-            rows.append(row_of(part, report, read_text(path_of(run, "check", part)).strip()))
+            said, notches = read_text(path_of(run, "check", part)).strip(), read_json(path_of(run, "notches", part))
+            rows.append(row_of(part, report, said, notches))
             reports[part["name"]] = report.sha256
             if not report.refusal:
                 add(part, report, layout, top, layers, reader)

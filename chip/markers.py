@@ -13,11 +13,12 @@ sys.path.append(os.path.join(os.path.dirname(os.path.abspath(__file__)), "..", "
 import marks
 from bound import Run
 from cif import Unreadable
-from edges import edges_of
+from edges import edges_of, shapes_of
 from files import read_text, sum_of, written
 from manifest import Manifest
 from marks import Mark
 from net import Report as MarkedReport
+from notches import Notch, notches_of
 from records import Part, path_of
 from refused import Refused, guard
 from reports import Report
@@ -26,19 +27,32 @@ REFUSED = "refused"
 KINDS = {**marks.KINDS, REFUSED: "a part that dpl refuses, with its line"}
 
 
-def marks_of(run: Run, part: Part, report: Report) -> list[Any]:
-    """The marks of a part, out of its report or its refusal."""
-    if report.refusal:
-        return [Mark(REFUSED, report.refusal, [part["bounds"]], [])]
-    try:
-        return list(marks.marks(MarkedReport(report.text), run.chosen.markers.split(","), run.chosen.scale, edges_of))
-    except (Unreadable, KeyError) as error:
-        raise Refused(f"its report cannot be marked: {error}") from error
+class Marked:
+    """What is marked of a part, out of its report or its refusal."""
+
+    def __init__(self, part: Part, report: Report) -> None:
+        self.part, self.refusal = part, report.refusal
+        self.notches: list[Notch] = []
+        if not report.refusal:
+            try:
+                self.report = MarkedReport(report.text)
+                self.notches = notches_of(self.report, shapes_of(self.report))
+            except (Unreadable, KeyError) as error:
+                raise Refused(f"its report cannot be marked: {error}") from error
+
+    def marks(self, run: Run) -> list[Any]:
+        if self.refusal:
+            return [Mark(REFUSED, self.refusal, [self.part["bounds"]], [])]
+        try:
+            kinds = run.chosen.markers.split(",")
+            return list(marks.marks(self.report, kinds, run.chosen.scale, edges_of, lambda _: self.notches))
+        except (Unreadable, KeyError) as error:
+            raise Refused(f"its report cannot be marked: {error}") from error
 
 
-def items_of(run: Run, part: Part, report: Report, cell: str) -> Iterator[str]:
+def items_of(run: Run, part: Part, marked: Marked, cell: str) -> Iterator[str]:
     """The items of the database that a part has, in its lines."""
-    for mark in marks_of(run, part, report):
+    for mark in marked.marks(run):
         yield marks.item(mark._replace(title=f"part {part['name']}: {mark.title}"), cell, run.chosen.scale)
     # What is remembered of places is of no use to another part.
     marks.step.cache_clear()

@@ -10,7 +10,7 @@ Part = dict[str, Any]
 # The files of a part, of each stage: what `dpl` says of it, and what is seen beside.
 STAGES = {
     "split": {"report": "reports/{}.cif", "refusal": "reports/{}.refusal", "check": "checks/{}.txt"},
-    "seen": {"marks": "marks/{}.items", "near": "near/{}.json"},
+    "seen": {"marks": "marks/{}.items", "notches": "notches/{}.json", "near": "near/{}.json"},
 }
 FILES = {name: pattern for files in STAGES.values() for name, pattern in files.items()}
 

@@ -27,7 +27,7 @@ DEFAULTS: dict[str, Any] = {
     "bands": 4,
     "batch": None,
     "masks": "masks.oas",
-    "markers": "conflict,stitch,overlap,aside,cycle",
+    "markers": "conflict,notch,stitch,overlap,aside,cycle",
     "dpl": None,
 }
 HERE = os.path.dirname(os.path.abspath(__file__))

@@ -5,13 +5,13 @@ from typing import Any
 
 from reports import Report
 
-HEADS = ("part", "primitives", "fragments", "stitches", "conflicts", "cost", "bound", "aside", "check")
+HEADS = ("part", "primitives", "fragments", "stitches", "conflicts", "notches", "cost", "bound", "aside", "check")
 COUNTS = HEADS[1:-1]
 YES = re.compile(r"yes cost (\d+) bound (\d+)")
 Row = dict[str, Any]
 
 
-def row_of(part: dict[str, Any], report: Report, said: str) -> Row:
+def row_of(part: dict[str, Any], report: Report, said: str, notches: int) -> Row:
     """What the table says of a part; the bound is half the sum of the cycles, and aside is what is broken beside it."""
     row: Row = {"part": part["name"], "primitives": part["primitives"]}
     if report.refusal:
@@ -21,6 +21,7 @@ def row_of(part: dict[str, Any], report: Report, said: str) -> Row:
         "fragments": report.values["fragments"],
         "stitches": len(report.cuts),
         "conflicts": len(report.clashes),
+        "notches": notches,
         "cost": cost,
         "bound": bound,
         "aside": cost - bound,
