@@ -384,13 +384,19 @@ fn a_pair_and_a_lone_bar(rt: HostRuntime) {
     assert!(rt; begins_with(balanced_text(rt.alloc(), layout), head));
 }
 
+/// Whether refining a layout writes the report that splitting it writes.
+fn is_not_refined(alloc: Global, text: &[u8]) -> bool {
+    match split_text(alloc, text) {
+        Some(split) => is_text(refined_text(alloc, text), split.as_slice()),
+        None => false,
+    }
+}
+
 /// Three boxes, each too close to the other two: nothing is set aside, and refined it is the same report.
 #[test]
-fn a_plane_layout_is_not_refined(rt: HostRuntime) -> Result<(), Fail> {
+fn a_plane_layout_is_not_refined(rt: HostRuntime) {
     let layout = b"L M; B 100 100 50 50; B 100 100 200 50; B 100 100 125 200; E";
-    let split = split_cut_text(rt.alloc(), layout)?;
-    assert!(rt; is_text(refined_text(rt.alloc(), layout), split.as_slice()));
-    Ok(())
+    assert!(rt; is_not_refined(rt.alloc(), layout));
 }
 
 /// Four boxes in a square, with both diagonals: two of six clashes are broken however they are coloured.
