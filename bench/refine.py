@@ -1,0 +1,253 @@
+#!/usr/bin/env python3
+"""Tries the command `refine` on random layouts whose links cross: bench/refine.py [BINARY] [--layouts N] [--from SEED].
+
+N random layouts (200), numbered from SEED (0), two thirds of them with weights of their own, some with a keep layer: boxes
+in a shaken grid whose diagonals are close too, wires on tracks of which the second next is close, and bent wires. Each is
+split and refined, the latter twice:
+
+- both runs of `refine` write the same bytes, and `check` says yes to them, with the cost and the bound of the report;
+- the cost is that of the masks, at most that of `split`, and no piece can be turned over alone to cost less;
+- the bound is at least that of `split`; where nothing is set aside, both commands write the same bytes;
+- where no component has more than 14 pieces, all pairs of masks are tried, component by component: the cost is no less
+  than the least, and half the bound no more.
+
+Printed are how many had something set aside, sums over these, sums over those whose least cost is known, and the slowest
+run of `refine`. Ends with 1 where something is wrong. bench/run.py has the time beside that of a split. No part of the gate.
+"""
+
+import argparse
+import os
+import random
+import sys
+import tempfile
+from collections import Counter
+
+sys.path.insert(0, os.path.dirname(os.path.abspath(__file__)))
+import run
+from edits import Program, layout_of, some_box
+from hostile import timed
+from net import Classes, Report, edges_of, weight
+
+MOST_PIECES = 14
+
+# most layouts are small enough to try all masks
+SIDES = [2, 2, 3, 3, 4, 5, 8, 13]
+
+
+# ---- random layouts; corners are in grid units of half a hundredth of a micron
+
+
+def shaken(chance):
+    """A spacing, and boxes in a grid, some of them joined, some left out: four in a square are all close to one another."""
+    across, up = chance.choice(SIDES), chance.choice(SIDES)
+    size, by = chance.choice([40, 80, 120]), chance.choice([0, 10, 30])
+    pitch = size + chance.choice([80, 100, 120, 140])
+    boxes = []
+    for k in range(across * up):
+        x = pitch * (k % across) + chance.randint(-by, by)
+        y = pitch * (k // across) + chance.randint(-by, by)
+        if chance.random() < 0.15:
+            continue
+        boxes.append((x, y, x + size + pitch * (chance.random() < 0.1), y + size + pitch * (chance.random() < 0.1)))
+    return 100, boxes
+
+
+def tracks(chance):
+    """A spacing, and level wires of random ends on tracks, with upright ones between some: the second next track is close."""
+    pitch, wide = 160, chance.choice([40, 60, 80])
+    reach = chance.choice([pitch + 20, 2 * pitch - wide, 2 * pitch - wide + 20, 2 * pitch + 20])
+    boxes = []
+    for track in range(chance.choice(SIDES)):
+        x, y = chance.randrange(0, 400, 20), pitch * track
+        for _ in range(chance.choice(SIDES) - 1):
+            end = x + chance.randrange(80, 900, 20)
+            boxes.append((x, y, end, y + wide))
+            if chance.random() < 0.3:
+                at = chance.randrange(x, end - wide + 1, 20)
+                boxes.append((at, y, at + wide, y + wide + pitch * chance.randrange(1, 3)))
+            x = end + chance.randrange(80, 500, 20)
+    return reach // 2, boxes
+
+
+def bends(chance):
+    """A spacing, and wires of two arms."""
+    count = chance.choice(SIDES) * chance.choice(SIDES)
+    side = int(count**0.5 * chance.choice([160, 200, 240, 300]))
+    boxes = []
+    for _ in range(count):
+        x, y = chance.randrange(0, side, 20), chance.randrange(0, side, 20)
+        to_right, to_top = chance.randrange(-200, 201, 20), chance.randrange(-200, 201, 20)
+        boxes.append((min(x, x + to_right), y, max(x, x + to_right) + 40, y + 40))
+        boxes.append((x, min(y, y + to_top), x + 40, max(y, y + to_top) + 40))
+    return chance.choice([100, 150, 200]), boxes
+
+
+class Case:
+    """A random layout with its options."""
+
+    def __init__(self, seed):
+        chance = random.Random(seed)
+        space, self.boxes = chance.choice([shaken, tracks, bends])(chance)
+        self.plain = ["--layer", "M", "--space", str(space), "--overlap", chance.choice(["5", "10", "20"])]
+        self.words, kept = list(self.plain), []
+        if chance.random() < 0.67:
+            self.words += ["--stitch", chance.choice("159"), "--conflict", chance.choice(["3", "7", "10", "100"]), "--corner", chance.choice("128")]
+        if chance.random() < 0.15:
+            kept = [some_box(chance, 1_000) for _ in range(10)]
+            self.words += ["--keep", "K"]
+        self.layout = layout_of(self.boxes, kept)
+
+
+# ---- components; a pair of pieces has what it costs on one mask and on two
+
+
+class Pieces:
+    """The pieces of a report's net, their masks, and what each two of them cost together."""
+
+    def __init__(self, report):
+        edges = edges_of(report)
+        pieces, self.parts = Classes(len(report.fragments)), Classes(len(report.fragments))
+        for edge in edges:
+            self.parts.join(edge.first, edge.second)
+            if edge.kind == "bond":
+                pieces.join(edge.first, edge.second)
+        self.masks = {pieces.root(node): mask for node, mask in enumerate(report.letters)}
+        self.agree = all(self.masks[pieces.root(node)] == mask for node, mask in enumerate(report.letters))
+        self.pairs = {}
+        for number, edge in enumerate(edges):
+            p, q = sorted((pieces.root(edge.first), pieces.root(edge.second)))
+            if p != q:
+                costs = self.pairs.setdefault((p, q), [0, 0])
+                costs[edge.kind == "stitch"] += weight(report, edges, number)
+
+    def cost(self):
+        """What the masks cost."""
+        return sum(costs[self.masks[p] != self.masks[q]] for (p, q), costs in self.pairs.items())
+
+    def most_won(self):
+        """The most that any piece wins where it alone is turned over."""
+        won = Counter()
+        for (p, q), costs in self.pairs.items():
+            differ = self.masks[p] != self.masks[q]
+            won[p] += costs[differ] - costs[not differ]
+            won[q] += costs[differ] - costs[not differ]
+        return max(won.values(), default=0)
+
+    def components(self):
+        """The pairs of each component."""
+        found = {}
+        for (p, q), costs in self.pairs.items():
+            found.setdefault(self.parts.root(p), {})[p, q] = costs
+        return list(found.values())
+
+
+def least(pairs):
+    """What the best masks of a component cost, by all of them: in each step one piece is turned over."""
+    places = {p: k for k, p in enumerate(sorted({p for pair in pairs for p in pair}))}
+    beside = [[] for _ in places]
+    for (p, q), (same, differ) in pairs.items():
+        beside[places[p]].append((places[q], differ - same))
+        beside[places[q]].append((places[p], differ - same))
+    turned = [False] * len(places)
+    best = cost = sum(same for same, _ in pairs.values())
+    for number in range(1, 1 << (len(places) - 1)):
+        k = (number & -number).bit_length() - 1
+        cost += sum(more if turned[k] == turned[other] else -more for other, more in beside[k])
+        turned[k] = not turned[k]
+        best = min(best, cost)
+    return best
+
+
+def optimum(pieces):
+    """What the best masks cost, or None where a component has too many pieces to try them all."""
+    components = pieces.components()
+    if any(len({p for pair in pairs for p in pair}) > MOST_PIECES for pairs in components):
+        return None
+    return sum(map(least, components))
+
+
+# ---- judging
+
+
+def judged(case, split, refined):
+    """What is wrong with a refined report, beside that of a split, and the least cost where it is known."""
+    cost, bound = refined.values["cost"], refined.values["bound"]
+    pieces = Pieces(refined)
+    best = optimum(pieces)
+    told = []
+    if not pieces.agree or pieces.cost() != cost:
+        told.append("cost %d, and the masks cost %d" % (cost, pieces.cost()))
+    if pieces.most_won() > 0:
+        told.append("a piece wins %d" % pieces.most_won())
+    if cost > split.values["cost"]:
+        told.append("cost %d, and a split has %d" % (cost, split.values["cost"]))
+    if bound < split.values["bound"]:
+        told.append("bound %d, and a split has %d" % (bound, split.values["bound"]))
+    if best is not None and not bound <= 2 * best <= 2 * cost:
+        told.append("cost %d, bound %d, and the least cost is %d" % (cost, bound, best))
+    return told, best
+
+
+def try_layout(program, case, seen, slowest):
+    """What is wrong with the answers to one layout."""
+    splits, _, _ = timed(program.binary, ["split", *case.words], case.layout)
+    runs = [timed(program.binary, ["refine", *case.words], case.layout) for _ in range(2)]
+    slowest.append(max(seconds for _, seconds, _ in runs))
+    refined = runs[0][0].stdout
+    seen["layouts"] += 1
+    if any((ran.returncode, ran.stderr) != (0, b"") for ran in (splits, *(ran for ran, _, _ in runs))):
+        return ["split ended %d, refine %d" % (splits.returncode, runs[0][0].returncode)]
+    told = [] if runs[1][0].stdout == refined else ["two runs write other bytes"]
+    split, report = Report(splits.stdout), Report(refined)
+    if not split.aside:
+        return told if refined == splits.stdout else [*told, "nothing is set aside, and refine writes other bytes"]
+    verdict = program.run(["check", *case.words], case.layout, refined)
+    if verdict != (0, b"yes cost %d bound %d\n" % (report.values["cost"], report.values["bound"]), ""):
+        told.append("check says %r" % (verdict,))
+    wrong, best = judged(case, split, report)
+    count(seen, "aside", split, report)
+    if best is not None:
+        count(seen, "known", split, report)
+        seen["least cost"] += best
+        seen["least reached"] += best == report.values["cost"]
+    return told + wrong
+
+
+def count(seen, kind, split, report):
+    seen[kind] += 1
+    for name, one in (("split", split), ("refined", report)):
+        seen[kind, name, "cost"] += one.values["cost"]
+        seen[kind, name, "bound"] += one.values["bound"]
+
+
+def tell(seen, slowest, wrong):
+    def sums(kind):
+        return ", ".join(
+            "%s: cost %d, half bound %.1f" % (name, seen[kind, name, "cost"], seen[kind, name, "bound"] / 2) for name in ("split", "refined")
+        )
+
+    print("%d layouts, %d of them with something set aside, %d wrong" % (seen["layouts"], seen["aside"], wrong))
+    print("of these %s" % sums("aside"))
+    print("least cost known of %d, reached in %d; %s; least cost %d" % (seen["known"], seen["least reached"], sums("known"), seen["least cost"]))
+    print("the slowest refine took %.2f seconds of processor time" % max(slowest, default=0))
+
+
+def main():
+    asked = argparse.ArgumentParser(description="Tries the command `refine` on random layouts whose links cross.")
+    asked.add_argument("binary", nargs="?", default=os.path.join(run.TOP, "crates", "dpl", "out", "dpl"))
+    asked.add_argument("--layouts", type=int, default=200)
+    asked.add_argument("--from", type=int, default=0, dest="first")
+    asked = asked.parse_args()
+    seen, slowest, wrong = Counter(), [], 0
+    with tempfile.TemporaryDirectory() as folder:
+        program = Program(asked.binary, folder)
+        for seed in range(asked.first, asked.first + asked.layouts):
+            for what in try_layout(program, Case(seed), seen, slowest):
+                wrong += 1
+                print("seed %d: %s" % (seed, what), flush=True)
+    tell(seen, slowest, wrong)
+    return 1 if wrong else 0
+
+
+if __name__ == "__main__":
+    sys.exit(main())
