@@ -55,7 +55,7 @@ class Tiles:
     def outside(self) -> list[Found]:
         """Masks that reach beyond the layer, where no tile is."""
         layer, masks = self.source.bounds * self.own, self.masks.bounds() * self.finer
-        return [] if masks.inside(layer) else [self.found("the masks reach beyond the layer", masks)]
+        return [] if masks.empty() or masks.inside(layer) else [self.found("the masks reach beyond the layer", masks)]
 
     def faults_of(self, number: int) -> list[Found]:
         box = self.windows.box(number % self.windows.columns, number // self.windows.columns)

@@ -36,7 +36,7 @@ def write_verdict(run: Run, joined: str, faults: list[str]) -> None:
     if os.path.exists(run.path(joined)):
         same_file(run.path(joined), run.path(name))
     with written(run.path(VERDICT)) as file:
-        file.write("\n".join([f"{len(faults)} faults" if faults else word, *lines, "", *rests_on(run, name, parts)]) + "\n")
+        file.write("\n".join([f"{len(faults)} fault{'s' * (len(faults) > 1)}" if faults else word, *lines, "", *rests_on(run, name, parts)]) + "\n")
 
 
 def same_file(path: str, name: str) -> None:
