@@ -11,18 +11,17 @@ from typing import Any, Dict
 from common import TOOLS
 
 
-def load() -> Any:
-    """The tool, which has no ending."""
-    path = os.path.join(TOOLS, "papers")
-    loader = importlib.machinery.SourceFileLoader("papers", path)
-    spec = importlib.util.spec_from_loader("papers", loader)
+def load(name: str) -> Any:
+    """A tool, which has no ending, as a module."""
+    loader = importlib.machinery.SourceFileLoader(name, os.path.join(TOOLS, name))
+    spec = importlib.util.spec_from_loader(name, loader)
     assert spec
     module = importlib.util.module_from_spec(spec)
     loader.exec_module(module)
     return module
 
 
-tool = load()
+tool = load("papers")
 
 
 def added(name: str, line: str) -> Dict[str, Any]:
