@@ -5,6 +5,7 @@ import subprocess
 
 from bound import Run
 from files import read_text, remove
+from program import plainly
 from records import Part, path_of
 from refused import Refused
 
@@ -38,7 +39,7 @@ def dpl(run: Run, part: Part, words: list[str], output: str, errors: str) -> int
     """Runs a command of `dpl` on a part."""
     with open(run.path("cut", part["name"] + ".cif"), "rb") as layout, open(output, "wb") as out:
         with open(errors, "wb") if errors != output else open(os.dup(out.fileno()), "wb") as err:
-            done = subprocess.run([run.chosen.dpl, words[0], *run.chosen.options(), *words[1:]], stdin=layout, stdout=out, stderr=err)
+            done = subprocess.run([run.chosen.dpl, words[0], *run.chosen.options(), *words[1:]], stdin=layout, stdout=out, stderr=err, env=plainly())
     return done.returncode
 
 
