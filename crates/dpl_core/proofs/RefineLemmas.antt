@@ -53,6 +53,7 @@ plane_of_net o f n t is e = record {
   tight = t;
   of = is;
   refined = plane_refined o f n t is (is.least.plane.0 e);
+  untouched = λ u l none. refl;
   bound = omega arith;
   plane = λ p. refl;
 }
@@ -76,6 +77,7 @@ refined_of_cells o f n r is masks cells kept l =
       is_tight = is.of.tight;
       least = is.of.least;
       refined = is.refined;
+      untouched = is.untouched;
       bound = is.bound;
       plane = is.plane;
       half = half_of o f n r is.truth;

@@ -1,9 +1,10 @@
 -- The report of a layer of a text, and what its bound proves.
-use Rattle.std.specs.Prelude.{◌≡◌, ◌↔◌, ◌+◌, ◌*◌, ◌≤◌, ℕ, Bool, true, List, [], length, None, is_some}
+use Rattle.std.specs.Prelude.{◌≡◌, ◌↔◌, ◌+◌, ◌*◌, ◌<◌, ◌≤◌, ℕ, Bool, true, false, List, [], length, None, is_some}
 use Rattle.dpl_sign.specs.declared.nets.Net.{Net}
-use Rattle.dpl_sign.specs.Colourings.{IsColouring, cost_of}
+use Rattle.dpl_sign.specs.Colourings.{IsColouring, colour_of, cost_of}
 use Rattle.dpl_sign.specs.Drawings.{face_count}
-use Rattle.dpl_sign.specs.Excess.{excess, all_edges}
+use Rattle.dpl_sign.specs.Excess.{excess, all_edges, is_aside}
+use Rattle.dpl_sign.specs.Walks.{edge_at}
 use Rattle.dpl_cuts.specs.declared.types.Fragments.{Fragments}
 use Rattle.dpl_options.specs.Options.{PlainOptions}
 use Rattle.dpl_report.specs.Plain.{PlainReport}
@@ -18,6 +19,7 @@ use Rattle.dpl_solve.specs.Solved.{kept_cost, aside_cost, KeepToKept, PassOnce}
 use Rattle.dpl_layer.specs.Drawings.{Cells, OnLayer}
 use Rattle.dpl_layer.specs.Layers.{IsLayer, IsCutLayer}
 use Rattle.dpl_balance.specs.Balance.{AreBalanced}
+use Rattle.dpl_refine.specs.Components.{is_around}
 use Rattle.dpl_refine.specs.Refined.{IsRefined}
 
 -- Every colouring of the net costs at least half the bound, none breaks kept edges of a smaller
@@ -74,10 +76,21 @@ IsSplit o text output = IsTextOf (IsReportOf o text) output
 abbrev pub IsBalancedSplit : PlainOptions → List ℕ → List ℕ → Type 0
 IsBalancedSplit o text output = IsTextOf (λ r. OnLayer o text (IsBalancedOfCells o r)) output
 
+-- no edge of the component of the node is set aside
+abbrev pub HasNothingAside : Net → ℕ → Type 0
+HasNothingAside net u = (e : ℕ) → e < length net.graph.edges
+    → is_around net.graph u (edge_at net.graph e).a ≡ true → is_aside net e ≡ false
+
+-- a fragment of whose component nothing is set aside has the colour that it had
+abbrev pub IsUntouched : Net → List Bool → List Bool → Type 0
+IsUntouched net before after = (u : ℕ) → u < net.graph.nodes → HasNothingAside net u
+    → colour_of after u ≡ colour_of before u
+
 -- The report of the layer of these cells with refined colours: the nine facts hold, and its masks are those of the layer.
 -- Beside it stands a tight report of the same layer, in which no pair of masks costs less than that says. The refined
--- colours cost less than its colours, or are the same, and no piece of them can be turned over alone to cost less; the
--- bound is at least its bound. Where the drawing is plane, it is that report.
+-- colours cost less than its colours, or are the same, and no piece of them can be turned over alone to cost less; where
+-- nothing of a component is set aside, they are its colours; the bound is at least its bound. Where the drawing is plane, it
+-- is that report.
 pub record IsRefinedOfCells (o : PlainOptions) (r : PlainReport) (cells kept : Cells) : Type 0 where
   pub fragments : Fragments
   pub net : Net
@@ -89,6 +102,7 @@ pub record IsRefinedOfCells (o : PlainOptions) (r : PlainReport) (cells kept : C
   pub is_tight : IsTight net tight
   pub least : CostsLeast net tight
   pub refined : IsRefined net.graph tight.head.colours r.head.colours
+  pub untouched : IsUntouched net tight.head.colours r.head.colours
   pub bound : tight.head.bound ≤ r.head.bound
   pub plane : excess net all_edges ≡ 0 → r ≡ tight
   -- every colouring costs at least half the bound, so where the cost is that, none costs less
@@ -112,7 +126,8 @@ pub record IsReportOfNet (o : PlainOptions) (f : Fragments) (net : Net) (r : Pla
   pub tight : IsTight net r
   pub least : CostsLeast net r
 
--- The report says the truth with colours that were refined from those of a tight report. Its bound is at least that
+-- The report says the truth with colours that were refined from those of a tight report, and are its colours where nothing
+-- of a component is set aside. Its bound is at least that
 -- report's, and it is that report where the drawing is plane.
 pub record IsRefinedOfNet (o : PlainOptions) (f : Fragments) (net : Net) (r : PlainReport) : Type 0 where
   pub truth : SaysTrue o f net r
@@ -121,6 +136,7 @@ pub record IsRefinedOfNet (o : PlainOptions) (f : Fragments) (net : Net) (r : Pl
   pub tight : PlainReport
   pub of : IsReportOfNet o f net tight
   pub refined : IsRefined net.graph tight.head.colours r.head.colours
+  pub untouched : IsUntouched net tight.head.colours r.head.colours
   pub bound : tight.head.bound ≤ r.head.bound
   pub plane : excess net all_edges ≡ 0 → r ≡ tight
 

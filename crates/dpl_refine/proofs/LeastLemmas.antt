@@ -1,13 +1,12 @@
 -- Colours that cost least of all are refined.
 use Rattle.std.proofs.Common.{arith, ◌≡◌, ◌∙◌, ◌<◌, ◌≤◌, ℕ, Bool, true, false, not, List, refl, sym, ap, get_or, inr}
 use Rattle.dpl_classes.proofs.ChainLemmas.{link_pair, link_on, link_back}
-use Rattle.dpl_sign.specs.declared.edges.Edge.{Edge}
 use Rattle.dpl_sign.specs.declared.graphs.Signed.{Signed}
-use Rattle.dpl_sign.specs.Kinds.{is_bond}
 use Rattle.dpl_sign.specs.Colourings.{IsColouring, colour_of, cost_of}
 use Rattle.dpl_refine.specs.Pieces.{bonds_of, AreOnePiece}
 use Rattle.dpl_refine.specs.Refined.{IsTurnedAt, IsRefined}
 use Rattle.dpl_refine.proofs.PieceLemmas.{bond_there}
+use Rattle.dpl_refine.proofs.AroundLemmas.{none_around}
 
 -- two colours that cannot differ are one
 not_differ : (a b : Bool) → ((a ≡ b → ⊥) → ⊥) → a ≡ b
@@ -44,5 +43,6 @@ pub least_refined : (g : Signed) (colours : List Bool) → IsColouring g colours
 least_refined g colours c least = record {
   colouring = c;
   cheaper = inr refl;
+  around = none_around g colours;
   settled = λ u others l t. least others (turned_colouring g u colours others c t);
 }

@@ -1,6 +1,7 @@
 pub mod TurnLemmas
 pub mod PieceLemmas
 pub mod SumLemmas
+pub mod AroundLemmas
 pub mod LeastLemmas
 pub mod LayLemmas
 pub mod OddLemmas

@@ -10,17 +10,17 @@ use Rattle.dpl_sign.specs.declared.graphs.Signed.{Signed}
 use Rattle.dpl_sign.specs.Kinds.{is_bond}
 use Rattle.dpl_sign.specs.Colourings.{IsColouring, colour_of, cost_of}
 use Rattle.dpl_refine.specs.Pieces.{bonds_of, ArePieces}
-use Rattle.dpl_refine.specs.Refined.{IsTurnedAt, IsSettled, IsCheaperOrSame, IsRefined}
+use Rattle.dpl_refine.specs.Refined.{IsTurnedAt, IsSettled, IsCheaperOrSame}
 use Rattle.dpl_refine.specs.Gains.{piece_of, won_of, lost_of, turn}
 use Rattle.dpl_refine.proofs.TurnLemmas.{TurnsEnds, turned_cost}
 
 abbrev pub ends_of : Edge → ℕ × ℕ
 ends_of e = (e.a, e.b)
 
-bonds_in : (e : Edge) (edges : List Edge) → is_bond e.kind ≡ true → bonds_of (e ∷ edges) ≡ ends_of e ∷ bonds_of edges
+pub bonds_in : (e : Edge) (edges : List Edge) → is_bond e.kind ≡ true → bonds_of (e ∷ edges) ≡ ends_of e ∷ bonds_of edges
 bonds_in e edges t = cond-true (is_bond e.kind) (ends_of e ∷ bonds_of edges) (bonds_of edges) t
 
-bonds_out : (e : Edge) (edges : List Edge) → is_bond e.kind ≡ false → bonds_of (e ∷ edges) ≡ bonds_of edges
+pub bonds_out : (e : Edge) (edges : List Edge) → is_bond e.kind ≡ false → bonds_of (e ∷ edges) ≡ bonds_of edges
 bonds_out e edges t = cond-false (is_bond e.kind) (ends_of e ∷ bonds_of edges) (bonds_of edges) t
 
 -- one edge more
@@ -148,9 +148,6 @@ pub cheaper_on : (g : Signed) (a b c : List Bool) → IsCheaperOrSame g a b → 
 cheaper_on g a b c (inl l) m = inl (omega (arith, l, m))
 cheaper_on g a b c (inr e) m = inl (let s = ap (cost_of g) e in omega (arith, s, m))
 
-both_cheaper : (g : Signed) (a b c : List Bool) → IsCheaperOrSame g a b → IsCheaperOrSame g b c → IsCheaperOrSame g a c
+pub both_cheaper : (g : Signed) (a b c : List Bool) → IsCheaperOrSame g a b → IsCheaperOrSame g b c → IsCheaperOrSame g a c
 both_cheaper g a b c h (inl m) = cheaper_on g a b c h m
 both_cheaper g a b c h (inr e) = subst (IsCheaperOrSame g a) (sym e) h
-
-pub refined_on : (g : Signed) (a b c : List Bool) → IsCheaperOrSame g a b → IsRefined g b c → IsRefined g a c
-refined_on g a b c h r = record { colouring = r.colouring; cheaper = both_cheaper g a b c h r.cheaper; settled = r.settled }

@@ -6,8 +6,8 @@ ghost use Rattle.dpl_refine.specs.Gains.{weighed_at, weight_of, won_of, lost_of}
 use dpl_sign::{Edge, broken};
 use std::alloc::{AllocError as NoMemory, Global};
 
-/// Adds a weight to that of a piece, where the test holds.
-fn add_where(sums: &mut [u64], p: usize, holds: bool, weight: u64)
+/// Adds a weight to the sum with a number, where the test holds.
+pub fn add_where(sums: &mut [u64], p: usize, holds: bool, weight: u64)
     requires inside { p < length sums.old }
     requires room { slice_index_or sums.old p 0 ≤ 2 ^ 60 }
     requires few { weight ≤ 1000000 }

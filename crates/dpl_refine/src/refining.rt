@@ -2,8 +2,9 @@
 ghost use Rattle.std.specs.Prelude.{◌<◌, All, IfOk};
 ghost use Rattle.dpl_sign.specs.Colourings.{IsColouring};
 ghost use Rattle.dpl_refine.specs.Pieces.{ArePieces};
-ghost use Rattle.dpl_refine.specs.Refined.{IsRefined, IsCheaperOrSame};
+ghost use Rattle.dpl_refine.specs.Refined.{IsRefined, IsCheaperOrSame, IsCheaperOrSameAround};
 
+use crate::choosing::cheaper_around;
 use crate::gaining::winner;
 use crate::joining::pieces;
 use crate::searching::search;
@@ -11,7 +12,7 @@ use crate::turning::{turned, turned_by};
 use dpl_sign::{Signed, cost};
 use std::alloc::{AllocError as NoMemory, Global};
 
-/// What a search finds, if it costs less, or else the colours as they are.
+/// What a search finds, in the components where it costs less, or else the colours as they are.
 fn begun(
     alloc: Global,
     graph: &Signed,
@@ -23,9 +24,11 @@ fn begun(
     requires pieces { ArePieces graph.now piece.now count }
     ensures colouring { IfOk result (λ v. IsColouring graph.now v.items) }
     ensures cheaper { IfOk result (λ v. IsCheaperOrSame graph.now colours.now v.items) }
+    ensures around { IfOk result (λ v. IsCheaperOrSameAround graph.now colours.now v.items) }
 {
     let flags = search(alloc, graph.edges.as_slice(), piece, count, colours)?;
-    let tried = turned_by(alloc, colours, piece, flags.as_slice())?;
+    let found = turned_by(alloc, colours, piece, flags.as_slice())?;
+    let tried = cheaper_around(alloc, graph, colours, found.as_slice())?;
     if cost(graph, tried.as_slice()) < cost(graph, colours) {
         return Ok(tried);
     }
