@@ -18,6 +18,8 @@ mod seeking;
 mod streets;
 #[cfg(test)]
 mod tests;
+mod tours;
+mod trees;
 mod turning;
 mod walking;
 mod ways;
