@@ -1,6 +1,5 @@
 // A tree over the bonds of each piece, and the ways in it. Nothing here stands in a contract: it only spells out walks that are
 // looked at again before they are taken.
-ghost use Rattle.std.specs.Prelude.{◌≡◌, ◌<◌, length, All};
 
 use crate::joining::pieces;
 use crate::links::push_end;
