@@ -19,6 +19,8 @@ mod seeking;
 mod streets;
 #[cfg(test)]
 mod tests;
+mod tours;
+mod trees;
 mod turning;
 mod walking;
 mod ways;

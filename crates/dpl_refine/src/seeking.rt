@@ -4,16 +4,16 @@
 
 use crate::parting::{Parts, add_at, number_at};
 use crate::streets::Streets;
+use crate::tours::Tours;
+use crate::trees::Trees;
 use crate::ways::{Reach, rows_of, walk_over};
-use dpl_list::{Grouped, Items};
-use dpl_sign::{Cycle, Kind, Signed, Walk};
+use dpl_list::Grouped;
+use dpl_sign::{Cycle, Kind, Signed};
 use std::alloc::{AllocError as NoMemory, Global};
 
-/// So many places are looked at at most for one walk, first, since short walks bound more with the same weight.
-const NEAR: usize = 500;
-
-/// And so many then.
-const FAR: usize = 4000;
+/// So many places are looked at at most for one walk, at first, then, and so on, since short walks bound more with the same
+/// weight.
+const LOOKS: [usize; 4] = [20, 100, 500, 4000];
 
 /// Each clash is taken so often at most.
 const MOST_ROUNDS: usize = 64;
@@ -71,58 +71,50 @@ struct Growth<'a> {
     streets: Streets<'a>,
     reach: Reach,
     bounds: Vec<u64>,
-    found: Vec<Cycle>,
+    tours: Tours,
 }
 
-/// Takes a walk with as much as it may have, and tells whether that was anything.
+/// Takes a closed walk from a piece with as much as it may have, and gives that.
 fn take(
+    alloc: Global,
     growth: &mut Growth<'_>,
-    parts: &Parts,
-    start: u32,
-    walk: Vec<u32>,
+    piece: u32,
+    walk: &[u32],
     most: u64,
-) -> Result<bool, NoMemory> {
-    let half = growth.streets.half_for(walk.as_slice(), most);
-    if half == 0 {
-        return Ok(false);
+) -> Result<u64, NoMemory> {
+    let half = growth.streets.half_for(walk, most);
+    if 0 < half {
+        growth.streets.load(walk, half);
+        growth.tours.add(alloc, &growth.streets, piece, walk, half)?;
     }
-    growth.streets.load(walk.as_slice(), half);
-    add_at(growth.bounds.as_mut_slice(), parts.part(start), half);
-    let edges = Items::new(walk);
-    growth.found.push(Cycle {
-        half,
-        walk: Walk { start, edges },
-    })?;
-    Ok(true)
+    Ok(half)
 }
 
-/// Takes a shortest odd walk over a clash, and tells whether there was one.
+/// Takes a shortest odd walk over a clash with at most so much, and gives with how much.
 fn grow(
     alloc: Global,
     rows: &Grouped<u32>,
-    parts: &Parts,
     growth: &mut Growth<'_>,
     e: u32,
-) -> Result<bool, NoMemory> {
-    let Some(edge) = growth.streets.edge(e) else {
-        return Ok(false);
+    most: u64,
+) -> Result<u64, NoMemory> {
+    let Some(street) = growth.streets.street(e) else {
+        return Ok(0);
     };
-    let part = parts.part(edge.a);
-    let bound = number_at(growth.bounds.as_slice(), part);
-    let left = number_at(parts.most.as_slice(), part).saturating_sub(bound);
-    let share = growth.streets.limit(e).div_ceil(SHARES);
-    if left == 0 || growth.streets.room(e) == 0 || growth.reach.is_spent() {
-        return Ok(false);
+    if most == 0 || growth.streets.room(e) == 0 || growth.reach.is_spent() {
+        return Ok(0);
     }
-    match walk_over(alloc, rows, &growth.streets, &mut growth.reach, edge, e)? {
-        None => Ok(false),
-        Some(walk) => take(growth, parts, edge.a, walk, share.min(left)),
+    let share = growth.streets.limit(e).div_ceil(SHARES);
+    match walk_over(alloc, rows, &growth.streets, &mut growth.reach, street, e)? {
+        None => Ok(0),
+        Some(walk) => take(alloc, growth, street.p, walk.as_slice(), share.min(most)),
     }
 }
 
 /// Takes a walk over each clash, and gives those for which there was one.
 fn one_round(
     alloc: Global,
+    graph: &Signed,
     rows: &Grouped<u32>,
     parts: &Parts,
     growth: &mut Growth<'_>,
@@ -130,7 +122,15 @@ fn one_round(
 ) -> Result<Vec<u32>, NoMemory> {
     let mut left = Vec::new(alloc);
     for e in clashes {
-        if grow(alloc, rows, parts, growth, *e)? {
+        let Some(edge) = graph.edges.as_slice().get(*e as usize) else {
+            continue;
+        };
+        let part = parts.part(edge.a);
+        let bound = number_at(growth.bounds.as_slice(), part);
+        let most = number_at(parts.most.as_slice(), part).saturating_sub(bound);
+        let half = grow(alloc, rows, growth, *e, most)?;
+        if 0 < half {
+            add_at(growth.bounds.as_mut_slice(), part, half);
             left.push(*e)?;
         }
     }
@@ -151,7 +151,7 @@ fn fill(
             break;
         }
         shuffle(clashes.as_mut_slice(), round as u64);
-        clashes = one_round(alloc, rows, parts, growth, clashes.as_slice())?;
+        clashes = one_round(alloc, graph, rows, parts, growth, clashes.as_slice())?;
     }
     Ok(())
 }
@@ -160,23 +160,25 @@ fn fill(
 fn grown(
     alloc: Global,
     graph: &Signed,
+    trees: &Trees,
     parts: &Parts,
     cycles: &[Cycle],
     bounds: Vec<u64>,
     steps: u64,
 ) -> Result<(Vec<Cycle>, Vec<u64>), NoMemory> {
     let mut growth = Growth {
-        streets: Streets::new(alloc, graph, cycles)?,
-        reach: Reach::new(alloc, graph.nodes, steps)?,
+        streets: Streets::new(alloc, graph, trees, cycles)?,
+        reach: Reach::new(alloc, trees.count, steps)?,
         bounds,
-        found: Vec::new(alloc),
+        tours: Tours::new(alloc, graph.edges.as_slice().len())?,
     };
-    let rows = rows_of(alloc, graph, parts)?;
-    growth.reach.look_at(NEAR);
-    fill(alloc, graph, &rows, parts, &mut growth)?;
-    growth.reach.look_at(FAR);
-    fill(alloc, graph, &rows, parts, &mut growth)?;
-    let Growth { bounds, found, .. } = growth;
+    let rows = rows_of(alloc, graph, trees, parts)?;
+    for looks in LOOKS {
+        growth.reach.look_at(looks);
+        fill(alloc, graph, &rows, parts, &mut growth)?;
+    }
+    let Growth { bounds, tours, .. } = growth;
+    let found = tours.cycles(alloc, graph, trees)?;
     Ok((found, bounds))
 }
 
@@ -187,11 +189,12 @@ pub fn seek(
     cycles: &[Cycle],
     parts: &mut Parts,
 ) -> Result<Found, NoMemory> {
+    let trees = Trees::new(alloc, graph)?;
     let given = Vec::from_slice(alloc, parts.given.as_slice())?;
-    let (more, given) = grown(alloc, graph, parts, cycles, given, MOST_STEPS_ONTO)?;
+    let (more, given) = grown(alloc, graph, &trees, parts, cycles, given, MOST_STEPS_ONTO)?;
     parts.given = given;
     let fresh = Vec::from_slice(alloc, parts.fresh.as_slice())?;
-    let (fresh_cycles, fresh) = grown(alloc, graph, parts, &[], fresh, MOST_STEPS_AFRESH)?;
+    let (fresh_cycles, fresh) = grown(alloc, graph, &trees, parts, &[], fresh, MOST_STEPS_AFRESH)?;
     parts.fresh = fresh;
     Ok(Found {
         more,

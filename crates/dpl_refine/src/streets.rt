@@ -1,7 +1,8 @@
-// The loads of edges and how long that makes them. Nothing here stands in a contract.
+// The edges between pieces, their loads and how long that makes them. Nothing here stands in a contract.
 
 use crate::parting::{add_at, number_at};
-use dpl_sign::{Cycle, Edge, Signed};
+use crate::trees::Trees;
+use dpl_sign::{Cycle, Edge, Kind, Signed};
 use std::alloc::{AllocError as NoMemory, Global};
 
 /// What an edge of weight 1 that carries nothing is long.
@@ -10,10 +11,26 @@ const UNIT: u64 = 1 << 24;
 /// The length of an edge that may carry no more.
 const FULL: u64 = 1 << 60;
 
-/// The edges with their loads and lengths.
+/// The pieces that an edge joins, and whether they had better differ in colour.
+#[derive(Clone, Copy, Debug)]
+pub struct Street {
+    pub p: u32,
+    pub q: u32,
+    pub is_clash: bool,
+}
+
+impl Street {
+    /// The other piece.
+    pub fn other(self, piece: u32) -> u32 {
+        if self.p == piece { self.q } else { self.p }
+    }
+}
+
+/// The edges with the pieces that they join, their loads and lengths.
 #[derive(Drop)]
 pub struct Streets<'a> {
     edges: &'a [Edge],
+    streets: Vec<Street>,
     loads: Vec<u64>,
     lengths: Vec<u64>,
 }
@@ -56,6 +73,26 @@ fn lengths_of(alloc: Global, edges: &[Edge], loads: &[u64]) -> Result<Vec<u64>, 
     Ok(lengths)
 }
 
+fn is_clash(edge: &Edge) -> bool {
+    match edge.kind {
+        Kind::Clash => true,
+        _ => false,
+    }
+}
+
+/// What pieces some edges join.
+fn streets_of(alloc: Global, edges: &[Edge], trees: &Trees) -> Result<Vec<Street>, NoMemory> {
+    let mut streets = Vec::new(alloc);
+    for edge in edges {
+        streets.push(Street {
+            p: trees.piece(edge.a),
+            q: trees.piece(edge.b),
+            is_clash: is_clash(edge),
+        })?;
+    }
+    Ok(streets)
+}
+
 fn add_walk(loads: &mut [u64], walk: &[u32], half: u64) {
     for e in walk {
         add_at(loads, *e as usize, half);
@@ -67,6 +104,7 @@ impl<'a> Streets<'a> {
     pub fn new(
         alloc: Global,
         graph: &'a Signed,
+        trees: &Trees,
         cycles: &[Cycle],
     ) -> Result<Streets<'a>, NoMemory> {
         let edges = graph.edges.as_slice();
@@ -79,16 +117,31 @@ impl<'a> Streets<'a> {
             );
         }
         let lengths = lengths_of(alloc, edges, loads.as_slice())?;
+        let streets = streets_of(alloc, edges, trees)?;
         Ok(Streets {
             edges,
+            streets,
             loads,
             lengths,
         })
     }
 
-    /// An edge.
-    pub fn edge(&self, e: u32) -> Option<&'a Edge> {
-        self.edges.get(e as usize)
+    /// The pieces that an edge joins.
+    pub fn street(&self, e: u32) -> Option<Street> {
+        let streets = self.streets.as_slice();
+        if (e as usize) < streets.len() {
+            Some(streets[e as usize])
+        } else {
+            None
+        }
+    }
+
+    /// The piece beyond an edge.
+    pub fn other_piece(&self, e: u32, piece: u32) -> u32 {
+        match self.street(e) {
+            None => piece,
+            Some(street) => street.other(piece),
+        }
     }
 
     /// How long an edge is.

@@ -8,10 +8,19 @@ use std::alloc::{AllocError as NoMemory, Global};
 use std::process::Abort;
 use std::test::Fail;
 
-/// Clashes of weight 10 between these nodes.
-fn clashes(alloc: Global, pairs: &[(u32, u32)]) -> Result<Vec<Edge>, NoMemory> {
+/// Bonds between these nodes, and clashes of weight 10.
+fn edges_of(
+    alloc: Global,
+    bonds: &[(u32, u32)],
+    clashes: &[(u32, u32)],
+) -> Result<Vec<Edge>, NoMemory> {
     let mut edges = Vec::new(alloc);
-    for (a, b) in pairs {
+    for (a, b) in bonds {
+        if *a < *b {
+            edges.push(Edge::bond(*a, *b))?;
+        }
+    }
+    for (a, b) in clashes {
         if *a < *b {
             edges.push(Edge::clash(*a, *b, 10))?;
         }
@@ -39,10 +48,11 @@ fn total(cycles: &[Cycle]) -> u64 {
 fn bounds(
     alloc: Global,
     nodes: u32,
-    pairs: &[(u32, u32)],
+    bonds: &[(u32, u32)],
+    clashes: &[(u32, u32)],
     colours: &[bool],
 ) -> Result<(u64, u64), NoMemory> {
-    let edges = clashes(alloc, pairs)?;
+    let edges = edges_of(alloc, bonds, clashes)?;
     let Some(graph) = Signed::new(nodes, edges) else {
         return Ok((0, 0));
     };
@@ -69,7 +79,7 @@ fn one_clash_too_many(rt: HostRuntime) -> Result<(), Fail> {
         (0, 1),
     ];
     let colours = [false, false, false, true, true, true];
-    assert_eq!(rt; bounds(rt.alloc(), 6, &pairs, &colours)?, (20, 20));
+    assert_eq!(rt; bounds(rt.alloc(), 6, &[], &pairs, &colours)?, (20, 20));
     Ok(())
 }
 
@@ -78,6 +88,32 @@ fn one_clash_too_many(rt: HostRuntime) -> Result<(), Fail> {
 fn four_that_all_clash(rt: HostRuntime) -> Result<(), Fail> {
     let pairs = [(0, 1), (0, 2), (0, 3), (1, 2), (1, 3), (2, 3)];
     let colours = [false, false, true, true];
-    assert_eq!(rt; bounds(rt.alloc(), 4, &pairs, &colours)?, (40, 40));
+    assert_eq!(rt; bounds(rt.alloc(), 4, &[], &pairs, &colours)?, (40, 40));
+    Ok(())
+}
+
+/// The same four, each of two nodes that a bond joins: the walks pass the bonds where they come to one end and leave from the
+/// other.
+#[test]
+fn four_of_two_nodes_each(rt: HostRuntime) -> Result<(), Fail> {
+    let bonds = [(0, 4), (1, 5), (2, 6), (3, 7)];
+    let pairs = [(0, 1), (2, 4), (0, 3), (2, 5), (1, 7), (6, 7)];
+    let colours = [false, false, true, true, false, false, true, true];
+    assert_eq!(rt; bounds(rt.alloc(), 8, &bonds, &pairs, &colours)?, (40, 40));
+    Ok(())
+}
+
+/// Of four that all clash there are four odd walks, and each is one cycle, however often it was found.
+#[test]
+fn each_walk_once(rt: HostRuntime) -> Result<(), Fail> {
+    let pairs = [(0, 1), (0, 2), (0, 3), (1, 2), (1, 3), (2, 3)];
+    let colours = [false, false, true, true];
+    let edges = edges_of(rt.alloc(), &[], &pairs)?;
+    let Some(graph) = Signed::new(4, edges) else {
+        return Ok(());
+    };
+    let none = no_cycles(rt.alloc(), &graph);
+    let found = more_cycles(rt.alloc(), &graph, &colours, none)?;
+    assert_eq!(rt; found.as_slice().len(), 4);
     Ok(())
 }

@@ -1,16 +1,17 @@
-// Shortest ways through the double cover of a graph: a node twice, reached over an even or an odd number of clashes. Nothing
-// here stands in a contract: each walk that is found is looked at again before it is taken.
+// Shortest ways through the double cover of the pieces of a graph: a piece twice, reached over an even or an odd number of
+// clashes. Nothing here stands in a contract: each walk that is found is looked at again before it is taken.
 
 use crate::links::push_end;
 use crate::parting::Parts;
-use crate::streets::Streets;
+use crate::streets::{Street, Streets};
+use crate::trees::Trees;
 use dpl_list::Grouped;
-use dpl_sign::{Edge, Kind, Signed};
+use dpl_sign::Signed;
 use std::alloc::{AllocError as NoMemory, Global};
 use std::cmp::Reverse;
 use std::collections::BinaryHeap;
 
-/// A node of the double cover: how far it is, over which edge, in which search.
+/// A place of the double cover: how far it is, over which edge, in which search.
 #[derive(Clone, Copy, Debug)]
 struct Place {
     far: u64,
@@ -27,61 +28,62 @@ pub struct Reach {
     steps: u64,
 }
 
-/// The numbers of the edges at each node, in components where the bound can rise.
-pub fn rows_of(alloc: Global, graph: &Signed, parts: &Parts) -> Result<Grouped<u32>, NoMemory> {
+/// The numbers of the edges that lead from each piece to others, in components where the bound can rise.
+pub fn rows_of(
+    alloc: Global,
+    graph: &Signed,
+    trees: &Trees,
+    parts: &Parts,
+) -> Result<Grouped<u32>, NoMemory> {
+    let count = trees.count;
     let mut keys = Vec::new(alloc);
     let mut items = Vec::new(alloc);
     let mut next = 0u32;
     for edge in graph.edges.as_slice() {
-        if parts.is_open(edge.a) {
-            push_end(&mut keys, &mut items, edge.a, next, graph.nodes)?;
-            push_end(&mut keys, &mut items, edge.b, next, graph.nodes)?;
+        let p = trees.piece(edge.a);
+        let q = trees.piece(edge.b);
+        if p != q && parts.is_open(edge.a) {
+            push_end(&mut keys, &mut items, p, next, count)?;
+            push_end(&mut keys, &mut items, q, next, count)?;
         }
         next = next.wrapping_add(1);
     }
-    let rows = Grouped::by_key(alloc, graph.nodes, keys.as_slice(), items.as_slice())?;
+    let rows = Grouped::by_key(alloc, count, keys.as_slice(), items.as_slice())?;
     Ok(rows)
 }
 
-fn row_of(rows: &Grouped<u32>, node: usize) -> &[u32] {
-    if node < rows.len() {
-        rows.row(node)
+fn row_of(rows: &Grouped<u32>, piece: usize) -> &[u32] {
+    if piece < rows.len() {
+        rows.row(piece)
     } else {
         &[]
     }
 }
 
-/// The node of the double cover.
-fn place_of(node: u32, odd: bool) -> usize {
-    2 * node as usize + usize::from(odd)
-}
-
-fn is_clash(edge: &Edge) -> bool {
-    match edge.kind {
-        Kind::Clash => true,
-        _ => false,
-    }
+/// The place of a piece in the double cover.
+fn place_of(piece: u32, odd: bool) -> usize {
+    2 * piece as usize + usize::from(odd)
 }
 
 /// The place beyond an edge.
-fn beyond(edge: &Edge, place: usize) -> usize {
-    let node = if edge.a as usize == place / 2 {
-        edge.b
+fn beyond(street: Street, place: usize) -> usize {
+    let piece = if street.p as usize == place / 2 {
+        street.q
     } else {
-        edge.a
+        street.p
     };
-    place_of(node, (place % 2 == 1) != is_clash(edge))
+    place_of(piece, (place % 2 == 1) != street.is_clash)
 }
 
 impl Reach {
     /// Nothing is reached.
-    pub fn new(alloc: Global, nodes: u32, steps: u64) -> Result<Reach, NoMemory> {
+    pub fn new(alloc: Global, pieces: u32, steps: u64) -> Result<Reach, NoMemory> {
         let nowhere = Place {
             far: 0,
             mark: 0,
             via: 0,
         };
-        let places = vec![in alloc; nowhere; 2 * nodes as usize]?;
+        let places = vec![in alloc; nowhere; 2 * pieces as usize]?;
         let mark = 0;
         let looks = 0;
         Ok(Reach {
@@ -147,10 +149,10 @@ fn spread(
     reach.steps = reach.steps.saturating_sub(row.len() as u64 + 1);
     for e in row {
         if *e != left_out && streets.is_free(*e) {
-            let Some(edge) = streets.edge(*e) else {
+            let Some(street) = streets.street(*e) else {
                 continue;
             };
-            let next = beyond(edge, place);
+            let next = beyond(street, place);
             let further = far.saturating_add(streets.length(*e));
             if reach.note(next, further, *e) {
                 waiting.push(Reverse((further, next)))?;
@@ -166,12 +168,12 @@ fn is_reached(
     rows: &Grouped<u32>,
     streets: &Streets<'_>,
     reach: &mut Reach,
-    edge: &Edge,
+    street: Street,
     e: u32,
 ) -> Result<bool, NoMemory> {
     reach.mark = reach.mark.wrapping_add(1);
-    let start = place_of(edge.b, false);
-    let end = place_of(edge.a, false);
+    let start = place_of(street.q, false);
+    let end = place_of(street.p, false);
     let mut waiting = BinaryHeap::new(alloc);
     if reach.note(start, 0, e) {
         waiting.push(Reverse((0u64, start)))?;
@@ -190,20 +192,20 @@ fn is_reached(
     Ok(false)
 }
 
-/// The edges of a shortest odd walk over a clash that has room, if one is near: from its first end back, and over the clash.
+/// The edges of a shortest odd walk over a clash that has room, if one is near: from its first piece back, and over the clash.
 pub fn walk_over(
     alloc: Global,
     rows: &Grouped<u32>,
     streets: &Streets<'_>,
     reach: &mut Reach,
-    edge: &Edge,
+    street: Street,
     e: u32,
 ) -> Result<Option<Vec<u32>>, NoMemory> {
-    if !is_reached(alloc, rows, streets, reach, edge, e)? {
+    if !is_reached(alloc, rows, streets, reach, street, e)? {
         return Ok(None);
     }
-    let start = place_of(edge.b, false);
-    let mut place = place_of(edge.a, false);
+    let start = place_of(street.q, false);
+    let mut place = place_of(street.p, false);
     let mut walk = Vec::new(alloc);
     for _step in 0..reach.looks {
         if place == start {
@@ -211,7 +213,7 @@ pub fn walk_over(
         }
         let via = reach.via(place);
         walk.push(via)?;
-        let Some(passed) = streets.edge(via) else {
+        let Some(passed) = streets.street(via) else {
             break;
         };
         place = beyond(passed, place);
