@@ -3,10 +3,11 @@
 
 First made layouts by `load`, then `split`, `check`, `balance` and `refine` of each layout that is named, the texts, two
 large reports, layouts at n and at 2n, and `refine` where links cross: seconds of processor time, megabytes of input a
-second, peak memory, exit status, and for the second of a pair how many times as long it took as the first. Then edits of made layouts and of each that is named:
-a split, and one edit, out of a script of 21 lines less its first line, where the boxes lie beside those of the layout and
-where they lie off it. --runs N takes the least of N runs (1). A run is stopped after --seconds N (120), and its status is
-then `late`. With --only WORD, cases whose names hold it. The package `time` is needed. No part of the gate.
+second, peak memory, exit status, and for the second of a pair how many times as long it took as the first. Then edits of
+made layouts and of each that is named: a split, and one edit, out of a script of 21 lines less its first line, where the
+boxes lie beside those of the layout and where they lie off it. --runs N takes the least of N runs (1). A run is stopped
+after --seconds N (120), and its status is then `late`. With --only WORD, cases whose names hold it. The package `time` is
+needed. No part of the gate.
 """
 
 import argparse
