@@ -1,9 +1,9 @@
 #!/usr/bin/env python3
-"""Tries the command `refine` on random layouts whose links cross: bench/refine.py [BINARY] [--layouts N] [--from SEED].
+"""Tries the command `refine` where links cross: bench/refine.py [BINARY] [LAYOUT:LAYER:SPACE:OVERLAP..].
 
-N random layouts (200), numbered from SEED (0), two thirds of them with weights of their own, some with a keep layer: boxes
-in a shaken grid whose diagonals are close too, wires on tracks of which the second next is close, and bent wires. Each is
-split and refined, the latter twice:
+--layouts N random layouts (200), numbered from --from SEED (0), two thirds of them with weights of their own, some with a
+keep layer: boxes in a shaken grid whose diagonals are close too, wires on tracks of which the second next is close, and bent
+wires. Each, and each layer that is named, is split and refined, the latter twice:
 
 - both runs of `refine` write the same bytes, and `check` says yes to them, with the cost and the bound of the report;
 - the cost is that of the masks, at most that of `split`, and no piece can be turned over alone to cost less;
@@ -11,8 +11,9 @@ split and refined, the latter twice:
 - where no component has more than 14 pieces, all pairs of masks are tried, component by component: the cost is no less
   than the least, and half the bound no more.
 
-Printed are how many had something set aside, sums over these, sums over those whose least cost is known, and the slowest
-run of `refine`. Ends with 1 where something is wrong. bench/run.py has the time beside that of a split. No part of the gate.
+Printed are, of each that is named, cost, half bound and seconds of processor time of both commands; then how many had
+something set aside, sums over these, sums over those whose least cost is known, and the slowest run of `refine`. Ends with
+1 where something is wrong. No part of the gate.
 """
 
 import argparse
@@ -88,10 +89,10 @@ class Case:
     def __init__(self, seed):
         chance = random.Random(seed)
         space, self.boxes = chance.choice([shaken, tracks, bends])(chance)
-        self.plain = ["--layer", "M", "--space", str(space), "--overlap", chance.choice(["5", "10", "20"])]
-        self.words, kept = list(self.plain), []
+        self.words, kept = ["--layer", "M", "--space", str(space), "--overlap", chance.choice(["5", "10", "20"])], []
         if chance.random() < 0.67:
-            self.words += ["--stitch", chance.choice("159"), "--conflict", chance.choice(["3", "7", "10", "100"]), "--corner", chance.choice("128")]
+            self.words += ["--stitch", chance.choice("159"), "--conflict", chance.choice(["3", "7", "10", "100"])]
+            self.words += ["--corner", chance.choice("128")]
         if chance.random() < 0.15:
             kept = [some_box(chance, 1_000) for _ in range(10)]
             self.words += ["--keep", "K"]
@@ -169,7 +170,7 @@ def optimum(pieces):
 # ---- judging
 
 
-def judged(case, split, refined):
+def judged(split, refined):
     """What is wrong with a refined report, beside that of a split, and the least cost where it is known."""
     cost, bound = refined.values["cost"], refined.values["bound"]
     pieces = Pieces(refined)
@@ -188,23 +189,26 @@ def judged(case, split, refined):
     return told, best
 
 
-def try_layout(program, case, seen, slowest):
+def try_layout(program, words, layout, seen):
     """What is wrong with the answers to one layout."""
-    splits, _, _ = timed(program.binary, ["split", *case.words], case.layout)
-    runs = [timed(program.binary, ["refine", *case.words], case.layout) for _ in range(2)]
-    slowest.append(max(seconds for _, seconds, _ in runs))
-    refined = runs[0][0].stdout
+    splits, seconds, _ = timed(program.binary, ["split", *words], layout)
+    runs = [timed(program.binary, ["refine", *words], layout) for _ in range(2)]
+    least_of_both = min(took for _, took, _ in runs)
     seen["layouts"] += 1
+    seen["split", "seconds"] += seconds
+    seen["refined", "seconds"] += least_of_both
+    seen["slowest"] = max(seen["slowest"], least_of_both)
+    refined = runs[0][0].stdout
     if any((ran.returncode, ran.stderr) != (0, b"") for ran in (splits, *(ran for ran, _, _ in runs))):
         return ["split ended %d, refine %d" % (splits.returncode, runs[0][0].returncode)]
     told = [] if runs[1][0].stdout == refined else ["two runs write other bytes"]
     split, report = Report(splits.stdout), Report(refined)
     if not split.aside:
         return told if refined == splits.stdout else [*told, "nothing is set aside, and refine writes other bytes"]
-    verdict = program.run(["check", *case.words], case.layout, refined)
+    verdict = program.run(["check", *words], layout, refined)
     if verdict != (0, b"yes cost %d bound %d\n" % (report.values["cost"], report.values["bound"]), ""):
         told.append("check says %r" % (verdict,))
-    wrong, best = judged(case, split, report)
+    wrong, best = judged(split, report)
     count(seen, "aside", split, report)
     if best is not None:
         count(seen, "known", split, report)
@@ -220,33 +224,53 @@ def count(seen, kind, split, report):
         seen[kind, name, "bound"] += one.values["bound"]
 
 
-def tell(seen, slowest, wrong):
-    def sums(kind):
-        return ", ".join(
-            "%s: cost %d, half bound %.1f" % (name, seen[kind, name, "cost"], seen[kind, name, "bound"] / 2) for name in ("split", "refined")
-        )
+def sums(seen, kind):
+    both = (("%s: cost %d, half bound %.1f" % (name, seen[kind, name, "cost"], seen[kind, name, "bound"] / 2)) for name in ("split", "refined"))
+    return ", ".join(both)
 
+
+def tell_layer(name, seen):
+    took = "%.2f and %.2f s" % (seen["split", "seconds"], seen["refined", "seconds"])
+    print("%-30s %s" % (name, ", ".join([sums(seen, "aside") if seen["aside"] else "nothing is set aside", took])), flush=True)
+
+
+def tell(seen, wrong):
     print("%d layouts, %d of them with something set aside, %d wrong" % (seen["layouts"], seen["aside"], wrong))
-    print("of these %s" % sums("aside"))
-    print("least cost known of %d, reached in %d; %s; least cost %d" % (seen["known"], seen["least reached"], sums("known"), seen["least cost"]))
-    print("the slowest refine took %.2f seconds of processor time" % max(slowest, default=0))
+    print("of these %s" % sums(seen, "aside"))
+    print("the least cost is known of %d, %d in all, and reached in %d" % (seen["known"], seen["least cost"], seen["least reached"]))
+    print("of these %s" % sums(seen, "known"))
+    print("the slowest refine took %.2f s" % seen["slowest"])
+
+
+def try_all(program, asked):
+    """How many things are wrong with the answers to all layouts."""
+    wrong, seen = 0, Counter()
+    for name, layout, words in run.layers(asked.layers):
+        one = Counter()
+        told = try_layout(program, words, layout, one)
+        tell_layer(name, one)
+        for what in told:
+            print("%s: %s" % (name, what), flush=True)
+        wrong += len(told)
+    for seed in range(asked.first, asked.first + asked.layouts):
+        case = Case(seed)
+        told = try_layout(program, case.words, case.layout, seen)
+        for what in told:
+            print("seed %d: %s" % (seed, what), flush=True)
+        wrong += len(told)
+    tell(seen, wrong)
+    return wrong
 
 
 def main():
-    asked = argparse.ArgumentParser(description="Tries the command `refine` on random layouts whose links cross.")
+    asked = argparse.ArgumentParser(description="Tries the command `refine` where links cross.")
     asked.add_argument("binary", nargs="?", default=os.path.join(run.TOP, "crates", "dpl", "out", "dpl"))
+    asked.add_argument("layers", nargs="*", metavar="LAYOUT:LAYER:SPACE:OVERLAP")
     asked.add_argument("--layouts", type=int, default=200)
     asked.add_argument("--from", type=int, default=0, dest="first")
-    asked = asked.parse_args()
-    seen, slowest, wrong = Counter(), [], 0
+    asked = asked.parse_intermixed_args()
     with tempfile.TemporaryDirectory() as folder:
-        program = Program(asked.binary, folder)
-        for seed in range(asked.first, asked.first + asked.layouts):
-            for what in try_layout(program, Case(seed), seen, slowest):
-                wrong += 1
-                print("seed %d: %s" % (seed, what), flush=True)
-    tell(seen, slowest, wrong)
-    return 1 if wrong else 0
+        return 1 if try_all(Program(asked.binary, folder), asked) else 0
 
 
 if __name__ == "__main__":

@@ -1,12 +1,13 @@
 #!/usr/bin/env python3
 """Times the built program on large texts and layouts, and edits: bench/run.py [BINARY] [LAYOUT:LAYER:SPACE:OVERLAP..].
 
-First made layouts by `load`, then `split`, `check` and `balance` of each layout that is named, the texts, two large
-reports, and layouts at n and at 2n: seconds of processor time, megabytes of input a second, peak memory, exit status, and
-for the second of a pair how many times as long it took as the first. Then edits of made layouts and of each that is named:
-a split, and one edit, out of a script of 21 lines less its first line, where the boxes lie beside those of the layout and
-where they lie off it. --runs N takes the least of N runs (1). A run is stopped after --seconds N (120), and its status is
-then `late`. With --only WORD, cases whose names hold it. The package `time` is needed. No part of the gate.
+First made layouts by `load`, then `split`, `check`, `balance` and `refine` of each layout that is named, the texts, two
+large reports, layouts at n and at 2n, and `refine` where links cross: seconds of processor time, megabytes of input a
+second, peak memory, exit status, and for the second of a pair how many times as long it took as the first. Then edits of
+made layouts and of each that is named: a split, and one edit, out of a script of 21 lines less its first line, where the
+boxes lie beside those of the layout and where they lie off it. --runs N takes the least of N runs (1). A run is stopped
+after --seconds N (120), and its status is then `late`. With --only WORD, cases whose names hold it. The package `time` is
+needed. No part of the gate.
 """
 
 import argparse
@@ -156,6 +157,14 @@ def contacts(n, pitch):
     for k in range(side * side):
         x, y = pitch * (k % side), pitch * (k // side)
         yield (x, y, x + 100, y + 100)
+
+
+def dense(n, reach):
+    """About n boxes in a square grid at a pitch that lets so many on each side be close."""
+    side, pitch = int(n**0.5), 100 // reach
+    for k in range(side * side):
+        x, y = pitch * (k % side), pitch * (k // side)
+        yield (x, y, x + 2, y + 2)
 
 
 def pairs_far_apart(n):
@@ -484,6 +493,15 @@ def single():
     yield "2,000 nests of five rings in a row, three lengths", layout(nests(2_000, 2_000, 5)), CORNERS
 
 
+def crossed():
+    """Layouts whose links cross, each with the smaller of its two sizes."""
+    yield "contacts, eight close to each", 1_250, lambda n: contacts(n, 160)
+    yield "parts of 400 contacts, eight close to each", 24_000, lambda n: parts_apart(contacts(400, 160), n // 400)
+    yield "parts of 400 boxes, 28 close to each", 14_400, lambda n: parts_apart(dense(400, 3), n // 400)
+    yield "level wires, six close to each", 250, close_wires
+    yield "boxes, each two a clash, n clashes", 199_000, lambda n: unit_boxes(int((2 * n) ** 0.5))
+
+
 def layers(named):
     """The layouts named LAYOUT:LAYER:SPACE:OVERLAP, each with its options."""
     for one in named:
@@ -583,20 +601,21 @@ def check_spaces(asked, size):
 
 
 def time_layer(asked, name, text, options):
-    """A split of a layer, a check of its report, and a balanced split."""
+    """A split of a layer, a check of its report, a balanced split and a refined one."""
     report(f"{name}, split", len(text), least(asked, ["split", *options], text))
     with tempfile.NamedTemporaryFile() as second:
         subprocess.run([asked.binary, "split", *options], input=text, stdout=second, stderr=subprocess.DEVNULL, check=False)
         report(f"{name}, check", len(text), least(asked, ["check", *options, "--report", second.name], text))
-    report(f"{name}, balance", len(text), least(asked, ["balance", *options], text))
+    for command in ("balance", "refine"):
+        report(f"{name}, {command}", len(text), least(asked, [command, *options], text))
 
 
-def pair(asked, name, size, text_of):
+def pair(asked, name, size, text_of, command="split"):
     """A case at its size and at twice as much."""
     before = None
     for n in (size, 2 * size):
         text = text_of(n)
-        run = least(asked, ["split", *OPTIONS], text)
+        run = least(asked, [command, *OPTIONS], text)
         report("%s, n = %d" % (name, n), len(text), run, "" if before is None else "%.1f" % (run[0] / before))
         before = max(run[0], 1e-3)
         if run[2] == "late":
@@ -654,6 +673,10 @@ def main():
     for name, size, boxes in layouts():
         if asked.only in name:
             pair(asked, name, size, lambda n: layout(boxes(n)))
+    for name, size, boxes in crossed():
+        for command in ("split", "refine"):
+            if asked.only in (one := f"{name}, {command}"):
+                pair(asked, one, size, lambda n: layout(boxes(n)), command)
     for name, text, options in single():
         if asked.only in name:
             report(name, len(text), least(asked, ["split", *options], text))
