@@ -2,12 +2,14 @@
 
 from __future__ import annotations
 
+import glob
 import os
 import tempfile
 import unittest
 from typing import List
 
-import common  # noqa: F401  puts the tools where they are found
+from common import TOP
+
 import planted
 
 SOURCE = "fn one() {\n    x\n    y\n}\nfn two() {\n    x\n}\n"
@@ -22,6 +24,10 @@ class Planted(unittest.TestCase):
                 with open(os.path.join(crate, folder, name), "w", encoding="utf-8") as file:
                     file.write(text)
             return list(planted.misfits(os.path.join(crate, "edits", "one.edit")))
+
+    def test_all_are_found(self) -> None:
+        there = glob.glob(os.path.join(os.path.realpath(TOP), "crates", "*", "*", "*.edit"))
+        self.assertEqual(planted.planted(), sorted(there))
 
     def test_fits(self) -> None:
         self.assertEqual(self.misfits("file: src/lib.rt", "old:     y", "new:     z"), [])
