@@ -11,6 +11,8 @@ Then scripts that pass a limit, by a box that comes or one that goes. Ends with 
 has the time of an edit. No part of the gate.
 """
 
+from __future__ import annotations
+
 import argparse
 import os
 import random
@@ -19,29 +21,36 @@ import subprocess
 import sys
 import tempfile
 from collections import Counter
+from typing import Dict, FrozenSet, Iterable, Iterator, Optional, Tuple
 
 sys.path.insert(0, os.path.dirname(os.path.abspath(__file__)))
 import run
 from cif import commands
-from net import Classes, Report, edges_of, weight
+from net import Box, Classes, Report, edges_of, weight
 
 SPACING = run.OPTIONS
+
+# an edge by its kind, its weight and the rectangles of its two ends
+Link = Tuple[str, Optional[int], Box, Box]
+
+# the masks of the rectangles of each component, by what it is: its rectangles with these, and its edges
+Components = Dict[Tuple[FrozenSet[Box], FrozenSet[Link]], Dict[Box, str]]
 
 
 # ---- texts; corners are in grid units of half a hundredth of a micron
 
 
-def drawn(boxes, layer):
+def drawn(boxes: Iterable[Box], layer: str) -> str:
     """A definition with these boxes, in quarters of a hundredth, without its number."""
     lines = ["B %d %d %d %d;" % (2 * (x2 - x1), 2 * (y2 - y1), x1 + x2, y1 + y2) for x1, y1, x2, y2 in boxes]
     return " 1 4;L %s;" % layer + "".join(lines) + "DF;"
 
 
-def layout_of(boxes, kept=()):
+def layout_of(boxes: Iterable[Box], kept: Iterable[Box] = ()) -> bytes:
     return ("DS 1" + drawn(boxes, "M") + "DS 2" + drawn(kept, "K") + "C 1;C 2;E").encode()
 
 
-def with_boxes(layout, boxes, layer="M"):
+def with_boxes(layout: bytes, boxes: Iterable[Box], layer: str = "M") -> bytes:
     """The layout with boxes drawn behind what it has."""
     _, end = commands(layout)
     number = next(n for n in range(10**9, 2 * 10**9) if str(n).encode() not in layout)
@@ -52,10 +61,10 @@ def with_boxes(layout, boxes, layer="M"):
 
 
 class Program:
-    def __init__(self, binary, folder):
+    def __init__(self, binary: str, folder: str) -> None:
         self.binary, self.second = binary, os.path.join(folder, "second")
 
-    def run(self, words, layout, second=None):
+    def run(self, words: list[str], layout: bytes, second: bytes | None = None) -> tuple[int, bytes, str]:
         """Exit status, output and error output."""
         if second is not None:
             words = [*words, "--script" if words[0] == "edit" else "--report", self.second]
@@ -68,14 +77,14 @@ class Program:
 # ---- components
 
 
-def components_of(report):
+def components_of(report: Report) -> Components:
     """For each component what it is, its rectangles and edges, with the masks of the rectangles. Where an edge leaves its
     ends is told by their two rectangles."""
     edges = edges_of(report)
     classes = Classes(len(report.fragments))
     for edge in edges:
         classes.join(edge.first, edge.second)
-    found = {}
+    found: dict[int, tuple[dict[Box, str], set[Link]]] = {}
     for node, rect in enumerate(report.fragments):
         found.setdefault(classes.root(node), ({}, set()))[0][rect] = report.letters[node]
     for number, edge in enumerate(edges):
@@ -87,7 +96,7 @@ def components_of(report):
 # ---- random scripts
 
 
-def some_box(chance, side):
+def some_box(chance: random.Random, side: int) -> Box:
     x, y = chance.randrange(-side, side), chance.randrange(-side, side)
     width, height = chance.choice([2, 4, 8, 10, 20, 60]), chance.choice([2, 4, 8, 10, 20])
     if chance.random() < 0.5:
@@ -100,9 +109,11 @@ BAD = ["", " ", "add", "add 0 0 1", "add 0 0 0 1", "add 1 0 0 1", "add 00 0 1 1"
        "remove 0 ", "remove 0\r", "delete 0", "add 0 0 1 1\nadd 0 0"]
 
 
-def some_script(chance, side):
+def some_script(chance: random.Random, side: int) -> list[str]:
     """Lines; most are good, most boxes that go are there, and some come back to where another one was."""
-    lines, there, added = [], [], []
+    lines: list[str] = []
+    there: list[int] = []
+    added: list[Box] = []
     for _ in range(chance.randrange(1, 13)):
         kind = chance.random()
         if kind < 0.03:
@@ -123,31 +134,33 @@ def some_script(chance, side):
 LINE = re.compile(r"add (-?\d+) (-?\d+) (-?\d+) (-?\d+)|remove (\d+)")
 
 
-def is_plain(number):
+def is_plain(number: str) -> bool:
     return str(int(number)) == number
 
 
-def read(line):
+def read(line: str) -> Box | int | None:
     """The box that a line adds, or the number of the one that it removes, or None where it is of no form."""
     found = LINE.fullmatch(line)
     if not found or not all(is_plain(number) for number in found.groups() if number):
         return None
     if found[5]:
         return int(found[5]) if int(found[5]) <= 10**12 else None
-    x1, y1, x2, y2 = rect = tuple(map(int, found.groups()[:4]))
-    return rect if x1 < x2 and y1 < y2 and all(abs(at) <= 2**30 for at in rect) else None
+    x1, y1, x2, y2 = map(int, found.groups()[:4])
+    return (x1, y1, x2, y2) if x1 < x2 and y1 < y2 and all(abs(at) <= 2**30 for at in (x1, y1, x2, y2)) else None
 
 
-def content_of(script):
+def content_of(script: bytes) -> list[Box] | str:
     """The boxes that stand behind a text of lines, or the error line that is due."""
     *lines, last = script.decode().split("\n")
     edits = [read(line) for line in [*lines, *([last] if last else [])]]
     if last:
         edits[-1] = None
-    if None in edits:
+    good = [edit for edit in edits if edit is not None]
+    if len(good) < len(edits):
         return "dpl: script 1 at line %d\n" % (edits.index(None) + 1)
-    boxes, count = {}, 0
-    for number, edit in enumerate(edits, 1):
+    boxes: dict[int, Box] = {}
+    count = 0
+    for number, edit in enumerate(good, 1):
         if isinstance(edit, tuple):
             boxes[count] = edit
             count += 1
@@ -159,7 +172,7 @@ def content_of(script):
 class Case:
     """A random layout with its options and a script."""
 
-    def __init__(self, seed):
+    def __init__(self, seed: int) -> None:
         chance = random.Random(seed)
         side = chance.choice([15, 40, 80, 200])
         self.boxes = [some_box(chance, side) for _ in range(chance.randrange(25))]
@@ -173,13 +186,13 @@ class Case:
         self.lines = some_script(chance, side)
 
 
-def masks_changed(before, after):
+def masks_changed(before: Components, after: Components) -> tuple[int, int]:
     """How many components of one report are in another one too, and how many of these have other masks there."""
     both = before.keys() & after.keys()
     return len(both), sum(before[one] != after[one] for one in both)
 
 
-def judged(program, case, boxes, text, told):
+def judged(program: Program, case: Case, boxes: list[Box], text: bytes, told: list[str]) -> tuple[Components, Components]:
     """What is wrong with a report of a content, and the components of the report and of a split."""
     layout = with_boxes(case.layout, boxes)
     report = Report(text)
@@ -196,7 +209,7 @@ def judged(program, case, boxes, text, told):
     return components_of(report), components_of(whole)
 
 
-def try_script(program, case, seen):
+def try_script(program: Program, case: Case, seen: Counter[str]) -> list[str]:
     """What is wrong with the answers to the prefixes of a script."""
     told, before, chopped = [], None, run.lines_of(case.lines)[:-1]
     for script in [*(run.lines_of(case.lines[:k]) for k in range(len(case.lines) + 1)), *([chopped] if chopped else [])]:
@@ -222,8 +235,9 @@ def try_script(program, case, seen):
     return told
 
 
-def try_scripts(program, seeds):
-    seen, wrong = Counter(), 0
+def try_scripts(program: Program, seeds: range) -> int:
+    seen: Counter[str] = Counter()
+    wrong = 0
     for seed in seeds:
         case = Case(seed)
         for what in try_script(program, case, seen):
@@ -237,16 +251,16 @@ def try_scripts(program, seeds):
 # ---- limits
 
 
-def halves(boxes):
+def halves(boxes: Iterable[Box]) -> list[Box]:
     """Boxes by their corners in hundredths, in grid units."""
-    return [tuple(2 * at for at in box) for box in boxes]
+    return [(2 * x1, 2 * y1, 2 * x2, 2 * y2) for x1, y1, x2, y2 in boxes]
 
 
-def level_wires(n):
+def level_wires(n: int) -> list[Box]:
     return [(0, 40 * k, 20, 40 * k + 10) for k in range(n)]
 
 
-def limits():
+def limits() -> Iterator[tuple[str, list[str], list[Box], list[str], str | None]]:
     """A name, words, boxes, the lines and the error line that is due."""
     near, far = (300, 0, 500, 200), (1_000_000, 0, 1_000_200, 200)
     yield "a primitive too many", SPACING, [(0, 0, 200, 200)] * 50_000, [run.add(near)], "limit 2 count 50001"
@@ -267,7 +281,7 @@ def limits():
     yield "a box far away", SPACING, strip[:-1], [run.add(far), "remove 0"], None
 
 
-def try_limits(program):
+def try_limits(program: Program) -> int:
     wrong = 0
     for name, words, boxes, lines, due in limits():
         status, _, errors = program.run(["edit", *words], layout_of(boxes), run.lines_of(lines))
@@ -277,12 +291,12 @@ def try_limits(program):
     return wrong
 
 
-def main():
-    asked = argparse.ArgumentParser(description="Tries the command `edit` on random scripts and at the limits.")
-    asked.add_argument("binary", nargs="?", default=os.path.join(run.TOP, "crates", "dpl", "out", "dpl"))
-    asked.add_argument("--scripts", type=int, default=200)
-    asked.add_argument("--from", type=int, default=0, dest="first")
-    asked = asked.parse_args()
+def main() -> int:
+    words = argparse.ArgumentParser(description="Tries the command `edit` on random scripts and at the limits.")
+    words.add_argument("binary", nargs="?", default=os.path.join(run.TOP, "crates", "dpl", "out", "dpl"))
+    words.add_argument("--scripts", type=int, default=200)
+    words.add_argument("--from", type=int, default=0, dest="first")
+    asked = words.parse_args()
     with tempfile.TemporaryDirectory() as folder:
         program = Program(asked.binary, folder)
         wrong = try_scripts(program, range(asked.first, asked.first + asked.scripts)) + try_limits(program)

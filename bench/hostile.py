@@ -5,16 +5,22 @@ For each case: seconds of processor time, peak memory, and whether the built pro
 one did not. No part of the gate.
 """
 
+from __future__ import annotations
+
 import os
 import resource
 import subprocess
 import sys
 import tempfile
+from typing import Iterator, Tuple
 
 sys.path.insert(0, os.path.dirname(os.path.abspath(__file__)))
 import run
 
 TOP = os.path.dirname(os.path.dirname(os.path.abspath(__file__)))
+
+# the reason, place, found and wanted of a rejected report
+Refusal = Tuple[int, int, int, int]
 
 TRIANGLE = b"L M; B 100 100 50 50; B 100 100 200 50; B 100 100 125 200; E"
 
@@ -47,29 +53,29 @@ E
 """.split("\n")
 
 
-def line(number, text):
+def line(number: int, text: str) -> str:
     """The report with another line in the place of this one, counted from 1."""
     return "\n".join(REPORT[: number - 1] + [text] + REPORT[number:])
 
 
-def named(name):
+def named(name: str) -> str:
     """The report with another layer named everywhere."""
     lines = list(REPORT)
     lines[1], lines[18], lines[21] = "(layer %s);" % name, "L %sA;" % name, "L %sB;" % name
     return "\n".join(lines)
 
 
-def without(number):
+def without(number: int) -> str:
     return "\n".join(REPORT[: number - 1] + REPORT[number:])
 
 
-def exchanged(number):
+def exchanged(number: int) -> str:
     lines = list(REPORT)
     lines[number - 1], lines[number] = lines[number], lines[number - 1]
     return "\n".join(lines)
 
 
-def changed_reports():
+def changed_reports() -> Iterator[tuple[str, str, Refusal]]:
     """A name, the report, and the reason, place, found and wanted of its refusal."""
     whole = "\n".join(REPORT)
     yield "another version", line(1, "(dpl 9);"), (1, 1, 0, 0)
@@ -98,20 +104,20 @@ def changed_reports():
     yield "no newline at the end", whole[:-1], (1, 26, 0, 0)
 
 
-def second_version(text):
+def second_version(text: str) -> str:
     """The same report with a corner weight, that of every conflict, as line 16."""
     lines = text.split("\n")
     lines[0] = lines[0].replace("(dpl 1);", "(dpl 2);")
     return "\n".join(lines[:15] + ["(corner 10);"] + lines[15:])
 
 
-def behind(refusal):
+def behind(refusal: Refusal) -> Refusal:
     """The refusal of the second version: its lines behind the masks stand one lower."""
     reason, place, found, wanted = refusal
     return (reason, place + (reason == 1 and place > 15), found, wanted)
 
 
-def reports_of_both_versions():
+def reports_of_both_versions() -> Iterator[tuple[str, str, Refusal]]:
     """All changed reports in both versions, and what is wrong with the lines of the second alone."""
     for name, text, wanted in changed_reports():
         yield name, text, wanted
@@ -130,7 +136,7 @@ def reports_of_both_versions():
     yield "a keep line before the corner line", second.replace("(corner 10);", "(keep K);\n(corner 10);"), (1, 16, 0, 0)
 
 
-def layouts():
+def layouts() -> Iterator[tuple[str, bytes, int, int | str]]:
     """A name, the layout, the status, and the line on the error output or how many fragments there are."""
     box = run.BOX
     yield "one comment 1 million deep", b"(" * 1_000_000 + b")" * 1_000_000 + b";E", 0, 0
@@ -149,7 +155,7 @@ def layouts():
 MOST = 268_435_456
 
 
-def repeated(part, room):
+def repeated(part: bytes, room: int) -> Iterator[bytes]:
     """A part as often as it fits into so many bytes, in pieces."""
     count = room // len(part)
     for _ in range(count >> 16):
@@ -157,7 +163,7 @@ def repeated(part, room):
     yield part * (count % (1 << 16))
 
 
-def rising(form, room):
+def rising(form: bytes, room: int) -> Iterator[bytes]:
     """Lines of this form by their numbers from 0, as many as fit into so many bytes."""
     number = 0
     while len(form % number) <= room:
@@ -166,10 +172,10 @@ def rising(form, room):
         number += 1
 
 
-def long_reports():
+def long_reports() -> Iterator[tuple[str, bytes, Iterator[bytes], bytes, str]]:
     """Reports that fill the limit with lines of one kind or one long line, and the answers."""
 
-    def cut(front, back):
+    def cut(front: list[str], back: list[str]) -> tuple[bytes, bytes, int]:
         """The text before some lines, that behind, and the room between."""
         text = "\n".join(front).encode(), "\n".join(back).encode()
         return (*text, MOST - len(text[0]) - len(text[1]))
@@ -190,7 +196,7 @@ def long_reports():
     yield "aside lines", front, rising(b"(aside %d);\n", room), back, "5 place 0 found 0 wanted 1"
 
 
-def timed(binary, words, text):
+def timed(binary: str, words: list[str], text: bytes) -> tuple[subprocess.CompletedProcess[bytes], float, float]:
     """A run with its processor time and its peak memory in megabytes."""
     before = resource.getrusage(resource.RUSAGE_CHILDREN)
     with tempfile.TemporaryFile() as layout:
@@ -202,11 +208,11 @@ def timed(binary, words, text):
     return ended, seconds, after.ru_maxrss / 1000
 
 
-def main():
+def main() -> int:
     binary = sys.argv[1] if len(sys.argv) > 1 else os.path.join(TOP, "crates", "dpl", "out", "dpl")
     wrong = 0
 
-    def told(name, ended, seconds, memory, is_right):
+    def told(name: str, ended: subprocess.CompletedProcess[bytes], seconds: float, memory: float, is_right: bool) -> None:
         nonlocal wrong
         wrong += not is_right
         answer = ended.stderr.decode().strip() or "status %d" % ended.returncode
@@ -222,27 +228,27 @@ def main():
             ended, seconds, memory = timed(binary, check, TRIANGLE)
             line = "dpl: rejected %d place %d found %d wanted %d\n" % wanted
             told(name, ended, seconds, memory, (ended.returncode, ended.stderr, ended.stdout) == (1, line.encode(), b""))
-        for name, text, status, wanted in layouts():
-            ended, seconds, memory = timed(binary, ["split"] + run.OPTIONS, text)
-            if status:
-                is_right = (ended.stderr, ended.stdout) == (b"dpl: %s\n" % wanted.encode(), b"")
+        for name, layout, status, due in layouts():
+            ended, seconds, memory = timed(binary, ["split"] + run.OPTIONS, layout)
+            if isinstance(due, str):
+                is_right = (ended.stderr, ended.stdout) == (b"dpl: %s\n" % due.encode(), b"")
             else:
-                is_right = b"(fragments %d);\n" % wanted in ended.stdout[:1000]
+                is_right = b"(fragments %d);\n" % due in ended.stdout[:1000]
             told(name, ended, seconds, memory, ended.returncode == status and is_right)
-        for spaces, status, line in ((268_435_456, 1, b"rejected 1 place 1 found 0 wanted 0"), (268_435_457, 4, b"limit 9 count 268435457")):
-            with open(report, "wb") as file:
+        for spaces, status, refused in ((268_435_456, 1, b"rejected 1 place 1 found 0 wanted 0"), (268_435_457, 4, b"limit 9 count 268435457")):
+            with open(report, "wb") as target:
                 for _ in range(0, spaces, 1 << 20):
-                    file.write(b" " * (1 << 20))
-                file.truncate(spaces)
+                    target.write(b" " * (1 << 20))
+                target.truncate(spaces)
             ended, seconds, memory = timed(binary, check, b"E")
-            told("a report of %d spaces" % spaces, ended, seconds, memory, (ended.returncode, ended.stderr) == (status, b"dpl: " + line + b"\n"))
-        for name, front, parts, back, wanted in long_reports():
-            with open(report, "wb") as file:
-                file.write(front)
-                file.writelines(parts)
-                file.write(back)
+            told("a report of %d spaces" % spaces, ended, seconds, memory, (ended.returncode, ended.stderr) == (status, b"dpl: " + refused + b"\n"))
+        for name, front, parts, back, rejected in long_reports():
+            with open(report, "wb") as target:
+                target.write(front)
+                target.writelines(parts)
+                target.write(back)
             ended, seconds, memory = timed(binary, check, TRIANGLE)
-            told("a report with " + name, ended, seconds, memory, (ended.returncode, ended.stderr) == (1, b"dpl: rejected %s\n" % wanted.encode()))
+            told("a report with " + name, ended, seconds, memory, (ended.returncode, ended.stderr) == (1, b"dpl: rejected %s\n" % rejected.encode()))
     print("%d wrong" % wrong)
     return 1 if wrong else 0
 

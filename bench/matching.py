@@ -5,13 +5,15 @@
 at all ways over a third member, which takes the time of the line `alone`. No part of the gate.
 """
 
+from __future__ import annotations
+
 import os
 import sys
 
 TESTS = ["alone_512", "row_512", "plane_512", "alone_1024", "plane_1024"]
 
 
-def timed(binary, test):
+def timed(binary: str, test: str) -> tuple[float, float, bool]:
     """Runs one test: user seconds, peak memory in megabytes, and whether it passed."""
     child = os.fork()
     if child == 0:
@@ -21,7 +23,7 @@ def timed(binary, test):
     return usage.ru_utime, usage.ru_maxrss / 1024, status == 0
 
 
-def main():
+def main() -> None:
     top = os.path.dirname(os.path.dirname(os.path.abspath(__file__)))
     binary = sys.argv[1] if len(sys.argv) > 1 else os.path.join(top, "crates", "dpl_matching_tests", "out", "dpl_matching_tests_tests")
     for test in TESTS:

@@ -7,13 +7,19 @@ the standard output and `dpl: no memory` on the error output. Printed: how many 
 Needs `cc`; no part of the gate.
 """
 
+from __future__ import annotations
+
 import collections
 import os
 import subprocess
 import sys
 import tempfile
+from typing import Tuple
 
 TOP = os.path.dirname(os.path.dirname(os.path.abspath(__file__)))
+
+# a run that is wrong: its number, its status, and how its outputs begin
+Wrong = Tuple[int, int, bytes, bytes]
 
 # Counts the calls for memory, refuses one, and tells by a file whether it came to that call.
 SHIM = """
@@ -43,7 +49,7 @@ void *realloc(void *p, size_t n) {
 """
 
 
-def built(folder):
+def built(folder: str) -> str:
     """The shim, compiled."""
     source, library = os.path.join(folder, "shim.c"), os.path.join(folder, "shim.so")
     with open(source, "w") as file:
@@ -52,12 +58,13 @@ def built(folder):
     return library
 
 
-def tried(binary, words, layout, library, folder):
+def tried(binary: str, words: list[str], layout: str, library: str, folder: str) -> tuple[int, collections.Counter[str], list[Wrong]]:
     """How the runs ended, and which of them were wrong."""
     with open(layout, "rb") as file:
         text = file.read()
     whole = subprocess.run([binary] + words, input=text, capture_output=True)
-    ended, wrong = collections.Counter(), []
+    ended: collections.Counter[str] = collections.Counter()
+    wrong: list[Wrong] = []
     number = 0
     while True:
         number += 1
@@ -77,7 +84,7 @@ def tried(binary, words, layout, library, folder):
             wrong.append((number, run.returncode, run.stdout[:80], run.stderr[:80]))
 
 
-def main():
+def main() -> int:
     binary = sys.argv[1] if len(sys.argv) > 1 else os.path.join(TOP, "crates", "dpl", "out", "dpl")
     options = ["--layer", "M", "--space", "100", "--overlap", "20"]
     layout = os.path.join(TOP, "samples", "stitch.cif")

@@ -10,6 +10,8 @@ after --seconds N (120), and its status is then `late`. With --only WORD, cases 
 needed. No part of the gate.
 """
 
+from __future__ import annotations
+
 import argparse
 import itertools
 import os
@@ -19,10 +21,18 @@ import subprocess
 import sys
 import tempfile
 import threading
+from typing import Callable, Iterable, Iterator, Sequence, Tuple
 
 TOP = os.path.dirname(os.path.dirname(os.path.abspath(__file__)))
 sys.path.insert(0, os.path.join(TOP, "tools"))
-from net import Report
+from net import Box, Report
+
+Corner = Tuple[int, int]
+Corners = Iterator[Corner]
+Boxes = Iterator[Box]
+
+# seconds of processor time, peak megabytes, and an exit status or `late`
+Run = Tuple[float, float, str]
 
 MOST_BYTES = 16_777_216
 MOST_REPORT = 268_435_456
@@ -38,25 +48,25 @@ WIDEST = ["--layer", "M", "--space", "100000", "--overlap", "20"]
 # ---- texts
 
 
-def filled(block, before=b""):
+def filled(block: bytes, before: bytes = b"") -> bytes:
     """As many blocks as fit into the greatest text, and the end command."""
     return before + block * ((MOST_BYTES - 1 - len(before)) // len(block)) + b"E"
 
 
-def nested_definitions(count, first="L M;B 2 2 0 0;"):
+def nested_definitions(count: int, first: str = "L M;B 2 2 0 0;") -> bytes:
     """Definition k + 1 calls definition k, and the top calls the last one."""
     lines = ["DS 1;" + first + "DF;"]
     lines += ["DS %d;C %d;DF;" % (k + 1, k) for k in range(1, count)]
     return ("".join(lines) + "C %d;E" % count).encode()
 
 
-def doubling(count):
+def doubling(count: int) -> bytes:
     """Definition k + 1 calls definition k twice."""
     lines = ["DS 1;DF;"] + ["DS %d;C %d;C %d;DF;" % (k + 1, k, k) for k in range(1, count)]
     return ("".join(lines) + "C %d;E" % count).encode()
 
 
-def tenfold(count, inner, top):
+def tenfold(count: int, inner: str, top: str) -> bytes:
     """Definition k + 1 calls definition k ten times, for k below count."""
     lines = ["DS 1;" + inner + "DF;"]
     lines += ["DS %d;%sDF;" % (k + 1, "C %d;" % k * 10) for k in range(1, count)]
@@ -66,7 +76,7 @@ def tenfold(count, inner, top):
 BOX = "L M;B 2 2 0 0;"
 
 
-def texts():
+def texts() -> Iterator[tuple[str, bytes]]:
     yield "16 MB of spaces", filled(b" ")
     yield "16 MB of nested comments", filled(b"(a(b(c)d)e);")
     yield "one comment 1 million deep", b"(" * 1_000_000 + b")" * 1_000_000 + b";E"
@@ -93,22 +103,22 @@ def texts():
 # ---- layouts, as boxes by their corners in hundredths, or as a polygon
 
 
-def box(x1, y1, x2, y2):
+def box(x1: int, y1: int, x2: int, y2: int) -> str:
     """The command of a box, in units of half a hundredth."""
     return "B %d %d %d %d;" % (2 * (x2 - x1), 2 * (y2 - y1), x1 + x2, y1 + y2)
 
 
-def layout(boxes):
+def layout(boxes: Iterable[Box]) -> bytes:
     """The text of boxes on layer M."""
     return ("DS 1 1 2;L M;" + "".join(box(*corners) for corners in boxes) + "DF;C 1;E").encode()
 
 
-def polygon(points):
+def polygon(points: Iterable[Corner]) -> bytes:
     """The text of one polygon on layer M."""
     return ("L M;P " + " ".join("%d %d" % point for point in points) + ";E").encode()
 
 
-def comb_polygon(n):
+def comb_polygon(n: int) -> Corners:
     """One polygon of about n corners: n / 4 teeth of as many lengths below a spine."""
     teeth = n // 4
     yield (0, 20)
@@ -118,31 +128,31 @@ def comb_polygon(n):
     yield from ((20 * teeth, 0), (20 * teeth, 20))
 
 
-def stairs_polygon(n):
+def stairs_polygon(n: int) -> Corners:
     """One polygon of about n corners: n / 4 steps, above and below."""
     steps = n // 4
     yield from (point for i in range(steps) for point in ((10 * i, 10 * i), (10 * i + 10, 10 * i)))
     yield from (point for i in reversed(range(steps)) for point in ((10 * i + 10, 10 * i + 30), (10 * i, 10 * i + 30)))
 
 
-def crossing(side):
+def crossing(side: int) -> Boxes:
     """As many upright wires as level ones, one shape of 2 * side * side + side tiles."""
     yield from ((40 * i, 0, 40 * i + 10, 40 * side) for i in range(side))
     yield from ((0, 40 * j + 20, 40 * side, 40 * j + 30) for j in range(side))
 
 
-def hundred_thousand_tiles():
+def hundred_thousand_tiles() -> Boxes:
     """Ten upright wires and 9,090 level ones."""
     yield from ((40 * i, 0, 40 * i + 10, 363_600) for i in range(10))
     yield from ((0, 40 * j + 20, 400, 40 * j + 30) for j in range(9_090))
 
 
-def unit_boxes(n):
+def unit_boxes(n: int) -> Boxes:
     """n boxes of 1 by 1 in thirty columns, all close to one another."""
     yield from ((2 * (k % 30), 2 * (k // 30), 2 * (k % 30) + 1, 2 * (k // 30) + 1) for k in range(n))
 
 
-def many_cuts():
+def many_cuts() -> Boxes:
     """141 long wires with 250 boxes between neighbours, each of which leaves places for cuts."""
     yield from ((0, 120 * w, 149_710, 120 * w + 10) for w in range(141))
     for w in range(140):
@@ -151,7 +161,7 @@ def many_cuts():
             yield (x, y, x + 10, y + 10)
 
 
-def contacts(n, pitch):
+def contacts(n: int, pitch: int) -> Boxes:
     """About n contacts of 100 in a square grid."""
     side = int(n**0.5)
     for k in range(side * side):
@@ -159,7 +169,7 @@ def contacts(n, pitch):
         yield (x, y, x + 100, y + 100)
 
 
-def dense(n, reach):
+def dense(n: int, reach: int) -> Boxes:
     """About n boxes in a square grid at a pitch that lets so many on each side be close."""
     side, pitch = int(n**0.5), 100 // reach
     for k in range(side * side):
@@ -167,67 +177,67 @@ def dense(n, reach):
         yield (x, y, x + 2, y + 2)
 
 
-def pairs_far_apart(n):
+def pairs_far_apart(n: int) -> Boxes:
     """n contacts, two and two close."""
     for x1, y1, x2, y2 in contacts(n // 2, 1000):
         yield (x1, y1, x2, y2)
         yield (x1 + 150, y1, x2 + 150, y2)
 
 
-def wire_across(n):
+def wire_across(n: int) -> Boxes:
     """A grid of contacts with one wire that ends right below all of its lowest row."""
     boxes = list(contacts(n, 300))
     yield (0, -150, max(x2 for _, _, x2, _ in boxes), -50)
     yield from boxes
 
 
-def comb(n):
+def comb(n: int) -> Boxes:
     """One shape of 2 n + 1 tiles: a spine with n teeth through it, ten others in reach of each."""
     yield (0, 0, 20 * n, 20)
     yield from ((20 * i, -400, 20 * i + 10, 400) for i in range(n))
 
 
-def hanging_comb(n):
+def hanging_comb(n: int) -> Boxes:
     """One shape: n teeth of n lengths below a spine."""
     yield (0, 0, 20 * n, 20)
     yield from ((20 * i, -2 * (i * 7919 % n) - 20, 20 * i + 10, 0) for i in range(n))
 
 
-def stairs(n):
+def stairs(n: int) -> Boxes:
     """One shape: n steps upward."""
     yield from ((10 * i, 10 * i, 10 * i + 20, 10 * i + 12) for i in range(n))
 
 
-def row(n):
+def row(n: int) -> Boxes:
     """n boxes far apart in one row, each with two ordinates of its own."""
     yield from ((200 * i, 2 * i, 200 * i + 50, 4 * n + 2 * i) for i in range(n))
 
 
-def wires_beside_boxes(n):
+def wires_beside_boxes(n: int) -> Boxes:
     """n / 2 long upright wires, and beside them n / 2 boxes one above the other."""
     half = n // 2
     yield from ((150 * i, 0, 150 * i + 10, 200 * half) for i in range(half))
     yield from ((-500, 200 * i, -400, 200 * i + 50) for i in range(half))
 
 
-def wires_between_boxes(n):
+def wires_between_boxes(n: int) -> Boxes:
     """n / 3 long upright wires, and on either side of them n / 3 boxes at the same heights."""
     third = n // 3
     yield from wires_beside_boxes(2 * third)
     yield from ((150 * third + 500, 200 * i, 150 * third + 600, 200 * i + 50) for i in range(third))
 
 
-def level_wires(n):
+def level_wires(n: int) -> Boxes:
     """n long level wires, none close to another."""
     yield from ((0, 150 * i, 100_000, 150 * i + 40) for i in range(n))
 
 
-def close_wires(n):
+def close_wires(n: int) -> Boxes:
     """n long level wires, six of them close to each."""
     yield from ((0, 30 * i, 100_000, 30 * i + 10) for i in range(n))
 
 
-def random_boxes(n, pitch=300):
+def random_boxes(n: int, pitch: int = 300) -> Boxes:
     """n boxes of up to 60 by 60, spread so that at a pitch of 300 few are close."""
     source = random.Random(7)
     size = int(pitch * n**0.5)
@@ -236,14 +246,14 @@ def random_boxes(n, pitch=300):
         yield (2 * x, 2 * y, 2 * x + 2 * source.randrange(1, 30), 2 * y + 2 * source.randrange(1, 30))
 
 
-def strip(n):
+def strip(n: int) -> Boxes:
     """n boxes in two rows, each close to its neighbours, so that n - 2 triangles stand side by side: all odd faces of one part."""
     for i in range(n):
         x, y = 75 * i, 150 * (i % 2)
         yield (x, y, x + 100, y + 100)
 
 
-def parts_apart(boxes, count):
+def parts_apart(boxes: Iterable[Box], count: int) -> Boxes:
     """So many copies of some boxes, far from one another."""
     boxes = list(boxes)
     for k in range(count):
@@ -251,7 +261,7 @@ def parts_apart(boxes, count):
         yield from ((x + x1, y + y1, x + x2, y + y2) for x1, y1, x2, y2 in boxes)
 
 
-def two_combs(n):
+def two_combs(n: int) -> Boxes:
     """Two shapes: n teeth upward from a spine, and n teeth of another one downward between them."""
     yield (0, -20, 40 * n, 0)
     yield (0, 600, 40 * n, 620)
@@ -260,7 +270,7 @@ def two_combs(n):
         yield (40 * i + 20, 200, 40 * i + 30, 610)
 
 
-def combs_back_to_back(n):
+def combs_back_to_back(n: int) -> Boxes:
     """Two shapes: n teeth downward from a spine, and n teeth of another one upward, above."""
     yield (0, -20, 40 * n, 0)
     yield (0, 600, 40 * n, 620)
@@ -269,7 +279,7 @@ def combs_back_to_back(n):
         yield (40 * i + 20, 610, 40 * i + 30, 1000)
 
 
-def long_teeth(n):
+def long_teeth(n: int) -> Boxes:
     """Two shapes as two combs, but the teeth of the first are far longer than the widest spacing."""
     yield (0, -20, 40 * n, 0)
     yield (0, 1_000_200, 40 * n, 1_000_220)
@@ -278,7 +288,7 @@ def long_teeth(n):
         yield (40 * i + 20, 999_000, 40 * i + 30, 1_000_210)
 
 
-def bars_above_teeth(n):
+def bars_above_teeth(n: int) -> Boxes:
     """Two combs: n level bars, one above the other, over n upright teeth that are far shorter."""
     yield (0, -20, 40 * n, 0)
     yield (0, 1000, 20, 1000 + 40 * n)
@@ -287,7 +297,7 @@ def bars_above_teeth(n):
         yield (10, 1000 + 40 * i, 40 * n, 1010 + 40 * i)
 
 
-def nested_stairs(count, steps):
+def nested_stairs(count: int, steps: int) -> Boxes:
     """So many staircases of level and upright boxes by turns, inside one another."""
     for k in range(count):
         x, y = -40 * k, 40 * k
@@ -300,7 +310,7 @@ def nested_stairs(count, steps):
                 y += 400
 
 
-def shaken_grid(n, pitch, by, seed):
+def shaken_grid(n: int, pitch: int, by: int, seed: int) -> Boxes:
     """A square grid of about n small boxes, each moved at random by up to so much: most faces are odd."""
     source, side = random.Random(seed), int(n**0.5)
     for k in range(side * side):
@@ -309,7 +319,7 @@ def shaken_grid(n, pitch, by, seed):
         yield (2 * x, 2 * y, 2 * x + 40, 2 * y + 40)
 
 
-def shaken_lattice(side, pitch, by, seed, rise=None):
+def shaken_lattice(side: int, pitch: int, by: int, seed: int, rise: int | None = None) -> Boxes:
     """A triangular lattice of small boxes, each moved at random by up to so much: most odd faces lie equally far from others."""
     source, rise = random.Random(seed), rise or pitch * 13 // 15
     for k in range(side * side):
@@ -319,7 +329,7 @@ def shaken_lattice(side, pitch, by, seed, rise=None):
         yield (2 * x, 2 * y, 2 * x + 40, 2 * y + 40)
 
 
-def shaken_rows(columns, rows, across, up, by, seed, shift):
+def shaken_rows(columns: int, rows: int, across: int, up: int, by: int, seed: int, shift: int) -> Boxes:
     """Rows of small boxes, every other one shifted, each box moved at random by up to so much."""
     source = random.Random(seed)
     for k in range(columns * rows):
@@ -329,14 +339,14 @@ def shaken_rows(columns, rows, across, up, by, seed, shift):
         yield (2 * x, 2 * y, 2 * x + 40, 2 * y + 40)
 
 
-def shaken_grids(count):
+def shaken_grids(count: int) -> Boxes:
     """So many shaken grids, far from one another."""
     for k in range(count):
         x, y = 20_000 * (k % 8), 20_000 * (k // 8)
         yield from ((x + x1, y + y1, x + x2, y + y2) for x1, y1, x2, y2 in shaken_grid(1_600, 45, 8, k))
 
 
-def ring(x, y, half):
+def ring(x: int, y: int, half: int) -> Boxes:
     """Five wires around a place, half as far from it as their ring is wide: odd many, each close to the next."""
     yield (x + 100 - half, y + half - 50, x - 40, y + half)
     yield (x + 40, y + half - 50, x + half - 100, y + half)
@@ -345,27 +355,27 @@ def ring(x, y, half):
     yield (x - half, y + 130 - half, x + 50 - half, y + half - 130)
 
 
-def nest(x, y, rings, half):
+def nest(x: int, y: int, rings: int, half: int) -> Boxes:
     """Rings around one another, whose hole is an odd face and all faces between them are even."""
     for k in range(rings):
         yield from ring(x, y, half + 130 * k)
 
 
-def nests(count, across, rings):
+def nests(count: int, across: int, rings: int) -> Boxes:
     """So many nests, so many of them in a row, each close to the next."""
     pitch = 2 * (400 + 130 * (rings - 1)) + 60
     for k in range(count):
         yield from nest(pitch * (k % across), pitch * (k // across), rings, 400)
 
 
-def rings_and_strip(rings, boxes):
+def rings_and_strip(rings: int, boxes: int) -> Boxes:
     """A nest whose hole is far from all other odd faces, and a strip beside the last ring."""
     yield from nest(0, 0, rings, 400)
     edge = 350 + 130 * rings
     yield from ((edge + x1, y1, edge + x2, y2) for x1, y1, x2, y2 in strip(boxes))
 
 
-def rings_between_strips(inner, rings, outer):
+def rings_between_strips(inner: int, rings: int, outer: int) -> Boxes:
     """A nest with a strip in its hole and one beside the last ring."""
     yield from ((x1 - 3_870, y1, x2 - 3_870, y2) for x1, y1, x2, y2 in strip(inner))
     yield from nest(0, 0, rings, 4_000)
@@ -373,7 +383,7 @@ def rings_between_strips(inner, rings, outer):
     yield from ((edge + x1, y1, edge + x2, y2) for x1, y1, x2, y2 in strip(outer))
 
 
-def boxes_between(n, places):
+def boxes_between(n: int, places: int) -> Boxes:
     """About n contacts, four close to each, and a small box between four of them in so many places: four odd faces each."""
     side = int(n**0.5)
     yield from contacts(n, 180)
@@ -383,14 +393,14 @@ def boxes_between(n, places):
         yield (x, y, x + 20, y + 20)
 
 
-def under_a_cover(n):
+def under_a_cover(n: int) -> Boxes:
     """n thin upright boxes side by side whose ends are at different heights, under one box that covers them."""
     yield (0, 0, 8 * n, 8 * n)
     for i in range(n):
         yield (8 * i, 2 * (i * 7919 % n) + 2, 8 * i + 2, 4 * n + 2 * (i * 104729 % n))
 
 
-def laid_over(n):
+def laid_over(n: int) -> Boxes:
     """n / 2 upright boxes that fill a square, and n / 2 level ones laid over them."""
     half, source = n // 2, random.Random(7)
     for i in range(half):
@@ -399,14 +409,14 @@ def laid_over(n):
         yield (x1, 10 * i, x2, 10 * i + 10)
 
 
-def covered(boxes, n):
+def covered(boxes: Iterable[Box], n: int) -> bytes:
     """The text of a layout with n boxes on a keep layer, none of which touches it."""
     text = layout(boxes).decode()
     kept = "".join(box(40 * i, -4000, 40 * i + 10, -3000) for i in range(n))
     return text.replace("DF;", "L K;" + kept + "DF;").encode()
 
 
-def layouts():
+def layouts() -> Iterator[tuple[str, int, Callable[[int], Boxes]]]:
     """Each with the smaller of its two sizes."""
     yield "contacts, none close", 24_500, lambda n: contacts(n, 300)
     yield "contacts, four close to each", 24_500, lambda n: contacts(n, 180)
@@ -428,7 +438,7 @@ def layouts():
     yield "crossing wires of n tiles", 49_000, lambda n: crossing(int((n / 2) ** 0.5))
 
 
-def single():
+def single() -> Iterator[tuple[str, bytes, list[str]]]:
     """Texts of one size, each with its options."""
     contacts_far = layout(contacts(40_000, 300))
     yield "contacts, boxes in 120 places: 480 odd faces", layout(boxes_between(40_000, 120)), OPTIONS
@@ -464,8 +474,8 @@ def single():
     yield "36 times thirteen shaken rows of 104 boxes", layout(others), OPTIONS
     tall = parts_apart(shaken_rows(100, 13, 60, 56, 8, 300_935, 30), 38)
     yield "38 times thirteen shaken rows of 100 boxes, coprime weights", layout(tall), COPRIME
-    ten = parts_apart(shaken_rows(152, 10, 66, 56, 9, 184_838, 25), 32)
-    yield "32 times ten shaken rows of 152 boxes, coprime weights", layout(ten), COPRIME
+    broad = parts_apart(shaken_rows(152, 10, 66, 56, 9, 184_838, 25), 32)
+    yield "32 times ten shaken rows of 152 boxes, coprime weights", layout(broad), COPRIME
     small = parts_apart(shaken_rows(161, 10, 54, 38, 5, 894_757, 28), 31)
     yield "31 times ten shaken rows of 161 boxes, coprime weights", layout(small), COPRIME
     long = parts_apart(shaken_rows(536, 4, 39, 51, 10, 25_618, 11), 23)
@@ -493,7 +503,7 @@ def single():
     yield "2,000 nests of five rings in a row, three lengths", layout(nests(2_000, 2_000, 5)), CORNERS
 
 
-def crossed():
+def crossed() -> Iterator[tuple[str, int, Callable[[int], Boxes]]]:
     """Layouts whose links cross, each with the smaller of its two sizes."""
     yield "contacts, eight close to each", 1_250, lambda n: contacts(n, 160)
     yield "parts of 400 contacts, eight close to each", 24_000, lambda n: parts_apart(contacts(400, 160), n // 400)
@@ -502,7 +512,7 @@ def crossed():
     yield "boxes, each two a clash, n clashes", 199_000, lambda n: unit_boxes(int((2 * n) ** 0.5))
 
 
-def layers(named):
+def layers(named: Iterable[str]) -> Iterator[tuple[str, bytes, list[str]]]:
     """The layouts named LAYOUT:LAYER:SPACE:OVERLAP, each with its options."""
     for one in named:
         path, layer, space, overlap = one.rsplit(":", 3)
@@ -510,7 +520,7 @@ def layers(named):
             yield os.path.basename(one), file.read(), ["--layer", layer, "--space", space, "--overlap", overlap]
 
 
-def polygons():
+def polygons() -> Iterator[tuple[str, int, Callable[[int], Corners]]]:
     """Each with the smaller of its two numbers of corners."""
     yield "a comb as one polygon", 24_000, comb_polygon
     yield "stairs as one polygon", 24_000, stairs_polygon
@@ -519,7 +529,7 @@ def polygons():
 # ---- edits; corners are in grid units of half a hundredth
 
 
-def made(rows, columns, state=7):
+def made(rows: int, columns: int, state: int = 7) -> bytes:
     """The made layout of `load`, by the rule of dpl_gen; these numbers are hundredths of a micron."""
     lines = ["L M;"]
     for row in range(rows):
@@ -533,15 +543,15 @@ def made(rows, columns, state=7):
     return "\n".join([*lines, "E"]).encode()
 
 
-def add(rect):
+def add(rect: Box) -> str:
     return "add %d %d %d %d" % rect
 
 
-def lines_of(edits):
+def lines_of(edits: Iterable[str]) -> bytes:
     return "".join(line + "\n" for line in edits).encode()
 
 
-def near_edits(rects):
+def near_edits(rects: Sequence[Box]) -> Iterator[str]:
     """Lines without end that put a small box beside a rectangle of the layer and take it away, all over the layer."""
     for k in itertools.count():
         x, y, _, _ = rects[k * 7919 % len(rects)]
@@ -549,7 +559,7 @@ def near_edits(rects):
         yield "remove %d" % k
 
 
-def far_edits(rects):
+def far_edits(rects: Sequence[Box]) -> Iterator[str]:
     """The same off the layer."""
     right = max(rect[2] for rect in rects) + 10_000
     for k in itertools.count():
@@ -557,17 +567,17 @@ def far_edits(rects):
         yield "remove %d" % k
 
 
-def edited(named):
+def edited(named: Iterable[str]) -> Iterator[tuple[str, bytes, list[str], int]]:
     """Each with its options, and how many lines are timed."""
     yield "made, 100 by 100", made(100, 100), OPTIONS, 20
     yield "a strip of 512 odd faces, 1,000 edits", layout(strip(514)), OPTIONS, 1_000
-    yield from ((*case, 20) for case in layers(named))
+    yield from ((name, text, options, 20) for name, text, options in layers(named))
 
 
 # ---- running
 
 
-def timed(words, text, limit):
+def timed(words: list[str], text: bytes, limit: float) -> Run:
     """Seconds of processor time, peak megabytes and exit status of one run. The memory is told by GNU time, which is
     small itself: a program that Python starts has Python's own memory for a peak."""
     with tempfile.TemporaryFile() as source, tempfile.NamedTemporaryFile() as told:
@@ -584,13 +594,13 @@ def timed(words, text, limit):
     return usage.ru_utime + usage.ru_stime, peak, code
 
 
-def report(name, size, run, times=""):
+def report(name: str, size: int, run: Run, times: str = "") -> None:
     seconds, peak, code = run
     print("%-42s %9.3f %7.1f %8.1f %6s %6s" % (name, seconds, size / 1e6 / max(seconds, 1e-3), peak, code, times),
           flush=True)
 
 
-def check_spaces(asked, size):
+def check_spaces(asked: argparse.Namespace, size: int) -> Run:
     """A check of a report of so many spaces."""
     with tempfile.NamedTemporaryFile() as second:
         for _ in range(size >> 20):
@@ -600,7 +610,7 @@ def check_spaces(asked, size):
         return least(asked, ["check", *OPTIONS, "--report", second.name], b"E")
 
 
-def time_layer(asked, name, text, options):
+def time_layer(asked: argparse.Namespace, name: str, text: bytes, options: list[str]) -> None:
     """A split of a layer, a check of its report, a balanced split and a refined one."""
     report(f"{name}, split", len(text), least(asked, ["split", *options], text))
     with tempfile.NamedTemporaryFile() as second:
@@ -610,9 +620,9 @@ def time_layer(asked, name, text, options):
         report(f"{name}, {command}", len(text), least(asked, [command, *options], text))
 
 
-def pair(asked, name, size, text_of, command="split"):
+def pair(asked: argparse.Namespace, name: str, size: int, text_of: Callable[[int], bytes], command: str = "split") -> None:
     """A case at its size and at twice as much."""
-    before = None
+    before: float | None = None
     for n in (size, 2 * size):
         text = text_of(n)
         run = least(asked, [command, *OPTIONS], text)
@@ -622,12 +632,12 @@ def pair(asked, name, size, text_of, command="split"):
             break
 
 
-def least(asked, words, text):
+def least(asked: argparse.Namespace, words: list[str], text: bytes) -> Run:
     """The run that took least, of as many as are asked for."""
     return min(timed([asked.binary, *words], text, asked.seconds) for _ in range(asked.runs))
 
 
-def time_edits(asked, name, text, options, count):
+def time_edits(asked: argparse.Namespace, name: str, text: bytes, options: list[str], count: int) -> None:
     """A split, and one edit of so many."""
     split = subprocess.run([asked.binary, "split", *options], input=text, capture_output=True, check=False)
     if split.returncode:
@@ -639,17 +649,18 @@ def time_edits(asked, name, text, options, count):
         script = list(itertools.islice(lines, count + 1))
         first, all_of_them = (scripted(asked, lines_of(script[:k]), text, options) for k in (1, count + 1))
         shown.append((all_of_them[0] - first[0]) / count if all_of_them[2] == "0" else float("nan"))
-    print("%-42s %9.3f %9.4f %9.4f %6.2f" % (name, *shown, shown[1] / shown[0]), flush=True)
+    whole, near, far = shown
+    print("%-42s %9.3f %9.4f %9.4f %6.2f" % (name, whole, near, far, near / whole), flush=True)
 
 
-def scripted(asked, script, text, options):
+def scripted(asked: argparse.Namespace, script: bytes, text: bytes, options: list[str]) -> Run:
     with tempfile.NamedTemporaryFile() as second:
         second.write(script)
         second.flush()
         return least(asked, ["edit", *options, "--script", second.name], text)
 
 
-def main():
+def main() -> None:
     words = argparse.ArgumentParser(description="Times the built program on large texts and layouts, and edits.")
     words.add_argument("binary", nargs="?", default=os.path.join(TOP, "crates", "dpl", "out", "dpl"))
     words.add_argument("layouts", nargs="*", metavar="LAYOUT:LAYER:SPACE:OVERLAP")
@@ -661,9 +672,9 @@ def main():
     for side in (40, 100, 200):
         if asked.only in (name := f"made, {side} by {side}"):
             report(name, 0, least(asked, ["load", "--start", "7", "--rows", str(side), "--columns", str(side)], b""))
-    for name, *case in layers(asked.layouts):
+    for name, text, options in layers(asked.layouts):
         if asked.only in name:
-            time_layer(asked, name, *case)
+            time_layer(asked, name, text, options)
     for name, text in texts():
         if asked.only in name:
             report(name, len(text), least(asked, ["split", *OPTIONS], text))
@@ -684,9 +695,9 @@ def main():
         if asked.only in name:
             pair(asked, name, size, lambda n: polygon(points(n)))
     print("%-42s %9s %9s %9s %6s" % ("seconds", "split", "a near", "a far", "times"))
-    for name, *case in edited(asked.layouts):
+    for name, text, options, count in edited(asked.layouts):
         if asked.only in name:
-            time_edits(asked, name, *case)
+            time_edits(asked, name, text, options, count)
 
 
 if __name__ == "__main__":

@@ -9,6 +9,8 @@ rounds to whole hundredths of a micron; Magic joins boxes, so for it the areas m
 shows something else.
 """
 
+from __future__ import annotations
+
 import argparse
 import json
 import os
@@ -16,6 +18,7 @@ import subprocess
 import sys
 import tempfile
 from collections import Counter
+from typing import Any, List, Tuple
 
 TOP = os.path.dirname(os.path.dirname(os.path.abspath(__file__)))
 sys.path.insert(0, os.path.join(TOP, "tools"))
@@ -23,6 +26,9 @@ import klayout
 from net import Report
 
 NAMES = "CMF,CMS"
+
+# how often each box is on mask A and on mask B
+Masks = List["Counter[Tuple[float, ...]]"]
 
 # writes the boxes of each layer, in half hundredths of a micron
 BY_KLAYOUT = '''
@@ -107,7 +113,7 @@ for (cells = read.getCells(); cells.hasNext(); ) {{
 """
 
 
-def shown_by_klayout(source):
+def shown_by_klayout(source: str) -> Masks:
     target = f"{source}.json"
     klayout.run(BY_KLAYOUT, source=source, target=target)
     with open(target, encoding="utf-8") as file:
@@ -115,14 +121,14 @@ def shown_by_klayout(source):
     return [Counter(map(tuple, found.get(name, []))) for name in NAMES.split(",")]
 
 
-def shown_by_electric(source):
+def shown_by_electric(source: str) -> Masks:
     script = f"{source}.bsh"
     with open(script, "w", encoding="utf-8") as file:
         file.write(ELECTRIC.format(source=source))
     # it writes its log where it stands
-    where = {"cwd": os.path.dirname(source), "capture_output": True, "text": True, "timeout": 600}
+    where: dict[str, Any] = {"cwd": os.path.dirname(source), "capture_output": True, "text": True, "timeout": 600}
     ran = subprocess.run(["electric", "-batch", "-s", script], check=False, **where)
-    found = {"Metal-1-Node": Counter(), "Metal-2-Node": Counter()}
+    found: dict[str, Counter[tuple[float, ...]]] = {"Metal-1-Node": Counter(), "Metal-2-Node": Counter()}
     for line in ran.stdout.splitlines():
         if line.startswith("box "):
             _, node, *numbers = line.split()
@@ -130,20 +136,21 @@ def shown_by_electric(source):
     return list(found.values())
 
 
-def differs_in_magic(source):
+def differs_in_magic(source: str) -> float:
     """The area that Magic shows otherwise, in square hundredths of a micron."""
     stem, target = source[: -len(".cif")], f"{source}.area"
     with open(f"{stem}.tcl", "w", encoding="utf-8") as file:
         file.write(MAGIC.format(stem=stem))
     words = ["magic", "-dnull", "-noconsole", "-T", "scmos", f"{stem}.tcl"]
-    where = {"cwd": os.path.dirname(source), "stdin": subprocess.DEVNULL, "capture_output": True, "timeout": 600}
+    where: dict[str, Any] = {"cwd": os.path.dirname(source), "stdin": subprocess.DEVNULL, "capture_output": True, "timeout": 600}
     subprocess.run(words, check=False, **where)
     klayout.run(BY_MAGIC, source=source, written=f"{stem}-magic.gds", target=target)
     with open(target, encoding="utf-8") as file:
-        return sum(json.load(file).values())
+        differs: dict[str, float] = json.load(file)
+    return sum(differs.values())
 
 
-def report_of(case, program, folder):
+def report_of(case: str, program: str, folder: str) -> str:
     if ":" not in case:
         return case
     layout, layer, space, overlap = case.rsplit(":", 3)
@@ -154,7 +161,7 @@ def report_of(case, program, folder):
     return report
 
 
-def tried(case, program):
+def tried(case: str, program: str) -> bool:
     """Whether all three show what the report has, and a line for each."""
     with tempfile.TemporaryDirectory() as folder:
         report = report_of(case, program, folder)
@@ -163,7 +170,7 @@ def tried(case, program):
             subprocess.run([os.path.join(TOP, "tools", "masks"), report, "--divide", "1", "--names", NAMES], stdout=file, check=True)
         with open(report, "rb") as file:
             read = Report(file.read())
-        wanted = [Counter(read.boxes(letter)) for letter in "AB"]
+        wanted: Masks = [Counter(read.boxes(letter)) for letter in "AB"]
         count, half = sum(sum(boxes.values()) for boxes in wanted), off_hundredths(wanted)
         by_klayout, by_electric = difference(wanted, shown_by_klayout(source)), difference(wanted, shown_by_electric(source))
         area = differs_in_magic(source)
@@ -173,16 +180,16 @@ def tried(case, program):
         return by_klayout == 0 and by_electric <= 2 * half and area == 0
 
 
-def difference(wanted, found):
+def difference(wanted: Masks, found: Masks) -> int:
     """How many boxes are missing or too many."""
     return sum(sum(((w - f) + (f - w)).values()) for w, f in zip(wanted, found))
 
 
-def off_hundredths(wanted):
+def off_hundredths(wanted: Masks) -> int:
     return sum(any(number % 2 for number in box) for boxes in wanted for box in boxes.elements())
 
 
-def main():
+def main() -> None:
     parser = argparse.ArgumentParser(usage="bench/viewers.py [--program BINARY] LAYOUT:LAYER:SPACE:OVERLAP.. REPORT..")
     parser.add_argument("--program", default=os.path.join(TOP, "crates", "dpl", "out", "dpl"))
     parser.add_argument("cases", nargs="+")

@@ -5,6 +5,8 @@ Where no program stands the launcher judges the words by tools/words.py, so both
 gate.
 """
 
+from __future__ import annotations
+
 import os
 import random
 import re
@@ -20,7 +22,7 @@ ODD = ["", "0", "-1", "m", "M_1", "A" * 32, "201", "100001", "1000001", "1000000
 NAMES = [*OPTIONS, "", "lay", "Layer", "-", "--"]
 
 
-def words_of(chance):
+def words_of(chance: random.Random) -> list[str]:
     """A random command line, most of them nearly right."""
     command = chance.choice([*COMMANDS, *COMMANDS, "splt", "", "-h", "--layer"])
     options = [chance.choice(NAMES) for _ in range(chance.randrange(4))]
@@ -42,14 +44,14 @@ def words_of(chance):
     return words[: chance.randrange(len(words) + 1)] if chance.random() < 0.03 else words
 
 
-def kind_of(program, words):
+def kind_of(program: str, words: list[str]) -> int | None:
     """The rule by which the program refuses the words, or None."""
     ran = subprocess.run([program, *words], stdin=subprocess.DEVNULL, capture_output=True, check=False)
     found = re.fullmatch(rb"dpl: usage (\d)\n", ran.stderr)
     return int(found[1]) if found else None
 
 
-def main(count=2_000, program=os.path.join(TOP, "crates", "dpl", "out", "dpl")):
+def main(count: str | int = 2_000, program: str = os.path.join(TOP, "crates", "dpl", "out", "dpl")) -> None:
     differ = 0
     for seed in range(int(count)):
         words = words_of(random.Random(seed))
