@@ -16,18 +16,26 @@ something set aside, sums over these, sums over those whose least cost is known,
 1 where something is wrong. No part of the gate.
 """
 
+from __future__ import annotations
+
 import argparse
 import os
 import random
 import sys
 import tempfile
 from collections import Counter
+from typing import Any, Dict, List, Tuple
 
 sys.path.insert(0, os.path.dirname(os.path.abspath(__file__)))
 import run
 from edits import Program, layout_of, some_box
 from hostile import timed
 from net import Classes, Report, edges_of, weight
+
+Box = Tuple[int, int, int, int]
+Tally = Dict[Any, Any]
+# what two pieces cost together, on one mask and on two
+Pairs = Dict[Tuple[int, int], List[int]]
 
 MOST_PIECES = 14
 
@@ -38,7 +46,7 @@ SIDES = [2, 2, 3, 3, 4, 5, 8, 13]
 # ---- random layouts; corners are in grid units of half a hundredth of a micron
 
 
-def shaken(chance):
+def shaken(chance: random.Random) -> tuple[int, list[Box]]:
     """A spacing, and boxes in a grid, some of them joined, some left out: four in a square are all close to one another."""
     across, up = chance.choice(SIDES), chance.choice(SIDES)
     size, by = chance.choice([40, 80, 120]), chance.choice([0, 10, 30])
@@ -53,7 +61,7 @@ def shaken(chance):
     return 100, boxes
 
 
-def tracks(chance):
+def tracks(chance: random.Random) -> tuple[int, list[Box]]:
     """A spacing, and level wires of random ends on tracks, with upright ones between some: the second next track is close."""
     pitch, wide = 160, chance.choice([40, 60, 80])
     reach = chance.choice([pitch + 20, 2 * pitch - wide, 2 * pitch - wide + 20, 2 * pitch + 20])
@@ -70,7 +78,7 @@ def tracks(chance):
     return reach // 2, boxes
 
 
-def bends(chance):
+def bends(chance: random.Random) -> tuple[int, list[Box]]:
     """A spacing, and wires of two arms."""
     count = chance.choice(SIDES) * chance.choice(SIDES)
     side = int(count**0.5 * chance.choice([160, 200, 240, 300]))
@@ -86,7 +94,7 @@ def bends(chance):
 class Case:
     """A random layout with its options."""
 
-    def __init__(self, seed):
+    def __init__(self, seed: int) -> None:
         chance = random.Random(seed)
         space, self.boxes = chance.choice([shaken, tracks, bends])(chance)
         self.words, kept = ["--layer", "M", "--space", str(space), "--overlap", chance.choice(["5", "10", "20"])], []
@@ -105,7 +113,7 @@ class Case:
 class Pieces:
     """The pieces of a report's net, their masks, and what each two of them cost together."""
 
-    def __init__(self, report):
+    def __init__(self, report: Report) -> None:
         edges = edges_of(report)
         pieces, self.parts = Classes(len(report.fragments)), Classes(len(report.fragments))
         for edge in edges:
@@ -114,38 +122,39 @@ class Pieces:
                 pieces.join(edge.first, edge.second)
         self.masks = {pieces.root(node): mask for node, mask in enumerate(report.letters)}
         self.agree = all(self.masks[pieces.root(node)] == mask for node, mask in enumerate(report.letters))
-        self.pairs = {}
+        self.pairs: Pairs = {}
         for number, edge in enumerate(edges):
             p, q = sorted((pieces.root(edge.first), pieces.root(edge.second)))
-            if p != q:
+            cost = weight(report, edges, number)
+            if p != q and cost is not None:
                 costs = self.pairs.setdefault((p, q), [0, 0])
-                costs[edge.kind == "stitch"] += weight(report, edges, number)
+                costs[edge.kind == "stitch"] += cost
 
-    def cost(self):
+    def cost(self) -> int:
         """What the masks cost."""
         return sum(costs[self.masks[p] != self.masks[q]] for (p, q), costs in self.pairs.items())
 
-    def most_won(self):
+    def most_won(self) -> int:
         """The most that any piece wins where it alone is turned over."""
-        won = Counter()
+        won: Counter[int] = Counter()
         for (p, q), costs in self.pairs.items():
             differ = self.masks[p] != self.masks[q]
             won[p] += costs[differ] - costs[not differ]
             won[q] += costs[differ] - costs[not differ]
         return max(won.values(), default=0)
 
-    def components(self):
+    def components(self) -> list[Pairs]:
         """The pairs of each component."""
-        found = {}
+        found: dict[int, Pairs] = {}
         for (p, q), costs in self.pairs.items():
             found.setdefault(self.parts.root(p), {})[p, q] = costs
         return list(found.values())
 
 
-def least(pairs):
+def least(pairs: Pairs) -> int:
     """What the best masks of a component cost, by all of them: in each step one piece is turned over."""
     places = {p: k for k, p in enumerate(sorted({p for pair in pairs for p in pair}))}
-    beside = [[] for _ in places]
+    beside: list[list[tuple[int, int]]] = [[] for _ in places]
     for (p, q), (same, differ) in pairs.items():
         beside[places[p]].append((places[q], differ - same))
         beside[places[q]].append((places[p], differ - same))
@@ -159,7 +168,7 @@ def least(pairs):
     return best
 
 
-def optimum(pieces):
+def optimum(pieces: Pieces) -> int | None:
     """What the best masks cost, or None where a component has too many pieces to try them all."""
     components = pieces.components()
     if any(len({p for pair in pairs for p in pair}) > MOST_PIECES for pairs in components):
@@ -170,7 +179,7 @@ def optimum(pieces):
 # ---- judging
 
 
-def judged(split, refined):
+def judged(split: Report, refined: Report) -> tuple[list[str], int | None]:
     """What is wrong with a refined report, beside that of a split, and the least cost where it is known."""
     cost, bound = refined.values["cost"], refined.values["bound"]
     pieces = Pieces(refined)
@@ -189,7 +198,7 @@ def judged(split, refined):
     return told, best
 
 
-def try_layout(program, words, layout, seen):
+def try_layout(program: Program, words: list[str], layout: bytes, seen: Tally) -> list[str]:
     """What is wrong with the answers to one layout."""
     splits, seconds, _ = timed(program.binary, ["split", *words], layout)
     runs = [timed(program.binary, ["refine", *words], layout) for _ in range(2)]
@@ -217,24 +226,24 @@ def try_layout(program, words, layout, seen):
     return told + wrong
 
 
-def count(seen, kind, split, report):
+def count(seen: Tally, kind: str, split: Report, report: Report) -> None:
     seen[kind] += 1
     for name, one in (("split", split), ("refined", report)):
         seen[kind, name, "cost"] += one.values["cost"]
         seen[kind, name, "bound"] += one.values["bound"]
 
 
-def sums(seen, kind):
+def sums(seen: Tally, kind: str) -> str:
     both = (("%s: cost %d, half bound %.1f" % (name, seen[kind, name, "cost"], seen[kind, name, "bound"] / 2)) for name in ("split", "refined"))
     return ", ".join(both)
 
 
-def tell_layer(name, seen):
+def tell_layer(name: str, seen: Tally) -> None:
     took = "%.2f and %.2f s" % (seen["split", "seconds"], seen["refined", "seconds"])
     print("%-30s %s" % (name, ", ".join([sums(seen, "aside") if seen["aside"] else "nothing is set aside", took])), flush=True)
 
 
-def tell(seen, wrong):
+def tell(seen: Tally, wrong: int) -> None:
     print("%d layouts, %d of them with something set aside, %d wrong" % (seen["layouts"], seen["aside"], wrong))
     print("of these %s" % sums(seen, "aside"))
     print("the least cost is known of %d, %d in all, and reached in %d" % (seen["known"], seen["least cost"], seen["least reached"]))
@@ -242,11 +251,12 @@ def tell(seen, wrong):
     print("the slowest refine took %.2f s" % seen["slowest"])
 
 
-def try_all(program, asked):
+def try_all(program: Program, asked: argparse.Namespace) -> int:
     """How many things are wrong with the answers to all layouts."""
-    wrong, seen = 0, Counter()
+    wrong = 0
+    seen: Tally = Counter()
     for name, layout, words in run.layers(asked.layers):
-        one = Counter()
+        one: Tally = Counter()
         told = try_layout(program, words, layout, one)
         tell_layer(name, one)
         for what in told:
@@ -262,13 +272,13 @@ def try_all(program, asked):
     return wrong
 
 
-def main():
-    asked = argparse.ArgumentParser(description="Tries the command `refine` where links cross.")
-    asked.add_argument("binary", nargs="?", default=os.path.join(run.TOP, "crates", "dpl", "out", "dpl"))
-    asked.add_argument("layers", nargs="*", metavar="LAYOUT:LAYER:SPACE:OVERLAP")
-    asked.add_argument("--layouts", type=int, default=200)
-    asked.add_argument("--from", type=int, default=0, dest="first")
-    asked = asked.parse_intermixed_args()
+def main() -> int:
+    parser = argparse.ArgumentParser(description="Tries the command `refine` where links cross.")
+    parser.add_argument("binary", nargs="?", default=os.path.join(run.TOP, "crates", "dpl", "out", "dpl"))
+    parser.add_argument("layers", nargs="*", metavar="LAYOUT:LAYER:SPACE:OVERLAP")
+    parser.add_argument("--layouts", type=int, default=200)
+    parser.add_argument("--from", type=int, default=0, dest="first")
+    asked = parser.parse_intermixed_args()
     with tempfile.TemporaryDirectory() as folder:
         return 1 if try_all(Program(asked.binary, folder), asked) else 0
 

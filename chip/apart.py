@@ -6,7 +6,7 @@ What a part has is taken from its report, and the rest from the layout itself, s
 import math
 from typing import Any
 
-import pya
+import pya  # type: ignore[import]
 
 from bound import Run
 from cover import cover

@@ -7,7 +7,7 @@ import json
 import os
 from typing import Any
 
-from jsonschema import Draft7Validator
+from jsonschema import Draft7Validator  # type: ignore[import]
 
 from refused import Refused, RefusedAll
 

@@ -22,8 +22,8 @@ from refused import Refused, guard
 from reports import Report
 
 # What KLayout is run with.
-folder: str
-batch: str
+folder: str = globals()["folder"]
+batch: str = globals()["batch"]
 
 
 class Batch:

@@ -14,7 +14,6 @@ from typing import Any
 sys.path.insert(0, os.path.dirname(os.path.abspath(__file__)))
 
 import numpy
-import pya
 
 from bound import Run
 from boxes import NOT_BOXES, bounds_of, boxes_of, lines_of, meeting
@@ -29,8 +28,8 @@ from source import Source
 from windows import Windows
 
 # What KLayout is run with.
-folder: str
-band: str
+folder: str = globals()["folder"]
+band: str = globals()["band"]
 
 # A window takes this many times the size of a part, since a share of it crosses its sides, and a part at most so many.
 ROOM, MOST = 1.1, 1.5

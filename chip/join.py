@@ -7,7 +7,7 @@ from typing import Any
 
 sys.path.insert(0, os.path.dirname(os.path.abspath(__file__)))
 
-import pya
+import pya  # type: ignore[import]
 
 from bound import Run
 from files import read_json, read_text, sum_of, write_json, written
@@ -19,8 +19,8 @@ from reports import Report
 from table import row_of, table_of
 
 # What KLayout is run with.
-folder: str
-masks: str
+folder: str = globals()["folder"]
+masks: str = globals()["masks"]
 
 
 def join(run: Run, target: str) -> None:

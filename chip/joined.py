@@ -3,7 +3,7 @@
 import tempfile
 from typing import Any
 
-import pya
+import pya  # type: ignore[import]
 
 from bound import Run
 from files import holds, read_json

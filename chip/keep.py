@@ -3,7 +3,7 @@
 import copy
 from typing import Any
 
-import pya
+import pya  # type: ignore[import]
 
 from settings import Settings
 from source import Source

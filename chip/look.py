@@ -11,7 +11,7 @@ from refused import guard
 from source import Source
 
 # What KLayout is run with.
-folder: str
+folder: str = globals()["folder"]
 
 
 def look(run: Run) -> None:

@@ -7,14 +7,21 @@ two sides of it, so that clusters cross the windows of a cut. One crowd of conta
 and layers besides have faults.
 """
 
-import pya
+from typing import Any
+
+import pya  # type: ignore[import]
+
+# What KLayout is run with.
+target: str = globals()["target"]
+
+Corners = tuple[int, int, int, int]
 
 PITCH = 4000
 ROWS, COLUMNS = 4, 6
 CROWD = 36
 
 
-def boxes_of_block():
+def boxes_of_block() -> list[Corners]:
     """Corners in nanometres, for a spacing of 100 and an overlap of 20."""
     triangle = [(0, 0, 100, 100), (150, 0, 250, 100), (75, 150, 175, 250)]
     stitch = [(0, 0, 1000, 100), (0, 150, 100, 250), (900, 150, 1000, 250), (0, 300, 450, 400), (500, 300, 1000, 400)]
@@ -30,11 +37,11 @@ def boxes_of_block():
     )
 
 
-def moved(boxes, x, y):
+def moved(boxes: list[Corners], x: int, y: int) -> list[Corners]:
     return [(a + x, b + y, c + x, d + y) for a, b, c, d in boxes]
 
 
-def block(layout, layer):
+def block(layout: Any, layer: int) -> Any:
     cell = layout.create_cell("BLOCK")
     for corners in boxes_of_block():
         cell.shapes(layer).insert(pya.Box(*corners))
@@ -44,7 +51,7 @@ def block(layout, layer):
     return cell
 
 
-def crowd(layout, layer):
+def crowd(layout: Any, layer: int) -> Any:
     """Contacts of one unit so near to one another that they have more close pairs than `dpl` takes."""
     cell = layout.create_cell("CROWD")
     for k in range(CROWD * CROWD):
@@ -53,7 +60,7 @@ def crowd(layout, layer):
     return cell
 
 
-def faults(layout, top):
+def faults(layout: Any, top: Any) -> None:
     slanted = layout.layer(pya.LayerInfo(20, 0))
     top.shapes(slanted).insert(pya.Polygon([pya.Point(0, 0), pya.Point(100, 0), pya.Point(50, 80)]))
     fine = layout.layer(pya.LayerInfo(21, 0))
@@ -63,7 +70,7 @@ def faults(layout, top):
     top.shapes(names).insert(pya.Text("NAME", pya.Trans()))
 
 
-def array(layout, layer, rows):
+def array(layout: Any, layer: int, rows: int) -> Any:
     """The blocks, the upper half of them mirrored, a wire along each row, and a polygon along two sides of all.
 
     A keep layer lies over all of it.
@@ -84,7 +91,7 @@ def array(layout, layer, rows):
     return cell
 
 
-def main():
+def main() -> None:
     layout = pya.Layout()
     layout.dbu = 0.001
     layer = layout.layer(pya.LayerInfo(10, 0))

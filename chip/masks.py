@@ -4,7 +4,7 @@ import os
 from collections.abc import Iterable
 from typing import Any
 
-import pya
+import pya  # type: ignore[import]
 
 from refused import Refused
 from reports import Report

@@ -1,18 +1,24 @@
 """Shows the first marker of a category in KLayout's marker browser, and takes a picture of the screen. See `picture`."""
 
-import pya
+from typing import Any
+
+import pya  # type: ignore[import]
+
+# What KLayout is run with.
+category: str = globals()["category"]
+target: str = globals()["target"]
 
 
-def settle(times=40):
+def settle(times: int = 40) -> None:
     for _ in range(times):
         pya.QApplication.processEvents()
 
 
-def widgets(name):
+def widgets(name: str) -> list[Any]:
     return [widget for widget in pya.QApplication.allWidgets() if widget.objectName == name]
 
 
-def child(model, parent, wanted):
+def child(model: Any, parent: Any, wanted: str) -> Any:
     """The first row under a parent whose text begins as wanted."""
     for row in range(model.rowCount(parent)):
         index = model.index(row, 0, parent)
@@ -21,7 +27,7 @@ def child(model, parent, wanted):
     raise RuntimeError(f"{wanted} is not in the marker browser")
 
 
-def main():
+def main() -> None:
     window = pya.MainWindow.instance()
     window.setGeometry(0, 0, 1280, 520)
     settle()

@@ -10,15 +10,21 @@ import sys
 
 sys.path.insert(0, os.path.dirname(os.path.abspath(__file__)))
 
-import pya
+import pya  # type: ignore[import]
 
 from asked import runs_of
 from refused import guard
 from settings import Settings
 from source import Source
 
+# What KLayout is run with.
+settings: str = globals()["settings"]
+times: str = globals()["times"]
+gap: str = globals()["gap"]
+target: str = globals()["target"]
 
-def main():
+
+def main() -> None:
     source = Source(Settings(runs_of(settings)[0], "/"))
     layout = pya.Layout()
     layout.dbu = source.layout.dbu

@@ -3,18 +3,19 @@
 import math
 import os
 import sys
+from typing import Any
 
 sys.path.append(os.path.join(os.path.dirname(os.path.abspath(__file__)), "..", "tools"))
 
-import pya
+import pya  # type: ignore[import]
 
 import reading
 from cif import Unreadable
-from settings import Refused, ratio_of
+from settings import Refused, Settings, ratio_of
 
 
 class Source:
-    def __init__(self, settings):
+    def __init__(self, settings: Settings) -> None:
         self.settings = settings
         self.layout, self.layer = read_layer(settings)
         self.cell = top_of(self.layout, self.layer, settings)
@@ -25,20 +26,20 @@ class Source:
         if self.bounds.empty():
             raise Refused(f"layer {settings.layer} of {settings.layout} is empty")
 
-    def shapes(self, where, flags=pya.Shapes.SAll, over=False):
+    def shapes(self, where: Any, flags: Any = pya.Shapes.SAll, over: bool = False) -> Any:
         """The shapes of the layer that meet a box or a region, or share some area with it, as they are drawn."""
         found = pya.Region(self.iterator(where, flags, over))
         found.merged_semantics = False
         return found
 
-    def iterator(self, where, flags=pya.Shapes.SAll, over=False):
+    def iterator(self, where: Any, flags: Any = pya.Shapes.SAll, over: bool = False) -> Any:
         found = pya.RecursiveShapeIterator(self.layout, self.cell, self.layer, where, over)
         found.shape_flags = flags
         return found
 
-    def count(self):
+    def count(self) -> int:
         """How many shapes the layer has after all instances."""
-        known = {}
+        known: dict[int, int] = {}
         for index in self.layout.each_cell_bottom_up():
             cell = self.layout.cell(index)
             below = sum(known[i.cell_index] * max(1, i.na) * max(1, i.nb) for i in cell.each_inst())
@@ -46,7 +47,7 @@ class Source:
         return known[self.cell.cell_index()]
 
 
-def read_layer(settings):
+def read_layer(settings: Settings) -> tuple[Any, int]:
     info = pya.LayerInfo.from_string(str(settings.layer))
     options = pya.LoadLayoutOptions()
     chosen = pya.LayerMap()
@@ -63,14 +64,14 @@ def read_layer(settings):
     return layout, layer
 
 
-def read(path, options):
+def read(path: str, options: Any) -> Any:
     try:
         return reading.read(path, options)
     except Unreadable as error:
         raise Refused(f"{path}: {error}") from error
 
 
-def top_of(layout, layer, settings):
+def top_of(layout: Any, layer: int, settings: Settings) -> Any:
     if settings.top:
         if not layout.has_cell(settings.top):
             raise Refused(f"cell {settings.top} is not in {settings.layout}")

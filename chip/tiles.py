@@ -5,7 +5,7 @@ from functools import lru_cache
 from typing import Any
 
 import numpy
-import pya
+import pya  # type: ignore[import]
 
 from bound import Run
 from files import read_text

@@ -25,9 +25,9 @@ from tiles import Tiles
 from verdict import write_verdict
 
 # What KLayout is run with.
-folder: str
-masks: str
-threads: str
+folder: str = globals()["folder"]
+masks: str = globals()["masks"]
+threads: str = globals()["threads"]
 
 # What a process that is forked off finds here, the first one has read.
 work: list[Joined | Tiles] = []

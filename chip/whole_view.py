@@ -1,6 +1,6 @@
 """Before a file is loaded: all levels of cells are shown, and no tip stands in the way."""
 
-import pya
+import pya  # type: ignore[import]
 
 application = pya.Application.instance()
 application.set_config("full-hierarchy-new-cell", "true")

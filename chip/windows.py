@@ -2,7 +2,7 @@
 
 from typing import Any
 
-import pya
+import pya  # type: ignore[import]
 
 from source import Source
 
