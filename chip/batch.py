@@ -18,7 +18,7 @@ from markers import Marked, items_of
 from masks import Reader
 from part import split
 from records import STAGES, Part, changed_files, inputs_of, is_of, path_of, record_of, record_path, write_record
-from refused import Refused, guard
+from refused import Refused, guard, said
 from reports import Report
 
 # What KLayout is run with.
@@ -42,8 +42,8 @@ class Batch:
         for part in parts:
             try:
                 self.part(part)
-            except (Refused, RuntimeError, OSError) as error:
-                raise Refused(f"part {part['name']}: {error}") from error
+            except Exception as error:
+                raise Refused(f"part {part['name']}: {said(error)}") from error
         self.run.see_dpl()
         records = {part["name"]: sum_of(record_path(self.run, part)) for part in parts}
         write_json(self.run.path("batches", f"{self.number}.json"), records)

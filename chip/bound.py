@@ -7,7 +7,7 @@ that it still is what the run was bound to.
 import os
 from typing import NamedTuple
 
-from files import read_json, sum_of, sum_of_value, write_json
+from files import read_json, read_values, sum_of, sum_of_value, write_json
 from refused import Refused
 from settings import Settings, read
 
@@ -30,7 +30,7 @@ def write(folder: str, chosen: Settings, bound: Bound) -> None:
     """Writes settings and checksums, where they are not there already."""
     for name, value in ((SETTINGS, chosen.values), (BOUND, bound._asdict())):
         path = os.path.join(folder, name)
-        if not os.path.exists(path) or read_json(path) != value:
+        if read_values(path) != value:
             write_json(path, value)
 
 

@@ -152,7 +152,7 @@ def cut_band(run: Run, band: int) -> None:
         "shapes": source.count(),
         "bounds": bounds_of(source, numpy.array([[bounds.left, bounds.bottom, bounds.right, bounds.top]])),
         "dbu": source.layout.dbu,
-        "cell": source.cell.name,
+        "cell": source.name,
         "parts": cut.parts,
         "crossing": sum_of(crossing),
     }

@@ -20,6 +20,15 @@ def read_json(path: str) -> Any:
         return json.load(file)
 
 
+def read_values(path: str) -> dict[str, Any]:
+    """The values of a file by their names; none where it is not there, or is no such file."""
+    try:
+        values = read_json(path)
+        return values if isinstance(values, dict) else {}
+    except (OSError, ValueError):
+        return {}
+
+
 def write_json(path: str, value: Any, indent: int | None = 1) -> None:
     with written(path) as file:
         file.write(json.dumps(value, indent=indent) + "\n")

@@ -47,6 +47,9 @@ class Joined:
             if not holds(self.run.path(name), self.sums[word]):
                 faults.append(Found(f"{name} is not the file that was joined"))
         if self.layout is not None:
+            unit = float(self.run.chosen.grid / 1000)
+            if abs(self.layout.dbu - unit) > 1e-9 * unit:
+                faults.append(Found(f"the masks count in {self.layout.dbu:.9g} micrometres, and not in {unit:.9g}"))
             due = {cell_of(name) for name in self.manifest.names()}
             others = {cell.name for cell in self.layout.each_cell()} - due - {self.manifest.cell}
             faults += [Found(f"the masks have a cell {name} that is no part") for name in sorted(others)]

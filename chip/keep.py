@@ -17,7 +17,7 @@ class Keep:
         self.other: Source | None = None
         if settings.keep and settings.keep != settings.layer:
             chosen = copy.copy(settings)
-            chosen.layer, chosen.top = settings.keep, source.cell.name
+            chosen.layer, chosen.top = settings.keep, source.name
             self.other = Source(chosen)
 
     def shapes(self, where: Any) -> Any:

@@ -1,21 +1,49 @@
-"""Looks at the layers of a run before its first step: whether they are there, and have something. KLayout runs it."""
+"""Looks at the layers of a run before its first step: whether they are there, have metal, and lie where all steps can count.
+
+KLayout runs it.
+"""
 
 import os
 import sys
 
-sys.path.insert(0, os.path.dirname(os.path.abspath(__file__)))
+HERE = os.path.dirname(os.path.abspath(__file__))
+sys.path.insert(0, HERE)
+sys.path.append(os.path.join(HERE, "..", "tools"))
 
 from bound import Run
+from cif import Unreadable
 from keep import Keep
-from refused import guard
+from metal import has_no_area
+from reach import refuse_beyond
+from refused import Refused, guard
 from source import Source
+from writing import Chosen
 
 # What KLayout is run with.
 folder: str = globals()["folder"]
 
+# KLayout counts by 32 bits, reads a report in halves of a grid unit, and takes the width of a layer.
+MOST = 1_000_000_000
+
+
+def see(source: Source) -> None:
+    """Refuses a layer without metal, and one that lies farther out than its steps can count."""
+    name, layout = source.settings.layer, source.settings.layout
+    try:
+        refuse_beyond(Chosen(source.layout, source.cell, {name: [source.layer]}), MOST / source.ratio.numerator)
+    except Unreadable as error:
+        raise Refused(f"{layout}: {error}") from error
+    cells = [source.cell, *map(source.layout.cell, source.cell.called_cells())]
+    if all(has_no_area(shape) for cell in cells for shape in cell.shapes(source.layer).each()):
+        raise Refused(f"layer {name} of {layout} is empty: no figure has an area")
+
 
 def look(run: Run) -> None:
-    Keep(Source(run.chosen), run.chosen)
+    source = Source(run.chosen)
+    keep = Keep(source, run.chosen)
+    for layer in (source, keep.other):
+        if layer is not None:
+            see(layer)
     run.see_layout()
 
 

@@ -1,5 +1,5 @@
-"""Makes the chip of `test`, in GDSII with a unit of 1 nm: KLayout runs it with `target`, a path, and with `rows` where the
-array has fewer rows.
+"""Makes the chip of `test` with a unit of 1 nm: KLayout runs it with `target`, a path, with `rows` where the array has fewer
+rows, and with `array_name` where it has another.
 
 A cell with what double patterning meets is set out as an array, some copies mirrored: an odd triangle, a wire that is cut
 at a stitch, a ring, a corner that touches another, a comb. A wire runs along each row of the array, and a polygon along
@@ -68,6 +68,10 @@ def faults(layout: Any, top: Any) -> None:
     layout.layer(pya.LayerInfo(22, 0))
     names = layout.layer(pya.LayerInfo(23, 0))
     top.shapes(names).insert(pya.Text("NAME", pya.Trans()))
+    lines = layout.layer(pya.LayerInfo(26, 0))
+    top.shapes(lines).insert(pya.Path([pya.Point(0, 0), pya.Point(1000, 0)], 0))
+    far = layout.layer(pya.LayerInfo(27, 0))
+    top.shapes(far).insert(pya.Box(1499999000, 0, 1500000000, 1000))
 
 
 def array(layout: Any, layer: int, rows: int) -> Any:
@@ -75,7 +79,7 @@ def array(layout: Any, layer: int, rows: int) -> Any:
 
     A keep layer lies over all of it.
     """
-    cell = layout.create_cell("ARRAY")
+    cell = layout.create_cell(str(globals().get("array_name", "ARRAY")))
     one = block(layout, layer)
     up, along = pya.Vector(0, PITCH), pya.Vector(PITCH, 0)
     half = rows // 2

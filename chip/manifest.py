@@ -1,5 +1,6 @@
 """The manifest of a cut: its parts, and the batches in which jobs take them."""
 
+import re
 from typing import Any
 
 from bound import Run
@@ -12,7 +13,7 @@ class Manifest:
     def __init__(self, run: Run) -> None:
         self.values = read_json(run.path("manifest.json"))
         self.parts: list[Part] = self.values["parts"]
-        self.cell: str = self.values["cell"]
+        self.cell = cell_name(self.values["cell"])
         self.size = run.chosen.in_job(len(self.parts))
 
     def names(self) -> list[str]:
@@ -23,3 +24,8 @@ class Manifest:
 
     def parts_of(self, number: int) -> list[Part]:
         return self.parts[number * self.size : (number + 1) * self.size]
+
+
+def cell_name(name: str) -> str:
+    """The name of a layout's cell as the masks have it: without what KLayout writes as something else, and not as of a part."""
+    return re.sub("[^!-~]|^(?=PART_)", "_", name)

@@ -34,6 +34,11 @@ def shift(layout: Any, part: Any) -> None:
             inst.transform(pya.Trans(2, 0))
 
 
+def clear(layout: Any, part: Any) -> None:
+    """Nothing is left."""
+    layout.clear()
+
+
 def main() -> None:
     layout = pya.Layout(True)
     layout.read(path)

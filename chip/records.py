@@ -4,7 +4,7 @@ import os
 from typing import Any
 
 from bound import Run
-from files import holds, read_json, write_json
+from files import holds, read_values, write_json
 
 Part = dict[str, Any]
 # The files of a part, of each stage: what `dpl` says of it, and what is seen beside.
@@ -37,12 +37,9 @@ def inputs_of(run: Run, part: Part, stage: str, record: Part) -> Part:
 
 
 def record_of(run: Run, part: Part) -> Part:
-    """The record of a part; an empty one where there is none that can be read."""
-    try:
-        record = read_json(record_path(run, part))
-        return record if isinstance(record, dict) else {}
-    except (OSError, ValueError):
-        return {}
+    """The record of a part by its stages; an empty one where there is none that can be read."""
+    record = read_values(record_path(run, part))
+    return {stage: known for stage, known in record.items() if isinstance(known, dict)}
 
 
 def write_record(run: Run, part: Part, record: Part) -> None:

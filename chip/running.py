@@ -10,7 +10,7 @@ from typing import Any
 
 import bound
 from bound import Run
-from files import read_text, remove
+from files import read_text, read_values, remove
 from program import see_program
 from progress import Progress
 from refused import Refused, RefusedAll
@@ -33,18 +33,27 @@ def prepared(values: dict[str, Any], folder: str) -> Run:
     if not os.path.isfile(chosen.layout):
         raise Refused(f"layout is {chosen.layout}, and no file is there")
     os.makedirs(folder, exist_ok=True)
-    without_verdict(chosen, folder)
+    forget_verdict(folder, chosen.masks)
     bound.write(folder, chosen, bound.bound_of(chosen))
-    done = subprocess.run([os.path.join(HERE, "klayout"), "look.py", f"folder={folder}"], stderr=subprocess.PIPE, text=True)
+    look = [os.path.join(HERE, "klayout"), "look.py", f"folder={folder}"]
+    done = subprocess.run(look, stdout=sys.stderr, stderr=subprocess.PIPE, text=True)
     if done.returncode:
         said = [line.removeprefix("settings: ") for line in SAID.findall(done.stderr)]
         raise RefusedAll(said or done.stderr.splitlines()[-1:])
     return Run(folder)
 
 
-def without_verdict(chosen: Settings, folder: str) -> None:
-    """Takes an earlier verdict out of a folder, and the names that masks have by it."""
-    for name in [VERDICT, *(masks_name(chosen.masks, word) for word in STATUS)]:
+def forget_verdicts(folder: str) -> None:
+    """Takes out of a folder, and of those of its layers, what earlier runs say there, also of other layers and by other names."""
+    for path in [folder, *(entry.path for entry in os.scandir(folder) if entry.is_dir())]:
+        before = read_values(os.path.join(path, bound.SETTINGS))
+        if before:
+            forget_verdict(path, str(before.get("masks")))
+
+
+def forget_verdict(folder: str, masks: str) -> None:
+    """Takes a verdict out of a folder, and the names that masks have by it."""
+    for name in [VERDICT, *(masks_name(masks, word) for word in STATUS)]:
         remove(os.path.join(folder, name))
 
 

@@ -31,7 +31,8 @@ DEFAULTS: dict[str, Any] = {
     "dpl": None,
 }
 HERE = os.path.dirname(os.path.abspath(__file__))
-BUILT = os.path.join(HERE, "..", "crates", "dpl", "out", "dpl")
+LAUNCHER, PROGRAM = os.path.join("tools", "launcher.py"), os.path.join("crates", "dpl", "out", "dpl")
+BUILT = os.path.join(HERE, "..", PROGRAM)
 # A run has so many jobs of parts, about, but no job more parts than these.
 JOBS, MOST_IN_JOB = 16, 12
 
@@ -58,7 +59,7 @@ class Settings:
         self.bands: int = values["bands"]
         self.batch: int | None = values["batch"]
         self.layout: str = os.path.join(folder, values["layout"])
-        self.dpl: str = os.path.join(folder, values["dpl"]) if values["dpl"] else os.path.realpath(BUILT)
+        self.dpl: str = program_of(os.path.join(folder, values["dpl"])) if values["dpl"] else os.path.realpath(BUILT)
         self.command: str = "balance" if values["balance"] else "refine" if values["refine"] else "split"
         self.grid = Fraction(str(values["grid"]))
         faults: list[str] = []
@@ -102,6 +103,12 @@ class Settings:
         """The settings that a cut rests on."""
         words = ("layer", "keep", "top", "grid", "space", "overlap", "size", "bands")
         return {word: self.values[word] for word in words}
+
+
+def program_of(path: str) -> str:
+    """The program that a path names. A launcher stands for the program beside it, of which its own checksum says nothing."""
+    folder, name = os.path.split(os.path.realpath(path))
+    return os.path.join(folder, PROGRAM) if name == "dpl" and os.path.exists(os.path.join(folder, LAUNCHER)) else path
 
 
 def told(faults: list[str], work: Any, otherwise: Any) -> Any:

@@ -19,6 +19,7 @@ class Source:
         self.settings = settings
         self.layout, self.layer = read_layer(settings)
         self.cell = top_of(self.layout, self.layer, settings)
+        self.name = reading.name_of(self.cell)
         self.ratio = ratio_of(self.layout.dbu, settings.grid)
         grid = self.ratio.denominator
         self.half = math.ceil(settings.space / self.ratio / grid) * grid
@@ -78,5 +79,5 @@ def top_of(layout: Any, layer: int, settings: Settings) -> Any:
         return layout.cell(settings.top)
     tops = [cell for cell in layout.top_cells() if not cell.bbox_per_layer(layer).empty()]
     if len(tops) > 1:
-        raise Refused(f"{settings.layout} has several top cells: set one of {', '.join(c.name for c in tops)}")
+        raise Refused(f"{settings.layout} has several top cells: set one of {', '.join(map(reading.name_of, tops))}")
     return tops[0] if tops else layout.top_cells()[0]

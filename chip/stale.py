@@ -5,10 +5,9 @@ What is taken out is the file that a rule of `Snakefile` looks for; what is good
 
 import os
 from collections.abc import Iterator
-from typing import Any
 
 from bound import Run
-from files import holds, read_json, read_text, remove, sum_of
+from files import holds, read_text, read_values, remove, sum_of
 from history import cut_faults
 from manifest import Manifest
 from records import STAGES, Part, changed_files, is_of, record_of, record_path, write_record
@@ -27,7 +26,7 @@ def stale_cut(run: Run) -> Iterator[str]:
     """Bands whose layout or settings were others, or of whose files one was changed."""
     for band in range(run.chosen.bands):
         path = run.path("cut", str(band), "index.json")
-        index = read(path)
+        index = read_values(path)
         if index.get("inputs") != run.cut_inputs():
             remove(path)
             continue
@@ -40,7 +39,7 @@ def stale_cut(run: Run) -> Iterator[str]:
 def stale_manifest(run: Run) -> Iterator[str]:
     path = run.path("manifest.json")
     indices = [run.path("cut", str(band), "index.json") for band in range(run.chosen.bands)]
-    values = read(path)
+    values = read_values(path)
     if not all(map(os.path.exists, indices)) or values.get("inputs") != {**run.bound._asdict(), "cut": list(map(sum_of, indices))}:
         remove(path)
         return
@@ -58,7 +57,7 @@ def stale_batches(run: Run) -> Iterator[str]:
         remove(run.path("batches", name))
     for number in range(manifest.batches()):
         path = run.path("batches", f"{number}.json")
-        known = read(path)
+        known = read_values(path)
         for part in manifest.parts_of(number):
             yield from trimmed(run, part)
             if not record_of(run, part).keys() >= STAGES.keys() or not holds(record_path(run, part), known.get(part["name"])):
@@ -79,7 +78,7 @@ def trimmed(run: Run, part: Part) -> Iterator[str]:
 def stale_ends(run: Run) -> Iterator[str]:
     """What is made of all parts: masks, table and markers."""
     path = run.path("joined.json")
-    sums = read(path)
+    sums = read_values(path)
     files = {"masks": "joined" + os.path.splitext(run.chosen.masks)[1], "table": "table.txt"}
     if sums:
         yield from taken_out(path, [f"{file} was changed" for word, file in files.items() if not holds(run.path(file), sums.get(word))])
@@ -105,7 +104,7 @@ def manifest_of(run: Run) -> Manifest | None:
     """The manifest; one that cannot be read is taken out."""
     try:
         return Manifest(run)
-    except (OSError, ValueError, KeyError):
+    except (OSError, ValueError, KeyError, TypeError):
         remove(run.path("manifest.json"))
         return None
 
@@ -125,14 +124,6 @@ def taken_out(path: str, faults: list[str]) -> Iterator[str]:
     if faults:
         remove(path)
     yield from (f"{fault}, {ANEW}" for fault in faults)
-
-
-def read(path: str) -> dict[str, Any]:
-    try:
-        value = read_json(path)
-        return value if isinstance(value, dict) else {}
-    except (OSError, ValueError):
-        return {}
 
 
 def text_of(path: str) -> str:

@@ -13,6 +13,7 @@ from found import Found, Place
 from fragments import Array
 from grid import Grid
 from joined import Joined
+from keep import Keep
 from refused import Refused
 from reports import Report, boxes_of
 from source import Source
@@ -29,6 +30,7 @@ class Tiles:
     def __init__(self, run: Run, masks: Joined) -> None:
         self.run, self.masks = run, masks
         self.source = Source(run.chosen)
+        self.keep = Keep(self.source, run.chosen)
         run.see_layout()
         self.own: int
         self.finer: int
@@ -70,6 +72,7 @@ class Tiles:
         overlaps = ((a & b) ^ zones) & tile
         faults = [self.found("the masks together are not the layer", shape.bbox(), near) for shape in unlike.each()]
         faults += [self.found("an overlap is not a listed zone, or a zone no overlap", shape.bbox(), near) for shape in overlaps.each()]
+        faults += [self.found("a stitch lies on the keep layer", shape.bbox(), near) for shape in (zones & self.kept(box, layer) & tile).each()]
         return faults + self.spacing("A", a, window, near) + self.spacing("B", b, window, near)
 
     def reach(self, unit: int) -> int:
@@ -92,6 +95,12 @@ class Tiles:
                 into.insert(pya.Box(*corners))
         scale = pya.ICplxTrans(self.finer)
         return refused.transformed(scale), zones.transformed(scale)
+
+    def kept(self, box: Any, layer: Any) -> Any:
+        """What the keep layer has on the layer in a tile."""
+        if self.run.chosen.keep and self.keep.other is None:
+            return layer
+        return self.keep.shapes(box).transformed(pya.ICplxTrans(self.own))
 
     def reports(self, numbers: list[int]) -> list[tuple[int, Report]]:
         return [(number, report) for number in numbers if (report := self.report(number)) is not None]

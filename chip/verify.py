@@ -37,9 +37,13 @@ def faults_in(run: Run, target: str, processes: int) -> list[str]:
     """All faults in lines."""
     joined = Joined(run, target)
     faults = cut_faults(run, joined.manifest) + joined.faults()
+    if not joined.manifest.parts:
+        faults.append(Found("there is no part"))
     faults += [Found(fault) for fault in faults_of(read_text(run.path("table.txt")), answers(run, joined.manifest))]
     tasks = []
-    if joined.layout is not None and joined.layout.has_cell(joined.manifest.cell):
+    if joined.layout is not None and not joined.layout.has_cell(joined.manifest.cell):
+        faults.append(Found(f"the masks have no cell {joined.manifest.cell}"))
+    elif joined.layout is not None:
         tiles = Tiles(run, joined)
         faults += tiles.outside()
         work[:] = joined, tiles

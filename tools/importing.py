@@ -11,9 +11,9 @@ import pya  # type: ignore[import]
 
 from cif import Unreadable
 from held import hold
-from metal import DRAWN, OTHERS, filled
+from metal import DRAWN, OTHERS, has_no_area
 from reach import refuse_far
-from reading import read
+from reading import name_of, read
 from writing import Chosen, lines
 
 FIGURES = DRAWN | OTHERS
@@ -86,7 +86,7 @@ class Layers:
     def cell(self, word: str | None) -> pya.Cell:
         """The cell that is written: the one that is named, or else the one top cell with figures."""
         tops = [cell for cell in self.layout.top_cells() if any(self.is_drawn(cell, index) for index in self.wanted)]
-        names = ", ".join(sorted(cell.name for cell in tops))
+        names = ", ".join(sorted(map(name_of, tops)))
         if word is not None:
             if not self.layout.has_cell(word):
                 raise Unreadable(f"--cell names a cell {word} that is not there; the top cells are: {names or 'none'}")
@@ -111,9 +111,9 @@ class Layers:
                 found.setdefault(self.called[index], []).append(index)
         for word in self.only:
             if not any(self.means(word, index) for group in found.values() for index in group):
-                raise Unreadable(f"layer {word} has no figure in cell {cell.name}")
+                raise Unreadable(f"layer {word} has no figure in cell {name_of(cell)}")
         if not found:
-            raise Unreadable(f"no layer has a figure in cell {cell.name}")
+            raise Unreadable(f"no layer has a figure in cell {name_of(cell)}")
         return found
 
 
@@ -167,16 +167,12 @@ def left_out(layers: Layers, chosen: Chosen) -> Iterator[str]:
         yield counted(labels, "label")
     if empty:
         yield counted(empty, "figure") + " without area"
-    ghosts = sorted(cell.name for cell in cells if cell.is_ghost_cell())
+    ghosts = sorted(name_of(cell) for cell in cells if cell.is_ghost_cell())
     if ghosts:
         yield f"the cells {', '.join(ghosts)}, which the layout calls and does not have"
     others = sorted(str(info) for index, info in layers.infos.items() if index not in layers.wanted)
     if others:
         yield f"the layers {', '.join(others)}"
-
-
-def has_no_area(shape: pya.Shape) -> bool:
-    return not shape.area() and (shape.polygon is None or filled(pya.Region(shape.polygon)).merged().is_empty())
 
 
 def counted(count: int, what: str) -> str:

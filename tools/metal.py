@@ -28,6 +28,10 @@ def filled(shapes: pya.Region) -> pya.Region:
     return found
 
 
+def has_no_area(shape: pya.Shape) -> bool:
+    return not shape.area() and (shape.polygon is None or filled(pya.Region(shape.polygon)).merged().is_empty())
+
+
 def shapes_of(
     layout: pya.Layout, number: int, index: int, kinds: int = DRAWN | OTHERS, depth: int | None = None, without: Sequence[int] = ()
 ) -> pya.Region:

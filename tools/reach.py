@@ -16,13 +16,17 @@ MOST, MOST_OF_LAYOUT = 1_073_741_824, 2_000_000_000
 
 def refuse_far(chosen: Chosen, times: int) -> None:
     """Refuses a layer that KLayout would wrap around, or that is too far out for `dpl`."""
-    most = min(float(MOST / (microns_of(chosen.layout) * 200 * times)), MOST_OF_LAYOUT)
+    refuse_beyond(chosen, min(float(MOST / (microns_of(chosen.layout) * 200 * times)), MOST_OF_LAYOUT))
+
+
+def refuse_beyond(chosen: Chosen, most: float) -> None:
+    """Refuses a layer that reaches farther out than so many units of the layout."""
     dbu: float = chosen.layout.dbu
     for name, box in bounds_of(chosen).items():
         x, y = (max(ends, key=abs) for ends in ((box.left, box.right), (box.bottom, box.top)))
         if max(abs(x), abs(y)) > most:
             where = f"({x * dbu:.9g}, {y * dbu:.9g})"
-            raise Unreadable(f"layer {name} reaches to {where} micrometres, and at most {most * dbu:.9g} can be written")
+            raise Unreadable(f"layer {name} reaches to {where} micrometres, and at most {most * dbu:.9g} can be taken")
 
 
 def bounds_of(chosen: Chosen) -> dict[str, pya.DBox]:

@@ -79,6 +79,14 @@ def plain(error: RuntimeError, path: str) -> str:
     return " ".join(str(error).replace(f": {path}", "").replace(" in Layout.read", "").split())
 
 
+def name_of(cell: pya.Cell) -> str:
+    """The name of a cell, or its number where the name is no text."""
+    try:
+        return str(cell.name)
+    except RuntimeError:
+        return f"CELL{cell.cell_index()}"
+
+
 def microns_of(layout: pya.Layout) -> Fraction:
     """The unit of a layout in micrometres."""
     return Fraction(repr(layout.dbu)).limit_denominator(10**9)

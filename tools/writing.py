@@ -15,7 +15,7 @@ import pya  # type: ignore[import]
 
 import scale
 from metal import DRAWN, OTHERS, raw, rectangles_of, shapes_of
-from reading import microns_of
+from reading import microns_of, name_of
 
 # turns of a call by KLayout's numbers: a quarter each, and behind a mirror at the level axis from 4 on
 TURNS = ["", "R 0 1 ", "R -1 0 ", "R 0 -1 ", "M Y ", "M Y R 0 1 ", "M Y R -1 0 ", "M Y R 0 -1 "]
@@ -147,7 +147,7 @@ def lines(chosen: Chosen, times: int) -> Iterator[str]:
     yield scale.line(times)
     for cell, made in definitions.items():
         yield f"DS {numbers[cell]} {ratio.numerator} {ratio.denominator};"
-        yield f"9 {re.sub('[^!-:<-~]', '_', chosen.layout.cell(cell).name)};"
+        yield f"9 {re.sub('[^!-:<-~]', '_', name_of(chosen.layout.cell(cell)))};"
         yield from made.lines()
         for called, placed in made.calls:
             yield f"C {numbers[called]} {TURNS[placed.rot]}T {2 * placed.disp.x} {2 * placed.disp.y};"
