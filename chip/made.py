@@ -70,6 +70,10 @@ def faults(layout: Any, top: Any) -> None:
     top.shapes(names).insert(pya.Text("NAME", pya.Trans()))
     lines = layout.layer(pya.LayerInfo(26, 0))
     top.shapes(lines).insert(pya.Path([pya.Point(0, 0), pya.Point(1000, 0)], 0))
+    caller, ghost = layout.create_cell("CALLER"), layout.create_cell("GHOST")
+    caller.shapes(layout.layer(pya.LayerInfo(28, 0))).insert(pya.Box(0, 0, 100, 100))
+    caller.insert(pya.CellInstArray(ghost.cell_index(), pya.Trans()))
+    ghost.ghost_cell = True
     far = layout.layer(pya.LayerInfo(27, 0))
     top.shapes(far).insert(pya.Box(1499999000, 0, 1500000000, 1000))
 
