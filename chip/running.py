@@ -32,6 +32,7 @@ def prepared(values: dict[str, Any], folder: str) -> Run:
     see_program(chosen)
     if not os.path.isfile(chosen.layout):
         raise Refused(f"layout is {chosen.layout}, and no file is there")
+    refuse_inside(chosen.layout, folder)
     os.makedirs(folder, exist_ok=True)
     forget_verdict(folder, chosen.masks)
     bound.write(folder, chosen, bound.bound_of(chosen))
@@ -41,6 +42,12 @@ def prepared(values: dict[str, Any], folder: str) -> Run:
         said = [line.removeprefix("settings: ") for line in SAID.findall(done.stderr)]
         raise RefusedAll(said or done.stderr.splitlines()[-1:])
     return Run(folder)
+
+
+def refuse_inside(path: str, folder: str) -> None:
+    """Refuses a file of the user where a run writes its own, and takes others away."""
+    if os.path.dirname(os.path.realpath(path)) == os.path.realpath(folder):
+        raise Refused(f"{path} lies in the folder of the run: give the run another one")
 
 
 def forget_verdicts(folder: str) -> None:
@@ -57,13 +64,13 @@ def forget_verdict(folder: str, masks: str) -> None:
         remove(os.path.join(folder, name))
 
 
-def done(run: Run, front: str, words: list[str], lock: int) -> str:
+def done(run: Run, front: str, words: list[str], locks: list[int]) -> str:
     """Carries a run out, and gives the word of its verdict; what is said begins with a front."""
     for line in sweep(run):
         tell(front + line)
     for path in glob.glob(run.path(".snakemake", "slurm-*.log")):
         remove(path)
-    steps(run, front, words, lock)
+    steps(run, front, words, locks)
     if not os.path.exists(run.path(VERDICT)):
         tell(f"{front}not finished, and there is no verdict; {run.path(LOG)} has all that was said")
         for line in reasons(run):
@@ -78,13 +85,13 @@ def tell(line: str) -> None:
     print(f"chip/run: {line}", file=sys.stderr, flush=True)
 
 
-def steps(run: Run, front: str, words: list[str], lock: int) -> None:
-    """Runs Snakemake, which holds the lock of the folder with this process, and shows how far it is."""
+def steps(run: Run, front: str, words: list[str], locks: list[int]) -> None:
+    """Runs Snakemake, which holds the locks with this process, and shows how far it is."""
     command = ["snakemake", "--snakefile", os.path.join(HERE, "Snakefile"), "--directory", run.folder, "--nolock", "--rerun-incomplete"]
     command += ["--keep-going", "--scheduler", "greedy", "--quiet", "rules", *words]
     progress = Progress(run, front)
     with open(run.path(LOG), "w") as log:
-        work = subprocess.Popen(command, stdin=subprocess.DEVNULL, stdout=log, stderr=log, pass_fds=(lock,))
+        work = subprocess.Popen(command, stdin=subprocess.DEVNULL, stdout=log, stderr=log, pass_fds=locks)
         signal.signal(signal.SIGTERM, lambda *_: work.terminate())
         while True:
             try:

@@ -19,7 +19,7 @@ from history import cut_faults
 from joined import Joined
 from manifest import Manifest
 from records import path_of
-from refused import guard
+from refused import Refused, guard
 from table import faults_of
 from tiles import Tiles
 from verdict import write_verdict
@@ -73,7 +73,10 @@ def task(which: tuple[int, int]) -> list[Found]:
 
 def main() -> None:
     run = Run(folder)
-    write_verdict(run, masks, faults_in(run, masks, int(threads)))
+    faults = faults_in(run, masks, int(threads))
+    if Run(folder).bound != run.bound:
+        raise Refused("the run was begun anew, on another content, while this step was at work")
+    write_verdict(run, masks, faults)
 
 
 guard("verify", main)
