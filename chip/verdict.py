@@ -35,8 +35,13 @@ def write_verdict(run: Run, joined: str, faults: list[str]) -> None:
         remove(run.path(masks_name(run.chosen.masks, other)))
     if os.path.exists(run.path(joined)):
         same_file(run.path(joined), run.path(name))
-    with written(run.path(VERDICT)) as file:
-        file.write("\n".join([f"{len(faults)} fault{'s' * (len(faults) > 1)}" if faults else word, *lines, "", *rests_on(run, name, parts)]) + "\n")
+    first = f"{len(faults)} fault{'s' * (len(faults) > 1)}" if faults else word
+    try:
+        with written(run.path(VERDICT)) as file:
+            file.write("\n".join([first, *lines, "", *rests_on(run, name, parts)]) + "\n")
+    except OSError:
+        remove(run.path(name))
+        raise
 
 
 def same_file(path: str, name: str) -> None:
@@ -44,7 +49,8 @@ def same_file(path: str, name: str) -> None:
     try:
         os.link(path, name)
     except OSError:
-        shutil.copyfile(path, name)
+        shutil.copyfile(path, name + ".new")
+        os.replace(name + ".new", name)
 
 
 def masks_name(masks: str, word: str) -> str:

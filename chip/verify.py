@@ -9,6 +9,7 @@ import multiprocessing
 import os
 import sys
 from collections.abc import Iterable
+from concurrent.futures import ProcessPoolExecutor
 
 sys.path.insert(0, os.path.dirname(os.path.abspath(__file__)))
 
@@ -62,8 +63,8 @@ def answers(run: Run, manifest: Manifest) -> dict[str, str]:
 def done(tasks: list[tuple[int, int]], processes: int) -> Iterable[list[Found]]:
     if processes == 1 or len(tasks) < 2:
         return map(task, tasks)
-    with multiprocessing.get_context("fork").Pool(processes) as pool:
-        return pool.map(task, tasks, chunksize=1)
+    with ProcessPoolExecutor(processes, multiprocessing.get_context("fork")) as pool:
+        return list(pool.map(task, tasks))
 
 
 def task(which: tuple[int, int]) -> list[Found]:
