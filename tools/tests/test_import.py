@@ -199,6 +199,11 @@ class Metal(Imports):
         self.assertIn(b"PATH", done.stderr)
         self.assertEqual(self.boxes(done.stdout), [[0, 0, 20, 20]])
 
+    def test_cell_whose_name_is_no_text(self) -> None:
+        whole = gds.library([("TOP", gds.box(1, 0, 0, 0, 100, 100))], 0.001)
+        self.write("latin.gds", whole.replace(b"TOP\0", b"T\xe9P\0"))
+        self.assertEqual(self.boxes(self.text("latin.gds")), [[0, 0, 20, 20]])
+
     def test_slanted_sides_stay(self) -> None:
         self.assertIn(b"P 0 0 0 1800 1800 0;", self.text("slanted.gds"))
 
