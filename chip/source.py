@@ -67,9 +67,9 @@ def read_layer(settings: Settings) -> tuple[Any, int]:
 
 def read(path: str, options: Any) -> Any:
     """A layout that is one file, since a run is bound to the content of that."""
-    if reading.form_of(path) == reading.LEF_OR_DEF:
-        raise Refused(f"{path} is DEF or LEF, which rests on other files besides: tools/import makes CIF of it")
     try:
+        if reading.form_of(path) == reading.LEF_OR_DEF:
+            raise Refused(f"{path} is DEF or LEF, which rests on other files besides: tools/import makes CIF of it")
         return reading.read(path, options)
     except Unreadable as error:
         raise Refused(f"{path}: {error}") from error
