@@ -1,5 +1,5 @@
 // The report of a layer with refined colours and cycles.
-ghost use Rattle.std.specs.Prelude.{◌≡◌, ◌⊎◌, ◌<◌, ◌≤◌, ◌^◌, length, IfOk, Err};
+ghost use Rattle.std.specs.Prelude.{◌≡◌, ◌⊎◌, ◌≤◌, length, IfOk, Err};
 ghost use Rattle.dpl_limits.specs.declared.TheConstants.{MOST_LAYOUT_BYTES};
 ghost use Rattle.dpl_lex.specs.Cutting.{commands_of};
 ghost use Rattle.dpl_layer.specs.Layers.{IsSomeLayer};
@@ -15,15 +15,16 @@ ghost use Rattle.dpl_core.specs.Refusals.{split_reasons};
 
 use crate::making::{Made, make_commands};
 use crate::solving::true_report_is_of_the_layer;
+use dpl_bound::{bound, more_cycles};
 use dpl_cuts::types::Fragments;
 use dpl_good::{broken_clashes, broken_cuts, masks};
 use dpl_layer::{Layer, LayerError};
 use dpl_lex::types::Commands;
 use dpl_list::Items;
 use dpl_options::Options;
-use dpl_refine::{more_cycles, refine};
+use dpl_refine::refine;
 use dpl_report::{Report, print};
-use dpl_sign::{Cycle, Net, cost};
+use dpl_sign::{Net, cost};
 use std::alloc::{AllocError as NoMemory, Global};
 
 /// The text of a report of a layer, where the text of the layout is already cut into these commands. Where something is
@@ -45,18 +46,6 @@ pub fn refine_commands(
     let report = refined(alloc, options, &layer, report)?;
     let written = print(alloc, &report)?;
     Ok(written)
-}
-
-/// The sum of the half weights.
-fn total(cycles: &[Cycle]) -> u64
-    requires { bound_of cycles.now < 2 ^ 64 }
-    ensures { result ≡ bound_of cycles.now }
-{
-    let mut sum = 0;
-    for i in 0..cycles.len() {
-        sum += cycles[i].half;
-    }
-    sum
 }
 
 /// The report with other colours, and with what these break and cost. It says the truth where the report does.
@@ -121,7 +110,7 @@ fn repacked(alloc: Global, report: Report, net: &Net) -> Result<Report, NoMemory
         ..
     } = report;
     let cycles = more_cycles(alloc, &net.graph, colours.as_slice(), cycles)?;
-    let bound = total(cycles.as_slice());
+    let bound = bound(cycles.as_slice());
     Ok(Report {
         params,
         counts,

@@ -3,5 +3,3 @@ pub mod PieceLemmas
 pub mod SumLemmas
 pub mod AroundLemmas
 pub mod LeastLemmas
-pub mod LayLemmas
-pub mod OddLemmas

@@ -4,5 +4,3 @@ pub mod Components
 pub mod Refined
 -- what a turned piece wins and loses
 pub mod Gains
--- packings that bound more
-pub mod Packed

@@ -5,7 +5,7 @@ ghost use Rattle.dpl_refine.specs.Components.{weight_in, is_of, cost_of_part};
 ghost use Rattle.dpl_refine.specs.Refined.{IsCheaperOrSameAround};
 
 use crate::gaining::add_where;
-use crate::joining::parts;
+use crate::joining::components;
 use dpl_sign::{Edge, Signed, broken};
 use std::alloc::{AllocError as NoMemory, Global};
 
@@ -107,7 +107,7 @@ pub fn cheaper_around(
     ensures colouring { IfOk result (λ v. IsColouring graph.now v.items) }
     ensures around { IfOk result (λ v. IsCheaperOrSameAround graph.now old.now v.items) }
 {
-    let (part, count) = parts(alloc, graph)?;
+    let (part, count) = components(alloc, graph)?;
     let part = part.as_slice();
     let edges = graph.edges.as_slice();
     let before = costs(alloc, edges, part, count, old)?;

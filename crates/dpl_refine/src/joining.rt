@@ -53,8 +53,8 @@ fn ends(alloc: Global, edges: &[Edge]) -> Result<Vec<(u32, u32)>, NoMemory>
 }
 
 /// The number of each node's component, and how many components there are.
-pub fn parts(alloc: Global, graph: &Signed) -> Result<(Vec<u32>, u32), NoMemory>
-    ensures parts { IfOk result (λ p. AreParts graph.now p.0.items p.1) }
+pub fn components(alloc: Global, graph: &Signed) -> Result<(Vec<u32>, u32), NoMemory>
+    ensures components { IfOk result (λ p. AreParts graph.now p.0.items p.1) }
     ensures within { IfOk result (λ p. All (λ c. c < p.1) p.0.items) }
 {
     let ends = ends(alloc, graph.edges.as_slice())?;

@@ -1,0 +1,2 @@
+-- packings that bound more
+pub mod Packed
