@@ -394,6 +394,48 @@ fn forms_are_whole(rt: HostRuntime) -> Result<(), Fail> {
     compare_boxes(&rt, rt.alloc(), &boxes)
 }
 
+/// The farthest corner of each figure counts, on either side.
+#[test]
+fn the_farthest_corner_counts(rt: HostRuntime) -> Result<(), Fail> {
+    for text in [
+        "L M; P 0 0 536870912 0 536870912 5 0 5; E",
+        "L M; P 0 0 0 -536870912 5 -536870912 5 0; E",
+        "L M; W 2 0 0 536870911 0; E",
+        "DS 1; L M; B 2 2 0 0; DF; C 1 T -536870911 0; E",
+        "L M; B 2 2 0 0; L X; B 2 2 536870912 0; E",
+    ] {
+        assert_eq!(rt; count(rt.alloc(), text)?, 1, "{text}");
+    }
+    let far = exceeds(CifLimit::Coordinate, 1073741826);
+    for text in [
+        "L M; P 0 0 536870913 0 536870913 5 0 5; E",
+        "L M; P 0 0 0 -536870913 5 -536870913 5 0; E",
+        "L M; W 2 0 0 536870912 0; E",
+        "DS 1; L M; B 2 2 0 0; DF; C 1 T -536870912 0; E",
+        "L M; B 2 2 0 536870912; B 2 2 0 0; E",
+    ] {
+        assert_eq!(rt; refusal(rt.alloc(), text), far, "{text}");
+    }
+    Ok(())
+}
+
+/// A wire has a box for each two points that follow one another, and a scale holds for its width too, as for the corners of
+/// a polygon.
+#[test]
+fn wires_of_several_points(rt: HostRuntime) -> Result<(), Fail> {
+    let bent = "L M; W 10 0 0 20 0 20 30 20 30; E";
+    assert_eq!(rt; count(rt.alloc(), bent)?, 3);
+    let corners = [(-10, -10, 50, 10), (30, -10, 50, 70), (30, 50, 50, 70)];
+    for (place, wanted) in corners.into_iter().enumerate() {
+        assert_eq!(rt; box_at(rt.alloc(), bent, place)?, wanted);
+    }
+    let scaled = "DS 1 3 1; L M; W 10 20 0 0 0; DF; C 1; E";
+    compare_boxes(&rt, rt.alloc(), &[(scaled, (-30, -30, 150, 30))])?;
+    let polygon = "DS 1 3 2; L M; P 0 0 10 0 10 -20 0 -20; DF; C 1 T 1 0; E";
+    let moved = [(2, 0), (32, 0), (32, -60), (2, -60)];
+    compare_polygon(&rt, rt.alloc(), polygon, &moved)
+}
+
 /// Six definitions, the first of them empty, of which each calls the one before ten times; nine calls of the last, and
 /// these.
 fn tenfold(alloc: Global, last: &str) -> Result<String, AllocError> {
