@@ -321,3 +321,148 @@ fn the_greatest_count(rt: HostRuntime) {
     let limit = exceeds(CifLimit::Calls, 1_000_000_000_000);
     assert_eq!(rt; doubled_refusal(rt.alloc(), "", 45), limit);
 }
+
+/// Integers need a separator between them, or the minus of the second. A minus stands at its digits, and lengths have none.
+#[test]
+fn integers_stand_apart(rt: HostRuntime) -> Result<(), Fail> {
+    let boxes = [
+        ("L M; B 10 10 5-5; E", (0, -20, 20, 0)),
+        ("L M; B 10 10-5-5; E", (-20, -20, 0, 0)),
+        ("LM;B10,10_5/5;E", (0, 0, 20, 20)),
+        ("L m M; BX0010Y10X5Y5; E", (0, 0, 20, 20)),
+        ("L M; B 10 10 5 X-5; E", (0, -20, 20, 0)),
+        ("L M; B 30 10 0 0 0-1; E", (-10, -30, 10, 30)),
+    ];
+    compare_boxes(&rt, rt.alloc(), &boxes)?;
+    let syntax = [
+        ("L M; B 10 10 - 5 5; E", 2),
+        ("L M; B 10 10 5 - 5; E", 2),
+        ("L M; B 10 10 --5 5; E", 2),
+        ("L M; B 10 10 5 -X5; E", 2),
+        ("L M; B 10-10 5 5; E", 2),
+        ("L M; B -10 10 5 5; E", 2),
+        ("L M; W -10 0 0; E", 2),
+        ("DS -1; DF; E", 1),
+        ("C -1; E", 1),
+    ];
+    compare_faults(&rt, rt.alloc(), What::Syntax, &syntax);
+    Ok(())
+}
+
+/// Each part of a form has to be there, and nothing else behind them but blanks.
+#[test]
+fn forms_are_whole(rt: HostRuntime) -> Result<(), Fail> {
+    let syntax = [
+        ("DS 1 2; DF; E", 1),
+        ("DS 1 2 1 1; DF; E", 1),
+        ("DS; DF; E", 1),
+        ("DS 1; DF 1; E", 2),
+        ("DD; E", 1),
+        ("L; E", 1),
+        ("L M N; E", 1),
+        ("L M123456789012345678901234567890AB; E", 1),
+        ("L M; B 10 10 5; E", 2),
+        ("L M; B 10 10 5 5 1; E", 2),
+        ("L M; B 10 10 5 5 1 0 0; E", 2),
+        ("L M; W 10; E", 2),
+        ("L M; W 10 0 0 5; E", 2),
+        ("L M; P; E", 2),
+        ("L M; R 10; E", 2),
+        ("C; E", 1),
+        ("C 1 T 5; E", 1),
+        ("C 1 M; E", 1),
+        ("C 1 M Z; E", 1),
+        ("C 1 R 1; E", 1),
+        ("C 1 5 5; E", 1),
+    ];
+    compare_faults(&rt, rt.alloc(), What::Syntax, &syntax);
+    let boxes = [
+        (
+            "D S 1 2 1; L M; B 10 10 0 0; D F; C 1; E",
+            (-20, -20, 20, 20),
+        ),
+        ("DS 1 1 2; L M; B 10 10 0 0; DF; C 1; E", (-5, -5, 5, 5)),
+        (
+            "DS 1 6 4; L M; B 10 10 0 0; DF; C1T2,0MXT1,0; E",
+            (-17, -15, 13, 15),
+        ),
+        (
+            "9 (; (a;(b);); ;L M; ; B 10 10 0 0 ; E; Q",
+            (-10, -10, 10, 10),
+        ),
+    ];
+    compare_boxes(&rt, rt.alloc(), &boxes)
+}
+
+/// The farthest corner of each figure counts, on either side.
+#[test]
+fn the_farthest_corner_counts(rt: HostRuntime) -> Result<(), Fail> {
+    for text in [
+        "L M; P 0 0 536870912 0 536870912 5 0 5; E",
+        "L M; P 0 0 0 -536870912 5 -536870912 5 0; E",
+        "L M; W 2 0 0 536870911 0; E",
+        "DS 1; L M; B 2 2 0 0; DF; C 1 T -536870911 0; E",
+        "L M; B 2 2 0 0; L X; B 2 2 536870912 0; E",
+    ] {
+        assert_eq!(rt; count(rt.alloc(), text)?, 1, "{text}");
+    }
+    let far = exceeds(CifLimit::Coordinate, 1073741826);
+    for text in [
+        "L M; P 0 0 536870913 0 536870913 5 0 5; E",
+        "L M; P 0 0 0 -536870913 5 -536870913 5 0; E",
+        "L M; W 2 0 0 536870912 0; E",
+        "DS 1; L M; B 2 2 0 0; DF; C 1 T -536870912 0; E",
+        "L M; B 2 2 0 536870912; B 2 2 0 0; E",
+    ] {
+        assert_eq!(rt; refusal(rt.alloc(), text), far, "{text}");
+    }
+    Ok(())
+}
+
+/// A wire has a box for each two points that follow one another, and a scale holds for its width too, as for the corners of
+/// a polygon.
+#[test]
+fn wires_of_several_points(rt: HostRuntime) -> Result<(), Fail> {
+    let bent = "L M; W 10 0 0 20 0 20 30 20 30; E";
+    assert_eq!(rt; count(rt.alloc(), bent)?, 3);
+    let corners = [(-10, -10, 50, 10), (30, -10, 50, 70), (30, 50, 50, 70)];
+    for (place, wanted) in corners.into_iter().enumerate() {
+        assert_eq!(rt; box_at(rt.alloc(), bent, place)?, wanted);
+    }
+    let scaled = "DS 1 3 1; L M; W 10 20 0 0 0; DF; C 1; E";
+    compare_boxes(&rt, rt.alloc(), &[(scaled, (-30, -30, 150, 30))])?;
+    let polygon = "DS 1 3 2; L M; P 0 0 10 0 10 -20 0 -20; DF; C 1 T 1 0; E";
+    let moved = [(2, 0), (32, 0), (32, -60), (2, -60)];
+    compare_polygon(&rt, rt.alloc(), polygon, &moved)
+}
+
+/// Six definitions, the first of them empty, of which each calls the one before ten times; nine calls of the last, and
+/// these.
+fn tenfold(alloc: Global, last: &str) -> Result<String, AllocError> {
+    let mut text = String::new(alloc);
+    text.push_str("DS 1; DF;")?;
+    for k in 1..6u32 {
+        text.push_str(format!(in alloc; "DS {};", k + 1)?.as_str())?;
+        let call = format!(in alloc; "C {k};")?;
+        for _ in 0..10u32 {
+            text.push_str(call.as_str())?;
+        }
+        text.push_str("DF;")?;
+    }
+    text.push_str("C 6; C 6; C 6; C 6; C 6; C 6; C 6; C 6; C 6;")?;
+    text.push_str(last)?;
+    Ok(text)
+}
+
+/// A million calls are carried out, and one more is too many, which is told before a coordinate.
+#[test]
+fn a_million_calls(rt: HostRuntime) -> Result<(), Fail> {
+    let most = tenfold(rt.alloc(), "C 1; L M; B 2 2 0 0; E")?;
+    assert_eq!(rt; count(rt.alloc(), most.as_str())?, 1);
+    let more = tenfold(rt.alloc(), "C 1; C 1; L M; B 2 2 0 0; E")?;
+    let limit = exceeds(CifLimit::Calls, 1_000_001);
+    assert_eq!(rt; refusal(rt.alloc(), more.as_str()), limit);
+    let far = tenfold(rt.alloc(), "C 1; C 1; L M; B 2 2 536870912 0; E")?;
+    assert_eq!(rt; refusal(rt.alloc(), far.as_str()), limit);
+    Ok(())
+}

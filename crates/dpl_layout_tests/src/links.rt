@@ -285,6 +285,27 @@ fn the_closest_place_gives_the_weight(rt: HostRuntime) -> Result<(), Fail> {
     Ok(())
 }
 
+/// A box and a piece with two legs that end at one gap from it: the first of the two fragments stands for the clash, be it
+/// the first or the second end of the link.
+#[test]
+fn of_links_at_one_gap_the_first(rt: HostRuntime) -> Result<(), Fail> {
+    let above = [
+        (0, 0, 200, 200),
+        (0, 300, 60, 390),
+        (140, 300, 200, 390),
+        (0, 390, 200, 480),
+    ];
+    assert_eq!(rt; only_clash(rt.alloc(), &above)?, ((0, 1), 10));
+    let below = [
+        (0, 0, 200, 90),
+        (0, 90, 60, 180),
+        (140, 90, 200, 180),
+        (0, 280, 200, 480),
+    ];
+    assert_eq!(rt; only_clash(rt.alloc(), &below)?, ((1, 3), 10));
+    Ok(())
+}
+
 /// The same, turned on its side: what faces the box shares rows with it.
 fn clash_beside(alloc: Global, corner: i64, facing: i64) -> Result<((u32, u32), u64), Fail> {
     let tiles = [
@@ -331,6 +352,25 @@ fn bonds_and_stitches_have_their_weights(rt: HostRuntime) -> Result<(), Fail> {
     let wire = [(0, 0, 788, 200), (0, 300, 200, 500), (588, 300, 788, 500)];
     let wanted = [((0, 1), 1), ((0, 2), 10), ((1, 3), 10)];
     compare_weights(&rt, rt.alloc(), &wire, &wanted)
+}
+
+/// Bonds come first, then stitches, then clashes: a wire with a stem on it is cut on both sides of the stem.
+#[test]
+fn bonds_come_before_stitches(rt: HostRuntime) -> Result<(), Fail> {
+    let tiles = [
+        (0, 0, 2000, 200),
+        (500, 200, 560, 500),
+        (0, 300, 200, 500),
+        (1800, 300, 2000, 500),
+    ];
+    let wanted = [
+        ((1, 3), 0),
+        ((0, 1), 1),
+        ((1, 2), 1),
+        ((0, 4), 10),
+        ((2, 5), 10),
+    ];
+    compare_weights(&rt, rt.alloc(), &tiles, &wanted)
 }
 
 /// A link between corners leaves with the columns and the rows between them, in this order.

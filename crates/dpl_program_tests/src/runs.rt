@@ -59,11 +59,11 @@ pub fn run_over(alloc: Global, line: &str, world: World) -> Result<Ended, Fail> 
     Ok(Ended { status, out, err })
 }
 
-const SPLIT: &str = "split --layer M --space 100 --overlap 20";
+pub const SPLIT: &str = "split --layer M --space 100 --overlap 20";
 
 pub const CHECK: &str = "check --layer M --space 100 --overlap 20 --report r";
 
-const CROSS: &str = "cross --layer M --space 100 --overlap 20";
+pub const CROSS: &str = "cross --layer M --space 100 --overlap 20";
 
 const BALANCE: &str = "balance --layer M --space 100 --overlap 20";
 

@@ -1,10 +1,11 @@
 use crate::asked::asked;
-use dpl_cell::{Layout, Prim, Rect};
+use dpl_cell::{Layout, Point, Points, Prim, Rect};
 use dpl_edit::{EditError, Session};
 use dpl_layer::Drawing;
 use dpl_list::Items;
 use dpl_report::print;
 use std::alloc::Global;
+use std::test::Fail;
 
 /// The left, lower, right and upper end of a box.
 type Ends = (i64, i64, i64, i64);
@@ -314,4 +315,50 @@ fn odd_faces_too_many(rt: HostRuntime) {
         (Step::Remove(0), None),
     ];
     assert_eq!(rt; followed(rt.alloc(), row(rt.alloc()), &steps), Some(5));
+}
+
+/// A polygon of so many points, all in one place.
+fn polygon(alloc: Global, points: u32) -> Option<Vec<Prim>> {
+    let mut corners = Vec::new(alloc);
+    for _ in 0..points {
+        corners.push(Point::new(0, 0)?).ok()?;
+    }
+    let mut prims = Vec::new(alloc);
+    prims.push(Prim::Poly(Points::new(corners)?)).ok()?;
+    Some(prims)
+}
+
+/// So many boxes in one place.
+fn copies(alloc: Global, count: u32) -> Option<Vec<Prim>> {
+    let mut prims = Vec::new(alloc);
+    for _ in 0..count {
+        push(&mut prims, 0, 0, 200, 200)?;
+    }
+    Some(prims)
+}
+
+/// Why the second of two boxes is not taken, where the first is.
+fn second_refusal(alloc: Global, session: Option<Session>) -> Option<EditError> {
+    let mut session = session?;
+    if add(alloc, &mut session, Rect::new(300, 0, 500, 200)?).is_some() {
+        return None;
+    }
+    add(alloc, &mut session, Rect::new(600, 0, 800, 200)?)
+}
+
+/// A polygon counts as many as it has points, and what is kept whole does not count.
+#[test]
+fn room_for_one_box_more(rt: HostRuntime) -> Result<(), Fail> {
+    let alloc = rt.alloc();
+    let wanted = Some(EditError::Limit {
+        kind: 2,
+        count: 50_001,
+    });
+    let points = polygon(alloc, 49_999).ok_or("no polygon")?;
+    let drawn = begin(alloc, points, Vec::new(alloc));
+    assert_eq!(rt; second_refusal(alloc, drawn), wanted);
+    let most = copies(alloc, 49_999).ok_or("no boxes")?;
+    let kept = copies(alloc, 9).ok_or("no boxes")?;
+    assert_eq!(rt; second_refusal(alloc, begin(alloc, most, kept)), wanted);
+    Ok(())
 }

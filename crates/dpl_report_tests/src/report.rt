@@ -17,7 +17,7 @@ const NOTHING: &[u8] =
     b"(dpl 1);\n(layer M);\n(space 100);\n(overlap 20);\n(stitch 1);\n(conflict 10);\n(pieces 0);\n(fragments 0);\n(bonds 0);\n(stitches 0);\n(clashes 0);\n(excess 0);\n(cost 0);\n(bound 0);\n(masks );\nDS 1 1 4;\nL MA;\nL MB;\nDF;\nC 1;\nE\n";
 
 /// Three squares, each too close to the other two.
-const TRIANGLE: &[u8] =
+pub const TRIANGLE: &[u8] =
     b"(dpl 1);\n(layer M);\n(space 100);\n(overlap 20);\n(stitch 1);\n(conflict 10);\n(pieces 3);\n(fragments 3);\n(bonds 0);\n(stitches 0);\n(clashes 3);\n(excess 0);\n(cost 10);\n(bound 20);\n(masks AAB);\n(clash 0 0 1);\n(cycle 20 0 0 2 1);\nDS 1 1 4;\nL MA;\nB 400 400 200 200;\nB 400 400 800 200;\nL MB;\nB 400 400 500 800;\nDF;\nC 1;\nE\n";
 
 /// Nothing in the second version.
@@ -152,7 +152,12 @@ fn wrong_line(alloc: Global, text: &[u8]) -> Option<u64> {
 }
 
 /// A report with other text in place of one line.
-fn with_line(alloc: Global, report: &[u8], number: usize, new: &[u8]) -> Result<Vec<u8>, NoMemory> {
+pub fn with_line(
+    alloc: Global,
+    report: &[u8],
+    number: usize,
+    new: &[u8],
+) -> Result<Vec<u8>, NoMemory> {
     let mut out = Vec::new(alloc);
     let mut rest = report;
     let mut at: usize = 1;
@@ -284,4 +289,51 @@ fn the_first_version_ends_with_the_masks(rt: HostRuntime) {
         (b"(masks );\n(keep K);\n", 16),
     ];
     compare_wrong_lines(&rt, rt.alloc(), NOTHING, 15, &behind);
+}
+
+/// Edges and fragments are numbers of 32 bits, zones lie within the coordinates of a layer and hold a cell, and other
+/// numbers go up to 10 ^ 12.
+#[test]
+fn numbers_at_the_ends_of_their_ranges(rt: HostRuntime) {
+    for (number, new) in [
+        (13, b"(cost 1000000000000);\n".as_slice()),
+        (16, b"(clash 4294967295 4294967295 4294967295);\n"),
+        (16, b"(aside 0);\n(aside 4294967295);\n"),
+        (16, b"(cut 1 0 2 -1073741824 -2 -1073741823 1073741824);\n"),
+        (17, b"(cycle 1000000000000 4294967295 4294967295);\n"),
+        (20, b"B 2 2 -2147483647 2147483647;\n"),
+    ] {
+        assert!(rt; is_written_again_with(rt.alloc(), TRIANGLE, number, new));
+    }
+    let cost = [
+        (b"(cost 1000000000001);\n".as_slice(), 13),
+        (b"(cost -1);\n", 13),
+    ];
+    compare_wrong_lines(&rt, rt.alloc(), TRIANGLE, 13, &cost);
+    let edges = [
+        (b"(clash 4294967296 0 1);\n".as_slice(), 16),
+        (b"(clash 0 4294967296 1);\n", 16),
+        (b"(clash 0 0 4294967296);\n", 16),
+        (b"(clash 0 0 1);\n(cut 1 0 2 0 0 2 2);\n", 17),
+        (b"(aside 4294967296);\n", 16),
+        (b"(aside 1);\n(aside 1);\n", 17),
+        (b"(cut 1 0 2 0 0 0 2);\n", 16),
+        (b"(cut 1 0 2 0 2 2 2);\n", 16),
+        (b"(cut 1 0 2 0 0 2 1073741825);\n", 16),
+        (b"(cut 1 0 2 -1073741825 0 2 2);\n", 16),
+        (b"(cut 1 0 2 -0 0 2 2);\n", 16),
+    ];
+    compare_wrong_lines(&rt, rt.alloc(), TRIANGLE, 16, &edges);
+    let cycle = [
+        (b"(cycle 1000000000001 0 0);\n".as_slice(), 17),
+        (b"(cycle 1 4294967296 0);\n", 17),
+        (b"(cycle 1 0 4294967296);\n", 17),
+    ];
+    compare_wrong_lines(&rt, rt.alloc(), TRIANGLE, 17, &cycle);
+    let square = [
+        (b"B 3 2 0 0;\n".as_slice(), 20),
+        (b"B 2 2 2147483648 0;\n", 20),
+        (b"B 4 4 1 0;\n", 20),
+    ];
+    compare_wrong_lines(&rt, rt.alloc(), TRIANGLE, 20, &square);
 }
