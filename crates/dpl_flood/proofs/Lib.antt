@@ -23,3 +23,4 @@ pub mod StateLemmas
 pub mod ShiftLemmas
 pub mod FlowLemmas
 pub mod ResultLemmas
+pub mod PassLemmas

@@ -1,7 +1,6 @@
 -- The state of moats that grow, and the keys of ways and sets.
 use Rattle.std.specs.Prelude.{◌≡◌, ◌≢◌, ℕ, ◌+◌, ◌*◌, ◌%◌, ◌^◌, ◌<◌, ◌≤◌, ◌==◌, if◌then◌else◌, false, Some, List, ◌∷◌, length, slice_index, slice_index_or, All}
 use Rattle.dpl_laminar.specs.Storing.{sets_of}
-use Rattle.dpl_dual.specs.declared.crosses.Cross.{Cross}
 use Rattle.dpl_dual.specs.declared.crosses.Dual.{Dual}
 use Rattle.dpl_dual.specs.Chains.{IsAt}
 use Rattle.dpl_dual.specs.Duals.{way_at}
@@ -10,9 +9,8 @@ use Rattle.dpl_pack.specs.Nests.{inner_of}
 use Rattle.dpl_pack.specs.Points.{water, on}
 use Rattle.dpl_flood.specs.declared.state.State.{State}
 use Rattle.dpl_flood.specs.declared.ways.Step.{Step}
-use Rattle.dpl_flood.specs.declared.nodes.Node.{Node}
-use Rattle.dpl_flood.specs.Arenas.{AreNodes, IsThere, node_at}
-use Rattle.dpl_flood.specs.Holdings.{Holding, node_of, stack_of, point_of}
+use Rattle.dpl_flood.specs.Arenas.{AreNodes, node_at}
+use Rattle.dpl_flood.specs.Holdings.{node_of, stack_of, point_of}
 use Rattle.dpl_flood.specs.Queues.{never}
 use Rattle.dpl_flood.specs.Rates.{gains_in, losses_in}
 use Rattle.dpl_flood.specs.Seas.{Sea, IsSea, IsSeaDue, AreNow, AreHeldBy, Takes, Leaves, noted_at, stack_with, span_of, due_of}
@@ -35,13 +33,6 @@ pub record IsGround (d : Dual) : Type 0 where
   pub even : All (λ x. x.length % 2 ≡ 0) d.crosses
   pub short : All (λ x. x.length ≤ 2 ^ 50) d.crosses
   pub few : length d.crosses < 2 ^ 32
-
--- faces of one part, each once
-pub record AreSeats (d : Dual) (seats : List ℕ) : Type 0 where
-  pub few : length seats ≤ 2048
-  pub inside : (t : ℕ) → t < length seats → slice_index seats t < d.faces
-  pub part : (t : ℕ) → t < length seats → slice_index d.part (slice_index seats t) ≡ slice_index d.part (slice_index seats 0)
-  pub once : (t u : ℕ) → t < length seats → u < length seats → slice_index seats t ≡ slice_index seats u → t ≡ u
 
 -- the lists have a place for each face, each set and each member
 pub record IsSized (d : Dual) (x : State) : Type 0 where
@@ -112,7 +103,7 @@ pub record IsLeft (x y : State) (set face : ℕ) : Type 0 where
   pub sea : sea_of y ≡ noted_at (sea_of x) face water
   pub stacks : stack_of y.held ≡ stack_with (stack_of x.held) set rest
 
--- ---- while keys are set anew and seats are noted; no public clause speaks of what follows
+-- ---- while keys are set anew; no public clause speaks of what follows
 
 -- the way of the step at a place
 abbrev pub way_in : List Step → ℕ → ℕ
@@ -123,13 +114,3 @@ pub record AreKeyed (d : Dual) (s : Sea) (steps : List Step) (i : ℕ) (old new 
   pub sizes : length new ≡ length old
   pub done : (j : ℕ) → j < i → slice_index new (way_in steps j) ≡ due_of d s never (way_in steps j)
   pub others : (p : ℕ) → ((j : ℕ) → j < i → way_in steps j ≢ p) → slice_index new p ≡ slice_index old p
-
--- while seats are noted: the first of them are held by chains of their own, and no other faces
-pub record AreSeated (seats : List ℕ) (i : ℕ) (nodes : List Node) (old new : Holding) : Type 0 where
-  pub count : length nodes ≡ i
-  pub each : (a : ℕ) → a < i → IsThere nodes a (slice_index seats a) a 0
-  pub chains : (ways : List Cross) → AreNodes ways nodes
-  pub sizes : length new.nodes ≡ length old.nodes
-  pub stacks : new.stacks ≡ old.stacks
-  pub held : (a : ℕ) → a < i → node_of new (slice_index seats a) ≡ Some a
-  pub only : (g a : ℕ) → node_of new g ≡ Some a → (a < i) × (slice_index seats a ≡ g)

@@ -31,7 +31,7 @@ pub use arena::Arena;
 pub use chains::{chains_stay, joins_lead, steps_are};
 pub use held::Held;
 pub use laws::{
-    events_keep_seas, keys_tell_events, names_keep_time, shores_keep_keys, stacks_tell_falls,
+    events_keep_seas, keys_tell_events, names_keep_time, stacks_tell_falls, states_keep_keys,
     time_keeps_seas, trees_move_tops,
 };
 pub use looks::{look_around, look_set};

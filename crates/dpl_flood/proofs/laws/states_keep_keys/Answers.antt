@@ -2,7 +2,8 @@ use Rattle.dpl_pack.specs.Points.{water, on}
 use Rattle.dpl_flood.specs.States.{sea_of}
 use Rattle.dpl_flood.proofs.EventLemmas.{take_shifts, leave_shifts}
 use Rattle.dpl_flood.proofs.FlowLemmas.{shifted_keys, set_keys, same_keys}
-use Rattle.dpl_flood.proofs.laws.shores_keep_keys.Goals as goal
+use Rattle.dpl_flood.proofs.PassLemmas.{passed_stands}
+use Rattle.dpl_flood.proofs.laws.states_keep_keys.Goals as goal
 
 pub returns-clause-takes : goal.returns-clause-takes
 returns-clause-takes c = λ d x y face old new sx sy taken. shifted_keys d x y face (on taken.member taken.far) old new sx sy
@@ -17,3 +18,6 @@ returns-clause-sets c = set_keys
 
 pub returns-clause-same : goal.returns-clause-same
 returns-clause-same c = same_keys
+
+pub returns-clause-time : goal.returns-clause-time
+returns-clause-time c = passed_stands
