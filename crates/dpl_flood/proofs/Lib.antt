@@ -16,3 +16,11 @@ pub mod RateLemmas
 pub mod NameLemmas
 pub mod ToldLemmas
 pub mod PopLemmas
+pub mod StandingLemmas
+pub mod HoldingLemmas
+pub mod LookLemmas
+pub mod StateLemmas
+pub mod ShiftLemmas
+pub mod FlowLemmas
+pub mod ResultLemmas
+pub mod PassLemmas

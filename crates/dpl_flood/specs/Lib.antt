@@ -6,3 +6,7 @@ pub mod Seas
 pub mod DueLaws
 pub mod Rates
 pub mod TreeLaws
+pub mod Holdings
+pub mod Standings
+pub mod States
+pub mod StateLaws

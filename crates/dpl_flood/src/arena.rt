@@ -106,6 +106,7 @@ impl Arena {
     /// The first node of a member, at its seat. The number of the node is that of the member.
     pub fn seat(&mut self, face: u32) -> Result<u32, AllocError>
         ensures number { IfOk result (λ a. a ≡ length self.old) }
+        ensures one { IfOk result (λ _. length self.new ≡ length self.old + 1) }
         ensures node { IfOk result (λ a. IsThere self.new a face a 0) }
         ensures none { IfOk result (λ a. (node_at self.new a).last ≡ None) }
         ensures longer { IsLonger self.old self.new }

@@ -5,6 +5,7 @@ ghost use Rattle.dpl_flood.specs.DueLaws.{EventsKeepDue, EventsKeepNow, GrowsKee
 ghost use Rattle.dpl_flood.specs.DueLaws.{KeysAreDue, KeysAreLast, KeysAreComputed, RoomsAreComputed, EarlyKeysFall, KeysHaveCome, TopsMeet, TopsTake, SinglesClose, KeysComeUp, SomethingComes};
 ghost use Rattle.dpl_flood.specs.DueLaws.{StacksTellTops, TopsAreTold, TopsComeUp, TimeKeepsStacks, TakesKeepStacks, LeavesKeepStacks, SetsKeepStacks};
 ghost use Rattle.dpl_flood.specs.DueLaws.{TimeKeepsNames, GrowsKeepNames, RatesKeepNames, FoldsKeepNames, GivingWayKeepsNames, ShiftsKeepNames};
+ghost use Rattle.dpl_flood.specs.StateLaws.{TakesKeepKeys, LeavesKeepKeys, SetsKeepKeys, SeasKeepKeys, TimeKeepsStates};
 ghost use Rattle.dpl_flood.specs.TreeLaws.{ForestsGrow, ForestsCease, ForestsFold, FirstKeepsOthers, WalksKeepOthers, ForestsGive};
 
 /// Tops grow and fall, and as long as no key is passed each way stays long enough, no top loses more
@@ -87,4 +88,15 @@ pub fn names_keep_time()
     ensures folds { FoldsKeepNames }
     ensures opened { GivingWayKeepsNames }
     ensures shifts { ShiftsKeepNames }
+{}
+
+/// Where a face is taken or left, and the keys around it are set anew, all keys tell again when something
+/// comes, and none is before now. The key of a set may be set anew at any time, and while time passes up to
+/// the first key a state stays one, with the same keys. The call does nothing.
+pub fn states_keep_keys()
+    ensures takes { TakesKeepKeys }
+    ensures leaves { LeavesKeepKeys }
+    ensures sets { SetsKeepKeys }
+    ensures same { SeasKeepKeys }
+    ensures time { TimeKeepsStates }
 {}

@@ -14,21 +14,31 @@
 
 mod arena;
 mod chains;
+mod held;
 mod laws;
+mod looks;
 mod nodes;
 mod queue;
 mod searching;
+mod shores;
+mod standing;
+mod state;
 #[cfg(test)]
 mod tests;
 mod ways;
 
 pub use arena::Arena;
 pub use chains::{chains_stay, joins_lead, steps_are};
+pub use held::Held;
 pub use laws::{
-    events_keep_seas, keys_tell_events, names_keep_time, stacks_tell_falls, time_keeps_seas,
-    trees_move_tops,
+    events_keep_seas, keys_tell_events, names_keep_time, stacks_tell_falls, states_keep_keys,
+    time_keeps_seas, trees_move_tops,
 };
+pub use looks::{look_around, look_set};
 pub use nodes::{Join, Last, Node};
 pub use queue::Queue;
+pub use shores::{leave, take};
+pub use standing::{Standing, due};
+pub use state::State;
 pub use std::alloc::AllocError as NoMemory;
 pub use ways::{Step, steps_at};

@@ -15,6 +15,14 @@ pub struct Step {
     pub way: u32,
 }
 
+/// The way of a number.
+pub(crate) fn way_of(ways: &[Cross], number: u32) -> Cross
+    requires { number < length ways.now }
+    ensures { result ≡ way_at ways.now number }
+{
+    ways[number as usize]
+}
+
 /// Lists the steps over the way of a number at its two faces, unless they are one face.
 fn list(
     ways: &[Cross],

@@ -1,0 +1,53 @@
+//! The keys of ways and sets: those of the ways, and behind them those of the sets.
+
+ghost use Rattle.std.specs.Prelude.{◌≡◌, ◌+◌, ◌*◌, ◌<◌, ◌≤◌, ◌==◌, All, length, slice_index, slice_set};
+ghost use Rattle.dpl_laminar.specs.Storing.{sets_of};
+ghost use Rattle.dpl_flood.specs.Dues.{AreLooked};
+ghost use Rattle.dpl_flood.specs.Holdings.{stack_of};
+ghost use Rattle.dpl_flood.specs.Seas.{sides_of, tide_of};
+ghost use Rattle.dpl_flood.specs.States.{IsState, sea_of, fall_of, AreKeyed, AreKeyedAround};
+ghost use Rattle.dpl_flood.specs.Steps.{step_rows};
+
+use crate::queue::Queue;
+use crate::state::State;
+use crate::ways::Step;
+use dpl_dual::Dual;
+use dpl_list::Grouped;
+
+/// Sets the keys of the ways of these steps anew.
+fn look_over(state: &State, dual: &Dual, steps: &[Step], queue: &mut Queue)
+    requires state { IsState dual.now state.now }
+    requires steps { All (λ y. y.way < length dual.now.crosses) steps.now }
+    requires places { length dual.now.crosses ≤ length queue.old }
+    ensures { AreKeyed dual.now (sea_of state.now) steps.now (length steps.now) queue.old queue.new }
+{
+    for i in 0..steps.len() {
+        let way = steps[i].way;
+        queue.set(way as usize, state.look(dual, way));
+    }
+}
+
+/// Sets the keys of all ways at a face anew. It costs the ways at the face.
+pub fn look_around(state: &State, dual: &Dual, steps: &Grouped<Step>, queue: &mut Queue, face: u32)
+    requires state { IsState dual.now state.now }
+    requires steps { steps.now ≡ step_rows dual.now.crosses dual.now.faces }
+    requires face { face < dual.now.faces }
+    requires places { length dual.now.crosses ≤ length queue.old }
+    ensures keys { AreKeyedAround dual.now (sea_of state.now) face queue.old queue.new }
+    ensures looked { AreLooked (length dual.now.crosses) (sides_of dual.now) (tide_of dual.now (sea_of state.now))
+        state.now.time (λ g. g == face) (slice_index queue.old) (slice_index queue.new) }
+{
+    look_over(state, dual, steps.row(face as usize), queue);
+}
+
+/// Sets the key of a set anew.
+pub fn look_set(state: &State, dual: &Dual, queue: &mut Queue, set: u32)
+    requires state { IsState dual.now state.now }
+    requires set { set < 2 * (sets_of state.now.family).size }
+    requires places { length queue.old ≡ length dual.now.crosses + 2 * (sets_of state.now.family).size }
+    ensures { queue.new ≡ slice_set queue.old (length dual.now.crosses + set)
+        (fall_of (sea_of state.now) (stack_of state.now.held) set) }
+{
+    let ways = dual.crosses.as_slice().len();
+    queue.set(ways + set as usize, state.fall(set));
+}

@@ -1,0 +1,143 @@
+//! What moats are at one moment, as a program keeps them.
+
+ghost use Rattle.std.specs.Prelude.{◌≡◌, ◌<◌, ◌*◌, true, false, length, slice_index, slice_index_or};
+ghost use Rattle.dpl_laminar.specs.Storing.{sets_of};
+ghost use Rattle.dpl_dual.specs.declared.crosses.Dual.{Dual};
+ghost use Rattle.dpl_tree.specs.declared.tree.Label.TheVariants.{Free};
+ghost use Rattle.dpl_flood.specs.Holdings.{stack_of};
+ghost use Rattle.dpl_flood.specs.Queues.{never};
+ghost use Rattle.dpl_flood.specs.Seas.{due_of, span_of, span_at};
+ghost use Rattle.dpl_flood.specs.Standings.{StandsOn, IsStanding};
+ghost use Rattle.dpl_flood.specs.States.{IsState, sea_of, fall_of};
+
+use crate::arena::Arena;
+use crate::held::Held;
+use crate::standing::{Standing, due};
+use crate::ways::way_of;
+use dpl_dual::Dual;
+use dpl_laminar::Family;
+use dpl_list::Items;
+use dpl_tree::Label;
+
+/// Moats around the odd faces of a part, and how they move.
+#[derive(Drop)]
+pub struct State {
+    pub family: Family,
+    /// By member its face.
+    pub seats: Items<u32>,
+    /// By set how it stands in the trees, and whether it rests.
+    pub labels: Vec<Label>,
+    pub rests: Vec<bool>,
+    /// By member what the sets strictly inside its top have.
+    pub inners: Vec<u64>,
+    pub held: Held,
+    pub arena: Arena,
+    pub time: u64,
+}
+
+impl State {
+    /// How a set stands in the trees.
+    fn label(&self, set: u32) -> Label
+        requires { set < length self.now.labels.items }
+        ensures { result ≡ slice_index_or self.now.labels.items set Free }
+    {
+        self.labels[set as usize]
+    }
+
+    /// Whether a set rests.
+    fn is_resting(&self, set: u32) -> bool
+        requires { set < length self.now.rests.items }
+        ensures { result ≡ slice_index_or self.now.rests.items set false }
+    {
+        self.rests[set as usize]
+    }
+
+    /// What the sets strictly inside its top have for a member.
+    fn inner(&self, member: u32) -> u64
+        requires { member < length self.now.inners.items }
+        ensures { result ≡ slice_index self.now.inners.items member }
+    {
+        self.inners[member as usize]
+    }
+
+    /// Where it is that is so far from the seat of a member.
+    fn standing_on(&self, member: u32, far: u64) -> Standing
+        requires state { (d : Dual) × IsState d self.now }
+        requires member { member < (sets_of self.now.family).size }
+        ensures { IsStanding (sea_of self.now) member far result }
+    {
+        let top = self.family.tops(member);
+        let total = self.inner(member) + self.family.value(top);
+        Standing {
+            top,
+            reach: total.saturating_sub(far),
+            label: self.label(top),
+            rests: self.is_resting(top),
+        }
+    }
+
+    /// Where a face stands: none in open water.
+    pub fn standing(&self, face: u32) -> Option<Standing>
+        requires { (d : Dual) × IsState d self.now }
+        ensures { StandsOn (sea_of self.now) face result }
+    {
+        match self.held.node(face) {
+            Some(node) => {
+                let node = self.arena.node(node);
+                Some(self.standing_on(node.member, node.far))
+            }
+            None => None,
+        }
+    }
+
+    /// When something comes on a way.
+    pub fn look(&self, dual: &Dual, way: u32) -> u64
+        requires state { IsState dual.now self.now }
+        requires way { way < length dual.now.crosses }
+        ensures { result ≡ due_of dual.now (sea_of self.now) never way }
+    {
+        let way = way_of(dual.crosses.as_slice(), way);
+        due(
+            self.standing(way.f),
+            self.standing(way.g),
+            way.length,
+            self.time,
+        )
+    }
+
+    /// How far a moat reaches beyond a face.
+    fn reach(&self, face: u32) -> u64
+        requires { (d : Dual) × IsState d self.now }
+        ensures { result ≡ span_at (sea_of self.now) ((sea_of self.now).point face) }
+    {
+        match self.standing(face) {
+            Some(standing) => standing.reach,
+            None => 0,
+        }
+    }
+
+    /// How long a top that falls has until it leaves its last face, or where it has none until its end.
+    fn span(&self, set: u32) -> u64
+        requires state { (d : Dual) × IsState d self.now }
+        requires set { set < 2 * (sets_of self.now.family).size }
+        requires live { (sets_of self.now.family).live set ≡ true }
+        ensures { result ≡ span_of (sea_of self.now) (stack_of self.now.held) set }
+    {
+        match self.held.last(set) {
+            Some(face) => self.reach(face),
+            None => self.family.value(set),
+        }
+    }
+
+    /// When a top that falls leaves its last face or ends. For another set it is the greatest number.
+    pub fn fall(&self, set: u32) -> u64
+        requires state { (d : Dual) × IsState d self.now }
+        requires set { set < 2 * (sets_of self.now.family).size }
+        ensures { result ≡ fall_of (sea_of self.now) (stack_of self.now.held) set }
+    {
+        match self.label(set) {
+            Label::Inner => self.time + self.span(set),
+            _ => u64::MAX,
+        }
+    }
+}
