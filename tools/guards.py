@@ -13,6 +13,7 @@ from typing import Dict, Iterable, Iterator, List, NamedTuple, Set, Tuple
 from definitions import TOP, Function, Place, all_sources, crate_of, module, reached, source, words_in
 from planted import FILE, OLD, lines_of, planted
 
+KINDS = ("law", "contract", "test", "edit")
 SHOWN = 3
 
 
@@ -92,17 +93,18 @@ def touched(path: str, text: str, known: Dict[Tuple[str, str], Set[Place]]) -> S
 
 def listed(places: Iterable[Place], top: str) -> List[str]:
     """A line for each definition, and one for each kind of guard that it has; the contract of the top call reaches them all."""
-    guards = [guard for guard in all_guards() if guard.name != top]
+    guards = sorted((guard for guard in all_guards() if guard.name != top), key=lambda guard: len(guard.found))
     lines: List[str] = []
     for place in sorted(places):
         lines.append(f"{place.name} of {place.path}")
-        lines += guarding(place, guards) or ["    nothing but the contract that reaches it"]
-    return lines
+        lines += guarding(place, guards) or [f"    nothing but {top}, and so the samples"]
+    return [*lines, summary(set(places), guards)]
 
 
 def guarding(place: Place, guards: Iterable[Guard]) -> List[str]:
+    """A line for each kind: those that name the definition, and those that reach it, the fewest others first."""
     lines: List[str] = []
-    for kind in ("law", "contract", "test", "edit"):
+    for kind in KINDS:
         of_kind = [guard for guard in guards if guard.kind == kind]
         for word, names in (
             ("names it", [guard.name for guard in of_kind if place in guard.named]),
@@ -112,3 +114,12 @@ def guarding(place: Place, guards: Iterable[Guard]) -> List[str]:
                 more = f" and {len(names) - SHOWN} more" if len(names) > SHOWN else ""
                 lines.append(f"    {kind} that {word}: {', '.join(names[:SHOWN])}{more}")
     return lines
+
+
+def summary(places: Set[Place], guards: Iterable[Guard]) -> str:
+    """How many definitions guards of each kind name."""
+    named: Dict[str, Set[Place]] = {kind: set() for kind in KINDS}
+    for guard in guards:
+        named[guard.kind] |= guard.named & places
+    told = ", ".join(f"{len(named[kind])} named by {'an' if kind == 'edit' else 'a'} {kind}" for kind in KINDS)
+    return f"{len(places)} definitions: {told}, {len(places - set().union(*named.values()))} by none of these"

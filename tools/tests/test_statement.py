@@ -9,6 +9,7 @@ from common import tool as ran_tool
 from test_papers import load
 
 import definitions
+import guards
 
 tool = load("statement")
 
@@ -76,6 +77,20 @@ class Rules(unittest.TestCase):
         made = tool.Table(["word + -: of naturals", "twice a: b", "@ rest"])
         self.assertEqual(made.words, {"+": "of naturals", "-": ""})
         self.assertEqual(made.twice, {"a": "b"})
+
+
+class Guards(unittest.TestCase):
+    def test_kinds(self) -> None:
+        box = guards.Guard("law", "boxes", {BOX}, {BOX})
+        cells = guards.Guard("contract", "cells", {CELLS}, {CELLS, BOX})
+        self.assertEqual(guards.guarding(BOX, [box, cells]), ["    law that names it: boxes", "    contract that reaches it: cells"])
+        self.assertEqual(guards.guarding(CELLS, [box]), [])
+        told = "2 definitions: 1 named by a law, 1 named by a contract, 0 named by a test, 0 named by a edit, 0 by none of these"
+        self.assertEqual(guards.summary({BOX, CELLS}, [box, cells]), told.replace("a edit", "an edit"))
+
+    def test_edit_of_a_definition(self) -> None:
+        line = next(line for line in definitions.module(BOX.path).blocks[BOX.name] if line.startswith("is_in_box"))
+        self.assertEqual(guards.touched(BOX.path, line, {}), {BOX})
 
 
 class Page(unittest.TestCase):
