@@ -1,8 +1,8 @@
 -- How long a made layout can be.
-use Rattle.std.proofs.Common.{arith, ◌≡◌, ℕ, zero, suc, ◌+◌, ◌*◌, ◌/◌, ◌<◌, ◌≤◌, ◌++◌, length, length-append}
+use Rattle.std.proofs.Common.{arith, ◌≡◌, ℕ, List, zero, suc, ◌+◌, ◌*◌, ◌/◌, ◌<◌, ◌≤◌, ◌++◌, length, length-append}
 use Rattle.std.specs.Prelude.{codes, decimal}
 use Rattle.std.proofs.lemmas.Fmt.{length-decimal-le}
-use Rattle.dpl_gen.specs.Layout.{Text, bottom, left, box_length, box_line, draw, next_state, state_after, row_text, rows_text, layout}
+use Rattle.dpl_gen.specs.Layout.{bottom, left, box_length, made_line, draw, next_state, state_after, row_text, rows_text, layout}
 
 number_short : (n : ℕ) → n < 1000000 → length (decimal n) ≤ 6
 number_short n small = length-decimal-le 6 n (omega arith) small (omega arith)
@@ -16,10 +16,10 @@ left_small column d c = omega arith
 bottom_small : (row : ℕ) → row ≤ 200 → bottom row < 100000
 bottom_small row r = omega arith
 
-joined : (a b c d e f g : Text) → length (a ++ b ++ c ++ d ++ e ++ f ++ g) ≡ length a + length b + length c + length d + length e + length f + length g
+joined : (a b c d e f g : List ℕ) → length (a ++ b ++ c ++ d ++ e ++ f ++ g) ≡ length a + length b + length c + length d + length e + length f + length g
 joined a b c d e f g = simp (length-append)
 
-box_short : (row column d : ℕ) → row ≤ 200 → column ≤ 200 → length (box_line row column d) ≤ 30
+box_short : (row column d : ℕ) → row ≤ 200 → column ≤ 200 → length (made_line row column d) ≤ 30
 box_short row column d r c =
     let n = box_length d in
     let l : n < 1000 = length_small d in
@@ -34,7 +34,7 @@ box_short row column d r c =
 row_short : (k row column s : ℕ) → row ≤ 200 → column + k ≤ 200 → length (row_text k row column s) ≤ k * 30
 row_short zero row column s r c = omega arith
 row_short (suc k) row column s r c =
-    let line = box_line row column (draw (next_state s)) in
+    let line = made_line row column (draw (next_state s)) in
     let b : length line ≤ 30 = box_short row column (draw (next_state s)) r (omega arith) in
     let rest : length (row_text k row (column + 1) (next_state s)) ≤ k * 30 = row_short k row (column + 1) (next_state s) r (omega arith) in
     let e = length-append line (row_text k row (column + 1) (next_state s)) in

@@ -5,6 +5,7 @@ use Rattle.dpl_options.specs.Options.{PlainOptions, AreOptions}
 use Rattle.dpl_layer.specs.Reasons.{FirstOf}
 use Rattle.dpl_layer.specs.Refusals.{layer_reasons}
 use Rattle.dpl_layer.proofs.RefusalLemmas.{layer_kind, never_memory, one_text_refusal}
+use Rattle.dpl_check.specs.Checked.{IsAcceptedOf}
 use Rattle.dpl_check.specs.declared.verdicts.Verdict.{Verdict}
 use Rattle.dpl_check.specs.declared.verdicts.Verdict.TheVariants.{Yes, No}
 use Rattle.dpl_check.proofs.GoodMaskLemmas.{yes_accepts}
@@ -15,7 +16,7 @@ use Rattle.dpl_run.specs.declared.status.Status.TheVariants.{Done, Rejected}
 use Rattle.dpl_run.specs.Inputs.{judges}
 use Rattle.dpl_run.specs.due.Check.{IsCheckDue}
 use Rattle.dpl_run.specs.due.Check.IsCheckDue.{refused, rejected, accepted}
-use Rattle.dpl_run.specs.Consequences.{WritesBound}
+use Rattle.dpl_run.specs.Lines.{yes_line}
 use Rattle.dpl_run.specs.Errors.{status_of}
 use Rattle.dpl_run.proofs.EndLemmas.{AllEnd, error_ends, refused_not_done}
 
@@ -52,7 +53,7 @@ one_check o text report _ _ _ _ (accepted cost bound v) (accepted cost' bound' w
 -- where check is done, what was written is a cost and a bound with which the report is accepted
 pub accepted_bound : (o : PlainOptions) (text report taken : List ℕ) (now : Option (List ℕ)) (a : Status) (x : List ℕ)
     → AreOptions o → IsCheckDue o text report a x → a ≡ Done → now ≡ Some (taken ++ x)
-    → WritesBound o text report taken now
+    → (cost : ℕ) × (bound : ℕ) × (now ≡ Some (taken ++ yes_line cost bound)) × IsAcceptedOf o text report cost bound
 accepted_bound o text report taken now _ _ ranges (refused e r) d is = absurd (refused_not_done e d)
 accepted_bound o text report taken now _ _ ranges (rejected reason place found wanted v) d is = absurd (cc)
 accepted_bound o text report taken now _ _ ranges (accepted cost bound v) d is =

@@ -12,3 +12,5 @@ pub mod ReadingLemmas
 pub mod ToldLemmas
 pub mod SteadyLemmas
 pub mod AbsentLemmas
+pub mod RangeLemmas
+pub mod SomeLemmas

@@ -1,13 +1,13 @@
 -- What is written is due, and what is due is answered.
-use Rattle.std.proofs.Common.{◌≡◌, ◌≢◌, ◌↔◌, ◌∙◌, ℕ, List, [], ◌++◌, append-nil, take, drop, Option, None, Some, refl, sym, subst, inl, inr}
+use Rattle.std.proofs.Common.{◌≡◌, ◌≢◌, ◌⊎◌, ◌↔◌, ◌∙◌, ℕ, List, [], ◌++◌, append-nil, take, drop, Option, None, Some, refl, sym, subst, inl, inr}
 use Rattle.std.specs.Prelude.{Result, Ok, Err}
 use Rattle.std.proofs.lemmas.List.{take-append-drop}
 use Rattle.std.specs.Io.KnownBytes.{Appends, Keeps}
 use Rattle.dpl_ext.specs.Device.{Texts, Rose}
-use Rattle.dpl_words.specs.Commands.{PlainCommand, command_of}
+use Rattle.dpl_words.specs.Commands.{PlainCommand, asked_by}
 use Rattle.dpl_run.specs.declared.status.Status.{Status}
 use Rattle.dpl_run.specs.declared.status.Status.TheVariants.{Done, Rejected, Usage, Layout, Limit, Script, ReadFault, WriteFault, NoMemory}
-use Rattle.dpl_run.specs.Answer.{Answers, IsAnswered, IsCutShort, IsDue, IsDueOf, IsQuiet, IsStatusOf, IsWritten}
+use Rattle.dpl_run.specs.Answer.{Answers, IsCutShort, IsDue, IsDueOf, IsQuiet, IsStatusOf, IsWritten}
 use Rattle.dpl_run.specs.Devices.{AreTold}
 use Rattle.dpl_run.specs.Telling.{IsBare, IsDueOrFree, IsTold}
 use Rattle.dpl_run.proofs.EndLemmas.{IsFit}
@@ -54,6 +54,10 @@ told_answers Due sound before now f g a x result p (inr w) =
     subst (Answers Due before now) (sym w.fault) (record
     { output = x; due = some Due sound a x p w.some; taken = w.taken })
 
+-- the status that is due is answered, or memory ran out, or a write failed where something was to be written
+abbrev pub IsAnswered : Status → Status → Type 0
+IsAnswered due result = (result ≡ due) ⊎ (result ≡ NoMemory) ⊎ ((result ≡ WriteFault) × (due ≡ Done))
+
 -- what is due comes, where no read failed
 pub comes : (Due : Status → List ℕ → Type 0) → IsOnce Due
     → (before now : Option (List ℕ)) (due result : Status) (x : List ℕ) → Answers Due before now result
@@ -73,10 +77,10 @@ comes Due once before now due (Script line kind) x w p n = inl (once _ due w.out
 -- the status of an attempt, with its output told, answers the words and the texts
 pub attempt_answers : (words : List (List ℕ)) (command : Result PlainCommand ℕ) (left : Option (List ℕ))
     → (texts : Option Texts) (before now : Option (List ℕ)) (f g : ℕ) (a : Status) (x : List ℕ)
-    → (result : Status) → command_of words ≡ command
+    → (result : Status) → asked_by words ≡ command
     → ((text report : List ℕ) → AreTold command left texts text report → IsDueOrFree (IsDueOf command text report) a x)
     → IsTold a x before now f g result → (text report : List ℕ)
-    → AreTold (command_of words) left texts text report → Answers (IsDue words text report) before now result
+    → AreTold (asked_by words) left texts text report → Answers (IsDue words text report) before now result
 attempt_answers words command left texts before now f g a x result e due told text report t =
     let due' = due text report (subst (λ z. AreTold z left texts text report) e t) in
     subst (λ z. Answers (IsDueOf z text report) before now result) (sym e)
@@ -88,7 +92,7 @@ appends_none (Some xs) = sym (append-nil xs)
 
 -- wrong words are answered by their rule
 pub usage_answers : (words : List (List ℕ)) (kind : ℕ) (now : Option (List ℕ)) (text report : List ℕ)
-    → command_of words ≡ Err kind → Answers (IsDue words text report) now now (Usage kind)
+    → asked_by words ≡ Err kind → Answers (IsDue words text report) now now (Usage kind)
 usage_answers words kind now text report e =
     subst (λ z. Answers (IsDueOf z text report) now now (Usage kind)) (sym e) (record { output = []; due = (refl, refl); taken = appends_none now })
 
@@ -121,20 +125,18 @@ told_write a x before now f g result b (inl w) e = absurd (subst (λ z. IsBare z
 told_write a x before now f g result b (inr w) e = w.rose
 
 -- what is due for words and texts comes, where no read failed
-pub all_comes : (words : List (List ℕ)) (left : Option (List ℕ)) (texts : Option Texts) (before now : Option (List ℕ)) (result : Status)
-    → ((text report : List ℕ) → AreTold (command_of words) left texts text report → Answers (IsDue words text report) before now result)
-    → (text report : List ℕ) → AreTold (command_of words) left texts text report
-    → (due : Status) (output : List ℕ) → IsDue words text report due output → result ≢ ReadFault
+pub all_comes : (words : List (List ℕ)) (text second : List ℕ) (before now : Option (List ℕ)) (due result : Status) (output : List ℕ)
+    → IsDue words text second due output → Answers (IsDue words text second) before now result → result ≢ ReadFault
     → IsAnswered due result
-all_comes words left texts before now result answer text report t due output d n =
-    comes (IsDue words text report) (one_due (command_of words) text report) before now due result output (answer text report t) d n
+all_comes words text second before now due result output d a n =
+    comes (IsDue words text second) (one_due (asked_by words) text second) before now due result output a d n
 
 -- ---- whatever the devices do
 
 -- a status of the command, with its output told, is one of the words
 pub told_status : (words : List (List ℕ)) (c : PlainCommand) (a : Status) (x : List ℕ) (before now : Option (List ℕ)) (f g : ℕ) (result : Status)
-    → command_of words ≡ Ok c → IsStatusOf (Ok c) a → IsTold a x before now f g result
-    → IsStatusOf (command_of words) result
+    → asked_by words ≡ Ok c → IsStatusOf (Ok c) a → IsTold a x before now f g result
+    → IsStatusOf (asked_by words) result
 told_status words c a x before now f g result e s (inl w) = subst (λ z. IsStatusOf z result) (sym e) (subst (IsStatusOf (Ok c)) (sym w.status_is) s)
 told_status words c a x before now f g result e s (inr w) = subst (λ z. IsStatusOf z result) (sym e) (subst (IsStatusOf (Ok c)) (sym w.fault) tt)
 
@@ -144,7 +146,7 @@ memory_status (Err kind) = inr refl
 memory_status (Ok c) = tt
 
 -- the rule that words break is a status of them
-pub usage_status : (words : List (List ℕ)) (kind : ℕ) → command_of words ≡ Err kind → IsStatusOf (command_of words) (Usage kind)
+pub usage_status : (words : List (List ℕ)) (kind : ℕ) → asked_by words ≡ Err kind → IsStatusOf (asked_by words) (Usage kind)
 usage_status words kind e = subst (λ z. IsStatusOf z (Usage kind)) (sym e) (inl refl)
 
 -- ---- what a sink took that tells it

@@ -11,7 +11,7 @@ use Rattle.dpl_layer.specs.Reasons.{FirstOf, NoneOf, IsPassed}
 use Rattle.dpl_layer.specs.Refusals.{layer_reasons}
 use Rattle.dpl_core.specs.Refusals.{split_reasons}
 use Rattle.dpl_core.specs.Reports.{IsSplit, IsBalancedSplit, IsRefinedSplit}
-use Rattle.dpl_words.specs.Commands.{PlainCommand, split, check, load, cross, edit, balance, refine, command_of}
+use Rattle.dpl_words.specs.Commands.{PlainCommand, split, check, load, cross, edit, balance, refine, asked_by}
 use Rattle.dpl_run.specs.declared.status.Status.{Status}
 use Rattle.dpl_run.specs.declared.status.Status.TheVariants.{Done, Rejected, Usage, Limit, Script, ReadFault, WriteFault, NoMemory}
 use Rattle.dpl_run.specs.Inputs.{Opened, reads_layout, opens, judges, follows, colours}
@@ -64,7 +64,7 @@ IsDueOf (Err kind) text second status output = (status ≡ Usage kind) × (outpu
 IsDueOf (Ok c) text second status output = IsDueFor c text second status output
 
 abbrev pub IsDue : List (List ℕ) → List ℕ → List ℕ → Status → List ℕ → Type 0
-IsDue words = IsDueOf (command_of words)
+IsDue words = IsDueOf (asked_by words)
 
 -- ---- what is answered
 
@@ -88,11 +88,6 @@ Answers Due before now WriteFault = IsCutShort Due before now
 Answers Due before now ReadFault = ⊤
 Answers Due before now NoMemory = ⊤
 Answers Due before now status = IsWritten Due before now status
-
--- the status that is due is answered, or memory ran out, or a write failed where something was to be written
-abbrev pub IsAnswered : Status → Status → Type 0
-IsAnswered due result = (result ≡ due) ⊎ (result ≡ NoMemory) ⊎
-    ((result ≡ WriteFault) × (due ≡ Done))
 
 -- nothing was written, but for a whole output and for a front of one
 abbrev pub IsQuiet : Option (List ℕ) → Option (List ℕ) → Status → Type 0

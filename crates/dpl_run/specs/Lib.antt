@@ -3,6 +3,6 @@ pub mod Inputs
 pub mod Devices
 pub mod due
 pub mod Answer
-pub mod Consequences
+pub mod Deciding
 pub mod Telling
 pub mod Errors

@@ -1,14 +1,18 @@
 //! What the words of the contract of `run` mean, said without them: no proof guards a definition but these.
-ghost use Rattle.std.specs.Prelude.{◌≡◌, ◌≢◌, ◌⊎◌, ◌↔◌, ℕ, ℤ, ◌+◌, ◌<◌, ◌≤◌, true, List, [], ◌∷◌, ◌++◌, Option, Some, Ok, Err};
+ghost use Rattle.std.specs.Prelude.{◌≡◌, ◌≢◌, ◌⊎◌, ◌↔◌, ℕ, ℤ, ◌+◌, ◌<◌, ◌≤◌, true, List, [], ◌∷◌, ◌++◌, Option, Some, Result, Ok, Err};
 ghost use Rattle.dpl_limits.specs.declared.TheConstants.{MOST_LAYOUT_BYTES};
 ghost use Rattle.dpl_cell.specs.Places.{Corners};
 ghost use Rattle.dpl_cell.specs.Layers.{is_within, is_in_box};
 ghost use Rattle.dpl_cell.specs.Cells.{IsWithin, IsIn};
 ghost use Rattle.dpl_ext.specs.Device.{Seen, Texts, last_count};
 ghost use Rattle.dpl_options.specs.Options.{PlainOptions};
-ghost use Rattle.dpl_words.specs.Commands.{PlainCommand, split, check, load, cross, edit, balance, refine};
-ghost use Rattle.dpl_run.specs.Answer.{Answers, IsAnswered, IsDue, IsDueOf, IsQuiet, IsStatusOf};
+ghost use Rattle.dpl_core.specs.Reports.{IsSplit, IsBalancedSplit, IsRefinedSplit};
+ghost use Rattle.dpl_check.specs.Checked.{IsAcceptedOf};
+ghost use Rattle.dpl_words.specs.Commands.{PlainCommand, split, check, load, cross, edit, balance, refine, asked_by};
+ghost use Rattle.dpl_run.specs.Answer.{Answers, IsDue, IsDueOf, IsQuiet, IsStatusOf};
 ghost use Rattle.dpl_run.specs.Devices.{AreSteady, AreTold, AsksFor, IsReadFault, IsTouched, PassesBytes};
+ghost use Rattle.dpl_run.specs.Deciding.{GoByCells};
+ghost use Rattle.dpl_run.specs.Lines.{yes_line};
 ghost use Rattle.dpl_run.specs.due.Edit.{IsEditDue, IsFollowed};
 ghost use Rattle.dpl_run.specs.declared.status.Status.{Status};
 ghost use Rattle.dpl_run.specs.declared.status.Status.TheVariants.{Done, Rejected, Usage, Limit, Script, NoMemory, ReadFault, WriteFault};
@@ -39,13 +43,60 @@ pub fn devices_tell()
         (text second : List ℕ) → AreTold (Err kind) left texts text second }
 {}
 
-/// What is due for wrong words, and for a layout that is too long.
-pub fn answers_are_due()
-    ensures wrong_words { (kind : ℕ) (text second output : List ℕ) (status : Status) →
+/// What is due for wrong words.
+pub fn wrong_words_are_due()
+    ensures { (kind : ℕ) (text second output : List ℕ) (status : Status) →
         IsDueOf (Err kind) text second status output ↔ ((status ≡ Usage kind) × (output ≡ [])) }
-    ensures answered { (due result : Status) → IsAnswered due result → result ≢ NoMemory →
-        result ≢ WriteFault → result ≡ due }
-    ensures cut { (due : Status) → IsAnswered due WriteFault → due ≢ WriteFault → due ≡ Done }
+{}
+
+/// At most one status is due, and what is due is answered, but for a failed read, want of memory, and a failed write where
+/// an output was due.
+pub fn one_due()
+    ensures once { (words : List (List ℕ)) (text second output other : List ℕ)
+        (due also : Status) → IsDue words text second due output →
+        IsDue words text second also other → due ≡ also }
+    ensures answered { (words : List (List ℕ)) (text second output : List ℕ)
+        (before now : Option (List ℕ)) (due result : Status) →
+        IsDue words text second due output → Answers (IsDue words text second) before now result →
+        result ≢ ReadFault → (result ≡ due) ⊎ (result ≡ NoMemory) ⊎
+        ((result ≡ WriteFault) × (due ≡ Done)) }
+{}
+
+/// Some status is due for words that are none, for a text that has too many bytes, and for a layout that is not drawn:
+/// one that breaks a rule, or has too many primitives or calls or a coordinate that is too great. Elsewhere the cells
+/// decide what is due.
+pub fn some_due()
+    ensures { (command : Result PlainCommand ℕ) (text second : List ℕ) →
+        ((status : Status) × (output : List ℕ) × IsDueOf command text second status output)
+        ⊎ GoByCells command text second }
+{}
+
+/// A split that is done wrote the text of a report of the layer, of whose net no pair of masks costs less than the bound
+/// says; so did a balanced one, whose masks cover about the same area, and a refined one wrote a refined report.
+pub fn split_is_least()
+    ensures split { (words : List (List ℕ)) (o : PlainOptions) (text second taken : List ℕ)
+        (now : Option (List ℕ)) → asked_by words ≡ Ok (split o) →
+        Answers (IsDue words text second) (Some taken) now Done →
+        (output : List ℕ) × (now ≡ Some (taken ++ output)) × IsSplit o text output }
+    ensures balance { (words : List (List ℕ)) (o : PlainOptions) (text second taken : List ℕ)
+        (now : Option (List ℕ)) → asked_by words ≡ Ok (balance o) →
+        Answers (IsDue words text second) (Some taken) now Done →
+        (output : List ℕ) × (now ≡ Some (taken ++ output)) × IsBalancedSplit o text output }
+    ensures balanced { (o : PlainOptions) (text output : List ℕ) →
+        IsBalancedSplit o text output → IsSplit o text output }
+    ensures refine { (words : List (List ℕ)) (o : PlainOptions) (text second taken : List ℕ)
+        (now : Option (List ℕ)) → asked_by words ≡ Ok (refine o) →
+        Answers (IsDue words text second) (Some taken) now Done →
+        (output : List ℕ) × (now ≡ Some (taken ++ output)) × IsRefinedSplit o text output }
+{}
+
+/// A check that is done wrote the cost and the bound of the report: its masks are those of the layer and cost so much, and
+/// every pair of masks costs at least half the bound.
+pub fn yes_is_accepted()
+    ensures { (words : List (List ℕ)) (o : PlainOptions) (name text report taken : List ℕ)
+        (now : Option (List ℕ)) → asked_by words ≡ Ok (check o name) →
+        Answers (IsDue words text report) (Some taken) now Done → (cost : ℕ) × (bound : ℕ) ×
+        (now ≡ Some (taken ++ yes_line cost bound)) × IsAcceptedOf o text report cost bound }
 {}
 
 /// `edit` is done exactly where all lines of the script are taken, with the text of a report of the

@@ -1,13 +1,10 @@
 // The program over its devices.
-ghost use Rattle.std.specs.Prelude.{◌+◌, ◌≡◌, ◌≢◌, ℕ, List, Some, Ok, map, string_bytes};
+ghost use Rattle.std.specs.Prelude.{◌+◌, ◌≡◌, ◌≢◌, ℕ, List, map, string_bytes};
 ghost use Rattle.std.specs.Io.KnownBytes.{Appends};
 ghost use Rattle.dpl_limits.specs.declared.TheConstants.{MOST_LAYOUT_BYTES, MOST_REPORT_BYTES, MOST_SCRIPT_BYTES};
 ghost use Rattle.dpl_ext.specs.Device.{Rose, AppendsFront};
-ghost use Rattle.dpl_options.specs.Options.{AreOptions, PlainOptions};
-ghost use Rattle.dpl_words.specs.Commands.{check, refine, command_of};
-ghost use Rattle.dpl_words.specs.Views.{plain_command};
-ghost use Rattle.dpl_run.specs.Answer.{Answers, IsAnswered, IsDue, IsQuiet, IsStatusOf};
-ghost use Rattle.dpl_run.specs.Consequences.{AskForSplit, WritesBound, WritesLeast, WritesRefined};
+ghost use Rattle.dpl_words.specs.Commands.{asked_by};
+ghost use Rattle.dpl_run.specs.Answer.{Answers, IsDue, IsQuiet, IsStatusOf};
 ghost use Rattle.dpl_run.specs.Devices.{AreSteady, AreTold, AskForAbsent, IsReadFault, IsTouched, IsUnread, PassesBytes, Reads};
 ghost use Rattle.dpl_run.specs.Lines.{line_of};
 
@@ -16,7 +13,7 @@ use crate::due::tell;
 use crate::line::status_line;
 use crate::status::Status;
 use dpl_ext::{Shelf, Sink, Source, write_all};
-use dpl_words::{Command, UsageError, parse};
+use dpl_words::{UsageError, parse};
 use std::alloc::Global;
 
 /// Does what the words ask for: every command but `load` reads the layout from `layout`, `check` opens its report and
@@ -29,45 +26,23 @@ pub fn run<S: Source, F: Shelf, O: Sink, E: Sink>(
     out: &mut O,
     err: &mut E,
 ) -> Status
-    // What the status says of the words, the layout and the report, and what `out` took.
+    // What the status says of the words, the layout and the report, and what `out` took. What follows of it is said by
+    // `one_due`, `some_due`, `split_is_least` and `yes_is_accepted` of `laws`.
     ensures answer { (text report : List ℕ)
-        → AreTold (command_of (map string_bytes words.now)) (S.seen layout.old).left
+        → AreTold (asked_by (map string_bytes words.now)) (S.seen layout.old).left
         (F.texts second.old) text report
         → Answers (IsDue (map string_bytes words.now) text report) (O.taken out.old)
         (O.taken out.new) result }
     ensures quiet { IsQuiet (O.taken out.old) (O.taken out.new) result }
 
-    // When each status comes.
-    ensures comes { (text report : List ℕ)
-        → AreTold (command_of (map string_bytes words.now)) (S.seen layout.old).left
-        (F.texts second.old) text report
-        → (due : Status) (output : List ℕ) →
-        IsDue (map string_bytes words.now) text report due output
-        → result ≢ Status.ReadFault → IsAnswered due result }
-    ensures of_words { IsStatusOf (command_of (map string_bytes words.now)) result }
-    ensures absent { AskForAbsent (command_of (map string_bytes words.now)) (F.texts second.old) →
+    // What the status says whatever the devices do.
+    ensures of_words { IsStatusOf (asked_by (map string_bytes words.now)) result }
+    ensures absent { AskForAbsent (asked_by (map string_bytes words.now)) (F.texts second.old) →
         IsUnread result }
-
-    // What a split, a refined one and an accepted report mean for every other pair of masks, and that the masks of an
-    // accepted report are those of the layer.
-    ensures least { (o : PlainOptions) (text taken : List ℕ) →
-        AskForSplit (command_of (map string_bytes words.now)) o
-        → (S.seen layout.old).left ≡ Some text → O.taken out.old ≡ Some taken
-        → result ≡ Status.Done → WritesLeast o text taken (O.taken out.new) }
-    ensures refined { (o : PlainOptions) (text taken : List ℕ) →
-        command_of (map string_bytes words.now) ≡ Ok (refine o)
-        → (S.seen layout.old).left ≡ Some text → O.taken out.old ≡ Some taken
-        → result ≡ Status.Done → WritesRefined o text taken (O.taken out.new) }
-    ensures accepted { (o : PlainOptions) (name text report taken : List ℕ) →
-        command_of (map string_bytes words.now) ≡ Ok (check o name)
-        → AreTold (command_of (map string_bytes words.now)) (S.seen layout.old).left
-        (F.texts second.old) text report
-        → O.taken out.old ≡ Some taken → result ≡ Status.Done →
-        WritesBound o text report taken (O.taken out.new) }
 
     // When a device is to blame, how much was read, and which devices were not touched.
     ensures read { result ≡ Status.ReadFault →
-        IsReadFault (command_of (map string_bytes words.now)) (S.seen layout.old)
+        IsReadFault (asked_by (map string_bytes words.now)) (S.seen layout.old)
         (S.seen layout.new) (F.seen second.old) (F.seen second.new) }
     ensures write { result ≡ Status.WriteFault → Rose (O.faults out.old) (O.faults out.new) }
     ensures limit { (count : ℕ) → result ≡ Status.Limit 1 count →
@@ -76,7 +51,7 @@ pub fn run<S: Source, F: Shelf, O: Sink, E: Sink>(
         PassesBytes (MOST_REPORT_BYTES + 1) count (F.seen second.old) (F.seen second.new) }
     ensures script_limit { (count : ℕ) → result ≡ Status.Limit 10 count →
         PassesBytes (MOST_SCRIPT_BYTES + 1) count (F.seen second.old) (F.seen second.new) }
-    ensures touched { IsTouched (command_of (map string_bytes words.now)) (S.seen layout.old)
+    ensures touched { IsTouched (asked_by (map string_bytes words.now)) (S.seen layout.old)
         (S.seen layout.new) (F.seen second.old) (F.seen second.new) }
     ensures steady { result ≢ Status.ReadFault → result ≢ Status.WriteFault
         → result ≢ Status.NoMemory → AreSteady (S.seen layout.old) (S.seen layout.new)
@@ -100,40 +75,26 @@ fn attempt<S: Source, F: Shelf, O: Sink>(
     out: &mut O,
 ) -> Status
     ensures answer { (text report : List ℕ)
-        → AreTold (command_of (map string_bytes words.now)) (S.seen layout.old).left
+        → AreTold (asked_by (map string_bytes words.now)) (S.seen layout.old).left
         (F.texts second.old) text report
         → Answers (IsDue (map string_bytes words.now) text report) (O.taken out.old)
         (O.taken out.new) result }
     ensures quiet { IsQuiet (O.taken out.old) (O.taken out.new) result }
-    ensures of_words { IsStatusOf (command_of (map string_bytes words.now)) result }
-    ensures absent { AskForAbsent (command_of (map string_bytes words.now)) (F.texts second.old) →
+    ensures of_words { IsStatusOf (asked_by (map string_bytes words.now)) result }
+    ensures absent { AskForAbsent (asked_by (map string_bytes words.now)) (F.texts second.old) →
         IsUnread result }
-    ensures reads { Reads (command_of (map string_bytes words.now)) result (S.seen layout.old)
+    ensures reads { Reads (asked_by (map string_bytes words.now)) result (S.seen layout.old)
         (S.seen layout.new) (F.seen second.old) (F.seen second.new) }
     ensures write { result ≡ Status.WriteFault → Rose (O.faults out.old) (O.faults out.new) }
     ensures steady { result ≢ Status.ReadFault → result ≢ Status.WriteFault
         → result ≢ Status.NoMemory → AreSteady (S.seen layout.old) (S.seen layout.new)
         (F.seen second.old) (F.seen second.new) (O.faults out.old) (O.faults out.new) }
-    ensures ranges { (o : PlainOptions) (name : List ℕ) → result ≡ Status.Done →
-        command_of (map string_bytes words.now) ≡ Ok (check o name) → AreOptions o }
 {
     let command = match parse(alloc, words) {
         Ok(command) => command,
         Err(UsageError::Usage(kind)) => return Status::Usage(kind),
         Err(UsageError::NoMemory) => return Status::NoMemory,
     };
-    ranges_of_check(&command);
     let due = due_for(alloc, &command, layout, second);
     tell(out, &due)
-}
-
-/// The options of a check are in their ranges.
-fn ranges_of_check(command: &Command)
-    ensures { (o : PlainOptions) (name : List ℕ) → plain_command command.now ≡ check o name →
-        AreOptions o }
-{
-    match command {
-        Command::Check { options, .. } => options.in_range(),
-        _ => {}
-    }
 }

@@ -1,6 +1,6 @@
 use Rattle.std.proofs.Common.{map, sym, subst}
 use Rattle.std.specs.Prelude.{string_bytes, Ok}
-use Rattle.dpl_words.specs.Commands.{command_of}
+use Rattle.dpl_words.specs.Commands.{asked_by}
 use Rattle.dpl_words.specs.Views.{plain_command}
 use Rattle.dpl_run.specs.Answer.{Answers, IsDue, IsStatusOf}
 use Rattle.dpl_run.specs.Devices.{AskForAbsent, Reads}
@@ -51,11 +51,11 @@ returns-clause-of_words g c =
 
 pub returns-in-Err-Usage-clause-of_words : goal.returns-in-Err-Usage-clause-of_words
 returns-in-Err-Usage-clause-of_words g c =
-    subst (λ z. IsStatusOf (command_of (map string_bytes c.args.words.now)) (Usage z)) (sym c.in-Err-Usage.kind-is)
+    subst (λ z. IsStatusOf (asked_by (map string_bytes c.args.words.now)) (Usage z)) (sym c.in-Err-Usage.kind-is)
     (usage_status (map string_bytes c.args.words.now) c.in-Err-Usage.kind (rw c.in-Err-Usage.field-0-is at c.in-Err-Usage.ensures.answer))
 
 pub returns-in-Err-NoMemory-clause-of_words : goal.returns-in-Err-NoMemory-clause-of_words
-returns-in-Err-NoMemory-clause-of_words g c = memory_status (command_of (map string_bytes c.args.words.now))
+returns-in-Err-NoMemory-clause-of_words g c = memory_status (asked_by (map string_bytes c.args.words.now))
 
 pub returns-clause-absent : goal.returns-clause-absent
 returns-clause-absent g c = λ a.
@@ -82,10 +82,10 @@ pub returns-in-Err-Usage-clause-reads : goal.returns-in-Err-Usage-clause-reads
 returns-in-Err-Usage-clause-reads g c =
     let l = g.S.Source.seen c.args.layout.now in
     let p = g.F.Source.seen c.args.second.now in
-    subst (λ z. Reads (command_of (map string_bytes c.args.words.now)) (Usage z) l l p p) (sym c.in-Err-Usage.kind-is)
-    (usage_reads (command_of (map string_bytes c.args.words.now)) c.in-Err-Usage.kind l p)
+    subst (λ z. Reads (asked_by (map string_bytes c.args.words.now)) (Usage z) l l p p) (sym c.in-Err-Usage.kind-is)
+    (usage_reads (asked_by (map string_bytes c.args.words.now)) c.in-Err-Usage.kind l p)
 
 pub returns-in-Err-NoMemory-clause-reads : goal.returns-in-Err-NoMemory-clause-reads
 returns-in-Err-NoMemory-clause-reads g c =
-    memory_reads (command_of (map string_bytes c.args.words.now)) (g.S.Source.seen c.args.layout.now)
+    memory_reads (asked_by (map string_bytes c.args.words.now)) (g.S.Source.seen c.args.layout.now)
     (g.F.Source.seen c.args.second.now)
