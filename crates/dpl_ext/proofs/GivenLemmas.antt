@@ -1,19 +1,31 @@
 -- What one read after another gave.
-use Rattle.std.proofs.Common.{◌≡◌, ℕ, ◌<◌, ◌≤◌, ◌⊎◌, drop, List, ◌++◌, length, length-append, append_assoc, Bool, true}
-use Rattle.std.proofs.Common.{false, Option, None, Some, Result, Err, ap, ◌∙◌, sym, inl, inr, arith}
+use Rattle.std.proofs.Common.{◌≡◌, ℕ, ◌+◌, ◌-◌, ◌<◌, ◌≤◌, ◌⊎◌, List, [], ◌++◌, length, length-append, append_assoc}
+use Rattle.std.proofs.Common.{Option, None, Some, Result, Err, ap, ◌∙◌, sym, inl, inr, refl, arith}
 use Rattle.std.specs.Prelude.{IfSome}
-use Rattle.std.proofs.Math.Seq.{drop-append_seam}
+use Rattle.std.proofs.lemmas.List.{append-nil}
 use Rattle.std.specs.Io.KnownBytes.{Consumes}
 use Rattle.dpl_ext.specs.declared.reading.ReadEnd.{ReadEnd}
 use Rattle.dpl_ext.specs.declared.reading.ReadEnd.TheVariants.{Fault, TooLong, NoMemory}
 use Rattle.dpl_ext.specs.Device.{Seen, Gave, Rose}
-use Rattle.dpl_ext.specs.Reading.{GivesPiece, StopsPiece, IsWhole, Refuses, TookFront}
+use Rattle.dpl_ext.specs.Reading.{GivesPiece, StopsPiece, HandsOn, HandsWhole, Refuses, TookFront}
 
 Consumes-append : (a b c : Option (List ℕ)) (xs ys : List ℕ) → Consumes a b xs → Consumes b c ys → Consumes a c (xs ++ ys)
 Consumes-append None b c xs ys p q = tt
 Consumes-append (Some s) (Some t) None xs ys p q = absurd q
 Consumes-append (Some s) (Some t) (Some u) xs ys p q = p ∙ ap (λ z. xs ++ z) q ∙ sym (append_assoc xs ys u)
 Consumes-append (Some s) None c xs ys p q = absurd p
+
+Consumes-nothing : (a : Option (List ℕ)) → Consumes a a []
+Consumes-nothing None = tt
+Consumes-nothing (Some s) = refl
+
+Gave-nothing : (a : Seen) → Gave a a []
+Gave-nothing a = record {
+  front = Consumes-nothing a.left;
+  counted = (omega arith, omega arith);
+  later = omega arith;
+  same = refl;
+}
 
 pub Gave-append : (a b c : Seen) (xs ys : List ℕ) → Gave a b xs → Gave b c ys → Gave a c (xs ++ ys)
 Gave-append a b c xs ys p q = record {
@@ -23,74 +35,72 @@ Gave-append a b c xs ys p q = record {
   same = q.same ∙ p.same;
 }
 
-pub IsWhole-end : (a b c : Seen) (old new : List ℕ) (limit : ℕ) (ended : Bool) → Gave a b old
-    → b.faults ≡ a.faults → GivesPiece b c old new limit ended → ended ≡ true → IsWhole a c new limit
-IsWhole-end a b c old new limit ended p same q e = record {
-  gave = rw q.added (Gave-append a b c old q.piece p q.gave);
-  at_end = q.at_end e;
-  within = q.within;
-  steady = q.steady ∙ same;
+-- nothing was read yet
+pub HandsOn-nothing : (a : Seen) (got : List ℕ) → HandsOn a a got got 0
+HandsOn-nothing a got = record {
+  bytes = [];
+  gave = Gave-nothing a;
+  got_is = sym (append-nil got);
+  counted = refl;
+  steady = refl;
 }
 
-pub length-more : (b c : Seen) (old new : List ℕ) (limit : ℕ) (ended : Bool) → GivesPiece b c old new limit ended → ended ≡ false → length old < length new
-length-more b c old new limit ended q e = rw (q.added, length-append) (omega (arith, q.not_end e))
-
-pub Gave-more : (a b c : Seen) (old new : List ℕ) (limit : ℕ) (ended : Bool) → Gave a b old → GivesPiece b c old new limit ended → Gave a c new
-Gave-more a b c old new limit ended p q = rw q.added (Gave-append a b c old q.piece p q.gave)
-
-pub Refuses-stop : (a b c : Seen) (old : List ℕ) (limit : ℕ) (error : ReadEnd) → Gave a b old
-    → b.faults ≡ a.faults → StopsPiece b c old limit error → Refuses a c limit error
-Refuses-stop a b c old limit Fault p same q = record {
-  taken = old ++ q.piece;
-  gave = Gave-append a b c old q.piece p q.gave;
-  means = simp length-append (omega (arith, q.means), omega (arith, q.means));
+-- a piece more was handed on
+pub HandsOn-more : (a b c : Seen) (got got_now got_then : List ℕ) (taken room count : ℕ) → HandsOn a b got got_now taken
+    → GivesPiece b c got_now got_then room count → HandsOn a c got got_then (taken + count)
+HandsOn-more a b c got got_now got_then taken room count p q = record {
+  bytes = p.bytes ++ q.piece;
+  gave = Gave-append a b c p.bytes q.piece p.gave q.gave;
+  got_is = rw (q.got_is, p.got_is) (append_assoc got p.bytes q.piece);
+  counted = rw (length-append p.bytes q.piece, p.counted, q.counted) refl;
+  steady = q.steady ∙ p.steady;
 }
-Refuses-stop a b c old limit TooLong p same q = record {
-  taken = old ++ q.piece;
-  gave = Gave-append a b c old q.piece p q.gave;
-  means = simp length-append (q.means.0, q.means.1 ∙ same);
+
+-- the piece without a byte was the last one
+pub HandsWhole-end : (a b c : Seen) (got got_now got_then : List ℕ) (taken limit count : ℕ) → HandsOn a b got got_now taken
+    → GivesPiece b c got_now got_then (limit - taken) count → taken ≤ limit → count ≡ 0 → HandsWhole a c got got_then limit
+HandsWhole-end a b c got got_now got_then taken limit count p q w e =
+    let all = HandsOn-more a b c got got_now got_then taken (limit - taken) count p q in
+    record {
+      bytes = all.bytes;
+      whole = record {
+        gave = all.gave;
+        at_end = q.at_end e;
+        within = omega (arith, all.counted, q.within);
+        steady = all.steady;
+      };
+      got_is = all.got_is;
+    }
+
+-- a read that stopped, behind what was handed on
+pub Refuses-stop : (a b c : Seen) (got got_now : List ℕ) (taken limit : ℕ) (error : ReadEnd) → HandsOn a b got got_now taken
+    → StopsPiece b c taken limit error → Refuses a c limit error
+Refuses-stop a b c got got_now taken limit Fault p q = record {
+  taken = p.bytes ++ q.piece;
+  gave = Gave-append a b c p.bytes q.piece p.gave q.gave;
+  means = rw (length-append p.bytes q.piece, p.counted, ← p.steady) q.means;
 }
-Refuses-stop a b c old limit NoMemory p same q = record {
-  taken = old ++ q.piece;
-  gave = Gave-append a b c old q.piece p q.gave;
-  means = simp length-append q.means;
+Refuses-stop a b c got got_now taken limit TooLong p q = record {
+  taken = p.bytes ++ q.piece;
+  gave = Gave-append a b c p.bytes q.piece p.gave q.gave;
+  means = rw (length-append p.bytes q.piece, p.counted, ← p.steady) q.means;
+}
+Refuses-stop a b c got got_now taken limit NoMemory p q = record {
+  taken = p.bytes ++ q.piece;
+  gave = Gave-append a b c p.bytes q.piece p.gave q.gave;
+  means = rw (length-append p.bytes q.piece, p.counted) q.means;
 }
 
 -- the taker has what came before a read that stopped
-pub TookFront-stop : (a b c : Seen) (old : List ℕ) (limit : ℕ) (error : ReadEnd) (got got_now : List ℕ)
-    → Gave a b old → StopsPiece b c old limit error → got_now ≡ got ++ old → length old ≤ limit
-    → TookFront a c limit got got_now
-TookFront-stop a b c old limit error got got_now p q e w = record {
-  front = old;
+pub TookFront-stop : (a b c : Seen) (got got_now got_then : List ℕ) (taken limit : ℕ) (error : ReadEnd) → HandsOn a b got got_now taken
+    → StopsPiece b c taken limit error → got_then ≡ got_now → taken ≤ limit → TookFront a c limit got got_then
+TookFront-stop a b c got got_now got_then taken limit error p q e w = record {
+  front = p.bytes;
   rest = q.piece;
-  gave = Gave-append a b c old q.piece p q.gave;
-  got_is = e;
-  within = w;
+  gave = Gave-append a b c p.bytes q.piece p.gave q.gave;
+  got_is = e ∙ p.got_is;
+  within = omega (arith, p.counted, w);
 }
-
--- the taker refused a piece
-pub Refuses-piece : (a b c : Seen) (old new : List ℕ) (limit : ℕ) (ended : Bool) → Gave a b old
-    → GivesPiece b c old new limit ended → Refuses a c limit NoMemory
-Refuses-piece a b c old new limit ended p q = record { taken = new; gave = Gave-more a b c old new limit ended p q; means = q.within }
-
-pub TookFront-piece : (a b c : Seen) (old new : List ℕ) (limit : ℕ) (ended : Bool) (got got_now : List ℕ)
-    → Gave a b old → GivesPiece b c old new limit ended → got_now ≡ got ++ old → length old ≤ limit
-    → TookFront a c limit got got_now
-TookFront-piece a b c old new limit ended got got_now p q e w = record {
-  front = old;
-  rest = q.piece;
-  gave = Gave-append a b c old q.piece p q.gave;
-  got_is = e;
-  within = w;
-}
-
--- the taker got the piece behind the bytes so far
-pub got_more : (b c : Seen) (old new : List ℕ) (limit : ℕ) (ended : Bool) (first got got_now : List ℕ)
-    → GivesPiece b c old new limit ended → got ≡ first ++ old → got_now ≡ got ++ drop (length old) new
-    → got_now ≡ first ++ new
-got_more b c old new limit ended first got got_now q e f =
-    let d : drop (length old) new ≡ q.piece = rw q.added (drop-append_seam old q.piece) in
-    rw (f, d, e, q.added) (append_assoc first old q.piece)
 
 -- what holds of every value holds of the one that may be there
 pub IfSome-each : {X : Type 0} (o : Option X) (P : X → Type 0) → ((x : X) → P x) → IfSome o P

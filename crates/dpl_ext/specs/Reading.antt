@@ -1,5 +1,5 @@
 -- What reading a whole source answers.
-use Rattle.std.specs.Prelude.{◌≡◌, ℕ, ◌+◌, ◌≤◌, ◌<◌, List, ◌++◌, length, Bool, true, false}
+use Rattle.std.specs.Prelude.{◌≡◌, ℕ, ◌+◌, ◌≤◌, ◌<◌, List, ◌++◌, length}
 use Rattle.std.specs.Io.KnownBytes.{IsAtEnd}
 use Rattle.dpl_ext.specs.Device.{Seen, Gave, Rose}
 use Rattle.dpl_ext.specs.declared.reading.ReadEnd.{ReadEnd}
@@ -25,23 +25,36 @@ pub record Refuses (before now : Seen) (limit : ℕ) (error : ReadEnd) : Type 0 
   pub gave : Gave before now taken
   pub means : MeansEnd before now limit (length taken) error
 
--- a piece of what was left stands behind the bytes so far, and it is empty only at the end
-pub record GivesPiece (before now : Seen) (old new : List ℕ) (limit : ℕ)
-    (ended : Bool) : Type 0 where
+-- a piece of what was left, of so many bytes and no more than there is room for, stands behind what the taker had;
+-- it has no byte only at the end
+pub record GivesPiece (before now : Seen) (got got_now : List ℕ) (room count : ℕ) : Type 0 where
   pub piece : List ℕ
   pub gave : Gave before now piece
-  pub added : new ≡ old ++ piece
-  pub within : length new ≤ limit
-  pub at_end : ended ≡ true → IsAtEnd now.left
-  pub not_end : ended ≡ false → 0 < length piece
+  pub got_is : got_now ≡ got ++ piece
+  pub counted : length piece ≡ count
+  pub within : count ≤ room
+  pub at_end : count ≡ 0 → IsAtEnd now.left
   pub steady : now.faults ≡ before.faults
 
--- the piece that was read is not kept
-pub record StopsPiece (before now : Seen) (old : List ℕ) (limit : ℕ)
-    (error : ReadEnd) : Type 0 where
+-- the piece that was read behind so many bytes is not handed on
+pub record StopsPiece (before now : Seen) (taken limit : ℕ) (error : ReadEnd) : Type 0 where
   pub piece : List ℕ
   pub gave : Gave before now piece
-  pub means : MeansEnd before now limit (length old + length piece) error
+  pub means : MeansEnd before now limit (taken + length piece) error
+
+-- so many bytes of what was left stand behind what the taker had, and no read failed
+pub record HandsOn (before now : Seen) (got got_now : List ℕ) (count : ℕ) : Type 0 where
+  pub bytes : List ℕ
+  pub gave : Gave before now bytes
+  pub got_is : got_now ≡ got ++ bytes
+  pub counted : length bytes ≡ count
+  pub steady : now.faults ≡ before.faults
+
+-- all that was left stands behind what the taker had
+pub record HandsWhole (before now : Seen) (got got_now : List ℕ) (limit : ℕ) : Type 0 where
+  pub bytes : List ℕ
+  pub whole : IsWhole before now bytes limit
+  pub got_is : got_now ≡ got ++ bytes
 
 -- a taker has a front of what was read, and nothing past the limit
 pub record TookFront (before now : Seen) (limit : ℕ) (got got_now : List ℕ) : Type 0 where

@@ -1,7 +1,7 @@
 // Reading all that is left of a source.
-ghost use Rattle.std.specs.Prelude.{◌≡◌, ◌+◌, ◌++◌, ◌^◌, ◌<◌, ◌≤◌, ◌⊎◌, length, vec_len, IfOk, IfErr, IfSome, OnErr, Err};
+ghost use Rattle.std.specs.Prelude.{◌≡◌, ◌+◌, ◌-◌, ◌^◌, ◌<◌, ◌≤◌, ◌⊎◌, length, IfOk, IfErr, IfSome, OnOk, OnErr, Err};
 ghost use Rattle.dpl_ext.specs.Device.{Rose, RoseBy};
-ghost use Rattle.dpl_ext.specs.Reading.{GivesPiece, StopsPiece, IsWhole, Refuses, TookFront};
+ghost use Rattle.dpl_ext.specs.Reading.{GivesPiece, StopsPiece, HandsWhole, IsWhole, Refuses, TookFront};
 
 use crate::devices::{Failed, Source};
 use crate::taking::Taker;
@@ -38,26 +38,23 @@ pub fn read_all<S: Source>(alloc: Global, source: &mut S, limit: u64) -> Result<
     ensures reads { S.reads source.new ≤ S.reads source.old + limit + 2 }
 {
     let mut bytes = Vec::new(alloc);
-    for _turn in 0..limit + 2 {
-        if read_piece(source, &mut bytes, limit)? {
-            return Ok(bytes);
-        }
+    match read_each(source, limit, &mut bytes) {
+        Ok(()) => Ok(bytes),
+        Err(end) => Err(end),
     }
-    unreachable!()
 }
 
-/// Reads all that is left as `read_all` does, and hands each piece on as it comes. After a refusal
-/// the taker has a front of what was read.
+/// Reads all that is left as `read_all` does, hands each piece on as it comes, and keeps none. After a refusal the taker
+/// has a front of what was read.
 pub fn read_each<S: Source, T: Taker>(
-    alloc: Global,
     source: &mut S,
     limit: u64,
     taker: &mut T,
-) -> Result<Vec<u8>, ReadEnd>
+) -> Result<(), ReadEnd>
     requires small { limit < 2 ^ 32 }
     requires room { length (T.got taker.old) + limit ≤ T.room taker.old }
-    ensures whole { IfOk result (λ v.
-        IsWhole (S.seen source.old) (S.seen source.new) v.items limit) }
+    ensures whole { OnOk result (HandsWhole (S.seen source.old) (S.seen source.new)
+        (T.got taker.old) (T.got taker.new) limit) }
     ensures refused { IfErr result (Refuses (S.seen source.old) (S.seen source.new) limit) }
     ensures too_long { result ≡ Err ReadEnd.TooLong →
         IfSome (S.seen source.old).left (λ xs. limit < length xs) }
@@ -66,47 +63,51 @@ pub fn read_each<S: Source, T: Taker>(
         → (result ≡ Err ReadEnd.TooLong) ⊎ (result ≡ Err ReadEnd.NoMemory)) }
     ensures reads { S.reads source.new ≤ S.reads source.old + limit + 2 }
 
-    // What the taker got.
-    ensures got { IfOk result (λ v. T.got taker.new ≡ T.got taker.old ++ v.items) }
+    // What the taker got where not all was read.
     ensures front { OnErr result (TookFront (S.seen source.old) (S.seen source.new) limit
         (T.got taker.old) (T.got taker.new)) }
     ensures same { T.room taker.new ≡ T.room taker.old }
 {
-    let mut bytes = Vec::new(alloc);
+    let mut taken = 0;
     for _turn in 0..limit + 2 {
-        let before = bytes.len();
-        let ended = read_piece(source, &mut bytes, limit)?;
-        if taker.take(&bytes[before..]).is_err() {
-            return Err(ReadEnd::NoMemory);
+        let count = read_piece(source, taker, taken, limit)?;
+        if count == 0 {
+            return Ok(());
         }
-        if ended {
-            return Ok(bytes);
-        }
+        taken += count;
     }
     unreachable!()
 }
 
-/// Reads a piece of what is left behind the bytes so far, and says whether that was the end.
-fn read_piece<S: Source>(source: &mut S, bytes: &mut Vec<u8>, limit: u64) -> Result<bool, ReadEnd>
-    requires room { vec_len bytes.old ≤ limit }
+/// Hands on the next piece of what is left, of which so many bytes were taken before, and says how long it is: it has no
+/// byte only at the end.
+fn read_piece<S: Source, T: Taker>(
+    source: &mut S,
+    taker: &mut T,
+    taken: u64,
+    limit: u64,
+) -> Result<u64, ReadEnd>
+    requires within { taken ≤ limit }
     requires small { limit < 2 ^ 32 }
-    ensures ok { IfOk result (GivesPiece (S.seen source.old) (S.seen source.new) bytes.old.items
-        bytes.new.items limit) }
-    ensures err { IfErr result (StopsPiece (S.seen source.old) (S.seen source.new) bytes.old.items
-        limit) }
+    requires room { length (T.got taker.old) + (limit - taken) ≤ T.room taker.old }
+    ensures ok { IfOk result (GivesPiece (S.seen source.old) (S.seen source.new)
+        (T.got taker.old) (T.got taker.new) (limit - taken)) }
+    ensures err { IfErr result (StopsPiece (S.seen source.old) (S.seen source.new) taken limit) }
+    ensures kept { OnErr result (T.got taker.new ≡ T.got taker.old) }
+    ensures same { T.room taker.new ≡ T.room taker.old }
     ensures reads { RoseBy 1 (S.reads source.old) (S.reads source.new) }
 {
     let mut piece = [0u8; 4096];
-    let want = (limit + 1 - bytes.len() as u64).min(PIECE) as usize;
+    let want = (limit + 1 - taken).min(PIECE) as usize;
     let count = match source.read(&mut piece[..want]) {
         Ok(count) => count,
         Err(Failed) => return Err(ReadEnd::Fault),
     };
-    if bytes.len() as u64 + count as u64 > limit {
+    if taken + count as u64 > limit {
         return Err(ReadEnd::TooLong);
     }
-    match bytes.extend_from_slice(&piece[..count]) {
-        Ok(()) => Ok(count == 0),
+    match taker.take(&piece[..count]) {
+        Ok(()) => Ok(count as u64),
         Err(_) => Err(ReadEnd::NoMemory),
     }
 }

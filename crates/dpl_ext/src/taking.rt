@@ -1,5 +1,5 @@
 // What is handed a text in pieces.
-ghost use Rattle.std.specs.Prelude.{◌≡◌, ℕ, ◌+◌, ◌≤◌, ◌++◌, List, length, OnOk, OnErr};
+ghost use Rattle.std.specs.Prelude.{◌≡◌, ℕ, ◌+◌, ◌^◌, ◌≤◌, ◌++◌, List, length, OnOk, OnErr};
 
 use std::alloc::AllocError as NoMemory;
 
@@ -16,4 +16,14 @@ pub trait Taker {
         ensures taken { OnOk result (got self.new ≡ got self.old ++ piece.now) }
         ensures same { OnErr result (got self.new ≡ got self.old) }
         ensures room { room self.new ≡ room self.old };
+}
+
+impl Taker for Vec<u8> {
+    ghost got = { λ s. s.items };
+
+    ghost room = { λ _. 2 ^ 32 };
+
+    fn take(&mut self, piece: &[u8]) -> Result<(), NoMemory> {
+        self.extend_from_slice(piece)
+    }
 }

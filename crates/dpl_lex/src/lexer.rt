@@ -1,18 +1,19 @@
 // A text that comes in pieces.
 ghost use Rattle.std.specs.Prelude.{◌≡◌, ◌≤◌, ◌+◌, ◌++◌, [], length, IfOk, OnOk, OnErr};
 ghost use Rattle.dpl_limits.specs.declared.TheConstants.{MOST_LAYOUT_BYTES};
+ghost use Rattle.dpl_lex.specs.Cutting as cutting;
 ghost use Rattle.dpl_lex.specs.Cutting.{commands_of};
 
 use crate::cutting::{Place, ending, pass};
-use crate::types::{Commands, Span};
+use crate::types::{Commands, Lexed, Span};
 use dpl_list::Items;
 use std::alloc::{AllocError, Global};
 use std::marker::Model;
 
-/// Cuts a text that comes in pieces. Contracts see it as the bytes fed so far.
+/// Keeps a text that comes in pieces, and cuts it as it comes. Contracts see it as the bytes fed so far.
 #[derive(Drop)]
 pub struct Lexer {
-    fed: Vec<u8>,
+    text: Vec<u8>,
     spans: Vec<Span>,
     place: Place,
 }
@@ -24,12 +25,12 @@ impl Model for Lexer {
 
     ghost Value = { List ℕ };
 
-    ghost view = { λ s. s.fed.items };
+    ghost view = { λ s. s.text.items };
 
-    ghost invariant = { λ s. (length s.fed.items ≤ MOST_LAYOUT_BYTES)
-        × IsNoDeeper (length s.fed.items) s.place
-        × ((rest : List ℕ) → after s.spans.items (cut s.place (length s.fed.items) rest)
-        ≡ commands_of (s.fed.items ++ rest)) };
+    ghost invariant = { λ s. (length s.text.items ≤ MOST_LAYOUT_BYTES)
+        × IsNoDeeper (length s.text.items) s.place
+        × ((rest : List ℕ) → after s.spans.items (cut s.place (length s.text.items) rest)
+        ≡ commands_of (s.text.items ++ rest)) };
 }
 
 impl Lexer {
@@ -38,7 +39,7 @@ impl Lexer {
         ensures { result ≡ [] }
     {
         Lexer {
-            fed: Vec::new(alloc),
+            text: Vec::new(alloc),
             spans: Vec::new(alloc),
             place: Place::Between,
         }
@@ -51,8 +52,8 @@ impl Lexer {
         ensures same { OnErr result (self.new ≡ self.old) }
     {
         let count = self.spans.len();
-        let at = self.fed.len();
-        self.fed.extend_from_slice(piece)?;
+        let at = self.text.len();
+        self.text.extend_from_slice(piece)?;
         match pass(&mut self.spans, self.place, at as u32, piece) {
             Ok(place) => {
                 self.place = place;
@@ -60,20 +61,31 @@ impl Lexer {
             }
             Err(refused) => {
                 self.spans.truncate(count);
-                self.fed.truncate(at);
+                self.text.truncate(at);
                 Err(refused)
             }
         }
     }
 
-    /// The commands of all bytes fed, however they were cut into pieces. Takes no memory.
-    pub fn finish(self) -> Commands
-        ensures { result ≡ commands_of self }
+    /// All bytes fed, and their commands, however they were cut into pieces. Takes no memory.
+    pub fn finish(self) -> Lexed
+        ensures text { result.text.items ≡ self }
+        ensures commands { result.commands ≡ commands_of self }
     {
-        Commands {
-            spans: Items::new(self.spans),
-            ending: ending(self.place),
+        Lexed {
+            text: self.text,
+            commands: commands_at(self.spans, self.place),
         }
+    }
+}
+
+/// The commands of a text of which these are finished and which ends at this place.
+fn commands_at(spans: Vec<Span>, place: Place) -> Commands
+    ensures { result ≡ record { spans = spans.items; ending = cutting.ending place } }
+{
+    Commands {
+        spans: Items::new(spans),
+        ending: ending(place),
     }
 }
 
@@ -85,7 +97,7 @@ pub fn commands(alloc: Global, text: &[u8]) -> Result<Commands, AllocError>
     requires { length text.now ≤ MOST_LAYOUT_BYTES }
     ensures { IfOk result (λ c. c ≡ commands_of text.now) }
 {
-    let mut lexer = Lexer::new(alloc);
-    lexer.feed(text)?;
-    Ok(lexer.finish())
+    let mut spans = Vec::new(alloc);
+    let place = pass(&mut spans, Place::Between, 0, text)?;
+    Ok(commands_at(spans, place))
 }

@@ -23,3 +23,10 @@ pub struct Commands {
     pub spans: Items<Span>,
     pub ending: Ending,
 }
+
+/// A text and its commands.
+#[derive(Drop)]
+pub struct Lexed {
+    pub text: Vec<u8>,
+    pub commands: Commands,
+}

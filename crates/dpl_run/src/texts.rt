@@ -12,7 +12,7 @@ use crate::feeding::Feeder;
 use crate::status::Status;
 use dpl_ext::{OpenEnd, ReadEnd, Shelf, Source, read_all, read_each};
 use dpl_lex::Lexer;
-use dpl_lex::types::Commands;
+use dpl_lex::types::Lexed;
 use dpl_limits::{Counted, MOST_LAYOUT_BYTES};
 use std::alloc::Global;
 
@@ -69,23 +69,12 @@ pub fn second_of<F: Shelf>(
     }
 }
 
-/// A layout that was cut into its commands as it was read.
-#[derive(Drop)]
-pub struct Lexed {
-    pub text: Vec<u8>,
-    pub commands: Commands,
-}
-
 /// The layout of no byte, for a command that reads none.
 pub fn no_layout(alloc: Global) -> Lexed
     ensures text { result.text.items ≡ [] }
     ensures commands { result.commands ≡ commands_of result.text.items }
 {
-    let commands = Lexer::new(alloc).finish();
-    Lexed {
-        text: Vec::new(alloc),
-        commands,
-    }
+    Lexer::new(alloc).finish()
 }
 
 /// The layout that a source gives, or the status where it is not to be had.
@@ -101,11 +90,10 @@ pub fn layout_of<S: Source>(alloc: Global, source: &mut S) -> Result<Lexed, Stat
 {
     let lexer = Lexer::new(alloc);
     let mut feeder = Feeder { lexer };
-    match read_each(alloc, source, MOST_LAYOUT_BYTES, &mut feeder) {
-        Ok(text) => {
+    match read_each(source, MOST_LAYOUT_BYTES, &mut feeder) {
+        Ok(()) => {
             let Feeder { lexer } = feeder;
-            let commands = lexer.finish();
-            Ok(Lexed { text, commands })
+            Ok(lexer.finish())
         }
         Err(ReadEnd::Fault) => Err(Status::ReadFault),
         Err(ReadEnd::TooLong) => Err(Status::Limit {
