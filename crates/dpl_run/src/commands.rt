@@ -44,7 +44,7 @@ pub fn carry_out(
         Command::Balance(options) => balance_bytes(alloc, options, text, commands),
         Command::Refine(options) => refine_bytes(alloc, options, text, commands),
         Command::Cross(options) => cross_bytes(alloc, options, text, commands),
-        Command::Check { options, .. } => check_bytes(alloc, options, text, second),
+        Command::Check { options, .. } => check_bytes(alloc, options, text, commands, second),
         Command::Edit { options, .. } => edit_bytes(alloc, options, text, commands, second),
         Command::Load {
             start,

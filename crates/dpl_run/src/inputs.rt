@@ -9,8 +9,9 @@ ghost use Rattle.dpl_run.specs.Devices.{IsAbsent, IsLayoutTouched, IsSecondTouch
 ghost use Rattle.dpl_run.specs.Telling.{IsSecondRead, IsSmall, StopsOpening, StopsReading};
 
 use crate::status::Status;
-use crate::texts::{Lexed, layout_of, no_layout, second_of};
+use crate::texts::{layout_of, no_layout, second_of};
 use dpl_ext::{Shelf, Source};
+use dpl_lex::types::Lexed;
 use dpl_limits::Counted;
 use dpl_words::Command;
 use std::alloc::Global;

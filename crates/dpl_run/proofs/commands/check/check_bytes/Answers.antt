@@ -26,4 +26,4 @@ pub returns-in-Err : goal.returns-in-Err
 returns-in-Err c =
     refused_worked (IsCheckDue c.args.options.now c.args.text.now c.args.report.now)
     (FirstOf (layer_reasons c.args.options.now c.args.text.now)) c.in-Err.error _ _
-    refused (c.check.ensures.refused c.in-Err.error c.in-Err.is) c.refused.ensures.status c.refused.ensures.output
+    refused (c.check_commands.ensures.refused c.in-Err.error c.in-Err.is) c.refused.ensures.status c.refused.ensures.output

@@ -4,7 +4,7 @@ use Rattle.dpl_layer.proofs.RefusalLemmas.{error_refuses, one_text_refusal, refu
 use Rattle.dpl_check.specs.Checked.{IsVerdictOf}
 use Rattle.dpl_check.proofs.OnceLemmas.{verdict_free, verdict_comes}
 use Rattle.dpl_check.proofs.GoodMaskLemmas.{yes_accepts}
-use Rattle.dpl_check.proofs.checking.check.Goals as goal
+use Rattle.dpl_check.proofs.checking.check_commands.Goals as goal
 
 pub returns-clause-refused : goal.returns-clause-refused
 returns-clause-refused c = error_refuses (FirstOf (layer_reasons c.args.options.now c.args.text.now)) _ c.check_parts.ensures.refused
