@@ -103,7 +103,7 @@ fn fed_in(alloc: Global, text: &[u8], size: usize) -> Result<Commands, AllocErro
         lexer.feed(piece)?;
         rest = others;
     }
-    Ok(lexer.finish())
+    Ok(lexer.finish().commands)
 }
 
 /// Compares the commands of a text that is fed in pieces with those of the whole text.
@@ -139,7 +139,7 @@ fn compare_two<R: Abort>(
     let mut lexer = Lexer::new(alloc);
     lexer.feed(pieces.0)?;
     lexer.feed(pieces.1)?;
-    let found = lexer.finish();
+    let found = lexer.finish().commands;
     assert_eq!(rt; found.spans.as_slice(), wanted);
     assert_eq!(rt; found.ending, ending);
     Ok(())
