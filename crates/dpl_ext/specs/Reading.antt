@@ -1,5 +1,5 @@
 -- What reading a whole source answers.
-use Rattle.std.specs.Prelude.{◌≡◌, ℕ, ◌+◌, ◌≤◌, ◌<◌, List, ◌++◌, length}
+use Rattle.std.specs.Prelude.{◌≡◌, ℕ, ◌+◌, ◌≤◌, List, ◌++◌, length}
 use Rattle.std.specs.Io.KnownBytes.{IsAtEnd}
 use Rattle.dpl_ext.specs.Device.{Seen, Gave, Rose}
 use Rattle.dpl_ext.specs.declared.reading.ReadEnd.{ReadEnd}

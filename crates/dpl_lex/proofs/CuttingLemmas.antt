@@ -1,6 +1,6 @@
 -- A text that was passed over whole.
 use Rattle.std.proofs.Common.{◌≡◌, ℕ, List, [], ◌++◌, append-nil}
-use Rattle.dpl_lex.specs.Cutting.{cut, after, none_left, ending, commands_of}
+use Rattle.dpl_lex.specs.Cutting.{cut, after, ending, commands_of}
 use Rattle.dpl_lex.specs.declared.types.Span.{Span}
 use Rattle.dpl_lex.specs.declared.types.Commands.{Commands}
 use Rattle.dpl_lex.specs.declared.cutting.Place.{Place}
