@@ -25,7 +25,8 @@ use Rattle.dpl_rules.specs.Rules.{Fault, rule_fault, or_later, broken_rule, brea
 use Rattle.dpl_rules.specs.Rules.{breaks_layerless, breaks_slant, breaks_off_grid, breaks_round, breaks_delete}
 use Rattle.dpl_rules.specs.Rules.{breaks_scale, first_of, after, with_start, is_chosen}
 use Rattle.dpl_calls.specs.declared.figure.Figure.TheVariants as figure
-use Rattle.dpl_calls.specs.Parts.{Part, is_same, where_true, scaled_extent, scaled_corner, rectangle, parts_of, parts_from}
+use Rattle.dpl_calls.specs.Parts.{Part, is_same, scaled_corner, rectangle, parts_of, parts_from}
+use Rattle.dpl_calls.specs.Put.{where_true, scaled_extent}
 use Rattle.dpl_calls.specs.Kept.{IsLevel, AreLevel, HasLevelSides, IsSound, IsPartKept}
 use Rattle.dpl_calls.proofs.Cases.{of_eq}
 use Rattle.dpl_calls.proofs.Nearness.{in_bounds_le}

@@ -13,7 +13,7 @@ use Rattle.dpl_calls.specs.declared.entry.Entry.TheVariants as entry
 use Rattle.dpl_calls.specs.declared.unfolding.Frame.{Frame}
 use Rattle.dpl_calls.specs.Parts.{Bodies}
 use Rattle.dpl_calls.specs.Parts.Part.{Drawn, Called}
-use Rattle.dpl_calls.specs.Unfolding.{placed, unmoved, part_figures, figures_of}
+use Rattle.dpl_calls.specs.Unfolding.{placed, part_figures, figures_of}
 use Rattle.dpl_calls.specs.Totals.{part_total, total_of, own_calls}
 use Rattle.dpl_calls.specs.Placement.{apply, IsNear}
 use Rattle.dpl_calls.specs.Entries.{IsEntryNear}
@@ -154,11 +154,11 @@ module _ (b : Bodies) (f g : Frame) (e : Entry) (split : f.rest.now ≡ e ∷ g.
       kept.0
 
 pub goes_start : (b : Bodies) (depth : ℕ) (f : Frame) (s : List Figure) (fs : List Frame) → s ≡ []
-    → fs ≡ f ∷ [] → depth ≡ suc f.below → left f ≡ b None → ((c : Corner) → apply f.place c ≡ unmoved c)
+    → fs ≡ f ∷ [] → depth ≡ suc f.below → left f ≡ b None → ((c : Corner) → apply f.place c ≡ c)
     → IsNear 0 f.place → All IsEntryNear f.rest.now → All IsPartKept (b None)
-    → Goes b (figures_of depth b unmoved (b None)) (total_of own_calls depth b (b None)) s fs 0
+    → Goes b (figures_of depth b (λ c. c) (b None)) (total_of own_calls depth b (b None)) s fs 0
 goes_start b depth f s fs es efs ed er place near entries parts =
-    let same : apply f.place ≡ unmoved = fun_ext place in
+    let same : apply f.place ≡ (λ c. c) = fun_ext place in
     let zero_near : IsNear (0 * 2 ^ 106) f.place = record { x = omega (arith, near.x); y = omega (arith, near.y) } in record {
       figures_come = rw (es, efs, ed, er, same) refl;
       calls_come = rw (efs, ed, er) (omega arith);

@@ -5,7 +5,8 @@ use Rattle.dpl_rules.specs.declared.command.Command.TheVariants.{Layer, Start, F
 use Rattle.dpl_rules.specs.declared.scope.Scope.{Scope}
 use Rattle.dpl_rules.specs.declared.what.What.{What}
 use Rattle.dpl_rules.specs.Rules.{at_first, after, with_start}
-use Rattle.dpl_calls.specs.Parts.{is_same, where_true, parts_of, parts_from}
+use Rattle.dpl_calls.specs.Parts.{is_same, parts_of, parts_from}
+use Rattle.dpl_calls.specs.Put.{where_true}
 use Rattle.dpl_calls.specs.Loops.{LoopsLeadBack, numbers_from}
 use Rattle.dpl_calls.specs.Places.{place_of, one_further}
 use Rattle.dpl_calls.proofs.LoopPaths.{looped_back, back_looped}

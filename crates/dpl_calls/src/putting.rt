@@ -6,7 +6,7 @@ ghost use Rattle.dpl_calls.specs.Parts as parts;
 ghost use Rattle.dpl_calls.specs.Parts.Part.{Drawn};
 ghost use Rattle.dpl_calls.specs.Table.{part_of};
 ghost use Rattle.dpl_calls.specs.Found.{calls_in};
-ghost use Rattle.dpl_calls.specs.Put.{site_in, IsFew};
+ghost use Rattle.dpl_calls.specs.Put.{scaled_extent, site_in, IsFew};
 
 use crate::apart::Apart;
 use crate::body::Body;
@@ -23,7 +23,7 @@ use std::alloc::{AllocError, Global};
 fn scaled_extent(scale: Scale, e: Extent) -> Extent
     requires scale { IsScale scale }
     requires near { IsExtentNear e }
-    ensures { result ≡ parts.scaled_extent scale e }
+    ensures { result ≡ scaled_extent scale e }
 {
     Extent {
         x1: scaled(scale, e.x1),

@@ -26,13 +26,7 @@ abbrev pub after : List ℕ → Scope → Command → Scope
 after chosen s (Layer name) = record s { layer = Some (bytes_eq name chosen) }
 after chosen s (Start n scale) =
     record { definition = Some n; layer = None; outer = s.layer; scale = scale }
-after chosen s Finish = record {
-  definition = None;
-  layer = s.outer;
-  outer = None;
-  scale =
-      one_to_one;
-}
+after chosen s Finish = record at_first { layer = s.outer }
 after chosen s c = s
 
 abbrev pub is_chosen : Option Bool → Bool
