@@ -100,13 +100,13 @@ abbrev pub breaks_scale : Command → Bool
 breaks_scale (Start n scale) = scale.times == 0 || scale.over == 0
 breaks_scale c = false
 
-abbrev pub first_of : List (Bool × What) → Option What
-first_of [] = None
-first_of (rule ∷ rules) = if rule.0 then Some rule.1 else first_of rules
+abbrev pub first_broken : List (Bool × What) → Option What
+first_broken [] = None
+first_broken (rule ∷ rules) = if rule.0 then Some rule.1 else first_broken rules
 
 -- the first rule that a command breaks; its form and its bounds were tried before
 abbrev pub broken_rule : Scope → Bool → Command → Option What
-broken_rule s twice c = first_of (
+broken_rule s twice c = first_broken (
     (breaks_nest s c, what.Nest) ∷
     (twice, what.Twice) ∷
     (breaks_angle s c, what.Angle) ∷
