@@ -162,13 +162,13 @@ plain_word (Number n) = decimal n
 plain_word (Integer z) = signed_decimal z
 
 -- words with a space between them
-abbrev pub spaced : List Word → List ℕ
-spaced [] = []
-spaced (w ∷ ws) = plain_word w ++ flat_map (λ v. codes " " ++ plain_word v) ws
+abbrev pub spaced_words : List Word → List ℕ
+spaced_words [] = []
+spaced_words (w ∷ ws) = plain_word w ++ flat_map (λ v. codes " " ++ plain_word v) ws
 
 -- commands in their full spelling, each in a line of its own
 abbrev pub plain_layout : List Command → List ℕ
-plain_layout cs = flat_map (λ c. spaced (words_of false c) ++ codes ";\n") cs ++ codes "E"
+plain_layout cs = flat_map (λ c. spaced_words (words_of false c) ++ codes ";\n") cs ++ codes "E"
 
 -- a law: that is a layout
 abbrev pub PlainLayoutsAreLayouts : Type 0
