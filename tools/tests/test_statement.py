@@ -73,10 +73,16 @@ class Rules(unittest.TestCase):
         self.assertTrue(told(["### A", "No law is needed."], "A"))
         self.assertFalse(told(["### A", "", "### B", "No law is needed."], "A"))
 
+    def test_doubles(self) -> None:
+        class Shown:
+            def shown(self) -> List[definitions.Place]:
+                return [BOX, BOX._replace(path="elsewhere"), CELLS]
+
+        self.assertEqual(list(tool.doubles(Shown())), [f"is_in_box is defined in {BOX.path} and elsewhere"])
+
     def test_words(self) -> None:
-        made = tool.Table(["word + -: of naturals", "twice a: b", "@ rest"])
+        made = tool.Table(["word + -: of naturals", "@ rest"])
         self.assertEqual(made.words, {"+": "of naturals", "-": ""})
-        self.assertEqual(made.twice, {"a": "b"})
 
 
 class Guards(unittest.TestCase):
